@@ -1,0 +1,13 @@
+pub mod Layout
+pub mod Calls
+pub mod Bookings
+pub mod Fate
+pub mod Runs
+pub mod Queueings
+pub mod Active
+pub mod Workers
+pub mod Tickets
+pub mod Waits
+pub mod Answer
+pub mod Legal
+pub mod Room

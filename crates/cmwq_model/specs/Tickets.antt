@@ -1,0 +1,85 @@
+-- Tickets: the waits that callers began, and which of them are unended.
+use Rattle.std.specs.Prelude.{ℕ, Bool, true, false, ◌&&◌, not, ◌==◌, if◌then◌else◌, List, [], ◌∷◌, ◌++◌, length, filter, find, count_by, Option, Some, None, option_to_list, nat_le}
+use Rattle.std.specs.List.{list_any}
+use Rattle.cmwq_model.specs.declared.id.Who.{Who}
+use Rattle.cmwq_model.specs.declared.id.Who.TheVariants.{Caller, Worker}
+use Rattle.cmwq_model.specs.declared.call.Call.{Call}
+use Rattle.cmwq_model.specs.declared.call.Call.TheVariants as call
+use Rattle.cmwq_model.specs.declared.reply.Reply.{Reply}
+use Rattle.cmwq_model.specs.declared.reply.Reply.TheVariants as reply
+use Rattle.cmwq_model.specs.declared.entry.Entry.{Entry}
+use Rattle.cmwq_model.specs.declared.record.Ticket.{Ticket}
+use Rattle.cmwq_model.specs.Calls.{is_by}
+
+-- an answer that gives a ticket, whose number is that of the entry
+abbrev pub gives_ticket : Reply → Bool
+gives_ticket (reply.Ticket k) = true
+gives_ticket (reply.TicketQueued k) = true
+gives_ticket (reply.TicketCancelled k n) = true
+gives_ticket (reply.TicketUnbooked k) = true
+gives_ticket (reply.TicketNo k) = true
+gives_ticket r = false
+
+abbrev pub ticket_for : Who → Call → ℕ → Option Ticket
+ticket_for (Caller c) call n = Some (record { caller = c; call = call; number = n })
+ticket_for (Worker w) call n = None
+
+abbrev pub ticket_in : Entry → ℕ → Option Ticket
+ticket_in e n = if gives_ticket e.reply then ticket_for e.who e.call n else None
+
+-- all tickets that were ever given, by their numbers
+unfoldable pub tickets : List Entry → List Ticket
+tickets [] = []
+tickets (e ∷ past) = tickets past ++ option_to_list (ticket_in e (length past))
+
+-- a ticket is ended once an end of it, by its caller, was answered done
+abbrev pub is_end_of : ℕ → Call → Bool
+is_end_of n (call.End t) = t == n
+is_end_of n c = false
+
+abbrev pub is_done : Reply → Bool
+is_done reply.Done = true
+is_done r = false
+
+abbrev pub ends : Ticket → Entry → Bool
+ends t e = is_by (Caller t.caller) e && is_end_of t.number e.call && is_done e.reply
+
+abbrev pub is_unended : List Entry → Ticket → Bool
+is_unended past t = not (list_any (ends t) past)
+
+abbrev pub unended : List Entry → List Ticket
+unended past = filter (is_unended past) (tickets past)
+
+-- while a cancel_sync of an item is unended the item is being cancelled, and likewise a queue is draining
+abbrev pub is_cancel_sync_of : ℕ → Call → Bool
+is_cancel_sync_of i (call.CancelSync j) = j.0 == i
+is_cancel_sync_of i c = false
+
+abbrev pub is_drain_of : ℕ → Call → Bool
+is_drain_of q (call.Drain r) = r.0 == q
+is_drain_of q c = false
+
+abbrev pub is_flush_of : ℕ → Call → Bool
+is_flush_of q (call.Flush r) = r.0 == q
+is_flush_of q c = false
+
+abbrev pub is_cancelling : List Entry → ℕ → Bool
+is_cancelling past i = list_any (λ (t : Ticket). is_cancel_sync_of i t.call) (unended past)
+
+abbrev pub is_draining : List Entry → ℕ → Bool
+is_draining past q = list_any (λ (t : Ticket). is_drain_of q t.call) (unended past)
+
+-- a caller has at most 64 unended tickets
+abbrev pub is_held_by : Who → Ticket → Bool
+is_held_by (Caller c) t = t.caller.0 == c.0
+is_held_by (Worker w) t = false
+
+abbrev pub is_crowded : List Entry → Who → Bool
+is_crowded past who = nat_le 64 (count_by (is_held_by who) (unended past))
+
+-- this caller's unended ticket with this number
+abbrev pub is_ticket : Who → ℕ → Ticket → Bool
+is_ticket who n t = (t.number == n) && is_held_by who t
+
+abbrev pub ticket_of : List Entry → Who → ℕ → Option Ticket
+ticket_of past who n = find (is_ticket who n) (unended past)

@@ -1,0 +1,17 @@
+//! What callers, workers and histories of the runtime speak of: numbers, calls, replies, entries, shapes,
+//! and in `specs/` the definitions of every call's one right answer.
+#![tactic(auto)]
+
+mod call;
+mod entry;
+mod id;
+mod record;
+mod reply;
+mod shape;
+
+pub use call::Call;
+pub use entry::{Entry, Mark};
+pub use id::{CallerId, CpuId, ItemId, Number, PoolId, QueueId, Who, WorkerId};
+pub use record::{Booking, Place, Queueing, Start, Ticket};
+pub use reply::Reply;
+pub use shape::{Counts, QueueShape, Shape};

@@ -1,0 +1,66 @@
+use crate::id::{ItemId, Number};
+
+/// What a call is answered. Where a number is that of the entry itself, the variant says so by `k`.
+#[derive(Clone, Copy, Debug)]
+pub enum Reply {
+    /// Queued, as queueing `k`.
+    Yes(Number),
+    /// Delayed until this tick.
+    Booked(u64),
+    /// Was pending, and is queued anew as queueing `k`.
+    Again(Number),
+    /// Was pending, and is delayed anew until this tick.
+    Rebooked(u64),
+    /// Nothing was done: the item is pending, or isn't, as the call wants it.
+    No,
+    /// The item runs on another queue.
+    Foreign,
+    /// The queue is being drained.
+    Draining,
+    /// The call can't be made at this point.
+    Misuse,
+    /// This queueing, which hadn't started, is taken back.
+    Cancelled(Number),
+    /// The delay is taken back.
+    Unbooked,
+    /// The tick that it is now.
+    Now(u64),
+    /// The delayed item is queued, as queueing `k`.
+    Fired(ItemId, Number),
+    /// There is nothing to do.
+    Nothing,
+    /// Ticket `k`.
+    Ticket(Number),
+    /// Ticket `k`, and the delayed item is queued as queueing `k`.
+    TicketQueued(Number),
+    /// Ticket `k`, and this queueing is taken back.
+    TicketCancelled(Number, Number),
+    /// Ticket `k`, and the delay is taken back.
+    TicketUnbooked(Number),
+    /// Ticket `k`, and nothing was taken back.
+    TicketNo(Number),
+    /// There is nothing to wait for.
+    Idle,
+    /// The caller has as many unended tickets as it may have.
+    Crowded,
+    /// The wait has ended.
+    Done,
+    /// This queueing is still open.
+    Waiting(Number),
+    /// This queueing starts.
+    Started(Number),
+    /// This queueing starts, and the worker of this index is enlisted.
+    StartedEnlist(Number, u8),
+    /// Another run holds the pool.
+    Held,
+    /// This queueing has finished.
+    Finished(Number),
+    /// The run sleeps.
+    Slept,
+    /// The run goes on.
+    Woke,
+    /// The worker went back to the reserve.
+    Retired,
+    /// The worker stays.
+    Kept,
+}

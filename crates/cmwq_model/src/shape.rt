@@ -1,0 +1,178 @@
+ghost use Rattle.std.specs.Prelude.{◌≡◌, length, nat_lt, IfSome, is_some};
+ghost use Rattle.std.specs.List.{list_all};
+ghost use Rattle.cmwq_model.specs.Layout.{Layout, are_counts, is_queue, are_queues, is_layout, has_numbers, may_make, fits};
+
+use crate::call::Call;
+use crate::id::{CpuId, ItemId, QueueId, Who};
+use std::marker::Model;
+
+/// The settings of one queue (the arguments of `alloc_workqueue`).
+#[derive(Clone, Copy, Debug, PartialEq, Eq)]
+pub struct QueueShape {
+    /// The greatest number of active queueings on one CPU.
+    pub max_active: u16,
+    /// Whether its items run in the pools of high priority (`WQ_HIGHPRI`).
+    pub high: bool,
+    /// Whether its runs let others start beside them (`WQ_CPU_INTENSIVE`).
+    pub intensive: bool,
+}
+
+/// The numbers of CPUs, of workers in each pool, of callers and of items, and the room of a history in entries.
+#[derive(Clone, Copy, Debug, PartialEq, Eq)]
+pub struct Counts {
+    pub cpus: u8,
+    pub workers: u8,
+    pub callers: u8,
+    pub items: u16,
+    pub room: u32,
+}
+
+impl Counts {
+    /// Whether each number is inside its limits: 1 to 4 CPUs, 1 to 8 workers, 1 to 64 callers, 1 to 256 items,
+    /// and a room of at most 1,000,000 entries.
+    pub fn are_allowed(&self) -> bool
+        ensures { result ≡ are_counts self.now.cpus self.now.workers self.now.callers self.now.items self.now.room }
+    {
+        (1..=4).contains(&self.cpus)
+            && (1..=8).contains(&self.workers)
+            && (1..=64).contains(&self.callers)
+            && (1..=256).contains(&self.items)
+            && self.room <= 1_000_000
+    }
+}
+
+impl QueueShape {
+    /// Whether max_active is 1 to 512.
+    pub fn is_allowed(&self) -> bool
+        ensures { result ≡ is_queue self.now }
+    {
+        (1..=512).contains(&self.max_active)
+    }
+}
+
+/// Whether there are 1 to 64 queues, each inside its limits.
+fn are_allowed(queues: &[QueueShape]) -> bool
+    ensures { result ≡ are_queues queues.now }
+{
+    (1..=64).contains(&queues.len()) && are_queues_allowed(queues)
+}
+
+fn are_queues_allowed(queues: &[QueueShape]) -> bool
+    ensures { result ≡ list_all is_queue queues.now }
+{
+    queues.iter().all(|queue| queue.is_allowed())
+}
+
+/// What a system is made of. Each value keeps the limits.
+#[derive(Debug, Drop)]
+pub struct Shape {
+    counts: Counts,
+    queues: Vec<QueueShape>,
+}
+
+impl Model for Shape {
+    ghost use Rattle.std.specs.Prelude.{IsTrue};
+    ghost use Rattle.cmwq_model.specs.Layout.{Layout, layout_of, is_layout};
+
+    ghost Value = { Layout };
+
+    ghost view = { λ a. layout_of a.counts a.queues.items };
+
+    ghost invariant = { λ a. IsTrue (is_layout (layout_of a.counts a.queues.items)) };
+}
+
+impl Shape {
+    ghost use Rattle.cmwq_model.specs.Layout.{layout_of};
+
+    /// The shape of these counts and queues, if they are inside the limits: the counts', 1 to 64 queues, and each
+    /// queue's.
+    pub fn new(counts: Counts, queues: Vec<QueueShape>) -> Option<Shape>
+        ensures allowed { is_some result ≡ is_layout (layout_of counts queues.items) }
+        ensures made { IfSome result (λ shape. shape ≡ layout_of counts queues.items) }
+    {
+        if counts.are_allowed() && are_allowed(&queues) {
+            Some(Shape { counts, queues })
+        } else {
+            None
+        }
+    }
+
+    pub fn counts(&self) -> Counts
+        ensures { layout_of result self.now.queues ≡ self.now }
+    {
+        self.counts
+    }
+
+    pub fn queues(&self) -> &[QueueShape]
+        ensures { result.now ≡ self.now.queues }
+    {
+        &self.queues
+    }
+
+    fn has_item(&self, item: ItemId) -> bool
+        ensures { result ≡ nat_lt item.0 self.now.items }
+    {
+        item.0 < self.counts.items
+    }
+
+    fn has_queue(&self, queue: QueueId) -> bool
+        ensures { result ≡ nat_lt queue.0 (length self.now.queues) }
+    {
+        usize::from(queue.0) < self.queues.len()
+    }
+
+    fn has_cpu(&self, cpu: CpuId) -> bool
+        ensures { result ≡ nat_lt cpu.0 self.now.cpus }
+    {
+        cpu.0 < self.counts.cpus
+    }
+
+    /// Whether the numbers that stand in a call are inside the shape.
+    fn has_numbers(&self, call: Call) -> bool
+        ensures { result ≡ has_numbers self.now call }
+    {
+        match call {
+            Call::Queue { item, queue, cpu }
+            | Call::Delay {
+                item, queue, cpu, ..
+            }
+            | Call::Modify {
+                item, queue, cpu, ..
+            } => self.has_item(item) && self.has_queue(queue) && self.has_cpu(cpu),
+            Call::Cancel { item }
+            | Call::FlushItem { item }
+            | Call::FlushDelayed { item }
+            | Call::CancelSync { item } => self.has_item(item),
+            Call::Flush { queue } | Call::Drain { queue } => self.has_queue(queue),
+            Call::Tick { .. }
+            | Call::Fire
+            | Call::End { .. }
+            | Call::Take
+            | Call::Finish
+            | Call::Sleep
+            | Call::Wake
+            | Call::Retire => true,
+        }
+    }
+
+    /// Whether the who is inside the shape and makes such calls.
+    fn has_who(&self, who: Who, call: Call) -> bool
+        ensures { result ≡ may_make self.now who call }
+    {
+        match who {
+            Who::Caller(caller) => caller.0 < self.counts.callers && call.is_callers(),
+            Who::Worker(worker) => {
+                worker.pool.cpu.0 < self.counts.cpus
+                    && worker.index < self.counts.workers
+                    && call.is_workers()
+            }
+        }
+    }
+
+    /// Whether this who and every number of the call are inside the shape, and the call is one that such a who makes.
+    pub fn fits(&self, who: Who, call: Call) -> bool
+        ensures { result ≡ fits self.now who call }
+    {
+        self.has_who(who, call) && self.has_numbers(call)
+    }
+}
