@@ -51,23 +51,32 @@ abbrev pub unended : List Entry → List Ticket
 unended past = filter (is_unended past) (tickets past)
 
 -- while a cancel_sync of an item is unended the item is being cancelled, and likewise a queue is draining
-abbrev pub is_cancel_sync_of : ℕ → Call → Bool
-is_cancel_sync_of i (call.CancelSync j) = j.0 == i
-is_cancel_sync_of i c = false
+abbrev pub cancels_sync : ℕ → Call → Bool
+cancels_sync i (call.CancelSync j) = j.0 == i
+cancels_sync i c = false
 
-abbrev pub is_drain_of : ℕ → Call → Bool
-is_drain_of q (call.Drain r) = r.0 == q
-is_drain_of q c = false
+abbrev pub drains : ℕ → Call → Bool
+drains q (call.Drain r) = r.0 == q
+drains q c = false
 
-abbrev pub is_flush_of : ℕ → Call → Bool
-is_flush_of q (call.Flush r) = r.0 == q
-is_flush_of q c = false
+abbrev pub flushes : ℕ → Call → Bool
+flushes q (call.Flush r) = r.0 == q
+flushes q c = false
+
+abbrev pub is_cancel_sync_of : ℕ → Ticket → Bool
+is_cancel_sync_of i t = cancels_sync i t.call
+
+abbrev pub is_drain_of : ℕ → Ticket → Bool
+is_drain_of q t = drains q t.call
+
+abbrev pub is_flush_of : ℕ → Ticket → Bool
+is_flush_of q t = flushes q t.call
 
 abbrev pub is_cancelling : List Entry → ℕ → Bool
-is_cancelling past i = list_any (λ (t : Ticket). is_cancel_sync_of i t.call) (unended past)
+is_cancelling past i = list_any (is_cancel_sync_of i) (unended past)
 
 abbrev pub is_draining : List Entry → ℕ → Bool
-is_draining past q = list_any (λ (t : Ticket). is_drain_of q t.call) (unended past)
+is_draining past q = list_any (is_drain_of q) (unended past)
 
 -- a caller has at most 64 unended tickets
 abbrev pub is_held_by : Who → Ticket → Bool

@@ -14,7 +14,7 @@ use Rattle.cmwq_model.specs.Tickets.{unended, is_flush_of}
 -- At most 15 flushes of a queue are served at once. A flush is served from its own position, or from the first later
 -- one after whose event fewer than 15 older flushes of the queue are unended; until then it is in overflow.
 abbrev pub is_older_flush : ℕ → ℕ → Ticket → Bool
-is_older_flush q n t = is_flush_of q t.call && nat_lt t.number n
+is_older_flush q n t = is_flush_of q t && nat_lt t.number n
 
 abbrev pub is_served_after : List Entry → ℕ → ℕ → Bool
 is_served_after past q n = nat_lt (count_by (is_older_flush q n) (unended past)) 15
