@@ -1,12 +1,15 @@
 -- Laws that tie the definitions of cmwq_model to the words in which the field speaks of them.
-use Rattle.std.specs.Prelude.{◌≡◌, ℕ, ◌+◌, ◌<◌, ◌≤◌, ◌⊎◌, Bool, true, ◌&&◌, ◌==◌, List, ◌∷◌, length, filter, take, Option, Some, None, IsTrue, Contains}
+use Rattle.std.specs.Prelude.{◌≡◌, ℕ, ◌≤◌, ◌<◌, Bool, true, ◌&&◌, ◌==◌, List, [], ◌∷◌, length, filter, take, Option, Some, None}
+use Rattle.std.specs.List.{AllByRecursion}
+use Rattle.cmwq_model.specs.declared.call.Call.{Call}
 use Rattle.cmwq_model.specs.declared.reply.Reply.{Reply}
 use Rattle.cmwq_model.specs.declared.reply.Reply.TheVariants as reply
 use Rattle.cmwq_model.specs.declared.entry.Entry.{Entry}
 use Rattle.cmwq_model.specs.declared.record.Queueing.{Queueing}
 use Rattle.cmwq_model.specs.Layout.{Layout, width_of}
-use Rattle.cmwq_model.specs.Queueings.{still_open}
+use Rattle.cmwq_model.specs.Queueings.{queueings, still_open}
 use Rattle.cmwq_model.specs.Active.{is_active}
+use Rattle.cmwq_model.specs.Waits.{holds_up, waits_for}
 use Rattle.cmwq_model.specs.Legal.{IsLegal}
 
 -- the number that a reply gives to what it opens
@@ -24,3 +27,27 @@ number_given r = None
 -- a reply that opens a queueing or gives a ticket names its own entry
 abbrev pub NamesItself : Type 0
 NamesItself = (s : Layout) (past : List Entry) (e : Entry) (k : ℕ) → IsLegal s (e ∷ past) → number_given e.reply ≡ Some k → k ≡ length past
+
+-- each queueing has a lesser number than all after it
+abbrev pub IsRising : List Queueing → Type 0
+IsRising [] = Unit {0}
+IsRising (x ∷ xs) = AllByRecursion (λ y. x.number < y.number) xs × IsRising xs
+
+-- queueings stand by their numbers, and so do the open ones
+abbrev pub StandByNumber : Type 0
+StandByNumber = (past : List Entry) → IsRising (queueings past) × IsRising (still_open past)
+
+-- the active queueings of a queue on a CPU are the first of its open ones there, as many as the queue is wide
+abbrev pub is_on : ℕ → ℕ → Queueing → Bool
+is_on q c x = (x.place.queue.0 == q) && (x.place.cpu.0 == c)
+
+abbrev pub open_on : List Entry → ℕ → ℕ → List Queueing
+open_on past q c = filter (is_on q c) (still_open past)
+
+abbrev pub ActiveAreFirst : Type 0
+ActiveAreFirst = (s : Layout) (past : List Entry) (q c : ℕ) → filter (is_active s past) (open_on past q c) ≡ take (width_of s q) (open_on past q c)
+
+-- the number that a ticket waits for is the least of the open queueings that hold it up
+abbrev pub WaitsForLeast : Type 0
+WaitsForLeast = (past : List Entry) (n m : ℕ) (c : Call) → waits_for past n c ≡ Some m
+    → AllByRecursion (λ x. holds_up past n c x ≡ true → m ≤ x.number) (still_open past)

@@ -1,10 +1,8 @@
 //! Laws of histories: theorems over the definitions alone, which no running code needs.
 #![tactic(auto)]
 
-ghost use Rattle.cmwq_laws.specs.Fidelity.{NamesItself};
+mod fidelity;
 
-/// A reply that opens a queueing or gives a ticket names its own entry.
-pub fn replies_name_themselves()
-    ensures { NamesItself }
-{
-}
+pub use fidelity::{
+    active_are_first, queueings_stand_by_number, replies_name_themselves, tickets_wait_for_least,
+};

@@ -1,0 +1,48 @@
+-- Lists: what holds of each element, and counts.
+use Rattle.std.proofs.Common.{◌≡◌, ◌+◌, ℕ, Bool, true, false, cond, ◌&&◌, List, [], ◌∷◌, ◌++◌, filter, count_by, refl, sym, ap, ap₂, ◌∙◌, zero-add}
+use Rattle.std.proofs.lemmas.List.Sums.{sum_by-cons}
+use Rattle.std.specs.List.{AllByRecursion}
+
+module _ {X : Type 0} where
+  pub All_map : (P Q : X → Type 0) (xs : List X) → ((x : X) → P x → Q x) → AllByRecursion P xs → AllByRecursion Q xs
+  All_map P Q [] f h = tt
+  All_map P Q (x ∷ xs) f h = (f x h.0, All_map P Q xs f h.1)
+
+  pub All_both : (P Q R : X → Type 0) (xs : List X) → ((x : X) → P x → Q x → R x) → AllByRecursion P xs → AllByRecursion Q xs → AllByRecursion R xs
+  All_both P Q R [] f h k = tt
+  All_both P Q R (x ∷ xs) f h k = (f x h.0 k.0, All_both P Q R xs f h.1 k.1)
+
+  pub All_append : (P : X → Type 0) (xs ys : List X) → AllByRecursion P xs → AllByRecursion P ys → AllByRecursion P (xs ++ ys)
+  All_append P [] ys h k = k
+  All_append P (x ∷ xs) ys h k = (h.0, All_append P xs ys h.1 k)
+
+  pub All_each : (P : X → Type 0) (xs : List X) → ((x : X) → P x) → AllByRecursion P xs
+  All_each P [] f = tt
+  All_each P (x ∷ xs) f = (f x, All_each P xs f)
+
+  All_head : (P : X → Type 0) (x : X) (xs : List X) (b : Bool) → (b ≡ true → P x) → AllByRecursion P xs → AllByRecursion P (cond b (x ∷ xs) xs)
+  All_head P x xs true h k = (h refl, k)
+  All_head P x xs false h k = k
+
+  -- what holds of each element that passes holds of each of the filtered list
+  pub All_filter : (P : X → Type 0) (p : X → Bool) (xs : List X) → AllByRecursion (λ x. p x ≡ true → P x) xs → AllByRecursion P (filter p xs)
+  All_filter P p [] h = tt
+  All_filter P p (x ∷ xs) h = All_head P x (filter p xs) (p x) h.0 (All_filter P p xs h.1)
+
+  pub count_by-cons : (p : X → Bool) (x : X) (xs : List X) → count_by p (x ∷ xs) ≡ cond (p x) 1 0 + count_by p xs
+  count_by-cons p x xs = sum_by-cons (λ y. cond (p y) 1 0) x xs
+
+  -- none passes
+  pub count_by-none : (p : X → Bool) (xs : List X) → AllByRecursion (λ x. p x ≡ false) xs → count_by p xs ≡ 0
+  count_by-none p [] h = refl
+  count_by-none p (x ∷ xs) h = count_by-cons p x xs ∙ ap₂ (λ b n. cond b 1 0 + n) h.0 (count_by-none p xs h.1)
+
+  count_by-head : (p : X → Bool) (x : X) (xs : List X) (b : Bool) → count_by p (cond b (x ∷ xs) xs) ≡ cond (b && p x) 1 0 + count_by p xs
+  count_by-head p x xs true = count_by-cons p x xs
+  count_by-head p x xs false = sym (zero-add (count_by p xs))
+
+  -- those that pass both tests are those of the ones that pass the first which pass the second
+  pub count_by-filter : (p q r : X → Bool) (xs : List X) → ((x : X) → p x ≡ (q x && r x)) → count_by p xs ≡ count_by r (filter q xs)
+  count_by-filter p q r [] h = refl
+  count_by-filter p q r (x ∷ xs) h =
+    count_by-cons p x xs ∙ ap₂ (λ b n. cond b 1 0 + n) (h x) (count_by-filter p q r xs h) ∙ sym (count_by-head r x (filter q xs) (q x))
