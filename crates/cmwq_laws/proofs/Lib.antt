@@ -4,3 +4,7 @@ pub mod Rising
 pub mod Inversions
 pub mod Active
 pub mod Waits
+pub mod QueueCases
+pub mod ModifyCases
+pub mod TakeCases
+pub mod Starts

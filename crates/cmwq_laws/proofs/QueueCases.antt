@@ -1,0 +1,43 @@
+-- The cases of the answer to queue and delay, each with what holds in it.
+use Rattle.std.proofs.Common.{◌≡◌, ◌+◌, ◌<◌, ◌==◌, ℕ, Bool, true, false, not, if◌then◌else◌, ◌||◌, List, [], ◌∷◌, length, Option, Some, None, nat_lt, refl, sym, ap}
+use Rattle.cmwq_model.specs.declared.id.WorkerId.{WorkerId}
+use Rattle.cmwq_model.specs.declared.id.Who.{Who}
+use Rattle.cmwq_model.specs.declared.reply.Reply.{Reply}
+use Rattle.cmwq_model.specs.declared.reply.Reply.TheVariants as reply
+use Rattle.cmwq_model.specs.declared.entry.Entry.{Entry}
+use Rattle.cmwq_model.specs.declared.record.Queueing.{Queueing}
+use Rattle.cmwq_model.specs.Layout.{Layout}
+use Rattle.cmwq_model.specs.Calls.{now}
+use Rattle.cmwq_model.specs.Runs.{has_run}
+use Rattle.cmwq_model.specs.Queueings.{is_pending, runs_elsewhere}
+use Rattle.cmwq_model.specs.Active.{next}
+use Rattle.cmwq_model.specs.Workers.{is_enlisted, runnable, enlisted_by}
+use Rattle.cmwq_model.specs.Tickets.{is_cancelling}
+use Rattle.cmwq_model.specs.Answer.{may_call, is_shut, queue_answer, modify_answer, started, start_of, take_answer}
+
+pub data QueueCase (past : List Entry) (who : Who) (i q t : ℕ) : Reply → Type 0 where
+  idle_worker : may_call past who ≡ false → QueueCase past who i q t reply.Misuse
+  cancelling : is_cancelling past i ≡ true → QueueCase past who i q t reply.No
+  pending : is_pending past i ≡ true → QueueCase past who i q t reply.No
+  foreign : runs_elsewhere past i q ≡ true → QueueCase past who i q t reply.Foreign
+  shut : is_shut past who q t ≡ true → QueueCase past who i q t reply.Draining
+  queued : may_call past who ≡ true → is_cancelling past i ≡ false → is_pending past i ≡ false → runs_elsewhere past i q ≡ false → is_shut past who q t ≡ false → (t == 0) ≡ true
+      → QueueCase past who i q t (reply.Yes (length past))
+  booked : may_call past who ≡ true → is_cancelling past i ≡ false → is_pending past i ≡ false → runs_elsewhere past i q ≡ false → is_shut past who q t ≡ false → (t == 0) ≡ false
+      → QueueCase past who i q t (reply.Booked (now past + t))
+
+queue_case : (past : List Entry) (who : Who) (i q t : ℕ) (a b c d e f : Bool)
+    → may_call past who ≡ a → is_cancelling past i ≡ b → is_pending past i ≡ c → runs_elsewhere past i q ≡ d → is_shut past who q t ≡ e → (t == 0) ≡ f
+    → QueueCase past who i q t (if not a then reply.Misuse else if b then reply.No else if c then reply.No else if d then reply.Foreign else if e then reply.Draining else if f then reply.Yes (length past) else reply.Booked (now past + t))
+queue_case past who i q t false b c d e f ha hb hc hd he hf = idle_worker ha
+queue_case past who i q t true true c d e f ha hb hc hd he hf = cancelling hb
+queue_case past who i q t true false true d e f ha hb hc hd he hf = pending hc
+queue_case past who i q t true false false true e f ha hb hc hd he hf = foreign hd
+queue_case past who i q t true false false false true f ha hb hc hd he hf = shut he
+queue_case past who i q t true false false false false true ha hb hc hd he hf = queued ha hb hc hd he hf
+queue_case past who i q t true false false false false false ha hb hc hd he hf = booked ha hb hc hd he hf
+
+pub queue_cases : (past : List Entry) (who : Who) (i q t : ℕ) → QueueCase past who i q t (queue_answer past who i q t)
+unfolding queue_answer
+queue_cases past who i q t =
+    queue_case past who i q t (may_call past who) (is_cancelling past i) (is_pending past i) (runs_elsewhere past i q) (is_shut past who q t) (t == 0) refl refl refl refl refl refl
