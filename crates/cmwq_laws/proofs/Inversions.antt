@@ -1,5 +1,5 @@
 -- What a legal entry's reply can be, call by call.
-use Rattle.std.proofs.Common.{◌≡◌, ◌==◌, ◌+◌, not, ℕ, Bool, true, false, if◌then◌else◌, List, length, Option, Some, None, refl, arith, ap, ◌∙◌, ◌∷◌}
+use Rattle.std.proofs.Common.{◌≡◌, ◌==◌, ◌+◌, not, ℕ, Bool, true, false, if◌then◌else◌, List, length, Option, Some, arith, ap, ◌∷◌}
 use Rattle.cmwq_model.specs.declared.id.WorkerId.{WorkerId}
 use Rattle.cmwq_model.specs.declared.id.Who.{Who}
 use Rattle.cmwq_model.specs.declared.id.Who.TheVariants.{Caller, Worker}

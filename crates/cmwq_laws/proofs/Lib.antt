@@ -8,3 +8,7 @@ pub mod QueueCases
 pub mod ModifyCases
 pub mod TakeCases
 pub mod Starts
+pub mod Entries
+pub mod Opens
+pub mod Activated
+pub mod ItemRuns

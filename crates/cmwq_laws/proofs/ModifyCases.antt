@@ -1,19 +1,13 @@
 -- The cases of the answer to modify, each with what holds in it.
-use Rattle.std.proofs.Common.{◌≡◌, ◌+◌, ◌<◌, ◌==◌, ℕ, Bool, true, false, not, if◌then◌else◌, ◌||◌, List, [], ◌∷◌, length, Option, Some, None, nat_lt, refl, sym, ap}
-use Rattle.cmwq_model.specs.declared.id.WorkerId.{WorkerId}
+use Rattle.std.proofs.Common.{◌≡◌, ◌+◌, ◌==◌, ℕ, Bool, true, false, not, if◌then◌else◌, List, length, refl}
 use Rattle.cmwq_model.specs.declared.id.Who.{Who}
 use Rattle.cmwq_model.specs.declared.reply.Reply.{Reply}
 use Rattle.cmwq_model.specs.declared.reply.Reply.TheVariants as reply
 use Rattle.cmwq_model.specs.declared.entry.Entry.{Entry}
-use Rattle.cmwq_model.specs.declared.record.Queueing.{Queueing}
-use Rattle.cmwq_model.specs.Layout.{Layout}
 use Rattle.cmwq_model.specs.Calls.{now}
-use Rattle.cmwq_model.specs.Runs.{has_run}
 use Rattle.cmwq_model.specs.Queueings.{is_pending, runs_elsewhere}
-use Rattle.cmwq_model.specs.Active.{next}
-use Rattle.cmwq_model.specs.Workers.{is_enlisted, runnable, enlisted_by}
 use Rattle.cmwq_model.specs.Tickets.{is_cancelling}
-use Rattle.cmwq_model.specs.Answer.{may_call, is_shut, queue_answer, modify_answer, started, start_of, take_answer}
+use Rattle.cmwq_model.specs.Answer.{may_call, is_shut, modify_answer}
 
 pub data ModifyCase (past : List Entry) (who : Who) (i q t : ℕ) : Reply → Type 0 where
   idle_worker : may_call past who ≡ false → ModifyCase past who i q t reply.Misuse

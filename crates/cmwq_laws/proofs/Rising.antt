@@ -1,5 +1,5 @@
 -- Queueings stand by their numbers.
-use Rattle.std.proofs.Common.{◌≡◌, ◌<◌, ◌≤◌, ◌+◌, ℕ, suc, Bool, true, false, cond, List, [], ◌∷◌, ◌++◌, length, append-nil, filter, find, Option, Some, None, option_to_list, refl, sym, ap, arith, subst}
+use Rattle.std.proofs.Common.{◌≡◌, ◌<◌, ◌≤◌, ℕ, suc, Bool, true, false, cond, List, [], ◌∷◌, ◌++◌, length, append-nil, filter, find, Option, Some, None, option_to_list, refl, sym, ap, arith, subst}
 use Rattle.std.specs.List.{AllByRecursion}
 use Rattle.std.specs.Prelude.{option_map, option_and_then, if◌then◌else◌}
 use Rattle.cmwq_model.specs.declared.entry.Entry.{Entry}
@@ -8,7 +8,7 @@ use Rattle.cmwq_model.specs.declared.record.Queueing.{Queueing}
 use Rattle.cmwq_model.specs.Calls.{item_of}
 use Rattle.cmwq_model.specs.Queueings.{queueings, opening, opens, is_live, queued_at, place_wanted, still_open}
 use Rattle.cmwq_laws.specs.Fidelity.{IsRising}
-use Rattle.cmwq_laws.proofs.Lists.{All_map, All_append, All_filter, All_each}
+use Rattle.cmwq_laws.proofs.Lists.{All_map, All_append, All_filter}
 
 abbrev pub IsBelow : ℕ → Queueing → Type 0
 IsBelow n x = x.number < n

@@ -1,5 +1,5 @@
 -- Only a take starts a queueing, by an idle worker, and then the next of its pool.
-use Rattle.std.proofs.Common.{◌≡◌, ℕ, Bool, true, false, List, [], ◌∷◌, length, Option, Some, None, nat_lt, refl, sym, ap, ◌∙◌, arith, rules}
+use Rattle.std.proofs.Common.{◌≡◌, ℕ, true, false, List, Option, Some, None, nat_lt, refl, ap, arith}
 use Rattle.cmwq_model.specs.declared.id.WorkerId.{WorkerId}
 use Rattle.cmwq_model.specs.declared.id.Who.{Who}
 use Rattle.cmwq_model.specs.declared.id.Who.TheVariants.{Caller, Worker}
@@ -15,12 +15,10 @@ use Rattle.cmwq_model.specs.Runs.{has_run}
 use Rattle.cmwq_model.specs.Active.{next}
 use Rattle.cmwq_model.specs.Workers.{is_enlisted, runnable, enlisted_by}
 use Rattle.cmwq_model.specs.Tickets.{ticket_of}
-use Rattle.cmwq_model.specs.Answer.{answer, cancel_answer, flush_item_answer, flush_delayed_answer, cancel_sync_answer, end_of_ticket, finish_answer, retire_answer, take_answer, started}
-use Rattle.cmwq_model.specs.Legal.{IsLegal}
+use Rattle.cmwq_model.specs.Answer.{answer, cancel_answer, flush_item_answer, flush_delayed_answer, cancel_sync_answer, end_of_ticket, finish_answer, retire_answer, started}
 use Rattle.cmwq_laws.proofs.QueueCases as queue
 use Rattle.cmwq_laws.proofs.ModifyCases as modify
 use Rattle.cmwq_laws.proofs.TakeCases as take
-use Rattle.cmwq_laws.proofs.Inversions.{answer_is}
 
 queue_starts : {past : List Entry} {who : Who} {i q t : ℕ} {r : Reply} → queue.QueueCase past who i q t r → number_started r ≡ None
 queue_starts (queue.idle_worker a) = refl
