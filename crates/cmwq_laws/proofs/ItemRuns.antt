@@ -1,20 +1,18 @@
 -- On a legal history the run of a worker is the run of its item.
-use Rattle.std.proofs.Common.{◌≡◌, ◌==◌, ◌<◌, ℕ, suc, Bool, true, false, cond, not, ◌&&◌, List, [], ◌∷◌, length, Option, Some, None, refl, sym, ap, ap₂, ◌∙◌, subst, arith}
+use Rattle.std.proofs.Common.{◌≡◌, ◌==◌, ◌<◌, ℕ, Bool, true, false, not, ◌&&◌, List, [], ◌∷◌, length, Option, Some, None, refl, sym, ap, ap₂, ◌∙◌, subst, arith}
 use Rattle.std.specs.Prelude.{option_map, option_and_then, is_some, if◌then◌else◌}
 use Rattle.std.specs.Option.{option_map_or}
 use Rattle.std.proofs.lemmas.Bool.{eqb-true, eq-eqb}
 use Rattle.std.proofs.Common.{inl, inr}
-use Rattle.std.proofs.lemmas.Bool.Decides.{nat_tests, eqb_tells}
+use Rattle.std.proofs.lemmas.Bool.Decides.{eqb_tells}
 use mathlib.Core.Bool.{beq}
-use Rattle.cmwq_model.specs.declared.id.PoolId.{PoolId}
 use Rattle.cmwq_model.specs.declared.id.WorkerId.{WorkerId}
 use Rattle.cmwq_model.specs.declared.id.Who.{Who}
 use Rattle.cmwq_model.specs.declared.id.Who.TheVariants.{Worker}
 use Rattle.cmwq_model.specs.declared.entry.Entry.{Entry}
-use Rattle.cmwq_model.specs.declared.record.Queueing.{Queueing}
 use Rattle.cmwq_model.specs.declared.record.Start.{Start}
 use Rattle.cmwq_model.specs.Layout.{Layout}
-use Rattle.cmwq_model.specs.Calls.{is_at, is_by, same_pool, same_worker, same_who, item_at, worker_of}
+use Rattle.cmwq_model.specs.Calls.{is_at, is_by, same_worker, same_who, item_at, worker_of}
 use Rattle.cmwq_model.specs.Fate.{number_started, is_open}
 use Rattle.cmwq_model.specs.Runs.{is_number_open, last_start, run, item_start, item_run, item_runs, start_in, starts_item}
 use Rattle.cmwq_model.specs.Legal.{IsLegal}
@@ -22,7 +20,7 @@ use Rattle.cmwq_laws.proofs.Entries.{IsKnown, known_more, queueings_known, item_
 use Rattle.cmwq_laws.proofs.Opens.{open_before}
 use Rattle.cmwq_laws.proofs.Activated.{next_holds}
 use Rattle.cmwq_laws.proofs.Inversions.{answer_is}
-use Rattle.cmwq_laws.proofs.Starts.{StartsNext, starts_next}
+use Rattle.cmwq_laws.proofs.Starts.{starts_next}
 
 -- ---- workers
 

@@ -12,3 +12,5 @@ pub mod Entries
 pub mod Opens
 pub mod Activated
 pub mod ItemRuns
+pub mod Order
+pub mod Worklist

@@ -37,7 +37,7 @@ module _ {X : Type 0} where
   count_by-none p [] h = refl
   count_by-none p (x ∷ xs) h = count_by-cons p x xs ∙ ap₂ (λ b n. cond b 1 0 + n) h.0 (count_by-none p xs h.1)
 
-  count_by-head : (p : X → Bool) (x : X) (xs : List X) (b : Bool) → count_by p (cond b (x ∷ xs) xs) ≡ cond (b && p x) 1 0 + count_by p xs
+  pub count_by-head : (p : X → Bool) (x : X) (xs : List X) (b : Bool) → count_by p (cond b (x ∷ xs) xs) ≡ cond (b && p x) 1 0 + count_by p xs
   count_by-head p x xs true = count_by-cons p x xs
   count_by-head p x xs false = sym (zero-add (count_by p xs))
 

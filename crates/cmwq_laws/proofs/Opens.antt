@@ -1,9 +1,8 @@
 -- What is open after an entry was open before it.
-use Rattle.std.proofs.Common.{◌≡◌, ◌<◌, ℕ, suc, Bool, true, false, not, ◌&&◌, ◌||◌, List, [], ◌∷◌, length, Option, Some, None, nat_lt, refl, sym, ap, ◌∙◌, arith}
+use Rattle.std.proofs.Common.{◌≡◌, ◌<◌, ℕ, true, List, ◌∷◌, length, arith}
 use Rattle.std.proofs.lemmas.Bool.Decides.{nat_tests}
 use Rattle.cmwq_model.specs.declared.entry.Entry.{Entry}
-use Rattle.cmwq_model.specs.Calls.{is_of_item}
-use Rattle.cmwq_model.specs.Fate.{finishes, takes_back, replaces, is_started, is_finished, is_cancelled, is_open}
+use Rattle.cmwq_model.specs.Fate.{is_cancelled, is_open}
 
 pub open_before : (e : Entry) (past : List Entry) (i n : ℕ) → n < length past → is_open (e ∷ past) i n ≡ true → is_open past i n ≡ true
 unfolding is_cancelled

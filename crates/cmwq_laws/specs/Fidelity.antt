@@ -10,6 +10,9 @@ use Rattle.cmwq_model.specs.Layout.{Layout, width_of}
 use Rattle.cmwq_model.specs.Queueings.{queueings, still_open}
 use Rattle.cmwq_model.specs.Active.{is_active}
 use Rattle.cmwq_model.specs.Waits.{holds_up, waits_for}
+use Rattle.cmwq_model.specs.Calls.{item_at}
+use Rattle.cmwq_model.specs.Runs.{run, item_run}
+use Rattle.cmwq_model.specs.declared.id.WorkerId.{WorkerId}
 use Rattle.cmwq_model.specs.Legal.{IsLegal}
 
 -- the number that a reply gives to what it opens
@@ -51,3 +54,8 @@ ActiveAreFirst = (s : Layout) (past : List Entry) (q c : ℕ) → filter (is_act
 abbrev pub WaitsForLeast : Type 0
 WaitsForLeast = (past : List Entry) (n m : ℕ) (c : Call) → waits_for past n c ≡ Some m
     → AllByRecursion (λ x. holds_up past n c x ≡ true → m ≤ x.number) (still_open past)
+
+-- on a legal history the run of a worker is the run of its item: so an item has one run at most, whichever worker is asked
+abbrev pub RunsAreItems : Type 0
+RunsAreItems = (s : Layout) (past : List Entry) (w : WorkerId) (n i : ℕ) → IsLegal s past → run past w ≡ Some n → item_at past n ≡ Some i
+    → item_run past i ≡ Some (record { worker = w; number = n })

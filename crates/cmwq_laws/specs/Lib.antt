@@ -1,1 +1,2 @@
 pub mod Fidelity
+pub mod Order

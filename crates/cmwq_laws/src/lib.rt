@@ -4,5 +4,6 @@
 mod fidelity;
 
 pub use fidelity::{
-    active_are_first, queueings_stand_by_number, replies_name_themselves, tickets_wait_for_least,
+    active_are_first, queueings_stand_by_number, replies_name_themselves, runs_are_items,
+    tickets_wait_for_least, worklists_are_in_order,
 };

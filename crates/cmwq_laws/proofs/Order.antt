@@ -1,0 +1,180 @@
+-- A pool's worklist stands in the order in which its queueings became active.
+use Rattle.std.proofs.Common.{◌≡◌, ◌+◌, ◌<◌, ◌≤◌, ℕ, Bool, true, false, cond, ◌&&◌, List, [], ◌∷◌, ◌++◌, length, filter, count_by, Option, Some, None, option_to_list, refl, ap, ◌∙◌, arith, inl, inr}
+use Rattle.std.specs.Prelude.{if◌then◌else◌}
+use Rattle.std.specs.List.{AllByRecursion}
+use Rattle.std.specs.Option.{option_or}
+use Rattle.std.proofs.lemmas.Bool.{ltb-true}
+use Rattle.std.proofs.lemmas.Bool.Decides.{nat_tests}
+use Rattle.cmwq_model.specs.declared.entry.Entry.{Entry}
+use Rattle.cmwq_model.specs.declared.record.Queueing.{Queueing}
+use Rattle.cmwq_model.specs.Layout.{Layout, width_of}
+use Rattle.cmwq_model.specs.Queueings.{queueings, opening, is_live, still_open}
+use Rattle.cmwq_model.specs.Active.{is_ahead, is_active, is_newly_active, newly_active, activated}
+use Rattle.cmwq_laws.specs.Fidelity.{IsRising}
+use Rattle.cmwq_laws.specs.Order.{since, IsSooner, AreInOrder}
+use Rattle.cmwq_laws.proofs.Lists.{All_map, All_both, All_append, All_each, All_filter, count_by-head}
+use Rattle.cmwq_laws.proofs.Rising.{IsBelow, queueings_below, queueings_rise, rising_filter, opening_number}
+use Rattle.cmwq_laws.proofs.Opens.{open_before}
+
+-- ---- once active, a queueing stays active while it is open
+
+module _ {X : Type 0} where
+  count_step : (p : X → Bool) (x : X) (m n : ℕ) (a b : Bool) → (a ≡ true → b ≡ true) → m ≤ n → cond (a && p x) 1 0 + m ≤ cond (b && p x) 1 0 + n
+  count_step p x m n true true h less = omega arith
+  count_step p x m n true false h less = let bad : false ≡ true = h refl in cc
+  count_step p x m n false b h less = omega arith
+
+  count_last : (p f : X → Bool) (o : Option X) → ((y : X) → o ≡ Some y → p y ≡ false) → count_by p (filter f (option_to_list o)) ≡ 0
+  count_last p f None h = refl
+  count_last p f (Some y) h = count_by-head p y [] (f y) ∙ ap (λ b. cond (f y && b) 1 0 + 0) (h y refl) ∙ none (f y)
+    where
+      none : (b : Bool) → cond (b && false) 1 0 + 0 ≡ 0
+      none true = refl
+      none false = refl
+
+  -- of the elements that pass f, and one more that fails p, no more pass p than of those that pass a wider test
+  count_narrower : (p f g : X → Bool) (xs : List X) (o : Option X) → AllByRecursion (λ x. f x ≡ true → g x ≡ true) xs → ((y : X) → o ≡ Some y → p y ≡ false)
+      → count_by p (filter f (xs ++ option_to_list o)) ≤ count_by p (filter g xs)
+  count_narrower p f g [] o h last = let none = count_last p f o last in omega arith
+  count_narrower p f g (x ∷ xs) o h last =
+    let rest = count_narrower p f g xs o h.1 last in
+    let here = count_step p x (count_by p (filter f (xs ++ option_to_list o))) (count_by p (filter g xs)) (f x) (g x) h.0 rest in
+    let left = count_by-head p x (filter f (xs ++ option_to_list o)) (f x) in
+    let right = count_by-head p x (filter g xs) (g x) in
+    omega arith
+
+-- no more older ones are open on its queue and CPU than before
+fewer_ahead : (past : List Entry) (e : Entry) (x : Queueing) → x.number < length past → count_by (is_ahead x) (still_open (e ∷ past)) ≤ count_by (is_ahead x) (still_open past)
+unfolding queueings
+fewer_ahead past e x older = count_narrower (is_ahead x) (is_live (e ∷ past)) (is_live past) (queueings past) (opening past e)
+    (All_map (IsBelow (length past)) (λ y. is_live (e ∷ past) y ≡ true → is_live past y ≡ true) (queueings past) (λ y less. open_before e past y.item.0 y.number less) (queueings_below past))
+    (λ y opened. let number = opening_number past e y opened in grind (arith, nat_tests))
+
+pub stays_active : (s : Layout) (past : List Entry) (e : Entry) (x : Queueing) → x.number < length past → is_active s past x ≡ true → is_live (e ∷ past) x ≡ true → is_active s (e ∷ past) x ≡ true
+stays_active s past e x older active live = active_of (width_left active) live (fewer_ahead past e x older)
+    where
+      width_left : is_active s past x ≡ true → count_by (is_ahead x) (still_open past) < width_of s x.place.queue.0
+      width_left h = ltb-true _ _ (grind arith)
+      active_of : count_by (is_ahead x) (still_open past) < width_of s x.place.queue.0 → is_live (e ∷ past) x ≡ true
+          → count_by (is_ahead x) (still_open (e ∷ past)) ≤ count_by (is_ahead x) (still_open past) → is_active s (e ∷ past) x ≡ true
+      active_of less live fewer = grind (arith, nat_tests)
+
+-- ---- since when a queueing is active
+
+pub active_older : (s : Layout) (past : List Entry) (x : Queueing) → is_active s past x ≡ true → x.number < length past
+active_older s past x h = ltb-true x.number (length past) (grind arith)
+
+active_live : (s : Layout) (past : List Entry) (x : Queueing) → is_active s past x ≡ true → is_live past x ≡ true
+active_live s past x h = grind arith
+
+data Since (s : Layout) (e : Entry) (past : List Entry) (x : Queueing) (j : ℕ) : Type 0 where
+  already : since s past x ≡ Some j → Since s e past x j
+  at_once : since s past x ≡ None → is_active s (e ∷ past) x ≡ true → length (e ∷ past) ≡ j → Since s e past x j
+
+since_case : (s : Layout) (e : Entry) (past : List Entry) (x : Queueing) (j : ℕ) (o : Option ℕ) (b : Bool) → since s past x ≡ o → is_active s (e ∷ past) x ≡ b
+    → option_or o (if b then Some (length (e ∷ past)) else None) ≡ Some j → Since s e past x j
+since_case s e past x j (Some k) b ho hb h = already (ho ∙ h)
+since_case s e past x j None true ho hb h = at_once ho hb (let same : length (e ∷ past) ≡ j = cc in same)
+since_case s e past x j None false ho hb h = cc
+
+since_cases : (s : Layout) (e : Entry) (past : List Entry) (x : Queueing) (j : ℕ) → since s (e ∷ past) x ≡ Some j → Since s e past x j
+unfolding since
+since_cases s e past x j h = since_case s e past x j (since s past x) (is_active s (e ∷ past) x) refl refl h
+
+since_keeps : (s : Layout) (e : Entry) (past : List Entry) (x : Queueing) (j : ℕ) → since s past x ≡ Some j → since s (e ∷ past) x ≡ Some j
+unfolding since
+since_keeps s e past x j h = ap (λ o. option_or o (if is_active s (e ∷ past) x then Some (length (e ∷ past)) else None)) h
+
+since_older : (s : Layout) (past : List Entry) (x : Queueing) (j : ℕ) → since s past x ≡ Some j → x.number < length past
+unfolding since
+since_older s [] x j h = cc
+since_older s (e ∷ past) x j h = elim (since_cases s e past x j h) [
+      | already before ↦ let less : x.number < length past = since_older s past x j before in omega arith
+      | at_once none active is ↦ active_older s (e ∷ past) x active
+    ]
+
+-- what was active at some time and is open now is active now
+still_active : (s : Layout) (past : List Entry) (x : Queueing) (j : ℕ) → since s past x ≡ Some j → is_live past x ≡ true → is_active s past x ≡ true
+unfolding since
+still_active s [] x j h live = cc
+still_active s (e ∷ past) x j h live = elim (since_cases s e past x j h) [
+      | already before ↦ let older = since_older s past x j before in
+        stays_active s past e x older (still_active s past x j before (open_before e past x.item.0 x.number older live)) live
+      | at_once none active is ↦ active
+    ]
+
+-- what an entry makes active is active since then
+newly_since : (s : Layout) (past : List Entry) (e : Entry) (x : Queueing) → is_newly_active s past e x ≡ true → since s (e ∷ past) x ≡ Some (length (e ∷ past))
+unfolding since
+newly_since s past e x h = since_now (since s past x) refl
+    where
+      active : is_active s (e ∷ past) x ≡ true
+      active = grind arith
+      was_not : is_active s past x ≡ true → ⊥
+      was_not before = grind arith
+      since_now : (o : Option ℕ) → since s past x ≡ o → option_or o (if is_active s (e ∷ past) x then Some (length (e ∷ past)) else None) ≡ Some (length (e ∷ past))
+      since_now None ho = ap (λ b. if b then Some (length (e ∷ past)) else None) active
+      since_now (Some j) ho =
+        let older = since_older s past x j ho in
+        absurd (was_not (still_active s past x j ho (open_before e past x.item.0 x.number older (active_live s (e ∷ past) x active))))
+
+-- ---- all that ever became active stand in order
+
+record HasSince (s : Layout) (past : List Entry) (x : Queueing) : Type 0 where
+  at : ℕ
+  is : since s past x ≡ Some at
+  within : at ≤ length past
+
+activated_since : (s : Layout) (past : List Entry) → AllByRecursion (HasSince s past) (activated s past)
+unfolding activated
+activated_since s [] = tt
+activated_since s (e ∷ past) =
+    All_append (HasSince s (e ∷ past)) (activated s past) (newly_active s past e)
+    (All_map (HasSince s past) (HasSince s (e ∷ past)) (activated s past) (λ x h. let within = h.within in record { at = h.at; is = since_keeps s e past x h.at h.is; within = omega arith }) (activated_since s past))
+    (All_filter (HasSince s (e ∷ past)) (is_newly_active s past e) (queueings (e ∷ past))
+    (All_each (λ x. is_newly_active s past e x ≡ true → HasSince s (e ∷ past) x) (queueings (e ∷ past)) (λ x newly. record { at = length (e ∷ past); is = newly_since s past e x newly; within = omega arith })))
+
+in_order_append : (s : Layout) (past : List Entry) (xs ys : List Queueing) → AreInOrder s past xs → AreInOrder s past ys → AllByRecursion (λ x. AllByRecursion (IsSooner s past x) ys) xs → AreInOrder s past (xs ++ ys)
+in_order_append s past [] ys h k c = k
+in_order_append s past (x ∷ xs) ys h k c = (All_append (IsSooner s past x) xs ys h.0 c.0, in_order_append s past xs ys h.1 k c.1)
+
+in_order_head : (s : Layout) (past : List Entry) (x : Queueing) (xs : List Queueing) (b : Bool) → AllByRecursion (IsSooner s past x) xs → AreInOrder s past xs → AreInOrder s past (cond b (x ∷ xs) xs)
+in_order_head s past x xs true h k = (h, k)
+in_order_head s past x xs false h k = k
+
+pub in_order_filter : (s : Layout) (past : List Entry) (p : Queueing → Bool) (xs : List Queueing) → AreInOrder s past xs → AreInOrder s past (filter p xs)
+in_order_filter s past p [] h = tt
+in_order_filter s past p (x ∷ xs) h =
+    let later = All_filter (IsSooner s past x) p xs (All_map (IsSooner s past x) (λ y. p y ≡ true → IsSooner s past x y) xs (λ y sooner passes. sooner) h.0) in
+    in_order_head s past x (filter p xs) (p x) later (in_order_filter s past p xs h.1)
+
+in_order_keeps : (s : Layout) (past : List Entry) (e : Entry) (xs : List Queueing) → AreInOrder s past xs → AreInOrder s (e ∷ past) xs
+in_order_keeps s past e [] h = tt
+in_order_keeps s past e (x ∷ xs) h = (All_map (IsSooner s past x) (IsSooner s (e ∷ past) x) xs keeps h.0, in_order_keeps s past e xs h.1)
+    where
+      keeps : (y : Queueing) → IsSooner s past x y → IsSooner s (e ∷ past) x y
+      keeps y k = record { x_since = k.x_since; y_since = k.y_since; x_is = since_keeps s e past x k.x_since k.x_is; y_is = since_keeps s e past y k.y_since k.y_is; order = k.order }
+
+-- what is active since one moment stands by number
+one_moment : (s : Layout) (past : List Entry) (j : ℕ) (xs : List Queueing) → IsRising xs → AllByRecursion (λ x. since s past x ≡ Some j) xs → AreInOrder s past xs
+one_moment s past j [] h k = tt
+one_moment s past j (x ∷ xs) h k =
+    (All_both (λ y. x.number < y.number) (λ y. since s past y ≡ Some j) (IsSooner s past x) xs (λ y less is. record { x_since = j; y_since = j; x_is = k.0; y_is = is; order = inr (refl, less) }) h.0 k.1, one_moment s past j xs h.1 k.1)
+
+newly_all_since : (s : Layout) (past : List Entry) (e : Entry) → AllByRecursion (λ x. since s (e ∷ past) x ≡ Some (length (e ∷ past))) (newly_active s past e)
+newly_all_since s past e = All_filter (λ x. since s (e ∷ past) x ≡ Some (length (e ∷ past))) (is_newly_active s past e) (queueings (e ∷ past))
+    (All_each (λ x. is_newly_active s past e x ≡ true → since s (e ∷ past) x ≡ Some (length (e ∷ past))) (queueings (e ∷ past)) (newly_since s past e))
+
+pub activated_in_order : (s : Layout) (past : List Entry) → AreInOrder s past (activated s past)
+unfolding activated
+activated_in_order s [] = tt
+activated_in_order s (e ∷ past) =
+    in_order_append s (e ∷ past) (activated s past) (newly_active s past e)
+    (in_order_keeps s past e (activated s past) (activated_in_order s past))
+    (one_moment s (e ∷ past) (length (e ∷ past)) (newly_active s past e) (rising_filter (is_newly_active s past e) (queueings (e ∷ past)) (queueings_rise (e ∷ past))) (newly_all_since s past e))
+    (All_map (HasSince s past) (λ x. AllByRecursion (IsSooner s (e ∷ past) x) (newly_active s past e)) (activated s past) before (activated_since s past))
+    where
+      before : (x : Queueing) → HasSince s past x → AllByRecursion (IsSooner s (e ∷ past) x) (newly_active s past e)
+      before x h = All_map (λ y. since s (e ∷ past) y ≡ Some (length (e ∷ past))) (IsSooner s (e ∷ past) x) (newly_active s past e)
+          (λ y is. let within = h.within in record { x_since = h.at; y_since = length (e ∷ past); x_is = since_keeps s e past x h.at h.is; y_is = is; order = inl (omega arith) })
+          (newly_all_since s past e)
