@@ -11,3 +11,4 @@ pub mod Waits
 pub mod Answer
 pub mod Legal
 pub mod Room
+pub mod Kernel

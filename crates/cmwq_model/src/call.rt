@@ -6,29 +6,59 @@ use crate::id::{CpuId, ItemId, Number, QueueId};
 #[derive(Clone, Copy, Debug)]
 pub enum Call {
     /// Queues an item (`queue_work_on`).
-    Queue { item: ItemId, queue: QueueId, cpu: CpuId },
+    Queue {
+        item: ItemId,
+        queue: QueueId,
+        cpu: CpuId,
+    },
     /// Queues an item after so many ticks (`queue_delayed_work_on`).
-    Delay { item: ItemId, queue: QueueId, cpu: CpuId, ticks: u32 },
+    Delay {
+        item: ItemId,
+        queue: QueueId,
+        cpu: CpuId,
+        ticks: u32,
+    },
     /// Queues or delays an item anew, whether or not it is pending (`mod_delayed_work_on`).
-    Modify { item: ItemId, queue: QueueId, cpu: CpuId, ticks: u32 },
+    Modify {
+        item: ItemId,
+        queue: QueueId,
+        cpu: CpuId,
+        ticks: u32,
+    },
     /// Takes a pending item back (`cancel_work`, `cancel_delayed_work`).
-    Cancel { item: ItemId },
+    Cancel {
+        item: ItemId,
+    },
     /// Lets so many ticks go by.
-    Tick { ticks: u32 },
+    Tick {
+        ticks: u32,
+    },
     /// Queues the first delayed item that is due (a timer that runs out).
     Fire,
     /// Begins to wait for all that is queued on a queue (`flush_workqueue`).
-    Flush { queue: QueueId },
+    Flush {
+        queue: QueueId,
+    },
     /// Begins to wait until a queue is empty (`drain_workqueue`).
-    Drain { queue: QueueId },
+    Drain {
+        queue: QueueId,
+    },
     /// Begins to wait for the queueings of an item (`flush_work`).
-    FlushItem { item: ItemId },
+    FlushItem {
+        item: ItemId,
+    },
     /// The same, after queueing the item at once if it is delayed (`flush_delayed_work`).
-    FlushDelayed { item: ItemId },
+    FlushDelayed {
+        item: ItemId,
+    },
     /// Takes an item back and begins to wait for its run (`cancel_work_sync`).
-    CancelSync { item: ItemId },
+    CancelSync {
+        item: ItemId,
+    },
     /// Ends a wait, if it may end (the return of a call that waits).
-    End { ticket: Number },
+    End {
+        ticket: Number,
+    },
     /// Starts the next queueing of the worker's pool (`process_one_work`).
     Take,
     /// Ends the worker's run.

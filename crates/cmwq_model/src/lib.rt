@@ -15,3 +15,6 @@ pub use id::{CallerId, CpuId, ItemId, Number, PoolId, QueueId, Who, WorkerId};
 pub use record::{Booking, Place, Queueing, Start, Ticket};
 pub use reply::Reply;
 pub use shape::{Counts, QueueShape, Shape};
+
+#[cfg(test)]
+mod tests;

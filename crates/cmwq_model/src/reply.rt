@@ -1,3 +1,6 @@
+ghost use Rattle.std.specs.Prelude.{◌≡◌};
+
+use crate::call::Call;
 use crate::id::{ItemId, Number};
 
 /// What a call is answered. Where a number is that of the entry itself, the variant says so by `k`.
@@ -63,4 +66,74 @@ pub enum Reply {
     Retired,
     /// The worker stays.
     Kept,
+}
+
+impl Reply {
+    ghost use Rattle.cmwq_model.specs.Kernel.{queue_returns, modify_returns, cancel_returns, cancel_sync_returns, flush_item_returns, kernel_returns};
+
+    /// What the kernel's function returns where this is the reply to the call: for queue and delay whether the item was
+    /// not pending, for modify, cancel and cancel_sync whether it was, for flush_item and flush_delayed whether there was
+    /// something to wait for. None of all other calls and replies.
+    pub fn kernel(&self, call: Call) -> Option<bool>
+        ensures { result ≡ kernel_returns call self.now }
+    {
+        match call {
+            Call::Queue { .. } | Call::Delay { .. } => self.as_queued(),
+            Call::Modify { .. } => self.as_modified(),
+            Call::Cancel { .. } => self.as_cancelled(),
+            Call::CancelSync { .. } => self.as_cancelled_sync(),
+            Call::FlushItem { .. } | Call::FlushDelayed { .. } => self.as_flushed(),
+            _ => None,
+        }
+    }
+
+    fn as_queued(&self) -> Option<bool>
+        ensures { result ≡ queue_returns self.now }
+    {
+        match self {
+            Reply::Yes(_) | Reply::Booked(_) => Some(true),
+            Reply::No => Some(false),
+            _ => None,
+        }
+    }
+
+    fn as_modified(&self) -> Option<bool>
+        ensures { result ≡ modify_returns self.now }
+    {
+        match self {
+            Reply::Again(_) | Reply::Rebooked(_) => Some(true),
+            Reply::Yes(_) | Reply::Booked(_) => Some(false),
+            _ => None,
+        }
+    }
+
+    fn as_cancelled(&self) -> Option<bool>
+        ensures { result ≡ cancel_returns self.now }
+    {
+        match self {
+            Reply::Cancelled(_) | Reply::Unbooked => Some(true),
+            Reply::No => Some(false),
+            _ => None,
+        }
+    }
+
+    fn as_cancelled_sync(&self) -> Option<bool>
+        ensures { result ≡ cancel_sync_returns self.now }
+    {
+        match self {
+            Reply::TicketCancelled(_, _) | Reply::TicketUnbooked(_) => Some(true),
+            Reply::TicketNo(_) => Some(false),
+            _ => None,
+        }
+    }
+
+    fn as_flushed(&self) -> Option<bool>
+        ensures { result ≡ flush_item_returns self.now }
+    {
+        match self {
+            Reply::Ticket(_) | Reply::TicketQueued(_) => Some(true),
+            Reply::Idle => Some(false),
+            _ => None,
+        }
+    }
 }

@@ -134,10 +134,16 @@ impl Shape {
         match call {
             Call::Queue { item, queue, cpu }
             | Call::Delay {
-                item, queue, cpu, ..
+                item,
+                queue,
+                cpu,
+                ..
             }
             | Call::Modify {
-                item, queue, cpu, ..
+                item,
+                queue,
+                cpu,
+                ..
             } => self.has_item(item) && self.has_queue(queue) && self.has_cpu(cpu),
             Call::Cancel { item }
             | Call::FlushItem { item }
