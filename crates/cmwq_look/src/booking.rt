@@ -1,0 +1,21 @@
+ghost use Rattle.std.specs.Prelude.{◌≡◌};
+ghost use Rattle.cmwq_model.specs.Bookings.{booking};
+
+use crate::entry::{booking_of, is_of_item, settles};
+use crate::past::Past;
+use cmwq_model::Booking;
+
+/// The item's booking: what its last entry that settles it made.
+#[tactic(auto, using(crate::proofs::Parts::ends, crate::proofs::Steps::booking_step))]
+pub fn booking(past: &Past<'_>, item: u16) -> Option<Booking>
+    ensures { result ≡ booking past.now item }
+{
+    let mut standing = None;
+    for k in 0..past.len() {
+        let entry = past.at(k);
+        if settles(entry.reply) && is_of_item(item, &entry) {
+            standing = booking_of(&entry, k as u32);
+        }
+    }
+    standing
+}

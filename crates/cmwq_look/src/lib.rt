@@ -1,0 +1,10 @@
+//! What a history says when it is looked back over, by taking no memory.
+#![tactic(auto)]
+
+mod booking;
+mod entry;
+mod fate;
+mod past;
+mod tally;
+
+pub use past::Past;
