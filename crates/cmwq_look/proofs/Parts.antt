@@ -1,8 +1,10 @@
 -- The first k entries of a history, as it grows by one entry and from a list that is kept oldest first.
-use Rattle.std.proofs.Common.{◌≡◌, ℕ, suc, ◌+◌, ◌-◌, ◌<◌, ◌≤◌, List, [], ◌∷◌, ◌++◌, length, get_or, take, drop, reverse, Option, Some, None, refl, sym, ap, ◌∙◌, arith, add-one, length-drop}
+use Rattle.std.proofs.Common.{◌≡◌, ℕ, zero, suc, true, nat_lt, slice_get, ◌+◌, ◌-◌, ◌<◌, ◌≤◌, List, [], ◌∷◌, ◌++◌, length, get_or, take, drop, reverse, Option, Some, None, refl, sym, ap, ◌∙◌, arith, add-one, length-drop}
 use Rattle.std.proofs.lemmas.List.{take-append-drop, reverse-append, drop_all, length-reverse}
 use Rattle.std.proofs.Math.Seq.{take-suc, drop-append_seam}
 use Rattle.cmwq_model.specs.declared.entry.Entry.{Entry}
+use Rattle.std.proofs.lemmas.Bool.{lt-ltb}
+use Rattle.cmwq_model.specs.Calls.{entry_at}
 use Rattle.cmwq_model.specs.Legal.{past_of}
 use Rattle.cmwq_look.specs.Past.{upto, then}
 
@@ -60,5 +62,23 @@ pub within_none : (latest : Option Entry) (entries : List Entry) (k : ℕ) → l
 within_none None entries k n h = omega (arith, length-reverse entries)
 within_none (Some e) entries k n h = cc
 
+pub length-then : (latest : Option Entry) (entries : List Entry) → length (then latest (past_of entries)) ≤ suc (length entries)
+length-then None entries = omega (arith, length-reverse entries)
+length-then (Some e) entries = omega (arith, length-reverse entries)
+
 -- what a loop over all numbers begins and ends with
 pub ruleset ends = (upto-none, upto-all, length-upto)
+
+-- the entry that the first k + 1 entries end with
+slice_get-drop : (xs : List Entry) (i : ℕ) (e : Entry) (rest : List Entry) → drop i xs ≡ e ∷ rest → slice_get xs i ≡ Some e
+slice_get-drop [] zero e rest h = cc
+slice_get-drop [] (suc i) e rest h = cc
+slice_get-drop (x ∷ xs) zero e rest h = cc
+slice_get-drop (x ∷ xs) (suc i) e rest h = slice_get-drop xs i e rest h
+
+pub entry_at-upto : (past : List Entry) (n : ℕ) (e : Entry) → n < length past → upto past (n + 1) ≡ e ∷ upto past n → entry_at past n ≡ Some e
+unfolding upto
+entry_at-upto past n e h s =
+    let inside : nat_lt n (length past) ≡ true = lt-ltb n (length past) h in
+    let found : slice_get past (length past - suc n) ≡ Some e = slice_get-drop past (length past - suc n) e (drop (length past - n) past) (rw add-one at s) in
+    rw (inside, found)

@@ -5,6 +5,9 @@ mod booking;
 mod entry;
 mod fate;
 mod past;
+mod queueing;
+mod run;
 mod tally;
+mod ticket;
 
 pub use past::Past;

@@ -62,7 +62,8 @@ impl<'a> Past<'a> {
     /// The entry with this number.
     pub fn at(&self, number: usize) -> Entry
         requires { number < length self.now }
-        ensures { upto self.now (number + 1) ≡ result ∷ upto self.now number }
+        ensures step { upto self.now (number + 1) ≡ result ∷ upto self.now number }
+        ensures small { number ≤ 1000000 }
     {
         match self.latest {
             Some(entry) => {
