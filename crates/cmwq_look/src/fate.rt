@@ -1,7 +1,7 @@
 ghost use Rattle.std.specs.Prelude.{◌≡◌};
 ghost use Rattle.cmwq_model.specs.Fate.{is_started, is_finished, is_cancelled, is_open};
 
-use crate::entry::{finishes, is_of_item, replaces, starts, takes_back};
+use crate::entries::{finishes, is_of_item, replaces, starts, takes_back};
 use crate::past::Past;
 use cmwq_model::Number;
 

@@ -1,7 +1,7 @@
-ghost use Rattle.std.specs.Prelude.{◌≡◌, ◌≤◌, ◌*◌, length};
+ghost use Rattle.std.specs.Prelude.{◌≡◌, ◌<◌, ◌^◌};
 ghost use Rattle.cmwq_model.specs.Calls.{now, serial_of};
 
-use crate::entry::{is_by, ticks_told};
+use crate::entries::{is_by, ticks_told};
 use crate::past::Past;
 use cmwq_model::Who;
 
@@ -23,7 +23,7 @@ pub fn serial_of(past: &Past<'_>, who: Who) -> u32
 #[tactic(auto, using(crate::proofs::Parts::ends, crate::proofs::Steps::now_step), unfolding(cmwq_model::specs::Calls::now))]
 pub fn now(past: &Past<'_>) -> u64
     ensures total { result ≡ now past.now }
-    ensures small { result ≤ 4294967295 * length past.now }
+    ensures small { result < 2 ^ 53 }
 {
     let mut total = 0;
     for number in 0..past.len() {
