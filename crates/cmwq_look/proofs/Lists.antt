@@ -1,5 +1,5 @@
 -- A list, and one element more where there is one.
-use Rattle.std.proofs.Common.{◌≡◌, ℕ, ◌+◌, Bool, true, false, List, [], ◌∷◌, ◌++◌, Option, Some, None, option_to_list, filter, find, count_by, ◌||◌, if◌then◌else◌, refl, ap, ◌∙◌, zero-add}
+use Rattle.std.proofs.Common.{◌≡◌, ℕ, ◌+◌, Bool, true, false, List, [], ◌∷◌, ◌++◌, Option, Some, None, option_to_list, filter, find, count_by, ◌||◌, if◌then◌else◌, refl, ap, ◌∙◌, zero-add, length, length-append}
 use Rattle.std.specs.Option.{option_or}
 use Rattle.std.specs.List.{list_any}
 use Rattle.std.proofs.lemmas.List.{append-nil}
@@ -42,3 +42,11 @@ pub count_push_some : {X : Type 0} (p : X → Bool) (xs : List X) (x : X) → co
 count_push_some p xs x = sum_by-append (λ y. if p y then 1 else 0) xs (x ∷ []) ∙ ap (λ n. count_by p xs + n) (zero-add (if p x then 1 else 0))
 
 pub ruleset count_push = (count_push_none, count_push_some)
+
+pub length_push_none : {X : Type 0} (xs : List X) → length (xs ++ []) ≡ length xs
+length_push_none xs = ap length (append-nil xs)
+
+pub length_push_some : {X : Type 0} (xs : List X) (x : X) → length (xs ++ x ∷ []) ≡ length xs + 1
+length_push_some xs x = length-append xs (x ∷ [])
+
+pub ruleset length_push = (length_push_none, length_push_some)

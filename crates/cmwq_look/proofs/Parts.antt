@@ -62,6 +62,19 @@ pub within_none : (latest : Option Entry) (entries : List Entry) (k : ℕ) → l
 within_none None entries k n h = omega (arith, length-reverse entries)
 within_none (Some e) entries k n h = cc
 
+-- one entry more is longer by some entry
+drop-grows : (xs : List Entry) (i : ℕ) → i < length xs → (e : Entry) × (drop i xs ≡ e ∷ drop (suc i) xs)
+drop-grows [] i h = absurd (omega arith)
+drop-grows (x ∷ xs) zero h = (x, refl)
+drop-grows (x ∷ xs) (suc i) h = drop-grows xs i (omega arith)
+
+pub upto-grows : (past : List Entry) (k : ℕ) → k < length past → (e : Entry) × (upto past (k + 1) ≡ e ∷ upto past k)
+unfolding upto
+upto-grows past k h =
+    let s : suc (length past - (k + 1)) ≡ length past - k = omega arith in
+    let g = drop-grows past (length past - (k + 1)) (omega arith) in
+    (g.0, g.1 ∙ ap (λ j. g.0 ∷ drop j past) s)
+
 pub length-then : (latest : Option Entry) (entries : List Entry) → length (then latest (past_of entries)) ≤ suc (length entries)
 length-then None entries = omega (arith, length-reverse entries)
 length-then (Some e) entries = omega (arith, length-reverse entries)

@@ -10,6 +10,27 @@ pub fn workers(shape: &Shape) -> u8
     shape.counts().workers
 }
 
+/// How many CPUs there are.
+pub fn cpus(shape: &Shape) -> u8
+    ensures { result ≡ shape.now.cpus }
+{
+    shape.counts().cpus
+}
+
+/// How many items there are.
+pub fn items(shape: &Shape) -> u16
+    ensures { result ≡ shape.now.items }
+{
+    shape.counts().items
+}
+
+/// The greatest number of entries and of what they owe.
+pub fn room_of(shape: &Shape) -> usize
+    ensures { result ≡ shape.now.room }
+{
+    shape.counts().room as usize
+}
+
 /// The queue's settings, or those of a queue without width where there is none.
 fn queue_at(shape: &Shape, queue: u8) -> QueueShape
     ensures { result ≡ queue_at shape.now queue }

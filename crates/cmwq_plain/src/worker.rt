@@ -1,4 +1,4 @@
-ghost use Rattle.std.specs.Prelude.{◌≡◌, ◌≤◌, false, count_by};
+ghost use Rattle.std.specs.Prelude.{◌≡◌, ◌≤◌, false, count_by, find};
 ghost use Rattle.std.specs.List.{list_any};
 ghost use Rattle.std.specs.Option.{option_map_or};
 ghost use Rattle.cmwq_model.specs.Layout.{indices, is_intensive};
@@ -93,6 +93,18 @@ fn has_other_idle(shape: &Shape, past: &Past<'_>, worker: WorkerId) -> bool
     (0..workers(shape)).any(|index| index != worker.index && is_idle(past, worker.pool, index))
 }
 
+fn is_reserve(past: &Past<'_>, pool: PoolId, index: u8) -> bool
+    ensures { result ≡ is_reserve past.now pool index }
+{
+    !is_enlisted(past, worker_at(pool, index))
+}
+
+fn find_reserve(shape: &Shape, past: &Past<'_>, pool: PoolId) -> Option<u8>
+    ensures { result ≡ find (is_reserve past.now pool) (indices shape.now) }
+{
+    (0..workers(shape)).find(|index| is_reserve(past, pool, *index))
+}
+
 /// The worker that a start by this one enlists.
 #[tactic(auto, unfolding(cmwq_model::specs::Workers::enlisted_by))]
 pub fn enlisted_by(shape: &Shape, past: &Past<'_>, worker: WorkerId) -> Option<u8>
@@ -101,7 +113,7 @@ pub fn enlisted_by(shape: &Shape, past: &Past<'_>, worker: WorkerId) -> Option<u
     if has_other_idle(shape, past, worker) {
         return None;
     }
-    (0..workers(shape)).find(|index| !is_enlisted(past, worker_at(worker.pool, *index)))
+    find_reserve(shape, past, worker.pool)
 }
 
 fn count_idle(shape: &Shape, past: &Past<'_>, pool: PoolId) -> usize
