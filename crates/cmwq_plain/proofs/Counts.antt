@@ -1,8 +1,9 @@
 -- Counts over the workers of pools and CPUs, one more at a time.
-use Rattle.std.proofs.Common.{◌≡◌, ℕ, suc, ◌+◌, Bool, List, [], ◌∷◌, ◌++◌, map, count_by, if◌then◌else◌, refl, ap, ◌∙◌, arith, add-one, zero}
+use Rattle.std.proofs.Common.{◌≡◌, ℕ, suc, ◌+◌, Bool, List, [], ◌∷◌, ◌++◌, map, count_by, if◌then◌else◌, refl, ap, ◌∙◌, arith, add-one, zero, zero-add}
 use Rattle.std.specs.Prelude.{flat_map}
 use Rattle.std.specs.List.{range_with_len}
 use Rattle.std.proofs.lemmas.List.{append-nil}
+use Rattle.std.proofs.lemmas.List.Concat.{flat_map-append}
 use Rattle.std.proofs.lemmas.List.Sums.{sum_by-append}
 use Rattle.std.proofs.lemmas.List.FromFn.{sum_by-map-range_with_len_more}
 use Rattle.cmwq_model.specs.declared.id.PoolId.{PoolId}
@@ -30,6 +31,10 @@ pub cpu_none : (q : WorkerId → Bool) (s : Layout) → count_by q (flat_map (cp
 cpu_none q s = refl
 
 pub cpu_step : (q : WorkerId → Bool) (s : Layout) (c : ℕ) → count_by q (flat_map (cpu_workers s) (range_with_len 0 (c + 1))) ≡ count_by q (flat_map (cpu_workers s) (range_with_len 0 c)) + count_by q (cpu_workers s c)
-cpu_step q s c = ?
+cpu_step q s c =
+    let longer : range_with_len 0 (c + 1) ≡ range_with_len 0 c ++ c ∷ [] = ap (range_with_len 0) (add-one c) ∙ range_step 0 c ∙ ap (λ m. range_with_len 0 c ++ m ∷ []) (zero-add c) in
+    let more : flat_map (cpu_workers s) (range_with_len 0 (c + 1)) ≡ flat_map (cpu_workers s) (range_with_len 0 c) ++ cpu_workers s c =
+        ap (flat_map (cpu_workers s)) longer ∙ flat_map-append (cpu_workers s) (range_with_len 0 c) (c ∷ []) ∙ ap (λ l. flat_map (cpu_workers s) (range_with_len 0 c) ++ l) (append-nil (cpu_workers s c)) in
+    ap (count_by q) more ∙ count_append q (flat_map (cpu_workers s) (range_with_len 0 c)) (cpu_workers s c)
 
 pub ruleset cpu_steps = (cpu_none, cpu_step)

@@ -1,5 +1,5 @@
 -- The next queueing of a pool, as the entries that made queueings active are gone through in order.
-use Rattle.std.proofs.Common.{◌≡◌, ℕ, ◌+◌, ◌<◌, ◌≤◌, Bool, true, false, ◌&&◌, List, [], ◌∷◌, ◌++◌, length, filter, find, count_by, Option, Some, None, option_to_list, if◌then◌else◌, refl, ap, ◌∙◌, sym, arith, add-one}
+use Rattle.std.proofs.Common.{◌≡◌, ℕ, ◌+◌, ◌<◌, ◌≤◌, Bool, true, false, ◌&&◌, List, [], ◌∷◌, ◌++◌, length, filter, find, count_by, Option, Some, None, is_some, cond, option_to_list, if◌then◌else◌, refl, ap, ◌∙◌, sym, arith, add-one}
 use Rattle.std.specs.Option.{option_or}
 use Rattle.std.proofs.lemmas.List.{append-nil}
 use Rattle.std.proofs.lemmas.List.Elements.{filter-append}
@@ -45,8 +45,24 @@ pub ruleset ahead_ends = (ahead_none, ahead_all, ahead_grows)
 pub find_filtered_push_none : {X : Type 0} (p q r : X → Bool) (xs : List X) → find p (filter q (filter r (xs ++ []))) ≡ find p (filter q (filter r xs))
 find_filtered_push_none p q r xs = ap (λ l. find p (filter q (filter r l))) (append-nil xs)
 
+find_if_found : {X : Type 0} (x : X) (c b a : Bool) → cond c (cond b (cond a (Some x) None) None) None ≡ (if (b && a) && c then Some x else None)
+find_if_found x true true true = refl
+find_if_found x true true false = refl
+find_if_found x true false a = refl
+find_if_found x false true true = refl
+find_if_found x false true false = refl
+find_if_found x false false a = refl
+
+find_one : {X : Type 0} (p : X → Bool) (b : Bool) (x : X) → find p (cond b (x ∷ []) []) ≡ cond b (cond (p x) (Some x) None) None
+find_one p true x = refl
+find_one p false x = refl
+
+find_two : {X : Type 0} (p q : X → Bool) (c : Bool) (x : X) → find p (filter q (cond c (x ∷ []) [])) ≡ cond c (find p (cond (q x) (x ∷ []) [])) None
+find_two p q true x = refl
+find_two p q false x = refl
+
 find_if : {X : Type 0} (p q r : X → Bool) (x : X) → find p (filter q (filter r (x ∷ []))) ≡ (if (q x && p x) && r x then Some x else None)
-find_if p q r x = ?
+find_if p q r x = find_two p q (r x) x ∙ ap (λ o. cond (r x) o None) (find_one p (q x) x) ∙ find_if_found x (r x) (q x) (p x)
 
 pub find_filtered_push_some : {X : Type 0} (p q r : X → Bool) (xs : List X) (x : X) → find p (filter q (filter r (xs ++ x ∷ []))) ≡ option_or (find p (filter q (filter r xs))) (if (q x && p x) && r x then Some x else None)
 find_filtered_push_some p q r xs x =
@@ -81,4 +97,11 @@ pub next_all : (s : Layout) (past : List Entry) (p : PoolId) (k : ℕ) → lengt
 unfolding next_upto next worklist
 next_all s past p k h = ap (λ l. find (is_startable past) (filter (is_listed s past p) (activated s l))) (upto-all past k h)
 
-pub ruleset next_ends = (next_none, next_all)
+or_kept : {X : Type 0} (a b : Option X) → is_some a ≡ true → option_or a b ≡ a
+or_kept None b h = cc
+or_kept (Some x) b h = refl
+
+pub next_kept : (s : Layout) (past : List Entry) (p : PoolId) (k : ℕ) → k < length past → is_some (next_upto s past p k) ≡ true → next_upto s past p (k + 1) ≡ next_upto s past p k
+next_kept s past p k h found = newly_all s past p k (k + 1) h refl ∙ or_kept (next_upto s past p k) (newly_upto s past p k (k + 1)) found
+
+pub ruleset next_ends = (next_none, next_all, next_kept)

@@ -1,4 +1,4 @@
-ghost use Rattle.std.specs.Prelude.{◌≡◌, ◌<◌, ◌+◌, length, if◌then◌else◌, ◌&&◌, nat_lt, count_by};
+ghost use Rattle.std.specs.Prelude.{◌≡◌, ◌<◌, ◌≤◌, ◌+◌, length, if◌then◌else◌, ◌&&◌, nat_lt, count_by};
 ghost use Rattle.std.specs.Option.{option_or};
 ghost use Rattle.cmwq_model.specs.Layout.{width_of};
 ghost use Rattle.cmwq_model.specs.Queueings.{still_open};
@@ -86,23 +86,23 @@ fn is_newly(shape: &Shape, before: &Past<'_>, after: &Past<'_>, queueing: &Queue
 }
 
 /// The first that the entry with this number made active, among those that the pool may start.
-#[tactic(auto, using(crate::proofs::Next::find_filtered_push, crate::proofs::Next::newly_ends), unfolding(crate::specs::Partial::newly_upto))]
+#[tactic(auto, using(cmwq_look::proofs::Parts::ends, crate::proofs::Next::find_filtered_push, crate::proofs::Next::newly_ends), unfolding(crate::specs::Partial::newly_upto))]
 fn next_by(shape: &Shape, past: &Past<'_>, pool: PoolId, number: usize) -> Option<Queueing>
-    requires { number < length past.now }
+    requires within { number < length past.now }
+    requires small { number ≤ 1000000 }
     ensures { next_upto shape.now past.now pool (number + 1)
         ≡ option_or (next_upto shape.now past.now pool number) result }
 {
     let before = past.before(number);
     let after = past.before(number + 1);
     let mut found = None;
-    for k in 0..number + 1 {
-        if found.is_none() {
-            if let Some(queueing) = opening_at(past, k) {
-                if may_start(shape, past, pool, &queueing)
-                    && is_newly(shape, &before, &after, &queueing)
-                {
-                    found = Some(queueing);
-                }
+    for k in 0..after.len() {
+        if let Some(queueing) = opening_at(past, k) {
+            if found.is_none()
+                && may_start(shape, past, pool, &queueing)
+                && is_newly(shape, &before, &after, &queueing)
+            {
+                found = Some(queueing);
             }
         }
     }
