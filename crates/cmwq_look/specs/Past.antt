@@ -1,0 +1,23 @@
+-- Parts of a history that is seen with the newest entry first.
+use Rattle.std.specs.Prelude.{ℕ, ◌-◌, List, ◌∷◌, length, drop, filter, Option, Some, None}
+use Rattle.cmwq_model.specs.declared.entry.Entry.{Entry}
+use Rattle.cmwq_model.specs.declared.record.Queueing.{Queueing}
+use Rattle.cmwq_model.specs.declared.record.Ticket.{Ticket}
+use Rattle.cmwq_model.specs.Queueings.{queueings, is_live}
+use Rattle.cmwq_model.specs.Tickets.{tickets, is_unended}
+
+-- the first k entries
+unfoldable pub upto : List Entry → ℕ → List Entry
+upto past k = drop (length past - k) past
+
+-- one entry more, if there is one
+abbrev pub then : Option Entry → List Entry → List Entry
+then None past = past
+then (Some e) past = e ∷ past
+
+-- the open queueings and the unended tickets that the first k entries made
+unfoldable pub open_upto : List Entry → ℕ → List Queueing
+open_upto past k = filter (is_live past) (queueings (upto past k))
+
+unfoldable pub unended_upto : List Entry → ℕ → List Ticket
+unended_upto past k = filter (is_unended past) (tickets (upto past k))

@@ -1,0 +1,7 @@
+use Rattle.std.proofs.Common.{◌≡◌, find}
+use Rattle.cmwq_model.specs.Answer.{is_soonest}
+use Rattle.cmwq_plain.specs.Partial.{fireable, fireable_upto}
+use Rattle.cmwq_plain.proofs.fire.first_due.Given as goal
+
+abbrev pub invariant-loop-k : goal.invariant-loop-k
+invariant-loop-k l = l.found ≡ find (is_soonest (fireable l.past)) (fireable_upto l.past l.k)

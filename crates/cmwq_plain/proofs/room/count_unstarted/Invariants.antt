@@ -1,0 +1,7 @@
+use Rattle.std.proofs.Common.{◌≡◌, ◌≤◌, count_by}
+use Rattle.cmwq_look.specs.Past.{open_upto}
+use Rattle.cmwq_model.specs.Room.{has_not_started}
+use Rattle.cmwq_plain.proofs.room.count_unstarted.Given as goal
+
+abbrev pub invariant-loop-k : goal.invariant-loop-k
+invariant-loop-k l = (l.count ≡ count_by (has_not_started l.past) (open_upto l.past l.k)) × (l.count ≤ l.k)

@@ -1,0 +1,7 @@
+use Rattle.std.proofs.Common.{◌≡◌, ◌≤◌, count_by}
+use Rattle.cmwq_look.specs.Past.{unended_upto}
+use Rattle.cmwq_model.specs.Waits.{is_older_flush}
+use Rattle.cmwq_plain.proofs.wait.is_served_after.Given as goal
+
+abbrev pub invariant-loop-k : goal.invariant-loop-k
+invariant-loop-k l = (l.count ≡ count_by (is_older_flush l.queue l.number) (unended_upto l.past l.k)) × (l.count ≤ l.k)

@@ -1,0 +1,7 @@
+use Rattle.std.proofs.Common.{◌≡◌, find}
+use Rattle.cmwq_look.specs.Past.{open_upto}
+use Rattle.cmwq_model.specs.Waits.{holds_up}
+use Rattle.cmwq_plain.proofs.wait.least_waited.Given as goal
+
+abbrev pub invariant-loop-k : goal.invariant-loop-k
+invariant-loop-k l = l.found ≡ find (holds_up l.past l.number l.call) (open_upto l.past l.k)

@@ -1,0 +1,7 @@
+use Rattle.std.proofs.Common.{◌≡◌}
+use Rattle.cmwq_look.specs.Past.{upto}
+use Rattle.cmwq_model.specs.Waits.{served}
+use Rattle.cmwq_plain.proofs.wait.served.Given as goal
+
+abbrev pub invariant-loop-k : goal.invariant-loop-k
+invariant-loop-k l = l.found ≡ served (upto l.past l.k) l.queue l.number

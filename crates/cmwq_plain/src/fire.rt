@@ -1,0 +1,64 @@
+ghost use Rattle.std.specs.Prelude.{◌≡◌, ◌<◌, ◌+◌, ◌++◌, length, option_to_list};
+ghost use Rattle.cmwq_model.specs.Answer.{may_fire, is_soonest, first_due};
+ghost use Rattle.cmwq_look.specs.Past.{upto};
+ghost use Rattle.cmwq_plain.specs.Partial.{fireable, fireable_upto};
+
+use cmwq_look::{Past, booking_of, is_draining, now, stands};
+use cmwq_model::Booking;
+
+fn may_fire(past: &Past<'_>, made: &Booking) -> bool
+    ensures { result ≡ may_fire past.now made.now }
+{
+    made.due <= now(past) && !is_draining(past, made.place.queue.0)
+}
+
+/// The booking that the entry with this number made, if it may fire.
+#[tactic(auto, using(cmwq_look::proofs::Parts::ends, cmwq_look::proofs::Lists::filter_push, crate::proofs::Steps::bookings_step), unfolding(crate::specs::Partial::fireable_upto))]
+fn fireable_at(past: &Past<'_>, number: usize) -> Option<Booking>
+    requires { number < length past.now }
+    ensures { fireable_upto past.now (number + 1)
+        ≡ fireable_upto past.now number ++ option_to_list result }
+{
+    match booking_of(&past.at(number), number as u32) {
+        None => None,
+        Some(made) => {
+            if stands(past, &made) && may_fire(past, &made) {
+                Some(made)
+            } else {
+                None
+            }
+        }
+    }
+}
+
+/// Whether nothing that may fire is due before this booking.
+#[tactic(auto, using(cmwq_look::proofs::Lists::any_push, crate::proofs::Steps::fireable_ends))]
+fn is_soonest(past: &Past<'_>, made: &Booking) -> bool
+    ensures { result ≡ is_soonest (fireable past.now) made.now }
+{
+    let mut is_late = false;
+    for k in 0..past.len() {
+        if let Some(other) = fireable_at(past, k) {
+            if other.due < made.due {
+                is_late = true;
+            }
+        }
+    }
+    !is_late
+}
+
+/// The booking that fires first.
+#[tactic(auto, using(cmwq_look::proofs::Lists::find_push, crate::proofs::Steps::fireable_ends), unfolding(cmwq_model::specs::Answer::first_due))]
+pub fn first_due(past: &Past<'_>) -> Option<Booking>
+    ensures { result ≡ first_due past.now }
+{
+    let mut found = None;
+    for k in 0..past.len() {
+        if let Some(made) = fireable_at(past, k) {
+            if found.is_none() && is_soonest(past, &made) {
+                found = Some(made);
+            }
+        }
+    }
+    found
+}

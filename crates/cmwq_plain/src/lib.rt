@@ -1,0 +1,49 @@
+//! The answer to a call, found by looking back over the flat history and taking no memory.
+#![tactic(auto)]
+
+mod active;
+mod answers;
+mod fire;
+mod layout;
+mod room;
+mod wait;
+mod worker;
+
+ghost use Rattle.std.specs.Prelude.{◌≡◌, ◌≤◌, length};
+ghost use Rattle.cmwq_model.specs.Calls as calls;
+ghost use Rattle.cmwq_model.specs.Answer.{answer};
+ghost use Rattle.cmwq_model.specs.Legal.{past_of};
+ghost use Rattle.cmwq_model.specs.Room as room;
+
+use cmwq_look::Past;
+use cmwq_model::{Call, Entry, Reply, Shape, Who};
+
+/// The one right answer to the call after this history, oldest entry first, legal or not.
+pub fn reply_of(shape: &Shape, entries: &[Entry], who: Who, call: Call) -> Reply
+    requires { length entries.now ≤ 1000000 }
+    ensures { result ≡ answer shape.now (past_of entries.now) who call }
+{
+    answers::answer(shape, &Past::new(entries), who, call)
+}
+
+/// The serial of the next entry of this caller or worker: how many entries it has.
+pub fn serial_of(entries: &[Entry], who: Who) -> u32
+    requires { length entries.now ≤ 1000000 }
+    ensures { result ≡ calls.serial_of (past_of entries.now) who }
+{
+    cmwq_look::serial_of(&Past::new(entries), who)
+}
+
+/// Whether the history with the call's entry, and what that still owes, is within the room.
+pub fn has_room(shape: &Shape, entries: &[Entry], who: Who, call: Call) -> bool
+    requires { length entries.now ≤ 1000000 }
+    ensures { result ≡ room.has_room shape.now (past_of entries.now) who call }
+{
+    let entry = Entry {
+        who,
+        serial: serial_of(entries, who),
+        call,
+        reply: reply_of(shape, entries, who, call),
+    };
+    room::needed(shape, &Past::with(entries, entry)) <= layout::room_of(shape)
+}

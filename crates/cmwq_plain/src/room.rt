@@ -1,0 +1,114 @@
+ghost use Rattle.std.specs.Prelude.{◌≡◌, ◌≤◌, ◌+◌, count_by, length};
+ghost use Rattle.std.specs.List.{range_with_len};
+ghost use Rattle.cmwq_model.specs.Bookings.{is_booked};
+ghost use Rattle.cmwq_model.specs.Runs.{has_run, runs_asleep};
+ghost use Rattle.cmwq_model.specs.Queueings.{still_open};
+ghost use Rattle.cmwq_model.specs.Tickets.{unended};
+ghost use Rattle.cmwq_model.specs.Room.{pool_workers, cpu_workers, workers, has_not_started, owed, needed};
+
+use crate::layout::{cpus, items, workers};
+use cmwq_look::{Past, has_run, is_booked, is_started, open_at, runs_asleep, unended_at};
+use cmwq_model::{CpuId, PoolId, Shape, WorkerId};
+
+/// How many open queueings haven't started.
+#[tactic(auto, using(cmwq_look::proofs::Lists::count_push, cmwq_look::proofs::Steps::open_ends))]
+fn count_unstarted(past: &Past<'_>) -> usize
+    ensures count { result ≡ count_by (has_not_started past.now) (still_open past.now) }
+    ensures small { result ≤ 1000001 }
+{
+    let mut count: usize = 0;
+    for k in 0..past.len() {
+        if let Some(queueing) = open_at(past, k) {
+            if !is_started(past, queueing.number) {
+                count += 1;
+            }
+        }
+    }
+    count
+}
+
+/// How many tickets are unended.
+#[tactic(auto, using(cmwq_look::proofs::Lists::length_push, cmwq_look::proofs::Steps::unended_ends))]
+fn count_unended(past: &Past<'_>) -> usize
+    ensures count { result ≡ length (unended past.now) }
+    ensures small { result ≤ 1000001 }
+{
+    let mut count: usize = 0;
+    for k in 0..past.len() {
+        if let Some(_) = unended_at(past, k) {
+            count += 1;
+        }
+    }
+    count
+}
+
+/// How many items are delayed.
+fn count_booked(shape: &Shape, past: &Past<'_>) -> usize
+    ensures count { result ≡ count_by (is_booked past.now) (range_with_len 0 shape.now.items) }
+    ensures small { result ≤ 65536 }
+{
+    (0..items(shape))
+        .filter(|item| is_booked(past, *item))
+        .count()
+}
+
+/// How many of the pool's workers have a run, and how many of these sleep.
+#[tactic(auto, using(crate::proofs::Counts::pool_steps))]
+fn pool_runs(shape: &Shape, past: &Past<'_>, pool: PoolId) -> usize
+    ensures count { result ≡ count_by (has_run past.now) (pool_workers shape.now pool) + count_by (runs_asleep past.now) (pool_workers shape.now pool) }
+    ensures small { result ≤ 512 }
+{
+    let mut count: usize = 0;
+    for index in 0..workers(shape) {
+        let worker = WorkerId { pool, index };
+        if has_run(past, worker) {
+            count += 1;
+        }
+        if runs_asleep(past, worker) {
+            count += 1;
+        }
+    }
+    count
+}
+
+#[tactic(auto, using(crate::proofs::Counts::count_append))]
+fn cpu_runs(shape: &Shape, past: &Past<'_>, cpu: u8) -> usize
+    ensures count { result ≡ count_by (has_run past.now) (cpu_workers shape.now cpu) + count_by (runs_asleep past.now) (cpu_workers shape.now cpu) }
+    ensures small { result ≤ 1024 }
+{
+    let cpu = CpuId(cpu);
+    pool_runs(shape, past, PoolId { cpu, high: false })
+        + pool_runs(shape, past, PoolId { cpu, high: true })
+}
+
+/// How many workers have a run, and how many of these sleep.
+#[tactic(auto, using(crate::proofs::Counts::cpu_steps))]
+fn all_runs(shape: &Shape, past: &Past<'_>) -> usize
+    ensures count { result ≡ count_by (has_run past.now) (workers shape.now) + count_by (runs_asleep past.now) (workers shape.now) }
+    ensures small { result ≤ 262144 }
+{
+    let mut count: usize = 0;
+    for cpu in 0..cpus(shape) {
+        count += cpu_runs(shape, past, cpu);
+    }
+    count
+}
+
+/// How many entries the history still owes, so that what has begun can end.
+#[tactic(auto, unfolding(cmwq_model::specs::Room::owed))]
+fn owed(shape: &Shape, past: &Past<'_>) -> usize
+    ensures count { result ≡ owed shape.now past.now }
+    ensures small { result ≤ 10000000 }
+{
+    2 * count_unstarted(past)
+        + all_runs(shape, past)
+        + 3 * count_booked(shape, past)
+        + count_unended(past)
+}
+
+/// How many entries there are, and how many they owe.
+pub fn needed(shape: &Shape, past: &Past<'_>) -> usize
+    ensures { result ≡ needed shape.now past.now }
+{
+    past.len() + owed(shape, past)
+}
