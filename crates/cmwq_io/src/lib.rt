@@ -10,6 +10,8 @@ mod memory;
 mod patient;
 mod sink;
 mod source;
+#[cfg(test)]
+mod tests;
 mod trouble;
 
 pub use buffered::BufferedSink;
