@@ -1,0 +1,4 @@
+pub mod KnownBytes
+pub mod Trying
+pub mod ReadAheadLemmas
+pub mod FirstLineLemmas

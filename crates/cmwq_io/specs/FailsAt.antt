@@ -1,0 +1,22 @@
+-- What a clause reads of a source or a sink that fails on purpose.
+use Rattle.std.specs.Prelude.{ℕ, ◌-◌, nat_lt, if◌then◌else◌, Option, Some, None}
+use Rattle.cmwq_io.specs.declared.trouble.Trouble.{Trouble}
+use Rattle.cmwq_io.specs.declared.fails_at.Plan.{Plan}
+use Rattle.cmwq_io.specs.declared.fails_at.FailsAt.{FailsAt}
+
+abbrev pub inner_of : {T : Type 0} → FailsAt T → T
+inner_of f = f.inner
+
+abbrev pub plan_of : {T : Type 0} → FailsAt T → Plan
+plan_of f = f.plan
+
+abbrev pub troubles_of : {T : Type 0} → FailsAt T → ℕ
+troubles_of f = f.troubles
+
+-- the trouble that the next call answers
+abbrev pub trouble_due : Plan → Option Trouble
+trouble_due p = if nat_lt 0 p.before then None else if nat_lt 0 p.times then Some p.trouble else None
+
+-- the plan after one more call
+abbrev pub plan_after : Plan → Plan
+plan_after p = if nat_lt 0 p.before then record p { before = p.before - 1 } else record p { times = p.times - 1 }

@@ -1,0 +1,9 @@
+pub mod Counts
+pub mod Moves
+pub mod FromStd
+pub mod Memory
+pub mod FailsAt
+pub mod Feeds
+pub mod FirstLine
+pub mod ReadAhead
+pub mod Buffered

@@ -1,0 +1,10 @@
+-- What a clause reads of bytes in memory that serve as a source or a sink.
+use Rattle.std.specs.Prelude.{ℕ, ◌-◌, List, Vec, vec_len, vec_capacity}
+use Rattle.std.specs.Borrow.{Bor}
+use Rattle.cmwq_io.specs.declared.memory.Memory.{Memory}
+
+abbrev pub bytes_of : {T : Type 0} → Memory T → T
+bytes_of m = m.bytes
+
+abbrev pub troubles_of : {T : Type 0} → Memory T → ℕ
+troubles_of m = m.troubles
