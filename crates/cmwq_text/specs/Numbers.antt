@@ -1,23 +1,29 @@
 -- Numbers in a text: `0`, or a digit 1 to 9 and digits after it. How a number is spelled is std's decimal.
 use Rattle.std.specs.Prelude.{ℕ, ◌+◌, ◌-◌, ◌*◌, Bool, false, not, ◌&&◌, ◌||◌, ◌==◌, if◌then◌else◌, List, [], ◌∷◌, length, Option, Some, None, nat_le, min}
 use Rattle.std.specs.Str.{all_ascii_digits}
+use Rattle.std.specs.Char.{is_ascii_digit}
 
 -- what digits stand for, behind digits that stand for n
 abbrev pub value_from : ℕ → List ℕ → ℕ
 value_from n [] = n
 value_from n (digit ∷ digits) = value_from (n * 10 + (digit - 48)) digits
 
--- the number that digits stand for, if it is at most the limit
-unfoldable pub digits_of : ℕ → List ℕ → Option ℕ
-digits_of limit digits = if all_ascii_digits digits && nat_le (value_from 0 digits) limit then Some (value_from 0 digits) else None
+-- what n and a digit behind it stand for, if that is at most the limit
+abbrev pub with_digit : ℕ → ℕ → ℕ → Option ℕ
+with_digit limit n digit = if is_ascii_digit digit && nat_le (n * 10 + (digit - 48)) limit then Some (n * 10 + (digit - 48)) else None
+
+-- what digits stand for behind n, if there are only digits and it is at most the limit
+unfoldable pub digits_from : ℕ → ℕ → List ℕ → Option ℕ
+digits_from limit n digits = if all_ascii_digits digits && nat_le (value_from n digits) limit then Some (value_from n digits) else None
 
 -- only `0` begins with a zero
 abbrev pub is_begun : List ℕ → Bool
 is_begun [] = false
 is_begun (first ∷ others) = not (first == 48) || length others == 0
 
+-- the number that a word spells, if it is at most the limit
 unfoldable pub number_of : ℕ → List ℕ → Option ℕ
-number_of limit word = if is_begun word then digits_of limit word else None
+number_of limit word = if is_begun word then digits_from limit 0 word else None
 
 -- the greatest numbers of the types of ids; an id above them is read as the greatest, and no shape has that one
 abbrev pub greatest_byte : ℕ

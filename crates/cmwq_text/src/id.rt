@@ -1,6 +1,6 @@
 //! Items, queues, CPUs, callers and workers in a text.
-ghost use Rattle.std.specs.Prelude.{◌≡◌};
-ghost use Rattle.cmwq_text.specs.IdText.{item_in, queue_in, cpu_in, caller_of, worker_of, who_of, who_in};
+ghost use Rattle.std.specs.Prelude.{◌≡◌, position};
+ghost use Rattle.cmwq_text.specs.IdText.{is_pool_letter, item_in, queue_in, cpu_in, caller_of, worker_of, who_of, who_in};
 
 use crate::number::byte_of;
 use crate::word::{Words, byte_in, short_in};
@@ -36,11 +36,17 @@ fn caller_of(name: &[u8]) -> Option<Who>
     Some(Who::Caller(CallerId(byte_of(name)?)))
 }
 
+fn pool_letter(name: &[u8]) -> Option<usize>
+    ensures { result ≡ position is_pool_letter name.now }
+{
+    name.iter().position(|byte| matches!(*byte, b'n' | b'h'))
+}
+
 #[tactic(auto, unfolding(crate::specs::IdText::worker_of))]
 fn worker_of(name: &[u8]) -> Option<Who>
     ensures { result ≡ worker_of name.now }
 {
-    let letter = name.iter().position(|byte| matches!(*byte, b'n' | b'h'))?;
+    let letter = pool_letter(name)?;
     let cpu = CpuId(byte_of(&name[..letter])?);
     let index = byte_of(&name[letter + 1..])?;
     let pool = PoolId {

@@ -40,7 +40,8 @@ impl Line {
 
     pub(crate) fn push(&mut self, text: &str)
         requires { length self.old + length text.now ≤ 256 }
-        ensures { self.new ≡ self.old ++ text.now }
+        ensures exact { self.new ≡ self.old ++ text.now }
+        ensures len { length self.new ≡ length self.old + length text.now }
     {
         self.text.push_str(text);
     }
@@ -75,5 +76,15 @@ impl Line {
         self.push(" ");
         self.push(keyword.text());
         self.push_numbers(numbers);
+    }
+
+    /// Spells two such phrases.
+    pub(crate) fn push_phrases(&mut self, first: (Keyword, &[u64]), second: (Keyword, &[u64]))
+        requires { length self.old + 28 + 21 * (length first.1.now + length second.1.now) ≤ 256 }
+        ensures exact { self.new ≡ self.old ++ spaced (phrase first.entry.0 first.entry.1.now ++ phrase second.entry.0 second.entry.1.now) }
+        ensures short { length self.new ≤ length self.old + 28 + 21 * (length first.entry.1.now + length second.entry.1.now) }
+    {
+        self.push_phrase(first.0, first.1);
+        self.push_phrase(second.0, second.1);
     }
 }

@@ -1,32 +1,50 @@
 //! Numbers in a text.
-ghost use Rattle.std.specs.Prelude.{◌≡◌};
-ghost use Rattle.cmwq_text.specs.Numbers.{digits_of, number_of, greatest, greatest_long, byte_of, short_of};
+ghost use Rattle.std.specs.Prelude.{◌≡◌, ◌≤◌, IfSome};
+ghost use Rattle.cmwq_text.specs.Numbers.{with_digit, digits_from, is_begun, number_of, greatest, greatest_long, byte_of, short_of};
+
+/// The number with a digit after it, if that is at most the limit.
+fn with_digit(limit: u64, value: u64, digit: u8) -> Option<u64>
+    ensures { result ≡ with_digit limit value digit }
+{
+    if !digit.is_ascii_digit() {
+        return None;
+    }
+    let value = value.checked_mul(10)?.checked_add(u64::from(digit - b'0'))?;
+    if value <= limit { Some(value) } else { None }
+}
 
 /// The number that digits stand for, if it is at most the limit. It stops at the first digit that passes the limit.
 fn digits_of(limit: u64, digits: &[u8]) -> Option<u64>
-    ensures { result ≡ digits_of limit digits.now }
+    ensures exact { result ≡ digits_from limit 0 digits.now }
+    ensures within { IfSome result (λ n. n ≤ limit) }
 {
-    let mut value: u64 = 0;
+    let mut value = 0;
     for digit in digits {
-        if !digit.is_ascii_digit() {
-            return None;
-        }
-        value = value.checked_mul(10)?.checked_add(u64::from(digit - b'0'))?;
-        if value > limit {
-            return None;
-        }
+        value = with_digit(limit, value, *digit)?;
     }
     Some(value)
+}
+
+/// Whether it is `0`, or begins with no zero.
+fn is_begun(word: &[u8]) -> bool
+    ensures { result ≡ is_begun word.now }
+{
+    match word {
+        [] => false,
+        [first, others @ ..] => *first != b'0' || others.is_empty(),
+    }
 }
 
 /// The number that a word spells, if it is at most the limit: `0`, or a digit 1 to 9 and digits after it.
 #[tactic(auto, unfolding(crate::specs::Numbers::number_of))]
 fn limited(limit: u64, word: &[u8]) -> Option<u64>
-    ensures { result ≡ number_of limit word.now }
+    ensures exact { result ≡ number_of limit word.now }
+    ensures within { IfSome result (λ n. n ≤ limit) }
 {
-    match word {
-        [b'0'] | [b'1'..=b'9', ..] => digits_of(limit, word),
-        _ => None,
+    if is_begun(word) {
+        digits_of(limit, word)
+    } else {
+        None
     }
 }
 

@@ -99,31 +99,28 @@ fn push_reply(line: &mut Line, reply: Reply)
         Reply::Fired(item, k) => line.push_phrase(Keyword::Fired, &[item.0.into(), k.into()]),
         Reply::Nothing => line.push_phrase(Keyword::Nothing, &[]),
         Reply::Ticket(k) => line.push_phrase(Keyword::Ticket, &[k.into()]),
-        Reply::TicketQueued(k) => {
-            line.push_phrase(Keyword::Ticket, &[k.into()]);
-            line.push_phrase(Keyword::Queued, &[]);
-        }
-        Reply::TicketCancelled(k, n) => {
-            line.push_phrase(Keyword::Ticket, &[k.into()]);
-            line.push_phrase(Keyword::Cancelled, &[n.into()]);
-        }
-        Reply::TicketUnbooked(k) => {
-            line.push_phrase(Keyword::Ticket, &[k.into()]);
-            line.push_phrase(Keyword::Unbooked, &[]);
-        }
-        Reply::TicketNo(k) => {
-            line.push_phrase(Keyword::Ticket, &[k.into()]);
-            line.push_phrase(Keyword::No, &[]);
-        }
+        Reply::TicketQueued(k) => line.push_phrases(
+            (Keyword::Ticket, &[k.into()]),
+            (Keyword::Queued, &[]),
+        ),
+        Reply::TicketCancelled(k, n) => line.push_phrases(
+            (Keyword::Ticket, &[k.into()]),
+            (Keyword::Cancelled, &[n.into()]),
+        ),
+        Reply::TicketUnbooked(k) => line.push_phrases(
+            (Keyword::Ticket, &[k.into()]),
+            (Keyword::Unbooked, &[]),
+        ),
+        Reply::TicketNo(k) => line.push_phrases((Keyword::Ticket, &[k.into()]), (Keyword::No, &[])),
         Reply::Idle => line.push_phrase(Keyword::Idle, &[]),
         Reply::Crowded => line.push_phrase(Keyword::Crowded, &[]),
         Reply::Done => line.push_phrase(Keyword::Done, &[]),
         Reply::Waiting(n) => line.push_phrase(Keyword::Waiting, &[n.into()]),
         Reply::Started(n) => line.push_phrase(Keyword::Started, &[n.into()]),
-        Reply::StartedEnlist(n, index) => {
-            line.push_phrase(Keyword::Started, &[n.into()]);
-            line.push_phrase(Keyword::Enlist, &[index.into()]);
-        }
+        Reply::StartedEnlist(n, index) => line.push_phrases(
+            (Keyword::Started, &[n.into()]),
+            (Keyword::Enlist, &[index.into()]),
+        ),
         Reply::Held => line.push_phrase(Keyword::Held, &[]),
         Reply::Finished(n) => line.push_phrase(Keyword::Finished, &[n.into()]),
         Reply::Slept => line.push_phrase(Keyword::Slept, &[]),

@@ -1,9 +1,15 @@
 //! A line as its words.
-ghost use Rattle.std.specs.Prelude.{◌≡◌};
-ghost use Rattle.cmwq_text.specs.Words.{byte_in, short_in, number_in, long_in};
+ghost use Rattle.std.specs.Prelude.{◌≡◌, position};
+ghost use Rattle.cmwq_text.specs.Words.{is_space, byte_in, short_in, number_in, long_in};
 
 use crate::number::{byte_of, long_of, number_of, short_of};
 use std::marker::Model;
+
+fn first_space(bytes: &[u8]) -> Option<usize>
+    ensures { result ≡ position is_space bytes.now }
+{
+    bytes.iter().position(|byte| *byte == b' ')
+}
 
 /// The words of a line that are left: none, or those of these bytes, with one space between each two.
 #[derive(Drop)]
@@ -32,6 +38,7 @@ impl<'a> Words<'a> {
     }
 
     /// Whether no word is left.
+    #[tactic(auto, using(crate::proofs::Splits::split_has_first))]
     pub fn is_end(&self) -> bool
         ensures { result ≡ is_end self.now }
     {
@@ -39,11 +46,12 @@ impl<'a> Words<'a> {
     }
 
     /// The first word, and those after it.
+    #[tactic(auto, using(crate::proofs::Splits::split_without_space, crate::proofs::Splits::split_at_space))]
     pub fn first(self) -> Option<(&'a [u8], Words<'a>)>
         ensures { option_map (λ x. (x.0.now, x.1)) result ≡ first_in self.entry }
     {
         let bytes = self.bytes?;
-        match bytes.iter().position(|byte| *byte == b' ') {
+        match first_space(bytes) {
             None => Some((bytes, Words { bytes: None })),
             Some(end) => {
                 let words = Words {
