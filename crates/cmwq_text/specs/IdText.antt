@@ -1,6 +1,6 @@
 -- Items, queues, CPUs, callers and workers in a text. A caller is `c<number>`, a worker `w<cpu>n<index>` in a pool of
 -- normal priority and `w<cpu>h<index>` in one of high priority.
-use Rattle.std.specs.Prelude.{ℕ, suc, Bool, true, false, ◌||◌, ◌==◌, if◌then◌else◌, List, [], ◌∷◌, ◌++◌, take, drop, slice_index, position, Option, Some, None, decimal}
+use Rattle.std.specs.Prelude.{ℕ, ◌+◌, Bool, true, false, ◌||◌, ◌==◌, if◌then◌else◌, List, [], ◌∷◌, ◌++◌, take, drop, slice_index, position, Option, Some, None, decimal}
 use Rattle.cmwq_model.specs.declared.id.ItemId.{ItemId}
 use Rattle.cmwq_model.specs.declared.id.QueueId.{QueueId}
 use Rattle.cmwq_model.specs.declared.id.CpuId.{CpuId}
@@ -55,7 +55,7 @@ unfoldable pub worker_of : List ℕ → Option Who
 worker_of name = do
   letter ← position is_pool_letter name
   c ← byte_of (take letter name)
-  x ← byte_of (drop (suc letter) name)
+  x ← byte_of (drop (letter + 1) name)
   Some (worker c (slice_index name letter == 104) x)
 
 unfoldable pub who_of : List ℕ → Option Who

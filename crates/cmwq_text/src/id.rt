@@ -42,7 +42,7 @@ fn pool_letter(name: &[u8]) -> Option<usize>
     name.iter().position(|byte| matches!(*byte, b'n' | b'h'))
 }
 
-#[tactic(auto, unfolding(crate::specs::IdText::worker_of))]
+#[tactic(auto, unfolding(crate::specs::IdText::worker_of), using(std::proofs::lemmas::List::take_rest))]
 fn worker_of(name: &[u8]) -> Option<Who>
     ensures { result ≡ worker_of name.now }
 {

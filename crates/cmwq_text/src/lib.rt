@@ -18,3 +18,6 @@ pub use line::Line;
 pub use reply::reply_fits;
 pub use shape::{begins_queue, read_counts, read_queue_of_calls, read_queue_of_history};
 pub use spelling::{counts_line, entry_line, queue_line};
+
+#[cfg(test)]
+mod tests;
