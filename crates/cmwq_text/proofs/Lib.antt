@@ -1,3 +1,8 @@
 pub mod Splits
 pub mod Digits
 pub mod Spacing
+pub mod Steps
+pub mod NumberLaws
+pub mod WordLaws
+pub mod KeywordLaws
+pub mod IdLaws

@@ -7,9 +7,9 @@ use Rattle.cmwq_model.specs.declared.call.Call.TheVariants as call
 use Rattle.cmwq_model.specs.Layout.{is_callers, is_workers}
 use Rattle.cmwq_text.specs.declared.keyword.Keyword.{Keyword}
 use Rattle.cmwq_text.specs.declared.keyword.Keyword.TheVariants as word
-use Rattle.cmwq_text.specs.Words.{◌>>=◌, words_of, is_end, number_in, none, one, two, three, four}
+use Rattle.cmwq_text.specs.Words.{◌>>=◌, words_of, line_text, is_end, number_in, none, one, two, three, four}
 use Rattle.cmwq_text.specs.Keywords.{text, keyword_in}
-use Rattle.cmwq_text.specs.IdText.{item_in, queue_in, cpu_in, who_in}
+use Rattle.cmwq_text.specs.IdText.{who_text, item_in, queue_in, cpu_in, who_in}
 
 -- a keyword and the numbers after it
 abbrev pub phrase : Keyword → List ℕ → List (List ℕ)
@@ -33,6 +33,10 @@ call_words call.Finish = phrase word.Finish []
 call_words call.Sleep = phrase word.Sleep []
 call_words call.Wake = phrase word.Wake []
 call_words call.Retire = phrase word.Retire []
+
+-- the line of a who and its call, with its line feed
+unfoldable pub call_text : Who → Call → List ℕ
+call_text who call = line_text (who_text who ∷ call_words call)
 
 -- the call after its keyword
 unfoldable pub call_after : Keyword → List (List ℕ) → Option (Call × List (List ℕ))

@@ -7,3 +7,5 @@ pub mod ReplyText
 pub mod EntryText
 pub mod ShapeText
 pub mod HistoryText
+pub mod Ranges
+pub mod Laws

@@ -5,6 +5,7 @@ mod call;
 mod entry;
 mod id;
 mod keyword;
+mod laws;
 mod line;
 mod number;
 mod reply;
@@ -14,6 +15,10 @@ mod word;
 
 pub use call::read_call;
 pub use entry::{entry_fits, read_entry};
+pub use laws::{
+    calls_read_again, calls_spelled_so, counts_read_again, counts_spelled_so, entries_read_again,
+    entries_spelled_so, entries_stand_apart, lines_are_short, queues_read_again, queues_spelled_so,
+};
 pub use line::Line;
 pub use reply::reply_fits;
 pub use shape::{begins_queue, read_counts, read_queue_of_calls, read_queue_of_history};
