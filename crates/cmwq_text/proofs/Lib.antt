@@ -6,3 +6,7 @@ pub mod NumberLaws
 pub mod WordLaws
 pub mod KeywordLaws
 pub mod IdLaws
+pub mod RowLaws
+pub mod PhraseLaws
+pub mod CallLaws
+pub mod ReplyLaws
