@@ -1,0 +1,124 @@
+-- Calls that are spelled are read again, and what is read as a call is spelled so.
+use Rattle.std.proofs.Common.{◌≡◌, ℕ, ◌+◌, ◌*◌, ◌<◌, ◌≤◌, ◌^◌, Bool, true, List, [], ◌∷◌, ◌++◌, length, map, Option, Some, None, refl, ap, sym, ◌∙◌, arith}
+use Rattle.std.specs.Fmt.{decimal}
+use Rattle.cmwq_model.specs.declared.call.Call.{Call}
+use Rattle.cmwq_model.specs.declared.call.Call.TheVariants as call
+use Rattle.cmwq_text.specs.declared.keyword.Keyword.{Keyword}
+use Rattle.cmwq_text.specs.declared.keyword.Keyword.TheVariants as word
+use Rattle.cmwq_text.specs.Numbers.{greatest_byte, greatest_short}
+use Rattle.cmwq_text.specs.Words.{◌>>=◌}
+use Rattle.cmwq_text.specs.Keywords.{text, keyword_in}
+use Rattle.cmwq_text.specs.CallText.{call_words, call_after, call_in}
+use Rattle.cmwq_text.specs.Ranges.{IsCall}
+use Rattle.cmwq_text.proofs.Steps.{bind_some}
+use Rattle.cmwq_text.proofs.WordLaws.{are_plain}
+use Rattle.cmwq_text.proofs.KeywordLaws.{keyword_again, keyword_takes}
+use Rattle.cmwq_text.proofs.IdLaws.{item_again, queue_again, cpu_again, number_in_again}
+use Rattle.cmwq_text.proofs.RowLaws.{an_item, a_queue, a_cpu, a_number, none_takes, one_takes, three_takes, four_takes}
+use Rattle.cmwq_text.proofs.PhraseLaws.{phrase_is_plain, size, byte_len, short_len, number_len}
+
+pub call_again : (c : Call) (ws : List (List ℕ)) → IsCall c → call_in (call_words c ++ ws) ≡ Some (c, ws)
+unfolding call_words call_after
+call_again (call.Queue i q c) ws h = rw (keyword_again word.Queue, item_again i (decimal q.0 ∷ decimal c.0 ∷ ws) h.0, queue_again q (decimal c.0 ∷ ws) h.1, cpu_again c ws h.2) refl
+call_again (call.Delay i q c n) ws h = rw (keyword_again word.Delay, item_again i (decimal q.0 ∷ decimal c.0 ∷ decimal n ∷ ws) h.0.0, queue_again q (decimal c.0 ∷ decimal n ∷ ws) h.0.1, cpu_again c (decimal n ∷ ws) h.0.2, number_in_again n ws h.1) refl
+call_again (call.Modify i q c n) ws h = rw (keyword_again word.Modify, item_again i (decimal q.0 ∷ decimal c.0 ∷ decimal n ∷ ws) h.0.0, queue_again q (decimal c.0 ∷ decimal n ∷ ws) h.0.1, cpu_again c (decimal n ∷ ws) h.0.2, number_in_again n ws h.1) refl
+call_again (call.Cancel i) ws h = rw (keyword_again word.Cancel, item_again i ws h) refl
+call_again (call.Tick n) ws h = rw (keyword_again word.Tick, number_in_again n ws h) refl
+call_again call.Fire ws h = rw (keyword_again word.Fire) refl
+call_again (call.Flush q) ws h = rw (keyword_again word.Flush, queue_again q ws h) refl
+call_again (call.Drain q) ws h = rw (keyword_again word.Drain, queue_again q ws h) refl
+call_again (call.FlushItem i) ws h = rw (keyword_again word.FlushItem, item_again i ws h) refl
+call_again (call.FlushDelayed i) ws h = rw (keyword_again word.FlushDelayed, item_again i ws h) refl
+call_again (call.CancelSync i) ws h = rw (keyword_again word.CancelSync, item_again i ws h) refl
+call_again (call.End n) ws h = rw (keyword_again word.End, number_in_again n ws h) refl
+call_again call.Take ws h = rw (keyword_again word.Take) refl
+call_again call.Finish ws h = rw (keyword_again word.Finish) refl
+call_again call.Sleep ws h = rw (keyword_again word.Sleep) refl
+call_again call.Wake ws h = rw (keyword_again word.Wake) refl
+call_again call.Retire ws h = rw (keyword_again word.Retire) refl
+
+-- no id is the greatest of its type
+abbrev pub IsKnownCall : Call → Type 0
+IsKnownCall (call.Queue i q c) = (i.0 < greatest_short) × (q.0 < greatest_byte) × (c.0 < greatest_byte)
+IsKnownCall (call.Delay i q c n) = (i.0 < greatest_short) × (q.0 < greatest_byte) × (c.0 < greatest_byte)
+IsKnownCall (call.Modify i q c n) = (i.0 < greatest_short) × (q.0 < greatest_byte) × (c.0 < greatest_byte)
+IsKnownCall (call.Cancel i) = i.0 < greatest_short
+IsKnownCall (call.Tick n) = Unit {0}
+IsKnownCall call.Fire = Unit {0}
+IsKnownCall (call.Flush q) = q.0 < greatest_byte
+IsKnownCall (call.Drain q) = q.0 < greatest_byte
+IsKnownCall (call.FlushItem i) = i.0 < greatest_short
+IsKnownCall (call.FlushDelayed i) = i.0 < greatest_short
+IsKnownCall (call.CancelSync i) = i.0 < greatest_short
+IsKnownCall (call.End n) = Unit {0}
+IsKnownCall call.Take = Unit {0}
+IsKnownCall call.Finish = Unit {0}
+IsKnownCall call.Sleep = Unit {0}
+IsKnownCall call.Wake = Unit {0}
+IsKnownCall call.Retire = Unit {0}
+
+call_after_is : (k : Keyword) (ws : List (List ℕ)) (x : Call × List (List ℕ)) → call_after k ws ≡ Some x → IsKnownCall x.0 → text k ∷ ws ≡ call_words x.0 ++ x.1
+unfolding call_words call_after
+call_after_is word.Queue ws x e h = three_takes an_item a_queue a_cpu call.Queue (text word.Queue ∷ []) IsKnownCall call_words (λ i q c. refl) (λ i q c h. h) ws x e h
+call_after_is word.Delay ws x e h = four_takes an_item a_queue a_cpu a_number call.Delay (text word.Delay ∷ []) IsKnownCall call_words (λ i q c n. refl) (λ i q c n h. (h.0, h.1, h.2, tt)) ws x e h
+call_after_is word.Modify ws x e h = four_takes an_item a_queue a_cpu a_number call.Modify (text word.Modify ∷ []) IsKnownCall call_words (λ i q c n. refl) (λ i q c n h. (h.0, h.1, h.2, tt)) ws x e h
+call_after_is word.Cancel ws x e h = one_takes an_item call.Cancel (text word.Cancel ∷ []) IsKnownCall call_words (λ i. refl) (λ i h. h) ws x e h
+call_after_is word.Tick ws x e h = one_takes a_number call.Tick (text word.Tick ∷ []) IsKnownCall call_words (λ n. refl) (λ n h. tt) ws x e h
+call_after_is word.Fire ws x e h = none_takes call.Fire (text word.Fire ∷ []) call_words refl ws x e
+call_after_is word.Flush ws x e h = one_takes a_queue call.Flush (text word.Flush ∷ []) IsKnownCall call_words (λ q. refl) (λ q h. h) ws x e h
+call_after_is word.Drain ws x e h = one_takes a_queue call.Drain (text word.Drain ∷ []) IsKnownCall call_words (λ q. refl) (λ q h. h) ws x e h
+call_after_is word.FlushItem ws x e h = one_takes an_item call.FlushItem (text word.FlushItem ∷ []) IsKnownCall call_words (λ i. refl) (λ i h. h) ws x e h
+call_after_is word.FlushDelayed ws x e h = one_takes an_item call.FlushDelayed (text word.FlushDelayed ∷ []) IsKnownCall call_words (λ i. refl) (λ i h. h) ws x e h
+call_after_is word.CancelSync ws x e h = one_takes an_item call.CancelSync (text word.CancelSync ∷ []) IsKnownCall call_words (λ i. refl) (λ i h. h) ws x e h
+call_after_is word.End ws x e h = one_takes a_number call.End (text word.End ∷ []) IsKnownCall call_words (λ n. refl) (λ n h. tt) ws x e h
+call_after_is word.Take ws x e h = none_takes call.Take (text word.Take ∷ []) call_words refl ws x e
+call_after_is word.Finish ws x e h = none_takes call.Finish (text word.Finish ∷ []) call_words refl ws x e
+call_after_is word.Sleep ws x e h = none_takes call.Sleep (text word.Sleep ∷ []) call_words refl ws x e
+call_after_is word.Wake ws x e h = none_takes call.Wake (text word.Wake ∷ []) call_words refl ws x e
+call_after_is word.Retire ws x e h = none_takes call.Retire (text word.Retire ∷ []) call_words refl ws x e
+call_after_is k ws x e h = absurd cc
+
+pub call_takes : (ws : List (List ℕ)) (x : Call × List (List ℕ)) → call_in ws ≡ Some x → IsKnownCall x.0 → ws ≡ call_words x.0 ++ x.1
+call_takes ws x e h =
+    let k = bind_some (keyword_in ws) (λ (k : Keyword × List (List ℕ)). call_after k.0 k.1) x e in
+    keyword_takes ws k.0 k.1 ∙ call_after_is k.0.0 k.0.1 x k.2 h
+
+pub call_is_plain : (c : Call) → IsCall c → are_plain (call_words c) ≡ true
+unfolding call_words
+call_is_plain (call.Queue i q c) h = phrase_is_plain word.Queue (i.0 ∷ q.0 ∷ c.0 ∷ []) (omega arith, (omega arith, (omega arith, tt)))
+call_is_plain (call.Delay i q c n) h = phrase_is_plain word.Delay (i.0 ∷ q.0 ∷ c.0 ∷ n ∷ []) (omega arith, (omega arith, (omega arith, (omega arith, tt))))
+call_is_plain (call.Modify i q c n) h = phrase_is_plain word.Modify (i.0 ∷ q.0 ∷ c.0 ∷ n ∷ []) (omega arith, (omega arith, (omega arith, (omega arith, tt))))
+call_is_plain (call.Cancel i) h = phrase_is_plain word.Cancel (i.0 ∷ []) (omega arith, tt)
+call_is_plain (call.Tick n) h = phrase_is_plain word.Tick (n ∷ []) (omega arith, tt)
+call_is_plain call.Fire h = phrase_is_plain word.Fire [] tt
+call_is_plain (call.Flush q) h = phrase_is_plain word.Flush (q.0 ∷ []) (omega arith, tt)
+call_is_plain (call.Drain q) h = phrase_is_plain word.Drain (q.0 ∷ []) (omega arith, tt)
+call_is_plain (call.FlushItem i) h = phrase_is_plain word.FlushItem (i.0 ∷ []) (omega arith, tt)
+call_is_plain (call.FlushDelayed i) h = phrase_is_plain word.FlushDelayed (i.0 ∷ []) (omega arith, tt)
+call_is_plain (call.CancelSync i) h = phrase_is_plain word.CancelSync (i.0 ∷ []) (omega arith, tt)
+call_is_plain (call.End n) h = phrase_is_plain word.End (n ∷ []) (omega arith, tt)
+call_is_plain call.Take h = phrase_is_plain word.Take [] tt
+call_is_plain call.Finish h = phrase_is_plain word.Finish [] tt
+call_is_plain call.Sleep h = phrase_is_plain word.Sleep [] tt
+call_is_plain call.Wake h = phrase_is_plain word.Wake [] tt
+call_is_plain call.Retire h = phrase_is_plain word.Retire [] tt
+
+pub call_is_short : (c : Call) → IsCall c → size (call_words c) ≤ 32
+unfolding call_words text
+call_is_short (call.Queue i q c) h = omega (arith, short_len i.0 h.0, byte_len q.0 h.1, byte_len c.0 h.2)
+call_is_short (call.Delay i q c n) h = omega (arith, short_len i.0 h.0.0, byte_len q.0 h.0.1, byte_len c.0 h.0.2, number_len n h.1)
+call_is_short (call.Modify i q c n) h = omega (arith, short_len i.0 h.0.0, byte_len q.0 h.0.1, byte_len c.0 h.0.2, number_len n h.1)
+call_is_short (call.Cancel i) h = omega (arith, short_len i.0 h)
+call_is_short (call.Tick n) h = omega (arith, number_len n h)
+call_is_short call.Fire h = omega arith
+call_is_short (call.Flush q) h = omega (arith, byte_len q.0 h)
+call_is_short (call.Drain q) h = omega (arith, byte_len q.0 h)
+call_is_short (call.FlushItem i) h = omega (arith, short_len i.0 h)
+call_is_short (call.FlushDelayed i) h = omega (arith, short_len i.0 h)
+call_is_short (call.CancelSync i) h = omega (arith, short_len i.0 h)
+call_is_short (call.End n) h = omega (arith, number_len n h)
+call_is_short call.Take h = omega arith
+call_is_short call.Finish h = omega arith
+call_is_short call.Sleep h = omega arith
+call_is_short call.Wake h = omega arith
+call_is_short call.Retire h = omega arith

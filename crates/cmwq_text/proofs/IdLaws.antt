@@ -1,0 +1,208 @@
+-- Ids that are spelled are read again, and what is read as an id is spelled so, unless it is the greatest of its type.
+use Rattle.std.proofs.Common.{◌≡◌, ℕ, suc, ◌+◌, ◌-◌, ◌<◌, ◌≤◌, ◌^◌, Bool, true, false, ◌&&◌, ◌||◌, List, [], ◌∷◌, ◌++◌, length, get_or, take, drop, eqb, ltb, Option, Some, None, refl, ap, sym, ◌∙◌, arith, cond, subst, add-one, append_assoc, ◌⊎◌, inl, inr}
+use Rattle.std.specs.Prelude.{position}
+use Rattle.std.specs.Fmt.{decimal}
+use Rattle.std.specs.Str.{all_ascii_digits}
+use Rattle.std.specs.List.{position_or_len}
+use Rattle.std.proofs.Math.Seq.{split_at, get_or-append_seam}
+use Rattle.std.proofs.lemmas.Bool.{eqb-true, ltb-true, lt-ltb, ne_eqb}
+use Rattle.std.proofs.lemmas.Option.{same_Some}
+use Rattle.std.proofs.lemmas.List.{length-append, get_or_append_left, take_at, drop_at}
+use Rattle.std.proofs.lemmas.List.Quantifiers.{position-Some}
+use Rattle.std.proofs.lemmas.List.Sums.{position_or_len_is}
+use Rattle.std.proofs.lemmas.Fmt.{digits_decimal}
+use Rattle.std.proofs.lemmas.Str.Parse.{not_in_digits}
+use Rattle.cmwq_model.specs.declared.id.ItemId.{ItemId}
+use Rattle.cmwq_model.specs.declared.id.QueueId.{QueueId}
+use Rattle.cmwq_model.specs.declared.id.CpuId.{CpuId}
+use Rattle.cmwq_model.specs.declared.id.Who.{Who}
+use Rattle.cmwq_model.specs.declared.id.Who.TheVariants.{Caller, Worker}
+use Rattle.cmwq_text.specs.Numbers.{number_of, byte_of, short_of, greatest, greatest_long, greatest_byte, greatest_short}
+use Rattle.cmwq_text.specs.Words.{◌>>=◌, word_in, one, byte_in, short_in, number_in, long_in}
+use Rattle.cmwq_text.specs.IdText.{item, queue, cpu, caller, worker, item_in, queue_in, cpu_in, pool_letter, is_pool_letter, who_text, caller_of, worker_of, who_of, who_in}
+use Rattle.cmwq_text.specs.Ranges.{IsWho}
+use Rattle.cmwq_text.proofs.Steps.{bind_some, chosen, both}
+use Rattle.cmwq_text.proofs.NumberLaws.{own, number_again, number_takes, byte_again, byte_takes, short_again, short_takes}
+use Rattle.cmwq_text.proofs.WordLaws.{word_takes, is_plain, is_plain-append, is_plain-decimal}
+
+-- ---- numbers, items, queues and CPUs
+
+pub number_in_again : (n : ℕ) (ws : List (List ℕ)) → n ≤ greatest → number_in (decimal n ∷ ws) ≡ Some (n, ws)
+number_in_again n ws le = rw (number_again greatest n le (omega arith)) refl
+
+pub long_in_again : (n : ℕ) (ws : List (List ℕ)) → n ≤ greatest_long → long_in (decimal n ∷ ws) ≡ Some (n, ws)
+long_in_again n ws le = rw (number_again greatest_long n le (omega arith)) refl
+
+pub byte_in_again : (n : ℕ) (ws : List (List ℕ)) → n ≤ greatest_byte → byte_in (decimal n ∷ ws) ≡ Some (n, ws)
+byte_in_again n ws le = rw (byte_again n le) refl
+
+pub item_again : (i : ItemId) (ws : List (List ℕ)) → i.0 ≤ greatest_short → item_in (decimal i.0 ∷ ws) ≡ Some (i, ws)
+item_again i ws le = rw (short_again i.0 le) refl
+
+pub queue_again : (q : QueueId) (ws : List (List ℕ)) → q.0 ≤ greatest_byte → queue_in (decimal q.0 ∷ ws) ≡ Some (q, ws)
+queue_again q ws le = rw (byte_again q.0 le) refl
+
+pub cpu_again : (c : CpuId) (ws : List (List ℕ)) → c.0 ≤ greatest_byte → cpu_in (decimal c.0 ∷ ws) ≡ Some (c, ws)
+cpu_again c ws le = rw (byte_again c.0 le) refl
+
+pub number_in_takes : (ws : List (List ℕ)) (x : ℕ × List (List ℕ)) → number_in ws ≡ Some x → ws ≡ decimal x.0 ∷ x.1
+number_in_takes ws x e =
+    let read = word_takes (number_of greatest) ws x e in
+    read.1 ∙ ap (λ (w : List ℕ). w ∷ x.1) (number_takes greatest x.0 read.0 (omega arith) read.2).0
+
+pub long_in_takes : (ws : List (List ℕ)) (x : ℕ × List (List ℕ)) → long_in ws ≡ Some x → ws ≡ decimal x.0 ∷ x.1
+long_in_takes ws x e =
+    let read = word_takes (number_of greatest_long) ws x e in
+    read.1 ∙ ap (λ (w : List ℕ). w ∷ x.1) (number_takes greatest_long x.0 read.0 (omega arith) read.2).0
+
+pub byte_in_takes : (ws : List (List ℕ)) (x : ℕ × List (List ℕ)) → byte_in ws ≡ Some x → x.0 < greatest_byte → ws ≡ decimal x.0 ∷ x.1
+byte_in_takes ws x e lt =
+    let read = word_takes byte_of ws x e in
+    read.1 ∙ ap (λ (w : List ℕ). w ∷ x.1) (byte_takes x.0 read.0 read.2 lt)
+
+pub short_in_takes : (ws : List (List ℕ)) (x : ℕ × List (List ℕ)) → short_in ws ≡ Some x → x.0 < greatest_short → ws ≡ decimal x.0 ∷ x.1
+short_in_takes ws x e lt =
+    let read = word_takes short_of ws x e in
+    read.1 ∙ ap (λ (w : List ℕ). w ∷ x.1) (short_takes x.0 read.0 read.2 lt)
+
+-- an id is the number of its word
+made : {A : Type 0} (read : List (List ℕ) → Option (ℕ × List (List ℕ))) (make : ℕ → A) (ws : List (List ℕ)) (x : A × List (List ℕ)) → one read make ws ≡ Some x → (n : ℕ × List (List ℕ)) × (read ws ≡ Some n) × ((make n.0, n.1) ≡ x)
+made {A} read make ws x e =
+    let n = bind_some (read ws) (λ (n : ℕ × List (List ℕ)). Some (make n.0, n.1)) x e in
+    (n.0, n.1, same_Some _ _ n.2)
+
+pub item_takes : (ws : List (List ℕ)) (x : ItemId × List (List ℕ)) → item_in ws ≡ Some x → x.0.0 < greatest_short → ws ≡ decimal x.0.0 ∷ x.1
+item_takes ws x e =
+    let n = made short_in item ws x e in
+    subst (λ (y : ItemId × List (List ℕ)). y.0.0 < greatest_short → ws ≡ decimal y.0.0 ∷ y.1) n.2 (short_in_takes ws n.0 n.1)
+
+pub queue_takes : (ws : List (List ℕ)) (x : QueueId × List (List ℕ)) → queue_in ws ≡ Some x → x.0.0 < greatest_byte → ws ≡ decimal x.0.0 ∷ x.1
+queue_takes ws x e =
+    let n = made byte_in queue ws x e in
+    subst (λ (y : QueueId × List (List ℕ)). y.0.0 < greatest_byte → ws ≡ decimal y.0.0 ∷ y.1) n.2 (byte_in_takes ws n.0 n.1)
+
+pub cpu_takes : (ws : List (List ℕ)) (x : CpuId × List (List ℕ)) → cpu_in ws ≡ Some x → x.0.0 < greatest_byte → ws ≡ decimal x.0.0 ∷ x.1
+cpu_takes ws x e =
+    let n = made byte_in cpu ws x e in
+    subst (λ (y : CpuId × List (List ℕ)). y.0.0 < greatest_byte → ws ≡ decimal y.0.0 ∷ y.1) n.2 (byte_in_takes ws n.0 n.1)
+
+-- ---- callers and workers
+
+letter_is : (high : Bool) → is_pool_letter (pool_letter high) ≡ true
+letter_is true = refl
+letter_is false = refl
+
+letter_says : (high : Bool) → eqb (pool_letter high) 104 ≡ high
+letter_says true = refl
+letter_says false = refl
+
+letter_back : (b : ℕ) → is_pool_letter b ≡ true → b ≡ pool_letter (eqb b 104)
+letter_back b e = back (eqb b 110) (eqb b 104) (eqb-true b 110) (eqb-true b 104) e
+ where
+  back : (n h : Bool) → (n ≡ true → b ≡ 110) → (h ≡ true → b ≡ 104) → (n || h) ≡ true → b ≡ pool_letter h
+  back n true p q e = q refl
+  back true false p q e = p refl
+  back false false p q e = absurd cc
+
+letter_is_plain : (high : Bool) → is_plain (pool_letter high ∷ []) ≡ true
+letter_is_plain true = refl
+letter_is_plain false = refl
+
+-- no digit is the letter of a pool
+digit_is_none : (n i d : ℕ) → n < 2 ^ 64 → i < length (decimal n) → is_pool_letter (get_or (decimal n) i 0) ≡ false
+digit_is_none n i d lt inside =
+    let digits = digits_decimal own n lt in
+    let not_n = not_in_digits own (decimal n) 110 digits (λ r. absurd (omega (arith, r))) i inside in
+    let not_h = not_in_digits own (decimal n) 104 digits (λ r. absurd (omega (arith, r))) i inside in
+    rw (ne_eqb (get_or (decimal n) i 0) 110 not_n, ne_eqb (get_or (decimal n) i 0) 104 not_h) refl
+
+position_is : (p : ℕ → Bool) (xs : List ℕ) (k : ℕ) → position_or_len p xs ≡ k → k < length xs → position p xs ≡ Some k
+position_is p xs k e lt = rw (e, lt-ltb k (length xs) lt) refl
+
+letter_at : (c letter : ℕ) (rest : List ℕ) → c < 2 ^ 64 → is_pool_letter letter ≡ true → position is_pool_letter (decimal c ++ letter ∷ rest) ≡ Some (length (decimal c))
+letter_at c letter rest lt is =
+    let xs : List ℕ = decimal c ++ letter ∷ rest in
+    let len : length xs ≡ length (decimal c) + suc (length rest) = length-append (decimal c) (letter ∷ rest) in
+    let first : position_or_len is_pool_letter xs ≡ length (decimal c) = position_or_len_is is_pool_letter xs (length (decimal c)) 0 (omega (arith, len))
+        (λ i below. rw (get_or_append_left (decimal c) (letter ∷ rest) 0 i below) (digit_is_none c i 0 lt below))
+        (λ inside. rw (get_or-append_seam (decimal c) letter rest 0) is) in
+    position_is is_pool_letter xs (length (decimal c)) first (omega (arith, len))
+
+-- the worker whose pool has its letter at l
+abbrev read_at : List ℕ → ℕ → Option Who
+read_at name l = do
+  c ← byte_of (take l name)
+  x ← byte_of (drop (l + 1) name)
+  Some (worker c (eqb (get_or name l 0) 104) x)
+
+read_is : (name a b : List ℕ) (l c x : ℕ) (high : Bool) → take l name ≡ a → drop (l + 1) name ≡ b → eqb (get_or name l 0) 104 ≡ high → byte_of a ≡ Some c → byte_of b ≡ Some x → read_at name l ≡ Some (worker c high x)
+read_is name a b l c x high before behind says first second = rw (before, behind, says, first, second) refl
+
+worker_again : (c x : ℕ) (high : Bool) → c ≤ greatest_byte → x ≤ greatest_byte → worker_of (decimal c ++ pool_letter high ∷ decimal x) ≡ Some (worker c high x)
+unfolding worker_of
+worker_again c x high small_c small_x =
+    let k : ℕ = length (decimal c) in
+    let letter : ℕ = pool_letter high in
+    let name : List ℕ = decimal c ++ letter ∷ decimal x in
+    let grouped : name ≡ (decimal c ++ letter ∷ []) ++ decimal x = sym (append_assoc (decimal c) (letter ∷ []) (decimal x)) in
+    let behind : drop (k + 1) name ≡ decimal x = ap (drop (k + 1)) grouped ∙ drop_at (decimal c ++ letter ∷ []) (decimal x) (k + 1) (length-append (decimal c) (letter ∷ [])) in
+    let says : eqb (get_or name k 0) 104 ≡ high = rw (get_or-append_seam (decimal c) letter (decimal x) 0) (letter_says high) in
+    ap (λ (o : Option ℕ). o >>= read_at name) (letter_at c letter (decimal x) (omega arith) (letter_is high))
+    ∙ read_is name (decimal c) (decimal x) k c x high (take_at (decimal c) (letter ∷ decimal x) k refl) behind says (byte_again c small_c) (byte_again x small_x)
+
+pub who_again : (who : Who) → IsWho who → who_of (who_text who) ≡ Some who
+unfolding who_of
+who_again (Caller c) h = rw (byte_again c.0 h) refl
+who_again (Worker w) h = worker_again w.pool.cpu.0 w.index w.pool.high h.0 h.1
+
+-- ids that aren't the greatest of their types
+abbrev pub IsKnownWho : Who → Type 0
+IsKnownWho (Caller c) = c.0 < greatest_byte
+IsKnownWho (Worker w) = (w.pool.cpu.0 < greatest_byte) × (w.index < greatest_byte)
+
+worker_is : (name : List ℕ) (who : Who) → worker_of name ≡ Some who → IsKnownWho who → 119 ∷ name ≡ who_text who
+unfolding worker_of
+worker_is name who e =
+    let l = bind_some (position is_pool_letter name) (read_at name) who e in
+    let c = bind_some (byte_of (take l.0 name)) (λ (c : ℕ). byte_of (drop (l.0 + 1) name) >>= λ (x : ℕ). Some (worker c (eqb (get_or name l.0 0) 104) x)) who l.2 in
+    let x = bind_some (byte_of (drop (l.0 + 1) name)) (λ (x : ℕ). Some (worker c.0 (eqb (get_or name l.0 0) 104) x)) who c.2 in
+    let at = position-Some is_pool_letter name l.0 0 l.1 in
+    let cut : name ≡ take l.0 name ++ get_or name l.0 0 ∷ drop (l.0 + 1) name = rw add-one (split_at name l.0 0 at.0) in
+    subst (λ (w : Who). IsKnownWho w → 119 ∷ name ≡ who_text w) (same_Some _ _ x.2)
+    (λ (known : (c.0 < greatest_byte) × (x.0 < greatest_byte)).
+      ap (λ (t : List ℕ). 119 ∷ t) (pieces name (take l.0 name) (drop (l.0 + 1) name) (decimal c.0) (decimal x.0) (get_or name l.0 0) cut (byte_takes c.0 _ c.1 known.0) (byte_takes x.0 _ x.1 known.1) at.1))
+ where
+  pieces : (name a b c x : List ℕ) (letter : ℕ) → name ≡ a ++ letter ∷ b → a ≡ c → b ≡ x → is_pool_letter letter ≡ true → name ≡ c ++ pool_letter (eqb letter 104) ∷ x
+  pieces name a b c x letter cut first second is = cut ∙ rw (first, second) (ap (λ (k : ℕ). c ++ k ∷ x) (letter_back letter is))
+
+caller_is : (name : List ℕ) (who : Who) → caller_of name ≡ Some who → IsKnownWho who → 99 ∷ name ≡ who_text who
+caller_is name who e =
+    let n = bind_some (byte_of name) (λ (n : ℕ). Some (caller n)) who e in
+    subst (λ (w : Who). IsKnownWho w → 99 ∷ name ≡ who_text w) (same_Some _ _ n.2)
+    (λ (known : n.0 < greatest_byte). ap (λ (t : List ℕ). 99 ∷ t) (byte_takes n.0 name n.1 known))
+
+-- which of the two a name is
+first_says : (c w : Bool) (a b : Option Who) (who : Who) → cond c a (cond w b None) ≡ Some who → ((c ≡ true) × (a ≡ Some who)) ⊎ ((w ≡ true) × (b ≡ Some who))
+first_says true w a b who e = inl (refl, e)
+first_says false true a b who e = inr (refl, e)
+first_says false false a b who e = absurd cc
+
+pub who_is : (w : List ℕ) (who : Who) → who_of w ≡ Some who → IsKnownWho who → w ≡ who_text who
+unfolding who_of
+who_is [] who e known = absurd cc
+who_is (first ∷ name) who e known =
+    elim (first_says (eqb first 99) (eqb first 119) (caller_of name) (worker_of name) who e) [
+      | inl c ↦ rw (eqb-true first 99 c.0) (caller_is name who c.1 known)
+      | inr w ↦ rw (eqb-true first 119 w.0) (worker_is name who w.1 known)
+    ]
+
+pub who_takes : (ws : List (List ℕ)) (x : Who × List (List ℕ)) → who_in ws ≡ Some x → IsKnownWho x.0 → ws ≡ who_text x.0 ∷ x.1
+who_takes ws x e known =
+    let read = word_takes who_of ws x e in
+    read.1 ∙ ap (λ (w : List ℕ). w ∷ x.1) (who_is read.0 x.0 read.2 known)
+
+pub is_plain-who : (who : Who) → IsWho who → is_plain (who_text who) ≡ true
+is_plain-who (Caller c) h = is_plain-decimal c.0 (omega arith)
+is_plain-who (Worker w) h =
+    is_plain-append (decimal w.pool.cpu.0) (pool_letter w.pool.high ∷ decimal w.index) (is_plain-decimal w.pool.cpu.0 (omega (arith, h.0)))
+    (is_plain-append (pool_letter w.pool.high ∷ []) (decimal w.index) (letter_is_plain w.pool.high) (is_plain-decimal w.index (omega (arith, h.1))))

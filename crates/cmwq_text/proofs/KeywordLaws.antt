@@ -1,0 +1,42 @@
+-- A keyword that is spelled is read again, and what is read as a keyword is spelled so.
+use Rattle.std.proofs.Common.{◌≡◌, ℕ, Bool, true, false, List, [], ◌∷◌, Option, Some, None, refl, ap, sym, ◌∙◌, cond, subst, ◌⊎◌, inl, inr}
+use Rattle.std.specs.List.{find}
+use Rattle.std.proofs.lemmas.Option.{same_Some}
+use Rattle.std.proofs.lemmas.Slice.Eq.{bytes_eq-Decides}
+use Rattle.cmwq_text.specs.declared.keyword.Keyword.{Keyword}
+use Rattle.cmwq_text.specs.declared.keyword.Keyword.TheVariants as word
+use Rattle.cmwq_text.specs.declared.keyword.TheConstants.{KEYWORDS}
+use Rattle.cmwq_text.specs.Words.{word_in}
+use Rattle.cmwq_text.specs.Keywords.{text, is_text, keyword_of, keyword_in}
+use Rattle.cmwq_text.proofs.WordLaws.{is_plain, word_takes}
+
+pub is_plain-text : (k : Keyword) → is_plain (text k) ≡ true
+unfolding text
+is_plain-text word.Queue = refl
+is_plain-text k = refl
+
+pub keyword_again : (k : Keyword) → keyword_of (text k) ≡ Some k
+unfolding keyword_of text
+keyword_again word.Queue = refl
+keyword_again k = refl
+
+first_or : (b : Bool) (x k : Keyword) (o : Option Keyword) → cond b (Some x) o ≡ Some k → ((b ≡ true) × (x ≡ k)) ⊎ (o ≡ Some k)
+first_or true x k o e = inl (refl, same_Some x k e)
+first_or false x k o e = inr e
+
+found_passes : (p : Keyword → Bool) (ks : List Keyword) (k : Keyword) → find p ks ≡ Some k → p k ≡ true
+found_passes p [] k e = absurd cc
+found_passes p (x ∷ xs) k e =
+    elim (first_or (p x) x k (find p xs) e) [
+      | inl here ↦ subst (λ (y : Keyword). p y ≡ true) here.1 here.0
+      | inr later ↦ found_passes p xs k later
+    ]
+
+pub keyword_is : (k : Keyword) (w : List ℕ) → keyword_of w ≡ Some k → w ≡ text k
+unfolding keyword_of
+keyword_is k w e = sym ((bytes_eq-Decides (text k) w).0 (found_passes (is_text w) KEYWORDS k e))
+
+pub keyword_takes : (ws : List (List ℕ)) (x : Keyword × List (List ℕ)) → keyword_in ws ≡ Some x → ws ≡ text x.0 ∷ x.1
+keyword_takes ws x e =
+    let read = word_takes keyword_of ws x e in
+    read.1 ∙ ap (λ (w : List ℕ). w ∷ x.1) (keyword_is x.0 read.0 read.2)

@@ -1,0 +1,12 @@
+pub mod Splits
+pub mod Digits
+pub mod Spacing
+pub mod Steps
+pub mod NumberLaws
+pub mod WordLaws
+pub mod KeywordLaws
+pub mod IdLaws
+pub mod RowLaws
+pub mod PhraseLaws
+pub mod CallLaws
+pub mod ReplyLaws

@@ -1,0 +1,49 @@
+-- A keyword and numbers: that each word is plain, and how long the words are.
+use Rattle.std.proofs.Common.{◌≡◌, ℕ, ◌+◌, ◌<◌, ◌≤◌, ◌^◌, Bool, true, List, [], ◌∷◌, ◌++◌, length, map, refl, ap, sym, ◌∙◌, arith}
+use Rattle.std.specs.Fmt.{decimal}
+use Rattle.std.specs.List.{AllByRecursion, join_with_byte}
+use Rattle.std.proofs.lemmas.List.{length-append}
+use Rattle.std.proofs.lemmas.Fmt.{length-decimal-le}
+use Rattle.cmwq_text.specs.declared.keyword.Keyword.{Keyword}
+use Rattle.cmwq_text.specs.Numbers.{greatest, greatest_long, greatest_byte, greatest_short}
+use Rattle.cmwq_text.specs.Words.{joined, line_text}
+use Rattle.cmwq_text.specs.Keywords.{text}
+use Rattle.cmwq_text.specs.CallText.{phrase}
+use Rattle.cmwq_text.proofs.WordLaws.{is_plain, are_plain, and_true, is_plain-decimal}
+use Rattle.cmwq_text.proofs.KeywordLaws.{is_plain-text}
+
+numbers_are_plain : (ns : List ℕ) → AllByRecursion (λ n. n < 2 ^ 64) ns → are_plain (map decimal ns) ≡ true
+numbers_are_plain [] h = refl
+numbers_are_plain (n ∷ ns) h = and_true (is_plain (decimal n)) (are_plain (map decimal ns)) (is_plain-decimal n h.0) (numbers_are_plain ns h.1)
+
+pub phrase_is_plain : (k : Keyword) (ns : List ℕ) → AllByRecursion (λ n. n < 2 ^ 64) ns → are_plain (phrase k ns) ≡ true
+phrase_is_plain k ns h = and_true (is_plain (text k)) (are_plain (map decimal ns)) (is_plain-text k) (numbers_are_plain ns h)
+
+-- ---- lengths
+
+pub byte_len : (n : ℕ) → n ≤ greatest_byte → length (decimal n) ≤ 3
+byte_len n le = length-decimal-le 3 n (omega arith) (omega arith) (omega arith)
+
+pub short_len : (n : ℕ) → n ≤ greatest_short → length (decimal n) ≤ 5
+short_len n le = length-decimal-le 5 n (omega arith) (omega arith) (omega arith)
+
+pub number_len : (n : ℕ) → n ≤ greatest → length (decimal n) ≤ 10
+number_len n le = length-decimal-le 10 n (omega arith) (omega arith) (omega arith)
+
+pub long_len : (n : ℕ) → n ≤ greatest_long → length (decimal n) ≤ 20
+long_len n le = length-decimal-le 20 n (omega arith) (omega arith) (omega arith)
+
+-- the bytes of words, with one for the space or the line feed behind each
+abbrev pub size : List (List ℕ) → ℕ
+size [] = 0
+size (w ∷ ws) = (length w + 1) + size ws
+
+pub size-append : (a b : List (List ℕ)) → size (a ++ b) ≡ size a + size b
+size-append [] b = omega arith
+size-append (w ∷ ws) b = omega (arith, size-append ws b)
+
+pub line_len : (w : List ℕ) (ws : List (List ℕ)) → length (line_text (w ∷ ws)) ≡ size (w ∷ ws)
+line_len w [] = omega (arith, length-append w (10 ∷ []))
+line_len w (v ∷ ws) =
+    let rest : length (joined (v ∷ ws) ++ 10 ∷ []) ≡ size (v ∷ ws) = line_len v ws in
+    omega (arith, rest, length-append (joined (v ∷ ws)) (10 ∷ []), length-append (w ++ 32 ∷ joined (v ∷ ws)) (10 ∷ []), length-append w (32 ∷ joined (v ∷ ws)))

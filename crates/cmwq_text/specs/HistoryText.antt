@@ -1,0 +1,20 @@
+-- The whole text of a history with its shape: the shape line, a line for each queue, a line for each entry from the oldest on.
+use Rattle.std.specs.Prelude.{ℕ, List, ◌++◌}
+use Rattle.std.specs.List.{flat_map}
+use Rattle.cmwq_model.specs.declared.entry.Entry.{Entry}
+use Rattle.cmwq_model.specs.declared.shape.Counts.{Counts}
+use Rattle.cmwq_model.specs.Layout.{Layout}
+use Rattle.cmwq_text.specs.EntryText.{entry_text}
+use Rattle.cmwq_text.specs.ShapeText.{counts_text, queue_text}
+
+abbrev pub counts_in : Layout → Counts
+counts_in s = record { cpus = s.cpus; workers = s.workers; callers = s.callers; items = s.items; room = s.room }
+
+abbrev pub shape_text : Layout → List ℕ
+shape_text s = counts_text (counts_in s) ++ flat_map queue_text s.queues
+
+abbrev pub entries_text : List Entry → List ℕ
+entries_text entries = flat_map entry_text entries
+
+abbrev pub history_text : Layout → List Entry → List ℕ
+history_text s entries = shape_text s ++ entries_text entries

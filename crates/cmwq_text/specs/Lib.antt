@@ -1,0 +1,11 @@
+pub mod Numbers
+pub mod Words
+pub mod Keywords
+pub mod IdText
+pub mod CallText
+pub mod ReplyText
+pub mod EntryText
+pub mod ShapeText
+pub mod HistoryText
+pub mod Ranges
+pub mod Laws

@@ -1,0 +1,51 @@
+-- Numbers in a text: `0`, or a digit 1 to 9 and digits after it. How a number is spelled is std's decimal.
+use Rattle.std.specs.Prelude.{ℕ, ◌+◌, ◌-◌, ◌*◌, Bool, false, not, ◌&&◌, ◌||◌, ◌==◌, if◌then◌else◌, List, [], ◌∷◌, length, Option, Some, None, nat_le, min}
+use Rattle.std.specs.Str.{all_ascii_digits}
+use Rattle.std.specs.Char.{is_ascii_digit}
+
+-- what digits stand for, behind digits that stand for n
+abbrev pub value_from : ℕ → List ℕ → ℕ
+value_from n [] = n
+value_from n (digit ∷ digits) = value_from (n * 10 + (digit - 48)) digits
+
+-- what n and a digit behind it stand for, if that is at most the limit
+abbrev pub with_digit : ℕ → ℕ → ℕ → Option ℕ
+with_digit limit n digit = if is_ascii_digit digit && nat_le (n * 10 + (digit - 48)) limit then Some (n * 10 + (digit - 48)) else None
+
+-- what digits stand for behind n, if there are only digits and it is at most the limit
+unfoldable pub digits_from : ℕ → ℕ → List ℕ → Option ℕ
+digits_from limit n digits = if all_ascii_digits digits && nat_le (value_from n digits) limit then Some (value_from n digits) else None
+
+-- only `0` begins with a zero
+abbrev pub is_begun : List ℕ → Bool
+is_begun [] = false
+is_begun (first ∷ others) = not (first == 48) || length others == 0
+
+-- the number that a word spells, if it is at most the limit
+unfoldable pub number_of : ℕ → List ℕ → Option ℕ
+number_of limit word = if is_begun word then digits_from limit 0 word else None
+
+-- the greatest numbers of the types of ids; an id above them is read as the greatest, and no shape has that one
+abbrev pub greatest_byte : ℕ
+greatest_byte = 255
+
+abbrev pub greatest_short : ℕ
+greatest_short = 65535
+
+-- the greatest number in a text, but for three replies
+abbrev pub greatest : ℕ
+greatest = 4294967295
+
+-- the greatest tick in a reply
+abbrev pub greatest_long : ℕ
+greatest_long = 18446744073709551615
+
+abbrev pub held_at_most : ℕ → Option ℕ → Option ℕ
+held_at_most most None = None
+held_at_most most (Some n) = Some (min n most)
+
+abbrev pub byte_of : List ℕ → Option ℕ
+byte_of word = held_at_most greatest_byte (number_of greatest word)
+
+abbrev pub short_of : List ℕ → Option ℕ
+short_of word = held_at_most greatest_short (number_of greatest word)

@@ -1,0 +1,98 @@
+-- A line as its words, and reading from the first word on: a reader gives a value and the words that are left, if it can.
+use Rattle.std.specs.Prelude.{ℕ, Bool, true, false, ◌==◌, if◌then◌else◌, List, [], ◌∷◌, ◌++◌, Option, Some, None}
+use Rattle.std.specs.List.{slice_split, join_with_byte}
+use Rattle.std.specs.Str.{bytes_eq}
+use denote.Ref.{Bor}
+use Rattle.cmwq_text.specs.Numbers.{number_of, byte_of, short_of, greatest, greatest_long}
+
+infixl 10 ◌>>=◌
+abbrev pub ◌>>=◌ : {A B : Type 0} → Option A → (A → Option B) → Option B
+None >>= f = None
+(Some x) >>= f = f x
+
+-- 32 is the space and 10 the line feed
+abbrev pub is_space : ℕ → Bool
+is_space byte = byte == 32
+
+abbrev pub words_of : List ℕ → List (List ℕ)
+words_of line = slice_split is_space line
+
+-- the words of what is left of a line, if something is
+abbrev pub words_left : Option (Bor (List ℕ)) → List (List ℕ)
+words_left None = []
+words_left (Some bytes) = words_of bytes.now
+
+-- words with one space between each two
+abbrev pub joined : List (List ℕ) → List ℕ
+joined words = join_with_byte 32 words
+
+-- words behind others, each after a space
+unfoldable pub spaced : List (List ℕ) → List ℕ
+spaced [] = []
+spaced (word ∷ words) = (32 ∷ word) ++ spaced words
+
+abbrev pub line_text : List (List ℕ) → List ℕ
+line_text words = joined words ++ 10 ∷ []
+
+abbrev pub is_end : List (List ℕ) → Bool
+is_end [] = true
+is_end (word ∷ words) = false
+
+-- the first word, and those after it
+abbrev pub first_in : List (List ℕ) → Option (List ℕ × List (List ℕ))
+first_in [] = None
+first_in (word ∷ words) = Some (word, words)
+
+-- the words after this one
+abbrev pub after : List ℕ → List (List ℕ) → Option (List (List ℕ))
+after word [] = None
+after word (first ∷ words) = if bytes_eq first word then Some words else None
+
+-- what the first word says, as of tells it of a word
+abbrev pub word_in : {A : Type 0} → (List ℕ → Option A) → List (List ℕ) → Option (A × List (List ℕ))
+word_in of words = do
+  word ← first_in words
+  value ← of word.0
+  Some (value, word.1)
+
+abbrev pub byte_in : List (List ℕ) → Option (ℕ × List (List ℕ))
+byte_in words = word_in byte_of words
+
+abbrev pub short_in : List (List ℕ) → Option (ℕ × List (List ℕ))
+short_in words = word_in short_of words
+
+abbrev pub number_in : List (List ℕ) → Option (ℕ × List (List ℕ))
+number_in words = word_in (number_of greatest) words
+
+abbrev pub long_in : List (List ℕ) → Option (ℕ × List (List ℕ))
+long_in words = word_in (number_of greatest_long) words
+
+-- values that stand behind one another, each as its reader reads it, and what is made of them
+abbrev pub none : {Y : Type 0} → Y → List (List ℕ) → Option (Y × List (List ℕ))
+none y words = Some (y, words)
+
+abbrev pub one : {A Y : Type 0} → (List (List ℕ) → Option (A × List (List ℕ))) → (A → Y) → List (List ℕ) → Option (Y × List (List ℕ))
+one read make words = do
+  a ← read words
+  Some (make a.0, a.1)
+
+abbrev pub two : {A B Y : Type 0} → (List (List ℕ) → Option (A × List (List ℕ))) → (List (List ℕ) → Option (B × List (List ℕ))) → (A → B → Y) → List (List ℕ) → Option (Y × List (List ℕ))
+two read_a read_b make words = do
+  a ← read_a words
+  b ← read_b a.1
+  Some (make a.0 b.0, b.1)
+
+abbrev pub three : {A B C Y : Type 0} → (List (List ℕ) → Option (A × List (List ℕ))) → (List (List ℕ) → Option (B × List (List ℕ))) → (List (List ℕ) → Option (C × List (List ℕ))) → (A → B → C → Y) → List (List ℕ) → Option (Y × List (List ℕ))
+three read_a read_b read_c make words = do
+  a ← read_a words
+  b ← read_b a.1
+  c ← read_c b.1
+  Some (make a.0 b.0 c.0, c.1)
+
+abbrev pub four : {A B C D Y : Type 0} → (List (List ℕ) → Option (A × List (List ℕ))) → (List (List ℕ) → Option (B × List (List ℕ))) → (List (List ℕ) → Option (C × List (List ℕ))) → (List (List ℕ) → Option (D × List (List ℕ))) → (A → B → C → D → Y) → List (List ℕ) → Option (Y × List (List ℕ))
+four read_a read_b read_c read_d make words = do
+  a ← read_a words
+  b ← read_b a.1
+  c ← read_c b.1
+  d ← read_d c.1
+  Some (make a.0 b.0 c.0 d.0, d.1)

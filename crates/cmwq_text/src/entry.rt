@@ -1,0 +1,39 @@
+//! Entries in a text.
+ghost use Rattle.std.specs.Prelude.{◌≡◌};
+ghost use Rattle.cmwq_text.specs.EntryText.{entry_of, entry_fits};
+
+use crate::call::{call_in, is_of_kind};
+use crate::id::who_in;
+use crate::reply::{reply_fits, reply_in};
+use crate::word::{Words, number_in};
+use cmwq_model::{Entry, Shape};
+
+/// The entry of a line of a history, without its line feed. None: it is no such line, or the who isn't of the kind that
+/// makes this call. Any reply may follow any call. An id that its type can't hold is read as the greatest of the type,
+/// which no shape has.
+#[tactic(auto, unfolding(crate::specs::EntryText::entry_of))]
+pub fn read_entry(line: &[u8]) -> Option<Entry>
+    ensures { result ≡ entry_of line.now }
+{
+    let (who, words) = who_in(Words::of(line))?;
+    let (serial, words) = number_in(words)?;
+    let (call, words) = call_in(words)?;
+    let (reply, words) = reply_in(words.after(b"=")?)?;
+    if words.is_end() && is_of_kind(who, call) {
+        Some(Entry {
+            who,
+            serial,
+            call,
+            reply,
+        })
+    } else {
+        None
+    }
+}
+
+/// Whether who, call and reply of an entry are inside the shape.
+pub fn entry_fits(shape: &Shape, entry: &Entry) -> bool
+    ensures { result ≡ entry_fits shape.now entry.now }
+{
+    shape.fits(entry.who, entry.call) && reply_fits(shape, entry.reply)
+}

@@ -1,0 +1,77 @@
+//! Items, queues, CPUs, callers and workers in a text.
+ghost use Rattle.std.specs.Prelude.{◌≡◌, position};
+ghost use Rattle.cmwq_text.specs.IdText.{is_pool_letter, item_in, queue_in, cpu_in, caller_of, worker_of, who_of, who_in};
+
+use crate::number::byte_of;
+use crate::word::{Words, byte_in, short_in};
+use cmwq_model::{CallerId, CpuId, ItemId, PoolId, QueueId, Who, WorkerId};
+
+/// An item. One that no `ItemId` can hold is read as the greatest, which no shape has.
+pub fn item_in<'a>(words: Words<'a>) -> Option<(ItemId, Words<'a>)>
+    ensures { result ≡ item_in words.entry }
+{
+    let (item, words) = short_in(words)?;
+    Some((ItemId(item), words))
+}
+
+/// A queue. One that no `QueueId` can hold is read as the greatest, which no shape has.
+pub fn queue_in<'a>(words: Words<'a>) -> Option<(QueueId, Words<'a>)>
+    ensures { result ≡ queue_in words.entry }
+{
+    let (queue, words) = byte_in(words)?;
+    Some((QueueId(queue), words))
+}
+
+/// A CPU. One that no `CpuId` can hold is read as the greatest, which no shape has.
+pub fn cpu_in<'a>(words: Words<'a>) -> Option<(CpuId, Words<'a>)>
+    ensures { result ≡ cpu_in words.entry }
+{
+    let (cpu, words) = byte_in(words)?;
+    Some((CpuId(cpu), words))
+}
+
+fn caller_of(name: &[u8]) -> Option<Who>
+    ensures { result ≡ caller_of name.now }
+{
+    Some(Who::Caller(CallerId(byte_of(name)?)))
+}
+
+fn pool_letter(name: &[u8]) -> Option<usize>
+    ensures { result ≡ position is_pool_letter name.now }
+{
+    name.iter().position(|byte| matches!(*byte, b'n' | b'h'))
+}
+
+#[tactic(auto, unfolding(crate::specs::IdText::worker_of), using(std::proofs::lemmas::List::take_rest))]
+fn worker_of(name: &[u8]) -> Option<Who>
+    ensures { result ≡ worker_of name.now }
+{
+    let letter = pool_letter(name)?;
+    let cpu = CpuId(byte_of(&name[..letter])?);
+    let index = byte_of(&name[letter + 1..])?;
+    let pool = PoolId {
+        cpu,
+        high: name[letter] == b'h',
+    };
+    Some(Who::Worker(WorkerId { pool, index }))
+}
+
+/// The caller or the worker that a word names.
+#[tactic(auto, unfolding(crate::specs::IdText::who_of))]
+fn who_of(word: &[u8]) -> Option<Who>
+    ensures { result ≡ who_of word.now }
+{
+    match word {
+        [b'c', name @ ..] => caller_of(name),
+        [b'w', name @ ..] => worker_of(name),
+        _ => None,
+    }
+}
+
+/// A caller or a worker.
+pub fn who_in<'a>(words: Words<'a>) -> Option<(Who, Words<'a>)>
+    ensures { result ≡ who_in words.entry }
+{
+    let (word, words) = words.first()?;
+    Some((who_of(word)?, words))
+}

@@ -1,0 +1,182 @@
+ghost use Rattle.std.specs.Prelude.{◌≡◌, ◌≤◌, length, find};
+ghost use Rattle.cmwq_text.specs.Keywords.{text, is_text, keyword_of, keyword_in};
+
+use crate::word::Words;
+
+/// A word that names a call or a reply, or stands inside a reply.
+#[derive(Clone, Copy)]
+pub enum Keyword {
+    Queue,
+    Delay,
+    Modify,
+    Cancel,
+    Tick,
+    Fire,
+    Flush,
+    Drain,
+    FlushItem,
+    FlushDelayed,
+    CancelSync,
+    End,
+    Take,
+    Finish,
+    Sleep,
+    Wake,
+    Retire,
+    Yes,
+    Booked,
+    Again,
+    Rebooked,
+    No,
+    Foreign,
+    Draining,
+    Misuse,
+    Cancelled,
+    Unbooked,
+    Now,
+    Fired,
+    Nothing,
+    Ticket,
+    Queued,
+    Idle,
+    Crowded,
+    Done,
+    Waiting,
+    Started,
+    Enlist,
+    Held,
+    Finished,
+    Slept,
+    Woke,
+    Retired,
+    Kept,
+}
+
+/// Every keyword.
+const KEYWORDS: [Keyword; 44] = [
+    Keyword::Queue,
+    Keyword::Delay,
+    Keyword::Modify,
+    Keyword::Cancel,
+    Keyword::Tick,
+    Keyword::Fire,
+    Keyword::Flush,
+    Keyword::Drain,
+    Keyword::FlushItem,
+    Keyword::FlushDelayed,
+    Keyword::CancelSync,
+    Keyword::End,
+    Keyword::Take,
+    Keyword::Finish,
+    Keyword::Sleep,
+    Keyword::Wake,
+    Keyword::Retire,
+    Keyword::Yes,
+    Keyword::Booked,
+    Keyword::Again,
+    Keyword::Rebooked,
+    Keyword::No,
+    Keyword::Foreign,
+    Keyword::Draining,
+    Keyword::Misuse,
+    Keyword::Cancelled,
+    Keyword::Unbooked,
+    Keyword::Now,
+    Keyword::Fired,
+    Keyword::Nothing,
+    Keyword::Ticket,
+    Keyword::Queued,
+    Keyword::Idle,
+    Keyword::Crowded,
+    Keyword::Done,
+    Keyword::Waiting,
+    Keyword::Started,
+    Keyword::Enlist,
+    Keyword::Held,
+    Keyword::Finished,
+    Keyword::Slept,
+    Keyword::Woke,
+    Keyword::Retired,
+    Keyword::Kept,
+];
+
+impl Keyword {
+    /// How it is written.
+    #[tactic(auto, unfolding(crate::specs::Keywords::text))]
+    pub fn text(self) -> &'static str
+        ensures exact { result.now ≡ text self }
+        ensures short { length result.now ≤ 13 }
+    {
+        match self {
+            Keyword::Queue => "queue",
+            Keyword::Delay => "delay",
+            Keyword::Modify => "modify",
+            Keyword::Cancel => "cancel",
+            Keyword::Tick => "tick",
+            Keyword::Fire => "fire",
+            Keyword::Flush => "flush",
+            Keyword::Drain => "drain",
+            Keyword::FlushItem => "flush_item",
+            Keyword::FlushDelayed => "flush_delayed",
+            Keyword::CancelSync => "cancel_sync",
+            Keyword::End => "end",
+            Keyword::Take => "take",
+            Keyword::Finish => "finish",
+            Keyword::Sleep => "sleep",
+            Keyword::Wake => "wake",
+            Keyword::Retire => "retire",
+            Keyword::Yes => "yes",
+            Keyword::Booked => "booked",
+            Keyword::Again => "again",
+            Keyword::Rebooked => "rebooked",
+            Keyword::No => "no",
+            Keyword::Foreign => "foreign",
+            Keyword::Draining => "draining",
+            Keyword::Misuse => "misuse",
+            Keyword::Cancelled => "cancelled",
+            Keyword::Unbooked => "unbooked",
+            Keyword::Now => "now",
+            Keyword::Fired => "fired",
+            Keyword::Nothing => "nothing",
+            Keyword::Ticket => "ticket",
+            Keyword::Queued => "queued",
+            Keyword::Idle => "idle",
+            Keyword::Crowded => "crowded",
+            Keyword::Done => "done",
+            Keyword::Waiting => "waiting",
+            Keyword::Started => "started",
+            Keyword::Enlist => "enlist",
+            Keyword::Held => "held",
+            Keyword::Finished => "finished",
+            Keyword::Slept => "slept",
+            Keyword::Woke => "woke",
+            Keyword::Retired => "retired",
+            Keyword::Kept => "kept",
+        }
+    }
+}
+
+fn keyword_among(keywords: &[Keyword], word: &[u8]) -> Option<Keyword>
+    ensures { result ≡ find (is_text word.now) keywords.now }
+{
+    keywords
+        .iter()
+        .copied()
+        .find(|keyword| keyword.text().as_bytes() == word)
+}
+
+/// The keyword that is written so.
+#[tactic(auto, unfolding(crate::specs::Keywords::keyword_of))]
+fn keyword_of(word: &[u8]) -> Option<Keyword>
+    ensures { result ≡ keyword_of word.now }
+{
+    keyword_among(&KEYWORDS, word)
+}
+
+/// The keyword that the first word is.
+pub fn keyword_in<'a>(words: Words<'a>) -> Option<(Keyword, Words<'a>)>
+    ensures { result ≡ keyword_in words.entry }
+{
+    let (word, words) = words.first()?;
+    Some((keyword_of(word)?, words))
+}

@@ -1,0 +1,28 @@
+//! The text of one line: shapes, queues, calls and entries, read and spelled.
+#![tactic(auto)]
+
+mod call;
+mod entry;
+mod id;
+mod keyword;
+mod laws;
+mod line;
+mod number;
+mod reply;
+mod shape;
+mod spelling;
+mod word;
+
+pub use call::read_call;
+pub use entry::{entry_fits, read_entry};
+pub use laws::{
+    calls_read_again, calls_spelled_so, counts_read_again, counts_spelled_so, entries_read_again,
+    entries_spelled_so, entries_stand_apart, lines_are_short, queues_read_again, queues_spelled_so,
+};
+pub use line::Line;
+pub use reply::reply_fits;
+pub use shape::{begins_queue, read_counts, read_queue_of_calls, read_queue_of_history};
+pub use spelling::{counts_line, entry_line, queue_line};
+
+#[cfg(test)]
+mod tests;

@@ -1,0 +1,90 @@
+//! Lines that are spelled, in a buffer of their own.
+ghost use Rattle.std.specs.Prelude.{◌≡◌, ◌+◌, ◌*◌, ◌≤◌, [], ◌∷◌, ◌++◌, length, map, decimal};
+ghost use Rattle.cmwq_text.specs.Words.{spaced};
+ghost use Rattle.cmwq_text.specs.CallText.{phrase};
+
+use crate::keyword::Keyword;
+use arrayvec::ArrayString;
+use itoa::Buffer;
+use std::marker::Model;
+
+/// The text of a line, with its line feed. It takes no memory but its own.
+#[derive(Drop)]
+pub struct Line {
+    text: ArrayString<256>,
+}
+
+impl Model for Line {
+    ghost use Rattle.std.specs.Prelude.{ℕ, List};
+
+    ghost Value = { List ℕ };
+
+    ghost view = { λ line. line.text.bytes };
+}
+
+impl Line {
+    /// Its bytes.
+    pub fn as_bytes(&self) -> &[u8]
+        ensures { result.now ≡ self.now }
+    {
+        self.text.as_bytes()
+    }
+
+    pub(crate) fn new() -> Line
+        ensures { result ≡ [] }
+    {
+        Line {
+            text: ArrayString::new(),
+        }
+    }
+
+    pub(crate) fn push(&mut self, text: &str)
+        requires { length self.old + length text.now ≤ 256 }
+        ensures exact { self.new ≡ self.old ++ text.now }
+        ensures len { length self.new ≡ length self.old + length text.now }
+    {
+        self.text.push_str(text);
+    }
+
+    pub(crate) fn push_number(&mut self, number: u64)
+        requires { length self.old + 20 ≤ 256 }
+        ensures exact { self.new ≡ self.old ++ decimal number }
+        ensures short { length self.new ≤ length self.old + 20 }
+    {
+        self.push(Buffer::new().format(number));
+    }
+
+    /// Spells numbers, each after a space.
+    pub(crate) fn push_numbers(&mut self, numbers: &[u64])
+        requires { length self.old + 21 * length numbers.now ≤ 256 }
+        ensures exact { self.new ≡ self.old ++ spaced (map decimal numbers.now) }
+        ensures short { length self.new ≤ length self.old + 21 * length numbers.now }
+    {
+        for number in numbers {
+            self.push(" ");
+            self.push_number(*number);
+        }
+    }
+
+    /// Spells a keyword and numbers, each after a space.
+    #[tactic(auto, unfolding(crate::specs::Words::spaced))]
+    pub(crate) fn push_phrase(&mut self, keyword: Keyword, numbers: &[u64])
+        requires { length self.old + 14 + 21 * length numbers.now ≤ 256 }
+        ensures exact { self.new ≡ self.old ++ spaced (phrase keyword numbers.now) }
+        ensures short { length self.new ≤ length self.old + 14 + 21 * length numbers.now }
+    {
+        self.push(" ");
+        self.push(keyword.text());
+        self.push_numbers(numbers);
+    }
+
+    /// Spells two such phrases.
+    pub(crate) fn push_phrases(&mut self, first: (Keyword, &[u64]), second: (Keyword, &[u64]))
+        requires { length self.old + 28 + 21 * (length first.1.now + length second.1.now) ≤ 256 }
+        ensures exact { self.new ≡ self.old ++ spaced (phrase first.entry.0 first.entry.1.now ++ phrase second.entry.0 second.entry.1.now) }
+        ensures short { length self.new ≤ length self.old + 28 + 21 * (length first.entry.1.now + length second.entry.1.now) }
+    {
+        self.push_phrase(first.0, first.1);
+        self.push_phrase(second.0, second.1);
+    }
+}
