@@ -1,0 +1,208 @@
+-- How a reader's progress goes on from line to line.
+use Rattle.std.proofs.Common.{◌≡◌, ◌+◌, ◌<◌, ◌≤◌, ℕ, suc, Bool, true, false, List, [], ◌∷◌, ◌++◌, length, Result, Ok, Err, nat_le, Option, Some, None, refl, sym, ap, ◌∙◌, arith, subst, length-append}
+use Rattle.std.specs.Prelude.{if◌then◌else◌, IfSome, IfOk}
+use Rattle.std.proofs.lemmas.Bool.Decides.{nat_tests}
+use Rattle.std.specs.Io.KnownBytes.{prepend_known}
+use Rattle.cmwq_io.specs.declared.lines.Found.{Found}
+use Rattle.cmwq_io.specs.declared.lines.Found.TheVariants.{Whole, Cut, Long, End}
+use Rattle.cmwq_io.specs.FirstLine.{TakesLine, TakesKnownLine}
+use Rattle.cmwq_model.specs.declared.shape.Counts.{Counts}
+use Rattle.cmwq_model.specs.declared.shape.QueueShape.{QueueShape}
+use Rattle.cmwq_model.specs.Layout.{Layout, layout_of, is_layout}
+use Rattle.cmwq_text.specs.ShapeText.{counts_of, begins_queue}
+use Rattle.cmwq_base.specs.declared.refusal.Refusal.{Refusal}
+use Rattle.cmwq_base.specs.declared.refusal.Refusal.TheVariants as refusal
+use Rattle.cmwq_base.specs.Files.{File, Stage, begin, head, body, Kind, shape_made, and_then, begun, with_queue, queue_line, with_item, item_line, first_item, after_head, after_line, after_cut, at_end, without_items, after_text, file_of}
+use Rattle.cmwq_base.specs.Gives.{Refuses, Makes, Fails, Gives}
+use Rattle.cmwq_base.specs.Stages.{lines_in, IsWithin}
+use Rattle.cmwq_base.proofs.Texts.{text_whole, text_long, text_cut, text_end}
+
+-- what is left of a known text gives from here on what the text gives
+abbrev pub SameRead : {X : Type 0} → Kind X → Option (List ℕ) → Option (List ℕ) → ℕ → Stage X → Type 0
+SameRead k None now n stage = Unit {0}
+SameRead k (Some text) None n stage = ⊥
+SameRead k (Some text) (Some rest) n stage = file_of k text ≡ after_text k n stage rest
+
+pub record Progress {X : Type 0} (k : Kind X) (old now : Option (List ℕ)) (n : ℕ) (stage : Stage X) : Type 0 where
+  pub same : SameRead k old now n stage
+  pub count : lines_in stage + 1 ≡ n
+  pub within : IsWithin stage
+
+pub found_so : (before after : Option (List ℕ)) (line : List ℕ) (how so : Found) → how ≡ so → TakesKnownLine before after how line → TakesKnownLine before after so line
+found_so before after line how so is t = subst (λ h. TakesKnownLine before after h line) is t
+
+-- ---- one line more
+
+pub record Grows {X : Type 0} (old new : Stage X) : Type 0 where
+  pub count : lines_in new ≡ lines_in old + 1
+  pub within : IsWithin old → IsWithin new
+
+module _ {X : Type 0} (k : Kind X) (n : ℕ) where
+  begun_grows : (o : Option Counts) (next : Stage X) → begun n o ≡ Ok next → Grows begin next
+  begun_grows None next h = cc
+  begun_grows (Some c) next h = let is : head c [] ≡ next = cc in subst (Grows begin) is (record { count = refl; within = λ _. omega arith })
+
+  queue_grows : (c : Counts) (qs : List QueueShape) (o : Option QueueShape) (next : Stage X) → length qs < 64 → with_queue n c qs o ≡ Ok next → Grows (head c qs) next
+  queue_grows c qs None next room h = cc
+  queue_grows c qs (Some q) next room h =
+    let is : head c (qs ++ q ∷ []) ≡ next = cc in
+    let more = length-append qs (q ∷ []) in
+    subst (Grows (head c qs)) is (record { count = omega arith; within = λ _. omega arith })
+
+  queue_line_grows : (c : Counts) (qs : List QueueShape) (line : List ℕ) (next : Stage X) (b : Bool) → nat_le 64 (length qs) ≡ b
+      → (if b then Err (refusal.BadShape n) else with_queue n c qs (k.queue_of line)) ≡ Ok next → Grows (head c qs) next
+  queue_line_grows c qs line next true full h = cc
+  queue_line_grows c qs line next false full h = queue_grows c qs (k.queue_of line) next (grind (arith, nat_tests)) h
+
+  item_grows : (s : Layout) (xs : List X) (x : X) (next : Stage X) (b : Bool) → length xs < 1000000 → (if b then Ok (body s (xs ++ x ∷ [])) else Err (refusal.NoSuchId n)) ≡ Ok next → Grows (body s xs) next
+  item_grows s xs x next true room h =
+    let is : body s (xs ++ x ∷ []) ≡ next = cc in
+    let more = length-append xs (x ∷ []) in
+    subst (Grows (body s xs)) is (record { count = omega arith; within = λ w. (w.0, omega arith) })
+  item_grows s xs x next false room h = cc
+
+  with_item_grows : (s : Layout) (xs : List X) (o : Option X) (next : Stage X) → length xs < 1000000 → with_item k n s xs o ≡ Ok next → Grows (body s xs) next
+  with_item_grows s xs None next room h = cc
+  with_item_grows s xs (Some x) next room h = item_grows s xs x next (k.fits_in s x) room h
+
+  item_line_if : (s : Layout) (xs : List X) (line : List ℕ) (next : Stage X) (b : Bool) → nat_le 1000000 (length xs) ≡ b
+      → (if b then Err refusal.TooLong else with_item k n s xs (k.item_of line)) ≡ Ok next → Grows (body s xs) next
+  item_line_if s xs line next true full h = cc
+  item_line_if s xs line next false full h = with_item_grows s xs (k.item_of line) next (grind (arith, nat_tests)) h
+
+  item_line_grows : (s : Layout) (xs : List X) (line : List ℕ) (next : Stage X) → item_line k n s xs line ≡ Ok next → Grows (body s xs) next
+  unfolding item_line
+  item_line_grows s xs line next h = item_line_if s xs line next (nat_le 1000000 (length xs)) refl h
+
+  first_grows : (c : Counts) (qs : List QueueShape) (line : List ℕ) (next : Stage X) (b : Bool) → first_item k n (if b then Some (layout_of c qs) else None) line ≡ Ok next → Grows (head c qs) next
+  first_grows c qs line next true h =
+    let g = item_line_grows (layout_of c qs) [] line next h in
+    record { count = let more = g.count in omega arith; within = λ w. g.within (w, omega arith) }
+  first_grows c qs line next false h = cc
+
+  head_grows : (c : Counts) (qs : List QueueShape) (line : List ℕ) (next : Stage X) (b : Bool) → (if b then queue_line k n c qs line else first_item k n (shape_made c qs) line) ≡ Ok next → Grows (head c qs) next
+  head_grows c qs line next true h = queue_line_grows c qs line next (nat_le 64 (length qs)) refl h
+  head_grows c qs line next false h = first_grows c qs line next (is_layout (layout_of c qs)) h
+
+  pub line_grows : (stage next : Stage X) (line : List ℕ) → after_line k n stage line ≡ Ok next → Grows stage next
+  unfolding after_line after_head
+  line_grows begin next line h = begun_grows (counts_of line) next h
+  line_grows (head c qs) next line h = head_grows c qs line next (begins_queue line) h
+  line_grows (body s xs) next line h = item_line_grows s xs line next h
+
+-- ---- the answers of the reader
+
+module _ {X : Type 0} (k : Kind X) (n : ℕ) (stage : Stage X) where
+  fails_on : (e : Refusal) (r : Result (Stage X) Refusal) (f : Stage X → Result (File X) Refusal) → Refuses e r → Fails e (and_then f r)
+  fails_on refusal.NoMemory r f h = tt
+  fails_on refusal.ReadFault r f h = tt
+  fails_on refusal.WriteFault r f h = absurd h
+  fails_on refusal.TooLong r f h = ap (and_then f) h
+  fails_on (refusal.BadLine m) r f h = ap (and_then f) h
+  fails_on (refusal.BadShape m) r f h = ap (and_then f) h
+  fails_on (refusal.NoSuchId m) r f h = ap (and_then f) h
+
+  pub whole_goes : (old before after : Option (List ℕ)) (line : List ℕ) (next : Stage X) → SameRead k old before n stage → TakesKnownLine before after Whole line → after_line k n stage line ≡ Ok next
+      → SameRead k old after (n + 1) next
+  whole_goes None before after line next h t e = tt
+  whole_goes (Some text) None after line next h t e = absurd h
+  whole_goes (Some text) (Some b) None line next h t e = absurd t
+  whole_goes (Some text) (Some b) (Some a) line next h t e = h ∙ text_whole k n stage b a line t ∙ ap (and_then (λ st. after_text k (n + 1) st a)) e
+
+  pub whole_fails : (old before after : Option (List ℕ)) (line : List ℕ) (e : Refusal) → SameRead k old before n stage → TakesKnownLine before after Whole line → Refuses e (after_line k n stage line)
+      → IfSome old (λ text. Fails e (file_of k text))
+  whole_fails None before after line e h t f = tt
+  whole_fails (Some text) None after line e h t f = absurd h
+  whole_fails (Some text) (Some b) None line e h t f = absurd t
+  whole_fails (Some text) (Some b) (Some a) line e h t f =
+    subst (Fails e) (sym (h ∙ text_whole k n stage b a line t)) (fails_on e (after_line k n stage line) (λ st. after_text k (n + 1) st a) f)
+
+  pub long_fails : (old before after : Option (List ℕ)) (line : List ℕ) → SameRead k old before n stage → TakesKnownLine before after Long line → IfSome old (λ text. file_of k text ≡ Err refusal.TooLong)
+  long_fails None before after line h t = tt
+  long_fails (Some text) None after line h t = absurd h
+  long_fails (Some text) (Some b) None line h t = absurd t
+  long_fails (Some text) (Some b) (Some a) line h t = h ∙ text_long k n stage b a line t
+
+  is_cut : (stage : Stage X) (r : Result (File X) Refusal) → r ≡ Err (after_cut n stage) → Fails (after_cut n stage) r
+  unfolding after_cut
+  is_cut begin r h = h
+  is_cut (head c qs) r h = h
+  is_cut (body s xs) r h = by_full (nat_le 1000000 (length xs)) h
+    where
+      by_full : (b : Bool) → r ≡ Err (if b then refusal.TooLong else refusal.BadLine n) → Fails (if b then refusal.TooLong else refusal.BadLine n) r
+      by_full true h = h
+      by_full false h = h
+
+  pub cut_fails : (old before after : Option (List ℕ)) (line : List ℕ) (e : Refusal) → SameRead k old before n stage → TakesKnownLine before after Cut line → e ≡ after_cut n stage → IfSome old (λ text. Fails e (file_of k text))
+  cut_fails None before after line e h t is = tt
+  cut_fails (Some text) None after line e h t is = absurd h
+  cut_fails (Some text) (Some b) None line e h t is = absurd t
+  cut_fails (Some text) (Some b) (Some a) line e h t is = subst (λ r. Fails r (file_of k text)) (sym is) (is_cut stage (file_of k text) (h ∙ text_cut k n stage b a line t))
+
+  refuses_fails : {Z : Type 0} (e : Refusal) (r : Result Z Refusal) → Refuses e r → Fails e r
+  refuses_fails refusal.NoMemory r h = h
+  refuses_fails refusal.ReadFault r h = tt
+  refuses_fails refusal.WriteFault r h = h
+  refuses_fails refusal.TooLong r h = h
+  refuses_fails (refusal.BadLine m) r h = h
+  refuses_fails (refusal.BadShape m) r h = h
+  refuses_fails (refusal.NoSuchId m) r h = h
+
+  makes_gives : {Y Z : Type 0} (view : Y → Z) (r : Result Y Refusal) (read : Result Z Refusal) → Makes view r read → Gives view r read
+  makes_gives view (Ok y) read h = h
+  makes_gives view (Err e) read h = refuses_fails e read h
+
+  pub end_gives : {Y : Type 0} (view : Y → File X) (r : Result Y Refusal) (old before after : Option (List ℕ)) (line : List ℕ) → SameRead k old before n stage → TakesKnownLine before after End line → Makes view r (at_end stage)
+      → IfSome old (λ text. Gives view r (file_of k text))
+  end_gives view r None before after line h t g = tt
+  end_gives view r (Some text) None after line h t g = absurd h
+  end_gives view r (Some text) (Some b) None line h t g = absurd t
+  end_gives view r (Some text) (Some b) (Some a) line h t g = makes_gives view r (file_of k text) (subst (Makes view r) (sym (h ∙ text_end k n stage b a line t)) g)
+
+-- only the source's own failure is a read fault
+pub refuses_no_fault : {Y : Type 0} (e : Refusal) (r : Result Y Refusal) → Refuses e r → e ≡ refusal.ReadFault → ⊥
+refuses_no_fault refusal.NoMemory r h is = cc
+refuses_no_fault refusal.ReadFault r h is = h
+refuses_no_fault refusal.WriteFault r h is = h
+refuses_no_fault refusal.TooLong r h is = cc
+refuses_no_fault (refusal.BadLine m) r h is = cc
+refuses_no_fault (refusal.BadShape m) r h is = cc
+refuses_no_fault (refusal.NoSuchId m) r h is = cc
+
+cut_is_no_fault : {X : Type 0} (n : ℕ) (stage : Stage X) → after_cut n stage ≡ refusal.ReadFault → ⊥
+unfolding after_cut
+cut_is_no_fault n begin h = cc
+cut_is_no_fault n (head c qs) h = cc
+cut_is_no_fault n (body s xs) h = by_full (nat_le 1000000 (length xs)) h
+    where
+      by_full : (b : Bool) → (if b then refusal.TooLong else refusal.BadLine n) ≡ refusal.ReadFault → ⊥
+      by_full true h = cc
+      by_full false h = cc
+
+pub cut_no_fault : {X Z : Type 0} (n : ℕ) (stage : Stage X) (e : Refusal) (r : Result Z Refusal) → e ≡ after_cut n stage → r ≡ Err e → r ≡ Err refusal.ReadFault → ⊥
+cut_no_fault n stage e r is made fault = cut_is_no_fault n stage (let same : after_cut n stage ≡ refusal.ReadFault = cc in same)
+
+pub makes_no_fault : {Y Z : Type 0} (view : Y → Z) (r : Result Y Refusal) (read : Result Z Refusal) → Makes view r read → r ≡ Err refusal.ReadFault → ⊥
+makes_no_fault view (Ok y) read h is = cc
+makes_no_fault view (Err e) read h is = refuses_no_fault e read h (let same : e ≡ refusal.ReadFault = cc in same)
+
+-- a file has no more lines than a reader's stage
+few_without : {X : Type 0} (o : Option Layout) (f : File X) → without_items o ≡ Ok f → length f.items ≤ 1000000
+few_without None f h = cc
+few_without (Some s) f h = let is : record { layout = s; items = [] } ≡ f = cc in subst (λ (g : File _). length g.items ≤ 1000000) is (omega arith)
+
+pub end_few : {X : Type 0} (stage : Stage X) (f : File X) → IsWithin stage → at_end stage ≡ Ok f → length f.items ≤ 1000000
+unfolding at_end
+end_few begin f w h = cc
+end_few (head c qs) f w h = few_without (shape_made c qs) f h
+end_few (body s xs) f w h = let is : record { layout = s; items = xs } ≡ f = cc in subst (λ (g : File _). length g.items ≤ 1000000) is w.1
+
+-- at the beginning nothing has been read
+pub starts : {X : Type 0} (k : Kind X) (text : Option (List ℕ)) (ahead : List ℕ) → ahead ≡ [] → SameRead k text (prepend_known ahead text) 1 begin
+unfolding file_of
+starts k None ahead none = tt
+starts k (Some text) ahead none = ap (λ bytes. after_text k 1 begin (bytes ++ text)) (sym none)
+
+pub makes_few : {X Y : Type 0} (view : Y → File X) (r : Result Y Refusal) (stage : Stage X) → IsWithin stage → Makes view r (at_end stage) → IfOk r (λ y. length (view y).items ≤ 1000000)
+makes_few view (Ok y) stage w h = end_few stage (view y) w h
+makes_few view (Err e) stage w h = tt

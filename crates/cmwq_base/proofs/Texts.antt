@@ -1,0 +1,144 @@
+-- What a text gives, by how its first line is found.
+use Rattle.std.proofs.Common.{◌≡◌, ◌+◌, ◌<◌, ◌≤◌, ◌==◌, ℕ, suc, Bool, true, false, cond, List, [], ◌∷◌, length, Result, Ok, Err, nat_lt, Option, Some, None, refl, sym, ap, ◌∙◌, arith, subst}
+use Rattle.std.specs.Prelude.{if◌then◌else◌, is_some, position}
+use Rattle.std.specs.List.{before_first, after_first, position_or_len, slice_split}
+use Rattle.std.proofs.lemmas.Bool.{ltb-true, eqb-true}
+use Rattle.std.proofs.lemmas.Bool.Decides.{nat_tests}
+use Rattle.std.proofs.lemmas.List.{take_all}
+use Rattle.std.proofs.lemmas.List.Splits.{slice_split_first, slice_split_none}
+use Rattle.std.proofs.lemmas.List.Sums.{fails_before_first}
+use Rattle.cmwq_io.specs.Feeds.{is_feed, has_feed}
+use Rattle.cmwq_io.specs.declared.lines.Found.{Found}
+use Rattle.cmwq_io.specs.declared.lines.Found.TheVariants.{Whole, Cut, Long, End}
+use Rattle.cmwq_io.specs.FirstLine.{first_line, after_line as rest_of, is_long as is_text_long, found, given, left_over, TakesLine}
+use Rattle.cmwq_base.specs.declared.refusal.Refusal.{Refusal}
+use Rattle.cmwq_base.specs.declared.refusal.Refusal.TheVariants as refusal
+use Rattle.cmwq_base.specs.Pieces.{pieces}
+use Rattle.cmwq_base.specs.Files.{File, Stage, Kind, is_long, and_then, after_line, after_cut, at_end, after_last, after_pieces, after_text}
+
+-- ---- pieces
+
+feed_within : (text : List ℕ) (b : Bool) → nat_lt (position_or_len is_feed text) (length text) ≡ b → is_some (cond b (Some (position_or_len is_feed text)) None) ≡ b
+feed_within text true h = refl
+feed_within text false h = refl
+
+has_feed_is : (text : List ℕ) → has_feed text ≡ nat_lt (position_or_len is_feed text) (length text)
+has_feed_is text = feed_within text (nat_lt (position_or_len is_feed text) (length text)) refl
+
+-- the pieces of a text are its first line and those of the rest, where it has a line feed, and else the text alone
+pub pieces_fed : (text : List ℕ) → has_feed text ≡ true → pieces text ≡ first_line text ∷ pieces (rest_of text)
+pieces_fed text h = slice_split_first is_feed text 0 (ltb-true _ _ (sym (has_feed_is text) ∙ h))
+
+none_within : (text : List ℕ) → has_feed text ≡ false → length text ≤ position_or_len is_feed text
+none_within text h =
+    let none : nat_lt (position_or_len is_feed text) (length text) ≡ false = sym (has_feed_is text) ∙ h in
+    grind (arith, nat_tests)
+
+first_is_all : (text : List ℕ) → has_feed text ≡ false → first_line text ≡ text
+first_is_all text h = take_all (position_or_len is_feed text) text (none_within text h)
+
+pub pieces_last : (text : List ℕ) → has_feed text ≡ false → pieces text ≡ text ∷ []
+pieces_last text h =
+    let all = none_within text h in
+    slice_split_none is_feed text (λ k d less. fails_before_first is_feed text k d (omega arith))
+
+-- there is always a piece: what stands after the last line feed
+pieces_some : (text : List ℕ) → (p : List ℕ) × (ps : List (List ℕ)) × (pieces text ≡ p ∷ ps)
+pieces_some text = by_feed (has_feed text) refl
+    where
+      by_feed : (b : Bool) → has_feed text ≡ b → (p : List ℕ) × (ps : List (List ℕ)) × (pieces text ≡ p ∷ ps)
+      by_feed true h = (first_line text, pieces (rest_of text), pieces_fed text h)
+      by_feed false h = (text, [], pieces_last text h)
+
+-- ---- how the first line was found
+
+record IsWhole (text : List ℕ) : Type 0 where
+  short : is_text_long text ≡ false
+  fed : has_feed text ≡ true
+
+record IsCut (text : List ℕ) : Type 0 where
+  short : is_text_long text ≡ false
+  unfed : has_feed text ≡ false
+  some : (length text == 0) ≡ false
+
+whole_found : (a b c : Bool) → Whole ≡ (if a then Long else if b then Whole else if c then End else Cut) → (a ≡ false) × (b ≡ true)
+whole_found true b c h = cc
+whole_found false true c h = (refl, refl)
+whole_found false false true h = cc
+whole_found false false false h = cc
+
+cut_found : (a b c : Bool) → Cut ≡ (if a then Long else if b then Whole else if c then End else Cut) → (a ≡ false) × (b ≡ false) × (c ≡ false)
+cut_found true b c h = cc
+cut_found false true c h = cc
+cut_found false false true h = cc
+cut_found false false false h = (refl, refl, refl)
+
+end_found : (a b c : Bool) → End ≡ (if a then Long else if b then Whole else if c then End else Cut) → (b ≡ false) × (c ≡ true)
+end_found true b c h = cc
+end_found false true c h = cc
+end_found false false true h = (refl, refl)
+end_found false false false h = cc
+
+long_found : (a b c : Bool) → Long ≡ (if a then Long else if b then Whole else if c then End else Cut) → a ≡ true
+long_found true b c h = refl
+long_found false true c h = cc
+long_found false false true h = cc
+long_found false false false h = cc
+
+-- ---- what each gives
+
+module _ {X : Type 0} (k : Kind X) (n : ℕ) (stage : Stage X) where
+  after_first_piece : (line : List ℕ) (rest : List (List ℕ)) (p : List ℕ) (ps : List (List ℕ)) → rest ≡ p ∷ ps → is_long line ≡ false
+      → after_pieces k n stage (line ∷ rest) ≡ and_then (λ next. after_pieces k (n + 1) next rest) (after_line k n stage line)
+  unfolding after_pieces
+  after_first_piece line rest p ps h short = rw h (ap (λ b. if b then Err refusal.TooLong else and_then (λ next. after_pieces k (n + 1) next (p ∷ ps)) (after_line k n stage line)) short)
+
+  pub text_whole : (old new line : List ℕ) → TakesLine old new Whole line → after_text k n stage old ≡ and_then (λ next. after_text k (n + 1) next new) (after_line k n stage line)
+  text_whole old new line t =
+    let f = whole_found (is_text_long old) (has_feed old) (length old == 0) t.kind in
+    let is_line : line ≡ first_line old = t.bytes ∙ ap (λ b. if b then [] else first_line old) f.0 in
+    let is_rest : new ≡ rest_of old = t.rest ∙ ap (λ b. if b then old else rest_of old) f.0 in
+    let some = pieces_some (rest_of old) in
+    ap (after_pieces k n stage) (pieces_fed old f.1) ∙ after_first_piece (first_line old) (pieces (rest_of old)) some.0 some.1 some.2 f.0
+    ∙ ap (λ l. and_then (λ next. after_text k (n + 1) next (rest_of old)) (after_line k n stage l)) (sym is_line)
+    ∙ ap (λ r. and_then (λ next. after_text k (n + 1) next r) (after_line k n stage line)) (sym is_rest)
+
+  long_last : (text : List ℕ) → is_long text ≡ true → after_last n stage text ≡ Err refusal.TooLong
+  long_last [] h = cc
+  long_last (b ∷ bs) h = ap (λ c. if c then Err refusal.TooLong else Err (after_cut n stage)) h
+
+  long_piece : (line : List ℕ) (rest : List (List ℕ)) → is_long line ≡ true → after_pieces k n stage (line ∷ rest) ≡ Err refusal.TooLong
+  unfolding after_pieces
+  long_piece line [] h = long_last line h
+  long_piece line (p ∷ ps) h = ap (λ c. if c then Err refusal.TooLong else and_then (λ next. after_pieces k (n + 1) next (p ∷ ps)) (after_line k n stage line)) h
+
+  pub text_long : (old new line : List ℕ) → TakesLine old new Long line → after_text k n stage old ≡ Err refusal.TooLong
+  text_long old new line t = by_feed (has_feed old) refl
+      where
+        long : is_long (first_line old) ≡ true
+        long = long_found (is_text_long old) (has_feed old) (length old == 0) t.kind
+        by_feed : (b : Bool) → has_feed old ≡ b → after_text k n stage old ≡ Err refusal.TooLong
+        by_feed true h = ap (after_pieces k n stage) (pieces_fed old h) ∙ long_piece (first_line old) (pieces (rest_of old)) long
+        by_feed false h = ap (after_pieces k n stage) (pieces_last old h) ∙ long_piece old [] (subst (λ l. is_long l ≡ true) (first_is_all old h) long)
+
+  cut_last : (text : List ℕ) → is_long text ≡ false → (length text == 0) ≡ false → after_last n stage text ≡ Err (after_cut n stage)
+  cut_last [] h some = cc
+  cut_last (b ∷ bs) h some = ap (λ c. if c then Err refusal.TooLong else Err (after_cut n stage)) h
+
+  last_piece : (text : List ℕ) → has_feed text ≡ false → after_text k n stage text ≡ after_last n stage text
+  unfolding after_pieces
+  last_piece text h = ap (after_pieces k n stage) (pieces_last text h)
+
+  pub text_cut : (old new line : List ℕ) → TakesLine old new Cut line → after_text k n stage old ≡ Err (after_cut n stage)
+  text_cut old new line t =
+    let f = cut_found (is_text_long old) (has_feed old) (length old == 0) t.kind in
+    last_piece old f.1 ∙ cut_last old (subst (λ l. is_long l ≡ false) (first_is_all old f.1) f.0) f.2
+
+  none_last : (text : List ℕ) → (length text == 0) ≡ true → after_last n stage text ≡ at_end stage
+  none_last [] h = refl
+  none_last (b ∷ bs) h = let bad : suc (length bs) ≡ 0 = eqb-true (suc (length bs)) 0 h in absurd (omega arith)
+
+  pub text_end : (old new line : List ℕ) → TakesLine old new End line → after_text k n stage old ≡ at_end stage
+  text_end old new line t =
+    let f = end_found (is_text_long old) (has_feed old) (length old == 0) t.kind in
+    last_piece old f.0 ∙ none_last old f.1

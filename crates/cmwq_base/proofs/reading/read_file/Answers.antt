@@ -1,0 +1,57 @@
+use Rattle.std.proofs.Common.{◌≡◌, ◌+◌, ◌≤◌, refl, sym, ap, ◌∙◌, arith, rules}
+use Rattle.std.proofs.lemmas.Result.{err_from_is_err_and}
+use Rattle.cmwq_io.specs.declared.lines.Found.TheVariants.{Whole, Cut, Long, End}
+use Rattle.cmwq_base.specs.Stages.{stage_of, contents_of}
+use Rattle.cmwq_base.proofs.Progress.{found_so, starts, line_grows, whole_goes, whole_fails, long_fails, cut_fails, cut_no_fault, end_gives, makes_few}
+use Rattle.cmwq_base.proofs.reading.read_file.Goals as goal
+
+pub loop-number-init : goal.loop-number-init
+loop-number-init g c = record {
+  progress = record { same = starts g.T.FileLine.kind (g.S.Source.left c.args.source.now) _ c.in_ok-lines.ensures; count = refl; within = tt };
+  troubles = omega arith;
+}
+
+pub returns-in_err-stage-in-Whole-clause-exact : goal.returns-in_err-stage-in-Whole-clause-exact
+returns-in_err-stage-in-Whole-clause-exact g c =
+    let p = err_from_is_err_and c.from_residual-in_err-stage-in-Whole.result c.from_residual-in_err-stage-in-Whole.ensures.1 in
+    let line = found_so _ _ _ _ Whole c.in-Whole.is c.in_ok-next_line.ensures.ok in
+    rw (p.1, p.2) (whole_fails g.T.FileLine.kind c.loop-number.number (stage_of c.loop-number.stage) _ _ _ _ c.in_err-stage-in-Whole.field-0.0 c.loop-number.invariant.progress.same
+    line (rw (← c.as_slice.ensures.value) c.in_err-stage-in-Whole.ensures))
+
+pub returns-in-Long-clause-exact : goal.returns-in-Long-clause-exact
+returns-in-Long-clause-exact g c =
+    long_fails g.T.FileLine.kind _ (stage_of c.loop-number.stage) _ _ _ _ c.loop-number.invariant.progress.same
+    (found_so _ _ _ _ Long c.in-Long.is c.in_ok-next_line.ensures.ok)
+
+pub returns-in-Cut-clause-exact : goal.returns-in-Cut-clause-exact
+returns-in-Cut-clause-exact g c =
+    cut_fails g.T.FileLine.kind c.loop-number.number (stage_of c.loop-number.stage) _ _ _ _ c.cut.result c.loop-number.invariant.progress.same
+    (found_so _ _ _ _ Cut c.in-Cut.is c.in_ok-next_line.ensures.ok) c.cut.ensures
+
+pub returns-in-Cut-clause-fault : goal.returns-in-Cut-clause-fault
+returns-in-Cut-clause-fault g c = λ is. absurd (cut_no_fault c.loop-number.number (stage_of c.loop-number.stage) c.cut.result _ c.cut.ensures refl is)
+
+pub returns-in-End-clause-exact : goal.returns-in-End-clause-exact
+returns-in-End-clause-exact g c =
+    end_gives g.T.FileLine.kind c.loop-number.number (stage_of c.loop-number.stage) contents_of c.finish.result _ _ _ _ c.loop-number.invariant.progress.same
+    (found_so _ _ _ _ End c.in-End.is c.in_ok-next_line.ensures.ok) c.finish.ensures
+
+pub returns-in-End-clause-few : goal.returns-in-End-clause-few
+returns-in-End-clause-few g c = makes_few contents_of c.finish.result (stage_of c.loop-number.stage) c.loop-number.invariant.progress.within c.finish.ensures
+
+pub loop-number-preserved : goal.loop-number-preserved
+loop-number-preserved g c =
+    let stage = stage_of c.loop-number.stage in
+    let next = stage_of c.in_ok-stage-in-Whole.stage in
+    let taken = rw c.as_slice.ensures.value at c.in_ok-stage-in-Whole.ensures in
+    let grows = line_grows g.T.FileLine.kind c.loop-number.number stage next _ taken in
+    let before = c.loop-number.invariant.progress in
+    let line = found_so _ _ _ _ Whole c.in-Whole.is c.in_ok-next_line.ensures.ok in
+    record {
+      progress = record {
+        same = whole_goes g.T.FileLine.kind c.loop-number.number stage _ _ _ _ next before.same line taken;
+        count = omega (arith, grows.count, before.count);
+        within = grows.within before.within;
+      };
+      troubles = omega (arith, c.loop-number.invariant.troubles, c.in_ok-next_line.ensures.grown);
+    }

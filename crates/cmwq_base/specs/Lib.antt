@@ -1,0 +1,4 @@
+pub mod Pieces
+pub mod Files
+pub mod Gives
+pub mod Stages
