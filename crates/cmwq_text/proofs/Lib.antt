@@ -10,3 +10,5 @@ pub mod RowLaws
 pub mod PhraseLaws
 pub mod CallLaws
 pub mod ReplyLaws
+pub mod LineLaws
+pub mod EntryLaws
