@@ -12,3 +12,4 @@ pub mod CallLaws
 pub mod ReplyLaws
 pub mod LineLaws
 pub mod EntryLaws
+pub mod ShapeLaws
