@@ -10,3 +10,6 @@ pub mod RowLaws
 pub mod PhraseLaws
 pub mod CallLaws
 pub mod ReplyLaws
+pub mod LineLaws
+pub mod EntryLaws
+pub mod ShapeLaws

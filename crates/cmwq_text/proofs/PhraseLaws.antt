@@ -12,7 +12,7 @@ use Rattle.cmwq_text.specs.CallText.{phrase}
 use Rattle.cmwq_text.proofs.WordLaws.{is_plain, are_plain, and_true, is_plain-decimal}
 use Rattle.cmwq_text.proofs.KeywordLaws.{is_plain-text}
 
-numbers_are_plain : (ns : List ℕ) → AllByRecursion (λ n. n < 2 ^ 64) ns → are_plain (map decimal ns) ≡ true
+pub numbers_are_plain : (ns : List ℕ) → AllByRecursion (λ n. n < 2 ^ 64) ns → are_plain (map decimal ns) ≡ true
 numbers_are_plain [] h = refl
 numbers_are_plain (n ∷ ns) h = and_true (is_plain (decimal n)) (are_plain (map decimal ns)) (is_plain-decimal n h.0) (numbers_are_plain ns h.1)
 

@@ -1,0 +1,138 @@
+-- Lines of calls and of entries.
+use Rattle.std.proofs.Common.{◌≡◌, ℕ, ◌+◌, ◌<◌, ◌≤◌, ◌^◌, Bool, true, false, ◌&&◌, List, [], ◌∷◌, ◌++◌, length, Option, Some, None, refl, ap, sym, ◌∙◌, arith, cond, subst, append_assoc}
+use Rattle.std.specs.Prelude.{if◌then◌else◌, codes}
+use Rattle.std.specs.Fmt.{decimal}
+use Rattle.std.proofs.lemmas.Option.{same_Some}
+use Rattle.std.proofs.lemmas.List.{append-nil, length-append}
+use Rattle.cmwq_model.specs.declared.id.Who.{Who}
+use Rattle.cmwq_model.specs.declared.id.Who.TheVariants.{Caller, Worker}
+use Rattle.cmwq_model.specs.declared.call.Call.{Call}
+use Rattle.cmwq_model.specs.declared.reply.Reply.{Reply}
+use Rattle.cmwq_model.specs.declared.entry.Entry.{Entry}
+use Rattle.cmwq_model.specs.Layout.{Layout, is_layout, may_make, has_numbers, fits}
+use Rattle.cmwq_text.specs.Words.{◌>>=◌, words_of, joined, line_text, is_end, after, number_in}
+use Rattle.cmwq_text.specs.IdText.{who_text, who_in}
+use Rattle.cmwq_text.specs.CallText.{call_words, call_text, call_in, is_of_kind, call_of}
+use Rattle.cmwq_text.specs.ReplyText.{reply_words, reply_in, reply_fits}
+use Rattle.cmwq_text.specs.EntryText.{entry_words, entry_text, entry_of, entry_fits}
+use Rattle.cmwq_text.specs.Ranges.{IsWho, IsCall, IsReply, IsEntry}
+use Rattle.cmwq_text.specs.Laws.{IsLineOf, CallsReadAgain, EntriesReadAgain, CallsSpelledSo, EntriesSpelledSo, EntriesStandApart}
+use Rattle.cmwq_text.proofs.Steps.{bind_some, chosen, both}
+use Rattle.cmwq_text.proofs.WordLaws.{is_plain, are_plain, and_true, are_plain-append, is_plain-decimal, words_again, after_takes}
+use Rattle.cmwq_text.proofs.IdLaws.{who_again, who_takes, is_plain-who, number_in_again, number_in_takes}
+use Rattle.cmwq_text.proofs.CallLaws.{call_again, call_takes, call_is_plain, call_is_short}
+use Rattle.cmwq_text.proofs.ReplyLaws.{reply_again, reply_takes, reply_is_plain, reply_is_short}
+use Rattle.cmwq_text.proofs.PhraseLaws.{size, size-append, line_len, byte_len, number_len}
+use Rattle.cmwq_text.proofs.LineLaws.{line_words, line_is, no_more, lines_apart, layout_is_small, known_who, known_call, known_reply}
+
+call_again_alone : (c : Call) → IsCall c → call_in (call_words c) ≡ Some (c, [])
+call_again_alone c h = ap call_in (sym (append-nil (call_words c))) ∙ call_again c [] h
+
+-- ---- lines of calls
+
+abbrev call_from : List (List ℕ) → Option (Who × Call)
+call_from ws = do
+  who ← who_in ws
+  c ← call_in who.1
+  if is_end c.1 && is_of_kind who.0 c.0 then Some (who.0, c.0) else None
+
+call_line_is_plain : (who : Who) (c : Call) → IsWho who → IsCall c → are_plain (who_text who ∷ call_words c) ≡ true
+call_line_is_plain who c h k = and_true (is_plain (who_text who)) (are_plain (call_words c)) (is_plain-who who h) (call_is_plain c k)
+
+pub calls_read_again : CallsReadAgain
+unfolding call_text call_of
+calls_read_again who c line h k kind e =
+    let words : words_of line ≡ who_text who ∷ call_words c = line_words (who_text who) (call_words c) line (call_line_is_plain who c h k) e in
+    ap call_from words ∙ rw (who_again who h, call_again_alone c k, kind) refl
+
+same_words : (v w : Who) (c d : Call) (rest : List (List ℕ)) → v ≡ w → c ≡ d → rest ≡ [] → who_text v ∷ (call_words c ++ rest) ≡ who_text w ∷ call_words d
+same_words v w c d rest p q e = rw (p, q, e) (ap (λ (t : List (List ℕ)). who_text w ∷ t) (append-nil (call_words d)))
+
+pub calls_spelled_so : CallsSpelledSo
+unfolding call_text call_of
+calls_spelled_so s who c line small fit is =
+    let a = bind_some (who_in (words_of line)) (λ (a : Who × List (List ℕ)). call_in a.1 >>= λ (b : Call × List (List ℕ)). cond (is_end b.1 && is_of_kind a.0 b.0) (Some (a.0, b.0)) None) (who, c) is in
+    let b = bind_some (call_in a.0.1) (λ (b : Call × List (List ℕ)). cond (is_end b.1 && is_of_kind a.0.0 b.0) (Some (a.0.0, b.0)) None) (who, c) a.2 in
+    let found = chosen (is_end b.0.1 && is_of_kind a.0.0 b.0.0) (Some (a.0.0, b.0.0)) (who, c) b.2 in
+    let same : (a.0.0, b.0.0) ≡ (who, c) = same_Some _ _ found.1 in
+    let who-is : a.0.0 ≡ who = ap (λ (x : Who × Call). x.0) same in
+    let call-is : b.0.0 ≡ c = ap (λ (x : Who × Call). x.1) same in
+    let inside = both (may_make s who c) (has_numbers s c) fit in
+    let limits = layout_is_small s small in
+    let first : words_of line ≡ who_text a.0.0 ∷ a.0.1 = who_takes (words_of line) a.0 a.1 (rw who-is (known_who s who c limits inside.0)) in
+    let second : a.0.1 ≡ call_words b.0.0 ++ b.0.1 = call_takes a.0.1 b.0 b.1 (rw call-is (known_call s c limits inside.1)) in
+    line_is line (who_text who ∷ call_words c)
+    (first ∙ ap (λ (t : List (List ℕ)). who_text a.0.0 ∷ t) second ∙ same_words a.0.0 who b.0.0 c b.0.1 who-is call-is (no_more b.0.1 (both _ _ found.0).0))
+
+-- ---- lines of entries
+
+abbrev entry_at_end : Who → ℕ → Call → Reply × List (List ℕ) → Option Entry
+entry_at_end who serial c r = cond (is_end r.1 && is_of_kind who c) (Some (record { who = who; serial = serial; call = c; reply = r.0 })) None
+
+abbrev entry_after_equals : Who → ℕ → Call → List (List ℕ) → Option Entry
+entry_after_equals who serial c ws = reply_in ws >>= entry_at_end who serial c
+
+abbrev entry_after_call : Who → ℕ → Call × List (List ℕ) → Option Entry
+entry_after_call who serial c = after (codes "=") c.1 >>= entry_after_equals who serial c.0
+
+abbrev entry_after_serial : Who → ℕ × List (List ℕ) → Option Entry
+entry_after_serial who n = call_in n.1 >>= entry_after_call who n.0
+
+abbrev entry_after_who : Who × List (List ℕ) → Option Entry
+entry_after_who who = number_in who.1 >>= entry_after_serial who.0
+
+abbrev entry_from : List (List ℕ) → Option Entry
+entry_from ws = who_in ws >>= entry_after_who
+
+entry_is_plain : (e : Entry) → IsEntry e → are_plain (entry_words e) ≡ true
+entry_is_plain e h =
+    let answer : List (List ℕ) = (61 ∷ []) ∷ reply_words e.reply in
+    let behind : List (List ℕ) = call_words e.call ++ answer in
+    and_true (is_plain (who_text e.who)) (are_plain (decimal e.serial ∷ behind)) (is_plain-who e.who h.who)
+    (and_true (is_plain (decimal e.serial)) (are_plain behind) (is_plain-decimal e.serial (omega (arith, h.serial)))
+    (are_plain-append (call_words e.call) answer (call_is_plain e.call h.call) (reply_is_plain e.reply h.reply)))
+
+pub entries_read_again : EntriesReadAgain
+unfolding entry_text entry_of
+entries_read_again e line h kind is =
+    let answer : List (List ℕ) = (61 ∷ []) ∷ reply_words e.reply in
+    let words : words_of line ≡ entry_words e = line_words (who_text e.who) (decimal e.serial ∷ (call_words e.call ++ answer)) line (entry_is_plain e h) is in
+    ap entry_from words ∙ rw (who_again e.who h.who, number_in_again e.serial (call_words e.call ++ answer) h.serial, call_again e.call answer h.call, reply_again e.reply h.reply, kind) refl
+
+-- the parts of an entry's words, one behind the other
+entry_pieces : (ws a b c d rest : List (List ℕ)) (e : Entry) → ws ≡ who_text e.who ∷ a → a ≡ decimal e.serial ∷ b → b ≡ call_words e.call ++ c → c ≡ (61 ∷ []) ∷ d → d ≡ reply_words e.reply ++ rest → rest ≡ [] → ws ≡ entry_words e
+entry_pieces ws a b c d rest e who serial call equals reply ended =
+    let last : d ≡ reply_words e.reply = reply ∙ ap (λ (t : List (List ℕ)). reply_words e.reply ++ t) ended ∙ append-nil (reply_words e.reply) in
+    rw (who, serial, call, equals, last) refl
+
+pub entries_spelled_so : EntriesSpelledSo
+unfolding entry_text entry_of
+entries_spelled_so s e line small fit is =
+    let who = bind_some (who_in (words_of line)) entry_after_who e is in
+    let serial = bind_some (number_in who.0.1) (entry_after_serial who.0.0) e who.2 in
+    let c = bind_some (call_in serial.0.1) (entry_after_call who.0.0 serial.0.0) e serial.2 in
+    let answer = bind_some (after (codes "=") c.0.1) (entry_after_equals who.0.0 serial.0.0 c.0.0) e c.2 in
+    let r = bind_some (reply_in answer.0) (entry_at_end who.0.0 serial.0.0 c.0.0) e answer.2 in
+    let made : Entry = record { who = who.0.0; serial = serial.0.0; call = c.0.0; reply = r.0.0 } in
+    let found = chosen (is_end r.0.1 && is_of_kind who.0.0 c.0.0) (Some made) e r.2 in
+    let same : made ≡ e = same_Some _ _ found.1 in
+    let fit_made : entry_fits s made ≡ true = ap (entry_fits s) same ∙ fit in
+    let outer = both (fits s who.0.0 c.0.0) (reply_fits s r.0.0) fit_made in
+    let inner = both (may_make s who.0.0 c.0.0) (has_numbers s c.0.0) outer.0 in
+    let limits = layout_is_small s small in
+    let ended : r.0.1 ≡ [] = no_more r.0.1 (both (is_end r.0.1) (is_of_kind who.0.0 c.0.0) found.0).0 in
+    let who_part : words_of line ≡ who_text who.0.0 ∷ who.0.1 = who_takes (words_of line) who.0 who.1 (known_who s who.0.0 c.0.0 limits inner.0) in
+    let serial_part : who.0.1 ≡ decimal serial.0.0 ∷ serial.0.1 = number_in_takes who.0.1 serial.0 serial.1 in
+    let call_part : serial.0.1 ≡ call_words c.0.0 ++ c.0.1 = call_takes serial.0.1 c.0 c.1 (known_call s c.0.0 limits inner.1) in
+    let equals_part : c.0.1 ≡ (61 ∷ []) ∷ answer.0 = after_takes (codes "=") c.0.1 answer.0 answer.1 in
+    let reply_part : answer.0 ≡ reply_words r.0.0 ++ r.0.1 = reply_takes answer.0 r.0 r.1 (known_reply s r.0.0 limits outer.1) in
+    let parts : words_of line ≡ entry_words made = entry_pieces (words_of line) who.0.1 serial.0.1 c.0.1 answer.0 r.0.1 made who_part serial_part call_part equals_part reply_part ended in
+    line_is line (entry_words e) (parts ∙ ap entry_words same)
+
+pub entries_stand_apart : EntriesStandApart
+unfolding entry_text
+entries_stand_apart e f rest h k kind_e kind_f is =
+    let apart = lines_apart (entry_words f) (entry_words e) rest (entry_is_plain f k) (entry_is_plain e h) is in
+    let e-read : entry_of (joined (entry_words e)) ≡ Some e = entries_read_again e (joined (entry_words e)) h kind_e refl in
+    let f-read : entry_of (joined (entry_words f)) ≡ Some f = entries_read_again f (joined (entry_words f)) k kind_f refl in
+    (same_Some e f (sym e-read ∙ ap entry_of (sym apart.0) ∙ f-read), apart.1)

@@ -1,0 +1,234 @@
+-- Shape lines and lines of queues, and how long lines are.
+use Rattle.std.proofs.Common.{◌≡◌, ℕ, ◌+◌, ◌<◌, ◌≤◌, ◌^◌, Bool, true, false, ◌&&◌, List, [], ◌∷◌, ◌++◌, length, eqb, leb, min, Option, Some, None, refl, ap, sym, ◌∙◌, arith, cond, subst, append_assoc, ◌⊎◌, inl, inr}
+use Rattle.std.specs.Prelude.{codes, IsTrue}
+use Rattle.std.specs.Fmt.{decimal}
+use Rattle.std.specs.Str.{bytes_eq}
+use Rattle.std.proofs.lemmas.Bool.{leb-true, le-leb, ne_eqb}
+use Rattle.std.proofs.lemmas.Option.{same_Some}
+use Rattle.std.proofs.lemmas.Slice.Eq.{bytes_eq-Decides}
+use Rattle.std.proofs.lemmas.List.{append-nil, length-append}
+use Rattle.cmwq_model.specs.declared.id.Who.{Who}
+use Rattle.cmwq_model.specs.declared.id.Who.TheVariants.{Caller, Worker}
+use Rattle.cmwq_model.specs.declared.call.Call.{Call}
+use Rattle.cmwq_model.specs.declared.entry.Entry.{Entry}
+use Rattle.cmwq_model.specs.declared.shape.Counts.{Counts}
+use Rattle.cmwq_model.specs.declared.shape.QueueShape.{QueueShape}
+use Rattle.cmwq_model.specs.Layout.{are_counts, is_between, is_queue}
+use Rattle.cmwq_text.specs.declared.shape.Flags.{Flags}
+use Rattle.cmwq_text.specs.declared.shape.QueueLine.{QueueLine}
+use Rattle.cmwq_text.specs.Words.{◌>>=◌, words_of, joined, line_text, is_end, after, word_in, byte_in, short_in, number_in}
+use Rattle.cmwq_text.specs.IdText.{who_text, pool_letter}
+use Rattle.cmwq_text.specs.CallText.{call_words, call_text}
+use Rattle.cmwq_text.specs.ReplyText.{reply_words}
+use Rattle.cmwq_text.specs.EntryText.{entry_words, entry_text}
+use Rattle.cmwq_text.specs.ShapeText.{counts_words, counts_text, counts_of, flags, flags_text, flags_of, queue_words, queue_text, queue_line_of, queue_with, width_taken, queue_of_calls, queue_of_history}
+use Rattle.cmwq_text.specs.Ranges.{IsWho, IsCall, IsEntry}
+use Rattle.cmwq_text.specs.Laws.{IsLineOf, CountsReadAgain, QueuesReadAgain, CountsSpelledSo, QueuesSpelledSo, LinesAreShort}
+use Rattle.cmwq_text.proofs.Steps.{bind_some, chosen, both}
+use Rattle.cmwq_text.proofs.NumberLaws.{short_again}
+use Rattle.cmwq_text.proofs.WordLaws.{is_plain, are_plain, and_true, is_plain-decimal, after_takes, word_takes}
+use Rattle.cmwq_text.proofs.IdLaws.{byte_in_again, number_in_again, byte_in_takes, short_in_takes, number_in_takes}
+use Rattle.cmwq_text.proofs.CallLaws.{call_is_short}
+use Rattle.cmwq_text.proofs.ReplyLaws.{reply_is_short}
+use Rattle.cmwq_text.proofs.PhraseLaws.{numbers_are_plain, size, size-append, line_len, byte_len, short_len, number_len}
+use Rattle.cmwq_text.proofs.LineLaws.{line_words, line_is, no_more, counts_are_small}
+
+short_in_again : (n : ℕ) (ws : List (List ℕ)) → n ≤ 65535 → short_in (decimal n ∷ ws) ≡ Some (n, ws)
+short_in_again n ws le = rw (short_again n le) refl
+
+abbrev counts_tested : Counts → List (List ℕ) → Option Counts
+counts_tested n ws = cond (is_end ws && are_counts n.cpus n.workers n.callers n.items n.room) (Some n) None
+
+abbrev counts_after_items : ℕ → ℕ → ℕ → ℕ × List (List ℕ) → Option Counts
+counts_after_items cpus workers callers i = number_in i.1 >>= λ room. counts_tested (record { cpus = cpus; workers = workers; callers = callers; items = i.0; room = room.0 }) room.1
+
+abbrev counts_after_callers : ℕ → ℕ → ℕ × List (List ℕ) → Option Counts
+counts_after_callers cpus workers c = short_in c.1 >>= counts_after_items cpus workers c.0
+
+abbrev counts_after_workers : ℕ → ℕ × List (List ℕ) → Option Counts
+counts_after_workers cpus w = byte_in w.1 >>= counts_after_callers cpus w.0
+
+abbrev counts_after_cpus : ℕ × List (List ℕ) → Option Counts
+counts_after_cpus c = byte_in c.1 >>= counts_after_workers c.0
+
+abbrev counts_from : List (List ℕ) → Option Counts
+counts_from ws = after (codes "shape") ws >>= λ rest. byte_in rest >>= counts_after_cpus
+
+pub counts_read_again : CountsReadAgain
+unfolding counts_text counts_of
+counts_read_again n line inside is =
+    let small = counts_are_small n.cpus n.workers n.callers n.items n.room inside in
+    let numbers : List ℕ = n.cpus ∷ n.workers ∷ n.callers ∷ n.items ∷ n.room ∷ [] in
+    let plain : are_plain (counts_words n) ≡ true = numbers_are_plain numbers (omega arith, (omega arith, (omega arith, (omega arith, (omega arith, tt))))) in
+    let words : words_of line ≡ counts_words n = line_words (codes "shape") (decimal n.cpus ∷ decimal n.workers ∷ decimal n.callers ∷ decimal n.items ∷ decimal n.room ∷ []) line plain is in
+    ap counts_from words
+    ∙ rw (byte_in_again n.cpus (decimal n.workers ∷ decimal n.callers ∷ decimal n.items ∷ decimal n.room ∷ []) (omega arith),
+          byte_in_again n.workers (decimal n.callers ∷ decimal n.items ∷ decimal n.room ∷ []) (omega arith),
+          byte_in_again n.callers (decimal n.items ∷ decimal n.room ∷ []) (omega arith),
+          short_in_again n.items (decimal n.room ∷ []) (omega arith),
+          number_in_again n.room [] (omega arith), inside) refl
+
+counts_pieces : (ws a b c d e rest : List (List ℕ)) (n : Counts) → ws ≡ codes "shape" ∷ a → a ≡ decimal n.cpus ∷ b → b ≡ decimal n.workers ∷ c → c ≡ decimal n.callers ∷ d → d ≡ decimal n.items ∷ e → e ≡ decimal n.room ∷ rest → rest ≡ [] → ws ≡ counts_words n
+counts_pieces ws a b c d e rest n first cpus workers callers items room ended = rw (first, cpus, workers, callers, items, room, ended) refl
+
+pub counts_spelled_so : CountsSpelledSo
+unfolding counts_text counts_of
+counts_spelled_so n line is =
+    let first = bind_some (after (codes "shape") (words_of line)) (λ (rest : List (List ℕ)). byte_in rest >>= counts_after_cpus) n is in
+    let cpus = bind_some (byte_in first.0) counts_after_cpus n first.2 in
+    let workers = bind_some (byte_in cpus.0.1) (counts_after_workers cpus.0.0) n cpus.2 in
+    let callers = bind_some (byte_in workers.0.1) (counts_after_callers cpus.0.0 workers.0.0) n workers.2 in
+    let items = bind_some (short_in callers.0.1) (counts_after_items cpus.0.0 workers.0.0 callers.0.0) n callers.2 in
+    let room = bind_some (number_in items.0.1) (λ (r : ℕ × List (List ℕ)). counts_tested (record { cpus = cpus.0.0; workers = workers.0.0; callers = callers.0.0; items = items.0.0; room = r.0 }) r.1) n items.2 in
+    let made : Counts = record { cpus = cpus.0.0; workers = workers.0.0; callers = callers.0.0; items = items.0.0; room = room.0.0 } in
+    let found = chosen (is_end room.0.1 && are_counts made.cpus made.workers made.callers made.items made.room) (Some made) n room.2 in
+    let tests = both (is_end room.0.1) (are_counts made.cpus made.workers made.callers made.items made.room) found.0 in
+    let small = counts_are_small made.cpus made.workers made.callers made.items made.room tests.1 in
+    let words : words_of line ≡ counts_words made = counts_pieces (words_of line) first.0 cpus.0.1 workers.0.1 callers.0.1 items.0.1 room.0.1 made
+        (after_takes (codes "shape") (words_of line) first.0 first.1)
+        (byte_in_takes first.0 cpus.0 cpus.1 (omega arith))
+        (byte_in_takes cpus.0.1 workers.0 workers.1 (omega arith))
+        (byte_in_takes workers.0.1 callers.0 callers.1 (omega arith))
+        (short_in_takes callers.0.1 items.0 items.1 (omega arith))
+        (number_in_takes items.0.1 room.0 room.1)
+        (no_more room.0.1 tests.0) in
+    line_is line (counts_words n) (words ∙ ap counts_words (same_Some _ _ found.1))
+
+-- ---- queues
+
+flags_again : (high intensive : Bool) → flags_of (flags_text (flags high intensive)) ≡ Some (flags high intensive)
+flags_again true true = refl
+flags_again true false = refl
+flags_again false true = refl
+flags_again false false = refl
+
+flags_are_plain : (high intensive : Bool) → is_plain (flags_text (flags high intensive)) ≡ true
+flags_are_plain true true = refl
+flags_are_plain true false = refl
+flags_are_plain false true = refl
+flags_are_plain false false = refl
+
+picked : (b : Bool) (f g : Flags) (o : Option Flags) → cond b (Some f) o ≡ Some g → ((b ≡ true) × (f ≡ g)) ⊎ (o ≡ Some g)
+picked true f g o e = inl (refl, same_Some f g e)
+picked false f g o e = inr e
+
+flags_one : (w : List ℕ) (text : List ℕ) (f g : Flags) → flags_text f ≡ text → (bytes_eq w text ≡ true) × (f ≡ g) → w ≡ flags_text g
+flags_one w text f g spelled found = (bytes_eq-Decides w text).0 found.0 ∙ sym spelled ∙ ap flags_text found.1
+
+flags_takes : (w : List ℕ) (f : Flags) → flags_of w ≡ Some f → w ≡ flags_text f
+flags_takes w f e =
+    let last : Option Flags = cond (bytes_eq w (codes "hi")) (Some (flags true true)) None in
+    let third : Option Flags = cond (bytes_eq w (codes "i")) (Some (flags false true)) last in
+    let second : Option Flags = cond (bytes_eq w (codes "h")) (Some (flags true false)) third in
+    elim (picked (bytes_eq w (codes "-")) (flags false false) f second e) [
+      | inl none ↦ flags_one w (codes "-") (flags false false) f refl none
+      | inr more ↦ elim (picked (bytes_eq w (codes "h")) (flags true false) f third more) [
+        | inl high ↦ flags_one w (codes "h") (flags true false) f refl high
+        | inr more ↦ elim (picked (bytes_eq w (codes "i")) (flags false true) f last more) [
+          | inl intensive ↦ flags_one w (codes "i") (flags false true) f refl intensive
+          | inr more ↦ elim (picked (bytes_eq w (codes "hi")) (flags true true) f None more) [
+            | inl both_flags ↦ flags_one w (codes "hi") (flags true true) f refl both_flags
+            | inr none ↦ absurd cc
+          ]
+        ]
+      ]
+    ]
+
+abbrev queue_line_tested : ℕ → Flags × List (List ℕ) → Option QueueLine
+queue_line_tested width f = cond (is_end f.1) (Some (record { max_active = width; flags = f.0 })) None
+
+abbrev queue_line_after : ℕ × List (List ℕ) → Option QueueLine
+queue_line_after width = word_in flags_of width.1 >>= queue_line_tested width.0
+
+abbrev queue_line_from : List (List ℕ) → Option QueueLine
+queue_line_from ws = after (codes "wq") ws >>= λ rest. number_in rest >>= queue_line_after
+
+queue_line_again : (q : QueueShape) (line : List ℕ) → q.max_active ≤ 512 → IsLineOf (queue_text q) line → queue_line_of line ≡ Some (record { max_active = q.max_active; flags = flags q.high q.intensive })
+unfolding queue_text queue_line_of
+queue_line_again q line small is =
+    let f : List ℕ = flags_text (flags q.high q.intensive) in
+    let plain : are_plain (queue_words q) ≡ true = and_true (is_plain (decimal q.max_active)) (are_plain (f ∷ [])) (is_plain-decimal q.max_active (omega arith)) (and_true (is_plain f) true (flags_are_plain q.high q.intensive) refl) in
+    let words : words_of line ≡ queue_words q = line_words (codes "wq") (decimal q.max_active ∷ f ∷ []) line plain is in
+    ap queue_line_from words ∙ rw (number_in_again q.max_active (f ∷ []) (omega arith), flags_again q.high q.intensive) refl
+
+width_kept : (n : ℕ) → 1 ≤ n → n ≤ 512 → width_taken n ≡ n
+width_kept n some small =
+    let other : eqb n 0 ≡ false = ne_eqb n 0 (λ same. absurd (omega (arith, same))) in
+    let least : min n 512 ≡ n = omega arith in
+    rw (other, least) refl
+
+pub queues_read_again : QueuesReadAgain
+unfolding queue_of_calls queue_of_history
+queues_read_again q line inside is =
+    let limits = both (leb 1 q.max_active) (leb q.max_active 512) inside in
+    let some : 1 ≤ q.max_active = leb-true 1 q.max_active limits.0 in
+    let small : q.max_active ≤ 512 = leb-true q.max_active 512 limits.1 in
+    let read = queue_line_again q line small is in
+    (rw (read, width_kept q.max_active some small) refl, rw (read, inside) refl)
+
+queue_pieces : (ws a b rest : List (List ℕ)) (l : QueueLine) (f : List ℕ) → ws ≡ codes "wq" ∷ a → a ≡ decimal l.max_active ∷ b → b ≡ f ∷ rest → f ≡ flags_text l.flags → rest ≡ [] → ws ≡ codes "wq" ∷ decimal l.max_active ∷ flags_text l.flags ∷ []
+queue_pieces ws a b rest l f first width word spelled ended = rw (first, width, word, spelled, ended) refl
+
+queue_line_takes : (line : List ℕ) (l : QueueLine) → queue_line_of line ≡ Some l → words_of line ≡ codes "wq" ∷ decimal l.max_active ∷ flags_text l.flags ∷ []
+unfolding queue_line_of
+queue_line_takes line l e =
+    let first = bind_some (after (codes "wq") (words_of line)) (λ (rest : List (List ℕ)). number_in rest >>= queue_line_after) l e in
+    let width = bind_some (number_in first.0) queue_line_after l first.2 in
+    let f = bind_some (word_in flags_of width.0.1) (queue_line_tested width.0.0) l width.2 in
+    let made : QueueLine = record { max_active = width.0.0; flags = f.0.0 } in
+    let found = chosen (is_end f.0.1) (Some made) l f.2 in
+    let word = word_takes flags_of width.0.1 f.0 f.1 in
+    let words = queue_pieces (words_of line) first.0 width.0.1 f.0.1 made word.0
+        (after_takes (codes "wq") (words_of line) first.0 first.1)
+        (number_in_takes first.0 width.0 width.1)
+        word.1 (flags_takes word.0 f.0.0 word.2) (no_more f.0.1 found.0) in
+    subst (λ (k : QueueLine). words_of line ≡ codes "wq" ∷ decimal k.max_active ∷ flags_text k.flags ∷ []) (same_Some made l found.1) words
+
+pub queues_spelled_so : QueuesSpelledSo
+unfolding queue_text queue_of_history
+queues_spelled_so q line is =
+    let l = bind_some (queue_line_of line) (λ (l : QueueLine). cond (is_between 1 512 l.max_active) (Some (queue_with l.max_active l.flags)) None) q is in
+    let found = chosen (is_between 1 512 l.0.max_active) (Some (queue_with l.0.max_active l.0.flags)) q l.2 in
+    let words : words_of line ≡ queue_words (queue_with l.0.max_active l.0.flags) = queue_line_takes line l.0 l.1 in
+    line_is line (queue_words q) (words ∙ ap queue_words (same_Some _ _ found.1))
+
+-- ---- how long lines are
+
+who_is_short : (who : Who) → IsWho who → length (who_text who) ≤ 8
+who_is_short (Caller c) h = omega (arith, byte_len c.0 h)
+who_is_short (Worker w) h = omega (arith, byte_len w.pool.cpu.0 h.0, byte_len w.index h.1, length-append (decimal w.pool.cpu.0) (pool_letter w.pool.high ∷ decimal w.index))
+
+call_line_is_short : (who : Who) (c : Call) → IsWho who → IsCall c → length (call_text who c) ≤ 121
+unfolding call_text
+call_line_is_short who c h k = omega (arith, line_len (who_text who) (call_words c), who_is_short who h, call_is_short c k)
+
+entry_line_is_short : (e : Entry) → IsEntry e → length (entry_text e) ≤ 121
+unfolding entry_text
+entry_line_is_short e h =
+    let answer : List (List ℕ) = (61 ∷ []) ∷ reply_words e.reply in
+    let len : length (line_text (entry_words e)) ≡ size (entry_words e) = line_len (who_text e.who) (decimal e.serial ∷ (call_words e.call ++ answer)) in
+    omega (arith, len, size-append (call_words e.call) answer, who_is_short e.who h.who, number_len e.serial h.serial, call_is_short e.call h.call, reply_is_short e.reply h.reply)
+
+counts_line_is_short : (n : Counts) → IsTrue (are_counts n.cpus n.workers n.callers n.items n.room) → length (counts_text n) ≤ 121
+unfolding counts_text
+counts_line_is_short n inside =
+    let small = counts_are_small n.cpus n.workers n.callers n.items n.room inside in
+    let len : length (line_text (counts_words n)) ≡ size (counts_words n) = line_len (codes "shape") (decimal n.cpus ∷ decimal n.workers ∷ decimal n.callers ∷ decimal n.items ∷ decimal n.room ∷ []) in
+    omega (arith, len, number_len n.cpus (omega arith), number_len n.workers (omega arith), number_len n.callers (omega arith), number_len n.items (omega arith), number_len n.room (omega arith))
+
+flags_are_short : (high intensive : Bool) → length (flags_text (flags high intensive)) ≤ 2
+flags_are_short true true = omega arith
+flags_are_short true false = omega arith
+flags_are_short false true = omega arith
+flags_are_short false false = omega arith
+
+queue_line_is_short : (q : QueueShape) → IsTrue (is_queue q) → length (queue_text q) ≤ 121
+unfolding queue_text
+queue_line_is_short q inside =
+    let small : q.max_active ≤ 512 = leb-true q.max_active 512 (both (leb 1 q.max_active) (leb q.max_active 512) inside).1 in
+    let f : List ℕ = flags_text (flags q.high q.intensive) in
+    let len : length (line_text (queue_words q)) ≡ size (queue_words q) = line_len (codes "wq") (decimal q.max_active ∷ f ∷ []) in
+    omega (arith, len, number_len q.max_active (omega arith), flags_are_short q.high q.intensive)
+
+pub lines_are_short : LinesAreShort
+lines_are_short = (call_line_is_short, entry_line_is_short, counts_line_is_short, queue_line_is_short)

@@ -1,0 +1,5 @@
+use Rattle.cmwq_text.proofs.ShapeLaws as laws
+use Rattle.cmwq_text.proofs.laws.counts_spelled_so.Goals as goal
+
+pub returns : goal.returns
+returns c = laws.counts_spelled_so

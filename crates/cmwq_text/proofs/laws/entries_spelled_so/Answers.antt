@@ -1,0 +1,5 @@
+use Rattle.cmwq_text.proofs.EntryLaws as laws
+use Rattle.cmwq_text.proofs.laws.entries_spelled_so.Goals as goal
+
+pub returns : goal.returns
+returns c = laws.entries_spelled_so

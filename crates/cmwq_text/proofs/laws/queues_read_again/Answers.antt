@@ -1,0 +1,5 @@
+use Rattle.cmwq_text.proofs.ShapeLaws as laws
+use Rattle.cmwq_text.proofs.laws.queues_read_again.Goals as goal
+
+pub returns : goal.returns
+returns c = laws.queues_read_again
