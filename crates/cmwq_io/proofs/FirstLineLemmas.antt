@@ -1,15 +1,13 @@
 -- The first line, found in the bytes read ahead, is that of the whole text.
-use Rattle.std.proofs.Common.{◌≡◌, ℕ, ◌+◌, ◌-◌, ◌<◌, ◌≤◌, Bool, true, false, cond, not, ◌&&◌, eqb, ltb, leb, List, [], ◌++◌, length, take, drop, Option, Some, None, refl, sym, ap, ◌∙◌, arith, append_assoc, append-nil, length-append, length-take, length-drop, take-append-drop, rules, is_some}
-use Rattle.std.specs.List.{position, position_or_len, prefix_len}
-use Rattle.std.proofs.lemmas.Grind.{common_steps}
+use Rattle.std.proofs.Common.{◌≡◌, ℕ, ◌+◌, ◌<◌, ◌≤◌, Bool, true, false, cond, not, ◌&&◌, eqb, ltb, leb, List, [], ◌++◌, length, take, drop, Option, Some, None, refl, sym, ap, ◌∙◌, arith, append_assoc, length-append, length-take, take-append-drop, is_some}
+use Rattle.std.specs.List.{position, position_or_len}
 use Rattle.std.proofs.lemmas.Bool.Decides.{nat_tests}
 use Rattle.std.proofs.lemmas.List.{take_all, take-append-le, drop-append-le, length-take-le}
 use Rattle.std.proofs.lemmas.List.Sums.{prefix_len-le-length}
 use Rattle.std.proofs.lemmas.List.Folds.{prefix_len-append}
-use Rattle.cmwq_io.specs.declared.lines.Found.{Found}
-use Rattle.cmwq_io.specs.declared.lines.Found.TheVariants.{Whole, Cut, Long, End}
+use Rattle.cmwq_io.specs.declared.lines.Found.TheVariants.{Whole, Long}
 use Rattle.cmwq_io.specs.Feeds.{is_feed, has_feed, near_feed}
-use Rattle.cmwq_io.specs.FirstLine.{is_short, is_long, first_line, after_line, found, given, left_over, TakesLine}
+use Rattle.cmwq_io.specs.FirstLine.{is_short, is_long, first_line, TakesLine}
 
 -- where the first line of a text ends
 abbrev stop : List ℕ → ℕ

@@ -1,5 +1,5 @@
 -- What a clause reads of a sink that gathers small writes.
-use Rattle.std.specs.Prelude.{ℕ, ◌+◌, List, length, Option}
+use Rattle.std.specs.Prelude.{ℕ, List, Option}
 use Rattle.std.specs.Io.KnownBytes.{append_known}
 use Rattle.cmwq_io.specs.declared.buffered.BufferedSink.{BufferedSink}
 

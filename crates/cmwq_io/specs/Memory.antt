@@ -1,6 +1,5 @@
 -- What a clause reads of bytes in memory that serve as a source or a sink.
-use Rattle.std.specs.Prelude.{ℕ, ◌-◌, List, Vec, vec_len, vec_capacity}
-use Rattle.std.specs.Borrow.{Bor}
+use Rattle.std.specs.Prelude.{ℕ}
 use Rattle.cmwq_io.specs.declared.memory.Memory.{Memory}
 
 abbrev pub bytes_of : {T : Type 0} → Memory T → T

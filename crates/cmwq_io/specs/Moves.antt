@@ -1,5 +1,5 @@
 -- What moves out of a source and into a sink, where their bytes are known.
-use Rattle.std.specs.Prelude.{◌≡◌, ℕ, ◌<◌, ◌≤◌, List, length, take, Option, Result, IfOk}
+use Rattle.std.specs.Prelude.{ℕ, ◌<◌, ◌≤◌, List, length, take, Option, Result, IfOk}
 use Rattle.std.specs.Io.KnownBytes.{Appends}
 
 -- at least one of the bytes, and no more than there are

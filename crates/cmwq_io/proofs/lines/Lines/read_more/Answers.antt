@@ -1,4 +1,4 @@
-use Rattle.std.proofs.Common.{ℕ, ap, sym, ◌∙◌, arith}
+use Rattle.std.proofs.Common.{◌∙◌}
 use Rattle.cmwq_io.proofs.ReadAheadLemmas.{Keeps-read}
 use Rattle.cmwq_io.proofs.lines.Lines.read_more.Goals as goal
 
