@@ -1,11 +1,15 @@
 -- What the first k entries made of it.
-use Rattle.std.specs.Prelude.{ℕ, List, filter, count_by, Option, None}
+use Rattle.std.specs.Prelude.{ℕ, ◌+◌, Bool, List, filter, count_by, Option, None, nat_lt}
+use Rattle.cmwq_model.specs.declared.id.WorkerId.{WorkerId}
 use Rattle.cmwq_model.specs.declared.call.Call.{Call}
 use Rattle.cmwq_model.specs.declared.call.Call.TheVariants as call
 use Rattle.cmwq_model.specs.declared.entry.Entry.{Entry}
 use Rattle.cmwq_model.specs.declared.record.Booking.{Booking}
 use Rattle.cmwq_model.specs.declared.record.Queueing.{Queueing}
+use Rattle.cmwq_model.specs.Layout.{Layout, width_of}
 use Rattle.cmwq_model.specs.Bookings.{bookings, standing, stands}
+use Rattle.cmwq_model.specs.Runs.{has_run, runs_asleep}
+use Rattle.cmwq_model.specs.Queueings.{still_open}
 use Rattle.cmwq_model.specs.Answer.{may_fire}
 use Rattle.cmwq_model.specs.Waits.{served}
 use Rattle.cmwq_model.specs.Active.{is_ahead}
@@ -26,3 +30,11 @@ served_by past n c = None
 -- how many of what the first k entries opened are open and ahead of the queueing
 unfoldable pub ahead_upto : List Entry → Queueing → ℕ → ℕ
 ahead_upto past x k = count_by (is_ahead x) (open_upto past k)
+
+-- fewer than the width of its queue are ahead of the queueing
+abbrev pub is_within_width : Layout → List Entry → Queueing → Bool
+is_within_width s past x = nat_lt (count_by (is_ahead x) (still_open past)) (width_of s x.place.queue.0)
+
+-- what the runs of these workers owe: 1 entry each, and 1 more for each that sleeps
+abbrev pub owed_by_runs : List Entry → List WorkerId → ℕ
+owed_by_runs past ws = count_by (has_run past) ws + count_by (runs_asleep past) ws

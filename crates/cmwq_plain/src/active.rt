@@ -1,9 +1,7 @@
-ghost use Rattle.std.specs.Prelude.{◌≡◌, ◌<◌, ◌+◌, length, if◌then◌else◌, nat_lt, count_by, option_map};
-ghost use Rattle.cmwq_model.specs.Layout.{width_of};
-ghost use Rattle.cmwq_model.specs.Queueings.{still_open};
+ghost use Rattle.std.specs.Prelude.{◌≡◌, ◌<◌, ◌+◌, length, if◌then◌else◌, option_map};
 ghost use Rattle.cmwq_model.specs.Active.{same_place, is_ahead, is_active, is_listed, next};
 ghost use Rattle.cmwq_look.specs.Past.{upto};
-ghost use Rattle.cmwq_plain.specs.Partial.{ahead_upto};
+ghost use Rattle.cmwq_plain.specs.Partial.{ahead_upto, is_within_width};
 ghost use Rattle.cmwq_plain.specs.Earliest.{may_start, since, earlier, better, best_upto, queueing_of};
 
 use crate::layout::{pool_at, width_of};
@@ -46,7 +44,7 @@ fn is_ahead_at(past: &Past<'_>, queueing: &Queueing, number: usize) -> bool
 /// Whether fewer than the width of its queue stand ahead of the queueing.
 #[tactic(auto, using(crate::proofs::Ahead::ahead_ends))]
 fn is_within_width(shape: &Shape, past: &Past<'_>, queueing: &Queueing) -> bool
-    ensures { result ≡ nat_lt (count_by (is_ahead queueing.now) (still_open past.now)) (width_of shape.now queueing.now.place.queue.0) }
+    ensures { result ≡ is_within_width shape.now past.now queueing.now }
 {
     let width = usize::from(width_of(shape, queueing.place.queue.0));
     let mut ahead: usize = 0;
