@@ -155,10 +155,16 @@ fn booked_by(call: Call, number: Number, due: u64) -> Option<Booking>
 {
     match call {
         Call::Delay {
-            item, queue, cpu, ..
+            item,
+            queue,
+            cpu,
+            ..
         }
         | Call::Modify {
-            item, queue, cpu, ..
+            item,
+            queue,
+            cpu,
+            ..
         } => Some(Booking {
             item,
             place: Place { queue, cpu },

@@ -19,6 +19,7 @@ pub use queueings::{
 };
 pub use runs::{has_run, item_run, item_runs, run, runs_asleep, runs_awake};
 pub use tally::{now, serial_of};
-pub use tickets::{
-    flushes, is_cancelling, is_crowded, is_draining, ticket_of, unended_at,
-};
+pub use tickets::{flushes, is_cancelling, is_crowded, is_draining, ticket_of, unended_at};
+
+#[cfg(test)]
+mod tests;

@@ -34,7 +34,7 @@ pub cpu_step : (q : WorkerId → Bool) (s : Layout) (c : ℕ) → count_by q (fl
 cpu_step q s c =
     let longer : range_with_len 0 (c + 1) ≡ range_with_len 0 c ++ c ∷ [] = ap (range_with_len 0) (add-one c) ∙ range_step 0 c ∙ ap (λ m. range_with_len 0 c ++ m ∷ []) (zero-add c) in
     let more : flat_map (cpu_workers s) (range_with_len 0 (c + 1)) ≡ flat_map (cpu_workers s) (range_with_len 0 c) ++ cpu_workers s c =
-        ap (flat_map (cpu_workers s)) longer ∙ flat_map-append (cpu_workers s) (range_with_len 0 c) (c ∷ []) ∙ ap (λ l. flat_map (cpu_workers s) (range_with_len 0 c) ++ l) (append-nil (cpu_workers s c)) in
+    ap (flat_map (cpu_workers s)) longer ∙ flat_map-append (cpu_workers s) (range_with_len 0 c) (c ∷ []) ∙ ap (λ l. flat_map (cpu_workers s) (range_with_len 0 c) ++ l) (append-nil (cpu_workers s c)) in
     ap (count_by q) more ∙ count_append q (flat_map (cpu_workers s) (range_with_len 0 c)) (cpu_workers s c)
 
 pub ruleset cpu_steps = (cpu_none, cpu_step)

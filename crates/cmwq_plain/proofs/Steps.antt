@@ -48,7 +48,6 @@ pub served_step : (e : Entry) (past : List Entry) (q n : ℕ) → served (e ∷ 
 unfolding served
 served_step e past q n = refl
 
-
 served_step_of : (past whole : List Entry) (k q n : ℕ) → length past ≡ k → (e : Entry) × (whole ≡ e ∷ past) → served whole q n ≡ option_or (served past q n) (if nat_le n k && is_served_after whole q n then Some k else None)
 served_step_of past whole k q n h (e, is) = rw (is, ← h) (served_step e past q n)
 

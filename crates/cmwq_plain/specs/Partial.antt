@@ -1,17 +1,18 @@
 -- What the first k entries made of it.
-use Rattle.std.specs.Prelude.{ℕ, ◌+◌, Bool, ◌&&◌, not, List, filter, find, count_by, Option, None}
+use Rattle.std.specs.Prelude.{ℕ, ◌+◌, Bool, List, filter, count_by, Option, None, nat_lt}
+use Rattle.cmwq_model.specs.declared.id.WorkerId.{WorkerId}
 use Rattle.cmwq_model.specs.declared.call.Call.{Call}
 use Rattle.cmwq_model.specs.declared.call.Call.TheVariants as call
 use Rattle.cmwq_model.specs.declared.entry.Entry.{Entry}
-use Rattle.cmwq_model.specs.declared.id.PoolId.{PoolId}
 use Rattle.cmwq_model.specs.declared.record.Booking.{Booking}
 use Rattle.cmwq_model.specs.declared.record.Queueing.{Queueing}
-use Rattle.cmwq_model.specs.Layout.{Layout}
+use Rattle.cmwq_model.specs.Layout.{Layout, width_of}
 use Rattle.cmwq_model.specs.Bookings.{bookings, standing, stands}
+use Rattle.cmwq_model.specs.Runs.{has_run, runs_asleep}
+use Rattle.cmwq_model.specs.Queueings.{still_open}
 use Rattle.cmwq_model.specs.Answer.{may_fire}
 use Rattle.cmwq_model.specs.Waits.{served}
-use Rattle.cmwq_model.specs.Queueings.{queueings}
-use Rattle.cmwq_model.specs.Active.{is_ahead, is_active, is_listed, is_startable, activated}
+use Rattle.cmwq_model.specs.Active.{is_ahead}
 use Rattle.cmwq_look.specs.Past.{upto, open_upto}
 
 -- the bookings that may fire, and those of them that the first k entries made
@@ -30,14 +31,10 @@ served_by past n c = None
 unfoldable pub ahead_upto : List Entry → Queueing → ℕ → ℕ
 ahead_upto past x k = count_by (is_ahead x) (open_upto past k)
 
--- active after, and not before
-abbrev pub is_newly : Layout → List Entry → List Entry → Queueing → Bool
-is_newly s before after x = is_active s after x && not (is_active s before x)
+-- fewer than the width of its queue are ahead of the queueing
+abbrev pub is_within_width : Layout → List Entry → Queueing → Bool
+is_within_width s past x = nat_lt (count_by (is_ahead x) (still_open past)) (width_of s x.place.queue.0)
 
--- the first that the pool may start, of those that the first k entries made active
-unfoldable pub next_upto : Layout → List Entry → PoolId → ℕ → Option Queueing
-next_upto s past p k = find (is_startable past) (filter (is_listed s past p) (activated s (upto past k)))
-
--- the first of those that entry k made active and the first j entries opened
-unfoldable pub newly_upto : Layout → List Entry → PoolId → ℕ → ℕ → Option Queueing
-newly_upto s past p k j = find (is_startable past) (filter (is_listed s past p) (filter (is_newly s (upto past k) (upto past (k + 1))) (queueings (upto past j))))
+-- what the runs of these workers owe: 1 entry each, and 1 more for each that sleeps
+abbrev pub owed_by_runs : List Entry → List WorkerId → ℕ
+owed_by_runs past ws = count_by (has_run past) ws + count_by (runs_asleep past) ws

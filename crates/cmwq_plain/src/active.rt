@@ -1,14 +1,19 @@
-ghost use Rattle.std.specs.Prelude.{◌≡◌, ◌<◌, ◌≤◌, ◌+◌, length, if◌then◌else◌, ◌&&◌, nat_lt, count_by};
-ghost use Rattle.std.specs.Option.{option_or};
-ghost use Rattle.cmwq_model.specs.Layout.{width_of};
-ghost use Rattle.cmwq_model.specs.Queueings.{still_open};
-ghost use Rattle.cmwq_model.specs.Active.{same_place, is_ahead, is_active, is_listed, is_startable, next};
+ghost use Rattle.std.specs.Prelude.{◌≡◌, ◌<◌, ◌+◌, length, if◌then◌else◌, option_map};
+ghost use Rattle.cmwq_model.specs.Active.{same_place, is_ahead, is_active, is_listed, next};
 ghost use Rattle.cmwq_look.specs.Past.{upto};
-ghost use Rattle.cmwq_plain.specs.Partial.{ahead_upto, is_newly, next_upto};
+ghost use Rattle.cmwq_plain.specs.Partial.{ahead_upto, is_within_width};
+ghost use Rattle.cmwq_plain.specs.Earliest.{may_start, since, earlier, better, best_upto, queueing_of};
 
 use crate::layout::{pool_at, width_of};
 use cmwq_look::{Past, is_live, is_same_pool, is_started, item_runs, opening_at};
-use cmwq_model::{Place, PoolId, Queueing, Shape};
+use cmwq_model::{Number, Place, PoolId, Queueing, Shape};
+
+/// A queueing that a pool may start, and the entry that made it active.
+#[derive(Clone, Copy)]
+struct Candidate {
+    queueing: Queueing,
+    since: Number,
+}
 
 fn is_same_place(a: Place, b: Place) -> bool
     ensures { result ≡ same_place a b }
@@ -37,9 +42,9 @@ fn is_ahead_at(past: &Past<'_>, queueing: &Queueing, number: usize) -> bool
 }
 
 /// Whether fewer than the width of its queue stand ahead of the queueing.
-#[tactic(auto, using(crate::proofs::Next::ahead_ends))]
+#[tactic(auto, using(crate::proofs::Ahead::ahead_ends))]
 fn is_within_width(shape: &Shape, past: &Past<'_>, queueing: &Queueing) -> bool
-    ensures { result ≡ nat_lt (count_by (is_ahead queueing.now) (still_open past.now)) (width_of shape.now queueing.now.place.queue.0) }
+    ensures { result ≡ is_within_width shape.now past.now queueing.now }
 {
     let width = usize::from(width_of(shape, queueing.place.queue.0));
     let mut ahead: usize = 0;
@@ -59,7 +64,7 @@ fn is_active(shape: &Shape, past: &Past<'_>, queueing: &Queueing) -> bool
 }
 
 /// Whether the queueing is on the pool's worklist.
-#[tactic(auto, using(crate::proofs::Next::and_false))]
+#[tactic(auto, using(crate::proofs::Ahead::and_false))]
 fn is_listed(shape: &Shape, past: &Past<'_>, pool: PoolId, queueing: &Queueing) -> bool
     ensures { result ≡ is_listed shape.now past.now pool queueing.now }
 {
@@ -74,51 +79,77 @@ fn is_listed(shape: &Shape, past: &Past<'_>, pool: PoolId, queueing: &Queueing) 
 
 /// Whether the pool may start the queueing.
 fn may_start(shape: &Shape, past: &Past<'_>, pool: PoolId, queueing: &Queueing) -> bool
-    ensures { result ≡ (is_listed shape.now past.now pool queueing.now && is_startable past.now queueing.now) }
+    ensures { result ≡ may_start shape.now past.now pool queueing.now }
 {
     is_listed(shape, past, pool, queueing) && !item_runs(past, queueing.item.0)
 }
 
-fn is_newly(shape: &Shape, before: &Past<'_>, after: &Past<'_>, queueing: &Queueing) -> bool
-    ensures { result ≡ is_newly shape.now before.now after.now queueing.now }
-{
-    is_active(shape, after, queueing) && !is_active(shape, before, queueing)
-}
-
-/// The first that the entry with this number made active, among those that the pool may start.
-#[tactic(auto, using(cmwq_look::proofs::Parts::ends, crate::proofs::Next::find_filtered_push, crate::proofs::Next::newly_ends), unfolding(crate::specs::Partial::newly_upto))]
-fn next_by(shape: &Shape, past: &Past<'_>, pool: PoolId, number: usize) -> Option<Queueing>
-    requires within { number < length past.now }
-    requires small { number ≤ 1000000 }
-    ensures { next_upto shape.now past.now pool (number + 1)
-        ≡ option_or (next_upto shape.now past.now pool number) result }
-{
-    let before = past.before(number);
-    let after = past.before(number + 1);
-    let mut found = None;
-    for k in 0..after.len() {
-        if let Some(queueing) = opening_at(past, k) {
-            if found.is_none()
-                && may_start(shape, past, pool, &queueing)
-                && is_newly(shape, &before, &after, &queueing)
-            {
-                found = Some(queueing);
-            }
-        }
-    }
-    found
-}
-
-/// The next queueing that the pool starts.
-#[tactic(auto, using(crate::proofs::Next::next_ends))]
-pub fn next(shape: &Shape, past: &Past<'_>, pool: PoolId) -> Option<Queueing>
-    ensures { result ≡ next shape.now past.now pool }
+/// The number of the entry that made the queueing active.
+#[tactic(auto, using(cmwq_look::proofs::Parts::ends, crate::proofs::Earliest::since_steps))]
+fn since(shape: &Shape, past: &Past<'_>, queueing: &Queueing) -> Option<Number>
+    ensures { result ≡ since shape.now past.now queueing.now }
 {
     let mut found = None;
     for k in 0..past.len() {
-        if found.is_none() {
-            found = next_by(shape, past, pool, k);
+        if found.is_none() && is_active(shape, &past.before(k + 1), queueing) {
+            found = Some(k as u32);
         }
     }
     found
+}
+
+fn earlier(best: Option<Candidate>, queueing: Queueing, since: Option<Number>) -> Option<Candidate>
+    ensures { result ≡ earlier best queueing since }
+{
+    match since {
+        None => best,
+        Some(since) => match best {
+            None => Some(Candidate { queueing, since }),
+            Some(other) => {
+                if since < other.since {
+                    Some(Candidate { queueing, since })
+                } else {
+                    Some(other)
+                }
+            }
+        },
+    }
+}
+
+/// The better of a candidate and a queueing, if that may start.
+fn better(
+    shape: &Shape,
+    past: &Past<'_>,
+    pool: PoolId,
+    best: Option<Candidate>,
+    queueing: Queueing,
+) -> Option<Candidate>
+    ensures { result ≡ better shape.now past.now (may_start shape.now past.now pool) best queueing }
+{
+    if may_start(shape, past, pool, &queueing) {
+        earlier(best, queueing, since(shape, past, &queueing))
+    } else {
+        best
+    }
+}
+
+/// The next queueing that the pool starts: of those that it may start, the first that was made active, and of those
+/// that one entry made active the least.
+#[tactic(auto, using(crate::proofs::Earliest::best_steps), unfolding(crate::specs::Earliest::best_upto))]
+pub fn next(shape: &Shape, past: &Past<'_>, pool: PoolId) -> Option<Queueing>
+    ensures { result ≡ next shape.now past.now pool }
+{
+    let mut best: Option<Candidate> = None;
+    for k in 0..past.len() {
+        if let Some(queueing) = opening_at(past, k) {
+            best = better(shape, past, pool, best, queueing);
+        }
+    }
+    queueing_of(best)
+}
+
+fn queueing_of(best: Option<Candidate>) -> Option<Queueing>
+    ensures { result ≡ option_map queueing_of best }
+{
+    Some(best?.queueing)
 }

@@ -47,9 +47,7 @@ fn queue_answer(past: &Past<'_>, who: Who, item: u16, queue: u8, ticks: u32) -> 
 {
     if !may_call(past, who) {
         Reply::Misuse
-    } else if is_cancelling(past, item) {
-        Reply::No
-    } else if is_pending(past, item) {
+    } else if is_cancelling(past, item) || is_pending(past, item) {
         Reply::No
     } else if runs_elsewhere(past, item, queue) {
         Reply::Foreign
@@ -316,10 +314,16 @@ pub fn answer(shape: &Shape, past: &Past<'_>, who: Who, call: Call) -> Reply
     match call {
         Call::Queue { item, queue, .. } => queue_answer(past, who, item.0, queue.0, 0),
         Call::Delay {
-            item, queue, ticks, ..
+            item,
+            queue,
+            ticks,
+            ..
         } => queue_answer(past, who, item.0, queue.0, ticks),
         Call::Modify {
-            item, queue, ticks, ..
+            item,
+            queue,
+            ticks,
+            ..
         } => modify_answer(past, who, item.0, queue.0, ticks),
         Call::Cancel { item } => cancel_answer(past, who, item.0),
         Call::Tick { ticks } => Reply::Now(now(past) + u64::from(ticks)),

@@ -1,10 +1,10 @@
-ghost use Rattle.std.specs.Prelude.{◌≡◌, ◌≤◌, ◌+◌, count_by, length};
+ghost use Rattle.std.specs.Prelude.{◌≡◌, ◌≤◌, count_by, length};
 ghost use Rattle.std.specs.List.{range_with_len};
 ghost use Rattle.cmwq_model.specs.Bookings.{is_booked};
-ghost use Rattle.cmwq_model.specs.Runs.{has_run, runs_asleep};
 ghost use Rattle.cmwq_model.specs.Queueings.{still_open};
 ghost use Rattle.cmwq_model.specs.Tickets.{unended};
 ghost use Rattle.cmwq_model.specs.Room.{pool_workers, cpu_workers, workers, has_not_started, owed, needed};
+ghost use Rattle.cmwq_plain.specs.Partial.{owed_by_runs};
 
 use crate::layout::{cpus, items, workers};
 use cmwq_look::{Past, has_run, is_booked, is_started, open_at, runs_asleep, unended_at};
@@ -52,10 +52,10 @@ fn count_booked(shape: &Shape, past: &Past<'_>) -> usize
         .count()
 }
 
-/// How many of the pool's workers have a run, and how many of these sleep.
+/// What the runs of the pool's workers owe: 1 entry each, and 1 more for each that sleeps.
 #[tactic(auto, using(crate::proofs::Counts::pool_steps))]
 fn pool_runs(shape: &Shape, past: &Past<'_>, pool: PoolId) -> usize
-    ensures count { result ≡ count_by (has_run past.now) (pool_workers shape.now pool) + count_by (runs_asleep past.now) (pool_workers shape.now pool) }
+    ensures count { result ≡ owed_by_runs past.now (pool_workers shape.now pool) }
     ensures small { result ≤ 512 }
 {
     let mut count: usize = 0;
@@ -71,9 +71,10 @@ fn pool_runs(shape: &Shape, past: &Past<'_>, pool: PoolId) -> usize
     count
 }
 
+/// What the runs of a CPU's workers owe.
 #[tactic(auto, using(crate::proofs::Counts::count_append))]
 fn cpu_runs(shape: &Shape, past: &Past<'_>, cpu: u8) -> usize
-    ensures count { result ≡ count_by (has_run past.now) (cpu_workers shape.now cpu) + count_by (runs_asleep past.now) (cpu_workers shape.now cpu) }
+    ensures count { result ≡ owed_by_runs past.now (cpu_workers shape.now cpu) }
     ensures small { result ≤ 1024 }
 {
     let cpu = CpuId(cpu);
@@ -81,10 +82,10 @@ fn cpu_runs(shape: &Shape, past: &Past<'_>, cpu: u8) -> usize
         + pool_runs(shape, past, PoolId { cpu, high: true })
 }
 
-/// How many workers have a run, and how many of these sleep.
+/// What the runs of all workers owe.
 #[tactic(auto, using(crate::proofs::Counts::cpu_steps))]
 fn all_runs(shape: &Shape, past: &Past<'_>) -> usize
-    ensures count { result ≡ count_by (has_run past.now) (workers shape.now) + count_by (runs_asleep past.now) (workers shape.now) }
+    ensures count { result ≡ owed_by_runs past.now (workers shape.now) }
     ensures small { result ≤ 262144 }
 {
     let mut count: usize = 0;
