@@ -3,7 +3,7 @@ use Rattle.std.specs.Prelude.{ℕ, Bool, ◌&&◌, ◌||◌, not, ◌==◌, List
 use Rattle.std.specs.List.{range_with_len, list_any}
 use Rattle.cmwq_pool.specs.declared.task.Task.{Task}
 use Rattle.cmwq_pool.specs.declared.seat.Seat.{Seat}
-use Rattle.cmwq_pool.specs.Seats.{new_seat, runs_item, seat_running, with_seat, with_enlisted, enlisted_by}
+use Rattle.cmwq_pool.specs.Seats.{new_seat, runs_item, with_seat, seats_started}
 
 pub record Lineup : Type 0 where
   pub items : ℕ
@@ -46,7 +46,7 @@ next p = option_map (λ (t : Task). t.number) (next_task p)
 
 -- it leaves the list, and its worker runs it and enlists whom the rule says
 abbrev pub started : Lineup → ℕ → Task → Lineup
-started p w t = record p { listed = filter (is_not t.number) p.listed; seats = with_enlisted (enlisted_by p.seats w) (with_seat (seat_running t) w p.seats) }
+started p w t = record p { listed = filter (is_not t.number) p.listed; seats = seats_started p.seats w t }
 
 -- the seat of one worker changes, and nothing else
 abbrev pub reseated : (Seat → Seat) → Lineup → ℕ → Lineup

@@ -100,3 +100,7 @@ with_seat change x seats = slice_set seats x (change (seat_at seats x))
 abbrev pub with_enlisted : Option ℕ → List Seat → List Seat
 with_enlisted None seats = seats
 with_enlisted (Some x) seats = with_seat seat_enlisted x seats
+
+-- a worker starts, and enlists whom the rule says
+abbrev pub seats_started : List Seat → ℕ → Task → List Seat
+seats_started seats w t = with_enlisted (enlisted_by seats w) (with_seat (seat_running t) w seats)

@@ -1,5 +1,5 @@
 -- What a pool keeps true of its parts: the list, the room for it, the seats, and for each item whether it runs.
-use Rattle.std.specs.Prelude.{◌≡◌, ℕ, ◌<◌, ◌≤◌, Bool, true, false, not, nat_eq, if◌then◌else◌, List, length, map, count_by, slice_index_or, All}
+use Rattle.std.specs.Prelude.{◌≡◌, ℕ, ◌<◌, ◌≤◌, Bool, false, not, nat_eq, if◌then◌else◌, List, length, map, count_by, slice_index_or, All}
 use Rattle.std.specs.List.{IsDistinct}
 use Rattle.cmwq_pool.specs.declared.task.Task.{Task}
 use Rattle.cmwq_pool.specs.declared.seat.Seat.{Seat}

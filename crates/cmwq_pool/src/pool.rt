@@ -7,9 +7,9 @@ ghost use Rattle.cmwq_pool.specs.Upkeep.{numbers_of, is_free};
 
 use crate::error::NoMemory;
 use crate::seat::Seat;
-use crate::seats::{count_holding, enlist, enlisted_by, have_spare, new_seats, seat_task, take_run};
+use crate::seats::{count_holding, have_spare, new_seats, start_task, take_run};
 use crate::task::Task;
-use crate::worklist::{has_like, next_free, take_next};
+use crate::worklist::{has_like, next_free, no_marks, take_next, take_number};
 use cmwq_model::{ItemId, Number};
 use std::alloc::Global;
 use std::marker::Model;
@@ -47,7 +47,7 @@ impl Pool {
         let items = usize::from(items);
         let listed = Vec::with_capacity(alloc, items)?;
         let seats = new_seats(alloc, workers)?;
-        let running = vec![in alloc; false; items]?;
+        let running = no_marks(alloc, items)?;
         Ok(Pool {
             listed,
             seats,
@@ -78,7 +78,7 @@ impl Pool {
     pub fn remove(&mut self, number: Number)
         ensures { self.new ≡ removed self.old number }
     {
-        self.listed.retain(|task| task.number != number);
+        take_number(&mut self.listed, number);
     }
 
     /// The number of the next queueing to start: the first of the list whose item has no run.
@@ -138,12 +138,9 @@ impl Pool {
         ensures started { IfSome (next_task self.old) (λ t. self.new ≡ started self.old worker t) }
         ensures enlisted { result ≡ enlisted_by self.old.seats worker }
     {
-        let enlisted = enlisted_by(&self.seats, worker);
         let task = take_next(&mut self.listed, &self.running);
         self.running[usize::from(task.item.0)] = true;
-        seat_task(&mut self.seats, worker, task);
-        enlist(&mut self.seats, enlisted);
-        enlisted
+        start_task(&mut self.seats, worker, task)
     }
 
     /// A worker's run goes to sleep (the kernel's `wq_worker_sleeping`).

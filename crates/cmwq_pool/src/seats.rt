@@ -1,7 +1,7 @@
 ghost use Rattle.std.specs.Prelude.{◌≡◌, ◌<◌, ◌≤◌, length, map, count_by, find, IsTrue, IsSome, IfSome, IfOk, Some, option_map};
 ghost use Rattle.std.specs.List.{range_with_len, list_any};
 ghost use Rattle.cmwq_model.specs.Workers.{has_spare};
-ghost use Rattle.cmwq_pool.specs.Seats.{new_seat, seat_at, is_idle, is_occupied, runnable, indices, is_other_idle, is_reserve_at, enlisted_by, seat_running, seat_free, with_seat, with_enlisted};
+ghost use Rattle.cmwq_pool.specs.Seats.{new_seat, seat_at, is_idle, is_occupied, runnable, indices, is_other_idle, is_reserve_at, enlisted_by, seat_running, seat_free, with_seat, with_enlisted, seats_started};
 
 use crate::seat::Seat;
 use crate::task::Task;
@@ -60,7 +60,7 @@ fn first_reserve(seats: &[Seat]) -> Option<u8>
 }
 
 /// Whom a worker enlists as it starts: where no other is idle, the first of the reserve.
-pub(crate) fn enlisted_by(seats: &[Seat], worker: u8) -> Option<u8>
+fn enlisted_by(seats: &[Seat], worker: u8) -> Option<u8>
     requires { length seats.now ≤ 8 }
     ensures { result ≡ enlisted_by seats.now worker }
 {
@@ -72,7 +72,7 @@ pub(crate) fn enlisted_by(seats: &[Seat], worker: u8) -> Option<u8>
 }
 
 /// A worker runs a task, which is awake at first.
-pub(crate) fn seat_task(seats: &mut [Seat], worker: u8, task: Task)
+fn seat_task(seats: &mut [Seat], worker: u8, task: Task)
     requires { worker < length seats.old }
     ensures { seats.new ≡ with_seat (seat_running task) worker seats.old }
 {
@@ -82,13 +82,26 @@ pub(crate) fn seat_task(seats: &mut [Seat], worker: u8, task: Task)
 }
 
 /// A worker is enlisted, if there is one to enlist.
-pub(crate) fn enlist(seats: &mut [Seat], worker: Option<u8>)
+fn enlist(seats: &mut [Seat], worker: Option<u8>)
     requires { IfSome worker (λ x. x < length seats.old) }
     ensures { seats.new ≡ with_enlisted worker seats.old }
 {
     if let Some(index) = worker {
         seats[usize::from(index)].enlisted = true;
     }
+}
+
+/// A worker runs a task. Answers whom it enlists.
+pub(crate) fn start_task(seats: &mut [Seat], worker: u8, task: Task) -> Option<u8>
+    requires few { length seats.old ≤ 8 }
+    requires worker { worker < length seats.old }
+    ensures started { seats.new ≡ seats_started seats.old worker task }
+    ensures enlisted { result ≡ enlisted_by seats.old worker }
+{
+    let enlisted = enlisted_by(seats, worker);
+    seat_task(seats, worker, task);
+    enlist(seats, enlisted);
+    enlisted
 }
 
 /// A worker has no run any more. Answers the one that it had.

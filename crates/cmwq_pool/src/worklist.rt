@@ -1,10 +1,18 @@
-ghost use Rattle.std.specs.Prelude.{◌≡◌, ◌<◌, length, find, position, filter, nat_eq, IsSome, Some, vec_capacity, All};
+ghost use Rattle.std.specs.Prelude.{◌≡◌, ◌<◌, length, find, position, filter, nat_eq, IsSome, IfOk, Some, replicate, false, vec_capacity, All};
 ghost use Rattle.std.specs.List.{IsDistinct, list_any};
 ghost use Rattle.cmwq_pool.specs.Lineup.{is_like, is_not};
 ghost use Rattle.cmwq_pool.specs.Upkeep.{numbers_of, is_free};
 
 use crate::task::Task;
 use cmwq_model::{ItemId, Number};
+use std::alloc::{AllocError, Global};
+
+/// A mark for each item, which says that it has no run.
+pub(crate) fn no_marks(alloc: Global, items: usize) -> Result<Vec<bool>, AllocError>
+    ensures { IfOk result (λ v. v.items ≡ replicate items false) }
+{
+    vec![in alloc; false; items]
+}
 
 /// Whether a task with this number, or one of this item, is listed.
 pub(crate) fn has_like(listed: &[Task], number: Number, item: ItemId) -> bool
@@ -45,4 +53,12 @@ pub(crate) fn take_next(listed: &mut Vec<Task>, running: &[bool]) -> Task
 {
     let index = first_free(listed, running).unwrap();
     listed.remove(index)
+}
+
+/// Takes the task with this number from the list, if it stands there.
+pub(crate) fn take_number(listed: &mut Vec<Task>, number: Number)
+    ensures rest { listed.new.items ≡ filter (is_not number) listed.old.items }
+    ensures room { vec_capacity listed.new ≡ vec_capacity listed.old }
+{
+    listed.retain(|task| task.number != number);
 }
