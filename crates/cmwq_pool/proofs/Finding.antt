@@ -18,14 +18,14 @@ module _ {X : Type 0} (p : X → Bool) where
   -- where a place is found, what stands there is found
   pub find-position : (xs : List X) (k : ℕ) (d : X) → position p xs ≡ Some k → (k < length xs) × (find p xs ≡ Some (get_or xs k d))
   find-position xs k d h =
-    let c = chosen (ltb (position_or_len p xs) (length xs)) (position_or_len p xs) k h in
-    let below : position_or_len p xs < length xs = grind (arith, nat_tests) in
-    (rw (← c.1) below, find_at p xs ∙ slice_get-get_or xs (position_or_len p xs) d below ∙ ap (λ (j : ℕ). Some (get_or xs j d)) c.1)
+      let c = chosen (ltb (position_or_len p xs) (length xs)) (position_or_len p xs) k h in
+      let below : position_or_len p xs < length xs = grind (arith, nat_tests) in
+      (rw (← c.1) below, find_at p xs ∙ slice_get-get_or xs (position_or_len p xs) d below ∙ ap (λ (j : ℕ). Some (get_or xs j d)) c.1)
 
   pub find-no_position : (xs : List X) → position p xs ≡ None → find p xs ≡ None
   find-no_position xs h =
-    let c = not_chosen (ltb (position_or_len p xs) (length xs)) (position_or_len p xs) h in
-    find_at p xs ∙ slice_get_past xs (position_or_len p xs) (grind (arith, nat_tests))
+      let c = not_chosen (ltb (position_or_len p xs) (length xs)) (position_or_len p xs) h in
+      find_at p xs ∙ slice_get_past xs (position_or_len p xs) (grind (arith, nat_tests))
 
   some_of_found : (xs : List X) (r : Option ℕ) → position p xs ≡ r → is_some (find p xs) ≡ true → is_some r ≡ true
   some_of_found xs None h found = rw (find-no_position xs h) at found

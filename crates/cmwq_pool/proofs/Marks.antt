@@ -1,6 +1,6 @@
 -- The marks of what runs: what they say of the seats, and how they follow a start and a finish.
 use Rattle.std.proofs.Common.{◌≡◌, ◌≢◌, ℕ, zero, suc, ◌+◌, ◌<◌, ◌≤◌, Bool, true, false, cond, eqb, ltb, not, ◌&&◌, ◌||◌, List, [], ◌∷◌, ◌++◌, take, drop, length, get_or, set, map, Option, Some, None, refl, sym, ap, ap₂, ◌∙◌, arith, zero-add}
-use Rattle.std.specs.Prelude.{count_by, find, replicate, is_some, IfSome}
+use Rattle.std.specs.Prelude.{count_by, find, replicate, is_some, option_map, IfSome}
 use Rattle.std.specs.List.{list_any, range_with_len}
 use Rattle.std.specs.Option.{option_map_or}
 use Rattle.std.proofs.lemmas.List.{length-set, get_or-set_same, get_or-set_other}
@@ -71,7 +71,7 @@ none_run i (x ∷ xs) = count_by-cons (is_run_of i) (new_seat x) (map new_seat x
 pub AreMarked-new : (items workers : ℕ) → workers ≤ 8 → AreMarked (replicate items false) (map new_seat (range_with_len 0 workers))
 AreMarked-new items workers h = record {
   few = rw length-map-range_with_len h;
-  runs = λ i. none_run i (range_with_len 0 workers) ∙ sym (ap (λ (b : Bool). cond b 1 0) (none_marked items i))
+  runs = λ i. none_run i (range_with_len 0 workers) ∙ sym (ap (λ (b : Bool). cond b 1 0) (none_marked items i));
 }
 
 -- ---- the marks' range
@@ -95,9 +95,9 @@ some_marked false n h e = absurd (omega arith)
 -- what runs is one of the items
 pub run-item_in_range : (running : List Bool) (seats : List Seat) (w : ℕ) (t : Task) → AreMarked running seats → (seat_at seats w).run ≡ Some t → t.item.0 < length running
 run-item_in_range running seats w t m h =
-  let at_least = get_or-le-sum_by (λ seat. cond (is_run_of t.item.0 seat) 1 0) seats w no_seat (run-in_range seats w t h) in
-  let one = rw (ran (seat_at seats w).run t h) at at_least in
-  mark_within running t.item.0 (some_marked (get_or running t.item.0 false) (count_by (is_run_of t.item.0) seats) one (m.runs t.item.0))
+    let at_least = get_or-le-sum_by (λ seat. cond (is_run_of t.item.0 seat) 1 0) seats w no_seat (run-in_range seats w t h) in
+    let one = rw (ran (seat_at seats w).run t h) at at_least in
+    mark_within running t.item.0 (some_marked (get_or running t.item.0 false) (count_by (is_run_of t.item.0) seats) one (m.runs t.item.0))
 
 -- ---- a start
 
@@ -136,34 +136,34 @@ length-enlisted seats (Some x) = length-set seats x (seat_enlisted (seat_at seat
 count_by-enlisted : (i : ℕ) (seats : List Seat) (e : Option ℕ) → IfSome e (λ x. x < length seats) → count_by (is_run_of i) (with_enlisted e seats) ≡ count_by (is_run_of i) seats
 count_by-enlisted i seats None h = refl
 count_by-enlisted i seats (Some x) h =
-  let same = count_by-set (is_run_of i) seats x (seat_enlisted (seat_at seats x)) no_seat h in omega (arith, same)
+    let same = count_by-set (is_run_of i) seats x (seat_enlisted (seat_at seats x)) no_seat h in omega (arith, same)
 
 more_marked : (running : List Bool) (i j n m : ℕ) (b : Bool) → eqb i j ≡ b → i < length running → get_or running i false ≡ false → n ≡ cond (get_or running j false) 1 0 → m + 0 ≡ n + cond b 1 0 → m ≡ cond (get_or (set running i true) j false) 1 0
 more_marked running i j n m true same h free e more =
-  let here : i ≡ j = grind (arith, nat_tests) in
-  let none : n ≡ 0 = e ∙ ap (λ (b : Bool). cond b 1 0) (ap (λ k. get_or running k false) (sym here) ∙ free) in
-  let mark = ap (λ k. get_or (set running i true) k false) (sym here) ∙ get_or-set_same running i true false h in
-  let one : m ≡ 1 = omega arith in
-  one ∙ sym (ap (λ (b : Bool). cond b 1 0) mark)
+    let here : i ≡ j = grind (arith, nat_tests) in
+    let none : n ≡ 0 = e ∙ ap (λ (b : Bool). cond b 1 0) (ap (λ k. get_or running k false) (sym here) ∙ free) in
+    let mark = ap (λ k. get_or (set running i true) k false) (sym here) ∙ get_or-set_same running i true false h in
+    let one : m ≡ 1 = omega arith in
+    one ∙ sym (ap (λ (b : Bool). cond b 1 0) mark)
 more_marked running i j n m false same h free e more =
-  let other : j ≢ i = grind (arith, nat_tests) in
-  let m_is : m ≡ n = omega arith in
-  m_is ∙ e ∙ ap (λ (b : Bool). cond b 1 0) (sym (get_or-set_other running i j true false other))
+    let other : j ≢ i = grind (arith, nat_tests) in
+    let m_is : m ≡ n = omega arith in
+    m_is ∙ e ∙ ap (λ (b : Bool). cond b 1 0) (sym (get_or-set_other running i j true false other))
 
 pub AreMarked-started : (running : List Bool) (seats : List Seat) (w : ℕ) (t : Task) → AreMarked running seats → is_idle (seat_at seats w) ≡ true → is_free running t ≡ true → t.item.0 < length running
     → AreMarked (set running t.item.0 true) (seats_started seats w t)
 AreMarked-started running seats w t m idle free h =
-  let below = in_range is_idle seats w refl idle in
-  let seated = with_seat (seat_running t) w seats in
-  let length_is = length-set seats w (seat_running t (seat_at seats w)) in
-  record {
-    few = rw (length-enlisted seated (enlisted_by seats w), length_is) m.few;
-    runs = λ j.
-      let more = count_by-set (is_run_of j) seats w (seat_running t (seat_at seats w)) no_seat below in
-      let alone = rw (no_run (seat_at seats w).run j (seat_at seats w).enlisted idle) at more in
-      count_by-enlisted j seated (enlisted_by seats w) (rw length_is (enlisted_by-in_range seats w))
-        ∙ more_marked running t.item.0 j (count_by (is_run_of j) seats) (count_by (is_run_of j) seated) (eqb t.item.0 j) refl h (unmarked (get_or running t.item.0 false) free) (m.runs j) alone
-  }
+    let below = in_range is_idle seats w refl idle in
+    let seated = with_seat (seat_running t) w seats in
+    let length_is = length-set seats w (seat_running t (seat_at seats w)) in
+    record {
+      few = rw (length-enlisted seated (enlisted_by seats w), length_is) m.few;
+      runs = λ j.
+          let more = count_by-set (is_run_of j) seats w (seat_running t (seat_at seats w)) no_seat below in
+          let alone = rw (no_run (seat_at seats w).run j (seat_at seats w).enlisted idle) at more in
+          count_by-enlisted j seated (enlisted_by seats w) (rw length_is (enlisted_by-in_range seats w))
+          ∙ more_marked running t.item.0 j (count_by (is_run_of j) seats) (count_by (is_run_of j) seated) (eqb t.item.0 j) refl h (unmarked (get_or running t.item.0 false) free) (m.runs j) alone;
+    }
 
 pub length-started : (seats : List Seat) (w : ℕ) (t : Task) → length (seats_started seats w t) ≡ length seats
 length-started seats w t = length-enlisted (with_seat (seat_running t) w seats) (enlisted_by seats w) ∙ length-set seats w (seat_running t (seat_at seats w))
@@ -179,4 +179,10 @@ lineup items listed seats = record { items = items; listed = listed; seats = sea
 pub same_lineup : (p q : Lineup) → p.items ≡ q.items → p.listed ≡ q.listed → p.seats ≡ q.seats → p ≡ q
 unfolding lineup
 same_lineup p q items listed seats =
-  ap (λ n. lineup n p.listed p.seats) items ∙ ap₂ (λ ts ss. lineup q.items ts ss) listed seats
+    ap (λ n. lineup n p.listed p.seats) items ∙ ap₂ (λ ts ss. lineup q.items ts ss) listed seats
+
+-- ---- what is next
+
+pub is_some-next_task : (o : Option Task) → is_some (option_map (λ (t : Task). t.number) o) ≡ true → is_some o ≡ true
+is_some-next_task None h = h
+is_some-next_task (Some t) h = refl

@@ -25,14 +25,14 @@ flipped a b h = grind (arith, nat_tests)
 new_number : (n i : ℕ) (xs : List Task) → list_any (is_like n i) xs ≡ false → list_any (nat_eq n) (numbers_of xs) ≡ false
 new_number n i [] h = refl
 new_number n i (x ∷ xs) h =
-  let c = none_of (eqb x.number n) (eqb x.item.0 i) (list_any (is_like n i) xs) h in
-  ap₂ (λ (a b : Bool). a || b) (flipped x.number n c.0) (new_number n i xs c.2)
+    let c = none_of (eqb x.number n) (eqb x.item.0 i) (list_any (is_like n i) xs) h in
+    ap₂ (λ (a b : Bool). a || b) (flipped x.number n c.0) (new_number n i xs c.2)
 
 new_item : (n i : ℕ) (xs : List Task) → list_any (is_like n i) xs ≡ false → list_any (nat_eq i) (items_of xs) ≡ false
 new_item n i [] h = refl
 new_item n i (x ∷ xs) h =
-  let c = none_of (eqb x.number n) (eqb x.item.0 i) (list_any (is_like n i) xs) h in
-  ap₂ (λ (a b : Bool). a || b) (flipped x.item.0 i c.1) (new_item n i xs c.2)
+    let c = none_of (eqb x.number n) (eqb x.item.0 i) (list_any (is_like n i) xs) h in
+    ap₂ (λ (a b : Bool). a || b) (flipped x.item.0 i c.1) (new_item n i xs c.2)
 
 distinct_push : (f : Task → ℕ) (xs : List Task) (t : Task) → IsDistinct nat_eq (map f xs) → list_any (nat_eq (f t)) (map f xs) ≡ false → IsDistinct nat_eq (map f (xs ++ t ∷ []))
 distinct_push f xs t h fresh = rw (map-append f xs (t ∷ [])) (IsDistinct-push nat_eq_equiv (map f xs) (f t) h fresh)
@@ -42,12 +42,12 @@ may_join room xs t h = grind (arith, nat_tests)
 
 pub IsWorklist-added : (room : ℕ) (xs : List Task) (t : Task) → IsWorklist room xs → (ltb t.item.0 room && not (list_any (is_like t.number t.item.0) xs)) ≡ true → IsWorklist room (xs ++ t ∷ [])
 IsWorklist-added room xs t w h =
-  let c = may_join room xs t h in
-  record {
-    numbers = distinct_push (λ (x : Task). x.number) xs t w.numbers (new_number t.number t.item.0 xs c.1);
-    items = distinct_push (λ (x : Task). x.item.0) xs t w.items (new_item t.number t.item.0 xs c.1);
-    in_range = All-push (λ (x : Task). x.item.0 < room) xs t w.in_range c.0
-  }
+    let c = may_join room xs t h in
+    record {
+      numbers = distinct_push (λ (x : Task). x.number) xs t w.numbers (new_number t.number t.item.0 xs c.1);
+      items = distinct_push (λ (x : Task). x.item.0) xs t w.items (new_item t.number t.item.0 xs c.1);
+      in_range = All-push (λ (x : Task). x.item.0 < room) xs t w.in_range c.0;
+    }
 
 -- ---- room
 
@@ -61,8 +61,8 @@ items_below room (x ∷ xs) h q found = first_or_later room q x.item.0 (eqb q x.
 
 pub length-worklist : (room : ℕ) (xs : List Task) → IsWorklist room xs → length xs ≤ room
 length-worklist room xs w =
-  let le = length-le_from_distinct_below (items_of xs) room w.items (items_below room xs (recursion_from_All (λ (t : Task). t.item.0 < room) xs w.in_range)) in
-  rw length-map at le
+    let le = length-le_from_distinct_below (items_of xs) room w.items (items_below room xs (recursion_from_All (λ (t : Task). t.item.0 < room) xs w.in_range)) in
+    rw length-map at le
 
 pub room_left : (room : ℕ) (xs : List Task) (t : Task) → IsWorklist room xs → (ltb t.item.0 room && not (list_any (is_like t.number t.item.0) xs)) ≡ true → length xs < room
 room_left room xs t w h = let le = length-worklist room (xs ++ t ∷ []) (IsWorklist-added room xs t w h) in let more = length_push xs t in omega arith
@@ -92,7 +92,7 @@ pub IsWorklist-filter : (p : Task → Bool) (room : ℕ) (xs : List Task) → Is
 IsWorklist-filter p room xs w = record {
   numbers = distinct_filter (λ (t : Task). t.number) p xs w.numbers;
   items = distinct_filter (λ (t : Task). t.item.0) p xs w.items;
-  in_range = All-filter p (λ (t : Task). t.item.0 < room) xs w.in_range
+  in_range = All-filter p (λ (t : Task). t.item.0 < room) xs w.in_range;
 }
 
 -- ---- what stands at a place leaves
@@ -115,7 +115,7 @@ unfolding IsDistinct
 remove_is_filter [] k d h u = absurd (omega arith)
 remove_is_filter (x ∷ xs) zero d h u = sym (ap₂ (λ (b : Bool) (ys : List Task). cond (not b) (x ∷ ys) ys) (eqb_self x.number) (filter_apart x.number xs u.0))
 remove_is_filter (x ∷ xs) (suc k) d h u =
-  ap₂ (λ (b : Bool) (ys : List Task). cond (not b) (x ∷ ys) ys) (sym (apart_at x.number xs k d (omega arith) u.0)) (remove_is_filter xs k d (omega arith) u.1)
+    ap₂ (λ (b : Bool) (ys : List Task). cond (not b) (x ∷ ys) ys) (sym (apart_at x.number xs k d (omega arith) u.0)) (remove_is_filter xs k d (omega arith) u.1)
 
 -- ---- nothing is listed
 

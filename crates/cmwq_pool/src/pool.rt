@@ -96,6 +96,13 @@ impl Pool {
         count_holding(&self.seats)
     }
 
+    /// How many workers the pool has. Their indices are below it.
+    pub fn workers(&self) -> u8
+        ensures { result ≡ length self.now.seats }
+    {
+        self.seats.len() as u8
+    }
+
     /// The seat of a worker: whether it is enlisted, what it runs, and whether that sleeps.
     pub fn seat(&self, worker: u8) -> Seat
         requires { worker < length self.now.seats }
@@ -133,7 +140,7 @@ impl Pool {
     /// no other idle one is left, the first of the reserve.
     pub fn start(&mut self, worker: u8) -> Option<u8>
         requires idle { IsTrue (is_idle (seat_at self.old.seats worker)) }
-        requires next { IsSome (next_task self.old) }
+        requires next { IsSome (next self.old) }
         requires free { runnable self.old.seats ≡ 0 }
         ensures started { IfSome (next_task self.old) (λ t. self.new ≡ started self.old worker t) }
         ensures enlisted { result ≡ enlisted_by self.old.seats worker }
@@ -187,3 +194,6 @@ impl Pool {
         self.seats[usize::from(worker)].enlisted = false;
     }
 }
+
+#[cfg(test)]
+mod tests;

@@ -1,5 +1,5 @@
 ghost use Rattle.std.specs.Prelude.{◌≡◌};
-ghost use Rattle.cmwq_pool.specs.Seats.{new_seat, is_idle, is_occupied, is_holding};
+ghost use Rattle.cmwq_pool.specs.Seats.{new_seat, runs_awake, runs_asleep, is_idle, is_occupied, is_holding};
 
 use crate::task::Task;
 
@@ -26,11 +26,25 @@ impl Seat {
         }
     }
 
-    /// Whether the worker is enlisted and has no run.
-    pub(crate) fn is_idle(&self) -> bool
+    /// Whether the worker is enlisted and has no run, so that it may start a queueing.
+    pub fn is_idle(&self) -> bool
         ensures { result ≡ is_idle self.now }
     {
         self.enlisted && self.run.is_none()
+    }
+
+    /// Whether the worker has a run that is awake, which may sleep and end.
+    pub fn runs_awake(&self) -> bool
+        ensures { result ≡ runs_awake self.now }
+    {
+        self.run.is_some() && !self.asleep
+    }
+
+    /// Whether the worker has a run that sleeps, which may only wake up.
+    pub fn runs_asleep(&self) -> bool
+        ensures { result ≡ runs_asleep self.now }
+    {
+        self.run.is_some() && self.asleep
     }
 
     /// Whether the worker is enlisted and has a run.

@@ -21,4 +21,4 @@ returns-clause-rest c =
     let place = rw c.deref.ensures.value at (sym c.first_free.ensures ∙ c.unwrap-index.ensures) in
     let found = find-position (is_free c.args.running.now) c.args.listed.now.items c.unwrap-index.result c.remove.result place in
     c.remove.ensures.items ∙ remove_is_filter c.args.listed.now.items c.unwrap-index.result c.remove.result found.0 c.requires.numbers
-        ∙ ap (λ (t : Task). filter (is_not t.number) c.args.listed.now.items) (sym c.remove.ensures.value)
+    ∙ ap (λ (t : Task). filter (is_not t.number) c.args.listed.now.items) (sym c.remove.ensures.value)

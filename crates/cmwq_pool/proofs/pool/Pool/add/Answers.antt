@@ -18,5 +18,5 @@ invariant_of-self c =
     (record {
       room = c.self.invariant.room;
       worklist = IsWorklist-added (length c.self.inside.running.items) c.self.inside.listed.items t c.self.invariant.worklist may;
-      marks = c.self.invariant.marks
+      marks = c.self.invariant.marks;
     })

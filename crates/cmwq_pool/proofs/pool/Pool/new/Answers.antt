@@ -11,5 +11,5 @@ invariant_of-result c =
     (record {
       room = rw length-replicate (omega (arith, c.in_ok-listed.ensures.exact));
       worklist = IsWorklist-new _;
-      marks = AreMarked-new c.from-items.result c.args.workers (grind (arith, nat_tests))
+      marks = AreMarked-new c.from-items.result c.args.workers (grind (arith, nat_tests));
     })

@@ -8,5 +8,5 @@ invariant_of-self c =
     (record {
       room = c.self.invariant.room;
       worklist = IsWorklist-filter (is_not c.args.number) _ c.self.inside.listed.items c.self.invariant.worklist;
-      marks = c.self.invariant.marks
+      marks = c.self.invariant.marks;
     })

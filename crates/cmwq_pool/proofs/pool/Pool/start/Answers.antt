@@ -6,13 +6,13 @@ use Rattle.std.proofs.lemmas.List.{length-set}
 use Rattle.std.proofs.lemmas.List.Elements.{recursion_from_All}
 use Rattle.cmwq_pool.proofs.Finding.{find-passes, find-All}
 use Rattle.cmwq_pool.proofs.Worklists.{IsWorklist-filter}
-use Rattle.cmwq_pool.proofs.Marks.{next_by_marks, AreMarked-started, length-started, written_back, same_lineup}
+use Rattle.cmwq_pool.proofs.Marks.{next_by_marks, AreMarked-started, length-started, written_back, same_lineup, is_some-next_task}
 use Rattle.cmwq_pool.proofs.pool.Pool.start.Goals as goal
 
 pub take_next-task-requires-clause-next : goal.take_next-task-requires-clause-next
 take_next-task-requires-clause-next c =
     let next = rw (← c.self.view_is) at c.requires.next in
-    rw (c.deref.ensures.value, next_by_marks c.self.inside.listed.items _ _ c.self.invariant.marks) next
+    rw (c.deref.ensures.value, next_by_marks c.self.inside.listed.items _ _ c.self.invariant.marks) (is_some-next_task _ next)
 
 pub index_mut-requires : goal.index_mut-requires
 index_mut-requires c =
@@ -23,7 +23,7 @@ index_mut-requires c =
     omega (arith, c.self.inside.running.ok.0)
 
 pub invariant_of-self : goal.invariant_of-self
-invariant_of-self c = 
+invariant_of-self c =
     let first = rw c.deref.ensures.value at c.take_next-task.ensures.first in
     let idle = rw (← c.self.view_is) at c.requires.idle in
     let running = c.self.inside.running.items in
@@ -38,7 +38,7 @@ invariant_of-self c =
     (record {
       room = rw length-set c.self.invariant.room;
       worklist = rw length-set (IsWorklist-filter (is_not t.number) (length running) listed c.self.invariant.worklist);
-      marks = AreMarked-started running seats c.args.worker t c.self.invariant.marks idle (find-passes (is_free running) listed t first) below
+      marks = AreMarked-started running seats c.args.worker t c.self.invariant.marks idle (find-passes (is_free running) listed t first) below;
     })
 
 pub returns-clause-started : goal.returns-clause-started
