@@ -108,7 +108,8 @@ impl Pool {
         requires { worker < length self.now.seats }
         ensures { result ≡ seat_at self.now.seats worker }
     {
-        self.seats[usize::from(worker)]
+        let index = usize::from(worker);
+        self.seats[index]
     }
 
     /// Whether a worker is enlisted, and not of the reserve.
