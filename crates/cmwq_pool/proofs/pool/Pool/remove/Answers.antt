@@ -1,0 +1,12 @@
+use Rattle.cmwq_pool.specs.Lineup.{is_not}
+use Rattle.cmwq_pool.proofs.Worklists.{IsWorklist-filter}
+use Rattle.cmwq_pool.proofs.pool.Pool.remove.Goals as goal
+
+pub invariant_of-self : goal.invariant_of-self
+invariant_of-self c =
+    rw (c.take_number.ensures.rest, c.take_number.ensures.room)
+    (record {
+      room = c.self.invariant.room;
+      worklist = IsWorklist-filter (is_not c.args.number) _ c.self.inside.listed.items c.self.invariant.worklist;
+      marks = c.self.invariant.marks;
+    })

@@ -1,0 +1,200 @@
+ghost use Rattle.std.specs.Prelude.{◌≡◌, ◌<◌, ◌≤◌, length, filter, find, position, count_by, slice_index_or, nat_eq, IsTrue, IsSome, IfSome, IfOk, Some, vec_len, vec_capacity, All};
+ghost use Rattle.std.specs.List.{IsDistinct};
+ghost use Rattle.cmwq_model.specs.Layout.{is_between};
+ghost use Rattle.cmwq_pool.specs.Seats.{seat_at, is_idle, is_occupied, runs_awake, runs_asleep, run_number, runnable, enlisted_by, may_retire, seat_running, seat_asleep, seat_awake, seat_free, seat_enlisted, seat_retired, with_seat, with_enlisted};
+ghost use Rattle.cmwq_pool.specs.Lineup.{new_lineup, task, is_like, is_not, may_add, added, removed, next_task, next, started, reseated};
+ghost use Rattle.cmwq_pool.specs.Upkeep.{numbers_of, is_free};
+
+use crate::error::NoMemory;
+use crate::seat::Seat;
+use crate::seats::{count_holding, have_spare, new_seats, start_task, take_run};
+use crate::task::Task;
+use crate::worklist::{has_like, next_free, no_marks, take_next, take_number};
+use cmwq_model::{ItemId, Number};
+use std::alloc::Global;
+use std::marker::Model;
+
+/// One worker pool of a CPU (the kernel's `worker_pool`). A contract sees what is listed and each worker's seat.
+/// Only `new` takes memory.
+#[derive(Debug, Drop)]
+pub struct Pool {
+    /// The queueings that may start, in their order. There is room for one of each item.
+    listed: Vec<Task>,
+    seats: Vec<Seat>,
+    /// For each item, whether one of the seats runs it.
+    running: Vec<bool>,
+}
+
+impl Model for Pool {
+    ghost use Rattle.std.specs.Prelude.{length, vec_capacity};
+    ghost use Rattle.cmwq_pool.specs.Lineup.{Lineup};
+    ghost use Rattle.cmwq_pool.specs.Upkeep.{IsKept};
+
+    ghost Value = { Lineup };
+
+    ghost view = { λ a. record { items = length a.running.items; listed = a.listed.items; seats = a.seats.items } };
+
+    ghost invariant = { λ a. IsKept (vec_capacity a.listed) a.listed.items a.running.items a.seats.items };
+}
+
+impl Pool {
+    /// A pool with nothing listed and worker 0 enlisted, for 1 to 256 items and 1 to 8 workers.
+    pub fn new(alloc: Global, items: u16, workers: u8) -> Result<Pool, NoMemory>
+        requires items { IsTrue (is_between 1 256 items) }
+        requires workers { IsTrue (is_between 1 8 workers) }
+        ensures { IfOk result (λ pool. pool ≡ new_lineup items workers) }
+    {
+        let items = usize::from(items);
+        let listed = Vec::with_capacity(alloc, items)?;
+        let seats = new_seats(alloc, workers)?;
+        let running = no_marks(alloc, items)?;
+        Ok(Pool {
+            listed,
+            seats,
+            running,
+        })
+    }
+
+    /// Whether a queueing may be listed: its item is one of the pool's, and nothing listed has its number or its item.
+    pub fn may_add(&self, number: Number, item: ItemId) -> bool
+        ensures { result ≡ may_add self.now number item.0 }
+    {
+        usize::from(item.0) < self.running.len() && !has_like(&self.listed, number, item)
+    }
+
+    /// Lists a queueing that became active, behind all others (the kernel's `insert_work`).
+    pub fn add(&mut self, number: Number, item: ItemId, intensive: bool)
+        requires { IsTrue (may_add self.old number item.0) }
+        ensures { self.new ≡ added self.old (task number item.0 intensive) }
+    {
+        self.listed.push_reserved(Task {
+            number,
+            item,
+            intensive,
+        });
+    }
+
+    /// Takes a queueing that was cancelled from the list, if it stands there.
+    pub fn remove(&mut self, number: Number)
+        ensures { self.new ≡ removed self.old number }
+    {
+        take_number(&mut self.listed, number);
+    }
+
+    /// The number of the next queueing to start: the first of the list whose item has no run.
+    pub fn next(&self) -> Option<Number>
+        ensures { result ≡ next self.now }
+    {
+        let task = next_free(&self.listed, &self.running)?;
+        Some(task.number)
+    }
+
+    /// How many runs are awake and not CPU intensive. While there is one, nothing may start.
+    pub fn runnable(&self) -> u32
+        ensures { result ≡ runnable self.now.seats }
+    {
+        count_holding(&self.seats)
+    }
+
+    /// How many workers the pool has. Their indices are below it.
+    pub fn workers(&self) -> u8
+        ensures { result ≡ length self.now.seats }
+    {
+        self.seats.len() as u8
+    }
+
+    /// The seat of a worker: whether it is enlisted, what it runs, and whether that sleeps.
+    pub fn seat(&self, worker: u8) -> Seat
+        requires { worker < length self.now.seats }
+        ensures { result ≡ seat_at self.now.seats worker }
+    {
+        let index = usize::from(worker);
+        self.seats[index]
+    }
+
+    /// Whether a worker is enlisted, and not of the reserve.
+    pub fn enlisted(&self, worker: u8) -> bool
+        requires { worker < length self.now.seats }
+        ensures { result ≡ (seat_at self.now.seats worker).enlisted }
+    {
+        self.seat(worker).enlisted
+    }
+
+    /// The number of what a worker runs.
+    pub fn run_of(&self, worker: u8) -> Option<Number>
+        requires { worker < length self.now.seats }
+        ensures { result ≡ run_number (seat_at self.now.seats worker) }
+    {
+        let task = self.seat(worker).run?;
+        Some(task.number)
+    }
+
+    /// Whether a worker's run sleeps.
+    pub fn asleep(&self, worker: u8) -> bool
+        requires { worker < length self.now.seats }
+        ensures { result ≡ (seat_at self.now.seats worker).asleep }
+    {
+        self.seat(worker).asleep
+    }
+
+    /// An idle worker starts the next queueing, which no run holds back. Answers the worker that this enlists: where
+    /// no other idle one is left, the first of the reserve.
+    pub fn start(&mut self, worker: u8) -> Option<u8>
+        requires idle { IsTrue (is_idle (seat_at self.old.seats worker)) }
+        requires next { IsSome (next self.old) }
+        requires free { runnable self.old.seats ≡ 0 }
+        ensures started { IfSome (next_task self.old) (λ t. self.new ≡ started self.old worker t) }
+        ensures enlisted { result ≡ enlisted_by self.old.seats worker }
+    {
+        let task = take_next(&mut self.listed, &self.running);
+        self.running[usize::from(task.item.0)] = true;
+        start_task(&mut self.seats, worker, task)
+    }
+
+    /// A worker's run goes to sleep (the kernel's `wq_worker_sleeping`).
+    pub fn sleep(&mut self, worker: u8)
+        requires { IsTrue (runs_awake (seat_at self.old.seats worker)) }
+        ensures { self.new ≡ reseated seat_asleep self.old worker }
+    {
+        self.seats[usize::from(worker)].asleep = true;
+    }
+
+    /// A worker's run wakes up (the kernel's `wq_worker_running`).
+    pub fn wake(&mut self, worker: u8)
+        requires { IsTrue (runs_asleep (seat_at self.old.seats worker)) }
+        ensures { self.new ≡ reseated seat_awake self.old worker }
+    {
+        self.seats[usize::from(worker)].asleep = false;
+    }
+
+    /// A worker ends its run, which is awake. Answers the number of that.
+    pub fn finish(&mut self, worker: u8) -> Number
+        requires { IsTrue (runs_awake (seat_at self.old.seats worker)) }
+        ensures free { self.new ≡ reseated seat_free self.old worker }
+        ensures number { run_number (seat_at self.old.seats worker) ≡ Some result }
+    {
+        let task = take_run(&mut self.seats, worker);
+        self.running[usize::from(task.item.0)] = false;
+        task.number
+    }
+
+    /// Whether a worker is idle and may go back to the reserve: more than two are idle, and those past two are a
+    /// quarter of the enlisted workers with a run, or more (the kernel's `too_many_workers`).
+    pub fn may_retire(&self, worker: u8) -> bool
+        requires { worker < length self.now.seats }
+        ensures { result ≡ may_retire self.now.seats worker }
+    {
+        self.seat(worker).is_idle() && have_spare(&self.seats)
+    }
+
+    /// An idle worker that may retire goes back to the reserve.
+    pub fn retire(&mut self, worker: u8)
+        requires { IsTrue (may_retire self.old.seats worker) }
+        ensures { self.new ≡ reseated seat_retired self.old worker }
+    {
+        self.seats[usize::from(worker)].enlisted = false;
+    }
+}
+
+#[cfg(test)]
+mod tests;
