@@ -1,0 +1,99 @@
+//! Files of calls and histories.
+
+ghost use Rattle.std.specs.Prelude.{◌≡◌, ◌≤◌, length, IfSome, IfOk, IsErrOf};
+ghost use Rattle.cmwq_io.specs.Counts.{Rises};
+ghost use Rattle.cmwq_base.specs.Gives.{Gives};
+ghost use Rattle.cmwq_base.specs.Kinds.{call_file_of, history_file_of};
+
+use crate::reading::read_file;
+use crate::refusal::Refusal;
+use crate::stage::FileLine;
+use cmwq_io::Source;
+use cmwq_model::{Call, Entry, QueueShape, Shape, Who};
+use std::alloc::Global;
+
+impl FileLine for (Who, Call) {
+    ghost use Rattle.cmwq_base.specs.Kinds.{calls_kind};
+
+    ghost kind = { calls_kind };
+
+    fn read_queue(line: &[u8]) -> Option<QueueShape> {
+        cmwq_text::read_queue_of_calls(line)
+    }
+
+    fn read(line: &[u8]) -> Option<Self> {
+        cmwq_text::read_call(line)
+    }
+
+    fn fits(&self, shape: &Shape) -> bool {
+        let (who, call) = *self;
+        shape.fits(who, call)
+    }
+}
+
+impl FileLine for Entry {
+    ghost use Rattle.cmwq_base.specs.Kinds.{history_kind};
+
+    ghost kind = { history_kind };
+
+    fn read_queue(line: &[u8]) -> Option<QueueShape> {
+        cmwq_text::read_queue_of_history(line)
+    }
+
+    fn read(line: &[u8]) -> Option<Self> {
+        cmwq_text::read_entry(line)
+    }
+
+    fn fits(&self, shape: &Shape) -> bool {
+        cmwq_text::entry_fits(shape, self)
+    }
+}
+
+/// A file of calls: a shape, and calls that fit it.
+#[derive(Debug, Drop)]
+pub struct CallFile {
+    pub shape: Shape,
+    pub calls: Vec<(Who, Call)>,
+}
+
+/// A history: a shape, and entries that fit it.
+#[derive(Debug, Drop)]
+pub struct HistoryFile {
+    pub shape: Shape,
+    pub entries: Vec<Entry>,
+}
+
+ghost use Rattle.cmwq_base.specs.Views.{calls_in, history_in};
+
+/// Reads a file of calls to the end of the source. After an error nothing is kept, and the source has been read up to a
+/// place that isn't said.
+///
+/// # Errors
+/// The first refusal in the order of the bytes; `ReadFault` where the source fails, `NoMemory` where memory runs out.
+pub fn read_calls<S: Source>(alloc: Global, source: &mut S) -> Result<CallFile, Refusal>
+    ensures exact { IfSome (S.left source.old) (λ text. Gives calls_in result (call_file_of text)) }
+    ensures few { IfOk result (λ file. length file.calls.items ≤ 1000000) }
+    ensures fault { IsErrOf result Refusal.ReadFault → Rises (S.troubles source.old) (S.troubles source.new) }
+{
+    let file = read_file::<(Who, Call), S>(alloc, source)?;
+    Ok(CallFile {
+        shape: file.shape,
+        calls: file.items,
+    })
+}
+
+/// Reads a history to the end of the source, as `read_calls` does. Any reply may follow any call.
+///
+/// # Errors
+/// As those of `read_calls`.
+pub fn read_history<S: Source>(alloc: Global, source: &mut S) -> Result<HistoryFile, Refusal>
+    ensures exact { IfSome (S.left source.old) (λ text. Gives history_in result (history_file_of text)) }
+    ensures few { IfOk result (λ file. length file.entries.items ≤ 1000000) }
+    ensures fault { IsErrOf result Refusal.ReadFault → Rises (S.troubles source.old) (S.troubles source.new) }
+{
+    let file = read_file::<Entry, S>(alloc, source)?;
+    Ok(HistoryFile {
+        shape: file.shape,
+        entries: file.items,
+    })
+}
