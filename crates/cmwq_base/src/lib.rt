@@ -5,8 +5,10 @@ mod files;
 mod reading;
 mod refusal;
 mod stage;
+mod writing;
 
 pub use files::{CallFile, HistoryFile, read_calls, read_history};
 pub use reading::read_file;
 pub use refusal::Refusal;
 pub use stage::{Contents, FileLine, Stage};
+pub use writing::{write_entry, write_shape};

@@ -1,0 +1,57 @@
+//! Writes shapes and entries.
+
+ghost use Rattle.std.specs.Prelude.{◌≡◌, ◌≤◌, flat_map, OnOk, OnErr, IfErr};
+ghost use Rattle.std.specs.Io.KnownBytes.{Appends};
+ghost use Rattle.cmwq_io.specs.Counts.{Rises};
+ghost use Rattle.cmwq_io.specs.Moves.{AppendsFront};
+ghost use Rattle.cmwq_text.specs.EntryText.{entry_text};
+ghost use Rattle.cmwq_text.specs.HistoryText.{shape_text};
+ghost use Rattle.cmwq_text.specs.ShapeText.{queue_text};
+
+use crate::refusal::Refusal;
+use cmwq_io::{Sink, WriteFault, write_all};
+use cmwq_model::{Entry, QueueShape, Shape};
+use cmwq_text::{counts_line, entry_line, queue_line};
+
+/// Writes the line of an entry. Takes no memory.
+///
+/// # Errors
+/// `WriteFault` where the sink fails; a front of the line has been written then.
+pub fn write_entry<W: Sink>(sink: &mut W, entry: &Entry) -> Result<(), Refusal>
+    ensures ok { OnOk result (Appends (W.written sink.old) (W.written sink.new) (entry_text entry.now)) }
+    ensures err { OnErr result (AppendsFront (W.written sink.old) (W.written sink.new) (entry_text entry.now)) }
+    ensures only { IfErr result (λ e. e ≡ Refusal.WriteFault) }
+    ensures grown { W.troubles sink.old ≤ W.troubles sink.new }
+    ensures fault { OnErr result (Rises (W.troubles sink.old) (W.troubles sink.new)) }
+{
+    write_all(sink, entry_line(entry).as_bytes())?;
+    Ok(())
+}
+
+/// Writes the shape line and a line for each queue. Takes no memory.
+///
+/// # Errors
+/// `WriteFault` where the sink fails; a front of the lines has been written then.
+pub fn write_shape<W: Sink>(sink: &mut W, shape: &Shape) -> Result<(), Refusal>
+    ensures ok { OnOk result (Appends (W.written sink.old) (W.written sink.new) (shape_text shape.now)) }
+    ensures err { OnErr result (AppendsFront (W.written sink.old) (W.written sink.new) (shape_text shape.now)) }
+    ensures only { IfErr result (λ e. e ≡ Refusal.WriteFault) }
+    ensures grown { W.troubles sink.old ≤ W.troubles sink.new }
+    ensures fault { OnErr result (Rises (W.troubles sink.old) (W.troubles sink.new)) }
+{
+    write_all(sink, counts_line(&shape.counts()).as_bytes())?;
+    write_queues(sink, shape.queues())?;
+    Ok(())
+}
+
+fn write_queues<W: Sink>(sink: &mut W, queues: &[QueueShape]) -> Result<(), WriteFault>
+    ensures ok { OnOk result (Appends (W.written sink.old) (W.written sink.new) (flat_map queue_text queues.now)) }
+    ensures err { OnErr result (AppendsFront (W.written sink.old) (W.written sink.new) (flat_map queue_text queues.now)) }
+    ensures grown { W.troubles sink.old ≤ W.troubles sink.new }
+    ensures fault { OnErr result (Rises (W.troubles sink.old) (W.troubles sink.new)) }
+{
+    for queue in queues {
+        write_all(sink, queue_line(queue).as_bytes())?;
+    }
+    Ok(())
+}
