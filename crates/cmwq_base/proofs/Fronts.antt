@@ -1,11 +1,11 @@
 -- A front of one text after the whole of another is a front of both together.
 use Rattle.std.proofs.Common.{◌≡◌, ◌+◌, ◌-◌, ◌≤◌, ℕ, List, [], ◌∷◌, ◌++◌, length, take, drop, Option, None, Some, refl, sym, ap, ◌∙◌, append_assoc, subst, arith, min, Bool, true, false, nat_le, get_or, add-one, drop-cons, append-nil, ◌<◌, take-append-drop}
-use Rattle.std.proofs.Math.Seq.{take-append-add}
+use Rattle.std.proofs.Math.Seq.{take-append-add, take-length}
 use Rattle.std.proofs.lemmas.List.{take-append-le, take_min}
 use Rattle.std.proofs.lemmas.List.Concat.{flat_map-cons}
 use Rattle.std.proofs.lemmas.Grind.{flat_map-append}
 use Rattle.std.specs.Prelude.{flat_map, slice_index_or}
-use Rattle.std.specs.Io.KnownBytes.{Appends}
+use Rattle.std.specs.Io.KnownBytes.{Appends, Keeps}
 use Rattle.cmwq_io.specs.Moves.{AppendsFront}
 use Rattle.cmwq_io.proofs.KnownBytes.{Appends-trans}
 
@@ -36,3 +36,13 @@ front_before a b xs ys q = (min q.0 (length xs), subst (Appends a b) (sym (take-
 
 pub front_after : (a b c : Option (List ℕ)) (xs ys : List ℕ) → Appends a b xs → AppendsFront b c ys → AppendsFront a c (xs ++ ys)
 front_after a b c xs ys p q = subst (AppendsFront a c) (ap (λ l. xs ++ l) (append-nil ys)) (front_behind a b c xs ys [] p q)
+
+appends_keeps : (a b c : Option (List ℕ)) (xs : List ℕ) → Appends a b xs → Keeps b c → Appends a c xs
+appends_keeps None b c xs p k = tt
+appends_keeps (Some x) None c xs p k = absurd p
+appends_keeps (Some x) (Some y) None xs p k = absurd k
+appends_keeps (Some x) (Some y) (Some z) xs p k = k ∙ p
+
+-- a whole text is a front of itself
+pub front_whole : (a b c : Option (List ℕ)) (xs : List ℕ) → Appends a b xs → Keeps b c → AppendsFront a c xs
+front_whole a b c xs p k = (length xs, subst (Appends a c) (sym (take-length xs)) (appends_keeps a b c xs p k))

@@ -159,32 +159,44 @@ module _ {X : Type 0} (k : Kind X) (n : ℕ) (stage : Stage X) where
   end_gives view r (Some text) (Some b) None line h t g = absurd t
   end_gives view r (Some text) (Some b) (Some a) line h t g = makes_gives view r (file_of k text) (subst (Makes view r) (sym (h ∙ text_end k n stage b a line t)) g)
 
--- only the source's own failure is a read fault
-pub refuses_no_fault : {Y : Type 0} (e : Refusal) (r : Result Y Refusal) → Refuses e r → e ≡ refusal.ReadFault → ⊥
-refuses_no_fault refusal.NoMemory r h is = cc
-refuses_no_fault refusal.ReadFault r h is = h
-refuses_no_fault refusal.WriteFault r h is = h
-refuses_no_fault refusal.TooLong r h is = cc
-refuses_no_fault (refusal.BadLine m) r h is = cc
-refuses_no_fault (refusal.BadShape m) r h is = cc
-refuses_no_fault (refusal.NoSuchId m) r h is = cc
+-- only the source's own failure is a read fault, and no reader gives a write fault
+abbrev pub is_fault : Refusal → Bool
+is_fault refusal.ReadFault = true
+is_fault refusal.WriteFault = true
+is_fault e = false
 
-cut_is_no_fault : {X : Type 0} (n : ℕ) (stage : Stage X) → after_cut n stage ≡ refusal.ReadFault → ⊥
+pub refuses_no_fault : {Y : Type 0} (e : Refusal) (r : Result Y Refusal) → Refuses e r → is_fault e ≡ false
+refuses_no_fault refusal.NoMemory r h = refl
+refuses_no_fault refusal.ReadFault r h = absurd h
+refuses_no_fault refusal.WriteFault r h = absurd h
+refuses_no_fault refusal.TooLong r h = refl
+refuses_no_fault (refusal.BadLine m) r h = refl
+refuses_no_fault (refusal.BadShape m) r h = refl
+refuses_no_fault (refusal.NoSuchId m) r h = refl
+
+cut_is_no_fault : {X : Type 0} (n : ℕ) (stage : Stage X) → is_fault (after_cut n stage) ≡ false
 unfolding after_cut
-cut_is_no_fault n begin h = cc
-cut_is_no_fault n (head c qs) h = cc
-cut_is_no_fault n (body s xs) h = by_full (nat_le 1000000 (length xs)) h
+cut_is_no_fault n begin = refl
+cut_is_no_fault n (head c qs) = refl
+cut_is_no_fault n (body s xs) = by_full (nat_le 1000000 (length xs))
     where
-      by_full : (b : Bool) → (if b then refusal.TooLong else refusal.BadLine n) ≡ refusal.ReadFault → ⊥
-      by_full true h = cc
-      by_full false h = cc
+      by_full : (b : Bool) → is_fault (if b then refusal.TooLong else refusal.BadLine n) ≡ false
+      by_full true = refl
+      by_full false = refl
 
-pub cut_no_fault : {X Z : Type 0} (n : ℕ) (stage : Stage X) (e : Refusal) (r : Result Z Refusal) → e ≡ after_cut n stage → r ≡ Err e → r ≡ Err refusal.ReadFault → ⊥
-cut_no_fault n stage e r is made fault = cut_is_no_fault n stage (let same : after_cut n stage ≡ refusal.ReadFault = cc in same)
+-- a result that is no fault isn't this one
+pub no_fault : {Z : Type 0} (e f : Refusal) (r : Result Z Refusal) → is_fault e ≡ false → is_fault f ≡ true → r ≡ Err e → r ≡ Err f → ⊥
+no_fault e f r none fault is other =
+    let same : e ≡ f = cc in
+    let both : false ≡ true = sym none ∙ ap is_fault same ∙ fault in
+    cc
 
-pub makes_no_fault : {Y Z : Type 0} (view : Y → Z) (r : Result Y Refusal) (read : Result Z Refusal) → Makes view r read → r ≡ Err refusal.ReadFault → ⊥
-makes_no_fault view (Ok y) read h is = cc
-makes_no_fault view (Err e) read h is = refuses_no_fault e read h (let same : e ≡ refusal.ReadFault = cc in same)
+pub cut_no_fault : {X Z : Type 0} (n : ℕ) (stage : Stage X) (e f : Refusal) (r : Result Z Refusal) → e ≡ after_cut n stage → is_fault f ≡ true → r ≡ Err e → r ≡ Err f → ⊥
+cut_no_fault n stage e f r is fault made other = no_fault e f r (ap is_fault is ∙ cut_is_no_fault n stage) fault made other
+
+pub makes_no_fault : {Y Z : Type 0} (view : Y → Z) (r : Result Y Refusal) (read : Result Z Refusal) (f : Refusal) → Makes view r read → is_fault f ≡ true → r ≡ Err f → ⊥
+makes_no_fault view (Ok y) read f h fault is = cc
+makes_no_fault view (Err e) read f h fault is = no_fault e f (Err e) (refuses_no_fault e read h) fault refl is
 
 -- a file has no more lines than a reader's stage
 few_without : {X : Type 0} (o : Option Layout) (f : File X) → without_items o ≡ Ok f → length f.items ≤ 1000000

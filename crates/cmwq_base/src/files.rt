@@ -74,6 +74,7 @@ pub fn read_calls<S: Source>(alloc: Global, source: &mut S) -> Result<CallFile, 
     ensures exact { IfSome (S.left source.old) (λ text. Gives calls_in result (call_file_of text)) }
     ensures few { IfOk result (λ file. length file.calls.items ≤ 1000000) }
     ensures fault { IsErrOf result Refusal.ReadFault → Rises (S.troubles source.old) (S.troubles source.new) }
+    ensures nothing_written { IsErrOf result Refusal.WriteFault → ⊥ }
 {
     let file = read_file::<(Who, Call), S>(alloc, source)?;
     Ok(CallFile {
@@ -90,6 +91,7 @@ pub fn read_history<S: Source>(alloc: Global, source: &mut S) -> Result<HistoryF
     ensures exact { IfSome (S.left source.old) (λ text. Gives history_in result (history_file_of text)) }
     ensures few { IfOk result (λ file. length file.entries.items ≤ 1000000) }
     ensures fault { IsErrOf result Refusal.ReadFault → Rises (S.troubles source.old) (S.troubles source.new) }
+    ensures nothing_written { IsErrOf result Refusal.WriteFault → ⊥ }
 {
     let file = read_file::<Entry, S>(alloc, source)?;
     Ok(HistoryFile {

@@ -7,6 +7,15 @@ mod refusal;
 mod stage;
 mod writing;
 
+pub use cmwq_io::{
+    BufferedSink, FailsAt, FromStd, Memory, ReadFault, Sink, Source, Trouble, WriteFault,
+    flush_all, write_all,
+};
+pub use cmwq_model::{
+    Booking, Call, CallerId, Counts, CpuId, Entry, ItemId, Mark, Number, Place, PoolId, QueueId,
+    QueueShape, Queueing, Reply, Shape, Start, Ticket, Who, WorkerId,
+};
+pub use cmwq_text::{entry_fits, reply_fits};
 pub use files::{CallFile, HistoryFile, read_calls, read_history};
 pub use reading::read_file;
 pub use refusal::Refusal;

@@ -22,6 +22,7 @@ pub fn read_file<T: FileLine + Drop, S: Source>(
     ensures exact { IfSome (S.left source.old) (λ text. Gives contents_of result (file_of T.kind text)) }
     ensures few { IfOk result (λ file. length file.items.items ≤ 1000000) }
     ensures fault { IsErrOf result Refusal.ReadFault → Rises (S.troubles source.old) (S.troubles source.new) }
+    ensures nothing_written { IsErrOf result Refusal.WriteFault → ⊥ }
 {
     let mut lines = Lines::new(alloc)?;
     let mut line = Line::new();

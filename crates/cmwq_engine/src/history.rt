@@ -5,7 +5,7 @@ ghost use Rattle.cmwq_model.specs.Legal as legal;
 ghost use Rattle.cmwq_model.specs.Legal.{past_of};
 ghost use Rattle.cmwq_model.specs.Room.{steps};
 
-use cmwq_model::{Call, Entry, Shape, Who};
+use cmwq_base::{Call, Entry, Shape, Who};
 use std::alloc::{AllocError, Global};
 
 /// The entries of the calls that had room, and how many calls were left out for want of it.

@@ -2,5 +2,10 @@
 #![tactic(auto)]
 
 mod history;
+mod output;
+mod step;
+mod told;
 
 pub use history::{Steps, steps_of};
+pub use output::write_history;
+pub use step::run_step;

@@ -1,8 +1,9 @@
 use Rattle.std.proofs.Common.{◌≡◌, ◌+◌, ◌≤◌, refl, sym, ap, ◌∙◌, arith, rules}
 use Rattle.std.proofs.lemmas.Result.{err_from_is_err_and}
 use Rattle.cmwq_io.specs.declared.lines.Found.TheVariants.{Whole, Cut, Long, End}
+use Rattle.cmwq_base.specs.declared.refusal.Refusal.TheVariants.{ReadFault, WriteFault}
 use Rattle.cmwq_base.specs.Stages.{stage_of, contents_of}
-use Rattle.cmwq_base.proofs.Progress.{found_so, starts, line_grows, whole_goes, whole_fails, long_fails, cut_fails, cut_no_fault, end_gives, makes_few}
+use Rattle.cmwq_base.proofs.Progress.{found_so, starts, line_grows, whole_goes, whole_fails, long_fails, cut_fails, cut_no_fault, end_gives, makes_few, makes_no_fault}
 use Rattle.cmwq_base.proofs.reading.read_file.Goals as goal
 
 pub loop-number-init : goal.loop-number-init
@@ -29,7 +30,13 @@ returns-in-Cut-clause-exact g c =
     (found_so _ _ _ _ Cut c.in-Cut.is c.in_ok-next_line.ensures.ok) c.cut.ensures
 
 pub returns-in-Cut-clause-fault : goal.returns-in-Cut-clause-fault
-returns-in-Cut-clause-fault g c = λ is. absurd (cut_no_fault c.loop-number.number (stage_of c.loop-number.stage) c.cut.result _ c.cut.ensures refl is)
+returns-in-Cut-clause-fault g c = λ is. absurd (cut_no_fault c.loop-number.number (stage_of c.loop-number.stage) c.cut.result ReadFault _ c.cut.ensures refl refl is)
+
+pub returns-in-Cut-clause-nothing_written : goal.returns-in-Cut-clause-nothing_written
+returns-in-Cut-clause-nothing_written g c = cut_no_fault c.loop-number.number (stage_of c.loop-number.stage) c.cut.result WriteFault _ c.cut.ensures refl refl
+
+pub returns-in-End-clause-nothing_written : goal.returns-in-End-clause-nothing_written
+returns-in-End-clause-nothing_written g c = makes_no_fault contents_of c.finish.result _ WriteFault c.finish.ensures refl
 
 pub returns-in-End-clause-exact : goal.returns-in-End-clause-exact
 returns-in-End-clause-exact g c =

@@ -1,0 +1,44 @@
+//! Writes a history, and tells on standard error why a run ended.
+
+ghost use Rattle.std.specs.Prelude.{◌≡◌, ◌≤◌, flat_map, OnOk, OnErr, IfErr};
+ghost use Rattle.std.specs.Io.KnownBytes.{Appends};
+ghost use Rattle.cmwq_io.specs.Counts.{Rises};
+ghost use Rattle.cmwq_io.specs.Moves.{AppendsFront};
+ghost use Rattle.cmwq_text.specs.EntryText.{entry_text};
+ghost use Rattle.cmwq_text.specs.HistoryText.{entries_text, history_text};
+
+use cmwq_base::{Entry, Refusal, Shape, Sink, flush_all, write_entry, write_shape};
+
+fn write_entries<W: Sink>(sink: &mut W, entries: &[Entry]) -> Result<(), Refusal>
+    ensures ok { OnOk result (Appends (W.written sink.old) (W.written sink.new) (entries_text entries.now)) }
+    ensures err { OnErr result (AppendsFront (W.written sink.old) (W.written sink.new) (entries_text entries.now)) }
+    ensures only { IfErr result (λ e. e ≡ Refusal.WriteFault) }
+    ensures grown { W.troubles sink.old ≤ W.troubles sink.new }
+    ensures fault { OnErr result (Rises (W.troubles sink.old) (W.troubles sink.new)) }
+{
+    for entry in entries {
+        write_entry(sink, entry)?;
+    }
+    Ok(())
+}
+
+/// Writes a history with its shape, and flushes. Takes no memory.
+///
+/// # Errors
+/// `WriteFault` where the sink fails, also at the flush; a front of the text has been written then.
+pub fn write_history<W: Sink>(
+    sink: &mut W,
+    shape: &Shape,
+    entries: &[Entry],
+) -> Result<(), Refusal>
+    ensures ok { OnOk result (Appends (W.written sink.old) (W.written sink.new) (history_text shape.now entries.now)) }
+    ensures err { OnErr result (AppendsFront (W.written sink.old) (W.written sink.new) (history_text shape.now entries.now)) }
+    ensures flushed { OnOk result (W.held sink.new ≡ 0) }
+    ensures only { IfErr result (λ e. e ≡ Refusal.WriteFault) }
+    ensures fault { OnErr result (Rises (W.troubles sink.old) (W.troubles sink.new)) }
+{
+    write_shape(sink, shape)?;
+    write_entries(sink, entries)?;
+    flush_all(sink)?;
+    Ok(())
+}

@@ -1,0 +1,38 @@
+//! What is told on standard error.
+
+use arrayvec::ArrayString;
+use cmwq_base::{Refusal, Sink, flush_all, write_all};
+use std::fmt;
+use std::fmt::Write;
+
+/// Room for the longest line that is told.
+type Told = ArrayString<128>;
+
+fn spell_full(left_out: u32) -> Result<Told, fmt::Error> {
+    let mut line = Told::new();
+    writeln!(line, "cmwq: full {left_out}")?;
+    Ok(line)
+}
+
+fn spell_refusal(refusal: Refusal) -> Result<Told, fmt::Error> {
+    let mut line = Told::new();
+    writeln!(line, "cmwq: {refusal}")?;
+    Ok(line)
+}
+
+fn tell<E: Sink>(errors: &mut E, line: Result<Told, fmt::Error>) {
+    if let Ok(line) = line {
+        let _ = write_all(errors, line.as_bytes());
+        let _ = flush_all(errors);
+    }
+}
+
+/// Tells how many calls were left out for want of room. Takes no memory; a failing sink changes nothing.
+pub fn tell_full<E: Sink>(errors: &mut E, left_out: u32) {
+    tell(errors, spell_full(left_out));
+}
+
+/// Tells why a run was refused or failed. Takes no memory; a failing sink changes nothing.
+pub fn tell_refusal<E: Sink>(errors: &mut E, refusal: Refusal) {
+    tell(errors, spell_refusal(refusal));
+}
