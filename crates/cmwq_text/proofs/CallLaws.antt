@@ -1,12 +1,11 @@
 -- Calls that are spelled are read again, and what is read as a call is spelled so.
-use Rattle.std.proofs.Common.{◌≡◌, ℕ, ◌+◌, ◌*◌, ◌<◌, ◌≤◌, ◌^◌, Bool, true, List, [], ◌∷◌, ◌++◌, length, map, Option, Some, None, refl, ap, sym, ◌∙◌, arith}
+use Rattle.std.proofs.Common.{◌≡◌, ℕ, ◌<◌, ◌≤◌, true, List, [], ◌∷◌, ◌++◌, Some, refl, ◌∙◌, arith}
 use Rattle.std.specs.Fmt.{decimal}
 use Rattle.cmwq_model.specs.declared.call.Call.{Call}
 use Rattle.cmwq_model.specs.declared.call.Call.TheVariants as call
 use Rattle.cmwq_text.specs.declared.keyword.Keyword.{Keyword}
 use Rattle.cmwq_text.specs.declared.keyword.Keyword.TheVariants as word
 use Rattle.cmwq_text.specs.Numbers.{greatest_byte, greatest_short}
-use Rattle.cmwq_text.specs.Words.{◌>>=◌}
 use Rattle.cmwq_text.specs.Keywords.{text, keyword_in}
 use Rattle.cmwq_text.specs.CallText.{call_words, call_after, call_in}
 use Rattle.cmwq_text.specs.Ranges.{IsCall}

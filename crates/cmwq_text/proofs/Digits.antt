@@ -1,27 +1,16 @@
 -- Digits that are read one after the other.
-use Rattle.std.proofs.Common.{◌≡◌, ℕ, suc, ◌+◌, ◌-◌, ◌*◌, ◌<◌, ◌≤◌, Bool, true, false, ◌&&◌, List, [], ◌∷◌, length, drop, get_or, leb, Option, Some, None, refl, ap, sym, ◌∙◌, arith, cond, subst, add-one, drop-cons}
+use Rattle.std.proofs.Common.{◌≡◌, ℕ, ◌+◌, ◌-◌, ◌*◌, ◌<◌, ◌≤◌, Bool, true, false, ◌&&◌, List, [], ◌∷◌, length, drop, get_or, leb, Option, Some, None, refl, ap, sym, ◌∙◌, arith, cond, subst, add-one, drop-cons}
 use Rattle.std.specs.Str.{all_ascii_digits}
 use Rattle.std.specs.Char.{is_ascii_digit}
 use Rattle.std.proofs.lemmas.Bool.{leb-true, leb-false, lt-leb, le-leb}
 use Rattle.std.proofs.lemmas.List.{drop_all}
+use Rattle.std.proofs.lemmas.Option.{cond_some}
 use Rattle.cmwq_text.specs.Numbers.{value_from, with_digit, digits_from}
+use Rattle.cmwq_text.proofs.Steps.{not_chosen, both}
 
 value_from-grows : (n : ℕ) (ds : List ℕ) → n ≤ value_from n ds
 value_from-grows n [] = omega arith
 value_from-grows n (d ∷ ds) = omega (arith, value_from-grows (n * 10 + (d - 48)) ds)
-
-some_is : (b : Bool) (m n : ℕ) → cond b (Some m) None ≡ Some n → (b ≡ true) × (m ≡ n)
-some_is true m n e = (refl, cc)
-some_is false m n e = absurd cc
-
-none_is : (b : Bool) (m : ℕ) → cond b (Some m) None ≡ None → b ≡ false
-none_is true m e = absurd cc
-none_is false m e = refl
-
-both : (a b : Bool) → (a && b) ≡ true → (a ≡ true) × (b ≡ true)
-both true true e = (refl, refl)
-both true false e = absurd cc
-both false b e = absurd cc
 
 drop_true : (b a l : Bool) (v : ℕ) → b ≡ true → cond ((b && a) && l) (Some v) None ≡ cond (a && l) (Some v) None
 drop_true true a l v e = refl
@@ -35,7 +24,7 @@ is_none false a low all v e h = refl
 one_more : (limit n d m : ℕ) (ds : List ℕ) → with_digit limit n d ≡ Some m → digits_from limit n (d ∷ ds) ≡ digits_from limit m ds
 unfolding digits_from
 one_more limit n d m ds e =
-    let found = some_is (is_ascii_digit d && leb (n * 10 + (d - 48)) limit) (n * 10 + (d - 48)) m e in
+    let found = cond_some (is_ascii_digit d && leb (n * 10 + (d - 48)) limit) (n * 10 + (d - 48)) m e in
     drop_true (is_ascii_digit d) (all_ascii_digits ds) (leb (value_from (n * 10 + (d - 48)) ds) limit) (value_from (n * 10 + (d - 48)) ds) (both (is_ascii_digit d) (leb (n * 10 + (d - 48)) limit) found.0).0
     ∙ ap (λ (k : ℕ). digits_from limit k ds) found.1
 
@@ -44,12 +33,12 @@ unfolding digits_from
 no_more limit n d ds e =
     let next : ℕ = n * 10 + (d - 48) in
     is_none (is_ascii_digit d) (all_ascii_digits ds) (leb next limit) (leb (value_from next ds) limit) (value_from next ds)
-    (none_is (is_ascii_digit d && leb next limit) next e)
+    (not_chosen (is_ascii_digit d && leb next limit) next e)
     (λ over. lt-leb _ _ (omega (arith, leb-false _ _ over, value_from-grows next ds)))
 
 pub within : (limit n d m : ℕ) → with_digit limit n d ≡ Some m → m ≤ limit
 within limit n d m e =
-    let found = some_is (is_ascii_digit d && leb (n * 10 + (d - 48)) limit) (n * 10 + (d - 48)) m e in
+    let found = cond_some (is_ascii_digit d && leb (n * 10 + (d - 48)) limit) (n * 10 + (d - 48)) m e in
     let next : n * 10 + (d - 48) ≤ limit = leb-true _ _ (both (is_ascii_digit d) (leb (n * 10 + (d - 48)) limit) found.0).1 in
     subst (λ (k : ℕ). k ≤ limit) found.1 next
 

@@ -1,28 +1,26 @@
 -- Lines of calls and of entries.
-use Rattle.std.proofs.Common.{◌≡◌, ℕ, ◌+◌, ◌<◌, ◌≤◌, ◌^◌, Bool, true, false, ◌&&◌, List, [], ◌∷◌, ◌++◌, length, Option, Some, None, refl, ap, sym, ◌∙◌, arith, cond, subst, append_assoc}
+use Rattle.std.proofs.Common.{◌≡◌, ℕ, true, ◌&&◌, List, [], ◌∷◌, ◌++◌, Option, Some, None, refl, ap, sym, ◌∙◌, arith, cond}
 use Rattle.std.specs.Prelude.{if◌then◌else◌, codes}
 use Rattle.std.specs.Fmt.{decimal}
 use Rattle.std.proofs.lemmas.Option.{same_Some}
-use Rattle.std.proofs.lemmas.List.{append-nil, length-append}
+use Rattle.std.proofs.lemmas.List.{append-nil}
 use Rattle.cmwq_model.specs.declared.id.Who.{Who}
-use Rattle.cmwq_model.specs.declared.id.Who.TheVariants.{Caller, Worker}
 use Rattle.cmwq_model.specs.declared.call.Call.{Call}
 use Rattle.cmwq_model.specs.declared.reply.Reply.{Reply}
 use Rattle.cmwq_model.specs.declared.entry.Entry.{Entry}
-use Rattle.cmwq_model.specs.Layout.{Layout, is_layout, may_make, has_numbers, fits}
-use Rattle.cmwq_text.specs.Words.{◌>>=◌, words_of, joined, line_text, is_end, after, number_in}
+use Rattle.cmwq_model.specs.Layout.{may_make, has_numbers, fits}
+use Rattle.cmwq_text.specs.Words.{◌>>=◌, words_of, joined, is_end, after, number_in}
 use Rattle.cmwq_text.specs.IdText.{who_text, who_in}
 use Rattle.cmwq_text.specs.CallText.{call_words, call_text, call_in, is_of_kind, call_of}
 use Rattle.cmwq_text.specs.ReplyText.{reply_words, reply_in, reply_fits}
 use Rattle.cmwq_text.specs.EntryText.{entry_words, entry_text, entry_of, entry_fits}
-use Rattle.cmwq_text.specs.Ranges.{IsWho, IsCall, IsReply, IsEntry}
-use Rattle.cmwq_text.specs.Laws.{IsLineOf, CallsReadAgain, EntriesReadAgain, CallsSpelledSo, EntriesSpelledSo, EntriesStandApart}
+use Rattle.cmwq_text.specs.Ranges.{IsWho, IsCall, IsEntry}
+use Rattle.cmwq_text.specs.Laws.{CallsReadAgain, EntriesReadAgain, CallsSpelledSo, EntriesSpelledSo, EntriesStandApart}
 use Rattle.cmwq_text.proofs.Steps.{bind_some, chosen, both}
-use Rattle.cmwq_text.proofs.WordLaws.{is_plain, are_plain, and_true, are_plain-append, is_plain-decimal, words_again, after_takes}
+use Rattle.cmwq_text.proofs.WordLaws.{is_plain, are_plain, and_true, are_plain-append, is_plain-decimal, after_takes}
 use Rattle.cmwq_text.proofs.IdLaws.{who_again, who_takes, is_plain-who, number_in_again, number_in_takes}
-use Rattle.cmwq_text.proofs.CallLaws.{call_again, call_takes, call_is_plain, call_is_short}
-use Rattle.cmwq_text.proofs.ReplyLaws.{reply_again, reply_takes, reply_is_plain, reply_is_short}
-use Rattle.cmwq_text.proofs.PhraseLaws.{size, size-append, line_len, byte_len, number_len}
+use Rattle.cmwq_text.proofs.CallLaws.{call_again, call_takes, call_is_plain}
+use Rattle.cmwq_text.proofs.ReplyLaws.{reply_again, reply_takes, reply_is_plain}
 use Rattle.cmwq_text.proofs.LineLaws.{line_words, line_is, no_more, lines_apart, layout_is_small, known_who, known_call, known_reply}
 
 call_again_alone : (c : Call) → IsCall c → call_in (call_words c) ≡ Some (c, [])

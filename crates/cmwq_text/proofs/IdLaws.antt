@@ -1,11 +1,10 @@
 -- Ids that are spelled are read again, and what is read as an id is spelled so, unless it is the greatest of its type.
-use Rattle.std.proofs.Common.{◌≡◌, ℕ, suc, ◌+◌, ◌-◌, ◌<◌, ◌≤◌, ◌^◌, Bool, true, false, ◌&&◌, ◌||◌, List, [], ◌∷◌, ◌++◌, length, get_or, take, drop, eqb, ltb, Option, Some, None, refl, ap, sym, ◌∙◌, arith, cond, subst, add-one, append_assoc, ◌⊎◌, inl, inr}
+use Rattle.std.proofs.Common.{◌≡◌, ℕ, suc, ◌+◌, ◌<◌, ◌≤◌, ◌^◌, Bool, true, false, ◌||◌, List, [], ◌∷◌, ◌++◌, length, get_or, take, drop, eqb, Option, Some, None, refl, ap, sym, ◌∙◌, arith, cond, subst, add-one, append_assoc, ◌⊎◌, inl, inr}
 use Rattle.std.specs.Prelude.{position}
 use Rattle.std.specs.Fmt.{decimal}
-use Rattle.std.specs.Str.{all_ascii_digits}
 use Rattle.std.specs.List.{position_or_len}
 use Rattle.std.proofs.Math.Seq.{split_at, get_or-append_seam}
-use Rattle.std.proofs.lemmas.Bool.{eqb-true, ltb-true, lt-ltb, ne_eqb}
+use Rattle.std.proofs.lemmas.Bool.{eqb-true, lt-ltb, ne_eqb}
 use Rattle.std.proofs.lemmas.Option.{same_Some}
 use Rattle.std.proofs.lemmas.List.{length-append, get_or_append_left, take_at, drop_at}
 use Rattle.std.proofs.lemmas.List.Quantifiers.{position-Some}
@@ -18,10 +17,10 @@ use Rattle.cmwq_model.specs.declared.id.CpuId.{CpuId}
 use Rattle.cmwq_model.specs.declared.id.Who.{Who}
 use Rattle.cmwq_model.specs.declared.id.Who.TheVariants.{Caller, Worker}
 use Rattle.cmwq_text.specs.Numbers.{number_of, byte_of, short_of, greatest, greatest_long, greatest_byte, greatest_short}
-use Rattle.cmwq_text.specs.Words.{◌>>=◌, word_in, one, byte_in, short_in, number_in, long_in}
+use Rattle.cmwq_text.specs.Words.{◌>>=◌, one, byte_in, short_in, number_in, long_in}
 use Rattle.cmwq_text.specs.IdText.{item, queue, cpu, caller, worker, item_in, queue_in, cpu_in, pool_letter, is_pool_letter, who_text, caller_of, worker_of, who_of, who_in}
 use Rattle.cmwq_text.specs.Ranges.{IsWho}
-use Rattle.cmwq_text.proofs.Steps.{bind_some, chosen, both}
+use Rattle.cmwq_text.proofs.Steps.{bind_some}
 use Rattle.cmwq_text.proofs.NumberLaws.{own, number_again, number_takes, byte_again, byte_takes, short_again, short_takes}
 use Rattle.cmwq_text.proofs.WordLaws.{word_takes, is_plain, is_plain-append, is_plain-decimal}
 
@@ -98,11 +97,11 @@ letter_says false = refl
 
 letter_back : (b : ℕ) → is_pool_letter b ≡ true → b ≡ pool_letter (eqb b 104)
 letter_back b e = back (eqb b 110) (eqb b 104) (eqb-true b 110) (eqb-true b 104) e
- where
-  back : (n h : Bool) → (n ≡ true → b ≡ 110) → (h ≡ true → b ≡ 104) → (n || h) ≡ true → b ≡ pool_letter h
-  back n true p q e = q refl
-  back true false p q e = p refl
-  back false false p q e = absurd cc
+  where
+    back : (n h : Bool) → (n ≡ true → b ≡ 110) → (h ≡ true → b ≡ 104) → (n || h) ≡ true → b ≡ pool_letter h
+    back n true p q e = q refl
+    back true false p q e = p refl
+    back false false p q e = absurd cc
 
 letter_is_plain : (high : Bool) → is_plain (pool_letter high ∷ []) ≡ true
 letter_is_plain true = refl
@@ -124,8 +123,8 @@ letter_at c letter rest lt is =
     let xs : List ℕ = decimal c ++ letter ∷ rest in
     let len : length xs ≡ length (decimal c) + suc (length rest) = length-append (decimal c) (letter ∷ rest) in
     let first : position_or_len is_pool_letter xs ≡ length (decimal c) = position_or_len_is is_pool_letter xs (length (decimal c)) 0 (omega (arith, len))
-        (λ i below. rw (get_or_append_left (decimal c) (letter ∷ rest) 0 i below) (digit_is_none c i 0 lt below))
-        (λ inside. rw (get_or-append_seam (decimal c) letter rest 0) is) in
+    (λ i below. rw (get_or_append_left (decimal c) (letter ∷ rest) 0 i below) (digit_is_none c i 0 lt below))
+    (λ inside. rw (get_or-append_seam (decimal c) letter rest 0) is) in
     position_is is_pool_letter xs (length (decimal c)) first (omega (arith, len))
 
 -- the worker whose pool has its letter at l
@@ -170,10 +169,10 @@ worker_is name who e =
     let cut : name ≡ take l.0 name ++ get_or name l.0 0 ∷ drop (l.0 + 1) name = rw add-one (split_at name l.0 0 at.0) in
     subst (λ (w : Who). IsKnownWho w → 119 ∷ name ≡ who_text w) (same_Some _ _ x.2)
     (λ (known : (c.0 < greatest_byte) × (x.0 < greatest_byte)).
-      ap (λ (t : List ℕ). 119 ∷ t) (pieces name (take l.0 name) (drop (l.0 + 1) name) (decimal c.0) (decimal x.0) (get_or name l.0 0) cut (byte_takes c.0 _ c.1 known.0) (byte_takes x.0 _ x.1 known.1) at.1))
- where
-  pieces : (name a b c x : List ℕ) (letter : ℕ) → name ≡ a ++ letter ∷ b → a ≡ c → b ≡ x → is_pool_letter letter ≡ true → name ≡ c ++ pool_letter (eqb letter 104) ∷ x
-  pieces name a b c x letter cut first second is = cut ∙ rw (first, second) (ap (λ (k : ℕ). c ++ k ∷ x) (letter_back letter is))
+    ap (λ (t : List ℕ). 119 ∷ t) (pieces name (take l.0 name) (drop (l.0 + 1) name) (decimal c.0) (decimal x.0) (get_or name l.0 0) cut (byte_takes c.0 _ c.1 known.0) (byte_takes x.0 _ x.1 known.1) at.1))
+  where
+    pieces : (name a b c x : List ℕ) (letter : ℕ) → name ≡ a ++ letter ∷ b → a ≡ c → b ≡ x → is_pool_letter letter ≡ true → name ≡ c ++ pool_letter (eqb letter 104) ∷ x
+    pieces name a b c x letter cut first second is = cut ∙ rw (first, second) (ap (λ (k : ℕ). c ++ k ∷ x) (letter_back letter is))
 
 caller_is : (name : List ℕ) (who : Who) → caller_of name ≡ Some who → IsKnownWho who → 99 ∷ name ≡ who_text who
 caller_is name who e =

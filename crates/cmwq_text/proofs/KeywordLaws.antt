@@ -1,12 +1,11 @@
 -- A keyword that is spelled is read again, and what is read as a keyword is spelled so.
-use Rattle.std.proofs.Common.{◌≡◌, ℕ, Bool, true, false, List, [], ◌∷◌, Option, Some, None, refl, ap, sym, ◌∙◌, cond, subst, ◌⊎◌, inl, inr}
+use Rattle.std.proofs.Common.{◌≡◌, ℕ, Bool, true, false, List, [], ◌∷◌, Option, Some, refl, ap, sym, ◌∙◌, cond, subst, ◌⊎◌, inl, inr}
 use Rattle.std.specs.List.{find}
 use Rattle.std.proofs.lemmas.Option.{same_Some}
 use Rattle.std.proofs.lemmas.Slice.Eq.{bytes_eq-Decides}
 use Rattle.cmwq_text.specs.declared.keyword.Keyword.{Keyword}
 use Rattle.cmwq_text.specs.declared.keyword.Keyword.TheVariants as word
 use Rattle.cmwq_text.specs.declared.keyword.TheConstants.{KEYWORDS}
-use Rattle.cmwq_text.specs.Words.{word_in}
 use Rattle.cmwq_text.specs.Keywords.{text, is_text, keyword_of, keyword_in}
 use Rattle.cmwq_text.proofs.WordLaws.{is_plain, word_takes}
 

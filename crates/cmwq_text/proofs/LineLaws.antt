@@ -1,19 +1,17 @@
 -- Whole lines: what is read from one that is spelled, where a line ends, and what fits a shape.
-use Rattle.std.proofs.Common.{◌≡◌, ℕ, zero, suc, ◌+◌, ◌<◌, ◌≤◌, Bool, true, false, ◌&&◌, List, [], ◌∷◌, ◌++◌, length, ltb, leb, Option, Some, None, refl, ap, sym, ◌∙◌, arith, cond, subst, append_assoc}
+use Rattle.std.proofs.Common.{◌≡◌, ℕ, ◌<◌, ◌≤◌, Bool, true, ◌&&◌, List, [], ◌∷◌, ◌++◌, length, ltb, leb, refl, ap, sym, ◌∙◌, arith, append_assoc}
 use Rattle.std.specs.List.{list_all}
 use Rattle.std.proofs.lemmas.Bool.{leb-true, ltb-true, lt-ltb}
 use Rattle.std.proofs.lemmas.List.{same_from_push}
-use Rattle.std.specs.Prelude.{IsTrue}
 use Rattle.cmwq_model.specs.declared.id.Who.{Who}
 use Rattle.cmwq_model.specs.declared.id.Who.TheVariants.{Caller, Worker}
 use Rattle.cmwq_model.specs.declared.call.Call.{Call}
 use Rattle.cmwq_model.specs.declared.call.Call.TheVariants as call
 use Rattle.cmwq_model.specs.declared.reply.Reply.{Reply}
 use Rattle.cmwq_model.specs.declared.reply.Reply.TheVariants as reply
-use Rattle.cmwq_model.specs.Layout.{Layout, is_layout, are_counts, are_queues, is_between, may_make, has_numbers, has_place, is_callers, is_workers, fits}
+use Rattle.cmwq_model.specs.Layout.{Layout, is_layout, are_counts, are_queues, is_between, may_make, has_numbers, has_place, is_callers, is_workers}
 use Rattle.cmwq_text.specs.Numbers.{greatest_byte, greatest_short}
 use Rattle.cmwq_text.specs.Words.{words_of, joined, line_text, is_end}
-use Rattle.cmwq_text.specs.CallText.{is_of_kind}
 use Rattle.cmwq_text.specs.ReplyText.{reply_fits}
 use Rattle.cmwq_text.specs.Laws.{IsLineOf}
 use Rattle.cmwq_text.proofs.Steps.{both}

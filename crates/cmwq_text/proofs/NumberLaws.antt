@@ -1,16 +1,13 @@
 -- A number that is spelled is read again, and what is read as a number is spelled so.
-use Rattle.std.proofs.Common.{◌≡◌, ℕ, zero, suc, ◌+◌, ◌-◌, ◌*◌, ◌<◌, ◌≤◌, ◌^◌, Bool, true, false, not, ◌&&◌, ◌||◌, List, [], ◌∷◌, length, get_or, leb, eqb, min, Option, Some, None, refl, ap, sym, ◌∙◌, arith, cond, subst, rules, ◌⊎◌, inl, inr}
+use Rattle.std.proofs.Common.{◌≡◌, ℕ, zero, suc, ◌<◌, ◌≤◌, ◌^◌, true, false, ◌&&◌, List, [], ◌∷◌, length, get_or, leb, eqb, min, Option, Some, None, refl, ap, sym, ◌∙◌, arith, subst, rules, ◌⊎◌, inl, inr}
 use Rattle.std.specs.Fmt.{decimal}
 use Rattle.std.specs.Str.{all_ascii_digits}
 use Rattle.std.proofs.lemmas.Bool.{eqb-true, leb-true, le-leb, ne_eqb}
 use Rattle.std.proofs.lemmas.Option.{cond_some, same_Some}
 use Rattle.std.proofs.lemmas.Fmt.{decimal_digit, decimal_nonempty, first_decimal, digits_decimal, digits_value-decimal, decimal-digits_value}
 use Rattle.std.proofs.lemmas.Str.Parse.{IsNumeralModel, numerals_by_fold}
-use Rattle.cmwq_text.specs.Numbers.{value_from, digits_from, is_begun, number_of, byte_of, short_of, greatest, greatest_long, greatest_byte, greatest_short, held_at_most}
-
-cond_some_of : (b : Bool) (o : Option ℕ) (n : ℕ) → cond b o None ≡ Some n → (b ≡ true) × (o ≡ Some n)
-cond_some_of true o n e = (refl, e)
-cond_some_of false o n e = absurd cc
+use Rattle.cmwq_text.specs.Numbers.{value_from, digits_from, is_begun, number_of, byte_of, short_of, greatest, greatest_byte, greatest_short, held_at_most}
+use Rattle.cmwq_text.proofs.Steps.{chosen, both}
 
 pub own : IsNumeralModel (λ ds. all_ascii_digits ds ≡ true) (value_from 0)
 own = numerals_by_fold _ (search rules) value_from (search rules)
@@ -40,17 +37,12 @@ number_again limit n le lt =
 begun_is : (ds : List ℕ) → is_begun ds ≡ true → (0 < length ds) × (get_or ds 0 0 ≡ 48 → length ds ≡ 1)
 begun_is [] e = absurd cc
 begun_is (d ∷ ds) e = (omega arith, λ nil. one_digit d ds e nil)
- where
-  one_digit : (d : ℕ) (ds : List ℕ) → is_begun (d ∷ ds) ≡ true → d ≡ 48 → length (d ∷ ds) ≡ 1
-  one_digit d [] e nil = refl
-  one_digit d (x ∷ xs) e nil =
-      let none : length (x ∷ xs) ≡ 0 = eqb-true (length (x ∷ xs)) 0 (rw nil at e) in
-      absurd (omega (arith, none))
-
-both : (a b : Bool) → (a && b) ≡ true → (a ≡ true) × (b ≡ true)
-both true true e = (refl, refl)
-both true false e = absurd cc
-both false b e = absurd cc
+  where
+    one_digit : (d : ℕ) (ds : List ℕ) → is_begun (d ∷ ds) ≡ true → d ≡ 48 → length (d ∷ ds) ≡ 1
+    one_digit d [] e nil = refl
+    one_digit d (x ∷ xs) e nil =
+        let none : length (x ∷ xs) ≡ 0 = eqb-true (length (x ∷ xs)) 0 (rw nil at e) in
+        absurd (omega (arith, none))
 
 digits_take : (limit n : ℕ) (word : List ℕ) → digits_from limit 0 word ≡ Some n → (all_ascii_digits word ≡ true) × (value_from 0 word ≡ n) × (n ≤ limit)
 unfolding digits_from
@@ -62,7 +54,7 @@ digits_take limit n word e =
 pub number_takes : (limit n : ℕ) (word : List ℕ) → limit < 2 ^ 64 → number_of limit word ≡ Some n → (word ≡ decimal n) × (n ≤ limit)
 unfolding number_of
 number_takes limit n word lt e =
-    let begins = cond_some_of (is_begun word) (digits_from limit 0 word) n e in
+    let begins = chosen (is_begun word) (digits_from limit 0 word) n e in
     let digits = digits_take limit n word begins.1 in
     let shape = begun_is word begins.0 in
     let fits : value_from 0 word < 2 ^ 64 = omega (arith, digits.1, digits.2) in
@@ -71,15 +63,15 @@ number_takes limit n word lt e =
 
 pub byte_again : (n : ℕ) → n ≤ greatest_byte → byte_of (decimal n) ≡ Some n
 byte_again n le = rw (number_again greatest n (omega arith) (omega arith)) (ap (λ (k : ℕ). Some k) (min_is n greatest_byte le))
- where
-  min_is : (n most : ℕ) → n ≤ most → min n most ≡ n
-  min_is n most le = omega arith
+  where
+    min_is : (n most : ℕ) → n ≤ most → min n most ≡ n
+    min_is n most le = omega arith
 
 pub short_again : (n : ℕ) → n ≤ greatest_short → short_of (decimal n) ≡ Some n
 short_again n le = rw (number_again greatest n (omega arith) (omega arith)) (ap (λ (k : ℕ). Some k) (min_is n greatest_short le))
- where
-  min_is : (n most : ℕ) → n ≤ most → min n most ≡ n
-  min_is n most le = omega arith
+  where
+    min_is : (n most : ℕ) → n ≤ most → min n most ≡ n
+    min_is n most le = omega arith
 
 held_is : (most n : ℕ) (o : Option ℕ) → held_at_most most o ≡ Some n → n < most → o ≡ Some n
 held_is most n None e lt = absurd cc

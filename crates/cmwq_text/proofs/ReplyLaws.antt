@@ -1,13 +1,12 @@
 -- Replies that are spelled are read again, and what is read as a reply is spelled so.
-use Rattle.std.proofs.Common.{◌≡◌, ℕ, ◌+◌, ◌*◌, ◌<◌, ◌≤◌, ◌^◌, Bool, true, List, [], ◌∷◌, ◌++◌, length, map, Option, Some, None, refl, ap, sym, ◌∙◌, arith}
+use Rattle.std.proofs.Common.{◌≡◌, ℕ, ◌<◌, ◌≤◌, true, List, [], ◌∷◌, ◌++◌, Some, refl, ap, ◌∙◌, arith}
 use Rattle.std.specs.Fmt.{decimal}
-use Rattle.std.proofs.lemmas.Option.{same_Some}
 use Rattle.cmwq_model.specs.declared.reply.Reply.{Reply}
 use Rattle.cmwq_model.specs.declared.reply.Reply.TheVariants as reply
 use Rattle.cmwq_text.specs.declared.keyword.Keyword.{Keyword}
 use Rattle.cmwq_text.specs.declared.keyword.Keyword.TheVariants as word
 use Rattle.cmwq_text.specs.Numbers.{greatest_byte, greatest_short}
-use Rattle.cmwq_text.specs.Words.{◌>>=◌, number_in}
+use Rattle.cmwq_text.specs.Words.{number_in}
 use Rattle.cmwq_text.specs.Keywords.{text, keyword_in}
 use Rattle.cmwq_text.specs.CallText.{phrase}
 use Rattle.cmwq_text.specs.ReplyText.{reply_words, ticket_with, ticket_after, started_with, started_after, reply_after, reply_in}

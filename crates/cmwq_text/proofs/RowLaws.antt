@@ -1,8 +1,7 @@
 -- Values that stand behind one another are spelled as they were read.
-use Rattle.std.proofs.Common.{◌≡◌, ℕ, ◌<◌, List, [], ◌∷◌, ◌++◌, Option, Some, None, refl, ap, sym, ◌∙◌, subst, append_assoc}
+use Rattle.std.proofs.Common.{◌≡◌, ℕ, ◌<◌, List, [], ◌∷◌, ◌++◌, Option, Some, ap, sym, ◌∙◌, subst, append_assoc}
 use Rattle.std.specs.Fmt.{decimal}
 use Rattle.std.proofs.lemmas.Option.{same_Some}
-use Rattle.std.proofs.lemmas.List.{append-nil}
 use Rattle.cmwq_model.specs.declared.id.ItemId.{ItemId}
 use Rattle.cmwq_model.specs.declared.id.QueueId.{QueueId}
 use Rattle.cmwq_model.specs.declared.id.CpuId.{CpuId}
@@ -61,10 +60,10 @@ two_takes {A} {B} {Y} t u make front IsKnown spell same parts ws x e =
     let b = bind_some (u.read a.0.1) (λ (b : B × List (List ℕ)). Some (make a.0.0 b.0, b.1)) x a.2 in
     subst (λ (z : Y × List (List ℕ)). IsKnown z.0 → front ++ ws ≡ spell z.0 ++ z.1) (same_Some (make a.0.0 b.0.0, b.0.1) x b.2)
     (λ known.
-      let k = parts a.0.0 b.0.0 known in
-      more (front) ws a.0.1 (t.spell a.0.0) (t.takes ws a.0 a.1 k.0)
-      ∙ more (front ++ t.spell a.0.0 ∷ []) a.0.1 b.0.1 (u.spell b.0.0) (u.takes a.0.1 b.0 b.1 k.1)
-      ∙ ap (λ (s : List (List ℕ)). s ++ b.0.1) (append_assoc front (t.spell a.0.0 ∷ []) (u.spell b.0.0 ∷ []) ∙ sym (same a.0.0 b.0.0)))
+    let k = parts a.0.0 b.0.0 known in
+    more (front) ws a.0.1 (t.spell a.0.0) (t.takes ws a.0 a.1 k.0)
+    ∙ more (front ++ t.spell a.0.0 ∷ []) a.0.1 b.0.1 (u.spell b.0.0) (u.takes a.0.1 b.0 b.1 k.1)
+    ∙ ap (λ (s : List (List ℕ)). s ++ b.0.1) (append_assoc front (t.spell a.0.0 ∷ []) (u.spell b.0.0 ∷ []) ∙ sym (same a.0.0 b.0.0)))
 
 pub three_takes : {A B C Y : Type 0} (t : Token A) (u : Token B) (v : Token C) (make : A → B → C → Y) (front : List (List ℕ)) (IsKnown : Y → Type 0) (spell : Y → List (List ℕ))
     → ((a : A) (b : B) (c : C) → spell (make a b c) ≡ front ++ t.spell a ∷ u.spell b ∷ v.spell c ∷ []) → ((a : A) (b : B) (c : C) → IsKnown (make a b c) → t.IsKnown a × u.IsKnown b × v.IsKnown c)
@@ -75,11 +74,11 @@ three_takes {A} {B} {C} {Y} t u v make front IsKnown spell same parts ws x e =
     let c = bind_some (v.read b.0.1) (λ (c : C × List (List ℕ)). Some (make a.0.0 b.0.0 c.0, c.1)) x b.2 in
     subst (λ (z : Y × List (List ℕ)). IsKnown z.0 → front ++ ws ≡ spell z.0 ++ z.1) (same_Some (make a.0.0 b.0.0 c.0.0, c.0.1) x c.2)
     (λ known.
-      let k = parts a.0.0 b.0.0 c.0.0 known in
-      more (front) ws a.0.1 (t.spell a.0.0) (t.takes ws a.0 a.1 k.0)
-      ∙ more (front ++ t.spell a.0.0 ∷ []) a.0.1 b.0.1 (u.spell b.0.0) (u.takes a.0.1 b.0 b.1 k.1)
-      ∙ more ((front ++ t.spell a.0.0 ∷ []) ++ u.spell b.0.0 ∷ []) b.0.1 c.0.1 (v.spell c.0.0) (v.takes b.0.1 c.0 c.1 k.2)
-      ∙ ap (λ (s : List (List ℕ)). s ++ c.0.1) (append_assoc (front ++ t.spell a.0.0 ∷ []) (u.spell b.0.0 ∷ []) (v.spell c.0.0 ∷ []) ∙ append_assoc front (t.spell a.0.0 ∷ []) (u.spell b.0.0 ∷ v.spell c.0.0 ∷ []) ∙ sym (same a.0.0 b.0.0 c.0.0)))
+    let k = parts a.0.0 b.0.0 c.0.0 known in
+    more (front) ws a.0.1 (t.spell a.0.0) (t.takes ws a.0 a.1 k.0)
+    ∙ more (front ++ t.spell a.0.0 ∷ []) a.0.1 b.0.1 (u.spell b.0.0) (u.takes a.0.1 b.0 b.1 k.1)
+    ∙ more ((front ++ t.spell a.0.0 ∷ []) ++ u.spell b.0.0 ∷ []) b.0.1 c.0.1 (v.spell c.0.0) (v.takes b.0.1 c.0 c.1 k.2)
+    ∙ ap (λ (s : List (List ℕ)). s ++ c.0.1) (append_assoc (front ++ t.spell a.0.0 ∷ []) (u.spell b.0.0 ∷ []) (v.spell c.0.0 ∷ []) ∙ append_assoc front (t.spell a.0.0 ∷ []) (u.spell b.0.0 ∷ v.spell c.0.0 ∷ []) ∙ sym (same a.0.0 b.0.0 c.0.0)))
 
 pub four_takes : {A B C D Y : Type 0} (t : Token A) (u : Token B) (v : Token C) (w : Token D) (make : A → B → C → D → Y) (front : List (List ℕ)) (IsKnown : Y → Type 0) (spell : Y → List (List ℕ))
     → ((a : A) (b : B) (c : C) (d : D) → spell (make a b c d) ≡ front ++ t.spell a ∷ u.spell b ∷ v.spell c ∷ w.spell d ∷ []) → ((a : A) (b : B) (c : C) (d : D) → IsKnown (make a b c d) → t.IsKnown a × u.IsKnown b × v.IsKnown c × w.IsKnown d)
@@ -91,9 +90,9 @@ four_takes {A} {B} {C} {D} {Y} t u v w make front IsKnown spell same parts ws x 
     let d = bind_some (w.read c.0.1) (λ (d : D × List (List ℕ)). Some (make a.0.0 b.0.0 c.0.0 d.0, d.1)) x c.2 in
     subst (λ (z : Y × List (List ℕ)). IsKnown z.0 → front ++ ws ≡ spell z.0 ++ z.1) (same_Some (make a.0.0 b.0.0 c.0.0 d.0.0, d.0.1) x d.2)
     (λ known.
-      let k = parts a.0.0 b.0.0 c.0.0 d.0.0 known in
-      more (front) ws a.0.1 (t.spell a.0.0) (t.takes ws a.0 a.1 k.0)
-      ∙ more (front ++ t.spell a.0.0 ∷ []) a.0.1 b.0.1 (u.spell b.0.0) (u.takes a.0.1 b.0 b.1 k.1)
-      ∙ more ((front ++ t.spell a.0.0 ∷ []) ++ u.spell b.0.0 ∷ []) b.0.1 c.0.1 (v.spell c.0.0) (v.takes b.0.1 c.0 c.1 k.2)
-      ∙ more (((front ++ t.spell a.0.0 ∷ []) ++ u.spell b.0.0 ∷ []) ++ v.spell c.0.0 ∷ []) c.0.1 d.0.1 (w.spell d.0.0) (w.takes c.0.1 d.0 d.1 k.3)
-      ∙ ap (λ (s : List (List ℕ)). s ++ d.0.1) (append_assoc ((front ++ t.spell a.0.0 ∷ []) ++ u.spell b.0.0 ∷ []) (v.spell c.0.0 ∷ []) (w.spell d.0.0 ∷ []) ∙ append_assoc (front ++ t.spell a.0.0 ∷ []) (u.spell b.0.0 ∷ []) (v.spell c.0.0 ∷ w.spell d.0.0 ∷ []) ∙ append_assoc front (t.spell a.0.0 ∷ []) (u.spell b.0.0 ∷ v.spell c.0.0 ∷ w.spell d.0.0 ∷ []) ∙ sym (same a.0.0 b.0.0 c.0.0 d.0.0)))
+    let k = parts a.0.0 b.0.0 c.0.0 d.0.0 known in
+    more (front) ws a.0.1 (t.spell a.0.0) (t.takes ws a.0 a.1 k.0)
+    ∙ more (front ++ t.spell a.0.0 ∷ []) a.0.1 b.0.1 (u.spell b.0.0) (u.takes a.0.1 b.0 b.1 k.1)
+    ∙ more ((front ++ t.spell a.0.0 ∷ []) ++ u.spell b.0.0 ∷ []) b.0.1 c.0.1 (v.spell c.0.0) (v.takes b.0.1 c.0 c.1 k.2)
+    ∙ more (((front ++ t.spell a.0.0 ∷ []) ++ u.spell b.0.0 ∷ []) ++ v.spell c.0.0 ∷ []) c.0.1 d.0.1 (w.spell d.0.0) (w.takes c.0.1 d.0 d.1 k.3)
+    ∙ ap (λ (s : List (List ℕ)). s ++ d.0.1) (append_assoc ((front ++ t.spell a.0.0 ∷ []) ++ u.spell b.0.0 ∷ []) (v.spell c.0.0 ∷ []) (w.spell d.0.0 ∷ []) ∙ append_assoc (front ++ t.spell a.0.0 ∷ []) (u.spell b.0.0 ∷ []) (v.spell c.0.0 ∷ w.spell d.0.0 ∷ []) ∙ append_assoc front (t.spell a.0.0 ∷ []) (u.spell b.0.0 ∷ v.spell c.0.0 ∷ w.spell d.0.0 ∷ []) ∙ sym (same a.0.0 b.0.0 c.0.0 d.0.0)))

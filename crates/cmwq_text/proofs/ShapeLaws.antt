@@ -1,12 +1,12 @@
 -- Shape lines and lines of queues, and how long lines are.
-use Rattle.std.proofs.Common.{◌≡◌, ℕ, ◌+◌, ◌<◌, ◌≤◌, ◌^◌, Bool, true, false, ◌&&◌, List, [], ◌∷◌, ◌++◌, length, eqb, leb, min, Option, Some, None, refl, ap, sym, ◌∙◌, arith, cond, subst, append_assoc, ◌⊎◌, inl, inr}
+use Rattle.std.proofs.Common.{◌≡◌, ℕ, ◌≤◌, Bool, true, false, ◌&&◌, List, [], ◌∷◌, ◌++◌, length, eqb, leb, min, Option, Some, None, refl, ap, sym, ◌∙◌, arith, cond, subst, ◌⊎◌, inl, inr}
 use Rattle.std.specs.Prelude.{codes, IsTrue}
 use Rattle.std.specs.Fmt.{decimal}
 use Rattle.std.specs.Str.{bytes_eq}
-use Rattle.std.proofs.lemmas.Bool.{leb-true, le-leb, ne_eqb}
+use Rattle.std.proofs.lemmas.Bool.{leb-true, ne_eqb}
 use Rattle.std.proofs.lemmas.Option.{same_Some}
 use Rattle.std.proofs.lemmas.Slice.Eq.{bytes_eq-Decides}
-use Rattle.std.proofs.lemmas.List.{append-nil, length-append}
+use Rattle.std.proofs.lemmas.List.{length-append}
 use Rattle.cmwq_model.specs.declared.id.Who.{Who}
 use Rattle.cmwq_model.specs.declared.id.Who.TheVariants.{Caller, Worker}
 use Rattle.cmwq_model.specs.declared.call.Call.{Call}
@@ -16,7 +16,7 @@ use Rattle.cmwq_model.specs.declared.shape.QueueShape.{QueueShape}
 use Rattle.cmwq_model.specs.Layout.{are_counts, is_between, is_queue}
 use Rattle.cmwq_text.specs.declared.shape.Flags.{Flags}
 use Rattle.cmwq_text.specs.declared.shape.QueueLine.{QueueLine}
-use Rattle.cmwq_text.specs.Words.{◌>>=◌, words_of, joined, line_text, is_end, after, word_in, byte_in, short_in, number_in}
+use Rattle.cmwq_text.specs.Words.{◌>>=◌, words_of, line_text, is_end, after, word_in, byte_in, short_in, number_in}
 use Rattle.cmwq_text.specs.IdText.{who_text, pool_letter}
 use Rattle.cmwq_text.specs.CallText.{call_words, call_text}
 use Rattle.cmwq_text.specs.ReplyText.{reply_words}
@@ -30,7 +30,7 @@ use Rattle.cmwq_text.proofs.WordLaws.{is_plain, are_plain, and_true, is_plain-de
 use Rattle.cmwq_text.proofs.IdLaws.{byte_in_again, number_in_again, byte_in_takes, short_in_takes, number_in_takes}
 use Rattle.cmwq_text.proofs.CallLaws.{call_is_short}
 use Rattle.cmwq_text.proofs.ReplyLaws.{reply_is_short}
-use Rattle.cmwq_text.proofs.PhraseLaws.{numbers_are_plain, size, size-append, line_len, byte_len, short_len, number_len}
+use Rattle.cmwq_text.proofs.PhraseLaws.{numbers_are_plain, size, size-append, line_len, byte_len, number_len}
 use Rattle.cmwq_text.proofs.LineLaws.{line_words, line_is, no_more, counts_are_small}
 
 short_in_again : (n : ℕ) (ws : List (List ℕ)) → n ≤ 65535 → short_in (decimal n ∷ ws) ≡ Some (n, ws)
@@ -62,11 +62,14 @@ counts_read_again n line inside is =
     let plain : are_plain (counts_words n) ≡ true = numbers_are_plain numbers (omega arith, (omega arith, (omega arith, (omega arith, (omega arith, tt))))) in
     let words : words_of line ≡ counts_words n = line_words (codes "shape") (decimal n.cpus ∷ decimal n.workers ∷ decimal n.callers ∷ decimal n.items ∷ decimal n.room ∷ []) line plain is in
     ap counts_from words
-    ∙ rw (byte_in_again n.cpus (decimal n.workers ∷ decimal n.callers ∷ decimal n.items ∷ decimal n.room ∷ []) (omega arith),
-          byte_in_again n.workers (decimal n.callers ∷ decimal n.items ∷ decimal n.room ∷ []) (omega arith),
-          byte_in_again n.callers (decimal n.items ∷ decimal n.room ∷ []) (omega arith),
-          short_in_again n.items (decimal n.room ∷ []) (omega arith),
-          number_in_again n.room [] (omega arith), inside) refl
+    ∙ rw (
+      byte_in_again n.cpus (decimal n.workers ∷ decimal n.callers ∷ decimal n.items ∷ decimal n.room ∷ []) (omega arith),
+      byte_in_again n.workers (decimal n.callers ∷ decimal n.items ∷ decimal n.room ∷ []) (omega arith),
+      byte_in_again n.callers (decimal n.items ∷ decimal n.room ∷ []) (omega arith),
+      short_in_again n.items (decimal n.room ∷ []) (omega arith),
+      number_in_again n.room [] (omega arith),
+      inside,
+    ) refl
 
 counts_pieces : (ws a b c d e rest : List (List ℕ)) (n : Counts) → ws ≡ codes "shape" ∷ a → a ≡ decimal n.cpus ∷ b → b ≡ decimal n.workers ∷ c → c ≡ decimal n.callers ∷ d → d ≡ decimal n.items ∷ e → e ≡ decimal n.room ∷ rest → rest ≡ [] → ws ≡ counts_words n
 counts_pieces ws a b c d e rest n first cpus workers callers items room ended = rw (first, cpus, workers, callers, items, room, ended) refl
@@ -85,13 +88,13 @@ counts_spelled_so n line is =
     let tests = both (is_end room.0.1) (are_counts made.cpus made.workers made.callers made.items made.room) found.0 in
     let small = counts_are_small made.cpus made.workers made.callers made.items made.room tests.1 in
     let words : words_of line ≡ counts_words made = counts_pieces (words_of line) first.0 cpus.0.1 workers.0.1 callers.0.1 items.0.1 room.0.1 made
-        (after_takes (codes "shape") (words_of line) first.0 first.1)
-        (byte_in_takes first.0 cpus.0 cpus.1 (omega arith))
-        (byte_in_takes cpus.0.1 workers.0 workers.1 (omega arith))
-        (byte_in_takes workers.0.1 callers.0 callers.1 (omega arith))
-        (short_in_takes callers.0.1 items.0 items.1 (omega arith))
-        (number_in_takes items.0.1 room.0 room.1)
-        (no_more room.0.1 tests.0) in
+    (after_takes (codes "shape") (words_of line) first.0 first.1)
+    (byte_in_takes first.0 cpus.0 cpus.1 (omega arith))
+    (byte_in_takes cpus.0.1 workers.0 workers.1 (omega arith))
+    (byte_in_takes workers.0.1 callers.0 callers.1 (omega arith))
+    (short_in_takes callers.0.1 items.0 items.1 (omega arith))
+    (number_in_takes items.0.1 room.0 room.1)
+    (no_more room.0.1 tests.0) in
     line_is line (counts_words n) (words ∙ ap counts_words (same_Some _ _ found.1))
 
 -- ---- queues
@@ -179,9 +182,9 @@ queue_line_takes line l e =
     let found = chosen (is_end f.0.1) (Some made) l f.2 in
     let word = word_takes flags_of width.0.1 f.0 f.1 in
     let words = queue_pieces (words_of line) first.0 width.0.1 f.0.1 made word.0
-        (after_takes (codes "wq") (words_of line) first.0 first.1)
-        (number_in_takes first.0 width.0 width.1)
-        word.1 (flags_takes word.0 f.0.0 word.2) (no_more f.0.1 found.0) in
+    (after_takes (codes "wq") (words_of line) first.0 first.1)
+    (number_in_takes first.0 width.0 width.1)
+    word.1 (flags_takes word.0 f.0.0 word.2) (no_more f.0.1 found.0) in
     subst (λ (k : QueueLine). words_of line ≡ codes "wq" ∷ decimal k.max_active ∷ flags_text k.flags ∷ []) (same_Some made l found.1) words
 
 pub queues_spelled_so : QueuesSpelledSo

@@ -1,12 +1,14 @@
 -- A line as its words: where the first ends, and that the words, joined again, are the line.
-use Rattle.std.proofs.Common.{◌≡◌, ℕ, suc, ◌+◌, ◌-◌, ◌<◌, ◌≤◌, Bool, true, false, List, [], ◌∷◌, ◌++◌, length, take, drop, get_or, ltb, Option, Some, None, refl, ap, sym, ◌∙◌, arith, cond, subst}
+use Rattle.std.proofs.Common.{◌≡◌, ℕ, ◌+◌, ◌-◌, ◌≤◌, Bool, true, false, List, [], ◌∷◌, length, take, drop, ltb, Some, None, refl, arith, cond, subst}
 use Rattle.std.specs.Prelude.{position}
-use Rattle.std.specs.List.{slice_split, onto_first, position_or_len}
+use Rattle.std.specs.List.{onto_first, position_or_len}
 use Rattle.std.proofs.lemmas.Bool.{ltb-true, ltb-false}
 use Rattle.std.proofs.lemmas.List.Splits.{slice_split_none, slice_split_first}
 use Rattle.std.proofs.lemmas.List.Sums.{fails_before_first}
 use Rattle.std.proofs.lemmas.Grind.{common_steps}
+use Rattle.std.proofs.lemmas.Option.{cond_some}
 use Rattle.cmwq_text.specs.Words.{is_space, words_of, is_end}
+use Rattle.cmwq_text.proofs.Steps.{not_chosen}
 
 onto_first-has_first : (x : ℕ) (parts : List (List ℕ)) → is_end (onto_first x parts) ≡ false
 onto_first-has_first x [] = refl
@@ -21,23 +23,15 @@ pub split_has_first : (line : List ℕ) → is_end (words_of line) ≡ false
 split_has_first [] = refl
 split_has_first (x ∷ xs) = cond_end (is_space x) ([] ∷ words_of xs) (onto_first x (words_of xs)) refl (onto_first-has_first x (words_of xs))
 
-none_is : (b : Bool) (n : ℕ) → cond b (Some n) None ≡ None → b ≡ false
-none_is true n e = absurd cc
-none_is false n e = refl
-
-some_is : (b : Bool) (m n : ℕ) → cond b (Some m) None ≡ Some n → (b ≡ true) × (m ≡ n)
-some_is true m n e = (refl, cc)
-some_is false m n e = absurd cc
-
 pub split_without_space : (line : List ℕ) → position is_space line ≡ None → words_of line ≡ line ∷ []
 split_without_space line h =
-    let past : length line ≤ position_or_len is_space line = ltb-false _ _ (none_is _ _ h) in
+    let past : length line ≤ position_or_len is_space line = ltb-false _ _ (not_chosen (ltb (position_or_len is_space line) (length line)) (position_or_len is_space line) h) in
     slice_split_none is_space line (λ k d lt. fails_before_first is_space line k d (omega arith))
 
 -- written as the code takes the bytes after the space
 pub split_at_space : (line : List ℕ) (end : ℕ) → position is_space line ≡ Some end → words_of line ≡ take end line ∷ words_of (take (length line - (end + 1)) (drop (end + 1) line))
 split_at_space line end h =
-    let found = some_is (ltb (position_or_len is_space line) (length line)) (position_or_len is_space line) end h in
+    let found = cond_some (ltb (position_or_len is_space line) (length line)) (position_or_len is_space line) end h in
     let split : words_of line ≡ take end line ∷ words_of (drop (end + 1) line) = subst (λ (n : ℕ). words_of line ≡ take n line ∷ words_of (drop (n + 1) line)) found.1 (slice_split_first is_space line 0 (ltb-true _ _ found.0)) in
     let all : take (length line - (end + 1)) (drop (end + 1) line) ≡ drop (end + 1) line = grind (arith, common_steps) in
     rw all split

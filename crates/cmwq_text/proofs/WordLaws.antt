@@ -1,16 +1,15 @@
 -- Words that are joined are found again, if no space and no line feed stands inside them; and a line is its words, joined.
-use Rattle.std.proofs.Common.{◌≡◌, ℕ, zero, suc, ◌+◌, ◌-◌, ◌<◌, ◌≤◌, ◌^◌, Bool, true, false, ◌&&◌, List, [], ◌∷◌, ◌++◌, length, get_or, eqb, leb, ltb, Option, Some, None, refl, ap, sym, ◌∙◌, arith, cond, subst, append_assoc}
+use Rattle.std.proofs.Common.{◌≡◌, ℕ, zero, suc, ◌<◌, ◌≤◌, ◌^◌, Bool, true, false, ◌&&◌, List, [], ◌∷◌, ◌++◌, length, get_or, leb, ltb, Option, Some, refl, ap, ◌∙◌, arith}
 use Rattle.std.specs.Fmt.{decimal}
 use Rattle.std.specs.Char.{is_ascii_digit}
 use Rattle.std.specs.Str.{all_ascii_digits, bytes_eq}
-use Rattle.std.specs.List.{list_all, slice_split, find, join_with_byte}
+use Rattle.std.specs.List.{list_all}
 use Rattle.std.proofs.lemmas.Bool.{leb-true, ltb-true, lt-ltb, ne_eqb}
 use Rattle.std.proofs.lemmas.Option.{same_Some}
 use Rattle.std.proofs.lemmas.List.Splits.{slice_split_none, slice_split_at, join_with_byte-slice_split}
 use Rattle.std.proofs.lemmas.Slice.Eq.{bytes_eq-Decides}
 use Rattle.std.proofs.lemmas.Fmt.{digits_decimal}
-use Rattle.cmwq_text.specs.Numbers.{number_of, byte_of, short_of, greatest, greatest_long, greatest_byte, greatest_short}
-use Rattle.cmwq_text.specs.Words.{◌>>=◌, is_space, words_of, joined, line_text, after, word_in}
+use Rattle.cmwq_text.specs.Words.{is_space, words_of, joined, after, word_in}
 use Rattle.cmwq_text.proofs.Steps.{bind_some, chosen, both}
 use Rattle.cmwq_text.proofs.NumberLaws.{own}
 

@@ -1,5 +1,5 @@
 -- Entries in a text: `<who> <serial> <call> = <reply>`.
-use Rattle.std.specs.Prelude.{ℕ, Bool, ◌&&◌, if◌then◌else◌, List, [], ◌∷◌, ◌++◌, Option, Some, None, codes, decimal}
+use Rattle.std.specs.Prelude.{ℕ, Bool, ◌&&◌, if◌then◌else◌, List, ◌∷◌, ◌++◌, Option, Some, None, codes, decimal}
 use Rattle.cmwq_model.specs.declared.entry.Entry.{Entry}
 use Rattle.cmwq_model.specs.Layout.{Layout, fits}
 use Rattle.cmwq_text.specs.Words.{◌>>=◌, words_of, line_text, is_end, after, number_in}

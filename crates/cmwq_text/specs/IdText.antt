@@ -1,6 +1,6 @@
 -- Items, queues, CPUs, callers and workers in a text. A caller is `c<number>`, a worker `w<cpu>n<index>` in a pool of
 -- normal priority and `w<cpu>h<index>` in one of high priority.
-use Rattle.std.specs.Prelude.{ℕ, ◌+◌, Bool, true, false, ◌||◌, ◌==◌, if◌then◌else◌, List, [], ◌∷◌, ◌++◌, take, drop, slice_index, position, Option, Some, None, decimal}
+use Rattle.std.specs.Prelude.{ℕ, ◌+◌, Bool, ◌||◌, ◌==◌, if◌then◌else◌, List, [], ◌∷◌, ◌++◌, take, drop, slice_index, position, Option, Some, None, decimal}
 use Rattle.cmwq_model.specs.declared.id.ItemId.{ItemId}
 use Rattle.cmwq_model.specs.declared.id.QueueId.{QueueId}
 use Rattle.cmwq_model.specs.declared.id.CpuId.{CpuId}

@@ -8,7 +8,8 @@ use arrayvec::ArrayString;
 use itoa::Buffer;
 use std::marker::Model;
 
-/// The text of a line, with its line feed. It takes no memory but its own.
+/// The text of a line, with its line feed. It takes no memory but its own, which holds twelve words of at most twenty
+/// bytes, each after a space, and the line feed.
 #[derive(Drop)]
 pub struct Line {
     text: ArrayString<256>,
@@ -81,8 +82,11 @@ impl Line {
     /// Spells two such phrases.
     pub(crate) fn push_phrases(&mut self, first: (Keyword, &[u64]), second: (Keyword, &[u64]))
         requires { length self.old + 28 + 21 * (length first.1.now + length second.1.now) ≤ 256 }
-        ensures exact { self.new ≡ self.old ++ spaced (phrase first.entry.0 first.entry.1.now ++ phrase second.entry.0 second.entry.1.now) }
-        ensures short { length self.new ≤ length self.old + 28 + 21 * (length first.entry.1.now + length second.entry.1.now) }
+        ensures exact { let a = phrase first.entry.0 first.entry.1.now in
+            let b = phrase second.entry.0 second.entry.1.now in
+            self.new ≡ self.old ++ spaced (a ++ b) }
+        ensures short { let count = length first.entry.1.now + length second.entry.1.now in
+            length self.new ≤ length self.old + 28 + 21 * count }
     {
         self.push_phrase(first.0, first.1);
         self.push_phrase(second.0, second.1);

@@ -1,4 +1,4 @@
-use Rattle.std.proofs.Common.{get_or, arith, sym, ◌∙◌}
+use Rattle.std.proofs.Common.{arith}
 use Rattle.cmwq_text.proofs.Spacing.{nothing_yet, one_more}
 use Rattle.cmwq_text.proofs.line.Line.push_numbers.Goals as goal
 
