@@ -3,7 +3,6 @@ use Rattle.std.proofs.Common.{◌≡◌, ℕ, suc, ◌+◌, ◌<◌, ◌≤◌, 
 use Rattle.std.specs.Option.{option_or}
 use Rattle.std.specs.Prelude.{IfSome}
 use Rattle.std.proofs.lemmas.List.{append-nil}
-use Rattle.std.proofs.lemmas.List.Elements.{filter-append}
 use Rattle.std.proofs.lemmas.List.Folds.{find-append}
 use Rattle.std.proofs.lemmas.Bool.{lt-ltb, le-ltb}
 use Rattle.cmwq_model.specs.declared.id.PoolId.{PoolId}
@@ -12,8 +11,7 @@ use Rattle.cmwq_model.specs.declared.record.Place.{Place}
 use Rattle.cmwq_model.specs.declared.record.Queueing.{Queueing}
 use Rattle.cmwq_model.specs.Layout.{Layout}
 use Rattle.cmwq_model.specs.Calls.{item_of}
-use Rattle.cmwq_model.specs.Fate.{is_finished, is_cancelled}
-use Rattle.cmwq_model.specs.Queueings.{queueings, opening, opens, queued_at, place_wanted, is_live}
+use Rattle.cmwq_model.specs.Queueings.{queueings, opening, opens, queued_at, place_wanted}
 use Rattle.cmwq_model.specs.Active.{is_active, is_newly_active, newly_active, is_listed, is_startable, activated, worklist, next}
 use Rattle.cmwq_look.specs.Past.{upto}
 use Rattle.cmwq_look.proofs.Parts.{upto-none, upto-all, upto-grows, length-upto}

@@ -1,5 +1,5 @@
 -- The next queueing of a pool, told by when each became active.
-use Rattle.std.specs.Prelude.{ℕ, Bool, ◌&&◌, if◌then◌else◌, List, [], ◌∷◌, length, fold, Option, Some, None, option_map, nat_lt}
+use Rattle.std.specs.Prelude.{ℕ, Bool, ◌&&◌, if◌then◌else◌, List, [], ◌∷◌, length, fold, Option, Some, None, nat_lt}
 use Rattle.std.specs.Option.{option_or}
 use Rattle.cmwq_model.specs.declared.id.PoolId.{PoolId}
 use Rattle.cmwq_model.specs.declared.entry.Entry.{Entry}

@@ -1,4 +1,7 @@
 //! The answer to a call, found by looking back over the flat history and taking no memory.
+//!
+//! Each call takes the history as a list of at most 1,000,000 entries, oldest first. The list may be any list: where
+//! no run of the system could have given it, the answers are still those of the definitions.
 #![tactic(auto)]
 
 mod active;
@@ -18,7 +21,7 @@ ghost use Rattle.cmwq_model.specs.Room as room;
 use cmwq_look::Past;
 use cmwq_model::{Call, Entry, Reply, Shape, Who};
 
-/// The one right answer to the call after this history, oldest entry first, legal or not.
+/// The one right answer to the call after this history.
 pub fn reply_of(shape: &Shape, entries: &[Entry], who: Who, call: Call) -> Reply
     requires { length entries.now ≤ 1000000 }
     ensures { result ≡ answer shape.now (past_of entries.now) who call }
@@ -34,7 +37,8 @@ pub fn serial_of(entries: &[Entry], who: Who) -> u32
     cmwq_look::serial_of(&Past::new(entries), who)
 }
 
-/// Whether the history with the call's entry, and what that still owes, is within the room.
+/// Whether the history with the call's entry, and what it then still owes, is within the shape's room. A call without
+/// room is refused and has no entry.
 pub fn has_room(shape: &Shape, entries: &[Entry], who: Who, call: Call) -> bool
     requires { length entries.now ≤ 1000000 }
     ensures { result ≡ room.has_room shape.now (past_of entries.now) who call }
