@@ -1,9 +1,7 @@
-ghost use Rattle.std.specs.Prelude.{◌≡◌, ◌<◌, ◌≤◌, length, filter, find, position, count_by, slice_index_or, nat_eq, IsTrue, IsSome, IfSome, IfOk, Some, vec_len, vec_capacity, All};
-ghost use Rattle.std.specs.List.{IsDistinct};
+ghost use Rattle.std.specs.Prelude.{◌≡◌, ◌<◌, length, IsTrue, IsSome, IfSome, IfOk, Some};
 ghost use Rattle.cmwq_model.specs.Layout.{is_between};
-ghost use Rattle.cmwq_pool.specs.Seats.{seat_at, is_idle, is_occupied, runs_awake, runs_asleep, run_number, runnable, enlisted_by, may_retire, seat_running, seat_asleep, seat_awake, seat_free, seat_enlisted, seat_retired, with_seat, with_enlisted};
-ghost use Rattle.cmwq_pool.specs.Lineup.{new_lineup, task, is_like, is_not, may_add, added, removed, next_task, next, started, reseated};
-ghost use Rattle.cmwq_pool.specs.Upkeep.{numbers_of, is_free};
+ghost use Rattle.cmwq_pool.specs.Seats.{seat_at, is_idle, runs_awake, runs_asleep, run_number, runnable, enlisted_by, may_retire, seat_asleep, seat_awake, seat_free, seat_retired};
+ghost use Rattle.cmwq_pool.specs.Lineup.{new_lineup, task, may_add, added, removed, next_task, next, started, reseated};
 
 use crate::error::NoMemory;
 use crate::seat::Seat;
@@ -38,7 +36,8 @@ impl Model for Pool {
 }
 
 impl Pool {
-    /// A pool with nothing listed and worker 0 enlisted, for 1 to 256 items and 1 to 8 workers.
+    /// A pool with nothing listed and worker 0 enlisted, for 1 to 256 items and 1 to 8 workers. The error says that
+    /// memory ran out.
     pub fn new(alloc: Global, items: u16, workers: u8) -> Result<Pool, NoMemory>
         requires items { IsTrue (is_between 1 256 items) }
         requires workers { IsTrue (is_between 1 8 workers) }
@@ -89,7 +88,7 @@ impl Pool {
         Some(task.number)
     }
 
-    /// How many runs are awake and not CPU intensive. While there is one, nothing may start.
+    /// How many runs are awake and not CPU intensive (the kernel's `nr_running`). While there is one, nothing may start.
     pub fn runnable(&self) -> u32
         ensures { result ≡ runnable self.now.seats }
     {

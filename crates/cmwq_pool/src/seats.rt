@@ -1,4 +1,4 @@
-ghost use Rattle.std.specs.Prelude.{◌≡◌, ◌<◌, ◌≤◌, length, map, count_by, find, IsTrue, IsSome, IfSome, IfOk, Some, option_map};
+ghost use Rattle.std.specs.Prelude.{◌≡◌, ◌<◌, ◌≤◌, length, map, count_by, find, IsSome, IfSome, IfOk, Some};
 ghost use Rattle.std.specs.List.{range_with_len, list_any};
 ghost use Rattle.cmwq_model.specs.Workers.{has_spare};
 ghost use Rattle.cmwq_pool.specs.Seats.{new_seat, seat_at, is_idle, is_occupied, runnable, indices, is_other_idle, is_reserve_at, enlisted_by, seat_running, seat_free, with_seat, with_enlisted, seats_started};
