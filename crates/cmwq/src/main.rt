@@ -1,23 +1,78 @@
-//! `cmwq`: answers calls of a workqueue runtime.
+//! `cmwq`: answers calls of a workqueue runtime, on standard input and output.
 #![tactic(auto)]
 
 mod word;
 
+use clap::error::ErrorKind;
+use cmwq_base::{BufferedSink, FromStd};
+use cmwq_engine::run_step;
+use std::alloc::{AllocError, Global};
+use std::io;
 use std::process::ExitCode;
-use word::word_of;
+use word::{Word, word_of};
 
-fn main(rt: HostRuntime) -> anyhow::Result<ExitCode> {
-    let alloc = rt.alloc();
-    let args: Vec<String> = std::env::args(&rt)?.collect(alloc)?;
+/// The exit status of a wrong use.
+const WRONG_USE: u8 = 2;
+
+/// The exit status where memory runs out.
+const OUT_OF_MEMORY: u8 = 4;
+
+/// Tells that memory ran out. A failing standard error changes no status.
+fn no_memory(rt: &impl Eprint) -> u8 {
+    let _ = rt.eprintln("cmwq: no memory");
+    OUT_OF_MEMORY
+}
+
+/// Prints what clap has to say: help and the version that were asked for, or a wrong use.
+fn told<R: Print + Eprint>(rt: &R, error: &clap::Error) -> u8 {
+    if matches!(error.kind(), ErrorKind::OutOfMemory) {
+        return no_memory(rt);
+    }
+    let _ = error.print(rt);
+    if error.use_stderr() { WRONG_USE } else { 0 }
+}
+
+/// The arguments as texts, of which the first is the program's name.
+fn texts(alloc: Global, args: &[String]) -> Result<Vec<&str>, AllocError> {
     let mut words = Vec::new(alloc);
-    for arg in &args {
+    for arg in args {
         words.push(arg.as_str())?;
     }
-    match word_of(alloc, &words) {
-        Ok(_) => Ok(ExitCode::SUCCESS),
-        Err(error) => {
-            error.print(&rt)?;
-            Ok(ExitCode::from(error.exit_code() as u8))
-        }
+    Ok(words)
+}
+
+fn step(rt: &HostRuntime) -> u8 {
+    let alloc = rt.alloc();
+    let mut input = FromStd::new(rt.stdin());
+    let mut errors = FromStd::new(rt.stderr());
+    match BufferedSink::new(alloc, FromStd::new(rt.stdout())) {
+        Ok(mut output) => run_step(alloc, &mut input, &mut output, &mut errors),
+        Err(_) => no_memory(rt),
     }
+}
+
+fn answer(rt: &HostRuntime, args: &[String]) -> u8 {
+    let alloc = rt.alloc();
+    let Ok(words) = texts(alloc, args) else {
+        return no_memory(rt);
+    };
+    match word_of(alloc, &words) {
+        Ok(Word::Step) => step(rt),
+        Err(error) => told(rt, &error),
+    }
+}
+
+fn main(rt: HostRuntime) -> ExitCode {
+    let args: io::Result<Vec<String>> = std::env::args(&rt).and_then(|args| Ok(args.collect(
+        rt.alloc(),
+    )?));
+    let status = match args {
+        Ok(args) => answer(&rt, &args),
+        Err(error) if matches!(error.kind(), io::ErrorKind::OutOfMemory) => no_memory(&rt),
+        Err(_) => {
+            let _ = rt.eprintln("cmwq: an argument is no text");
+            WRONG_USE
+        }
+    };
+    ExitCode::from(status)
 }

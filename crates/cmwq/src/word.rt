@@ -28,8 +28,9 @@ fn command<'a>(alloc: Global) -> Result<Command<'a>, Error>
     ensures ok { IfOk result (λ c. app_of c ≡ app) }
     ensures err { IfErr result (λ e. kind_of e ≡ ErrorKind.OutOfMemory) }
 {
-    let step = Command::new(alloc, "step")
-        .about("Reads call lines from standard input and writes the history of their answers");
+    let step = Command::new(alloc, "step").about(
+        "Reads call lines from standard input and writes the history of their answers",
+    );
     let command = Command::new(alloc, "cmwq")
         .version("0.1.0")
         .about("A concurrency managed workqueue runtime")

@@ -22,9 +22,9 @@ pub flat_map-split : {X : Type 0} (f : X → List ℕ) (xs : List X) (i : ℕ) (
 flat_map-split f xs i d h =
     let parts : xs ≡ take i xs ++ (get_or xs i d ∷ drop (i + 1) xs) = sym (take-append-drop i xs) ∙ ap (λ l. take i xs ++ l) (drop-at i d xs h) in
     ap (flat_map f) parts ∙ flat_map-append f (take i xs) (get_or xs i d ∷ drop (i + 1) xs) ∙ ap (λ l. flat_map f (take i xs) ++ l) (flat_map-cons f (get_or xs i d) (drop (i + 1) xs))
-    where
-      drop-at : {X : Type 0} (i : ℕ) (d : X) (xs : List X) → i < length xs → drop i xs ≡ get_or xs i d ∷ drop (i + 1) xs
-      drop-at i d xs h = rw (add-one, drop-cons xs i d) refl
+  where
+    drop-at : {X : Type 0} (i : ℕ) (d : X) (xs : List X) → i < length xs → drop i xs ≡ get_or xs i d ∷ drop (i + 1) xs
+    drop-at i d xs h = rw (add-one, drop-cons xs i d) refl
 
 -- a front of an element's text, after all before it, is a front of the whole
 pub front_at : {X : Type 0} (f : X → List ℕ) (xs : List X) (i : ℕ) (d : X) (a b c : Option (List ℕ)) → i < length xs → Appends a b (flat_map f (take i xs)) → AppendsFront b c (f (get_or xs i d)) → AppendsFront a c (flat_map f xs)

@@ -45,9 +45,9 @@ module _ {X : Type 0} (k : Kind X) (n : ℕ) where
   queue_grows : (c : Counts) (qs : List QueueShape) (o : Option QueueShape) (next : Stage X) → length qs < 64 → with_queue n c qs o ≡ Ok next → Grows (head c qs) next
   queue_grows c qs None next room h = cc
   queue_grows c qs (Some q) next room h =
-    let is : head c (qs ++ q ∷ []) ≡ next = cc in
-    let more = length-append qs (q ∷ []) in
-    subst (Grows (head c qs)) is (record { count = omega arith; within = λ _. omega arith })
+      let is : head c (qs ++ q ∷ []) ≡ next = cc in
+      let more = length-append qs (q ∷ []) in
+      subst (Grows (head c qs)) is (record { count = omega arith; within = λ _. omega arith })
 
   queue_line_grows : (c : Counts) (qs : List QueueShape) (line : List ℕ) (next : Stage X) (b : Bool) → nat_le 64 (length qs) ≡ b
       → (if b then Err (refusal.BadShape n) else with_queue n c qs (k.queue_of line)) ≡ Ok next → Grows (head c qs) next
@@ -56,9 +56,9 @@ module _ {X : Type 0} (k : Kind X) (n : ℕ) where
 
   item_grows : (s : Layout) (xs : List X) (x : X) (next : Stage X) (b : Bool) → length xs < 1000000 → (if b then Ok (body s (xs ++ x ∷ [])) else Err (refusal.NoSuchId n)) ≡ Ok next → Grows (body s xs) next
   item_grows s xs x next true room h =
-    let is : body s (xs ++ x ∷ []) ≡ next = cc in
-    let more = length-append xs (x ∷ []) in
-    subst (Grows (body s xs)) is (record { count = omega arith; within = λ w. (w.0, omega arith) })
+      let is : body s (xs ++ x ∷ []) ≡ next = cc in
+      let more = length-append xs (x ∷ []) in
+      subst (Grows (body s xs)) is (record { count = omega arith; within = λ w. (w.0, omega arith) })
   item_grows s xs x next false room h = cc
 
   with_item_grows : (s : Layout) (xs : List X) (o : Option X) (next : Stage X) → length xs < 1000000 → with_item k n s xs o ≡ Ok next → Grows (body s xs) next
@@ -76,8 +76,8 @@ module _ {X : Type 0} (k : Kind X) (n : ℕ) where
 
   first_grows : (c : Counts) (qs : List QueueShape) (line : List ℕ) (next : Stage X) (b : Bool) → first_item k n (if b then Some (layout_of c qs) else None) line ≡ Ok next → Grows (head c qs) next
   first_grows c qs line next true h =
-    let g = item_line_grows (layout_of c qs) [] line next h in
-    record { count = let more = g.count in omega arith; within = λ w. g.within (w, omega arith) }
+      let g = item_line_grows (layout_of c qs) [] line next h in
+      record { count = let more = g.count in omega arith; within = λ w. g.within (w, omega arith) }
   first_grows c qs line next false h = cc
 
   head_grows : (c : Counts) (qs : List QueueShape) (line : List ℕ) (next : Stage X) (b : Bool) → (if b then queue_line k n c qs line else first_item k n (shape_made c qs) line) ≡ Ok next → Grows (head c qs) next
@@ -115,7 +115,7 @@ module _ {X : Type 0} (k : Kind X) (n : ℕ) (stage : Stage X) where
   whole_fails (Some text) None after line e h t f = absurd h
   whole_fails (Some text) (Some b) None line e h t f = absurd t
   whole_fails (Some text) (Some b) (Some a) line e h t f =
-    subst (Fails e) (sym (h ∙ text_whole k n stage b a line t)) (fails_on e (after_line k n stage line) (λ st. after_text k (n + 1) st a) f)
+      subst (Fails e) (sym (h ∙ text_whole k n stage b a line t)) (fails_on e (after_line k n stage line) (λ st. after_text k (n + 1) st a) f)
 
   pub long_fails : (old before after : Option (List ℕ)) (line : List ℕ) → SameRead k old before n stage → TakesKnownLine before after Long line → IfSome old (λ text. file_of k text ≡ Err refusal.TooLong)
   long_fails None before after line h t = tt
@@ -179,10 +179,10 @@ unfolding after_cut
 cut_is_no_fault n begin = refl
 cut_is_no_fault n (head c qs) = refl
 cut_is_no_fault n (body s xs) = by_full (nat_le 1000000 (length xs))
-    where
-      by_full : (b : Bool) → is_fault (if b then refusal.TooLong else refusal.BadLine n) ≡ false
-      by_full true = refl
-      by_full false = refl
+  where
+    by_full : (b : Bool) → is_fault (if b then refusal.TooLong else refusal.BadLine n) ≡ false
+    by_full true = refl
+    by_full false = refl
 
 -- a result that is no fault isn't this one
 pub no_fault : {Z : Type 0} (e f : Refusal) (r : Result Z Refusal) → is_fault e ≡ false → is_fault f ≡ true → r ≡ Err e → r ≡ Err f → ⊥

@@ -45,10 +45,10 @@ pieces_last text h =
 -- there is always a piece: what stands after the last line feed
 pieces_some : (text : List ℕ) → (p : List ℕ) × (ps : List (List ℕ)) × (pieces text ≡ p ∷ ps)
 pieces_some text = by_feed (has_feed text) refl
-    where
-      by_feed : (b : Bool) → has_feed text ≡ b → (p : List ℕ) × (ps : List (List ℕ)) × (pieces text ≡ p ∷ ps)
-      by_feed true h = (first_line text, pieces (rest_of text), pieces_fed text h)
-      by_feed false h = (text, [], pieces_last text h)
+  where
+    by_feed : (b : Bool) → has_feed text ≡ b → (p : List ℕ) × (ps : List (List ℕ)) × (pieces text ≡ p ∷ ps)
+    by_feed true h = (first_line text, pieces (rest_of text), pieces_fed text h)
+    by_feed false h = (text, [], pieces_last text h)
 
 -- ---- how the first line was found
 
@@ -95,13 +95,13 @@ module _ {X : Type 0} (k : Kind X) (n : ℕ) (stage : Stage X) where
 
   pub text_whole : (old new line : List ℕ) → TakesLine old new Whole line → after_text k n stage old ≡ and_then (λ next. after_text k (n + 1) next new) (after_line k n stage line)
   text_whole old new line t =
-    let f = whole_found (is_text_long old) (has_feed old) (length old == 0) t.kind in
-    let is_line : line ≡ first_line old = t.bytes ∙ ap (λ b. if b then [] else first_line old) f.0 in
-    let is_rest : new ≡ rest_of old = t.rest ∙ ap (λ b. if b then old else rest_of old) f.0 in
-    let some = pieces_some (rest_of old) in
-    ap (after_pieces k n stage) (pieces_fed old f.1) ∙ after_first_piece (first_line old) (pieces (rest_of old)) some.0 some.1 some.2 f.0
-    ∙ ap (λ l. and_then (λ next. after_text k (n + 1) next (rest_of old)) (after_line k n stage l)) (sym is_line)
-    ∙ ap (λ r. and_then (λ next. after_text k (n + 1) next r) (after_line k n stage line)) (sym is_rest)
+      let f = whole_found (is_text_long old) (has_feed old) (length old == 0) t.kind in
+      let is_line : line ≡ first_line old = t.bytes ∙ ap (λ b. if b then [] else first_line old) f.0 in
+      let is_rest : new ≡ rest_of old = t.rest ∙ ap (λ b. if b then old else rest_of old) f.0 in
+      let some = pieces_some (rest_of old) in
+      ap (after_pieces k n stage) (pieces_fed old f.1) ∙ after_first_piece (first_line old) (pieces (rest_of old)) some.0 some.1 some.2 f.0
+      ∙ ap (λ l. and_then (λ next. after_text k (n + 1) next (rest_of old)) (after_line k n stage l)) (sym is_line)
+      ∙ ap (λ r. and_then (λ next. after_text k (n + 1) next r) (after_line k n stage line)) (sym is_rest)
 
   long_last : (text : List ℕ) → is_long text ≡ true → after_last n stage text ≡ Err refusal.TooLong
   long_last [] h = cc
@@ -114,12 +114,13 @@ module _ {X : Type 0} (k : Kind X) (n : ℕ) (stage : Stage X) where
 
   pub text_long : (old new line : List ℕ) → TakesLine old new Long line → after_text k n stage old ≡ Err refusal.TooLong
   text_long old new line t = by_feed (has_feed old) refl
-      where
-        long : is_long (first_line old) ≡ true
-        long = long_found (is_text_long old) (has_feed old) (length old == 0) t.kind
-        by_feed : (b : Bool) → has_feed old ≡ b → after_text k n stage old ≡ Err refusal.TooLong
-        by_feed true h = ap (after_pieces k n stage) (pieces_fed old h) ∙ long_piece (first_line old) (pieces (rest_of old)) long
-        by_feed false h = ap (after_pieces k n stage) (pieces_last old h) ∙ long_piece old [] (subst (λ l. is_long l ≡ true) (first_is_all old h) long)
+    where
+      long : is_long (first_line old) ≡ true
+      long = long_found (is_text_long old) (has_feed old) (length old == 0) t.kind
+
+      by_feed : (b : Bool) → has_feed old ≡ b → after_text k n stage old ≡ Err refusal.TooLong
+      by_feed true h = ap (after_pieces k n stage) (pieces_fed old h) ∙ long_piece (first_line old) (pieces (rest_of old)) long
+      by_feed false h = ap (after_pieces k n stage) (pieces_last old h) ∙ long_piece old [] (subst (λ l. is_long l ≡ true) (first_is_all old h) long)
 
   cut_last : (text : List ℕ) → is_long text ≡ false → (length text == 0) ≡ false → after_last n stage text ≡ Err (after_cut n stage)
   cut_last [] h some = cc
@@ -131,8 +132,8 @@ module _ {X : Type 0} (k : Kind X) (n : ℕ) (stage : Stage X) where
 
   pub text_cut : (old new line : List ℕ) → TakesLine old new Cut line → after_text k n stage old ≡ Err (after_cut n stage)
   text_cut old new line t =
-    let f = cut_found (is_text_long old) (has_feed old) (length old == 0) t.kind in
-    last_piece old f.1 ∙ cut_last old (subst (λ l. is_long l ≡ false) (first_is_all old f.1) f.0) f.2
+      let f = cut_found (is_text_long old) (has_feed old) (length old == 0) t.kind in
+      last_piece old f.1 ∙ cut_last old (subst (λ l. is_long l ≡ false) (first_is_all old f.1) f.0) f.2
 
   none_last : (text : List ℕ) → (length text == 0) ≡ true → after_last n stage text ≡ at_end stage
   none_last [] h = refl
@@ -140,5 +141,5 @@ module _ {X : Type 0} (k : Kind X) (n : ℕ) (stage : Stage X) where
 
   pub text_end : (old new line : List ℕ) → TakesLine old new End line → after_text k n stage old ≡ at_end stage
   text_end old new line t =
-    let f = end_found (is_text_long old) (has_feed old) (length old == 0) t.kind in
-    last_piece old f.0 ∙ none_last old f.1
+      let f = end_found (is_text_long old) (has_feed old) (length old == 0) t.kind in
+      last_piece old f.0 ∙ none_last old f.1

@@ -100,8 +100,8 @@ module _ {X : Type 0} where
   after_pieces k n stage [] = at_end stage
   after_pieces k n stage (last ∷ []) = after_last n stage last
   after_pieces k n stage (line ∷ more ∷ rest) =
-    if is_long line then Err refusal.TooLong
-    else and_then (λ next. after_pieces k (n + 1) next (more ∷ rest)) (after_line k n stage line)
+      if is_long line then Err refusal.TooLong
+      else and_then (λ next. after_pieces k (n + 1) next (more ∷ rest)) (after_line k n stage line)
 
   -- the rest of a text from its n-th line on, and a whole text
   abbrev pub after_text : Kind X → ℕ → Stage X → List ℕ → Result (File X) Refusal

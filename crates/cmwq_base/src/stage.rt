@@ -47,7 +47,10 @@ pub enum Stage<T> {
         queues: Vec<QueueShape>,
     },
     /// The shape, and what the lines behind it say.
-    Body { shape: Shape, items: Vec<T> },
+    Body {
+        shape: Shape,
+        items: Vec<T>,
+    },
 }
 
 impl<T: FileLine + Drop> Stage<T> {

@@ -30,11 +30,7 @@ fn entry_for(shape: &Shape, entries: &[Entry], who: Who, call: Call) -> Entry
 
 /// Makes the steps of the calls: the entry of each call that has room, while those without are left out and counted.
 /// Takes memory for the entries, and fails where there is none.
-pub fn steps_of(
-    alloc: Global,
-    shape: &Shape,
-    calls: &[(Who, Call)],
-) -> Result<Steps, AllocError>
+pub fn steps_of(alloc: Global, shape: &Shape, calls: &[(Who, Call)]) -> Result<Steps, AllocError>
     requires { length calls.now ≤ 1000000 }
     ensures past { IfOk result (λ r. past_of r.entries.items ≡ (steps shape.now calls.now).past) }
     ensures left_out { IfOk result (λ r. r.left_out ≡ (steps shape.now calls.now).left_out) }

@@ -26,11 +26,7 @@ fn write_entries<W: Sink>(sink: &mut W, entries: &[Entry]) -> Result<(), Refusal
 ///
 /// # Errors
 /// `WriteFault` where the sink fails, also at the flush; a front of the text has been written then.
-pub fn write_history<W: Sink>(
-    sink: &mut W,
-    shape: &Shape,
-    entries: &[Entry],
-) -> Result<(), Refusal>
+pub fn write_history<W: Sink>(sink: &mut W, shape: &Shape, entries: &[Entry]) -> Result<(), Refusal>
     ensures ok { OnOk result (Appends (W.written sink.old) (W.written sink.new) (history_text shape.now entries.now)) }
     ensures err { OnErr result (AppendsFront (W.written sink.old) (W.written sink.new) (history_text shape.now entries.now)) }
     ensures flushed { OnOk result (W.held sink.new ≡ 0) }

@@ -32,22 +32,24 @@ first_of x xs k w false h =
 
 filter-ranked : (f : Queueing → Bool) (w k : ℕ) (xs : List Queueing) → Ranked f w k xs → filter f xs ≡ take (w - k) xs
 filter-ranked f w k [] h = sym take_nil
-    where
-      take_nil : take {A = Queueing} (w - k) [] ≡ []
-      take_nil = grind arith
+  where
+    take_nil : take {A = Queueing} (w - k) [] ≡ []
+    take_nil = grind arith
 filter-ranked f w k (x ∷ xs) h = ap (λ ys. cond (f x) (x ∷ ys) ys) (filter-ranked f w (suc k) xs h.1) ∙ first_of x xs k w (f x) h.0
 
 -- in a rising list the number of those below an element is that of those before it
 ranked_of : (f : Queueing → Bool) (w k : ℕ) (xs : List Queueing) → IsRising xs → AllByRecursion (λ x. f x ≡ nat_lt (k + count_by (is_below x) xs) w) xs → Ranked f w k xs
 ranked_of f w k [] h c = tt
 ranked_of f w k (x ∷ xs) h c = (c.0 ∙ ap (λ n. nat_lt (k + n) w) none_below ∙ ap (λ n. nat_lt n w) (add-zero k), ranked_of f w (suc k) xs h.1 (All_both (λ y. x.number < y.number) _ (λ y. f y ≡ nat_lt (suc k + count_by (is_below y) xs) w) xs one_below h.0 c.1))
-    where
-      not_self : is_below x x ≡ false
-      not_self = grind (arith, nat_tests)
-      none_below : count_by (is_below x) (x ∷ xs) ≡ 0
-      none_below = count_by-cons (is_below x) x xs ∙ ap₂ (λ b n. cond b 1 0 + n) not_self (count_by-none (is_below x) xs (All_map (λ y. x.number < y.number) (λ y. is_below x y ≡ false) xs (λ y less. grind (arith, nat_tests)) h.0))
-      one_below : (y : Queueing) → x.number < y.number → f y ≡ nat_lt (k + count_by (is_below y) (x ∷ xs)) w → f y ≡ nat_lt (suc k + count_by (is_below y) xs) w
-      one_below y less e =
+  where
+    not_self : is_below x x ≡ false
+    not_self = grind (arith, nat_tests)
+
+    none_below : count_by (is_below x) (x ∷ xs) ≡ 0
+    none_below = count_by-cons (is_below x) x xs ∙ ap₂ (λ b n. cond b 1 0 + n) not_self (count_by-none (is_below x) xs (All_map (λ y. x.number < y.number) (λ y. is_below x y ≡ false) xs (λ y less. grind (arith, nat_tests)) h.0))
+
+    one_below : (y : Queueing) → x.number < y.number → f y ≡ nat_lt (k + count_by (is_below y) (x ∷ xs)) w → f y ≡ nat_lt (suc k + count_by (is_below y) xs) w
+    one_below y less e =
         let is : is_below y x ≡ true = grind (arith, nat_tests) in
         let more : count_by (is_below y) (x ∷ xs) ≡ 1 + count_by (is_below y) xs = count_by-cons (is_below y) x xs ∙ ap (λ b. cond b 1 0 + count_by (is_below y) xs) is in
         let sum : k + count_by (is_below y) (x ∷ xs) ≡ suc k + count_by (is_below y) xs = omega arith in
@@ -63,12 +65,13 @@ ahead_on q c x y h =
 pub active_are_first : (s : Layout) (past : List Entry) (q c : ℕ) → filter (is_active s past) (open_on past q c) ≡ take (width_of s q) (open_on past q c)
 active_are_first s past q c = filter-ranked (is_active s past) (width_of s q) 0 (open_on past q c) (ranked_of (is_active s past) (width_of s q) 0 (open_on past q c) (rising_filter (is_on q c) (still_open past) (open_rise past)) each)
     ∙ ap (λ n. take n (open_on past q c)) (let all : width_of s q - 0 ≡ width_of s q = omega arith in all)
-    where
-      is_first : (x : Queueing) → is_live past x ≡ true → is_on q c x ≡ true → is_active s past x ≡ nat_lt (0 + count_by (is_below x) (open_on past q c)) (width_of s q)
-      is_first x live on =
+  where
+    is_first : (x : Queueing) → is_live past x ≡ true → is_on q c x ≡ true → is_active s past x ≡ nat_lt (0 + count_by (is_below x) (open_on past q c)) (width_of s q)
+    is_first x live on =
         let queue : x.place.queue.0 ≡ q = grind (arith, nat_tests) in
         let count : count_by (is_ahead x) (still_open past) ≡ count_by (is_below x) (open_on past q c) = count_by-filter (is_ahead x) (is_on q c) (is_below x) (still_open past) (λ y. ahead_on q c x y on) in
         ap₂ (λ b n. b && nat_lt n (width_of s x.place.queue.0)) live count ∙ ap (λ n. nat_lt (count_by (is_below x) (open_on past q c)) (width_of s n)) queue
         ∙ ap (λ n. nat_lt n (width_of s q)) (sym (zero-add (count_by (is_below x) (open_on past q c))))
-      each : AllByRecursion (λ x. is_active s past x ≡ nat_lt (0 + count_by (is_below x) (open_on past q c)) (width_of s q)) (open_on past q c)
-      each = All_filter _ (is_on q c) (still_open past) (All_filter _ (is_live past) (queueings past) (All_each _ (queueings past) is_first))
+
+    each : AllByRecursion (λ x. is_active s past x ≡ nat_lt (0 + count_by (is_below x) (open_on past q c)) (width_of s q)) (open_on past q c)
+    each = All_filter _ (is_on q c) (still_open past) (All_filter _ (is_live past) (queueings past) (All_each _ (queueings past) is_first))

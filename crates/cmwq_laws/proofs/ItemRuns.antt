@@ -86,10 +86,10 @@ item_started : (past : List Entry) (i : ℕ) (start : Start) (o : Option Start) 
     → option_and_then (λ (st : Start). if is_open past i st.number then Some st else None) o ≡ Some start → item_start past i ≡ Some start
 item_started past i start None last h = cc
 item_started past i start (Some st) last h = last ∙ here (is_open past i st.number) h
-    where
-      here : (b : Bool) → (if b then Some st else None) ≡ Some start → Some st ≡ Some start
-      here true h = h
-      here false h = cc
+  where
+    here : (b : Bool) → (if b then Some st else None) ≡ Some start → Some st ≡ Some start
+    here true h = h
+    here false h = cc
 
 pub item_run_started : (past : List Entry) (i : ℕ) (start : Start) → item_run past i ≡ Some start → item_start past i ≡ Some start
 item_run_started past i start h = item_started past i start (item_start past i) refl h
@@ -150,18 +150,18 @@ starts_known s past e n legal started =
       is_item = ap (item_at past) (sym st.number) ∙ found.holds.item;
       has_none = not_true (item_runs past st.queueing.item.0) found.startable;
     }
-    where
-      not_true : (b : Bool) → not b ≡ true → b ≡ false
-      not_true true h = cc
-      not_true false h = refl
+  where
+    not_true : (b : Bool) → not b ≡ true → b ≡ false
+    not_true true h = cc
+    not_true false h = refl
 
 pub started_older : (s : Layout) (past : List Entry) (w : WorkerId) (n : ℕ) → IsLegal s past → last_start past w ≡ Some n → n < length past
 unfolding last_start IsLegal
 started_older s [] w n legal h = cc
 started_older s (e ∷ past) w n legal h = elim (last_start_cases e past w n h) [
-      | now by starts ↦ let less : n < length past = (starts_known s past e n legal starts).older in omega arith
-      | before last ↦ let less : n < length past = started_older s past w n legal.2 last in omega arith
-    ]
+  | now by starts ↦ let less : n < length past = (starts_known s past e n legal starts).older in omega arith
+  | before last ↦ let less : n < length past = started_older s past w n legal.2 last in omega arith
+]
 
 -- ---- the law
 
@@ -172,12 +172,12 @@ unmoved s past e i (Some m) legal started runs =
     let k = starts_known s past e m legal started in
     let is = starts_its_item e past (record { worker = k.worker; number = m }) i k.item (start_of_worker e k.worker m k.by_worker started) k.is_item in
     is ∙ differs k.item k.has_none
-    where
-      differs : (j : ℕ) → item_runs past j ≡ false → (j == i) ≡ false
-      differs j none = elim (eqb_tells j i) [
-            | inl same ↦ let both : item_runs past i ≡ false = subst (λ k. item_runs past k ≡ false) same.1 none in cc
-            | inr other ↦ other.0
-          ]
+  where
+    differs : (j : ℕ) → item_runs past j ≡ false → (j == i) ≡ false
+    differs j none = elim (eqb_tells j i) [
+      | inl same ↦ let both : item_runs past i ≡ false = subst (λ k. item_runs past k ≡ false) same.1 none in cc
+      | inr other ↦ other.0
+    ]
 
 abbrev RunsItem : List Entry → WorkerId → ℕ → ℕ → Type 0
 RunsItem past w n i = item_run past i ≡ Some (record { worker = w; number = n })
@@ -219,6 +219,6 @@ one_worker s past v w n m i legal hv hw kn km =
     let same : Some (record { worker = v; number = n }) ≡ Some (record { worker = w; number = m }) = sym (runs_are_items s past v n i legal hv kn) ∙ runs_are_items s past w m i legal hw km in
     let starts = some_same (record { worker = v; number = n }) (record { worker = w; number = m }) same in
     (ap (λ (st : Start). st.worker) starts, ap (λ (st : Start). st.number) starts)
-    where
-      some_same : (a b : Start) → Some a ≡ Some b → a ≡ b
-      some_same a b h = cc
+  where
+    some_same : (a b : Start) → Some a ≡ Some b → a ≡ b
+    some_same a b h = cc

@@ -45,4 +45,4 @@ module _ {X : Type 0} where
   pub count_by-filter : (p q r : X → Bool) (xs : List X) → ((x : X) → p x ≡ (q x && r x)) → count_by p xs ≡ count_by r (filter q xs)
   count_by-filter p q r [] h = refl
   count_by-filter p q r (x ∷ xs) h =
-    count_by-cons p x xs ∙ ap₂ (λ b n. cond b 1 0 + n) (h x) (count_by-filter p q r xs h) ∙ sym (count_by-head r x (filter q xs) (q x))
+      count_by-cons p x xs ∙ ap₂ (λ b n. cond b 1 0 + n) (h x) (count_by-filter p q r xs h) ∙ sym (count_by-head r x (filter q xs) (q x))

@@ -26,7 +26,7 @@ pub data ModifyCase (past : List Entry) (who : Who) (i q t : ℕ) : Reply → Ty
 modify_case : (past : List Entry) (who : Who) (i q t : ℕ) (a b c d e f : Bool)
     → may_call past who ≡ a → is_cancelling past i ≡ b → runs_elsewhere past i q ≡ c → is_shut past who q t ≡ d → is_pending past i ≡ e → (t == 0) ≡ f
     → ModifyCase past who i q t (if not a then reply.Misuse else if b then reply.No else if c then reply.Foreign else if d then reply.Draining
-      else if e then (if f then reply.Again (length past) else reply.Rebooked (now past + t)) else if f then reply.Yes (length past) else reply.Booked (now past + t))
+    else if e then (if f then reply.Again (length past) else reply.Rebooked (now past + t)) else if f then reply.Yes (length past) else reply.Booked (now past + t))
 modify_case past who i q t false b c d e f ha hb hc hd he hf = idle_worker ha
 modify_case past who i q t true true c d e f ha hb hc hd he hf = cancelling hb
 modify_case past who i q t true false true d e f ha hb hc hd he hf = foreign hc

@@ -37,11 +37,11 @@ module _ {X : Type 0} where
       → count_by p (filter f (xs ++ option_to_list o)) ≤ count_by p (filter g xs)
   count_narrower p f g [] o h last = let none = count_last p f o last in omega arith
   count_narrower p f g (x ∷ xs) o h last =
-    let rest = count_narrower p f g xs o h.1 last in
-    let here = count_step p x (count_by p (filter f (xs ++ option_to_list o))) (count_by p (filter g xs)) (f x) (g x) h.0 rest in
-    let left = count_by-head p x (filter f (xs ++ option_to_list o)) (f x) in
-    let right = count_by-head p x (filter g xs) (g x) in
-    omega arith
+      let rest = count_narrower p f g xs o h.1 last in
+      let here = count_step p x (count_by p (filter f (xs ++ option_to_list o))) (count_by p (filter g xs)) (f x) (g x) h.0 rest in
+      let left = count_by-head p x (filter f (xs ++ option_to_list o)) (f x) in
+      let right = count_by-head p x (filter g xs) (g x) in
+      omega arith
 
 -- no more older ones are open on its queue and CPU than before
 fewer_ahead : (past : List Entry) (e : Entry) (x : Queueing) → x.number < length past → count_by (is_ahead x) (still_open (e ∷ past)) ≤ count_by (is_ahead x) (still_open past)
@@ -52,12 +52,13 @@ fewer_ahead past e x older = count_narrower (is_ahead x) (is_live (e ∷ past)) 
 
 pub stays_active : (s : Layout) (past : List Entry) (e : Entry) (x : Queueing) → x.number < length past → is_active s past x ≡ true → is_live (e ∷ past) x ≡ true → is_active s (e ∷ past) x ≡ true
 stays_active s past e x older active live = active_of (width_left active) live (fewer_ahead past e x older)
-    where
-      width_left : is_active s past x ≡ true → count_by (is_ahead x) (still_open past) < width_of s x.place.queue.0
-      width_left h = ltb-true _ _ (grind arith)
-      active_of : count_by (is_ahead x) (still_open past) < width_of s x.place.queue.0 → is_live (e ∷ past) x ≡ true
-          → count_by (is_ahead x) (still_open (e ∷ past)) ≤ count_by (is_ahead x) (still_open past) → is_active s (e ∷ past) x ≡ true
-      active_of less live fewer = grind (arith, nat_tests)
+  where
+    width_left : is_active s past x ≡ true → count_by (is_ahead x) (still_open past) < width_of s x.place.queue.0
+    width_left h = ltb-true _ _ (grind arith)
+
+    active_of : count_by (is_ahead x) (still_open past) < width_of s x.place.queue.0 → is_live (e ∷ past) x ≡ true
+        → count_by (is_ahead x) (still_open (e ∷ past)) ≤ count_by (is_ahead x) (still_open past) → is_active s (e ∷ past) x ≡ true
+    active_of less live fewer = grind (arith, nat_tests)
 
 -- ---- since when a queueing is active
 
@@ -89,32 +90,34 @@ since_older : (s : Layout) (past : List Entry) (x : Queueing) (j : ℕ) → sinc
 unfolding since
 since_older s [] x j h = cc
 since_older s (e ∷ past) x j h = elim (since_cases s e past x j h) [
-      | already before ↦ let less : x.number < length past = since_older s past x j before in omega arith
-      | at_once none active is ↦ active_older s (e ∷ past) x active
-    ]
+  | already before ↦ let less : x.number < length past = since_older s past x j before in omega arith
+  | at_once none active is ↦ active_older s (e ∷ past) x active
+]
 
 -- what was active at some time and is open now is active now
 still_active : (s : Layout) (past : List Entry) (x : Queueing) (j : ℕ) → since s past x ≡ Some j → is_live past x ≡ true → is_active s past x ≡ true
 unfolding since
 still_active s [] x j h live = cc
 still_active s (e ∷ past) x j h live = elim (since_cases s e past x j h) [
-      | already before ↦ let older = since_older s past x j before in
-        stays_active s past e x older (still_active s past x j before (open_before e past x.item.0 x.number older live)) live
-      | at_once none active is ↦ active
-    ]
+  | already before ↦ let older = since_older s past x j before in
+      stays_active s past e x older (still_active s past x j before (open_before e past x.item.0 x.number older live)) live
+  | at_once none active is ↦ active
+]
 
 -- what an entry makes active is active since then
 newly_since : (s : Layout) (past : List Entry) (e : Entry) (x : Queueing) → is_newly_active s past e x ≡ true → since s (e ∷ past) x ≡ Some (length (e ∷ past))
 unfolding since
 newly_since s past e x h = since_now (since s past x) refl
-    where
-      active : is_active s (e ∷ past) x ≡ true
-      active = grind arith
-      was_not : is_active s past x ≡ true → ⊥
-      was_not before = grind arith
-      since_now : (o : Option ℕ) → since s past x ≡ o → option_or o (if is_active s (e ∷ past) x then Some (length (e ∷ past)) else None) ≡ Some (length (e ∷ past))
-      since_now None ho = ap (λ b. if b then Some (length (e ∷ past)) else None) active
-      since_now (Some j) ho =
+  where
+    active : is_active s (e ∷ past) x ≡ true
+    active = grind arith
+
+    was_not : is_active s past x ≡ true → ⊥
+    was_not before = grind arith
+
+    since_now : (o : Option ℕ) → since s past x ≡ o → option_or o (if is_active s (e ∷ past) x then Some (length (e ∷ past)) else None) ≡ Some (length (e ∷ past))
+    since_now None ho = ap (λ b. if b then Some (length (e ∷ past)) else None) active
+    since_now (Some j) ho =
         let older = since_older s past x j ho in
         absurd (was_not (still_active s past x j ho (open_before e past x.item.0 x.number older (active_live s (e ∷ past) x active))))
 
@@ -151,9 +154,9 @@ in_order_filter s past p (x ∷ xs) h =
 in_order_keeps : (s : Layout) (past : List Entry) (e : Entry) (xs : List Queueing) → AreInOrder s past xs → AreInOrder s (e ∷ past) xs
 in_order_keeps s past e [] h = tt
 in_order_keeps s past e (x ∷ xs) h = (All_map (IsSooner s past x) (IsSooner s (e ∷ past) x) xs keeps h.0, in_order_keeps s past e xs h.1)
-    where
-      keeps : (y : Queueing) → IsSooner s past x y → IsSooner s (e ∷ past) x y
-      keeps y k = record { x_since = k.x_since; y_since = k.y_since; x_is = since_keeps s e past x k.x_since k.x_is; y_is = since_keeps s e past y k.y_since k.y_is; order = k.order }
+  where
+    keeps : (y : Queueing) → IsSooner s past x y → IsSooner s (e ∷ past) x y
+    keeps y k = record { x_since = k.x_since; y_since = k.y_since; x_is = since_keeps s e past x k.x_since k.x_is; y_is = since_keeps s e past y k.y_since k.y_is; order = k.order }
 
 -- what is active since one moment stands by number
 one_moment : (s : Layout) (past : List Entry) (j : ℕ) (xs : List Queueing) → IsRising xs → AllByRecursion (λ x. since s past x ≡ Some j) xs → AreInOrder s past xs
@@ -173,8 +176,8 @@ activated_in_order s (e ∷ past) =
     (in_order_keeps s past e (activated s past) (activated_in_order s past))
     (one_moment s (e ∷ past) (length (e ∷ past)) (newly_active s past e) (rising_filter (is_newly_active s past e) (queueings (e ∷ past)) (queueings_rise (e ∷ past))) (newly_all_since s past e))
     (All_map (HasSince s past) (λ x. AllByRecursion (IsSooner s (e ∷ past) x) (newly_active s past e)) (activated s past) before (activated_since s past))
-    where
-      before : (x : Queueing) → HasSince s past x → AllByRecursion (IsSooner s (e ∷ past) x) (newly_active s past e)
-      before x h = All_map (λ y. since s (e ∷ past) y ≡ Some (length (e ∷ past))) (IsSooner s (e ∷ past) x) (newly_active s past e)
-          (λ y is. let within = h.within in record { x_since = h.at; y_since = length (e ∷ past); x_is = since_keeps s e past x h.at h.is; y_is = is; order = inl (omega arith) })
-          (newly_all_since s past e)
+  where
+    before : (x : Queueing) → HasSince s past x → AllByRecursion (IsSooner s (e ∷ past) x) (newly_active s past e)
+    before x h = All_map (λ y. since s (e ∷ past) y ≡ Some (length (e ∷ past))) (IsSooner s (e ∷ past) x) (newly_active s past e)
+        (λ y is. let within = h.within in record { x_since = h.at; y_since = length (e ∷ past); x_is = since_keeps s e past x h.at h.is; y_is = is; order = inl (omega arith) })
+        (newly_all_since s past e)

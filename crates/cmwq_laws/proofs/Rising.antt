@@ -43,10 +43,10 @@ opening_number past e x h = wanted_number past (opens e.reply) (item_of e) (plac
 
 below_more : (n : ℕ) (xs : List Queueing) (o : Option Queueing) → AllByRecursion (IsBelow n) xs → ((x : Queueing) → o ≡ Some x → x.number ≡ n) → AllByRecursion (IsBelow (suc n)) (xs ++ option_to_list o)
 below_more n xs o h k = All_append (IsBelow (suc n)) xs (option_to_list o) (All_map (IsBelow n) (IsBelow (suc n)) xs (λ x less. omega arith) h) (opened o k)
-    where
-      opened : (o : Option Queueing) → ((x : Queueing) → o ≡ Some x → x.number ≡ n) → AllByRecursion (IsBelow (suc n)) (option_to_list o)
-      opened None k = tt
-      opened (Some x) k = let is : x.number ≡ n = k x refl in (omega arith, tt)
+  where
+    opened : (o : Option Queueing) → ((x : Queueing) → o ≡ Some x → x.number ≡ n) → AllByRecursion (IsBelow (suc n)) (option_to_list o)
+    opened None k = tt
+    opened (Some x) k = let is : x.number ≡ n = k x refl in (omega arith, tt)
 
 pub queueings_below : (past : List Entry) → AllByRecursion (IsBelow (length past)) (queueings past)
 unfolding queueings
@@ -69,10 +69,10 @@ open_rise past = rising_filter (is_live past) (queueings past) (queueings_rise p
 pub find_least : (p : Queueing → Bool) (xs : List Queueing) (y : Queueing) → IsRising xs → find p xs ≡ Some y → AllByRecursion (λ x. p x ≡ true → y.number ≤ x.number) xs
 find_least p [] y h found = tt
 find_least p (x ∷ xs) y h found = least (p x) refl found (find_least p xs y h.1)
-    where
-      least : (b : Bool) → p x ≡ b → cond b (Some x) (find p xs) ≡ Some y → (find p xs ≡ Some y → AllByRecursion (λ z. p z ≡ true → y.number ≤ z.number) xs)
-          → AllByRecursion (λ z. p z ≡ true → y.number ≤ z.number) (x ∷ xs)
-      least true passes found later =
+  where
+    least : (b : Bool) → p x ≡ b → cond b (Some x) (find p xs) ≡ Some y → (find p xs ≡ Some y → AllByRecursion (λ z. p z ≡ true → y.number ≤ z.number) xs)
+        → AllByRecursion (λ z. p z ≡ true → y.number ≤ z.number) (x ∷ xs)
+    least true passes found later =
         let is : x.number ≡ y.number = ap (λ (z : Queueing). z.number) (let same : x ≡ y = cc in same) in
         ((λ e. omega arith), All_map (λ z. x.number < z.number) (λ z. p z ≡ true → y.number ≤ z.number) xs (λ z less e. omega arith) h.0)
-      least false fails found later = ((λ e. cc), later found)
+    least false fails found later = ((λ e. cc), later found)

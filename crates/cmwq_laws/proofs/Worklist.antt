@@ -41,7 +41,7 @@ module _ {X : Type 0} where
   filter_contains : (p : X → Bool) (xs : List X) → AllByRecursion (λ x. p x ≡ true → Contains (filter p xs) x) xs
   filter_contains p [] = tt
   filter_contains p (x ∷ xs) =
-    (kept_here x (filter p xs) (p x), All_map (λ y. p y ≡ true → Contains (filter p xs) y) (λ y. p y ≡ true → Contains (filter p (x ∷ xs)) y) xs (λ y h passes. kept_later x y (filter p xs) (p x) (h passes)) (filter_contains p xs))
+      (kept_here x (filter p xs) (p x), All_map (λ y. p y ≡ true → Contains (filter p xs) y) (λ y. p y ≡ true → Contains (filter p (x ∷ xs)) y) xs (λ y h passes. kept_later x y (filter p xs) (p x) (h passes)) (filter_contains p xs))
 
 -- ---- what is active became active
 
