@@ -1,5 +1,5 @@
 -- A list, and one element more where there is one.
-use Rattle.std.proofs.Common.{◌≡◌, ℕ, ◌+◌, Bool, true, false, List, [], ◌∷◌, ◌++◌, Option, Some, None, option_to_list, filter, find, count_by, ◌||◌, if◌then◌else◌, refl, ap, ◌∙◌, zero-add, length, length-append}
+use Rattle.std.proofs.Common.{◌≡◌, ◌+◌, Bool, true, false, List, [], ◌∷◌, ◌++◌, Some, None, filter, find, count_by, ◌||◌, if◌then◌else◌, refl, ap, ◌∙◌, zero-add, length, length-append}
 use Rattle.std.specs.Option.{option_or}
 use Rattle.std.specs.List.{list_any}
 use Rattle.std.proofs.lemmas.List.{append-nil}

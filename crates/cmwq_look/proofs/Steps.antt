@@ -1,18 +1,17 @@
 -- What one entry more does to each word.
-use Rattle.std.proofs.Common.{◌≡◌, ℕ, ◌+◌, ◌≤◌, Bool, false, ◌&&◌, ◌||◌, not, nat_lt, List, [], ◌∷◌, ◌++◌, length, filter, Option, Some, None, is_some, option_to_list, if◌then◌else◌, refl, ap}
+use Rattle.std.proofs.Common.{◌≡◌, ℕ, ◌+◌, ◌≤◌, false, ◌&&◌, ◌||◌, not, nat_lt, List, [], ◌∷◌, ◌++◌, length, filter, None, is_some, option_to_list, if◌then◌else◌, refl, ap}
 use Rattle.std.proofs.lemmas.List.Sums.{sum_by-cons}
 use Rattle.cmwq_model.specs.declared.id.Who.{Who}
 use Rattle.cmwq_model.specs.declared.id.Who.TheVariants.{Worker}
 use Rattle.cmwq_model.specs.declared.id.WorkerId.{WorkerId}
 use Rattle.cmwq_model.specs.declared.entry.Entry.{Entry}
-use Rattle.cmwq_model.specs.declared.record.Booking.{Booking}
 use Rattle.cmwq_model.specs.Calls.{is_by, is_of_item, ticks_told, now, serial_of}
 use Rattle.cmwq_model.specs.Bookings.{settles, booking, booking_of}
 use Rattle.cmwq_model.specs.Fate.{is_started, is_cancelled, takes_back, replaces, number_started}
 use Rattle.cmwq_model.specs.Runs.{last_start, is_asleep, asleep_after, item_start, starts_item, start_in}
 use Rattle.cmwq_model.specs.Queueings.{queueings, opening, still_open, is_live}
 use Rattle.cmwq_model.specs.Tickets.{tickets, ticket_in, unended, is_unended}
-use Rattle.cmwq_look.specs.Past.{upto, open_upto, unended_upto}
+use Rattle.cmwq_look.specs.Past.{open_upto, unended_upto}
 use Rattle.cmwq_look.proofs.Parts.{upto-none, upto-all}
 
 pub serial_step : (e : Entry) (past : List Entry) (who : Who) → serial_of (e ∷ past) who ≡ (if is_by who e then 1 else 0) + serial_of past who

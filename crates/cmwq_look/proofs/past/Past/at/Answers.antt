@@ -1,4 +1,3 @@
-use Rattle.std.proofs.Common.{arith}
 use Rattle.cmwq_look.proofs.Parts.{upto-then-step, upto-then-last, within, within_none}
 use Rattle.cmwq_look.proofs.past.Past.at.Goals as goal
 
