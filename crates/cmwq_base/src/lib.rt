@@ -17,7 +17,8 @@ pub use cmwq_model::{
 };
 pub use cmwq_text::{entry_fits, reply_fits};
 pub use files::{CallFile, HistoryFile, read_calls, read_history};
-pub use reading::read_file;
 pub use refusal::Refusal;
-pub use stage::{Contents, FileLine, Stage};
 pub use writing::{write_entry, write_shape};
+
+#[cfg(test)]
+mod tests;

@@ -9,3 +9,6 @@ mod told;
 pub use history::{Steps, steps_of};
 pub use output::write_history;
 pub use step::run_step;
+
+#[cfg(test)]
+mod tests;
