@@ -39,10 +39,20 @@ fn what_is_read_is_written_again(rt: HostRuntime) {
 fn the_first_refusal_is_told(rt: HostRuntime) {
     let alloc = rt.alloc();
     assert_eq!(rt; refused(&rt, alloc, b""), Refusal::BadShape(1));
-    assert_eq!(rt; refused(&rt, alloc, b"shape 1 2 1 3 100\n"), Refusal::BadShape(2));
-    assert_eq!(rt; refused(&rt, alloc, b"shape 1 2 1 3 100"), Refusal::BadLine(1));
     assert_eq!(rt;
-        refused(&rt, alloc, b"shape 1 2 1 3 100\nwq 1 -\nc0 queue 3 0 0\nc0 bogus\n"),
+        refused(&rt, alloc, b"shape 1 2 1 3 100\n"),
+        Refusal::BadShape(2)
+    );
+    assert_eq!(rt;
+        refused(&rt, alloc, b"shape 1 2 1 3 100"),
+        Refusal::BadLine(1)
+    );
+    assert_eq!(rt;
+        refused(
+            &rt,
+            alloc,
+            b"shape 1 2 1 3 100\nwq 1 -\nc0 queue 3 0 0\nc0 bogus\n"
+        ),
         Refusal::NoSuchId(3)
     );
     assert_eq!(rt;

@@ -36,13 +36,37 @@ fn answers_the_first_run(rt: HostRuntime) {
 #[test]
 fn refuses_what_is_cut(rt: HostRuntime) {
     check_step(&rt, &CALLS[..0], 1, b"", b"cmwq: line 1: bad shape\n");
-    check_step(&rt, &CALLS[..17], 1, b"", b"cmwq: line 1: not a line of this format\n");
+    check_step(
+        &rt,
+        &CALLS[..17],
+        1,
+        b"",
+        b"cmwq: line 1: not a line of this format\n",
+    );
     check_step(&rt, &CALLS[..18], 1, b"", b"cmwq: line 2: bad shape\n");
-    check_step(&rt, &CALLS[..24], 1, b"", b"cmwq: line 2: not a line of this format\n");
+    check_step(
+        &rt,
+        &CALLS[..24],
+        1,
+        b"",
+        b"cmwq: line 2: not a line of this format\n",
+    );
     check_step(&rt, &CALLS[..25], 0, &HISTORY[..25], b"");
-    check_step(&rt, &CALLS[..26], 1, b"", b"cmwq: line 3: not a line of this format\n");
+    check_step(
+        &rt,
+        &CALLS[..26],
+        1,
+        b"",
+        b"cmwq: line 3: not a line of this format\n",
+    );
     check_step(&rt, &CALLS[..40], 0, &HISTORY[..50], b"");
-    check_step(&rt, &CALLS[..61], 1, b"", b"cmwq: line 5: not a line of this format\n");
+    check_step(
+        &rt,
+        &CALLS[..61],
+        1,
+        b"",
+        b"cmwq: line 5: not a line of this format\n",
+    );
 }
 
 #[test]
@@ -70,6 +94,9 @@ fn faults_of_reading_and_writing(rt: HostRuntime) {
     let mut output = FailsAt::new(Memory::writer(alloc, 200).expect(&rt, "memory"), 3);
     let mut input = Memory::reader(CALLS);
     assert_eq!(rt; run_step(alloc, &mut input, &mut output, &mut errors), 5);
-    assert_eq!(rt; output.inner().as_slice(), b"shape 1 2 1 3 100\nwq 1 -\n".as_slice());
+    assert_eq!(rt;
+        output.inner().as_slice(),
+        b"shape 1 2 1 3 100\nwq 1 -\n".as_slice()
+    );
     assert_eq!(rt; errors.as_slice(), b"cmwq: write fault\n".as_slice());
 }

@@ -108,3 +108,32 @@ pub fn sixteen_flushes()
 pub fn no_room()
     ensures { Holds no_room }
 {}
+
+#[cfg(test)]
+mod tests {
+    use super::*;
+
+    #[test]
+    fn each_is_there() {
+        first_run();
+        no_calls();
+        pending_item();
+        queued_while_it_runs();
+        foreign();
+        inactive_and_cancelled();
+        two_made_active_at_once();
+        held_by_a_run();
+        cpu_intensive();
+        lanes();
+        retire_while_enough_idle();
+        timer_at_its_tick();
+        modify_replaces();
+        timer_held_back();
+        flush_waits_for_older();
+        cancel_sync_of_self_queueing();
+        drain_refuses_others();
+        flush_delayed_and_cancel_sync();
+        sixteen_flushes();
+        no_room();
+    }
+}

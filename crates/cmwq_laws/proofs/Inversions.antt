@@ -1,57 +1,49 @@
 -- What a legal entry's reply can be, call by call.
-use Rattle.std.proofs.Common.{◌≡◌, ◌==◌, ◌+◌, not, ℕ, Bool, true, false, if◌then◌else◌, List, length, Option, Some, arith, ap, ◌∷◌}
+use Rattle.std.proofs.Common.{◌≡◌, ℕ, List, length, Option, Some, arith, ap, ◌∷◌}
 use Rattle.cmwq_model.specs.declared.id.WorkerId.{WorkerId}
 use Rattle.cmwq_model.specs.declared.id.Who.{Who}
 use Rattle.cmwq_model.specs.declared.id.Who.TheVariants.{Caller, Worker}
 use Rattle.cmwq_model.specs.declared.call.Call.{Call}
 use Rattle.cmwq_model.specs.declared.call.Call.TheVariants as call
 use Rattle.cmwq_model.specs.declared.record.Ticket.{Ticket}
-use Rattle.cmwq_model.specs.declared.reply.Reply.TheVariants as reply
+use Rattle.cmwq_model.specs.declared.reply.Reply.{Reply}
 use Rattle.cmwq_model.specs.declared.entry.Entry.{Entry}
 use Rattle.cmwq_model.specs.Layout.{Layout}
-use Rattle.cmwq_model.specs.Calls.{now}
-use Rattle.cmwq_model.specs.Queueings.{is_pending, runs_elsewhere}
-use Rattle.cmwq_model.specs.Tickets.{is_cancelling}
-use Rattle.cmwq_model.specs.Answer.{may_call, is_shut, answer, queue_answer, modify_answer, cancel_answer, flush_item_answer, flush_delayed_answer, cancel_sync_answer, end_of_ticket, take_answer, finish_answer, retire_answer}
+use Rattle.cmwq_model.specs.Answer.{answer, queue_answer, modify_answer, cancel_answer, flush_item_answer, flush_delayed_answer, cancel_sync_answer, end_of_ticket, take_answer, finish_answer, retire_answer}
 use Rattle.cmwq_model.specs.Tickets.{ticket_of}
 use Rattle.cmwq_model.specs.Legal.{IsLegal}
 use Rattle.cmwq_laws.specs.Fidelity.{number_given}
+use Rattle.cmwq_laws.proofs.QueueCases as queue
+use Rattle.cmwq_laws.proofs.ModifyCases as modify
 
 pub answer_is : (s : Layout) (past : List Entry) (e : Entry) → IsLegal s (e ∷ past) → e.reply ≡ answer s past e.who e.call
 unfolding IsLegal
 answer_is s past e legal = ap (λ (x : Entry). x.reply) legal.1
 
--- a chain of cases of which only some give a number, all of them the same
-queue_chain : (a b c d e f : Bool) (n due k : ℕ)
-    → number_given (if a then reply.Misuse else if b then reply.No else if c then reply.No else if d then reply.Foreign else if e then reply.Draining else if f then reply.Yes n else reply.Booked due) ≡ Some k
-    → k ≡ n
-queue_chain true b c d e f n due k h = cc
-queue_chain false true c d e f n due k h = cc
-queue_chain false false true d e f n due k h = cc
-queue_chain false false false true e f n due k h = cc
-queue_chain false false false false true f n due k h = cc
-queue_chain false false false false false true n due k h = cc
-queue_chain false false false false false false n due k h = cc
+queue_names : {past : List Entry} {who : Who} {i q t : ℕ} {r : Reply} (k : ℕ) → queue.QueueCase past who i q t r → number_given r ≡ Some k → k ≡ length past
+queue_names k (queue.idle_worker a) h = cc
+queue_names k (queue.cancelling a) h = cc
+queue_names k (queue.pending a) h = cc
+queue_names k (queue.foreign a) h = cc
+queue_names k (queue.shut a) h = cc
+queue_names k (queue.queued a b c d e f) h = cc
+queue_names k (queue.booked a b c d e f) h = cc
+
+modify_names : {past : List Entry} {who : Who} {i q t : ℕ} {r : Reply} (k : ℕ) → modify.ModifyCase past who i q t r → number_given r ≡ Some k → k ≡ length past
+modify_names k (modify.idle_worker a) h = cc
+modify_names k (modify.cancelling a) h = cc
+modify_names k (modify.foreign a) h = cc
+modify_names k (modify.shut a) h = cc
+modify_names k (modify.again a b c d e f) h = cc
+modify_names k (modify.rebooked a b c d e f) h = cc
+modify_names k (modify.queued a b c d e f) h = cc
+modify_names k (modify.booked a b c d e f) h = cc
 
 queue_given : (past : List Entry) (who : Who) (i q t k : ℕ) → number_given (queue_answer past who i q t) ≡ Some k → k ≡ length past
-unfolding queue_answer
-queue_given past who i q t k h = queue_chain (not (may_call past who)) (is_cancelling past i) (is_pending past i) (runs_elsewhere past i q) (is_shut past who q t) (t == 0) (length past) (now past + t) k h
-
-modify_chain : (a b c d e f : Bool) (n due k : ℕ)
-    → number_given (if a then reply.Misuse else if b then reply.No else if c then reply.Foreign else if d then reply.Draining else if e then (if f then reply.Again n else reply.Rebooked due) else if f then reply.Yes n else reply.Booked due) ≡ Some k
-    → k ≡ n
-modify_chain true b c d e f n due k h = cc
-modify_chain false true c d e f n due k h = cc
-modify_chain false false true d e f n due k h = cc
-modify_chain false false false true e f n due k h = cc
-modify_chain false false false false true true n due k h = cc
-modify_chain false false false false true false n due k h = cc
-modify_chain false false false false false true n due k h = cc
-modify_chain false false false false false false n due k h = cc
+queue_given past who i q t k h = queue_names k (queue.queue_cases past who i q t) h
 
 modify_given : (past : List Entry) (who : Who) (i q t k : ℕ) → number_given (modify_answer past who i q t) ≡ Some k → k ≡ length past
-unfolding modify_answer
-modify_given past who i q t k h = modify_chain (not (may_call past who)) (is_cancelling past i) (runs_elsewhere past i q) (is_shut past who q t) (is_pending past i) (t == 0) (length past) (now past + t) k h
+modify_given past who i q t k h = modify_names k (modify.modify_cases past who i q t) h
 
 cancel_given : (past : List Entry) (who : Who) (i : ℕ) (k : ℕ) → number_given (cancel_answer past who i) ≡ Some k → k ≡ length past
 unfolding cancel_answer

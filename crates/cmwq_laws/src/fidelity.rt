@@ -33,3 +33,18 @@ pub fn runs_are_items()
 pub fn tickets_wait_for_least()
     ensures { WaitsForLeast }
 {}
+
+#[cfg(test)]
+mod tests {
+    use super::*;
+
+    #[test]
+    fn each_is_there() {
+        replies_name_themselves();
+        queueings_stand_by_number();
+        active_are_first();
+        worklists_are_in_order();
+        runs_are_items();
+        tickets_wait_for_least();
+    }
+}
