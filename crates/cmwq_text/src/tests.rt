@@ -220,3 +220,17 @@ fn ids_inside_the_shape(rt: HostRuntime) -> Result<(), Fail> {
     assert!(rt; !entry_fits(&shape, &entry));
     Ok(())
 }
+
+#[test]
+fn each_law_is_there() {
+    calls_read_again();
+    calls_spelled_so();
+    counts_read_again();
+    counts_spelled_so();
+    entries_read_again();
+    entries_spelled_so();
+    entries_stand_apart();
+    lines_are_short();
+    queues_read_again();
+    queues_spelled_so();
+}
