@@ -72,3 +72,23 @@ fn unknown(alloc: Global) -> Result<Error, Error>
     let mut command = command(alloc)?;
     Ok(command.error(ErrorKind::InvalidSubcommand, "no such word")?)
 }
+
+#[cfg(test)]
+mod tests {
+    use super::*;
+    use std::test::Fail;
+
+    #[test]
+    fn reads_a_word(rt: HostRuntime) -> Result<(), Fail> {
+        let word = word_of(rt.alloc(), &["cmwq", "step"])?;
+        assert_eq!(rt; word, Word::Step);
+        Ok(())
+    }
+
+    #[test]
+    fn refuses_other_words(rt: HostRuntime) {
+        assert!(rt; word_of(rt.alloc(), &["cmwq", "steps"]).is_err());
+        assert!(rt; word_of(rt.alloc(), &["cmwq"]).is_err());
+        assert!(rt; word_of(rt.alloc(), &["cmwq", "--help"]).is_err());
+    }
+}

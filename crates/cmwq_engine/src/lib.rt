@@ -6,8 +6,6 @@ mod output;
 mod step;
 mod told;
 
-pub use history::{Steps, steps_of};
-pub use output::write_history;
 pub use step::run_step;
 
 #[cfg(test)]
