@@ -1,0 +1,2 @@
+mod Search
+mod Counts
