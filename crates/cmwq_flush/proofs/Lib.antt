@@ -1,2 +1,6 @@
 mod Search
 mod Counts
+mod Waiting
+mod Recolouring
+mod Orderly
+mod Rightness

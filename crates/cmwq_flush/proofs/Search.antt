@@ -1,6 +1,6 @@
 -- What a binary search finds among elements whose keys rise, and what is left when the one it found is removed.
 use Rattle.std.proofs.Common.{◌≡◌, ◌≢◌, ℕ, ◌+◌, ◌<◌, ◌≤◌, Bool, true, false, not, eqb, List, [], ◌∷◌, ◌++◌, length, get_or, take, drop, zero, suc, Option, Some, None, Result, Ok, Err, IfOk, OnErr, IfSome, IfNone, IsSome, sym, ap, refl, ◌∙◌, subst, arith, rules, ⊎_elim}
-use Rattle.std.specs.Prelude.{map, filter, All, AllPairs, Contains}
+use Rattle.std.specs.Prelude.{map, filter, find, All, AllPairs, Contains}
 use Rattle.std.specs.Result.{result_ok}
 use Rattle.std.specs.List.{HoldsAt, remove}
 use Rattle.std.specs.List.Sorted.{IsSearchInRange, IsBinarySearchResult, IsNonDecreasingBy}
@@ -27,6 +27,20 @@ remove_is_filter p (x ∷ xs) (suc i) in_range fails others =
     let rest = remove_is_filter p xs i (omega arith) fails (λ k d lt differs. others (suc k) d (omega arith) (λ same. differs (omega arith))) in
     rw (others 0 x (omega arith) (omega arith)) (ap (λ ys. x ∷ ys) rest)
 
+-- the first that passes
+pub find_first : {X : Type 0} (p : X → Bool) (xs : List X) (i : ℕ) (d : X) → i < length xs → p (get_or xs i d) ≡ true → ((k : ℕ) → k < i → p (get_or xs k d) ≡ false) → find p xs ≡ Some (get_or xs i d)
+find_first p [] i d lt passes before = absurd (omega arith)
+find_first p (x ∷ xs) zero d lt passes before = rw passes refl
+find_first p (x ∷ xs) (suc i) d lt passes before =
+    let fails : p x ≡ false = before 0 (omega arith) in
+    rw fails (find_first p xs i d (omega arith) passes (λ k below. before (suc k) (omega arith)))
+
+pub find_none : {X : Type 0} (p : X → Bool) (xs : List X) → All (λ x. p x ≡ false) xs → find p xs ≡ None
+find_none p [] all = refl
+find_none p (x ∷ xs) all =
+    let fails : p x ≡ false = All-head (λ x. p x ≡ false) x xs all in
+    rw fails (find_none p xs (All-tail (λ x. p x ≡ false) x xs all))
+
 module _ {X : Type 0} (key : X → ℕ) (xs : List X) (n : ℕ) where
   abbrev pub IsAt : ℕ → Type 0
   IsAt i = (i < length xs) × HoldsAt (λ x. key x ≡ n) xs i
@@ -51,6 +65,9 @@ module _ {X : Type 0} (key : X → ℕ) (xs : List X) (n : ℕ) where
   found_from_some any (Some i) at some = contains_from_at any i at
   found_from_some any None at some = cc
 
+  pub find_absent : IsAbsent → find (λ x. eqb (key x) n) xs ≡ None
+  find_absent absent = find_none (λ x. eqb (key x) n) xs (λ k d lt. let differs = absent k d lt in grind (arith, nat_tests))
+
   module _ (rising : AllPairs (λ x y. key x < key y) xs) where
     -- the comparisons with n rise along the list, as a binary search asks
     comparisons_rise : IsNonDecreasingBy (λ x. ordering_index (nat_cmp (key x) n)) xs
@@ -64,6 +81,9 @@ module _ {X : Type 0} (key : X → ℕ) (xs : List X) (n : ℕ) where
     searched (Err i) in_range parted =
         let sides = parted comparisons_rise in
         (tt, λ k d lt same. ⊎_elim (λ (below : k < i). let less : key (get_or xs k d) < n = ranked _ n _ (sym (sides.0 k d (omega arith) below)) in omega arith) (λ (above : i ≤ k). let more : n < key (get_or xs k d) = ranked _ n _ (sym (sides.1 k d above lt)) in omega arith) (cases_lt k i))
+
+    pub find_at_key : (d : X) (i : ℕ) → IsAt i → find (λ x. eqb (key x) n) xs ≡ Some (get_or xs i d)
+    find_at_key d i at = find_first (λ x. eqb (key x) n) xs i d at.0 (let here = at.1 d in grind (arith, nat_tests)) (λ k below. let less = rising k i d below at.0 in let here = at.1 d in grind (arith, nat_tests))
 
     -- the removal of the element with the key keeps those with another
     pub remove_at : (i : ℕ) → IsAt i → remove xs i ≡ filter (λ x. not (eqb (key x) n)) xs

@@ -1,2 +1,5 @@
 pub mod Numbers
 pub mod Rows
+pub mod Served
+pub mod FlushBook
+pub mod Colouring

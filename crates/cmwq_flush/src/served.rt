@@ -1,0 +1,23 @@
+ghost use Rattle.std.specs.Prelude.{◌≡◌, AllPairs, IfSome, IfNone};
+ghost use Rattle.cmwq_flush.specs.Served.{IsOlder, LacksTicket, HasTicketAt};
+
+use cmwq_model::Number;
+
+/// A flush that is served.
+#[derive(Clone, Copy, Debug)]
+pub struct Served {
+    pub ticket: Number,
+    /// It waits for the queueings below this number: those that were opened before it was served.
+    pub bound: u64,
+}
+
+/// The place of the flush with this ticket, if it is served.
+pub(crate) fn find_served(served: &[Served], ticket: Number) -> Option<usize>
+    requires { AllPairs IsOlder served.now }
+    ensures found { IfSome result (HasTicketAt served.now ticket) }
+    ensures absent { IfNone result (LacksTicket served.now ticket) }
+{
+    served
+        .binary_search_by_key(&ticket, |flush| flush.ticket)
+        .ok()
+}
