@@ -1,22 +1,23 @@
 -- Each call keeps a flush book right.
 use Rattle.std.proofs.Common.{◌≡◌, ◌≢◌, ℕ, ◌+◌, ◌-◌, ◌*◌, ◌<◌, ◌≤◌, Bool, true, false, not, cond, eqb, List, [], ◌∷◌, ◌++◌, length, get_or, take, zero, suc, Some, None, sym, ap, refl, ◌∙◌, subst, arith, rules, ⊎_elim}
-use Rattle.std.specs.Prelude.{All, AllPairs, Contains, map, filter, ◌↔◌, Option, IfSome, slice_get}
+use Rattle.std.specs.Prelude.{All, AllPairs, Contains, map, filter, ◌↔◌, Option, IfSome, slice_get, nat_lt}
 use Rattle.std.specs.List.{remove, list_all, range_with_len}
 use Rattle.std.proofs.lemmas.List.FromFn.{get_or-range_with_len}
 use Rattle.std.proofs.lemmas.Bool.{cases_lt}
+use Rattle.std.proofs.lemmas.Bool.Decides.{nat_tests}
 use Rattle.std.proofs.lemmas.List.{get_or-map, get_or_default, length-map, length-append}
-use Rattle.std.proofs.lemmas.List.Elements.{All-map, Contains-append_cases}
+use Rattle.std.proofs.lemmas.List.Elements.{All-map, All-append, Contains-append_cases}
 use Rattle.std.proofs.lemmas.List.Edits.{length-remove}
 use Rattle.cmwq_flush.specs.declared.limits.TheConstants.{COLOURS, MOST_SERVED, TICKETS_OF_CALLER}
 use Rattle.cmwq_flush.specs.declared.served.Served.{Served}
 use Rattle.cmwq_flush.specs.declared.tally.Row.{Row}
 use Rattle.cmwq_flush.specs.Numbers.{IsRising, is_other, without}
 use Rattle.cmwq_flush.specs.Rows.{number_of, numbers_of, without_row, is_other_row, is_unused, ComesBefore}
-use Rattle.cmwq_flush.specs.Served.{ticket_of, IsOlder, HasTicketAt, LacksTicket}
+use Rattle.cmwq_flush.specs.Served.{ticket_of, tickets_of, IsOlder, HasTicketAt, LacksTicket}
 use Rattle.cmwq_flush.specs.FlushBook.{FlushBook, new_book, flush_from, flush_tickets, served_of, IsReady, CanOpen, HasRoom, served_with_oldest, without_oldest, serve_oldest, after_end}
 use Rattle.cmwq_flush.specs.Colouring.{IsOrderly, IsServing, IsColouring, IsRight}
 use Rattle.cmwq_flush.proofs.Search.{find_at_key, find_absent, absent_is_none, remove_at}
-use Rattle.cmwq_flush.proofs.Orderly.{orderly_opened, orderly_ended, orderly_overflow, orderly_served, orderly_removed, orderly_left, orderly_drain_begun, orderly_drain_ended, rising_served, rising_overflow, length_filter_le}
+use Rattle.cmwq_flush.proofs.Orderly.{orderly_opened, orderly_ended, orderly_overflow, orderly_served, orderly_removed, orderly_left, orderly_drain_begun, orderly_drain_ended, rising_served, rising_overflow, length_filter_le, All_left, All_right}
 use Rattle.cmwq_flush.proofs.Recolouring.{colouring_opened, colouring_ended, colouring_served, colouring_removed, ready_from_clear, clear_from_ready}
 
 split : (t : Bool) (r : Row) (rows : List Row) (ns : List ℕ) → numbers_of rows ≡ ns → numbers_of (cond t (r ∷ rows) rows) ≡ cond t (number_of r ∷ ns) ns
@@ -159,8 +160,11 @@ module _ (b : FlushBook) (rows : List Row) (colours : List ℕ) (t : ℕ) (is : 
   pub not_served : LacksTicket b.served t → served_of b t ≡ None
   not_served absent = find_absent ticket_of b.served t absent
 
+  pub not_in_overflow : (Contains (tickets_of b.served) t → ⊥) → Contains (flush_tickets b) t → Contains b.overflow t
+  not_in_overflow absent stands = ⊎_elim (λ (found : Contains (tickets_of b.served) t). absurd (absent found)) (λ (found : Contains b.overflow t). found) (Contains-append_cases (tickets_of b.served) b.overflow t stands)
+
   pub in_overflow : LacksTicket b.served t → Contains (flush_tickets b) t → Contains b.overflow t
-  in_overflow absent stands = ⊎_elim (λ (found : Contains (map ticket_of b.served) t). absurd (absent_is_none ticket_of b.served t (flush_from 0 0) absent found)) (λ (found : Contains b.overflow t). found) (Contains-append_cases (map ticket_of b.served) b.overflow t stands)
+  in_overflow absent stands = not_in_overflow (absent_is_none ticket_of b.served t (flush_from 0 0) absent) stands
 
   -- what a served flush that is ready waited for has ended
   pub ready_rows : (i : ℕ) → b.opened ≡ numbers_of rows → HasTicketAt b.served t i → IsReady b t → (d : Served) → All (λ r. (get_or b.served i d).bound ≤ r.number) rows
@@ -186,3 +190,20 @@ module _ (b : FlushBook) (rows : List Row) (colours : List ℕ) (t : ℕ) (is : 
 
   pub after_end-overflow : LacksTicket b.served t → after_end b t ≡ record b { overflow = without t b.overflow }
   after_end-overflow absent = rw (not_served absent) refl
+
+-- a ticket comes after all flushes where it comes after those that are served and those in overflow
+pub after_all : (served : List Served) (overflow : List ℕ) (t : ℕ) → All (λ s. s.ticket < t) served → All (λ u. u < t) overflow → All (λ u. u < t) (tickets_of served ++ overflow)
+after_all served overflow t first second = let IsEarlier : ℕ → Type 0 = λ u. u < t in All-append IsEarlier (tickets_of served) overflow (All-map IsEarlier ticket_of served first) second
+
+pub after_served : (served : List Served) (overflow : List ℕ) (t : ℕ) → All (λ u. u < t) (tickets_of served ++ overflow) → All (λ s. s.ticket < t) served
+after_served served overflow t all k d lt =
+    let IsEarlier : ℕ → Type 0 = λ u. u < t in
+    rw (← get_or-map ticket_of served k d 0 lt) (All_left IsEarlier (tickets_of served) overflow all k 0 (rw length-map lt))
+
+pub after_overflow : (served : List Served) (overflow : List ℕ) (t : ℕ) → All (λ u. u < t) (tickets_of served ++ overflow) → All (λ u. u < t) overflow
+after_overflow served overflow t all = let IsEarlier : ℕ → Type 0 = λ u. u < t in All_right IsEarlier (tickets_of served) overflow all
+
+-- it comes after those that are served where it comes after the last
+pub after_last : (served : List Served) (last : Served) (t : ℕ) → AllPairs IsOlder served → 0 < length served → ((d : Served) → last ≡ get_or served (length served - 1) d) → (nat_lt last.ticket t ≡ true) ↔ All (λ s. s.ticket < t) served
+after_last served last t rise some is =
+    (λ less k d lt. ⊎_elim (λ (before : k < length served - 1). let older = rise k (length served - 1) d before (omega arith) in let at_last = ap ticket_of (is d) in grind (arith, nat_tests)) (λ (after : length served - 1 ≤ k). let here : k ≡ length served - 1 = omega arith in rw here (let at_last = ap ticket_of (is d) in grind (arith, nat_tests))) (cases_lt k (length served - 1)), λ all. let less = all (length served - 1) last (omega arith) in let at_last = ap ticket_of (is last) in grind (arith, nat_tests))

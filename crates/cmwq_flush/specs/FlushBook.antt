@@ -1,9 +1,9 @@
 -- The flushes and drains of a queue, as plain lists.
-use Rattle.std.specs.Prelude.{◌≡◌, ℕ, ◌+◌, ◌*◌, ◌<◌, ◌≤◌, Bool, if◌then◌else◌, List, [], ◌∷◌, ◌++◌, length, map, filter, find, All, Contains, Option, MatchOption, is_some, nat_lt}
+use Rattle.std.specs.Prelude.{◌≡◌, ℕ, ◌+◌, ◌*◌, ◌<◌, ◌≤◌, Bool, if◌then◌else◌, List, [], ◌∷◌, ◌++◌, length, filter, find, All, Contains, Option, MatchOption, is_some, nat_lt}
 use Rattle.cmwq_flush.specs.declared.limits.TheConstants.{MOST_OPEN, MOST_SERVED, TICKETS_OF_CALLER}
 use Rattle.cmwq_flush.specs.declared.served.Served.{Served}
 use Rattle.cmwq_flush.specs.Numbers.{without}
-use Rattle.cmwq_flush.specs.Served.{ticket_of, has_ticket, is_other_flush}
+use Rattle.cmwq_flush.specs.Served.{tickets_of, has_ticket, is_other_flush}
 
 -- next is one more than the number that was opened last, opened the open numbers, which rise; the flushes that are
 -- served, the tickets in overflow and those of drains stand by age
@@ -20,7 +20,7 @@ new_book callers = record { callers = callers; next = 0; opened = []; served = [
 
 -- the tickets of flushes by age, and how many tickets stand in all
 abbrev pub flush_tickets : FlushBook → List ℕ
-flush_tickets b = map ticket_of b.served ++ b.overflow
+flush_tickets b = tickets_of b.served ++ b.overflow
 
 abbrev pub standing : FlushBook → ℕ
 standing b = length b.served + length b.overflow + length b.drains
@@ -30,6 +30,13 @@ HasRoom b = standing b < TICKETS_OF_CALLER * b.callers
 
 abbrev pub CanOpen : FlushBook → ℕ → Type 0
 CanOpen b n = (b.next ≤ n) × (length b.opened < MOST_OPEN)
+
+-- a flush or a drain begins with a later ticket than those of its kind that stand
+abbrev pub CanBegin : FlushBook → ℕ → Type 0
+CanBegin b t = All (λ u. u < t) (flush_tickets b) × HasRoom b
+
+abbrev pub CanDrain : FlushBook → ℕ → Type 0
+CanDrain b t = All (λ u. u < t) b.drains × HasRoom b
 
 -- a flush that is served waits for all that was opened before, one in overflow for all that is open
 abbrev pub served_of : FlushBook → ℕ → Option Served

@@ -1,10 +1,13 @@
 -- Flushes that are served, by age.
-use Rattle.std.specs.Prelude.{◌≡◌, ◌≢◌, ℕ, ◌<◌, Bool, not, ◌==◌, List, length, All, AllPairs, filter, nat_lt}
+use Rattle.std.specs.Prelude.{◌≡◌, ◌≢◌, ℕ, ◌<◌, Bool, not, ◌==◌, List, length, All, AllPairs, map, filter, nat_lt}
 use Rattle.std.specs.List.{HoldsAt, position_or_len}
 use Rattle.cmwq_flush.specs.declared.served.Served.{Served}
 
 abbrev pub ticket_of : Served → ℕ
 ticket_of s = s.ticket
+
+abbrev pub tickets_of : List Served → List ℕ
+tickets_of served = map ticket_of served
 
 abbrev pub bound_of : Served → ℕ
 bound_of s = s.bound

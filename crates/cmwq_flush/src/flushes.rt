@@ -1,12 +1,12 @@
 ghost use Rattle.std.specs.Prelude.{◌≡◌, ℕ, ◌+◌, ◌∷◌, ◌++◌, [], ◌<◌, ◌≤◌, ◌↔◌, All, Contains, IfOk, IfSome, IsTrue, length, slice_get, slice_index, vec_capacity, vec_len};
 ghost use Rattle.std.specs.List.{remove};
 ghost use Rattle.cmwq_flush.specs.Numbers.{IsRising};
-ghost use Rattle.cmwq_flush.specs.FlushBook.{CanOpen, HasRoom, IsReady, after_begin, after_drain_begin, after_drain_end, after_end, after_ended, after_opened, flush_tickets, new_book, served_with_oldest, without_oldest};
+ghost use Rattle.cmwq_flush.specs.FlushBook.{CanBegin, CanDrain, CanOpen, HasRoom, IsReady, after_begin, after_drain_begin, after_drain_end, after_end, after_ended, after_opened, flush_tickets, new_book, served_with_oldest, without_oldest};
 
 use crate::limits::{COLOURS, MOST_SERVED, TICKETS_OF_CALLER};
-use crate::served::{Served, find_served};
+use crate::served::{Served, find_served, is_latest_served, is_served};
 use crate::tally::{Colour, Tally};
-use crate::tickets::{find_ticket, remove_ticket};
+use crate::tickets::{has_ticket, is_latest, remove_ticket};
 use cmwq_model::Number;
 use std::alloc::{AllocError, Global};
 use std::marker::Model;
@@ -78,8 +78,7 @@ impl Flushes {
 
     /// A flush begins (`__flush_workqueue` up to its wait): it is served, or in overflow.
     pub fn begin(&mut self, ticket: Number)
-        requires later { All (λ t. t < ticket) (flush_tickets self.old) }
-        requires room { HasRoom self.old }
+        requires { CanBegin self.old ticket }
         ensures { self.new ≡ after_begin self.old ticket }
     {
         if self.served.len() < MOST_SERVED {
@@ -120,6 +119,62 @@ impl Flushes {
         }
     }
 
+    /// Whether a queueing of this number may be opened: it comes after all that were, and fewer than 512 are open.
+    pub fn may_open(&self, number: Number) -> bool
+        ensures { IsTrue result ↔ CanOpen self.now number }
+    {
+        self.next <= u64::from(number) && !self.tally.is_full()
+    }
+
+    /// Whether the queueing of this number is open.
+    pub fn is_open(&self, number: Number) -> bool
+        ensures { IsTrue result ↔ Contains self.now.opened number }
+    {
+        self.tally.contains(number)
+    }
+
+    /// Whether one more ticket may stand.
+    pub fn has_room(&self) -> bool
+        ensures { IsTrue result ↔ HasRoom self.now }
+    {
+        let standing = self.served.len() + self.overflow.len() + self.drains.len();
+        standing < TICKETS_OF_CALLER * usize::from(self.callers)
+    }
+
+    /// Whether a flush may begin with this ticket: it comes after those of all flushes that stand, and there is room.
+    pub fn may_begin(&self, ticket: Number) -> bool
+        ensures { IsTrue result ↔ CanBegin self.now ticket }
+    {
+        self.is_latest_flush(ticket) && self.has_room()
+    }
+
+    fn is_latest_flush(&self, ticket: Number) -> bool
+        ensures { IsTrue result ↔ All (λ t. t < ticket) (flush_tickets self.now) }
+    {
+        is_latest_served(&self.served, ticket) && is_latest(&self.overflow, ticket)
+    }
+
+    /// Whether a flush has begun with this ticket and hasn't ended.
+    pub fn stands(&self, ticket: Number) -> bool
+        ensures { IsTrue result ↔ Contains (flush_tickets self.now) ticket }
+    {
+        is_served(&self.served, ticket) || has_ticket(&self.overflow, ticket)
+    }
+
+    /// Whether a drain may begin with this ticket: it comes after those of all drains that stand, and there is room.
+    pub fn may_drain(&self, ticket: Number) -> bool
+        ensures { IsTrue result ↔ CanDrain self.now ticket }
+    {
+        is_latest(&self.drains, ticket) && self.has_room()
+    }
+
+    /// Whether a drain has begun with this ticket and hasn't ended.
+    pub fn is_drain(&self, ticket: Number) -> bool
+        ensures { IsTrue result ↔ Contains self.now.drains ticket }
+    {
+        has_ticket(&self.drains, ticket)
+    }
+
     /// The least number that is open.
     pub fn least_open(&self) -> Option<Number>
         ensures first { result ≡ slice_get self.now.opened 0 }
@@ -130,8 +185,7 @@ impl Flushes {
 
     /// A drain begins (`drain_workqueue`): the queue is draining.
     pub fn drain_begin(&mut self, ticket: Number)
-        requires later { All (λ t. t < ticket) self.old.drains }
-        requires room { HasRoom self.old }
+        requires { CanDrain self.old ticket }
         ensures { self.new ≡ after_drain_begin self.old ticket }
     {
         self.drains.push_reserved(ticket);

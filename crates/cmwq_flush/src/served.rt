@@ -1,5 +1,5 @@
-ghost use Rattle.std.specs.Prelude.{◌≡◌, AllPairs, IfSome, IfNone};
-ghost use Rattle.cmwq_flush.specs.Served.{IsOlder, LacksTicket, HasTicketAt};
+ghost use Rattle.std.specs.Prelude.{◌≡◌, ◌<◌, ◌↔◌, All, AllPairs, Contains, IfSome, IfNone, IsTrue};
+ghost use Rattle.cmwq_flush.specs.Served.{IsOlder, LacksTicket, HasTicketAt, tickets_of};
 
 use cmwq_model::Number;
 
@@ -20,4 +20,23 @@ pub(crate) fn find_served(served: &[Served], ticket: Number) -> Option<usize>
     served
         .binary_search_by_key(&ticket, |flush| flush.ticket)
         .ok()
+}
+
+/// Whether this ticket comes after those of all of these flushes.
+pub(crate) fn is_latest_served(served: &[Served], ticket: Number) -> bool
+    requires { AllPairs IsOlder served.now }
+    ensures { IsTrue result ↔ All (λ s. s.ticket < ticket) served.now }
+{
+    match served.last() {
+        Some(latest) => latest.ticket < ticket,
+        None => true,
+    }
+}
+
+/// Whether the flush with this ticket is among these.
+pub(crate) fn is_served(served: &[Served], ticket: Number) -> bool
+    requires { AllPairs IsOlder served.now }
+    ensures { IsTrue result ↔ Contains (tickets_of served.now) ticket }
+{
+    find_served(served, ticket).is_some()
 }
