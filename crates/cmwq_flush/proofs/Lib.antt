@@ -4,3 +4,4 @@ mod Waiting
 mod Recolouring
 mod Orderly
 mod Rightness
+mod ItemRows

@@ -1,10 +1,9 @@
 -- Each call keeps a flush book right.
 use Rattle.std.proofs.Common.{◌≡◌, ◌≢◌, ℕ, ◌+◌, ◌-◌, ◌*◌, ◌<◌, ◌≤◌, Bool, true, false, not, cond, eqb, List, [], ◌∷◌, ◌++◌, length, get_or, take, zero, suc, Some, None, sym, ap, refl, ◌∙◌, subst, arith, rules, ⊎_elim}
-use Rattle.std.specs.Prelude.{All, AllPairs, Contains, map, filter, ◌↔◌, Option, IfSome, slice_get, nat_lt}
+use Rattle.std.specs.Prelude.{All, AllPairs, Contains, map, filter, ◌↔◌, Option, IfSome, slice_get}
 use Rattle.std.specs.List.{remove, list_all, range_with_len}
 use Rattle.std.proofs.lemmas.List.FromFn.{get_or-range_with_len}
 use Rattle.std.proofs.lemmas.Bool.{cases_lt}
-use Rattle.std.proofs.lemmas.Bool.Decides.{nat_tests}
 use Rattle.std.proofs.lemmas.List.{get_or-map, get_or_default, length-map, length-append}
 use Rattle.std.proofs.lemmas.List.Elements.{All-map, All-append, Contains-append_cases}
 use Rattle.std.proofs.lemmas.List.Edits.{length-remove}
@@ -202,8 +201,3 @@ after_served served overflow t all k d lt =
 
 pub after_overflow : (served : List Served) (overflow : List ℕ) (t : ℕ) → All (λ u. u < t) (tickets_of served ++ overflow) → All (λ u. u < t) overflow
 after_overflow served overflow t all = let IsEarlier : ℕ → Type 0 = λ u. u < t in All_right IsEarlier (tickets_of served) overflow all
-
--- it comes after those that are served where it comes after the last
-pub after_last : (served : List Served) (last : Served) (t : ℕ) → AllPairs IsOlder served → 0 < length served → ((d : Served) → last ≡ get_or served (length served - 1) d) → (nat_lt last.ticket t ≡ true) ↔ All (λ s. s.ticket < t) served
-after_last served last t rise some is =
-    (λ less k d lt. ⊎_elim (λ (before : k < length served - 1). let older = rise k (length served - 1) d before (omega arith) in let at_last = ap ticket_of (is d) in grind (arith, nat_tests)) (λ (after : length served - 1 ≤ k). let here : k ≡ length served - 1 = omega arith in rw here (let at_last = ap ticket_of (is d) in grind (arith, nat_tests))) (cases_lt k (length served - 1)), λ all. let less = all (length served - 1) last (omega arith) in let at_last = ap ticket_of (is last) in grind (arith, nat_tests))

@@ -1,6 +1,6 @@
 -- What a binary search finds among elements whose keys rise, and what is left when the one it found is removed.
-use Rattle.std.proofs.Common.{◌≡◌, ◌≢◌, ℕ, ◌+◌, ◌<◌, ◌≤◌, Bool, true, false, not, eqb, List, [], ◌∷◌, ◌++◌, length, get_or, take, drop, zero, suc, Option, Some, None, Result, Ok, Err, IfOk, OnErr, IfSome, IfNone, IsSome, sym, ap, refl, ◌∙◌, subst, arith, rules, ⊎_elim}
-use Rattle.std.specs.Prelude.{map, filter, find, All, AllPairs, Contains}
+use Rattle.std.proofs.Common.{◌≡◌, ◌≢◌, ℕ, ◌+◌, ◌-◌, ◌<◌, ◌≤◌, Bool, true, false, not, eqb, ltb, List, [], ◌∷◌, ◌++◌, length, get_or, take, drop, zero, suc, Option, Some, None, Result, Ok, Err, IfOk, OnErr, IfSome, IfNone, IsSome, sym, ap, refl, ◌∙◌, subst, arith, rules, ⊎_elim}
+use Rattle.std.specs.Prelude.{map, filter, find, All, AllPairs, Contains, ◌↔◌}
 use Rattle.std.specs.Result.{result_ok}
 use Rattle.std.specs.List.{HoldsAt, remove}
 use Rattle.std.specs.List.Sorted.{IsSearchInRange, IsBinarySearchResult, IsNonDecreasingBy}
@@ -88,3 +88,9 @@ module _ {X : Type 0} (key : X → ℕ) (xs : List X) (n : ℕ) where
     -- the removal of the element with the key keeps those with another
     pub remove_at : (i : ℕ) → IsAt i → remove xs i ≡ filter (λ x. not (eqb (key x) n)) xs
     remove_at i at = remove_is_filter (λ x. not (eqb (key x) n)) xs i at.0 (λ d. grind (arith, nat_tests, at.1 d)) (λ k d lt differs. grind (arith, nat_tests, at.1 d, rising i k d, rising k i d))
+
+-- what rises is below a bound where its last is
+pub below_from_last : {X : Type 0} (key : X → ℕ) (xs : List X) (last : X) (n : ℕ) → AllPairs (λ x y. key x < key y) xs → 0 < length xs → ((d : X) → last ≡ get_or xs (length xs - 1) d) → (ltb (key last) n ≡ true) ↔ All (λ x. key x < n) xs
+below_from_last {X} key xs last n rise some is =
+    let ends : (d : X) → key last ≡ key (get_or xs (length xs - 1) d) = λ d. ap key (is d) in
+    (λ less k d lt. ⊎_elim (λ (before : k < length xs - 1). let older = rise k (length xs - 1) d before (omega arith) in let at_last = ends d in grind (arith, nat_tests)) (λ (after : length xs - 1 ≤ k). let here : k ≡ length xs - 1 = omega arith in rw here (let at_last = ends d in grind (arith, nat_tests))) (cases_lt k (length xs - 1)), λ all. let less = all (length xs - 1) last (omega arith) in let at_last = ends last in grind (arith, nat_tests))

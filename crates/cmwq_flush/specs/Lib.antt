@@ -3,3 +3,5 @@ pub mod Rows
 pub mod Served
 pub mod FlushBook
 pub mod Colouring
+pub mod BarrierBook
+pub mod Waits
