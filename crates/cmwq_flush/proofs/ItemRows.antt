@@ -1,5 +1,5 @@
 -- The open numbers of items, and what a wait for an item finds among them.
-use Rattle.std.proofs.Common.{◌≡◌, ℕ, ◌+◌, ◌-◌, ◌<◌, ◌≤◌, Bool, true, false, not, cond, List, [], ◌∷◌, ◌++◌, length, get_or, set, replicate, zero, suc, Option, Some, None, IfSome, is_some, sym, ap, refl, ◌∙◌, arith, ⊎_elim}
+use Rattle.std.proofs.Common.{◌≡◌, ℕ, ◌<◌, ◌≤◌, Bool, true, false, not, cond, List, [], ◌∷◌, length, get_or, set, replicate, zero, suc, Option, Some, None, IfSome, is_some, sym, ap, refl, ◌∙◌, arith, ⊎_elim}
 use Rattle.std.specs.Prelude.{map, find, All, AllPairs, Contains, ◌↔◌}
 use Rattle.std.proofs.lemmas.Bool.{cases_lt, false≢true}
 use Rattle.std.proofs.lemmas.Bool.Decides.{nat_tests}
@@ -9,7 +9,7 @@ use Rattle.cmwq_flush.specs.declared.barrier.Barrier.{Barrier}
 use Rattle.cmwq_flush.specs.declared.barrier.Open.{Open}
 use Rattle.cmwq_flush.specs.Numbers.{IsRising}
 use Rattle.cmwq_flush.specs.Waits.{numbers_in, IsOlder, HasTicketAt}
-use Rattle.cmwq_flush.specs.BarrierBook.{BarrierBook, ticket_in, numbers_open, numbers_before, is_up_to}
+use Rattle.cmwq_flush.specs.BarrierBook.{BarrierBook, ticket_in, numbers_before, is_up_to}
 use Rattle.cmwq_flush.proofs.Search.{find_at_key, find_none}
 
 pub map-replicate : {X Y : Type 0} (f : X → Y) (n : ℕ) (x : X) → map f (replicate n x) ≡ replicate n (f x)
@@ -24,9 +24,9 @@ numbers_at items i o lt at = get_or-map numbers_in items i o [] lt ∙ ap number
 pub has_row : (items : List Open) (i n : ℕ) → Contains (get_or (map numbers_in items) i []) n → i < length items
 has_row items i n found =
     ⊎_elim (λ (lt : i < length items). lt) (λ (past : length items ≤ i).
-        let none : get_or (map numbers_in items) i [] ≡ [] = get_or_past (map numbers_in items) i [] (rw length-map past) in
-        let empty = rw none at found in
-        absurd (omega (arith, empty.1))) (cases_lt i (length items))
+    let none : get_or (map numbers_in items) i [] ≡ [] = get_or_past (map numbers_in items) i [] (rw length-map past) in
+    let empty = rw none at found in
+    absurd (omega (arith, empty.1))) (cases_lt i (length items))
 
 -- a row is written
 pub row_written : (items : List Open) (j i : ℕ) (o : Open) (ns : List ℕ) → j ≡ i → numbers_in o ≡ ns → map numbers_in (set items j o) ≡ set (map numbers_in items) i ns

@@ -1,25 +1,24 @@
 -- What each call keeps of the order of a flush book.
-use Rattle.std.proofs.Common.{◌≡◌, ◌≢◌, ℕ, ◌+◌, ◌-◌, ◌*◌, ◌<◌, ◌≤◌, Bool, true, false, not, cond, List, [], ◌∷◌, ◌++◌, length, get_or, take, drop, zero, suc, sym, ⊎_elim, ap, refl, ◌∙◌, subst, arith, rules}
+use Rattle.std.proofs.Common.{◌≡◌, ℕ, ◌+◌, ◌-◌, ◌<◌, ◌≤◌, Bool, List, [], ◌∷◌, ◌++◌, length, suc, ⊎_elim, refl, ◌∙◌, arith}
 use Rattle.std.specs.Prelude.{All, AllPairs, map, filter}
 use Rattle.std.specs.List.{remove}
 use Rattle.std.specs.List.Sorted.{IsNonDecreasingBy}
-use Rattle.std.proofs.lemmas.Grind.{common_steps, elements}
-use Rattle.std.proofs.lemmas.List.{append_assoc, append-nil, map_push, map-append, take-map, drop-map, length-map, length-append, get_or_append_left, get_or-append-add, get_or-map}
-use Rattle.std.proofs.lemmas.List.Elements.{All-push, All-weaker, All-filter, All-take, All-drop, All-append, All-nil}
+use Rattle.std.proofs.lemmas.List.{append_assoc, map_push, map-append, take-map, drop-map, length-map, length-append, get_or_append_left, get_or-append-add, get_or-map}
+use Rattle.std.proofs.lemmas.List.Elements.{All-push, All-weaker, All-filter, All-take, All-drop, All-append}
 use Rattle.std.proofs.lemmas.List.Edits.{length-remove, remove-append_left}
 use Rattle.std.proofs.lemmas.List.Quantifiers.{all_pairs_push, all_pairs_remove}
 use Rattle.std.proofs.lemmas.List.Kept.{AllPairs-filter, AllPairs-cons}
 use Rattle.std.proofs.lemmas.List.Sums.{length-filter, count_by-le-length}
 use Rattle.std.proofs.lemmas.Bool.{cases_lt}
 use Rattle.std.proofs.lemmas.List.Sorted.{IsNonDecreasingBy-push}
-use Rattle.cmwq_flush.specs.declared.limits.TheConstants.{MOST_SERVED, TICKETS_OF_CALLER}
+use Rattle.cmwq_flush.specs.declared.limits.TheConstants.{MOST_SERVED}
 use Rattle.cmwq_flush.specs.declared.served.Served.{Served}
 use Rattle.cmwq_flush.specs.declared.tally.Row.{Row}
 use Rattle.cmwq_flush.specs.Numbers.{IsBelow, IsRising, is_other, without}
 use Rattle.cmwq_flush.specs.Rows.{is_other_row, without_row}
 use Rattle.cmwq_flush.specs.Served.{ticket_of, bound_of, IsOlder}
-use Rattle.cmwq_flush.specs.FlushBook.{FlushBook, flush_from, flush_tickets, standing, HasRoom}
-use Rattle.cmwq_flush.specs.Colouring.{IsOrderly, IsServing}
+use Rattle.cmwq_flush.specs.FlushBook.{FlushBook, flush_from, flush_tickets, HasRoom}
+use Rattle.cmwq_flush.specs.Colouring.{IsOrderly}
 
 abbrev IsOld : ℕ → Row → Type 0
 IsOld next r = r.number < next
@@ -107,9 +106,9 @@ orderly_removed b rows i lt is = record {
   bounds_rise = non_decreasing_remove b.served i lt is.bounds_rise;
   bounds = All-append (IsBounded b.next) _ _ (All-take (IsBounded b.next) i b.served is.bounds) (All-drop (IsBounded b.next) (suc i) b.served is.bounds);
   tickets_rise =
-    let within : i < length (map ticket_of b.served) = rw length-map lt in
-    let whole : i < length (flush_tickets b) = rw length-append (omega arith) in
-    rw (map-remove ticket_of b.served i, ← remove-append_left (map ticket_of b.served) b.overflow i within) (all_pairs_remove IsBelow (flush_tickets b) i whole is.tickets_rise);
+      let within : i < length (map ticket_of b.served) = rw length-map lt in
+      let whole : i < length (flush_tickets b) = rw length-append (omega arith) in
+      rw (map-remove ticket_of b.served i, ← remove-append_left (map ticket_of b.served) b.overflow i within) (all_pairs_remove IsBelow (flush_tickets b) i whole is.tickets_rise);
   drains_rise = is.drains_rise;
   few = let shorter = length-remove b.served i lt in let before = is.few in omega arith;
   room = let shorter = length-remove b.served i lt in let before = is.room in omega arith;

@@ -1,21 +1,20 @@
 -- What each call keeps of the colouring, and what the counts of colours say of a flush.
-use Rattle.std.proofs.Common.{◌≡◌, ◌≢◌, ℕ, ◌+◌, ◌-◌, ◌<◌, ◌≤◌, Bool, true, false, not, eqb, cond, List, [], ◌∷◌, ◌++◌, length, get_or, take, drop, zero, suc, sym, ap, refl, ◌∙◌, subst, arith, rules, ⊎_elim}
-use Rattle.std.specs.Prelude.{All, AllPairs, filter, slice_index, count_by}
+use Rattle.std.proofs.Common.{◌≡◌, ◌≢◌, ℕ, ◌+◌, ◌<◌, ◌≤◌, true, false, cond, List, [], ◌∷◌, ◌++◌, length, get_or, take, suc, sym, ap, ◌∙◌, arith, ⊎_elim}
+use Rattle.std.specs.Prelude.{All, AllPairs}
 use Rattle.std.specs.List.{remove, list_all}
 use Rattle.std.specs.List.Sorted.{IsNonDecreasingBy}
-use Rattle.std.proofs.lemmas.Bool.{cases_lt, false≢true}
+use Rattle.std.proofs.lemmas.Bool.{cases_lt}
 use Rattle.std.proofs.lemmas.Bool.Decides.{nat_tests}
-use Rattle.std.proofs.lemmas.Grind.{common_steps, elements}
-use Rattle.std.proofs.lemmas.List.{get_or-take, length-take-le, get_or_push, get_or_append_left, get_or_default, length-append}
-use Rattle.std.proofs.lemmas.List.Elements.{All-push, All-weaker, All-filter, All-get_or, All-take, All-drop, All-append}
+use Rattle.std.proofs.lemmas.List.{get_or-take, length-take-le, get_or_append_left, get_or_default, length-append}
+use Rattle.std.proofs.lemmas.List.Elements.{All-push, All-filter, All-take, All-drop, All-append}
 use Rattle.std.proofs.lemmas.List.Edits.{length-remove, get_or-remove_below, get_or-remove_above}
 use Rattle.std.proofs.lemmas.List.Quantifiers.{all_pairs_push, all_pairs_remove}
 use Rattle.std.proofs.lemmas.List.Sums.{AllPass-from_list_all, list_all-from_AllPass, get_or-le-sum_by, sum_by-le}
 use Rattle.cmwq_flush.specs.declared.limits.TheConstants.{COLOURS, MOST_SERVED}
 use Rattle.cmwq_flush.specs.declared.served.Served.{Served}
 use Rattle.cmwq_flush.specs.declared.tally.Row.{Row}
-use Rattle.cmwq_flush.specs.Rows.{has_colour, count_of, is_unused, without_row, is_other_row}
-use Rattle.cmwq_flush.specs.Served.{bound_of, waits_for, first_waiting}
+use Rattle.cmwq_flush.specs.Rows.{has_colour, is_unused, without_row, is_other_row}
+use Rattle.cmwq_flush.specs.Served.{bound_of, first_waiting}
 use Rattle.cmwq_flush.specs.FlushBook.{flush_from}
 use Rattle.cmwq_flush.specs.Colouring.{Differs, HasRightColour, IsColouring}
 use Rattle.cmwq_flush.proofs.Waiting.{first_waiting-push, first_waiting-none, first_waiting-remove, first_waiting-le, first_waiting_at_most, first_waiting_after}
@@ -65,14 +64,14 @@ module _ (colours : List ℕ) (served : List Served) (rows : List Row) (i : ℕ)
     sixteen = let shorter = length-remove colours i (omega arith) in rw length-append (omega arith);
     distinct = all_pairs_push Differs (remove colours i) (get_or colours i 0) (all_pairs_remove Differs colours i (omega arith) is.distinct) (λ k d within. freed_differs k d is.distinct within);
     below =
-      let IsBelow : ℕ → Type 0 = λ c. c < COLOURS in
-      All-push IsBelow (remove colours i) (get_or colours i 0) (All-append IsBelow _ _ (All-take IsBelow i colours is.below) (All-drop IsBelow (suc i) colours is.below)) (is.below i 0 (omega arith));
+        let IsBelow : ℕ → Type 0 = λ c. c < COLOURS in
+        All-push IsBelow (remove colours i) (get_or colours i 0) (All-append IsBelow _ _ (All-take IsBelow i colours is.below) (All-drop IsBelow (suc i) colours is.below)) (is.below i 0 (omega arith));
     right = λ k d within.
-      let n = (get_or rows k d).number in
-      let after = first_waiting_after served i n (flush_from 0 0) rise lt (ready (flush_from 0 0) k d within) in
-      let up = first_waiting-remove served i n after in
-      let most = first_waiting-le served n in
-      is.right k d within ∙ ap (λ j. get_or colours j 0) (sym up) ∙ sym (moved_up (first_waiting (remove served i) n) (omega arith) (omega arith));
+        let n = (get_or rows k d).number in
+        let after = first_waiting_after served i n (flush_from 0 0) rise lt (ready (flush_from 0 0) k d within) in
+        let up = first_waiting-remove served i n after in
+        let most = first_waiting-le served n in
+        is.right k d within ∙ ap (λ j. get_or colours j 0) (sym up) ∙ sym (moved_up (first_waiting (remove served i) n) (omega arith) (omega arith));
   }
 
 -- a count is 0 exactly where none has the colour
@@ -94,19 +93,19 @@ module _ (colours : List ℕ) (served : List Served) (rows : List Row) (i : ℕ)
       let n = (get_or rows k e).number in
       let front = length-take-le (i + 1) colours (omega arith) in
       ⊎_elim (λ (waits : n < (get_or served i d).bound).
-          let first = first_waiting_at_most served i n d waits in
-          let unused = AllPass-from_list_all (is_unused rows) (take (i + 1) colours) clear (first_waiting served n) 0 (omega arith) in
-          absurd (none_has (get_or colours (first_waiting served n) 0) rows (rw (get_or-take (i + 1) colours (first_waiting served n) 0 (omega arith)) at unused) k e within (is.right k e within))) (λ (after : (get_or served i d).bound ≤ n). after) (cases_lt n (get_or served i d).bound)
+      let first = first_waiting_at_most served i n d waits in
+      let unused = AllPass-from_list_all (is_unused rows) (take (i + 1) colours) clear (first_waiting served n) 0 (omega arith) in
+      absurd (none_has (get_or colours (first_waiting served n) 0) rows (rw (get_or-take (i + 1) colours (first_waiting served n) 0 (omega arith)) at unused) k e within (is.right k e within))) (λ (after : (get_or served i d).bound ≤ n). after) (cases_lt n (get_or served i d).bound)
 
   -- and the other way round
   pub clear_from_ready : ((d : Served) → All (λ r. (get_or served i d).bound ≤ r.number) rows) → list_all (is_unused rows) (take (i + 1) colours) ≡ true
   clear_from_ready ready =
       list_all-from_AllPass (is_unused rows) (take (i + 1) colours) (λ k d within.
-          let front = length-take-le (i + 1) colours (omega arith) in
-          rw (get_or-take (i + 1) colours k d (omega arith), get_or_default colours k d 0 (omega arith)) (none_counted (get_or colours k 0) rows (λ j e inside.
-              let n = (get_or rows j e).number in
-              let after = first_waiting_after served i n (flush_from 0 0) rise lt (ready (flush_from 0 0) j e inside) in
-              let most = first_waiting-le served n in
-              let differs = is.distinct k (first_waiting served n) 0 (omega arith) (omega arith) in
-              let colour = is.right j e inside in
-              grind (arith, nat_tests))))
+      let front = length-take-le (i + 1) colours (omega arith) in
+      rw (get_or-take (i + 1) colours k d (omega arith), get_or_default colours k d 0 (omega arith)) (none_counted (get_or colours k 0) rows (λ j e inside.
+      let n = (get_or rows j e).number in
+      let after = first_waiting_after served i n (flush_from 0 0) rise lt (ready (flush_from 0 0) j e inside) in
+      let most = first_waiting-le served n in
+      let differs = is.distinct k (first_waiting served n) 0 (omega arith) (omega arith) in
+      let colour = is.right j e inside in
+      grind (arith, nat_tests))))

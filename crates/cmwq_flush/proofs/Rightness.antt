@@ -1,20 +1,20 @@
 -- Each call keeps a flush book right.
-use Rattle.std.proofs.Common.{◌≡◌, ◌≢◌, ℕ, ◌+◌, ◌-◌, ◌*◌, ◌<◌, ◌≤◌, Bool, true, false, not, cond, eqb, List, [], ◌∷◌, ◌++◌, length, get_or, take, zero, suc, Some, None, sym, ap, refl, ◌∙◌, subst, arith, rules, ⊎_elim}
-use Rattle.std.specs.Prelude.{All, AllPairs, Contains, map, filter, ◌↔◌, Option, IfSome, slice_get}
+use Rattle.std.proofs.Common.{◌≡◌, ℕ, ◌+◌, ◌<◌, ◌≤◌, Bool, true, false, cond, List, [], ◌∷◌, ◌++◌, length, get_or, take, Some, None, ap, refl, arith, ⊎_elim}
+use Rattle.std.specs.Prelude.{All, AllPairs, Contains, map, ◌↔◌, Option, IfSome, slice_get}
 use Rattle.std.specs.List.{remove, list_all, range_with_len}
 use Rattle.std.proofs.lemmas.List.FromFn.{get_or-range_with_len}
 use Rattle.std.proofs.lemmas.Bool.{cases_lt}
 use Rattle.std.proofs.lemmas.List.{get_or-map, get_or_default, length-map, length-append}
 use Rattle.std.proofs.lemmas.List.Elements.{All-map, All-append, Contains-append_cases}
 use Rattle.std.proofs.lemmas.List.Edits.{length-remove}
-use Rattle.cmwq_flush.specs.declared.limits.TheConstants.{COLOURS, MOST_SERVED, TICKETS_OF_CALLER}
+use Rattle.cmwq_flush.specs.declared.limits.TheConstants.{COLOURS, MOST_SERVED}
 use Rattle.cmwq_flush.specs.declared.served.Served.{Served}
 use Rattle.cmwq_flush.specs.declared.tally.Row.{Row}
 use Rattle.cmwq_flush.specs.Numbers.{IsRising, is_other, without}
 use Rattle.cmwq_flush.specs.Rows.{number_of, numbers_of, without_row, is_other_row, is_unused, ComesBefore}
 use Rattle.cmwq_flush.specs.Served.{ticket_of, tickets_of, IsOlder, HasTicketAt, LacksTicket}
-use Rattle.cmwq_flush.specs.FlushBook.{FlushBook, new_book, flush_from, flush_tickets, served_of, IsReady, CanOpen, HasRoom, served_with_oldest, without_oldest, serve_oldest, after_end}
-use Rattle.cmwq_flush.specs.Colouring.{IsOrderly, IsServing, IsColouring, IsRight}
+use Rattle.cmwq_flush.specs.FlushBook.{FlushBook, new_book, flush_from, flush_tickets, served_of, IsReady, HasRoom, served_with_oldest, without_oldest, serve_oldest, after_end}
+use Rattle.cmwq_flush.specs.Colouring.{IsOrderly, IsColouring, IsRight}
 use Rattle.cmwq_flush.proofs.Search.{find_at_key, find_absent, absent_is_none, remove_at}
 use Rattle.cmwq_flush.proofs.Orderly.{orderly_opened, orderly_ended, orderly_overflow, orderly_served, orderly_removed, orderly_left, orderly_drain_begun, orderly_drain_ended, rising_served, rising_overflow, length_filter_le, All_left, All_right}
 use Rattle.cmwq_flush.proofs.Recolouring.{colouring_opened, colouring_ended, colouring_served, colouring_removed, ready_from_clear, clear_from_ready}

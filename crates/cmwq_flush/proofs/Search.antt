@@ -1,5 +1,5 @@
 -- What a binary search finds among elements whose keys rise, and what is left when the one it found is removed.
-use Rattle.std.proofs.Common.{◌≡◌, ◌≢◌, ℕ, ◌+◌, ◌-◌, ◌<◌, ◌≤◌, Bool, true, false, not, eqb, ltb, List, [], ◌∷◌, ◌++◌, length, get_or, take, drop, zero, suc, Option, Some, None, Result, Ok, Err, IfOk, OnErr, IfSome, IfNone, IsSome, sym, ap, refl, ◌∙◌, subst, arith, rules, ⊎_elim}
+use Rattle.std.proofs.Common.{◌≡◌, ◌≢◌, ℕ, ◌-◌, ◌<◌, ◌≤◌, Bool, true, false, not, eqb, ltb, List, [], ◌∷◌, length, get_or, zero, suc, Option, Some, None, Result, Ok, Err, IfSome, IfNone, IsSome, sym, ap, refl, ◌∙◌, arith, ⊎_elim}
 use Rattle.std.specs.Prelude.{map, filter, find, All, AllPairs, Contains, ◌↔◌}
 use Rattle.std.specs.Result.{result_ok}
 use Rattle.std.specs.List.{HoldsAt, remove}
@@ -8,9 +8,8 @@ use Rattle.std.specs.Ordering.{nat_cmp, ordering_index}
 use Rattle.std.proofs.lemmas.Cmp.{ranked}
 use Rattle.std.proofs.lemmas.Bool.{cases_lt}
 use Rattle.std.proofs.lemmas.Bool.Decides.{nat_tests}
-use Rattle.std.proofs.lemmas.List.{get_or-map, length-map, take_more, drop_more, take-append-drop, get_or-take, get_or-drop}
-use Rattle.std.proofs.lemmas.List.Elements.{filter-append, All-tail, All-head, All-take, All-drop}
-use Rattle.std.proofs.lemmas.Grind.{common_steps}
+use Rattle.std.proofs.lemmas.List.{get_or-map, length-map}
+use Rattle.std.proofs.lemmas.List.Elements.{All-tail, All-head}
 
 -- a filter that all pass keeps the list
 pub filter_all : {X : Type 0} (p : X → Bool) (xs : List X) → All (λ x. p x ≡ true) xs → filter p xs ≡ xs

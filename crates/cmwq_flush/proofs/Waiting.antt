@@ -1,5 +1,5 @@
 -- Which served flush is the first to wait for a queueing, as flushes come and go.
-use Rattle.std.proofs.Common.{◌≡◌, ◌≢◌, ℕ, ◌+◌, ◌-◌, ◌<◌, ◌≤◌, Bool, true, false, not, cond, ltb, List, [], ◌∷◌, ◌++◌, length, get_or, zero, suc, sym, ap, refl, ◌∙◌, arith, ⊎_elim}
+use Rattle.std.proofs.Common.{◌≡◌, ℕ, ◌+◌, ◌<◌, ◌≤◌, Bool, true, false, not, cond, List, [], ◌∷◌, ◌++◌, length, get_or, zero, suc, ap, refl, arith, ⊎_elim}
 use Rattle.std.specs.Prelude.{All}
 use Rattle.std.specs.List.{remove}
 use Rattle.std.specs.List.Sorted.{IsNonDecreasingBy}
@@ -54,6 +54,6 @@ first_waiting_at_most served i n d lt =
 pub first_waiting_after : (served : List Served) (i n : ℕ) (d : Served) → IsNonDecreasingBy bound_of served → i < length served → (get_or served i d).bound ≤ n → i < first_waiting served n
 first_waiting_after served i n d rise lt le =
     ⊎_elim (λ (before : i < first_waiting served n). before) (λ (at_most : first_waiting served n ≤ i).
-        let waits = passes_at_first (waits_for n) served d (omega arith) in
-        let less = rise (first_waiting served n) i d at_most lt in
-        grind (arith, nat_tests)) (cases_lt i (first_waiting served n))
+    let waits = passes_at_first (waits_for n) served d (omega arith) in
+    let less = rise (first_waiting served n) i d at_most lt in
+    grind (arith, nat_tests)) (cases_lt i (first_waiting served n))

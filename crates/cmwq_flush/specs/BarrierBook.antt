@@ -1,6 +1,5 @@
 -- The open queueings of items, and the waits that began for them, as plain lists.
-use Rattle.std.specs.Prelude.{◌≡◌, ◌≢◌, ℕ, ◌+◌, ◌*◌, ◌<◌, ◌≤◌, Bool, not, ◌==◌, List, [], ◌∷◌, ◌++◌, length, map, filter, find, All, AllPairs, Contains, Option, replicate, slice_index_or, slice_set, nat_le}
-use Rattle.std.specs.List.{HoldsAt}
+use Rattle.std.specs.Prelude.{ℕ, ◌*◌, ◌<◌, Bool, not, ◌==◌, List, [], ◌∷◌, ◌++◌, length, map, filter, find, All, Option, replicate, slice_index_or, slice_set, nat_le}
 use Rattle.std.specs.Option.{option_map_or}
 use Rattle.cmwq_flush.specs.declared.limits.TheConstants.{TICKETS_OF_CALLER}
 use Rattle.cmwq_flush.specs.declared.barrier.Barrier.{Barrier}

@@ -1,5 +1,5 @@
 -- What holds of a flush book and its colours at every moment.
-use Rattle.std.specs.Prelude.{◌≡◌, ◌≢◌, ℕ, ◌+◌, ◌*◌, ◌<◌, ◌≤◌, List, length, All, AllPairs, slice_index}
+use Rattle.std.specs.Prelude.{◌≡◌, ◌≢◌, ℕ, ◌*◌, ◌<◌, ◌≤◌, List, length, All, AllPairs, slice_index}
 use Rattle.std.specs.List.Sorted.{IsNonDecreasingBy}
 use Rattle.cmwq_flush.specs.declared.limits.TheConstants.{COLOURS, MOST_SERVED, TICKETS_OF_CALLER}
 use Rattle.cmwq_flush.specs.declared.served.Served.{Served}

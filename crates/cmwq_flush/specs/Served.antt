@@ -1,5 +1,5 @@
 -- Flushes that are served, by age.
-use Rattle.std.specs.Prelude.{◌≡◌, ◌≢◌, ℕ, ◌<◌, Bool, not, ◌==◌, List, length, All, AllPairs, map, filter, nat_lt}
+use Rattle.std.specs.Prelude.{◌≡◌, ◌≢◌, ℕ, ◌<◌, Bool, not, ◌==◌, List, length, All, map, nat_lt}
 use Rattle.std.specs.List.{HoldsAt, position_or_len}
 use Rattle.cmwq_flush.specs.declared.served.Served.{Served}
 

@@ -1,5 +1,5 @@
 -- Waits by age, and what holds of all barriers at every moment.
-use Rattle.std.specs.Prelude.{◌≡◌, ◌≢◌, ℕ, ◌*◌, ◌<◌, ◌≤◌, List, [], ◌∷◌, length, map, All, AllPairs}
+use Rattle.std.specs.Prelude.{◌≡◌, ◌≢◌, ℕ, ◌*◌, ◌<◌, ◌≤◌, List, [], ◌∷◌, length, All, AllPairs}
 use Rattle.std.specs.List.{HoldsAt}
 use Rattle.cmwq_flush.specs.declared.limits.TheConstants.{TICKETS_OF_CALLER}
 use Rattle.cmwq_flush.specs.declared.barrier.Barrier.{Barrier}

@@ -136,3 +136,6 @@ impl Barriers {
         has_barrier(&self.barriers, ticket)
     }
 }
+
+#[cfg(test)]
+mod tests;

@@ -1,4 +1,4 @@
-use Rattle.std.proofs.Common.{◌≡◌, ℕ, List, [], ◌∷◌, ◌++◌, length, ap, sym, ◌∙◌}
+use Rattle.std.proofs.Common.{ℕ, List, ap, sym, ◌∙◌}
 use Rattle.cmwq_flush.specs.Numbers.{without}
 use Rattle.cmwq_flush.proofs.ItemRows.{numbers_at, has_row, row_written}
 use Rattle.cmwq_flush.proofs.barriers.Barriers.ended.Goals as goal

@@ -1,6 +1,4 @@
-use Rattle.std.proofs.Common.{◌≡◌, ℕ, List, [], replicate, ap, ◌∙◌, rules}
-use Rattle.std.specs.Prelude.{map}
-use Rattle.cmwq_flush.specs.declared.barrier.Barrier.{Barrier}
+use Rattle.std.proofs.Common.{◌≡◌, ℕ, List, [], replicate, ap, rules}
 use Rattle.cmwq_flush.specs.declared.barrier.Open.TheVariants.{Nothing}
 use Rattle.cmwq_flush.specs.Waits.{numbers_in}
 use Rattle.cmwq_flush.proofs.ItemRows.{map-replicate}

@@ -1,4 +1,3 @@
-use Rattle.std.proofs.Common.{ap}
 use Rattle.cmwq_flush.proofs.Rightness.{right_drain_ended}
 use Rattle.cmwq_flush.proofs.flushes.Flushes.drain_end.Goals as goal
 

@@ -1,5 +1,4 @@
-use Rattle.std.proofs.Common.{◌∙◌, sym}
-use Rattle.cmwq_flush.specs.Colouring.{book_of}
+use Rattle.std.proofs.Common.{sym}
 use Rattle.cmwq_flush.proofs.Rightness.{right_end, right_left, served_rise, overflow_rises, in_overflow, ready_rows, after_end-served, after_end-overflow}
 use Rattle.std.proofs.Common.{refl}
 use Rattle.cmwq_flush.proofs.flushes.Flushes.end.Goals as goal

@@ -1,4 +1,3 @@
-use Rattle.std.proofs.Common.{rules, ◌∙◌, arith}
 use Rattle.cmwq_flush.specs.Rows.{number_of}
 use Rattle.cmwq_flush.proofs.Search.{remove_at}
 use Rattle.cmwq_flush.proofs.Counts.{IsTally-remove}

@@ -1,4 +1,3 @@
-use Rattle.std.proofs.Common.{◌∙◌, sym}
 use Rattle.cmwq_flush.specs.Rows.{number_of, no_row}
 use Rattle.cmwq_flush.proofs.Search.{some_from_found, found_from_some}
 use Rattle.cmwq_flush.proofs.tally.Tally.contains.Goals as goal
