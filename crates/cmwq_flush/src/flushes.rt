@@ -1,6 +1,5 @@
-ghost use Rattle.std.specs.Prelude.{◌≡◌, ℕ, ◌+◌, ◌∷◌, ◌++◌, [], ◌<◌, ◌≤◌, ◌↔◌, All, Contains, IfOk, IfSome, IsTrue, length, slice_get, slice_index, vec_capacity, vec_len};
+ghost use Rattle.std.specs.Prelude.{◌≡◌, ◌∷◌, ◌++◌, [], ◌<◌, ◌≤◌, ◌↔◌, All, Contains, IfOk, IfSome, IsTrue, length, slice_get, slice_index, vec_capacity, vec_len};
 ghost use Rattle.std.specs.List.{remove};
-ghost use Rattle.cmwq_flush.specs.Numbers.{IsRising};
 ghost use Rattle.cmwq_flush.specs.FlushBook.{CanBegin, CanDrain, CanOpen, HasRoom, IsReady, after_begin, after_drain_begin, after_drain_end, after_end, after_ended, after_opened, flush_tickets, new_book, served_with_oldest, without_oldest};
 
 use crate::limits::{COLOURS, MOST_SERVED, TICKETS_OF_CALLER};
