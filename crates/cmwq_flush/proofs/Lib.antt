@@ -1,0 +1,7 @@
+mod Search
+mod Counts
+mod Waiting
+mod Recolouring
+mod Orderly
+mod Rightness
+mod ItemRows

@@ -1,0 +1,203 @@
+-- Each call keeps a flush book right.
+use Rattle.std.proofs.Common.{◌≡◌, ℕ, ◌+◌, ◌<◌, ◌≤◌, Bool, true, false, cond, List, [], ◌∷◌, ◌++◌, length, get_or, take, Some, None, ap, refl, arith, ⊎_elim}
+use Rattle.std.specs.Prelude.{All, AllPairs, Contains, map, ◌↔◌, Option, IfSome, slice_get}
+use Rattle.std.specs.List.{remove, list_all, range_with_len}
+use Rattle.std.proofs.lemmas.List.FromFn.{get_or-range_with_len}
+use Rattle.std.proofs.lemmas.Bool.{cases_lt}
+use Rattle.std.proofs.lemmas.List.{get_or-map, get_or_default, length-map, length-append}
+use Rattle.std.proofs.lemmas.List.Elements.{All-map, All-append, Contains-append_cases}
+use Rattle.std.proofs.lemmas.List.Edits.{length-remove}
+use Rattle.cmwq_flush.specs.declared.limits.TheConstants.{COLOURS, MOST_SERVED}
+use Rattle.cmwq_flush.specs.declared.served.Served.{Served}
+use Rattle.cmwq_flush.specs.declared.tally.Row.{Row}
+use Rattle.cmwq_flush.specs.Numbers.{IsRising, is_other, without}
+use Rattle.cmwq_flush.specs.Rows.{number_of, numbers_of, without_row, is_other_row, is_unused, ComesBefore}
+use Rattle.cmwq_flush.specs.Served.{ticket_of, tickets_of, IsOlder, HasTicketAt, LacksTicket}
+use Rattle.cmwq_flush.specs.FlushBook.{FlushBook, new_book, flush_from, flush_tickets, served_of, IsReady, HasRoom, served_with_oldest, without_oldest, serve_oldest, after_end}
+use Rattle.cmwq_flush.specs.Colouring.{IsOrderly, IsColouring, IsRight}
+use Rattle.cmwq_flush.proofs.Search.{find_at_key, find_absent, absent_is_none, remove_at}
+use Rattle.cmwq_flush.proofs.Orderly.{orderly_opened, orderly_ended, orderly_overflow, orderly_served, orderly_removed, orderly_left, orderly_drain_begun, orderly_drain_ended, rising_served, rising_overflow, length_filter_le, All_left, All_right}
+use Rattle.cmwq_flush.proofs.Recolouring.{colouring_opened, colouring_ended, colouring_served, colouring_removed, ready_from_clear, clear_from_ready}
+
+split : (t : Bool) (r : Row) (rows : List Row) (ns : List ℕ) → numbers_of rows ≡ ns → numbers_of (cond t (r ∷ rows) rows) ≡ cond t (number_of r ∷ ns) ns
+split true r rows ns e = ap (λ ms. number_of r ∷ ms) e
+split false r rows ns e = e
+
+pub numbers_of-without : (n : ℕ) (rows : List Row) → numbers_of (without_row n rows) ≡ without n (numbers_of rows)
+numbers_of-without n [] = refl
+numbers_of-without n (r ∷ rows) = split (is_other_row n r) r _ _ (numbers_of-without n rows)
+
+pub right_ended : (b : FlushBook) (rows : List Row) (colours : List ℕ) (n : ℕ) (opened : List ℕ) → IsRight b rows colours → IsRight (record b { opened = opened }) (without_row n rows) colours
+right_ended b rows colours n opened is = record {
+  orderly = orderly_ended b rows n opened is.orderly;
+  serving = is.serving;
+  colouring = colouring_ended colours b.served rows n is.colouring;
+}
+
+pub right_opened : (b : FlushBook) (rows : List Row) (colours : List ℕ) (r : Row) (opened : List ℕ) → b.next ≤ r.number → r.colour ≡ get_or colours (length b.served) 0 → IsRight b rows colours → IsRight (record b { next = r.number + 1; opened = opened }) (rows ++ r ∷ []) colours
+right_opened b rows colours r opened later current is = record {
+  orderly = orderly_opened b rows r opened later is.orderly;
+  serving = is.serving;
+  colouring = colouring_opened colours b.served rows r (λ k d lt. let bound = is.orderly.bounds k d lt in omega arith) current is.colouring;
+}
+
+empty_from : (xs : List ℕ) → (0 < length xs → ⊥) → xs ≡ []
+empty_from [] none = refl
+empty_from (x ∷ xs) none = absurd (none (omega arith))
+
+-- a flush begins and is served, since none is in overflow
+pub right_served : (b : FlushBook) (rows : List Row) (colours : List ℕ) (t : ℕ) → length b.served < MOST_SERVED → All (λ u. u < t) (flush_tickets b) → HasRoom b → IsRight b rows colours → IsRight (record b { served = b.served ++ flush_from t b.next ∷ [] }) rows colours
+right_served b rows colours t fits later has_room is =
+    let none : b.overflow ≡ [] = empty_from b.overflow (λ some. let full = is.serving some in omega arith) in
+    let first = orderly_overflow b rows t later has_room is.orderly in
+    let last : IsOrderly (record b { overflow = t ∷ [] }) rows = rw none at first in
+    let served = orderly_served b rows t [] fits last in
+    record {
+      orderly = rw none served;
+      serving = λ some. absurd (let full = is.serving some in omega arith);
+      colouring = colouring_served colours b.served rows (flush_from t b.next) is.orderly.older is.colouring;
+    }
+
+-- a flush begins and is in overflow
+pub right_overflow : (b : FlushBook) (rows : List Row) (colours : List ℕ) (t : ℕ) → MOST_SERVED ≤ length b.served → All (λ u. u < t) (flush_tickets b) → HasRoom b → IsRight b rows colours → IsRight (record b { overflow = b.overflow ++ t ∷ [] }) rows colours
+right_overflow b rows colours t full later has_room is = record {
+  orderly = orderly_overflow b rows t later has_room is.orderly;
+  serving = λ some. let few = is.orderly.few in omega arith;
+  colouring = is.colouring;
+}
+
+-- a served flush ends, and the oldest of the overflow is served
+ends_and_serves : (b : FlushBook) (rows : List Row) (colours : List ℕ) (i : ℕ) (overflow : List ℕ) → i < length b.served → IsOrderly (record b { overflow = overflow }) rows → (0 < length overflow → length b.served ≡ MOST_SERVED) → IsColouring (remove colours i ++ get_or colours i 0 ∷ []) (remove b.served i) rows → IsRight (record b { served = served_with_oldest (remove b.served i) overflow b.next; overflow = without_oldest overflow }) rows (remove colours i ++ get_or colours i 0 ∷ [])
+ends_and_serves b rows colours i [] lt orderly serving colouring = record {
+  orderly = orderly_removed (record b { overflow = [] }) rows i lt orderly;
+  serving = λ some. absurd (omega arith);
+  colouring = colouring;
+}
+ends_and_serves b rows colours i (t ∷ rest) lt orderly serving colouring =
+    let shorter = length-remove b.served i lt in
+    let full = serving (omega arith) in
+    record {
+      orderly = orderly_served (record b { served = remove b.served i }) rows t rest (omega arith) (orderly_removed (record b { overflow = t ∷ rest }) rows i lt orderly);
+      serving = λ some. let longer = length-append (remove b.served i) (flush_from t b.next ∷ []) in omega arith;
+      colouring = colouring_served _ (remove b.served i) rows (flush_from t b.next) orderly.older colouring;
+    }
+
+pub right_end : (b : FlushBook) (rows : List Row) (colours : List ℕ) (i : ℕ) → i < length b.served → ((d : Served) → All (λ r. (get_or b.served i d).bound ≤ r.number) rows) → IsRight b rows colours → IsRight (record b { served = served_with_oldest (remove b.served i) b.overflow b.next; overflow = without_oldest b.overflow }) rows (remove colours i ++ get_or colours i 0 ∷ [])
+right_end b rows colours i lt ready is =
+    ends_and_serves b rows colours i b.overflow lt is.orderly is.serving (colouring_removed colours b.served rows i is.colouring.sixteen is.orderly.few lt is.orderly.bounds_rise ready is.colouring)
+
+-- one in overflow ends
+pub right_left : (b : FlushBook) (rows : List Row) (colours : List ℕ) (t : ℕ) → IsRight b rows colours → IsRight (record b { overflow = without t b.overflow }) rows colours
+right_left b rows colours t is = record {
+  orderly = orderly_left b rows t is.orderly;
+  serving = λ some. is.serving (let shorter = length_filter_le (is_other t) b.overflow in omega arith);
+  colouring = is.colouring;
+}
+
+-- nothing is open and no flush stands
+pub right_new : (callers : ℕ) → IsRight (new_book callers) [] (range_with_len 0 COLOURS)
+right_new callers = record {
+  orderly = record {
+    older = λ k d lt. absurd (omega arith);
+    bounds_rise = λ i j d le lt. absurd (omega arith);
+    bounds = λ k d lt. absurd (omega arith);
+    tickets_rise = λ i j d before lt. absurd (omega arith);
+    drains_rise = λ i j d before lt. absurd (omega arith);
+    few = omega arith;
+    room = omega arith;
+  };
+  serving = λ some. absurd (omega arith);
+  colouring = record {
+    sixteen = refl;
+    distinct = λ i j d before lt same. let at_i = get_or-range_with_len 0 COLOURS i d (omega arith) in let at_j = get_or-range_with_len 0 COLOURS j d lt in omega arith;
+    below = λ k d lt. let at_k = get_or-range_with_len 0 COLOURS k d lt in omega arith;
+    right = λ k d lt. absurd (omega arith);
+  };
+}
+
+-- what is ready, over numbers and over rows
+pub rows_from_numbers : (n : ℕ) (rows : List Row) → All (λ m. n ≤ m) (numbers_of rows) → All (λ r. n ≤ r.number) rows
+rows_from_numbers n rows all k d lt = rw (← get_or-map number_of rows k d 0 lt) (all k 0 (rw length-map lt))
+
+pub numbers_from_rows : (n : ℕ) (rows : List Row) → All (λ r. n ≤ r.number) rows → All (λ m. n ≤ m) (numbers_of rows)
+numbers_from_rows n rows all = All-map (λ m. n ≤ m) number_of rows all
+
+pub no_rows : (rows : List Row) → numbers_of rows ≡ [] → rows ≡ []
+no_rows [] e = refl
+no_rows (r ∷ rows) e = cc
+
+-- the first of the rows has the least number
+pub first_is_least : (rows : List Row) (o : Option ℕ) → o ≡ slice_get (numbers_of rows) 0 → AllPairs ComesBefore rows → IfSome o (λ n. All (λ m. n ≤ m) (numbers_of rows))
+first_is_least [] o e rise = rw e tt
+first_is_least (r ∷ rows) o e rise =
+    rw e (numbers_from_rows r.number (r ∷ rows) (λ k d lt. ⊎_elim (λ (later : 0 < k). let above = rise 0 k d later lt in omega arith) (λ (first : k ≤ 0). let here : k ≡ 0 = omega arith in rw here (omega arith)) (cases_lt 0 k)))
+
+pub right_drain_begun : (b : FlushBook) (rows : List Row) (colours : List ℕ) (t : ℕ) → All (λ u. u < t) b.drains → HasRoom b → IsRight b rows colours → IsRight (record b { drains = b.drains ++ t ∷ [] }) rows colours
+right_drain_begun b rows colours t later has_room is = record {
+  orderly = orderly_drain_begun b rows t later has_room is.orderly;
+  serving = is.serving;
+  colouring = is.colouring;
+}
+
+pub right_drain_ended : (b : FlushBook) (rows : List Row) (colours : List ℕ) (t : ℕ) → IsRight b rows colours → IsRight (record b { drains = without t b.drains }) rows colours
+right_drain_ended b rows colours t is = record {
+  orderly = orderly_drain_ended b rows t is.orderly;
+  serving = is.serving;
+  colouring = is.colouring;
+}
+
+module _ (b : FlushBook) (rows : List Row) (colours : List ℕ) (t : ℕ) (is : IsRight b rows colours) where
+  pub served_rise : AllPairs IsOlder b.served
+  served_rise = rising_served b.served b.overflow is.orderly.tickets_rise
+
+  pub overflow_rises : IsRising b.overflow
+  overflow_rises = rising_overflow (map ticket_of b.served) b.overflow is.orderly.tickets_rise
+
+  pub served_at : (i : ℕ) → HasTicketAt b.served t i → served_of b t ≡ Some (get_or b.served i (flush_from 0 0))
+  served_at i at = find_at_key ticket_of b.served t served_rise (flush_from 0 0) i at
+
+  pub not_served : LacksTicket b.served t → served_of b t ≡ None
+  not_served absent = find_absent ticket_of b.served t absent
+
+  pub not_in_overflow : (Contains (tickets_of b.served) t → ⊥) → Contains (flush_tickets b) t → Contains b.overflow t
+  not_in_overflow absent stands = ⊎_elim (λ (found : Contains (tickets_of b.served) t). absurd (absent found)) (λ (found : Contains b.overflow t). found) (Contains-append_cases (tickets_of b.served) b.overflow t stands)
+
+  pub in_overflow : LacksTicket b.served t → Contains (flush_tickets b) t → Contains b.overflow t
+  in_overflow absent stands = not_in_overflow (absent_is_none ticket_of b.served t (flush_from 0 0) absent) stands
+
+  -- what a served flush that is ready waited for has ended
+  pub ready_rows : (i : ℕ) → b.opened ≡ numbers_of rows → HasTicketAt b.served t i → IsReady b t → (d : Served) → All (λ r. (get_or b.served i d).bound ≤ r.number) rows
+  ready_rows i opened at ready d =
+      let found = rw (served_at i at, opened) at ready in
+      rw (get_or_default b.served i d (flush_from 0 0) at.0) (rows_from_numbers (get_or b.served i (flush_from 0 0)).bound rows found)
+
+  pub rows_ready : (i : ℕ) → b.opened ≡ numbers_of rows → HasTicketAt b.served t i → ((d : Served) → All (λ r. (get_or b.served i d).bound ≤ r.number) rows) → IsReady b t
+  rows_ready i opened at ready = rw (served_at i at, opened) (numbers_from_rows (get_or b.served i (flush_from 0 0)).bound rows (ready (flush_from 0 0)))
+
+  -- the counts of its colour and of all older ones are 0 exactly where it is ready
+  pub clear_is_ready : (i : ℕ) → b.opened ≡ numbers_of rows → HasTicketAt b.served t i → (list_all (is_unused rows) (take (i + 1) colours) ≡ true) ↔ IsReady b t
+  clear_is_ready i opened at =
+      let o = is.orderly in
+      (λ clear. rows_ready i opened at (ready_from_clear colours b.served rows i o.few at.0 o.bounds_rise is.colouring clear), λ ready. clear_from_ready colours b.served rows i o.few at.0 o.bounds_rise is.colouring (ready_rows i opened at ready))
+
+  pub empty_is_ready : b.opened ≡ numbers_of rows → LacksTicket b.served t → (rows ≡ []) ↔ IsReady b t
+  empty_is_ready opened absent = (λ none. rw (not_served absent, opened, none) refl, λ ready. no_rows rows (rw (not_served absent, opened) at ready))
+
+  -- what the end of a flush leaves, by its place
+  pub after_end-served : (i : ℕ) → HasTicketAt b.served t i → after_end b t ≡ serve_oldest b (remove b.served i)
+  after_end-served i at = rw (served_at i at, remove_at ticket_of b.served t served_rise i at) refl
+
+  pub after_end-overflow : LacksTicket b.served t → after_end b t ≡ record b { overflow = without t b.overflow }
+  after_end-overflow absent = rw (not_served absent) refl
+
+-- a ticket comes after all flushes where it comes after those that are served and those in overflow
+pub after_all : (served : List Served) (overflow : List ℕ) (t : ℕ) → All (λ s. s.ticket < t) served → All (λ u. u < t) overflow → All (λ u. u < t) (tickets_of served ++ overflow)
+after_all served overflow t first second = let IsEarlier : ℕ → Type 0 = λ u. u < t in All-append IsEarlier (tickets_of served) overflow (All-map IsEarlier ticket_of served first) second
+
+pub after_served : (served : List Served) (overflow : List ℕ) (t : ℕ) → All (λ u. u < t) (tickets_of served ++ overflow) → All (λ s. s.ticket < t) served
+after_served served overflow t all k d lt =
+    let IsEarlier : ℕ → Type 0 = λ u. u < t in
+    rw (← get_or-map ticket_of served k d 0 lt) (All_left IsEarlier (tickets_of served) overflow all k 0 (rw length-map lt))
+
+pub after_overflow : (served : List Served) (overflow : List ℕ) (t : ℕ) → All (λ u. u < t) (tickets_of served ++ overflow) → All (λ u. u < t) overflow
+after_overflow served overflow t all = let IsEarlier : ℕ → Type 0 = λ u. u < t in All_right IsEarlier (tickets_of served) overflow all

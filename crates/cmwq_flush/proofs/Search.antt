@@ -1,0 +1,95 @@
+-- What a binary search finds among elements whose keys rise, and what is left when the one it found is removed.
+use Rattle.std.proofs.Common.{◌≡◌, ◌≢◌, ℕ, ◌-◌, ◌<◌, ◌≤◌, Bool, true, false, not, eqb, ltb, List, [], ◌∷◌, length, get_or, zero, suc, Option, Some, None, Result, Ok, Err, IfSome, IfNone, IsSome, sym, ap, refl, ◌∙◌, arith, ⊎_elim}
+use Rattle.std.specs.Prelude.{map, filter, find, All, AllPairs, Contains, ◌↔◌}
+use Rattle.std.specs.Result.{result_ok}
+use Rattle.std.specs.List.{HoldsAt, remove}
+use Rattle.std.specs.List.Sorted.{IsSearchInRange, IsBinarySearchResult, IsNonDecreasingBy}
+use Rattle.std.specs.Ordering.{nat_cmp, ordering_index}
+use Rattle.std.proofs.lemmas.Cmp.{ranked}
+use Rattle.std.proofs.lemmas.Bool.{cases_lt}
+use Rattle.std.proofs.lemmas.Bool.Decides.{nat_tests}
+use Rattle.std.proofs.lemmas.List.{get_or-map, length-map}
+use Rattle.std.proofs.lemmas.List.Elements.{All-tail, All-head}
+
+-- a filter that all pass keeps the list
+pub filter_all : {X : Type 0} (p : X → Bool) (xs : List X) → All (λ x. p x ≡ true) xs → filter p xs ≡ xs
+filter_all p [] all = refl
+filter_all p (x ∷ xs) all = rw (All-head (λ x. p x ≡ true) x xs all) (ap (λ ys. x ∷ ys) (filter_all p xs (All-tail (λ x. p x ≡ true) x xs all)))
+
+-- the removal of the one element that fails a test is the filter by the test
+pub remove_is_filter : {X : Type 0} (p : X → Bool) (xs : List X) (i : ℕ) → i < length xs → ((d : X) → p (get_or xs i d) ≡ false) → ((k : ℕ) (d : X) → k < length xs → k ≢ i → p (get_or xs k d) ≡ true) → remove xs i ≡ filter p xs
+remove_is_filter p [] i in_range fails others = absurd (omega arith)
+remove_is_filter p (x ∷ xs) zero in_range fails others =
+    let rest : All (λ y. p y ≡ true) xs = λ k d lt. others (suc k) d (omega arith) (omega arith) in
+    rw (fails x) (sym (filter_all p xs rest))
+remove_is_filter p (x ∷ xs) (suc i) in_range fails others =
+    let rest = remove_is_filter p xs i (omega arith) fails (λ k d lt differs. others (suc k) d (omega arith) (λ same. differs (omega arith))) in
+    rw (others 0 x (omega arith) (omega arith)) (ap (λ ys. x ∷ ys) rest)
+
+-- the first that passes
+pub find_first : {X : Type 0} (p : X → Bool) (xs : List X) (i : ℕ) (d : X) → i < length xs → p (get_or xs i d) ≡ true → ((k : ℕ) → k < i → p (get_or xs k d) ≡ false) → find p xs ≡ Some (get_or xs i d)
+find_first p [] i d lt passes before = absurd (omega arith)
+find_first p (x ∷ xs) zero d lt passes before = rw passes refl
+find_first p (x ∷ xs) (suc i) d lt passes before =
+    let fails : p x ≡ false = before 0 (omega arith) in
+    rw fails (find_first p xs i d (omega arith) passes (λ k below. before (suc k) (omega arith)))
+
+pub find_none : {X : Type 0} (p : X → Bool) (xs : List X) → All (λ x. p x ≡ false) xs → find p xs ≡ None
+find_none p [] all = refl
+find_none p (x ∷ xs) all =
+    let fails : p x ≡ false = All-head (λ x. p x ≡ false) x xs all in
+    rw fails (find_none p xs (All-tail (λ x. p x ≡ false) x xs all))
+
+module _ {X : Type 0} (key : X → ℕ) (xs : List X) (n : ℕ) where
+  abbrev pub IsAt : ℕ → Type 0
+  IsAt i = (i < length xs) × HoldsAt (λ x. key x ≡ n) xs i
+
+  abbrev pub IsAbsent : Type 0
+  IsAbsent = All (λ x. key x ≢ n) xs
+
+  pub contains_from_at : (any : X) (i : ℕ) → IsAt i → Contains (map key xs) n
+  contains_from_at any i at = (i, rw length-map at.0, get_or-map key xs i any n at.0 ∙ at.1 any)
+
+  pub absent_is_none : (any : X) → IsAbsent → Contains (map key xs) n → ⊥
+  absent_is_none any absent found =
+      let lt : found.0 < length xs = rw length-map at found.1 in
+      absent found.0 any lt (sym (get_or-map key xs found.0 any n lt) ∙ found.2)
+
+  -- what was found or not tells whether the key is there
+  pub some_from_found : (any : X) (o : Option ℕ) → IfNone o IsAbsent → Contains (map key xs) n → IsSome o
+  some_from_found any (Some i) absent found = refl
+  some_from_found any None absent found = absurd (absent_is_none any absent found)
+
+  pub found_from_some : (any : X) (o : Option ℕ) → IfSome o IsAt → IsSome o → Contains (map key xs) n
+  found_from_some any (Some i) at some = contains_from_at any i at
+  found_from_some any None at some = cc
+
+  pub find_absent : IsAbsent → find (λ x. eqb (key x) n) xs ≡ None
+  find_absent absent = find_none (λ x. eqb (key x) n) xs (λ k d lt. let differs = absent k d lt in grind (arith, nat_tests))
+
+  module _ (rising : AllPairs (λ x y. key x < key y) xs) where
+    -- the comparisons with n rise along the list, as a binary search asks
+    comparisons_rise : IsNonDecreasingBy (λ x. ordering_index (nat_cmp (key x) n)) xs
+    comparisons_rise i j d le in_range =
+        let keys_rise : key (get_or xs i d) ≤ key (get_or xs j d) = grind (arith, rising i j d, λ (same : i ≡ j). ap (λ k. key (get_or xs k d)) same) in
+        grind (arith, nat_tests)
+
+    -- a search ends at the element with the key, or there is none
+    pub searched : (r : Result ℕ ℕ) → IsSearchInRange r (length xs) → IsBinarySearchResult (λ x. nat_cmp (key x) n) xs r → IfSome (result_ok r) IsAt × IfNone (result_ok r) IsAbsent
+    searched (Ok i) in_range equal = ((in_range, λ d. ranked _ n _ (sym (equal d))), tt)
+    searched (Err i) in_range parted =
+        let sides = parted comparisons_rise in
+        (tt, λ k d lt same. ⊎_elim (λ (below : k < i). let less : key (get_or xs k d) < n = ranked _ n _ (sym (sides.0 k d (omega arith) below)) in omega arith) (λ (above : i ≤ k). let more : n < key (get_or xs k d) = ranked _ n _ (sym (sides.1 k d above lt)) in omega arith) (cases_lt k i))
+
+    pub find_at_key : (d : X) (i : ℕ) → IsAt i → find (λ x. eqb (key x) n) xs ≡ Some (get_or xs i d)
+    find_at_key d i at = find_first (λ x. eqb (key x) n) xs i d at.0 (let here = at.1 d in grind (arith, nat_tests)) (λ k below. let less = rising k i d below at.0 in let here = at.1 d in grind (arith, nat_tests))
+
+    -- the removal of the element with the key keeps those with another
+    pub remove_at : (i : ℕ) → IsAt i → remove xs i ≡ filter (λ x. not (eqb (key x) n)) xs
+    remove_at i at = remove_is_filter (λ x. not (eqb (key x) n)) xs i at.0 (λ d. grind (arith, nat_tests, at.1 d)) (λ k d lt differs. grind (arith, nat_tests, at.1 d, rising i k d, rising k i d))
+
+-- what rises is below a bound where its last is
+pub below_from_last : {X : Type 0} (key : X → ℕ) (xs : List X) (last : X) (n : ℕ) → AllPairs (λ x y. key x < key y) xs → 0 < length xs → ((d : X) → last ≡ get_or xs (length xs - 1) d) → (ltb (key last) n ≡ true) ↔ All (λ x. key x < n) xs
+below_from_last {X} key xs last n rise some is =
+    let ends : (d : X) → key last ≡ key (get_or xs (length xs - 1) d) = λ d. ap key (is d) in
+    (λ less k d lt. ⊎_elim (λ (before : k < length xs - 1). let older = rise k (length xs - 1) d before (omega arith) in let at_last = ends d in grind (arith, nat_tests)) (λ (after : length xs - 1 ≤ k). let here : k ≡ length xs - 1 = omega arith in rw here (let at_last = ends d in grind (arith, nat_tests))) (cases_lt k (length xs - 1)), λ all. let less = all (length xs - 1) last (omega arith) in let at_last = ends last in grind (arith, nat_tests))

@@ -1,0 +1,7 @@
+pub mod Numbers
+pub mod Rows
+pub mod Served
+pub mod FlushBook
+pub mod Colouring
+pub mod BarrierBook
+pub mod Waits

@@ -1,0 +1,122 @@
+ghost use Rattle.std.specs.Prelude.{◌≡◌, ◌<◌, ◌≤◌, ◌↔◌, ◌++◌, ◌∷◌, [], All, AllPairs, Contains, IfSome, IfNone, IsTrue, find, length};
+ghost use Rattle.cmwq_flush.specs.Numbers.{IsRising, without};
+ghost use Rattle.cmwq_flush.specs.BarrierBook.{is_up_to, tickets_in};
+ghost use Rattle.cmwq_flush.specs.Waits.{HasTicketAt, IsOlder, LacksTicket, numbers_in};
+
+use cmwq_model::{ItemId, Number};
+
+/// A wait for the queueings of an item up to the ticket (the kernel's `wq_barrier`).
+#[derive(Clone, Copy, Debug)]
+pub struct Barrier {
+    pub ticket: Number,
+    pub item: ItemId,
+}
+
+/// What is open of an item: its run and its unstarted queueing, the older one first.
+#[derive(Clone, Copy, Debug)]
+pub(crate) enum Open {
+    Nothing,
+    One(Number),
+    Two(Number, Number),
+}
+
+impl Open {
+    /// One more is open.
+    pub(crate) fn with(self, number: Number) -> Open
+        requires { length (numbers_in self) < 2 }
+        ensures { numbers_in result ≡ numbers_in self ++ number ∷ [] }
+    {
+        match self {
+            Open::Nothing => Open::One(number),
+            Open::One(run) => Open::Two(run, number),
+            Open::Two(run, next) => Open::Two(run, next),
+        }
+    }
+
+    /// One has ended.
+    pub(crate) fn without(self, number: Number) -> Open
+        requires rising { IsRising (numbers_in self) }
+        requires open { Contains (numbers_in self) number }
+        ensures { numbers_in result ≡ without number (numbers_in self) }
+    {
+        match self {
+            Open::Two(run, next) if run == number => Open::One(next),
+            Open::Two(run, _) => Open::One(run),
+            Open::One(_) | Open::Nothing => Open::Nothing,
+        }
+    }
+
+    /// The least number up to this one.
+    pub(crate) fn first_up_to(self, ticket: Number) -> Option<Number>
+        ensures { result ≡ find (is_up_to ticket) (numbers_in self) }
+    {
+        match self {
+            Open::Nothing => None,
+            Open::One(run) => (run <= ticket).then_some(run),
+            Open::Two(run, _) if run <= ticket => Some(run),
+            Open::Two(_, next) => (next <= ticket).then_some(next),
+        }
+    }
+
+    /// Whether one more with this number may be open.
+    pub(crate) fn takes(self, number: Number) -> bool
+        requires { IsRising (numbers_in self) }
+        ensures value { IsTrue result ↔ (All (λ n. n < number) (numbers_in self) × (length (numbers_in self) < 2)) }
+    {
+        match self {
+            Open::Nothing => true,
+            Open::One(run) => run < number,
+            Open::Two(..) => false,
+        }
+    }
+
+    /// Whether this number is open.
+    pub(crate) fn has(self, number: Number) -> bool
+        ensures { IsTrue result ↔ Contains (numbers_in self) number }
+    {
+        match self {
+            Open::Nothing => false,
+            Open::One(run) => run == number,
+            Open::Two(run, next) => run == number || next == number,
+        }
+    }
+}
+
+/// The place of the wait with this ticket, if it stands.
+fn find_barrier(barriers: &[Barrier], ticket: Number) -> Option<usize>
+    requires { AllPairs IsOlder barriers.now }
+    ensures found { IfSome result (HasTicketAt barriers.now ticket) }
+    ensures absent { IfNone result (LacksTicket barriers.now ticket) }
+{
+    barriers
+        .binary_search_by_key(&ticket, |barrier| barrier.ticket)
+        .ok()
+}
+
+/// Whether a wait with this ticket stands.
+pub(crate) fn has_barrier(barriers: &[Barrier], ticket: Number) -> bool
+    requires { AllPairs IsOlder barriers.now }
+    ensures { IsTrue result ↔ Contains (tickets_in barriers.now) ticket }
+{
+    find_barrier(barriers, ticket).is_some()
+}
+
+/// The place of the wait with this ticket.
+pub(crate) fn barrier_place(barriers: &[Barrier], ticket: Number) -> usize
+    requires rising { AllPairs IsOlder barriers.now }
+    requires stands { Contains (tickets_in barriers.now) ticket }
+    ensures { HasTicketAt barriers.now ticket result }
+{
+    find_barrier(barriers, ticket).unwrap()
+}
+
+/// Whether this ticket comes after those of all of these waits.
+pub(crate) fn is_latest_barrier(barriers: &[Barrier], ticket: Number) -> bool
+    requires { AllPairs IsOlder barriers.now }
+    ensures { IsTrue result ↔ All (λ w. w.ticket < ticket) barriers.now }
+{
+    match barriers.last() {
+        Some(latest) => latest.ticket < ticket,
+        None => true,
+    }
+}

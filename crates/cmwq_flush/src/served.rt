@@ -1,0 +1,42 @@
+ghost use Rattle.std.specs.Prelude.{◌≡◌, ◌<◌, ◌↔◌, All, AllPairs, Contains, IfSome, IfNone, IsTrue};
+ghost use Rattle.cmwq_flush.specs.Served.{IsOlder, LacksTicket, HasTicketAt, tickets_of};
+
+use cmwq_model::Number;
+
+/// A flush that is served.
+#[derive(Clone, Copy, Debug)]
+pub struct Served {
+    pub ticket: Number,
+    /// It waits for the queueings below this number: those that were opened before it was served.
+    pub bound: u64,
+}
+
+/// The place of the flush with this ticket, if it is served.
+pub(crate) fn find_served(served: &[Served], ticket: Number) -> Option<usize>
+    requires { AllPairs IsOlder served.now }
+    ensures found { IfSome result (HasTicketAt served.now ticket) }
+    ensures absent { IfNone result (LacksTicket served.now ticket) }
+{
+    served
+        .binary_search_by_key(&ticket, |flush| flush.ticket)
+        .ok()
+}
+
+/// Whether this ticket comes after those of all of these flushes.
+pub(crate) fn is_latest_served(served: &[Served], ticket: Number) -> bool
+    requires { AllPairs IsOlder served.now }
+    ensures { IsTrue result ↔ All (λ s. s.ticket < ticket) served.now }
+{
+    match served.last() {
+        Some(latest) => latest.ticket < ticket,
+        None => true,
+    }
+}
+
+/// Whether the flush with this ticket is among these.
+pub(crate) fn is_served(served: &[Served], ticket: Number) -> bool
+    requires { AllPairs IsOlder served.now }
+    ensures { IsTrue result ↔ Contains (tickets_of served.now) ticket }
+{
+    find_served(served, ticket).is_some()
+}

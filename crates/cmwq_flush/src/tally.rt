@@ -1,0 +1,129 @@
+ghost use Rattle.std.specs.Prelude.{◌≡◌, ◌<◌, ◌≤◌, ◌↔◌, ◌++◌, ◌∷◌, [], All, AllPairs, Contains, IfOk, IfSome, IfNone, IsTrue, length, slice_get};
+ghost use Rattle.std.specs.List.{list_all};
+ghost use Rattle.cmwq_flush.specs.Rows.{ComesBefore, HasNumberAt, LacksNumber, is_unused, numbers_of, without_row};
+
+use crate::limits::{COLOURS, MOST_OPEN};
+use cmwq_model::Number;
+use std::alloc::{AllocError, Global};
+use std::marker::Model;
+
+/// A colour, below 16.
+pub(crate) type Colour = u8;
+
+/// An open queueing.
+#[derive(Clone, Copy, Debug)]
+pub(crate) struct Row {
+    pub(crate) number: Number,
+    pub(crate) colour: Colour,
+}
+
+/// The open queueings of a queue by rising number, each with a colour, and how many have each colour.
+#[derive(Debug, Drop)]
+pub(crate) struct Tally {
+    rows: Vec<Row>,
+    counts: [u16; COLOURS],
+}
+
+impl Model for Tally {
+    ghost use Rattle.std.specs.Prelude.{List, ◌≤◌, vec_capacity};
+    ghost use Rattle.cmwq_flush.specs.declared.limits.TheConstants.{MOST_OPEN};
+    ghost use Rattle.cmwq_flush.specs.declared.tally.Row.{Row};
+    ghost use Rattle.cmwq_flush.specs.Rows.{IsTally};
+
+    ghost Value = { List Row };
+
+    ghost view = { λ t. t.rows.items };
+
+    ghost invariant = { λ t. IsTally t.rows.items t.counts × (MOST_OPEN ≤ vec_capacity t.rows) };
+}
+
+impl Tally {
+    /// No open queueing. No later call takes memory.
+    pub(crate) fn new(alloc: Global) -> Result<Self, AllocError>
+        ensures { IfOk result (λ tally. tally ≡ []) }
+    {
+        Ok(Tally {
+            rows: Vec::with_capacity(alloc, MOST_OPEN)?,
+            counts: [0; COLOURS],
+        })
+    }
+
+    pub(crate) fn open(&mut self, number: Number, colour: Colour)
+        requires later { All (λ r. r.number < number) self.old }
+        requires room { length self.old < MOST_OPEN }
+        requires is_colour { colour < COLOURS }
+        ensures { self.new ≡ self.old ++ (record { number = number; colour = colour }) ∷ [] }
+    {
+        self.counts[usize::from(colour)] += 1;
+        self.rows.push_reserved(Row { number, colour });
+    }
+
+    pub(crate) fn close(&mut self, number: Number)
+        requires { Contains (numbers_of self.old) number }
+        ensures { self.new ≡ without_row number self.old }
+    {
+        let place = place_of(&self.rows, number);
+        let row = self.rows.remove(place);
+        self.counts[usize::from(row.colour)] -= 1;
+    }
+
+    /// Whether the counts of these colours are 0.
+    pub(crate) fn are_clear(&self, colours: &[Colour]) -> bool
+        requires { All (λ c. c < COLOURS) colours.now }
+        ensures { result ≡ list_all (is_unused self.now) colours.now }
+    {
+        colours.iter().all(|&colour| self.is_clear(colour))
+    }
+
+    /// Whether the count of this colour is 0.
+    fn is_clear(&self, colour: Colour) -> bool
+        requires { colour < COLOURS }
+        ensures { result ≡ is_unused self.now colour }
+    {
+        self.counts[usize::from(colour)] == 0
+    }
+
+    /// The least number.
+    pub(crate) fn first(&self) -> Option<Number>
+        ensures first { result ≡ slice_get (numbers_of self.now) 0 }
+        ensures rising { AllPairs ComesBefore self.now }
+    {
+        self.rows.first().map(|row| row.number)
+    }
+
+    pub(crate) fn is_empty(&self) -> bool
+        ensures { IsTrue result ↔ (self.now ≡ []) }
+    {
+        self.rows.is_empty()
+    }
+
+    pub(crate) fn is_full(&self) -> bool
+        ensures { IsTrue result ↔ (MOST_OPEN ≤ length self.now) }
+    {
+        self.rows.len() >= MOST_OPEN
+    }
+
+    pub(crate) fn contains(&self, number: Number) -> bool
+        ensures { IsTrue result ↔ Contains (numbers_of self.now) number }
+    {
+        find_row(&self.rows, number).is_some()
+    }
+}
+
+/// The place of the row with this number.
+fn place_of(rows: &[Row], number: Number) -> usize
+    requires rising { AllPairs ComesBefore rows.now }
+    requires open { Contains (numbers_of rows.now) number }
+    ensures { HasNumberAt rows.now number result }
+{
+    find_row(rows, number).unwrap()
+}
+
+/// The place of the row with this number, if there is one.
+fn find_row(rows: &[Row], number: Number) -> Option<usize>
+    requires { AllPairs ComesBefore rows.now }
+    ensures found { IfSome result (HasNumberAt rows.now number) }
+    ensures absent { IfNone result (LacksNumber rows.now number) }
+{
+    rows.binary_search_by_key(&number, |row| row.number).ok()
+}

@@ -1,0 +1,8 @@
+//! The timers of delayed items: which item is booked on which queue for when, and which fires first.
+#![tactic(auto)]
+
+mod timer;
+mod timers;
+
+pub use timer::Timer;
+pub use timers::Timers;

@@ -1,0 +1,32 @@
+ghost use Rattle.std.specs.Prelude.{◌≡◌, ◌<◌};
+ghost use Rattle.cmwq_timer.specs.Due.{may_fire, is_sooner};
+
+use cmwq_model::{Number, QueueId};
+
+/// A timer that is set for an item (the kernel's `timer_list` in a `delayed_work`).
+#[derive(Clone, Copy, Debug)]
+pub struct Timer {
+    /// The queue on which the item is to be queued.
+    pub queue: QueueId,
+    /// The tick at which it is due.
+    pub due: u64,
+    /// The number of the entry that booked it.
+    pub number: Number,
+}
+
+impl Timer {
+    /// Whether it may fire at the tick `now`: it is due, and its queue has no bit in `held`.
+    pub fn may_fire(&self, now: u64, held: u64) -> bool
+        requires { self.now.queue.0 < 64 }
+        ensures { result ≡ may_fire now held self.now }
+    {
+        self.due <= now && (held >> self.queue.0) & 1 != 1
+    }
+
+    /// Whether it fires before the other: it is due earlier, or at the same tick and was booked earlier.
+    pub fn is_sooner(&self, other: &Timer) -> bool
+        ensures { result ≡ is_sooner self.now other.now }
+    {
+        self.due < other.due || self.due == other.due && self.number < other.number
+    }
+}

@@ -1,0 +1,111 @@
+ghost use Rattle.std.specs.Prelude.{◌≡◌, ℕ, ◌^◌, ◌<◌, Some, None, IfOk, IfSome, IfNone, length, replicate, slice_set};
+ghost use Rattle.cmwq_timer.specs.Candidates.{sooner};
+ghost use Rattle.cmwq_timer.specs.Rows.{timer_of, due_of, HaveBits, NoneMayFire, IsFirstToFire};
+
+use crate::timer::Timer;
+use cmwq_model::{ItemId, Number, QueueId};
+use std::alloc::{AllocError, Global};
+use std::marker::Model;
+
+/// The timers of all items of a runtime. An item has one at most.
+#[derive(Debug, Drop)]
+pub struct Timers {
+    rows: Vec<Option<Timer>>,
+}
+
+impl Model for Timers {
+    ghost use Rattle.cmwq_timer.specs.Rows.{Rows, HaveBits};
+    ghost use Rattle.std.specs.Prelude.{◌^◌, ◌<◌, vec_len};
+
+    ghost Value = { Rows };
+
+    ghost view = { λ t. t.rows.items };
+
+    ghost invariant = { λ t. (vec_len t.rows < 2 ^ 16) × HaveBits t.rows.items };
+}
+
+impl Timers {
+    /// Timers for so many items, none of which is booked. No later call takes memory.
+    pub fn new(alloc: Global, items: u16) -> Result<Self, AllocError>
+        ensures { IfOk result (λ timers. timers ≡ replicate items None) }
+    {
+        Ok(Timers {
+            rows: vec![in alloc; None; usize::from(items)]?,
+        })
+    }
+
+    /// Books an item for the tick `due`, in the place of any booking that it had (`add_timer_on`, `mod_timer`).
+    /// `at` is the number of the entry that books it.
+    pub fn book(&mut self, item: ItemId, queue: QueueId, due: u64, at: Number)
+        requires known { item.0 < length self.old }
+        requires has_bit { queue.0 < 64 }
+        ensures { self.new ≡ slice_set self.old item.0 (Some (record { queue = queue; due = due; number = at })) }
+    {
+        self.rows[usize::from(item.0)] = Some(Timer {
+            queue,
+            due,
+            number: at,
+        });
+    }
+
+    /// Takes an item's booking back, if it has one (`del_timer`).
+    pub fn unbook(&mut self, item: ItemId)
+        requires { item.0 < length self.old }
+        ensures { self.new ≡ slice_set self.old item.0 None }
+    {
+        self.rows[usize::from(item.0)] = None;
+    }
+
+    /// The tick at which an item is due, if it is booked (`timer_pending`, `timer_list.expires`).
+    pub fn booked(&self, item: ItemId) -> Option<u64>
+        requires { item.0 < length self.now }
+        ensures { result ≡ due_of self.now item.0 }
+    {
+        self.rows[usize::from(item.0)].map(|timer| timer.due)
+    }
+
+    /// The item whose timer fires first at the tick `now` (`__run_timers`): one that is due on a queue that isn't
+    /// held back, and that no other such item comes before, by its tick and then by its entry. Bit q of `held` says
+    /// that queue q is held back.
+    pub fn first_due(&self, now: u64, held: u64) -> Option<ItemId>
+        ensures found { IfSome result (λ item. IsFirstToFire now held self.now item.0) }
+        ensures none { IfNone result (NoneMayFire now held self.now) }
+    {
+        let mut first = None;
+        for (index, row) in self.rows.iter().enumerate() {
+            if let Some(timer) = row {
+                if timer.may_fire(now, held) {
+                    let item = ItemId(index as u16);
+                    first = Some(sooner(
+                        first,
+                        Candidate {
+                            item,
+                            timer: *timer,
+                        },
+                    ));
+                }
+            }
+        }
+        first.map(|candidate| candidate.item)
+    }
+}
+
+/// An item that may fire, and its timer.
+#[derive(Clone, Copy)]
+struct Candidate {
+    item: ItemId,
+    timer: Timer,
+}
+
+/// The one of the two that fires first.
+fn sooner(first: Option<Candidate>, next: Candidate) -> Candidate
+    ensures { result ≡ sooner first next }
+{
+    match first {
+        Some(first) if !next.timer.is_sooner(&first.timer) => first,
+        _ => next,
+    }
+}
+
+#[cfg(test)]
+mod tests;
