@@ -8,14 +8,17 @@ use Rattle.cmwq.specs.declared.word.Word.TheVariants as word
 
 -- the word with this name
 abbrev pub word_of_name : List ℕ → Option Word
-word_of_name name = if bytes_eq name (codes "step") then Some word.Step else None
+word_of_name name =
+    if bytes_eq name (codes "step") then Some word.Step
+    else if bytes_eq name (codes "check") then Some word.Check
+    else None
 
 -- what clap reads of the program's command line: a word is a subcommand, and there is one
 abbrev pub program : Shape
 program = record (new_app (codes "cmwq")).top { has_version = true; subcommand_required = true }
 
 abbrev pub app : App
-app = with_subcommand (record { top = program; subs = [] }) (new_app (codes "step")).top
+app = with_subcommand (with_subcommand (record { top = program; subs = [] }) (new_app (codes "step")).top) (new_app (codes "check")).top
 
 -- the words as texts
 abbrev pub texts : List (Bor Text) → List Text

@@ -1,11 +1,11 @@
-//! `cmwq`: answers calls of a workqueue runtime, on standard input and output.
+//! `cmwq`: answers calls of a workqueue runtime and judges its histories, on standard input and output.
 #![tactic(auto)]
 
 mod word;
 
 use clap::error::ErrorKind;
 use cmwq_base::{BufferedSink, FromStd};
-use cmwq_engine::run_step;
+use cmwq_engine::{run_check, run_step};
 use std::alloc::{AllocError, Global};
 use std::io;
 use std::process::ExitCode;
@@ -41,13 +41,17 @@ fn texts(alloc: Global, args: &[String]) -> Result<Vec<&str>, AllocError> {
     Ok(words)
 }
 
-fn step(rt: &HostRuntime) -> u8 {
+/// Does what a word says, over the standard streams.
+fn run(rt: &HostRuntime, word: Word) -> u8 {
     let alloc = rt.alloc();
     let mut input = FromStd::new(rt.stdin());
     let mut errors = FromStd::new(rt.stderr());
-    match BufferedSink::new(alloc, FromStd::new(rt.stdout())) {
-        Ok(mut output) => run_step(alloc, &mut input, &mut output, &mut errors),
-        Err(_) => no_memory(rt),
+    let Ok(mut output) = BufferedSink::new(alloc, FromStd::new(rt.stdout())) else {
+        return no_memory(rt);
+    };
+    match word {
+        Word::Step => run_step(alloc, &mut input, &mut output, &mut errors),
+        Word::Check => run_check(alloc, &mut input, &mut output, &mut errors),
     }
 }
 
@@ -57,7 +61,7 @@ fn answer(rt: &HostRuntime, args: &[String]) -> u8 {
         return no_memory(rt);
     };
     match word_of(alloc, &words) {
-        Ok(Word::Step) => step(rt),
+        Ok(word) => run(rt, word),
         Err(error) => told(rt, &error),
     }
 }

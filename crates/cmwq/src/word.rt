@@ -11,6 +11,8 @@ use std::alloc::Global;
 pub enum Word {
     /// Answers call lines with their history.
     Step,
+    /// Judges a history.
+    Check,
 }
 
 /// The word with this name.
@@ -19,6 +21,7 @@ fn word_named(name: &str) -> Option<Word>
 {
     match name {
         "step" => Some(Word::Step),
+        "check" => Some(Word::Check),
         _ => None,
     }
 }
@@ -31,11 +34,15 @@ fn command<'a>(alloc: Global) -> Result<Command<'a>, Error>
     let step = Command::new(alloc, "step").about(
         "Reads call lines from standard input and writes the history of their answers",
     );
+    let check = Command::new(alloc, "check").about(
+        "Reads a history from standard input and writes whether it is legal, or its first wrong entry",
+    );
     let command = Command::new(alloc, "cmwq")
         .version("0.1.0")
         .about("A concurrency managed workqueue runtime")
         .subcommand_required(true)
-        .subcommand(step)?;
+        .subcommand(step)?
+        .subcommand(check)?;
     Ok(command)
 }
 
@@ -79,9 +86,11 @@ mod tests {
     use std::test::Fail;
 
     #[test]
-    fn reads_a_word(rt: HostRuntime) -> Result<(), Fail> {
+    fn reads_each_word(rt: HostRuntime) -> Result<(), Fail> {
         let word = word_of(rt.alloc(), &["cmwq", "step"])?;
         assert_eq!(rt; word, Word::Step);
+        let word = word_of(rt.alloc(), &["cmwq", "check"])?;
+        assert_eq!(rt; word, Word::Check);
         Ok(())
     }
 

@@ -1,6 +1,8 @@
 -- How a reader's progress goes on from line to line.
 use Rattle.std.proofs.Common.{◌≡◌, ◌+◌, ◌<◌, ◌≤◌, ℕ, suc, Bool, true, false, List, [], ◌∷◌, ◌++◌, length, Result, Ok, Err, nat_le, Option, Some, None, refl, sym, ap, ◌∙◌, arith, subst, length-append}
-use Rattle.std.specs.Prelude.{if◌then◌else◌, IfSome, IfOk}
+use Rattle.std.specs.Prelude.{if◌then◌else◌, IfSome, IfOk, IsTrue}
+use Rattle.std.specs.List.{All}
+use Rattle.std.proofs.lemmas.List.Elements.{All-nil, All-push}
 use Rattle.std.proofs.lemmas.Bool.Decides.{nat_tests}
 use Rattle.std.specs.Io.KnownBytes.{prepend_known}
 use Rattle.cmwq_io.specs.declared.lines.Found.{Found}
@@ -12,7 +14,7 @@ use Rattle.cmwq_model.specs.Layout.{Layout, layout_of, is_layout}
 use Rattle.cmwq_text.specs.ShapeText.{counts_of, begins_queue}
 use Rattle.cmwq_base.specs.declared.refusal.Refusal.{Refusal}
 use Rattle.cmwq_base.specs.declared.refusal.Refusal.TheVariants as refusal
-use Rattle.cmwq_base.specs.Files.{File, Stage, begin, head, body, Kind, shape_made, and_then, begun, with_queue, queue_line, with_item, item_line, first_item, after_head, after_line, after_cut, at_end, without_items, after_text, file_of}
+use Rattle.cmwq_base.specs.Files.{File, IsSound, Stage, begin, head, body, Kind, shape_made, and_then, begun, with_queue, queue_line, with_item, item_line, first_item, after_head, after_line, after_cut, at_end, without_items, after_text, file_of}
 use Rattle.cmwq_base.specs.Gives.{Refuses, Makes, Fails, Gives}
 use Rattle.cmwq_base.specs.Stages.{lines_in, IsWithin}
 use Rattle.cmwq_base.proofs.Texts.{text_whole, text_long, text_cut, text_end}
@@ -26,65 +28,65 @@ SameRead k (Some text) (Some rest) n stage = file_of k text ≡ after_text k n s
 pub record Progress {X : Type 0} (k : Kind X) (old now : Option (List ℕ)) (n : ℕ) (stage : Stage X) : Type 0 where
   pub same : SameRead k old now n stage
   pub count : lines_in stage + 1 ≡ n
-  pub within : IsWithin stage
+  pub within : IsWithin k stage
 
 pub found_so : (before after : Option (List ℕ)) (line : List ℕ) (how so : Found) → how ≡ so → TakesKnownLine before after how line → TakesKnownLine before after so line
 found_so before after line how so is t = subst (λ h. TakesKnownLine before after h line) is t
 
 -- ---- one line more
 
-pub record Grows {X : Type 0} (old new : Stage X) : Type 0 where
+pub record Grows {X : Type 0} (k : Kind X) (old new : Stage X) : Type 0 where
   pub count : lines_in new ≡ lines_in old + 1
-  pub within : IsWithin old → IsWithin new
+  pub within : IsWithin k old → IsWithin k new
 
 module _ {X : Type 0} (k : Kind X) (n : ℕ) where
-  begun_grows : (o : Option Counts) (next : Stage X) → begun n o ≡ Ok next → Grows begin next
+  begun_grows : (o : Option Counts) (next : Stage X) → begun n o ≡ Ok next → Grows k begin next
   begun_grows None next h = cc
-  begun_grows (Some c) next h = let is : head c [] ≡ next = cc in subst (Grows begin) is (record { count = refl; within = λ _. omega arith })
+  begun_grows (Some c) next h = let is : head c [] ≡ next = cc in subst (Grows k begin) is (record { count = refl; within = λ _. omega arith })
 
-  queue_grows : (c : Counts) (qs : List QueueShape) (o : Option QueueShape) (next : Stage X) → length qs < 64 → with_queue n c qs o ≡ Ok next → Grows (head c qs) next
+  queue_grows : (c : Counts) (qs : List QueueShape) (o : Option QueueShape) (next : Stage X) → length qs < 64 → with_queue n c qs o ≡ Ok next → Grows k (head c qs) next
   queue_grows c qs None next room h = cc
   queue_grows c qs (Some q) next room h =
       let is : head c (qs ++ q ∷ []) ≡ next = cc in
       let more = length-append qs (q ∷ []) in
-      subst (Grows (head c qs)) is (record { count = omega arith; within = λ _. omega arith })
+      subst (Grows k (head c qs)) is (record { count = omega arith; within = λ _. omega arith })
 
   queue_line_grows : (c : Counts) (qs : List QueueShape) (line : List ℕ) (next : Stage X) (b : Bool) → nat_le 64 (length qs) ≡ b
-      → (if b then Err (refusal.BadShape n) else with_queue n c qs (k.queue_of line)) ≡ Ok next → Grows (head c qs) next
+      → (if b then Err (refusal.BadShape n) else with_queue n c qs (k.queue_of line)) ≡ Ok next → Grows k (head c qs) next
   queue_line_grows c qs line next true full h = cc
   queue_line_grows c qs line next false full h = queue_grows c qs (k.queue_of line) next (grind (arith, nat_tests)) h
 
-  item_grows : (s : Layout) (xs : List X) (x : X) (next : Stage X) (b : Bool) → length xs < 1000000 → (if b then Ok (body s (xs ++ x ∷ [])) else Err (refusal.NoSuchId n)) ≡ Ok next → Grows (body s xs) next
-  item_grows s xs x next true room h =
+  item_grows : (s : Layout) (xs : List X) (x : X) (next : Stage X) (b : Bool) → k.fits_in s x ≡ b → length xs < 1000000 → (if b then Ok (body s (xs ++ x ∷ [])) else Err (refusal.NoSuchId n)) ≡ Ok next → Grows k (body s xs) next
+  item_grows s xs x next true fitting room h =
       let is : body s (xs ++ x ∷ []) ≡ next = cc in
       let more = length-append xs (x ∷ []) in
-      subst (Grows (body s xs)) is (record { count = omega arith; within = λ w. (w.0, omega arith) })
-  item_grows s xs x next false room h = cc
+      subst (Grows k (body s xs)) is (record { count = omega arith; within = λ w. (w.0, omega arith, All-push (λ y. IsTrue (k.fits_in s y)) xs x w.2 fitting) })
+  item_grows s xs x next false fitting room h = cc
 
-  with_item_grows : (s : Layout) (xs : List X) (o : Option X) (next : Stage X) → length xs < 1000000 → with_item k n s xs o ≡ Ok next → Grows (body s xs) next
+  with_item_grows : (s : Layout) (xs : List X) (o : Option X) (next : Stage X) → length xs < 1000000 → with_item k n s xs o ≡ Ok next → Grows k (body s xs) next
   with_item_grows s xs None next room h = cc
-  with_item_grows s xs (Some x) next room h = item_grows s xs x next (k.fits_in s x) room h
+  with_item_grows s xs (Some x) next room h = item_grows s xs x next (k.fits_in s x) refl room h
 
   item_line_if : (s : Layout) (xs : List X) (line : List ℕ) (next : Stage X) (b : Bool) → nat_le 1000000 (length xs) ≡ b
-      → (if b then Err refusal.TooLong else with_item k n s xs (k.item_of line)) ≡ Ok next → Grows (body s xs) next
+      → (if b then Err refusal.TooLong else with_item k n s xs (k.item_of line)) ≡ Ok next → Grows k (body s xs) next
   item_line_if s xs line next true full h = cc
   item_line_if s xs line next false full h = with_item_grows s xs (k.item_of line) next (grind (arith, nat_tests)) h
 
-  item_line_grows : (s : Layout) (xs : List X) (line : List ℕ) (next : Stage X) → item_line k n s xs line ≡ Ok next → Grows (body s xs) next
+  item_line_grows : (s : Layout) (xs : List X) (line : List ℕ) (next : Stage X) → item_line k n s xs line ≡ Ok next → Grows k (body s xs) next
   unfolding item_line
   item_line_grows s xs line next h = item_line_if s xs line next (nat_le 1000000 (length xs)) refl h
 
-  first_grows : (c : Counts) (qs : List QueueShape) (line : List ℕ) (next : Stage X) (b : Bool) → first_item k n (if b then Some (layout_of c qs) else None) line ≡ Ok next → Grows (head c qs) next
+  first_grows : (c : Counts) (qs : List QueueShape) (line : List ℕ) (next : Stage X) (b : Bool) → first_item k n (if b then Some (layout_of c qs) else None) line ≡ Ok next → Grows k (head c qs) next
   first_grows c qs line next true h =
       let g = item_line_grows (layout_of c qs) [] line next h in
-      record { count = let more = g.count in omega arith; within = λ w. g.within (w, omega arith) }
+      record { count = let more = g.count in omega arith; within = λ w. g.within (w, omega arith, All-nil (λ x. IsTrue (k.fits_in (layout_of c qs) x))) }
   first_grows c qs line next false h = cc
 
-  head_grows : (c : Counts) (qs : List QueueShape) (line : List ℕ) (next : Stage X) (b : Bool) → (if b then queue_line k n c qs line else first_item k n (shape_made c qs) line) ≡ Ok next → Grows (head c qs) next
+  head_grows : (c : Counts) (qs : List QueueShape) (line : List ℕ) (next : Stage X) (b : Bool) → (if b then queue_line k n c qs line else first_item k n (shape_made c qs) line) ≡ Ok next → Grows k (head c qs) next
   head_grows c qs line next true h = queue_line_grows c qs line next (nat_le 64 (length qs)) refl h
   head_grows c qs line next false h = first_grows c qs line next (is_layout (layout_of c qs)) h
 
-  pub line_grows : (stage next : Stage X) (line : List ℕ) → after_line k n stage line ≡ Ok next → Grows stage next
+  pub line_grows : (stage next : Stage X) (line : List ℕ) → after_line k n stage line ≡ Ok next → Grows k stage next
   unfolding after_line after_head
   line_grows begin next line h = begun_grows (counts_of line) next h
   line_grows (head c qs) next line h = head_grows c qs line next (begins_queue line) h
@@ -198,16 +200,18 @@ pub makes_no_fault : {Y Z : Type 0} (view : Y → Z) (r : Result Y Refusal) (rea
 makes_no_fault view (Ok y) read f h fault is = cc
 makes_no_fault view (Err e) read f h fault is = no_fault e f (Err e) (refuses_no_fault e read h) fault refl is
 
--- a file has no more lines than a reader's stage
-few_without : {X : Type 0} (o : Option Layout) (f : File X) → without_items o ≡ Ok f → length f.items ≤ 1000000
-few_without None f h = cc
-few_without (Some s) f h = let is : record { layout = s; items = [] } ≡ f = cc in subst (λ (g : File _). length g.items ≤ 1000000) is (omega arith)
+-- what a reader's stage gives is sound
+sound_without : {X : Type 0} (k : Kind X) (o : Option Layout) (f : File X) → without_items o ≡ Ok f → IsSound k f
+sound_without k None f h = cc
+sound_without k (Some s) f h =
+    let is : record { layout = s; items = [] } ≡ f = cc in
+    subst (IsSound k) is (record { few = omega arith; fitting = All-nil (λ x. IsTrue (k.fits_in s x)) })
 
-pub end_few : {X : Type 0} (stage : Stage X) (f : File X) → IsWithin stage → at_end stage ≡ Ok f → length f.items ≤ 1000000
+end_sound : {X : Type 0} (k : Kind X) (stage : Stage X) (f : File X) → IsWithin k stage → at_end stage ≡ Ok f → IsSound k f
 unfolding at_end
-end_few begin f w h = cc
-end_few (head c qs) f w h = few_without (shape_made c qs) f h
-end_few (body s xs) f w h = let is : record { layout = s; items = xs } ≡ f = cc in subst (λ (g : File _). length g.items ≤ 1000000) is w.1
+end_sound k begin f w h = cc
+end_sound k (head c qs) f w h = sound_without k (shape_made c qs) f h
+end_sound k (body s xs) f w h = let is : record { layout = s; items = xs } ≡ f = cc in subst (IsSound k) is (record { few = w.1; fitting = w.2 })
 
 -- at the beginning nothing has been read
 pub starts : {X : Type 0} (k : Kind X) (text : Option (List ℕ)) (ahead : List ℕ) → ahead ≡ [] → SameRead k text (prepend_known ahead text) 1 begin
@@ -215,6 +219,6 @@ unfolding file_of
 starts k None ahead none = tt
 starts k (Some text) ahead none = ap (λ bytes. after_text k 1 begin (bytes ++ text)) (sym none)
 
-pub makes_few : {X Y : Type 0} (view : Y → File X) (r : Result Y Refusal) (stage : Stage X) → IsWithin stage → Makes view r (at_end stage) → IfOk r (λ y. length (view y).items ≤ 1000000)
-makes_few view (Ok y) stage w h = end_few stage (view y) w h
-makes_few view (Err e) stage w h = tt
+pub makes_sound : {X Y : Type 0} (k : Kind X) (view : Y → File X) (r : Result Y Refusal) (stage : Stage X) → IsWithin k stage → Makes view r (at_end stage) → IfOk r (λ y. IsSound k (view y))
+makes_sound k view (Ok y) stage w h = end_sound k stage (view y) w h
+makes_sound k view (Err e) stage w h = tt

@@ -1,6 +1,7 @@
 -- Files of calls and histories: what is read of a whole text, or the first refusal. Both are a shape line, the queues' lines, and then lines
 -- of one kind, which differ in how a queue and such a line is read, and in what has to be inside the shape.
-use Rattle.std.specs.Prelude.{◌≡◌, ℕ, ◌+◌, Bool, true, false, ◌==◌, if◌then◌else◌, List, [], ◌∷◌, ◌++◌, length, Option, Some, None, Result, Ok, Err, nat_lt, nat_le}
+use Rattle.std.specs.Prelude.{◌≡◌, ℕ, ◌+◌, ◌≤◌, Bool, true, false, IsTrue, ◌==◌, if◌then◌else◌, List, [], ◌∷◌, ◌++◌, length, Option, Some, None, Result, Ok, Err, nat_lt, nat_le}
+use Rattle.std.specs.List.{All}
 use Rattle.cmwq_model.specs.declared.shape.Counts.{Counts}
 use Rattle.cmwq_model.specs.declared.shape.QueueShape.{QueueShape}
 use Rattle.cmwq_model.specs.Layout.{Layout, layout_of, is_layout}
@@ -25,6 +26,11 @@ pub record Kind (X : Type 0) : Type 0 where
   pub queue_of : List ℕ → Option QueueShape
   pub item_of : List ℕ → Option X
   pub fits_in : Layout → X → Bool
+
+-- no more lines of the kind than a file may have, each of which fits the shape
+pub record IsSound {X : Type 0} (k : Kind X) (f : File X) : Type 0 where
+  pub few : length f.items ≤ 1000000
+  pub fitting : All (λ x. IsTrue (k.fits_in f.layout x)) f.items
 
 abbrev pub is_long : List ℕ → Bool
 is_long line = nat_lt 120 (length line)

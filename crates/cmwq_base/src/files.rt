@@ -1,6 +1,9 @@
 //! Files of calls and histories.
 
-ghost use Rattle.std.specs.Prelude.{◌≡◌, ◌≤◌, length, IfSome, IfOk, IsErrOf};
+ghost use Rattle.std.specs.Prelude.{◌≡◌, ◌≤◌, length, IfSome, IfOk, IsErrOf, IsTrue};
+ghost use Rattle.std.specs.List.{All};
+ghost use Rattle.cmwq_model.specs.Layout.{fits};
+ghost use Rattle.cmwq_model.specs.Verdict.{AllFit};
 ghost use Rattle.cmwq_io.specs.Counts.{Rises};
 ghost use Rattle.cmwq_base.specs.Gives.{Gives};
 ghost use Rattle.cmwq_base.specs.Kinds.{call_file_of, history_file_of};
@@ -73,6 +76,7 @@ ghost use Rattle.cmwq_base.specs.Views.{calls_in, history_in};
 pub fn read_calls<S: Source>(alloc: Global, source: &mut S) -> Result<CallFile, Refusal>
     ensures exact { IfSome (S.left source.old) (λ text. Gives calls_in result (call_file_of text)) }
     ensures few { IfOk result (λ file. length file.calls.items ≤ 1000000) }
+    ensures fitting { IfOk result (λ file. All (λ x. IsTrue (fits file.shape x.0 x.1)) file.calls.items) }
     ensures fault { IsErrOf result Refusal.ReadFault → Rises (S.troubles source.old) (S.troubles source.new) }
     ensures nothing_written { IsErrOf result Refusal.WriteFault → ⊥ }
 {
@@ -90,6 +94,7 @@ pub fn read_calls<S: Source>(alloc: Global, source: &mut S) -> Result<CallFile, 
 pub fn read_history<S: Source>(alloc: Global, source: &mut S) -> Result<HistoryFile, Refusal>
     ensures exact { IfSome (S.left source.old) (λ text. Gives history_in result (history_file_of text)) }
     ensures few { IfOk result (λ file. length file.entries.items ≤ 1000000) }
+    ensures fitting { IfOk result (λ file. AllFit file.shape file.entries.items) }
     ensures fault { IsErrOf result Refusal.ReadFault → Rises (S.troubles source.old) (S.troubles source.new) }
     ensures nothing_written { IsErrOf result Refusal.WriteFault → ⊥ }
 {

@@ -1,8 +1,8 @@
 //! Reads a whole file from a source.
 
-ghost use Rattle.std.specs.Prelude.{◌≡◌, ◌≤◌, length, IfSome, IfOk, IsErrOf};
+ghost use Rattle.std.specs.Prelude.{◌≡◌, IfSome, IfOk, IsErrOf};
 ghost use Rattle.cmwq_io.specs.Counts.{Rises};
-ghost use Rattle.cmwq_base.specs.Files.{file_of};
+ghost use Rattle.cmwq_base.specs.Files.{file_of, IsSound};
 ghost use Rattle.cmwq_base.specs.Gives.{Gives};
 ghost use Rattle.cmwq_base.specs.Stages.{contents_of};
 
@@ -20,7 +20,7 @@ pub fn read_file<T: FileLine + Drop, S: Source>(
     source: &mut S,
 ) -> Result<Contents<T>, Refusal>
     ensures exact { IfSome (S.left source.old) (λ text. Gives contents_of result (file_of T.kind text)) }
-    ensures few { IfOk result (λ file. length file.items.items ≤ 1000000) }
+    ensures sound { IfOk result (λ file. IsSound T.kind (contents_of file)) }
     ensures fault { IsErrOf result Refusal.ReadFault → Rises (S.troubles source.old) (S.troubles source.new) }
     ensures nothing_written { IsErrOf result Refusal.WriteFault → ⊥ }
 {

@@ -1,5 +1,5 @@
 use super::*;
-use std::alloc::Global;
+use std::alloc::{AllocError, Global};
 use std::process::Abort;
 
 const CALLS: &[u8] = b"shape 1 2 1 3 100\nwq 1 -\nc0 queue 0 0 0\nw0n0 take\nw0n0 finish\n";
@@ -66,4 +66,28 @@ fn a_failing_source_is_a_read_fault(rt: HostRuntime) {
     let mut source = FailsAt::new(Memory::reader(CALLS), 1);
     let error = read_calls(rt.alloc(), &mut source).err();
     assert_eq!(rt; error, Some(Refusal::ReadFault));
+}
+
+/// A call file whose third line has so many bytes, with a line feed or without.
+fn with_a_line_of(alloc: Global, bytes: usize, ended: bool) -> Result<Vec<u8>, AllocError> {
+    let mut text = Vec::new(alloc);
+    text.extend_from_slice(b"shape 1 2 1 3 100\nwq 1 -\n")?;
+    for _ in 0..bytes {
+        text.push(b'1')?;
+    }
+    if ended {
+        text.push(b'\n')?;
+    }
+    Ok(text)
+}
+
+#[test]
+fn a_line_of_120_bytes_is_judged(rt: HostRuntime) {
+    let alloc = rt.alloc();
+    for ended in [false, true] {
+        let text = with_a_line_of(alloc, 120, ended).expect(&rt, "memory");
+        assert_eq!(rt; refused(&rt, alloc, &text), Refusal::BadLine(3));
+        let text = with_a_line_of(alloc, 121, ended).expect(&rt, "memory");
+        assert_eq!(rt; refused(&rt, alloc, &text), Refusal::TooLong);
+    }
 }

@@ -2,10 +2,12 @@
 #![tactic(auto)]
 
 mod history;
+mod judge;
 mod output;
 mod step;
 mod told;
 
+pub use judge::run_check;
 pub use step::run_step;
 
 #[cfg(test)]

@@ -1,4 +1,4 @@
-//! Writes a history, and tells on standard error why a run ended.
+//! Writes histories and verdicts.
 
 ghost use Rattle.std.specs.Prelude.{◌≡◌, ◌≤◌, flat_map, OnOk, OnErr, IfErr};
 ghost use Rattle.std.specs.Io.KnownBytes.{Appends};
@@ -6,8 +6,12 @@ ghost use Rattle.cmwq_io.specs.Counts.{Rises};
 ghost use Rattle.cmwq_io.specs.Moves.{AppendsFront};
 ghost use Rattle.cmwq_text.specs.EntryText.{entry_text};
 ghost use Rattle.cmwq_text.specs.HistoryText.{entries_text, history_text};
+ghost use Rattle.cmwq_engine.specs.Check.{verdict_line_text};
 
-use cmwq_base::{Entry, Refusal, Shape, Sink, flush_all, write_entry, write_shape};
+use cmwq_base::{
+    Entry, Illegal, Refusal, Shape, Sink, flush_all, write_all, write_entry, write_shape,
+};
+use cmwq_text::{Line, illegal_line, legal_line};
 
 fn write_entries<W: Sink>(sink: &mut W, entries: &[Entry]) -> Result<(), Refusal>
     ensures ok { OnOk result (Appends (W.written sink.old) (W.written sink.new) (entries_text entries.now)) }
@@ -35,6 +39,35 @@ pub fn write_history<W: Sink>(sink: &mut W, shape: &Shape, entries: &[Entry]) ->
 {
     write_shape(sink, shape)?;
     write_entries(sink, entries)?;
+    flush_all(sink)?;
+    Ok(())
+}
+
+fn verdict_line(entries: u32, illegal: Option<Illegal>) -> Line
+    ensures { result ≡ verdict_line_text entries illegal }
+{
+    match illegal {
+        None => legal_line(entries),
+        Some(illegal) => illegal_line(&illegal),
+    }
+}
+
+/// Writes the verdict of a history with this many entries, and flushes. Takes no memory.
+///
+/// # Errors
+/// `WriteFault` where the sink fails, also at the flush; a front of the line has been written then.
+pub fn write_verdict<W: Sink>(
+    sink: &mut W,
+    entries: u32,
+    illegal: Option<Illegal>,
+) -> Result<(), Refusal>
+    ensures ok { OnOk result (Appends (W.written sink.old) (W.written sink.new) (verdict_line_text entries illegal)) }
+    ensures err { OnErr result (AppendsFront (W.written sink.old) (W.written sink.new) (verdict_line_text entries illegal)) }
+    ensures flushed { OnOk result (W.held sink.new ≡ 0) }
+    ensures only { IfErr result (λ e. e ≡ Refusal.WriteFault) }
+    ensures fault { OnErr result (Rises (W.troubles sink.old) (W.troubles sink.new)) }
+{
+    write_all(sink, verdict_line(entries, illegal).as_bytes())?;
     flush_all(sink)?;
     Ok(())
 }

@@ -3,11 +3,11 @@
 ghost use Rattle.std.specs.Prelude.{◌≡◌, ℕ, Result, IfSome, OnOk, IsErrOf};
 ghost use Rattle.cmwq_io.specs.Counts.{Rises};
 ghost use Rattle.cmwq_base.specs.declared.refusal.Refusal.{Refusal as TheRefusal};
-ghost use Rattle.cmwq_engine.specs.Step.{StepEnds, status_of};
+ghost use Rattle.cmwq_engine.specs.Step.{StepEnds, step_status};
 
 use crate::history::steps_of;
 use crate::output::write_history;
-use crate::told::{tell_full, tell_refusal};
+use crate::told::{refusal_status, tell_full, tell_refusal};
 use cmwq_base::{Refusal, Sink, Source, read_calls};
 use std::alloc::Global;
 
@@ -36,7 +36,7 @@ pub fn run_step<S: Source, O: Sink, E: Sink>(
     errors: &mut E,
 ) -> u8
     ensures ends { (ended : Result ℕ TheRefusal)
-        × (result ≡ status_of ended)
+        × (result ≡ step_status ended)
         × IfSome (S.left input.old) (λ text. StepEnds text (O.written output.old) (O.written output.new) ended)
         × OnOk ended (O.held output.new ≡ 0)
         × (IsErrOf ended Refusal.ReadFault → Rises (S.troubles input.old) (S.troubles input.new))
@@ -53,12 +53,11 @@ pub fn run_step<S: Source, O: Sink, E: Sink>(
 
 /// The exit status of a run that ended so.
 fn status(ended: &Result<u32, Refusal>) -> u8
-    ensures { result ≡ status_of ended.now }
+    ensures { result ≡ step_status ended.now }
 {
     match ended {
         Ok(0) => 0,
-        Ok(_) | Err(Refusal::NoMemory) => 4,
-        Err(Refusal::ReadFault | Refusal::WriteFault) => 5,
-        Err(_) => 1,
+        Ok(_) => 4,
+        Err(refusal) => refusal_status(*refusal),
     }
 }

@@ -1,4 +1,7 @@
-//! What is told on standard error.
+//! What is told of a refusal: a line on standard error, and the exit status.
+
+ghost use Rattle.std.specs.Prelude.{◌≡◌};
+ghost use Rattle.cmwq_engine.specs.Ends.{refusal_status};
 
 use arrayvec::ArrayString;
 use cmwq_base::{Refusal, Sink, flush_all, write_all};
@@ -35,4 +38,15 @@ pub fn tell_full<E: Sink>(errors: &mut E, left_out: u32) {
 /// Tells why a run was refused or failed. Takes no memory; a failing sink changes nothing.
 pub fn tell_refusal<E: Sink>(errors: &mut E, refusal: Refusal) {
     tell(errors, spell_refusal(refusal));
+}
+
+/// The exit status of a refused run.
+pub fn refusal_status(refusal: Refusal) -> u8
+    ensures { result ≡ refusal_status refusal }
+{
+    match refusal {
+        Refusal::NoMemory => 4,
+        Refusal::ReadFault | Refusal::WriteFault => 5,
+        _ => 1,
+    }
 }

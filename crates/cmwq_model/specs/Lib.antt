@@ -12,3 +12,4 @@ pub mod Answer
 pub mod Legal
 pub mod Room
 pub mod Kernel
+pub mod Verdict

@@ -8,6 +8,7 @@ mod id;
 mod record;
 mod reply;
 mod shape;
+mod verdict;
 
 pub use call::Call;
 pub use entry::{Entry, Mark};
@@ -15,6 +16,7 @@ pub use id::{CallerId, CpuId, ItemId, Number, PoolId, QueueId, Who, WorkerId};
 pub use record::{Booking, Place, Queueing, Start, Ticket};
 pub use reply::Reply;
 pub use shape::{Counts, QueueShape, Shape};
+pub use verdict::{Illegal, Wanted};
 
 #[cfg(test)]
 mod tests;

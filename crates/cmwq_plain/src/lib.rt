@@ -9,6 +9,7 @@ mod answers;
 mod fire;
 mod layout;
 mod room;
+mod verdict;
 mod wait;
 mod worker;
 
@@ -20,6 +21,8 @@ ghost use Rattle.cmwq_model.specs.Room as room;
 
 use cmwq_look::Past;
 use cmwq_model::{Call, Entry, Reply, Shape, Who};
+pub use cmwq_model::{Illegal, Wanted};
+pub use verdict::{all_fit, check};
 
 /// The one right answer to the call after this history.
 pub fn reply_of(shape: &Shape, entries: &[Entry], who: Who, call: Call) -> Reply

@@ -89,3 +89,55 @@ fn a_second_item_has_no_room(rt: HostRuntime) -> Result<(), Fail> {
     assert!(rt; has_room(&shape, &entries[..2], WORKER, Call::Finish));
     Ok(())
 }
+
+/// The verdict of a few entries that fit the shape.
+fn verdict(shape: &Shape, entries: &[Entry]) -> Result<Option<Illegal>, Fail> {
+    if entries.len() > 100 || !all_fit(shape, entries) {
+        return Err(Fail::new("too many entries, or one that does not fit"));
+    }
+    Ok(check(shape, entries).err())
+}
+
+/// The answer to a call of the caller after a few entries.
+fn answered(shape: &Shape, entries: &[Entry], call: Call) -> Result<Reply, Fail> {
+    if entries.len() > 100 {
+        return Err(Fail::new("too many entries"));
+    }
+    Ok(reply_of(shape, entries, CALLER, call))
+}
+
+#[test]
+fn the_first_wrong_entry_is_named(rt: HostRuntime) -> Result<(), Fail> {
+    let shape = shape(rt.alloc(), 100)?.ok_or("no shape")?;
+    let legal = first_run();
+    assert!(rt; verdict(&shape, &legal)?.is_none());
+    let mut entries = first_run();
+    entries[2].reply = Reply::Nothing;
+    let illegal = verdict(&shape, &entries)?.ok_or("legal")?;
+    assert_eq!(rt; illegal.at, 2);
+    assert!(rt; matches!(illegal.wanted, Wanted::Reply(Reply::Finished(0))));
+    entries[2].serial = 2;
+    let illegal = verdict(&shape, &entries)?.ok_or("legal")?;
+    assert_eq!(rt; illegal.at, 2);
+    assert!(rt; matches!(illegal.wanted, Wanted::Serial(1)));
+    entries[0].reply = Reply::Yes(1);
+    assert_eq!(rt; verdict(&shape, &entries)?.ok_or("legal")?.at, 0);
+    Ok(())
+}
+
+#[test]
+fn the_sixty_fifth_unended_ticket_is_crowded(rt: HostRuntime) -> Result<(), Fail> {
+    let shape = shape(rt.alloc(), 1000)?.ok_or("no shape")?;
+    let flush = Call::Flush { queue: QueueId(0) };
+    let mut entries = Vec::new(rt.alloc());
+    for k in 0..64 {
+        assert!(rt; matches!(answered(&shape, &entries, flush)?, Reply::Ticket(n) if n == k));
+        entries.push(entry(CALLER, k, flush, Reply::Ticket(k)))?;
+    }
+    assert!(rt; matches!(answered(&shape, &entries, flush)?, Reply::Crowded));
+    let end = Call::End { ticket: 63 };
+    assert!(rt; matches!(answered(&shape, &entries, end)?, Reply::Done));
+    entries.push(entry(CALLER, 64, end, Reply::Done))?;
+    assert!(rt; matches!(answered(&shape, &entries, flush)?, Reply::Ticket(65)));
+    Ok(())
+}

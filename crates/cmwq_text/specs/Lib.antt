@@ -7,5 +7,6 @@ pub mod ReplyText
 pub mod EntryText
 pub mod ShapeText
 pub mod HistoryText
+pub mod VerdictText
 pub mod Ranges
 pub mod Laws

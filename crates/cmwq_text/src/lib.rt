@@ -11,6 +11,7 @@ mod number;
 mod reply;
 mod shape;
 mod spelling;
+mod verdict;
 mod word;
 
 pub use call::read_call;
@@ -23,6 +24,7 @@ pub use line::Line;
 pub use reply::reply_fits;
 pub use shape::{begins_queue, read_counts, read_queue_of_calls, read_queue_of_history};
 pub use spelling::{counts_line, entry_line, queue_line};
+pub use verdict::{illegal_line, legal_line};
 
 #[cfg(test)]
 mod tests;

@@ -79,7 +79,7 @@ fn push_call(line: &mut Line, call: Call)
 
 /// Each word after a space.
 #[tactic(auto, unfolding(crate::specs::ReplyText::reply_words))]
-fn push_reply(line: &mut Line, reply: Reply)
+pub(crate) fn push_reply(line: &mut Line, reply: Reply)
     requires { length line.old + 70 ≤ 256 }
     ensures exact { line.new ≡ line.old ++ spaced (reply_words reply) }
     ensures short { length line.new ≤ length line.old + 70 }

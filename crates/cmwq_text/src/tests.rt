@@ -1,5 +1,7 @@
 use crate::*;
-use cmwq_model::{Call, CallerId, Counts, CpuId, ItemId, QueueId, QueueShape, Reply, Shape, Who};
+use cmwq_model::{
+    Call, CallerId, Counts, CpuId, Illegal, ItemId, QueueId, QueueShape, Reply, Shape, Wanted, Who,
+};
 use std::process::Abort;
 use std::test::Fail;
 
@@ -233,4 +235,28 @@ fn each_law_is_there() {
     lines_are_short();
     queues_read_again();
     queues_spelled_so();
+}
+
+#[test]
+fn verdicts_are_spelled(rt: HostRuntime) {
+    assert_eq!(rt;
+        legal_line(1_000_000).as_bytes(),
+        b"legal 1000000\n".as_slice()
+    );
+    let illegal = Illegal {
+        at: 4_294_967_295,
+        wanted: Wanted::Serial(7),
+    };
+    assert_eq!(rt;
+        illegal_line(&illegal).as_bytes(),
+        b"illegal at 4294967295: serial 7\n".as_slice()
+    );
+    let illegal = Illegal {
+        at: 0,
+        wanted: Wanted::Reply(Reply::TicketCancelled(3, 2)),
+    };
+    assert_eq!(rt;
+        illegal_line(&illegal).as_bytes(),
+        b"illegal at 0: reply ticket 3 cancelled 2\n".as_slice()
+    );
 }

@@ -3,7 +3,7 @@ use Rattle.std.proofs.lemmas.Result.{err_from_is_err_and}
 use Rattle.cmwq_io.specs.declared.lines.Found.TheVariants.{Whole, Cut, Long, End}
 use Rattle.cmwq_base.specs.declared.refusal.Refusal.TheVariants.{ReadFault, WriteFault}
 use Rattle.cmwq_base.specs.Stages.{stage_of, contents_of}
-use Rattle.cmwq_base.proofs.Progress.{found_so, starts, line_grows, whole_goes, whole_fails, long_fails, cut_fails, cut_no_fault, end_gives, makes_few, makes_no_fault}
+use Rattle.cmwq_base.proofs.Progress.{found_so, starts, line_grows, whole_goes, whole_fails, long_fails, cut_fails, cut_no_fault, end_gives, makes_sound, makes_no_fault}
 use Rattle.cmwq_base.proofs.reading.read_file.Goals as goal
 
 pub loop-number-init : goal.loop-number-init
@@ -43,8 +43,8 @@ returns-in-End-clause-exact g c =
     end_gives g.T.FileLine.kind c.loop-number.number (stage_of c.loop-number.stage) contents_of c.finish.result _ _ _ _ c.loop-number.invariant.progress.same
     (found_so _ _ _ _ End c.in-End.is c.in_ok-next_line.ensures.ok) c.finish.ensures
 
-pub returns-in-End-clause-few : goal.returns-in-End-clause-few
-returns-in-End-clause-few g c = makes_few contents_of c.finish.result (stage_of c.loop-number.stage) c.loop-number.invariant.progress.within c.finish.ensures
+pub returns-in-End-clause-sound : goal.returns-in-End-clause-sound
+returns-in-End-clause-sound g c = makes_sound g.T.FileLine.kind contents_of c.finish.result (stage_of c.loop-number.stage) c.loop-number.invariant.progress.within c.finish.ensures
 
 pub loop-number-preserved : goal.loop-number-preserved
 loop-number-preserved g c =
