@@ -13,3 +13,5 @@ pub mod Activated
 pub mod ItemRuns
 pub mod Order
 pub mod Worklist
+pub mod OneWorker
+pub mod StartsListed

@@ -1,0 +1,30 @@
+//! What a user of the runtime relies on, in every legal history.
+
+ghost use Rattle.cmwq_laws.specs.Headline.{ItemsRunInOneWorker, NumbersStartOnce, QueueingsStart};
+
+/// No two workers have runs of one item.
+pub fn items_run_in_one_worker()
+    ensures { ItemsRunInOneWorker }
+{}
+
+/// A number is started at most once.
+pub fn numbers_start_once()
+    ensures { NumbersStartOnce }
+{}
+
+/// Only what an earlier entry queued is started.
+pub fn queueings_start()
+    ensures { QueueingsStart }
+{}
+
+#[cfg(test)]
+mod tests {
+    use super::*;
+
+    #[test]
+    fn each_is_there() {
+        items_run_in_one_worker();
+        numbers_start_once();
+        queueings_start();
+    }
+}
