@@ -15,3 +15,5 @@ pub mod Order
 pub mod Worklist
 pub mod OneWorker
 pub mod StartsListed
+pub mod RunsActive
+pub mod Width

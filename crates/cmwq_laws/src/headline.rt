@@ -1,6 +1,6 @@
 //! What a user of the runtime relies on, in every legal history.
 
-ghost use Rattle.cmwq_laws.specs.Headline.{ItemsRunInOneWorker, NumbersStartOnce, QueueingsStart};
+ghost use Rattle.cmwq_laws.specs.Headline.{ItemsRunInOneWorker, NumbersStartOnce, QueueingsStart, RunsAreWithinMaxActive};
 
 /// No two workers have runs of one item.
 pub fn items_run_in_one_worker()
@@ -17,6 +17,11 @@ pub fn queueings_start()
     ensures { QueueingsStart }
 {}
 
+/// At most max_active workers of a CPU have runs of a queue.
+pub fn runs_are_within_max_active()
+    ensures { RunsAreWithinMaxActive }
+{}
+
 #[cfg(test)]
 mod tests {
     use super::*;
@@ -26,5 +31,6 @@ mod tests {
         items_run_in_one_worker();
         numbers_start_once();
         queueings_start();
+        runs_are_within_max_active();
     }
 }
