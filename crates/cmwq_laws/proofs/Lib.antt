@@ -17,3 +17,5 @@ pub mod OneWorker
 pub mod StartsListed
 pub mod RunsActive
 pub mod Width
+pub mod Given
+pub mod Done

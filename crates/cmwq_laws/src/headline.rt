@@ -1,6 +1,6 @@
 //! What a user of the runtime relies on, in every legal history.
 
-ghost use Rattle.cmwq_laws.specs.Headline.{ItemsRunInOneWorker, NumbersStartOnce, QueueingsStart, RunsAreWithinMaxActive};
+ghost use Rattle.cmwq_laws.specs.Headline.{FlushesEndAfterAllBefore, ItemsRunInOneWorker, NumbersStartOnce, QueueingsStart, RunsAreWithinMaxActive};
 
 /// No two workers have runs of one item.
 pub fn items_run_in_one_worker()
@@ -22,6 +22,11 @@ pub fn runs_are_within_max_active()
     ensures { RunsAreWithinMaxActive }
 {}
 
+/// A flush is answered done only after all that was queued before it has ended, and so is a flush of an item and a drain.
+pub fn flushes_end_after_all_before()
+    ensures { FlushesEndAfterAllBefore }
+{}
+
 #[cfg(test)]
 mod tests {
     use super::*;
@@ -32,5 +37,6 @@ mod tests {
         numbers_start_once();
         queueings_start();
         runs_are_within_max_active();
+        flushes_end_after_all_before();
     }
 }

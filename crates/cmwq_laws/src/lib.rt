@@ -9,5 +9,6 @@ pub use fidelity::{
     tickets_wait_for_least, worklists_are_in_order,
 };
 pub use headline::{
-    items_run_in_one_worker, numbers_start_once, queueings_start, runs_are_within_max_active,
+    flushes_end_after_all_before, items_run_in_one_worker, numbers_start_once, queueings_start,
+    runs_are_within_max_active,
 };
