@@ -19,3 +19,4 @@ pub mod RunsActive
 pub mod Width
 pub mod Given
 pub mod Done
+pub mod Breaks

@@ -1,3 +1,4 @@
 pub mod Fidelity
 pub mod Order
 pub mod Headline
+pub mod Illegal

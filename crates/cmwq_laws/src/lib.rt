@@ -3,6 +3,7 @@
 
 mod fidelity;
 mod headline;
+mod illegal;
 
 pub use fidelity::{
     active_are_first, queueings_stand_by_number, replies_name_themselves, runs_are_items,
@@ -12,3 +13,4 @@ pub use headline::{
     flushes_end_after_all_before, items_run_in_one_worker, numbers_start_once, queueings_start,
     runs_are_within_max_active,
 };
+pub use illegal::illegal_histories_break_laws;
