@@ -20,3 +20,4 @@ pub mod Width
 pub mod Given
 pub mod Done
 pub mod Breaks
+pub mod OneEntry

@@ -2,3 +2,4 @@ pub mod Fidelity
 pub mod Order
 pub mod Headline
 pub mod Illegal
+pub mod Sanity

@@ -4,6 +4,7 @@
 mod fidelity;
 mod headline;
 mod illegal;
+mod sanity;
 
 pub use fidelity::{
     active_are_first, queueings_stand_by_number, replies_name_themselves, runs_are_items,
@@ -14,3 +15,4 @@ pub use headline::{
     runs_are_within_max_active,
 };
 pub use illegal::illegal_histories_break_laws;
+pub use sanity::{calls_have_one_entry, serials_count_up};

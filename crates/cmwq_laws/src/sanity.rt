@@ -1,0 +1,24 @@
+//! The definitions say neither too much nor too little.
+
+ghost use Rattle.cmwq_laws.specs.Sanity.{CallsHaveOneEntry, SerialsCountUp};
+
+/// After a legal history a call that fits has exactly one legal entry.
+pub fn calls_have_one_entry()
+    ensures { CallsHaveOneEntry }
+{}
+
+/// The serials of each caller's and each worker's entries are 0, 1, 2, ..
+pub fn serials_count_up()
+    ensures { SerialsCountUp }
+{}
+
+#[cfg(test)]
+mod tests {
+    use super::*;
+
+    #[test]
+    fn each_is_there() {
+        calls_have_one_entry();
+        serials_count_up();
+    }
+}
