@@ -1,2 +1,4 @@
 pub mod Fidelity
 pub mod Order
+pub mod Endings
+pub mod Pending
