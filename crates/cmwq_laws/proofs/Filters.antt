@@ -41,15 +41,6 @@ module _ {X : Type 0} where
       let right = count_by-cons q x xs in
       omega arith
 
-  none_here : (p : X → Bool) (x : X) (xs : List X) (b : Bool) → p x ≡ b → cond b (Some x) (find p xs) ≡ None → (find p xs ≡ None → AllByRecursion (λ y. p y ≡ false) xs) → AllByRecursion (λ y. p y ≡ false) (x ∷ xs)
-  none_here p x xs true passes h later = cc
-  none_here p x xs false fails h later = (fails, later h)
-
-  -- where none is found all fail
-  pub find_none : (p : X → Bool) (xs : List X) → find p xs ≡ None → AllByRecursion (λ x. p x ≡ false) xs
-  find_none p [] h = tt
-  find_none p (x ∷ xs) h = none_here p x xs (p x) refl h (find_none p xs)
-
   -- where at most one passes, those that pass are the first that does
   none_passes : (p : X → Bool) (x : X) (xs : List X) (b : Bool) → p x ≡ b → cond b 1 0 + count_by p xs ≡ 0 → (count_by p xs ≡ 0 → AllByRecursion (λ y. p y ≡ false) xs) → AllByRecursion (λ y. p y ≡ false) (x ∷ xs)
   none_passes p x xs true h zero later = absurd (omega arith)

@@ -18,3 +18,9 @@ pub mod Filters
 pub mod Fresh
 pub mod Endings
 pub mod Pending
+pub mod OneWorker
+pub mod StartsListed
+pub mod RunsActive
+pub mod Width
+pub mod Given
+pub mod Done

@@ -22,8 +22,8 @@ use Rattle.cmwq_model.specs.Queueings.{still_open, opening, opens, queued_at, pl
 use Rattle.cmwq_model.specs.Answer.{first_due, may_fire, is_soonest}
 use Rattle.cmwq_model.specs.Legal.{IsLegal}
 use Rattle.cmwq_laws.specs.Endings.{is_spared}
-use Rattle.cmwq_laws.proofs.Lists.{All_each, All_map, All_filter, count_by-cons, count_by-none, count_by-filter}
-use Rattle.cmwq_laws.proofs.Filters.{count_by-wider, find_none, count_none, none_found, filter_one}
+use Rattle.cmwq_laws.proofs.Lists.{All_each, All_map, All_filter, count_by-cons, count_by-none, count_by-filter, find_none}
+use Rattle.cmwq_laws.proofs.Filters.{count_by-wider, count_none, none_found, filter_one}
 use Rattle.cmwq_laws.proofs.Activated.{find_holds}
 use Rattle.cmwq_laws.proofs.Entries.{opening_item}
 use Rattle.cmwq_laws.proofs.Endings.{open_go_on}

@@ -2,3 +2,4 @@ pub mod Fidelity
 pub mod Order
 pub mod Endings
 pub mod Pending
+pub mod Headline
