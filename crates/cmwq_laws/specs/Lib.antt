@@ -1,5 +1,7 @@
 pub mod Fidelity
 pub mod Order
+pub mod Endings
+pub mod Pending
 pub mod Headline
 pub mod Illegal
 pub mod Sanity
