@@ -24,3 +24,5 @@ pub mod RunsActive
 pub mod Width
 pub mod Given
 pub mod Done
+pub mod RunSteps
+pub mod ItemSteps

@@ -3,3 +3,4 @@ pub mod Order
 pub mod Endings
 pub mod Pending
 pub mod Headline
+pub mod RunSteps

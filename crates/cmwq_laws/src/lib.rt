@@ -19,3 +19,7 @@ pub use headline::{
     flushes_end_after_all_before, items_run_in_one_worker, numbers_start_once, queueings_start,
     runs_are_within_max_active,
 };
+
+mod run_steps;
+
+pub use run_steps::{items_are_run_by_their_workers, items_run_on, workers_run_on};
