@@ -26,3 +26,5 @@ pub mod Given
 pub mod Done
 pub mod Breaks
 pub mod OneEntry
+pub mod RunSteps
+pub mod ItemSteps

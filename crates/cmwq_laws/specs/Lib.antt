@@ -5,3 +5,4 @@ pub mod Pending
 pub mod Headline
 pub mod Illegal
 pub mod Sanity
+pub mod RunSteps

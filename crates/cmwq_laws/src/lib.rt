@@ -23,3 +23,7 @@ pub use headline::{
 };
 pub use illegal::illegal_histories_break_laws;
 pub use sanity::{calls_have_one_entry, serials_count_up};
+
+mod run_steps;
+
+pub use run_steps::{items_are_run_by_their_workers, items_run_on, workers_run_on};
