@@ -106,7 +106,7 @@ by_nobody : (o : Option WorkerId) → option_and_then (start_with None) o ≡ No
 by_nobody None = refl
 by_nobody (Some v) = refl
 
-no_start : (e : Entry) → number_started e.reply ≡ None → start_in e ≡ None
+pub no_start : (e : Entry) → number_started e.reply ≡ None → start_in e ≡ None
 no_start e none = ap (λ (o : Option ℕ). option_and_then (start_with o) (worker_of e.who)) none ∙ by_nobody (worker_of e.who)
 
 is_at_itself : (n : ℕ) → is_at (Some n) n ≡ true
@@ -116,7 +116,7 @@ starts_its_item : (e : Entry) (past : List Entry) (start : Start) (i j : ℕ) �
 starts_its_item e past start i j is item =
     ap (λ (o : Option Start). option_map_or (λ (st : Start). is_at (item_at past st.number) i) o false) is ∙ ap (λ o. is_at o i) item
 
-starts_no_item : (e : Entry) (past : List Entry) (i : ℕ) → start_in e ≡ None → starts_item past e i ≡ false
+pub starts_no_item : (e : Entry) (past : List Entry) (i : ℕ) → start_in e ≡ None → starts_item past e i ≡ false
 starts_no_item e past i none = ap (λ (o : Option Start). option_map_or (λ (st : Start). is_at (item_at past st.number) i) o false) none
 
 pub item_starts : (e : Entry) (past : List Entry) (i : ℕ) → starts_item past e i ≡ true → item_start (e ∷ past) i ≡ start_in e

@@ -28,3 +28,5 @@ pub mod Breaks
 pub mod OneEntry
 pub mod RunSteps
 pub mod ItemSteps
+pub mod Cancelling
+pub mod Settled

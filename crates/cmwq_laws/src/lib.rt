@@ -13,15 +13,14 @@ pub use fidelity::{
 
 mod queueing_steps;
 
+pub use headline::{
+    cancel_syncs_settle, flushes_end_after_all_before, items_run_in_one_worker, numbers_start_once,
+    queueings_start, runs_are_within_max_active,
+};
+pub use illegal::illegal_histories_break_laws;
 pub use queueing_steps::{
     booked_items_have_no_unstarted, items_have_one_unstarted, open_go_on, spared_stay_open,
 };
-
-pub use headline::{
-    flushes_end_after_all_before, items_run_in_one_worker, numbers_start_once, queueings_start,
-    runs_are_within_max_active,
-};
-pub use illegal::illegal_histories_break_laws;
 pub use sanity::{calls_have_one_entry, serials_count_up};
 
 mod run_steps;
