@@ -30,3 +30,4 @@ pub mod RunSteps
 pub mod ItemSteps
 pub mod Cancelling
 pub mod Settled
+pub mod EndedOnce

@@ -21,7 +21,9 @@ pub use illegal::illegal_histories_break_laws;
 pub use queueing_steps::{
     booked_items_have_no_unstarted, items_have_one_unstarted, open_go_on, spared_stay_open,
 };
-pub use sanity::{calls_have_one_entry, serials_count_up};
+pub use sanity::{
+    calls_have_one_entry, cancelled_never_start, queueings_end_once, serials_count_up,
+};
 
 mod run_steps;
 

@@ -1,6 +1,6 @@
 //! The definitions say neither too much nor too little.
 
-ghost use Rattle.cmwq_laws.specs.Sanity.{CallsHaveOneEntry, SerialsCountUp};
+ghost use Rattle.cmwq_laws.specs.Sanity.{CallsHaveOneEntry, CancelledNeverStart, QueueingsEndOnce, SerialsCountUp};
 
 /// After a legal history a call that fits has exactly one legal entry.
 pub fn calls_have_one_entry()
@@ -12,6 +12,16 @@ pub fn serials_count_up()
     ensures { SerialsCountUp }
 {}
 
+/// A queueing is never both finished and cancelled.
+pub fn queueings_end_once()
+    ensures { QueueingsEndOnce }
+{}
+
+/// A queueing that was cancelled was never started.
+pub fn cancelled_never_start()
+    ensures { CancelledNeverStart }
+{}
+
 #[cfg(test)]
 mod tests {
     use super::*;
@@ -20,5 +30,7 @@ mod tests {
     fn each_is_there() {
         calls_have_one_entry();
         serials_count_up();
+        queueings_end_once();
+        cancelled_never_start();
     }
 }
