@@ -26,3 +26,5 @@ pub mod Given
 pub mod Done
 pub mod RunSteps
 pub mod ItemSteps
+pub mod Ranks
+pub mod Ended
