@@ -24,6 +24,10 @@ module _ {X : Type 0} where
   filter_same p q [] h = refl
   filter_same p q (x ∷ xs) h = ap₂ (λ b ys. cond b (x ∷ ys) ys) h.0 (filter_same p q xs h.1)
 
+  pub find_same : (p q : X → Bool) (xs : List X) → AllByRecursion (λ x. p x ≡ q x) xs → find p xs ≡ find q xs
+  find_same p q [] h = refl
+  find_same p q (x ∷ xs) h = ap₂ (λ b o. cond b (Some x) o) h.0 (find_same p q xs h.1)
+
   pub filter_none : (p : X → Bool) (xs : List X) → AllByRecursion (λ x. p x ≡ false) xs → filter p xs ≡ []
   filter_none p [] h = refl
   filter_none p (x ∷ xs) h = ap₂ (λ b ys. cond b (x ∷ ys) ys) h.0 (filter_none p xs h.1)

@@ -31,3 +31,5 @@ pub mod ItemSteps
 pub mod Cancelling
 pub mod Settled
 pub mod EndedOnce
+pub mod Ranks
+pub mod Ended
