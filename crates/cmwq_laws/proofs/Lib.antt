@@ -33,3 +33,4 @@ pub mod Settled
 pub mod EndedOnce
 pub mod Ranks
 pub mod Ended
+pub mod OneRun

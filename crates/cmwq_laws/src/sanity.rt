@@ -1,6 +1,6 @@
 //! The definitions say neither too much nor too little.
 
-ghost use Rattle.cmwq_laws.specs.Sanity.{CallsHaveOneEntry, CancelledNeverStart, QueueingsEndOnce, SerialsCountUp};
+ghost use Rattle.cmwq_laws.specs.Sanity.{CallsHaveOneEntry, CancelledNeverStart, ItemsHaveOneRun, QueueingsEndOnce, SerialsCountUp};
 
 /// After a legal history a call that fits has exactly one legal entry.
 pub fn calls_have_one_entry()
@@ -22,6 +22,11 @@ pub fn cancelled_never_start()
     ensures { CancelledNeverStart }
 {}
 
+/// An item has at most one run.
+pub fn items_have_one_run()
+    ensures { ItemsHaveOneRun }
+{}
+
 #[cfg(test)]
 mod tests {
     use super::*;
@@ -32,5 +37,6 @@ mod tests {
         serials_count_up();
         queueings_end_once();
         cancelled_never_start();
+        items_have_one_run();
     }
 }
