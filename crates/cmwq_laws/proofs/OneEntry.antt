@@ -1,7 +1,7 @@
--- A call has one legal entry, and serials count up.
+-- A call has one legal entry, steps are legal, and serials count up.
 use Rattle.std.proofs.Common.{◌≡◌, ◌+◌, ℕ, zero, suc, Bool, true, false, cond, List, [], ◌∷◌, ◌++◌, map, filter, refl, sym, ap, ap₂, ◌∙◌, arith, append-nil}
-use Rattle.std.specs.Prelude.{reverse}
-use Rattle.std.specs.List.{range_with_len}
+use Rattle.std.specs.Prelude.{fold, if◌then◌else◌, reverse}
+use Rattle.std.specs.List.{AllByRecursion, range_with_len}
 use Rattle.std.proofs.lemmas.Bool.{eqb-true}
 use Rattle.std.proofs.lemmas.List.{reverse-append, map-append}
 use Rattle.std.proofs.lemmas.List.Elements.{filter-append}
@@ -12,6 +12,7 @@ use Rattle.cmwq_model.specs.declared.entry.Entry.{Entry}
 use Rattle.cmwq_model.specs.Layout.{Layout, fits}
 use Rattle.cmwq_model.specs.Calls.{same_who, is_by, serial_of}
 use Rattle.cmwq_model.specs.Legal.{IsLegal, entry_for}
+use Rattle.cmwq_model.specs.Room.{Steps, has_room, step, none, steps}
 use Rattle.cmwq_laws.specs.Sanity.{HasOneEntry, serials, serial_told}
 use Rattle.cmwq_laws.proofs.Lists.{count_by-cons}
 use Rattle.cmwq_laws.proofs.ItemRuns.{same_worker-true}
@@ -26,6 +27,24 @@ one_entry s past legal who call fit = record {
   is_legal = (fit, refl, legal);
   no_other = λ e of legal. legal.1 ∙ ap₂ (entry_for s past) of.0 of.1;
 }
+
+-- ---- steps
+
+legal_step : (s : Layout) (t : Steps) (c : Who × Call) → fits s c.0 c.1 ≡ true → IsLegal s t.past → IsLegal s (step s t c).past
+unfolding IsLegal
+legal_step s t c fit legal = here (has_room s t.past c.0 c.1)
+  where
+    here : (b : Bool) → let stepped : Steps = if b then record { past = entry_for s t.past c.0 c.1 ∷ t.past; left_out = t.left_out } else record { past = t.past; left_out = t.left_out + 1 } in IsLegal s stepped.past
+    here true = (fit, refl, legal)
+    here false = legal
+
+legal_on : (s : Layout) (t : Steps) (calls : List (Who × Call)) → AllByRecursion (λ c. fits s c.0 c.1 ≡ true) calls → IsLegal s t.past → IsLegal s (fold (step s) t calls).past
+legal_on s t [] fit legal = legal
+legal_on s t (c ∷ calls) fit legal = legal_on s (step s t c) calls fit.1 (legal_step s t c fit.0 legal)
+
+pub steps_are_legal : (s : Layout) (calls : List (Who × Call)) → AllByRecursion (λ c. fits s c.0 c.1 ≡ true) calls → IsLegal s (steps s calls).past
+unfolding IsLegal
+steps_are_legal s calls fit = legal_on s none calls fit tt
 
 -- ---- serials
 

@@ -11,6 +11,7 @@ use Rattle.cmwq_model.specs.Calls.{is_by, serial_of}
 use Rattle.cmwq_model.specs.Fate.{is_started, is_finished, is_cancelled}
 use Rattle.cmwq_model.specs.Queueings.{queueings, still_open}
 use Rattle.cmwq_model.specs.Legal.{IsLegal}
+use Rattle.cmwq_model.specs.Room.{steps}
 use Rattle.cmwq_laws.specs.Headline.{OfLegal}
 
 -- ---- a call that fits has exactly one legal entry after a legal history
@@ -26,6 +27,11 @@ pub record HasOneEntry (s : Layout) (past : List Entry) (who : Who) (call : Call
 
 abbrev pub CallsHaveOneEntry : Type 0
 CallsHaveOneEntry = OfLegal (λ s past. (who : Who) (call : Call) → fits s who call ≡ true → HasOneEntry s past who call)
+
+-- ---- the steps of calls that fit are a legal history
+
+abbrev pub StepsAreLegal : Type 0
+StepsAreLegal = (s : Layout) (calls : List (Who × Call)) → AllByRecursion (λ c. fits s c.0 c.1 ≡ true) calls → IsLegal s (steps s calls).past
 
 -- ---- the serials of a caller's entries are 0, 1, 2, .. from the oldest on, and so are a worker's
 

@@ -24,5 +24,5 @@ pub use queueing_steps::{
 pub use run_steps::{items_are_run_by_their_workers, items_run_on, workers_run_on};
 pub use sanity::{
     calls_have_one_entry, cancelled_never_start, items_have_one_run, queueings_end_once,
-    serials_count_up,
+    serials_count_up, steps_are_legal,
 };

@@ -1,10 +1,15 @@
 //! The definitions say neither too much nor too little.
 
-ghost use Rattle.cmwq_laws.specs.Sanity.{CallsHaveOneEntry, CancelledNeverStart, ItemsHaveOneRun, QueueingsEndOnce, SerialsCountUp};
+ghost use Rattle.cmwq_laws.specs.Sanity.{CallsHaveOneEntry, CancelledNeverStart, ItemsHaveOneRun, QueueingsEndOnce, SerialsCountUp, StepsAreLegal};
 
 /// After a legal history a call that fits has exactly one legal entry.
 pub fn calls_have_one_entry()
     ensures { CallsHaveOneEntry }
+{}
+
+/// The steps of calls that fit are a legal history.
+pub fn steps_are_legal()
+    ensures { StepsAreLegal }
 {}
 
 /// The serials of each caller's and each worker's entries are 0, 1, 2, ..
@@ -34,6 +39,7 @@ mod tests {
     #[test]
     fn each_is_there() {
         calls_have_one_entry();
+        steps_are_legal();
         serials_count_up();
         queueings_end_once();
         cancelled_never_start();
