@@ -28,3 +28,5 @@ pub mod RunSteps
 pub mod ItemSteps
 pub mod Ranks
 pub mod Ended
+pub mod WorklistSteps
+pub mod NewlyActive

@@ -4,3 +4,4 @@ pub mod Endings
 pub mod Pending
 pub mod Headline
 pub mod RunSteps
+pub mod Activations

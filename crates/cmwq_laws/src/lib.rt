@@ -23,3 +23,7 @@ pub use queueing_steps::{
 mod run_steps;
 
 pub use run_steps::{items_are_run_by_their_workers, items_run_on, workers_run_on};
+
+mod activation_steps;
+
+pub use activation_steps::{newly_active_are, started_are_active, worklists_go_on};
