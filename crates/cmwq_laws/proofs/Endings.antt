@@ -42,7 +42,7 @@ open_step past e i n less =
 pub live_goes_on : (past : List Entry) (e : Entry) (x : Queueing) → x.number < length past → is_live (e ∷ past) x ≡ (is_live past x && is_spared past e x)
 live_goes_on past e x less = open_step past e x.item.0 x.number less
 
-opened_live : (s : Layout) (past : List Entry) (e : Entry) (x : Queueing) → IsLegal s (e ∷ past) → opening past e ≡ Some x → is_live (e ∷ past) x ≡ true
+pub opened_live : (s : Layout) (past : List Entry) (e : Entry) (x : Queueing) → IsLegal s (e ∷ past) → opening past e ≡ Some x → is_live (e ∷ past) x ≡ true
 opened_live s past e x legal h = ap (is_open (e ∷ past) x.item.0) (opening_number past e x h) ∙ open_at_once s past e x.item.0 legal
 
 opened_open : (s : Layout) (past : List Entry) (e : Entry) (o : Option Queueing) → IsLegal s (e ∷ past) → opening past e ≡ o → filter (is_live (e ∷ past)) (option_to_list o) ≡ option_to_list o

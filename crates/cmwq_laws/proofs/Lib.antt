@@ -34,3 +34,5 @@ pub mod EndedOnce
 pub mod Ranks
 pub mod Ended
 pub mod OneRun
+pub mod WorklistSteps
+pub mod NewlyActive

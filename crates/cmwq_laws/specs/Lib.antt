@@ -6,3 +6,4 @@ pub mod Headline
 pub mod Illegal
 pub mod Sanity
 pub mod RunSteps
+pub mod Activations

@@ -1,6 +1,7 @@
 //! Laws of histories: theorems over the definitions alone, which no running code needs.
 #![tactic(auto)]
 
+mod activation_steps;
 mod fidelity;
 mod headline;
 mod illegal;
@@ -8,6 +9,7 @@ mod queueing_steps;
 mod run_steps;
 mod sanity;
 
+pub use activation_steps::{newly_active_are, started_are_active, worklists_go_on};
 pub use fidelity::{
     active_are_first, queueings_stand_by_number, replies_name_themselves, runs_are_items,
     tickets_wait_for_least, worklists_are_in_order,
