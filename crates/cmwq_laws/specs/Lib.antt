@@ -1,2 +1,9 @@
 pub mod Fidelity
 pub mod Order
+pub mod Endings
+pub mod Pending
+pub mod Headline
+pub mod Illegal
+pub mod Sanity
+pub mod RunSteps
+pub mod Activations

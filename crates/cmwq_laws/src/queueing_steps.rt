@@ -1,0 +1,49 @@
+//! What one more entry does to the queueings.
+
+ghost use Rattle.cmwq_laws.specs.Endings.{SparedStayOpen, OpenGoOn, OneEnds, EndsWhich};
+ghost use Rattle.cmwq_laws.specs.Pending.{OneUnstarted, BookedOrUnstarted};
+
+/// A queueing is open after an entry where it was open before and is spared.
+pub fn spared_stay_open()
+    ensures { SparedStayOpen }
+{}
+
+/// What is open after an entry: what was open and is spared, then what the entry opens.
+pub fn open_go_on()
+    ensures { OpenGoOn }
+{}
+
+/// Of an item's open queueings one at most hasn't started.
+pub fn items_have_one_unstarted()
+    ensures { OneUnstarted }
+{}
+
+/// An item that is booked has no unstarted queueing.
+pub fn booked_items_have_no_unstarted()
+    ensures { BookedOrUnstarted }
+{}
+
+/// An entry ends one queueing at most.
+pub fn one_queueing_ends()
+    ensures { OneEnds }
+{}
+
+/// It is the one that the reply says finished or taken back, or the unstarted one of the item that is queued or booked anew.
+pub fn entries_end_what_they_say()
+    ensures { EndsWhich }
+{}
+
+#[cfg(test)]
+mod tests {
+    use super::*;
+
+    #[test]
+    fn each_is_there() {
+        spared_stay_open();
+        open_go_on();
+        items_have_one_unstarted();
+        booked_items_have_no_unstarted();
+        one_queueing_ends();
+        entries_end_what_they_say();
+    }
+}
