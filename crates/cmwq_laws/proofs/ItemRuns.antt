@@ -24,7 +24,7 @@ use Rattle.cmwq_laws.proofs.Starts.{starts_next}
 
 -- ---- workers
 
-flags_same : (a b : Bool) → beq a b ≡ true → a ≡ b
+pub flags_same : (a b : Bool) → beq a b ≡ true → a ≡ b
 flags_same true true h = refl
 flags_same false false h = refl
 flags_same true false h = cc

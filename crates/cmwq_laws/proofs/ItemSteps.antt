@@ -151,7 +151,7 @@ run_keeps s past e start legal spared runs = workers_run_on s past e start.worke
     at false by = runs
 
 -- a run that is left was there, and the entry doesn't finish it
-left_run : (e : Entry) (o : Option Start) (start : Start) → (if ends_run e o then None else o) ≡ Some start → (o ≡ Some start) × (finishes start.number e ≡ false)
+pub left_run : (e : Entry) (o : Option Start) (start : Start) → (if ends_run e o then None else o) ≡ Some start → (o ≡ Some start) × (finishes start.number e ≡ false)
 left_run e None start h = cc
 left_run e (Some st) start h = at (finishes st.number e) refl h
   where

@@ -30,3 +30,4 @@ pub mod Ranks
 pub mod Ended
 pub mod WorklistSteps
 pub mod NewlyActive
+pub mod Pools

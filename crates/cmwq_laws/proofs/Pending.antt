@@ -86,7 +86,7 @@ opens_undue (reply.Fired i k) h = refl
 opens_undue (reply.TicketQueued k) h = refl
 opens_undue r h = cc
 
-opening_opens : (past : List Entry) (e : Entry) (x : Queueing) → opening past e ≡ Some x → opens e.reply ≡ true
+pub opening_opens : (past : List Entry) (e : Entry) (x : Queueing) → opening past e ≡ Some x → opens e.reply ≡ true
 opening_opens past e x h = here (opens e.reply) h
   where
     here : (b : Bool) → (if b then option_and_then (λ i. option_map (queued_at past i) (place_wanted past e.call i)) (item_of e) else None) ≡ Some x → b ≡ true
@@ -141,7 +141,7 @@ none_waiting s past e i is few (booked was) =
     let less = waiting_was past e i in
     omega arith
 
-booking_after : (past : List Entry) (e : Entry) (i : ℕ) (b : Bool) → (settles e.reply && is_of_item i e) ≡ b → booking (e ∷ past) i ≡ (if b then booking_of e (length past) else booking past i)
+pub booking_after : (past : List Entry) (e : Entry) (i : ℕ) (b : Bool) → (settles e.reply && is_of_item i e) ≡ b → booking (e ∷ past) i ≡ (if b then booking_of e (length past) else booking past i)
 unfolding booking
 booking_after past e i b h = ap (λ c. if c then booking_of e (length past) else booking past i) h
 

@@ -5,3 +5,4 @@ pub mod Pending
 pub mod Headline
 pub mod RunSteps
 pub mod Activations
+pub mod Pools

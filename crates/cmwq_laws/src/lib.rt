@@ -27,3 +27,9 @@ pub use run_steps::{items_are_run_by_their_workers, items_run_on, workers_run_on
 mod activation_steps;
 
 pub use activation_steps::{newly_active_are, started_are_active, worklists_go_on};
+
+mod item_pools;
+
+pub use item_pools::{
+    items_are_booked_where_they_run, items_are_queued_where_they_run, runs_are_in_their_pools,
+};
