@@ -82,7 +82,7 @@ start_is s (e ∷ past) i start legal h = at (starts_item past e i) refl h (star
 abbrev run_if_open : List Entry → ℕ → Option Start → Option Start
 run_if_open past i o = option_and_then (λ (start : Start). if is_open past i start.number then Some start else None) o
 
-item_begun : (s : Layout) (past : List Entry) (e : Entry) (i : ℕ) → IsLegal s (e ∷ past) → starts_item past e i ≡ true → item_run (e ∷ past) i ≡ start_in e
+pub item_begun : (s : Layout) (past : List Entry) (e : Entry) (i : ℕ) → IsLegal s (e ∷ past) → starts_item past e i ≡ true → item_run (e ∷ past) i ≡ start_in e
 item_begun s past e i legal is =
     let some = starts_some past e i (start_in e) refl is in
     let st = starts_of past e i some.0 is some.1 in
