@@ -37,3 +37,5 @@ pub mod OneRun
 pub mod WorklistSteps
 pub mod NewlyActive
 pub mod Pools
+pub mod Reasons
+pub mod Standing

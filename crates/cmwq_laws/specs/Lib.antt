@@ -8,3 +8,4 @@ pub mod Sanity
 pub mod RunSteps
 pub mod Activations
 pub mod Pools
+pub mod Reasons

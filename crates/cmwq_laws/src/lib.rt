@@ -32,3 +32,12 @@ pub use sanity::{
     calls_have_one_entry, cancelled_never_start, items_have_one_run, queueings_end_once,
     serials_count_up, steps_are_legal,
 };
+
+mod reply_reasons;
+
+pub use reply_reasons::{
+    booked_were_idle, cancelled_were_unstarted, done_are_ready, finishes_are_runs, fired_are_due,
+    flushed_delayed_were_booked, queued_again_were_pending, queued_were_idle,
+    rebooked_were_pending, retirers_may_retire, sleepers_are_awake, starts_are_next,
+    tickets_are_for_callers, ticks_tell_now, unbooked_were_booked, wakers_are_asleep,
+};
