@@ -3,7 +3,8 @@ use Rattle.std.proofs.Common.{◌≡◌, ◌≤◌, ◌+◌, ◌==◌, ℕ, Bool
 use Rattle.std.specs.Prelude.{is_some, if◌then◌else◌, option_and_then, option_map}
 use Rattle.std.specs.Option.{option_or}
 use Rattle.std.specs.List.{list_any}
-use Rattle.std.proofs.lemmas.Bool.{eq-eqb}
+use Rattle.std.proofs.Math.Bool.{or-false}
+use Rattle.std.proofs.lemmas.Bool.{or_parts, or_right, eq-eqb}
 use Rattle.std.proofs.lemmas.List.Folds.{list_any-append}
 use Rattle.std.proofs.lemmas.List.Elements.{filter-append}
 use Rattle.cmwq_model.specs.declared.id.Who.{Who}
@@ -31,11 +32,7 @@ use Rattle.cmwq_laws.proofs.Pending.{pending_count, no_more_pending, waiting_now
 -- ---- not pending, as a count
 
 not_booked : (past : List Entry) (i : ℕ) → is_pending past i ≡ false → is_booked past i ≡ false
-not_booked past i h = here (is_booked past i) (is_some (unstarted past i)) h
-  where
-    here : (a b : Bool) → (a || b) ≡ false → a ≡ false
-    here true b h = cc
-    here false b h = refl
+not_booked past i h = (or_parts (is_booked past i) (is_some (unstarted past i)) h).0
 
 none_pending : (past : List Entry) (i : ℕ) → is_pending past i ≡ false → pending_count past i ≡ 0
 none_pending past i h =
@@ -168,11 +165,7 @@ module _ {X : Type 0} where
       either true b c f h = refl
       either false b c f h = f h
   any_head p x xs ys true false both rest h = let bad : false ≡ true = both refl in cc
-  any_head p x xs ys false true both rest h = right (p x) (list_any p ys) (rest h)
-    where
-      right : (a b : Bool) → b ≡ true → (a || b) ≡ true
-      right true b h = refl
-      right false b h = h
+  any_head p x xs ys false true both rest h = or_right (p x) (list_any p ys) (rest h)
   any_head p x xs ys false false both rest h = rest h
 
   any_wider : (p f g : X → Bool) (xs : List X) → ((x : X) → f x ≡ true → g x ≡ true) → list_any p (filter f xs) ≡ true → list_any p (filter g xs) ≡ true
@@ -193,11 +186,7 @@ given_cancels past e i true (Worker w) gives h = cc
 given_cancels past e i true (Caller c) gives h = here (is_unended (e ∷ past) (record { caller = c; call = e.call; number = length past })) h
   where
     here : (b : Bool) → list_any (is_cancel_sync_of i) (cond b (record { caller = c; call = e.call; number = length past } ∷ []) []) ≡ true → Cancelling past e i
-    here true h = begins (first (cancels_sync i e.call) h) gives
-      where
-        first : (a : Bool) → (a || false) ≡ true → a ≡ true
-        first true h = refl
-        first false h = cc
+    here true h = begins (sym (or-false (cancels_sync i e.call)) ∙ h) gives
     here false h = cc
 
 cancelling_cases : (e : Entry) (past : List Entry) (i : ℕ) → is_cancelling (e ∷ past) i ≡ true → Cancelling past e i

@@ -1,10 +1,10 @@
 -- What a legal entry starts stands in its pool's worklist: a queueing, active and not started before.
 use Rattle.std.proofs.Common.{◌≡◌, ◌<◌, ◌+◌, ◌≤◌, ℕ, Bool, true, false, cond, List, [], ◌∷◌, find, count_by, Some, option_to_list, refl, ap, ◌∙◌, subst, arith}
-use Rattle.std.specs.Prelude.{is_some, ◌||◌}
+use Rattle.std.specs.Prelude.{is_some}
 use Rattle.std.specs.Option.{option_or}
 use Rattle.std.specs.List.{AllByRecursion}
 use Rattle.std.proofs.lemmas.Bool.Decides.{nat_tests}
-use Rattle.std.proofs.lemmas.Bool.{eq-eqb}
+use Rattle.std.proofs.lemmas.Bool.{or_parts, eq-eqb}
 use Rattle.std.proofs.lemmas.List.Folds.{find-append}
 use Rattle.cmwq_model.specs.declared.id.PoolId.{PoolId}
 use Rattle.cmwq_model.specs.declared.id.WorkerId.{WorkerId}
@@ -84,15 +84,7 @@ starts_anew s past e n legal h =
 
 none_started : (n : ℕ) (past : List Entry) → is_started past n ≡ false → AllByRecursion (λ e. starts n e ≡ false) past
 none_started n [] h = tt
-none_started n (e ∷ past) h = (first (starts n e) (is_started past n) h, none_started n past (rest (starts n e) (is_started past n) h))
-  where
-    first : (a b : Bool) → (a || b) ≡ false → a ≡ false
-    first false b h = refl
-    first true b h = cc
-
-    rest : (a b : Bool) → (a || b) ≡ false → b ≡ false
-    rest false b h = h
-    rest true b h = cc
+none_started n (e ∷ past) h = let parts = or_parts (starts n e) (is_started past n) h in (parts.0, none_started n past parts.1)
 
 once_more : (n : ℕ) (past : List Entry) (b : Bool) → (b ≡ true → is_started past n ≡ false) → count_by (starts n) past ≤ 1 → cond b 1 0 + count_by (starts n) past ≤ 1
 once_more n past true new once = let none = count_by-none (starts n) past (none_started n past (new refl)) in omega arith

@@ -16,8 +16,8 @@ pub use fidelity::{
     tickets_wait_for_least, worklists_are_in_order,
 };
 pub use headline::{
-    cancel_syncs_settle, flushes_end_after_all_before, items_run_in_one_worker, numbers_start_once,
-    queueings_start, runs_are_within_max_active,
+    cancel_syncs_settle, cancelled_stay_idle, flushes_end_after_all_before,
+    items_run_in_one_worker, numbers_start_once, queueings_start, runs_are_within_max_active,
 };
 pub use illegal::illegal_histories_break_laws;
 pub use item_pools::{
