@@ -39,3 +39,4 @@ pub mod NewlyActive
 pub mod Pools
 pub mod Reasons
 pub mod Standing
+pub mod TicketSteps

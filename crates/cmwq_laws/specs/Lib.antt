@@ -9,3 +9,4 @@ pub mod RunSteps
 pub mod Activations
 pub mod Pools
 pub mod Reasons
+pub mod TicketSteps

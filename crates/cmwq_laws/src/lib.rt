@@ -41,3 +41,9 @@ pub use reply_reasons::{
     rebooked_were_pending, retirers_may_retire, sleepers_are_awake, starts_are_next,
     tickets_are_for_callers, ticks_tell_now, unbooked_were_booked, wakers_are_asleep,
 };
+
+mod ticket_steps;
+
+pub use ticket_steps::{
+    begun_are_served, one_moves_up, one_ticket_ends, overflowed_move_up, served_stay, unended_go_on,
+};
