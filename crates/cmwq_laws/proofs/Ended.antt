@@ -81,7 +81,7 @@ number_is : (past : List Entry) (e : Entry) (f c o : Option ℕ) (r : Bool) → 
 number_is past e f c o r hf hc hr ho = ap₂ (λ x y. ended_number past x y (replaces e.reply) (item_of e)) hf hc ∙ ap₂ (λ x y. ended_number past f c x y) hr ho
 
 -- an open queueing that is found by its number is the first of the open ones with it
-open_found : (past : List Entry) (n : ℕ) (x : Queueing) → queueing_at past n ≡ Some x → is_live past x ≡ true → option_map (λ (y : Queueing). y.number) (find (has_number n) (still_open past)) ≡ Some n
+pub open_found : (past : List Entry) (n : ℕ) (x : Queueing) → queueing_at past n ≡ Some x → is_live past x ≡ true → option_map (λ (y : Queueing). y.number) (find (has_number n) (still_open past)) ≡ Some n
 open_found past n x found live = ap (option_map (λ (y : Queueing). y.number)) (find-filter (has_number n) (is_live past) x (queueings past) found live) ∙ ap Some (found_number past n x found)
 
 number_same : (m n : ℕ) → (m == n) ≡ (n == m)

@@ -40,3 +40,7 @@ pub mod Pools
 pub mod Reasons
 pub mod Standing
 pub mod TicketSteps
+pub mod Points
+pub mod OwedSteps
+pub mod OwedItems
+pub mod OwedWaiting

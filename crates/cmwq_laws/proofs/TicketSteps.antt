@@ -45,7 +45,7 @@ all_three true true false h = cc
 all_three true false c h = cc
 all_three false b c h = cc
 
-is_done_reply : (r : Reply) → is_done r ≡ true → r ≡ reply.Done
+pub is_done_reply : (r : Reply) → is_done r ≡ true → r ≡ reply.Done
 is_done_reply reply.Done h = refl
 is_done_reply r h = cc
 

@@ -10,3 +10,4 @@ pub mod Activations
 pub mod Pools
 pub mod Reasons
 pub mod TicketSteps
+pub mod RoomSteps

@@ -47,3 +47,10 @@ mod ticket_steps;
 pub use ticket_steps::{
     begun_are_served, one_moves_up, one_ticket_ends, overflowed_move_up, served_stay, unended_go_on,
 };
+
+mod room_steps;
+
+pub use room_steps::{
+    booked_are_counted, runs_are_counted, sleepers_are_counted, tickets_are_counted,
+    waiting_are_counted,
+};
