@@ -44,3 +44,4 @@ pub mod Points
 pub mod OwedSteps
 pub mod OwedItems
 pub mod OwedWaiting
+pub mod Promised

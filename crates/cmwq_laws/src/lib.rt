@@ -51,6 +51,6 @@ pub use ticket_steps::{
 mod room_steps;
 
 pub use room_steps::{
-    booked_are_counted, runs_are_counted, sleepers_are_counted, tickets_are_counted,
-    waiting_are_counted,
+    booked_are_counted, promised_are_never_full, promised_need_no_more, runs_are_counted,
+    sleepers_are_counted, steps_are_within_room, tickets_are_counted, waiting_are_counted,
 };

@@ -1,6 +1,6 @@
 //! What a history owes after one more entry, and which replies are never refused for want of room.
 
-ghost use Rattle.cmwq_laws.specs.RoomSteps.{WaitingAreCounted, RunsAreCounted, SleepersAreCounted, BookedAreCounted, TicketsAreCounted};
+ghost use Rattle.cmwq_laws.specs.RoomSteps.{WaitingAreCounted, RunsAreCounted, SleepersAreCounted, BookedAreCounted, TicketsAreCounted, PromisedNeedNoMore, StepsAreWithinRoom, PromisedAreNeverFull};
 
 /// One less waits for what is started, and for what is ended unstarted, and one more for what is opened.
 pub fn waiting_are_counted()
@@ -27,6 +27,21 @@ pub fn tickets_are_counted()
     ensures { TicketsAreCounted }
 {}
 
+/// An entry with a reply of which room is promised needs no more room than the history did before.
+pub fn promised_need_no_more()
+    ensures { PromisedNeedNoMore }
+{}
+
+/// A history that is made by steps is within its room.
+pub fn steps_are_within_room()
+    ensures { StepsAreWithinRoom }
+{}
+
+/// After any steps a call that would have such a reply has room.
+pub fn promised_are_never_full()
+    ensures { PromisedAreNeverFull }
+{}
+
 #[cfg(test)]
 mod tests {
     use super::*;
@@ -38,5 +53,8 @@ mod tests {
         sleepers_are_counted();
         booked_are_counted();
         tickets_are_counted();
+        promised_need_no_more();
+        steps_are_within_room();
+        promised_are_never_full();
     }
 }
