@@ -45,3 +45,4 @@ pub mod OwedSteps
 pub mod OwedItems
 pub mod OwedWaiting
 pub mod Promised
+pub mod StateSteps

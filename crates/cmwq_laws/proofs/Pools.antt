@@ -84,7 +84,7 @@ opened_booked : (past : List Entry) (i : ℕ) (x : Queueing) (o : Option Booking
 opened_booked past i x None is h = cc
 opened_booked past i x (Some b) is h = opened_as past i b.place x (of_booking b is refl) h
 
-abbrev opening_of : List Entry → Call → Reply → Option Queueing
+abbrev pub opening_of : List Entry → Call → Reply → Option Queueing
 opening_of past c r = if opens r then option_and_then (λ i. option_map (queued_at past i) (place_wanted past c i)) (option_or (item_called c) (item_fired r)) else None
 
 opened_at : (s : Layout) (past : List Entry) (who : Who) (c : Call) (r : Reply) (x : Queueing) → Cause s past who c r → opening_of past c r ≡ Some x → OpenedAt past x
@@ -97,7 +97,7 @@ opened_at s past who c r x (cause.delayed_queued w i free shut was) h = opened_b
 opened_at s past who c r x other h = cc
 
 -- what is booked is booked on the queue that the item runs on
-abbrev booking_in : Call → Reply → ℕ → Option Booking
+abbrev pub booking_in : Call → Reply → ℕ → Option Booking
 booking_in c r n = option_and_then (booked_by c n) (due_in r)
 
 record BookedAt (past : List Entry) (i : ℕ) (b : Booking) : Type 0 where

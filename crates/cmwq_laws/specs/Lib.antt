@@ -11,3 +11,4 @@ pub mod Pools
 pub mod Reasons
 pub mod TicketSteps
 pub mod RoomSteps
+pub mod StateSteps

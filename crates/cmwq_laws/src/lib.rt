@@ -54,3 +54,10 @@ pub use room_steps::{
     booked_are_counted, promised_are_never_full, promised_need_no_more, runs_are_counted,
     sleepers_are_counted, steps_are_within_room, tickets_are_counted, waiting_are_counted,
 };
+
+mod state_steps;
+
+pub use state_steps::{
+    bookings_go_on, enlisted_go_on, entries_book_as_asked, entries_open_as_asked, serials_go_on,
+    sleepers_go_on, time_goes_on,
+};
