@@ -26,7 +26,8 @@ use Rattle.cmwq_laws.proofs.Lists.{count_by-none, count_by-filter}
 use Rattle.cmwq_laws.proofs.Filters.{count_none, none_found}
 use Rattle.cmwq_laws.proofs.Causes.{Cause, IsFree, cause_of}
 use Rattle.cmwq_laws.proofs.Causes as cause
-use Rattle.cmwq_laws.proofs.Pending.{pending_count, no_more_pending, waiting_now, unstarted_count, waiting_was, none_unstarted, not_idle, booking_after, stands_booked, due_stands, of_item, booked_or_unstarted, one_unstarted}
+use Rattle.cmwq_laws.proofs.Standing.{booking_after, due_own}
+use Rattle.cmwq_laws.proofs.Pending.{pending_count, no_more_pending, waiting_now, unstarted_count, waiting_was, none_unstarted, not_idle, of_item, booked_or_unstarted, one_unstarted}
 
 -- ---- not pending, as a count
 
@@ -74,7 +75,7 @@ settles_none s past who c r i (cause.modified_booked w j q d t some free none) h
 settles_none s past who c r i (cause.modified_again w j q d t zero free some) h k held idle = cancelling_free past i j.0 free k held
 settles_none s past who c r i (cause.modified_rebooked w j q d t some free was) h k held idle = cancelling_free past i j.0 free k held
 settles_none s past who c r i (cause.unbooked w j none was) h k held idle = booked_idle past i j.0 k was idle
-settles_none s past who c r i (cause.fires w b due) h k held idle = booked_idle past i b.item.0 k (stands_booked past b (due_stands past b due)) idle
+settles_none s past who c r i (cause.fires w b due) h k held idle = booked_idle past i b.item.0 k (ap is_some (due_own past b due)) idle
 settles_none s past who c r i (cause.delayed_queued w j free shut was) h k held idle = booked_idle past i j.0 k was idle
 settles_none s past who c r i (cause.sync_unbooked w j free none was) h k held idle = booked_idle past i j.0 k was idle
 settles_none s past who c r i other h k held idle = cc

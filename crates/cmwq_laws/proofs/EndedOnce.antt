@@ -15,8 +15,7 @@ use Rattle.cmwq_laws.proofs.Rising.{opening_number}
 use Rattle.cmwq_laws.proofs.Entries.{IsKnown, queueings_known}
 use Rattle.cmwq_laws.proofs.ItemRuns.{run_is}
 use Rattle.cmwq_laws.proofs.OneWorker.{is_at-true}
-use Rattle.cmwq_laws.proofs.Causes.{cause_of}
-use Rattle.cmwq_laws.proofs.Fresh.{finish_causes, open_at_once}
+use Rattle.cmwq_laws.proofs.Fresh.{finishes_run, open_at_once}
 use Rattle.cmwq_laws.proofs.RunSteps.{started_not_cancelled, started_open, last_started}
 
 open_uncancelled : (past : List Entry) (i n : ℕ) → is_open past i n ≡ true → is_cancelled past i n ≡ false
@@ -61,7 +60,7 @@ finished_started s (e ∷ past) n legal h = here (finishes n e) refl h (finished
   where
     here : (b : Bool) → finishes n e ≡ b → (b || is_finished past n) ≡ true → (is_finished past n ≡ true → is_started past n ≡ true) → is_started (e ∷ past) n ≡ true
     here true hb k earlier =
-        let f = finish_causes n (cause_of s past e legal) (is_at-true (number_finished e.reply) n hb) in
+        let f = finishes_run s past e n legal (is_at-true (number_finished e.reply) n hb) in
         or_right (starts n e) (is_started past n) (last_started past f.worker n (run_is past f.worker n f.is_run).last)
     here false hb k earlier = or_right (starts n e) (is_started past n) (earlier k)
 

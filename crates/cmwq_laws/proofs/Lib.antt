@@ -36,3 +36,13 @@ pub mod Ended
 pub mod OneRun
 pub mod WorklistSteps
 pub mod NewlyActive
+pub mod Pools
+pub mod Reasons
+pub mod Standing
+pub mod TicketSteps
+pub mod Points
+pub mod OwedSteps
+pub mod OwedItems
+pub mod OwedWaiting
+pub mod Promised
+pub mod StateSteps

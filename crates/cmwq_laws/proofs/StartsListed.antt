@@ -1,5 +1,5 @@
 -- What a legal entry starts stands in its pool's worklist: a queueing, active and not started before.
-use Rattle.std.proofs.Common.{◌≡◌, ◌<◌, ◌+◌, ◌≤◌, ℕ, Bool, true, false, cond, List, [], ◌∷◌, find, count_by, Some, option_to_list, refl, sym, ap, ◌∙◌, subst, arith}
+use Rattle.std.proofs.Common.{◌≡◌, ◌<◌, ◌+◌, ◌≤◌, ℕ, Bool, true, false, cond, List, [], ◌∷◌, find, count_by, Some, option_to_list, refl, ap, ◌∙◌, subst, arith}
 use Rattle.std.specs.Prelude.{is_some}
 use Rattle.std.specs.Option.{option_or}
 use Rattle.std.specs.List.{AllByRecursion}
@@ -21,7 +21,6 @@ use Rattle.cmwq_laws.specs.Headline.{StartedOnce, StartsEarlier}
 use Rattle.cmwq_laws.proofs.Lists.{All_both, count_by-cons, count_by-none}
 use Rattle.cmwq_laws.proofs.Rising.{queueings_rise}
 use Rattle.cmwq_laws.proofs.Activated.{next_holds}
-use Rattle.cmwq_laws.proofs.Inversions.{answer_is}
 use Rattle.cmwq_laws.proofs.Starts.{starts_next}
 use Rattle.cmwq_laws.proofs.OneWorker.{is_at-true}
 
@@ -62,8 +61,7 @@ pub record StartsListed (s : Layout) (past : List Entry) (e : Entry) (n : ℕ) :
 
 pub starts_listed : (s : Layout) (past : List Entry) (e : Entry) (n : ℕ) → IsLegal s (e ∷ past) → starts n e ≡ true → StartsListed s past e n
 starts_listed s past e n legal h =
-    let reply = answer_is s past e legal in
-    let st = starts_next s past e.who e.call n (sym (ap number_started reply) ∙ is_at-true (number_started e.reply) n h) in
+    let st = starts_next s past e n legal (is_at-true (number_started e.reply) n h) in
     let next = next_holds s IsFound (λ e past x found. queueing_at-older e past x.number x found) queueings_found past st.worker.pool st.queueing st.is_next in
     record {
       worker = st.worker;

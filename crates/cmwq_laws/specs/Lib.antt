@@ -7,3 +7,8 @@ pub mod Illegal
 pub mod Sanity
 pub mod RunSteps
 pub mod Activations
+pub mod Pools
+pub mod Reasons
+pub mod TicketSteps
+pub mod RoomSteps
+pub mod StateSteps
