@@ -1,0 +1,5 @@
+pub mod Members
+pub mod Rising
+pub mod TimerSteps
+pub mod Settled
+pub mod FirstDue

@@ -1,0 +1,11 @@
+//! The values of pools, flush books, barriers and timers follow a history: theorems that tie them to the definitions,
+//! which no running code needs.
+#![tactic(auto)]
+
+mod timers;
+
+pub use timers::{
+    bookings_set_timers, first_timer_is_first_due, no_timer_is_none_due, no_timers_at_first,
+    others_keep_timers, settled_timers_are_taken_back, timers_are_due_as_booked,
+    timers_may_be_told,
+};
