@@ -19,15 +19,15 @@ activated_all s P more all (e ∷ past) =
     (All_filter (P (e ∷ past)) (is_newly_active s past e) (queueings (e ∷ past)) (All_map (P (e ∷ past)) (λ x. is_newly_active s past e x ≡ true → P (e ∷ past) x) (queueings (e ∷ past)) (λ x h passes. h) (all (e ∷ past))))
 
 -- what is found passes, and has what all have
-pub record Found (P : Queueing → Type 0) (p : Queueing → Bool) (x : Queueing) : Type 0 where
+pub record Found {X : Type 0} (P : X → Type 0) (p : X → Bool) (x : X) : Type 0 where
   pub passes : p x ≡ true
   pub holds : P x
 
-find_here : (P : Queueing → Type 0) (p : Queueing → Bool) (xs : List Queueing) (x y : Queueing) (b : Bool) → p x ≡ b → P x → cond b (Some x) (find p xs) ≡ Some y → (find p xs ≡ Some y → Found P p y) → Found P p y
+find_here : {X : Type 0} (P : X → Type 0) (p : X → Bool) (xs : List X) (x y : X) (b : Bool) → p x ≡ b → P x → cond b (Some x) (find p xs) ≡ Some y → (find p xs ≡ Some y → Found P p y) → Found P p y
 find_here P p xs x y true passes h found later = let same : x ≡ y = cc in rw (← same) (record { passes = passes; holds = h })
 find_here P p xs x y false fails h found later = later found
 
-pub find_holds : (P : Queueing → Type 0) (p : Queueing → Bool) (xs : List Queueing) (y : Queueing) → AllByRecursion P xs → find p xs ≡ Some y → Found P p y
+pub find_holds : {X : Type 0} (P : X → Type 0) (p : X → Bool) (xs : List X) (y : X) → AllByRecursion P xs → find p xs ≡ Some y → Found P p y
 find_holds P p [] y all found = cc
 find_holds P p (x ∷ xs) y all found = find_here P p xs x y (p x) refl all.0 found (find_holds P p xs y all.1)
 

@@ -212,7 +212,7 @@ runs_are_items s (e ∷ past) w n i legal h k =
       | before last ↦ run_goes_on s past e w n i legal last (started_older s past w n legal.2 last) k is_live (runs_are_items s past w n i legal.2)
     ]
 
--- so no two workers have runs of one item
+-- so two workers that have runs of one item are one, and so are their runs
 pub one_worker : (s : Layout) (past : List Entry) (v w : WorkerId) (n m i : ℕ) → IsLegal s past → run past v ≡ Some n → run past w ≡ Some m → item_at past n ≡ Some i → item_at past m ≡ Some i
     → (v ≡ w) × (n ≡ m)
 one_worker s past v w n m i legal hv hw kn km =

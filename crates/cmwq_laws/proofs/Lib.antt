@@ -13,3 +13,9 @@ pub mod Activated
 pub mod ItemRuns
 pub mod Order
 pub mod Worklist
+pub mod OneWorker
+pub mod StartsListed
+pub mod RunsActive
+pub mod Width
+pub mod Given
+pub mod Done

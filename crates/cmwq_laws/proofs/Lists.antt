@@ -1,5 +1,5 @@
 -- Lists: what holds of each element, and counts.
-use Rattle.std.proofs.Common.{◌≡◌, ◌+◌, Bool, true, false, cond, ◌&&◌, List, [], ◌∷◌, ◌++◌, filter, count_by, refl, sym, ap₂, ◌∙◌, zero-add}
+use Rattle.std.proofs.Common.{◌≡◌, ◌+◌, Bool, true, false, cond, ◌&&◌, List, [], ◌∷◌, ◌++◌, filter, find, count_by, Some, None, refl, sym, ap₂, ◌∙◌, zero-add}
 use Rattle.std.proofs.lemmas.List.Sums.{sum_by-cons}
 use Rattle.std.specs.List.{AllByRecursion}
 
@@ -46,3 +46,21 @@ module _ {X : Type 0} where
   count_by-filter p q r [] h = refl
   count_by-filter p q r (x ∷ xs) h =
       count_by-cons p x xs ∙ ap₂ (λ b n. cond b 1 0 + n) (h x) (count_by-filter p q r xs h) ∙ sym (count_by-head r x (filter q xs) (q x))
+
+  -- where none is found, none passes
+  pub find_none : (p : X → Bool) (xs : List X) → find p xs ≡ None → AllByRecursion (λ x. p x ≡ false) xs
+  find_none p [] h = tt
+  find_none p (x ∷ xs) h = none (p x) refl h (find_none p xs)
+    where
+      none : (b : Bool) → p x ≡ b → cond b (Some x) (find p xs) ≡ None → (find p xs ≡ None → AllByRecursion (λ y. p y ≡ false) xs) → AllByRecursion (λ y. p y ≡ false) (x ∷ xs)
+      none true is h later = cc
+      none false is h later = (is, later h)
+
+  -- what holds of each of the filtered list holds of each element that passes
+  pub All_unfilter : (P : X → Type 0) (p : X → Bool) (xs : List X) → AllByRecursion P (filter p xs) → AllByRecursion (λ x. p x ≡ true → P x) xs
+  All_unfilter P p [] h = tt
+  All_unfilter P p (x ∷ xs) h = unfilter (p x) refl h (All_unfilter P p xs)
+    where
+      unfilter : (b : Bool) → p x ≡ b → AllByRecursion P (cond b (x ∷ filter p xs) (filter p xs)) → (AllByRecursion P (filter p xs) → AllByRecursion (λ y. p y ≡ true → P y) xs) → AllByRecursion (λ y. p y ≡ true → P y) (x ∷ xs)
+      unfilter true is h later = ((λ passes. h.0), later h.1)
+      unfilter false is h later = ((λ passes. let bad : false ≡ true = sym is ∙ passes in cc), later h)

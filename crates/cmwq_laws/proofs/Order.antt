@@ -65,7 +65,7 @@ stays_active s past e x older active live = active_of (width_left active) live (
 pub active_older : (s : Layout) (past : List Entry) (x : Queueing) → is_active s past x ≡ true → x.number < length past
 active_older s past x h = ltb-true x.number (length past) (grind arith)
 
-active_live : (s : Layout) (past : List Entry) (x : Queueing) → is_active s past x ≡ true → is_live past x ≡ true
+pub active_live : (s : Layout) (past : List Entry) (x : Queueing) → is_active s past x ≡ true → is_live past x ≡ true
 active_live s past x h = grind arith
 
 data Since (s : Layout) (e : Entry) (past : List Entry) (x : Queueing) (j : ℕ) : Type 0 where

@@ -1,2 +1,3 @@
 pub mod Fidelity
 pub mod Order
+pub mod Headline

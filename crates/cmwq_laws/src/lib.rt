@@ -2,8 +2,13 @@
 #![tactic(auto)]
 
 mod fidelity;
+mod headline;
 
 pub use fidelity::{
     active_are_first, queueings_stand_by_number, replies_name_themselves, runs_are_items,
     tickets_wait_for_least, worklists_are_in_order,
+};
+pub use headline::{
+    flushes_end_after_all_before, items_run_in_one_worker, numbers_start_once, queueings_start,
+    runs_are_within_max_active,
 };

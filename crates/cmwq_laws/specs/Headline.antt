@@ -1,0 +1,94 @@
+-- What a user of the runtime relies on, as laws of every legal history.
+use Rattle.std.specs.Prelude.{◌≡◌, ℕ, ◌≤◌, Bool, true, false, ◌&&◌, ◌||◌, ◌==◌, List, [], ◌∷◌, length, count_by, Some, option_and_then, is_some, nat_lt, nat_le}
+use Rattle.std.specs.List.{AllByRecursion, IsDistinct}
+use Rattle.cmwq_model.specs.declared.id.WorkerId.{WorkerId}
+use Rattle.cmwq_model.specs.declared.call.Call.{Call}
+use Rattle.cmwq_model.specs.declared.call.Call.TheVariants as call
+use Rattle.cmwq_model.specs.declared.reply.Reply.TheVariants as reply
+use Rattle.cmwq_model.specs.declared.entry.Entry.{Entry}
+use Rattle.cmwq_model.specs.declared.record.Queueing.{Queueing}
+use Rattle.cmwq_model.specs.Layout.{Layout, width_of}
+use Rattle.cmwq_model.specs.Calls.{is_at, same_worker, entry_at, item_at}
+use Rattle.cmwq_model.specs.Fate.{starts, is_finished, is_cancelled}
+use Rattle.cmwq_model.specs.Runs.{run, item_runs}
+use Rattle.cmwq_model.specs.Queueings.{queueings, queueing_at, run_queue, is_pending}
+use Rattle.cmwq_model.specs.Legal.{IsLegal}
+
+-- a law of every legal history of every shape
+abbrev pub OfLegal : (Layout → List Entry → Type 0) → Type 0
+OfLegal Law = (s : Layout) (past : List Entry) → IsLegal s past → Law s past
+
+-- what holds of each entry, wherever it stands, and of what lay before it
+abbrev pub OfEachEntry : (List Entry → Entry → Type 0) → List Entry → Type 0
+OfEachEntry Law [] = Unit {0}
+OfEachEntry Law (e ∷ past) = Law past e × OfEachEntry Law past
+
+-- ---- no two workers have runs of one item
+
+abbrev pub runs_item : List Entry → ℕ → WorkerId → Bool
+runs_item past i w = is_at (option_and_then (item_at past) (run past w)) i
+
+abbrev pub RunsInOneWorker : List Entry → Type 0
+RunsInOneWorker past = (i : ℕ) (v w : WorkerId) → runs_item past i v ≡ true → runs_item past i w ≡ true → v ≡ w
+
+abbrev pub ItemsRunInOneWorker : Type 0
+ItemsRunInOneWorker = OfLegal (λ s. RunsInOneWorker)
+
+-- ---- a number is started at most once, and only where an earlier entry opened a queueing under it
+
+abbrev pub StartedOnce : List Entry → Type 0
+StartedOnce past = (n : ℕ) → count_by (starts n) past ≤ 1
+
+abbrev pub NumbersStartOnce : Type 0
+NumbersStartOnce = OfLegal (λ s. StartedOnce)
+
+abbrev pub StartsEarlier : List Entry → Type 0
+StartsEarlier = OfEachEntry (λ past e. (n : ℕ) → starts n e ≡ true → is_some (queueing_at past n) ≡ true)
+
+abbrev pub QueueingsStart : Type 0
+QueueingsStart = OfLegal (λ s. StartsEarlier)
+
+-- ---- of the workers of a CPU at most max_active have runs of a queue: any list of different ones is no longer
+
+abbrev pub runs_queue_on : List Entry → ℕ → ℕ → WorkerId → Bool
+runs_queue_on past q c w = is_at (run_queue past w) q && (w.pool.cpu.0 == c)
+
+abbrev pub RunsWithinWidth : Layout → List Entry → Type 0
+RunsWithinWidth s past = (q c : ℕ) (ws : List WorkerId) → IsDistinct same_worker ws → AllByRecursion (λ w. runs_queue_on past q c w ≡ true) ws → length ws ≤ width_of s q
+
+abbrev pub RunsAreWithinMaxActive : Type 0
+RunsAreWithinMaxActive = OfLegal RunsWithinWidth
+
+-- ---- where the end of a ticket is answered done, what was queued before the wait has ended
+
+-- the entry ends the ticket with this number
+abbrev pub IsDone : Entry → ℕ → Type 0
+IsDone e t = (e.call ≡ call.End t) × (e.reply ≡ reply.Done)
+
+-- A flush of a queue waits for the queueings of the queue with lesser numbers than its own, a flush of an item for those
+-- of the item up to its own number, a drain for all of its queue.
+abbrev pub is_waited_for : Call → ℕ → Queueing → Bool
+is_waited_for (call.Flush q) t x = (x.place.queue.0 == q.0) && nat_lt x.number t
+is_waited_for (call.FlushItem i) t x = (x.item.0 == i.0) && nat_le x.number t
+is_waited_for (call.FlushDelayed i) t x = (x.item.0 == i.0) && nat_le x.number t
+is_waited_for (call.Drain q) t x = x.place.queue.0 == q.0
+is_waited_for c t x = false
+
+abbrev pub has_ended : List Entry → Queueing → Bool
+has_ended past x = is_finished past x.number || is_cancelled past x.item.0 x.number
+
+abbrev pub WaitsEndAfter : List Entry → Type 0
+WaitsEndAfter = OfEachEntry (λ past e. (t : ℕ) (begun : Entry) → IsDone e t → entry_at past t ≡ Some begun
+    → AllByRecursion (λ x. is_waited_for begun.call t x ≡ true → has_ended past x ≡ true) (queueings past))
+
+abbrev pub FlushesEndAfterAllBefore : Type 0
+FlushesEndAfterAllBefore = OfLegal (λ s. WaitsEndAfter)
+
+-- ---- where the end of a cancel_sync is answered done, the item is neither pending nor running after that
+
+abbrev pub CancelsSettle : List Entry → Type 0
+CancelsSettle = OfEachEntry (λ past e. (t i : ℕ) (begun : Entry) → IsDone e t → entry_at past t ≡ Some begun → begun.call ≡ call.CancelSync (record { 0 = i })
+    → (is_pending (e ∷ past) i ≡ false) × (item_runs (e ∷ past) i ≡ false))
+
+abbrev pub CancelSyncsSettle : Type 0
+CancelSyncsSettle = OfLegal (λ s. CancelsSettle)

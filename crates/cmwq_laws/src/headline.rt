@@ -1,0 +1,42 @@
+//! What a user of the runtime relies on, in every legal history.
+
+ghost use Rattle.cmwq_laws.specs.Headline.{FlushesEndAfterAllBefore, ItemsRunInOneWorker, NumbersStartOnce, QueueingsStart, RunsAreWithinMaxActive};
+
+/// No two workers have runs of one item.
+pub fn items_run_in_one_worker()
+    ensures { ItemsRunInOneWorker }
+{}
+
+/// A number is started at most once.
+pub fn numbers_start_once()
+    ensures { NumbersStartOnce }
+{}
+
+/// Only what an earlier entry queued is started.
+pub fn queueings_start()
+    ensures { QueueingsStart }
+{}
+
+/// At most max_active workers of a CPU have runs of a queue.
+pub fn runs_are_within_max_active()
+    ensures { RunsAreWithinMaxActive }
+{}
+
+/// A flush is answered done only after all that was queued before it has ended, and so is a flush of an item and a drain.
+pub fn flushes_end_after_all_before()
+    ensures { FlushesEndAfterAllBefore }
+{}
+
+#[cfg(test)]
+mod tests {
+    use super::*;
+
+    #[test]
+    fn each_is_there() {
+        items_run_in_one_worker();
+        numbers_start_once();
+        queueings_start();
+        runs_are_within_max_active();
+        flushes_end_after_all_before();
+    }
+}
