@@ -3,3 +3,4 @@ pub mod Rising
 pub mod TimerSteps
 pub mod Settled
 pub mod FirstDue
+pub mod TicketSteps
