@@ -48,12 +48,15 @@ wanted_item past false o f x h = cc
 wanted_item past true None f x h = cc
 wanted_item past true (Some i) f x h = ap Some (sym (placed_item past i (f i) x h))
 
+pub opening_item : (e : Entry) (past : List Entry) (x : Queueing) → opening past e ≡ Some x → item_of e ≡ Some x.item.0
+opening_item e past x h = wanted_item past (opens e.reply) (item_of e) (place_wanted past e.call) x h
+
 pub opening_known : (e : Entry) (past : List Entry) (x : Queueing) → opening past e ≡ Some x → IsKnown (e ∷ past) x
 opening_known e past x h =
     let number : x.number ≡ length past = opening_number past e x h in
     record {
       older = omega arith;
-      item = ap (item_at (e ∷ past)) number ∙ item_at-newest e past ∙ wanted_item past (opens e.reply) (item_of e) (place_wanted past e.call) x h;
+      item = ap (item_at (e ∷ past)) number ∙ item_at-newest e past ∙ opening_item e past x h;
     }
 
 known_opening : (e : Entry) (past : List Entry) (o : Option Queueing) → ((x : Queueing) → o ≡ Some x → IsKnown (e ∷ past) x) → AllByRecursion (IsKnown (e ∷ past)) (option_to_list o)

@@ -13,6 +13,11 @@ pub mod Activated
 pub mod ItemRuns
 pub mod Order
 pub mod Worklist
+pub mod Causes
+pub mod Filters
+pub mod Fresh
+pub mod Endings
+pub mod Pending
 pub mod OneWorker
 pub mod StartsListed
 pub mod RunsActive

@@ -1,3 +1,5 @@
 pub mod Fidelity
 pub mod Order
+pub mod Endings
+pub mod Pending
 pub mod Headline

@@ -8,6 +8,13 @@ pub use fidelity::{
     active_are_first, queueings_stand_by_number, replies_name_themselves, runs_are_items,
     tickets_wait_for_least, worklists_are_in_order,
 };
+
+mod queueing_steps;
+
+pub use queueing_steps::{
+    booked_items_have_no_unstarted, items_have_one_unstarted, open_go_on, spared_stay_open,
+};
+
 pub use headline::{
     flushes_end_after_all_before, items_run_in_one_worker, numbers_start_once, queueings_start,
     runs_are_within_max_active,

@@ -1,0 +1,63 @@
+-- Filtered lists.
+use Rattle.std.proofs.Common.{ℕ, ◌≤◌, ◌+◌, count_by, find, Some, None, option_to_list, arith, ◌≡◌, Bool, true, false, cond, ◌&&◌, List, [], ◌∷◌, filter, refl, sym, ap, ap₂, ◌∙◌}
+use Rattle.std.specs.List.{AllByRecursion}
+use Rattle.cmwq_laws.proofs.Lists.{count_by-cons}
+
+count_head : (m n : ℕ) (a b : Bool) → (a ≡ true → b ≡ true) → m ≤ n → cond a 1 0 + m ≤ cond b 1 0 + n
+count_head m n true true h less = omega arith
+count_head m n true false h less = let bad : false ≡ true = h refl in cc
+count_head m n false true h less = omega arith
+count_head m n false false h less = omega arith
+
+module _ {X : Type 0} where
+  filter_head : (p : X → Bool) (x : X) (xs : List X) (b : Bool) → filter p (cond b (x ∷ xs) xs) ≡ cond (b && p x) (x ∷ filter p xs) (filter p xs)
+  filter_head p x xs true = refl
+  filter_head p x xs false = refl
+
+  -- those that pass p of those that pass q
+  pub filter_twice : (p q : X → Bool) (xs : List X) → filter p (filter q xs) ≡ filter (λ x. q x && p x) xs
+  filter_twice p q [] = refl
+  filter_twice p q (x ∷ xs) = filter_head p x (filter q xs) (q x) ∙ ap (λ ys. cond (q x && p x) (x ∷ ys) ys) (filter_twice p q xs)
+
+  -- tests that agree on each element
+  pub filter_same : (p q : X → Bool) (xs : List X) → AllByRecursion (λ x. p x ≡ q x) xs → filter p xs ≡ filter q xs
+  filter_same p q [] h = refl
+  filter_same p q (x ∷ xs) h = ap₂ (λ b ys. cond b (x ∷ ys) ys) h.0 (filter_same p q xs h.1)
+
+  pub filter_none : (p : X → Bool) (xs : List X) → AllByRecursion (λ x. p x ≡ false) xs → filter p xs ≡ []
+  filter_none p [] h = refl
+  filter_none p (x ∷ xs) h = ap₂ (λ b ys. cond b (x ∷ ys) ys) h.0 (filter_none p xs h.1)
+
+  -- two pairs of tests that agree on each element
+  pub filter_both_same : (p q f g : X → Bool) (xs : List X) → AllByRecursion (λ x. (q x && p x) ≡ (g x && f x)) xs → filter p (filter q xs) ≡ filter f (filter g xs)
+  filter_both_same p q f g xs h = filter_twice p q xs ∙ filter_same (λ x. q x && p x) (λ x. g x && f x) xs h ∙ sym (filter_twice f g xs)
+
+  -- a test that passes only what a wider one does passes no more
+  pub count_by-wider : (p q : X → Bool) (xs : List X) → AllByRecursion (λ x. p x ≡ true → q x ≡ true) xs → count_by p xs ≤ count_by q xs
+  count_by-wider p q [] h = omega arith
+  count_by-wider p q (x ∷ xs) h =
+      let here = count_head (count_by p xs) (count_by q xs) (p x) (q x) h.0 (count_by-wider p q xs h.1) in
+      let left = count_by-cons p x xs in
+      let right = count_by-cons q x xs in
+      omega arith
+
+  -- where at most one passes, those that pass are the first that does
+  none_passes : (p : X → Bool) (x : X) (xs : List X) (b : Bool) → p x ≡ b → cond b 1 0 + count_by p xs ≡ 0 → (count_by p xs ≡ 0 → AllByRecursion (λ y. p y ≡ false) xs) → AllByRecursion (λ y. p y ≡ false) (x ∷ xs)
+  none_passes p x xs true h zero later = absurd (omega arith)
+  none_passes p x xs false h zero later = (h, later (omega arith))
+
+  pub count_none : (p : X → Bool) (xs : List X) → count_by p xs ≡ 0 → AllByRecursion (λ x. p x ≡ false) xs
+  count_none p [] h = tt
+  count_none p (x ∷ xs) h = none_passes p x xs (p x) refl (sym (count_by-cons p x xs) ∙ h) (count_none p xs)
+
+  pub none_found : (p : X → Bool) (xs : List X) → AllByRecursion (λ x. p x ≡ false) xs → find p xs ≡ None
+  none_found p [] h = refl
+  none_found p (x ∷ xs) h = ap₂ (λ b o. cond b (Some x) o) h.0 (none_found p xs h.1)
+
+  one_passes : (p : X → Bool) (x : X) (xs : List X) (b : Bool) → cond b 1 0 + count_by p xs ≤ 1 → (count_by p xs ≤ 1 → filter p xs ≡ option_to_list (find p xs)) → cond b (x ∷ filter p xs) (filter p xs) ≡ option_to_list (cond b (Some x) (find p xs))
+  one_passes p x xs true few later = ap (λ ys. x ∷ ys) (filter_none p xs (count_none p xs (omega arith)))
+  one_passes p x xs false few later = later (omega arith)
+
+  pub filter_one : (p : X → Bool) (xs : List X) → count_by p xs ≤ 1 → filter p xs ≡ option_to_list (find p xs)
+  filter_one p [] h = refl
+  filter_one p (x ∷ xs) h = one_passes p x xs (p x) (let e = count_by-cons p x xs in omega arith) (filter_one p xs)

@@ -1,0 +1,28 @@
+-- What one more entry ends and opens, and so what is open after it.
+use Rattle.std.specs.Prelude.{◌≡◌, ◌<◌, Bool, ◌&&◌, not, List, ◌∷◌, ◌++◌, length, filter, option_to_list}
+use Rattle.cmwq_model.specs.declared.entry.Entry.{Entry}
+use Rattle.cmwq_model.specs.declared.record.Queueing.{Queueing}
+use Rattle.cmwq_model.specs.Layout.{Layout}
+use Rattle.cmwq_model.specs.Calls.{is_of_item}
+use Rattle.cmwq_model.specs.Fate.{finishes, takes_back, replaces, is_started}
+use Rattle.cmwq_model.specs.Queueings.{is_live, still_open, opening}
+use Rattle.cmwq_model.specs.Legal.{IsLegal}
+
+-- the entry puts something new in the place of this queueing, which hasn't started
+abbrev pub is_replaced : List Entry → Entry → Queueing → Bool
+is_replaced past e x = replaces e.reply && is_of_item x.item.0 e && not (is_started past x.number)
+
+-- the entry neither finishes this queueing, nor takes it back, nor replaces it
+abbrev pub is_spared : List Entry → Entry → Queueing → Bool
+is_spared past e x = not (finishes x.number e) && not (takes_back x.number e) && not (is_replaced past e x)
+
+abbrev pub is_ended : List Entry → Entry → Queueing → Bool
+is_ended past e x = not (is_spared past e x)
+
+-- a queueing is open after the entry where it was open before and is spared
+abbrev pub SparedStayOpen : Type 0
+SparedStayOpen = (past : List Entry) (e : Entry) (x : Queueing) → x.number < length past → is_live (e ∷ past) x ≡ (is_live past x && is_spared past e x)
+
+-- what is open after the entry: what was open and is spared, then what the entry opens
+abbrev pub OpenGoOn : Type 0
+OpenGoOn = (s : Layout) (past : List Entry) (e : Entry) → IsLegal s (e ∷ past) → still_open (e ∷ past) ≡ filter (is_spared past e) (still_open past) ++ option_to_list (opening past e)
