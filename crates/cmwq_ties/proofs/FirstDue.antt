@@ -18,7 +18,7 @@ use Rattle.cmwq_timer.specs.Due.{is_sooner, may_fire as timer_may_fire}
 use Rattle.cmwq_timer.specs.Rows.{MayFire, NoneMayFire, IsFirstToFire, timer_of}
 use Rattle.cmwq_laws.proofs.Lists.{All_map, All_append}
 use Rattle.cmwq_ties.specs.Timers.{timer_for, timers_of, HoldsDraining, item_due, MayBeTold}
-use Rattle.cmwq_ties.proofs.Members.{In, of_in, all_in, in_left, in_right, option_in, in_option, in_filter, filter_in, none_in}
+use Rattle.cmwq_ties.proofs.Members.{In, of_in, all_in, in_left, in_right, option_in, in_option, in_filter, filter_in, none_in, found}
 use Rattle.cmwq_ties.proofs.Rising.{RisesBy, rises_filter, rises_snoc, rises_unique, find_is}
 use Rattle.cmwq_ties.proofs.TimerSteps.{booking_books, row_at, row_past}
 use Rattle.cmwq_ties.proofs.Settled.{Fits, bookings_fit, settled_of_an_item, item_there, booking_fits}
@@ -182,17 +182,9 @@ no_timer_is_none_due s past held legal holds none =
 
 -- ---- what the timers are told
 
-found_in : (p : Booking → Bool) (xs : List Booking) (b : Booking) → find p xs ≡ Some b → In b xs
-found_in p [] b h = cc
-found_in p (x ∷ xs) b h = here (p x) (found_in p xs b) h
-  where
-    here : (c : Bool) → (find p xs ≡ Some b → In b xs) → cond c (Some x) (find p xs) ≡ Some b → In b (x ∷ xs)
-    here true later k = inl (same_Some x b k)
-    here false later k = inr (later k)
-
 first_due_fits : (s : Layout) (past : List Entry) (b : Booking) → IsLegal s past → first_due past ≡ Some b → Fits s b
 unfolding first_due
-first_due_fits s past b legal h = standing_fits s past b legal (in_filter (may_fire past) (standing past) b (found_in (is_soonest (fireable past)) (fireable past) b h)).0
+first_due_fits s past b legal h = standing_fits s past b legal (in_filter (may_fire past) (standing past) b (found (is_soonest (fireable past)) (fireable past) b h).0).0
 
 pub timers_may_be_told : (s : Layout) (past : List Entry) (e : Entry) → IsLegal s (e ∷ past) → MayBeTold s past e
 unfolding IsLegal

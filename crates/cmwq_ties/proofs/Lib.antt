@@ -4,3 +4,6 @@ pub mod TimerSteps
 pub mod Settled
 pub mod FirstDue
 pub mod TicketSteps
+pub mod Numbers
+pub mod QueueingSteps
+pub mod FlushCalls

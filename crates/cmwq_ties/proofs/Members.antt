@@ -1,5 +1,5 @@
 -- Elements of lists.
-use Rattle.std.proofs.Common.{◌≡◌, Bool, true, false, cond, List, [], ◌∷◌, ◌++◌, filter, Option, Some, None, option_to_list, refl, sym, ap, subst, ◌⊎◌, inl, inr, ⊎_elim}
+use Rattle.std.proofs.Common.{◌≡◌, Bool, true, false, cond, List, [], ◌∷◌, ◌++◌, filter, find, Option, Some, None, option_to_list, refl, sym, ap, subst, ◌⊎◌, inl, inr, ⊎_elim}
 use Rattle.std.specs.List.{AllByRecursion}
 use Rattle.std.proofs.lemmas.Option.{same_Some}
 
@@ -63,3 +63,12 @@ module _ {X : Type 0} where
   pub none_in : (xs : List X) → ((x : X) → In x xs → ⊥) → xs ≡ []
   none_in [] h = refl
   none_in (y ∷ ys) h = absurd (h y (inl refl))
+
+  -- what is found is there and passes; where none is found, none passes
+  pub found : (p : X → Bool) (xs : List X) (x : X) → find p xs ≡ Some x → In x xs × (p x ≡ true)
+  found p [] x h = cc
+  found p (y ∷ ys) x h = here (p y) refl (found p ys x) h
+    where
+      here : (b : Bool) → p y ≡ b → (find p ys ≡ Some x → In x ys × (p x ≡ true)) → cond b (Some y) (find p ys) ≡ Some x → In x (y ∷ ys) × (p x ≡ true)
+      here true is later k = let same = same_Some y x k in (inl same, subst (λ z. p z ≡ true) same is)
+      here false is later k = let l = later k in (inr l.0, l.1)

@@ -17,15 +17,12 @@ use Rattle.cmwq_model.specs.Layout.{Layout}
 use Rattle.cmwq_model.specs.Calls.{is_by}
 use Rattle.cmwq_model.specs.Tickets.{gives_ticket, ticket_for, ticket_in, tickets, is_end_of, is_done, ends, is_unended, unended}
 use Rattle.cmwq_model.specs.Legal.{IsLegal}
-use Rattle.cmwq_laws.proofs.Lists.{All_map}
+use Rattle.cmwq_laws.proofs.Lists.{All_map, find_none}
 use Rattle.cmwq_laws.proofs.Given.{IsGiven, tickets_given, unended_given, ticket_is}
 use Rattle.cmwq_laws.proofs.Done.{ends_ticket}
-use Rattle.cmwq_ties.specs.Told.{is_ended_by, ticket_ended, ticket_given, goes_on}
-use Rattle.cmwq_ties.proofs.Members.{In}
+use Rattle.cmwq_ties.specs.Told.{number_of_ticket, is_ended_by, ticket_ended, ticket_given, goes_on}
+use Rattle.cmwq_ties.proofs.Members.{In, found}
 use Rattle.cmwq_ties.proofs.Rising.{RisesBy, rises_filter, rises_snoc, rises_unique}
-
-abbrev pub number_of_ticket : Ticket → ℕ
-number_of_ticket t = t.number
 
 -- ---- by their numbers
 
@@ -167,25 +164,9 @@ pub data TicketStep (past : List Entry) (e : Entry) : Type 0 where
   ends_one : (u : Ticket) → ticket_ended past e ≡ Some u → In u (unended past) → ends u e ≡ true → TicketStep past e
   ends_none : ticket_ended past e ≡ None → AllByRecursion (λ t. goes_on e t ≡ true) (unended past) → TicketStep past e
 
-found : (p : Ticket → Bool) (xs : List Ticket) (u : Ticket) → find p xs ≡ Some u → In u xs × (p u ≡ true)
-found p [] u h = cc
-found p (x ∷ xs) u h = here (p x) refl (found p xs u) h
-  where
-    here : (b : Bool) → p x ≡ b → (find p xs ≡ Some u → In u xs × (p u ≡ true)) → cond b (Some x) (find p xs) ≡ Some u → In u (x ∷ xs) × (p u ≡ true)
-    here true is later k = let same = same_Some x u k in (inl same, subst (λ y. p y ≡ true) same is)
-    here false is later k = let l = later k in (inr l.0, l.1)
-
-none_found : (p : Ticket → Bool) (xs : List Ticket) → find p xs ≡ None → AllByRecursion (λ t. not (p t) ≡ true) xs
-none_found p [] h = tt
-none_found p (x ∷ xs) h = here (p x) refl (none_found p xs) h
-  where
-    here : (b : Bool) → p x ≡ b → (find p xs ≡ None → AllByRecursion (λ t. not (p t) ≡ true) xs) → cond b (Some x) (find p xs) ≡ None → AllByRecursion (λ t. not (p t) ≡ true) (x ∷ xs)
-    here true is later k = cc
-    here false is later k = (ap not is, later k)
-
 pub ticket_step : (past : List Entry) (e : Entry) → TicketStep past e
 ticket_step past e = which (ticket_ended past e) refl
   where
     which : (o : Option Ticket) → ticket_ended past e ≡ o → TicketStep past e
-    which None is = ends_none is (none_found (is_ended_by e) (unended past) is)
+    which None is = ends_none is (All_map (λ t. ends t e ≡ false) (λ t. goes_on e t ≡ true) (unended past) (λ t h. ap not h) (find_none (is_ended_by e) (unended past) is))
     which (Some u) is = let k = found (is_ended_by e) (unended past) u is in ends_one u is k.0 k.1

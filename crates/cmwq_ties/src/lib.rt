@@ -2,12 +2,12 @@
 //! which no running code needs.
 #![tactic(auto)]
 
-mod tickets;
 mod timers;
+mod told;
 
-pub use tickets::tickets_go_on;
 pub use timers::{
     bookings_set_timers, first_timer_is_first_due, no_timer_is_none_due, no_timers_at_first,
     others_keep_timers, settled_timers_are_taken_back, timers_are_due_as_booked,
     timers_may_be_told,
 };
+pub use told::{ends_one_at_most, tickets_go_on};
