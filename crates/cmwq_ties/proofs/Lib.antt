@@ -7,3 +7,4 @@ pub mod TicketSteps
 pub mod Numbers
 pub mod QueueingSteps
 pub mod FlushCalls
+pub mod FlushSteps

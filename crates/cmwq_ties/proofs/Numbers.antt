@@ -2,15 +2,19 @@
 use Rattle.std.proofs.Common.{◌≡◌, ◌==◌, ◌<◌, ◌≤◌, ◌+◌, ℕ, suc, Bool, true, false, cond, not, ◌&&◌, List, [], ◌∷◌, ◌++◌, length, map, filter, find, count_by, Option, Some, None, nat_lt, refl, sym, ap, ap₂, ◌∙◌, subst, arith, inl, inr, ⊎_elim}
 use Rattle.std.specs.Prelude.{option_map}
 use Rattle.std.specs.List.{AllByRecursion}
-use Rattle.std.proofs.lemmas.Bool.{eqb-true, eq-eqb, ne_eqb}
+use Rattle.std.proofs.lemmas.Bool.{eqb-true, ne_eqb, false_from_ne_true}
 use Rattle.std.proofs.lemmas.Bool.Decides.{nat_tests}
 use Rattle.cmwq_flush.specs.Numbers.{is_other, without}
 use Rattle.cmwq_laws.proofs.Lists.{All_map, count_by-cons}
-use Rattle.cmwq_ties.proofs.Members.{In, of_in}
-use Rattle.cmwq_ties.proofs.Rising.{RisesBy}
+use Rattle.cmwq_ties.proofs.Members.{In, of_in, all_in, in_filter}
+use Rattle.cmwq_ties.proofs.Rising.{RisesBy, rises_unique}
 
 abbrev pub itself : ℕ → ℕ
 itself n = n
+
+pub without_none : (n : ℕ) (ns : List ℕ) → AllByRecursion (λ m. (m == n) ≡ false) ns → without n ns ≡ ns
+without_none n [] h = refl
+without_none n (m ∷ ms) h = ap₂ (λ b ys. cond (not b) (m ∷ ys) ys) h.0 (without_none n ms h.1)
 
 module _ {X : Type 0} (number : X → ℕ) where
   pub numbers_rise : (xs : List X) → RisesBy number xs → RisesBy itself (map number xs)
@@ -40,6 +44,18 @@ module _ {X : Type 0} (number : X → ℕ) where
       here false true hc hb later = later ∙ sym (ap (λ c. cond c (number x ∷ without n (map number (filter p xs))) (without n (map number (filter p xs)))) hc)
       here false false hc hb later = later
 
+  -- one that doesn't pass is not among those that do
+  pub numbers_lack : (p : X → Bool) (x : X) (xs : List X) → RisesBy number xs → In x xs → p x ≡ false → without (number x) (map number (filter p xs)) ≡ map number (filter p xs)
+  numbers_lack p x xs rise here fails = without_none (number x) (map number (filter p xs)) (numbers_all (λ m. (m == number x) ≡ false) (filter p xs) (all_in (λ y. (number y == number x) ≡ false) (filter p xs) differs))
+    where
+      differs : (y : X) → In y (filter p xs) → (number y == number x) ≡ false
+      differs y there =
+          let k = in_filter p xs y there in
+          false_from_ne_true (number y == number x) (λ same.
+            let one = rises_unique number xs y x rise k.0 here (eqb-true (number y) (number x) same) in
+            let passes : p x ≡ true = subst (λ z. p z ≡ true) one k.1 in
+            cc)
+
   pub filter_goes_on : (g : X → Bool) (xs : List X) → AllByRecursion (λ x. g x ≡ true) xs → filter g xs ≡ xs
   filter_goes_on g [] h = refl
   filter_goes_on g (x ∷ xs) h = ap₂ (λ b ys. cond b (x ∷ ys) ys) h.0 (filter_goes_on g xs h.1)
@@ -57,10 +73,6 @@ module _ {X : Type 0} (number : X → ℕ) where
       here true true is later = sym (ap (λ c. cond c (Some (number x)) (find w (map number (filter p xs)))) is)
       here true false is later = later ∙ sym (ap (λ c. cond c (Some (number x)) (find w (map number (filter p xs)))) is)
       here false c is later = later
-
-pub without_none : (n : ℕ) (ns : List ℕ) → AllByRecursion (λ m. (m == n) ≡ false) ns → without n ns ≡ ns
-without_none n [] h = refl
-without_none n (m ∷ ms) h = ap₂ (λ b ys. cond (not b) (m ∷ ys) ys) h.0 (without_none n ms h.1)
 
 -- what rises in two parts: what is in the first isn't in the second
 pub rises_apart : (xs ys : List ℕ) (n : ℕ) → RisesBy itself (xs ++ ys) → In n xs → AllByRecursion (λ m. n < m) ys
