@@ -1,9 +1,9 @@
 -- What each call of a flush book leaves, over plain values.
-use Rattle.std.proofs.Common.{◌≡◌, ◌==◌, ◌<◌, ◌≤◌, ◌+◌, ℕ, suc, Bool, true, false, cond, not, ◌&&◌, List, [], ◌∷◌, ◌++◌, length, map, filter, find, Option, Some, None, nat_lt, nat_le, refl, sym, ap, ap₂, ◌∙◌, subst, arith, append-nil, inl, inr, ⊎_elim}
+use Rattle.std.proofs.Common.{◌≡◌, ◌==◌, ◌<◌, ◌≤◌, ◌+◌, ℕ, suc, Bool, true, false, cond, not, List, [], ◌∷◌, ◌++◌, length, map, filter, Option, Some, None, nat_lt, refl, sym, ap, ap₂, ◌∙◌, subst, arith, append-nil, ⊎_elim}
 use Rattle.std.specs.Prelude.{is_some, if◌then◌else◌}
 use Rattle.std.specs.List.{AllByRecursion}
 use Rattle.std.proofs.lemmas.Bool.{eqb-true, eq-eqb, ne_eqb, ltb-true, ltb-false}
-use Rattle.std.proofs.lemmas.List.{append_assoc, map-append, map_push, length-append, length-map}
+use Rattle.std.proofs.lemmas.List.{append_assoc, map_push, length-append}
 use Rattle.std.proofs.lemmas.List.Elements.{filter-append}
 use Rattle.cmwq_model.specs.declared.entry.Entry.{Entry}
 use Rattle.cmwq_model.specs.Waits.{served}
@@ -15,7 +15,7 @@ use Rattle.cmwq_flush.specs.FlushBook.{FlushBook, flush_tickets, served_of, flus
 use Rattle.cmwq_flush.specs.Colouring.{IsServing}
 use Rattle.cmwq_laws.proofs.Lists.{All_map, All_append, All_filter, find_none}
 use Rattle.cmwq_ties.specs.FlushBooks.{IsServedFrom}
-use Rattle.cmwq_ties.proofs.Members.{In, of_in, all_in, found}
+use Rattle.cmwq_ties.proofs.Members.{In, of_in, found}
 use Rattle.cmwq_ties.proofs.Rising.{RisesBy}
 use Rattle.cmwq_ties.proofs.Numbers.{itself, numbers_have, without_none, rises_apart, later_differ}
 

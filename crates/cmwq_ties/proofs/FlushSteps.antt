@@ -1,11 +1,10 @@
 -- A flush book follows a history, entry by entry.
-use Rattle.std.proofs.Common.{◌≡◌, ◌==◌, ◌<◌, ◌≤◌, ◌+◌, ℕ, suc, Bool, true, false, cond, not, ◌&&◌, List, [], ◌∷◌, ◌++◌, length, map, filter, find, count_by, Option, Some, None, option_to_list, nat_lt, nat_le, refl, sym, ap, ap₂, ◌∙◌, subst, arith, append-nil, ◌⊎◌, inl, inr, ⊎_elim}
+use Rattle.std.proofs.Common.{◌≡◌, ◌==◌, ◌<◌, ◌≤◌, ◌+◌, ℕ, suc, Bool, true, false, cond, not, ◌&&◌, List, [], ◌∷◌, ◌++◌, length, map, filter, count_by, Option, Some, None, option_to_list, nat_lt, nat_le, refl, sym, ap, ap₂, ◌∙◌, subst, arith, append-nil, ◌⊎◌, inl, inr, ⊎_elim}
 use Rattle.std.specs.Prelude.{is_some, if◌then◌else◌}
 use Rattle.std.specs.Option.{option_or}
 use Rattle.std.proofs.lemmas.Option.{same_Some}
 use Rattle.std.specs.List.{AllByRecursion}
-use Rattle.std.proofs.lemmas.Bool.{eqb-true, eq-eqb, ne_eqb, lt-ltb, le-ltb, le-leb, lt-leb, false_from_ne_true}
-use Rattle.std.proofs.lemmas.Bool.Decides.{nat_tests}
+use Rattle.std.proofs.lemmas.Bool.{lt-ltb, le-ltb, le-leb, lt-leb}
 use Rattle.std.proofs.lemmas.List.{map-append, length-map}
 use Rattle.std.proofs.lemmas.List.Elements.{filter-append}
 use Rattle.cmwq_model.specs.declared.call.Call.{Call}
@@ -15,7 +14,7 @@ use Rattle.cmwq_model.specs.declared.record.Queueing.{Queueing}
 use Rattle.cmwq_model.specs.declared.record.Ticket.{Ticket}
 use Rattle.cmwq_model.specs.Layout.{Layout}
 use Rattle.cmwq_model.specs.Queueings.{still_open, opening, queueings}
-use Rattle.cmwq_model.specs.Tickets.{ends, unended, tickets, flushes, drains, is_flush_of, is_drain_of}
+use Rattle.cmwq_model.specs.Tickets.{unended, tickets, flushes, drains, is_flush_of, is_drain_of}
 use Rattle.cmwq_model.specs.Waits.{served, is_served_after, is_older_flush}
 use Rattle.cmwq_model.specs.Legal.{IsLegal}
 use Rattle.cmwq_flush.specs.declared.served.Served.{Served}
@@ -25,13 +24,13 @@ use Rattle.cmwq_flush.specs.Served.{ticket_of, tickets_of}
 use Rattle.cmwq_flush.specs.FlushBook.{FlushBook, new_book, served_of, after_opened, after_ended, after_begin, after_end, after_drain_begin, after_drain_end}
 use Rattle.cmwq_laws.specs.Endings.{is_spared}
 use Rattle.cmwq_laws.proofs.Lists.{All_map, All_append, All_filter, count_by-filter}
-use Rattle.cmwq_laws.proofs.Rising.{opening_number, queueings_below}
+use Rattle.cmwq_laws.proofs.Rising.{opening_number}
 use Rattle.cmwq_laws.proofs.Endings.{open_go_on}
 use Rattle.cmwq_ties.specs.Told.{number_of_queueing, number_of_ticket, queueing_ended, ticket_ended, ticket_given, goes_on}
 use Rattle.cmwq_ties.specs.FlushBooks.{is_on_queue, open_numbers, flush_numbers, drain_numbers, IsServedFrom, AreFlushes, told_ended, told_opened, told_done, told_begun, told_queueings, told_tickets}
-use Rattle.cmwq_ties.proofs.Members.{In, of_in, all_in, in_left, in_right, in_filter}
-use Rattle.cmwq_ties.proofs.Rising.{RisesBy, rises_filter, rises_unique}
-use Rattle.cmwq_ties.proofs.Numbers.{itself, numbers_rise, numbers_all, numbers_have, numbers_without, numbers_lack, filter_goes_on, count_numbers, without_none, is_less, fewer_before, all_before}
+use Rattle.cmwq_ties.proofs.Members.{In, of_in, all_in, in_left}
+use Rattle.cmwq_ties.proofs.Rising.{RisesBy, rises_filter}
+use Rattle.cmwq_ties.proofs.Numbers.{itself, numbers_rise, numbers_all, numbers_have, numbers_without, numbers_lack, filter_goes_on, count_numbers, is_less, fewer_before, all_before}
 use Rattle.cmwq_ties.proofs.TicketSteps.{unended_rise, unended_below, tickets_go_on, TicketStep, ticket_step, ends_one, ends_none, ends_only, ticket_in_is}
 use Rattle.cmwq_ties.proofs.QueueingSteps.{QueueingStep, queueing_step, open_numbers_rise}
 use Rattle.cmwq_ties.proofs.QueueingSteps as queueing
@@ -138,7 +137,9 @@ ended_on (Some x) q n b older next = here (is_on_queue q x)
     here : (c : Bool) → OpensOn n b (if c then after_ended b x.number else b)
     here true = record {
       tickets = record { callers = refl; served = refl; overflow = refl; drains = refl };
-      older = without_all (λ m. m < b.next) x.number b.opened older; next = omega arith; later = omega arith;
+      older = without_all (λ m. m < b.next) x.number b.opened older;
+      next = omega arith;
+      later = omega arith;
       from = without_all (IsOldOr n b) x.number b.opened (old_all n b);
     }
     here false = record { tickets = record { callers = refl; served = refl; overflow = refl; drains = refl }; older = older; next = omega arith; later = omega arith; from = old_all n b }
@@ -154,7 +155,8 @@ opened_on (Some x) q n b number older next = here (is_on_queue q x)
         record {
           tickets = record { callers = refl; served = refl; overflow = refl; drains = refl };
           older = All_append (λ m. m < x.number + 1) b.opened (x.number ∷ []) (All_map (λ m. m < b.next) (λ m. m < x.number + 1) b.opened (λ m less. omega arith) older) (omega arith, tt);
-          next = omega arith; later = omega arith;
+          next = omega arith;
+          later = omega arith;
           from = All_append (IsOldOr n b) b.opened (x.number ∷ []) (old_all n b) (inr is, tt);
         }
     here false = record { tickets = record { callers = refl; served = refl; overflow = refl; drains = refl }; older = older; next = omega arith; later = omega arith; from = old_all n b }
@@ -181,8 +183,14 @@ opens_twice n a b c h le k =
     let second = k.later in
     record {
       tickets = record {
-        callers = k.tickets.callers ∙ h.tickets.callers; served = k.tickets.served ∙ h.tickets.served; overflow = k.tickets.overflow ∙ h.tickets.overflow; drains = k.tickets.drains ∙ h.tickets.drains };
-      older = k.older; next = k.next; later = omega arith;
+        callers = k.tickets.callers ∙ h.tickets.callers;
+        served = k.tickets.served ∙ h.tickets.served;
+        overflow = k.tickets.overflow ∙ h.tickets.overflow;
+        drains = k.tickets.drains ∙ h.tickets.drains;
+      };
+      older = k.older;
+      next = k.next;
+      later = omega arith;
       from = All_map (IsOldOr n b) (IsOldOr n a) c.opened (λ m o. ⊎_elim (λ i. of_in (IsOldOr n a) b.opened m h.from i) (λ e. inr e) o) k.from;
     }
 
@@ -215,8 +223,12 @@ soon_after s past q old b is on = record {
 }
   where
     more : (f : Served) → IsServedFrom past q old.opened f → f.bound ≤ old.next → IsServedFrom past q b.opened f
-    more f h le = record { position = h.position; is_served = h.is_served; same = All_map (IsOldOr (length past) old) (λ n. nat_lt n f.bound ≡ nat_le n h.position) b.opened
-        (λ n o. ⊎_elim (λ i. of_in (λ n. nat_lt n f.bound ≡ nat_le n h.position) old.opened n h.same i) (λ e. subst (λ m. nat_lt m f.bound ≡ nat_le m h.position) (sym e) (both f h le)) o) on.from }
+    more f h le = record {
+      position = h.position;
+      is_served = h.is_served;
+      same = All_map (IsOldOr (length past) old) (λ n. nat_lt n f.bound ≡ nat_le n h.position) b.opened
+          (λ n o. ⊎_elim (λ i. of_in (λ n. nat_lt n f.bound ≡ nat_le n h.position) old.opened n h.same i) (λ e. subst (λ m. nat_lt m f.bound ≡ nat_le m h.position) (sym e) (both f h le)) o) on.from;
+    }
       where
         both : (f : Served) (h : IsServedFrom past q old.opened f) → f.bound ≤ old.next → nat_lt (length past) f.bound ≡ nat_le (length past) h.position
         both f h le =
@@ -381,6 +393,15 @@ flushes_follow s past e q b legal is = after (told_tickets past e q (told_queuei
 pub flushes_at_first : (s : Layout) (q : ℕ) → AreFlushes s [] q (new_book s.callers)
 unfolding queueings tickets
 flushes_at_first s q = record {
-  callers = refl; opened = refl; older = tt; next = omega arith; flushes = refl; few = omega arith; serving = λ some. absurd (omega arith);
-  bounds = tt; served_from = tt; overflowed = tt; drains = refl;
+  callers = refl;
+  opened = refl;
+  older = tt;
+  next = omega arith;
+  flushes = refl;
+  few = omega arith;
+  serving = λ some. absurd (omega arith);
+  bounds = tt;
+  served_from = tt;
+  overflowed = tt;
+  drains = refl;
 }

@@ -8,3 +8,4 @@ pub mod Numbers
 pub mod QueueingSteps
 pub mod FlushCalls
 pub mod FlushSteps
+pub mod FlushReads

@@ -1,10 +1,10 @@
 -- Lists of what has a number, and of the numbers.
-use Rattle.std.proofs.Common.{◌≡◌, ◌==◌, ◌<◌, ◌≤◌, ◌+◌, ℕ, suc, Bool, true, false, cond, not, ◌&&◌, List, [], ◌∷◌, ◌++◌, length, map, filter, find, count_by, Option, Some, None, nat_lt, refl, sym, ap, ap₂, ◌∙◌, subst, arith, inl, inr, ⊎_elim}
+use Rattle.std.proofs.Common.{◌≡◌, ◌==◌, ◌<◌, ◌≤◌, ◌+◌, ℕ, suc, Bool, true, false, cond, not, ◌&&◌, List, [], ◌∷◌, ◌++◌, length, map, filter, find, count_by, Some, nat_lt, refl, sym, ap, ap₂, ◌∙◌, subst, arith, inl, inr, ⊎_elim}
 use Rattle.std.specs.Prelude.{option_map}
 use Rattle.std.specs.List.{AllByRecursion}
 use Rattle.std.proofs.lemmas.Bool.{eqb-true, ne_eqb, false_from_ne_true}
 use Rattle.std.proofs.lemmas.Bool.Decides.{nat_tests}
-use Rattle.cmwq_flush.specs.Numbers.{is_other, without}
+use Rattle.cmwq_flush.specs.Numbers.{without}
 use Rattle.cmwq_laws.proofs.Lists.{All_map, count_by-cons}
 use Rattle.cmwq_ties.proofs.Members.{In, of_in, all_in, in_filter}
 use Rattle.cmwq_ties.proofs.Rising.{RisesBy, rises_unique}
@@ -52,9 +52,9 @@ module _ {X : Type 0} (number : X → ℕ) where
       differs y there =
           let k = in_filter p xs y there in
           false_from_ne_true (number y == number x) (λ same.
-            let one = rises_unique number xs y x rise k.0 here (eqb-true (number y) (number x) same) in
-            let passes : p x ≡ true = subst (λ z. p z ≡ true) one k.1 in
-            cc)
+          let one = rises_unique number xs y x rise k.0 here (eqb-true (number y) (number x) same) in
+          let passes : p x ≡ true = subst (λ z. p z ≡ true) one k.1 in
+          cc)
 
   pub filter_goes_on : (g : X → Bool) (xs : List X) → AllByRecursion (λ x. g x ≡ true) xs → filter g xs ≡ xs
   filter_goes_on g [] h = refl

@@ -1,7 +1,7 @@
 -- An entry ends one open queueing at most.
-use Rattle.std.proofs.Common.{◌≡◌, ◌==◌, ◌<◌, ℕ, Bool, true, false, cond, not, ◌&&◌, ◌||◌, List, [], ◌∷◌, length, filter, find, Option, Some, None, option_to_list, refl, sym, ap, ap₂, ◌∙◌, subst, arith, inl, inr, ⊎_elim, ◌⊎◌}
+use Rattle.std.proofs.Common.{◌≡◌, ◌==◌, ℕ, Bool, true, false, not, ◌&&◌, List, [], ◌∷◌, Option, Some, None, option_to_list, refl, sym, ap, ◌∙◌, subst, inl, inr, ⊎_elim, ◌⊎◌}
 use Rattle.std.specs.List.{AllByRecursion}
-use Rattle.std.proofs.lemmas.Bool.{and_parts, or_cases, and_from, eqb-true, eq-eqb, not-false}
+use Rattle.std.proofs.lemmas.Bool.{and_from, eqb-true, eq-eqb, not-false}
 use Rattle.std.proofs.lemmas.Option.{same_Some}
 use Rattle.cmwq_model.specs.declared.entry.Entry.{Entry}
 use Rattle.cmwq_model.specs.declared.reply.Reply.{Reply}
@@ -12,7 +12,7 @@ use Rattle.cmwq_model.specs.Calls.{is_at, item_of, is_of_item}
 use Rattle.cmwq_model.specs.Fate.{number_finished, number_cancelled, finishes, takes_back, replaces, is_started}
 use Rattle.cmwq_model.specs.Queueings.{still_open, is_unstarted, unstarted}
 use Rattle.cmwq_model.specs.Legal.{IsLegal}
-use Rattle.cmwq_laws.specs.Endings.{is_replaced, is_spared, is_ended}
+use Rattle.cmwq_laws.specs.Endings.{is_spared, is_ended}
 use Rattle.cmwq_laws.proofs.Lists.{All_map, find_none}
 use Rattle.cmwq_laws.proofs.Rising.{open_rise}
 use Rattle.cmwq_laws.proofs.Pending.{one_unstarted}
@@ -109,7 +109,6 @@ queueing_step s past e legal = which (queueing_ended past e) refl
     which : (o : Option Queueing) → queueing_ended past e ≡ o → QueueingStep past e
     which None is = ends_none is (All_map (λ y. is_ended past e y ≡ false) (λ y. is_spared past e y ≡ true) (still_open past) (λ y h. not-false (is_spared past e y) h) (find_none (is_ended past e) (still_open past) is))
     which (Some x) is = let k = found (is_ended past e) (still_open past) x is in ends_one x is k.0 k.1 (all_in (λ y. is_spared past e y ≡ not (y.number == x.number)) (still_open past) (only x k.0 k.1))
-
 
 pub ends_one_at_most : (s : Layout) (past : List Entry) (e : Entry) → IsLegal s past → AllByRecursion (λ x. is_ended past e x ≡ true → queueing_ended past e ≡ Some x) (still_open past)
 ends_one_at_most s past e legal = all_in (λ x. is_ended past e x ≡ true → queueing_ended past e ≡ Some x) (still_open past) (λ x here ended. which x here ended (queueing_step s past e legal))

@@ -2,9 +2,14 @@
 //! which no running code needs.
 #![tactic(auto)]
 
+mod flush_books;
 mod timers;
 mod told;
 
+pub use flush_books::{
+    draining_while_drains_stand, drains_wait_for_least_open, flushes_at_first, flushes_follow,
+    flushes_wait_for_least_open, ready_flushes_wait_for_nothing,
+};
 pub use timers::{
     bookings_set_timers, first_timer_is_first_due, no_timer_is_none_due, no_timers_at_first,
     others_keep_timers, settled_timers_are_taken_back, timers_are_due_as_booked,
