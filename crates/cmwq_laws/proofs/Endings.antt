@@ -1,5 +1,5 @@
 -- What is open after one more entry.
-use Rattle.std.proofs.Common.{◌≡◌, ◌<◌, Bool, true, false, cond, ◌&&◌, ◌||◌, not, List, [], ◌∷◌, ◌++◌, length, filter, Option, Some, None, option_to_list, nat_lt, refl, sym, ap, ap₂, ◌∙◌, arith}
+use Rattle.std.proofs.Common.{◌≡◌, ◌<◌, ℕ, Bool, true, false, cond, ◌&&◌, ◌||◌, not, List, [], ◌∷◌, ◌++◌, length, filter, Option, Some, None, option_to_list, nat_lt, refl, sym, ap, ap₂, ◌∙◌, arith}
 use Rattle.std.proofs.lemmas.Bool.{lt-ltb}
 use Rattle.std.proofs.lemmas.List.Elements.{filter-append}
 use Rattle.cmwq_model.specs.declared.entry.Entry.{Entry}
@@ -30,14 +30,19 @@ live_step f a b t true true u = live_ended f a b t (not u)
 live_step f a b t true false u = live_ended f a b t false
 live_step f a b t false i u = live_ended f a b t false
 
-pub live_goes_on : (past : List Entry) (e : Entry) (x : Queueing) → x.number < length past → is_live (e ∷ past) x ≡ (is_live past x && is_spared past e x)
+-- of a queueing of item i with number n
+pub open_step : (past : List Entry) (e : Entry) (i n : ℕ) → n < length past
+    → is_open (e ∷ past) i n ≡ (is_open past i n && (not (finishes n e) && not (takes_back n e) && not (replaces e.reply && is_of_item i e && not (is_started past n))))
 unfolding is_cancelled
-live_goes_on past e x less =
-    let now : nat_lt x.number (length (e ∷ past)) ≡ true = lt-ltb x.number (length (e ∷ past)) (omega arith) in
-    let was : nat_lt x.number (length past) ≡ true = lt-ltb x.number (length past) less in
-    rw (now, was) (live_step (finishes x.number e) (is_finished past x.number) (is_cancelled past x.item.0 x.number) (takes_back x.number e) (replaces e.reply) (is_of_item x.item.0 e) (is_started past x.number))
+open_step past e i n less =
+    let now : nat_lt n (length (e ∷ past)) ≡ true = lt-ltb n (length (e ∷ past)) (omega arith) in
+    let was : nat_lt n (length past) ≡ true = lt-ltb n (length past) less in
+    rw (now, was) (live_step (finishes n e) (is_finished past n) (is_cancelled past i n) (takes_back n e) (replaces e.reply) (is_of_item i e) (is_started past n))
 
-opened_live : (s : Layout) (past : List Entry) (e : Entry) (x : Queueing) → IsLegal s (e ∷ past) → opening past e ≡ Some x → is_live (e ∷ past) x ≡ true
+pub live_goes_on : (past : List Entry) (e : Entry) (x : Queueing) → x.number < length past → is_live (e ∷ past) x ≡ (is_live past x && is_spared past e x)
+live_goes_on past e x less = open_step past e x.item.0 x.number less
+
+pub opened_live : (s : Layout) (past : List Entry) (e : Entry) (x : Queueing) → IsLegal s (e ∷ past) → opening past e ≡ Some x → is_live (e ∷ past) x ≡ true
 opened_live s past e x legal h = ap (is_open (e ∷ past) x.item.0) (opening_number past e x h) ∙ open_at_once s past e x.item.0 legal
 
 opened_open : (s : Layout) (past : List Entry) (e : Entry) (o : Option Queueing) → IsLegal s (e ∷ past) → opening past e ≡ o → filter (is_live (e ∷ past)) (option_to_list o) ≡ option_to_list o

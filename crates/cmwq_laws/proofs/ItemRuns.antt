@@ -119,11 +119,11 @@ starts_its_item e past start i j is item =
 starts_no_item : (e : Entry) (past : List Entry) (i : ℕ) → start_in e ≡ None → starts_item past e i ≡ false
 starts_no_item e past i none = ap (λ (o : Option Start). option_map_or (λ (st : Start). is_at (item_at past st.number) i) o false) none
 
-item_starts : (e : Entry) (past : List Entry) (i : ℕ) → starts_item past e i ≡ true → item_start (e ∷ past) i ≡ start_in e
+pub item_starts : (e : Entry) (past : List Entry) (i : ℕ) → starts_item past e i ≡ true → item_start (e ∷ past) i ≡ start_in e
 unfolding item_start
 item_starts e past i h = ap (λ b. if b then start_in e else item_start past i) h
 
-item_stays : (e : Entry) (past : List Entry) (i : ℕ) → starts_item past e i ≡ false → item_start (e ∷ past) i ≡ item_start past i
+pub item_stays : (e : Entry) (past : List Entry) (i : ℕ) → starts_item past e i ≡ false → item_start (e ∷ past) i ≡ item_start past i
 unfolding item_start
 item_stays e past i h = ap (λ b. if b then start_in e else item_start past i) h
 

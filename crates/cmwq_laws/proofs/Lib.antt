@@ -24,3 +24,9 @@ pub mod RunsActive
 pub mod Width
 pub mod Given
 pub mod Done
+pub mod RunSteps
+pub mod ItemSteps
+pub mod Ranks
+pub mod Ended
+pub mod WorklistSteps
+pub mod NewlyActive

@@ -95,7 +95,7 @@ since_older s (e ∷ past) x j h = elim (since_cases s e past x j h) [
 ]
 
 -- what was active at some time and is open now is active now
-still_active : (s : Layout) (past : List Entry) (x : Queueing) (j : ℕ) → since s past x ≡ Some j → is_live past x ≡ true → is_active s past x ≡ true
+pub still_active : (s : Layout) (past : List Entry) (x : Queueing) (j : ℕ) → since s past x ≡ Some j → is_live past x ≡ true → is_active s past x ≡ true
 unfolding since
 still_active s [] x j h live = cc
 still_active s (e ∷ past) x j h live = elim (since_cases s e past x j h) [
@@ -123,12 +123,12 @@ newly_since s past e x h = since_now (since s past x) refl
 
 -- ---- all that ever became active stand in order
 
-record HasSince (s : Layout) (past : List Entry) (x : Queueing) : Type 0 where
-  at : ℕ
-  is : since s past x ≡ Some at
-  within : at ≤ length past
+pub record HasSince (s : Layout) (past : List Entry) (x : Queueing) : Type 0 where
+  pub at : ℕ
+  pub is : since s past x ≡ Some at
+  pub within : at ≤ length past
 
-activated_since : (s : Layout) (past : List Entry) → AllByRecursion (HasSince s past) (activated s past)
+pub activated_since : (s : Layout) (past : List Entry) → AllByRecursion (HasSince s past) (activated s past)
 unfolding activated
 activated_since s [] = tt
 activated_since s (e ∷ past) =

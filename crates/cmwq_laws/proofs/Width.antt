@@ -111,7 +111,7 @@ runs_on s past q c w legal h = at (run past w) refl
 
 -- ---- different workers have different runs
 
-same_worker_itself : (w : WorkerId) → same_worker w w ≡ true
+pub same_worker_itself : (w : WorkerId) → same_worker w w ≡ true
 same_worker_itself w = all _ _ _ (eq-eqb w.pool.cpu.0 w.pool.cpu.0 refl) (flag w.pool.high) (eq-eqb w.index w.index refl)
   where
     flag : (b : Bool) → beq b b ≡ true

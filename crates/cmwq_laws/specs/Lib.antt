@@ -3,3 +3,5 @@ pub mod Order
 pub mod Endings
 pub mod Pending
 pub mod Headline
+pub mod RunSteps
+pub mod Activations

@@ -11,11 +11,19 @@ pub use fidelity::{
 
 mod queueing_steps;
 
-pub use queueing_steps::{
-    booked_items_have_no_unstarted, items_have_one_unstarted, open_go_on, spared_stay_open,
-};
-
 pub use headline::{
     flushes_end_after_all_before, items_run_in_one_worker, numbers_start_once, queueings_start,
     runs_are_within_max_active,
 };
+pub use queueing_steps::{
+    booked_items_have_no_unstarted, entries_end_what_they_say, items_have_one_unstarted,
+    one_queueing_ends, open_go_on, spared_stay_open,
+};
+
+mod run_steps;
+
+pub use run_steps::{items_are_run_by_their_workers, items_run_on, workers_run_on};
+
+mod activation_steps;
+
+pub use activation_steps::{newly_active_are, started_are_active, worklists_go_on};

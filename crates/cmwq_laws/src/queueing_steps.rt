@@ -1,6 +1,6 @@
 //! What one more entry does to the queueings.
 
-ghost use Rattle.cmwq_laws.specs.Endings.{SparedStayOpen, OpenGoOn};
+ghost use Rattle.cmwq_laws.specs.Endings.{SparedStayOpen, OpenGoOn, OneEnds, EndsWhich};
 ghost use Rattle.cmwq_laws.specs.Pending.{OneUnstarted, BookedOrUnstarted};
 
 /// A queueing is open after an entry where it was open before and is spared.
@@ -23,6 +23,16 @@ pub fn booked_items_have_no_unstarted()
     ensures { BookedOrUnstarted }
 {}
 
+/// An entry ends one queueing at most.
+pub fn one_queueing_ends()
+    ensures { OneEnds }
+{}
+
+/// It is the one that the reply says finished or taken back, or the unstarted one of the item that is queued or booked anew.
+pub fn entries_end_what_they_say()
+    ensures { EndsWhich }
+{}
+
 #[cfg(test)]
 mod tests {
     use super::*;
@@ -33,5 +43,7 @@ mod tests {
         open_go_on();
         items_have_one_unstarted();
         booked_items_have_no_unstarted();
+        one_queueing_ends();
+        entries_end_what_they_say();
     }
 }
