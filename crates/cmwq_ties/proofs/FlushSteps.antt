@@ -22,11 +22,11 @@ use Rattle.cmwq_flush.specs.declared.limits.TheConstants.{MOST_SERVED}
 use Rattle.cmwq_flush.specs.Numbers.{is_other, without}
 use Rattle.cmwq_flush.specs.Served.{ticket_of, tickets_of}
 use Rattle.cmwq_flush.specs.FlushBook.{FlushBook, new_book, served_of, after_opened, after_ended, after_begin, after_end, after_drain_begin, after_drain_end}
-use Rattle.cmwq_laws.specs.Endings.{is_spared}
+use Rattle.cmwq_laws.specs.Endings.{is_spared, ending}
 use Rattle.cmwq_laws.proofs.Lists.{All_map, All_append, All_filter, count_by-filter}
 use Rattle.cmwq_laws.proofs.Rising.{opening_number}
 use Rattle.cmwq_laws.proofs.Endings.{open_go_on}
-use Rattle.cmwq_ties.specs.Told.{number_of_queueing, number_of_ticket, queueing_ended, ticket_ended, ticket_given, goes_on}
+use Rattle.cmwq_ties.specs.Told.{number_of_queueing, number_of_ticket, ticket_ended, ticket_given, goes_on}
 use Rattle.cmwq_ties.specs.FlushBooks.{is_on_queue, open_numbers, flush_numbers, drain_numbers, IsServedFrom, AreFlushes, told_ended, told_opened, told_done, told_begun, told_queueings, told_tickets}
 use Rattle.cmwq_ties.proofs.Members.{In, of_in, all_in, in_left}
 use Rattle.cmwq_ties.proofs.Rising.{RisesBy, rises_filter}
@@ -114,10 +114,10 @@ record OpensOn (n : ℕ) (old b : FlushBook) : Type 0 where
   from : AllByRecursion (IsOldOr n old) b.opened
 
 told_ended_is : (past : List Entry) (e : Entry) (q : ℕ) (b : FlushBook) → QueueingStep past e → b.opened ≡ open_numbers past q
-    → (told_ended (queueing_ended past e) q b).opened ≡ map number_of_queueing (filter (is_on_queue q) (filter (is_spared past e) (still_open past)))
+    → (told_ended (ending past e) q b).opened ≡ map number_of_queueing (filter (is_on_queue q) (filter (is_spared past e) (still_open past)))
 told_ended_is past e q b (queueing.ends_none is all) opened =
     ap (λ o. (told_ended o q b).opened) is ∙ opened ∙ sym (ap (λ xs. map number_of_queueing (filter (is_on_queue q) xs)) (filter_goes_on number_of_queueing (is_spared past e) (still_open past) all))
-told_ended_is past e q b (queueing.ends_one x is here it all) opened = ap (λ o. (told_ended o q b).opened) is ∙ on (is_on_queue q x) refl ∙ sym left
+told_ended_is past e q b (queueing.ends_one x is here all) opened = ap (λ o. (told_ended o q b).opened) is ∙ on (is_on_queue q x) refl ∙ sym left
   where
     left : map number_of_queueing (filter (is_on_queue q) (filter (is_spared past e) (still_open past))) ≡ without x.number (open_numbers past q)
     left = numbers_without number_of_queueing (is_on_queue q) (is_spared past e) x.number (still_open past) all
@@ -172,8 +172,8 @@ opened_numbers (Some x) q b = here (is_on_queue q x)
 told_opens : (s : Layout) (past : List Entry) (e : Entry) (q : ℕ) (b : FlushBook) → IsLegal s (e ∷ past) → b.opened ≡ open_numbers past q → (told_queueings past e q b).opened ≡ open_numbers (e ∷ past) q
 unfolding IsLegal
 told_opens s past e q b legal opened =
-    opened_numbers (opening past e) q (told_ended (queueing_ended past e) q b)
-    ∙ ap (λ ns. ns ++ map number_of_queueing (filter (is_on_queue q) (option_to_list (opening past e)))) (told_ended_is past e q b (queueing_step s past e legal.2) opened)
+    opened_numbers (opening past e) q (told_ended (ending past e) q b)
+    ∙ ap (λ ns. ns ++ map number_of_queueing (filter (is_on_queue q) (option_to_list (opening past e)))) (told_ended_is past e q b (queueing_step s past e legal) opened)
     ∙ sym (map-append number_of_queueing (filter (is_on_queue q) (filter (is_spared past e) (still_open past))) (filter (is_on_queue q) (option_to_list (opening past e))))
     ∙ sym (ap (map number_of_queueing) (ap (filter (is_on_queue q)) (open_go_on s past e legal) ∙ filter-append (is_on_queue q) (filter (is_spared past e) (still_open past)) (option_to_list (opening past e))))
 
@@ -204,10 +204,10 @@ ended_next (Some x) q b = here (is_on_queue q x)
 
 told_on : (past : List Entry) (e : Entry) (q : ℕ) (b : FlushBook) → AllByRecursion (λ m. m < b.next) b.opened → b.next ≤ length past → OpensOn (length past) b (told_queueings past e q b)
 told_on past e q b older next =
-    let first = ended_on (queueing_ended past e) q (length past) b older next in
-    let is : (told_ended (queueing_ended past e) q b).next ≡ b.next = ended_next (queueing_ended past e) q b in
-    opens_twice (length past) b (told_ended (queueing_ended past e) q b) (told_queueings past e q b) first (omega arith)
-    (opened_on (opening past e) q (length past) (told_ended (queueing_ended past e) q b) (opening_number past e) first.older (omega arith))
+    let first = ended_on (ending past e) q (length past) b older next in
+    let is : (told_ended (ending past e) q b).next ≡ b.next = ended_next (ending past e) q b in
+    opens_twice (length past) b (told_ended (ending past e) q b) (told_queueings past e q b) first (omega arith)
+    (opened_on (opening past e) q (length past) (told_ended (ending past e) q b) (opening_number past e) first.older (omega arith))
 
 -- a flush that is served stays so
 soon_after : (s : Layout) (past : List Entry) (q : ℕ) (old b : FlushBook) → AreFlushes s past q old → OpensOn (length past) old b → Stands past q (flush_numbers q (unended past)) (drain_numbers q (unended past)) b

@@ -11,11 +11,12 @@ use Rattle.cmwq_model.specs.Queueings.{still_open, opening}
 use Rattle.cmwq_model.specs.Tickets.{unended, is_flush_of, is_drain_of, is_draining}
 use Rattle.cmwq_model.specs.Waits.{served, waits_for}
 use Rattle.cmwq_model.specs.Legal.{IsLegal}
+use Rattle.cmwq_laws.specs.Endings.{ending}
 use Rattle.cmwq_flush.specs.declared.served.Served.{Served}
 use Rattle.cmwq_flush.specs.declared.limits.TheConstants.{MOST_SERVED}
 use Rattle.cmwq_flush.specs.FlushBook.{FlushBook, new_book, flush_tickets, IsReady, after_opened, after_ended, after_begin, after_end, after_drain_begin, after_drain_end}
 use Rattle.cmwq_flush.specs.Colouring.{IsServing}
-use Rattle.cmwq_ties.specs.Told.{number_of_queueing, number_of_ticket, queueing_ended, ticket_ended, ticket_given}
+use Rattle.cmwq_ties.specs.Told.{number_of_queueing, number_of_ticket, ticket_ended, ticket_given}
 
 -- the numbers of the queue's open queueings, and of the flushes and drains of it among some tickets
 abbrev pub is_on_queue : ℕ → Queueing → Bool
@@ -69,7 +70,7 @@ told_begun None q b = b
 told_begun (Some t) q b = if is_flush_of q t then after_begin b t.number else if is_drain_of q t then after_drain_begin b t.number else b
 
 abbrev pub told_queueings : List Entry → Entry → ℕ → FlushBook → FlushBook
-told_queueings past e q b = told_opened (opening past e) q (told_ended (queueing_ended past e) q b)
+told_queueings past e q b = told_opened (opening past e) q (told_ended (ending past e) q b)
 
 abbrev pub told_tickets : List Entry → Entry → ℕ → FlushBook → FlushBook
 told_tickets past e q b = told_begun (ticket_given past e) q (told_done (ticket_ended past e) q b)

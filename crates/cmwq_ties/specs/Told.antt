@@ -1,14 +1,11 @@
 -- What one more entry ends and gives, as the parts are told of it.
-use Rattle.std.specs.Prelude.{◌≡◌, ℕ, Bool, not, List, ◌∷◌, ◌++◌, length, filter, find, Option, Some, true, option_to_list}
-use Rattle.std.specs.List.{AllByRecursion}
+use Rattle.std.specs.Prelude.{◌≡◌, ℕ, Bool, not, List, ◌∷◌, ◌++◌, length, filter, find, Option, option_to_list}
 use Rattle.cmwq_model.specs.declared.entry.Entry.{Entry}
 use Rattle.cmwq_model.specs.declared.record.Ticket.{Ticket}
 use Rattle.cmwq_model.specs.declared.record.Queueing.{Queueing}
 use Rattle.cmwq_model.specs.Layout.{Layout}
-use Rattle.cmwq_model.specs.Queueings.{still_open}
 use Rattle.cmwq_model.specs.Tickets.{ends, unended, ticket_in}
 use Rattle.cmwq_model.specs.Legal.{IsLegal}
-use Rattle.cmwq_laws.specs.Endings.{is_ended}
 
 abbrev pub number_of_queueing : Queueing → ℕ
 number_of_queueing x = x.number
@@ -32,11 +29,3 @@ goes_on e t = not (ends t e)
 
 abbrev pub TicketsGoOn : Type 0
 TicketsGoOn = (s : Layout) (past : List Entry) (e : Entry) → IsLegal s (e ∷ past) → unended (e ∷ past) ≡ filter (goes_on e) (unended past) ++ option_to_list (ticket_given past e)
-
--- the open queueing that the entry ends: it finishes it, takes it back or replaces it
-abbrev pub queueing_ended : List Entry → Entry → Option Queueing
-queueing_ended past e = find (is_ended past e) (still_open past)
-
--- an entry ends no other open queueing
-abbrev pub EndsOneAtMost : Type 0
-EndsOneAtMost = (s : Layout) (past : List Entry) (e : Entry) → IsLegal s past → AllByRecursion (λ x. is_ended past e x ≡ true → queueing_ended past e ≡ Some x) (still_open past)

@@ -15,4 +15,4 @@ pub use timers::{
     others_keep_timers, settled_timers_are_taken_back, timers_are_due_as_booked,
     timers_may_be_told,
 };
-pub use told::{ends_one_at_most, tickets_go_on};
+pub use told::tickets_go_on;
