@@ -1,5 +1,5 @@
 -- What a flush book answers is what the definitions say.
-use Rattle.std.proofs.Common.{◌≡◌, ◌<◌, ◌≤◌, ◌↔◌, ℕ, zero, suc, Bool, true, false, cond, ◌||◌, List, [], ◌∷◌, length, map, filter, find, get_or, Option, Some, None, nat_lt, nat_le, refl, sym, ap, ap₂, ◌∙◌, subst, arith, inl, inr, ⊎_elim}
+use Rattle.std.proofs.Common.{◌≡◌, ◌<◌, ◌≤◌, ◌↔◌, ℕ, suc, Bool, true, false, cond, ◌||◌, List, [], ◌∷◌, length, map, filter, find, Option, Some, None, nat_lt, nat_le, refl, sym, ap, ap₂, ◌∙◌, subst, arith, ⊎_elim}
 use Rattle.std.specs.Prelude.{option_map, slice_get, Contains, All, MatchOption}
 use Rattle.std.specs.List.{AllByRecursion, list_any}
 use Rattle.std.proofs.lemmas.Bool.{eqb-true, eq-eqb, lt-ltb, ltb-false, le-ltb, leb-true, le-leb, false≢true}
@@ -20,18 +20,10 @@ use Rattle.cmwq_laws.proofs.Lists.{All_map, find_none}
 use Rattle.cmwq_laws.proofs.Filters.{none_found}
 use Rattle.cmwq_ties.specs.Told.{number_of_queueing, number_of_ticket}
 use Rattle.cmwq_ties.specs.FlushBooks.{is_on_queue, open_numbers, IsServedFrom, AreFlushes}
-use Rattle.cmwq_ties.proofs.Members.{In, of_in, in_append, found}
+use Rattle.cmwq_ties.proofs.Members.{In, of_in, in_append, found, contained_in}
 use Rattle.cmwq_ties.proofs.Rising.{RisesBy, rises_filter}
 use Rattle.cmwq_ties.proofs.Numbers.{itself, numbers_rise, find_number}
 use Rattle.cmwq_ties.proofs.QueueingSteps.{open_numbers_rise}
-
-in_at : (ns : List ℕ) (k n : ℕ) → k < length ns → get_or ns k n ≡ n → In n ns
-in_at [] k n less is = absurd (omega arith)
-in_at (m ∷ ms) zero n less is = inl is
-in_at (m ∷ ms) (suc k) n less is = inr (in_at ms k n (omega arith) is)
-
-pub contained_in : (ns : List ℕ) (n : ℕ) → Contains ns n → In n ns
-contained_in ns n c = in_at ns c.0 n c.1 c.2
 
 find_agree : (p r : ℕ → Bool) (ns : List ℕ) → AllByRecursion (λ n. p n ≡ r n) ns → find p ns ≡ find r ns
 find_agree p r [] h = refl

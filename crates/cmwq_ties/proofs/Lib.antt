@@ -9,3 +9,5 @@ pub mod QueueingSteps
 pub mod FlushCalls
 pub mod FlushSteps
 pub mod FlushReads
+pub mod BarrierSteps
+pub mod BarrierReads

@@ -1,5 +1,6 @@
 -- Elements of lists.
-use Rattle.std.proofs.Common.{◌≡◌, Bool, true, false, cond, List, [], ◌∷◌, ◌++◌, filter, find, Option, Some, None, option_to_list, refl, sym, ap, subst, ◌⊎◌, inl, inr, ⊎_elim}
+use Rattle.std.proofs.Common.{◌≡◌, ◌<◌, ℕ, zero, suc, length, get_or, arith, Bool, true, false, cond, List, [], ◌∷◌, ◌++◌, filter, find, Option, Some, None, option_to_list, refl, sym, ap, subst, ◌⊎◌, inl, inr, ⊎_elim}
+use Rattle.std.specs.Prelude.{Contains}
 use Rattle.std.specs.List.{AllByRecursion}
 use Rattle.std.proofs.lemmas.Option.{same_Some}
 
@@ -72,3 +73,11 @@ module _ {X : Type 0} where
       here : (b : Bool) → p y ≡ b → (find p ys ≡ Some x → In x ys × (p x ≡ true)) → cond b (Some y) (find p ys) ≡ Some x → In x (y ∷ ys) × (p x ≡ true)
       here true is later k = let same = same_Some y x k in (inl same, subst (λ z. p z ≡ true) same is)
       here false is later k = let l = later k in (inr l.0, l.1)
+
+  in_at : (xs : List X) (k : ℕ) (x : X) → k < length xs → get_or xs k x ≡ x → In x xs
+  in_at [] k x less is = absurd (omega arith)
+  in_at (y ∷ ys) zero x less is = inl is
+  in_at (y ∷ ys) (suc k) x less is = inr (in_at ys k x (omega arith) is)
+
+  pub contained_in : (xs : List X) (x : X) → Contains xs x → In x xs
+  contained_in xs x c = in_at xs c.0 x c.1 c.2

@@ -137,7 +137,7 @@ pub record Fits (s : Layout) (b : Booking) : Type 0 where
   pub item : b.item.0 < s.items
   pub queue : b.place.queue.0 < length s.queues
 
-legal_fits : (s : Layout) (past : List Entry) (e : Entry) → IsLegal s (e ∷ past) → has_numbers s e.call ≡ true
+pub legal_fits : (s : Layout) (past : List Entry) (e : Entry) → IsLegal s (e ∷ past) → has_numbers s e.call ≡ true
 unfolding IsLegal
 legal_fits s past e legal = (and_parts (may_make s e.who e.call) (has_numbers s e.call) legal.0).1
 

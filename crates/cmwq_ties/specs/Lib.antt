@@ -1,3 +1,4 @@
 pub mod Timers
 pub mod Told
 pub mod FlushBooks
+pub mod BarrierBooks

@@ -2,10 +2,14 @@
 //! which no running code needs.
 #![tactic(auto)]
 
+mod barrier_books;
 mod flush_books;
 mod timers;
 mod told;
 
+pub use barrier_books::{
+    barriers_at_first, barriers_follow, barriers_wait_for_least, ready_barriers_wait_for_nothing,
+};
 pub use flush_books::{
     draining_while_drains_stand, drains_wait_for_least_open, flushes_at_first, flushes_follow,
     flushes_wait_for_least_open, ready_flushes_wait_for_nothing,
