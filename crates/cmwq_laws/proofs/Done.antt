@@ -6,6 +6,7 @@ use Rattle.std.specs.List.{AllByRecursion}
 use Rattle.std.proofs.lemmas.Bool.Decides.{nat_tests}
 use Rattle.cmwq_model.specs.declared.call.Call.{Call}
 use Rattle.cmwq_model.specs.declared.call.Call.TheVariants as call
+use Rattle.cmwq_model.specs.declared.reply.Reply.{Reply}
 use Rattle.cmwq_model.specs.declared.reply.Reply.TheVariants as reply
 use Rattle.cmwq_model.specs.declared.entry.Entry.{Entry}
 use Rattle.cmwq_model.specs.declared.record.Queueing.{Queueing}
@@ -15,12 +16,12 @@ use Rattle.cmwq_model.specs.Calls.{entry_at}
 use Rattle.cmwq_model.specs.Queueings.{queueings, is_live, still_open}
 use Rattle.cmwq_model.specs.Tickets.{ticket_of}
 use Rattle.cmwq_model.specs.Waits.{served, is_served_after, is_within, holds_up, waits_for, least_waited}
-use Rattle.cmwq_model.specs.Answer.{answer, end_of_ticket, waiting_for}
 use Rattle.cmwq_model.specs.Legal.{IsLegal}
 use Rattle.cmwq_laws.specs.Headline.{IsDone, is_waited_for, has_ended, WaitsEndAfter}
 use Rattle.cmwq_laws.proofs.Lists.{All_both, All_each, find_none, All_unfilter}
 use Rattle.cmwq_laws.proofs.Rising.{IsBelow, queueings_below}
-use Rattle.cmwq_laws.proofs.Inversions.{answer_is}
+use Rattle.cmwq_laws.proofs.Causes.{Cause, cause_of}
+use Rattle.cmwq_laws.proofs.Causes as cause
 use Rattle.cmwq_laws.proofs.Given.{ticket_is}
 
 -- ---- the ticket that is ended stands and waits for nothing
@@ -30,31 +31,32 @@ pub record EndsTicket (past : List Entry) (e : Entry) (t : ℕ) : Type 0 where
   pub found : ticket_of past e.who t ≡ Some ticket
   pub ready : waits_for past ticket.number ticket.call ≡ None
 
-ready_of : (past : List Entry) (t : Ticket) (o : Option ℕ) → waits_for past t.number t.call ≡ o → waiting_for o ≡ reply.Done → waits_for past t.number t.call ≡ None
-ready_of past t None h done = h
-ready_of past t (Some n) h done = cc
-
-ends_of : (past : List Entry) (e : Entry) (t : ℕ) (o : Option Ticket) → ticket_of past e.who t ≡ o → end_of_ticket past o ≡ reply.Done → EndsTicket past e t
-ends_of past e t None found done = cc
-ends_of past e t (Some k) found done = record { ticket = k; found = found; ready = ready_of past k (waits_for past k.number k.call) refl done }
+ends_of : (s : Layout) (past : List Entry) (e : Entry) (t : ℕ) (c : Call) (r : Reply) → Cause s past e.who c r → c ≡ call.End t → r ≡ reply.Done → EndsTicket past e t
+ends_of s past e t c r (cause.ended who n k found ready) hc hr =
+    let same : n ≡ t = cc in
+    record { ticket = k; found = subst (λ m. ticket_of past e.who m ≡ Some k) same found; ready = ready }
+ends_of s past e t c r other hc hr = cc
 
 pub ends_ticket : (s : Layout) (past : List Entry) (e : Entry) (t : ℕ) → IsLegal s (e ∷ past) → IsDone e t → EndsTicket past e t
-unfolding answer
-ends_ticket s past e t legal done =
-    let answered : answer s past e.who (call.End t) ≡ reply.Done = ap (answer s past e.who) (sym done.0) ∙ sym (answer_is s past e legal) ∙ done.1 in
-    ends_of past e t (ticket_of past e.who t) refl answered
+ends_ticket s past e t legal done = ends_of s past e t e.call e.reply (cause_of s past e legal) done.0 done.1
 
--- the call that began the ended wait is ready
-pub ready_call : (s : Layout) (past : List Entry) (e : Entry) (t : ℕ) (begun : Entry) → IsLegal s (e ∷ past) → IsDone e t → entry_at past t ≡ Some begun → waits_for past t begun.call ≡ None
-ready_call s past e t begun legal done at =
+-- the ticket has the call of the entry with its number
+pub ended_call : (s : Layout) (past : List Entry) (e : Entry) (t : ℕ) (begun : Entry) (legal : IsLegal s (e ∷ past)) (done : IsDone e t) → entry_at past t ≡ Some begun → (ends_ticket s past e t legal done).ticket.call ≡ begun.call
+ended_call s past e t begun legal done at =
     let ends = ends_ticket s past e t legal done in
     let is = ticket_is past e.who t ends.ticket ends.found in
     let same : is.given.begun ≡ begun = some_same is.given.begun begun (sym is.given.at ∙ ap (entry_at past) is.number ∙ at) in
-    let call : ends.ticket.call ≡ begun.call = sym is.given.call ∙ ap (λ (b : Entry). b.call) same in
-    subst (λ c. waits_for past t c ≡ None) call (subst (λ n. waits_for past n ends.ticket.call ≡ None) is.number ends.ready)
+    sym is.given.call ∙ ap (λ (b : Entry). b.call) same
   where
     some_same : (a b : Entry) → Some a ≡ Some b → a ≡ b
     some_same a b h = cc
+
+-- and waits for nothing
+pub ready_call : (s : Layout) (past : List Entry) (e : Entry) (t : ℕ) (begun : Entry) → IsLegal s (e ∷ past) → IsDone e t → entry_at past t ≡ Some begun → waits_for past t begun.call ≡ None
+ready_call s past e t begun legal done at =
+    let ends = ends_ticket s past e t legal done in
+    let number = (ticket_is past e.who t ends.ticket ends.found).number in
+    subst (λ c. waits_for past t c ≡ None) (ended_call s past e t begun legal done at) (subst (λ n. waits_for past n ends.ticket.call ≡ None) number ends.ready)
 
 -- ---- a flush is served from its own number on
 

@@ -35,7 +35,7 @@ few_here n x xs true is above few =
     omega arith
 few_here n x xs false is above few = omega arith
 
-few_numbered : (n : ℕ) (xs : List Queueing) → IsRising xs → count_by (has_number n) xs ≤ 1
+pub few_numbered : (n : ℕ) (xs : List Queueing) → IsRising xs → count_by (has_number n) xs ≤ 1
 few_numbered n [] h = omega arith
 few_numbered n (x ∷ xs) h =
     let more = few_here n x xs (has_number n x) refl h.0 (few_numbered n xs h.1) in

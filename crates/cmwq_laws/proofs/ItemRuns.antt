@@ -24,7 +24,7 @@ use Rattle.cmwq_laws.proofs.Starts.{starts_next}
 
 -- ---- workers
 
-flags_same : (a b : Bool) → beq a b ≡ true → a ≡ b
+pub flags_same : (a b : Bool) → beq a b ≡ true → a ≡ b
 flags_same true true h = refl
 flags_same false false h = refl
 flags_same true false h = cc
@@ -99,24 +99,24 @@ item_run_started past i start h = item_started past i start (item_start past i) 
 abbrev start_with : Option ℕ → WorkerId → Option Start
 start_with o v = option_map (λ k. record { worker = v; number = k }) o
 
-start_of_worker : (e : Entry) (w : WorkerId) (n : ℕ) → e.who ≡ Worker w → number_started e.reply ≡ Some n → start_in e ≡ Some (record { worker = w; number = n })
+pub start_of_worker : (e : Entry) (w : WorkerId) (n : ℕ) → e.who ≡ Worker w → number_started e.reply ≡ Some n → start_in e ≡ Some (record { worker = w; number = n })
 start_of_worker e w n who number = ap₂ (λ (x : Who) (o : Option ℕ). option_and_then (start_with o) (worker_of x)) who number
 
 by_nobody : (o : Option WorkerId) → option_and_then (start_with None) o ≡ None
 by_nobody None = refl
 by_nobody (Some v) = refl
 
-no_start : (e : Entry) → number_started e.reply ≡ None → start_in e ≡ None
+pub no_start : (e : Entry) → number_started e.reply ≡ None → start_in e ≡ None
 no_start e none = ap (λ (o : Option ℕ). option_and_then (start_with o) (worker_of e.who)) none ∙ by_nobody (worker_of e.who)
 
 is_at_itself : (n : ℕ) → is_at (Some n) n ≡ true
 is_at_itself n = eq-eqb n n refl
 
-starts_its_item : (e : Entry) (past : List Entry) (start : Start) (i j : ℕ) → start_in e ≡ Some start → item_at past start.number ≡ Some j → starts_item past e i ≡ (j == i)
+pub starts_its_item : (e : Entry) (past : List Entry) (start : Start) (i j : ℕ) → start_in e ≡ Some start → item_at past start.number ≡ Some j → starts_item past e i ≡ (j == i)
 starts_its_item e past start i j is item =
     ap (λ (o : Option Start). option_map_or (λ (st : Start). is_at (item_at past st.number) i) o false) is ∙ ap (λ o. is_at o i) item
 
-starts_no_item : (e : Entry) (past : List Entry) (i : ℕ) → start_in e ≡ None → starts_item past e i ≡ false
+pub starts_no_item : (e : Entry) (past : List Entry) (i : ℕ) → start_in e ≡ None → starts_item past e i ≡ false
 starts_no_item e past i none = ap (λ (o : Option Start). option_map_or (λ (st : Start). is_at (item_at past st.number) i) o false) none
 
 pub item_starts : (e : Entry) (past : List Entry) (i : ℕ) → starts_item past e i ≡ true → item_start (e ∷ past) i ≡ start_in e
@@ -166,7 +166,7 @@ started_older s (e ∷ past) w n legal h = elim (last_start_cases e past w n h) 
 -- ---- the law
 
 -- an older start of the item is still its last, unless the entry starts one of the same item
-unmoved : (s : Layout) (past : List Entry) (e : Entry) (i : ℕ) (o : Option ℕ) → IsLegal s (e ∷ past) → number_started e.reply ≡ o → item_runs past i ≡ true → starts_item past e i ≡ false
+pub unmoved : (s : Layout) (past : List Entry) (e : Entry) (i : ℕ) (o : Option ℕ) → IsLegal s (e ∷ past) → number_started e.reply ≡ o → item_runs past i ≡ true → starts_item past e i ≡ false
 unmoved s past e i None legal none runs = starts_no_item e past i (no_start e none)
 unmoved s past e i (Some m) legal started runs =
     let k = starts_known s past e m legal started in

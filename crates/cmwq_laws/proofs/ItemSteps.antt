@@ -82,7 +82,7 @@ start_is s (e ∷ past) i start legal h = at (starts_item past e i) refl h (star
 abbrev run_if_open : List Entry → ℕ → Option Start → Option Start
 run_if_open past i o = option_and_then (λ (start : Start). if is_open past i start.number then Some start else None) o
 
-item_begun : (s : Layout) (past : List Entry) (e : Entry) (i : ℕ) → IsLegal s (e ∷ past) → starts_item past e i ≡ true → item_run (e ∷ past) i ≡ start_in e
+pub item_begun : (s : Layout) (past : List Entry) (e : Entry) (i : ℕ) → IsLegal s (e ∷ past) → starts_item past e i ≡ true → item_run (e ∷ past) i ≡ start_in e
 item_begun s past e i legal is =
     let some = starts_some past e i (start_in e) refl is in
     let st = starts_of past e i some.0 is some.1 in
@@ -151,7 +151,7 @@ run_keeps s past e start legal spared runs = workers_run_on s past e start.worke
     at false by = runs
 
 -- a run that is left was there, and the entry doesn't finish it
-left_run : (e : Entry) (o : Option Start) (start : Start) → (if ends_run e o then None else o) ≡ Some start → (o ≡ Some start) × (finishes start.number e ≡ false)
+pub left_run : (e : Entry) (o : Option Start) (start : Start) → (if ends_run e o then None else o) ≡ Some start → (o ≡ Some start) × (finishes start.number e ≡ false)
 left_run e None start h = cc
 left_run e (Some st) start h = at (finishes st.number e) refl h
   where

@@ -24,9 +24,16 @@ pub mod RunsActive
 pub mod Width
 pub mod Given
 pub mod Done
+pub mod Breaks
+pub mod OneEntry
 pub mod RunSteps
 pub mod ItemSteps
+pub mod Cancelling
+pub mod Settled
+pub mod EndedOnce
 pub mod Ranks
 pub mod Ended
+pub mod OneRun
 pub mod WorklistSteps
 pub mod NewlyActive
+pub mod Pools

@@ -32,7 +32,7 @@ use Rattle.cmwq_laws.proofs.Causes as cause
 
 -- ---- a booking that is due first stands
 
-stands_booked : (past : List Entry) (b : Booking) → stands past b ≡ true → is_booked past b.item.0 ≡ true
+pub stands_booked : (past : List Entry) (b : Booking) → stands past b ≡ true → is_booked past b.item.0 ≡ true
 stands_booked past b h = here (booking past b.item.0) h
   where
     here : (o : Option Booking) → is_at (option_map number_booked o) b.number ≡ true → is_some o ≡ true
@@ -55,7 +55,7 @@ data Settling (past : List Entry) (r : Reply) (i : ℕ) : Type 0 where
   anew : replaces r ≡ true → Settling past r i
   booked : is_booked past i ≡ true → Settling past r i
 
-of_item : (P : ℕ → Type 0) (i j : ℕ) → (j == i) ≡ true → P j → P i
+pub of_item : (P : ℕ → Type 0) (i j : ℕ) → (j == i) ≡ true → P j → P i
 of_item P i j h p = subst P (eqb-true j i h) p
 
 settling : (s : Layout) (past : List Entry) (who : Who) (c : Call) (r : Reply) (i : ℕ) → Cause s past who c r → settles r ≡ true → is_at (option_or (item_called c) (item_fired r)) i ≡ true → Settling past r i
@@ -86,7 +86,7 @@ opens_undue (reply.Fired i k) h = refl
 opens_undue (reply.TicketQueued k) h = refl
 opens_undue r h = cc
 
-opening_opens : (past : List Entry) (e : Entry) (x : Queueing) → opening past e ≡ Some x → opens e.reply ≡ true
+pub opening_opens : (past : List Entry) (e : Entry) (x : Queueing) → opening past e ≡ Some x → opens e.reply ≡ true
 opening_opens past e x h = here (opens e.reply) h
   where
     here : (b : Bool) → (if b then option_and_then (λ i. option_map (queued_at past i) (place_wanted past e.call i)) (item_of e) else None) ≡ Some x → b ≡ true
@@ -95,20 +95,20 @@ opening_opens past e x h = here (opens e.reply) h
 
 -- ---- how many are unstarted, of those that were open and of what is opened
 
-abbrev waiting_now : List Entry → Entry → ℕ → Queueing → Bool
+abbrev pub waiting_now : List Entry → Entry → ℕ → Queueing → Bool
 waiting_now past e i x = is_spared past e x && is_unstarted (e ∷ past) i x
 
-unstarted_count : (s : Layout) (past : List Entry) (e : Entry) (i : ℕ) → IsLegal s (e ∷ past)
+pub unstarted_count : (s : Layout) (past : List Entry) (e : Entry) (i : ℕ) → IsLegal s (e ∷ past)
     → count_by (is_unstarted (e ∷ past) i) (still_open (e ∷ past)) ≡ count_by (waiting_now past e i) (still_open past) + count_by (is_unstarted (e ∷ past) i) (option_to_list (opening past e))
 unstarted_count s past e i legal =
     ap (count_by (is_unstarted (e ∷ past) i)) (open_go_on s past e legal)
     ∙ sum_by-append (λ x. cond (is_unstarted (e ∷ past) i x) 1 0) (filter (is_spared past e) (still_open past)) (option_to_list (opening past e))
     ∙ ap (λ n. n + count_by (is_unstarted (e ∷ past) i) (option_to_list (opening past e))) (sym (count_by-filter (waiting_now past e i) (is_spared past e) (is_unstarted (e ∷ past) i) (still_open past) (λ x. refl)))
 
-waiting_was : (past : List Entry) (e : Entry) (i : ℕ) → count_by (waiting_now past e i) (still_open past) ≤ count_by (is_unstarted past i) (still_open past)
+pub waiting_was : (past : List Entry) (e : Entry) (i : ℕ) → count_by (waiting_now past e i) (still_open past) ≤ count_by (is_unstarted past i) (still_open past)
 waiting_was past e i = count_by-wider (waiting_now past e i) (is_unstarted past i) (still_open past) (All_each _ (still_open past) (λ x h. grind arith))
 
-none_unstarted : (past : List Entry) (i : ℕ) → unstarted past i ≡ None → count_by (is_unstarted past i) (still_open past) ≡ 0
+pub none_unstarted : (past : List Entry) (i : ℕ) → unstarted past i ≡ None → count_by (is_unstarted past i) (still_open past) ≡ 0
 none_unstarted past i h = count_by-none (is_unstarted past i) (still_open past) (find_none (is_unstarted past i) (still_open past) h)
 
 none_anew : (past : List Entry) (e : Entry) (i : ℕ) → replaces e.reply ≡ true → is_of_item i e ≡ true → count_by (waiting_now past e i) (still_open past) ≡ 0
@@ -120,7 +120,7 @@ none_anew past e i replacing is = count_by-none (waiting_now past e i) (still_op
       | inr other ↦ let its : (x.item.0 == i) ≡ false = other.0 in grind arith
     ]
 
-not_idle : (past : List Entry) (i : ℕ) → is_pending past i ≡ false → unstarted past i ≡ None
+pub not_idle : (past : List Entry) (i : ℕ) → is_pending past i ≡ false → unstarted past i ≡ None
 not_idle past i h = here (is_booked past i) (unstarted past i) h
   where
     here : (b : Bool) (o : Option Queueing) → (b || is_some o) ≡ false → o ≡ None
@@ -130,7 +130,7 @@ not_idle past i h = here (is_booked past i) (unstarted past i) h
 
 -- ---- no more than one is pending
 
-abbrev pending_count : List Entry → ℕ → ℕ
+abbrev pub pending_count : List Entry → ℕ → ℕ
 pending_count past i = count_by (is_unstarted past i) (still_open past) + cond (is_booked past i) 1 0
 
 none_waiting : (s : Layout) (past : List Entry) (e : Entry) (i : ℕ) → is_of_item i e ≡ true → pending_count past i ≤ 1 → Settling past e.reply i → count_by (waiting_now past e i) (still_open past) ≡ 0
@@ -141,7 +141,7 @@ none_waiting s past e i is few (booked was) =
     let less = waiting_was past e i in
     omega arith
 
-booking_after : (past : List Entry) (e : Entry) (i : ℕ) (b : Bool) → (settles e.reply && is_of_item i e) ≡ b → booking (e ∷ past) i ≡ (if b then booking_of e (length past) else booking past i)
+pub booking_after : (past : List Entry) (e : Entry) (i : ℕ) (b : Bool) → (settles e.reply && is_of_item i e) ≡ b → booking (e ∷ past) i ≡ (if b then booking_of e (length past) else booking past i)
 unfolding booking
 booking_after past e i b h = ap (λ c. if c then booking_of e (length past) else booking past i) h
 
@@ -184,20 +184,24 @@ few_settled s past e i legal settled is few =
     let sum = unstarted_count s past e i legal in
     subst (λ b. count_by (is_unstarted (e ∷ past) i) (still_open (e ∷ past)) + cond b 1 0 ≤ 1) (sym books) (omega arith)
 
-few_left : (s : Layout) (past : List Entry) (e : Entry) (i : ℕ) → IsLegal s (e ∷ past) → (settles e.reply && is_of_item i e) ≡ false → pending_count past i ≤ 1 → pending_count (e ∷ past) i ≤ 1
-few_left s past e i legal other few =
+-- an entry that doesn't settle the item makes no more of it pending
+pub no_more_pending : (s : Layout) (past : List Entry) (e : Entry) (i : ℕ) → IsLegal s (e ∷ past) → (settles e.reply && is_of_item i e) ≡ false → pending_count (e ∷ past) i ≤ pending_count past i
+no_more_pending s past e i legal other =
     let less = waiting_was past e i in
     let none = opened_elsewhere past e i (opening past e) refl other in
     let books : is_booked (e ∷ past) i ≡ is_booked past i = ap is_some (booking_after past e i false other) in
     let sum = unstarted_count s past e i legal in
-    subst (λ b. count_by (is_unstarted (e ∷ past) i) (still_open (e ∷ past)) + cond b 1 0 ≤ 1) (sym books) (omega arith)
+    subst (λ b. count_by (is_unstarted (e ∷ past) i) (still_open (e ∷ past)) + cond b 1 0 ≤ pending_count past i) (sym books) (omega arith)
+
+few_left : (s : Layout) (past : List Entry) (e : Entry) (i : ℕ) → IsLegal s (e ∷ past) → (settles e.reply && is_of_item i e) ≡ false → pending_count past i ≤ 1 → pending_count (e ∷ past) i ≤ 1
+few_left s past e i legal other few = let less = no_more_pending s past e i legal other in omega arith
 
 few_more : (s : Layout) (past : List Entry) (e : Entry) (i : ℕ) (a b : Bool) → IsLegal s (e ∷ past) → settles e.reply ≡ a → is_of_item i e ≡ b → pending_count past i ≤ 1 → pending_count (e ∷ past) i ≤ 1
 few_more s past e i true true legal ha hb few = few_settled s past e i legal ha hb few
 few_more s past e i true false legal ha hb few = few_left s past e i legal (ap₂ (λ x y. x && y) ha hb) few
 few_more s past e i false b legal ha hb few = few_left s past e i legal (ap (λ x. x && is_of_item i e) ha) few
 
-pub few_pending : (s : Layout) (past : List Entry) (i : ℕ) → IsLegal s past → count_by (is_unstarted past i) (still_open past) + cond (is_booked past i) 1 0 ≤ 1
+pub few_pending : (s : Layout) (past : List Entry) (i : ℕ) → IsLegal s past → pending_count past i ≤ 1
 unfolding IsLegal booking queueings
 few_pending s [] i legal = omega arith
 few_pending s (e ∷ past) i legal = few_more s past e i (settles e.reply) (is_of_item i e) legal refl refl (few_pending s past i legal.2)

@@ -28,7 +28,7 @@ use Rattle.cmwq_laws.proofs.Fresh.{finish_causes, cancel_causes, unstarted_is}
 
 -- ---- a queueing that has started stays open until it is finished
 
-started_not_cancelled : (s : Layout) (past : List Entry) (e : Entry) (n : ℕ) → IsLegal s (e ∷ past) → is_started past n ≡ true → takes_back n e ≡ false
+pub started_not_cancelled : (s : Layout) (past : List Entry) (e : Entry) (n : ℕ) → IsLegal s (e ∷ past) → is_started past n ≡ true → takes_back n e ≡ false
 started_not_cancelled s past e n legal started = at (takes_back n e) refl
   where
     at : (b : Bool) → takes_back n e ≡ b → b ≡ false

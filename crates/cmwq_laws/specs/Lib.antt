@@ -3,5 +3,8 @@ pub mod Order
 pub mod Endings
 pub mod Pending
 pub mod Headline
+pub mod Illegal
+pub mod Sanity
 pub mod RunSteps
 pub mod Activations
+pub mod Pools

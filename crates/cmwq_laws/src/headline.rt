@@ -1,6 +1,6 @@
 //! What a user of the runtime relies on, in every legal history.
 
-ghost use Rattle.cmwq_laws.specs.Headline.{FlushesEndAfterAllBefore, ItemsRunInOneWorker, NumbersStartOnce, QueueingsStart, RunsAreWithinMaxActive};
+ghost use Rattle.cmwq_laws.specs.Headline.{CancelSyncsSettle, FlushesEndAfterAllBefore, ItemsRunInOneWorker, NumbersStartOnce, QueueingsStart, RunsAreWithinMaxActive};
 
 /// No two workers have runs of one item.
 pub fn items_run_in_one_worker()
@@ -27,6 +27,11 @@ pub fn flushes_end_after_all_before()
     ensures { FlushesEndAfterAllBefore }
 {}
 
+/// A cancel_sync is answered done only where its item neither is pending nor runs after that.
+pub fn cancel_syncs_settle()
+    ensures { CancelSyncsSettle }
+{}
+
 #[cfg(test)]
 mod tests {
     use super::*;
@@ -38,5 +43,6 @@ mod tests {
         queueings_start();
         runs_are_within_max_active();
         flushes_end_after_all_before();
+        cancel_syncs_settle();
     }
 }

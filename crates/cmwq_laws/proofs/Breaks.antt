@@ -1,0 +1,46 @@
+-- Illegal histories that break the laws of legal ones, by computation.
+use Rattle.std.proofs.Common.{◌≡◌, ◌≤◌, true, false, [], ◌∷◌, refl, ap, arith}
+use Rattle.std.specs.List.{IsDistinct}
+use Rattle.cmwq_model.specs.declared.id.WorkerId.{WorkerId}
+use Rattle.cmwq_model.specs.Bookings.{booking}
+use Rattle.cmwq_model.specs.Fate.{is_cancelled}
+use Rattle.cmwq_model.specs.Runs.{last_start, item_start}
+use Rattle.cmwq_model.specs.Queueings.{queueings}
+use Rattle.cmwq_laws.specs.Illegal.{worker, RunInTwoWorkers, StartedTwice, StartedUnqueued, RunBeyondMaxActive, EndedEarly, Unsettled}
+
+false_is_true : false ≡ true → ⊥
+false_is_true h = cc
+
+true_is_false : true ≡ false → ⊥
+true_is_false h = cc
+
+pub run_in_two_workers : RunInTwoWorkers
+unfolding last_start is_cancelled
+run_in_two_workers law =
+    let same : worker 0 ≡ worker 1 = law 0 (worker 0) (worker 1) refl refl in
+    let index : (worker 0).index ≡ (worker 1).index = ap (λ (w : WorkerId). w.index) same in
+    absurd (omega arith)
+
+pub started_twice : StartedTwice
+started_twice law = let twice : 2 ≤ 1 = law 0 in absurd (omega arith)
+
+pub started_unqueued : StartedUnqueued
+unfolding queueings
+started_unqueued law = false_is_true (law.0 0 refl)
+
+pub run_beyond_max_active : RunBeyondMaxActive
+unfolding last_start is_cancelled queueings item_start IsDistinct
+run_beyond_max_active law = let more : 2 ≤ 1 = law 0 0 (worker 0 ∷ worker 1 ∷ []) ((refl, tt), (tt, tt)) (refl, (refl, tt)) in absurd (omega arith)
+
+pub ended_early : EndedEarly
+unfolding queueings is_cancelled item_start
+ended_early = (
+  (λ law. false_is_true ((law.0 1 _ (refl, refl) refl).0 refl)),
+  (λ law. false_is_true ((law.0 1 _ (refl, refl) refl).0 refl)),
+  (λ law. false_is_true ((law.0 1 _ (refl, refl) refl).0 refl)),
+  (λ law. false_is_true ((law.0 1 _ (refl, refl) refl).0 refl)),
+)
+
+pub unsettled : Unsettled
+unfolding queueings is_cancelled item_start booking
+unsettled = ((λ law. true_is_false (law.0 1 0 _ (refl, refl) refl refl).0), (λ law. true_is_false (law.0 2 0 _ (refl, refl) refl refl).1))

@@ -1,0 +1,30 @@
+-- Runs, queueings and bookings of one item keep together: on one queue, and in one pool.
+use Rattle.std.specs.Prelude.{◌≡◌, ℕ, true, List, Some}
+use Rattle.cmwq_model.specs.declared.id.WorkerId.{WorkerId}
+use Rattle.cmwq_model.specs.declared.entry.Entry.{Entry}
+use Rattle.cmwq_model.specs.declared.record.Booking.{Booking}
+use Rattle.cmwq_model.specs.declared.record.Queueing.{Queueing}
+use Rattle.cmwq_model.specs.declared.record.Start.{Start}
+use Rattle.cmwq_model.specs.Layout.{Layout, pool_at}
+use Rattle.cmwq_model.specs.Bookings.{booking}
+use Rattle.cmwq_model.specs.Runs.{run, item_run}
+use Rattle.cmwq_model.specs.Queueings.{is_live, unstarted, queueing_at, queue_of}
+use Rattle.cmwq_model.specs.Legal.{IsLegal}
+
+-- what a worker runs is an open queueing of its pool
+pub record IsRunIn (s : Layout) (past : List Entry) (w : WorkerId) (n : ℕ) : Type 0 where
+  pub queueing : Queueing
+  pub found : queueing_at past n ≡ Some queueing
+  pub live : is_live past queueing ≡ true
+  pub pool : pool_at s queueing.place ≡ w.pool
+
+abbrev pub RunsAreInPools : Type 0
+RunsAreInPools = (s : Layout) (past : List Entry) (w : WorkerId) (n : ℕ) → IsLegal s past → run past w ≡ Some n → IsRunIn s past w n
+
+-- an item that runs is queued again in the pool where it runs
+abbrev pub QueuedWhereItRuns : Type 0
+QueuedWhereItRuns = (s : Layout) (past : List Entry) (i : ℕ) (start : Start) (x : Queueing) → IsLegal s past → item_run past i ≡ Some start → unstarted past i ≡ Some x → pool_at s x.place ≡ start.worker.pool
+
+-- and is booked on the queue of its run
+abbrev pub BookedWhereItRuns : Type 0
+BookedWhereItRuns = (s : Layout) (past : List Entry) (i : ℕ) (start : Start) (b : Booking) → IsLegal s past → item_run past i ≡ Some start → booking past i ≡ Some b → queue_of past start.number ≡ Some b.place.queue.0

@@ -1,0 +1,23 @@
+//! Why the laws are said of legal histories.
+
+ghost use Rattle.cmwq_laws.specs.Illegal.{EndedEarly, RunBeyondMaxActive, RunInTwoWorkers, StartedTwice, StartedUnqueued, Unsettled};
+
+/// Histories that aren't legal break each law of what runs, starts, waits and is cancelled.
+pub fn illegal_histories_break_laws()
+    ensures one_worker { RunInTwoWorkers }
+    ensures one_start { StartedTwice }
+    ensures queued { StartedUnqueued }
+    ensures max_active { RunBeyondMaxActive }
+    ensures waits { EndedEarly }
+    ensures cancels { Unsettled }
+{}
+
+#[cfg(test)]
+mod tests {
+    use super::*;
+
+    #[test]
+    fn it_is_there() {
+        illegal_histories_break_laws();
+    }
+}
