@@ -11,3 +11,6 @@ pub mod FlushSteps
 pub mod FlushReads
 pub mod BarrierSteps
 pub mod BarrierReads
+pub mod PoolReads
+pub mod PoolNext
+pub mod PoolSeats

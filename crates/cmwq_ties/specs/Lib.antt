@@ -2,3 +2,4 @@ pub mod Timers
 pub mod Told
 pub mod FlushBooks
 pub mod BarrierBooks
+pub mod Pools
