@@ -53,7 +53,7 @@ started_open_on s past e i n legal less started =
     spared true false false k = refl
 
 -- what an entry starts is open after it
-no_end : (r : Reply) (n : ℕ) → number_started r ≡ Some n → (number_finished r ≡ None) × (number_cancelled r ≡ None) × (replaces r ≡ false)
+pub no_end : (r : Reply) (n : ℕ) → number_started r ≡ Some n → (number_finished r ≡ None) × (number_cancelled r ≡ None) × (replaces r ≡ false)
 no_end (reply.Started m) n h = (refl, refl, refl)
 no_end (reply.StartedEnlist m x) n h = (refl, refl, refl)
 no_end r n h = cc

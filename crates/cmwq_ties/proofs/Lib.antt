@@ -14,3 +14,4 @@ pub mod BarrierReads
 pub mod PoolReads
 pub mod PoolNext
 pub mod PoolSeats
+pub mod PoolSteps

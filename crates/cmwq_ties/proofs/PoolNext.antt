@@ -1,6 +1,6 @@
 -- The next queueing of a pool, by the runs of its own workers alone.
-use Rattle.std.proofs.Common.{◌≡◌, ◌==◌, ◌<◌, ◌≤◌, ◌+◌, ℕ, zero, suc, Bool, true, false, cond, not, ◌&&◌, ◌||◌, List, [], ◌∷◌, length, map, find, Option, Some, None, refl, sym, ap, ap₂, ◌∙◌, subst, arith, inl, inr, ⊎_elim}
-use Rattle.std.specs.Prelude.{option_map, option_and_then, is_some, if◌then◌else◌}
+use Rattle.std.proofs.Common.{◌≡◌, ◌==◌, ◌<◌, ◌≤◌, ◌+◌, ℕ, zero, suc, Bool, true, false, cond, not, ◌&&◌, ◌||◌, List, [], ◌∷◌, map, find, Option, Some, None, nat_lt, refl, sym, ap, ap₂, ◌∙◌, arith, inl, inr, ⊎_elim}
+use Rattle.std.specs.Prelude.{option_map, is_some}
 use Rattle.std.specs.Option.{option_map_or}
 use Rattle.std.specs.List.{AllByRecursion, list_any, range_with_len}
 use Rattle.std.proofs.lemmas.Bool.{eqb-true, eq-eqb, and_parts, or_cases, ltb-true, cases_eq}
@@ -12,14 +12,14 @@ use Rattle.cmwq_model.specs.declared.id.Who.TheVariants.{Caller, Worker}
 use Rattle.cmwq_model.specs.declared.entry.Entry.{Entry}
 use Rattle.cmwq_model.specs.declared.record.Queueing.{Queueing}
 use Rattle.cmwq_model.specs.declared.record.Start.{Start}
-use Rattle.cmwq_model.specs.Layout.{Layout, indices, fits, may_make, has_numbers}
+use Rattle.cmwq_model.specs.Layout.{Layout, is_workers, indices, may_make, has_numbers}
 use Rattle.cmwq_model.specs.Calls.{is_by, same_who, item_at}
 use Rattle.cmwq_model.specs.Runs.{run, last_start, item_run, item_runs}
-use Rattle.cmwq_model.specs.Queueings.{is_unstarted, unstarted, queueing_at, still_open}
+use Rattle.cmwq_model.specs.Queueings.{is_unstarted, unstarted, still_open}
 use Rattle.cmwq_model.specs.Active.{worklist, next, is_startable}
 use Rattle.cmwq_model.specs.Workers.{worker_at}
 use Rattle.cmwq_model.specs.Legal.{IsLegal}
-use Rattle.cmwq_laws.proofs.RunsActive.{found_known, found_number}
+use Rattle.cmwq_laws.proofs.RunsActive.{found_known}
 use Rattle.cmwq_laws.proofs.ItemSteps.{items_are_run}
 use Rattle.cmwq_laws.proofs.ItemRuns.{runs_are_items, run_is, last_start_cases, now, before, same_worker-true}
 use Rattle.cmwq_laws.proofs.Pools.{unstarted_alone, queued_where_it_runs}
@@ -41,7 +41,7 @@ worker_fits s past e w legal by = of_who e.who (and_parts (may_make s e.who e.ca
     of_who : (who : Who) → may_make s who e.call ≡ true → same_who who (Worker w) ≡ true → w.index < s.workers
     of_who (Caller c) may same = cc
     of_who (Worker v) may same =
-        let less : v.index < s.workers = ltb-true v.index s.workers (and_parts _ _ (and_parts _ _ may).0).1 in
+        let less : v.index < s.workers = ltb-true v.index s.workers (and_parts (nat_lt v.pool.cpu.0 s.cpus) (nat_lt v.index s.workers) (and_parts (nat_lt v.pool.cpu.0 s.cpus && nat_lt v.index s.workers) (is_workers e.call) may).0).1 in
         let is : v.index ≡ w.index = ap (λ (u : WorkerId). u.index) (same_worker-true v w same) in
         omega arith
 
@@ -99,7 +99,7 @@ seat_runs s past p i x legal h = which (run_of s past (worker_at p x) legal)
 run_is_seat : (s : Layout) (past : List Entry) (p : PoolId) (x : Queueing) (start : Start) → IsLegal s past → IsOnList s past p x → item_run past x.item.0 ≡ Some start → runs_item (pool_of s past p).seats x.item.0 ≡ true
 run_is_seat s past p x start legal on is =
     let unstarted_is : unstarted past x.item.0 ≡ Some x = of_in (λ y. is_unstarted past x.item.0 y ≡ true → unstarted past x.item.0 ≡ Some y) (still_open past) x (unstarted_alone s past x.item.0 legal) on.stands
-        (ap₂ (λ a b. a && not b) (eq-eqb x.item.0 x.item.0 refl) on.not_started) in
+    (ap₂ (λ a b. a && not b) (eq-eqb x.item.0 x.item.0 refl) on.not_started) in
     let pool : start.worker.pool ≡ p = sym (queued_where_it_runs s past x.item.0 start x legal is unstarted_is) ∙ on.pool in
     let runs = items_are_run s past x.item.0 start legal is in
     let same : start.worker ≡ worker_at p start.worker.index = ap (λ q. worker_at q start.worker.index) pool in

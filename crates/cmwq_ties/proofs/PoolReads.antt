@@ -1,37 +1,30 @@
 -- What a pool answers is what the definitions say.
-use Rattle.std.proofs.Common.{◌≡◌, ◌==◌, ◌<◌, ◌+◌, ℕ, zero, suc, Bool, true, false, cond, not, ◌&&◌, ◌||◌, List, [], ◌∷◌, length, map, filter, find, count_by, get_or, Option, Some, None, refl, sym, ap, ap₂, ◌∙◌, subst, arith, inl, inr, ⊎_elim}
-use Rattle.std.specs.Prelude.{option_map, option_and_then, is_some, if◌then◌else◌, nat_lt}
+use Rattle.std.proofs.Common.{◌≡◌, ◌==◌, ◌<◌, ◌+◌, ℕ, zero, suc, Bool, true, false, cond, not, ◌&&◌, ◌||◌, List, [], ◌∷◌, map, find, count_by, Option, Some, None, refl, sym, ap, ap₂, ◌∙◌, subst, arith}
+use Rattle.std.specs.Prelude.{option_map, option_and_then, is_some, if◌then◌else◌}
 use Rattle.std.specs.Option.{option_map_or}
 use Rattle.std.specs.List.{AllByRecursion, list_any, range_with_len}
-use Rattle.std.proofs.lemmas.Bool.{eqb-true, eq-eqb, false≢true, true_from_ne_false, false_from_ne_true}
-use Rattle.std.proofs.lemmas.Option.{same_Some}
 use Rattle.std.proofs.lemmas.List.FromFn.{length-map-range_with_len, get_or-map-range_with_len}
 use Rattle.cmwq_model.specs.declared.id.PoolId.{PoolId}
 use Rattle.cmwq_model.specs.declared.id.WorkerId.{WorkerId}
 use Rattle.cmwq_model.specs.declared.entry.Entry.{Entry}
 use Rattle.cmwq_model.specs.declared.record.Queueing.{Queueing}
-use Rattle.cmwq_model.specs.declared.record.Start.{Start}
 use Rattle.cmwq_model.specs.Layout.{Layout, indices, is_intensive, pool_at}
-use Rattle.cmwq_model.specs.Calls.{item_at, same_pool}
+use Rattle.cmwq_model.specs.Calls.{same_pool}
 use Rattle.cmwq_model.specs.Fate.{is_started}
-use Rattle.cmwq_model.specs.Runs.{run, has_run, is_asleep, item_run, item_runs}
-use Rattle.cmwq_model.specs.Queueings.{queueings, still_open, is_live, is_unstarted, unstarted, queueing_at, queue_of, run_queue}
-use Rattle.cmwq_model.specs.Active.{worklist, next, is_startable, is_listed}
+use Rattle.cmwq_model.specs.Runs.{run, has_run, is_asleep}
+use Rattle.cmwq_model.specs.Queueings.{queueings, still_open, is_live, queueing_at, queue_of, run_queue}
+use Rattle.cmwq_model.specs.Active.{worklist, is_listed}
 use Rattle.cmwq_model.specs.Workers.{worker_at, is_enlisted, is_holding, is_idle, is_occupied, is_reserve, is_other_idle, runnable, enlisted_by, has_spare, may_retire}
 use Rattle.cmwq_model.specs.Legal.{IsLegal}
 use Rattle.cmwq_laws.proofs.Lists.{All_map, count_by-cons}
-use Rattle.cmwq_laws.proofs.RunsActive.{found_number, found_known}
-use Rattle.cmwq_laws.proofs.ItemSteps.{items_are_run}
-use Rattle.cmwq_laws.proofs.ItemRuns.{runs_are_items}
-use Rattle.cmwq_laws.proofs.Pools.{runs_are_in_pools, unstarted_alone, queued_where_it_runs, same_pool-true}
+use Rattle.cmwq_laws.proofs.RunsActive.{found_number}
+use Rattle.cmwq_laws.proofs.Pools.{runs_are_in_pools, same_pool-true}
 use Rattle.cmwq_laws.proofs.Worklist.{worklist_is}
 use Rattle.cmwq_pool.specs.declared.task.Task.{Task}
 use Rattle.cmwq_pool.specs.declared.seat.Seat.{Seat}
-use Rattle.cmwq_pool.specs.Seats.{no_seat, seat_at, run_number, is_of, is_run_of, runs_item, has_run as seat_has_run, is_holding as seat_holds, is_idle as seat_is_idle, is_occupied as seat_is_occupied, is_reserve as seat_is_reserve, is_reserve_at, is_other_idle as is_other_seat, runnable as seats_runnable, enlisted_by as seats_enlisted_by, may_retire as seat_may_retire, indices as seat_indices}
-use Rattle.cmwq_pool.specs.Lineup.{is_startable as is_startable_task, next_task, next as lineup_next}
-use Rattle.cmwq_ties.specs.Told.{number_of_queueing}
+use Rattle.cmwq_pool.specs.Seats.{no_seat, seat_at, is_holding as seat_holds, is_idle as seat_is_idle, is_occupied as seat_is_occupied, is_reserve as seat_is_reserve, is_reserve_at, is_other_idle as is_other_seat, runnable as seats_runnable, enlisted_by as seats_enlisted_by, may_retire as seat_may_retire, indices as seat_indices}
 use Rattle.cmwq_ties.specs.Pools.{task_for, run_task, seat_of, pool_of, IsSeatOf}
-use Rattle.cmwq_ties.proofs.Members.{In, of_in, all_in, filter_in, contained_in}
+use Rattle.cmwq_ties.proofs.Members.{In, filter_in, contained_in}
 
 -- ---- what a worker runs
 

@@ -1,9 +1,8 @@
 -- The seats of a pool, entry by entry.
-use Rattle.std.proofs.Common.{◌≡◌, ◌≢◌, ◌==◌, ◌<◌, ◌≤◌, ◌+◌, ℕ, Bool, true, false, cond, not, ◌&&◌, ◌||◌, List, [], ◌∷◌, length, map, find, get_or, set, Option, Some, None, refl, sym, ap, ap₂, ◌∙◌, subst, arith, ⊎_elim}
+use Rattle.std.proofs.Common.{◌≡◌, ◌≢◌, ◌==◌, ◌<◌, ◌+◌, ℕ, Bool, true, false, not, ◌&&◌, ◌||◌, List, ◌∷◌, map, find, set, Option, Some, None, refl, sym, ap, ap₂, ◌∙◌, subst, arith, ⊎_elim}
 use Rattle.std.specs.Prelude.{option_map, option_and_then, if◌then◌else◌}
-use Rattle.std.specs.List.{AllByRecursion, range_with_len, list_any}
+use Rattle.std.specs.List.{list_any}
 use Rattle.std.proofs.lemmas.Bool.{eq-eqb, ne_eqb, cases_eq, and_parts}
-use Rattle.std.proofs.lemmas.Option.{same_Some}
 use Rattle.std.proofs.lemmas.List.FromFn.{get_or-map-range_with_len}
 use Rattle.cmwq_model.specs.declared.id.PoolId.{PoolId}
 use Rattle.cmwq_model.specs.declared.id.WorkerId.{WorkerId}
@@ -14,17 +13,17 @@ use Rattle.cmwq_model.specs.declared.reply.Reply.TheVariants as reply
 use Rattle.cmwq_model.specs.declared.entry.Entry.{Entry}
 use Rattle.cmwq_model.specs.declared.record.Queueing.{Queueing}
 use Rattle.cmwq_model.specs.Layout.{Layout, indices}
-use Rattle.cmwq_model.specs.Calls.{is_at, is_by, same_pool, same_worker, same_who}
+use Rattle.cmwq_model.specs.Calls.{is_at, is_by, same_pool, same_who}
 use Rattle.cmwq_model.specs.Fate.{number_started}
 use Rattle.cmwq_model.specs.Runs.{run, is_asleep, asleep_after}
-use Rattle.cmwq_model.specs.Queueings.{queueing_at, queueings}
+use Rattle.cmwq_model.specs.Queueings.{queueing_at}
 use Rattle.cmwq_model.specs.Active.{next}
 use Rattle.cmwq_model.specs.Workers.{worker_at, index_enlisted, is_in_pool, enlists, is_retired, is_enlisted, is_other_idle, is_reserve, enlisted_by}
-use Rattle.cmwq_model.specs.Answer.{answer, started as started_reply}
+use Rattle.cmwq_model.specs.Answer.{started as started_reply}
 use Rattle.cmwq_model.specs.Legal.{IsLegal}
 use Rattle.cmwq_laws.specs.RunSteps.{run_after}
 use Rattle.cmwq_laws.proofs.Inversions.{answer_is}
-use Rattle.cmwq_laws.proofs.Starts.{StartsNext, starts_next}
+use Rattle.cmwq_laws.proofs.Starts.{starts_next}
 use Rattle.cmwq_laws.proofs.StartsListed.{IsFound, queueings_found, queueing_at-older}
 use Rattle.cmwq_laws.proofs.Activated.{next_holds}
 use Rattle.cmwq_laws.proofs.RunSteps.{workers_run_on}
@@ -32,12 +31,12 @@ use Rattle.cmwq_laws.proofs.Width.{same_worker_itself}
 use Rattle.cmwq_laws.proofs.Pools.{same_pool-true}
 use Rattle.cmwq_pool.specs.declared.task.Task.{Task}
 use Rattle.cmwq_pool.specs.declared.seat.Seat.{Seat}
-use Rattle.cmwq_pool.specs.Seats.{no_seat, new_seat, seat_at, with_seat, with_enlisted, seats_started, seat_running, seat_enlisted, seat_asleep, seat_awake, seat_free, seat_retired, enlisted_by as seats_enlisted_by}
-use Rattle.cmwq_pool.specs.Lineup.{Lineup, next_task, started, reseated}
+use Rattle.cmwq_pool.specs.Seats.{no_seat, seat_at, with_seat, with_enlisted, seat_running, seat_enlisted, seat_asleep, seat_awake, seat_free, seat_retired, enlisted_by as seats_enlisted_by}
+use Rattle.cmwq_pool.specs.Lineup.{next_task, reseated}
 use Rattle.cmwq_ties.specs.Pools.{task_for, run_task, seat_of, pool_of, start_next, told_reply, told_worker}
-use Rattle.cmwq_ties.proofs.Members.{In, of_in, found}
+use Rattle.cmwq_ties.proofs.Members.{of_in, found}
 use Rattle.cmwq_ties.proofs.TimerSteps.{set_row, same_rows}
-use Rattle.cmwq_ties.proofs.PoolReads.{RunOf, idle, busy, run_of, run_task_of, run_task_none, seat_is, range_below, starts_enlist_alike}
+use Rattle.cmwq_ties.proofs.PoolReads.{RunOf, idle, busy, run_of, run_task_none, seat_is, range_below, starts_enlist_alike}
 use Rattle.cmwq_ties.proofs.PoolNext.{worker_fits, next_task_is}
 
 -- ---- a run that goes on
@@ -71,10 +70,10 @@ other_seat s past e p x a legal by en = seat_like (seat_of s (e ∷ past) p x) (
 own_after : Layout → List Entry → WorkerId → Reply → Option Task → Seat
 own_after s past w r o = record { enlisted = is_at (index_enlisted r) w.index || (not (is_retired r) && is_enlisted past w); run = o; asleep = asleep_after r (is_asleep past w) }
 
-by_itself : (e : Entry) (w : WorkerId) → e.who ≡ Worker w → is_by (Worker w) e ≡ true
+pub by_itself : (e : Entry) (w : WorkerId) → e.who ≡ Worker w → is_by (Worker w) e ≡ true
 by_itself e w who = ap (λ x. same_who x (Worker w)) who ∙ same_worker_itself w
 
-pool_itself : (w : WorkerId) → same_pool w.pool w.pool ≡ true
+pub pool_itself : (w : WorkerId) → same_pool w.pool w.pool ≡ true
 pool_itself w = (and_parts (same_pool w.pool w.pool) (w.index == w.index) (same_worker_itself w)).0
 
 own_seat : (s : Layout) (past : List Entry) (e : Entry) (w : WorkerId) (r : Reply) → IsLegal s (e ∷ past) → e.who ≡ Worker w → e.reply ≡ r → seat_of s (e ∷ past) w.pool w.index ≡ own_after s past w r (run_task s (e ∷ past) w)
@@ -117,11 +116,12 @@ own_changes s past e w r change legal who is none own =
 
 -- ---- a start
 
-record StartsTask (s : Layout) (past : List Entry) (e : Entry) (w : WorkerId) (n : ℕ) (o : Option ℕ) : Type 0 where
-  queueing : Queueing
-  task : next_task (pool_of s past w.pool) ≡ Some (task_for s queueing)
-  runs : run_task s (e ∷ past) w ≡ Some (task_for s queueing)
-  enlists : seats_enlisted_by (pool_of s past w.pool).seats w.index ≡ o
+pub record StartsTask (s : Layout) (past : List Entry) (e : Entry) (w : WorkerId) (n : ℕ) (o : Option ℕ) : Type 0 where
+  pub queueing : Queueing
+  pub number : queueing.number ≡ n
+  pub task : next_task (pool_of s past w.pool) ≡ Some (task_for s queueing)
+  pub runs : run_task s (e ∷ past) w ≡ Some (task_for s queueing)
+  pub enlists : seats_enlisted_by (pool_of s past w.pool).seats w.index ≡ o
 
 started_like : (n m : ℕ) (o q : Option ℕ) → started_reply n o ≡ started_reply m q → o ≡ q
 started_like n m None None h = refl
@@ -137,7 +137,7 @@ after_start : (n : ℕ) (o q : Option ℕ) → run_after (started_reply n o) q �
 after_start n None q = refl
 after_start n (Some x) q = refl
 
-starts_task : (s : Layout) (past : List Entry) (e : Entry) (w : WorkerId) (n : ℕ) (o : Option ℕ) → IsLegal s (e ∷ past) → e.who ≡ Worker w → e.reply ≡ started_reply n o → StartsTask s past e w n o
+pub starts_task : (s : Layout) (past : List Entry) (e : Entry) (w : WorkerId) (n : ℕ) (o : Option ℕ) → IsLegal s (e ∷ past) → e.who ≡ Worker w → e.reply ≡ started_reply n o → StartsTask s past e w n o
 unfolding IsLegal
 starts_task s past e w n o legal who is =
     let answered = answer_is s past e legal in
@@ -148,6 +148,7 @@ starts_task s past e w n o legal who is =
     let at : queueing_at past n ≡ Some st.queueing = ap (queueing_at past) (sym st.number) ∙ (next_holds s IsFound (λ f h x k. queueing_at-older f h x.number x k) queueings_found past w.pool st.queueing next_is).holds in
     record {
       queueing = st.queueing;
+      number = st.number;
       task = next_task_is s past w.pool legal.2 ∙ ap (option_map (task_for s)) next_is;
       runs = ap (λ q. option_map (task_for s) (option_and_then (queueing_at (e ∷ past)) q)) (own_run s past e w (started_reply n o) legal who is ∙ after_start n o (run past w)) ∙ ap (option_map (task_for s)) (queueing_at-older e past n st.queueing at);
       enlists = starts_enlist_alike s past w legal.2 ∙ started_like n n (enlisted_by s past w) o (subst (λ (v : WorkerId). started_reply n (enlisted_by s past v) ≡ started_reply n o) same (sym st.reply ∙ sym answered ∙ is));

@@ -1,5 +1,5 @@
 -- A pool follows its worklist, and the runs and the enlisting of its workers.
-use Rattle.std.specs.Prelude.{◌≡◌, ℕ, ◌<◌, ◌&&◌, not, if◌then◌else◌, List, [], ◌∷◌, length, map, filter, fold, Option, Some, None, option_map, option_and_then}
+use Rattle.std.specs.Prelude.{◌≡◌, ℕ, ◌<◌, ◌&&◌, not, if◌then◌else◌, List, [], ◌∷◌, map, filter, fold, Option, Some, None, option_map, option_and_then}
 use Rattle.cmwq_model.specs.declared.id.PoolId.{PoolId}
 use Rattle.cmwq_model.specs.declared.id.WorkerId.{WorkerId}
 use Rattle.cmwq_model.specs.declared.id.Who.{Who}

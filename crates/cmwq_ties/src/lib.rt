@@ -4,6 +4,7 @@
 
 mod barrier_books;
 mod flush_books;
+mod pools;
 mod timers;
 mod told;
 
@@ -13,6 +14,10 @@ pub use barrier_books::{
 pub use flush_books::{
     draining_while_drains_stand, drains_wait_for_least_open, flushes_at_first, flushes_follow,
     flushes_wait_for_least_open, ready_flushes_wait_for_nothing,
+};
+pub use pools::{
+    idle_retire_alike, nexts_are_next, pools_at_first, pools_follow, runnables_are_runnable,
+    seats_are_workers, starts_enlist_alike,
 };
 pub use timers::{
     bookings_set_timers, first_timer_is_first_due, no_timer_is_none_due, no_timers_at_first,
