@@ -34,6 +34,13 @@ impl Timers {
         })
     }
 
+    /// How many items there are. Their numbers are below it.
+    pub fn items(&self) -> u16
+        ensures { result ≡ length self.now }
+    {
+        self.rows.len() as u16
+    }
+
     /// Books an item for the tick `due`, in the place of any booking that it had (`add_timer_on`, `mod_timer`).
     /// `at` is the number of the entry that books it.
     pub fn book(&mut self, item: ItemId, queue: QueueId, due: u64, at: Number)
