@@ -3,7 +3,8 @@ use Rattle.std.proofs.Common.{◌≡◌, ◌≤◌, ◌+◌, ◌==◌, ℕ, Bool
 use Rattle.std.specs.Prelude.{is_some, if◌then◌else◌, option_and_then, option_map}
 use Rattle.std.specs.Option.{option_or}
 use Rattle.std.specs.List.{list_any}
-use Rattle.std.proofs.lemmas.Bool.{eq-eqb}
+use Rattle.std.proofs.Math.Bool.{or-false}
+use Rattle.std.proofs.lemmas.Bool.{or_parts, or_right, eq-eqb}
 use Rattle.std.proofs.lemmas.List.Folds.{list_any-append}
 use Rattle.std.proofs.lemmas.List.Elements.{filter-append}
 use Rattle.cmwq_model.specs.declared.id.Who.{Who}
@@ -25,16 +26,13 @@ use Rattle.cmwq_laws.proofs.Lists.{count_by-none, count_by-filter}
 use Rattle.cmwq_laws.proofs.Filters.{count_none, none_found}
 use Rattle.cmwq_laws.proofs.Causes.{Cause, IsFree, cause_of}
 use Rattle.cmwq_laws.proofs.Causes as cause
-use Rattle.cmwq_laws.proofs.Pending.{pending_count, no_more_pending, waiting_now, unstarted_count, waiting_was, none_unstarted, not_idle, booking_after, stands_booked, due_stands, of_item, booked_or_unstarted, one_unstarted}
+use Rattle.cmwq_laws.proofs.Standing.{booking_after, due_own}
+use Rattle.cmwq_laws.proofs.Pending.{pending_count, no_more_pending, waiting_now, unstarted_count, waiting_was, none_unstarted, not_idle, of_item, booked_or_unstarted, one_unstarted}
 
 -- ---- not pending, as a count
 
 not_booked : (past : List Entry) (i : ℕ) → is_pending past i ≡ false → is_booked past i ≡ false
-not_booked past i h = here (is_booked past i) (is_some (unstarted past i)) h
-  where
-    here : (a b : Bool) → (a || b) ≡ false → a ≡ false
-    here true b h = cc
-    here false b h = refl
+not_booked past i h = (or_parts (is_booked past i) (is_some (unstarted past i)) h).0
 
 none_pending : (past : List Entry) (i : ℕ) → is_pending past i ≡ false → pending_count past i ≡ 0
 none_pending past i h =
@@ -77,7 +75,7 @@ settles_none s past who c r i (cause.modified_booked w j q d t some free none) h
 settles_none s past who c r i (cause.modified_again w j q d t zero free some) h k held idle = cancelling_free past i j.0 free k held
 settles_none s past who c r i (cause.modified_rebooked w j q d t some free was) h k held idle = cancelling_free past i j.0 free k held
 settles_none s past who c r i (cause.unbooked w j none was) h k held idle = booked_idle past i j.0 k was idle
-settles_none s past who c r i (cause.fires w b due) h k held idle = booked_idle past i b.item.0 k (stands_booked past b (due_stands past b due)) idle
+settles_none s past who c r i (cause.fires w b due) h k held idle = booked_idle past i b.item.0 k (ap is_some (due_own past b due)) idle
 settles_none s past who c r i (cause.delayed_queued w j free shut was) h k held idle = booked_idle past i j.0 k was idle
 settles_none s past who c r i (cause.sync_unbooked w j free none was) h k held idle = booked_idle past i j.0 k was idle
 settles_none s past who c r i other h k held idle = cc
@@ -167,11 +165,7 @@ module _ {X : Type 0} where
       either true b c f h = refl
       either false b c f h = f h
   any_head p x xs ys true false both rest h = let bad : false ≡ true = both refl in cc
-  any_head p x xs ys false true both rest h = right (p x) (list_any p ys) (rest h)
-    where
-      right : (a b : Bool) → b ≡ true → (a || b) ≡ true
-      right true b h = refl
-      right false b h = h
+  any_head p x xs ys false true both rest h = or_right (p x) (list_any p ys) (rest h)
   any_head p x xs ys false false both rest h = rest h
 
   any_wider : (p f g : X → Bool) (xs : List X) → ((x : X) → f x ≡ true → g x ≡ true) → list_any p (filter f xs) ≡ true → list_any p (filter g xs) ≡ true
@@ -192,11 +186,7 @@ given_cancels past e i true (Worker w) gives h = cc
 given_cancels past e i true (Caller c) gives h = here (is_unended (e ∷ past) (record { caller = c; call = e.call; number = length past })) h
   where
     here : (b : Bool) → list_any (is_cancel_sync_of i) (cond b (record { caller = c; call = e.call; number = length past } ∷ []) []) ≡ true → Cancelling past e i
-    here true h = begins (first (cancels_sync i e.call) h) gives
-      where
-        first : (a : Bool) → (a || false) ≡ true → a ≡ true
-        first true h = refl
-        first false h = cc
+    here true h = begins (sym (or-false (cancels_sync i e.call)) ∙ h) gives
     here false h = cc
 
 cancelling_cases : (e : Entry) (past : List Entry) (i : ℕ) → is_cancelling (e ∷ past) i ≡ true → Cancelling past e i

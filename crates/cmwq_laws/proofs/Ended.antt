@@ -24,8 +24,7 @@ use Rattle.cmwq_laws.proofs.StartsListed.{IsFound, queueings_found}
 use Rattle.cmwq_laws.proofs.RunsActive.{found_number, run_is_active}
 use Rattle.cmwq_laws.proofs.Width.{find-filter}
 use Rattle.cmwq_laws.proofs.Pending.{few_pending}
-use Rattle.cmwq_laws.proofs.Causes.{cause_of}
-use Rattle.cmwq_laws.proofs.Fresh.{finish_causes, cancel_causes, unstarted_is}
+use Rattle.cmwq_laws.proofs.Fresh.{finishes_run, takes_back_unstarted, unstarted_is}
 
 -- ---- one queueing at most has a number
 
@@ -82,7 +81,7 @@ number_is : (past : List Entry) (e : Entry) (f c o : Option ℕ) (r : Bool) → 
 number_is past e f c o r hf hc hr ho = ap₂ (λ x y. ended_number past x y (replaces e.reply) (item_of e)) hf hc ∙ ap₂ (λ x y. ended_number past f c x y) hr ho
 
 -- an open queueing that is found by its number is the first of the open ones with it
-open_found : (past : List Entry) (n : ℕ) (x : Queueing) → queueing_at past n ≡ Some x → is_live past x ≡ true → option_map (λ (y : Queueing). y.number) (find (has_number n) (still_open past)) ≡ Some n
+pub open_found : (past : List Entry) (n : ℕ) (x : Queueing) → queueing_at past n ≡ Some x → is_live past x ≡ true → option_map (λ (y : Queueing). y.number) (find (has_number n) (still_open past)) ≡ Some n
 open_found past n x found live = ap (option_map (λ (y : Queueing). y.number)) (find-filter (has_number n) (is_live past) x (queueings past) found live) ∙ ap Some (found_number past n x found)
 
 number_same : (m n : ℕ) → (m == n) ≡ (n == m)
@@ -91,7 +90,7 @@ number_same m n = grind (arith, nat_tests)
 ended_finished : (s : Layout) (past : List Entry) (e : Entry) (m : ℕ) → IsLegal s (e ∷ past) → number_finished e.reply ≡ Some m → number_cancelled e.reply ≡ None → replaces e.reply ≡ false → EndTest past e
 unfolding IsLegal
 ended_finished s past e m legal hf hc hr =
-    let f = finish_causes m (cause_of s past e legal) hf in
+    let f = finishes_run s past e m legal hf in
     let r = run_is_active s past f.worker m legal.2 f.is_run in
     let live : is_live past r.queueing ≡ true = active_live s past r.queueing r.active in
     record {
@@ -110,7 +109,7 @@ unstarted_found past i x h = (find_holds (IsFound past) (is_unstarted past i) (s
 
 ended_cancelled : (s : Layout) (past : List Entry) (e : Entry) (m : ℕ) → IsLegal s (e ∷ past) → number_finished e.reply ≡ None → number_cancelled e.reply ≡ Some m → replaces e.reply ≡ false → EndTest past e
 ended_cancelled s past e m legal hf hc hr =
-    let f = cancel_causes m (cause_of s past e legal) hc in
+    let f = takes_back_unstarted s past e m legal hc in
     let found = subst (λ n. queueing_at past n ≡ Some f.queueing) f.number (unstarted_found past f.item f.queueing f.is_unstarted) in
     record {
       test = has_number m;

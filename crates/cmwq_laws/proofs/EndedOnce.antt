@@ -1,6 +1,8 @@
 -- What was cancelled was never started, and what is finished was started.
 use Rattle.std.proofs.Common.{◌≡◌, ℕ, Bool, true, false, ◌&&◌, ◌||◌, List, [], ◌∷◌, length, Option, Some, None, option_to_list, refl, sym, ap, ap₂, ◌∙◌, arith}
 use Rattle.std.specs.List.{AllByRecursion}
+use Rattle.std.proofs.Math.Bool.{and-false}
+use Rattle.std.proofs.lemmas.Bool.{or_right}
 use Rattle.cmwq_model.specs.declared.entry.Entry.{Entry}
 use Rattle.cmwq_model.specs.declared.record.Queueing.{Queueing}
 use Rattle.cmwq_model.specs.Layout.{Layout}
@@ -13,8 +15,7 @@ use Rattle.cmwq_laws.proofs.Rising.{opening_number}
 use Rattle.cmwq_laws.proofs.Entries.{IsKnown, queueings_known}
 use Rattle.cmwq_laws.proofs.ItemRuns.{run_is}
 use Rattle.cmwq_laws.proofs.OneWorker.{is_at-true}
-use Rattle.cmwq_laws.proofs.Causes.{cause_of}
-use Rattle.cmwq_laws.proofs.Fresh.{finish_causes, open_at_once}
+use Rattle.cmwq_laws.proofs.Fresh.{finishes_run, open_at_once}
 use Rattle.cmwq_laws.proofs.RunSteps.{started_not_cancelled, started_open, last_started}
 
 open_uncancelled : (past : List Entry) (i n : ℕ) → is_open past i n ≡ true → is_cancelled past i n ≡ false
@@ -32,11 +33,7 @@ start_spares s past e x legal known spared = here (starts x.number e) (is_starte
     here : (a b : Bool) → starts x.number e ≡ a → is_started past x.number ≡ b → (b && is_cancelled past x.item.0 x.number) ≡ false → is_started_cancelled (e ∷ past) x ≡ false
     here true b ha hb h =
         let spared = open_uncancelled (e ∷ past) x.item.0 x.number (started_open s past e x.item.0 x.number legal (is_at-true (number_started e.reply) x.number ha) known.item) in
-        ap (λ c. is_started (e ∷ past) x.number && c) spared ∙ none (is_started (e ∷ past) x.number)
-      where
-        none : (b : Bool) → (b && false) ≡ false
-        none true = refl
-        none false = refl
+        ap (λ c. is_started (e ∷ past) x.number && c) spared ∙ and-false (is_started (e ∷ past) x.number)
     here false true ha hb h = let still = uncancelled_more s past e x.item.0 x.number legal hb h in ap₂ (λ a c. (a || is_started past x.number) && c) ha still ∙ ap (λ b. b && false) hb
     here false false ha hb h = ap₂ (λ a b. (a || b) && is_cancelled (e ∷ past) x.item.0 x.number) ha hb
 
@@ -45,17 +42,13 @@ opened_spared s past e None legal h = tt
 opened_spared s past e (Some x) legal h =
     (ap (is_cancelled (e ∷ past) x.item.0) (opening_number past e x h) ∙ open_uncancelled (e ∷ past) x.item.0 (length past) (open_at_once s past e x.item.0 legal), tt)
 
-neither : (a b : Bool) → b ≡ false → (a && b) ≡ false
-neither true b h = h
-neither false b h = refl
-
 pub cancelled_never_start : (s : Layout) (past : List Entry) → IsLegal s past → AllByRecursion (λ x. is_started_cancelled past x ≡ false) (queueings past)
 unfolding IsLegal queueings
 cancelled_never_start s [] legal = tt
 cancelled_never_start s (e ∷ past) legal =
     All_append (λ x. is_started_cancelled (e ∷ past) x ≡ false) (queueings past) (option_to_list (opening past e))
     (All_both (IsKnown past) (λ x. is_started_cancelled past x ≡ false) (λ x. is_started_cancelled (e ∷ past) x ≡ false) (queueings past) (λ x known spared. start_spares s past e x legal known spared) (queueings_known past) (cancelled_never_start s past legal.2))
-    (All_map (λ x. is_cancelled (e ∷ past) x.item.0 x.number ≡ false) (λ x. is_started_cancelled (e ∷ past) x ≡ false) (option_to_list (opening past e)) (λ x h. neither (is_started (e ∷ past) x.number) (is_cancelled (e ∷ past) x.item.0 x.number) h)
+    (All_map (λ x. is_cancelled (e ∷ past) x.item.0 x.number ≡ false) (λ x. is_started_cancelled (e ∷ past) x ≡ false) (option_to_list (opening past e)) (λ x h. ap (λ b. is_started (e ∷ past) x.number && b) h ∙ and-false (is_started (e ∷ past) x.number))
     (opened_spared s past e (opening past e) legal refl))
 
 -- ---- what is finished was started
@@ -65,15 +58,11 @@ unfolding IsLegal
 finished_started s [] n legal h = cc
 finished_started s (e ∷ past) n legal h = here (finishes n e) refl h (finished_started s past n legal.2)
   where
-    more : (b : Bool) → is_started past n ≡ true → (b || is_started past n) ≡ true
-    more true k = refl
-    more false k = k
-
     here : (b : Bool) → finishes n e ≡ b → (b || is_finished past n) ≡ true → (is_finished past n ≡ true → is_started past n ≡ true) → is_started (e ∷ past) n ≡ true
     here true hb k earlier =
-        let f = finish_causes n (cause_of s past e legal) (is_at-true (number_finished e.reply) n hb) in
-        more (starts n e) (last_started past f.worker n (run_is past f.worker n f.is_run).last)
-    here false hb k earlier = more (starts n e) (earlier k)
+        let f = finishes_run s past e n legal (is_at-true (number_finished e.reply) n hb) in
+        or_right (starts n e) (is_started past n) (last_started past f.worker n (run_is past f.worker n f.is_run).last)
+    here false hb k earlier = or_right (starts n e) (is_started past n) (earlier k)
 
 pub queueings_end_once : (s : Layout) (past : List Entry) → IsLegal s past → AllByRecursion (λ x. is_ended_twice past x ≡ false) (queueings past)
 queueings_end_once s past legal = All_map (λ x. is_started_cancelled past x ≡ false) (λ x. is_ended_twice past x ≡ false) (queueings past) once (cancelled_never_start s past legal)

@@ -1,13 +1,24 @@
 -- Filtered lists.
 use Rattle.std.proofs.Common.{ℕ, ◌≤◌, ◌+◌, count_by, find, Some, None, option_to_list, arith, ◌≡◌, Bool, true, false, cond, ◌&&◌, List, [], ◌∷◌, filter, refl, sym, ap, ap₂, ◌∙◌}
 use Rattle.std.specs.List.{AllByRecursion}
-use Rattle.cmwq_laws.proofs.Lists.{count_by-cons}
+use Rattle.cmwq_laws.proofs.Lists.{All_map, All_each, count_by-cons}
 
 count_head : (m n : ℕ) (a b : Bool) → (a ≡ true → b ≡ true) → m ≤ n → cond a 1 0 + m ≤ cond b 1 0 + n
 count_head m n true true h less = omega arith
 count_head m n true false h less = let bad : false ≡ true = h refl in cc
 count_head m n false true h less = omega arith
 count_head m n false false h less = omega arith
+
+fewer_here : (m n : ℕ) (a b : Bool) → a ≡ false → b ≡ true → m ≤ n → (cond a 1 0 + m) + 1 ≤ cond b 1 0 + n
+fewer_here m n true b ha hb less = cc
+fewer_here m n false true ha hb less = omega arith
+fewer_here m n false false ha hb less = cc
+
+fewer_more : (m n : ℕ) (a b : Bool) → (a ≡ true → b ≡ true) → m + 1 ≤ n → (cond a 1 0 + m) + 1 ≤ cond b 1 0 + n
+fewer_more m n true true h less = omega arith
+fewer_more m n true false h less = let bad : false ≡ true = h refl in cc
+fewer_more m n false true h less = omega arith
+fewer_more m n false false h less = omega arith
 
 module _ {X : Type 0} where
   filter_head : (p : X → Bool) (x : X) (xs : List X) (b : Bool) → filter p (cond b (x ∷ xs) xs) ≡ cond (b && p x) (x ∷ filter p xs) (filter p xs)
@@ -48,6 +59,14 @@ module _ {X : Type 0} where
       let left = count_by-cons p x xs in
       let right = count_by-cons q x xs in
       omega arith
+
+  -- and fewer, where an element passes the wider test alone
+  pub count_by-fewer : (xs : List X) → AllByRecursion (λ x. (p q : X → Bool) → ((y : X) → p y ≡ true → q y ≡ true) → p x ≡ false → q x ≡ true → count_by p xs + 1 ≤ count_by q xs) xs
+  count_by-fewer [] = tt
+  count_by-fewer (x ∷ xs) = (
+    λ p q h fails passes. let more = fewer_here (count_by p xs) (count_by q xs) (p x) (q x) fails passes (count_by-wider p q xs (All_each _ xs h)) in let left = count_by-cons p x xs in let right = count_by-cons q x xs in omega arith,
+    All_map _ _ xs (λ y earlier p q h fails passes. let more = fewer_more (count_by p xs) (count_by q xs) (p x) (q x) (h x) (earlier p q h fails passes) in let left = count_by-cons p x xs in let right = count_by-cons q x xs in omega arith) (count_by-fewer xs),
+  )
 
   -- where at most one passes, those that pass are the first that does
   none_passes : (p : X → Bool) (x : X) (xs : List X) (b : Bool) → p x ≡ b → cond b 1 0 + count_by p xs ≡ 0 → (count_by p xs ≡ 0 → AllByRecursion (λ y. p y ≡ false) xs) → AllByRecursion (λ y. p y ≡ false) (x ∷ xs)

@@ -1,53 +1,28 @@
 -- Numbers that replies speak of are those of older entries, so of a number that is still to come nothing was told.
-use Rattle.std.proofs.Common.{◌≡◌, ◌<◌, ◌≤◌, ℕ, true, false, ◌||◌, List, [], ◌∷◌, length, Option, Some, None, nat_lt, refl, ap₂, ◌∙◌, subst, arith}
+use Rattle.std.proofs.Common.{◌≡◌, ◌<◌, ◌≤◌, ℕ, true, false, ◌||◌, List, [], ◌∷◌, length, Option, Some, None, nat_lt, refl, ap₂, subst, arith}
 use Rattle.std.proofs.lemmas.Bool.{lt-ltb, le-ltb, eqb-true}
 use Rattle.std.proofs.lemmas.Bool.Decides.{nat_tests}
 use Rattle.std.specs.List.{AllByRecursion}
-use Rattle.cmwq_model.specs.declared.id.WorkerId.{WorkerId}
-use Rattle.cmwq_model.specs.declared.id.Who.{Who}
-use Rattle.cmwq_model.specs.declared.id.Who.TheVariants.{Worker}
-use Rattle.cmwq_model.specs.declared.call.Call.{Call}
-use Rattle.cmwq_model.specs.declared.reply.Reply.{Reply}
 use Rattle.cmwq_model.specs.declared.entry.Entry.{Entry}
 use Rattle.cmwq_model.specs.declared.record.Queueing.{Queueing}
 use Rattle.cmwq_model.specs.Layout.{Layout}
-use Rattle.cmwq_model.specs.Calls.{is_at, item_called}
+use Rattle.cmwq_model.specs.Calls.{is_at}
 use Rattle.cmwq_model.specs.Fate.{number_started, number_finished, number_cancelled, is_started, is_finished, is_cancelled, is_open}
-use Rattle.cmwq_model.specs.Runs.{run, runs_awake}
 use Rattle.cmwq_model.specs.Queueings.{queueings, is_live, still_open, unstarted, is_unstarted}
 use Rattle.cmwq_model.specs.Legal.{IsLegal}
 use Rattle.cmwq_laws.proofs.Lists.{All_map, All_filter}
 use Rattle.cmwq_laws.proofs.Entries.{IsKnown, queueings_known}
 use Rattle.cmwq_laws.proofs.Activated.{find_holds}
 use Rattle.cmwq_laws.proofs.ItemRuns.{run_is, started_older, starts_known}
-use Rattle.cmwq_laws.proofs.Causes.{Cause, cause_of}
-use Rattle.cmwq_laws.proofs.Causes as cause
+use Rattle.cmwq_laws.specs.Reasons.{FinishesRun, TakesBack}
+use Rattle.cmwq_laws.proofs.Causes.{cause_of}
+use Rattle.cmwq_laws.proofs.Reasons.{finish_reason, cancel_reason}
 
--- ---- what is finished is what the worker runs, awake
+pub finishes_run : (s : Layout) (past : List Entry) (e : Entry) (n : ℕ) → IsLegal s (e ∷ past) → number_finished e.reply ≡ Some n → FinishesRun past e.who e.call n
+finishes_run s past e n legal h = finish_reason s past e.who e.call e.reply n (cause_of s past e legal) h
 
-pub record FinishesRun (past : List Entry) (who : Who) (n : ℕ) : Type 0 where
-  pub worker : WorkerId
-  pub by_worker : who ≡ Worker worker
-  pub awake : runs_awake past worker ≡ true
-  pub is_run : run past worker ≡ Some n
-
-pub finish_causes : {s : Layout} {past : List Entry} {who : Who} {c : Call} {r : Reply} (n : ℕ) → Cause s past who c r → number_finished r ≡ Some n → FinishesRun past who n
-finish_causes n (cause.finishes w m awake runs) h = record { worker = w; by_worker = refl; awake = awake; is_run = runs ∙ h }
-finish_causes n other h = cc
-
--- ---- what is taken back is the item's unstarted queueing
-
-pub record TakesBack (past : List Entry) (c : Call) (n : ℕ) : Type 0 where
-  pub item : ℕ
-  pub queueing : Queueing
-  pub is_item : item_called c ≡ Some item
-  pub is_unstarted : unstarted past item ≡ Some queueing
-  pub number : queueing.number ≡ n
-
-pub cancel_causes : {s : Layout} {past : List Entry} {who : Who} {c : Call} {r : Reply} (n : ℕ) → Cause s past who c r → number_cancelled r ≡ Some n → TakesBack past c n
-cancel_causes n (cause.cancelled who i x found) h = record { item = i.0; queueing = x; is_item = refl; is_unstarted = found; number = let same : x.number ≡ n = cc in same }
-cancel_causes n (cause.sync_cancelled who i x free found) h = record { item = i.0; queueing = x; is_item = refl; is_unstarted = found; number = let same : x.number ≡ n = cc in same }
-cancel_causes n other h = cc
+pub takes_back_unstarted : (s : Layout) (past : List Entry) (e : Entry) (n : ℕ) → IsLegal s (e ∷ past) → number_cancelled e.reply ≡ Some n → TakesBack past e.call n
+takes_back_unstarted s past e n legal h = cancel_reason s past e.who e.call e.reply n (cause_of s past e legal) h
 
 -- what is found unstarted is open, known, of that item and not started
 pub record IsWaiting (past : List Entry) (i : ℕ) (x : Queueing) : Type 0 where
@@ -73,12 +48,12 @@ unstarted_is past i x found =
 pub finished_older : (s : Layout) (past : List Entry) (e : Entry) (n : ℕ) → IsLegal s (e ∷ past) → number_finished e.reply ≡ Some n → n < length past
 unfolding IsLegal
 finished_older s past e n legal h =
-    let f = finish_causes n (cause_of s past e legal) h in
+    let f = finishes_run s past e n legal h in
     started_older s past f.worker n legal.2 (run_is past f.worker n f.is_run).last
 
 pub cancelled_older : (s : Layout) (past : List Entry) (e : Entry) (n : ℕ) → IsLegal s (e ∷ past) → number_cancelled e.reply ≡ Some n → n < length past
 cancelled_older s past e n legal h =
-    let f = cancel_causes n (cause_of s past e legal) h in
+    let f = takes_back_unstarted s past e n legal h in
     subst (λ k. k < length past) f.number (unstarted_is past f.item f.queueing f.is_unstarted).known.older
 
 -- ---- of a number that is still to come nothing was told

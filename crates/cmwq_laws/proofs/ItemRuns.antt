@@ -19,7 +19,6 @@ use Rattle.cmwq_model.specs.Legal.{IsLegal}
 use Rattle.cmwq_laws.proofs.Entries.{IsKnown, known_more, queueings_known, item_at-older}
 use Rattle.cmwq_laws.proofs.Opens.{open_before}
 use Rattle.cmwq_laws.proofs.Activated.{next_holds}
-use Rattle.cmwq_laws.proofs.Inversions.{answer_is}
 use Rattle.cmwq_laws.proofs.Starts.{starts_next}
 
 -- ---- workers
@@ -139,8 +138,7 @@ pub record StartsKnown (past : List Entry) (e : Entry) (n : ℕ) : Type 0 where
 
 pub starts_known : (s : Layout) (past : List Entry) (e : Entry) (n : ℕ) → IsLegal s (e ∷ past) → number_started e.reply ≡ Some n → StartsKnown past e n
 starts_known s past e n legal started =
-    let reply = answer_is s past e legal in
-    let st = starts_next s past e.who e.call n (sym (ap number_started reply) ∙ started) in
+    let st = starts_next s past e n legal started in
     let found = next_holds s IsKnown known_more queueings_known past st.worker.pool st.queueing st.is_next in
     record {
       worker = st.worker;

@@ -20,11 +20,9 @@ use Rattle.cmwq_laws.proofs.Entries.{item_at-older}
 use Rattle.cmwq_laws.proofs.OneWorker.{is_at-true}
 use Rattle.cmwq_laws.proofs.ItemRuns.{same_worker-true, item_run_is, item_run_started, item_starts, item_stays, starts_known}
 use Rattle.cmwq_laws.proofs.Width.{same_worker_itself}
-use Rattle.cmwq_laws.proofs.Inversions.{answer_is}
 use Rattle.cmwq_laws.proofs.Starts.{starts_next}
 use Rattle.cmwq_laws.proofs.RunSteps.{started_open, started_open_on, run_begun, workers_run_on}
-use Rattle.cmwq_laws.proofs.Causes.{cause_of}
-use Rattle.cmwq_laws.proofs.Fresh.{finish_causes}
+use Rattle.cmwq_laws.proofs.Fresh.{finishes_run}
 
 -- ---- an entry that starts a queueing of the item
 
@@ -122,7 +120,7 @@ by_this s past e v w who by = same_worker-true v w (subst (λ (x : Who). same_wh
 -- a worker that starts something had no run
 pub starter_idle : (s : Layout) (past : List Entry) (e : Entry) (w : WorkerId) (n : ℕ) → IsLegal s (e ∷ past) → is_by (Worker w) e ≡ true → number_started e.reply ≡ Some n → has_run past w ≡ false
 starter_idle s past e w n legal by h =
-    let st = starts_next s past e.who e.call n (sym (ap number_started (answer_is s past e legal)) ∙ h) in
+    let st = starts_next s past e n legal h in
     subst (λ (v : WorkerId). has_run past v ≡ false) (by_this s past e st.worker w st.by_worker by) st.idle
 
 run_keeps : (s : Layout) (past : List Entry) (e : Entry) (start : Start) → IsLegal s (e ∷ past) → finishes start.number e ≡ false → run past start.worker ≡ Some start.number → run (e ∷ past) start.worker ≡ Some start.number
@@ -133,7 +131,7 @@ run_keeps s past e start legal spared runs = workers_run_on s past e start.worke
 
     finishing : (n : ℕ) → number_finished e.reply ≡ Some n → is_by (Worker start.worker) e ≡ true → ⊥
     finishing n h by =
-        let f = finish_causes n (cause_of s past e legal) h in
+        let f = finishes_run s past e n legal h in
         let its : run past start.worker ≡ Some n = subst (λ (v : WorkerId). run past v ≡ Some n) (by_this s past e f.worker start.worker f.by_worker by) f.is_run in
         let number : Some n ≡ Some start.number = sym its ∙ runs in
         let ends : finishes start.number e ≡ true = ap (λ o. is_at o start.number) (h ∙ number) ∙ eq-eqb start.number start.number refl in

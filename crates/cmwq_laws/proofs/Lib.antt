@@ -37,3 +37,11 @@ pub mod OneRun
 pub mod WorklistSteps
 pub mod NewlyActive
 pub mod Pools
+pub mod Reasons
+pub mod Standing
+pub mod TicketSteps
+pub mod Points
+pub mod OwedSteps
+pub mod OwedItems
+pub mod OwedWaiting
+pub mod Promised

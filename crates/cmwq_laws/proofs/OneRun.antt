@@ -2,7 +2,7 @@
 use Rattle.std.proofs.Common.{◌≡◌, ◌<◌, ◌≤◌, inl, inr, ℕ, Bool, true, false, ◌||◌, List, [], ◌∷◌, length, count_by, Option, Some, None, refl, sym, ap, ◌∙◌, arith}
 use Rattle.std.specs.Prelude.{option_map, is_some}
 use Rattle.std.specs.List.{AllByRecursion}
-use Rattle.std.proofs.lemmas.Bool.{eqb-true, eq-eqb, cases_lt}
+use Rattle.std.proofs.lemmas.Bool.{false_from_ne_true, eqb-true, eq-eqb, cases_lt}
 use Rattle.cmwq_model.specs.declared.entry.Entry.{Entry}
 use Rattle.cmwq_model.specs.declared.record.Queueing.{Queueing}
 use Rattle.cmwq_model.specs.declared.record.Start.{Start}
@@ -79,12 +79,8 @@ runs_all s past i legal = All_filter (λ x. is_run_of past i x ≡ true → Runs
 
 one_number : (past : List Entry) (i : ℕ) (o : Option ℕ) → AllByRecursion (λ x. is_run_of past i x ≡ true → o ≡ Some x.number) (still_open past) → count_by (is_run_of past i) (still_open past) ≤ 1
 one_number past i None h =
-    let none = count_by-none (is_run_of past i) (still_open past) (All_map (λ x. is_run_of past i x ≡ true → None ≡ Some x.number) (λ x. is_run_of past i x ≡ false) (still_open past) (λ x never. refuse (is_run_of past i x) (λ is. let bad : None ≡ Some x.number = never is in cc)) h) in
+    let none = count_by-none (is_run_of past i) (still_open past) (All_map (λ x. is_run_of past i x ≡ true → None ≡ Some x.number) (λ x. is_run_of past i x ≡ false) (still_open past) (λ x never. false_from_ne_true (is_run_of past i x) (λ is. let bad : None ≡ Some x.number = never is in cc)) h) in
     omega arith
-  where
-    refuse : (b : Bool) → (b ≡ true → ⊥) → b ≡ false
-    refuse true fails = absurd (fails refl)
-    refuse false fails = refl
 one_number past i (Some n) h =
     let wider = count_by-wider (is_run_of past i) (has_number n) (still_open past) (All_map (λ x. is_run_of past i x ≡ true → Some n ≡ Some x.number) (λ x. is_run_of past i x ≡ true → has_number n x ≡ true) (still_open past)
     (λ x same is. let number : x.number ≡ n = let both : Some n ≡ Some x.number = same is in cc in eq-eqb x.number n number) h) in

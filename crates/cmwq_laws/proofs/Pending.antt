@@ -6,7 +6,6 @@ use Rattle.std.proofs.lemmas.Bool.{eqb-true}
 use Rattle.std.proofs.Common.{inl, inr}
 use Rattle.std.proofs.lemmas.Bool.Decides.{eqb_tells}
 use Rattle.std.proofs.lemmas.List.Sums.{sum_by-append}
-use Rattle.std.specs.List.{AllByRecursion}
 use Rattle.cmwq_model.specs.declared.id.Who.{Who}
 use Rattle.cmwq_model.specs.declared.call.Call.{Call}
 use Rattle.cmwq_model.specs.declared.reply.Reply.{Reply}
@@ -16,37 +15,18 @@ use Rattle.cmwq_model.specs.declared.record.Booking.{Booking}
 use Rattle.cmwq_model.specs.declared.record.Queueing.{Queueing}
 use Rattle.cmwq_model.specs.Layout.{Layout}
 use Rattle.cmwq_model.specs.Calls.{is_at, item_of, item_called, item_fired, is_of_item}
-use Rattle.cmwq_model.specs.Bookings.{settles, due_in, booking, booking_of, booked_by, is_booked, bookings, standing, stands, number_booked}
+use Rattle.cmwq_model.specs.Bookings.{settles, due_in, booking, booking_of, booked_by, is_booked}
 use Rattle.cmwq_model.specs.Fate.{replaces}
 use Rattle.cmwq_model.specs.Queueings.{still_open, opening, opens, queued_at, place_wanted, queueings, is_unstarted, unstarted, is_pending}
-use Rattle.cmwq_model.specs.Answer.{first_due, may_fire, is_soonest}
 use Rattle.cmwq_model.specs.Legal.{IsLegal}
 use Rattle.cmwq_laws.specs.Endings.{is_spared}
-use Rattle.cmwq_laws.proofs.Lists.{All_each, All_map, All_filter, count_by-cons, count_by-none, count_by-filter, find_none}
+use Rattle.cmwq_laws.proofs.Lists.{All_each, count_by-cons, count_by-none, count_by-filter, find_none}
 use Rattle.cmwq_laws.proofs.Filters.{count_by-wider, count_none, none_found, filter_one}
-use Rattle.cmwq_laws.proofs.Activated.{find_holds}
 use Rattle.cmwq_laws.proofs.Entries.{opening_item}
 use Rattle.cmwq_laws.proofs.Endings.{open_go_on}
+use Rattle.cmwq_laws.proofs.Standing.{booking_after, due_own}
 use Rattle.cmwq_laws.proofs.Causes.{Cause, cause_of}
 use Rattle.cmwq_laws.proofs.Causes as cause
-
--- ---- a booking that is due first stands
-
-pub stands_booked : (past : List Entry) (b : Booking) → stands past b ≡ true → is_booked past b.item.0 ≡ true
-stands_booked past b h = here (booking past b.item.0) h
-  where
-    here : (o : Option Booking) → is_at (option_map number_booked o) b.number ≡ true → is_some o ≡ true
-    here None h = cc
-    here (Some a) h = refl
-
-pub due_stands : (past : List Entry) (b : Booking) → first_due past ≡ Some b → stands past b ≡ true
-unfolding first_due
-due_stands past b h =
-    (find_holds (λ a. stands past a ≡ true) (is_soonest (filter (may_fire past) (standing past))) (filter (may_fire past) (standing past)) b standing_due h).holds
-  where
-    standing_due : AllByRecursion (λ a. stands past a ≡ true) (filter (may_fire past) (standing past))
-    standing_due = All_filter (λ a. stands past a ≡ true) (may_fire past) (standing past) (All_map (λ a. stands past a ≡ true) (λ a. may_fire past a ≡ true → stands past a ≡ true) (standing past) (λ a is due. is)
-        (All_filter (λ a. stands past a ≡ true) (stands past) (bookings past) (All_each (λ a. stands past a ≡ true → stands past a ≡ true) (bookings past) (λ a is. is))))
 
 -- ---- what an entry settles of an item
 
@@ -67,7 +47,7 @@ settling s past who c r i (cause.modified_booked w j q d t some free none) h k =
 settling s past who c r i (cause.modified_again w j q d t zero free some) h k = anew refl
 settling s past who c r i (cause.modified_rebooked w j q d t some free was) h k = anew refl
 settling s past who c r i (cause.unbooked w j none was) h k = booked (of_item (λ m. is_booked past m ≡ true) i j.0 k was)
-settling s past who c r i (cause.fires w b due) h k = booked (of_item (λ m. is_booked past m ≡ true) i b.item.0 k (stands_booked past b (due_stands past b due)))
+settling s past who c r i (cause.fires w b due) h k = booked (of_item (λ m. is_booked past m ≡ true) i b.item.0 k (ap is_some (due_own past b due)))
 settling s past who c r i (cause.delayed_queued w j free shut was) h k = booked (of_item (λ m. is_booked past m ≡ true) i j.0 k was)
 settling s past who c r i (cause.sync_unbooked w j free none was) h k = booked (of_item (λ m. is_booked past m ≡ true) i j.0 k was)
 settling s past who c r i other h k = cc
@@ -140,10 +120,6 @@ none_waiting s past e i is few (booked was) =
     let one : pending_count past i ≡ count_by (is_unstarted past i) (still_open past) + 1 = ap (λ b. count_by (is_unstarted past i) (still_open past) + cond b 1 0) was in
     let less = waiting_was past e i in
     omega arith
-
-pub booking_after : (past : List Entry) (e : Entry) (i : ℕ) (b : Bool) → (settles e.reply && is_of_item i e) ≡ b → booking (e ∷ past) i ≡ (if b then booking_of e (length past) else booking past i)
-unfolding booking
-booking_after past e i b h = ap (λ c. if c then booking_of e (length past) else booking past i) h
 
 none_books : (o : Option Booking) → o ≡ None → cond (is_some o) 1 0 ≤ 0
 none_books None h = omega arith

@@ -38,7 +38,8 @@ use Rattle.cmwq_laws.proofs.Fresh.{unstarted_is}
 use Rattle.cmwq_laws.proofs.Endings.{open_go_on}
 use Rattle.cmwq_laws.proofs.ItemSteps.{StartsOf, starts_of, items_run_on, left_run, runs_its_item}
 use Rattle.cmwq_laws.proofs.Lists.{All_append, All_filter}
-use Rattle.cmwq_laws.proofs.Pending.{one_unstarted, booked_or_unstarted, booking_after, opening_opens}
+use Rattle.cmwq_laws.proofs.Standing.{booking_after}
+use Rattle.cmwq_laws.proofs.Pending.{one_unstarted, booked_or_unstarted, opening_opens}
 use Rattle.cmwq_laws.proofs.Causes.{Cause, cause_of, IsFree}
 use Rattle.cmwq_laws.proofs.Causes as cause
 

@@ -23,8 +23,7 @@ use Rattle.cmwq_laws.proofs.ItemRuns.{same_worker-true, last_start_cases, now, b
 use Rattle.cmwq_laws.proofs.StartsListed.{starts_listed}
 use Rattle.cmwq_laws.proofs.RunsActive.{found_known}
 use Rattle.cmwq_laws.proofs.Width.{same_worker_itself}
-use Rattle.cmwq_laws.proofs.Causes.{cause_of}
-use Rattle.cmwq_laws.proofs.Fresh.{finish_causes, cancel_causes, unstarted_is}
+use Rattle.cmwq_laws.proofs.Fresh.{finishes_run, takes_back_unstarted, unstarted_is}
 
 -- ---- a queueing that has started stays open until it is finished
 
@@ -34,7 +33,7 @@ started_not_cancelled s past e n legal started = at (takes_back n e) refl
     at : (b : Bool) → takes_back n e ≡ b → b ≡ false
     at false h = refl
     at true h =
-        let k = cancel_causes n (cause_of s past e legal) (is_at-true (number_cancelled e.reply) n h) in
+        let k = takes_back_unstarted s past e n legal (is_at-true (number_cancelled e.reply) n h) in
         let new : is_started past n ≡ false = subst (λ m. is_started past m ≡ false) k.number (unstarted_is past k.item k.queueing k.is_unstarted).not_started in
         let bad : true ≡ false = sym started ∙ new in
         cc
@@ -153,7 +152,7 @@ run_goes s past e w true None None legal hb hs hf =
     after (reply.Finished m) h k = cc
     after r h k = refl
 run_goes s past e w true None (Some m) legal hb hs hf =
-    let f = finish_causes m (cause_of s past e legal) hf in
+    let f = finishes_run s past e m legal hf in
     let same : f.worker ≡ w = same_worker-true f.worker w (subst (λ (x : Who). same_who x (Worker w) ≡ true) f.by_worker hb) in
     run_ended s past e w m legal (no_last_start past e w (ap₂ (λ a o. a && is_some o) hb hs)) (subst (λ (v : WorkerId). run past v ≡ Some m) same f.is_run) (ap (λ o. is_at o m) hf ∙ eq-eqb m m refl) ∙ sym (after e.reply hf)
   where
@@ -168,7 +167,7 @@ run_goes s past e w false o (Some m) legal hb hs hf =
     at : (n : ℕ) → run past w ≡ Some n → (b : Bool) → (m == n) ≡ b → finishes n e ≡ false
     at n runs false h = ap (λ o. is_at o n) hf ∙ h
     at n runs true h =
-        let f = finish_causes m (cause_of s past e legal) hf in
+        let f = finishes_run s past e m legal hf in
         let item = number_item past n (run_is past w n runs).is_still_open in
         let runs_too : run past f.worker ≡ Some n = f.is_run ∙ ap Some (eqb-true m n h) in
         let same : f.worker ≡ w = (one_worker s past f.worker w n n item.0 legal.2 runs_too runs item.1 item.1).0 in

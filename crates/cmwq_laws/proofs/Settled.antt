@@ -2,7 +2,7 @@
 use Rattle.std.proofs.Common.{◌≡◌, ℕ, Bool, true, false, cond, ◌&&◌, ◌||◌, List, [], ◌∷◌, find, Option, Some, None, refl, ap, ◌∙◌, sym}
 use Rattle.std.specs.Prelude.{option_map, is_some, if◌then◌else◌}
 use Rattle.std.specs.List.{list_any}
-use Rattle.std.proofs.lemmas.Bool.{eq-eqb}
+use Rattle.std.proofs.lemmas.Bool.{or_right, eq-eqb}
 use Rattle.cmwq_model.specs.declared.call.Call.TheVariants as call
 use Rattle.cmwq_model.specs.declared.entry.Entry.{Entry}
 use Rattle.cmwq_model.specs.declared.record.Start.{Start}
@@ -25,11 +25,7 @@ use Rattle.cmwq_laws.proofs.Done.{ends_ticket, ready_call, ended_call}
 module _ {X : Type 0} where
   any_here : (p q : X → Bool) (x y : X) (xs : List X) (b : Bool) → cond b (Some y) (find p xs) ≡ Some x → q x ≡ true → (find p xs ≡ Some x → list_any q xs ≡ true) → (q y || list_any q xs) ≡ true
   any_here p q x y xs true found passes later = let same : y ≡ x = cc in ap (λ z. q z || list_any q xs) same ∙ ap (λ b. b || list_any q xs) passes
-  any_here p q x y xs false found passes later = right (q y) (list_any q xs) (later found)
-    where
-      right : (a b : Bool) → b ≡ true → (a || b) ≡ true
-      right true b h = refl
-      right false b h = h
+  any_here p q x y xs false found passes later = or_right (q y) (list_any q xs) (later found)
 
   -- what is found is there
   pub any_found : (p q : X → Bool) (x : X) (xs : List X) → find p xs ≡ Some x → q x ≡ true → list_any q xs ≡ true

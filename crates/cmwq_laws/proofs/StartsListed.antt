@@ -1,10 +1,10 @@
 -- What a legal entry starts stands in its pool's worklist: a queueing, active and not started before.
-use Rattle.std.proofs.Common.{◌≡◌, ◌<◌, ◌+◌, ◌≤◌, ℕ, Bool, true, false, cond, List, [], ◌∷◌, find, count_by, Some, option_to_list, refl, sym, ap, ◌∙◌, subst, arith}
-use Rattle.std.specs.Prelude.{is_some, ◌||◌}
+use Rattle.std.proofs.Common.{◌≡◌, ◌<◌, ◌+◌, ◌≤◌, ℕ, Bool, true, false, cond, List, [], ◌∷◌, find, count_by, Some, option_to_list, refl, ap, ◌∙◌, subst, arith}
+use Rattle.std.specs.Prelude.{is_some}
 use Rattle.std.specs.Option.{option_or}
 use Rattle.std.specs.List.{AllByRecursion}
 use Rattle.std.proofs.lemmas.Bool.Decides.{nat_tests}
-use Rattle.std.proofs.lemmas.Bool.{eq-eqb}
+use Rattle.std.proofs.lemmas.Bool.{or_parts, eq-eqb}
 use Rattle.std.proofs.lemmas.List.Folds.{find-append}
 use Rattle.cmwq_model.specs.declared.id.PoolId.{PoolId}
 use Rattle.cmwq_model.specs.declared.id.WorkerId.{WorkerId}
@@ -21,7 +21,6 @@ use Rattle.cmwq_laws.specs.Headline.{StartedOnce, StartsEarlier}
 use Rattle.cmwq_laws.proofs.Lists.{All_both, count_by-cons, count_by-none}
 use Rattle.cmwq_laws.proofs.Rising.{queueings_rise}
 use Rattle.cmwq_laws.proofs.Activated.{next_holds}
-use Rattle.cmwq_laws.proofs.Inversions.{answer_is}
 use Rattle.cmwq_laws.proofs.Starts.{starts_next}
 use Rattle.cmwq_laws.proofs.OneWorker.{is_at-true}
 
@@ -62,8 +61,7 @@ pub record StartsListed (s : Layout) (past : List Entry) (e : Entry) (n : ℕ) :
 
 pub starts_listed : (s : Layout) (past : List Entry) (e : Entry) (n : ℕ) → IsLegal s (e ∷ past) → starts n e ≡ true → StartsListed s past e n
 starts_listed s past e n legal h =
-    let reply = answer_is s past e legal in
-    let st = starts_next s past e.who e.call n (sym (ap number_started reply) ∙ is_at-true (number_started e.reply) n h) in
+    let st = starts_next s past e n legal (is_at-true (number_started e.reply) n h) in
     let next = next_holds s IsFound (λ e past x found. queueing_at-older e past x.number x found) queueings_found past st.worker.pool st.queueing st.is_next in
     record {
       worker = st.worker;
@@ -86,15 +84,7 @@ starts_anew s past e n legal h =
 
 none_started : (n : ℕ) (past : List Entry) → is_started past n ≡ false → AllByRecursion (λ e. starts n e ≡ false) past
 none_started n [] h = tt
-none_started n (e ∷ past) h = (first (starts n e) (is_started past n) h, none_started n past (rest (starts n e) (is_started past n) h))
-  where
-    first : (a b : Bool) → (a || b) ≡ false → a ≡ false
-    first false b h = refl
-    first true b h = cc
-
-    rest : (a b : Bool) → (a || b) ≡ false → b ≡ false
-    rest false b h = h
-    rest true b h = cc
+none_started n (e ∷ past) h = let parts = or_parts (starts n e) (is_started past n) h in (parts.0, none_started n past parts.1)
 
 once_more : (n : ℕ) (past : List Entry) (b : Bool) → (b ≡ true → is_started past n ≡ false) → count_by (starts n) past ≤ 1 → cond b 1 0 + count_by (starts n) past ≤ 1
 once_more n past true new once = let none = count_by-none (starts n) past (none_started n past (new refl)) in omega arith

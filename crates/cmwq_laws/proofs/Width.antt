@@ -4,7 +4,7 @@ use Rattle.std.specs.Prelude.{option_and_then, option_map}
 use Rattle.std.specs.Option.{option_map_or}
 use Rattle.std.specs.List.{AllByRecursion, IsDistinct, list_any}
 use Rattle.std.specs.Set.{is_member}
-use Rattle.std.proofs.lemmas.Bool.{eqb-true, eq-eqb}
+use Rattle.std.proofs.lemmas.Bool.{or_right, eqb-true, eq-eqb}
 use Rattle.std.proofs.lemmas.Bool.Decides.{nat_tests}
 use Rattle.std.proofs.lemmas.Cmp.{nat_eq_equiv}
 use Rattle.std.proofs.lemmas.List.{length-take, length-map}
@@ -51,14 +51,10 @@ number_is_member : (n : ℕ) (x : Queueing) (xs : List Queueing) → find (has_n
 number_is_member n x [] found = cc
 number_is_member n x (y ∷ xs) found = here (y.number == n) refl found (λ rest. number_is_member n x xs rest)
   where
-    either : (a b : Bool) → b ≡ true → (a || b) ≡ true
-    either true b h = refl
-    either false b h = h
-
     here : (b : Bool) → (y.number == n) ≡ b → cond b (Some y) (find (has_number n) xs) ≡ Some x → (find (has_number n) xs ≡ Some x → is_member (◌==◌) (map number_of xs) n ≡ true)
         → ((n == y.number) || list_any (λ m. n == m) (map number_of xs)) ≡ true
     here true is found later = let same : (n == y.number) ≡ true = eq-eqb n y.number (sym (eqb-true y.number n is)) in ap (λ b. b || list_any (λ m. n == m) (map number_of xs)) same
-    here false is found later = either (n == y.number) (list_any (λ m. n == m) (map number_of xs)) (later found)
+    here false is found later = or_right (n == y.number) (list_any (λ m. n == m) (map number_of xs)) (later found)
 
 -- ---- a worker's run of a queue on a CPU
 

@@ -61,7 +61,7 @@ started_active_more s past e x legal old earlier started live = stays_active s p
     was true h = starts_active s past e x legal old.found h
     was false h = earlier (ap (λ b. b || is_started past x.number) (sym h) ∙ started) (open_before e past x.item.0 x.number old.older live)
 
-opening_inert : (s : Layout) (past : List Entry) (e : Entry) (o : Option Queueing) → IsLegal s (e ∷ past) → opening past e ≡ o → AllByRecursion (λ x. is_started (e ∷ past) x.number ≡ false) (option_to_list o)
+pub opening_inert : (s : Layout) (past : List Entry) (e : Entry) (o : Option Queueing) → IsLegal s (e ∷ past) → opening past e ≡ o → AllByRecursion (λ x. is_started (e ∷ past) x.number ≡ false) (option_to_list o)
 opening_inert s past e None legal h = tt
 opening_inert s past e (Some x) legal h = (opened_unstarted s past e x.number legal (opening_number past e x h), tt)
 

@@ -12,6 +12,7 @@ use Rattle.cmwq_model.specs.Calls.{is_at, same_worker, entry_at, item_at}
 use Rattle.cmwq_model.specs.Fate.{starts, is_finished, is_cancelled}
 use Rattle.cmwq_model.specs.Runs.{run, item_runs}
 use Rattle.cmwq_model.specs.Queueings.{queueings, queueing_at, run_queue, is_pending}
+use Rattle.cmwq_model.specs.Tickets.{is_cancelling}
 use Rattle.cmwq_model.specs.Legal.{IsLegal}
 
 -- a law of every legal history of every shape
@@ -92,3 +93,8 @@ CancelsSettle = OfEachEntry (λ past e. (t i : ℕ) (begun : Entry) → IsDone e
 
 abbrev pub CancelSyncsSettle : Type 0
 CancelSyncsSettle = OfLegal (λ s. CancelsSettle)
+
+-- ---- while a cancel_sync of an item is unended the item is not pending
+
+abbrev pub CancelledStayIdle : Type 0
+CancelledStayIdle = OfLegal (λ s past. (i : ℕ) → is_cancelling past i ≡ true → is_pending past i ≡ false)

@@ -8,3 +8,6 @@ pub mod Sanity
 pub mod RunSteps
 pub mod Activations
 pub mod Pools
+pub mod Reasons
+pub mod TicketSteps
+pub mod RoomSteps

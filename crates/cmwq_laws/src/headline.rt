@@ -1,6 +1,6 @@
 //! What a user of the runtime relies on, in every legal history.
 
-ghost use Rattle.cmwq_laws.specs.Headline.{CancelSyncsSettle, FlushesEndAfterAllBefore, ItemsRunInOneWorker, NumbersStartOnce, QueueingsStart, RunsAreWithinMaxActive};
+ghost use Rattle.cmwq_laws.specs.Headline.{CancelSyncsSettle, CancelledStayIdle, FlushesEndAfterAllBefore, ItemsRunInOneWorker, NumbersStartOnce, QueueingsStart, RunsAreWithinMaxActive};
 
 /// No two workers have runs of one item.
 pub fn items_run_in_one_worker()
@@ -32,6 +32,11 @@ pub fn cancel_syncs_settle()
     ensures { CancelSyncsSettle }
 {}
 
+/// While a cancel_sync of an item is unended the item isn't pending.
+pub fn cancelled_stay_idle()
+    ensures { CancelledStayIdle }
+{}
+
 #[cfg(test)]
 mod tests {
     use super::*;
@@ -44,5 +49,6 @@ mod tests {
         runs_are_within_max_active();
         flushes_end_after_all_before();
         cancel_syncs_settle();
+        cancelled_stay_idle();
     }
 }

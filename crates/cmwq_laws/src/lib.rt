@@ -16,8 +16,8 @@ pub use fidelity::{
     tickets_wait_for_least, worklists_are_in_order,
 };
 pub use headline::{
-    cancel_syncs_settle, flushes_end_after_all_before, items_run_in_one_worker, numbers_start_once,
-    queueings_start, runs_are_within_max_active,
+    cancel_syncs_settle, cancelled_stay_idle, flushes_end_after_all_before,
+    items_run_in_one_worker, numbers_start_once, queueings_start, runs_are_within_max_active,
 };
 pub use illegal::illegal_histories_break_laws;
 pub use item_pools::{
@@ -31,4 +31,26 @@ pub use run_steps::{items_are_run_by_their_workers, items_run_on, workers_run_on
 pub use sanity::{
     calls_have_one_entry, cancelled_never_start, items_have_one_run, queueings_end_once,
     serials_count_up, steps_are_legal,
+};
+
+mod reply_reasons;
+
+pub use reply_reasons::{
+    booked_were_idle, cancelled_were_unstarted, done_are_ready, finishes_are_runs, fired_are_due,
+    flushed_delayed_were_booked, queued_again_were_pending, queued_were_idle,
+    rebooked_were_pending, retirers_may_retire, sleepers_are_awake, starts_are_next,
+    tickets_are_for_callers, ticks_tell_now, unbooked_were_booked, wakers_are_asleep,
+};
+
+mod ticket_steps;
+
+pub use ticket_steps::{
+    begun_are_served, one_moves_up, one_ticket_ends, overflowed_move_up, served_stay, unended_go_on,
+};
+
+mod room_steps;
+
+pub use room_steps::{
+    booked_are_counted, promised_are_never_full, promised_need_no_more, runs_are_counted,
+    sleepers_are_counted, steps_are_within_room, tickets_are_counted, waiting_are_counted,
 };

@@ -1,0 +1,102 @@
+-- What a history owes after one more entry, and so which replies are never refused for want of room.
+use Rattle.std.specs.Prelude.{◌≡◌, ℕ, ◌+◌, ◌≤◌, Bool, true, false, ◌&&◌, if◌then◌else◌, List, ◌∷◌, length, count_by, is_some}
+use Rattle.std.specs.List.{AllByRecursion, range_with_len}
+use Rattle.std.specs.Option.{option_map_or}
+use Rattle.cmwq_model.specs.declared.id.Who.{Who}
+use Rattle.cmwq_model.specs.declared.call.Call.{Call}
+use Rattle.cmwq_model.specs.declared.reply.Reply.{Reply}
+use Rattle.cmwq_model.specs.declared.reply.Reply.TheVariants as reply
+use Rattle.cmwq_model.specs.declared.entry.Entry.{Entry}
+use Rattle.cmwq_model.specs.Layout.{Layout, fits}
+use Rattle.cmwq_model.specs.Calls.{item_of}
+use Rattle.cmwq_model.specs.Bookings.{settles, booking_of, is_booked}
+use Rattle.cmwq_model.specs.Fate.{number_started, number_finished}
+use Rattle.cmwq_model.specs.Runs.{has_run, runs_asleep}
+use Rattle.cmwq_model.specs.Queueings.{still_open, opening}
+use Rattle.cmwq_model.specs.Tickets.{gives_ticket, is_done, unended}
+use Rattle.cmwq_model.specs.Answer.{answer}
+use Rattle.cmwq_model.specs.Legal.{IsLegal}
+use Rattle.cmwq_model.specs.Room.{workers, has_not_started, needed, has_room, steps}
+use Rattle.cmwq_laws.specs.Endings.{ending}
+
+-- ---- the five numbers of which what is owed is made
+
+abbrev pub waiting_count : List Entry → ℕ
+waiting_count past = count_by (has_not_started past) (still_open past)
+
+abbrev pub run_count : Layout → List Entry → ℕ
+run_count s past = count_by (has_run past) (workers s)
+
+abbrev pub sleeper_count : Layout → List Entry → ℕ
+sleeper_count s past = count_by (runs_asleep past) (workers s)
+
+abbrev pub booked_count : Layout → List Entry → ℕ
+booked_count s past = count_by (is_booked past) (range_with_len 0 s.items)
+
+-- ---- each after one more entry
+
+abbrev pub one : Bool → ℕ
+one b = if b then 1 else 0
+
+abbrev pub OfEntries : (Layout → List Entry → Entry → Type 0) → Type 0
+OfEntries P = (s : Layout) (past : List Entry) (e : Entry) → IsLegal s (e ∷ past) → P s past e
+
+-- one less waits for what is started, and for what is ended unstarted, and one more for what is opened
+abbrev pub ends_unstarted : List Entry → Entry → Bool
+ends_unstarted past e = option_map_or (has_not_started past) (ending past e) false
+
+abbrev pub WaitingAreCounted : Type 0
+WaitingAreCounted = OfEntries (λ s past e. waiting_count (e ∷ past) + one (is_some (number_started e.reply)) + one (ends_unstarted past e) ≡ waiting_count past + one (is_some (opening past e)))
+
+abbrev pub RunsAreCounted : Type 0
+RunsAreCounted = OfEntries (λ s past e. run_count s (e ∷ past) + one (is_some (number_finished e.reply)) ≡ run_count s past + one (is_some (number_started e.reply)))
+
+abbrev pub is_slept : Reply → Bool
+is_slept reply.Slept = true
+is_slept r = false
+
+abbrev pub is_woke : Reply → Bool
+is_woke reply.Woke = true
+is_woke r = false
+
+abbrev pub SleepersAreCounted : Type 0
+SleepersAreCounted = OfEntries (λ s past e. sleeper_count s (e ∷ past) + one (is_woke e.reply) ≡ sleeper_count s past + one (is_slept e.reply))
+
+-- the entry settles an item that was booked
+abbrev pub settles_booked : List Entry → Entry → Bool
+settles_booked past e = settles e.reply && option_map_or (is_booked past) (item_of e) false
+
+abbrev pub BookedAreCounted : Type 0
+BookedAreCounted = OfEntries (λ s past e. booked_count s (e ∷ past) + one (settles_booked past e) ≡ booked_count s past + one (is_some (booking_of e (length past))))
+
+abbrev pub TicketsAreCounted : Type 0
+TicketsAreCounted = OfEntries (λ s past e. length (unended (e ∷ past)) + one (is_done e.reply) ≡ length (unended past) + one (gives_ticket e.reply))
+
+-- ---- room
+
+-- the replies of which room is promised
+abbrev pub is_promised : Reply → Bool
+is_promised (reply.Started n) = true
+is_promised (reply.StartedEnlist n x) = true
+is_promised (reply.Finished n) = true
+is_promised reply.Woke = true
+is_promised (reply.Fired i k) = true
+is_promised (reply.Cancelled n) = true
+is_promised reply.Unbooked = true
+is_promised reply.Done = true
+is_promised (reply.TicketCancelled k n) = true
+is_promised (reply.TicketUnbooked k) = true
+is_promised r = false
+
+-- they need no more room than the history did before
+abbrev pub PromisedNeedNoMore : Type 0
+PromisedNeedNoMore = OfEntries (λ s past e. is_promised e.reply ≡ true → needed s (e ∷ past) ≤ needed s past)
+
+-- a history that is made by steps is within its room
+abbrev pub StepsAreWithinRoom : Type 0
+StepsAreWithinRoom = (s : Layout) (calls : List (Who × Call)) → needed s (steps s calls).past ≤ s.room
+
+-- so after any steps a call that would have such a reply has room
+abbrev pub PromisedAreNeverFull : Type 0
+PromisedAreNeverFull = (s : Layout) (calls : List (Who × Call)) (who : Who) (call : Call) → AllByRecursion (λ c. fits s c.0 c.1 ≡ true) calls → fits s who call ≡ true
+    → is_promised (answer s (steps s calls).past who call) ≡ true → has_room s (steps s calls).past who call ≡ true
