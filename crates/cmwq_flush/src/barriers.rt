@@ -3,8 +3,8 @@ ghost use Rattle.cmwq_flush.specs.BarrierBook.{CanBegin, CanOpen, IsReady, after
 
 use crate::barrier::{Barrier, Open, barrier_place, has_barrier, is_latest_barrier};
 use crate::limits::TICKETS_OF_CALLER;
-use cmwq_model::{ItemId, Number};
-use std::alloc::{AllocError, Global};
+use cmwq_model::{ItemId, NoMemory, Number};
+use std::alloc::Global;
 use std::marker::Model;
 
 /// The open queueings of all items, and the waits for them that began (`flush_work`). An item has two open at most:
@@ -31,8 +31,8 @@ impl Model for Barriers {
 
 impl Barriers {
     /// Nothing open of so many items and no wait, with room for 64 tickets for each of so many callers.
-    /// No later call takes memory.
-    pub fn new(alloc: Global, items: u16, callers: u8) -> Result<Self, AllocError>
+    /// No later call takes memory; the error says that it ran out.
+    pub fn new(alloc: Global, items: u16, callers: u8) -> Result<Self, NoMemory>
         ensures { IfOk result (λ barriers. barriers ≡ new_barriers items callers) }
     {
         Ok(Barriers {

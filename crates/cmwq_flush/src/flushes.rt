@@ -6,8 +6,8 @@ use crate::limits::{COLOURS, MOST_SERVED, TICKETS_OF_CALLER};
 use crate::served::{Served, find_served, is_latest_served, is_served};
 use crate::tally::{Colour, Tally};
 use crate::tickets::{has_ticket, is_latest, remove_ticket};
-use cmwq_model::Number;
-use std::alloc::{AllocError, Global};
+use cmwq_model::{NoMemory, Number};
+use std::alloc::Global;
 use std::marker::Model;
 
 /// The flushes and drains of a queue, and its open queueings. At most 15 flushes are served at once; others are in
@@ -42,8 +42,8 @@ impl Model for Flushes {
 
 impl Flushes {
     /// No open queueing, no flush and no drain, with room for 64 tickets for each of so many callers.
-    /// No later call takes memory.
-    pub fn new(alloc: Global, callers: u8) -> Result<Self, AllocError>
+    /// No later call takes memory; the error says that it ran out.
+    pub fn new(alloc: Global, callers: u8) -> Result<Self, NoMemory>
         ensures { IfOk result (λ flushes. flushes ≡ new_book callers) }
     {
         let room = TICKETS_OF_CALLER * usize::from(callers);

@@ -45,7 +45,7 @@ use Rattle.cmwq_laws.proofs.Causes as cause
 
 -- ---- a run is in the pool of its worker
 
-same_pool-true : (p q : PoolId) → same_pool p q ≡ true → p ≡ q
+pub same_pool-true : (p q : PoolId) → same_pool p q ≡ true → p ≡ q
 same_pool-true p q h =
     let cpu : p.cpu.0 ≡ q.cpu.0 = eqb-true p.cpu.0 q.cpu.0 (grind arith) in
     let high : p.high ≡ q.high = flags_same p.high q.high (grind arith) in

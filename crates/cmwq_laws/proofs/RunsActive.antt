@@ -59,7 +59,7 @@ number_open_before e past n less h = at (item_at past n) refl
 listed_active : (s : Layout) (past : List Entry) (p : PoolId) (x : Queueing) → is_listed s past p x ≡ true → is_active s past x ≡ true
 listed_active s past p x h = grind arith
 
-listed_pool : (s : Layout) (past : List Entry) (p : PoolId) (x : Queueing) → is_listed s past p x ≡ true → same_pool (pool_at s x.place) p ≡ true
+pub listed_pool : (s : Layout) (past : List Entry) (p : PoolId) (x : Queueing) → is_listed s past p x ≡ true → same_pool (pool_at s x.place) p ≡ true
 listed_pool s past p x h = grind arith
 
 run_begins : (s : Layout) (past : List Entry) (e : Entry) (w : WorkerId) (n : ℕ) → IsLegal s (e ∷ past) → is_by (Worker w) e ≡ true → number_started e.reply ≡ Some n

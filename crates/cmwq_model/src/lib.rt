@@ -4,6 +4,7 @@
 
 mod call;
 mod entry;
+mod error;
 mod id;
 mod record;
 mod reply;
@@ -12,6 +13,7 @@ mod verdict;
 
 pub use call::Call;
 pub use entry::{Entry, Mark};
+pub use error::NoMemory;
 pub use id::{CallerId, CpuId, ItemId, Number, PoolId, QueueId, Who, WorkerId};
 pub use record::{Booking, Place, Queueing, Start, Ticket};
 pub use reply::Reply;

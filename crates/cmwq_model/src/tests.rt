@@ -1,6 +1,7 @@
 use super::*;
 use std::alloc::Global;
 use std::process::Abort;
+use std::test::Fail;
 
 fn shape(rt: &impl Abort, alloc: Global) -> Shape {
     let mut queues = Vec::new(alloc);
@@ -76,4 +77,11 @@ fn the_kernel_says(rt: HostRuntime) {
     assert_eq!(rt; Reply::Unbooked.kernel(cancel), Some(true));
     assert_eq!(rt; Reply::No.kernel(cancel), Some(false));
     assert_eq!(rt; Reply::Misuse.kernel(cancel), None);
+}
+
+#[test]
+fn want_of_memory_is_printed(rt: HostRuntime) -> Result<(), Fail> {
+    let text = format!(in rt.alloc(); "{NoMemory}")?;
+    assert_eq!(rt; text.as_str(), "no memory");
+    Ok(())
 }

@@ -1,14 +1,12 @@
 //! One worker pool of a CPU (the kernel's `worker_pool`): its worklist, its workers, and what they run.
 #![tactic(auto)]
 
-mod error;
 mod pool;
 mod seat;
 mod seats;
 mod task;
 mod worklist;
 
-pub use error::NoMemory;
 pub use pool::Pool;
 pub use seat::Seat;
 pub use task::Task;

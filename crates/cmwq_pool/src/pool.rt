@@ -3,12 +3,11 @@ ghost use Rattle.cmwq_model.specs.Layout.{is_between};
 ghost use Rattle.cmwq_pool.specs.Seats.{seat_at, is_idle, runs_awake, runs_asleep, run_number, runnable, enlisted_by, may_retire, seat_asleep, seat_awake, seat_free, seat_retired};
 ghost use Rattle.cmwq_pool.specs.Lineup.{new_lineup, task, may_add, added, removed, next_task, next, started, reseated};
 
-use crate::error::NoMemory;
 use crate::seat::Seat;
 use crate::seats::{count_holding, have_spare, new_seats, start_task, take_run};
 use crate::task::Task;
 use crate::worklist::{has_like, next_free, no_marks, take_next, take_number};
-use cmwq_model::{ItemId, Number};
+use cmwq_model::{ItemId, NoMemory, Number};
 use std::alloc::Global;
 use std::marker::Model;
 

@@ -1,117 +1,225 @@
-//! Files of calls from a generator with a fixed seed.
+//! Histories that are the same in every run: calls chosen by a fixed sequence of numbers, with the plain answers.
 
 ghost use Rattle.std.specs.Prelude.{◌<◌};
 
-use arrayvec::ArrayString;
+use cmwq_model::{
+    Call, CallerId, Counts, CpuId, Entry, ItemId, Number, PoolId, QueueId, QueueShape, Reply,
+    Shape, Who, WorkerId,
+};
+use cmwq_plain::{reply_of, serial_of};
 use rand_core::utils::NextWord;
 use rand_pcg::Pcg32;
-use std::alloc::Global;
-use std::fmt;
-use std::fmt::Write;
+use std::alloc::{AllocError, Global};
+use std::process::Abort;
 use std::test::Fail;
 
-/// One CPU, three workers in each pool, one caller, four items, room for 150 entries; a narrow queue, an intensive one of
-/// two, and a high one.
-const SHAPE: &[u8] = b"shape 1 3 1 4 150\nwq 1 -\nwq 2 i\nwq 1 h\n";
+pub(crate) const CPUS: u8 = 2;
 
-/// The text of a line.
-type Line = ArrayString<100>;
+pub(crate) const WORKERS: u8 = 3;
 
-/// Makes files of calls, in which each call and each reply comes up.
+pub(crate) const CALLERS: u8 = 2;
+
+pub(crate) const ITEMS: u16 = 6;
+
+/// One queue of each kind: wide, CPU intensive, of high priority.
+pub(crate) const QUEUES: [QueueShape; 3] = [
+    QueueShape {
+        max_active: 2,
+        high: false,
+        intensive: false,
+    },
+    QueueShape {
+        max_active: 1,
+        high: false,
+        intensive: true,
+    },
+    QueueShape {
+        max_active: 1,
+        high: true,
+        intensive: false,
+    },
+];
+
+pub(crate) fn shape(alloc: Global) -> Result<Option<Shape>, AllocError> {
+    let mut queues = Vec::new(alloc);
+    for queue in QUEUES {
+        queues.push(queue)?;
+    }
+    let counts = Counts {
+        cpus: CPUS,
+        workers: WORKERS,
+        callers: CALLERS,
+        items: ITEMS,
+        room: 1000,
+    };
+    Ok(Shape::new(counts, queues))
+}
+
+/// A sequence of numbers, and the tickets that stand in the history which it makes.
 #[derive(Drop)]
-pub struct Generator {
+pub(crate) struct Generator {
     random: Pcg32,
-    /// Lines that may have given tickets.
-    tickets: [u32; 4],
+    tickets: Vec<(Who, Number)>,
 }
 
 impl Generator {
-    pub fn new(seed: u64) -> Generator {
+    pub(crate) fn new(alloc: Global, seed: u64) -> Generator {
         Generator {
             random: Pcg32::new(seed, 1),
-            tickets: [0; 4],
+            tickets: Vec::new(alloc),
         }
     }
 
-    /// A number below the limit.
-    pub fn below(&mut self, limit: u32) -> u32
+    /// The next number, below a limit.
+    pub(crate) fn below(&mut self, limit: u8) -> u8
         requires { 0 < limit }
         ensures { result < limit }
     {
-        self.random.next_word() % limit
+        (self.random.next_word() % u32::from(limit)) as u8
     }
 
-    /// A file of so many calls.
-    pub fn file(&mut self, alloc: Global, calls: u32) -> Result<Vec<u8>, Fail> {
-        let mut text = Vec::new(alloc);
-        text.extend_from_slice(SHAPE)?;
-        for number in 0..calls {
-            let line = self.line(number)?;
-            text.extend_from_slice(line.as_bytes())?;
-        }
-        Ok(text)
+    fn item(&mut self) -> ItemId {
+        ItemId(u16::from(self.below(6)))
     }
 
-    fn line(&mut self, number: u32) -> Result<Line, fmt::Error> {
-        let mut line = Line::new();
-        if self.below(2) == 0 {
-            write!(line, "c0 ")?;
-            self.push_callers(&mut line, number)?;
-        } else {
-            let lane = if self.below(6) == 0 { 'h' } else { 'n' };
-            write!(line, "w0{}{} ", lane, self.below(3))?;
-            self.push_workers(&mut line)?;
-        }
-        writeln!(line)?;
-        Ok(line)
+    fn queue(&mut self) -> QueueId {
+        QueueId(self.below(3))
     }
 
-    fn push_callers(&mut self, line: &mut Line, number: u32) -> Result<(), fmt::Error> {
-        match self.below(12) {
-            0 => write!(line, "tick {}", self.below(4)),
-            1 | 2 => write!(line, "fire"),
-            3 => self.push_wait(line, number),
-            4..=7 => write!(line, "end {}", self.ticket()),
-            _ => self.push_anybodys(line),
-        }
+    /// A CPU, the first more often.
+    fn cpu(&mut self) -> CpuId {
+        CpuId(self.below(8) / 7)
     }
 
-    fn push_workers(&mut self, line: &mut Line) -> Result<(), fmt::Error> {
-        match self.below(12) {
-            0..=3 => write!(line, "take"),
-            4..=6 => write!(line, "finish"),
-            7 => write!(line, "sleep"),
-            8 | 9 => write!(line, "wake"),
-            10 => write!(line, "retire"),
-            _ => self.push_anybodys(line),
-        }
+    /// A worker, those with a low index more often.
+    fn worker(&mut self) -> WorkerId {
+        let pool = PoolId {
+            cpu: self.cpu(),
+            high: self.below(6) == 0,
+        };
+        let index = match self.below(8) {
+            0..4 => 0,
+            4..7 => 1,
+            _ => 2,
+        };
+        WorkerId { pool, index }
     }
 
     /// A call that callers and workers make.
-    fn push_anybodys(&mut self, line: &mut Line) -> Result<(), fmt::Error> {
-        let item = self.below(4);
-        let queue = if self.below(4) == 0 { self.below(3) } else { 0 };
+    fn queueing(&mut self) -> Call {
+        let item = self.item();
+        let queue = self.queue();
+        let cpu = self.cpu();
+        let ticks = u32::from(self.below(3));
         match self.below(8) {
-            0..=3 => write!(line, "queue {item} {queue} 0"),
-            4 => write!(line, "delay {item} {queue} 0 {}", self.below(5)),
-            5 | 6 => write!(line, "modify {item} {queue} 0 {}", self.below(3)),
-            _ => write!(line, "cancel {item}"),
+            0..3 => Call::Queue { item, queue, cpu },
+            3..5 => Call::Delay {
+                item,
+                queue,
+                cpu,
+                ticks,
+            },
+            5..7 => Call::Modify {
+                item,
+                queue,
+                cpu,
+                ticks,
+            },
+            _ => Call::Cancel { item },
         }
     }
 
-    /// A call that may give a ticket, which this line then names.
-    fn push_wait(&mut self, line: &mut Line, number: u32) -> Result<(), fmt::Error> {
-        self.tickets[self.below(4) as usize] = number;
-        match self.below(8) {
-            0..=2 => write!(line, "flush {}", self.below(3)),
-            3 | 4 => write!(line, "flush_item {}", self.below(4)),
-            5 => write!(line, "flush_delayed {}", self.below(4)),
-            6 => write!(line, "cancel_sync {}", self.below(4)),
-            _ => write!(line, "drain {}", self.below(3)),
+    /// A call of a caller that isn't the end of a wait.
+    fn call(&mut self) -> Call {
+        match self.below(32) {
+            0..19 => self.queueing(),
+            19..22 => Call::Tick { ticks: 1 },
+            22..26 => Call::Fire,
+            26..28 => Call::Flush {
+                queue: self.queue(),
+            },
+            28 => Call::Drain {
+                queue: self.queue(),
+            },
+            29 => Call::FlushItem { item: self.item() },
+            30 => Call::FlushDelayed { item: self.item() },
+            _ => Call::CancelSync { item: self.item() },
         }
     }
 
-    fn ticket(&mut self) -> u32 {
-        self.tickets[self.below(4) as usize]
+    fn worker_call(&mut self) -> Call {
+        match self.below(16) {
+            0..7 => Call::Take,
+            7..9 => Call::Finish,
+            9..11 => Call::Sleep,
+            11..13 => Call::Wake,
+            13..15 => Call::Retire,
+            _ => self.queueing(),
+        }
     }
+
+    /// The end of a wait that stands.
+    fn end(&mut self) -> Option<(Who, Call)> {
+        let chosen = usize::from(self.below(255));
+        let (who, ticket) = *self.tickets.get(chosen % self.tickets.len().max(1))?;
+        Some((who, Call::End { ticket }))
+    }
+
+    /// A caller or a worker with a call of its own.
+    fn who_calls(&mut self) -> (Who, Call) {
+        match self.below(8) {
+            0 => {
+                let nobody = (Who::Caller(CallerId(0)), Call::End { ticket: 0 });
+                self.end().unwrap_or(nobody)
+            }
+            1..4 => {
+                let caller = CallerId(self.below(CALLERS));
+                (Who::Caller(caller), self.call())
+            }
+            _ => (Who::Worker(self.worker()), self.worker_call()),
+        }
+    }
+
+    /// Keeps which tickets stand.
+    fn keep(&mut self, entry: &Entry, number: Number) -> Result<(), Fail> {
+        match (entry.call, entry.reply) {
+            (_, reply) if gives_ticket(reply) => self.tickets.push((entry.who, number))?,
+            (Call::End { ticket }, Reply::Done) => {
+                self.tickets.retain(|(_, standing)| *standing != ticket);
+            }
+            _ => {}
+        }
+        Ok(())
+    }
+
+    /// The next entry of a history: a call with its plain answer.
+    pub(crate) fn entry(
+        &mut self,
+        rt: &impl Abort,
+        shape: &Shape,
+        entries: &[Entry],
+    ) -> Result<Entry, Fail> {
+        assert!(rt; entries.len() <= 1_000_000);
+        let (who, call) = self.who_calls();
+        let entry = Entry {
+            who,
+            serial: serial_of(entries, who),
+            call,
+            reply: reply_of(shape, entries, who, call),
+        };
+        self.keep(&entry, entries.len() as Number)?;
+        Ok(entry)
+    }
+}
+
+/// Whether a reply gives a ticket.
+pub(crate) fn gives_ticket(reply: Reply) -> bool {
+    matches!(
+        reply,
+        Reply::Ticket(_)
+            | Reply::TicketQueued(_)
+            | Reply::TicketCancelled(..)
+            | Reply::TicketUnbooked(_)
+            | Reply::TicketNo(_)
+    )
 }

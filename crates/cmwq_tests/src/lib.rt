@@ -1,7 +1,12 @@
-//! Tests that cross the crates: generated runs through the words of the program.
+//! Tests that cross crates: generated histories, whose replies are the plain answers, through the words of the program,
+//! and beside the parts that are told of them.
 #![tactic(auto)]
 
 #[cfg(test)]
 mod generator;
+#[cfg(test)]
+mod parts;
+#[cfg(test)]
+mod replies;
 #[cfg(test)]
 mod words;

@@ -3,8 +3,8 @@ ghost use Rattle.cmwq_timer.specs.Candidates.{sooner};
 ghost use Rattle.cmwq_timer.specs.Rows.{timer_of, due_of, HaveBits, NoneMayFire, IsFirstToFire};
 
 use crate::timer::Timer;
-use cmwq_model::{ItemId, Number, QueueId};
-use std::alloc::{AllocError, Global};
+use cmwq_model::{ItemId, NoMemory, Number, QueueId};
+use std::alloc::Global;
 use std::marker::Model;
 
 /// The timers of all items of a runtime. An item has one at most.
@@ -25,13 +25,20 @@ impl Model for Timers {
 }
 
 impl Timers {
-    /// Timers for so many items, none of which is booked. No later call takes memory.
-    pub fn new(alloc: Global, items: u16) -> Result<Self, AllocError>
+    /// Timers for so many items, none of which is booked. No later call takes memory; the error says that it ran out.
+    pub fn new(alloc: Global, items: u16) -> Result<Self, NoMemory>
         ensures { IfOk result (λ timers. timers ≡ replicate items None) }
     {
         Ok(Timers {
             rows: vec![in alloc; None; usize::from(items)]?,
         })
+    }
+
+    /// How many items there are. Their numbers are below it.
+    pub fn items(&self) -> u16
+        ensures { result ≡ length self.now }
+    {
+        self.rows.len() as u16
     }
 
     /// Books an item for the tick `due`, in the place of any booking that it had (`add_timer_on`, `mod_timer`).

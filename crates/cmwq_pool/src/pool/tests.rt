@@ -1,5 +1,4 @@
 use super::Pool;
-use crate::NoMemory;
 use cmwq_model::{ItemId, Number};
 use std::process::Abort;
 use std::test::Fail;
@@ -167,12 +166,5 @@ fn a_running_item_is_not_started_again(rt: HostRuntime) -> Result<(), Fail> {
     tell_all(&rt, &mut pool, &told);
     assert!(rt; pool.may_add(9, ItemId(1)));
     assert!(rt; !pool.may_add(9, ItemId(2)));
-    Ok(())
-}
-
-#[test]
-fn an_error_is_printed(rt: HostRuntime) -> Result<(), Fail> {
-    let text = format!(in rt.alloc(); "{NoMemory}")?;
-    assert_eq!(rt; text.as_str(), "no memory");
     Ok(())
 }

@@ -7,6 +7,7 @@ const HELD: u64 = 1 << 63;
 #[test]
 fn fires_by_tick_and_then_by_booking(rt: HostRuntime) -> Result<(), Fail> {
     let mut timers = Timers::new(rt.alloc(), 4)?;
+    assert_eq!(rt; timers.items(), 4);
     assert_eq!(rt; timers.booked(ItemId(0)), None);
     assert_eq!(rt; timers.first_due(9, 0), None);
     timers.book(ItemId(3), QueueId(0), 5, 10);

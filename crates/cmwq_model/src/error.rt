@@ -2,7 +2,7 @@ use std::alloc::AllocError;
 use std::error::Error;
 use std::fmt;
 
-/// A pool could not be made, since memory ran out.
+/// A part of the runtime could not be made, since memory ran out.
 #[derive(Clone, Copy, Debug, PartialEq, Eq)]
 pub struct NoMemory;
 

@@ -1,0 +1,17 @@
+pub mod Members
+pub mod Rising
+pub mod TimerSteps
+pub mod Settled
+pub mod FirstDue
+pub mod TicketSteps
+pub mod Numbers
+pub mod QueueingSteps
+pub mod FlushCalls
+pub mod FlushSteps
+pub mod FlushReads
+pub mod BarrierSteps
+pub mod BarrierReads
+pub mod PoolReads
+pub mod PoolNext
+pub mod PoolSeats
+pub mod PoolSteps

@@ -1,0 +1,5 @@
+pub mod Timers
+pub mod Told
+pub mod FlushBooks
+pub mod BarrierBooks
+pub mod Pools

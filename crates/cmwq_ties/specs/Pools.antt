@@ -1,0 +1,97 @@
+-- A pool follows its worklist, and the runs and the enlisting of its workers.
+use Rattle.std.specs.Prelude.{◌≡◌, ℕ, ◌<◌, ◌&&◌, not, if◌then◌else◌, List, [], ◌∷◌, map, filter, fold, Option, Some, None, option_map, option_and_then}
+use Rattle.cmwq_model.specs.declared.id.PoolId.{PoolId}
+use Rattle.cmwq_model.specs.declared.id.WorkerId.{WorkerId}
+use Rattle.cmwq_model.specs.declared.id.Who.{Who}
+use Rattle.cmwq_model.specs.declared.id.Who.TheVariants.{Caller, Worker}
+use Rattle.cmwq_model.specs.declared.reply.Reply.{Reply}
+use Rattle.cmwq_model.specs.declared.reply.Reply.TheVariants as reply
+use Rattle.cmwq_model.specs.declared.entry.Entry.{Entry}
+use Rattle.cmwq_model.specs.declared.record.Queueing.{Queueing}
+use Rattle.cmwq_model.specs.Layout.{Layout, indices, is_intensive}
+use Rattle.cmwq_model.specs.Calls.{same_pool}
+use Rattle.cmwq_model.specs.Fate.{finishes}
+use Rattle.cmwq_model.specs.Runs.{run, is_asleep}
+use Rattle.cmwq_model.specs.Queueings.{queueing_at}
+use Rattle.cmwq_model.specs.Active.{newly_active, worklist, next}
+use Rattle.cmwq_model.specs.Workers.{worker_at, is_enlisted, runnable, enlisted_by, is_idle, may_retire}
+use Rattle.cmwq_model.specs.Legal.{IsLegal}
+use Rattle.cmwq_laws.specs.Endings.{ending}
+use Rattle.cmwq_laws.specs.Activations.{is_in}
+use Rattle.cmwq_pool.specs.declared.task.Task.{Task}
+use Rattle.cmwq_pool.specs.declared.seat.Seat.{Seat}
+use Rattle.cmwq_pool.specs.Seats.{seat_at, run_number, seat_asleep, seat_awake, seat_free, seat_retired, runnable as seats_runnable, enlisted_by as seats_enlisted_by, may_retire as seat_may_retire}
+use Rattle.cmwq_pool.specs.Lineup.{Lineup, new_lineup, added, removed, next_task, started, reseated, next as lineup_next}
+use Rattle.cmwq_ties.specs.Told.{number_of_queueing}
+
+-- a queueing as its pool sees it, and what a worker runs
+abbrev pub task_for : Layout → Queueing → Task
+task_for s x = record { number = x.number; item = x.item; intensive = is_intensive s x.place.queue.0 }
+
+abbrev pub run_task : Layout → List Entry → WorkerId → Option Task
+run_task s past w = option_map (task_for s) (option_and_then (queueing_at past) (run past w))
+
+-- the pool of a history: its worklist in order, and a seat for each worker
+abbrev pub seat_of : Layout → List Entry → PoolId → ℕ → Seat
+seat_of s past p x = record { enlisted = is_enlisted past (worker_at p x); run = run_task s past (worker_at p x); asleep = is_asleep past (worker_at p x) }
+
+abbrev pub pool_of : Layout → List Entry → PoolId → Lineup
+pool_of s past p = record { items = s.items; listed = map (task_for s) (worklist s past p); seats = map (seat_of s past p) (indices s) }
+
+-- what a pool is told of a reply to its worker with this index: it started the next, finished, slept, woke or retired
+abbrev pub start_next : ℕ → Option Task → Lineup → Lineup
+start_next x None l = l
+start_next x (Some t) l = started l x t
+
+abbrev pub told_reply : Reply → ℕ → Lineup → Lineup
+told_reply (reply.Started n) x l = start_next x (next_task l) l
+told_reply (reply.StartedEnlist n y) x l = start_next x (next_task l) l
+told_reply (reply.Finished n) x l = reseated seat_free l x
+told_reply reply.Slept x l = reseated seat_asleep l x
+told_reply reply.Woke x l = reseated seat_awake l x
+told_reply reply.Retired x l = reseated seat_retired l x
+told_reply r x l = l
+
+abbrev pub told_worker : PoolId → Who → Reply → Lineup → Lineup
+told_worker p (Caller c) r l = l
+told_worker p (Worker w) r l = if same_pool w.pool p then told_reply r w.index l else l
+
+-- of a queueing of its own that was taken back or replaced, and of those that became active, in their order
+abbrev pub told_cancelled : Layout → PoolId → Entry → Option Queueing → Lineup → Lineup
+told_cancelled s p e None l = l
+told_cancelled s p e (Some x) l = if is_in s p x && not (finishes x.number e) then removed l x.number else l
+
+abbrev pub told_active : Layout → List Queueing → Lineup → Lineup
+told_active s xs l = fold (λ (m : Lineup) (x : Queueing). added m (task_for s x)) l xs
+
+abbrev pub told : Layout → List Entry → PoolId → Entry → Lineup → Lineup
+told s past p e l = told_active s (filter (is_in s p) (newly_active s past e)) (told_cancelled s p e (ending past e) (told_worker p e.who e.reply l))
+
+-- at first the pool is a new one, and each entry's calls make it that of the longer history
+abbrev pub PoolsAtFirst : Type 0
+PoolsAtFirst = (s : Layout) (p : PoolId) → pool_of s [] p ≡ new_lineup s.items s.workers
+
+abbrev pub PoolsFollow : Type 0
+PoolsFollow = (s : Layout) (past : List Entry) (e : Entry) (p : PoolId) → IsLegal s (e ∷ past) → pool_of s (e ∷ past) p ≡ told s past p e (pool_of s past p)
+
+-- what the pool answers is what the definitions say: the next to start, how many runs hold it, whom a start enlists, who may retire
+abbrev pub NextsAreNext : Type 0
+NextsAreNext = (s : Layout) (past : List Entry) (p : PoolId) → IsLegal s past → lineup_next (pool_of s past p) ≡ option_map number_of_queueing (next s past p)
+
+abbrev pub RunnablesAreRunnable : Type 0
+RunnablesAreRunnable = (s : Layout) (past : List Entry) (p : PoolId) → IsLegal s past → seats_runnable (pool_of s past p).seats ≡ runnable s past p
+
+abbrev pub StartsEnlistAlike : Type 0
+StartsEnlistAlike = (s : Layout) (past : List Entry) (w : WorkerId) → IsLegal s past → seats_enlisted_by (pool_of s past w.pool).seats w.index ≡ enlisted_by s past w
+
+abbrev pub IdleRetireAlike : Type 0
+IdleRetireAlike = (s : Layout) (past : List Entry) (p : PoolId) (x : ℕ) → IsLegal s past → x < s.workers → seat_may_retire (pool_of s past p).seats x ≡ (is_idle past p x && may_retire s past p)
+
+-- and each worker's seat: whether it is enlisted, the number of its run, and whether that sleeps
+pub record IsSeatOf (past : List Entry) (w : WorkerId) (seat : Seat) : Type 0 where
+  pub enlisted : seat.enlisted ≡ is_enlisted past w
+  pub run : run_number seat ≡ run past w
+  pub asleep : seat.asleep ≡ is_asleep past w
+
+abbrev pub SeatsAreWorkers : Type 0
+SeatsAreWorkers = (s : Layout) (past : List Entry) (p : PoolId) (x : ℕ) → IsLegal s past → x < s.workers → IsSeatOf past (worker_at p x) (seat_at (pool_of s past p).seats x)

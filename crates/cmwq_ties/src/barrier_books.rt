@@ -1,0 +1,37 @@
+//! Where the barriers are those of a history, the calls for one more entry make them those of the longer history, and
+//! what they answer is what the definitions say.
+
+ghost use Rattle.cmwq_ties.specs.BarrierBooks.{BarriersAtFirst, BarriersFollow, BarriersWaitForLeast, ReadyBarriersWaitForNothing};
+
+/// Before any entry the barriers are new ones.
+pub fn barriers_at_first()
+    ensures { BarriersAtFirst }
+{}
+
+/// Barriers that are told of an entry of a legal history follow it: what is open of each item, and which waits stand.
+pub fn barriers_follow()
+    ensures { BarriersFollow }
+{}
+
+/// A wait for an item is for the queueing that the definitions name, the least.
+pub fn barriers_wait_for_least()
+    ensures { BarriersWaitForLeast }
+{}
+
+/// A wait for an item is ready by the barriers exactly where by the definitions it waits for nothing.
+pub fn ready_barriers_wait_for_nothing()
+    ensures { ReadyBarriersWaitForNothing }
+{}
+
+#[cfg(test)]
+mod tests {
+    use super::*;
+
+    #[test]
+    fn each_is_there() {
+        barriers_at_first();
+        barriers_follow();
+        barriers_wait_for_least();
+        ready_barriers_wait_for_nothing();
+    }
+}

@@ -1,0 +1,50 @@
+//! Where a flush book is that of a queue after some entries, the calls for one more entry make it that of the longer
+//! history, and what it answers is what the definitions say.
+
+ghost use Rattle.cmwq_ties.specs.FlushBooks.{FlushesAtFirst, FlushesFollow, ReadyFlushesWaitForNothing, FlushesWaitForLeastOpen, DrainsWaitForLeastOpen, DrainingWhileDrainsStand};
+
+/// Before any entry each queue has a new flush book.
+pub fn flushes_at_first()
+    ensures { FlushesAtFirst }
+{}
+
+/// A flush book that is told of an entry of a legal history follows it: what is open, which flushes are served and from
+/// where, which are in overflow, and which drains stand.
+pub fn flushes_follow()
+    ensures { FlushesFollow }
+{}
+
+/// A flush is ready by its book exactly where by the definitions it waits for nothing.
+pub fn ready_flushes_wait_for_nothing()
+    ensures { ReadyFlushesWaitForNothing }
+{}
+
+/// A flush that isn't ready waits for the least open queueing of its queue.
+pub fn flushes_wait_for_least_open()
+    ensures { FlushesWaitForLeastOpen }
+{}
+
+/// A drain waits for the least open queueing of its queue, if there is one.
+pub fn drains_wait_for_least_open()
+    ensures { DrainsWaitForLeastOpen }
+{}
+
+/// A queue is draining exactly while a drain stands in its book.
+pub fn draining_while_drains_stand()
+    ensures { DrainingWhileDrainsStand }
+{}
+
+#[cfg(test)]
+mod tests {
+    use super::*;
+
+    #[test]
+    fn each_is_there() {
+        flushes_at_first();
+        flushes_follow();
+        ready_flushes_wait_for_nothing();
+        flushes_wait_for_least_open();
+        drains_wait_for_least_open();
+        draining_while_drains_stand();
+    }
+}

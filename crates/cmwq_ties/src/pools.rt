@@ -1,0 +1,56 @@
+//! Where a pool is that of some entries, the calls for one more entry make it that of the longer history, and what it
+//! answers is what the definitions say.
+
+ghost use Rattle.cmwq_ties.specs.Pools.{PoolsAtFirst, PoolsFollow, NextsAreNext, RunnablesAreRunnable, StartsEnlistAlike, IdleRetireAlike, SeatsAreWorkers};
+
+/// Before any entry each pool is a new one.
+pub fn pools_at_first()
+    ensures { PoolsAtFirst }
+{}
+
+/// A pool that is told of an entry of a legal history follows it: that its worker started the next, finished, slept, woke
+/// or retired, that a queueing was taken back or replaced, and what became active.
+pub fn pools_follow()
+    ensures { PoolsFollow }
+{}
+
+/// The next queueing of a pool is the first of its worklist whose item has no run anywhere.
+pub fn nexts_are_next()
+    ensures { NextsAreNext }
+{}
+
+/// As many runs hold a pool as the definitions say.
+pub fn runnables_are_runnable()
+    ensures { RunnablesAreRunnable }
+{}
+
+/// A worker that starts enlists whom the definitions name.
+pub fn starts_enlist_alike()
+    ensures { StartsEnlistAlike }
+{}
+
+/// A worker may retire by its pool where by the definitions it is idle and one may retire.
+pub fn idle_retire_alike()
+    ensures { IdleRetireAlike }
+{}
+
+/// A worker's seat says whether it is enlisted, what it runs and whether that sleeps.
+pub fn seats_are_workers()
+    ensures { SeatsAreWorkers }
+{}
+
+#[cfg(test)]
+mod tests {
+    use super::*;
+
+    #[test]
+    fn each_is_there() {
+        pools_at_first();
+        pools_follow();
+        nexts_are_next();
+        runnables_are_runnable();
+        starts_enlist_alike();
+        idle_retire_alike();
+        seats_are_workers();
+    }
+}

@@ -1,0 +1,60 @@
+//! Where the timers are the bookings of a history, the calls for each entry make them those of the longer history.
+
+ghost use Rattle.cmwq_ties.specs.Timers.{NoTimersAtFirst, TimersAreDueAsBooked, BookingsSetTimers, SettledTimersAreTakenBack, OthersKeepTimers, TimersMayBeTold, FirstTimerIsFirstDue, NoTimerIsNoneDue};
+
+/// At first no item is booked.
+pub fn no_timers_at_first()
+    ensures { NoTimersAtFirst }
+{}
+
+/// The tick at which a timer is due is that of its item's booking.
+pub fn timers_are_due_as_booked()
+    ensures { TimersAreDueAsBooked }
+{}
+
+/// An entry that books an item sets its timer.
+pub fn bookings_set_timers()
+    ensures { BookingsSetTimers }
+{}
+
+/// An entry that settles an item and doesn't book it takes its timer back.
+pub fn settled_timers_are_taken_back()
+    ensures { SettledTimersAreTakenBack }
+{}
+
+/// Any other entry keeps the timers as they are.
+pub fn others_keep_timers()
+    ensures { OthersKeepTimers }
+{}
+
+/// In a legal history the timers may be told of each entry: its item and its queue are there.
+pub fn timers_may_be_told()
+    ensures { TimersMayBeTold }
+{}
+
+/// Where the draining queues are held back, the timer that fires first is that of the booking that is due first.
+pub fn first_timer_is_first_due()
+    ensures { FirstTimerIsFirstDue }
+{}
+
+/// Where the draining queues are held back and no timer may fire, no booking is due.
+pub fn no_timer_is_none_due()
+    ensures { NoTimerIsNoneDue }
+{}
+
+#[cfg(test)]
+mod tests {
+    use super::*;
+
+    #[test]
+    fn each_is_there() {
+        no_timers_at_first();
+        timers_are_due_as_booked();
+        bookings_set_timers();
+        settled_timers_are_taken_back();
+        others_keep_timers();
+        timers_may_be_told();
+        first_timer_is_first_due();
+        no_timer_is_none_due();
+    }
+}
