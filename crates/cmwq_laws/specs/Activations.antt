@@ -46,3 +46,6 @@ has_way s past e x = nat_lt (count_by (is_beside x) (filter (is_spared past e) (
 abbrev pub NewlyActiveAre : Type 0
 NewlyActiveAre = (s : Layout) (past : List Entry) (e : Entry) → IsLegal s (e ∷ past)
     → newly_active s past e ≡ option_to_list (promoted s past (ending past e)) ++ filter (has_way s past e) (option_to_list (opening past e))
+
+abbrev pub OpenedHaveWay : Type 0
+OpenedHaveWay = (s : Layout) (past : List Entry) (e : Entry) (x : Queueing) → IsLegal s (e ∷ past) → opening past e ≡ Some x → is_active s (e ∷ past) x ≡ has_way s past e x

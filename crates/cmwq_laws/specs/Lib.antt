@@ -12,3 +12,4 @@ pub mod Reasons
 pub mod TicketSteps
 pub mod RoomSteps
 pub mod StateSteps
+pub mod Marks

@@ -28,7 +28,8 @@ pub fn one_queueing_ends()
     ensures { OneEnds }
 {}
 
-/// It is the one that the reply says finished or taken back, or the unstarted one of the item that is queued or booked anew.
+/// It is the one that the reply says finished or taken back, or the unstarted one of the item that is queued or
+/// booked anew.
 pub fn entries_end_what_they_say()
     ensures { EndsWhich }
 {}
