@@ -53,5 +53,6 @@ pub use state_steps::{
     serials_go_on, sleepers_go_on, time_goes_on,
 };
 pub use ticket_steps::{
-    begun_are_served, one_moves_up, one_ticket_ends, overflowed_move_up, served_stay, unended_go_on,
+    begun_are_served, one_moves_up, one_ticket_ends, overflowed_move_up, served_stay,
+    tickets_go_on, unended_go_on,
 };
