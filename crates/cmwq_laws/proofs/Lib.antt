@@ -47,3 +47,4 @@ pub mod OwedWaiting
 pub mod Promised
 pub mod StateSteps
 pub mod Marks
+pub mod Limits

@@ -13,3 +13,4 @@ pub mod TicketSteps
 pub mod RoomSteps
 pub mod StateSteps
 pub mod Marks
+pub mod Limits

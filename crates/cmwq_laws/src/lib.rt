@@ -31,7 +31,8 @@ pub use item_pools::{
 };
 pub use queueing_steps::{
     booked_items_have_no_unstarted, entries_end_what_they_say, items_have_one_unstarted,
-    one_queueing_ends, open_go_on, spared_stay_open,
+    items_have_two_open, one_queueing_ends, open_are_counted, open_are_two_for_each_item,
+    open_go_on, spared_stay_open,
 };
 pub use reply_reasons::{
     booked_were_idle, cancelled_were_unstarted, done_are_ready, finishes_are_runs, fired_are_due,
