@@ -1,6 +1,6 @@
 //! What one more entry makes active, and what it does to the worklists.
 
-ghost use Rattle.cmwq_laws.specs.Activations.{WorklistsGoOn, StartedAreActive, NewlyActiveAre, OpenedHaveWay};
+ghost use Rattle.cmwq_laws.specs.Activations.{WorklistsGoOn, StartedAreActive, NewlyActiveAre, OpenedHaveWay, ActiveStay};
 
 /// A pool's worklist after an entry: what is neither ended nor started, then what became active in that pool.
 pub fn worklists_go_on()
@@ -23,6 +23,11 @@ pub fn opened_have_way()
     ensures { OpenedHaveWay }
 {}
 
+/// What is active stays so while it is open.
+pub fn active_stay()
+    ensures { ActiveStay }
+{}
+
 #[cfg(test)]
 mod tests {
     use super::*;
@@ -33,5 +38,6 @@ mod tests {
         started_are_active();
         newly_active_are();
         opened_have_way();
+        active_stay();
     }
 }

@@ -15,7 +15,7 @@ mod state_steps;
 mod ticket_steps;
 
 pub use activation_steps::{
-    newly_active_are, opened_have_way, started_are_active, worklists_go_on,
+    active_stay, newly_active_are, opened_have_way, started_are_active, worklists_go_on,
 };
 pub use fidelity::{
     active_are_first, queueings_stand_by_number, replies_name_themselves, runs_are_items,
