@@ -43,10 +43,6 @@ module _ {X : Type 0} where
   filter_none p [] h = refl
   filter_none p (x ∷ xs) h = ap₂ (λ b ys. cond b (x ∷ ys) ys) h.0 (filter_none p xs h.1)
 
-  -- two pairs of tests that agree on each element
-  pub filter_both_same : (p q f g : X → Bool) (xs : List X) → AllByRecursion (λ x. (q x && p x) ≡ (g x && f x)) xs → filter p (filter q xs) ≡ filter f (filter g xs)
-  filter_both_same p q f g xs h = filter_twice p q xs ∙ filter_same (λ x. q x && p x) (λ x. g x && f x) xs h ∙ sym (filter_twice f g xs)
-
   pub count_by-same : (p q : X → Bool) (xs : List X) → AllByRecursion (λ x. p x ≡ q x) xs → count_by p xs ≡ count_by q xs
   count_by-same p q [] h = refl
   count_by-same p q (x ∷ xs) h = count_by-cons p x xs ∙ ap₂ (λ b n. cond b 1 0 + n) h.0 (count_by-same p q xs h.1) ∙ sym (count_by-cons q x xs)

@@ -108,9 +108,6 @@ by_nobody (Some v) = refl
 pub no_start : (e : Entry) → number_started e.reply ≡ None → start_in e ≡ None
 no_start e none = ap (λ (o : Option ℕ). option_and_then (start_with o) (worker_of e.who)) none ∙ by_nobody (worker_of e.who)
 
-is_at_itself : (n : ℕ) → is_at (Some n) n ≡ true
-is_at_itself n = eq-eqb n n refl
-
 pub starts_its_item : (e : Entry) (past : List Entry) (start : Start) (i j : ℕ) → start_in e ≡ Some start → item_at past start.number ≡ Some j → starts_item past e i ≡ (j == i)
 starts_its_item e past start i j is item =
     ap (λ (o : Option Start). option_map_or (λ (st : Start). is_at (item_at past st.number) i) o false) is ∙ ap (λ o. is_at o i) item

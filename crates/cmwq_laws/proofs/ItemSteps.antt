@@ -41,7 +41,7 @@ starts_of past e i start h is =
     let item : is_at (item_at past start.number) i ≡ true = sym (ap (λ (o : Option Start). option_map_or (λ (st : Start). is_at (item_at past st.number) i) o false) is) ∙ h in
     record { by_worker = parts.0; number = parts.1; item = is_at-true (item_at past start.number) i item }
 
-starts_some : (past : List Entry) (e : Entry) (i : ℕ) (o : Option Start) → start_in e ≡ o → starts_item past e i ≡ true → (start : Start) × (start_in e ≡ Some start)
+pub starts_some : (past : List Entry) (e : Entry) (i : ℕ) (o : Option Start) → start_in e ≡ o → starts_item past e i ≡ true → (start : Start) × (start_in e ≡ Some start)
 starts_some past e i None is h =
     let none : starts_item past e i ≡ false = ap (λ (o : Option Start). option_map_or (λ (st : Start). is_at (item_at past st.number) i) o false) is in
     let bad : true ≡ false = sym h ∙ none in

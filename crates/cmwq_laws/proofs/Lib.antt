@@ -46,3 +46,5 @@ pub mod OwedItems
 pub mod OwedWaiting
 pub mod Promised
 pub mod StateSteps
+pub mod Marks
+pub mod Limits

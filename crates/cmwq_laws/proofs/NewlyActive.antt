@@ -218,17 +218,11 @@ newly_promoted s past e (Some y) legal is = moved s past e y legal is ∙ promot
 
 -- ---- what is opened
 
-opened_way : (s : Layout) (past : List Entry) (e : Entry) (x : Queueing) → IsLegal s (e ∷ past) → opening past e ≡ Some x → is_newly_active s past e x ≡ has_way s past e x
-opened_way s past e x legal is =
+pub opened_have_way : (s : Layout) (past : List Entry) (e : Entry) (x : Queueing) → IsLegal s (e ∷ past) → opening past e ≡ Some x → is_active s (e ∷ past) x ≡ has_way s past e x
+opened_have_way s past e x legal is =
     let number : x.number ≡ length past = opening_number past e x is in
-    let before : is_active s past x ≡ false = grind (arith, nat_tests) in
-    let count : count_by (is_ahead x) (still_open (e ∷ past)) ≡ count_by (is_beside x) (filter (is_spared past e) (still_open past)) = ahead_after s past e x legal (omega arith) ∙ count_by-same (is_ahead x) (is_beside x) (filter (is_spared past e) (still_open past)) all_ahead in
-    ap₂ (λ b n. (b && nat_lt n (width_of s x.place.queue.0)) && not (is_active s past x)) (opened_live s past e x legal is) count ∙ ap (λ b. has_way s past e x && not b) before ∙ same (has_way s past e x)
+    ap₂ (λ b n. b && nat_lt n (width_of s x.place.queue.0)) (opened_live s past e x legal is) (ahead_after s past e x legal (omega arith) ∙ count_by-same (is_ahead x) (is_beside x) (filter (is_spared past e) (still_open past)) all_ahead)
   where
-    same : (b : Bool) → (b && not false) ≡ b
-    same true = refl
-    same false = refl
-
     ahead : (y : Queueing) → y.number < length past → is_ahead x y ≡ is_beside x y
     ahead y less = let number : x.number ≡ length past = opening_number past e x is in let below : nat_lt y.number x.number ≡ true = grind (arith, nat_tests) in ap (λ b. is_beside x y && b) below ∙ any (is_beside x y)
       where
@@ -238,6 +232,16 @@ opened_way s past e x legal is =
 
     all_ahead : AllByRecursion (λ y. is_ahead x y ≡ is_beside x y) (filter (is_spared past e) (still_open past))
     all_ahead = All_filter _ (is_spared past e) (still_open past) (All_filter _ (is_live past) (queueings past) (All_map (IsBelow (length past)) _ (queueings past) (λ y less live spared. ahead y less) (queueings_below past)))
+
+opened_way : (s : Layout) (past : List Entry) (e : Entry) (x : Queueing) → IsLegal s (e ∷ past) → opening past e ≡ Some x → is_newly_active s past e x ≡ has_way s past e x
+opened_way s past e x legal is =
+    let number : x.number ≡ length past = opening_number past e x is in
+    let before : is_active s past x ≡ false = grind (arith, nat_tests) in
+    ap₂ (λ a b. a && not b) (opened_have_way s past e x legal is) before ∙ same (has_way s past e x)
+  where
+    same : (b : Bool) → (b && not false) ≡ b
+    same true = refl
+    same false = refl
 
 newly_opened : (s : Layout) (past : List Entry) (e : Entry) (o : Option Queueing) → IsLegal s (e ∷ past) → opening past e ≡ o → filter (is_newly_active s past e) (option_to_list o) ≡ filter (has_way s past e) (option_to_list o)
 newly_opened s past e None legal is = refl

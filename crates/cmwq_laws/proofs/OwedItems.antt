@@ -106,12 +106,12 @@ booked_within s (e ∷ past) i b legal h = at (settles e.reply && is_of_item i e
     at true is h earlier = called (due_in e.reply) refl h (of is)
     at false is h earlier = earlier h
 
-record SettlesItem (s : Layout) (c : Call) (r : Reply) : Type 0 where
-  item : ℕ
-  is_item : option_or (item_called c) (item_fired r) ≡ Some item
-  within : item < s.items
+pub record SettlesItem (s : Layout) (c : Call) (r : Reply) : Type 0 where
+  pub item : ℕ
+  pub is_item : option_or (item_called c) (item_fired r) ≡ Some item
+  pub within : item < s.items
 
-settles_item : (s : Layout) (past : List Entry) (who : Who) (c : Call) (r : Reply) → Cause s past who c r → IsLegal s past → IsTrue (fits s who c) → settles r ≡ true → SettlesItem s c r
+pub settles_item : (s : Layout) (past : List Entry) (who : Who) (c : Call) (r : Reply) → Cause s past who c r → IsLegal s past → IsTrue (fits s who c) → settles r ≡ true → SettlesItem s c r
 settles_item s past who c r (cause.queued w i q d free idle) legal fit h = record { item = i.0; is_item = refl; within = item_within s who _ i.0 fit refl }
 settles_item s past who c r (cause.delayed_by_none w i q d t zero free idle) legal fit h = record { item = i.0; is_item = refl; within = item_within s who _ i.0 fit refl }
 settles_item s past who c r (cause.delayed w i q d t some free idle) legal fit h = record { item = i.0; is_item = refl; within = item_within s who _ i.0 fit refl }

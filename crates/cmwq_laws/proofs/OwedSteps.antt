@@ -96,9 +96,6 @@ by_itself e w who = ap (λ (x : Who). same_who x (Worker w)) who ∙ same_worker
 same_starter : (v w : WorkerId) → Worker v ≡ Worker w → v ≡ w
 same_starter v w h = cc
 
-balance : (a b c d : Bool) → a ≡ c → b ≡ d → one a + one b ≡ one c + one d
-balance a b c d h k = ap₂ (λ x y. one x + one y) h k
-
 runs_balance : (s : Layout) (past : List Entry) (who : Who) (c : Call) (r : Reply) (w : WorkerId) → Cause s past who c r → who ≡ Worker w → one (has_after past w r) + one (is_some (number_finished r)) ≡ one (has_run past w) + one (is_some (number_started r))
 runs_balance s past who c r w (cause.starts v x enlisted idle found clear none) is =
     let none : has_run past w ≡ false = subst (λ u. has_run past u ≡ false) (same_starter v w is) idle in

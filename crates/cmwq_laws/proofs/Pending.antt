@@ -52,7 +52,7 @@ settling s past who c r i (cause.delayed_queued w j free shut was) h k = booked 
 settling s past who c r i (cause.sync_unbooked w j free none was) h k = booked (of_item (λ m. is_booked past m ≡ true) i j.0 k was)
 settling s past who c r i other h k = cc
 
-opens_settles : (r : Reply) → opens r ≡ true → settles r ≡ true
+pub opens_settles : (r : Reply) → opens r ≡ true → settles r ≡ true
 opens_settles (reply.Yes k) h = refl
 opens_settles (reply.Again k) h = refl
 opens_settles (reply.Fired i k) h = refl

@@ -21,7 +21,8 @@ use Rattle.cmwq_model.specs.Calls.{same_who, is_by}
 use Rattle.cmwq_model.specs.Tickets.{gives_ticket, ticket_for, ticket_in, tickets, is_end_of, is_done, ends, is_unended, unended, is_flush_of, is_held_by, is_ticket}
 use Rattle.cmwq_model.specs.Waits.{is_older_flush, is_served_after, served}
 use Rattle.cmwq_model.specs.Legal.{IsLegal}
-use Rattle.cmwq_laws.specs.TicketSteps.{is_kept, ticket_asked, ticket_ended, is_ended_by, moves_up, is_moving}
+use Rattle.cmwq_laws.specs.RoomSteps.{one}
+use Rattle.cmwq_laws.specs.TicketSteps.{passes, is_kept, ticket_asked, ticket_ended, is_ended_by, moves_up, is_moving}
 use Rattle.cmwq_laws.proofs.Lists.{All_map, All_each, count_by-cons, count_by-none, count_by-filter, find_none}
 use Rattle.cmwq_laws.proofs.Filters.{filter_twice, filter_same, filter_one, filter_none, count_by-same, count_by-wider, count_by-fewer}
 use Rattle.cmwq_laws.proofs.Activated.{find_holds}
@@ -187,6 +188,28 @@ one_ticket_ends past e = at (is_done e.reply) refl
     at true h = filter_same (is_ended_by e) (is_asked e.who e.call) (unended past) (All_each _ (unended past) (λ t. ap (λ b. is_asked e.who e.call t && b) h ∙ and_true (is_asked e.who e.call t))) ∙ asked_is past e.who e.call
     at false h = filter_none (is_ended_by e) (unended past) (All_each _ (unended past) (λ t. ap (λ b. is_asked e.who e.call t && b) h ∙ and_false (is_asked e.who e.call t)))
 
+-- ---- counts of tickets
+
+pub tickets_go_on : (s : Layout) (past : List Entry) (e : Entry) (p : Ticket → Bool) → IsLegal s (e ∷ past)
+    → count_by p (unended (e ∷ past)) + one (passes p (ticket_ended past e)) ≡ count_by p (unended past) + one (passes p (ticket_in e (length past)))
+tickets_go_on s past e p legal =
+    let split : count_by p (filter (is_kept e) (unended past) ++ option_to_list (ticket_in e (length past))) ≡ count_by p (filter (is_kept e) (unended past)) + count_by p (option_to_list (ticket_in e (length past)))
+    = sum_by-append (λ t. cond (p t) 1 0) (filter (is_kept e) (unended past)) (option_to_list (ticket_in e (length past))) in
+    let after : count_by p (unended (e ∷ past)) ≡ count_by p (filter (is_kept e) (unended past) ++ option_to_list (ticket_in e (length past))) = ap (count_by p) (unended_go_on s past e legal) in
+    let both : count_by p (filter (is_kept e) (unended past)) + count_by p (filter (is_ended_by e) (unended past)) ≡ count_by p (unended past)
+    = sum_by-filter_both (is_kept e) (is_ended_by e) (λ t. twice (ends t e)) (λ t. cond (p t) 1 0) (unended past) in
+    let ended : count_by p (filter (is_ended_by e) (unended past)) ≡ one (passes p (ticket_ended past e)) = ap (count_by p) (one_ticket_ends past e) ∙ single (ticket_ended past e) in
+    let given : count_by p (option_to_list (ticket_in e (length past))) ≡ one (passes p (ticket_in e (length past))) = single (ticket_in e (length past)) in
+    omega arith
+  where
+    twice : (b : Bool) → b ≡ not (not b)
+    twice true = refl
+    twice false = refl
+
+    single : (o : Option Ticket) → count_by p (option_to_list o) ≡ one (passes p o)
+    single None = refl
+    single (Some t) = count_by-cons p t [] ∙ add-zero (one (p t))
+
 -- ---- flushes that are served
 
 pub served_stay : (past : List Entry) (e : Entry) (q n b : ℕ) → served past q n ≡ Some b → served (e ∷ past) q n ≡ Some b
@@ -197,29 +220,18 @@ served_stay past e q n b h = ap (λ o. option_or o (if nat_le n (length past) &&
 older_after : (s : Layout) (past : List Entry) (e : Entry) (q n : ℕ) → IsLegal s (e ∷ past) → n ≤ length past
     → count_by (is_older_flush q n) (unended (e ∷ past)) + cond (option_map_or (is_older_flush q n) (ticket_ended past e) false) 1 0 ≡ count_by (is_older_flush q n) (unended past)
 older_after s past e q n legal less =
-    let split : count_by (is_older_flush q n) (filter (is_kept e) (unended past) ++ option_to_list (ticket_in e (length past))) ≡ count_by (is_older_flush q n) (filter (is_kept e) (unended past)) + count_by (is_older_flush q n) (option_to_list (ticket_in e (length past)))
-    = sum_by-append (λ t. cond (is_older_flush q n t) 1 0) (filter (is_kept e) (unended past)) (option_to_list (ticket_in e (length past))) in
-    let after : count_by (is_older_flush q n) (unended (e ∷ past)) ≡ count_by (is_older_flush q n) (filter (is_kept e) (unended past) ++ option_to_list (ticket_in e (length past))) = ap (count_by (is_older_flush q n)) (unended_go_on s past e legal) in
-    let none : count_by (is_older_flush q n) (option_to_list (ticket_in e (length past))) ≡ 0 = new (ticket_in e (length past)) refl in
-    let both : count_by (is_older_flush q n) (filter (is_kept e) (unended past)) + count_by (is_older_flush q n) (filter (is_ended_by e) (unended past)) ≡ count_by (is_older_flush q n) (unended past)
-    = sum_by-filter_both (is_kept e) (is_ended_by e) (λ t. twice (ends t e)) (λ t. cond (is_older_flush q n t) 1 0) (unended past) in
-    let ended : count_by (is_older_flush q n) (filter (is_ended_by e) (unended past)) ≡ cond (option_map_or (is_older_flush q n) (ticket_ended past e) false) 1 0 = ap (count_by (is_older_flush q n)) (one_ticket_ends past e) ∙ one (ticket_ended past e) in
+    let count = tickets_go_on s past e (is_older_flush q n) legal in
+    let none = new (ticket_in e (length past)) refl in
     omega arith
   where
-    twice : (b : Bool) → b ≡ not (not b)
-    twice true = refl
-    twice false = refl
-
-    one : (o : Option Ticket) → count_by (is_older_flush q n) (option_to_list o) ≡ cond (option_map_or (is_older_flush q n) o false) 1 0
-    one None = refl
-    one (Some t) = count_by-cons (is_older_flush q n) t [] ∙ add-zero (cond (is_older_flush q n t) 1 0)
-
-    new : (o : Option Ticket) → ticket_in e (length past) ≡ o → count_by (is_older_flush q n) (option_to_list o) ≡ 0
-    new None h = refl
+    new : (o : Option Ticket) → ticket_in e (length past) ≡ o → one (passes (is_older_flush q n) o) ≤ 0
+    new None h = omega arith
     new (Some t) h =
         let number : t.number ≡ length past = ticket_number e (length past) t h in
         let young : nat_lt t.number n ≡ false = le-ltb t.number n (omega arith) in
-        one (Some t) ∙ ap (λ b. cond (is_flush_of q t && b) 1 0) young ∙ ap (λ b. cond b 1 0) (and_false (is_flush_of q t))
+        let fails : is_older_flush q n t ≡ false = ap (λ b. is_flush_of q t && b) young ∙ and_false (is_flush_of q t) in
+        let zero : one (is_older_flush q n t) ≡ 0 = ap one fails in
+        omega arith
 
 -- what isn't served though it stands has 15 older ones
 overflowed : (past : List Entry) (q n : ℕ) → n < length past → served past q n ≡ None → 15 ≤ count_by (is_older_flush q n) (unended past)

@@ -16,6 +16,10 @@ use Rattle.cmwq_laws.specs.Endings.{is_spared, ending}
 abbrev pub StartedAreActive : Type 0
 StartedAreActive = (s : Layout) (past : List Entry) → IsLegal s past → AllByRecursion (λ x. is_started past x.number ≡ true → is_live past x ≡ true → is_active s past x ≡ true) (queueings past)
 
+-- what is active stays so while it is open
+abbrev pub ActiveStay : Type 0
+ActiveStay = (s : Layout) (past : List Entry) (e : Entry) (x : Queueing) → is_active s past x ≡ true → is_live (e ∷ past) x ≡ true → is_active s (e ∷ past) x ≡ true
+
 -- a pool's worklist after the entry: what is neither ended nor started, then what became active in that pool
 abbrev pub is_left : List Entry → Entry → Queueing → Bool
 is_left past e x = is_spared past e x && not (starts x.number e)
@@ -46,3 +50,6 @@ has_way s past e x = nat_lt (count_by (is_beside x) (filter (is_spared past e) (
 abbrev pub NewlyActiveAre : Type 0
 NewlyActiveAre = (s : Layout) (past : List Entry) (e : Entry) → IsLegal s (e ∷ past)
     → newly_active s past e ≡ option_to_list (promoted s past (ending past e)) ++ filter (has_way s past e) (option_to_list (opening past e))
+
+abbrev pub OpenedHaveWay : Type 0
+OpenedHaveWay = (s : Layout) (past : List Entry) (e : Entry) (x : Queueing) → IsLegal s (e ∷ past) → opening past e ≡ Some x → is_active s (e ∷ past) x ≡ has_way s past e x

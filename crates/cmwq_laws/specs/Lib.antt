@@ -12,3 +12,5 @@ pub mod Reasons
 pub mod TicketSteps
 pub mod RoomSteps
 pub mod StateSteps
+pub mod Marks
+pub mod Limits

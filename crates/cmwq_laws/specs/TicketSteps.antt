@@ -1,5 +1,5 @@
 -- What one more entry does to the unended tickets, and which flushes it serves.
-use Rattle.std.specs.Prelude.{◌≡◌, ℕ, ◌<◌, ◌≤◌, Bool, false, ◌&&◌, not, ◌==◌, if◌then◌else◌, List, ◌∷◌, ◌++◌, length, filter, count_by, Option, Some, None, option_to_list, nat_lt}
+use Rattle.std.specs.Prelude.{◌≡◌, ℕ, ◌+◌, ◌<◌, ◌≤◌, Bool, false, ◌&&◌, not, ◌==◌, if◌then◌else◌, List, ◌∷◌, ◌++◌, length, filter, count_by, Option, Some, None, option_to_list, nat_lt}
 use Rattle.std.specs.Option.{option_map_or}
 use Rattle.cmwq_model.specs.declared.id.Who.{Who}
 use Rattle.cmwq_model.specs.declared.call.Call.{Call}
@@ -10,6 +10,7 @@ use Rattle.cmwq_model.specs.Layout.{Layout}
 use Rattle.cmwq_model.specs.Tickets.{is_done, ends, ticket_in, unended, is_flush_of, ticket_of}
 use Rattle.cmwq_model.specs.Waits.{is_older_flush, served}
 use Rattle.cmwq_model.specs.Legal.{IsLegal}
+use Rattle.cmwq_laws.specs.RoomSteps.{one}
 
 -- the unended tickets after the entry: those that it doesn't end, then the one that it gives
 abbrev pub is_kept : Entry → Ticket → Bool
@@ -32,6 +33,14 @@ is_ended_by e t = ends t e
 abbrev pub OneTicketEnds : Type 0
 OneTicketEnds = (past : List Entry) (e : Entry) → filter (is_ended_by e) (unended past) ≡ option_to_list (ticket_ended past e)
 
+-- so of the tickets that pass any test, one less is unended where the ended one passes, and one more where the given one does
+abbrev pub passes : (Ticket → Bool) → Option Ticket → Bool
+passes p o = option_map_or p o false
+
+abbrev pub TicketsGoOn : Type 0
+TicketsGoOn = (s : Layout) (past : List Entry) (e : Entry) (p : Ticket → Bool) → IsLegal s (e ∷ past)
+    → count_by p (unended (e ∷ past)) + one (passes p (ticket_ended past e)) ≡ count_by p (unended past) + one (passes p (ticket_in e (length past)))
+
 -- a flush that is served stays so, from the same position
 abbrev pub ServedStay : Type 0
 ServedStay = (past : List Entry) (e : Entry) (q n b : ℕ) → served past q n ≡ Some b → served (e ∷ past) q n ≡ Some b
@@ -43,7 +52,7 @@ BegunAreServed = (s : Layout) (past : List Entry) (e : Entry) (q : ℕ) (t : Tic
 
 -- one in overflow is served where the entry ends an older one of its queue and exactly 15 older ones were unended
 abbrev pub moves_up : List Entry → Entry → ℕ → ℕ → Bool
-moves_up past e q n = option_map_or (is_older_flush q n) (ticket_ended past e) false && (count_by (is_older_flush q n) (unended past) == 15)
+moves_up past e q n = passes (is_older_flush q n) (ticket_ended past e) && (count_by (is_older_flush q n) (unended past) == 15)
 
 abbrev pub OverflowedMoveUp : Type 0
 OverflowedMoveUp = (s : Layout) (past : List Entry) (e : Entry) (q n : ℕ) → IsLegal s (e ∷ past) → n < length past → served past q n ≡ None

@@ -22,7 +22,8 @@ pub fn runs_are_within_max_active()
     ensures { RunsAreWithinMaxActive }
 {}
 
-/// A flush is answered done only after all that was queued before it has ended, and so is a flush of an item and a drain.
+/// A flush is answered done only after all that was queued before it has ended, and so is a flush of an item and a
+/// drain.
 pub fn flushes_end_after_all_before()
     ensures { FlushesEndAfterAllBefore }
 {}

@@ -2,6 +2,7 @@
 
 ghost use Rattle.cmwq_laws.specs.Endings.{SparedStayOpen, OpenGoOn, OneEnds, EndsWhich};
 ghost use Rattle.cmwq_laws.specs.Pending.{OneUnstarted, BookedOrUnstarted};
+ghost use Rattle.cmwq_laws.specs.Limits.{OpenAreCounted, TwoOfAnItem, TwoForEachItem};
 
 /// A queueing is open after an entry where it was open before and is spared.
 pub fn spared_stay_open()
@@ -28,9 +29,25 @@ pub fn one_queueing_ends()
     ensures { OneEnds }
 {}
 
-/// It is the one that the reply says finished or taken back, or the unstarted one of the item that is queued or booked anew.
+/// It is the one that the reply says finished or taken back, or the unstarted one of the item that is queued or
+/// booked anew.
 pub fn entries_end_what_they_say()
     ensures { EndsWhich }
+{}
+
+/// One more is open for what an entry opens, and one less for what it ends.
+pub fn open_are_counted()
+    ensures { OpenAreCounted }
+{}
+
+/// Two queueings of an item are open at most: its run, and one that hasn't started.
+pub fn items_have_two_open()
+    ensures { TwoOfAnItem }
+{}
+
+/// No more queueings are open than two for each item of the layout.
+pub fn open_are_two_for_each_item()
+    ensures { TwoForEachItem }
 {}
 
 #[cfg(test)]
@@ -45,5 +62,8 @@ mod tests {
         booked_items_have_no_unstarted();
         one_queueing_ends();
         entries_end_what_they_say();
+        open_are_counted();
+        items_have_two_open();
+        open_are_two_for_each_item();
     }
 }

@@ -2,7 +2,8 @@
 
 ghost use Rattle.cmwq_laws.specs.Reasons.{StartsAreNext, FinishesAreRuns, SleepersAreAwake, WakersAreAsleep, RetirersMayRetire, QueuedWereIdle, QueuedAgainWerePending, BookedWereIdle, RebookedWerePending, FlushedDelayedWereBooked, CancelledWereUnstarted, UnbookedWereBooked, DoneAreReady, TicksTellNow, FiredAreDue, TicketsAreForCallers};
 
-/// What is started is the next of the pool, and its worker was idle; the worker that is enlisted is the one that the rule says.
+/// What is started is the next of the pool, and its worker was idle; the worker that is enlisted is the one that
+/// the rule says.
 pub fn starts_are_next()
     ensures { StartsAreNext }
 {}

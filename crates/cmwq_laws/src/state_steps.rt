@@ -1,6 +1,7 @@
 //! What is kept of workers, items, time and serials after one more entry.
 
 ghost use Rattle.cmwq_laws.specs.StateSteps.{SleepersGoOn, EnlistedGoOn, BookingsGoOn, TimeGoesOn, SerialsGoOn, EntriesBookAsAsked, EntriesOpenAsAsked};
+ghost use Rattle.cmwq_laws.specs.Marks.{OthersStay};
 
 /// A worker sleeps as its own last entry left it.
 pub fn sleepers_go_on()
@@ -37,6 +38,11 @@ pub fn entries_open_as_asked()
     ensures { EntriesOpenAsAsked }
 {}
 
+/// An entry can change the bits of one item at most: its own, or that of the queueing that it starts or finishes.
+pub fn others_stay()
+    ensures { OthersStay }
+{}
+
 #[cfg(test)]
 mod tests {
     use super::*;
@@ -50,5 +56,6 @@ mod tests {
         serials_go_on();
         entries_book_as_asked();
         entries_open_as_asked();
+        others_stay();
     }
 }

@@ -1,6 +1,6 @@
 //! What one more entry does to the unended tickets, and which flushes it serves.
 
-ghost use Rattle.cmwq_laws.specs.TicketSteps.{UnendedGoOn, OneTicketEnds, ServedStay, BegunAreServed, OverflowedMoveUp, OneMovesUp};
+ghost use Rattle.cmwq_laws.specs.TicketSteps.{UnendedGoOn, OneTicketEnds, ServedStay, BegunAreServed, OverflowedMoveUp, OneMovesUp, TicketsGoOn};
 
 /// The unended tickets after an entry: those that it doesn't end, then the one that it gives.
 pub fn unended_go_on()
@@ -32,6 +32,12 @@ pub fn one_moves_up()
     ensures { OneMovesUp }
 {}
 
+/// Of the tickets that pass any test, one less is unended where the ended one passes, and one more where the given
+/// one does.
+pub fn tickets_go_on()
+    ensures { TicketsGoOn }
+{}
+
 #[cfg(test)]
 mod tests {
     use super::*;
@@ -44,5 +50,6 @@ mod tests {
         begun_are_served();
         overflowed_move_up();
         one_moves_up();
+        tickets_go_on();
     }
 }
