@@ -1,3 +1,4 @@
 pub mod Texts
 pub mod Progress
 pub mod Fronts
+pub mod Spelled

@@ -91,3 +91,8 @@ fn a_line_of_120_bytes_is_judged(rt: HostRuntime) {
         assert_eq!(rt; refused(&rt, alloc, &text), Refusal::TooLong);
     }
 }
+
+#[test]
+fn each_law_is_there() {
+    histories_have_one_text();
+}
