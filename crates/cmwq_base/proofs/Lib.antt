@@ -2,3 +2,4 @@ pub mod Texts
 pub mod Progress
 pub mod Fronts
 pub mod Spelled
+pub mod Again

@@ -1,7 +1,12 @@
 //! What the texts of whole files keep, over every value.
-ghost use Rattle.cmwq_base.specs.FileLaws.{HistoriesHaveOneText};
+ghost use Rattle.cmwq_base.specs.FileLaws.{HistoriesHaveOneText, HistoriesReadAgain};
 
 /// A history and its shape have one text: what is read of a file is spelled so.
 pub fn histories_have_one_text()
     ensures { HistoriesHaveOneText }
+{}
+
+/// The text of a history and its shape is read again as itself.
+pub fn histories_read_again()
+    ensures { HistoriesReadAgain }
 {}

@@ -95,4 +95,5 @@ fn a_line_of_120_bytes_is_judged(rt: HostRuntime) {
 #[test]
 fn each_law_is_there() {
     histories_have_one_text();
+    histories_read_again();
 }
