@@ -6,25 +6,29 @@ use Rattle.std.proofs.lemmas.Bool.{lt-leb, le-ltb, leb-true}
 use Rattle.std.proofs.lemmas.List.Elements.{All-head, All-tail}
 use Rattle.std.proofs.lemmas.List.Splits.{slice_split_at}
 use Rattle.cmwq_io.specs.Feeds.{is_feed}
+use Rattle.cmwq_model.specs.declared.id.Who.{Who}
+use Rattle.cmwq_model.specs.declared.call.Call.{Call}
 use Rattle.cmwq_model.specs.declared.entry.Entry.{Entry}
 use Rattle.cmwq_model.specs.declared.shape.Counts.{Counts}
 use Rattle.cmwq_model.specs.declared.shape.QueueShape.{QueueShape}
 use Rattle.cmwq_model.specs.Layout.{Layout, layout_of, is_layout, are_counts, are_queues, is_queue, is_between, fits}
 use Rattle.cmwq_text.specs.Words.{joined}
+use Rattle.cmwq_text.specs.IdText.{who_text}
+use Rattle.cmwq_text.specs.CallText.{call_words, call_text}
 use Rattle.cmwq_text.specs.EntryText.{entry_words, entry_text, entry_fits}
 use Rattle.cmwq_text.specs.ReplyText.{reply_fits}
 use Rattle.cmwq_text.specs.ShapeText.{counts_words, counts_text, queue_words, queue_text, begins_queue}
 use Rattle.cmwq_text.specs.HistoryText.{counts_in, shape_text}
 use Rattle.cmwq_text.specs.Laws.{IsLineOf}
-use Rattle.cmwq_text.specs.Ranges.{IsEntry}
+use Rattle.cmwq_text.specs.Ranges.{IsWho, IsCall, IsEntry}
 use Rattle.cmwq_text.proofs.Steps.{both}
-use Rattle.cmwq_text.proofs.EntryLaws.{entries_read_again}
+use Rattle.cmwq_text.proofs.EntryLaws.{calls_read_again, entries_read_again}
 use Rattle.cmwq_text.proofs.ShapeLaws.{counts_read_again, queues_read_again}
-use Rattle.cmwq_text.proofs.WholeLines.{IsWholeLine, whole_counts, whole_queue, whole_entry, entry_begins, fits_kind}
+use Rattle.cmwq_text.proofs.WholeLines.{IsWholeLine, whole_counts, whole_queue, whole_call, whole_entry, who_begins_no_queue, entry_begins, fits_kind}
 use Rattle.cmwq_base.specs.Pieces.{pieces}
 use Rattle.cmwq_base.specs.Files.{File, Stage, Kind, begin, head, body, shape_made, and_then, begun, queue_line, item_line, first_item, after_head, after_line, at_end, without_items, after_pieces, after_text, file_of}
-use Rattle.cmwq_base.specs.Kinds.{history_kind}
-use Rattle.cmwq_base.specs.FileLaws.{HistoriesReadAgain}
+use Rattle.cmwq_base.specs.Kinds.{calls_kind, history_kind}
+use Rattle.cmwq_base.specs.FileLaws.{HistoriesReadAgain, CallFilesReadAgain}
 use Rattle.cmwq_base.proofs.Texts.{after_first_piece, pieces_some}
 
 -- a line of the kind is read again, is none of a queue, and fits the shape
@@ -142,3 +146,19 @@ pub histories_read_again : HistoriesReadAgain
 histories_read_again f inside sound each =
     files_read_again history_kind entry_text f (λ q line is spelled. (queues_read_again q line is spelled).1) inside sound.few
     (λ i d lt. entry_again f.layout _ (each i d lt) (sound.fitting i d lt))
+
+-- ---- calls
+
+abbrev call_line : Who × Call → List ℕ
+call_line x = call_text x.0 x.1
+
+call_again : (s : Layout) (x : Who × Call) → IsWho x.0 → IsCall x.1 → fits s x.0 x.1 ≡ true → IsAgain calls_kind call_line s x
+call_again s x h k inside =
+    let line : List ℕ = joined (who_text x.0 ∷ call_words x.1) in
+    let whole = whole_call x.0 x.1 h k in
+    record { line = line; whole = whole; read = calls_read_again x.0 x.1 line h k (fits_kind s x.0 x.1 inside) whole.is; other = who_begins_no_queue x.0 (call_words x.1) h; inside = inside }
+
+pub call_files_read_again : CallFilesReadAgain
+call_files_read_again f inside sound each =
+    files_read_again calls_kind call_line f (λ q line is spelled. (queues_read_again q line is spelled).0) inside sound.few
+    (λ i d lt. let ranges = each i d lt in call_again f.layout _ ranges.0 ranges.1 (sound.fitting i d lt))

@@ -94,6 +94,7 @@ fn a_line_of_120_bytes_is_judged(rt: HostRuntime) {
 
 #[test]
 fn each_law_is_there() {
+    call_files_read_again();
     histories_have_one_text();
     histories_read_again();
 }
