@@ -1,3 +1,5 @@
 pub mod Texts
 pub mod Progress
 pub mod Fronts
+pub mod Spelled
+pub mod Again

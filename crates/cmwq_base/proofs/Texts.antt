@@ -43,7 +43,7 @@ pieces_last text h =
     slice_split_none is_feed text (λ k d less. fails_before_first is_feed text k d (omega arith))
 
 -- there is always a piece: what stands after the last line feed
-pieces_some : (text : List ℕ) → (p : List ℕ) × (ps : List (List ℕ)) × (pieces text ≡ p ∷ ps)
+pub pieces_some : (text : List ℕ) → (p : List ℕ) × (ps : List (List ℕ)) × (pieces text ≡ p ∷ ps)
 pieces_some text = by_feed (has_feed text) refl
   where
     by_feed : (b : Bool) → has_feed text ≡ b → (p : List ℕ) × (ps : List (List ℕ)) × (pieces text ≡ p ∷ ps)
@@ -88,7 +88,7 @@ long_found false false false h = cc
 -- ---- what each gives
 
 module _ {X : Type 0} (k : Kind X) (n : ℕ) (stage : Stage X) where
-  after_first_piece : (line : List ℕ) (rest : List (List ℕ)) (p : List ℕ) (ps : List (List ℕ)) → rest ≡ p ∷ ps → is_long line ≡ false
+  pub after_first_piece : (line : List ℕ) (rest : List (List ℕ)) (p : List ℕ) (ps : List (List ℕ)) → rest ≡ p ∷ ps → is_long line ≡ false
       → after_pieces k n stage (line ∷ rest) ≡ and_then (λ next. after_pieces k (n + 1) next rest) (after_line k n stage line)
   unfolding after_pieces
   after_first_piece line rest p ps h short = rw h (ap (λ b. if b then Err refusal.TooLong else and_then (λ next. after_pieces k (n + 1) next (p ∷ ps)) (after_line k n stage line)) short)

@@ -37,3 +37,4 @@ pub mod Gives
 pub mod Stages
 pub mod Kinds
 pub mod Views
+pub mod FileLaws

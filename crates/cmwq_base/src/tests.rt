@@ -91,3 +91,10 @@ fn a_line_of_120_bytes_is_judged(rt: HostRuntime) {
         assert_eq!(rt; refused(&rt, alloc, &text), Refusal::TooLong);
     }
 }
+
+#[test]
+fn each_law_is_there() {
+    call_files_read_again();
+    histories_have_one_text();
+    histories_read_again();
+}

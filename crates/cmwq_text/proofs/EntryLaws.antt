@@ -34,7 +34,7 @@ call_from ws = do
   c ← call_in who.1
   if is_end c.1 && is_of_kind who.0 c.0 then Some (who.0, c.0) else None
 
-call_line_is_plain : (who : Who) (c : Call) → IsWho who → IsCall c → are_plain (who_text who ∷ call_words c) ≡ true
+pub call_line_is_plain : (who : Who) (c : Call) → IsWho who → IsCall c → are_plain (who_text who ∷ call_words c) ≡ true
 call_line_is_plain who c h k = and_true (is_plain (who_text who)) (are_plain (call_words c)) (is_plain-who who h) (call_is_plain c k)
 
 pub calls_read_again : CallsReadAgain
@@ -82,7 +82,7 @@ entry_after_who who = number_in who.1 >>= entry_after_serial who.0
 abbrev entry_from : List (List ℕ) → Option Entry
 entry_from ws = who_in ws >>= entry_after_who
 
-entry_is_plain : (e : Entry) → IsEntry e → are_plain (entry_words e) ≡ true
+pub entry_is_plain : (e : Entry) → IsEntry e → are_plain (entry_words e) ≡ true
 entry_is_plain e h =
     let answer : List (List ℕ) = (61 ∷ []) ∷ reply_words e.reply in
     let behind : List (List ℕ) = call_words e.call ++ answer in

@@ -13,3 +13,4 @@ pub mod ReplyLaws
 pub mod LineLaws
 pub mod EntryLaws
 pub mod ShapeLaws
+pub mod WholeLines

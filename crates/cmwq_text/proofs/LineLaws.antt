@@ -36,7 +36,7 @@ no_more (w ∷ ws) e = absurd cc
 
 -- ---- the first line feed
 
-abbrev has_no_feed : List ℕ → Bool
+abbrev pub has_no_feed : List ℕ → Bool
 has_no_feed bytes = list_all (ltb 10) bytes
 
 plain_has_none : (w : List ℕ) (rest : List ℕ) → is_plain w ≡ true → has_no_feed rest ≡ true → has_no_feed (w ++ rest) ≡ true
@@ -51,7 +51,7 @@ plain_is_none (x ∷ xs) p =
     let parts = both (is_above_space x) (is_plain xs) p in
     and_true (ltb 10 x) (has_no_feed xs) (lt-ltb 10 x (omega (arith, ltb-true 32 x parts.0))) (plain_is_none xs parts.1)
 
-joined_has_none : (ws : List (List ℕ)) → are_plain ws ≡ true → has_no_feed (joined ws) ≡ true
+pub joined_has_none : (ws : List (List ℕ)) → are_plain ws ≡ true → has_no_feed (joined ws) ≡ true
 joined_has_none [] p = refl
 joined_has_none (w ∷ []) p = plain_is_none w (both (is_plain w) true p).0
 joined_has_none (w ∷ v ∷ ws) p =

@@ -54,13 +54,17 @@ counts_after_cpus c = byte_in c.1 >>= counts_after_workers c.0
 abbrev counts_from : List (List ℕ) → Option Counts
 counts_from ws = after (codes "shape") ws >>= λ rest. byte_in rest >>= counts_after_cpus
 
+pub counts_are_plain : (n : Counts) → IsTrue (are_counts n.cpus n.workers n.callers n.items n.room) → are_plain (counts_words n) ≡ true
+counts_are_plain n inside =
+    let small = counts_are_small n.cpus n.workers n.callers n.items n.room inside in
+    let numbers : List ℕ = n.cpus ∷ n.workers ∷ n.callers ∷ n.items ∷ n.room ∷ [] in
+    numbers_are_plain numbers (omega arith, (omega arith, (omega arith, (omega arith, (omega arith, tt)))))
+
 pub counts_read_again : CountsReadAgain
 unfolding counts_text counts_of
 counts_read_again n line inside is =
     let small = counts_are_small n.cpus n.workers n.callers n.items n.room inside in
-    let numbers : List ℕ = n.cpus ∷ n.workers ∷ n.callers ∷ n.items ∷ n.room ∷ [] in
-    let plain : are_plain (counts_words n) ≡ true = numbers_are_plain numbers (omega arith, (omega arith, (omega arith, (omega arith, (omega arith, tt))))) in
-    let words : words_of line ≡ counts_words n = line_words (codes "shape") (decimal n.cpus ∷ decimal n.workers ∷ decimal n.callers ∷ decimal n.items ∷ decimal n.room ∷ []) line plain is in
+    let words : words_of line ≡ counts_words n = line_words (codes "shape") (decimal n.cpus ∷ decimal n.workers ∷ decimal n.callers ∷ decimal n.items ∷ decimal n.room ∷ []) line (counts_are_plain n inside) is in
     ap counts_from words
     ∙ rw (
       byte_in_again n.cpus (decimal n.workers ∷ decimal n.callers ∷ decimal n.items ∷ decimal n.room ∷ []) (omega arith),
@@ -146,12 +150,16 @@ queue_line_after width = word_in flags_of width.1 >>= queue_line_tested width.0
 abbrev queue_line_from : List (List ℕ) → Option QueueLine
 queue_line_from ws = after (codes "wq") ws >>= λ rest. number_in rest >>= queue_line_after
 
+pub queue_is_plain : (q : QueueShape) → q.max_active ≤ 512 → are_plain (queue_words q) ≡ true
+queue_is_plain q small =
+    let f : List ℕ = flags_text (flags q.high q.intensive) in
+    and_true (is_plain (decimal q.max_active)) (are_plain (f ∷ [])) (is_plain-decimal q.max_active (omega arith)) (and_true (is_plain f) true (flags_are_plain q.high q.intensive) refl)
+
 queue_line_again : (q : QueueShape) (line : List ℕ) → q.max_active ≤ 512 → IsLineOf (queue_text q) line → queue_line_of line ≡ Some (record { max_active = q.max_active; flags = flags q.high q.intensive })
 unfolding queue_text queue_line_of
 queue_line_again q line small is =
     let f : List ℕ = flags_text (flags q.high q.intensive) in
-    let plain : are_plain (queue_words q) ≡ true = and_true (is_plain (decimal q.max_active)) (are_plain (f ∷ [])) (is_plain-decimal q.max_active (omega arith)) (and_true (is_plain f) true (flags_are_plain q.high q.intensive) refl) in
-    let words : words_of line ≡ queue_words q = line_words (codes "wq") (decimal q.max_active ∷ f ∷ []) line plain is in
+    let words : words_of line ≡ queue_words q = line_words (codes "wq") (decimal q.max_active ∷ f ∷ []) line (queue_is_plain q small) is in
     ap queue_line_from words ∙ rw (number_in_again q.max_active (f ∷ []) (omega arith), flags_again q.high q.intensive) refl
 
 width_kept : (n : ℕ) → 1 ≤ n → n ≤ 512 → width_taken n ≡ n
@@ -201,18 +209,18 @@ who_is_short : (who : Who) → IsWho who → length (who_text who) ≤ 8
 who_is_short (Caller c) h = omega (arith, byte_len c.0 h)
 who_is_short (Worker w) h = omega (arith, byte_len w.pool.cpu.0 h.0, byte_len w.index h.1, length-append (decimal w.pool.cpu.0) (pool_letter w.pool.high ∷ decimal w.index))
 
-call_line_is_short : (who : Who) (c : Call) → IsWho who → IsCall c → length (call_text who c) ≤ 121
+pub call_line_is_short : (who : Who) (c : Call) → IsWho who → IsCall c → length (call_text who c) ≤ 121
 unfolding call_text
 call_line_is_short who c h k = omega (arith, line_len (who_text who) (call_words c), who_is_short who h, call_is_short c k)
 
-entry_line_is_short : (e : Entry) → IsEntry e → length (entry_text e) ≤ 121
+pub entry_line_is_short : (e : Entry) → IsEntry e → length (entry_text e) ≤ 121
 unfolding entry_text
 entry_line_is_short e h =
     let answer : List (List ℕ) = (61 ∷ []) ∷ reply_words e.reply in
     let len : length (line_text (entry_words e)) ≡ size (entry_words e) = line_len (who_text e.who) (decimal e.serial ∷ (call_words e.call ++ answer)) in
     omega (arith, len, size-append (call_words e.call) answer, who_is_short e.who h.who, number_len e.serial h.serial, call_is_short e.call h.call, reply_is_short e.reply h.reply)
 
-counts_line_is_short : (n : Counts) → IsTrue (are_counts n.cpus n.workers n.callers n.items n.room) → length (counts_text n) ≤ 121
+pub counts_line_is_short : (n : Counts) → IsTrue (are_counts n.cpus n.workers n.callers n.items n.room) → length (counts_text n) ≤ 121
 unfolding counts_text
 counts_line_is_short n inside =
     let small = counts_are_small n.cpus n.workers n.callers n.items n.room inside in
@@ -225,7 +233,7 @@ flags_are_short true false = omega arith
 flags_are_short false true = omega arith
 flags_are_short false false = omega arith
 
-queue_line_is_short : (q : QueueShape) → IsTrue (is_queue q) → length (queue_text q) ≤ 121
+pub queue_line_is_short : (q : QueueShape) → IsTrue (is_queue q) → length (queue_text q) ≤ 121
 unfolding queue_text
 queue_line_is_short q inside =
     let small : q.max_active ≤ 512 = leb-true q.max_active 512 (both (leb 1 q.max_active) (leb q.max_active 512) inside).1 in

@@ -1,9 +1,13 @@
 -- The whole text of a history with its shape: the shape line, a line for each queue, a line for each entry from the oldest on.
+-- That of calls with their shape has a line for each call in place of the entries.
 use Rattle.std.specs.Prelude.{ℕ, List, ◌++◌}
 use Rattle.std.specs.List.{flat_map}
+use Rattle.cmwq_model.specs.declared.id.Who.{Who}
+use Rattle.cmwq_model.specs.declared.call.Call.{Call}
 use Rattle.cmwq_model.specs.declared.entry.Entry.{Entry}
 use Rattle.cmwq_model.specs.declared.shape.Counts.{Counts}
 use Rattle.cmwq_model.specs.Layout.{Layout}
+use Rattle.cmwq_text.specs.CallText.{call_text}
 use Rattle.cmwq_text.specs.EntryText.{entry_text}
 use Rattle.cmwq_text.specs.ShapeText.{counts_text, queue_text}
 
@@ -18,3 +22,6 @@ entries_text entries = flat_map entry_text entries
 
 abbrev pub history_text : Layout → List Entry → List ℕ
 history_text s entries = shape_text s ++ entries_text entries
+
+abbrev pub calls_text : Layout → List (Who × Call) → List ℕ
+calls_text s calls = shape_text s ++ flat_map (λ x. call_text x.0 x.1) calls

@@ -1,0 +1,23 @@
+-- What the texts of whole files keep.
+use Rattle.std.specs.Prelude.{◌≡◌, ℕ, List, Ok, IsTrue}
+use Rattle.std.specs.List.{All}
+use Rattle.cmwq_model.specs.declared.id.Who.{Who}
+use Rattle.cmwq_model.specs.declared.call.Call.{Call}
+use Rattle.cmwq_model.specs.declared.entry.Entry.{Entry}
+use Rattle.cmwq_model.specs.Layout.{is_layout}
+use Rattle.cmwq_text.specs.Ranges.{IsWho, IsCall, IsEntry}
+use Rattle.cmwq_text.specs.HistoryText.{history_text, calls_text}
+use Rattle.cmwq_base.specs.Files.{File, IsSound}
+use Rattle.cmwq_base.specs.Kinds.{calls_kind, call_file_of, history_kind, history_file_of}
+
+-- a history and its shape have one text: what is read of a file of a history is spelled so
+abbrev pub HistoriesHaveOneText : Type 0
+HistoriesHaveOneText = (text : List ℕ) (f : File Entry) → history_file_of text ≡ Ok f → text ≡ history_text f.layout f.items
+
+-- what is spelled is read again, if the shape is inside the limits, no more than 1,000,000 entries stand in it and each of them fits it
+abbrev pub HistoriesReadAgain : Type 0
+HistoriesReadAgain = (f : File Entry) → IsTrue (is_layout f.layout) → IsSound history_kind f → All IsEntry f.items → history_file_of (history_text f.layout f.items) ≡ Ok f
+
+-- the same of a file of calls
+abbrev pub CallFilesReadAgain : Type 0
+CallFilesReadAgain = (f : File (Who × Call)) → IsTrue (is_layout f.layout) → IsSound calls_kind f → All (λ x. IsWho x.0 × IsCall x.1) f.items → call_file_of (calls_text f.layout f.items) ≡ Ok f

@@ -1,0 +1,17 @@
+//! What the texts of whole files keep, over every value.
+ghost use Rattle.cmwq_base.specs.FileLaws.{HistoriesHaveOneText, HistoriesReadAgain, CallFilesReadAgain};
+
+/// A history and its shape have one text: what is read of a file is spelled so.
+pub fn histories_have_one_text()
+    ensures { HistoriesHaveOneText }
+{}
+
+/// The text of a history and its shape is read again as itself.
+pub fn histories_read_again()
+    ensures { HistoriesReadAgain }
+{}
+
+/// The text of calls and their shape is read again as itself.
+pub fn call_files_read_again()
+    ensures { CallFilesReadAgain }
+{}

@@ -1,0 +1,97 @@
+-- Lines that are spelled end at their line feed and nowhere before, and lines of queues begin as no others do.
+use Rattle.std.proofs.Common.{◌≡◌, ℕ, zero, suc, ◌<◌, ◌≤◌, Bool, true, false, ◌&&◌, List, [], ◌∷◌, ◌++◌, length, get_or, leb, ltb, eqb, refl, ap, sym, ◌∙◌, arith}
+use Rattle.std.specs.Prelude.{codes, IsTrue, ◌==◌}
+use Rattle.std.specs.Char.{is_ascii_digit}
+use Rattle.std.specs.Fmt.{decimal}
+use Rattle.std.specs.List.{All}
+use Rattle.std.specs.Str.{all_ascii_digits}
+use Rattle.std.proofs.lemmas.Bool.{leb-true, ltb-true, ne_eqb}
+use Rattle.std.proofs.lemmas.Fmt.{digits_decimal}
+use Rattle.std.proofs.lemmas.List.{length-append}
+use Rattle.cmwq_model.specs.declared.id.Who.{Who}
+use Rattle.cmwq_model.specs.declared.id.Who.TheVariants.{Caller, Worker}
+use Rattle.cmwq_model.specs.declared.call.Call.{Call}
+use Rattle.cmwq_model.specs.declared.entry.Entry.{Entry}
+use Rattle.cmwq_model.specs.declared.shape.Counts.{Counts}
+use Rattle.cmwq_model.specs.declared.shape.QueueShape.{QueueShape}
+use Rattle.cmwq_model.specs.Layout.{Layout, are_counts, is_queue, is_callers, is_workers, fits, may_make, has_numbers}
+use Rattle.cmwq_text.specs.Words.{joined, line_text, spaced}
+use Rattle.cmwq_text.specs.IdText.{who_text, pool_letter}
+use Rattle.cmwq_text.specs.CallText.{call_words, call_text, is_of_kind}
+use Rattle.cmwq_text.specs.ReplyText.{reply_words}
+use Rattle.cmwq_text.specs.EntryText.{entry_words, entry_text}
+use Rattle.cmwq_text.specs.ShapeText.{counts_words, counts_text, queue_words, queue_text, begins_queue}
+use Rattle.cmwq_text.specs.Ranges.{IsWho, IsCall, IsEntry}
+use Rattle.cmwq_text.specs.Laws.{IsLineOf}
+use Rattle.cmwq_text.proofs.Steps.{both}
+use Rattle.cmwq_text.proofs.NumberLaws.{own}
+use Rattle.cmwq_text.proofs.Spacing.{joined_spaced}
+use Rattle.cmwq_text.proofs.WordLaws.{are_plain}
+use Rattle.cmwq_text.proofs.LineLaws.{has_no_feed, joined_has_none}
+use Rattle.cmwq_text.proofs.EntryLaws.{call_line_is_plain, entry_is_plain}
+use Rattle.cmwq_text.proofs.ShapeLaws.{counts_are_plain, queue_is_plain, call_line_is_short, entry_line_is_short, counts_line_is_short, queue_line_is_short}
+
+-- the text is the line and its line feed, no other stands inside it, and it is no longer than a line may be
+pub record IsWholeLine (text line : List ℕ) : Type 0 where
+  pub is : IsLineOf text line
+  pub one : All (λ byte. (byte == 10) ≡ false) line
+  pub short : length line ≤ 120
+
+no_feed_at : (bytes : List ℕ) (i d : ℕ) → has_no_feed bytes ≡ true → i < length bytes → 10 < get_or bytes i d
+no_feed_at [] i d p lt = absurd (omega arith)
+no_feed_at (b ∷ bs) zero d p lt = ltb-true 10 b (both (ltb 10 b) (has_no_feed bs) p).0
+no_feed_at (b ∷ bs) (suc i) d p lt = no_feed_at bs i d (both (ltb 10 b) (has_no_feed bs) p).1 (omega arith)
+
+one_feed : (bytes : List ℕ) → has_no_feed bytes ≡ true → All (λ byte. (byte == 10) ≡ false) bytes
+one_feed bytes p = λ i d lt. let above : 10 < get_or bytes i d = no_feed_at bytes i d p lt in ne_eqb (get_or bytes i d) 10 (λ same. absurd (omega (arith, same, above)))
+
+whole_line : (words : List (List ℕ)) → are_plain words ≡ true → length (line_text words) ≤ 121 → IsWholeLine (line_text words) (joined words)
+whole_line words plain short =
+    let len = length-append (joined words) (10 ∷ []) in
+    record { is = refl; one = one_feed (joined words) (joined_has_none words plain); short = omega arith }
+
+pub whole_counts : (n : Counts) → IsTrue (are_counts n.cpus n.workers n.callers n.items n.room) → IsWholeLine (counts_text n) (joined (counts_words n))
+unfolding counts_text
+whole_counts n inside = whole_line (counts_words n) (counts_are_plain n inside) (counts_line_is_short n inside)
+
+pub whole_queue : (q : QueueShape) → IsTrue (is_queue q) → IsWholeLine (queue_text q) (joined (queue_words q))
+unfolding queue_text
+whole_queue q inside =
+    let small : q.max_active ≤ 512 = leb-true q.max_active 512 (both (leb 1 q.max_active) (leb q.max_active 512) inside).1 in
+    whole_line (queue_words q) (queue_is_plain q small) (queue_line_is_short q inside)
+
+pub whole_call : (who : Who) (c : Call) → IsWho who → IsCall c → IsWholeLine (call_text who c) (joined (who_text who ∷ call_words c))
+unfolding call_text
+whole_call who c h k = whole_line (who_text who ∷ call_words c) (call_line_is_plain who c h k) (call_line_is_short who c h k)
+
+pub whole_entry : (e : Entry) → IsEntry e → IsWholeLine (entry_text e) (joined (entry_words e))
+unfolding entry_text
+whole_entry e h = whole_line (entry_words e) (entry_is_plain e h) (entry_line_is_short e h)
+
+-- ---- how lines begin
+
+-- 113 is `q`
+digit_is_other : (d : ℕ) → is_ascii_digit d ≡ true → eqb 113 d ≡ false
+digit_is_other d e = let to : d ≤ 57 = leb-true d 57 (both (leb 48 d) (leb d 57) e).1 in ne_eqb 113 d (λ same. absurd (omega (arith, same, to)))
+
+worker_begins : (digits : List ℕ) (high : Bool) (index rest : List ℕ) → all_ascii_digits digits ≡ true → begins_queue ((119 ∷ digits ++ pool_letter high ∷ index) ++ rest) ≡ false
+worker_begins [] true index rest e = refl
+worker_begins [] false index rest e = refl
+worker_begins (d ∷ ds) high index rest e = rw (digit_is_other d (both (is_ascii_digit d) (all_ascii_digits ds) e).0) refl
+
+who_begins : (who : Who) (rest : List ℕ) → IsWho who → begins_queue (who_text who ++ rest) ≡ false
+who_begins (Caller c) rest h = refl
+who_begins (Worker w) rest h = worker_begins (decimal w.pool.cpu.0) w.pool.high (decimal w.index) rest (digits_decimal own w.pool.cpu.0 (omega (arith, h.0)))
+
+-- a line that begins with a who is none of a queue
+pub who_begins_no_queue : (who : Who) (words : List (List ℕ)) → IsWho who → begins_queue (joined (who_text who ∷ words)) ≡ false
+who_begins_no_queue who words h = ap begins_queue (joined_spaced (who_text who) words) ∙ who_begins who (spaced words) h
+
+pub entry_begins : (e : Entry) → IsEntry e → begins_queue (joined (entry_words e)) ≡ false
+entry_begins e h = who_begins_no_queue e.who (decimal e.serial ∷ (call_words e.call ++ codes "=" ∷ reply_words e.reply)) h.who
+
+-- ---- who makes which calls
+
+pub fits_kind : (s : Layout) (who : Who) (c : Call) → fits s who c ≡ true → is_of_kind who c ≡ true
+fits_kind s (Caller n) c e = (both (ltb n.0 s.callers) (is_callers c) (both (may_make s (Caller n) c) (has_numbers s c) e).0).1
+fits_kind s (Worker w) c e = (both (ltb w.pool.cpu.0 s.cpus && ltb w.index s.workers) (is_workers c) (both (may_make s (Worker w) c) (has_numbers s c) e).0).1
