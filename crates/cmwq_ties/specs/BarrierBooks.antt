@@ -12,9 +12,10 @@ use Rattle.cmwq_model.specs.Tickets.{unended}
 use Rattle.cmwq_model.specs.Waits.{waits_for}
 use Rattle.cmwq_model.specs.Legal.{IsLegal}
 use Rattle.cmwq_laws.specs.Endings.{ending}
+use Rattle.cmwq_laws.specs.TicketSteps.{ticket_ended}
 use Rattle.cmwq_flush.specs.declared.barrier.Barrier.{Barrier}
 use Rattle.cmwq_flush.specs.BarrierBook.{BarrierBook, new_barriers, IsReady, after_opened, after_ended, after_begin, after_end, waits_for as book_waits_for}
-use Rattle.cmwq_ties.specs.Told.{number_of_queueing, ticket_ended, ticket_given}
+use Rattle.cmwq_ties.specs.Told.{number_of_queueing, ticket_given}
 
 -- the numbers of an item's open queueings
 abbrev pub item_numbers : List Entry → ℕ → List ℕ

@@ -12,11 +12,12 @@ use Rattle.cmwq_model.specs.Tickets.{unended, is_flush_of, is_drain_of, is_drain
 use Rattle.cmwq_model.specs.Waits.{served, waits_for}
 use Rattle.cmwq_model.specs.Legal.{IsLegal}
 use Rattle.cmwq_laws.specs.Endings.{ending}
+use Rattle.cmwq_laws.specs.TicketSteps.{ticket_ended}
 use Rattle.cmwq_flush.specs.declared.served.Served.{Served}
 use Rattle.cmwq_flush.specs.declared.limits.TheConstants.{MOST_SERVED}
 use Rattle.cmwq_flush.specs.FlushBook.{FlushBook, new_book, flush_tickets, IsReady, after_opened, after_ended, after_begin, after_end, after_drain_begin, after_drain_end}
 use Rattle.cmwq_flush.specs.Colouring.{IsServing}
-use Rattle.cmwq_ties.specs.Told.{number_of_queueing, number_of_ticket, ticket_ended, ticket_given}
+use Rattle.cmwq_ties.specs.Told.{number_of_queueing, number_of_ticket, ticket_given}
 
 -- the numbers of the queue's open queueings, and of the flushes and drains of it among some tickets
 abbrev pub is_on_queue : ℕ → Queueing → Bool

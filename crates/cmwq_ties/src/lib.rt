@@ -6,7 +6,6 @@ mod barrier_books;
 mod flush_books;
 mod pools;
 mod timers;
-mod told;
 
 pub use barrier_books::{
     barriers_at_first, barriers_follow, barriers_wait_for_least, ready_barriers_wait_for_nothing,
@@ -24,4 +23,3 @@ pub use timers::{
     others_keep_timers, settled_timers_are_taken_back, timers_are_due_as_booked,
     timers_may_be_told,
 };
-pub use told::tickets_go_on;
