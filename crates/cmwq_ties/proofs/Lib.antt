@@ -11,6 +11,7 @@ pub mod FlushSteps
 pub mod FlushReads
 pub mod BarrierSteps
 pub mod BarrierReads
+pub mod ItemNumbers
 pub mod PoolReads
 pub mod PoolNext
 pub mod PoolSeats

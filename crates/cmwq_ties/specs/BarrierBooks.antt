@@ -1,13 +1,15 @@
 -- The barriers follow the open queueings of items, and the unended waits for them.
-use Rattle.std.specs.Prelude.{◌≡◌, ℕ, true, ◌↔◌, if◌then◌else◌, List, [], ◌∷◌, map, filter, Contains, Option, Some, None, is_some}
+use Rattle.std.specs.Prelude.{◌≡◌, ℕ, true, ◌↔◌, if◌then◌else◌, List, [], ◌∷◌, map, filter, Contains, ◌++◌, Option, Some, None, is_some, option_map, option_to_list}
 use Rattle.std.specs.List.{filter_map, range_with_len}
 use Rattle.cmwq_model.specs.declared.call.Call.{Call}
 use Rattle.cmwq_model.specs.declared.call.Call.TheVariants as call
 use Rattle.cmwq_model.specs.declared.entry.Entry.{Entry}
 use Rattle.cmwq_model.specs.declared.record.Queueing.{Queueing}
 use Rattle.cmwq_model.specs.declared.record.Ticket.{Ticket}
+use Rattle.cmwq_model.specs.declared.record.Start.{Start}
 use Rattle.cmwq_model.specs.Layout.{Layout}
-use Rattle.cmwq_model.specs.Queueings.{still_open, opening, is_of}
+use Rattle.cmwq_model.specs.Queueings.{still_open, opening, is_of, unstarted}
+use Rattle.cmwq_model.specs.Runs.{item_run}
 use Rattle.cmwq_model.specs.Tickets.{unended}
 use Rattle.cmwq_model.specs.Waits.{waits_for}
 use Rattle.cmwq_model.specs.Legal.{IsLegal}
@@ -73,3 +75,8 @@ BarriersWaitForLeast = (s : Layout) (past : List Entry) (t : Ticket) → IsLegal
 abbrev pub ReadyBarriersWaitForNothing : Type 0
 ReadyBarriersWaitForNothing = (s : Layout) (past : List Entry) (t : Ticket) → IsLegal s past → Contains (unended past) t → is_some (wait_for t) ≡ true
     → IsReady (barriers_of s past) t.number ↔ (waits_for past t.number t.call ≡ None)
+
+-- an item has two open queueings at most: its run, and after that one which hasn't started
+abbrev pub RunThenUnstarted : Type 0
+RunThenUnstarted = (s : Layout) (past : List Entry) (i : ℕ) → IsLegal s past
+    → item_numbers past i ≡ option_to_list (option_map (λ (start : Start). start.number) (item_run past i)) ++ option_to_list (option_map number_of_queueing (unstarted past i))

@@ -8,7 +8,8 @@ mod pools;
 mod timers;
 
 pub use barrier_books::{
-    barriers_at_first, barriers_follow, barriers_wait_for_least, ready_barriers_wait_for_nothing,
+    barriers_at_first, barriers_follow, barriers_wait_for_least, items_have_run_then_unstarted,
+    ready_barriers_wait_for_nothing,
 };
 pub use flush_books::{
     draining_while_drains_stand, drains_wait_for_least_open, flushes_at_first, flushes_follow,
