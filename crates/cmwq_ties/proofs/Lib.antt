@@ -16,3 +16,4 @@ pub mod PoolReads
 pub mod PoolNext
 pub mod PoolSeats
 pub mod PoolSteps
+pub mod PoolMay

@@ -17,7 +17,7 @@ pub use flush_books::{
 };
 pub use pools::{
     idle_retire_alike, nexts_are_next, pools_at_first, pools_follow, runnables_are_runnable,
-    seats_are_workers, starts_enlist_alike,
+    seats_are_workers, starts_enlist_alike, workers_may_be_told,
 };
 pub use timers::{
     bookings_set_timers, first_timer_is_first_due, no_timer_is_none_due, no_timers_at_first,
