@@ -9,6 +9,7 @@ pub mod QueueingSteps
 pub mod FlushCalls
 pub mod FlushSteps
 pub mod FlushReads
+pub mod FlushEnds
 pub mod BarrierSteps
 pub mod BarrierReads
 pub mod ItemNumbers
