@@ -22,14 +22,16 @@ use Rattle.cmwq_laws.proofs.Endings.{open_go_on}
 use Rattle.cmwq_flush.specs.declared.barrier.Barrier.{Barrier}
 use Rattle.cmwq_flush.specs.Numbers.{without}
 use Rattle.cmwq_flush.specs.BarrierBook.{BarrierBook, new_barriers, numbers_open, is_other_wait, after_end}
-use Rattle.cmwq_ties.specs.Told.{number_of_queueing, number_of_ticket, ticket_ended, ticket_given, goes_on}
+use Rattle.cmwq_laws.specs.TicketSteps.{is_kept, ticket_ended}
+use Rattle.cmwq_laws.proofs.TicketSteps.{unended_go_on}
+use Rattle.cmwq_ties.specs.Told.{number_of_queueing, number_of_ticket, ticket_given}
 use Rattle.cmwq_ties.specs.BarrierBooks.{item_numbers, wait_by, wait_for, barriers_of, told_ended, told_opened, told_done, told_begun, begun, told}
 use Rattle.cmwq_ties.proofs.Members.{In, of_in, all_in, in_filter, in_option}
 use Rattle.cmwq_ties.proofs.Rising.{rises_unique}
 use Rattle.cmwq_ties.proofs.Numbers.{numbers_without, numbers_lack, filter_goes_on}
 use Rattle.cmwq_ties.proofs.TimerSteps.{set_row, same_rows}
 use Rattle.cmwq_ties.proofs.FirstDue.{timers_may_be_told}
-use Rattle.cmwq_ties.proofs.TicketSteps.{unended_rise, tickets_go_on, TicketStep, ticket_step, ends_one, ends_none, ends_only}
+use Rattle.cmwq_ties.proofs.TicketSteps.{unended_rise, TicketStep, ticket_step, ends_one, ends_none, ends_only}
 use Rattle.cmwq_ties.proofs.QueueingSteps.{QueueingStep, queueing_step, open_numbers_rise}
 use Rattle.cmwq_ties.proofs.QueueingSteps as queueing
 
@@ -138,25 +140,25 @@ waits_kept g (t ∷ ts) h = here (g t) h.0 (waits_kept g ts h.1)
     here true none later = ap (cons_wait (wait_for t)) later
     here false none later = later ∙ sym (ap (λ o. cons_wait o (filter_map wait_for ts)) (none refl))
 
-waits_done : (s : Layout) (past : List Entry) (e : Entry) (b : BarrierBook) → TicketStep past e → b.barriers ≡ filter_map wait_for (unended past) → filter_map wait_for (filter (goes_on e) (unended past)) ≡ (told_done (ticket_ended past e) b).barriers
+waits_done : (s : Layout) (past : List Entry) (e : Entry) (b : BarrierBook) → TicketStep past e → b.barriers ≡ filter_map wait_for (unended past) → filter_map wait_for (filter (is_kept e) (unended past)) ≡ (told_done (ticket_ended past e) b).barriers
 waits_done s past e b (ends_none is all) waits =
-    ap (filter_map wait_for) (filter_goes_on number_of_ticket (goes_on e) (unended past) all) ∙ sym waits ∙ sym (ap (λ o. (told_done o b).barriers) is)
+    ap (filter_map wait_for) (filter_goes_on number_of_ticket (is_kept e) (unended past) all) ∙ sym waits ∙ sym (ap (λ o. (told_done o b).barriers) is)
 waits_done s past e b (ends_one u is here it) waits = kind (wait_for u) refl ∙ sym (ap (λ o. (told_done o b).barriers) is)
   where
-    goes : (t : Ticket) → In t (unended past) → goes_on e t ≡ not (t.number == u.number)
+    goes : (t : Ticket) → In t (unended past) → is_kept e t ≡ not (t.number == u.number)
     goes = ends_only past e u here it
 
-    none_else : wait_for u ≡ None → (t : Ticket) → In t (unended past) → goes_on e t ≡ false → wait_for t ≡ None
+    none_else : wait_for u ≡ None → (t : Ticket) → In t (unended past) → is_kept e t ≡ false → wait_for t ≡ None
     none_else none t there ended =
         let same : (t.number == u.number) ≡ true = not-false (t.number == u.number) (sym (goes t there) ∙ ended) in
         ap wait_for (rises_unique number_of_ticket (unended past) t u (unended_rise past) there here (eqb-true t.number u.number same)) ∙ none
 
-    kind : (o : Option Barrier) → wait_for u ≡ o → filter_map wait_for (filter (goes_on e) (unended past)) ≡ (if is_some (wait_for u) then after_end b u.number else b).barriers
+    kind : (o : Option Barrier) → wait_for u ≡ o → filter_map wait_for (filter (is_kept e) (unended past)) ≡ (if is_some (wait_for u) then after_end b u.number else b).barriers
     kind None none =
-        waits_kept (goes_on e) (unended past) (all_in (λ t. goes_on e t ≡ false → wait_for t ≡ None) (unended past) (none_else none)) ∙ sym waits
+        waits_kept (is_kept e) (unended past) (all_in (λ t. is_kept e t ≡ false → wait_for t ≡ None) (unended past) (none_else none)) ∙ sym waits
         ∙ sym (ap (λ o. (if is_some o then after_end b u.number else b).barriers) none)
     kind (Some w) some =
-        waits_without (goes_on e) u.number (unended past) (all_in (λ t. goes_on e t ≡ not (t.number == u.number)) (unended past) goes) ∙ ap (filter (is_other_wait u.number)) (sym waits)
+        waits_without (is_kept e) u.number (unended past) (all_in (λ t. is_kept e t ≡ not (t.number == u.number)) (unended past) goes) ∙ ap (filter (is_other_wait u.number)) (sym waits)
         ∙ sym (ap (λ o. (if is_some o then after_end b u.number else b).barriers) some)
 
 waits_begun : (ts : List Ticket) (o : Option Ticket) (b : BarrierBook) → filter_map wait_for ts ≡ b.barriers → filter_map wait_for (ts ++ option_to_list o) ≡ (told_begun o b).barriers
@@ -208,7 +210,7 @@ pub barriers_follow : (s : Layout) (past : List Entry) (e : Entry) → IsLegal s
 barriers_follow s past e legal =
     same_book (barriers_of s (e ∷ past)) (told past e (barriers_of s past)) (sym (begun_.callers ∙ done_.callers ∙ opened_.callers ∙ ended_.callers))
     (rows_follow s past e legal ∙ sym (begun_.opened ∙ done_.opened))
-    (ap (filter_map wait_for) (tickets_go_on s past e legal) ∙ waits_begun (filter (goes_on e) (unended past)) (ticket_given past e) b2 (waits_done s past e b1 (ticket_step past e) (opened_.barriers ∙ ended_.barriers)))
+    (ap (filter_map wait_for) (unended_go_on s past e legal) ∙ waits_begun (filter (is_kept e) (unended past)) (ticket_given past e) b2 (waits_done s past e b1 (ticket_step past e) (opened_.barriers ∙ ended_.barriers)))
   where
     b0 : BarrierBook
     b0 = told_ended (ending past e) (barriers_of s past)

@@ -26,21 +26,19 @@ use Rattle.cmwq_laws.specs.Endings.{is_spared, ending}
 use Rattle.cmwq_laws.proofs.Lists.{All_map, All_append, All_filter, count_by-filter}
 use Rattle.cmwq_laws.proofs.Rising.{opening_number}
 use Rattle.cmwq_laws.proofs.Endings.{open_go_on}
-use Rattle.cmwq_ties.specs.Told.{number_of_queueing, number_of_ticket, ticket_ended, ticket_given, goes_on}
+use Rattle.cmwq_laws.specs.TicketSteps.{is_kept, ticket_ended}
+use Rattle.cmwq_laws.proofs.TicketSteps.{unended_go_on, served_stay}
+use Rattle.cmwq_ties.specs.Told.{number_of_queueing, number_of_ticket, ticket_given}
 use Rattle.cmwq_ties.specs.FlushBooks.{is_on_queue, open_numbers, flush_numbers, drain_numbers, IsServedFrom, AreFlushes, told_ended, told_opened, told_done, told_begun, told_queueings, told_tickets}
 use Rattle.cmwq_ties.proofs.Members.{In, of_in, all_in, in_left}
 use Rattle.cmwq_ties.proofs.Rising.{RisesBy, rises_filter}
 use Rattle.cmwq_ties.proofs.Numbers.{itself, numbers_rise, numbers_all, numbers_have, numbers_without, numbers_lack, filter_goes_on, count_numbers, is_less, fewer_before, all_before}
-use Rattle.cmwq_ties.proofs.TicketSteps.{unended_rise, unended_below, tickets_go_on, TicketStep, ticket_step, ends_one, ends_none, ends_only, ticket_in_is}
+use Rattle.cmwq_ties.proofs.TicketSteps.{unended_rise, unended_below, TicketStep, ticket_step, ends_one, ends_none, ends_only, ticket_in_is}
 use Rattle.cmwq_ties.proofs.QueueingSteps.{QueueingStep, queueing_step, open_numbers_rise}
 use Rattle.cmwq_ties.proofs.QueueingSteps as queueing
 use Rattle.cmwq_ties.proofs.FlushCalls.{ServedSoon, already, just_now, Stands, stands_begin, stands_end, stands_drain_begin, stands_drain_end}
 
 -- ---- from which position a flush is served
-
-pub served_more : (e : Entry) (past : List Entry) (q t p : ℕ) → served past q t ≡ Some p → served (e ∷ past) q t ≡ Some p
-unfolding served
-served_more e past q t p h = ap (λ o. option_or o (if nat_le t (length past) && is_served_after (e ∷ past) q t then Some (length past) else None)) h
 
 served_at_once : (e : Entry) (past : List Entry) (q t : ℕ) → served past q t ≡ None → t ≤ length past → is_served_after (e ∷ past) q t ≡ true → served (e ∷ past) q t ≡ Some (length past)
 unfolding served
@@ -248,18 +246,18 @@ StandsAs past q ts b = Stands past q (flush_numbers q ts) (drain_numbers q ts) b
 same_stands : (past : List Entry) (q : ℕ) (fs gs ds es : List ℕ) (b : FlushBook) → fs ≡ gs → ds ≡ es → Stands past q fs ds b → Stands past q gs es b
 same_stands past q fs gs ds es b hf hd is = subst (λ xs. Stands past q gs xs b) hd (subst (λ xs. Stands past q xs ds b) hf is)
 
-stands_done : (past : List Entry) (e : Entry) (q : ℕ) (b : FlushBook) → TicketStep past e → StandsAs past q (unended past) b → StandsAs past q (filter (goes_on e) (unended past)) (told_done (ticket_ended past e) q b)
+stands_done : (past : List Entry) (e : Entry) (q : ℕ) (b : FlushBook) → TicketStep past e → StandsAs past q (unended past) b → StandsAs past q (filter (is_kept e) (unended past)) (told_done (ticket_ended past e) q b)
 stands_done past e q b (ends_none is all) stands =
-    subst (λ o. StandsAs past q (filter (goes_on e) (unended past)) (told_done o q b)) (sym is) (subst (λ ts. StandsAs past q ts b) (sym (filter_goes_on number_of_ticket (goes_on e) (unended past) all)) stands)
-stands_done past e q b (ends_one u is here it) stands = subst (λ o. StandsAs past q (filter (goes_on e) (unended past)) (told_done o q b)) (sym is) (kind (is_flush_of q u) (is_drain_of q u) refl refl)
+    subst (λ o. StandsAs past q (filter (is_kept e) (unended past)) (told_done o q b)) (sym is) (subst (λ ts. StandsAs past q ts b) (sym (filter_goes_on number_of_ticket (is_kept e) (unended past) all)) stands)
+stands_done past e q b (ends_one u is here it) stands = subst (λ o. StandsAs past q (filter (is_kept e) (unended past)) (told_done o q b)) (sym is) (kind (is_flush_of q u) (is_drain_of q u) refl refl)
   where
-    left : (p : Ticket → Bool) → map number_of_ticket (filter p (filter (goes_on e) (unended past))) ≡ without u.number (map number_of_ticket (filter p (unended past)))
-    left p = numbers_without number_of_ticket p (goes_on e) u.number (unended past) (all_in (λ t. goes_on e t ≡ not (t.number == u.number)) (unended past) (ends_only past e u here it))
+    left : (p : Ticket → Bool) → map number_of_ticket (filter p (filter (is_kept e) (unended past))) ≡ without u.number (map number_of_ticket (filter p (unended past)))
+    left p = numbers_without number_of_ticket p (is_kept e) u.number (unended past) (all_in (λ t. is_kept e t ≡ not (t.number == u.number)) (unended past) (ends_only past e u here it))
 
-    lacks : (p : Ticket → Bool) → p u ≡ false → map number_of_ticket (filter p (unended past)) ≡ map number_of_ticket (filter p (filter (goes_on e) (unended past)))
+    lacks : (p : Ticket → Bool) → p u ≡ false → map number_of_ticket (filter p (unended past)) ≡ map number_of_ticket (filter p (filter (is_kept e) (unended past)))
     lacks p fails = sym (left p ∙ numbers_lack number_of_ticket p u (unended past) (unended_rise past) here fails)
 
-    kind : (f d : Bool) → is_flush_of q u ≡ f → is_drain_of q u ≡ d → StandsAs past q (filter (goes_on e) (unended past)) (if f then after_end b u.number else if d then after_drain_end b u.number else b)
+    kind : (f d : Bool) → is_flush_of q u ≡ f → is_drain_of q u ≡ d → StandsAs past q (filter (is_kept e) (unended past)) (if f then after_end b u.number else if d then after_drain_end b u.number else b)
     kind true d hf hd = same_stands past q (without u.number (flush_numbers q (unended past))) _ (drain_numbers q (unended past)) _ (after_end b u.number)
         (sym (left (is_flush_of q))) (lacks (is_drain_of q) (flush_no_drain q u.call hf))
         (stands_end past q u.number (flush_numbers q (unended past)) (drain_numbers q (unended past)) b (flush_numbers_rise past q) stands)
@@ -291,8 +289,8 @@ stands_begun past q ts (Some t) b number stands = kind (is_flush_of q t) (is_dra
 
 stands_after : (s : Layout) (past : List Entry) (e : Entry) (q : ℕ) (b : FlushBook) → IsLegal s (e ∷ past) → StandsAs past q (unended past) b → StandsAs past q (unended (e ∷ past)) (told_tickets past e q b)
 stands_after s past e q b legal is =
-    subst (λ ts. StandsAs past q ts (told_tickets past e q b)) (sym (tickets_go_on s past e legal))
-    (stands_begun past q (filter (goes_on e) (unended past)) (ticket_given past e) (told_done (ticket_ended past e) q b) (λ t h. let number = (ticket_in_is e (length past) t h).number in omega arith)
+    subst (λ ts. StandsAs past q ts (told_tickets past e q b)) (sym (unended_go_on s past e legal))
+    (stands_begun past q (filter (is_kept e) (unended past)) (ticket_given past e) (told_done (ticket_ended past e) q b) (λ t h. let number = (ticket_in_is e (length past) t h).number in omega arith)
     (stands_done past e q b (ticket_step past e) is))
 
 -- they change nothing that is open
@@ -350,7 +348,7 @@ not_served_after e past q t b is here =
 
 served_now : (e : Entry) (past : List Entry) (q : ℕ) (b : FlushBook) (f : Served) → StandsAs past q (unended (e ∷ past)) b → AllByRecursion (λ n. n < b.next) b.opened → b.next ≤ suc (length past) → In f b.served
     → ServedSoon past q b.next b.opened f → IsServedFrom (e ∷ past) q b.opened f
-served_now e past q b f is older next here (already h) = record { position = h.position; is_served = served_more e past q f.ticket h.position h.is_served; same = h.same }
+served_now e past q b f is older next here (already h) = record { position = h.position; is_served = served_stay past e q f.ticket h.position h.is_served; same = h.same }
 served_now e past q b f is older next here (just_now unserved bound) =
     let ticket = numbers_have ticket_of b.served f here in
     let below : f.ticket < length (e ∷ past) = of_in (λ n. n < length (e ∷ past)) (flush_numbers q (unended (e ∷ past))) f.ticket (flush_numbers_below (e ∷ past) q) (subst (In f.ticket) is.flushes_are (in_left (tickets_of b.served) b.overflow f.ticket ticket)) in

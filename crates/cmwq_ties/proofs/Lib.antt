@@ -9,9 +9,12 @@ pub mod QueueingSteps
 pub mod FlushCalls
 pub mod FlushSteps
 pub mod FlushReads
+pub mod FlushEnds
 pub mod BarrierSteps
 pub mod BarrierReads
+pub mod ItemNumbers
 pub mod PoolReads
 pub mod PoolNext
 pub mod PoolSeats
 pub mod PoolSteps
+pub mod PoolMay

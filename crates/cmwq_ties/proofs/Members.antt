@@ -81,3 +81,7 @@ module _ {X : Type 0} where
 
   pub contained_in : (xs : List X) (x : X) → Contains xs x → In x xs
   contained_in xs x c = in_at xs c.0 x c.1 c.2
+
+  pub in_contained : (xs : List X) (x : X) → In x xs → Contains xs x
+  in_contained [] x h = absurd h
+  in_contained (y ∷ ys) x h = ⊎_elim (λ e. (0, omega arith, e)) (λ i. let c = in_contained ys x i in (suc c.0, (let less = c.1 in omega arith), c.2)) h

@@ -56,7 +56,7 @@ number_run s past w legal = which (run_of s past w legal)
     which (idle none) = ap (option_map (λ (t : Task). t.number)) (run_task_none s past w none) ∙ sym none
     which (busy x is found pool) = ap (option_map (λ (t : Task). t.number)) (run_task_of s past w x is found) ∙ sym is
 
-some_run : (s : Layout) (past : List Entry) (w : WorkerId) → IsLegal s past → is_some (run_task s past w) ≡ has_run past w
+pub some_run : (s : Layout) (past : List Entry) (w : WorkerId) → IsLegal s past → is_some (run_task s past w) ≡ has_run past w
 some_run s past w legal = same (run_task s past w) ∙ ap is_some (number_run s past w legal)
   where
     same : (o : Option Task) → is_some o ≡ is_some (option_map (λ (t : Task). t.number) o)

@@ -22,7 +22,6 @@ use Rattle.cmwq_model.specs.Workers.{worker_at, index_enlisted, is_in_pool, enli
 use Rattle.cmwq_model.specs.Answer.{started as started_reply}
 use Rattle.cmwq_model.specs.Legal.{IsLegal}
 use Rattle.cmwq_laws.specs.RunSteps.{run_after}
-use Rattle.cmwq_laws.proofs.Inversions.{answer_is}
 use Rattle.cmwq_laws.proofs.Starts.{starts_next}
 use Rattle.cmwq_laws.proofs.StartsListed.{IsFound, queueings_found, queueing_at-older}
 use Rattle.cmwq_laws.proofs.Activated.{next_holds}
@@ -123,11 +122,9 @@ pub record StartsTask (s : Layout) (past : List Entry) (e : Entry) (w : WorkerId
   pub runs : run_task s (e ∷ past) w ≡ Some (task_for s queueing)
   pub enlists : seats_enlisted_by (pool_of s past w.pool).seats w.index ≡ o
 
-started_like : (n m : ℕ) (o q : Option ℕ) → started_reply n o ≡ started_reply m q → o ≡ q
-started_like n m None None h = refl
-started_like n m None (Some y) h = cc
-started_like n m (Some x) None h = cc
-started_like n m (Some x) (Some y) h = let same : x ≡ y = cc in ap Some same
+enlisted_in : (n : ℕ) (o : Option ℕ) → index_enlisted (started_reply n o) ≡ o
+enlisted_in n None = refl
+enlisted_in n (Some x) = refl
 
 number_of_start : (n : ℕ) (o : Option ℕ) → number_started (started_reply n o) ≡ Some n
 number_of_start n None = refl
@@ -140,9 +137,8 @@ after_start n (Some x) q = refl
 pub starts_task : (s : Layout) (past : List Entry) (e : Entry) (w : WorkerId) (n : ℕ) (o : Option ℕ) → IsLegal s (e ∷ past) → e.who ≡ Worker w → e.reply ≡ started_reply n o → StartsTask s past e w n o
 unfolding IsLegal
 starts_task s past e w n o legal who is =
-    let answered = answer_is s past e legal in
     let number : number_started e.reply ≡ Some n = ap number_started is ∙ number_of_start n o in
-    let st = starts_next s past e.who e.call n (sym (ap number_started answered) ∙ number) in
+    let st = starts_next s past e n legal number in
     let same : st.worker ≡ w = worker_same st.worker w (sym st.by_worker ∙ who) in
     let next_is : next s past w.pool ≡ Some st.queueing = subst (λ (v : WorkerId). next s past v.pool ≡ Some st.queueing) same st.is_next in
     let at : queueing_at past n ≡ Some st.queueing = ap (queueing_at past) (sym st.number) ∙ (next_holds s IsFound (λ f h x k. queueing_at-older f h x.number x k) queueings_found past w.pool st.queueing next_is).holds in
@@ -151,7 +147,7 @@ starts_task s past e w n o legal who is =
       number = st.number;
       task = next_task_is s past w.pool legal.2 ∙ ap (option_map (task_for s)) next_is;
       runs = ap (λ q. option_map (task_for s) (option_and_then (queueing_at (e ∷ past)) q)) (own_run s past e w (started_reply n o) legal who is ∙ after_start n o (run past w)) ∙ ap (option_map (task_for s)) (queueing_at-older e past n st.queueing at);
-      enlists = starts_enlist_alike s past w legal.2 ∙ started_like n n (enlisted_by s past w) o (subst (λ (v : WorkerId). started_reply n (enlisted_by s past v) ≡ started_reply n o) same (sym st.reply ∙ sym answered ∙ is));
+      enlists = starts_enlist_alike s past w legal.2 ∙ sym (ap (enlisted_by s past) same) ∙ sym st.enlists ∙ ap index_enlisted is ∙ enlisted_in n o;
     }
   where
     worker_same : (v u : WorkerId) → Worker v ≡ Worker u → v ≡ u

@@ -28,8 +28,7 @@ use Rattle.cmwq_laws.proofs.Lists.{All_map, All_each}
 use Rattle.cmwq_laws.proofs.Filters.{none_found}
 use Rattle.cmwq_laws.proofs.RunsActive.{listed_pool}
 use Rattle.cmwq_laws.proofs.OneWorker.{is_at-true}
-use Rattle.cmwq_laws.proofs.Causes.{cause_of}
-use Rattle.cmwq_laws.proofs.Fresh.{finish_causes}
+use Rattle.cmwq_laws.proofs.Fresh.{finishes_run}
 use Rattle.cmwq_laws.proofs.ItemRuns.{run_is}
 use Rattle.cmwq_laws.proofs.RunSteps.{last_started, no_end}
 use Rattle.cmwq_laws.proofs.StartsListed.{IsFound, queueings_found, StartsListed, starts_listed}
@@ -80,7 +79,7 @@ one_leaves s past e p n h = sym (filter_mapped (is_not n) (is_left past e) (task
 -- what is listed isn't finished
 not_finished : (s : Layout) (past : List Entry) (e : Entry) (n : ℕ) → IsLegal s (e ∷ past) → is_started past n ≡ false → finishes n e ≡ false
 not_finished s past e n legal new = false_from_ne_true (finishes n e) (λ h.
-    let k = finish_causes n (cause_of s past e legal) (is_at-true (number_finished e.reply) n h) in
+    let k = finishes_run s past e n legal (is_at-true (number_finished e.reply) n h) in
     let started = last_started past k.worker n (run_is past k.worker n k.is_run).last in
     absurd (false≢true (sym new ∙ started)))
 

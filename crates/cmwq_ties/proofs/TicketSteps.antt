@@ -1,27 +1,24 @@
--- The unended tickets, entry by entry.
-use Rattle.std.proofs.Common.{◌≡◌, ◌==◌, ◌<◌, ◌≤◌, ℕ, Bool, true, false, cond, not, ◌&&◌, ◌||◌, List, [], ◌∷◌, ◌++◌, length, filter, Option, Some, None, option_to_list, refl, sym, ap, ap₂, ◌∙◌, subst, arith, append-nil}
+-- The unended tickets by their numbers, and the one that an entry ends.
+use Rattle.std.proofs.Common.{◌≡◌, ◌==◌, ◌<◌, ℕ, Bool, true, false, not, ◌&&◌, List, [], ◌∷◌, ◌++◌, length, Option, Some, None, option_to_list, refl, sym, ap, ◌∙◌, subst, append-nil}
 use Rattle.std.specs.Prelude.{if◌then◌else◌}
-use Rattle.std.specs.List.{AllByRecursion, list_any}
+use Rattle.std.specs.List.{AllByRecursion}
 use Rattle.std.proofs.lemmas.Bool.{and_parts, eqb-true, eq-eqb, false_from_ne_true}
 use Rattle.std.proofs.lemmas.Option.{same_Some}
-use Rattle.std.proofs.lemmas.List.Elements.{filter-append}
 use Rattle.cmwq_model.specs.declared.id.Who.{Who}
 use Rattle.cmwq_model.specs.declared.id.Who.TheVariants.{Caller, Worker}
 use Rattle.cmwq_model.specs.declared.call.Call.{Call}
 use Rattle.cmwq_model.specs.declared.call.Call.TheVariants as call
-use Rattle.cmwq_model.specs.declared.reply.Reply.{Reply}
 use Rattle.cmwq_model.specs.declared.reply.Reply.TheVariants as reply
 use Rattle.cmwq_model.specs.declared.entry.Entry.{Entry}
 use Rattle.cmwq_model.specs.declared.record.Ticket.{Ticket}
-use Rattle.cmwq_model.specs.Layout.{Layout}
 use Rattle.cmwq_model.specs.Calls.{is_by}
 use Rattle.cmwq_model.specs.Tickets.{gives_ticket, ticket_for, ticket_in, tickets, is_end_of, is_done, ends, is_unended, unended}
-use Rattle.cmwq_model.specs.Legal.{IsLegal}
-use Rattle.cmwq_laws.proofs.Lists.{All_map, find_none}
-use Rattle.cmwq_laws.proofs.Given.{IsGiven, tickets_given, unended_given, ticket_is}
-use Rattle.cmwq_laws.proofs.Done.{ends_ticket}
-use Rattle.cmwq_ties.specs.Told.{number_of_ticket, is_ended_by, ticket_ended, ticket_given, goes_on}
-use Rattle.cmwq_ties.proofs.Members.{In, found}
+use Rattle.cmwq_laws.proofs.Lists.{All_map}
+use Rattle.cmwq_laws.proofs.Given.{IsGiven, tickets_given, unended_given}
+use Rattle.cmwq_laws.specs.TicketSteps.{is_kept, is_ended_by, ticket_ended}
+use Rattle.cmwq_laws.proofs.TicketSteps.{is_done_reply, one_ticket_ends}
+use Rattle.cmwq_ties.specs.Told.{number_of_ticket}
+use Rattle.cmwq_ties.proofs.Members.{In, all_in, in_filter, filter_in, option_in}
 use Rattle.cmwq_ties.proofs.Rising.{RisesBy, rises_filter, rises_snoc, rises_unique}
 
 -- ---- by their numbers
@@ -61,11 +58,7 @@ unended_rise past = rises_filter number_of_ticket (is_unended past) (tickets pas
 pub unended_below : (past : List Entry) → AllByRecursion (λ t. t.number < length past) (unended past)
 unended_below past = All_map (IsGiven past) (λ t. t.number < length past) (unended past) (λ t h. h.older) (unended_given past)
 
--- ---- no ticket is ended before it is given
-
-done_reply : (r : Reply) → is_done r ≡ true → r ≡ reply.Done
-done_reply reply.Done h = refl
-done_reply r h = cc
+-- ---- the end of a ticket
 
 end_call : (n : ℕ) (c : Call) → is_end_of n c ≡ true → c ≡ call.End n
 end_call n (call.End t) h = ap call.End (eqb-true t n h)
@@ -81,68 +74,12 @@ pub ends_it : (e : Entry) (t : Ticket) → ends t e ≡ true → EndsIt e t
 ends_it e t h =
     let outer = and_parts (is_by (Caller t.caller) e && is_end_of t.number e.call) (is_done e.reply) h in
     let inner = and_parts (is_by (Caller t.caller) e) (is_end_of t.number e.call) outer.0 in
-    record { by = inner.0; call = end_call t.number e.call inner.1; reply = done_reply e.reply outer.1 }
-
-ends_older : (s : Layout) (past : List Entry) (e : Entry) (t : Ticket) → IsLegal s (e ∷ past) → ends t e ≡ true → t.number < length past
-ends_older s past e t legal h =
-    let it = ends_it e t h in
-    let found = ends_ticket s past e t.number legal (it.call, it.reply) in
-    let is = ticket_is past e.who t.number found.ticket found.found in
-    let number : found.ticket.number ≡ t.number = is.number in
-    let older : found.ticket.number < length past = is.given.older in
-    omega arith
-
-ends_no_later : (s : Layout) (past : List Entry) (e : Entry) (t : Ticket) → IsLegal s (e ∷ past) → length past ≤ t.number → ends t e ≡ false
-ends_no_later s past e t legal later = false_from_ne_true (ends t e) (λ h. let older = ends_older s past e t legal h in absurd (omega arith))
-
-pub not_ended_yet : (s : Layout) (past : List Entry) (t : Ticket) → IsLegal s past → length past ≤ t.number → list_any (ends t) past ≡ false
-unfolding IsLegal
-not_ended_yet s [] t legal later = refl
-not_ended_yet s (e ∷ past) t legal later =
-    ap₂ (λ (a b : Bool). a || b) (ends_no_later s past e t legal (omega arith)) (not_ended_yet s past t legal.2 (omega arith))
-
--- ---- what is unended after an entry
-
-not_either : (a b : Bool) → not (a || b) ≡ (not b && not a)
-not_either true true = refl
-not_either true false = refl
-not_either false true = refl
-not_either false false = refl
-
-filter_twice : (p q : Ticket → Bool) (xs : List Ticket) → filter (λ t. p t && q t) xs ≡ filter q (filter p xs)
-filter_twice p q [] = refl
-filter_twice p q (x ∷ xs) = ap (λ ys. cond (p x && q x) (x ∷ ys) ys) (filter_twice p q xs) ∙ here (p x)
-  where
-    here : (b : Bool) → cond (b && q x) (x ∷ filter q (filter p xs)) (filter q (filter p xs)) ≡ filter q (cond b (x ∷ filter p xs) (filter p xs))
-    here true = refl
-    here false = refl
-
-filter_same : (p q : Ticket → Bool) (xs : List Ticket) → ((t : Ticket) → p t ≡ q t) → filter p xs ≡ filter q xs
-filter_same p q [] h = refl
-filter_same p q (x ∷ xs) h = ap₂ (λ b ys. cond b (x ∷ ys) ys) (h x) (filter_same p q xs h)
-
-older_kept : (past : List Entry) (e : Entry) → filter (is_unended (e ∷ past)) (tickets past) ≡ filter (goes_on e) (unended past)
-older_kept past e = filter_same (is_unended (e ∷ past)) (λ t. is_unended past t && goes_on e t) (tickets past) (λ t. not_either (ends t e) (list_any (ends t) past))
-    ∙ filter_twice (is_unended past) (goes_on e) (tickets past)
-
-newest_kept : (s : Layout) (past : List Entry) (e : Entry) (o : Option Ticket) → IsLegal s (e ∷ past) → ((t : Ticket) → o ≡ Some t → t.number ≡ length past) → filter (is_unended (e ∷ past)) (option_to_list o) ≡ option_to_list o
-unfolding IsLegal
-newest_kept s past e None legal k = refl
-newest_kept s past e (Some t) legal k =
-    let number : t.number ≡ length past = k t refl in
-    let unended : list_any (ends t) (e ∷ past) ≡ false = ap₂ (λ (a b : Bool). a || b) (ends_no_later s past e t legal (omega arith)) (not_ended_yet s past t legal.2 (omega arith)) in
-    ap (λ b. cond (not b) (t ∷ []) []) unended
-
-pub tickets_go_on : (s : Layout) (past : List Entry) (e : Entry) → IsLegal s (e ∷ past) → unended (e ∷ past) ≡ filter (goes_on e) (unended past) ++ option_to_list (ticket_given past e)
-unfolding tickets
-tickets_go_on s past e legal =
-    filter-append (is_unended (e ∷ past)) (tickets past) (option_to_list (ticket_in e (length past)))
-    ∙ ap₂ (λ xs ys. xs ++ ys) (older_kept past e) (newest_kept s past e (ticket_in e (length past)) legal (λ t h. (ticket_in_is e (length past) t h).number))
+    record { by = inner.0; call = end_call t.number e.call inner.1; reply = is_done_reply e.reply outer.1 }
 
 -- ---- an entry ends one ticket at most
 
 -- of the unended tickets the entry ends the one with the number of this, and no other
-pub ends_only : (past : List Entry) (e : Entry) (u : Ticket) → In u (unended past) → ends u e ≡ true → (t : Ticket) → In t (unended past) → goes_on e t ≡ not (t.number == u.number)
+pub ends_only : (past : List Entry) (e : Entry) (u : Ticket) → In u (unended past) → ends u e ≡ true → (t : Ticket) → In t (unended past) → is_kept e t ≡ not (t.number == u.number)
 ends_only past e u here it t there = ap not (agree (ends t e) (t.number == u.number) forth back)
   where
     agree : (a b : Bool) → (a ≡ true → b ≡ true) → (b ≡ true → a ≡ true) → a ≡ b
@@ -162,11 +99,14 @@ ends_only past e u here it t there = ap not (agree (ends t e) (t.number == u.num
 
 pub data TicketStep (past : List Entry) (e : Entry) : Type 0 where
   ends_one : (u : Ticket) → ticket_ended past e ≡ Some u → In u (unended past) → ends u e ≡ true → TicketStep past e
-  ends_none : ticket_ended past e ≡ None → AllByRecursion (λ t. goes_on e t ≡ true) (unended past) → TicketStep past e
+  ends_none : ticket_ended past e ≡ None → AllByRecursion (λ t. is_kept e t ≡ true) (unended past) → TicketStep past e
 
 pub ticket_step : (past : List Entry) (e : Entry) → TicketStep past e
 ticket_step past e = which (ticket_ended past e) refl
   where
     which : (o : Option Ticket) → ticket_ended past e ≡ o → TicketStep past e
-    which None is = ends_none is (All_map (λ t. ends t e ≡ false) (λ t. goes_on e t ≡ true) (unended past) (λ t h. ap not h) (find_none (is_ended_by e) (unended past) is))
-    which (Some u) is = let k = found (is_ended_by e) (unended past) u is in ends_one u is k.0 k.1
+    which None is = ends_none is (all_in (λ t. is_kept e t ≡ true) (unended past) (λ t i. ap not (false_from_ne_true (ends t e) (λ h.
+        subst (λ o. In t (option_to_list o)) is (subst (In t) (one_ticket_ends past e) (filter_in (is_ended_by e) (unended past) t i h))))))
+    which (Some u) is =
+        let k = in_filter (is_ended_by e) (unended past) u (subst (In u) (sym (one_ticket_ends past e)) (option_in (ticket_ended past e) u is)) in
+        ends_one u is k.0 k.1

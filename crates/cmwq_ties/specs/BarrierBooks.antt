@@ -1,20 +1,23 @@
 -- The barriers follow the open queueings of items, and the unended waits for them.
-use Rattle.std.specs.Prelude.{◌≡◌, ℕ, true, ◌↔◌, if◌then◌else◌, List, [], ◌∷◌, map, filter, Contains, Option, Some, None, is_some}
+use Rattle.std.specs.Prelude.{◌≡◌, ℕ, true, ◌↔◌, if◌then◌else◌, List, [], ◌∷◌, map, filter, Contains, ◌++◌, Option, Some, None, is_some, option_map, option_to_list}
 use Rattle.std.specs.List.{filter_map, range_with_len}
 use Rattle.cmwq_model.specs.declared.call.Call.{Call}
 use Rattle.cmwq_model.specs.declared.call.Call.TheVariants as call
 use Rattle.cmwq_model.specs.declared.entry.Entry.{Entry}
 use Rattle.cmwq_model.specs.declared.record.Queueing.{Queueing}
 use Rattle.cmwq_model.specs.declared.record.Ticket.{Ticket}
+use Rattle.cmwq_model.specs.declared.record.Start.{Start}
 use Rattle.cmwq_model.specs.Layout.{Layout}
-use Rattle.cmwq_model.specs.Queueings.{still_open, opening, is_of}
+use Rattle.cmwq_model.specs.Queueings.{still_open, opening, is_of, unstarted}
+use Rattle.cmwq_model.specs.Runs.{item_run}
 use Rattle.cmwq_model.specs.Tickets.{unended}
 use Rattle.cmwq_model.specs.Waits.{waits_for}
 use Rattle.cmwq_model.specs.Legal.{IsLegal}
 use Rattle.cmwq_laws.specs.Endings.{ending}
+use Rattle.cmwq_laws.specs.TicketSteps.{ticket_ended}
 use Rattle.cmwq_flush.specs.declared.barrier.Barrier.{Barrier}
 use Rattle.cmwq_flush.specs.BarrierBook.{BarrierBook, new_barriers, IsReady, after_opened, after_ended, after_begin, after_end, waits_for as book_waits_for}
-use Rattle.cmwq_ties.specs.Told.{number_of_queueing, ticket_ended, ticket_given}
+use Rattle.cmwq_ties.specs.Told.{number_of_queueing, ticket_given}
 
 -- the numbers of an item's open queueings
 abbrev pub item_numbers : List Entry → ℕ → List ℕ
@@ -72,3 +75,8 @@ BarriersWaitForLeast = (s : Layout) (past : List Entry) (t : Ticket) → IsLegal
 abbrev pub ReadyBarriersWaitForNothing : Type 0
 ReadyBarriersWaitForNothing = (s : Layout) (past : List Entry) (t : Ticket) → IsLegal s past → Contains (unended past) t → is_some (wait_for t) ≡ true
     → IsReady (barriers_of s past) t.number ↔ (waits_for past t.number t.call ≡ None)
+
+-- an item has two open queueings at most: its run, and after that one which hasn't started
+abbrev pub RunThenUnstarted : Type 0
+RunThenUnstarted = (s : Layout) (past : List Entry) (i : ℕ) → IsLegal s past
+    → item_numbers past i ≡ option_to_list (option_map (λ (start : Start). start.number) (item_run past i)) ++ option_to_list (option_map number_of_queueing (unstarted past i))

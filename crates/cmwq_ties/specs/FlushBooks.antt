@@ -1,5 +1,5 @@
 -- The flush book of a queue follows the queue's open queueings and its unended flushes and drains.
-use Rattle.std.specs.Prelude.{◌≡◌, ℕ, ◌<◌, ◌≤◌, ◌↔◌, Bool, ◌==◌, if◌then◌else◌, List, ◌∷◌, length, map, filter, [], Contains, Option, Some, None, slice_get, nat_lt, nat_le}
+use Rattle.std.specs.Prelude.{◌≡◌, ℕ, ◌<◌, ◌≤◌, ◌↔◌, Bool, ◌==◌, if◌then◌else◌, List, ◌∷◌, length, map, filter, [], Contains, true, Option, Some, None, slice_get, nat_lt, nat_le}
 use Rattle.std.specs.List.{AllByRecursion}
 use Rattle.cmwq_model.specs.declared.id.QueueId.{QueueId}
 use Rattle.cmwq_model.specs.declared.call.Call.TheVariants as call
@@ -12,11 +12,12 @@ use Rattle.cmwq_model.specs.Tickets.{unended, is_flush_of, is_drain_of, is_drain
 use Rattle.cmwq_model.specs.Waits.{served, waits_for}
 use Rattle.cmwq_model.specs.Legal.{IsLegal}
 use Rattle.cmwq_laws.specs.Endings.{ending}
+use Rattle.cmwq_laws.specs.TicketSteps.{ticket_ended}
 use Rattle.cmwq_flush.specs.declared.served.Served.{Served}
 use Rattle.cmwq_flush.specs.declared.limits.TheConstants.{MOST_SERVED}
 use Rattle.cmwq_flush.specs.FlushBook.{FlushBook, new_book, flush_tickets, IsReady, after_opened, after_ended, after_begin, after_end, after_drain_begin, after_drain_end}
 use Rattle.cmwq_flush.specs.Colouring.{IsServing}
-use Rattle.cmwq_ties.specs.Told.{number_of_queueing, number_of_ticket, ticket_ended, ticket_given}
+use Rattle.cmwq_ties.specs.Told.{number_of_queueing, number_of_ticket, ticket_given}
 
 -- the numbers of the queue's open queueings, and of the flushes and drains of it among some tickets
 abbrev pub is_on_queue : ℕ → Queueing → Bool
@@ -98,3 +99,8 @@ DrainsWaitForLeastOpen = (s : Layout) (past : List Entry) (q : QueueId) (b : Flu
 
 abbrev pub DrainingWhileDrainsStand : Type 0
 DrainingWhileDrainsStand = (s : Layout) (past : List Entry) (q : ℕ) (b : FlushBook) → AreFlushes s past q b → is_draining past q ≡ nat_lt 0 (length b.drains)
+
+-- a flush whose end is answered done in a legal history stands in the book and is ready, so that the call may be made
+abbrev pub DoneFlushesMayEnd : Type 0
+DoneFlushesMayEnd = (s : Layout) (past : List Entry) (e : Entry) (q : ℕ) (b : FlushBook) (t : Ticket) → IsLegal s (e ∷ past) → AreFlushes s past q b → ticket_ended past e ≡ Some t → is_flush_of q t ≡ true
+    → Contains (flush_tickets b) t.number × IsReady b t.number

@@ -1,5 +1,5 @@
 -- A pool follows its worklist, and the runs and the enlisting of its workers.
-use Rattle.std.specs.Prelude.{◌≡◌, ℕ, ◌<◌, ◌&&◌, not, if◌then◌else◌, List, [], ◌∷◌, map, filter, fold, Option, Some, None, option_map, option_and_then}
+use Rattle.std.specs.Prelude.{◌≡◌, ℕ, ◌<◌, ◌&&◌, not, if◌then◌else◌, List, [], ◌∷◌, map, filter, fold, Option, Some, None, option_map, option_and_then, IsTrue, IsSome}
 use Rattle.cmwq_model.specs.declared.id.PoolId.{PoolId}
 use Rattle.cmwq_model.specs.declared.id.WorkerId.{WorkerId}
 use Rattle.cmwq_model.specs.declared.id.Who.{Who}
@@ -20,7 +20,7 @@ use Rattle.cmwq_laws.specs.Endings.{ending}
 use Rattle.cmwq_laws.specs.Activations.{is_in}
 use Rattle.cmwq_pool.specs.declared.task.Task.{Task}
 use Rattle.cmwq_pool.specs.declared.seat.Seat.{Seat}
-use Rattle.cmwq_pool.specs.Seats.{seat_at, run_number, seat_asleep, seat_awake, seat_free, seat_retired, runnable as seats_runnable, enlisted_by as seats_enlisted_by, may_retire as seat_may_retire}
+use Rattle.cmwq_pool.specs.Seats.{seat_at, is_idle as is_idle_seat, runs_awake, runs_asleep, run_number, seat_asleep, seat_awake, seat_free, seat_retired, runnable as seats_runnable, enlisted_by as seats_enlisted_by, may_retire as seat_may_retire}
 use Rattle.cmwq_pool.specs.Lineup.{Lineup, new_lineup, added, removed, next_task, started, reseated, next as lineup_next}
 use Rattle.cmwq_ties.specs.Told.{number_of_queueing}
 
@@ -95,3 +95,21 @@ pub record IsSeatOf (past : List Entry) (w : WorkerId) (seat : Seat) : Type 0 wh
 
 abbrev pub SeatsAreWorkers : Type 0
 SeatsAreWorkers = (s : Layout) (past : List Entry) (p : PoolId) (x : ℕ) → IsLegal s past → x < s.workers → IsSeatOf past (worker_at p x) (seat_at (pool_of s past p).seats x)
+
+-- what a pool's worker is answered in a legal history may be told: what each of these calls requires holds before it
+pub record MayStart (l : Lineup) (x : ℕ) : Type 0 where
+  pub idle : IsTrue (is_idle_seat (seat_at l.seats x))
+  pub next : IsSome (lineup_next l)
+  pub free : seats_runnable l.seats ≡ 0
+
+abbrev pub MayBeTold : Reply → Lineup → ℕ → Type 0
+MayBeTold (reply.Started n) l x = MayStart l x
+MayBeTold (reply.StartedEnlist n y) l x = MayStart l x
+MayBeTold (reply.Finished n) l x = IsTrue (runs_awake (seat_at l.seats x))
+MayBeTold reply.Slept l x = IsTrue (runs_awake (seat_at l.seats x))
+MayBeTold reply.Woke l x = IsTrue (runs_asleep (seat_at l.seats x))
+MayBeTold reply.Retired l x = IsTrue (seat_may_retire l.seats x)
+MayBeTold r l x = Unit {0}
+
+abbrev pub WorkersMayBeTold : Type 0
+WorkersMayBeTold = (s : Layout) (past : List Entry) (e : Entry) (w : WorkerId) → IsLegal s (e ∷ past) → e.who ≡ Worker w → MayBeTold e.reply (pool_of s past w.pool) w.index

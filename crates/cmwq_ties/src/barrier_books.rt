@@ -1,7 +1,7 @@
 //! Where the barriers are those of a history, the calls for one more entry make them those of the longer history, and
 //! what they answer is what the definitions say.
 
-ghost use Rattle.cmwq_ties.specs.BarrierBooks.{BarriersAtFirst, BarriersFollow, BarriersWaitForLeast, ReadyBarriersWaitForNothing};
+ghost use Rattle.cmwq_ties.specs.BarrierBooks.{BarriersAtFirst, BarriersFollow, BarriersWaitForLeast, ReadyBarriersWaitForNothing, RunThenUnstarted};
 
 /// Before any entry the barriers are new ones.
 pub fn barriers_at_first()
@@ -23,6 +23,11 @@ pub fn ready_barriers_wait_for_nothing()
     ensures { ReadyBarriersWaitForNothing }
 {}
 
+/// An item has two open queueings at most: its run, and after that one which hasn't started.
+pub fn items_have_run_then_unstarted()
+    ensures { RunThenUnstarted }
+{}
+
 #[cfg(test)]
 mod tests {
     use super::*;
@@ -33,5 +38,6 @@ mod tests {
         barriers_follow();
         barriers_wait_for_least();
         ready_barriers_wait_for_nothing();
+        items_have_run_then_unstarted();
     }
 }

@@ -6,22 +6,21 @@ mod barrier_books;
 mod flush_books;
 mod pools;
 mod timers;
-mod told;
 
 pub use barrier_books::{
-    barriers_at_first, barriers_follow, barriers_wait_for_least, ready_barriers_wait_for_nothing,
+    barriers_at_first, barriers_follow, barriers_wait_for_least, items_have_run_then_unstarted,
+    ready_barriers_wait_for_nothing,
 };
 pub use flush_books::{
-    draining_while_drains_stand, drains_wait_for_least_open, flushes_at_first, flushes_follow,
-    flushes_wait_for_least_open, ready_flushes_wait_for_nothing,
+    done_flushes_may_end, draining_while_drains_stand, drains_wait_for_least_open,
+    flushes_at_first, flushes_follow, flushes_wait_for_least_open, ready_flushes_wait_for_nothing,
 };
 pub use pools::{
     idle_retire_alike, nexts_are_next, pools_at_first, pools_follow, runnables_are_runnable,
-    seats_are_workers, starts_enlist_alike,
+    seats_are_workers, starts_enlist_alike, workers_may_be_told,
 };
 pub use timers::{
     bookings_set_timers, first_timer_is_first_due, no_timer_is_none_due, no_timers_at_first,
     others_keep_timers, settled_timers_are_taken_back, timers_are_due_as_booked,
     timers_may_be_told,
 };
-pub use told::tickets_go_on;

@@ -1,7 +1,7 @@
 //! Where a pool is that of some entries, the calls for one more entry make it that of the longer history, and what it
 //! answers is what the definitions say.
 
-ghost use Rattle.cmwq_ties.specs.Pools.{PoolsAtFirst, PoolsFollow, NextsAreNext, RunnablesAreRunnable, StartsEnlistAlike, IdleRetireAlike, SeatsAreWorkers};
+ghost use Rattle.cmwq_ties.specs.Pools.{PoolsAtFirst, PoolsFollow, NextsAreNext, RunnablesAreRunnable, StartsEnlistAlike, IdleRetireAlike, SeatsAreWorkers, WorkersMayBeTold};
 
 /// Before any entry each pool is a new one.
 pub fn pools_at_first()
@@ -39,6 +39,11 @@ pub fn seats_are_workers()
     ensures { SeatsAreWorkers }
 {}
 
+/// What a worker is answered in a legal history may be told to its pool: what the call requires holds.
+pub fn workers_may_be_told()
+    ensures { WorkersMayBeTold }
+{}
+
 #[cfg(test)]
 mod tests {
     use super::*;
@@ -52,5 +57,6 @@ mod tests {
         starts_enlist_alike();
         idle_retire_alike();
         seats_are_workers();
+        workers_may_be_told();
     }
 }
