@@ -10,11 +10,12 @@ use Rattle.cmwq_text.specs.HistoryText.{history_text, calls_text}
 use Rattle.cmwq_base.specs.Files.{File, IsSound}
 use Rattle.cmwq_base.specs.Kinds.{calls_kind, call_file_of, history_kind, history_file_of}
 
--- a history and its shape have one text: what is read of a file of a history is spelled so
+-- a history and its shape have one text: what is read of it as a history is spelled so
 abbrev pub HistoriesHaveOneText : Type 0
 HistoriesHaveOneText = (text : List ℕ) (f : File Entry) → history_file_of text ≡ Ok f → text ≡ history_text f.layout f.items
 
--- what is spelled is read again, if the shape is inside the limits, no more than 1,000,000 entries stand in it and each of them fits it
+-- a history that is spelled is read again, if its shape is inside the limits, it has no more than 1,000,000 entries, each of them fits the
+-- shape, and their numbers are inside the ranges of their types
 abbrev pub HistoriesReadAgain : Type 0
 HistoriesReadAgain = (f : File Entry) → IsTrue (is_layout f.layout) → IsSound history_kind f → All IsEntry f.items → history_file_of (history_text f.layout f.items) ≡ Ok f
 
