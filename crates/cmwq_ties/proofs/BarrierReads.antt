@@ -24,7 +24,7 @@ use Rattle.cmwq_ties.specs.BarrierBooks.{item_numbers, wait_by, wait_for, barrie
 use Rattle.cmwq_ties.proofs.Members.{In, of_in, all_in, in_filter, in_option, contained_in}
 use Rattle.cmwq_ties.proofs.Rising.{RisesBy}
 use Rattle.cmwq_ties.proofs.Numbers.{find_number}
-use Rattle.cmwq_ties.proofs.Settled.{legal_fits}
+use Rattle.cmwq_ties.proofs.Settled.{numbers_fit}
 use Rattle.cmwq_ties.proofs.TicketSteps.{unended_rise, ticket_in_is}
 use Rattle.cmwq_ties.proofs.BarrierSteps.{wait_number, cons_wait}
 
@@ -35,7 +35,7 @@ unfolding tickets IsLegal
 tickets_fit s [] legal = tt
 tickets_fit s (e ∷ past) legal = All_append (λ t. has_numbers s t.call ≡ true) (tickets past) (option_to_list (ticket_in e (length past))) (tickets_fit s past legal.2)
     (all_in (λ t. has_numbers s t.call ≡ true) (option_to_list (ticket_in e (length past)))
-    (λ t i. ap (has_numbers s) (ticket_in_is e (length past) t (in_option (ticket_in e (length past)) t i)).call ∙ legal_fits s past e legal))
+    (λ t i. ap (has_numbers s) (ticket_in_is e (length past) t (in_option (ticket_in e (length past)) t i)).call ∙ numbers_fit s past e legal))
 
 wait_there : (s : Layout) (t : Ticket) (w : Barrier) → has_numbers s t.call ≡ true → wait_for t ≡ Some w → w.item.0 < s.items
 wait_there s t w fits h = by t.call fits h

@@ -22,11 +22,11 @@ use Rattle.cmwq_ties.proofs.TicketSteps.{TicketStep, ticket_step, ends_one, ends
 use Rattle.cmwq_ties.proofs.FlushReads.{ready_flushes_wait_for_nothing}
 
 -- the ticket that is ended stands, and waits for nothing
-record IsEnded (past : List Entry) (t : Ticket) : Type 0 where
-  stands : In t (unended past)
-  ready : waits_for past t.number t.call ≡ None
+pub record IsEnded (past : List Entry) (t : Ticket) : Type 0 where
+  pub stands : In t (unended past)
+  pub ready : waits_for past t.number t.call ≡ None
 
-ended_ready : (s : Layout) (past : List Entry) (e : Entry) (t : Ticket) → IsLegal s (e ∷ past) → ticket_ended past e ≡ Some t → IsEnded past t
+pub ended_ready : (s : Layout) (past : List Entry) (e : Entry) (t : Ticket) → IsLegal s (e ∷ past) → ticket_ended past e ≡ Some t → IsEnded past t
 ended_ready s past e t legal h = which (ticket_step past e)
   where
     which : TicketStep past e → IsEnded past t

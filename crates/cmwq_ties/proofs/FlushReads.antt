@@ -1,5 +1,5 @@
 -- What a flush book answers is what the definitions say.
-use Rattle.std.proofs.Common.{◌≡◌, ◌<◌, ◌≤◌, ◌↔◌, ℕ, suc, Bool, true, false, cond, ◌||◌, List, [], ◌∷◌, length, map, filter, find, Option, Some, None, nat_lt, nat_le, refl, sym, ap, ap₂, ◌∙◌, subst, arith, ⊎_elim}
+use Rattle.std.proofs.Common.{◌≡◌, ◌<◌, ◌≤◌, ◌↔◌, ℕ, suc, Bool, true, false, cond, ◌||◌, List, [], ◌∷◌, length, map, filter, find, Option, Some, None, nat_lt, nat_le, refl, sym, ap, ◌∙◌, subst, arith, ⊎_elim}
 use Rattle.std.specs.Prelude.{option_map, slice_get, Contains, All, MatchOption}
 use Rattle.std.specs.List.{AllByRecursion, list_any}
 use Rattle.std.proofs.lemmas.Bool.{eqb-true, eq-eqb, lt-ltb, ltb-false, le-ltb, leb-true, le-leb, false≢true}
@@ -22,12 +22,8 @@ use Rattle.cmwq_ties.specs.Told.{number_of_queueing, number_of_ticket}
 use Rattle.cmwq_ties.specs.FlushBooks.{is_on_queue, open_numbers, IsServedFrom, AreFlushes}
 use Rattle.cmwq_ties.proofs.Members.{In, of_in, in_append, found, contained_in}
 use Rattle.cmwq_ties.proofs.Rising.{RisesBy, rises_filter}
-use Rattle.cmwq_ties.proofs.Numbers.{itself, numbers_rise, find_number}
+use Rattle.cmwq_ties.proofs.Numbers.{itself, numbers_rise, find_number, find_agree}
 use Rattle.cmwq_ties.proofs.QueueingSteps.{open_numbers_rise}
-
-find_agree : (p r : ℕ → Bool) (ns : List ℕ) → AllByRecursion (λ n. p n ≡ r n) ns → find p ns ≡ find r ns
-find_agree p r [] h = refl
-find_agree p r (n ∷ ns) h = ap₂ (λ b o. cond b (Some n) o) h.0 (find_agree p r ns h.1)
 
 -- what a flush waits for, read off the open numbers
 waits_by_number : (past : List Entry) (q : QueueId) (b : FlushBook) (t : ℕ) → b.opened ≡ open_numbers past q.0 → waits_for past t (call.Flush q) ≡ find (is_within (served past q.0 t)) b.opened

@@ -13,6 +13,7 @@ pub mod FlushEnds
 pub mod BarrierSteps
 pub mod BarrierReads
 pub mod ItemNumbers
+pub mod BarrierEnds
 pub mod PoolReads
 pub mod PoolNext
 pub mod PoolSeats

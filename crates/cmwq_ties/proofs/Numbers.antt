@@ -129,3 +129,8 @@ all_before (x ∷ xs) ys n h i =
     second : (zs : List ℕ) → In n (zs ++ ys)
     second [] = i
     second (z ∷ zs) = inr (second zs)
+
+-- two tests that agree on each number find the same
+pub find_agree : (p r : ℕ → Bool) (ns : List ℕ) → AllByRecursion (λ n. p n ≡ r n) ns → find p ns ≡ find r ns
+find_agree p r [] h = refl
+find_agree p r (n ∷ ns) h = ap₂ (λ b o. cond b (Some n) o) h.0 (find_agree p r ns h.1)

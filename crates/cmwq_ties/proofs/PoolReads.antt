@@ -24,6 +24,7 @@ use Rattle.cmwq_pool.specs.declared.task.Task.{Task}
 use Rattle.cmwq_pool.specs.declared.seat.Seat.{Seat}
 use Rattle.cmwq_pool.specs.Seats.{no_seat, seat_at, is_holding as seat_holds, is_idle as seat_is_idle, is_occupied as seat_is_occupied, is_reserve as seat_is_reserve, is_reserve_at, is_other_idle as is_other_seat, runnable as seats_runnable, enlisted_by as seats_enlisted_by, may_retire as seat_may_retire, indices as seat_indices}
 use Rattle.cmwq_ties.specs.Pools.{task_for, run_task, seat_of, pool_of, IsSeatOf}
+use Rattle.cmwq_ties.proofs.Numbers.{find_agree}
 use Rattle.cmwq_ties.proofs.Members.{In, filter_in, contained_in}
 
 -- ---- what a worker runs
@@ -106,10 +107,6 @@ indices_below s = All_map (λ x. x < 0 + s.workers) (λ x. x < s.workers) (indic
 any_agree : (p q : ℕ → Bool) (xs : List ℕ) → AllByRecursion (λ x. p x ≡ q x) xs → list_any p xs ≡ list_any q xs
 any_agree p q [] h = refl
 any_agree p q (x ∷ xs) h = ap₂ (λ a b. a || b) h.0 (any_agree p q xs h.1)
-
-find_agree : (p q : ℕ → Bool) (xs : List ℕ) → AllByRecursion (λ x. p x ≡ q x) xs → find p xs ≡ find q xs
-find_agree p q [] h = refl
-find_agree p q (x ∷ xs) h = ap₂ (λ b o. cond b (Some x) o) h.0 (find_agree p q xs h.1)
 
 pub starts_enlist_alike : (s : Layout) (past : List Entry) (w : WorkerId) → IsLegal s past → seats_enlisted_by (pool_of s past w.pool).seats w.index ≡ enlisted_by s past w
 unfolding enlisted_by

@@ -40,6 +40,7 @@ use Rattle.cmwq_pool.specs.Lineup.{Lineup, new_lineup, is_not, added, removed, n
 use Rattle.cmwq_ties.specs.Told.{number_of_queueing}
 use Rattle.cmwq_ties.specs.Pools.{task_for, seat_of, pool_of, start_next, told_reply, told_worker, told_cancelled, told_active, told}
 use Rattle.cmwq_ties.proofs.Members.{of_in}
+use Rattle.cmwq_ties.proofs.Numbers.{filter_goes_on}
 use Rattle.cmwq_ties.proofs.Rising.{rises_unique}
 use Rattle.cmwq_ties.proofs.QueueingSteps.{QueueingStep, queueing_step, ends_one, ends_none, open_numbers_rise}
 use Rattle.cmwq_ties.proofs.TimerSteps.{same_rows}
@@ -66,12 +67,8 @@ filter_mapped p q f (x ∷ xs) h = ap₂ (λ b ys. cond b (f x ∷ ys) ys) h.0 (
     here true = refl
     here false = refl
 
-filter_all : (q : Queueing → Bool) (xs : List Queueing) → AllByRecursion (λ x. q x ≡ true) xs → filter q xs ≡ xs
-filter_all q [] h = refl
-filter_all q (x ∷ xs) h = ap₂ (λ b ys. cond b (x ∷ ys) ys) h.0 (filter_all q xs h.1)
-
 all_stay : (s : Layout) (past : List Entry) (e : Entry) (p : PoolId) → ((y : Queueing) → IsOnList s past p y → is_left past e y ≡ true) → map (task_for s) (filter (is_left past e) (worklist s past p)) ≡ map (task_for s) (worklist s past p)
-all_stay s past e p h = ap (map (task_for s)) (filter_all (is_left past e) (worklist s past p) (All_map (IsOnList s past p) (λ y. is_left past e y ≡ true) (worklist s past p) h (worklist_has s past p)))
+all_stay s past e p h = ap (map (task_for s)) (filter_goes_on number_of_queueing (is_left past e) (worklist s past p) (All_map (IsOnList s past p) (λ y. is_left past e y ≡ true) (worklist s past p) h (worklist_has s past p)))
 
 one_leaves : (s : Layout) (past : List Entry) (e : Entry) (p : PoolId) (n : ℕ) → ((y : Queueing) → IsOnList s past p y → is_left past e y ≡ not (y.number == n)) → map (task_for s) (filter (is_left past e) (worklist s past p)) ≡ filter (is_not n) (map (task_for s) (worklist s past p))
 one_leaves s past e p n h = sym (filter_mapped (is_not n) (is_left past e) (task_for s) (worklist s past p) (All_map (IsOnList s past p) (λ y. is_not n (task_for s y) ≡ is_left past e y) (worklist s past p) (λ y on. sym (h y on)) (worklist_has s past p)))

@@ -137,9 +137,9 @@ pub record Fits (s : Layout) (b : Booking) : Type 0 where
   pub item : b.item.0 < s.items
   pub queue : b.place.queue.0 < length s.queues
 
-pub legal_fits : (s : Layout) (past : List Entry) (e : Entry) → IsLegal s (e ∷ past) → has_numbers s e.call ≡ true
+pub numbers_fit : (s : Layout) (past : List Entry) (e : Entry) → IsLegal s (e ∷ past) → has_numbers s e.call ≡ true
 unfolding IsLegal
-legal_fits s past e legal = (and_parts (may_make s e.who e.call) (has_numbers s e.call) legal.0).1
+numbers_fit s past e legal = (and_parts (may_make s e.who e.call) (has_numbers s e.call) legal.0).1
 
 place_fits : (s : Layout) (i q c : ℕ) → has_place s i q c ≡ true → (i < s.items) × (q < length s.queues)
 place_fits s i q c h = let two = and_parts _ _ (and_parts _ _ h).0 in (ltb-true _ _ two.0, ltb-true _ _ two.1)
@@ -160,7 +160,7 @@ booking_fits s past e b legal is = due (due_in e.reply) is
   where
     due : (o : Option ℕ) → option_and_then (booked_by e.call (length past)) o ≡ Some b → Fits s b
     due None h = cc
-    due (Some d) h = booked_fits s e.call (length past) d b (legal_fits s past e legal) h
+    due (Some d) h = booked_fits s e.call (length past) d b (numbers_fit s past e legal) h
 
 option_fits : (s : Layout) (o : Option Booking) → ((b : Booking) → o ≡ Some b → Fits s b) → AllByRecursion (Fits s) (option_to_list o)
 option_fits s None h = tt
@@ -193,4 +193,4 @@ item_less s past c r i numbers due (none is quiet) h =
 pub item_there : (s : Layout) (past : List Entry) (e : Entry) (i : ℕ) → IsLegal s (e ∷ past) → ((b : Booking) → first_due past ≡ Some b → Fits s b) → item_of e ≡ Some i → i < s.items
 item_there s past e i legal due h =
     let is = answer_is s past e legal in
-    item_less s past e.call (answer s past e.who e.call) i (legal_fits s past e legal) due (item_case s past e.who e.call) (rw is at h)
+    item_less s past e.call (answer s past e.who e.call) i (numbers_fit s past e legal) due (item_case s past e.who e.call) (rw is at h)

@@ -16,7 +16,7 @@ use Rattle.cmwq_model.specs.Legal.{IsLegal}
 use Rattle.cmwq_laws.specs.Endings.{ending}
 use Rattle.cmwq_laws.specs.TicketSteps.{ticket_ended}
 use Rattle.cmwq_flush.specs.declared.barrier.Barrier.{Barrier}
-use Rattle.cmwq_flush.specs.BarrierBook.{BarrierBook, new_barriers, IsReady, after_opened, after_ended, after_begin, after_end, waits_for as book_waits_for}
+use Rattle.cmwq_flush.specs.BarrierBook.{BarrierBook, new_barriers, tickets_in, IsReady, after_opened, after_ended, after_begin, after_end, waits_for as book_waits_for}
 use Rattle.cmwq_ties.specs.Told.{number_of_queueing, ticket_given}
 
 -- the numbers of an item's open queueings
@@ -80,3 +80,8 @@ ReadyBarriersWaitForNothing = (s : Layout) (past : List Entry) (t : Ticket) → 
 abbrev pub RunThenUnstarted : Type 0
 RunThenUnstarted = (s : Layout) (past : List Entry) (i : ℕ) → IsLegal s past
     → item_numbers past i ≡ option_to_list (option_map (λ (start : Start). start.number) (item_run past i)) ++ option_to_list (option_map number_of_queueing (unstarted past i))
+
+-- a wait for an item whose end is answered done in a legal history stands and is ready, so that the call may be made
+abbrev pub DoneBarriersMayEnd : Type 0
+DoneBarriersMayEnd = (s : Layout) (past : List Entry) (e : Entry) (t : Ticket) → IsLegal s (e ∷ past) → ticket_ended past e ≡ Some t → is_some (wait_for t) ≡ true
+    → Contains (tickets_in (barriers_of s past).barriers) t.number × IsReady (barriers_of s past) t.number

@@ -1,7 +1,7 @@
 //! Where the barriers are those of a history, the calls for one more entry make them those of the longer history, and
 //! what they answer is what the definitions say.
 
-ghost use Rattle.cmwq_ties.specs.BarrierBooks.{BarriersAtFirst, BarriersFollow, BarriersWaitForLeast, ReadyBarriersWaitForNothing, RunThenUnstarted};
+ghost use Rattle.cmwq_ties.specs.BarrierBooks.{BarriersAtFirst, BarriersFollow, BarriersWaitForLeast, ReadyBarriersWaitForNothing, RunThenUnstarted, DoneBarriersMayEnd};
 
 /// Before any entry the barriers are new ones.
 pub fn barriers_at_first()
@@ -28,6 +28,11 @@ pub fn items_have_run_then_unstarted()
     ensures { RunThenUnstarted }
 {}
 
+/// A wait for an item whose end is answered done in a legal history stands and is ready, so its end may be told.
+pub fn done_barriers_may_end()
+    ensures { DoneBarriersMayEnd }
+{}
+
 #[cfg(test)]
 mod tests {
     use super::*;
@@ -39,5 +44,6 @@ mod tests {
         barriers_wait_for_least();
         ready_barriers_wait_for_nothing();
         items_have_run_then_unstarted();
+        done_barriers_may_end();
     }
 }

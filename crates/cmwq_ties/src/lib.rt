@@ -8,8 +8,8 @@ mod pools;
 mod timers;
 
 pub use barrier_books::{
-    barriers_at_first, barriers_follow, barriers_wait_for_least, items_have_run_then_unstarted,
-    ready_barriers_wait_for_nothing,
+    barriers_at_first, barriers_follow, barriers_wait_for_least, done_barriers_may_end,
+    items_have_run_then_unstarted, ready_barriers_wait_for_nothing,
 };
 pub use flush_books::{
     done_flushes_may_end, draining_while_drains_stand, drains_wait_for_least_open,
