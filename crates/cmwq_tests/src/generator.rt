@@ -149,11 +149,11 @@ impl Generator {
 
     fn worker_call(&mut self) -> Call {
         match self.below(16) {
-            0..7 => Call::Take,
-            7..9 => Call::Finish,
+            0..6 => Call::Take,
+            6..9 => Call::Finish,
             9..11 => Call::Sleep,
-            11..13 => Call::Wake,
-            13..15 => Call::Retire,
+            11..14 => Call::Wake,
+            14 => Call::Retire,
             _ => self.queueing(),
         }
     }

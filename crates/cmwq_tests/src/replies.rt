@@ -175,8 +175,8 @@ fn compare_all(rt: &(impl Abort + AllocGlobal), seed: u64, length: Number) -> Re
 
 #[test]
 fn parts_answer_as_the_plain_program(rt: HostRuntime) -> Result<(), Fail> {
-    for seed in 1..=4 {
-        compare_all(&rt, seed, 200)?;
+    for seed in 1..=6 {
+        compare_all(&rt, seed, 150)?;
     }
     Ok(())
 }
