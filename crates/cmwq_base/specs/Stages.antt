@@ -1,5 +1,5 @@
 -- A stage of the reader as the definitions see it.
-use Rattle.std.specs.Prelude.{ℕ, ◌+◌, ◌≤◌, List, length, IsTrue}
+use Rattle.std.specs.Prelude.{ℕ, ◌+◌, ◌≤◌, length, IsTrue}
 use Rattle.std.specs.List.{All}
 use Rattle.cmwq_base.specs.declared.stage.Stage.{Stage as ReaderStage}
 use Rattle.cmwq_base.specs.declared.stage.Stage.TheVariants as reader

@@ -48,3 +48,4 @@ pub mod Promised
 pub mod StateSteps
 pub mod Marks
 pub mod Limits
+pub mod FirstWrong

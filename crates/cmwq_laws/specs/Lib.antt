@@ -14,3 +14,4 @@ pub mod RoomSteps
 pub mod StateSteps
 pub mod Marks
 pub mod Limits
+pub mod Verdicts

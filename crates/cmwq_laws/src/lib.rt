@@ -13,6 +13,7 @@ mod run_steps;
 mod sanity;
 mod state_steps;
 mod ticket_steps;
+mod verdicts;
 
 pub use activation_steps::{
     active_stay, newly_active_are, opened_have_way, started_are_active, worklists_go_on,
@@ -57,3 +58,4 @@ pub use ticket_steps::{
     begun_are_served, one_moves_up, one_ticket_ends, overflowed_move_up, served_stay,
     tickets_go_on, unended_go_on,
 };
+pub use verdicts::{first_wrong_is_one, wrong_are_illegal};

@@ -1,4 +1,4 @@
-use Rattle.std.proofs.Common.{◌≡◌, ◌+◌, ◌≤◌, refl, sym, ap, ◌∙◌, arith, rules}
+use Rattle.std.proofs.Common.{refl, arith}
 use Rattle.std.proofs.lemmas.Result.{err_from_is_err_and}
 use Rattle.cmwq_io.specs.declared.lines.Found.TheVariants.{Whole, Cut, Long, End}
 use Rattle.cmwq_base.specs.declared.refusal.Refusal.TheVariants.{ReadFault, WriteFault}

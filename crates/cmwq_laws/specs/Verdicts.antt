@@ -1,0 +1,15 @@
+-- The verdict of a history is one: it is legal, or has one first wrong entry, and never both.
+use Rattle.std.specs.Prelude.{◌≡◌, List}
+use Rattle.cmwq_model.specs.declared.entry.Entry.{Entry}
+use Rattle.cmwq_model.specs.declared.verdict.Illegal.{Illegal}
+use Rattle.cmwq_model.specs.Layout.{Layout}
+use Rattle.cmwq_model.specs.Legal.{IsLegal, past_of}
+use Rattle.cmwq_model.specs.Verdict.{IsFirstWrong}
+
+-- a history that has a first wrong entry is not legal
+abbrev pub WrongAreIllegal : Type 0
+WrongAreIllegal = (s : Layout) (entries : List Entry) (i : Illegal) → IsFirstWrong s entries i → IsLegal s (past_of entries) → ⊥
+
+-- there is one first wrong entry at most, and one thing that should stand there
+abbrev pub FirstWrongIsOne : Type 0
+FirstWrongIsOne = (s : Layout) (entries : List Entry) (i j : Illegal) → IsFirstWrong s entries i → IsFirstWrong s entries j → i ≡ j

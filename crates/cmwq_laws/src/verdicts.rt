@@ -1,0 +1,24 @@
+//! The verdict of a history is one: it is legal, or has one first wrong entry.
+
+ghost use Rattle.cmwq_laws.specs.Verdicts.{FirstWrongIsOne, WrongAreIllegal};
+
+/// A history that has a first wrong entry is not legal.
+pub fn wrong_are_illegal()
+    ensures { WrongAreIllegal }
+{}
+
+/// A history has one first wrong entry at most, and one thing that should stand there.
+pub fn first_wrong_is_one()
+    ensures { FirstWrongIsOne }
+{}
+
+#[cfg(test)]
+mod tests {
+    use super::*;
+
+    #[test]
+    fn each_is_there() {
+        wrong_are_illegal();
+        first_wrong_is_one();
+    }
+}
