@@ -21,7 +21,8 @@ use Rattle.cmwq_flush.specs.declared.served.Served.{Served}
 use Rattle.cmwq_flush.specs.declared.limits.TheConstants.{MOST_SERVED}
 use Rattle.cmwq_flush.specs.Numbers.{is_other, without}
 use Rattle.cmwq_flush.specs.Served.{ticket_of, tickets_of}
-use Rattle.cmwq_flush.specs.FlushBook.{FlushBook, new_book, served_of, after_opened, after_ended, after_begin, after_end, after_drain_begin, after_drain_end}
+use Rattle.cmwq_flush.specs.FlushBook.{FlushBook, new_book, flush_tickets, served_of, after_opened, after_ended, after_begin, after_end, after_drain_begin, after_drain_end}
+use Rattle.cmwq_flush.specs.Colouring.{IsServing}
 use Rattle.cmwq_laws.specs.Endings.{is_spared, ending}
 use Rattle.cmwq_laws.proofs.Lists.{All_map, All_append, All_filter, count_by-filter}
 use Rattle.cmwq_laws.proofs.Rising.{opening_number}
@@ -324,27 +325,33 @@ tickets_open past e q b =
 
 -- ---- what stands is served as the history says
 
-served_after : (e : Entry) (past : List Entry) (q t : ℕ) (b : FlushBook) → StandsAs past q (unended (e ∷ past)) b → In t (tickets_of b.served) → is_served_after (e ∷ past) q t ≡ true
-served_after e past q t b is here =
-    let rise = subst (RisesBy itself) (sym is.flushes_are) (flush_numbers_rise (e ∷ past) q) in
+-- fewer than 15 older ones are unended of one that is served, and 15 or more of one in overflow
+pub few_are_older : (past : List Entry) (q t : ℕ) (b : FlushBook) → flush_tickets b ≡ flush_numbers q (unended past) → length b.served ≤ MOST_SERVED → In t (tickets_of b.served) → count_by (is_older_flush q t) (unended past) < 15
+few_are_older past q t b are few here =
+    let rise = subst (RisesBy itself) (sym are) (flush_numbers_rise past q) in
     let fewer = fewer_before (tickets_of b.served) b.overflow t rise here in
-    let few = is.few in
     let size = length-map b.served ticket_of in
-    let count = older_flushes (e ∷ past) q t ∙ ap (count_by (is_less t)) (sym is.flushes_are) in
-    lt-ltb (count_by (is_older_flush q t) (unended (e ∷ past))) 15 (omega arith)
+    let count = older_flushes past q t ∙ ap (count_by (is_less t)) (sym are) in
+    omega arith
 
-not_served_after : (e : Entry) (past : List Entry) (q t : ℕ) (b : FlushBook) → StandsAs past q (unended (e ∷ past)) b → In t b.overflow → is_served_after (e ∷ past) q t ≡ false
-not_served_after e past q t b is here =
-    let rise = subst (RisesBy itself) (sym is.flushes_are) (flush_numbers_rise (e ∷ past) q) in
+pub many_are_older : (past : List Entry) (q t : ℕ) (b : FlushBook) → flush_tickets b ≡ flush_numbers q (unended past) → IsServing b → In t b.overflow → 15 ≤ count_by (is_older_flush q t) (unended past)
+many_are_older past q t b are serving here =
+    let rise = subst (RisesBy itself) (sym are) (flush_numbers_rise past q) in
     let all = all_before (tickets_of b.served) b.overflow t rise here in
-    let full = is.serving (some b.overflow here) in
+    let full = serving (some b.overflow here) in
     let size = length-map b.served ticket_of in
-    let count = older_flushes (e ∷ past) q t ∙ ap (count_by (is_less t)) (sym is.flushes_are) in
-    le-ltb (count_by (is_older_flush q t) (unended (e ∷ past))) 15 (omega arith)
+    let count = older_flushes past q t ∙ ap (count_by (is_less t)) (sym are) in
+    omega arith
   where
     some : (ns : List ℕ) → In t ns → 0 < length ns
     some [] h = absurd h
     some (n ∷ ns) h = omega arith
+
+served_after : (e : Entry) (past : List Entry) (q t : ℕ) (b : FlushBook) → StandsAs past q (unended (e ∷ past)) b → In t (tickets_of b.served) → is_served_after (e ∷ past) q t ≡ true
+served_after e past q t b is here = lt-ltb (count_by (is_older_flush q t) (unended (e ∷ past))) 15 (few_are_older (e ∷ past) q t b is.flushes_are is.few here)
+
+not_served_after : (e : Entry) (past : List Entry) (q t : ℕ) (b : FlushBook) → StandsAs past q (unended (e ∷ past)) b → In t b.overflow → is_served_after (e ∷ past) q t ≡ false
+not_served_after e past q t b is here = le-ltb (count_by (is_older_flush q t) (unended (e ∷ past))) 15 (many_are_older (e ∷ past) q t b is.flushes_are is.serving here)
 
 served_now : (e : Entry) (past : List Entry) (q : ℕ) (b : FlushBook) (f : Served) → StandsAs past q (unended (e ∷ past)) b → AllByRecursion (λ n. n < b.next) b.opened → b.next ≤ suc (length past) → In f b.served
     → ServedSoon past q b.next b.opened f → IsServedFrom (e ∷ past) q b.opened f

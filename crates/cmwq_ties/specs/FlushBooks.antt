@@ -1,5 +1,5 @@
 -- The flush book of a queue follows the queue's open queueings and its unended flushes and drains.
-use Rattle.std.specs.Prelude.{◌≡◌, ℕ, ◌<◌, ◌≤◌, ◌↔◌, Bool, ◌==◌, if◌then◌else◌, List, ◌∷◌, length, map, filter, [], Contains, true, Option, Some, None, slice_get, nat_lt, nat_le}
+use Rattle.std.specs.Prelude.{◌≡◌, ℕ, ◌<◌, ◌≤◌, ◌↔◌, Bool, ◌==◌, if◌then◌else◌, List, ◌∷◌, length, map, filter, count_by, [], Contains, true, Option, Some, None, slice_get, nat_lt, nat_le}
 use Rattle.std.specs.List.{AllByRecursion}
 use Rattle.cmwq_model.specs.declared.id.QueueId.{QueueId}
 use Rattle.cmwq_model.specs.declared.call.Call.TheVariants as call
@@ -9,7 +9,7 @@ use Rattle.cmwq_model.specs.declared.record.Ticket.{Ticket}
 use Rattle.cmwq_model.specs.Layout.{Layout}
 use Rattle.cmwq_model.specs.Queueings.{still_open, opening}
 use Rattle.cmwq_model.specs.Tickets.{unended, is_flush_of, is_drain_of, is_draining}
-use Rattle.cmwq_model.specs.Waits.{served, waits_for}
+use Rattle.cmwq_model.specs.Waits.{served, is_older_flush, waits_for}
 use Rattle.cmwq_model.specs.Legal.{IsLegal}
 use Rattle.cmwq_laws.specs.Endings.{ending}
 use Rattle.cmwq_laws.specs.TicketSteps.{ticket_ended}
@@ -99,6 +99,11 @@ DrainsWaitForLeastOpen = (s : Layout) (past : List Entry) (q : QueueId) (b : Flu
 
 abbrev pub DrainingWhileDrainsStand : Type 0
 DrainingWhileDrainsStand = (s : Layout) (past : List Entry) (q : ℕ) (b : FlushBook) → AreFlushes s past q b → is_draining past q ≡ nat_lt 0 (length b.drains)
+
+-- a flush that stands is in overflow exactly where 15 older ones of the queue or more are unended
+abbrev pub OverflowedAreBehindFifteen : Type 0
+OverflowedAreBehindFifteen = (s : Layout) (past : List Entry) (q : ℕ) (b : FlushBook) (t : ℕ) → AreFlushes s past q b → Contains (flush_tickets b) t
+    → Contains b.overflow t ↔ (15 ≤ count_by (is_older_flush q t) (unended past))
 
 -- a flush whose end is answered done in a legal history stands in the book and is ready, so that the call may be made
 abbrev pub DoneFlushesMayEnd : Type 0

@@ -1,7 +1,7 @@
 //! Where a flush book is that of a queue after some entries, the calls for one more entry make it that of the longer
 //! history, and what it answers is what the definitions say.
 
-ghost use Rattle.cmwq_ties.specs.FlushBooks.{FlushesAtFirst, FlushesFollow, ReadyFlushesWaitForNothing, FlushesWaitForLeastOpen, DrainsWaitForLeastOpen, DrainingWhileDrainsStand, DoneFlushesMayEnd};
+ghost use Rattle.cmwq_ties.specs.FlushBooks.{FlushesAtFirst, FlushesFollow, ReadyFlushesWaitForNothing, FlushesWaitForLeastOpen, DrainsWaitForLeastOpen, DrainingWhileDrainsStand, OverflowedAreBehindFifteen, DoneFlushesMayEnd};
 
 /// Before any entry each queue has a new flush book.
 pub fn flushes_at_first()
@@ -34,6 +34,11 @@ pub fn draining_while_drains_stand()
     ensures { DrainingWhileDrainsStand }
 {}
 
+/// A flush that stands is in overflow exactly where 15 older flushes of its queue or more are unended.
+pub fn overflowed_are_behind_fifteen()
+    ensures { OverflowedAreBehindFifteen }
+{}
+
 /// A flush whose end is answered done in a legal history stands in its book and is ready, so its end may be told.
 pub fn done_flushes_may_end()
     ensures { DoneFlushesMayEnd }
@@ -51,6 +56,7 @@ mod tests {
         flushes_wait_for_least_open();
         drains_wait_for_least_open();
         draining_while_drains_stand();
+        overflowed_are_behind_fifteen();
         done_flushes_may_end();
     }
 }

@@ -13,7 +13,8 @@ pub use barrier_books::{
 };
 pub use flush_books::{
     done_flushes_may_end, draining_while_drains_stand, drains_wait_for_least_open,
-    flushes_at_first, flushes_follow, flushes_wait_for_least_open, ready_flushes_wait_for_nothing,
+    flushes_at_first, flushes_follow, flushes_wait_for_least_open,
+    overflowed_are_behind_fifteen, ready_flushes_wait_for_nothing,
 };
 pub use pools::{
     idle_retire_alike, nexts_are_next, pools_at_first, pools_follow, runnables_are_runnable,
