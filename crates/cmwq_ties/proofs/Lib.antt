@@ -19,3 +19,4 @@ pub mod PoolNext
 pub mod PoolSeats
 pub mod PoolSteps
 pub mod PoolMay
+pub mod PoolAdds

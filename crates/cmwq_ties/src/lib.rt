@@ -17,7 +17,7 @@ pub use flush_books::{
     overflowed_are_behind_fifteen, ready_flushes_wait_for_nothing,
 };
 pub use pools::{
-    idle_retire_alike, nexts_are_next, pools_at_first, pools_follow, runnables_are_runnable,
+    active_may_be_added, idle_retire_alike, nexts_are_next, pools_at_first, pools_follow, runnables_are_runnable,
     seats_are_workers, starts_enlist_alike, workers_may_be_told,
 };
 pub use timers::{

@@ -1,7 +1,7 @@
 //! Where a pool is that of some entries, the calls for one more entry make it that of the longer history, and what it
 //! answers is what the definitions say.
 
-ghost use Rattle.cmwq_ties.specs.Pools.{PoolsAtFirst, PoolsFollow, NextsAreNext, RunnablesAreRunnable, StartsEnlistAlike, IdleRetireAlike, SeatsAreWorkers, WorkersMayBeTold};
+ghost use Rattle.cmwq_ties.specs.Pools.{PoolsAtFirst, PoolsFollow, NextsAreNext, RunnablesAreRunnable, StartsEnlistAlike, IdleRetireAlike, SeatsAreWorkers, WorkersMayBeTold, ActiveMayBeAdded};
 
 /// Before any entry each pool is a new one.
 pub fn pools_at_first()
@@ -44,6 +44,12 @@ pub fn workers_may_be_told()
     ensures { WorkersMayBeTold }
 {}
 
+/// What became active by an entry of a legal history may be added to its pool: its item is there, and nothing that is
+/// listed has its number or its item.
+pub fn active_may_be_added()
+    ensures { ActiveMayBeAdded }
+{}
+
 #[cfg(test)]
 mod tests {
     use super::*;
@@ -58,5 +64,6 @@ mod tests {
         idle_retire_alike();
         seats_are_workers();
         workers_may_be_told();
+        active_may_be_added();
     }
 }
