@@ -4,12 +4,14 @@ pub mod TimerSteps
 pub mod Settled
 pub mod FirstDue
 pub mod TicketSteps
+pub mod TicketLimits
 pub mod Numbers
 pub mod QueueingSteps
 pub mod FlushCalls
 pub mod FlushSteps
 pub mod FlushReads
 pub mod FlushEnds
+pub mod FlushMay
 pub mod BarrierSteps
 pub mod BarrierReads
 pub mod ItemNumbers

@@ -1,7 +1,7 @@
 //! Where a flush book is that of a queue after some entries, the calls for one more entry make it that of the longer
 //! history, and what it answers is what the definitions say.
 
-ghost use Rattle.cmwq_ties.specs.FlushBooks.{FlushesAtFirst, FlushesFollow, ReadyFlushesWaitForNothing, FlushesWaitForLeastOpen, DrainsWaitForLeastOpen, DrainingWhileDrainsStand, OverflowedAreBehindFifteen, DoneFlushesMayEnd};
+ghost use Rattle.cmwq_ties.specs.FlushBooks.{FlushesAtFirst, FlushesFollow, ReadyFlushesWaitForNothing, FlushesWaitForLeastOpen, DrainsWaitForLeastOpen, DrainingWhileDrainsStand, OverflowedAreBehindFifteen, DoneFlushesMayEnd, FlushesMayBeTold};
 
 /// Before any entry each queue has a new flush book.
 pub fn flushes_at_first()
@@ -44,6 +44,12 @@ pub fn done_flushes_may_end()
     ensures { DoneFlushesMayEnd }
 {}
 
+/// A flush book may be told of each entry of a legal history whose layout is inside the limits: what is ended stands,
+/// what is opened and begun comes later than what stands, and there is room for it.
+pub fn flushes_may_be_told()
+    ensures { FlushesMayBeTold }
+{}
+
 #[cfg(test)]
 mod tests {
     use super::*;
@@ -58,5 +64,6 @@ mod tests {
         draining_while_drains_stand();
         overflowed_are_behind_fifteen();
         done_flushes_may_end();
+        flushes_may_be_told();
     }
 }

@@ -13,7 +13,7 @@ pub use barrier_books::{
 };
 pub use flush_books::{
     done_flushes_may_end, draining_while_drains_stand, drains_wait_for_least_open,
-    flushes_at_first, flushes_follow, flushes_wait_for_least_open,
+    flushes_at_first, flushes_follow, flushes_may_be_told, flushes_wait_for_least_open,
     overflowed_are_behind_fifteen, ready_flushes_wait_for_nothing,
 };
 pub use pools::{
