@@ -4,7 +4,6 @@ use Rattle.std.specs.Prelude.{is_some, option_map, Contains, All}
 use Rattle.std.specs.List.{AllByRecursion, filter_map}
 use Rattle.std.specs.Option.{option_map_or}
 use Rattle.std.proofs.lemmas.Bool.{eq-eqb, ne_eqb, ltb-true, lt-leb, leb-false}
-use Rattle.std.proofs.lemmas.List.FromFn.{get_or-map-range_with_len}
 use Rattle.std.proofs.lemmas.List.Elements.{recursion_from_All, All-from_recursion}
 use Rattle.cmwq_model.specs.declared.call.Call.{Call}
 use Rattle.cmwq_model.specs.declared.call.Call.TheVariants as call
@@ -26,7 +25,7 @@ use Rattle.cmwq_ties.proofs.Rising.{RisesBy}
 use Rattle.cmwq_ties.proofs.Numbers.{find_number}
 use Rattle.cmwq_ties.proofs.Settled.{numbers_fit}
 use Rattle.cmwq_ties.proofs.TicketSteps.{unended_rise, ticket_in_is}
-use Rattle.cmwq_ties.proofs.BarrierSteps.{wait_number, cons_wait}
+use Rattle.cmwq_ties.proofs.BarrierSteps.{item_row, wait_number, cons_wait}
 
 -- ---- each ticket is of a call that fits
 
@@ -37,7 +36,7 @@ tickets_fit s (e ∷ past) legal = All_append (λ t. has_numbers s t.call ≡ tr
     (all_in (λ t. has_numbers s t.call ≡ true) (option_to_list (ticket_in e (length past)))
     (λ t i. ap (has_numbers s) (ticket_in_is e (length past) t (in_option (ticket_in e (length past)) t i)).call ∙ numbers_fit s past e legal))
 
-wait_there : (s : Layout) (t : Ticket) (w : Barrier) → has_numbers s t.call ≡ true → wait_for t ≡ Some w → w.item.0 < s.items
+pub wait_there : (s : Layout) (t : Ticket) (w : Barrier) → has_numbers s t.call ≡ true → wait_for t ≡ Some w → w.item.0 < s.items
 wait_there s t w fits h = by t.call fits h
   where
     by : (c : Call) → has_numbers s c ≡ true → wait_by c t.number ≡ Some w → w.item.0 < s.items
@@ -79,7 +78,7 @@ unended_fit s past t legal i = of_in (λ u. has_numbers s u.call ≡ true) (tick
 before_are : (s : Layout) (past : List Entry) (t : Ticket) (w : Barrier) → IsLegal s past → In t (unended past) → wait_for t ≡ Some w → numbers_before (barriers_of s past) t.number ≡ item_numbers past w.item.0
 before_are s past t w legal i is =
     ap (λ o. option_map_or (λ (v : Barrier). numbers_open (barriers_of s past) v.item.0) o []) (find_wait t w (unended past) (unended_rise past) i is)
-    ∙ get_or-map-range_with_len (item_numbers past) 0 s.items w.item.0 w.item.0 [] (wait_there s t w (unended_fit s past t legal i) is) (omega arith)
+    ∙ item_row s past w.item.0 (wait_there s t w (unended_fit s past t legal i) is)
 
 held_by_item : (past : List Entry) (t : Ticket) (w : Barrier) → wait_for t ≡ Some w → waits_for past t.number t.call ≡ find (is_up_to t.number) (item_numbers past w.item.0)
 held_by_item past t w h = by t.call h

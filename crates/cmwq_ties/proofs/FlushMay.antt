@@ -63,7 +63,7 @@ may_open s past e q b (Some x) inside legal is h = can
     can : is_on_queue q x ≡ true → CanOpen c x.number
     can on =
         let after : open_numbers (e ∷ past) q ≡ c.opened ++ x.number ∷ [] = sym (told_opens s past e q b legal is.opened) ∙ opened_numbers (opening past e) q c
-            ∙ ap (λ o. c.opened ++ map number_of_queueing (filter (is_on_queue q) (option_to_list o))) h ∙ ap (λ d. c.opened ++ map number_of_queueing (cond d (x ∷ []) [])) on in
+        ∙ ap (λ o. c.opened ++ map number_of_queueing (filter (is_on_queue q) (option_to_list o))) h ∙ ap (λ d. c.opened ++ map number_of_queueing (cond d (x ∷ []) [])) on in
         let size : length (open_numbers (e ∷ past) q) ≡ length c.opened + 1 = ap length after ∙ length-append c.opened (x.number ∷ []) in
         let few = few_open s (e ∷ past) q inside legal in
         let number = opening_number past e x h in

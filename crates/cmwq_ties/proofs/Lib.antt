@@ -16,6 +16,7 @@ pub mod BarrierSteps
 pub mod BarrierReads
 pub mod ItemNumbers
 pub mod BarrierEnds
+pub mod BarrierMay
 pub mod PoolReads
 pub mod PoolNext
 pub mod PoolSeats

@@ -1,7 +1,7 @@
 //! Where the barriers are those of a history, the calls for one more entry make them those of the longer history, and
 //! what they answer is what the definitions say.
 
-ghost use Rattle.cmwq_ties.specs.BarrierBooks.{BarriersAtFirst, BarriersFollow, BarriersWaitForLeast, ReadyBarriersWaitForNothing, RunThenUnstarted, DoneBarriersMayEnd};
+ghost use Rattle.cmwq_ties.specs.BarrierBooks.{BarriersAtFirst, BarriersFollow, BarriersWaitForLeast, ReadyBarriersWaitForNothing, RunThenUnstarted, DoneBarriersMayEnd, BarriersMayBeTold};
 
 /// Before any entry the barriers are new ones.
 pub fn barriers_at_first()
@@ -33,6 +33,12 @@ pub fn done_barriers_may_end()
     ensures { DoneBarriersMayEnd }
 {}
 
+/// The barriers may be told of each entry of a legal history: what is ended stands, what is opened and begun comes later
+/// than what stands, and there is room for it.
+pub fn barriers_may_be_told()
+    ensures { BarriersMayBeTold }
+{}
+
 #[cfg(test)]
 mod tests {
     use super::*;
@@ -45,5 +51,6 @@ mod tests {
         ready_barriers_wait_for_nothing();
         items_have_run_then_unstarted();
         done_barriers_may_end();
+        barriers_may_be_told();
     }
 }

@@ -8,8 +8,8 @@ mod pools;
 mod timers;
 
 pub use barrier_books::{
-    barriers_at_first, barriers_follow, barriers_wait_for_least, done_barriers_may_end,
-    items_have_run_then_unstarted, ready_barriers_wait_for_nothing,
+    barriers_at_first, barriers_follow, barriers_may_be_told, barriers_wait_for_least,
+    done_barriers_may_end, items_have_run_then_unstarted, ready_barriers_wait_for_nothing,
 };
 pub use flush_books::{
     done_flushes_may_end, draining_while_drains_stand, drains_wait_for_least_open,
@@ -17,8 +17,8 @@ pub use flush_books::{
     overflowed_are_behind_fifteen, ready_flushes_wait_for_nothing,
 };
 pub use pools::{
-    active_may_be_added, idle_retire_alike, nexts_are_next, pools_at_first, pools_follow, runnables_are_runnable,
-    seats_are_workers, starts_enlist_alike, workers_may_be_told,
+    active_may_be_added, idle_retire_alike, nexts_are_next, pools_at_first, pools_follow,
+    runnables_are_runnable, seats_are_workers, starts_enlist_alike, workers_may_be_told,
 };
 pub use timers::{
     bookings_set_timers, first_timer_is_first_due, no_timer_is_none_due, no_timers_at_first,
