@@ -1,5 +1,5 @@
 -- A flush whose end is answered done stands in the book and is ready.
-use Rattle.std.proofs.Common.{◌≡◌, ℕ, true, List, ◌∷◌, filter, Option, Some, None, refl, sym, ap, ◌∙◌, subst}
+use Rattle.std.proofs.Common.{◌≡◌, ℕ, true, List, ◌∷◌, Option, Some, None, refl, sym, ap, ◌∙◌, subst}
 use Rattle.std.specs.Prelude.{Contains, if◌then◌else◌, option_map, option_and_then}
 use Rattle.std.specs.Option.{option_or}
 use Rattle.std.proofs.lemmas.Bool.{eqb-true}
@@ -22,12 +22,10 @@ use Rattle.cmwq_laws.specs.TicketSteps.{ticket_ended, ticket_asked}
 use Rattle.cmwq_laws.proofs.Ended.{ends_which}
 use Rattle.cmwq_laws.proofs.Done.{ends_ticket}
 use Rattle.cmwq_flush.specs.FlushBook.{FlushBook, flush_tickets, IsReady}
-use Rattle.cmwq_ties.specs.Told.{number_of_ticket}
 use Rattle.cmwq_ties.specs.FlushBooks.{AreFlushes}
-use Rattle.cmwq_ties.proofs.Members.{In, filter_in, in_contained}
-use Rattle.cmwq_ties.proofs.Numbers.{numbers_have}
+use Rattle.cmwq_ties.proofs.Members.{In, in_contained}
 use Rattle.cmwq_ties.proofs.TicketSteps.{TicketStep, ticket_step, ends_one, ends_none, ends_it}
-use Rattle.cmwq_ties.proofs.FlushReads.{ready_flushes_wait_for_nothing}
+use Rattle.cmwq_ties.proofs.FlushReads.{unended_flushes_stand, ready_flushes_wait_for_nothing}
 
 -- what is done neither ends nor opens a queueing
 done_opens : (past : List Entry) (e : Entry) → e.reply ≡ reply.Done → opening past e ≡ None
@@ -76,7 +74,7 @@ done_flushes_may_end s past e q b t legal is h flush = (stands, by t.call flush 
     k = ended_ready s past e t legal h
 
     stands : Contains (flush_tickets b) t.number
-    stands = in_contained (flush_tickets b) t.number (subst (In t.number) (sym is.flushes) (numbers_have number_of_ticket (filter (is_flush_of q) (unended past)) t (filter_in (is_flush_of q) (unended past) t k.stands flush)))
+    stands = (unended_flushes_stand s past q b t is (in_contained (unended past) t k.stands)).0 flush
 
     by : (c : Call) → flushes q c ≡ true → waits_for past t.number c ≡ None → IsReady b t.number
     by (call.Flush r) same ready = (ready_flushes_wait_for_nothing s past r b t.number (subst (λ j. AreFlushes s past j b) (sym (eqb-true r.0 q same)) is) stands).1 ready

@@ -29,6 +29,7 @@ use Rattle.cmwq_ties.proofs.TicketSteps.{unended_below, ticket_step, ticket_in_i
 use Rattle.cmwq_ties.proofs.TicketLimits.{unended_few}
 use Rattle.cmwq_ties.proofs.QueueingSteps.{QueueingStep, queueing_step, ends_one, ends_none}
 use Rattle.cmwq_ties.proofs.FlushSteps.{StandsAs, told_on, told_opens, opened_numbers, ended_next, soon_after, stands_done, done_open, flush_no_drain}
+use Rattle.cmwq_ties.proofs.FlushReads.{unended_flushes_stand}
 use Rattle.cmwq_ties.proofs.FlushEnds.{ended_ready, done_flushes_may_end}
 
 -- ---- what is open
@@ -79,7 +80,7 @@ may_be_done s past e q b (Some t) legal is h =
     let same : told_queueings past e q b ≡ b = ap₂ (λ x y. told_opened y q (told_ended x q b)) k.ends_none k.opens_none in
     subst (MayBeDone (Some t) q) (sym same) (
       (λ flush. done_flushes_may_end s past e q b t legal is h flush),
-      (λ drain. in_contained b.drains t.number (subst (In t.number) (sym is.drains) (numbers_have number_of_ticket (filter (is_drain_of q) (unended past)) t (filter_in (is_drain_of q) (unended past) t k.stands drain)))),
+      (unended_flushes_stand s past q b t is (in_contained (unended past) t k.stands)).1,
     )
 
 -- ---- what begins

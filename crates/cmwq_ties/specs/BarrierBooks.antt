@@ -84,6 +84,10 @@ abbrev pub RunThenUnstarted : Type 0
 RunThenUnstarted = (s : Layout) (past : List Entry) (i : ℕ) → IsLegal s past
     → item_numbers past i ≡ option_to_list (option_map (λ (start : Start). start.number) (item_run past i)) ++ option_to_list (option_map number_of_queueing (unstarted past i))
 
+-- an unended wait for an item stands, so that the barriers may be asked for it
+abbrev pub UnendedWaitsStand : Type 0
+UnendedWaitsStand = (s : Layout) (past : List Entry) (t : Ticket) → Contains (unended past) t → is_some (wait_for t) ≡ true → Contains (tickets_in (barriers_of s past).barriers) t.number
+
 -- a wait for an item whose end is answered done in a legal history stands and is ready, so that the call may be made
 abbrev pub DoneBarriersMayEnd : Type 0
 DoneBarriersMayEnd = (s : Layout) (past : List Entry) (e : Entry) (t : Ticket) → IsLegal s (e ∷ past) → ticket_ended past e ≡ Some t → is_some (wait_for t) ≡ true

@@ -105,6 +105,11 @@ abbrev pub OverflowedAreBehindFifteen : Type 0
 OverflowedAreBehindFifteen = (s : Layout) (past : List Entry) (q : ℕ) (b : FlushBook) (t : ℕ) → AreFlushes s past q b → Contains (flush_tickets b) t
     → Contains b.overflow t ↔ (15 ≤ count_by (is_older_flush q t) (unended past))
 
+-- an unended flush or drain of the queue stands in the book, so that the book may be asked for it
+abbrev pub UnendedFlushesStand : Type 0
+UnendedFlushesStand = (s : Layout) (past : List Entry) (q : ℕ) (b : FlushBook) (t : Ticket) → AreFlushes s past q b → Contains (unended past) t
+    → (is_flush_of q t ≡ true → Contains (flush_tickets b) t.number) × (is_drain_of q t ≡ true → Contains b.drains t.number)
+
 -- a flush whose end is answered done in a legal history stands in the book and is ready, so that the call may be made
 abbrev pub DoneFlushesMayEnd : Type 0
 DoneFlushesMayEnd = (s : Layout) (past : List Entry) (e : Entry) (q : ℕ) (b : FlushBook) (t : Ticket) → IsLegal s (e ∷ past) → AreFlushes s past q b → ticket_ended past e ≡ Some t → is_flush_of q t ≡ true

@@ -1,5 +1,5 @@
 -- A pool follows its worklist, and the runs and the enlisting of its workers.
-use Rattle.std.specs.Prelude.{◌≡◌, ℕ, ◌<◌, ◌&&◌, not, if◌then◌else◌, List, [], ◌∷◌, map, filter, fold, Option, Some, None, option_map, option_and_then, IsTrue, IsSome}
+use Rattle.std.specs.Prelude.{◌≡◌, ℕ, ◌<◌, ◌&&◌, not, if◌then◌else◌, List, [], ◌∷◌, length, map, filter, fold, Option, Some, None, option_map, option_and_then, IsTrue, IsSome}
 use Rattle.cmwq_model.specs.declared.id.PoolId.{PoolId}
 use Rattle.cmwq_model.specs.declared.id.WorkerId.{WorkerId}
 use Rattle.cmwq_model.specs.declared.id.Who.{Who}
@@ -101,6 +101,10 @@ pub record IsSeatOf (past : List Entry) (w : WorkerId) (seat : Seat) : Type 0 wh
 
 abbrev pub SeatsAreWorkers : Type 0
 SeatsAreWorkers = (s : Layout) (past : List Entry) (p : PoolId) (x : ℕ) → IsLegal s past → x < s.workers → IsSeatOf past (worker_at p x) (seat_at (pool_of s past p).seats x)
+
+-- there is a seat for each worker, so that the pool may be asked for it
+abbrev pub SeatsForWorkers : Type 0
+SeatsForWorkers = (s : Layout) (past : List Entry) (p : PoolId) → length (pool_of s past p).seats ≡ s.workers
 
 -- what a pool's worker is answered in a legal history may be told: what each of these calls requires holds before it
 pub record MayStart (l : Lineup) (x : ℕ) : Type 0 where

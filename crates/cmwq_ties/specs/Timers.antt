@@ -29,6 +29,10 @@ timers_of s past = map (row_of past) (range_with_len 0 s.items)
 abbrev pub NoTimersAtFirst : Type 0
 NoTimersAtFirst = (s : Layout) → timers_of s [] ≡ replicate s.items None
 
+-- there is a row for each item, so that the timers may be asked for it
+abbrev pub RowsForItems : Type 0
+RowsForItems = (s : Layout) (past : List Entry) → length (timers_of s past) ≡ s.items
+
 -- what is booked for an item is its due tick in the definitions
 abbrev pub due_in_bookings : List Entry → ℕ → Option ℕ
 due_in_bookings past i = option_map (λ (b : Booking). b.due) (booking past i)

@@ -1,7 +1,7 @@
 //! Where a flush book is that of a queue after some entries, the calls for one more entry make it that of the longer
 //! history, and what it answers is what the definitions say.
 
-ghost use Rattle.cmwq_ties.specs.FlushBooks.{FlushesAtFirst, FlushesFollow, ReadyFlushesWaitForNothing, FlushesWaitForLeastOpen, DrainsWaitForLeastOpen, DrainingWhileDrainsStand, OverflowedAreBehindFifteen, DoneFlushesMayEnd, FlushesMayBeTold};
+ghost use Rattle.cmwq_ties.specs.FlushBooks.{FlushesAtFirst, FlushesFollow, ReadyFlushesWaitForNothing, FlushesWaitForLeastOpen, DrainsWaitForLeastOpen, DrainingWhileDrainsStand, OverflowedAreBehindFifteen, DoneFlushesMayEnd, FlushesMayBeTold, UnendedFlushesStand};
 
 /// Before any entry each queue has a new flush book.
 pub fn flushes_at_first()
@@ -12,6 +12,11 @@ pub fn flushes_at_first()
 /// where, which are in overflow, and which drains stand.
 pub fn flushes_follow()
     ensures { FlushesFollow }
+{}
+
+/// An unended flush or drain of a queue stands in its book, so the book may be asked for it.
+pub fn unended_flushes_stand()
+    ensures { UnendedFlushesStand }
 {}
 
 /// A flush is ready by its book exactly where by the definitions it waits for nothing.
@@ -58,6 +63,7 @@ mod tests {
     fn each_is_there() {
         flushes_at_first();
         flushes_follow();
+        unended_flushes_stand();
         ready_flushes_wait_for_nothing();
         flushes_wait_for_least_open();
         drains_wait_for_least_open();

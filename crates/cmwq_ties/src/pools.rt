@@ -1,7 +1,7 @@
 //! Where a pool is that of some entries, the calls for one more entry make it that of the longer history, and what it
 //! answers is what the definitions say.
 
-ghost use Rattle.cmwq_ties.specs.Pools.{PoolsAtFirst, PoolsFollow, NextsAreNext, RunnablesAreRunnable, StartsEnlistAlike, IdleRetireAlike, SeatsAreWorkers, WorkersMayBeTold, ActiveMayBeAdded};
+ghost use Rattle.cmwq_ties.specs.Pools.{PoolsAtFirst, PoolsFollow, NextsAreNext, RunnablesAreRunnable, StartsEnlistAlike, IdleRetireAlike, SeatsAreWorkers, WorkersMayBeTold, ActiveMayBeAdded, SeatsForWorkers};
 
 /// Before any entry each pool is a new one.
 pub fn pools_at_first()
@@ -34,6 +34,11 @@ pub fn idle_retire_alike()
     ensures { IdleRetireAlike }
 {}
 
+/// A pool has a seat for each worker, so it may be asked for it.
+pub fn seats_for_workers()
+    ensures { SeatsForWorkers }
+{}
+
 /// A worker's seat says whether it is enlisted, what it runs and whether that sleeps.
 pub fn seats_are_workers()
     ensures { SeatsAreWorkers }
@@ -62,6 +67,7 @@ mod tests {
         runnables_are_runnable();
         starts_enlist_alike();
         idle_retire_alike();
+        seats_for_workers();
         seats_are_workers();
         workers_may_be_told();
         active_may_be_added();

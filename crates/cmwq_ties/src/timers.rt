@@ -1,10 +1,15 @@
 //! Where the timers are the bookings of a history, the calls for each entry make them those of the longer history.
 
-ghost use Rattle.cmwq_ties.specs.Timers.{NoTimersAtFirst, TimersAreDueAsBooked, BookingsSetTimers, SettledTimersAreTakenBack, OthersKeepTimers, TimersMayBeTold, FirstTimerIsFirstDue, NoTimerIsNoneDue};
+ghost use Rattle.cmwq_ties.specs.Timers.{NoTimersAtFirst, TimersAreDueAsBooked, BookingsSetTimers, SettledTimersAreTakenBack, OthersKeepTimers, TimersMayBeTold, FirstTimerIsFirstDue, NoTimerIsNoneDue, RowsForItems};
 
 /// At first no item is booked.
 pub fn no_timers_at_first()
     ensures { NoTimersAtFirst }
+{}
+
+/// There is a row for each item, so the timers may be asked for it.
+pub fn rows_for_items()
+    ensures { RowsForItems }
 {}
 
 /// The tick at which a timer is due is that of its item's booking.
@@ -49,6 +54,7 @@ mod tests {
     #[test]
     fn each_is_there() {
         no_timers_at_first();
+        rows_for_items();
         timers_are_due_as_booked();
         bookings_set_timers();
         settled_timers_are_taken_back();
