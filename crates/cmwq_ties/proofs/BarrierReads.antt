@@ -69,7 +69,7 @@ find_wait t w (u ∷ us) rise here is = ⊎_elim first (λ i. later i (find_wait
             let other : has_ticket t.number v ≡ false = ne_eqb v.ticket t.number (λ same. absurd (omega arith)) in
             ap (λ b. cond b (Some v) (find (has_ticket t.number) (filter_map wait_for us))) other ∙ found
 
-unended_fit : (s : Layout) (past : List Entry) (t : Ticket) → IsLegal s past → In t (unended past) → has_numbers s t.call ≡ true
+pub unended_fit : (s : Layout) (past : List Entry) (t : Ticket) → IsLegal s past → In t (unended past) → has_numbers s t.call ≡ true
 unended_fit s past t legal i = of_in (λ u. has_numbers s u.call ≡ true) (tickets past) t (tickets_fit s past legal) (in_filter (is_unended past) (tickets past) t i).0
 
 -- ---- what it waits for

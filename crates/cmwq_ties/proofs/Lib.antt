@@ -23,3 +23,4 @@ pub mod PoolSeats
 pub mod PoolSteps
 pub mod PoolMay
 pub mod PoolAdds
+pub mod PlacesFit

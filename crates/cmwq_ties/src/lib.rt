@@ -4,6 +4,7 @@
 
 mod barrier_books;
 mod flush_books;
+mod places;
 mod pools;
 mod timers;
 
@@ -17,6 +18,7 @@ pub use flush_books::{
     flushes_at_first, flushes_follow, flushes_may_be_told, flushes_wait_for_least_open,
     overflowed_are_behind_fifteen, ready_flushes_wait_for_nothing, unended_flushes_stand,
 };
+pub use places::{open_are_there, opened_are_there, unended_tickets_fit};
 pub use pools::{
     active_may_be_added, idle_retire_alike, nexts_are_next, pools_at_first, pools_follow,
     runnables_are_runnable, seats_are_workers, seats_for_workers, starts_enlist_alike,
