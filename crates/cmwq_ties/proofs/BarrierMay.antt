@@ -30,7 +30,8 @@ use Rattle.cmwq_ties.proofs.TicketSteps.{unended_below, ticket_in_is}
 use Rattle.cmwq_ties.proofs.TicketLimits.{unended_few}
 use Rattle.cmwq_ties.proofs.Settled.{numbers_fit}
 use Rattle.cmwq_ties.proofs.QueueingSteps.{QueueingStep, queueing_step, ends_one, ends_none, open_numbers_rise}
-use Rattle.cmwq_ties.proofs.BarrierSteps.{open_there, opened_there, item_row, ended_rows, opened_row, wait_number, cons_wait, AreDone, are_done}
+use Rattle.cmwq_ties.proofs.PlacesFit.{open_there, opened_are_there}
+use Rattle.cmwq_ties.proofs.BarrierSteps.{item_row, ended_rows, opened_row, wait_number, cons_wait, AreDone, are_done}
 use Rattle.cmwq_ties.proofs.BarrierReads.{wait_there}
 use Rattle.cmwq_ties.proofs.FlushEnds.{ended_ready}
 use Rattle.cmwq_ties.proofs.BarrierEnds.{done_barriers_may_end}
@@ -42,7 +43,7 @@ may_end s past e legal (ends_none is all) = subst (λ o. MayEnd o (barriers_of s
 may_end s past e legal (ends_one x is here all) = subst (λ o. MayEnd o (barriers_of s past)) (sym is) stands
   where
     stands : Contains (numbers_open (barriers_of s past) x.item.0) x.number
-    stands = in_contained (numbers_open (barriers_of s past) x.item.0) x.number (subst (In x.number) (sym (item_row s past x.item.0 (open_there s past x legal here)))
+    stands = in_contained (numbers_open (barriers_of s past) x.item.0) x.number (subst (In x.number) (sym (item_row s past x.item.0 (open_there s past x legal here).item))
         (numbers_have number_of_queueing (filter (is_of x.item.0) (still_open past)) x (filter_in (is_of x.item.0) (still_open past) x here (eq-eqb x.item.0 x.item.0 refl))))
 
 item_numbers_rise : (past : List Entry) (i : ℕ) → RisesBy itself (item_numbers past i)
@@ -66,7 +67,7 @@ may_open s past e (Some x) legal h = (there, All-from_recursion (λ m. m < x.num
     rise = subst (RisesBy itself) (opened_row s past e x legal h) (item_numbers_rise (e ∷ past) x.item.0)
 
     there : x.item.0 < length (told_ended (ending past e) (barriers_of s past)).opened
-    there = let less = opened_there s past e x legal h in let rows = ended_rows s past e legal in omega arith
+    there = let less = (opened_are_there s past e x legal h).item in let rows = ended_rows s past e legal in omega arith
 
     few : length left < 2
     few =

@@ -12,12 +12,10 @@ use Rattle.cmwq_model.specs.declared.entry.Entry.{Entry}
 use Rattle.cmwq_model.specs.declared.record.Queueing.{Queueing}
 use Rattle.cmwq_model.specs.declared.record.Ticket.{Ticket}
 use Rattle.cmwq_model.specs.Layout.{Layout}
-use Rattle.cmwq_model.specs.Queueings.{queueings, still_open, opening, is_live, is_of}
+use Rattle.cmwq_model.specs.Queueings.{queueings, still_open, opening, is_of}
 use Rattle.cmwq_model.specs.Tickets.{tickets, unended}
 use Rattle.cmwq_model.specs.Legal.{IsLegal}
 use Rattle.cmwq_laws.specs.Endings.{is_spared, ending}
-use Rattle.cmwq_laws.proofs.Lists.{All_append}
-use Rattle.cmwq_laws.proofs.Entries.{opening_item}
 use Rattle.cmwq_laws.proofs.Endings.{open_go_on}
 use Rattle.cmwq_flush.specs.declared.barrier.Barrier.{Barrier}
 use Rattle.cmwq_flush.specs.Numbers.{without}
@@ -26,28 +24,14 @@ use Rattle.cmwq_laws.specs.TicketSteps.{is_kept, ticket_ended}
 use Rattle.cmwq_laws.proofs.TicketSteps.{unended_go_on}
 use Rattle.cmwq_ties.specs.Told.{number_of_queueing, number_of_ticket, ticket_given}
 use Rattle.cmwq_ties.specs.BarrierBooks.{item_numbers, wait_by, wait_for, barriers_of, told_ended, told_opened, told_done, told_begun, begun, told_queueings, told}
-use Rattle.cmwq_ties.proofs.Members.{In, of_in, all_in, in_filter, in_option}
+use Rattle.cmwq_ties.proofs.Members.{In, all_in}
 use Rattle.cmwq_ties.proofs.Rising.{rises_unique}
 use Rattle.cmwq_ties.proofs.Numbers.{numbers_without, numbers_lack, filter_goes_on}
 use Rattle.cmwq_ties.proofs.TimerSteps.{set_row, same_rows}
-use Rattle.cmwq_ties.proofs.FirstDue.{timers_may_be_told}
+use Rattle.cmwq_ties.proofs.PlacesFit.{open_there, opened_are_there}
 use Rattle.cmwq_ties.proofs.TicketSteps.{unended_rise, TicketStep, ticket_step, ends_one, ends_none, ends_only}
 use Rattle.cmwq_ties.proofs.QueueingSteps.{QueueingStep, queueing_step, open_numbers_rise}
 use Rattle.cmwq_ties.proofs.QueueingSteps as queueing
-
--- ---- each queueing is of an item that there is
-
-pub opened_there : (s : Layout) (past : List Entry) (e : Entry) (x : Queueing) → IsLegal s (e ∷ past) → opening past e ≡ Some x → x.item.0 < s.items
-opened_there s past e x legal h = (timers_may_be_told s past e legal).item x.item.0 (opening_item e past x h)
-
-pub queueings_there : (s : Layout) (past : List Entry) → IsLegal s past → AllByRecursion (λ x. x.item.0 < s.items) (queueings past)
-unfolding queueings IsLegal
-queueings_there s [] legal = tt
-queueings_there s (e ∷ past) legal = All_append (λ x. x.item.0 < s.items) (queueings past) (option_to_list (opening past e)) (queueings_there s past legal.2)
-    (all_in (λ x. x.item.0 < s.items) (option_to_list (opening past e)) (λ x i. opened_there s past e x legal (in_option (opening past e) x i)))
-
-pub open_there : (s : Layout) (past : List Entry) (x : Queueing) → IsLegal s past → In x (still_open past) → x.item.0 < s.items
-open_there s past x legal i = of_in (λ y. y.item.0 < s.items) (queueings past) x (queueings_there s past legal) (in_filter (is_live past) (queueings past) x i).0
 
 -- ---- the open numbers of each item
 
@@ -73,7 +57,7 @@ rows_ended s past e legal (queueing.ends_one x is here all) =
     ∙ sym (ap (λ o. (told_ended o (barriers_of s past)).opened) is)
   where
     row : numbers_open (barriers_of s past) x.item.0 ≡ item_numbers past x.item.0
-    row = item_row s past x.item.0 (open_there s past x legal here)
+    row = item_row s past x.item.0 (open_there s past x legal here).item
 
 after_numbers : List Entry → Entry → Option Queueing → ℕ → List ℕ
 after_numbers past e o i = left_numbers past e i ++ map number_of_queueing (filter (is_of i) (option_to_list o))
@@ -101,7 +85,7 @@ rows_follow : (s : Layout) (past : List Entry) (e : Entry) → IsLegal s (e ∷ 
 unfolding IsLegal
 rows_follow s past e legal =
     same_rows (after_numbers past e (opening past e)) (item_numbers (e ∷ past)) (range_with_len 0 s.items) (λ j. numbers_after s past e j legal)
-    ∙ rows_opened s past e (opening past e) (told_ended (ending past e) (barriers_of s past)) (λ x h. opened_there s past e x legal h) (rows_ended s past e legal.2 (queueing_step s past e legal))
+    ∙ rows_opened s past e (opening past e) (told_ended (ending past e) (barriers_of s past)) (λ x h. (opened_are_there s past e x legal h).item) (rows_ended s past e legal.2 (queueing_step s past e legal))
 
 -- once what ended is told each item has a row still, and what is opened comes after what is left in its row
 pub ended_rows : (s : Layout) (past : List Entry) (e : Entry) → IsLegal s (e ∷ past) → length (told_ended (ending past e) (barriers_of s past)).opened ≡ s.items
@@ -115,7 +99,7 @@ opened_row s past e x legal h =
     ∙ ap (λ c. left_numbers past e x.item.0 ++ map number_of_queueing (cond c (x ∷ []) [])) (eq-eqb x.item.0 x.item.0 refl) ∙ ap (λ ns. ns ++ x.number ∷ []) (sym row)
   where
     row : numbers_open (told_ended (ending past e) (barriers_of s past)) x.item.0 ≡ left_numbers past e x.item.0
-    row = ap (λ rows. get_or rows x.item.0 []) (sym (rows_ended s past e legal.2 (queueing_step s past e legal))) ∙ get_or-map-range_with_len (left_numbers past e) 0 s.items x.item.0 x.item.0 [] (opened_there s past e x legal h) (omega arith)
+    row = ap (λ rows. get_or rows x.item.0 []) (sym (rows_ended s past e legal.2 (queueing_step s past e legal))) ∙ get_or-map-range_with_len (left_numbers past e) 0 s.items x.item.0 x.item.0 [] (opened_are_there s past e x legal h).item (omega arith)
 
 -- ---- the waits
 

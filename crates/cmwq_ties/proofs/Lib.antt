@@ -4,6 +4,7 @@ pub mod TimerSteps
 pub mod Settled
 pub mod FirstDue
 pub mod TicketSteps
+pub mod PlacesFit
 pub mod TicketLimits
 pub mod Numbers
 pub mod QueueingSteps
@@ -23,4 +24,3 @@ pub mod PoolSeats
 pub mod PoolSteps
 pub mod PoolMay
 pub mod PoolAdds
-pub mod PlacesFit

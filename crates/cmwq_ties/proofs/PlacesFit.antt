@@ -1,5 +1,5 @@
--- What is opened is of an item, a queue and a CPU that the layout has.
-use Rattle.std.proofs.Common.{◌≡◌, ◌<◌, ℕ, true, List, [], ◌∷◌, length, Option, Some, None, option_to_list, refl, sym, ◌∙◌, subst}
+-- What is opened and what is waited for is of items, queues and CPUs that the layout has.
+use Rattle.std.proofs.Common.{◌≡◌, ◌<◌, ℕ, true, List, [], ◌∷◌, length, Option, Some, None, option_to_list, refl, sym, ap, ◌∙◌, subst}
 use Rattle.std.specs.Prelude.{option_map, Contains}
 use Rattle.std.specs.Option.{option_or, option_map_or}
 use Rattle.std.specs.List.{AllByRecursion}
@@ -17,19 +17,19 @@ use Rattle.cmwq_model.specs.Layout.{Layout, has_numbers}
 use Rattle.cmwq_model.specs.Bookings.{booking}
 use Rattle.cmwq_model.specs.Runs.{item_run}
 use Rattle.cmwq_model.specs.Queueings.{queueings, has_number, is_live, still_open, opening, place_called, place_booked, place_wanted, cpu_for, queued_at}
-use Rattle.cmwq_model.specs.Tickets.{unended}
+use Rattle.cmwq_model.specs.Tickets.{tickets, unended, is_unended, ticket_in}
 use Rattle.cmwq_model.specs.Legal.{IsLegal}
 use Rattle.cmwq_laws.proofs.Lists.{All_append}
+use Rattle.cmwq_laws.proofs.Entries.{opening_item}
 use Rattle.cmwq_laws.proofs.Pending.{opening_opens}
 use Rattle.cmwq_laws.proofs.StateSteps.{opens_as_asked}
 use Rattle.cmwq_laws.proofs.ItemSteps.{items_are_run}
 use Rattle.cmwq_laws.proofs.Pools.{runs_are_in_pools}
 use Rattle.cmwq_ties.specs.Places.{IsThere}
-use Rattle.cmwq_ties.proofs.Members.{of_in, all_in, in_option, in_filter, found, contained_in}
+use Rattle.cmwq_ties.proofs.Members.{In, of_in, all_in, in_option, in_filter, found, contained_in}
 use Rattle.cmwq_ties.proofs.Settled.{numbers_fit, place_fits}
-use Rattle.cmwq_ties.proofs.FirstDue.{in_standing, standing_fits}
-use Rattle.cmwq_ties.proofs.BarrierSteps.{opened_there}
-use Rattle.cmwq_ties.proofs.BarrierReads.{unended_fit}
+use Rattle.cmwq_ties.proofs.FirstDue.{in_standing, standing_fits, timers_may_be_told}
+use Rattle.cmwq_ties.proofs.TicketSteps.{ticket_in_is}
 
 record IsPlaceOf (s : Layout) (p : Place) : Type 0 where
   queue : p.queue.0 < length s.queues
@@ -82,7 +82,7 @@ opened_fits s past e x legal there h =
     let same : queued_at past k.item k.place ≡ x = same_Some (queued_at past k.item k.place) x (sym k.opened ∙ h) in
     let place = wanted_there s past e.call k.item k.place legal.2 (numbers_fit s past e legal) k.is_place in
     record {
-      item = opened_there s past e x legal h;
+      item = (timers_may_be_told s past e legal).item x.item.0 (opening_item e past x h);
       queue = subst (λ (y : Queueing). y.place.queue.0 < length s.queues) same place.queue;
       cpu = subst (λ (y : Queueing). y.place.cpu.0 < s.cpus) same (cpu_there s past k.item k.place.cpu legal.2 there place.cpu);
     }
@@ -97,8 +97,23 @@ pub opened_are_there : (s : Layout) (past : List Entry) (e : Entry) (x : Queuein
 unfolding IsLegal
 opened_are_there s past e x legal h = opened_fits s past e x legal (queueings_fit s past legal.2) h
 
+pub open_there : (s : Layout) (past : List Entry) (x : Queueing) → IsLegal s past → In x (still_open past) → IsThere s x
+open_there s past x legal i = of_in (IsThere s) (queueings past) x (queueings_fit s past legal) (in_filter (is_live past) (queueings past) x i).0
+
 pub open_are_there : (s : Layout) (past : List Entry) (x : Queueing) → IsLegal s past → Contains (still_open past) x → IsThere s x
-open_are_there s past x legal here = of_in (IsThere s) (queueings past) x (queueings_fit s past legal) (in_filter (is_live past) (queueings past) x (contained_in (still_open past) x here)).0
+open_are_there s past x legal here = open_there s past x legal (contained_in (still_open past) x here)
+
+-- ---- each ticket is of a call that fits
+
+tickets_fit : (s : Layout) (past : List Entry) → IsLegal s past → AllByRecursion (λ t. has_numbers s t.call ≡ true) (tickets past)
+unfolding tickets IsLegal
+tickets_fit s [] legal = tt
+tickets_fit s (e ∷ past) legal = All_append (λ t. has_numbers s t.call ≡ true) (tickets past) (option_to_list (ticket_in e (length past))) (tickets_fit s past legal.2)
+    (all_in (λ t. has_numbers s t.call ≡ true) (option_to_list (ticket_in e (length past)))
+    (λ t i. ap (has_numbers s) (ticket_in_is e (length past) t (in_option (ticket_in e (length past)) t i)).call ∙ numbers_fit s past e legal))
+
+pub unended_fit : (s : Layout) (past : List Entry) (t : Ticket) → IsLegal s past → In t (unended past) → has_numbers s t.call ≡ true
+unended_fit s past t legal i = of_in (λ u. has_numbers s u.call ≡ true) (tickets past) t (tickets_fit s past legal) (in_filter (is_unended past) (tickets past) t i).0
 
 pub unended_tickets_fit : (s : Layout) (past : List Entry) (t : Ticket) → IsLegal s past → Contains (unended past) t → has_numbers s t.call ≡ true
 unended_tickets_fit s past t legal here = unended_fit s past t legal (contained_in (unended past) t here)

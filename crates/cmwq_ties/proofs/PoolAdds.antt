@@ -25,7 +25,7 @@ use Rattle.cmwq_ties.proofs.Members.{In, of_in, all_in, in_right}
 use Rattle.cmwq_ties.proofs.Rising.{rises_unique}
 use Rattle.cmwq_ties.proofs.QueueingSteps.{open_numbers_rise}
 use Rattle.cmwq_ties.proofs.ItemNumbers.{one_of}
-use Rattle.cmwq_ties.proofs.BarrierSteps.{open_there}
+use Rattle.cmwq_ties.proofs.PlacesFit.{open_there}
 use Rattle.cmwq_ties.proofs.PoolReads.{IsOnList, worklist_has}
 use Rattle.cmwq_ties.proofs.PoolSteps.{first_listed, first_items}
 
@@ -73,7 +73,7 @@ worklist_apart s past p legal = in_order_apart s past p (worklist s past p) lega
 active_there : (s : Layout) (past : List Entry) (e : Entry) (p : PoolId) → IsLegal s (e ∷ past) → AllByRecursion (λ x. x.item.0 < s.items) (made_active s past p e)
 active_there s past e p legal = all_in (λ x. x.item.0 < s.items) (made_active s past p e) (λ x i.
     let listed = subst (In x) (sym (worklists_go_on s past e p legal)) (in_right (filter (is_left past e) (worklist s past p)) (made_active s past p e) x i) in
-    open_there s (e ∷ past) x legal (of_in (IsOnList s (e ∷ past) p) (worklist s (e ∷ past) p) x (worklist_has s (e ∷ past) p) listed).stands)
+    (open_there s (e ∷ past) x legal (of_in (IsOnList s (e ∷ past) p) (worklist s (e ∷ past) p) x (worklist_has s (e ∷ past) p) listed).stands).item)
 
 pub active_may_be_added : (s : Layout) (past : List Entry) (e : Entry) (p : PoolId) → IsLegal s (e ∷ past) → MayAllBeAdded s (made_active s past p e) (told_first s past p e (pool_of s past p))
 active_may_be_added s past e p legal =
