@@ -2,7 +2,6 @@
 use Rattle.std.proofs.Common.{◌≡◌, ◌<◌, ◌≤◌, ◌+◌, ℕ, Bool, true, false, cond, List, [], ◌∷◌, ◌++◌, length, map, filter, count_by, Option, Some, None, option_to_list, refl, sym, ap, ap₂, ◌∙◌, subst, arith}
 use Rattle.std.specs.Prelude.{◌*◌, Contains, All, IsTrue}
 use Rattle.std.specs.List.{AllByRecursion}
-use Rattle.std.proofs.lemmas.Bool.{and_parts, leb-true}
 use Rattle.std.proofs.lemmas.List.{length-append, length-map}
 use Rattle.std.proofs.lemmas.List.Elements.{All-from_recursion}
 use Rattle.std.proofs.lemmas.List.Sums.{length-filter, count_by-le-length}
@@ -26,6 +25,7 @@ use Rattle.cmwq_ties.specs.FlushBooks.{is_on_queue, open_numbers, AreFlushes, to
 use Rattle.cmwq_ties.proofs.Members.{In, filter_in, in_contained}
 use Rattle.cmwq_ties.proofs.Numbers.{numbers_have, numbers_all}
 use Rattle.cmwq_ties.proofs.TicketSteps.{unended_below, ticket_step, ticket_in_is}
+use Rattle.cmwq_ties.proofs.LayoutLimits.{items_few}
 use Rattle.cmwq_ties.proofs.TicketLimits.{unended_few}
 use Rattle.cmwq_ties.proofs.QueueingSteps.{QueueingStep, queueing_step, ends_one, ends_none}
 use Rattle.cmwq_ties.proofs.FlushSteps.{StandsAs, told_on, told_opens, opened_numbers, ended_next, soon_after, stands_done, done_open, flush_no_drain}
@@ -41,9 +41,6 @@ open_stands past q b x opened here on =
 may_end : (past : List Entry) (e : Entry) (q : ℕ) (b : FlushBook) → QueueingStep past e → b.opened ≡ open_numbers past q → MayEnd (ending past e) q b
 may_end past e q b (ends_none is all) opened = subst (λ o. MayEnd o q b) (sym is) tt
 may_end past e q b (ends_one x is here all) opened = subst (λ o. MayEnd o q b) (sym is) (λ on. open_stands past q b x opened here on)
-
-items_few : (s : Layout) → IsTrue (is_layout s) → s.items ≤ 256
-items_few s h = leb-true s.items 256 (and_parts _ _ (and_parts _ _ (and_parts _ _ (and_parts _ _ h).0).0).1).1
 
 few_open : (s : Layout) (past : List Entry) (q : ℕ) → IsTrue (is_layout s) → IsLegal s past → length (open_numbers past q) ≤ 512
 few_open s past q inside legal =

@@ -3,6 +3,8 @@ pub mod Rising
 pub mod TimerSteps
 pub mod Settled
 pub mod FirstDue
+pub mod LayoutLimits
+pub mod TimerMay
 pub mod TicketSteps
 pub mod PlacesFit
 pub mod TicketLimits
