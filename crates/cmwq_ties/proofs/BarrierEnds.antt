@@ -11,7 +11,7 @@ use Rattle.cmwq_laws.specs.TicketSteps.{ticket_ended}
 use Rattle.cmwq_flush.specs.declared.barrier.Barrier.{Barrier}
 use Rattle.cmwq_flush.specs.BarrierBook.{tickets_in, IsReady}
 use Rattle.cmwq_ties.specs.BarrierBooks.{wait_for, barriers_of}
-use Rattle.cmwq_ties.proofs.Members.{In, in_contained}
+use Rattle.cmwq_ties.proofs.Members.{In, contained_in, in_contained}
 use Rattle.cmwq_ties.proofs.BarrierSteps.{wait_number, cons_wait}
 use Rattle.cmwq_ties.proofs.BarrierReads.{ready_barriers_wait_for_nothing}
 use Rattle.cmwq_ties.proofs.FlushEnds.{ended_ready}
@@ -31,11 +31,12 @@ wait_in t (u ∷ us) here some = ⊎_elim first (λ i. later (wait_for u) (wait_
     first : u ≡ t → In t.number (tickets_in (cons_wait (wait_for u) (filter_map wait_for us)))
     first same = subst (λ v. In t.number (tickets_in (cons_wait (wait_for v) (filter_map wait_for us)))) (sym same) (mine (wait_for t) refl some)
 
+pub unended_waits_stand : (s : Layout) (past : List Entry) (t : Ticket) → Contains (unended past) t → is_some (wait_for t) ≡ true → Contains (tickets_in (barriers_of s past).barriers) t.number
+unended_waits_stand s past t here some = in_contained (tickets_in (barriers_of s past).barriers) t.number (wait_in t (unended past) (contained_in (unended past) t here) some)
+
 pub done_barriers_may_end : (s : Layout) (past : List Entry) (e : Entry) (t : Ticket) → IsLegal s (e ∷ past) → ticket_ended past e ≡ Some t → is_some (wait_for t) ≡ true
     → Contains (tickets_in (barriers_of s past).barriers) t.number × IsReady (barriers_of s past) t.number
 unfolding IsLegal
 done_barriers_may_end s past e t legal h some =
-    let k = ended_ready s past e t legal h in (
-      in_contained (tickets_in (barriers_of s past).barriers) t.number (wait_in t (unended past) k.stands some),
-      (ready_barriers_wait_for_nothing s past t legal.2 (in_contained (unended past) t k.stands) some).1 k.ready,
-    )
+    let k = ended_ready s past e t legal h in
+    let stands = in_contained (unended past) t k.stands in (unended_waits_stand s past t stands some, (ready_barriers_wait_for_nothing s past t legal.2 stands some).1 k.ready)

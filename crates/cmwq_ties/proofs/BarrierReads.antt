@@ -1,10 +1,9 @@
 -- What the barriers answer is what the definitions say.
-use Rattle.std.proofs.Common.{◌≡◌, ◌<◌, ◌↔◌, ℕ, true, false, cond, ◌&&◌, List, [], ◌∷◌, length, find, Option, Some, None, option_to_list, nat_le, refl, sym, ap, ◌∙◌, arith, ⊎_elim}
+use Rattle.std.proofs.Common.{◌≡◌, ◌<◌, ◌↔◌, ℕ, true, false, cond, ◌&&◌, List, [], ◌∷◌, find, Option, Some, None, nat_le, refl, sym, ap, ◌∙◌, arith, ⊎_elim}
 use Rattle.std.specs.Prelude.{is_some, option_map, Contains, All}
-use Rattle.std.specs.List.{AllByRecursion, filter_map}
+use Rattle.std.specs.List.{filter_map}
 use Rattle.std.specs.Option.{option_map_or}
 use Rattle.std.proofs.lemmas.Bool.{eq-eqb, ne_eqb, ltb-true, lt-leb, leb-false}
-use Rattle.std.proofs.lemmas.List.FromFn.{get_or-map-range_with_len}
 use Rattle.std.proofs.lemmas.List.Elements.{recursion_from_All, All-from_recursion}
 use Rattle.cmwq_model.specs.declared.call.Call.{Call}
 use Rattle.cmwq_model.specs.declared.call.Call.TheVariants as call
@@ -12,32 +11,25 @@ use Rattle.cmwq_model.specs.declared.entry.Entry.{Entry}
 use Rattle.cmwq_model.specs.declared.record.Ticket.{Ticket}
 use Rattle.cmwq_model.specs.Layout.{Layout, has_numbers}
 use Rattle.cmwq_model.specs.Queueings.{still_open, is_of}
-use Rattle.cmwq_model.specs.Tickets.{tickets, unended, is_unended, ticket_in}
+use Rattle.cmwq_model.specs.Tickets.{unended}
 use Rattle.cmwq_model.specs.Waits.{waits_for}
 use Rattle.cmwq_model.specs.Legal.{IsLegal}
-use Rattle.cmwq_laws.proofs.Lists.{All_map, All_append, find_none}
+use Rattle.cmwq_laws.proofs.Lists.{All_map, find_none}
 use Rattle.cmwq_laws.proofs.Filters.{none_found}
 use Rattle.cmwq_flush.specs.declared.barrier.Barrier.{Barrier}
 use Rattle.cmwq_flush.specs.BarrierBook.{numbers_open, numbers_before, has_ticket, is_up_to, IsReady, waits_for as book_waits_for}
 use Rattle.cmwq_ties.specs.Told.{number_of_queueing, number_of_ticket}
 use Rattle.cmwq_ties.specs.BarrierBooks.{item_numbers, wait_by, wait_for, barriers_of}
-use Rattle.cmwq_ties.proofs.Members.{In, of_in, all_in, in_filter, in_option, contained_in}
+use Rattle.cmwq_ties.proofs.Members.{In, of_in, contained_in}
 use Rattle.cmwq_ties.proofs.Rising.{RisesBy}
 use Rattle.cmwq_ties.proofs.Numbers.{find_number}
-use Rattle.cmwq_ties.proofs.Settled.{numbers_fit}
-use Rattle.cmwq_ties.proofs.TicketSteps.{unended_rise, ticket_in_is}
-use Rattle.cmwq_ties.proofs.BarrierSteps.{wait_number, cons_wait}
+use Rattle.cmwq_ties.proofs.PlacesFit.{unended_fit}
+use Rattle.cmwq_ties.proofs.TicketSteps.{unended_rise}
+use Rattle.cmwq_ties.proofs.BarrierSteps.{item_row, wait_number, cons_wait}
 
--- ---- each ticket is of a call that fits
+-- ---- a wait is for an item that there is
 
-pub tickets_fit : (s : Layout) (past : List Entry) → IsLegal s past → AllByRecursion (λ t. has_numbers s t.call ≡ true) (tickets past)
-unfolding tickets IsLegal
-tickets_fit s [] legal = tt
-tickets_fit s (e ∷ past) legal = All_append (λ t. has_numbers s t.call ≡ true) (tickets past) (option_to_list (ticket_in e (length past))) (tickets_fit s past legal.2)
-    (all_in (λ t. has_numbers s t.call ≡ true) (option_to_list (ticket_in e (length past)))
-    (λ t i. ap (has_numbers s) (ticket_in_is e (length past) t (in_option (ticket_in e (length past)) t i)).call ∙ numbers_fit s past e legal))
-
-wait_there : (s : Layout) (t : Ticket) (w : Barrier) → has_numbers s t.call ≡ true → wait_for t ≡ Some w → w.item.0 < s.items
+pub wait_there : (s : Layout) (t : Ticket) (w : Barrier) → has_numbers s t.call ≡ true → wait_for t ≡ Some w → w.item.0 < s.items
 wait_there s t w fits h = by t.call fits h
   where
     by : (c : Call) → has_numbers s c ≡ true → wait_by c t.number ≡ Some w → w.item.0 < s.items
@@ -70,16 +62,13 @@ find_wait t w (u ∷ us) rise here is = ⊎_elim first (λ i. later i (find_wait
             let other : has_ticket t.number v ≡ false = ne_eqb v.ticket t.number (λ same. absurd (omega arith)) in
             ap (λ b. cond b (Some v) (find (has_ticket t.number) (filter_map wait_for us))) other ∙ found
 
-unended_fit : (s : Layout) (past : List Entry) (t : Ticket) → IsLegal s past → In t (unended past) → has_numbers s t.call ≡ true
-unended_fit s past t legal i = of_in (λ u. has_numbers s u.call ≡ true) (tickets past) t (tickets_fit s past legal) (in_filter (is_unended past) (tickets past) t i).0
-
 -- ---- what it waits for
 
 -- the numbers that are looked at are those of the item's open queueings
 before_are : (s : Layout) (past : List Entry) (t : Ticket) (w : Barrier) → IsLegal s past → In t (unended past) → wait_for t ≡ Some w → numbers_before (barriers_of s past) t.number ≡ item_numbers past w.item.0
 before_are s past t w legal i is =
     ap (λ o. option_map_or (λ (v : Barrier). numbers_open (barriers_of s past) v.item.0) o []) (find_wait t w (unended past) (unended_rise past) i is)
-    ∙ get_or-map-range_with_len (item_numbers past) 0 s.items w.item.0 w.item.0 [] (wait_there s t w (unended_fit s past t legal i) is) (omega arith)
+    ∙ item_row s past w.item.0 (wait_there s t w (unended_fit s past t legal i) is)
 
 held_by_item : (past : List Entry) (t : Ticket) (w : Barrier) → wait_for t ≡ Some w → waits_for past t.number t.call ≡ find (is_up_to t.number) (item_numbers past w.item.0)
 held_by_item past t w h = by t.call h

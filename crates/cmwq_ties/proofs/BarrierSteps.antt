@@ -4,7 +4,7 @@ use Rattle.std.specs.Prelude.{is_some, if◌then◌else◌}
 use Rattle.std.specs.List.{AllByRecursion, filter_map, range_with_len}
 use Rattle.std.proofs.lemmas.Bool.{eqb-true, eq-eqb, ne_eqb, not-false}
 use Rattle.std.proofs.lemmas.List.{map-append}
-use Rattle.std.proofs.lemmas.List.FromFn.{length-range_with_len, get_or-map-range_with_len}
+use Rattle.std.proofs.lemmas.List.FromFn.{length-range_with_len, length-map-range_with_len, get_or-map-range_with_len}
 use Rattle.std.proofs.lemmas.List.Elements.{filter-append, filter_map-append}
 use Rattle.cmwq_model.specs.declared.call.Call.{Call}
 use Rattle.cmwq_model.specs.declared.call.Call.TheVariants as call
@@ -12,12 +12,10 @@ use Rattle.cmwq_model.specs.declared.entry.Entry.{Entry}
 use Rattle.cmwq_model.specs.declared.record.Queueing.{Queueing}
 use Rattle.cmwq_model.specs.declared.record.Ticket.{Ticket}
 use Rattle.cmwq_model.specs.Layout.{Layout}
-use Rattle.cmwq_model.specs.Queueings.{queueings, still_open, opening, is_live, is_of}
+use Rattle.cmwq_model.specs.Queueings.{queueings, still_open, opening, is_of}
 use Rattle.cmwq_model.specs.Tickets.{tickets, unended}
 use Rattle.cmwq_model.specs.Legal.{IsLegal}
 use Rattle.cmwq_laws.specs.Endings.{is_spared, ending}
-use Rattle.cmwq_laws.proofs.Lists.{All_append}
-use Rattle.cmwq_laws.proofs.Entries.{opening_item}
 use Rattle.cmwq_laws.proofs.Endings.{open_go_on}
 use Rattle.cmwq_flush.specs.declared.barrier.Barrier.{Barrier}
 use Rattle.cmwq_flush.specs.Numbers.{without}
@@ -25,31 +23,20 @@ use Rattle.cmwq_flush.specs.BarrierBook.{BarrierBook, new_barriers, numbers_open
 use Rattle.cmwq_laws.specs.TicketSteps.{is_kept, ticket_ended}
 use Rattle.cmwq_laws.proofs.TicketSteps.{unended_go_on}
 use Rattle.cmwq_ties.specs.Told.{number_of_queueing, number_of_ticket, ticket_given}
-use Rattle.cmwq_ties.specs.BarrierBooks.{item_numbers, wait_by, wait_for, barriers_of, told_ended, told_opened, told_done, told_begun, begun, told}
-use Rattle.cmwq_ties.proofs.Members.{In, of_in, all_in, in_filter, in_option}
+use Rattle.cmwq_ties.specs.BarrierBooks.{item_numbers, wait_by, wait_for, barriers_of, told_ended, told_opened, told_done, told_begun, begun, told_queueings, told}
+use Rattle.cmwq_ties.proofs.Members.{In, all_in}
 use Rattle.cmwq_ties.proofs.Rising.{rises_unique}
 use Rattle.cmwq_ties.proofs.Numbers.{numbers_without, numbers_lack, filter_goes_on}
 use Rattle.cmwq_ties.proofs.TimerSteps.{set_row, same_rows}
-use Rattle.cmwq_ties.proofs.FirstDue.{timers_may_be_told}
+use Rattle.cmwq_ties.proofs.PlacesFit.{open_there, opened_are_there}
 use Rattle.cmwq_ties.proofs.TicketSteps.{unended_rise, TicketStep, ticket_step, ends_one, ends_none, ends_only}
 use Rattle.cmwq_ties.proofs.QueueingSteps.{QueueingStep, queueing_step, open_numbers_rise}
 use Rattle.cmwq_ties.proofs.QueueingSteps as queueing
 
--- ---- each queueing is of an item that there is
-
-opened_there : (s : Layout) (past : List Entry) (e : Entry) (x : Queueing) → IsLegal s (e ∷ past) → opening past e ≡ Some x → x.item.0 < s.items
-opened_there s past e x legal h = (timers_may_be_told s past e legal).item x.item.0 (opening_item e past x h)
-
-pub queueings_there : (s : Layout) (past : List Entry) → IsLegal s past → AllByRecursion (λ x. x.item.0 < s.items) (queueings past)
-unfolding queueings IsLegal
-queueings_there s [] legal = tt
-queueings_there s (e ∷ past) legal = All_append (λ x. x.item.0 < s.items) (queueings past) (option_to_list (opening past e)) (queueings_there s past legal.2)
-    (all_in (λ x. x.item.0 < s.items) (option_to_list (opening past e)) (λ x i. opened_there s past e x legal (in_option (opening past e) x i)))
-
-pub open_there : (s : Layout) (past : List Entry) (x : Queueing) → IsLegal s past → In x (still_open past) → x.item.0 < s.items
-open_there s past x legal i = of_in (λ y. y.item.0 < s.items) (queueings past) x (queueings_there s past legal) (in_filter (is_live past) (queueings past) x i).0
-
 -- ---- the open numbers of each item
+
+pub item_row : (s : Layout) (past : List Entry) (i : ℕ) → i < s.items → numbers_open (barriers_of s past) i ≡ item_numbers past i
+item_row s past i there = get_or-map-range_with_len (item_numbers past) 0 s.items i i [] there (omega arith)
 
 -- what is left of an item's open queueings, and what is opened of it
 left_numbers : List Entry → Entry → ℕ → List ℕ
@@ -70,7 +57,7 @@ rows_ended s past e legal (queueing.ends_one x is here all) =
     ∙ sym (ap (λ o. (told_ended o (barriers_of s past)).opened) is)
   where
     row : numbers_open (barriers_of s past) x.item.0 ≡ item_numbers past x.item.0
-    row = get_or-map-range_with_len (item_numbers past) 0 s.items x.item.0 x.item.0 [] (open_there s past x legal here) (omega arith)
+    row = item_row s past x.item.0 (open_there s past x legal here).item
 
 after_numbers : List Entry → Entry → Option Queueing → ℕ → List ℕ
 after_numbers past e o i = left_numbers past e i ++ map number_of_queueing (filter (is_of i) (option_to_list o))
@@ -98,7 +85,21 @@ rows_follow : (s : Layout) (past : List Entry) (e : Entry) → IsLegal s (e ∷ 
 unfolding IsLegal
 rows_follow s past e legal =
     same_rows (after_numbers past e (opening past e)) (item_numbers (e ∷ past)) (range_with_len 0 s.items) (λ j. numbers_after s past e j legal)
-    ∙ rows_opened s past e (opening past e) (told_ended (ending past e) (barriers_of s past)) (λ x h. opened_there s past e x legal h) (rows_ended s past e legal.2 (queueing_step s past e legal))
+    ∙ rows_opened s past e (opening past e) (told_ended (ending past e) (barriers_of s past)) (λ x h. (opened_are_there s past e x legal h).item) (rows_ended s past e legal.2 (queueing_step s past e legal))
+
+-- once what ended is told each item has a row still, and what is opened comes after what is left in its row
+pub ended_rows : (s : Layout) (past : List Entry) (e : Entry) → IsLegal s (e ∷ past) → length (told_ended (ending past e) (barriers_of s past)).opened ≡ s.items
+unfolding IsLegal
+ended_rows s past e legal = sym (ap length (rows_ended s past e legal.2 (queueing_step s past e legal))) ∙ length-map-range_with_len (left_numbers past e) 0 s.items
+
+pub opened_row : (s : Layout) (past : List Entry) (e : Entry) (x : Queueing) → IsLegal s (e ∷ past) → opening past e ≡ Some x → item_numbers (e ∷ past) x.item.0 ≡ numbers_open (told_ended (ending past e) (barriers_of s past)) x.item.0 ++ x.number ∷ []
+unfolding after_numbers IsLegal
+opened_row s past e x legal h =
+    numbers_after s past e x.item.0 legal ∙ ap (λ o. left_numbers past e x.item.0 ++ map number_of_queueing (filter (is_of x.item.0) (option_to_list o))) h
+    ∙ ap (λ c. left_numbers past e x.item.0 ++ map number_of_queueing (cond c (x ∷ []) [])) (eq-eqb x.item.0 x.item.0 refl) ∙ ap (λ ns. ns ++ x.number ∷ []) (sym row)
+  where
+    row : numbers_open (told_ended (ending past e) (barriers_of s past)) x.item.0 ≡ left_numbers past e x.item.0
+    row = ap (λ rows. get_or rows x.item.0 []) (sym (rows_ended s past e legal.2 (queueing_step s past e legal))) ∙ get_or-map-range_with_len (left_numbers past e) 0 s.items x.item.0 x.item.0 [] (opened_are_there s past e x legal h).item (omega arith)
 
 -- ---- the waits
 
@@ -206,11 +207,18 @@ opened_rest (Some x) b = record { callers = refl; barriers = refl }
 same_book : (b c : BarrierBook) → b.callers ≡ c.callers → b.opened ≡ c.opened → b.barriers ≡ c.barriers → b ≡ c
 same_book b c callers opened barriers = λ i. record { callers = callers i; opened = opened i; barriers = barriers i }
 
-pub barriers_follow : (s : Layout) (past : List Entry) (e : Entry) → IsLegal s (e ∷ past) → barriers_of s (e ∷ past) ≡ told past e (barriers_of s past)
-barriers_follow s past e legal =
-    same_book (barriers_of s (e ∷ past)) (told past e (barriers_of s past)) (sym (begun_.callers ∙ done_.callers ∙ opened_.callers ∙ ended_.callers))
-    (rows_follow s past e legal ∙ sym (begun_.opened ∙ done_.opened))
-    (ap (filter_map wait_for) (unended_go_on s past e legal) ∙ waits_begun (filter (is_kept e) (unended past)) (ticket_given past e) b2 (waits_done s past e b1 (ticket_step past e) (opened_.barriers ∙ ended_.barriers)))
+-- the barriers once what is done is told, before what begins
+pub record AreDone (s : Layout) (past : List Entry) (e : Entry) (b : BarrierBook) : Type 0 where
+  pub callers : b.callers ≡ s.callers
+  pub opened : b.opened ≡ map (item_numbers (e ∷ past)) (range_with_len 0 s.items)
+  pub barriers : b.barriers ≡ filter_map wait_for (filter (is_kept e) (unended past))
+
+pub are_done : (s : Layout) (past : List Entry) (e : Entry) → IsLegal s (e ∷ past) → AreDone s past e (told_done (ticket_ended past e) (told_queueings past e (barriers_of s past)))
+are_done s past e legal = record {
+  callers = done_.callers ∙ opened_.callers ∙ ended_.callers;
+  opened = done_.opened ∙ sym (rows_follow s past e legal);
+  barriers = sym (waits_done s past e b1 (ticket_step past e) (opened_.barriers ∙ ended_.barriers));
+}
   where
     b0 : BarrierBook
     b0 = told_ended (ending past e) (barriers_of s past)
@@ -218,20 +226,28 @@ barriers_follow s past e legal =
     b1 : BarrierBook
     b1 = told_opened (opening past e) b0
 
-    b2 : BarrierBook
-    b2 = told_done (ticket_ended past e) b1
-
     ended_ : SameWaits (barriers_of s past) b0
     ended_ = ended_rest (ending past e) (barriers_of s past)
 
     opened_ : SameWaits b0 b1
     opened_ = opened_rest (opening past e) b0
 
-    done_ : SameRest b1 b2
+    done_ : SameRest b1 (told_done (ticket_ended past e) b1)
     done_ = done_rest (ticket_ended past e) b1
 
-    begun_ : SameRest b2 (told past e (barriers_of s past))
-    begun_ = begun_rest (ticket_given past e) b2
+pub barriers_follow : (s : Layout) (past : List Entry) (e : Entry) → IsLegal s (e ∷ past) → barriers_of s (e ∷ past) ≡ told past e (barriers_of s past)
+barriers_follow s past e legal =
+    same_book (barriers_of s (e ∷ past)) (told past e (barriers_of s past)) (sym (begun_.callers ∙ done.callers)) (sym (begun_.opened ∙ done.opened))
+    (ap (filter_map wait_for) (unended_go_on s past e legal) ∙ waits_begun (filter (is_kept e) (unended past)) (ticket_given past e) b (sym done.barriers))
+  where
+    b : BarrierBook
+    b = told_done (ticket_ended past e) (told_queueings past e (barriers_of s past))
+
+    done : AreDone s past e b
+    done = are_done s past e legal
+
+    begun_ : SameRest b (told past e (barriers_of s past))
+    begun_ = begun_rest (ticket_given past e) b
 
 none_open : (xs : List ℕ) → map (item_numbers []) xs ≡ replicate (length xs) []
 unfolding queueings

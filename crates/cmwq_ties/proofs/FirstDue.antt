@@ -74,7 +74,7 @@ its_booking (e ∷ past) i b h = which (settles e.reply) (is_of_item i e) refl (
     which true false is before k = more_made e past i b (before k)
     which false y is before k = more_made e past i b (before k)
 
-in_standing : (past : List Entry) (i : ℕ) (b : Booking) → booking past i ≡ Some b → In b (standing past)
+pub in_standing : (past : List Entry) (i : ℕ) (b : Booking) → booking past i ≡ Some b → In b (standing past)
 in_standing past i b h =
     let k = its_booking past i b h in
     let is : booking past b.item.0 ≡ Some b = ap (booking past) k.item ∙ h in

@@ -1,5 +1,5 @@
 -- What a flush book answers is what the definitions say.
-use Rattle.std.proofs.Common.{◌≡◌, ◌<◌, ◌≤◌, ◌↔◌, ℕ, suc, Bool, true, false, cond, ◌||◌, List, [], ◌∷◌, length, map, filter, find, Option, Some, None, nat_lt, nat_le, refl, sym, ap, ◌∙◌, subst, arith, ⊎_elim}
+use Rattle.std.proofs.Common.{◌≡◌, ◌<◌, ◌≤◌, ◌↔◌, ℕ, suc, Bool, true, false, cond, ◌||◌, List, [], ◌∷◌, length, map, filter, find, count_by, Option, Some, None, nat_lt, nat_le, refl, sym, ap, ◌∙◌, subst, arith, ⊎_elim}
 use Rattle.std.specs.Prelude.{option_map, slice_get, Contains, All, MatchOption}
 use Rattle.std.specs.List.{AllByRecursion, list_any}
 use Rattle.std.proofs.lemmas.Bool.{eqb-true, eq-eqb, lt-ltb, ltb-false, le-ltb, leb-true, le-leb, false≢true}
@@ -11,8 +11,8 @@ use Rattle.cmwq_model.specs.declared.record.Queueing.{Queueing}
 use Rattle.cmwq_model.specs.declared.record.Ticket.{Ticket}
 use Rattle.cmwq_model.specs.Layout.{Layout}
 use Rattle.cmwq_model.specs.Queueings.{still_open}
-use Rattle.cmwq_model.specs.Tickets.{unended, is_drain_of, is_draining}
-use Rattle.cmwq_model.specs.Waits.{served, is_within, waits_for}
+use Rattle.cmwq_model.specs.Tickets.{unended, is_flush_of, is_drain_of, is_draining}
+use Rattle.cmwq_model.specs.Waits.{served, is_within, is_older_flush, waits_for}
 use Rattle.cmwq_flush.specs.declared.served.Served.{Served}
 use Rattle.cmwq_flush.specs.Served.{tickets_of, has_ticket}
 use Rattle.cmwq_flush.specs.FlushBook.{FlushBook, flush_tickets, served_of, IsReady}
@@ -20,10 +20,11 @@ use Rattle.cmwq_laws.proofs.Lists.{All_map, find_none}
 use Rattle.cmwq_laws.proofs.Filters.{none_found}
 use Rattle.cmwq_ties.specs.Told.{number_of_queueing, number_of_ticket}
 use Rattle.cmwq_ties.specs.FlushBooks.{is_on_queue, open_numbers, IsServedFrom, AreFlushes}
-use Rattle.cmwq_ties.proofs.Members.{In, of_in, in_append, found, contained_in}
+use Rattle.cmwq_ties.proofs.Members.{In, of_in, filter_in, in_append, found, contained_in, in_contained}
 use Rattle.cmwq_ties.proofs.Rising.{RisesBy, rises_filter}
-use Rattle.cmwq_ties.proofs.Numbers.{itself, numbers_rise, find_number, find_agree}
+use Rattle.cmwq_ties.proofs.Numbers.{itself, numbers_rise, numbers_have, find_number, find_agree}
 use Rattle.cmwq_ties.proofs.QueueingSteps.{open_numbers_rise}
+use Rattle.cmwq_ties.proofs.FlushSteps.{few_are_older, many_are_older}
 
 -- what a flush waits for, read off the open numbers
 waits_by_number : (past : List Entry) (q : QueueId) (b : FlushBook) (t : ℕ) → b.opened ≡ open_numbers past q.0 → waits_for past t (call.Flush q) ≡ find (is_within (served past q.0 t)) b.opened
@@ -69,6 +70,25 @@ ready_flushes_wait_for_nothing s past q b t is here = by (served_of b t) refl
         let k = found (has_ticket t) b.served f some in
         both_ways (All (λ n. f.bound ≤ n) b.opened) (waits_for past t (call.Flush q)) (find (λ n. nat_lt n f.bound) b.opened)
         (waits_of_served past q b t f is.opened (eqb-true f.ticket t k.1) (of_in (IsServedFrom past q.0 b.opened) b.served f is.served_from k.0)) (bounded_waits f.bound b.opened)
+
+-- ---- what stands
+
+stand : (p : Ticket → Bool) (past : List Entry) (ns : List ℕ) (t : Ticket) → ns ≡ map number_of_ticket (filter p (unended past)) → Contains (unended past) t → p t ≡ true → Contains ns t.number
+stand p past ns t are here passes =
+    in_contained ns t.number (subst (In t.number) (sym are) (numbers_have number_of_ticket (filter p (unended past)) t (filter_in p (unended past) t (contained_in (unended past) t here) passes)))
+
+pub unended_flushes_stand : (s : Layout) (past : List Entry) (q : ℕ) (b : FlushBook) (t : Ticket) → AreFlushes s past q b → Contains (unended past) t
+    → (is_flush_of q t ≡ true → Contains (flush_tickets b) t.number) × (is_drain_of q t ≡ true → Contains b.drains t.number)
+unended_flushes_stand s past q b t is here = ((λ flush. stand (is_flush_of q) past (flush_tickets b) t is.flushes here flush), (λ drain. stand (is_drain_of q) past b.drains t is.drains here drain))
+
+-- ---- who is in overflow
+
+pub overflowed_are_behind_fifteen : (s : Layout) (past : List Entry) (q : ℕ) (b : FlushBook) (t : ℕ) → AreFlushes s past q b → Contains (flush_tickets b) t → Contains b.overflow t ↔ (15 ≤ count_by (is_older_flush q t) (unended past))
+overflowed_are_behind_fifteen s past q b t is here = (
+  (λ over. many_are_older past q t b is.flushes is.serving (contained_in b.overflow t over)),
+  (λ many. in_contained b.overflow t (⊎_elim
+      (λ i. let few = few_are_older past q t b is.flushes is.few i in absurd (omega arith)) (λ o. o) (in_append (tickets_of b.served) b.overflow t (contained_in (flush_tickets b) t here)))),
+)
 
 -- ---- the least
 

@@ -21,7 +21,8 @@ use Rattle.cmwq_flush.specs.declared.served.Served.{Served}
 use Rattle.cmwq_flush.specs.declared.limits.TheConstants.{MOST_SERVED}
 use Rattle.cmwq_flush.specs.Numbers.{is_other, without}
 use Rattle.cmwq_flush.specs.Served.{ticket_of, tickets_of}
-use Rattle.cmwq_flush.specs.FlushBook.{FlushBook, new_book, served_of, after_opened, after_ended, after_begin, after_end, after_drain_begin, after_drain_end}
+use Rattle.cmwq_flush.specs.FlushBook.{FlushBook, new_book, flush_tickets, served_of, after_opened, after_ended, after_begin, after_end, after_drain_begin, after_drain_end}
+use Rattle.cmwq_flush.specs.Colouring.{IsServing}
 use Rattle.cmwq_laws.specs.Endings.{is_spared, ending}
 use Rattle.cmwq_laws.proofs.Lists.{All_map, All_append, All_filter, count_by-filter}
 use Rattle.cmwq_laws.proofs.Rising.{opening_number}
@@ -91,25 +92,25 @@ flush_numbers_below past q = numbers_all number_of_ticket (λ n. n < length past
 -- ---- what the book is told of queueings
 
 -- where only the open numbers and what comes next may differ
-record SameTickets (old b : FlushBook) : Type 0 where
-  callers : b.callers ≡ old.callers
-  served : b.served ≡ old.served
-  overflow : b.overflow ≡ old.overflow
-  drains : b.drains ≡ old.drains
+pub record SameTickets (old b : FlushBook) : Type 0 where
+  pub callers : b.callers ≡ old.callers
+  pub served : b.served ≡ old.served
+  pub overflow : b.overflow ≡ old.overflow
+  pub drains : b.drains ≡ old.drains
 
 -- each open number is an older one, or this
-abbrev IsOldOr : ℕ → FlushBook → ℕ → Type 0
+abbrev pub IsOldOr : ℕ → FlushBook → ℕ → Type 0
 IsOldOr n old m = In m old.opened ⊎ (m ≡ n)
 
 old_all : (n : ℕ) (b : FlushBook) → AllByRecursion (IsOldOr n b) b.opened
 old_all n b = all_in (IsOldOr n b) b.opened (λ m i. inl i)
 
-record OpensOn (n : ℕ) (old b : FlushBook) : Type 0 where
-  tickets : SameTickets old b
-  older : AllByRecursion (λ m. m < b.next) b.opened
-  next : b.next ≤ suc n
-  later : old.next ≤ b.next
-  from : AllByRecursion (IsOldOr n old) b.opened
+pub record OpensOn (n : ℕ) (old b : FlushBook) : Type 0 where
+  pub tickets : SameTickets old b
+  pub older : AllByRecursion (λ m. m < b.next) b.opened
+  pub next : b.next ≤ suc n
+  pub later : old.next ≤ b.next
+  pub from : AllByRecursion (IsOldOr n old) b.opened
 
 told_ended_is : (past : List Entry) (e : Entry) (q : ℕ) (b : FlushBook) → QueueingStep past e → b.opened ≡ open_numbers past q
     → (told_ended (ending past e) q b).opened ≡ map number_of_queueing (filter (is_on_queue q) (filter (is_spared past e) (still_open past)))
@@ -159,7 +160,7 @@ opened_on (Some x) q n b number older next = here (is_on_queue q x)
         }
     here false = record { tickets = record { callers = refl; served = refl; overflow = refl; drains = refl }; older = older; next = omega arith; later = omega arith; from = old_all n b }
 
-opened_numbers : (o : Option Queueing) (q : ℕ) (b : FlushBook) → (told_opened o q b).opened ≡ b.opened ++ map number_of_queueing (filter (is_on_queue q) (option_to_list o))
+pub opened_numbers : (o : Option Queueing) (q : ℕ) (b : FlushBook) → (told_opened o q b).opened ≡ b.opened ++ map number_of_queueing (filter (is_on_queue q) (option_to_list o))
 opened_numbers None q b = sym (append-nil b.opened)
 opened_numbers (Some x) q b = here (is_on_queue q x)
   where
@@ -167,7 +168,7 @@ opened_numbers (Some x) q b = here (is_on_queue q x)
     here true = refl
     here false = sym (append-nil b.opened)
 
-told_opens : (s : Layout) (past : List Entry) (e : Entry) (q : ℕ) (b : FlushBook) → IsLegal s (e ∷ past) → b.opened ≡ open_numbers past q → (told_queueings past e q b).opened ≡ open_numbers (e ∷ past) q
+pub told_opens : (s : Layout) (past : List Entry) (e : Entry) (q : ℕ) (b : FlushBook) → IsLegal s (e ∷ past) → b.opened ≡ open_numbers past q → (told_queueings past e q b).opened ≡ open_numbers (e ∷ past) q
 unfolding IsLegal
 told_opens s past e q b legal opened =
     opened_numbers (opening past e) q (told_ended (ending past e) q b)
@@ -192,7 +193,7 @@ opens_twice n a b c h le k =
       from = All_map (IsOldOr n b) (IsOldOr n a) c.opened (λ m o. ⊎_elim (λ i. of_in (IsOldOr n a) b.opened m h.from i) (λ e. inr e) o) k.from;
     }
 
-ended_next : (o : Option Queueing) (q : ℕ) (b : FlushBook) → (told_ended o q b).next ≡ b.next
+pub ended_next : (o : Option Queueing) (q : ℕ) (b : FlushBook) → (told_ended o q b).next ≡ b.next
 ended_next None q b = refl
 ended_next (Some x) q b = here (is_on_queue q x)
   where
@@ -200,7 +201,7 @@ ended_next (Some x) q b = here (is_on_queue q x)
     here true = refl
     here false = refl
 
-told_on : (past : List Entry) (e : Entry) (q : ℕ) (b : FlushBook) → AllByRecursion (λ m. m < b.next) b.opened → b.next ≤ length past → OpensOn (length past) b (told_queueings past e q b)
+pub told_on : (past : List Entry) (e : Entry) (q : ℕ) (b : FlushBook) → AllByRecursion (λ m. m < b.next) b.opened → b.next ≤ length past → OpensOn (length past) b (told_queueings past e q b)
 told_on past e q b older next =
     let first = ended_on (ending past e) q (length past) b older next in
     let is : (told_ended (ending past e) q b).next ≡ b.next = ended_next (ending past e) q b in
@@ -208,7 +209,7 @@ told_on past e q b older next =
     (opened_on (opening past e) q (length past) (told_ended (ending past e) q b) (opening_number past e) first.older (omega arith))
 
 -- a flush that is served stays so
-soon_after : (s : Layout) (past : List Entry) (q : ℕ) (old b : FlushBook) → AreFlushes s past q old → OpensOn (length past) old b → Stands past q (flush_numbers q (unended past)) (drain_numbers q (unended past)) b
+pub soon_after : (s : Layout) (past : List Entry) (q : ℕ) (old b : FlushBook) → AreFlushes s past q old → OpensOn (length past) old b → Stands past q (flush_numbers q (unended past)) (drain_numbers q (unended past)) b
 soon_after s past q old b is on = record {
   flushes_are = ap₂ (λ fs os. tickets_of fs ++ os) on.tickets.served on.tickets.overflow ∙ is.flushes;
   drains_are = on.tickets.drains ∙ is.drains;
@@ -236,17 +237,17 @@ soon_after s past q old b is on = record {
 
 -- ---- what the book is told of tickets
 
-flush_no_drain : (q : ℕ) (c : Call) → flushes q c ≡ true → drains q c ≡ false
+pub flush_no_drain : (q : ℕ) (c : Call) → flushes q c ≡ true → drains q c ≡ false
 flush_no_drain q (call.Flush r) h = refl
 flush_no_drain q c h = cc
 
-abbrev StandsAs : List Entry → ℕ → List Ticket → FlushBook → Type 0
+abbrev pub StandsAs : List Entry → ℕ → List Ticket → FlushBook → Type 0
 StandsAs past q ts b = Stands past q (flush_numbers q ts) (drain_numbers q ts) b
 
 same_stands : (past : List Entry) (q : ℕ) (fs gs ds es : List ℕ) (b : FlushBook) → fs ≡ gs → ds ≡ es → Stands past q fs ds b → Stands past q gs es b
 same_stands past q fs gs ds es b hf hd is = subst (λ xs. Stands past q gs xs b) hd (subst (λ xs. Stands past q xs ds b) hf is)
 
-stands_done : (past : List Entry) (e : Entry) (q : ℕ) (b : FlushBook) → TicketStep past e → StandsAs past q (unended past) b → StandsAs past q (filter (is_kept e) (unended past)) (told_done (ticket_ended past e) q b)
+pub stands_done : (past : List Entry) (e : Entry) (q : ℕ) (b : FlushBook) → TicketStep past e → StandsAs past q (unended past) b → StandsAs past q (filter (is_kept e) (unended past)) (told_done (ticket_ended past e) q b)
 stands_done past e q b (ends_none is all) stands =
     subst (λ o. StandsAs past q (filter (is_kept e) (unended past)) (told_done o q b)) (sym is) (subst (λ ts. StandsAs past q ts b) (sym (filter_goes_on number_of_ticket (is_kept e) (unended past) all)) stands)
 stands_done past e q b (ends_one u is here it) stands = subst (λ o. StandsAs past q (filter (is_kept e) (unended past)) (told_done o q b)) (sym is) (kind (is_flush_of q u) (is_drain_of q u) refl refl)
@@ -294,10 +295,10 @@ stands_after s past e q b legal is =
     (stands_done past e q b (ticket_step past e) is))
 
 -- they change nothing that is open
-record SameOpen (old b : FlushBook) : Type 0 where
-  callers : b.callers ≡ old.callers
-  opened : b.opened ≡ old.opened
-  next : b.next ≡ old.next
+pub record SameOpen (old b : FlushBook) : Type 0 where
+  pub callers : b.callers ≡ old.callers
+  pub opened : b.opened ≡ old.opened
+  pub next : b.next ≡ old.next
 
 same_open : (b : FlushBook) → SameOpen b b
 same_open b = record { callers = refl; opened = refl; next = refl }
@@ -306,7 +307,7 @@ open_if : (c : Bool) (old a b : FlushBook) → SameOpen old a → SameOpen old b
 open_if true old a b h k = h
 open_if false old a b h k = k
 
-done_open : (o : Option Ticket) (q : ℕ) (b : FlushBook) → SameOpen b (told_done o q b)
+pub done_open : (o : Option Ticket) (q : ℕ) (b : FlushBook) → SameOpen b (told_done o q b)
 done_open None q b = same_open b
 done_open (Some t) q b = open_if (is_flush_of q t) b (after_end b t.number) _ (open_if (is_some (served_of b t.number)) b _ _ (record { callers = refl; opened = refl; next = refl }) (record { callers = refl; opened = refl; next = refl }))
     (open_if (is_drain_of q t) b (after_drain_end b t.number) b (record { callers = refl; opened = refl; next = refl }) (same_open b))
@@ -324,27 +325,33 @@ tickets_open past e q b =
 
 -- ---- what stands is served as the history says
 
-served_after : (e : Entry) (past : List Entry) (q t : ℕ) (b : FlushBook) → StandsAs past q (unended (e ∷ past)) b → In t (tickets_of b.served) → is_served_after (e ∷ past) q t ≡ true
-served_after e past q t b is here =
-    let rise = subst (RisesBy itself) (sym is.flushes_are) (flush_numbers_rise (e ∷ past) q) in
+-- fewer than 15 older ones are unended of one that is served, and 15 or more of one in overflow
+pub few_are_older : (past : List Entry) (q t : ℕ) (b : FlushBook) → flush_tickets b ≡ flush_numbers q (unended past) → length b.served ≤ MOST_SERVED → In t (tickets_of b.served) → count_by (is_older_flush q t) (unended past) < 15
+few_are_older past q t b are few here =
+    let rise = subst (RisesBy itself) (sym are) (flush_numbers_rise past q) in
     let fewer = fewer_before (tickets_of b.served) b.overflow t rise here in
-    let few = is.few in
     let size = length-map b.served ticket_of in
-    let count = older_flushes (e ∷ past) q t ∙ ap (count_by (is_less t)) (sym is.flushes_are) in
-    lt-ltb (count_by (is_older_flush q t) (unended (e ∷ past))) 15 (omega arith)
+    let count = older_flushes past q t ∙ ap (count_by (is_less t)) (sym are) in
+    omega arith
 
-not_served_after : (e : Entry) (past : List Entry) (q t : ℕ) (b : FlushBook) → StandsAs past q (unended (e ∷ past)) b → In t b.overflow → is_served_after (e ∷ past) q t ≡ false
-not_served_after e past q t b is here =
-    let rise = subst (RisesBy itself) (sym is.flushes_are) (flush_numbers_rise (e ∷ past) q) in
+pub many_are_older : (past : List Entry) (q t : ℕ) (b : FlushBook) → flush_tickets b ≡ flush_numbers q (unended past) → IsServing b → In t b.overflow → 15 ≤ count_by (is_older_flush q t) (unended past)
+many_are_older past q t b are serving here =
+    let rise = subst (RisesBy itself) (sym are) (flush_numbers_rise past q) in
     let all = all_before (tickets_of b.served) b.overflow t rise here in
-    let full = is.serving (some b.overflow here) in
+    let full = serving (some b.overflow here) in
     let size = length-map b.served ticket_of in
-    let count = older_flushes (e ∷ past) q t ∙ ap (count_by (is_less t)) (sym is.flushes_are) in
-    le-ltb (count_by (is_older_flush q t) (unended (e ∷ past))) 15 (omega arith)
+    let count = older_flushes past q t ∙ ap (count_by (is_less t)) (sym are) in
+    omega arith
   where
     some : (ns : List ℕ) → In t ns → 0 < length ns
     some [] h = absurd h
     some (n ∷ ns) h = omega arith
+
+served_after : (e : Entry) (past : List Entry) (q t : ℕ) (b : FlushBook) → StandsAs past q (unended (e ∷ past)) b → In t (tickets_of b.served) → is_served_after (e ∷ past) q t ≡ true
+served_after e past q t b is here = lt-ltb (count_by (is_older_flush q t) (unended (e ∷ past))) 15 (few_are_older (e ∷ past) q t b is.flushes_are is.few here)
+
+not_served_after : (e : Entry) (past : List Entry) (q t : ℕ) (b : FlushBook) → StandsAs past q (unended (e ∷ past)) b → In t b.overflow → is_served_after (e ∷ past) q t ≡ false
+not_served_after e past q t b is here = le-ltb (count_by (is_older_flush q t) (unended (e ∷ past))) 15 (many_are_older (e ∷ past) q t b is.flushes_are is.serving here)
 
 served_now : (e : Entry) (past : List Entry) (q : ℕ) (b : FlushBook) (f : Served) → StandsAs past q (unended (e ∷ past)) b → AllByRecursion (λ n. n < b.next) b.opened → b.next ≤ suc (length past) → In f b.served
     → ServedSoon past q b.next b.opened f → IsServedFrom (e ∷ past) q b.opened f

@@ -44,7 +44,7 @@ opened_unstarted s past e legal = ap₂ (λ a b. a || b) not_now (not_started_ye
         let number = st.number in
         absurd (omega arith))
 
-one_of : (s : Layout) (past : List Entry) (x y : Queueing) → IsLegal s past → In x (still_open past) → In y (still_open past) → x.item.0 ≡ y.item.0 → is_started past x.number ≡ false → is_started past y.number ≡ false → x ≡ y
+pub one_of : (s : Layout) (past : List Entry) (x y : Queueing) → IsLegal s past → In x (still_open past) → In y (still_open past) → x.item.0 ≡ y.item.0 → is_started past x.number ≡ false → is_started past y.number ≡ false → x ≡ y
 one_of s past x y legal hx hy item ux uy = same_Some x y (sym (listed x hx refl ux) ∙ ap (unstarted past) item ∙ listed y hy refl uy)
   where
     listed : (z : Queueing) → In z (still_open past) → z.item.0 ≡ z.item.0 → is_started past z.number ≡ false → unstarted past z.item.0 ≡ Some z

@@ -1,5 +1,5 @@
 -- What a pool answers is what the definitions say.
-use Rattle.std.proofs.Common.{◌≡◌, ◌==◌, ◌<◌, ◌+◌, ℕ, zero, suc, Bool, true, false, cond, not, ◌&&◌, ◌||◌, List, [], ◌∷◌, map, find, count_by, Option, Some, None, refl, sym, ap, ap₂, ◌∙◌, subst, arith}
+use Rattle.std.proofs.Common.{◌≡◌, ◌==◌, ◌<◌, ◌+◌, ℕ, zero, suc, Bool, true, false, cond, not, ◌&&◌, ◌||◌, List, [], ◌∷◌, length, map, find, count_by, Option, Some, None, refl, sym, ap, ap₂, ◌∙◌, subst, arith}
 use Rattle.std.specs.Prelude.{option_map, option_and_then, is_some, if◌then◌else◌}
 use Rattle.std.specs.Option.{option_map_or}
 use Rattle.std.specs.List.{AllByRecursion, list_any, range_with_len}
@@ -104,6 +104,9 @@ range_below a (suc n) = (omega arith, All_map (λ x. x < (a + 1) + n) (λ x. x <
 indices_below : (s : Layout) → AllByRecursion (λ x. x < s.workers) (indices s)
 indices_below s = All_map (λ x. x < 0 + s.workers) (λ x. x < s.workers) (indices s) (λ x less. omega arith) (range_below 0 s.workers)
 
+pub seats_for_workers : (s : Layout) (past : List Entry) (p : PoolId) → length (pool_of s past p).seats ≡ s.workers
+seats_for_workers s past p = length-map-range_with_len (seat_of s past p) 0 s.workers
+
 any_agree : (p q : ℕ → Bool) (xs : List ℕ) → AllByRecursion (λ x. p x ≡ q x) xs → list_any p xs ≡ list_any q xs
 any_agree p q [] h = refl
 any_agree p q (x ∷ xs) h = ap₂ (λ a b. a || b) h.0 (any_agree p q xs h.1)
@@ -120,7 +123,7 @@ starts_enlist_alike s past w legal =
     seats = (pool_of s past w.pool).seats
 
     places : seat_indices (pool_of s past w.pool).seats ≡ indices s
-    places = ap (range_with_len 0) (length-map-range_with_len (seat_of s past w.pool) 0 s.workers)
+    places = ap (range_with_len 0) (seats_for_workers s past w.pool)
 
 pub idle_retire_alike : (s : Layout) (past : List Entry) (p : PoolId) (x : ℕ) → IsLegal s past → x < s.workers → seat_may_retire (pool_of s past p).seats x ≡ (is_idle past p x && may_retire s past p)
 unfolding may_retire

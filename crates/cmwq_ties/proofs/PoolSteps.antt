@@ -19,7 +19,7 @@ use Rattle.cmwq_model.specs.Calls.{is_at, same_pool, is_of_item}
 use Rattle.cmwq_model.specs.Fate.{number_started, number_finished, replaces, finishes, is_started}
 use Rattle.cmwq_model.specs.Runs.{last_start, is_asleep}
 use Rattle.cmwq_model.specs.Queueings.{queueings, still_open, queueing_at}
-use Rattle.cmwq_model.specs.Active.{activated, newly_active, worklist}
+use Rattle.cmwq_model.specs.Active.{activated, worklist}
 use Rattle.cmwq_model.specs.Workers.{is_enlisted, worker_at}
 use Rattle.cmwq_model.specs.Legal.{IsLegal}
 use Rattle.cmwq_laws.specs.Endings.{is_spared, is_ended, ending}
@@ -38,7 +38,7 @@ use Rattle.cmwq_pool.specs.declared.task.Task.{Task}
 use Rattle.cmwq_pool.specs.Seats.{new_seat}
 use Rattle.cmwq_pool.specs.Lineup.{Lineup, new_lineup, is_not, added, removed, next_task}
 use Rattle.cmwq_ties.specs.Told.{number_of_queueing}
-use Rattle.cmwq_ties.specs.Pools.{task_for, seat_of, pool_of, start_next, told_reply, told_worker, told_cancelled, told_active, told}
+use Rattle.cmwq_ties.specs.Pools.{task_for, seat_of, pool_of, start_next, told_reply, told_worker, told_cancelled, told_active, told_first, made_active, told}
 use Rattle.cmwq_ties.proofs.Members.{of_in}
 use Rattle.cmwq_ties.proofs.Numbers.{filter_goes_on}
 use Rattle.cmwq_ties.proofs.Rising.{rises_unique}
@@ -237,24 +237,29 @@ worker_items p (Worker w) r l = here (same_pool w.pool p)
     here true = reply_items r w.index l
     here false = refl
 
+-- what is listed after the entry: what is left once the pool is told the first, and then what became active
+pub first_listed : (s : Layout) (past : List Entry) (e : Entry) (p : PoolId) → IsLegal s (e ∷ past)
+    → map (task_for s) (worklist s (e ∷ past) p) ≡ (told_first s past p e (pool_of s past p)).listed ++ map (task_for s) (made_active s past p e)
+first_listed s past e p legal =
+    ap (map (task_for s)) (worklists_go_on s past e p legal) ∙ map-append (task_for s) (filter (is_left past e) (worklist s past p)) (made_active s past p e)
+    ∙ ap (λ ts. ts ++ map (task_for s) (made_active s past p e)) (left_listed s past e p legal)
+
+pub first_items : (s : Layout) (past : List Entry) (e : Entry) (p : PoolId) → (told_first s past p e (pool_of s past p)).items ≡ s.items
+first_items s past e p = (cancelled_others s p e (ending past e) (told_worker p e.who e.reply (pool_of s past p))).items ∙ worker_items p e.who e.reply (pool_of s past p)
+
 pub pools_follow : (s : Layout) (past : List Entry) (e : Entry) (p : PoolId) → IsLegal s (e ∷ past) → pool_of s (e ∷ past) p ≡ told s past p e (pool_of s past p)
 pools_follow s past e p legal =
-    lineup_like (pool_of s (e ∷ past) p) (record m { listed = m.listed ++ map (task_for s) new }) (sym (rest.items ∙ worker_items p e.who e.reply (pool_of s past p))) listed (seats_follow s past e p legal ∙ sym rest.seats)
+    lineup_like (pool_of s (e ∷ past) p) (record m { listed = m.listed ++ map (task_for s) new }) (sym (first_items s past e p)) (first_listed s past e p legal) (seats_follow s past e p legal ∙ sym seats)
     ∙ sym (told_active_is s new m)
   where
     m : Lineup
-    m = told_cancelled s p e (ending past e) (told_worker p e.who e.reply (pool_of s past p))
+    m = told_first s past p e (pool_of s past p)
 
     new : List Queueing
-    new = filter (is_in s p) (newly_active s past e)
+    new = made_active s past p e
 
-    rest : SameOthers (told_worker p e.who e.reply (pool_of s past p)) m
-    rest = cancelled_others s p e (ending past e) (told_worker p e.who e.reply (pool_of s past p))
-
-    listed : map (task_for s) (worklist s (e ∷ past) p) ≡ m.listed ++ map (task_for s) new
-    listed =
-        ap (map (task_for s)) (worklists_go_on s past e p legal) ∙ map-append (task_for s) (filter (is_left past e) (worklist s past p)) new
-        ∙ ap (λ ts. ts ++ map (task_for s) new) (left_listed s past e p legal)
+    seats : m.seats ≡ (told_worker p e.who e.reply (pool_of s past p)).seats
+    seats = (cancelled_others s p e (ending past e) (told_worker p e.who e.reply (pool_of s past p))).seats
 
 pub pools_at_first : (s : Layout) (p : PoolId) → pool_of s [] p ≡ new_lineup s.items s.workers
 unfolding worklist activated is_enlisted is_asleep last_start

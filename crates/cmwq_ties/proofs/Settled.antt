@@ -136,23 +136,26 @@ settled_of_an_item s past e legal h =
 pub record Fits (s : Layout) (b : Booking) : Type 0 where
   pub item : b.item.0 < s.items
   pub queue : b.place.queue.0 < length s.queues
+  pub cpu : b.place.cpu.0 < s.cpus
 
 pub numbers_fit : (s : Layout) (past : List Entry) (e : Entry) → IsLegal s (e ∷ past) → has_numbers s e.call ≡ true
 unfolding IsLegal
 numbers_fit s past e legal = (and_parts (may_make s e.who e.call) (has_numbers s e.call) legal.0).1
 
-place_fits : (s : Layout) (i q c : ℕ) → has_place s i q c ≡ true → (i < s.items) × (q < length s.queues)
-place_fits s i q c h = let two = and_parts _ _ (and_parts _ _ h).0 in (ltb-true _ _ two.0, ltb-true _ _ two.1)
+pub place_fits : (s : Layout) (i q c : ℕ) → has_place s i q c ≡ true → (i < s.items) × (q < length s.queues) × (c < s.cpus)
+place_fits s i q c h =
+    let outer = and_parts _ _ h in
+    let two = and_parts _ _ outer.0 in (ltb-true _ _ two.0, ltb-true _ _ two.1, ltb-true _ _ outer.1)
 
 booked_fits : (s : Layout) (c : Call) (n due : ℕ) (b : Booking) → has_numbers s c ≡ true → booked_by c n due ≡ Some b → Fits s b
 booked_fits s (call.Delay i q k t) n due b h is =
     let same = same_Some _ b is in
-    let two = place_fits s i.0 q.0 k.0 h in
-    rw (← same) (record { item = two.0; queue = two.1 })
+    let all = place_fits s i.0 q.0 k.0 h in
+    rw (← same) (record { item = all.0; queue = all.1; cpu = all.2 })
 booked_fits s (call.Modify i q k t) n due b h is =
     let same = same_Some _ b is in
-    let two = place_fits s i.0 q.0 k.0 h in
-    rw (← same) (record { item = two.0; queue = two.1 })
+    let all = place_fits s i.0 q.0 k.0 h in
+    rw (← same) (record { item = all.0; queue = all.1; cpu = all.2 })
 booked_fits s c n due b h is = cc
 
 pub booking_fits : (s : Layout) (past : List Entry) (e : Entry) (b : Booking) → IsLegal s (e ∷ past) → booking_of e (length past) ≡ Some b → Fits s b

@@ -122,6 +122,9 @@ unfolding booking
 none_rows [] = refl
 none_rows (x ∷ xs) = ap (λ ys. None ∷ ys) (none_rows xs)
 
+pub rows_for_items : (s : Layout) (past : List Entry) → length (timers_of s past) ≡ s.items
+rows_for_items s past = length-map-range_with_len (row_of past) 0 s.items
+
 pub no_timers_at_first : (s : Layout) → timers_of s [] ≡ replicate s.items None
 no_timers_at_first s = none_rows (range_with_len 0 s.items) ∙ ap (λ n. replicate n None) (length-range_with_len 0 s.items)
 

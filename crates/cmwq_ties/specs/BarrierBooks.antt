@@ -16,7 +16,7 @@ use Rattle.cmwq_model.specs.Legal.{IsLegal}
 use Rattle.cmwq_laws.specs.Endings.{ending}
 use Rattle.cmwq_laws.specs.TicketSteps.{ticket_ended}
 use Rattle.cmwq_flush.specs.declared.barrier.Barrier.{Barrier}
-use Rattle.cmwq_flush.specs.BarrierBook.{BarrierBook, new_barriers, tickets_in, IsReady, after_opened, after_ended, after_begin, after_end, waits_for as book_waits_for}
+use Rattle.cmwq_flush.specs.BarrierBook.{BarrierBook, new_barriers, numbers_open, tickets_in, CanOpen, CanBegin, IsReady, after_opened, after_ended, after_begin, after_end, waits_for as book_waits_for}
 use Rattle.cmwq_ties.specs.Told.{number_of_queueing, ticket_given}
 
 -- the numbers of an item's open queueings
@@ -58,8 +58,11 @@ abbrev pub told_begun : Option Ticket → BarrierBook → BarrierBook
 told_begun None b = b
 told_begun (Some t) b = begun (wait_for t) b
 
+abbrev pub told_queueings : List Entry → Entry → BarrierBook → BarrierBook
+told_queueings past e b = told_opened (opening past e) (told_ended (ending past e) b)
+
 abbrev pub told : List Entry → Entry → BarrierBook → BarrierBook
-told past e b = told_begun (ticket_given past e) (told_done (ticket_ended past e) (told_opened (opening past e) (told_ended (ending past e) b)))
+told past e b = told_begun (ticket_given past e) (told_done (ticket_ended past e) (told_queueings past e b))
 
 -- at first the barriers are new ones, and each entry's calls make them those of the longer history
 abbrev pub BarriersAtFirst : Type 0
@@ -81,7 +84,42 @@ abbrev pub RunThenUnstarted : Type 0
 RunThenUnstarted = (s : Layout) (past : List Entry) (i : ℕ) → IsLegal s past
     → item_numbers past i ≡ option_to_list (option_map (λ (start : Start). start.number) (item_run past i)) ++ option_to_list (option_map number_of_queueing (unstarted past i))
 
+-- an unended wait for an item stands, so that the barriers may be asked for it
+abbrev pub UnendedWaitsStand : Type 0
+UnendedWaitsStand = (s : Layout) (past : List Entry) (t : Ticket) → Contains (unended past) t → is_some (wait_for t) ≡ true → Contains (tickets_in (barriers_of s past).barriers) t.number
+
 -- a wait for an item whose end is answered done in a legal history stands and is ready, so that the call may be made
 abbrev pub DoneBarriersMayEnd : Type 0
 DoneBarriersMayEnd = (s : Layout) (past : List Entry) (e : Entry) (t : Ticket) → IsLegal s (e ∷ past) → ticket_ended past e ≡ Some t → is_some (wait_for t) ≡ true
     → Contains (tickets_in (barriers_of s past).barriers) t.number × IsReady (barriers_of s past) t.number
+
+-- each call that tells the barriers of an entry may be made where it is made: what the call requires holds
+abbrev pub MayEnd : Option Queueing → BarrierBook → Type 0
+MayEnd None b = Unit {0}
+MayEnd (Some x) b = Contains (numbers_open b x.item.0) x.number
+
+abbrev pub MayOpen : Option Queueing → BarrierBook → Type 0
+MayOpen None b = Unit {0}
+MayOpen (Some x) b = CanOpen b x.item.0 x.number
+
+abbrev pub MayBeDone : Option Ticket → BarrierBook → Type 0
+MayBeDone None b = Unit {0}
+MayBeDone (Some t) b = is_some (wait_for t) ≡ true → Contains (tickets_in b.barriers) t.number × IsReady b t.number
+
+abbrev pub MayWait : Option Barrier → BarrierBook → Type 0
+MayWait None b = Unit {0}
+MayWait (Some w) b = CanBegin b w.item.0 w.ticket
+
+abbrev pub MayBegin : Option Ticket → BarrierBook → Type 0
+MayBegin None b = Unit {0}
+MayBegin (Some t) b = MayWait (wait_for t) b
+
+pub record MayBeTold (past : List Entry) (e : Entry) (b : BarrierBook) : Type 0 where
+  pub ended : MayEnd (ending past e) b
+  pub opened : MayOpen (opening past e) (told_ended (ending past e) b)
+  pub done : MayBeDone (ticket_ended past e) (told_queueings past e b)
+  pub begun : MayBegin (ticket_given past e) (told_done (ticket_ended past e) (told_queueings past e b))
+
+-- so it is in a legal history
+abbrev pub BarriersMayBeTold : Type 0
+BarriersMayBeTold = (s : Layout) (past : List Entry) (e : Entry) → IsLegal s (e ∷ past) → MayBeTold past e (barriers_of s past)

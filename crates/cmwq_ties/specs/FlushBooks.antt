@@ -1,21 +1,21 @@
 -- The flush book of a queue follows the queue's open queueings and its unended flushes and drains.
-use Rattle.std.specs.Prelude.{◌≡◌, ℕ, ◌<◌, ◌≤◌, ◌↔◌, Bool, ◌==◌, if◌then◌else◌, List, ◌∷◌, length, map, filter, [], Contains, true, Option, Some, None, slice_get, nat_lt, nat_le}
+use Rattle.std.specs.Prelude.{◌≡◌, ℕ, ◌<◌, ◌≤◌, ◌↔◌, Bool, ◌==◌, if◌then◌else◌, List, ◌∷◌, length, map, filter, count_by, [], Contains, true, Option, Some, None, slice_get, nat_lt, nat_le, IsTrue}
 use Rattle.std.specs.List.{AllByRecursion}
 use Rattle.cmwq_model.specs.declared.id.QueueId.{QueueId}
 use Rattle.cmwq_model.specs.declared.call.Call.TheVariants as call
 use Rattle.cmwq_model.specs.declared.entry.Entry.{Entry}
 use Rattle.cmwq_model.specs.declared.record.Queueing.{Queueing}
 use Rattle.cmwq_model.specs.declared.record.Ticket.{Ticket}
-use Rattle.cmwq_model.specs.Layout.{Layout}
+use Rattle.cmwq_model.specs.Layout.{Layout, is_layout}
 use Rattle.cmwq_model.specs.Queueings.{still_open, opening}
 use Rattle.cmwq_model.specs.Tickets.{unended, is_flush_of, is_drain_of, is_draining}
-use Rattle.cmwq_model.specs.Waits.{served, waits_for}
+use Rattle.cmwq_model.specs.Waits.{served, is_older_flush, waits_for}
 use Rattle.cmwq_model.specs.Legal.{IsLegal}
 use Rattle.cmwq_laws.specs.Endings.{ending}
 use Rattle.cmwq_laws.specs.TicketSteps.{ticket_ended}
 use Rattle.cmwq_flush.specs.declared.served.Served.{Served}
 use Rattle.cmwq_flush.specs.declared.limits.TheConstants.{MOST_SERVED}
-use Rattle.cmwq_flush.specs.FlushBook.{FlushBook, new_book, flush_tickets, IsReady, after_opened, after_ended, after_begin, after_end, after_drain_begin, after_drain_end}
+use Rattle.cmwq_flush.specs.FlushBook.{FlushBook, new_book, flush_tickets, CanOpen, CanBegin, CanDrain, IsReady, after_opened, after_ended, after_begin, after_end, after_drain_begin, after_drain_end}
 use Rattle.cmwq_flush.specs.Colouring.{IsServing}
 use Rattle.cmwq_ties.specs.Told.{number_of_queueing, number_of_ticket, ticket_given}
 
@@ -100,7 +100,44 @@ DrainsWaitForLeastOpen = (s : Layout) (past : List Entry) (q : QueueId) (b : Flu
 abbrev pub DrainingWhileDrainsStand : Type 0
 DrainingWhileDrainsStand = (s : Layout) (past : List Entry) (q : ℕ) (b : FlushBook) → AreFlushes s past q b → is_draining past q ≡ nat_lt 0 (length b.drains)
 
+-- a flush that stands is in overflow exactly where 15 older ones of the queue or more are unended
+abbrev pub OverflowedAreBehindFifteen : Type 0
+OverflowedAreBehindFifteen = (s : Layout) (past : List Entry) (q : ℕ) (b : FlushBook) (t : ℕ) → AreFlushes s past q b → Contains (flush_tickets b) t
+    → Contains b.overflow t ↔ (15 ≤ count_by (is_older_flush q t) (unended past))
+
+-- an unended flush or drain of the queue stands in the book, so that the book may be asked for it
+abbrev pub UnendedFlushesStand : Type 0
+UnendedFlushesStand = (s : Layout) (past : List Entry) (q : ℕ) (b : FlushBook) (t : Ticket) → AreFlushes s past q b → Contains (unended past) t
+    → (is_flush_of q t ≡ true → Contains (flush_tickets b) t.number) × (is_drain_of q t ≡ true → Contains b.drains t.number)
+
 -- a flush whose end is answered done in a legal history stands in the book and is ready, so that the call may be made
 abbrev pub DoneFlushesMayEnd : Type 0
 DoneFlushesMayEnd = (s : Layout) (past : List Entry) (e : Entry) (q : ℕ) (b : FlushBook) (t : Ticket) → IsLegal s (e ∷ past) → AreFlushes s past q b → ticket_ended past e ≡ Some t → is_flush_of q t ≡ true
     → Contains (flush_tickets b) t.number × IsReady b t.number
+
+-- each call that tells a book of an entry may be made where it is made: what the call requires holds
+abbrev pub MayEnd : Option Queueing → ℕ → FlushBook → Type 0
+MayEnd None q b = Unit {0}
+MayEnd (Some x) q b = is_on_queue q x ≡ true → Contains b.opened x.number
+
+abbrev pub MayOpen : Option Queueing → ℕ → FlushBook → Type 0
+MayOpen None q b = Unit {0}
+MayOpen (Some x) q b = is_on_queue q x ≡ true → CanOpen b x.number
+
+abbrev pub MayBeDone : Option Ticket → ℕ → FlushBook → Type 0
+MayBeDone None q b = Unit {0}
+MayBeDone (Some t) q b = (is_flush_of q t ≡ true → Contains (flush_tickets b) t.number × IsReady b t.number) × (is_drain_of q t ≡ true → Contains b.drains t.number)
+
+abbrev pub MayBegin : Option Ticket → ℕ → FlushBook → Type 0
+MayBegin None q b = Unit {0}
+MayBegin (Some t) q b = (is_flush_of q t ≡ true → CanBegin b t.number) × (is_drain_of q t ≡ true → CanDrain b t.number)
+
+pub record MayBeTold (past : List Entry) (e : Entry) (q : ℕ) (b : FlushBook) : Type 0 where
+  pub ended : MayEnd (ending past e) q b
+  pub opened : MayOpen (opening past e) q (told_ended (ending past e) q b)
+  pub done : MayBeDone (ticket_ended past e) q (told_queueings past e q b)
+  pub begun : MayBegin (ticket_given past e) q (told_done (ticket_ended past e) q (told_queueings past e q b))
+
+-- so it is in a legal history whose layout is inside the limits
+abbrev pub FlushesMayBeTold : Type 0
+FlushesMayBeTold = (s : Layout) (past : List Entry) (e : Entry) (q : ℕ) (b : FlushBook) → IsTrue (is_layout s) → IsLegal s (e ∷ past) → AreFlushes s past q b → MayBeTold past e q b

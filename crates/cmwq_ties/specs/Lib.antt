@@ -3,3 +3,4 @@ pub mod Told
 pub mod FlushBooks
 pub mod BarrierBooks
 pub mod Pools
+pub mod Places

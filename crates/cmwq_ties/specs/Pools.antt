@@ -1,5 +1,5 @@
 -- A pool follows its worklist, and the runs and the enlisting of its workers.
-use Rattle.std.specs.Prelude.{◌≡◌, ℕ, ◌<◌, ◌&&◌, not, if◌then◌else◌, List, [], ◌∷◌, map, filter, fold, Option, Some, None, option_map, option_and_then, IsTrue, IsSome}
+use Rattle.std.specs.Prelude.{◌≡◌, ℕ, ◌<◌, ◌&&◌, not, if◌then◌else◌, List, [], ◌∷◌, length, map, filter, fold, Option, Some, None, option_map, option_and_then, IsTrue, IsSome}
 use Rattle.cmwq_model.specs.declared.id.PoolId.{PoolId}
 use Rattle.cmwq_model.specs.declared.id.WorkerId.{WorkerId}
 use Rattle.cmwq_model.specs.declared.id.Who.{Who}
@@ -21,7 +21,7 @@ use Rattle.cmwq_laws.specs.Activations.{is_in}
 use Rattle.cmwq_pool.specs.declared.task.Task.{Task}
 use Rattle.cmwq_pool.specs.declared.seat.Seat.{Seat}
 use Rattle.cmwq_pool.specs.Seats.{seat_at, is_idle as is_idle_seat, runs_awake, runs_asleep, run_number, seat_asleep, seat_awake, seat_free, seat_retired, runnable as seats_runnable, enlisted_by as seats_enlisted_by, may_retire as seat_may_retire}
-use Rattle.cmwq_pool.specs.Lineup.{Lineup, new_lineup, added, removed, next_task, started, reseated, next as lineup_next}
+use Rattle.cmwq_pool.specs.Lineup.{Lineup, new_lineup, may_add, added, removed, next_task, started, reseated, next as lineup_next}
 use Rattle.cmwq_ties.specs.Told.{number_of_queueing}
 
 -- a queueing as its pool sees it, and what a worker runs
@@ -64,8 +64,14 @@ told_cancelled s p e (Some x) l = if is_in s p x && not (finishes x.number e) th
 abbrev pub told_active : Layout → List Queueing → Lineup → Lineup
 told_active s xs l = fold (λ (m : Lineup) (x : Queueing). added m (task_for s x)) l xs
 
+abbrev pub told_first : Layout → List Entry → PoolId → Entry → Lineup → Lineup
+told_first s past p e l = told_cancelled s p e (ending past e) (told_worker p e.who e.reply l)
+
+abbrev pub made_active : Layout → List Entry → PoolId → Entry → List Queueing
+made_active s past p e = filter (is_in s p) (newly_active s past e)
+
 abbrev pub told : Layout → List Entry → PoolId → Entry → Lineup → Lineup
-told s past p e l = told_active s (filter (is_in s p) (newly_active s past e)) (told_cancelled s p e (ending past e) (told_worker p e.who e.reply l))
+told s past p e l = told_active s (made_active s past p e) (told_first s past p e l)
 
 -- at first the pool is a new one, and each entry's calls make it that of the longer history
 abbrev pub PoolsAtFirst : Type 0
@@ -96,6 +102,10 @@ pub record IsSeatOf (past : List Entry) (w : WorkerId) (seat : Seat) : Type 0 wh
 abbrev pub SeatsAreWorkers : Type 0
 SeatsAreWorkers = (s : Layout) (past : List Entry) (p : PoolId) (x : ℕ) → IsLegal s past → x < s.workers → IsSeatOf past (worker_at p x) (seat_at (pool_of s past p).seats x)
 
+-- there is a seat for each worker, so that the pool may be asked for it
+abbrev pub SeatsForWorkers : Type 0
+SeatsForWorkers = (s : Layout) (past : List Entry) (p : PoolId) → length (pool_of s past p).seats ≡ s.workers
+
 -- what a pool's worker is answered in a legal history may be told: what each of these calls requires holds before it
 pub record MayStart (l : Lineup) (x : ℕ) : Type 0 where
   pub idle : IsTrue (is_idle_seat (seat_at l.seats x))
@@ -113,3 +123,11 @@ MayBeTold r l x = Unit {0}
 
 abbrev pub WorkersMayBeTold : Type 0
 WorkersMayBeTold = (s : Layout) (past : List Entry) (e : Entry) (w : WorkerId) → IsLegal s (e ∷ past) → e.who ≡ Worker w → MayBeTold e.reply (pool_of s past w.pool) w.index
+
+-- each queueing that became active may be added to its pool, after those that are told before it
+abbrev pub MayAllBeAdded : Layout → List Queueing → Lineup → Type 0
+MayAllBeAdded s [] l = Unit {0}
+MayAllBeAdded s (x ∷ xs) l = IsTrue (may_add l x.number x.item.0) × MayAllBeAdded s xs (added l (task_for s x))
+
+abbrev pub ActiveMayBeAdded : Type 0
+ActiveMayBeAdded = (s : Layout) (past : List Entry) (e : Entry) (p : PoolId) → IsLegal s (e ∷ past) → MayAllBeAdded s (made_active s past p e) (told_first s past p e (pool_of s past p))

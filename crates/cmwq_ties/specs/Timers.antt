@@ -1,11 +1,11 @@
 -- The timers follow the bookings that are read off a history.
-use Rattle.std.specs.Prelude.{◌≡◌, ℕ, ◌<◌, true, false, ◌==◌, List, [], ◌∷◌, length, map, replicate, slice_set, Option, Some, None, option_map, is_some}
+use Rattle.std.specs.Prelude.{◌≡◌, ℕ, ◌<◌, true, false, ◌==◌, if◌then◌else◌, List, [], ◌∷◌, length, map, replicate, slice_set, Option, Some, None, option_map, is_some, IsTrue}
 use Rattle.std.specs.List.{range_with_len}
 use Rattle.std.specs.Int.{bit_at}
 use Rattle.cmwq_model.specs.declared.id.ItemId.{ItemId}
 use Rattle.cmwq_model.specs.declared.entry.Entry.{Entry}
 use Rattle.cmwq_model.specs.declared.record.Booking.{Booking}
-use Rattle.cmwq_model.specs.Layout.{Layout}
+use Rattle.cmwq_model.specs.Layout.{Layout, is_layout}
 use Rattle.cmwq_model.specs.Calls.{item_of, now}
 use Rattle.cmwq_model.specs.Bookings.{settles, booking, booking_of}
 use Rattle.cmwq_model.specs.Tickets.{is_draining}
@@ -29,6 +29,10 @@ timers_of s past = map (row_of past) (range_with_len 0 s.items)
 abbrev pub NoTimersAtFirst : Type 0
 NoTimersAtFirst = (s : Layout) → timers_of s [] ≡ replicate s.items None
 
+-- there is a row for each item, so that the timers may be asked for it
+abbrev pub RowsForItems : Type 0
+RowsForItems = (s : Layout) (past : List Entry) → length (timers_of s past) ≡ s.items
+
 -- what is booked for an item is its due tick in the definitions
 abbrev pub due_in_bookings : List Entry → ℕ → Option ℕ
 due_in_bookings past i = option_map (λ (b : Booking). b.due) (booking past i)
@@ -50,6 +54,18 @@ SettledTimersAreTakenBack = (s : Layout) (past : List Entry) (e : Entry) (i : �
 abbrev pub OthersKeepTimers : Type 0
 OthersKeepTimers = (s : Layout) (past : List Entry) (e : Entry) → settles e.reply ≡ false → timers_of s (e ∷ past) ≡ timers_of s past
 
+-- so the timers of the longer history are those that are told of the entry: what it books is booked, and else what it settles is unbooked
+abbrev pub told_settled : Option ℕ → Option Booking → Rows → Rows
+told_settled o (Some b) rows = slice_set rows b.item.0 (Some (timer_for b))
+told_settled (Some i) None rows = slice_set rows i None
+told_settled None None rows = rows
+
+abbrev pub told : List Entry → Entry → Rows → Rows
+told past e rows = if settles e.reply then told_settled (item_of e) (booking_of e (length past)) rows else rows
+
+abbrev pub TimersFollow : Type 0
+TimersFollow = (s : Layout) (past : List Entry) (e : Entry) → IsLegal s (e ∷ past) → timers_of s (e ∷ past) ≡ told past e (timers_of s past)
+
 -- in a legal history what settles is of an item that there is, and what books is for a queue that there is: so the calls may be made
 pub record MayBeTold (s : Layout) (past : List Entry) (e : Entry) : Type 0 where
   pub of_an_item : settles e.reply ≡ true → is_some (item_of e) ≡ true
@@ -58,6 +74,15 @@ pub record MayBeTold (s : Layout) (past : List Entry) (e : Entry) : Type 0 where
 
 abbrev pub TimersMayBeTold : Type 0
 TimersMayBeTold = (s : Layout) (past : List Entry) (e : Entry) → IsLegal s (e ∷ past) → MayBeTold s past e
+
+-- where the layout is inside the limits these calls may be made: what each requires holds
+abbrev pub MayBeSet : Option ℕ → Option Booking → Rows → Type 0
+MayBeSet o (Some b) rows = (b.item.0 < length rows) × (b.place.queue.0 < 64)
+MayBeSet (Some i) None rows = i < length rows
+MayBeSet None None rows = Unit {0}
+
+abbrev pub TimersMayBeSet : Type 0
+TimersMayBeSet = (s : Layout) (past : List Entry) (e : Entry) → IsTrue (is_layout s) → IsLegal s (e ∷ past) → MayBeSet (item_of e) (booking_of e (length past)) (timers_of s past)
 
 -- where exactly the queues that drain are held back, the timer that fires first is that of the booking that is due first
 abbrev pub HoldsDraining : Layout → List Entry → ℕ → Type 0

@@ -1,7 +1,7 @@
 //! Where the barriers are those of a history, the calls for one more entry make them those of the longer history, and
 //! what they answer is what the definitions say.
 
-ghost use Rattle.cmwq_ties.specs.BarrierBooks.{BarriersAtFirst, BarriersFollow, BarriersWaitForLeast, ReadyBarriersWaitForNothing, RunThenUnstarted, DoneBarriersMayEnd};
+ghost use Rattle.cmwq_ties.specs.BarrierBooks.{BarriersAtFirst, BarriersFollow, BarriersWaitForLeast, ReadyBarriersWaitForNothing, RunThenUnstarted, DoneBarriersMayEnd, BarriersMayBeTold, UnendedWaitsStand};
 
 /// Before any entry the barriers are new ones.
 pub fn barriers_at_first()
@@ -11,6 +11,11 @@ pub fn barriers_at_first()
 /// Barriers that are told of an entry of a legal history follow it: what is open of each item, and which waits stand.
 pub fn barriers_follow()
     ensures { BarriersFollow }
+{}
+
+/// An unended wait for an item stands, so the barriers may be asked for it.
+pub fn unended_waits_stand()
+    ensures { UnendedWaitsStand }
 {}
 
 /// A wait for an item is for the queueing that the definitions name, the least.
@@ -33,6 +38,12 @@ pub fn done_barriers_may_end()
     ensures { DoneBarriersMayEnd }
 {}
 
+/// The barriers may be told of each entry of a legal history: what is ended stands, what is opened and begun comes later
+/// than what stands, and there is room for it.
+pub fn barriers_may_be_told()
+    ensures { BarriersMayBeTold }
+{}
+
 #[cfg(test)]
 mod tests {
     use super::*;
@@ -41,9 +52,11 @@ mod tests {
     fn each_is_there() {
         barriers_at_first();
         barriers_follow();
+        unended_waits_stand();
         barriers_wait_for_least();
         ready_barriers_wait_for_nothing();
         items_have_run_then_unstarted();
         done_barriers_may_end();
+        barriers_may_be_told();
     }
 }

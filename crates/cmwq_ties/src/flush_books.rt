@@ -1,7 +1,7 @@
 //! Where a flush book is that of a queue after some entries, the calls for one more entry make it that of the longer
 //! history, and what it answers is what the definitions say.
 
-ghost use Rattle.cmwq_ties.specs.FlushBooks.{FlushesAtFirst, FlushesFollow, ReadyFlushesWaitForNothing, FlushesWaitForLeastOpen, DrainsWaitForLeastOpen, DrainingWhileDrainsStand, DoneFlushesMayEnd};
+ghost use Rattle.cmwq_ties.specs.FlushBooks.{FlushesAtFirst, FlushesFollow, ReadyFlushesWaitForNothing, FlushesWaitForLeastOpen, DrainsWaitForLeastOpen, DrainingWhileDrainsStand, OverflowedAreBehindFifteen, DoneFlushesMayEnd, FlushesMayBeTold, UnendedFlushesStand};
 
 /// Before any entry each queue has a new flush book.
 pub fn flushes_at_first()
@@ -12,6 +12,11 @@ pub fn flushes_at_first()
 /// where, which are in overflow, and which drains stand.
 pub fn flushes_follow()
     ensures { FlushesFollow }
+{}
+
+/// An unended flush or drain of a queue stands in its book, so the book may be asked for it.
+pub fn unended_flushes_stand()
+    ensures { UnendedFlushesStand }
 {}
 
 /// A flush is ready by its book exactly where by the definitions it waits for nothing.
@@ -34,9 +39,20 @@ pub fn draining_while_drains_stand()
     ensures { DrainingWhileDrainsStand }
 {}
 
+/// A flush that stands is in overflow exactly where 15 older flushes of its queue or more are unended.
+pub fn overflowed_are_behind_fifteen()
+    ensures { OverflowedAreBehindFifteen }
+{}
+
 /// A flush whose end is answered done in a legal history stands in its book and is ready, so its end may be told.
 pub fn done_flushes_may_end()
     ensures { DoneFlushesMayEnd }
+{}
+
+/// A flush book may be told of each entry of a legal history whose layout is inside the limits: what is ended stands,
+/// what is opened and begun comes later than what stands, and there is room for it.
+pub fn flushes_may_be_told()
+    ensures { FlushesMayBeTold }
 {}
 
 #[cfg(test)]
@@ -47,10 +63,13 @@ mod tests {
     fn each_is_there() {
         flushes_at_first();
         flushes_follow();
+        unended_flushes_stand();
         ready_flushes_wait_for_nothing();
         flushes_wait_for_least_open();
         drains_wait_for_least_open();
         draining_while_drains_stand();
+        overflowed_are_behind_fifteen();
         done_flushes_may_end();
+        flushes_may_be_told();
     }
 }

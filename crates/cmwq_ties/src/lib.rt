@@ -4,23 +4,28 @@
 
 mod barrier_books;
 mod flush_books;
+mod places;
 mod pools;
 mod timers;
 
 pub use barrier_books::{
-    barriers_at_first, barriers_follow, barriers_wait_for_least, done_barriers_may_end,
-    items_have_run_then_unstarted, ready_barriers_wait_for_nothing,
+    barriers_at_first, barriers_follow, barriers_may_be_told, barriers_wait_for_least,
+    done_barriers_may_end, items_have_run_then_unstarted, ready_barriers_wait_for_nothing,
+    unended_waits_stand,
 };
 pub use flush_books::{
     done_flushes_may_end, draining_while_drains_stand, drains_wait_for_least_open,
-    flushes_at_first, flushes_follow, flushes_wait_for_least_open, ready_flushes_wait_for_nothing,
+    flushes_at_first, flushes_follow, flushes_may_be_told, flushes_wait_for_least_open,
+    overflowed_are_behind_fifteen, ready_flushes_wait_for_nothing, unended_flushes_stand,
 };
+pub use places::{open_are_there, opened_are_there, unended_tickets_fit};
 pub use pools::{
-    idle_retire_alike, nexts_are_next, pools_at_first, pools_follow, runnables_are_runnable,
-    seats_are_workers, starts_enlist_alike, workers_may_be_told,
+    active_may_be_added, idle_retire_alike, nexts_are_next, pools_at_first, pools_follow,
+    runnables_are_runnable, seats_are_workers, seats_for_workers, starts_enlist_alike,
+    workers_may_be_told,
 };
 pub use timers::{
     bookings_set_timers, first_timer_is_first_due, no_timer_is_none_due, no_timers_at_first,
-    others_keep_timers, settled_timers_are_taken_back, timers_are_due_as_booked,
-    timers_may_be_told,
+    others_keep_timers, rows_for_items, settled_timers_are_taken_back, timers_are_due_as_booked,
+    timers_follow, timers_may_be_set, timers_may_be_told,
 };

@@ -1,7 +1,7 @@
 //! Where a pool is that of some entries, the calls for one more entry make it that of the longer history, and what it
 //! answers is what the definitions say.
 
-ghost use Rattle.cmwq_ties.specs.Pools.{PoolsAtFirst, PoolsFollow, NextsAreNext, RunnablesAreRunnable, StartsEnlistAlike, IdleRetireAlike, SeatsAreWorkers, WorkersMayBeTold};
+ghost use Rattle.cmwq_ties.specs.Pools.{PoolsAtFirst, PoolsFollow, NextsAreNext, RunnablesAreRunnable, StartsEnlistAlike, IdleRetireAlike, SeatsAreWorkers, WorkersMayBeTold, ActiveMayBeAdded, SeatsForWorkers};
 
 /// Before any entry each pool is a new one.
 pub fn pools_at_first()
@@ -34,6 +34,11 @@ pub fn idle_retire_alike()
     ensures { IdleRetireAlike }
 {}
 
+/// A pool has a seat for each worker, so it may be asked for it.
+pub fn seats_for_workers()
+    ensures { SeatsForWorkers }
+{}
+
 /// A worker's seat says whether it is enlisted, what it runs and whether that sleeps.
 pub fn seats_are_workers()
     ensures { SeatsAreWorkers }
@@ -42,6 +47,12 @@ pub fn seats_are_workers()
 /// What a worker is answered in a legal history may be told to its pool: what the call requires holds.
 pub fn workers_may_be_told()
     ensures { WorkersMayBeTold }
+{}
+
+/// What became active by an entry of a legal history may be added to its pool: its item is there, and nothing that is
+/// listed has its number or its item.
+pub fn active_may_be_added()
+    ensures { ActiveMayBeAdded }
 {}
 
 #[cfg(test)]
@@ -56,7 +67,9 @@ mod tests {
         runnables_are_runnable();
         starts_enlist_alike();
         idle_retire_alike();
+        seats_for_workers();
         seats_are_workers();
         workers_may_be_told();
+        active_may_be_added();
     }
 }

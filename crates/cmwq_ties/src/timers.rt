@@ -1,10 +1,15 @@
 //! Where the timers are the bookings of a history, the calls for each entry make them those of the longer history.
 
-ghost use Rattle.cmwq_ties.specs.Timers.{NoTimersAtFirst, TimersAreDueAsBooked, BookingsSetTimers, SettledTimersAreTakenBack, OthersKeepTimers, TimersMayBeTold, FirstTimerIsFirstDue, NoTimerIsNoneDue};
+ghost use Rattle.cmwq_ties.specs.Timers.{NoTimersAtFirst, TimersAreDueAsBooked, BookingsSetTimers, SettledTimersAreTakenBack, OthersKeepTimers, TimersMayBeTold, FirstTimerIsFirstDue, NoTimerIsNoneDue, RowsForItems, TimersFollow, TimersMayBeSet};
 
 /// At first no item is booked.
 pub fn no_timers_at_first()
     ensures { NoTimersAtFirst }
+{}
+
+/// There is a row for each item, so the timers may be asked for it.
+pub fn rows_for_items()
+    ensures { RowsForItems }
 {}
 
 /// The tick at which a timer is due is that of its item's booking.
@@ -27,9 +32,19 @@ pub fn others_keep_timers()
     ensures { OthersKeepTimers }
 {}
 
+/// So timers that are told of an entry of a legal history follow it.
+pub fn timers_follow()
+    ensures { TimersFollow }
+{}
+
 /// In a legal history the timers may be told of each entry: its item and its queue are there.
 pub fn timers_may_be_told()
     ensures { TimersMayBeTold }
+{}
+
+/// Where the layout is inside the limits, the calls that tell the timers of an entry of a legal history may be made.
+pub fn timers_may_be_set()
+    ensures { TimersMayBeSet }
 {}
 
 /// Where the draining queues are held back, the timer that fires first is that of the booking that is due first.
@@ -49,11 +64,14 @@ mod tests {
     #[test]
     fn each_is_there() {
         no_timers_at_first();
+        rows_for_items();
         timers_are_due_as_booked();
         bookings_set_timers();
         settled_timers_are_taken_back();
         others_keep_timers();
+        timers_follow();
         timers_may_be_told();
+        timers_may_be_set();
         first_timer_is_first_due();
         no_timer_is_none_due();
     }
