@@ -2,7 +2,6 @@
 use Rattle.std.specs.Prelude.{ℕ, List, length, Result, Ok, Err, Option, None, Some}
 use Rattle.cmwq_model.specs.declared.entry.Entry.{Entry}
 use Rattle.cmwq_model.specs.declared.verdict.Illegal.{Illegal}
-use Rattle.cmwq_model.specs.Layout.{Layout}
 use Rattle.cmwq_model.specs.Legal.{IsLegal, past_of}
 use Rattle.cmwq_model.specs.Verdict.{IsFirstWrong}
 use Rattle.cmwq_text.specs.VerdictText.{legal_text, illegal_text}

@@ -90,10 +90,10 @@ run_when past w r b = if b then run_after r (run past w) else run past w
 has_run_on : (s : Layout) (past : List Entry) (e : Entry) (w : WorkerId) (b : Bool) → IsLegal s (e ∷ past) → is_by (Worker w) e ≡ b → has_run (e ∷ past) w ≡ is_some (run_when past w e.reply b)
 has_run_on s past e w b legal h = ap is_some (workers_run_on s past e w legal ∙ ap (run_when past w e.reply) h)
 
-by_itself : (e : Entry) (w : WorkerId) → e.who ≡ Worker w → is_by (Worker w) e ≡ true
+pub by_itself : (e : Entry) (w : WorkerId) → e.who ≡ Worker w → is_by (Worker w) e ≡ true
 by_itself e w who = ap (λ (x : Who). same_who x (Worker w)) who ∙ same_worker_itself w
 
-same_starter : (v w : WorkerId) → Worker v ≡ Worker w → v ≡ w
+pub same_starter : (v w : WorkerId) → Worker v ≡ Worker w → v ≡ w
 same_starter v w h = cc
 
 runs_balance : (s : Layout) (past : List Entry) (who : Who) (c : Call) (r : Reply) (w : WorkerId) → Cause s past who c r → who ≡ Worker w → one (has_after past w r) + one (is_some (number_finished r)) ≡ one (has_run past w) + one (is_some (number_started r))

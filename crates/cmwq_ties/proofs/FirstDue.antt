@@ -17,6 +17,7 @@ use Rattle.cmwq_timer.specs.declared.timer.Timer.{Timer}
 use Rattle.cmwq_timer.specs.Due.{is_sooner, may_fire as timer_may_fire}
 use Rattle.cmwq_timer.specs.Rows.{MayFire, NoneMayFire, IsFirstToFire, timer_of}
 use Rattle.cmwq_laws.proofs.Lists.{All_map, All_append}
+use Rattle.cmwq_laws.proofs.OneWorker.{is_at-true}
 use Rattle.cmwq_ties.specs.Timers.{timer_for, timers_of, HoldsDraining, item_due, MayBeTold}
 use Rattle.cmwq_ties.proofs.Members.{In, of_in, all_in, in_left, in_right, option_in, in_option, in_filter, filter_in, none_in, found}
 use Rattle.cmwq_ties.proofs.Rising.{RisesBy, rises_filter, rises_snoc, rises_unique, find_is}
@@ -49,10 +50,6 @@ record IsItsBooking (past : List Entry) (i : ℕ) (b : Booking) : Type 0 where
   item : b.item.0 ≡ i
   made : In b (bookings past)
 
-is_at_true : (o : Option ℕ) (n : ℕ) → is_at o n ≡ true → o ≡ Some n
-is_at_true None n h = cc
-is_at_true (Some m) n h = ap Some (eqb-true m n h)
-
 more_made : (e : Entry) (past : List Entry) (i : ℕ) (b : Booking) → IsItsBooking past i b → IsItsBooking (e ∷ past) i b
 unfolding bookings
 more_made e past i b h = record { item = h.item; made = in_left (bookings past) (option_to_list (booking_of e (length past))) b h.made }
@@ -61,7 +58,7 @@ newly_made : (e : Entry) (past : List Entry) (i : ℕ) (b : Booking) → is_of_i
 unfolding bookings
 newly_made e past i b of_item is =
     let k = booking_books e (length past) b is in
-    let same : Some b.item.0 ≡ Some i = sym k.item ∙ is_at_true _ i of_item in
+    let same : Some b.item.0 ≡ Some i = sym k.item ∙ is_at-true _ i of_item in
     record { item = same_Some b.item.0 i same; made = in_right (bookings past) (option_to_list (booking_of e (length past))) b (option_in (booking_of e (length past)) b is) }
 
 its_booking : (past : List Entry) (i : ℕ) (b : Booking) → booking past i ≡ Some b → IsItsBooking past i b

@@ -21,10 +21,7 @@ use Rattle.cmwq_ties.specs.Told.{number_of_queueing}
 use Rattle.cmwq_ties.specs.Pools.{pool_of, MayStart, MayBeTold}
 use Rattle.cmwq_ties.proofs.PoolReads.{seat_is, some_run, idle_seat, runnables_are_runnable, idle_retire_alike}
 use Rattle.cmwq_ties.proofs.PoolNext.{worker_fits, nexts_are_next}
-use Rattle.cmwq_ties.proofs.PoolSeats.{by_itself}
-
-worker_same : (v w : WorkerId) → Worker v ≡ Worker w → v ≡ w
-worker_same v w h = cc
+use Rattle.cmwq_laws.proofs.OwedSteps.{by_itself, same_starter}
 
 module _ (s : Layout) (past : List Entry) (e : Entry) (w : WorkerId) (legal : IsLegal s (e ∷ past)) (who : e.who ≡ Worker w) where
   before : IsLegal s past
@@ -43,7 +40,7 @@ module _ (s : Layout) (past : List Entry) (e : Entry) (w : WorkerId) (legal : Is
   may_start : (n : ℕ) → number_started e.reply ≡ Some n → MayStart (pool_of s past w.pool) w.index
   may_start n h =
       let st = starts_next s past e n legal h in
-      let same = worker_same st.worker w (sym st.by_worker ∙ who) in
+      let same = same_starter st.worker w (sym st.by_worker ∙ who) in
       let enlisted : is_enlisted past w ≡ true = ap (is_enlisted past) (sym same) ∙ st.enlisted in
       let none : has_run past w ≡ false = ap (has_run past) (sym same) ∙ st.idle in
       let next_is : next s past w.pool ≡ Some st.queueing = ap (λ (v : WorkerId). next s past v.pool) (sym same) ∙ st.is_next in
@@ -58,16 +55,16 @@ module _ (s : Layout) (past : List Entry) (e : Entry) (w : WorkerId) (legal : Is
   may_be_told (reply.StartedEnlist n y) is = may_start n (ap number_started is)
   may_be_told (reply.Finished n) is =
       let f = finishes_run s past e n legal (ap number_finished is) in
-      awake_seat (ap (runs_awake past) (sym (worker_same f.worker w (sym f.by_worker ∙ who))) ∙ f.awake)
+      awake_seat (ap (runs_awake past) (sym (same_starter f.worker w (sym f.by_worker ∙ who))) ∙ f.awake)
   may_be_told reply.Slept is =
       let k = sleep_reason s past e.who e.call e.reply (cause_of s past e legal) is in
-      awake_seat (ap (runs_awake past) (sym (worker_same k.0 w (sym k.1 ∙ who))) ∙ k.3)
+      awake_seat (ap (runs_awake past) (sym (same_starter k.0 w (sym k.1 ∙ who))) ∙ k.3)
   may_be_told reply.Woke is =
       let k = wake_reason s past e.who e.call e.reply (cause_of s past e legal) is in
-      asleep_seat (ap (runs_asleep past) (sym (worker_same k.0 w (sym k.1 ∙ who))) ∙ k.3)
+      asleep_seat (ap (runs_asleep past) (sym (same_starter k.0 w (sym k.1 ∙ who))) ∙ k.3)
   may_be_told reply.Retired is =
       let k = retire_reason s past e.who e.call e.reply (cause_of s past e legal) is in
-      let same = worker_same k.0 w (sym k.1 ∙ who) in
+      let same = same_starter k.0 w (sym k.1 ∙ who) in
       let enlisted : is_enlisted past w ≡ true = ap (is_enlisted past) (sym same) ∙ k.3 in
       let none : has_run past w ≡ false = ap (has_run past) (sym same) ∙ k.4 in
       let may : may_retire s past w.pool ≡ true = ap (λ (v : WorkerId). may_retire s past v.pool) (sym same) ∙ k.5 in

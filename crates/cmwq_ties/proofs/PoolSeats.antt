@@ -27,6 +27,7 @@ use Rattle.cmwq_laws.proofs.StartsListed.{IsFound, queueings_found, queueing_at-
 use Rattle.cmwq_laws.proofs.Activated.{next_holds}
 use Rattle.cmwq_laws.proofs.RunSteps.{workers_run_on}
 use Rattle.cmwq_laws.proofs.Width.{same_worker_itself}
+use Rattle.cmwq_laws.proofs.OwedSteps.{by_itself, same_starter}
 use Rattle.cmwq_laws.proofs.Pools.{same_pool-true}
 use Rattle.cmwq_pool.specs.declared.task.Task.{Task}
 use Rattle.cmwq_pool.specs.declared.seat.Seat.{Seat}
@@ -68,9 +69,6 @@ other_seat s past e p x a legal by en = seat_like (seat_of s (e ∷ past) p x) (
 -- of the entry's own
 own_after : Layout → List Entry → WorkerId → Reply → Option Task → Seat
 own_after s past w r o = record { enlisted = is_at (index_enlisted r) w.index || (not (is_retired r) && is_enlisted past w); run = o; asleep = asleep_after r (is_asleep past w) }
-
-pub by_itself : (e : Entry) (w : WorkerId) → e.who ≡ Worker w → is_by (Worker w) e ≡ true
-by_itself e w who = ap (λ x. same_who x (Worker w)) who ∙ same_worker_itself w
 
 pub pool_itself : (w : WorkerId) → same_pool w.pool w.pool ≡ true
 pool_itself w = (and_parts (same_pool w.pool w.pool) (w.index == w.index) (same_worker_itself w)).0
@@ -139,7 +137,7 @@ unfolding IsLegal
 starts_task s past e w n o legal who is =
     let number : number_started e.reply ≡ Some n = ap number_started is ∙ number_of_start n o in
     let st = starts_next s past e n legal number in
-    let same : st.worker ≡ w = worker_same st.worker w (sym st.by_worker ∙ who) in
+    let same : st.worker ≡ w = same_starter st.worker w (sym st.by_worker ∙ who) in
     let next_is : next s past w.pool ≡ Some st.queueing = subst (λ (v : WorkerId). next s past v.pool ≡ Some st.queueing) same st.is_next in
     let at : queueing_at past n ≡ Some st.queueing = ap (queueing_at past) (sym st.number) ∙ (next_holds s IsFound (λ f h x k. queueing_at-older f h x.number x k) queueings_found past w.pool st.queueing next_is).holds in
     record {
@@ -149,9 +147,6 @@ starts_task s past e w n o legal who is =
       runs = ap (λ q. option_map (task_for s) (option_and_then (queueing_at (e ∷ past)) q)) (own_run s past e w (started_reply n o) legal who is ∙ after_start n o (run past w)) ∙ ap (option_map (task_for s)) (queueing_at-older e past n st.queueing at);
       enlists = starts_enlist_alike s past w legal.2 ∙ sym (ap (enlisted_by s past) same) ∙ sym st.enlists ∙ ap index_enlisted is ∙ enlisted_in n o;
     }
-  where
-    worker_same : (v u : WorkerId) → Worker v ≡ Worker u → v ≡ u
-    worker_same v u h = cc
 
 started_seats : (s : Layout) (past : List Entry) (w : WorkerId) (t : Task) (o : Option ℕ) → next_task (pool_of s past w.pool) ≡ Some t → seats_enlisted_by (pool_of s past w.pool).seats w.index ≡ o
     → (start_next w.index (next_task (pool_of s past w.pool)) (pool_of s past w.pool)).seats ≡ with_enlisted o (with_seat (seat_running t) w.index (pool_of s past w.pool).seats)

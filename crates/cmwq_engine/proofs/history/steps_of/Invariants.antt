@@ -1,4 +1,4 @@
-use Rattle.std.proofs.Common.{◌≡◌, ◌+◌, length, take, fold}
+use Rattle.std.proofs.Common.{◌≡◌, ◌+◌, length, take}
 use Rattle.cmwq_model.specs.Legal.{past_of}
 use Rattle.cmwq_model.specs.Room.{steps}
 use Rattle.cmwq_engine.proofs.history.steps_of.Given as goal
