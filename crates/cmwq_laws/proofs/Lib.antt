@@ -49,3 +49,4 @@ pub mod StateSteps
 pub mod Marks
 pub mod Limits
 pub mod FirstWrong
+pub mod OfEachKind

@@ -1,10 +1,8 @@
 -- How many queueings are open at once.
-use Rattle.std.proofs.Common.{◌≡◌, ◌≤◌, ◌<◌, ◌+◌, ℕ, zero, suc, Bool, true, false, cond, not, ◌&&◌, List, [], ◌∷◌, length, length-append, filter, count_by, Option, Some, None, option_to_list, refl, sym, ap, ◌∙◌, subst, arith}
+use Rattle.std.proofs.Common.{◌≡◌, ◌≤◌, ◌<◌, ◌+◌, ℕ, Bool, true, false, cond, ◌&&◌, List, [], ◌∷◌, length, length-append, filter, count_by, Option, Some, None, option_to_list, refl, sym, ap, ◌∙◌, subst, arith}
 use Rattle.std.specs.Prelude.{◌*◌, is_some}
 use Rattle.std.specs.List.{AllByRecursion}
-use Rattle.std.proofs.lemmas.Bool.Decides.{nat_tests}
 use Rattle.std.proofs.lemmas.List.Filters.{length-filter_both, sum_by-filter_both}
-use Rattle.std.proofs.lemmas.List.Sums.{length-filter}
 use Rattle.cmwq_model.specs.declared.entry.Entry.{Entry}
 use Rattle.cmwq_model.specs.declared.record.Queueing.{Queueing}
 use Rattle.cmwq_model.specs.Layout.{Layout}
@@ -15,8 +13,8 @@ use Rattle.cmwq_model.specs.Legal.{IsLegal}
 use Rattle.cmwq_laws.specs.Endings.{is_spared, is_ended, ending}
 use Rattle.cmwq_laws.specs.RoomSteps.{one}
 use Rattle.cmwq_laws.specs.Sanity.{is_run_of}
-use Rattle.cmwq_laws.proofs.Lists.{All_map, All_append, All_each, All_filter, count_by-filter}
-use Rattle.cmwq_laws.proofs.Filters.{count_by-wider}
+use Rattle.cmwq_laws.proofs.Lists.{All_map, All_append, All_filter, count_by-filter}
+use Rattle.cmwq_laws.proofs.OfEachKind.{no_longer}
 use Rattle.cmwq_laws.proofs.Entries.{opening_item}
 use Rattle.cmwq_laws.proofs.Endings.{open_go_on}
 use Rattle.cmwq_laws.proofs.Ended.{one_ends}
@@ -81,38 +79,7 @@ unfolding queueings IsLegal
 queueings_below_items s [] legal = tt
 queueings_below_items s (e ∷ past) legal = All_append (ItemBelow s.items) (queueings past) (option_to_list (opening past e)) (queueings_below_items s past legal.2) (opening_below s past e (opening past e) legal refl)
 
--- a list with at most two of each of n items is no longer than twice as many
-no_item : (xs : List Queueing) → AllByRecursion (ItemBelow 0) xs → length xs ≤ 0
-no_item [] h = omega arith
-no_item (x ∷ xs) h = let none : x.item.0 < 0 = h.0 in absurd (omega arith)
-
-abbrev is_other : ℕ → Queueing → Bool
-is_other n x = not (is_of n x)
-
-no_longer : (n : ℕ) (xs : List Queueing) → AllByRecursion (ItemBelow n) xs → ((i : ℕ) → count_by (is_of i) xs ≤ 2) → length xs ≤ 2 * n
-no_longer zero xs below few = let none = no_item xs below in omega arith
-no_longer (suc n) xs below few =
-    let both = length-filter_both (is_of n) (is_other n) (λ x. refl) xs in
-    let here = length-filter (is_of n) xs in
-    let two = few n in
-    let rest = no_longer n (filter (is_other n) xs) (All_filter (ItemBelow n) (is_other n) xs (All_map (ItemBelow (suc n)) (λ x. is_other n x ≡ true → ItemBelow n x) xs lower below)) fewer in
-    omega arith
-  where
-    lower : (x : Queueing) → x.item.0 < suc n → is_other n x ≡ true → x.item.0 < n
-    lower x less other = grind (arith, nat_tests)
-
-    fewer : (i : ℕ) → count_by (is_of i) (filter (is_other n) xs) ≤ 2
-    fewer i =
-        let all : count_by (λ x. is_other n x && is_of i x) xs ≡ count_by (is_of i) (filter (is_other n) xs) = count_by-filter (λ x. is_other n x && is_of i x) (is_other n) (is_of i) xs (λ x. refl) in
-        let wider : count_by (λ x. is_other n x && is_of i x) xs ≤ count_by (is_of i) xs = count_by-wider (λ x. is_other n x && is_of i x) (is_of i) xs (All_each _ xs (λ x h. right (is_other n x) (is_of i x) h)) in
-        let two = few i in
-        omega arith
-      where
-        right : (a b : Bool) → (a && b) ≡ true → b ≡ true
-        right true b h = h
-        right false b h = cc
-
 pub two_for_each_item : (s : Layout) (past : List Entry) → IsLegal s past → length (still_open past) ≤ 2 * s.items
 two_for_each_item s past legal =
-    no_longer s.items (still_open past) (All_filter (ItemBelow s.items) (is_live past) (queueings past) (All_map (ItemBelow s.items) (λ x. is_live past x ≡ true → ItemBelow s.items x) (queueings past) (λ x below live. below) (queueings_below_items s past legal)))
+    no_longer (λ (x : Queueing). x.item.0) 2 s.items (still_open past) (All_filter (ItemBelow s.items) (is_live past) (queueings past) (All_map (ItemBelow s.items) (λ x. is_live past x ≡ true → ItemBelow s.items x) (queueings past) (λ x below live. below) (queueings_below_items s past legal)))
     (two_of_an_item s past legal)
