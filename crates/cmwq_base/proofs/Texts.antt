@@ -50,15 +50,6 @@ pieces_some text = by_feed (has_feed text) refl
 
 -- ---- how the first line was found
 
-record IsWhole (text : List ℕ) : Type 0 where
-  short : is_text_long text ≡ false
-  fed : has_feed text ≡ true
-
-record IsCut (text : List ℕ) : Type 0 where
-  short : is_text_long text ≡ false
-  unfed : has_feed text ≡ false
-  some : (length text == 0) ≡ false
-
 whole_found : (a b c : Bool) → Whole ≡ (if a then Long else if b then Whole else if c then End else Cut) → (a ≡ false) × (b ≡ true)
 whole_found true b c h = cc
 whole_found false true c h = (refl, refl)

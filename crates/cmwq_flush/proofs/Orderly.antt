@@ -127,17 +127,6 @@ orderly_left b rows t is = record {
 }
 
 -- a drain begins, and ends
-pub orderly_drain_begun : (b : FlushBook) (rows : List Row) (t : ℕ) → All (λ u. u < t) b.drains → HasRoom b → IsOrderly b rows → IsOrderly (record b { drains = b.drains ++ t ∷ [] }) rows
-orderly_drain_begun b rows t later has_room is = record {
-  older = is.older;
-  bounds_rise = is.bounds_rise;
-  bounds = is.bounds;
-  tickets_rise = is.tickets_rise;
-  drains_rise = all_pairs_push IsBelow b.drains t is.drains_rise later;
-  few = is.few;
-  room = let longer = length-append b.drains (t ∷ []) in omega arith;
-}
-
 pub orderly_drain_ended : (b : FlushBook) (rows : List Row) (t : ℕ) → IsOrderly b rows → IsOrderly (record b { drains = without t b.drains }) rows
 orderly_drain_ended b rows t is = record {
   older = is.older;

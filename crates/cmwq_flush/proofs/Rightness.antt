@@ -16,7 +16,7 @@ use Rattle.cmwq_flush.specs.Served.{ticket_of, tickets_of, IsOlder, HasTicketAt,
 use Rattle.cmwq_flush.specs.FlushBook.{FlushBook, new_book, flush_from, flush_tickets, served_of, IsReady, HasRoom, served_with_oldest, without_oldest, serve_oldest, after_end}
 use Rattle.cmwq_flush.specs.Colouring.{IsOrderly, IsColouring, IsRight}
 use Rattle.cmwq_flush.proofs.Search.{find_at_key, find_absent, absent_is_none, remove_at}
-use Rattle.cmwq_flush.proofs.Orderly.{orderly_opened, orderly_ended, orderly_overflow, orderly_served, orderly_removed, orderly_left, orderly_drain_begun, orderly_drain_ended, rising_served, rising_overflow, length_filter_le, All_left, All_right}
+use Rattle.cmwq_flush.proofs.Orderly.{orderly_opened, orderly_ended, orderly_overflow, orderly_served, orderly_removed, orderly_left, orderly_drain_ended, rising_served, rising_overflow, length_filter_le, All_left, All_right}
 use Rattle.cmwq_flush.proofs.Recolouring.{colouring_opened, colouring_ended, colouring_served, colouring_removed, ready_from_clear, clear_from_ready}
 
 split : (t : Bool) (r : Row) (rows : List Row) (ns : List ℕ) → numbers_of rows ≡ ns → numbers_of (cond t (r ∷ rows) rows) ≡ cond t (number_of r ∷ ns) ns
@@ -131,13 +131,6 @@ pub first_is_least : (rows : List Row) (o : Option ℕ) → o ≡ slice_get (num
 first_is_least [] o e rise = rw e tt
 first_is_least (r ∷ rows) o e rise =
     rw e (numbers_from_rows r.number (r ∷ rows) (λ k d lt. ⊎_elim (λ (later : 0 < k). let above = rise 0 k d later lt in omega arith) (λ (first : k ≤ 0). let here : k ≡ 0 = omega arith in rw here (omega arith)) (cases_lt 0 k)))
-
-pub right_drain_begun : (b : FlushBook) (rows : List Row) (colours : List ℕ) (t : ℕ) → All (λ u. u < t) b.drains → HasRoom b → IsRight b rows colours → IsRight (record b { drains = b.drains ++ t ∷ [] }) rows colours
-right_drain_begun b rows colours t later has_room is = record {
-  orderly = orderly_drain_begun b rows t later has_room is.orderly;
-  serving = is.serving;
-  colouring = is.colouring;
-}
 
 pub right_drain_ended : (b : FlushBook) (rows : List Row) (colours : List ℕ) (t : ℕ) → IsRight b rows colours → IsRight (record b { drains = without t b.drains }) rows colours
 right_drain_ended b rows colours t is = record {

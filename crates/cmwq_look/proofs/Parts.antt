@@ -75,10 +75,6 @@ upto-grows past k h =
     let g = drop-grows past (length past - (k + 1)) (omega arith) in
     (g.0, g.1 ∙ ap (λ j. g.0 ∷ drop j past) s)
 
-pub length-then : (latest : Option Entry) (entries : List Entry) → length (then latest (past_of entries)) ≤ suc (length entries)
-length-then None entries = omega (arith, length-reverse entries)
-length-then (Some e) entries = omega (arith, length-reverse entries)
-
 -- what a loop over all numbers begins and ends with
 pub ruleset ends = (upto-none, upto-all, length-upto)
 
