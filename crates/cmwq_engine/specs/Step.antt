@@ -10,7 +10,7 @@ use Rattle.cmwq_base.specs.Kinds.{call_file_of}
 use Rattle.cmwq_engine.specs.Ends.{Word, RunEnds, refusal_status}
 
 abbrev pub steps_in : File (Who × Call) → Steps
-steps_in f = steps f.layout f.items
+steps_in f = steps f.layout f.layout.room f.items
 
 -- the text of the history that the calls of a file make, with its shape
 abbrev pub answer_text : File (Who × Call) → List ℕ

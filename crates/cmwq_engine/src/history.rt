@@ -32,8 +32,8 @@ fn entry_for(shape: &Shape, entries: &[Entry], who: Who, call: Call) -> Entry
 /// Takes memory for the entries, and fails where there is none.
 pub fn steps_of(alloc: Global, shape: &Shape, calls: &[(Who, Call)]) -> Result<Steps, AllocError>
     requires { length calls.now ≤ 1000000 }
-    ensures past { IfOk result (λ r. past_of r.entries.items ≡ (steps shape.now calls.now).past) }
-    ensures left_out { IfOk result (λ r. r.left_out ≡ (steps shape.now calls.now).left_out) }
+    ensures past { IfOk result (λ r. past_of r.entries.items ≡ (steps shape.now shape.now.room calls.now).past) }
+    ensures left_out { IfOk result (λ r. r.left_out ≡ (steps shape.now shape.now.room calls.now).left_out) }
 {
     let mut entries = Vec::new(alloc);
     let mut left_out = 0;

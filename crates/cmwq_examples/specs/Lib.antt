@@ -5,3 +5,4 @@ pub mod Delays
 pub mod Waiting
 pub mod Overflow
 pub mod NoRoom
+pub mod Widths

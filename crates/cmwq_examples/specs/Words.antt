@@ -76,6 +76,18 @@ wake = call.Wake
 abbrev pub retire : Call
 retire = call.Retire
 
+abbrev pub set_max : ℕ → ℕ → Call
+set_max q n = call.SetMax (record { 0 = q }) n
+
+abbrev pub freeze : Call
+freeze = call.Freeze
+
+abbrev pub thaw : Call
+thaw = call.Thaw
+
+abbrev pub destroy : ℕ → Call
+destroy q = call.Destroy (record { 0 = q })
+
 abbrev pub fired : ℕ → ℕ → Reply
 fired i k = reply.Fired (record { 0 = i }) k
 
@@ -84,7 +96,11 @@ entry who serial call reply = record { who = who; serial = serial; call = call; 
 
 -- a queue: its max_active, whether it is high, and whether it is CPU intensive
 abbrev pub wq : ℕ → Bool → Bool → QueueShape
-wq max_active high intensive = record { max_active = max_active; high = high; intensive = intensive }
+wq max_active high intensive = record { max_active = max_active; high = high; intensive = intensive; freezable = false }
+
+-- a freezable one
+abbrev pub wqf : ℕ → QueueShape
+wqf max_active = record { max_active = max_active; high = false; intensive = false; freezable = true }
 
 -- CPUs, workers in each pool, callers, items, room, queues
 abbrev pub system : ℕ → ℕ → ℕ → ℕ → ℕ → List QueueShape → Layout
@@ -109,4 +125,4 @@ example_without n layout calls history = record { layout = layout; calls = calls
 
 -- the steps of the calls are the history
 abbrev pub Holds : Example → Type 0
-Holds x = steps x.layout x.calls ≡ record { past = past_of x.history; left_out = x.left_out }
+Holds x = steps x.layout x.layout.room x.calls ≡ record { past = past_of x.history; left_out = x.left_out }

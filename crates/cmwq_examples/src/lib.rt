@@ -8,6 +8,7 @@ ghost use Rattle.cmwq_examples.specs.Delays.{timer_at_its_tick, modify_replaces,
 ghost use Rattle.cmwq_examples.specs.Waiting.{flush_waits_for_older, cancel_sync_of_self_queueing, drain_refuses_others, flush_delayed_and_cancel_sync};
 ghost use Rattle.cmwq_examples.specs.Overflow.{sixteen_flushes};
 ghost use Rattle.cmwq_examples.specs.NoRoom.{no_room};
+ghost use Rattle.cmwq_examples.specs.Widths.{width_goes_up_and_down, frozen_and_thawed, queue_destroyed};
 
 /// An item is queued, started and finished.
 pub fn first_run()
@@ -109,6 +110,21 @@ pub fn no_room()
     ensures { Holds no_room }
 {}
 
+/// What is active stays so where the width falls, and no more becomes active before fewer than that are left.
+pub fn width_goes_up_and_down()
+    ensures { Holds width_goes_up_and_down }
+{}
+
+/// While a freezable queue is frozen, what was active starts and ends, and nothing more becomes active.
+pub fn frozen_and_thawed()
+    ensures { Holds frozen_and_thawed }
+{}
+
+/// A queue is destroyed once nothing of it is open, and is gone then.
+pub fn queue_destroyed()
+    ensures { Holds queue_destroyed }
+{}
+
 #[cfg(test)]
 mod tests {
     use super::*;
@@ -135,5 +151,8 @@ mod tests {
         flush_delayed_and_cancel_sync();
         sixteen_flushes();
         no_room();
+        width_goes_up_and_down();
+        frozen_and_thawed();
+        queue_destroyed();
     }
 }

@@ -6,6 +6,8 @@ use Rattle.cmwq_model.specs.Bookings.{booking}
 use Rattle.cmwq_model.specs.Fate.{is_cancelled}
 use Rattle.cmwq_model.specs.Runs.{last_start, item_start}
 use Rattle.cmwq_model.specs.Queueings.{queueings}
+use Rattle.cmwq_model.specs.Active.{is_active, activated}
+use Rattle.cmwq_model.specs.Widths.{width, max_active}
 use Rattle.cmwq_laws.specs.Illegal.{worker, RunInTwoWorkers, StartedTwice, StartedUnqueued, RunBeyondMaxActive, EndedEarly, Unsettled}
 
 false_is_true : false ≡ true → ⊥
@@ -29,8 +31,8 @@ unfolding queueings
 started_unqueued law = false_is_true (law.0 0 refl)
 
 pub run_beyond_max_active : RunBeyondMaxActive
-unfolding last_start is_cancelled queueings item_start IsDistinct
-run_beyond_max_active law = let more : 2 ≤ 1 = law 0 0 (worker 0 ∷ worker 1 ∷ []) ((refl, tt), (tt, tt)) (refl, (refl, tt)) in absurd (omega arith)
+unfolding last_start is_cancelled queueings item_start activated is_active width max_active
+run_beyond_max_active law = false_is_true (law.0 1 _ refl refl)
 
 pub ended_early : EndedEarly
 unfolding queueings is_cancelled item_start

@@ -168,11 +168,11 @@ module _ {X : Type 0} where
   any_head p x xs ys false true both rest h = or_right (p x) (list_any p ys) (rest h)
   any_head p x xs ys false false both rest h = rest h
 
-  any_wider : (p f g : X → Bool) (xs : List X) → ((x : X) → f x ≡ true → g x ≡ true) → list_any p (filter f xs) ≡ true → list_any p (filter g xs) ≡ true
+  pub any_wider : (p f g : X → Bool) (xs : List X) → ((x : X) → f x ≡ true → g x ≡ true) → list_any p (filter f xs) ≡ true → list_any p (filter g xs) ≡ true
   any_wider p f g [] wider h = h
   any_wider p f g (x ∷ xs) wider h = any_head p x (filter f xs) (filter g xs) (f x) (g x) (wider x) (any_wider p f g xs wider) h
 
-unended_before : (e : Entry) (past : List Entry) (t : Ticket) → is_unended (e ∷ past) t ≡ true → is_unended past t ≡ true
+pub unended_before : (e : Entry) (past : List Entry) (t : Ticket) → is_unended (e ∷ past) t ≡ true → is_unended past t ≡ true
 unended_before e past t h = grind arith
 
 data Cancelling (past : List Entry) (e : Entry) (i : ℕ) : Type 0 where

@@ -91,6 +91,7 @@ held_up past t (call.Flush q) x h = flush_waits past q.0 t x h
 held_up past t (call.FlushItem i) x h = h
 held_up past t (call.FlushDelayed i) x h = h
 held_up past t (call.Drain q) x h = h
+held_up past t (call.Destroy q) x h = h
 held_up past t c x h = cc
 
 none_of : (o : Option Queueing) → option_map (λ (x : Queueing). x.number) o ≡ None → o ≡ None

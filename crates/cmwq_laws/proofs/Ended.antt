@@ -18,7 +18,7 @@ use Rattle.cmwq_laws.specs.Endings.{is_ended, ending, number_ended}
 use Rattle.cmwq_laws.proofs.Lists.{All_each, All_map, All_filter, count_by-cons, count_by-none}
 use Rattle.cmwq_laws.proofs.Filters.{find_same, count_by-wider, none_found, filter_one}
 use Rattle.cmwq_laws.proofs.Rising.{open_rise}
-use Rattle.cmwq_laws.proofs.Order.{active_live}
+use Rattle.cmwq_laws.proofs.Joined.{active_live}
 use Rattle.cmwq_laws.proofs.Activated.{find_holds}
 use Rattle.cmwq_laws.proofs.StartsListed.{IsFound, queueings_found}
 use Rattle.cmwq_laws.proofs.RunsActive.{found_number, run_is_active}

@@ -1,7 +1,11 @@
 pub mod Lists
 pub mod Rising
 pub mod Inversions
+pub mod Fronts
+pub mod Joined
 pub mod Active
+pub mod Promoted
+pub mod AsBefore
 pub mod Waits
 pub mod QueueCases
 pub mod ModifyCases
@@ -29,6 +33,7 @@ pub mod OneEntry
 pub mod RunSteps
 pub mod ItemSteps
 pub mod Cancelling
+pub mod Gone
 pub mod Settled
 pub mod EndedOnce
 pub mod Ranks
@@ -36,6 +41,7 @@ pub mod Ended
 pub mod OneRun
 pub mod WorklistSteps
 pub mod NewlyActive
+pub mod Segments
 pub mod Pools
 pub mod Reasons
 pub mod Standing
@@ -44,6 +50,7 @@ pub mod Points
 pub mod OwedSteps
 pub mod OwedItems
 pub mod OwedWaiting
+pub mod OwedFrozen
 pub mod Promised
 pub mod StateSteps
 pub mod Marks

@@ -30,21 +30,21 @@ one_entry s past legal who call fit = record {
 
 -- ---- steps
 
-legal_step : (s : Layout) (t : Steps) (c : Who × Call) → fits s c.0 c.1 ≡ true → IsLegal s t.past → IsLegal s (step s t c).past
+legal_step : (s : Layout) (room : ℕ) (t : Steps) (c : Who × Call) → fits s c.0 c.1 ≡ true → IsLegal s t.past → IsLegal s (step s room t c).past
 unfolding IsLegal
-legal_step s t c fit legal = here (has_room s t.past c.0 c.1)
+legal_step s room t c fit legal = here (has_room s room t.past c.0 c.1)
   where
     here : (b : Bool) → let stepped : Steps = if b then record { past = entry_for s t.past c.0 c.1 ∷ t.past; left_out = t.left_out } else record { past = t.past; left_out = t.left_out + 1 } in IsLegal s stepped.past
     here true = (fit, refl, legal)
     here false = legal
 
-legal_on : (s : Layout) (t : Steps) (calls : List (Who × Call)) → AllByRecursion (λ c. fits s c.0 c.1 ≡ true) calls → IsLegal s t.past → IsLegal s (fold (step s) t calls).past
-legal_on s t [] fit legal = legal
-legal_on s t (c ∷ calls) fit legal = legal_on s (step s t c) calls fit.1 (legal_step s t c fit.0 legal)
+legal_on : (s : Layout) (room : ℕ) (t : Steps) (calls : List (Who × Call)) → AllByRecursion (λ c. fits s c.0 c.1 ≡ true) calls → IsLegal s t.past → IsLegal s (fold (step s room) t calls).past
+legal_on s room t [] fit legal = legal
+legal_on s room t (c ∷ calls) fit legal = legal_on s room (step s room t c) calls fit.1 (legal_step s room t c fit.0 legal)
 
-pub steps_are_legal : (s : Layout) (calls : List (Who × Call)) → AllByRecursion (λ c. fits s c.0 c.1 ≡ true) calls → IsLegal s (steps s calls).past
+pub steps_are_legal : (s : Layout) (room : ℕ) (calls : List (Who × Call)) → AllByRecursion (λ c. fits s c.0 c.1 ≡ true) calls → IsLegal s (steps s room calls).past
 unfolding IsLegal
-steps_are_legal s calls fit = legal_on s none calls fit tt
+steps_are_legal s room calls fit = legal_on s room none calls fit tt
 
 -- ---- serials
 

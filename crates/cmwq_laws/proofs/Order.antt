@@ -7,66 +7,17 @@ use Rattle.std.proofs.lemmas.Bool.{ltb-true}
 use Rattle.std.proofs.lemmas.Bool.Decides.{nat_tests}
 use Rattle.cmwq_model.specs.declared.entry.Entry.{Entry}
 use Rattle.cmwq_model.specs.declared.record.Queueing.{Queueing}
-use Rattle.cmwq_model.specs.Layout.{Layout, width_of}
+use Rattle.cmwq_model.specs.Layout.{Layout}
 use Rattle.cmwq_model.specs.Queueings.{queueings, opening, is_live, still_open}
-use Rattle.cmwq_model.specs.Active.{is_ahead, is_active, is_newly_active, newly_active, activated}
+use Rattle.cmwq_model.specs.Active.{is_active, is_newly_active, newly_active, activated}
 use Rattle.cmwq_laws.specs.Fidelity.{IsRising}
 use Rattle.cmwq_laws.specs.Order.{since, IsSooner, AreInOrder}
 use Rattle.cmwq_laws.proofs.Lists.{All_map, All_both, All_append, All_each, All_filter, count_by-head}
 use Rattle.cmwq_laws.proofs.Rising.{IsBelow, queueings_below, queueings_rise, rising_filter, opening_number}
 use Rattle.cmwq_laws.proofs.Opens.{open_before}
-
--- ---- once active, a queueing stays active while it is open
-
-module _ {X : Type 0} where
-  count_step : (p : X → Bool) (x : X) (m n : ℕ) (a b : Bool) → (a ≡ true → b ≡ true) → m ≤ n → cond (a && p x) 1 0 + m ≤ cond (b && p x) 1 0 + n
-  count_step p x m n true true h less = omega arith
-  count_step p x m n true false h less = let bad : false ≡ true = h refl in cc
-  count_step p x m n false b h less = omega arith
-
-  count_last : (p f : X → Bool) (o : Option X) → ((y : X) → o ≡ Some y → p y ≡ false) → count_by p (filter f (option_to_list o)) ≡ 0
-  count_last p f None h = refl
-  count_last p f (Some y) h = count_by-head p y [] (f y) ∙ ap (λ b. cond (f y && b) 1 0 + 0) (h y refl) ∙ none (f y)
-    where
-      none : (b : Bool) → cond (b && false) 1 0 + 0 ≡ 0
-      none true = refl
-      none false = refl
-
-  -- of the elements that pass f, and one more that fails p, no more pass p than of those that pass a wider test
-  count_narrower : (p f g : X → Bool) (xs : List X) (o : Option X) → AllByRecursion (λ x. f x ≡ true → g x ≡ true) xs → ((y : X) → o ≡ Some y → p y ≡ false)
-      → count_by p (filter f (xs ++ option_to_list o)) ≤ count_by p (filter g xs)
-  count_narrower p f g [] o h last = let none = count_last p f o last in omega arith
-  count_narrower p f g (x ∷ xs) o h last =
-      let rest = count_narrower p f g xs o h.1 last in
-      let here = count_step p x (count_by p (filter f (xs ++ option_to_list o))) (count_by p (filter g xs)) (f x) (g x) h.0 rest in
-      let left = count_by-head p x (filter f (xs ++ option_to_list o)) (f x) in
-      let right = count_by-head p x (filter g xs) (g x) in
-      omega arith
-
--- no more older ones are open on its queue and CPU than before
-fewer_ahead : (past : List Entry) (e : Entry) (x : Queueing) → x.number < length past → count_by (is_ahead x) (still_open (e ∷ past)) ≤ count_by (is_ahead x) (still_open past)
-unfolding queueings
-fewer_ahead past e x older = count_narrower (is_ahead x) (is_live (e ∷ past)) (is_live past) (queueings past) (opening past e)
-    (All_map (IsBelow (length past)) (λ y. is_live (e ∷ past) y ≡ true → is_live past y ≡ true) (queueings past) (λ y less. open_before e past y.item.0 y.number less) (queueings_below past))
-    (λ y opened. let number = opening_number past e y opened in grind (arith, nat_tests))
-
-pub stays_active : (s : Layout) (past : List Entry) (e : Entry) (x : Queueing) → x.number < length past → is_active s past x ≡ true → is_live (e ∷ past) x ≡ true → is_active s (e ∷ past) x ≡ true
-stays_active s past e x older active live = active_of (width_left active) live (fewer_ahead past e x older)
-  where
-    width_left : is_active s past x ≡ true → count_by (is_ahead x) (still_open past) < width_of s x.place.queue.0
-    width_left h = ltb-true _ _ (grind arith)
-
-    active_of : count_by (is_ahead x) (still_open past) < width_of s x.place.queue.0 → is_live (e ∷ past) x ≡ true
-        → count_by (is_ahead x) (still_open (e ∷ past)) ≤ count_by (is_ahead x) (still_open past) → is_active s (e ∷ past) x ≡ true
-    active_of less live fewer = grind (arith, nat_tests)
+use Rattle.cmwq_laws.proofs.Joined.{stays_active, active_older, active_live}
 
 -- ---- since when a queueing is active
-
-pub active_older : (s : Layout) (past : List Entry) (x : Queueing) → is_active s past x ≡ true → x.number < length past
-active_older s past x h = ltb-true x.number (length past) (grind arith)
-
-pub active_live : (s : Layout) (past : List Entry) (x : Queueing) → is_active s past x ≡ true → is_live past x ≡ true
-active_live s past x h = grind arith
 
 data Since (s : Layout) (e : Entry) (past : List Entry) (x : Queueing) (j : ℕ) : Type 0 where
   already : since s past x ≡ Some j → Since s e past x j
@@ -100,7 +51,7 @@ unfolding since
 still_active s [] x j h live = cc
 still_active s (e ∷ past) x j h live = elim (since_cases s e past x j h) [
   | already before ↦ let older = since_older s past x j before in
-      stays_active s past e x older (still_active s past x j before (open_before e past x.item.0 x.number older live)) live
+      stays_active s past e x (still_active s past x j before (open_before e past x.item.0 x.number older live)) live
   | at_once none active is ↦ active
 ]
 

@@ -17,6 +17,7 @@ use Rattle.cmwq_model.specs.Room.{has_not_started}
 use Rattle.cmwq_model.specs.Legal.{IsLegal}
 use Rattle.cmwq_laws.specs.Endings.{is_spared, is_ended, ending}
 use Rattle.cmwq_laws.specs.RoomSteps.{one, waiting_count, ends_unstarted}
+use Rattle.cmwq_laws.proofs.Joined.{listed_live}
 use Rattle.cmwq_laws.proofs.Lists.{All_each, count_by-cons, count_by-filter}
 use Rattle.cmwq_laws.proofs.Filters.{count_by-same, count_none, none_found}
 use Rattle.cmwq_laws.proofs.Points.{count_point}
@@ -73,7 +74,7 @@ number_there s past e n legal h =
     st = starts_listed s past e n legal (ap (λ o. is_at o n) h ∙ eq-eqb n n refl)
 
     there : option_map (λ (y : Queueing). y.number) (find (has_number n) (still_open past)) ≡ Some n
-    there = open_found past n st.queueing st.found (let listed = st.listed in grind arith)
+    there = open_found past n st.queueing st.found (listed_live s past st.worker.pool st.queueing st.listed)
 
     at : (b : Bool) → (count_by (has_number n) (still_open past) == 0) ≡ b → count_by (has_number n) (still_open past) ≤ 1 → count_by (has_number n) (still_open past) ≡ 1
     at true k few =

@@ -27,7 +27,7 @@ use Rattle.cmwq_laws.specs.Endings.{is_spared}
 use Rattle.cmwq_laws.specs.RunSteps.{ends_run}
 use Rattle.cmwq_laws.specs.Pools.{IsRunIn}
 use Rattle.cmwq_laws.proofs.Lists.{All_map, All_unfilter}
-use Rattle.cmwq_laws.proofs.Order.{active_live}
+use Rattle.cmwq_laws.proofs.Joined.{active_live, listed_live}
 use Rattle.cmwq_laws.proofs.RunsActive.{run_is_active}
 use Rattle.cmwq_laws.proofs.Activated.{find_holds}
 use Rattle.cmwq_laws.proofs.OneWorker.{is_at-true}
@@ -170,7 +170,7 @@ started_was s past e i n legal h item =
     let st = starts_listed s past e n legal (ap (λ o. is_at o n) h ∙ eq-eqb n n refl) in
     let known = found_known past n st.queueing st.found in
     let same : st.queueing.item.0 ≡ i = some_same _ _ (sym known.item ∙ ap (item_at past) st.number ∙ item) in
-    let live : is_live past st.queueing ≡ true = grind arith in
+    let live = listed_live s past st.worker.pool st.queueing st.listed in
     let new : is_started past st.queueing.number ≡ false = grind arith in
     let waits : is_unstarted past i st.queueing ≡ true = ap₂ (λ a b. a && not b) (eq-eqb st.queueing.item.0 i same) new in
     let found = find_holds (λ x. is_live past x ≡ true → is_unstarted past i x ≡ true → unstarted past i ≡ Some x) (has_number n) (queueings past) st.queueing (All_unfilter _ (is_live past) (queueings past) (unstarted_alone s past i legal.2)) st.found in

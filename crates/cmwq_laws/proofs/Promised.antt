@@ -21,7 +21,7 @@ use Rattle.cmwq_model.specs.Answer.{answer}
 use Rattle.cmwq_model.specs.Legal.{IsLegal, entry_for}
 use Rattle.cmwq_model.specs.Room.{Steps, workers, has_not_started, owed, needed, has_room, step, steps, none}
 use Rattle.cmwq_laws.specs.Endings.{ending, number_replaced}
-use Rattle.cmwq_laws.specs.RoomSteps.{one, ends_unstarted, settles_booked, is_slept, is_woke, is_promised}
+use Rattle.cmwq_laws.specs.RoomSteps.{one, ends_unstarted, settles_booked, is_slept, is_woke, is_frozen_now, is_thawed_now, is_promised}
 use Rattle.cmwq_laws.proofs.Lists.{All_each, count_by-none}
 use Rattle.cmwq_laws.proofs.Causes.{Cause, cause_of}
 use Rattle.cmwq_laws.proofs.Causes as cause
@@ -33,11 +33,13 @@ use Rattle.cmwq_laws.proofs.Ended.{ends_which}
 use Rattle.cmwq_laws.proofs.OwedSteps.{runs_counted, sleepers_counted}
 use Rattle.cmwq_laws.proofs.OwedItems.{tickets_counted, booked_counted}
 use Rattle.cmwq_laws.proofs.OwedWaiting.{waiting_counted}
+use Rattle.cmwq_laws.proofs.OwedFrozen.{frozen_counted}
+use Rattle.cmwq_model.specs.Widths.{is_frozen}
 
 -- ---- what a promised reply gives back is at least what it takes, and its own entry
 
 weight : (r : Reply) (op bk eu ub : ℕ) → op ≤ one (opens r) → bk ≤ one (is_some (due_in r)) → (is_some (number_cancelled r) ≡ true → eu ≡ 1) → (settles r ≡ true → ub ≡ 1) → is_promised r ≡ true
-    → 1 + 2 * op + one (is_some (number_started r)) + one (is_slept r) + 3 * bk + one (gives_ticket r) ≤ 2 * one (is_some (number_started r)) + 2 * eu + one (is_some (number_finished r)) + one (is_woke r) + 3 * ub + one (is_done r)
+    → 1 + 2 * op + one (is_some (number_started r)) + one (is_slept r) + 3 * bk + one (gives_ticket r) + one (is_frozen_now r) ≤ 2 * one (is_some (number_started r)) + 2 * eu + one (is_some (number_finished r)) + one (is_woke r) + 3 * ub + one (is_done r) + one (is_thawed_now r)
 weight (reply.Started n) op bk eu ub ho hb he hu h = omega arith
 weight (reply.StartedEnlist n x) op bk eu ub ho hb he hu h = omega arith
 weight (reply.Finished n) op bk eu ub ho hb he hu h = omega arith
@@ -48,6 +50,7 @@ weight reply.Unbooked op bk eu ub ho hb he hu h = let pays = hu refl in omega ar
 weight reply.Done op bk eu ub ho hb he hu h = omega arith
 weight (reply.TicketCancelled k n) op bk eu ub ho hb he hu h = let pays = he refl in omega arith
 weight (reply.TicketUnbooked k) op bk eu ub ho hb he hu h = let pays = hu refl in omega arith
+weight reply.Thawed op bk eu ub ho hb he hu h = omega arith
 weight r op bk eu ub ho hb he hu h = cc
 
 opened_most : (past : List Entry) (e : Entry) → one (is_some (opening past e)) ≤ one (opens e.reply)
@@ -111,37 +114,38 @@ promised_need_no_more s past e legal h =
     let sleepers = sleepers_counted s past e legal in
     let booked = booked_counted s past e legal in
     let tickets = tickets_counted s past e legal in
+    let frozen = frozen_counted s past e legal in
     omega arith
 
 -- ---- a history that is made by steps is within its room
 
 nothing_owed : (s : Layout) → needed s [] ≤ 0
-unfolding owed queueings booking last_start tickets
+unfolding owed queueings booking last_start tickets is_frozen
 nothing_owed s =
     let runs : count_by (has_run []) (workers s) ≡ 0 = count_by-none (has_run []) (workers s) (All_each _ (workers s) (λ w. refl)) in
     let sleepers : count_by (runs_asleep []) (workers s) ≡ 0 = count_by-none (runs_asleep []) (workers s) (All_each _ (workers s) (λ w. refl)) in
     let booked : count_by (is_booked []) (range_with_len 0 s.items) ≡ 0 = count_by-none (is_booked []) (range_with_len 0 s.items) (All_each _ (range_with_len 0 s.items) (λ i. refl)) in
     omega arith
 
-room_kept : (s : Layout) (t : Steps) (c : Who × Call) (b : Bool) → has_room s t.past c.0 c.1 ≡ b → needed s t.past ≤ s.room
-    → let stepped : Steps = if b then record { past = entry_for s t.past c.0 c.1 ∷ t.past; left_out = t.left_out } else record { past = t.past; left_out = t.left_out + 1 } in needed s stepped.past ≤ s.room
-room_kept s t c true h within = leb-true (needed s (entry_for s t.past c.0 c.1 ∷ t.past)) s.room h
-room_kept s t c false h within = within
+room_kept : (s : Layout) (room : ℕ) (t : Steps) (c : Who × Call) (b : Bool) → has_room s room t.past c.0 c.1 ≡ b → needed s t.past ≤ room
+    → let stepped : Steps = if b then record { past = entry_for s t.past c.0 c.1 ∷ t.past; left_out = t.left_out } else record { past = t.past; left_out = t.left_out + 1 } in needed s stepped.past ≤ room
+room_kept s room t c true h within = leb-true (needed s (entry_for s t.past c.0 c.1 ∷ t.past)) room h
+room_kept s room t c false h within = within
 
-within_room : (s : Layout) (calls : List (Who × Call)) (t : Steps) → needed s t.past ≤ s.room → needed s (fold (step s) t calls).past ≤ s.room
-within_room s [] t within = within
-within_room s (c ∷ calls) t within = within_room s calls (step s t c) (room_kept s t c (has_room s t.past c.0 c.1) refl within)
+within_room : (s : Layout) (room : ℕ) (calls : List (Who × Call)) (t : Steps) → needed s t.past ≤ room → needed s (fold (step s room) t calls).past ≤ room
+within_room s room [] t within = within
+within_room s room (c ∷ calls) t within = within_room s room calls (step s room t c) (room_kept s room t c (has_room s room t.past c.0 c.1) refl within)
 
-pub steps_within_room : (s : Layout) (calls : List (Who × Call)) → needed s (steps s calls).past ≤ s.room
-steps_within_room s calls = within_room s calls none (let zero = nothing_owed s in omega arith)
+pub steps_within_room : (s : Layout) (room : ℕ) (calls : List (Who × Call)) → needed s (steps s room calls).past ≤ room
+steps_within_room s room calls = within_room s room calls none (let zero = nothing_owed s in omega arith)
 
 -- ---- so a call that would have a promised reply has room after any steps
 
-pub promised_never_full : (s : Layout) (calls : List (Who × Call)) (who : Who) (call : Call) → AllByRecursion (λ c. fits s c.0 c.1 ≡ true) calls → fits s who call ≡ true
-    → is_promised (answer s (steps s calls).past who call) ≡ true → has_room s (steps s calls).past who call ≡ true
+pub promised_never_full : (s : Layout) (room : ℕ) (calls : List (Who × Call)) (who : Who) (call : Call) → AllByRecursion (λ c. fits s c.0 c.1 ≡ true) calls → fits s who call ≡ true
+    → is_promised (answer s (steps s room calls).past who call) ≡ true → has_room s room (steps s room calls).past who call ≡ true
 unfolding IsLegal
-promised_never_full s calls who call all fit h =
-    let past = (steps s calls).past in
-    let more : needed s (entry_for s past who call ∷ past) ≤ needed s past = promised_need_no_more s past (entry_for s past who call) (fit, refl, steps_are_legal s calls all) h in
-    let within = steps_within_room s calls in
-    le-leb (needed s (entry_for s past who call ∷ past)) s.room (omega arith)
+promised_never_full s room calls who call all fit h =
+    let past = (steps s room calls).past in
+    let more : needed s (entry_for s past who call ∷ past) ≤ needed s past = promised_need_no_more s past (entry_for s past who call) (fit, refl, steps_are_legal s room calls all) h in
+    let within = steps_within_room s room calls in
+    le-leb (needed s (entry_for s past who call ∷ past)) room (omega arith)

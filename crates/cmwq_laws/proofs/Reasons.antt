@@ -140,6 +140,7 @@ unbook_reason s past who c r other h = cc
 data IsTicketCall : Call → Type 0 where
   flush : (q : QueueId) → IsTicketCall (call.Flush q)
   drain : (q : QueueId) → IsTicketCall (call.Drain q)
+  destroy : (q : QueueId) → IsTicketCall (call.Destroy q)
   flush_item : (i : ItemId) → IsTicketCall (call.FlushItem i)
   flush_delayed : (i : ItemId) → IsTicketCall (call.FlushDelayed i)
   cancel_sync : (i : ItemId) → IsTicketCall (call.CancelSync i)
@@ -150,8 +151,9 @@ record GivesTicket (past : List Entry) (who : Who) (c : Call) (r : Reply) : Type
   is_call : IsTicketCall c
 
 gives : (s : Layout) (past : List Entry) (who : Who) (c : Call) (r : Reply) → Cause s past who c r → gives_ticket r ≡ true → GivesTicket past who c r
-gives s past who c r (cause.flushed w q free) h = record { free = free; number = refl; is_call = flush q }
-gives s past who c r (cause.drained w q free) h = record { free = free; number = refl; is_call = drain q }
+gives s past who c r (cause.flushed w q free there) h = record { free = free; number = refl; is_call = flush q }
+gives s past who c r (cause.drained w q free there) h = record { free = free; number = refl; is_call = drain q }
+gives s past who c r (cause.destroyed w q free there new none) h = record { free = free; number = refl; is_call = destroy q }
 gives s past who c r (cause.item_flushed w i free some) h = record { free = free; number = refl; is_call = flush_item i }
 gives s past who c r (cause.delayed_queued w i free clear was) h = record { free = free; number = refl; is_call = flush_delayed i }
 gives s past who c r (cause.delayed_flushed w i free none some) h = record { free = free; number = refl; is_call = flush_delayed i }
@@ -169,6 +171,7 @@ caller_makes : (s : Layout) (who : Who) (c : Call) → IsTicketCall c → IsTrue
 caller_makes s (Caller d) c k fit = (d, refl)
 caller_makes s (Worker w) c (flush q) fit = absurd (no_worker (nat_lt w.pool.cpu.0 s.cpus) (nat_lt w.index s.workers) _ fit)
 caller_makes s (Worker w) c (drain q) fit = absurd (no_worker (nat_lt w.pool.cpu.0 s.cpus) (nat_lt w.index s.workers) _ fit)
+caller_makes s (Worker w) c (destroy q) fit = absurd (no_worker (nat_lt w.pool.cpu.0 s.cpus) (nat_lt w.index s.workers) _ fit)
 caller_makes s (Worker w) c (flush_item i) fit = absurd (no_worker (nat_lt w.pool.cpu.0 s.cpus) (nat_lt w.index s.workers) _ fit)
 caller_makes s (Worker w) c (flush_delayed i) fit = absurd (no_worker (nat_lt w.pool.cpu.0 s.cpus) (nat_lt w.index s.workers) _ fit)
 caller_makes s (Worker w) c (cancel_sync i) fit = absurd (no_worker (nat_lt w.pool.cpu.0 s.cpus) (nat_lt w.index s.workers) _ fit)

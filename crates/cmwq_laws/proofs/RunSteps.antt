@@ -16,6 +16,7 @@ use Rattle.cmwq_model.specs.Runs.{is_number_open, last_start, run}
 use Rattle.cmwq_model.specs.Queueings.{is_live}
 use Rattle.cmwq_model.specs.Legal.{IsLegal}
 use Rattle.cmwq_laws.specs.RunSteps.{run_after}
+use Rattle.cmwq_laws.proofs.Joined.{listed_live}
 use Rattle.cmwq_laws.proofs.Entries.{item_at-older}
 use Rattle.cmwq_laws.proofs.Endings.{open_step}
 use Rattle.cmwq_laws.proofs.OneWorker.{is_at-true}
@@ -62,7 +63,7 @@ started_open s past e i n legal h item =
     let st = starts_listed s past e n legal (ap (λ o. is_at o n) h ∙ eq-eqb n n refl) in
     let known = found_known past n st.queueing st.found in
     let same : st.queueing.item.0 ≡ i = some_same _ _ (sym known.item ∙ ap (item_at past) st.number ∙ item) in
-    let live : is_live past st.queueing ≡ true = grind arith in
+    let live = listed_live s past st.worker.pool st.queueing st.listed in
     let was : is_open past i n ≡ true = sym (ap₂ (λ a b. is_open past a b) same st.number) ∙ live in
     let none = no_end e.reply n h in
     open_step past e i n (subst (λ m. m < length past) st.number known.older)

@@ -18,7 +18,7 @@ use Rattle.cmwq_model.specs.Legal.{IsLegal}
 use Rattle.cmwq_laws.proofs.Entries.{IsKnown, queueings_known, item_at-older}
 use Rattle.cmwq_laws.proofs.Opens.{open_before}
 use Rattle.cmwq_laws.proofs.Activated.{find_holds}
-use Rattle.cmwq_laws.proofs.Order.{stays_active, active_older}
+use Rattle.cmwq_laws.proofs.Joined.{stays_active}
 use Rattle.cmwq_laws.proofs.ItemRuns.{same_worker-true, last_start_cases, now, before, run_is, is_run, open_of_item, started_older}
 use Rattle.cmwq_laws.proofs.StartsListed.{queueing_at-older, starts_listed}
 
@@ -72,7 +72,7 @@ run_begins s past e w n legal by h is_live =
     record {
       queueing = st.queueing;
       found = found;
-      active = stays_active s past e st.queueing (active_older s past st.queueing was) was (live_of_number (e ∷ past) n st.queueing found is_live);
+      active = stays_active s past e st.queueing was (live_of_number (e ∷ past) n st.queueing found is_live);
       pool = subst (λ (v : WorkerId). same_pool (pool_at s st.queueing.place) v.pool ≡ true) same (listed_pool s past st.worker.pool st.queueing st.listed);
     }
 
@@ -82,7 +82,7 @@ run_goes_on s past e w n is_live r =
     record {
       queueing = r.queueing;
       found = found;
-      active = stays_active s past e r.queueing (active_older s past r.queueing r.active) r.active (live_of_number (e ∷ past) n r.queueing found is_live);
+      active = stays_active s past e r.queueing r.active (live_of_number (e ∷ past) n r.queueing found is_live);
       pool = r.pool;
     }
 

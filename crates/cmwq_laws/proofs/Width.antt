@@ -1,4 +1,4 @@
--- At most max_active workers of a CPU have runs of a queue: their runs are different numbers of active queueings.
+-- No more workers of a CPU have runs of a queue than are active there: their runs are different numbers of active queueings.
 use Rattle.std.proofs.Common.{◌≡◌, ◌≤◌, ◌==◌, ℕ, Bool, true, false, cond, ◌&&◌, ◌||◌, List, [], ◌∷◌, length, map, take, filter, find, Option, Some, None, refl, sym, ap, ◌∙◌, subst, arith}
 use Rattle.std.specs.Prelude.{option_and_then, option_map}
 use Rattle.std.specs.Option.{option_map_or}
@@ -13,17 +13,17 @@ use mathlib.Core.Bool.{beq}
 use Rattle.cmwq_model.specs.declared.id.WorkerId.{WorkerId}
 use Rattle.cmwq_model.specs.declared.entry.Entry.{Entry}
 use Rattle.cmwq_model.specs.declared.record.Queueing.{Queueing}
-use Rattle.cmwq_model.specs.Layout.{Layout, width_of, pool_at}
+use Rattle.cmwq_model.specs.Layout.{Layout, pool_at}
 use Rattle.cmwq_model.specs.Calls.{is_at, same_pool, same_worker, item_at}
 use Rattle.cmwq_model.specs.Runs.{run}
 use Rattle.cmwq_model.specs.Queueings.{queueings, queueing_at, queue_of, run_queue, has_number, is_live, still_open}
 use Rattle.cmwq_model.specs.Active.{is_active}
 use Rattle.cmwq_model.specs.Legal.{IsLegal}
-use Rattle.cmwq_laws.specs.Fidelity.{is_on, open_on}
-use Rattle.cmwq_laws.specs.Headline.{runs_queue_on, RunsWithinWidth}
+use Rattle.cmwq_laws.specs.Fidelity.{is_on, open_on, active_count}
+use Rattle.cmwq_laws.specs.Headline.{runs_queue_on, RunsWithinActive}
 use Rattle.cmwq_laws.proofs.Lists.{All_both}
 use Rattle.cmwq_laws.proofs.Active.{active_are_first}
-use Rattle.cmwq_laws.proofs.Order.{active_live}
+use Rattle.cmwq_laws.proofs.Joined.{active_live}
 use Rattle.cmwq_laws.proofs.ItemRuns.{one_worker}
 use Rattle.cmwq_laws.proofs.OneWorker.{is_at-true}
 use Rattle.cmwq_laws.proofs.RunsActive.{found_known, found_number, run_is_active}
@@ -160,14 +160,14 @@ active_members s past q c (w ∷ ws) runs n h = at (n == run_number past w) refl
         (number_is_member (run_number past w) runs.0.queueing (filter (is_active s past) (open_on past q c)) runs.0.found)
     at false is h later = later h
 
-pub runs_within_width : (s : Layout) (past : List Entry) → IsLegal s past → RunsWithinWidth s past
-runs_within_width s past legal q c ws distinct h =
+pub runs_within_active : (s : Layout) (past : List Entry) → IsLegal s past → RunsWithinActive s past
+runs_within_active s past legal q c ws distinct h =
     let runs = all_runs s past q c ws legal h in
     let xs = filter (is_active s past) (open_on past q c) in
     let few : length (map (run_number past) ws) ≤ length (map number_of xs) = length-le_from_is_member nat_eq_equiv (map (run_number past) ws) (map number_of xs) (numbers_distinct s past q c ws legal distinct runs)
     (active_members s past q c ws runs) in
     let workers = length-map ws (run_number past) in
     let actives = length-map xs number_of in
-    let first : length xs ≡ length (take (width_of s q) (open_on past q c)) = ap length (active_are_first s past q c) in
-    let taken = length-take (width_of s q) (open_on past q c) in
+    let first : length xs ≡ length (take (active_count s past q c) (open_on past q c)) = ap length (active_are_first s past q c) in
+    let taken = length-take (active_count s past q c) (open_on past q c) in
     omega arith

@@ -13,7 +13,8 @@ use Rattle.cmwq_laws.specs.Order.{IsWorklist}
 use Rattle.cmwq_laws.proofs.Lists.{All_map, All_both, All_append, All_filter}
 use Rattle.cmwq_laws.proofs.Rising.{opening_number}
 use Rattle.cmwq_laws.proofs.Activated.{activated_all}
-use Rattle.cmwq_laws.proofs.Order.{active_older, activated_in_order, in_order_filter}
+use Rattle.cmwq_laws.proofs.Order.{activated_in_order, in_order_filter}
+use Rattle.cmwq_laws.proofs.Joined.{active_older}
 
 module _ {X : Type 0} where
   contains_head : (x : X) (xs : List X) → Contains (x ∷ xs) x

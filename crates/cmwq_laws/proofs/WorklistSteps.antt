@@ -7,7 +7,7 @@ use Rattle.cmwq_model.specs.declared.entry.Entry.{Entry}
 use Rattle.cmwq_model.specs.declared.record.Queueing.{Queueing}
 use Rattle.cmwq_model.specs.Layout.{Layout}
 use Rattle.cmwq_model.specs.Fate.{number_started, starts, is_started}
-use Rattle.cmwq_model.specs.Queueings.{queueings, opening, is_live}
+use Rattle.cmwq_model.specs.Queueings.{queueings, queueing_at, opening, is_live}
 use Rattle.cmwq_model.specs.Active.{is_active, is_newly_active, newly_active, activated, is_listed, worklist}
 use Rattle.cmwq_model.specs.Legal.{IsLegal}
 use Rattle.cmwq_laws.specs.Endings.{is_spared}
@@ -16,11 +16,14 @@ use Rattle.cmwq_laws.proofs.Lists.{All_map, All_both, All_append, All_each, All_
 use Rattle.cmwq_laws.proofs.Filters.{filter_twice, filter_same}
 use Rattle.cmwq_laws.proofs.Rising.{IsBelow, queueings_below, opening_number}
 use Rattle.cmwq_laws.proofs.Opens.{open_before}
-use Rattle.cmwq_laws.proofs.Order.{stays_active, active_live, still_active, HasSince, activated_since}
+use Rattle.cmwq_laws.proofs.Order.{still_active, HasSince, activated_since}
+use Rattle.cmwq_laws.proofs.Joined.{stays_active, active_live, not_live}
 use Rattle.cmwq_laws.proofs.Activated.{activated_all}
 use Rattle.cmwq_laws.proofs.Entries.{IsKnown, known_more, queueings_known}
 use Rattle.cmwq_laws.proofs.ItemRuns.{starts_known}
 use Rattle.cmwq_laws.proofs.StartsListed.{IsFound, queueings_found, starts_listed}
+use Rattle.cmwq_laws.specs.Headline.{StartsActive}
+use Rattle.cmwq_laws.proofs.RunsActive.{found_number}
 use Rattle.cmwq_laws.proofs.Fresh.{not_told, not_started_yet}
 use Rattle.cmwq_laws.proofs.Endings.{live_goes_on}
 
@@ -55,7 +58,7 @@ older_found : (s : Layout) (past : List Entry) → AllByRecursion (IsOlder s pas
 older_found s past = All_both (IsBelow (length past)) (IsFound past) (IsOlder s past) (queueings past) (λ x less found. record { older = less; found = found }) (queueings_below past) (queueings_found past)
 
 started_active_more : (s : Layout) (past : List Entry) (e : Entry) (x : Queueing) → IsLegal s (e ∷ past) → IsOlder s past x → IsActiveOnce s past x → IsActiveOnce s (e ∷ past) x
-started_active_more s past e x legal old earlier started live = stays_active s past e x old.older (was (starts x.number e) refl) live
+started_active_more s past e x legal old earlier started live = stays_active s past e x (was (starts x.number e) refl) live
   where
     was : (b : Bool) → starts x.number e ≡ b → is_active s past x ≡ true
     was true h = starts_active s past e x legal old.found h
@@ -102,14 +105,14 @@ active_step : (s : Layout) (past : List Entry) (e : Entry) (x : Queueing) → x.
 active_step s past e x less since = at (is_active s past x) (is_spared past e x) refl refl
   where
     dead : is_live (e ∷ past) x ≡ false → is_active s (e ∷ past) x ≡ false
-    dead h = grind arith
+    dead h = not_live s (e ∷ past) x h
 
     ended : (b : Bool) → is_active s past x ≡ false → is_live past x ≡ b → is_live (e ∷ past) x ≡ false
     ended true inactive live = let bad : true ≡ false = sym (still_active s past x since.at since.is live) ∙ inactive in cc
     ended false inactive live = live_goes_on past e x less ∙ ap (λ b. b && is_spared past e x) live
 
     at : (a b : Bool) → is_active s past x ≡ a → is_spared past e x ≡ b → is_active s (e ∷ past) x ≡ (a && b)
-    at true true ha hb = stays_active s past e x less ha (live_goes_on past e x less ∙ ap₂ (λ a b. a && b) (active_live s past x ha) hb)
+    at true true ha hb = stays_active s past e x ha (live_goes_on past e x less ∙ ap₂ (λ a b. a && b) (active_live s past x ha) hb)
     at true false ha hb = dead (live_goes_on past e x less ∙ ap₂ (λ a b. a && b) (active_live s past x ha) hb)
     at false b ha hb = dead (ended (is_live past x) ha refl)
 
@@ -146,3 +149,15 @@ worklists_go_on s past e p legal =
   where
     all_active : AllByRecursion (λ x. is_active s (e ∷ past) x ≡ true) (newly_active s past e)
     all_active = All_filter (λ x. is_active s (e ∷ past) x ≡ true) (is_newly_active s past e) (queueings (e ∷ past)) (All_each _ (queueings (e ∷ past)) (λ x newly. grind arith))
+
+-- ---- only active queueings are started
+
+starts_only_active : (s : Layout) (past : List Entry) (e : Entry) → IsLegal s (e ∷ past) → (n : ℕ) (x : Queueing) → starts n e ≡ true → queueing_at past n ≡ Some x → is_active s past x ≡ true
+starts_only_active s past e legal n x h found =
+    let number : x.number ≡ n = found_number past n x found in
+    starts_active s past e x legal (subst (λ m. queueing_at past m ≡ Some x) (sym number) found) (subst (λ m. starts m e ≡ true) (sym number) h)
+
+pub only_active_start : (s : Layout) (past : List Entry) → IsLegal s past → StartsActive s past
+unfolding IsLegal
+only_active_start s [] legal = tt
+only_active_start s (e ∷ past) legal = (starts_only_active s past e legal, only_active_start s past legal.2)

@@ -7,7 +7,11 @@ use Rattle.cmwq_model.specs.declared.call.Call.TheVariants as call
 use Rattle.cmwq_model.specs.declared.reply.Reply.TheVariants as reply
 use Rattle.cmwq_model.specs.declared.entry.Entry.{Entry}
 use Rattle.cmwq_model.specs.declared.record.Queueing.{Queueing}
-use Rattle.cmwq_model.specs.Layout.{Layout, width_of}
+use Rattle.cmwq_model.specs.Layout.{Layout}
+use Rattle.cmwq_model.specs.Widths.{width}
+use Rattle.cmwq_model.specs.Active.{is_active, newly_active}
+use Rattle.cmwq_laws.specs.Fidelity.{open_on, active_count}
+
 use Rattle.cmwq_model.specs.Calls.{is_at, same_worker, entry_at, item_at}
 use Rattle.cmwq_model.specs.Fate.{starts, is_finished, is_cancelled}
 use Rattle.cmwq_model.specs.Runs.{run, item_runs}
@@ -49,16 +53,30 @@ StartsEarlier = OfEachEntry (λ past e. (n : ℕ) → starts n e ≡ true → is
 abbrev pub QueueingsStart : Type 0
 QueueingsStart = OfLegal (λ s. StartsEarlier)
 
--- ---- of the workers of a CPU at most max_active have runs of a queue: any list of different ones is no longer
+-- ---- where an entry makes a queueing active, no more than the width that then holds of its queue are active on its CPU after it
+
+abbrev pub WithinWidthAfter : Layout → List Entry → Entry → Type 0
+WithinWidthAfter s past e = AllByRecursion (λ x. count_by (is_active s (e ∷ past)) (open_on (e ∷ past) x.place.queue.0 x.place.cpu.0) ≤ width s (e ∷ past) x.place.queue.0) (newly_active s past e)
+
+abbrev pub ActiveWithinWidth : Type 0
+ActiveWithinWidth = OfLegal (λ s. OfEachEntry (WithinWidthAfter s))
+
+-- ---- and only active ones are started, so of the workers of a CPU no more have runs of a queue than are active there
+
+abbrev pub StartsActive : Layout → List Entry → Type 0
+StartsActive s = OfEachEntry (λ past e. (n : ℕ) (x : Queueing) → starts n e ≡ true → queueing_at past n ≡ Some x → is_active s past x ≡ true)
+
+abbrev pub OnlyActiveStart : Type 0
+OnlyActiveStart = OfLegal StartsActive
 
 abbrev pub runs_queue_on : List Entry → ℕ → ℕ → WorkerId → Bool
 runs_queue_on past q c w = is_at (run_queue past w) q && (w.pool.cpu.0 == c)
 
-abbrev pub RunsWithinWidth : Layout → List Entry → Type 0
-RunsWithinWidth s past = (q c : ℕ) (ws : List WorkerId) → IsDistinct same_worker ws → AllByRecursion (λ w. runs_queue_on past q c w ≡ true) ws → length ws ≤ width_of s q
+abbrev pub RunsWithinActive : Layout → List Entry → Type 0
+RunsWithinActive s past = (q c : ℕ) (ws : List WorkerId) → IsDistinct same_worker ws → AllByRecursion (λ w. runs_queue_on past q c w ≡ true) ws → length ws ≤ active_count s past q c
 
-abbrev pub RunsAreWithinMaxActive : Type 0
-RunsAreWithinMaxActive = OfLegal RunsWithinWidth
+abbrev pub RunsAreActive : Type 0
+RunsAreActive = OfLegal RunsWithinActive
 
 -- ---- where the end of a ticket is answered done, what was queued before the wait has ended
 
@@ -67,12 +85,13 @@ abbrev pub IsDone : Entry → ℕ → Type 0
 IsDone e t = (e.call ≡ call.End t) × (e.reply ≡ reply.Done)
 
 -- A flush of a queue waits for the queueings of the queue with lesser numbers than its own, a flush of an item for those
--- of the item up to its own number, a drain for all of its queue.
+-- of the item up to its own number, a drain and a destroy for all of its queue.
 abbrev pub is_waited_for : Call → ℕ → Queueing → Bool
 is_waited_for (call.Flush q) t x = (x.place.queue.0 == q.0) && nat_lt x.number t
 is_waited_for (call.FlushItem i) t x = (x.item.0 == i.0) && nat_le x.number t
 is_waited_for (call.FlushDelayed i) t x = (x.item.0 == i.0) && nat_le x.number t
 is_waited_for (call.Drain q) t x = x.place.queue.0 == q.0
+is_waited_for (call.Destroy q) t x = x.place.queue.0 == q.0
 is_waited_for c t x = false
 
 abbrev pub has_ended : List Entry → Queueing → Bool

@@ -9,7 +9,7 @@ use Rattle.cmwq_model.specs.declared.reply.Reply.TheVariants as reply
 use Rattle.cmwq_model.specs.declared.entry.Entry.{Entry}
 use Rattle.cmwq_model.specs.Layout.{Layout}
 use Rattle.cmwq_model.specs.Legal.{past_of}
-use Rattle.cmwq_laws.specs.Headline.{RunsInOneWorker, StartedOnce, StartsEarlier, RunsWithinWidth, WaitsEndAfter, CancelsSettle}
+use Rattle.cmwq_laws.specs.Headline.{RunsInOneWorker, StartedOnce, StartsEarlier, StartsActive, WaitsEndAfter, CancelsSettle}
 
 -- the only caller, and the first two workers of a CPU
 abbrev pub by_caller : ℕ → Call → Reply → Entry
@@ -27,7 +27,7 @@ queue i = call.Queue (record { 0 = i }) (record { 0 = 0 }) (record { 0 = 0 })
 
 -- its max_active is 1
 abbrev pub narrow : Layout
-narrow = record { cpus = 1; workers = 2; callers = 1; items = 2; room = 100; queues = record { max_active = 1; high = false; intensive = false } ∷ [] }
+narrow = record { cpus = 1; workers = 2; callers = 1; items = 2; room = 100; queues = record { max_active = 1; high = false; intensive = false; freezable = false } ∷ [] }
 
 -- an item that is queued again while it runs is started by a second worker at once
 abbrev pub started_beside_its_run : List Entry
@@ -69,7 +69,7 @@ started_inactive = past_of (
     [])
 
 abbrev pub RunBeyondMaxActive : Type 0
-RunBeyondMaxActive = RunsWithinWidth narrow started_inactive → ⊥
+RunBeyondMaxActive = StartsActive narrow started_inactive → ⊥
 
 -- a wait that begins after an item was queued ends before the item was started
 abbrev pub ended_early : Call → List Entry

@@ -3,10 +3,13 @@ pub mod Order
 pub mod Endings
 pub mod Pending
 pub mod Headline
+pub mod Gone
 pub mod Illegal
 pub mod Sanity
 pub mod RunSteps
 pub mod Activations
+pub mod Segments
+pub mod FirstWidths
 pub mod Pools
 pub mod Reasons
 pub mod TicketSteps

@@ -14,6 +14,7 @@ use Rattle.cmwq_model.specs.Fate.{number_started, number_finished}
 use Rattle.cmwq_model.specs.Runs.{has_run, runs_asleep}
 use Rattle.cmwq_model.specs.Queueings.{still_open, opening}
 use Rattle.cmwq_model.specs.Tickets.{gives_ticket, is_done, unended}
+use Rattle.cmwq_model.specs.Widths.{is_frozen}
 use Rattle.cmwq_model.specs.Answer.{answer}
 use Rattle.cmwq_model.specs.Legal.{IsLegal}
 use Rattle.cmwq_model.specs.Room.{workers, has_not_started, needed, has_room, steps}
@@ -72,6 +73,18 @@ BookedAreCounted = OfEntries (λ s past e. booked_count s (e ∷ past) + one (se
 abbrev pub TicketsAreCounted : Type 0
 TicketsAreCounted = OfEntries (λ s past e. length (unended (e ∷ past)) + one (is_done e.reply) ≡ length (unended past) + one (gives_ticket e.reply))
 
+-- one more while it is frozen
+abbrev pub is_frozen_now : Reply → Bool
+is_frozen_now reply.Frozen = true
+is_frozen_now r = false
+
+abbrev pub is_thawed_now : Reply → Bool
+is_thawed_now reply.Thawed = true
+is_thawed_now r = false
+
+abbrev pub FrozenAreCounted : Type 0
+FrozenAreCounted = OfEntries (λ s past e. one (is_frozen (e ∷ past)) + one (is_thawed_now e.reply) ≡ one (is_frozen past) + one (is_frozen_now e.reply))
+
 -- ---- room
 
 -- the replies of which room is promised
@@ -86,6 +99,7 @@ is_promised reply.Unbooked = true
 is_promised reply.Done = true
 is_promised (reply.TicketCancelled k n) = true
 is_promised (reply.TicketUnbooked k) = true
+is_promised reply.Thawed = true
 is_promised r = false
 
 -- they need no more room than the history did before
@@ -94,9 +108,9 @@ PromisedNeedNoMore = OfEntries (λ s past e. is_promised e.reply ≡ true → ne
 
 -- a history that is made by steps is within its room
 abbrev pub StepsAreWithinRoom : Type 0
-StepsAreWithinRoom = (s : Layout) (calls : List (Who × Call)) → needed s (steps s calls).past ≤ s.room
+StepsAreWithinRoom = (s : Layout) (room : ℕ) (calls : List (Who × Call)) → needed s (steps s room calls).past ≤ room
 
 -- so after any steps a call that would have such a reply has room
 abbrev pub PromisedAreNeverFull : Type 0
-PromisedAreNeverFull = (s : Layout) (calls : List (Who × Call)) (who : Who) (call : Call) → AllByRecursion (λ c. fits s c.0 c.1 ≡ true) calls → fits s who call ≡ true
-    → is_promised (answer s (steps s calls).past who call) ≡ true → has_room s (steps s calls).past who call ≡ true
+PromisedAreNeverFull = (s : Layout) (room : ℕ) (calls : List (Who × Call)) (who : Who) (call : Call) → AllByRecursion (λ c. fits s c.0 c.1 ≡ true) calls → fits s who call ≡ true
+    → is_promised (answer s (steps s room calls).past who call) ≡ true → has_room s room (steps s room calls).past who call ≡ true

@@ -31,7 +31,7 @@ CallsHaveOneEntry = OfLegal (λ s past. (who : Who) (call : Call) → fits s who
 -- ---- the steps of calls that fit are a legal history
 
 abbrev pub StepsAreLegal : Type 0
-StepsAreLegal = (s : Layout) (calls : List (Who × Call)) → AllByRecursion (λ c. fits s c.0 c.1 ≡ true) calls → IsLegal s (steps s calls).past
+StepsAreLegal = (s : Layout) (room : ℕ) (calls : List (Who × Call)) → AllByRecursion (λ c. fits s c.0 c.1 ≡ true) calls → IsLegal s (steps s room calls).past
 
 -- ---- the serials of a caller's entries are 0, 1, 2, .. from the oldest on, and so are a worker's
 

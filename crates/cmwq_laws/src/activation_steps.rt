@@ -1,6 +1,8 @@
 //! What one more entry makes active, and what it does to the worklists.
 
-ghost use Rattle.cmwq_laws.specs.Activations.{WorklistsGoOn, StartedAreActive, NewlyActiveAre, OpenedHaveWay, ActiveStay};
+ghost use Rattle.cmwq_laws.specs.Activations.{WorklistsGoOn, StartedAreActive, NewlyActiveAre, OpenedHaveWay, ActiveStay, ActiveGoOn, NewlyActiveOn, WidenedMakeActive};
+
+ghost use Rattle.cmwq_laws.specs.Segments.{ActiveByLooks};
 
 /// A pool's worklist after an entry: what is neither ended nor started, then what became active in that pool.
 pub fn worklists_go_on()
@@ -28,6 +30,27 @@ pub fn active_stay()
     ensures { ActiveStay }
 {}
 
+/// After an entry a queueing is active where it is open and was active, or has way now.
+pub fn active_go_on()
+    ensures { ActiveGoOn }
+{}
+
+/// What an entry makes active on a queue and CPU: the first of those that wait there, as many as the width that then
+/// holds leaves beside those that stay active.
+pub fn newly_active_on()
+    ensures { NewlyActiveOn }
+{}
+
+/// Where a width is set, or the system thawed, what waits and has way now becomes active.
+pub fn widened_make_active()
+    ensures { WidenedMakeActive }
+{}
+
+/// A queueing is active where it is open and has way, or had way just before an entry that changed a width.
+pub fn active_by_looks()
+    ensures { ActiveByLooks }
+{}
+
 #[cfg(test)]
 mod tests {
     use super::*;
@@ -39,5 +62,9 @@ mod tests {
         newly_active_are();
         opened_have_way();
         active_stay();
+        active_go_on();
+        active_by_looks();
+        newly_active_on();
+        widened_make_active();
     }
 }

@@ -1,6 +1,6 @@
 //! What a user of the runtime relies on, in every legal history.
 
-ghost use Rattle.cmwq_laws.specs.Headline.{CancelSyncsSettle, CancelledStayIdle, FlushesEndAfterAllBefore, ItemsRunInOneWorker, NumbersStartOnce, QueueingsStart, RunsAreWithinMaxActive};
+ghost use Rattle.cmwq_laws.specs.Headline.{CancelSyncsSettle, CancelledStayIdle, FlushesEndAfterAllBefore, ItemsRunInOneWorker, NumbersStartOnce, QueueingsStart, ActiveWithinWidth, OnlyActiveStart, RunsAreActive};
 
 /// No two workers have runs of one item.
 pub fn items_run_in_one_worker()
@@ -17,9 +17,19 @@ pub fn queueings_start()
     ensures { QueueingsStart }
 {}
 
-/// At most max_active workers of a CPU have runs of a queue.
-pub fn runs_are_within_max_active()
-    ensures { RunsAreWithinMaxActive }
+/// Where an entry makes a queueing active, no more than the width that then holds of its queue are active on its CPU after it.
+pub fn active_are_within_width()
+    ensures { ActiveWithinWidth }
+{}
+
+/// Only active queueings are started.
+pub fn only_active_start()
+    ensures { OnlyActiveStart }
+{}
+
+/// No more workers of a CPU have runs of a queue than are active there.
+pub fn runs_are_active()
+    ensures { RunsAreActive }
 {}
 
 /// A flush is answered done only after all that was queued before it has ended, and so is a flush of an item and a
@@ -47,7 +57,9 @@ mod tests {
         items_run_in_one_worker();
         numbers_start_once();
         queueings_start();
-        runs_are_within_max_active();
+        active_are_within_width();
+        only_active_start();
+        runs_are_active();
         flushes_end_after_all_before();
         cancel_syncs_settle();
         cancelled_stay_idle();

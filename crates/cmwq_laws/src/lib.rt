@@ -2,6 +2,8 @@
 #![tactic(auto)]
 
 mod activation_steps;
+mod before;
+mod destroys;
 mod fidelity;
 mod headline;
 mod illegal;
@@ -16,15 +18,17 @@ mod ticket_steps;
 mod verdicts;
 
 pub use activation_steps::{
-    active_stay, newly_active_are, opened_have_way, started_are_active, worklists_go_on,
+    active_by_looks, active_go_on, newly_active_on, widened_make_active, active_stay, newly_active_are, opened_have_way, started_are_active, worklists_go_on,
 };
+pub use before::{active_are_as_before, legal_are_as_before};
+pub use destroys::{gone_stay_empty, gone_stay_gone};
 pub use fidelity::{
     active_are_first, queueings_stand_by_number, replies_name_themselves, runs_are_items,
     tickets_wait_for_least, worklists_are_in_order,
 };
 pub use headline::{
     cancel_syncs_settle, cancelled_stay_idle, flushes_end_after_all_before,
-    items_run_in_one_worker, numbers_start_once, queueings_start, runs_are_within_max_active,
+    items_run_in_one_worker, numbers_start_once, queueings_start, active_are_within_width, only_active_start, runs_are_active,
 };
 pub use illegal::illegal_histories_break_laws;
 pub use item_pools::{
@@ -42,7 +46,7 @@ pub use reply_reasons::{
     tickets_are_for_callers, ticks_tell_now, unbooked_were_booked, wakers_are_asleep,
 };
 pub use room_steps::{
-    booked_are_counted, promised_are_never_full, promised_need_no_more, runs_are_counted,
+    booked_are_counted, frozen_is_counted, promised_are_never_full, promised_need_no_more, runs_are_counted,
     sleepers_are_counted, steps_are_within_room, tickets_are_counted, waiting_are_counted,
 };
 pub use run_steps::{items_are_run_by_their_workers, items_run_on, workers_run_on};

@@ -1,6 +1,6 @@
 //! What a history owes after one more entry, and which replies are never refused for want of room.
 
-ghost use Rattle.cmwq_laws.specs.RoomSteps.{WaitingAreCounted, RunsAreCounted, SleepersAreCounted, BookedAreCounted, TicketsAreCounted, PromisedNeedNoMore, StepsAreWithinRoom, PromisedAreNeverFull};
+ghost use Rattle.cmwq_laws.specs.RoomSteps.{WaitingAreCounted, RunsAreCounted, SleepersAreCounted, BookedAreCounted, TicketsAreCounted, FrozenAreCounted, PromisedNeedNoMore, StepsAreWithinRoom, PromisedAreNeverFull};
 
 /// One less waits for what is started, and for what is ended unstarted, and one more for what is opened.
 pub fn waiting_are_counted()
@@ -42,6 +42,11 @@ pub fn promised_are_never_full()
     ensures { PromisedAreNeverFull }
 {}
 
+/// One more is owed where the system is frozen, and one less where it is thawed.
+pub fn frozen_is_counted()
+    ensures { FrozenAreCounted }
+{}
+
 #[cfg(test)]
 mod tests {
     use super::*;
@@ -53,6 +58,7 @@ mod tests {
         sleepers_are_counted();
         booked_are_counted();
         tickets_are_counted();
+        frozen_is_counted();
         promised_need_no_more();
         steps_are_within_room();
         promised_are_never_full();

@@ -10,7 +10,8 @@ use Rattle.cmwq_model.specs.Bookings.{settles, booking, booking_of}
 use Rattle.cmwq_model.specs.Fate.{is_started, is_cancelled, takes_back, replaces, number_started}
 use Rattle.cmwq_model.specs.Runs.{last_start, is_asleep, asleep_after, item_start, starts_item, start_in}
 use Rattle.cmwq_model.specs.Queueings.{queueings, opening, still_open, is_live}
-use Rattle.cmwq_model.specs.Tickets.{tickets, ticket_in, unended, is_unended}
+use Rattle.cmwq_model.specs.Tickets.{is_done, ends_destroy, is_gone, tickets, ticket_in, unended, is_unended}
+use Rattle.cmwq_model.specs.Widths.{frozen_after, is_frozen}
 use Rattle.cmwq_look.specs.Past.{open_upto, unended_upto}
 use Rattle.cmwq_look.proofs.Parts.{upto-none, upto-all}
 
@@ -102,3 +103,23 @@ unfolding unended_upto
 unended_all past k h = ap (λ p. filter (is_unended past) (tickets p)) (upto-all past k h)
 
 pub ruleset unended_ends = (unended_none, unended_all)
+
+pub frozen_none : is_frozen [] ≡ false
+unfolding is_frozen
+frozen_none = refl
+
+pub frozen_step : (e : Entry) (past : List Entry) → is_frozen (e ∷ past) ≡ frozen_after e.reply (is_frozen past)
+unfolding is_frozen
+frozen_step e past = refl
+
+pub ruleset frozen_steps = (frozen_none, frozen_step)
+
+pub gone_none : (q : ℕ) → is_gone [] q ≡ false
+unfolding is_gone
+gone_none q = refl
+
+pub gone_step : (e : Entry) (past : List Entry) (q : ℕ) → is_gone (e ∷ past) q ≡ (is_gone past q || (is_done e.reply && ends_destroy past q e.who e.call))
+unfolding is_gone
+gone_step e past q = refl
+
+pub ruleset gone_steps = (gone_none, gone_step)

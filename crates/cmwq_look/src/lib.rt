@@ -9,6 +9,7 @@ mod queueings;
 mod runs;
 mod tally;
 mod tickets;
+mod widths;
 
 pub use bookings::{booking, is_booked, stands};
 pub use entries::{booking_of, is_by, is_same_pool};
@@ -19,7 +20,10 @@ pub use queueings::{
 };
 pub use runs::{has_run, item_run, item_runs, run, runs_asleep, runs_awake};
 pub use tally::{now, serial_of};
-pub use tickets::{flushes, is_cancelling, is_crowded, is_draining, ticket_of, unended_at};
+pub use tickets::{
+    flushes, is_being_destroyed, is_cancelling, is_crowded, is_draining, is_gone, ticket_of, unended_at,
+};
+pub use widths::{is_frozen, width_set};
 
 #[cfg(test)]
 mod tests;

@@ -1,5 +1,5 @@
 ghost use Rattle.std.specs.Prelude.{◌≡◌, ◌<◌, ◌+◌, ◌++◌, length, option_to_list};
-ghost use Rattle.cmwq_model.specs.Tickets.{gives_ticket, ticket_for, ticket_in, tickets, is_end_of, is_done, ends, is_unended, cancels_sync, drains, flushes, is_cancelling, is_draining, is_held_by, is_crowded, is_ticket, ticket_of};
+ghost use Rattle.cmwq_model.specs.Tickets.{gives_ticket, ticket_for, ticket_in, tickets, is_end_of, is_done, ends, is_unended, cancels_sync, drains, destroys, flushes, is_cancelling, is_draining, is_being_destroyed, ends_destroy, is_gone, is_held_by, is_crowded, is_ticket, ticket_of};
 ghost use Rattle.cmwq_look.specs.Past.{upto, unended_upto};
 
 use crate::entries::is_by;
@@ -131,9 +131,62 @@ fn drains(queue: u8, call: Call) -> bool
     ensures { result ≡ drains queue call }
 {
     match call {
-        Call::Drain { queue: other } => other.0 == queue,
+        Call::Drain { queue: other } | Call::Destroy { queue: other } => other.0 == queue,
         _ => false,
     }
+}
+
+/// Whether a destroy of the queue is unended.
+#[tactic(auto, using(crate::proofs::Lists::any_push, crate::proofs::Steps::unended_ends))]
+pub fn is_being_destroyed(past: &Past<'_>, queue: u8) -> bool
+    ensures { result ≡ is_being_destroyed past.now queue }
+{
+    let mut destroying = false;
+    for k in 0..past.len() {
+        if let Some(ticket) = unended_at(past, k) {
+            if destroys(queue, ticket.call) {
+                destroying = true;
+            }
+        }
+    }
+    destroying
+}
+
+fn destroys(queue: u8, call: Call) -> bool
+    ensures { result ≡ destroys queue call }
+{
+    match call {
+        Call::Destroy { queue: other } => other.0 == queue,
+        _ => false,
+    }
+}
+
+/// Whether the call asks for the end of an unended destroy of the queue.
+fn ends_destroy(past: &Past<'_>, queue: u8, who: Who, call: Call) -> bool
+    ensures { result ≡ ends_destroy past.now queue who call }
+{
+    match call {
+        Call::End { ticket } => match ticket_of(past, who, ticket) {
+            Some(ticket) => destroys(queue, ticket.call),
+            None => false,
+        },
+        _ => false,
+    }
+}
+
+/// Whether the queue is gone: the end of a destroy of it was answered done.
+#[tactic(auto, using(crate::proofs::Parts::ends, crate::proofs::Steps::gone_steps))]
+pub fn is_gone(past: &Past<'_>, queue: u8) -> bool
+    ensures { result ≡ is_gone past.now queue }
+{
+    let mut gone = false;
+    for k in 0..past.len() {
+        let entry = past.at(k);
+        gone = gone
+            || (matches!(entry.reply, Reply::Done)
+                && ends_destroy(&past.before(k), queue, entry.who, entry.call));
+    }
+    gone
 }
 
 /// Whether such a call flushes the queue.

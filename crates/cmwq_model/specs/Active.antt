@@ -1,10 +1,11 @@
 -- Active queueings, and the order in which a pool starts them.
-use Rattle.std.specs.Prelude.{Bool, ◌&&◌, not, ◌==◌, List, [], ◌∷◌, ◌++◌, filter, find, count_by, Option, nat_lt}
+use Rattle.std.specs.Prelude.{Bool, false, ◌&&◌, ◌||◌, not, ◌==◌, List, [], ◌∷◌, ◌++◌, filter, find, count_by, Option, nat_lt}
 use Rattle.cmwq_model.specs.declared.id.PoolId.{PoolId}
 use Rattle.cmwq_model.specs.declared.entry.Entry.{Entry}
 use Rattle.cmwq_model.specs.declared.record.Place.{Place}
 use Rattle.cmwq_model.specs.declared.record.Queueing.{Queueing}
-use Rattle.cmwq_model.specs.Layout.{Layout, width_of, pool_at}
+use Rattle.cmwq_model.specs.Layout.{Layout, pool_at}
+use Rattle.cmwq_model.specs.Widths.{width}
 use Rattle.cmwq_model.specs.Calls.{same_pool}
 use Rattle.cmwq_model.specs.Fate.{is_started}
 use Rattle.cmwq_model.specs.Runs.{item_runs}
@@ -17,9 +18,14 @@ same_place p r = (p.queue.0 == r.queue.0) && (p.cpu.0 == r.cpu.0)
 abbrev pub is_ahead : Queueing → Queueing → Bool
 is_ahead x y = same_place y.place x.place && nat_lt y.number x.number
 
--- active: open, with fewer older open ones on its queue and CPU than the queue is wide
-abbrev pub is_active : Layout → List Entry → Queueing → Bool
-is_active s past x = is_live past x && nat_lt (count_by (is_ahead x) (still_open past)) (width_of s x.place.queue.0)
+-- there is way: fewer older ones are open on its queue and CPU than the queue is wide
+abbrev pub has_way : Layout → List Entry → Queueing → Bool
+has_way s past x = nat_lt (count_by (is_ahead x) (still_open past)) (width s past x.place.queue.0)
+
+-- active: open, and active before the last entry or with way now; so what has become active stays so while it is open
+unfoldable pub is_active : Layout → List Entry → Queueing → Bool
+is_active s [] x = false
+is_active s (e ∷ past) x = is_live (e ∷ past) x && (is_active s past x || has_way s (e ∷ past) x)
 
 -- what an entry made active, by number
 abbrev pub is_newly_active : Layout → List Entry → Entry → Queueing → Bool

@@ -1,5 +1,5 @@
 -- The one answer to each call: the first case that applies, in the order in which the cases stand.
-use Rattle.std.specs.Prelude.{ℕ, ◌+◌, Bool, true, false, ◌&&◌, ◌||◌, not, ◌==◌, if◌then◌else◌, List, length, filter, find, Option, Some, None, nat_lt, nat_le}
+use Rattle.std.specs.Prelude.{ℕ, ◌+◌, Bool, true, false, ◌&&◌, ◌||◌, not, ◌==◌, if◌then◌else◌, List, length, filter, find, Option, Some, None, min, nat_lt, nat_le}
 use Rattle.std.specs.List.{list_any}
 use Rattle.std.specs.Option.{option_map_or}
 use Rattle.cmwq_model.specs.declared.id.WorkerId.{WorkerId}
@@ -18,9 +18,10 @@ use Rattle.cmwq_model.specs.Calls.{is_at, now}
 use Rattle.cmwq_model.specs.Bookings.{booking, is_booked, standing}
 use Rattle.cmwq_model.specs.Runs.{run, has_run, runs_awake, runs_asleep}
 use Rattle.cmwq_model.specs.Queueings.{unstarted, is_pending, is_item_open, run_queue, runs_elsewhere}
+use Rattle.cmwq_model.specs.Widths.{is_frozen}
 use Rattle.cmwq_model.specs.Active.{next}
 use Rattle.cmwq_model.specs.Workers.{is_enlisted, runnable, enlisted_by, may_retire}
-use Rattle.cmwq_model.specs.Tickets.{is_cancelling, is_draining, is_crowded, ticket_of}
+use Rattle.cmwq_model.specs.Tickets.{is_cancelling, is_draining, is_being_destroyed, is_gone, is_crowded, ticket_of}
 use Rattle.cmwq_model.specs.Waits.{waits_for}
 
 -- a worker may call only from a run that is awake
@@ -40,6 +41,7 @@ is_shut past who q ticks = is_draining past q && (not (runs_on past who q) || na
 unfoldable pub queue_answer : List Entry → Who → ℕ → ℕ → ℕ → Reply
 queue_answer past who i q ticks =
     if not (may_call past who) then reply.Misuse
+    else if is_gone past q then reply.Gone
     else if is_cancelling past i then reply.No
     else if is_pending past i then reply.No
     else if runs_elsewhere past i q then reply.Foreign
@@ -50,6 +52,7 @@ queue_answer past who i q ticks =
 unfoldable pub modify_answer : List Entry → Who → ℕ → ℕ → ℕ → Reply
 modify_answer past who i q ticks =
     if not (may_call past who) then reply.Misuse
+    else if is_gone past q then reply.Gone
     else if is_cancelling past i then reply.No
     else if runs_elsewhere past i q then reply.Foreign
     else if is_shut past who q ticks then reply.Draining
@@ -86,6 +89,27 @@ first_due past = soonest (filter (may_fire past) (standing past))
 abbrev pub fired : Option Booking → ℕ → Reply
 fired None k = reply.Nothing
 fired (Some b) k = reply.Fired b.item k
+
+-- flush and drain
+unfoldable pub wait_answer : List Entry → Who → ℕ → Reply
+wait_answer past who q =
+    if is_gone past q then reply.Gone
+    else if is_crowded past who then reply.Crowded
+    else reply.Ticket (length past)
+
+abbrev pub is_booked_on : ℕ → Booking → Bool
+is_booked_on q b = b.place.queue.0 == q
+
+unfoldable pub destroy_answer : List Entry → Who → ℕ → Reply
+destroy_answer past who q =
+    if is_gone past q then reply.Gone
+    else if is_being_destroyed past q then reply.Draining
+    else if list_any (is_booked_on q) (standing past) then reply.Timers
+    else if is_crowded past who then reply.Crowded
+    else reply.Ticket (length past)
+
+unfoldable pub set_max_answer : List Entry → ℕ → ℕ → Reply
+set_max_answer past q n = if is_gone past q then reply.Gone else reply.Width (min n 512)
 
 unfoldable pub flush_item_answer : List Entry → Who → ℕ → Reply
 flush_item_answer past who i =
@@ -168,8 +192,8 @@ answer s past who (call.Modify i q c ticks) = modify_answer past who i.0 q.0 tic
 answer s past who (call.Cancel i) = cancel_answer past who i.0
 answer s past who (call.Tick ticks) = reply.Now (now past + ticks)
 answer s past who call.Fire = fired (first_due past) (length past)
-answer s past who (call.Flush q) = if is_crowded past who then reply.Crowded else reply.Ticket (length past)
-answer s past who (call.Drain q) = if is_crowded past who then reply.Crowded else reply.Ticket (length past)
+answer s past who (call.Flush q) = wait_answer past who q.0
+answer s past who (call.Drain q) = wait_answer past who q.0
 answer s past who (call.FlushItem i) = flush_item_answer past who i.0
 answer s past who (call.FlushDelayed i) = flush_delayed_answer past who i.0
 answer s past who (call.CancelSync i) = cancel_sync_answer past who i.0
@@ -179,3 +203,7 @@ answer s past who call.Finish = own_answer s past who call.Finish
 answer s past who call.Sleep = own_answer s past who call.Sleep
 answer s past who call.Wake = own_answer s past who call.Wake
 answer s past who call.Retire = own_answer s past who call.Retire
+answer s past who (call.SetMax q n) = set_max_answer past q.0 n
+answer s past who call.Freeze = if is_frozen past then reply.No else reply.Frozen
+answer s past who call.Thaw = if is_frozen past then reply.Thawed else reply.No
+answer s past who (call.Destroy q) = destroy_answer past who q.0

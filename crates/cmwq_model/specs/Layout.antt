@@ -40,14 +40,17 @@ is_layout s = are_counts s.cpus s.workers s.callers s.items s.room && are_queues
 
 -- what stands for a queue that the layout doesn't have
 abbrev pub no_queue : QueueShape
-no_queue = record { max_active = 0; high = false; intensive = false }
+no_queue = record { max_active = 0; high = false; intensive = false; freezable = false }
 
 abbrev pub queue_at : Layout → ℕ → QueueShape
 queue_at s q = slice_index_or s.queues q no_queue
 
--- max_active: the greatest number of active queueings of a queue on one CPU
-abbrev pub width_of : Layout → ℕ → ℕ
-width_of s q = (queue_at s q).max_active
+-- max_active at first: how many queueings of a queue may be active on one CPU
+abbrev pub first_width : Layout → ℕ → ℕ
+first_width s q = (queue_at s q).max_active
+
+abbrev pub is_freezable : Layout → ℕ → Bool
+is_freezable s q = (queue_at s q).freezable
 
 abbrev pub is_intensive : Layout → ℕ → Bool
 is_intensive s q = (queue_at s q).intensive
@@ -82,6 +85,10 @@ has_numbers s call.Finish = true
 has_numbers s call.Sleep = true
 has_numbers s call.Wake = true
 has_numbers s call.Retire = true
+has_numbers s (call.SetMax q n) = nat_lt q.0 (length s.queues) && nat_le 1 n
+has_numbers s call.Freeze = true
+has_numbers s call.Thaw = true
+has_numbers s (call.Destroy q) = nat_lt q.0 (length s.queues)
 
 -- whether callers make such a call, and whether workers do
 abbrev pub is_callers : Call → Bool

@@ -4,6 +4,7 @@ pub mod Bookings
 pub mod Fate
 pub mod Runs
 pub mod Queueings
+pub mod Widths
 pub mod Active
 pub mod Workers
 pub mod Tickets

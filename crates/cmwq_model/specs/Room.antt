@@ -13,6 +13,7 @@ use Rattle.cmwq_model.specs.Fate.{is_started}
 use Rattle.cmwq_model.specs.Runs.{has_run, runs_asleep}
 use Rattle.cmwq_model.specs.Queueings.{still_open}
 use Rattle.cmwq_model.specs.Tickets.{unended}
+use Rattle.cmwq_model.specs.Widths.{is_frozen}
 use Rattle.cmwq_model.specs.Workers.{worker_at}
 use Rattle.cmwq_model.specs.Legal.{entry_for}
 
@@ -27,32 +28,32 @@ abbrev pub workers : Layout → List WorkerId
 workers s = flat_map (cpu_workers s) (range_with_len 0 s.cpus)
 
 -- A history owes 2 entries for each open queueing that hasn't started, 1 for each run, 1 more for each that sleeps,
--- 3 for each booked item and 1 for each unended ticket: so that what has begun can end.
+-- 3 for each booked item, 1 for each unended ticket, and 1 while it is frozen: so that what has begun can end.
 abbrev pub has_not_started : List Entry → Queueing → Bool
 has_not_started past x = not (is_started past x.number)
 
 unfoldable pub owed : Layout → List Entry → ℕ
 owed s past =
     2 * count_by (has_not_started past) (still_open past) + count_by (has_run past) (workers s) + count_by (runs_asleep past) (workers s)
-    + 3 * count_by (is_booked past) (range_with_len 0 s.items) + length (unended past)
+    + 3 * count_by (is_booked past) (range_with_len 0 s.items) + length (unended past) + (if is_frozen past then 1 else 0)
 
 abbrev pub needed : Layout → List Entry → ℕ
 needed s past = length past + owed s past
 
--- a call has room where the history with its entry, and what that owes, is within the room
-abbrev pub has_room : Layout → List Entry → Who → Call → Bool
-has_room s past who call = nat_le (needed s (entry_for s past who call ∷ past)) s.room
+-- a call has room where the history with its entry, and what that owes, is within the room; the program's is that of the layout
+abbrev pub has_room : Layout → ℕ → List Entry → Who → Call → Bool
+has_room s room past who call = nat_le (needed s (entry_for s past who call ∷ past)) room
 
 -- the steps of a list of calls: the entry of each that has room, and how many were left out
 pub record Steps : Type 0 where
   pub past : List Entry
   pub left_out : ℕ
 
-abbrev pub step : Layout → Steps → Who × Call → Steps
-step s t c = if has_room s t.past c.0 c.1 then record { past = entry_for s t.past c.0 c.1 ∷ t.past; left_out = t.left_out } else record { past = t.past; left_out = t.left_out + 1 }
+abbrev pub step : Layout → ℕ → Steps → Who × Call → Steps
+step s room t c = if has_room s room t.past c.0 c.1 then record { past = entry_for s t.past c.0 c.1 ∷ t.past; left_out = t.left_out } else record { past = t.past; left_out = t.left_out + 1 }
 
 abbrev pub none : Steps
 none = record { past = []; left_out = 0 }
 
-abbrev pub steps : Layout → List (Who × Call) → Steps
-steps s calls = fold (step s) none calls
+abbrev pub steps : Layout → ℕ → List (Who × Call) → Steps
+steps s room calls = fold (step s room) none calls

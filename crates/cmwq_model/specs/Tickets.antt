@@ -1,6 +1,7 @@
 -- Tickets: the waits that callers began, and which of them are unended.
-use Rattle.std.specs.Prelude.{ℕ, Bool, true, false, ◌&&◌, not, ◌==◌, if◌then◌else◌, List, [], ◌∷◌, ◌++◌, length, filter, find, count_by, Option, Some, None, option_to_list, nat_le}
+use Rattle.std.specs.Prelude.{ℕ, Bool, true, false, ◌&&◌, ◌||◌, not, ◌==◌, if◌then◌else◌, List, [], ◌∷◌, ◌++◌, length, filter, find, count_by, Option, Some, None, option_to_list, nat_le}
 use Rattle.std.specs.List.{list_any}
+use Rattle.std.specs.Option.{option_map_or}
 use Rattle.cmwq_model.specs.declared.id.Who.{Who}
 use Rattle.cmwq_model.specs.declared.id.Who.TheVariants.{Caller, Worker}
 use Rattle.cmwq_model.specs.declared.call.Call.{Call}
@@ -50,14 +51,19 @@ is_unended past t = not (list_any (ends t) past)
 abbrev pub unended : List Entry → List Ticket
 unended past = filter (is_unended past) (tickets past)
 
--- while a cancel_sync of an item is unended the item is being cancelled, and likewise a queue is draining
+-- while a cancel_sync of an item is unended the item is being cancelled, and likewise a queue is draining, by a drain or a destroy
 abbrev pub cancels_sync : ℕ → Call → Bool
 cancels_sync i (call.CancelSync j) = j.0 == i
 cancels_sync i c = false
 
 abbrev pub drains : ℕ → Call → Bool
 drains q (call.Drain r) = r.0 == q
+drains q (call.Destroy r) = r.0 == q
 drains q c = false
+
+abbrev pub destroys : ℕ → Call → Bool
+destroys q (call.Destroy r) = r.0 == q
+destroys q c = false
 
 abbrev pub flushes : ℕ → Call → Bool
 flushes q (call.Flush r) = r.0 == q
@@ -69,6 +75,9 @@ is_cancel_sync_of i t = cancels_sync i t.call
 abbrev pub is_drain_of : ℕ → Ticket → Bool
 is_drain_of q t = drains q t.call
 
+abbrev pub is_destroy_of : ℕ → Ticket → Bool
+is_destroy_of q t = destroys q t.call
+
 abbrev pub is_flush_of : ℕ → Ticket → Bool
 is_flush_of q t = flushes q t.call
 
@@ -77,6 +86,9 @@ is_cancelling past i = list_any (is_cancel_sync_of i) (unended past)
 
 abbrev pub is_draining : List Entry → ℕ → Bool
 is_draining past q = list_any (is_drain_of q) (unended past)
+
+abbrev pub is_being_destroyed : List Entry → ℕ → Bool
+is_being_destroyed past q = list_any (is_destroy_of q) (unended past)
 
 -- a caller has at most 64 unended tickets
 abbrev pub is_held_by : Who → Ticket → Bool
@@ -92,3 +104,12 @@ is_ticket who n t = (t.number == n) && is_held_by who t
 
 abbrev pub ticket_of : List Entry → Who → ℕ → Option Ticket
 ticket_of past who n = find (is_ticket who n) (unended past)
+
+-- a queue is gone once the end of a destroy of it was answered done
+abbrev pub ends_destroy : List Entry → ℕ → Who → Call → Bool
+ends_destroy past q who (call.End n) = option_map_or (is_destroy_of q) (ticket_of past who n) false
+ends_destroy past q who c = false
+
+unfoldable pub is_gone : List Entry → ℕ → Bool
+is_gone [] q = false
+is_gone (e ∷ past) q = is_gone past q || (is_done e.reply && ends_destroy past q e.who e.call)

@@ -24,13 +24,14 @@ served [] q n = None
 served (e ∷ past) q n = option_or (served past q n) (if nat_le n (length past) && is_served_after (e ∷ past) q n then Some (length past) else None)
 
 -- A served flush waits for the queueings of its queue up to the position from which it is served, one in overflow for
--- all of them, a flush of an item for the item's queueings up to its own position, a drain for all of its queue.
+-- all of them, a flush of an item for the item's queueings up to its own position, a drain and a destroy for all of its queue.
 abbrev pub is_within : Option ℕ → ℕ → Bool
 is_within bound n = option_map_or (nat_le n) bound true
 
 abbrev pub holds_up : List Entry → ℕ → Call → Queueing → Bool
 holds_up past n (call.Flush q) x = (x.place.queue.0 == q.0) && is_within (served past q.0 n) x.number
 holds_up past n (call.Drain q) x = x.place.queue.0 == q.0
+holds_up past n (call.Destroy q) x = x.place.queue.0 == q.0
 holds_up past n (call.FlushItem i) x = (x.item.0 == i.0) && nat_le x.number n
 holds_up past n (call.FlushDelayed i) x = (x.item.0 == i.0) && nat_le x.number n
 holds_up past n c x = false

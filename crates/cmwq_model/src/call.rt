@@ -69,6 +69,19 @@ pub enum Call {
     Wake,
     /// The idle worker asks to leave (`idle_worker_timeout`).
     Retire,
+    /// Sets how many queueings of a queue may be active on one CPU (`workqueue_set_max_active`).
+    SetMax {
+        queue: QueueId,
+        max_active: u32,
+    },
+    /// Lets nothing more become active on freezable queues (`freeze_workqueues_begin`).
+    Freeze,
+    /// Ends that (`thaw_workqueues`).
+    Thaw,
+    /// Begins to wait until a queue is empty, which is then gone (`destroy_workqueue`).
+    Destroy {
+        queue: QueueId,
+    },
 }
 
 impl Call {

@@ -1,4 +1,4 @@
-ghost use Rattle.std.specs.Prelude.{◌≡◌};
+ghost use Rattle.std.specs.Prelude.{◌≡◌, IsTrue};
 
 use crate::call::Call;
 use crate::id::{ItemId, Number};
@@ -66,6 +66,16 @@ pub enum Reply {
     Retired,
     /// The worker stays.
     Kept,
+    /// The queue's max_active is this now.
+    Width(u32),
+    /// Freezable queues are frozen.
+    Frozen,
+    /// They are no more.
+    Thawed,
+    /// The queue is destroyed.
+    Gone,
+    /// An item is delayed on the queue.
+    Timers,
 }
 
 impl Reply {
@@ -84,6 +94,54 @@ impl Reply {
             Call::CancelSync { .. } => self.as_cancelled_sync(),
             Call::FlushItem { .. } | Call::FlushDelayed { .. } => self.as_flushed(),
             _ => None,
+        }
+    }
+
+    /// Whether the other reply is this one.
+    pub fn is_same(self, other: Reply) -> bool
+        ensures same { IsTrue result → self ≡ other }
+        ensures differs { self ≡ other → IsTrue result }
+    {
+        match self {
+            Reply::Yes(k) => matches!(other, Reply::Yes(n) if n == k),
+            Reply::Booked(due) => matches!(other, Reply::Booked(tick) if tick == due),
+            Reply::Again(k) => matches!(other, Reply::Again(n) if n == k),
+            Reply::Rebooked(due) => matches!(other, Reply::Rebooked(tick) if tick == due),
+            Reply::No => matches!(other, Reply::No),
+            Reply::Foreign => matches!(other, Reply::Foreign),
+            Reply::Draining => matches!(other, Reply::Draining),
+            Reply::Misuse => matches!(other, Reply::Misuse),
+            Reply::Cancelled(n) => matches!(other, Reply::Cancelled(m) if m == n),
+            Reply::Unbooked => matches!(other, Reply::Unbooked),
+            Reply::Now(now) => matches!(other, Reply::Now(tick) if tick == now),
+            Reply::Fired(item, k) => matches!(other, Reply::Fired(i, n) if i.0 == item.0 && n == k),
+            Reply::Nothing => matches!(other, Reply::Nothing),
+            Reply::Ticket(k) => matches!(other, Reply::Ticket(n) if n == k),
+            Reply::TicketQueued(k) => matches!(other, Reply::TicketQueued(n) if n == k),
+            Reply::TicketCancelled(k, n) => {
+                matches!(other, Reply::TicketCancelled(j, m) if j == k && m == n)
+            }
+            Reply::TicketUnbooked(k) => matches!(other, Reply::TicketUnbooked(n) if n == k),
+            Reply::TicketNo(k) => matches!(other, Reply::TicketNo(n) if n == k),
+            Reply::Idle => matches!(other, Reply::Idle),
+            Reply::Crowded => matches!(other, Reply::Crowded),
+            Reply::Done => matches!(other, Reply::Done),
+            Reply::Waiting(n) => matches!(other, Reply::Waiting(m) if m == n),
+            Reply::Started(n) => matches!(other, Reply::Started(m) if m == n),
+            Reply::StartedEnlist(n, index) => {
+                matches!(other, Reply::StartedEnlist(m, i) if m == n && i == index)
+            }
+            Reply::Held => matches!(other, Reply::Held),
+            Reply::Finished(n) => matches!(other, Reply::Finished(m) if m == n),
+            Reply::Slept => matches!(other, Reply::Slept),
+            Reply::Woke => matches!(other, Reply::Woke),
+            Reply::Retired => matches!(other, Reply::Retired),
+            Reply::Kept => matches!(other, Reply::Kept),
+            Reply::Width(n) => matches!(other, Reply::Width(width) if width == n),
+            Reply::Frozen => matches!(other, Reply::Frozen),
+            Reply::Thawed => matches!(other, Reply::Thawed),
+            Reply::Gone => matches!(other, Reply::Gone),
+            Reply::Timers => matches!(other, Reply::Timers),
         }
     }
 

@@ -1,9 +1,11 @@
-ghost use Rattle.std.specs.Prelude.{◌≡◌, length, nat_lt, IfSome, is_some};
+ghost use Rattle.std.specs.Prelude.{◌≡◌, length, nat_lt, IfOk, IfSome, IsTrue, is_some};
 ghost use Rattle.std.specs.List.{list_all};
 ghost use Rattle.cmwq_model.specs.Layout.{Layout, are_counts, is_queue, are_queues, is_layout, has_numbers, may_make, fits};
 
 use crate::call::Call;
+use crate::error::NoMemory;
 use crate::id::{CpuId, ItemId, QueueId, Who};
+use std::alloc::Global;
 use std::marker::Model;
 
 /// The settings of one queue (the arguments of `alloc_workqueue`).
@@ -15,6 +17,8 @@ pub struct QueueShape {
     pub high: bool,
     /// Whether its runs let others start beside them (`WQ_CPU_INTENSIVE`).
     pub intensive: bool,
+    /// Whether a freeze stops it (`WQ_FREEZABLE`).
+    pub freezable: bool,
 }
 
 /// The numbers of CPUs, of workers in each pool, of callers and of items, and the room of a history in entries.
@@ -97,16 +101,29 @@ impl Shape {
         }
     }
 
+    /// The numbers that the shape is made of. Like the queues they are inside their limits.
     pub fn counts(&self) -> Counts
-        ensures { layout_of result self.now.queues ≡ self.now }
+        ensures counts { layout_of result self.now.queues ≡ self.now }
+        ensures limits { IsTrue (is_layout self.now) }
     {
         self.counts
     }
 
+    /// The settings of each queue, by its number.
     pub fn queues(&self) -> &[QueueShape]
         ensures { result.now ≡ self.now.queues }
     {
         &self.queues
+    }
+
+    /// The same shape once more. The error says that memory ran out.
+    pub fn copy(&self, alloc: Global) -> Result<Shape, NoMemory>
+        ensures { IfOk result (λ shape. shape ≡ self.now) }
+    {
+        Ok(Shape {
+            counts: self.counts,
+            queues: self.queues.to_vec(alloc)?,
+        })
     }
 
     fn has_item(&self, item: ItemId) -> bool
@@ -149,7 +166,9 @@ impl Shape {
             | Call::FlushItem { item }
             | Call::FlushDelayed { item }
             | Call::CancelSync { item } => self.has_item(item),
-            Call::Flush { queue } | Call::Drain { queue } => self.has_queue(queue),
+            Call::Flush { queue } | Call::Drain { queue } | Call::Destroy { queue } =>
+                self.has_queue(queue),
+            Call::SetMax { queue, max_active } => self.has_queue(queue) && max_active >= 1,
             Call::Tick { .. }
             | Call::Fire
             | Call::End { .. }
@@ -157,7 +176,9 @@ impl Shape {
             | Call::Finish
             | Call::Sleep
             | Call::Wake
-            | Call::Retire => true,
+            | Call::Retire
+            | Call::Freeze
+            | Call::Thaw => true,
         }
     }
 

@@ -9,6 +9,7 @@ fn shape(rt: &impl Abort, alloc: Global) -> Shape {
         max_active: 1,
         high: false,
         intensive: false,
+        freezable: false,
     };
     queues.push(queue).expect(rt, "memory");
     let counts = Counts {
@@ -45,6 +46,8 @@ fn tells_what_it_is_made_of(rt: HostRuntime) {
     let shape = shape(&rt, rt.alloc());
     assert_eq!(rt; shape.counts().items, 3);
     assert_eq!(rt; shape.queues().len(), 1);
+    let copy = shape.copy(rt.alloc()).expect(&rt, "memory");
+    assert!(rt; copy.counts() == shape.counts() && copy.queues() == shape.queues());
 }
 
 #[test]
@@ -77,6 +80,13 @@ fn the_kernel_says(rt: HostRuntime) {
     assert_eq!(rt; Reply::Unbooked.kernel(cancel), Some(true));
     assert_eq!(rt; Reply::No.kernel(cancel), Some(false));
     assert_eq!(rt; Reply::Misuse.kernel(cancel), None);
+    assert_eq!(rt; Reply::Width(4).kernel(queue(0)), None);
+}
+
+#[test]
+fn replies_are_told_apart(rt: HostRuntime) {
+    assert!(rt; Reply::Width(4).is_same(Reply::Width(4)));
+    assert!(rt; !Reply::Width(4).is_same(Reply::Width(5)) && !Reply::Gone.is_same(Reply::Timers));
 }
 
 #[test]

@@ -13,6 +13,8 @@ use Rattle.cmwq_model.specs.Layout.{Layout}
 use Rattle.cmwq_model.specs.Calls.{item_of}
 use Rattle.cmwq_model.specs.Queueings.{queueings, opening, opens, queued_at, place_wanted}
 use Rattle.cmwq_model.specs.Active.{is_active, is_newly_active, newly_active, is_listed, is_startable, activated, worklist, next}
+use Rattle.cmwq_model.specs.Queueings.{is_live}
+use Rattle.cmwq_laws.proofs.Joined.{not_live}
 use Rattle.cmwq_look.specs.Past.{upto}
 use Rattle.cmwq_look.proofs.Parts.{upto-none, upto-all, upto-grows, length-upto}
 use Rattle.cmwq_look.proofs.Steps.{queueings_step}
@@ -39,7 +41,7 @@ pub ruleset since_steps = (since_none, since_more)
 
 -- what isn't opened yet isn't live, nor active, nor has it been
 inactive : (s : Layout) (past : List Entry) (x : Queueing) → length past ≤ x.number → is_active s past x ≡ false
-inactive s past x h = let e : nat_lt x.number (length past) ≡ false = le-ltb x.number (length past) h in rw e
+inactive s past x h = let e : nat_lt x.number (length past) ≡ false = le-ltb x.number (length past) h in not_live s past x (let dead : is_live past x ≡ false = grind arith in dead)
 
 since_unopened : (s : Layout) (past : List Entry) (x : Queueing) → length past ≤ x.number → since s past x ≡ None
 unfolding since

@@ -5,7 +5,7 @@ use Rattle.cmwq_model.specs.declared.id.Who.TheVariants.{Worker}
 use Rattle.cmwq_model.specs.declared.id.WorkerId.{WorkerId}
 use Rattle.cmwq_model.specs.declared.entry.Entry.{Entry}
 use Rattle.cmwq_model.specs.Calls.{is_by}
-use Rattle.cmwq_model.specs.Bookings.{bookings, booking_of, stands}
+use Rattle.cmwq_model.specs.Bookings.{bookings, booking_of, stands, standing}
 use Rattle.cmwq_model.specs.Workers.{is_enlisted, enlists, is_retired}
 use Rattle.cmwq_model.specs.declared.id.ItemId.{ItemId}
 use Rattle.cmwq_model.specs.declared.call.Call.{Call}
@@ -14,7 +14,7 @@ use Rattle.cmwq_model.specs.Waits.{served, is_served_after, least_waited, waits_
 use Rattle.cmwq_model.specs.Answer.{may_fire}
 use Rattle.cmwq_look.specs.Past.{upto}
 use Rattle.cmwq_look.proofs.Parts.{upto-none, upto-all, length-upto, upto-grows}
-use Rattle.cmwq_plain.specs.Partial.{fireable, fireable_upto}
+use Rattle.cmwq_plain.specs.Partial.{fireable, fireable_upto, standing_upto}
 
 pub enlisted_none : (w : WorkerId) → is_enlisted [] w ≡ (w.index == 0)
 unfolding is_enlisted
@@ -39,6 +39,16 @@ unfolding fireable_upto
 fireable_all past k h = ap (λ p. filter (may_fire past) (filter (stands past) (bookings p))) (upto-all past k h)
 
 pub ruleset fireable_ends = (fireable_none, fireable_all)
+
+pub standing_none : (past : List Entry) → standing_upto past 0 ≡ []
+unfolding standing_upto bookings
+standing_none past = ap (λ p. filter (stands past) (bookings p)) (upto-none past)
+
+pub standing_all : (past : List Entry) (k : ℕ) → length past ≤ k → standing_upto past k ≡ standing past
+unfolding standing_upto
+standing_all past k h = ap (λ p. filter (stands past) (bookings p)) (upto-all past k h)
+
+pub ruleset standing_ends = (standing_none, standing_all)
 
 pub served_none : (q n : ℕ) → served [] q n ≡ None
 unfolding served

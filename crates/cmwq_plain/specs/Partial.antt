@@ -6,7 +6,7 @@ use Rattle.cmwq_model.specs.declared.call.Call.TheVariants as call
 use Rattle.cmwq_model.specs.declared.entry.Entry.{Entry}
 use Rattle.cmwq_model.specs.declared.record.Booking.{Booking}
 use Rattle.cmwq_model.specs.declared.record.Queueing.{Queueing}
-use Rattle.cmwq_model.specs.Layout.{Layout, width_of}
+use Rattle.cmwq_model.specs.Layout.{Layout}
 use Rattle.cmwq_model.specs.Bookings.{bookings, standing, stands}
 use Rattle.cmwq_model.specs.Runs.{has_run, runs_asleep}
 use Rattle.cmwq_model.specs.Queueings.{still_open}
@@ -22,6 +22,10 @@ fireable past = filter (may_fire past) (standing past)
 unfoldable pub fireable_upto : List Entry → ℕ → List Booking
 fireable_upto past k = filter (may_fire past) (filter (stands past) (bookings (upto past k)))
 
+-- the bookings that stand of those that the first k entries made
+unfoldable pub standing_upto : List Entry → ℕ → List Booking
+standing_upto past k = filter (stands past) (bookings (upto past k))
+
 -- the position from which a flush is served, if it is; no other wait has one
 abbrev pub served_by : List Entry → ℕ → Call → Option ℕ
 served_by past n (call.Flush q) = served past q.0 n
@@ -30,10 +34,6 @@ served_by past n c = None
 -- how many of what the first k entries opened are open and ahead of the queueing
 unfoldable pub ahead_upto : List Entry → Queueing → ℕ → ℕ
 ahead_upto past x k = count_by (is_ahead x) (open_upto past k)
-
--- fewer than the width of its queue are ahead of the queueing
-abbrev pub is_within_width : Layout → List Entry → Queueing → Bool
-is_within_width s past x = nat_lt (count_by (is_ahead x) (still_open past)) (width_of s x.place.queue.0)
 
 -- what the runs of these workers owe: 1 entry each, and 1 more for each that sleeps
 abbrev pub owed_by_runs : List Entry → List WorkerId → ℕ

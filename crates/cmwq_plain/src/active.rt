@@ -1,12 +1,17 @@
-ghost use Rattle.std.specs.Prelude.{◌≡◌, ◌<◌, ◌+◌, length, if◌then◌else◌, option_map};
+ghost use Rattle.cmwq_model.specs.Queueings.{is_live};
+ghost use Rattle.std.specs.Prelude.{◌≡◌, ◌&&◌, ◌<◌, ◌+◌, length, if◌then◌else◌, option_map};
 ghost use Rattle.cmwq_model.specs.Active.{same_place, is_ahead, is_active, is_listed, next};
 ghost use Rattle.cmwq_look.specs.Past.{upto};
-ghost use Rattle.cmwq_plain.specs.Partial.{ahead_upto, is_within_width};
+ghost use Rattle.cmwq_model.specs.Active.{has_way};
+ghost use Rattle.cmwq_laws.specs.Activations.{keeps_widths};
+ghost use Rattle.cmwq_laws.specs.Segments.{had_way};
+ghost use Rattle.cmwq_plain.specs.Partial.{ahead_upto};
 ghost use Rattle.cmwq_plain.specs.Earliest.{may_start, since, earlier, better, best_upto, queueing_of};
 
-use crate::layout::{pool_at, width_of};
+use crate::layout::pool_at;
+use crate::width::width;
 use cmwq_look::{Past, is_live, is_same_pool, is_started, item_runs, opening_at};
-use cmwq_model::{Number, Place, PoolId, Queueing, Shape};
+use cmwq_model::{Number, Place, PoolId, Queueing, Reply, Shape};
 
 /// A queueing that a pool may start, and the entry that made it active.
 #[derive(Clone, Copy)]
@@ -43,11 +48,11 @@ fn is_ahead_at(past: &Past<'_>, queueing: &Queueing, number: usize) -> bool
 
 /// Whether fewer than the width of its queue stand ahead of the queueing.
 #[tactic(auto, using(crate::proofs::Ahead::ahead_ends))]
-fn is_within_width(shape: &Shape, past: &Past<'_>, queueing: &Queueing) -> bool
-    ensures { result ≡ is_within_width shape.now past.now queueing.now }
+fn has_way(shape: &Shape, past: &Past<'_>, queueing: &Queueing) -> bool
+    ensures { result ≡ has_way shape.now past.now queueing.now }
 {
-    let width = usize::from(width_of(shape, queueing.place.queue.0));
-    let mut ahead: usize = 0;
+    let width = width(shape, past, queueing.place.queue.0);
+    let mut ahead: u32 = 0;
     for k in 0..past.len() {
         if ahead < width && is_ahead_at(past, queueing, k) {
             ahead += 1;
@@ -56,11 +61,40 @@ fn is_within_width(shape: &Shape, past: &Past<'_>, queueing: &Queueing) -> bool
     ahead < width
 }
 
-/// Whether the queueing is active: open, with fewer older open ones on its queue and CPU than the queue is wide.
+/// Whether such a reply leaves all widths as they are.
+fn keeps_widths(reply: Reply) -> bool
+    ensures { result ≡ keeps_widths reply }
+{
+    !matches!(reply, Reply::Width(_) | Reply::Frozen | Reply::Thawed)
+}
+
+fn is_open_with_way(shape: &Shape, past: &Past<'_>, queueing: &Queueing) -> bool
+    ensures { result ≡ (is_live past.now queueing.now && has_way shape.now past.now queueing.now) }
+{
+    is_live(past, queueing) && has_way(shape, past, queueing)
+}
+
+/// Whether the queueing had way just before an entry that changed a width.
+#[tactic(auto, using(cmwq_look::proofs::Parts::ends, crate::proofs::Widths::had_steps))]
+fn had_way(shape: &Shape, past: &Past<'_>, queueing: &Queueing) -> bool
+    ensures { result ≡ had_way shape.now past.now queueing.now }
+{
+    let mut had = false;
+    for k in 0..past.len() {
+        let entry = past.at(k);
+        had = had
+            || (!keeps_widths(entry.reply) && is_open_with_way(shape, &past.before(k), queueing));
+    }
+    had
+}
+
+/// Whether the queueing is active: open, and it has way, or had way before a width changed.
+#[tactic(auto, using(cmwq_laws::proofs::Segments::active_by_looks))]
 fn is_active(shape: &Shape, past: &Past<'_>, queueing: &Queueing) -> bool
     ensures { result ≡ is_active shape.now past.now queueing.now }
 {
-    is_live(past, queueing) && is_within_width(shape, past, queueing)
+    is_live(past, queueing)
+        && (had_way(shape, past, queueing) || has_way(shape, past, queueing))
 }
 
 /// Whether the queueing is on the pool's worklist.

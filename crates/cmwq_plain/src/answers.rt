@@ -1,13 +1,12 @@
-ghost use Rattle.std.specs.Prelude.{◌≡◌, length, if◌then◌else◌};
-ghost use Rattle.cmwq_model.specs.Tickets.{is_crowded};
-ghost use Rattle.cmwq_model.specs.Answer.{may_call, runs_on, is_shut, queue_answer, modify_answer, taken_back, cancel_answer, fired, flush_item_answer, is_held_back, flush_delayed_answer, taken_back_for, cancel_sync_answer, waiting_for, end_of_ticket, started, start_of, take_answer, finished, finish_answer, retire_answer, worker_answer, own_answer, answer};
+ghost use Rattle.std.specs.Prelude.{◌≡◌};
+ghost use Rattle.cmwq_model.specs.Answer.{may_call, runs_on, is_shut, queue_answer, modify_answer, taken_back, cancel_answer, wait_answer, destroy_answer, set_max_answer, fired, flush_item_answer, is_held_back, flush_delayed_answer, taken_back_for, cancel_sync_answer, waiting_for, end_of_ticket, started, start_of, take_answer, finished, finish_answer, retire_answer, worker_answer, own_answer, answer};
 
 use crate::active::next;
-use crate::fire::first_due;
+use crate::fire::{first_due, has_timers};
 use crate::wait::waits_for;
 use crate::worker::{enlisted_by, is_enlisted, may_retire, runnable};
 use cmwq_look::{
-    Past, booking, has_run, is_booked, is_cancelling, is_crowded, is_draining, is_item_open,
+    Past, booking, has_run, is_being_destroyed, is_booked, is_cancelling, is_frozen, is_gone, is_crowded, is_draining, is_item_open,
     is_pending, now, run, run_queue, runs_asleep, runs_awake, runs_elsewhere, ticket_of, unstarted,
 };
 use cmwq_model::{Booking, Call, Number, Queueing, Reply, Shape, Ticket, Who, WorkerId};
@@ -47,6 +46,8 @@ fn queue_answer(past: &Past<'_>, who: Who, item: u16, queue: u8, ticks: u32) -> 
 {
     if !may_call(past, who) {
         Reply::Misuse
+    } else if is_gone(past, queue) {
+        Reply::Gone
     } else if is_cancelling(past, item) || is_pending(past, item) {
         Reply::No
     } else if runs_elsewhere(past, item, queue) {
@@ -66,6 +67,8 @@ fn modify_answer(past: &Past<'_>, who: Who, item: u16, queue: u8, ticks: u32) ->
 {
     if !may_call(past, who) {
         Reply::Misuse
+    } else if is_gone(past, queue) {
+        Reply::Gone
     } else if is_cancelling(past, item) {
         Reply::No
     } else if runs_elsewhere(past, item, queue) {
@@ -189,13 +192,44 @@ fn cancel_sync_answer(past: &Past<'_>, who: Who, item: u16) -> Reply
 }
 
 /// The answer to a flush or a drain of a queue.
-fn ticket_answer(past: &Past<'_>, who: Who) -> Reply
-    ensures { result ≡ (if is_crowded past.now who then Reply.Crowded else Reply.Ticket (length past.now)) }
+#[tactic(auto, unfolding(cmwq_model::specs::Answer::wait_answer))]
+fn wait_answer(past: &Past<'_>, who: Who, queue: u8) -> Reply
+    ensures { result ≡ wait_answer past.now who queue }
 {
-    if is_crowded(past, who) {
+    if is_gone(past, queue) {
+        Reply::Gone
+    } else if is_crowded(past, who) {
         Reply::Crowded
     } else {
         Reply::Ticket(past.len() as u32)
+    }
+}
+
+#[tactic(auto, unfolding(cmwq_model::specs::Answer::destroy_answer))]
+fn destroy_answer(past: &Past<'_>, who: Who, queue: u8) -> Reply
+    ensures { result ≡ destroy_answer past.now who queue }
+{
+    if is_gone(past, queue) {
+        Reply::Gone
+    } else if is_being_destroyed(past, queue) {
+        Reply::Draining
+    } else if has_timers(past, queue) {
+        Reply::Timers
+    } else if is_crowded(past, who) {
+        Reply::Crowded
+    } else {
+        Reply::Ticket(past.len() as u32)
+    }
+}
+
+#[tactic(auto, unfolding(cmwq_model::specs::Answer::set_max_answer))]
+fn set_max_answer(past: &Past<'_>, queue: u8, max_active: u32) -> Reply
+    ensures { result ≡ set_max_answer past.now queue max_active }
+{
+    if is_gone(past, queue) {
+        Reply::Gone
+    } else {
+        Reply::Width(max_active.min(512))
     }
 }
 
@@ -328,7 +362,23 @@ pub fn answer(shape: &Shape, past: &Past<'_>, who: Who, call: Call) -> Reply
         Call::Cancel { item } => cancel_answer(past, who, item.0),
         Call::Tick { ticks } => Reply::Now(now(past) + u64::from(ticks)),
         Call::Fire => fired(first_due(past), past.len() as u32),
-        Call::Flush { .. } | Call::Drain { .. } => ticket_answer(past, who),
+        Call::Flush { queue } | Call::Drain { queue } => wait_answer(past, who, queue.0),
+        Call::SetMax { queue, max_active } => set_max_answer(past, queue.0, max_active),
+        Call::Freeze => {
+            if is_frozen(past) {
+                Reply::No
+            } else {
+                Reply::Frozen
+            }
+        }
+        Call::Thaw => {
+            if is_frozen(past) {
+                Reply::Thawed
+            } else {
+                Reply::No
+            }
+        }
+        Call::Destroy { queue } => destroy_answer(past, who, queue.0),
         Call::FlushItem { item } => flush_item_answer(past, who, item.0),
         Call::FlushDelayed { item } => flush_delayed_answer(past, who, item.0),
         Call::CancelSync { item } => cancel_sync_answer(past, who, item.0),

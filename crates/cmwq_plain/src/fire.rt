@@ -1,7 +1,9 @@
 ghost use Rattle.std.specs.Prelude.{◌≡◌, ◌<◌, ◌+◌, ◌++◌, length, option_to_list};
-ghost use Rattle.cmwq_model.specs.Answer.{may_fire, is_soonest, first_due};
+ghost use Rattle.std.specs.List.{list_any};
+ghost use Rattle.cmwq_model.specs.Bookings.{standing};
+ghost use Rattle.cmwq_model.specs.Answer.{may_fire, is_soonest, first_due, is_booked_on};
 ghost use Rattle.cmwq_look.specs.Past.{upto};
-ghost use Rattle.cmwq_plain.specs.Partial.{fireable, fireable_upto};
+ghost use Rattle.cmwq_plain.specs.Partial.{fireable, fireable_upto, standing_upto};
 
 use cmwq_look::{Past, booking_of, is_draining, now, stands};
 use cmwq_model::Booking;
@@ -57,6 +59,41 @@ pub fn first_due(past: &Past<'_>) -> Option<Booking>
         if let Some(made) = fireable_at(past, k) {
             if found.is_none() && is_soonest(past, &made) {
                 found = Some(made);
+            }
+        }
+    }
+    found
+}
+
+/// The booking that the entry with this number made, if it stands.
+#[tactic(auto, using(cmwq_look::proofs::Parts::ends, cmwq_look::proofs::Lists::filter_push, crate::proofs::Steps::bookings_step), unfolding(crate::specs::Partial::standing_upto))]
+fn standing_at(past: &Past<'_>, number: usize) -> Option<Booking>
+    requires { number < length past.now }
+    ensures { standing_upto past.now (number + 1)
+        ≡ standing_upto past.now number ++ option_to_list result }
+{
+    match booking_of(&past.at(number), number as u32) {
+        None => None,
+        Some(made) => {
+            if stands(past, &made) {
+                Some(made)
+            } else {
+                None
+            }
+        }
+    }
+}
+
+/// Whether an item is delayed on the queue.
+#[tactic(auto, using(cmwq_look::proofs::Lists::any_push, crate::proofs::Steps::standing_ends))]
+pub fn has_timers(past: &Past<'_>, queue: u8) -> bool
+    ensures { result ≡ list_any (is_booked_on queue) (standing past.now) }
+{
+    let mut found = false;
+    for k in 0..past.len() {
+        if let Some(made) = standing_at(past, k) {
+            if made.place.queue.0 == queue {
+                found = true;
             }
         }
     }

@@ -1,5 +1,5 @@
 ghost use Rattle.std.specs.Prelude.{◌≡◌};
-ghost use Rattle.cmwq_model.specs.Layout.{queue_at, width_of, is_intensive, pool_at};
+ghost use Rattle.cmwq_model.specs.Layout.{queue_at, first_width, is_freezable, is_intensive, pool_at};
 
 use cmwq_model::{Place, PoolId, QueueShape, Shape};
 
@@ -39,15 +39,23 @@ fn queue_at(shape: &Shape, queue: u8) -> QueueShape
         max_active: 0,
         high: false,
         intensive: false,
+        freezable: false,
     };
     shape.queues().get(queue as usize).copied().unwrap_or(none)
 }
 
-/// The greatest number of active queueings of the queue on one CPU.
-pub fn width_of(shape: &Shape, queue: u8) -> u16
-    ensures { result ≡ width_of shape.now queue }
+/// Max_active of the queue at first.
+pub fn first_width(shape: &Shape, queue: u8) -> u16
+    ensures { result ≡ first_width shape.now queue }
 {
     queue_at(shape, queue).max_active
+}
+
+/// Whether a freeze stops the queue.
+pub fn is_freezable(shape: &Shape, queue: u8) -> bool
+    ensures { result ≡ is_freezable shape.now queue }
+{
+    queue_at(shape, queue).freezable
 }
 
 /// Whether the queue's runs let others start beside them.

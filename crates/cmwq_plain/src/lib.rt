@@ -11,6 +11,7 @@ mod layout;
 mod room;
 mod verdict;
 mod wait;
+mod width;
 mod worker;
 
 ghost use Rattle.std.specs.Prelude.{◌≡◌, ◌≤◌, length};
@@ -44,7 +45,7 @@ pub fn serial_of(entries: &[Entry], who: Who) -> u32
 /// room is refused and has no entry.
 pub fn has_room(shape: &Shape, entries: &[Entry], who: Who, call: Call) -> bool
     requires { length entries.now ≤ 1000000 }
-    ensures { result ≡ room.has_room shape.now (past_of entries.now) who call }
+    ensures { result ≡ room.has_room shape.now shape.now.room (past_of entries.now) who call }
 {
     let entry = Entry {
         who,

@@ -7,7 +7,7 @@ ghost use Rattle.cmwq_model.specs.Room.{pool_workers, cpu_workers, workers, has_
 ghost use Rattle.cmwq_plain.specs.Partial.{owed_by_runs};
 
 use crate::layout::{cpus, items, workers};
-use cmwq_look::{Past, has_run, is_booked, is_started, open_at, runs_asleep, unended_at};
+use cmwq_look::{Past, has_run, is_booked, is_frozen, is_started, open_at, runs_asleep, unended_at};
 use cmwq_model::{CpuId, PoolId, Shape, WorkerId};
 
 /// How many open queueings haven't started.
@@ -105,6 +105,7 @@ fn owed(shape: &Shape, past: &Past<'_>) -> usize
         + all_runs(shape, past)
         + 3 * count_booked(shape, past)
         + count_unended(past)
+        + usize::from(is_frozen(past))
 }
 
 /// How many entries there are, and how many they owe.

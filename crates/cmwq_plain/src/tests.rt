@@ -36,6 +36,7 @@ fn shape(alloc: Global, room: u32) -> Result<Option<Shape>, AllocError> {
         max_active: 1,
         high: false,
         intensive: false,
+        freezable: false,
     })?;
     let counts = Counts {
         cpus: 1,

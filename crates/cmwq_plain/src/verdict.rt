@@ -5,7 +5,7 @@ ghost use Rattle.cmwq_model.specs.Legal.{IsLegal, past_of, entry_for};
 ghost use Rattle.cmwq_model.specs.Verdict.{AllFit, Wants, IsFirstWrong};
 
 use crate::{reply_of, serial_of};
-use cmwq_model::{Entry, Illegal, Reply, Shape, Wanted};
+use cmwq_model::{Entry, Illegal, Shape, Wanted};
 
 /// Judges a history: whether each of its entries is the one that its call gets at that point. Room isn't looked at.
 ///
@@ -49,52 +49,9 @@ fn wanted(shape: &Shape, before: &[Entry], entry: Entry) -> Option<Wanted>
         return Some(Wanted::Serial(serial));
     }
     let reply = reply_of(shape, before, entry.who, entry.call);
-    if is_same_reply(entry.reply, reply) {
+    if entry.reply.is_same(reply) {
         None
     } else {
         Some(Wanted::Reply(reply))
-    }
-}
-
-/// Whether two replies are the same.
-fn is_same_reply(one: Reply, other: Reply) -> bool
-    ensures same { IsTrue result → one ≡ other }
-    ensures differs { one ≡ other → IsTrue result }
-{
-    match one {
-        Reply::Yes(k) => matches!(other, Reply::Yes(n) if n == k),
-        Reply::Booked(due) => matches!(other, Reply::Booked(tick) if tick == due),
-        Reply::Again(k) => matches!(other, Reply::Again(n) if n == k),
-        Reply::Rebooked(due) => matches!(other, Reply::Rebooked(tick) if tick == due),
-        Reply::No => matches!(other, Reply::No),
-        Reply::Foreign => matches!(other, Reply::Foreign),
-        Reply::Draining => matches!(other, Reply::Draining),
-        Reply::Misuse => matches!(other, Reply::Misuse),
-        Reply::Cancelled(n) => matches!(other, Reply::Cancelled(m) if m == n),
-        Reply::Unbooked => matches!(other, Reply::Unbooked),
-        Reply::Now(now) => matches!(other, Reply::Now(tick) if tick == now),
-        Reply::Fired(item, k) => matches!(other, Reply::Fired(i, n) if i.0 == item.0 && n == k),
-        Reply::Nothing => matches!(other, Reply::Nothing),
-        Reply::Ticket(k) => matches!(other, Reply::Ticket(n) if n == k),
-        Reply::TicketQueued(k) => matches!(other, Reply::TicketQueued(n) if n == k),
-        Reply::TicketCancelled(k, n) => {
-            matches!(other, Reply::TicketCancelled(j, m) if j == k && m == n)
-        }
-        Reply::TicketUnbooked(k) => matches!(other, Reply::TicketUnbooked(n) if n == k),
-        Reply::TicketNo(k) => matches!(other, Reply::TicketNo(n) if n == k),
-        Reply::Idle => matches!(other, Reply::Idle),
-        Reply::Crowded => matches!(other, Reply::Crowded),
-        Reply::Done => matches!(other, Reply::Done),
-        Reply::Waiting(n) => matches!(other, Reply::Waiting(m) if m == n),
-        Reply::Started(n) => matches!(other, Reply::Started(m) if m == n),
-        Reply::StartedEnlist(n, index) => {
-            matches!(other, Reply::StartedEnlist(m, i) if m == n && i == index)
-        }
-        Reply::Held => matches!(other, Reply::Held),
-        Reply::Finished(n) => matches!(other, Reply::Finished(m) if m == n),
-        Reply::Slept => matches!(other, Reply::Slept),
-        Reply::Woke => matches!(other, Reply::Woke),
-        Reply::Retired => matches!(other, Reply::Retired),
-        Reply::Kept => matches!(other, Reply::Kept),
     }
 }

@@ -71,7 +71,7 @@ fn holds_up(
         Call::Flush { queue } => {
             queueing.place.queue.0 == queue.0 && is_within(bound, queueing.number)
         }
-        Call::Drain { queue } => queueing.place.queue.0 == queue.0,
+        Call::Drain { queue } | Call::Destroy { queue } => queueing.place.queue.0 == queue.0,
         Call::FlushItem { item } | Call::FlushDelayed { item } => {
             queueing.item.0 == item.0 && queueing.number <= number
         }

@@ -13,9 +13,10 @@ use Rattle.cmwq_model.specs.Calls.{same_pool}
 use Rattle.cmwq_model.specs.Fate.{is_started}
 use Rattle.cmwq_model.specs.Runs.{run, has_run, is_asleep}
 use Rattle.cmwq_model.specs.Queueings.{queueings, still_open, is_live, queueing_at, queue_of, run_queue}
-use Rattle.cmwq_model.specs.Active.{worklist, is_listed}
+use Rattle.cmwq_model.specs.Active.{is_active, worklist, is_listed}
 use Rattle.cmwq_model.specs.Workers.{worker_at, is_enlisted, is_holding, is_idle, is_occupied, is_reserve, is_other_idle, runnable, enlisted_by, has_spare, may_retire}
 use Rattle.cmwq_model.specs.Legal.{IsLegal}
+use Rattle.cmwq_laws.proofs.Joined.{active_live}
 use Rattle.cmwq_laws.proofs.Lists.{All_map, count_by-cons}
 use Rattle.cmwq_laws.proofs.RunsActive.{found_number}
 use Rattle.cmwq_laws.proofs.Pools.{runs_are_in_pools, same_pool-true}
@@ -143,17 +144,16 @@ pub record IsOnList (s : Layout) (past : List Entry) (p : PoolId) (x : Queueing)
   pub not_started : is_started past x.number ≡ false
   pub pool : pool_at s x.place ≡ p
 
-listed_parts : (a b c d : Bool) → (a && b && not c && d) ≡ true → (a ≡ true) × (c ≡ false) × (d ≡ true)
-listed_parts true true false true h = (refl, refl, refl)
-listed_parts true true false false h = cc
-listed_parts true true true d h = cc
-listed_parts true false c d h = cc
-listed_parts false b c d h = cc
+listed_parts : (a c d : Bool) → (a && not c && d) ≡ true → (a ≡ true) × (c ≡ false) × (d ≡ true)
+listed_parts true false true h = (refl, refl, refl)
+listed_parts true false false h = cc
+listed_parts true true d h = cc
+listed_parts false c d h = cc
 
 pub worklist_has : (s : Layout) (past : List Entry) (p : PoolId) → AllByRecursion (IsOnList s past p) (worklist s past p)
 worklist_has s past p = All_map _ (IsOnList s past p) (worklist s past p) (λ x h. on_list x (contained_in (queueings past) x h.0) h.1) (worklist_is s past p).no_others
   where
     on_list : (x : Queueing) → In x (queueings past) → is_listed s past p x ≡ true → IsOnList s past p x
     on_list x made listed =
-        let k = listed_parts (is_live past x) _ (is_started past x.number) (same_pool (pool_at s x.place) p) listed in
-        record { made = made; stands = filter_in (is_live past) (queueings past) x made k.0; not_started = k.1; pool = same_pool-true (pool_at s x.place) p k.2 }
+        let k = listed_parts (is_active s past x) (is_started past x.number) (same_pool (pool_at s x.place) p) listed in
+        record { made = made; stands = filter_in (is_live past) (queueings past) x made (active_live s past x k.0); not_started = k.1; pool = same_pool-true (pool_at s x.place) p k.2 }

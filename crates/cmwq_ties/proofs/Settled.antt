@@ -1,6 +1,6 @@
 -- In a legal history what settles is of an item that there is, and what books is for a queue that there is.
 use Rattle.std.proofs.Common.{◌≡◌, ◌<◌, ℕ, Bool, true, false, List, [], ◌∷◌, length, Option, Some, None, option_to_list, refl, sym, ap, ◌∙◌, arith}
-use Rattle.std.specs.Prelude.{is_some, option_and_then, if◌then◌else◌}
+use Rattle.std.specs.Prelude.{min, is_some, option_and_then, if◌then◌else◌}
 use Rattle.std.specs.Option.{option_or}
 use Rattle.std.specs.List.{AllByRecursion}
 use Rattle.std.proofs.lemmas.Bool.{and_parts, ltb-true}
@@ -22,9 +22,10 @@ use Rattle.cmwq_model.specs.Bookings.{settles, due_in, booked_by, booking_of, bo
 use Rattle.cmwq_model.specs.Runs.{runs_awake, runs_asleep, run}
 use Rattle.cmwq_model.specs.Active.{next}
 use Rattle.cmwq_model.specs.Workers.{enlisted_by}
-use Rattle.cmwq_model.specs.Tickets.{is_crowded, ticket_of}
+use Rattle.cmwq_model.specs.Tickets.{is_gone, is_crowded, ticket_of}
+use Rattle.cmwq_model.specs.Widths.{is_frozen}
 use Rattle.cmwq_model.specs.Waits.{waits_for}
-use Rattle.cmwq_model.specs.Answer.{answer, fired, first_due, end_of_ticket, waiting_for, take_answer, start_of, started, finish_answer, finished, retire_answer}
+use Rattle.cmwq_model.specs.Answer.{answer, wait_answer, destroy_answer, set_max_answer, fired, first_due, end_of_ticket, waiting_for, take_answer, start_of, started, finish_answer, finished, retire_answer}
 use Rattle.cmwq_model.specs.Legal.{IsLegal}
 use Rattle.cmwq_laws.proofs.Lists.{All_append}
 use Rattle.cmwq_laws.proofs.Inversions.{answer_is}
@@ -80,6 +81,18 @@ retire_quiet s past w = quiet_if _ reply.Misuse _ misuse (quiet_if _ reply.Retir
 begin_quiet : (b : Bool) (n : ℕ) → IsQuiet (if b then reply.Crowded else reply.Ticket n)
 begin_quiet b n = quiet_if b reply.Crowded (reply.Ticket n) (is_quiet reply.Crowded refl refl) (is_quiet (reply.Ticket n) refl refl)
 
+wait_quiet : (past : List Entry) (who : Who) (q : ℕ) → IsQuiet (wait_answer past who q)
+unfolding wait_answer
+wait_quiet past who q = quiet_if (is_gone past q) reply.Gone _ (is_quiet reply.Gone refl refl) (begin_quiet (is_crowded past who) (length past))
+
+destroy_quiet : (past : List Entry) (who : Who) (q : ℕ) → IsQuiet (destroy_answer past who q)
+unfolding destroy_answer
+destroy_quiet past who q = quiet_if _ reply.Gone _ (is_quiet reply.Gone refl refl) (quiet_if _ reply.Draining _ (is_quiet reply.Draining refl refl) (quiet_if _ reply.Timers _ (is_quiet reply.Timers refl refl) (begin_quiet (is_crowded past who) (length past))))
+
+set_max_quiet : (past : List Entry) (q n : ℕ) → IsQuiet (set_max_answer past q n)
+unfolding set_max_answer
+set_max_quiet past q n = quiet_if (is_gone past q) reply.Gone (reply.Width (min n 512)) (is_quiet reply.Gone refl refl) (is_quiet _ refl refl)
+
 -- ---- the item of a call: it stands there, or is fired, or there is none
 
 data ItemCase (s : Layout) (past : List Entry) (c : Call) (r : Reply) : Type 0 where
@@ -98,8 +111,8 @@ item_case s past who (call.Modify i q c t) = called i.0 refl (place_item s i.0 q
 item_case s past who (call.Cancel i) = called i.0 refl (ltb-true _ _)
 item_case s past who (call.Tick t) = none refl (is_quiet _ refl refl)
 item_case s past who call.Fire = fires refl refl
-item_case s past who (call.Flush q) = none refl (begin_quiet (is_crowded past who) (length past))
-item_case s past who (call.Drain q) = none refl (begin_quiet (is_crowded past who) (length past))
+item_case s past who (call.Flush q) = none refl (wait_quiet past who q.0)
+item_case s past who (call.Drain q) = none refl (wait_quiet past who q.0)
 item_case s past who (call.FlushItem i) = called i.0 refl (ltb-true _ _)
 item_case s past who (call.FlushDelayed i) = called i.0 refl (ltb-true _ _)
 item_case s past who (call.CancelSync i) = called i.0 refl (ltb-true _ _)
@@ -114,6 +127,10 @@ item_case s past (Caller c) call.Wake = none refl misuse
 item_case s past (Worker w) call.Wake = none refl (quiet_if (runs_asleep past w) reply.Woke reply.Misuse (is_quiet reply.Woke refl refl) misuse)
 item_case s past (Caller c) call.Retire = none refl misuse
 item_case s past (Worker w) call.Retire = none refl (retire_quiet s past w)
+item_case s past who (call.SetMax q n) = none refl (set_max_quiet past q.0 n)
+item_case s past who call.Freeze = none refl (quiet_if (is_frozen past) reply.No reply.Frozen (is_quiet reply.No refl refl) (is_quiet reply.Frozen refl refl))
+item_case s past who call.Thaw = none refl (quiet_if (is_frozen past) reply.Thawed reply.No (is_quiet reply.Thawed refl refl) (is_quiet reply.No refl refl))
+item_case s past who (call.Destroy q) = none refl (destroy_quiet past who q.0)
 
 -- ---- what settles is of an item
 

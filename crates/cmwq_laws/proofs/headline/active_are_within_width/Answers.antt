@@ -1,0 +1,5 @@
+use Rattle.cmwq_laws.proofs.Active.{active_within_width}
+use Rattle.cmwq_laws.proofs.headline.active_are_within_width.Goals as goal
+
+pub returns : goal.returns
+returns c = active_within_width

@@ -1,0 +1,76 @@
+-- Where widths don't change, the active queueings are the first open ones, and a history is legal exactly where it was before widths could change.
+use Rattle.std.specs.Prelude.{◌≡◌, ℕ, Bool, true, false, ◌&&◌, ◌||◌, not, if◌then◌else◌, List, [], ◌∷◌, ◌++◌, filter, find, count_by, Option, IsTrue, nat_lt}
+use Rattle.std.specs.List.{AllByRecursion}
+use Rattle.cmwq_model.specs.declared.id.PoolId.{PoolId}
+use Rattle.cmwq_model.specs.declared.id.WorkerId.{WorkerId}
+use Rattle.cmwq_model.specs.declared.id.Who.{Who}
+use Rattle.cmwq_model.specs.declared.id.Who.TheVariants.{Caller, Worker}
+use Rattle.cmwq_model.specs.declared.call.Call.{Call}
+use Rattle.cmwq_model.specs.declared.call.Call.TheVariants as call
+use Rattle.cmwq_model.specs.declared.reply.Reply.{Reply}
+use Rattle.cmwq_model.specs.declared.reply.Reply.TheVariants as reply
+use Rattle.cmwq_model.specs.declared.entry.Entry.{Entry}
+use Rattle.cmwq_model.specs.declared.record.Queueing.{Queueing}
+use Rattle.cmwq_model.specs.Layout.{Layout, first_width, pool_at, fits}
+use Rattle.cmwq_model.specs.Widths.{width}
+use Rattle.cmwq_model.specs.Calls.{same_pool, serial_of}
+use Rattle.cmwq_model.specs.Fate.{is_started}
+use Rattle.cmwq_model.specs.Runs.{has_run}
+use Rattle.cmwq_model.specs.Queueings.{queueings, still_open, is_live}
+use Rattle.cmwq_model.specs.Active.{is_ahead, is_active, activated, is_startable}
+use Rattle.cmwq_model.specs.Workers.{is_enlisted}
+use Rattle.cmwq_model.specs.Answer.{answer, start_of}
+use Rattle.cmwq_model.specs.Legal.{IsLegal}
+
+-- as it was: active is what is open with fewer older open ones on its queue and CPU than the layout says
+abbrev pub is_first : Layout → List Entry → Queueing → Bool
+is_first s past x = is_live past x && nat_lt (count_by (is_ahead x) (still_open past)) (first_width s x.place.queue.0)
+
+abbrev pub is_newly_first : Layout → List Entry → Entry → Queueing → Bool
+is_newly_first s past e x = is_first s (e ∷ past) x && not (is_first s past x)
+
+unfoldable pub ever_first : Layout → List Entry → List Queueing
+ever_first s [] = []
+ever_first s (e ∷ past) = ever_first s past ++ filter (is_newly_first s past e) (queueings (e ∷ past))
+
+abbrev pub is_listed_before : Layout → List Entry → PoolId → Queueing → Bool
+is_listed_before s past p x = is_first s past x && not (is_started past x.number) && same_pool (pool_at s x.place) p
+
+unfoldable pub next_before : Layout → List Entry → PoolId → Option Queueing
+next_before s past p = find (is_startable past) (filter (is_listed_before s past p) (ever_first s past))
+
+-- the width of each queue was that of the layout all the time
+abbrev pub HasFirstWidths : Layout → List Entry → Type 0
+HasFirstWidths s [] = Unit {0}
+HasFirstWidths s (e ∷ past) = ((q : ℕ) → width s (e ∷ past) q ≡ first_width s q) × HasFirstWidths s past
+
+abbrev pub ActiveAsBefore : Type 0
+ActiveAsBefore = (s : Layout) (past : List Entry) → HasFirstWidths s past → ((x : Queueing) → is_active s past x ≡ is_first s past x) × (activated s past ≡ ever_first s past)
+
+-- no call that there wasn't before
+abbrev pub is_old : Call → Bool
+is_old (call.SetMax q n) = false
+is_old call.Freeze = false
+is_old call.Thaw = false
+is_old (call.Destroy q) = false
+is_old c = true
+
+-- as it was: a worker takes the next of those
+unfoldable pub take_before : Layout → List Entry → WorkerId → Reply
+take_before s past w =
+    if not (is_enlisted past w) || has_run past w then reply.Misuse
+    else start_of s past w (next_before s past w.pool)
+
+abbrev pub answer_before : Layout → List Entry → Who → Call → Reply
+answer_before s past (Worker w) call.Take = take_before s past w
+answer_before s past who c = answer s past who c
+
+abbrev pub entry_before : Layout → List Entry → Who → Call → Entry
+entry_before s past who call = record { who = who; serial = serial_of past who; call = call; reply = answer_before s past who call }
+
+unfoldable pub IsLegalBefore : Layout → List Entry → Type 0
+IsLegalBefore s [] = Unit {0}
+IsLegalBefore s (e ∷ past) = IsTrue (fits s e.who e.call) × (e ≡ entry_before s past e.who e.call) × IsLegalBefore s past
+
+abbrev pub LegalAsBefore : Type 0
+LegalAsBefore = (s : Layout) (past : List Entry) → AllByRecursion (λ e. is_old e.call ≡ true) past → (IsLegal s past → IsLegalBefore s past) × (IsLegalBefore s past → IsLegal s past)

@@ -1,0 +1,25 @@
+//! Where widths don't change, histories are legal exactly where they were before widths could change.
+
+ghost use Rattle.cmwq_laws.specs.FirstWidths.{ActiveAsBefore, LegalAsBefore};
+
+/// Where each width is that of the layout all the time, the active queueings are the first open ones, as they were, and
+/// became active in the same order.
+pub fn active_are_as_before()
+    ensures { ActiveAsBefore }
+{}
+
+/// A history without set_max, freeze, thaw and destroy is legal exactly where it was.
+pub fn legal_are_as_before()
+    ensures { LegalAsBefore }
+{}
+
+#[cfg(test)]
+mod tests {
+    use super::*;
+
+    #[test]
+    fn each_is_there() {
+        active_are_as_before();
+        legal_are_as_before();
+    }
+}

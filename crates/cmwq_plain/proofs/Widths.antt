@@ -1,0 +1,31 @@
+-- Widths, and what had way before they changed, as a history is gone through.
+use Rattle.std.proofs.Common.{◌≡◌, ℕ, ◌+◌, ◌<◌, ◌≤◌, Bool, true, false, not, ◌&&◌, ◌||◌, List, [], ◌∷◌, length, Option, refl, sym, ap, ◌∙◌, arith}
+use Rattle.std.specs.Option.{option_map_or}
+use Rattle.cmwq_model.specs.declared.entry.Entry.{Entry}
+use Rattle.cmwq_model.specs.declared.record.Queueing.{Queueing}
+use Rattle.cmwq_model.specs.Layout.{Layout, first_width}
+use Rattle.cmwq_model.specs.Widths.{max_active, width_set}
+use Rattle.cmwq_model.specs.Queueings.{is_live}
+use Rattle.cmwq_model.specs.Active.{has_way}
+use Rattle.cmwq_laws.specs.Activations.{keeps_widths}
+use Rattle.cmwq_laws.specs.Segments.{had_way}
+
+pub max_none : (s : Layout) (q : ℕ) → max_active s [] q ≡ first_width s q
+unfolding max_active
+max_none s q = refl
+
+pub max_step : (s : Layout) (e : Entry) (past : List Entry) (q : ℕ) → max_active s (e ∷ past) q ≡ option_map_or (λ n. n) (width_set e q) (max_active s past q)
+unfolding max_active
+max_step s e past q = refl
+
+pub ruleset max_steps = (max_none, max_step)
+
+pub had_none : (s : Layout) (x : Queueing) → had_way s [] x ≡ false
+unfolding had_way
+had_none s x = refl
+
+pub had_step : (s : Layout) (e : Entry) (past : List Entry) (x : Queueing) → had_way s (e ∷ past) x ≡ (had_way s past x || (not (keeps_widths e.reply) && (is_live past x && has_way s past x)))
+unfolding had_way
+had_step s e past x = refl
+
+pub ruleset had_steps = (had_none, had_step)

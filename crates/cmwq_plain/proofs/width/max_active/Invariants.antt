@@ -1,0 +1,7 @@
+use Rattle.std.proofs.Common.{◌≡◌}
+use Rattle.cmwq_look.specs.Past.{upto}
+use Rattle.cmwq_model.specs.Widths.{max_active}
+use Rattle.cmwq_plain.proofs.width.max_active.Given as goal
+
+abbrev pub invariant-loop-k : goal.invariant-loop-k
+invariant-loop-k l = l.width ≡ max_active l.shape (upto l.past l.k) l.queue
