@@ -11,16 +11,15 @@ use Rattle.cmwq_model.specs.declared.call.Call.{Call}
 use Rattle.cmwq_model.specs.declared.entry.Entry.{Entry}
 use Rattle.cmwq_model.specs.declared.shape.Counts.{Counts}
 use Rattle.cmwq_model.specs.declared.shape.QueueShape.{QueueShape}
-use Rattle.cmwq_model.specs.Layout.{Layout, layout_of, is_layout, are_counts, are_queues, is_queue, is_between, fits}
+use Rattle.cmwq_model.specs.Layout.{Layout, layout_of, is_layout, are_counts, are_queues, is_queue, is_between, fits, entry_fits, reply_fits}
 use Rattle.cmwq_text.specs.Words.{joined}
 use Rattle.cmwq_text.specs.IdText.{who_text}
 use Rattle.cmwq_text.specs.CallText.{call_words, call_text}
-use Rattle.cmwq_text.specs.EntryText.{entry_words, entry_text, entry_fits}
-use Rattle.cmwq_text.specs.ReplyText.{reply_fits}
+use Rattle.cmwq_text.specs.EntryText.{entry_words, entry_text}
 use Rattle.cmwq_text.specs.ShapeText.{counts_words, counts_text, queue_words, queue_text, begins_queue}
 use Rattle.cmwq_text.specs.HistoryText.{counts_in, shape_text}
 use Rattle.cmwq_text.specs.Laws.{IsLineOf}
-use Rattle.cmwq_text.specs.Ranges.{IsWho, IsCall, IsEntry}
+use Rattle.cmwq_model.specs.Ranges.{IsWho, IsCall, IsEntry}
 use Rattle.cmwq_text.proofs.Steps.{both}
 use Rattle.cmwq_text.proofs.EntryLaws.{calls_read_again, entries_read_again}
 use Rattle.cmwq_text.proofs.ShapeLaws.{counts_read_again, queues_read_again}

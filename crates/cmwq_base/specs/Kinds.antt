@@ -3,9 +3,9 @@ use Rattle.std.specs.Prelude.{ℕ, List, Result}
 use Rattle.cmwq_model.specs.declared.id.Who.{Who}
 use Rattle.cmwq_model.specs.declared.call.Call.{Call}
 use Rattle.cmwq_model.specs.declared.entry.Entry.{Entry}
-use Rattle.cmwq_model.specs.Layout.{fits}
+use Rattle.cmwq_model.specs.Layout.{fits, entry_fits}
 use Rattle.cmwq_text.specs.CallText.{call_of}
-use Rattle.cmwq_text.specs.EntryText.{entry_of, entry_fits}
+use Rattle.cmwq_text.specs.EntryText.{entry_of}
 use Rattle.cmwq_text.specs.ShapeText.{queue_of_calls, queue_of_history}
 use Rattle.cmwq_base.specs.declared.refusal.Refusal.{Refusal}
 use Rattle.cmwq_base.specs.Files.{File, Kind, file_of}

@@ -12,6 +12,9 @@ pub use Rattle.cmwq_model.specs.Answer
 pub use Rattle.cmwq_model.specs.Legal
 pub use Rattle.cmwq_model.specs.Room
 pub use Rattle.cmwq_model.specs.Kernel
+pub use Rattle.cmwq_model.specs.Ranges
+pub use Rattle.cmwq_model.specs.Widths
+pub use Rattle.cmwq_model.specs.Verdict
 pub use Rattle.cmwq_io.specs.Counts
 pub use Rattle.cmwq_io.specs.Moves
 pub use Rattle.cmwq_io.specs.FromStd
@@ -29,7 +32,6 @@ pub use Rattle.cmwq_text.specs.ReplyText
 pub use Rattle.cmwq_text.specs.EntryText
 pub use Rattle.cmwq_text.specs.ShapeText
 pub use Rattle.cmwq_text.specs.HistoryText
-pub use Rattle.cmwq_text.specs.Ranges
 pub use Rattle.cmwq_text.specs.Laws
 pub mod Pieces
 pub mod Files

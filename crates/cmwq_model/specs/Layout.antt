@@ -6,6 +6,9 @@ use Rattle.cmwq_model.specs.declared.id.Who.{Who}
 use Rattle.cmwq_model.specs.declared.id.Who.TheVariants.{Caller, Worker}
 use Rattle.cmwq_model.specs.declared.call.Call.{Call}
 use Rattle.cmwq_model.specs.declared.call.Call.TheVariants as call
+use Rattle.cmwq_model.specs.declared.reply.Reply.{Reply}
+use Rattle.cmwq_model.specs.declared.reply.Reply.TheVariants as reply
+use Rattle.cmwq_model.specs.declared.entry.Entry.{Entry}
 use Rattle.cmwq_model.specs.declared.record.Place.{Place}
 use Rattle.cmwq_model.specs.declared.shape.Counts.{Counts}
 use Rattle.cmwq_model.specs.declared.shape.QueueShape.{QueueShape}
@@ -118,3 +121,12 @@ may_make s (Worker w) call = nat_lt w.pool.cpu.0 s.cpus && nat_lt w.index s.work
 
 abbrev pub fits : Layout → Who → Call → Bool
 fits s who call = may_make s who call && has_numbers s call
+
+-- the numbers that stand in a reply are inside the layout, and an entry's who, call and reply are
+abbrev pub reply_fits : Layout → Reply → Bool
+reply_fits s (reply.Fired i k) = nat_lt i.0 s.items
+reply_fits s (reply.StartedEnlist n x) = nat_lt x s.workers
+reply_fits s r = true
+
+abbrev pub entry_fits : Layout → Entry → Bool
+entry_fits s e = fits s e.who e.call && reply_fits s e.reply

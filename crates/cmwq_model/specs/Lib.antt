@@ -1,4 +1,5 @@
 pub mod Layout
+pub mod Ranges
 pub mod Calls
 pub mod Bookings
 pub mod Fate

@@ -9,10 +9,9 @@ use Rattle.cmwq_model.specs.declared.call.Call.{Call}
 use Rattle.cmwq_model.specs.declared.call.Call.TheVariants as call
 use Rattle.cmwq_model.specs.declared.reply.Reply.{Reply}
 use Rattle.cmwq_model.specs.declared.reply.Reply.TheVariants as reply
-use Rattle.cmwq_model.specs.Layout.{Layout, is_layout, are_counts, are_queues, is_between, may_make, has_numbers, has_place, is_callers, is_workers}
-use Rattle.cmwq_text.specs.Numbers.{greatest_byte, greatest_short}
+use Rattle.cmwq_model.specs.Layout.{Layout, is_layout, are_counts, are_queues, is_between, may_make, has_numbers, has_place, is_callers, is_workers, reply_fits}
+use Rattle.cmwq_model.specs.Ranges.{greatest_byte, greatest_short}
 use Rattle.cmwq_text.specs.Words.{words_of, joined, line_text, is_end}
-use Rattle.cmwq_text.specs.ReplyText.{reply_fits}
 use Rattle.cmwq_text.specs.Laws.{IsLineOf}
 use Rattle.cmwq_text.proofs.Steps.{both}
 use Rattle.cmwq_text.proofs.WordLaws.{is_above_space, is_plain, are_plain, and_true, words_again, joined_words}
@@ -147,7 +146,6 @@ known_call s (call.CancelSync i) small e = known_item s i.0 small e
 known_call s c small e = tt
 
 pub known_reply : (s : Layout) (r : Reply) → IsSmall s → reply_fits s r ≡ true → IsKnownReply r
-unfolding reply_fits
 known_reply s (reply.Fired i k) small e = known_item s i.0 small e
 known_reply s (reply.StartedEnlist n x) small e = let below : x < s.workers = ltb-true x s.workers e in omega arith
 known_reply s r small e = tt

@@ -22,7 +22,7 @@ use Rattle.cmwq_text.specs.CallText.{call_words, call_text}
 use Rattle.cmwq_text.specs.ReplyText.{reply_words}
 use Rattle.cmwq_text.specs.EntryText.{entry_words, entry_text}
 use Rattle.cmwq_text.specs.ShapeText.{counts_words, counts_text, counts_of, flags, flags_text, flags_of, queue_words, queue_text, queue_line_of, queue_with, width_taken, queue_of_calls, queue_of_history}
-use Rattle.cmwq_text.specs.Ranges.{IsWho, IsCall, IsEntry}
+use Rattle.cmwq_model.specs.Ranges.{IsWho, IsCall, IsEntry}
 use Rattle.cmwq_text.specs.Laws.{IsLineOf, CountsReadAgain, QueuesReadAgain, CountsSpelledSo, QueuesSpelledSo, LinesAreShort}
 use Rattle.cmwq_text.proofs.Steps.{bind_some, chosen, both}
 use Rattle.cmwq_text.proofs.NumberLaws.{short_again}

@@ -21,7 +21,7 @@ use Rattle.cmwq_text.specs.CallText.{call_words, call_text, is_of_kind}
 use Rattle.cmwq_text.specs.ReplyText.{reply_words}
 use Rattle.cmwq_text.specs.EntryText.{entry_words, entry_text}
 use Rattle.cmwq_text.specs.ShapeText.{counts_words, counts_text, queue_words, queue_text, begins_queue}
-use Rattle.cmwq_text.specs.Ranges.{IsWho, IsCall, IsEntry}
+use Rattle.cmwq_model.specs.Ranges.{IsWho, IsCall, IsEntry}
 use Rattle.cmwq_text.specs.Laws.{IsLineOf}
 use Rattle.cmwq_text.proofs.Steps.{both}
 use Rattle.cmwq_text.proofs.NumberLaws.{own}

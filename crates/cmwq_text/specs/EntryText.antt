@@ -1,11 +1,10 @@
 -- Entries in a text: `<who> <serial> <call> = <reply>`.
-use Rattle.std.specs.Prelude.{ℕ, Bool, ◌&&◌, if◌then◌else◌, List, ◌∷◌, ◌++◌, Option, Some, None, codes, decimal}
+use Rattle.std.specs.Prelude.{ℕ, ◌&&◌, if◌then◌else◌, List, ◌∷◌, ◌++◌, Option, Some, None, codes, decimal}
 use Rattle.cmwq_model.specs.declared.entry.Entry.{Entry}
-use Rattle.cmwq_model.specs.Layout.{Layout, fits}
 use Rattle.cmwq_text.specs.Words.{◌>>=◌, words_of, line_text, is_end, after, number_in}
 use Rattle.cmwq_text.specs.IdText.{who_text, who_in}
 use Rattle.cmwq_text.specs.CallText.{call_words, call_in, is_of_kind}
-use Rattle.cmwq_text.specs.ReplyText.{reply_words, reply_in, reply_fits}
+use Rattle.cmwq_text.specs.ReplyText.{reply_words, reply_in}
 
 abbrev pub entry_words : Entry → List (List ℕ)
 entry_words e = who_text e.who ∷ decimal e.serial ∷ call_words e.call ++ codes "=" ∷ reply_words e.reply
@@ -25,7 +24,3 @@ entry_of line = do
   if is_end reply.1 && is_of_kind who.0 call.0
       then Some (record { who = who.0; serial = serial.0; call = call.0; reply = reply.0 })
       else None
-
--- who, call and reply are inside the shape
-abbrev pub entry_fits : Layout → Entry → Bool
-entry_fits s e = fits s e.who e.call && reply_fits s e.reply

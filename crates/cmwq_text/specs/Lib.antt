@@ -8,5 +8,4 @@ pub mod EntryText
 pub mod ShapeText
 pub mod HistoryText
 pub mod VerdictText
-pub mod Ranges
 pub mod Laws

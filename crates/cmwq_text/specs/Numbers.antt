@@ -2,6 +2,7 @@
 use Rattle.std.specs.Prelude.{ℕ, ◌+◌, ◌-◌, ◌*◌, Bool, false, not, ◌&&◌, ◌||◌, ◌==◌, if◌then◌else◌, List, [], ◌∷◌, length, Option, Some, None, nat_le, min}
 use Rattle.std.specs.Str.{all_ascii_digits}
 use Rattle.std.specs.Char.{is_ascii_digit}
+use Rattle.cmwq_model.specs.Ranges.{greatest_byte, greatest_short, greatest}
 
 -- what digits stand for, behind digits that stand for n
 abbrev pub value_from : ℕ → List ℕ → ℕ
@@ -25,21 +26,7 @@ is_begun (first ∷ others) = not (first == 48) || length others == 0
 unfoldable pub number_of : ℕ → List ℕ → Option ℕ
 number_of limit word = if is_begun word then digits_from limit 0 word else None
 
--- the greatest numbers of the types of ids; an id above them is read as the greatest, and no shape has that one
-abbrev pub greatest_byte : ℕ
-greatest_byte = 255
-
-abbrev pub greatest_short : ℕ
-greatest_short = 65535
-
--- the greatest number in a text, but for three replies
-abbrev pub greatest : ℕ
-greatest = 4294967295
-
--- the greatest tick in a reply
-abbrev pub greatest_long : ℕ
-greatest_long = 18446744073709551615
-
+-- an id above the greatest number of its type is read as the greatest, and no shape has that one
 abbrev pub held_at_most : ℕ → Option ℕ → Option ℕ
 held_at_most most None = None
 held_at_most most (Some n) = Some (min n most)

@@ -100,9 +100,3 @@ abbrev pub reply_in : List (List ℕ) → Option (Reply × List (List ℕ))
 reply_in words = do
   keyword ← keyword_in words
   reply_after keyword.0 keyword.1
-
--- the ids that stand in a reply are inside the shape
-unfoldable pub reply_fits : Layout → Reply → Bool
-reply_fits s (reply.Fired i k) = nat_lt i.0 s.items
-reply_fits s (reply.StartedEnlist n x) = nat_lt x s.workers
-reply_fits s r = true

@@ -3,7 +3,8 @@ use Rattle.std.specs.Prelude.{ℕ, Bool, true, false, ◌==◌, if◌then◌else
 use Rattle.std.specs.List.{slice_split, join_with_byte}
 use Rattle.std.specs.Str.{bytes_eq}
 use denote.Ref.{Bor}
-use Rattle.cmwq_text.specs.Numbers.{number_of, byte_of, short_of, greatest, greatest_long}
+use Rattle.cmwq_text.specs.Numbers.{number_of, byte_of, short_of}
+use Rattle.cmwq_model.specs.Ranges.{greatest, greatest_long}
 
 infixl 10 ◌>>=◌
 abbrev pub ◌>>=◌ : {A B : Type 0} → Option A → (A → Option B) → Option B

@@ -1,6 +1,7 @@
 //! Entries in a text.
 ghost use Rattle.std.specs.Prelude.{◌≡◌};
-ghost use Rattle.cmwq_text.specs.EntryText.{entry_of, entry_fits};
+ghost use Rattle.cmwq_model.specs.Layout.{entry_fits};
+ghost use Rattle.cmwq_text.specs.EntryText.{entry_of};
 
 use crate::call::{call_in, is_of_kind};
 use crate::id::who_in;

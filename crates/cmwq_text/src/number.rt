@@ -1,6 +1,7 @@
 //! Numbers in a text.
 ghost use Rattle.std.specs.Prelude.{◌≡◌, ◌≤◌, IfSome};
-ghost use Rattle.cmwq_text.specs.Numbers.{with_digit, digits_from, is_begun, number_of, greatest, greatest_long, byte_of, short_of};
+ghost use Rattle.cmwq_text.specs.Numbers.{with_digit, digits_from, is_begun, number_of, byte_of, short_of};
+ghost use Rattle.cmwq_model.specs.Ranges.{greatest, greatest_long};
 
 /// The number with a digit after it, if that is at most the limit.
 fn with_digit(limit: u64, value: u64, digit: u8) -> Option<u64>

@@ -1,6 +1,7 @@
 //! Replies in a text.
 ghost use Rattle.std.specs.Prelude.{◌≡◌};
-ghost use Rattle.cmwq_text.specs.ReplyText.{ticket_with, ticket_after, started_with, started_after, reply_after, reply_in, reply_fits};
+ghost use Rattle.cmwq_model.specs.Layout.{reply_fits};
+ghost use Rattle.cmwq_text.specs.ReplyText.{ticket_with, ticket_after, started_with, started_after, reply_after, reply_in};
 
 use crate::id::item_in;
 use crate::keyword::{Keyword, keyword_in};
@@ -138,7 +139,6 @@ pub fn reply_in<'a>(words: Words<'a>) -> Option<(Reply, Words<'a>)>
 }
 
 /// Whether the item or the index of a worker that stands in a reply is inside the shape.
-#[tactic(auto, unfolding(crate::specs::ReplyText::reply_fits))]
 pub fn reply_fits(shape: &Shape, reply: Reply) -> bool
     ensures { result ≡ reply_fits shape.now reply }
 {

@@ -7,7 +7,19 @@ use Rattle.cmwq_model.specs.declared.call.Call.TheVariants as call
 use Rattle.cmwq_model.specs.declared.reply.Reply.{Reply}
 use Rattle.cmwq_model.specs.declared.reply.Reply.TheVariants as reply
 use Rattle.cmwq_model.specs.declared.entry.Entry.{Entry}
-use Rattle.cmwq_text.specs.Numbers.{greatest_byte, greatest_short, greatest, greatest_long}
+
+-- the greatest numbers of the types: of callers, workers, CPUs and queues, of items, of entries and ticks, and of the time
+abbrev pub greatest_byte : ℕ
+greatest_byte = 255
+
+abbrev pub greatest_short : ℕ
+greatest_short = 65535
+
+abbrev pub greatest : ℕ
+greatest = 4294967295
+
+abbrev pub greatest_long : ℕ
+greatest_long = 18446744073709551615
 
 abbrev pub IsWho : Who → Type 0
 IsWho (Caller c) = c.0 ≤ greatest_byte
@@ -34,6 +46,10 @@ IsCall call.Finish = Unit {0}
 IsCall call.Sleep = Unit {0}
 IsCall call.Wake = Unit {0}
 IsCall call.Retire = Unit {0}
+IsCall (call.SetMax q n) = (q.0 ≤ greatest_byte) × (n ≤ greatest)
+IsCall call.Freeze = Unit {0}
+IsCall call.Thaw = Unit {0}
+IsCall (call.Destroy q) = q.0 ≤ greatest_byte
 
 abbrev pub IsReply : Reply → Type 0
 IsReply (reply.Yes k) = k ≤ greatest
@@ -52,6 +68,7 @@ IsReply (reply.Waiting n) = n ≤ greatest
 IsReply (reply.Started n) = n ≤ greatest
 IsReply (reply.StartedEnlist n x) = (n ≤ greatest) × (x ≤ greatest_byte)
 IsReply (reply.Finished n) = n ≤ greatest
+IsReply (reply.Width n) = n ≤ greatest
 IsReply r = Unit {0}
 
 pub record IsEntry (e : Entry) : Type 0 where
