@@ -4,7 +4,7 @@ ghost use Rattle.cmwq_pool.specs.Seats.{seat_at, is_idle, runs_awake, runs_aslee
 ghost use Rattle.cmwq_pool.specs.Lineup.{new_lineup, task, may_add, added, removed, next_task, next, started, reseated};
 
 use crate::seat::Seat;
-use crate::seats::{count_holding, have_spare, new_seats, start_task, take_run};
+use crate::seats::{count_holding, enlisted_by, have_spare, new_seats, start_task, take_run};
 use crate::task::Task;
 use crate::worklist::{has_like, next_free, no_marks, take_next, take_number};
 use cmwq_model::{ItemId, NoMemory, Number};
@@ -147,6 +147,13 @@ impl Pool {
         let task = take_next(&mut self.listed, &self.running);
         self.running[usize::from(task.item.0)] = true;
         start_task(&mut self.seats, worker, task)
+    }
+
+    /// The worker that this one would enlist as it starts.
+    pub fn would_enlist(&self, worker: u8) -> Option<u8>
+        ensures { result ≡ enlisted_by self.now.seats worker }
+    {
+        enlisted_by(&self.seats, worker)
     }
 
     /// A worker's run goes to sleep (the kernel's `wq_worker_sleeping`).

@@ -1,0 +1,69 @@
+-- A book that is told of an effect is one further on.
+use Rattle.std.proofs.Common.{◌≡◌, ℕ, ◌+◌, ◌*◌, ◌^◌, ◌<◌, ◌≤◌, Bool, true, false, List, [], ◌∷◌, ◌++◌, length, Option, Some, None, refl, sym, ap, ap₂, ◌∙◌, subst, arith, IsTrue, length-append}
+use Rattle.std.specs.Prelude.{slice_set, if◌then◌else◌, option_and_then}
+use Rattle.std.proofs.lemmas.List.{length-reverse}
+use Rattle.cmwq_model.specs.declared.entry.Entry.{Entry}
+use Rattle.cmwq_model.specs.Layout.{Layout, is_layout, fits}
+use Rattle.cmwq_model.specs.Calls.{item_of, serial_of, ticks_told}
+use Rattle.cmwq_model.specs.Bookings.{settles, booking_of, booked_by}
+use Rattle.cmwq_model.specs.Legal.{IsLegal, past_of, entry_for}
+use Rattle.cmwq_model.specs.Room.{owed}
+use Rattle.cmwq_pool.specs.Lineup.{Lineup}
+use Rattle.cmwq_flush.specs.FlushBook.{FlushBook}
+use Rattle.cmwq_ties.specs.BarrierBooks as barriers
+use Rattle.cmwq_ties.specs.Timers as timers
+use Rattle.cmwq_core.specs.Tables.{IsThere, who_place, TellWorker, TellCancelled, TellEnded, TellOpened}
+use Rattle.cmwq_core.specs.Book.{Parts, AreParts, IsBook}
+use Rattle.cmwq_core.specs.Effects.{IsEffect, settled_by, item_number}
+use Rattle.cmwq_core.specs.declared.effect.Effect.{Effect}
+use Rattle.cmwq_core.proofs.Quiet.{SaysNothing, IsQuiet, quiet}
+use Rattle.cmwq_core.proofs.Steps.{past_more, small, fits_there, serial_most}
+use Rattle.cmwq_core.proofs.Told.{told_parts}
+
+pub effect_fits : (s : Layout) (past : List Entry) (f : Effect) → IsEffect s past f → fits s f.entry.who f.entry.call ≡ true
+unfolding IsLegal
+effect_fits s past f is = is.legal.0
+
+pub effect_there : (s : Layout) (past : List Entry) (f : Effect) → IsEffect s past f → IsThere s f.entry.who
+effect_there s past f is = fits_there s f.entry.who f.entry.call (effect_fits s past f is)
+
+pub effect_serial : (s : Layout) (past : List Entry) (f : Effect) → IsEffect s past f → f.entry.serial ≡ serial_of past f.entry.who
+unfolding IsLegal
+effect_serial s past f is = ap (λ (x : Entry). x.serial) is.legal.1
+
+pub told_book : (s : Layout) (room : ℕ) (entries : List Entry) (capacity : ℕ) (old new : Parts) (f : Effect) (pools_mid : List Lineup) (books_mid : List FlushBook) → IsBook s room entries capacity old → IsEffect s (past_of entries) f →
+    TellWorker f.entry.who f.entry.reply old.pools pools_mid → TellCancelled s f.entry f.ended pools_mid new.pools → TellEnded f.ended old.books books_mid → TellOpened f.opened books_mid new.books →
+    new.barriers ≡ barriers.told_opened f.opened (barriers.told_ended f.ended old.barriers) → new.timers ≡ timers.told_settled (item_number f.settled) f.booked old.timers →
+    new.time ≡ old.time + ticks_told f.entry.call → ticks_told f.entry.call < 2 ^ 32 → new.serials ≡ slice_set old.serials (who_place f.entry.who) (f.entry.serial + 1) → new.owing ≡ f.owing → length entries + 1 + f.owing ≤ room →
+    IsBook s room (entries ++ f.entry ∷ []) capacity new
+told_book s room entries capacity old new f pools_mid books_mid b is worker cancelled ended opened barrier timer time ticks serials owing within =
+    let past = past_of entries in
+    let soon = b.soon in
+    let one_more : length (entries ++ f.entry ∷ []) ≡ length entries + 1 = length-append entries (f.entry ∷ []) in
+    record {
+      inside = b.inside;
+      few = b.few;
+      reserved = b.reserved;
+      legal = rw (past_more entries f.entry) is.legal;
+      parts_are = rw (past_more entries f.entry) (told_parts s past f old new pools_mid books_mid is (small s b.inside) (effect_there s past f is) b.parts_are worker cancelled ended opened barrier timer time
+        (serials ∙ ap (λ n. slice_set old.serials (who_place f.entry.who) (n + 1)) (effect_serial s past f is)) owing);
+      within = rw (one_more, owing) within;
+      soon = rw (one_more, time) (omega arith);
+    }
+
+pub quiet_effect : (s : Layout) (past : List Entry) (f : Effect) → IsLegal s (f.entry ∷ past) → SaysNothing f.entry.reply → f.ended ≡ None → f.opened ≡ None → f.done ≡ None → f.begun ≡ None → f.settled ≡ None → f.booked ≡ None → f.owing ≡ owed s (f.entry ∷ past) → IsEffect s past f
+quiet_effect s past f legal says ended opened done begun settled booked owing =
+    let q = quiet s past f.entry legal says in
+    record {
+      legal = legal;
+      ended = ended ∙ sym q.ending;
+      opened = opened ∙ sym q.opening;
+      done = done ∙ sym q.done;
+      begun = begun ∙ sym q.begun;
+      settled = ap item_number settled ∙ sym (ap (λ b. if b then item_of f.entry else None) says.settles);
+      booked = booked ∙ sym (ap (option_and_then (booked_by f.entry.call (length past))) says.due);
+      owing = owing;
+      newly = q.newly;
+      no_done = q.done;
+      no_begun = q.begun;
+    }

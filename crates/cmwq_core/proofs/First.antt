@@ -1,0 +1,72 @@
+-- The parts of a new book are those of no entries.
+use Rattle.std.proofs.Common.{◌≡◌, ℕ, ◌+◌, ◌*◌, ◌<◌, ◌≤◌, Bool, true, false, List, [], length, replicate, refl, sym, ap, ◌∙◌, arith, Some, None, subst}
+use Rattle.std.specs.Prelude.{slice_index_or}
+use Rattle.std.proofs.lemmas.List.{get_or-replicate, length-replicate}
+use Rattle.cmwq_model.specs.declared.id.PoolId.{PoolId}
+use Rattle.cmwq_model.specs.declared.id.Who.{Who}
+use Rattle.cmwq_model.specs.declared.id.Who.TheVariants.{Caller, Worker}
+use Rattle.cmwq_model.specs.declared.entry.Entry.{Entry}
+use Rattle.cmwq_model.specs.Layout.{Layout, is_layout}
+use Rattle.cmwq_model.specs.Calls.{now}
+use Rattle.cmwq_model.specs.Legal.{IsLegal}
+use Rattle.cmwq_model.specs.Room.{owed}
+use Rattle.cmwq_laws.proofs.Promised.{steps_within_room}
+use Rattle.cmwq_pool.specs.Lineup.{Lineup, new_lineup}
+use Rattle.cmwq_flush.specs.FlushBook.{FlushBook, new_book}
+use Rattle.cmwq_flush.specs.BarrierBook.{new_barriers}
+use Rattle.cmwq_ties.specs.FlushBooks.{AreFlushes}
+use Rattle.cmwq_ties.proofs.PoolSteps.{pools_at_first}
+use Rattle.cmwq_ties.proofs.FlushSteps.{flushes_at_first}
+use Rattle.cmwq_ties.proofs.BarrierSteps.{barriers_at_first}
+use Rattle.cmwq_ties.proofs.TimerSteps.{no_timers_at_first}
+use Rattle.cmwq_core.specs.Tables.{IsThere, pool_place, no_pool, no_book, who_place, ArePools, AreBooks, AreSerials}
+use Rattle.cmwq_core.specs.Book.{Parts, AreParts, IsBook}
+use Rattle.cmwq_core.proofs.Follow.{IsSmall, pool_place_inside, who_below}
+use Rattle.cmwq_core.proofs.Steps.{small}
+
+abbrev pub first_parts : Layout → Parts
+first_parts s = record {
+  pools = replicate (2 * s.cpus) (new_lineup s.items s.workers);
+  books = replicate (length s.queues) (new_book s.callers);
+  barriers = new_barriers s.items s.callers;
+  timers = replicate s.items None;
+  time = 0;
+  serials = replicate 128 0;
+  owing = 0;
+}
+
+nothing_owed : (s : Layout) → owed s [] ≡ 0
+unfolding owed
+nothing_owed s = let within = steps_within_room s 0 [] in omega arith
+
+first_time : 0 ≡ now []
+unfolding now
+first_time = refl
+
+pub parts_at_first : (s : Layout) → IsSmall s → AreParts s [] (first_parts s)
+parts_at_first s small = record {
+  pools = record {
+    many = length-replicate (2 * s.cpus) (new_lineup s.items s.workers);
+    each = λ p here. get_or-replicate (2 * s.cpus) (pool_place p) (new_lineup s.items s.workers) no_pool (pool_place_inside p s.cpus (2 * s.cpus) refl here) ∙ sym (pools_at_first s p);
+  };
+  books = record {
+    many = length-replicate (length s.queues) (new_book s.callers);
+    each = λ q here. subst (AreFlushes s [] q) (sym (get_or-replicate (length s.queues) q (new_book s.callers) no_book here)) (flushes_at_first s q);
+  };
+  barriers = sym (barriers_at_first s);
+  timers = sym (no_timers_at_first s);
+  time = first_time;
+  serials = record {
+    many = length-replicate 128 (let n : ℕ = 0 in n);
+    each = λ who there. get_or-replicate 128 (who_place who) 0 0 (who_below s who there small.cpus small.workers small.callers);
+  };
+  owing = sym (nothing_owed s);
+}
+
+pub book_at_first : (s : Layout) (room capacity : ℕ) → is_layout s ≡ true → room ≤ 1010000 → room ≤ capacity → IsBook s room [] capacity (first_parts s)
+unfolding IsLegal
+book_at_first s room capacity inside few reserved = record {
+  inside = inside; few = few; reserved = reserved; legal = tt;
+  parts_are = parts_at_first s (small s inside);
+  within = omega arith; soon = omega arith;
+}

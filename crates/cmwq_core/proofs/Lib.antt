@@ -1,0 +1,9 @@
+pub mod Quiet
+pub mod Follow
+pub mod Owing
+pub mod Steps
+pub mod First
+pub mod Waiting
+pub mod Told
+pub mod Appended
+pub mod Way

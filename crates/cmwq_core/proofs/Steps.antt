@@ -1,0 +1,104 @@
+-- A book, one entry further on.
+use Rattle.std.proofs.Common.{◌≡◌, ℕ, ◌+◌, ◌*◌, ◌^◌, ◌<◌, ◌≤◌, Bool, true, false, List, [], ◌∷◌, ◌++◌, length, count_by, refl, sym, ap, ap₂, ◌∙◌, subst, arith, IsTrue, nat_le, nat_lt, length-append}
+use Rattle.std.specs.Prelude.{slice_set, reverse}
+use Rattle.std.proofs.lemmas.List.{reverse-append, length-reverse}
+use Rattle.std.proofs.lemmas.List.Sums.{count_by-le-length}
+use Rattle.std.proofs.lemmas.Bool.{and_parts, leb-true, ltb-true}
+use Rattle.cmwq_model.specs.declared.id.Who.{Who}
+use Rattle.cmwq_model.specs.declared.id.Who.TheVariants.{Caller, Worker}
+use Rattle.cmwq_model.specs.declared.call.Call.{Call}
+use Rattle.cmwq_model.specs.declared.reply.Reply.{Reply}
+use Rattle.cmwq_model.specs.declared.reply.Reply.TheVariants as reply
+use Rattle.cmwq_model.specs.declared.entry.Entry.{Entry}
+use Rattle.cmwq_model.specs.Layout.{Layout, is_layout, fits, may_make, has_numbers}
+use Rattle.cmwq_model.specs.Calls.{is_by, serial_of, ticks_told}
+use Rattle.cmwq_model.specs.Answer.{answer}
+use Rattle.cmwq_model.specs.Legal.{IsLegal, past_of, entry_for}
+use Rattle.cmwq_model.specs.Room.{owed, needed}
+use Rattle.cmwq_pool.specs.Lineup.{Lineup}
+use Rattle.cmwq_laws.specs.RoomSteps.{one, is_slept, is_woke}
+use Rattle.cmwq_ties.proofs.PoolMay.{workers_may_be_told}
+use Rattle.cmwq_core.specs.Tables.{IsThere, who_place, pool_in, ArePools, MayTellWorker, TellWorker}
+use Rattle.cmwq_core.specs.Book.{Kept, Parts, AreParts, IsBook, is_known, next_entry, has_room_in}
+use Rattle.cmwq_core.proofs.Quiet.{SaysNothing, answer_quiet}
+use Rattle.cmwq_core.proofs.Owing.{quiet_owes}
+use Rattle.cmwq_core.proofs.Follow.{IsSmall, quiet_parts, pool_place_inside}
+
+pub past_more : (entries : List Entry) (e : Entry) → past_of (entries ++ e ∷ []) ≡ e ∷ past_of entries
+past_more entries e = reverse-append entries (e ∷ [])
+
+pub small : (s : Layout) → is_layout s ≡ true → IsSmall s
+small s h =
+    let counts = (and_parts _ _ h).0 in
+    let a = and_parts _ _ counts in
+    let b = and_parts _ _ a.0 in
+    let c = and_parts _ _ b.0 in
+    let d = and_parts _ _ c.0 in
+    record {
+      cpus = leb-true s.cpus 4 (and_parts _ _ d.0).1;
+      workers = leb-true s.workers 8 (and_parts _ _ d.1).1;
+      callers = leb-true s.callers 64 (and_parts _ _ c.1).1;
+    }
+
+pub fits_there : (s : Layout) (who : Who) (c : Call) → fits s who c ≡ true → IsThere s who
+fits_there s (Caller d) c h = ltb-true d.0 s.callers (and_parts _ _ (and_parts _ _ h).0).0
+fits_there s (Worker w) c h =
+    let a = and_parts _ _ (and_parts _ _ (and_parts _ _ h).0).0 in
+    (ltb-true w.pool.cpu.0 s.cpus a.0, ltb-true w.index s.workers a.1)
+
+pub next_legal : (s : Layout) (past : List Entry) (who : Who) (c : Call) → IsLegal s past → fits s who c ≡ true → IsLegal s (entry_for s past who c ∷ past)
+unfolding IsLegal
+next_legal s past who c legal fit = (fit, refl, legal)
+
+pub serial_most : (past : List Entry) (who : Who) → serial_of past who ≤ length past
+serial_most past who = count_by-le-length (is_by who) past
+
+-- what is owed after the entries of this trial
+pub owes_next : (s : Layout) (past : List Entry) (who : Who) (c : Call) → IsLegal s past → fits s who c ≡ true → is_known c ≡ true →
+    owed s (entry_for s past who c ∷ past) + one (is_woke (answer s past who c)) ≡ owed s past + one (is_slept (answer s past who c))
+owes_next s past who c legal fit known = quiet_owes s past (entry_for s past who c) (next_legal s past who c legal fit) (answer_quiet s past who c known)
+
+pub not_slept : (r : Reply) → (r ≡ reply.Slept → ⊥) → is_slept r ≡ false
+not_slept reply.Slept h = absurd (h refl)
+not_slept r h = refl
+
+pub not_woke : (r : Reply) → (r ≡ reply.Woke → ⊥) → is_woke r ≡ false
+not_woke reply.Woke h = absurd (h refl)
+not_woke r h = refl
+
+-- what the pools are told may be told
+pub may_tell : (s : Layout) (past : List Entry) (e : Entry) (pools : List Lineup) → IsLegal s (e ∷ past) → IsThere s e.who → ArePools s past pools → MayTellWorker e.who e.reply pools
+may_tell s past e pools legal there are = by e.who refl there where
+  by : (who : Who) → e.who ≡ who → IsThere s who → MayTellWorker who e.reply pools
+  by (Caller c) is here = tt
+  by (Worker w) is here = (pool_place_inside w.pool s.cpus (length pools) are.many here.0,
+    rw (are.each w.pool here.0) (workers_may_be_told s past e w legal is))
+
+pub book_more : (s : Layout) (room : ℕ) (entries : List Entry) (capacity : ℕ) (old new : Parts) (e : Entry) → IsBook s room entries capacity old → fits s e.who e.call ≡ true → is_known e.call ≡ true →
+    e ≡ entry_for s (past_of entries) e.who e.call → TellWorker e.who e.reply old.pools new.pools → new.books ≡ old.books → new.barriers ≡ old.barriers → new.timers ≡ old.timers → new.time ≡ old.time + ticks_told e.call → ticks_told e.call < 2 ^ 32 →
+    new.serials ≡ slice_set old.serials (who_place e.who) (e.serial + 1) → new.owing ≡ owed s (e ∷ past_of entries) → length entries + 1 + new.owing ≤ room →
+    IsBook s room (entries ++ e ∷ []) capacity new
+book_more s room entries capacity old new e b fit known is pools books barriers timers time ticks serials owing within =
+    let past = past_of entries in
+    let legal : IsLegal s (e ∷ past) = rw is (next_legal s past e.who e.call b.legal fit) in
+    let says : SaysNothing e.reply = subst SaysNothing (sym (ap (λ (x : Entry). x.reply) is)) (answer_quiet s past e.who e.call known) in
+    let serial : e.serial ≡ serial_of past e.who = ap (λ (x : Entry). x.serial) is in
+    let soon = b.soon in
+    let one_more : length (entries ++ e ∷ []) ≡ length entries + 1 = length-append entries (e ∷ []) in
+    record {
+      inside = b.inside;
+      few = b.few;
+      reserved = b.reserved;
+      legal = rw (past_more entries e) legal;
+      parts_are = rw (past_more entries e) (quiet_parts s past e old new legal says (small s b.inside) (fits_there s e.who e.call fit) b.parts_are pools books barriers timers time (serials ∙ ap (λ n. slice_set old.serials (who_place e.who) (n + 1)) serial) owing);
+      within = rw one_more within;
+      soon = rw (one_more, time) (omega arith);
+    }
+
+-- the same by the reply
+pub owes_as : (s : Layout) (past : List Entry) (who : Who) (c : Call) (r : Reply) (woke slept : Bool) → IsLegal s past → fits s who c ≡ true → is_known c ≡ true → r ≡ answer s past who c → is_woke r ≡ woke → is_slept r ≡ slept →
+    owed s (entry_for s past who c ∷ past) + one woke ≡ owed s past + one slept
+owes_as s past who c r woke slept legal fit known is wakes sleeps =
+    let w : is_woke (answer s past who c) ≡ woke = ap is_woke (sym is) ∙ wakes in
+    let z : is_slept (answer s past who c) ≡ slept = ap is_slept (sym is) ∙ sleeps in
+    ap (λ b. owed s (entry_for s past who c ∷ past) + one b) (sym w) ∙ (owes_next s past who c legal fit known ∙ ap (λ b. owed s past + one b) z)

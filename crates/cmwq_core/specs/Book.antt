@@ -1,0 +1,74 @@
+-- A book's value, and what its parts are of the past.
+use Rattle.std.specs.Prelude.{◌≡◌, ℕ, ◌+◌, ◌*◌, ◌^◌, ◌≤◌, true, false, Bool, List, [], ◌∷◌, ◌++◌, length, nat_le, IsTrue}
+use Rattle.cmwq_model.specs.declared.id.Who.{Who}
+use Rattle.cmwq_model.specs.declared.id.Who.TheVariants.{Caller, Worker}
+use Rattle.cmwq_model.specs.declared.call.Call.{Call}
+use Rattle.cmwq_model.specs.declared.call.Call.TheVariants as call
+use Rattle.cmwq_model.specs.declared.entry.Entry.{Entry}
+use Rattle.cmwq_model.specs.declared.record.Queueing.{Queueing}
+use Rattle.cmwq_model.specs.declared.record.Booking.{Booking}
+use Rattle.cmwq_model.specs.declared.record.Ticket.{Ticket}
+use Rattle.cmwq_model.specs.Layout.{Layout, is_layout}
+use Rattle.cmwq_model.specs.Calls.{now}
+use Rattle.cmwq_model.specs.Legal.{IsLegal, past_of, entry_for}
+use Rattle.cmwq_model.specs.Room.{owed, needed}
+use Rattle.cmwq_pool.specs.Lineup.{Lineup}
+use Rattle.cmwq_flush.specs.FlushBook.{FlushBook}
+use Rattle.cmwq_flush.specs.BarrierBook.{BarrierBook}
+use Rattle.cmwq_timer.specs.Rows.{Rows}
+use Rattle.cmwq_ties.specs.BarrierBooks.{barriers_of}
+use Rattle.cmwq_ties.specs.Timers.{timers_of}
+use Rattle.cmwq_core.specs.Tables.{ArePools, AreBooks, AreSerials}
+
+-- what callers of a book see
+pub record Kept : Type 0 where
+  pub layout : Layout
+  pub room : ℕ
+  pub entries : List Entry
+
+-- the parts, as plain values
+pub record Parts : Type 0 where
+  pub pools : List Lineup
+  pub books : List FlushBook
+  pub barriers : BarrierBook
+  pub timers : Rows
+  pub time : ℕ
+  pub serials : List ℕ
+  pub owing : ℕ
+
+-- what each part is of the past
+pub record AreParts (s : Layout) (past : List Entry) (parts : Parts) : Type 0 where
+  pub pools : ArePools s past parts.pools
+  pub books : AreBooks s past parts.books
+  pub barriers : parts.barriers ≡ barriers_of s past
+  pub timers : parts.timers ≡ timers_of s past
+  pub time : parts.time ≡ now past
+  pub serials : AreSerials s past parts.serials
+  pub owing : parts.owing ≡ owed s past
+
+pub record IsBook (s : Layout) (room : ℕ) (entries : List Entry) (capacity : ℕ) (parts : Parts) : Type 0 where
+  pub inside : is_layout s ≡ true
+  pub few : room ≤ 1010000
+  pub reserved : room ≤ capacity
+  pub legal : IsLegal s (past_of entries)
+  pub parts_are : AreParts s (past_of entries) parts
+  pub within : length entries + parts.owing ≤ room
+  pub soon : parts.time ≤ length entries * 2 ^ 32
+
+-- the entry of a call, and whether there is room for it
+abbrev pub next_entry : Kept → Who → Call → Entry
+next_entry b who c = entry_for b.layout (past_of b.entries) who c
+
+abbrev pub has_room_in : Kept → Who → Call → Bool
+has_room_in b who c = nat_le (needed b.layout (next_entry b who c ∷ past_of b.entries)) b.room
+
+abbrev pub and_entry : Kept → Entry → Kept
+and_entry b e = record b { entries = b.entries ++ e ∷ [] }
+
+-- the calls of this trial
+abbrev pub is_known : Call → Bool
+is_known (call.Tick t) = true
+is_known call.Sleep = true
+is_known call.Wake = true
+is_known call.Retire = true
+is_known c = false

@@ -1,0 +1,4 @@
+pub mod Tables
+pub mod Book
+pub mod Waiting
+pub mod Effects

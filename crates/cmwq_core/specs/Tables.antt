@@ -1,0 +1,123 @@
+-- The tables of a book: where each pool, each flush book and each serial stands, and what they are told.
+use Rattle.std.specs.Prelude.{◌≡◌, ℕ, ◌+◌, ◌*◌, ◌<◌, true, if◌then◌else◌, List, [], ◌∷◌, length, filter, Option, Some, None, slice_index_or, Contains, IsTrue}
+use Rattle.cmwq_model.specs.declared.id.PoolId.{PoolId}
+use Rattle.cmwq_model.specs.declared.id.WorkerId.{WorkerId}
+use Rattle.cmwq_model.specs.declared.id.Who.{Who}
+use Rattle.cmwq_model.specs.declared.id.Who.TheVariants.{Caller, Worker}
+use Rattle.cmwq_model.specs.declared.reply.Reply.{Reply}
+use Rattle.cmwq_model.specs.declared.entry.Entry.{Entry}
+use Rattle.cmwq_model.specs.declared.record.Queueing.{Queueing}
+use Rattle.cmwq_model.specs.declared.shape.QueueShape.{QueueShape}
+use Rattle.cmwq_model.specs.declared.record.Ticket.{Ticket}
+use Rattle.cmwq_model.specs.declared.call.Call.{Call}
+use Rattle.cmwq_model.specs.declared.call.Call.TheVariants as call
+use Rattle.cmwq_model.specs.Layout.{Layout, pool_at}
+use Rattle.cmwq_model.specs.Calls.{serial_of, same_pool}
+use Rattle.cmwq_pool.specs.Lineup.{Lineup, removed, added, may_add}
+use Rattle.cmwq_flush.specs.FlushBook.{FlushBook, new_book, flush_tickets, IsReady, CanOpen}
+use Rattle.cmwq_ties.specs.Pools.{pool_of, task_for, MayBeTold, told_worker, told_cancelled, told_active}
+use Rattle.cmwq_ties.specs.FlushBooks.{AreFlushes, told_ended, told_opened, told_done}
+use Rattle.cmwq_laws.specs.Activations.{is_in}
+
+-- the who is inside the layout
+abbrev pub IsThere : Layout → Who → Type 0
+IsThere s (Caller c) = c.0 < s.callers
+IsThere s (Worker w) = (w.pool.cpu.0 < s.cpus) × (w.index < s.workers)
+
+abbrev pub pool_place : PoolId → ℕ
+pool_place p = 2 * p.cpu.0 + (if p.high then 1 else 0)
+
+abbrev pub no_pool : Lineup
+no_pool = record { items = 0; listed = []; seats = [] }
+
+abbrev pub pool_in : List Lineup → PoolId → Lineup
+pool_in pools p = slice_index_or pools (pool_place p) no_pool
+
+abbrev pub who_place : Who → ℕ
+who_place (Caller c) = c.0
+who_place (Worker w) = 64 + (w.pool.cpu.0 * 16 + (if w.pool.high then 8 else 0) + w.index)
+
+-- each pool is that of the past
+pub record ArePools (s : Layout) (past : List Entry) (pools : List Lineup) : Type 0 where
+  pub many : length pools ≡ 2 * s.cpus
+  pub each : (p : PoolId) → p.cpu.0 < s.cpus → pool_in pools p ≡ pool_of s past p
+
+-- each queue's flush book is that of the past
+abbrev pub no_book : FlushBook
+no_book = new_book 0
+
+abbrev pub book_in : List FlushBook → ℕ → FlushBook
+book_in books q = slice_index_or books q no_book
+
+pub record AreBooks (s : Layout) (past : List Entry) (books : List FlushBook) : Type 0 where
+  pub many : length books ≡ length s.queues
+  pub each : (q : ℕ) → q < length s.queues → AreFlushes s past q (book_in books q)
+
+pub record AreSerials (s : Layout) (past : List Entry) (serials : List ℕ) : Type 0 where
+  pub many : length serials ≡ 128
+  pub each : (who : Who) → IsThere s who → slice_index_or serials (who_place who) 0 ≡ serial_of past who
+
+-- what the pools are told
+abbrev pub MayTellWorker : Who → Reply → List Lineup → Type 0
+MayTellWorker (Caller c) r pools = Unit {0}
+MayTellWorker (Worker w) r pools = (pool_place w.pool < length pools) × MayBeTold r (pool_in pools w.pool) w.index
+
+pub record TellWorker (who : Who) (r : Reply) (old new : List Lineup) : Type 0 where
+  pub many : length new ≡ length old
+  pub each : (p : PoolId) → pool_in new p ≡ told_worker p who r (pool_in old p)
+
+-- one pool lists this number no more
+pub record RemovedFrom (at : PoolId) (number : ℕ) (old new : List Lineup) : Type 0 where
+  pub many : length new ≡ length old
+  pub each : (p : PoolId) → pool_in new p ≡ (if same_pool at p then removed (pool_in old p) number else pool_in old p)
+
+-- what the flush books are told of a queueing that ended, and of one that was opened
+abbrev pub MayTellEnded : Option Queueing → List FlushBook → Type 0
+MayTellEnded None books = Unit {0}
+MayTellEnded (Some x) books = (x.place.queue.0 < length books) × Contains (book_in books x.place.queue.0).opened x.number
+
+pub record TellEnded (ended : Option Queueing) (old new : List FlushBook) : Type 0 where
+  pub many : length new ≡ length old
+  pub each : (q : ℕ) → book_in new q ≡ told_ended ended q (book_in old q)
+
+abbrev pub MayTellOpened : Option Queueing → List FlushBook → Type 0
+MayTellOpened None books = Unit {0}
+MayTellOpened (Some x) books = (x.place.queue.0 < length books) × CanOpen (book_in books x.place.queue.0) x.number
+
+pub record TellOpened (opened : Option Queueing) (old new : List FlushBook) : Type 0 where
+  pub many : length new ≡ length old
+  pub each : (q : ℕ) → book_in new q ≡ told_opened opened q (book_in old q)
+
+-- what the pools are told of a queueing that ended otherwise than by a finish
+abbrev pub MayTellCancelled : Option Queueing → List QueueShape → List Lineup → Type 0
+MayTellCancelled None queues pools = Unit {0}
+MayTellCancelled (Some x) queues pools = (x.place.queue.0 < length queues) × (2 * x.place.cpu.0 + 1 < length pools)
+
+pub record TellCancelled (s : Layout) (e : Entry) (ended : Option Queueing) (old new : List Lineup) : Type 0 where
+  pub many : length new ≡ length old
+  pub each : (p : PoolId) → pool_in new p ≡ told_cancelled s p e ended (pool_in old p)
+
+-- what the flush books are told of a wait that ended, and of one that began
+abbrev pub MayEndWait : Call → ℕ → List FlushBook → Type 0
+MayEndWait (call.Flush q) t books = (q.0 < length books) × Contains (flush_tickets (book_in books q.0)) t × IsReady (book_in books q.0) t
+MayEndWait (call.Drain q) t books = (q.0 < length books) × Contains (book_in books q.0).drains t
+MayEndWait (call.Destroy q) t books = (q.0 < length books) × Contains (book_in books q.0).drains t
+MayEndWait c t books = Unit {0}
+
+abbrev pub MayTellDone : Option Ticket → List FlushBook → Type 0
+MayTellDone None books = Unit {0}
+MayTellDone (Some t) books = MayEndWait t.call t.number books
+
+pub record TellDone (done : Option Ticket) (old new : List FlushBook) : Type 0 where
+  pub many : length new ≡ length old
+  pub each : (q : ℕ) → book_in new q ≡ told_done done q (book_in old q)
+
+-- what the pools are told of a queueing that became active
+pub record MayListActive (s : Layout) (x : Queueing) (pools : List Lineup) : Type 0 where
+  pub queue : x.place.queue.0 < length s.queues
+  pub place : pool_place (pool_at s x.place) < length pools
+  pub may : IsTrue (may_add (pool_in pools (pool_at s x.place)) x.number x.item.0)
+
+pub record ListActive (s : Layout) (x : Queueing) (old new : List Lineup) : Type 0 where
+  pub many : length new ≡ length old
+  pub each : (p : PoolId) → pool_in new p ≡ (if is_in s p x then added (pool_in old p) (task_for s x) else pool_in old p)

@@ -1,0 +1,409 @@
+ghost use Rattle.std.specs.Prelude.{◌≡◌, ◌<◌, ◌≤◌, ◌+◌, ◌∷◌, ◌&&◌, ◌^◌, [], true, length, nat_le, is_ok, Ok, Err, IfOk, OnErr, IsTrue, option_map};
+ghost use Rattle.cmwq_model.specs.declared.id.Who.TheVariants.{Worker};
+ghost use Rattle.cmwq_model.specs.Layout.{fits, layout_of};
+ghost use Rattle.cmwq_model.specs.Calls as calls;
+ghost use Rattle.cmwq_model.specs.Runs as runs;
+ghost use Rattle.cmwq_model.specs.Workers as workers;
+ghost use Rattle.cmwq_model.specs.Answer.{answer, own_answer, worker_answer, retire_answer, take_answer, start_of, finish_answer};
+ghost use Rattle.cmwq_model.specs.Active as active;
+ghost use Rattle.cmwq_ties.specs.Told.{number_of_queueing};
+ghost use Rattle.cmwq_model.specs.Legal.{past_of, IsLegal};
+ghost use Rattle.cmwq_model.specs.Room.{owed};
+ghost use Rattle.cmwq_ties.specs.Pools.{IsSeatOf, pool_of};
+ghost use Rattle.cmwq_core.specs.Tables as tables;
+ghost use Rattle.cmwq_core.specs.Effects.{IsEffect};
+ghost use Rattle.cmwq_core.specs.Book as kept;
+
+use crate::new::{new_books, new_pools, new_serials};
+use crate::effect::Effect;
+use crate::tables::{pool_place, tell_barriers, tell_cancelled, tell_ended, tell_opened, tell_timers, tell_worker, who_place};
+use cmwq_flush::{Barriers, Flushes};
+use cmwq_model::{Call, Counts, Entry, NoMemory, Number, PoolId, QueueShape, Reply, Shape, Who, WorkerId};
+use cmwq_pool::{Pool, Seat};
+use cmwq_timer::Timers;
+use std::alloc::Global;
+use std::marker::Model;
+
+/// There is no room for the entry and for what would be owed then.
+#[derive(Clone, Copy, Debug, PartialEq, Eq)]
+pub struct Full;
+
+/// The runtime of one thread: its history, and the parts that answer without looking back.
+#[derive(Drop)]
+pub struct Book {
+    counts: Counts,
+    queues: Vec<QueueShape>,
+    room: u32,
+    entries: Vec<Entry>,
+    pools: Vec<Pool>,
+    books: Vec<Flushes>,
+    barriers: Barriers,
+    timers: Timers,
+    time: u64,
+    serials: Vec<u32>,
+    owing: u32,
+}
+
+impl Model for Book {
+    ghost use Rattle.std.specs.Vec.{vec_capacity};
+    ghost use Rattle.cmwq_model.specs.Layout.{layout_of};
+    ghost use Rattle.cmwq_core.specs.Book.{Kept, IsBook};
+
+    ghost Value = { Kept };
+
+    ghost view = { λ b. record { layout = layout_of b.counts b.queues.items; room = b.room; entries = b.entries.items } };
+
+    ghost invariant = { λ b. IsBook (layout_of b.counts b.queues.items) b.room b.entries.items (vec_capacity b.entries)
+        (record { pools = b.pools.items; books = b.books.items; barriers = b.barriers; timers = b.timers; time = b.time; serials = b.serials.items; owing = b.owing }) };
+}
+
+fn ticks_of(call: Call) -> u32
+    ensures ticks { result ≡ calls.ticks_told call }
+    ensures small { result < 2 ^ 32 }
+{
+    match call {
+        Call::Tick { ticks } => ticks,
+        _ => 0,
+    }
+}
+
+impl Book {
+    /// A book with no entries, for a room of at most 1,010,000. No later call takes memory; the error says that it ran out.
+    pub fn new(alloc: Global, shape: &Shape, room: u32) -> Result<Book, NoMemory>
+        requires { room ≤ 1010000 }
+        ensures { IfOk result (λ book. book ≡ record { layout = shape.now; room = room; entries = [] }) }
+    {
+        let counts = shape.counts();
+        let queues = shape.queues().to_vec(alloc)?;
+        let entries = Vec::with_capacity(alloc, room as usize)?;
+        let pools = new_pools(alloc, counts.cpus, counts.items, counts.workers)?;
+        let books = new_books(alloc, queues.len(), counts.callers)?;
+        let barriers = Barriers::new(alloc, counts.items, counts.callers)?;
+        let timers = Timers::new(alloc, counts.items)?;
+        let serials = new_serials(alloc)?;
+        Ok(Book {
+            counts,
+            queues,
+            room,
+            entries,
+            pools,
+            books,
+            barriers,
+            timers,
+            time: 0,
+            serials,
+            owing: 0,
+        })
+    }
+
+    /// All entries, the oldest first.
+    pub fn history(&self) -> &[Entry]
+        ensures { result.now ≡ self.now.entries }
+    {
+        &self.entries
+    }
+
+    /// The serial of the next entry of a caller or a worker.
+    pub fn serial(&self, who: Who) -> u32
+        requires { tables.IsThere self.now.layout who }
+        ensures { result ≡ calls.serial_of (past_of self.now.entries) who }
+    {
+        self.serials[who_place(who)]
+    }
+
+    fn time(&self) -> u64
+        ensures time { result ≡ calls.now (past_of self.now.entries) }
+        ensures small { result < 2 ^ 63 }
+    {
+        self.time
+    }
+
+    fn pool(&self, pool: PoolId) -> &Pool
+        requires { pool.cpu.0 < self.now.layout.cpus }
+        ensures is { result.now ≡ pool_of self.now.layout (past_of self.now.entries) pool }
+        ensures legal { IsLegal self.now.layout (past_of self.now.entries) }
+    {
+        &self.pools[pool_place(pool)]
+    }
+
+    fn seat(&self, worker: WorkerId) -> Seat
+        requires { tables.IsThere self.now.layout (Worker worker) }
+        ensures { IsSeatOf (past_of self.now.entries) worker result }
+    {
+        self.pool(worker.pool).seat(worker.index)
+    }
+
+    fn runs_awake(&self, worker: WorkerId) -> bool
+        requires { tables.IsThere self.now.layout (Worker worker) }
+        ensures { result ≡ runs.runs_awake (past_of self.now.entries) worker }
+    {
+        self.seat(worker).runs_awake()
+    }
+
+    fn runs_asleep(&self, worker: WorkerId) -> bool
+        requires { tables.IsThere self.now.layout (Worker worker) }
+        ensures { result ≡ runs.runs_asleep (past_of self.now.entries) worker }
+    {
+        self.seat(worker).runs_asleep()
+    }
+
+    fn has_run(&self, worker: WorkerId) -> bool
+        requires { tables.IsThere self.now.layout (Worker worker) }
+        ensures { result ≡ runs.has_run (past_of self.now.entries) worker }
+    {
+        self.seat(worker).run.is_some()
+    }
+
+    fn is_enlisted(&self, worker: WorkerId) -> bool
+        requires { tables.IsThere self.now.layout (Worker worker) }
+        ensures { result ≡ workers.is_enlisted (past_of self.now.entries) worker }
+    {
+        self.seat(worker).enlisted
+    }
+
+    /// Whether the worker is idle and may go back to the reserve.
+    fn may_retire(&self, worker: WorkerId) -> bool
+        requires { tables.IsThere self.now.layout (Worker worker) }
+        ensures { result ≡ (workers.is_idle (past_of self.now.entries) worker.pool worker.index && workers.may_retire self.now.layout (past_of self.now.entries) worker.pool) }
+    {
+        self.pool(worker.pool).may_retire(worker.index)
+    }
+
+    #[tactic(auto, unfolding(cmwq_model::specs::Answer::retire_answer))]
+    fn retire_answer(&self, worker: WorkerId) -> Reply
+        requires { tables.IsThere self.now.layout (Worker worker) }
+        ensures { result ≡ retire_answer self.now.layout (past_of self.now.entries) worker }
+    {
+        if !self.is_enlisted(worker) || self.has_run(worker) {
+            Reply::Misuse
+        } else if self.may_retire(worker) {
+            Reply::Retired
+        } else {
+            Reply::Kept
+        }
+    }
+
+    /// The number of the next queueing to start.
+    fn next(&self, pool: PoolId) -> Option<Number>
+        requires { pool.cpu.0 < self.now.layout.cpus }
+        ensures { result ≡ option_map number_of_queueing (active.next self.now.layout (past_of self.now.entries) pool) }
+    {
+        self.pool(pool).next()
+    }
+
+    fn runnable(&self, pool: PoolId) -> u32
+        requires { pool.cpu.0 < self.now.layout.cpus }
+        ensures { result ≡ workers.runnable self.now.layout (past_of self.now.entries) pool }
+    {
+        self.pool(pool).runnable()
+    }
+
+    fn enlisted_by(&self, worker: WorkerId) -> Option<u8>
+        requires { tables.IsThere self.now.layout (Worker worker) }
+        ensures { result ≡ workers.enlisted_by self.now.layout (past_of self.now.entries) worker }
+    {
+        self.pool(worker.pool).would_enlist(worker.index)
+    }
+
+    fn run(&self, worker: WorkerId) -> Option<Number>
+        requires { tables.IsThere self.now.layout (Worker worker) }
+        ensures { result ≡ runs.run (past_of self.now.entries) worker }
+    {
+        match self.seat(worker).run {
+            Some(task) => Some(task.number),
+            None => None,
+        }
+    }
+
+    fn start_answer(&self, worker: WorkerId, next: Option<Number>) -> Reply
+        requires there { tables.IsThere self.now.layout (Worker worker) }
+        requires is { next ≡ option_map number_of_queueing (active.next self.now.layout (past_of self.now.entries) worker.pool) }
+        ensures { result ≡ start_of self.now.layout (past_of self.now.entries) worker (active.next self.now.layout (past_of self.now.entries) worker.pool) }
+    {
+        match next {
+            None => Reply::Nothing,
+            Some(number) => {
+                if 0 < self.runnable(worker.pool) {
+                    return Reply::Held;
+                }
+                match self.enlisted_by(worker) {
+                    None => Reply::Started(number),
+                    Some(index) => Reply::StartedEnlist(number, index),
+                }
+            }
+        }
+    }
+
+    #[tactic(auto, unfolding(cmwq_model::specs::Answer::take_answer))]
+    fn take_answer(&self, worker: WorkerId) -> Reply
+        requires { tables.IsThere self.now.layout (Worker worker) }
+        ensures { result ≡ take_answer self.now.layout (past_of self.now.entries) worker }
+    {
+        if !self.is_enlisted(worker) || self.has_run(worker) {
+            return Reply::Misuse;
+        }
+        self.start_answer(worker, self.next(worker.pool))
+    }
+
+    #[tactic(auto, unfolding(cmwq_model::specs::Answer::finish_answer))]
+    fn finish_answer(&self, worker: WorkerId) -> Reply
+        requires { tables.IsThere self.now.layout (Worker worker) }
+        ensures { result ≡ finish_answer (past_of self.now.entries) worker }
+    {
+        if !self.runs_awake(worker) {
+            return Reply::Misuse;
+        }
+        match self.run(worker) {
+            None => Reply::Misuse,
+            Some(number) => Reply::Finished(number),
+        }
+    }
+
+    fn worker_answer(&self, worker: WorkerId, call: Call) -> Reply
+        requires { tables.IsThere self.now.layout (Worker worker) }
+        ensures { result ≡ worker_answer self.now.layout (past_of self.now.entries) worker call }
+    {
+        match call {
+            Call::Sleep => {
+                if self.runs_awake(worker) {
+                    Reply::Slept
+                } else {
+                    Reply::Misuse
+                }
+            }
+            Call::Wake => {
+                if self.runs_asleep(worker) {
+                    Reply::Woke
+                } else {
+                    Reply::Misuse
+                }
+            }
+            Call::Retire => self.retire_answer(worker),
+            Call::Take => self.take_answer(worker),
+            Call::Finish => self.finish_answer(worker),
+            _ => Reply::Misuse,
+        }
+    }
+
+    fn own_answer(&self, who: Who, call: Call) -> Reply
+        requires { tables.IsThere self.now.layout who }
+        ensures { result ≡ own_answer self.now.layout (past_of self.now.entries) who call }
+    {
+        match who {
+            Who::Caller(_) => Reply::Misuse,
+            Who::Worker(worker) => self.worker_answer(worker, call),
+        }
+    }
+
+    #[tactic(auto, unfolding(cmwq_model::specs::Answer::answer))]
+    fn answer(&self, who: Who, call: Call) -> Reply
+        requires there { tables.IsThere self.now.layout who }
+        requires known { kept.is_known call ≡ true }
+        ensures { result ≡ answer self.now.layout (past_of self.now.entries) who call }
+    {
+        match call {
+            Call::Tick { ticks } => Reply::Now(self.time() + u64::from(ticks)),
+            _ => self.own_answer(who, call),
+        }
+    }
+
+    /// What is owed after an entry with this reply.
+    fn owed_after(&self, who: Who, call: Call, reply: Reply) -> u32
+        requires fit { fits self.now.layout who call ≡ true }
+        requires known { kept.is_known call ≡ true }
+        requires is { reply ≡ answer self.now.layout (past_of self.now.entries) who call }
+        ensures owed { result ≡ owed self.now.layout (kept.next_entry self.now who call ∷ past_of self.now.entries) }
+        ensures legal { IsLegal self.now.layout (past_of self.now.entries) }
+    {
+        match reply {
+            Reply::Slept => self.owing + 1,
+            Reply::Woke => self.owing - 1,
+            _ => self.owing,
+        }
+    }
+
+    /// What the entry of the call does.
+    fn effect(&self, who: Who, call: Call) -> Effect
+        requires fit { fits self.now.layout who call ≡ true }
+        requires known { kept.is_known call ≡ true }
+        ensures entry { result.entry ≡ kept.next_entry self.now who call }
+        ensures is { IsEffect self.now.layout (past_of self.now.entries) result }
+    {
+        let reply = self.answer(who, call);
+        let serial = self.serial(who);
+        Effect {
+            entry: Entry {
+                who,
+                serial,
+                call,
+                reply,
+            },
+            ended: None,
+            opened: None,
+            done: None,
+            begun: None,
+            settled: None,
+            booked: None,
+            owing: self.owed_after(who, call, reply),
+        }
+    }
+
+    /// Whether one more entry and what is owed then are within the room.
+    fn has_room(&self, owing: u32) -> bool
+        ensures { result ≡ nat_le (length self.now.entries + 1 + owing) self.now.room }
+    {
+        self.entries.len() as u64 + 1 + u64::from(owing) <= u64::from(self.room)
+    }
+
+    /// The entry that the step would append.
+    pub fn would(&self, who: Who, call: Call) -> Result<Entry, Full>
+        requires fit { fits self.now.layout who call ≡ true }
+        requires known { kept.is_known call ≡ true }
+        ensures entry { IfOk result (λ e. e ≡ kept.next_entry self.now who call) }
+        ensures room { is_ok result ≡ kept.has_room_in self.now who call }
+    {
+        let effect = self.effect(who, call);
+        if self.has_room(effect.owing) {
+            Ok(effect.entry)
+        } else {
+            Err(Full)
+        }
+    }
+
+    /// Appends an entry for which there is room, and tells each part what it does.
+    fn append(&mut self, effect: Effect)
+        requires is { IsEffect self.old.layout (past_of self.old.entries) effect }
+        requires room { length self.old.entries + 1 + effect.owing ≤ self.old.room }
+        ensures { self.new ≡ kept.and_entry self.old effect.entry }
+    {
+        let entry = effect.entry;
+        tell_worker(&mut self.pools, entry.who, entry.reply);
+        tell_cancelled(&self.queues, &mut self.pools, entry.reply, effect.ended);
+        tell_ended(&mut self.books, effect.ended);
+        tell_opened(&mut self.books, effect.opened);
+        tell_barriers(&mut self.barriers, effect.ended, effect.opened);
+        tell_timers(&mut self.timers, effect.settled, effect.booked);
+        self.time += u64::from(ticks_of(entry.call));
+        self.serials[who_place(entry.who)] = entry.serial + 1;
+        self.owing = effect.owing;
+        self.entries.push_reserved(entry);
+    }
+
+    /// One event: its entry is appended where there is room for it and for what is owed then.
+    pub fn step(&mut self, who: Who, call: Call) -> Result<Reply, Full>
+        requires fit { fits self.old.layout who call ≡ true }
+        requires known { kept.is_known call ≡ true }
+        ensures room { is_ok result ≡ kept.has_room_in self.old who call }
+        ensures answered { IfOk result (λ reply. reply ≡ answer self.old.layout (past_of self.old.entries) who call) }
+        ensures appended { IfOk result (λ _. self.new ≡ kept.and_entry self.old (kept.next_entry self.old who call)) }
+        ensures unchanged { OnErr result (self.new ≡ self.old) }
+    {
+        let effect = self.effect(who, call);
+        if self.has_room(effect.owing) {
+            self.append(effect);
+            Ok(effect.entry.reply)
+        } else {
+            Err(Full)
+        }
+    }
+}

@@ -1,0 +1,178 @@
+//! Where each pool, flush book and serial of a book stands, and what they are told of an entry.
+
+ghost use Rattle.std.specs.Prelude.{◌≡◌, ◌<◌, length};
+ghost use Rattle.cmwq_ties.specs.Pools.{MayBeTold, told_reply};
+ghost use Rattle.cmwq_model.specs.Layout.{Layout, pool_at};
+ghost use Rattle.cmwq_model.specs.Fate.{finishes};
+ghost use Rattle.cmwq_ties.specs.BarrierBooks as barriers;
+ghost use Rattle.cmwq_model.specs.declared.entry.Entry.{Entry};
+ghost use Rattle.cmwq_ties.specs.Timers as timed;
+ghost use Rattle.cmwq_core.specs.Effects as effects;
+ghost use Rattle.cmwq_core.specs.Tables as tables;
+
+use cmwq_flush::{Barriers, Flushes};
+use cmwq_model::{Booking, Call, ItemId, Number, Place, PoolId, QueueShape, Queueing, Reply, Shape, Ticket, Who};
+use cmwq_pool::Pool;
+use cmwq_timer::Timers;
+
+pub(crate) fn pool_place(pool: PoolId) -> usize
+    ensures { result ≡ tables.pool_place pool }
+{
+    2 * usize::from(pool.cpu.0) + usize::from(pool.high)
+}
+
+pub(crate) fn who_place(who: Who) -> usize
+    ensures { result ≡ tables.who_place who }
+{
+    match who {
+        Who::Caller(caller) => usize::from(caller.0),
+        Who::Worker(worker) => {
+            64 + (usize::from(worker.pool.cpu.0) * 16 + if worker.pool.high { 8 } else { 0 } + usize::from(worker.index))
+        }
+    }
+}
+
+/// Tells a pool what its worker was answered.
+fn tell_reply(pool: &mut Pool, worker: u8, reply: Reply)
+    requires { MayBeTold reply pool.old worker }
+    ensures { pool.new ≡ told_reply reply worker pool.old }
+{
+    match reply {
+        Reply::Started(_) | Reply::StartedEnlist(_, _) => {
+            pool.start(worker);
+        }
+        Reply::Finished(_) => {
+            pool.finish(worker);
+        }
+        Reply::Slept => pool.sleep(worker),
+        Reply::Woke => pool.wake(worker),
+        Reply::Retired => pool.retire(worker),
+        _ => {}
+    }
+}
+
+/// Tells the pools what a worker was answered.
+pub(crate) fn tell_worker(pools: &mut Vec<Pool>, who: Who, reply: Reply)
+    requires { tables.MayTellWorker who reply pools.old.items }
+    ensures { tables.TellWorker who reply pools.old.items pools.new.items }
+{
+    if let Who::Worker(worker) = who {
+        tell_reply(&mut pools[pool_place(worker.pool)], worker.index, reply);
+    }
+}
+
+/// Tells the flush books of a queueing that ended.
+pub(crate) fn tell_ended(books: &mut Vec<Flushes>, ended: Option<Queueing>)
+    requires { tables.MayTellEnded ended books.old.items }
+    ensures { tables.TellEnded ended books.old.items books.new.items }
+{
+    if let Some(queueing) = ended {
+        books[usize::from(queueing.place.queue.0)].ended(queueing.number);
+    }
+}
+
+/// Tells the flush books of a queueing that was opened.
+pub(crate) fn tell_opened(books: &mut Vec<Flushes>, opened: Option<Queueing>)
+    requires { tables.MayTellOpened opened books.old.items }
+    ensures { tables.TellOpened opened books.old.items books.new.items }
+{
+    if let Some(queueing) = opened {
+        books[usize::from(queueing.place.queue.0)].opened(queueing.number);
+    }
+}
+
+/// Tells the barriers of a queueing that ended, and of one that was opened.
+pub(crate) fn tell_barriers(book: &mut Barriers, ended: Option<Queueing>, opened: Option<Queueing>)
+    requires ended { barriers.MayEnd ended book.old }
+    requires opened { barriers.MayOpen opened (barriers.told_ended ended book.old) }
+    ensures { book.new ≡ barriers.told_opened opened (barriers.told_ended ended book.old) }
+{
+    if let Some(queueing) = ended {
+        book.ended(queueing.item, queueing.number);
+    }
+    if let Some(queueing) = opened {
+        book.opened(queueing.item, queueing.number);
+    }
+}
+
+/// Takes a queueing that was taken back or replaced from its pool.
+pub(crate) fn tell_removed(pools: &mut Vec<Pool>, pool: PoolId, number: u32)
+    requires { tables.pool_place pool < length pools.old.items }
+    ensures { tables.RemovedFrom pool number pools.old.items pools.new.items }
+{
+    pools[pool_place(pool)].remove(number);
+}
+
+fn place_pool(queues: &[QueueShape], place: Place) -> PoolId
+    requires { place.queue.0 < length queues.now }
+    ensures is { (s : Layout) → s.queues ≡ queues.now → result ≡ pool_at s place }
+    ensures cpu { result.cpu ≡ place.cpu }
+{
+    PoolId {
+        cpu: place.cpu,
+        high: queues[usize::from(place.queue.0)].high,
+    }
+}
+
+fn is_finish_of(reply: Reply, number: Number) -> bool
+    ensures { (e : Entry) → e.reply ≡ reply → result ≡ finishes number e }
+{
+    match reply {
+        Reply::Finished(finished) => finished == number,
+        _ => false,
+    }
+}
+
+/// Tells the pools of a queueing that ended: where it didn't finish, its pool lists it no more.
+pub(crate) fn tell_cancelled(queues: &[QueueShape], pools: &mut Vec<Pool>, reply: Reply, ended: Option<Queueing>)
+    requires { tables.MayTellCancelled ended queues.now pools.old.items }
+    ensures { (s : Layout) (e : Entry) → s.queues ≡ queues.now → e.reply ≡ reply → tables.TellCancelled s e ended pools.old.items pools.new.items }
+{
+    if let Some(queueing) = ended {
+        if !is_finish_of(reply, queueing.number) {
+            tell_removed(pools, place_pool(queues, queueing.place), queueing.number);
+        }
+    }
+}
+
+/// Tells the timers what is booked, or else whose booking is settled.
+pub(crate) fn tell_timers(timers: &mut Timers, settled: Option<ItemId>, booked: Option<Booking>)
+    requires { timed.MayBeSet (effects.item_number settled) booked timers.old }
+    ensures { timers.new ≡ timed.told_settled (effects.item_number settled) booked timers.old }
+{
+    match booked {
+        Some(made) => timers.book(made.item, made.place.queue, made.due, made.number),
+        None => {
+            if let Some(item) = settled {
+                timers.unbook(item);
+            }
+        }
+    }
+}
+
+/// Tells the flush books of a wait that ended.
+pub(crate) fn tell_done(books: &mut Vec<Flushes>, done: Option<Ticket>)
+    requires { tables.MayTellDone done books.old.items }
+    ensures { tables.TellDone done books.old.items books.new.items }
+{
+    if let Some(ticket) = done {
+        match ticket.call {
+            Call::Flush { queue } => books[usize::from(queue.0)].end(ticket.number),
+            Call::Drain { queue } | Call::Destroy { queue } => books[usize::from(queue.0)].drain_end(ticket.number),
+            _ => {}
+        }
+    }
+}
+
+/// Lists a queueing that became active in its pool.
+pub(crate) fn list_active(shape: &Shape, pools: &mut Vec<Pool>, queueing: Queueing)
+    requires { tables.MayListActive shape.now queueing pools.old.items }
+    ensures { tables.ListActive shape.now queueing pools.old.items pools.new.items }
+{
+    let queue = shape.queues()[usize::from(queueing.place.queue.0)];
+    let pool = PoolId {
+        cpu: queueing.place.cpu,
+        high: queue.high,
+    };
+    pools[pool_place(pool)].add(queueing.number, queueing.item, queue.intensive);
+}
