@@ -4,7 +4,7 @@ ghost use Rattle.cmwq_pool.specs.Seats.{seat_at, is_idle, runs_awake, runs_aslee
 ghost use Rattle.cmwq_pool.specs.Lineup.{new_lineup, task, may_add, added, removed, next_task, next, started, reseated};
 
 use crate::seat::Seat;
-use crate::seats::{count_holding, have_spare, new_seats, start_task, take_run};
+use crate::seats::{count_holding, enlisted_by, have_spare, new_seats, start_task, take_run};
 use crate::task::Task;
 use crate::worklist::{has_like, next_free, no_marks, take_next, take_number};
 use cmwq_model::{ItemId, NoMemory, Number};
@@ -133,6 +133,13 @@ impl Pool {
         ensures { result ≡ (seat_at self.now.seats worker).asleep }
     {
         self.seat(worker).asleep
+    }
+
+    /// The worker that a start of this one would enlist: where no other is idle, the first of the reserve.
+    pub fn would_enlist(&self, worker: u8) -> Option<u8>
+        ensures { result ≡ enlisted_by self.now.seats worker }
+    {
+        enlisted_by(&self.seats, worker)
     }
 
     /// An idle worker starts the next queueing, which no run holds back. Answers the worker that this enlists: where

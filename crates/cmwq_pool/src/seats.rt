@@ -60,7 +60,7 @@ fn first_reserve(seats: &[Seat]) -> Option<u8>
 }
 
 /// Whom a worker enlists as it starts: where no other is idle, the first of the reserve.
-fn enlisted_by(seats: &[Seat], worker: u8) -> Option<u8>
+pub(crate) fn enlisted_by(seats: &[Seat], worker: u8) -> Option<u8>
     requires { length seats.now ≤ 8 }
     ensures { result ≡ enlisted_by seats.now worker }
 {
