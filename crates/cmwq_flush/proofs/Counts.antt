@@ -9,7 +9,6 @@ use Rattle.std.proofs.lemmas.List.Sums.{sum_by-remove}
 use Rattle.std.proofs.lemmas.List.Edits.{length-remove}
 use Rattle.std.proofs.lemmas.List.Quantifiers.{all_pairs_remove}
 use Rattle.std.proofs.lemmas.List.Elements.{All-append, All-take, All-drop}
-use Rattle.cmwq_flush.specs.declared.limits.TheConstants.{COLOURS}
 use Rattle.cmwq_flush.specs.declared.tally.Row.{Row}
 use Rattle.cmwq_flush.specs.Rows.{ComesBefore, has_colour, count_of, IsTally}
 
@@ -17,7 +16,7 @@ use Rattle.cmwq_flush.specs.Rows.{ComesBefore, has_colour, count_of, IsTally}
 pub count_of-remove : (c : ℕ) (rows : List Row) (i : ℕ) (d : Row) → i < length rows → count_of c (remove rows i) + cond (has_colour c (get_or rows i d)) 1 0 ≡ count_of c rows
 count_of-remove c rows i d lt = sum_by-remove (λ r. cond (has_colour c r) 1 0) rows i d lt
 
-exact_after : (rows : List Row) (counts : List ℕ) (i : ℕ) (r : Row) → i < length rows → r ≡ get_or rows i r → length counts ≡ COLOURS → IsTally rows counts → (c : ℕ) → c < COLOURS → (c ≡ r.colour) ⊎ (c ≡ r.colour → ⊥) → slice_index (set counts r.colour (slice_index counts r.colour - 1)) c ≡ count_of c (remove rows i)
+exact_after : (rows : List Row) (counts : List ℕ) (i : ℕ) (r : Row) → i < length rows → r ≡ get_or rows i r → length counts ≡ 16 → IsTally rows counts → (c : ℕ) → c < 16 → (c ≡ r.colour) ⊎ (c ≡ r.colour → ⊥) → slice_index (set counts r.colour (slice_index counts r.colour - 1)) c ≡ count_of c (remove rows i)
 exact_after rows counts i r lt at sixteen is c below which =
     let counted : count_of c (remove rows i) + cond (has_colour c r) 1 0 ≡ count_of c rows = rw at (count_of-remove c rows i r lt) in
     let was = is.exact c below in
@@ -32,10 +31,10 @@ exact_after rows counts i r lt at sixteen is c below which =
     let kept : count_of c (remove rows i) + 0 ≡ count_of c rows = rw miss at counted in
     get_or-set_other counts r.colour c _ 0 differs ∙ omega arith) which
 
-pub IsTally-remove : (rows : List Row) (counts : List ℕ) (i : ℕ) (r : Row) → i < length rows → r ≡ get_or rows i r → length counts ≡ COLOURS → IsTally rows counts → IsTally (remove rows i) (set counts r.colour (slice_index counts r.colour - 1))
+pub IsTally-remove : (rows : List Row) (counts : List ℕ) (i : ℕ) (r : Row) → i < length rows → r ≡ get_or rows i r → length counts ≡ 16 → IsTally rows counts → IsTally (remove rows i) (set counts r.colour (slice_index counts r.colour - 1))
 IsTally-remove rows counts i r lt at sixteen is = record {
   rising = all_pairs_remove ComesBefore rows i lt is.rising;
-  coloured = let IsColoured : Row → Type 0 = λ s. s.colour < COLOURS in All-append IsColoured _ _ (All-take IsColoured i rows is.coloured) (All-drop IsColoured (suc i) rows is.coloured);
+  coloured = let IsColoured : Row → Type 0 = λ s. s.colour < 16 in All-append IsColoured _ _ (All-take IsColoured i rows is.coloured) (All-drop IsColoured (suc i) rows is.coloured);
   few = let shorter = length-remove rows i lt in let few = is.few in omega arith;
   exact = λ c below. exact_after rows counts i r lt at sixteen is c below (cases_eq c r.colour);
 }

@@ -11,7 +11,6 @@ use Rattle.std.proofs.lemmas.List.Kept.{AllPairs-filter, AllPairs-cons}
 use Rattle.std.proofs.lemmas.List.Sums.{length-filter, count_by-le-length}
 use Rattle.std.proofs.lemmas.Bool.{cases_lt}
 use Rattle.std.proofs.lemmas.List.Sorted.{IsNonDecreasingBy-push}
-use Rattle.cmwq_flush.specs.declared.limits.TheConstants.{MOST_SERVED}
 use Rattle.cmwq_flush.specs.declared.served.Served.{Served}
 use Rattle.cmwq_flush.specs.declared.tally.Row.{Row}
 use Rattle.cmwq_flush.specs.Numbers.{IsBelow, IsRising, is_other, without}
@@ -63,7 +62,7 @@ orderly_overflow b rows t later has_room is = record {
 }
 
 -- the oldest of the overflow is served
-pub orderly_served : (b : FlushBook) (rows : List Row) (t : ℕ) (rest : List ℕ) → length b.served < MOST_SERVED → IsOrderly (record b { overflow = t ∷ rest }) rows → IsOrderly (record b { served = b.served ++ flush_from t b.next ∷ []; overflow = rest }) rows
+pub orderly_served : (b : FlushBook) (rows : List Row) (t : ℕ) (rest : List ℕ) → length b.served < 15 → IsOrderly (record b { overflow = t ∷ rest }) rows → IsOrderly (record b { served = b.served ++ flush_from t b.next ∷ []; overflow = rest }) rows
 orderly_served b rows t rest fits is = record {
   older = is.older;
   bounds_rise = IsNonDecreasingBy-push bound_of b.served (flush_from t b.next) is.bounds_rise (λ d some. is.bounds (length b.served - 1) d (omega arith));

@@ -10,7 +10,6 @@ use Rattle.std.proofs.lemmas.List.Elements.{All-push, All-filter, All-take, All-
 use Rattle.std.proofs.lemmas.List.Edits.{length-remove, get_or-remove_below, get_or-remove_above}
 use Rattle.std.proofs.lemmas.List.Quantifiers.{all_pairs_push, all_pairs_remove}
 use Rattle.std.proofs.lemmas.List.Sums.{AllPass-from_list_all, list_all-from_AllPass, get_or-le-sum_by, sum_by-le}
-use Rattle.cmwq_flush.specs.declared.limits.TheConstants.{COLOURS, MOST_SERVED}
 use Rattle.cmwq_flush.specs.declared.served.Served.{Served}
 use Rattle.cmwq_flush.specs.declared.tally.Row.{Row}
 use Rattle.cmwq_flush.specs.Rows.{has_colour, is_unused, without_row, is_other_row}
@@ -47,7 +46,7 @@ colouring_served colours served rows s older is = record {
 }
 
 -- a flush that waits for nothing that is open ends: its colour is free, and those after it move up
-module _ (colours : List ℕ) (served : List Served) (rows : List Row) (i : ℕ) (sixteen : length colours ≡ COLOURS) (few : length served ≤ MOST_SERVED) (lt : i < length served) where
+module _ (colours : List ℕ) (served : List Served) (rows : List Row) (i : ℕ) (sixteen : length colours ≡ 16) (few : length served ≤ 15) (lt : i < length served) where
   -- the colour after the freed one, and each later one, is a place further to the front
   moved_up : (k : ℕ) → i ≤ k → k < length served → get_or (remove colours i ++ get_or colours i 0 ∷ []) k 0 ≡ get_or colours (k + 1) 0
   moved_up k after le =
@@ -64,7 +63,7 @@ module _ (colours : List ℕ) (served : List Served) (rows : List Row) (i : ℕ)
     sixteen = let shorter = length-remove colours i (omega arith) in rw length-append (omega arith);
     distinct = all_pairs_push Differs (remove colours i) (get_or colours i 0) (all_pairs_remove Differs colours i (omega arith) is.distinct) (λ k d within. freed_differs k d is.distinct within);
     below =
-        let IsBelow : ℕ → Type 0 = λ c. c < COLOURS in
+        let IsBelow : ℕ → Type 0 = λ c. c < 16 in
         All-push IsBelow (remove colours i) (get_or colours i 0) (All-append IsBelow _ _ (All-take IsBelow i colours is.below) (All-drop IsBelow (suc i) colours is.below)) (is.below i 0 (omega arith));
     right = λ k d within.
         let n = (get_or rows k d).number in
@@ -86,7 +85,7 @@ none_has c rows unused k d lt same =
     let one = get_or-le-sum_by (λ (r : Row). cond (has_colour c r) 1 0) rows k d lt in
     grind (arith, nat_tests)
 
-module _ (colours : List ℕ) (served : List Served) (rows : List Row) (i : ℕ) (few : length served ≤ MOST_SERVED) (lt : i < length served) (rise : IsNonDecreasingBy bound_of served) (is : IsColouring colours served rows) where
+module _ (colours : List ℕ) (served : List Served) (rows : List Row) (i : ℕ) (few : length served ≤ 15) (lt : i < length served) (rise : IsNonDecreasingBy bound_of served) (is : IsColouring colours served rows) where
   -- where the counts of a flush's colour and of all older ones are 0, it waits for nothing that is open
   pub ready_from_clear : list_all (is_unused rows) (take (i + 1) colours) ≡ true → (d : Served) → All (λ r. (get_or served i d).bound ≤ r.number) rows
   ready_from_clear clear d k e within =

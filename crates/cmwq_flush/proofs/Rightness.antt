@@ -7,7 +7,6 @@ use Rattle.std.proofs.lemmas.Bool.{cases_lt}
 use Rattle.std.proofs.lemmas.List.{get_or-map, get_or_default, length-map, length-append}
 use Rattle.std.proofs.lemmas.List.Elements.{All-map, All-append, Contains-append_cases}
 use Rattle.std.proofs.lemmas.List.Edits.{length-remove}
-use Rattle.cmwq_flush.specs.declared.limits.TheConstants.{COLOURS, MOST_SERVED}
 use Rattle.cmwq_flush.specs.declared.served.Served.{Served}
 use Rattle.cmwq_flush.specs.declared.tally.Row.{Row}
 use Rattle.cmwq_flush.specs.Numbers.{IsRising, is_other, without}
@@ -46,7 +45,7 @@ empty_from [] none = refl
 empty_from (x ∷ xs) none = absurd (none (omega arith))
 
 -- a flush begins and is served, since none is in overflow
-pub right_served : (b : FlushBook) (rows : List Row) (colours : List ℕ) (t : ℕ) → length b.served < MOST_SERVED → All (λ u. u < t) (flush_tickets b) → HasRoom b → IsRight b rows colours → IsRight (record b { served = b.served ++ flush_from t b.next ∷ [] }) rows colours
+pub right_served : (b : FlushBook) (rows : List Row) (colours : List ℕ) (t : ℕ) → length b.served < 15 → All (λ u. u < t) (flush_tickets b) → HasRoom b → IsRight b rows colours → IsRight (record b { served = b.served ++ flush_from t b.next ∷ [] }) rows colours
 right_served b rows colours t fits later has_room is =
     let none : b.overflow ≡ [] = empty_from b.overflow (λ some. let full = is.serving some in omega arith) in
     let first = orderly_overflow b rows t later has_room is.orderly in
@@ -59,7 +58,7 @@ right_served b rows colours t fits later has_room is =
     }
 
 -- a flush begins and is in overflow
-pub right_overflow : (b : FlushBook) (rows : List Row) (colours : List ℕ) (t : ℕ) → MOST_SERVED ≤ length b.served → All (λ u. u < t) (flush_tickets b) → HasRoom b → IsRight b rows colours → IsRight (record b { overflow = b.overflow ++ t ∷ [] }) rows colours
+pub right_overflow : (b : FlushBook) (rows : List Row) (colours : List ℕ) (t : ℕ) → 15 ≤ length b.served → All (λ u. u < t) (flush_tickets b) → HasRoom b → IsRight b rows colours → IsRight (record b { overflow = b.overflow ++ t ∷ [] }) rows colours
 right_overflow b rows colours t full later has_room is = record {
   orderly = orderly_overflow b rows t later has_room is.orderly;
   serving = λ some. let few = is.orderly.few in omega arith;
@@ -67,7 +66,7 @@ right_overflow b rows colours t full later has_room is = record {
 }
 
 -- a served flush ends, and the oldest of the overflow is served
-ends_and_serves : (b : FlushBook) (rows : List Row) (colours : List ℕ) (i : ℕ) (overflow : List ℕ) → i < length b.served → IsOrderly (record b { overflow = overflow }) rows → (0 < length overflow → length b.served ≡ MOST_SERVED) → IsColouring (remove colours i ++ get_or colours i 0 ∷ []) (remove b.served i) rows → IsRight (record b { served = served_with_oldest (remove b.served i) overflow b.next; overflow = without_oldest overflow }) rows (remove colours i ++ get_or colours i 0 ∷ [])
+ends_and_serves : (b : FlushBook) (rows : List Row) (colours : List ℕ) (i : ℕ) (overflow : List ℕ) → i < length b.served → IsOrderly (record b { overflow = overflow }) rows → (0 < length overflow → length b.served ≡ 15) → IsColouring (remove colours i ++ get_or colours i 0 ∷ []) (remove b.served i) rows → IsRight (record b { served = served_with_oldest (remove b.served i) overflow b.next; overflow = without_oldest overflow }) rows (remove colours i ++ get_or colours i 0 ∷ [])
 ends_and_serves b rows colours i [] lt orderly serving colouring = record {
   orderly = orderly_removed (record b { overflow = [] }) rows i lt orderly;
   serving = λ some. absurd (omega arith);
@@ -95,7 +94,7 @@ right_left b rows colours t is = record {
 }
 
 -- nothing is open and no flush stands
-pub right_new : (callers : ℕ) → IsRight (new_book callers) [] (range_with_len 0 COLOURS)
+pub right_new : (callers : ℕ) → IsRight (new_book callers) [] (range_with_len 0 16)
 right_new callers = record {
   orderly = record {
     older = λ k d lt. absurd (omega arith);
@@ -109,8 +108,8 @@ right_new callers = record {
   serving = λ some. absurd (omega arith);
   colouring = record {
     sixteen = refl;
-    distinct = λ i j d before lt same. let at_i = get_or-range_with_len 0 COLOURS i d (omega arith) in let at_j = get_or-range_with_len 0 COLOURS j d lt in omega arith;
-    below = λ k d lt. let at_k = get_or-range_with_len 0 COLOURS k d lt in omega arith;
+    distinct = λ i j d before lt same. let at_i = get_or-range_with_len 0 16 i d (omega arith) in let at_j = get_or-range_with_len 0 16 j d lt in omega arith;
+    below = λ k d lt. let at_k = get_or-range_with_len 0 16 k d lt in omega arith;
     right = λ k d lt. absurd (omega arith);
   };
 }

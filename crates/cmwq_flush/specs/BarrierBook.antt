@@ -1,7 +1,6 @@
 -- The open queueings of items, and the waits that began for them, as plain lists.
 use Rattle.std.specs.Prelude.{ℕ, ◌*◌, ◌<◌, Bool, not, ◌==◌, List, [], ◌∷◌, ◌++◌, length, map, filter, find, All, Option, replicate, slice_index_or, slice_set, nat_le}
 use Rattle.std.specs.Option.{option_map_or}
-use Rattle.cmwq_flush.specs.declared.limits.TheConstants.{TICKETS_OF_CALLER}
 use Rattle.cmwq_flush.specs.declared.barrier.Barrier.{Barrier}
 use Rattle.cmwq_flush.specs.Numbers.{without}
 
@@ -24,7 +23,7 @@ abbrev pub tickets_in : List Barrier → List ℕ
 tickets_in ws = map ticket_in ws
 
 abbrev pub HasRoom : BarrierBook → Type 0
-HasRoom b = length b.barriers < TICKETS_OF_CALLER * b.callers
+HasRoom b = length b.barriers < 64 * b.callers
 
 -- an item has a run and an unstarted queueing at most, and numbers and tickets come rising
 abbrev pub CanOpen : BarrierBook → ℕ → ℕ → Type 0

@@ -1,7 +1,6 @@
 -- What holds of a flush book and its colours at every moment.
 use Rattle.std.specs.Prelude.{◌≡◌, ◌≢◌, ℕ, ◌*◌, ◌<◌, ◌≤◌, List, length, All, AllPairs, slice_index}
 use Rattle.std.specs.List.Sorted.{IsNonDecreasingBy}
-use Rattle.cmwq_flush.specs.declared.limits.TheConstants.{COLOURS, MOST_SERVED, TICKETS_OF_CALLER}
 use Rattle.cmwq_flush.specs.declared.served.Served.{Served}
 use Rattle.cmwq_flush.specs.declared.tally.Row.{Row}
 use Rattle.cmwq_flush.specs.Numbers.{IsRising}
@@ -21,9 +20,9 @@ abbrev pub HasRightColour : List ℕ → List Served → Row → Type 0
 HasRightColour colours served r = r.colour ≡ right_colour colours served r.number
 
 pub record IsColouring (colours : List ℕ) (served : List Served) (rows : List Row) : Type 0 where
-  pub sixteen : length colours ≡ COLOURS
+  pub sixteen : length colours ≡ 16
   pub distinct : AllPairs Differs colours
-  pub below : All (λ c. c < COLOURS) colours
+  pub below : All (λ c. c < 16) colours
   pub right : All (HasRightColour colours served) rows
 
 -- numbers and bounds below what comes next, bounds and tickets by age, and no more of each than there may be
@@ -33,12 +32,12 @@ pub record IsOrderly (b : FlushBook) (rows : List Row) : Type 0 where
   pub bounds : All (λ s. s.bound ≤ b.next) b.served
   pub tickets_rise : IsRising (flush_tickets b)
   pub drains_rise : IsRising b.drains
-  pub few : length b.served ≤ MOST_SERVED
-  pub room : standing b ≤ TICKETS_OF_CALLER * b.callers
+  pub few : length b.served ≤ 15
+  pub room : standing b ≤ 64 * b.callers
 
 -- where some are in overflow, as many are served as may be
 abbrev pub IsServing : FlushBook → Type 0
-IsServing b = 0 < length b.overflow → length b.served ≡ MOST_SERVED
+IsServing b = 0 < length b.overflow → length b.served ≡ 15
 
 pub record IsRight (b : FlushBook) (rows : List Row) (colours : List ℕ) : Type 0 where
   pub orderly : IsOrderly b rows

@@ -1,6 +1,5 @@
 -- The flushes and drains of a queue, as plain lists.
 use Rattle.std.specs.Prelude.{◌≡◌, ℕ, ◌+◌, ◌*◌, ◌<◌, ◌≤◌, if◌then◌else◌, List, [], ◌∷◌, ◌++◌, length, filter, find, All, Option, MatchOption, is_some, nat_lt}
-use Rattle.cmwq_flush.specs.declared.limits.TheConstants.{MOST_OPEN, MOST_SERVED, TICKETS_OF_CALLER}
 use Rattle.cmwq_flush.specs.declared.served.Served.{Served}
 use Rattle.cmwq_flush.specs.Numbers.{without}
 use Rattle.cmwq_flush.specs.Served.{tickets_of, has_ticket, is_other_flush}
@@ -26,10 +25,10 @@ abbrev pub standing : FlushBook → ℕ
 standing b = length b.served + length b.overflow + length b.drains
 
 abbrev pub HasRoom : FlushBook → Type 0
-HasRoom b = standing b < TICKETS_OF_CALLER * b.callers
+HasRoom b = standing b < 64 * b.callers
 
 abbrev pub CanOpen : FlushBook → ℕ → Type 0
-CanOpen b n = (b.next ≤ n) × (length b.opened < MOST_OPEN)
+CanOpen b n = (b.next ≤ n) × (length b.opened < 512)
 
 -- a flush or a drain begins with a later ticket than those of its kind that stand
 abbrev pub CanBegin : FlushBook → ℕ → Type 0
@@ -56,7 +55,7 @@ abbrev pub flush_from : ℕ → ℕ → Served
 flush_from t bound = record { ticket = t; bound = bound }
 
 abbrev pub after_begin : FlushBook → ℕ → FlushBook
-after_begin b t = if nat_lt (length b.served) MOST_SERVED then record b { served = b.served ++ flush_from t b.next ∷ [] } else record b { overflow = b.overflow ++ t ∷ [] }
+after_begin b t = if nat_lt (length b.served) 15 then record b { served = b.served ++ flush_from t b.next ∷ [] } else record b { overflow = b.overflow ++ t ∷ [] }
 
 -- the end of one that is served serves the oldest of the overflow from that moment on
 abbrev pub served_with_oldest : List Served → List ℕ → ℕ → List Served

@@ -1,7 +1,6 @@
 -- Open queueings with their colours, and how many have each.
 use Rattle.std.specs.Prelude.{◌≡◌, ◌≢◌, ℕ, ◌<◌, ◌≤◌, Bool, not, ◌==◌, List, length, map, filter, All, AllPairs, count_by, slice_index}
 use Rattle.std.specs.List.{HoldsAt}
-use Rattle.cmwq_flush.specs.declared.limits.TheConstants.{MOST_OPEN, COLOURS}
 use Rattle.cmwq_flush.specs.declared.tally.Row.{Row}
 
 abbrev pub number_of : Row → ℕ
@@ -41,6 +40,6 @@ is_unused rows c = count_of c rows == 0
 -- rows by rising number, each with a colour below 16, and the count of each colour
 pub record IsTally (rows : List Row) (counts : List ℕ) : Type 0 where
   pub rising : AllPairs ComesBefore rows
-  pub coloured : All (λ r. r.colour < COLOURS) rows
-  pub few : length rows ≤ MOST_OPEN
-  pub exact : (c : ℕ) → c < COLOURS → slice_index counts c ≡ count_of c rows
+  pub coloured : All (λ r. r.colour < 16) rows
+  pub few : length rows ≤ 512
+  pub exact : (c : ℕ) → c < 16 → slice_index counts c ≡ count_of c rows

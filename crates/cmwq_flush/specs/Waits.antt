@@ -1,7 +1,6 @@
 -- Waits by age, and what holds of all barriers at every moment.
 use Rattle.std.specs.Prelude.{◌≡◌, ◌≢◌, ℕ, ◌*◌, ◌<◌, ◌≤◌, List, [], ◌∷◌, length, All, AllPairs}
 use Rattle.std.specs.List.{HoldsAt}
-use Rattle.cmwq_flush.specs.declared.limits.TheConstants.{TICKETS_OF_CALLER}
 use Rattle.cmwq_flush.specs.declared.barrier.Barrier.{Barrier}
 use Rattle.cmwq_flush.specs.declared.barrier.Open.{Open}
 use Rattle.cmwq_flush.specs.declared.barrier.Open.TheVariants.{Nothing, One, Two}
@@ -28,4 +27,4 @@ pub record AreBarriers (callers : ℕ) (rows : List Open) (ws : List Barrier) : 
   pub rows_rise : All RisesIn rows
   pub tickets_rise : AllPairs IsOlder ws
   pub known : All (λ w. w.item.0 < length rows) ws
-  pub room : length ws ≤ TICKETS_OF_CALLER * callers
+  pub room : length ws ≤ 64 * callers

@@ -135,6 +135,13 @@ impl Pool {
         self.seat(worker).asleep
     }
 
+    /// The worker that a start of this one would enlist: where no other is idle, the first of the reserve.
+    pub fn would_enlist(&self, worker: u8) -> Option<u8>
+        ensures { result ≡ enlisted_by self.now.seats worker }
+    {
+        enlisted_by(&self.seats, worker)
+    }
+
     /// An idle worker starts the next queueing, which no run holds back. Answers the worker that this enlists: where
     /// no other idle one is left, the first of the reserve.
     pub fn start(&mut self, worker: u8) -> Option<u8>

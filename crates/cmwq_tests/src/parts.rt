@@ -361,7 +361,7 @@ impl Parts {
         if let Reply::Booked(due) | Reply::Rebooked(due) = entry.reply {
             let (queue, cpu) = place_called(entry.call).ok_or("no place")?;
             assert!(rt; queue.0 < 64);
-            self.timers.book(item, queue, due, number);
+            self.timers.book(item, Place { queue, cpu }, due, number);
             self.bookings.retain(|booked| booked.item.0 != item.0);
             self.bookings.push(Booked { item, queue, cpu })?;
         }

@@ -8,7 +8,6 @@ use Rattle.std.proofs.lemmas.List.Elements.{filter-append}
 use Rattle.cmwq_model.specs.declared.entry.Entry.{Entry}
 use Rattle.cmwq_model.specs.Waits.{served}
 use Rattle.cmwq_flush.specs.declared.served.Served.{Served}
-use Rattle.cmwq_flush.specs.declared.limits.TheConstants.{MOST_SERVED}
 use Rattle.cmwq_flush.specs.Numbers.{is_other, without}
 use Rattle.cmwq_flush.specs.Served.{ticket_of, tickets_of, has_ticket, is_other_flush}
 use Rattle.cmwq_flush.specs.FlushBook.{FlushBook, flush_tickets, served_of, flush_from, after_begin, after_end, serve_oldest, served_with_oldest, without_oldest, after_drain_begin, after_drain_end}
@@ -28,7 +27,7 @@ pub data ServedSoon (past : List Entry) (q next : ℕ) (opened : List ℕ) (f : 
 pub record Stands (past : List Entry) (q : ℕ) (flushes drains : List ℕ) (b : FlushBook) : Type 0 where
   pub flushes_are : flush_tickets b ≡ flushes
   pub drains_are : b.drains ≡ drains
-  pub few : length b.served ≤ MOST_SERVED
+  pub few : length b.served ≤ 15
   pub serving : IsServing b
   pub bounds : AllByRecursion (λ f. f.bound ≤ b.next) b.served
   pub soon : AllByRecursion (ServedSoon past q b.next b.opened) b.served
@@ -36,10 +35,10 @@ pub record Stands (past : List Entry) (q : ℕ) (flushes drains : List ℕ) (b :
 
 -- ---- a flush begins
 
-begins : (past : List Entry) (q t : ℕ) (flushes drains : List ℕ) (b : FlushBook) (c : Bool) → nat_lt (length b.served) MOST_SERVED ≡ c → served past q t ≡ None → Stands past q flushes drains b
+begins : (past : List Entry) (q t : ℕ) (flushes drains : List ℕ) (b : FlushBook) (c : Bool) → nat_lt (length b.served) 15 ≡ c → served past q t ≡ None → Stands past q flushes drains b
     → Stands past q (flushes ++ t ∷ []) drains (if c then record b { served = b.served ++ flush_from t b.next ∷ [] } else record b { overflow = b.overflow ++ t ∷ [] })
 begins past q t flushes drains b true less unserved is =
-    let few : length b.served < MOST_SERVED = ltb-true (length b.served) MOST_SERVED less in
+    let few : length b.served < 15 = ltb-true (length b.served) 15 less in
     let longer = length-append b.served (flush_from t b.next ∷ []) in
     let empty : b.overflow ≡ [] = none_over b.overflow few is.serving in
     record {
@@ -53,11 +52,11 @@ begins past q t flushes drains b true less unserved is =
       overflowed = is.overflowed;
     }
   where
-    none_over : (os : List ℕ) → length b.served < MOST_SERVED → (0 < length os → length b.served ≡ MOST_SERVED) → os ≡ []
+    none_over : (os : List ℕ) → length b.served < 15 → (0 < length os → length b.served ≡ 15) → os ≡ []
     none_over [] few serving = refl
-    none_over (o ∷ os) few serving = let full : length b.served ≡ MOST_SERVED = serving (omega arith) in absurd (omega arith)
+    none_over (o ∷ os) few serving = let full : length b.served ≡ 15 = serving (omega arith) in absurd (omega arith)
 begins past q t flushes drains b false more unserved is =
-    let full : MOST_SERVED ≤ length b.served = ltb-false (length b.served) MOST_SERVED more in
+    let full : 15 ≤ length b.served = ltb-false (length b.served) 15 more in
     let few = is.few in
     record {
       flushes_are = sym (append_assoc (tickets_of b.served) b.overflow (t ∷ [])) ∙ ap (λ xs. xs ++ t ∷ []) is.flushes_are;
@@ -70,7 +69,7 @@ begins past q t flushes drains b false more unserved is =
     }
 
 pub stands_begin : (past : List Entry) (q t : ℕ) (flushes drains : List ℕ) (b : FlushBook) → served past q t ≡ None → Stands past q flushes drains b → Stands past q (flushes ++ t ∷ []) drains (after_begin b t)
-stands_begin past q t flushes drains b unserved is = begins past q t flushes drains b (nat_lt (length b.served) MOST_SERVED) refl unserved is
+stands_begin past q t flushes drains b unserved is = begins past q t flushes drains b (nat_lt (length b.served) 15) refl unserved is
 
 -- ---- a flush ends
 

@@ -18,7 +18,6 @@ use Rattle.cmwq_model.specs.Tickets.{unended, tickets, flushes, drains, is_flush
 use Rattle.cmwq_model.specs.Waits.{served, is_served_after, is_older_flush}
 use Rattle.cmwq_model.specs.Legal.{IsLegal}
 use Rattle.cmwq_flush.specs.declared.served.Served.{Served}
-use Rattle.cmwq_flush.specs.declared.limits.TheConstants.{MOST_SERVED}
 use Rattle.cmwq_flush.specs.Numbers.{is_other, without}
 use Rattle.cmwq_flush.specs.Served.{ticket_of, tickets_of}
 use Rattle.cmwq_flush.specs.FlushBook.{FlushBook, new_book, flush_tickets, served_of, after_opened, after_ended, after_begin, after_end, after_drain_begin, after_drain_end}
@@ -213,7 +212,7 @@ pub soon_after : (s : Layout) (past : List Entry) (q : ℕ) (old b : FlushBook) 
 soon_after s past q old b is on = record {
   flushes_are = ap₂ (λ fs os. tickets_of fs ++ os) on.tickets.served on.tickets.overflow ∙ is.flushes;
   drains_are = on.tickets.drains ∙ is.drains;
-  few = subst (λ fs. length fs ≤ MOST_SERVED) (sym on.tickets.served) is.few;
+  few = subst (λ fs. length fs ≤ 15) (sym on.tickets.served) is.few;
   serving = λ some. ap length on.tickets.served ∙ is.serving (subst (λ os. 0 < length os) on.tickets.overflow some);
   bounds = subst (AllByRecursion (λ f. f.bound ≤ b.next)) (sym on.tickets.served) (All_map (λ f. f.bound ≤ old.next) (λ f. f.bound ≤ b.next) old.served (λ f le. let later = on.later in omega arith) is.bounds);
   soon = subst (AllByRecursion (ServedSoon past q b.next b.opened)) (sym on.tickets.served) (all_in (ServedSoon past q b.next b.opened) old.served
@@ -314,7 +313,7 @@ done_open (Some t) q b = open_if (is_flush_of q t) b (after_end b t.number) _ (o
 
 begun_open : (o : Option Ticket) (q : ℕ) (b : FlushBook) → SameOpen b (told_begun o q b)
 begun_open None q b = same_open b
-begun_open (Some t) q b = open_if (is_flush_of q t) b (after_begin b t.number) _ (open_if (nat_lt (length b.served) MOST_SERVED) b _ _ (record { callers = refl; opened = refl; next = refl }) (record { callers = refl; opened = refl; next = refl }))
+begun_open (Some t) q b = open_if (is_flush_of q t) b (after_begin b t.number) _ (open_if (nat_lt (length b.served) 15) b _ _ (record { callers = refl; opened = refl; next = refl }) (record { callers = refl; opened = refl; next = refl }))
     (open_if (is_drain_of q t) b (after_drain_begin b t.number) b (record { callers = refl; opened = refl; next = refl }) (same_open b))
 
 tickets_open : (past : List Entry) (e : Entry) (q : ℕ) (b : FlushBook) → SameOpen b (told_tickets past e q b)
@@ -326,7 +325,7 @@ tickets_open past e q b =
 -- ---- what stands is served as the history says
 
 -- fewer than 15 older ones are unended of one that is served, and 15 or more of one in overflow
-pub few_are_older : (past : List Entry) (q t : ℕ) (b : FlushBook) → flush_tickets b ≡ flush_numbers q (unended past) → length b.served ≤ MOST_SERVED → In t (tickets_of b.served) → count_by (is_older_flush q t) (unended past) < 15
+pub few_are_older : (past : List Entry) (q t : ℕ) (b : FlushBook) → flush_tickets b ≡ flush_numbers q (unended past) → length b.served ≤ 15 → In t (tickets_of b.served) → count_by (is_older_flush q t) (unended past) < 15
 few_are_older past q t b are few here =
     let rise = subst (RisesBy itself) (sym are) (flush_numbers_rise past q) in
     let fewer = fewer_before (tickets_of b.served) b.overflow t rise here in

@@ -14,7 +14,6 @@ use Rattle.cmwq_model.specs.Legal.{IsLegal}
 use Rattle.cmwq_laws.specs.Endings.{ending}
 use Rattle.cmwq_laws.specs.TicketSteps.{ticket_ended}
 use Rattle.cmwq_flush.specs.declared.served.Served.{Served}
-use Rattle.cmwq_flush.specs.declared.limits.TheConstants.{MOST_SERVED}
 use Rattle.cmwq_flush.specs.FlushBook.{FlushBook, new_book, flush_tickets, CanOpen, CanBegin, CanDrain, IsReady, after_opened, after_ended, after_begin, after_end, after_drain_begin, after_drain_end}
 use Rattle.cmwq_flush.specs.Colouring.{IsServing}
 use Rattle.cmwq_ties.specs.Told.{number_of_queueing, number_of_ticket, ticket_given}
@@ -45,7 +44,7 @@ pub record AreFlushes (s : Layout) (past : List Entry) (q : ℕ) (b : FlushBook)
   pub older : AllByRecursion (λ n. n < b.next) b.opened
   pub next : b.next ≤ length past
   pub flushes : flush_tickets b ≡ flush_numbers q (unended past)
-  pub few : length b.served ≤ MOST_SERVED
+  pub few : length b.served ≤ 15
   pub serving : IsServing b
   pub bounds : AllByRecursion (λ f. f.bound ≤ b.next) b.served
   pub served_from : AllByRecursion (IsServedFrom past q b.opened) b.served

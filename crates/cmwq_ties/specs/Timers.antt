@@ -16,7 +16,7 @@ use Rattle.cmwq_timer.specs.Rows.{Rows, due_of, NoneMayFire, IsFirstToFire}
 
 -- the timer that is set for a booking
 abbrev pub timer_for : Booking → Timer
-timer_for b = record { queue = b.place.queue; due = b.due; number = b.number }
+timer_for b = record { place = b.place; due = b.due; number = b.number }
 
 -- the timers of a history: a row for each item, with the timer of its booking
 abbrev pub row_of : List Entry → ℕ → Option Timer

@@ -5,7 +5,7 @@ use Rattle.cmwq_timer.specs.declared.timer.Timer.{Timer}
 
 -- bit q of held says that queue q is held back
 abbrev pub is_held : ℕ → Timer → Bool
-is_held held t = bit_at held t.queue.0 == 1
+is_held held t = bit_at held t.place.queue.0 == 1
 
 -- due, on a queue that isn't held back
 abbrev pub may_fire : ℕ → ℕ → Timer → Bool

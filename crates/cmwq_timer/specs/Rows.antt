@@ -1,5 +1,6 @@
 -- The timers of all items: a row for each item, with its timer if it is booked.
-use Rattle.std.specs.Prelude.{◌≡◌, ℕ, ◌<◌, false, List, Option, Some, None, option_map, IsTrue, slice_index_or}
+use Rattle.std.specs.Prelude.{◌≡◌, ℕ, ◌<◌, Bool, false, ◌==◌, List, Option, Some, None, option_map, IsTrue, slice_index_or}
+use Rattle.std.specs.List.{list_any}
 use Rattle.cmwq_timer.specs.declared.timer.Timer.{Timer}
 use Rattle.cmwq_timer.specs.Due.{may_fire, is_sooner}
 
@@ -9,13 +10,21 @@ Rows = List (Option Timer)
 abbrev pub timer_of : Rows → ℕ → Option Timer
 timer_of rows i = slice_index_or rows i None
 
+-- some item is booked on queue q
+abbrev pub is_on : ℕ → Option Timer → Bool
+is_on q None = false
+is_on q (Some t) = t.place.queue.0 == q
+
+abbrev pub is_booked_on : Rows → ℕ → Bool
+is_booked_on rows q = list_any (is_on q) rows
+
 -- the tick at which an item is due, if it is booked
 abbrev pub due_of : Rows → ℕ → Option ℕ
 due_of rows i = option_map (λ (t : Timer). t.due) (timer_of rows i)
 
 -- each queue has a bit in a word of 64 bits
 abbrev pub HasBit : Timer → Type 0
-HasBit t = t.queue.0 < 64
+HasBit t = t.place.queue.0 < 64
 
 abbrev pub HaveBits : Rows → Type 0
 HaveBits rows = (i : ℕ) (t : Timer) → timer_of rows i ≡ Some t → HasBit t

@@ -1,13 +1,13 @@
 ghost use Rattle.std.specs.Prelude.{◌≡◌, ◌<◌};
 ghost use Rattle.cmwq_timer.specs.Due.{may_fire, is_sooner};
 
-use cmwq_model::{Number, QueueId};
+use cmwq_model::{Number, Place};
 
 /// A timer that is set for an item (the kernel's `timer_list` in a `delayed_work`).
 #[derive(Clone, Copy, Debug)]
 pub struct Timer {
-    /// The queue on which the item is to be queued.
-    pub queue: QueueId,
+    /// The queue and the CPU on which the item is to be queued.
+    pub place: Place,
     /// The tick at which it is due.
     pub due: u64,
     /// The number of the entry that booked it.
@@ -17,10 +17,10 @@ pub struct Timer {
 impl Timer {
     /// Whether it may fire at the tick `now`: it is due, and its queue has no bit in `held`.
     pub fn may_fire(&self, now: u64, held: u64) -> bool
-        requires { self.now.queue.0 < 64 }
+        requires { self.now.place.queue.0 < 64 }
         ensures { result ≡ may_fire now held self.now }
     {
-        self.due <= now && (held >> self.queue.0) & 1 != 1
+        self.due <= now && (held >> self.place.queue.0) & 1 != 1
     }
 
     /// Whether it fires before the other: it is due earlier, or at the same tick and was booked earlier.

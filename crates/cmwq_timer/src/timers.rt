@@ -1,9 +1,9 @@
 ghost use Rattle.std.specs.Prelude.{◌≡◌, ℕ, ◌^◌, ◌<◌, Some, None, IfOk, IfSome, IfNone, length, replicate, slice_set};
 ghost use Rattle.cmwq_timer.specs.Candidates.{sooner};
-ghost use Rattle.cmwq_timer.specs.Rows.{timer_of, due_of, HaveBits, NoneMayFire, IsFirstToFire};
+ghost use Rattle.cmwq_timer.specs.Rows.{timer_of, due_of, is_booked_on, HaveBits, NoneMayFire, IsFirstToFire};
 
 use crate::timer::Timer;
-use cmwq_model::{ItemId, NoMemory, Number, QueueId};
+use cmwq_model::{ItemId, NoMemory, Number, Place, QueueId};
 use std::alloc::Global;
 use std::marker::Model;
 
@@ -41,15 +41,15 @@ impl Timers {
         self.rows.len() as u16
     }
 
-    /// Books an item for the tick `due`, in the place of any booking that it had (`add_timer_on`, `mod_timer`).
-    /// `at` is the number of the entry that books it.
-    pub fn book(&mut self, item: ItemId, queue: QueueId, due: u64, at: Number)
+    /// Books an item for the tick `due`, to be queued at this place, instead of any booking that it had (`add_timer_on`,
+    /// `mod_timer`). `at` is the number of the entry that books it.
+    pub fn book(&mut self, item: ItemId, place: Place, due: u64, at: Number)
         requires known { item.0 < length self.old }
-        requires has_bit { queue.0 < 64 }
-        ensures { self.new ≡ slice_set self.old item.0 (Some (record { queue = queue; due = due; number = at })) }
+        requires has_bit { place.queue.0 < 64 }
+        ensures { self.new ≡ slice_set self.old item.0 (Some (record { place = place; due = due; number = at })) }
     {
         self.rows[usize::from(item.0)] = Some(Timer {
-            queue,
+            place,
             due,
             number: at,
         });
@@ -61,6 +61,22 @@ impl Timers {
         ensures { self.new ≡ slice_set self.old item.0 None }
     {
         self.rows[usize::from(item.0)] = None;
+    }
+
+    /// The timer that is set for an item, if it is booked: where it is to be queued, when, and by which entry.
+    pub fn timer(&self, item: ItemId) -> Option<Timer>
+        requires { item.0 < length self.now }
+        ensures { result ≡ timer_of self.now item.0 }
+    {
+        let row = usize::from(item.0);
+        self.rows[row]
+    }
+
+    /// Whether any item is booked on a queue.
+    pub fn is_booked_on(&self, queue: QueueId) -> bool
+        ensures { result ≡ is_booked_on self.now queue.0 }
+    {
+        self.rows.iter().any(|row| row.is_some_and(|timer| timer.place.queue.0 == queue.0))
     }
 
     /// The tick at which an item is due, if it is booked (`timer_pending`, `timer_list.expires`).

@@ -73,3 +73,19 @@ fn waits_for_queueing_of_the_same_entry(rt: HostRuntime) -> Result<(), Fail> {
     end(&rt, &mut barriers, 5);
     Ok(())
 }
+
+/// 256 items have two open queueings each at most, and 64 callers 4,096 tickets.
+#[test]
+fn as_many_as_may_be(rt: HostRuntime) -> Result<(), Fail> {
+    let mut barriers = Barriers::new(rt.alloc(), 256, 64)?;
+    for number in 0..512 {
+        open(&rt, &mut barriers, ItemId(number % 256), u32::from(number));
+    }
+    assert!(rt; !barriers.may_open(ItemId(255), 512));
+    for ticket in 512..4608 {
+        begin(&rt, &mut barriers, ItemId(255), ticket);
+    }
+    assert!(rt; !barriers.may_begin(ItemId(255), 4608));
+    assert_eq!(rt; waits_for(&rt, &barriers, 4607), Some(255));
+    Ok(())
+}

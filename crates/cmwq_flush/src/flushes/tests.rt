@@ -193,3 +193,18 @@ fn generated_calls(rt: HostRuntime) -> Result<(), Fail> {
     assert!(rt; longest > 30, "at most {longest} flushes stood");
     Ok(())
 }
+
+/// 64 callers have 4,096 tickets at most, and a queue 512 open queueings.
+#[test]
+fn as_many_as_may_be(rt: HostRuntime) -> Result<(), Fail> {
+    let mut flushes = Flushes::new(rt.alloc(), 64)?;
+    for number in 0..512 {
+        open(&rt, &mut flushes, number);
+    }
+    assert!(rt; !flushes.may_open(512));
+    for ticket in 512..4608 {
+        begin(&rt, &mut flushes, ticket);
+    }
+    assert!(rt; !flushes.may_begin(4608));
+    Ok(())
+}

@@ -168,3 +168,22 @@ fn a_running_item_is_not_started_again(rt: HostRuntime) -> Result<(), Fail> {
     assert!(rt; !pool.may_add(9, ItemId(2)));
     Ok(())
 }
+
+/// 256 items are listed, and 8 workers run one each.
+#[test]
+fn as_many_as_may_be(rt: HostRuntime) -> Result<(), Fail> {
+    let mut pool = Pool::new(rt.alloc(), 256, 8)?;
+    for item in 0..256 {
+        let added = Event::Add(u32::from(item), ItemId(item), false);
+        tell(&rt, &mut pool, added);
+    }
+    assert!(rt; !pool.may_add(256, ItemId(0)));
+    for worker in 0..8 {
+        let enlisted = pool.would_enlist(worker);
+        assert_eq!(rt; enlisted, (worker < 7).then_some(worker + 1));
+        tell(&rt, &mut pool, Event::Start(worker, enlisted));
+        tell(&rt, &mut pool, Event::Sleep(worker));
+    }
+    assert_eq!(rt; pool.next(), Some(8));
+    Ok(())
+}
