@@ -141,7 +141,7 @@ pub(crate) fn tell_timers(timers: &mut Timers, settled: Option<ItemId>, booked: 
     ensures { timers.new ≡ timed.told_settled (effects.item_number settled) booked timers.old }
 {
     match booked {
-        Some(made) => timers.book(made.item, made.place.queue, made.due, made.number),
+        Some(made) => timers.book(made.item, made.place, made.due, made.number),
         None => {
             if let Some(item) = settled {
                 timers.unbook(item);

@@ -156,13 +156,6 @@ impl Pool {
         start_task(&mut self.seats, worker, task)
     }
 
-    /// The worker that this one would enlist as it starts.
-    pub fn would_enlist(&self, worker: u8) -> Option<u8>
-        ensures { result ≡ enlisted_by self.now.seats worker }
-    {
-        enlisted_by(&self.seats, worker)
-    }
-
     /// A worker's run goes to sleep (the kernel's `wq_worker_sleeping`).
     pub fn sleep(&mut self, worker: u8)
         requires { IsTrue (runs_awake (seat_at self.old.seats worker)) }
