@@ -1,0 +1,76 @@
+-- What waits to become active, and how many are active of each queue on each CPU.
+use Rattle.std.specs.Prelude.{◌≡◌, ℕ, ◌+◌, ◌*◌, ◌-◌, ◌<◌, ◌≤◌, Bool, ◌&&◌, not, ◌==◌, if◌then◌else◌, List, [], ◌∷◌, ◌++◌, length, filter, count_by, replicate, nat_lt, slice_index, slice_set, slice_index_or, All}
+use Rattle.std.specs.List.{list_any}
+use Rattle.cmwq_model.specs.declared.record.Queueing.{Queueing}
+use Rattle.cmwq_model.specs.declared.shape.QueueShape.{QueueShape}
+use Rattle.cmwq_model.specs.Layout.{no_queue}
+use Rattle.cmwq_model.specs.Queueings.{has_number}
+use Rattle.cmwq_laws.specs.Fidelity.{is_on}
+
+-- what waits, and what the last pass made active, both in their order; there is room for one of each item
+pub record Lined : Type 0 where
+  pub items : ℕ
+  pub counts : List ℕ
+  pub waiting : List Queueing
+  pub promoted : List Queueing
+
+-- the active ones of queue q on CPU c are counted at this place
+abbrev pub place_of : ℕ → ℕ → ℕ
+place_of q c = 4 * q + c
+
+abbrev pub count_at : List ℕ → ℕ → ℕ → ℕ
+count_at counts q c = slice_index counts (place_of q c)
+
+abbrev pub count_beside : List ℕ → Queueing → ℕ
+count_beside counts x = count_at counts x.place.queue.0 x.place.cpu.0
+
+abbrev pub new_lined : ℕ → ℕ → Lined
+new_lined queues items = record { items = items; counts = replicate (4 * queues) 0; waiting = []; promoted = [] }
+
+-- a queueing that is opened waits
+abbrev pub opened : Lined → Queueing → Lined
+opened l x = record l { waiting = l.waiting ++ x ∷ [] }
+
+-- one that ends waits no more, and where it didn't wait it was active
+abbrev pub is_waiting : Lined → Queueing → Bool
+is_waiting l x = list_any (has_number x.number) l.waiting
+
+abbrev pub is_other : ℕ → Queueing → Bool
+is_other n x = not (x.number == n)
+
+abbrev pub ended : Lined → Queueing → Lined
+ended l x =
+    if is_waiting l x then record l { waiting = filter (is_other x.number) l.waiting }
+    else record l { counts = slice_set l.counts (place_of x.place.queue.0 x.place.cpu.0) (count_beside l.counts x - 1) }
+
+-- how wide queue q is, by max_active of each queue and whether the freezable ones are frozen
+abbrev pub width_by : List QueueShape → List ℕ → Bool → ℕ → ℕ
+width_by queues most frozen q = if (slice_index_or queues q no_queue).freezable && frozen then 0 else slice_index most q
+
+-- What has way, told by what is counted: a queueing of the list has way where fewer than the width are active beside it, with those before it
+-- in the list that have way.
+abbrev pub HaveWay : (Queueing → Bool) → (ℕ → ℕ) → List ℕ → List Queueing → Type 0
+HaveWay way wide counts xs = (done : List Queueing) (x : Queueing) (rest : List Queueing) → xs ≡ done ++ x ∷ rest
+    → way x ≡ nat_lt (count_beside counts x + count_by (is_on x.place.queue.0 x.place.cpu.0) (filter way done)) (wide x.place.queue.0)
+
+-- those that have way become active and are counted, and the others go on waiting
+pub record Passes (way : Queueing → Bool) (xs : List Queueing) (old new : List ℕ) (rest taken : List Queueing) : Type 0 where
+  pub kept : rest ≡ filter (λ x. not (way x)) xs
+  pub promoted : taken ≡ filter way xs
+  pub many : length new ≡ length old
+  pub counts : (q c : ℕ) → c < 4 → place_of q c < length old → count_at new q c ≡ count_at old q c + count_by (is_on q c) (filter way xs)
+
+-- the queueing is of a queue that there is, on one of four CPUs
+abbrev pub IsPlaced : ℕ → Queueing → Type 0
+IsPlaced queues x = (x.place.queue.0 < queues) × (x.place.cpu.0 < 4)
+
+abbrev pub ArePlaced : ℕ → List Queueing → Type 0
+ArePlaced queues xs = All (IsPlaced queues) xs
+
+-- there is room for one queueing of each item in each list, and no more wait than there are items
+pub record IsLine (items waiting_room spare_room promoted_room : ℕ) (waiting spare : List Queueing) : Type 0 where
+  pub waits : items ≤ waiting_room
+  pub spares : items ≤ spare_room
+  pub promotes : items ≤ promoted_room
+  pub few : length waiting ≤ items
+  pub none_spare : spare ≡ []
