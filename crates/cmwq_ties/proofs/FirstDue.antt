@@ -78,7 +78,7 @@ in_standing past i b h =
     filter_in (stands past) (bookings past) b k.made (ap (λ o. is_at (option_map number_booked o) b.number) is ∙ eq-eqb b.number b.number refl)
 
 -- what stands is the booking of its item
-standing_is : (past : List Entry) (b : Booking) → In b (standing past) → booking past b.item.0 ≡ Some b
+pub standing_is : (past : List Entry) (b : Booking) → In b (standing past) → booking past b.item.0 ≡ Some b
 standing_is past b h =
     let k = in_filter (stands past) (bookings past) b h in
     with (booking past b.item.0) refl k.0 k.1
