@@ -10,7 +10,7 @@ use Rattle.cmwq_model.specs.Layout.{Layout, is_layout}
 use Rattle.cmwq_model.specs.Calls.{now}
 use Rattle.cmwq_model.specs.Legal.{IsLegal}
 use Rattle.cmwq_model.specs.Room.{owed}
-use Rattle.cmwq_laws.proofs.Promised.{steps_within_room}
+use Rattle.cmwq_laws.proofs.WithinRoom.{steps_within_room}
 use Rattle.cmwq_pool.specs.Lineup.{Lineup, new_lineup}
 use Rattle.cmwq_flush.specs.FlushBook.{FlushBook, new_book}
 use Rattle.cmwq_flush.specs.BarrierBook.{new_barriers}

@@ -14,10 +14,10 @@ use Rattle.cmwq_model.specs.Legal.{IsLegal}
 use Rattle.cmwq_model.specs.Room.{owed}
 use Rattle.cmwq_pool.specs.Lineup.{Lineup}
 use Rattle.cmwq_flush.specs.FlushBook.{FlushBook}
-use Rattle.cmwq_laws.proofs.StateSteps.{time_goes_on, serials_go_on}
-use Rattle.cmwq_laws.proofs.ItemRuns.{same_worker-true}
-use Rattle.cmwq_laws.specs.RoomSteps.{one}
-use Rattle.cmwq_laws.specs.Activations.{is_in}
+use Rattle.cmwq_steps.proofs.StateSteps.{time_goes_on, serials_go_on}
+use Rattle.cmwq_steps.proofs.ItemRuns.{same_worker-true}
+use Rattle.cmwq_steps.specs.Histories.{one}
+use Rattle.cmwq_steps.specs.Activations.{is_in}
 use Rattle.cmwq_ties.specs.Pools as pools
 use Rattle.cmwq_ties.specs.FlushBooks as flushes
 use Rattle.cmwq_ties.specs.BarrierBooks as barriers

@@ -11,11 +11,12 @@ use Rattle.cmwq_model.specs.Queueings.{opening}
 use Rattle.cmwq_model.specs.Tickets.{gives_ticket, is_done}
 use Rattle.cmwq_model.specs.Room.{owed, has_not_started}
 use Rattle.cmwq_model.specs.Legal.{IsLegal}
-use Rattle.cmwq_laws.specs.RoomSteps.{one, ends_unstarted, is_slept, is_woke, settles_booked, is_frozen_now, is_thawed_now}
-use Rattle.cmwq_laws.proofs.OwedSteps.{runs_counted, sleepers_counted}
-use Rattle.cmwq_laws.proofs.OwedItems.{tickets_counted, booked_counted}
-use Rattle.cmwq_laws.proofs.OwedWaiting.{waiting_counted}
-use Rattle.cmwq_laws.proofs.OwedFrozen.{frozen_counted}
+use Rattle.cmwq_steps.specs.Histories.{one}
+use Rattle.cmwq_steps.specs.RoomSteps.{ends_unstarted, is_slept, is_woke, settles_booked, is_frozen_now, is_thawed_now}
+use Rattle.cmwq_steps.proofs.OwedSteps.{runs_counted, sleepers_counted}
+use Rattle.cmwq_steps.proofs.OwedItems.{tickets_counted, booked_counted}
+use Rattle.cmwq_steps.proofs.OwedWaiting.{waiting_counted}
+use Rattle.cmwq_steps.proofs.OwedFrozen.{frozen_counted}
 use Rattle.cmwq_core.proofs.Quiet.{SaysNothing, IsQuiet, quiet}
 
 -- what the entry pays off, and what it takes on

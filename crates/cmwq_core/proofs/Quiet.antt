@@ -22,12 +22,13 @@ use Rattle.cmwq_model.specs.Tickets.{gives_ticket, is_done, ticket_for}
 use Rattle.cmwq_model.specs.Workers.{is_enlisted, may_retire}
 use Rattle.cmwq_model.specs.Answer.{answer, worker_answer, own_answer, retire_answer}
 use Rattle.cmwq_model.specs.Legal.{IsLegal}
-use Rattle.cmwq_laws.specs.Endings.{ending, number_ended}
-use Rattle.cmwq_laws.specs.TicketSteps.{ticket_ended, ticket_asked}
-use Rattle.cmwq_laws.specs.Activations.{keeps_widths, behind_width, has_way_at_once, waits}
-use Rattle.cmwq_laws.specs.RoomSteps.{is_frozen_now, is_thawed_now}
-use Rattle.cmwq_laws.proofs.Ended.{ends_which}
-use Rattle.cmwq_laws.proofs.NewlyActive.{newly_active_are}
+use Rattle.cmwq_steps.specs.Endings.{ending, number_ended}
+use Rattle.cmwq_steps.specs.TicketSteps.{ticket_ended, ticket_asked}
+use Rattle.cmwq_active.specs.Looks.{keeps_widths}
+use Rattle.cmwq_steps.specs.Activations.{behind_width, has_way_at_once, waits}
+use Rattle.cmwq_steps.specs.RoomSteps.{is_frozen_now, is_thawed_now}
+use Rattle.cmwq_steps.proofs.Ended.{ends_which}
+use Rattle.cmwq_steps.proofs.NewlyActive.{newly_active_are}
 use Rattle.cmwq_ties.specs.Told.{ticket_given}
 use Rattle.cmwq_core.specs.Book.{is_known}
 

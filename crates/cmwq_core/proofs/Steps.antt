@@ -16,7 +16,8 @@ use Rattle.cmwq_model.specs.Answer.{answer}
 use Rattle.cmwq_model.specs.Legal.{IsLegal, past_of, entry_for}
 use Rattle.cmwq_model.specs.Room.{owed, needed}
 use Rattle.cmwq_pool.specs.Lineup.{Lineup}
-use Rattle.cmwq_laws.specs.RoomSteps.{one, is_slept, is_woke}
+use Rattle.cmwq_steps.specs.Histories.{one}
+use Rattle.cmwq_steps.specs.RoomSteps.{is_slept, is_woke}
 use Rattle.cmwq_ties.proofs.PoolMay.{workers_may_be_told}
 use Rattle.cmwq_core.specs.Tables.{IsThere, who_place, pool_in, ArePools, MayTellWorker, TellWorker}
 use Rattle.cmwq_core.specs.Book.{Kept, Parts, AreParts, IsBook, is_known, next_entry, has_room_in}

@@ -14,9 +14,9 @@ use Rattle.cmwq_model.specs.Room.{owed}
 use Rattle.cmwq_pool.specs.Lineup.{Lineup}
 use Rattle.cmwq_flush.specs.FlushBook.{FlushBook}
 use Rattle.cmwq_timer.specs.Rows.{Rows}
-use Rattle.cmwq_laws.specs.Endings.{ending, is_ended}
-use Rattle.cmwq_laws.proofs.Standing.{due_settles}
-use Rattle.cmwq_laws.proofs.StateSteps.{time_goes_on}
+use Rattle.cmwq_steps.specs.Endings.{ending, is_ended}
+use Rattle.cmwq_steps.proofs.Standing.{due_settles}
+use Rattle.cmwq_steps.proofs.StateSteps.{time_goes_on}
 use Rattle.cmwq_ties.specs.Places as places
 use Rattle.cmwq_ties.specs.Pools as pools
 use Rattle.cmwq_ties.specs.FlushBooks as flushes

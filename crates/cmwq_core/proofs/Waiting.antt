@@ -10,16 +10,16 @@ use Rattle.cmwq_model.specs.Fate.{starts, is_started}
 use Rattle.std.specs.Option.{option_or}
 use Rattle.cmwq_model.specs.Active.{has_way, is_active, is_newly_active, newly_active}
 use Rattle.cmwq_model.specs.Legal.{IsLegal}
-use Rattle.cmwq_laws.specs.Endings.{is_spared}
-use Rattle.cmwq_laws.specs.Activations.{waits}
-use Rattle.cmwq_laws.proofs.Lists.{All_each, All_filter, All_map}
-use Rattle.cmwq_laws.proofs.Filters.{filter_twice, filter_same}
-use Rattle.cmwq_laws.proofs.Active.{not_active_yet}
-use Rattle.cmwq_laws.proofs.Rising.{opening_number}
-use Rattle.cmwq_laws.proofs.Endings.{open_go_on}
-use Rattle.cmwq_laws.proofs.Pending.{one_unstarted}
-use Rattle.cmwq_laws.proofs.WorklistSteps.{opening_inert}
-use Rattle.cmwq_laws.proofs.Promoted.{newly_is, newly_of_open}
+use Rattle.cmwq_steps.specs.Endings.{is_spared}
+use Rattle.cmwq_steps.specs.Activations.{waits}
+use Rattle.cmwq_active.proofs.Lists.{All_each, All_filter, All_map}
+use Rattle.cmwq_steps.proofs.Filters.{filter_twice, filter_same}
+use Rattle.cmwq_steps.proofs.Active.{not_active_yet}
+use Rattle.cmwq_active.proofs.Rising.{opening_number}
+use Rattle.cmwq_steps.proofs.Endings.{open_go_on}
+use Rattle.cmwq_steps.proofs.Pending.{one_unstarted}
+use Rattle.cmwq_steps.proofs.WorklistSteps.{opening_inert}
+use Rattle.cmwq_steps.proofs.Promoted.{newly_is, newly_of_open}
 use Rattle.cmwq_core.specs.Waiting.{waiting, candidates, has_none, kept_unstarted, of_item}
 
 flip : (a b : Bool) → (a && b) ≡ (b && a)

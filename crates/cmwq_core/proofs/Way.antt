@@ -10,12 +10,13 @@ use Rattle.cmwq_model.specs.Layout.{Layout}
 use Rattle.cmwq_model.specs.Queueings.{still_open}
 use Rattle.cmwq_model.specs.Widths.{width}
 use Rattle.cmwq_model.specs.Active.{has_way, newly_active}
-use Rattle.cmwq_laws.specs.Fidelity.{IsRising, is_on, open_on}
-use Rattle.cmwq_laws.specs.Activations.{waits, stay_count}
-use Rattle.cmwq_laws.proofs.Lists.{All_filter, All_map}
-use Rattle.cmwq_laws.proofs.Active.{length-count}
-use Rattle.cmwq_laws.proofs.Rising.{rising_filter, open_rise}
-use Rattle.cmwq_laws.proofs.Promoted.{newly_active_on}
+use Rattle.cmwq_active.specs.Rising.{IsRising}
+use Rattle.cmwq_steps.specs.Places.{is_on, open_on}
+use Rattle.cmwq_steps.specs.Activations.{waits, stay_count}
+use Rattle.cmwq_active.proofs.Lists.{All_filter, All_map}
+use Rattle.cmwq_steps.proofs.Active.{length-count}
+use Rattle.cmwq_active.proofs.Rising.{rising_filter, open_rise}
+use Rattle.cmwq_steps.proofs.Promoted.{newly_active_on}
 use Rattle.cmwq_core.specs.Waiting.{candidates}
 use Rattle.cmwq_core.proofs.Waiting.{filters_flip, newly_are}
 

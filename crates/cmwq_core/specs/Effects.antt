@@ -9,8 +9,8 @@ use Rattle.cmwq_model.specs.Queueings.{opening}
 use Rattle.cmwq_model.specs.Active.{newly_active}
 use Rattle.cmwq_model.specs.Legal.{IsLegal}
 use Rattle.cmwq_model.specs.Room.{owed}
-use Rattle.cmwq_laws.specs.Endings.{ending}
-use Rattle.cmwq_laws.specs.TicketSteps.{ticket_ended}
+use Rattle.cmwq_steps.specs.Endings.{ending}
+use Rattle.cmwq_steps.specs.TicketSteps.{ticket_ended}
 use Rattle.cmwq_ties.specs.Told.{ticket_given}
 use Rattle.cmwq_core.specs.declared.effect.Effect.{Effect}
 

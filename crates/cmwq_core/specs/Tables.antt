@@ -17,7 +17,7 @@ use Rattle.cmwq_pool.specs.Lineup.{Lineup, removed, added, may_add}
 use Rattle.cmwq_flush.specs.FlushBook.{FlushBook, new_book, flush_tickets, IsReady, CanOpen}
 use Rattle.cmwq_ties.specs.Pools.{pool_of, task_for, MayBeTold, told_worker, told_cancelled, told_active}
 use Rattle.cmwq_ties.specs.FlushBooks.{AreFlushes, told_ended, told_opened, told_done}
-use Rattle.cmwq_laws.specs.Activations.{is_in}
+use Rattle.cmwq_steps.specs.Activations.{is_in}
 
 -- the who is inside the layout
 abbrev pub IsThere : Layout → Who → Type 0

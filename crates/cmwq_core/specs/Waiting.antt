@@ -6,8 +6,8 @@ use Rattle.cmwq_model.specs.Layout.{Layout}
 use Rattle.cmwq_model.specs.Queueings.{still_open}
 use Rattle.cmwq_model.specs.Active.{has_way}
 use Rattle.cmwq_model.specs.Fate.{starts}
-use Rattle.cmwq_laws.specs.Endings.{is_spared}
-use Rattle.cmwq_laws.specs.Activations.{waits}
+use Rattle.cmwq_steps.specs.Endings.{is_spared}
+use Rattle.cmwq_steps.specs.Activations.{waits}
 
 abbrev pub waiting : Layout → List Entry → List Queueing
 waiting s past = filter (waits s past) (still_open past)

@@ -5,7 +5,7 @@ use Rattle.cmwq_model.specs.declared.record.Queueing.{Queueing}
 use Rattle.cmwq_model.specs.declared.shape.QueueShape.{QueueShape}
 use Rattle.cmwq_model.specs.Layout.{no_queue}
 use Rattle.cmwq_model.specs.Queueings.{has_number}
-use Rattle.cmwq_laws.specs.Fidelity.{is_on}
+use Rattle.cmwq_steps.specs.Places.{is_on}
 
 -- what waits, and what the last pass made active, both in their order; there is room for one of each item
 pub record Lined : Type 0 where

@@ -16,8 +16,8 @@ use Rattle.cmwq_model.specs.Legal.{IsLegal}
 use Rattle.cmwq_timer.specs.declared.timer.Timer.{Timer}
 use Rattle.cmwq_timer.specs.Due.{is_sooner, may_fire as timer_may_fire}
 use Rattle.cmwq_timer.specs.Rows.{MayFire, NoneMayFire, IsFirstToFire, timer_of}
-use Rattle.cmwq_laws.proofs.Lists.{All_map, All_append}
-use Rattle.cmwq_laws.proofs.OneWorker.{is_at-true}
+use Rattle.cmwq_active.proofs.Lists.{All_map, All_append}
+use Rattle.cmwq_steps.proofs.Entries.{is_at-true}
 use Rattle.cmwq_ties.specs.Timers.{timer_for, timers_of, HoldsDraining, item_due, MayBeTold}
 use Rattle.cmwq_ties.proofs.Members.{In, of_in, all_in, in_left, in_right, option_in, in_option, in_filter, filter_in, none_in, found}
 use Rattle.cmwq_ties.proofs.Rising.{RisesBy, rises_filter, rises_snoc, rises_unique, find_is}
@@ -78,7 +78,7 @@ in_standing past i b h =
     filter_in (stands past) (bookings past) b k.made (ap (λ o. is_at (option_map number_booked o) b.number) is ∙ eq-eqb b.number b.number refl)
 
 -- what stands is the booking of its item
-standing_is : (past : List Entry) (b : Booking) → In b (standing past) → booking past b.item.0 ≡ Some b
+pub standing_is : (past : List Entry) (b : Booking) → In b (standing past) → booking past b.item.0 ≡ Some b
 standing_is past b h =
     let k = in_filter (stands past) (bookings past) b h in
     with (booking past b.item.0) refl k.0 k.1

@@ -16,8 +16,8 @@ use Rattle.cmwq_model.specs.Waits.{served, is_within, is_older_flush, waits_for}
 use Rattle.cmwq_flush.specs.declared.served.Served.{Served}
 use Rattle.cmwq_flush.specs.Served.{tickets_of, has_ticket}
 use Rattle.cmwq_flush.specs.FlushBook.{FlushBook, flush_tickets, served_of, IsReady}
-use Rattle.cmwq_laws.proofs.Lists.{All_map, find_none}
-use Rattle.cmwq_laws.proofs.Filters.{none_found}
+use Rattle.cmwq_active.proofs.Lists.{All_map, find_none}
+use Rattle.cmwq_steps.proofs.Filters.{none_found}
 use Rattle.cmwq_ties.specs.Told.{number_of_queueing, number_of_ticket}
 use Rattle.cmwq_ties.specs.FlushBooks.{is_on_queue, open_numbers, IsServedFrom, AreFlushes}
 use Rattle.cmwq_ties.proofs.Members.{In, of_in, filter_in, in_append, found, contained_in, in_contained}
@@ -125,8 +125,12 @@ first_number p (x ∷ xs) = here (p x) (first_number p xs)
     here true later = refl
     here false later = later
 
-pub drains_wait_for_least_open : (s : Layout) (past : List Entry) (q : QueueId) (b : FlushBook) (t : ℕ) → AreFlushes s past q.0 b → waits_for past t (call.Drain q) ≡ slice_get b.opened 0
-drains_wait_for_least_open s past q b t is = first_number (is_on_queue q.0) (still_open past) ∙ ap (λ ns. slice_get ns 0) (sym is.opened)
+pub drains_wait_for_least_open : (s : Layout) (past : List Entry) (q : QueueId) (b : FlushBook) (t : ℕ) → AreFlushes s past q.0 b
+    → (waits_for past t (call.Drain q) ≡ slice_get b.opened 0) × (waits_for past t (call.Destroy q) ≡ slice_get b.opened 0)
+drains_wait_for_least_open s past q b t is = (least, least)
+  where
+    least : option_map number_of_queueing (find (is_on_queue q.0) (still_open past)) ≡ slice_get b.opened 0
+    least = first_number (is_on_queue q.0) (still_open past) ∙ ap (λ ns. slice_get ns 0) (sym is.opened)
 
 some_drain : (p : Ticket → Bool) (ts : List Ticket) → list_any p ts ≡ nat_lt 0 (length (map number_of_ticket (filter p ts)))
 some_drain p [] = refl

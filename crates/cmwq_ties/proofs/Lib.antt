@@ -3,6 +3,7 @@ pub mod Rising
 pub mod TimerSteps
 pub mod Settled
 pub mod FirstDue
+pub mod BookedOn
 pub mod LayoutLimits
 pub mod TimerMay
 pub mod TicketSteps

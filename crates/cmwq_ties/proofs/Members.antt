@@ -74,7 +74,7 @@ module _ {X : Type 0} where
       here true is later k = let same = same_Some y x k in (inl same, subst (λ z. p z ≡ true) same is)
       here false is later k = let l = later k in (inr l.0, l.1)
 
-  in_at : (xs : List X) (k : ℕ) (x : X) → k < length xs → get_or xs k x ≡ x → In x xs
+  pub in_at : (xs : List X) (k : ℕ) (x : X) → k < length xs → get_or xs k x ≡ x → In x xs
   in_at [] k x less is = absurd (omega arith)
   in_at (y ∷ ys) zero x less is = inl is
   in_at (y ∷ ys) (suc k) x less is = inr (in_at ys k x (omega arith) is)

@@ -11,8 +11,8 @@ use Rattle.cmwq_model.specs.Queueings.{still_open, opening}
 use Rattle.cmwq_model.specs.Tickets.{unended, is_flush_of, is_drain_of, is_draining}
 use Rattle.cmwq_model.specs.Waits.{served, is_older_flush, waits_for}
 use Rattle.cmwq_model.specs.Legal.{IsLegal}
-use Rattle.cmwq_laws.specs.Endings.{ending}
-use Rattle.cmwq_laws.specs.TicketSteps.{ticket_ended}
+use Rattle.cmwq_steps.specs.Endings.{ending}
+use Rattle.cmwq_steps.specs.TicketSteps.{ticket_ended}
 use Rattle.cmwq_flush.specs.declared.served.Served.{Served}
 use Rattle.cmwq_flush.specs.FlushBook.{FlushBook, new_book, flush_tickets, CanOpen, CanBegin, CanDrain, IsReady, after_opened, after_ended, after_begin, after_end, after_drain_begin, after_drain_end}
 use Rattle.cmwq_flush.specs.Colouring.{IsServing}
@@ -92,9 +92,10 @@ abbrev pub FlushesWaitForLeastOpen : Type 0
 FlushesWaitForLeastOpen = (s : Layout) (past : List Entry) (q : QueueId) (b : FlushBook) (t n : ℕ) → AreFlushes s past q.0 b → Contains (flush_tickets b) t
     → waits_for past t (call.Flush q) ≡ Some n → slice_get b.opened 0 ≡ Some n
 
--- a drain waits for the least open queueing, and the queue is draining while one is unended
+-- a drain and a destroy wait for the least open queueing, and the queue is draining while one is unended
 abbrev pub DrainsWaitForLeastOpen : Type 0
-DrainsWaitForLeastOpen = (s : Layout) (past : List Entry) (q : QueueId) (b : FlushBook) (t : ℕ) → AreFlushes s past q.0 b → waits_for past t (call.Drain q) ≡ slice_get b.opened 0
+DrainsWaitForLeastOpen = (s : Layout) (past : List Entry) (q : QueueId) (b : FlushBook) (t : ℕ) → AreFlushes s past q.0 b
+    → (waits_for past t (call.Drain q) ≡ slice_get b.opened 0) × (waits_for past t (call.Destroy q) ≡ slice_get b.opened 0)
 
 abbrev pub DrainingWhileDrainsStand : Type 0
 DrainingWhileDrainsStand = (s : Layout) (past : List Entry) (q : ℕ) (b : FlushBook) → AreFlushes s past q b → is_draining past q ≡ nat_lt 0 (length b.drains)

@@ -1,18 +1,18 @@
 -- The timers follow the bookings that are read off a history.
 use Rattle.std.specs.Prelude.{◌≡◌, ℕ, ◌<◌, true, false, ◌==◌, if◌then◌else◌, List, [], ◌∷◌, length, map, replicate, slice_set, Option, Some, None, option_map, is_some, IsTrue}
-use Rattle.std.specs.List.{range_with_len}
+use Rattle.std.specs.List.{range_with_len, list_any}
 use Rattle.std.specs.Int.{bit_at}
 use Rattle.cmwq_model.specs.declared.id.ItemId.{ItemId}
 use Rattle.cmwq_model.specs.declared.entry.Entry.{Entry}
 use Rattle.cmwq_model.specs.declared.record.Booking.{Booking}
 use Rattle.cmwq_model.specs.Layout.{Layout, is_layout}
 use Rattle.cmwq_model.specs.Calls.{item_of, now}
-use Rattle.cmwq_model.specs.Bookings.{settles, booking, booking_of}
+use Rattle.cmwq_model.specs.Bookings.{settles, booking, booking_of, standing}
 use Rattle.cmwq_model.specs.Tickets.{is_draining}
-use Rattle.cmwq_model.specs.Answer.{first_due}
+use Rattle.cmwq_model.specs.Answer.{is_booked_on, first_due}
 use Rattle.cmwq_model.specs.Legal.{IsLegal}
 use Rattle.cmwq_timer.specs.declared.timer.Timer.{Timer}
-use Rattle.cmwq_timer.specs.Rows.{Rows, due_of, NoneMayFire, IsFirstToFire}
+use Rattle.cmwq_timer.specs.Rows.{Rows, due_of, is_booked_on as booked_in_rows, NoneMayFire, IsFirstToFire}
 
 -- the timer that is set for a booking
 abbrev pub timer_for : Booking → Timer
@@ -39,6 +39,10 @@ due_in_bookings past i = option_map (λ (b : Booking). b.due) (booking past i)
 
 abbrev pub TimersAreDueAsBooked : Type 0
 TimersAreDueAsBooked = (s : Layout) (past : List Entry) (i : ℕ) → i < s.items → due_of (timers_of s past) i ≡ due_in_bookings past i
+
+-- some item is booked on a queue exactly where a timer says so
+abbrev pub TimersStandOnQueues : Type 0
+TimersStandOnQueues = (s : Layout) (past : List Entry) (q : ℕ) → IsLegal s past → booked_in_rows (timers_of s past) q ≡ list_any (is_booked_on q) (standing past)
 
 -- an entry that books an item is told by Timers::book
 abbrev pub BookingsSetTimers : Type 0

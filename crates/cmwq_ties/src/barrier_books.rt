@@ -43,20 +43,3 @@ pub fn done_barriers_may_end()
 pub fn barriers_may_be_told()
     ensures { BarriersMayBeTold }
 {}
-
-#[cfg(test)]
-mod tests {
-    use super::*;
-
-    #[test]
-    fn each_is_there() {
-        barriers_at_first();
-        barriers_follow();
-        unended_waits_stand();
-        barriers_wait_for_least();
-        ready_barriers_wait_for_nothing();
-        items_have_run_then_unstarted();
-        done_barriers_may_end();
-        barriers_may_be_told();
-    }
-}

@@ -54,22 +54,3 @@ pub fn done_flushes_may_end()
 pub fn flushes_may_be_told()
     ensures { FlushesMayBeTold }
 {}
-
-#[cfg(test)]
-mod tests {
-    use super::*;
-
-    #[test]
-    fn each_is_there() {
-        flushes_at_first();
-        flushes_follow();
-        unended_flushes_stand();
-        ready_flushes_wait_for_nothing();
-        flushes_wait_for_least_open();
-        drains_wait_for_least_open();
-        draining_while_drains_stand();
-        overflowed_are_behind_fifteen();
-        done_flushes_may_end();
-        flushes_may_be_told();
-    }
-}

@@ -27,5 +27,5 @@ pub use pools::{
 pub use timers::{
     bookings_set_timers, first_timer_is_first_due, no_timer_is_none_due, no_timers_at_first,
     others_keep_timers, rows_for_items, settled_timers_are_taken_back, timers_are_due_as_booked,
-    timers_follow, timers_may_be_set, timers_may_be_told,
+    timers_follow, timers_may_be_set, timers_may_be_told, timers_stand_on_queues,
 };

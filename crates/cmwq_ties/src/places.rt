@@ -16,15 +16,3 @@ pub fn open_are_there()
 pub fn unended_tickets_fit()
     ensures { TicketsFit }
 {}
-
-#[cfg(test)]
-mod tests {
-    use super::*;
-
-    #[test]
-    fn each_is_there() {
-        opened_are_there();
-        open_are_there();
-        unended_tickets_fit();
-    }
-}

@@ -54,22 +54,3 @@ pub fn workers_may_be_told()
 pub fn active_may_be_added()
     ensures { ActiveMayBeAdded }
 {}
-
-#[cfg(test)]
-mod tests {
-    use super::*;
-
-    #[test]
-    fn each_is_there() {
-        pools_at_first();
-        pools_follow();
-        nexts_are_next();
-        runnables_are_runnable();
-        starts_enlist_alike();
-        idle_retire_alike();
-        seats_for_workers();
-        seats_are_workers();
-        workers_may_be_told();
-        active_may_be_added();
-    }
-}

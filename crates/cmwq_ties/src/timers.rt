@@ -1,6 +1,6 @@
 //! Where the timers are the bookings of a history, the calls for each entry make them those of the longer history.
 
-ghost use Rattle.cmwq_ties.specs.Timers.{NoTimersAtFirst, TimersAreDueAsBooked, BookingsSetTimers, SettledTimersAreTakenBack, OthersKeepTimers, TimersMayBeTold, FirstTimerIsFirstDue, NoTimerIsNoneDue, RowsForItems, TimersFollow, TimersMayBeSet};
+ghost use Rattle.cmwq_ties.specs.Timers.{NoTimersAtFirst, TimersAreDueAsBooked, TimersStandOnQueues, BookingsSetTimers, SettledTimersAreTakenBack, OthersKeepTimers, TimersMayBeTold, FirstTimerIsFirstDue, NoTimerIsNoneDue, RowsForItems, TimersFollow, TimersMayBeSet};
 
 /// At first no item is booked.
 pub fn no_timers_at_first()
@@ -15,6 +15,11 @@ pub fn rows_for_items()
 /// The tick at which a timer is due is that of its item's booking.
 pub fn timers_are_due_as_booked()
     ensures { TimersAreDueAsBooked }
+{}
+
+/// Some item is booked on a queue exactly where a timer says so.
+pub fn timers_stand_on_queues()
+    ensures { TimersStandOnQueues }
 {}
 
 /// An entry that books an item sets its timer.
@@ -56,23 +61,3 @@ pub fn first_timer_is_first_due()
 pub fn no_timer_is_none_due()
     ensures { NoTimerIsNoneDue }
 {}
-
-#[cfg(test)]
-mod tests {
-    use super::*;
-
-    #[test]
-    fn each_is_there() {
-        no_timers_at_first();
-        rows_for_items();
-        timers_are_due_as_booked();
-        bookings_set_timers();
-        settled_timers_are_taken_back();
-        others_keep_timers();
-        timers_follow();
-        timers_may_be_told();
-        timers_may_be_set();
-        first_timer_is_first_due();
-        no_timer_is_none_due();
-    }
-}

@@ -1,7 +1,8 @@
 use Rattle.std.proofs.Common.{◌≡◌, ◌+◌, ◌∷◌, ap, sym, ◌∙◌, arith, true, false}
 use Rattle.cmwq_model.specs.Layout.{layout_of}
 use Rattle.cmwq_model.specs.Legal.{past_of, entry_for}
-use Rattle.cmwq_laws.specs.RoomSteps.{one, is_slept, is_woke}
+use Rattle.cmwq_steps.specs.Histories.{one}
+use Rattle.cmwq_steps.specs.RoomSteps.{is_slept, is_woke}
 use Rattle.cmwq_core.proofs.Steps.{owes_as, not_slept, not_woke}
 use Rattle.cmwq_core.proofs.book.Book.owed_after.Goals as goal
 
