@@ -1,5 +1,6 @@
 pub mod Activated
 pub mod Active
+pub mod ActiveCounts
 pub mod Causes
 pub mod Done
 pub mod Ended
@@ -39,5 +40,7 @@ pub mod StartsListed
 pub mod StateSteps
 pub mod TakeCases
 pub mod TicketSteps
+pub mod Waiting
+pub mod Way
 pub mod Worklist
 pub mod WorklistSteps

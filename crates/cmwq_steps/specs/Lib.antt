@@ -12,3 +12,4 @@ pub mod RoomSteps
 pub mod RunSteps
 pub mod StateSteps
 pub mod TicketSteps
+pub mod Waiting
