@@ -3,7 +3,6 @@ pub mod Follow
 pub mod Owing
 pub mod Steps
 pub mod First
-pub mod Waiting
+pub mod Listing
 pub mod Told
 pub mod Appended
-pub mod Way

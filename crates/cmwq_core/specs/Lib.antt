@@ -1,4 +1,3 @@
 pub mod Tables
 pub mod Book
-pub mod Waiting
 pub mod Effects

@@ -1,5 +1,5 @@
 -- The tables of a book: where each pool, each flush book and each serial stands, and what they are told.
-use Rattle.std.specs.Prelude.{◌≡◌, ℕ, ◌+◌, ◌*◌, ◌<◌, true, if◌then◌else◌, List, [], ◌∷◌, length, filter, Option, Some, None, slice_index_or, Contains, IsTrue}
+use Rattle.std.specs.Prelude.{◌≡◌, ℕ, ◌+◌, ◌*◌, ◌<◌, true, if◌then◌else◌, List, [], ◌∷◌, length, filter, Option, Some, None, slice_index_or, Contains, IsTrue, All}
 use Rattle.cmwq_model.specs.declared.id.PoolId.{PoolId}
 use Rattle.cmwq_model.specs.declared.id.WorkerId.{WorkerId}
 use Rattle.cmwq_model.specs.declared.id.Who.{Who}
@@ -14,9 +14,9 @@ use Rattle.cmwq_model.specs.declared.call.Call.TheVariants as call
 use Rattle.cmwq_model.specs.Layout.{Layout, pool_at}
 use Rattle.cmwq_model.specs.Calls.{serial_of, same_pool}
 use Rattle.cmwq_pool.specs.Lineup.{Lineup, removed, added, may_add}
-use Rattle.cmwq_flush.specs.FlushBook.{FlushBook, new_book, flush_tickets, IsReady, CanOpen}
+use Rattle.cmwq_flush.specs.FlushBook.{FlushBook, new_book, flush_tickets, IsReady, CanOpen, CanBegin, CanDrain}
 use Rattle.cmwq_ties.specs.Pools.{pool_of, task_for, MayBeTold, told_worker, told_cancelled, told_active}
-use Rattle.cmwq_ties.specs.FlushBooks.{AreFlushes, told_ended, told_opened, told_done}
+use Rattle.cmwq_ties.specs.FlushBooks.{AreFlushes, told_ended, told_opened, told_done, told_begun}
 use Rattle.cmwq_steps.specs.Activations.{is_in}
 
 -- the who is inside the layout
@@ -112,12 +112,41 @@ pub record TellDone (done : Option Ticket) (old new : List FlushBook) : Type 0 w
   pub many : length new ≡ length old
   pub each : (q : ℕ) → book_in new q ≡ told_done done q (book_in old q)
 
--- what the pools are told of a queueing that became active
-pub record MayListActive (s : Layout) (x : Queueing) (pools : List Lineup) : Type 0 where
-  pub queue : x.place.queue.0 < length s.queues
-  pub place : pool_place (pool_at s x.place) < length pools
-  pub may : IsTrue (may_add (pool_in pools (pool_at s x.place)) x.number x.item.0)
+abbrev pub MayBeginWait : Call → ℕ → List FlushBook → Type 0
+MayBeginWait (call.Flush q) t books = (q.0 < length books) × CanBegin (book_in books q.0) t
+MayBeginWait (call.Drain q) t books = (q.0 < length books) × CanDrain (book_in books q.0) t
+MayBeginWait (call.Destroy q) t books = (q.0 < length books) × CanDrain (book_in books q.0) t
+MayBeginWait c t books = Unit {0}
 
-pub record ListActive (s : Layout) (x : Queueing) (old new : List Lineup) : Type 0 where
+abbrev pub MayTellBegun : Option Ticket → List FlushBook → Type 0
+MayTellBegun None books = Unit {0}
+MayTellBegun (Some t) books = MayBeginWait t.call t.number books
+
+pub record TellBegun (begun : Option Ticket) (old new : List FlushBook) : Type 0 where
   pub many : length new ≡ length old
-  pub each : (p : PoolId) → pool_in new p ≡ (if is_in s p x then added (pool_in old p) (task_for s x) else pool_in old p)
+  pub each : (q : ℕ) → book_in new q ≡ told_begun begun q (book_in old q)
+
+-- what the pools are told of what became active, where of a layout the queues alone are known
+abbrev pub only : List QueueShape → Layout
+only queues = record { cpus = 0; workers = 0; callers = 0; items = 0; room = 0; queues = queues }
+
+abbrev pub those_in : List QueueShape → PoolId → List Queueing → List Queueing
+those_in queues p xs = filter (is_in (only queues) p) xs
+
+abbrev pub IsListable : List QueueShape → List Lineup → Queueing → Type 0
+IsListable queues pools x = (x.place.queue.0 < length queues) × (2 * x.place.cpu.0 + 1 < length pools)
+
+pub record MayListOne (queues : List QueueShape) (x : Queueing) (pools : List Lineup) : Type 0 where
+  pub there : IsListable queues pools x
+  pub may : IsTrue (may_add (pool_in pools (pool_at (only queues) x.place)) x.number x.item.0)
+
+pub record ListOne (queues : List QueueShape) (x : Queueing) (old new : List Lineup) : Type 0 where
+  pub many : length new ≡ length old
+  pub each : (p : PoolId) → pool_in new p ≡ (if is_in (only queues) p x then added (pool_in old p) (task_for (only queues) x) else pool_in old p)
+
+abbrev pub MayBeListed : List QueueShape → List Queueing → List Lineup → Type 0
+MayBeListed queues xs pools = All (IsListable queues pools) xs
+
+pub record ListAll (queues : List QueueShape) (xs : List Queueing) (old new : List Lineup) : Type 0 where
+  pub many : length new ≡ length old
+  pub each : (p : PoolId) → pool_in new p ≡ told_active (only queues) (those_in queues p xs) (pool_in old p)

@@ -1,7 +1,8 @@
 //! Where each pool, flush book and serial of a book stands, and what they are told of an entry.
 
 ghost use Rattle.std.specs.Prelude.{◌≡◌, ◌<◌, length};
-ghost use Rattle.cmwq_ties.specs.Pools.{MayBeTold, told_reply};
+ghost use Rattle.cmwq_model.specs.declared.id.PoolId.{PoolId};
+ghost use Rattle.cmwq_ties.specs.Pools.{MayAllBeAdded, MayBeTold, told_reply};
 ghost use Rattle.cmwq_model.specs.Layout.{Layout, pool_at};
 ghost use Rattle.cmwq_model.specs.Fate.{finishes};
 ghost use Rattle.cmwq_ties.specs.BarrierBooks as barriers;
@@ -11,7 +12,7 @@ ghost use Rattle.cmwq_core.specs.Effects as effects;
 ghost use Rattle.cmwq_core.specs.Tables as tables;
 
 use cmwq_flush::{Barriers, Flushes};
-use cmwq_model::{Booking, Call, ItemId, Number, Place, PoolId, QueueShape, Queueing, Reply, Shape, Ticket, Who};
+use cmwq_model::{Booking, Call, ItemId, Number, Place, PoolId, QueueShape, Queueing, Reply, Ticket, Who};
 use cmwq_pool::Pool;
 use cmwq_timer::Timers;
 
@@ -164,15 +165,66 @@ pub(crate) fn tell_done(books: &mut Vec<Flushes>, done: Option<Ticket>)
     }
 }
 
-/// Lists a queueing that became active in its pool.
-pub(crate) fn list_active(shape: &Shape, pools: &mut Vec<Pool>, queueing: Queueing)
-    requires { tables.MayListActive shape.now queueing pools.old.items }
-    ensures { tables.ListActive shape.now queueing pools.old.items pools.new.items }
+/// Tells the flush books of a wait that began.
+pub(crate) fn tell_begun(books: &mut Vec<Flushes>, begun: Option<Ticket>)
+    requires { tables.MayTellBegun begun books.old.items }
+    ensures { tables.TellBegun begun books.old.items books.new.items }
 {
-    let queue = shape.queues()[usize::from(queueing.place.queue.0)];
+    if let Some(ticket) = begun {
+        match ticket.call {
+            Call::Flush { queue } => books[usize::from(queue.0)].begin(ticket.number),
+            Call::Drain { queue } | Call::Destroy { queue } => books[usize::from(queue.0)].drain_begin(ticket.number),
+            _ => {}
+        }
+    }
+}
+
+/// Tells the barriers of a wait for an item that ended.
+pub(crate) fn tell_barrier_done(book: &mut Barriers, done: Option<Ticket>)
+    requires { barriers.MayBeDone done book.old }
+    ensures { book.new ≡ barriers.told_done done book.old }
+{
+    if let Some(ticket) = done {
+        match ticket.call {
+            Call::FlushItem { .. } | Call::FlushDelayed { .. } => book.end(ticket.number),
+            _ => {}
+        }
+    }
+}
+
+/// Tells the barriers of a wait for an item that began.
+pub(crate) fn tell_barrier_begun(book: &mut Barriers, begun: Option<Ticket>)
+    requires { barriers.MayBegin begun book.old }
+    ensures { book.new ≡ barriers.told_begun begun book.old }
+{
+    if let Some(ticket) = begun {
+        match ticket.call {
+            Call::FlushItem { item } | Call::FlushDelayed { item } => book.begin(item, ticket.number),
+            _ => {}
+        }
+    }
+}
+
+/// Lists a queueing that became active in its pool.
+fn list_one(queues: &[QueueShape], pools: &mut Vec<Pool>, queueing: Queueing)
+    requires { tables.MayListOne queues.now queueing pools.old.items }
+    ensures { tables.ListOne queues.now queueing pools.old.items pools.new.items }
+{
+    let queue = queues[usize::from(queueing.place.queue.0)];
     let pool = PoolId {
         cpu: queueing.place.cpu,
         high: queue.high,
     };
     pools[pool_place(pool)].add(queueing.number, queueing.item, queue.intensive);
+}
+
+/// Lists what became active in its pools.
+pub(crate) fn list_active(queues: &[QueueShape], pools: &mut Vec<Pool>, promoted: &[Queueing])
+    requires there { tables.MayBeListed queues.now promoted.now pools.old.items }
+    requires may { (p : PoolId) → MayAllBeAdded (tables.only queues.now) (tables.those_in queues.now p promoted.now) (tables.pool_in pools.old.items p) }
+    ensures { tables.ListAll queues.now promoted.now pools.old.items pools.new.items }
+{
+    for queueing in promoted {
+        list_one(queues, pools, *queueing);
+    }
 }

@@ -7,9 +7,9 @@ use Rattle.cmwq_model.specs.Layout.{no_queue}
 use Rattle.cmwq_model.specs.Queueings.{has_number}
 use Rattle.cmwq_steps.specs.Places.{is_on}
 
--- what waits, and what the last pass made active, both in their order; there is room for one of each item
+-- what waits, and what the last pass made active, both in their order; room is how many may wait
 pub record Lined : Type 0 where
-  pub items : ℕ
+  pub room : ℕ
   pub counts : List ℕ
   pub waiting : List Queueing
   pub promoted : List Queueing
@@ -25,7 +25,7 @@ abbrev pub count_beside : List ℕ → Queueing → ℕ
 count_beside counts x = count_at counts x.place.queue.0 x.place.cpu.0
 
 abbrev pub new_lined : ℕ → ℕ → Lined
-new_lined queues items = record { items = items; counts = replicate (4 * queues) 0; waiting = []; promoted = [] }
+new_lined queues room = record { room = room; counts = replicate (4 * queues) 0; waiting = []; promoted = [] }
 
 -- a queueing that is opened waits
 abbrev pub opened : Lined → Queueing → Lined
@@ -67,10 +67,10 @@ IsPlaced queues x = (x.place.queue.0 < queues) × (x.place.cpu.0 < 4)
 abbrev pub ArePlaced : ℕ → List Queueing → Type 0
 ArePlaced queues xs = All (IsPlaced queues) xs
 
--- there is room for one queueing of each item in each list, and no more wait than there are items
-pub record IsLine (items waiting_room spare_room promoted_room : ℕ) (waiting spare : List Queueing) : Type 0 where
-  pub waits : items ≤ waiting_room
-  pub spares : items ≤ spare_room
-  pub promotes : items ≤ promoted_room
-  pub few : length waiting ≤ items
+-- there is room in each list, and no more wait than may
+pub record IsLine (room waiting_room spare_room promoted_room : ℕ) (waiting spare : List Queueing) : Type 0 where
+  pub waits : room ≤ waiting_room
+  pub spares : room ≤ spare_room
+  pub promotes : room ≤ promoted_room
+  pub few : length waiting ≤ room
   pub none_spare : spare ≡ []

@@ -13,7 +13,7 @@ use std::mem::swap;
 /// `inactive_works` and `nr_active`). Only `new` takes memory.
 #[derive(Debug, Drop)]
 pub struct Line {
-    items: u16,
+    room: u16,
     counts: Vec<u32>,
     waiting: Vec<Queueing>,
     spare: Vec<Queueing>,
@@ -26,25 +26,25 @@ impl Model for Line {
 
     ghost Value = { Lined };
 
-    ghost view = { λ l. record { items = l.items; counts = l.counts.items; waiting = l.waiting.items; promoted = l.promoted.items } };
+    ghost view = { λ l. record { room = l.room; counts = l.counts.items; waiting = l.waiting.items; promoted = l.promoted.items } };
 
-    ghost invariant = { λ l. IsLine l.items (vec_capacity l.waiting) (vec_capacity l.spare) (vec_capacity l.promoted) l.waiting.items l.spare.items };
+    ghost invariant = { λ l. IsLine l.room (vec_capacity l.waiting) (vec_capacity l.spare) (vec_capacity l.promoted) l.waiting.items l.spare.items };
 }
 
 impl Line {
-    /// Nothing waits and nothing is active of so many queues, and there is room for one queueing of each item. The
-    /// error says that memory ran out.
-    pub fn new(alloc: Global, queues: usize, items: u16) -> Result<Line, NoMemory>
+    /// Nothing waits and nothing is active of so many queues, and there is room for so many that wait. The error says
+    /// that memory ran out.
+    pub fn new(alloc: Global, queues: usize, room: u16) -> Result<Line, NoMemory>
         requires { queues < 256 }
-        ensures { IfOk result (λ line. line ≡ new_lined queues items) }
+        ensures { IfOk result (λ line. line ≡ new_lined queues room) }
     {
-        let room = usize::from(items);
+        let many = usize::from(room);
         let counts = vec![in alloc; 0; 4 * queues]?;
-        let waiting = Vec::with_capacity(alloc, room)?;
-        let spare = Vec::with_capacity(alloc, room)?;
-        let promoted = Vec::with_capacity(alloc, room)?;
+        let waiting = Vec::with_capacity(alloc, many)?;
+        let spare = Vec::with_capacity(alloc, many)?;
+        let promoted = Vec::with_capacity(alloc, many)?;
         Ok(Line {
-            items,
+            room,
             counts,
             waiting,
             spare,
@@ -54,7 +54,7 @@ impl Line {
 
     /// A queueing is opened, and waits behind the others.
     pub fn open(&mut self, queueing: Queueing)
-        requires { length self.old.waiting < self.old.items }
+        requires { length self.old.waiting < self.old.room }
         ensures { self.new ≡ opened self.old queueing }
     {
         self.waiting.push_reserved(queueing);
@@ -81,7 +81,7 @@ impl Line {
         ensures passes { (way : Queueing → Bool) → HaveWay way (width_by queues.now most.now frozen) self.old.counts self.old.waiting
             → Passes way self.old.waiting self.old.counts self.new.counts self.new.waiting self.new.promoted }
         ensures many { length self.new.counts ≡ length self.old.counts }
-        ensures items { self.new.items ≡ self.old.items }
+        ensures room { self.new.room ≡ self.old.room }
     {
         self.promoted.clear();
         pass(queues, most, frozen, &self.waiting, &mut self.counts, &mut self.spare, &mut self.promoted);
