@@ -4,5 +4,6 @@ pub mod Owing
 pub mod Steps
 pub mod First
 pub mod Listing
+pub mod LineSteps
 pub mod Told
 pub mod Appended

@@ -1,3 +1,4 @@
 pub mod Tables
+pub mod Lines
 pub mod Book
 pub mod Effects
