@@ -1,1 +1,3 @@
 pub mod Line
+pub mod Flights
+pub mod Held
