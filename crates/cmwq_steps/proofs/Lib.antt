@@ -5,6 +5,7 @@ pub mod Causes
 pub mod Done
 pub mod Ended
 pub mod Endings
+pub mod EndsAsTold
 pub mod Entries
 pub mod Filters
 pub mod Fresh
@@ -40,6 +41,7 @@ pub mod StartsListed
 pub mod StateSteps
 pub mod TakeCases
 pub mod TicketSteps
+pub mod Unstarted
 pub mod Waiting
 pub mod Way
 pub mod Worklist

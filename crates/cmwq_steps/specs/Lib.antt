@@ -1,6 +1,7 @@
 pub mod Activations
 pub mod Endings
 pub mod Histories
+pub mod ItemQueueings
 pub mod Limits
 pub mod Marks
 pub mod Order
