@@ -26,11 +26,13 @@ pub mod OwedItems
 pub mod OwedSteps
 pub mod OwedWaiting
 pub mod Pending
+pub mod PendingSteps
 pub mod Points
 pub mod Pools
 pub mod Promised
 pub mod Promoted
 pub mod QueueCases
+pub mod Queued
 pub mod Ranks
 pub mod Reasons
 pub mod RunSteps

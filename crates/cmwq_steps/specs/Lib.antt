@@ -8,6 +8,7 @@ pub mod Order
 pub mod Pending
 pub mod Places
 pub mod Pools
+pub mod Queued
 pub mod Reasons
 pub mod RoomSteps
 pub mod RunSteps
