@@ -25,6 +25,7 @@ pub mod OwedFrozen
 pub mod OwedItems
 pub mod OwedSteps
 pub mod OwedWaiting
+pub mod Owing
 pub mod Pending
 pub mod PendingSteps
 pub mod Points
@@ -35,6 +36,7 @@ pub mod QueueCases
 pub mod Queued
 pub mod Ranks
 pub mod Reasons
+pub mod Refusals
 pub mod RunSteps
 pub mod RunsActive
 pub mod Standing

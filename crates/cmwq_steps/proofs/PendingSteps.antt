@@ -10,12 +10,12 @@ use Rattle.cmwq_model.specs.declared.record.Queueing.{Queueing}
 use Rattle.cmwq_model.specs.declared.record.Start.{Start}
 use Rattle.cmwq_model.specs.Layout.{Layout}
 use Rattle.cmwq_model.specs.Calls.{is_at, item_called, item_fired, item_of, item_at, is_of_item}
-use Rattle.cmwq_model.specs.Bookings.{settles, due_in, booking, booking_of, is_booked}
+use Rattle.cmwq_model.specs.Bookings.{settles, due_in, booking, booking_of, booked_by, is_booked}
 use Rattle.cmwq_model.specs.Fate.{number_started, number_finished, number_cancelled, starts, finishes, takes_back, replaces, is_started}
 use Rattle.cmwq_model.specs.Runs.{start_in, starts_item, item_run, item_runs}
-use Rattle.cmwq_model.specs.Queueings.{opens, opening, unstarted, is_pending, queued_at}
+use Rattle.cmwq_model.specs.Queueings.{opens, opening, unstarted, is_pending, queued_at, place_wanted}
 use Rattle.cmwq_model.specs.Legal.{IsLegal, bits}
-use Rattle.cmwq_steps.specs.Reasons.{unbooks}
+use Rattle.cmwq_steps.specs.Reasons.{TakesBack, unbooks}
 use Rattle.cmwq_steps.specs.RunSteps.{ends_run}
 use Rattle.cmwq_steps.specs.Endings.{is_spared}
 use Rattle.cmwq_steps.specs.Activations.{is_left}
@@ -82,7 +82,7 @@ some_or None b h = h
 some_or (Some x) b h = refl
 
 none_opened : (past : List Entry) (e : Entry) → opens e.reply ≡ false → opening past e ≡ None
-none_opened past e h = ap (λ b. if b then option_and_then (λ i. option_map (queued_at past i) (Rattle.cmwq_model.specs.Queueings.place_wanted past e.call i)) (item_of e) else None) h
+none_opened past e h = ap (λ b. if b then option_and_then (λ i. option_map (queued_at past i) (place_wanted past e.call i)) (item_of e) else None) h
 
 settled_pending : (s : Layout) (past : List Entry) (e : Entry) (i : ℕ) → IsLegal s (e ∷ past) → settles e.reply ≡ true → is_of_item i e ≡ true → is_pending (e ∷ past) i ≡ makes_pending e.reply
 settled_pending s past e i legal settled own = ap₂ (λ a b. a || b) booked (ap is_some (unstarted_goes_on s past e i legal)) ∙ at (opens e.reply) (due_in e.reply) refl refl
@@ -98,7 +98,7 @@ settled_pending s past e i legal settled own = ap₂ (λ a b. a || b) booked (ap
         let u = unbook_reason s past e.who e.call e.reply (cause_of s past e legal) (unbooked_else e.reply settled ho hd) in
         let mine : u.0 ≡ i = own_item i u.0 e (ap (λ o. option_or o (item_fired e.reply)) u.1) own in
         let none : unstarted past i ≡ None = subst (λ j. unstarted past j ≡ None) mine u.3 in
-        ap₂ (λ a b. is_some a || b) (ap (option_and_then (Rattle.cmwq_model.specs.Bookings.booked_by e.call (length past))) hd)
+        ap₂ (λ a b. is_some a || b) (ap (option_and_then (booked_by e.call (length past))) hd)
         (ap₂ (λ a b. is_some (option_or (still_unstarted past e a) (of_item i b))) none (none_opened past e ho))
 
 -- ---- where it doesn't
@@ -141,7 +141,7 @@ taken_back_is s past e i x legal u = at (number_cancelled e.reply) refl
     at None h = refl
     at (Some n) h = told_apart n x.number (is_of_item i e) same back
       where
-        t : Rattle.cmwq_steps.specs.Reasons.TakesBack past e.call n
+        t : TakesBack past e.call n
         t = takes_back_unstarted s past e n legal h
 
         item : item_of e ≡ Some t.item

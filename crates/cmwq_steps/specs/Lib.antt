@@ -10,6 +10,7 @@ pub mod Places
 pub mod Pools
 pub mod Queued
 pub mod Reasons
+pub mod Refusals
 pub mod RoomSteps
 pub mod RunSteps
 pub mod StateSteps
