@@ -11,6 +11,7 @@ pub mod Filters
 pub mod Fresh
 pub mod Fronts
 pub mod Given
+pub mod Growing
 pub mod Inversions
 pub mod ItemRuns
 pub mod ItemSteps

@@ -2,6 +2,7 @@
 #![tactic(auto)]
 
 mod activation_steps;
+mod histories;
 mod item_pools;
 mod item_queueings;
 mod queued_steps;
@@ -15,6 +16,7 @@ mod ticket_steps;
 mod waiting_steps;
 
 pub use activation_steps::{active_go_on, active_stay, newly_active_are, newly_active_on, opened_have_way, started_are_active, widened_make_active, worklists_go_on};
+pub use histories::{fronts_are_legal, longer_begin_with_older, older_are_legal, one_more_is_newest};
 pub use item_pools::{items_are_booked_where_they_run, items_are_queued_where_they_run, runs_are_in_their_pools};
 pub use item_queueings::{entries_end_as_told, next_are_unstarted, runs_are_queueings, unstarted_goes_on};
 pub use queued_steps::{bits_go_on, item_runs_go_on, pending_goes_on, queueings_go_on, run_queues_go_on};
