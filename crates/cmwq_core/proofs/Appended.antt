@@ -18,7 +18,7 @@ use Rattle.cmwq_core.specs.Effects.{IsEffect, settled_by, item_number}
 use Rattle.cmwq_core.specs.declared.effect.Effect.{Effect}
 use Rattle.cmwq_core.proofs.Quiet.{SaysNothing, IsQuiet, quiet}
 use Rattle.cmwq_core.proofs.Steps.{past_more, small, fits_there, serial_most}
-use Rattle.cmwq_core.proofs.Told.{told_parts}
+use Rattle.cmwq_core.proofs.Told.{Told, told_parts}
 
 pub effect_fits : (s : Layout) (past : List Entry) (f : Effect) → IsEffect s past f → fits s f.entry.who f.entry.call ≡ true
 unfolding IsLegal
@@ -31,24 +31,20 @@ pub effect_serial : (s : Layout) (past : List Entry) (f : Effect) → IsEffect s
 unfolding IsLegal
 effect_serial s past f is = ap (λ (x : Entry). x.serial) is.legal.1
 
-pub told_book : (s : Layout) (room : ℕ) (entries : List Entry) (capacity : ℕ) (old new : Parts) (f : Effect) (pools_mid : List Lineup) (books_mid : List FlushBook) → IsBook s room entries capacity old → IsEffect s (past_of entries) f →
-    TellWorker f.entry.who f.entry.reply old.pools pools_mid → TellCancelled s f.entry f.ended pools_mid new.pools → TellEnded f.ended old.books books_mid → TellOpened f.opened books_mid new.books →
-    new.barriers ≡ barriers.told_opened f.opened (barriers.told_ended f.ended old.barriers) → new.timers ≡ timers.told_settled (item_number f.settled) f.booked old.timers →
-    new.time ≡ old.time + ticks_told f.entry.call → ticks_told f.entry.call < 2 ^ 32 → new.serials ≡ slice_set old.serials (who_place f.entry.who) (f.entry.serial + 1) → new.owing ≡ f.owing → length entries + 1 + f.owing ≤ room →
-    IsBook s room (entries ++ f.entry ∷ []) capacity new
-told_book s room entries capacity old new f pools_mid books_mid b is worker cancelled ended opened barrier timer time ticks serials owing within =
+pub told_book : (s : Layout) (room : ℕ) (entries : List Entry) (capacity : ℕ) (old new : Parts) (f : Effect) → IsBook s room entries capacity old → IsEffect s (past_of entries) f → Told s (past_of entries) f old new →
+    ticks_told f.entry.call < 2 ^ 32 → length entries + 1 + f.owing ≤ room → IsBook s room (entries ++ f.entry ∷ []) capacity new
+told_book s room entries capacity old new f b is told ticks within =
     let past = past_of entries in
-    let soon = b.soon in
+    let soon = b.soon in let time = told.time in
     let one_more : length (entries ++ f.entry ∷ []) ≡ length entries + 1 = length-append entries (f.entry ∷ []) in
     record {
       inside = b.inside;
       few = b.few;
       reserved = b.reserved;
       legal = rw (past_more entries f.entry) is.legal;
-      parts_are = rw (past_more entries f.entry) (told_parts s past f old new pools_mid books_mid is (small s b.inside) (effect_there s past f is) b.parts_are worker cancelled ended opened barrier timer time
-        (serials ∙ ap (λ n. slice_set old.serials (who_place f.entry.who) (n + 1)) (effect_serial s past f is)) owing);
-      within = rw (one_more, owing) within;
-      soon = rw (one_more, time) (omega arith);
+      parts_are = rw (past_more entries f.entry) (told_parts s past f old new is (small s b.inside) (effect_there s past f is) b.legal b.parts_are told);
+      within = rw (one_more, told.owing) within;
+      soon = rw (one_more, told.time) (omega arith);
     }
 
 pub quiet_effect : (s : Layout) (past : List Entry) (f : Effect) → IsLegal s (f.entry ∷ past) → SaysNothing f.entry.reply → f.ended ≡ None → f.opened ≡ None → f.done ≡ None → f.begun ≡ None → f.settled ≡ None → f.booked ≡ None → f.owing ≡ owed s (f.entry ∷ past) → IsEffect s past f
@@ -63,7 +59,4 @@ quiet_effect s past f legal says ended opened done begun settled booked owing =
       settled = ap item_number settled ∙ sym (ap (λ b. if b then item_of f.entry else None) says.settles);
       booked = booked ∙ sym (ap (option_and_then (booked_by f.entry.call (length past))) says.due);
       owing = owing;
-      newly = q.newly;
-      no_done = q.done;
-      no_begun = q.begun;
     }

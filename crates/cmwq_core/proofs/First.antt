@@ -13,13 +13,20 @@ use Rattle.cmwq_model.specs.Room.{owed}
 use Rattle.cmwq_laws.proofs.WithinRoom.{steps_within_room}
 use Rattle.cmwq_pool.specs.Lineup.{Lineup, new_lineup}
 use Rattle.cmwq_flush.specs.FlushBook.{FlushBook, new_book}
-use Rattle.cmwq_flush.specs.BarrierBook.{new_barriers}
+use Rattle.cmwq_flush.specs.BarrierBook.{BarrierBook, new_barriers}
 use Rattle.cmwq_ties.specs.FlushBooks.{AreFlushes}
 use Rattle.cmwq_ties.proofs.PoolSteps.{pools_at_first}
 use Rattle.cmwq_ties.proofs.FlushSteps.{flushes_at_first}
 use Rattle.cmwq_ties.proofs.BarrierSteps.{barriers_at_first}
 use Rattle.cmwq_ties.proofs.TimerSteps.{no_timers_at_first}
 use Rattle.cmwq_core.specs.Tables.{IsThere, pool_place, no_pool, no_book, who_place, ArePools, AreBooks, AreSerials}
+use Rattle.cmwq_model.specs.Queueings.{queueings}
+use Rattle.cmwq_steps.specs.Places.{active_count}
+use Rattle.cmwq_timer.specs.Rows.{Rows}
+use Rattle.cmwq_parts.specs.Line.{Lined, new_lined, place_of}
+use Rattle.cmwq_parts.proofs.Passes.{place_inside}
+use Rattle.cmwq_core.specs.Lines.{IsLineOf}
+use Rattle.cmwq_core.proofs.WidthSteps.{first_most, widths_at_first}
 use Rattle.cmwq_core.specs.Book.{Parts, AreParts, IsBook}
 use Rattle.cmwq_core.proofs.Follow.{IsSmall, pool_place_inside, who_below}
 use Rattle.cmwq_core.proofs.Steps.{small}
@@ -32,6 +39,9 @@ first_parts s = record {
   timers = replicate s.items None;
   time = 0;
   serials = replicate 128 0;
+  line = new_lined (length s.queues) (2 * s.items);
+  most = first_most s.queues;
+  frozen = false;
   owing = 0;
 }
 
@@ -42,6 +52,15 @@ nothing_owed s = let within = steps_within_room s 0 [] in omega arith
 first_time : 0 ≡ now []
 unfolding now
 first_time = refl
+
+line_at_first : (s : Layout) → IsLineOf s [] (new_lined (length s.queues) (2 * s.items))
+unfolding active_count queueings
+line_at_first s = record {
+  room = refl;
+  many = length-replicate (4 * length s.queues) (let n : ℕ = 0 in n);
+  waiting = refl;
+  counts = λ q c here less. get_or-replicate (4 * length s.queues) (place_of q c) 0 0 (place_inside q c (length s.queues) (4 * length s.queues) here less refl);
+}
 
 pub parts_at_first : (s : Layout) → IsSmall s → AreParts s [] (first_parts s)
 parts_at_first s small = record {
@@ -60,6 +79,8 @@ parts_at_first s small = record {
     many = length-replicate 128 (let n : ℕ = 0 in n);
     each = λ who there. get_or-replicate 128 (who_place who) 0 0 (who_below s who there small.cpus small.workers small.callers);
   };
+  line = line_at_first s;
+  widths = widths_at_first s;
   owing = sym (nothing_owed s);
 }
 
@@ -70,3 +91,10 @@ book_at_first s room capacity inside few reserved = record {
   parts_are = parts_at_first s (small s inside);
   within = omega arith; soon = omega arith;
 }
+
+-- so the parts that are made are those of a book
+pub book_made : (s : Layout) (room capacity : ℕ) (pools : List Lineup) (books : List FlushBook) (barriers : BarrierBook) (timers : Rows) (serials : List ℕ) (line : Lined) (most : List ℕ) → is_layout s ≡ true → room ≤ 1010000 → room ≤ capacity →
+    pools ≡ replicate (2 * s.cpus) (new_lineup s.items s.workers) → books ≡ replicate (length s.queues) (new_book s.callers) → barriers ≡ new_barriers s.items s.callers → timers ≡ replicate s.items None → serials ≡ replicate 128 0 →
+    line ≡ new_lined (length s.queues) (2 * s.items) → most ≡ first_most s.queues →
+    IsBook s room [] capacity (record { pools = pools; books = books; barriers = barriers; timers = timers; time = 0; serials = serials; line = line; most = most; frozen = false; owing = 0 })
+book_made s room capacity pools books barriers timers serials line most inside few reserved p b r t n l m = rw (p, b, r, t, n, l, m) (book_at_first s room capacity inside few reserved)

@@ -30,31 +30,6 @@ use Rattle.cmwq_core.specs.Tables.{IsThere, who_place, pool_place, no_pool, pool
 use Rattle.cmwq_core.specs.Book.{Parts, AreParts}
 use Rattle.cmwq_core.proofs.Quiet.{SaysNothing, IsQuiet, quiet}
 
--- ---- pools
-
-pub quiet_pool : (s : Layout) (past : List Entry) (e : Entry) (p : PoolId) (l : Lineup) → IsQuiet s past e → pools.told s past p e l ≡ pools.told_worker p e.who e.reply l
-quiet_pool s past e p l q = rw (q.newly, q.ending) refl
-
-pub quiet_pools : (s : Layout) (past : List Entry) (e : Entry) (old new : List Lineup) → IsLegal s (e ∷ past) → IsQuiet s past e → ArePools s past old → TellWorker e.who e.reply old new → ArePools s (e ∷ past) new
-quiet_pools s past e old new legal q are told = record {
-  many = told.many ∙ are.many;
-  each = λ p here. told.each p ∙ (ap (pools.told_worker p e.who e.reply) (are.each p here) ∙ (sym (quiet_pool s past e p (pools.pool_of s past p) q) ∙ sym (pools_follow s past e p legal)));
-}
-
--- ---- flush books, barriers
-
-quiet_book : (s : Layout) (past : List Entry) (e : Entry) (q : ℕ) (b : FlushBook) → IsQuiet s past e → flushes.told_tickets past e q (flushes.told_queueings past e q b) ≡ b
-quiet_book s past e q b h = rw (h.begun, h.done, h.opening, h.ending) refl
-
-pub quiet_books : (s : Layout) (past : List Entry) (e : Entry) (books : List FlushBook) → IsLegal s (e ∷ past) → IsQuiet s past e → AreBooks s past books → AreBooks s (e ∷ past) books
-quiet_books s past e books legal h are = record {
-  many = are.many;
-  each = λ q here. subst (flushes.AreFlushes s (e ∷ past) q) (quiet_book s past e q (book_in books q) h) (flushes_follow s past e q (book_in books q) legal (are.each q here));
-}
-
-pub quiet_barriers : (s : Layout) (past : List Entry) (e : Entry) → IsLegal s (e ∷ past) → IsQuiet s past e → barriers.barriers_of s past ≡ barriers.barriers_of s (e ∷ past)
-quiet_barriers s past e legal h = sym (barriers_follow s past e legal ∙ rw (h.begun, h.done, h.opening, h.ending) refl)
-
 -- ---- serials
 
 same_who_is : (a b : Who) → same_who a b ≡ true → a ≡ b
@@ -97,23 +72,6 @@ serials_told s e past serials small fit are = record { many = length-set serials
   by_who who fits false h =
       let less : serial_of (e ∷ past) who ≡ one false + serial_of past who = serials_go_on past e who ∙ ap (λ b. one b + serial_of past who) h in
       get_or-set_other serials (who_place e.who) (who_place who) (serial_of past e.who + 1) 0 (other_who s e.who who fit fits small.workers small.callers h) ∙ (are.each who fits ∙ (let flip : serial_of past who ≡ 0 + serial_of past who = omega arith in flip ∙ sym less))
-
--- ---- all of them, where the entry is quiet
-
-pub quiet_parts : (s : Layout) (past : List Entry) (e : Entry) (old new : Parts) → IsLegal s (e ∷ past) → SaysNothing e.reply → IsSmall s → IsThere s e.who → AreParts s past old →
-    TellWorker e.who e.reply old.pools new.pools → new.books ≡ old.books → new.barriers ≡ old.barriers → new.timers ≡ old.timers → new.time ≡ old.time + ticks_told e.call →
-    new.serials ≡ slice_set old.serials (who_place e.who) (serial_of past e.who + 1) → new.owing ≡ owed s (e ∷ past) → AreParts s (e ∷ past) new
-quiet_parts s past e old new legal says small there are pools books barriers timers time serials owing =
-    let q = quiet s past e legal says in
-    record {
-      pools = quiet_pools s past e old.pools new.pools legal q are.pools pools;
-      books = subst (AreBooks s (e ∷ past)) (sym books) (quiet_books s past e old.books legal q are.books);
-      barriers = barriers ∙ (are.barriers ∙ quiet_barriers s past e legal q);
-      timers = timers ∙ (are.timers ∙ sym (others_keep_timers s past e says.settles));
-      time = time ∙ (ap (λ n. n + ticks_told e.call) are.time ∙ sym (time_goes_on past e));
-      serials = subst (AreSerials s (e ∷ past)) (sym serials) (serials_told s e past old.serials small there are.serials);
-      owing = owing;
-    }
 
 -- ---- the pool that stands at its place
 

@@ -5,5 +5,6 @@ pub mod Steps
 pub mod First
 pub mod Listing
 pub mod LineSteps
+pub mod WidthSteps
 pub mod Told
 pub mod Appended

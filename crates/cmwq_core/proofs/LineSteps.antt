@@ -80,6 +80,19 @@ pub record IsMid (s : Layout) (past : List Entry) (e : Entry) (l : Lined) : Type
   pub waiting : l.waiting ≡ filter (is_spared past e) (waiting s past)
   pub counts : (q c : ℕ) → q < length s.queues → c < 4 → count_at l.counts q c ≡ stay_count s past e q c
 
+-- after what is opened: the candidates
+pub record IsReadyToPass (s : Layout) (past : List Entry) (e : Entry) (l : Lined) : Type 0 where
+  pub room : l.room ≡ 2 * s.items
+  pub many : length l.counts ≡ 4 * length s.queues
+  pub waiting : l.waiting ≡ candidates s past e
+  pub counts : (q c : ℕ) → q < length s.queues → c < 4 → count_at l.counts q c ≡ stay_count s past e q c
+
+-- after the pass
+pub record ArePassed (s : Layout) (past : List Entry) (e : Entry) (old new : Lined) (wide : ℕ → ℕ) : Type 0 where
+  pub passes : (way : Queueing → Bool) → HaveWay way wide old.counts old.waiting → Passes way old.waiting old.counts new.counts new.waiting new.promoted
+  pub room : new.room ≡ old.room
+  pub widths : (q : ℕ) → q < length s.queues → wide q ≡ width s (e ∷ past) q
+
 among_waiting : (P : Queueing → Type 0) (s : Layout) (past : List Entry) → AllByRecursion P (still_open past) → AllByRecursion P (waiting s past)
 among_waiting P s past h = All_filter P (waits s past) (still_open past) (All_map P _ (still_open past) (λ x k _. k) h)
 
@@ -182,13 +195,7 @@ module _ (s : Layout) (past : List Entry) (e : Entry) (legal : IsLegal s (e ∷ 
 
   -- ---- after what is opened: the candidates
 
-  pub record IsReadyToPass (l : Lined) : Type 0 where
-    pub room : l.room ≡ 2 * s.items
-    pub many : length l.counts ≡ 4 * length s.queues
-    pub waiting : l.waiting ≡ candidates s past e
-    pub counts : (q c : ℕ) → q < length s.queues → c < 4 → count_at l.counts q c ≡ stay_count s past e q c
-
-  line_opened_as : (l : Lined) → IsMid s past e l → (o : Option Queueing) → opening past e ≡ o → IsReadyToPass (told_opened o l) × MayOpen o l
+  line_opened_as : (l : Lined) → IsMid s past e l → (o : Option Queueing) → opening past e ≡ o → IsReadyToPass s past e (told_opened o l) × MayOpen o l
   line_opened_as l mid None is = (record {
     room = mid.room; many = mid.many;
     waiting = mid.waiting ∙ (sym (append-nil (filter (is_spared past e) (waiting s past))) ∙ (ap (λ o. filter (is_spared past e) (waiting s past) ++ option_to_list o) (sym is) ∙ sym (candidates_are s past e legal)));
@@ -203,7 +210,7 @@ module _ (s : Layout) (past : List Entry) (e : Entry) (legal : IsLegal s (e ∷ 
         let room = mid.room in
         omega arith))
 
-  pub line_opened : (l : Lined) → IsMid s past e l → IsReadyToPass (told_opened (opening past e) l) × MayOpen (opening past e) l
+  pub line_opened : (l : Lined) → IsMid s past e l → IsReadyToPass s past e (told_opened (opening past e) l) × MayOpen (opening past e) l
   line_opened l mid = line_opened_as l mid (opening past e) refl
 
   -- ---- after the pass: the line of the longer history
@@ -214,22 +221,17 @@ module _ (s : Layout) (past : List Entry) (e : Entry) (legal : IsLegal s (e ∷ 
   candidate_placed : (x : Queueing) → In x (candidates s past e) → IsPlaced (length s.queues) x
   candidate_placed x h = let there = candidate_there x h in let k = there.cpu in (there.queue, omega arith)
 
-  pub are_placed : (l : Lined) → IsReadyToPass l → ArePlaced (length s.queues) l.waiting
+  pub are_placed : (l : Lined) → IsReadyToPass s past e l → ArePlaced (length s.queues) l.waiting
   are_placed l r = subst (ArePlaced (length s.queues)) (sym r.waiting) (All-from_recursion (IsPlaced (length s.queues)) (candidates s past e) (all_in (IsPlaced (length s.queues)) (candidates s past e) candidate_placed))
 
-  pub record ArePassed (old new : Lined) (wide : ℕ → ℕ) : Type 0 where
-    pub passes : (way : Queueing → Bool) → HaveWay way wide old.counts old.waiting → Passes way old.waiting old.counts new.counts new.waiting new.promoted
-    pub room : new.room ≡ old.room
-    pub widths : (q : ℕ) → q < length s.queues → wide q ≡ width s (e ∷ past) q
-
-  have_way : (l : Lined) (wide : ℕ → ℕ) → IsReadyToPass l → ((q : ℕ) → q < length s.queues → wide q ≡ width s (e ∷ past) q) → HaveWay (has_way s (e ∷ past)) wide l.counts l.waiting
+  have_way : (l : Lined) (wide : ℕ → ℕ) → IsReadyToPass s past e l → ((q : ℕ) → q < length s.queues → wide q ≡ width s (e ∷ past) q) → HaveWay (has_way s (e ∷ past)) wide l.counts l.waiting
   have_way l wide r widths = λ done x rest split.
       let is : candidates s past e ≡ done ++ x ∷ rest = sym r.waiting ∙ split in
       let placed = candidate_placed x (subst (In x) (sym is) (in_right done (x ∷ rest) x (inl refl))) in
       way_by_picked s past e done x rest is
       ∙ ap₂ (λ n w. nat_lt (n + count_by (is_on x.place.queue.0 x.place.cpu.0) (filter (has_way s (e ∷ past)) done)) w) (sym (r.counts x.place.queue.0 x.place.cpu.0 placed.0 placed.1)) (sym (widths x.place.queue.0 placed.0))
 
-  pub line_passed : (l new : Lined) (wide : ℕ → ℕ) → IsReadyToPass l → ArePassed l new wide → IsLineOf s (e ∷ past) new × (new.promoted ≡ newly_active s past e)
+  pub line_passed : (l new : Lined) (wide : ℕ → ℕ) → IsReadyToPass s past e l → ArePassed s past e l new wide → IsLineOf s (e ∷ past) new × (new.promoted ≡ newly_active s past e)
   line_passed l new wide r passed =
       let p = passed.passes (has_way s (e ∷ past)) (have_way l wide r passed.widths) in
       let newly : filter (has_way s (e ∷ past)) l.waiting ≡ newly_active s past e = ap (filter (has_way s (e ∷ past))) r.waiting ∙ sym (newly_are s past e) in

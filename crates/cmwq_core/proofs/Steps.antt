@@ -23,7 +23,7 @@ use Rattle.cmwq_core.specs.Tables.{IsThere, who_place, pool_in, ArePools, MayTel
 use Rattle.cmwq_core.specs.Book.{Kept, Parts, AreParts, IsBook, is_known, next_entry, has_room_in}
 use Rattle.cmwq_core.proofs.Quiet.{SaysNothing, answer_quiet}
 use Rattle.cmwq_core.proofs.Owing.{quiet_owes}
-use Rattle.cmwq_core.proofs.Follow.{IsSmall, quiet_parts, pool_place_inside}
+use Rattle.cmwq_core.proofs.Follow.{IsSmall, pool_place_inside}
 
 pub past_more : (entries : List Entry) (e : Entry) → past_of (entries ++ e ∷ []) ≡ e ∷ past_of entries
 past_more entries e = reverse-append entries (e ∷ [])
@@ -74,27 +74,6 @@ may_tell s past e pools legal there are = by e.who refl there where
   by (Caller c) is here = tt
   by (Worker w) is here = (pool_place_inside w.pool s.cpus (length pools) are.many here.0,
     rw (are.each w.pool here.0) (workers_may_be_told s past e w legal is))
-
-pub book_more : (s : Layout) (room : ℕ) (entries : List Entry) (capacity : ℕ) (old new : Parts) (e : Entry) → IsBook s room entries capacity old → fits s e.who e.call ≡ true → is_known e.call ≡ true →
-    e ≡ entry_for s (past_of entries) e.who e.call → TellWorker e.who e.reply old.pools new.pools → new.books ≡ old.books → new.barriers ≡ old.barriers → new.timers ≡ old.timers → new.time ≡ old.time + ticks_told e.call → ticks_told e.call < 2 ^ 32 →
-    new.serials ≡ slice_set old.serials (who_place e.who) (e.serial + 1) → new.owing ≡ owed s (e ∷ past_of entries) → length entries + 1 + new.owing ≤ room →
-    IsBook s room (entries ++ e ∷ []) capacity new
-book_more s room entries capacity old new e b fit known is pools books barriers timers time ticks serials owing within =
-    let past = past_of entries in
-    let legal : IsLegal s (e ∷ past) = rw is (next_legal s past e.who e.call b.legal fit) in
-    let says : SaysNothing e.reply = subst SaysNothing (sym (ap (λ (x : Entry). x.reply) is)) (answer_quiet s past e.who e.call known) in
-    let serial : e.serial ≡ serial_of past e.who = ap (λ (x : Entry). x.serial) is in
-    let soon = b.soon in
-    let one_more : length (entries ++ e ∷ []) ≡ length entries + 1 = length-append entries (e ∷ []) in
-    record {
-      inside = b.inside;
-      few = b.few;
-      reserved = b.reserved;
-      legal = rw (past_more entries e) legal;
-      parts_are = rw (past_more entries e) (quiet_parts s past e old new legal says (small s b.inside) (fits_there s e.who e.call fit) b.parts_are pools books barriers timers time (serials ∙ ap (λ n. slice_set old.serials (who_place e.who) (n + 1)) serial) owing);
-      within = rw one_more within;
-      soon = rw (one_more, time) (omega arith);
-    }
 
 -- the same by the reply
 pub owes_as : (s : Layout) (past : List Entry) (who : Who) (c : Call) (r : Reply) (woke slept : Bool) → IsLegal s past → fits s who c ≡ true → is_known c ≡ true → r ≡ answer s past who c → is_woke r ≡ woke → is_slept r ≡ slept →

@@ -1,5 +1,5 @@
 -- The parts that are told of an effect are those of the longer history, and may be told of it.
-use Rattle.std.proofs.Common.{◌≡◌, ℕ, ◌+◌, ◌*◌, ◌<◌, ◌≤◌, Bool, true, false, not, List, [], ◌∷◌, length, find, filter, Option, Some, None, refl, sym, ap, ap₂, ◌∙◌, subst, arith, IsTrue, Contains}
+use Rattle.std.proofs.Common.{◌≡◌, ℕ, ◌+◌, ◌*◌, ◌<◌, ◌≤◌, Bool, true, false, not, ◌&&◌, ◌==◌, ⊎_elim, List, [], ◌∷◌, length, find, filter, Option, Some, None, refl, sym, ap, ap₂, ◌∙◌, subst, arith, IsTrue, Contains, nat_lt, nat_le}
 use Rattle.std.specs.Prelude.{slice_set, if◌then◌else◌}
 use Rattle.cmwq_model.specs.declared.id.PoolId.{PoolId}
 use Rattle.cmwq_model.specs.declared.entry.Entry.{Entry}
@@ -28,10 +28,43 @@ use Rattle.cmwq_ties.proofs.FlushMay.{flushes_may_be_told}
 use Rattle.cmwq_ties.proofs.BarrierSteps.{barriers_follow}
 use Rattle.cmwq_ties.proofs.TimerMay.{timers_follow, timers_may_be_set}
 use Rattle.cmwq_ties.proofs.PlacesFit.{opened_are_there, open_are_there}
-use Rattle.cmwq_ties.proofs.Members.{found, in_contained}
+use Rattle.cmwq_ties.proofs.Members.{In, all_in, in_filter, found, in_contained}
 use Rattle.cmwq_ties.proofs.BarrierMay.{barriers_may_be_told}
 use Rattle.std.proofs.lemmas.Bool.{eq-eqb}
-use Rattle.cmwq_core.specs.Tables.{IsThere, who_place, pool_in, book_in, ArePools, AreBooks, AreSerials, TellWorker, TellCancelled, TellEnded, TellOpened, MayTellEnded, MayTellOpened, MayTellCancelled}
+use Rattle.cmwq_model.specs.Active.{newly_active}
+use Rattle.cmwq_model.specs.Widths.{frozen_after}
+use Rattle.cmwq_steps.specs.Activations.{is_in}
+use Rattle.cmwq_flush.specs.BarrierBook as barriers_book
+use Rattle.cmwq_ties.specs.Pools.{MayAllBeAdded}
+use Rattle.cmwq_ties.proofs.PoolAdds.{active_may_be_added}
+use Rattle.cmwq_model.specs.declared.shape.QueueShape.{QueueShape}
+use Rattle.cmwq_parts.specs.Line.{Lined, HaveWay, Passes, ArePlaced, width_by}
+use Rattle.std.proofs.lemmas.Bool.{and_parts, ltb-true, eqb-true, false_from_ne_true, cases_lt}
+use Rattle.std.proofs.lemmas.List.Elements.{All-from_recursion}
+use mathlib.Core.Bool.{beq}
+use Rattle.cmwq_model.specs.Active.{has_way}
+use Rattle.cmwq_steps.specs.Activations.{waits}
+use Rattle.cmwq_steps.specs.Waiting.{candidates}
+use Rattle.cmwq_steps.proofs.Waiting.{newly_are}
+use Rattle.cmwq_steps.proofs.Filters.{filter_none}
+use Rattle.cmwq_ties.proofs.PlacesFit.{open_there as open_in_there}
+use Rattle.cmwq_model.specs.declared.call.Call.{Call}
+use Rattle.cmwq_model.specs.declared.call.Call.TheVariants as call
+use Rattle.cmwq_model.specs.declared.record.Ticket.{Ticket}
+use Rattle.cmwq_model.specs.Layout.{has_numbers}
+use Rattle.cmwq_model.specs.Tickets.{flushes as flushes_queue, drains as drains_queue}
+use Rattle.cmwq_steps.specs.TicketSteps.{ticket_ended}
+use Rattle.cmwq_ties.proofs.FlushEnds.{ended_ready}
+use Rattle.cmwq_ties.proofs.Settled.{numbers_fit}
+use Rattle.cmwq_ties.proofs.TicketSteps.{ticket_in_is}
+use Rattle.cmwq_ties.proofs.PlacesFit.{unended_fit}
+use Rattle.cmwq_core.specs.Lines as lines
+use Rattle.cmwq_core.specs.Lines.{IsLineOf}
+use Rattle.cmwq_core.specs.Widths.{AreWidths, TellWidth, MayTellWidth}
+use Rattle.cmwq_core.proofs.WidthSteps.{told_widths, widths_are}
+use Rattle.cmwq_core.proofs.Listing.{may_all_same}
+use Rattle.cmwq_core.proofs.LineSteps.{ArePassed, IsReadyToPass, are_placed, line_ended, line_opened, line_passed}
+use Rattle.cmwq_core.specs.Tables.{IsThere, who_place, pool_in, book_in, only, those_in, ArePools, AreBooks, AreSerials, TellWorker, TellCancelled, TellEnded, TellOpened, TellDone, TellBegun, ListAll, IsListable, MayBeListed, MayTellEnded, MayTellOpened, MayTellCancelled, MayTellDone, MayTellBegun, MayEndWait, MayBeginWait}
 use Rattle.cmwq_core.specs.Book.{Parts, AreParts}
 use Rattle.cmwq_core.specs.Effects.{IsEffect, settled_by, item_number}
 use Rattle.cmwq_core.specs.declared.effect.Effect.{Effect}
@@ -39,35 +72,69 @@ use Rattle.cmwq_core.proofs.Follow.{IsSmall, serials_told}
 
 -- ---- pools
 
-pub told_pools : (s : Layout) (past : List Entry) (f : Effect) (old mid new : List Lineup) → IsEffect s past f → ArePools s past old → TellWorker f.entry.who f.entry.reply old mid → TellCancelled s f.entry f.ended mid new → ArePools s (f.entry ∷ past) new
-told_pools s past f old mid new is are first second = record {
-  many = second.many ∙ (first.many ∙ are.many);
+pub told_pools : (s : Layout) (past : List Entry) (f : Effect) (old mid late new : List Lineup) (promoted : List Queueing) → IsEffect s past f → ArePools s past old → TellWorker f.entry.who f.entry.reply old mid → TellCancelled s f.entry f.ended mid late →
+    promoted ≡ newly_active s past f.entry → ListAll s.queues promoted late new → ArePools s (f.entry ∷ past) new
+told_pools s past f old mid late new promoted is are first second newly third = record {
+  many = third.many ∙ (second.many ∙ (first.many ∙ are.many));
   each = λ p here. let e = f.entry in
-    second.each p
-    ∙ (ap₂ (pools.told_cancelled s p e) is.ended (first.each p ∙ ap (pools.told_worker p e.who e.reply) (are.each p here))
-    ∙ (sym (none_active p) ∙ sym (pools_follow s past e p is.legal)));
+    third.each p ∙ (ap₂ (λ xs l. pools.told_active s (filter (is_in s p) xs) l) newly
+      (second.each p ∙ ap₂ (pools.told_cancelled s p e) is.ended (first.each p ∙ ap (pools.told_worker p e.who e.reply) (are.each p here)))
+    ∙ sym (pools_follow s past e p is.legal));
 }
+
+-- what became active is of queues and CPUs that there are, and may be listed
+newly_there : (s : Layout) (past : List Entry) (e : Entry) (x : Queueing) → IsLegal s (e ∷ past) → In x (newly_active s past e) → places.IsThere s x
+newly_there s past e x legal h =
+    let one = in_filter (has_way s (e ∷ past)) (candidates s past e) x (subst (In x) (newly_are s past e) h) in
+    open_in_there s (e ∷ past) x legal (in_filter (waits s past) (still_open (e ∷ past)) x one.0).0
+
+pub may_be_listed : (s : Layout) (past : List Entry) (f : Effect) (late : List Lineup) (promoted : List Queueing) → IsEffect s past f → length late ≡ 2 * s.cpus → promoted ≡ newly_active s past f.entry → MayBeListed s.queues promoted late
+may_be_listed s past f late promoted is many newly = rw newly (All-from_recursion (IsListable s.queues late) (newly_active s past f.entry) (all_in (IsListable s.queues late) (newly_active s past f.entry) (λ x h.
+    let there = newly_there s past f.entry x is.legal h in let cpu = there.cpu in (there.queue, omega arith))))
+
+pub may_list_all : (s : Layout) (past : List Entry) (f : Effect) (old mid late : List Lineup) (promoted : List Queueing) → IsEffect s past f → ArePools s past old → TellWorker f.entry.who f.entry.reply old mid → TellCancelled s f.entry f.ended mid late →
+    promoted ≡ newly_active s past f.entry → (p : PoolId) → MayAllBeAdded (only s.queues) (those_in s.queues p promoted) (pool_in late p)
+may_list_all s past f old mid late promoted is are first second newly p = ⊎_elim here nowhere (cases_lt p.cpu.0 s.cpus)
   where
-    none_active : (p : PoolId) → pools.told s past p f.entry (pools.pool_of s past p) ≡ pools.told_cancelled s p f.entry (ending past f.entry) (pools.told_worker p f.entry.who f.entry.reply (pools.pool_of s past p))
-    none_active p = rw is.newly refl
+    here : p.cpu.0 < s.cpus → MayAllBeAdded (only s.queues) (those_in s.queues p promoted) (pool_in late p)
+    here less =
+        let e = f.entry in
+        let told : pool_in late p ≡ pools.told_first s past p e (pools.pool_of s past p) = second.each p ∙ ap₂ (pools.told_cancelled s p e) is.ended (first.each p ∙ ap (pools.told_worker p e.who e.reply) (are.each p less)) in
+        let may = active_may_be_added s past e p is.legal in
+        may_all_same s (filter (is_in s p) promoted) (pool_in late p) (rw (newly, told) may)
+
+    apart : (x : Queueing) → In x (newly_active s past f.entry) → s.cpus ≤ p.cpu.0 → is_in s p x ≡ false
+    apart x h most =
+        let there = newly_there s past f.entry x is.legal h in let cpu = there.cpu in
+        ap (λ b. b && beq (pool_at s x.place).high p.high) (false_from_ne_true (x.place.cpu.0 == p.cpu.0) (λ same. let is = eqb-true x.place.cpu.0 p.cpu.0 same in absurd (omega arith)))
+
+    nowhere : s.cpus ≤ p.cpu.0 → MayAllBeAdded (only s.queues) (those_in s.queues p promoted) (pool_in late p)
+    nowhere most =
+        let none : those_in s.queues p promoted ≡ [] = ap (filter (is_in s p)) newly ∙ filter_none (is_in s p) (newly_active s past f.entry) (all_in (λ x. is_in s p x ≡ false) (newly_active s past f.entry) (λ x h. apart x h most)) in
+        rw none tt
 
 -- ---- flush books
 
-pub told_books : (s : Layout) (past : List Entry) (f : Effect) (old mid new : List FlushBook) → IsEffect s past f → AreBooks s past old → TellEnded f.ended old mid → TellOpened f.opened mid new → AreBooks s (f.entry ∷ past) new
-told_books s past f old mid new is are first second = record {
-  many = second.many ∙ (first.many ∙ are.many);
+pub told_books : (s : Layout) (past : List Entry) (f : Effect) (old mid late end new : List FlushBook) → IsEffect s past f → AreBooks s past old → TellEnded f.ended old mid → TellOpened f.opened mid late → TellDone f.done late end → TellBegun f.begun end new → AreBooks s (f.entry ∷ past) new
+told_books s past f old mid late end new is are first second third fourth = record {
+  many = fourth.many ∙ (third.many ∙ (second.many ∙ (first.many ∙ are.many)));
   each = λ q here. subst (flushes.AreFlushes s (f.entry ∷ past) q)
-    (no_waits q (book_in old q) ∙ sym (second.each q ∙ ap₂ (λ o b. flushes.told_opened o q b) is.opened (first.each q ∙ ap (λ o. flushes.told_ended o q (book_in old q)) is.ended)))
+    (sym (fourth.each q ∙ ap₂ (λ o b. flushes.told_begun o q b) is.begun
+      (third.each q ∙ ap₂ (λ o b. flushes.told_done o q b) is.done
+      (second.each q ∙ ap₂ (λ o b. flushes.told_opened o q b) is.opened
+      (first.each q ∙ ap (λ o. flushes.told_ended o q (book_in old q)) is.ended)))))
     (flushes_follow s past f.entry q (book_in old q) is.legal (are.each q here));
 }
-  where
-    no_waits : (q : ℕ) (b : FlushBook) → flushes.told_tickets past f.entry q (flushes.told_queueings past f.entry q b) ≡ flushes.told_queueings past f.entry q b
-    no_waits q b = rw (is.no_begun, is.no_done) refl
 
 -- ---- barriers and timers
 
-pub told_barriers : (s : Layout) (past : List Entry) (f : Effect) → IsEffect s past f → barriers.told_opened f.opened (barriers.told_ended f.ended (barriers.barriers_of s past)) ≡ barriers.barriers_of s (f.entry ∷ past)
-told_barriers s past f is = ap₂ (λ o x. barriers.told_opened o (barriers.told_ended x (barriers.barriers_of s past))) is.opened is.ended ∙ sym (barriers_follow s past f.entry is.legal ∙ rw (is.no_begun, is.no_done) refl)
+abbrev pub barriers_told : Effect → barriers_book.BarrierBook → barriers_book.BarrierBook
+barriers_told f b = barriers.told_begun f.begun (barriers.told_done f.done (barriers.told_opened f.opened (barriers.told_ended f.ended b)))
+
+pub told_barriers : (s : Layout) (past : List Entry) (f : Effect) → IsEffect s past f → barriers_told f (barriers.barriers_of s past) ≡ barriers.barriers_of s (f.entry ∷ past)
+told_barriers s past f is =
+    ap₂ (λ o b. barriers.told_begun o b) is.begun (ap₂ (λ o b. barriers.told_done o b) is.done (ap₂ (λ o b. barriers.told_opened o b) is.opened (ap (λ o. barriers.told_ended o (barriers.barriers_of s past)) is.ended)))
+    ∙ sym (barriers_follow s past f.entry is.legal)
 
 differ : false ≡ true → ⊥
 differ h = cc
@@ -90,19 +157,51 @@ told_timers s past f is = ap₂ (λ o b. timers.told_settled o b (timers.timers_
 
 -- ---- all of them
 
-pub told_parts : (s : Layout) (past : List Entry) (f : Effect) (old new : Parts) (pools_mid : List Lineup) (books_mid : List FlushBook) → IsEffect s past f → IsSmall s → IsThere s f.entry.who → AreParts s past old →
-    TellWorker f.entry.who f.entry.reply old.pools pools_mid → TellCancelled s f.entry f.ended pools_mid new.pools → TellEnded f.ended old.books books_mid → TellOpened f.opened books_mid new.books →
-    new.barriers ≡ barriers.told_opened f.opened (barriers.told_ended f.ended old.barriers) → new.timers ≡ timers.told_settled (item_number f.settled) f.booked old.timers → new.time ≡ old.time + ticks_told f.entry.call →
-    new.serials ≡ slice_set old.serials (who_place f.entry.who) (serial_of past f.entry.who + 1) → new.owing ≡ f.owing → AreParts s (f.entry ∷ past) new
-told_parts s past f old new pools_mid books_mid is small there are worker cancelled ended opened barrier timer time serials owing = record {
-  pools = told_pools s past f old.pools pools_mid new.pools is are.pools worker cancelled;
-  books = told_books s past f old.books books_mid new.books is are.books ended opened;
-  barriers = barrier ∙ (ap (λ b. barriers.told_opened f.opened (barriers.told_ended f.ended b)) are.barriers ∙ told_barriers s past f is);
-  timers = timer ∙ (ap (λ rows. timers.told_settled (item_number f.settled) f.booked rows) are.timers ∙ told_timers s past f is);
-  time = time ∙ (ap (λ n. n + ticks_told f.entry.call) are.time ∙ sym (time_goes_on past f.entry));
-  serials = subst (AreSerials s (f.entry ∷ past)) (sym serials) (serials_told s f.entry past old.serials small there are.serials);
-  owing = owing ∙ is.owing;
-}
+pub record Told (s : Layout) (past : List Entry) (f : Effect) (old new : Parts) : Type 0 where
+  pub pools_mid : List Lineup
+  pub pools_late : List Lineup
+  pub books_mid : List FlushBook
+  pub books_late : List FlushBook
+  pub books_end : List FlushBook
+  pub line_wide : ℕ → ℕ
+  pub worker : TellWorker f.entry.who f.entry.reply old.pools pools_mid
+  pub cancelled : TellCancelled s f.entry f.ended pools_mid pools_late
+  pub listed : ListAll s.queues new.line.promoted pools_late new.pools
+  pub ended : TellEnded f.ended old.books books_mid
+  pub opened : TellOpened f.opened books_mid books_late
+  pub done : TellDone f.done books_late books_end
+  pub begun : TellBegun f.begun books_end new.books
+  pub barrier : new.barriers ≡ barriers_told f old.barriers
+  pub timer : new.timers ≡ timers.told_settled (item_number f.settled) f.booked old.timers
+  pub time : new.time ≡ old.time + ticks_told f.entry.call
+  pub serials : new.serials ≡ slice_set old.serials (who_place f.entry.who) (serial_of past f.entry.who + 1)
+  pub line : ArePassed s past f.entry (lines.told_opened f.opened (lines.told_ended f.ended old.line)) new.line line_wide
+  pub widths : TellWidth f.entry.call f.entry.reply old.most new.most
+  pub frozen : new.frozen ≡ frozen_after f.entry.reply old.frozen
+  pub owing : new.owing ≡ f.owing
+
+pub line_told : (s : Layout) (past : List Entry) (f : Effect) (l new : Lined) (wide : ℕ → ℕ) → IsEffect s past f → IsSmall s → IsLegal s past → IsLineOf s past l →
+    ArePassed s past f.entry (lines.told_opened f.opened (lines.told_ended f.ended l)) new wide → IsLineOf s (f.entry ∷ past) new × (new.promoted ≡ newly_active s past f.entry)
+line_told s past f l new wide is small before are passed =
+    let mid = (line_ended s past f.entry is.legal small.cpus l are before).0 in
+    let ready = (line_opened s past f.entry is.legal small.cpus (lines.told_ended (ending past f.entry) l) mid).0 in
+    let same : lines.told_opened f.opened (lines.told_ended f.ended l) ≡ lines.told_opened (opening past f.entry) (lines.told_ended (ending past f.entry) l) = ap₂ (λ o x. lines.told_opened o (lines.told_ended x l)) is.opened is.ended in
+    line_passed s past f.entry is.legal small.cpus (lines.told_opened (opening past f.entry) (lines.told_ended (ending past f.entry) l)) new wide ready (subst (λ m. ArePassed s past f.entry m new wide) same passed)
+
+pub told_parts : (s : Layout) (past : List Entry) (f : Effect) (old new : Parts) → IsEffect s past f → IsSmall s → IsThere s f.entry.who → IsLegal s past → AreParts s past old → Told s past f old new → AreParts s (f.entry ∷ past) new
+told_parts s past f old new is small there before are told =
+    let line = line_told s past f old.line new.line told.line_wide is small before are.line told.line in
+    record {
+      pools = told_pools s past f old.pools told.pools_mid told.pools_late new.pools new.line.promoted is are.pools told.worker told.cancelled line.1 told.listed;
+      books = told_books s past f old.books told.books_mid told.books_late told.books_end new.books is are.books told.ended told.opened told.done told.begun;
+      barriers = told.barrier ∙ (ap (barriers_told f) are.barriers ∙ told_barriers s past f is);
+      timers = told.timer ∙ (ap (λ rows. timers.told_settled (item_number f.settled) f.booked rows) are.timers ∙ told_timers s past f is);
+      time = told.time ∙ (ap (λ n. n + ticks_told f.entry.call) are.time ∙ sym (time_goes_on past f.entry));
+      serials = subst (AreSerials s (f.entry ∷ past)) (sym told.serials) (serials_told s f.entry past old.serials small there are.serials);
+      line = line.0;
+      widths = subst (AreWidths s (f.entry ∷ past) new.most) (sym told.frozen) (told_widths s past f.entry old.most new.most old.frozen are.widths told.widths);
+      owing = told.owing ∙ is.owing;
+    }
 
 -- ---- and each may be told
 
@@ -160,12 +259,119 @@ set_by e past rows false h may = which (booking_of e (length past)) refl may
 pub may_set_timers : (s : Layout) (past : List Entry) (f : Effect) → IsTrue (is_layout s) → IsEffect s past f → timers.MayBeSet (item_number f.settled) f.booked (timers.timers_of s past)
 may_set_timers s past f inside is = rw (is.settled, is.booked) (set_by f.entry past (timers.timers_of s past) (settles f.entry.reply) refl (timers_may_be_set s past f.entry inside is.legal))
 
--- ---- the same where the entry makes something active, as the pools are told of each
+-- ---- waits
 
-pub told_active_pools : (s : Layout) (past : List Entry) (e : Entry) (old mid mid2 new : List Lineup) → IsLegal s (e ∷ past) → ArePools s past old → TellWorker e.who e.reply old mid → TellCancelled s e (ending past e) mid mid2 → length new ≡ length mid2 →
-    ((p : PoolId) → pool_in new p ≡ pools.told_active s (pools.made_active s past p e) (pool_in mid2 p)) → ArePools s (e ∷ past) new
-told_active_pools s past e old mid mid2 new legal are first second many third = record {
-  many = many ∙ (second.many ∙ (first.many ∙ are.many));
-  each = λ p here. third p ∙ (ap (pools.told_active s (pools.made_active s past p e)) (second.each p ∙ ap (pools.told_cancelled s p e (ending past e)) (first.each p ∙ ap (pools.told_worker p e.who e.reply) (are.each p here)))
-    ∙ sym (pools_follow s past e p legal));
+queue_there : (s : Layout) (q : ℕ) → nat_lt q (length s.queues) ≡ true → (n : ℕ) → n ≡ length s.queues → q < n
+queue_there s q h n many = rw many (ltb-true q (length s.queues) h)
+
+pub may_be_done : (s : Layout) (past : List Entry) (f : Effect) (old mid late : List FlushBook) → IsTrue (is_layout s) → IsEffect s past f → IsLegal s past → AreBooks s past old → TellEnded f.ended old mid → TellOpened f.opened mid late → MayTellDone f.done late
+may_be_done s past f old mid late inside is before are first second = by f.done refl
+  where
+    many : length late ≡ length s.queues
+    many = second.many ∙ (first.many ∙ are.many)
+
+    may : (t : Ticket) (q : ℕ) → f.done ≡ Some t → q < length s.queues → flushes.MayBeDone (Some t) q (book_in late q)
+    may t q h here =
+        let told : book_in late q ≡ flushes.told_queueings past f.entry q (book_in old q) = second.each q ∙ ap₂ (λ o b. flushes.told_opened o q b) is.opened (first.each q ∙ ap (λ o. flushes.told_ended o q (book_in old q)) is.ended) in
+        let m = (flushes_may_be_told s past f.entry q (book_in old q) inside is.legal (are.each q here)).done in
+        rw told (subst (λ o. flushes.MayBeDone o q (flushes.told_queueings past f.entry q (book_in old q))) (sym is.done ∙ h) m)
+
+    by_call : (t : Ticket) → f.done ≡ Some t → (c : Call) → t.call ≡ c → has_numbers s c ≡ true → MayEndWait c t.number late
+    by_call t h (call.Flush q) same fit =
+        let here = queue_there s q.0 fit (length s.queues) refl in let m = (may t q.0 h here).0 (ap (flushes_queue q.0) same ∙ eq-eqb q.0 q.0 refl) in
+        (rw many here, m.0, m.1)
+    by_call t h (call.Drain q) same fit =
+        let here = queue_there s q.0 fit (length s.queues) refl in (rw many here, (may t q.0 h here).1 (ap (drains_queue q.0) same ∙ eq-eqb q.0 q.0 refl))
+    by_call t h (call.Destroy q) same fit =
+        let here = queue_there s q.0 fit (length s.queues) refl in (rw many here, (may t q.0 h here).1 (ap (drains_queue q.0) same ∙ eq-eqb q.0 q.0 refl))
+    by_call t h c same fit = tt
+
+    by : (o : Option Ticket) → f.done ≡ o → MayTellDone o late
+    by None h = tt
+    by (Some t) h = by_call t h t.call refl (unended_fit s past t before (ended_ready s past f.entry t is.legal (sym is.done ∙ h)).stands)
+
+pub may_begin : (s : Layout) (past : List Entry) (f : Effect) (old mid late end : List FlushBook) → IsTrue (is_layout s) → IsEffect s past f → AreBooks s past old → TellEnded f.ended old mid → TellOpened f.opened mid late → TellDone f.done late end → MayTellBegun f.begun end
+may_begin s past f old mid late end inside is are first second third = by f.begun refl
+  where
+    many : length end ≡ length s.queues
+    many = third.many ∙ (second.many ∙ (first.many ∙ are.many))
+
+    may : (t : Ticket) (q : ℕ) → f.begun ≡ Some t → q < length s.queues → flushes.MayBegin (Some t) q (book_in end q)
+    may t q h here =
+        let told : book_in end q ≡ flushes.told_done (ticket_ended past f.entry) q (flushes.told_queueings past f.entry q (book_in old q)) =
+            third.each q ∙ ap₂ (λ o b. flushes.told_done o q b) is.done (second.each q ∙ ap₂ (λ o b. flushes.told_opened o q b) is.opened (first.each q ∙ ap (λ o. flushes.told_ended o q (book_in old q)) is.ended)) in
+        let m = (flushes_may_be_told s past f.entry q (book_in old q) inside is.legal (are.each q here)).begun in
+        rw told (subst (λ o. flushes.MayBegin o q (flushes.told_done (ticket_ended past f.entry) q (flushes.told_queueings past f.entry q (book_in old q)))) (sym is.begun ∙ h) m)
+
+    by_call : (t : Ticket) → f.begun ≡ Some t → (c : Call) → t.call ≡ c → has_numbers s c ≡ true → MayBeginWait c t.number end
+    by_call t h (call.Flush q) same fit =
+        let here = queue_there s q.0 fit (length s.queues) refl in (rw many here, (may t q.0 h here).0 (ap (flushes_queue q.0) same ∙ eq-eqb q.0 q.0 refl))
+    by_call t h (call.Drain q) same fit =
+        let here = queue_there s q.0 fit (length s.queues) refl in (rw many here, (may t q.0 h here).1 (ap (drains_queue q.0) same ∙ eq-eqb q.0 q.0 refl))
+    by_call t h (call.Destroy q) same fit =
+        let here = queue_there s q.0 fit (length s.queues) refl in (rw many here, (may t q.0 h here).1 (ap (drains_queue q.0) same ∙ eq-eqb q.0 q.0 refl))
+    by_call t h c same fit = tt
+
+    by : (o : Option Ticket) → f.begun ≡ o → MayTellBegun o end
+    by None h = tt
+    by (Some t) h = by_call t h t.call refl (ap (has_numbers s) (ticket_in_is f.entry (length past) t (sym is.begun ∙ h)).call ∙ numbers_fit s past f.entry is.legal)
+
+pub may_be_done_barriers : (s : Layout) (past : List Entry) (f : Effect) → IsEffect s past f → barriers.MayBeDone f.done (barriers.told_opened f.opened (barriers.told_ended f.ended (barriers.barriers_of s past)))
+may_be_done_barriers s past f is = rw (is.ended, is.opened, is.done) (barriers_may_be_told s past f.entry is.legal).done
+
+pub may_begin_barriers : (s : Layout) (past : List Entry) (f : Effect) → IsEffect s past f → barriers.MayBegin f.begun (barriers.told_done f.done (barriers.told_opened f.opened (barriers.told_ended f.ended (barriers.barriers_of s past))))
+may_begin_barriers s past f is = rw (is.ended, is.opened, is.done, is.begun) (barriers_may_be_told s past f.entry is.legal).begun
+
+-- ---- what waits
+
+pub may_end_line : (s : Layout) (past : List Entry) (f : Effect) (l : Lined) → IsEffect s past f → IsSmall s → IsLegal s past → IsLineOf s past l → lines.MayEnd f.ended l
+may_end_line s past f l is small before are = rw is.ended (line_ended s past f.entry is.legal small.cpus l are before).1
+
+pub line_ready : (s : Layout) (past : List Entry) (f : Effect) (l : Lined) → IsEffect s past f → IsSmall s → IsLegal s past → IsLineOf s past l →
+    IsReadyToPass s past f.entry (lines.told_opened f.opened (lines.told_ended f.ended l)) × lines.MayOpen f.opened (lines.told_ended f.ended l)
+line_ready s past f l is small before are =
+    let mid = (line_ended s past f.entry is.legal small.cpus l are before).0 in
+    rw (is.opened, is.ended) (line_opened s past f.entry is.legal small.cpus (lines.told_ended (ending past f.entry) l) mid)
+
+-- ---- widths
+
+pub may_tell_width : (s : Layout) (past : List Entry) (f : Effect) (most : List ℕ) → IsEffect s past f → length most ≡ length s.queues → MayTellWidth f.entry.call most
+may_tell_width s past f most is many = by f.entry.call (numbers_fit s past f.entry is.legal)
+  where
+    by : (c : Call) → has_numbers s c ≡ true → MayTellWidth c most
+    by (call.SetMax q n) fit = queue_there s q.0 (and_parts (nat_lt q.0 (length s.queues)) (nat_le 1 n) fit).0 (length most) many
+    by c fit = tt
+
+-- ---- the pass, as it is called
+
+pub record PassMade (s : Layout) (past : List Entry) (f : Effect) (l : Lined) (old most : List ℕ) (stopped frozen : Bool) (new : Lined) : Type 0 where
+  pub mid : Lined
+  pub queues : List QueueShape
+  pub widths : List ℕ
+  pub mid_is : mid ≡ lines.told_opened f.opened (lines.told_ended f.ended l)
+  pub queues_are : queues ≡ s.queues
+  pub widths_are_most : widths ≡ most
+  pub width : TellWidth f.entry.call f.entry.reply old most
+  pub frozen_is : frozen ≡ frozen_after f.entry.reply stopped
+  pub passes : (way : Queueing → Bool) → HaveWay way (width_by queues widths frozen) mid.counts mid.waiting → Passes way mid.waiting mid.counts new.counts new.waiting new.promoted
+  pub same_room : new.room ≡ mid.room
+
+pub pass_made : (s : Layout) (past : List Entry) (f : Effect) (l : Lined) (old most : List ℕ) (stopped frozen : Bool) (new : Lined) → AreWidths s past old stopped → PassMade s past f l old most stopped frozen new →
+    ArePassed s past f.entry (lines.told_opened f.opened (lines.told_ended f.ended l)) new (width_by s.queues most frozen)
+pass_made s past f l old most stopped frozen new are made = record {
+  passes = λ way have.
+    let moved : HaveWay way (width_by made.queues made.widths frozen) made.mid.counts made.mid.waiting = rw (made.mid_is, made.queues_are, made.widths_are_most) have in
+    rw (made.mid_is) at (made.passes way moved);
+  room = made.same_room ∙ ap (λ (m : Lined). m.room) made.mid_is;
+  widths = widths_are s (f.entry ∷ past) most frozen (subst (AreWidths s (f.entry ∷ past) most) (sym made.frozen_is) (told_widths s past f.entry old most stopped are made.width));
 }
+
+pub promoted_newly : (s : Layout) (past : List Entry) (f : Effect) (l : Lined) (old most : List ℕ) (stopped frozen : Bool) (new : Lined) → IsEffect s past f → IsSmall s → IsLegal s past → IsLineOf s past l → AreWidths s past old stopped →
+    PassMade s past f l old most stopped frozen new → new.promoted ≡ newly_active s past f.entry
+promoted_newly s past f l old most stopped frozen new is small before line are made =
+    (line_told s past f l new (width_by s.queues most frozen) is small before line (pass_made s past f l old most stopped frozen new are made)).1
+
+pub may_pass : (s : Layout) (past : List Entry) (f : Effect) (l mid : Lined) (queues : List QueueShape) → IsEffect s past f → IsSmall s → IsLegal s past → IsLineOf s past l → mid ≡ lines.told_opened f.opened (lines.told_ended f.ended l) → queues ≡ s.queues →
+    ArePlaced (length queues) mid.waiting
+may_pass s past f l mid queues is small before line same those = rw (those, same)
+    (are_placed s past f.entry is.legal small.cpus (lines.told_opened f.opened (lines.told_ended f.ended l)) (line_ready s past f l is small before line).0)

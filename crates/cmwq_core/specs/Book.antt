@@ -18,6 +18,9 @@ use Rattle.cmwq_flush.specs.BarrierBook.{BarrierBook}
 use Rattle.cmwq_timer.specs.Rows.{Rows}
 use Rattle.cmwq_ties.specs.BarrierBooks.{barriers_of}
 use Rattle.cmwq_ties.specs.Timers.{timers_of}
+use Rattle.cmwq_parts.specs.Line.{Lined}
+use Rattle.cmwq_core.specs.Lines.{IsLineOf}
+use Rattle.cmwq_core.specs.Widths.{AreWidths}
 use Rattle.cmwq_core.specs.Tables.{ArePools, AreBooks, AreSerials}
 
 -- what callers of a book see
@@ -34,6 +37,9 @@ pub record Parts : Type 0 where
   pub timers : Rows
   pub time : ℕ
   pub serials : List ℕ
+  pub line : Lined
+  pub most : List ℕ
+  pub frozen : Bool
   pub owing : ℕ
 
 -- what each part is of the past
@@ -44,6 +50,8 @@ pub record AreParts (s : Layout) (past : List Entry) (parts : Parts) : Type 0 wh
   pub timers : parts.timers ≡ timers_of s past
   pub time : parts.time ≡ now past
   pub serials : AreSerials s past parts.serials
+  pub line : IsLineOf s past parts.line
+  pub widths : AreWidths s past parts.most parts.frozen
   pub owing : parts.owing ≡ owed s past
 
 pub record IsBook (s : Layout) (room : ℕ) (entries : List Entry) (capacity : ℕ) (parts : Parts) : Type 0 where

@@ -6,7 +6,6 @@ use Rattle.cmwq_model.specs.Layout.{Layout}
 use Rattle.cmwq_model.specs.Calls.{item_of}
 use Rattle.cmwq_model.specs.Bookings.{settles, booking_of}
 use Rattle.cmwq_model.specs.Queueings.{opening}
-use Rattle.cmwq_model.specs.Active.{newly_active}
 use Rattle.cmwq_model.specs.Legal.{IsLegal}
 use Rattle.cmwq_model.specs.Room.{owed}
 use Rattle.cmwq_steps.specs.Endings.{ending}
@@ -30,7 +29,3 @@ pub record IsEffect (s : Layout) (past : List Entry) (f : Effect) : Type 0 where
   pub settled : item_number f.settled ≡ settled_by f.entry
   pub booked : f.booked ≡ booking_of f.entry (length past)
   pub owing : f.owing ≡ owed s (f.entry ∷ past)
-  -- of this trial alone: nothing becomes active, and no wait begins or ends
-  pub no_done : ticket_ended past f.entry ≡ None
-  pub no_begun : ticket_given past f.entry ≡ None
-  pub newly : newly_active s past f.entry ≡ []

@@ -1,6 +1,6 @@
 ghost use Rattle.std.specs.Prelude.{◌≡◌, ◌<◌, ◌≤◌, ◌+◌, ◌∷◌, ◌&&◌, ◌^◌, [], true, length, nat_le, is_ok, Ok, Err, IfOk, OnErr, IsTrue, option_map};
 ghost use Rattle.cmwq_model.specs.declared.id.Who.TheVariants.{Worker};
-ghost use Rattle.cmwq_model.specs.Layout.{fits, layout_of};
+ghost use Rattle.cmwq_model.specs.Layout.{fits, is_layout, layout_of};
 ghost use Rattle.cmwq_model.specs.Calls as calls;
 ghost use Rattle.cmwq_model.specs.Runs as runs;
 ghost use Rattle.cmwq_model.specs.Workers as workers;
@@ -14,11 +14,12 @@ ghost use Rattle.cmwq_core.specs.Tables as tables;
 ghost use Rattle.cmwq_core.specs.Effects.{IsEffect};
 ghost use Rattle.cmwq_core.specs.Book as kept;
 
-use crate::new::{new_books, new_pools, new_serials};
+use crate::new::{new_books, new_most, new_pools, new_serials};
 use crate::effect::Effect;
-use crate::tables::{pool_place, tell_barriers, tell_cancelled, tell_ended, tell_opened, tell_timers, tell_worker, who_place};
+use crate::tables::{frozen_after, list_active, pool_place, tell_barrier_begun, tell_barrier_done, tell_barriers, tell_begun, tell_cancelled, tell_done, tell_ended, tell_line, tell_opened, tell_timers, tell_width, tell_worker, who_place};
 use cmwq_flush::{Barriers, Flushes};
 use cmwq_model::{Call, Counts, Entry, NoMemory, Number, PoolId, QueueShape, Reply, Shape, Who, WorkerId};
+use cmwq_parts::Line;
 use cmwq_pool::{Pool, Seat};
 use cmwq_timer::Timers;
 use std::alloc::Global;
@@ -41,6 +42,9 @@ pub struct Book {
     timers: Timers,
     time: u64,
     serials: Vec<u32>,
+    line: Line,
+    most: Vec<u32>,
+    frozen: bool,
     owing: u32,
 }
 
@@ -54,7 +58,7 @@ impl Model for Book {
     ghost view = { λ b. record { layout = layout_of b.counts b.queues.items; room = b.room; entries = b.entries.items } };
 
     ghost invariant = { λ b. IsBook (layout_of b.counts b.queues.items) b.room b.entries.items (vec_capacity b.entries)
-        (record { pools = b.pools.items; books = b.books.items; barriers = b.barriers; timers = b.timers; time = b.time; serials = b.serials.items; owing = b.owing }) };
+        (record { pools = b.pools.items; books = b.books.items; barriers = b.barriers; timers = b.timers; time = b.time; serials = b.serials.items; line = b.line; most = b.most.items; frozen = b.frozen; owing = b.owing }) };
 }
 
 fn ticks_of(call: Call) -> u32
@@ -73,14 +77,23 @@ impl Book {
         requires { room ≤ 1010000 }
         ensures { IfOk result (λ book. book ≡ record { layout = shape.now; room = room; entries = [] }) }
     {
-        let counts = shape.counts();
-        let queues = shape.queues().to_vec(alloc)?;
+        Book::start(alloc, shape.counts(), shape.queues().to_vec(alloc)?, room)
+    }
+
+    fn start(alloc: Global, counts: Counts, queues: Vec<QueueShape>, room: u32) -> Result<Book, NoMemory>
+        requires inside { is_layout (layout_of counts queues.items) ≡ true }
+        requires few { room ≤ 1010000 }
+        ensures { IfOk result (λ book. book ≡ record { layout = layout_of counts queues.items; room = room; entries = [] }) }
+    {
+        let many = queues.len();
         let entries = Vec::with_capacity(alloc, room as usize)?;
         let pools = new_pools(alloc, counts.cpus, counts.items, counts.workers)?;
-        let books = new_books(alloc, queues.len(), counts.callers)?;
+        let books = new_books(alloc, many, counts.callers)?;
         let barriers = Barriers::new(alloc, counts.items, counts.callers)?;
         let timers = Timers::new(alloc, counts.items)?;
         let serials = new_serials(alloc)?;
+        let line = Line::new(alloc, many, 2 * counts.items)?;
+        let most = new_most(alloc, &queues)?;
         Ok(Book {
             counts,
             queues,
@@ -92,6 +105,9 @@ impl Book {
             timers,
             time: 0,
             serials,
+            line,
+            most,
+            frozen: false,
             owing: 0,
         })
     }
@@ -379,9 +395,18 @@ impl Book {
         let entry = effect.entry;
         tell_worker(&mut self.pools, entry.who, entry.reply);
         tell_cancelled(&self.queues, &mut self.pools, entry.reply, effect.ended);
+        tell_width(&mut self.most, entry.call, entry.reply);
+        self.frozen = frozen_after(entry.reply, self.frozen);
+        tell_line(&mut self.line, effect.ended, effect.opened);
+        self.line.pass(&self.queues, &self.most, self.frozen);
+        list_active(&self.queues, &mut self.pools, self.line.promoted());
         tell_ended(&mut self.books, effect.ended);
         tell_opened(&mut self.books, effect.opened);
+        tell_done(&mut self.books, effect.done);
+        tell_begun(&mut self.books, effect.begun);
         tell_barriers(&mut self.barriers, effect.ended, effect.opened);
+        tell_barrier_done(&mut self.barriers, effect.done);
+        tell_barrier_begun(&mut self.barriers, effect.begun);
         tell_timers(&mut self.timers, effect.settled, effect.booked);
         self.time += u64::from(ticks_of(entry.call));
         self.serials[who_place(entry.who)] = entry.serial + 1;

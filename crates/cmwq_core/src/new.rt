@@ -1,12 +1,12 @@
 //! The parts of a new book.
 
-ghost use Rattle.std.specs.Prelude.{◌≡◌, ◌*◌, ◌<◌, ◌≤◌, IfOk, IsTrue, replicate, vec_capacity};
+ghost use Rattle.std.specs.Prelude.{◌≡◌, ◌*◌, ◌<◌, ◌≤◌, IfOk, IsTrue, map, replicate, vec_capacity};
 ghost use Rattle.cmwq_model.specs.Layout.{is_between};
 ghost use Rattle.cmwq_pool.specs.Lineup.{new_lineup};
 ghost use Rattle.cmwq_flush.specs.FlushBook.{new_book};
 
 use cmwq_flush::Flushes;
-use cmwq_model::NoMemory;
+use cmwq_model::{NoMemory, QueueShape};
 use cmwq_pool::Pool;
 use std::alloc::Global;
 
@@ -39,4 +39,14 @@ pub(crate) fn new_serials(alloc: Global) -> Result<Vec<u32>, NoMemory>
     ensures { IfOk result (λ serials. serials.items ≡ replicate 128 0) }
 {
     Ok(vec![in alloc; 0; 128]?)
+}
+
+/// The max_active of each queue at first.
+pub(crate) fn new_most(alloc: Global, queues: &[QueueShape]) -> Result<Vec<u32>, NoMemory>
+    ensures { IfOk result (λ most. most.items ≡ map (λ q. q.max_active) queues.now) }
+{
+    Ok(queues
+        .iter()
+        .map(|queue| u32::from(queue.max_active))
+        .collect(alloc)?)
 }

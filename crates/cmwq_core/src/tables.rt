@@ -10,9 +10,13 @@ ghost use Rattle.cmwq_model.specs.declared.entry.Entry.{Entry};
 ghost use Rattle.cmwq_ties.specs.Timers as timed;
 ghost use Rattle.cmwq_core.specs.Effects as effects;
 ghost use Rattle.cmwq_core.specs.Tables as tables;
+ghost use Rattle.cmwq_core.specs.Lines as lines;
+ghost use Rattle.cmwq_core.specs.Widths as widths;
+ghost use Rattle.cmwq_model.specs.Widths.{frozen_after};
 
 use cmwq_flush::{Barriers, Flushes};
 use cmwq_model::{Booking, Call, ItemId, Number, Place, PoolId, QueueShape, Queueing, Reply, Ticket, Who};
+use cmwq_parts::Line;
 use cmwq_pool::Pool;
 use cmwq_timer::Timers;
 
@@ -226,5 +230,42 @@ pub(crate) fn list_active(queues: &[QueueShape], pools: &mut Vec<Pool>, promoted
 {
     for queueing in promoted {
         list_one(queues, pools, *queueing);
+    }
+}
+
+/// Tells the queues' max_active of what a set_max was answered.
+pub(crate) fn tell_width(most: &mut Vec<u32>, call: Call, reply: Reply)
+    requires { widths.MayTellWidth call most.old.items }
+    ensures { widths.TellWidth call reply most.old.items most.new.items }
+{
+    if let Call::SetMax { queue, .. } = call {
+        if let Reply::Width(width) = reply {
+            most[usize::from(queue.0)] = width;
+        }
+    }
+}
+
+/// Whether the system is frozen after this reply.
+pub(crate) fn frozen_after(reply: Reply, frozen: bool) -> bool
+    ensures { result ≡ frozen_after reply frozen }
+{
+    match reply {
+        Reply::Frozen => true,
+        Reply::Thawed => false,
+        _ => frozen,
+    }
+}
+
+/// Tells what waits of a queueing that ended, and of one that was opened.
+pub(crate) fn tell_line(line: &mut Line, ended: Option<Queueing>, opened: Option<Queueing>)
+    requires ended { lines.MayEnd ended line.old }
+    requires opened { lines.MayOpen opened (lines.told_ended ended line.old) }
+    ensures { line.new ≡ lines.told_opened opened (lines.told_ended ended line.old) }
+{
+    if let Some(queueing) = ended {
+        line.end(queueing);
+    }
+    if let Some(queueing) = opened {
+        line.open(queueing);
     }
 }

@@ -1,0 +1,23 @@
+-- The widths of a book follow a history: max_active of each queue, and whether the freezable ones are frozen.
+use Rattle.std.specs.Prelude.{◌≡◌, ℕ, ◌<◌, Bool, if◌then◌else◌, List, length, Option, None, slice_index}
+use Rattle.std.specs.Option.{option_map_or}
+use Rattle.cmwq_model.specs.declared.call.Call.{Call}
+use Rattle.cmwq_model.specs.declared.call.Call.TheVariants as call
+use Rattle.cmwq_model.specs.declared.reply.Reply.{Reply}
+use Rattle.cmwq_model.specs.declared.entry.Entry.{Entry}
+use Rattle.cmwq_model.specs.Layout.{Layout}
+use Rattle.cmwq_model.specs.Widths.{max_active, is_frozen, sets_max, width_told}
+
+pub record AreWidths (s : Layout) (past : List Entry) (most : List ℕ) (stopped : Bool) : Type 0 where
+  pub many : length most ≡ length s.queues
+  pub each : (q : ℕ) → q < length s.queues → slice_index most q ≡ max_active s past q
+  pub frozen : stopped ≡ is_frozen past
+
+-- they are told of a call and its reply
+abbrev pub MayTellWidth : Call → List ℕ → Type 0
+MayTellWidth (call.SetMax q n) most = q.0 < length most
+MayTellWidth c most = Unit {0}
+
+pub record TellWidth (c : Call) (r : Reply) (old new : List ℕ) : Type 0 where
+  pub many : length new ≡ length old
+  pub each : (q : ℕ) → slice_index new q ≡ option_map_or (λ n. n) (if sets_max c q then width_told r else None) (slice_index old q)
