@@ -6,6 +6,7 @@ use Rattle.cmwq_model.specs.declared.entry.Entry.{Entry}
 use Rattle.cmwq_model.specs.Layout.{Layout, is_layout, fits}
 use Rattle.cmwq_model.specs.Calls.{item_of, serial_of, ticks_told}
 use Rattle.cmwq_model.specs.Bookings.{settles, booking_of, booked_by}
+use Rattle.cmwq_model.specs.Queueings.{queueing_at}
 use Rattle.cmwq_model.specs.Legal.{IsLegal, past_of, entry_for}
 use Rattle.cmwq_model.specs.Room.{owed}
 use Rattle.cmwq_pool.specs.Lineup.{Lineup}
@@ -47,12 +48,13 @@ told_book s room entries capacity old new f b is told ticks within =
       soon = rw (one_more, told.time) (omega arith);
     }
 
-pub quiet_effect : (s : Layout) (past : List Entry) (f : Effect) → IsLegal s (f.entry ∷ past) → SaysNothing f.entry.reply → f.ended ≡ None → f.opened ≡ None → f.done ≡ None → f.begun ≡ None → f.settled ≡ None → f.booked ≡ None → f.owing ≡ owed s (f.entry ∷ past) → IsEffect s past f
-quiet_effect s past f legal says ended opened done begun settled booked owing =
+pub quiet_effect : (s : Layout) (past : List Entry) (f : Effect) → IsLegal s (f.entry ∷ past) → SaysNothing f.entry.reply → f.ended ≡ None → f.started ≡ None → f.opened ≡ None → f.done ≡ None → f.begun ≡ None → f.settled ≡ None → f.booked ≡ None → f.owing ≡ owed s (f.entry ∷ past) → IsEffect s past f
+quiet_effect s past f legal says ended started opened done begun settled booked owing =
     let q = quiet s past f.entry legal says in
     record {
       legal = legal;
       ended = ended ∙ sym q.ending;
+      started = started ∙ sym (ap (option_and_then (queueing_at past)) says.started);
       opened = opened ∙ sym q.opening;
       done = done ∙ sym q.done;
       begun = begun ∙ sym q.begun;

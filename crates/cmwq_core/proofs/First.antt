@@ -1,6 +1,6 @@
 -- The parts of a new book are those of no entries.
-use Rattle.std.proofs.Common.{◌≡◌, ℕ, ◌+◌, ◌*◌, ◌<◌, ◌≤◌, Bool, true, false, List, [], length, replicate, refl, sym, ap, ◌∙◌, arith, Some, None, subst}
-use Rattle.std.specs.Prelude.{slice_index_or}
+use Rattle.std.proofs.Common.{◌≡◌, ℕ, ◌+◌, ◌*◌, ◌<◌, ◌≤◌, Bool, true, false, List, [], length, replicate, refl, sym, ap, ◌∙◌, arith, Some, None, subst, get_or}
+use Rattle.std.specs.Prelude.{slice_index, slice_index_or}
 use Rattle.std.proofs.lemmas.List.{get_or-replicate, length-replicate}
 use Rattle.cmwq_model.specs.declared.id.PoolId.{PoolId}
 use Rattle.cmwq_model.specs.declared.id.Who.{Who}
@@ -23,6 +23,13 @@ use Rattle.cmwq_core.specs.Tables.{IsThere, pool_place, no_pool, no_book, who_pl
 use Rattle.cmwq_model.specs.Queueings.{queueings}
 use Rattle.cmwq_steps.specs.Places.{active_count}
 use Rattle.cmwq_timer.specs.Rows.{Rows}
+use Rattle.cmwq_model.specs.Runs.{item_start}
+use Rattle.cmwq_model.specs.Tickets.{tickets, is_gone}
+use Rattle.cmwq_parts.specs.Held.{Held, new_held}
+use Rattle.cmwq_parts.specs.Flights.{no_flight, new_flights}
+use Rattle.cmwq_parts.specs.declared.flights.Flight.{Flight}
+use Rattle.cmwq_core.specs.Flights.{AreFlights}
+use Rattle.cmwq_core.specs.Holdings.{AreHeld}
 use Rattle.cmwq_parts.specs.Line.{Lined, new_lined, place_of}
 use Rattle.cmwq_parts.proofs.Passes.{place_inside}
 use Rattle.cmwq_core.specs.Lines.{IsLineOf}
@@ -39,6 +46,8 @@ first_parts s = record {
   timers = replicate s.items None;
   time = 0;
   serials = replicate 128 0;
+  flights = new_flights s.items;
+  held = new_held s.callers s.items (length s.queues);
   line = new_lined (length s.queues) (2 * s.items);
   most = first_most s.queues;
   frozen = false;
@@ -52,6 +61,23 @@ nothing_owed s = let within = steps_within_room s 0 [] in omega arith
 first_time : 0 ≡ now []
 unfolding now
 first_time = refl
+
+flights_at_first : (s : Layout) → AreFlights s [] (new_flights s.items)
+unfolding queueings item_start
+flights_at_first s = record { many = length-replicate s.items no_flight; each = λ i here. get_or-replicate s.items i no_flight no_flight here; }
+
+zeros : (n i : ℕ) → i < n → slice_index (replicate n 0) i ≡ 0
+zeros n i here = get_or-replicate n i 0 0 here
+
+held_at_first : (s : Layout) → AreHeld s [] (new_held s.callers s.items (length s.queues))
+unfolding tickets is_gone
+held_at_first s = record {
+  tickets = refl;
+  many_callers = length-replicate s.callers (let n : ℕ = 0 in n); callers = λ c here. zeros s.callers c here;
+  many_cancelling = length-replicate s.items (let n : ℕ = 0 in n); cancelling = λ i here. zeros s.items i here;
+  many_destroying = length-replicate (length s.queues) (let n : ℕ = 0 in n); destroying = λ q here. zeros (length s.queues) q here;
+  many_gone = length-replicate (length s.queues) false; gone = λ q here. get_or-replicate (length s.queues) q false false here;
+}
 
 line_at_first : (s : Layout) → IsLineOf s [] (new_lined (length s.queues) (2 * s.items))
 unfolding active_count queueings
@@ -79,6 +105,8 @@ parts_at_first s small = record {
     many = length-replicate 128 (let n : ℕ = 0 in n);
     each = λ who there. get_or-replicate 128 (who_place who) 0 0 (who_below s who there small.cpus small.workers small.callers);
   };
+  flights = flights_at_first s;
+  held = held_at_first s;
   line = line_at_first s;
   widths = widths_at_first s;
   owing = sym (nothing_owed s);
@@ -93,8 +121,8 @@ book_at_first s room capacity inside few reserved = record {
 }
 
 -- so the parts that are made are those of a book
-pub book_made : (s : Layout) (room capacity : ℕ) (pools : List Lineup) (books : List FlushBook) (barriers : BarrierBook) (timers : Rows) (serials : List ℕ) (line : Lined) (most : List ℕ) → is_layout s ≡ true → room ≤ 1010000 → room ≤ capacity →
+pub book_made : (s : Layout) (room capacity : ℕ) (pools : List Lineup) (books : List FlushBook) (barriers : BarrierBook) (timers : Rows) (serials : List ℕ) (flights : List Flight) (held : Held) (line : Lined) (most : List ℕ) → is_layout s ≡ true → room ≤ 1010000 → room ≤ capacity →
     pools ≡ replicate (2 * s.cpus) (new_lineup s.items s.workers) → books ≡ replicate (length s.queues) (new_book s.callers) → barriers ≡ new_barriers s.items s.callers → timers ≡ replicate s.items None → serials ≡ replicate 128 0 →
-    line ≡ new_lined (length s.queues) (2 * s.items) → most ≡ first_most s.queues →
-    IsBook s room [] capacity (record { pools = pools; books = books; barriers = barriers; timers = timers; time = 0; serials = serials; line = line; most = most; frozen = false; owing = 0 })
-book_made s room capacity pools books barriers timers serials line most inside few reserved p b r t n l m = rw (p, b, r, t, n, l, m) (book_at_first s room capacity inside few reserved)
+    flights ≡ new_flights s.items → held ≡ new_held s.callers s.items (length s.queues) → line ≡ new_lined (length s.queues) (2 * s.items) → most ≡ first_most s.queues →
+    IsBook s room [] capacity (record { pools = pools; books = books; barriers = barriers; timers = timers; time = 0; serials = serials; flights = flights; held = held; line = line; most = most; frozen = false; owing = 0 })
+book_made s room capacity pools books barriers timers serials flights held line most inside few reserved p b r t n g h l m = rw (p, b, r, t, n, g, h, l, m) (book_at_first s room capacity inside few reserved)

@@ -32,7 +32,7 @@ use Rattle.cmwq_core.proofs.Quiet.{SaysNothing, IsQuiet, quiet}
 
 -- ---- serials
 
-same_who_is : (a b : Who) → same_who a b ≡ true → a ≡ b
+pub same_who_is : (a b : Who) → same_who a b ≡ true → a ≡ b
 same_who_is (Caller c) (Caller d) h = grind (arith, common_steps, h)
 same_who_is (Caller c) (Worker v) h = cc
 same_who_is (Worker w) (Caller d) h = cc

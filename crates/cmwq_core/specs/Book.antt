@@ -19,6 +19,10 @@ use Rattle.cmwq_timer.specs.Rows.{Rows}
 use Rattle.cmwq_ties.specs.BarrierBooks.{barriers_of}
 use Rattle.cmwq_ties.specs.Timers.{timers_of}
 use Rattle.cmwq_parts.specs.Line.{Lined}
+use Rattle.cmwq_parts.specs.Held.{Held}
+use Rattle.cmwq_parts.specs.declared.flights.Flight.{Flight}
+use Rattle.cmwq_core.specs.Flights.{AreFlights}
+use Rattle.cmwq_core.specs.Holdings.{AreHeld}
 use Rattle.cmwq_core.specs.Lines.{IsLineOf}
 use Rattle.cmwq_core.specs.Widths.{AreWidths}
 use Rattle.cmwq_core.specs.Tables.{ArePools, AreBooks, AreSerials}
@@ -37,6 +41,8 @@ pub record Parts : Type 0 where
   pub timers : Rows
   pub time : ℕ
   pub serials : List ℕ
+  pub flights : List Flight
+  pub held : Held
   pub line : Lined
   pub most : List ℕ
   pub frozen : Bool
@@ -50,6 +56,8 @@ pub record AreParts (s : Layout) (past : List Entry) (parts : Parts) : Type 0 wh
   pub timers : parts.timers ≡ timers_of s past
   pub time : parts.time ≡ now past
   pub serials : AreSerials s past parts.serials
+  pub flights : AreFlights s past parts.flights
+  pub held : AreHeld s past parts.held
   pub line : IsLineOf s past parts.line
   pub widths : AreWidths s past parts.most parts.frozen
   pub owing : parts.owing ≡ owed s past

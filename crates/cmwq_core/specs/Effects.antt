@@ -11,6 +11,7 @@ use Rattle.cmwq_model.specs.Room.{owed}
 use Rattle.cmwq_steps.specs.Endings.{ending}
 use Rattle.cmwq_steps.specs.TicketSteps.{ticket_ended}
 use Rattle.cmwq_ties.specs.Told.{ticket_given}
+use Rattle.cmwq_core.specs.Flights.{starting}
 use Rattle.cmwq_core.specs.declared.effect.Effect.{Effect}
 
 abbrev pub item_number : Option ItemId → Option ℕ
@@ -23,6 +24,7 @@ settled_by e = if settles e.reply then item_of e else None
 pub record IsEffect (s : Layout) (past : List Entry) (f : Effect) : Type 0 where
   pub legal : IsLegal s (f.entry ∷ past)
   pub ended : f.ended ≡ ending past f.entry
+  pub started : f.started ≡ starting past f.entry
   pub opened : f.opened ≡ opening past f.entry
   pub done : f.done ≡ ticket_ended past f.entry
   pub begun : f.begun ≡ ticket_given past f.entry

@@ -1,4 +1,6 @@
 pub mod Tables
+pub mod Flights
+pub mod Holdings
 pub mod Lines
 pub mod Widths
 pub mod Book

@@ -16,10 +16,10 @@ ghost use Rattle.cmwq_core.specs.Book as kept;
 
 use crate::new::{new_books, new_most, new_pools, new_serials};
 use crate::effect::Effect;
-use crate::tables::{frozen_after, list_active, pool_place, tell_barrier_begun, tell_barrier_done, tell_barriers, tell_begun, tell_cancelled, tell_done, tell_ended, tell_line, tell_opened, tell_timers, tell_width, tell_worker, who_place};
+use crate::tables::{frozen_after, list_active, pool_place, tell_barrier_begun, tell_barrier_done, tell_barriers, tell_begun, tell_cancelled, tell_done, tell_ended, tell_flights, tell_line, tell_opened, tell_ticket_begin, tell_ticket_end, tell_timers, tell_width, tell_worker, who_place};
 use cmwq_flush::{Barriers, Flushes};
 use cmwq_model::{Call, Counts, Entry, NoMemory, Number, PoolId, QueueShape, Reply, Shape, Who, WorkerId};
-use cmwq_parts::Line;
+use cmwq_parts::{Flights, Line, Tickets};
 use cmwq_pool::{Pool, Seat};
 use cmwq_timer::Timers;
 use std::alloc::Global;
@@ -42,6 +42,8 @@ pub struct Book {
     timers: Timers,
     time: u64,
     serials: Vec<u32>,
+    flights: Flights,
+    tickets: Tickets,
     line: Line,
     most: Vec<u32>,
     frozen: bool,
@@ -58,7 +60,7 @@ impl Model for Book {
     ghost view = { λ b. record { layout = layout_of b.counts b.queues.items; room = b.room; entries = b.entries.items } };
 
     ghost invariant = { λ b. IsBook (layout_of b.counts b.queues.items) b.room b.entries.items (vec_capacity b.entries)
-        (record { pools = b.pools.items; books = b.books.items; barriers = b.barriers; timers = b.timers; time = b.time; serials = b.serials.items; line = b.line; most = b.most.items; frozen = b.frozen; owing = b.owing }) };
+        (record { pools = b.pools.items; books = b.books.items; barriers = b.barriers; timers = b.timers; time = b.time; serials = b.serials.items; flights = b.flights; held = b.tickets; line = b.line; most = b.most.items; frozen = b.frozen; owing = b.owing }) };
 }
 
 fn ticks_of(call: Call) -> u32
@@ -92,6 +94,8 @@ impl Book {
         let barriers = Barriers::new(alloc, counts.items, counts.callers)?;
         let timers = Timers::new(alloc, counts.items)?;
         let serials = new_serials(alloc)?;
+        let flights = Flights::new(alloc, counts.items)?;
+        let tickets = Tickets::new(alloc, counts.callers, counts.items, many)?;
         let line = Line::new(alloc, many, 2 * counts.items)?;
         let most = new_most(alloc, &queues)?;
         Ok(Book {
@@ -105,6 +109,8 @@ impl Book {
             timers,
             time: 0,
             serials,
+            flights,
+            tickets,
             line,
             most,
             frozen: false,
@@ -355,6 +361,7 @@ impl Book {
                 reply,
             },
             ended: None,
+            started: None,
             opened: None,
             done: None,
             begun: None,
@@ -407,6 +414,9 @@ impl Book {
         tell_barriers(&mut self.barriers, effect.ended, effect.opened);
         tell_barrier_done(&mut self.barriers, effect.done);
         tell_barrier_begun(&mut self.barriers, effect.begun);
+        tell_flights(&mut self.flights, effect.ended, effect.started, effect.opened);
+        tell_ticket_end(&mut self.tickets, effect.done);
+        tell_ticket_begin(&mut self.tickets, effect.begun);
         tell_timers(&mut self.timers, effect.settled, effect.booked);
         self.time += u64::from(ticks_of(entry.call));
         self.serials[who_place(entry.who)] = entry.serial + 1;

@@ -4,8 +4,9 @@ use cmwq_model::{Booking, Entry, ItemId, Queueing, Ticket};
 #[derive(Clone, Copy)]
 pub(crate) struct Effect {
     pub entry: Entry,
-    /// The queueing that it ends, and the one that it opens.
+    /// The queueing that it ends, the one that it starts, and the one that it opens.
     pub ended: Option<Queueing>,
+    pub started: Option<Queueing>,
     pub opened: Option<Queueing>,
     /// The ticket that it ends, and the one that it gives.
     pub done: Option<Ticket>,

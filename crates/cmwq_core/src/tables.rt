@@ -10,13 +10,15 @@ ghost use Rattle.cmwq_model.specs.declared.entry.Entry.{Entry};
 ghost use Rattle.cmwq_ties.specs.Timers as timed;
 ghost use Rattle.cmwq_core.specs.Effects as effects;
 ghost use Rattle.cmwq_core.specs.Tables as tables;
+ghost use Rattle.cmwq_core.specs.Flights as rows;
+ghost use Rattle.cmwq_core.specs.Holdings as holdings;
 ghost use Rattle.cmwq_core.specs.Lines as lines;
 ghost use Rattle.cmwq_core.specs.Widths as widths;
 ghost use Rattle.cmwq_model.specs.Widths.{frozen_after};
 
 use cmwq_flush::{Barriers, Flushes};
 use cmwq_model::{Booking, Call, ItemId, Number, Place, PoolId, QueueShape, Queueing, Reply, Ticket, Who};
-use cmwq_parts::Line;
+use cmwq_parts::{Flights, Line, Tickets};
 use cmwq_pool::Pool;
 use cmwq_timer::Timers;
 
@@ -267,5 +269,43 @@ pub(crate) fn tell_line(line: &mut Line, ended: Option<Queueing>, opened: Option
     }
     if let Some(queueing) = opened {
         line.open(queueing);
+    }
+}
+
+/// Tells the flights of a queueing that ended, of one that started, and of one that was opened.
+pub(crate) fn tell_flights(flights: &mut Flights, ended: Option<Queueing>, started: Option<Queueing>, opened: Option<Queueing>)
+    requires ended { rows.IsRow ended flights.old }
+    requires started { rows.IsRow started flights.old }
+    requires opened { rows.IsRow opened flights.old }
+    ensures { rows.TellFlights ended started opened flights.old flights.new }
+{
+    if let Some(queueing) = ended {
+        flights.end(queueing);
+    }
+    if let Some(queueing) = started {
+        flights.start(queueing);
+    }
+    if let Some(queueing) = opened {
+        flights.open(queueing);
+    }
+}
+
+/// Tells the tickets of a wait that ended.
+pub(crate) fn tell_ticket_end(tickets: &mut Tickets, done: Option<Ticket>)
+    requires { holdings.MayEnd done tickets.old }
+    ensures { holdings.TellEnd done tickets.old tickets.new }
+{
+    if let Some(ticket) = done {
+        tickets.end(ticket);
+    }
+}
+
+/// Tells the tickets of a wait that began.
+pub(crate) fn tell_ticket_begin(tickets: &mut Tickets, begun: Option<Ticket>)
+    requires { holdings.MayBegin begun tickets.old }
+    ensures { holdings.TellBegin begun tickets.old tickets.new }
+{
+    if let Some(ticket) = begun {
+        tickets.begin(ticket);
     }
 }

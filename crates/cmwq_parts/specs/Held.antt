@@ -1,5 +1,5 @@
 -- The unended tickets, how many there are of each caller, and which items are being cancelled and which queues destroyed.
-use Rattle.std.specs.Prelude.{◌≡◌, ℕ, ◌+◌, ◌*◌, ◌-◌, ◌<◌, ◌≤◌, Bool, true, false, not, ◌==◌, ◌&&◌, if◌then◌else◌, List, [], ◌∷◌, ◌++◌, length, filter, replicate, Option, Some, None, slice_index, slice_index_or}
+use Rattle.std.specs.Prelude.{◌≡◌, ℕ, ◌+◌, ◌*◌, ◌^◌, ◌-◌, ◌<◌, ◌≤◌, Bool, true, false, not, ◌==◌, ◌&&◌, if◌then◌else◌, List, [], ◌∷◌, ◌++◌, length, filter, replicate, Option, Some, None, slice_index, slice_index_or}
 use Rattle.cmwq_model.specs.declared.call.Call.{Call}
 use Rattle.cmwq_model.specs.declared.call.Call.TheVariants as call
 use Rattle.cmwq_model.specs.declared.record.Ticket.{Ticket}
@@ -55,9 +55,9 @@ pub record MayBeginTicket (h : Held) (t : Ticket) : Type 0 where
   pub caller : t.caller.0 < length h.callers
   pub inside : IsInside h t.call
   pub room : length h.unended < 64 * length h.callers
-  pub few_callers : (c : ℕ) → slice_index h.callers c ≤ length h.unended
-  pub few_cancelling : (i : ℕ) → slice_index h.cancelling i ≤ length h.unended
-  pub few_destroying : (q : ℕ) → slice_index h.destroying q ≤ length h.unended
+  pub few_callers : slice_index h.callers t.caller.0 < 2 ^ 31
+  pub few_cancelling : (i : ℕ) → cancels_sync i t.call ≡ true → slice_index h.cancelling i < 2 ^ 31
+  pub few_destroying : (q : ℕ) → destroys q t.call ≡ true → slice_index h.destroying q < 2 ^ 31
 
 pub record BeginsTicket (t : Ticket) (old new : Held) : Type 0 where
   pub unended : new.unended ≡ old.unended ++ t ∷ []

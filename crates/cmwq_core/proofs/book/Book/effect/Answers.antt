@@ -15,4 +15,4 @@ returns-clause-is c =
     let next : e ≡ entry_for s past c.args.who c.args.call = rw (c.serial-serial.ensures, c.answer-reply.ensures) refl in
     let legal : IsLegal s (e ∷ past) = subst (λ (x : Entry). IsLegal s (x ∷ past)) (sym next) (next_legal s past c.args.who c.args.call c.owed_after.ensures.legal c.requires.fit) in
     let says : SaysNothing e.reply = subst SaysNothing (sym c.answer-reply.ensures) (answer_quiet s past c.args.who c.args.call c.requires.known) in
-    quiet_effect s past _ legal says refl refl refl refl refl refl (c.owed_after.ensures.owed ∙ ap (λ (x : Entry). owed s (x ∷ past)) (sym next))
+    quiet_effect s past _ legal says refl refl refl refl refl refl refl (c.owed_after.ensures.owed ∙ ap (λ (x : Entry). owed s (x ∷ past)) (sym next))
