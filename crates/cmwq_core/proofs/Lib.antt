@@ -8,5 +8,6 @@ pub mod LineSteps
 pub mod FlightSteps
 pub mod HoldingSteps
 pub mod WidthSteps
+pub mod Readings
 pub mod Told
 pub mod Appended

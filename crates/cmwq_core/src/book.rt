@@ -9,10 +9,12 @@ ghost use Rattle.cmwq_model.specs.Active as active;
 ghost use Rattle.cmwq_ties.specs.Told.{number_of_queueing};
 ghost use Rattle.cmwq_model.specs.Legal.{past_of, IsLegal};
 ghost use Rattle.cmwq_model.specs.Room.{owed};
-ghost use Rattle.cmwq_ties.specs.Pools.{IsSeatOf, pool_of};
+ghost use Rattle.cmwq_ties.specs.Pools.{IsSeatOf, pool_of, run_task};
 ghost use Rattle.cmwq_core.specs.Tables as tables;
 ghost use Rattle.cmwq_core.specs.Effects.{IsEffect};
 ghost use Rattle.cmwq_core.specs.Book as kept;
+
+mod reads;
 
 use crate::new::{new_books, new_most, new_pools, new_serials};
 use crate::effect::Effect;
@@ -150,7 +152,9 @@ impl Book {
 
     fn seat(&self, worker: WorkerId) -> Seat
         requires { tables.IsThere self.now.layout (Worker worker) }
-        ensures { IsSeatOf (past_of self.now.entries) worker result }
+        ensures is { IsSeatOf (past_of self.now.entries) worker result }
+        ensures task { result.run ≡ run_task self.now.layout (past_of self.now.entries) worker }
+        ensures legal { IsLegal self.now.layout (past_of self.now.entries) }
     {
         self.pool(worker.pool).seat(worker.index)
     }
