@@ -14,6 +14,7 @@ ghost use Rattle.cmwq_core.specs.Tables as tables;
 ghost use Rattle.cmwq_core.specs.Effects.{IsEffect};
 ghost use Rattle.cmwq_core.specs.Book as kept;
 
+mod answers;
 mod reads;
 
 use crate::new::{new_books, new_most, new_pools, new_serials};

@@ -8,7 +8,8 @@ ghost use Rattle.cmwq_model.specs.Queueings as queueings;
 ghost use Rattle.cmwq_model.specs.Runs as runs;
 ghost use Rattle.cmwq_model.specs.Tickets as waits;
 ghost use Rattle.cmwq_model.specs.Widths as widths;
-ghost use Rattle.cmwq_model.specs.Answer.{is_shut, may_call, runs_on};
+ghost use Rattle.cmwq_model.specs.Answer.{is_booked_on, is_shut, may_call, runs_on};
+ghost use Rattle.std.specs.List.{list_any};
 ghost use Rattle.cmwq_steps.specs.ItemQueueings.{queueing_run};
 ghost use Rattle.cmwq_ties.specs.Timers.{row_of};
 ghost use Rattle.cmwq_core.specs.Flights.{flight_of};
@@ -45,7 +46,8 @@ impl Book {
     /// The timer of an item's booking.
     pub(crate) fn timer(&self, item: ItemId) -> Option<Timer>
         requires { item.0 < self.now.layout.items }
-        ensures { result ≡ row_of (past_of self.now.entries) item.0 }
+        ensures is { result ≡ row_of (past_of self.now.entries) item.0 }
+        ensures legal { IsLegal self.now.layout (past_of self.now.entries) }
     {
         self.timers.timer(item)
     }
@@ -172,5 +174,13 @@ impl Book {
         ensures { result ≡ is_shut (past_of self.now.entries) who queue.0 ticks }
     {
         self.is_draining(queue) && (!self.runs_on(who, queue) || 0 < ticks)
+    }
+
+    /// Whether an item is booked on the queue.
+    pub(crate) fn is_booked_on(&self, queue: QueueId) -> bool
+        requires { queue.0 < length self.now.layout.queues }
+        ensures { result ≡ list_any (is_booked_on queue.0) (bookings.standing (past_of self.now.entries)) }
+    {
+        self.timers.is_booked_on(queue)
     }
 }

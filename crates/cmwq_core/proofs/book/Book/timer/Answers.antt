@@ -9,6 +9,6 @@ pub timer-requires : goal.timer-requires
 timer-requires c = let b = c.self.inside in let here = rw (← c.self.view_is) at c.requires in
     rw (c.self.invariant.parts_are.timers, rows_for_items (layout_of b.counts b.queues.items) (past_of b.entries.items)) here
 
-pub returns : goal.returns
-returns c = let b = c.self.inside in let here = rw (← c.self.view_is) at c.requires in
+pub returns-clause-is : goal.returns-clause-is
+returns-clause-is c = let b = c.self.inside in let here = rw (← c.self.view_is) at c.requires in
     rw (← c.self.view_is) (c.timer.ensures ∙ (ap (λ (rows : Rows). timer_of rows c.args.item.0) c.self.invariant.parts_are.timers ∙ row_at (layout_of b.counts b.queues.items) (past_of b.entries.items) c.args.item.0 here))
