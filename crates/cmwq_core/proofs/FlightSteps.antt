@@ -95,17 +95,20 @@ module _ (s : Layout) (past : List Entry) (e : Entry) (legal : IsLegal s (e ∷ 
 
   -- ---- an entry that starts one
 
-  record Started (n : ℕ) : Type 0 where
-    queueing : Queueing
-    number : queueing.number ≡ n
-    is_unstarted : unstarted past queueing.item.0 ≡ Some queueing
-    stands : In queueing (still_open past)
-    is_starting : starting past e ≡ Some queueing
-    ends_nothing : ending past e ≡ None
-    opens_nothing : opening past e ≡ None
-    spares : (y : Queueing) → In y (still_open past) → is_spared past e y ≡ true
-    starts_its : (i : ℕ) → starts_item past e i ≡ (queueing.item.0 == i)
-    starts_it : (start : Start) → start_in e ≡ Some start → start.number ≡ n
+  pub record Started (n : ℕ) : Type 0 where
+    pub queueing : Queueing
+    pub number : queueing.number ≡ n
+    pub is_unstarted : unstarted past queueing.item.0 ≡ Some queueing
+    pub stands : In queueing (still_open past)
+    pub is_starting : starting past e ≡ Some queueing
+    pub worker : WorkerId
+    pub by_worker : e.who ≡ Worker worker
+    pub is_next : next s past worker.pool ≡ Some queueing
+    pub ends_nothing : ending past e ≡ None
+    pub opens_nothing : opening past e ≡ None
+    pub spares : (y : Queueing) → In y (still_open past) → is_spared past e y ≡ true
+    pub starts_its : (i : ℕ) → starts_item past e i ≡ (queueing.item.0 == i)
+    pub starts_it : (start : Start) → start_in e ≡ Some start → start.number ≡ n
 
   unstarted_stands : (i : ℕ) (y : Queueing) → unstarted past i ≡ Some y → In y (still_open past) × (y.item.0 ≡ i) × (is_started past y.number ≡ false)
   unstarted_stands i y h =
@@ -125,7 +128,7 @@ module _ (s : Layout) (past : List Entry) (e : Entry) (legal : IsLegal s (e ∷ 
       which (ends_none is all) = of_in (λ z. is_spared past e z ≡ true) (still_open past) y all here
       which (ends_one x is there all) = let bad : None ≡ Some x = sym none ∙ is in cc
 
-  is_start : (n : ℕ) → number_started e.reply ≡ Some n → Started n
+  pub is_start : (n : ℕ) → number_started e.reply ≡ Some n → Started n
   is_start n h =
       let st = starts_next s past e n legal h in
       let x = st.queueing in
@@ -143,6 +146,7 @@ module _ (s : Layout) (past : List Entry) (e : Entry) (legal : IsLegal s (e ∷ 
         is_unstarted = un;
         stands = stands;
         is_starting = ap (option_and_then (queueing_at past)) h ∙ at_n;
+        worker = st.worker; by_worker = st.by_worker; is_next = st.is_next;
         ends_nothing = none.0;
         opens_nothing = none.1;
         spares = all_spared none.0;

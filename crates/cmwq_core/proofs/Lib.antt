@@ -9,5 +9,6 @@ pub mod FlightSteps
 pub mod HoldingSteps
 pub mod WidthSteps
 pub mod Readings
+pub mod Effecting
 pub mod Told
 pub mod Appended

@@ -1,5 +1,5 @@
 -- A book's value, and what its parts are of the past.
-use Rattle.std.specs.Prelude.{◌≡◌, ℕ, ◌+◌, ◌*◌, ◌^◌, ◌≤◌, true, false, Bool, List, [], ◌∷◌, ◌++◌, length, nat_le, IsTrue}
+use Rattle.std.specs.Prelude.{◌≡◌, ℕ, ◌<◌, ◌+◌, ◌*◌, ◌^◌, ◌≤◌, true, false, Bool, List, [], ◌∷◌, ◌++◌, length, nat_le, IsTrue}
 use Rattle.cmwq_model.specs.declared.id.Who.{Who}
 use Rattle.cmwq_model.specs.declared.id.Who.TheVariants.{Caller, Worker}
 use Rattle.cmwq_model.specs.declared.call.Call.{Call}
@@ -88,3 +88,24 @@ is_known call.Sleep = true
 is_known call.Wake = true
 is_known call.Retire = true
 is_known c = false
+
+-- the numbers of the call are inside the layout
+abbrev pub IsCallInside : Layout → Call → Type 0
+IsCallInside s (call.Queue i q c) = (i.0 < s.items) × (q.0 < length s.queues)
+IsCallInside s (call.Delay i q c t) = (i.0 < s.items) × (q.0 < length s.queues)
+IsCallInside s (call.Modify i q c t) = (i.0 < s.items) × (q.0 < length s.queues)
+IsCallInside s (call.Cancel i) = i.0 < s.items
+IsCallInside s (call.Flush q) = q.0 < length s.queues
+IsCallInside s (call.Drain q) = q.0 < length s.queues
+IsCallInside s (call.FlushItem i) = i.0 < s.items
+IsCallInside s (call.FlushDelayed i) = i.0 < s.items
+IsCallInside s (call.CancelSync i) = i.0 < s.items
+IsCallInside s (call.SetMax q n) = q.0 < length s.queues
+IsCallInside s (call.Destroy q) = q.0 < length s.queues
+IsCallInside s c = Unit {0}
+
+-- the calls that this book answers so far
+abbrev pub is_answered : Call → Bool
+is_answered call.Fire = false
+is_answered (call.End n) = false
+is_answered c = true

@@ -1,6 +1,12 @@
 -- What an entry does, as the parts are told of it.
-use Rattle.std.specs.Prelude.{◌≡◌, ℕ, if◌then◌else◌, List, [], ◌∷◌, length, Option, Some, None, option_map}
+use Rattle.std.specs.Prelude.{◌≡◌, ℕ, ◌<◌, if◌then◌else◌, List, [], ◌∷◌, length, Option, Some, None, option_map}
 use Rattle.cmwq_model.specs.declared.id.ItemId.{ItemId}
+use Rattle.cmwq_model.specs.declared.id.Who.{Who}
+use Rattle.cmwq_model.specs.declared.id.Who.TheVariants.{Caller, Worker}
+use Rattle.cmwq_model.specs.declared.reply.Reply.{Reply}
+use Rattle.cmwq_model.specs.declared.reply.Reply.TheVariants as reply
+use Rattle.cmwq_model.specs.declared.record.Queueing.{Queueing}
+use Rattle.cmwq_model.specs.Active.{next}
 use Rattle.cmwq_model.specs.declared.entry.Entry.{Entry}
 use Rattle.cmwq_model.specs.Layout.{Layout}
 use Rattle.cmwq_model.specs.Calls.{item_of}
@@ -31,3 +37,26 @@ pub record IsEffect (s : Layout) (past : List Entry) (f : Effect) : Type 0 where
   pub settled : item_number f.settled ≡ settled_by f.entry
   pub booked : f.booked ≡ booking_of f.entry (length past)
   pub owing : f.owing ≡ owed s (f.entry ∷ past)
+
+-- of what the caller runs and the item's unstarted queueing, the one that the reply ends
+abbrev pub ended_from : Reply → Option Queueing → Option Queueing → Option Queueing
+ended_from (reply.Finished n) run unstarted = run
+ended_from (reply.Cancelled n) run unstarted = unstarted
+ended_from (reply.TicketCancelled k n) run unstarted = unstarted
+ended_from (reply.Again k) run unstarted = unstarted
+ended_from (reply.Rebooked d) run unstarted = unstarted
+ended_from r run unstarted = None
+
+-- of what is next, the one that the reply starts
+abbrev pub started_from : Reply → Option Queueing → Option Queueing
+started_from (reply.Started n) next = next
+started_from (reply.StartedEnlist n x) next = next
+started_from r next = None
+
+-- the item of the entry is one that there is
+abbrev pub IsInside : Layout → Entry → Type 0
+IsInside s e = (i : ℕ) → item_of e ≡ Some i → i < s.items
+
+abbrev pub next_for : Layout → List Entry → Who → Option Queueing
+next_for s past (Worker w) = next s past w.pool
+next_for s past (Caller c) = None

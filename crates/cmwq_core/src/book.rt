@@ -15,6 +15,7 @@ ghost use Rattle.cmwq_core.specs.Effects.{IsEffect};
 ghost use Rattle.cmwq_core.specs.Book as kept;
 
 mod answers;
+mod effects;
 mod reads;
 
 use crate::new::{new_books, new_most, new_pools, new_serials};
@@ -325,12 +326,43 @@ impl Book {
     #[tactic(auto, unfolding(cmwq_model::specs::Answer::answer))]
     fn answer(&self, who: Who, call: Call) -> Reply
         requires there { tables.IsThere self.now.layout who }
-        requires known { kept.is_known call ≡ true }
+        requires inside { kept.IsCallInside self.now.layout call }
+        requires known { kept.is_answered call ≡ true }
         ensures { result ≡ answer self.now.layout (past_of self.now.entries) who call }
     {
         match call {
+            Call::Queue { item, queue, .. } => self.queue_answer(who, item, queue, 0),
+            Call::Delay { item, queue, ticks, .. } => self.queue_answer(who, item, queue, ticks),
+            Call::Modify { item, queue, ticks, .. } => self.modify_answer(who, item, queue, ticks),
+            Call::Cancel { item } => self.cancel_answer(who, item),
             Call::Tick { ticks } => Reply::Now(self.time() + u64::from(ticks)),
-            _ => self.own_answer(who, call),
+            Call::Flush { queue } => self.wait_answer(who, queue),
+            Call::Drain { queue } => self.wait_answer(who, queue),
+            Call::FlushItem { item } => self.flush_item_answer(who, item),
+            Call::FlushDelayed { item } => self.flush_delayed_answer(who, item),
+            Call::CancelSync { item } => self.cancel_sync_answer(who, item),
+            Call::SetMax { queue, max_active } => self.set_max_answer(queue, max_active),
+            Call::Freeze => {
+                if self.is_frozen() {
+                    Reply::No
+                } else {
+                    Reply::Frozen
+                }
+            }
+            Call::Thaw => {
+                if self.is_frozen() {
+                    Reply::Thawed
+                } else {
+                    Reply::No
+                }
+            }
+            Call::Destroy { queue } => self.destroy_answer(who, queue),
+            Call::Take => self.own_answer(who, Call::Take),
+            Call::Finish => self.own_answer(who, Call::Finish),
+            Call::Sleep => self.own_answer(who, Call::Sleep),
+            Call::Wake => self.own_answer(who, Call::Wake),
+            Call::Retire => self.own_answer(who, Call::Retire),
+            _ => unreachable!(),
         }
     }
 

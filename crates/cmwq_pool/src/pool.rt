@@ -79,12 +79,18 @@ impl Pool {
         take_number(&mut self.listed, number);
     }
 
+    /// The task that would be started next: the first whose item has no run.
+    pub fn next_task(&self) -> Option<Task>
+        ensures { result ≡ next_task self.now }
+    {
+        next_free(&self.listed, &self.running)
+    }
+
     /// The number of the next queueing to start: the first of the list whose item has no run.
     pub fn next(&self) -> Option<Number>
         ensures { result ≡ next self.now }
     {
-        let task = next_free(&self.listed, &self.running)?;
-        Some(task.number)
+        self.next_task().map(|task| task.number)
     }
 
     /// How many runs are awake and not CPU intensive (the kernel's `nr_running`). While there is one, nothing may start.

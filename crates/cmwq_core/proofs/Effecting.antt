@@ -1,0 +1,110 @@
+-- What an entry does, read off the book.
+use Rattle.std.proofs.Common.{◌≡◌, ℕ, ◌<◌, List, ◌∷◌, length, Option, Some, None, refl, sym, ap, ap₂, ◌∙◌, subst}
+use Rattle.std.specs.Prelude.{option_and_then, option_map}
+use Rattle.std.specs.Option.{option_map_or}
+use Rattle.std.proofs.lemmas.Option.{same_Some}
+use Rattle.cmwq_model.specs.declared.id.CpuId.{CpuId}
+use Rattle.cmwq_model.specs.declared.id.PoolId.{PoolId}
+use Rattle.cmwq_model.specs.declared.id.Who.{Who}
+use Rattle.cmwq_model.specs.declared.id.Who.TheVariants.{Caller, Worker}
+use Rattle.cmwq_model.specs.declared.reply.Reply.{Reply}
+use Rattle.cmwq_model.specs.declared.reply.Reply.TheVariants as reply
+use Rattle.cmwq_model.specs.declared.entry.Entry.{Entry}
+use Rattle.cmwq_model.specs.declared.record.Queueing.{Queueing}
+use Rattle.cmwq_model.specs.declared.record.Start.{Start}
+use Rattle.cmwq_model.specs.Layout.{Layout}
+use Rattle.cmwq_model.specs.Calls.{item_of}
+use Rattle.cmwq_model.specs.Fate.{number_started}
+use Rattle.cmwq_model.specs.Runs.{item_run}
+use Rattle.cmwq_model.specs.Queueings.{unstarted, queueing_at, cpu_for, is_unstarted, still_open}
+use Rattle.cmwq_model.specs.Active.{next}
+use Rattle.cmwq_model.specs.Legal.{IsLegal}
+use Rattle.cmwq_steps.specs.Endings.{ending}
+use Rattle.cmwq_steps.specs.ItemQueueings.{queueing_run, ended_by}
+use Rattle.cmwq_steps.proofs.EndsAsTold.{ends_as_told, runs_are_queueings}
+use Rattle.cmwq_steps.proofs.Starts.{starts_next}
+use Rattle.cmwq_steps.proofs.Unstarted.{next_unstarted}
+use Rattle.cmwq_pool.specs.declared.task.Task.{Task}
+use Rattle.cmwq_pool.specs.Lineup.{next_task}
+use Rattle.cmwq_ties.specs.Pools.{task_for, pool_of}
+use Rattle.cmwq_ties.proofs.Members.{found}
+use Rattle.cmwq_ties.proofs.PlacesFit.{open_there}
+use Rattle.cmwq_ties.proofs.PoolNext.{next_task_is}
+use Rattle.cmwq_core.specs.Effects.{ended_from, started_from, next_for}
+use Rattle.cmwq_core.specs.Flights.{starting, run_open}
+use Rattle.cmwq_core.proofs.FlightSteps.{is_start}
+
+from_reply : (past : List Entry) (who : Who) (i : Option ℕ) (r : Reply) → ended_by past who i r ≡ ended_from r (queueing_run past who) (option_and_then (unstarted past) i)
+from_reply past who i (reply.Finished n) = refl
+from_reply past who i (reply.Cancelled n) = refl
+from_reply past who i (reply.TicketCancelled k n) = refl
+from_reply past who i (reply.Again k) = refl
+from_reply past who i (reply.Rebooked d) = refl
+from_reply past who i r = refl
+
+pub ends_from : (s : Layout) (past : List Entry) (e : Entry) → IsLegal s (e ∷ past) → ended_from e.reply (queueing_run past e.who) (option_and_then (unstarted past) (item_of e)) ≡ ending past e
+ends_from s past e legal = sym (ends_as_told s past e legal ∙ from_reply past e.who (item_of e) e.reply)
+
+-- ---- what is next
+
+pub record NextOpen (s : Layout) (past : List Entry) (p : PoolId) (t : Task) : Type 0 where
+  pub item : t.item.0 < s.items
+  pub is : unstarted past t.item.0 ≡ next s past p
+
+pub next_open : (s : Layout) (past : List Entry) (p : PoolId) (t : Task) → IsLegal s past → next_task (pool_of s past p) ≡ Some t → NextOpen s past p t
+next_open s past p t legal h = by (next s past p) refl (sym (next_task_is s past p legal) ∙ h)
+  where
+    by : (o : Option Queueing) → next s past p ≡ o → option_map (task_for s) (next s past p) ≡ Some t → NextOpen s past p t
+    by None is k = let bad : None ≡ Some t = sym (ap (option_map (task_for s)) is) ∙ k in cc
+    by (Some x) is k =
+        let task : task_for s x ≡ t = same_Some (task_for s x) t (sym (ap (option_map (task_for s)) is) ∙ k) in
+        let of_task : x.item.0 ≡ t.item.0 = ap (λ (u : Task). u.item.0) task in
+        let un = next_unstarted s past legal p x is in
+        let stands = (found (is_unstarted past x.item.0) (still_open past) x un).0 in
+        record {
+          item = subst (λ i. i < s.items) of_task (open_there s past x legal stands).item;
+          is = ap (unstarted past) (sym of_task) ∙ (un ∙ sym is);
+        }
+
+pub next_none : (s : Layout) (past : List Entry) (p : PoolId) → IsLegal s past → next_task (pool_of s past p) ≡ None → None ≡ next s past p
+next_none s past p legal h = by (next s past p) refl (sym (next_task_is s past p legal) ∙ h)
+  where
+    by : (o : Option Queueing) → next s past p ≡ o → option_map (task_for s) (next s past p) ≡ None → None ≡ next s past p
+    by None is k = sym is
+    by (Some x) is k = let bad : Some (task_for s x) ≡ None = sym (ap (option_map (task_for s)) is) ∙ k in cc
+
+pub starts_from : (s : Layout) (past : List Entry) (e : Entry) → IsLegal s (e ∷ past) → IsLegal s past → started_from e.reply (next_for s past e.who) ≡ starting past e
+starts_from s past e legal before = by e.reply refl
+  where
+    at : (n : ℕ) → number_started e.reply ≡ Some n → next_for s past e.who ≡ starting past e
+    at n h =
+        let k = is_start s past e legal before n h in
+        ap (next_for s past) k.by_worker ∙ (k.is_next ∙ sym k.is_starting)
+
+    by : (r : Reply) → e.reply ≡ r → started_from r (next_for s past e.who) ≡ starting past e
+    by (reply.Started n) is = at n (ap number_started is)
+    by (reply.StartedEnlist n x) is = at n (ap number_started is)
+    by r is = sym (ap (λ v. option_and_then (queueing_at past) (number_started v)) is)
+
+-- ---- where an item is queued
+
+pub cpu_of_run : (s : Layout) (past : List Entry) (i : ℕ) (x : Queueing) (cpu : CpuId) → IsLegal s past → run_open past i ≡ Some x → x.place.cpu ≡ cpu_for past i cpu
+cpu_of_run s past i x cpu legal h = by (item_run past i) refl
+  where
+    by : (o : Option Start) → item_run past i ≡ o → x.place.cpu ≡ cpu_for past i cpu
+    by None is = let bad : None ≡ Some x = sym (ap (option_and_then (λ (t : Start). queueing_at past t.number)) is) ∙ h in cc
+    by (Some t) is =
+        let r = runs_are_queueings s past legal i t is in
+        let same : r.queueing ≡ x = same_Some r.queueing x (sym r.found ∙ (sym (ap (option_and_then (λ (u : Start). queueing_at past u.number)) is) ∙ h)) in
+        ap (λ (y : Queueing). y.place.cpu) (sym same) ∙ (ap (λ (p : PoolId). p.cpu) r.pool ∙ sym (ap (λ o. option_map_or (λ (u : Start). u.worker.pool.cpu) o cpu) is))
+
+pub cpu_of_none : (s : Layout) (past : List Entry) (i : ℕ) (cpu : CpuId) → IsLegal s past → run_open past i ≡ None → cpu ≡ cpu_for past i cpu
+cpu_of_none s past i cpu legal h = by (item_run past i) refl
+  where
+    by : (o : Option Start) → item_run past i ≡ o → cpu ≡ cpu_for past i cpu
+    by None is = sym (ap (λ o. option_map_or (λ (u : Start). u.worker.pool.cpu) o cpu) is)
+    by (Some t) is = let r = runs_are_queueings s past legal i t is in let bad : None ≡ Some r.queueing = sym h ∙ (ap (option_and_then (λ (u : Start). queueing_at past u.number)) is ∙ r.found) in cc
+
+pub legal_before : (s : Layout) (past : List Entry) (e : Entry) → IsLegal s (e ∷ past) → IsLegal s past
+unfolding IsLegal
+legal_before s past e legal = legal.2

@@ -1,0 +1,263 @@
+//! What an entry does, found before it is appended.
+
+ghost use Rattle.std.specs.Prelude.{◌≡◌, ◌<◌, ◌∷◌, length};
+ghost use Rattle.cmwq_model.specs.Bookings.{booked_by, booking_of, settles};
+ghost use Rattle.cmwq_model.specs.Calls.{item_of};
+ghost use Rattle.cmwq_model.specs.Legal.{IsLegal, past_of};
+ghost use Rattle.cmwq_model.specs.Queueings.{opening, opens, place_called, place_wanted, queued_at, unstarted};
+ghost use Rattle.cmwq_model.specs.Tickets.{gives_ticket, ticket_in};
+ghost use Rattle.cmwq_steps.specs.Endings.{ending};
+ghost use Rattle.cmwq_core.specs.Effects.{IsInside, ended_from, item_number, next_for, settled_by, started_from};
+ghost use Rattle.std.specs.Prelude.{option_and_then};
+ghost use Rattle.cmwq_model.specs.Active.{next};
+ghost use Rattle.cmwq_steps.specs.ItemQueueings.{queueing_run};
+ghost use Rattle.cmwq_core.specs.Flights.{starting};
+ghost use Rattle.cmwq_core.specs.Tables as tables;
+
+use crate::book::Book;
+use cmwq_model::{Booking, Call, Entry, ItemId, Number, Place, PoolId, Queueing, Reply, Ticket, Who};
+
+/// The item of an entry.
+pub(crate) fn item_of(entry: Entry) -> Option<ItemId>
+    ensures { item_number result ≡ item_of entry }
+{
+    match entry.call {
+        Call::Queue { item, .. }
+        | Call::Delay { item, .. }
+        | Call::Modify { item, .. }
+        | Call::Cancel { item }
+        | Call::FlushItem { item }
+        | Call::FlushDelayed { item }
+        | Call::CancelSync { item } => Some(item),
+        _ => match entry.reply {
+            Reply::Fired(item, _) => Some(item),
+            _ => None,
+        },
+    }
+}
+
+fn settles(reply: Reply) -> bool
+    ensures { result ≡ settles reply }
+{
+    matches!(
+        reply,
+        Reply::Yes(_)
+            | Reply::Booked(_)
+            | Reply::Again(_)
+            | Reply::Rebooked(_)
+            | Reply::Unbooked
+            | Reply::Fired(_, _)
+            | Reply::TicketQueued(_)
+            | Reply::TicketUnbooked(_)
+    )
+}
+
+fn opens(reply: Reply) -> bool
+    ensures { result ≡ opens reply }
+{
+    matches!(
+        reply,
+        Reply::Yes(_) | Reply::Again(_) | Reply::Fired(_, _) | Reply::TicketQueued(_)
+    )
+}
+
+fn gives_ticket(reply: Reply) -> bool
+    ensures { result ≡ gives_ticket reply }
+{
+    matches!(
+        reply,
+        Reply::Ticket(_)
+            | Reply::TicketQueued(_)
+            | Reply::TicketCancelled(_, _)
+            | Reply::TicketUnbooked(_)
+            | Reply::TicketNo(_)
+    )
+}
+
+/// The item that is booked anew, or no more.
+pub(crate) fn settled_by(entry: Entry) -> Option<ItemId>
+    ensures { item_number result ≡ settled_by entry }
+{
+    if settles(entry.reply) { item_of(entry) } else { None }
+}
+
+/// The booking that a call makes for a tick.
+fn booked_for(call: Call, number: Number, due: u64) -> Option<Booking>
+    ensures { result ≡ booked_by call number due }
+{
+    match call {
+        Call::Delay { item, queue, cpu, .. } | Call::Modify { item, queue, cpu, .. } => Some(Booking {
+            item,
+            place: Place { queue, cpu },
+            due,
+            number,
+        }),
+        _ => None,
+    }
+}
+
+/// The booking that an entry makes.
+pub(crate) fn booked_by(entry: Entry, number: Number) -> Option<Booking>
+    ensures { result ≡ booking_of entry number }
+{
+    match entry.reply {
+        Reply::Booked(due) | Reply::Rebooked(due) => booked_for(entry.call, number, due),
+        _ => None,
+    }
+}
+
+/// The ticket that an entry gives.
+pub(crate) fn ticket_in(entry: Entry, number: Number) -> Option<Ticket>
+    ensures { result ≡ ticket_in entry number }
+{
+    if !gives_ticket(entry.reply) {
+        return None;
+    }
+    match entry.who {
+        Who::Caller(caller) => Some(Ticket {
+            caller,
+            call: entry.call,
+            number,
+        }),
+        Who::Worker(_) => None,
+    }
+}
+
+fn place_called(call: Call) -> Option<Place>
+    ensures { result ≡ place_called call }
+{
+    match call {
+        Call::Queue { queue, cpu, .. } | Call::Delay { queue, cpu, .. } | Call::Modify { queue, cpu, .. } => Some(Place { queue, cpu }),
+        _ => None,
+    }
+}
+
+fn ended_from(reply: Reply, run: Option<Queueing>, unstarted: Option<Queueing>) -> Option<Queueing>
+    ensures { result ≡ ended_from reply run unstarted }
+{
+    match reply {
+        Reply::Finished(_) => run,
+        Reply::Cancelled(_) | Reply::TicketCancelled(_, _) | Reply::Again(_) | Reply::Rebooked(_) => unstarted,
+        _ => None,
+    }
+}
+
+fn started_from(reply: Reply, next: Option<Queueing>) -> Option<Queueing>
+    ensures { result ≡ started_from reply next }
+{
+    match reply {
+        Reply::Started(_) | Reply::StartedEnlist(_, _) => next,
+        _ => None,
+    }
+}
+
+impl Book {
+    /// What the caller or worker runs.
+    fn run_of(&self, who: Who) -> Option<Queueing>
+        requires { tables.IsThere self.now.layout who }
+        ensures { result ≡ queueing_run (past_of self.now.entries) who }
+    {
+        match who {
+            Who::Worker(worker) => self.queueing_run(worker),
+            Who::Caller(_) => None,
+        }
+    }
+
+    /// The unstarted queueing of the entry's item.
+    fn unstarted_of(&self, entry: Entry) -> Option<Queueing>
+        requires { IsInside self.now.layout entry }
+        ensures { result ≡ option_and_then (unstarted (past_of self.now.entries)) (item_of entry) }
+    {
+        match item_of(entry) {
+            Some(item) => self.flight(item).unstarted,
+            None => None,
+        }
+    }
+
+    /// The queueing that an entry ends: that of its worker's run, or the item's unstarted one.
+    pub(crate) fn ended_by(&self, entry: Entry) -> Option<Queueing>
+        requires there { tables.IsThere self.now.layout entry.who }
+        requires inside { IsInside self.now.layout entry }
+        requires legal { IsLegal self.now.layout (entry ∷ past_of self.now.entries) }
+        ensures { result ≡ ending (past_of self.now.entries) entry }
+    {
+        ended_from(entry.reply, self.run_of(entry.who), self.unstarted_of(entry))
+    }
+
+    /// What a pool would start next.
+    fn next_queueing(&self, pool: PoolId) -> Option<Queueing>
+        requires { pool.cpu.0 < self.now.layout.cpus }
+        ensures { result ≡ next self.now.layout (past_of self.now.entries) pool }
+    {
+        match self.pool(pool).next_task() {
+            Some(task) => self.flight(task.item).unstarted,
+            None => None,
+        }
+    }
+
+    fn next_for(&self, who: Who) -> Option<Queueing>
+        requires { tables.IsThere self.now.layout who }
+        ensures { result ≡ next_for self.now.layout (past_of self.now.entries) who }
+    {
+        match who {
+            Who::Worker(worker) => self.next_queueing(worker.pool),
+            Who::Caller(_) => None,
+        }
+    }
+
+    /// The queueing that a take starts.
+    pub(crate) fn started_by(&self, entry: Entry) -> Option<Queueing>
+        requires there { tables.IsThere self.now.layout entry.who }
+        requires legal { IsLegal self.now.layout (entry ∷ past_of self.now.entries) }
+        ensures { result ≡ starting (past_of self.now.entries) entry }
+    {
+        started_from(entry.reply, self.next_for(entry.who))
+    }
+
+    /// Where an item is to be queued: where the call says, or else its booking.
+    fn place_wanted(&self, entry: Entry, item: ItemId) -> Option<Place>
+        requires { item.0 < self.now.layout.items }
+        ensures { result ≡ place_wanted (past_of self.now.entries) entry.call item.0 }
+    {
+        match place_called(entry.call) {
+            Some(place) => Some(place),
+            None => self.timer(item).map(|timer| timer.place),
+        }
+    }
+
+    /// The queueing of an item at a place: it goes to the CPU where the item runs.
+    fn queued_at(&self, item: ItemId, place: Place) -> Queueing
+        requires { item.0 < self.now.layout.items }
+        ensures { result ≡ queued_at (past_of self.now.entries) item.0 place }
+    {
+        let cpu = match self.flight(item).run {
+            Some(run) => run.place.cpu,
+            None => place.cpu,
+        };
+        Queueing {
+            item,
+            place: Place {
+                queue: place.queue,
+                cpu,
+            },
+            number: self.number(),
+        }
+    }
+
+    /// The queueing that an entry opens.
+    pub(crate) fn opened_by(&self, entry: Entry) -> Option<Queueing>
+        requires { IsInside self.now.layout entry }
+        ensures { result ≡ opening (past_of self.now.entries) entry }
+    {
+        if !opens(entry.reply) {
+            return None;
+        }
+        match item_of(entry) {
+            None => None,
+            Some(item) => match self.place_wanted(entry, item) {
+                Some(place) => Some(self.queued_at(item, place)),
+                None => None,
+            },
+        }
+    }
+}
