@@ -30,9 +30,22 @@ use Rattle.cmwq_ties.specs.Pools.{task_for, pool_of}
 use Rattle.cmwq_ties.proofs.Members.{found}
 use Rattle.cmwq_ties.proofs.PlacesFit.{open_there}
 use Rattle.cmwq_ties.proofs.PoolNext.{next_task_is}
-use Rattle.cmwq_core.specs.Effects.{ended_from, started_from, next_for}
+use Rattle.std.proofs.Common.{◌-◌, ◌≤◌, ◌+◌, ◌*◌, ◌==◌, Bool, true, false, not, is_some, arith}
+use Rattle.std.proofs.lemmas.Bool.{and_parts}
+use Rattle.cmwq_model.specs.declared.record.Booking.{Booking}
+use Rattle.cmwq_model.specs.Bookings.{booking_of}
+use Rattle.cmwq_model.specs.Fate.{is_started}
+use Rattle.cmwq_model.specs.Queueings.{opening}
+use Rattle.cmwq_model.specs.Room.{owed, has_not_started}
+use Rattle.cmwq_model.specs.Runs.{run}
+use Rattle.cmwq_steps.specs.Histories.{one}
+use Rattle.cmwq_steps.specs.RoomSteps.{ends_unstarted, settles_booked, paid, taken_on}
+use Rattle.cmwq_steps.proofs.Owing.{owed_goes_on}
+use Rattle.cmwq_steps.proofs.RunSteps.{last_started}
+use Rattle.cmwq_steps.proofs.RunsActive.{found_number}
+use Rattle.cmwq_core.specs.Effects.{ended_from, started_from, next_for, ends_early, paid_alone, taken_alone}
 use Rattle.cmwq_core.specs.Flights.{starting, run_open}
-use Rattle.cmwq_core.proofs.FlightSteps.{is_start}
+use Rattle.cmwq_core.proofs.FlightSteps.{is_start, run_last_start}
 
 from_reply : (past : List Entry) (who : Who) (i : Option ℕ) (r : Reply) → ended_by past who i r ≡ ended_from r (queueing_run past who) (option_and_then (unstarted past) i)
 from_reply past who i (reply.Finished n) = refl
@@ -108,3 +121,57 @@ cpu_of_none s past i cpu legal h = by (item_run past i) refl
 pub legal_before : (s : Layout) (past : List Entry) (e : Entry) → IsLegal s (e ∷ past) → IsLegal s past
 unfolding IsLegal
 legal_before s past e legal = legal.2
+
+-- ---- what is owed
+
+not_early : (s : Layout) (past : List Entry) (who : Who) (x : Queueing) → IsLegal s past → queueing_run past who ≡ Some x → has_not_started past x ≡ false
+not_early s past (Caller c) x legal h = cc
+not_early s past (Worker w) x legal h = by (run past w) refl h
+  where
+    by : (o : Option ℕ) → run past w ≡ o → option_and_then (queueing_at past) (run past w) ≡ Some x → has_not_started past x ≡ false
+    by None is k = let bad : None ≡ Some x = sym (ap (option_and_then (queueing_at past)) is) ∙ k in cc
+    by (Some n) is k =
+        let at : queueing_at past n ≡ Some x = sym (ap (option_and_then (queueing_at past)) is) ∙ k in
+        ap (λ m. not (is_started past m)) (found_number past n x at) ∙ ap not (last_started past w n (run_last_start past w n is))
+
+early : (past : List Entry) (i : Option ℕ) (x : Queueing) → option_and_then (unstarted past) i ≡ Some x → has_not_started past x ≡ true
+early past None x h = cc
+early past (Some i) x h = (and_parts (x.item.0 == i) (not (is_started past x.number)) (found (is_unstarted past i) (still_open past) x h).1).1
+
+pub ends_early_is : (s : Layout) (past : List Entry) (e : Entry) → IsLegal s (e ∷ past) → IsLegal s past → ends_early e.reply (ending past e) ≡ ends_unstarted past e
+ends_early_is s past e legal before = ap (ends_early e.reply) (sym from) ∙ (by e.reply ∙ ap (λ o. option_map_or (has_not_started past) o false) from)
+  where
+    from : ended_from e.reply (queueing_run past e.who) (option_and_then (unstarted past) (item_of e)) ≡ ending past e
+    from = ends_from s past e legal
+
+    ran : (o : Option Queueing) → queueing_run past e.who ≡ o → false ≡ option_map_or (has_not_started past) o false
+    ran None h = refl
+    ran (Some x) h = sym (not_early s past e.who x before h)
+
+    waited : (o : Option Queueing) → option_and_then (unstarted past) (item_of e) ≡ o → is_some o ≡ option_map_or (has_not_started past) o false
+    waited None h = refl
+    waited (Some x) h = sym (early past (item_of e) x h)
+
+    by : (r : Reply) → ends_early r (ended_from r (queueing_run past e.who) (option_and_then (unstarted past) (item_of e))) ≡ option_map_or (has_not_started past) (ended_from r (queueing_run past e.who) (option_and_then (unstarted past) (item_of e))) false
+    by (reply.Finished n) = ran (queueing_run past e.who) refl
+    by (reply.Cancelled n) = waited (option_and_then (unstarted past) (item_of e)) refl
+    by (reply.TicketCancelled k n) = waited (option_and_then (unstarted past) (item_of e)) refl
+    by (reply.Again k) = waited (option_and_then (unstarted past) (item_of e)) refl
+    by (reply.Rebooked d) = waited (option_and_then (unstarted past) (item_of e)) refl
+    by r = refl
+
+pub owes_with : (s : Layout) (past : List Entry) (e : Entry) (ended opened : Option Queueing) (booked : Option Booking) (unbooked : Bool) → IsLegal s (e ∷ past) → IsLegal s past → ended ≡ ending past e → opened ≡ opening past e → booked ≡ booking_of e (length past) →
+    unbooked ≡ settles_booked past e →
+    owed s (e ∷ past) + (paid_alone e.reply + 2 * one (ends_early e.reply ended) + 3 * one unbooked) ≡ owed s past + (taken_alone e.reply + 2 * one (is_some opened) + 3 * one (is_some booked))
+owes_with s past e ended opened booked unbooked legal before ends opens_it books un =
+    let law = owed_goes_on s past e legal in
+    let a : one (ends_early e.reply ended) ≡ one (ends_unstarted past e) = ap one (ap (ends_early e.reply) ends ∙ ends_early_is s past e legal before) in
+    let b : one unbooked ≡ one (settles_booked past e) = ap one un in
+    let o : one (is_some opened) ≡ one (is_some (opening past e)) = ap (λ x. one (is_some x)) opens_it in
+    let k : one (is_some booked) ≡ one (is_some (booking_of e (length past))) = ap (λ x. one (is_some x)) books in
+    omega (arith, law, a, b, o, k)
+
+-- the sum, as it is made
+pub owing_sum : (owing old new t o b p e u t1 o1 b1 p1 e1 u1 : ℕ) → new + (p1 + 2 * e1 + 3 * u1) ≡ old + (t1 + 2 * o1 + 3 * b1) → owing ≡ old → t ≡ t1 → o ≡ o1 → b ≡ b1 → p ≡ p1 → e ≡ e1 → u ≡ u1 →
+    (p + 2 * e + 3 * u ≤ owing + (t + 2 * o + 3 * b)) × (owing + (t + 2 * o + 3 * b) - (p + 2 * e + 3 * u) ≡ new)
+owing_sum owing old new t o b p e u t1 o1 b1 p1 e1 u1 law was ht ho hb hp he hu = (omega arith, omega arith)

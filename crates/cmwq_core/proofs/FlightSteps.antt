@@ -69,6 +69,17 @@ none_ended (Some x) i = by (x.item.0 == i)
 differ : false ≡ true → ⊥
 differ h = cc
 
+pub run_last_start : (past : List Entry) (w : WorkerId) (n : ℕ) → run past w ≡ Some n → last_start past w ≡ Some n
+run_last_start past w n h = by (last_start past w) refl h
+  where
+    by_open : (m : ℕ) (b : Bool) → (if b then Some m else None) ≡ Some n → Some m ≡ Some n
+    by_open m true k = k
+    by_open m false k = cc
+
+    by : (o : Option ℕ) → last_start past w ≡ o → option_and_then (λ m. if is_number_open past m then Some m else None) o ≡ Some n → last_start past w ≡ Some n
+    by None is k = cc
+    by (Some m) is k = is ∙ by_open m (is_number_open past m) k
+
 -- ---- the queueing that is open stays where it is spared
 
 module _ (s : Layout) (past : List Entry) (e : Entry) (legal : IsLegal s (e ∷ past)) (before : IsLegal s past) where
@@ -264,17 +275,6 @@ module _ (s : Layout) (past : List Entry) (e : Entry) (legal : IsLegal s (e ∷ 
   kept_number : (n : ℕ) (x : Queueing) → queueing_at past n ≡ Some x → queueing_at (e ∷ past) n ≡ Some x
   kept_number n x h = queueings_go_on past e n ∙ ap (λ o. option_or o (opening_at past e n)) h
 
-  run_last : (w : WorkerId) (n : ℕ) → run past w ≡ Some n → last_start past w ≡ Some n
-  run_last w n h = by (last_start past w) refl h
-    where
-      by_open : (m : ℕ) (b : Bool) → (if b then Some m else None) ≡ Some n → Some m ≡ Some n
-      by_open m true k = k
-      by_open m false k = cc
-
-      by : (o : Option ℕ) → last_start past w ≡ o → option_and_then (λ m. if is_number_open past m then Some m else None) o ≡ Some n → last_start past w ≡ Some n
-      by None is k = cc
-      by (Some m) is k = is ∙ by_open m (is_number_open past m) k
-
   record RunsOpen (i : ℕ) (start : Start) : Type 0 where
     queueing : Queueing
     is_found : queueing_at past start.number ≡ Some queueing
@@ -289,7 +289,7 @@ module _ (s : Layout) (past : List Entry) (e : Entry) (legal : IsLegal s (e ∷ 
       let q = r.queueing in
       let number = found_number past start.number q r.found in
       let there = (found (has_number start.number) (queueings past) q r.found).0 in
-      let started : is_started past q.number ≡ true = ap (is_started past) number ∙ last_started past start.worker start.number (run_last start.worker start.number (items_are_run s past i start before h).0) in
+      let started : is_started past q.number ≡ true = ap (is_started past) number ∙ last_started past start.worker start.number (run_last_start past start.worker start.number (items_are_run s past i start before h).0) in
       let not_back = started_not_cancelled s past e q.number legal started in
       let not_replaced : is_replaced past e q ≡ false = ap (λ b. replaces e.reply && is_of_item q.item.0 e && not b) started ∙ last (replaces e.reply && is_of_item q.item.0 e) in
       record {

@@ -1,5 +1,5 @@
 -- What an entry does, as the parts are told of it.
-use Rattle.std.specs.Prelude.{◌≡◌, ℕ, ◌<◌, if◌then◌else◌, List, [], ◌∷◌, length, Option, Some, None, option_map}
+use Rattle.std.specs.Prelude.{◌≡◌, ℕ, ◌+◌, ◌*◌, ◌<◌, Bool, false, is_some, if◌then◌else◌, List, [], ◌∷◌, length, Option, Some, None, option_map}
 use Rattle.cmwq_model.specs.declared.id.ItemId.{ItemId}
 use Rattle.cmwq_model.specs.declared.id.Who.{Who}
 use Rattle.cmwq_model.specs.declared.id.Who.TheVariants.{Caller, Worker}
@@ -7,6 +7,10 @@ use Rattle.cmwq_model.specs.declared.reply.Reply.{Reply}
 use Rattle.cmwq_model.specs.declared.reply.Reply.TheVariants as reply
 use Rattle.cmwq_model.specs.declared.record.Queueing.{Queueing}
 use Rattle.cmwq_model.specs.Active.{next}
+use Rattle.cmwq_model.specs.Fate.{number_started, number_finished}
+use Rattle.cmwq_model.specs.Tickets.{gives_ticket, is_done}
+use Rattle.cmwq_steps.specs.Histories.{one}
+use Rattle.cmwq_steps.specs.RoomSteps.{is_slept, is_woke, is_frozen_now, is_thawed_now}
 use Rattle.cmwq_model.specs.declared.entry.Entry.{Entry}
 use Rattle.cmwq_model.specs.Layout.{Layout}
 use Rattle.cmwq_model.specs.Calls.{item_of}
@@ -60,3 +64,15 @@ IsInside s e = (i : ℕ) → item_of e ≡ Some i → i < s.items
 abbrev pub next_for : Layout → List Entry → Who → Option Queueing
 next_for s past (Worker w) = next s past w.pool
 next_for s past (Caller c) = None
+
+-- it ends a queueing that hasn't started
+abbrev pub ends_early : Reply → Option Queueing → Bool
+ends_early (reply.Finished n) o = false
+ends_early r o = is_some o
+
+-- what the reply alone pays off, and what it takes on
+abbrev pub paid_alone : Reply → ℕ
+paid_alone r = 2 * one (is_some (number_started r)) + one (is_some (number_finished r)) + one (is_woke r) + one (is_done r) + one (is_thawed_now r)
+
+abbrev pub taken_alone : Reply → ℕ
+taken_alone r = one (is_some (number_started r)) + one (is_slept r) + one (gives_ticket r) + one (is_frozen_now r)

@@ -1,13 +1,17 @@
 //! What an entry does, found before it is appended.
 
-ghost use Rattle.std.specs.Prelude.{◌≡◌, ◌<◌, ◌∷◌, length};
-ghost use Rattle.cmwq_model.specs.Bookings.{booked_by, booking_of, settles};
+ghost use Rattle.std.specs.Prelude.{◌≡◌, ◌<◌, ◌≤◌, ◌∷◌, false, length};
+ghost use Rattle.std.specs.Option.{option_map_or};
+ghost use Rattle.cmwq_model.specs.Room.{owed};
+ghost use Rattle.cmwq_model.specs.Bookings.{booked_by, booking_of, is_booked, settles};
 ghost use Rattle.cmwq_model.specs.Calls.{item_of};
 ghost use Rattle.cmwq_model.specs.Legal.{IsLegal, past_of};
 ghost use Rattle.cmwq_model.specs.Queueings.{opening, opens, place_called, place_wanted, queued_at, unstarted};
 ghost use Rattle.cmwq_model.specs.Tickets.{gives_ticket, ticket_in};
 ghost use Rattle.cmwq_steps.specs.Endings.{ending};
-ghost use Rattle.cmwq_core.specs.Effects.{IsInside, ended_from, item_number, next_for, settled_by, started_from};
+ghost use Rattle.cmwq_steps.specs.Histories.{one};
+ghost use Rattle.cmwq_steps.specs.RoomSteps.{settles_booked};
+ghost use Rattle.cmwq_core.specs.Effects.{IsInside, ended_from, ends_early, paid_alone, taken_alone, item_number, next_for, settled_by, started_from};
 ghost use Rattle.std.specs.Prelude.{option_and_then};
 ghost use Rattle.cmwq_model.specs.Active.{next};
 ghost use Rattle.cmwq_steps.specs.ItemQueueings.{queueing_run};
@@ -129,6 +133,48 @@ fn place_called(call: Call) -> Option<Place>
     match call {
         Call::Queue { queue, cpu, .. } | Call::Delay { queue, cpu, .. } | Call::Modify { queue, cpu, .. } => Some(Place { queue, cpu }),
         _ => None,
+    }
+}
+
+/// Whether the reply ends a queueing that hasn't started.
+fn ends_early(reply: Reply, ended: Option<Queueing>) -> bool
+    ensures { result ≡ ends_early reply ended }
+{
+    match reply {
+        Reply::Finished(_) => false,
+        _ => ended.is_some(),
+    }
+}
+
+/// 1 or 0.
+fn one(test: bool) -> u32
+    ensures one { result ≡ one test }
+    ensures few { result ≤ 1 }
+{
+    if test { 1 } else { 0 }
+}
+
+fn paid_alone(reply: Reply) -> u32
+    ensures paid { result ≡ paid_alone reply }
+    ensures few { result ≤ 2 }
+{
+    match reply {
+        Reply::Started(_) | Reply::StartedEnlist(_, _) => 2,
+        Reply::Finished(_) | Reply::Woke | Reply::Done | Reply::Thawed => 1,
+        _ => 0,
+    }
+}
+
+fn taken_alone(reply: Reply) -> u32
+    ensures taken { result ≡ taken_alone reply }
+    ensures few { result ≤ 1 }
+{
+    if gives_ticket(reply) {
+        return 1;
+    }
+    match reply {
+        Reply::Started(_) | Reply::StartedEnlist(_, _) | Reply::Slept | Reply::Frozen => 1,
+        _ => 0,
     }
 }
 
@@ -259,5 +305,40 @@ impl Book {
                 None => None,
             },
         }
+    }
+
+    /// Whether the entry's item is booked.
+    fn is_item_booked(&self, entry: Entry) -> bool
+        requires { IsInside self.now.layout entry }
+        ensures { result ≡ option_map_or (is_booked (past_of self.now.entries)) (item_of entry) false }
+    {
+        match item_of(entry) {
+            Some(item) => self.is_booked(item),
+            None => false,
+        }
+    }
+
+    /// Whether the entry settles an item that was booked.
+    fn settles_booked(&self, entry: Entry) -> bool
+        requires { IsInside self.now.layout entry }
+        ensures { result ≡ settles_booked (past_of self.now.entries) entry }
+    {
+        settles(entry.reply) && self.is_item_booked(entry)
+    }
+
+    /// What is owed after an entry that ends, opens and books this.
+    pub(crate) fn owed_with(&self, entry: Entry, ended: Option<Queueing>, opened: Option<Queueing>, booked: Option<Booking>) -> u32
+        requires inside { IsInside self.now.layout entry }
+        requires legal { IsLegal self.now.layout (entry ∷ past_of self.now.entries) }
+        requires ended { ended ≡ ending (past_of self.now.entries) entry }
+        requires opened { opened ≡ opening (past_of self.now.entries) entry }
+        requires booked { booked ≡ booking_of entry (length (past_of self.now.entries)) }
+        ensures { result ≡ owed self.now.layout (entry ∷ past_of self.now.entries) }
+    {
+        let unbooked = self.settles_booked(entry);
+        let taken = taken_alone(entry.reply) + 2 * one(opened.is_some()) + 3 * one(booked.is_some());
+        let early = ends_early(entry.reply, ended);
+        let paid = paid_alone(entry.reply) + 2 * one(early) + 3 * one(unbooked);
+        self.owing + taken - paid
     }
 }
