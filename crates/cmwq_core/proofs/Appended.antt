@@ -17,7 +17,6 @@ use Rattle.cmwq_core.specs.Tables.{IsThere, who_place, TellWorker, TellCancelled
 use Rattle.cmwq_core.specs.Book.{Parts, AreParts, IsBook}
 use Rattle.cmwq_core.specs.Effects.{IsEffect, settled_by, item_number}
 use Rattle.cmwq_core.specs.declared.effect.Effect.{Effect}
-use Rattle.cmwq_core.proofs.Quiet.{SaysNothing, IsQuiet, quiet}
 use Rattle.cmwq_core.proofs.Steps.{past_more, small, fits_there, serial_most}
 use Rattle.cmwq_core.proofs.Told.{Told, told_parts}
 
@@ -48,17 +47,3 @@ told_book s room entries capacity old new f b is told ticks within =
       soon = rw (one_more, told.time) (omega arith);
     }
 
-pub quiet_effect : (s : Layout) (past : List Entry) (f : Effect) → IsLegal s (f.entry ∷ past) → SaysNothing f.entry.reply → f.ended ≡ None → f.started ≡ None → f.opened ≡ None → f.done ≡ None → f.begun ≡ None → f.settled ≡ None → f.booked ≡ None → f.owing ≡ owed s (f.entry ∷ past) → IsEffect s past f
-quiet_effect s past f legal says ended started opened done begun settled booked owing =
-    let q = quiet s past f.entry legal says in
-    record {
-      legal = legal;
-      ended = ended ∙ sym q.ending;
-      started = started ∙ sym (ap (option_and_then (queueing_at past)) says.started);
-      opened = opened ∙ sym q.opening;
-      done = done ∙ sym q.done;
-      begun = begun ∙ sym q.begun;
-      settled = ap item_number settled ∙ sym (ap (λ b. if b then item_of f.entry else None) says.settles);
-      booked = booked ∙ sym (ap (option_and_then (booked_by f.entry.call (length past))) says.due);
-      owing = owing;
-    }

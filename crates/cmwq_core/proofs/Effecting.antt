@@ -31,7 +31,20 @@ use Rattle.cmwq_ties.proofs.Members.{found}
 use Rattle.cmwq_ties.proofs.PlacesFit.{open_there}
 use Rattle.cmwq_ties.proofs.PoolNext.{next_task_is}
 use Rattle.std.proofs.Common.{◌-◌, ◌≤◌, ◌+◌, ◌*◌, ◌==◌, Bool, true, false, not, is_some, arith}
-use Rattle.std.proofs.lemmas.Bool.{and_parts}
+use Rattle.std.proofs.Common.{nat_lt, nat_le}
+use Rattle.std.specs.Prelude.{if◌then◌else◌}
+use Rattle.std.proofs.lemmas.Bool.{and_parts, ltb-true}
+use Rattle.cmwq_model.specs.declared.call.Call.{Call}
+use Rattle.cmwq_model.specs.declared.call.Call.TheVariants as call
+use Rattle.cmwq_model.specs.declared.record.Ticket.{Ticket}
+use Rattle.cmwq_model.specs.Layout.{fits, may_make, has_numbers}
+use Rattle.cmwq_model.specs.Tickets.{is_done}
+use Rattle.cmwq_steps.specs.TicketSteps.{ticket_ended, ticket_asked}
+use Rattle.cmwq_ties.proofs.FirstDue.{timers_may_be_told}
+use Rattle.cmwq_ties.proofs.Settled.{place_fits}
+use Rattle.cmwq_core.specs.Book.{is_answered, IsCallInside}
+use Rattle.cmwq_core.specs.Tables.{IsThere}
+use Rattle.cmwq_core.proofs.Steps.{fits_there}
 use Rattle.cmwq_model.specs.declared.record.Booking.{Booking}
 use Rattle.cmwq_model.specs.Bookings.{booking_of}
 use Rattle.cmwq_model.specs.Fate.{is_started}
@@ -43,7 +56,7 @@ use Rattle.cmwq_steps.specs.RoomSteps.{ends_unstarted, settles_booked, paid, tak
 use Rattle.cmwq_steps.proofs.Owing.{owed_goes_on}
 use Rattle.cmwq_steps.proofs.RunSteps.{last_started}
 use Rattle.cmwq_steps.proofs.RunsActive.{found_number}
-use Rattle.cmwq_core.specs.Effects.{ended_from, started_from, next_for, ends_early, paid_alone, taken_alone}
+use Rattle.cmwq_core.specs.Effects.{ended_from, IsInside, started_from, next_for, ends_early, paid_alone, taken_alone}
 use Rattle.cmwq_core.specs.Flights.{starting, run_open}
 use Rattle.cmwq_core.proofs.FlightSteps.{is_start, run_last_start}
 
@@ -175,3 +188,42 @@ owes_with s past e ended opened booked unbooked legal before ends opens_it books
 pub owing_sum : (owing old new t o b p e u t1 o1 b1 p1 e1 u1 : ℕ) → new + (p1 + 2 * e1 + 3 * u1) ≡ old + (t1 + 2 * o1 + 3 * b1) → owing ≡ old → t ≡ t1 → o ≡ o1 → b ≡ b1 → p ≡ p1 → e ≡ e1 → u ≡ u1 →
     (p + 2 * e + 3 * u ≤ owing + (t + 2 * o + 3 * b)) × (owing + (t + 2 * o + 3 * b) - (p + 2 * e + 3 * u) ≡ new)
 owing_sum owing old new t o b p e u t1 o1 b1 p1 e1 u1 law was ht ho hb hp he hu = (omega arith, omega arith)
+
+-- ---- an entry that is no end of a wait
+
+pub no_done : (past : List Entry) (e : Entry) → is_answered e.call ≡ true → None ≡ ticket_ended past e
+no_done past e h = by (is_done e.reply) e.call h
+  where
+    none : (b : Bool) → ◌≡◌ {A = Option Ticket} None (if b then None else None)
+    none true = refl
+    none false = refl
+
+    by : (b : Bool) (c : Call) → is_answered c ≡ true → None ≡ (if b then ticket_asked past e.who c else None)
+    by b (call.End n) k = cc
+    by b c k = none b
+
+pub entry_inside : (s : Layout) (past : List Entry) (e : Entry) → IsLegal s (e ∷ past) → IsInside s e
+entry_inside s past e legal = (timers_may_be_told s past e legal).item
+
+-- ---- the numbers of a call that fits
+
+pub call_inside : (s : Layout) (who : Who) (c : Call) → fits s who c ≡ true → IsCallInside s c
+call_inside s who c fit = by c (and_parts (may_make s who c) (has_numbers s c) fit).1
+  where
+    by : (c : Call) → has_numbers s c ≡ true → IsCallInside s c
+    by (call.Queue i q k) h = let f = place_fits s i.0 q.0 k.0 h in (f.0, f.1)
+    by (call.Delay i q k t) h = let f = place_fits s i.0 q.0 k.0 h in (f.0, f.1)
+    by (call.Modify i q k t) h = let f = place_fits s i.0 q.0 k.0 h in (f.0, f.1)
+    by (call.Cancel i) h = ltb-true i.0 s.items h
+    by (call.Flush q) h = ltb-true q.0 (length s.queues) h
+    by (call.Drain q) h = ltb-true q.0 (length s.queues) h
+    by (call.FlushItem i) h = ltb-true i.0 s.items h
+    by (call.FlushDelayed i) h = ltb-true i.0 s.items h
+    by (call.CancelSync i) h = ltb-true i.0 s.items h
+    by (call.SetMax q n) h = ltb-true q.0 (length s.queues) (and_parts (nat_lt q.0 (length s.queues)) (nat_le 1 n) h).0
+    by (call.Destroy q) h = ltb-true q.0 (length s.queues) h
+    by c h = tt
+
+pub legal_there : (s : Layout) (past : List Entry) (e : Entry) → IsLegal s (e ∷ past) → IsThere s e.who
+unfolding IsLegal
+legal_there s past e legal = fits_there s e.who e.call legal.0

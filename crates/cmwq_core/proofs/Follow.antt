@@ -28,7 +28,6 @@ use Rattle.cmwq_ties.proofs.BarrierSteps.{barriers_follow}
 use Rattle.cmwq_ties.proofs.TimerSteps.{others_keep_timers}
 use Rattle.cmwq_core.specs.Tables.{IsThere, who_place, pool_place, no_pool, pool_in, book_in, ArePools, AreBooks, AreSerials, TellWorker}
 use Rattle.cmwq_core.specs.Book.{Parts, AreParts}
-use Rattle.cmwq_core.proofs.Quiet.{SaysNothing, IsQuiet, quiet}
 
 -- ---- serials
 

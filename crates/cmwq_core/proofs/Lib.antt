@@ -1,6 +1,4 @@
-pub mod Quiet
 pub mod Follow
-pub mod Owing
 pub mod Steps
 pub mod First
 pub mod Listing

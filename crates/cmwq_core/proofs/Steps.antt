@@ -20,9 +20,7 @@ use Rattle.cmwq_steps.specs.Histories.{one}
 use Rattle.cmwq_steps.specs.RoomSteps.{is_slept, is_woke}
 use Rattle.cmwq_ties.proofs.PoolMay.{workers_may_be_told}
 use Rattle.cmwq_core.specs.Tables.{IsThere, who_place, pool_in, ArePools, MayTellWorker, TellWorker}
-use Rattle.cmwq_core.specs.Book.{Kept, Parts, AreParts, IsBook, is_known, next_entry, has_room_in}
-use Rattle.cmwq_core.proofs.Quiet.{SaysNothing, answer_quiet}
-use Rattle.cmwq_core.proofs.Owing.{quiet_owes}
+use Rattle.cmwq_core.specs.Book.{Kept, Parts, AreParts, IsBook, next_entry, has_room_in}
 use Rattle.cmwq_core.proofs.Follow.{IsSmall, pool_place_inside}
 
 pub past_more : (entries : List Entry) (e : Entry) → past_of (entries ++ e ∷ []) ≡ e ∷ past_of entries
@@ -54,19 +52,6 @@ next_legal s past who c legal fit = (fit, refl, legal)
 pub serial_most : (past : List Entry) (who : Who) → serial_of past who ≤ length past
 serial_most past who = count_by-le-length (is_by who) past
 
--- what is owed after the entries of this trial
-pub owes_next : (s : Layout) (past : List Entry) (who : Who) (c : Call) → IsLegal s past → fits s who c ≡ true → is_known c ≡ true →
-    owed s (entry_for s past who c ∷ past) + one (is_woke (answer s past who c)) ≡ owed s past + one (is_slept (answer s past who c))
-owes_next s past who c legal fit known = quiet_owes s past (entry_for s past who c) (next_legal s past who c legal fit) (answer_quiet s past who c known)
-
-pub not_slept : (r : Reply) → (r ≡ reply.Slept → ⊥) → is_slept r ≡ false
-not_slept reply.Slept h = absurd (h refl)
-not_slept r h = refl
-
-pub not_woke : (r : Reply) → (r ≡ reply.Woke → ⊥) → is_woke r ≡ false
-not_woke reply.Woke h = absurd (h refl)
-not_woke r h = refl
-
 -- what the pools are told may be told
 pub may_tell : (s : Layout) (past : List Entry) (e : Entry) (pools : List Lineup) → IsLegal s (e ∷ past) → IsThere s e.who → ArePools s past pools → MayTellWorker e.who e.reply pools
 may_tell s past e pools legal there are = by e.who refl there where
@@ -75,10 +60,3 @@ may_tell s past e pools legal there are = by e.who refl there where
   by (Worker w) is here = (pool_place_inside w.pool s.cpus (length pools) are.many here.0,
     rw (are.each w.pool here.0) (workers_may_be_told s past e w legal is))
 
--- the same by the reply
-pub owes_as : (s : Layout) (past : List Entry) (who : Who) (c : Call) (r : Reply) (woke slept : Bool) → IsLegal s past → fits s who c ≡ true → is_known c ≡ true → r ≡ answer s past who c → is_woke r ≡ woke → is_slept r ≡ slept →
-    owed s (entry_for s past who c ∷ past) + one woke ≡ owed s past + one slept
-owes_as s past who c r woke slept legal fit known is wakes sleeps =
-    let w : is_woke (answer s past who c) ≡ woke = ap is_woke (sym is) ∙ wakes in
-    let z : is_slept (answer s past who c) ≡ slept = ap is_slept (sym is) ∙ sleeps in
-    ap (λ b. owed s (entry_for s past who c ∷ past) + one b) (sym w) ∙ (owes_next s past who c legal fit known ∙ ap (λ b. owed s past + one b) z)

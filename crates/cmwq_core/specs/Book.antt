@@ -81,14 +81,6 @@ has_room_in b who c = nat_le (needed b.layout (next_entry b who c ∷ past_of b.
 abbrev pub and_entry : Kept → Entry → Kept
 and_entry b e = record b { entries = b.entries ++ e ∷ [] }
 
--- the calls of this trial
-abbrev pub is_known : Call → Bool
-is_known (call.Tick t) = true
-is_known call.Sleep = true
-is_known call.Wake = true
-is_known call.Retire = true
-is_known c = false
-
 -- the numbers of the call are inside the layout
 abbrev pub IsCallInside : Layout → Call → Type 0
 IsCallInside s (call.Queue i q c) = (i.0 < s.items) × (q.0 < length s.queues)

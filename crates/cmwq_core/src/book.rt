@@ -8,7 +8,6 @@ ghost use Rattle.cmwq_model.specs.Answer.{answer, own_answer, worker_answer, ret
 ghost use Rattle.cmwq_model.specs.Active as active;
 ghost use Rattle.cmwq_ties.specs.Told.{number_of_queueing};
 ghost use Rattle.cmwq_model.specs.Legal.{past_of, IsLegal};
-ghost use Rattle.cmwq_model.specs.Room.{owed};
 ghost use Rattle.cmwq_ties.specs.Pools.{IsSeatOf, pool_of, run_task};
 ghost use Rattle.cmwq_core.specs.Tables as tables;
 ghost use Rattle.cmwq_core.specs.Effects.{IsEffect};
@@ -18,6 +17,7 @@ mod answers;
 mod effects;
 mod reads;
 
+use self::effects::{booked_by, settled_by, ticket_in};
 use crate::new::{new_books, new_most, new_pools, new_serials};
 use crate::effect::Effect;
 use crate::tables::{frozen_after, list_active, pool_place, tell_barrier_begun, tell_barrier_done, tell_barriers, tell_begun, tell_cancelled, tell_done, tell_ended, tell_flights, tell_line, tell_opened, tell_ticket_begin, tell_ticket_end, tell_timers, tell_width, tell_worker, who_place};
@@ -133,6 +133,14 @@ impl Book {
     pub fn serial(&self, who: Who) -> u32
         requires { tables.IsThere self.now.layout who }
         ensures { result ≡ calls.serial_of (past_of self.now.entries) who }
+    {
+        self.next_serial(who)
+    }
+
+    fn next_serial(&self, who: Who) -> u32
+        requires { tables.IsThere self.now.layout who }
+        ensures is { result ≡ calls.serial_of (past_of self.now.entries) who }
+        ensures legal { IsLegal self.now.layout (past_of self.now.entries) }
     {
         self.serials[who_place(who)]
     }
@@ -366,46 +374,57 @@ impl Book {
         }
     }
 
-    /// What is owed after an entry with this reply.
-    fn owed_after(&self, who: Who, call: Call, reply: Reply) -> u32
+    /// The entry of the call.
+    fn next_entry(&self, who: Who, call: Call) -> Entry
         requires fit { fits self.now.layout who call ≡ true }
-        requires known { kept.is_known call ≡ true }
-        requires is { reply ≡ answer self.now.layout (past_of self.now.entries) who call }
-        ensures owed { result ≡ owed self.now.layout (kept.next_entry self.now who call ∷ past_of self.now.entries) }
-        ensures legal { IsLegal self.now.layout (past_of self.now.entries) }
+        requires known { kept.is_answered call ≡ true }
+        ensures entry { result ≡ kept.next_entry self.now who call }
+        ensures legal { IsLegal self.now.layout (result ∷ past_of self.now.entries) }
     {
-        match reply {
-            Reply::Slept => self.owing + 1,
-            Reply::Woke => self.owing - 1,
-            _ => self.owing,
+        let serial = self.next_serial(who);
+        let reply = self.answer(who, call);
+        Entry {
+            who,
+            serial,
+            call,
+            reply,
+        }
+    }
+
+    /// What an entry does.
+    fn effect_of(&self, entry: Entry) -> Effect
+        requires legal { IsLegal self.now.layout (entry ∷ past_of self.now.entries) }
+        requires known { kept.is_answered entry.call ≡ true }
+        ensures entry { result.entry ≡ entry }
+        ensures is { IsEffect self.now.layout (past_of self.now.entries) result }
+    {
+        let number = self.number();
+        let ended = self.ended_by(entry);
+        let started = self.started_by(entry);
+        let opened = self.opened_by(entry);
+        let booked = booked_by(entry, number);
+        let owing = self.owed_with(entry, ended, opened, booked);
+        Effect {
+            entry,
+            ended,
+            started,
+            opened,
+            done: None,
+            begun: ticket_in(entry, number),
+            settled: settled_by(entry),
+            booked,
+            owing,
         }
     }
 
     /// What the entry of the call does.
     fn effect(&self, who: Who, call: Call) -> Effect
         requires fit { fits self.now.layout who call ≡ true }
-        requires known { kept.is_known call ≡ true }
+        requires known { kept.is_answered call ≡ true }
         ensures entry { result.entry ≡ kept.next_entry self.now who call }
         ensures is { IsEffect self.now.layout (past_of self.now.entries) result }
     {
-        let reply = self.answer(who, call);
-        let serial = self.serial(who);
-        Effect {
-            entry: Entry {
-                who,
-                serial,
-                call,
-                reply,
-            },
-            ended: None,
-            started: None,
-            opened: None,
-            done: None,
-            begun: None,
-            settled: None,
-            booked: None,
-            owing: self.owed_after(who, call, reply),
-        }
+        self.effect_of(self.next_entry(who, call))
     }
 
     /// Whether one more entry and what is owed then are within the room.
@@ -418,7 +437,7 @@ impl Book {
     /// The entry that the step would append.
     pub fn would(&self, who: Who, call: Call) -> Result<Entry, Full>
         requires fit { fits self.now.layout who call ≡ true }
-        requires known { kept.is_known call ≡ true }
+        requires known { kept.is_answered call ≡ true }
         ensures entry { IfOk result (λ e. e ≡ kept.next_entry self.now who call) }
         ensures room { is_ok result ≡ kept.has_room_in self.now who call }
     {
@@ -464,7 +483,7 @@ impl Book {
     /// One event: its entry is appended where there is room for it and for what is owed then.
     pub fn step(&mut self, who: Who, call: Call) -> Result<Reply, Full>
         requires fit { fits self.old.layout who call ≡ true }
-        requires known { kept.is_known call ≡ true }
+        requires known { kept.is_answered call ≡ true }
         ensures room { is_ok result ≡ kept.has_room_in self.old who call }
         ensures answered { IfOk result (λ reply. reply ≡ answer self.old.layout (past_of self.old.entries) who call) }
         ensures appended { IfOk result (λ _. self.new ≡ kept.and_entry self.old (kept.next_entry self.old who call)) }
