@@ -8,5 +8,6 @@ pub mod HoldingSteps
 pub mod WidthSteps
 pub mod Readings
 pub mod Effecting
+pub mod Firing
 pub mod Told
 pub mod Appended

@@ -155,7 +155,7 @@ seat_runs s past w t legal h = by (run past w) refl h
 
 -- ---- draining
 
-as_test : (b : Bool) (n : ℕ) → IsTrue b ↔ (0 < n) → b ≡ nat_lt 0 n
+pub as_test : (b : Bool) (n : ℕ) → IsTrue b ↔ (0 < n) → b ≡ nat_lt 0 n
 as_test true n h = sym (lt-ltb 0 n (h.0 refl))
 as_test false n h = sym (le-ltb 0 n (by n h))
   where

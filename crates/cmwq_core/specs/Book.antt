@@ -98,6 +98,5 @@ IsCallInside s c = Unit {0}
 
 -- the calls that this book answers so far
 abbrev pub is_answered : Call → Bool
-is_answered call.Fire = false
 is_answered (call.End n) = false
 is_answered c = true

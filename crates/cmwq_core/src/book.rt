@@ -15,6 +15,7 @@ ghost use Rattle.cmwq_core.specs.Book as kept;
 
 mod answers;
 mod effects;
+mod fire;
 mod reads;
 
 use self::effects::{booked_by, settled_by, ticket_in};
@@ -344,6 +345,7 @@ impl Book {
             Call::Modify { item, queue, ticks, .. } => self.modify_answer(who, item, queue, ticks),
             Call::Cancel { item } => self.cancel_answer(who, item),
             Call::Tick { ticks } => Reply::Now(self.time() + u64::from(ticks)),
+            Call::Fire => self.fire_answer(),
             Call::Flush { queue } => self.wait_answer(who, queue),
             Call::Drain { queue } => self.wait_answer(who, queue),
             Call::FlushItem { item } => self.flush_item_answer(who, item),
