@@ -1,23 +1,14 @@
 -- A book that is told of an effect is one further on.
-use Rattle.std.proofs.Common.{◌≡◌, ℕ, ◌+◌, ◌*◌, ◌^◌, ◌<◌, ◌≤◌, Bool, true, false, List, [], ◌∷◌, ◌++◌, length, Option, Some, None, refl, sym, ap, ap₂, ◌∙◌, subst, arith, IsTrue, length-append}
-use Rattle.std.specs.Prelude.{slice_set, if◌then◌else◌, option_and_then}
-use Rattle.std.proofs.lemmas.List.{length-reverse}
+use Rattle.std.proofs.Common.{◌≡◌, ℕ, ◌+◌, ◌^◌, ◌<◌, ◌≤◌, true, List, [], ◌∷◌, ◌++◌, length, ap, arith, length-append}
 use Rattle.cmwq_model.specs.declared.entry.Entry.{Entry}
-use Rattle.cmwq_model.specs.Layout.{Layout, is_layout, fits}
-use Rattle.cmwq_model.specs.Calls.{item_of, serial_of, ticks_told}
-use Rattle.cmwq_model.specs.Bookings.{settles, booking_of, booked_by}
-use Rattle.cmwq_model.specs.Queueings.{queueing_at}
-use Rattle.cmwq_model.specs.Legal.{IsLegal, past_of, entry_for}
-use Rattle.cmwq_model.specs.Room.{owed}
-use Rattle.cmwq_pool.specs.Lineup.{Lineup}
-use Rattle.cmwq_flush.specs.FlushBook.{FlushBook}
-use Rattle.cmwq_ties.specs.BarrierBooks as barriers
-use Rattle.cmwq_ties.specs.Timers as timers
-use Rattle.cmwq_core.specs.Tables.{IsThere, who_place, TellWorker, TellCancelled, TellEnded, TellOpened}
-use Rattle.cmwq_core.specs.Book.{Parts, AreParts, IsBook}
-use Rattle.cmwq_core.specs.Effects.{IsEffect, settled_by, item_number}
+use Rattle.cmwq_model.specs.Layout.{Layout, fits}
+use Rattle.cmwq_model.specs.Calls.{serial_of, ticks_told}
+use Rattle.cmwq_model.specs.Legal.{IsLegal, past_of}
+use Rattle.cmwq_core.specs.Tables.{IsThere}
+use Rattle.cmwq_core.specs.Book.{Parts, IsBook}
+use Rattle.cmwq_core.specs.Effects.{IsEffect}
 use Rattle.cmwq_core.specs.declared.effect.Effect.{Effect}
-use Rattle.cmwq_core.proofs.Steps.{past_more, small, fits_there, serial_most}
+use Rattle.cmwq_core.proofs.Steps.{past_more, small, fits_there}
 use Rattle.cmwq_core.proofs.Told.{Told, told_parts}
 
 pub effect_fits : (s : Layout) (past : List Entry) (f : Effect) → IsEffect s past f → fits s f.entry.who f.entry.call ≡ true
@@ -46,4 +37,3 @@ told_book s room entries capacity old new f b is told ticks within =
       within = rw (one_more, told.owing) within;
       soon = rw (one_more, told.time) (omega arith);
     }
-

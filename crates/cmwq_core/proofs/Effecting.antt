@@ -1,5 +1,5 @@
 -- What an entry does, read off the book.
-use Rattle.std.proofs.Common.{◌≡◌, ℕ, ◌<◌, List, ◌∷◌, length, Option, Some, None, refl, sym, ap, ap₂, ◌∙◌, subst}
+use Rattle.std.proofs.Common.{◌≡◌, ℕ, ◌<◌, List, ◌∷◌, length, Option, Some, None, refl, sym, ap, ◌∙◌, subst}
 use Rattle.std.specs.Prelude.{option_and_then, option_map}
 use Rattle.std.specs.Option.{option_map_or}
 use Rattle.std.proofs.lemmas.Option.{same_Some}
@@ -22,7 +22,6 @@ use Rattle.cmwq_model.specs.Legal.{IsLegal}
 use Rattle.cmwq_steps.specs.Endings.{ending}
 use Rattle.cmwq_steps.specs.ItemQueueings.{queueing_run, ended_by}
 use Rattle.cmwq_steps.proofs.EndsAsTold.{ends_as_told, runs_are_queueings}
-use Rattle.cmwq_steps.proofs.Starts.{starts_next}
 use Rattle.cmwq_steps.proofs.Unstarted.{next_unstarted}
 use Rattle.cmwq_pool.specs.declared.task.Task.{Task}
 use Rattle.cmwq_pool.specs.Lineup.{next_task}
@@ -52,7 +51,7 @@ use Rattle.cmwq_model.specs.Queueings.{opening}
 use Rattle.cmwq_model.specs.Room.{owed, has_not_started}
 use Rattle.cmwq_model.specs.Runs.{run}
 use Rattle.cmwq_steps.specs.Histories.{one}
-use Rattle.cmwq_steps.specs.RoomSteps.{ends_unstarted, settles_booked, paid, taken_on}
+use Rattle.cmwq_steps.specs.RoomSteps.{ends_unstarted, settles_booked}
 use Rattle.cmwq_steps.proofs.Owing.{owed_goes_on}
 use Rattle.cmwq_steps.proofs.RunSteps.{last_started}
 use Rattle.cmwq_steps.proofs.RunsActive.{found_number}

@@ -1,11 +1,7 @@
 -- The parts of a new book are those of no entries.
-use Rattle.std.proofs.Common.{◌≡◌, ℕ, ◌+◌, ◌*◌, ◌<◌, ◌≤◌, Bool, true, false, List, [], length, replicate, refl, sym, ap, ◌∙◌, arith, Some, None, subst, get_or}
-use Rattle.std.specs.Prelude.{slice_index, slice_index_or}
+use Rattle.std.proofs.Common.{◌≡◌, ℕ, ◌*◌, ◌<◌, ◌≤◌, true, false, List, [], length, replicate, refl, sym, ◌∙◌, arith, None, subst}
+use Rattle.std.specs.Prelude.{slice_index}
 use Rattle.std.proofs.lemmas.List.{get_or-replicate, length-replicate}
-use Rattle.cmwq_model.specs.declared.id.PoolId.{PoolId}
-use Rattle.cmwq_model.specs.declared.id.Who.{Who}
-use Rattle.cmwq_model.specs.declared.id.Who.TheVariants.{Caller, Worker}
-use Rattle.cmwq_model.specs.declared.entry.Entry.{Entry}
 use Rattle.cmwq_model.specs.Layout.{Layout, is_layout}
 use Rattle.cmwq_model.specs.Calls.{now}
 use Rattle.cmwq_model.specs.Legal.{IsLegal}
@@ -19,7 +15,7 @@ use Rattle.cmwq_ties.proofs.PoolSteps.{pools_at_first}
 use Rattle.cmwq_ties.proofs.FlushSteps.{flushes_at_first}
 use Rattle.cmwq_ties.proofs.BarrierSteps.{barriers_at_first}
 use Rattle.cmwq_ties.proofs.TimerSteps.{no_timers_at_first}
-use Rattle.cmwq_core.specs.Tables.{IsThere, pool_place, no_pool, no_book, who_place, ArePools, AreBooks, AreSerials}
+use Rattle.cmwq_core.specs.Tables.{pool_place, no_pool, no_book, who_place}
 use Rattle.cmwq_model.specs.Queueings.{queueings}
 use Rattle.cmwq_steps.specs.Places.{active_count}
 use Rattle.cmwq_timer.specs.Rows.{Rows}
@@ -64,7 +60,7 @@ first_time = refl
 
 flights_at_first : (s : Layout) → AreFlights s [] (new_flights s.items)
 unfolding queueings item_start
-flights_at_first s = record { many = length-replicate s.items no_flight; each = λ i here. get_or-replicate s.items i no_flight no_flight here; }
+flights_at_first s = record { many = length-replicate s.items no_flight; each = λ i here. get_or-replicate s.items i no_flight no_flight here }
 
 zeros : (n i : ℕ) → i < n → slice_index (replicate n 0) i ≡ 0
 zeros n i here = get_or-replicate n i 0 0 here
@@ -73,10 +69,14 @@ held_at_first : (s : Layout) → AreHeld s [] (new_held s.callers s.items (lengt
 unfolding tickets is_gone
 held_at_first s = record {
   tickets = refl;
-  many_callers = length-replicate s.callers (let n : ℕ = 0 in n); callers = λ c here. zeros s.callers c here;
-  many_cancelling = length-replicate s.items (let n : ℕ = 0 in n); cancelling = λ i here. zeros s.items i here;
-  many_destroying = length-replicate (length s.queues) (let n : ℕ = 0 in n); destroying = λ q here. zeros (length s.queues) q here;
-  many_gone = length-replicate (length s.queues) false; gone = λ q here. get_or-replicate (length s.queues) q false false here;
+  many_callers = length-replicate s.callers (let n : ℕ = 0 in n);
+  callers = λ c here. zeros s.callers c here;
+  many_cancelling = length-replicate s.items (let n : ℕ = 0 in n);
+  cancelling = λ i here. zeros s.items i here;
+  many_destroying = length-replicate (length s.queues) (let n : ℕ = 0 in n);
+  destroying = λ q here. zeros (length s.queues) q here;
+  many_gone = length-replicate (length s.queues) false;
+  gone = λ q here. get_or-replicate (length s.queues) q false false here;
 }
 
 line_at_first : (s : Layout) → IsLineOf s [] (new_lined (length s.queues) (2 * s.items))
@@ -115,9 +115,13 @@ parts_at_first s small = record {
 pub book_at_first : (s : Layout) (room capacity : ℕ) → is_layout s ≡ true → room ≤ 1010000 → room ≤ capacity → IsBook s room [] capacity (first_parts s)
 unfolding IsLegal
 book_at_first s room capacity inside few reserved = record {
-  inside = inside; few = few; reserved = reserved; legal = tt;
+  inside = inside;
+  few = few;
+  reserved = reserved;
+  legal = tt;
   parts_are = parts_at_first s (small s inside);
-  within = omega arith; soon = omega arith;
+  within = omega arith;
+  soon = omega arith;
 }
 
 -- so the parts that are made are those of a book

@@ -1,12 +1,10 @@
 -- The flights that are told of an entry are those of the longer history.
-use Rattle.std.proofs.Common.{◌≡◌, ℕ, suc, ◌+◌, ◌<◌, ◌≤◌, Bool, true, false, not, ◌&&◌, ◌||◌, ◌==◌, List, [], ◌∷◌, ◌++◌, length, filter, find, cond, Option, Some, None, option_to_list, is_some, refl, sym, ap, ap₂, ◌∙◌, subst, arith, ⊎_elim, inl, inr}
-use Rattle.std.specs.List.{AllByRecursion, list_any}
+use Rattle.std.proofs.Common.{◌≡◌, ℕ, ◌<◌, Bool, true, false, not, ◌&&◌, ◌||◌, ◌==◌, List, ◌∷◌, ◌++◌, length, filter, Option, Some, None, option_to_list, refl, sym, ap, ap₂, ◌∙◌, subst, arith}
 use Rattle.std.specs.Option.{option_or, option_map_or}
 use Rattle.std.specs.Prelude.{if◌then◌else◌, option_and_then, option_map}
 use Rattle.std.proofs.lemmas.Bool.{eqb-true, eq-eqb, and_parts, false_from_ne_true, not-true}
 use Rattle.std.proofs.lemmas.Option.{same_Some}
-use Rattle.cmwq_model.specs.declared.id.Who.{Who}
-use Rattle.cmwq_model.specs.declared.id.Who.TheVariants.{Caller, Worker}
+use Rattle.cmwq_model.specs.declared.id.Who.TheVariants.{Worker}
 use Rattle.cmwq_model.specs.declared.id.WorkerId.{WorkerId}
 use Rattle.cmwq_model.specs.declared.reply.Reply.{Reply}
 use Rattle.cmwq_model.specs.declared.reply.Reply.TheVariants as reply
@@ -15,8 +13,8 @@ use Rattle.cmwq_model.specs.declared.record.Queueing.{Queueing}
 use Rattle.cmwq_model.specs.declared.record.Start.{Start}
 use Rattle.cmwq_model.specs.Layout.{Layout}
 use Rattle.cmwq_model.specs.Calls.{is_at, item_of, item_at, is_of_item, worker_of}
-use Rattle.cmwq_model.specs.Fate.{number_started, number_finished, starts, finishes, takes_back, replaces, is_started}
-use Rattle.cmwq_model.specs.Runs.{run, last_start, item_run, item_start, start_in, starts_item, is_number_open}
+use Rattle.cmwq_model.specs.Fate.{number_started, starts, finishes, replaces, is_started}
+use Rattle.cmwq_model.specs.Runs.{run, last_start, item_run, start_in, starts_item, is_number_open}
 use Rattle.cmwq_model.specs.Queueings.{queueings, still_open, opening, opens, is_live, is_unstarted, unstarted, queueing_at, queued_at, place_wanted, has_number}
 use Rattle.cmwq_model.specs.Active.{next}
 use Rattle.cmwq_model.specs.Legal.{IsLegal}
@@ -41,7 +39,7 @@ use Rattle.cmwq_ties.proofs.Members.{In, of_in, in_left, in_right, in_filter, fi
 use Rattle.cmwq_ties.proofs.Rising.{rises_unique}
 use Rattle.cmwq_ties.proofs.QueueingSteps.{QueueingStep, ends_one, ends_none, queueing_step, open_numbers_rise}
 use Rattle.cmwq_parts.specs.declared.flights.Flight.{Flight}
-use Rattle.cmwq_parts.specs.Flights.{flight_at, without_number, flight_ended, flight_started, flight_opened}
+use Rattle.cmwq_parts.specs.Flights.{without_number, flight_ended, flight_started, flight_opened}
 use Rattle.cmwq_core.specs.Flights.{AreFlights, run_open, flight_of, starting, row_ended, row_started, row_opened, TellFlights}
 
 -- ---- a row's two parts
@@ -157,7 +155,9 @@ module _ (s : Layout) (past : List Entry) (e : Entry) (legal : IsLegal s (e ∷ 
         is_unstarted = un;
         stands = stands;
         is_starting = ap (option_and_then (queueing_at past)) h ∙ at_n;
-        worker = st.worker; by_worker = st.by_worker; is_next = st.is_next;
+        worker = st.worker;
+        by_worker = st.by_worker;
+        is_next = st.is_next;
         ends_nothing = none.0;
         opens_nothing = none.1;
         spares = all_spared none.0;
@@ -255,8 +255,8 @@ module _ (s : Layout) (past : List Entry) (e : Entry) (legal : IsLegal s (e ∷ 
       by st false item (Some y) is =
           let k = unstarted_stands i y is in
           let other : (n == y.number) ≡ false = false_from_ne_true (n == y.number) (λ same.
-              let it = rises_unique number_of_queueing (still_open past) st.queueing y (open_numbers_rise past) st.stands k.0 (st.number ∙ eqb-true n y.number same) in
-              differ (sym item ∙ eq-eqb st.queueing.item.0 i (ap (λ (z : Queueing). z.item.0) it ∙ k.1))) in
+          let it = rises_unique number_of_queueing (still_open past) st.queueing y (open_numbers_rise past) st.stands k.0 (st.number ∙ eqb-true n y.number same) in
+          differ (sym item ∙ eq-eqb st.queueing.item.0 i (ap (λ (z : Queueing). z.item.0) it ∙ k.1))) in
           let left : is_left past e y ≡ true = ap₂ (λ a b. a && not b) (st.spares y k.0) (starts_this st y ∙ other) in
           is ∙ sym (ap (still_unstarted past e) is ∙ ap (λ b. if b then Some y else None) left)
 
@@ -293,7 +293,9 @@ module _ (s : Layout) (past : List Entry) (e : Entry) (legal : IsLegal s (e ∷ 
       let not_back = started_not_cancelled s past e q.number legal started in
       let not_replaced : is_replaced past e q ≡ false = ap (λ b. replaces e.reply && is_of_item q.item.0 e && not b) started ∙ last (replaces e.reply && is_of_item q.item.0 e) in
       record {
-        queueing = q; is_found = r.found; number = number;
+        queueing = q;
+        is_found = r.found;
+        number = number;
         stands = filter_in (is_live past) (queueings past) q there r.live;
         item = r.item;
         spared_as = ap₂ (λ a b. not (finishes q.number e) && not a && not b) not_back not_replaced ∙ (any (not (finishes q.number e)) ∙ ap (λ m. not (finishes m e)) number);

@@ -1,33 +1,20 @@
 -- The parts that are told of one more entry are those of the longer history.
-use Rattle.std.proofs.Common.{◌≡◌, ◌≢◌, ℕ, ◌+◌, ◌*◌, ◌<◌, ◌≤◌, Bool, true, false, not, ◌==◌, ◌&&◌, List, [], ◌∷◌, length, Option, Some, None, refl, sym, ap, ap₂, ◌∙◌, subst, arith, get_or, IsTrue}
+use Rattle.std.proofs.Common.{◌≡◌, ◌≢◌, ℕ, ◌+◌, ◌*◌, ◌<◌, ◌≤◌, Bool, true, false, List, ◌∷◌, length, refl, sym, ap, ◌∙◌, arith, get_or}
 use Rattle.std.specs.Prelude.{slice_set, slice_index_or, if◌then◌else◌}
 use Rattle.std.proofs.lemmas.List.{get_or-set_other, get_or_default, length-set}
 use Rattle.std.proofs.lemmas.Grind.{common_steps, get_or-set_at}
 use Rattle.cmwq_model.specs.declared.id.PoolId.{PoolId}
-use Rattle.cmwq_model.specs.declared.id.WorkerId.{WorkerId}
 use Rattle.cmwq_model.specs.declared.id.Who.{Who}
 use Rattle.cmwq_model.specs.declared.id.Who.TheVariants.{Caller, Worker}
 use Rattle.cmwq_model.specs.declared.entry.Entry.{Entry}
 use Rattle.cmwq_model.specs.Layout.{Layout}
-use Rattle.cmwq_model.specs.Calls.{same_who, is_by, serial_of, now, ticks_told}
-use Rattle.cmwq_model.specs.Legal.{IsLegal}
-use Rattle.cmwq_model.specs.Room.{owed}
+use Rattle.cmwq_model.specs.Calls.{same_who, serial_of}
 use Rattle.cmwq_pool.specs.Lineup.{Lineup}
-use Rattle.cmwq_flush.specs.FlushBook.{FlushBook}
-use Rattle.cmwq_steps.proofs.StateSteps.{time_goes_on, serials_go_on}
+use Rattle.cmwq_steps.proofs.StateSteps.{serials_go_on}
 use Rattle.cmwq_steps.proofs.ItemRuns.{same_worker-true}
 use Rattle.cmwq_steps.specs.Histories.{one}
-use Rattle.cmwq_steps.specs.Activations.{is_in}
 use Rattle.cmwq_ties.specs.Pools as pools
-use Rattle.cmwq_ties.specs.FlushBooks as flushes
-use Rattle.cmwq_ties.specs.BarrierBooks as barriers
-use Rattle.cmwq_ties.specs.Timers as timers
-use Rattle.cmwq_ties.proofs.PoolSteps.{pools_follow}
-use Rattle.cmwq_ties.proofs.FlushSteps.{flushes_follow}
-use Rattle.cmwq_ties.proofs.BarrierSteps.{barriers_follow}
-use Rattle.cmwq_ties.proofs.TimerSteps.{others_keep_timers}
-use Rattle.cmwq_core.specs.Tables.{IsThere, who_place, pool_place, no_pool, pool_in, book_in, ArePools, AreBooks, AreSerials, TellWorker}
-use Rattle.cmwq_core.specs.Book.{Parts, AreParts}
+use Rattle.cmwq_core.specs.Tables.{IsThere, who_place, pool_place, no_pool, ArePools, AreSerials}
 
 -- ---- serials
 

@@ -1,19 +1,18 @@
 -- The tickets that are told of an entry are those of the longer history.
-use Rattle.std.proofs.Common.{◌≡◌, ℕ, ◌+◌, ◌*◌, ◌^◌, ◌<◌, ◌≤◌, Bool, true, false, not, ◌&&◌, ◌||◌, ◌==◌, List, [], ◌∷◌, ◌++◌, append-nil, length, length-append, filter, count_by, cond, Option, Some, None, option_to_list, refl, sym, ap, ap₂, ◌∙◌, subst, arith, ⊎_elim, inl, IsTrue, nat_lt}
+use Rattle.std.proofs.Common.{◌≡◌, ℕ, ◌+◌, ◌^◌, ◌<◌, ◌≤◌, Bool, true, false, not, ◌&&◌, ◌||◌, ◌==◌, List, [], ◌∷◌, ◌++◌, append-nil, length, length-append, filter, count_by, cond, Option, Some, None, option_to_list, refl, sym, ap, ap₂, ◌∙◌, subst, arith, ⊎_elim}
 use Rattle.std.specs.List.{AllByRecursion}
 use Rattle.std.specs.Option.{option_map_or}
 use Rattle.std.specs.Prelude.{if◌then◌else◌, slice_index}
-use Rattle.std.proofs.lemmas.Bool.{eqb-true, eq-eqb, ltb-true, and_parts}
+use Rattle.std.proofs.lemmas.Bool.{eqb-true, eq-eqb, ltb-true}
 use Rattle.std.proofs.lemmas.Option.{same_Some}
 use Rattle.std.proofs.lemmas.List.Sums.{count_by-le-length}
-use Rattle.cmwq_model.specs.declared.id.Who.{Who}
-use Rattle.cmwq_model.specs.declared.id.Who.TheVariants.{Caller, Worker}
+use Rattle.cmwq_model.specs.declared.id.Who.TheVariants.{Caller}
 use Rattle.cmwq_model.specs.declared.call.Call.{Call}
 use Rattle.cmwq_model.specs.declared.call.Call.TheVariants as call
 use Rattle.cmwq_model.specs.declared.entry.Entry.{Entry}
 use Rattle.cmwq_model.specs.declared.record.Ticket.{Ticket}
-use Rattle.cmwq_model.specs.Layout.{Layout, is_layout, has_numbers}
-use Rattle.cmwq_model.specs.Tickets.{unended, ticket_in, is_cancel_sync_of, is_destroy_of, is_gone, is_done, ends_destroy, cancels_sync, destroys}
+use Rattle.cmwq_model.specs.Layout.{Layout, has_numbers}
+use Rattle.cmwq_model.specs.Tickets.{unended, is_cancel_sync_of, is_destroy_of, is_gone, is_done, ends_destroy, cancels_sync, destroys}
 use Rattle.cmwq_model.specs.Legal.{IsLegal}
 use Rattle.cmwq_active.proofs.Lists.{count_by-cons}
 use Rattle.cmwq_steps.specs.Histories.{one}
@@ -21,12 +20,12 @@ use Rattle.cmwq_steps.specs.TicketSteps.{is_kept, ticket_asked, ticket_ended, pa
 use Rattle.cmwq_steps.proofs.Filters.{filter_same}
 use Rattle.cmwq_steps.proofs.TicketSteps.{unended_go_on, tickets_go_on}
 use Rattle.cmwq_ties.specs.Told.{ticket_given}
-use Rattle.cmwq_ties.proofs.Members.{In, all_in, of_in}
+use Rattle.cmwq_ties.proofs.Members.{In, all_in}
 use Rattle.cmwq_ties.proofs.PlacesFit.{unended_fit}
 use Rattle.cmwq_ties.proofs.Settled.{numbers_fit}
 use Rattle.cmwq_ties.proofs.TicketLimits.{unended_few}
-use Rattle.cmwq_ties.proofs.TicketSteps.{TicketStep, ends_one, ends_none, ticket_step, ends_only, EndsIt, ends_it, ticket_in_is}
-use Rattle.cmwq_parts.specs.Held.{Held, EndsTicket, BeginsTicket, MayEndTicket, MayBeginTicket, IsInside, is_gone_at, is_other_ticket}
+use Rattle.cmwq_ties.proofs.TicketSteps.{TicketStep, ends_one, ends_none, ticket_step, ends_only, ends_it, ticket_in_is}
+use Rattle.cmwq_parts.specs.Held.{Held, MayEndTicket, IsInside, is_gone_at, is_other_ticket}
 use Rattle.cmwq_core.specs.Tables.{IsThere}
 use Rattle.cmwq_core.proofs.Follow.{same_who_is}
 use Rattle.cmwq_core.specs.Holdings.{AreHeld, is_of_caller, MayEnd, MayBegin, TellEnd, TellBegin}
@@ -59,7 +58,7 @@ module _ (s : Layout) (past : List Entry) (e : Entry) (legal : IsLegal s (e ∷ 
       which (ends_one u is2 here it) =
           let same = same_Some u t (sym is2 ∙ is) in
           filter_same (is_other_ticket t.number) (is_kept e) (unended past) (all_in (λ v. is_other_ticket t.number v ≡ is_kept e v) (unended past) (λ v listed.
-            ap (λ (w : Ticket). not (v.number == w.number)) (sym same) ∙ sym (ends_only past e u here it v listed)))
+          ap (λ (w : Ticket). not (v.number == w.number)) (sym same) ∙ sym (ends_only past e u here it v listed)))
 
   tickets_begun : (mid new : Held) → mid.unended ≡ filter (is_kept e) (unended past) → (o : Option Ticket) → ticket_given past e ≡ o → TellBegin o mid new → new.unended ≡ unended (e ∷ past)
   tickets_begun mid new are None is told = ap (λ (h : Held). h.unended) told ∙ (are ∙ sym (unended_go_on s past e legal ∙ (ap (λ o. filter (is_kept e) (unended past) ++ option_to_list o) is ∙ append-nil (filter (is_kept e) (unended past)))))

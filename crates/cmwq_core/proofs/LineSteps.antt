@@ -1,39 +1,39 @@
 -- The line that is told of an entry is that of the longer history.
-use Rattle.std.proofs.Common.{◌≡◌, ◌≢◌, ℕ, ◌+◌, ◌*◌, ◌-◌, ◌<◌, ◌≤◌, Bool, true, false, not, ◌&&◌, ◌||◌, ◌==◌, append-nil, ⊎_elim, inl, List, [], ◌∷◌, ◌++◌, length, filter, count_by, cond, Option, Some, None, option_to_list, refl, sym, ap, ap₂, ◌∙◌, subst, arith, IsTrue, nat_lt, length-append, All}
+use Rattle.std.proofs.Common.{◌≡◌, ℕ, ◌+◌, ◌*◌, ◌-◌, ◌<◌, ◌≤◌, Bool, true, false, not, ◌&&◌, ◌||◌, ◌==◌, append-nil, ⊎_elim, inl, List, [], ◌∷◌, ◌++◌, length, filter, count_by, cond, Option, Some, None, option_to_list, refl, sym, ap, ap₂, ◌∙◌, subst, arith, nat_lt, length-append}
 use Rattle.std.specs.List.{AllByRecursion, list_any}
 use Rattle.std.specs.Prelude.{slice_set, if◌then◌else◌}
 use Rattle.std.proofs.lemmas.Bool.{eq-eqb, eqb-true, false_from_ne_true, not-true, not-false}
 use Rattle.std.proofs.lemmas.Option.{same_Some}
 use Rattle.std.specs.Option.{option_map_or}
-use Rattle.std.proofs.lemmas.List.Elements.{filter-append, All-from_recursion}
+use Rattle.std.proofs.lemmas.List.Elements.{All-from_recursion}
 use Rattle.std.proofs.lemmas.List.Folds.{list_any_none}
 use Rattle.std.proofs.lemmas.List.Sums.{length-filter, count_by-le-length}
 use Rattle.std.proofs.lemmas.List.{length-set}
 use Rattle.cmwq_model.specs.declared.entry.Entry.{Entry}
 use Rattle.cmwq_model.specs.declared.record.Queueing.{Queueing}
-use Rattle.cmwq_model.specs.Layout.{Layout, is_layout}
+use Rattle.cmwq_model.specs.Layout.{Layout}
 use Rattle.cmwq_model.specs.Widths.{width}
 use Rattle.cmwq_model.specs.Queueings.{still_open, opening, has_number}
 use Rattle.cmwq_model.specs.Active.{has_way, is_active, newly_active}
 use Rattle.cmwq_model.specs.Legal.{IsLegal}
-use Rattle.cmwq_active.proofs.Lists.{All_map, All_filter, All_each}
+use Rattle.cmwq_active.proofs.Lists.{All_map, All_filter}
 use Rattle.cmwq_steps.specs.Histories.{one}
-use Rattle.cmwq_steps.specs.Places.{is_on, open_on, active_count}
+use Rattle.cmwq_steps.specs.Places.{is_on, active_count}
 use Rattle.cmwq_steps.specs.Endings.{is_spared, ending}
 use Rattle.cmwq_steps.specs.Activations.{waits, stay_count}
 use Rattle.cmwq_steps.specs.Waiting.{waiting, candidates, has_none, ends_active_on}
-use Rattle.cmwq_steps.proofs.Filters.{filter_twice, filter_same}
+use Rattle.cmwq_steps.proofs.Filters.{filter_same}
 use Rattle.cmwq_steps.proofs.Waiting.{candidates_are, newly_are, waiting_goes_on}
 use Rattle.cmwq_steps.proofs.Way.{way_by_picked}
 use Rattle.cmwq_steps.proofs.ActiveCounts.{stays_counted, active_count_goes_on}
 use Rattle.cmwq_steps.proofs.Limits.{two_for_each_item}
 use Rattle.cmwq_ties.specs.Told.{number_of_queueing}
 use Rattle.cmwq_ties.specs.Places as places
-use Rattle.cmwq_ties.proofs.PlacesFit.{open_there, opened_are_there}
+use Rattle.cmwq_ties.proofs.PlacesFit.{open_there}
 use Rattle.cmwq_ties.proofs.Members.{In, of_in, all_in, in_right, in_filter, filter_in}
 use Rattle.cmwq_ties.proofs.Rising.{rises_unique}
 use Rattle.cmwq_ties.proofs.QueueingSteps.{QueueingStep, ends_one, ends_none, queueing_step, open_numbers_rise}
-use Rattle.cmwq_parts.specs.Line.{Lined, count_at, count_beside, place_of, is_waiting, is_other, ended, opened, HaveWay, Passes, IsPlaced, ArePlaced, width_by}
+use Rattle.cmwq_parts.specs.Line.{Lined, count_at, count_beside, place_of, is_waiting, is_other, ended, HaveWay, Passes, IsPlaced, ArePlaced}
 use Rattle.cmwq_parts.proofs.Passes.{count_set, place_inside, on_itself, on_parts}
 use Rattle.cmwq_core.specs.Lines.{IsLineOf, told_ended, told_opened, MayEnd, MayOpen}
 
@@ -113,11 +113,11 @@ module _ (s : Layout) (past : List Entry) (e : Entry) (legal : IsLegal s (e ∷ 
     many = are.many;
     waiting = ap (filter (is_other x.number)) are.waiting ∙ filter_same (is_other x.number) (is_spared past e) (waiting s past) (among_waiting (λ y. is_other x.number y ≡ is_spared past e y) s past (All_map _ _ (still_open past) (λ y h. sym h) spared));
     counts = λ q c here less.
-      let counted = stays_one q c x is in
-      let inactive : is_active s past x ≡ false = not-true (is_active s past x) stays in
-      let zero : one (is_on q c x && is_active s past x) ≡ 0 = ap (λ b. one (is_on q c x && b)) inactive ∙ none (is_on q c x) in
-      let was = are.counts q c here less in
-      omega arith;
+        let counted = stays_one q c x is in
+        let inactive : is_active s past x ≡ false = not-true (is_active s past x) stays in
+        let zero : one (is_on q c x && is_active s past x) ≡ 0 = ap (λ b. one (is_on q c x && b)) inactive ∙ none (is_on q c x) in
+        let was = are.counts q c here less in
+        omega arith;
   }
     where
       none : (b : Bool) → one (b && false) ≡ 0
@@ -130,7 +130,7 @@ module _ (s : Layout) (past : List Entry) (e : Entry) (legal : IsLegal s (e ∷ 
     room = are.room;
     many = length-set l.counts (place_of x.place.queue.0 x.place.cpu.0) (count_beside l.counts x - 1) ∙ are.many;
     waiting = are.waiting ∙ sym (filter_all (is_spared past e) (waiting s past) (all_in (λ y. is_spared past e y ≡ true) (waiting s past) (λ y listed.
-      of_in (λ z. is_spared past e z ≡ not (z.number == x.number)) (still_open past) y spared (in_filter (waits s past) (still_open past) y listed).0 ∙ ap not (other_number s past x y here fails listed))));
+        of_in (λ z. is_spared past e z ≡ not (z.number == x.number)) (still_open past) y spared (in_filter (waits s past) (still_open past) y listed).0 ∙ ap not (other_number s past x y here fails listed))));
     counts = λ q c inside less. count_set l.counts x (count_beside l.counts x - 1) q c cpu less at ∙ by q c inside less (is_on q c x) refl;
   }
     where
@@ -158,11 +158,15 @@ module _ (s : Layout) (past : List Entry) (e : Entry) (legal : IsLegal s (e ∷ 
       by q c inside less false on = let was = are.counts q c inside less in let step = counted q c false on in omega arith
 
   line_ended_as : (l : Lined) → IsLineOf s past l → IsLegal s past → QueueingStep past e → (o : Option Queueing) → ending past e ≡ o → IsMid s past e (told_ended o l) × MayEnd o l
-  line_ended_as l are before (ends_none is spared) None same = (record {
-    room = are.room; many = are.many;
-    waiting = are.waiting ∙ sym (filter_all (is_spared past e) (waiting s past) (among_waiting (λ y. is_spared past e y ≡ true) s past spared));
-    counts = λ q c here less. are.counts q c here less ∙ sym (stays_none q c is);
-  }, tt)
+  line_ended_as l are before (ends_none is spared) None same = (
+    record {
+      room = are.room;
+      many = are.many;
+      waiting = are.waiting ∙ sym (filter_all (is_spared past e) (waiting s past) (among_waiting (λ y. is_spared past e y ≡ true) s past spared));
+      counts = λ q c here less. are.counts q c here less ∙ sym (stays_none q c is);
+    },
+    tt,
+  )
   line_ended_as l are before (ends_none is spared) (Some x) same = cc
   line_ended_as l are before (ends_one y is here spared) None same = cc
   line_ended_as l are before (ends_one y is here spared) (Some x) same =
@@ -196,19 +200,25 @@ module _ (s : Layout) (past : List Entry) (e : Entry) (legal : IsLegal s (e ∷ 
   -- ---- after what is opened: the candidates
 
   line_opened_as : (l : Lined) → IsMid s past e l → (o : Option Queueing) → opening past e ≡ o → IsReadyToPass s past e (told_opened o l) × MayOpen o l
-  line_opened_as l mid None is = (record {
-    room = mid.room; many = mid.many;
-    waiting = mid.waiting ∙ (sym (append-nil (filter (is_spared past e) (waiting s past))) ∙ (ap (λ o. filter (is_spared past e) (waiting s past) ++ option_to_list o) (sym is) ∙ sym (candidates_are s past e legal)));
-    counts = mid.counts }, tt)
+  line_opened_as l mid None is = (
+    record {
+      room = mid.room;
+      many = mid.many;
+      waiting = mid.waiting ∙ (sym (append-nil (filter (is_spared past e) (waiting s past))) ∙ (ap (λ o. filter (is_spared past e) (waiting s past) ++ option_to_list o) (sym is) ∙ sym (candidates_are s past e legal)));
+      counts = mid.counts;
+    },
+    tt,
+  )
   line_opened_as l mid (Some x) is =
-      let all : l.waiting ++ x ∷ [] ≡ candidates s past e = ap (λ ys. ys ++ x ∷ []) mid.waiting ∙ (ap (λ o. filter (is_spared past e) (waiting s past) ++ option_to_list o) (sym is) ∙ sym (candidates_are s past e legal)) in
-      (record { room = mid.room; many = mid.many; waiting = all; counts = mid.counts },
-       (let more : length (l.waiting ++ x ∷ []) ≡ length l.waiting + 1 = length-append l.waiting (x ∷ []) in
-        let same : length (l.waiting ++ x ∷ []) ≡ length (candidates s past e) = ap length all in
-        let fewer_open = fewer (waits s past) (still_open (e ∷ past)) in
-        let two = two_for_each_item s (e ∷ past) legal in
-        let room = mid.room in
-        omega arith))
+      let all : l.waiting ++ x ∷ [] ≡ candidates s past e = ap (λ ys. ys ++ x ∷ []) mid.waiting ∙ (ap (λ o. filter (is_spared past e) (waiting s past) ++ option_to_list o) (sym is) ∙ sym (candidates_are s past e legal)) in (
+        record { room = mid.room; many = mid.many; waiting = all; counts = mid.counts },
+        (let more : length (l.waiting ++ x ∷ []) ≡ length l.waiting + 1 = length-append l.waiting (x ∷ []) in
+            let same : length (l.waiting ++ x ∷ []) ≡ length (candidates s past e) = ap length all in
+            let fewer_open = fewer (waits s past) (still_open (e ∷ past)) in
+            let two = two_for_each_item s (e ∷ past) legal in
+            let room = mid.room in
+            omega arith),
+      )
 
   pub line_opened : (l : Lined) → IsMid s past e l → IsReadyToPass s past e (told_opened (opening past e) l) × MayOpen (opening past e) l
   line_opened l mid = line_opened_as l mid (opening past e) refl
@@ -234,12 +244,14 @@ module _ (s : Layout) (past : List Entry) (e : Entry) (legal : IsLegal s (e ∷ 
   pub line_passed : (l new : Lined) (wide : ℕ → ℕ) → IsReadyToPass s past e l → ArePassed s past e l new wide → IsLineOf s (e ∷ past) new × (new.promoted ≡ newly_active s past e)
   line_passed l new wide r passed =
       let p = passed.passes (has_way s (e ∷ past)) (have_way l wide r passed.widths) in
-      let newly : filter (has_way s (e ∷ past)) l.waiting ≡ newly_active s past e = ap (filter (has_way s (e ∷ past))) r.waiting ∙ sym (newly_are s past e) in
-      (record {
-        room = passed.room ∙ r.room;
-        many = p.many ∙ r.many;
-        waiting = p.kept ∙ (ap (filter (has_none s (e ∷ past))) r.waiting ∙ sym (waiting_goes_on s past e));
-        counts = λ q c here less.
-          let inside = place_inside q c (length s.queues) (length l.counts) here less r.many in
-          p.counts q c less inside ∙ (ap₂ (λ n ys. n + count_by (is_on q c) ys) (r.counts q c here less) newly ∙ sym (active_count_goes_on s past e q c));
-      }, p.promoted ∙ newly)
+      let newly : filter (has_way s (e ∷ past)) l.waiting ≡ newly_active s past e = ap (filter (has_way s (e ∷ past))) r.waiting ∙ sym (newly_are s past e) in (
+        record {
+          room = passed.room ∙ r.room;
+          many = p.many ∙ r.many;
+          waiting = p.kept ∙ (ap (filter (has_none s (e ∷ past))) r.waiting ∙ sym (waiting_goes_on s past e));
+          counts = λ q c here less.
+              let inside = place_inside q c (length s.queues) (length l.counts) here less r.many in
+              p.counts q c less inside ∙ (ap₂ (λ n ys. n + count_by (is_on q c) ys) (r.counts q c here less) newly ∙ sym (active_count_goes_on s past e q c));
+        },
+        p.promoted ∙ newly,
+      )

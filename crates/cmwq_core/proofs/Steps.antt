@@ -1,26 +1,18 @@
 -- A book, one entry further on.
-use Rattle.std.proofs.Common.{◌≡◌, ℕ, ◌+◌, ◌*◌, ◌^◌, ◌<◌, ◌≤◌, Bool, true, false, List, [], ◌∷◌, ◌++◌, length, count_by, refl, sym, ap, ap₂, ◌∙◌, subst, arith, IsTrue, nat_le, nat_lt, length-append}
-use Rattle.std.specs.Prelude.{slice_set, reverse}
-use Rattle.std.proofs.lemmas.List.{reverse-append, length-reverse}
+use Rattle.std.proofs.Common.{◌≡◌, ◌≤◌, true, List, [], ◌∷◌, ◌++◌, length, refl}
+use Rattle.std.proofs.lemmas.List.{reverse-append}
 use Rattle.std.proofs.lemmas.List.Sums.{count_by-le-length}
 use Rattle.std.proofs.lemmas.Bool.{and_parts, leb-true, ltb-true}
 use Rattle.cmwq_model.specs.declared.id.Who.{Who}
 use Rattle.cmwq_model.specs.declared.id.Who.TheVariants.{Caller, Worker}
 use Rattle.cmwq_model.specs.declared.call.Call.{Call}
-use Rattle.cmwq_model.specs.declared.reply.Reply.{Reply}
-use Rattle.cmwq_model.specs.declared.reply.Reply.TheVariants as reply
 use Rattle.cmwq_model.specs.declared.entry.Entry.{Entry}
-use Rattle.cmwq_model.specs.Layout.{Layout, is_layout, fits, may_make, has_numbers}
-use Rattle.cmwq_model.specs.Calls.{is_by, serial_of, ticks_told}
-use Rattle.cmwq_model.specs.Answer.{answer}
+use Rattle.cmwq_model.specs.Layout.{Layout, is_layout, fits}
+use Rattle.cmwq_model.specs.Calls.{is_by, serial_of}
 use Rattle.cmwq_model.specs.Legal.{IsLegal, past_of, entry_for}
-use Rattle.cmwq_model.specs.Room.{owed, needed}
 use Rattle.cmwq_pool.specs.Lineup.{Lineup}
-use Rattle.cmwq_steps.specs.Histories.{one}
-use Rattle.cmwq_steps.specs.RoomSteps.{is_slept, is_woke}
 use Rattle.cmwq_ties.proofs.PoolMay.{workers_may_be_told}
-use Rattle.cmwq_core.specs.Tables.{IsThere, who_place, pool_in, ArePools, MayTellWorker, TellWorker}
-use Rattle.cmwq_core.specs.Book.{Kept, Parts, AreParts, IsBook, next_entry, has_room_in}
+use Rattle.cmwq_core.specs.Tables.{IsThere, ArePools, MayTellWorker}
 use Rattle.cmwq_core.proofs.Follow.{IsSmall, pool_place_inside}
 
 pub past_more : (entries : List Entry) (e : Entry) → past_of (entries ++ e ∷ []) ≡ e ∷ past_of entries
@@ -57,6 +49,7 @@ pub may_tell : (s : Layout) (past : List Entry) (e : Entry) (pools : List Lineup
 may_tell s past e pools legal there are = by e.who refl there where
   by : (who : Who) → e.who ≡ who → IsThere s who → MayTellWorker who e.reply pools
   by (Caller c) is here = tt
-  by (Worker w) is here = (pool_place_inside w.pool s.cpus (length pools) are.many here.0,
-    rw (are.each w.pool here.0) (workers_may_be_told s past e w legal is))
-
+  by (Worker w) is here = (
+    pool_place_inside w.pool s.cpus (length pools) are.many here.0,
+    rw (are.each w.pool here.0) (workers_may_be_told s past e w legal is),
+  )

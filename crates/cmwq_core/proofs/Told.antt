@@ -1,16 +1,15 @@
 -- The parts that are told of an effect are those of the longer history, and may be told of it.
-use Rattle.std.proofs.Common.{◌≡◌, ℕ, ◌+◌, ◌*◌, ◌<◌, ◌≤◌, Bool, true, false, not, ◌&&◌, ◌==◌, ⊎_elim, List, [], ◌∷◌, length, find, filter, Option, Some, None, refl, sym, ap, ap₂, ◌∙◌, subst, arith, IsTrue, Contains, nat_lt, nat_le}
+use Rattle.std.proofs.Common.{◌≡◌, ℕ, ◌+◌, ◌*◌, ◌<◌, ◌≤◌, Bool, true, false, ◌&&◌, ◌==◌, ⊎_elim, List, [], ◌∷◌, length, filter, Option, Some, None, refl, sym, ap, ap₂, ◌∙◌, subst, arith, IsTrue, nat_lt, nat_le}
 use Rattle.std.specs.Prelude.{slice_set, if◌then◌else◌}
 use Rattle.cmwq_model.specs.declared.id.PoolId.{PoolId}
 use Rattle.cmwq_model.specs.declared.entry.Entry.{Entry}
 use Rattle.cmwq_model.specs.declared.record.Queueing.{Queueing}
 use Rattle.cmwq_model.specs.declared.record.Booking.{Booking}
 use Rattle.cmwq_model.specs.Layout.{Layout, is_layout, pool_at}
-use Rattle.cmwq_model.specs.Calls.{item_of, serial_of, ticks_told, now}
-use Rattle.cmwq_model.specs.Bookings.{settles, due_in, booked_by, booking_of}
+use Rattle.cmwq_model.specs.Calls.{item_of, serial_of, ticks_told}
+use Rattle.cmwq_model.specs.Bookings.{settles, due_in, booking_of}
 use Rattle.cmwq_model.specs.Queueings.{still_open, opening}
 use Rattle.cmwq_model.specs.Legal.{IsLegal}
-use Rattle.cmwq_model.specs.Room.{owed}
 use Rattle.cmwq_pool.specs.Lineup.{Lineup}
 use Rattle.cmwq_flush.specs.FlushBook.{FlushBook}
 use Rattle.cmwq_timer.specs.Rows.{Rows}
@@ -73,7 +72,7 @@ use Rattle.cmwq_core.proofs.Listing.{may_all_same}
 use Rattle.cmwq_core.proofs.LineSteps.{ArePassed, IsReadyToPass, are_placed, line_ended, line_opened, line_passed}
 use Rattle.cmwq_core.specs.Tables.{IsThere, who_place, pool_in, book_in, only, those_in, ArePools, AreBooks, AreSerials, TellWorker, TellCancelled, TellEnded, TellOpened, TellDone, TellBegun, ListAll, IsListable, MayBeListed, MayTellEnded, MayTellOpened, MayTellCancelled, MayTellDone, MayTellBegun, MayEndWait, MayBeginWait}
 use Rattle.cmwq_core.specs.Book.{Parts, AreParts}
-use Rattle.cmwq_core.specs.Effects.{IsEffect, settled_by, item_number}
+use Rattle.cmwq_core.specs.Effects.{IsEffect, item_number}
 use Rattle.cmwq_core.specs.declared.effect.Effect.{Effect}
 use Rattle.cmwq_core.proofs.Follow.{IsSmall, serials_told}
 
@@ -84,9 +83,9 @@ pub told_pools : (s : Layout) (past : List Entry) (f : Effect) (old mid late new
 told_pools s past f old mid late new promoted is are first second newly third = record {
   many = third.many ∙ (second.many ∙ (first.many ∙ are.many));
   each = λ p here. let e = f.entry in
-    third.each p ∙ (ap₂ (λ xs l. pools.told_active s (filter (is_in s p) xs) l) newly
+      third.each p ∙ (ap₂ (λ xs l. pools.told_active s (filter (is_in s p) xs) l) newly
       (second.each p ∙ ap₂ (pools.told_cancelled s p e) is.ended (first.each p ∙ ap (pools.told_worker p e.who e.reply) (are.each p here)))
-    ∙ sym (pools_follow s past e p is.legal));
+      ∙ sym (pools_follow s past e p is.legal));
 }
 
 -- what became active is of queues and CPUs that there are, and may be listed
@@ -126,11 +125,11 @@ pub told_books : (s : Layout) (past : List Entry) (f : Effect) (old mid late end
 told_books s past f old mid late end new is are first second third fourth = record {
   many = fourth.many ∙ (third.many ∙ (second.many ∙ (first.many ∙ are.many)));
   each = λ q here. subst (flushes.AreFlushes s (f.entry ∷ past) q)
-    (sym (fourth.each q ∙ ap₂ (λ o b. flushes.told_begun o q b) is.begun
+      (sym (fourth.each q ∙ ap₂ (λ o b. flushes.told_begun o q b) is.begun
       (third.each q ∙ ap₂ (λ o b. flushes.told_done o q b) is.done
       (second.each q ∙ ap₂ (λ o b. flushes.told_opened o q b) is.opened
       (first.each q ∙ ap (λ o. flushes.told_ended o q (book_in old q)) is.ended)))))
-    (flushes_follow s past f.entry q (book_in old q) is.legal (are.each q here));
+      (flushes_follow s past f.entry q (book_in old q) is.legal (are.each q here));
 }
 
 -- ---- barriers and timers
@@ -156,6 +155,7 @@ told_by e past rows false h = ap (λ o. timers.told_settled None o rows) (not_bo
         which : (o : Option ℕ) → due_in r ≡ o → due_in r ≡ None
         which None is = is
         which (Some d) is = let yes = due_settles r d is in absurd (differ (sym k ∙ yes))
+
     not_booked : (e : Entry) (past : List Entry) → settles e.reply ≡ false → booking_of e (length past) ≡ None
     not_booked e past k = rw (no_due e.reply k) refl
 
@@ -318,7 +318,7 @@ may_begin s past f old mid late end inside is are first second third = by f.begu
     may : (t : Ticket) (q : ℕ) → f.begun ≡ Some t → q < length s.queues → flushes.MayBegin (Some t) q (book_in end q)
     may t q h here =
         let told : book_in end q ≡ flushes.told_done (ticket_ended past f.entry) q (flushes.told_queueings past f.entry q (book_in old q)) =
-            third.each q ∙ ap₂ (λ o b. flushes.told_done o q b) is.done (second.each q ∙ ap₂ (λ o b. flushes.told_opened o q b) is.opened (first.each q ∙ ap (λ o. flushes.told_ended o q (book_in old q)) is.ended)) in
+        third.each q ∙ ap₂ (λ o b. flushes.told_done o q b) is.done (second.each q ∙ ap₂ (λ o b. flushes.told_opened o q b) is.opened (first.each q ∙ ap (λ o. flushes.told_ended o q (book_in old q)) is.ended)) in
         let m = (flushes_may_be_told s past f.entry q (book_in old q) inside is.legal (are.each q here)).begun in
         rw told (subst (λ o. flushes.MayBegin o q (flushes.told_done (ticket_ended past f.entry) q (flushes.told_queueings past f.entry q (book_in old q)))) (sym is.begun ∙ h) m)
 
@@ -379,8 +379,8 @@ pub pass_made : (s : Layout) (past : List Entry) (f : Effect) (l : Lined) (old m
     ArePassed s past f.entry (lines.told_opened f.opened (lines.told_ended f.ended l)) new (width_by s.queues most frozen)
 pass_made s past f l old most stopped frozen new are made = record {
   passes = λ way have.
-    let moved : HaveWay way (width_by made.queues made.widths frozen) made.mid.counts made.mid.waiting = rw (made.mid_is, made.queues_are, made.widths_are_most) have in
-    rw (made.mid_is) at (made.passes way moved);
+      let moved : HaveWay way (width_by made.queues made.widths frozen) made.mid.counts made.mid.waiting = rw (made.mid_is, made.queues_are, made.widths_are_most) have in
+      rw (made.mid_is) at (made.passes way moved);
   room = made.same_room ∙ ap (λ (m : Lined). m.room) made.mid_is;
   widths = widths_are s (f.entry ∷ past) most frozen (subst (AreWidths s (f.entry ∷ past) most) (sym made.frozen_is) (told_widths s past f.entry old most stopped are made.width));
 }

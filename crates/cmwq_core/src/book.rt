@@ -19,11 +19,17 @@ mod fire;
 mod reads;
 
 use self::effects::{booked_by, settled_by, ticket_in};
-use crate::new::{new_books, new_most, new_pools, new_serials};
 use crate::effect::Effect;
-use crate::tables::{frozen_after, list_active, pool_place, tell_barrier_begun, tell_barrier_done, tell_barriers, tell_begun, tell_cancelled, tell_done, tell_ended, tell_flights, tell_line, tell_opened, tell_ticket_begin, tell_ticket_end, tell_timers, tell_width, tell_worker, who_place};
+use crate::new::{new_books, new_most, new_pools, new_serials};
+use crate::tables::{
+    frozen_after, list_active, pool_place, tell_barrier_begun, tell_barrier_done, tell_barriers,
+    tell_begun, tell_cancelled, tell_done, tell_ended, tell_flights, tell_line, tell_opened,
+    tell_ticket_begin, tell_ticket_end, tell_timers, tell_width, tell_worker, who_place,
+};
 use cmwq_flush::{Barriers, Flushes};
-use cmwq_model::{Call, Counts, Entry, NoMemory, Number, PoolId, QueueShape, Reply, Shape, Who, WorkerId};
+use cmwq_model::{
+    Call, Counts, Entry, NoMemory, Number, PoolId, QueueShape, Reply, Shape, Who, WorkerId,
+};
 use cmwq_parts::{Flights, Line, Tickets};
 use cmwq_pool::{Pool, Seat};
 use cmwq_timer::Timers;
@@ -87,7 +93,12 @@ impl Book {
         Book::start(alloc, shape.counts(), shape.queues().to_vec(alloc)?, room)
     }
 
-    fn start(alloc: Global, counts: Counts, queues: Vec<QueueShape>, room: u32) -> Result<Book, NoMemory>
+    fn start(
+        alloc: Global,
+        counts: Counts,
+        queues: Vec<QueueShape>,
+        room: u32,
+    ) -> Result<Book, NoMemory>
         requires inside { is_layout (layout_of counts queues.items) ≡ true }
         requires few { room ≤ 1010000 }
         ensures { IfOk result (λ book. book ≡ record { layout = layout_of counts queues.items; room = room; entries = [] }) }
@@ -341,8 +352,18 @@ impl Book {
     {
         match call {
             Call::Queue { item, queue, .. } => self.queue_answer(who, item, queue, 0),
-            Call::Delay { item, queue, ticks, .. } => self.queue_answer(who, item, queue, ticks),
-            Call::Modify { item, queue, ticks, .. } => self.modify_answer(who, item, queue, ticks),
+            Call::Delay {
+                item,
+                queue,
+                ticks,
+                ..
+            } => self.queue_answer(who, item, queue, ticks),
+            Call::Modify {
+                item,
+                queue,
+                ticks,
+                ..
+            } => self.modify_answer(who, item, queue, ticks),
             Call::Cancel { item } => self.cancel_answer(who, item),
             Call::Tick { ticks } => Reply::Now(self.time() + u64::from(ticks)),
             Call::Fire => self.fire_answer(),
@@ -472,7 +493,12 @@ impl Book {
         tell_barriers(&mut self.barriers, effect.ended, effect.opened);
         tell_barrier_done(&mut self.barriers, effect.done);
         tell_barrier_begun(&mut self.barriers, effect.begun);
-        tell_flights(&mut self.flights, effect.ended, effect.started, effect.opened);
+        tell_flights(
+            &mut self.flights,
+            effect.ended,
+            effect.started,
+            effect.opened,
+        );
         tell_ticket_end(&mut self.tickets, effect.done);
         tell_ticket_begin(&mut self.tickets, effect.begun);
         tell_timers(&mut self.timers, effect.settled, effect.booked);

@@ -11,7 +11,12 @@ use cmwq_pool::Pool;
 use std::alloc::Global;
 
 /// Two new pools for each CPU.
-pub(crate) fn new_pools(alloc: Global, cpus: u8, items: u16, workers: u8) -> Result<Vec<Pool>, NoMemory>
+pub(crate) fn new_pools(
+    alloc: Global,
+    cpus: u8,
+    items: u16,
+    workers: u8,
+) -> Result<Vec<Pool>, NoMemory>
     requires items { IsTrue (is_between 1 256 items) }
     requires workers { IsTrue (is_between 1 8 workers) }
     ensures { IfOk result (λ pools. pools.items ≡ replicate (2 * cpus) (new_lineup items workers)) }
@@ -45,8 +50,10 @@ pub(crate) fn new_serials(alloc: Global) -> Result<Vec<u32>, NoMemory>
 pub(crate) fn new_most(alloc: Global, queues: &[QueueShape]) -> Result<Vec<u32>, NoMemory>
     ensures { IfOk result (λ most. most.items ≡ map (λ q. q.max_active) queues.now) }
 {
-    Ok(queues
-        .iter()
-        .map(|queue| u32::from(queue.max_active))
-        .collect(alloc)?)
+    Ok(
+        queues
+            .iter()
+            .map(|queue| u32::from(queue.max_active))
+            .collect(alloc)?,
+    )
 }

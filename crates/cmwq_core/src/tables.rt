@@ -17,7 +17,9 @@ ghost use Rattle.cmwq_core.specs.Widths as widths;
 ghost use Rattle.cmwq_model.specs.Widths.{frozen_after};
 
 use cmwq_flush::{Barriers, Flushes};
-use cmwq_model::{Booking, Call, ItemId, Number, Place, PoolId, QueueShape, Queueing, Reply, Ticket, Who};
+use cmwq_model::{
+    Booking, Call, ItemId, Number, Place, PoolId, QueueShape, Queueing, Reply, Ticket, Who,
+};
 use cmwq_parts::{Flights, Line, Tickets};
 use cmwq_pool::Pool;
 use cmwq_timer::Timers;
@@ -34,7 +36,9 @@ pub(crate) fn who_place(who: Who) -> usize
     match who {
         Who::Caller(caller) => usize::from(caller.0),
         Who::Worker(worker) => {
-            64 + (usize::from(worker.pool.cpu.0) * 16 + if worker.pool.high { 8 } else { 0 } + usize::from(worker.index))
+            64 + (usize::from(worker.pool.cpu.0) * 16
+                + if worker.pool.high { 8 } else { 0 }
+                + usize::from(worker.index))
         }
     }
 }
@@ -131,7 +135,12 @@ fn is_finish_of(reply: Reply, number: Number) -> bool
 }
 
 /// Tells the pools of a queueing that ended: where it didn't finish, its pool lists it no more.
-pub(crate) fn tell_cancelled(queues: &[QueueShape], pools: &mut Vec<Pool>, reply: Reply, ended: Option<Queueing>)
+pub(crate) fn tell_cancelled(
+    queues: &[QueueShape],
+    pools: &mut Vec<Pool>,
+    reply: Reply,
+    ended: Option<Queueing>,
+)
     requires { tables.MayTellCancelled ended queues.now pools.old.items }
     ensures { (s : Layout) (e : Entry) → s.queues ≡ queues.now → e.reply ≡ reply → tables.TellCancelled s e ended pools.old.items pools.new.items }
 {
@@ -165,7 +174,9 @@ pub(crate) fn tell_done(books: &mut Vec<Flushes>, done: Option<Ticket>)
     if let Some(ticket) = done {
         match ticket.call {
             Call::Flush { queue } => books[usize::from(queue.0)].end(ticket.number),
-            Call::Drain { queue } | Call::Destroy { queue } => books[usize::from(queue.0)].drain_end(ticket.number),
+            Call::Drain { queue } | Call::Destroy { queue } => books[usize::from(
+                queue.0,
+            )].drain_end(ticket.number),
             _ => {}
         }
     }
@@ -179,7 +190,9 @@ pub(crate) fn tell_begun(books: &mut Vec<Flushes>, begun: Option<Ticket>)
     if let Some(ticket) = begun {
         match ticket.call {
             Call::Flush { queue } => books[usize::from(queue.0)].begin(ticket.number),
-            Call::Drain { queue } | Call::Destroy { queue } => books[usize::from(queue.0)].drain_begin(ticket.number),
+            Call::Drain { queue } | Call::Destroy { queue } => books[usize::from(
+                queue.0,
+            )].drain_begin(ticket.number),
             _ => {}
         }
     }
@@ -205,7 +218,10 @@ pub(crate) fn tell_barrier_begun(book: &mut Barriers, begun: Option<Ticket>)
 {
     if let Some(ticket) = begun {
         match ticket.call {
-            Call::FlushItem { item } | Call::FlushDelayed { item } => book.begin(item, ticket.number),
+            Call::FlushItem { item } | Call::FlushDelayed { item } => book.begin(
+                item,
+                ticket.number,
+            ),
             _ => {}
         }
     }
@@ -273,7 +289,12 @@ pub(crate) fn tell_line(line: &mut Line, ended: Option<Queueing>, opened: Option
 }
 
 /// Tells the flights of a queueing that ended, of one that started, and of one that was opened.
-pub(crate) fn tell_flights(flights: &mut Flights, ended: Option<Queueing>, started: Option<Queueing>, opened: Option<Queueing>)
+pub(crate) fn tell_flights(
+    flights: &mut Flights,
+    ended: Option<Queueing>,
+    started: Option<Queueing>,
+    opened: Option<Queueing>,
+)
     requires ended { rows.IsRow ended flights.old }
     requires started { rows.IsRow started flights.old }
     requires opened { rows.IsRow opened flights.old }

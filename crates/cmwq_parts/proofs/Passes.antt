@@ -1,8 +1,7 @@
 -- One step of the pass over what waits.
 use Rattle.std.proofs.Common.{append-nil, ◌≡◌, ◌≢◌, ℕ, ◌+◌, ◌*◌, ◌<◌, ◌≤◌, Bool, true, false, not, ◌&&◌, ◌==◌, List, [], ◌∷◌, ◌++◌, length, filter, take, drop, cond, get_or, count_by, nat_lt, refl, sym, ap, ap₂, ◌∙◌, subst, arith}
-use Rattle.std.specs.Prelude.{slice_index, slice_set}
+use Rattle.std.specs.Prelude.{slice_set}
 use Rattle.std.proofs.lemmas.Bool.{eqb-true, eq-eqb, lt-ltb, le-ltb, and_parts}
-use Rattle.std.proofs.lemmas.Bool.Decides.{nat_tests}
 use Rattle.std.proofs.lemmas.Grind.{get_or-set_at}
 use Rattle.std.proofs.lemmas.List.{get_or-set_other, take_more, drop_more, take-append-drop, take_all, get_or_default, length-set}
 use Rattle.std.proofs.lemmas.List.Elements.{filter-append}
@@ -40,9 +39,9 @@ count_set counts x n q c k m here = by (is_on q c x) refl
     by true h = let p = on_parts q c x h in get_or-set_at counts (place_of x.place.queue.0 x.place.cpu.0) (place_of q c) n 0 (ap₂ place_of (sym p.0) (sym p.1)) here
     by false h =
         let apart : place_of q c ≢ place_of x.place.queue.0 x.place.cpu.0 = λ same.
-            let p = one_place q c x.place.queue.0 x.place.cpu.0 m k same in
-            let on = on_itself q c x (sym p.0) (sym p.1) in
-            let bad : false ≡ true = sym h ∙ on in cc in
+        let p = one_place q c x.place.queue.0 x.place.cpu.0 m k same in
+        let on = on_itself q c x (sym p.0) (sym p.1) in
+        let bad : false ≡ true = sym h ∙ on in cc in
         get_or-set_other counts (place_of x.place.queue.0 x.place.cpu.0) (place_of q c) n 0 apart
 
 module _ (way : Queueing → Bool) (old : List ℕ) (done : List Queueing) (x : Queueing) where
@@ -66,8 +65,8 @@ module _ (way : Queueing → Bool) (old : List ℕ) (done : List Queueing) (x : 
         promoted = ap (λ ys. ys ++ x ∷ []) p.promoted ∙ sym more;
         many = length-set new (place_of x.place.queue.0 x.place.cpu.0) (count_beside new x + 1) ∙ p.many;
         counts = λ q c less here.
-          let one_more : count_by (is_on q c) (filter way (done ++ x ∷ [])) ≡ count_by (is_on q c) (filter way done) + cond (is_on q c x) 1 0 = ap (count_by (is_on q c)) more ∙ (count_by-append (is_on q c) (filter way done) (x ∷ []) ∙ ap (λ n. count_by (is_on q c) (filter way done) + n) (count_by-one (is_on q c) x)) in
-          count_set new x (count_beside new x + 1) q c few less there_new ∙ by q c less here (is_on q c x) refl ∙ ap (λ n. count_at old q c + n) (sym one_more);
+            let one_more : count_by (is_on q c) (filter way (done ++ x ∷ [])) ≡ count_by (is_on q c) (filter way done) + cond (is_on q c x) 1 0 = ap (count_by (is_on q c)) more ∙ (count_by-append (is_on q c) (filter way done) (x ∷ []) ∙ ap (λ n. count_by (is_on q c) (filter way done) + n) (count_by-one (is_on q c) x)) in
+            count_set new x (count_beside new x + 1) q c few less there_new ∙ by q c less here (is_on q c x) refl ∙ ap (λ n. count_at old q c + n) (sym one_more);
       }
     where
       by : (q c : ℕ) → c < 4 → place_of q c < length old → (b : Bool) → is_on q c x ≡ b → cond b (count_beside new x + 1) (count_at new q c) ≡ count_at old q c + (count_by (is_on q c) (filter way done) + cond b 1 0)

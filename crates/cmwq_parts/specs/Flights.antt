@@ -1,5 +1,5 @@
 -- The open queueings of each item: its run, and the one that hasn't started.
-use Rattle.std.specs.Prelude.{◌≡◌, ℕ, ◌<◌, ◌==◌, if◌then◌else◌, List, length, replicate, Option, Some, None, slice_index_or}
+use Rattle.std.specs.Prelude.{◌≡◌, ℕ, ◌==◌, if◌then◌else◌, List, length, replicate, Option, Some, None, slice_index_or}
 use Rattle.cmwq_model.specs.declared.record.Queueing.{Queueing}
 use Rattle.cmwq_parts.specs.declared.flights.Flight.{Flight}
 

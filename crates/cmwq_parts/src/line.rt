@@ -84,7 +84,15 @@ impl Line {
         ensures room { self.new.room ≡ self.old.room }
     {
         self.promoted.clear();
-        pass(queues, most, frozen, &self.waiting, &mut self.counts, &mut self.spare, &mut self.promoted);
+        pass(
+            queues,
+            most,
+            frozen,
+            &self.waiting,
+            &mut self.counts,
+            &mut self.spare,
+            &mut self.promoted,
+        );
         swap(&mut self.waiting, &mut self.spare);
         self.spare.clear();
     }

@@ -57,10 +57,7 @@ fn take_ticket(unended: &mut Vec<Ticket>, number: Number)
 fn find_ticket(unended: &[Ticket], caller: CallerId, number: Number) -> Option<Ticket>
     ensures { result ≡ find (is_ticket (Caller caller) number) unended.now }
 {
-    unended
-        .iter()
-        .copied()
-        .find(|ticket| ticket.number == number && ticket.caller.0 == caller.0)
+    unended.iter().copied().find(|ticket| ticket.number == number && ticket.caller.0 == caller.0)
 }
 
 impl Tickets {

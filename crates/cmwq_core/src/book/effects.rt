@@ -19,7 +19,9 @@ ghost use Rattle.cmwq_core.specs.Flights.{starting};
 ghost use Rattle.cmwq_core.specs.Tables as tables;
 
 use crate::book::Book;
-use cmwq_model::{Booking, Call, Entry, ItemId, Number, Place, PoolId, Queueing, Reply, Ticket, Who};
+use cmwq_model::{
+    Booking, Call, Entry, ItemId, Number, Place, PoolId, Queueing, Reply, Ticket, Who,
+};
 
 /// The item of an entry.
 pub(crate) fn item_of(entry: Entry) -> Option<ItemId>
@@ -82,7 +84,11 @@ fn gives_ticket(reply: Reply) -> bool
 pub(crate) fn settled_by(entry: Entry) -> Option<ItemId>
     ensures { item_number result ≡ settled_by entry }
 {
-    if settles(entry.reply) { item_of(entry) } else { None }
+    if settles(entry.reply) {
+        item_of(entry)
+    } else {
+        None
+    }
 }
 
 /// The booking that a call makes for a tick.
@@ -90,7 +96,18 @@ fn booked_for(call: Call, number: Number, due: u64) -> Option<Booking>
     ensures { result ≡ booked_by call number due }
 {
     match call {
-        Call::Delay { item, queue, cpu, .. } | Call::Modify { item, queue, cpu, .. } => Some(Booking {
+        Call::Delay {
+            item,
+            queue,
+            cpu,
+            ..
+        }
+        | Call::Modify {
+            item,
+            queue,
+            cpu,
+            ..
+        } => Some(Booking {
             item,
             place: Place { queue, cpu },
             due,
@@ -131,7 +148,9 @@ fn place_called(call: Call) -> Option<Place>
     ensures { result ≡ place_called call }
 {
     match call {
-        Call::Queue { queue, cpu, .. } | Call::Delay { queue, cpu, .. } | Call::Modify { queue, cpu, .. } => Some(Place { queue, cpu }),
+        Call::Queue { queue, cpu, .. }
+        | Call::Delay { queue, cpu, .. }
+        | Call::Modify { queue, cpu, .. } => Some(Place { queue, cpu }),
         _ => None,
     }
 }
@@ -183,7 +202,8 @@ fn ended_from(reply: Reply, run: Option<Queueing>, unstarted: Option<Queueing>) 
 {
     match reply {
         Reply::Finished(_) => run,
-        Reply::Cancelled(_) | Reply::TicketCancelled(_, _) | Reply::Again(_) | Reply::Rebooked(_) => unstarted,
+        Reply::Cancelled(_) | Reply::TicketCancelled(_, _) | Reply::Again(_) | Reply::Rebooked(_) =>
+            unstarted,
         _ => None,
     }
 }
@@ -227,7 +247,11 @@ impl Book {
         requires legal { IsLegal self.now.layout (entry ∷ past_of self.now.entries) }
         ensures { result ≡ ending (past_of self.now.entries) entry }
     {
-        ended_from(entry.reply, self.run_of(entry.who), self.unstarted_of(entry))
+        ended_from(
+            entry.reply,
+            self.run_of(entry.who),
+            self.unstarted_of(entry),
+        )
     }
 
     /// What a pool would start next.
@@ -327,7 +351,13 @@ impl Book {
     }
 
     /// What is owed after an entry that ends, opens and books this.
-    pub(crate) fn owed_with(&self, entry: Entry, ended: Option<Queueing>, opened: Option<Queueing>, booked: Option<Booking>) -> u32
+    pub(crate) fn owed_with(
+        &self,
+        entry: Entry,
+        ended: Option<Queueing>,
+        opened: Option<Queueing>,
+        booked: Option<Booking>,
+    ) -> u32
         requires inside { IsInside self.now.layout entry }
         requires legal { IsLegal self.now.layout (entry ∷ past_of self.now.entries) }
         requires ended { ended ≡ ending (past_of self.now.entries) entry }
@@ -336,7 +366,9 @@ impl Book {
         ensures { result ≡ owed self.now.layout (entry ∷ past_of self.now.entries) }
     {
         let unbooked = self.settles_booked(entry);
-        let taken = taken_alone(entry.reply) + 2 * one(opened.is_some()) + 3 * one(booked.is_some());
+        let taken = taken_alone(entry.reply)
+            + 2 * one(opened.is_some())
+            + 3 * one(booked.is_some());
         let early = ends_early(entry.reply, ended);
         let paid = paid_alone(entry.reply) + 2 * one(early) + 3 * one(unbooked);
         self.owing + taken - paid

@@ -29,7 +29,10 @@ impl Book {
     pub(crate) fn fire_answer(&self) -> Reply
         ensures { result ≡ fired (first_due (past_of self.now.entries)) (length (past_of self.now.entries)) }
     {
-        match self.timers.first_due(self.time, draining_queues(&self.books)) {
+        match self
+            .timers
+            .first_due(self.time, draining_queues(&self.books))
+        {
             Some(item) => Reply::Fired(item, self.number()),
             None => Reply::Nothing,
         }

@@ -1,7 +1,7 @@
-use Rattle.std.proofs.Common.{rules, ◌≡◌, ℕ, Bool, ◌+◌, ◌*◌, ◌<◌, ◌≤◌, [], ◌∷◌, ◌++◌, length, vec_len, get_or, sym, ap, ◌∙◌, subst, refl, arith}
+use Rattle.std.proofs.Common.{rules, ◌≡◌, ◌<◌, length, get_or, sym, ◌∙◌}
 use Rattle.std.proofs.lemmas.List.Elements.{All-get_or}
 use Rattle.cmwq_model.specs.declared.record.Queueing.{Queueing}
-use Rattle.cmwq_parts.specs.Line.{HaveWay, Passes, IsPlaced, place_of, count_beside, width_by}
+use Rattle.cmwq_parts.specs.Line.{IsPlaced, place_of, count_beside, width_by}
 use Rattle.cmwq_parts.proofs.Passes.{pass_kept, pass_promoted, pass_all, read_count, place_inside}
 use Rattle.cmwq_parts.proofs.pass.pass.Goals as goal
 use Rattle.cmwq_parts.proofs.pass.pass.Goals.{then-index-width_by, else-index-width_by}
@@ -21,16 +21,29 @@ loop-queueing-preserved c =
     let inside : c.place_of-place.result < length new = rw c.place_of-place.ensures (place_inside x.place.queue.0 x.place.cpu.0 (length c.args.queues.now) (length new) placed.0 placed.1 (sym c.loop-queueing.counts.ok.0 ∙ (inv.many ∙ c.requires.counts))) in
     let count : c.index.result.now ≡ count_beside new x = read_count new x c.place_of-place.result c.index.result.now c.place_of-place.ensures inside c.index.ensures in
     elim c.if-index-width_by.branch [
-      then-index-width_by w ↦
-        let read : w.index_mut.result.now ≡ count_beside new x = read_count new x c.place_of-place.result w.index_mut.result.now c.place_of-place.ensures inside w.index_mut.ensures.value in
-        record { many = search rules; sorted = search rules; kept_capacity = search rules; promoted_capacity = search rules; passes = λ way have.
-          let free = rw (count, c.width_by.ensures) at w.if-index-width_by.true in
-          rw (w.kept-is, w.promoted-is, w.push_reserved.ensures.items, w.counts-is, read, c.place_of-place.ensures)
-            (pass_promoted way wide old xs i no_one c.loop-queueing-test.true have new c.loop-queueing.kept.items c.loop-queueing.promoted.items (inv.passes way have) placed.1 there free) }
-    | else-index-width_by w ↦ record { many = search rules; sorted = search rules; kept_capacity = search rules; promoted_capacity = search rules; passes = λ way have.
-        let full = rw (count, c.width_by.ensures) at w.if-index-width_by.false in
-        rw (w.kept-is, w.push_reserved-else-index-width_by.ensures.items, w.counts-is, w.promoted-is)
-          (pass_kept way wide old xs i no_one c.loop-queueing-test.true have new c.loop-queueing.kept.items c.loop-queueing.promoted.items (inv.passes way have) placed.1 there full) } ]
+      | then-index-width_by w ↦
+          let read : w.index_mut.result.now ≡ count_beside new x = read_count new x c.place_of-place.result w.index_mut.result.now c.place_of-place.ensures inside w.index_mut.ensures.value in
+          record {
+            many = search rules;
+            sorted = search rules;
+            kept_capacity = search rules;
+            promoted_capacity = search rules;
+            passes = λ way have.
+                let free = rw (count, c.width_by.ensures) at w.if-index-width_by.true in
+                rw (w.kept-is, w.promoted-is, w.push_reserved.ensures.items, w.counts-is, read, c.place_of-place.ensures)
+                (pass_promoted way wide old xs i no_one c.loop-queueing-test.true have new c.loop-queueing.kept.items c.loop-queueing.promoted.items (inv.passes way have) placed.1 there free);
+          }
+      | else-index-width_by w ↦ record {
+        many = search rules;
+        sorted = search rules;
+        kept_capacity = search rules;
+        promoted_capacity = search rules;
+        passes = λ way have.
+            let full = rw (count, c.width_by.ensures) at w.if-index-width_by.false in
+            rw (w.kept-is, w.push_reserved-else-index-width_by.ensures.items, w.counts-is, w.promoted-is)
+            (pass_kept way wide old xs i no_one c.loop-queueing-test.true have new c.loop-queueing.kept.items c.loop-queueing.promoted.items (inv.passes way have) placed.1 there full);
+      }
+    ]
 
 pub returns-clause-passes : goal.returns-clause-passes
 returns-clause-passes c = λ way have. pass_all way c.args.counts.now.items c.loop-queueing.counts.items c.args.waiting.now c.loop-queueing.kept.items c.loop-queueing.promoted.items c.loop-queueing.queueing-index c.loop-queueing-test.false (c.loop-queueing.invariant.passes way have)

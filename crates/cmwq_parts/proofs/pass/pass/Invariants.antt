@@ -1,4 +1,4 @@
-use Rattle.std.proofs.Common.{◌≡◌, ◌+◌, ◌*◌, ℕ, Bool, length, take, vec_len}
+use Rattle.std.proofs.Common.{◌≡◌, ◌+◌, Bool, take, vec_len}
 use Rattle.std.specs.Vec.{vec_capacity}
 use Rattle.cmwq_model.specs.declared.record.Queueing.{Queueing}
 use Rattle.cmwq_parts.specs.Line.{HaveWay, Passes, width_by}
@@ -11,4 +11,5 @@ invariant-loop-queueing l = record {
   kept_capacity : vec_capacity l.kept ≡ vec_capacity l.initial.kept;
   promoted_capacity : vec_capacity l.promoted ≡ vec_capacity l.initial.promoted;
   passes : (way : Queueing → Bool) → HaveWay way (width_by l.queues l.most l.frozen) l.initial.counts.items l.waiting
-    → Passes way (take l.queueing-index l.waiting) l.initial.counts.items l.counts.items l.kept.items l.promoted.items }
+      → Passes way (take l.queueing-index l.waiting) l.initial.counts.items l.counts.items l.kept.items l.promoted.items;
+}

@@ -1,17 +1,17 @@
-use Rattle.std.proofs.Common.{◌≡◌, ◌+◌, ◌∷◌, ◌<◌, ◌^◌, refl, ap, sym, ◌∙◌, arith, length, rules, IsTrue}
+use Rattle.std.proofs.Common.{◌≡◌, ◌+◌, ◌<◌, ◌^◌, refl, ap, sym, ◌∙◌, arith, length}
 use Rattle.std.specs.Vec.{vec_capacity}
 use Rattle.std.proofs.lemmas.List.{length-reverse}
-use Rattle.cmwq_model.specs.Layout.{layout_of, is_layout}
+use Rattle.cmwq_model.specs.Layout.{layout_of}
 use Rattle.cmwq_model.specs.Calls.{ticks_told}
 use Rattle.cmwq_model.specs.Legal.{past_of}
 use Rattle.std.proofs.Common.{ap₂}
 use Rattle.std.proofs.Math.ListN.{set}
 use Rattle.cmwq_parts.specs.Line.{width_by}
 use Rattle.cmwq_ties.specs.BarrierBooks as barriers
-use Rattle.cmwq_core.specs.Tables.{who_place, ListAll}
+use Rattle.cmwq_core.specs.Tables.{ListAll}
 use Rattle.cmwq_core.proofs.Follow.{who_below}
 use Rattle.cmwq_core.proofs.Steps.{small, may_tell, serial_most}
-use Rattle.cmwq_core.proofs.Told.{Told, may_cancel, may_end_books, may_open_books, may_end_barriers, may_open_barriers, may_set_timers, may_be_done, may_begin, may_be_done_barriers, may_begin_barriers, may_end_line, line_ready, may_tell_width, PassMade, pass_made, promoted_newly, may_pass, may_be_listed, may_list_all, may_end_row, may_start_row, may_open_row, may_end_held, may_begin_held}
+use Rattle.cmwq_core.proofs.Told.{may_cancel, may_end_books, may_open_books, may_end_barriers, may_open_barriers, may_set_timers, may_be_done, may_begin, may_be_done_barriers, may_begin_barriers, may_end_line, line_ready, may_tell_width, PassMade, pass_made, promoted_newly, may_pass, may_be_listed, may_list_all, may_end_row, may_start_row, may_open_row, may_end_held, may_begin_held}
 use Rattle.cmwq_core.proofs.Appended.{effect_there, effect_serial, told_book}
 use Rattle.cmwq_core.proofs.book.Book.append.Goals as goal
 
@@ -56,8 +56,18 @@ list_active-requires-clause-there c =
     let r = rw (← c.self.view_is) at c.requires in let b = c.self.inside in
     let s = layout_of b.counts b.queues.items in let past = past_of b.entries.items in let are = c.self.invariant.parts_are in
     let made : PassMade s past c.args.effect b.line b.most.items c.tell_width.new.most.items b.frozen c.frozen_after-self-inside.result c.pass.new.self =
-        record { mid = c.tell_line.new.line; queues = c.deref-2.result.now; widths = c.deref-3.result.now; mid_is = c.tell_line.ensures; queues_are = c.deref-2.ensures.value; widths_are_most = c.deref-3.ensures.value;
-            width = c.tell_width.ensures; frozen_is = c.frozen_after-self-inside.ensures; passes = c.pass.ensures.passes; same_room = c.pass.ensures.room } in
+    record {
+      mid = c.tell_line.new.line;
+      queues = c.deref-2.result.now;
+      widths = c.deref-3.result.now;
+      mid_is = c.tell_line.ensures;
+      queues_are = c.deref-2.ensures.value;
+      widths_are_most = c.deref-3.ensures.value;
+      width = c.tell_width.ensures;
+      frozen_is = c.frozen_after-self-inside.ensures;
+      passes = c.pass.ensures.passes;
+      same_room = c.pass.ensures.room;
+    } in
     let newly = c.promoted.ensures ∙ promoted_newly s past c.args.effect b.line b.most.items c.tell_width.new.most.items b.frozen c.frozen_after-self-inside.result c.pass.new.self r.is (small s c.self.invariant.inside) c.self.invariant.legal are.line are.widths made in
     let told = c.tell_cancelled.ensures s c.args.effect.entry (sym c.deref.ensures.value) refl in
     rw c.deref-4.ensures.value (may_be_listed s past c.args.effect c.tell_cancelled.new.pools.items c.promoted.result.now r.is (told.many ∙ (c.tell_worker.ensures.many ∙ are.pools.many)) newly)
@@ -67,8 +77,18 @@ list_active-requires-clause-may c =
     let r = rw (← c.self.view_is) at c.requires in let b = c.self.inside in
     let s = layout_of b.counts b.queues.items in let past = past_of b.entries.items in let are = c.self.invariant.parts_are in
     let made : PassMade s past c.args.effect b.line b.most.items c.tell_width.new.most.items b.frozen c.frozen_after-self-inside.result c.pass.new.self =
-        record { mid = c.tell_line.new.line; queues = c.deref-2.result.now; widths = c.deref-3.result.now; mid_is = c.tell_line.ensures; queues_are = c.deref-2.ensures.value; widths_are_most = c.deref-3.ensures.value;
-            width = c.tell_width.ensures; frozen_is = c.frozen_after-self-inside.ensures; passes = c.pass.ensures.passes; same_room = c.pass.ensures.room } in
+    record {
+      mid = c.tell_line.new.line;
+      queues = c.deref-2.result.now;
+      widths = c.deref-3.result.now;
+      mid_is = c.tell_line.ensures;
+      queues_are = c.deref-2.ensures.value;
+      widths_are_most = c.deref-3.ensures.value;
+      width = c.tell_width.ensures;
+      frozen_is = c.frozen_after-self-inside.ensures;
+      passes = c.pass.ensures.passes;
+      same_room = c.pass.ensures.room;
+    } in
     let newly = c.promoted.ensures ∙ promoted_newly s past c.args.effect b.line b.most.items c.tell_width.new.most.items b.frozen c.frozen_after-self-inside.result c.pass.new.self r.is (small s c.self.invariant.inside) c.self.invariant.legal are.line are.widths made in
     let told = c.tell_cancelled.ensures s c.args.effect.entry (sym c.deref.ensures.value) refl in
     rw c.deref-4.ensures.value (may_list_all s past c.args.effect b.pools.items c.tell_worker.new.pools.items c.tell_cancelled.new.pools.items c.promoted.result.now r.is are.pools c.tell_worker.ensures told newly)
@@ -171,19 +191,44 @@ invariant_of-self c =
     let ticks : c.from.result ≡ ticks_told e.call = c.from.ensures ∙ c.ticks_of.ensures.ticks in
     let few : ticks_told e.call < 2 ^ 32 = rw (← c.ticks_of.ensures.ticks) c.ticks_of.ensures.small in
     let made : PassMade s past c.args.effect b.line b.most.items c.tell_width.new.most.items b.frozen c.frozen_after-self-inside.result c.pass.new.self =
-        record { mid = c.tell_line.new.line; queues = c.deref-2.result.now; widths = c.deref-3.result.now; mid_is = c.tell_line.ensures; queues_are = c.deref-2.ensures.value; widths_are_most = c.deref-3.ensures.value;
-            width = c.tell_width.ensures; frozen_is = c.frozen_after-self-inside.ensures; passes = c.pass.ensures.passes; same_room = c.pass.ensures.room } in
+    record {
+      mid = c.tell_line.new.line;
+      queues = c.deref-2.result.now;
+      widths = c.deref-3.result.now;
+      mid_is = c.tell_line.ensures;
+      queues_are = c.deref-2.ensures.value;
+      widths_are_most = c.deref-3.ensures.value;
+      width = c.tell_width.ensures;
+      frozen_is = c.frozen_after-self-inside.ensures;
+      passes = c.pass.ensures.passes;
+      same_room = c.pass.ensures.room;
+    } in
     let listed : ListAll s.queues c.pass.new.self.promoted c.tell_cancelled.new.pools.items c.list_active.new.pools.items = rw (c.deref-4.ensures.value, c.promoted.ensures) at c.list_active.ensures in
     rw (c.push_reserved.ensures.items, c.push_reserved.ensures.capacity)
-      (told_book s b.room b.entries.items (vec_capacity b.entries) _ _ c.args.effect c.self.invariant r.is (record {
-        pools_mid = c.tell_worker.new.pools.items; pools_late = c.tell_cancelled.new.pools.items;
-        books_mid = c.tell_ended.new.books.items; books_late = c.tell_opened.new.books.items; books_end = c.tell_done.new.books.items;
-        line_wide = width_by s.queues c.tell_width.new.most.items c.frozen_after-self-inside.result;
-        worker = c.tell_worker.ensures; cancelled = c.tell_cancelled.ensures s e (sym c.deref.ensures.value) refl; listed = listed;
-        ended = c.tell_ended.ensures; opened = c.tell_opened.ensures; done = c.tell_done.ensures; begun = c.tell_begun.ensures;
-        barrier = c.tell_barrier_begun.ensures ∙ ap (barriers.told_begun c.args.effect.begun) (c.tell_barrier_done.ensures ∙ ap (barriers.told_done c.args.effect.done) c.tell_barriers.ensures);
-        timer = c.tell_timers.ensures; time = ap (λ n. b.time + n) ticks;
-        serials = ap₂ (λ p n. set b.serials.items p (n + 1)) c.who_place.ensures (effect_serial s past c.args.effect r.is);
-        held_mid = c.tell_ticket_end.new.tickets; flights = c.tell_flights.ensures; held_ended = c.tell_ticket_end.ensures; held_begun = c.tell_ticket_begin.ensures;
-        line = pass_made s past c.args.effect b.line b.most.items c.tell_width.new.most.items b.frozen c.frozen_after-self-inside.result c.pass.new.self are.widths made;
-        widths = c.tell_width.ensures; frozen = c.frozen_after-self-inside.ensures; owing = refl }) few r.room)
+    (told_book s b.room b.entries.items (vec_capacity b.entries) _ _ c.args.effect c.self.invariant r.is (record {
+      pools_mid = c.tell_worker.new.pools.items;
+      pools_late = c.tell_cancelled.new.pools.items;
+      books_mid = c.tell_ended.new.books.items;
+      books_late = c.tell_opened.new.books.items;
+      books_end = c.tell_done.new.books.items;
+      line_wide = width_by s.queues c.tell_width.new.most.items c.frozen_after-self-inside.result;
+      worker = c.tell_worker.ensures;
+      cancelled = c.tell_cancelled.ensures s e (sym c.deref.ensures.value) refl;
+      listed = listed;
+      ended = c.tell_ended.ensures;
+      opened = c.tell_opened.ensures;
+      done = c.tell_done.ensures;
+      begun = c.tell_begun.ensures;
+      barrier = c.tell_barrier_begun.ensures ∙ ap (barriers.told_begun c.args.effect.begun) (c.tell_barrier_done.ensures ∙ ap (barriers.told_done c.args.effect.done) c.tell_barriers.ensures);
+      timer = c.tell_timers.ensures;
+      time = ap (λ n. b.time + n) ticks;
+      serials = ap₂ (λ p n. set b.serials.items p (n + 1)) c.who_place.ensures (effect_serial s past c.args.effect r.is);
+      held_mid = c.tell_ticket_end.new.tickets;
+      flights = c.tell_flights.ensures;
+      held_ended = c.tell_ticket_end.ensures;
+      held_begun = c.tell_ticket_begin.ensures;
+      line = pass_made s past c.args.effect b.line b.most.items c.tell_width.new.most.items b.frozen c.frozen_after-self-inside.result c.pass.new.self are.widths made;
+      widths = c.tell_width.ensures;
+      frozen = c.frozen_after-self-inside.ensures;
+      owing = refl;
+    }) few r.room)

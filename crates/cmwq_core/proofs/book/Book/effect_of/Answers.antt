@@ -1,6 +1,6 @@
-use Rattle.std.proofs.Common.{◌≡◌, ◌∷◌, ap, sym, ◌∙◌}
+use Rattle.std.proofs.Common.{ap, ◌∙◌}
 use Rattle.cmwq_model.specs.Bookings.{booking_of}
-use Rattle.cmwq_model.specs.Legal.{past_of, IsLegal}
+use Rattle.cmwq_model.specs.Legal.{past_of}
 use Rattle.cmwq_model.specs.Tickets.{ticket_in}
 use Rattle.cmwq_core.proofs.Effecting.{no_done, entry_inside, legal_there}
 use Rattle.cmwq_core.proofs.book.Book.effect_of.Goals as goal
@@ -26,6 +26,14 @@ owed_with-owing-requires-clause-booked c = c.booked_by-booked.ensures ∙ ap (bo
 pub returns-clause-is : goal.returns-clause-is
 returns-clause-is c =
     let b = c.args.self.now in
-    record { legal = c.requires.legal; ended = c.ended_by-ended.ensures; started = c.started_by-started.ensures; opened = c.opened_by-opened.ensures;
-        done = no_done (past_of b.entries) c.args.entry c.requires.known; begun = c.ticket_in.ensures ∙ ap (ticket_in c.args.entry) c.number-number.ensures;
-        settled = c.settled_by.ensures; booked = c.booked_by-booked.ensures ∙ ap (booking_of c.args.entry) c.number-number.ensures; owing = c.owed_with-owing.ensures }
+    record {
+      legal = c.requires.legal;
+      ended = c.ended_by-ended.ensures;
+      started = c.started_by-started.ensures;
+      opened = c.opened_by-opened.ensures;
+      done = no_done (past_of b.entries) c.args.entry c.requires.known;
+      begun = c.ticket_in.ensures ∙ ap (ticket_in c.args.entry) c.number-number.ensures;
+      settled = c.settled_by.ensures;
+      booked = c.booked_by-booked.ensures ∙ ap (booking_of c.args.entry) c.number-number.ensures;
+      owing = c.owed_with-owing.ensures;
+    }

@@ -1,7 +1,5 @@
-use Rattle.std.proofs.Common.{◌≡◌, ◌∙◌, ap, sym}
 use Rattle.cmwq_model.specs.Layout.{layout_of}
 use Rattle.cmwq_model.specs.Legal.{past_of}
-use Rattle.cmwq_model.specs.Answer.{fired, first_due}
 use Rattle.cmwq_ties.specs.Timers.{HoldsDraining}
 use Rattle.cmwq_ties.proofs.FirstDue.{first_timer_is_first_due, no_timer_is_none_due}
 use Rattle.cmwq_core.proofs.Firing.{holds, fires, fires_none}

@@ -1,4 +1,3 @@
-use Rattle.std.proofs.Common.{◌≡◌, ◌∙◌, ap, sym}
 use Rattle.cmwq_model.specs.Legal.{past_of}
 use Rattle.cmwq_model.specs.Layout.{layout_of}
 use Rattle.cmwq_core.proofs.Readings.{draining_read}

@@ -1,4 +1,4 @@
-use Rattle.std.proofs.Common.{◌∙◌, sym, ◌<◌, length}
+use Rattle.std.proofs.Common.{◌∙◌, sym}
 use Rattle.cmwq_model.specs.Legal.{past_of}
 use Rattle.cmwq_core.proofs.Readings.{timer_there}
 use Rattle.cmwq_core.proofs.book.Book.is_held_back.Goals as goal

@@ -1,4 +1,4 @@
-use Rattle.std.proofs.Common.{◌≡◌, ◌∙◌, ◌||◌, ap, ap₂, sym, is_some, true, false}
+use Rattle.std.proofs.Common.{◌≡◌, ◌∙◌, ◌||◌, ap, sym, is_some}
 use Rattle.cmwq_model.specs.Legal.{past_of}
 use Rattle.cmwq_model.specs.Queueings.{unstarted}
 use Rattle.cmwq_parts.specs.declared.flights.Flight.{Flight}

@@ -12,4 +12,4 @@ may_retire-requires c = let b = c.args.self.now in
 pub returns : goal.returns
 returns c = let b = c.args.self.now in
     c.may_retire.ensures ∙ (ap (λ (l : Lineup). may_retire l.seats c.args.worker.index) c.pool.ensures.is
-      ∙ idle_retire_alike b.layout (past_of b.entries) c.args.worker.pool c.args.worker.index c.pool.ensures.legal c.requires.1)
+    ∙ idle_retire_alike b.layout (past_of b.entries) c.args.worker.pool c.args.worker.index c.pool.ensures.legal c.requires.1)

@@ -1,4 +1,4 @@
-use Rattle.std.proofs.Common.{◌≡◌, ◌∙◌, ap, sym, Some, None}
+use Rattle.std.proofs.Common.{◌∙◌, ap, sym}
 use Rattle.cmwq_model.specs.Legal.{past_of}
 use Rattle.cmwq_pool.specs.Lineup.{next_task}
 use Rattle.cmwq_parts.specs.declared.flights.Flight.{Flight}

@@ -1,9 +1,7 @@
-use Rattle.std.proofs.Common.{◌≡◌, ℕ, ◌+◌, ◌*◌, ◌∷◌, ap, ◌∙◌, sym, arith, is_some}
+use Rattle.std.proofs.Common.{ap, ◌∙◌}
 use Rattle.cmwq_model.specs.Layout.{layout_of}
 use Rattle.cmwq_model.specs.Legal.{past_of}
-use Rattle.cmwq_model.specs.Room.{owed}
 use Rattle.cmwq_steps.specs.Histories.{one}
-use Rattle.cmwq_core.specs.Effects.{ends_early, paid_alone, taken_alone}
 use Rattle.cmwq_core.proofs.Effecting.{owes_with, owing_sum}
 use Rattle.cmwq_core.proofs.book.Book.owed_with.Goals as goal
 

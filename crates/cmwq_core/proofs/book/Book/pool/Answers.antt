@@ -1,7 +1,6 @@
-use Rattle.std.proofs.Common.{arith}
 use Rattle.cmwq_model.specs.Layout.{layout_of}
 use Rattle.cmwq_model.specs.Legal.{past_of}
-use Rattle.cmwq_core.proofs.Follow.{pool_found, pool_place_inside}
+use Rattle.cmwq_core.proofs.Follow.{pool_found}
 use Rattle.cmwq_core.proofs.book.Book.pool.Goals as goal
 
 pub returns-clause-is : goal.returns-clause-is

@@ -1,4 +1,4 @@
-use Rattle.std.proofs.Common.{◌≡◌, ◌∙◌, ap, sym, Some}
+use Rattle.std.proofs.Common.{◌∙◌, ap, sym}
 use Rattle.cmwq_model.specs.Legal.{past_of}
 use Rattle.cmwq_parts.specs.declared.flights.Flight.{Flight}
 use Rattle.cmwq_core.proofs.Readings.{seat_runs}

@@ -1,9 +1,8 @@
-use Rattle.std.proofs.Common.{◌∙◌, ap, sym, subst, length, ◌<◌}
+use Rattle.std.proofs.Common.{◌∙◌, ap}
 use Rattle.cmwq_model.specs.Legal.{past_of}
 use Rattle.cmwq_pool.specs.Lineup.{Lineup}
 use Rattle.cmwq_pool.specs.Seats.{seat_at}
 use Rattle.cmwq_pool.specs.declared.seat.Seat.{Seat}
-use Rattle.cmwq_ties.specs.Pools.{IsSeatOf, pool_of}
 use Rattle.cmwq_ties.proofs.PoolReads.{seats_are_workers, seats_for_workers, seat_is}
 use Rattle.cmwq_core.proofs.book.Book.seat.Goals as goal
 

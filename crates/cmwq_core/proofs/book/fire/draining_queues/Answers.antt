@@ -1,4 +1,4 @@
-use Rattle.std.proofs.Common.{◌≡◌, ◌≢◌, ℕ, ◌==◌, ◌<◌, ◌≤◌, length, nat_lt, get_or, w64, sym, ap, ◌∙◌, arith, true, false}
+use Rattle.std.proofs.Common.{◌≡◌, ◌==◌, ◌<◌, length, nat_lt, w64, sym, ap, ◌∙◌, arith}
 use Rattle.std.specs.Int.{bit_at}
 use Rattle.std.proofs.lemmas.Bool.{eq-eqb}
 use Rattle.std.proofs.lemmas.List.{get_or_default}
@@ -17,7 +17,8 @@ loop-queue-preserved c =
     let book : c.index-books-queue.result ≡ book_in bs k = c.index-books-queue.is ∙ get_or_default bs k c.index-books-queue.result no_book c.loop-queue-test.true in
     let test : c.draining.result ≡ nat_lt 0 (length (book_in bs k).drains) = as_test c.draining.result (length c.index-books-queue.result.drains) c.draining.ensures ∙ ap (λ (b : FlushBook). nat_lt 0 (length b.drains)) book in
     elim c.if-draining.branch [
-      then-draining w ↦ held_more bs k old c.if-draining.held c.loop-queue.invariant (λ q apart. rw w.held-is (bit_at_set_other w64 old k within q apart))
+      | then-draining w ↦ held_more bs k old c.if-draining.held c.loop-queue.invariant (λ q apart. rw w.held-is (bit_at_set_other w64 old k within q apart))
           (eq-eqb (bit_at c.if-draining.held k) 1 (rw w.held-is (bit_at_set_same w64 old k within)) ∙ (sym w.if-draining.true ∙ test))
-    | else-draining w ↦ held_more bs k old c.if-draining.held c.loop-queue.invariant (λ q apart. ap (λ n. bit_at n q) w.held-is)
-          (ap (λ n. bit_at n k == 1) w.held-is ∙ (not_held bs k old c.loop-queue.invariant c.loop-queue-test.true ∙ (sym w.if-draining.false ∙ test))) ]
+      | else-draining w ↦ held_more bs k old c.if-draining.held c.loop-queue.invariant (λ q apart. ap (λ n. bit_at n q) w.held-is)
+          (ap (λ n. bit_at n k == 1) w.held-is ∙ (not_held bs k old c.loop-queue.invariant c.loop-queue-test.true ∙ (sym w.if-draining.false ∙ test)))
+    ]
