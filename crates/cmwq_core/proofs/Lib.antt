@@ -12,3 +12,4 @@ pub mod Readings
 pub mod Effecting
 pub mod Told
 pub mod Appended
+mod Ends

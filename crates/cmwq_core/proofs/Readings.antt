@@ -1,12 +1,11 @@
 -- What a book reads off its parts is what the definitions say.
-use Rattle.std.proofs.Common.{◌≡◌, ℕ, ◌+◌, ◌<◌, ◌≤◌, Bool, true, false, not, ◌&&◌, ◌||◌, ◌==◌, List, [], ◌∷◌, length, map, find, count_by, cond, Option, Some, None, is_some, refl, sym, ap, ap₂, ◌∙◌, subst, arith, nat_lt, nat_le}
+use Rattle.std.proofs.Common.{◌≡◌, ℕ, ◌<◌, ◌≤◌, Bool, true, false, not, ◌&&◌, ◌||◌, ◌==◌, List, [], ◌∷◌, length, map, find, count_by, cond, Option, Some, None, is_some, refl, sym, ap, ap₂, ◌∙◌, subst, arith, nat_lt, nat_le}
 use Rattle.std.specs.List.{list_any}
 use Rattle.std.specs.Option.{option_map_or}
-use Rattle.std.specs.Prelude.{if◌then◌else◌, option_and_then, option_map}
-use Rattle.std.proofs.lemmas.Bool.Decides.{nat_tests}
+use Rattle.std.specs.Prelude.{option_and_then, option_map}
 use Rattle.cmwq_model.specs.declared.id.WorkerId.{WorkerId}
 use Rattle.cmwq_model.specs.declared.id.Who.{Who}
-use Rattle.cmwq_model.specs.declared.id.Who.TheVariants.{Caller, Worker}
+use Rattle.cmwq_model.specs.declared.id.Who.TheVariants.{Worker}
 use Rattle.cmwq_model.specs.declared.entry.Entry.{Entry}
 use Rattle.cmwq_model.specs.declared.record.Queueing.{Queueing}
 use Rattle.cmwq_model.specs.declared.record.Booking.{Booking}
@@ -16,7 +15,7 @@ use Rattle.cmwq_model.specs.Layout.{Layout}
 use Rattle.cmwq_model.specs.Calls.{is_at, item_at}
 use Rattle.cmwq_model.specs.Bookings.{booking, is_booked}
 use Rattle.cmwq_model.specs.Runs.{run, item_run}
-use Rattle.cmwq_model.specs.Queueings.{unstarted, queueing_at, queue_of, run_queue, runs_elsewhere, still_open, is_item_open, is_of}
+use Rattle.cmwq_model.specs.Queueings.{unstarted, queueing_at, queue_of, runs_elsewhere, still_open, is_item_open, is_of}
 use Rattle.cmwq_model.specs.Legal.{IsLegal}
 use Rattle.cmwq_steps.specs.ItemQueueings.{queueing_run}
 use Rattle.cmwq_steps.proofs.EndsAsTold.{runs_are_queueings}
@@ -51,7 +50,7 @@ use Rattle.cmwq_ties.specs.Pools.{task_for, run_task}
 use Rattle.cmwq_ties.proofs.ItemNumbers.{run_then_unstarted}
 use Rattle.cmwq_ties.proofs.Members.{In, contained_in, found, filter_in}
 use Rattle.cmwq_ties.proofs.PlacesFit.{open_there}
-use Rattle.cmwq_core.specs.Flights.{run_open, flight_of}
+use Rattle.cmwq_core.specs.Flights.{run_open}
 
 some_mapped : {X Y : Type 0} (f : X → Y) (o : Option X) → is_some (option_map f o) ≡ is_some o
 some_mapped f None = refl

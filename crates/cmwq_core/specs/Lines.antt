@@ -1,11 +1,9 @@
 -- What waits, and how many are active, follow a history.
-use Rattle.std.specs.Prelude.{◌≡◌, ℕ, ◌+◌, ◌*◌, ◌<◌, ◌≤◌, Bool, false, List, ◌∷◌, length, Option, Some, None}
+use Rattle.std.specs.Prelude.{◌≡◌, ℕ, ◌*◌, ◌<◌, false, List, length, Option, Some, None}
 use Rattle.cmwq_model.specs.declared.entry.Entry.{Entry}
 use Rattle.cmwq_model.specs.declared.record.Queueing.{Queueing}
 use Rattle.cmwq_model.specs.Layout.{Layout}
-use Rattle.cmwq_model.specs.Queueings.{opening}
 use Rattle.cmwq_steps.specs.Places.{active_count}
-use Rattle.cmwq_steps.specs.Endings.{ending}
 use Rattle.cmwq_steps.specs.Waiting.{waiting}
 use Rattle.cmwq_parts.specs.Line.{Lined, count_at, count_beside, place_of, ended, opened, is_waiting}
 

@@ -1,5 +1,5 @@
 -- The widths of a book follow a history: max_active of each queue, and whether the freezable ones are frozen.
-use Rattle.std.specs.Prelude.{◌≡◌, ℕ, ◌<◌, Bool, if◌then◌else◌, List, length, Option, None, slice_index}
+use Rattle.std.specs.Prelude.{◌≡◌, ℕ, ◌<◌, Bool, if◌then◌else◌, List, length, None, slice_index}
 use Rattle.std.specs.Option.{option_map_or}
 use Rattle.cmwq_model.specs.declared.call.Call.{Call}
 use Rattle.cmwq_model.specs.declared.call.Call.TheVariants as call

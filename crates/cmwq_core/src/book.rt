@@ -16,6 +16,7 @@ ghost use Rattle.cmwq_core.specs.Book as kept;
 
 mod answers;
 mod effects;
+mod ends;
 mod reads;
 
 use crate::new::{new_books, new_most, new_pools, new_serials};

@@ -1,4 +1,3 @@
-use Rattle.std.proofs.Common.{rules}
 use Rattle.cmwq_model.specs.Legal.{past_of}
 use Rattle.cmwq_core.proofs.Readings.{no_ticket}
 use Rattle.cmwq_core.proofs.book.Book.ticket_of.Goals as goal
