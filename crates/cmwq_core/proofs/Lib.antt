@@ -11,3 +11,4 @@ pub mod Effecting
 pub mod Firing
 pub mod Told
 pub mod Appended
+mod Ends

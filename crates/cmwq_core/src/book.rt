@@ -15,6 +15,7 @@ ghost use Rattle.cmwq_core.specs.Book as kept;
 
 mod answers;
 mod effects;
+mod ends;
 mod fire;
 mod reads;
 

@@ -1,0 +1,86 @@
+//! What a ticket still waits for.
+
+ghost use Rattle.std.specs.Prelude.{◌≡◌, ◌<◌, Contains, length, true};
+ghost use Rattle.cmwq_model.specs.declared.call.Call.TheVariants as call;
+ghost use Rattle.cmwq_model.specs.Answer.{end_of_ticket, waiting_for};
+ghost use Rattle.cmwq_model.specs.Layout.{has_numbers};
+ghost use Rattle.cmwq_model.specs.Legal.{IsLegal, past_of};
+ghost use Rattle.cmwq_model.specs.Tickets.{is_flush_of, ticket_of, unended};
+ghost use Rattle.cmwq_model.specs.Waits.{waits_for};
+ghost use Rattle.cmwq_ties.specs.FlushBooks.{AreFlushes};
+
+use crate::book::Book;
+use cmwq_flush::Flushes;
+use cmwq_model::{Call, ItemId, Number, QueueId, Reply, Ticket, Who};
+
+fn waiting_for(number: Option<Number>) -> Reply
+    ensures { result ≡ waiting_for number }
+{
+    match number {
+        None => Reply::Done,
+        Some(number) => Reply::Waiting(number),
+    }
+}
+
+impl Book {
+    pub(crate) fn end_answer(&self, who: Who, ticket: Number) -> Reply
+        ensures { result ≡ end_of_ticket (past_of self.now.entries) (ticket_of (past_of self.now.entries) who ticket) }
+    {
+        let _ = &self.entries;
+        match self.ticket_of(who, ticket) {
+            None => Reply::Misuse,
+            Some(ticket) => waiting_for(self.waits_for(ticket)),
+        }
+    }
+
+    /// The flush book of a queue.
+    fn flushes(&self, queue: QueueId) -> &Flushes
+        requires { queue.0 < length self.now.layout.queues }
+        ensures is { AreFlushes self.now.layout (past_of self.now.entries) queue.0 result.now }
+        ensures legal { IsLegal self.now.layout (past_of self.now.entries) }
+    {
+        &self.books[usize::from(queue.0)]
+    }
+
+    fn flush_waits_for(&self, queue: QueueId, ticket: Ticket) -> Option<Number>
+        requires queue { queue.0 < length self.now.layout.queues }
+        requires flush { is_flush_of queue.0 ticket ≡ true }
+        requires unended { Contains (unended (past_of self.now.entries)) ticket }
+        ensures { result ≡ waits_for (past_of self.now.entries) ticket.number (call.Flush queue) }
+    {
+        let flushes = self.flushes(queue);
+        if flushes.ready(ticket.number) {
+            None
+        } else {
+            flushes.least_open()
+        }
+    }
+
+    /// The number of what an item runs.
+    fn run_number(&self, item: ItemId) -> Option<Number>
+        requires { item.0 < self.now.layout.items }
+        ensures { result ≡ waits_for (past_of self.now.entries) 0 (call.CancelSync item) }
+    {
+        match self.flight(item).run {
+            Some(queueing) => Some(queueing.number),
+            None => None,
+        }
+    }
+
+    /// What an unended ticket still waits for.
+    pub(crate) fn waits_for(&self, ticket: Ticket) -> Option<Number>
+        requires there { has_numbers self.now.layout ticket.call ≡ true }
+        requires unended { Contains (unended (past_of self.now.entries)) ticket }
+        ensures { result ≡ waits_for (past_of self.now.entries) ticket.number ticket.call }
+    {
+        match ticket.call {
+            Call::Flush { queue } => self.flush_waits_for(queue, ticket),
+            Call::Drain { queue } | Call::Destroy { queue } => self.flushes(queue).least_open(),
+            Call::FlushItem { .. } | Call::FlushDelayed { .. } => {
+                self.barriers.waits_for(ticket.number)
+            }
+            Call::CancelSync { item } => self.run_number(item),
+            _ => None,
+        }
+    }
+}
