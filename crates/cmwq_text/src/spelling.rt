@@ -5,6 +5,7 @@ ghost use Rattle.cmwq_text.specs.IdText.{who_text};
 ghost use Rattle.cmwq_text.specs.CallText.{call_words};
 ghost use Rattle.cmwq_text.specs.ReplyText.{reply_words};
 ghost use Rattle.cmwq_text.specs.EntryText.{entry_text};
+ghost use Rattle.cmwq_text.specs.HistoryText.{version_text};
 ghost use Rattle.cmwq_text.specs.ShapeText.{flags_in, flags_text, counts_text, queue_text};
 
 use crate::keyword::Keyword;
@@ -152,6 +153,15 @@ pub fn entry_line(entry: &Entry) -> Line
     line.push(" =");
     push_reply(&mut line, entry.reply);
     line.push("\n");
+    line
+}
+
+/// The first line of a history of format 2, with its line feed.
+pub fn version_line() -> Line
+    ensures { result ≡ version_text 2 }
+{
+    let mut line = Line::new();
+    line.push("history 2\n");
     line
 }
 
