@@ -21,6 +21,7 @@ use Rattle.cmwq_text.specs.IdText.{who_text, pool_letter}
 use Rattle.cmwq_text.specs.CallText.{call_words, call_text, is_of_kind, sets_some, may_say}
 use Rattle.cmwq_text.specs.ReplyText.{reply_words}
 use Rattle.cmwq_text.specs.EntryText.{entry_words, entry_text}
+use Rattle.cmwq_text.specs.HistoryText.{version_text}
 use Rattle.cmwq_text.specs.ShapeText.{counts_words, counts_text, queue_words, queue_text, begins_queue}
 use Rattle.cmwq_model.specs.Ranges.{IsWho, IsCall, IsEntry}
 use Rattle.cmwq_text.specs.Laws.{IsLineOf}
@@ -50,6 +51,9 @@ whole_line : (words : List (List ℕ)) → are_plain words ≡ true → length (
 whole_line words plain short =
     let len = length-append (joined words) (10 ∷ []) in
     record { is = refl; one = one_feed (joined words) (joined_has_none words plain); short = omega arith }
+
+pub whole_version : IsWholeLine (version_text 2) (codes "history 2")
+whole_version = record { is = refl; one = one_feed (codes "history 2") refl; short = omega arith }
 
 pub whole_counts : (n : Counts) → IsTrue (are_counts n.cpus n.workers n.callers n.items n.room) → IsWholeLine (counts_text n) (joined (counts_words n))
 unfolding counts_text
