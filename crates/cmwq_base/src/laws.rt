@@ -1,7 +1,7 @@
 //! What the texts of whole files keep, over every value.
-ghost use Rattle.cmwq_base.specs.FileLaws.{HistoriesHaveOneText, HistoriesReadAgain, CallFilesReadAgain};
+ghost use Rattle.cmwq_base.specs.FileLaws.{HistoriesHaveOneText, HistoriesReadAgain, OldHistoriesReadAgain, CallFilesReadAgain};
 
-/// A history and its shape have one text: what is read of a file is spelled so.
+/// A history and its shape have one text in each format: what is read of a file is spelled so.
 pub fn histories_have_one_text()
     ensures { HistoriesHaveOneText }
 {}
@@ -9,6 +9,11 @@ pub fn histories_have_one_text()
 /// The text of a history and its shape is read again as itself.
 pub fn histories_read_again()
     ensures { HistoriesReadAgain }
+{}
+
+/// So is its text in format 1, if that format has all that stands in it.
+pub fn old_histories_read_again()
+    ensures { OldHistoriesReadAgain }
 {}
 
 /// The text of calls and their shape is read again as itself.
