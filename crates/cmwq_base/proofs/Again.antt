@@ -1,5 +1,5 @@
 -- The text of a file that is spelled is read again as itself.
-use Rattle.std.proofs.Common.{◌≡◌, ◌+◌, ◌≤◌, ℕ, true, false, List, [], ◌∷◌, ◌++◌, length, Ok, leb, Some, None, refl, sym, ap, ◌∙◌, append_assoc, append-nil, arith, length-append}
+use Rattle.std.proofs.Common.{◌≡◌, ◌+◌, ◌≤◌, ℕ, true, false, List, [], ◌∷◌, ◌++◌, length, Ok, leb, Some, None, refl, sym, ap, ◌∙◌, append_assoc, append-nil, arith, subst, length-append}
 use Rattle.std.specs.Prelude.{if◌then◌else◌, codes, IsTrue, flat_map}
 use Rattle.std.specs.List.{All, list_all}
 use Rattle.std.proofs.lemmas.Bool.{lt-leb, le-ltb, leb-true}
@@ -161,7 +161,8 @@ old_begins c inside = rw (shape_says_none c) (begun_goes history_kind 1 entry_te
 
 pub old_histories_read_again : OldHistoriesReadAgain
 unfolding file_of
-old_histories_read_again f is_version old inside sound each =
+old_histories_read_again f is_version of_format inside sound each =
+    let old = subst (λ v. All (λ q. IsTrue (allows_queue v q)) f.layout.queues × All (λ e. IsTrue (allows_entry v e)) f.items) is_version of_format in
     shape_read_again history_kind 1 entry_text 1 begin f is_version old_begins (λ i d lt. queue_again 1 _ (old.0 i d lt)) inside sound.few
     (λ i d lt. entry_again 1 f.layout _ (each i d lt) (sound.fitting i d lt) (old.1 i d lt))
 

@@ -15,17 +15,21 @@ use Rattle.cmwq_base.specs.Kinds.{calls_kind, call_file_of, history_kind, histor
 abbrev pub HistoriesHaveOneText : Type 0
 HistoriesHaveOneText = (text : List ℕ) (f : File Entry) → history_file_of text ≡ Ok f → text ≡ text_of_format f.version f.layout f.items
 
+-- what is read of it has nothing that its format doesn't have
+abbrev pub IsOfFormat : File Entry → Type 0
+IsOfFormat f = All (λ q. IsTrue (allows_queue f.version q)) f.layout.queues × All (λ e. IsTrue (allows_entry f.version e)) f.items
+
+abbrev pub HistoriesAreOfTheirFormat : Type 0
+HistoriesAreOfTheirFormat = (text : List ℕ) (f : File Entry) → history_file_of text ≡ Ok f → IsOfFormat f
+
 -- a history that is spelled is read again, if its shape is inside the limits, it has no more than 1,000,000 entries, each of them fits the
 -- shape, and their numbers are inside the ranges of their types
 abbrev pub HistoriesReadAgain : Type 0
 HistoriesReadAgain = (f : File Entry) → f.version ≡ 2 → IsTrue (is_layout f.layout) → IsSound history_kind f → All IsEntry f.items → history_file_of (history_text f.layout f.items) ≡ Ok f
 
 -- the same in format 1, if its queues and entries are such as that format has
-abbrev pub IsOld : File Entry → Type 0
-IsOld f = All (λ q. IsTrue (allows_queue 1 q)) f.layout.queues × All (λ e. IsTrue (allows_entry 1 e)) f.items
-
 abbrev pub OldHistoriesReadAgain : Type 0
-OldHistoriesReadAgain = (f : File Entry) → f.version ≡ 1 → IsOld f → IsTrue (is_layout f.layout) → IsSound history_kind f → All IsEntry f.items → history_file_of (text_of_format 1 f.layout f.items) ≡ Ok f
+OldHistoriesReadAgain = (f : File Entry) → f.version ≡ 1 → IsOfFormat f → IsTrue (is_layout f.layout) → IsSound history_kind f → All IsEntry f.items → history_file_of (text_of_format 1 f.layout f.items) ≡ Ok f
 
 -- the same of a file of calls
 abbrev pub CallFilesReadAgain : Type 0

@@ -17,7 +17,7 @@ pub record File (X : Type 0) : Type 0 where
   pub layout : Layout
   pub items : List X
 
--- how far a file has been read
+-- how far a file has been read: nothing, the line that says format 2, the shape line and queues in a format, or lines behind these
 pub data Stage (X : Type 0) : Type 0 where
   begin : Stage X
   opened : Stage X
@@ -52,6 +52,7 @@ abbrev pub and_then : {A B : Type 0} → (A → Result B Refusal) → Result A R
 and_then f (Ok x) = f x
 and_then f (Err e) = Err e
 
+-- n is the number of the line, and v the format
 module _ {X : Type 0} where
   -- the shape line
   abbrev pub begun : ℕ → ℕ → Option Counts → Result (Stage X) Refusal

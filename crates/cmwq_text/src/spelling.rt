@@ -75,8 +75,10 @@ fn push_call(line: &mut Line, call: Call)
         Call::Sleep => line.push_phrase(Keyword::Sleep, &[]),
         Call::Wake => line.push_phrase(Keyword::Wake, &[]),
         Call::Retire => line.push_phrase(Keyword::Retire, &[]),
-        Call::SetMax { queue, max_active } =>
-            line.push_phrase(Keyword::SetMax, &[queue.0.into(), max_active.into()]),
+        Call::SetMax { queue, max_active } => line.push_phrase(
+            Keyword::SetMax,
+            &[queue.0.into(), max_active.into()],
+        ),
         Call::Freeze => line.push_phrase(Keyword::Freeze, &[]),
         Call::Thaw => line.push_phrase(Keyword::Thaw, &[]),
         Call::Destroy { queue } => line.push_phrase(Keyword::Destroy, &[queue.0.into()]),
