@@ -11,7 +11,7 @@ mod room;
 mod sanity;
 mod verdicts;
 
-pub use before::{active_are_as_before, legal_are_as_before};
+pub use before::{active_are_as_before, legal_are_as_before, none_gone_before};
 pub use destroys::{gone_stay_empty, gone_stay_gone};
 pub use fidelity::{active_are_first, queueings_stand_by_number, replies_name_themselves, runs_are_items, tickets_wait_for_least, worklists_are_in_order};
 pub use fitting::{entries_fit, legal_histories_fit};
