@@ -181,28 +181,28 @@ queue_as_before : (past : List Entry) (who : Who) (i q t : ℕ) → is_gone past
 unfolding queue_answer queue_before
 queue_as_before past who i q t none = ap
     (λ b.
-        if not (may_call past who) then reply.Misuse
-        else if b then reply.Gone
-        else if is_cancelling past i then reply.No
-        else if is_pending past i then reply.No
-        else if runs_elsewhere past i q then reply.Foreign
-        else if is_shut past who q t then reply.Draining
-        else if t == 0 then reply.Yes (length past)
-        else reply.Booked (now past + t))
+    if not (may_call past who) then reply.Misuse
+    else if b then reply.Gone
+    else if is_cancelling past i then reply.No
+    else if is_pending past i then reply.No
+    else if runs_elsewhere past i q then reply.Foreign
+    else if is_shut past who q t then reply.Draining
+    else if t == 0 then reply.Yes (length past)
+    else reply.Booked (now past + t))
     none
 
 modify_as_before : (past : List Entry) (who : Who) (i q t : ℕ) → is_gone past q ≡ false → modify_answer past who i q t ≡ modify_before past who i q t
 unfolding modify_answer modify_before
 modify_as_before past who i q t none = ap
     (λ b.
-        if not (may_call past who) then reply.Misuse
-        else if b then reply.Gone
-        else if is_cancelling past i then reply.No
-        else if runs_elsewhere past i q then reply.Foreign
-        else if is_shut past who q t then reply.Draining
-        else if is_pending past i then (if t == 0 then reply.Again (length past) else reply.Rebooked (now past + t))
-        else if t == 0 then reply.Yes (length past)
-        else reply.Booked (now past + t))
+    if not (may_call past who) then reply.Misuse
+    else if b then reply.Gone
+    else if is_cancelling past i then reply.No
+    else if runs_elsewhere past i q then reply.Foreign
+    else if is_shut past who q t then reply.Draining
+    else if is_pending past i then (if t == 0 then reply.Again (length past) else reply.Rebooked (now past + t))
+    else if t == 0 then reply.Yes (length past)
+    else reply.Booked (now past + t))
     none
 
 wait_as_before : (past : List Entry) (who : Who) (q : ℕ) → is_gone past q ≡ false → wait_answer past who q ≡ wait_before past who

@@ -1,5 +1,5 @@
 -- The replies of a legal history fit its layout, and its numbers are inside their ranges.
-use Rattle.std.proofs.Common.{◌≡◌, ◌<◌, ◌≤◌, ◌+◌, ◌*◌, ◌==◌, ℕ, zero, suc, min, Bool, true, false, cond, not, ◌&&◌, List, [], ◌∷◌, ◌++◌, length, find, Option, Some, None, nat_lt, refl, sym, ap, ap₂, ◌∙◌, subst, arith}
+use Rattle.std.proofs.Common.{◌≡◌, ◌<◌, ◌≤◌, ◌+◌, ◌*◌, ℕ, zero, suc, Bool, true, false, ◌&&◌, List, [], ◌∷◌, length, find, Option, Some, None, nat_lt, refl, sym, ap, ap₂, subst, arith}
 use Rattle.std.specs.Prelude.{option_map, option_and_then, if◌then◌else◌, IsTrue, reverse}
 use Rattle.std.specs.List.{All, AllByRecursion, range_with_len, list_any}
 use Rattle.std.proofs.lemmas.Bool.{and_parts, leb-true, ltb-true, lt-ltb}
@@ -10,22 +10,21 @@ use Rattle.cmwq_model.specs.declared.id.Who.{Who}
 use Rattle.cmwq_model.specs.declared.call.Call.{Call}
 use Rattle.cmwq_model.specs.declared.call.Call.TheVariants as call
 use Rattle.cmwq_model.specs.declared.reply.Reply.{Reply}
-use Rattle.cmwq_model.specs.declared.reply.Reply.TheVariants as reply
 use Rattle.cmwq_model.specs.declared.entry.Entry.{Entry}
 use Rattle.cmwq_model.specs.declared.record.Booking.{Booking}
 use Rattle.cmwq_model.specs.declared.record.Queueing.{Queueing}
 use Rattle.cmwq_model.specs.declared.record.Start.{Start}
-use Rattle.cmwq_model.specs.Layout.{Layout, is_layout, indices, fits, has_numbers, reply_fits, entry_fits}
-use Rattle.cmwq_model.specs.Ranges.{IsWho, IsCall, IsReply, IsEntry, greatest, greatest_long}
-use Rattle.cmwq_model.specs.Calls.{is_at, is_by, is_of_item, serial_of, ticks_told, now}
+use Rattle.cmwq_model.specs.Layout.{Layout, is_layout, indices, has_numbers, reply_fits, entry_fits}
+use Rattle.cmwq_model.specs.Ranges.{IsWho, IsCall, IsReply, IsEntry, greatest}
+use Rattle.cmwq_model.specs.Calls.{is_by, is_of_item, serial_of, ticks_told, now}
 use Rattle.cmwq_model.specs.Bookings.{settles, due_in, booking, booking_of, booked_by}
 use Rattle.cmwq_model.specs.Runs.{run, item_run}
 use Rattle.cmwq_model.specs.Queueings.{still_open, unstarted}
 use Rattle.cmwq_model.specs.Active.{next}
 use Rattle.cmwq_model.specs.Waits.{holds_up, least_waited, waits_for}
 use Rattle.cmwq_model.specs.Workers.{enlisted_by, is_other_idle, is_reserve}
-use Rattle.cmwq_model.specs.Legal.{IsLegal, past_of, entry_for}
-use Rattle.cmwq_active.proofs.Lists.{All_map, All_append, All_each}
+use Rattle.cmwq_model.specs.Legal.{IsLegal, past_of}
+use Rattle.cmwq_active.proofs.Lists.{All_append}
 use Rattle.cmwq_steps.proofs.Activated.{find_holds, next_holds}
 use Rattle.cmwq_steps.proofs.Entries.{IsKnown, known_more, queueings_known}
 use Rattle.cmwq_steps.proofs.Fresh.{IsOpenOne, open_known, unstarted_is}

@@ -1,5 +1,5 @@
 -- How many are active on a queue and CPU after an entry, and what waits there.
-use Rattle.std.proofs.Common.{◌≡◌, ◌≤◌, ◌+◌, ◌-◌, ℕ, zero, suc, Bool, true, false, cond, not, ◌&&◌, ◌||◌, List, [], ◌∷◌, ◌++◌, length, filter, count_by, take, drop, Option, Some, None, option_to_list, refl, sym, ap, ap₂, ◌∙◌, arith}
+use Rattle.std.proofs.Common.{◌≡◌, ◌+◌, ◌-◌, ℕ, zero, suc, Bool, true, false, cond, not, ◌&&◌, List, [], ◌∷◌, ◌++◌, filter, count_by, take, drop, Option, Some, None, option_to_list, refl, sym, ap, ap₂, ◌∙◌, arith}
 use Rattle.std.specs.Option.{option_map_or}
 use Rattle.std.specs.List.{AllByRecursion}
 use Rattle.std.proofs.lemmas.List.Sums.{sum_by-append}
@@ -16,10 +16,10 @@ use Rattle.cmwq_steps.specs.Places.{is_on, open_on, active_count}
 use Rattle.cmwq_steps.specs.Endings.{is_spared, is_ended, ending}
 use Rattle.cmwq_steps.specs.Activations.{waits, stay_count}
 use Rattle.cmwq_steps.specs.Waiting.{candidates, has_none, waiting_on, is_active_on, ends_active_on}
-use Rattle.cmwq_active.proofs.Lists.{All_map, All_each, All_filter, count_by-cons, count_by-none, count_by-filter}
+use Rattle.cmwq_active.proofs.Lists.{All_each, count_by-cons, count_by-none, count_by-filter}
 use Rattle.cmwq_active.proofs.Rising.{opening_number}
-use Rattle.cmwq_active.proofs.Joined.{active_go_on, stays_active}
-use Rattle.cmwq_steps.proofs.Filters.{filter_same, filter_none, count_by-same}
+use Rattle.cmwq_active.proofs.Joined.{stays_active}
+use Rattle.cmwq_steps.proofs.Filters.{filter_none, count_by-same}
 use Rattle.cmwq_steps.proofs.Fronts.{IsFront, front_filter, count_split}
 use Rattle.cmwq_steps.proofs.Active.{on_each, ways_front, not_active_yet, active_counted}
 use Rattle.cmwq_steps.proofs.Promoted.{newly_of_open, newly_active_on}

@@ -1,5 +1,5 @@
 -- Which items are pending, and which run, after one more entry.
-use Rattle.std.proofs.Common.{◌≡◌, ◌+◌, ◌==◌, ℕ, Bool, true, false, cond, not, ◌&&◌, ◌||◌, List, [], ◌∷◌, length, Option, Some, None, refl, sym, ap, ap₂, ◌∙◌, subst, arith}
+use Rattle.std.proofs.Common.{◌≡◌, ◌+◌, ◌==◌, ℕ, Bool, true, false, cond, not, ◌&&◌, ◌||◌, List, ◌∷◌, length, Option, Some, None, refl, sym, ap, ap₂, ◌∙◌, subst}
 use Rattle.std.specs.Prelude.{option_map, option_and_then, is_some, if◌then◌else◌}
 use Rattle.std.specs.Option.{option_or, option_map_or}
 use Rattle.std.proofs.lemmas.Bool.{eq-eqb, eqb-true}
@@ -9,15 +9,14 @@ use Rattle.cmwq_model.specs.declared.entry.Entry.{Entry}
 use Rattle.cmwq_model.specs.declared.record.Queueing.{Queueing}
 use Rattle.cmwq_model.specs.declared.record.Start.{Start}
 use Rattle.cmwq_model.specs.Layout.{Layout}
-use Rattle.cmwq_model.specs.Calls.{is_at, item_called, item_fired, item_of, item_at, is_of_item}
-use Rattle.cmwq_model.specs.Bookings.{settles, due_in, booking, booking_of, booked_by, is_booked}
+use Rattle.cmwq_model.specs.Calls.{is_at, item_fired, item_of, item_at, is_of_item}
+use Rattle.cmwq_model.specs.Bookings.{settles, due_in, booking_of, booked_by, is_booked}
 use Rattle.cmwq_model.specs.Fate.{number_started, number_finished, number_cancelled, starts, finishes, takes_back, replaces, is_started}
 use Rattle.cmwq_model.specs.Runs.{start_in, starts_item, item_run, item_runs}
 use Rattle.cmwq_model.specs.Queueings.{opens, opening, unstarted, is_pending, queued_at, place_wanted}
 use Rattle.cmwq_model.specs.Legal.{IsLegal, bits}
 use Rattle.cmwq_steps.specs.Reasons.{TakesBack, unbooks}
 use Rattle.cmwq_steps.specs.RunSteps.{ends_run}
-use Rattle.cmwq_steps.specs.Endings.{is_spared}
 use Rattle.cmwq_steps.specs.Activations.{is_left}
 use Rattle.cmwq_steps.specs.ItemQueueings.{still_unstarted, of_item}
 use Rattle.cmwq_steps.specs.Queued.{is_settled, makes_pending, is_taken_back, pending_after, runs_after}
@@ -28,7 +27,7 @@ use Rattle.cmwq_steps.proofs.Reasons.{unbook_reason}
 use Rattle.cmwq_steps.proofs.Fresh.{finishes_run, takes_back_unstarted, unstarted_is}
 use Rattle.cmwq_steps.proofs.ItemRuns.{run_is}
 use Rattle.cmwq_steps.proofs.RunSteps.{last_started}
-use Rattle.cmwq_steps.proofs.ItemSteps.{StartsOf, starts_of, starts_some, items_run_on}
+use Rattle.cmwq_steps.proofs.ItemSteps.{starts_of, starts_some, items_run_on}
 use Rattle.cmwq_steps.proofs.Pending.{opening_opens, opens_settles, booked_or_unstarted}
 use Rattle.cmwq_steps.proofs.Pools.{started_was}
 use Rattle.cmwq_steps.proofs.StateSteps.{opens_as_asked, books_as_asked}
@@ -246,9 +245,9 @@ other_pending s past e i legal other =
     at (Some x) u =
         let w = unstarted_is past i x u in
         let left : is_left past e x ≡ (not (starts_item past e i) && not (is_taken_back e i)) =
-            left_is (finishes x.number e) (takes_back x.number e) (replaces e.reply && is_of_item x.item.0 e && not (is_started past x.number)) (starts x.number e) (starts_item past e i) (is_taken_back e i)
-                (not_finished s past e x.number legal w.not_started) (subst (λ j. (replaces e.reply && is_of_item j e && not (is_started past x.number)) ≡ false) (sym w.item) (not_replaced e i (is_started past x.number) other))
-                (taken_back_is s past e i x legal u) (starts_is s past e i x legal u) in
+        left_is (finishes x.number e) (takes_back x.number e) (replaces e.reply && is_of_item x.item.0 e && not (is_started past x.number)) (starts x.number e) (starts_item past e i) (is_taken_back e i)
+        (not_finished s past e x.number legal w.not_started) (subst (λ j. (replaces e.reply && is_of_item j e && not (is_started past x.number)) ≡ false) (sym w.item) (not_replaced e i (is_started past x.number) other))
+        (taken_back_is s past e i x legal u) (starts_is s past e i x legal u) in
         ap₂ (λ a b. a || b) (not_booked x u) (either (is_left past e x) x ∙ left) ∙ sym (ap (λ a. (a || true) && not (starts_item past e i) && not (is_taken_back e i)) (not_booked x u))
 
 pub pending_goes_on : (s : Layout) (past : List Entry) (e : Entry) → IsLegal s (e ∷ past) → (i : ℕ) → is_pending (e ∷ past) i ≡ pending_after past e i

@@ -1,7 +1,7 @@
 -- Entries that are refused change nothing.
-use Rattle.std.proofs.Common.{◌≡◌, ◌<◌, ◌≤◌, ◌+◌, ◌*◌, ℕ, Bool, true, false, cond, not, ◌&&◌, ◌||◌, List, [], ◌∷◌, ◌++◌, length, filter, find, count_by, Option, Some, None, option_to_list, append-nil, nat_lt, refl, sym, ap, ap₂, ◌∙◌, subst, arith}
+use Rattle.std.proofs.Common.{◌≡◌, ◌<◌, ◌+◌, ℕ, Bool, true, false, cond, not, ◌&&◌, ◌||◌, List, [], ◌∷◌, ◌++◌, length, filter, find, count_by, Option, Some, None, option_to_list, append-nil, nat_lt, refl, sym, ap, ap₂, ◌∙◌, subst, arith}
 use Rattle.std.specs.Prelude.{option_map, option_and_then, is_some, if◌then◌else◌}
-use Rattle.std.specs.Option.{option_or, option_map_or}
+use Rattle.std.specs.Option.{option_map_or}
 use Rattle.std.specs.List.{AllByRecursion}
 use Rattle.std.proofs.lemmas.Bool.Decides.{nat_tests}
 use Rattle.cmwq_model.specs.declared.id.PoolId.{PoolId}
@@ -18,31 +18,31 @@ use Rattle.cmwq_model.specs.declared.record.Start.{Start}
 use Rattle.cmwq_model.specs.declared.record.Ticket.{Ticket}
 use Rattle.cmwq_model.specs.Layout.{Layout}
 use Rattle.cmwq_model.specs.Calls.{is_at, is_by, is_of_item, item_of, item_at, worker_of, ticks_told, now}
-use Rattle.cmwq_model.specs.Bookings.{settles, due_in, booking, booking_of, booked_by}
-use Rattle.cmwq_model.specs.Fate.{number_started, number_finished, number_cancelled, replaces, starts, is_started}
-use Rattle.cmwq_model.specs.Runs.{run, item_run, item_runs, is_asleep, asleep_after, start_in, starts_item}
-use Rattle.cmwq_model.specs.Queueings.{queueings, is_of, opens, opening, is_live, still_open, is_unstarted, unstarted, is_pending, queued_at, place_wanted, run_queue}
-use Rattle.cmwq_model.specs.Widths.{is_frozen, max_active, width}
+use Rattle.cmwq_model.specs.Bookings.{settles, due_in, booking, booked_by}
+use Rattle.cmwq_model.specs.Fate.{number_started, number_finished, number_cancelled, replaces, is_started}
+use Rattle.cmwq_model.specs.Runs.{run, item_run, is_asleep, asleep_after, start_in}
+use Rattle.cmwq_model.specs.Queueings.{queueings, is_of, opens, opening, is_live, still_open, is_unstarted, unstarted, queued_at, place_wanted, run_queue}
+use Rattle.cmwq_model.specs.Widths.{is_frozen}
 use Rattle.cmwq_model.specs.Active.{is_ahead, has_way, is_active, newly_active, worklist, next, is_startable}
-use Rattle.cmwq_model.specs.Workers.{is_enlisted, index_enlisted, enlists, is_in_pool, is_retired}
+use Rattle.cmwq_model.specs.Workers.{is_enlisted, index_enlisted, is_in_pool, is_retired}
 use Rattle.cmwq_model.specs.Tickets.{unended, gives_ticket, ticket_for, ticket_in, is_end_of, is_done, is_gone, ends_destroy}
 use Rattle.cmwq_model.specs.Legal.{IsLegal, bits}
-use Rattle.cmwq_model.specs.Room.{owed, has_not_started}
+use Rattle.cmwq_model.specs.Room.{owed}
 use Rattle.cmwq_model.specs.Answer.{answer}
 use Rattle.cmwq_active.specs.Looks.{keeps_widths}
 use Rattle.cmwq_steps.specs.Histories.{one}
-use Rattle.cmwq_steps.specs.Places.{is_on, open_on, active_count}
+use Rattle.cmwq_steps.specs.Places.{is_on, active_count}
 use Rattle.cmwq_steps.specs.Endings.{is_spared, ending, number_ended}
-use Rattle.cmwq_steps.specs.Activations.{is_left, is_in, waits, behind_width, has_way_at_once, stay_count}
-use Rattle.cmwq_steps.specs.TicketSteps.{ticket_asked, ticket_ended, is_kept}
-use Rattle.cmwq_steps.specs.RoomSteps.{is_slept, is_woke, is_frozen_now, is_thawed_now, ends_unstarted, settles_booked, paid, taken_on}
+use Rattle.cmwq_steps.specs.Activations.{is_left, is_in, waits, behind_width, has_way_at_once}
+use Rattle.cmwq_steps.specs.TicketSteps.{ticket_asked, is_kept}
+use Rattle.cmwq_steps.specs.RoomSteps.{is_slept, is_woke, is_frozen_now, is_thawed_now, paid, taken_on}
 use Rattle.cmwq_steps.specs.RunSteps.{run_after, ends_run}
 use Rattle.cmwq_steps.specs.Waiting.{waiting, is_active_on, ends_active_on}
 use Rattle.cmwq_steps.specs.Queued.{run_queue_after}
 use Rattle.cmwq_steps.specs.Refusals.{is_refusal, DoesNothing, ChangesNothing}
 use Rattle.cmwq_active.proofs.Lists.{All_map, All_each, All_filter}
 use Rattle.cmwq_active.proofs.Rising.{IsBelow, queueings_below}
-use Rattle.cmwq_active.proofs.Joined.{active_go_on, active_live, stays_active}
+use Rattle.cmwq_active.proofs.Joined.{active_go_on, active_live}
 use Rattle.cmwq_active.proofs.Widths.{frozen_same, max_same, width_same}
 use Rattle.cmwq_steps.proofs.Filters.{filter_same, find_same}
 use Rattle.cmwq_steps.proofs.Inversions.{answer_is}

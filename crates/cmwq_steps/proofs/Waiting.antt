@@ -1,13 +1,11 @@
 -- What waits, and what becomes active, after one more entry.
-use Rattle.std.proofs.Common.{◌≡◌, ℕ, ◌+◌, ◌<◌, Bool, true, false, not, ◌&&◌, ◌||◌, ◌==◌, List, [], ◌∷◌, ◌++◌, length, filter, Option, Some, None, option_to_list, cond, arith, refl, sym, ap, ap₂, ◌∙◌}
+use Rattle.std.proofs.Common.{◌≡◌, Bool, true, false, not, ◌&&◌, ◌||◌, List, [], ◌∷◌, ◌++◌, filter, Option, Some, None, option_to_list, cond, arith, refl, sym, ap, ap₂, ◌∙◌}
 use Rattle.std.specs.List.{AllByRecursion}
 use Rattle.std.proofs.lemmas.List.Elements.{filter-append}
 use Rattle.cmwq_model.specs.declared.entry.Entry.{Entry}
 use Rattle.cmwq_model.specs.declared.record.Queueing.{Queueing}
 use Rattle.cmwq_model.specs.Layout.{Layout}
-use Rattle.cmwq_model.specs.Queueings.{queueings, still_open, is_live, opening, is_unstarted, unstarted}
-use Rattle.cmwq_model.specs.Fate.{starts, is_started}
-use Rattle.std.specs.Option.{option_or}
+use Rattle.cmwq_model.specs.Queueings.{queueings, still_open, is_live, opening}
 use Rattle.cmwq_model.specs.Active.{has_way, is_active, is_newly_active, newly_active}
 use Rattle.cmwq_model.specs.Legal.{IsLegal}
 use Rattle.cmwq_steps.specs.Endings.{is_spared}
@@ -17,8 +15,6 @@ use Rattle.cmwq_steps.proofs.Filters.{filter_twice, filter_same}
 use Rattle.cmwq_steps.proofs.Active.{not_active_yet}
 use Rattle.cmwq_active.proofs.Rising.{opening_number}
 use Rattle.cmwq_steps.proofs.Endings.{open_go_on}
-use Rattle.cmwq_steps.proofs.Pending.{one_unstarted}
-use Rattle.cmwq_steps.proofs.WorklistSteps.{opening_inert}
 use Rattle.cmwq_steps.proofs.Promoted.{newly_is, newly_of_open}
 use Rattle.cmwq_steps.specs.Waiting.{waiting, candidates, has_none}
 
@@ -50,7 +46,7 @@ pub newly_are : (s : Layout) (past : List Entry) (e : Entry) → newly_active s 
 newly_are s past e =
     newly_of_open s past e
     ∙ (filter_same (is_newly_active s past e) (λ x. waits s past x && has_way s (e ∷ past) x) (still_open (e ∷ past))
-        (All_map (λ x. is_live (e ∷ past) x ≡ true) _ (still_open (e ∷ past)) (λ x live. newly_is s past e x live ∙ flip (has_way s (e ∷ past) x) (waits s past x)) (all_live (e ∷ past)))
+    (All_map (λ x. is_live (e ∷ past) x ≡ true) _ (still_open (e ∷ past)) (λ x live. newly_is s past e x live ∙ flip (has_way s (e ∷ past) x) (waits s past x)) (all_live (e ∷ past)))
     ∙ sym (filter_twice (has_way s (e ∷ past)) (waits s past) (still_open (e ∷ past))))
 
 still_waits : (s : Layout) (past : List Entry) (e : Entry) (x : Queueing) → is_live (e ∷ past) x ≡ true → waits s (e ∷ past) x ≡ (waits s past x && has_none s (e ∷ past) x)
