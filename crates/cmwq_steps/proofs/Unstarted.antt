@@ -25,12 +25,7 @@ use Rattle.cmwq_active.proofs.Joined.{listed_live}
 use Rattle.cmwq_steps.proofs.Activated.{find_holds, next_holds}
 use Rattle.cmwq_steps.proofs.StartsListed.{IsFound, queueings_found, queueing_at-older}
 use Rattle.cmwq_steps.proofs.Pools.{unstarted_alone}
-
-flip : (a b : Bool) → (a && b) ≡ (b && a)
-flip true true = refl
-flip true false = refl
-flip false true = refl
-flip false false = refl
+use Rattle.cmwq_steps.proofs.Truth.{flip}
 
 -- ---- the unstarted queueing of an item after an entry
 

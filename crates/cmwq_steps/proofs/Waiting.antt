@@ -15,18 +15,9 @@ use Rattle.cmwq_steps.proofs.Filters.{filter_twice, filter_same}
 use Rattle.cmwq_steps.proofs.Active.{not_active_yet}
 use Rattle.cmwq_active.proofs.Rising.{opening_number}
 use Rattle.cmwq_steps.proofs.Endings.{open_go_on}
-use Rattle.cmwq_steps.proofs.Promoted.{newly_is, newly_of_open}
+use Rattle.cmwq_steps.proofs.Promoted.{turn_filters, newly_is, newly_of_open}
 use Rattle.cmwq_steps.specs.Waiting.{waiting, candidates, has_none}
-
-flip : (a b : Bool) → (a && b) ≡ (b && a)
-flip true true = refl
-flip true false = refl
-flip false true = refl
-flip false false = refl
-
--- filters in either order
-pub filters_flip : (p q : Queueing → Bool) (xs : List Queueing) → filter p (filter q xs) ≡ filter q (filter p xs)
-filters_flip p q xs = filter_twice p q xs ∙ (filter_same (λ x. q x && p x) (λ x. p x && q x) xs (All_each _ xs (λ x. flip (q x) (p x))) ∙ sym (filter_twice q p xs))
+use Rattle.cmwq_steps.proofs.Truth.{flip}
 
 pub all_live : (past : List Entry) → AllByRecursion (λ x. is_live past x ≡ true) (still_open past)
 all_live past = All_filter (λ x. is_live past x ≡ true) (is_live past) (queueings past) (All_each _ (queueings past) (λ x h. h))
@@ -40,7 +31,7 @@ pub candidates_are : (s : Layout) (past : List Entry) (e : Entry) → IsLegal s 
 candidates_are s past e legal =
     ap (filter (waits s past)) (open_go_on s past e legal)
     ∙ (filter-append (waits s past) (filter (is_spared past e) (still_open past)) (option_to_list (opening past e))
-    ∙ ap₂ (λ xs ys. xs ++ ys) (filters_flip (waits s past) (is_spared past e) (still_open past)) (opened_waits s past e (opening past e) refl))
+    ∙ ap₂ (λ xs ys. xs ++ ys) (turn_filters (waits s past) (is_spared past e) (still_open past)) (opened_waits s past e (opening past e) refl))
 
 pub newly_are : (s : Layout) (past : List Entry) (e : Entry) → newly_active s past e ≡ filter (has_way s (e ∷ past)) (candidates s past e)
 newly_are s past e =
