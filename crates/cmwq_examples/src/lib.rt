@@ -124,35 +124,3 @@ pub fn frozen_and_thawed()
 pub fn queue_destroyed()
     ensures { Holds queue_destroyed }
 {}
-
-#[cfg(test)]
-mod tests {
-    use super::*;
-
-    #[test]
-    fn each_is_there() {
-        first_run();
-        no_calls();
-        pending_item();
-        queued_while_it_runs();
-        foreign();
-        inactive_and_cancelled();
-        two_made_active_at_once();
-        held_by_a_run();
-        cpu_intensive();
-        lanes();
-        retire_while_enough_idle();
-        timer_at_its_tick();
-        modify_replaces();
-        timer_held_back();
-        flush_waits_for_older();
-        cancel_sync_of_self_queueing();
-        drain_refuses_others();
-        flush_delayed_and_cancel_sync();
-        sixteen_flushes();
-        no_room();
-        width_goes_up_and_down();
-        frozen_and_thawed();
-        queue_destroyed();
-    }
-}

@@ -21,22 +21,25 @@ pub(crate) const CALLERS: u8 = 2;
 
 pub(crate) const ITEMS: u16 = 6;
 
-/// One queue of each kind: wide, CPU intensive, of high priority.
+/// One queue of each kind: wide and freezable, CPU intensive, of high priority.
 pub(crate) const QUEUES: [QueueShape; 3] = [
     QueueShape {
         max_active: 2,
         high: false,
         intensive: false,
+        freezable: true,
     },
     QueueShape {
         max_active: 1,
         high: false,
         intensive: true,
+        freezable: false,
     },
     QueueShape {
         max_active: 1,
         high: true,
         intensive: false,
+        freezable: false,
     },
 ];
 
@@ -59,14 +62,26 @@ pub(crate) fn shape(alloc: Global) -> Result<Option<Shape>, AllocError> {
 #[derive(Drop)]
 pub(crate) struct Generator {
     random: Pcg32,
+    /// Whether widths change and queues are destroyed.
+    changes: bool,
     tickets: Vec<(Who, Number)>,
 }
 
 impl Generator {
+    /// All calls.
     pub(crate) fn new(alloc: Global, seed: u64) -> Generator {
         Generator {
             random: Pcg32::new(seed, 1),
+            changes: true,
             tickets: Vec::new(alloc),
+        }
+    }
+
+    /// The calls that neither change a width nor destroy a queue.
+    pub(crate) fn steady(alloc: Global, seed: u64) -> Generator {
+        Generator {
+            changes: false,
+            ..Generator::new(alloc, seed)
         }
     }
 
@@ -129,8 +144,25 @@ impl Generator {
         }
     }
 
+    /// A call that changes a width, or rarely one that destroys a queue.
+    fn change(&mut self) -> Call {
+        let queue = self.queue();
+        match self.below(16) {
+            0..7 => Call::SetMax {
+                queue,
+                max_active: 1 + u32::from(self.below(3)),
+            },
+            7..11 => Call::Freeze,
+            11..15 => Call::Thaw,
+            _ => Call::Destroy { queue },
+        }
+    }
+
     /// A call of a caller that isn't the end of a wait.
     fn call(&mut self) -> Call {
+        if self.changes && self.below(8) == 0 {
+            return self.change();
+        }
         match self.below(32) {
             0..19 => self.queueing(),
             19..22 => Call::Tick { ticks: 1 },

@@ -3,7 +3,9 @@
 
 use crate::generator::{CALLERS, CPUS, ITEMS, QUEUES, WORKERS, gives_ticket};
 use cmwq_flush::{Barriers, Flushes};
-use cmwq_model::{Call, CpuId, Entry, ItemId, Number, PoolId, QueueId, QueueShape, Reply, Who};
+use cmwq_model::{
+    Call, CpuId, Entry, ItemId, Number, Place, PoolId, QueueId, QueueShape, Reply, Who,
+};
 use cmwq_pool::Pool;
 use cmwq_timer::Timers;
 use std::alloc::Global;

@@ -159,7 +159,7 @@ fn compare_waits(rt: &impl Abort, shape: &Shape, entries: &[Entry], parts: &Part
 /// After each of so many entries the parts answer as the plain program does.
 fn compare_all(rt: &(impl Abort + AllocGlobal), seed: u64, length: Number) -> Result<(), Fail> {
     let shape = shape(rt.alloc())?.ok_or("no shape")?;
-    let mut generator = Generator::new(rt.alloc(), seed);
+    let mut generator = Generator::steady(rt.alloc(), seed);
     let mut parts = Parts::new(rt.alloc())?;
     let mut entries = Vec::new(rt.alloc());
     for number in 0..length {

@@ -1,0 +1,14 @@
+pub mod Activations
+pub mod Endings
+pub mod Histories
+pub mod Limits
+pub mod Marks
+pub mod Order
+pub mod Pending
+pub mod Places
+pub mod Pools
+pub mod Reasons
+pub mod RoomSteps
+pub mod RunSteps
+pub mod StateSteps
+pub mod TicketSteps
