@@ -1,9 +1,11 @@
 pub mod Activated
 pub mod Active
+pub mod ActiveCounts
 pub mod Causes
 pub mod Done
 pub mod Ended
 pub mod Endings
+pub mod EndsAsTold
 pub mod Entries
 pub mod Filters
 pub mod Fresh
@@ -24,11 +26,13 @@ pub mod OwedItems
 pub mod OwedSteps
 pub mod OwedWaiting
 pub mod Pending
+pub mod PendingSteps
 pub mod Points
 pub mod Pools
 pub mod Promised
 pub mod Promoted
 pub mod QueueCases
+pub mod Queued
 pub mod Ranks
 pub mod Reasons
 pub mod RunSteps
@@ -39,5 +43,8 @@ pub mod StartsListed
 pub mod StateSteps
 pub mod TakeCases
 pub mod TicketSteps
+pub mod Unstarted
+pub mod Waiting
+pub mod Way
 pub mod Worklist
 pub mod WorklistSteps

@@ -162,7 +162,7 @@ starting_quiet (reply.Started m) n h = (refl, refl)
 starting_quiet (reply.StartedEnlist m x) n h = (refl, refl)
 starting_quiet r n h = cc
 
-started_was : (s : Layout) (past : List Entry) (e : Entry) (i n : ℕ) → IsLegal s (e ∷ past) → number_started e.reply ≡ Some n → item_at past n ≡ Some i → (y : Queueing) × (unstarted past i ≡ Some y) × (y.number ≡ n)
+pub started_was : (s : Layout) (past : List Entry) (e : Entry) (i n : ℕ) → IsLegal s (e ∷ past) → number_started e.reply ≡ Some n → item_at past n ≡ Some i → (y : Queueing) × (unstarted past i ≡ Some y) × (y.number ≡ n)
 unfolding IsLegal
 started_was s past e i n legal h item =
     let st = starts_listed s past e n legal (ap (λ o. is_at o n) h ∙ eq-eqb n n refl) in

@@ -1,14 +1,17 @@
 pub mod Activations
 pub mod Endings
 pub mod Histories
+pub mod ItemQueueings
 pub mod Limits
 pub mod Marks
 pub mod Order
 pub mod Pending
 pub mod Places
 pub mod Pools
+pub mod Queued
 pub mod Reasons
 pub mod RoomSteps
 pub mod RunSteps
 pub mod StateSteps
 pub mod TicketSteps
+pub mod Waiting
