@@ -39,7 +39,8 @@ pub not_vacant : (slab : Slab Queueing) (i k : ℕ) (o : Option ℕ) → NamesOn
 not_vacant slab i k o names vacant x is same = some_named (get slab k) i (rw same at (named slab i x o names is)) vacant
 
 -- the keys of two items differ
-pub not_of_other : (slab : Slab Queueing) (i j k : ℕ) (o p : Option ℕ) → NamesOneOf slab i p → p ≡ Some k → NamesOneOf slab j o → j ≢ i → (x : ℕ) → o ≡ Some x → x ≢ k
+pub not_of_other : (slab : Slab Queueing) (i j k : ℕ) (o p : Option ℕ) → NamesOneOf slab i p → p ≡ Some k → NamesOneOf slab j o → j ≢ i → (x : ℕ)
+    → o ≡ Some x → x ≢ k
 not_of_other slab i j k o p here at names differs x is same = differs (one_item (get slab k) i j (named slab i k p here at) (rw same at (named slab j x o names is)))
 
 -- a slab finds the same under a key, if there is one

@@ -34,21 +34,25 @@ pub row_within : (slab : Slab Queueing) (rows : List Keys) (i : ℕ) → i < len
 row_within slab rows i within = rw (← length-map rows (flight_by slab)) within
 
 -- a row that shows no queueing has no key
-pub no_unstarted_key : (slab : Slab Queueing) (rows : List Keys) (i : ℕ) → IsKept slab rows → (flight_at (flights_by slab rows) i).unstarted ≡ None → (keys_at rows i).unstarted ≡ None
+pub no_unstarted_key : (slab : Slab Queueing) (rows : List Keys) (i : ℕ) → IsKept slab rows → (flight_at (flights_by slab rows) i).unstarted ≡ None
+    → (keys_at rows i).unstarted ≡ None
 no_unstarted_key slab rows i kept none = no_key slab i (keys_at rows i).unstarted (kept.keys i).unstarted (ap (λ (f : Flight). f.unstarted) (sym (flight_at_row slab rows i)) ∙ none)
 
-pub no_run_key : (slab : Slab Queueing) (rows : List Keys) (i : ℕ) → IsKept slab rows → (flight_at (flights_by slab rows) i).run ≡ None → (keys_at rows i).run ≡ None
+pub no_run_key : (slab : Slab Queueing) (rows : List Keys) (i : ℕ) → IsKept slab rows → (flight_at (flights_by slab rows) i).run ≡ None
+    → (keys_at rows i).run ≡ None
 no_run_key slab rows i kept none = no_key slab i (keys_at rows i).run (kept.keys i).run (ap (λ (f : Flight). f.run) (sym (flight_at_row slab rows i)) ∙ none)
 
 -- what changes under a vacant key is of no row
-vacant_spares : (old new : Slab Queueing) (rows : List Keys) (k j : ℕ) (slot : Option Queueing) → IsKept old rows → get old k ≡ None → Updates old new k slot → FindsRow old new (keys_at rows j)
+vacant_spares : (old new : Slab Queueing) (rows : List Keys) (k j : ℕ) (slot : Option Queueing) → IsKept old rows → get old k ≡ None
+    → Updates old new k slot → FindsRow old new (keys_at rows j)
 vacant_spares old new rows k j slot kept vacant updates = record {
   run = λ x is. updates.others x (not_vacant old j k (keys_at rows j).run (kept.keys j).run vacant x is);
   unstarted = λ x is. updates.others x (not_vacant old j k (keys_at rows j).unstarted (kept.keys j).unstarted vacant x is);
 }
 
 -- what changes under a key of one row is of no other
-own_spares : (old new : Slab Queueing) (rows : List Keys) (i k j : ℕ) (o : Option ℕ) (slot : Option Queueing) → IsKept old rows → NamesOneOf old i o → o ≡ Some k → Updates old new k slot → j ≢ i → FindsRow old new (keys_at rows j)
+own_spares : (old new : Slab Queueing) (rows : List Keys) (i k j : ℕ) (o : Option ℕ) (slot : Option Queueing) → IsKept old rows → NamesOneOf old i o
+    → o ≡ Some k → Updates old new k slot → j ≢ i → FindsRow old new (keys_at rows j)
 own_spares old new rows i k j o slot kept names is updates differs = record {
   run = λ x found. updates.others x (not_of_other old i j k (keys_at rows j).run o names is (kept.keys j).run differs x found);
   unstarted = λ x found. updates.others x (not_of_other old i j k (keys_at rows j).unstarted o names is (kept.keys j).unstarted differs x found);
@@ -62,7 +66,8 @@ pub record IsOpened (old new : Slab Queueing) (k : ℕ) (q : Queueing) : Type 0 
   pub more : slab_len new ≡ slab_len old + 1
   pub capacity : new.capacity ≡ old.capacity
 
-pub opened_step : (old new : Slab Queueing) (rows : List Keys) (i k : ℕ) (q : Queueing) (row : Keys) → IsKept old rows → IsOpened old new k q → i < length rows → row ≡ keys_at rows i → row.unstarted ≡ None → q.item.0 ≡ i
+pub opened_step : (old new : Slab Queueing) (rows : List Keys) (i k : ℕ) (q : Queueing) (row : Keys) → IsKept old rows → IsOpened old new k q
+    → i < length rows → row ≡ keys_at rows i → row.unstarted ≡ None → q.item.0 ≡ i
     → IsStep old new rows i (record { run = row.run; unstarted = Some k })
 opened_step old new rows i k q row kept opens within at none of_item = record {
   within = within;
@@ -76,7 +81,8 @@ opened_step old new rows i k q row kept opens within at none of_item = record {
   counted = rw (← at, none) (omega (arith, opens.more));
 }
 
-pub opened_row : (old new : Slab Queueing) (rows : List Keys) (i k : ℕ) (q : Queueing) (row : Keys) → IsKept old rows → IsOpened old new k q → row ≡ keys_at rows i
+pub opened_row : (old new : Slab Queueing) (rows : List Keys) (i k : ℕ) (q : Queueing) (row : Keys) → IsKept old rows → IsOpened old new k q
+    → row ≡ keys_at rows i
     → flight_by new (record { run = row.run; unstarted = Some k }) ≡ with_unstarted (Some q) (flight_by old (keys_at rows i))
 opened_row old new rows i k q row kept opens at =
     let run = found_alike old new (keys_at rows i).run (vacant_spares old new rows k i (Some q) kept opens.vacant opens.updates).run in
@@ -92,10 +98,12 @@ pub record IsRemoved (old new : Slab Queueing) (k : ℕ) : Type 0 where
 run_spared : (old new : Slab Queueing) (i k : ℕ) (keys : Keys) → AreKeysOf old i keys → IsRemoved old new k → keys.unstarted ≡ Some k → Finds old new keys.run
 run_spared old new i k keys own removes is x found = removes.updates.others x (λ same. own.differ x found (is ∙ ap (λ n. Some n) (sym same)))
 
-unstarted_spared : (old new : Slab Queueing) (i k : ℕ) (keys : Keys) → AreKeysOf old i keys → IsRemoved old new k → keys.run ≡ Some k → Finds old new keys.unstarted
+unstarted_spared : (old new : Slab Queueing) (i k : ℕ) (keys : Keys) → AreKeysOf old i keys → IsRemoved old new k → keys.run ≡ Some k
+    → Finds old new keys.unstarted
 unstarted_spared old new i k keys own removes is x found = removes.updates.others x (λ same. own.differ k is (found ∙ ap (λ n. Some n) same))
 
-pub taken_back_step : (old new : Slab Queueing) (rows : List Keys) (i k : ℕ) (row : Keys) → IsKept old rows → IsRemoved old new k → i < length rows → row ≡ keys_at rows i → row.unstarted ≡ Some k
+pub taken_back_step : (old new : Slab Queueing) (rows : List Keys) (i k : ℕ) (row : Keys) → IsKept old rows → IsRemoved old new k → i < length rows
+    → row ≡ keys_at rows i → row.unstarted ≡ Some k
     → IsStep old new rows i (record { run = row.run; unstarted = None })
 taken_back_step old new rows i k row kept removes within at is =
     let has : (keys_at rows i).unstarted ≡ Some k = rw (← at) is in record {
@@ -110,14 +118,16 @@ taken_back_step old new rows i k row kept removes within at is =
       counted = rw (← at, is) (omega (arith, removes.less));
     }
 
-pub taken_back_row : (old new : Slab Queueing) (rows : List Keys) (i k : ℕ) (row : Keys) → IsKept old rows → IsRemoved old new k → row ≡ keys_at rows i → row.unstarted ≡ Some k
+pub taken_back_row : (old new : Slab Queueing) (rows : List Keys) (i k : ℕ) (row : Keys) → IsKept old rows → IsRemoved old new k → row ≡ keys_at rows i
+    → row.unstarted ≡ Some k
     → flight_by new (record { run = row.run; unstarted = None }) ≡ with_unstarted None (flight_by old (keys_at rows i))
 taken_back_row old new rows i k row kept removes at is =
     let has : (keys_at rows i).unstarted ≡ Some k = rw (← at) is in
     let run = found_alike old new (keys_at rows i).run (run_spared old new i k (keys_at rows i) (kept.keys i) removes has) in
     rw (at, run) refl
 
-pub finished_step : (old new : Slab Queueing) (rows : List Keys) (i k : ℕ) (row : Keys) → IsKept old rows → IsRemoved old new k → i < length rows → row ≡ keys_at rows i → row.run ≡ Some k
+pub finished_step : (old new : Slab Queueing) (rows : List Keys) (i k : ℕ) (row : Keys) → IsKept old rows → IsRemoved old new k → i < length rows
+    → row ≡ keys_at rows i → row.run ≡ Some k
     → IsStep old new rows i (record { run = None; unstarted = row.unstarted })
 finished_step old new rows i k row kept removes within at is =
     let has : (keys_at rows i).run ≡ Some k = rw (← at) is in record {
@@ -132,7 +142,8 @@ finished_step old new rows i k row kept removes within at is =
       counted = rw (← at, is) (omega (arith, removes.less));
     }
 
-pub finished_row : (old new : Slab Queueing) (rows : List Keys) (i k : ℕ) (row : Keys) → IsKept old rows → IsRemoved old new k → row ≡ keys_at rows i → row.run ≡ Some k
+pub finished_row : (old new : Slab Queueing) (rows : List Keys) (i k : ℕ) (row : Keys) → IsKept old rows → IsRemoved old new k → row ≡ keys_at rows i
+    → row.run ≡ Some k
     → flight_by new (record { run = None; unstarted = row.unstarted }) ≡ without_run (flight_by old (keys_at rows i))
 finished_row old new rows i k row kept removes at is =
     let has : (keys_at rows i).run ≡ Some k = rw (← at) is in
@@ -155,7 +166,8 @@ started_step slab rows i row kept within at none = record {
   counted = rw (← at, none) (omega arith);
 }
 
-pub started_row : (slab : Slab Queueing) (rows : List Keys) (i : ℕ) (row : Keys) → row ≡ keys_at rows i → flight_by slab (record { run = row.unstarted; unstarted = None }) ≡ with_started (flight_by slab (keys_at rows i))
+pub started_row : (slab : Slab Queueing) (rows : List Keys) (i : ℕ) (row : Keys) → row ≡ keys_at rows i
+    → flight_by slab (record { run = row.unstarted; unstarted = None }) ≡ with_started (flight_by slab (keys_at rows i))
 started_row slab rows i row at = rw at refl
 
 -- ---- no rows yet
@@ -166,20 +178,25 @@ none_at_first slab (suc n) = ap (λ xs. no_flight ∷ xs) (none_at_first slab n)
 
 -- ---- each call
 
+abbrev pub with_keys : List Keys → ℕ → Option ℕ → Option ℕ → List Keys
+with_keys rows n run unstarted = set rows n (record { run = run; unstarted = unstarted })
+
 -- the slab and the rows after a call are in order, and show these queueings
 pub record Leaves (slab : Slab Queueing) (rows : List Keys) (flights : List Flight) : Type 0 where
   pub kept : IsKept slab rows
   pub seen : flights_by slab rows ≡ flights
 
-step_leaves : (old new : Slab Queueing) (rows : List Keys) (n i : ℕ) (keys : Keys) (change : Flight → Flight) → IsKept old rows → n ≡ i → IsStep old new rows i keys → flight_by new keys ≡ change (flight_by old (keys_at rows i))
+step_leaves : (old new : Slab Queueing) (rows : List Keys) (n i : ℕ) (keys : Keys) (change : Flight → Flight) → IsKept old rows → n ≡ i
+    → IsStep old new rows i keys → flight_by new keys ≡ change (flight_by old (keys_at rows i))
     → Leaves new (set rows n keys) (with_flight change i (flights_by old rows))
 step_leaves old new rows n i keys change kept at step is = rw at (record {
   kept = IsKept-step old new rows i keys step kept;
   seen = flights_by-step old new rows i keys change step is;
 })
 
-pub opened_leaves : (old new : Slab Queueing) (rows : List Keys) (n k : ℕ) (q : Queueing) (row : Keys) → IsKept old rows → IsOpened old new k q → n ≡ q.item.0 → q.item.0 < length (flights_by old rows) → row ≡ get_or rows n row
-    → (flight_at (flights_by old rows) q.item.0).unstarted ≡ None → Leaves new (set rows n (record { run = row.run; unstarted = Some k })) (opened (flights_by old rows) q)
+pub opened_leaves : (old new : Slab Queueing) (rows : List Keys) (n k : ℕ) (q : Queueing) (row : Keys) → IsKept old rows → IsOpened old new k q
+    → n ≡ q.item.0 → q.item.0 < length (flights_by old rows) → row ≡ get_or rows n row
+    → (flight_at (flights_by old rows) q.item.0).unstarted ≡ None → Leaves new (with_keys rows n row.run (Some k)) (opened (flights_by old rows) q)
 opened_leaves old new rows n k q row kept opens at known read none =
     let i = q.item.0 in
     let within = row_within old rows i known in
@@ -189,8 +206,9 @@ opened_leaves old new rows n k q row kept opens at known read none =
     (opened_step old new rows i k q row kept opens within row_is (ap (λ (x : Keys). x.unstarted) row_is ∙ key) refl)
     (opened_row old new rows i k q row kept opens row_is)
 
-pub taken_back_leaves : (old new : Slab Queueing) (rows : List Keys) (n i k : ℕ) (row : Keys) → IsKept old rows → IsRemoved old new k → n ≡ i → i < length (flights_by old rows) → row ≡ get_or rows n row → row.unstarted ≡ Some k
-    → Leaves new (set rows n (record { run = row.run; unstarted = None })) (taken_back (flights_by old rows) i)
+pub taken_back_leaves : (old new : Slab Queueing) (rows : List Keys) (n i k : ℕ) (row : Keys) → IsKept old rows → IsRemoved old new k → n ≡ i
+    → i < length (flights_by old rows) → row ≡ get_or rows n row → row.unstarted ≡ Some k
+    → Leaves new (with_keys rows n row.run None) (taken_back (flights_by old rows) i)
 taken_back_leaves old new rows n i k row kept removes at known read is =
     let within = row_within old rows i known in
     let row_is = row_read rows i row within (rw at at read) in
@@ -198,8 +216,9 @@ taken_back_leaves old new rows n i k row kept removes at known read is =
     (taken_back_step old new rows i k row kept removes within row_is is)
     (taken_back_row old new rows i k row kept removes row_is is)
 
-pub started_leaves : (slab : Slab Queueing) (rows : List Keys) (n i : ℕ) (row : Keys) → IsKept slab rows → n ≡ i → (flight_at (flights_by slab rows) i).run ≡ None → is_some (flight_at (flights_by slab rows) i).unstarted ≡ true
-    → row ≡ get_or rows n row → Leaves slab (set rows n (record { run = row.unstarted; unstarted = None })) (started (flights_by slab rows) i)
+pub started_leaves : (slab : Slab Queueing) (rows : List Keys) (n i : ℕ) (row : Keys) → IsKept slab rows → n ≡ i
+    → (flight_at (flights_by slab rows) i).run ≡ None → is_some (flight_at (flights_by slab rows) i).unstarted ≡ true
+    → row ≡ get_or rows n row → Leaves slab (with_keys rows n row.unstarted None) (started (flights_by slab rows) i)
 started_leaves slab rows n i row kept at free waits read =
     let within = row_within slab rows i (waits_within (flights_by slab rows) i waits) in
     let row_is = row_read rows i row within (rw at at read) in
@@ -208,8 +227,9 @@ started_leaves slab rows n i row kept at free waits read =
     (started_step slab rows i row kept within row_is (ap (λ (x : Keys). x.run) row_is ∙ none))
     (started_row slab rows i row row_is)
 
-pub finished_leaves : (old new : Slab Queueing) (rows : List Keys) (n i k : ℕ) (row : Keys) → IsKept old rows → IsRemoved old new k → n ≡ i → is_some (flight_at (flights_by old rows) i).run ≡ true → row ≡ get_or rows n row → row.run ≡ Some k
-    → Leaves new (set rows n (record { run = None; unstarted = row.unstarted })) (finished (flights_by old rows) i)
+pub finished_leaves : (old new : Slab Queueing) (rows : List Keys) (n i k : ℕ) (row : Keys) → IsKept old rows → IsRemoved old new k → n ≡ i
+    → is_some (flight_at (flights_by old rows) i).run ≡ true → row ≡ get_or rows n row → row.run ≡ Some k
+    → Leaves new (with_keys rows n None row.unstarted) (finished (flights_by old rows) i)
 finished_leaves old new rows n i k row kept removes at runs read is =
     let within = row_within old rows i (runs_within (flights_by old rows) i runs) in
     let row_is = row_read rows i row within (rw at at read) in

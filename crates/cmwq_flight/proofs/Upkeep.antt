@@ -17,14 +17,16 @@ use Rattle.cmwq_flight.proofs.Rows.{set_agree, FindsRow, same_some, flight_at_ro
 abbrev pub keys_in : Keys → ℕ
 keys_in keys = cond (is_some keys.run) 1 0 + cond (is_some keys.unstarted) 1 0
 
-key_count-set : (rows : List Keys) (i : ℕ) (keys : Keys) → i < length rows → key_count (set rows i keys) + keys_in (keys_at rows i) ≡ key_count rows + keys_in keys
+key_count-set : (rows : List Keys) (i : ℕ) (keys : Keys) → i < length rows
+    → key_count (set rows i keys) + keys_in (keys_at rows i) ≡ key_count rows + keys_in keys
 key_count-set rows i keys within =
     let runs = sum_by-set (λ (k : Keys). cond (has_run_key k) 1 0) rows i keys no_keys within in
     let others = sum_by-set (λ (k : Keys). cond (has_unstarted_key k) 1 0) rows i keys no_keys within in
     omega (arith, runs, others)
 
 -- where an item has no unstarted one there is room for it
-pub room_for_one : (slab : Slab Queueing) (rows : List Keys) (i : ℕ) → IsKept slab rows → i < length rows → (keys_at rows i).unstarted ≡ None → slab_len slab + 1 ≤ slab.capacity
+pub room_for_one : (slab : Slab Queueing) (rows : List Keys) (i : ℕ) → IsKept slab rows → i < length rows → (keys_at rows i).unstarted ≡ None
+    → slab_len slab + 1 ≤ slab.capacity
 room_for_one slab rows i kept within none =
     let keys : Keys = record { run = None; unstarted = Some 0 } in
     let others = sum_by-set (λ (k : Keys). cond (has_unstarted_key k) 1 0) rows i keys no_keys within in
@@ -34,7 +36,8 @@ room_for_one slab rows i kept within none =
     let runs = count_by-le-length has_run_key rows in
     omega (arith, one_more, few, size, runs, kept.room, kept.counted)
 
-count_alike : (p : Flight → Bool) (r : Keys → Bool) (slab : Slab Queueing) (rows : List Keys) → ((i : ℕ) → p (flight_by slab (keys_at rows i)) ≡ r (keys_at rows i)) → count_by p (flights_by slab rows) ≡ count_by r rows
+count_alike : (p : Flight → Bool) (r : Keys → Bool) (slab : Slab Queueing) (rows : List Keys)
+    → ((i : ℕ) → p (flight_by slab (keys_at rows i)) ≡ r (keys_at rows i)) → count_by p (flights_by slab rows) ≡ count_by r rows
 count_alike p r slab [] h = refl
 count_alike p r slab (x ∷ xs) h =
     sum_by-cons (λ y. cond (p y) 1 0) (flight_by slab x) (flights_by slab xs)
@@ -63,7 +66,8 @@ pub record IsStep (old new : Slab Queueing) (rows : List Keys) (i : ℕ) (keys :
   pub own : AreKeysOf new i keys
   pub counted : slab_len new + keys_in (keys_at rows i) ≡ slab_len old + keys_in keys
 
-pub IsKept-step : (old new : Slab Queueing) (rows : List Keys) (i : ℕ) (keys : Keys) → IsStep old new rows i keys → IsKept old rows → IsKept new (set rows i keys)
+pub IsKept-step : (old new : Slab Queueing) (rows : List Keys) (i : ℕ) (keys : Keys) → IsStep old new rows i keys → IsKept old rows
+    → IsKept new (set rows i keys)
 IsKept-step old new rows i keys step kept = record {
   few = rw length-set kept.few;
   room = rw (length-set, step.capacity) kept.room;
@@ -78,7 +82,8 @@ IsKept-step old new rows i keys step kept = record {
     other j differs = rw (get_or-set_other rows i j keys no_keys differs) (AreKeysOf-kept old new j (keys_at rows j) (step.others j differs) (kept.keys j))
 
 -- and the rows that are seen change in that place alone
-pub flights_by-step : (old new : Slab Queueing) (rows : List Keys) (i : ℕ) (keys : Keys) (change : Flight → Flight) → IsStep old new rows i keys → flight_by new keys ≡ change (flight_by old (keys_at rows i))
+pub flights_by-step : (old new : Slab Queueing) (rows : List Keys) (i : ℕ) (keys : Keys) (change : Flight → Flight) → IsStep old new rows i keys
+    → flight_by new keys ≡ change (flight_by old (keys_at rows i))
     → flights_by new (set rows i keys) ≡ with_flight change i (flights_by old rows)
 flights_by-step old new rows i keys change step is =
     map-set (flight_by new) rows i keys

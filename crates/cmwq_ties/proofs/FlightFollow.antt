@@ -74,17 +74,21 @@ module _ (s : Layout) (past : List Entry) (e : Entry) (legal : IsLegal s (e ∷ 
 
   moved_flights : told_moved past e (flights_of s past) ≡ map (moved s past e legal) (range_with_len 0 s.items)
   unfolding moved
-  moved_flights = ap (told_started (starting past e)) ended_flights ∙ started_rows (λ j. row_ended e.reply (ending past e) j (flight_of past j)) s.items (starting past e) starting_there
+  moved_flights = ap (told_started (starting past e)) ended_flights
+      ∙ started_rows (λ j. row_ended e.reply (ending past e) j (flight_of past j)) s.items (starting past e) starting_there
 
   -- where an entry opens a queueing, no older one of the item is left unstarted
   none_left : (x u : Queueing) → opening past e ≡ Some x → unstarted past x.item.0 ≡ Some u → still_unstarted past e (Some u) ≡ Some u → ⊥
   none_left x u opens was still =
       let goes : unstarted (e ∷ past) x.item.0 ≡ Some u =
-      unstarted_goes_on s past e x.item.0 legal ∙ ap (λ o. option_or (still_unstarted past e o) (of_item x.item.0 (opening past e))) was ∙ ap (λ o. option_or o (of_item x.item.0 (opening past e))) still in
+      unstarted_goes_on s past e x.item.0 legal ∙ ap (λ o. option_or (still_unstarted past e o) (of_item x.item.0 (opening past e))) was
+      ∙ ap (λ o. option_or o (of_item x.item.0 (opening past e))) still in
       let opened_here : In x (still_open (e ∷ past)) = subst (In x) (sym (open_go_on s past e legal)) (in_right _ _ x (option_in (opening past e) x opens)) in
       let waits = unstarted_is (e ∷ past) x.item.0 u goes in
-      let new = of_in (λ y. is_started (e ∷ past) y.number ≡ false) (option_to_list (opening past e)) x (opening_inert s past e (opening past e) legal refl) (option_in (opening past e) x opens) in
-      let same = one_of s (e ∷ past) u x legal (found (is_unstarted (e ∷ past) x.item.0) (still_open (e ∷ past)) u goes).0 opened_here waits.item waits.not_started new in
+      let inert = opening_inert s past e (opening past e) legal refl in
+      let new = of_in (λ y. is_started (e ∷ past) y.number ≡ false) (option_to_list (opening past e)) x inert (option_in (opening past e) x opens) in
+      let older_here = (found (is_unstarted (e ∷ past) x.item.0) (still_open (e ∷ past)) u goes).0 in
+      let same = one_of s (e ∷ past) u x legal older_here opened_here waits.item waits.not_started new in
       let older : u.number < length past = (unstarted_is past x.item.0 u was).known.older in
       let number : x.number ≡ length past = opening_number past e x opens in
       let one : u.number ≡ x.number = ap (λ (y : Queueing). y.number) same in
@@ -108,28 +112,36 @@ module _ (s : Layout) (past : List Entry) (e : Entry) (legal : IsLegal s (e ∷ 
       flight : Option Queueing → Option Queueing → Flight
       flight r u = record { run = r; unstarted = u }
 
+  waits_on : (i : ℕ) (o : Option Queueing) → opening past e ≡ o → unstarted (e ∷ past) i ≡ option_or (still_unstarted past e (unstarted past i)) (of_item i o)
+  waits_on i o opens = unstarted_goes_on s past e i legal ∙ ap (λ p. option_or (still_unstarted past e (unstarted past i)) (of_item i p)) opens
+
+  or_none : (o : Option Queueing) → o ≡ option_or o None
+  or_none None = refl
+  or_none (Some u) = refl
+
+  moved_waits : (i : ℕ) → (moved s past e legal i).unstarted ≡ option_or (still_unstarted past e (unstarted past i)) None
+  moved_waits i = moved_unstarted s past e legal i ∙ or_none (still_unstarted past e (unstarted past i))
+
   opened_row : (i : ℕ) (o : Option Queueing) → opening past e ≡ o → row_opened o i (moved s past e legal i) ≡ flight_of (e ∷ past) i
   unfolding row_opened
-  opened_row i None opens = same_flight (moved s past e legal i) (flight_of (e ∷ past) i) (moved_run s past e legal i)
-      (moved_unstarted s past e legal i ∙ or_none (still_unstarted past e (unstarted past i)) ∙ sym (unstarted_goes_on s past e i legal ∙ ap (λ o. option_or (still_unstarted past e (unstarted past i)) (of_item i o)) opens))
+  opened_row i None opens =
+      same_flight (moved s past e legal i) (flight_of (e ∷ past) i) (moved_run s past e legal i) (moved_waits i ∙ sym (waits_on i None opens))
+  opened_row i (Some x) opens = same_flight (row_opened (Some x) i (moved s past e legal i)) (flight_of (e ∷ past) i)
+      (run (x.item.0 == i) ∙ moved_run s past e legal i)
+      (waits (x.item.0 == i) refl ∙ sym (waits_on i (Some x) opens))
     where
-      or_none : (o : Option Queueing) → o ≡ option_or o None
-      or_none None = refl
-      or_none (Some u) = refl
-  opened_row i (Some x) opens = same_flight (row_opened (Some x) i (moved s past e legal i)) (flight_of (e ∷ past) i) (run (x.item.0 == i) ∙ moved_run s past e legal i)
-      (waits (x.item.0 == i) refl ∙ sym (unstarted_goes_on s past e i legal ∙ ap (λ o. option_or (still_unstarted past e (unstarted past i)) (of_item i o)) opens))
-    where
-      run : (a : Bool) → (if a then with_unstarted (Some x) (moved s past e legal i) else moved s past e legal i).run ≡ (moved s past e legal i).run
+      with_opened : Bool → Flight
+      with_opened a = if a then with_unstarted (Some x) (moved s past e legal i) else moved s past e legal i
+
+      run : (a : Bool) → (with_opened a).run ≡ (moved s past e legal i).run
       run true = refl
       run false = refl
 
-      or_none : (o : Option Queueing) → o ≡ option_or o None
-      or_none None = refl
-      or_none (Some u) = refl
-
-      waits : (a : Bool) → (x.item.0 == i) ≡ a → (if a then with_unstarted (Some x) (moved s past e legal i) else moved s past e legal i).unstarted ≡ option_or (still_unstarted past e (unstarted past i)) (if a then Some x else None)
-      waits true same = sym (ap (λ o. option_or o (Some x)) (ap (λ k. still_unstarted past e (unstarted past k)) (sym (eqb-true x.item.0 i same)) ∙ still_none x opens))
-      waits false other = moved_unstarted s past e legal i ∙ or_none (still_unstarted past e (unstarted past i))
+      waits : (a : Bool) → (x.item.0 == i) ≡ a → (with_opened a).unstarted ≡ option_or (still_unstarted past e (unstarted past i)) (if a then Some x else None)
+      waits true same =
+          let gone = ap (λ k. still_unstarted past e (unstarted past k)) (sym (eqb-true x.item.0 i same)) ∙ still_none x opens in
+          sym (ap (λ o. option_or o (Some x)) gone)
+      waits false other = moved_waits i
 
   pub flights_follow : flights_of s (e ∷ past) ≡ told past e (flights_of s past)
   flights_follow =
@@ -142,7 +154,8 @@ module _ (s : Layout) (past : List Entry) (e : Entry) (legal : IsLegal s (e ∷ 
   may_end (none_ends none unfinished) = subst (λ o. MayEnd e.reply o (flights_of s past)) (sym none) tt
   may_end (run_ends x one fin run) = subst (λ o. MayEnd e.reply o (flights_of s past)) (sym one) (record {
     known = rw (flights_for_items s past) (ending_there x one);
-    runs = λ h. ap (λ (f : Flight). is_some f.run) (row_of s past x.item.0 (ending_there x one)) ∙ ap is_some (ap (queueing_started past) run.is_run ∙ run.found);
+    runs = λ h. ap (λ (f : Flight). is_some f.run) (row_of s past x.item.0 (ending_there x one))
+        ∙ ap is_some (ap (queueing_started past) run.is_run ∙ run.found);
   })
   may_end (unstarted_ends x one unfinished waits) = subst (λ o. MayEnd e.reply o (flights_of s past)) (sym one) (record {
     known = rw (flights_for_items s past) (ending_there x one);

@@ -34,7 +34,8 @@ pub record IsRun (past : List Entry) (x : Queueing) : Type 0 where
   pub was_started : is_started past x.number ≡ true
 
 -- what a worker runs is the run of its item
-pub worker_runs : (s : Layout) (past : List Entry) (w : WorkerId) (n : ℕ) (x : Queueing) → IsLegal s past → run past w ≡ Some n → queueing_at past n ≡ Some x → IsRun past x
+pub worker_runs : (s : Layout) (past : List Entry) (w : WorkerId) (n : ℕ) (x : Queueing) → IsLegal s past → run past w ≡ Some n
+    → queueing_at past n ≡ Some x → IsRun past x
 worker_runs s past w n x legal runs at =
     let number = found_number past n x at in
     let item : item_at past n ≡ Some x.item.0 = ap (item_at past) (sym number) ∙ (found_known past n x at).item in
@@ -57,7 +58,8 @@ module _ (s : Layout) (past : List Entry) (e : Entry) (legal : IsLegal s (e ∷ 
   its_own : (i : ℕ) (x : Queueing) → unstarted past i ≡ Some x → unstarted past x.item.0 ≡ Some x
   its_own i x is = ap (unstarted past) (unstarted_is past i x is).item ∙ is
 
-  of_item_ends : (o : Option ℕ) (p : Option Queueing) → ending past e ≡ option_and_then (unstarted past) o → option_and_then (unstarted past) o ≡ p → number_finished e.reply ≡ None → EndKind past e
+  of_item_ends : (o : Option ℕ) (p : Option Queueing) → ending past e ≡ option_and_then (unstarted past) o → option_and_then (unstarted past) o ≡ p
+      → number_finished e.reply ≡ None → EndKind past e
   of_item_ends None p is same unfinished = none_ends is unfinished
   of_item_ends (Some i) None is same unfinished = none_ends (is ∙ same) unfinished
   of_item_ends (Some i) (Some x) is same unfinished = unstarted_ends x (is ∙ same) unfinished (its_own i x same)
@@ -67,7 +69,8 @@ module _ (s : Layout) (past : List Entry) (e : Entry) (legal : IsLegal s (e ∷ 
       let f = finishes_run s past e n legal h in
       let r = runs_are_in_pools s past f.worker n legal_before f.is_run in
       let number = found_number past n r.queueing r.found in
-      run_ends r.queueing (is ∙ ap (queueing_run past) f.by_worker ∙ ap (option_and_then (queueing_at past)) f.is_run ∙ r.found) (h ∙ ap Some (sym number)) (worker_runs s past f.worker n r.queueing legal_before f.is_run r.found)
+      run_ends r.queueing (is ∙ ap (queueing_run past) f.by_worker ∙ ap (option_and_then (queueing_at past)) f.is_run ∙ r.found) (h ∙ ap Some (sym number))
+      (worker_runs s past f.worker n r.queueing legal_before f.is_run r.found)
 
   ends_by : (r : Reply) → e.reply ≡ r → ending past e ≡ ended_by past e.who (item_of e) r → EndKind past e
   ends_by (reply.Finished n) h is = finish_ends n (ap number_finished h) is

@@ -51,7 +51,8 @@ flights_are_of_items s past i legal there =
 
 -- ---- what workers run, and what is started
 
-pub workers_run_flights : (s : Layout) (past : List Entry) (w : WorkerId) (n : ℕ) (x : Queueing) → IsLegal s past → run past w ≡ Some n → queueing_at past n ≡ Some x
+pub workers_run_flights : (s : Layout) (past : List Entry) (w : WorkerId) (n : ℕ) (x : Queueing) → IsLegal s past → run past w ≡ Some n
+    → queueing_at past n ≡ Some x
     → (x.item.0 < s.items) × ((flight_at (flights_of s past) x.item.0).run ≡ Some x)
 workers_run_flights s past w n x legal runs at =
     let k = worker_runs s past w n x legal runs at in
@@ -81,18 +82,24 @@ some_mapped : {X : Type 0} (f : X → ℕ) (o : Option X) → is_some (option_ma
 some_mapped f None = refl
 some_mapped f (Some x) = refl
 
+abbrev start_number : Start → ℕ
+start_number start = start.number
+
 -- of one item
-item_count : (s : Layout) (past : List Entry) (i : ℕ) → IsLegal s past → one (is_some (queueing_started past (item_run past i))) + one (is_some (unstarted past i)) ≡ count_by (is_of i) (still_open past)
+item_count : (s : Layout) (past : List Entry) (i : ℕ) → IsLegal s past
+    → one (is_some (queueing_started past (item_run past i))) + one (is_some (unstarted past i)) ≡ count_by (is_of i) (still_open past)
 item_count s past i legal =
-    let runs = ap one ((run_started s past i (item_run past i) legal refl).some ∙ sym (some_mapped (λ (start : Start). start.number) (item_run past i))) ∙ sym (size_of (option_map (λ (start : Start). start.number) (item_run past i))) in
+    let runs = ap one ((run_started s past i (item_run past i) legal refl).some ∙ sym (some_mapped start_number (item_run past i)))
+    ∙ sym (size_of (option_map start_number (item_run past i))) in
     let waits = ap one (sym (some_mapped number_of_queueing (unstarted past i))) ∙ sym (size_of (option_map number_of_queueing (unstarted past i))) in
     ap₂ (λ m n. m + n) runs waits
-    ∙ sym (length-append (option_to_list (option_map (λ (start : Start). start.number) (item_run past i))) (option_to_list (option_map number_of_queueing (unstarted past i))))
+    ∙ sym (length-append (option_to_list (option_map start_number (item_run past i))) (option_to_list (option_map number_of_queueing (unstarted past i))))
     ∙ sym (ap length (run_then_unstarted s past i legal))
     ∙ length-map (filter (is_of i) (still_open past)) number_of_queueing ∙ length-filter (is_of i) (still_open past)
 
 -- of all
-rows_count : (s : Layout) (past : List Entry) (is : List ℕ) → IsLegal s past → open_count (map (flight_of past) is) ≡ sum_by (λ i. count_by (is_of i) (still_open past)) is
+rows_count : (s : Layout) (past : List Entry) (is : List ℕ) → IsLegal s past
+    → open_count (map (flight_of past) is) ≡ sum_by (λ i. count_by (is_of i) (still_open past)) is
 unfolding one
 rows_count s past [] legal = refl
 rows_count s past (i ∷ is) legal =
@@ -111,12 +118,14 @@ none_above k a (suc n) less =
 
 one_there : (k a n : ℕ) → a ≤ k → k < a + n → count_by (λ i. k == i) (range_with_len a n) ≡ 1
 one_there k a zero from less = absurd (omega arith)
-one_there k a (suc n) from less = sum_by-cons (λ i. cond (k == i) 1 0) a (range_with_len (a + 1) n) ∙ ⊎_elim here (later (λ above. one_there k (a + 1) n (omega (arith, above)) (omega arith))) (cases_eq k a)
+one_there k a (suc n) from less = sum_by-cons (λ i. cond (k == i) 1 0) a (range_with_len (a + 1) n)
+    ∙ ⊎_elim here (later (λ above. one_there k (a + 1) n (omega (arith, above)) (omega arith))) (cases_eq k a)
   where
     here : k ≡ a → cond (k == a) 1 0 + count_by (λ i. k == i) (range_with_len (a + 1) n) ≡ 1
     here same = ap₂ (λ b m. cond b 1 0 + m) (eq-eqb k a same) (none_above k (a + 1) n (omega arith))
 
-    later : (a < k → count_by (λ i. k == i) (range_with_len (a + 1) n) ≡ 1) → (k ≡ a → ⊥) → cond (k == a) 1 0 + count_by (λ i. k == i) (range_with_len (a + 1) n) ≡ 1
+    later : (a < k → count_by (λ i. k == i) (range_with_len (a + 1) n) ≡ 1) → (k ≡ a → ⊥)
+        → cond (k == a) 1 0 + count_by (λ i. k == i) (range_with_len (a + 1) n) ≡ 1
     later one_later differs = ap₂ (λ b m. cond b 1 0 + m) (ne_eqb k a differs) (one_later (omega (arith, differs)))
 
 sum_none : (is : List ℕ) → sum_by (λ i. 0) is ≡ 0
@@ -140,7 +149,8 @@ sum_both f g h (i ∷ is) each =
 all_counted : (n : ℕ) (xs : List Queueing) → AllByRecursion (λ x. x.item.0 < n) xs → sum_by (λ i. count_by (is_of i) xs) (range_with_len 0 n) ≡ length xs
 all_counted n [] there = sum_none (range_with_len 0 n)
 all_counted n (x ∷ xs) there =
-    let split = sum_both (λ i. cond (x.item.0 == i) 1 0) (λ i. count_by (is_of i) xs) (λ i. count_by (is_of i) (x ∷ xs)) (range_with_len 0 n) (λ i. sum_by-cons (λ y. cond (is_of i y) 1 0) x xs) in
+    let split = sum_both (λ i. cond (x.item.0 == i) 1 0) (λ i. count_by (is_of i) xs) (λ i. count_by (is_of i) (x ∷ xs)) (range_with_len 0 n)
+    (λ i. sum_by-cons (λ y. cond (is_of i y) 1 0) x xs) in
     let first = one_there x.item.0 0 n (omega arith) (omega (arith, there.0)) in
     let later = all_counted n xs there.1 in
     split ∙ ap₂ (λ a b. a + b) first later ∙ omega arith

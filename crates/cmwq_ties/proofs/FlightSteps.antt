@@ -48,12 +48,14 @@ unfoldable pub row_opened : Option Queueing → ℕ → Flight → Flight
 row_opened None i f = f
 row_opened (Some x) i f = if x.item.0 == i then with_unstarted (Some x) f else f
 
-one_row : (g : ℕ → Flight) (n i : ℕ) (change : Flight → Flight) → i < n → with_flight change i (map g (range_with_len 0 n)) ≡ map (λ j. if i == j then change (g j) else g j) (range_with_len 0 n)
+one_row : (g : ℕ → Flight) (n i : ℕ) (change : Flight → Flight) → i < n
+    → with_flight change i (map g (range_with_len 0 n)) ≡ map (λ j. if i == j then change (g j) else g j) (range_with_len 0 n)
 one_row g n i change there = sym (set_row g (λ j. if i == j then change (g j) else g j) n i (change (flight_at (map g (range_with_len 0 n)) i))
     (ap (λ b. if b then change (g i) else g i) (eq-eqb i i refl) ∙ ap change (sym (get_or-map-range_with_len g 0 n i i no_flight there (omega arith))))
     (λ j differs. ap (λ b. if b then change (g j) else g j) (ne_eqb i j (λ same. differs (sym same)))))
 
-pub ended_rows : (g : ℕ → Flight) (n : ℕ) (r : Reply) (o : Option Queueing) → ((x : Queueing) → o ≡ Some x → x.item.0 < n) → told_ended r o (map g (range_with_len 0 n)) ≡ map (λ j. row_ended r o j (g j)) (range_with_len 0 n)
+pub ended_rows : (g : ℕ → Flight) (n : ℕ) (r : Reply) (o : Option Queueing) → ((x : Queueing) → o ≡ Some x → x.item.0 < n)
+    → told_ended r o (map g (range_with_len 0 n)) ≡ map (λ j. row_ended r o j (g j)) (range_with_len 0 n)
 unfolding row_ended
 ended_rows g n r None there = refl
 ended_rows g n r (Some x) there = by (is_some (number_finished r))
@@ -63,12 +65,14 @@ ended_rows g n r (Some x) there = by (is_some (number_finished r))
     by true = one_row g n x.item.0 without_run (there x refl)
     by false = one_row g n x.item.0 (with_unstarted None) (there x refl)
 
-pub started_rows : (g : ℕ → Flight) (n : ℕ) (o : Option Queueing) → ((x : Queueing) → o ≡ Some x → x.item.0 < n) → told_started o (map g (range_with_len 0 n)) ≡ map (λ j. row_started o j (g j)) (range_with_len 0 n)
+pub started_rows : (g : ℕ → Flight) (n : ℕ) (o : Option Queueing) → ((x : Queueing) → o ≡ Some x → x.item.0 < n)
+    → told_started o (map g (range_with_len 0 n)) ≡ map (λ j. row_started o j (g j)) (range_with_len 0 n)
 unfolding row_started
 started_rows g n None there = refl
 started_rows g n (Some x) there = one_row g n x.item.0 with_started (there x refl)
 
-pub opened_rows : (g : ℕ → Flight) (n : ℕ) (o : Option Queueing) → ((x : Queueing) → o ≡ Some x → x.item.0 < n) → told_opened o (map g (range_with_len 0 n)) ≡ map (λ j. row_opened o j (g j)) (range_with_len 0 n)
+pub opened_rows : (g : ℕ → Flight) (n : ℕ) (o : Option Queueing) → ((x : Queueing) → o ≡ Some x → x.item.0 < n)
+    → told_opened o (map g (range_with_len 0 n)) ≡ map (λ j. row_opened o j (g j)) (range_with_len 0 n)
 unfolding row_opened
 opened_rows g n None there = refl
 opened_rows g n (Some x) there = one_row g n x.item.0 (with_unstarted (Some x)) (there x refl)
@@ -101,7 +105,8 @@ module _ (s : Layout) (past : List Entry) (e : Entry) (legal : IsLegal s (e ∷ 
     where
       by : QueueingStep past e → is_spared past e u ≡ not (u.number == x.number)
       by (queueing.ends_none is all) = let bad : None ≡ Some x = sym is ∙ one in cc
-      by (queueing.ends_one y is here all) = of_in (λ w. is_spared past e w ≡ not (w.number == y.number)) (still_open past) u all (waiting_here i u hu) ∙ ap (λ (w : Queueing). not (u.number == w.number)) (same_Some y x (sym is ∙ one))
+      by (queueing.ends_one y is here all) = of_in (λ w. is_spared past e w ≡ not (w.number == y.number)) (still_open past) u all (waiting_here i u hu)
+          ∙ ap (λ (w : Queueing). not (u.number == w.number)) (same_Some y x (sym is ∙ one))
 
   none_left : (f : Flight) (r : Reply) (o : Option Queueing) (i : ℕ) → f.unstarted ≡ None → (row_ended r o i f).unstarted ≡ None
   unfolding row_ended
@@ -113,39 +118,49 @@ module _ (s : Layout) (past : List Entry) (e : Entry) (legal : IsLegal s (e ∷ 
       by true false = refl
       by false b = none
 
-  left_or_not : (f : Flight) (u : Queueing) (i : ℕ) → unstarted past i ≡ Some u → f.unstarted ≡ Some u → (row_ended e.reply (ending past e) i f).unstarted ≡ (if is_spared past e u then Some u else None)
+  left_or_not : (f : Flight) (u : Queueing) (i : ℕ) → unstarted past i ≡ Some u → f.unstarted ≡ Some u
+      → (row_ended e.reply (ending past e) i f).unstarted ≡ (if is_spared past e u then Some u else None)
   unfolding row_ended
   left_or_not f u i hu is = by (end_kind s past e legal)
     where
       by : EndKind past e → (row_ended e.reply (ending past e) i f).unstarted ≡ (if is_spared past e u then Some u else None)
-      by (none_ends none unfinished) = ap (λ o. (row_ended e.reply o i f).unstarted) none ∙ is ∙ sym (ap (λ b. if b then Some u else None) (spared_if_none i u hu none))
+      by (none_ends none unfinished) = ap (λ o. (row_ended e.reply o i f).unstarted) none ∙ is
+          ∙ sym (ap (λ b. if b then Some u else None) (spared_if_none i u hu none))
       by (run_ends x one fin run) =
           let spared : is_spared past e u ≡ true = spared_if_one i u x hu one ∙ ap not (ne_eqb u.number x.number (λ same.
           let new : is_started past x.number ≡ false = ap (is_started past) (sym same) ∙ (unstarted_is past i u hu).not_started in
           let bad : true ≡ false = sym run.was_started ∙ new in
           cc)) in
-          ap (λ o. (row_ended e.reply o i f).unstarted) one ∙ ap (λ o. (if x.item.0 == i then (if is_some o then without_run f else with_unstarted None f) else f).unstarted) fin ∙ either (x.item.0 == i) ∙ sym (ap (λ b. if b then Some u else None) spared)
+          ap (λ o. (row_ended e.reply o i f).unstarted) one
+          ∙ ap (λ o. (if x.item.0 == i then (if is_some o then without_run f else with_unstarted None f) else f).unstarted) fin
+          ∙ either (x.item.0 == i) ∙ sym (ap (λ b. if b then Some u else None) spared)
         where
           either : (a : Bool) → (if a then without_run f else f).unstarted ≡ Some u
           either true = is
           either false = is
       by (unstarted_ends x one unfinished waits) =
-          ap (λ o. (row_ended e.reply o i f).unstarted) one ∙ ap (λ o. (if x.item.0 == i then (if is_some o then without_run f else with_unstarted None f) else f).unstarted) unfinished ∙ either (x.item.0 == i) refl ∙ sym (ap (λ b. if b then Some u else None) (spared_if_one i u x hu one))
+          ap (λ o. (row_ended e.reply o i f).unstarted) one
+          ∙ ap (λ o. (if x.item.0 == i then (if is_some o then without_run f else with_unstarted None f) else f).unstarted) unfinished
+          ∙ either (x.item.0 == i) refl ∙ sym (ap (λ b. if b then Some u else None) (spared_if_one i u x hu one))
         where
-          either : (a : Bool) → (x.item.0 == i) ≡ a → (if a then with_unstarted None f else f).unstarted ≡ (if not (u.number == x.number) then Some u else None)
+          either : (a : Bool) → (x.item.0 == i) ≡ a
+              → (if a then with_unstarted None f else f).unstarted ≡ (if not (u.number == x.number) then Some u else None)
           either true same =
               let one_of : x ≡ u = same_Some x u (sym waits ∙ ap (unstarted past) (eqb-true x.item.0 i same) ∙ hu) in
               sym (ap (λ b. if not b then Some u else None) (eq-eqb u.number x.number (ap number_of_queueing (sym one_of))))
           either false other =
               is ∙ sym (ap (λ b. if not b then Some u else None) (apart i x.item.0 x u waits hu (λ same. let bad : true ≡ false = sym (eq-eqb x.item.0 i same) ∙ other in cc)))
 
-  gone_or_not : (f : Flight) (u : Queueing) (i : ℕ) → unstarted past i ≡ Some u → (row_started (starting past e) i f).unstarted ≡ (if starts u.number e then None else f.unstarted)
+  gone_or_not : (f : Flight) (u : Queueing) (i : ℕ) → unstarted past i ≡ Some u
+      → (row_started (starting past e) i f).unstarted ≡ (if starts u.number e then None else f.unstarted)
   unfolding row_started
   gone_or_not f u i hu = by (start_kind s past e legal)
     where
       by : StartKind past e → (row_started (starting past e) i f).unstarted ≡ (if starts u.number e then None else f.unstarted)
-      by (none_starts none unstarting) = ap (λ o. (row_started o i f).unstarted) none ∙ sym (ap (λ o. if is_at o u.number then None else f.unstarted) unstarting)
-      by (one_starts y one st) = ap (λ o. (row_started o i f).unstarted) one ∙ either (y.item.0 == i) refl ∙ sym (ap (λ o. if is_at o u.number then None else f.unstarted) st.number)
+      by (none_starts none unstarting) = ap (λ o. (row_started o i f).unstarted) none
+          ∙ sym (ap (λ o. if is_at o u.number then None else f.unstarted) unstarting)
+      by (one_starts y one st) = ap (λ o. (row_started o i f).unstarted) one ∙ either (y.item.0 == i) refl
+          ∙ sym (ap (λ o. if is_at o u.number then None else f.unstarted) st.number)
         where
           either : (a : Bool) → (y.item.0 == i) ≡ a → (if a then with_started f else f).unstarted ≡ (if y.number == u.number then None else f.unstarted)
           either true same =
@@ -176,7 +191,8 @@ module _ (s : Layout) (past : List Entry) (e : Entry) (legal : IsLegal s (e ∷ 
       two u false true = refl
       two u false false = refl
 
-      by : (o : Option Queueing) → unstarted past i ≡ o → (row_started (starting past e) i (row_ended e.reply (ending past e) i (flight_of past i))).unstarted ≡ still_unstarted past e o
+      by : (o : Option Queueing) → unstarted past i ≡ o
+          → (row_started (starting past e) i (row_ended e.reply (ending past e) i (flight_of past i))).unstarted ≡ still_unstarted past e o
       by None h = none_gone (row_ended e.reply (ending past e) i (flight_of past i)) (starting past e) i (none_left (flight_of past i) e.reply (ending past e) i h)
       by (Some u) h =
           gone_or_not (row_ended e.reply (ending past e) i (flight_of past i)) u i h
@@ -192,21 +208,26 @@ module _ (s : Layout) (past : List Entry) (e : Entry) (legal : IsLegal s (e ∷ 
       queueing_at-older e past start.number r.queueing r.found ∙ sym r.found
 
   -- the run is left, unless the entry finishes it
-  left_run : (i : ℕ) → (row_ended e.reply (ending past e) i (flight_of past i)).run ≡ queueing_started (e ∷ past) (if ends_run e (item_run past i) then None else item_run past i)
+  left_run : (i : ℕ)
+      → (row_ended e.reply (ending past e) i (flight_of past i)).run ≡ queueing_started (e ∷ past) (if ends_run e (item_run past i) then None else item_run past i)
   unfolding row_ended
   left_run i = by (end_kind s past e legal) (item_run past i) refl
     where
-      unended : number_finished e.reply ≡ None → (o : Option Start) → item_run past i ≡ o → queueing_started past (item_run past i) ≡ queueing_started (e ∷ past) (if ends_run e o then None else o)
+      unended : number_finished e.reply ≡ None → (o : Option Start) → item_run past i ≡ o
+          → queueing_started past (item_run past i) ≡ queueing_started (e ∷ past) (if ends_run e o then None else o)
       unended unfinished None is = ap (queueing_started past) is
       unended unfinished (Some start) is =
-          ap (queueing_started past) is ∙ sym (run_kept i (Some start) is) ∙ sym (ap (λ p. queueing_started (e ∷ past) (if is_at p start.number then None else Some start)) unfinished)
+          ap (queueing_started past) is ∙ sym (run_kept i (Some start) is)
+          ∙ sym (ap (λ p. queueing_started (e ∷ past) (if is_at p start.number then None else Some start)) unfinished)
 
-      ended : (x : Queueing) (a : Bool) (o : Option Start) → (x.item.0 == i) ≡ a → item_run past i ≡ o → number_finished e.reply ≡ Some x.number → IsRun past x
+      ended : (x : Queueing) (a : Bool) (o : Option Start) → (x.item.0 == i) ≡ a → item_run past i ≡ o → number_finished e.reply ≡ Some x.number
+          → IsRun past x
           → (if a then without_run (flight_of past i) else flight_of past i).run ≡ queueing_started (e ∷ past) (if ends_run e o then None else o)
       ended x true None same is fin run = refl
       ended x true (Some start) same is fin run =
           let one : run.start ≡ start = same_Some run.start start (sym run.is_run ∙ ap (item_run past) (eqb-true x.item.0 i same) ∙ is) in
-          let ends : is_at (number_finished e.reply) start.number ≡ true = ap (λ o. is_at o start.number) fin ∙ eq-eqb x.number start.number (sym run.number ∙ ap (λ (st : Start). st.number) one) in
+          let ends : is_at (number_finished e.reply) start.number ≡ true = ap (λ o. is_at o start.number) fin
+          ∙ eq-eqb x.number start.number (sym run.number ∙ ap (λ (st : Start). st.number) one) in
           sym (ap (λ b. queueing_started (e ∷ past) (if b then None else Some start)) ends)
       ended x false None other is fin run = ap (queueing_started past) is
       ended x false (Some start) other is fin run =
@@ -215,13 +236,15 @@ module _ (s : Layout) (past : List Entry) (e : Entry) (legal : IsLegal s (e ∷ 
           let one : x ≡ r.queueing = same_Some x r.queueing (sym run.found ∙ ap (queueing_at past) (run.number ∙ same) ∙ r.found) in
           let bad : true ≡ false = sym (eq-eqb x.item.0 i (ap (λ (y : Queueing). y.item.0) one ∙ r.item)) ∙ other in
           cc) in
-          ap (queueing_started past) is ∙ sym (run_kept i (Some start) is) ∙ sym (ap (λ b. queueing_started (e ∷ past) (if b then None else Some start)) spared)
+          ap (queueing_started past) is ∙ sym (run_kept i (Some start) is)
+          ∙ sym (ap (λ b. queueing_started (e ∷ past) (if b then None else Some start)) spared)
 
       unstarted_taken : (a : Bool) → (if a then with_unstarted None (flight_of past i) else flight_of past i).run ≡ queueing_started past (item_run past i)
       unstarted_taken true = refl
       unstarted_taken false = refl
 
-      by : EndKind past e → (o : Option Start) → item_run past i ≡ o → (row_ended e.reply (ending past e) i (flight_of past i)).run ≡ queueing_started (e ∷ past) (if ends_run e o then None else o)
+      by : EndKind past e → (o : Option Start) → item_run past i ≡ o
+          → (row_ended e.reply (ending past e) i (flight_of past i)).run ≡ queueing_started (e ∷ past) (if ends_run e o then None else o)
       by (none_ends none unfinished) o is = ap (λ p. (row_ended e.reply p i (flight_of past i)).run) none ∙ unended unfinished o is
       by (run_ends x one fin run) o is =
           ap (λ p. (row_ended e.reply p i (flight_of past i)).run) one
@@ -239,7 +262,8 @@ module _ (s : Layout) (past : List Entry) (e : Entry) (legal : IsLegal s (e ∷ 
   unfolding moved row_started row_ended
   moved_run i = by (start_kind s past e legal) ∙ sym (ap (queueing_started (e ∷ past)) (items_run_on s past e i legal))
     where
-      by : StartKind past e → (row_started (starting past e) i (row_ended e.reply (ending past e) i (flight_of past i))).run ≡ queueing_started (e ∷ past) (after i (starts_item past e i))
+      by : StartKind past e
+          → (row_started (starting past e) i (row_ended e.reply (ending past e) i (flight_of past i))).run ≡ queueing_started (e ∷ past) (after i (starts_item past e i))
       by (none_starts none unstarting) =
           ap (λ o. (row_started o i (row_ended e.reply (ending past e) i (flight_of past i))).run) none ∙ left_run i
           ∙ sym (ap (λ b. queueing_started (e ∷ past) (after i b)) (starts_no_item e past i (no_start e unstarting)))
@@ -249,7 +273,10 @@ module _ (s : Layout) (past : List Entry) (e : Entry) (legal : IsLegal s (e ∷ 
           ap (λ o. (row_started o i (row_ended e.reply (ending past e) i (flight_of past i))).run) one ∙ either (y.item.0 == i) refl
           ∙ sym (ap (λ b. queueing_started (e ∷ past) (after i b)) (starts_its_item e past start i y.item.0 starts_it (found_known past y.number y st.found).item))
         where
-          either : (a : Bool) → (y.item.0 == i) ≡ a → (if a then with_started (row_ended e.reply (ending past e) i (flight_of past i)) else row_ended e.reply (ending past e) i (flight_of past i)).run ≡ queueing_started (e ∷ past) (after i a)
+          old : Flight
+          old = row_ended e.reply (ending past e) i (flight_of past i)
+
+          either : (a : Bool) → (y.item.0 == i) ≡ a → (if a then with_started old else old).run ≡ queueing_started (e ∷ past) (after i a)
           either true same =
               let start : Start = record { worker = st.worker; number = y.number } in
               let starts_it : start_in e ≡ Some start = start_of_worker e st.worker y.number st.by_worker st.number in

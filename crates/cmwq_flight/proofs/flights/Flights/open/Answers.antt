@@ -1,8 +1,8 @@
-use Rattle.std.proofs.Common.{set, Some}
+use Rattle.std.proofs.Common.{Some}
 use Rattle.cmwq_flight.specs.Flights.{opened}
 use Rattle.cmwq_flight.specs.Keeping.{flights_by}
 use Rattle.cmwq_flight.proofs.Upkeep.{room_for_one}
-use Rattle.cmwq_flight.proofs.Steps.{row_within, no_unstarted_key, Leaves, opened_leaves}
+use Rattle.cmwq_flight.proofs.Steps.{row_within, no_unstarted_key, with_keys, Leaves, opened_leaves}
 use Rattle.cmwq_flight.proofs.flights.Flights.open.Goals as goal
 use Rattle.cmwq_flight.proofs.flights.Flights.open.Goals.{After-index_mut}
 
@@ -14,7 +14,9 @@ insert_reserved-key-requires c =
     let within = row_within slab rows i (rw (← c.self.view_is) at c.requires.known) in
     room_for_one slab rows i c.self.invariant within (no_unstarted_key slab rows i c.self.invariant (rw (← c.self.view_is) at c.requires.none))
 
-leaves : (c : After-index_mut) → Leaves c.insert_reserved-key.new.self (set c.self.inside.rows.items c.from.result (record { run = c.index_mut.result.now.run; unstarted = Some c.insert_reserved-key.result })) (opened (flights_by c.self.inside.queueings c.self.inside.rows.items) c.args.queueing)
+leaves : (c : After-index_mut)
+    → Leaves c.insert_reserved-key.new.self (with_keys c.self.inside.rows.items c.from.result c.index_mut.result.now.run (Some c.insert_reserved-key.result))
+    (opened (flights_by c.self.inside.queueings c.self.inside.rows.items) c.args.queueing)
 leaves c =
     let slab = c.self.inside.queueings in
     let opens = c.insert_reserved-key.ensures in

@@ -1,11 +1,12 @@
-use Rattle.std.proofs.Common.{set}
 use Rattle.cmwq_flight.specs.Flights.{started}
 use Rattle.cmwq_flight.specs.Keeping.{flights_by}
-use Rattle.cmwq_flight.proofs.Steps.{Leaves, started_leaves}
+use Rattle.cmwq_flight.proofs.Steps.{with_keys, Leaves, started_leaves}
 use Rattle.cmwq_flight.proofs.flights.Flights.start.Goals as goal
 use Rattle.cmwq_flight.proofs.flights.Flights.start.Goals.{After-take-row}
 
-leaves : (c : After-take-row) → Leaves c.self.inside.queueings (set c.self.inside.rows.items c.from.result (record { run = c.take-row.result; unstarted = c.take-row.new.self })) (started (flights_by c.self.inside.queueings c.self.inside.rows.items) c.args.item.0)
+leaves : (c : After-take-row)
+    → Leaves c.self.inside.queueings (with_keys c.self.inside.rows.items c.from.result c.take-row.result c.take-row.new.self)
+    (started (flights_by c.self.inside.queueings c.self.inside.rows.items) c.args.item.0)
 leaves c =
     rw (c.take-row.ensures.value, c.take-row.ensures.after)
     (started_leaves c.self.inside.queueings c.self.inside.rows.items c.from.result c.args.item.0 c.index_mut-row.result.now c.self.invariant c.from.ensures
