@@ -1,8 +1,9 @@
-//! The values of pools, flush books, barriers and timers follow a history: theorems that tie them to the definitions,
+//! The values of pools, flush books, barriers, timers and flights follow a history: theorems that tie them to the definitions,
 //! which no running code needs.
 #![tactic(auto)]
 
 mod barrier_books;
+mod flights;
 mod flush_books;
 mod places;
 mod pools;
@@ -12,6 +13,10 @@ pub use barrier_books::{
     barriers_at_first, barriers_follow, barriers_may_be_told, barriers_wait_for_least,
     done_barriers_may_end, items_have_run_then_unstarted, ready_barriers_wait_for_nothing,
     unended_waits_stand,
+};
+pub use flights::{
+    flights_are_of_items, flights_follow, flights_for_items, flights_may_be_told,
+    no_flights_at_first, open_are_in_flight, starts_are_unstarted, workers_run_flights,
 };
 pub use flush_books::{
     done_flushes_may_end, draining_while_drains_stand, drains_wait_for_least_open,
