@@ -1,6 +1,5 @@
 -- Illegal histories that break the laws of legal ones, by computation.
-use Rattle.std.proofs.Common.{◌≡◌, ◌≤◌, true, false, [], ◌∷◌, refl, ap, arith}
-use Rattle.std.specs.List.{IsDistinct}
+use Rattle.std.proofs.Common.{◌≡◌, ◌≤◌, true, false, refl, ap, arith}
 use Rattle.cmwq_model.specs.declared.id.WorkerId.{WorkerId}
 use Rattle.cmwq_model.specs.Bookings.{booking}
 use Rattle.cmwq_model.specs.Fate.{is_cancelled}

@@ -22,12 +22,12 @@ use Rattle.cmwq_model.specs.Fate.{number_cancelled, takes_back}
 use Rattle.cmwq_model.specs.Queueings.{opens, opening, queued_at, place_wanted, still_open, is_unstarted, unstarted, is_pending}
 use Rattle.cmwq_model.specs.Tickets.{tickets, is_unended, ticket_in, ticket_for, gives_ticket, cancels_sync, is_cancel_sync_of, is_cancelling}
 use Rattle.cmwq_model.specs.Legal.{IsLegal}
-use Rattle.cmwq_laws.proofs.Lists.{count_by-none, count_by-filter}
-use Rattle.cmwq_laws.proofs.Filters.{count_none, none_found}
-use Rattle.cmwq_laws.proofs.Causes.{Cause, IsFree, cause_of}
-use Rattle.cmwq_laws.proofs.Causes as cause
-use Rattle.cmwq_laws.proofs.Standing.{booking_after, due_own}
-use Rattle.cmwq_laws.proofs.Pending.{pending_count, no_more_pending, waiting_now, unstarted_count, waiting_was, none_unstarted, not_idle, of_item, booked_or_unstarted, one_unstarted}
+use Rattle.cmwq_active.proofs.Lists.{count_by-none, count_by-filter}
+use Rattle.cmwq_steps.proofs.Filters.{count_none, none_found}
+use Rattle.cmwq_steps.proofs.Causes.{Cause, IsFree, cause_of}
+use Rattle.cmwq_steps.proofs.Causes as cause
+use Rattle.cmwq_steps.proofs.Standing.{booking_after, due_own}
+use Rattle.cmwq_steps.proofs.Pending.{pending_count, no_more_pending, waiting_now, unstarted_count, waiting_was, none_unstarted, not_idle, of_item, booked_or_unstarted, one_unstarted}
 
 -- ---- not pending, as a count
 

@@ -10,13 +10,12 @@ use Rattle.cmwq_model.specs.Fate.{starts, finishes, number_started, number_finis
 use Rattle.cmwq_model.specs.Queueings.{queueings, opening}
 use Rattle.cmwq_model.specs.Legal.{IsLegal}
 use Rattle.cmwq_laws.specs.Sanity.{is_ended_twice, is_started_cancelled}
-use Rattle.cmwq_laws.proofs.Lists.{All_map, All_both, All_append}
-use Rattle.cmwq_laws.proofs.Rising.{opening_number}
-use Rattle.cmwq_laws.proofs.Entries.{IsKnown, queueings_known}
-use Rattle.cmwq_laws.proofs.ItemRuns.{run_is}
-use Rattle.cmwq_laws.proofs.OneWorker.{is_at-true}
-use Rattle.cmwq_laws.proofs.Fresh.{finishes_run, open_at_once}
-use Rattle.cmwq_laws.proofs.RunSteps.{started_not_cancelled, started_open, last_started}
+use Rattle.cmwq_active.proofs.Lists.{All_map, All_both, All_append}
+use Rattle.cmwq_active.proofs.Rising.{opening_number}
+use Rattle.cmwq_steps.proofs.Entries.{IsKnown, queueings_known, is_at-true}
+use Rattle.cmwq_steps.proofs.ItemRuns.{run_is}
+use Rattle.cmwq_steps.proofs.Fresh.{finishes_run, open_at_once}
+use Rattle.cmwq_steps.proofs.RunSteps.{started_not_cancelled, started_open, last_started}
 
 open_uncancelled : (past : List Entry) (i n : ℕ) → is_open past i n ≡ true → is_cancelled past i n ≡ false
 open_uncancelled past i n h = grind arith

@@ -1,6 +1,6 @@
 -- A queue that is gone has nothing open and nothing booked on it; one that is being destroyed has nothing booked on it.
 use Rattle.std.proofs.Common.{◌≡◌, ◌==◌, ℕ, Bool, true, false, cond, not, ◌&&◌, ◌||◌, List, [], ◌∷◌, ◌++◌, length, filter, find, Option, Some, None, option_to_list, nat_lt, refl, sym, ap, ap₂, ◌∙◌, subst, arith}
-use Rattle.std.specs.Prelude.{is_some, if◌then◌else◌, option_and_then, option_map}
+use Rattle.std.specs.Prelude.{if◌then◌else◌, option_and_then, option_map}
 use Rattle.std.specs.Option.{option_or, option_map_or}
 use Rattle.std.specs.List.{AllByRecursion, list_any}
 use Rattle.std.proofs.Math.Bool.{or-false}
@@ -21,23 +21,21 @@ use Rattle.cmwq_model.specs.declared.record.Queueing.{Queueing}
 use Rattle.cmwq_model.specs.declared.record.Ticket.{Ticket}
 use Rattle.cmwq_model.specs.Layout.{Layout}
 use Rattle.cmwq_model.specs.Calls.{is_at, item_called, item_fired, item_of, is_of_item}
-use Rattle.cmwq_model.specs.Bookings.{settles, due_in, booking, booking_of, booked_by, bookings, standing, stands, number_booked, is_booked}
-use Rattle.cmwq_model.specs.Queueings.{opens, opening, queued_at, place_called, place_booked, place_wanted, is_live, still_open, queueings}
-use Rattle.cmwq_model.specs.Tickets.{tickets, is_unended, unended, ticket_in, ticket_for, gives_ticket, drains, destroys, is_drain_of, is_destroy_of, is_draining, is_being_destroyed, is_done, ends_destroy, ticket_of, is_gone}
-use Rattle.cmwq_model.specs.Waits.{holds_up, waits_for, least_waited}
-use Rattle.cmwq_model.specs.Answer.{is_shut, runs_on, is_booked_on}
+use Rattle.cmwq_model.specs.Bookings.{settles, due_in, booking, booking_of, booked_by, bookings, standing, stands, number_booked}
+use Rattle.cmwq_model.specs.Queueings.{opens, opening, queued_at, place_wanted, still_open}
+use Rattle.cmwq_model.specs.Tickets.{tickets, is_unended, unended, ticket_in, ticket_for, gives_ticket, drains, destroys, is_drain_of, is_destroy_of, is_draining, is_being_destroyed, is_done, ends_destroy, is_gone}
+use Rattle.cmwq_model.specs.Waits.{holds_up, waits_for}
+use Rattle.cmwq_model.specs.Answer.{runs_on, is_booked_on}
 use Rattle.cmwq_model.specs.Legal.{IsLegal}
-use Rattle.cmwq_laws.specs.Endings.{is_spared}
+use Rattle.cmwq_steps.specs.Endings.{is_spared}
 use Rattle.cmwq_laws.specs.Gone.{NoneBooked, NoneOpen}
-use Rattle.cmwq_laws.proofs.Lists.{All_map, All_append, All_filter, All_unfilter, find_none}
-use Rattle.cmwq_laws.proofs.Causes.{Cause, IsFree, cause_of}
-use Rattle.cmwq_laws.proofs.Causes as cause
-use Rattle.cmwq_laws.proofs.Standing.{booking_after, due_own, due_settles}
+use Rattle.cmwq_active.proofs.Lists.{All_map, All_append, All_filter, All_unfilter, find_none}
+use Rattle.cmwq_steps.proofs.Causes.{Cause, IsFree, cause_of}
+use Rattle.cmwq_steps.proofs.Causes as cause
+use Rattle.cmwq_steps.proofs.Standing.{booking_after}
 use Rattle.cmwq_laws.proofs.Cancelling.{any_wider, unended_before}
-use Rattle.cmwq_laws.proofs.Pending.{opening_opens}
-use Rattle.cmwq_laws.proofs.Endings.{open_go_on}
-use Rattle.cmwq_laws.proofs.Activated.{find_holds}
-use Rattle.cmwq_laws.proofs.TicketSteps.{is_done_reply}
+use Rattle.cmwq_steps.proofs.Pending.{opening_opens}
+use Rattle.cmwq_steps.proofs.Endings.{open_go_on}
 
 abbrev on_queue : ℕ → Place → Bool
 on_queue q p = p.queue.0 == q

@@ -14,8 +14,8 @@ use Rattle.cmwq_model.specs.Calls.{same_who, is_by, serial_of}
 use Rattle.cmwq_model.specs.Legal.{IsLegal, entry_for}
 use Rattle.cmwq_model.specs.Room.{Steps, has_room, step, none, steps}
 use Rattle.cmwq_laws.specs.Sanity.{HasOneEntry, serials, serial_told}
-use Rattle.cmwq_laws.proofs.Lists.{count_by-cons}
-use Rattle.cmwq_laws.proofs.ItemRuns.{same_worker-true}
+use Rattle.cmwq_active.proofs.Lists.{count_by-cons}
+use Rattle.cmwq_steps.proofs.ItemRuns.{same_worker-true}
 
 -- ---- one entry
 

@@ -1,7 +1,6 @@
 -- No two workers have runs of one item.
-use Rattle.std.proofs.Common.{◌≡◌, ℕ, true, List, Option, Some, None, refl, ap}
+use Rattle.std.proofs.Common.{◌≡◌, ℕ, true, List, Option, Some, None, refl}
 use Rattle.std.specs.Prelude.{option_and_then}
-use Rattle.std.proofs.lemmas.Bool.{eqb-true}
 use Rattle.cmwq_model.specs.declared.id.WorkerId.{WorkerId}
 use Rattle.cmwq_model.specs.declared.entry.Entry.{Entry}
 use Rattle.cmwq_model.specs.Layout.{Layout}
@@ -9,11 +8,8 @@ use Rattle.cmwq_model.specs.Calls.{is_at, item_at}
 use Rattle.cmwq_model.specs.Runs.{run}
 use Rattle.cmwq_model.specs.Legal.{IsLegal}
 use Rattle.cmwq_laws.specs.Headline.{RunsInOneWorker}
-use Rattle.cmwq_laws.proofs.ItemRuns.{one_worker}
-
-pub is_at-true : (o : Option ℕ) (n : ℕ) → is_at o n ≡ true → o ≡ Some n
-is_at-true None n h = cc
-is_at-true (Some m) n h = ap Some (eqb-true m n h)
+use Rattle.cmwq_steps.proofs.ItemRuns.{one_worker}
+use Rattle.cmwq_steps.proofs.Entries.{is_at-true}
 
 record RunsItem (past : List Entry) (i : ℕ) (w : WorkerId) : Type 0 where
   number : ℕ

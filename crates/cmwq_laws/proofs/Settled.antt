@@ -15,12 +15,13 @@ use Rattle.cmwq_model.specs.Queueings.{is_pending}
 use Rattle.cmwq_model.specs.Tickets.{unended, is_ticket, is_cancelling, cancels_sync, is_cancel_sync_of}
 use Rattle.cmwq_model.specs.Waits.{waits_for}
 use Rattle.cmwq_model.specs.Legal.{IsLegal}
-use Rattle.cmwq_laws.specs.Headline.{IsDone, CancelsSettle}
-use Rattle.cmwq_laws.specs.RunSteps.{ends_run}
-use Rattle.cmwq_laws.proofs.ItemRuns.{no_start, starts_no_item}
-use Rattle.cmwq_laws.proofs.ItemSteps.{items_run_on}
+use Rattle.cmwq_steps.specs.TicketSteps.{IsDone}
+use Rattle.cmwq_laws.specs.Headline.{CancelsSettle}
+use Rattle.cmwq_steps.specs.RunSteps.{ends_run}
+use Rattle.cmwq_steps.proofs.ItemRuns.{no_start, starts_no_item}
+use Rattle.cmwq_steps.proofs.ItemSteps.{items_run_on}
 use Rattle.cmwq_laws.proofs.Cancelling.{cancelling_idle, stays_idle}
-use Rattle.cmwq_laws.proofs.Done.{ends_ticket, ready_call, ended_call}
+use Rattle.cmwq_steps.proofs.Done.{ends_ticket, ready_call, ended_call}
 
 module _ {X : Type 0} where
   any_here : (p q : X → Bool) (x y : X) (xs : List X) (b : Bool) → cond b (Some y) (find p xs) ≡ Some x → q x ≡ true → (find p xs ≡ Some x → list_any q xs ≡ true) → (q y || list_any q xs) ≡ true

@@ -8,8 +8,8 @@ use Rattle.cmwq_model.specs.declared.entry.Entry.{Entry}
 use Rattle.cmwq_model.specs.declared.record.Queueing.{Queueing}
 use Rattle.cmwq_model.specs.Queueings.{still_open}
 use Rattle.cmwq_model.specs.Waits.{holds_up, waits_for, least_waited}
-use Rattle.cmwq_laws.proofs.Lists.{All_each}
-use Rattle.cmwq_laws.proofs.Rising.{open_rise, find_least}
+use Rattle.cmwq_active.proofs.Lists.{All_each}
+use Rattle.cmwq_active.proofs.Rising.{open_rise, find_least}
 
 found_least : (past : List Entry) (n m : ℕ) (c : Call) (o : Option Queueing) → find (holds_up past n c) (still_open past) ≡ o → option_map (λ (x : Queueing). x.number) o ≡ Some m
     → AllByRecursion (λ x. holds_up past n c x ≡ true → m ≤ x.number) (still_open past)

@@ -1,5 +1,5 @@
 -- No more workers of a CPU have runs of a queue than are active there: their runs are different numbers of active queueings.
-use Rattle.std.proofs.Common.{◌≡◌, ◌≤◌, ◌==◌, ℕ, Bool, true, false, cond, ◌&&◌, ◌||◌, List, [], ◌∷◌, length, map, take, filter, find, Option, Some, None, refl, sym, ap, ◌∙◌, subst, arith}
+use Rattle.std.proofs.Common.{◌≡◌, ◌≤◌, ◌==◌, ℕ, Bool, true, false, cond, ◌||◌, List, [], ◌∷◌, length, map, take, filter, find, Option, Some, None, refl, sym, ap, ◌∙◌, subst, arith}
 use Rattle.std.specs.Prelude.{option_and_then, option_map}
 use Rattle.std.specs.Option.{option_map_or}
 use Rattle.std.specs.List.{AllByRecursion, IsDistinct, list_any}
@@ -9,7 +9,6 @@ use Rattle.std.proofs.lemmas.Bool.Decides.{nat_tests}
 use Rattle.std.proofs.lemmas.Cmp.{nat_eq_equiv}
 use Rattle.std.proofs.lemmas.List.{length-take, length-map}
 use Rattle.std.proofs.lemmas.Map.Made.{length-le_from_is_member}
-use mathlib.Core.Bool.{beq}
 use Rattle.cmwq_model.specs.declared.id.WorkerId.{WorkerId}
 use Rattle.cmwq_model.specs.declared.entry.Entry.{Entry}
 use Rattle.cmwq_model.specs.declared.record.Queueing.{Queueing}
@@ -19,28 +18,16 @@ use Rattle.cmwq_model.specs.Runs.{run}
 use Rattle.cmwq_model.specs.Queueings.{queueings, queueing_at, queue_of, run_queue, has_number, is_live, still_open}
 use Rattle.cmwq_model.specs.Active.{is_active}
 use Rattle.cmwq_model.specs.Legal.{IsLegal}
-use Rattle.cmwq_laws.specs.Fidelity.{is_on, open_on, active_count}
+use Rattle.cmwq_steps.specs.Places.{is_on, open_on, active_count}
 use Rattle.cmwq_laws.specs.Headline.{runs_queue_on, RunsWithinActive}
-use Rattle.cmwq_laws.proofs.Lists.{All_both}
-use Rattle.cmwq_laws.proofs.Active.{active_are_first}
-use Rattle.cmwq_laws.proofs.Joined.{active_live}
-use Rattle.cmwq_laws.proofs.ItemRuns.{one_worker}
-use Rattle.cmwq_laws.proofs.OneWorker.{is_at-true}
-use Rattle.cmwq_laws.proofs.RunsActive.{found_known, found_number, run_is_active}
-
--- ---- what is found in a list, and passes a test, is found in what passes
-
-module _ {X : Type 0} where
-  found_here : (p g : X → Bool) (x y : X) (xs : List X) (a b : Bool) → p y ≡ a → g y ≡ b → cond a (Some y) (find p xs) ≡ Some x → g x ≡ true → (find p xs ≡ Some x → find p (filter g xs) ≡ Some x)
-      → find p (cond b (y ∷ filter g xs) (filter g xs)) ≡ Some x
-  found_here p g x y xs true true ha hb found passes later = ap (λ c. cond c (Some y) (find p (filter g xs))) ha ∙ found
-  found_here p g x y xs true false ha hb found passes later = let same : y ≡ x = cc in let fails : g x ≡ false = ap g (sym same) ∙ hb in cc
-  found_here p g x y xs false true ha hb found passes later = ap (λ c. cond c (Some y) (find p (filter g xs))) ha ∙ later found
-  found_here p g x y xs false false ha hb found passes later = later found
-
-  pub find-filter : (p g : X → Bool) (x : X) (xs : List X) → find p xs ≡ Some x → g x ≡ true → find p (filter g xs) ≡ Some x
-  find-filter p g x [] found passes = cc
-  find-filter p g x (y ∷ xs) found passes = found_here p g x y xs (p y) (g y) refl refl found passes (λ rest. find-filter p g x xs rest passes)
+use Rattle.cmwq_active.proofs.Lists.{All_both}
+use Rattle.cmwq_steps.proofs.Active.{active_are_first}
+use Rattle.cmwq_active.proofs.Joined.{active_live}
+use Rattle.cmwq_steps.proofs.ItemRuns.{one_worker}
+use Rattle.cmwq_steps.proofs.Entries.{is_at-true}
+use Rattle.cmwq_steps.proofs.RunsActive.{found_known, found_number, run_is_active}
+use Rattle.cmwq_steps.proofs.Filters.{find-filter}
+use Rattle.cmwq_steps.proofs.ItemRuns.{same_worker_itself}
 
 -- ---- numbers
 
@@ -106,16 +93,6 @@ runs_on s past q c w legal h = at (run past w) refl
     at (Some n) runs = runs_at s past q c w n legal runs (sym (ap (option_and_then (queue_of past)) runs) ∙ is_at-true (run_queue past w) q queue) cpu
 
 -- ---- different workers have different runs
-
-pub same_worker_itself : (w : WorkerId) → same_worker w w ≡ true
-same_worker_itself w = all _ _ _ (eq-eqb w.pool.cpu.0 w.pool.cpu.0 refl) (flag w.pool.high) (eq-eqb w.index w.index refl)
-  where
-    flag : (b : Bool) → beq b b ≡ true
-    flag true = refl
-    flag false = refl
-
-    all : (a b c : Bool) → a ≡ true → b ≡ true → c ≡ true → ((a && b) && c) ≡ true
-    all a b c ha hb hc = grind arith
 
 numbers_differ : (s : Layout) (past : List Entry) (q c : ℕ) (w v : WorkerId) → IsLegal s past → RunsOn s past q c w → RunsOn s past q c v → same_worker w v ≡ false → (run_number past w == run_number past v) ≡ false
 numbers_differ s past q c w v legal rw rv other = at (run_number past w == run_number past v) refl

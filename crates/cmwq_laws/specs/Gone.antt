@@ -6,7 +6,7 @@ use Rattle.cmwq_model.specs.declared.record.Booking.{Booking}
 use Rattle.cmwq_model.specs.Bookings.{booking}
 use Rattle.cmwq_model.specs.Queueings.{still_open}
 use Rattle.cmwq_model.specs.Tickets.{is_gone}
-use Rattle.cmwq_laws.specs.Headline.{OfLegal}
+use Rattle.cmwq_steps.specs.Histories.{OfLegal}
 
 -- no item is booked on the queue, and nothing of it is open
 abbrev pub NoneBooked : List Entry → ℕ → Type 0

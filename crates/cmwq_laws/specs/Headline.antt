@@ -1,32 +1,22 @@
 -- What a user of the runtime relies on, as laws of every legal history.
-use Rattle.std.specs.Prelude.{◌≡◌, ℕ, ◌≤◌, Bool, true, false, ◌&&◌, ◌||◌, ◌==◌, List, [], ◌∷◌, length, count_by, Some, option_and_then, is_some, nat_lt, nat_le}
+use Rattle.std.specs.Prelude.{◌≡◌, ℕ, ◌≤◌, Bool, true, false, ◌&&◌, ◌||◌, ◌==◌, List, ◌∷◌, length, count_by, Some, option_and_then, is_some, nat_lt, nat_le}
 use Rattle.std.specs.List.{AllByRecursion, IsDistinct}
 use Rattle.cmwq_model.specs.declared.id.WorkerId.{WorkerId}
 use Rattle.cmwq_model.specs.declared.call.Call.{Call}
 use Rattle.cmwq_model.specs.declared.call.Call.TheVariants as call
-use Rattle.cmwq_model.specs.declared.reply.Reply.TheVariants as reply
 use Rattle.cmwq_model.specs.declared.entry.Entry.{Entry}
 use Rattle.cmwq_model.specs.declared.record.Queueing.{Queueing}
 use Rattle.cmwq_model.specs.Layout.{Layout}
 use Rattle.cmwq_model.specs.Widths.{width}
 use Rattle.cmwq_model.specs.Active.{is_active, newly_active}
-use Rattle.cmwq_laws.specs.Fidelity.{open_on, active_count}
-
+use Rattle.cmwq_steps.specs.Places.{open_on, active_count}
 use Rattle.cmwq_model.specs.Calls.{is_at, same_worker, entry_at, item_at}
 use Rattle.cmwq_model.specs.Fate.{starts, is_finished, is_cancelled}
 use Rattle.cmwq_model.specs.Runs.{run, item_runs}
 use Rattle.cmwq_model.specs.Queueings.{queueings, queueing_at, run_queue, is_pending}
 use Rattle.cmwq_model.specs.Tickets.{is_cancelling}
-use Rattle.cmwq_model.specs.Legal.{IsLegal}
-
--- a law of every legal history of every shape
-abbrev pub OfLegal : (Layout → List Entry → Type 0) → Type 0
-OfLegal Law = (s : Layout) (past : List Entry) → IsLegal s past → Law s past
-
--- what holds of each entry, wherever it stands, and of what lay before it
-abbrev pub OfEachEntry : (List Entry → Entry → Type 0) → List Entry → Type 0
-OfEachEntry Law [] = Unit {0}
-OfEachEntry Law (e ∷ past) = Law past e × OfEachEntry Law past
+use Rattle.cmwq_steps.specs.Histories.{OfLegal, OfEachEntry}
+use Rattle.cmwq_steps.specs.TicketSteps.{IsDone}
 
 -- ---- no two workers have runs of one item
 
@@ -79,10 +69,6 @@ abbrev pub RunsAreActive : Type 0
 RunsAreActive = OfLegal RunsWithinActive
 
 -- ---- where the end of a ticket is answered done, what was queued before the wait has ended
-
--- the entry ends the ticket with this number
-abbrev pub IsDone : Entry → ℕ → Type 0
-IsDone e t = (e.call ≡ call.End t) × (e.reply ≡ reply.Done)
 
 -- A flush of a queue waits for the queueings of the queue with lesser numbers than its own, a flush of an item for those
 -- of the item up to its own number, a drain and a destroy for all of its queue.

@@ -1,6 +1,6 @@
 -- Laws that show that the definitions say neither too much nor too little: each call has its one entry, and no item or
 -- queueing is two things at once.
-use Rattle.std.specs.Prelude.{◌≡◌, ℕ, ◌≤◌, Bool, true, false, ◌&&◌, ◌==◌, List, ◌∷◌, map, filter, count_by, reverse}
+use Rattle.std.specs.Prelude.{◌≡◌, ℕ, ◌≤◌, Bool, true, false, ◌&&◌, List, ◌∷◌, map, filter, count_by, reverse}
 use Rattle.std.specs.List.{AllByRecursion, range_with_len}
 use Rattle.cmwq_model.specs.declared.id.Who.{Who}
 use Rattle.cmwq_model.specs.declared.call.Call.{Call}
@@ -12,7 +12,8 @@ use Rattle.cmwq_model.specs.Fate.{is_started, is_finished, is_cancelled}
 use Rattle.cmwq_model.specs.Queueings.{queueings, still_open}
 use Rattle.cmwq_model.specs.Legal.{IsLegal}
 use Rattle.cmwq_model.specs.Room.{steps}
-use Rattle.cmwq_laws.specs.Headline.{OfLegal}
+use Rattle.cmwq_steps.specs.Histories.{OfLegal}
+use Rattle.cmwq_steps.specs.Pending.{is_run_of}
 
 -- ---- a call that fits has exactly one legal entry after a legal history
 
@@ -59,9 +60,6 @@ abbrev pub CancelledNeverStart : Type 0
 CancelledNeverStart = OfLegal (λ s past. AllByRecursion (λ x. is_started_cancelled past x ≡ false) (queueings past))
 
 -- ---- an item has at most one run: of its open queueings one at most has started
-
-abbrev pub is_run_of : List Entry → ℕ → Queueing → Bool
-is_run_of past i x = (x.item.0 == i) && is_started past x.number
 
 abbrev pub ItemsHaveOneRun : Type 0
 ItemsHaveOneRun = OfLegal (λ s past. (i : ℕ) → count_by (is_run_of past i) (still_open past) ≤ 1)

@@ -12,14 +12,3 @@ pub fn active_are_as_before()
 pub fn legal_are_as_before()
     ensures { LegalAsBefore }
 {}
-
-#[cfg(test)]
-mod tests {
-    use super::*;
-
-    #[test]
-    fn each_is_there() {
-        active_are_as_before();
-        legal_are_as_before();
-    }
-}

@@ -12,14 +12,3 @@ pub fn gone_stay_empty()
 pub fn gone_stay_gone()
     ensures { GoneStayGone }
 {}
-
-#[cfg(test)]
-mod tests {
-    use super::*;
-
-    #[test]
-    fn each_is_there() {
-        gone_stay_empty();
-        gone_stay_gone();
-    }
-}

@@ -1,7 +1,7 @@
 //! The definitions say what the field's words say.
 
 ghost use Rattle.cmwq_laws.specs.Fidelity.{NamesItself, StandByNumber, ActiveAreFirst, WaitsForLeast, RunsAreItems};
-ghost use Rattle.cmwq_laws.specs.Order.{WorklistsAreInOrder};
+ghost use Rattle.cmwq_steps.specs.Order.{WorklistsAreInOrder};
 
 /// A reply that opens a queueing or gives a ticket names its own entry.
 pub fn replies_name_themselves()
@@ -33,18 +33,3 @@ pub fn runs_are_items()
 pub fn tickets_wait_for_least()
     ensures { WaitsForLeast }
 {}
-
-#[cfg(test)]
-mod tests {
-    use super::*;
-
-    #[test]
-    fn each_is_there() {
-        replies_name_themselves();
-        queueings_stand_by_number();
-        active_are_first();
-        worklists_are_in_order();
-        runs_are_items();
-        tickets_wait_for_least();
-    }
-}

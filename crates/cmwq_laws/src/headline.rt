@@ -47,21 +47,3 @@ pub fn cancel_syncs_settle()
 pub fn cancelled_stay_idle()
     ensures { CancelledStayIdle }
 {}
-
-#[cfg(test)]
-mod tests {
-    use super::*;
-
-    #[test]
-    fn each_is_there() {
-        items_run_in_one_worker();
-        numbers_start_once();
-        queueings_start();
-        active_are_within_width();
-        only_active_start();
-        runs_are_active();
-        flushes_end_after_all_before();
-        cancel_syncs_settle();
-        cancelled_stay_idle();
-    }
-}

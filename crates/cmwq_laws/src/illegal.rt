@@ -11,13 +11,3 @@ pub fn illegal_histories_break_laws()
     ensures waits { EndedEarly }
     ensures cancels { Unsettled }
 {}
-
-#[cfg(test)]
-mod tests {
-    use super::*;
-
-    #[test]
-    fn it_is_there() {
-        illegal_histories_break_laws();
-    }
-}

@@ -1,25 +1,15 @@
-//! Laws of histories: theorems over the definitions alone, which no running code needs.
+//! Laws of histories that a user of the runtime relies on: theorems over the definitions alone, which no running code needs.
 #![tactic(auto)]
 
-mod activation_steps;
 mod before;
 mod destroys;
 mod fidelity;
 mod headline;
 mod illegal;
-mod item_pools;
-mod queueing_steps;
-mod reply_reasons;
-mod room_steps;
-mod run_steps;
+mod room;
 mod sanity;
-mod state_steps;
-mod ticket_steps;
 mod verdicts;
 
-pub use activation_steps::{
-    active_by_looks, active_go_on, newly_active_on, widened_make_active, active_stay, newly_active_are, opened_have_way, started_are_active, worklists_go_on,
-};
 pub use before::{active_are_as_before, legal_are_as_before};
 pub use destroys::{gone_stay_empty, gone_stay_gone};
 pub use fidelity::{
@@ -27,39 +17,14 @@ pub use fidelity::{
     tickets_wait_for_least, worklists_are_in_order,
 };
 pub use headline::{
-    cancel_syncs_settle, cancelled_stay_idle, flushes_end_after_all_before,
-    items_run_in_one_worker, numbers_start_once, queueings_start, active_are_within_width, only_active_start, runs_are_active,
+    active_are_within_width, cancel_syncs_settle, cancelled_stay_idle,
+    flushes_end_after_all_before, items_run_in_one_worker, numbers_start_once, only_active_start,
+    queueings_start, runs_are_active,
 };
 pub use illegal::illegal_histories_break_laws;
-pub use item_pools::{
-    items_are_booked_where_they_run, items_are_queued_where_they_run, runs_are_in_their_pools,
-};
-pub use queueing_steps::{
-    booked_items_have_no_unstarted, entries_end_what_they_say, items_have_one_unstarted,
-    items_have_two_open, one_queueing_ends, open_are_counted, open_are_two_for_each_item,
-    open_go_on, spared_stay_open,
-};
-pub use reply_reasons::{
-    booked_were_idle, cancelled_were_unstarted, done_are_ready, finishes_are_runs, fired_are_due,
-    flushed_delayed_were_booked, queued_again_were_pending, queued_were_idle,
-    rebooked_were_pending, retirers_may_retire, sleepers_are_awake, starts_are_next,
-    tickets_are_for_callers, ticks_tell_now, unbooked_were_booked, wakers_are_asleep,
-};
-pub use room_steps::{
-    booked_are_counted, frozen_is_counted, promised_are_never_full, promised_need_no_more, runs_are_counted,
-    sleepers_are_counted, steps_are_within_room, tickets_are_counted, waiting_are_counted,
-};
-pub use run_steps::{items_are_run_by_their_workers, items_run_on, workers_run_on};
+pub use room::{promised_are_never_full, steps_are_within_room};
 pub use sanity::{
     calls_have_one_entry, cancelled_never_start, items_have_one_run, queueings_end_once,
     serials_count_up, steps_are_legal,
-};
-pub use state_steps::{
-    bookings_go_on, enlisted_go_on, entries_book_as_asked, entries_open_as_asked, others_stay,
-    serials_go_on, sleepers_go_on, time_goes_on,
-};
-pub use ticket_steps::{
-    begun_are_served, one_moves_up, one_ticket_ends, overflowed_move_up, served_stay,
-    tickets_go_on, unended_go_on,
 };
 pub use verdicts::{first_wrong_is_one, wrong_are_illegal};

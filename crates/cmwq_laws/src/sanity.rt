@@ -31,18 +31,3 @@ pub fn cancelled_never_start()
 pub fn items_have_one_run()
     ensures { ItemsHaveOneRun }
 {}
-
-#[cfg(test)]
-mod tests {
-    use super::*;
-
-    #[test]
-    fn each_is_there() {
-        calls_have_one_entry();
-        steps_are_legal();
-        serials_count_up();
-        queueings_end_once();
-        cancelled_never_start();
-        items_have_one_run();
-    }
-}

@@ -11,14 +11,3 @@ pub fn wrong_are_illegal()
 pub fn first_wrong_is_one()
     ensures { FirstWrongIsOne }
 {}
-
-#[cfg(test)]
-mod tests {
-    use super::*;
-
-    #[test]
-    fn each_is_there() {
-        wrong_are_illegal();
-        first_wrong_is_one();
-    }
-}

@@ -1,5 +1,5 @@
 -- Widths, and what had way before they changed, as a history is gone through.
-use Rattle.std.proofs.Common.{◌≡◌, ℕ, ◌+◌, ◌<◌, ◌≤◌, Bool, true, false, not, ◌&&◌, ◌||◌, List, [], ◌∷◌, length, Option, refl, sym, ap, ◌∙◌, arith}
+use Rattle.std.proofs.Common.{◌≡◌, ℕ, false, not, ◌&&◌, ◌||◌, List, [], ◌∷◌, refl}
 use Rattle.std.specs.Option.{option_map_or}
 use Rattle.cmwq_model.specs.declared.entry.Entry.{Entry}
 use Rattle.cmwq_model.specs.declared.record.Queueing.{Queueing}
@@ -7,8 +7,7 @@ use Rattle.cmwq_model.specs.Layout.{Layout, first_width}
 use Rattle.cmwq_model.specs.Widths.{max_active, width_set}
 use Rattle.cmwq_model.specs.Queueings.{is_live}
 use Rattle.cmwq_model.specs.Active.{has_way}
-use Rattle.cmwq_laws.specs.Activations.{keeps_widths}
-use Rattle.cmwq_laws.specs.Segments.{had_way}
+use Rattle.cmwq_active.specs.Looks.{keeps_widths, had_way}
 
 pub max_none : (s : Layout) (q : ℕ) → max_active s [] q ≡ first_width s q
 unfolding max_active

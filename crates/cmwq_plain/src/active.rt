@@ -3,8 +3,7 @@ ghost use Rattle.std.specs.Prelude.{◌≡◌, ◌&&◌, ◌<◌, ◌+◌, lengt
 ghost use Rattle.cmwq_model.specs.Active.{same_place, is_ahead, is_active, is_listed, next};
 ghost use Rattle.cmwq_look.specs.Past.{upto};
 ghost use Rattle.cmwq_model.specs.Active.{has_way};
-ghost use Rattle.cmwq_laws.specs.Activations.{keeps_widths};
-ghost use Rattle.cmwq_laws.specs.Segments.{had_way};
+ghost use Rattle.cmwq_active.specs.Looks.{keeps_widths, had_way};
 ghost use Rattle.cmwq_plain.specs.Partial.{ahead_upto};
 ghost use Rattle.cmwq_plain.specs.Earliest.{may_start, since, earlier, better, best_upto, queueing_of};
 
@@ -89,12 +88,11 @@ fn had_way(shape: &Shape, past: &Past<'_>, queueing: &Queueing) -> bool
 }
 
 /// Whether the queueing is active: open, and it has way, or had way before a width changed.
-#[tactic(auto, using(cmwq_laws::proofs::Segments::active_by_looks))]
+#[tactic(auto, using(cmwq_active::proofs::Looks::active_by_looks))]
 fn is_active(shape: &Shape, past: &Past<'_>, queueing: &Queueing) -> bool
     ensures { result ≡ is_active shape.now past.now queueing.now }
 {
-    is_live(past, queueing)
-        && (had_way(shape, past, queueing) || has_way(shape, past, queueing))
+    is_live(past, queueing) && (had_way(shape, past, queueing) || has_way(shape, past, queueing))
 }
 
 /// Whether the queueing is on the pool's worklist.

@@ -6,8 +6,9 @@ use crate::fire::{first_due, has_timers};
 use crate::wait::waits_for;
 use crate::worker::{enlisted_by, is_enlisted, may_retire, runnable};
 use cmwq_look::{
-    Past, booking, has_run, is_being_destroyed, is_booked, is_cancelling, is_frozen, is_gone, is_crowded, is_draining, is_item_open,
-    is_pending, now, run, run_queue, runs_asleep, runs_awake, runs_elsewhere, ticket_of, unstarted,
+    Past, booking, has_run, is_being_destroyed, is_booked, is_cancelling, is_crowded, is_draining,
+    is_frozen, is_gone, is_item_open, is_pending, now, run, run_queue, runs_asleep, runs_awake,
+    runs_elsewhere, ticket_of, unstarted,
 };
 use cmwq_model::{Booking, Call, Number, Queueing, Reply, Shape, Ticket, Who, WorkerId};
 

@@ -7,7 +7,9 @@ ghost use Rattle.cmwq_model.specs.Room.{pool_workers, cpu_workers, workers, has_
 ghost use Rattle.cmwq_plain.specs.Partial.{owed_by_runs};
 
 use crate::layout::{cpus, items, workers};
-use cmwq_look::{Past, has_run, is_booked, is_frozen, is_started, open_at, runs_asleep, unended_at};
+use cmwq_look::{
+    Past, has_run, is_booked, is_frozen, is_started, open_at, runs_asleep, unended_at,
+};
 use cmwq_model::{CpuId, PoolId, Shape, WorkerId};
 
 /// How many open queueings haven't started.

@@ -16,11 +16,11 @@ use Rattle.cmwq_model.specs.Tickets.{unended}
 use Rattle.cmwq_model.specs.Legal.{IsLegal}
 use Rattle.cmwq_flush.specs.declared.barrier.Barrier.{Barrier}
 use Rattle.cmwq_flush.specs.BarrierBook.{BarrierBook, numbers_open, HasRoom}
-use Rattle.cmwq_laws.specs.Endings.{ending}
-use Rattle.cmwq_laws.specs.TicketSteps.{is_kept, ticket_ended}
-use Rattle.cmwq_laws.proofs.Lists.{All_map, All_filter}
-use Rattle.cmwq_laws.proofs.Limits.{two_of_an_item}
-use Rattle.cmwq_laws.proofs.TicketSteps.{unended_go_on}
+use Rattle.cmwq_steps.specs.Endings.{ending}
+use Rattle.cmwq_steps.specs.TicketSteps.{is_kept, ticket_ended}
+use Rattle.cmwq_active.proofs.Lists.{All_map, All_filter}
+use Rattle.cmwq_steps.proofs.Limits.{two_of_an_item}
+use Rattle.cmwq_steps.proofs.TicketSteps.{unended_go_on}
 use Rattle.cmwq_ties.specs.Told.{number_of_queueing, ticket_given}
 use Rattle.cmwq_ties.specs.BarrierBooks.{item_numbers, wait_for, barriers_of, told_ended, told_opened, told_done, told_queueings, MayEnd, MayOpen, MayBeDone, MayWait, MayBegin, MayBeTold}
 use Rattle.cmwq_ties.proofs.Members.{In, all_in, filter_in, in_contained}

@@ -14,8 +14,8 @@ use Rattle.cmwq_model.specs.Queueings.{still_open, is_of}
 use Rattle.cmwq_model.specs.Tickets.{unended}
 use Rattle.cmwq_model.specs.Waits.{waits_for}
 use Rattle.cmwq_model.specs.Legal.{IsLegal}
-use Rattle.cmwq_laws.proofs.Lists.{All_map, find_none}
-use Rattle.cmwq_laws.proofs.Filters.{none_found}
+use Rattle.cmwq_active.proofs.Lists.{All_map, find_none}
+use Rattle.cmwq_steps.proofs.Filters.{none_found}
 use Rattle.cmwq_flush.specs.declared.barrier.Barrier.{Barrier}
 use Rattle.cmwq_flush.specs.BarrierBook.{numbers_open, numbers_before, has_ticket, is_up_to, IsReady, waits_for as book_waits_for}
 use Rattle.cmwq_ties.specs.Told.{number_of_queueing, number_of_ticket}

@@ -15,13 +15,13 @@ use Rattle.cmwq_model.specs.Layout.{Layout}
 use Rattle.cmwq_model.specs.Queueings.{queueings, still_open, opening, is_of}
 use Rattle.cmwq_model.specs.Tickets.{tickets, unended}
 use Rattle.cmwq_model.specs.Legal.{IsLegal}
-use Rattle.cmwq_laws.specs.Endings.{is_spared, ending}
-use Rattle.cmwq_laws.proofs.Endings.{open_go_on}
+use Rattle.cmwq_steps.specs.Endings.{is_spared, ending}
+use Rattle.cmwq_steps.proofs.Endings.{open_go_on}
 use Rattle.cmwq_flush.specs.declared.barrier.Barrier.{Barrier}
 use Rattle.cmwq_flush.specs.Numbers.{without}
 use Rattle.cmwq_flush.specs.BarrierBook.{BarrierBook, new_barriers, numbers_open, is_other_wait, after_end}
-use Rattle.cmwq_laws.specs.TicketSteps.{is_kept, ticket_ended}
-use Rattle.cmwq_laws.proofs.TicketSteps.{unended_go_on}
+use Rattle.cmwq_steps.specs.TicketSteps.{is_kept, ticket_ended}
+use Rattle.cmwq_steps.proofs.TicketSteps.{unended_go_on}
 use Rattle.cmwq_ties.specs.Told.{number_of_queueing, number_of_ticket, ticket_given}
 use Rattle.cmwq_ties.specs.BarrierBooks.{item_numbers, wait_by, wait_for, barriers_of, told_ended, told_opened, told_done, told_begun, begun, told_queueings, told}
 use Rattle.cmwq_ties.proofs.Members.{In, all_in}

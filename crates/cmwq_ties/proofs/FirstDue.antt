@@ -16,8 +16,8 @@ use Rattle.cmwq_model.specs.Legal.{IsLegal}
 use Rattle.cmwq_timer.specs.declared.timer.Timer.{Timer}
 use Rattle.cmwq_timer.specs.Due.{is_sooner, may_fire as timer_may_fire}
 use Rattle.cmwq_timer.specs.Rows.{MayFire, NoneMayFire, IsFirstToFire, timer_of}
-use Rattle.cmwq_laws.proofs.Lists.{All_map, All_append}
-use Rattle.cmwq_laws.proofs.OneWorker.{is_at-true}
+use Rattle.cmwq_active.proofs.Lists.{All_map, All_append}
+use Rattle.cmwq_steps.proofs.Entries.{is_at-true}
 use Rattle.cmwq_ties.specs.Timers.{timer_for, timers_of, HoldsDraining, item_due, MayBeTold}
 use Rattle.cmwq_ties.proofs.Members.{In, of_in, all_in, in_left, in_right, option_in, in_option, in_filter, filter_in, none_in, found}
 use Rattle.cmwq_ties.proofs.Rising.{RisesBy, rises_filter, rises_snoc, rises_unique, find_is}

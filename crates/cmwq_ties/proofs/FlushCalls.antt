@@ -12,7 +12,7 @@ use Rattle.cmwq_flush.specs.Numbers.{is_other, without}
 use Rattle.cmwq_flush.specs.Served.{ticket_of, tickets_of, has_ticket, is_other_flush}
 use Rattle.cmwq_flush.specs.FlushBook.{FlushBook, flush_tickets, served_of, flush_from, after_begin, after_end, serve_oldest, served_with_oldest, without_oldest, after_drain_begin, after_drain_end}
 use Rattle.cmwq_flush.specs.Colouring.{IsServing}
-use Rattle.cmwq_laws.proofs.Lists.{All_map, All_append, All_filter, find_none}
+use Rattle.cmwq_active.proofs.Lists.{All_map, All_append, All_filter, find_none}
 use Rattle.cmwq_ties.specs.FlushBooks.{IsServedFrom}
 use Rattle.cmwq_ties.proofs.Members.{In, of_in, found}
 use Rattle.cmwq_ties.proofs.Rising.{RisesBy}

@@ -17,10 +17,10 @@ use Rattle.cmwq_model.specs.Queueings.{opens, opening, place_wanted, queued_at, 
 use Rattle.cmwq_model.specs.Tickets.{flushes, is_flush_of, ticket_of, unended, is_done}
 use Rattle.cmwq_model.specs.Waits.{waits_for}
 use Rattle.cmwq_model.specs.Legal.{IsLegal}
-use Rattle.cmwq_laws.specs.Endings.{ending}
-use Rattle.cmwq_laws.specs.TicketSteps.{ticket_ended, ticket_asked}
-use Rattle.cmwq_laws.proofs.Ended.{ends_which}
-use Rattle.cmwq_laws.proofs.Done.{ends_ticket}
+use Rattle.cmwq_steps.specs.Endings.{ending}
+use Rattle.cmwq_steps.specs.TicketSteps.{ticket_ended, ticket_asked}
+use Rattle.cmwq_steps.proofs.Ended.{ends_which}
+use Rattle.cmwq_steps.proofs.Done.{ends_ticket}
 use Rattle.cmwq_flush.specs.FlushBook.{FlushBook, flush_tickets, IsReady}
 use Rattle.cmwq_ties.specs.FlushBooks.{AreFlushes}
 use Rattle.cmwq_ties.proofs.Members.{In, in_contained}

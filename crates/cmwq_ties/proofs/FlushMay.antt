@@ -14,12 +14,12 @@ use Rattle.cmwq_model.specs.Tickets.{unended, is_flush_of, is_drain_of}
 use Rattle.cmwq_model.specs.Legal.{IsLegal}
 use Rattle.cmwq_flush.specs.Served.{ticket_of, tickets_of}
 use Rattle.cmwq_flush.specs.FlushBook.{FlushBook, flush_tickets, standing, HasRoom, CanOpen}
-use Rattle.cmwq_laws.specs.Endings.{ending}
-use Rattle.cmwq_laws.specs.TicketSteps.{is_kept, ticket_ended}
-use Rattle.cmwq_laws.proofs.Lists.{All_map, All_filter, count_by-cons}
-use Rattle.cmwq_laws.proofs.Rising.{opening_number}
-use Rattle.cmwq_laws.proofs.Limits.{two_for_each_item}
-use Rattle.cmwq_laws.proofs.TicketSteps.{unended_go_on}
+use Rattle.cmwq_steps.specs.Endings.{ending}
+use Rattle.cmwq_steps.specs.TicketSteps.{is_kept, ticket_ended}
+use Rattle.cmwq_active.proofs.Lists.{All_map, All_filter, count_by-cons}
+use Rattle.cmwq_active.proofs.Rising.{opening_number}
+use Rattle.cmwq_steps.proofs.Limits.{two_for_each_item}
+use Rattle.cmwq_steps.proofs.TicketSteps.{unended_go_on}
 use Rattle.cmwq_ties.specs.Told.{number_of_queueing, number_of_ticket, ticket_given}
 use Rattle.cmwq_ties.specs.FlushBooks.{is_on_queue, open_numbers, AreFlushes, told_ended, told_opened, told_done, told_queueings, MayEnd, MayOpen, MayBeDone, MayBegin, MayBeTold}
 use Rattle.cmwq_ties.proofs.Members.{In, filter_in, in_contained}

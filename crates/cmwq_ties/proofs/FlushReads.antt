@@ -16,8 +16,8 @@ use Rattle.cmwq_model.specs.Waits.{served, is_within, is_older_flush, waits_for}
 use Rattle.cmwq_flush.specs.declared.served.Served.{Served}
 use Rattle.cmwq_flush.specs.Served.{tickets_of, has_ticket}
 use Rattle.cmwq_flush.specs.FlushBook.{FlushBook, flush_tickets, served_of, IsReady}
-use Rattle.cmwq_laws.proofs.Lists.{All_map, find_none}
-use Rattle.cmwq_laws.proofs.Filters.{none_found}
+use Rattle.cmwq_active.proofs.Lists.{All_map, find_none}
+use Rattle.cmwq_steps.proofs.Filters.{none_found}
 use Rattle.cmwq_ties.specs.Told.{number_of_queueing, number_of_ticket}
 use Rattle.cmwq_ties.specs.FlushBooks.{is_on_queue, open_numbers, IsServedFrom, AreFlushes}
 use Rattle.cmwq_ties.proofs.Members.{In, of_in, filter_in, in_append, found, contained_in, in_contained}

@@ -22,12 +22,12 @@ use Rattle.cmwq_flush.specs.Numbers.{is_other, without}
 use Rattle.cmwq_flush.specs.Served.{ticket_of, tickets_of}
 use Rattle.cmwq_flush.specs.FlushBook.{FlushBook, new_book, flush_tickets, served_of, after_opened, after_ended, after_begin, after_end, after_drain_begin, after_drain_end}
 use Rattle.cmwq_flush.specs.Colouring.{IsServing}
-use Rattle.cmwq_laws.specs.Endings.{is_spared, ending}
-use Rattle.cmwq_laws.proofs.Lists.{All_map, All_append, All_filter, count_by-filter}
-use Rattle.cmwq_laws.proofs.Rising.{opening_number}
-use Rattle.cmwq_laws.proofs.Endings.{open_go_on}
-use Rattle.cmwq_laws.specs.TicketSteps.{is_kept, ticket_ended}
-use Rattle.cmwq_laws.proofs.TicketSteps.{unended_go_on, served_stay}
+use Rattle.cmwq_steps.specs.Endings.{is_spared, ending}
+use Rattle.cmwq_active.proofs.Lists.{All_map, All_append, All_filter, count_by-filter}
+use Rattle.cmwq_active.proofs.Rising.{opening_number}
+use Rattle.cmwq_steps.proofs.Endings.{open_go_on}
+use Rattle.cmwq_steps.specs.TicketSteps.{is_kept, ticket_ended}
+use Rattle.cmwq_steps.proofs.TicketSteps.{unended_go_on, served_stay}
 use Rattle.cmwq_ties.specs.Told.{number_of_queueing, number_of_ticket, ticket_given}
 use Rattle.cmwq_ties.specs.FlushBooks.{is_on_queue, open_numbers, flush_numbers, drain_numbers, IsServedFrom, AreFlushes, told_ended, told_opened, told_done, told_begun, told_queueings, told_tickets}
 use Rattle.cmwq_ties.proofs.Members.{In, of_in, all_in, in_left}

@@ -12,18 +12,18 @@ use Rattle.cmwq_model.specs.Fate.{starts, is_started, is_open}
 use Rattle.cmwq_model.specs.Runs.{item_run}
 use Rattle.cmwq_model.specs.Queueings.{queueings, has_number, is_live, still_open, opening, is_of, is_unstarted, unstarted}
 use Rattle.cmwq_model.specs.Legal.{IsLegal}
-use Rattle.cmwq_laws.specs.Endings.{is_spared}
-use Rattle.cmwq_laws.proofs.Rising.{opening_number, queueings_below}
-use Rattle.cmwq_laws.proofs.Entries.{IsKnown, queueings_known}
-use Rattle.cmwq_laws.proofs.Endings.{open_go_on}
-use Rattle.cmwq_laws.proofs.Fresh.{not_started_yet}
-use Rattle.cmwq_laws.proofs.OneRun.{started_runs}
-use Rattle.cmwq_laws.proofs.ItemSteps.{items_are_run}
-use Rattle.cmwq_laws.proofs.RunSteps.{last_started}
-use Rattle.cmwq_laws.proofs.ItemRuns.{run_is}
-use Rattle.cmwq_laws.proofs.RunsActive.{found_known, found_number}
-use Rattle.cmwq_laws.proofs.StartsListed.{starts_listed}
-use Rattle.cmwq_laws.proofs.Pools.{runs_are_in_pools, unstarted_alone}
+use Rattle.cmwq_steps.specs.Endings.{is_spared}
+use Rattle.cmwq_active.proofs.Rising.{opening_number, queueings_below}
+use Rattle.cmwq_steps.proofs.Entries.{IsKnown, queueings_known}
+use Rattle.cmwq_steps.proofs.Endings.{open_go_on}
+use Rattle.cmwq_steps.proofs.Fresh.{not_started_yet}
+use Rattle.cmwq_steps.proofs.OneRun.{started_runs}
+use Rattle.cmwq_steps.proofs.ItemSteps.{items_are_run}
+use Rattle.cmwq_steps.proofs.RunSteps.{last_started}
+use Rattle.cmwq_steps.proofs.ItemRuns.{run_is}
+use Rattle.cmwq_steps.proofs.RunsActive.{found_known, found_number}
+use Rattle.cmwq_steps.proofs.StartsListed.{starts_listed}
+use Rattle.cmwq_steps.proofs.Pools.{runs_are_in_pools, unstarted_alone}
 use Rattle.cmwq_ties.specs.Told.{number_of_queueing}
 use Rattle.cmwq_ties.specs.BarrierBooks.{item_numbers}
 use Rattle.cmwq_ties.proofs.Members.{In, of_in, in_append, in_filter, filter_in, in_option, found}

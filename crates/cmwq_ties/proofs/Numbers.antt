@@ -5,7 +5,7 @@ use Rattle.std.specs.List.{AllByRecursion}
 use Rattle.std.proofs.lemmas.Bool.{eqb-true, ne_eqb, false_from_ne_true}
 use Rattle.std.proofs.lemmas.Bool.Decides.{nat_tests}
 use Rattle.cmwq_flush.specs.Numbers.{without}
-use Rattle.cmwq_laws.proofs.Lists.{All_map, count_by-cons}
+use Rattle.cmwq_active.proofs.Lists.{All_map, count_by-cons}
 use Rattle.cmwq_ties.proofs.Members.{In, of_in, all_in, in_filter}
 use Rattle.cmwq_ties.proofs.Rising.{RisesBy, rises_unique}
 

@@ -19,12 +19,12 @@ use Rattle.cmwq_model.specs.Runs.{item_run}
 use Rattle.cmwq_model.specs.Queueings.{queueings, has_number, is_live, still_open, opening, place_called, place_booked, place_wanted, cpu_for, queued_at}
 use Rattle.cmwq_model.specs.Tickets.{tickets, unended, is_unended, ticket_in}
 use Rattle.cmwq_model.specs.Legal.{IsLegal}
-use Rattle.cmwq_laws.proofs.Lists.{All_append}
-use Rattle.cmwq_laws.proofs.Entries.{opening_item}
-use Rattle.cmwq_laws.proofs.Pending.{opening_opens}
-use Rattle.cmwq_laws.proofs.StateSteps.{opens_as_asked}
-use Rattle.cmwq_laws.proofs.ItemSteps.{items_are_run}
-use Rattle.cmwq_laws.proofs.Pools.{runs_are_in_pools}
+use Rattle.cmwq_active.proofs.Lists.{All_append}
+use Rattle.cmwq_steps.proofs.Entries.{opening_item}
+use Rattle.cmwq_steps.proofs.Pending.{opening_opens}
+use Rattle.cmwq_steps.proofs.StateSteps.{opens_as_asked}
+use Rattle.cmwq_steps.proofs.ItemSteps.{items_are_run}
+use Rattle.cmwq_steps.proofs.Pools.{runs_are_in_pools}
 use Rattle.cmwq_ties.specs.Places.{IsThere}
 use Rattle.cmwq_ties.proofs.Members.{In, of_in, all_in, in_option, in_filter, found, contained_in}
 use Rattle.cmwq_ties.proofs.Settled.{numbers_fit, place_fits}

@@ -13,10 +13,10 @@ use Rattle.cmwq_model.specs.Layout.{Layout}
 use Rattle.cmwq_model.specs.Queueings.{still_open}
 use Rattle.cmwq_model.specs.Active.{worklist}
 use Rattle.cmwq_model.specs.Legal.{IsLegal}
-use Rattle.cmwq_laws.specs.Activations.{is_left}
-use Rattle.cmwq_laws.specs.Order.{since, IsSooner, AreInOrder}
-use Rattle.cmwq_laws.proofs.Worklist.{worklist_is}
-use Rattle.cmwq_laws.proofs.WorklistSteps.{worklists_go_on}
+use Rattle.cmwq_steps.specs.Activations.{is_left}
+use Rattle.cmwq_steps.specs.Order.{since, IsSooner, AreInOrder}
+use Rattle.cmwq_steps.proofs.Worklist.{worklist_is}
+use Rattle.cmwq_steps.proofs.WorklistSteps.{worklists_go_on}
 use Rattle.cmwq_pool.specs.declared.task.Task.{Task}
 use Rattle.cmwq_pool.specs.Lineup.{Lineup, is_like, added}
 use Rattle.cmwq_ties.specs.Told.{number_of_queueing}

@@ -12,16 +12,16 @@ use Rattle.cmwq_model.specs.Runs.{has_run, is_asleep, runs_awake, runs_asleep}
 use Rattle.cmwq_model.specs.Active.{next}
 use Rattle.cmwq_model.specs.Workers.{is_enlisted, may_retire, runnable}
 use Rattle.cmwq_model.specs.Legal.{IsLegal}
-use Rattle.cmwq_laws.proofs.Starts.{starts_next}
-use Rattle.cmwq_laws.proofs.Fresh.{finishes_run}
-use Rattle.cmwq_laws.proofs.Causes.{cause_of}
-use Rattle.cmwq_laws.proofs.Reasons.{sleep_reason, wake_reason, retire_reason}
+use Rattle.cmwq_steps.proofs.Starts.{starts_next}
+use Rattle.cmwq_steps.proofs.Fresh.{finishes_run}
+use Rattle.cmwq_steps.proofs.Causes.{cause_of}
+use Rattle.cmwq_steps.proofs.Reasons.{sleep_reason, wake_reason, retire_reason}
 use Rattle.cmwq_pool.specs.Seats.{seat_at, is_idle as is_idle_seat, runs_awake as seat_awake_runs, runs_asleep as seat_asleep_runs}
 use Rattle.cmwq_ties.specs.Told.{number_of_queueing}
 use Rattle.cmwq_ties.specs.Pools.{pool_of, MayStart, MayBeTold}
 use Rattle.cmwq_ties.proofs.PoolReads.{seat_is, some_run, idle_seat, runnables_are_runnable, idle_retire_alike}
 use Rattle.cmwq_ties.proofs.PoolNext.{worker_fits, nexts_are_next}
-use Rattle.cmwq_laws.proofs.OwedSteps.{by_itself, same_starter}
+use Rattle.cmwq_steps.proofs.OwedSteps.{by_itself, same_starter}
 
 module _ (s : Layout) (past : List Entry) (e : Entry) (w : WorkerId) (legal : IsLegal s (e ∷ past)) (who : e.who ≡ Worker w) where
   before : IsLegal s past

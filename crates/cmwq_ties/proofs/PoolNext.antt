@@ -19,10 +19,10 @@ use Rattle.cmwq_model.specs.Queueings.{is_unstarted, unstarted, still_open}
 use Rattle.cmwq_model.specs.Active.{worklist, next, is_startable}
 use Rattle.cmwq_model.specs.Workers.{worker_at}
 use Rattle.cmwq_model.specs.Legal.{IsLegal}
-use Rattle.cmwq_laws.proofs.RunsActive.{found_known}
-use Rattle.cmwq_laws.proofs.ItemSteps.{items_are_run}
-use Rattle.cmwq_laws.proofs.ItemRuns.{runs_are_items, run_is, last_start_cases, now, before, same_worker-true}
-use Rattle.cmwq_laws.proofs.Pools.{unstarted_alone, queued_where_it_runs}
+use Rattle.cmwq_steps.proofs.RunsActive.{found_known}
+use Rattle.cmwq_steps.proofs.ItemSteps.{items_are_run}
+use Rattle.cmwq_steps.proofs.ItemRuns.{runs_are_items, run_is, last_start_cases, now, before, same_worker-true}
+use Rattle.cmwq_steps.proofs.Pools.{unstarted_alone, queued_where_it_runs}
 use Rattle.cmwq_pool.specs.declared.task.Task.{Task}
 use Rattle.cmwq_pool.specs.declared.seat.Seat.{Seat}
 use Rattle.cmwq_pool.specs.Seats.{is_of, is_run_of, runs_item}

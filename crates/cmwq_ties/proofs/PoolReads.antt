@@ -16,11 +16,11 @@ use Rattle.cmwq_model.specs.Queueings.{queueings, still_open, is_live, queueing_
 use Rattle.cmwq_model.specs.Active.{is_active, worklist, is_listed}
 use Rattle.cmwq_model.specs.Workers.{worker_at, is_enlisted, is_holding, is_idle, is_occupied, is_reserve, is_other_idle, runnable, enlisted_by, has_spare, may_retire}
 use Rattle.cmwq_model.specs.Legal.{IsLegal}
-use Rattle.cmwq_laws.proofs.Joined.{active_live}
-use Rattle.cmwq_laws.proofs.Lists.{All_map, count_by-cons}
-use Rattle.cmwq_laws.proofs.RunsActive.{found_number}
-use Rattle.cmwq_laws.proofs.Pools.{runs_are_in_pools, same_pool-true}
-use Rattle.cmwq_laws.proofs.Worklist.{worklist_is}
+use Rattle.cmwq_active.proofs.Joined.{active_live}
+use Rattle.cmwq_active.proofs.Lists.{All_map, count_by-cons}
+use Rattle.cmwq_steps.proofs.RunsActive.{found_number}
+use Rattle.cmwq_steps.proofs.Pools.{runs_are_in_pools, same_pool-true}
+use Rattle.cmwq_steps.proofs.Worklist.{worklist_is}
 use Rattle.cmwq_pool.specs.declared.task.Task.{Task}
 use Rattle.cmwq_pool.specs.declared.seat.Seat.{Seat}
 use Rattle.cmwq_pool.specs.Seats.{no_seat, seat_at, is_holding as seat_holds, is_idle as seat_is_idle, is_occupied as seat_is_occupied, is_reserve as seat_is_reserve, is_reserve_at, is_other_idle as is_other_seat, runnable as seats_runnable, enlisted_by as seats_enlisted_by, may_retire as seat_may_retire, indices as seat_indices}

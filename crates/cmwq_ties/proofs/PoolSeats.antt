@@ -21,14 +21,14 @@ use Rattle.cmwq_model.specs.Active.{next}
 use Rattle.cmwq_model.specs.Workers.{worker_at, index_enlisted, is_in_pool, enlists, is_retired, is_enlisted, is_other_idle, is_reserve, enlisted_by}
 use Rattle.cmwq_model.specs.Answer.{started as started_reply}
 use Rattle.cmwq_model.specs.Legal.{IsLegal}
-use Rattle.cmwq_laws.specs.RunSteps.{run_after}
-use Rattle.cmwq_laws.proofs.Starts.{starts_next}
-use Rattle.cmwq_laws.proofs.StartsListed.{IsFound, queueings_found, queueing_at-older}
-use Rattle.cmwq_laws.proofs.Activated.{next_holds}
-use Rattle.cmwq_laws.proofs.RunSteps.{workers_run_on}
-use Rattle.cmwq_laws.proofs.Width.{same_worker_itself}
-use Rattle.cmwq_laws.proofs.OwedSteps.{by_itself, same_starter}
-use Rattle.cmwq_laws.proofs.Pools.{same_pool-true}
+use Rattle.cmwq_steps.specs.RunSteps.{run_after}
+use Rattle.cmwq_steps.proofs.Starts.{starts_next}
+use Rattle.cmwq_steps.proofs.StartsListed.{IsFound, queueings_found, queueing_at-older}
+use Rattle.cmwq_steps.proofs.Activated.{next_holds}
+use Rattle.cmwq_steps.proofs.RunSteps.{workers_run_on}
+use Rattle.cmwq_steps.proofs.ItemRuns.{same_worker_itself}
+use Rattle.cmwq_steps.proofs.OwedSteps.{by_itself, same_starter}
+use Rattle.cmwq_steps.proofs.Pools.{same_pool-true}
 use Rattle.cmwq_pool.specs.declared.task.Task.{Task}
 use Rattle.cmwq_pool.specs.declared.seat.Seat.{Seat}
 use Rattle.cmwq_pool.specs.Seats.{no_seat, seat_at, with_seat, with_enlisted, seat_running, seat_enlisted, seat_asleep, seat_awake, seat_free, seat_retired, enlisted_by as seats_enlisted_by}

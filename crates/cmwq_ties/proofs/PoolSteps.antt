@@ -22,18 +22,18 @@ use Rattle.cmwq_model.specs.Queueings.{queueings, still_open, queueing_at}
 use Rattle.cmwq_model.specs.Active.{activated, worklist}
 use Rattle.cmwq_model.specs.Workers.{is_enlisted, worker_at}
 use Rattle.cmwq_model.specs.Legal.{IsLegal}
-use Rattle.cmwq_laws.specs.Endings.{is_spared, is_ended, ending}
-use Rattle.cmwq_laws.specs.Activations.{is_left, is_in}
-use Rattle.cmwq_laws.proofs.Lists.{All_map, All_each}
-use Rattle.cmwq_laws.proofs.Filters.{none_found}
-use Rattle.cmwq_laws.proofs.RunsActive.{listed_pool}
-use Rattle.cmwq_laws.proofs.OneWorker.{is_at-true}
-use Rattle.cmwq_laws.proofs.Fresh.{finishes_run}
-use Rattle.cmwq_laws.proofs.ItemRuns.{run_is}
-use Rattle.cmwq_laws.proofs.RunSteps.{last_started, no_end}
-use Rattle.cmwq_laws.proofs.StartsListed.{IsFound, queueings_found, StartsListed, starts_listed}
-use Rattle.cmwq_laws.proofs.WorklistSteps.{worklists_go_on}
-use Rattle.cmwq_laws.proofs.Pools.{same_pool-true}
+use Rattle.cmwq_steps.specs.Endings.{is_spared, is_ended, ending}
+use Rattle.cmwq_steps.specs.Activations.{is_left, is_in}
+use Rattle.cmwq_active.proofs.Lists.{All_map, All_each}
+use Rattle.cmwq_steps.proofs.Filters.{none_found}
+use Rattle.cmwq_steps.proofs.RunsActive.{listed_pool}
+use Rattle.cmwq_steps.proofs.Entries.{is_at-true}
+use Rattle.cmwq_steps.proofs.Fresh.{finishes_run}
+use Rattle.cmwq_steps.proofs.ItemRuns.{run_is}
+use Rattle.cmwq_steps.proofs.RunSteps.{last_started, no_end}
+use Rattle.cmwq_steps.proofs.StartsListed.{IsFound, queueings_found, StartsListed, starts_listed}
+use Rattle.cmwq_steps.proofs.WorklistSteps.{worklists_go_on}
+use Rattle.cmwq_steps.proofs.Pools.{same_pool-true}
 use Rattle.cmwq_pool.specs.declared.task.Task.{Task}
 use Rattle.cmwq_pool.specs.Seats.{new_seat}
 use Rattle.cmwq_pool.specs.Lineup.{Lineup, new_lineup, is_not, added, removed, next_task}

@@ -8,11 +8,11 @@ use Rattle.cmwq_model.specs.declared.record.Queueing.{Queueing}
 use Rattle.cmwq_model.specs.Layout.{Layout}
 use Rattle.cmwq_model.specs.Queueings.{still_open}
 use Rattle.cmwq_model.specs.Legal.{IsLegal}
-use Rattle.cmwq_laws.specs.Endings.{is_spared, is_ended, ending}
-use Rattle.cmwq_laws.specs.Fidelity.{IsRising}
-use Rattle.cmwq_laws.proofs.Lists.{All_map, find_none}
-use Rattle.cmwq_laws.proofs.Rising.{open_rise}
-use Rattle.cmwq_laws.proofs.Ended.{one_ends}
+use Rattle.cmwq_steps.specs.Endings.{is_spared, is_ended, ending}
+use Rattle.cmwq_active.specs.Rising.{IsRising}
+use Rattle.cmwq_active.proofs.Lists.{All_map, find_none}
+use Rattle.cmwq_active.proofs.Rising.{open_rise}
+use Rattle.cmwq_steps.proofs.Ended.{one_ends}
 use Rattle.cmwq_ties.specs.Told.{number_of_queueing}
 use Rattle.cmwq_ties.proofs.Members.{In, all_in, found, filter_in, in_option}
 use Rattle.cmwq_ties.proofs.Rising.{RisesBy, rises_unique}

@@ -1,7 +1,7 @@
 -- Lists that rise by a number of each element.
 use Rattle.std.proofs.Common.{◌≡◌, ◌<◌, ◌≤◌, ℕ, Bool, true, false, cond, List, [], ◌∷◌, ◌++◌, filter, find, Some, refl, sym, ap, ◌∙◌, arith, ⊎_elim}
 use Rattle.std.specs.List.{AllByRecursion}
-use Rattle.cmwq_laws.proofs.Lists.{All_map, All_append, All_filter}
+use Rattle.cmwq_active.proofs.Lists.{All_map, All_append, All_filter}
 use Rattle.cmwq_ties.proofs.Members.{In, of_in}
 
 module _ {X : Type 0} (f : X → ℕ) where

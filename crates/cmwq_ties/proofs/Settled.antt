@@ -27,8 +27,8 @@ use Rattle.cmwq_model.specs.Widths.{is_frozen}
 use Rattle.cmwq_model.specs.Waits.{waits_for}
 use Rattle.cmwq_model.specs.Answer.{answer, wait_answer, destroy_answer, set_max_answer, fired, first_due, end_of_ticket, waiting_for, take_answer, start_of, started, finish_answer, finished, retire_answer}
 use Rattle.cmwq_model.specs.Legal.{IsLegal}
-use Rattle.cmwq_laws.proofs.Lists.{All_append}
-use Rattle.cmwq_laws.proofs.Inversions.{answer_is}
+use Rattle.cmwq_active.proofs.Lists.{All_append}
+use Rattle.cmwq_steps.proofs.Inversions.{answer_is}
 
 -- ---- replies that neither settle an item nor name one
 

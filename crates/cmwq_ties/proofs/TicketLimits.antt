@@ -8,13 +8,13 @@ use Rattle.cmwq_model.specs.declared.record.Ticket.{Ticket}
 use Rattle.cmwq_model.specs.Layout.{Layout, is_callers, may_make, has_numbers}
 use Rattle.cmwq_model.specs.Tickets.{tickets, unended, is_unended, ticket_in, is_crowded}
 use Rattle.cmwq_model.specs.Legal.{IsLegal}
-use Rattle.cmwq_laws.specs.RoomSteps.{one}
-use Rattle.cmwq_laws.specs.TicketSteps.{passes, ticket_ended}
-use Rattle.cmwq_laws.proofs.Lists.{All_map, All_append, All_filter}
-use Rattle.cmwq_laws.proofs.OfEachKind.{no_longer}
-use Rattle.cmwq_laws.proofs.Causes.{cause_of}
-use Rattle.cmwq_laws.proofs.Reasons.{legal_fits, ticket_reason}
-use Rattle.cmwq_laws.proofs.TicketSteps.{tickets_go_on}
+use Rattle.cmwq_steps.specs.Histories.{one}
+use Rattle.cmwq_steps.specs.TicketSteps.{passes, ticket_ended}
+use Rattle.cmwq_active.proofs.Lists.{All_map, All_append, All_filter}
+use Rattle.cmwq_steps.proofs.OfEachKind.{no_longer}
+use Rattle.cmwq_steps.proofs.Causes.{cause_of}
+use Rattle.cmwq_steps.proofs.Reasons.{legal_fits, ticket_reason}
+use Rattle.cmwq_steps.proofs.TicketSteps.{tickets_go_on}
 use Rattle.cmwq_ties.proofs.Members.{all_in, in_option}
 use Rattle.cmwq_ties.proofs.TicketSteps.{ticket_in_is}
 

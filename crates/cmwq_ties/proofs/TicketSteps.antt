@@ -13,10 +13,10 @@ use Rattle.cmwq_model.specs.declared.entry.Entry.{Entry}
 use Rattle.cmwq_model.specs.declared.record.Ticket.{Ticket}
 use Rattle.cmwq_model.specs.Calls.{is_by}
 use Rattle.cmwq_model.specs.Tickets.{gives_ticket, ticket_for, ticket_in, tickets, is_end_of, is_done, ends, is_unended, unended}
-use Rattle.cmwq_laws.proofs.Lists.{All_map}
-use Rattle.cmwq_laws.proofs.Given.{IsGiven, tickets_given, unended_given}
-use Rattle.cmwq_laws.specs.TicketSteps.{is_kept, is_ended_by, ticket_ended}
-use Rattle.cmwq_laws.proofs.TicketSteps.{is_done_reply, one_ticket_ends}
+use Rattle.cmwq_active.proofs.Lists.{All_map}
+use Rattle.cmwq_steps.proofs.Given.{IsGiven, tickets_given, unended_given}
+use Rattle.cmwq_steps.specs.TicketSteps.{is_kept, is_ended_by, ticket_ended}
+use Rattle.cmwq_steps.proofs.TicketSteps.{is_done_reply, one_ticket_ends}
 use Rattle.cmwq_ties.specs.Told.{number_of_ticket}
 use Rattle.cmwq_ties.proofs.Members.{In, all_in, in_filter, filter_in, option_in}
 use Rattle.cmwq_ties.proofs.Rising.{RisesBy, rises_filter, rises_snoc, rises_unique}

@@ -13,8 +13,8 @@ use Rattle.cmwq_model.specs.Runs.{item_run}
 use Rattle.cmwq_model.specs.Tickets.{unended}
 use Rattle.cmwq_model.specs.Waits.{waits_for}
 use Rattle.cmwq_model.specs.Legal.{IsLegal}
-use Rattle.cmwq_laws.specs.Endings.{ending}
-use Rattle.cmwq_laws.specs.TicketSteps.{ticket_ended}
+use Rattle.cmwq_steps.specs.Endings.{ending}
+use Rattle.cmwq_steps.specs.TicketSteps.{ticket_ended}
 use Rattle.cmwq_flush.specs.declared.barrier.Barrier.{Barrier}
 use Rattle.cmwq_flush.specs.BarrierBook.{BarrierBook, new_barriers, numbers_open, tickets_in, CanOpen, CanBegin, IsReady, after_opened, after_ended, after_begin, after_end, waits_for as book_waits_for}
 use Rattle.cmwq_ties.specs.Told.{number_of_queueing, ticket_given}

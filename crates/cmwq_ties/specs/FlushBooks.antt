@@ -11,8 +11,8 @@ use Rattle.cmwq_model.specs.Queueings.{still_open, opening}
 use Rattle.cmwq_model.specs.Tickets.{unended, is_flush_of, is_drain_of, is_draining}
 use Rattle.cmwq_model.specs.Waits.{served, is_older_flush, waits_for}
 use Rattle.cmwq_model.specs.Legal.{IsLegal}
-use Rattle.cmwq_laws.specs.Endings.{ending}
-use Rattle.cmwq_laws.specs.TicketSteps.{ticket_ended}
+use Rattle.cmwq_steps.specs.Endings.{ending}
+use Rattle.cmwq_steps.specs.TicketSteps.{ticket_ended}
 use Rattle.cmwq_flush.specs.declared.served.Served.{Served}
 use Rattle.cmwq_flush.specs.FlushBook.{FlushBook, new_book, flush_tickets, CanOpen, CanBegin, CanDrain, IsReady, after_opened, after_ended, after_begin, after_end, after_drain_begin, after_drain_end}
 use Rattle.cmwq_flush.specs.Colouring.{IsServing}

@@ -16,8 +16,8 @@ use Rattle.cmwq_model.specs.Queueings.{queueing_at}
 use Rattle.cmwq_model.specs.Active.{newly_active, worklist, next}
 use Rattle.cmwq_model.specs.Workers.{worker_at, is_enlisted, runnable, enlisted_by, is_idle, may_retire}
 use Rattle.cmwq_model.specs.Legal.{IsLegal}
-use Rattle.cmwq_laws.specs.Endings.{ending}
-use Rattle.cmwq_laws.specs.Activations.{is_in}
+use Rattle.cmwq_steps.specs.Endings.{ending}
+use Rattle.cmwq_steps.specs.Activations.{is_in}
 use Rattle.cmwq_pool.specs.declared.task.Task.{Task}
 use Rattle.cmwq_pool.specs.declared.seat.Seat.{Seat}
 use Rattle.cmwq_pool.specs.Seats.{seat_at, is_idle as is_idle_seat, runs_awake, runs_asleep, run_number, seat_asleep, seat_awake, seat_free, seat_retired, runnable as seats_runnable, enlisted_by as seats_enlisted_by, may_retire as seat_may_retire}

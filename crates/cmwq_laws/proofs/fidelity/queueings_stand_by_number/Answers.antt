@@ -1,4 +1,4 @@
-use Rattle.cmwq_laws.proofs.Rising.{queueings_rise, open_rise}
+use Rattle.cmwq_active.proofs.Rising.{queueings_rise, open_rise}
 use Rattle.cmwq_laws.proofs.fidelity.queueings_stand_by_number.Goals as goal
 
 pub returns : goal.returns

@@ -1,5 +1,5 @@
-use Rattle.cmwq_laws.proofs.Causes.{cause_of}
-use Rattle.cmwq_laws.proofs.Reasons.{number_reason}
+use Rattle.cmwq_steps.proofs.Causes.{cause_of}
+use Rattle.cmwq_steps.proofs.Reasons.{number_reason}
 use Rattle.cmwq_laws.proofs.fidelity.replies_name_themselves.Goals as goal
 
 pub returns : goal.returns

@@ -1,4 +1,4 @@
-use Rattle.cmwq_laws.proofs.StartsListed.{started_once}
+use Rattle.cmwq_laws.proofs.StartedOnce.{started_once}
 use Rattle.cmwq_laws.proofs.headline.numbers_start_once.Goals as goal
 
 pub returns : goal.returns

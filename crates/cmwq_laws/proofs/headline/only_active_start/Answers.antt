@@ -1,4 +1,4 @@
-use Rattle.cmwq_laws.proofs.WorklistSteps.{only_active_start}
+use Rattle.cmwq_laws.proofs.StartsActive.{only_active_start}
 use Rattle.cmwq_laws.proofs.headline.only_active_start.Goals as goal
 
 pub returns : goal.returns

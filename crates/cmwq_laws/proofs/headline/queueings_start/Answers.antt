@@ -1,4 +1,4 @@
-use Rattle.cmwq_laws.proofs.StartsListed.{starts_earlier}
+use Rattle.cmwq_laws.proofs.StartedOnce.{starts_earlier}
 use Rattle.cmwq_laws.proofs.headline.queueings_start.Goals as goal
 
 pub returns : goal.returns

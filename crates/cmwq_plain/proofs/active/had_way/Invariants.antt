@@ -1,6 +1,6 @@
 use Rattle.std.proofs.Common.{◌≡◌}
 use Rattle.cmwq_look.specs.Past.{upto}
-use Rattle.cmwq_laws.specs.Segments.{had_way}
+use Rattle.cmwq_active.specs.Looks.{had_way}
 use Rattle.cmwq_plain.proofs.active.had_way.Given as goal
 
 abbrev pub invariant-loop-k : goal.invariant-loop-k

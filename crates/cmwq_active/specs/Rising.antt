@@ -1,0 +1,9 @@
+-- Queueings that stand by their numbers.
+use Rattle.std.specs.Prelude.{◌<◌, List, [], ◌∷◌}
+use Rattle.std.specs.List.{AllByRecursion}
+use Rattle.cmwq_model.specs.declared.record.Queueing.{Queueing}
+
+-- each queueing has a lesser number than all after it
+abbrev pub IsRising : List Queueing → Type 0
+IsRising [] = Unit {0}
+IsRising (x ∷ xs) = AllByRecursion (λ y. x.number < y.number) xs × IsRising xs

@@ -1,5 +1,0 @@
-use Rattle.cmwq_laws.proofs.Joined.{active_go_on}
-use Rattle.cmwq_laws.proofs.activation_steps.active_go_on.Goals as goal
-
-pub returns : goal.returns
-returns c = active_go_on

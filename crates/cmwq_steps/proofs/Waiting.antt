@@ -1,0 +1,68 @@
+-- What waits, and what becomes active, after one more entry.
+use Rattle.std.proofs.Common.{◌≡◌, ℕ, ◌+◌, ◌<◌, Bool, true, false, not, ◌&&◌, ◌||◌, ◌==◌, List, [], ◌∷◌, ◌++◌, length, filter, Option, Some, None, option_to_list, cond, arith, refl, sym, ap, ap₂, ◌∙◌}
+use Rattle.std.specs.List.{AllByRecursion}
+use Rattle.std.proofs.lemmas.List.Elements.{filter-append}
+use Rattle.cmwq_model.specs.declared.entry.Entry.{Entry}
+use Rattle.cmwq_model.specs.declared.record.Queueing.{Queueing}
+use Rattle.cmwq_model.specs.Layout.{Layout}
+use Rattle.cmwq_model.specs.Queueings.{queueings, still_open, is_live, opening, is_unstarted, unstarted}
+use Rattle.cmwq_model.specs.Fate.{starts, is_started}
+use Rattle.std.specs.Option.{option_or}
+use Rattle.cmwq_model.specs.Active.{has_way, is_active, is_newly_active, newly_active}
+use Rattle.cmwq_model.specs.Legal.{IsLegal}
+use Rattle.cmwq_steps.specs.Endings.{is_spared}
+use Rattle.cmwq_steps.specs.Activations.{waits}
+use Rattle.cmwq_active.proofs.Lists.{All_each, All_filter, All_map}
+use Rattle.cmwq_steps.proofs.Filters.{filter_twice, filter_same}
+use Rattle.cmwq_steps.proofs.Active.{not_active_yet}
+use Rattle.cmwq_active.proofs.Rising.{opening_number}
+use Rattle.cmwq_steps.proofs.Endings.{open_go_on}
+use Rattle.cmwq_steps.proofs.Pending.{one_unstarted}
+use Rattle.cmwq_steps.proofs.WorklistSteps.{opening_inert}
+use Rattle.cmwq_steps.proofs.Promoted.{newly_is, newly_of_open}
+use Rattle.cmwq_steps.specs.Waiting.{waiting, candidates, has_none}
+
+flip : (a b : Bool) → (a && b) ≡ (b && a)
+flip true true = refl
+flip true false = refl
+flip false true = refl
+flip false false = refl
+
+-- filters in either order
+pub filters_flip : (p q : Queueing → Bool) (xs : List Queueing) → filter p (filter q xs) ≡ filter q (filter p xs)
+filters_flip p q xs = filter_twice p q xs ∙ (filter_same (λ x. q x && p x) (λ x. p x && q x) xs (All_each _ xs (λ x. flip (q x) (p x))) ∙ sym (filter_twice q p xs))
+
+pub all_live : (past : List Entry) → AllByRecursion (λ x. is_live past x ≡ true) (still_open past)
+all_live past = All_filter (λ x. is_live past x ≡ true) (is_live past) (queueings past) (All_each _ (queueings past) (λ x h. h))
+
+-- what is opened wasn't active before
+pub opened_waits : (s : Layout) (past : List Entry) (e : Entry) (o : Option Queueing) → opening past e ≡ o → filter (waits s past) (option_to_list o) ≡ option_to_list o
+opened_waits s past e None h = refl
+opened_waits s past e (Some x) h = ap (λ b. cond (not b) (x ∷ []) []) (not_active_yet s past x (let at = opening_number past e x h in omega arith))
+
+pub candidates_are : (s : Layout) (past : List Entry) (e : Entry) → IsLegal s (e ∷ past) → candidates s past e ≡ filter (is_spared past e) (waiting s past) ++ option_to_list (opening past e)
+candidates_are s past e legal =
+    ap (filter (waits s past)) (open_go_on s past e legal)
+    ∙ (filter-append (waits s past) (filter (is_spared past e) (still_open past)) (option_to_list (opening past e))
+    ∙ ap₂ (λ xs ys. xs ++ ys) (filters_flip (waits s past) (is_spared past e) (still_open past)) (opened_waits s past e (opening past e) refl))
+
+pub newly_are : (s : Layout) (past : List Entry) (e : Entry) → newly_active s past e ≡ filter (has_way s (e ∷ past)) (candidates s past e)
+newly_are s past e =
+    newly_of_open s past e
+    ∙ (filter_same (is_newly_active s past e) (λ x. waits s past x && has_way s (e ∷ past) x) (still_open (e ∷ past))
+        (All_map (λ x. is_live (e ∷ past) x ≡ true) _ (still_open (e ∷ past)) (λ x live. newly_is s past e x live ∙ flip (has_way s (e ∷ past) x) (waits s past x)) (all_live (e ∷ past)))
+    ∙ sym (filter_twice (has_way s (e ∷ past)) (waits s past) (still_open (e ∷ past))))
+
+still_waits : (s : Layout) (past : List Entry) (e : Entry) (x : Queueing) → is_live (e ∷ past) x ≡ true → waits s (e ∷ past) x ≡ (waits s past x && has_none s (e ∷ past) x)
+unfolding is_active
+still_waits s past e x live = ap (λ b. not (b && (is_active s past x || has_way s (e ∷ past) x))) live ∙ either (is_active s past x) (has_way s (e ∷ past) x)
+  where
+    either : (a b : Bool) → not (true && (a || b)) ≡ (not a && not b)
+    either true b = refl
+    either false true = refl
+    either false false = refl
+
+pub waiting_goes_on : (s : Layout) (past : List Entry) (e : Entry) → waiting s (e ∷ past) ≡ filter (has_none s (e ∷ past)) (candidates s past e)
+waiting_goes_on s past e =
+    filter_same (waits s (e ∷ past)) (λ x. waits s past x && has_none s (e ∷ past) x) (still_open (e ∷ past)) (All_map (λ x. is_live (e ∷ past) x ≡ true) _ (still_open (e ∷ past)) (λ x live. still_waits s past e x live) (all_live (e ∷ past)))
+    ∙ sym (filter_twice (has_none s (e ∷ past)) (waits s past) (still_open (e ∷ past)))

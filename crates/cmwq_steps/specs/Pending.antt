@@ -1,0 +1,21 @@
+-- What an item has that is pending: one unstarted queueing at most, and none while it is booked.
+use Rattle.std.specs.Prelude.{◌≡◌, ◌==◌, ◌&&◌, ℕ, Bool, true, List, filter, None, option_to_list}
+use Rattle.cmwq_model.specs.declared.entry.Entry.{Entry}
+use Rattle.cmwq_model.specs.Layout.{Layout}
+use Rattle.cmwq_model.specs.Bookings.{is_booked}
+use Rattle.cmwq_model.specs.Queueings.{still_open, is_unstarted, unstarted}
+use Rattle.cmwq_model.specs.Legal.{IsLegal}
+use Rattle.cmwq_model.specs.declared.record.Queueing.{Queueing}
+use Rattle.cmwq_model.specs.Fate.{is_started}
+
+-- of an item's open queueings one at most hasn't started
+abbrev pub OneUnstarted : Type 0
+OneUnstarted = (s : Layout) (past : List Entry) (i : ℕ) → IsLegal s past → filter (is_unstarted past i) (still_open past) ≡ option_to_list (unstarted past i)
+
+-- an item that is booked has no unstarted queueing
+abbrev pub BookedOrUnstarted : Type 0
+BookedOrUnstarted = (s : Layout) (past : List Entry) (i : ℕ) → IsLegal s past → is_booked past i ≡ true → unstarted past i ≡ None
+
+-- its run: it has started
+abbrev pub is_run_of : List Entry → ℕ → Queueing → Bool
+is_run_of past i x = (x.item.0 == i) && is_started past x.number
