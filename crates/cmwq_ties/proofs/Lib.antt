@@ -27,3 +27,5 @@ pub mod PoolSeats
 pub mod PoolSteps
 pub mod PoolMay
 pub mod PoolAdds
+pub mod TicketRows
+pub mod TicketsFollow

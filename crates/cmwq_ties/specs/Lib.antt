@@ -4,3 +4,4 @@ pub mod FlushBooks
 pub mod BarrierBooks
 pub mod Pools
 pub mod Places
+pub mod Tickets
