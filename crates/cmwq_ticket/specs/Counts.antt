@@ -7,7 +7,7 @@ use Rattle.cmwq_model.specs.Tickets.{is_cancel_sync_of, is_destroy_of, is_drain_
 use Rattle.cmwq_ticket.specs.declared.counts.TheConstants.{ITEMS, QUEUES}
 use Rattle.cmwq_ticket.specs.declared.counts.Counts.{Counts}
 
--- a call that names an item or a queue without a count can't be counted
+-- the item or queue that a call cancels, drains or destroys has a count
 abbrev pub is_counted : Call → Bool
 is_counted (call.CancelSync i) = nat_lt i.0 ITEMS
 is_counted (call.Drain q) = nat_lt q.0 QUEUES
@@ -46,6 +46,7 @@ HasCount (call.Drain q) a = HasSome q.0 a.drains
 HasCount (call.Destroy q) a = HasSome q.0 a.destroys × HasSome q.0 a.drains
 HasCount c a = Unit {0}
 
+-- each count may rise by one
 abbrev pub IsBelow : ℕ → Type 0
 IsBelow n = n < 65535
 

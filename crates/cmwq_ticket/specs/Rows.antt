@@ -39,7 +39,7 @@ is_being_destroyed rows q = list_any (list_any (is_destroy_of q)) rows
 abbrev pub is_draining : Rows → ℕ → Bool
 is_draining rows q = list_any (list_any (is_drain_of q)) rows
 
--- a ticket may be given to a caller that isn't crowded, where its number is later than those the caller has
+-- a ticket may be given to a caller that isn't crowded, where its number is later than those the caller has, and its call has its counts
 abbrev pub comes_before : Ticket → Ticket → Bool
 comes_before t u = nat_lt u.number t.number
 

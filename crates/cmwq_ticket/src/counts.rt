@@ -4,10 +4,10 @@ ghost use Rattle.cmwq_ticket.specs.Counts.{is_counted, no_counts, more_at, less_
 use cmwq_model::Call;
 
 /// How many items there are at most.
-pub const ITEMS: usize = 256;
+pub(crate) const ITEMS: usize = 256;
 
 /// How many queues there are at most.
-pub const QUEUES: usize = 64;
+pub(crate) const QUEUES: usize = 64;
 
 /// How many unended tickets are cancel_syncs of each item, destroys of each queue, and drains or destroys of each queue.
 #[derive(Debug, Drop)]

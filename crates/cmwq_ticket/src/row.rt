@@ -7,7 +7,7 @@ use std::alloc::{AllocError, Global};
 use std::marker::Model;
 
 /// How many unended tickets a caller may have.
-pub const TICKETS_OF_CALLER: usize = 64;
+pub(crate) const TICKETS_OF_CALLER: usize = 64;
 
 /// The unended tickets of one caller. There is room for 64.
 #[derive(Debug, Drop)]
@@ -78,6 +78,7 @@ impl Row {
     }
 }
 
+/// Takes out the ticket with this number.
 fn remove_ticket(tickets: &mut Vec<Ticket>, number: Number)
     ensures rest { tickets.new.items ≡ filter (is_other number) tickets.old.items }
     ensures room { vec_capacity tickets.new ≡ vec_capacity tickets.old }

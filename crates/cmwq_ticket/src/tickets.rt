@@ -113,7 +113,7 @@ impl Tickets {
     }
 
     /// Whether a ticket may be given: its caller is one of these and isn't crowded, its number is later than those of the
-    /// caller's unended tickets, and an item that it cancels, or a queue that it drains or destroys, is within the limits.
+    /// caller's unended tickets, and an item that it cancels is below 256, a queue that it drains or destroys below 64.
     pub fn may_give(&self, ticket: &Ticket) -> bool
         ensures { result ≡ may_give self.now ticket.now }
     {
@@ -125,7 +125,7 @@ impl Tickets {
         row.len() < TICKETS_OF_CALLER && row.are_before(ticket) && is_counted(ticket.call)
     }
 
-    /// Gives a ticket to its caller.
+    /// Gives a ticket to its caller, which begins to wait (`flush_workqueue`, `cancel_work_sync` and the like, up to their wait).
     pub fn give(&mut self, ticket: Ticket)
         requires { IsTrue (may_give self.old ticket) }
         ensures { self.new ≡ given self.old ticket }
@@ -136,7 +136,7 @@ impl Tickets {
         self.len += 1;
     }
 
-    /// A caller's ticket with this number is ended.
+    /// Ends a caller's unended ticket with this number (the return of the call that waits).
     pub fn end(&mut self, caller: CallerId, number: Number)
         requires { IsSome (ticket_of self.old caller.0 number) }
         ensures { self.new ≡ ended self.old caller.0 number }
