@@ -9,7 +9,7 @@ use Rattle.cmwq_model.specs.Widths.{width, max_active, is_frozen, frozen_after, 
 use Rattle.std.specs.Option.{option_map_or}
 use Rattle.cmwq_active.specs.Looks.{keeps_widths}
 
-frozen_same : (r : Reply) (b : Bool) → keeps_widths r ≡ true → frozen_after r b ≡ b
+pub frozen_same : (r : Reply) (b : Bool) → keeps_widths r ≡ true → frozen_after r b ≡ b
 frozen_same reply.Frozen b h = cc
 frozen_same reply.Thawed b h = cc
 frozen_same r b h = refl
@@ -18,7 +18,7 @@ told_none : (r : Reply) → keeps_widths r ≡ true → width_told r ≡ None
 told_none (reply.Width n) h = cc
 told_none r h = refl
 
-max_same : (s : Layout) (past : List Entry) (e : Entry) (q : ℕ) → keeps_widths e.reply ≡ true → max_active s (e ∷ past) q ≡ max_active s past q
+pub max_same : (s : Layout) (past : List Entry) (e : Entry) (q : ℕ) → keeps_widths e.reply ≡ true → max_active s (e ∷ past) q ≡ max_active s past q
 unfolding max_active
 max_same s past e q h = ap (λ o. option_map_or (λ n. n) (if sets_max e.call q then o else None) (max_active s past q)) (told_none e.reply h) ∙ either (sets_max e.call q)
   where

@@ -40,6 +40,7 @@ ended_early = (
   (λ law. false_is_true ((law.0 1 _ (refl, refl) refl).0 refl)),
   (λ law. false_is_true ((law.0 1 _ (refl, refl) refl).0 refl)),
   (λ law. false_is_true ((law.0 1 _ (refl, refl) refl).0 refl)),
+  (λ law. false_is_true ((law.0 1 _ (refl, refl) refl).0 refl)),
 )
 
 pub unsettled : Unsettled

@@ -83,6 +83,7 @@ abbrev pub EndedEarly : Type 0
 EndedEarly =
     (WaitsEndAfter (ended_early (call.Flush (record { 0 = 0 }))) → ⊥) × (WaitsEndAfter (ended_early (call.FlushItem (record { 0 = 0 }))) → ⊥)
     × (WaitsEndAfter (ended_early (call.FlushDelayed (record { 0 = 0 }))) → ⊥) × (WaitsEndAfter (ended_early (call.Drain (record { 0 = 0 }))) → ⊥)
+    × (WaitsEndAfter (ended_early (call.Destroy (record { 0 = 0 }))) → ⊥)
 
 -- a cancel_sync is done while the item is pending, and while it runs
 abbrev pub done_while_pending : List Entry

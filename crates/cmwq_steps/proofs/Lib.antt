@@ -11,6 +11,7 @@ pub mod Filters
 pub mod Fresh
 pub mod Fronts
 pub mod Given
+pub mod Growing
 pub mod Inversions
 pub mod ItemRuns
 pub mod ItemSteps
@@ -25,6 +26,7 @@ pub mod OwedFrozen
 pub mod OwedItems
 pub mod OwedSteps
 pub mod OwedWaiting
+pub mod Owing
 pub mod Pending
 pub mod PendingSteps
 pub mod Points
@@ -35,6 +37,7 @@ pub mod QueueCases
 pub mod Queued
 pub mod Ranks
 pub mod Reasons
+pub mod Refusals
 pub mod RunSteps
 pub mod RunsActive
 pub mod Standing
@@ -43,6 +46,7 @@ pub mod StartsListed
 pub mod StateSteps
 pub mod TakeCases
 pub mod TicketSteps
+pub mod Truth
 pub mod Unstarted
 pub mod Waiting
 pub mod Way

@@ -1,7 +1,9 @@
 pub mod Activations
 pub mod Endings
+pub mod Growing
 pub mod Histories
 pub mod ItemQueueings
+pub mod Legality
 pub mod Limits
 pub mod Marks
 pub mod Order
@@ -10,6 +12,7 @@ pub mod Places
 pub mod Pools
 pub mod Queued
 pub mod Reasons
+pub mod Refusals
 pub mod RoomSteps
 pub mod RunSteps
 pub mod StateSteps

@@ -1,5 +1,5 @@
 -- What a history owes after one more entry, and so which replies are never refused for want of room.
-use Rattle.std.specs.Prelude.{◌≡◌, ℕ, ◌+◌, ◌≤◌, Bool, true, false, ◌&&◌, List, ◌∷◌, length, count_by, is_some}
+use Rattle.std.specs.Prelude.{◌≡◌, ℕ, ◌+◌, ◌*◌, [], ◌≤◌, Bool, true, false, ◌&&◌, List, ◌∷◌, length, count_by, is_some}
 use Rattle.std.specs.List.{range_with_len}
 use Rattle.std.specs.Option.{option_map_or}
 use Rattle.cmwq_model.specs.declared.reply.Reply.{Reply}
@@ -13,7 +13,7 @@ use Rattle.cmwq_model.specs.Runs.{has_run, runs_asleep}
 use Rattle.cmwq_model.specs.Queueings.{still_open, opening}
 use Rattle.cmwq_model.specs.Tickets.{gives_ticket, is_done, unended}
 use Rattle.cmwq_model.specs.Widths.{is_frozen}
-use Rattle.cmwq_model.specs.Room.{workers, has_not_started, needed}
+use Rattle.cmwq_model.specs.Room.{owed, workers, has_not_started, needed}
 use Rattle.cmwq_steps.specs.Endings.{ending}
 use Rattle.cmwq_steps.specs.Histories.{one, OfEntries}
 
@@ -75,6 +75,25 @@ is_thawed_now r = false
 
 abbrev pub FrozenAreCounted : Type 0
 FrozenAreCounted = OfEntries (λ s past e. one (is_frozen (e ∷ past)) + one (is_thawed_now e.reply) ≡ one (is_frozen past) + one (is_frozen_now e.reply))
+
+-- ---- so what is owed: what it was, less what the entry pays off, and what it takes on
+
+abbrev pub paid : List Entry → Entry → ℕ
+paid past e =
+    2 * one (is_some (number_started e.reply)) + 2 * one (ends_unstarted past e) + one (is_some (number_finished e.reply)) + one (is_woke e.reply)
+    + 3 * one (settles_booked past e) + one (is_done e.reply) + one (is_thawed_now e.reply)
+
+abbrev pub taken_on : List Entry → Entry → ℕ
+taken_on past e =
+    2 * one (is_some (opening past e)) + one (is_some (number_started e.reply)) + one (is_slept e.reply)
+    + 3 * one (is_some (booking_of e (length past))) + one (gives_ticket e.reply) + one (is_frozen_now e.reply)
+
+abbrev pub OwedGoesOn : Type 0
+OwedGoesOn = OfEntries (λ s past e. owed s (e ∷ past) + paid past e ≡ owed s past + taken_on past e)
+
+-- nothing at first
+abbrev pub NothingOwedAtFirst : Type 0
+NothingOwedAtFirst = (s : Layout) → owed s [] ≡ 0
 
 -- ---- room
 

@@ -1,6 +1,6 @@
 //! What a history owes after one more entry, and which replies are never refused for want of room.
 
-ghost use Rattle.cmwq_steps.specs.RoomSteps.{WaitingAreCounted, RunsAreCounted, SleepersAreCounted, BookedAreCounted, TicketsAreCounted, FrozenAreCounted, PromisedNeedNoMore};
+ghost use Rattle.cmwq_steps.specs.RoomSteps.{WaitingAreCounted, RunsAreCounted, SleepersAreCounted, BookedAreCounted, TicketsAreCounted, FrozenAreCounted, PromisedNeedNoMore, OwedGoesOn, NothingOwedAtFirst};
 
 /// One less waits for what is started, and for what is ended unstarted, and one more for what is opened.
 pub fn waiting_are_counted()
@@ -35,4 +35,14 @@ pub fn promised_need_no_more()
 /// One more is owed where the system is frozen, and one less where it is thawed.
 pub fn frozen_is_counted()
     ensures { FrozenAreCounted }
+{}
+
+/// What is owed after an entry: what it was, less what the entry pays off, and what it takes on.
+pub fn owed_goes_on()
+    ensures { OwedGoesOn }
+{}
+
+/// Nothing is owed at first.
+pub fn nothing_owed_at_first()
+    ensures { NothingOwedAtFirst }
 {}
