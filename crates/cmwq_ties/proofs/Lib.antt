@@ -31,3 +31,5 @@ pub mod FlightKinds
 pub mod FlightSteps
 pub mod FlightFollow
 pub mod FlightReads
+pub mod TicketRows
+pub mod TicketsFollow

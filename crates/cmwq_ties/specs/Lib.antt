@@ -5,3 +5,4 @@ pub mod BarrierBooks
 pub mod Pools
 pub mod Places
 pub mod Flights
+pub mod Tickets

@@ -1,4 +1,4 @@
-//! The values of pools, flush books, barriers, timers and flights follow a history: theorems that tie them to the definitions,
+//! The values of pools, flush books, barriers, timers, flights and tickets follow a history: theorems that tie them to the definitions,
 //! which no running code needs.
 #![tactic(auto)]
 
@@ -7,6 +7,7 @@ mod flights;
 mod flush_books;
 mod places;
 mod pools;
+mod tickets;
 mod timers;
 
 pub use barrier_books::{
@@ -28,6 +29,11 @@ pub use pools::{
     active_may_be_added, idle_retire_alike, nexts_are_next, pools_at_first, pools_follow,
     runnables_are_runnable, seats_are_workers, seats_for_workers, starts_enlist_alike,
     workers_may_be_told,
+};
+pub use tickets::{
+    all_tickets_are_counted, cancelling_alike, crowded_alike, destroyed_alike, draining_alike,
+    no_tickets_at_first, rows_for_callers, tickets_follow, tickets_found_alike,
+    tickets_may_be_told, tickets_of_any_caller,
 };
 pub use timers::{
     bookings_set_timers, first_timer_is_first_due, no_timer_is_none_due, no_timers_at_first,
