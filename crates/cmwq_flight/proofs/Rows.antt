@@ -59,10 +59,6 @@ pub no_key : (slab : Slab Queueing) (i : ℕ) (o : Option ℕ) → NamesOneOf sl
 no_key slab i None names none = refl
 no_key slab i (Some x) names none = absurd (some_named (get slab x) i names none)
 
-pub some_key : (slab : Slab Queueing) (o : Option ℕ) → is_some (option_and_then (get slab) o) ≡ true → is_some o ≡ true
-some_key slab None some = cc
-some_key slab (Some x) some = refl
-
 pub same_some : (slab : Slab Queueing) (i : ℕ) (o : Option ℕ) → NamesOneOf slab i o → is_some (option_and_then (get slab) o) ≡ is_some o
 same_some slab i None names = refl
 same_some slab i (Some x) names = by (get slab x) names

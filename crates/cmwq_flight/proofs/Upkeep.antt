@@ -51,12 +51,6 @@ open_are_held slab rows kept =
     let others = count_alike has_unstarted has_unstarted_key slab rows (λ i. same_some slab i (keys_at rows i).unstarted (kept.keys i).unstarted) in
     kept.counted ∙ ap₂ (λ m n. m + n) (sym runs) (sym others)
 
-pub open_are_few : (slab : Slab Queueing) (rows : List Keys) → IsKept slab rows → slab_len slab < 4294967296
-open_are_few slab rows kept =
-    let runs = count_by-le-length has_run_key rows in
-    let others = count_by-le-length has_unstarted_key rows in
-    omega (arith, runs, others, kept.counted, kept.few)
-
 -- ---- a step: item i's row gets other keys
 
 pub record IsStep (old new : Slab Queueing) (rows : List Keys) (i : ℕ) (keys : Keys) : Type 0 where
