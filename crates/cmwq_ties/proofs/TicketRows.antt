@@ -11,6 +11,7 @@ use Rattle.cmwq_model.specs.declared.record.Ticket.{Ticket}
 use Rattle.cmwq_model.specs.Tickets.{is_held_by}
 use Rattle.cmwq_active.proofs.Lists.{count_by-cons, find_none}
 use Rattle.cmwq_steps.proofs.Filters.{filter_twice, filter_same, none_found}
+use Rattle.cmwq_steps.proofs.Truth.{flip, or_true}
 use Rattle.cmwq_ticket.specs.Rows.{Rows, row_of, is_numbered, is_other, given, ended, count}
 use Rattle.cmwq_ties.specs.Told.{number_of_ticket}
 use Rattle.cmwq_ties.specs.Tickets.{the_caller, tickets_held, rows_of, told_given}
@@ -44,15 +45,9 @@ rows_told n ts (Some t) there = rows_given n ts t (there t refl)
 pub rows_ended : (n : ℕ) (ts : List Ticket) (u : Ticket) → RisesBy number_of_ticket ts → In u ts → u.caller.0 < n → ended (rows_of n ts) u.caller.0 u.number ≡ rows_of n (filter (is_other u.number) ts)
 rows_ended n ts u rise there less = sym (set_row (tickets_held ts) (tickets_held (filter (is_other u.number) ts)) n u.caller.0 (filter (is_other u.number) (row_of (rows_of n ts) u.caller.0)) here others)
   where
-    swap : (a b : Bool) → (a && b) ≡ (b && a)
-    swap true true = refl
-    swap true false = refl
-    swap false true = refl
-    swap false false = refl
-
     here : tickets_held (filter (is_other u.number) ts) u.caller.0 ≡ filter (is_other u.number) (row_of (rows_of n ts) u.caller.0)
     here = filter_twice (is_held_by (the_caller u.caller.0)) (is_other u.number) ts
-        ∙ filter_same (λ t. is_other u.number t && is_held_by (the_caller u.caller.0) t) (λ t. is_held_by (the_caller u.caller.0) t && is_other u.number t) ts (all_in _ ts (λ t i. swap (is_other u.number t) (is_held_by (the_caller u.caller.0) t)))
+        ∙ filter_same (λ t. is_other u.number t && is_held_by (the_caller u.caller.0) t) (λ t. is_held_by (the_caller u.caller.0) t && is_other u.number t) ts (all_in _ ts (λ t i. flip (is_other u.number t) (is_held_by (the_caller u.caller.0) t)))
         ∙ sym (filter_twice (is_other u.number) (is_held_by (the_caller u.caller.0)) ts)
         ∙ ap (filter (is_other u.number)) (sym (row_is n ts u.caller.0 less))
 
@@ -100,11 +95,7 @@ module _ {X : Type 0} (p : X → Bool) where
 
   in_any : (xs : List X) (x : X) → In x xs → p x ≡ true → list_any p xs ≡ true
   in_any [] x i h = absurd i
-  in_any (y ∷ ys) x i h = ⊎_elim (λ e. ap (λ b. b || list_any p ys) (ap p e ∙ h)) (λ k. ap (λ b. p y || b) (in_any ys x k h) ∙ last (p y)) i
-    where
-      last : (b : Bool) → (b || true) ≡ true
-      last true = refl
-      last false = refl
+  in_any (y ∷ ys) x i h = ⊎_elim (λ e. ap (λ b. b || list_any p ys) (ap p e ∙ h)) (λ k. ap (λ b. p y || b) (in_any ys x k h) ∙ or_true (p y)) i
 
   -- one that is the only one to pass is found
   only_found : (xs : List X) (x : X) → In x xs → p x ≡ true → ((y : X) → In y xs → p y ≡ true → y ≡ x) → find p xs ≡ Some x

@@ -16,6 +16,7 @@ use Rattle.cmwq_active.proofs.Lists.{All_map, All_filter, All_each, count_by-fil
 use Rattle.cmwq_steps.specs.TicketSteps.{is_kept, ticket_ended}
 use Rattle.cmwq_steps.proofs.Filters.{filter_same, count_by-wider}
 use Rattle.cmwq_steps.proofs.TicketSteps.{unended_go_on}
+use Rattle.cmwq_steps.proofs.Truth.{and_true, and_false}
 use Rattle.cmwq_ticket.specs.Counts.{is_counted}
 use Rattle.cmwq_ticket.specs.Rows as row
 use Rattle.cmwq_ticket.specs.Rows.{Rows, row_of, is_numbered, is_other, comes_before, any_ticket, may_give, count}
@@ -160,17 +161,9 @@ tickets_found_alike s past c n less = ap (find (is_numbered n)) (row_is s.caller
         choice : Bool → Option Ticket
         choice b = cond b (Some t) (find (is_numbered n) rest)
 
-        both : (a : Bool) → (a && true) ≡ a
-        both true = refl
-        both false = refl
-
-        neither : (a : Bool) → (a && false) ≡ false
-        neither true = refl
-        neither false = refl
-
         first : (b : Bool) → find (is_numbered n) (cond b (t ∷ rest) rest) ≡ cond (is_numbered n t && b) (Some t) (find (is_numbered n) rest)
-        first true = ap choice (sym (both (is_numbered n t)))
-        first false = ap choice (sym (neither (is_numbered n t)))
+        first true = ap choice (sym (and_true (is_numbered n t)))
+        first false = ap choice (sym (and_false (is_numbered n t)))
 
 pub tickets_of_any_caller : (s : Layout) (past : List Entry) (n : ℕ) → IsLegal s past → any_ticket (tickets_of s past) n ≡ find (is_numbered n) (unended past)
 tickets_of_any_caller s past n legal = rows_find s.callers (unended past) (unended_there s past legal) n (unended_rise past)
