@@ -21,6 +21,21 @@ use Rattle.cmwq_base.specs.Kinds.{calls_kind, call_file_of, history_kind, histor
 use Rattle.cmwq_base.specs.Stages.{IsWithin}
 use Rattle.cmwq_base.proofs.Progress.{line_grows, end_sound}
 
+-- ---- what must have been where a file was read
+
+module _ {X : Type 0} where
+  pub no_cut : (n : ℕ) (stage : Stage X) (f : File X) (b : Bool) → (if b then Err refusal.TooLong else Err (after_cut n stage)) ≡ Ok f → ⊥
+  no_cut n stage f true h = cc
+  no_cut n stage f false h = cc
+
+  pub short_goes : (b : Bool) (r : Result (File X) Refusal) (f : File X) → (if b then Err refusal.TooLong else r) ≡ Ok f → r ≡ Ok f
+  short_goes true r f h = cc
+  short_goes false r f h = h
+
+  pub next_goes : (g : Stage X → Result (File X) Refusal) (r : Result (Stage X) Refusal) (f : File X) → and_then g r ≡ Ok f → (next : Stage X) × (r ≡ Ok next) × (g next ≡ Ok f)
+  next_goes g (Ok next) f h = (next, refl, h)
+  next_goes g (Err e) f h = cc
+
 -- ---- a text that is read is read through stages, one for each line
 
 module _ {X : Type 0} (k : Kind X) (Holds : Stage X → Type 0) (kept : (n : ℕ) (stage next : Stage X) (line : List ℕ) → Holds stage → after_line k n stage line ≡ Ok next → Holds next) where
@@ -31,21 +46,9 @@ module _ {X : Type 0} (k : Kind X) (Holds : Stage X → Type 0) (kept : (n : ℕ
     holds : Holds stage
     is : at_end number stage ≡ Ok f
 
-  no_cut : (n : ℕ) (stage : Stage X) (f : File X) (b : Bool) → (if b then Err refusal.TooLong else Err (after_cut n stage)) ≡ Ok f → ⊥
-  no_cut n stage f true h = cc
-  no_cut n stage f false h = cc
-
   last_ends : (n : ℕ) (stage : Stage X) (last : List ℕ) (f : File X) → Holds stage → after_last n stage last ≡ Ok f → EndsAt f
   last_ends n stage [] f holds h = record { number = n; stage = stage; holds = holds; is = h }
   last_ends n stage (b ∷ bs) f holds h = absurd (no_cut n stage f (is_long (b ∷ bs)) h)
-
-  short_goes : (b : Bool) (r : Result (File X) Refusal) (f : File X) → (if b then Err refusal.TooLong else r) ≡ Ok f → r ≡ Ok f
-  short_goes true r f h = cc
-  short_goes false r f h = h
-
-  next_goes : (g : Stage X → Result (File X) Refusal) (r : Result (Stage X) Refusal) (f : File X) → and_then g r ≡ Ok f → (next : Stage X) × (r ≡ Ok next) × (g next ≡ Ok f)
-  next_goes g (Ok next) f h = (next, refl, h)
-  next_goes g (Err e) f h = cc
 
   pieces_end : (ps : List (List ℕ)) (n : ℕ) (stage : Stage X) (f : File X) → Holds stage → after_pieces k n stage ps ≡ Ok f → EndsAt f
   unfolding after_pieces

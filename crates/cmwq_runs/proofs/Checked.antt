@@ -1,11 +1,9 @@
 -- What `step` and `upgrade` write is read again, and is legal: so `check` finds nothing wrong in it.
-use Rattle.std.proofs.Common.{◌≡◌, ◌⊎◌, inl, inr, ◌≤◌, ℕ, List, [], Result, Ok, Err, Option, None, Some, length, refl, sym, ap, ◌∙◌, subst, arith}
+use Rattle.std.proofs.Common.{◌≡◌, inl, inr, ◌≤◌, ℕ, List, Result, Ok, Err, None, Some, length, refl, sym, ◌∙◌, subst, arith}
 use Rattle.std.specs.Prelude.{reverse, IsTrue}
 use Rattle.std.specs.List.{All, AllByRecursion}
 use Rattle.std.proofs.lemmas.List.{reverse-reverse, length-reverse}
 use Rattle.std.proofs.lemmas.List.Elements.{All-from_recursion, recursion_from_All}
-use Rattle.cmwq_model.specs.declared.id.Who.{Who}
-use Rattle.cmwq_model.specs.declared.call.Call.{Call}
 use Rattle.cmwq_model.specs.declared.entry.Entry.{Entry}
 use Rattle.cmwq_model.specs.declared.verdict.Illegal.{Illegal}
 use Rattle.cmwq_model.specs.Layout.{Layout, fits}
@@ -20,7 +18,7 @@ use Rattle.cmwq_base.specs.Files.{File}
 use Rattle.cmwq_base.specs.Kinds.{history_file_of}
 use Rattle.cmwq_base.proofs.Again.{histories_read_again}
 use Rattle.cmwq_base.proofs.Sound.{calls_are_read, history_is_read, IsCallInside}
-use Rattle.cmwq_engine.specs.Check.{IsVerdict, CheckEnds, check_status}
+use Rattle.cmwq_engine.specs.Check.{IsVerdict}
 use Rattle.cmwq_engine.specs.Step.{steps_in, answer_text}
 use Rattle.cmwq_runs.specs.Checks.{newest, history_in, IsLegalText, StepIsChecked, UpgradeIsChecked, PassesCheck, StepsPassCheck, UpgradesPassCheck}
 use Rattle.cmwq_runs.proofs.Stepped.{steps_are_few, steps_are_of, all_reversed}

@@ -1,5 +1,5 @@
 -- The entries that steps make are of their calls, and no more than these.
-use Rattle.std.proofs.Common.{◌≡◌, ◌≤◌, ◌<◌, ◌+◌, ◌-◌, ℕ, Bool, true, false, List, [], ◌∷◌, length, get_or, refl, subst, sym, arith}
+use Rattle.std.proofs.Common.{◌≤◌, ◌<◌, ◌+◌, ◌-◌, ℕ, Bool, true, false, List, [], ◌∷◌, length, subst, sym, arith}
 use Rattle.std.specs.Prelude.{fold, if◌then◌else◌, reverse}
 use Rattle.std.specs.List.{All, AllByRecursion}
 use Rattle.std.proofs.lemmas.List.{get_or-reverse, length-reverse}

@@ -1,6 +1,6 @@
 -- What is read of a line is inside the ranges of its types: a number above its limit is refused, and an id above its type's greatest number is
 -- read as that number.
-use Rattle.std.proofs.Common.{◌≡◌, ℕ, ◌≤◌, ◌+◌, ◌&&◌, List, [], ◌∷◌, eqb, get_or, take, drop, Option, Some, None, arith, subst, cond, ◌∙◌, ◌⊎◌, inl, inr, min}
+use Rattle.std.proofs.Common.{◌≡◌, ℕ, ◌≤◌, ◌+◌, ◌&&◌, List, [], ◌∷◌, eqb, get_or, take, drop, Option, Some, None, arith, subst, cond, ◌∙◌, inl, inr, min}
 use Rattle.std.specs.Prelude.{codes, position}
 use Rattle.std.proofs.lemmas.Option.{same_Some}
 use Rattle.cmwq_model.specs.declared.id.ItemId.{ItemId}
