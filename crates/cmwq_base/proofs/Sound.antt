@@ -38,7 +38,8 @@ module _ {X : Type 0} where
 
 -- ---- a text that is read is read through stages, one for each line
 
-module _ {X : Type 0} (k : Kind X) (Holds : Stage X → Type 0) (kept : (n : ℕ) (stage next : Stage X) (line : List ℕ) → Holds stage → after_line k n stage line ≡ Ok next → Holds next) where
+module _ {X : Type 0} (k : Kind X) (Holds : Stage X → Type 0)
+    (kept : (n : ℕ) (stage next : Stage X) (line : List ℕ) → Holds stage → after_line k n stage line ≡ Ok next → Holds next) where
   -- the last stage, at whose end the file was
   record EndsAt (f : File X) : Type 0 where
     number : ℕ
@@ -90,21 +91,25 @@ module _ {X : Type 0} (k : Kind X) (P : X → Type 0) (reads : (v : ℕ) (line :
   queue_has n v c qs None next h = cc
   queue_has n v c qs (Some q) next h = let is : head v c (qs ++ q ∷ []) ≡ next = cc in subst Has is tt
 
-  queue_line_has : (n v : ℕ) (c : Counts) (qs : List QueueShape) (line : List ℕ) (next : Stage X) (b : Bool) → (if b then Err (refusal.BadShape n) else with_queue n v c qs (k.queue_of v line)) ≡ Ok next → Has next
+  queue_line_has : (n v : ℕ) (c : Counts) (qs : List QueueShape) (line : List ℕ) (next : Stage X) (b : Bool)
+      → (if b then Err (refusal.BadShape n) else with_queue n v c qs (k.queue_of v line)) ≡ Ok next → Has next
   queue_line_has n v c qs line next true h = cc
   queue_line_has n v c qs line next false h = queue_has n v c qs (k.queue_of v line) next h
 
-  item_has : (n v : ℕ) (s : Layout) (xs : List X) (x : X) (next : Stage X) (b : Bool) → P x → Has (body v s xs) → (if b then Ok (body v s (xs ++ x ∷ [])) else Err (refusal.NoSuchId n)) ≡ Ok next → Has next
+  item_has : (n v : ℕ) (s : Layout) (xs : List X) (x : X) (next : Stage X) (b : Bool) → P x → Has (body v s xs)
+      → (if b then Ok (body v s (xs ++ x ∷ [])) else Err (refusal.NoSuchId n)) ≡ Ok next → Has next
   item_has n v s xs x next true own has h =
       let is : body v s (xs ++ x ∷ []) ≡ next = cc in
       subst Has is (has.0, All-push P xs x has.1 own)
   item_has n v s xs x next false own has h = cc
 
-  with_item_has : (n v : ℕ) (s : Layout) (xs : List X) (line : List ℕ) (o : Option X) (next : Stage X) → k.item_of v line ≡ o → Has (body v s xs) → with_item k n v s xs o ≡ Ok next → Has next
+  with_item_has : (n v : ℕ) (s : Layout) (xs : List X) (line : List ℕ) (o : Option X) (next : Stage X) → k.item_of v line ≡ o → Has (body v s xs)
+      → with_item k n v s xs o ≡ Ok next → Has next
   with_item_has n v s xs line None next is has h = cc
   with_item_has n v s xs line (Some x) next is has h = item_has n v s xs x next (k.fits_in s x) (reads v line x is) has h
 
-  item_line_if : (n v : ℕ) (s : Layout) (xs : List X) (line : List ℕ) (next : Stage X) (b : Bool) → Has (body v s xs) → (if b then Err refusal.TooLong else with_item k n v s xs (k.item_of v line)) ≡ Ok next → Has next
+  item_line_if : (n v : ℕ) (s : Layout) (xs : List X) (line : List ℕ) (next : Stage X) (b : Bool) → Has (body v s xs)
+      → (if b then Err refusal.TooLong else with_item k n v s xs (k.item_of v line)) ≡ Ok next → Has next
   item_line_if n v s xs line next true has h = cc
   item_line_if n v s xs line next false has h = with_item_has n v s xs line (k.item_of v line) next refl has h
 
@@ -117,7 +122,8 @@ module _ {X : Type 0} (k : Kind X) (P : X → Type 0) (reads : (v : ℕ) (line :
   first_item_has n v c qs line next true inside h = item_line_has n v (layout_of c qs) [] line next (inside, All-nil P) h
   first_item_has n v c qs line next false inside h = cc
 
-  head_has : (n v : ℕ) (c : Counts) (qs : List QueueShape) (line : List ℕ) (next : Stage X) (b : Bool) → (if b then queue_line k n v c qs line else first_item k n v (shape_made c qs) line) ≡ Ok next → Has next
+  head_has : (n v : ℕ) (c : Counts) (qs : List QueueShape) (line : List ℕ) (next : Stage X) (b : Bool)
+      → (if b then queue_line k n v c qs line else first_item k n v (shape_made c qs) line) ≡ Ok next → Has next
   head_has n v c qs line next true h = queue_line_has n v c qs line next (nat_le 64 (length qs)) h
   head_has n v c qs line next false h = first_item_has n v c qs line next (is_layout (layout_of c qs)) refl h
 
@@ -133,7 +139,8 @@ module _ {X : Type 0} (k : Kind X) (P : X → Type 0) (reads : (v : ℕ) (line :
   abbrev HasEach : File X → Type 0
   HasEach f = IsTrue (is_layout f.layout) × All P f.items
 
-  shape_has : (n v : ℕ) (c : Counts) (qs : List QueueShape) (f : File X) (b : Bool) → is_layout (layout_of c qs) ≡ b → without_items n v (if b then Some (layout_of c qs) else None) ≡ Ok f → HasEach f
+  shape_has : (n v : ℕ) (c : Counts) (qs : List QueueShape) (f : File X) (b : Bool) → is_layout (layout_of c qs) ≡ b
+      → without_items n v (if b then Some (layout_of c qs) else None) ≡ Ok f → HasEach f
   shape_has n v c qs f true inside h =
       let is : record { version = v; layout = layout_of c qs; items = [] } ≡ f = cc in
       subst HasEach is (inside, All-nil P)

@@ -1,9 +1,11 @@
 -- What `step` and `upgrade` write is read again, and is legal: so `check` finds nothing wrong in it.
 use Rattle.std.proofs.Common.{◌≡◌, inl, inr, ◌≤◌, ℕ, List, Result, Ok, Err, None, Some, length, refl, sym, ◌∙◌, subst, arith}
 use Rattle.std.specs.Prelude.{reverse, IsTrue}
-use Rattle.std.specs.List.{All, AllByRecursion}
+use Rattle.std.specs.List.{AllByRecursion}
 use Rattle.std.proofs.lemmas.List.{reverse-reverse, length-reverse}
 use Rattle.std.proofs.lemmas.List.Elements.{All-from_recursion, recursion_from_All}
+use Rattle.cmwq_model.specs.declared.id.Who.{Who}
+use Rattle.cmwq_model.specs.declared.call.Call.{Call}
 use Rattle.cmwq_model.specs.declared.entry.Entry.{Entry}
 use Rattle.cmwq_model.specs.declared.verdict.Illegal.{Illegal}
 use Rattle.cmwq_model.specs.Layout.{Layout, fits}
@@ -23,18 +25,22 @@ use Rattle.cmwq_engine.specs.Step.{steps_in, answer_text}
 use Rattle.cmwq_runs.specs.Checks.{newest, history_in, IsLegalText, StepIsChecked, UpgradeIsChecked, PassesCheck, StepsPassCheck, UpgradesPassCheck}
 use Rattle.cmwq_runs.proofs.Stepped.{steps_are_few, steps_are_of, all_reversed}
 
+abbrev Fits : Layout → Who × Call → Type 0
+Fits s c = IsTrue (fits s c.0 c.1)
+
+abbrev IsInRange : Entry → Type 0
+IsInRange e = IsWho e.who × IsCall e.call
+
 pub step_is_checked : StepIsChecked
 step_is_checked text f h =
     let read = calls_are_read text f h in
     let s : Layout = f.layout in
     let past : List Entry = (steps_in f).past in
     let entries : List Entry = reverse past in
-    let fit : AllByRecursion (λ c. IsTrue (fits s c.0 c.1)) f.items = recursion_from_All (λ c. IsTrue (fits s c.0 c.1)) f.items read.sound.fitting in
-    let legal : IsLegal s (past_of entries) = subst (IsLegal s) (sym (reverse-reverse past)) (steps_are_legal s s.room f.items fit) in
-    let each : AllByRecursion (λ e. IsWho e.who × IsCall e.call) past = steps_are_of s s.room IsCallInside f.items (recursion_from_All IsCallInside f.items read.each) in
+    let legal : IsLegal s (past_of entries) = subst (IsLegal s) (sym (reverse-reverse past)) (steps_are_legal s s.room f.items (recursion_from_All (Fits s) f.items read.sound.fitting)) in
+    let each : AllByRecursion IsInRange past = steps_are_of s s.room IsCallInside f.items (recursion_from_All IsCallInside f.items read.each) in
     let few : length entries ≤ 1000000 = omega (arith, length-reverse past, steps_are_few s s.room f.items, read.sound.few) in
-    let all : All (λ e. IsWho e.who × IsCall e.call) entries = all_reversed (λ e. IsWho e.who × IsCall e.call) past (All-from_recursion (λ e. IsWho e.who × IsCall e.call) past each) in
-    let inside = legal_histories_fit s entries read.shape legal (omega arith) all in
+    let inside = legal_histories_fit s entries read.shape legal (omega arith) (all_reversed IsInRange past (All-from_recursion IsInRange past each)) in
     (histories_read_again (history_in f) refl read.shape (record { few = few; fitting = inside.0 }) inside.1, legal)
 
 pub upgrade_is_checked : UpgradeIsChecked
@@ -60,10 +66,10 @@ legal_passes text f legal old new (Ok (Some i)) ends =
 legal_passes text f legal old new (Err refusal.NoMemory) ends = inr (omega arith)
 legal_passes text f legal old new (Err refusal.ReadFault) ends = inr (omega arith)
 legal_passes text f legal old new (Err refusal.WriteFault) ends = inr (omega arith)
-legal_passes text f legal old new (Err refusal.TooLong) ends = absurd (read_or_refused (history_file_of text) f refusal.TooLong legal.0 ends.0)
-legal_passes text f legal old new (Err (refusal.BadLine n)) ends = absurd (read_or_refused (history_file_of text) f (refusal.BadLine n) legal.0 ends.0)
-legal_passes text f legal old new (Err (refusal.BadShape n)) ends = absurd (read_or_refused (history_file_of text) f (refusal.BadShape n) legal.0 ends.0)
-legal_passes text f legal old new (Err (refusal.NoSuchId n)) ends = absurd (read_or_refused (history_file_of text) f (refusal.NoSuchId n) legal.0 ends.0)
+legal_passes text f legal old new (Err refusal.TooLong) ends = absurd (read_or_refused _ f refusal.TooLong legal.0 ends.0)
+legal_passes text f legal old new (Err (refusal.BadLine n)) ends = absurd (read_or_refused _ f (refusal.BadLine n) legal.0 ends.0)
+legal_passes text f legal old new (Err (refusal.BadShape n)) ends = absurd (read_or_refused _ f (refusal.BadShape n) legal.0 ends.0)
+legal_passes text f legal old new (Err (refusal.NoSuchId n)) ends = absurd (read_or_refused _ f (refusal.NoSuchId n) legal.0 ends.0)
 
 pub steps_pass_check : StepsPassCheck
 steps_pass_check text written n ends = subst PassesCheck (sym ends.3) (legal_passes (answer_text ends.0) (history_in ends.0) (step_is_checked text ends.0 ends.1))

@@ -11,10 +11,16 @@ use Rattle.cmwq_model.specs.Legal.{entry_for}
 use Rattle.cmwq_model.specs.Room.{Steps, has_room, step, steps, none}
 
 module _ (s : Layout) (room : ℕ) where
+  -- one step, by whether the call has room
+  abbrev stepped : Bool → Steps → Who × Call → Steps
+  stepped b t c =
+      if b then record { past = entry_for s t.past c.0 c.1 ∷ t.past; left_out = t.left_out }
+      else record { past = t.past; left_out = t.left_out + 1 }
+
   one_more : (t : Steps) (c : Who × Call) → length (step s room t c).past ≤ length t.past + 1
   one_more t c = here (has_room s room t.past c.0 c.1)
     where
-      here : (b : Bool) → let stepped : Steps = if b then record { past = entry_for s t.past c.0 c.1 ∷ t.past; left_out = t.left_out } else record { past = t.past; left_out = t.left_out + 1 } in length stepped.past ≤ length t.past + 1
+      here : (b : Bool) → length (stepped b t c).past ≤ length t.past + 1
       here true = omega arith
       here false = omega arith
 
@@ -32,11 +38,12 @@ module _ (s : Layout) (room : ℕ) where
     step_is_of : (t : Steps) (c : Who × Call) → P c → AllByRecursion IsOf t.past → AllByRecursion IsOf (step s room t c).past
     step_is_of t c own older = here (has_room s room t.past c.0 c.1)
       where
-        here : (b : Bool) → let stepped : Steps = if b then record { past = entry_for s t.past c.0 c.1 ∷ t.past; left_out = t.left_out } else record { past = t.past; left_out = t.left_out + 1 } in AllByRecursion IsOf stepped.past
+        here : (b : Bool) → AllByRecursion IsOf (stepped b t c).past
         here true = (own, older)
         here false = older
 
-    of_on : (calls : List (Who × Call)) (t : Steps) → AllByRecursion P calls → AllByRecursion IsOf t.past → AllByRecursion IsOf (fold (step s room) t calls).past
+    of_on : (calls : List (Who × Call)) (t : Steps) → AllByRecursion P calls → AllByRecursion IsOf t.past
+        → AllByRecursion IsOf (fold (step s room) t calls).past
     of_on [] t each older = older
     of_on (c ∷ calls) t each older = of_on calls (step s room t c) each.1 (step_is_of t c each.0 older)
 

@@ -29,11 +29,13 @@ StepIsChecked = (text : List ℕ) (f : File (Who × Call)) → call_file_of text
 
 -- what `upgrade` writes of a legal history is read as format 2 of it, and is legal
 abbrev pub UpgradeIsChecked : Type 0
-UpgradeIsChecked = (text : List ℕ) (f : File Entry) → history_file_of text ≡ Ok f → IsVerdict f None → IsLegalText (upgraded_text f None) (newest f.layout f.items)
+UpgradeIsChecked = (text : List ℕ) (f : File Entry) → history_file_of text ≡ Ok f → IsVerdict f None
+    → IsLegalText (upgraded_text f None) (newest f.layout f.items)
 
 -- each run of `check` on the text ends with status 0, or with 4 or 5: memory ran out, or the source or the output failed
 abbrev pub PassesCheck : List ℕ → Type 0
-PassesCheck text = (old new : Option (List ℕ)) (ended : Result (Option Illegal) Refusal) → CheckEnds text old new ended → (check_status ended ≡ 0) ⊎ (4 ≤ check_status ended)
+PassesCheck text = (old new : Option (List ℕ)) (ended : Result (Option Illegal) Refusal) → CheckEnds text old new ended
+    → (check_status ended ≡ 0) ⊎ (4 ≤ check_status ended)
 
 -- so is what any run of `step` wrote that answered, also where calls were left out
 abbrev pub StepsPassCheck : Type 0

@@ -82,13 +82,15 @@ one_inside {A} {Y} t make Q holds ws x e =
     let a = bind_some (t.read ws) (λ (a : A × List (List ℕ)). Some (make a.0, a.1)) x e in
     subst (λ (z : Y × List (List ℕ)). Q z.0) (same_Some (make a.0.0, a.0.1) x a.2) (holds a.0.0 (t.inside ws a.0 a.1))
 
-two_inside : {A B Y : Type 0} (t : Reader A) (u : Reader B) (make : A → B → Y) (Q : Y → Type 0) → ((a : A) (b : B) → t.IsInside a × u.IsInside b → Q (make a b))
+two_inside : {A B Y : Type 0} (t : Reader A) (u : Reader B) (make : A → B → Y) (Q : Y → Type 0)
+    → ((a : A) (b : B) → t.IsInside a × u.IsInside b → Q (make a b))
     → (ws : List (List ℕ)) (x : Y × List (List ℕ)) → two t.read u.read make ws ≡ Some x → Q x.0
 two_inside {A} {B} {Y} t u make Q holds ws x e =
     let a = bind_some (t.read ws) (λ (a : A × List (List ℕ)). one u.read (make a.0) a.1) x e in
     one_inside u (make a.0.0) Q (λ b small. holds a.0.0 b (t.inside ws a.0 a.1, small)) a.0.1 x a.2
 
-three_inside : {A B C Y : Type 0} (t : Reader A) (u : Reader B) (v : Reader C) (make : A → B → C → Y) (Q : Y → Type 0) → ((a : A) (b : B) (c : C) → t.IsInside a × u.IsInside b × v.IsInside c → Q (make a b c))
+three_inside : {A B C Y : Type 0} (t : Reader A) (u : Reader B) (v : Reader C) (make : A → B → C → Y) (Q : Y → Type 0)
+    → ((a : A) (b : B) (c : C) → t.IsInside a × u.IsInside b × v.IsInside c → Q (make a b c))
     → (ws : List (List ℕ)) (x : Y × List (List ℕ)) → three t.read u.read v.read make ws ≡ Some x → Q x.0
 three_inside {A} {B} {C} {Y} t u v make Q holds ws x e =
     let a = bind_some (t.read ws) (λ (a : A × List (List ℕ)). two u.read v.read (make a.0) a.1) x e in
@@ -266,7 +268,8 @@ entry_inside line e is =
     let r = bind_some (reply_in answer.0) (entry_at_end who.0.0 serial.0.0 c.0.0) e answer.2 in
     let made : Entry = record { who = who.0.0; serial = serial.0.0; call = c.0.0; reply = r.0.0 } in
     let found = chosen (is_end r.0.1 && may_say who.0.0 c.0.0) (Some made) e r.2 in
-    subst IsEntry (same_Some _ _ found.1) (record { who = who_inside _ who.0 who.1; serial = number_inside _ serial.0 serial.1; call = call_inside _ c.0 c.1; reply = reply_inside _ r.0 r.1 })
+    subst IsEntry (same_Some _ _ found.1)
+    (record { who = who_inside _ who.0 who.1; serial = number_inside _ serial.0 serial.1; call = call_inside _ c.0 c.1; reply = reply_inside _ r.0 r.1 })
 
 pub entry_of_format_inside : (v : ℕ) (line : List ℕ) (e : Entry) → entry_of_format v line ≡ Some e → IsEntry e
 unfolding entry_of_format
