@@ -220,7 +220,7 @@ sound_without k n v (Some s) f w h =
     let is : record { version = v; layout = s; items = [] } ≡ f = cc in
     subst (λ f. IsVersion k f.version × IsSound k f) is (w, record { few = omega arith; fitting = All-nil (λ x. IsTrue (k.fits_in s x)) })
 
-end_sound : {X : Type 0} (k : Kind X) (n : ℕ) (stage : Stage X) (f : File X) → IsWithin k stage → at_end n stage ≡ Ok f → IsVersion k f.version × IsSound k f
+pub end_sound : {X : Type 0} (k : Kind X) (n : ℕ) (stage : Stage X) (f : File X) → IsWithin k stage → at_end n stage ≡ Ok f → IsVersion k f.version × IsSound k f
 unfolding at_end
 end_sound k n begin f w h = cc
 end_sound k n opened f w h = cc

@@ -21,8 +21,9 @@ use Rattle.cmwq_text.proofs.ShapeLaws.{counts_spelled_so, queues_spelled_so}
 use Rattle.cmwq_base.specs.declared.refusal.Refusal.{Refusal}
 use Rattle.cmwq_base.specs.declared.refusal.Refusal.TheVariants as refusal
 use Rattle.cmwq_base.specs.Pieces.{pieces}
-use Rattle.cmwq_base.specs.Files.{File, Stage, begin, opened, head, body, is_long, shape_made, and_then, begun, with_queue, queue_line, with_item, item_line, first_item, after_head, after_line, after_cut, at_end, without_items, after_last, after_pieces, file_of}
+use Rattle.cmwq_base.specs.Files.{File, Stage, begin, opened, head, body, is_long, shape_made, and_then, begun, with_queue, queue_line, with_item, item_line, first_item, after_head, after_line, at_end, without_items, after_last, after_pieces, file_of}
 use Rattle.cmwq_base.specs.Kinds.{history_kind, history_file_of}
+use Rattle.cmwq_base.proofs.Sound.{no_cut, short_goes, next_goes}
 use Rattle.cmwq_base.specs.FileLaws.{IsOfFormat, HistoriesHaveOneText, HistoriesAreOfTheirFormat}
 
 -- the text of what has been read so far
@@ -162,23 +163,11 @@ end_spells n (body v s xs) f inside h =
     let same : record { version = v; layout = s; items = xs } ≡ f = cc in
     subst (IsToldBy (text_of_format v s xs)) same (refl, (inside.1, inside.2))
 
-no_cut : (n : ℕ) (stage : Stage Entry) (f : File Entry) (b : Bool) → (if b then Err refusal.TooLong else Err (after_cut n stage)) ≡ Ok f → ⊥
-no_cut n stage f true h = cc
-no_cut n stage f false h = cc
-
 last_spells : (n : ℕ) (stage : Stage Entry) (last : List ℕ) (f : File Entry) → IsInside stage → after_last n stage last ≡ Ok f → IsToldBy (written stage ++ last) f
 last_spells n stage [] f inside h = told_after (written stage ++ []) (written stage) f (append-nil (written stage)) (end_spells n stage f inside h)
 last_spells n stage (b ∷ bs) f inside h = absurd (no_cut n stage f (is_long (b ∷ bs)) h)
 
 -- ---- line after line
-
-short_goes : (b : Bool) (r : Result (File Entry) Refusal) (f : File Entry) → (if b then Err refusal.TooLong else r) ≡ Ok f → r ≡ Ok f
-short_goes true r f h = cc
-short_goes false r f h = h
-
-next_goes : (g : Stage Entry → Result (File Entry) Refusal) (r : Result (Stage Entry) Refusal) (f : File Entry) → and_then g r ≡ Ok f → (next : Stage Entry) × (r ≡ Ok next) × (g next ≡ Ok f)
-next_goes g (Ok next) f h = (next, refl, h)
-next_goes g (Err e) f h = cc
 
 pieces_spell : (ps : List (List ℕ)) (n : ℕ) (stage : Stage Entry) (f : File Entry) → IsInside stage → after_pieces history_kind n stage ps ≡ Ok f → IsToldBy (written stage ++ join_with_byte 10 ps) f
 unfolding after_pieces

@@ -64,19 +64,19 @@ calls_spelled_so s who c line small fit is =
 
 -- ---- lines of entries
 
-abbrev entry_at_end : Who → ℕ → Call → Reply × List (List ℕ) → Option Entry
+abbrev pub entry_at_end : Who → ℕ → Call → Reply × List (List ℕ) → Option Entry
 entry_at_end who serial c r = cond (is_end r.1 && may_say who c) (Some (record { who = who; serial = serial; call = c; reply = r.0 })) None
 
-abbrev entry_after_equals : Who → ℕ → Call → List (List ℕ) → Option Entry
+abbrev pub entry_after_equals : Who → ℕ → Call → List (List ℕ) → Option Entry
 entry_after_equals who serial c ws = reply_in ws >>= entry_at_end who serial c
 
-abbrev entry_after_call : Who → ℕ → Call × List (List ℕ) → Option Entry
+abbrev pub entry_after_call : Who → ℕ → Call × List (List ℕ) → Option Entry
 entry_after_call who serial c = after (codes "=") c.1 >>= entry_after_equals who serial c.0
 
-abbrev entry_after_serial : Who → ℕ × List (List ℕ) → Option Entry
+abbrev pub entry_after_serial : Who → ℕ × List (List ℕ) → Option Entry
 entry_after_serial who n = call_in n.1 >>= entry_after_call who n.0
 
-abbrev entry_after_who : Who × List (List ℕ) → Option Entry
+abbrev pub entry_after_who : Who × List (List ℕ) → Option Entry
 entry_after_who who = number_in who.1 >>= entry_after_serial who.0
 
 abbrev entry_from : List (List ℕ) → Option Entry
