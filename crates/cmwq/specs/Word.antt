@@ -1,5 +1,5 @@
 -- The command line: which words there are, and which one clap's matches hold.
-use Rattle.std.specs.Prelude.{ℕ, Bool, true, List, [], ◌∷◌, map, Option, Some, None, option_map, option_and_then, codes, if◌then◌else◌}
+use Rattle.std.specs.Prelude.{ℕ, Bool, true, List, [], map, Option, Some, None, option_map, option_and_then, codes, if◌then◌else◌}
 use Rattle.std.specs.Str.{bytes_eq}
 use Rattle.std.specs.Borrow.{Bor}
 use Rattle.clap.specs.Words.{App, Text, Row, new_app, with_subcommand, Shape, subcommand_of, takes}
@@ -11,14 +11,18 @@ abbrev pub word_of_name : List ℕ → Option Word
 word_of_name name =
     if bytes_eq name (codes "step") then Some word.Step
     else if bytes_eq name (codes "check") then Some word.Check
+    else if bytes_eq name (codes "upgrade") then Some word.Upgrade
     else None
 
 -- what clap reads of the program's command line: a word is a subcommand, and there is one
 abbrev pub program : Shape
 program = record (new_app (codes "cmwq")).top { has_version = true; subcommand_required = true }
 
+abbrev pub without_words : App
+without_words = record { top = program; subs = [] }
+
 abbrev pub app : App
-app = with_subcommand (with_subcommand (record { top = program; subs = [] }) (new_app (codes "step")).top) (new_app (codes "check")).top
+app = with_subcommand (with_subcommand (with_subcommand without_words (new_app (codes "step")).top) (new_app (codes "check")).top) (new_app (codes "upgrade")).top
 
 -- the words as texts
 abbrev pub texts : List (Bor Text) → List Text

@@ -5,7 +5,7 @@ mod word;
 
 use clap::error::ErrorKind;
 use cmwq_base::{BufferedSink, FromStd};
-use cmwq_engine::{run_check, run_step};
+use cmwq_engine::{run_check, run_step, run_upgrade};
 use std::alloc::{AllocError, Global};
 use std::io;
 use std::process::ExitCode;
@@ -52,6 +52,7 @@ fn run(rt: &HostRuntime, word: Word) -> u8 {
     match word {
         Word::Step => run_step(alloc, &mut input, &mut output, &mut errors),
         Word::Check => run_check(alloc, &mut input, &mut output, &mut errors),
+        Word::Upgrade => run_upgrade(alloc, &mut input, &mut output, &mut errors),
     }
 }
 

@@ -1,6 +1,7 @@
-ghost use Rattle.std.specs.Prelude.{◌≡◌, true, IfOk, IfErr, IsSome, Some, option_map, map};
-ghost use Rattle.clap.specs.Words.{kind_of, app_of};
-ghost use Rattle.cmwq.specs.Word.{word_of_name, app, texts, is_taken, name_matched, word_matched};
+ghost use Rattle.std.specs.Prelude.{◌≡◌, true, false, IfOk, IfErr, IsSome, Some, option_map, map};
+ghost use Rattle.clap.specs.Words.{kind_of, app_of, new_app, with_subcommand};
+ghost use Rattle.clap.specs.declared.builder.command.Command.TheViews.{out-Command as fields_of};
+ghost use Rattle.cmwq.specs.Word.{word_of_name, without_words, app, texts, is_taken, name_matched, word_matched};
 
 use clap::error::ErrorKind;
 use clap::{Command, Error};
@@ -13,6 +14,8 @@ pub enum Word {
     Step,
     /// Judges a history.
     Check,
+    /// Writes a legal history in the newest format.
+    Upgrade,
 }
 
 /// The word with this name.
@@ -22,8 +25,36 @@ fn word_named(name: &str) -> Option<Word>
     match name {
         "step" => Some(Word::Step),
         "check" => Some(Word::Check),
+        "upgrade" => Some(Word::Upgrade),
         _ => None,
     }
+}
+
+/// A word of the program, with what it does.
+fn subcommand<'a>(alloc: Global, name: &'a str, about: &'a str) -> Command<'a>
+    ensures app { app_of result ≡ new_app name.entry.now }
+    ensures local { (fields_of result).has_globals ≡ false }
+{
+    Command::new(alloc, name).about(about)
+}
+
+/// The program, before it has its words.
+fn program<'a>(alloc: Global) -> Command<'a>
+    ensures { app_of result ≡ without_words }
+{
+    Command::new(alloc, "cmwq")
+        .version("0.1.0")
+        .about("A concurrency managed workqueue runtime")
+        .subcommand_required(true)
+}
+
+/// The program with one word more.
+fn with_word<'a>(program: Command<'a>, word: Command<'a>) -> Result<Command<'a>, Error>
+    requires { (fields_of word).has_globals ≡ false }
+    ensures ok { IfOk result (λ c. app_of c ≡ with_subcommand (app_of program.entry) (app_of word.entry).top) }
+    ensures err { IfErr result (λ e. kind_of e ≡ ErrorKind.OutOfMemory) }
+{
+    Ok(program.subcommand(word)?)
 }
 
 /// The program's command line, as `--help` shows it.
@@ -31,19 +62,24 @@ fn command<'a>(alloc: Global) -> Result<Command<'a>, Error>
     ensures ok { IfOk result (λ c. app_of c ≡ app) }
     ensures err { IfErr result (λ e. kind_of e ≡ ErrorKind.OutOfMemory) }
 {
-    let step = Command::new(alloc, "step").about(
+    let step = subcommand(
+        alloc,
+        "step",
         "Reads call lines from standard input and writes the history of their answers",
     );
-    let check = Command::new(alloc, "check").about(
+    let check = subcommand(
+        alloc,
+        "check",
         "Reads a history from standard input and writes whether it is legal, or its first wrong entry",
     );
-    let command = Command::new(alloc, "cmwq")
-        .version("0.1.0")
-        .about("A concurrency managed workqueue runtime")
-        .subcommand_required(true)
-        .subcommand(step)?
-        .subcommand(check)?;
-    Ok(command)
+    let upgrade = subcommand(
+        alloc,
+        "upgrade",
+        "Reads a history of either format from standard input and writes it in format 2, if it is legal",
+    );
+    let command = with_word(program(alloc), step)?;
+    let command = with_word(command, check)?;
+    with_word(command, upgrade)
 }
 
 /// The name of the word that clap's matches of the command line hold.
@@ -91,6 +127,8 @@ mod tests {
         assert_eq!(rt; word, Word::Step);
         let word = word_of(rt.alloc(), &["cmwq", "check"])?;
         assert_eq!(rt; word, Word::Check);
+        let word = word_of(rt.alloc(), &["cmwq", "upgrade"])?;
+        assert_eq!(rt; word, Word::Upgrade);
         Ok(())
     }
 

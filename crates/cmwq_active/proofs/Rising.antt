@@ -76,3 +76,7 @@ find_least p (x ∷ xs) y h found = least (p x) refl found (find_least p xs y h.
         let is : x.number ≡ y.number = ap (λ (z : Queueing). z.number) (let same : x ≡ y = cc in same) in
         ((λ e. omega arith), All_map (λ z. x.number < z.number) (λ z. p z ≡ true → y.number ≤ z.number) xs (λ z less e. omega arith) h.0)
     least false fails found later = ((λ e. cc), later found)
+
+-- what is open is older than the next entry
+pub open_below : (past : List Entry) → AllByRecursion (λ x. x.number < length past) (still_open past)
+open_below past = All_filter _ (is_live past) (queueings past) (All_map (IsBelow (length past)) _ (queueings past) (λ x less live. less) (queueings_below past))

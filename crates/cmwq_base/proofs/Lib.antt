@@ -3,3 +3,4 @@ pub mod Progress
 pub mod Fronts
 pub mod Spelled
 pub mod Again
+pub mod Sound

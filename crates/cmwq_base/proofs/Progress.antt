@@ -13,7 +13,7 @@ use Rattle.cmwq_model.specs.Layout.{Layout, layout_of, is_layout}
 use Rattle.cmwq_text.specs.ShapeText.{counts_of, begins_queue}
 use Rattle.cmwq_base.specs.declared.refusal.Refusal.{Refusal}
 use Rattle.cmwq_base.specs.declared.refusal.Refusal.TheVariants as refusal
-use Rattle.cmwq_base.specs.Files.{File, IsSound, Stage, begin, head, body, Kind, shape_made, and_then, begun, with_queue, queue_line, with_item, item_line, first_item, after_head, after_line, after_cut, at_end, without_items, after_text, file_of}
+use Rattle.cmwq_base.specs.Files.{File, IsVersion, IsSound, Stage, begin, opened, head, body, Kind, shape_made, and_then, begun, with_queue, queue_line, with_item, item_line, first_item, after_head, after_line, after_cut, at_end, without_items, after_text, file_of}
 use Rattle.cmwq_base.specs.Gives.{Refuses, Makes, Fails, Gives}
 use Rattle.cmwq_base.specs.Stages.{lines_in, IsWithin}
 use Rattle.cmwq_base.proofs.Texts.{text_whole, text_long, text_cut, text_end}
@@ -39,57 +39,69 @@ pub record Grows {X : Type 0} (k : Kind X) (old new : Stage X) : Type 0 where
   pub within : IsWithin k old → IsWithin k new
 
 module _ {X : Type 0} (k : Kind X) (n : ℕ) where
-  begun_grows : (o : Option Counts) (next : Stage X) → begun n o ≡ Ok next → Grows k begin next
-  begun_grows None next h = cc
-  begun_grows (Some c) next h = let is : head c [] ≡ next = cc in subst (Grows k begin) is (record { count = refl; within = λ _. omega arith })
+  begun_grows : (v : ℕ) (stage : Stage X) (o : Option Counts) (next : Stage X) → lines_in stage + 1 ≡ v → (IsWithin k stage → IsVersion k v) → begun n v o ≡ Ok next → Grows k stage next
+  begun_grows v stage None next lines is_version h = cc
+  begun_grows v stage (Some c) next lines is_version h =
+      let is : head v c [] ≡ next = cc in
+      subst (Grows k stage) is (record { count = omega (arith, lines); within = λ w. (is_version w, omega arith) })
 
-  queue_grows : (c : Counts) (qs : List QueueShape) (o : Option QueueShape) (next : Stage X) → length qs < 64 → with_queue n c qs o ≡ Ok next → Grows k (head c qs) next
-  queue_grows c qs None next room h = cc
-  queue_grows c qs (Some q) next room h =
-      let is : head c (qs ++ q ∷ []) ≡ next = cc in
+  said : (line : List ℕ) → k.says_format line ≡ true → ((line : List ℕ) → k.says_format line ≡ false) → ⊥
+  said line says none = let both : true ≡ false = sym says ∙ none line in cc
+
+  first_grows : (line : List ℕ) (next : Stage X) (b : Bool) → k.says_format line ≡ b → (if b then Ok opened else begun n 1 (counts_of line)) ≡ Ok next → Grows k begin next
+  first_grows line next true says h =
+      let is : opened ≡ next = cc in
+      subst (Grows k begin) is (record { count = refl; within = λ _. (line, says) })
+  first_grows line next false says h = begun_grows 1 begin (counts_of line) next refl (λ _. (omega arith, omega arith, λ _. refl)) h
+
+  queue_grows : (v : ℕ) (c : Counts) (qs : List QueueShape) (o : Option QueueShape) (next : Stage X) → length qs < 64 → with_queue n v c qs o ≡ Ok next → Grows k (head v c qs) next
+  queue_grows v c qs None next room h = cc
+  queue_grows v c qs (Some q) next room h =
+      let is : head v c (qs ++ q ∷ []) ≡ next = cc in
       let more = length-append qs (q ∷ []) in
-      subst (Grows k (head c qs)) is (record { count = omega arith; within = λ _. omega arith })
+      subst (Grows k (head v c qs)) is (record { count = omega arith; within = λ w. (w.0, omega arith) })
 
-  queue_line_grows : (c : Counts) (qs : List QueueShape) (line : List ℕ) (next : Stage X) (b : Bool) → nat_le 64 (length qs) ≡ b
-      → (if b then Err (refusal.BadShape n) else with_queue n c qs (k.queue_of line)) ≡ Ok next → Grows k (head c qs) next
-  queue_line_grows c qs line next true full h = cc
-  queue_line_grows c qs line next false full h = queue_grows c qs (k.queue_of line) next (grind (arith, nat_tests)) h
+  queue_line_grows : (v : ℕ) (c : Counts) (qs : List QueueShape) (line : List ℕ) (next : Stage X) (b : Bool) → nat_le 64 (length qs) ≡ b
+      → (if b then Err (refusal.BadShape n) else with_queue n v c qs (k.queue_of v line)) ≡ Ok next → Grows k (head v c qs) next
+  queue_line_grows v c qs line next true full h = cc
+  queue_line_grows v c qs line next false full h = queue_grows v c qs (k.queue_of v line) next (grind (arith, nat_tests)) h
 
-  item_grows : (s : Layout) (xs : List X) (x : X) (next : Stage X) (b : Bool) → k.fits_in s x ≡ b → length xs < 1000000 → (if b then Ok (body s (xs ++ x ∷ [])) else Err (refusal.NoSuchId n)) ≡ Ok next → Grows k (body s xs) next
-  item_grows s xs x next true fitting room h =
-      let is : body s (xs ++ x ∷ []) ≡ next = cc in
+  item_grows : (v : ℕ) (s : Layout) (xs : List X) (x : X) (next : Stage X) (b : Bool) → k.fits_in s x ≡ b → length xs < 1000000 → (if b then Ok (body v s (xs ++ x ∷ [])) else Err (refusal.NoSuchId n)) ≡ Ok next → Grows k (body v s xs) next
+  item_grows v s xs x next true fitting room h =
+      let is : body v s (xs ++ x ∷ []) ≡ next = cc in
       let more = length-append xs (x ∷ []) in
-      subst (Grows k (body s xs)) is (record { count = omega arith; within = λ w. (w.0, omega arith, All-push (λ y. IsTrue (k.fits_in s y)) xs x w.2 fitting) })
-  item_grows s xs x next false fitting room h = cc
+      subst (Grows k (body v s xs)) is (record { count = omega arith; within = λ w. (w.0, w.1, omega arith, All-push (λ y. IsTrue (k.fits_in s y)) xs x w.3 fitting) })
+  item_grows v s xs x next false fitting room h = cc
 
-  with_item_grows : (s : Layout) (xs : List X) (o : Option X) (next : Stage X) → length xs < 1000000 → with_item k n s xs o ≡ Ok next → Grows k (body s xs) next
-  with_item_grows s xs None next room h = cc
-  with_item_grows s xs (Some x) next room h = item_grows s xs x next (k.fits_in s x) refl room h
+  with_item_grows : (v : ℕ) (s : Layout) (xs : List X) (o : Option X) (next : Stage X) → length xs < 1000000 → with_item k n v s xs o ≡ Ok next → Grows k (body v s xs) next
+  with_item_grows v s xs None next room h = cc
+  with_item_grows v s xs (Some x) next room h = item_grows v s xs x next (k.fits_in s x) refl room h
 
-  item_line_if : (s : Layout) (xs : List X) (line : List ℕ) (next : Stage X) (b : Bool) → nat_le 1000000 (length xs) ≡ b
-      → (if b then Err refusal.TooLong else with_item k n s xs (k.item_of line)) ≡ Ok next → Grows k (body s xs) next
-  item_line_if s xs line next true full h = cc
-  item_line_if s xs line next false full h = with_item_grows s xs (k.item_of line) next (grind (arith, nat_tests)) h
+  item_line_if : (v : ℕ) (s : Layout) (xs : List X) (line : List ℕ) (next : Stage X) (b : Bool) → nat_le 1000000 (length xs) ≡ b
+      → (if b then Err refusal.TooLong else with_item k n v s xs (k.item_of v line)) ≡ Ok next → Grows k (body v s xs) next
+  item_line_if v s xs line next true full h = cc
+  item_line_if v s xs line next false full h = with_item_grows v s xs (k.item_of v line) next (grind (arith, nat_tests)) h
 
-  item_line_grows : (s : Layout) (xs : List X) (line : List ℕ) (next : Stage X) → item_line k n s xs line ≡ Ok next → Grows k (body s xs) next
+  item_line_grows : (v : ℕ) (s : Layout) (xs : List X) (line : List ℕ) (next : Stage X) → item_line k n v s xs line ≡ Ok next → Grows k (body v s xs) next
   unfolding item_line
-  item_line_grows s xs line next h = item_line_if s xs line next (nat_le 1000000 (length xs)) refl h
+  item_line_grows v s xs line next h = item_line_if v s xs line next (nat_le 1000000 (length xs)) refl h
 
-  first_grows : (c : Counts) (qs : List QueueShape) (line : List ℕ) (next : Stage X) (b : Bool) → first_item k n (if b then Some (layout_of c qs) else None) line ≡ Ok next → Grows k (head c qs) next
-  first_grows c qs line next true h =
-      let g = item_line_grows (layout_of c qs) [] line next h in
-      record { count = let more = g.count in omega arith; within = λ w. g.within (w, omega arith, All-nil (λ x. IsTrue (k.fits_in (layout_of c qs) x))) }
-  first_grows c qs line next false h = cc
+  first_item_grows : (v : ℕ) (c : Counts) (qs : List QueueShape) (line : List ℕ) (next : Stage X) (b : Bool) → first_item k n v (if b then Some (layout_of c qs) else None) line ≡ Ok next → Grows k (head v c qs) next
+  first_item_grows v c qs line next true h =
+      let g = item_line_grows v (layout_of c qs) [] line next h in
+      record { count = let more = g.count in omega arith; within = λ w. g.within (w.0, w.1, omega arith, All-nil (λ x. IsTrue (k.fits_in (layout_of c qs) x))) }
+  first_item_grows v c qs line next false h = cc
 
-  head_grows : (c : Counts) (qs : List QueueShape) (line : List ℕ) (next : Stage X) (b : Bool) → (if b then queue_line k n c qs line else first_item k n (shape_made c qs) line) ≡ Ok next → Grows k (head c qs) next
-  head_grows c qs line next true h = queue_line_grows c qs line next (nat_le 64 (length qs)) refl h
-  head_grows c qs line next false h = first_grows c qs line next (is_layout (layout_of c qs)) h
+  head_grows : (v : ℕ) (c : Counts) (qs : List QueueShape) (line : List ℕ) (next : Stage X) (b : Bool) → (if b then queue_line k n v c qs line else first_item k n v (shape_made c qs) line) ≡ Ok next → Grows k (head v c qs) next
+  head_grows v c qs line next true h = queue_line_grows v c qs line next (nat_le 64 (length qs)) refl h
+  head_grows v c qs line next false h = first_item_grows v c qs line next (is_layout (layout_of c qs)) h
 
   pub line_grows : (stage next : Stage X) (line : List ℕ) → after_line k n stage line ≡ Ok next → Grows k stage next
   unfolding after_line after_head
-  line_grows begin next line h = begun_grows (counts_of line) next h
-  line_grows (head c qs) next line h = head_grows c qs line next (begins_queue line) h
-  line_grows (body s xs) next line h = item_line_grows s xs line next h
+  line_grows begin next line h = first_grows line next (k.says_format line) refl h
+  line_grows opened next line h = begun_grows 2 opened (counts_of line) next refl (λ w. (omega arith, omega arith, λ none. absurd (said w.0 w.1 none))) h
+  line_grows (head v c qs) next line h = head_grows v c qs line next (begins_queue line) h
+  line_grows (body v s xs) next line h = item_line_grows v s xs line next h
 
 -- ---- the answers of the reader
 
@@ -127,8 +139,9 @@ module _ {X : Type 0} (k : Kind X) (n : ℕ) (stage : Stage X) where
   is_cut : (stage : Stage X) (r : Result (File X) Refusal) → r ≡ Err (after_cut n stage) → Fails (after_cut n stage) r
   unfolding after_cut
   is_cut begin r h = h
-  is_cut (head c qs) r h = h
-  is_cut (body s xs) r h = by_full (nat_le 1000000 (length xs)) h
+  is_cut opened r h = h
+  is_cut (head v c qs) r h = h
+  is_cut (body v s xs) r h = by_full (nat_le 1000000 (length xs)) h
     where
       by_full : (b : Bool) → r ≡ Err (if b then refusal.TooLong else refusal.BadLine n) → Fails (if b then refusal.TooLong else refusal.BadLine n) r
       by_full true h = h
@@ -153,7 +166,7 @@ module _ {X : Type 0} (k : Kind X) (n : ℕ) (stage : Stage X) where
   makes_gives view (Ok y) read h = h
   makes_gives view (Err e) read h = refuses_fails e read h
 
-  pub end_gives : {Y : Type 0} (view : Y → File X) (r : Result Y Refusal) (old before after : Option (List ℕ)) (line : List ℕ) → SameRead k old before n stage → TakesKnownLine before after End line → Makes view r (at_end stage)
+  pub end_gives : {Y : Type 0} (view : Y → File X) (r : Result Y Refusal) (old before after : Option (List ℕ)) (line : List ℕ) → SameRead k old before n stage → TakesKnownLine before after End line → Makes view r (at_end n stage)
       → IfSome old (λ text. Gives view r (file_of k text))
   end_gives view r None before after line h t g = tt
   end_gives view r (Some text) None after line h t g = absurd h
@@ -178,8 +191,9 @@ refuses_no_fault (refusal.NoSuchId m) r h = refl
 cut_is_no_fault : {X : Type 0} (n : ℕ) (stage : Stage X) → is_fault (after_cut n stage) ≡ false
 unfolding after_cut
 cut_is_no_fault n begin = refl
-cut_is_no_fault n (head c qs) = refl
-cut_is_no_fault n (body s xs) = by_full (nat_le 1000000 (length xs))
+cut_is_no_fault n opened = refl
+cut_is_no_fault n (head v c qs) = refl
+cut_is_no_fault n (body v s xs) = by_full (nat_le 1000000 (length xs))
   where
     by_full : (b : Bool) → is_fault (if b then refusal.TooLong else refusal.BadLine n) ≡ false
     by_full true = refl
@@ -200,17 +214,20 @@ makes_no_fault view (Ok y) read f h fault is = cc
 makes_no_fault view (Err e) read f h fault is = no_fault e f (Err e) (refuses_no_fault e read h) fault refl is
 
 -- what a reader's stage gives is sound
-sound_without : {X : Type 0} (k : Kind X) (o : Option Layout) (f : File X) → without_items o ≡ Ok f → IsSound k f
-sound_without k None f h = cc
-sound_without k (Some s) f h =
-    let is : record { layout = s; items = [] } ≡ f = cc in
-    subst (IsSound k) is (record { few = omega arith; fitting = All-nil (λ x. IsTrue (k.fits_in s x)) })
+sound_without : {X : Type 0} (k : Kind X) (n v : ℕ) (o : Option Layout) (f : File X) → IsVersion k v → without_items n v o ≡ Ok f → IsVersion k f.version × IsSound k f
+sound_without k n v None f w h = cc
+sound_without k n v (Some s) f w h =
+    let is : record { version = v; layout = s; items = [] } ≡ f = cc in
+    subst (λ f. IsVersion k f.version × IsSound k f) is (w, record { few = omega arith; fitting = All-nil (λ x. IsTrue (k.fits_in s x)) })
 
-end_sound : {X : Type 0} (k : Kind X) (stage : Stage X) (f : File X) → IsWithin k stage → at_end stage ≡ Ok f → IsSound k f
+pub end_sound : {X : Type 0} (k : Kind X) (n : ℕ) (stage : Stage X) (f : File X) → IsWithin k stage → at_end n stage ≡ Ok f → IsVersion k f.version × IsSound k f
 unfolding at_end
-end_sound k begin f w h = cc
-end_sound k (head c qs) f w h = sound_without k (shape_made c qs) f h
-end_sound k (body s xs) f w h = let is : record { layout = s; items = xs } ≡ f = cc in subst (IsSound k) is (record { few = w.1; fitting = w.2 })
+end_sound k n begin f w h = cc
+end_sound k n opened f w h = cc
+end_sound k n (head v c qs) f w h = sound_without k n v (shape_made c qs) f w.0 h
+end_sound k n (body v s xs) f w h =
+    let is : record { version = v; layout = s; items = xs } ≡ f = cc in
+    subst (λ f. IsVersion k f.version × IsSound k f) is (w.0, record { few = w.2; fitting = w.3 })
 
 -- at the beginning nothing has been read
 pub starts : {X : Type 0} (k : Kind X) (text : Option (List ℕ)) (ahead : List ℕ) → ahead ≡ [] → SameRead k text (prepend_known ahead text) 1 begin
@@ -218,6 +235,10 @@ unfolding file_of
 starts k None ahead none = tt
 starts k (Some text) ahead none = ap (λ bytes. after_text k 1 begin (bytes ++ text)) (sym none)
 
-pub makes_sound : {X Y : Type 0} (k : Kind X) (view : Y → File X) (r : Result Y Refusal) (stage : Stage X) → IsWithin k stage → Makes view r (at_end stage) → IfOk r (λ y. IsSound k (view y))
-makes_sound k view (Ok y) stage w h = end_sound k stage (view y) w h
-makes_sound k view (Err e) stage w h = tt
+pub makes_sound : {X Y : Type 0} (k : Kind X) (view : Y → File X) (r : Result Y Refusal) (n : ℕ) (stage : Stage X) → IsWithin k stage → Makes view r (at_end n stage) → IfOk r (λ y. IsSound k (view y))
+makes_sound k view (Ok y) n stage w h = (end_sound k n stage (view y) w h).1
+makes_sound k view (Err e) n stage w h = tt
+
+pub makes_version : {X Y : Type 0} (k : Kind X) (view : Y → File X) (r : Result Y Refusal) (n : ℕ) (stage : Stage X) → IsWithin k stage → Makes view r (at_end n stage) → IfOk r (λ y. IsVersion k (view y).version)
+makes_version k view (Ok y) n stage w h = (end_sound k n stage (view y) w h).0
+makes_version k view (Err e) n stage w h = tt

@@ -124,11 +124,11 @@ module _ {X : Type 0} (k : Kind X) (n : ℕ) (stage : Stage X) where
       let f = cut_found (is_text_long old) (has_feed old) (length old == 0) t.kind in
       last_piece old f.1 ∙ cut_last old (subst (λ l. is_long l ≡ false) (first_is_all old f.1) f.0) f.2
 
-  none_last : (text : List ℕ) → (length text == 0) ≡ true → after_last n stage text ≡ at_end stage
+  none_last : (text : List ℕ) → (length text == 0) ≡ true → after_last n stage text ≡ at_end n stage
   none_last [] h = refl
   none_last (b ∷ bs) h = let bad : suc (length bs) ≡ 0 = eqb-true (suc (length bs)) 0 h in absurd (omega arith)
 
-  pub text_end : (old new line : List ℕ) → TakesLine old new End line → after_text k n stage old ≡ at_end stage
+  pub text_end : (old new line : List ℕ) → TakesLine old new End line → after_text k n stage old ≡ at_end n stage
   text_end old new line t =
       let f = end_found (is_text_long old) (has_feed old) (length old == 0) t.kind in
       last_piece old f.0 ∙ none_last old f.1

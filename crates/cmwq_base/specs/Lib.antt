@@ -31,6 +31,7 @@ pub use Rattle.cmwq_text.specs.CallText
 pub use Rattle.cmwq_text.specs.ReplyText
 pub use Rattle.cmwq_text.specs.EntryText
 pub use Rattle.cmwq_text.specs.ShapeText
+pub use Rattle.cmwq_text.specs.Formats
 pub use Rattle.cmwq_text.specs.HistoryText
 pub use Rattle.cmwq_text.specs.Laws
 pub mod Pieces

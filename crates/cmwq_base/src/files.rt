@@ -20,11 +20,15 @@ impl FileLine for (Who, Call) {
 
     ghost kind = { calls_kind };
 
-    fn read_queue(line: &[u8]) -> Option<QueueShape> {
+    fn says_format(_line: &[u8]) -> bool {
+        false
+    }
+
+    fn read_queue(_version: u8, line: &[u8]) -> Option<QueueShape> {
         cmwq_text::read_queue_of_calls(line)
     }
 
-    fn read(line: &[u8]) -> Option<Self> {
+    fn read(_version: u8, line: &[u8]) -> Option<Self> {
         cmwq_text::read_call(line)
     }
 
@@ -39,12 +43,16 @@ impl FileLine for Entry {
 
     ghost kind = { history_kind };
 
-    fn read_queue(line: &[u8]) -> Option<QueueShape> {
-        cmwq_text::read_queue_of_history(line)
+    fn says_format(line: &[u8]) -> bool {
+        cmwq_text::is_version_line(line)
     }
 
-    fn read(line: &[u8]) -> Option<Self> {
-        cmwq_text::read_entry(line)
+    fn read_queue(version: u8, line: &[u8]) -> Option<QueueShape> {
+        cmwq_text::read_queue_of_format(version, line)
+    }
+
+    fn read(version: u8, line: &[u8]) -> Option<Self> {
+        cmwq_text::read_entry_of_format(version, line)
     }
 
     fn fits(&self, shape: &Shape) -> bool {
@@ -64,6 +72,8 @@ pub struct CallFile {
 pub struct HistoryFile {
     pub shape: Shape,
     pub entries: Vec<Entry>,
+    /// The format in which it was read, 1 or 2.
+    pub version: u8,
 }
 
 ghost use Rattle.cmwq_base.specs.Views.{calls_in, history_in};
@@ -87,12 +97,14 @@ pub fn read_calls<S: Source>(alloc: Global, source: &mut S) -> Result<CallFile, 
     })
 }
 
-/// Reads a history to the end of the source, as `read_calls` does. Any reply may follow any call.
+/// Reads a history of format 1 or 2 to the end of the source, as `read_calls` does. Format 2 is that of a history
+/// whose first line is `history 2`. Any reply may follow any call.
 ///
 /// # Errors
 /// As those of `read_calls`.
 pub fn read_history<S: Source>(alloc: Global, source: &mut S) -> Result<HistoryFile, Refusal>
     ensures exact { IfSome (S.left source.old) (λ text. Gives history_in result (history_file_of text)) }
+    ensures version { IfOk result (λ file. (1 ≤ file.version) × (file.version ≤ 2)) }
     ensures few { IfOk result (λ file. length file.entries.items ≤ 1000000) }
     ensures fitting { IfOk result (λ file. AllFit file.shape file.entries.items) }
     ensures fault { IsErrOf result Refusal.ReadFault → Rises (S.troubles source.old) (S.troubles source.new) }
@@ -102,5 +114,6 @@ pub fn read_history<S: Source>(alloc: Global, source: &mut S) -> Result<HistoryF
     Ok(HistoryFile {
         shape: file.shape,
         entries: file.items,
+        version: file.version,
     })
 }

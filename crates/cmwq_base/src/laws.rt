@@ -1,14 +1,24 @@
 //! What the texts of whole files keep, over every value.
-ghost use Rattle.cmwq_base.specs.FileLaws.{HistoriesHaveOneText, HistoriesReadAgain, CallFilesReadAgain};
+ghost use Rattle.cmwq_base.specs.FileLaws.{HistoriesHaveOneText, HistoriesAreOfTheirFormat, HistoriesReadAgain, OldHistoriesReadAgain, CallFilesReadAgain};
 
-/// A history and its shape have one text: what is read of a file is spelled so.
+/// A history and its shape have one text in each format: what is read of a file is spelled so.
 pub fn histories_have_one_text()
     ensures { HistoriesHaveOneText }
+{}
+
+/// What is read of a history has nothing that its format doesn't have.
+pub fn histories_are_of_their_format()
+    ensures { HistoriesAreOfTheirFormat }
 {}
 
 /// The text of a history and its shape is read again as itself.
 pub fn histories_read_again()
     ensures { HistoriesReadAgain }
+{}
+
+/// So is its text in format 1, if that format has all that stands in it.
+pub fn old_histories_read_again()
+    ensures { OldHistoriesReadAgain }
 {}
 
 /// The text of calls and their shape is read again as itself.

@@ -18,7 +18,10 @@ pub use cmwq_model::{
 };
 pub use cmwq_text::{entry_fits, reply_fits};
 pub use files::{CallFile, HistoryFile, read_calls, read_history};
-pub use laws::{call_files_read_again, histories_have_one_text, histories_read_again};
+pub use laws::{
+    call_files_read_again, histories_are_of_their_format, histories_have_one_text,
+    histories_read_again, old_histories_read_again,
+};
 pub use refusal::Refusal;
 pub use writing::{write_entry, write_shape};
 

@@ -5,13 +5,13 @@ ghost use Rattle.std.specs.Io.KnownBytes.{Appends};
 ghost use Rattle.cmwq_io.specs.Counts.{Rises};
 ghost use Rattle.cmwq_io.specs.Moves.{AppendsFront};
 ghost use Rattle.cmwq_text.specs.EntryText.{entry_text};
-ghost use Rattle.cmwq_text.specs.HistoryText.{shape_text};
+ghost use Rattle.cmwq_text.specs.HistoryText.{head_text};
 ghost use Rattle.cmwq_text.specs.ShapeText.{queue_text};
 
 use crate::refusal::Refusal;
 use cmwq_io::{Sink, WriteFault, write_all};
 use cmwq_model::{Entry, QueueShape, Shape};
-use cmwq_text::{counts_line, entry_line, queue_line};
+use cmwq_text::{counts_line, entry_line, queue_line, version_line};
 
 /// Writes the line of an entry. Takes no memory.
 ///
@@ -28,17 +28,19 @@ pub fn write_entry<W: Sink>(sink: &mut W, entry: &Entry) -> Result<(), Refusal>
     Ok(())
 }
 
-/// Writes the shape line and a line for each queue. Takes no memory.
+/// Writes the head of a history: the line `history 2`, which says its format, the shape line and a line for each queue.
+/// Takes no memory.
 ///
 /// # Errors
 /// `WriteFault` where the sink fails; a front of the lines has been written then.
 pub fn write_shape<W: Sink>(sink: &mut W, shape: &Shape) -> Result<(), Refusal>
-    ensures ok { OnOk result (Appends (W.written sink.old) (W.written sink.new) (shape_text shape.now)) }
-    ensures err { OnErr result (AppendsFront (W.written sink.old) (W.written sink.new) (shape_text shape.now)) }
+    ensures ok { OnOk result (Appends (W.written sink.old) (W.written sink.new) (head_text 2 shape.now)) }
+    ensures err { OnErr result (AppendsFront (W.written sink.old) (W.written sink.new) (head_text 2 shape.now)) }
     ensures only { IfErr result (λ e. e ≡ Refusal.WriteFault) }
     ensures grown { W.troubles sink.old ≤ W.troubles sink.new }
     ensures fault { OnErr result (Rises (W.troubles sink.old) (W.troubles sink.new)) }
 {
+    write_all(sink, version_line().as_bytes())?;
     write_all(sink, counts_line(&shape.counts()).as_bytes())?;
     write_queues(sink, shape.queues())?;
     Ok(())

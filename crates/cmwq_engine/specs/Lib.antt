@@ -1,3 +1,4 @@
 pub mod Ends
 pub mod Step
 pub mod Check
+pub mod Upgrade

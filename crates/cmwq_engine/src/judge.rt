@@ -55,7 +55,7 @@ pub fn run_check<S: Source, O: Sink, E: Sink>(
 }
 
 /// The exit status of a run that ended so.
-fn status(ended: &Result<Option<Illegal>, Refusal>) -> u8
+pub(crate) fn status(ended: &Result<Option<Illegal>, Refusal>) -> u8
     ensures { result ≡ check_status ended.now }
 {
     match ended {

@@ -6,9 +6,11 @@ mod judge;
 mod output;
 mod step;
 mod told;
+mod upgrade;
 
 pub use judge::run_check;
 pub use step::run_step;
+pub use upgrade::{newest_stay, run_upgrade};
 
 #[cfg(test)]
 mod tests;

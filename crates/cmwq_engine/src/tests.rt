@@ -7,12 +7,16 @@ use std::process::Abort;
 
 const CALLS: &[u8] = b"shape 1 2 1 3 100\nwq 1 -\nc0 queue 0 0 0\nw0n0 take\nw0n0 finish\n";
 
-const HISTORY: &[u8] = b"shape 1 2 1 3 100
+const HISTORY: &[u8] = b"history 2
+shape 1 2 1 3 100
 wq 1 -
 c0 0 queue 0 0 0 = yes 0
 w0n0 0 take = started 0 enlist 1
 w0n0 1 finish = finished 0
 ";
+
+/// How long the line of the format is, which a history of format 1 doesn't have.
+const FORMAT_LINE: usize = 10;
 
 /// Runs `step`, and compares its status and what it wrote.
 fn check_step(
@@ -65,20 +69,20 @@ fn cut_after(bytes: usize) -> (u8, usize, &'static [u8]) {
         1..=17 => (1, 0, b"cmwq: line 1: not a line of this format\n"),
         18 => (1, 0, b"cmwq: line 2: bad shape\n"),
         19..=24 => (1, 0, b"cmwq: line 2: not a line of this format\n"),
-        25 => (0, 25, b""),
+        25 => (0, 35, b""),
         26..=39 => (1, 0, b"cmwq: line 3: not a line of this format\n"),
-        40 => (0, 50, b""),
+        40 => (0, 60, b""),
         41..=49 => (1, 0, b"cmwq: line 4: not a line of this format\n"),
-        50 => (0, 83, b""),
+        50 => (0, 93, b""),
         51..=61 => (1, 0, b"cmwq: line 5: not a line of this format\n"),
-        _ => (0, 110, b""),
+        _ => (0, 120, b""),
     }
 }
 
 #[test]
 fn refuses_what_is_cut_in_a_line(rt: HostRuntime) {
     assert_eq!(rt; CALLS.len(), 62);
-    assert_eq!(rt; HISTORY.len(), 110);
+    assert_eq!(rt; HISTORY.len(), 120);
     for bytes in 0..=62 {
         let (status, written, told) = cut_after(bytes);
         let calls = CALLS.get(..bytes).expect(&rt, "a front");
@@ -93,7 +97,7 @@ fn tells_what_has_no_room(rt: HostRuntime) {
         &rt,
         b"shape 1 1 1 1 0\nwq 1 -\nc0 fire\n",
         4,
-        b"shape 1 1 1 1 0\nwq 1 -\n",
+        b"history 2\nshape 1 1 1 1 0\nwq 1 -\n",
         b"cmwq: full 1\n",
     );
 }
@@ -101,7 +105,8 @@ fn tells_what_has_no_room(rt: HostRuntime) {
 #[test]
 fn judges_the_first_run(rt: HostRuntime) {
     check_verdict(&rt, HISTORY, 0, b"legal 3\n", b"");
-    check_verdict(&rt, &HISTORY[..25], 0, b"legal 0\n", b"");
+    check_verdict(&rt, &HISTORY[..35], 0, b"legal 0\n", b"");
+    check_verdict(&rt, &HISTORY[FORMAT_LINE..], 0, b"legal 3\n", b"");
 }
 
 #[test]
@@ -143,10 +148,10 @@ w0n0 2 finish = nothing
 fn judges_no_refused_history(rt: HostRuntime) {
     check_verdict(
         &rt,
-        &HISTORY[..109],
+        &HISTORY[..119],
         1,
         b"",
-        b"cmwq: line 5: not a line of this format\n",
+        b"cmwq: line 6: not a line of this format\n",
     );
     check_verdict(
         &rt,
@@ -204,17 +209,17 @@ fn each_call_of_the_source_may_fail(rt: HostRuntime) {
     }
 }
 
-/// `step` writes the shape, the queue and three entries, and flushes.
+/// `step` writes the format, the shape, the queue and three entries, and flushes.
 #[test]
 fn each_call_of_the_output_of_step_may_fail(rt: HostRuntime) {
-    let fronts = [0, 18, 25, 50, 83, 110];
+    let fronts = [0, 10, 28, 35, 60, 93, 120];
     for (before, written) in fronts.iter().enumerate() {
         let (status, output, errors) = faulty(&rt, false, 100, before as u64 + 1);
         assert_eq!(rt; status, 5);
         assert_eq!(rt; Some(output.as_slice()), HISTORY.get(..*written));
         assert_eq!(rt; errors.as_slice(), b"cmwq: write fault\n".as_slice());
     }
-    let (status, output, _) = faulty(&rt, false, 100, 7);
+    let (status, output, _) = faulty(&rt, false, 100, 8);
     assert_eq!(rt; status, 0);
     assert_eq!(rt; output.as_slice(), HISTORY);
 }
@@ -249,4 +254,62 @@ fn a_thousand_interruptions_are_borne(rt: HostRuntime) {
     assert_eq!(rt; interrupted(&rt, 1_000, 1_000), 0);
     assert_eq!(rt; interrupted(&rt, 1_001, 0), 5);
     assert_eq!(rt; interrupted(&rt, 0, 1_001), 5);
+}
+
+/// Runs `upgrade`, and compares its status and what it wrote.
+fn check_upgrade(
+    rt: &(impl Abort + AllocGlobal),
+    history: &[u8],
+    status: u8,
+    upgraded: &[u8],
+    told: &[u8],
+) {
+    let alloc = rt.alloc();
+    let mut output = Memory::writer(alloc, 400).expect(rt, "memory");
+    let mut errors = Memory::writer(alloc, 100).expect(rt, "memory");
+    let ended = run_upgrade(
+        alloc,
+        &mut Memory::reader(history),
+        &mut output,
+        &mut errors,
+    );
+    assert_eq!(rt; ended, status);
+    assert_eq!(rt; output.as_slice(), upgraded);
+    assert_eq!(rt; errors.as_slice(), told);
+}
+
+#[test]
+fn brings_a_legal_history_to_format_2(rt: HostRuntime) {
+    check_upgrade(&rt, &HISTORY[FORMAT_LINE..], 0, HISTORY, b"");
+    check_upgrade(&rt, HISTORY, 0, HISTORY, b"");
+}
+
+#[test]
+fn brings_no_other_history_over(rt: HostRuntime) {
+    check_upgrade(
+        &rt,
+        b"shape 1 2 1 3 100\nwq 1 -\nc0 0 queue 0 0 0 = no\n",
+        3,
+        b"",
+        b"illegal at 0: reply yes 0\n",
+    );
+    check_upgrade(
+        &rt,
+        b"shape 1 2 1 3 100\nwq 1 -\nc0 0 freeze = frozen\n",
+        1,
+        b"",
+        b"cmwq: line 3: not a line of this format\n",
+    );
+}
+
+#[test]
+fn a_fault_of_the_output_of_upgrade_is_told(rt: HostRuntime) {
+    let alloc = rt.alloc();
+    let output = Memory::writer(alloc, 200).expect(&rt, "memory");
+    let mut output = FailsAt::new(output, 3);
+    let mut errors = Memory::writer(alloc, 100).expect(&rt, "memory");
+    let mut input = Memory::reader(HISTORY);
+    assert_eq!(rt; run_upgrade(alloc, &mut input, &mut output, &mut errors), 5);
+    assert_eq!(rt; Some(output.inner().as_slice()), HISTORY.get(..28));
+    assert_eq!(rt; errors.as_slice(), b"cmwq: write fault\n".as_slice());
 }

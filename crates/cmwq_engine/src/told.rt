@@ -4,7 +4,8 @@ ghost use Rattle.std.specs.Prelude.{◌≡◌};
 ghost use Rattle.cmwq_engine.specs.Ends.{refusal_status};
 
 use arrayvec::ArrayString;
-use cmwq_base::{Refusal, Sink, flush_all, write_all};
+use cmwq_base::{Illegal, Refusal, Sink, flush_all, write_all};
+use cmwq_text::illegal_line;
 use std::fmt;
 use std::fmt::Write;
 
@@ -33,6 +34,12 @@ fn tell<E: Sink>(errors: &mut E, line: Result<Told, fmt::Error>) {
 /// Tells how many calls were left out for want of room. Takes no memory; a failing sink changes nothing.
 pub fn tell_full<E: Sink>(errors: &mut E, left_out: u32) {
     tell(errors, spell_full(left_out));
+}
+
+/// Tells the first entry that is wrong of an illegal history. Takes no memory; a failing sink changes nothing.
+pub fn tell_illegal<E: Sink>(errors: &mut E, illegal: Illegal) {
+    let _ = write_all(errors, illegal_line(&illegal).as_bytes());
+    let _ = flush_all(errors);
 }
 
 /// Tells why a run was refused or failed. Takes no memory; a failing sink changes nothing.

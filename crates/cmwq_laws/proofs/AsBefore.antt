@@ -1,6 +1,6 @@
 -- Where widths don't change, what is active is what was active before widths could change.
-use Rattle.std.proofs.Common.{◌≡◌, ◌<◌, ℕ, Bool, true, false, not, ◌&&◌, ◌||◌, List, [], ◌∷◌, ◌++◌, length, filter, find, count_by, None, nat_lt, refl, sym, ap, ap₂, ◌∙◌, arith, subst}
-use Rattle.std.specs.Prelude.{if◌then◌else◌}
+use Rattle.std.proofs.Common.{◌≡◌, ◌<◌, ℕ, Bool, true, false, not, ◌&&◌, ◌||◌, List, [], ◌∷◌, ◌++◌, length, filter, find, count_by, Option, Some, None, option_to_list, nat_lt, refl, sym, ap, ap₂, ◌∙◌, arith, subst}
+use Rattle.std.specs.Prelude.{◌+◌, ◌==◌, if◌then◌else◌}
 use Rattle.std.specs.Option.{option_map_or}
 use Rattle.std.specs.List.{AllByRecursion}
 use Rattle.std.proofs.lemmas.Bool.{ltb-true, lt-ltb}
@@ -15,16 +15,20 @@ use Rattle.cmwq_model.specs.declared.reply.Reply.TheVariants as reply
 use Rattle.cmwq_model.specs.declared.entry.Entry.{Entry}
 use Rattle.cmwq_model.specs.declared.record.Queueing.{Queueing}
 use Rattle.cmwq_model.specs.Layout.{Layout, first_width, is_freezable, pool_at}
-use Rattle.cmwq_model.specs.Calls.{same_pool, serial_of}
+use Rattle.cmwq_model.specs.Calls.{same_pool, serial_of, now}
 use Rattle.cmwq_model.specs.Fate.{is_started}
 use Rattle.cmwq_model.specs.Widths.{width, max_active, is_frozen, frozen_after, sets_max, width_told}
 use Rattle.cmwq_model.specs.Runs.{has_run}
-use Rattle.cmwq_model.specs.Queueings.{queueings, is_live, still_open}
+use Rattle.cmwq_model.specs.Queueings.{queueings, is_live, still_open, is_pending, runs_elsewhere}
 use Rattle.cmwq_model.specs.Active.{is_ahead, has_way, is_active, is_newly_active, is_listed, activated, worklist, next, is_startable}
 use Rattle.cmwq_model.specs.Workers.{is_enlisted}
-use Rattle.cmwq_model.specs.Answer.{answer, take_answer, start_of}
+use Rattle.cmwq_model.specs.declared.record.Ticket.{Ticket}
+use Rattle.cmwq_model.specs.Tickets.{gives_ticket, ticket_for, ticket_in, tickets, is_done, is_unended, unended, destroys, is_destroy_of, is_cancelling, is_crowded, is_ticket, ticket_of, ends_destroy, is_gone}
+use Rattle.cmwq_steps.proofs.Activated.{find_holds}
+use Rattle.cmwq_active.proofs.Lists.{All_map, All_append, All_filter}
+use Rattle.cmwq_model.specs.Answer.{may_call, is_shut, queue_answer, modify_answer, wait_answer, answer, take_answer, start_of}
 use Rattle.cmwq_model.specs.Legal.{IsLegal, entry_for}
-use Rattle.cmwq_laws.specs.FirstWidths.{is_first, is_newly_first, ever_first, is_listed_before, next_before, HasFirstWidths, is_old, take_before, answer_before, entry_before, IsLegalBefore}
+use Rattle.cmwq_laws.specs.FirstWidths.{queue_before, modify_before, wait_before, is_first, is_newly_first, ever_first, is_listed_before, next_before, HasFirstWidths, is_old, take_before, answer_before, entry_before, IsLegalBefore}
 use Rattle.cmwq_active.proofs.Lists.{All_each}
 use Rattle.cmwq_steps.proofs.Filters.{filter_same}
 use Rattle.cmwq_active.proofs.Joined.{active_go_on}
@@ -131,12 +135,91 @@ next_as_before s past p wide =
     listed : AllByRecursion (λ x. is_listed s past p x ≡ is_listed_before s past p x) (activated s past)
     listed = All_each _ (activated s past) (λ x. ap (λ b. b && not (is_started past x.number) && same_pool (pool_at s x.place) p) (active_as_before s past x wide))
 
-answer_as_before : (s : Layout) (past : List Entry) (who : Who) (c : Call) → HasFirstWidths s past → answer s past who c ≡ answer_before s past who c
+-- ---- no queue is gone
+
+not_destroyed : (q : ℕ) (who : Who) (c : Call) (n : ℕ) → destroys q c ≡ false → AllByRecursion (λ t. is_destroy_of q t ≡ false) (option_to_list (ticket_for who c n))
+not_destroyed q (Caller d) c n h = (h, tt)
+not_destroyed q (Worker w) c n h = tt
+
+none_given : (q : ℕ) (e : Entry) (n : ℕ) (b : Bool) → destroys q e.call ≡ false → AllByRecursion (λ t. is_destroy_of q t ≡ false) (option_to_list (if b then ticket_for e.who e.call n else None))
+none_given q e n true h = not_destroyed q e.who e.call n h
+none_given q e n false h = tt
+
+no_destroys : (past : List Entry) (q : ℕ) → AllByRecursion (λ e. destroys q e.call ≡ false) past → AllByRecursion (λ t. is_destroy_of q t ≡ false) (tickets past)
+unfolding tickets
+no_destroys [] q h = tt
+no_destroys (e ∷ past) q h = All_append (λ t. is_destroy_of q t ≡ false) (tickets past) (option_to_list (ticket_in e (length past))) (no_destroys past q h.1) (none_given q e (length past) (gives_ticket e.reply) h.0)
+
+no_end : (past : List Entry) (q : ℕ) (who : Who) (c : Call) → AllByRecursion (λ t. is_destroy_of q t ≡ false) (tickets past) → ends_destroy past q who c ≡ false
+no_end past q who (call.End n) all = at (ticket_of past who n) refl
+  where
+    at : (o : Option Ticket) → ticket_of past who n ≡ o → option_map_or (is_destroy_of q) o false ≡ false
+    at None h = refl
+    at (Some t) h = (find_holds (λ u. is_destroy_of q u ≡ false) (is_ticket who n) (unended past) t
+        (All_filter (λ u. is_destroy_of q u ≡ false) (is_unended past) (tickets past) (All_map (λ u. is_destroy_of q u ≡ false) _ (tickets past) (λ u is stands. is) all)) h).holds
+no_end past q who c all = refl
+
+pub none_gone : (past : List Entry) (q : ℕ) → AllByRecursion (λ e. destroys q e.call ≡ false) past → is_gone past q ≡ false
+unfolding is_gone
+none_gone [] q h = refl
+none_gone (e ∷ past) q h = ap₂ (λ a b. a || (is_done e.reply && b)) (none_gone past q h.1) (no_end past q e.who e.call (no_destroys past q h.1)) ∙ neither (is_done e.reply)
+  where
+    neither : (b : Bool) → (false || (b && false)) ≡ false
+    neither true = refl
+    neither false = refl
+
+old_destroys : (q : ℕ) (c : Call) → is_old c ≡ true → destroys q c ≡ false
+old_destroys q (call.Destroy r) h = cc
+old_destroys q c h = refl
+
+old_none_gone : (past : List Entry) (q : ℕ) → AreOld past → is_gone past q ≡ false
+old_none_gone past q old = none_gone past q (All_map (λ e. is_old e.call ≡ true) _ past (λ e is. old_destroys q e.call is) old)
+
+-- ---- each answer to such a call is as it was
+
+queue_as_before : (past : List Entry) (who : Who) (i q t : ℕ) → is_gone past q ≡ false → queue_answer past who i q t ≡ queue_before past who i q t
+unfolding queue_answer queue_before
+queue_as_before past who i q t none = ap
+    (λ b.
+    if not (may_call past who) then reply.Misuse
+    else if b then reply.Gone
+    else if is_cancelling past i then reply.No
+    else if is_pending past i then reply.No
+    else if runs_elsewhere past i q then reply.Foreign
+    else if is_shut past who q t then reply.Draining
+    else if t == 0 then reply.Yes (length past)
+    else reply.Booked (now past + t))
+    none
+
+modify_as_before : (past : List Entry) (who : Who) (i q t : ℕ) → is_gone past q ≡ false → modify_answer past who i q t ≡ modify_before past who i q t
+unfolding modify_answer modify_before
+modify_as_before past who i q t none = ap
+    (λ b.
+    if not (may_call past who) then reply.Misuse
+    else if b then reply.Gone
+    else if is_cancelling past i then reply.No
+    else if runs_elsewhere past i q then reply.Foreign
+    else if is_shut past who q t then reply.Draining
+    else if is_pending past i then (if t == 0 then reply.Again (length past) else reply.Rebooked (now past + t))
+    else if t == 0 then reply.Yes (length past)
+    else reply.Booked (now past + t))
+    none
+
+wait_as_before : (past : List Entry) (who : Who) (q : ℕ) → is_gone past q ≡ false → wait_answer past who q ≡ wait_before past who
+unfolding wait_answer wait_before
+wait_as_before past who q none = ap (λ b. if b then reply.Gone else if is_crowded past who then reply.Crowded else reply.Ticket (length past)) none
+
+answer_as_before : (s : Layout) (past : List Entry) (who : Who) (c : Call) → HasFirstWidths s past → ((q : ℕ) → is_gone past q ≡ false) → answer s past who c ≡ answer_before s past who c
 unfolding answer take_answer take_before
-answer_as_before s past (Worker w) call.Take wide = ap (λ o. if not (is_enlisted past w) || has_run past w then reply.Misuse else start_of s past w o) (next_as_before s past w.pool wide)
-answer_as_before s past (Caller c) call.Take wide = refl
-answer_as_before s past (Worker w) c wide = refl
-answer_as_before s past (Caller d) c wide = refl
+answer_as_before s past who (call.Queue i q c) wide none = queue_as_before past who i.0 q.0 0 (none q.0)
+answer_as_before s past who (call.Delay i q c t) wide none = queue_as_before past who i.0 q.0 t (none q.0)
+answer_as_before s past who (call.Modify i q c t) wide none = modify_as_before past who i.0 q.0 t (none q.0)
+answer_as_before s past who (call.Flush q) wide none = wait_as_before past who q.0 (none q.0)
+answer_as_before s past who (call.Drain q) wide none = wait_as_before past who q.0 (none q.0)
+answer_as_before s past (Worker w) call.Take wide none = ap (λ o. if not (is_enlisted past w) || has_run past w then reply.Misuse else start_of s past w o) (next_as_before s past w.pool wide)
+answer_as_before s past (Caller c) call.Take wide none = refl
+answer_as_before s past (Worker w) c wide none = refl
+answer_as_before s past (Caller d) c wide none = refl
 
 kept_by_cause : (s : Layout) (past : List Entry) (who : Who) (c : Call) (r : Reply) → Cause s past who c r → is_old c ≡ true → keeps_reply r ≡ true
 unfolding keeps_reply
@@ -151,20 +234,20 @@ unfolding IsLegal
 legal_kept s [] old legal = tt
 legal_kept s (e ∷ past) old legal = (subst (λ r. keeps_reply r ≡ true) (sym (answer_is s past e legal)) (kept_answer s past e.who e.call old.0), legal_kept s past old.1 legal.2)
 
-entry_as_before : (s : Layout) (past : List Entry) (who : Who) (c : Call) → HasFirstWidths s past → entry_for s past who c ≡ entry_before s past who c
-entry_as_before s past who c wide = ap (λ r. record { who = who; serial = serial_of past who; call = c; reply = r }) (answer_as_before s past who c wide)
+entry_as_before : (s : Layout) (past : List Entry) (who : Who) (c : Call) → HasFirstWidths s past → ((q : ℕ) → is_gone past q ≡ false) → entry_for s past who c ≡ entry_before s past who c
+entry_as_before s past who c wide none = ap (λ r. record { who = who; serial = serial_of past who; call = c; reply = r }) (answer_as_before s past who c wide none)
 
 legal_before : (s : Layout) (past : List Entry) → AreOld past → IsLegal s past → IsLegalBefore s past
 unfolding IsLegal IsLegalBefore
 legal_before s [] old legal = tt
-legal_before s (e ∷ past) old legal = (legal.0, legal.1 ∙ entry_as_before s past e.who e.call (widths_kept s past old.1 (legal_kept s past old.1 legal.2)), legal_before s past old.1 legal.2)
+legal_before s (e ∷ past) old legal = (legal.0, legal.1 ∙ entry_as_before s past e.who e.call (widths_kept s past old.1 (legal_kept s past old.1 legal.2)) (λ q. old_none_gone past q old.1), legal_before s past old.1 legal.2)
 
 legal_after : (s : Layout) (past : List Entry) → AreOld past → IsLegalBefore s past → IsLegal s past
 unfolding IsLegal IsLegalBefore
 legal_after s [] old legal = tt
 legal_after s (e ∷ past) old legal =
     let earlier = legal_after s past old.1 legal.2 in
-    (legal.0, legal.1 ∙ sym (entry_as_before s past e.who e.call (widths_kept s past old.1 (legal_kept s past old.1 earlier))), earlier)
+    (legal.0, legal.1 ∙ sym (entry_as_before s past e.who e.call (widths_kept s past old.1 (legal_kept s past old.1 earlier)) (λ q. old_none_gone past q old.1)), earlier)
 
 pub legal_as_before : (s : Layout) (past : List Entry) → AreOld past → (IsLegal s past → IsLegalBefore s past) × (IsLegalBefore s past → IsLegal s past)
 legal_as_before s past old = ((λ h. legal_before s past old h), (λ h. legal_after s past old h))

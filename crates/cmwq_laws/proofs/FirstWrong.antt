@@ -10,13 +10,9 @@ use Rattle.cmwq_model.specs.declared.verdict.Illegal.{Illegal}
 use Rattle.cmwq_model.specs.Layout.{Layout}
 use Rattle.cmwq_model.specs.Legal.{IsLegal, past_of, entry_for}
 use Rattle.cmwq_model.specs.Verdict.{Wants, IsFirstWrong}
+use Rattle.cmwq_steps.proofs.Growing.{older_are_legal}
 
 -- ---- a first wrong entry is of no legal history
-
-legal_older : (s : Layout) (xs past : List Entry) → IsLegal s (xs ++ past) → IsLegal s past
-unfolding IsLegal
-legal_older s [] past h = h
-legal_older s (e ∷ xs) past h = legal_older s xs past h.2
 
 past_split : (before : List Entry) (e : Entry) (rest : List Entry) → past_of (before ++ e ∷ rest) ≡ past_of rest ++ (e ∷ past_of before)
 past_split before e rest =
@@ -33,7 +29,7 @@ never_right s past e (wanted.Reply r) h right = h.2 (ap (λ (x : Entry). x.reply
 -- an entry after which the history was legal isn't wrong
 never_legal : (s : Layout) (before rest : List Entry) (e : Entry) (w : Wanted) → Wants s (past_of before) e w → IsLegal s (past_of (before ++ e ∷ rest)) → ⊥
 never_legal s before rest e w wants legal =
-    never_right s (past_of before) e w wants (right_entry s (past_of before) e (legal_older s (past_of rest) (e ∷ past_of before) (subst (IsLegal s) (past_split before e rest) legal)))
+    never_right s (past_of before) e w wants (right_entry s (past_of before) e (older_are_legal s (past_of rest) (e ∷ past_of before) (subst (IsLegal s) (past_split before e rest) legal)))
 
 pub wrong_are_illegal : (s : Layout) (entries : List Entry) (i : Illegal) → IsFirstWrong s entries i → IsLegal s (past_of entries) → ⊥
 wrong_are_illegal s entries i f legal = never_legal s f.before f.rest f.entry i.wanted f.wants (subst (λ (es : List Entry). IsLegal s (past_of es)) f.parts legal)

@@ -4,6 +4,7 @@ pub mod Cancelling
 pub mod EndedOnce
 pub mod FirstWrong
 pub mod Gone
+pub mod InRange
 pub mod OneEntry
 pub mod OneWorker
 pub mod Settled

@@ -1,22 +1,16 @@
 -- Room: a history that is made by steps is within its room, and what is promised is never refused.
-use Rattle.std.proofs.Common.{◌≡◌, ◌≤◌, ◌+◌, ℕ, Bool, true, false, List, [], ◌∷◌, count_by, refl, arith}
+use Rattle.std.proofs.Common.{◌≡◌, ◌≤◌, ◌+◌, ℕ, Bool, true, false, List, [], ◌∷◌, refl, arith}
 use Rattle.std.specs.Prelude.{fold, if◌then◌else◌}
-use Rattle.std.specs.List.{AllByRecursion, range_with_len}
+use Rattle.std.specs.List.{AllByRecursion}
 use Rattle.std.proofs.lemmas.Bool.{leb-true, le-leb}
 use Rattle.cmwq_model.specs.declared.id.Who.{Who}
 use Rattle.cmwq_model.specs.declared.call.Call.{Call}
 use Rattle.cmwq_model.specs.Layout.{Layout, fits}
-use Rattle.cmwq_model.specs.Bookings.{booking, is_booked}
-use Rattle.cmwq_model.specs.Runs.{last_start, has_run, runs_asleep}
-use Rattle.cmwq_model.specs.Queueings.{queueings}
-use Rattle.cmwq_model.specs.Tickets.{tickets}
 use Rattle.cmwq_model.specs.Answer.{answer}
 use Rattle.cmwq_model.specs.Legal.{IsLegal, entry_for}
-use Rattle.cmwq_model.specs.Room.{Steps, workers, owed, needed, has_room, step, steps, none}
+use Rattle.cmwq_model.specs.Room.{Steps, needed, has_room, step, steps, none}
 use Rattle.cmwq_steps.specs.RoomSteps.{is_promised}
-use Rattle.cmwq_active.proofs.Lists.{All_each, count_by-none}
 use Rattle.cmwq_laws.proofs.OneEntry.{steps_are_legal}
-use Rattle.cmwq_model.specs.Widths.{is_frozen}
 use Rattle.cmwq_steps.proofs.Promised.{promised_need_no_more}
 use Rattle.cmwq_steps.proofs.Owing.{nothing_owed}
 

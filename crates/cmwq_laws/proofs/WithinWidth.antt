@@ -8,7 +8,6 @@ use Rattle.cmwq_model.specs.Layout.{Layout}
 use Rattle.cmwq_model.specs.Widths.{width}
 use Rattle.cmwq_model.specs.Queueings.{queueings, is_live, still_open}
 use Rattle.cmwq_model.specs.Active.{is_active, has_way, is_newly_active}
-use Rattle.cmwq_model.specs.Legal.{IsLegal}
 use Rattle.cmwq_steps.specs.Places.{is_on, open_on}
 use Rattle.cmwq_steps.specs.Histories.{OfEachEntry}
 use Rattle.cmwq_laws.specs.Headline.{WithinWidthAfter}
@@ -59,6 +58,3 @@ few_after s past e = All_filter _ (is_newly_active s past e) (queueings (e ∷ p
 pub within_width : (s : Layout) (past : List Entry) → OfEachEntry (WithinWidthAfter s) past
 within_width s [] = tt
 within_width s (e ∷ past) = (few_after s past e, within_width s past)
-
-pub active_within_width : (s : Layout) (past : List Entry) → IsLegal s past → OfEachEntry (WithinWidthAfter s) past
-active_within_width s past legal = within_width s past

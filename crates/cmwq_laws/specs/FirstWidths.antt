@@ -1,5 +1,6 @@
--- Where widths don't change, the active queueings are the first open ones, and a history is legal exactly where it was before widths could change.
-use Rattle.std.specs.Prelude.{◌≡◌, ℕ, Bool, true, false, ◌&&◌, ◌||◌, not, if◌then◌else◌, List, [], ◌∷◌, ◌++◌, filter, find, count_by, Option, IsTrue, nat_lt}
+-- Where widths don't change and no queue is destroyed, the active queueings are the first open ones, and a history is legal exactly where it was
+-- before they could.
+use Rattle.std.specs.Prelude.{◌≡◌, ◌==◌, ◌+◌, ℕ, length, Bool, true, false, ◌&&◌, ◌||◌, not, if◌then◌else◌, List, [], ◌∷◌, ◌++◌, filter, find, count_by, Option, IsTrue, nat_lt}
 use Rattle.std.specs.List.{AllByRecursion}
 use Rattle.cmwq_model.specs.declared.id.PoolId.{PoolId}
 use Rattle.cmwq_model.specs.declared.id.WorkerId.{WorkerId}
@@ -13,13 +14,14 @@ use Rattle.cmwq_model.specs.declared.entry.Entry.{Entry}
 use Rattle.cmwq_model.specs.declared.record.Queueing.{Queueing}
 use Rattle.cmwq_model.specs.Layout.{Layout, first_width, pool_at, fits}
 use Rattle.cmwq_model.specs.Widths.{width}
-use Rattle.cmwq_model.specs.Calls.{same_pool, serial_of}
+use Rattle.cmwq_model.specs.Calls.{same_pool, serial_of, now}
 use Rattle.cmwq_model.specs.Fate.{is_started}
 use Rattle.cmwq_model.specs.Runs.{has_run}
-use Rattle.cmwq_model.specs.Queueings.{queueings, still_open, is_live}
+use Rattle.cmwq_model.specs.Queueings.{queueings, still_open, is_live, is_pending, runs_elsewhere}
 use Rattle.cmwq_model.specs.Active.{is_ahead, is_active, activated, is_startable}
 use Rattle.cmwq_model.specs.Workers.{is_enlisted}
-use Rattle.cmwq_model.specs.Answer.{answer, start_of}
+use Rattle.cmwq_model.specs.Tickets.{is_cancelling, is_crowded, destroys, is_gone}
+use Rattle.cmwq_model.specs.Answer.{answer, start_of, may_call, is_shut}
 use Rattle.cmwq_model.specs.Legal.{IsLegal}
 
 -- as it was: active is what is open with fewer older open ones on its queue and CPU than the layout says
@@ -61,7 +63,37 @@ take_before s past w =
     if not (is_enlisted past w) || has_run past w then reply.Misuse
     else start_of s past w (next_before s past w.pool)
 
+-- and no queue was ever gone
+unfoldable pub queue_before : List Entry → Who → ℕ → ℕ → ℕ → Reply
+queue_before past who i q ticks =
+    if not (may_call past who) then reply.Misuse
+    else if is_cancelling past i then reply.No
+    else if is_pending past i then reply.No
+    else if runs_elsewhere past i q then reply.Foreign
+    else if is_shut past who q ticks then reply.Draining
+    else if ticks == 0 then reply.Yes (length past)
+    else reply.Booked (now past + ticks)
+
+unfoldable pub modify_before : List Entry → Who → ℕ → ℕ → ℕ → Reply
+modify_before past who i q ticks =
+    if not (may_call past who) then reply.Misuse
+    else if is_cancelling past i then reply.No
+    else if runs_elsewhere past i q then reply.Foreign
+    else if is_shut past who q ticks then reply.Draining
+    else if is_pending past i then (if ticks == 0 then reply.Again (length past) else reply.Rebooked (now past + ticks))
+    else if ticks == 0 then reply.Yes (length past)
+    else reply.Booked (now past + ticks)
+
+unfoldable pub wait_before : List Entry → Who → Reply
+wait_before past who = if is_crowded past who then reply.Crowded else reply.Ticket (length past)
+
+-- all other answers are word for word what they were
 abbrev pub answer_before : Layout → List Entry → Who → Call → Reply
+answer_before s past who (call.Queue i q c) = queue_before past who i.0 q.0 0
+answer_before s past who (call.Delay i q c ticks) = queue_before past who i.0 q.0 ticks
+answer_before s past who (call.Modify i q c ticks) = modify_before past who i.0 q.0 ticks
+answer_before s past who (call.Flush q) = wait_before past who
+answer_before s past who (call.Drain q) = wait_before past who
 answer_before s past (Worker w) call.Take = take_before s past w
 answer_before s past who c = answer s past who c
 
@@ -71,6 +103,10 @@ entry_before s past who call = record { who = who; serial = serial_of past who; 
 unfoldable pub IsLegalBefore : Layout → List Entry → Type 0
 IsLegalBefore s [] = Unit {0}
 IsLegalBefore s (e ∷ past) = IsTrue (fits s e.who e.call) × (e ≡ entry_before s past e.who e.call) × IsLegalBefore s past
+
+-- without a destroy of it no queue is gone
+abbrev pub NoneGoneBefore : Type 0
+NoneGoneBefore = (past : List Entry) (q : ℕ) → AllByRecursion (λ e. destroys q e.call ≡ false) past → is_gone past q ≡ false
 
 abbrev pub LegalAsBefore : Type 0
 LegalAsBefore = (s : Layout) (past : List Entry) → AllByRecursion (λ e. is_old e.call ≡ true) past → (IsLegal s past → IsLegalBefore s past) × (IsLegalBefore s past → IsLegal s past)

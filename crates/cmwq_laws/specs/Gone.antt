@@ -16,8 +16,11 @@ abbrev pub NoneOpen : List Entry → ℕ → Type 0
 NoneOpen past q = AllByRecursion (λ x. (x.place.queue.0 == q) ≡ false) (still_open past)
 
 -- so it is once the end of a destroy was answered done, however the history goes on
+abbrev pub GoneAreEmpty : List Entry → Type 0
+GoneAreEmpty past = (q : ℕ) → is_gone past q ≡ true → NoneOpen past q × NoneBooked past q
+
 abbrev pub GoneStayEmpty : Type 0
-GoneStayEmpty = OfLegal (λ s past. (q : ℕ) → is_gone past q ≡ true → NoneOpen past q × NoneBooked past q)
+GoneStayEmpty = OfLegal (λ s. GoneAreEmpty)
 
 abbrev pub GoneStayGone : Type 0
 GoneStayGone = (past : List Entry) (e : Entry) (q : ℕ) → is_gone past q ≡ true → is_gone (e ∷ past) q ≡ true

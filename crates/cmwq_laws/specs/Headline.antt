@@ -43,13 +43,13 @@ StartsEarlier = OfEachEntry (λ past e. (n : ℕ) → starts n e ≡ true → is
 abbrev pub QueueingsStart : Type 0
 QueueingsStart = OfLegal (λ s. StartsEarlier)
 
--- ---- where an entry makes a queueing active, no more than the width that then holds of its queue are active on its CPU after it
+-- ---- in any history: where an entry makes a queueing active, no more than the width that then holds of its queue are active on its CPU after it
 
 abbrev pub WithinWidthAfter : Layout → List Entry → Entry → Type 0
 WithinWidthAfter s past e = AllByRecursion (λ x. count_by (is_active s (e ∷ past)) (open_on (e ∷ past) x.place.queue.0 x.place.cpu.0) ≤ width s (e ∷ past) x.place.queue.0) (newly_active s past e)
 
 abbrev pub ActiveWithinWidth : Type 0
-ActiveWithinWidth = OfLegal (λ s. OfEachEntry (WithinWidthAfter s))
+ActiveWithinWidth = (s : Layout) (past : List Entry) → OfEachEntry (WithinWidthAfter s) past
 
 -- ---- and only active ones are started, so of the workers of a CPU no more have runs of a queue than are active there
 

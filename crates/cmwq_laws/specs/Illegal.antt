@@ -9,7 +9,8 @@ use Rattle.cmwq_model.specs.declared.reply.Reply.TheVariants as reply
 use Rattle.cmwq_model.specs.declared.entry.Entry.{Entry}
 use Rattle.cmwq_model.specs.Layout.{Layout}
 use Rattle.cmwq_model.specs.Legal.{past_of}
-use Rattle.cmwq_laws.specs.Headline.{RunsInOneWorker, StartedOnce, StartsEarlier, StartsActive, WaitsEndAfter, CancelsSettle}
+use Rattle.cmwq_laws.specs.Headline.{RunsInOneWorker, StartedOnce, StartsEarlier, StartsActive, RunsWithinActive, WaitsEndAfter, CancelsSettle}
+use Rattle.cmwq_laws.specs.Gone.{GoneAreEmpty}
 
 -- the only caller, and the first two workers of a CPU
 abbrev pub by_caller : ℕ → Call → Reply → Entry
@@ -69,7 +70,7 @@ started_inactive = past_of (
     [])
 
 abbrev pub RunBeyondMaxActive : Type 0
-RunBeyondMaxActive = StartsActive narrow started_inactive → ⊥
+RunBeyondMaxActive = (StartsActive narrow started_inactive → ⊥) × (RunsWithinActive narrow started_inactive → ⊥)
 
 -- a wait that begins after an item was queued ends before the item was started
 abbrev pub ended_early : Call → List Entry
@@ -83,6 +84,7 @@ abbrev pub EndedEarly : Type 0
 EndedEarly =
     (WaitsEndAfter (ended_early (call.Flush (record { 0 = 0 }))) → ⊥) × (WaitsEndAfter (ended_early (call.FlushItem (record { 0 = 0 }))) → ⊥)
     × (WaitsEndAfter (ended_early (call.FlushDelayed (record { 0 = 0 }))) → ⊥) × (WaitsEndAfter (ended_early (call.Drain (record { 0 = 0 }))) → ⊥)
+    × (WaitsEndAfter (ended_early (call.Destroy (record { 0 = 0 }))) → ⊥)
 
 -- a cancel_sync is done while the item is pending, and while it runs
 abbrev pub done_while_pending : List Entry
@@ -102,3 +104,7 @@ done_while_it_runs = past_of (
 
 abbrev pub Unsettled : Type 0
 Unsettled = (CancelsSettle done_while_pending → ⊥) × (CancelsSettle done_while_it_runs → ⊥)
+
+-- a destroy is done while something of its queue is open
+abbrev pub GoneButOpen : Type 0
+GoneButOpen = GoneAreEmpty (ended_early (call.Destroy (record { 0 = 0 }))) → ⊥

@@ -1,5 +1,6 @@
 pub mod Fidelity
 pub mod FirstWidths
+pub mod Fitting
 pub mod Gone
 pub mod Headline
 pub mod Illegal

@@ -1,8 +1,8 @@
 //! Why the laws are said of legal histories.
 
-ghost use Rattle.cmwq_laws.specs.Illegal.{EndedEarly, RunBeyondMaxActive, RunInTwoWorkers, StartedTwice, StartedUnqueued, Unsettled};
+ghost use Rattle.cmwq_laws.specs.Illegal.{EndedEarly, RunBeyondMaxActive, RunInTwoWorkers, StartedTwice, StartedUnqueued, Unsettled, GoneButOpen};
 
-/// Histories that aren't legal break each law of what runs, starts, waits and is cancelled.
+/// Histories that aren't legal break each law of what runs, starts, waits, is cancelled and is gone.
 pub fn illegal_histories_break_laws()
     ensures one_worker { RunInTwoWorkers }
     ensures one_start { StartedTwice }
@@ -10,4 +10,5 @@ pub fn illegal_histories_break_laws()
     ensures max_active { RunBeyondMaxActive }
     ensures waits { EndedEarly }
     ensures cancels { Unsettled }
+    ensures gone { GoneButOpen }
 {}

@@ -4,18 +4,20 @@
 mod before;
 mod destroys;
 mod fidelity;
+mod fitting;
 mod headline;
 mod illegal;
 mod room;
 mod sanity;
 mod verdicts;
 
-pub use before::{active_are_as_before, legal_are_as_before};
+pub use before::{active_are_as_before, legal_are_as_before, none_gone_before};
 pub use destroys::{gone_stay_empty, gone_stay_gone};
 pub use fidelity::{
     active_are_first, queueings_stand_by_number, replies_name_themselves, runs_are_items,
     tickets_wait_for_least, worklists_are_in_order,
 };
+pub use fitting::{entries_fit, legal_histories_fit};
 pub use headline::{
     active_are_within_width, cancel_syncs_settle, cancelled_stay_idle,
     flushes_end_after_all_before, items_run_in_one_worker, numbers_start_once, only_active_start,

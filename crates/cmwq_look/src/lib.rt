@@ -21,7 +21,8 @@ pub use queueings::{
 pub use runs::{has_run, item_run, item_runs, run, runs_asleep, runs_awake};
 pub use tally::{now, serial_of};
 pub use tickets::{
-    flushes, is_being_destroyed, is_cancelling, is_crowded, is_draining, is_gone, ticket_of, unended_at,
+    flushes, is_being_destroyed, is_cancelling, is_crowded, is_draining, is_gone, ticket_of,
+    unended_at,
 };
 pub use widths::{is_frozen, width_set};
 

@@ -1,5 +1,5 @@
 -- How many are active on a queue and CPU after an entry, and what waits there.
-use Rattle.std.proofs.Common.{◌≡◌, ◌≤◌, ◌+◌, ◌-◌, ℕ, zero, suc, Bool, true, false, cond, not, ◌&&◌, ◌||◌, List, [], ◌∷◌, ◌++◌, length, filter, count_by, take, drop, Option, Some, None, option_to_list, refl, sym, ap, ap₂, ◌∙◌, arith}
+use Rattle.std.proofs.Common.{◌≡◌, ◌+◌, ◌-◌, ℕ, zero, suc, Bool, true, false, cond, not, ◌&&◌, List, [], ◌∷◌, ◌++◌, filter, count_by, take, drop, Option, Some, None, option_to_list, refl, sym, ap, ap₂, ◌∙◌, arith}
 use Rattle.std.specs.Option.{option_map_or}
 use Rattle.std.specs.List.{AllByRecursion}
 use Rattle.std.proofs.lemmas.List.Sums.{sum_by-append}
@@ -16,16 +16,18 @@ use Rattle.cmwq_steps.specs.Places.{is_on, open_on, active_count}
 use Rattle.cmwq_steps.specs.Endings.{is_spared, is_ended, ending}
 use Rattle.cmwq_steps.specs.Activations.{waits, stay_count}
 use Rattle.cmwq_steps.specs.Waiting.{candidates, has_none, waiting_on, is_active_on, ends_active_on}
-use Rattle.cmwq_active.proofs.Lists.{All_map, All_each, All_filter, count_by-cons, count_by-none, count_by-filter}
+use Rattle.cmwq_active.proofs.Lists.{All_each, count_by-cons, count_by-none, count_by-filter}
 use Rattle.cmwq_active.proofs.Rising.{opening_number}
-use Rattle.cmwq_active.proofs.Joined.{active_go_on, stays_active}
-use Rattle.cmwq_steps.proofs.Filters.{filter_same, filter_none, count_by-same}
+use Rattle.cmwq_active.proofs.Joined.{stays_active}
+use Rattle.cmwq_steps.proofs.Filters.{filter_none, count_by-same}
 use Rattle.cmwq_steps.proofs.Fronts.{IsFront, front_filter, count_split}
 use Rattle.cmwq_steps.proofs.Active.{on_each, ways_front, not_active_yet, active_counted}
 use Rattle.cmwq_steps.proofs.Promoted.{newly_of_open, newly_active_on}
 use Rattle.cmwq_steps.proofs.Endings.{open_go_on}
 use Rattle.cmwq_steps.proofs.Ended.{one_ends}
-use Rattle.cmwq_steps.proofs.Waiting.{filters_flip, newly_are, waiting_goes_on}
+use Rattle.cmwq_steps.proofs.Waiting.{newly_are, waiting_goes_on}
+use Rattle.cmwq_steps.proofs.Promoted.{turn_filters}
+use Rattle.cmwq_steps.proofs.Truth.{flip, and_false}
 
 -- ---- where the first so many pass, the rest fail
 
@@ -54,42 +56,32 @@ module _ {X : Type 0} where
 pub waiting_on_goes_on : (s : Layout) (past : List Entry) (e : Entry) (q c : ℕ)
     → waiting_on s (e ∷ past) q c ≡ drop (width s (e ∷ past) q - stay_count s past e q c) (filter (waits s past) (open_on (e ∷ past) q c))
 waiting_on_goes_on s past e q c =
-    filters_flip (waits s (e ∷ past)) (is_on q c) (still_open (e ∷ past)) ∙ ap (filter (is_on q c)) (waiting_goes_on s past e)
-    ∙ filters_flip (is_on q c) (has_none s (e ∷ past)) (candidates s past e) ∙ ap (filter (has_none s (e ∷ past))) (sym here)
+    turn_filters (waits s (e ∷ past)) (is_on q c) (still_open (e ∷ past)) ∙ ap (filter (is_on q c)) (waiting_goes_on s past e)
+    ∙ turn_filters (is_on q c) (has_none s (e ∷ past)) (candidates s past e) ∙ ap (filter (has_none s (e ∷ past))) (sym here)
     ∙ rest_dropped (has_way s (e ∷ past)) (width s (e ∷ past) q - stay_count s past e q c) (filter (waits s past) (open_on (e ∷ past) q c))
     (front_filter (has_way s (e ∷ past)) (waits s past) (open_on (e ∷ past) q c) (ways_front s (e ∷ past) q c)) passes
   where
     here : filter (waits s past) (open_on (e ∷ past) q c) ≡ filter (is_on q c) (candidates s past e)
-    here = filters_flip (waits s past) (is_on q c) (still_open (e ∷ past))
+    here = turn_filters (waits s past) (is_on q c) (still_open (e ∷ past))
 
     passes : filter (has_way s (e ∷ past)) (filter (waits s past) (open_on (e ∷ past) q c)) ≡ take (width s (e ∷ past) q - stay_count s past e q c) (filter (waits s past) (open_on (e ∷ past) q c))
-    passes = ap (filter (has_way s (e ∷ past))) here ∙ filters_flip (has_way s (e ∷ past)) (is_on q c) (candidates s past e) ∙ ap (filter (is_on q c)) (sym (newly_are s past e)) ∙ newly_active_on s past e q c
+    passes = ap (filter (has_way s (e ∷ past))) here ∙ turn_filters (has_way s (e ∷ past)) (is_on q c) (candidates s past e) ∙ ap (filter (is_on q c)) (sym (newly_are s past e)) ∙ newly_active_on s past e q c
 
 -- ---- the count after an entry
-
-turned : (a b : Bool) → (a && b) ≡ (b && a)
-turned true true = refl
-turned true false = refl
-turned false true = refl
-turned false false = refl
 
 -- those that were active and are open are active
 both_active : (s : Layout) (past : List Entry) (e : Entry) (q c : ℕ) → AllByRecursion (λ x. (is_active s (e ∷ past) x && is_active s past x) ≡ is_active s past x) (open_on (e ∷ past) q c)
 both_active s past e q c = on_each _ (e ∷ past) q c (All_each _ (queueings (e ∷ past)) (λ x live on. at x (is_active s past x) refl live))
   where
-    none : (b : Bool) → (b && false) ≡ false
-    none true = refl
-    none false = refl
-
     at : (x : Queueing) (b : Bool) → is_active s past x ≡ b → is_live (e ∷ past) x ≡ true → (is_active s (e ∷ past) x && b) ≡ b
     at x true is live = ap (λ b. b && true) (stays_active s past e x is live)
-    at x false is live = none (is_active s (e ∷ past) x)
+    at x false is live = and_false (is_active s (e ∷ past) x)
 
 newly_counted : (s : Layout) (past : List Entry) (e : Entry) (q c : ℕ) → count_by (is_newly_active s past e) (open_on (e ∷ past) q c) ≡ count_by (is_on q c) (newly_active s past e)
 newly_counted s past e q c =
     let newly = is_newly_active s past e in
     sym (count_by-filter (λ x. is_on q c x && newly x) (is_on q c) newly (still_open (e ∷ past)) (λ x. refl))
-    ∙ count_by-filter (λ x. is_on q c x && newly x) newly (is_on q c) (still_open (e ∷ past)) (λ x. turned (is_on q c x) (newly x))
+    ∙ count_by-filter (λ x. is_on q c x && newly x) newly (is_on q c) (still_open (e ∷ past)) (λ x. flip (is_on q c x) (newly x))
     ∙ ap (count_by (is_on q c)) (sym (newly_of_open s past e))
 
 pub active_count_goes_on : (s : Layout) (past : List Entry) (e : Entry) (q c : ℕ) → active_count s (e ∷ past) q c ≡ stay_count s past e q c + count_by (is_on q c) (newly_active s past e)
@@ -101,11 +93,7 @@ active_count_goes_on s past e q c =
 
 opened_none : (s : Layout) (past : List Entry) (e : Entry) (q c : ℕ) (o : Option Queueing) → opening past e ≡ o → count_by (is_active_on s past q c) (option_to_list o) ≡ 0
 opened_none s past e q c None h = refl
-opened_none s past e q c (Some x) h = count_by-none (is_active_on s past q c) (x ∷ []) (ap (λ b. is_on q c x && b) (not_active_yet s past x (opening_number past e x h)) ∙ none (is_on q c x), tt)
-  where
-    none : (b : Bool) → (b && false) ≡ false
-    none true = refl
-    none false = refl
+opened_none s past e q c (Some x) h = count_by-none (is_active_on s past q c) (x ∷ []) (ap (λ b. is_on q c x && b) (not_active_yet s past x (opening_number past e x h)) ∙ and_false (is_on q c x), tt)
 
 count_option : (p : Queueing → Bool) (o : Option Queueing) → count_by p (option_to_list o) ≡ one (option_map_or p o false)
 count_option p None = refl

@@ -48,7 +48,7 @@ pub data Cause (s : Layout) (past : List Entry) : Who → Call → Reply → Typ
   nothing : (who : Who) (c : Call) → Cause s past who c reply.Nothing
   idle : (who : Who) (c : Call) → Cause s past who c reply.Idle
   crowded : (who : Who) (c : Call) → Cause s past who c reply.Crowded
-  waiting : (who : Who) (c : Call) (n : ℕ) → Cause s past who c (reply.Waiting n)
+  waiting : (who : Who) (k : ℕ) (t : Ticket) (n : ℕ) → waits_for past t.number t.call ≡ Some n → Cause s past who (call.End k) (reply.Waiting n)
   held : (who : Who) (c : Call) → Cause s past who c reply.Held
   kept : (who : Who) (c : Call) → Cause s past who c reply.Kept
   gone : (who : Who) (c : Call) → Cause s past who c reply.Gone
@@ -189,7 +189,7 @@ cancel_sync_cause s past who i false None false ha ho hb = sync_waits who i ha h
 
 wait_cause : (s : Layout) (past : List Entry) (who : Who) (n : ℕ) (t : Ticket) (o : Option ℕ) → ticket_of past who n ≡ Some t → waits_for past t.number t.call ≡ o → Cause s past who (call.End n) (waiting_for o)
 wait_cause s past who n t None ht ho = ended who n t ht ho
-wait_cause s past who n t (Some m) ht ho = waiting who _ m
+wait_cause s past who n t (Some m) ht ho = waiting who n t m ho
 
 end_cause : (s : Layout) (past : List Entry) (who : Who) (n : ℕ) (o : Option Ticket) → ticket_of past who n ≡ o → Cause s past who (call.End n) (end_of_ticket past o)
 end_cause s past who n None h = misuse who _

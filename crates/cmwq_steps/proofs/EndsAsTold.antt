@@ -1,9 +1,8 @@
 -- The queueing that an entry ends, read off its reply, and an item's run as a queueing.
-use Rattle.std.proofs.Common.{◌≡◌, ℕ, Bool, true, false, List, [], ◌∷◌, Option, Some, None, refl, sym, ap, ◌∙◌, subst}
+use Rattle.std.proofs.Common.{◌≡◌, ℕ, List, ◌∷◌, Option, Some, None, refl, sym, ap, ◌∙◌}
 use Rattle.std.specs.Prelude.{option_map, option_and_then, if◌then◌else◌}
 use Rattle.std.specs.Option.{option_or}
 use Rattle.std.specs.List.{AllByRecursion}
-use Rattle.cmwq_model.specs.declared.id.WorkerId.{WorkerId}
 use Rattle.cmwq_model.specs.declared.id.Who.{Who}
 use Rattle.cmwq_model.specs.declared.id.Who.TheVariants.{Caller, Worker}
 use Rattle.cmwq_model.specs.declared.call.Call.{Call}
@@ -19,7 +18,6 @@ use Rattle.cmwq_model.specs.Runs.{run, item_run}
 use Rattle.cmwq_model.specs.Queueings.{queueings, queueing_at, is_live, still_open, is_unstarted, unstarted}
 use Rattle.cmwq_model.specs.Legal.{IsLegal}
 use Rattle.cmwq_steps.specs.Endings.{is_ended, ending}
-use Rattle.cmwq_steps.specs.Pools.{IsRunIn}
 use Rattle.cmwq_steps.specs.Reasons.{FinishesRun, TakesBack}
 use Rattle.cmwq_steps.specs.ItemQueueings.{IsRunOf, queueing_run, ended_by}
 use Rattle.cmwq_active.proofs.Lists.{All_map, All_filter}

@@ -5,7 +5,7 @@ use Rattle.std.specs.Option.{option_map_or}
 use Rattle.std.proofs.lemmas.Bool.{eq-eqb}
 use Rattle.cmwq_model.specs.declared.id.WorkerId.{WorkerId}
 use Rattle.cmwq_model.specs.declared.id.Who.{Who}
-use Rattle.cmwq_model.specs.declared.id.Who.TheVariants.{Worker}
+use Rattle.cmwq_model.specs.declared.id.Who.TheVariants.{Caller, Worker}
 use Rattle.cmwq_model.specs.declared.reply.Reply.{Reply}
 use Rattle.cmwq_model.specs.declared.reply.Reply.TheVariants as reply
 use Rattle.cmwq_model.specs.declared.entry.Entry.{Entry}
@@ -38,6 +38,12 @@ starts_of past e i start h is =
     let parts = start_parts e.who (number_started e.reply) start is in
     let item : is_at (item_at past start.number) i ≡ true = sym (ap (λ (o : Option Start). option_map_or (λ (st : Start). is_at (item_at past st.number) i) o false) is) ∙ h in
     record { by_worker = parts.0; number = parts.1; item = is_at-true (item_at past start.number) i item }
+
+-- where nothing is started, nothing of the item is
+pub none_started : (who : Who) (past : List Entry) (i : ℕ) (o : Option ℕ) → o ≡ None
+    → option_map_or (λ (start : Start). is_at (item_at past start.number) i) (option_and_then (λ w. option_map (λ n. record { worker = w; number = n }) o) (worker_of who)) false ≡ false
+none_started (Caller c) past i o h = refl
+none_started (Worker w) past i o h = ap (λ k. option_map_or (λ (start : Start). is_at (item_at past start.number) i) (option_map (λ n. record { worker = w; number = n }) k) false) h
 
 pub starts_some : (past : List Entry) (e : Entry) (i : ℕ) (o : Option Start) → start_in e ≡ o → starts_item past e i ≡ true → (start : Start) × (start_in e ≡ Some start)
 starts_some past e i None is h =

@@ -46,6 +46,7 @@ pub mod StartsListed
 pub mod StateSteps
 pub mod TakeCases
 pub mod TicketSteps
+pub mod Truth
 pub mod Unstarted
 pub mod Waiting
 pub mod Way

@@ -23,7 +23,7 @@ use Rattle.cmwq_steps.specs.Activations.{waits, is_beside, beside, behind_width,
 use Rattle.cmwq_active.specs.Looks.{keeps_widths}
 use Rattle.cmwq_active.proofs.Lists.{All_map, All_both, All_each, All_filter, All_unfilter, count_by-cons}
 use Rattle.cmwq_steps.proofs.Filters.{filter_twice, filter_same, filter_none, count_by-same, count_by-wider}
-use Rattle.cmwq_active.proofs.Rising.{IsBelow, queueings_below, opening_number}
+use Rattle.cmwq_active.proofs.Rising.{opening_number}
 use Rattle.cmwq_steps.proofs.Ranks.{is_below, one_ranked}
 use Rattle.cmwq_steps.proofs.Active.{count_ahead, open_ranked, not_active_yet}
 use Rattle.cmwq_active.proofs.Joined.{active_go_on}
@@ -34,11 +34,9 @@ use Rattle.cmwq_steps.proofs.Fresh.{IsOpenOne, open_known}
 use Rattle.cmwq_steps.proofs.Endings.{opened_live, open_go_on}
 use Rattle.cmwq_steps.proofs.Ended.{one_ends}
 use Rattle.cmwq_active.proofs.Widths.{width_same}
+use Rattle.cmwq_active.proofs.Rising.{open_below}
 
 -- ---- small things
-
-open_below : (past : List Entry) → AllByRecursion (λ x. x.number < length past) (still_open past)
-open_below past = All_filter _ (is_live past) (queueings past) (All_map (IsBelow (length past)) _ (queueings past) (λ x less live. less) (queueings_below past))
 
 no_way : (s : Layout) → AllByRecursion (λ x. is_live [] x ≡ true → is_active s [] x ≡ false → has_way s [] x ≡ false) (queueings [])
 unfolding queueings

@@ -1,6 +1,5 @@
 -- What is owed: nothing at first, and what after one more entry.
-use Rattle.std.proofs.Common.{◌≡◌, ℕ, ◌+◌, ◌*◌, Bool, true, false, List, [], ◌∷◌, length, count_by, Option, Some, None, refl, sym, ap, ◌∙◌, arith}
-use Rattle.std.specs.Prelude.{is_some}
+use Rattle.std.proofs.Common.{◌≡◌, ◌+◌, List, [], ◌∷◌, count_by, refl, arith}
 use Rattle.std.specs.List.{range_with_len}
 use Rattle.cmwq_model.specs.declared.entry.Entry.{Entry}
 use Rattle.cmwq_model.specs.Layout.{Layout}
@@ -36,4 +35,3 @@ owed_goes_on s past e legal =
     let tickets = tickets_counted s past e legal in
     let frozen = frozen_counted s past e legal in
     omega arith
-

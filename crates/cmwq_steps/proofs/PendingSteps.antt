@@ -1,5 +1,5 @@
 -- Which items are pending, and which run, after one more entry.
-use Rattle.std.proofs.Common.{◌≡◌, ◌+◌, ◌==◌, ℕ, Bool, true, false, cond, not, ◌&&◌, ◌||◌, List, [], ◌∷◌, length, Option, Some, None, refl, sym, ap, ap₂, ◌∙◌, subst, arith}
+use Rattle.std.proofs.Common.{◌≡◌, ◌+◌, ◌==◌, ℕ, Bool, true, false, cond, not, ◌&&◌, ◌||◌, List, ◌∷◌, length, Option, Some, None, refl, sym, ap, ap₂, ◌∙◌, subst}
 use Rattle.std.specs.Prelude.{option_map, option_and_then, is_some, if◌then◌else◌}
 use Rattle.std.specs.Option.{option_or, option_map_or}
 use Rattle.std.proofs.lemmas.Bool.{eq-eqb, eqb-true}
@@ -9,15 +9,14 @@ use Rattle.cmwq_model.specs.declared.entry.Entry.{Entry}
 use Rattle.cmwq_model.specs.declared.record.Queueing.{Queueing}
 use Rattle.cmwq_model.specs.declared.record.Start.{Start}
 use Rattle.cmwq_model.specs.Layout.{Layout}
-use Rattle.cmwq_model.specs.Calls.{is_at, item_called, item_fired, item_of, item_at, is_of_item}
-use Rattle.cmwq_model.specs.Bookings.{settles, due_in, booking, booking_of, booked_by, is_booked}
+use Rattle.cmwq_model.specs.Calls.{is_at, item_fired, item_of, item_at, is_of_item}
+use Rattle.cmwq_model.specs.Bookings.{settles, due_in, booking_of, booked_by, is_booked}
 use Rattle.cmwq_model.specs.Fate.{number_started, number_finished, number_cancelled, starts, finishes, takes_back, replaces, is_started}
 use Rattle.cmwq_model.specs.Runs.{start_in, starts_item, item_run, item_runs}
 use Rattle.cmwq_model.specs.Queueings.{opens, opening, unstarted, is_pending, queued_at, place_wanted}
 use Rattle.cmwq_model.specs.Legal.{IsLegal, bits}
 use Rattle.cmwq_steps.specs.Reasons.{TakesBack, unbooks}
 use Rattle.cmwq_steps.specs.RunSteps.{ends_run}
-use Rattle.cmwq_steps.specs.Endings.{is_spared}
 use Rattle.cmwq_steps.specs.Activations.{is_left}
 use Rattle.cmwq_steps.specs.ItemQueueings.{still_unstarted, of_item}
 use Rattle.cmwq_steps.specs.Queued.{is_settled, makes_pending, is_taken_back, pending_after, runs_after}
@@ -28,20 +27,16 @@ use Rattle.cmwq_steps.proofs.Reasons.{unbook_reason}
 use Rattle.cmwq_steps.proofs.Fresh.{finishes_run, takes_back_unstarted, unstarted_is}
 use Rattle.cmwq_steps.proofs.ItemRuns.{run_is}
 use Rattle.cmwq_steps.proofs.RunSteps.{last_started}
-use Rattle.cmwq_steps.proofs.ItemSteps.{StartsOf, starts_of, starts_some, items_run_on}
+use Rattle.cmwq_steps.proofs.ItemSteps.{none_started, starts_of, starts_some, items_run_on}
 use Rattle.cmwq_steps.proofs.Pending.{opening_opens, opens_settles, booked_or_unstarted}
 use Rattle.cmwq_steps.proofs.Pools.{started_was}
 use Rattle.cmwq_steps.proofs.StateSteps.{opens_as_asked, books_as_asked}
 use Rattle.cmwq_steps.proofs.Unstarted.{unstarted_goes_on}
 use Rattle.cmwq_steps.proofs.EndsAsTold.{same_by_number, unstarted_found}
-use Rattle.cmwq_model.specs.declared.id.Who.{Who}
-use Rattle.cmwq_model.specs.declared.id.Who.TheVariants.{Caller, Worker}
 use Rattle.cmwq_model.specs.Calls.{worker_of}
 use Rattle.cmwq_steps.proofs.Entries.{is_at-true}
 use Rattle.cmwq_steps.proofs.Starts.{starts_next}
-
-differ : true ≡ false → ⊥
-differ h = cc
+use Rattle.cmwq_steps.proofs.Truth.{or_true, differ}
 
 -- the test of a number is true where the numbers are the same, and false where that can't be
 told_apart : (n m : ℕ) (b : Bool) → (b ≡ true → n ≡ m) → (n ≡ m → b ≡ true) → (n == m) ≡ b
@@ -53,10 +48,6 @@ told_apart n m false same back = at (n == m) refl
     at false is = refl
 
 -- ---- where the entry settles the item
-
-or_true : (b : Bool) → (b || true) ≡ true
-or_true true = refl
-or_true false = refl
 
 unbooked_else : (r : Reply) → settles r ≡ true → opens r ≡ false → due_in r ≡ None → unbooks r ≡ true
 unbooked_else reply.Unbooked h o d = refl
@@ -162,15 +153,11 @@ taken_back_is s past e i x legal u = at (number_cancelled e.reply) refl
             let mine : t.item ≡ i = sym (unstarted_is past t.item t.queueing t.is_unstarted).item ∙ ap (λ (y : Queueing). y.item.0) one ∙ (unstarted_is past i x u).item in
             ap (λ o. is_at o i) item ∙ eq-eqb t.item i mine
 
-none_started : (who : Who) (past : List Entry) (i : ℕ) → option_map_or (λ (start : Start). is_at (item_at past start.number) i) (option_and_then (λ w. option_map (λ n. record { worker = w; number = n }) None) (worker_of who)) false ≡ false
-none_started (Caller c) past i = refl
-none_started (Worker w) past i = refl
-
 starts_is : (s : Layout) (past : List Entry) (e : Entry) (i : ℕ) (x : Queueing) → IsLegal s (e ∷ past) → unstarted past i ≡ Some x → starts x.number e ≡ starts_item past e i
 starts_is s past e i x legal u = at (number_started e.reply) refl
   where
     at : (o : Option ℕ) → number_started e.reply ≡ o → is_at o x.number ≡ option_map_or (λ (start : Start). is_at (item_at past start.number) i) (option_and_then (λ w. option_map (λ n. record { worker = w; number = n }) o) (worker_of e.who)) false
-    at None h = sym (none_started e.who past i)
+    at None h = sym (none_started e.who past i None refl)
     at (Some n) h =
         let st = starts_next s past e n legal h in
         told_apart n x.number (is_at (item_at past n) i) same back ∙ sym (ap (λ who. option_map_or (λ (start : Start). is_at (item_at past start.number) i) (option_and_then (λ w. option_map (λ m. record { worker = w; number = m }) (Some n)) (worker_of who)) false) st.by_worker)
@@ -246,9 +233,9 @@ other_pending s past e i legal other =
     at (Some x) u =
         let w = unstarted_is past i x u in
         let left : is_left past e x ≡ (not (starts_item past e i) && not (is_taken_back e i)) =
-            left_is (finishes x.number e) (takes_back x.number e) (replaces e.reply && is_of_item x.item.0 e && not (is_started past x.number)) (starts x.number e) (starts_item past e i) (is_taken_back e i)
-                (not_finished s past e x.number legal w.not_started) (subst (λ j. (replaces e.reply && is_of_item j e && not (is_started past x.number)) ≡ false) (sym w.item) (not_replaced e i (is_started past x.number) other))
-                (taken_back_is s past e i x legal u) (starts_is s past e i x legal u) in
+        left_is (finishes x.number e) (takes_back x.number e) (replaces e.reply && is_of_item x.item.0 e && not (is_started past x.number)) (starts x.number e) (starts_item past e i) (is_taken_back e i)
+        (not_finished s past e x.number legal w.not_started) (subst (λ j. (replaces e.reply && is_of_item j e && not (is_started past x.number)) ≡ false) (sym w.item) (not_replaced e i (is_started past x.number) other))
+        (taken_back_is s past e i x legal u) (starts_is s past e i x legal u) in
         ap₂ (λ a b. a || b) (not_booked x u) (either (is_left past e x) x ∙ left) ∙ sym (ap (λ a. (a || true) && not (starts_item past e i) && not (is_taken_back e i)) (not_booked x u))
 
 pub pending_goes_on : (s : Layout) (past : List Entry) (e : Entry) → IsLegal s (e ∷ past) → (i : ℕ) → is_pending (e ∷ past) i ≡ pending_after past e i

@@ -78,7 +78,8 @@ newly_of_open s past e = filter_same _ _ (queueings (e ∷ past)) (All_each _ (q
         at true live = refl
         at false dead = ap (λ b. b && not (is_active s past x)) (not_live s (e ∷ past) x dead)
 
-turn_filters : (p q : Queueing → Bool) (xs : List Queueing) → filter p (filter q xs) ≡ filter q (filter p xs)
+-- filters in either order
+pub turn_filters : (p q : Queueing → Bool) (xs : List Queueing) → filter p (filter q xs) ≡ filter q (filter p xs)
 turn_filters p q xs = filter_twice p q xs ∙ filter_same _ _ xs (each xs) ∙ sym (filter_twice q p xs)
   where
     turned : (a b : Bool) → (a && b) ≡ (b && a)

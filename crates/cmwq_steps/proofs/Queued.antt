@@ -1,5 +1,5 @@
 -- Queueings by number, and the queues of runs, after one more entry.
-use Rattle.std.proofs.Common.{◌≡◌, ◌+◌, ◌==◌, ℕ, Bool, true, false, cond, List, [], ◌∷◌, ◌++◌, length, find, Option, Some, None, option_to_list, refl, sym, ap, ap₂, ◌∙◌}
+use Rattle.std.proofs.Common.{◌≡◌, ◌==◌, ℕ, Bool, true, false, cond, List, ◌∷◌, length, find, Option, Some, None, option_to_list, refl, sym, ap, ◌∙◌}
 use Rattle.std.specs.Prelude.{option_map, option_and_then, if◌then◌else◌}
 use Rattle.std.specs.Option.{option_or}
 use Rattle.std.proofs.lemmas.Bool.{eq-eqb}
@@ -11,7 +11,7 @@ use Rattle.cmwq_model.specs.declared.entry.Entry.{Entry}
 use Rattle.cmwq_model.specs.declared.record.Queueing.{Queueing}
 use Rattle.cmwq_model.specs.Layout.{Layout}
 use Rattle.cmwq_model.specs.Calls.{is_at, is_by}
-use Rattle.cmwq_model.specs.Fate.{number_started, starts}
+use Rattle.cmwq_model.specs.Fate.{number_started}
 use Rattle.cmwq_model.specs.Runs.{run}
 use Rattle.cmwq_model.specs.Queueings.{queueings, opening, has_number, queueing_at, queue_of, run_queue}
 use Rattle.cmwq_model.specs.Legal.{IsLegal}

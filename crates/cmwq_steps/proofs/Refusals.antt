@@ -1,7 +1,7 @@
 -- Entries that are refused change nothing.
-use Rattle.std.proofs.Common.{◌≡◌, ◌<◌, ◌≤◌, ◌+◌, ◌*◌, ℕ, Bool, true, false, cond, not, ◌&&◌, ◌||◌, List, [], ◌∷◌, ◌++◌, length, filter, find, count_by, Option, Some, None, option_to_list, append-nil, nat_lt, refl, sym, ap, ap₂, ◌∙◌, subst, arith}
+use Rattle.std.proofs.Common.{◌≡◌, ◌<◌, ◌+◌, ℕ, Bool, true, false, cond, not, ◌&&◌, ◌||◌, List, [], ◌∷◌, ◌++◌, length, filter, find, count_by, Option, Some, None, option_to_list, append-nil, nat_lt, refl, sym, ap, ap₂, ◌∙◌, subst, arith}
 use Rattle.std.specs.Prelude.{option_map, option_and_then, is_some, if◌then◌else◌}
-use Rattle.std.specs.Option.{option_or, option_map_or}
+use Rattle.std.specs.Option.{option_map_or}
 use Rattle.std.specs.List.{AllByRecursion}
 use Rattle.std.proofs.lemmas.Bool.Decides.{nat_tests}
 use Rattle.cmwq_model.specs.declared.id.PoolId.{PoolId}
@@ -17,32 +17,31 @@ use Rattle.cmwq_model.specs.declared.record.Queueing.{Queueing}
 use Rattle.cmwq_model.specs.declared.record.Start.{Start}
 use Rattle.cmwq_model.specs.declared.record.Ticket.{Ticket}
 use Rattle.cmwq_model.specs.Layout.{Layout}
-use Rattle.cmwq_model.specs.Calls.{is_at, is_by, is_of_item, item_of, item_at, worker_of, ticks_told, now}
-use Rattle.cmwq_model.specs.Bookings.{settles, due_in, booking, booking_of, booked_by}
-use Rattle.cmwq_model.specs.Fate.{number_started, number_finished, number_cancelled, replaces, starts, is_started}
-use Rattle.cmwq_model.specs.Runs.{run, item_run, item_runs, is_asleep, asleep_after, start_in, starts_item}
-use Rattle.cmwq_model.specs.Queueings.{queueings, is_of, opens, opening, is_live, still_open, is_unstarted, unstarted, is_pending, queued_at, place_wanted, run_queue}
-use Rattle.cmwq_model.specs.Widths.{is_frozen, max_active, width}
+use Rattle.cmwq_model.specs.Calls.{is_at, is_by, is_of_item, item_of, ticks_told, now}
+use Rattle.cmwq_model.specs.Bookings.{settles, due_in, booking, booked_by}
+use Rattle.cmwq_model.specs.Fate.{number_started, number_finished, number_cancelled, replaces, is_started}
+use Rattle.cmwq_model.specs.Runs.{run, item_run, is_asleep, asleep_after, start_in}
+use Rattle.cmwq_model.specs.Queueings.{queueings, is_of, opens, opening, is_live, still_open, is_unstarted, unstarted, queued_at, place_wanted, run_queue}
+use Rattle.cmwq_model.specs.Widths.{is_frozen}
 use Rattle.cmwq_model.specs.Active.{is_ahead, has_way, is_active, newly_active, worklist, next, is_startable}
-use Rattle.cmwq_model.specs.Workers.{is_enlisted, index_enlisted, enlists, is_in_pool, is_retired}
+use Rattle.cmwq_model.specs.Workers.{is_enlisted, index_enlisted, is_in_pool, is_retired}
 use Rattle.cmwq_model.specs.Tickets.{unended, gives_ticket, ticket_for, ticket_in, is_end_of, is_done, is_gone, ends_destroy}
 use Rattle.cmwq_model.specs.Legal.{IsLegal, bits}
-use Rattle.cmwq_model.specs.Room.{owed, has_not_started}
+use Rattle.cmwq_model.specs.Room.{owed}
 use Rattle.cmwq_model.specs.Answer.{answer}
 use Rattle.cmwq_active.specs.Looks.{keeps_widths}
 use Rattle.cmwq_steps.specs.Histories.{one}
-use Rattle.cmwq_steps.specs.Places.{is_on, open_on, active_count}
+use Rattle.cmwq_steps.specs.Places.{is_on, active_count}
 use Rattle.cmwq_steps.specs.Endings.{is_spared, ending, number_ended}
-use Rattle.cmwq_steps.specs.Activations.{is_left, is_in, waits, behind_width, has_way_at_once, stay_count}
-use Rattle.cmwq_steps.specs.TicketSteps.{ticket_asked, ticket_ended, is_kept}
-use Rattle.cmwq_steps.specs.RoomSteps.{is_slept, is_woke, is_frozen_now, is_thawed_now, ends_unstarted, settles_booked, paid, taken_on}
+use Rattle.cmwq_steps.specs.Activations.{is_left, is_in, waits, behind_width, has_way_at_once}
+use Rattle.cmwq_steps.specs.TicketSteps.{ticket_asked, is_kept}
+use Rattle.cmwq_steps.specs.RoomSteps.{is_slept, is_woke, is_frozen_now, is_thawed_now, paid, taken_on}
 use Rattle.cmwq_steps.specs.RunSteps.{run_after, ends_run}
 use Rattle.cmwq_steps.specs.Waiting.{waiting, is_active_on, ends_active_on}
 use Rattle.cmwq_steps.specs.Queued.{run_queue_after}
 use Rattle.cmwq_steps.specs.Refusals.{is_refusal, DoesNothing, ChangesNothing}
-use Rattle.cmwq_active.proofs.Lists.{All_map, All_each, All_filter}
-use Rattle.cmwq_active.proofs.Rising.{IsBelow, queueings_below}
-use Rattle.cmwq_active.proofs.Joined.{active_go_on, active_live, stays_active}
+use Rattle.cmwq_active.proofs.Lists.{All_map, All_each}
+use Rattle.cmwq_active.proofs.Joined.{active_go_on, active_live}
 use Rattle.cmwq_active.proofs.Widths.{frozen_same, max_same, width_same}
 use Rattle.cmwq_steps.proofs.Filters.{filter_same, find_same}
 use Rattle.cmwq_steps.proofs.Inversions.{answer_is}
@@ -53,13 +52,12 @@ use Rattle.cmwq_steps.proofs.NewlyActive.{newly_active_are}
 use Rattle.cmwq_steps.proofs.WorklistSteps.{worklists_go_on}
 use Rattle.cmwq_steps.proofs.ActiveCounts.{active_count_goes_on, stays_counted}
 use Rattle.cmwq_steps.proofs.RunSteps.{workers_run_on}
-use Rattle.cmwq_steps.proofs.ItemSteps.{items_run_on}
+use Rattle.cmwq_steps.proofs.ItemSteps.{none_started, items_run_on}
 use Rattle.cmwq_steps.proofs.Queued.{run_queues_go_on}
 use Rattle.cmwq_steps.proofs.TicketSteps.{unended_go_on}
 use Rattle.cmwq_steps.proofs.Owing.{owed_goes_on}
-
-differ : false ≡ true → ⊥
-differ h = cc
+use Rattle.cmwq_steps.proofs.Truth.{differ, and_true, or_true, or_false}
+use Rattle.cmwq_active.proofs.Rising.{open_below}
 
 -- ---- what such a reply doesn't say
 
@@ -97,7 +95,7 @@ says_nothing reply.Held h = record { opens_none = refl; settles_none = refl; due
 says_nothing reply.Kept h = record { opens_none = refl; settles_none = refl; due = refl; replaces_none = refl; started = refl; finished = refl; cancelled = refl; gives = refl; done = refl; widths = refl; frozen = refl; thawed = refl; slept = refl; woke = refl; enlisted = refl; retired = refl; asleep = λ b. refl; runs = λ o. refl; queues = λ past o. refl }
 says_nothing reply.Gone h = record { opens_none = refl; settles_none = refl; due = refl; replaces_none = refl; started = refl; finished = refl; cancelled = refl; gives = refl; done = refl; widths = refl; frozen = refl; thawed = refl; slept = refl; woke = refl; enlisted = refl; retired = refl; asleep = λ b. refl; runs = λ o. refl; queues = λ past o. refl }
 says_nothing reply.Timers h = record { opens_none = refl; settles_none = refl; due = refl; replaces_none = refl; started = refl; finished = refl; cancelled = refl; gives = refl; done = refl; widths = refl; frozen = refl; thawed = refl; slept = refl; woke = refl; enlisted = refl; retired = refl; asleep = λ b. refl; runs = λ o. refl; queues = λ past o. refl }
-says_nothing r h = absurd (differ h)
+says_nothing r h = absurd (differ (sym h))
 
 -- ---- so the entry does nothing
 
@@ -153,20 +151,12 @@ same_open s past e legal q none = open_go_on s past e legal ∙ nothing_more (is
 way_active : (s : Layout) (past : List Entry) (x : Queueing) → is_live past x ≡ true → has_way s past x ≡ true → is_active s past x ≡ true
 way_active s [] x live way = let none : nat_lt x.number 0 ≡ false = grind (arith, nat_tests) in grind arith
 way_active s (e ∷ past) x live way = active_go_on s past e x ∙ ap₂ (λ a b. a && (is_active s past x || b)) live way ∙ or_true (is_active s past x)
-  where
-    or_true : (b : Bool) → (true && (b || true)) ≡ true
-    or_true true = refl
-    or_true false = refl
 
 same_active : (s : Layout) (past : List Entry) (e : Entry) → IsLegal s (e ∷ past) → SaysNothing e.reply → opening past e ≡ None → (x : Queueing) → x.number < length past → is_active s (e ∷ past) x ≡ is_active s past x
 same_active s past e legal q none x less = active_go_on s past e x ∙ ap₂ (λ a b. a && (is_active s past x || b)) live way ∙ at (is_live past x) (is_active s past x) (has_way s past x) refl refl refl
   where
-    any : (b : Bool) → (b && true) ≡ b
-    any true = refl
-    any false = refl
-
     live : is_live (e ∷ past) x ≡ is_live past x
-    live = live_goes_on past e x less ∙ ap (λ b. is_live past x && b) (spared past e q x) ∙ any (is_live past x)
+    live = live_goes_on past e x less ∙ ap (λ b. is_live past x && b) (spared past e q x) ∙ and_true (is_live past x)
 
     way : has_way s (e ∷ past) x ≡ has_way s past x
     way = ap₂ nat_lt (ap (count_by (is_ahead x)) (same_open s past e legal q none)) (width_same s past e x.place.queue.0 q.widths)
@@ -177,9 +167,6 @@ same_active s past e legal q none x less = active_go_on s past e x ∙ ap₂ (λ
     at true false false hl ha hw = refl
     at false true w hl ha hw = let yes = active_live s past x ha in let bad : false ≡ true = sym hl ∙ yes in cc
     at false false w hl ha hw = refl
-
-open_below : (past : List Entry) → AllByRecursion (λ x. x.number < length past) (still_open past)
-open_below past = All_filter _ (is_live past) (queueings past) (All_map (IsBelow (length past)) _ (queueings past) (λ x less live. less) (queueings_below past))
 
 same_waiting : (s : Layout) (past : List Entry) (e : Entry) → IsLegal s (e ∷ past) → SaysNothing e.reply → opening past e ≡ None → waiting s (e ∷ past) ≡ waiting s past
 same_waiting s past e legal q none = ap (filter (waits s (e ∷ past))) (same_open s past e legal q none)
@@ -201,11 +188,6 @@ same_unstarted s past e i legal q none = ap (find (is_unstarted (e ∷ past) i))
     ∙ find_same (is_unstarted (e ∷ past) i) (is_unstarted past i) (still_open past) (All_each _ (still_open past) (λ x. ap (λ o. (is_of i x) && not (is_at o x.number || is_started past x.number)) q.started))
 
 -- ---- runs
-
-none_started : (who : Who) (past : List Entry) (i : ℕ) (o : Option ℕ) → o ≡ None
-    → option_map_or (λ (start : Start). is_at (item_at past start.number) i) (option_and_then (λ w. option_map (λ n. record { worker = w; number = n }) o) (worker_of who)) false ≡ false
-none_started (Caller c) past i o h = refl
-none_started (Worker w) past i o h = ap (λ k. option_map_or (λ (start : Start). is_at (item_at past start.number) i) (option_map (λ n. record { worker = w; number = n }) k) false) h
 
 not_ended : (e : Entry) → SaysNothing e.reply → (o : Option Start) → (if ends_run e o then None else o) ≡ o
 not_ended e q None = refl
@@ -266,11 +248,7 @@ same_unended s past e legal q none = unended_go_on s past e legal ∙ nothing_mo
 
 same_gone : (past : List Entry) (e : Entry) (a : ℕ) → SaysNothing e.reply → is_gone (e ∷ past) a ≡ is_gone past a
 unfolding is_gone
-same_gone past e a q = ap (λ b. is_gone past a || (b && ends_destroy past a e.who e.call)) q.done ∙ any (is_gone past a)
-  where
-    any : (b : Bool) → (b || false) ≡ b
-    any true = refl
-    any false = refl
+same_gone past e a q = ap (λ b. is_gone past a || (b && ends_destroy past a e.who e.call)) q.done ∙ or_false (is_gone past a)
 
 same_frozen : (past : List Entry) (e : Entry) → SaysNothing e.reply → is_frozen (e ∷ past) ≡ is_frozen past
 unfolding is_frozen
@@ -279,7 +257,7 @@ same_frozen past e q = frozen_same e.reply (is_frozen past) q.widths
 -- a tick is never refused
 no_ticks : (s : Layout) (past : List Entry) (who : Who) (c : Call) → is_refusal (answer s past who c) ≡ true → ticks_told c ≡ 0
 unfolding answer
-no_ticks s past who (call.Tick t) h = absurd (differ h)
+no_ticks s past who (call.Tick t) h = absurd (differ (sym h))
 no_ticks s past who c h = refl
 
 same_time : (s : Layout) (past : List Entry) (e : Entry) → IsLegal s (e ∷ past) → is_refusal e.reply ≡ true → now (e ∷ past) ≡ now past

@@ -1,9 +1,10 @@
 -- What is kept of workers, items, time and serials after one more entry.
-use Rattle.std.proofs.Common.{◌≡◌, ◌+◌, ℕ, true, List, ◌∷◌, length, Option, Some, None, refl, ap, ap₂, ◌∙◌}
+use Rattle.std.proofs.Common.{◌≡◌, ◌+◌, ℕ, true, false, List, ◌∷◌, length, Option, Some, None, refl, ap, ap₂, ◌∙◌, arith}
 use Rattle.std.specs.Prelude.{option_map, option_and_then, is_some, if◌then◌else◌}
 use Rattle.std.specs.Option.{option_or}
 use Rattle.cmwq_model.specs.declared.id.ItemId.{ItemId}
 use Rattle.cmwq_model.specs.declared.id.Who.{Who}
+use Rattle.cmwq_model.specs.declared.id.Who.TheVariants.{Caller, Worker}
 use Rattle.cmwq_model.specs.declared.call.Call.{Call}
 use Rattle.cmwq_model.specs.declared.reply.Reply.{Reply}
 use Rattle.cmwq_model.specs.declared.entry.Entry.{Entry}
@@ -16,12 +17,16 @@ use Rattle.cmwq_model.specs.Runs.{is_asleep}
 use Rattle.cmwq_model.specs.Workers.{is_enlisted}
 use Rattle.cmwq_model.specs.Queueings.{opens, place_called, place_wanted, queued_at}
 use Rattle.cmwq_model.specs.Legal.{IsLegal}
-use Rattle.cmwq_steps.specs.StateSteps.{SleepersGoOn, EnlistedGoOn, BookingsGoOn, TimeGoesOn, SerialsGoOn, BooksAsAsked, OpensAsAsked}
+use Rattle.cmwq_steps.specs.StateSteps.{SleepersGoOn, EnlistedGoOn, BookingsGoOn, TimeGoesOn, SerialsGoOn, SerialsRise, BooksAsAsked, OpensAsAsked}
 use Rattle.cmwq_active.proofs.Lists.{count_by-cons}
 use Rattle.cmwq_steps.proofs.Standing.{due_own}
 use Rattle.cmwq_steps.proofs.Pools.{opening_of, booking_in}
 use Rattle.cmwq_steps.proofs.Causes.{Cause, cause_of}
 use Rattle.cmwq_steps.proofs.Causes as cause
+use Rattle.std.proofs.lemmas.Bool.{eq-eqb}
+use Rattle.cmwq_model.specs.Calls.{same_who, is_by, serial_of}
+use Rattle.cmwq_steps.specs.Histories.{one}
+use Rattle.cmwq_steps.proofs.ItemRuns.{same_worker_itself}
 
 -- ---- by computation
 
@@ -43,6 +48,19 @@ time_goes_on past e = refl
 
 pub serials_go_on : SerialsGoOn
 serials_go_on past e who = count_by-cons (is_by who) e past
+
+same_who_itself : (who : Who) → same_who who who ≡ true
+same_who_itself (Caller c) = eq-eqb c.0 c.0 refl
+same_who_itself (Worker w) = same_worker_itself w
+
+pub serials_rise : SerialsRise
+serials_rise past e = (own, others)
+  where
+    own : serial_of (e ∷ past) e.who ≡ serial_of past e.who + 1
+    own = let one_more : one (is_by e.who e) ≡ 1 = ap one (same_who_itself e.who) in let step = serials_go_on past e e.who in omega arith
+
+    others : (who : Who) → same_who e.who who ≡ false → serial_of (e ∷ past) who ≡ serial_of past who
+    others who other = let none : one (is_by who e) ≡ 0 = ap one other in let step = serials_go_on past e who in omega arith
 
 -- ---- what is booked
 

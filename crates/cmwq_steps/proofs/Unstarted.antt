@@ -1,5 +1,5 @@
 -- An item's unstarted queueing after one more entry, and that what a pool starts next is one.
-use Rattle.std.proofs.Common.{◌≡◌, ℕ, ◌+◌, ◌<◌, Bool, true, false, not, ◌&&◌, ◌||◌, ◌==◌, List, [], ◌∷◌, ◌++◌, length, filter, Option, Some, None, option_to_list, cond, arith, refl, sym, ap, ap₂, ◌∙◌}
+use Rattle.std.proofs.Common.{◌≡◌, ℕ, Bool, true, false, not, ◌&&◌, ◌||◌, ◌==◌, List, [], ◌∷◌, ◌++◌, filter, Option, Some, None, option_to_list, cond, arith, refl, sym, ap, ap₂, ◌∙◌}
 use Rattle.std.specs.List.{AllByRecursion}
 use Rattle.std.proofs.lemmas.List.Elements.{filter-append}
 use Rattle.cmwq_model.specs.declared.entry.Entry.{Entry}
@@ -8,34 +8,24 @@ use Rattle.cmwq_model.specs.Layout.{Layout}
 use Rattle.cmwq_model.specs.Queueings.{queueings, still_open, is_live, opening, is_unstarted, unstarted}
 use Rattle.cmwq_model.specs.Fate.{starts, is_started}
 use Rattle.std.specs.Option.{option_or}
-use Rattle.cmwq_model.specs.Active.{has_way, is_active, is_newly_active, newly_active}
 use Rattle.cmwq_model.specs.Legal.{IsLegal}
 use Rattle.cmwq_steps.specs.Endings.{is_spared}
-use Rattle.cmwq_steps.specs.Activations.{waits}
-use Rattle.cmwq_active.proofs.Lists.{All_each, All_filter, All_map}
+use Rattle.cmwq_active.proofs.Lists.{All_each}
 use Rattle.cmwq_steps.proofs.Filters.{filter_twice, filter_same}
-use Rattle.cmwq_steps.proofs.Active.{not_active_yet}
-use Rattle.cmwq_active.proofs.Rising.{opening_number}
 use Rattle.cmwq_steps.proofs.Endings.{open_go_on}
 use Rattle.cmwq_steps.proofs.Pending.{one_unstarted}
 use Rattle.cmwq_steps.proofs.WorklistSteps.{opening_inert}
-use Rattle.cmwq_steps.proofs.Promoted.{newly_is, newly_of_open}
 use Rattle.cmwq_steps.specs.ItemQueueings.{still_unstarted, of_item}
 use Rattle.std.proofs.lemmas.Bool.{eq-eqb}
 use Rattle.cmwq_model.specs.declared.id.PoolId.{PoolId}
 use Rattle.cmwq_model.specs.Queueings.{has_number}
-use Rattle.cmwq_model.specs.Active.{next, is_listed}
+use Rattle.cmwq_model.specs.Active.{next}
 use Rattle.cmwq_active.proofs.Lists.{All_unfilter}
 use Rattle.cmwq_active.proofs.Joined.{listed_live}
 use Rattle.cmwq_steps.proofs.Activated.{find_holds, next_holds}
 use Rattle.cmwq_steps.proofs.StartsListed.{IsFound, queueings_found, queueing_at-older}
 use Rattle.cmwq_steps.proofs.Pools.{unstarted_alone}
-
-flip : (a b : Bool) → (a && b) ≡ (b && a)
-flip true true = refl
-flip true false = refl
-flip false true = refl
-flip false false = refl
+use Rattle.cmwq_steps.proofs.Truth.{flip}
 
 -- ---- the unstarted queueing of an item after an entry
 
@@ -77,15 +67,15 @@ unfolding IsLegal
 unstarted_goes_on s past e i legal =
     let kept : Queueing → Bool = λ x. is_spared past e x && not (starts x.number e) in
     let old : filter (is_unstarted (e ∷ past) i) (filter (is_spared past e) (still_open past)) ≡ option_to_list (still_unstarted past e (unstarted past i)) =
-        filter_twice (is_unstarted (e ∷ past) i) (is_spared past e) (still_open past)
-        ∙ (filter_same (λ x. is_spared past e x && is_unstarted (e ∷ past) i x) (λ x. is_unstarted past i x && kept x) (still_open past)
-            (All_each _ (still_open past) (λ x. kept_or_not (is_spared past e x) (x.item.0 == i) (starts x.number e) (is_started past x.number)))
-        ∙ (sym (filter_twice kept (is_unstarted past i) (still_open past)) ∙ (ap (filter kept) (one_unstarted s past i legal.2) ∙ kept_one past e (unstarted past i)))) in
+    filter_twice (is_unstarted (e ∷ past) i) (is_spared past e) (still_open past)
+    ∙ (filter_same (λ x. is_spared past e x && is_unstarted (e ∷ past) i x) (λ x. is_unstarted past i x && kept x) (still_open past)
+    (All_each _ (still_open past) (λ x. kept_or_not (is_spared past e x) (x.item.0 == i) (starts x.number e) (is_started past x.number)))
+    ∙ (sym (filter_twice kept (is_unstarted past i) (still_open past)) ∙ (ap (filter kept) (one_unstarted s past i legal.2) ∙ kept_one past e (unstarted past i)))) in
     both (unstarted (e ∷ past) i) (still_unstarted past e (unstarted past i)) (of_item i (opening past e))
-      (sym (one_unstarted s (e ∷ past) i legal)
-      ∙ (ap (filter (is_unstarted (e ∷ past) i)) (open_go_on s past e legal)
-      ∙ (filter-append (is_unstarted (e ∷ past) i) (filter (is_spared past e) (still_open past)) (option_to_list (opening past e))
-      ∙ ap₂ (λ xs ys. xs ++ ys) old (opened_one past e i (opening past e) (opening_inert s past e (opening past e) legal refl)))))
+    (sym (one_unstarted s (e ∷ past) i legal)
+    ∙ (ap (filter (is_unstarted (e ∷ past) i)) (open_go_on s past e legal)
+    ∙ (filter-append (is_unstarted (e ∷ past) i) (filter (is_spared past e) (still_open past)) (option_to_list (opening past e))
+    ∙ ap₂ (λ xs ys. xs ++ ys) old (opened_one past e i (opening past e) (opening_inert s past e (opening past e) legal refl)))))
 
 -- ---- what a pool starts next
 
@@ -96,5 +86,5 @@ next_unstarted s past legal p x h =
     let new : is_started past x.number ≡ false = grind arith in
     let mine : is_unstarted past x.item.0 x ≡ true = ap₂ (λ a b. a && not b) (eq-eqb x.item.0 x.item.0 refl) new in
     let found = find_holds (λ y. is_live past y ≡ true → is_unstarted past x.item.0 y ≡ true → unstarted past x.item.0 ≡ Some y) (has_number x.number) (queueings past) x
-        (All_unfilter _ (is_live past) (queueings past) (unstarted_alone s past x.item.0 legal)) k.holds in
+    (All_unfilter _ (is_live past) (queueings past) (unstarted_alone s past x.item.0 legal)) k.holds in
     found.holds live mine

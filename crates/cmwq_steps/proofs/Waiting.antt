@@ -1,13 +1,11 @@
 -- What waits, and what becomes active, after one more entry.
-use Rattle.std.proofs.Common.{◌≡◌, ℕ, ◌+◌, ◌<◌, Bool, true, false, not, ◌&&◌, ◌||◌, ◌==◌, List, [], ◌∷◌, ◌++◌, length, filter, Option, Some, None, option_to_list, cond, arith, refl, sym, ap, ap₂, ◌∙◌}
+use Rattle.std.proofs.Common.{◌≡◌, Bool, true, false, not, ◌&&◌, ◌||◌, List, [], ◌∷◌, ◌++◌, filter, Option, Some, None, option_to_list, cond, arith, refl, sym, ap, ap₂, ◌∙◌}
 use Rattle.std.specs.List.{AllByRecursion}
 use Rattle.std.proofs.lemmas.List.Elements.{filter-append}
 use Rattle.cmwq_model.specs.declared.entry.Entry.{Entry}
 use Rattle.cmwq_model.specs.declared.record.Queueing.{Queueing}
 use Rattle.cmwq_model.specs.Layout.{Layout}
-use Rattle.cmwq_model.specs.Queueings.{queueings, still_open, is_live, opening, is_unstarted, unstarted}
-use Rattle.cmwq_model.specs.Fate.{starts, is_started}
-use Rattle.std.specs.Option.{option_or}
+use Rattle.cmwq_model.specs.Queueings.{queueings, still_open, is_live, opening}
 use Rattle.cmwq_model.specs.Active.{has_way, is_active, is_newly_active, newly_active}
 use Rattle.cmwq_model.specs.Legal.{IsLegal}
 use Rattle.cmwq_steps.specs.Endings.{is_spared}
@@ -17,20 +15,9 @@ use Rattle.cmwq_steps.proofs.Filters.{filter_twice, filter_same}
 use Rattle.cmwq_steps.proofs.Active.{not_active_yet}
 use Rattle.cmwq_active.proofs.Rising.{opening_number}
 use Rattle.cmwq_steps.proofs.Endings.{open_go_on}
-use Rattle.cmwq_steps.proofs.Pending.{one_unstarted}
-use Rattle.cmwq_steps.proofs.WorklistSteps.{opening_inert}
-use Rattle.cmwq_steps.proofs.Promoted.{newly_is, newly_of_open}
+use Rattle.cmwq_steps.proofs.Promoted.{turn_filters, newly_is, newly_of_open}
 use Rattle.cmwq_steps.specs.Waiting.{waiting, candidates, has_none}
-
-flip : (a b : Bool) → (a && b) ≡ (b && a)
-flip true true = refl
-flip true false = refl
-flip false true = refl
-flip false false = refl
-
--- filters in either order
-pub filters_flip : (p q : Queueing → Bool) (xs : List Queueing) → filter p (filter q xs) ≡ filter q (filter p xs)
-filters_flip p q xs = filter_twice p q xs ∙ (filter_same (λ x. q x && p x) (λ x. p x && q x) xs (All_each _ xs (λ x. flip (q x) (p x))) ∙ sym (filter_twice q p xs))
+use Rattle.cmwq_steps.proofs.Truth.{flip}
 
 pub all_live : (past : List Entry) → AllByRecursion (λ x. is_live past x ≡ true) (still_open past)
 all_live past = All_filter (λ x. is_live past x ≡ true) (is_live past) (queueings past) (All_each _ (queueings past) (λ x h. h))
@@ -44,13 +31,13 @@ pub candidates_are : (s : Layout) (past : List Entry) (e : Entry) → IsLegal s 
 candidates_are s past e legal =
     ap (filter (waits s past)) (open_go_on s past e legal)
     ∙ (filter-append (waits s past) (filter (is_spared past e) (still_open past)) (option_to_list (opening past e))
-    ∙ ap₂ (λ xs ys. xs ++ ys) (filters_flip (waits s past) (is_spared past e) (still_open past)) (opened_waits s past e (opening past e) refl))
+    ∙ ap₂ (λ xs ys. xs ++ ys) (turn_filters (waits s past) (is_spared past e) (still_open past)) (opened_waits s past e (opening past e) refl))
 
 pub newly_are : (s : Layout) (past : List Entry) (e : Entry) → newly_active s past e ≡ filter (has_way s (e ∷ past)) (candidates s past e)
 newly_are s past e =
     newly_of_open s past e
     ∙ (filter_same (is_newly_active s past e) (λ x. waits s past x && has_way s (e ∷ past) x) (still_open (e ∷ past))
-        (All_map (λ x. is_live (e ∷ past) x ≡ true) _ (still_open (e ∷ past)) (λ x live. newly_is s past e x live ∙ flip (has_way s (e ∷ past) x) (waits s past x)) (all_live (e ∷ past)))
+    (All_map (λ x. is_live (e ∷ past) x ≡ true) _ (still_open (e ∷ past)) (λ x live. newly_is s past e x live ∙ flip (has_way s (e ∷ past) x) (waits s past x)) (all_live (e ∷ past)))
     ∙ sym (filter_twice (has_way s (e ∷ past)) (waits s past) (still_open (e ∷ past))))
 
 still_waits : (s : Layout) (past : List Entry) (e : Entry) (x : Queueing) → is_live (e ∷ past) x ≡ true → waits s (e ∷ past) x ≡ (waits s past x && has_none s (e ∷ past) x)

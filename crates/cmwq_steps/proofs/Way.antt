@@ -1,5 +1,5 @@
 -- What has way, told by what became active so far: so one pass over what waits finds what becomes active.
-use Rattle.std.proofs.Common.{◌≡◌, ℕ, zero, suc, ◌+◌, ◌-◌, ◌<◌, ◌≤◌, Bool, true, false, not, ◌&&◌, ◌==◌, List, [], ◌∷◌, ◌++◌, length, filter, take, count_by, cond, nat_lt, refl, sym, ap, ap₂, ◌∙◌, subst, arith}
+use Rattle.std.proofs.Common.{◌≡◌, ℕ, zero, suc, ◌+◌, ◌-◌, ◌<◌, Bool, true, false, ◌&&◌, List, [], ◌∷◌, ◌++◌, length, filter, take, count_by, cond, nat_lt, refl, sym, ap, ap₂, ◌∙◌, subst, arith}
 use Rattle.std.specs.List.{AllByRecursion}
 use Rattle.std.proofs.lemmas.List.Elements.{filter-append}
 use Rattle.std.proofs.lemmas.Bool.{eq-eqb}
@@ -9,7 +9,7 @@ use Rattle.cmwq_model.specs.declared.record.Queueing.{Queueing}
 use Rattle.cmwq_model.specs.Layout.{Layout}
 use Rattle.cmwq_model.specs.Queueings.{still_open}
 use Rattle.cmwq_model.specs.Widths.{width}
-use Rattle.cmwq_model.specs.Active.{has_way, newly_active}
+use Rattle.cmwq_model.specs.Active.{has_way}
 use Rattle.cmwq_active.specs.Rising.{IsRising}
 use Rattle.cmwq_steps.specs.Places.{is_on, open_on}
 use Rattle.cmwq_steps.specs.Activations.{waits, stay_count}
@@ -18,7 +18,8 @@ use Rattle.cmwq_steps.proofs.Active.{length-count}
 use Rattle.cmwq_active.proofs.Rising.{rising_filter, open_rise}
 use Rattle.cmwq_steps.proofs.Promoted.{newly_active_on}
 use Rattle.cmwq_steps.specs.Waiting.{candidates}
-use Rattle.cmwq_steps.proofs.Waiting.{filters_flip, newly_are}
+use Rattle.cmwq_steps.proofs.Waiting.{newly_are}
+use Rattle.cmwq_steps.proofs.Promoted.{turn_filters}
 
 -- a rising list, and each front of a filter of it
 later_only : (h : Queueing → Bool) (x : Queueing) (xs zs : List Queueing) → AllByRecursion (λ y. x.number < y.number) xs → filter h xs ≡ x ∷ zs → ⊥
@@ -77,11 +78,11 @@ way_by_picked s past e done x rest split =
     let stay = stay_count s past e q c in
     let w = width s (e ∷ past) q in
     let parts : filter on (candidates s past e) ≡ filter on done ++ x ∷ filter on rest =
-        ap (filter on) split ∙ (filter-append on done (x ∷ rest) ∙ ap (λ b. filter on done ++ cond b (x ∷ filter on rest) (filter on rest)) (on_itself x)) in
-    let turned : filter (waits s past) (open_on (e ∷ past) q c) ≡ filter on (candidates s past e) = filters_flip (waits s past) on (still_open (e ∷ past)) in
+    ap (filter on) split ∙ (filter-append on done (x ∷ rest) ∙ ap (λ b. filter on done ++ cond b (x ∷ filter on rest) (filter on rest)) (on_itself x)) in
+    let turned : filter (waits s past) (open_on (e ∷ past) q c) ≡ filter on (candidates s past e) = turn_filters (waits s past) on (still_open (e ∷ past)) in
     let same : filter h (filter on (candidates s past e)) ≡ take (w - stay) (filter on (candidates s past e)) =
-        filters_flip h on (candidates s past e) ∙ (ap (filter on) (sym (newly_are s past e)) ∙ (newly_active_on s past e q c ∙ ap (take (w - stay)) turned)) in
+    turn_filters h on (candidates s past e) ∙ (ap (filter on) (sym (newly_are s past e)) ∙ (newly_active_on s past e q c ∙ ap (take (w - stay)) turned)) in
     let rises : IsRising (filter on done ++ x ∷ filter on rest) = subst IsRising parts (rising_filter on (candidates s past e) (rising_filter (waits s past) (still_open (e ∷ past)) (open_rise (e ∷ past)))) in
     let here = front_way h (w - stay) (filter on done) x (filter on rest) rises (subst (λ v. filter h v ≡ take (w - stay) v) parts same) in
-    let counted : length (filter h (filter on done)) ≡ count_by on (filter h done) = ap length (filters_flip h on done) ∙ sym (length-count on (filter h done)) in
+    let counted : length (filter h (filter on done)) ≡ count_by on (filter h done) = ap length (turn_filters h on done) ∙ sym (length-count on (filter h done)) in
     here ∙ (ap (λ k. nat_lt k (w - stay)) counted ∙ less_more (count_by on (filter h done)) stay w)

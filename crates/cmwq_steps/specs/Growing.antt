@@ -1,6 +1,5 @@
 -- Histories that grow: what is older of a legal one is legal, and a longer one begins with it.
-use Rattle.std.specs.Prelude.{◌≡◌, ℕ, ◌+◌, List, [], ◌∷◌, ◌++◌, reverse, length}
-use Rattle.cmwq_model.specs.declared.id.Who.{Who}
+use Rattle.std.specs.Prelude.{◌≡◌, List, [], ◌∷◌, ◌++◌}
 use Rattle.cmwq_model.specs.declared.entry.Entry.{Entry}
 use Rattle.cmwq_model.specs.Layout.{Layout}
 use Rattle.cmwq_model.specs.Legal.{IsLegal, past_of}

@@ -1,10 +1,10 @@
 -- That a history is legal is a proposition: so it may stand as a ghost field, `by { legal-prop s past }`.
-use Rattle.std.specs.Prelude.{◌≡◌, List, [], ◌∷◌, IsTrue}
-use Rattle.std.specs.Coded.{×_prop, Unit-prop}
+use Rattle.std.specs.Prelude.{List, [], ◌∷◌}
+use Rattle.std.specs.Coded.{Unit-prop}
 use Rattle.std.proofs.Props.{props}
 use Rattle.cmwq_model.specs.declared.entry.Entry.{Entry}
-use Rattle.cmwq_model.specs.Layout.{Layout, fits}
-use Rattle.cmwq_model.specs.Legal.{IsLegal, entry_for}
+use Rattle.cmwq_model.specs.Layout.{Layout}
+use Rattle.cmwq_model.specs.Legal.{IsLegal}
 
 entry-set : IsSet Entry
 entry-set = hlevel props

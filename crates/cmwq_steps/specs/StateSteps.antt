@@ -1,5 +1,5 @@
 -- What is kept of workers, items, time and serials after one more entry.
-use Rattle.std.specs.Prelude.{◌≡◌, ℕ, ◌+◌, true, ◌&&◌, ◌||◌, not, if◌then◌else◌, List, ◌∷◌, length, Some}
+use Rattle.std.specs.Prelude.{◌≡◌, ℕ, ◌+◌, true, false, ◌&&◌, ◌||◌, not, if◌then◌else◌, List, ◌∷◌, length, Some}
 use Rattle.cmwq_model.specs.declared.id.ItemId.{ItemId}
 use Rattle.cmwq_model.specs.declared.id.WorkerId.{WorkerId}
 use Rattle.cmwq_model.specs.declared.id.Who.{Who}
@@ -7,7 +7,7 @@ use Rattle.cmwq_model.specs.declared.id.Who.TheVariants.{Worker}
 use Rattle.cmwq_model.specs.declared.entry.Entry.{Entry}
 use Rattle.cmwq_model.specs.declared.record.Place.{Place}
 use Rattle.cmwq_model.specs.Layout.{Layout}
-use Rattle.cmwq_model.specs.Calls.{is_by, is_of_item, item_called, item_of, serial_of, ticks_told, now}
+use Rattle.cmwq_model.specs.Calls.{same_who, is_by, is_of_item, item_called, item_of, serial_of, ticks_told, now}
 use Rattle.cmwq_model.specs.Bookings.{settles, due_in, booking, booking_of}
 use Rattle.cmwq_model.specs.Runs.{asleep_after, is_asleep}
 use Rattle.cmwq_model.specs.Queueings.{opens, opening, place_called, place_wanted, queued_at}
@@ -32,6 +32,10 @@ TimeGoesOn = (past : List Entry) (e : Entry) → now (e ∷ past) ≡ now past +
 
 abbrev pub SerialsGoOn : Type 0
 SerialsGoOn = (past : List Entry) (e : Entry) (who : Who) → serial_of (e ∷ past) who ≡ one (is_by who e) + serial_of past who
+
+-- so its own caller's or worker's serial rises by one, and no other's
+abbrev pub SerialsRise : Type 0
+SerialsRise = (past : List Entry) (e : Entry) → (serial_of (e ∷ past) e.who ≡ serial_of past e.who + 1) × ((who : Who) → same_who e.who who ≡ false → serial_of (e ∷ past) who ≡ serial_of past who)
 
 -- a reply that says so many ticks books the item of the call, on its place, until then
 pub record BooksAsAsked (past : List Entry) (e : Entry) (d : ℕ) : Type 0 where

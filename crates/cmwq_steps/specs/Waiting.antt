@@ -1,5 +1,5 @@
 -- What waits, and how many are active on a queue and CPU, after one more entry.
-use Rattle.std.specs.Prelude.{◌≡◌, ℕ, ◌+◌, ◌-◌, ◌&&◌, not, Bool, false, List, ◌∷◌, ◌++◌, filter, count_by, drop, Option, option_to_list, nat_lt}
+use Rattle.std.specs.Prelude.{◌≡◌, ℕ, ◌+◌, ◌-◌, ◌&&◌, not, Bool, false, List, ◌∷◌, ◌++◌, filter, count_by, drop, option_to_list, nat_lt}
 use Rattle.std.specs.Option.{option_map_or}
 use Rattle.cmwq_model.specs.declared.entry.Entry.{Entry}
 use Rattle.cmwq_model.specs.declared.record.Queueing.{Queueing}

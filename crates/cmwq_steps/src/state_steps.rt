@@ -1,6 +1,6 @@
 //! What is kept of workers, items, time and serials after one more entry.
 
-ghost use Rattle.cmwq_steps.specs.StateSteps.{SleepersGoOn, EnlistedGoOn, BookingsGoOn, TimeGoesOn, SerialsGoOn, EntriesBookAsAsked, EntriesOpenAsAsked};
+ghost use Rattle.cmwq_steps.specs.StateSteps.{SleepersGoOn, EnlistedGoOn, BookingsGoOn, TimeGoesOn, SerialsGoOn, SerialsRise, EntriesBookAsAsked, EntriesOpenAsAsked};
 ghost use Rattle.cmwq_steps.specs.Marks.{OthersStay};
 
 /// A worker sleeps as its own last entry left it.
@@ -41,4 +41,9 @@ pub fn entries_open_as_asked()
 /// An entry can change the bits of one item at most: its own, or that of the queueing that it starts or finishes.
 pub fn others_stay()
     ensures { OthersStay }
+{}
+
+/// An entry's own caller or worker has a serial more, and no other.
+pub fn serials_rise()
+    ensures { SerialsRise }
 {}

@@ -10,3 +10,5 @@ mod parts;
 mod replies;
 #[cfg(test)]
 mod words;
+#[cfg(test)]
+mod worked;

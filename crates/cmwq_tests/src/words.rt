@@ -90,11 +90,11 @@ fn push_call(calls: &mut Vec<u8>, line: &str) -> Result<(), Fail> {
     Ok(())
 }
 
-/// The file of the calls of a history.
+/// The file of the calls of a history, without the line of its format.
 fn calls_of(alloc: Global, history: &[u8]) -> Result<Vec<u8>, Fail> {
     let mut calls = Vec::new(alloc);
     let text = str::from_utf8(history).map_err(|_| Fail::new("no text"))?;
-    for line in text.lines() {
+    for line in text.lines().skip(1) {
         push_call(&mut calls, line)?;
     }
     Ok(calls)

@@ -13,7 +13,7 @@ use Rattle.cmwq_text.proofs.Steps.{bind_some}
 use Rattle.cmwq_text.proofs.WordLaws.{are_plain}
 use Rattle.cmwq_text.proofs.KeywordLaws.{keyword_again, keyword_takes}
 use Rattle.cmwq_text.proofs.IdLaws.{item_again, queue_again, cpu_again, number_in_again}
-use Rattle.cmwq_text.proofs.RowLaws.{an_item, a_queue, a_cpu, a_number, none_takes, one_takes, three_takes, four_takes}
+use Rattle.cmwq_text.proofs.RowLaws.{an_item, a_queue, a_cpu, a_number, none_takes, one_takes, two_takes, three_takes, four_takes}
 use Rattle.cmwq_text.proofs.PhraseLaws.{phrase_is_plain, size, byte_len, short_len, number_len}
 
 pub call_again : (c : Call) (ws : List (List ℕ)) → IsCall c → call_in (call_words c ++ ws) ≡ Some (c, ws)
@@ -35,6 +35,10 @@ call_again call.Finish ws h = rw (keyword_again word.Finish) refl
 call_again call.Sleep ws h = rw (keyword_again word.Sleep) refl
 call_again call.Wake ws h = rw (keyword_again word.Wake) refl
 call_again call.Retire ws h = rw (keyword_again word.Retire) refl
+call_again (call.SetMax q n) ws h = rw (keyword_again word.SetMax, queue_again q (decimal n ∷ ws) h.0, number_in_again n ws h.1) refl
+call_again call.Freeze ws h = rw (keyword_again word.Freeze) refl
+call_again call.Thaw ws h = rw (keyword_again word.Thaw) refl
+call_again (call.Destroy q) ws h = rw (keyword_again word.Destroy, queue_again q ws h) refl
 
 -- no id is the greatest of its type
 abbrev pub IsKnownCall : Call → Type 0
@@ -55,6 +59,10 @@ IsKnownCall call.Finish = Unit {0}
 IsKnownCall call.Sleep = Unit {0}
 IsKnownCall call.Wake = Unit {0}
 IsKnownCall call.Retire = Unit {0}
+IsKnownCall (call.SetMax q n) = q.0 < greatest_byte
+IsKnownCall call.Freeze = Unit {0}
+IsKnownCall call.Thaw = Unit {0}
+IsKnownCall (call.Destroy q) = q.0 < greatest_byte
 
 call_after_is : (k : Keyword) (ws : List (List ℕ)) (x : Call × List (List ℕ)) → call_after k ws ≡ Some x → IsKnownCall x.0 → text k ∷ ws ≡ call_words x.0 ++ x.1
 unfolding call_words call_after
@@ -75,6 +83,10 @@ call_after_is word.Finish ws x e h = none_takes call.Finish (text word.Finish �
 call_after_is word.Sleep ws x e h = none_takes call.Sleep (text word.Sleep ∷ []) call_words refl ws x e
 call_after_is word.Wake ws x e h = none_takes call.Wake (text word.Wake ∷ []) call_words refl ws x e
 call_after_is word.Retire ws x e h = none_takes call.Retire (text word.Retire ∷ []) call_words refl ws x e
+call_after_is word.SetMax ws x e h = two_takes a_queue a_number call.SetMax (text word.SetMax ∷ []) IsKnownCall call_words (λ q n. refl) (λ q n h. (h, tt)) ws x e h
+call_after_is word.Freeze ws x e h = none_takes call.Freeze (text word.Freeze ∷ []) call_words refl ws x e
+call_after_is word.Thaw ws x e h = none_takes call.Thaw (text word.Thaw ∷ []) call_words refl ws x e
+call_after_is word.Destroy ws x e h = one_takes a_queue call.Destroy (text word.Destroy ∷ []) IsKnownCall call_words (λ q. refl) (λ q h. h) ws x e h
 call_after_is k ws x e h = absurd cc
 
 pub call_takes : (ws : List (List ℕ)) (x : Call × List (List ℕ)) → call_in ws ≡ Some x → IsKnownCall x.0 → ws ≡ call_words x.0 ++ x.1
@@ -101,6 +113,10 @@ call_is_plain call.Finish h = phrase_is_plain word.Finish [] tt
 call_is_plain call.Sleep h = phrase_is_plain word.Sleep [] tt
 call_is_plain call.Wake h = phrase_is_plain word.Wake [] tt
 call_is_plain call.Retire h = phrase_is_plain word.Retire [] tt
+call_is_plain (call.SetMax q n) h = phrase_is_plain word.SetMax (q.0 ∷ n ∷ []) (omega arith, (omega arith, tt))
+call_is_plain call.Freeze h = phrase_is_plain word.Freeze [] tt
+call_is_plain call.Thaw h = phrase_is_plain word.Thaw [] tt
+call_is_plain (call.Destroy q) h = phrase_is_plain word.Destroy (q.0 ∷ []) (omega arith, tt)
 
 pub call_is_short : (c : Call) → IsCall c → size (call_words c) ≤ 32
 unfolding call_words text
@@ -121,3 +137,7 @@ call_is_short call.Finish h = omega arith
 call_is_short call.Sleep h = omega arith
 call_is_short call.Wake h = omega arith
 call_is_short call.Retire h = omega arith
+call_is_short (call.SetMax q n) h = omega (arith, byte_len q.0 h.0, number_len n h.1)
+call_is_short call.Freeze h = omega arith
+call_is_short call.Thaw h = omega arith
+call_is_short (call.Destroy q) h = omega (arith, byte_len q.0 h)

@@ -11,7 +11,7 @@ use Rattle.cmwq_model.specs.declared.entry.Entry.{Entry}
 use Rattle.cmwq_model.specs.Layout.{may_make, has_numbers, fits, entry_fits, reply_fits}
 use Rattle.cmwq_text.specs.Words.{◌>>=◌, words_of, joined, is_end, after, number_in}
 use Rattle.cmwq_text.specs.IdText.{who_text, who_in}
-use Rattle.cmwq_text.specs.CallText.{call_words, call_text, call_in, is_of_kind, call_of}
+use Rattle.cmwq_text.specs.CallText.{call_words, call_text, call_in, may_say, call_of}
 use Rattle.cmwq_text.specs.ReplyText.{reply_words, reply_in}
 use Rattle.cmwq_text.specs.EntryText.{entry_words, entry_text, entry_of}
 use Rattle.cmwq_model.specs.Ranges.{IsWho, IsCall, IsEntry}
@@ -32,7 +32,7 @@ abbrev call_from : List (List ℕ) → Option (Who × Call)
 call_from ws = do
   who ← who_in ws
   c ← call_in who.1
-  if is_end c.1 && is_of_kind who.0 c.0 then Some (who.0, c.0) else None
+  if is_end c.1 && may_say who.0 c.0 then Some (who.0, c.0) else None
 
 pub call_line_is_plain : (who : Who) (c : Call) → IsWho who → IsCall c → are_plain (who_text who ∷ call_words c) ≡ true
 call_line_is_plain who c h k = and_true (is_plain (who_text who)) (are_plain (call_words c)) (is_plain-who who h) (call_is_plain c k)
@@ -49,9 +49,9 @@ same_words v w c d rest p q e = rw (p, q, e) (ap (λ (t : List (List ℕ)). who_
 pub calls_spelled_so : CallsSpelledSo
 unfolding call_text call_of
 calls_spelled_so s who c line small fit is =
-    let a = bind_some (who_in (words_of line)) (λ (a : Who × List (List ℕ)). call_in a.1 >>= λ (b : Call × List (List ℕ)). cond (is_end b.1 && is_of_kind a.0 b.0) (Some (a.0, b.0)) None) (who, c) is in
-    let b = bind_some (call_in a.0.1) (λ (b : Call × List (List ℕ)). cond (is_end b.1 && is_of_kind a.0.0 b.0) (Some (a.0.0, b.0)) None) (who, c) a.2 in
-    let found = chosen (is_end b.0.1 && is_of_kind a.0.0 b.0.0) (Some (a.0.0, b.0.0)) (who, c) b.2 in
+    let a = bind_some (who_in (words_of line)) (λ (a : Who × List (List ℕ)). call_in a.1 >>= λ (b : Call × List (List ℕ)). cond (is_end b.1 && may_say a.0 b.0) (Some (a.0, b.0)) None) (who, c) is in
+    let b = bind_some (call_in a.0.1) (λ (b : Call × List (List ℕ)). cond (is_end b.1 && may_say a.0.0 b.0) (Some (a.0.0, b.0)) None) (who, c) a.2 in
+    let found = chosen (is_end b.0.1 && may_say a.0.0 b.0.0) (Some (a.0.0, b.0.0)) (who, c) b.2 in
     let same : (a.0.0, b.0.0) ≡ (who, c) = same_Some _ _ found.1 in
     let who-is : a.0.0 ≡ who = ap (λ (x : Who × Call). x.0) same in
     let call-is : b.0.0 ≡ c = ap (λ (x : Who × Call). x.1) same in
@@ -64,19 +64,19 @@ calls_spelled_so s who c line small fit is =
 
 -- ---- lines of entries
 
-abbrev entry_at_end : Who → ℕ → Call → Reply × List (List ℕ) → Option Entry
-entry_at_end who serial c r = cond (is_end r.1 && is_of_kind who c) (Some (record { who = who; serial = serial; call = c; reply = r.0 })) None
+abbrev pub entry_at_end : Who → ℕ → Call → Reply × List (List ℕ) → Option Entry
+entry_at_end who serial c r = cond (is_end r.1 && may_say who c) (Some (record { who = who; serial = serial; call = c; reply = r.0 })) None
 
-abbrev entry_after_equals : Who → ℕ → Call → List (List ℕ) → Option Entry
+abbrev pub entry_after_equals : Who → ℕ → Call → List (List ℕ) → Option Entry
 entry_after_equals who serial c ws = reply_in ws >>= entry_at_end who serial c
 
-abbrev entry_after_call : Who → ℕ → Call × List (List ℕ) → Option Entry
+abbrev pub entry_after_call : Who → ℕ → Call × List (List ℕ) → Option Entry
 entry_after_call who serial c = after (codes "=") c.1 >>= entry_after_equals who serial c.0
 
-abbrev entry_after_serial : Who → ℕ × List (List ℕ) → Option Entry
+abbrev pub entry_after_serial : Who → ℕ × List (List ℕ) → Option Entry
 entry_after_serial who n = call_in n.1 >>= entry_after_call who n.0
 
-abbrev entry_after_who : Who × List (List ℕ) → Option Entry
+abbrev pub entry_after_who : Who × List (List ℕ) → Option Entry
 entry_after_who who = number_in who.1 >>= entry_after_serial who.0
 
 abbrev entry_from : List (List ℕ) → Option Entry
@@ -112,13 +112,13 @@ entries_spelled_so s e line small fit is =
     let answer = bind_some (after (codes "=") c.0.1) (entry_after_equals who.0.0 serial.0.0 c.0.0) e c.2 in
     let r = bind_some (reply_in answer.0) (entry_at_end who.0.0 serial.0.0 c.0.0) e answer.2 in
     let made : Entry = record { who = who.0.0; serial = serial.0.0; call = c.0.0; reply = r.0.0 } in
-    let found = chosen (is_end r.0.1 && is_of_kind who.0.0 c.0.0) (Some made) e r.2 in
+    let found = chosen (is_end r.0.1 && may_say who.0.0 c.0.0) (Some made) e r.2 in
     let same : made ≡ e = same_Some _ _ found.1 in
     let fit_made : entry_fits s made ≡ true = ap (entry_fits s) same ∙ fit in
     let outer = both (fits s who.0.0 c.0.0) (reply_fits s r.0.0) fit_made in
     let inner = both (may_make s who.0.0 c.0.0) (has_numbers s c.0.0) outer.0 in
     let limits = layout_is_small s small in
-    let ended : r.0.1 ≡ [] = no_more r.0.1 (both (is_end r.0.1) (is_of_kind who.0.0 c.0.0) found.0).0 in
+    let ended : r.0.1 ≡ [] = no_more r.0.1 (both (is_end r.0.1) (may_say who.0.0 c.0.0) found.0).0 in
     let who_part : words_of line ≡ who_text who.0.0 ∷ who.0.1 = who_takes (words_of line) who.0 who.1 (known_who s who.0.0 c.0.0 limits inner.0) in
     let serial_part : who.0.1 ≡ decimal serial.0.0 ∷ serial.0.1 = number_in_takes who.0.1 serial.0 serial.1 in
     let call_part : serial.0.1 ≡ call_words c.0.0 ++ c.0.1 = call_takes serial.0.1 c.0 c.1 (known_call s c.0.0 limits inner.1) in

@@ -129,7 +129,7 @@ letter_at c letter rest lt is =
     position_is is_pool_letter xs (length (decimal c)) first (omega (arith, len))
 
 -- the worker whose pool has its letter at l
-abbrev read_at : List ℕ → ℕ → Option Who
+abbrev pub read_at : List ℕ → ℕ → Option Who
 read_at name l = do
   c ← byte_of (take l name)
   x ← byte_of (drop (l + 1) name)
@@ -182,7 +182,7 @@ caller_is name who e =
     (λ (known : n.0 < greatest_byte). ap (λ (t : List ℕ). 99 ∷ t) (byte_takes n.0 name n.1 known))
 
 -- which of the two a name is
-first_says : (c w : Bool) (a b : Option Who) (who : Who) → cond c a (cond w b None) ≡ Some who → ((c ≡ true) × (a ≡ Some who)) ⊎ ((w ≡ true) × (b ≡ Some who))
+pub first_says : (c w : Bool) (a b : Option Who) (who : Who) → cond c a (cond w b None) ≡ Some who → ((c ≡ true) × (a ≡ Some who)) ⊎ ((w ≡ true) × (b ≡ Some who))
 first_says true w a b who e = inl (refl, e)
 first_says false true a b who e = inr (refl, e)
 first_says false false a b who e = absurd cc

@@ -19,16 +19,16 @@ unfolding keyword_of text
 keyword_again word.Queue = refl
 keyword_again k = refl
 
-first_or : (b : Bool) (x k : Keyword) (o : Option Keyword) → cond b (Some x) o ≡ Some k → ((b ≡ true) × (x ≡ k)) ⊎ (o ≡ Some k)
-first_or true x k o e = inl (refl, same_Some x k e)
-first_or false x k o e = inr e
+first_or : {A : Type 0} (b : Bool) (x y : A) (o : Option A) → cond b (Some x) o ≡ Some y → ((b ≡ true) × (x ≡ y)) ⊎ (o ≡ Some y)
+first_or true x y o e = inl (refl, same_Some x y e)
+first_or false x y o e = inr e
 
-found_passes : (p : Keyword → Bool) (ks : List Keyword) (k : Keyword) → find p ks ≡ Some k → p k ≡ true
-found_passes p [] k e = absurd cc
-found_passes p (x ∷ xs) k e =
-    elim (first_or (p x) x k (find p xs) e) [
-      | inl here ↦ subst (λ (y : Keyword). p y ≡ true) here.1 here.0
-      | inr later ↦ found_passes p xs k later
+pub found_passes : {A : Type 0} (p : A → Bool) (xs : List A) (y : A) → find p xs ≡ Some y → p y ≡ true
+found_passes p [] y e = absurd cc
+found_passes p (x ∷ xs) y e =
+    elim (first_or (p x) x y (find p xs) e) [
+      | inl here ↦ subst (λ z. p z ≡ true) here.1 here.0
+      | inr later ↦ found_passes p xs y later
     ]
 
 pub keyword_is : (k : Keyword) (w : List ℕ) → keyword_of w ≡ Some k → w ≡ text k

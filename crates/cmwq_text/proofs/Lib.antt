@@ -12,5 +12,6 @@ pub mod CallLaws
 pub mod ReplyLaws
 pub mod LineLaws
 pub mod EntryLaws
+pub mod ReadRanges
 pub mod ShapeLaws
 pub mod WholeLines

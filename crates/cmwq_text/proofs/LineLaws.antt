@@ -143,6 +143,8 @@ known_call s (call.Drain q) small e = known_queue s q.0 small e
 known_call s (call.FlushItem i) small e = known_item s i.0 small e
 known_call s (call.FlushDelayed i) small e = known_item s i.0 small e
 known_call s (call.CancelSync i) small e = known_item s i.0 small e
+known_call s (call.SetMax q n) small e = known_queue s q.0 small (both (ltb q.0 (length s.queues)) (leb 1 n) e).0
+known_call s (call.Destroy q) small e = known_queue s q.0 small e
 known_call s c small e = tt
 
 pub known_reply : (s : Layout) (r : Reply) → IsSmall s → reply_fits s r ≡ true → IsKnownReply r

@@ -51,6 +51,11 @@ reply_again reply.Slept h = rw (keyword_again word.Slept) refl
 reply_again reply.Woke h = rw (keyword_again word.Woke) refl
 reply_again reply.Retired h = rw (keyword_again word.Retired) refl
 reply_again reply.Kept h = rw (keyword_again word.Kept) refl
+reply_again (reply.Width n) h = rw (keyword_again word.Width, number_in_again n [] h) refl
+reply_again reply.Frozen h = rw (keyword_again word.Frozen) refl
+reply_again reply.Thawed h = rw (keyword_again word.Thawed) refl
+reply_again reply.Gone h = rw (keyword_again word.Gone) refl
+reply_again reply.Timers h = rw (keyword_again word.Timers) refl
 
 -- no id is the greatest of its type
 abbrev pub IsKnownReply : Reply → Type 0
@@ -116,6 +121,11 @@ reply_after_is word.Slept ws x e h = none_takes reply.Slept (text word.Slept ∷
 reply_after_is word.Woke ws x e h = none_takes reply.Woke (text word.Woke ∷ []) reply_words refl ws x e
 reply_after_is word.Retired ws x e h = none_takes reply.Retired (text word.Retired ∷ []) reply_words refl ws x e
 reply_after_is word.Kept ws x e h = none_takes reply.Kept (text word.Kept ∷ []) reply_words refl ws x e
+reply_after_is word.Width ws x e h = one_takes a_number reply.Width (text word.Width ∷ []) IsKnownReply reply_words (λ n. refl) (λ n h. tt) ws x e h
+reply_after_is word.Frozen ws x e h = none_takes reply.Frozen (text word.Frozen ∷ []) reply_words refl ws x e
+reply_after_is word.Thawed ws x e h = none_takes reply.Thawed (text word.Thawed ∷ []) reply_words refl ws x e
+reply_after_is word.Gone ws x e h = none_takes reply.Gone (text word.Gone ∷ []) reply_words refl ws x e
+reply_after_is word.Timers ws x e h = none_takes reply.Timers (text word.Timers ∷ []) reply_words refl ws x e
 reply_after_is k ws x e h = absurd cc
 
 pub reply_takes : (ws : List (List ℕ)) (x : Reply × List (List ℕ)) → reply_in ws ≡ Some x → IsKnownReply x.0 → ws ≡ reply_words x.0 ++ x.1
@@ -155,6 +165,11 @@ reply_is_plain reply.Slept h = phrase_is_plain word.Slept [] tt
 reply_is_plain reply.Woke h = phrase_is_plain word.Woke [] tt
 reply_is_plain reply.Retired h = phrase_is_plain word.Retired [] tt
 reply_is_plain reply.Kept h = phrase_is_plain word.Kept [] tt
+reply_is_plain (reply.Width n) h = phrase_is_plain word.Width (n ∷ []) (omega arith, tt)
+reply_is_plain reply.Frozen h = phrase_is_plain word.Frozen [] tt
+reply_is_plain reply.Thawed h = phrase_is_plain word.Thawed [] tt
+reply_is_plain reply.Gone h = phrase_is_plain word.Gone [] tt
+reply_is_plain reply.Timers h = phrase_is_plain word.Timers [] tt
 
 pub reply_is_short : (r : Reply) → IsReply r → size (reply_words r) ≤ 39
 unfolding reply_words text
@@ -188,3 +203,8 @@ reply_is_short reply.Slept h = omega arith
 reply_is_short reply.Woke h = omega arith
 reply_is_short reply.Retired h = omega arith
 reply_is_short reply.Kept h = omega arith
+reply_is_short (reply.Width n) h = omega (arith, number_len n h)
+reply_is_short reply.Frozen h = omega arith
+reply_is_short reply.Thawed h = omega arith
+reply_is_short reply.Gone h = omega arith
+reply_is_short reply.Timers h = omega arith

@@ -1,5 +1,5 @@
 -- Shape lines and lines of queues, and how long lines are.
-use Rattle.std.proofs.Common.{◌≡◌, ℕ, ◌≤◌, Bool, true, false, ◌&&◌, List, [], ◌∷◌, ◌++◌, length, eqb, leb, min, Option, Some, None, refl, ap, sym, ◌∙◌, arith, cond, subst, ◌⊎◌, inl, inr}
+use Rattle.std.proofs.Common.{◌≡◌, ℕ, ◌≤◌, Bool, true, false, ◌&&◌, List, [], ◌∷◌, ◌++◌, length, eqb, leb, min, Option, Some, None, refl, ap, ◌∙◌, arith, cond, subst}
 use Rattle.std.specs.Prelude.{codes, IsTrue}
 use Rattle.std.specs.Fmt.{decimal}
 use Rattle.std.specs.Str.{bytes_eq}
@@ -21,11 +21,12 @@ use Rattle.cmwq_text.specs.IdText.{who_text, pool_letter}
 use Rattle.cmwq_text.specs.CallText.{call_words, call_text}
 use Rattle.cmwq_text.specs.ReplyText.{reply_words}
 use Rattle.cmwq_text.specs.EntryText.{entry_words, entry_text}
-use Rattle.cmwq_text.specs.ShapeText.{counts_words, counts_text, counts_of, flags, flags_text, flags_of, queue_words, queue_text, queue_line_of, queue_with, width_taken, queue_of_calls, queue_of_history}
+use Rattle.cmwq_text.specs.ShapeText.{counts_words, counts_text, counts_of, flags, flags_in, flags_text, all_flags, flags_of, queue_words, queue_text, queue_line_of, queue_with, width_taken, queue_of_calls, queue_of_history}
 use Rattle.cmwq_model.specs.Ranges.{IsWho, IsCall, IsEntry}
 use Rattle.cmwq_text.specs.Laws.{IsLineOf, CountsReadAgain, QueuesReadAgain, CountsSpelledSo, QueuesSpelledSo, LinesAreShort}
 use Rattle.cmwq_text.proofs.Steps.{bind_some, chosen, both}
 use Rattle.cmwq_text.proofs.NumberLaws.{short_again}
+use Rattle.cmwq_text.proofs.KeywordLaws.{found_passes}
 use Rattle.cmwq_text.proofs.WordLaws.{is_plain, are_plain, and_true, is_plain-decimal, after_takes, word_takes}
 use Rattle.cmwq_text.proofs.IdLaws.{byte_in_again, number_in_again, byte_in_takes, short_in_takes, number_in_takes}
 use Rattle.cmwq_text.proofs.CallLaws.{call_is_short}
@@ -103,43 +104,28 @@ counts_spelled_so n line is =
 
 -- ---- queues
 
-flags_again : (high intensive : Bool) → flags_of (flags_text (flags high intensive)) ≡ Some (flags high intensive)
-flags_again true true = refl
-flags_again true false = refl
-flags_again false true = refl
-flags_again false false = refl
+flags_again : (high intensive freezable : Bool) → flags_of (flags_text (flags high intensive freezable)) ≡ Some (flags high intensive freezable)
+flags_again true true true = refl
+flags_again true true false = refl
+flags_again true false true = refl
+flags_again true false false = refl
+flags_again false true true = refl
+flags_again false true false = refl
+flags_again false false true = refl
+flags_again false false false = refl
 
-flags_are_plain : (high intensive : Bool) → is_plain (flags_text (flags high intensive)) ≡ true
-flags_are_plain true true = refl
-flags_are_plain true false = refl
-flags_are_plain false true = refl
-flags_are_plain false false = refl
-
-picked : (b : Bool) (f g : Flags) (o : Option Flags) → cond b (Some f) o ≡ Some g → ((b ≡ true) × (f ≡ g)) ⊎ (o ≡ Some g)
-picked true f g o e = inl (refl, same_Some f g e)
-picked false f g o e = inr e
-
-flags_one : (w : List ℕ) (text : List ℕ) (f g : Flags) → flags_text f ≡ text → (bytes_eq w text ≡ true) × (f ≡ g) → w ≡ flags_text g
-flags_one w text f g spelled found = (bytes_eq-Decides w text).0 found.0 ∙ sym spelled ∙ ap flags_text found.1
+flags_are_plain : (high intensive freezable : Bool) → is_plain (flags_text (flags high intensive freezable)) ≡ true
+flags_are_plain true true true = refl
+flags_are_plain true true false = refl
+flags_are_plain true false true = refl
+flags_are_plain true false false = refl
+flags_are_plain false true true = refl
+flags_are_plain false true false = refl
+flags_are_plain false false true = refl
+flags_are_plain false false false = refl
 
 flags_takes : (w : List ℕ) (f : Flags) → flags_of w ≡ Some f → w ≡ flags_text f
-flags_takes w f e =
-    let last : Option Flags = cond (bytes_eq w (codes "hi")) (Some (flags true true)) None in
-    let third : Option Flags = cond (bytes_eq w (codes "i")) (Some (flags false true)) last in
-    let second : Option Flags = cond (bytes_eq w (codes "h")) (Some (flags true false)) third in
-    elim (picked (bytes_eq w (codes "-")) (flags false false) f second e) [
-      | inl none ↦ flags_one w (codes "-") (flags false false) f refl none
-      | inr more ↦ elim (picked (bytes_eq w (codes "h")) (flags true false) f third more) [
-        | inl high ↦ flags_one w (codes "h") (flags true false) f refl high
-        | inr more ↦ elim (picked (bytes_eq w (codes "i")) (flags false true) f last more) [
-          | inl intensive ↦ flags_one w (codes "i") (flags false true) f refl intensive
-          | inr more ↦ elim (picked (bytes_eq w (codes "hi")) (flags true true) f None more) [
-            | inl both_flags ↦ flags_one w (codes "hi") (flags true true) f refl both_flags
-            | inr none ↦ absurd cc
-          ]
-        ]
-      ]
-    ]
+flags_takes w f e = (bytes_eq-Decides w (flags_text f)).0 (found_passes (λ g. bytes_eq w (flags_text g)) all_flags f e)
 
 abbrev queue_line_tested : ℕ → Flags × List (List ℕ) → Option QueueLine
 queue_line_tested width f = cond (is_end f.1) (Some (record { max_active = width; flags = f.0 })) None
@@ -152,15 +138,15 @@ queue_line_from ws = after (codes "wq") ws >>= λ rest. number_in rest >>= queue
 
 pub queue_is_plain : (q : QueueShape) → q.max_active ≤ 512 → are_plain (queue_words q) ≡ true
 queue_is_plain q small =
-    let f : List ℕ = flags_text (flags q.high q.intensive) in
-    and_true (is_plain (decimal q.max_active)) (are_plain (f ∷ [])) (is_plain-decimal q.max_active (omega arith)) (and_true (is_plain f) true (flags_are_plain q.high q.intensive) refl)
+    let f : List ℕ = flags_text (flags_in q) in
+    and_true (is_plain (decimal q.max_active)) (are_plain (f ∷ [])) (is_plain-decimal q.max_active (omega arith)) (and_true (is_plain f) true (flags_are_plain q.high q.intensive q.freezable) refl)
 
-queue_line_again : (q : QueueShape) (line : List ℕ) → q.max_active ≤ 512 → IsLineOf (queue_text q) line → queue_line_of line ≡ Some (record { max_active = q.max_active; flags = flags q.high q.intensive })
+queue_line_again : (q : QueueShape) (line : List ℕ) → q.max_active ≤ 512 → IsLineOf (queue_text q) line → queue_line_of line ≡ Some (record { max_active = q.max_active; flags = flags_in q })
 unfolding queue_text queue_line_of
 queue_line_again q line small is =
-    let f : List ℕ = flags_text (flags q.high q.intensive) in
+    let f : List ℕ = flags_text (flags_in q) in
     let words : words_of line ≡ queue_words q = line_words (codes "wq") (decimal q.max_active ∷ f ∷ []) line (queue_is_plain q small) is in
-    ap queue_line_from words ∙ rw (number_in_again q.max_active (f ∷ []) (omega arith), flags_again q.high q.intensive) refl
+    ap queue_line_from words ∙ rw (number_in_again q.max_active (f ∷ []) (omega arith), flags_again q.high q.intensive q.freezable) refl
 
 width_kept : (n : ℕ) → 1 ≤ n → n ≤ 512 → width_taken n ≡ n
 width_kept n some small =
@@ -227,19 +213,23 @@ counts_line_is_short n inside =
     let len : length (line_text (counts_words n)) ≡ size (counts_words n) = line_len (codes "shape") (decimal n.cpus ∷ decimal n.workers ∷ decimal n.callers ∷ decimal n.items ∷ decimal n.room ∷ []) in
     omega (arith, len, number_len n.cpus (omega arith), number_len n.workers (omega arith), number_len n.callers (omega arith), number_len n.items (omega arith), number_len n.room (omega arith))
 
-flags_are_short : (high intensive : Bool) → length (flags_text (flags high intensive)) ≤ 2
-flags_are_short true true = omega arith
-flags_are_short true false = omega arith
-flags_are_short false true = omega arith
-flags_are_short false false = omega arith
+flags_are_short : (high intensive freezable : Bool) → length (flags_text (flags high intensive freezable)) ≤ 3
+flags_are_short true true true = omega arith
+flags_are_short true true false = omega arith
+flags_are_short true false true = omega arith
+flags_are_short true false false = omega arith
+flags_are_short false true true = omega arith
+flags_are_short false true false = omega arith
+flags_are_short false false true = omega arith
+flags_are_short false false false = omega arith
 
 pub queue_line_is_short : (q : QueueShape) → IsTrue (is_queue q) → length (queue_text q) ≤ 121
 unfolding queue_text
 queue_line_is_short q inside =
     let small : q.max_active ≤ 512 = leb-true q.max_active 512 (both (leb 1 q.max_active) (leb q.max_active 512) inside).1 in
-    let f : List ℕ = flags_text (flags q.high q.intensive) in
+    let f : List ℕ = flags_text (flags_in q) in
     let len : length (line_text (queue_words q)) ≡ size (queue_words q) = line_len (codes "wq") (decimal q.max_active ∷ f ∷ []) in
-    omega (arith, len, number_len q.max_active (omega arith), flags_are_short q.high q.intensive)
+    omega (arith, len, number_len q.max_active (omega arith), flags_are_short q.high q.intensive q.freezable)
 
 pub lines_are_short : LinesAreShort
 lines_are_short = (call_line_is_short, entry_line_is_short, counts_line_is_short, queue_line_is_short)

@@ -11,22 +11,24 @@ use Rattle.std.proofs.lemmas.List.{length-append}
 use Rattle.cmwq_model.specs.declared.id.Who.{Who}
 use Rattle.cmwq_model.specs.declared.id.Who.TheVariants.{Caller, Worker}
 use Rattle.cmwq_model.specs.declared.call.Call.{Call}
+use Rattle.cmwq_model.specs.declared.call.Call.TheVariants as call
 use Rattle.cmwq_model.specs.declared.entry.Entry.{Entry}
 use Rattle.cmwq_model.specs.declared.shape.Counts.{Counts}
 use Rattle.cmwq_model.specs.declared.shape.QueueShape.{QueueShape}
 use Rattle.cmwq_model.specs.Layout.{Layout, are_counts, is_queue, is_callers, is_workers, fits, may_make, has_numbers}
 use Rattle.cmwq_text.specs.Words.{joined, line_text, spaced}
 use Rattle.cmwq_text.specs.IdText.{who_text, pool_letter}
-use Rattle.cmwq_text.specs.CallText.{call_words, call_text, is_of_kind}
+use Rattle.cmwq_text.specs.CallText.{call_words, call_text, is_of_kind, sets_some, may_say}
 use Rattle.cmwq_text.specs.ReplyText.{reply_words}
 use Rattle.cmwq_text.specs.EntryText.{entry_words, entry_text}
+use Rattle.cmwq_text.specs.HistoryText.{version_text}
 use Rattle.cmwq_text.specs.ShapeText.{counts_words, counts_text, queue_words, queue_text, begins_queue}
 use Rattle.cmwq_model.specs.Ranges.{IsWho, IsCall, IsEntry}
 use Rattle.cmwq_text.specs.Laws.{IsLineOf}
 use Rattle.cmwq_text.proofs.Steps.{both}
 use Rattle.cmwq_text.proofs.NumberLaws.{own}
 use Rattle.cmwq_text.proofs.Spacing.{joined_spaced}
-use Rattle.cmwq_text.proofs.WordLaws.{are_plain}
+use Rattle.cmwq_text.proofs.WordLaws.{are_plain, and_true}
 use Rattle.cmwq_text.proofs.LineLaws.{has_no_feed, joined_has_none}
 use Rattle.cmwq_text.proofs.EntryLaws.{call_line_is_plain, entry_is_plain}
 use Rattle.cmwq_text.proofs.ShapeLaws.{counts_are_plain, queue_is_plain, call_line_is_short, entry_line_is_short, counts_line_is_short, queue_line_is_short}
@@ -49,6 +51,9 @@ whole_line : (words : List (List ℕ)) → are_plain words ≡ true → length (
 whole_line words plain short =
     let len = length-append (joined words) (10 ∷ []) in
     record { is = refl; one = one_feed (joined words) (joined_has_none words plain); short = omega arith }
+
+pub whole_version : IsWholeLine (version_text 2) (codes "history 2")
+whole_version = record { is = refl; one = one_feed (codes "history 2") refl; short = omega arith }
 
 pub whole_counts : (n : Counts) → IsTrue (are_counts n.cpus n.workers n.callers n.items n.room) → IsWholeLine (counts_text n) (joined (counts_words n))
 unfolding counts_text
@@ -90,8 +95,17 @@ who_begins_no_queue who words h = ap begins_queue (joined_spaced (who_text who) 
 pub entry_begins : (e : Entry) → IsEntry e → begins_queue (joined (entry_words e)) ≡ false
 entry_begins e h = who_begins_no_queue e.who (decimal e.serial ∷ (call_words e.call ++ codes "=" ∷ reply_words e.reply)) h.who
 
--- ---- who makes which calls
+-- ---- what fits a shape may be said
 
-pub fits_kind : (s : Layout) (who : Who) (c : Call) → fits s who c ≡ true → is_of_kind who c ≡ true
-fits_kind s (Caller n) c e = (both (ltb n.0 s.callers) (is_callers c) (both (may_make s (Caller n) c) (has_numbers s c) e).0).1
-fits_kind s (Worker w) c e = (both (ltb w.pool.cpu.0 s.cpus && ltb w.index s.workers) (is_workers c) (both (may_make s (Worker w) c) (has_numbers s c) e).0).1
+makes_kind : (s : Layout) (who : Who) (c : Call) → may_make s who c ≡ true → is_of_kind who c ≡ true
+makes_kind s (Caller n) c e = (both (ltb n.0 s.callers) (is_callers c) e).1
+makes_kind s (Worker w) c e = (both (ltb w.pool.cpu.0 s.cpus && ltb w.index s.workers) (is_workers c) e).1
+
+has_some : (s : Layout) (c : Call) → has_numbers s c ≡ true → sets_some c ≡ true
+has_some s (call.SetMax q n) e = (both (ltb q.0 (length s.queues)) (leb 1 n) e).1
+has_some s c e = refl
+
+pub fits_line : (s : Layout) (who : Who) (c : Call) → fits s who c ≡ true → may_say who c ≡ true
+fits_line s who c e =
+    let parts = both (may_make s who c) (has_numbers s c) e in
+    and_true (is_of_kind who c) (sets_some c) (makes_kind s who c parts.0) (has_some s c parts.1)

@@ -1,5 +1,5 @@
 -- Calls in a text: how each is spelled, and how each is read.
-use Rattle.std.specs.Prelude.{ℕ, Bool, ◌&&◌, if◌then◌else◌, List, [], ◌∷◌, map, Option, Some, None, decimal}
+use Rattle.std.specs.Prelude.{ℕ, Bool, true, ◌&&◌, nat_le, if◌then◌else◌, List, [], ◌∷◌, map, Option, Some, None, decimal}
 use Rattle.cmwq_model.specs.declared.id.Who.{Who}
 use Rattle.cmwq_model.specs.declared.id.Who.TheVariants.{Caller, Worker}
 use Rattle.cmwq_model.specs.declared.call.Call.{Call}
@@ -7,7 +7,7 @@ use Rattle.cmwq_model.specs.declared.call.Call.TheVariants as call
 use Rattle.cmwq_model.specs.Layout.{is_callers, is_workers}
 use Rattle.cmwq_text.specs.declared.keyword.Keyword.{Keyword}
 use Rattle.cmwq_text.specs.declared.keyword.Keyword.TheVariants as word
-use Rattle.cmwq_text.specs.Words.{◌>>=◌, words_of, line_text, is_end, number_in, none, one, three, four}
+use Rattle.cmwq_text.specs.Words.{◌>>=◌, words_of, line_text, is_end, number_in, none, one, two, three, four}
 use Rattle.cmwq_text.specs.Keywords.{text, keyword_in}
 use Rattle.cmwq_text.specs.IdText.{who_text, item_in, queue_in, cpu_in, who_in}
 
@@ -33,6 +33,10 @@ call_words call.Finish = phrase word.Finish []
 call_words call.Sleep = phrase word.Sleep []
 call_words call.Wake = phrase word.Wake []
 call_words call.Retire = phrase word.Retire []
+call_words (call.SetMax q n) = phrase word.SetMax (q.0 ∷ n ∷ [])
+call_words call.Freeze = phrase word.Freeze []
+call_words call.Thaw = phrase word.Thaw []
+call_words (call.Destroy q) = phrase word.Destroy (q.0 ∷ [])
 
 -- the line of a who and its call, with its line feed
 unfoldable pub call_text : Who → Call → List ℕ
@@ -57,6 +61,10 @@ call_after word.Finish = none call.Finish
 call_after word.Sleep = none call.Sleep
 call_after word.Wake = none call.Wake
 call_after word.Retire = none call.Retire
+call_after word.SetMax = two queue_in number_in call.SetMax
+call_after word.Freeze = none call.Freeze
+call_after word.Thaw = none call.Thaw
+call_after word.Destroy = one queue_in call.Destroy
 call_after keyword = λ words. None
 
 abbrev pub call_in : List (List ℕ) → Option (Call × List (List ℕ))
@@ -69,9 +77,17 @@ abbrev pub is_of_kind : Who → Call → Bool
 is_of_kind (Caller c) call = is_callers call
 is_of_kind (Worker w) call = is_workers call
 
+-- what a line may say: a call that such a who makes, and no max_active of 0
+abbrev pub sets_some : Call → Bool
+sets_some (call.SetMax q n) = nat_le 1 n
+sets_some call = true
+
+abbrev pub may_say : Who → Call → Bool
+may_say who call = is_of_kind who call && sets_some call
+
 -- the call of a line of calls
 unfoldable pub call_of : List ℕ → Option (Who × Call)
 call_of line = do
   who ← who_in (words_of line)
   call ← call_in who.1
-  if is_end call.1 && is_of_kind who.0 call.0 then Some (who.0, call.0) else None
+  if is_end call.1 && may_say who.0 call.0 then Some (who.0, call.0) else None

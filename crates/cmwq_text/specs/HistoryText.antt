@@ -1,6 +1,6 @@
--- The whole text of a history with its shape: the shape line, a line for each queue, a line for each entry from the oldest on.
--- That of calls with their shape has a line for each call in place of the entries.
-use Rattle.std.specs.Prelude.{ℕ, List, ◌++◌}
+-- The whole text of a history with its shape: in format 2 the line `history 2`, then the shape line, a line for each queue, a line for each
+-- entry from the oldest on. That of calls with their shape has a line for each call in place of the entries, and no line of a format.
+use Rattle.std.specs.Prelude.{ℕ, ◌==◌, if◌then◌else◌, List, [], ◌∷◌, ◌++◌, codes}
 use Rattle.std.specs.List.{flat_map}
 use Rattle.cmwq_model.specs.declared.id.Who.{Who}
 use Rattle.cmwq_model.specs.declared.call.Call.{Call}
@@ -20,8 +20,19 @@ shape_text s = counts_text (counts_in s) ++ flat_map queue_text s.queues
 abbrev pub entries_text : List Entry → List ℕ
 entries_text entries = flat_map entry_text entries
 
+abbrev pub version_text : ℕ → List ℕ
+version_text version = if version == 2 then codes "history 2" ++ 10 ∷ [] else []
+
+-- what stands before the entries
+abbrev pub head_text : ℕ → Layout → List ℕ
+head_text version s = version_text version ++ shape_text s
+
+abbrev pub text_of_format : ℕ → Layout → List Entry → List ℕ
+text_of_format version s entries = head_text version s ++ entries_text entries
+
+-- as it is written
 abbrev pub history_text : Layout → List Entry → List ℕ
-history_text s entries = shape_text s ++ entries_text entries
+history_text s entries = text_of_format 2 s entries
 
 abbrev pub calls_text : Layout → List (Who × Call) → List ℕ
 calls_text s calls = shape_text s ++ flat_map (λ x. call_text x.0 x.1) calls

@@ -6,7 +6,7 @@ use Rattle.cmwq_model.specs.declared.entry.Entry.{Entry}
 use Rattle.cmwq_model.specs.declared.shape.Counts.{Counts}
 use Rattle.cmwq_model.specs.declared.shape.QueueShape.{QueueShape}
 use Rattle.cmwq_model.specs.Layout.{Layout, are_counts, is_queue, is_layout, fits, entry_fits}
-use Rattle.cmwq_text.specs.CallText.{call_text, call_of, is_of_kind}
+use Rattle.cmwq_text.specs.CallText.{call_text, call_of, may_say}
 use Rattle.cmwq_text.specs.EntryText.{entry_text, entry_of}
 use Rattle.cmwq_text.specs.ShapeText.{counts_text, counts_of, queue_text, queue_of_calls, queue_of_history}
 use Rattle.cmwq_model.specs.Ranges.{IsWho, IsCall, IsEntry}
@@ -17,10 +17,10 @@ IsLineOf text line = text ≡ line ++ 10 ∷ []
 
 -- what is spelled is read again
 abbrev pub CallsReadAgain : Type 0
-CallsReadAgain = (who : Who) (call : Call) (line : List ℕ) → IsWho who → IsCall call → IsTrue (is_of_kind who call) → IsLineOf (call_text who call) line → call_of line ≡ Some (who, call)
+CallsReadAgain = (who : Who) (call : Call) (line : List ℕ) → IsWho who → IsCall call → IsTrue (may_say who call) → IsLineOf (call_text who call) line → call_of line ≡ Some (who, call)
 
 abbrev pub EntriesReadAgain : Type 0
-EntriesReadAgain = (e : Entry) (line : List ℕ) → IsEntry e → IsTrue (is_of_kind e.who e.call) → IsLineOf (entry_text e) line → entry_of line ≡ Some e
+EntriesReadAgain = (e : Entry) (line : List ℕ) → IsEntry e → IsTrue (may_say e.who e.call) → IsLineOf (entry_text e) line → entry_of line ≡ Some e
 
 abbrev pub CountsReadAgain : Type 0
 CountsReadAgain = (n : Counts) (line : List ℕ) → IsTrue (are_counts n.cpus n.workers n.callers n.items n.room) → IsLineOf (counts_text n) line → counts_of line ≡ Some n
@@ -43,7 +43,7 @@ QueuesSpelledSo = (q : QueueShape) (line : List ℕ) → queue_of_history line �
 
 -- no text of an entry begins another's
 abbrev pub EntriesStandApart : Type 0
-EntriesStandApart = (e f : Entry) (rest : List ℕ) → IsEntry e → IsEntry f → IsTrue (is_of_kind e.who e.call) → IsTrue (is_of_kind f.who f.call) → entry_text f ≡ entry_text e ++ rest → (e ≡ f) × (rest ≡ [])
+EntriesStandApart = (e f : Entry) (rest : List ℕ) → IsEntry e → IsEntry f → IsTrue (may_say e.who e.call) → IsTrue (may_say f.who f.call) → entry_text f ≡ entry_text e ++ rest → (e ≡ f) × (rest ≡ [])
 
 -- no line that is spelled is longer than 120 bytes and its line feed
 abbrev pub LinesAreShort : Type 0

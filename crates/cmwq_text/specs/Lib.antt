@@ -6,6 +6,7 @@ pub mod CallText
 pub mod ReplyText
 pub mod EntryText
 pub mod ShapeText
+pub mod Formats
 pub mod HistoryText
 pub mod VerdictText
 pub mod Laws

@@ -1,8 +1,7 @@
 -- Replies in a text: how each is spelled, and how each is read.
-use Rattle.std.specs.Prelude.{ℕ, Bool, true, List, [], ◌∷◌, ◌++◌, Option, Some, None, nat_lt}
+use Rattle.std.specs.Prelude.{ℕ, List, [], ◌∷◌, ◌++◌, Option, Some, None}
 use Rattle.cmwq_model.specs.declared.reply.Reply.{Reply}
 use Rattle.cmwq_model.specs.declared.reply.Reply.TheVariants as reply
-use Rattle.cmwq_model.specs.Layout.{Layout}
 use Rattle.cmwq_text.specs.declared.keyword.Keyword.{Keyword}
 use Rattle.cmwq_text.specs.declared.keyword.Keyword.TheVariants as word
 use Rattle.cmwq_text.specs.Words.{◌>>=◌, byte_in, number_in, long_in, none, one, two}
@@ -41,6 +40,11 @@ reply_words reply.Slept = phrase word.Slept []
 reply_words reply.Woke = phrase word.Woke []
 reply_words reply.Retired = phrase word.Retired []
 reply_words reply.Kept = phrase word.Kept []
+reply_words (reply.Width n) = phrase word.Width (n ∷ [])
+reply_words reply.Frozen = phrase word.Frozen []
+reply_words reply.Thawed = phrase word.Thawed []
+reply_words reply.Gone = phrase word.Gone []
+reply_words reply.Timers = phrase word.Timers []
 
 -- after `ticket <k>` comes nothing, or a second keyword
 unfoldable pub ticket_with : ℕ → Keyword → List (List ℕ) → Option (Reply × List (List ℕ))
@@ -94,6 +98,11 @@ reply_after word.Slept = none reply.Slept
 reply_after word.Woke = none reply.Woke
 reply_after word.Retired = none reply.Retired
 reply_after word.Kept = none reply.Kept
+reply_after word.Width = one number_in reply.Width
+reply_after word.Frozen = none reply.Frozen
+reply_after word.Thawed = none reply.Thawed
+reply_after word.Gone = none reply.Gone
+reply_after word.Timers = none reply.Timers
 reply_after keyword = λ words. None
 
 abbrev pub reply_in : List (List ℕ) → Option (Reply × List (List ℕ))

@@ -1,5 +1,5 @@
 -- Shapes in a text: `shape <cpus> <workers> <callers> <items> <room>`, and `wq <max_active> <flags>` for each queue.
-use Rattle.std.specs.Prelude.{ℕ, Bool, true, false, ◌&&◌, ◌==◌, if◌then◌else◌, List, [], ◌∷◌, Option, Some, None, codes, decimal, min, nat_eq}
+use Rattle.std.specs.Prelude.{ℕ, Bool, true, false, ◌&&◌, ◌==◌, if◌then◌else◌, List, [], ◌∷◌, ◌++◌, find, Option, Some, None, codes, decimal, min, nat_eq}
 use Rattle.std.specs.List.{starts_with}
 use Rattle.std.specs.Str.{bytes_eq}
 use Rattle.cmwq_model.specs.declared.shape.Counts.{Counts}
@@ -32,25 +32,33 @@ counts_of line = do
 abbrev pub begins_queue : List ℕ → Bool
 begins_queue line = starts_with nat_eq line (codes "wq ")
 
--- `h` for high priority, `i` for CPU intensive, and `-` for neither
-abbrev pub flags : Bool → Bool → Flags
-flags high intensive = record { high = high; intensive = intensive }
+-- `h` for high priority, `i` for CPU intensive and `f` for freezable, in this order, or `-` for none of them
+abbrev pub flags : Bool → Bool → Bool → Flags
+flags high intensive freezable = record { high = high; intensive = intensive; freezable = freezable }
+
+abbrev pub flags_in : QueueShape → Flags
+flags_in q = flags q.high q.intensive q.freezable
+
+abbrev pub letter : Bool → List ℕ → List ℕ
+letter stands text = if stands then text else []
+
+abbrev pub or_dash : List ℕ → List ℕ
+or_dash [] = codes "-"
+or_dash (first ∷ letters) = first ∷ letters
 
 abbrev pub flags_text : Flags → List ℕ
-flags_text f =
-    if f.high then (if f.intensive then codes "hi" else codes "h")
-    else (if f.intensive then codes "i" else codes "-")
+flags_text f = or_dash (letter f.high (codes "h") ++ letter f.intensive (codes "i") ++ letter f.freezable (codes "f"))
+
+abbrev pub all_flags : List Flags
+all_flags =
+    flags false false false ∷ flags true false false ∷ flags false true false ∷ flags true true false
+    ∷ flags false false true ∷ flags true false true ∷ flags false true true ∷ flags true true true ∷ []
 
 abbrev pub flags_of : List ℕ → Option Flags
-flags_of word =
-    if bytes_eq word (codes "-") then Some (flags false false)
-    else if bytes_eq word (codes "h") then Some (flags true false)
-    else if bytes_eq word (codes "i") then Some (flags false true)
-    else if bytes_eq word (codes "hi") then Some (flags true true)
-    else None
+flags_of word = find (λ f. bytes_eq word (flags_text f)) all_flags
 
 abbrev pub queue_words : QueueShape → List (List ℕ)
-queue_words q = codes "wq" ∷ decimal q.max_active ∷ flags_text (flags q.high q.intensive) ∷ []
+queue_words q = codes "wq" ∷ decimal q.max_active ∷ flags_text (flags_in q) ∷ []
 
 unfoldable pub queue_text : QueueShape → List ℕ
 queue_text q = line_text (queue_words q)
@@ -64,7 +72,7 @@ queue_line_of line = do
   if is_end f.1 then Some (record { max_active = width.0; flags = f.0 }) else None
 
 abbrev pub queue_with : ℕ → Flags → QueueShape
-queue_with max_active f = record { max_active = max_active; high = f.high; intensive = f.intensive }
+queue_with max_active f = record { max_active = max_active; high = f.high; intensive = f.intensive; freezable = f.freezable }
 
 -- In a file of calls 0 is taken as 256, and more than 512 as 512.
 abbrev pub width_taken : ℕ → ℕ

@@ -1,6 +1,6 @@
 //! Calls in a text.
 ghost use Rattle.std.specs.Prelude.{◌≡◌};
-ghost use Rattle.cmwq_text.specs.CallText.{call_after, call_in, is_of_kind, call_of};
+ghost use Rattle.cmwq_text.specs.CallText.{call_after, call_in, is_of_kind, may_say, call_of};
 
 use crate::id::{cpu_in, item_in, queue_in, who_in};
 use crate::keyword::{Keyword, keyword_in};
@@ -87,6 +87,17 @@ fn call_after<'a>(keyword: Keyword, words: Words<'a>) -> Option<(Call, Words<'a>
         Keyword::Sleep => Some((Call::Sleep, words)),
         Keyword::Wake => Some((Call::Wake, words)),
         Keyword::Retire => Some((Call::Retire, words)),
+        Keyword::SetMax => {
+            let (queue, words) = queue_in(words)?;
+            let (max_active, words) = number_in(words)?;
+            Some((Call::SetMax { queue, max_active }, words))
+        }
+        Keyword::Freeze => Some((Call::Freeze, words)),
+        Keyword::Thaw => Some((Call::Thaw, words)),
+        Keyword::Destroy => {
+            let (queue, words) = queue_in(words)?;
+            Some((Call::Destroy { queue }, words))
+        }
         _ => None,
     }
 }
@@ -100,7 +111,7 @@ pub fn call_in<'a>(words: Words<'a>) -> Option<(Call, Words<'a>)>
 }
 
 /// Whether such a who makes such calls.
-pub fn is_of_kind(who: Who, call: Call) -> bool
+fn is_of_kind(who: Who, call: Call) -> bool
     ensures { result ≡ is_of_kind who call }
 {
     match who {
@@ -109,15 +120,23 @@ pub fn is_of_kind(who: Who, call: Call) -> bool
     }
 }
 
-/// The who and the call of a line of calls, without its line feed. None: it is no such line, or the who isn't of the
-/// kind that makes this call. An id that its type can't hold is read as the greatest of the type, which no shape has.
+/// Whether a line may say so: such a who makes such calls, and a max_active that is set is at least 1.
+pub fn may_say(who: Who, call: Call) -> bool
+    ensures { result ≡ may_say who call }
+{
+    is_of_kind(who, call) && !matches!(call, Call::SetMax { max_active: 0, .. })
+}
+
+/// The who and the call of a line of calls, without its line feed. None: it is no such line, the who isn't of the
+/// kind that makes this call, or a max_active is set to 0. An id that its type can't hold is read as the greatest of
+/// the type, which no shape has.
 #[tactic(auto, unfolding(crate::specs::CallText::call_of))]
 pub fn read_call(line: &[u8]) -> Option<(Who, Call)>
     ensures { result ≡ call_of line.now }
 {
     let (who, words) = who_in(Words::of(line))?;
     let (call, words) = call_in(words)?;
-    if words.is_end() && is_of_kind(who, call) {
+    if words.is_end() && may_say(who, call) {
         Some((who, call))
     } else {
         None

@@ -3,15 +3,15 @@ ghost use Rattle.std.specs.Prelude.{◌≡◌};
 ghost use Rattle.cmwq_model.specs.Layout.{entry_fits};
 ghost use Rattle.cmwq_text.specs.EntryText.{entry_of};
 
-use crate::call::{call_in, is_of_kind};
+use crate::call::{call_in, may_say};
 use crate::id::who_in;
 use crate::reply::{reply_fits, reply_in};
 use crate::word::{Words, number_in};
 use cmwq_model::{Entry, Shape};
 
-/// The entry of a line of a history, without its line feed. None: it is no such line, or the who isn't of the kind that
-/// makes this call. Any reply may follow any call. An id that its type can't hold is read as the greatest of the type,
-/// which no shape has.
+/// The entry of a line of a history, without its line feed. None: it is no such line, the who isn't of the kind that
+/// makes this call, or a max_active is set to 0. Any reply may follow any call. An id that its type can't hold is read
+/// as the greatest of the type, which no shape has.
 #[tactic(auto, unfolding(crate::specs::EntryText::entry_of))]
 pub fn read_entry(line: &[u8]) -> Option<Entry>
     ensures { result ≡ entry_of line.now }
@@ -20,7 +20,7 @@ pub fn read_entry(line: &[u8]) -> Option<Entry>
     let (serial, words) = number_in(words)?;
     let (call, words) = call_in(words)?;
     let (reply, words) = reply_in(words.after(b"=")?)?;
-    if words.is_end() && is_of_kind(who, call) {
+    if words.is_end() && may_say(who, call) {
         Some(Entry {
             who,
             serial,

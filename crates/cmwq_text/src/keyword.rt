@@ -23,6 +23,10 @@ pub enum Keyword {
     Sleep,
     Wake,
     Retire,
+    SetMax,
+    Freeze,
+    Thaw,
+    Destroy,
     Yes,
     Booked,
     Again,
@@ -50,10 +54,15 @@ pub enum Keyword {
     Woke,
     Retired,
     Kept,
+    Width,
+    Frozen,
+    Thawed,
+    Gone,
+    Timers,
 }
 
 /// Every keyword.
-const KEYWORDS: [Keyword; 44] = [
+const KEYWORDS: [Keyword; 53] = [
     Keyword::Queue,
     Keyword::Delay,
     Keyword::Modify,
@@ -71,6 +80,10 @@ const KEYWORDS: [Keyword; 44] = [
     Keyword::Sleep,
     Keyword::Wake,
     Keyword::Retire,
+    Keyword::SetMax,
+    Keyword::Freeze,
+    Keyword::Thaw,
+    Keyword::Destroy,
     Keyword::Yes,
     Keyword::Booked,
     Keyword::Again,
@@ -98,6 +111,11 @@ const KEYWORDS: [Keyword; 44] = [
     Keyword::Woke,
     Keyword::Retired,
     Keyword::Kept,
+    Keyword::Width,
+    Keyword::Frozen,
+    Keyword::Thawed,
+    Keyword::Gone,
+    Keyword::Timers,
 ];
 
 impl Keyword {
@@ -125,6 +143,10 @@ impl Keyword {
             Keyword::Sleep => "sleep",
             Keyword::Wake => "wake",
             Keyword::Retire => "retire",
+            Keyword::SetMax => "set_max",
+            Keyword::Freeze => "freeze",
+            Keyword::Thaw => "thaw",
+            Keyword::Destroy => "destroy",
             Keyword::Yes => "yes",
             Keyword::Booked => "booked",
             Keyword::Again => "again",
@@ -152,6 +174,11 @@ impl Keyword {
             Keyword::Woke => "woke",
             Keyword::Retired => "retired",
             Keyword::Kept => "kept",
+            Keyword::Width => "width",
+            Keyword::Frozen => "frozen",
+            Keyword::Thawed => "thawed",
+            Keyword::Gone => "gone",
+            Keyword::Timers => "timers",
         }
     }
 }

@@ -3,6 +3,7 @@
 
 mod call;
 mod entry;
+mod format;
 mod id;
 mod keyword;
 mod laws;
@@ -16,6 +17,7 @@ mod word;
 
 pub use call::read_call;
 pub use entry::{entry_fits, read_entry};
+pub use format::{is_version_line, read_entry_of_format, read_queue_of_format};
 pub use laws::{
     calls_read_again, calls_spelled_so, counts_read_again, counts_spelled_so, entries_read_again,
     entries_spelled_so, entries_stand_apart, lines_are_short, queues_read_again, queues_spelled_so,
@@ -23,7 +25,7 @@ pub use laws::{
 pub use line::Line;
 pub use reply::reply_fits;
 pub use shape::{begins_queue, read_counts, read_queue_of_calls, read_queue_of_history};
-pub use spelling::{counts_line, entry_line, queue_line};
+pub use spelling::{counts_line, entry_line, queue_line, version_line};
 pub use verdict::{illegal_line, legal_line};
 
 #[cfg(test)]

@@ -126,6 +126,14 @@ fn reply_after<'a>(keyword: Keyword, words: Words<'a>) -> Option<(Reply, Words<'
         Keyword::Woke => Some((Reply::Woke, words)),
         Keyword::Retired => Some((Reply::Retired, words)),
         Keyword::Kept => Some((Reply::Kept, words)),
+        Keyword::Width => {
+            let (width, words) = number_in(words)?;
+            Some((Reply::Width(width), words))
+        }
+        Keyword::Frozen => Some((Reply::Frozen, words)),
+        Keyword::Thawed => Some((Reply::Thawed, words)),
+        Keyword::Gone => Some((Reply::Gone, words)),
+        Keyword::Timers => Some((Reply::Timers, words)),
         _ => None,
     }
 }

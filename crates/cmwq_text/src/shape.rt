@@ -10,6 +10,7 @@ use cmwq_model::{Counts, QueueShape};
 pub struct Flags {
     pub high: bool,
     pub intensive: bool,
+    pub freezable: bool,
 }
 
 /// What a queue's line says.
@@ -51,17 +52,26 @@ pub fn begins_queue(line: &[u8]) -> bool
     line.starts_with(b"wq ")
 }
 
+/// `-` for none of the flags, or one to three of `h`, `i` and `f`, in this order.
 fn flags_of(word: &[u8]) -> Option<Flags>
     ensures { result ≡ flags_of word.now }
 {
-    let (high, intensive) = match word {
-        b"-" => (false, false),
-        b"h" => (true, false),
-        b"i" => (false, true),
-        b"hi" => (true, true),
+    let (high, intensive, freezable) = match word {
+        b"-" => (false, false, false),
+        b"h" => (true, false, false),
+        b"i" => (false, true, false),
+        b"hi" => (true, true, false),
+        b"f" => (false, false, true),
+        b"hf" => (true, false, true),
+        b"if" => (false, true, true),
+        b"hif" => (true, true, true),
         _ => return None,
     };
-    Some(Flags { high, intensive })
+    Some(Flags {
+        high,
+        intensive,
+        freezable,
+    })
 }
 
 #[tactic(auto, unfolding(crate::specs::ShapeText::queue_line_of))]
@@ -101,6 +111,7 @@ pub fn read_queue_of_calls(line: &[u8]) -> Option<QueueShape>
         max_active: width_taken(max_active),
         high: flags.high,
         intensive: flags.intensive,
+        freezable: flags.freezable,
     })
 }
 
@@ -115,6 +126,7 @@ pub fn read_queue_of_history(line: &[u8]) -> Option<QueueShape>
             max_active: max_active as u16,
             high: flags.high,
             intensive: flags.intensive,
+            freezable: flags.freezable,
         })
     } else {
         None

@@ -5,7 +5,8 @@ ghost use Rattle.cmwq_text.specs.IdText.{who_text};
 ghost use Rattle.cmwq_text.specs.CallText.{call_words};
 ghost use Rattle.cmwq_text.specs.ReplyText.{reply_words};
 ghost use Rattle.cmwq_text.specs.EntryText.{entry_text};
-ghost use Rattle.cmwq_text.specs.ShapeText.{flags, flags_text, counts_text, queue_text};
+ghost use Rattle.cmwq_text.specs.HistoryText.{version_text};
+ghost use Rattle.cmwq_text.specs.ShapeText.{flags_in, flags_text, counts_text, queue_text};
 
 use crate::keyword::Keyword;
 use crate::line::Line;
@@ -74,6 +75,13 @@ fn push_call(line: &mut Line, call: Call)
         Call::Sleep => line.push_phrase(Keyword::Sleep, &[]),
         Call::Wake => line.push_phrase(Keyword::Wake, &[]),
         Call::Retire => line.push_phrase(Keyword::Retire, &[]),
+        Call::SetMax { queue, max_active } => line.push_phrase(
+            Keyword::SetMax,
+            &[queue.0.into(), max_active.into()],
+        ),
+        Call::Freeze => line.push_phrase(Keyword::Freeze, &[]),
+        Call::Thaw => line.push_phrase(Keyword::Thaw, &[]),
+        Call::Destroy { queue } => line.push_phrase(Keyword::Destroy, &[queue.0.into()]),
     }
 }
 
@@ -127,6 +135,11 @@ pub(crate) fn push_reply(line: &mut Line, reply: Reply)
         Reply::Woke => line.push_phrase(Keyword::Woke, &[]),
         Reply::Retired => line.push_phrase(Keyword::Retired, &[]),
         Reply::Kept => line.push_phrase(Keyword::Kept, &[]),
+        Reply::Width(n) => line.push_phrase(Keyword::Width, &[n.into()]),
+        Reply::Frozen => line.push_phrase(Keyword::Frozen, &[]),
+        Reply::Thawed => line.push_phrase(Keyword::Thawed, &[]),
+        Reply::Gone => line.push_phrase(Keyword::Gone, &[]),
+        Reply::Timers => line.push_phrase(Keyword::Timers, &[]),
     }
 }
 
@@ -142,6 +155,15 @@ pub fn entry_line(entry: &Entry) -> Line
     line.push(" =");
     push_reply(&mut line, entry.reply);
     line.push("\n");
+    line
+}
+
+/// The first line of a history of format 2, with its line feed.
+pub fn version_line() -> Line
+    ensures { result ≡ version_text 2 }
+{
+    let mut line = Line::new();
+    line.push("history 2\n");
     line
 }
 
@@ -163,14 +185,19 @@ pub fn counts_line(counts: &Counts) -> Line
     line
 }
 
-fn flags_text(high: bool, intensive: bool) -> &'static str
-    ensures { result.now ≡ flags_text (flags high intensive) }
+fn flags_text(queue: &QueueShape) -> &'static str
+    ensures exact { result.now ≡ flags_text (flags_in queue.now) }
+    ensures short { length result.now ≤ 3 }
 {
-    match (high, intensive) {
-        (false, false) => "-",
-        (true, false) => "h",
-        (false, true) => "i",
-        (true, true) => "hi",
+    match (queue.high, queue.intensive, queue.freezable) {
+        (false, false, false) => "-",
+        (true, false, false) => "h",
+        (false, true, false) => "i",
+        (true, true, false) => "hi",
+        (false, false, true) => "f",
+        (true, false, true) => "hf",
+        (false, true, true) => "if",
+        (true, true, true) => "hif",
     }
 }
 
@@ -183,7 +210,7 @@ pub fn queue_line(queue: &QueueShape) -> Line
     line.push("wq");
     line.push_numbers(&[queue.max_active.into()]);
     line.push(" ");
-    line.push(flags_text(queue.high, queue.intensive));
+    line.push(flags_text(queue));
     line.push("\n");
     line
 }

@@ -5,7 +5,7 @@ use cmwq_model::{
 use std::process::Abort;
 use std::test::Fail;
 
-const CALLS: [&str; 17] = [
+const CALLS: [&str; 21] = [
     "c63 0 queue 255 63 3 = yes 0",
     "w3h7 4294967295 delay 0 0 0 0 = booked 18446744073709551615",
     "w0n0 1 modify 10 1 0 4294967295 = rebooked 5000000000",
@@ -23,9 +23,13 @@ const CALLS: [&str; 17] = [
     "w1h2 13 sleep = slept",
     "w1h2 14 wake = woke",
     "w1h2 15 retire = retired",
+    "c0 16 set_max 63 4294967295 = width 512",
+    "c0 17 freeze = frozen",
+    "c0 18 thaw = thawed",
+    "c0 19 destroy 3 = timers",
 ];
 
-const REPLIES: [&str; 30] = [
+const REPLIES: [&str; 35] = [
     "c0 0 fire = yes 1",
     "c0 0 fire = booked 1",
     "c0 0 fire = again 1",
@@ -56,9 +60,35 @@ const REPLIES: [&str; 30] = [
     "c0 0 fire = woke",
     "c0 0 fire = retired",
     "c0 0 fire = kept",
+    "c0 0 fire = width 4294967295",
+    "c0 0 fire = frozen",
+    "c0 0 fire = thawed",
+    "c0 0 fire = gone",
+    "c0 0 fire = timers",
 ];
 
-const NO_ENTRIES: [&str; 20] = [
+/// Entries that format 1 doesn't have, each for one call or one reply.
+const NEW_ENTRIES: [&str; 9] = [
+    "c0 0 set_max 0 1 = no",
+    "c0 0 freeze = no",
+    "c0 0 thaw = no",
+    "c0 0 destroy 0 = no",
+    "c0 0 fire = width 1",
+    "c0 0 fire = frozen",
+    "c0 0 fire = thawed",
+    "c0 0 fire = gone",
+    "c0 0 fire = timers",
+];
+
+const FLAGS: [&str; 8] = [
+    "wq 1 -", "wq 1 h", "wq 1 i", "wq 1 hi", "wq 1 f", "wq 1 hf", "wq 1 if", "wq 1 hif",
+];
+
+const NO_FLAGS: [&str; 7] = [
+    "wq 1", "wq 1 ", "wq 1 fh", "wq 1 fi", "wq 1 ih", "wq 1 hh", "wq 1 -f",
+];
+
+const NO_ENTRIES: [&str; 23] = [
     "",
     "c0",
     "c0 0",
@@ -79,6 +109,9 @@ const NO_ENTRIES: [&str; 20] = [
     "c0 0 Fire = no",
     "c0 0 fire = ticket 1 idle",
     "c0 0 queue 1 2 = no",
+    "c0 0 set_max 0 0 = width 1",
+    "c0 0 set_max 0 4294967296 = width 1",
+    "w0n0 0 freeze = frozen",
 ];
 
 fn is_spelled_again(line: &str) -> bool {
@@ -140,6 +173,7 @@ fn call_lines(rt: HostRuntime) {
     );
     assert!(rt; read_call(b"c1 sleep").is_none());
     assert!(rt; read_call(b"c1 flush 0 ").is_none());
+    assert!(rt; read_call(b"c1 set_max 0 0").is_none());
 }
 
 #[test]
@@ -182,6 +216,7 @@ fn queue_lines(rt: HostRuntime) {
         max_active: 512,
         high: true,
         intensive: true,
+        freezable: false,
     };
     assert_eq!(rt; queue_line(&queue).as_bytes(), b"wq 512 hi\n".as_slice());
     assert_eq!(rt; read_queue_of_history(b"wq 512 hi"), Some(queue));
@@ -210,6 +245,7 @@ fn ids_inside_the_shape(rt: HostRuntime) -> Result<(), Fail> {
         max_active: 1,
         high: false,
         intensive: false,
+        freezable: false,
     };
     let shape = Shape::new(counts, vec![in rt.alloc(); queue]?).ok_or("a shape")?;
     assert!(rt; reply_fits(&shape, Reply::Fired(ItemId(2), 7)));
@@ -223,18 +259,42 @@ fn ids_inside_the_shape(rt: HostRuntime) -> Result<(), Fail> {
     Ok(())
 }
 
+fn queue_is_spelled_again(line: &str) -> bool {
+    match read_queue_of_history(line.as_bytes()) {
+        None => false,
+        Some(queue) => queue_line(&queue).as_bytes().strip_suffix(b"\n") == Some(line.as_bytes()),
+    }
+}
+
 #[test]
-fn each_law_is_there() {
-    calls_read_again();
-    calls_spelled_so();
-    counts_read_again();
-    counts_spelled_so();
-    entries_read_again();
-    entries_spelled_so();
-    entries_stand_apart();
-    lines_are_short();
-    queues_read_again();
-    queues_spelled_so();
+fn each_of_the_flags(rt: HostRuntime) {
+    for line in FLAGS {
+        assert!(rt; queue_is_spelled_again(line), "{line}");
+    }
+    for line in NO_FLAGS {
+        assert_eq!(rt; read_queue_of_history(line.as_bytes()), None, "{line}");
+    }
+}
+
+#[test]
+fn format_1_is_older(rt: HostRuntime) {
+    assert!(rt; is_version_line(b"history 2"));
+    assert!(rt; !is_version_line(b"history 1"));
+    assert_eq!(rt; version_line().as_bytes(), b"history 2\n".as_slice());
+    assert!(rt; read_queue_of_format(1, b"wq 1 hi").is_some());
+    assert!(rt; read_queue_of_format(1, b"wq 1 f").is_none());
+    assert!(rt; read_queue_of_format(2, b"wq 1 f").is_some());
+    assert!(rt; read_entry_of_format(1, b"c0 0 drain 0 = draining").is_some());
+    for line in NEW_ENTRIES {
+        assert!(rt;
+            read_entry_of_format(1, line.as_bytes()).is_none(),
+            "{line}"
+        );
+        assert!(rt;
+            read_entry_of_format(2, line.as_bytes()).is_some(),
+            "{line}"
+        );
+    }
 }
 
 #[test]

@@ -27,3 +27,9 @@ pub mod PoolSeats
 pub mod PoolSteps
 pub mod PoolMay
 pub mod PoolAdds
+pub mod FlightKinds
+pub mod FlightSteps
+pub mod FlightFollow
+pub mod FlightReads
+pub mod TicketRows
+pub mod TicketsFollow

@@ -24,7 +24,7 @@ abbrev is_of_caller : ℕ → Ticket → Bool
 is_of_caller c t = t.caller.0 == c
 
 -- who is given a ticket isn't crowded
-given_free : (s : Layout) (past : List Entry) (e : Entry) (t : Ticket) → IsLegal s (e ∷ past) → ticket_in e (length past) ≡ Some t → count_by (is_of_caller t.caller.0) (unended past) < 64
+pub given_free : (s : Layout) (past : List Entry) (e : Entry) (t : Ticket) → IsLegal s (e ∷ past) → ticket_in e (length past) ≡ Some t → count_by (is_of_caller t.caller.0) (unended past) < 64
 given_free s past e t legal h =
     let is = ticket_in_is e (length past) t h in
     let free = (ticket_reason s past e.who e.call e.reply (legal_fits s past e legal) (cause_of s past e legal) is.gives).2 in
@@ -52,7 +52,7 @@ few_of_caller s (e ∷ past) legal c = by (ticket_in e (length past)) refl (few_
 
 -- ---- of all
 
-callers_there : (s : Layout) (past : List Entry) → IsLegal s past → AllByRecursion (λ t. t.caller.0 < s.callers) (tickets past)
+pub callers_there : (s : Layout) (past : List Entry) → IsLegal s past → AllByRecursion (λ t. t.caller.0 < s.callers) (tickets past)
 unfolding tickets IsLegal
 callers_there s [] legal = tt
 callers_there s (e ∷ past) legal = All_append (λ t. t.caller.0 < s.callers) (tickets past) (option_to_list (ticket_in e (length past))) (callers_there s past legal.2)

@@ -4,3 +4,5 @@ pub mod FlushBooks
 pub mod BarrierBooks
 pub mod Pools
 pub mod Places
+pub mod Flights
+pub mod Tickets

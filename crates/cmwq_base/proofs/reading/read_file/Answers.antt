@@ -3,7 +3,7 @@ use Rattle.std.proofs.lemmas.Result.{err_from_is_err_and}
 use Rattle.cmwq_io.specs.declared.lines.Found.TheVariants.{Whole, Cut, Long, End}
 use Rattle.cmwq_base.specs.declared.refusal.Refusal.TheVariants.{ReadFault, WriteFault}
 use Rattle.cmwq_base.specs.Stages.{stage_of, contents_of}
-use Rattle.cmwq_base.proofs.Progress.{found_so, starts, line_grows, whole_goes, whole_fails, long_fails, cut_fails, cut_no_fault, end_gives, makes_sound, makes_no_fault}
+use Rattle.cmwq_base.proofs.Progress.{found_so, starts, line_grows, whole_goes, whole_fails, long_fails, cut_fails, cut_no_fault, end_gives, makes_sound, makes_version, makes_no_fault}
 use Rattle.cmwq_base.proofs.reading.read_file.Goals as goal
 
 pub loop-number-init : goal.loop-number-init
@@ -44,7 +44,10 @@ returns-in-End-clause-exact g c =
     (found_so _ _ _ _ End c.in-End.is c.in_ok-next_line.ensures.ok) c.finish.ensures
 
 pub returns-in-End-clause-sound : goal.returns-in-End-clause-sound
-returns-in-End-clause-sound g c = makes_sound g.T.FileLine.kind contents_of c.finish.result (stage_of c.loop-number.stage) c.loop-number.invariant.progress.within c.finish.ensures
+returns-in-End-clause-sound g c = makes_sound g.T.FileLine.kind contents_of c.finish.result c.loop-number.number (stage_of c.loop-number.stage) c.loop-number.invariant.progress.within c.finish.ensures
+
+pub returns-in-End-clause-version : goal.returns-in-End-clause-version
+returns-in-End-clause-version g c = makes_version g.T.FileLine.kind contents_of c.finish.result c.loop-number.number (stage_of c.loop-number.stage) c.loop-number.invariant.progress.within c.finish.ensures
 
 pub loop-number-preserved : goal.loop-number-preserved
 loop-number-preserved g c =

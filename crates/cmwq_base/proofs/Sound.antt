@@ -1,0 +1,179 @@
+-- What is read of a whole text is sound: its shape is inside the limits, it has no more lines than a file may have, each of them fits the
+-- shape, and has what each line of its kind has.
+use Rattle.std.proofs.Common.{◌≡◌, ◌+◌, ℕ, Bool, true, false, List, [], ◌∷◌, ◌++◌, length, Result, Ok, Err, nat_le, Option, Some, None, refl, subst}
+use Rattle.std.specs.Prelude.{if◌then◌else◌, IsTrue}
+use Rattle.std.specs.List.{All}
+use Rattle.std.proofs.lemmas.List.Elements.{All-nil, All-push}
+use Rattle.cmwq_model.specs.declared.id.Who.{Who}
+use Rattle.cmwq_model.specs.declared.call.Call.{Call}
+use Rattle.cmwq_model.specs.declared.entry.Entry.{Entry}
+use Rattle.cmwq_model.specs.declared.shape.Counts.{Counts}
+use Rattle.cmwq_model.specs.declared.shape.QueueShape.{QueueShape}
+use Rattle.cmwq_model.specs.Layout.{Layout, layout_of, is_layout}
+use Rattle.cmwq_model.specs.Ranges.{IsWho, IsCall, IsEntry}
+use Rattle.cmwq_text.specs.ShapeText.{counts_of, begins_queue}
+use Rattle.cmwq_text.proofs.ReadRanges.{call_line_inside, entry_of_format_inside}
+use Rattle.cmwq_base.specs.declared.refusal.Refusal.{Refusal}
+use Rattle.cmwq_base.specs.declared.refusal.Refusal.TheVariants as refusal
+use Rattle.cmwq_base.specs.Pieces.{pieces}
+use Rattle.cmwq_base.specs.Files.{File, IsSound, Kind, Stage, begin, opened, head, body, is_long, shape_made, and_then, begun, with_queue, queue_line, with_item, item_line, first_item, after_head, after_line, after_cut, at_end, without_items, after_last, after_pieces, file_of}
+use Rattle.cmwq_base.specs.Kinds.{calls_kind, call_file_of, history_kind, history_file_of}
+use Rattle.cmwq_base.specs.Stages.{IsWithin}
+use Rattle.cmwq_base.proofs.Progress.{line_grows, end_sound}
+
+-- ---- what must have been where a file was read
+
+module _ {X : Type 0} where
+  pub no_cut : (n : ℕ) (stage : Stage X) (f : File X) (b : Bool) → (if b then Err refusal.TooLong else Err (after_cut n stage)) ≡ Ok f → ⊥
+  no_cut n stage f true h = cc
+  no_cut n stage f false h = cc
+
+  pub short_goes : (b : Bool) (r : Result (File X) Refusal) (f : File X) → (if b then Err refusal.TooLong else r) ≡ Ok f → r ≡ Ok f
+  short_goes true r f h = cc
+  short_goes false r f h = h
+
+  pub next_goes : (g : Stage X → Result (File X) Refusal) (r : Result (Stage X) Refusal) (f : File X) → and_then g r ≡ Ok f → (next : Stage X) × (r ≡ Ok next) × (g next ≡ Ok f)
+  next_goes g (Ok next) f h = (next, refl, h)
+  next_goes g (Err e) f h = cc
+
+-- ---- a text that is read is read through stages, one for each line
+
+module _ {X : Type 0} (k : Kind X) (Holds : Stage X → Type 0)
+    (kept : (n : ℕ) (stage next : Stage X) (line : List ℕ) → Holds stage → after_line k n stage line ≡ Ok next → Holds next) where
+  -- the last stage, at whose end the file was
+  record EndsAt (f : File X) : Type 0 where
+    number : ℕ
+    stage : Stage X
+    holds : Holds stage
+    is : at_end number stage ≡ Ok f
+
+  last_ends : (n : ℕ) (stage : Stage X) (last : List ℕ) (f : File X) → Holds stage → after_last n stage last ≡ Ok f → EndsAt f
+  last_ends n stage [] f holds h = record { number = n; stage = stage; holds = holds; is = h }
+  last_ends n stage (b ∷ bs) f holds h = absurd (no_cut n stage f (is_long (b ∷ bs)) h)
+
+  pieces_end : (ps : List (List ℕ)) (n : ℕ) (stage : Stage X) (f : File X) → Holds stage → after_pieces k n stage ps ≡ Ok f → EndsAt f
+  unfolding after_pieces
+  pieces_end [] n stage f holds h = record { number = n; stage = stage; holds = holds; is = h }
+  pieces_end (last ∷ []) n stage f holds h = last_ends n stage last f holds h
+  pieces_end (line ∷ more ∷ rest) n stage f holds h =
+      let goes : Stage X → Result (File X) Refusal = λ next. after_pieces k (n + 1) next (more ∷ rest) in
+      let step = next_goes goes (after_line k n stage line) f (short_goes (is_long line) (and_then goes (after_line k n stage line)) f h) in
+      pieces_end (more ∷ rest) (n + 1) step.0 f (kept n stage step.0 line holds step.1) step.2
+
+  text_ends : (text : List ℕ) (f : File X) → Holds begin → file_of k text ≡ Ok f → EndsAt f
+  unfolding file_of
+  text_ends text f holds h = pieces_end (pieces text) 1 begin f holds h
+
+-- ---- what each stage keeps
+
+-- what is read of a text of the kind
+pub record IsReadOf {X : Type 0} (k : Kind X) (P : X → Type 0) (f : File X) : Type 0 where
+  pub shape : IsTrue (is_layout f.layout)
+  pub sound : IsSound k f
+  pub each : All P f.items
+
+module _ {X : Type 0} (k : Kind X) (P : X → Type 0) (reads : (v : ℕ) (line : List ℕ) (x : X) → k.item_of v line ≡ Some x → P x) where
+  abbrev Has : Stage X → Type 0
+  Has begin = Unit {0}
+  Has opened = Unit {0}
+  Has (head v counts queues) = Unit {0}
+  Has (body v s items) = IsTrue (is_layout s) × All P items
+
+  begun_has : (n v : ℕ) (o : Option Counts) (next : Stage X) → begun n v o ≡ Ok next → Has next
+  begun_has n v None next h = cc
+  begun_has n v (Some c) next h = let is : head v c [] ≡ next = cc in subst Has is tt
+
+  first_has : (n : ℕ) (line : List ℕ) (next : Stage X) (b : Bool) → (if b then Ok opened else begun n 1 (counts_of line)) ≡ Ok next → Has next
+  first_has n line next true h = let is : opened ≡ next = cc in subst Has is tt
+  first_has n line next false h = begun_has n 1 (counts_of line) next h
+
+  queue_has : (n v : ℕ) (c : Counts) (qs : List QueueShape) (o : Option QueueShape) (next : Stage X) → with_queue n v c qs o ≡ Ok next → Has next
+  queue_has n v c qs None next h = cc
+  queue_has n v c qs (Some q) next h = let is : head v c (qs ++ q ∷ []) ≡ next = cc in subst Has is tt
+
+  queue_line_has : (n v : ℕ) (c : Counts) (qs : List QueueShape) (line : List ℕ) (next : Stage X) (b : Bool)
+      → (if b then Err (refusal.BadShape n) else with_queue n v c qs (k.queue_of v line)) ≡ Ok next → Has next
+  queue_line_has n v c qs line next true h = cc
+  queue_line_has n v c qs line next false h = queue_has n v c qs (k.queue_of v line) next h
+
+  item_has : (n v : ℕ) (s : Layout) (xs : List X) (x : X) (next : Stage X) (b : Bool) → P x → Has (body v s xs)
+      → (if b then Ok (body v s (xs ++ x ∷ [])) else Err (refusal.NoSuchId n)) ≡ Ok next → Has next
+  item_has n v s xs x next true own has h =
+      let is : body v s (xs ++ x ∷ []) ≡ next = cc in
+      subst Has is (has.0, All-push P xs x has.1 own)
+  item_has n v s xs x next false own has h = cc
+
+  with_item_has : (n v : ℕ) (s : Layout) (xs : List X) (line : List ℕ) (o : Option X) (next : Stage X) → k.item_of v line ≡ o → Has (body v s xs)
+      → with_item k n v s xs o ≡ Ok next → Has next
+  with_item_has n v s xs line None next is has h = cc
+  with_item_has n v s xs line (Some x) next is has h = item_has n v s xs x next (k.fits_in s x) (reads v line x is) has h
+
+  item_line_if : (n v : ℕ) (s : Layout) (xs : List X) (line : List ℕ) (next : Stage X) (b : Bool) → Has (body v s xs)
+      → (if b then Err refusal.TooLong else with_item k n v s xs (k.item_of v line)) ≡ Ok next → Has next
+  item_line_if n v s xs line next true has h = cc
+  item_line_if n v s xs line next false has h = with_item_has n v s xs line (k.item_of v line) next refl has h
+
+  item_line_has : (n v : ℕ) (s : Layout) (xs : List X) (line : List ℕ) (next : Stage X) → Has (body v s xs) → item_line k n v s xs line ≡ Ok next → Has next
+  unfolding item_line
+  item_line_has n v s xs line next has h = item_line_if n v s xs line next (nat_le 1000000 (length xs)) has h
+
+  first_item_has : (n v : ℕ) (c : Counts) (qs : List QueueShape) (line : List ℕ) (next : Stage X) (b : Bool) → is_layout (layout_of c qs) ≡ b
+      → first_item k n v (if b then Some (layout_of c qs) else None) line ≡ Ok next → Has next
+  first_item_has n v c qs line next true inside h = item_line_has n v (layout_of c qs) [] line next (inside, All-nil P) h
+  first_item_has n v c qs line next false inside h = cc
+
+  head_has : (n v : ℕ) (c : Counts) (qs : List QueueShape) (line : List ℕ) (next : Stage X) (b : Bool)
+      → (if b then queue_line k n v c qs line else first_item k n v (shape_made c qs) line) ≡ Ok next → Has next
+  head_has n v c qs line next true h = queue_line_has n v c qs line next (nat_le 64 (length qs)) h
+  head_has n v c qs line next false h = first_item_has n v c qs line next (is_layout (layout_of c qs)) refl h
+
+  line_has : (n : ℕ) (stage next : Stage X) (line : List ℕ) → Has stage → after_line k n stage line ≡ Ok next → Has next
+  unfolding after_line after_head
+  line_has n begin next line has h = first_has n line next (k.says_format line) h
+  line_has n opened next line has h = begun_has n 2 (counts_of line) next h
+  line_has n (head v c qs) next line has h = head_has n v c qs line next (begins_queue line) h
+  line_has n (body v s xs) next line has h = item_line_has n v s xs line next has h
+
+  -- ---- the end
+
+  abbrev HasEach : File X → Type 0
+  HasEach f = IsTrue (is_layout f.layout) × All P f.items
+
+  shape_has : (n v : ℕ) (c : Counts) (qs : List QueueShape) (f : File X) (b : Bool) → is_layout (layout_of c qs) ≡ b
+      → without_items n v (if b then Some (layout_of c qs) else None) ≡ Ok f → HasEach f
+  shape_has n v c qs f true inside h =
+      let is : record { version = v; layout = layout_of c qs; items = [] } ≡ f = cc in
+      subst HasEach is (inside, All-nil P)
+  shape_has n v c qs f false inside h = cc
+
+  end_has : (n : ℕ) (stage : Stage X) (f : File X) → Has stage → at_end n stage ≡ Ok f → HasEach f
+  unfolding at_end
+  end_has n begin f has h = cc
+  end_has n opened f has h = cc
+  end_has n (head v c qs) f has h = shape_has n v c qs f (is_layout (layout_of c qs)) refl h
+  end_has n (body v s xs) f has h =
+      let is : record { version = v; layout = s; items = xs } ≡ f = cc in
+      subst HasEach is has
+
+  abbrev Stands : Stage X → Type 0
+  Stands stage = IsWithin k stage × Has stage
+
+  line_stands : (n : ℕ) (stage next : Stage X) (line : List ℕ) → Stands stage → after_line k n stage line ≡ Ok next → Stands next
+  line_stands n stage next line stands h = ((line_grows k n stage next line h).within stands.0, line_has n stage next line stands.1 h)
+
+  pub file_is_read : (text : List ℕ) (f : File X) → file_of k text ≡ Ok f → IsReadOf k P f
+  file_is_read text f h =
+      let end = text_ends k Stands line_stands text f (tt, tt) h in
+      let has = end_has end.number end.stage f end.holds.1 end.is in
+      record { shape = has.0; sound = (end_sound k end.number end.stage f end.holds.0 end.is).1; each = has.1 }
+
+-- ---- the two kinds
+
+abbrev pub IsCallInside : Who × Call → Type 0
+IsCallInside x = IsWho x.0 × IsCall x.1
+
+pub calls_are_read : (text : List ℕ) (f : File (Who × Call)) → call_file_of text ≡ Ok f → IsReadOf calls_kind IsCallInside f
+calls_are_read = file_is_read calls_kind IsCallInside (λ v. call_line_inside)
+
+pub history_is_read : (text : List ℕ) (f : File Entry) → history_file_of text ≡ Ok f → IsReadOf history_kind IsEntry f
+history_is_read = file_is_read history_kind IsEntry entry_of_format_inside

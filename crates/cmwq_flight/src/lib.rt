@@ -1,0 +1,6 @@
+//! The queueings in flight: of each item the one that runs, and the one that hasn't started.
+#![tactic(auto)]
+
+mod flights;
+
+pub use flights::Flights;

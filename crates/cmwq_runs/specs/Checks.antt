@@ -1,0 +1,46 @@
+-- What `step` and `upgrade` write, and `check` on that.
+use Rattle.std.specs.Prelude.{◌≡◌, ◌⊎◌, ◌≤◌, ℕ, List, [], Result, Ok, Option, None, Some, reverse}
+use Rattle.cmwq_model.specs.declared.id.Who.{Who}
+use Rattle.cmwq_model.specs.declared.call.Call.{Call}
+use Rattle.cmwq_model.specs.declared.entry.Entry.{Entry}
+use Rattle.cmwq_model.specs.declared.verdict.Illegal.{Illegal}
+use Rattle.cmwq_model.specs.Layout.{Layout}
+use Rattle.cmwq_base.specs.declared.refusal.Refusal.{Refusal}
+use Rattle.cmwq_base.specs.Files.{File}
+use Rattle.cmwq_base.specs.Kinds.{call_file_of, history_file_of}
+use Rattle.cmwq_engine.specs.Check.{IsVerdict, CheckEnds, check_status}
+use Rattle.cmwq_engine.specs.Step.{steps_in, answer_text, StepEnds}
+use Rattle.cmwq_engine.specs.Upgrade.{upgraded_text, UpgradeEnds}
+
+abbrev pub newest : Layout → List Entry → File Entry
+newest s entries = record { version = 2; layout = s; items = entries }
+
+-- the history that the calls of a file make, with their shape
+abbrev pub history_in : File (Who × Call) → File Entry
+history_in f = newest f.layout (reverse (steps_in f).past)
+
+-- the text is read as this history, and the history is legal
+abbrev pub IsLegalText : List ℕ → File Entry → Type 0
+IsLegalText text f = (history_file_of text ≡ Ok f) × IsVerdict f None
+
+-- what `step` writes is read as the history of its calls, and is legal
+abbrev pub StepIsChecked : Type 0
+StepIsChecked = (text : List ℕ) (f : File (Who × Call)) → call_file_of text ≡ Ok f → IsLegalText (answer_text f) (history_in f)
+
+-- what `upgrade` writes of a legal history is read as format 2 of it, and is legal
+abbrev pub UpgradeIsChecked : Type 0
+UpgradeIsChecked = (text : List ℕ) (f : File Entry) → history_file_of text ≡ Ok f → IsVerdict f None
+    → IsLegalText (upgraded_text f None) (newest f.layout f.items)
+
+-- each run of `check` on the text ends with status 0, or with 4 or 5: memory ran out, or the source or the output failed
+abbrev pub PassesCheck : List ℕ → Type 0
+PassesCheck text = (old new : Option (List ℕ)) (ended : Result (Option Illegal) Refusal) → CheckEnds text old new ended
+    → (check_status ended ≡ 0) ⊎ (4 ≤ check_status ended)
+
+-- so is what any run of `step` wrote that answered, also where calls were left out
+abbrev pub StepsPassCheck : Type 0
+StepsPassCheck = (text written : List ℕ) (n : ℕ) → StepEnds text (Some []) (Some written) (Ok n) → PassesCheck written
+
+-- and what any run of `upgrade` wrote that answered that the history is legal
+abbrev pub UpgradesPassCheck : Type 0
+UpgradesPassCheck = (text written : List ℕ) → UpgradeEnds text (Some []) (Some written) (Ok None) → PassesCheck written

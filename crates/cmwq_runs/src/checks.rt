@@ -1,0 +1,24 @@
+//! What `step` and `upgrade` write is a legal history.
+
+ghost use Rattle.cmwq_runs.specs.Checks.{StepIsChecked, UpgradeIsChecked, StepsPassCheck, UpgradesPassCheck};
+
+/// What `step` writes is read as a history of format 2, with the shape that was read and the entries of the steps, and it is legal.
+pub fn step_is_checked()
+    ensures { StepIsChecked }
+{}
+
+/// What `upgrade` writes of a legal history is read as one of format 2, with its shape and entries, and it is legal.
+pub fn upgrade_is_checked()
+    ensures { UpgradeIsChecked }
+{}
+
+/// So where a run of `step` answers, each run of `check` on what it wrote ends with status 0, unless memory ran out, or the source
+/// or the output failed.
+pub fn steps_pass_check()
+    ensures { StepsPassCheck }
+{}
+
+/// And so where a run of `upgrade` answers that the history is legal.
+pub fn upgrades_pass_check()
+    ensures { UpgradesPassCheck }
+{}

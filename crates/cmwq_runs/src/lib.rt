@@ -1,0 +1,6 @@
+//! What the program's words write, its other words take: theorems over runs that come one after the other, which no running code needs.
+#![tactic(auto)]
+
+mod checks;
+
+pub use checks::{step_is_checked, steps_pass_check, upgrade_is_checked, upgrades_pass_check};

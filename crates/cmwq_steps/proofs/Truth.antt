@@ -1,0 +1,27 @@
+-- Truth values.
+use Rattle.std.proofs.Common.{◌≡◌, Bool, true, false, ◌&&◌, ◌||◌, refl}
+
+pub flip : (a b : Bool) → (a && b) ≡ (b && a)
+flip true true = refl
+flip true false = refl
+flip false true = refl
+flip false false = refl
+
+pub and_false : (b : Bool) → (b && false) ≡ false
+and_false true = refl
+and_false false = refl
+
+pub and_true : (b : Bool) → (b && true) ≡ b
+and_true true = refl
+and_true false = refl
+
+pub or_true : (b : Bool) → (b || true) ≡ true
+or_true true = refl
+or_true false = refl
+
+pub or_false : (b : Bool) → (b || false) ≡ b
+or_false true = refl
+or_false false = refl
+
+pub differ : true ≡ false → ⊥
+differ h = cc

@@ -1,0 +1,279 @@
+-- What is read of a line is inside the ranges of its types: a number above its limit is refused, and an id above its type's greatest number is
+-- read as that number.
+use Rattle.std.proofs.Common.{◌≡◌, ℕ, ◌≤◌, ◌+◌, ◌&&◌, List, [], ◌∷◌, eqb, get_or, take, drop, Option, Some, None, arith, subst, cond, ◌∙◌, inl, inr, min}
+use Rattle.std.specs.Prelude.{codes, position}
+use Rattle.std.proofs.lemmas.Option.{same_Some}
+use Rattle.cmwq_model.specs.declared.id.ItemId.{ItemId}
+use Rattle.cmwq_model.specs.declared.id.QueueId.{QueueId}
+use Rattle.cmwq_model.specs.declared.id.CpuId.{CpuId}
+use Rattle.cmwq_model.specs.declared.id.Who.{Who}
+use Rattle.cmwq_model.specs.declared.call.Call.{Call}
+use Rattle.cmwq_model.specs.declared.call.Call.TheVariants as call
+use Rattle.cmwq_model.specs.declared.reply.Reply.{Reply}
+use Rattle.cmwq_model.specs.declared.reply.Reply.TheVariants as reply
+use Rattle.cmwq_model.specs.declared.entry.Entry.{Entry}
+use Rattle.cmwq_model.specs.Ranges.{greatest, greatest_long, greatest_byte, greatest_short, IsWho, IsCall, IsReply, IsEntry}
+use Rattle.cmwq_text.specs.declared.keyword.Keyword.{Keyword}
+use Rattle.cmwq_text.specs.declared.keyword.Keyword.TheVariants as word
+use Rattle.cmwq_text.specs.Numbers.{number_of, held_at_most, byte_of, short_of}
+use Rattle.cmwq_text.specs.Words.{◌>>=◌, words_of, is_end, after, byte_in, short_in, number_in, long_in, none, one, two, three, four}
+use Rattle.cmwq_text.specs.Keywords.{keyword_in}
+use Rattle.cmwq_text.specs.IdText.{item, queue, cpu, caller, worker, item_in, queue_in, cpu_in, is_pool_letter, caller_of, worker_of, who_of, who_in}
+use Rattle.cmwq_text.specs.CallText.{call_after, call_in, may_say, call_of}
+use Rattle.cmwq_text.specs.ReplyText.{ticket_with, ticket_after, started_with, started_after, reply_after, reply_in}
+use Rattle.cmwq_text.specs.EntryText.{entry_of}
+use Rattle.cmwq_text.specs.Formats.{allows_entry, entry_of_format}
+use Rattle.cmwq_text.proofs.Steps.{bind_some, chosen}
+use Rattle.cmwq_text.proofs.NumberLaws.{number_takes}
+use Rattle.cmwq_text.proofs.WordLaws.{word_takes}
+use Rattle.cmwq_text.proofs.IdLaws.{read_at, first_says}
+use Rattle.cmwq_text.proofs.EntryLaws.{entry_at_end, entry_after_equals, entry_after_call, entry_after_serial, entry_after_who}
+
+-- ---- numbers and ids
+
+held_inside : (most n : ℕ) (o : Option ℕ) → held_at_most most o ≡ Some n → n ≤ most
+held_inside most n None e = absurd cc
+held_inside most n (Some m) e = let same : min m most ≡ n = same_Some _ _ e in omega arith
+
+byte_inside : (word : List ℕ) (n : ℕ) → byte_of word ≡ Some n → n ≤ greatest_byte
+byte_inside word n e = held_inside greatest_byte n (number_of greatest word) e
+
+short_inside : (word : List ℕ) (n : ℕ) → short_of word ≡ Some n → n ≤ greatest_short
+short_inside word n e = held_inside greatest_short n (number_of greatest word) e
+
+-- a reader of one word, and the range of its values
+record Reader (A : Type 0) : Type 1 where
+  read : List (List ℕ) → Option (A × List (List ℕ))
+  IsInside : A → Type 0
+  inside : (ws : List (List ℕ)) (x : A × List (List ℕ)) → read ws ≡ Some x → IsInside x.0
+
+number_inside : (ws : List (List ℕ)) (x : ℕ × List (List ℕ)) → number_in ws ≡ Some x → x.0 ≤ greatest
+number_inside ws x e = let read = word_takes (number_of greatest) ws x e in (number_takes greatest x.0 read.0 (omega arith) read.2).1
+
+long_inside : (ws : List (List ℕ)) (x : ℕ × List (List ℕ)) → long_in ws ≡ Some x → x.0 ≤ greatest_long
+long_inside ws x e = let read = word_takes (number_of greatest_long) ws x e in (number_takes greatest_long x.0 read.0 (omega arith) read.2).1
+
+byte_in_inside : (ws : List (List ℕ)) (x : ℕ × List (List ℕ)) → byte_in ws ≡ Some x → x.0 ≤ greatest_byte
+byte_in_inside ws x e = let read = word_takes byte_of ws x e in byte_inside read.0 x.0 read.2
+
+short_in_inside : (ws : List (List ℕ)) (x : ℕ × List (List ℕ)) → short_in ws ≡ Some x → x.0 ≤ greatest_short
+short_in_inside ws x e = let read = word_takes short_of ws x e in short_inside read.0 x.0 read.2
+
+abbrev number_reader : Reader ℕ
+number_reader = record { read = number_in; IsInside = λ n. n ≤ greatest; inside = number_inside }
+
+abbrev long_reader : Reader ℕ
+long_reader = record { read = long_in; IsInside = λ n. n ≤ greatest_long; inside = long_inside }
+
+abbrev byte_reader : Reader ℕ
+byte_reader = record { read = byte_in; IsInside = λ n. n ≤ greatest_byte; inside = byte_in_inside }
+
+abbrev short_reader : Reader ℕ
+short_reader = record { read = short_in; IsInside = λ n. n ≤ greatest_short; inside = short_in_inside }
+
+-- ---- values that stand behind one another
+
+none_inside : {Y : Type 0} (y : Y) (Q : Y → Type 0) → Q y → (ws : List (List ℕ)) (x : Y × List (List ℕ)) → none y ws ≡ Some x → Q x.0
+none_inside {Y} y Q holds ws x e = subst (λ (z : Y × List (List ℕ)). Q z.0) (same_Some (y, ws) x e) holds
+
+one_inside : {A Y : Type 0} (t : Reader A) (make : A → Y) (Q : Y → Type 0) → ((a : A) → t.IsInside a → Q (make a))
+    → (ws : List (List ℕ)) (x : Y × List (List ℕ)) → one t.read make ws ≡ Some x → Q x.0
+one_inside {A} {Y} t make Q holds ws x e =
+    let a = bind_some (t.read ws) (λ (a : A × List (List ℕ)). Some (make a.0, a.1)) x e in
+    subst (λ (z : Y × List (List ℕ)). Q z.0) (same_Some (make a.0.0, a.0.1) x a.2) (holds a.0.0 (t.inside ws a.0 a.1))
+
+two_inside : {A B Y : Type 0} (t : Reader A) (u : Reader B) (make : A → B → Y) (Q : Y → Type 0)
+    → ((a : A) (b : B) → t.IsInside a × u.IsInside b → Q (make a b))
+    → (ws : List (List ℕ)) (x : Y × List (List ℕ)) → two t.read u.read make ws ≡ Some x → Q x.0
+two_inside {A} {B} {Y} t u make Q holds ws x e =
+    let a = bind_some (t.read ws) (λ (a : A × List (List ℕ)). one u.read (make a.0) a.1) x e in
+    one_inside u (make a.0.0) Q (λ b small. holds a.0.0 b (t.inside ws a.0 a.1, small)) a.0.1 x a.2
+
+three_inside : {A B C Y : Type 0} (t : Reader A) (u : Reader B) (v : Reader C) (make : A → B → C → Y) (Q : Y → Type 0)
+    → ((a : A) (b : B) (c : C) → t.IsInside a × u.IsInside b × v.IsInside c → Q (make a b c))
+    → (ws : List (List ℕ)) (x : Y × List (List ℕ)) → three t.read u.read v.read make ws ≡ Some x → Q x.0
+three_inside {A} {B} {C} {Y} t u v make Q holds ws x e =
+    let a = bind_some (t.read ws) (λ (a : A × List (List ℕ)). two u.read v.read (make a.0) a.1) x e in
+    two_inside u v (make a.0.0) Q (λ b c small. holds a.0.0 b c (t.inside ws a.0 a.1, small.0, small.1)) a.0.1 x a.2
+
+four_inside : {A B C D Y : Type 0} (t : Reader A) (u : Reader B) (v : Reader C) (w : Reader D) (make : A → B → C → D → Y) (Q : Y → Type 0)
+    → ((a : A) (b : B) (c : C) (d : D) → t.IsInside a × u.IsInside b × v.IsInside c × w.IsInside d → Q (make a b c d))
+    → (ws : List (List ℕ)) (x : Y × List (List ℕ)) → four t.read u.read v.read w.read make ws ≡ Some x → Q x.0
+four_inside {A} {B} {C} {D} {Y} t u v w make Q holds ws x e =
+    let a = bind_some (t.read ws) (λ (a : A × List (List ℕ)). three u.read v.read w.read (make a.0) a.1) x e in
+    three_inside u v w (make a.0.0) Q (λ b c d small. holds a.0.0 b c d (t.inside ws a.0 a.1, small.0, small.1, small.2)) a.0.1 x a.2
+
+-- ---- items, queues and CPUs
+
+abbrev item_reader : Reader ItemId
+item_reader = record { read = item_in; IsInside = λ i. i.0 ≤ greatest_short; inside = one_inside short_reader item (λ i. i.0 ≤ greatest_short) (λ n small. small) }
+
+abbrev queue_reader : Reader QueueId
+queue_reader = record { read = queue_in; IsInside = λ q. q.0 ≤ greatest_byte; inside = one_inside byte_reader queue (λ q. q.0 ≤ greatest_byte) (λ n small. small) }
+
+abbrev cpu_reader : Reader CpuId
+cpu_reader = record { read = cpu_in; IsInside = λ c. c.0 ≤ greatest_byte; inside = one_inside byte_reader cpu (λ c. c.0 ≤ greatest_byte) (λ n small. small) }
+
+-- ---- callers and workers
+
+caller_inside : (name : List ℕ) (who : Who) → caller_of name ≡ Some who → IsWho who
+caller_inside name who e =
+    let n = bind_some (byte_of name) (λ (n : ℕ). Some (caller n)) who e in
+    subst IsWho (same_Some _ _ n.2) (byte_inside name n.0 n.1)
+
+worker_inside : (name : List ℕ) (who : Who) → worker_of name ≡ Some who → IsWho who
+unfolding worker_of
+worker_inside name who e =
+    let l = bind_some (position is_pool_letter name) (read_at name) who e in
+    let c = bind_some (byte_of (take l.0 name)) (λ (c : ℕ). byte_of (drop (l.0 + 1) name) >>= λ (x : ℕ). Some (worker c (eqb (get_or name l.0 0) 104) x)) who l.2 in
+    let x = bind_some (byte_of (drop (l.0 + 1) name)) (λ (x : ℕ). Some (worker c.0 (eqb (get_or name l.0 0) 104) x)) who c.2 in
+    subst IsWho (same_Some _ _ x.2) (byte_inside _ c.0 c.1, byte_inside _ x.0 x.1)
+
+who_of_inside : (w : List ℕ) (who : Who) → who_of w ≡ Some who → IsWho who
+unfolding who_of
+who_of_inside [] who e = absurd cc
+who_of_inside (first ∷ name) who e =
+    elim (first_says (eqb first 99) (eqb first 119) (caller_of name) (worker_of name) who e) [
+      | inl c ↦ caller_inside name who c.1
+      | inr w ↦ worker_inside name who w.1
+    ]
+
+pub who_inside : (ws : List (List ℕ)) (x : Who × List (List ℕ)) → who_in ws ≡ Some x → IsWho x.0
+who_inside ws x e = let read = word_takes who_of ws x e in who_of_inside read.0 x.0 read.2
+
+-- ---- calls
+
+call_after_inside : (k : Keyword) (ws : List (List ℕ)) (x : Call × List (List ℕ)) → call_after k ws ≡ Some x → IsCall x.0
+unfolding call_after
+call_after_inside word.Queue ws x e = three_inside item_reader queue_reader cpu_reader call.Queue IsCall (λ i q c small. (small.0, small.1, small.2)) ws x e
+call_after_inside word.Delay ws x e = four_inside item_reader queue_reader cpu_reader number_reader call.Delay IsCall (λ i q c n small. ((small.0, small.1, small.2), small.3)) ws x e
+call_after_inside word.Modify ws x e = four_inside item_reader queue_reader cpu_reader number_reader call.Modify IsCall (λ i q c n small. ((small.0, small.1, small.2), small.3)) ws x e
+call_after_inside word.Cancel ws x e = one_inside item_reader call.Cancel IsCall (λ i small. small) ws x e
+call_after_inside word.Tick ws x e = one_inside number_reader call.Tick IsCall (λ n small. small) ws x e
+call_after_inside word.Fire ws x e = none_inside call.Fire IsCall tt ws x e
+call_after_inside word.Flush ws x e = one_inside queue_reader call.Flush IsCall (λ q small. small) ws x e
+call_after_inside word.Drain ws x e = one_inside queue_reader call.Drain IsCall (λ q small. small) ws x e
+call_after_inside word.FlushItem ws x e = one_inside item_reader call.FlushItem IsCall (λ i small. small) ws x e
+call_after_inside word.FlushDelayed ws x e = one_inside item_reader call.FlushDelayed IsCall (λ i small. small) ws x e
+call_after_inside word.CancelSync ws x e = one_inside item_reader call.CancelSync IsCall (λ i small. small) ws x e
+call_after_inside word.End ws x e = one_inside number_reader call.End IsCall (λ n small. small) ws x e
+call_after_inside word.Take ws x e = none_inside call.Take IsCall tt ws x e
+call_after_inside word.Finish ws x e = none_inside call.Finish IsCall tt ws x e
+call_after_inside word.Sleep ws x e = none_inside call.Sleep IsCall tt ws x e
+call_after_inside word.Wake ws x e = none_inside call.Wake IsCall tt ws x e
+call_after_inside word.Retire ws x e = none_inside call.Retire IsCall tt ws x e
+call_after_inside word.SetMax ws x e = two_inside queue_reader number_reader call.SetMax IsCall (λ q n small. small) ws x e
+call_after_inside word.Freeze ws x e = none_inside call.Freeze IsCall tt ws x e
+call_after_inside word.Thaw ws x e = none_inside call.Thaw IsCall tt ws x e
+call_after_inside word.Destroy ws x e = one_inside queue_reader call.Destroy IsCall (λ q small. small) ws x e
+call_after_inside k ws x e = absurd cc
+
+pub call_inside : (ws : List (List ℕ)) (x : Call × List (List ℕ)) → call_in ws ≡ Some x → IsCall x.0
+call_inside ws x e =
+    let k = bind_some (keyword_in ws) (λ (k : Keyword × List (List ℕ)). call_after k.0 k.1) x e in
+    call_after_inside k.0.0 k.0.1 x k.2
+
+-- ---- replies
+
+ticket_with_inside : (n : ℕ) (k : Keyword) (ws : List (List ℕ)) (x : Reply × List (List ℕ)) → n ≤ greatest → ticket_with n k ws ≡ Some x → IsReply x.0
+unfolding ticket_with
+ticket_with_inside n word.Queued ws x own e = none_inside (reply.TicketQueued n) IsReply own ws x e
+ticket_with_inside n word.Cancelled ws x own e = one_inside number_reader (reply.TicketCancelled n) IsReply (λ m small. (own, small)) ws x e
+ticket_with_inside n word.Unbooked ws x own e = none_inside (reply.TicketUnbooked n) IsReply own ws x e
+ticket_with_inside n word.No ws x own e = none_inside (reply.TicketNo n) IsReply own ws x e
+ticket_with_inside n k ws x own e = absurd cc
+
+ticket_after_inside : (n : ℕ) (ws : List (List ℕ)) (x : Reply × List (List ℕ)) → n ≤ greatest → ticket_after n ws ≡ Some x → IsReply x.0
+unfolding ticket_after
+ticket_after_inside n [] x own e = none_inside (reply.Ticket n) IsReply own [] x e
+ticket_after_inside n (w ∷ ws) x own e =
+    let k = bind_some (keyword_in (w ∷ ws)) (λ (k : Keyword × List (List ℕ)). ticket_with n k.0 k.1) x e in
+    ticket_with_inside n k.0.0 k.0.1 x own k.2
+
+started_with_inside : (n : ℕ) (k : Keyword) (ws : List (List ℕ)) (x : Reply × List (List ℕ)) → n ≤ greatest → started_with n k ws ≡ Some x → IsReply x.0
+unfolding started_with
+started_with_inside n word.Enlist ws x own e = one_inside byte_reader (reply.StartedEnlist n) IsReply (λ y small. (own, small)) ws x e
+started_with_inside n k ws x own e = absurd cc
+
+started_after_inside : (n : ℕ) (ws : List (List ℕ)) (x : Reply × List (List ℕ)) → n ≤ greatest → started_after n ws ≡ Some x → IsReply x.0
+unfolding started_after
+started_after_inside n [] x own e = none_inside (reply.Started n) IsReply own [] x e
+started_after_inside n (w ∷ ws) x own e =
+    let k = bind_some (keyword_in (w ∷ ws)) (λ (k : Keyword × List (List ℕ)). started_with n k.0 k.1) x e in
+    started_with_inside n k.0.0 k.0.1 x own k.2
+
+reply_after_inside : (k : Keyword) (ws : List (List ℕ)) (x : Reply × List (List ℕ)) → reply_after k ws ≡ Some x → IsReply x.0
+unfolding reply_after
+reply_after_inside word.Yes ws x e = one_inside number_reader reply.Yes IsReply (λ n small. small) ws x e
+reply_after_inside word.Booked ws x e = one_inside long_reader reply.Booked IsReply (λ t small. small) ws x e
+reply_after_inside word.Again ws x e = one_inside number_reader reply.Again IsReply (λ n small. small) ws x e
+reply_after_inside word.Rebooked ws x e = one_inside long_reader reply.Rebooked IsReply (λ t small. small) ws x e
+reply_after_inside word.No ws x e = none_inside reply.No IsReply tt ws x e
+reply_after_inside word.Foreign ws x e = none_inside reply.Foreign IsReply tt ws x e
+reply_after_inside word.Draining ws x e = none_inside reply.Draining IsReply tt ws x e
+reply_after_inside word.Misuse ws x e = none_inside reply.Misuse IsReply tt ws x e
+reply_after_inside word.Cancelled ws x e = one_inside number_reader reply.Cancelled IsReply (λ n small. small) ws x e
+reply_after_inside word.Unbooked ws x e = none_inside reply.Unbooked IsReply tt ws x e
+reply_after_inside word.Now ws x e = one_inside long_reader reply.Now IsReply (λ t small. small) ws x e
+reply_after_inside word.Fired ws x e = two_inside item_reader number_reader reply.Fired IsReply (λ i n small. small) ws x e
+reply_after_inside word.Nothing ws x e = none_inside reply.Nothing IsReply tt ws x e
+reply_after_inside word.Ticket ws x e =
+    let n = bind_some (number_in ws) (λ (n : ℕ × List (List ℕ)). ticket_after n.0 n.1) x e in
+    ticket_after_inside n.0.0 n.0.1 x (number_reader.inside ws n.0 n.1) n.2
+reply_after_inside word.Idle ws x e = none_inside reply.Idle IsReply tt ws x e
+reply_after_inside word.Crowded ws x e = none_inside reply.Crowded IsReply tt ws x e
+reply_after_inside word.Done ws x e = none_inside reply.Done IsReply tt ws x e
+reply_after_inside word.Waiting ws x e = one_inside number_reader reply.Waiting IsReply (λ n small. small) ws x e
+reply_after_inside word.Started ws x e =
+    let n = bind_some (number_in ws) (λ (n : ℕ × List (List ℕ)). started_after n.0 n.1) x e in
+    started_after_inside n.0.0 n.0.1 x (number_reader.inside ws n.0 n.1) n.2
+reply_after_inside word.Held ws x e = none_inside reply.Held IsReply tt ws x e
+reply_after_inside word.Finished ws x e = one_inside number_reader reply.Finished IsReply (λ n small. small) ws x e
+reply_after_inside word.Slept ws x e = none_inside reply.Slept IsReply tt ws x e
+reply_after_inside word.Woke ws x e = none_inside reply.Woke IsReply tt ws x e
+reply_after_inside word.Retired ws x e = none_inside reply.Retired IsReply tt ws x e
+reply_after_inside word.Kept ws x e = none_inside reply.Kept IsReply tt ws x e
+reply_after_inside word.Width ws x e = one_inside number_reader reply.Width IsReply (λ n small. small) ws x e
+reply_after_inside word.Frozen ws x e = none_inside reply.Frozen IsReply tt ws x e
+reply_after_inside word.Thawed ws x e = none_inside reply.Thawed IsReply tt ws x e
+reply_after_inside word.Gone ws x e = none_inside reply.Gone IsReply tt ws x e
+reply_after_inside word.Timers ws x e = none_inside reply.Timers IsReply tt ws x e
+reply_after_inside k ws x e = absurd cc
+
+pub reply_inside : (ws : List (List ℕ)) (x : Reply × List (List ℕ)) → reply_in ws ≡ Some x → IsReply x.0
+reply_inside ws x e =
+    let k = bind_some (keyword_in ws) (λ (k : Keyword × List (List ℕ)). reply_after k.0 k.1) x e in
+    reply_after_inside k.0.0 k.0.1 x k.2
+
+-- ---- whole lines
+
+abbrev call_at_end : Who → Call × List (List ℕ) → Option (Who × Call)
+call_at_end who c = cond (is_end c.1 && may_say who c.0) (Some (who, c.0)) None
+
+pub call_line_inside : (line : List ℕ) (x : Who × Call) → call_of line ≡ Some x → IsWho x.0 × IsCall x.1
+unfolding call_of
+call_line_inside line x e =
+    let who = bind_some (who_in (words_of line)) (λ (w : Who × List (List ℕ)). call_in w.1 >>= λ (c : Call × List (List ℕ)). call_at_end w.0 c) x e in
+    let c = bind_some (call_in who.0.1) (call_at_end who.0.0) x who.2 in
+    let found = chosen (is_end c.0.1 && may_say who.0.0 c.0.0) (Some (who.0.0, c.0.0)) x c.2 in
+    subst (λ (y : Who × Call). IsWho y.0 × IsCall y.1) (same_Some _ _ found.1) (who_inside _ who.0 who.1, call_inside _ c.0 c.1)
+
+pub entry_inside : (line : List ℕ) (e : Entry) → entry_of line ≡ Some e → IsEntry e
+unfolding entry_of
+entry_inside line e is =
+    let who = bind_some (who_in (words_of line)) entry_after_who e is in
+    let serial = bind_some (number_in who.0.1) (entry_after_serial who.0.0) e who.2 in
+    let c = bind_some (call_in serial.0.1) (entry_after_call who.0.0 serial.0.0) e serial.2 in
+    let answer = bind_some (after (codes "=") c.0.1) (entry_after_equals who.0.0 serial.0.0 c.0.0) e c.2 in
+    let r = bind_some (reply_in answer.0) (entry_at_end who.0.0 serial.0.0 c.0.0) e answer.2 in
+    let made : Entry = record { who = who.0.0; serial = serial.0.0; call = c.0.0; reply = r.0.0 } in
+    let found = chosen (is_end r.0.1 && may_say who.0.0 c.0.0) (Some made) e r.2 in
+    subst IsEntry (same_Some _ _ found.1)
+    (record { who = who_inside _ who.0 who.1; serial = number_inside _ serial.0 serial.1; call = call_inside _ c.0 c.1; reply = reply_inside _ r.0 r.1 })
+
+pub entry_of_format_inside : (v : ℕ) (line : List ℕ) (e : Entry) → entry_of_format v line ≡ Some e → IsEntry e
+unfolding entry_of_format
+entry_of_format_inside v line e is =
+    let read = bind_some (entry_of line) (λ (e : Entry). cond (allows_entry v e) (Some e) None) e is in
+    let found = chosen (allows_entry v read.0) (Some read.0) e read.2 in
+    entry_inside line e (read.1 ∙ found.1)

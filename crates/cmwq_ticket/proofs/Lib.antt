@@ -1,0 +1,4 @@
+mod Counting
+mod Looking
+mod RowSteps
+mod Upkeep

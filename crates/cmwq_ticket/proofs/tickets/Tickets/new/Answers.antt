@@ -1,0 +1,6 @@
+use Rattle.std.proofs.Common.{arith}
+use Rattle.cmwq_ticket.proofs.Upkeep.{AreKept-new}
+use Rattle.cmwq_ticket.proofs.tickets.Tickets.new.Goals as goal
+
+pub invariant_of-result : goal.invariant_of-result
+invariant_of-result c = AreKept-new c.args.callers c.in_ok-new_rows.field-0.items c.new.result (omega arith) c.in_ok-new_rows.ensures c.new.ensures

@@ -1,0 +1,13 @@
+-- What the tickets of all callers keep true of their parts: the rows, the counts beside them, and how many there are.
+use Rattle.std.specs.Prelude.{◌≡◌, ℕ, ◌<◌, List, length, All}
+use Rattle.cmwq_model.specs.declared.record.Ticket.{Ticket}
+use Rattle.cmwq_ticket.specs.declared.counts.Counts.{Counts}
+use Rattle.cmwq_ticket.specs.Counts.{AreExact, AreSized}
+use Rattle.cmwq_ticket.specs.Rows.{IsRow, count}
+
+pub record AreKept (rows : List (List Ticket)) (counts : Counts) (len : ℕ) : Type 0 where
+  pub few : length rows < 256
+  pub in_order : All IsRow rows
+  pub sized : AreSized counts
+  pub exact : AreExact counts rows
+  pub all : len ≡ count rows

@@ -1,0 +1,164 @@
+ghost use Rattle.std.specs.Prelude.{◌≡◌, ◌<◌, ◌↔◌, [], IfOk, IsSome, IsTrue, length, replicate};
+ghost use Rattle.cmwq_ticket.specs.Rows.{any_ticket, count, ended, given, is_being_destroyed, is_cancelling, is_crowded, is_draining, may_give, ticket_of};
+
+use crate::counts::{Counts, has_some, is_counted};
+use crate::row::{Row, TICKETS_OF_CALLER};
+use cmwq_model::{CallerId, ItemId, NoMemory, Number, QueueId, Ticket};
+use std::alloc::Global;
+use std::marker::Model;
+
+/// The unended tickets of all callers, a row for each, in the order of their numbers. A caller has 64 at most.
+/// Only `new` takes memory.
+#[derive(Debug, Drop)]
+pub struct Tickets {
+    rows: Vec<Row>,
+    counts: Counts,
+    len: u32,
+}
+
+impl Model for Tickets {
+    ghost use Rattle.cmwq_ticket.specs.Rows.{Rows};
+    ghost use Rattle.cmwq_ticket.specs.Upkeep.{AreKept};
+
+    ghost Value = { Rows };
+
+    ghost view = { λ t. t.rows.items };
+
+    ghost invariant = { λ t. AreKept t.rows.items t.counts t.len };
+}
+
+impl Tickets {
+    /// No ticket of so many callers. The error says that memory ran out.
+    pub fn new(alloc: Global, callers: u8) -> Result<Self, NoMemory>
+        ensures { IfOk result (λ tickets. tickets ≡ replicate callers []) }
+    {
+        Ok(Tickets {
+            rows: new_rows(alloc, callers)?,
+            counts: Counts::new(),
+            len: 0,
+        })
+    }
+
+    /// How many callers there are. Their numbers are below it.
+    pub fn callers(&self) -> u8
+        ensures { result ≡ length self.now }
+    {
+        self.rows.len() as u8
+    }
+
+    /// Whether a caller has 64 unended tickets, so that it can be given no more.
+    pub fn is_crowded(&self, caller: CallerId) -> bool
+        requires { caller.0 < length self.now }
+        ensures { result ≡ is_crowded self.now caller.0 }
+    {
+        let row = &self.rows[usize::from(caller.0)];
+        row.len() >= TICKETS_OF_CALLER
+    }
+
+    /// A caller's unended ticket with this number.
+    pub fn find(&self, caller: CallerId, number: Number) -> Option<Ticket>
+        requires { caller.0 < length self.now }
+        ensures { result ≡ ticket_of self.now caller.0 number }
+    {
+        let row = &self.rows[usize::from(caller.0)];
+        row.find(number)
+    }
+
+    /// The unended ticket with this number, of whichever caller.
+    pub fn any(&self, number: Number) -> Option<Ticket>
+        ensures { result ≡ any_ticket self.now number }
+    {
+        for row in &self.rows {
+            let ticket = row.find(number);
+            if ticket.is_some() {
+                return ticket;
+            }
+        }
+        None
+    }
+
+    /// Whether a cancel_sync of the item is unended (`cancel_work_sync` before its return).
+    pub fn is_cancelling(&self, item: ItemId) -> bool
+        ensures { result ≡ is_cancelling self.now item.0 }
+    {
+        has_some(&self.counts.cancels, usize::from(item.0))
+    }
+
+    /// Whether a destroy of the queue is unended (`__WQ_DESTROYING`).
+    pub fn is_being_destroyed(&self, queue: QueueId) -> bool
+        ensures { result ≡ is_being_destroyed self.now queue.0 }
+    {
+        has_some(&self.counts.destroys, usize::from(queue.0))
+    }
+
+    /// Whether a drain or a destroy of the queue is unended (`__WQ_DRAINING`).
+    pub fn is_draining(&self, queue: QueueId) -> bool
+        ensures { result ≡ is_draining self.now queue.0 }
+    {
+        has_some(&self.counts.drains, usize::from(queue.0))
+    }
+
+    /// How many unended tickets there are, of all callers.
+    pub fn len(&self) -> u32
+        ensures { result ≡ count self.now }
+    {
+        self.len
+    }
+
+    /// Whether no ticket is unended.
+    pub fn is_empty(&self) -> bool
+        ensures { IsTrue result ↔ (count self.now ≡ 0) }
+    {
+        self.len == 0
+    }
+
+    /// Whether a ticket may be given: its caller is one of these and isn't crowded, its number is later than those of the
+    /// caller's unended tickets, and an item that it cancels is below 256, a queue that it drains or destroys below 64.
+    pub fn may_give(&self, ticket: &Ticket) -> bool
+        ensures { result ≡ may_give self.now ticket.now }
+    {
+        let place = usize::from(ticket.caller.0);
+        if place >= self.rows.len() {
+            return false;
+        }
+        let row = &self.rows[place];
+        row.len() < TICKETS_OF_CALLER && row.are_before(ticket) && is_counted(ticket.call)
+    }
+
+    /// Gives a ticket to its caller, which begins to wait (`flush_workqueue`, `cancel_work_sync` and the like, up to their wait).
+    pub fn give(&mut self, ticket: Ticket)
+        requires { IsTrue (may_give self.old ticket) }
+        ensures { self.new ≡ given self.old ticket }
+    {
+        let row = &mut self.rows[usize::from(ticket.caller.0)];
+        row.push(ticket);
+        self.counts.raise(ticket.call);
+        self.len += 1;
+    }
+
+    /// Ends a caller's unended ticket with this number (the return of the call that waits).
+    pub fn end(&mut self, caller: CallerId, number: Number)
+        requires { IsSome (ticket_of self.old caller.0 number) }
+        ensures { self.new ≡ ended self.old caller.0 number }
+    {
+        let row = &mut self.rows[usize::from(caller.0)];
+        let ticket = row.find(number).unwrap();
+        row.remove(number);
+        self.counts.lower(ticket.call);
+        self.len -= 1;
+    }
+}
+
+/// An empty row for each caller.
+fn new_rows(alloc: Global, callers: u8) -> Result<Vec<Row>, NoMemory>
+    ensures { IfOk result (λ rows. rows.items ≡ replicate callers []) }
+{
+    let mut rows = Vec::with_capacity(alloc, usize::from(callers))?;
+    for _ in 0..callers {
+        rows.push_reserved(Row::new(alloc)?);
+    }
+    Ok(rows)
+}
+
+#[cfg(test)]
+mod tests;
