@@ -41,7 +41,7 @@ use Rattle.cmwq_model.specs.Tickets.{is_done}
 use Rattle.cmwq_steps.specs.TicketSteps.{ticket_ended, ticket_asked}
 use Rattle.cmwq_ties.proofs.FirstDue.{timers_may_be_told}
 use Rattle.cmwq_ties.proofs.Settled.{place_fits}
-use Rattle.cmwq_core.specs.Book.{is_answered, IsCallInside}
+use Rattle.cmwq_core.specs.Book.{IsCallInside}
 use Rattle.cmwq_core.specs.Tables.{IsThere}
 use Rattle.cmwq_core.proofs.Steps.{fits_there}
 use Rattle.cmwq_model.specs.declared.record.Booking.{Booking}
@@ -188,23 +188,10 @@ pub owing_sum : (owing old new t o b p e u t1 o1 b1 p1 e1 u1 : ℕ) → new + (p
     (p + 2 * e + 3 * u ≤ owing + (t + 2 * o + 3 * b)) × (owing + (t + 2 * o + 3 * b) - (p + 2 * e + 3 * u) ≡ new)
 owing_sum owing old new t o b p e u t1 o1 b1 p1 e1 u1 law was ht ho hb hp he hu = (omega arith, omega arith)
 
--- ---- an entry that is no end of a wait
-
-pub no_done : (past : List Entry) (e : Entry) → is_answered e.call ≡ true → None ≡ ticket_ended past e
-no_done past e h = by (is_done e.reply) e.call h
-  where
-    none : (b : Bool) → ◌≡◌ {A = Option Ticket} None (if b then None else None)
-    none true = refl
-    none false = refl
-
-    by : (b : Bool) (c : Call) → is_answered c ≡ true → None ≡ (if b then ticket_asked past e.who c else None)
-    by b (call.End n) k = cc
-    by b c k = none b
+-- ---- the item of an entry, and the numbers of a call that fits
 
 pub entry_inside : (s : Layout) (past : List Entry) (e : Entry) → IsLegal s (e ∷ past) → IsInside s e
 entry_inside s past e legal = (timers_may_be_told s past e legal).item
-
--- ---- the numbers of a call that fits
 
 pub call_inside : (s : Layout) (who : Who) (c : Call) → fits s who c ≡ true → IsCallInside s c
 call_inside s who c fit = by c (and_parts (may_make s who c) (has_numbers s c) fit).1

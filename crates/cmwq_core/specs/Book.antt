@@ -1,5 +1,5 @@
 -- A book's value, and what its parts are of the past.
-use Rattle.std.specs.Prelude.{◌≡◌, ℕ, ◌<◌, ◌+◌, ◌*◌, ◌^◌, ◌≤◌, true, false, Bool, List, [], ◌∷◌, ◌++◌, length, nat_le}
+use Rattle.std.specs.Prelude.{◌≡◌, ℕ, ◌<◌, ◌+◌, ◌*◌, ◌^◌, ◌≤◌, true, Bool, List, [], ◌∷◌, ◌++◌, length, nat_le}
 use Rattle.cmwq_model.specs.declared.id.Who.{Who}
 use Rattle.cmwq_model.specs.declared.call.Call.{Call}
 use Rattle.cmwq_model.specs.declared.call.Call.TheVariants as call
@@ -91,8 +91,3 @@ IsCallInside s (call.CancelSync i) = i.0 < s.items
 IsCallInside s (call.SetMax q n) = q.0 < length s.queues
 IsCallInside s (call.Destroy q) = q.0 < length s.queues
 IsCallInside s c = Unit {0}
-
--- the calls that this book answers so far
-abbrev pub is_answered : Call → Bool
-is_answered (call.End n) = false
-is_answered c = true

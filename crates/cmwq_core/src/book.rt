@@ -348,7 +348,6 @@ impl Book {
     fn answer(&self, who: Who, call: Call) -> Reply
         requires there { tables.IsThere self.now.layout who }
         requires inside { kept.IsCallInside self.now.layout call }
-        requires known { kept.is_answered call ≡ true }
         ensures { result ≡ answer self.now.layout (past_of self.now.entries) who call }
     {
         match call {
@@ -389,19 +388,18 @@ impl Book {
                 }
             }
             Call::Destroy { queue } => self.destroy_answer(who, queue),
+            Call::End { ticket } => self.end_answer(who, ticket),
             Call::Take => self.own_answer(who, Call::Take),
             Call::Finish => self.own_answer(who, Call::Finish),
             Call::Sleep => self.own_answer(who, Call::Sleep),
             Call::Wake => self.own_answer(who, Call::Wake),
             Call::Retire => self.own_answer(who, Call::Retire),
-            _ => unreachable!(),
         }
     }
 
     /// The entry of the call.
     fn next_entry(&self, who: Who, call: Call) -> Entry
         requires fit { fits self.now.layout who call ≡ true }
-        requires known { kept.is_answered call ≡ true }
         ensures entry { result ≡ kept.next_entry self.now who call }
         ensures legal { IsLegal self.now.layout (result ∷ past_of self.now.entries) }
     {
@@ -418,7 +416,6 @@ impl Book {
     /// What an entry does.
     fn effect_of(&self, entry: Entry) -> Effect
         requires legal { IsLegal self.now.layout (entry ∷ past_of self.now.entries) }
-        requires known { kept.is_answered entry.call ≡ true }
         ensures entry { result.entry ≡ entry }
         ensures is { IsEffect self.now.layout (past_of self.now.entries) result }
     {
@@ -433,7 +430,7 @@ impl Book {
             ended,
             started,
             opened,
-            done: None,
+            done: self.done_by(entry),
             begun: ticket_in(entry, number),
             settled: settled_by(entry),
             booked,
@@ -444,7 +441,6 @@ impl Book {
     /// What the entry of the call does.
     fn effect(&self, who: Who, call: Call) -> Effect
         requires fit { fits self.now.layout who call ≡ true }
-        requires known { kept.is_answered call ≡ true }
         ensures entry { result.entry ≡ kept.next_entry self.now who call }
         ensures is { IsEffect self.now.layout (past_of self.now.entries) result }
     {
@@ -461,7 +457,6 @@ impl Book {
     /// The entry that the step would append.
     pub fn would(&self, who: Who, call: Call) -> Result<Entry, Full>
         requires fit { fits self.now.layout who call ≡ true }
-        requires known { kept.is_answered call ≡ true }
         ensures entry { IfOk result (λ e. e ≡ kept.next_entry self.now who call) }
         ensures room { is_ok result ≡ kept.has_room_in self.now who call }
     {
@@ -512,7 +507,6 @@ impl Book {
     /// One event: its entry is appended where there is room for it and for what is owed then.
     pub fn step(&mut self, who: Who, call: Call) -> Result<Reply, Full>
         requires fit { fits self.old.layout who call ≡ true }
-        requires known { kept.is_answered call ≡ true }
         ensures room { is_ok result ≡ kept.has_room_in self.old who call }
         ensures answered { IfOk result (λ reply. reply ≡ answer self.old.layout (past_of self.old.entries) who call) }
         ensures appended { IfOk result (λ _. self.new ≡ kept.and_entry self.old (kept.next_entry self.old who call)) }

@@ -11,6 +11,7 @@ ghost use Rattle.cmwq_model.specs.Tickets.{gives_ticket, ticket_in};
 ghost use Rattle.cmwq_steps.specs.Endings.{ending};
 ghost use Rattle.cmwq_steps.specs.Histories.{one};
 ghost use Rattle.cmwq_steps.specs.RoomSteps.{settles_booked};
+ghost use Rattle.cmwq_steps.specs.TicketSteps.{ticket_asked, ticket_ended};
 ghost use Rattle.cmwq_core.specs.Effects.{IsInside, ended_from, ends_early, paid_alone, taken_alone, item_number, next_for, settled_by, started_from};
 ghost use Rattle.std.specs.Prelude.{option_and_then};
 ghost use Rattle.cmwq_model.specs.Active.{next};
@@ -348,6 +349,26 @@ impl Book {
         ensures { result ≡ settles_booked (past_of self.now.entries) entry }
     {
         settles(entry.reply) && self.is_item_booked(entry)
+    }
+
+    /// The ticket that an entry ends.
+    pub(crate) fn done_by(&self, entry: Entry) -> Option<Ticket>
+        ensures { result ≡ ticket_ended (past_of self.now.entries) entry }
+    {
+        match entry.reply {
+            Reply::Done => self.ticket_asked(entry.who, entry.call),
+            _ => None,
+        }
+    }
+
+    /// The ticket of which a call asks the end.
+    fn ticket_asked(&self, who: Who, call: Call) -> Option<Ticket>
+        ensures { result ≡ ticket_asked (past_of self.now.entries) who call }
+    {
+        match call {
+            Call::End { ticket } => self.ticket_of(who, ticket),
+            _ => None,
+        }
     }
 
     /// What is owed after an entry that ends, opens and books this.

@@ -2,7 +2,7 @@ use Rattle.std.proofs.Common.{ap, ◌∙◌}
 use Rattle.cmwq_model.specs.Bookings.{booking_of}
 use Rattle.cmwq_model.specs.Legal.{past_of}
 use Rattle.cmwq_model.specs.Tickets.{ticket_in}
-use Rattle.cmwq_core.proofs.Effecting.{no_done, entry_inside, legal_there}
+use Rattle.cmwq_core.proofs.Effecting.{entry_inside, legal_there}
 use Rattle.cmwq_core.proofs.book.Book.effect_of.Goals as goal
 
 pub ended_by-ended-requires-clause-there : goal.ended_by-ended-requires-clause-there
@@ -31,7 +31,7 @@ returns-clause-is c =
       ended = c.ended_by-ended.ensures;
       started = c.started_by-started.ensures;
       opened = c.opened_by-opened.ensures;
-      done = no_done (past_of b.entries) c.args.entry c.requires.known;
+      done = c.done_by.ensures;
       begun = c.ticket_in.ensures ∙ ap (ticket_in c.args.entry) c.number-number.ensures;
       settled = c.settled_by.ensures;
       booked = c.booked_by-booked.ensures ∙ ap (booking_of c.args.entry) c.number-number.ensures;
