@@ -21,7 +21,7 @@ use Rattle.cmwq_model.specs.Active.{next}
 use Rattle.cmwq_model.specs.Legal.{IsLegal}
 use Rattle.cmwq_steps.specs.Endings.{ending}
 use Rattle.cmwq_steps.specs.ItemQueueings.{queueing_run, ended_by}
-use Rattle.cmwq_steps.proofs.EndsAsTold.{ends_as_told, runs_are_queueings}
+use Rattle.cmwq_steps.proofs.EndsAsTold.{ends_as_told, runs_are_queueings, unstarted_found}
 use Rattle.cmwq_steps.proofs.Unstarted.{next_unstarted}
 use Rattle.cmwq_pool.specs.declared.task.Task.{Task}
 use Rattle.cmwq_pool.specs.Lineup.{next_task}
@@ -56,8 +56,10 @@ use Rattle.cmwq_steps.proofs.Owing.{owed_goes_on}
 use Rattle.cmwq_steps.proofs.RunSteps.{last_started}
 use Rattle.cmwq_steps.proofs.RunsActive.{found_number}
 use Rattle.cmwq_core.specs.Effects.{ended_from, IsInside, started_from, next_for, ends_early, paid_alone, taken_alone}
-use Rattle.cmwq_core.specs.Flights.{starting, run_open}
-use Rattle.cmwq_core.proofs.FlightSteps.{is_start, run_last_start}
+use Rattle.cmwq_ties.specs.Flights.{starting}
+use Rattle.cmwq_steps.proofs.Starts.{starts_next}
+use Rattle.cmwq_steps.proofs.ItemRuns.{run_is}
+use Rattle.cmwq_core.specs.Flights.{run_open}
 
 from_reply : (past : List Entry) (who : Who) (i : Option ℕ) (r : Reply) → ended_by past who i r ≡ ended_from r (queueing_run past who) (option_and_then (unstarted past) i)
 from_reply past who i (reply.Finished n) = refl
@@ -103,8 +105,10 @@ starts_from s past e legal before = by e.reply refl
   where
     at : (n : ℕ) → number_started e.reply ≡ Some n → next_for s past e.who ≡ starting past e
     at n h =
-        let k = is_start s past e legal before n h in
-        ap (next_for s past) k.by_worker ∙ (k.is_next ∙ sym k.is_starting)
+        let k = starts_next s past e n legal h in
+        let x = k.queueing in
+        let found : queueing_at past x.number ≡ Some x = unstarted_found past x.item.0 x (next_unstarted s past before k.worker.pool x k.is_next) in
+        ap (next_for s past) k.by_worker ∙ (k.is_next ∙ sym (ap (option_and_then (queueing_at past)) (h ∙ ap Some (sym k.number)) ∙ found))
 
     by : (r : Reply) → e.reply ≡ r → started_from r (next_for s past e.who) ≡ starting past e
     by (reply.Started n) is = at n (ap number_started is)
@@ -144,7 +148,7 @@ not_early s past (Worker w) x legal h = by (run past w) refl h
     by None is k = let bad : None ≡ Some x = sym (ap (option_and_then (queueing_at past)) is) ∙ k in cc
     by (Some n) is k =
         let at : queueing_at past n ≡ Some x = sym (ap (option_and_then (queueing_at past)) is) ∙ k in
-        ap (λ m. not (is_started past m)) (found_number past n x at) ∙ ap not (last_started past w n (run_last_start past w n is))
+        ap (λ m. not (is_started past m)) (found_number past n x at) ∙ ap not (last_started past w n (run_is past w n is).last)
 
 early : (past : List Entry) (i : Option ℕ) (x : Queueing) → option_and_then (unstarted past) i ≡ Some x → has_not_started past x ≡ true
 early past None x h = cc

@@ -22,9 +22,8 @@ use Rattle.cmwq_timer.specs.Rows.{Rows}
 use Rattle.cmwq_model.specs.Runs.{item_start}
 use Rattle.cmwq_model.specs.Tickets.{tickets, is_gone}
 use Rattle.cmwq_parts.specs.Held.{Held, new_held}
-use Rattle.cmwq_parts.specs.Flights.{no_flight, new_flights}
-use Rattle.cmwq_parts.specs.declared.flights.Flight.{Flight}
-use Rattle.cmwq_core.specs.Flights.{AreFlights}
+use Rattle.cmwq_flight.specs.Flights.{Flight, no_flight}
+use Rattle.cmwq_ties.proofs.FlightFollow.{no_flights_at_first}
 use Rattle.cmwq_core.specs.Holdings.{AreHeld}
 use Rattle.cmwq_parts.specs.Line.{Lined, new_lined, place_of}
 use Rattle.cmwq_parts.proofs.Passes.{place_inside}
@@ -42,7 +41,7 @@ first_parts s = record {
   timers = replicate s.items None;
   time = 0;
   serials = replicate 128 0;
-  flights = new_flights s.items;
+  flights = replicate s.items no_flight;
   held = new_held s.callers s.items (length s.queues);
   line = new_lined (length s.queues) (2 * s.items);
   most = first_most s.queues;
@@ -57,10 +56,6 @@ nothing_owed s = let within = steps_within_room s 0 [] in omega arith
 first_time : 0 ≡ now []
 unfolding now
 first_time = refl
-
-flights_at_first : (s : Layout) → AreFlights s [] (new_flights s.items)
-unfolding queueings item_start
-flights_at_first s = record { many = length-replicate s.items no_flight; each = λ i here. get_or-replicate s.items i no_flight no_flight here }
 
 zeros : (n i : ℕ) → i < n → slice_index (replicate n 0) i ≡ 0
 zeros n i here = get_or-replicate n i 0 0 here
@@ -105,7 +100,7 @@ parts_at_first s small = record {
     many = length-replicate 128 (let n : ℕ = 0 in n);
     each = λ who there. get_or-replicate 128 (who_place who) 0 0 (who_below s who there small.cpus small.workers small.callers);
   };
-  flights = flights_at_first s;
+  flights = sym (no_flights_at_first s);
   held = held_at_first s;
   line = line_at_first s;
   widths = widths_at_first s;
@@ -127,6 +122,6 @@ book_at_first s room capacity inside few reserved = record {
 -- so the parts that are made are those of a book
 pub book_made : (s : Layout) (room capacity : ℕ) (pools : List Lineup) (books : List FlushBook) (barriers : BarrierBook) (timers : Rows) (serials : List ℕ) (flights : List Flight) (held : Held) (line : Lined) (most : List ℕ) → is_layout s ≡ true → room ≤ 1010000 → room ≤ capacity →
     pools ≡ replicate (2 * s.cpus) (new_lineup s.items s.workers) → books ≡ replicate (length s.queues) (new_book s.callers) → barriers ≡ new_barriers s.items s.callers → timers ≡ replicate s.items None → serials ≡ replicate 128 0 →
-    flights ≡ new_flights s.items → held ≡ new_held s.callers s.items (length s.queues) → line ≡ new_lined (length s.queues) (2 * s.items) → most ≡ first_most s.queues →
+    flights ≡ replicate s.items no_flight → held ≡ new_held s.callers s.items (length s.queues) → line ≡ new_lined (length s.queues) (2 * s.items) → most ≡ first_most s.queues →
     IsBook s room [] capacity (record { pools = pools; books = books; barriers = barriers; timers = timers; time = 0; serials = serials; flights = flights; held = held; line = line; most = most; frozen = false; owing = 0 })
 book_made s room capacity pools books barriers timers serials flights held line most inside few reserved p b r t n g h l m = rw (p, b, r, t, n, g, h, l, m) (book_at_first s room capacity inside few reserved)

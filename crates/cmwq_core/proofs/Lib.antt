@@ -3,7 +3,6 @@ pub mod Steps
 pub mod First
 pub mod Listing
 pub mod LineSteps
-pub mod FlightSteps
 pub mod HoldingSteps
 pub mod WidthSteps
 pub mod Readings

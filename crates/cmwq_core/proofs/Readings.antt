@@ -50,6 +50,9 @@ use Rattle.cmwq_ties.specs.Pools.{task_for, run_task}
 use Rattle.cmwq_ties.proofs.ItemNumbers.{run_then_unstarted}
 use Rattle.cmwq_ties.proofs.Members.{In, contained_in, found, filter_in}
 use Rattle.cmwq_ties.proofs.PlacesFit.{open_there}
+use Rattle.cmwq_flight.specs.Flights.{Flight, flight_at}
+use Rattle.cmwq_ties.specs.Flights.{flight_of, flights_of}
+use Rattle.cmwq_ties.proofs.FlightFollow.{flights_for_items, row_of as flight_row}
 use Rattle.cmwq_core.specs.Flights.{run_open}
 
 some_mapped : {X Y : Type 0} (f : X → Y) (o : Option X) → is_some (option_map f o) ≡ is_some o
@@ -58,6 +61,13 @@ some_mapped f (Some x) = refl
 
 pub booked_row : (past : List Entry) (i : ℕ) → is_some (row_of past i) ≡ is_booked past i
 booked_row past i = some_mapped timer_for (booking past i)
+
+-- what is in flight of an item
+pub flight_there : (s : Layout) (past : List Entry) (rows : List Flight) (i : ℕ) → rows ≡ flights_of s past → i < s.items → i < length rows
+flight_there s past rows i are here = rw (are, flights_for_items s past) here
+
+pub flight_read : (s : Layout) (past : List Entry) (rows : List Flight) (i : ℕ) → rows ≡ flights_of s past → i < s.items → flight_at rows i ≡ flight_of past i
+flight_read s past rows i are here = ap (λ (all : List Flight). flight_at all i) are ∙ flight_row s past i here
 
 -- the queue of an item's run
 pub elsewhere : (s : Layout) (past : List Entry) (i q : ℕ) → IsLegal s past → option_map_or (λ (x : Queueing). not (x.place.queue.0 == q)) (run_open past i) false ≡ runs_elsewhere past i q

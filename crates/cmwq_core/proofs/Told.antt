@@ -58,11 +58,11 @@ use Rattle.cmwq_ties.proofs.Settled.{numbers_fit}
 use Rattle.cmwq_ties.proofs.TicketSteps.{ticket_in_is}
 use Rattle.cmwq_ties.proofs.PlacesFit.{unended_fit}
 use Rattle.cmwq_parts.specs.Held.{Held}
-use Rattle.cmwq_parts.specs.declared.flights.Flight.{Flight}
-use Rattle.cmwq_core.specs.Flights.{AreFlights, TellFlights, IsRow, starting}
+use Rattle.cmwq_flight.specs.Flights.{Flight}
+use Rattle.cmwq_ties.specs.Flights as flights
 use Rattle.cmwq_core.specs.Holdings as holdings
 use Rattle.cmwq_core.specs.Holdings.{AreHeld, TellEnd, TellBegin}
-use Rattle.cmwq_core.proofs.FlightSteps.{flights_follow, starts_open}
+use Rattle.cmwq_ties.proofs.FlightFollow.{flights_follow, flights_may_be_told}
 use Rattle.cmwq_core.proofs.HoldingSteps.{held_follow, may_end_ticket, may_begin_ticket}
 use Rattle.cmwq_core.specs.Lines as lines
 use Rattle.cmwq_core.specs.Lines.{IsLineOf}
@@ -164,9 +164,14 @@ told_timers s past f is = ap₂ (λ o b. timers.told_settled o b (timers.timers_
 
 -- ---- flights
 
-pub told_flights : (s : Layout) (past : List Entry) (f : Effect) (old new : List Flight) → IsEffect s past f → IsLegal s past → AreFlights s past old → TellFlights f.ended f.started f.opened old new → AreFlights s (f.entry ∷ past) new
-told_flights s past f old new is before are told = flights_follow s past f.entry old new is.legal before are
-    (subst (λ o. TellFlights (ending past f.entry) (starting past f.entry) o old new) is.opened (subst (λ o. TellFlights (ending past f.entry) o f.opened old new) is.started (subst (λ o. TellFlights o f.started f.opened old new) is.ended told)))
+abbrev pub flights_told : Effect → List Flight → List Flight
+flights_told f rows = flights.told_opened f.opened (flights.told_started f.started (flights.told_ended f.entry.reply f.ended rows))
+
+same_told : (s : Layout) (past : List Entry) (f : Effect) (rows : List Flight) → IsEffect s past f → flights_told f rows ≡ flights.told past f.entry rows
+same_told s past f rows is = rw (is.ended, is.started, is.opened) refl
+
+pub told_flights : (s : Layout) (past : List Entry) (f : Effect) → IsEffect s past f → flights_told f (flights.flights_of s past) ≡ flights.flights_of s (f.entry ∷ past)
+told_flights s past f is = same_told s past f (flights.flights_of s past) is ∙ sym (flights_follow s past f.entry is.legal)
 
 -- ---- all of them
 
@@ -189,7 +194,7 @@ pub record Told (s : Layout) (past : List Entry) (f : Effect) (old new : Parts) 
   pub time : new.time ≡ old.time + ticks_told f.entry.call
   pub serials : new.serials ≡ slice_set old.serials (who_place f.entry.who) (serial_of past f.entry.who + 1)
   pub held_mid : Held
-  pub flights : TellFlights f.ended f.started f.opened old.flights new.flights
+  pub flights : new.flights ≡ flights_told f old.flights
   pub held_ended : TellEnd f.done old.held held_mid
   pub held_begun : TellBegin f.begun held_mid new.held
   pub line : ArePassed s past f.entry (lines.told_opened f.opened (lines.told_ended f.ended old.line)) new.line line_wide
@@ -215,7 +220,7 @@ told_parts s past f old new is small there before are told =
       timers = told.timer ∙ (ap (λ rows. timers.told_settled (item_number f.settled) f.booked rows) are.timers ∙ told_timers s past f is);
       time = told.time ∙ (ap (λ n. n + ticks_told f.entry.call) are.time ∙ sym (time_goes_on past f.entry));
       serials = subst (AreSerials s (f.entry ∷ past)) (sym told.serials) (serials_told s f.entry past old.serials small there are.serials);
-      flights = told_flights s past f old.flights new.flights is before are.flights told.flights;
+      flights = told.flights ∙ (ap (flights_told f) are.flights ∙ told_flights s past f is);
       held = held_follow s past f.entry is.legal before there small.callers old.held told.held_mid new.held are.held (subst (λ o. TellEnd o old.held told.held_mid) is.done told.held_ended) (subst (λ o. TellBegin o told.held_mid new.held) is.begun told.held_begun);
       line = line.0;
       widths = subst (AreWidths s (f.entry ∷ past) new.most) (sym told.frozen) (told_widths s past f.entry old.most new.most old.frozen are.widths told.widths);
@@ -397,18 +402,15 @@ may_pass s past f l mid queues is small before line same those = rw (those, same
 
 -- ---- flights and tickets
 
-row_there : (s : Layout) (past : List Entry) (rows : List Flight) (o : Option Queueing) → AreFlights s past rows → ((x : Queueing) → o ≡ Some x → x.item.0 < s.items) → IsRow o rows
-row_there s past rows None are h = tt
-row_there s past rows (Some x) are h = rw are.many (h x refl)
+pub may_end_flights : (s : Layout) (past : List Entry) (f : Effect) → IsEffect s past f → flights.MayEnd f.entry.reply f.ended (flights.flights_of s past)
+may_end_flights s past f is = rw is.ended (flights_may_be_told s past f.entry is.legal).ended
 
-pub may_end_row : (s : Layout) (past : List Entry) (f : Effect) (rows : List Flight) → IsEffect s past f → IsLegal s past → AreFlights s past rows → IsRow f.ended rows
-may_end_row s past f rows is before are = row_there s past rows f.ended are (λ x h. (open_there s past f x is before h).item)
+pub may_start_flights : (s : Layout) (past : List Entry) (f : Effect) → IsEffect s past f → flights.MayStart f.started (flights.told_ended f.entry.reply f.ended (flights.flights_of s past))
+may_start_flights s past f is = rw (is.ended, is.started) (flights_may_be_told s past f.entry is.legal).started
 
-pub may_start_row : (s : Layout) (past : List Entry) (f : Effect) (rows : List Flight) → IsEffect s past f → IsLegal s past → AreFlights s past rows → IsRow f.started rows
-may_start_row s past f rows is before are = row_there s past rows f.started are (λ x h. (open_in_there s past x before (starts_open s past f.entry is.legal before x (sym is.started ∙ h))).item)
-
-pub may_open_row : (s : Layout) (past : List Entry) (f : Effect) (rows : List Flight) → IsEffect s past f → AreFlights s past rows → IsRow f.opened rows
-may_open_row s past f rows is are = row_there s past rows f.opened are (λ x h. (opened_are_there s past f.entry x is.legal (sym is.opened ∙ h)).item)
+pub may_open_flights : (s : Layout) (past : List Entry) (f : Effect) → IsEffect s past f
+    → flights.MayOpen f.opened (flights.told_started f.started (flights.told_ended f.entry.reply f.ended (flights.flights_of s past)))
+may_open_flights s past f is = rw (is.ended, is.started, is.opened) (flights_may_be_told s past f.entry is.legal).opened
 
 pub may_end_held : (s : Layout) (past : List Entry) (f : Effect) (h : Held) → IsEffect s past f → IsSmall s → IsThere s f.entry.who → IsLegal s past → AreHeld s past h → holdings.MayEnd f.done h
 may_end_held s past f h is small there before are = subst (λ o. holdings.MayEnd o h) (sym is.done) (may_end_ticket s past f.entry is.legal before there small.callers h are)

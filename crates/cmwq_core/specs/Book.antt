@@ -16,8 +16,8 @@ use Rattle.cmwq_ties.specs.BarrierBooks.{barriers_of}
 use Rattle.cmwq_ties.specs.Timers.{timers_of}
 use Rattle.cmwq_parts.specs.Line.{Lined}
 use Rattle.cmwq_parts.specs.Held.{Held}
-use Rattle.cmwq_parts.specs.declared.flights.Flight.{Flight}
-use Rattle.cmwq_core.specs.Flights.{AreFlights}
+use Rattle.cmwq_flight.specs.Flights.{Flight}
+use Rattle.cmwq_ties.specs.Flights.{flights_of}
 use Rattle.cmwq_core.specs.Holdings.{AreHeld}
 use Rattle.cmwq_core.specs.Lines.{IsLineOf}
 use Rattle.cmwq_core.specs.Widths.{AreWidths}
@@ -52,7 +52,7 @@ pub record AreParts (s : Layout) (past : List Entry) (parts : Parts) : Type 0 wh
   pub timers : parts.timers ≡ timers_of s past
   pub time : parts.time ≡ now past
   pub serials : AreSerials s past parts.serials
-  pub flights : AreFlights s past parts.flights
+  pub flights : parts.flights ≡ flights_of s past
   pub held : AreHeld s past parts.held
   pub line : IsLineOf s past parts.line
   pub widths : AreWidths s past parts.most parts.frozen

@@ -21,7 +21,7 @@ use Rattle.cmwq_model.specs.Room.{owed}
 use Rattle.cmwq_steps.specs.Endings.{ending}
 use Rattle.cmwq_steps.specs.TicketSteps.{ticket_ended}
 use Rattle.cmwq_ties.specs.Told.{ticket_given}
-use Rattle.cmwq_core.specs.Flights.{starting}
+use Rattle.cmwq_ties.specs.Flights.{starting}
 use Rattle.cmwq_core.specs.declared.effect.Effect.{Effect}
 
 abbrev pub item_number : Option ItemId → Option ℕ

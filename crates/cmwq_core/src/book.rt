@@ -27,11 +27,12 @@ use crate::tables::{
     tell_begun, tell_cancelled, tell_done, tell_ended, tell_flights, tell_line, tell_opened,
     tell_ticket_begin, tell_ticket_end, tell_timers, tell_width, tell_worker, who_place,
 };
+use cmwq_flight::Flights;
 use cmwq_flush::{Barriers, Flushes};
 use cmwq_model::{
     Call, Counts, Entry, NoMemory, Number, PoolId, QueueShape, Reply, Shape, Who, WorkerId,
 };
-use cmwq_parts::{Flights, Line, Tickets};
+use cmwq_parts::{Line, Tickets};
 use cmwq_pool::{Pool, Seat};
 use cmwq_timer::Timers;
 use std::alloc::Global;
@@ -491,6 +492,7 @@ impl Book {
         tell_barrier_begun(&mut self.barriers, effect.begun);
         tell_flights(
             &mut self.flights,
+            entry.reply,
             effect.ended,
             effect.started,
             effect.opened,

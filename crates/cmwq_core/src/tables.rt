@@ -1,26 +1,27 @@
 //! Where each pool, flush book and serial of a book stands, and what they are told of an entry.
 
-ghost use Rattle.std.specs.Prelude.{◌≡◌, ◌<◌, length};
+ghost use Rattle.std.specs.Prelude.{◌≡◌, ◌<◌, length, is_some, Some};
 ghost use Rattle.cmwq_model.specs.declared.id.PoolId.{PoolId};
 ghost use Rattle.cmwq_ties.specs.Pools.{MayAllBeAdded, MayBeTold, told_reply};
 ghost use Rattle.cmwq_model.specs.Layout.{Layout, pool_at};
-ghost use Rattle.cmwq_model.specs.Fate.{finishes};
+ghost use Rattle.cmwq_model.specs.Fate.{finishes, number_finished};
 ghost use Rattle.cmwq_ties.specs.BarrierBooks as barriers;
 ghost use Rattle.cmwq_model.specs.declared.entry.Entry.{Entry};
 ghost use Rattle.cmwq_ties.specs.Timers as timed;
 ghost use Rattle.cmwq_core.specs.Effects as effects;
 ghost use Rattle.cmwq_core.specs.Tables as tables;
-ghost use Rattle.cmwq_core.specs.Flights as rows;
+ghost use Rattle.cmwq_ties.specs.Flights as rows;
 ghost use Rattle.cmwq_core.specs.Holdings as holdings;
 ghost use Rattle.cmwq_core.specs.Lines as lines;
 ghost use Rattle.cmwq_core.specs.Widths as widths;
 ghost use Rattle.cmwq_model.specs.Widths.{frozen_after};
 
+use cmwq_flight::Flights;
 use cmwq_flush::{Barriers, Flushes};
 use cmwq_model::{
     Booking, Call, ItemId, Number, Place, PoolId, QueueShape, Queueing, Reply, Ticket, Who,
 };
-use cmwq_parts::{Flights, Line, Tickets};
+use cmwq_parts::{Line, Tickets};
 use cmwq_pool::Pool;
 use cmwq_timer::Timers;
 
@@ -288,23 +289,42 @@ pub(crate) fn tell_line(line: &mut Line, ended: Option<Queueing>, opened: Option
     }
 }
 
+fn is_finish(reply: Reply) -> bool
+    ensures { result ≡ is_some (number_finished reply) }
+{
+    matches!(reply, Reply::Finished(_))
+}
+
+/// Tells the flights of a queueing that ended: the run of its item where it finished, or else the unstarted one.
+fn tell_flight_end(flights: &mut Flights, reply: Reply, queueing: Queueing)
+    requires { rows.MayEndOf reply queueing flights.old }
+    ensures { flights.new ≡ rows.told_ended reply (Some queueing) flights.old }
+{
+    if is_finish(reply) {
+        flights.finish(queueing.item);
+    } else {
+        flights.take_back(queueing.item);
+    }
+}
+
 /// Tells the flights of a queueing that ended, of one that started, and of one that was opened.
 pub(crate) fn tell_flights(
     flights: &mut Flights,
+    reply: Reply,
     ended: Option<Queueing>,
     started: Option<Queueing>,
     opened: Option<Queueing>,
 )
-    requires ended { rows.IsRow ended flights.old }
-    requires started { rows.IsRow started flights.old }
-    requires opened { rows.IsRow opened flights.old }
-    ensures { rows.TellFlights ended started opened flights.old flights.new }
+    requires ended { rows.MayEnd reply ended flights.old }
+    requires started { rows.MayStart started (rows.told_ended reply ended flights.old) }
+    requires opened { rows.MayOpen opened (rows.told_started started (rows.told_ended reply ended flights.old)) }
+    ensures { flights.new ≡ rows.told_opened opened (rows.told_started started (rows.told_ended reply ended flights.old)) }
 {
     if let Some(queueing) = ended {
-        flights.end(queueing);
+        tell_flight_end(flights, reply, queueing);
     }
     if let Some(queueing) = started {
-        flights.start(queueing);
+        flights.start(queueing.item);
     }
     if let Some(queueing) = opened {
         flights.open(queueing);

@@ -95,14 +95,6 @@ impl Book {
         }
     }
 
-    /// The queueing of an item that hasn't started.
-    fn unstarted(&self, item: ItemId) -> Option<Queueing>
-        requires { item.0 < self.now.layout.items }
-        ensures { result ≡ unstarted (past_of self.now.entries) item.0 }
-    {
-        self.flight(item).unstarted
-    }
-
     #[tactic(auto, unfolding(cmwq_model::specs::Answer::cancel_answer))]
     pub(crate) fn cancel_answer(&self, who: Who, item: ItemId) -> Reply
         requires who { tables.IsThere self.now.layout who }

@@ -16,7 +16,7 @@ ghost use Rattle.cmwq_core.specs.Effects.{IsInside, ended_from, ends_early, paid
 ghost use Rattle.std.specs.Prelude.{option_and_then};
 ghost use Rattle.cmwq_model.specs.Active.{next};
 ghost use Rattle.cmwq_steps.specs.ItemQueueings.{queueing_run};
-ghost use Rattle.cmwq_core.specs.Flights.{starting};
+ghost use Rattle.cmwq_ties.specs.Flights.{starting};
 ghost use Rattle.cmwq_core.specs.Tables as tables;
 
 use crate::book::Book;
@@ -236,7 +236,7 @@ impl Book {
         ensures { result ≡ option_and_then (unstarted (past_of self.now.entries)) (item_of entry) }
     {
         match item_of(entry) {
-            Some(item) => self.flight(item).unstarted,
+            Some(item) => self.unstarted(item),
             None => None,
         }
     }
@@ -261,7 +261,7 @@ impl Book {
         ensures { result ≡ next self.now.layout (past_of self.now.entries) pool }
     {
         match self.pool(pool).next_task() {
-            Some(task) => self.flight(task.item).unstarted,
+            Some(task) => self.unstarted(task.item),
             None => None,
         }
     }
@@ -301,7 +301,7 @@ impl Book {
         requires { item.0 < self.now.layout.items }
         ensures { result ≡ queued_at (past_of self.now.entries) item.0 place }
     {
-        let cpu = match self.flight(item).run {
+        let cpu = match self.item_run(item) {
             Some(run) => run.place.cpu,
             None => place.cpu,
         };

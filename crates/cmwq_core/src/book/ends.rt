@@ -61,7 +61,7 @@ impl Book {
         requires { item.0 < self.now.layout.items }
         ensures { result ≡ waits_for (past_of self.now.entries) 0 (call.CancelSync item) }
     {
-        match self.flight(item).run {
+        match self.item_run(item) {
             Some(queueing) => Some(queueing.number),
             None => None,
         }

@@ -12,12 +12,11 @@ ghost use Rattle.cmwq_model.specs.Answer.{is_booked_on, is_shut, may_call, runs_
 ghost use Rattle.std.specs.List.{list_any};
 ghost use Rattle.cmwq_steps.specs.ItemQueueings.{queueing_run};
 ghost use Rattle.cmwq_ties.specs.Timers.{row_of};
-ghost use Rattle.cmwq_core.specs.Flights.{flight_of};
+ghost use Rattle.cmwq_core.specs.Flights.{run_open};
 ghost use Rattle.cmwq_core.specs.Tables as tables;
 
 use crate::book::Book;
 use cmwq_model::{ItemId, Number, QueueId, Queueing, Ticket, Who, WorkerId};
-use cmwq_parts::Flight;
 use cmwq_timer::Timer;
 
 impl Book {
@@ -34,13 +33,21 @@ impl Book {
         self.frozen
     }
 
-    /// What is open of an item.
-    pub(crate) fn flight(&self, item: ItemId) -> Flight
+    /// What an item runs.
+    pub(crate) fn item_run(&self, item: ItemId) -> Option<Queueing>
         requires { item.0 < self.now.layout.items }
-        ensures is { result ≡ flight_of (past_of self.now.entries) item.0 }
+        ensures is { result ≡ run_open (past_of self.now.entries) item.0 }
         ensures legal { IsLegal self.now.layout (past_of self.now.entries) }
     {
-        self.flights.flight(item)
+        self.flights.run(item)
+    }
+
+    /// The queueing of an item that hasn't started.
+    pub(crate) fn unstarted(&self, item: ItemId) -> Option<Queueing>
+        requires { item.0 < self.now.layout.items }
+        ensures { result ≡ queueings.unstarted (past_of self.now.entries) item.0 }
+    {
+        self.flights.unstarted(item)
     }
 
     /// The timer of an item's booking.
@@ -63,7 +70,7 @@ impl Book {
         requires { item.0 < self.now.layout.items }
         ensures { result ≡ queueings.is_pending (past_of self.now.entries) item.0 }
     {
-        self.is_booked(item) || self.flight(item).unstarted.is_some()
+        self.is_booked(item) || self.unstarted(item).is_some()
     }
 
     /// Whether the item runs on another queue.
@@ -71,7 +78,7 @@ impl Book {
         requires { item.0 < self.now.layout.items }
         ensures { result ≡ queueings.runs_elsewhere (past_of self.now.entries) item.0 queue.0 }
     {
-        match self.flight(item).run {
+        match self.item_run(item) {
             Some(queueing) => queueing.place.queue.0 != queue.0,
             None => false,
         }
@@ -81,8 +88,7 @@ impl Book {
         requires { item.0 < self.now.layout.items }
         ensures { result ≡ queueings.is_item_open (past_of self.now.entries) item.0 }
     {
-        let flight = self.flight(item);
-        flight.run.is_some() || flight.unstarted.is_some()
+        self.item_run(item).is_some() || self.unstarted(item).is_some()
     }
 
     /// What a worker runs.
@@ -91,7 +97,7 @@ impl Book {
         ensures { result ≡ queueing_run (past_of self.now.entries) (Worker worker) }
     {
         match self.seat(worker).run {
-            Some(task) => self.flight(task.item).run,
+            Some(task) => self.item_run(task.item),
             None => None,
         }
     }

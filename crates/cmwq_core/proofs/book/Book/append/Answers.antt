@@ -11,7 +11,7 @@ use Rattle.cmwq_ties.specs.BarrierBooks as barriers
 use Rattle.cmwq_core.specs.Tables.{ListAll}
 use Rattle.cmwq_core.proofs.Follow.{who_below}
 use Rattle.cmwq_core.proofs.Steps.{small, may_tell, serial_most}
-use Rattle.cmwq_core.proofs.Told.{may_cancel, may_end_books, may_open_books, may_end_barriers, may_open_barriers, may_set_timers, may_be_done, may_begin, may_be_done_barriers, may_begin_barriers, may_end_line, line_ready, may_tell_width, PassMade, pass_made, promoted_newly, may_pass, may_be_listed, may_list_all, may_end_row, may_start_row, may_open_row, may_end_held, may_begin_held}
+use Rattle.cmwq_core.proofs.Told.{may_cancel, may_end_books, may_open_books, may_end_barriers, may_open_barriers, may_set_timers, may_be_done, may_begin, may_be_done_barriers, may_begin_barriers, may_end_line, line_ready, may_tell_width, PassMade, pass_made, promoted_newly, may_pass, may_be_listed, may_list_all, may_end_flights, may_start_flights, may_open_flights, may_end_held, may_begin_held}
 use Rattle.cmwq_core.proofs.Appended.{effect_there, effect_serial, told_book}
 use Rattle.cmwq_core.proofs.book.Book.append.Goals as goal
 
@@ -141,17 +141,17 @@ tell_barrier_begun-requires c =
 pub tell_flights-requires-clause-ended : goal.tell_flights-requires-clause-ended
 tell_flights-requires-clause-ended c =
     let r = rw (← c.self.view_is) at c.requires in let b = c.self.inside in
-    may_end_row (layout_of b.counts b.queues.items) (past_of b.entries.items) c.args.effect b.flights r.is c.self.invariant.legal c.self.invariant.parts_are.flights
+    rw c.self.invariant.parts_are.flights (may_end_flights (layout_of b.counts b.queues.items) (past_of b.entries.items) c.args.effect r.is)
 
 pub tell_flights-requires-clause-started : goal.tell_flights-requires-clause-started
 tell_flights-requires-clause-started c =
     let r = rw (← c.self.view_is) at c.requires in let b = c.self.inside in
-    may_start_row (layout_of b.counts b.queues.items) (past_of b.entries.items) c.args.effect b.flights r.is c.self.invariant.legal c.self.invariant.parts_are.flights
+    rw c.self.invariant.parts_are.flights (may_start_flights (layout_of b.counts b.queues.items) (past_of b.entries.items) c.args.effect r.is)
 
 pub tell_flights-requires-clause-opened : goal.tell_flights-requires-clause-opened
 tell_flights-requires-clause-opened c =
     let r = rw (← c.self.view_is) at c.requires in let b = c.self.inside in
-    may_open_row (layout_of b.counts b.queues.items) (past_of b.entries.items) c.args.effect b.flights r.is c.self.invariant.parts_are.flights
+    rw c.self.invariant.parts_are.flights (may_open_flights (layout_of b.counts b.queues.items) (past_of b.entries.items) c.args.effect r.is)
 
 pub tell_ticket_end-requires : goal.tell_ticket_end-requires
 tell_ticket_end-requires c =
