@@ -1,5 +1,5 @@
 -- The parts of a new book are those of no entries.
-use Rattle.std.proofs.Common.{◌≡◌, ℕ, ◌*◌, ◌<◌, ◌≤◌, true, false, List, [], length, replicate, refl, sym, ◌∙◌, arith, None, subst}
+use Rattle.std.proofs.Common.{◌≡◌, ℕ, Bool, ◌*◌, ◌<◌, ◌≤◌, true, false, List, [], length, replicate, refl, sym, ◌∙◌, arith, None, subst}
 use Rattle.std.specs.Prelude.{slice_index}
 use Rattle.std.proofs.lemmas.List.{get_or-replicate, length-replicate}
 use Rattle.cmwq_model.specs.Layout.{Layout, is_layout}
@@ -21,10 +21,11 @@ use Rattle.cmwq_steps.specs.Places.{active_count}
 use Rattle.cmwq_timer.specs.Rows.{Rows}
 use Rattle.cmwq_model.specs.Runs.{item_start}
 use Rattle.cmwq_model.specs.Tickets.{tickets, is_gone}
-use Rattle.cmwq_parts.specs.Held.{Held, new_held}
+use Rattle.cmwq_model.specs.declared.record.Ticket.{Ticket}
+use Rattle.cmwq_ties.proofs.TicketsFollow.{no_tickets_at_first}
 use Rattle.cmwq_flight.specs.Flights.{Flight, no_flight}
 use Rattle.cmwq_ties.proofs.FlightFollow.{no_flights_at_first}
-use Rattle.cmwq_core.specs.Holdings.{AreHeld}
+use Rattle.cmwq_core.specs.Gone.{AreGone}
 use Rattle.cmwq_parts.specs.Line.{Lined, new_lined, place_of}
 use Rattle.cmwq_parts.proofs.Passes.{place_inside}
 use Rattle.cmwq_core.specs.Lines.{IsLineOf}
@@ -42,7 +43,8 @@ first_parts s = record {
   time = 0;
   serials = replicate 128 0;
   flights = replicate s.items no_flight;
-  held = new_held s.callers s.items (length s.queues);
+  tickets = replicate s.callers [];
+  gone = replicate (length s.queues) false;
   line = new_lined (length s.queues) (2 * s.items);
   most = first_most s.queues;
   frozen = false;
@@ -57,21 +59,11 @@ first_time : 0 ≡ now []
 unfolding now
 first_time = refl
 
-zeros : (n i : ℕ) → i < n → slice_index (replicate n 0) i ≡ 0
-zeros n i here = get_or-replicate n i 0 0 here
-
-held_at_first : (s : Layout) → AreHeld s [] (new_held s.callers s.items (length s.queues))
-unfolding tickets is_gone
-held_at_first s = record {
-  tickets = refl;
-  many_callers = length-replicate s.callers (let n : ℕ = 0 in n);
-  callers = λ c here. zeros s.callers c here;
-  many_cancelling = length-replicate s.items (let n : ℕ = 0 in n);
-  cancelling = λ i here. zeros s.items i here;
-  many_destroying = length-replicate (length s.queues) (let n : ℕ = 0 in n);
-  destroying = λ q here. zeros (length s.queues) q here;
-  many_gone = length-replicate (length s.queues) false;
-  gone = λ q here. get_or-replicate (length s.queues) q false false here;
+gone_at_first : (s : Layout) → AreGone s [] (replicate (length s.queues) false)
+unfolding is_gone
+gone_at_first s = record {
+  many = length-replicate (length s.queues) false;
+  each = λ q here. get_or-replicate (length s.queues) q false false here;
 }
 
 line_at_first : (s : Layout) → IsLineOf s [] (new_lined (length s.queues) (2 * s.items))
@@ -101,7 +93,8 @@ parts_at_first s small = record {
     each = λ who there. get_or-replicate 128 (who_place who) 0 0 (who_below s who there small.cpus small.workers small.callers);
   };
   flights = sym (no_flights_at_first s);
-  held = held_at_first s;
+  tickets = sym (no_tickets_at_first s);
+  gone = gone_at_first s;
   line = line_at_first s;
   widths = widths_at_first s;
   owing = sym (nothing_owed s);
@@ -120,8 +113,8 @@ book_at_first s room capacity inside few reserved = record {
 }
 
 -- so the parts that are made are those of a book
-pub book_made : (s : Layout) (room capacity : ℕ) (pools : List Lineup) (books : List FlushBook) (barriers : BarrierBook) (timers : Rows) (serials : List ℕ) (flights : List Flight) (held : Held) (line : Lined) (most : List ℕ) → is_layout s ≡ true → room ≤ 1010000 → room ≤ capacity →
+pub book_made : (s : Layout) (room capacity : ℕ) (pools : List Lineup) (books : List FlushBook) (barriers : BarrierBook) (timers : Rows) (serials : List ℕ) (flights : List Flight) (tickets : List (List Ticket)) (gone : List Bool) (line : Lined) (most : List ℕ) → is_layout s ≡ true → room ≤ 1010000 → room ≤ capacity →
     pools ≡ replicate (2 * s.cpus) (new_lineup s.items s.workers) → books ≡ replicate (length s.queues) (new_book s.callers) → barriers ≡ new_barriers s.items s.callers → timers ≡ replicate s.items None → serials ≡ replicate 128 0 →
-    flights ≡ replicate s.items no_flight → held ≡ new_held s.callers s.items (length s.queues) → line ≡ new_lined (length s.queues) (2 * s.items) → most ≡ first_most s.queues →
-    IsBook s room [] capacity (record { pools = pools; books = books; barriers = barriers; timers = timers; time = 0; serials = serials; flights = flights; held = held; line = line; most = most; frozen = false; owing = 0 })
-book_made s room capacity pools books barriers timers serials flights held line most inside few reserved p b r t n g h l m = rw (p, b, r, t, n, g, h, l, m) (book_at_first s room capacity inside few reserved)
+    flights ≡ replicate s.items no_flight → tickets ≡ replicate s.callers [] → gone ≡ replicate (length s.queues) false → line ≡ new_lined (length s.queues) (2 * s.items) → most ≡ first_most s.queues →
+    IsBook s room [] capacity (record { pools = pools; books = books; barriers = barriers; timers = timers; time = 0; serials = serials; flights = flights; tickets = tickets; gone = gone; line = line; most = most; frozen = false; owing = 0 })
+book_made s room capacity pools books barriers timers serials flights tickets gone line most inside few reserved p b r t n g h k l m = rw (p, b, r, t, n, g, h, k, l, m) (book_at_first s room capacity inside few reserved)

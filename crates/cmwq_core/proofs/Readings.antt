@@ -83,9 +83,6 @@ elsewhere_none s past i q legal none = ap (λ o. option_map_or (λ (x : Queueing
 
 -- ---- tickets
 
-pub any_counted : (p : Ticket → Bool) (ts : List Ticket) (n : ℕ) → n ≡ count_by p ts → nat_lt 0 n ≡ list_any p ts
-any_counted p ts n h = ap (nat_lt 0) h ∙ sym (list_any-count_by p ts)
-
 never : {X : Type 0} (p : X → Bool) (xs : List X) → ((x : X) → p x ≡ false) → AllByRecursion (λ x. p x ≡ false) xs
 never p [] h = tt
 never p (x ∷ xs) h = (h x, never p xs h)

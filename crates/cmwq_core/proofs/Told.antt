@@ -57,13 +57,13 @@ use Rattle.cmwq_ties.proofs.FlushEnds.{ended_ready}
 use Rattle.cmwq_ties.proofs.Settled.{numbers_fit}
 use Rattle.cmwq_ties.proofs.TicketSteps.{ticket_in_is}
 use Rattle.cmwq_ties.proofs.PlacesFit.{unended_fit}
-use Rattle.cmwq_parts.specs.Held.{Held}
 use Rattle.cmwq_flight.specs.Flights.{Flight}
 use Rattle.cmwq_ties.specs.Flights as flights
-use Rattle.cmwq_core.specs.Holdings as holdings
-use Rattle.cmwq_core.specs.Holdings.{AreHeld, TellEnd, TellBegin}
+use Rattle.cmwq_ties.specs.Tickets as tickets
+use Rattle.cmwq_ties.proofs.TicketsFollow.{tickets_follow, tickets_may_be_told}
+use Rattle.cmwq_core.specs.Gone.{AreGone, MayTellGone, TellGone}
 use Rattle.cmwq_ties.proofs.FlightFollow.{flights_follow, flights_may_be_told}
-use Rattle.cmwq_core.proofs.HoldingSteps.{held_follow, may_end_ticket, may_begin_ticket}
+use Rattle.cmwq_core.proofs.GoneSteps.{gone_follow, may_tell_gone}
 use Rattle.cmwq_core.specs.Lines as lines
 use Rattle.cmwq_core.specs.Lines.{IsLineOf}
 use Rattle.cmwq_core.specs.Widths.{AreWidths, TellWidth, MayTellWidth}
@@ -173,6 +173,14 @@ same_told s past f rows is = rw (is.ended, is.started, is.opened) refl
 pub told_flights : (s : Layout) (past : List Entry) (f : Effect) → IsEffect s past f → flights_told f (flights.flights_of s past) ≡ flights.flights_of s (f.entry ∷ past)
 told_flights s past f is = same_told s past f (flights.flights_of s past) is ∙ sym (flights_follow s past f.entry is.legal)
 
+-- ---- tickets
+
+abbrev pub tickets_told : Effect → List (List Ticket) → List (List Ticket)
+tickets_told f rows = tickets.told_given f.begun (tickets.told_ended f.done rows)
+
+pub told_tickets : (s : Layout) (past : List Entry) (f : Effect) → IsEffect s past f → tickets_told f (tickets.tickets_of s past) ≡ tickets.tickets_of s (f.entry ∷ past)
+told_tickets s past f is = rw (is.done, is.begun) (tickets_follow s past f.entry is.legal)
+
 -- ---- all of them
 
 pub record Told (s : Layout) (past : List Entry) (f : Effect) (old new : Parts) : Type 0 where
@@ -193,10 +201,9 @@ pub record Told (s : Layout) (past : List Entry) (f : Effect) (old new : Parts) 
   pub timer : new.timers ≡ timers.told_settled (item_number f.settled) f.booked old.timers
   pub time : new.time ≡ old.time + ticks_told f.entry.call
   pub serials : new.serials ≡ slice_set old.serials (who_place f.entry.who) (serial_of past f.entry.who + 1)
-  pub held_mid : Held
   pub flights : new.flights ≡ flights_told f old.flights
-  pub held_ended : TellEnd f.done old.held held_mid
-  pub held_begun : TellBegin f.begun held_mid new.held
+  pub tickets : new.tickets ≡ tickets_told f old.tickets
+  pub gone : TellGone f.done old.gone new.gone
   pub line : ArePassed s past f.entry (lines.told_opened f.opened (lines.told_ended f.ended old.line)) new.line line_wide
   pub widths : TellWidth f.entry.call f.entry.reply old.most new.most
   pub frozen : new.frozen ≡ frozen_after f.entry.reply old.frozen
@@ -221,7 +228,8 @@ told_parts s past f old new is small there before are told =
       time = told.time ∙ (ap (λ n. n + ticks_told f.entry.call) are.time ∙ sym (time_goes_on past f.entry));
       serials = subst (AreSerials s (f.entry ∷ past)) (sym told.serials) (serials_told s f.entry past old.serials small there are.serials);
       flights = told.flights ∙ (ap (flights_told f) are.flights ∙ told_flights s past f is);
-      held = held_follow s past f.entry is.legal before there small.callers old.held told.held_mid new.held are.held (subst (λ o. TellEnd o old.held told.held_mid) is.done told.held_ended) (subst (λ o. TellBegin o told.held_mid new.held) is.begun told.held_begun);
+      tickets = told.tickets ∙ (ap (tickets_told f) are.tickets ∙ told_tickets s past f is);
+      gone = gone_follow s past f.entry old.gone new.gone are.gone (subst (λ o. TellGone o old.gone new.gone) is.done told.gone);
       line = line.0;
       widths = subst (AreWidths s (f.entry ∷ past) new.most) (sym told.frozen) (told_widths s past f.entry old.most new.most old.frozen are.widths told.widths);
       owing = told.owing ∙ is.owing;
@@ -412,8 +420,11 @@ pub may_open_flights : (s : Layout) (past : List Entry) (f : Effect) → IsEffec
     → flights.MayOpen f.opened (flights.told_started f.started (flights.told_ended f.entry.reply f.ended (flights.flights_of s past)))
 may_open_flights s past f is = rw (is.ended, is.started, is.opened) (flights_may_be_told s past f.entry is.legal).opened
 
-pub may_end_held : (s : Layout) (past : List Entry) (f : Effect) (h : Held) → IsEffect s past f → IsSmall s → IsThere s f.entry.who → IsLegal s past → AreHeld s past h → holdings.MayEnd f.done h
-may_end_held s past f h is small there before are = subst (λ o. holdings.MayEnd o h) (sym is.done) (may_end_ticket s past f.entry is.legal before there small.callers h are)
+pub may_end_tickets : (s : Layout) (past : List Entry) (f : Effect) → IsTrue (is_layout s) → IsEffect s past f → tickets.MayEnd f.done (tickets.tickets_of s past)
+may_end_tickets s past f inside is = rw is.done (tickets_may_be_told s past f.entry inside is.legal).ended
 
-pub may_begin_held : (s : Layout) (past : List Entry) (f : Effect) (h mid : Held) → IsEffect s past f → IsSmall s → IsThere s f.entry.who → IsLegal s past → AreHeld s past h → TellEnd f.done h mid → holdings.MayBegin f.begun mid
-may_begin_held s past f h mid is small there before are told = subst (λ o. holdings.MayBegin o mid) (sym is.begun) (may_begin_ticket s past f.entry is.legal before there small.callers h mid are (subst (λ o. TellEnd o h mid) is.done told))
+pub may_give_tickets : (s : Layout) (past : List Entry) (f : Effect) → IsTrue (is_layout s) → IsEffect s past f → tickets.MayGive f.begun (tickets.told_ended f.done (tickets.tickets_of s past))
+may_give_tickets s past f inside is = rw (is.done, is.begun) (tickets_may_be_told s past f.entry inside is.legal).given
+
+pub may_lose_queue : (s : Layout) (past : List Entry) (f : Effect) (gone : List Bool) → IsEffect s past f → IsLegal s past → AreGone s past gone → MayTellGone f.done gone
+may_lose_queue s past f gone is before are = subst (λ o. MayTellGone o gone) (sym is.done) (may_tell_gone s past f.entry gone is.legal before are)

@@ -12,13 +12,14 @@ use Rattle.cmwq_pool.specs.Lineup.{Lineup}
 use Rattle.cmwq_flush.specs.FlushBook.{FlushBook}
 use Rattle.cmwq_flush.specs.BarrierBook.{BarrierBook}
 use Rattle.cmwq_timer.specs.Rows.{Rows}
+use Rattle.cmwq_model.specs.declared.record.Ticket.{Ticket}
 use Rattle.cmwq_ties.specs.BarrierBooks.{barriers_of}
 use Rattle.cmwq_ties.specs.Timers.{timers_of}
 use Rattle.cmwq_parts.specs.Line.{Lined}
-use Rattle.cmwq_parts.specs.Held.{Held}
 use Rattle.cmwq_flight.specs.Flights.{Flight}
 use Rattle.cmwq_ties.specs.Flights.{flights_of}
-use Rattle.cmwq_core.specs.Holdings.{AreHeld}
+use Rattle.cmwq_ties.specs.Tickets.{tickets_of}
+use Rattle.cmwq_core.specs.Gone.{AreGone}
 use Rattle.cmwq_core.specs.Lines.{IsLineOf}
 use Rattle.cmwq_core.specs.Widths.{AreWidths}
 use Rattle.cmwq_core.specs.Tables.{ArePools, AreBooks, AreSerials}
@@ -38,7 +39,8 @@ pub record Parts : Type 0 where
   pub time : ℕ
   pub serials : List ℕ
   pub flights : List Flight
-  pub held : Held
+  pub tickets : List (List Ticket)
+  pub gone : List Bool
   pub line : Lined
   pub most : List ℕ
   pub frozen : Bool
@@ -53,7 +55,8 @@ pub record AreParts (s : Layout) (past : List Entry) (parts : Parts) : Type 0 wh
   pub time : parts.time ≡ now past
   pub serials : AreSerials s past parts.serials
   pub flights : parts.flights ≡ flights_of s past
-  pub held : AreHeld s past parts.held
+  pub tickets : parts.tickets ≡ tickets_of s past
+  pub gone : AreGone s past parts.gone
   pub line : IsLineOf s past parts.line
   pub widths : AreWidths s past parts.most parts.frozen
   pub owing : parts.owing ≡ owed s past

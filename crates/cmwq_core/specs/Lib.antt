@@ -1,6 +1,6 @@
 pub mod Tables
 pub mod Flights
-pub mod Holdings
+pub mod Gone
 pub mod Lines
 pub mod Widths
 pub mod Book

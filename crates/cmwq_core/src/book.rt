@@ -21,19 +21,20 @@ mod reads;
 
 use self::effects::{booked_by, settled_by, ticket_in};
 use crate::effect::Effect;
-use crate::new::{new_books, new_most, new_pools, new_serials};
+use crate::new::{new_books, new_gone, new_most, new_pools, new_serials};
 use crate::tables::{
     frozen_after, list_active, pool_place, tell_barrier_begun, tell_barrier_done, tell_barriers,
-    tell_begun, tell_cancelled, tell_done, tell_ended, tell_flights, tell_line, tell_opened,
-    tell_ticket_begin, tell_ticket_end, tell_timers, tell_width, tell_worker, who_place,
+    tell_begun, tell_cancelled, tell_done, tell_ended, tell_flights, tell_gone, tell_line,
+    tell_opened, tell_tickets, tell_timers, tell_width, tell_worker, who_place,
 };
 use cmwq_flight::Flights;
 use cmwq_flush::{Barriers, Flushes};
 use cmwq_model::{
     Call, Counts, Entry, NoMemory, Number, PoolId, QueueShape, Reply, Shape, Who, WorkerId,
 };
-use cmwq_parts::{Line, Tickets};
+use cmwq_parts::Line;
 use cmwq_pool::{Pool, Seat};
+use cmwq_ticket::Tickets;
 use cmwq_timer::Timers;
 use std::alloc::Global;
 use std::marker::Model;
@@ -57,6 +58,7 @@ pub struct Book {
     serials: Vec<u32>,
     flights: Flights,
     tickets: Tickets,
+    gone: Vec<bool>,
     line: Line,
     most: Vec<u32>,
     frozen: bool,
@@ -73,7 +75,7 @@ impl Model for Book {
     ghost view = { λ b. record { layout = layout_of b.counts b.queues.items; room = b.room; entries = b.entries.items } };
 
     ghost invariant = { λ b. IsBook (layout_of b.counts b.queues.items) b.room b.entries.items (vec_capacity b.entries)
-        (record { pools = b.pools.items; books = b.books.items; barriers = b.barriers; timers = b.timers; time = b.time; serials = b.serials.items; flights = b.flights; held = b.tickets; line = b.line; most = b.most.items; frozen = b.frozen; owing = b.owing }) };
+        (record { pools = b.pools.items; books = b.books.items; barriers = b.barriers; timers = b.timers; time = b.time; serials = b.serials.items; flights = b.flights; tickets = b.tickets; gone = b.gone.items; line = b.line; most = b.most.items; frozen = b.frozen; owing = b.owing }) };
 }
 
 fn ticks_of(call: Call) -> u32
@@ -113,7 +115,8 @@ impl Book {
         let timers = Timers::new(alloc, counts.items)?;
         let serials = new_serials(alloc)?;
         let flights = Flights::new(alloc, counts.items)?;
-        let tickets = Tickets::new(alloc, counts.callers, counts.items, many)?;
+        let tickets = Tickets::new(alloc, counts.callers)?;
+        let gone = new_gone(alloc, many)?;
         let line = Line::new(alloc, many, 2 * counts.items)?;
         let most = new_most(alloc, &queues)?;
         Ok(Book {
@@ -129,6 +132,7 @@ impl Book {
             serials,
             flights,
             tickets,
+            gone,
             line,
             most,
             frozen: false,
@@ -497,8 +501,8 @@ impl Book {
             effect.started,
             effect.opened,
         );
-        tell_ticket_end(&mut self.tickets, effect.done);
-        tell_ticket_begin(&mut self.tickets, effect.begun);
+        tell_tickets(&mut self.tickets, effect.done, effect.begun);
+        tell_gone(&mut self.gone, effect.done);
         tell_timers(&mut self.timers, effect.settled, effect.booked);
         self.time += u64::from(ticks_of(entry.call));
         self.serials[who_place(entry.who)] = entry.serial + 1;

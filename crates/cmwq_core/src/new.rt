@@ -1,6 +1,6 @@
 //! The parts of a new book.
 
-ghost use Rattle.std.specs.Prelude.{◌≡◌, ◌*◌, ◌<◌, ◌≤◌, IfOk, IsTrue, map, replicate, vec_capacity};
+ghost use Rattle.std.specs.Prelude.{◌≡◌, ◌*◌, ◌<◌, ◌≤◌, false, IfOk, IsTrue, map, replicate, vec_capacity};
 ghost use Rattle.cmwq_model.specs.Layout.{is_between};
 ghost use Rattle.cmwq_pool.specs.Lineup.{new_lineup};
 ghost use Rattle.cmwq_flush.specs.FlushBook.{new_book};
@@ -56,4 +56,11 @@ pub(crate) fn new_most(alloc: Global, queues: &[QueueShape]) -> Result<Vec<u32>,
             .map(|queue| u32::from(queue.max_active))
             .collect(alloc)?,
     )
+}
+
+/// No queue is gone at first.
+pub(crate) fn new_gone(alloc: Global, queues: usize) -> Result<Vec<bool>, NoMemory>
+    ensures { IfOk result (λ gone. gone.items ≡ replicate queues false) }
+{
+    Ok(vec![in alloc; false; queues]?)
 }

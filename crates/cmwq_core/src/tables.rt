@@ -11,7 +11,8 @@ ghost use Rattle.cmwq_ties.specs.Timers as timed;
 ghost use Rattle.cmwq_core.specs.Effects as effects;
 ghost use Rattle.cmwq_core.specs.Tables as tables;
 ghost use Rattle.cmwq_ties.specs.Flights as rows;
-ghost use Rattle.cmwq_core.specs.Holdings as holdings;
+ghost use Rattle.cmwq_ties.specs.Tickets as held;
+ghost use Rattle.cmwq_core.specs.Gone as lost;
 ghost use Rattle.cmwq_core.specs.Lines as lines;
 ghost use Rattle.cmwq_core.specs.Widths as widths;
 ghost use Rattle.cmwq_model.specs.Widths.{frozen_after};
@@ -21,8 +22,9 @@ use cmwq_flush::{Barriers, Flushes};
 use cmwq_model::{
     Booking, Call, ItemId, Number, Place, PoolId, QueueShape, Queueing, Reply, Ticket, Who,
 };
-use cmwq_parts::{Line, Tickets};
+use cmwq_parts::Line;
 use cmwq_pool::Pool;
+use cmwq_ticket::Tickets;
 use cmwq_timer::Timers;
 
 pub(crate) fn pool_place(pool: PoolId) -> usize
@@ -331,22 +333,28 @@ pub(crate) fn tell_flights(
     }
 }
 
-/// Tells the tickets of a wait that ended.
-pub(crate) fn tell_ticket_end(tickets: &mut Tickets, done: Option<Ticket>)
-    requires { holdings.MayEnd done tickets.old }
-    ensures { holdings.TellEnd done tickets.old tickets.new }
+/// Tells the tickets of a wait that ended, and of one that began.
+pub(crate) fn tell_tickets(tickets: &mut Tickets, done: Option<Ticket>, begun: Option<Ticket>)
+    requires ended { held.MayEnd done tickets.old }
+    requires given { held.MayGive begun (held.told_ended done tickets.old) }
+    ensures { tickets.new ≡ held.told_given begun (held.told_ended done tickets.old) }
 {
     if let Some(ticket) = done {
-        tickets.end(ticket);
+        tickets.end(ticket.caller, ticket.number);
+    }
+    if let Some(ticket) = begun {
+        tickets.give(ticket);
     }
 }
 
-/// Tells the tickets of a wait that began.
-pub(crate) fn tell_ticket_begin(tickets: &mut Tickets, begun: Option<Ticket>)
-    requires { holdings.MayBegin begun tickets.old }
-    ensures { holdings.TellBegin begun tickets.old tickets.new }
+/// Tells which queues are gone of a wait that ended: a queue is gone once its destroy ends.
+pub(crate) fn tell_gone(gone: &mut Vec<bool>, done: Option<Ticket>)
+    requires { lost.MayTellGone done gone.old.items }
+    ensures { lost.TellGone done gone.old.items gone.new.items }
 {
-    if let Some(ticket) = begun {
-        tickets.begin(ticket);
+    if let Some(ticket) = done {
+        if let Call::Destroy { queue } = ticket.call {
+            gone[usize::from(queue.0)] = true;
+        }
     }
 }

@@ -3,8 +3,6 @@
 
 mod line;
 mod pass;
-mod tickets;
 mod waiting;
 
 pub use line::Line;
-pub use tickets::Tickets;

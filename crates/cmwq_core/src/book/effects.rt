@@ -353,6 +353,7 @@ impl Book {
 
     /// The ticket that an entry ends.
     pub(crate) fn done_by(&self, entry: Entry) -> Option<Ticket>
+        requires { tables.IsThere self.now.layout entry.who }
         ensures { result ≡ ticket_ended (past_of self.now.entries) entry }
     {
         match entry.reply {
@@ -363,6 +364,7 @@ impl Book {
 
     /// The ticket of which a call asks the end.
     fn ticket_asked(&self, who: Who, call: Call) -> Option<Ticket>
+        requires { tables.IsThere self.now.layout who }
         ensures { result ≡ ticket_asked (past_of self.now.entries) who call }
     {
         match call {

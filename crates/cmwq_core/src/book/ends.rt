@@ -8,6 +8,7 @@ ghost use Rattle.cmwq_model.specs.Legal.{IsLegal, past_of};
 ghost use Rattle.cmwq_model.specs.Tickets.{is_flush_of, ticket_of, unended};
 ghost use Rattle.cmwq_model.specs.Waits.{waits_for};
 ghost use Rattle.cmwq_ties.specs.FlushBooks.{AreFlushes};
+ghost use Rattle.cmwq_core.specs.Tables as tables;
 
 use crate::book::Book;
 use cmwq_flush::Flushes;
@@ -24,6 +25,7 @@ fn waiting_for(number: Option<Number>) -> Reply
 
 impl Book {
     pub(crate) fn end_answer(&self, who: Who, ticket: Number) -> Reply
+        requires { tables.IsThere self.now.layout who }
         ensures { result ≡ end_of_ticket (past_of self.now.entries) (ticket_of (past_of self.now.entries) who ticket) }
     {
         let _ = &self.entries;

@@ -106,7 +106,7 @@ impl Book {
         requires { queue.0 < length self.now.layout.queues }
         ensures { result ≡ waits.is_gone (past_of self.now.entries) queue.0 }
     {
-        self.tickets.is_gone(queue)
+        self.gone[usize::from(queue.0)]
     }
 
     pub(crate) fn is_cancelling(&self, item: ItemId) -> bool
@@ -134,6 +134,7 @@ impl Book {
     }
 
     pub(crate) fn ticket_of(&self, who: Who, number: Number) -> Option<Ticket>
+        requires { tables.IsThere self.now.layout who }
         ensures { result ≡ waits.ticket_of (past_of self.now.entries) who number }
     {
         match who {

@@ -11,7 +11,7 @@ use Rattle.cmwq_ties.specs.BarrierBooks as barriers
 use Rattle.cmwq_core.specs.Tables.{ListAll}
 use Rattle.cmwq_core.proofs.Follow.{who_below}
 use Rattle.cmwq_core.proofs.Steps.{small, may_tell, serial_most}
-use Rattle.cmwq_core.proofs.Told.{may_cancel, may_end_books, may_open_books, may_end_barriers, may_open_barriers, may_set_timers, may_be_done, may_begin, may_be_done_barriers, may_begin_barriers, may_end_line, line_ready, may_tell_width, PassMade, pass_made, promoted_newly, may_pass, may_be_listed, may_list_all, may_end_flights, may_start_flights, may_open_flights, may_end_held, may_begin_held}
+use Rattle.cmwq_core.proofs.Told.{may_cancel, may_end_books, may_open_books, may_end_barriers, may_open_barriers, may_set_timers, may_be_done, may_begin, may_be_done_barriers, may_begin_barriers, may_end_line, line_ready, may_tell_width, PassMade, pass_made, promoted_newly, may_pass, may_be_listed, may_list_all, may_end_flights, may_start_flights, may_open_flights, may_end_tickets, may_give_tickets, may_lose_queue}
 use Rattle.cmwq_core.proofs.Appended.{effect_there, effect_serial, told_book}
 use Rattle.cmwq_core.proofs.book.Book.append.Goals as goal
 
@@ -153,17 +153,20 @@ tell_flights-requires-clause-opened c =
     let r = rw (← c.self.view_is) at c.requires in let b = c.self.inside in
     rw c.self.invariant.parts_are.flights (may_open_flights (layout_of b.counts b.queues.items) (past_of b.entries.items) c.args.effect r.is)
 
-pub tell_ticket_end-requires : goal.tell_ticket_end-requires
-tell_ticket_end-requires c =
+pub tell_tickets-requires-clause-ended : goal.tell_tickets-requires-clause-ended
+tell_tickets-requires-clause-ended c =
     let r = rw (← c.self.view_is) at c.requires in let b = c.self.inside in
-    let s = layout_of b.counts b.queues.items in let past = past_of b.entries.items in
-    may_end_held s past c.args.effect b.tickets r.is (small s c.self.invariant.inside) (effect_there s past c.args.effect r.is) c.self.invariant.legal c.self.invariant.parts_are.held
+    rw c.self.invariant.parts_are.tickets (may_end_tickets (layout_of b.counts b.queues.items) (past_of b.entries.items) c.args.effect c.self.invariant.inside r.is)
 
-pub tell_ticket_begin-requires : goal.tell_ticket_begin-requires
-tell_ticket_begin-requires c =
+pub tell_tickets-requires-clause-given : goal.tell_tickets-requires-clause-given
+tell_tickets-requires-clause-given c =
     let r = rw (← c.self.view_is) at c.requires in let b = c.self.inside in
-    let s = layout_of b.counts b.queues.items in let past = past_of b.entries.items in
-    may_begin_held s past c.args.effect b.tickets c.tell_ticket_end.new.tickets r.is (small s c.self.invariant.inside) (effect_there s past c.args.effect r.is) c.self.invariant.legal c.self.invariant.parts_are.held c.tell_ticket_end.ensures
+    rw c.self.invariant.parts_are.tickets (may_give_tickets (layout_of b.counts b.queues.items) (past_of b.entries.items) c.args.effect c.self.invariant.inside r.is)
+
+pub tell_gone-requires : goal.tell_gone-requires
+tell_gone-requires c =
+    let r = rw (← c.self.view_is) at c.requires in let b = c.self.inside in
+    may_lose_queue (layout_of b.counts b.queues.items) (past_of b.entries.items) c.args.effect b.gone.items r.is c.self.invariant.legal c.self.invariant.parts_are.gone
 
 pub overflow_add-entry : goal.overflow_add-entry
 overflow_add-entry c =
@@ -223,10 +226,9 @@ invariant_of-self c =
       timer = c.tell_timers.ensures;
       time = ap (λ n. b.time + n) ticks;
       serials = ap₂ (λ p n. set b.serials.items p (n + 1)) c.who_place.ensures (effect_serial s past c.args.effect r.is);
-      held_mid = c.tell_ticket_end.new.tickets;
       flights = c.tell_flights.ensures;
-      held_ended = c.tell_ticket_end.ensures;
-      held_begun = c.tell_ticket_begin.ensures;
+      tickets = c.tell_tickets.ensures;
+      gone = c.tell_gone.ensures;
       line = pass_made s past c.args.effect b.line b.most.items c.tell_width.new.most.items b.frozen c.frozen_after-self-inside.result c.pass.new.self are.widths made;
       widths = c.tell_width.ensures;
       frozen = c.frozen_after-self-inside.ensures;

@@ -17,6 +17,9 @@ started_by-started-requires-clause-there c = let b = c.args.self.now in legal_th
 pub opened_by-opened-requires : goal.opened_by-opened-requires
 opened_by-opened-requires c = let b = c.args.self.now in entry_inside b.layout (past_of b.entries) c.args.entry c.requires.legal
 
+pub done_by-requires : goal.done_by-requires
+done_by-requires c = let b = c.args.self.now in legal_there b.layout (past_of b.entries) c.args.entry c.requires.legal
+
 pub owed_with-owing-requires-clause-inside : goal.owed_with-owing-requires-clause-inside
 owed_with-owing-requires-clause-inside c = let b = c.args.self.now in entry_inside b.layout (past_of b.entries) c.args.entry c.requires.legal
 
