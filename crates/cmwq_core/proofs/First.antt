@@ -26,8 +26,8 @@ use Rattle.cmwq_ties.proofs.TicketsFollow.{no_tickets_at_first}
 use Rattle.cmwq_flight.specs.Flights.{Flight, no_flight}
 use Rattle.cmwq_ties.proofs.FlightFollow.{no_flights_at_first}
 use Rattle.cmwq_core.specs.Gone.{AreGone}
-use Rattle.cmwq_parts.specs.Line.{Lined, new_lined, place_of}
-use Rattle.cmwq_parts.proofs.Passes.{place_inside}
+use Rattle.cmwq_line.specs.Line.{Lined, new_lined, place_of}
+use Rattle.cmwq_line.proofs.Passes.{place_inside}
 use Rattle.cmwq_core.specs.Lines.{IsLineOf}
 use Rattle.cmwq_core.proofs.WidthSteps.{first_most, widths_at_first}
 use Rattle.cmwq_core.specs.Book.{Parts, AreParts, IsBook}

@@ -33,8 +33,8 @@ use Rattle.cmwq_ties.proofs.PlacesFit.{open_there}
 use Rattle.cmwq_ties.proofs.Members.{In, of_in, all_in, in_right, in_filter, filter_in}
 use Rattle.cmwq_ties.proofs.Rising.{rises_unique}
 use Rattle.cmwq_ties.proofs.QueueingSteps.{QueueingStep, ends_one, ends_none, queueing_step, open_numbers_rise}
-use Rattle.cmwq_parts.specs.Line.{Lined, count_at, count_beside, place_of, is_waiting, is_other, ended, HaveWay, Passes, IsPlaced, ArePlaced}
-use Rattle.cmwq_parts.proofs.Passes.{count_set, place_inside, on_itself, on_parts}
+use Rattle.cmwq_line.specs.Line.{Lined, count_at, count_beside, place_of, is_waiting, is_other, ended, HaveWay, Passes, IsPlaced, ArePlaced}
+use Rattle.cmwq_line.proofs.Passes.{count_set, place_inside, on_itself, on_parts}
 use Rattle.cmwq_core.specs.Lines.{IsLineOf, told_ended, told_opened, MayEnd, MayOpen}
 
 -- ---- lists

@@ -37,7 +37,7 @@ use Rattle.cmwq_flush.specs.BarrierBook as barriers_book
 use Rattle.cmwq_ties.specs.Pools.{MayAllBeAdded}
 use Rattle.cmwq_ties.proofs.PoolAdds.{active_may_be_added}
 use Rattle.cmwq_model.specs.declared.shape.QueueShape.{QueueShape}
-use Rattle.cmwq_parts.specs.Line.{Lined, HaveWay, Passes, ArePlaced, width_by}
+use Rattle.cmwq_line.specs.Line.{Lined, HaveWay, Passes, ArePlaced, width_by}
 use Rattle.std.proofs.lemmas.Bool.{and_parts, ltb-true, eqb-true, false_from_ne_true, cases_lt}
 use Rattle.std.proofs.lemmas.List.Elements.{All-from_recursion}
 use mathlib.Core.Bool.{beq}

@@ -15,7 +15,7 @@ use Rattle.cmwq_timer.specs.Rows.{Rows}
 use Rattle.cmwq_model.specs.declared.record.Ticket.{Ticket}
 use Rattle.cmwq_ties.specs.BarrierBooks.{barriers_of}
 use Rattle.cmwq_ties.specs.Timers.{timers_of}
-use Rattle.cmwq_parts.specs.Line.{Lined}
+use Rattle.cmwq_line.specs.Line.{Lined}
 use Rattle.cmwq_flight.specs.Flights.{Flight}
 use Rattle.cmwq_ties.specs.Flights.{flights_of}
 use Rattle.cmwq_ties.specs.Tickets.{tickets_of}

@@ -5,7 +5,7 @@ use Rattle.cmwq_model.specs.declared.record.Queueing.{Queueing}
 use Rattle.cmwq_model.specs.Layout.{Layout}
 use Rattle.cmwq_steps.specs.Places.{active_count}
 use Rattle.cmwq_steps.specs.Waiting.{waiting}
-use Rattle.cmwq_parts.specs.Line.{Lined, count_at, count_beside, place_of, ended, opened, is_waiting}
+use Rattle.cmwq_line.specs.Line.{Lined, count_at, count_beside, place_of, ended, opened, is_waiting}
 
 -- the line of a history; what its last pass made active doesn't matter
 pub record IsLineOf (s : Layout) (past : List Entry) (l : Lined) : Type 0 where

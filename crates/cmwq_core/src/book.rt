@@ -32,7 +32,7 @@ use cmwq_flush::{Barriers, Flushes};
 use cmwq_model::{
     Call, Counts, Entry, NoMemory, Number, PoolId, QueueShape, Reply, Shape, Who, WorkerId,
 };
-use cmwq_parts::Line;
+use cmwq_line::Line;
 use cmwq_pool::{Pool, Seat};
 use cmwq_ticket::Tickets;
 use cmwq_timer::Timers;

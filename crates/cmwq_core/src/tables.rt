@@ -22,7 +22,7 @@ use cmwq_flush::{Barriers, Flushes};
 use cmwq_model::{
     Booking, Call, ItemId, Number, Place, PoolId, QueueShape, Queueing, Reply, Ticket, Who,
 };
-use cmwq_parts::Line;
+use cmwq_line::Line;
 use cmwq_pool::Pool;
 use cmwq_ticket::Tickets;
 use cmwq_timer::Timers;

@@ -6,7 +6,7 @@ use Rattle.cmwq_model.specs.Calls.{ticks_told}
 use Rattle.cmwq_model.specs.Legal.{past_of}
 use Rattle.std.proofs.Common.{ap₂}
 use Rattle.std.proofs.Math.ListN.{set}
-use Rattle.cmwq_parts.specs.Line.{width_by}
+use Rattle.cmwq_line.specs.Line.{width_by}
 use Rattle.cmwq_ties.specs.BarrierBooks as barriers
 use Rattle.cmwq_core.specs.Tables.{ListAll}
 use Rattle.cmwq_core.proofs.Follow.{who_below}

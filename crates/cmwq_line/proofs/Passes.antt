@@ -9,7 +9,7 @@ use Rattle.std.proofs.lemmas.List.Sums.{sum_by-append}
 use Rattle.cmwq_model.specs.declared.record.Queueing.{Queueing}
 use Rattle.cmwq_steps.specs.Places.{is_on}
 use Rattle.cmwq_active.proofs.Lists.{count_by-cons}
-use Rattle.cmwq_parts.specs.Line.{place_of, count_at, count_beside, HaveWay, Passes}
+use Rattle.cmwq_line.specs.Line.{place_of, count_at, count_beside, HaveWay, Passes}
 
 pub count_by-append : {X : Type 0} (p : X → Bool) (xs ys : List X) → count_by p (xs ++ ys) ≡ count_by p xs + count_by p ys
 count_by-append p xs ys = sum_by-append (λ x. cond (p x) 1 0) xs ys

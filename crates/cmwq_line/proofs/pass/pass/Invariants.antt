@@ -1,8 +1,8 @@
 use Rattle.std.proofs.Common.{◌≡◌, ◌+◌, Bool, take, vec_len}
 use Rattle.std.specs.Vec.{vec_capacity}
 use Rattle.cmwq_model.specs.declared.record.Queueing.{Queueing}
-use Rattle.cmwq_parts.specs.Line.{HaveWay, Passes, width_by}
-use Rattle.cmwq_parts.proofs.pass.pass.Given as goal
+use Rattle.cmwq_line.specs.Line.{HaveWay, Passes, width_by}
+use Rattle.cmwq_line.proofs.pass.pass.Given as goal
 
 abbrev pub invariant-loop-queueing : goal.invariant-loop-queueing
 invariant-loop-queueing l = record {

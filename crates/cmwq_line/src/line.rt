@@ -1,6 +1,6 @@
 ghost use Rattle.std.specs.Prelude.{◌≡◌, ℕ, Bool, ◌*◌, ◌<◌, false, length, IfOk};
 ghost use Rattle.cmwq_model.specs.declared.record.Queueing.{Queueing};
-ghost use Rattle.cmwq_parts.specs.Line.{ArePlaced, HaveWay, Passes, count_beside, ended, is_waiting, new_lined, opened, place_of, width_by};
+ghost use Rattle.cmwq_line.specs.Line.{ArePlaced, HaveWay, Passes, count_beside, ended, is_waiting, new_lined, opened, place_of, width_by};
 
 use crate::pass::{pass, place_of};
 use crate::waiting::{has_number, take_number};
@@ -22,7 +22,7 @@ pub struct Line {
 
 impl Model for Line {
     ghost use Rattle.std.specs.Prelude.{vec_capacity};
-    ghost use Rattle.cmwq_parts.specs.Line.{Lined, IsLine};
+    ghost use Rattle.cmwq_line.specs.Line.{Lined, IsLine};
 
     ghost Value = { Lined };
 

@@ -3,7 +3,7 @@
 ghost use Rattle.std.specs.Prelude.{◌≡◌, ◌≤◌, filter, vec_len, vec_capacity};
 ghost use Rattle.std.specs.List.{list_any};
 ghost use Rattle.cmwq_model.specs.Queueings.{has_number};
-ghost use Rattle.cmwq_parts.specs.Line.{is_other};
+ghost use Rattle.cmwq_line.specs.Line.{is_other};
 
 use cmwq_model::{Number, Queueing};
 

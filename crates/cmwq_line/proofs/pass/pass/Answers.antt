@@ -1,10 +1,10 @@
 use Rattle.std.proofs.Common.{rules, ◌≡◌, ◌<◌, length, get_or, sym, ◌∙◌}
 use Rattle.std.proofs.lemmas.List.Elements.{All-get_or}
 use Rattle.cmwq_model.specs.declared.record.Queueing.{Queueing}
-use Rattle.cmwq_parts.specs.Line.{IsPlaced, place_of, count_beside, width_by}
-use Rattle.cmwq_parts.proofs.Passes.{pass_kept, pass_promoted, pass_all, read_count, place_inside}
-use Rattle.cmwq_parts.proofs.pass.pass.Goals as goal
-use Rattle.cmwq_parts.proofs.pass.pass.Goals.{then-index-width_by, else-index-width_by}
+use Rattle.cmwq_line.specs.Line.{IsPlaced, place_of, count_beside, width_by}
+use Rattle.cmwq_line.proofs.Passes.{pass_kept, pass_promoted, pass_all, read_count, place_inside}
+use Rattle.cmwq_line.proofs.pass.pass.Goals as goal
+use Rattle.cmwq_line.proofs.pass.pass.Goals.{then-index-width_by, else-index-width_by}
 
 abbrev no_one : Queueing
 no_one = record { item = record { 0 = 0 }; place = record { queue = record { 0 = 0 }; cpu = record { 0 = 0 } }; number = 0 }

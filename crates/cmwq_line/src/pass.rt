@@ -2,7 +2,7 @@
 
 ghost use Rattle.std.specs.Prelude.{◌≡◌, ℕ, Bool, ◌*◌, ◌+◌, ◌<◌, ◌≤◌, [], length, vec_len, vec_capacity};
 ghost use Rattle.cmwq_model.specs.declared.record.Queueing.{Queueing};
-ghost use Rattle.cmwq_parts.specs.Line.{ArePlaced, HaveWay, Passes, place_of, width_by};
+ghost use Rattle.cmwq_line.specs.Line.{ArePlaced, HaveWay, Passes, place_of, width_by};
 
 use cmwq_model::{Place, QueueId, QueueShape, Queueing};
 
