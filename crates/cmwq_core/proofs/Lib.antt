@@ -11,3 +11,5 @@ pub mod Firing
 pub mod Told
 pub mod Appended
 mod Ends
+mod Relied
+mod Marked

@@ -237,7 +237,7 @@ told_parts s past f old new is small there before are told =
 
 -- ---- and each may be told
 
-open_there : (s : Layout) (past : List Entry) (f : Effect) (x : Queueing) → IsEffect s past f → IsLegal s past → f.ended ≡ Some x → places.IsThere s x
+pub open_there : (s : Layout) (past : List Entry) (f : Effect) (x : Queueing) → IsEffect s past f → IsLegal s past → f.ended ≡ Some x → places.IsThere s x
 open_there s past f x is before h = open_are_there s past x before (in_contained (still_open past) x (found (is_ended past f.entry) (still_open past) x (sym is.ended ∙ h)).0)
 
 pub may_cancel : (s : Layout) (past : List Entry) (f : Effect) (old : List Lineup) → IsEffect s past f → IsLegal s past → length old ≡ 2 * s.cpus → MayTellCancelled f.ended s.queues old

@@ -1,9 +1,29 @@
--- What an item runs, as a queueing.
-use Rattle.std.specs.Prelude.{ℕ, List, Option}
+-- What an item runs, as a queueing, and what becomes of whether it runs and waits.
+use Rattle.std.specs.Prelude.{ℕ, ◌==◌, true, false, if◌then◌else◌, List, Option, Some, None, is_some}
 use Rattle.cmwq_model.specs.declared.entry.Entry.{Entry}
 use Rattle.cmwq_model.specs.declared.record.Queueing.{Queueing}
+use Rattle.cmwq_model.specs.declared.reply.Reply.{Reply}
+use Rattle.cmwq_model.specs.Fate.{number_finished}
 use Rattle.cmwq_model.specs.Runs.{item_run}
+use Rattle.cmwq_flight.specs.Flights.{Flight}
 use Rattle.cmwq_ties.specs.Flights.{queueing_started}
+use Rattle.cmwq_core.specs.declared.book.marks.Standing.{Standing}
 
 abbrev pub run_open : List Entry → ℕ → Option Queueing
 run_open past i = queueing_started past (item_run past i)
+
+abbrev pub standing : Flight → Standing
+standing f = record { runs = is_some f.run; waits = is_some f.unstarted }
+
+-- by a queueing that ends, one that starts, and one that is opened
+abbrev pub ended_at : Reply → Option Queueing → ℕ → Standing → Standing
+ended_at r None i a = a
+ended_at r (Some x) i a = if x.item.0 == i then (if is_some (number_finished r) then record a { runs = false } else record a { waits = false }) else a
+
+abbrev pub started_at : Option Queueing → ℕ → Standing → Standing
+started_at None i a = a
+started_at (Some x) i a = if x.item.0 == i then record { runs = a.waits; waits = false } else a
+
+abbrev pub opened_at : Option Queueing → ℕ → Standing → Standing
+opened_at None i a = a
+opened_at (Some x) i a = if x.item.0 == i then record a { waits = true } else a

@@ -291,7 +291,7 @@ pub(crate) fn tell_line(line: &mut Line, ended: Option<Queueing>, opened: Option
     }
 }
 
-fn is_finish(reply: Reply) -> bool
+pub(crate) fn is_finish(reply: Reply) -> bool
     ensures { result ≡ is_some (number_finished reply) }
 {
     matches!(reply, Reply::Finished(_))

@@ -122,7 +122,7 @@ module _ (s : Layout) (past : List Entry) (e : Entry) (legal : IsLegal s (e ∷ 
   moved_waits : (i : ℕ) → (moved s past e legal i).unstarted ≡ option_or (still_unstarted past e (unstarted past i)) None
   moved_waits i = moved_unstarted s past e legal i ∙ or_none (still_unstarted past e (unstarted past i))
 
-  opened_row : (i : ℕ) (o : Option Queueing) → opening past e ≡ o → row_opened o i (moved s past e legal i) ≡ flight_of (e ∷ past) i
+  pub opened_row : (i : ℕ) (o : Option Queueing) → opening past e ≡ o → row_opened o i (moved s past e legal i) ≡ flight_of (e ∷ past) i
   unfolding row_opened
   opened_row i None opens =
       same_flight (moved s past e legal i) (flight_of (e ∷ past) i) (moved_run s past e legal i) (moved_waits i ∙ sym (waits_on i None opens))
