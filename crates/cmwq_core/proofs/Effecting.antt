@@ -31,14 +31,10 @@ use Rattle.cmwq_ties.proofs.PlacesFit.{open_there}
 use Rattle.cmwq_ties.proofs.PoolNext.{next_task_is}
 use Rattle.std.proofs.Common.{◌-◌, ◌≤◌, ◌+◌, ◌*◌, ◌==◌, Bool, true, false, not, is_some, arith}
 use Rattle.std.proofs.Common.{nat_lt, nat_le}
-use Rattle.std.specs.Prelude.{if◌then◌else◌}
 use Rattle.std.proofs.lemmas.Bool.{and_parts, ltb-true}
 use Rattle.cmwq_model.specs.declared.call.Call.{Call}
 use Rattle.cmwq_model.specs.declared.call.Call.TheVariants as call
-use Rattle.cmwq_model.specs.declared.record.Ticket.{Ticket}
 use Rattle.cmwq_model.specs.Layout.{fits, may_make, has_numbers}
-use Rattle.cmwq_model.specs.Tickets.{is_done}
-use Rattle.cmwq_steps.specs.TicketSteps.{ticket_ended, ticket_asked}
 use Rattle.cmwq_ties.proofs.FirstDue.{timers_may_be_told}
 use Rattle.cmwq_ties.proofs.Settled.{place_fits}
 use Rattle.cmwq_core.specs.Book.{IsCallInside}

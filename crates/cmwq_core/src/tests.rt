@@ -2,8 +2,8 @@ ghost use Rattle.std.specs.Prelude.{◌≡◌};
 
 use super::*;
 use cmwq_model::{
-    Call, CallerId, Counts, CpuId, ItemId, Mark, PoolId, QueueId, QueueShape, Reply, Shape,
-    Who, WorkerId,
+    Call, CallerId, Counts, CpuId, ItemId, Mark, PoolId, QueueId, QueueShape, Reply, Shape, Who,
+    WorkerId,
 };
 use std::alloc::{AllocError, Global};
 use std::process::Abort;
@@ -64,13 +64,7 @@ fn step(
     book.step(who, call)
 }
 
-fn would(
-    rt: &impl Abort,
-    shape: &Shape,
-    book: &Book,
-    who: Who,
-    call: Call,
-) -> Result<Mark, Full>
+fn would(rt: &impl Abort, shape: &Shape, book: &Book, who: Who, call: Call) -> Result<Mark, Full>
     requires { book.now.layout ≡ shape.now }
 {
     assert!(rt; shape.fits(who, call), "the call fits");
@@ -106,18 +100,43 @@ fn serial(rt: &impl Abort, shape: &Shape, book: &Book, who: Who) -> u32
 fn flush_waits_for_both(rt: HostRuntime) -> Result<(), Fail> {
     let shape = shape(rt.alloc())?.ok_or("no shape")?;
     let mut book = Book::new(rt.alloc(), &shape, 100)?;
-    assert!(rt; matches!(step(&rt, &shape, &mut book, CALLER, queue(0)), Ok(Reply::Yes(0))));
-    assert!(rt; matches!(step(&rt, &shape, &mut book, CALLER, queue(1)), Ok(Reply::Yes(1))));
+    assert!(rt;
+        matches!(
+            step(&rt, &shape, &mut book, CALLER, queue(0)),
+            Ok(Reply::Yes(0))
+        )
+    );
+    assert!(rt;
+        matches!(
+            step(&rt, &shape, &mut book, CALLER, queue(1)),
+            Ok(Reply::Yes(1))
+        )
+    );
     assert_eq!(rt; (book.open_count(), book.active_count()), (2, 1));
     assert_eq!(rt; bits(&rt, &shape, &book, 0), 1);
     let take = step(&rt, &shape, &mut book, WORKER, Call::Take);
     assert!(rt; matches!(take, Ok(Reply::StartedEnlist(0, 1))));
     assert_eq!(rt; bits(&rt, &shape, &book, 0), 2);
-    assert!(rt; matches!(step(&rt, &shape, &mut book, CALLER, FLUSH), Ok(Reply::Ticket(3))));
-    assert!(rt; matches!(step(&rt, &shape, &mut book, CALLER, END), Ok(Reply::Waiting(0))));
+    assert!(rt;
+        matches!(
+            step(&rt, &shape, &mut book, CALLER, FLUSH),
+            Ok(Reply::Ticket(3))
+        )
+    );
+    assert!(rt;
+        matches!(
+            step(&rt, &shape, &mut book, CALLER, END),
+            Ok(Reply::Waiting(0))
+        )
+    );
     let finish = step(&rt, &shape, &mut book, WORKER, Call::Finish);
     assert!(rt; matches!(finish, Ok(Reply::Finished(0))));
-    assert!(rt; matches!(step(&rt, &shape, &mut book, WORKER, Call::Take), Ok(Reply::Started(1))));
+    assert!(rt;
+        matches!(
+            step(&rt, &shape, &mut book, WORKER, Call::Take),
+            Ok(Reply::Started(1))
+        )
+    );
     assert!(rt; !book.ready(3), "the second item still runs");
     let finish = step(&rt, &shape, &mut book, WORKER, Call::Finish);
     assert!(rt; matches!(finish, Ok(Reply::Finished(1))));
@@ -138,14 +157,25 @@ fn flush_waits_for_both(rt: HostRuntime) -> Result<(), Fail> {
 fn marks_tell_the_bits_after(rt: HostRuntime) -> Result<(), Fail> {
     let shape = shape(rt.alloc())?.ok_or("no shape")?;
     let mut book = Book::new(rt.alloc(), &shape, 100)?;
-    let mark = would(&rt, &shape, &book, CALLER, queue(0)).ok().ok_or("no room")?;
+    let mark = would(&rt, &shape, &book, CALLER, queue(0))
+        .ok()
+        .ok_or("no room")?;
     assert!(rt; matches!(mark.entry.reply, Reply::Yes(0)));
     assert_eq!(rt; (mark.item, mark.bits), (Some(ItemId(0)), 1));
     assert_eq!(rt; book.len(), 0);
-    assert!(rt; matches!(step(&rt, &shape, &mut book, CALLER, queue(0)), Ok(Reply::Yes(0))));
-    let mark = would(&rt, &shape, &book, WORKER, Call::Take).ok().ok_or("no room")?;
+    assert!(rt;
+        matches!(
+            step(&rt, &shape, &mut book, CALLER, queue(0)),
+            Ok(Reply::Yes(0))
+        )
+    );
+    let mark = would(&rt, &shape, &book, WORKER, Call::Take)
+        .ok()
+        .ok_or("no room")?;
     assert_eq!(rt; (mark.item, mark.bits), (Some(ItemId(0)), 2));
-    let mark = would(&rt, &shape, &book, CALLER, FLUSH).ok().ok_or("no room")?;
+    let mark = would(&rt, &shape, &book, CALLER, FLUSH)
+        .ok()
+        .ok_or("no room")?;
     assert_eq!(rt; mark.item, None);
     Ok(())
 }
@@ -155,7 +185,12 @@ fn marks_tell_the_bits_after(rt: HostRuntime) -> Result<(), Fail> {
 fn full_leaves_room_to_end(rt: HostRuntime) -> Result<(), Fail> {
     let shape = shape(rt.alloc())?.ok_or("no shape")?;
     let mut book = Book::new(rt.alloc(), &shape, 3)?;
-    assert!(rt; matches!(step(&rt, &shape, &mut book, CALLER, queue(0)), Ok(Reply::Yes(0))));
+    assert!(rt;
+        matches!(
+            step(&rt, &shape, &mut book, CALLER, queue(0)),
+            Ok(Reply::Yes(0))
+        )
+    );
     assert!(rt; would(&rt, &shape, &book, CALLER, queue(1)).is_err());
     assert!(rt; matches!(step(&rt, &shape, &mut book, CALLER, queue(1)), Err(Full)));
     assert_eq!(rt; (book.len(), book.open_count()), (1, 1));
