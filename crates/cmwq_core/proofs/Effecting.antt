@@ -31,14 +31,10 @@ use Rattle.cmwq_ties.proofs.PlacesFit.{open_there}
 use Rattle.cmwq_ties.proofs.PoolNext.{next_task_is}
 use Rattle.std.proofs.Common.{◌-◌, ◌≤◌, ◌+◌, ◌*◌, ◌==◌, Bool, true, false, not, is_some, arith}
 use Rattle.std.proofs.Common.{nat_lt, nat_le}
-use Rattle.std.specs.Prelude.{if◌then◌else◌}
 use Rattle.std.proofs.lemmas.Bool.{and_parts, ltb-true}
 use Rattle.cmwq_model.specs.declared.call.Call.{Call}
 use Rattle.cmwq_model.specs.declared.call.Call.TheVariants as call
-use Rattle.cmwq_model.specs.declared.record.Ticket.{Ticket}
 use Rattle.cmwq_model.specs.Layout.{fits, may_make, has_numbers}
-use Rattle.cmwq_model.specs.Tickets.{is_done}
-use Rattle.cmwq_steps.specs.TicketSteps.{ticket_ended, ticket_asked}
 use Rattle.cmwq_ties.proofs.FirstDue.{timers_may_be_told}
 use Rattle.cmwq_ties.proofs.Settled.{place_fits}
 use Rattle.cmwq_core.specs.Book.{IsCallInside}
@@ -133,10 +129,6 @@ cpu_of_none s past i cpu legal h = by (item_run past i) refl
     by : (o : Option Start) → item_run past i ≡ o → cpu ≡ cpu_for past i cpu
     by None is = sym (ap (λ o. option_map_or (λ (u : Start). u.worker.pool.cpu) o cpu) is)
     by (Some t) is = let r = runs_are_queueings s past legal i t is in let bad : None ≡ Some r.queueing = sym h ∙ (ap (option_and_then (λ (u : Start). queueing_at past u.number)) is ∙ r.found) in cc
-
-pub legal_before : (s : Layout) (past : List Entry) (e : Entry) → IsLegal s (e ∷ past) → IsLegal s past
-unfolding IsLegal
-legal_before s past e legal = legal.2
 
 -- ---- what is owed
 

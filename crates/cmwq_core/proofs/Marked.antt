@@ -1,5 +1,5 @@
 -- The bits of an item, and the mark of an entry.
-use Rattle.std.proofs.Common.{◌≡◌, ℕ, ◌+◌, ◌-◌, ◌*◌, ◌^◌, ◌<◌, ◌≤◌, find, ◌==◌, ◌||◌, ◌&&◌, Bool, true, false,  List, [], ◌∷◌, length, filter, count_by, arith, Option, Some, None, is_some, refl, sym, ap, ap₂, ◌∙◌, subst}
+use Rattle.std.proofs.Common.{◌≡◌, ℕ, ◌+◌, ◌-◌, ◌^◌, ◌<◌, ◌≤◌, find, ◌==◌, ◌||◌, ◌&&◌, Bool, true, false, List, ◌∷◌, length, filter, count_by, arith, Option, Some, None, is_some, refl, sym, ap, ap₂, ◌∙◌, subst}
 use Rattle.std.specs.Prelude.{Contains, if◌then◌else◌, option_and_then, option_map}
 use Rattle.std.specs.Option.{option_or}
 use Rattle.std.proofs.lemmas.Bool.{eqb-true, and_parts, leb-true}
@@ -7,8 +7,6 @@ use Rattle.std.proofs.lemmas.List.Filters.{length-filter_both}
 use Rattle.std.proofs.lemmas.List.Sums.{length-filter}
 use Rattle.std.proofs.lemmas.Option.{same_Some}
 use Rattle.cmwq_model.specs.declared.id.ItemId.{ItemId}
-use Rattle.cmwq_model.specs.declared.id.Who.{Who}
-use Rattle.cmwq_model.specs.declared.call.Call.{Call}
 use Rattle.cmwq_model.specs.declared.reply.Reply.{Reply}
 use Rattle.cmwq_model.specs.declared.reply.Reply.TheVariants as reply
 use Rattle.cmwq_model.specs.declared.entry.Entry.{Entry}
@@ -20,9 +18,9 @@ use Rattle.cmwq_model.specs.Tickets.{unended}
 use Rattle.cmwq_model.specs.Calls.{is_at, is_of_item, item_of, item_at}
 use Rattle.cmwq_model.specs.Bookings.{settles, booking, booking_of, is_booked}
 use Rattle.cmwq_model.specs.Fate.{number_started, number_finished}
-use Rattle.cmwq_model.specs.Runs.{run, item_run, item_runs}
+use Rattle.cmwq_model.specs.Runs.{item_run, item_runs}
 use Rattle.cmwq_model.specs.Queueings.{queueing_at, unstarted, is_pending, opening, still_open}
-use Rattle.cmwq_model.specs.Legal.{IsLegal, bits, entry_for}
+use Rattle.cmwq_model.specs.Legal.{IsLegal, bits}
 use Rattle.cmwq_model.specs.Active.{is_active}
 use Rattle.cmwq_steps.specs.Activations.{waits}
 use Rattle.cmwq_steps.specs.Waiting.{waiting}
@@ -38,7 +36,7 @@ use Rattle.cmwq_steps.proofs.Marks.{others_stay}
 use Rattle.cmwq_steps.proofs.Standing.{booking_after}
 use Rattle.cmwq_steps.proofs.Fresh.{finishes_run}
 use Rattle.cmwq_steps.proofs.RunsActive.{found_known, found_number, run_is_active}
-use Rattle.cmwq_core.specs.Effects.{IsEffect, item_number, settled_by, ended_from}
+use Rattle.cmwq_core.specs.Effects.{IsEffect, item_number, ended_from}
 use Rattle.cmwq_flight.specs.Flights.{Flight, with_started, with_unstarted, without_run}
 use Rattle.cmwq_ties.specs.Flights.{flight_of, starting}
 use Rattle.cmwq_ties.proofs.FlightSteps as rows
@@ -50,7 +48,8 @@ use Rattle.cmwq_core.specs.declared.book.marks.Standing.{Standing}
 use Rattle.cmwq_core.specs.Flights.{standing, ended_at, started_at, opened_at}
 use Rattle.cmwq_core.specs.History.{History, past_in, next_entry, IsMark, has_number}
 use Rattle.cmwq_core.specs.declared.effect.Effect.{Effect}
-use Rattle.cmwq_core.proofs.Effecting.{ends_from, entry_inside, legal_before}
+use Rattle.cmwq_ties.proofs.FlightKinds.{legal_before}
+use Rattle.cmwq_core.proofs.Effecting.{ends_from, entry_inside}
 use Rattle.cmwq_core.proofs.Readings.{run_some, some_mapped}
 
 pub running : (s : Layout) (past : List Entry) (i : ℕ) → IsLegal s past → is_some (flight_of past i).run ≡ item_runs past i

@@ -59,9 +59,6 @@ pub some_mapped : {X Y : Type 0} (f : X → Y) (o : Option X) → is_some (optio
 some_mapped f None = refl
 some_mapped f (Some x) = refl
 
-pub booked_row : (past : List Entry) (i : ℕ) → is_some (row_of past i) ≡ is_booked past i
-booked_row past i = some_mapped timer_for (booking past i)
-
 -- what is in flight of an item
 pub flight_there : (s : Layout) (past : List Entry) (rows : List Flight) (i : ℕ) → rows ≡ flights_of s past → i < s.items → i < length rows
 flight_there s past rows i are here = rw (are, flights_for_items s past) here
@@ -176,60 +173,6 @@ draining_read s past books q i v r are here at found test =
     as_test r (length v.drains) test ∙ (ap (λ (b : FlushBook). nat_lt 0 (length b.drains)) book ∙ sym (draining_while_drains_stand s past q (book_in books q) (are.each q here)))
 
 -- ---- bookings
-
-any_in : {X : Type 0} (p : X → Bool) (xs : List X) (x : X) → In x xs → p x ≡ true → list_any p xs ≡ true
-any_in p [] x h k = absurd h
-any_in p (y ∷ ys) x h k = ⊎_elim (λ e. ap (λ b. b || list_any p ys) (subst (λ z. p z ≡ true) (sym e) k)) (λ i. or_true (p y) (list_any p ys) (any_in p ys x i k)) h
-  where
-    or_true : (a b : Bool) → b ≡ true → (a || b) ≡ true
-    or_true true b h = refl
-    or_true false b h = h
-
-record IsAny {X : Type 0} (p : X → Bool) (xs : List X) : Type 0 where
-  one : X
-  there : In one xs
-  passes : p one ≡ true
-
-any_found : {X : Type 0} (p : X → Bool) (xs : List X) → list_any p xs ≡ true → IsAny p xs
-any_found p [] h = let bad : false ≡ true = h in cc
-any_found p (x ∷ xs) h = by (p x) refl h (any_found p xs)
-  where
-    by : (b : Bool) → p x ≡ b → (b || list_any p xs) ≡ true → (list_any p xs ≡ true → IsAny p xs) → IsAny p (x ∷ xs)
-    by true is k later = record { one = x; there = inl refl; passes = is }
-    by false is k later = let a = later k in record { one = a.one; there = inr a.there; passes = a.passes }
-
-in_map : {X Y : Type 0} (f : X → Y) (xs : List X) (y : Y) → In y (map f xs) → (x : X) × (f x ≡ y)
-in_map f [] y h = absurd h
-in_map f (x ∷ xs) y h = ⊎_elim (λ e. (x, e)) (λ i. in_map f xs y i) h
-
-same_test : (a b : Bool) → (a ≡ true → b ≡ true) → (b ≡ true → a ≡ true) → a ≡ b
-same_test true true f g = refl
-same_test true false f g = let bad : false ≡ true = f refl in cc
-same_test false true f g = let bad : false ≡ true = g refl in cc
-same_test false false f g = refl
-
-pub booked_on : (s : Layout) (past : List Entry) (q : ℕ) → IsLegal s past → list_any (timer_is_on q) (timers_of s past) ≡ list_any (is_booked_on q) (standing past)
-booked_on s past q legal = same_test (list_any (timer_is_on q) (timers_of s past)) (list_any (is_booked_on q) (standing past)) there back
-  where
-    by : (i : ℕ) (o : Option Booking) → booking past i ≡ o → timer_is_on q (option_map timer_for o) ≡ true → list_any (is_booked_on q) (standing past) ≡ true
-    by i None is k = let bad : false ≡ true = k in cc
-    by i (Some b) is k = any_in (is_booked_on q) (standing past) b (in_standing past i b is) k
-
-    there : list_any (timer_is_on q) (timers_of s past) ≡ true → list_any (is_booked_on q) (standing past) ≡ true
-    there h =
-        let a = any_found (timer_is_on q) (timers_of s past) h in
-        let at = in_map (row_of past) (range_with_len 0 s.items) a.one a.there in
-        by at.0 (booking past at.0) refl (ap (timer_is_on q) at.1 ∙ a.passes)
-
-    back : list_any (is_booked_on q) (standing past) ≡ true → list_any (timer_is_on q) (timers_of s past) ≡ true
-    back h =
-        let a = any_found (is_booked_on q) (standing past) h in
-        let b = a.one in
-        let fits = standing_fits s past b legal a.there in
-        let row : timer_of (timers_of s past) b.item.0 ≡ Some (timer_for b) = row_at s past b.item.0 fits.item ∙ ap (option_map timer_for) (standing_is past b a.there) in
-        let inside : b.item.0 < length (timers_of s past) = rw (rows_for_items s past) fits.item in
-        let at = get_or_default (timers_of s past) b.item.0 (Some (timer_for b)) None inside ∙ row in
-        any_in (timer_is_on q) (timers_of s past) (Some (timer_for b)) (contained_in (timers_of s past) (Some (timer_for b)) (b.item.0, inside, at)) a.passes
 
 pub timer_there : (s : Layout) (past : List Entry) (i : ℕ) (t : Timer) → IsLegal s past → row_of past i ≡ Some t → t.place.queue.0 < length s.queues
 timer_there s past i t legal h = by (booking past i) refl h

@@ -7,3 +7,6 @@ mod new;
 mod tables;
 
 pub use book::{Book, Full};
+
+#[cfg(test)]
+mod tests;

@@ -1,7 +1,8 @@
 use Rattle.std.proofs.Common.{◌∙◌, ap}
 use Rattle.cmwq_model.specs.Legal.{past_of}
 use Rattle.cmwq_core.specs.Effects.{started_from}
-use Rattle.cmwq_core.proofs.Effecting.{starts_from, legal_before}
+use Rattle.cmwq_ties.proofs.FlightKinds.{legal_before}
+use Rattle.cmwq_core.proofs.Effecting.{starts_from}
 use Rattle.cmwq_core.proofs.book.Book.started_by.Goals as goal
 
 pub returns : goal.returns
