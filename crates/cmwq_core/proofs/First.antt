@@ -1,6 +1,5 @@
 -- The parts of a new book are those of no entries.
-use Rattle.std.proofs.Common.{◌≡◌, ℕ, Bool, ◌*◌, ◌<◌, ◌≤◌, true, false, List, [], length, replicate, refl, sym, ◌∙◌, arith, None, subst}
-use Rattle.std.specs.Prelude.{slice_index}
+use Rattle.std.proofs.Common.{◌≡◌, ℕ, Bool, ◌*◌, ◌≤◌, true, false, List, [], length, replicate, refl, sym, ◌∙◌, arith, None, subst}
 use Rattle.std.proofs.lemmas.List.{get_or-replicate, length-replicate}
 use Rattle.cmwq_model.specs.Layout.{Layout, is_layout}
 use Rattle.cmwq_model.specs.Calls.{now}
@@ -19,7 +18,6 @@ use Rattle.cmwq_core.specs.Tables.{pool_place, no_pool, no_book, who_place}
 use Rattle.cmwq_model.specs.Queueings.{queueings}
 use Rattle.cmwq_steps.specs.Places.{active_count}
 use Rattle.cmwq_timer.specs.Rows.{Rows}
-use Rattle.cmwq_model.specs.Runs.{item_start}
 use Rattle.cmwq_model.specs.Tickets.{tickets, is_gone}
 use Rattle.cmwq_model.specs.declared.record.Ticket.{Ticket}
 use Rattle.cmwq_ties.proofs.TicketsFollow.{no_tickets_at_first}

@@ -1,8 +1,8 @@
 -- The bits of an item, and the mark of an entry.
-use Rattle.std.proofs.Common.{◌≡◌, ℕ, ◌+◌, ◌-◌, ◌^◌, ◌<◌, ◌≤◌, find, ◌==◌, ◌||◌, ◌&&◌, Bool, true, false, List, ◌∷◌, length, filter, count_by, arith, Option, Some, None, is_some, refl, sym, ap, ap₂, ◌∙◌, subst}
+use Rattle.std.proofs.Common.{◌≡◌, ℕ, ◌+◌, ◌-◌, ◌<◌, ◌≤◌, find, ◌==◌, ◌||◌, ◌&&◌, Bool, true, false, List, ◌∷◌, length, filter, count_by, arith, Option, Some, None, is_some, refl, sym, ap, ap₂, ◌∙◌, subst}
 use Rattle.std.specs.Prelude.{Contains, if◌then◌else◌, option_and_then, option_map}
 use Rattle.std.specs.Option.{option_or}
-use Rattle.std.proofs.lemmas.Bool.{eqb-true, and_parts, leb-true}
+use Rattle.std.proofs.lemmas.Bool.{eqb-true}
 use Rattle.std.proofs.lemmas.List.Filters.{length-filter_both}
 use Rattle.std.proofs.lemmas.List.Sums.{length-filter}
 use Rattle.std.proofs.lemmas.Option.{same_Some}
@@ -12,7 +12,7 @@ use Rattle.cmwq_model.specs.declared.reply.Reply.TheVariants as reply
 use Rattle.cmwq_model.specs.declared.entry.Entry.{Entry}
 use Rattle.cmwq_model.specs.declared.record.Queueing.{Queueing}
 use Rattle.cmwq_model.specs.declared.record.Start.{Start}
-use Rattle.cmwq_model.specs.Layout.{Layout, is_layout}
+use Rattle.cmwq_model.specs.Layout.{Layout}
 use Rattle.cmwq_model.specs.declared.record.Ticket.{Ticket}
 use Rattle.cmwq_model.specs.Tickets.{unended}
 use Rattle.cmwq_model.specs.Calls.{is_at, is_of_item, item_of, item_at}
@@ -24,10 +24,7 @@ use Rattle.cmwq_model.specs.Legal.{IsLegal, bits}
 use Rattle.cmwq_model.specs.Active.{is_active}
 use Rattle.cmwq_steps.specs.Activations.{waits}
 use Rattle.cmwq_steps.specs.Waiting.{waiting}
-use Rattle.cmwq_steps.specs.Histories.{one}
-use Rattle.cmwq_steps.proofs.Limits.{open_counted, two_for_each_item}
 use Rattle.cmwq_ties.proofs.Members.{found, in_contained}
-use Rattle.cmwq_ties.proofs.PlacesFit.{open_there as open_in_there}
 use Rattle.cmwq_core.proofs.Told.{open_there}
 use Rattle.cmwq_steps.specs.Marks.{item_marked}
 use Rattle.cmwq_steps.specs.Endings.{ending}
@@ -44,7 +41,6 @@ use Rattle.cmwq_ties.proofs.FlightFollow.{opened_row, starting_there}
 use Rattle.cmwq_steps.proofs.EndsAsTold.{unstarted_found}
 use Rattle.cmwq_steps.proofs.Starts.{starts_next}
 use Rattle.cmwq_steps.proofs.Unstarted.{next_unstarted}
-use Rattle.cmwq_core.specs.declared.book.marks.Standing.{Standing}
 use Rattle.cmwq_core.specs.Flights.{standing, ended_at, started_at, opened_at}
 use Rattle.cmwq_core.specs.History.{History, past_in, next_entry, IsMark, has_number}
 use Rattle.cmwq_core.specs.declared.effect.Effect.{Effect}

@@ -1,6 +1,5 @@
 -- What a book reads off its parts is what the definitions say.
-use Rattle.std.proofs.Common.{◌≡◌, ℕ, ◌<◌, ◌≤◌, Bool, true, false, not, ◌&&◌, ◌||◌, ◌==◌, List, [], ◌∷◌, length, map, find, count_by, cond, Option, Some, None, is_some, refl, sym, ap, ap₂, ◌∙◌, subst, arith, nat_lt, nat_le}
-use Rattle.std.specs.List.{list_any}
+use Rattle.std.proofs.Common.{◌≡◌, ℕ, ◌<◌, ◌≤◌, Bool, true, false, not, ◌&&◌, ◌||◌, ◌==◌, List, [], ◌∷◌, length, map, find, cond, Option, Some, None, is_some, refl, sym, ap, ap₂, ◌∙◌, subst, arith, nat_lt, nat_le}
 use Rattle.std.specs.Option.{option_map_or}
 use Rattle.std.specs.Prelude.{option_and_then, option_map}
 use Rattle.cmwq_model.specs.declared.id.WorkerId.{WorkerId}
@@ -10,24 +9,17 @@ use Rattle.cmwq_model.specs.declared.entry.Entry.{Entry}
 use Rattle.cmwq_model.specs.declared.record.Queueing.{Queueing}
 use Rattle.cmwq_model.specs.declared.record.Booking.{Booking}
 use Rattle.cmwq_model.specs.declared.record.Start.{Start}
-use Rattle.cmwq_model.specs.declared.record.Ticket.{Ticket}
 use Rattle.cmwq_model.specs.Layout.{Layout}
 use Rattle.cmwq_model.specs.Calls.{is_at, item_at}
-use Rattle.cmwq_model.specs.Bookings.{booking, is_booked}
+use Rattle.cmwq_model.specs.Bookings.{booking}
 use Rattle.cmwq_model.specs.Runs.{run, item_run}
 use Rattle.cmwq_model.specs.Queueings.{unstarted, queueing_at, queue_of, runs_elsewhere, still_open, is_item_open, is_of}
 use Rattle.cmwq_model.specs.Legal.{IsLegal}
 use Rattle.cmwq_steps.specs.ItemQueueings.{queueing_run}
 use Rattle.cmwq_steps.proofs.EndsAsTold.{runs_are_queueings}
-use Rattle.std.proofs.Common.{⊎_elim, inl, inr}
-use Rattle.std.specs.List.{range_with_len}
-use Rattle.cmwq_model.specs.Bookings.{standing}
-use Rattle.cmwq_model.specs.Answer.{is_booked_on}
 use Rattle.cmwq_timer.specs.declared.timer.Timer.{Timer}
-use Rattle.cmwq_timer.specs.Rows.{timer_of, is_on as timer_is_on}
-use Rattle.cmwq_ties.proofs.FirstDue.{in_standing, standing_is, standing_fits}
-use Rattle.cmwq_ties.proofs.TimerSteps.{row_at, rows_for_items}
-use Rattle.cmwq_ties.specs.Timers.{row_of, timer_for, timers_of}
+use Rattle.cmwq_ties.proofs.FirstDue.{in_standing, standing_fits}
+use Rattle.cmwq_ties.specs.Timers.{row_of, timer_for}
 use Rattle.std.proofs.Common.{zero, suc, filter, ◌++◌, option_to_list, get_or, IsTrue, ◌↔◌}
 use Rattle.std.proofs.lemmas.Bool.{lt-ltb, le-ltb}
 use Rattle.std.proofs.lemmas.List.{get_or_default}
@@ -43,12 +35,11 @@ use Rattle.cmwq_active.proofs.Lists.{count_by-none}
 use Rattle.cmwq_steps.proofs.Filters.{none_found}
 use Rattle.cmwq_steps.proofs.RunsActive.{found_known, found_number}
 use Rattle.cmwq_steps.proofs.ItemRuns.{runs_are_items}
-use Rattle.cmwq_pool.proofs.Marks.{list_any-count_by}
 use Rattle.cmwq_pool.specs.declared.task.Task.{Task}
 use Rattle.cmwq_ties.specs.Told.{number_of_queueing}
 use Rattle.cmwq_ties.specs.Pools.{task_for, run_task}
 use Rattle.cmwq_ties.proofs.ItemNumbers.{run_then_unstarted}
-use Rattle.cmwq_ties.proofs.Members.{In, contained_in, found, filter_in}
+use Rattle.cmwq_ties.proofs.Members.{found, filter_in}
 use Rattle.cmwq_ties.proofs.PlacesFit.{open_there}
 use Rattle.cmwq_flight.specs.Flights.{Flight, flight_at}
 use Rattle.cmwq_ties.specs.Flights.{flight_of, flights_of}

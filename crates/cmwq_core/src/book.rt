@@ -36,11 +36,11 @@ use crate::tables::{
 };
 use cmwq_flight::Flights;
 use cmwq_flush::{Barriers, Flushes};
+use cmwq_line::Line;
 use cmwq_model::{
     Call, Counts, Entry, ItemId, Mark, NoMemory, Number, PoolId, QueueShape, Reply, Shape, Who,
     WorkerId,
 };
-use cmwq_line::Line;
 use cmwq_pool::{Pool, Seat};
 use cmwq_ticket::Tickets;
 use cmwq_timer::Timers;

@@ -19,10 +19,10 @@ ghost use Rattle.cmwq_model.specs.Widths.{frozen_after};
 
 use cmwq_flight::Flights;
 use cmwq_flush::{Barriers, Flushes};
+use cmwq_line::Line;
 use cmwq_model::{
     Booking, Call, ItemId, Number, Place, PoolId, QueueShape, Queueing, Reply, Ticket, Who,
 };
-use cmwq_line::Line;
 use cmwq_pool::Pool;
 use cmwq_ticket::Tickets;
 use cmwq_timer::Timers;

@@ -104,17 +104,8 @@ impl Book {
         requires is { IsEffect self.now.layout (past_of self.now.entries) effect }
         ensures { result ≡ standing (flight_of (effect.entry ∷ past_of self.now.entries) item.0) }
     {
-        let ended = ended_at(
-            effect.entry.reply,
-            effect.ended,
-            item,
-            self.standing(item),
-        );
-        opened_at(
-            effect.opened,
-            item,
-            started_at(effect.started, item, ended),
-        )
+        let ended = ended_at(effect.entry.reply, effect.ended, item, self.standing(item));
+        opened_at(effect.opened, item, started_at(effect.started, item, ended))
     }
 
     fn is_booked_after(&self, effect: Effect, item: ItemId) -> bool
