@@ -12,3 +12,5 @@ pub mod Firing
 pub mod Told
 pub mod Appended
 mod Ends
+mod OwedBound
+mod Judging

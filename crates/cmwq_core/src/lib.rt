@@ -3,7 +3,9 @@
 
 mod book;
 mod effect;
+mod judge;
 mod new;
 mod tables;
 
 pub use book::{Book, Full};
+pub use judge::check;
