@@ -13,6 +13,11 @@ use Rattle.cmwq_core.specs.Book.{Kept, and_entry}
 abbrev pub book_at : Layout → List Entry → ℕ → Kept
 book_at s entries k = record { layout = s; room = length entries + 10000; entries = take k entries }
 
+-- so many entries are judged: they are a legal history, and the book holds them
+pub record AreJudged (s : Layout) (entries : List Entry) (k : ℕ) (b : Kept) : Type 0 where
+  pub legal : IsLegal s (past_of (take k entries))
+  pub book : b ≡ book_at s entries k
+
 pub nothing_judged : (s : Layout) → IsLegal s []
 unfolding IsLegal
 nothing_judged s = tt

@@ -43,17 +43,21 @@ on_cpu s few c =
     let second = in_pool s high in
     omega arith
 
-workers_few : (s : Layout) → IsTrue (is_layout s) → length (workers s) ≤ 64
-workers_few s inside =
-    let both = (and_parts _ _ (and_parts _ _ (and_parts _ _ (and_parts _ _ inside).0).0).0).0 in
-    let cpus = leb-true s.cpus 4 (and_parts _ _ (and_parts _ _ both).0).1 in
-    let each = leb-true s.workers 8 (and_parts _ _ (and_parts _ _ both).1).1 in
-    let all = few_in_all (cpu_workers s) (on_cpu s each) (range_with_len 0 s.cpus) in
-    let many = length-range_with_len 0 s.cpus in
-    omega arith
+cpus_few : (s : Layout) → IsTrue (is_layout s) → s.cpus ≤ 4
+cpus_few s inside = leb-true s.cpus 4 (and_parts _ _ (and_parts _ _ (and_parts _ _ (and_parts _ _ (and_parts _ _ (and_parts _ _ inside).0).0).0).0).0).1
+
+pools_small : (s : Layout) → IsTrue (is_layout s) → s.workers ≤ 8
+pools_small s inside = leb-true s.workers 8 (and_parts _ _ (and_parts _ _ (and_parts _ _ (and_parts _ _ (and_parts _ _ (and_parts _ _ inside).0).0).0).0).1).1
 
 callers_few : (s : Layout) → IsTrue (is_layout s) → s.callers ≤ 64
 callers_few s inside = leb-true s.callers 64 (and_parts _ _ (and_parts _ _ (and_parts _ _ (and_parts _ _ (and_parts _ _ inside).0).0).0).1).1
+
+workers_few : (s : Layout) → IsTrue (is_layout s) → length (workers s) ≤ 64
+workers_few s inside =
+    let cpus = cpus_few s inside in
+    let all : length (workers s) ≤ 16 * length (range_with_len 0 s.cpus) = few_in_all (cpu_workers s) (on_cpu s (pools_small s inside)) (range_with_len 0 s.cpus) in
+    let many = length-range_with_len 0 s.cpus in
+    omega arith
 
 at_most_one : (b : Bool) → (if b then 1 else 0) ≤ 1
 at_most_one true = omega arith
