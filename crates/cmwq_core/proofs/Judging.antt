@@ -1,5 +1,5 @@
 -- A history that is judged from its first entry on.
-use Rattle.std.proofs.Common.{◌≡◌, ◌+◌, ◌<◌, ◌≤◌, ℕ, List, [], ◌∷◌, ◌++◌, length, take, drop, get_or, reverse, sym, ap, ◌∙◌, subst, arith, add-one}
+use Rattle.std.proofs.Common.{◌≡◌, ◌+◌, ◌<◌, ℕ, List, [], ◌∷◌, length, take, drop, get_or, reverse, sym, ap, ◌∙◌, subst, arith, add-one}
 use Rattle.std.proofs.Math.Seq.{split_at}
 use Rattle.std.proofs.lemmas.List.{take_more, reverse-append, length-take-le}
 use Rattle.cmwq_model.specs.declared.entry.Entry.{Entry}

@@ -1,6 +1,6 @@
 //! The verdict of a history.
 
-ghost use Rattle.std.specs.Prelude.{◌≡◌, ◌<◌, ◌≤◌, ◌+◌, ◌∷◌, true, length, None, IfOk, IfSome, OnOk, IfErr, IsTrue};
+ghost use Rattle.std.specs.Prelude.{◌≡◌, ◌≤◌, ◌+◌, true, length, None, IfOk, IfSome, OnOk, IfErr, IsTrue};
 ghost use Rattle.cmwq_model.specs.Layout.{fits, is_layout};
 ghost use Rattle.cmwq_model.specs.Legal.{IsLegal, past_of};
 ghost use Rattle.cmwq_model.specs.Verdict.{AllFit, Wants, IsFirstWrong};
@@ -9,6 +9,9 @@ ghost use Rattle.cmwq_core.specs.Book as kept;
 use crate::book::Book;
 use cmwq_model::{Entry, Illegal, NoMemory, Shape, Wanted};
 use std::alloc::Global;
+
+#[cfg(test)]
+mod tests;
 
 /// No legal history owes more entries than these, so that a book with so much room beyond the entries refuses none of them.
 const MOST_OWED: u32 = 10_000;
