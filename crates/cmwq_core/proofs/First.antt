@@ -2,6 +2,7 @@
 use Rattle.std.proofs.Common.{◌≡◌, ℕ, ◌*◌, ◌<◌, ◌≤◌, true, false, List, [], length, replicate, refl, sym, ◌∙◌, arith, None, subst}
 use Rattle.std.specs.Prelude.{slice_index}
 use Rattle.std.proofs.lemmas.List.{get_or-replicate, length-replicate}
+use Rattle.cmwq_model.specs.Queueings.{queueings, still_open}
 use Rattle.cmwq_model.specs.Layout.{Layout, is_layout}
 use Rattle.cmwq_model.specs.Calls.{now}
 use Rattle.cmwq_model.specs.Legal.{IsLegal}
@@ -48,6 +49,7 @@ first_parts s = record {
   most = first_most s.queues;
   frozen = false;
   owing = 0;
+  live = 0;
 }
 
 nothing_owed : (s : Layout) → owed s [] ≡ 0
@@ -88,6 +90,10 @@ line_at_first s = record {
   counts = λ q c here less. get_or-replicate (4 * length s.queues) (place_of q c) 0 0 (place_inside q c (length s.queues) (4 * length s.queues) here less refl);
 }
 
+none_open : 0 ≡ length (still_open [])
+unfolding queueings
+none_open = refl
+
 pub parts_at_first : (s : Layout) → IsSmall s → AreParts s [] (first_parts s)
 parts_at_first s small = record {
   pools = record {
@@ -110,6 +116,7 @@ parts_at_first s small = record {
   line = line_at_first s;
   widths = widths_at_first s;
   owing = sym (nothing_owed s);
+  live = none_open;
 }
 
 pub book_at_first : (s : Layout) (room capacity : ℕ) → is_layout s ≡ true → room ≤ 1010000 → room ≤ capacity → IsBook s room [] capacity (first_parts s)
@@ -128,5 +135,5 @@ book_at_first s room capacity inside few reserved = record {
 pub book_made : (s : Layout) (room capacity : ℕ) (pools : List Lineup) (books : List FlushBook) (barriers : BarrierBook) (timers : Rows) (serials : List ℕ) (flights : List Flight) (held : Held) (line : Lined) (most : List ℕ) → is_layout s ≡ true → room ≤ 1010000 → room ≤ capacity →
     pools ≡ replicate (2 * s.cpus) (new_lineup s.items s.workers) → books ≡ replicate (length s.queues) (new_book s.callers) → barriers ≡ new_barriers s.items s.callers → timers ≡ replicate s.items None → serials ≡ replicate 128 0 →
     flights ≡ new_flights s.items → held ≡ new_held s.callers s.items (length s.queues) → line ≡ new_lined (length s.queues) (2 * s.items) → most ≡ first_most s.queues →
-    IsBook s room [] capacity (record { pools = pools; books = books; barriers = barriers; timers = timers; time = 0; serials = serials; flights = flights; held = held; line = line; most = most; frozen = false; owing = 0 })
+    IsBook s room [] capacity (record { pools = pools; books = books; barriers = barriers; timers = timers; time = 0; serials = serials; flights = flights; held = held; line = line; most = most; frozen = false; owing = 0; live = 0 })
 book_made s room capacity pools books barriers timers serials flights held line most inside few reserved p b r t n g h l m = rw (p, b, r, t, n, g, h, l, m) (book_at_first s room capacity inside few reserved)

@@ -7,14 +7,14 @@ use Rattle.cmwq_model.specs.declared.verdict.Wanted.{Wanted}
 use Rattle.cmwq_model.specs.Layout.{Layout}
 use Rattle.cmwq_model.specs.Legal.{IsLegal, past_of, entry_for}
 use Rattle.cmwq_model.specs.Verdict.{AllFit, Wants, IsFirstWrong}
-use Rattle.cmwq_core.specs.Book.{Kept, and_entry}
+use Rattle.cmwq_core.specs.History.{History, with_entry}
 
 -- the book beside the entries, when so many are judged
-abbrev pub book_at : Layout → List Entry → ℕ → Kept
+abbrev pub book_at : Layout → List Entry → ℕ → History
 book_at s entries k = record { layout = s; room = length entries + 10000; entries = take k entries }
 
 -- so many entries are judged: they are a legal history, and the book holds them
-pub record AreJudged (s : Layout) (entries : List Entry) (k : ℕ) (b : Kept) : Type 0 where
+pub record AreJudged (s : Layout) (entries : List Entry) (k : ℕ) (b : History) : Type 0 where
   pub legal : IsLegal s (past_of (take k entries))
   pub book : b ≡ book_at s entries k
 
@@ -32,8 +32,8 @@ module _ (s : Layout) (entries : List Entry) (k : ℕ) (d : Entry) where
   unfolding IsLegal
   legal_more h fit legal right = subst (IsLegal s) (sym (past_more h)) (fit k d h, right, legal)
 
-  pub book_more : k < length entries → and_entry (book_at s entries k) (get_or entries k d) ≡ book_at s entries (k + 1)
-  book_more h = ap (λ (es : List Entry). let b : Kept = record { layout = s; room = length entries + 10000; entries = es } in b) (sym (take_more entries k d h))
+  pub book_more : k < length entries → with_entry (book_at s entries k) (get_or entries k d) ≡ book_at s entries (k + 1)
+  book_more h = ap (λ (es : List Entry). let b : History = record { layout = s; room = length entries + 10000; entries = es } in b) (sym (take_more entries k d h))
 
   -- an entry after a legal history that isn't right is the first that is wrong
   pub first_wrong : (w : Wanted) → k < length entries → IsLegal s (past_of (take k entries)) → Wants s (past_of (take k entries)) (get_or entries k d) w

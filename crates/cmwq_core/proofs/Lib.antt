@@ -14,3 +14,5 @@ pub mod Appended
 mod Ends
 mod OwedBound
 mod Judging
+mod Relied
+mod Marked

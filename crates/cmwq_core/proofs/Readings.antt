@@ -52,7 +52,7 @@ use Rattle.cmwq_ties.proofs.Members.{In, contained_in, found, filter_in}
 use Rattle.cmwq_ties.proofs.PlacesFit.{open_there}
 use Rattle.cmwq_core.specs.Flights.{run_open}
 
-some_mapped : {X Y : Type 0} (f : X → Y) (o : Option X) → is_some (option_map f o) ≡ is_some o
+pub some_mapped : {X Y : Type 0} (f : X → Y) (o : Option X) → is_some (option_map f o) ≡ is_some o
 some_mapped f None = refl
 some_mapped f (Some x) = refl
 
@@ -109,7 +109,7 @@ either_any None None = refl
 either_any None (Some n) = refl
 either_any (Some m) b = refl
 
-run_some : (s : Layout) (past : List Entry) (i : ℕ) → IsLegal s past → is_some (run_open past i) ≡ is_some (option_map (λ (t : Start). t.number) (item_run past i))
+pub run_some : (s : Layout) (past : List Entry) (i : ℕ) → IsLegal s past → is_some (run_open past i) ≡ is_some (option_map (λ (t : Start). t.number) (item_run past i))
 run_some s past i legal = by (item_run past i) refl
   where
     by : (o : Option Start) → item_run past i ≡ o → is_some (option_and_then (λ (t : Start). queueing_at past t.number) o) ≡ is_some (option_map (λ (t : Start). t.number) o)

@@ -196,6 +196,7 @@ pub record Told (s : Layout) (past : List Entry) (f : Effect) (old new : Parts) 
   pub widths : TellWidth f.entry.call f.entry.reply old.most new.most
   pub frozen : new.frozen ≡ frozen_after f.entry.reply old.frozen
   pub owing : new.owing ≡ f.owing
+  pub live : new.live ≡ f.live
 
 pub line_told : (s : Layout) (past : List Entry) (f : Effect) (l new : Lined) (wide : ℕ → ℕ) → IsEffect s past f → IsSmall s → IsLegal s past → IsLineOf s past l →
     ArePassed s past f.entry (lines.told_opened f.opened (lines.told_ended f.ended l)) new wide → IsLineOf s (f.entry ∷ past) new × (new.promoted ≡ newly_active s past f.entry)
@@ -220,11 +221,12 @@ told_parts s past f old new is small there before are told =
       line = line.0;
       widths = subst (AreWidths s (f.entry ∷ past) new.most) (sym told.frozen) (told_widths s past f.entry old.most new.most old.frozen are.widths told.widths);
       owing = told.owing ∙ is.owing;
+      live = told.live ∙ is.live;
     }
 
 -- ---- and each may be told
 
-open_there : (s : Layout) (past : List Entry) (f : Effect) (x : Queueing) → IsEffect s past f → IsLegal s past → f.ended ≡ Some x → places.IsThere s x
+pub open_there : (s : Layout) (past : List Entry) (f : Effect) (x : Queueing) → IsEffect s past f → IsLegal s past → f.ended ≡ Some x → places.IsThere s x
 open_there s past f x is before h = open_are_there s past x before (in_contained (still_open past) x (found (is_ended past f.entry) (still_open past) x (sym is.ended ∙ h)).0)
 
 pub may_cancel : (s : Layout) (past : List Entry) (f : Effect) (old : List Lineup) → IsEffect s past f → IsLegal s past → length old ≡ 2 * s.cpus → MayTellCancelled f.ended s.queues old

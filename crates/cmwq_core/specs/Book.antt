@@ -1,4 +1,4 @@
--- A book's value, and what its parts are of the past.
+-- What a book's parts are of the past.
 use Rattle.std.specs.Prelude.{◌≡◌, ℕ, ◌<◌, ◌+◌, ◌*◌, ◌^◌, ◌≤◌, true, Bool, List, [], ◌∷◌, ◌++◌, length, nat_le}
 use Rattle.cmwq_model.specs.declared.id.Who.{Who}
 use Rattle.cmwq_model.specs.declared.call.Call.{Call}
@@ -6,8 +6,9 @@ use Rattle.cmwq_model.specs.declared.call.Call.TheVariants as call
 use Rattle.cmwq_model.specs.declared.entry.Entry.{Entry}
 use Rattle.cmwq_model.specs.Layout.{Layout, is_layout}
 use Rattle.cmwq_model.specs.Calls.{now}
-use Rattle.cmwq_model.specs.Legal.{IsLegal, past_of, entry_for}
-use Rattle.cmwq_model.specs.Room.{owed, needed}
+use Rattle.cmwq_model.specs.Queueings.{still_open}
+use Rattle.cmwq_model.specs.Legal.{IsLegal, past_of}
+use Rattle.cmwq_model.specs.Room.{owed}
 use Rattle.cmwq_pool.specs.Lineup.{Lineup}
 use Rattle.cmwq_flush.specs.FlushBook.{FlushBook}
 use Rattle.cmwq_flush.specs.BarrierBook.{BarrierBook}
@@ -23,12 +24,6 @@ use Rattle.cmwq_core.specs.Lines.{IsLineOf}
 use Rattle.cmwq_core.specs.Widths.{AreWidths}
 use Rattle.cmwq_core.specs.Tables.{ArePools, AreBooks, AreSerials}
 
--- what callers of a book see
-pub record Kept : Type 0 where
-  pub layout : Layout
-  pub room : ℕ
-  pub entries : List Entry
-
 -- the parts, as plain values
 pub record Parts : Type 0 where
   pub pools : List Lineup
@@ -43,6 +38,7 @@ pub record Parts : Type 0 where
   pub most : List ℕ
   pub frozen : Bool
   pub owing : ℕ
+  pub live : ℕ
 
 -- what each part is of the past
 pub record AreParts (s : Layout) (past : List Entry) (parts : Parts) : Type 0 where
@@ -57,6 +53,7 @@ pub record AreParts (s : Layout) (past : List Entry) (parts : Parts) : Type 0 wh
   pub line : IsLineOf s past parts.line
   pub widths : AreWidths s past parts.most parts.frozen
   pub owing : parts.owing ≡ owed s past
+  pub live : parts.live ≡ length (still_open past)
 
 pub record IsBook (s : Layout) (room : ℕ) (entries : List Entry) (capacity : ℕ) (parts : Parts) : Type 0 where
   pub inside : is_layout s ≡ true
@@ -66,16 +63,6 @@ pub record IsBook (s : Layout) (room : ℕ) (entries : List Entry) (capacity : �
   pub parts_are : AreParts s (past_of entries) parts
   pub within : length entries + parts.owing ≤ room
   pub soon : parts.time ≤ length entries * 2 ^ 32
-
--- the entry of a call, and whether there is room for it
-abbrev pub next_entry : Kept → Who → Call → Entry
-next_entry b who c = entry_for b.layout (past_of b.entries) who c
-
-abbrev pub has_room_in : Kept → Who → Call → Bool
-has_room_in b who c = nat_le (needed b.layout (next_entry b who c ∷ past_of b.entries)) b.room
-
-abbrev pub and_entry : Kept → Entry → Kept
-and_entry b e = record b { entries = b.entries ++ e ∷ [] }
 
 -- the numbers of the call are inside the layout
 abbrev pub IsCallInside : Layout → Call → Type 0

@@ -15,7 +15,7 @@ use Rattle.cmwq_model.specs.declared.entry.Entry.{Entry}
 use Rattle.cmwq_model.specs.Layout.{Layout}
 use Rattle.cmwq_model.specs.Calls.{item_of}
 use Rattle.cmwq_model.specs.Bookings.{settles, booking_of}
-use Rattle.cmwq_model.specs.Queueings.{opening}
+use Rattle.cmwq_model.specs.Queueings.{opening, still_open}
 use Rattle.cmwq_model.specs.Legal.{IsLegal}
 use Rattle.cmwq_model.specs.Room.{owed}
 use Rattle.cmwq_steps.specs.Endings.{ending}
@@ -41,6 +41,7 @@ pub record IsEffect (s : Layout) (past : List Entry) (f : Effect) : Type 0 where
   pub settled : item_number f.settled ≡ settled_by f.entry
   pub booked : f.booked ≡ booking_of f.entry (length past)
   pub owing : f.owing ≡ owed s (f.entry ∷ past)
+  pub live : f.live ≡ length (still_open (f.entry ∷ past))
 
 -- of what the caller runs and the item's unstarted queueing, the one that the reply ends
 abbrev pub ended_from : Reply → Option Queueing → Option Queueing → Option Queueing

@@ -3,5 +3,7 @@ pub mod Flights
 pub mod Holdings
 pub mod Lines
 pub mod Widths
+pub mod History
+pub mod Relied
 pub mod Book
 pub mod Effects

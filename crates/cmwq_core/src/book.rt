@@ -1,4 +1,4 @@
-ghost use Rattle.std.specs.Prelude.{◌≡◌, ◌<◌, ◌≤◌, ◌+◌, ◌∷◌, ◌&&◌, ◌^◌, [], true, length, nat_le, is_ok, Ok, Err, IfOk, OnErr, IsTrue, option_map};
+ghost use Rattle.std.specs.Prelude.{◌≡◌, ◌<◌, ◌≤◌, ◌+◌, ◌∷◌, ◌&&◌, ◌^◌, [], true, length, count_by, nat_le, is_ok, IfOk, OnErr, IsTrue, option_map};
 ghost use Rattle.cmwq_model.specs.declared.id.Who.TheVariants.{Worker};
 ghost use Rattle.cmwq_model.specs.Layout.{fits, is_layout, layout_of};
 ghost use Rattle.cmwq_model.specs.Calls as calls;
@@ -7,19 +7,26 @@ ghost use Rattle.cmwq_model.specs.Workers as workers;
 ghost use Rattle.cmwq_model.specs.Answer.{answer, own_answer, worker_answer, retire_answer, take_answer, start_of, finish_answer};
 ghost use Rattle.cmwq_model.specs.Active as active;
 ghost use Rattle.cmwq_ties.specs.Told.{number_of_queueing};
+ghost use Rattle.cmwq_model.specs.Legal as legal;
 ghost use Rattle.cmwq_model.specs.Legal.{past_of, IsLegal};
+ghost use Rattle.cmwq_model.specs.Queueings.{still_open};
+ghost use Rattle.cmwq_model.specs.Active.{is_active};
 ghost use Rattle.cmwq_ties.specs.Pools.{IsSeatOf, pool_of, run_task};
 ghost use Rattle.cmwq_core.specs.Tables as tables;
 ghost use Rattle.cmwq_core.specs.Effects.{IsEffect};
-ghost use Rattle.cmwq_core.specs.Book as kept;
+ghost use Rattle.cmwq_core.specs.Book.{IsCallInside};
+ghost use Rattle.cmwq_core.specs.History.{past_in, next_entry, takes, with_entry, IsMark, is_ready};
+ghost use Rattle.cmwq_core.specs.Relied.{IsReliable};
 
 mod answers;
 mod effects;
 mod ends;
 mod fire;
+mod marks;
 mod reads;
 
 use self::effects::{booked_by, settled_by, ticket_in};
+use self::marks::bits_of;
 use crate::effect::Effect;
 use crate::new::{new_books, new_most, new_pools, new_serials};
 use crate::tables::{
@@ -29,7 +36,8 @@ use crate::tables::{
 };
 use cmwq_flush::{Barriers, Flushes};
 use cmwq_model::{
-    Call, Counts, Entry, NoMemory, Number, PoolId, QueueShape, Reply, Shape, Who, WorkerId,
+    Call, Counts, Entry, ItemId, Mark, NoMemory, Number, PoolId, QueueShape, Reply, Shape, Who,
+    WorkerId,
 };
 use cmwq_parts::{Flights, Line, Tickets};
 use cmwq_pool::{Pool, Seat};
@@ -60,19 +68,21 @@ pub struct Book {
     most: Vec<u32>,
     frozen: bool,
     owing: u32,
+    live: u32,
 }
 
 impl Model for Book {
     ghost use Rattle.std.specs.Vec.{vec_capacity};
     ghost use Rattle.cmwq_model.specs.Layout.{layout_of};
-    ghost use Rattle.cmwq_core.specs.Book.{Kept, IsBook};
+    ghost use Rattle.cmwq_core.specs.History.{History};
+    ghost use Rattle.cmwq_core.specs.Book.{IsBook};
 
-    ghost Value = { Kept };
+    ghost Value = { History };
 
     ghost view = { λ b. record { layout = layout_of b.counts b.queues.items; room = b.room; entries = b.entries.items } };
 
     ghost invariant = { λ b. IsBook (layout_of b.counts b.queues.items) b.room b.entries.items (vec_capacity b.entries)
-        (record { pools = b.pools.items; books = b.books.items; barriers = b.barriers; timers = b.timers; time = b.time; serials = b.serials.items; flights = b.flights; held = b.tickets; line = b.line; most = b.most.items; frozen = b.frozen; owing = b.owing }) };
+        (record { pools = b.pools.items; books = b.books.items; barriers = b.barriers; timers = b.timers; time = b.time; serials = b.serials.items; flights = b.flights; held = b.tickets; line = b.line; most = b.most.items; frozen = b.frozen; owing = b.owing; live = b.live }) };
 }
 
 fn ticks_of(call: Call) -> u32
@@ -86,7 +96,7 @@ fn ticks_of(call: Call) -> u32
 }
 
 impl Book {
-    /// A book with no entries, for a room of at most 1,010,000. No later call takes memory; the error says that it ran out.
+    /// A book with no entries. No later call takes memory; the error says that it ran out.
     pub fn new(alloc: Global, shape: &Shape, room: u32) -> Result<Book, NoMemory>
         requires { room ≤ 1010000 }
         ensures { IfOk result (λ book. book ≡ record { layout = shape.now; room = room; entries = [] }) }
@@ -132,20 +142,24 @@ impl Book {
             most,
             frozen: false,
             owing: 0,
+            live: 0,
         })
     }
 
-    /// All entries, the oldest first.
-    pub fn history(&self) -> &[Entry]
-        ensures { result.now ≡ self.now.entries }
+    /// How many entries there are.
+    pub fn len(&self) -> u32
+        ensures len { result ≡ length self.now.entries }
+        ensures within { length self.now.entries ≤ self.now.room }
+        ensures few { self.now.room ≤ 1010000 }
+        ensures legal { IsLegal self.now.layout (past_in self.now) }
     {
-        &self.entries
+        self.entries.len() as u32
     }
 
-    /// The serial of the next entry of a caller or a worker.
+    /// The serial of the next entry of this caller or worker: how many entries it has.
     pub fn serial(&self, who: Who) -> u32
         requires { tables.IsThere self.now.layout who }
-        ensures { result ≡ calls.serial_of (past_of self.now.entries) who }
+        ensures { result ≡ calls.serial_of (past_in self.now) who }
     {
         self.next_serial(who)
     }
@@ -347,7 +361,7 @@ impl Book {
     #[tactic(auto, unfolding(cmwq_model::specs::Answer::answer))]
     fn answer(&self, who: Who, call: Call) -> Reply
         requires there { tables.IsThere self.now.layout who }
-        requires inside { kept.IsCallInside self.now.layout call }
+        requires inside { IsCallInside self.now.layout call }
         ensures { result ≡ answer self.now.layout (past_of self.now.entries) who call }
     {
         match call {
@@ -400,7 +414,7 @@ impl Book {
     /// The entry of the call.
     fn next_entry(&self, who: Who, call: Call) -> Entry
         requires fit { fits self.now.layout who call ≡ true }
-        ensures entry { result ≡ kept.next_entry self.now who call }
+        ensures entry { result ≡ next_entry self.now who call }
         ensures legal { IsLegal self.now.layout (result ∷ past_of self.now.entries) }
     {
         let serial = self.next_serial(who);
@@ -425,6 +439,7 @@ impl Book {
         let opened = self.opened_by(entry);
         let booked = booked_by(entry, number);
         let owing = self.owed_with(entry, ended, opened, booked);
+        let live = self.live_with(entry, ended, opened);
         Effect {
             entry,
             ended,
@@ -435,13 +450,14 @@ impl Book {
             settled: settled_by(entry),
             booked,
             owing,
+            live,
         }
     }
 
     /// What the entry of the call does.
     pub(crate) fn effect(&self, who: Who, call: Call) -> Effect
         requires fit { fits self.now.layout who call ≡ true }
-        ensures entry { result.entry ≡ kept.next_entry self.now who call }
+        ensures entry { result.entry ≡ next_entry self.now who call }
         ensures is { IsEffect self.now.layout (past_of self.now.entries) result }
     {
         self.effect_of(self.next_entry(who, call))
@@ -454,15 +470,18 @@ impl Book {
         self.entries.len() as u64 + 1 + u64::from(owing) <= u64::from(self.room)
     }
 
-    /// The entry that the step would append.
-    pub fn would(&self, who: Who, call: Call) -> Result<Entry, Full>
-        requires fit { fits self.now.layout who call ≡ true }
-        ensures entry { IfOk result (λ e. e ≡ kept.next_entry self.now who call) }
-        ensures room { is_ok result ≡ kept.has_room_in self.now who call }
+    /// What a step of this call would append, with the bits of the item that it can change.
+    ///
+    /// # Errors
+    /// `Full` where there is no room for the entry and for what would be owed then, exactly as at `step`.
+    pub fn would(&self, who: Who, call: Call) -> Result<Mark, Full>
+        requires { IsTrue (fits self.now.layout who call) }
+        ensures room { is_ok result ≡ takes self.now who call }
+        ensures mark { IfOk result (λ mark. IsMark self.now who call mark) }
     {
         let effect = self.effect(who, call);
         if self.has_room(effect.owing) {
-            Ok(effect.entry)
+            Ok(self.mark(effect))
         } else {
             Err(Full)
         }
@@ -472,7 +491,7 @@ impl Book {
     pub(crate) fn append(&mut self, effect: Effect)
         requires is { IsEffect self.old.layout (past_of self.old.entries) effect }
         requires room { length self.old.entries + 1 + effect.owing ≤ self.old.room }
-        ensures { self.new ≡ kept.and_entry self.old effect.entry }
+        ensures { self.new ≡ with_entry self.old effect.entry }
     {
         let entry = effect.entry;
         tell_worker(&mut self.pools, entry.who, entry.reply);
@@ -501,16 +520,20 @@ impl Book {
         self.time += u64::from(ticks_of(entry.call));
         self.serials[who_place(entry.who)] = entry.serial + 1;
         self.owing = effect.owing;
+        self.live = effect.live;
         self.entries.push_reserved(entry);
     }
 
-    /// One event: its entry is appended where there is room for it and for what is owed then.
+    /// Makes the call: one entry more, with the one answer.
+    ///
+    /// # Errors
+    /// `Full` where there is no room for the entry and for what would be owed then. The book is then the old one.
     pub fn step(&mut self, who: Who, call: Call) -> Result<Reply, Full>
-        requires fit { fits self.old.layout who call ≡ true }
-        ensures room { is_ok result ≡ kept.has_room_in self.old who call }
-        ensures answered { IfOk result (λ reply. reply ≡ answer self.old.layout (past_of self.old.entries) who call) }
-        ensures appended { IfOk result (λ _. self.new ≡ kept.and_entry self.old (kept.next_entry self.old who call)) }
-        ensures unchanged { OnErr result (self.new ≡ self.old) }
+        requires { IsTrue (fits self.old.layout who call) }
+        ensures room { is_ok result ≡ takes self.old who call }
+        ensures reply { IfOk result (λ reply. reply ≡ (next_entry self.old who call).reply) }
+        ensures entry { IfOk result (λ _. self.new ≡ with_entry self.old (next_entry self.old who call)) }
+        ensures full { OnErr result (self.new ≡ self.old) }
     {
         let effect = self.effect(who, call);
         if self.has_room(effect.owing) {
@@ -519,5 +542,53 @@ impl Book {
         } else {
             Err(Full)
         }
+    }
+
+    /// Whether the ticket with this number stands and waits for nothing, so that its end would be answered done. False of any
+    /// other number.
+    pub fn ready(&self, ticket: Number) -> bool
+        ensures { result ≡ is_ready (past_in self.now) ticket }
+    {
+        match self.ticket(ticket) {
+            None => false,
+            Some(ticket) => self.waits_for(ticket).is_none(),
+        }
+    }
+
+    /// The bits of an item (`work_busy`): 1 if it is pending, plus 2 if it runs.
+    pub fn bits(&self, item: ItemId) -> u8
+        requires { item.0 < self.now.layout.items }
+        ensures { result ≡ legal.bits (past_in self.now) item.0 }
+    {
+        bits_of(self.is_pending(item), self.is_running(item))
+    }
+
+    /// How many queueings are open.
+    pub fn open_count(&self) -> u32
+        ensures { result ≡ length (still_open (past_in self.now)) }
+    {
+        self.live
+    }
+
+    /// How many of them are active.
+    pub fn active_count(&self) -> u32
+        ensures { result ≡ count_by (is_active self.now.layout (past_in self.now)) (still_open (past_in self.now)) }
+    {
+        self.live - self.line.len() as u32
+    }
+
+    /// The entries, the oldest first. What a user relies on holds of them.
+    pub fn history(&self) -> &[Entry]
+        ensures entries { result.now ≡ self.now.entries }
+        ensures reliable { IsReliable self.now.layout (past_in self.now) }
+    {
+        &self.entries
+    }
+
+    /// The entries, the oldest first.
+    pub fn into_history(self) -> Vec<Entry>
+        ensures { result.items ≡ self.entries }
+    {
+        self.entries
     }
 }

@@ -16,4 +16,6 @@ pub(crate) struct Effect {
     pub booked: Option<Booking>,
     /// What is owed after it.
     pub owing: u32,
+    /// How many queueings are open after it.
+    pub live: u32,
 }

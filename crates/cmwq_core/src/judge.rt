@@ -4,7 +4,7 @@ ghost use Rattle.std.specs.Prelude.{◌≡◌, ◌≤◌, ◌+◌, true, length,
 ghost use Rattle.cmwq_model.specs.Layout.{fits, is_layout};
 ghost use Rattle.cmwq_model.specs.Legal.{IsLegal, past_of};
 ghost use Rattle.cmwq_model.specs.Verdict.{AllFit, Wants, IsFirstWrong};
-ghost use Rattle.cmwq_core.specs.Book as kept;
+ghost use Rattle.cmwq_core.specs.History.{next_entry, with_entry};
 
 use crate::book::Book;
 use cmwq_model::{Entry, Illegal, NoMemory, Shape, Wanted};
@@ -50,8 +50,8 @@ fn judged(book: &mut Book, entry: Entry) -> Option<Wanted>
     requires fit { fits book.old.layout entry.who entry.call ≡ true }
     requires inside { IsTrue (is_layout book.old.layout) }
     requires room { length book.old.entries + 10001 ≤ book.old.room }
-    ensures right { result ≡ None → entry ≡ kept.next_entry book.old entry.who entry.call }
-    ensures appended { result ≡ None → book.new ≡ kept.and_entry book.old entry }
+    ensures right { result ≡ None → entry ≡ next_entry book.old entry.who entry.call }
+    ensures appended { result ≡ None → book.new ≡ with_entry book.old entry }
     ensures wrong { IfSome result (Wants book.old.layout (past_of book.old.entries) entry) }
 {
     let effect = book.effect(entry.who, entry.call);

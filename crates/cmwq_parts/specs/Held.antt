@@ -19,6 +19,9 @@ new_held callers items queues = record { unended = []; callers = replicate calle
 abbrev pub is_gone_at : List Bool → ℕ → Bool
 is_gone_at gone q = slice_index_or gone q false
 
+abbrev pub is_with_number : ℕ → Ticket → Bool
+is_with_number n t = t.number == n
+
 abbrev pub is_other_ticket : ℕ → Ticket → Bool
 is_other_ticket n t = not (t.number == n)
 

@@ -39,6 +39,38 @@ fn without_number(queueing: Option<Queueing>, number: Number) -> Option<Queueing
     }
 }
 
+impl Flight {
+    /// This queueing no more, whether it runs or hasn't started.
+    pub fn ended(self, queueing: Queueing) -> Flight
+        ensures { result ≡ flight_ended queueing self }
+    {
+        Flight {
+            run: without_number(self.run, queueing.number),
+            unstarted: without_number(self.unstarted, queueing.number),
+        }
+    }
+
+    /// The one that hasn't started, this, runs.
+    pub fn started(self, queueing: Queueing) -> Flight
+        ensures { result ≡ flight_started queueing self }
+    {
+        Flight {
+            run: Some(queueing),
+            unstarted: None,
+        }
+    }
+
+    /// With this one that hasn't started.
+    pub fn opened(self, queueing: Queueing) -> Flight
+        ensures { result ≡ flight_opened queueing self }
+    {
+        Flight {
+            run: self.run,
+            unstarted: Some(queueing),
+        }
+    }
+}
+
 impl Flights {
     /// Nothing is open of so many items. The error says that memory ran out.
     pub fn new(alloc: Global, items: u16) -> Result<Flights, NoMemory>
@@ -66,11 +98,8 @@ impl Flights {
         requires { queueing.item.0 < length self.old }
         ensures { OneFlight (flight_ended queueing) queueing.item.0 self.old self.new }
     {
-        let row = self.flight(queueing.item);
-        self.rows[usize::from(queueing.item.0)] = Flight {
-            run: without_number(row.run, queueing.number),
-            unstarted: without_number(row.unstarted, queueing.number),
-        };
+        let row = usize::from(queueing.item.0);
+        self.rows[row] = self.rows[row].ended(queueing);
     }
 
     /// The queueing that hasn't started does.
@@ -78,10 +107,8 @@ impl Flights {
         requires { queueing.item.0 < length self.old }
         ensures { OneFlight (flight_started queueing) queueing.item.0 self.old self.new }
     {
-        self.rows[usize::from(queueing.item.0)] = Flight {
-            run: Some(queueing),
-            unstarted: None,
-        };
+        let row = usize::from(queueing.item.0);
+        self.rows[row] = self.rows[row].started(queueing);
     }
 
     /// A queueing is opened.
@@ -89,6 +116,7 @@ impl Flights {
         requires { queueing.item.0 < length self.old }
         ensures { OneFlight (flight_opened queueing) queueing.item.0 self.old self.new }
     {
-        self.rows[usize::from(queueing.item.0)].unstarted = Some(queueing);
+        let row = usize::from(queueing.item.0);
+        self.rows[row] = self.rows[row].opened(queueing);
     }
 }

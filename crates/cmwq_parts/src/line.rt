@@ -97,6 +97,13 @@ impl Line {
         self.spare.clear();
     }
 
+    /// How many wait.
+    pub fn len(&self) -> usize
+        ensures { result ≡ length self.now.waiting }
+    {
+        self.waiting.len()
+    }
+
     /// What the last pass made active.
     pub fn promoted(&self) -> &[Queueing]
         ensures { result.now ≡ self.now.promoted }

@@ -2,7 +2,7 @@ ghost use Rattle.std.specs.Prelude.{◌≡◌, ◌^◌, ◌<◌, ◌&&◌, filte
 ghost use Rattle.std.specs.Prelude.{ℕ, ◌*◌};
 ghost use Rattle.cmwq_model.specs.Tickets.{is_ticket};
 ghost use Rattle.cmwq_model.specs.declared.id.Who.TheVariants.{Caller};
-ghost use Rattle.cmwq_parts.specs.Held.{BeginsTicket, CountsLess, CountsMore, EndsTicket, MayBeginTicket, MayEndTicket, is_gone_at, is_other_ticket, new_held};
+ghost use Rattle.cmwq_parts.specs.Held.{BeginsTicket, CountsLess, CountsMore, EndsTicket, MayBeginTicket, MayEndTicket, is_gone_at, is_other_ticket, is_with_number, new_held};
 
 use cmwq_model::{Call, CallerId, ItemId, NoMemory, Number, QueueId, Ticket};
 use std::alloc::Global;
@@ -60,6 +60,12 @@ fn find_ticket(unended: &[Ticket], caller: CallerId, number: Number) -> Option<T
     unended.iter().copied().find(|ticket| ticket.number == number && ticket.caller.0 == caller.0)
 }
 
+fn find_number(unended: &[Ticket], number: Number) -> Option<Ticket>
+    ensures { result ≡ find (is_with_number number) unended.now }
+{
+    unended.iter().copied().find(|ticket| ticket.number == number)
+}
+
 impl Tickets {
     /// No tickets, for so many callers, items and queues. The error says that memory ran out.
     pub fn new(alloc: Global, callers: u8, items: u16, queues: usize) -> Result<Tickets, NoMemory>
@@ -113,6 +119,13 @@ impl Tickets {
         ensures { result ≡ find (is_ticket (Caller caller) number) self.now.unended }
     {
         find_ticket(&self.unended, caller, number)
+    }
+
+    /// The ticket with this number.
+    pub fn with_number(&self, number: Number) -> Option<Ticket>
+        ensures { result ≡ find (is_with_number number) self.now.unended }
+    {
+        find_number(&self.unended, number)
     }
 
     /// A ticket is given.

@@ -6,7 +6,7 @@ ghost use Rattle.cmwq_model.specs.Room.{owed};
 ghost use Rattle.cmwq_model.specs.Bookings.{booked_by, booking_of, is_booked, settles};
 ghost use Rattle.cmwq_model.specs.Calls.{item_of};
 ghost use Rattle.cmwq_model.specs.Legal.{IsLegal, past_of};
-ghost use Rattle.cmwq_model.specs.Queueings.{opening, opens, place_called, place_wanted, queued_at, unstarted};
+ghost use Rattle.cmwq_model.specs.Queueings.{opening, opens, place_called, place_wanted, queued_at, still_open, unstarted};
 ghost use Rattle.cmwq_model.specs.Tickets.{gives_ticket, ticket_in};
 ghost use Rattle.cmwq_steps.specs.Endings.{ending};
 ghost use Rattle.cmwq_steps.specs.Histories.{one};
@@ -369,6 +369,21 @@ impl Book {
             Call::End { ticket } => self.ticket_of(who, ticket),
             _ => None,
         }
+    }
+
+    /// How many queueings are open after an entry that ends and opens this.
+    pub(crate) fn live_with(
+        &self,
+        entry: Entry,
+        ended: Option<Queueing>,
+        opened: Option<Queueing>,
+    ) -> u32
+        requires legal { IsLegal self.now.layout (entry ∷ past_of self.now.entries) }
+        requires ended { ended ≡ ending (past_of self.now.entries) entry }
+        requires opened { opened ≡ opening (past_of self.now.entries) entry }
+        ensures { result ≡ length (still_open (entry ∷ past_of self.now.entries)) }
+    {
+        self.live + one(opened.is_some()) - one(ended.is_some())
     }
 
     /// What is owed after an entry that ends, opens and books this.

@@ -1,6 +1,6 @@
 //! What a book reads off its parts, in the words of the definitions.
 
-ghost use Rattle.std.specs.Prelude.{◌≡◌, ◌<◌, length};
+ghost use Rattle.std.specs.Prelude.{◌≡◌, ◌<◌, find, length};
 ghost use Rattle.cmwq_model.specs.declared.id.Who.TheVariants.{Worker};
 ghost use Rattle.cmwq_model.specs.Bookings as bookings;
 ghost use Rattle.cmwq_model.specs.Legal.{IsLegal, past_of};
@@ -13,6 +13,7 @@ ghost use Rattle.std.specs.List.{list_any};
 ghost use Rattle.cmwq_steps.specs.ItemQueueings.{queueing_run};
 ghost use Rattle.cmwq_ties.specs.Timers.{row_of};
 ghost use Rattle.cmwq_core.specs.Flights.{flight_of};
+ghost use Rattle.cmwq_core.specs.History.{has_number};
 ghost use Rattle.cmwq_core.specs.Tables as tables;
 
 use crate::book::Book;
@@ -85,6 +86,13 @@ impl Book {
         flight.run.is_some() || flight.unstarted.is_some()
     }
 
+    pub(crate) fn is_running(&self, item: ItemId) -> bool
+        requires { item.0 < self.now.layout.items }
+        ensures { result ≡ runs.item_runs (past_of self.now.entries) item.0 }
+    {
+        self.flight(item).run.is_some()
+    }
+
     /// What a worker runs.
     pub(crate) fn queueing_run(&self, worker: WorkerId) -> Option<Queueing>
         requires { tables.IsThere self.now.layout (Worker worker) }
@@ -134,6 +142,14 @@ impl Book {
             Who::Caller(caller) => self.tickets.find(caller, number),
             Who::Worker(_) => None,
         }
+    }
+
+    /// The unended ticket with this number.
+    pub(crate) fn ticket(&self, number: Number) -> Option<Ticket>
+        ensures is { result ≡ find (has_number number) (waits.unended (past_of self.now.entries)) }
+        ensures legal { IsLegal self.now.layout (past_of self.now.entries) }
+    {
+        self.tickets.with_number(number)
     }
 
     pub(crate) fn is_draining(&self, queue: QueueId) -> bool

@@ -231,4 +231,5 @@ invariant_of-self c =
       widths = c.tell_width.ensures;
       frozen = c.frozen_after-self-inside.ensures;
       owing = refl;
+      live = refl;
     }) few r.room)

@@ -36,4 +36,5 @@ returns-clause-is c =
       settled = c.settled_by.ensures;
       booked = c.booked_by-booked.ensures ∙ ap (booking_of c.args.entry) c.number-number.ensures;
       owing = c.owed_with-owing.ensures;
+      live = c.live_with-live.ensures;
     }

@@ -1,0 +1,55 @@
+-- What callers see of a book: its history with the shape and the room, and what one more call makes of it.
+use Rattle.std.specs.Prelude.{◌≡◌, ℕ, Bool, false, not, ◌==◌, if◌then◌else◌, List, [], ◌∷◌, ◌++◌, find, option_map, is_some}
+use Rattle.std.specs.Option.{option_map_or}
+use Rattle.cmwq_model.specs.declared.id.ItemId.{ItemId}
+use Rattle.cmwq_model.specs.declared.id.Who.{Who}
+use Rattle.cmwq_model.specs.declared.call.Call.{Call}
+use Rattle.cmwq_model.specs.declared.entry.Entry.{Entry}
+use Rattle.cmwq_model.specs.declared.entry.Mark.{Mark}
+use Rattle.cmwq_model.specs.declared.record.Ticket.{Ticket}
+use Rattle.cmwq_model.specs.Layout.{Layout}
+use Rattle.cmwq_model.specs.Calls.{is_at}
+use Rattle.cmwq_model.specs.Tickets.{unended}
+use Rattle.cmwq_model.specs.Waits.{waits_for}
+use Rattle.cmwq_model.specs.Legal.{past_of, entry_for, bits}
+use Rattle.cmwq_model.specs.Room.{has_room}
+
+-- the entries stand with the oldest first
+pub record History : Type 0 where
+  pub layout : Layout
+  pub room : ℕ
+  pub entries : List Entry
+
+abbrev pub past_in : History → List Entry
+past_in h = past_of h.entries
+
+-- the entry that a call gets, whether there is room for it, and the history with it
+abbrev pub next_entry : History → Who → Call → Entry
+next_entry h who call = entry_for h.layout (past_in h) who call
+
+abbrev pub takes : History → Who → Call → Bool
+takes h who call = has_room h.layout h.room (past_in h) who call
+
+abbrev pub with_entry : History → Entry → History
+with_entry h e = record h { entries = h.entries ++ e ∷ [] }
+
+-- A mark says the bits of each item after its entry: of the item that it names those that stand there, of each other item the old ones.
+abbrev pub names : Mark → ℕ → Bool
+names m i = is_at (option_map (λ (item : ItemId). item.0) m.item) i
+
+abbrev pub bits_after : Mark → List Entry → ℕ → ℕ
+bits_after m past i = if names m i then m.bits else bits past i
+
+pub record IsMark (h : History) (who : Who) (call : Call) (m : Mark) : Type 0 where
+  pub is_next : m.entry ≡ next_entry h who call
+  pub bits_are : (i : ℕ) → bits (m.entry ∷ past_in h) i ≡ bits_after m (past_in h) i
+
+-- an unended ticket has this number, and waits for nothing
+abbrev pub has_number : ℕ → Ticket → Bool
+has_number n t = t.number == n
+
+abbrev pub is_done_waiting : List Entry → Ticket → Bool
+is_done_waiting past t = not (is_some (waits_for past t.number t.call))
+
+abbrev pub is_ready : List Entry → ℕ → Bool
+is_ready past n = option_map_or (is_done_waiting past) (find (has_number n) (unended past)) false
