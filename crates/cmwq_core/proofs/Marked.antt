@@ -1,5 +1,5 @@
 -- The bits of an item, and the mark of an entry.
-use Rattle.std.proofs.Common.{◌≡◌, ℕ, ◌+◌, ◌-◌, ◌*◌, ◌^◌, ◌<◌, ◌≤◌, find, ◌==◌, ◌||◌, ◌&&◌, Bool, true, false, List, [], ◌∷◌, length, filter, count_by, arith, Option, Some, None, is_some, refl, sym, ap, ap₂, ◌∙◌, subst}
+use Rattle.std.proofs.Common.{◌≡◌, ℕ, ◌+◌, ◌-◌, ◌*◌, ◌^◌, ◌<◌, ◌≤◌, find, ◌==◌, ◌||◌, ◌&&◌, Bool, true, false,  List, [], ◌∷◌, length, filter, count_by, arith, Option, Some, None, is_some, refl, sym, ap, ap₂, ◌∙◌, subst}
 use Rattle.std.specs.Prelude.{Contains, if◌then◌else◌, option_and_then, option_map}
 use Rattle.std.specs.Option.{option_or}
 use Rattle.std.proofs.lemmas.Bool.{eqb-true, and_parts, leb-true}
