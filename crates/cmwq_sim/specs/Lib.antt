@@ -1,0 +1,5 @@
+pub mod Plan
+pub mod Lines
+pub mod Tables
+pub mod Shows
+pub mod Takers

@@ -1,0 +1,12 @@
+//! Scenarios: what a few items on one CPU do, millisecond by millisecond.
+#![tactic(auto)]
+
+mod scenario;
+mod tables;
+mod takes;
+
+pub use scenario::{Line, LineKind, Scenario, SimItem, SimQueue};
+pub use takes::taker;
+pub use tables::{
+    tables_with_intensive, tables_with_one_active, tables_with_three_active, tables_with_two_active,
+};
