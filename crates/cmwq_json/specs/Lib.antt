@@ -1,1 +1,6 @@
-pub mod Said
+pub mod InTurn
+pub mod Keys
+pub mod Members
+pub mod Names
+pub mod Numbers
+pub mod Parts
