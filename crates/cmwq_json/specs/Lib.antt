@@ -4,3 +4,5 @@ pub mod Members
 pub mod Names
 pub mod Numbers
 pub mod Parts
+pub mod Scenarios
+pub mod Scripts

@@ -1,5 +1,5 @@
 -- Names, and members that each have one of their own.
-use Rattle.std.specs.Prelude.{ℕ, Bool, ◌&&◌, ◌||◌, not, ◌==◌, if◌then◌else◌, List, [], ◌∷◌, ◌++◌, length, position, Option, Some, None, option_and_then, nat_le, nat_lt}
+use Rattle.std.specs.Prelude.{ℕ, Bool, ◌&&◌, ◌||◌, not, ◌==◌, if◌then◌else◌, List, [], ◌∷◌, ◌++◌, length, map, position, Option, Some, None, option_and_then, nat_le, nat_lt}
 use Rattle.std.specs.Str.{bytes_eq}
 use Rattle.std.specs.List.{list_any, list_all}
 use Rattle.serde_json.specs.Data.{Data}
@@ -38,3 +38,6 @@ abbrev pub add_named : {X : Type 0} → ℕ → Named X → List ℕ × X → Op
 add_named most before x =
     if nat_lt (length before.names) most && not (is_taken before.names x.0) then Some (record { names = before.names ++ x.0 ∷ []; values = before.values ++ x.1 ∷ [] })
     else None
+
+abbrev pub map_named : {X Y : Type 0} → (X → Y) → Named X → Named Y
+map_named f m = record { names = m.names; values = map f m.values }

@@ -5,8 +5,10 @@ mod keys;
 mod names;
 mod numbers;
 mod refused;
+mod scenario;
 
 pub use keys::has_keys;
 pub use names::{is_name, number_of, read_name, Members};
 pub use numbers::{read_number, read_width};
 pub use refused::{Part, Refused};
+pub use scenario::{read_scenario, Script};

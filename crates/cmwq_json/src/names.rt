@@ -1,6 +1,6 @@
 //! Names, and members that each have one of their own.
 
-ghost use Rattle.std.specs.Prelude.{◌≡◌, IfOk, None, Some, option_map, map, if◌then◌else◌, string_bytes};
+ghost use Rattle.std.specs.Prelude.{◌≡◌, ◌<◌, length, IfSome, IfOk, None, Some, option_map, map, if◌then◌else◌, string_bytes};
 ghost use Rattle.std.specs.List.{list_all};
 ghost use Rattle.serde_json.specs.View.{view};
 ghost use Rattle.cmwq_json.specs.Names as spec;
@@ -43,7 +43,8 @@ pub fn read_name(value: &Value) -> Option<&str>
 
 /// The number of a name: its place in the order in which names were added.
 pub fn number_of(names: &IndexSet<String>, name: &str) -> Option<usize>
-    ensures { result ≡ spec.number_of (map string_bytes names.now.keys) name.now }
+    ensures number { result ≡ spec.number_of (map string_bytes names.now.keys) name.now }
+    ensures within { IfSome result (λ number. number < length names.now.keys) }
 {
     names.get_index_of(name)
 }

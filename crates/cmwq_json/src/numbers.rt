@@ -1,6 +1,6 @@
 //! Numbers and widths.
 
-ghost use Rattle.std.specs.Prelude.{◌≡◌};
+ghost use Rattle.std.specs.Prelude.{◌≡◌, ◌≤◌, IfSome};
 ghost use Rattle.serde_json.specs.View.{view};
 ghost use Rattle.cmwq_json.specs.Numbers.{number_between, width_said};
 
@@ -8,7 +8,8 @@ use serde_json::Value;
 
 /// A whole number from `low` to `high`.
 pub fn read_number(value: &Value, low: u64, high: u64) -> Option<u64>
-    ensures { result ≡ number_between low high (view value.now) }
+    ensures number { result ≡ number_between low high (view value.now) }
+    ensures range { IfSome result (λ n. (low ≤ n) × (n ≤ high)) }
 {
     let number = value.as_u64()?;
     if (low..=high).contains(&number) {

@@ -1,4 +1,5 @@
 pub mod Plan
+pub mod Limits
 pub mod Lines
 pub mod Tables
 pub mod Shows
