@@ -14,11 +14,11 @@ abbrev pub items_of : Members SimItem → Named Item
 items_of m = map_named item_of (named_of m)
 
 abbrev pub script_of : Script → PlanWithNames
-script_of s = record { plan = plan_of s.scenario; names = map string_bytes s.names.keys }
+script_of s = record { plan = plan_of s.scenario; names = map string_bytes s.names.items }
 
 -- it may be replayed, and each item has a name
 abbrev pub HasLimits : Script → Type 0
-HasLimits s = IsWithinLimits (plan_of s.scenario) × (length s.names.keys ≡ length s.scenario.items.items)
+HasLimits s = IsWithinLimits (plan_of s.scenario) × (length s.names.items ≡ length s.scenario.items.items)
 
 -- what a reader answered, as a plain value
 abbrev pub told : {X Y E : Type 0} → (X → Y) → Result X E → Result Y E

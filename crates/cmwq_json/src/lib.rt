@@ -12,3 +12,6 @@ pub use names::{is_name, number_of, read_name, Members};
 pub use numbers::{read_number, read_width};
 pub use refused::{Part, Refused};
 pub use scenario::{read_scenario, Script};
+
+#[cfg(test)]
+mod tests;

@@ -49,6 +49,13 @@ pub fn number_of(names: &IndexSet<String>, name: &str) -> Option<usize>
     names.get_index_of(name)
 }
 
+/// The names in the order of their numbers.
+pub fn in_order(alloc: Global, names: IndexSet<String>) -> Result<Vec<String>, AllocError>
+    ensures { IfOk result (λ list. list.items ≡ names.keys) }
+{
+    names.into_iter().collect(alloc)
+}
+
 /// Members in the order of their places, and the names that number them.
 #[derive(Drop)]
 pub struct Members<T> {

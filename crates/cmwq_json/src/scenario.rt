@@ -11,7 +11,7 @@ ghost use Rattle.cmwq_json.specs.Scenarios as spec;
 ghost use Rattle.cmwq_json.specs.Scripts.{items_of, script_of, told, HasLimits};
 
 use crate::keys::has_keys;
-use crate::names::{number_of, read_name, Members};
+use crate::names::{in_order, number_of, read_name, Members};
 use crate::numbers::{read_number, read_width};
 use crate::refused::{Part, Refused};
 use cmwq_sim::{Scenario, SimItem, SimQueue};
@@ -23,7 +23,7 @@ use std::alloc::{AllocError, Global};
 #[derive(Drop)]
 pub struct Script {
     pub scenario: Scenario,
-    pub names: IndexSet<String>,
+    pub names: Vec<String>,
 }
 
 /// A queue: an object with a name, a max_active, and whether it is CPU intensive.
@@ -180,12 +180,13 @@ fn read_lists(
         Ok(items) => items,
         Err(index) => return Ok(Err(Refused { part: Part::Items, index })),
     };
+    let names = in_order(alloc, items.names)?;
     Ok(Ok(Script {
         scenario: Scenario {
             queues: queues.values,
             items: items.values,
         },
-        names: items.names,
+        names,
     }))
 }
 

@@ -16,4 +16,4 @@ returns-clause-within_limits c =
     let k = within_limits (named_of c.in-Ok.queues) (items_of c.in-Ok-2.items) 0 0 (items_view c.args.queues.now) (items_view c.args.items.now) (sym c.in_ok-queues.ensures ∙ ap (told named_of) c.in-Ok.is)
         (some_left _ c.in-Ok.queues.values.items c.is_empty.result c.in-Ok.queues.values.ok.0 c.is_empty.ensures c.if-is_empty.false)
         (sym c.in_ok-items.ensures ∙ ap (told items_of) c.in-Ok-2.is) in
-    (k.0, sym (length-map c.in-Ok-2.items.names.keys string_bytes) ∙ k.1 ∙ length-map c.in-Ok-2.items.values.items item_of)
+    (k.0, ap length c.in_ok-names.ensures ∙ sym (length-map c.in-Ok-2.items.names.keys string_bytes) ∙ k.1 ∙ length-map c.in-Ok-2.items.values.items item_of)
