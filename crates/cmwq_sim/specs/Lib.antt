@@ -4,3 +4,4 @@ pub mod Lines
 pub mod Tables
 pub mod Shows
 pub mod Takers
+pub mod Text
