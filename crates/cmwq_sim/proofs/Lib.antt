@@ -6,3 +6,4 @@ pub mod Finish
 pub mod FinishShown
 pub mod WakeShown
 pub mod TakersAre
+pub mod Progress

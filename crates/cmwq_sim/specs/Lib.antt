@@ -1,4 +1,5 @@
 pub mod Plan
+pub mod Ends
 pub mod Limits
 pub mod Lines
 pub mod Tables

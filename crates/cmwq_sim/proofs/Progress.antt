@@ -1,0 +1,321 @@
+-- Each millisecond takes one off what is left to do, until nobody is left.
+use Rattle.std.proofs.Common.{◌≡◌, ◌==◌, ◌<◌, ◌≤◌, ◌+◌, ◌-◌, ℕ, zero, suc, Bool, true, false, cond, not, ◌&&◌, ◌||◌, List, [], ◌∷◌, ◌++◌, length, drop, map, filter, find, count_by, Option, Some, None, nat_lt, refl, sym, ap, ap₂, ◌∙◌, subst, arith, ◌⊎◌, inl, inr, ⊎_elim, add-one, drop-cons}
+use Rattle.std.specs.Prelude.{if◌then◌else◌, slice_index_or, sum, sum_by, fold}
+use Rattle.std.specs.List.{AllByRecursion, list_any, range_with_len}
+use Rattle.std.proofs.lemmas.Bool.{eqb-true, eq-eqb, and_parts, cases_eq}
+use Rattle.std.proofs.lemmas.Bool.Decides.{nat_tests}
+use Rattle.std.proofs.lemmas.List.Sums.{sum_by-cons, sum_by-append, sum_by_push}
+use Rattle.std.proofs.lemmas.Option.{same_Some}
+use Rattle.cmwq_laws.proofs.Lists.{All_map, All_both, All_append, All_filter, All_each, count_by-cons}
+use Rattle.cmwq_sim.specs.declared.scenario.SimQueue.{SimQueue}
+use Rattle.cmwq_sim.specs.declared.scenario.LineKind.TheVariants as kind
+use Rattle.cmwq_sim.specs.Plan.{Plan, Item, Event, queue_of, ms_of, max_active, is_of, time_of, whole_time, no_item, no_queue}
+use Rattle.cmwq_sim.specs.Limits.{IsBetween, IsQueue, IsItem, IsWithinLimits}
+use Rattle.cmwq_sim.specs.Lines.{Moment, Job, Sleeper, is_other, make_ready, end, after_burn, after_sleep, serve_first, serve, is_due, is_not, wake_sleeper, wake_item, wake, is_held_by, job_with, job_of, starting, tell, tell_starts, start_these, start, burn_first, burn, millisecond, queue_item, queued, empty, items_of}
+use Rattle.cmwq_sim.specs.Ends.{NobodyIsLeft, AllItemsEnd}
+use Rattle.cmwq_sim.proofs.Steps.{any-append}
+
+-- ---- lists
+
+all_at : {X : Type 0} (P : X → Type 0) (xs : List X) (i : ℕ) (d : X) → AllByRecursion P xs → i < length xs → P (slice_index_or xs i d)
+all_at P [] i d all less = absurd (omega arith)
+all_at P (x ∷ xs) zero d all less = all.0
+all_at P (x ∷ xs) (suc i) d all less = all_at P xs i d all.1 (omega arith)
+
+all_one : {X : Type 0} (P : X → Type 0) (xs : List X) (x : X) → AllByRecursion P xs → P x → AllByRecursion P (xs ++ x ∷ [])
+all_one P xs x all one = All_append P xs (x ∷ []) all (one, tt)
+
+all_split : {X : Type 0} (P : X → Type 0) (xs ys : List X) → AllByRecursion P (xs ++ ys) → AllByRecursion P xs × AllByRecursion P ys
+all_split P [] ys all = (tt, all)
+all_split P (x ∷ xs) ys all = let k = all_split P xs ys all.1 in ((all.0, k.0), k.1)
+
+all_kept : {X : Type 0} (P : X → Type 0) (q : X → Bool) (xs : List X) → AllByRecursion P xs → AllByRecursion P (filter q xs)
+all_kept P q xs all = All_filter P q xs (All_map P (λ x. q x ≡ true → P x) xs (λ x p k. p) all)
+
+all_found : {X : Type 0} (P : X → Type 0) (p : X → Bool) (xs : List X) (z : X) → AllByRecursion P xs → find p xs ≡ Some z → P z × (p z ≡ true)
+all_found P p [] z all is = cc
+all_found P p (x ∷ xs) z all is = at (p x) refl is (λ k. all_found P p xs z all.1 k)
+  where
+    at : (b : Bool) → p x ≡ b → cond b (Some x) (find p xs) ≡ Some z → (find p xs ≡ Some z → P z × (p z ≡ true)) → P z × (p z ≡ true)
+    at true h k later = let e = same_Some x z k in (subst P e all.0, sym (ap p e) ∙ h)
+    at false h k later = later k
+
+none_found_any : {X : Type 0} (p : X → Bool) (xs : List X) → find p xs ≡ None → list_any p xs ≡ false
+none_found_any p [] is = refl
+none_found_any p (x ∷ xs) is = at (p x) refl is (λ k. none_found_any p xs k)
+  where
+    at : (b : Bool) → p x ≡ b → cond b (Some x) (find p xs) ≡ None → (find p xs ≡ None → list_any p xs ≡ false) → (p x || list_any p xs) ≡ false
+    at true h k later = cc
+    at false h k later = ap (λ b. b || list_any p xs) h ∙ later k
+
+none_found_all : {X : Type 0} (p : X → Bool) (xs : List X) → find p xs ≡ None → AllByRecursion (λ x. p x ≡ false) xs
+none_found_all p [] is = tt
+none_found_all p (x ∷ xs) is = at (p x) refl is (λ k. none_found_all p xs k)
+  where
+    at : (b : Bool) → p x ≡ b → cond b (Some x) (find p xs) ≡ None → (find p xs ≡ None → AllByRecursion (λ y. p y ≡ false) xs) → (p x ≡ false) × AllByRecursion (λ y. p y ≡ false) xs
+    at true h k later = cc
+    at false h k later = (h, later k)
+
+any_still : {X : Type 0} (p q : X → Bool) (xs : List X) → list_any p (filter q xs) ≡ true → list_any p xs ≡ true
+any_still p q [] h = h
+any_still p q (x ∷ xs) h = at (q x) h (λ k. any_still p q xs k) (p x) refl
+  where
+    at : (b : Bool) → list_any p (cond b (x ∷ filter q xs) (filter q xs)) ≡ true → (list_any p (filter q xs) ≡ true → list_any p xs ≡ true) → (c : Bool) → p x ≡ c → (c || list_any p xs) ≡ true
+    at b h later true k = refl
+    at true h later false k = later (sym (ap (λ d. d || list_any p (filter q xs)) k) ∙ h)
+    at false h later false k = later h
+
+-- what passes p and is taken out passes it no more
+any_removed : {X : Type 0} (p q : X → Bool) (d : Bool) → ((x : X) → q x ≡ false → p x ≡ d) → (xs : List X) → list_any p xs ≡ true → (list_any p (filter q xs) || d) ≡ true
+any_removed p q d same [] h = cc
+any_removed p q d same (x ∷ xs) h = at (q x) refl (p x) refl h (λ k. any_removed p q d same xs k)
+  where
+    either : (b : Bool) → (b || true) ≡ true
+    either true = refl
+    either false = refl
+
+    at : (b : Bool) → q x ≡ b → (c : Bool) → p x ≡ c → (c || list_any p xs) ≡ true → (list_any p xs ≡ true → (list_any p (filter q xs) || d) ≡ true) → (list_any p (cond b (x ∷ filter q xs) (filter q xs)) || d) ≡ true
+    at true k true l h later = ap (λ c. (c || list_any p (filter q xs)) || d) l
+    at true k false l h later = ap (λ c. (c || list_any p (filter q xs)) || d) l ∙ later h
+    at false k true l h later = ap (λ c. list_any p (filter q xs) || c) (sym (same x k) ∙ l) ∙ either (list_any p (filter q xs))
+    at false k false l h later = later h
+
+less_kept : {X : Type 0} (f : X → ℕ) (q : X → Bool) (xs : List X) → sum_by f (filter q xs) ≤ sum_by f xs
+less_kept f q [] = omega arith
+less_kept f q (x ∷ xs) = at (q x) (less_kept f q xs)
+  where
+    at : (b : Bool) → sum_by f (filter q xs) ≤ sum_by f xs → sum_by f (cond b (x ∷ filter q xs) (filter q xs)) ≤ sum_by f (x ∷ xs)
+    at true h = let a = sum_by-cons f x (filter q xs) in let b = sum_by-cons f x xs in omega arith
+    at false h = let b = sum_by-cons f x xs in omega arith
+
+found_apart : {X : Type 0} (f : X → ℕ) (p q : X → Bool) (xs : List X) (z : X) → find p xs ≡ Some z → q z ≡ false → sum_by f (filter q xs) + f z ≤ sum_by f xs
+found_apart f p q [] z is out = cc
+found_apart f p q (x ∷ xs) z is out = at (p x) is (λ k. found_apart f p q xs z k out)
+  where
+    here : (b : Bool) → q x ≡ b → x ≡ z → sum_by f (cond b (x ∷ filter q xs) (filter q xs)) + f z ≤ sum_by f (x ∷ xs)
+    here true k e = let bad : true ≡ false = sym k ∙ ap q e ∙ out in cc
+    here false k e = let a = less_kept f q xs in let b = sum_by-cons f x xs in let c = ap f e in omega arith
+
+    there : (b : Bool) → sum_by f (filter q xs) + f z ≤ sum_by f xs → sum_by f (cond b (x ∷ filter q xs) (filter q xs)) + f z ≤ sum_by f (x ∷ xs)
+    there true h = let a = sum_by-cons f x (filter q xs) in let b = sum_by-cons f x xs in omega arith
+    there false h = let b = sum_by-cons f x xs in omega arith
+
+    at : (b : Bool) → cond b (Some x) (find p xs) ≡ Some z → (find p xs ≡ Some z → sum_by f (filter q xs) + f z ≤ sum_by f xs) → sum_by f (filter q (x ∷ xs)) + f z ≤ sum_by f (x ∷ xs)
+    at true k later = here (q x) refl (same_Some x z k)
+    at false k later = there (q x) (later k)
+
+-- ---- what is left to do
+
+abbrev pub time_at : Plan → ℕ → ℕ
+time_at s i = sum (ms_of s i)
+
+abbrev pub job_rest : Job → ℕ
+job_rest j = j.burn + sum j.left
+
+abbrev pub sleeper_rest : ℕ → Sleeper → ℕ
+sleeper_rest t x = (x.until - t) + sum x.left
+
+abbrev pub rest : Plan → ℕ → Moment → ℕ
+rest s t m = sum_by (time_at s) m.ready + sum_by (time_at s) m.behind + sum_by job_rest m.cpu + sum_by (sleeper_rest t) m.sleeping
+
+abbrev pub Lasting : List ℕ → Type 0
+Lasting ms = AllByRecursion (λ n. 1 ≤ n) ms
+
+pub record IsJob (s : Plan) (j : Job) : Type 0 where
+  pub there : j.item < length s.items
+  pub left : Lasting j.left
+
+pub record IsRunning (s : Plan) (j : Job) : Type 0 where
+  pub job : IsJob s j
+  pub burns : 1 ≤ j.burn
+
+pub record IsSleeper (s : Plan) (t : ℕ) (x : Sleeper) : Type 0 where
+  pub there : x.item < length s.items
+  pub later : t ≤ x.until
+  pub left : Lasting x.left
+
+abbrev pub of_job : Plan → ℕ → Job → Bool
+of_job s q j = is_of s q j.item
+
+abbrev pub of_sleeper : Plan → ℕ → Sleeper → Bool
+of_sleeper s q x = is_of s q x.item
+
+-- an item of this queue is active
+abbrev pub active : Plan → ℕ → Moment → Bool
+active s q m = (list_any (is_of s q) m.ready || list_any (of_job s q) m.cpu) || list_any (of_sleeper s q) m.sleeping
+
+-- those behind wait for one of their queue
+pub record Sound (s : Plan) (t : ℕ) (m : Moment) : Type 0 where
+  pub ready : AllByRecursion (λ i. i < length s.items) m.ready
+  pub behind : AllByRecursion (λ i. i < length s.items) m.behind
+  pub sleeping : AllByRecursion (IsSleeper s t) m.sleeping
+  pub held : (q : ℕ) → list_any (is_of s q) m.behind ≡ true → active s q m ≡ true
+
+-- the same, where one more item is in hand
+pub record Loose (s : Plan) (t i : ℕ) (m : Moment) : Type 0 where
+  pub there : i < length s.items
+  pub ready : AllByRecursion (λ k. k < length s.items) m.ready
+  pub behind : AllByRecursion (λ k. k < length s.items) m.behind
+  pub sleeping : AllByRecursion (IsSleeper s t) m.sleeping
+  pub held : (q : ℕ) → list_any (is_of s q) m.behind ≡ true → (active s q m || is_of s q i) ≡ true
+
+-- ---- the item in hand sleeps, runs, or ends
+
+last_any : {X : Type 0} (p : X → Bool) (xs : List X) (x : X) (d : Bool) → p x ≡ d → list_any p (xs ++ x ∷ []) ≡ (list_any p xs || d)
+last_any p xs x d is = any-append p xs (x ∷ []) ∙ ap (λ b. list_any p xs || b) (nothing (p x) ∙ is)
+  where
+    nothing : (b : Bool) → (b || false) ≡ b
+    nothing true = refl
+    nothing false = refl
+
+pub to_sleep : (s : Plan) (t i pause : ℕ) (left : List ℕ) (m : Moment) (ls : List Event) → Loose s t i m → 1 ≤ pause → Lasting left
+    → Sound s t (record m { sleeping = m.sleeping ++ record { item = i; until = t + pause; left = left } ∷ []; lines = ls })
+to_sleep s t i pause left m ls h more lasting = record {
+  ready = h.ready;
+  behind = h.behind;
+  sleeping = all_one (IsSleeper s t) m.sleeping (record { item = i; until = t + pause; left = left }) h.sleeping (record { there = h.there; later = omega arith; left = lasting });
+  held = λ q some. ap (λ b. (list_any (is_of s q) m.ready || list_any (of_job s q) m.cpu) || b) (last_any (of_sleeper s q) m.sleeping (record { item = i; until = t + pause; left = left }) (is_of s q i) refl)
+      ∙ moved (list_any (is_of s q) m.ready || list_any (of_job s q) m.cpu) (list_any (of_sleeper s q) m.sleeping) (is_of s q i) (h.held q some)
+}
+  where
+    moved : (a b c : Bool) → ((a || b) || c) ≡ true → (a || (b || c)) ≡ true
+    moved true b c h = refl
+    moved false b c h = h
+
+pub to_cpu : (s : Plan) (t i b : ℕ) (left : List ℕ) (m : Moment) (ls : List Event) → Loose s t i m → Sound s t (record m { cpu = m.cpu ++ record { item = i; burn = b; left = left } ∷ []; lines = ls })
+to_cpu s t i b left m ls h = record {
+  ready = h.ready;
+  behind = h.behind;
+  sleeping = h.sleeping;
+  held = λ q some. ap (λ c. (list_any (is_of s q) m.ready || c) || list_any (of_sleeper s q) m.sleeping) (last_any (of_job s q) m.cpu (record { item = i; burn = b; left = left }) (is_of s q i) refl)
+      ∙ moved (list_any (is_of s q) m.ready) (list_any (of_job s q) m.cpu) (list_any (of_sleeper s q) m.sleeping) (is_of s q i) (h.held q some)
+}
+  where
+    moved : (a b c d : Bool) → (((a || b) || c) || d) ≡ true → ((a || (b || d)) || c) ≡ true
+    moved true b c d h = refl
+    moved false true c d h = refl
+    moved false false true true h = refl
+    moved false false true false h = refl
+    moved false false false d h = turned d h
+      where
+        turned : (d : Bool) → d ≡ true → (d || false) ≡ true
+        turned true h = refl
+        turned false h = h
+
+pub ends : (s : Plan) (t i : ℕ) (m : Moment) → Loose s t i m → Sound s t (end s i m)
+ends s t i m h = at (find (is_of s (queue_of s i)) m.behind) refl
+  where
+    at : (o : Option ℕ) → find (is_of s (queue_of s i)) m.behind ≡ o → Sound s t (make_ready m o)
+    at None none = record {
+      ready = h.ready; behind = h.behind; sleeping = h.sleeping;
+      held = λ q some. other q (is_of s q i) refl (h.held q some) some
+    }
+      where
+        other : (q : ℕ) (b : Bool) → is_of s q i ≡ b → (active s q m || is_of s q i) ≡ true → list_any (is_of s q) m.behind ≡ true → active s q m ≡ true
+        other q true is held some =
+            let bad : true ≡ false = sym some ∙ ap (λ k. list_any (is_of s k) m.behind) (sym (eqb-true (queue_of s i) q is)) ∙ none_found_any (is_of s (queue_of s i)) m.behind none in
+            cc
+        other q false is held some = sym (nothing (active s q m)) ∙ ap (λ b. active s q m || b) (sym is) ∙ held
+          where
+            nothing : (b : Bool) → (b || false) ≡ b
+            nothing true = refl
+            nothing false = refl
+    at (Some z) some_z =
+        let z_is = all_found (λ k. k < length s.items) (is_of s (queue_of s i)) m.behind z h.behind some_z in
+        record {
+          ready = all_one (λ k. k < length s.items) m.ready z h.ready z_is.0;
+          behind = all_kept (λ k. k < length s.items) (is_other z) m.behind h.behind;
+          sleeping = h.sleeping;
+          held = λ q some. ap (λ b. (b || list_any (of_job s q) m.cpu) || list_any (of_sleeper s q) m.sleeping)
+                  (last_any (is_of s q) m.ready z (is_of s q i) (ap (λ k. k == q) (eqb-true (queue_of s z) (queue_of s i) z_is.1)))
+              ∙ moved (list_any (is_of s q) m.ready) (list_any (of_job s q) m.cpu) (list_any (of_sleeper s q) m.sleeping) (is_of s q i) (h.held q (any_still (is_of s q) (is_other z) m.behind some))
+        }
+      where
+        moved : (a b c d : Bool) → (((a || b) || c) || d) ≡ true → (((a || d) || b) || c) ≡ true
+        moved true b c d h = refl
+        moved false b c true h = refl
+        moved false true c false h = refl
+        moved false false true false h = refl
+        moved false false false false h = h
+
+pub ends_less : (s : Plan) (t i : ℕ) (m : Moment) → rest s t (end s i m) ≤ rest s t m
+ends_less s t i m = at (find (is_of s (queue_of s i)) m.behind) refl
+  where
+    at : (o : Option ℕ) → find (is_of s (queue_of s i)) m.behind ≡ o → rest s t (make_ready m o) ≤ rest s t m
+    at None none = omega arith
+    at (Some z) some =
+        let out : is_other z z ≡ false = ap not (eq-eqb z z refl) in
+        let a = found_apart (time_at s) (is_of s (queue_of s i)) (is_other z) m.behind z some out in
+        let b = sum_by_push (time_at s) m.ready z in
+        omega arith
+
+-- ---- (1) the first of the CPU's list
+
+-- of the CPU's list only the first can have burnt its time
+abbrev pub FirstMayBeDone : Plan → List Job → Type 0
+FirstMayBeDone s [] = Unit {0}
+FirstMayBeDone s (j ∷ cpu) = IsJob s j × AllByRecursion (IsRunning s) cpu
+
+pub record Goes (s : Plan) (t r : ℕ) (m : Moment) : Type 0 where
+  pub sound : Sound s t m
+  pub cpu : AllByRecursion (IsRunning s) m.cpu
+  pub less : rest s t m ≤ r
+
+pub served : (s : Plan) (t : ℕ) (m : Moment) → Sound s t m → FirstMayBeDone s m.cpu → Goes s t (rest s t m) (serve s t m)
+served s t m h first = at m.cpu refl first
+  where
+    at : (xs : List Job) → m.cpu ≡ xs → FirstMayBeDone s xs → Goes s t (rest s t m) (serve_first s t m xs)
+    at [] none k = record { sound = h; cpu = subst (AllByRecursion (IsRunning s)) (sym none) tt; less = omega arith }
+    at (j ∷ js) is k = over (j.burn == 0) refl j.left refl
+      where
+        m1 : Moment
+        m1 = record m { cpu = js }
+
+        loose : Loose s t j.item (record m { cpu = js })
+        loose = record {
+          there = k.0.there; ready = h.ready; behind = h.behind; sleeping = h.sleeping;
+          held = λ q some. moved (list_any (is_of s q) m.ready) (of_job s q j) (list_any (of_job s q) js) (list_any (of_sleeper s q) m.sleeping) (sym (ap (λ xs. (list_any (is_of s q) m.ready || list_any (of_job s q) xs) || list_any (of_sleeper s q) m.sleeping) is) ∙ h.held q some)
+        }
+          where
+            moved : (a d b c : Bool) → ((a || (d || b)) || c) ≡ true → (((a || b) || c) || d) ≡ true
+            moved true d b c h = refl
+            moved false true true c h = refl
+            moved false true false true h = refl
+            moved false true false false h = refl
+            moved false false true c h = refl
+            moved false false false true h = refl
+            moved false false false false h = h
+
+        without : rest s t (record m { cpu = js }) + job_rest j ≡ rest s t m
+        without = let a = ap (sum_by job_rest) is ∙ sum_by-cons job_rest j js in omega arith
+
+        over : (b : Bool) → (j.burn == 0) ≡ b → (left : List ℕ) → j.left ≡ left → Goes s t (rest s t m) (if b then after_burn s t (record m { cpu = js }) j.item left else m)
+        over false burns left l = record {
+          sound = h;
+          cpu = subst (AllByRecursion (IsRunning s)) (sym is) (record { job = k.0; burns = more }, k.1);
+          less = omega arith
+        }
+          where
+            more : 1 ≤ j.burn
+            more = grind (arith, nat_tests)
+        over true done [] l = record {
+          sound = ends s t j.item (tell t kind.Ends (j.item ∷ []) (record m { cpu = js })) (record { there = loose.there; ready = loose.ready; behind = loose.behind; sleeping = loose.sleeping; held = loose.held });
+          cpu = subst (AllByRecursion (IsRunning s)) (sym (same_cpu (find (is_of s (queue_of s j.item)) m.behind))) k.1;
+          less = let a = ends_less s t j.item (tell t kind.Ends (j.item ∷ []) (record m { cpu = js })) in let w = without in omega arith
+        }
+          where
+            same_cpu : (o : Option ℕ) → (make_ready (tell t kind.Ends (j.item ∷ []) (record m { cpu = js })) o).cpu ≡ js
+            same_cpu None = refl
+            same_cpu (Some z) = refl
+        over true done (pause ∷ left) l = record {
+          sound = to_sleep s t j.item pause left (record m { cpu = js }) (m.lines ++ record { at = t; kind = kind.Sleeps; items = j.item ∷ [] } ∷ []) loose lasting.0 lasting.1;
+          cpu = k.1;
+          less =
+            let a = sum_by_push (sleeper_rest t) m.sleeping (record { item = j.item; until = t + pause; left = left }) in
+            let b = ap sum l ∙ sum_by-cons (λ x. x) pause left in
+            let w = without in
+            omega arith
+        }
+          where
+            lasting : (1 ≤ pause) × Lasting left
+            lasting = subst Lasting l k.0.left
