@@ -319,3 +319,115 @@ served s t m h first = at m.cpu refl first
           where
             lasting : (1 ≤ pause) × Lasting left
             lasting = subst Lasting l k.0.left
+
+-- ---- (2) the sleepers whose time is over
+
+pub record Woken (s : Plan) (t k r : ℕ) (m : Moment) : Type 0 where
+  pub goes : Goes s t r m
+  pub passed : AllByRecursion (λ (x : Sleeper). x.item < k → t + 1 ≤ x.until) m.sleeping
+
+not_true : (b : Bool) → not b ≡ true → b ≡ false
+not_true true h = cc
+not_true false h = refl
+
+not_false : (b : Bool) → not b ≡ false → b ≡ true
+not_false true h = refl
+not_false false h = cc
+
+woke : (s : Plan) (t k r : ℕ) (m : Moment) → Woken s t k r m → Woken s t (k + 1) r (wake_item s t m k)
+woke s t k r m h = at (find (is_due t k) m.sleeping) refl
+  where
+    at : (o : Option Sleeper) → find (is_due t k) m.sleeping ≡ o → Woken s t (k + 1) r (wake_sleeper s t m o)
+    at None none = record {
+      goes = h.goes;
+      passed = All_both (λ (x : Sleeper). (x.item < k → t + 1 ≤ x.until) × (t ≤ x.until)) (λ x. is_due t k x ≡ false) (λ (x : Sleeper). x.item < k + 1 → t + 1 ≤ x.until) m.sleeping (λ x both due less. later x both.0 both.1 due less)
+          (All_both (λ (x : Sleeper). x.item < k → t + 1 ≤ x.until) (IsSleeper s t) (λ (x : Sleeper). (x.item < k → t + 1 ≤ x.until) × (t ≤ x.until)) m.sleeping (λ x a b. (a, b.later)) h.passed h.goes.sound.sleeping) (none_found_all (is_due t k) m.sleeping none)
+    }
+      where
+        later : (x : Sleeper) → (x.item < k → t + 1 ≤ x.until) → t ≤ x.until → is_due t k x ≡ false → x.item < k + 1 → t + 1 ≤ x.until
+        later x before still due less = by (x.item == k) refl (x.until == t) refl due
+          where
+            by : (a : Bool) → (x.item == k) ≡ a → (b : Bool) → (x.until == t) ≡ b → (a && b) ≡ false → t + 1 ≤ x.until
+            by true a true b h = cc
+            by true a false b h = grind (arith, nat_tests)
+            by false a b c h = before (grind (arith, nat_tests))
+    at (Some x) some = after x.left refl
+      where
+        found : IsSleeper s t x × (is_due t k x ≡ true)
+        found = all_found (IsSleeper s t) (is_due t k) m.sleeping x h.goes.sound.sleeping some
+
+        its : x.item ≡ k
+        its = eqb-true x.item k (and_parts (x.item == k) (x.until == t) found.1).0
+
+        m1 : Moment
+        m1 = record m { sleeping = filter (is_not x.item) m.sleeping }
+
+        loose : Loose s t x.item (record m { sleeping = filter (is_not x.item) m.sleeping })
+        loose = record {
+          there = found.0.there; ready = h.goes.sound.ready; behind = h.goes.sound.behind; sleeping = all_kept (IsSleeper s t) (is_not x.item) m.sleeping h.goes.sound.sleeping;
+          held = λ q any. moved (list_any (is_of s q) m.ready || list_any (of_job s q) m.cpu) (list_any (of_sleeper s q) m.sleeping) (list_any (of_sleeper s q) (filter (is_not x.item) m.sleeping)) (is_of s q x.item) (h.goes.sound.held q any)
+              (λ c. any_removed (of_sleeper s q) (is_not x.item) (is_of s q x.item) (λ y out. ap (is_of s q) (eqb-true y.item x.item (not_false (y.item == x.item) out))) m.sleeping c)
+        }
+          where
+            moved : (a c e d : Bool) → (a || c) ≡ true → (c ≡ true → (e || d) ≡ true) → ((a || e) || d) ≡ true
+            moved true c e d h k = refl
+            moved false c e d h k = k h
+
+        apart : sum_by (sleeper_rest t) (filter (is_not x.item) m.sleeping) + sleeper_rest t x ≤ sum_by (sleeper_rest t) m.sleeping
+        apart = found_apart (sleeper_rest t) (is_due t k) (is_not x.item) m.sleeping x some (ap not (eq-eqb x.item x.item refl))
+
+        passed : AllByRecursion (λ (y : Sleeper). y.item < k + 1 → t + 1 ≤ y.until) (filter (is_not x.item) m.sleeping)
+        passed = All_filter (λ (y : Sleeper). y.item < k + 1 → t + 1 ≤ y.until) (is_not x.item) m.sleeping (All_map (λ (y : Sleeper). y.item < k → t + 1 ≤ y.until) (λ (y : Sleeper). is_not x.item y ≡ true → y.item < k + 1 → t + 1 ≤ y.until) m.sleeping (λ y before kept less. before (under y (not_true (y.item == x.item) kept) less)) h.passed)
+          where
+            under : (y : Sleeper) → (y.item == x.item) ≡ false → y.item < k + 1 → y.item < k
+            under y differs less = let e = its in grind (arith, nat_tests)
+
+        after : (left : List ℕ) → x.left ≡ left → Woken s t (k + 1) r (after_sleep s t (record m { sleeping = filter (is_not x.item) m.sleeping }) x.item left)
+        after [] l = record {
+          goes = record {
+            sound = ends s t x.item told (record { there = loose.there; ready = loose.ready; behind = loose.behind; sleeping = loose.sleeping; held = loose.held });
+            cpu = subst (AllByRecursion (IsRunning s)) (sym (same_cpu (find (is_of s (queue_of s x.item)) m.behind))) h.goes.cpu;
+            less = let a = ends_less s t x.item told in let b = apart in let c = h.goes.less in omega arith
+          };
+          passed = subst (AllByRecursion (λ (y : Sleeper). y.item < k + 1 → t + 1 ≤ y.until)) (sym (same_sleeping (find (is_of s (queue_of s x.item)) m.behind))) passed
+        }
+          where
+            told : Moment
+            told = tell t kind.WakesEnds (x.item ∷ []) (record m { sleeping = filter (is_not x.item) m.sleeping })
+
+            same_cpu : (o : Option ℕ) → (make_ready (tell t kind.WakesEnds (x.item ∷ []) (record m { sleeping = filter (is_not x.item) m.sleeping })) o).cpu ≡ m.cpu
+            same_cpu None = refl
+            same_cpu (Some z) = refl
+
+            same_sleeping : (o : Option ℕ) → (make_ready (tell t kind.WakesEnds (x.item ∷ []) (record m { sleeping = filter (is_not x.item) m.sleeping })) o).sleeping ≡ filter (is_not x.item) m.sleeping
+            same_sleeping None = refl
+            same_sleeping (Some z) = refl
+        after (b ∷ left) l = record {
+          goes = record {
+            sound = to_cpu s t x.item b left (record m { sleeping = filter (is_not x.item) m.sleeping }) (m.lines ++ record { at = t; kind = kind.WakesBurns; items = x.item ∷ [] } ∷ []) loose;
+            cpu = all_one (IsRunning s) m.cpu (record { item = x.item; burn = b; left = left }) h.goes.cpu (record { job = record { there = found.0.there; left = lasting.1 }; burns = lasting.0 });
+            less =
+              let a = apart in
+              let c = sum_by_push job_rest m.cpu (record { item = x.item; burn = b; left = left }) in
+              let d = ap sum l ∙ sum_by-cons (λ y. y) b left in
+              let e = h.goes.less in
+              omega arith
+          };
+          passed = passed
+        }
+          where
+            lasting : (1 ≤ b) × Lasting left
+            lasting = subst Lasting l found.0.left
+
+all_woke : (s : Plan) (t len k end r : ℕ) (m : Moment) → k + len ≡ end → Woken s t k r m → Woken s t end r (fold (wake_item s t) m (range_with_len k len))
+all_woke s t zero k end r m is h = subst (λ e. Woken s t e r m) (omega arith) h
+all_woke s t (suc len) k end r m is h = all_woke s t len (k + 1) end r (wake_item s t m k) (omega arith) (woke s t k r m h)
+
+pub record Awake (s : Plan) (t r : ℕ) (m : Moment) : Type 0 where
+  pub goes : Goes s t r m
+  pub later : AllByRecursion (λ (x : Sleeper). t + 1 ≤ x.until) m.sleeping
+
+pub awake : (s : Plan) (t r : ℕ) (m : Moment) → Goes s t r m → Awake s t r (wake s t m)
+awake s t r m h =
+    let k = all_woke s t (length s.items) 0 (length s.items) r m (omega arith) (record { goes = h; passed = All_each (λ (x : Sleeper). x.item < 0 → t + 1 ≤ x.until) m.sleeping (λ x no. absurd (omega arith)) }) in
+    record { goes = k.goes; later = All_both (λ (x : Sleeper). x.item < length s.items → t + 1 ≤ x.until) (IsSleeper s t) (λ (x : Sleeper). t + 1 ≤ x.until) (wake s t m).sleeping (λ x a b. a b.there) k.passed k.goes.sound.sleeping }
