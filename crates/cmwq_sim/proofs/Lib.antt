@@ -7,3 +7,4 @@ pub mod FinishShown
 pub mod WakeShown
 pub mod TakersAre
 pub mod Progress
+pub mod Outset

@@ -17,12 +17,12 @@ use Rattle.cmwq_sim.proofs.Steps.{any-append}
 
 -- ---- lists
 
-all_at : {X : Type 0} (P : X → Type 0) (xs : List X) (i : ℕ) (d : X) → AllByRecursion P xs → i < length xs → P (slice_index_or xs i d)
+pub all_at : {X : Type 0} (P : X → Type 0) (xs : List X) (i : ℕ) (d : X) → AllByRecursion P xs → i < length xs → P (slice_index_or xs i d)
 all_at P [] i d all less = absurd (omega arith)
 all_at P (x ∷ xs) zero d all less = all.0
 all_at P (x ∷ xs) (suc i) d all less = all_at P xs i d all.1 (omega arith)
 
-all_one : {X : Type 0} (P : X → Type 0) (xs : List X) (x : X) → AllByRecursion P xs → P x → AllByRecursion P (xs ++ x ∷ [])
+pub all_one : {X : Type 0} (P : X → Type 0) (xs : List X) (x : X) → AllByRecursion P xs → P x → AllByRecursion P (xs ++ x ∷ [])
 all_one P xs x all one = All_append P xs (x ∷ []) all (one, tt)
 
 all_split : {X : Type 0} (P : X → Type 0) (xs ys : List X) → AllByRecursion P (xs ++ ys) → AllByRecursion P xs × AllByRecursion P ys
@@ -161,7 +161,7 @@ pub record Loose (s : Plan) (t i : ℕ) (m : Moment) : Type 0 where
 
 -- ---- the item in hand sleeps, runs, or ends
 
-last_any : {X : Type 0} (p : X → Bool) (xs : List X) (x : X) (d : Bool) → p x ≡ d → list_any p (xs ++ x ∷ []) ≡ (list_any p xs || d)
+pub last_any : {X : Type 0} (p : X → Bool) (xs : List X) (x : X) (d : Bool) → p x ≡ d → list_any p (xs ++ x ∷ []) ≡ (list_any p xs || d)
 last_any p xs x d is = any-append p xs (x ∷ []) ∙ ap (λ b. list_any p xs || b) (nothing (p x) ∙ is)
   where
     nothing : (b : Bool) → (b || false) ≡ b
@@ -431,3 +431,227 @@ pub awake : (s : Plan) (t r : ℕ) (m : Moment) → Goes s t r m → Awake s t r
 awake s t r m h =
     let k = all_woke s t (length s.items) 0 (length s.items) r m (omega arith) (record { goes = h; passed = All_each (λ (x : Sleeper). x.item < 0 → t + 1 ≤ x.until) m.sleeping (λ x no. absurd (omega arith)) }) in
     record { goes = k.goes; later = All_both (λ (x : Sleeper). x.item < length s.items → t + 1 ≤ x.until) (IsSleeper s t) (λ (x : Sleeper). t + 1 ≤ x.until) (wake s t m).sleeping (λ x a b. a b.there) k.passed k.goes.sound.sleeping }
+
+-- ---- (3) starts
+
+item_with : (i : ℕ) (ms : List ℕ) → (job_with i ms).item ≡ i
+item_with i [] = refl
+item_with i (b ∷ ms) = refl
+
+rest_with : (i : ℕ) (ms : List ℕ) → job_rest (job_with i ms) ≡ sum ms
+rest_with i [] = omega arith
+rest_with i (b ∷ ms) = sym (sum_by-cons (λ x. x) b ms)
+
+-- what starts stands first among the ready ones
+starting_first : (s : Plan) (cpu : List Job) (xs : List ℕ) → starting s cpu xs ++ drop (length (starting s cpu xs)) xs ≡ xs
+unfolding starting
+starting_first s cpu [] = refl
+starting_first s cpu (i ∷ xs) = at (list_any (is_held_by s) cpu) (starting_first s (cpu ++ job_of s i ∷ []) xs)
+  where
+    at : (b : Bool) → starting s (cpu ++ job_of s i ∷ []) xs ++ drop (length (starting s (cpu ++ job_of s i ∷ []) xs)) xs ≡ xs
+        → (if b then [] else i ∷ starting s (cpu ++ job_of s i ∷ []) xs) ++ drop (length (if b then [] else i ∷ starting s (cpu ++ job_of s i ∷ []) xs)) (i ∷ xs) ≡ i ∷ xs
+    at true h = refl
+    at false h = ap (λ ys. i ∷ ys) h
+
+-- nothing holds the first one where the CPU's list is empty
+starting_some : (s : Plan) (xs : List ℕ) → starting s [] xs ≡ [] → xs ≡ []
+unfolding starting
+starting_some s [] h = refl
+starting_some s (i ∷ xs) h = cc
+
+-- a job that starts has time to burn
+starts_running : (s : Plan) (i : ℕ) → IsWithinLimits s → i < length s.items → IsRunning s (job_of s i)
+starts_running s i fine less = at (ms_of s i) here.parts here.ms
+  where
+    here : IsItem (length s.queues) (slice_index_or s.items i no_item)
+    here = all_at (IsItem (length s.queues)) s.items i no_item fine.items less
+
+    lasting : (ms : List ℕ) → AllByRecursion (IsBetween 1 1000) ms → Lasting ms
+    lasting ms all = All_map (IsBetween 1 1000) (λ n. 1 ≤ n) ms (λ n k. k.0) all
+
+    at : (ms : List ℕ) → IsBetween 1 8 (length ms) → AllByRecursion (IsBetween 1 1000) ms → IsRunning s (job_with i ms)
+    at [] some each = absurd (omega (arith, some.0))
+    at (b ∷ ms) some each = record { job = record { there = less; left = lasting ms each.1 }; burns = each.0.0 }
+
+all_start : (s : Plan) (is : List ℕ) → IsWithinLimits s → AllByRecursion (λ i. i < length s.items) is → AllByRecursion (IsRunning s) (map (job_of s) is)
+all_start s [] fine all = tt
+all_start s (i ∷ is) fine all = (starts_running s i fine all.0, all_start s is fine all.1)
+
+same_any : (s : Plan) (q : ℕ) (is : List ℕ) → list_any (of_job s q) (map (job_of s) is) ≡ list_any (is_of s q) is
+same_any s q [] = refl
+same_any s q (i ∷ is) = ap₂ (λ a b. a || b) (ap (is_of s q) (item_with i (ms_of s i))) (same_any s q is)
+
+same_rest : (s : Plan) (is : List ℕ) → sum_by job_rest (map (job_of s) is) ≡ sum_by (time_at s) is
+same_rest s [] = refl
+same_rest s (i ∷ is) = sum_by-cons job_rest (job_of s i) (map (job_of s) is) ∙ ap₂ (λ a b. a + b) (rest_with i (ms_of s i)) (same_rest s is) ∙ sym (sum_by-cons (time_at s) i is)
+
+pub record Started (s : Plan) (t r : ℕ) (m : Moment) : Type 0 where
+  pub awake : Awake s t r m
+  pub free : m.cpu ≡ [] → m.ready ≡ []
+
+-- the lists alone matter
+moved_lines : (s : Plan) (t r : ℕ) (m : Moment) (ls : List Event) → Started s t r m → Started s t r (record m { lines = ls })
+moved_lines s t r m ls h = record {
+  awake = record { goes = record { sound = record { ready = h.awake.goes.sound.ready; behind = h.awake.goes.sound.behind; sleeping = h.awake.goes.sound.sleeping; held = h.awake.goes.sound.held }; cpu = h.awake.goes.cpu; less = h.awake.goes.less }; later = h.awake.later };
+  free = h.free
+}
+
+pub started : (s : Plan) (t r : ℕ) (m : Moment) → IsWithinLimits s → Awake s t r m → Started s t r (start s t m)
+started s t r m fine h = at (starting s m.cpu m.ready) refl
+  where
+    at : (is : List ℕ) → starting s m.cpu m.ready ≡ is → Started s t r (start_these s t m is)
+    at is which = told is lists
+      where
+        split : is ++ drop (length is) m.ready ≡ m.ready
+        split = subst (λ ks. ks ++ drop (length ks) m.ready ≡ m.ready) which (starting_first s m.cpu m.ready)
+
+        parts : AllByRecursion (λ i. i < length s.items) is × AllByRecursion (λ i. i < length s.items) (drop (length is) m.ready)
+        parts = all_split (λ i. i < length s.items) is (drop (length is) m.ready) (subst (AllByRecursion (λ i. i < length s.items)) (sym split) h.goes.sound.ready)
+
+        sums : sum_by (time_at s) is + sum_by (time_at s) (drop (length is) m.ready) ≡ sum_by (time_at s) m.ready
+        sums = sym (sum_by-append (time_at s) is (drop (length is) m.ready)) ∙ ap (sum_by (time_at s)) split
+
+        moved : (a b c d e : Bool) → a ≡ (b || c) → ((a || d) || e) ≡ true → ((c || (d || b)) || e) ≡ true
+        moved a true c true e is h = ap (λ x. x || e) (either c)
+          where
+            either : (x : Bool) → (x || true) ≡ true
+            either true = refl
+            either false = refl
+        moved a true c false e is h = ap (λ x. x || e) (either c)
+          where
+            either : (x : Bool) → (x || true) ≡ true
+            either true = refl
+            either false = refl
+        moved a false true d e is h = refl
+        moved a false false true e is h = refl
+        moved a false false false e is h = sym (ap (λ x. (x || false) || e) is) ∙ h
+
+        emptied : (xs ys : List Job) → xs ++ ys ≡ [] → (xs ≡ []) × (ys ≡ [])
+        emptied [] ys h = (refl, h)
+        emptied (x ∷ xs) ys h = cc
+
+        nobody : (ks : List ℕ) → map (job_of s) ks ≡ [] → ks ≡ []
+        nobody [] h = refl
+        nobody (k ∷ ks) h = cc
+
+        none : m.cpu ++ map (job_of s) is ≡ [] → drop (length is) m.ready ≡ []
+        none empty_cpu =
+            let k = emptied m.cpu (map (job_of s) is) empty_cpu in
+            let no_starts : is ≡ [] = nobody is k.1 in
+            let all_ready : m.ready ≡ [] = starting_some s m.ready (sym (ap (λ cpu. starting s cpu m.ready) k.0) ∙ which ∙ no_starts) in
+            ap (λ ks. drop (length ks) m.ready) no_starts ∙ all_ready
+
+        lists : Started s t r (record m { ready = drop (length is) m.ready; cpu = m.cpu ++ map (job_of s) is })
+        lists = record {
+          awake = record {
+            goes = record {
+              sound = record {
+                ready = parts.1; behind = h.goes.sound.behind; sleeping = h.goes.sound.sleeping;
+                held = λ q some. ap (λ b. (list_any (is_of s q) (drop (length is) m.ready) || b) || list_any (of_sleeper s q) m.sleeping) (any-append (of_job s q) m.cpu (map (job_of s) is) ∙ ap (λ b. list_any (of_job s q) m.cpu || b) (same_any s q is))
+                    ∙ moved (list_any (is_of s q) m.ready) (list_any (is_of s q) is) (list_any (is_of s q) (drop (length is) m.ready)) (list_any (of_job s q) m.cpu) (list_any (of_sleeper s q) m.sleeping)
+                        (sym (ap (list_any (is_of s q)) split) ∙ any-append (is_of s q) is (drop (length is) m.ready)) (h.goes.sound.held q some)
+              };
+              cpu = All_append (IsRunning s) m.cpu (map (job_of s) is) h.goes.cpu (all_start s is fine parts.0);
+              less = let a = sum_by-append job_rest m.cpu (map (job_of s) is) in let b = same_rest s is in let c = sums in let d = h.goes.less in omega arith
+            };
+            later = h.later
+          };
+          free = none
+        }
+
+        told : (ks : List ℕ) → Started s t r (record m { ready = drop (length is) m.ready; cpu = m.cpu ++ map (job_of s) is }) → Started s t r (tell_starts t ks (record m { ready = drop (length is) m.ready; cpu = m.cpu ++ map (job_of s) is }))
+        told [] k = k
+        told (i ∷ ks) k = moved_lines s t r (record m { ready = drop (length is) m.ready; cpu = m.cpu ++ map (job_of s) is }) (m.lines ++ record { at = t; kind = kind.Starts; items = i ∷ ks } ∷ []) k
+
+-- ---- then the first of the CPU's list burns
+
+pub record Begins (s : Plan) (t : ℕ) (m : Moment) : Type 0 where
+  pub sound : Sound s t m
+  pub first : FirstMayBeDone s m.cpu
+
+slept_on : (s : Plan) (t : ℕ) (xs : List Sleeper) → AllByRecursion (IsSleeper s t) xs → AllByRecursion (λ (x : Sleeper). t + 1 ≤ x.until) xs → AllByRecursion (IsSleeper s (t + 1)) xs
+slept_on s t xs all later = All_both (IsSleeper s t) (λ (x : Sleeper). t + 1 ≤ x.until) (IsSleeper s (t + 1)) xs (λ x a b. record { there = a.there; later = b; left = a.left }) all later
+
+-- each sleeper has a millisecond less to sleep
+sleeps_less : (t : ℕ) (xs : List Sleeper) → AllByRecursion (λ (x : Sleeper). t + 1 ≤ x.until) xs → sum_by (sleeper_rest (t + 1)) xs + length xs ≤ sum_by (sleeper_rest t) xs
+sleeps_less t [] later = omega arith
+sleeps_less t (x ∷ xs) later =
+    let k = sleeps_less t xs later.1 in
+    let a = sum_by-cons (sleeper_rest (t + 1)) x xs in
+    let b = sum_by-cons (sleeper_rest t) x xs in
+    let c = later.0 in
+    omega arith
+
+still_any : {X : Type 0} (p : X → Bool) (x : X) (xs : List X) → p x ≡ true → list_any p (x ∷ xs) ≡ true
+still_any p x xs is = ap (λ b. b || list_any p xs) is
+
+pub burnt : (s : Plan) (t r : ℕ) (m : Moment) → Started s t r m → Begins s (t + 1) (burn m) × ((rest s (t + 1) (burn m) + 1 ≤ r) ⊎ NobodyIsLeft (burn m))
+burnt s t r m h = at m.cpu refl
+  where
+    sound : Sound s t m
+    sound = h.awake.goes.sound
+
+    at : (xs : List Job) → m.cpu ≡ xs → Begins s (t + 1) (record m { cpu = burn_first xs }) × ((rest s (t + 1) (record m { cpu = burn_first xs }) + 1 ≤ r) ⊎ NobodyIsLeft (record m { cpu = burn_first xs }))
+    at (j ∷ js) is = (record {
+          sound = record {
+            ready = sound.ready; behind = sound.behind; sleeping = slept_on s t m.sleeping sound.sleeping h.awake.later;
+            held = λ q some. ap (λ xs. (list_any (is_of s q) m.ready || list_any (of_job s q) xs) || list_any (of_sleeper s q) m.sleeping) (sym is) ∙ sound.held q some
+          };
+          first = (record { there = runs.0.job.there; left = runs.0.job.left }, runs.1)
+        },
+        inl (
+          let a = ap (sum_by job_rest) is ∙ sum_by-cons job_rest j js in
+          let b = sum_by-cons job_rest (record j { burn = j.burn - 1 }) js in
+          let c = runs.0.burns in
+          let d = sleeps_less t m.sleeping h.awake.later in
+          let e = h.awake.goes.less in
+          omega arith))
+      where
+        runs : IsRunning s j × AllByRecursion (IsRunning s) js
+        runs = subst (AllByRecursion (IsRunning s)) is h.awake.goes.cpu
+    at [] is = (record {
+          sound = record {
+            ready = sound.ready; behind = sound.behind; sleeping = slept_on s t m.sleeping sound.sleeping h.awake.later;
+            held = λ q some. ap (λ xs. (list_any (is_of s q) m.ready || list_any (of_job s q) xs) || list_any (of_sleeper s q) m.sleeping) (sym is) ∙ sound.held q some
+          };
+          first = tt
+        }, asleep m.sleeping refl)
+      where
+        nobody_behind : (ks : List ℕ) → m.behind ≡ ks → m.sleeping ≡ [] → ks ≡ []
+        nobody_behind [] k none = refl
+        nobody_behind (k ∷ ks) are none =
+            let q : ℕ = queue_of s k in
+            let some = ap (list_any (is_of s (queue_of s k))) are ∙ still_any (is_of s (queue_of s k)) k ks (eq-eqb (queue_of s k) (queue_of s k) refl) in
+            let bad : false ≡ true = sym (ap₂ (λ a b. (list_any (is_of s (queue_of s k)) a || list_any (of_job s (queue_of s k)) b) || list_any (of_sleeper s (queue_of s k)) []) (h.free is) is)
+                  ∙ sym (ap (λ c. (list_any (is_of s (queue_of s k)) m.ready || list_any (of_job s (queue_of s k)) m.cpu) || list_any (of_sleeper s (queue_of s k)) c) none) ∙ sound.held (queue_of s k) some in
+            cc
+
+        asleep : (xs : List Sleeper) → m.sleeping ≡ xs → (rest s (t + 1) (record m { cpu = [] }) + 1 ≤ r) ⊎ NobodyIsLeft (record m { cpu = [] })
+        asleep [] none = inr (record { ready = h.free is; behind = nobody_behind m.behind refl none; cpu = refl; sleeping = none })
+        asleep (x ∷ xs) some = inl (
+          let a = ap length some in
+          let d = sleeps_less t m.sleeping h.awake.later in
+          let c = ap (sum_by job_rest) is in
+          let e = h.awake.goes.less in
+          omega arith)
+
+-- ---- a millisecond, and all of them
+
+pub passes : (s : Plan) (t : ℕ) (m : Moment) → IsWithinLimits s → Begins s t m → Begins s (t + 1) (millisecond s m t) × ((rest s (t + 1) (millisecond s m t) + 1 ≤ rest s t m) ⊎ NobodyIsLeft (millisecond s m t))
+passes s t m fine h =
+    burnt s t (rest s t m) (start s t (wake s t (serve s t m))) (started s t (rest s t m) (wake s t (serve s t m)) fine (awake s t (rest s t m) (serve s t m) (served s t m h.sound h.first)))
+
+nothing_left : (s : Plan) (t : ℕ) (m : Moment) → NobodyIsLeft m → rest s t m ≡ 0
+nothing_left s t m h = ap₂ (λ a b. sum_by (time_at s) a + sum_by (time_at s) b + sum_by job_rest m.cpu + sum_by (sleeper_rest t) m.sleeping) h.ready h.behind ∙ ap₂ (λ a b. 0 + 0 + sum_by job_rest a + sum_by (sleeper_rest t) b) h.cpu h.sleeping ∙ omega arith
+
+-- where less is left than milliseconds come, nobody is left
+pub all_pass : (s : Plan) (k t : ℕ) (m : Moment) → IsWithinLimits s → Begins s t m → ((rest s t m + 1 ≤ k) ⊎ NobodyIsLeft m) → NobodyIsLeft (fold (millisecond s) m (range_with_len t k))
+all_pass s zero t m fine h (inl less) = absurd (omega arith)
+all_pass s zero t m fine h (inr none) = none
+all_pass s (suc k) t m fine h (inl less) =
+    let p = passes s t m fine h in
+    all_pass s k (t + 1) (millisecond s m t) fine p.0 (⊎_elim (λ l. inl (omega arith)) (λ none. inr none) p.1)
+all_pass s (suc k) t m fine h (inr none) =
+    let p = passes s t m fine h in
+    let z = nothing_left s t m none in
+    all_pass s k (t + 1) (millisecond s m t) fine p.0 (⊎_elim (λ l. absurd (omega arith)) (λ n. inr n) p.1)

@@ -1,11 +1,13 @@
 //! Scenarios: what a few items on one CPU do, millisecond by millisecond.
 #![tactic(auto)]
 
+mod laws;
 mod scenario;
 mod tables;
 mod text;
 mod takes;
 
+pub use laws::all_items_end;
 pub use scenario::{Line, LineKind, Scenario, SimItem, SimQueue};
 pub use takes::taker;
 pub use text::spell_lines;
