@@ -42,7 +42,7 @@ pub name_added : {X : Type 0} (names after : List (String Global)) (values more 
     → add_named most (record { names = map string_bytes names; values = values }) (name, x) ≡ Some (record { names = map string_bytes after; values = more })
 name_added names after values more s name x most b is room added said keys items =
     ap₂ (λ a t. offered a t (map string_bytes names ++ name ∷ []) (values ++ x ∷ []))
-        (ap (λ n. nat_lt n most) (length-map names string_bytes) ∙ lt-ltb (length names) most room) (taken names s name is ∙ free)
+    (ap (λ n. nat_lt n most) (length-map names string_bytes) ∙ lt-ltb (length names) most room) (taken names s name is ∙ free)
     ∙ sym (ap₂ (offered true false) (ap (map string_bytes) (keys ∙ ap (λ t. if t then names else names ++ s ∷ []) free) ∙ map-append string_bytes names (s ∷ []) ∙ ap (λ n. map string_bytes names ++ n ∷ []) is) items)
   where
     free : list_any (same s) names ≡ false

@@ -1,7 +1,7 @@
 -- Lists seen through a view of each element.
 use Rattle.std.proofs.Common.{◌≡◌, ℕ, suc, ◌||◌, ◌&&◌, ◌+◌, ◌==◌, nat_eq, Bor, Bool, true, false, cond, not, List, [], ◌∷◌, length, map, position, Option, Some, None, refl, ap, ap₂, nat_lt, ◌∙◌, sym}
 use Rattle.std.proofs.lemmas.List.{length-map}
-use Rattle.std.specs.List.{list_any, list_all, prefix_len, position_or_len}
+use Rattle.std.specs.List.{list_any, list_all, prefix_len}
 use Rattle.std.specs.Prelude.{String, option_map}
 use Rattle.std.specs.Option.{option_map_or, option_eq}
 use Rattle.std.proofs.lemmas.List.Folds.{list_all-map}

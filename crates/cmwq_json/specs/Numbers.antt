@@ -1,7 +1,7 @@
 -- Numbers, widths and flags.
-use Rattle.std.specs.Prelude.{ℕ, Bool, ◌&&◌, if◌then◌else◌, Option, Some, None, option_map, option_and_then, min, ◌==◌}
+use Rattle.std.specs.Prelude.{ℕ, if◌then◌else◌, Option, Some, None, option_map, option_and_then, min, ◌==◌}
 use Rattle.serde_json.specs.Data.{Data}
-use Rattle.serde_json.specs.Find.{get, as_number, as_u64, as_bool}
+use Rattle.serde_json.specs.Find.{as_number, as_u64}
 use Rattle.cmwq_json.specs.Names.{is_between}
 
 -- a whole number from low to high

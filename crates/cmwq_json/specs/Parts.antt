@@ -1,6 +1,5 @@
 -- Which member of an input is refused.
 use Rattle.std.specs.Prelude.{ℕ}
-use Rattle.cmwq_json.specs.declared.refused.Part.{Part}
 use Rattle.cmwq_json.specs.declared.refused.Part.TheVariants as part
 use Rattle.cmwq_json.specs.declared.refused.Refused.{Refused}
 

@@ -8,10 +8,10 @@ mod refused;
 mod scenario;
 
 pub use keys::has_keys;
-pub use names::{is_name, number_of, read_name, Members};
+pub use names::{Members, is_name, number_of, read_name};
 pub use numbers::{read_number, read_width};
 pub use refused::{Part, Refused};
-pub use scenario::{read_scenario, Script};
+pub use scenario::{Script, read_scenario};
 
 #[cfg(test)]
 mod tests;

@@ -34,11 +34,7 @@ pub fn read_name(value: &Value) -> Option<&str>
     ensures { option_map (λ name. name.now) result ≡ spec.name_said (view value.now) }
 {
     let text = value.as_str()?;
-    if is_name(text) {
-        Some(text)
-    } else {
-        None
-    }
+    if is_name(text) { Some(text) } else { None }
 }
 
 /// The number of a name: its place in the order in which names were added.
@@ -74,7 +70,13 @@ impl<T: Drop> Members<T> {
     }
 
     /// Adds a member, where there are fewer than `most` and none has this name.
-    pub fn add(&mut self, alloc: Global, most: usize, name: &str, value: T) -> Result<bool, AllocError>
+    pub fn add(
+        &mut self,
+        alloc: Global,
+        most: usize,
+        name: &str,
+        value: T,
+    ) -> Result<bool, AllocError>
         ensures { IfOk result (λ added. spec.add_named most (named_of self.old) (name.now, value) ≡ (if added then Some (named_of self.new) else None)) }
     {
         if self.names.len() >= most {

@@ -11,7 +11,7 @@ ghost use Rattle.cmwq_json.specs.Scenarios as spec;
 ghost use Rattle.cmwq_json.specs.Scripts.{items_of, script_of, told, HasLimits};
 
 use crate::keys::has_keys;
-use crate::names::{in_order, number_of, read_name, Members};
+use crate::names::{Members, in_order, number_of, read_name};
 use crate::numbers::{read_number, read_width};
 use crate::refused::{Part, Refused};
 use cmwq_sim::{Scenario, SimItem, SimQueue};
@@ -106,7 +106,11 @@ fn read_item<'v>(
     }
 }
 
-fn add_queue(alloc: Global, queues: &mut Members<SimQueue>, value: &Value) -> Result<bool, AllocError>
+fn add_queue(
+    alloc: Global,
+    queues: &mut Members<SimQueue>,
+    value: &Value,
+) -> Result<bool, AllocError>
     ensures { IfOk result (λ added. spec.add_queue (named_of queues.old) (view value.now) ≡ (if added then Some (named_of queues.new) else None)) }
 {
     match read_queue(value) {
@@ -131,7 +135,10 @@ fn add_item(
 }
 
 /// The queues in turn, or the place of the first that is refused.
-fn read_queues(alloc: Global, values: &[Value]) -> Result<Result<Members<SimQueue>, usize>, AllocError>
+fn read_queues(
+    alloc: Global,
+    values: &[Value],
+) -> Result<Result<Members<SimQueue>, usize>, AllocError>
     ensures { IfOk result (λ r. told named_of r ≡ in_turn spec.add_queue 0 nobody (items_view values.now)) }
 {
     let mut queues = Members::new(alloc);
@@ -171,14 +178,23 @@ fn read_lists(
 {
     let queues = match read_queues(alloc, queues)? {
         Ok(queues) => queues,
-        Err(index) => return Ok(Err(Refused { part: Part::Queues, index })),
+        Err(index) => return Ok(Err(Refused {
+            part: Part::Queues,
+            index,
+        })),
     };
     if queues.values.is_empty() {
-        return Ok(Err(Refused { part: Part::Queues, index: 0 }));
+        return Ok(Err(Refused {
+            part: Part::Queues,
+            index: 0,
+        }));
     }
     let items = match read_items(alloc, &queues.names, items)? {
         Ok(items) => items,
-        Err(index) => return Ok(Err(Refused { part: Part::Items, index })),
+        Err(index) => return Ok(Err(Refused {
+            part: Part::Items,
+            index,
+        })),
     };
     let names = in_order(alloc, items.names)?;
     Ok(Ok(Script {

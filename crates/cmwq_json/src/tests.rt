@@ -34,7 +34,8 @@ fn item(index: usize) -> Option<Refused> {
 
 #[test]
 fn names_and_numbers_of_a_scenario(rt: HostRuntime) -> Result<(), Fail> {
-    let text = r#"{"queues":[{"name":"q0","max_active":0,"intensive":false},{"name":"Q_1","max_active":513,"intensive":true}],
+    let text =
+        r#"{"queues":[{"name":"q0","max_active":0,"intensive":false},{"name":"Q_1","max_active":513,"intensive":true}],
         "items":[{"name":"w0","queue":"q0","ms":[5,10,5]},{"ms":[1000],"queue":"Q_1","name":"q0"}]}"#;
     let value = Value::from_str(rt.alloc(), text)?;
     let Ok(script) = read_scenario(rt.alloc(), &value)? else {
@@ -79,14 +80,23 @@ fn queues_that_are_refused(rt: HostRuntime) -> Result<(), Fail> {
     for (text, index) in [
         ("", 0),
         (r#"{"name":"","max_active":1,"intensive":false}"#, 0),
-        (r#"{"name":"seventeen_letters","max_active":1,"intensive":false}"#, 0),
+        (
+            r#"{"name":"seventeen_letters","max_active":1,"intensive":false}"#,
+            0,
+        ),
         (r#"{"name":"a b","max_active":1,"intensive":false}"#, 0),
-        (r#"{"name":"a","max_active":4294967296,"intensive":false}"#, 0),
+        (
+            r#"{"name":"a","max_active":4294967296,"intensive":false}"#,
+            0,
+        ),
         (r#"{"name":"a","max_active":-1,"intensive":false}"#, 0),
         (r#"{"name":"a","max_active":1.5,"intensive":false}"#, 0),
         (r#"{"name":"a","max_active":1,"intensive":0}"#, 0),
         (r#"{"name":"a","max_active":1}"#, 0),
-        (r#"{"name":"a","max_active":1,"intensive":false,"high":false}"#, 0),
+        (
+            r#"{"name":"a","max_active":1,"intensive":false,"high":false}"#,
+            0,
+        ),
         (r#"{"name":"a","max_active":1,"intensive":false},3"#, 1),
         (
             r#"{"name":"a","max_active":1,"intensive":false},{"name":"a","max_active":2,"intensive":false},4"#,
@@ -109,10 +119,18 @@ fn items_that_are_refused(rt: HostRuntime) -> Result<(), Fail> {
         (r#"{"name":"x","queue":"q","ms":5}"#, 0),
         (r#"{"name":"x","queue":3,"ms":[5]}"#, 0),
         (r#"{"name":"x","queue":"q"}"#, 0),
-        (r#"{"name":"x","queue":"q","ms":[5]},{"name":"y","queue":"p","ms":[5]}"#, 1),
-        (r#"{"name":"x","queue":"q","ms":[5]},{"name":"x","queue":"q","ms":[5]}"#, 1),
+        (
+            r#"{"name":"x","queue":"q","ms":[5]},{"name":"y","queue":"p","ms":[5]}"#,
+            1,
+        ),
+        (
+            r#"{"name":"x","queue":"q","ms":[5]},{"name":"x","queue":"q","ms":[5]}"#,
+            1,
+        ),
     ] {
-        let text = format!(in rt.alloc(); r#"{{"queues":[{{"name":"q","max_active":1,"intensive":false}}],"items":[{text}]}}"#)?;
+        let text = format!(in rt.alloc();
+            r#"{{"queues":[{{"name":"q","max_active":1,"intensive":false}}],"items":[{text}]}}"#
+        )?;
         assert_eq!(rt; refusal(&rt, text.as_str())?, item(index), "{text}");
     }
     Ok(())
@@ -125,13 +143,25 @@ fn the_ninth_is_one_too_many(rt: HostRuntime) -> Result<(), Fail> {
         let mut items = String::new(rt.alloc());
         for place in 0..count {
             let comma = if place == 0 { "" } else { "," };
-            queues.push_str(format!(in rt.alloc(); r#"{comma}{{"name":"q{place}","max_active":1,"intensive":true}}"#)?.as_str())?;
-            items.push_str(format!(in rt.alloc(); r#"{comma}{{"name":"x{place}","queue":"q0","ms":[1]}}"#)?.as_str())?;
+            queues.push_str(format!(in rt.alloc();
+                r#"{comma}{{"name":"q{place}","max_active":1,"intensive":true}}"#
+            )?.as_str())?;
+            items.push_str(format!(in rt.alloc();
+                r#"{comma}{{"name":"x{place}","queue":"q0","ms":[1]}}"#
+            )?.as_str())?;
         }
         let many_queues = format!(in rt.alloc(); r#"{{"queues":[{queues}],"items":[]}}"#)?;
-        let many_items = format!(in rt.alloc(); r#"{{"queues":[{{"name":"q0","max_active":1,"intensive":true}}],"items":[{items}]}}"#)?;
-        assert_eq!(rt; refusal(&rt, many_queues.as_str())?, if count < 9 { None } else { queue(8) });
-        assert_eq!(rt; refusal(&rt, many_items.as_str())?, if count < 9 { None } else { item(8) });
+        let many_items = format!(in rt.alloc();
+            r#"{{"queues":[{{"name":"q0","max_active":1,"intensive":true}}],"items":[{items}]}}"#
+        )?;
+        assert_eq!(rt;
+            refusal(&rt, many_queues.as_str())?,
+            if count < 9 { None } else { queue(8) }
+        );
+        assert_eq!(rt;
+            refusal(&rt, many_items.as_str())?,
+            if count < 9 { None } else { item(8) }
+        );
     }
     Ok(())
 }

@@ -1,4 +1,4 @@
-use Rattle.std.proofs.Common.{◌∙◌, ◌≡◌, Some, None, sym, ap, arith, drop, map, string_bytes, if◌then◌else◌}
+use Rattle.std.proofs.Common.{◌∙◌, Some, None, sym, ap, arith, map, string_bytes, if◌then◌else◌}
 use Rattle.serde_json.specs.View.{items_view}
 use Rattle.cmwq_json.specs.InTurn.{in_turn}
 use Rattle.cmwq_json.specs.Names.{nobody, map_named}
@@ -14,12 +14,12 @@ loop-index-init c = ap (λ m. in_turn (add_item (map string_bytes c.args.queue_n
 pub returns-then-not-branch : goal.returns-then-not-branch
 returns-then-not-branch c =
     sym (stopped (add_item (map string_bytes c.args.queue_names.now.keys)) (in_turn (add_item (map string_bytes c.args.queue_names.now.keys)) 0 nobody (items_view c.args.values.now)) c.args.values.now c.loop-index.index (items_of c.loop-index.items) c.loop-index.invariant
-        c.index-values-index.result c.index-values-index.result (omega arith) (sym c.index-values-index.is) (c.in_ok-add_item.ensures ∙ ap (λ added. if added then Some (items_of c.add_item.new.items) else None) c.if-not-branch.true))
+    c.index-values-index.result c.index-values-index.result (omega arith) (sym c.index-values-index.is) (c.in_ok-add_item.ensures ∙ ap (λ added. if added then Some (items_of c.add_item.new.items) else None) c.if-not-branch.true))
 
 pub loop-index-preserved : goal.loop-index-preserved
 loop-index-preserved c =
     went_on (add_item (map string_bytes c.args.queue_names.now.keys)) (in_turn (add_item (map string_bytes c.args.queue_names.now.keys)) 0 nobody (items_view c.args.values.now)) c.args.values.now c.loop-index.index (items_of c.loop-index.items) c.loop-index.invariant
-        c.index-values-index.result c.index-values-index.result (items_of c.add_item.new.items) (omega arith) (sym c.index-values-index.is) (c.in_ok-add_item.ensures ∙ ap (λ added. if added then Some (items_of c.add_item.new.items) else None) c.if-not-branch.false)
+    c.index-values-index.result c.index-values-index.result (items_of c.add_item.new.items) (omega arith) (sym c.index-values-index.is) (c.in_ok-add_item.ensures ∙ ap (λ added. if added then Some (items_of c.add_item.new.items) else None) c.if-not-branch.false)
 
 pub returns : goal.returns
 returns c = sym (done (add_item (map string_bytes c.args.queue_names.now.keys)) (in_turn (add_item (map string_bytes c.args.queue_names.now.keys)) 0 nobody (items_view c.args.values.now)) c.args.values.now c.loop-index.index (items_of c.loop-index.items) c.loop-index.invariant (omega arith))

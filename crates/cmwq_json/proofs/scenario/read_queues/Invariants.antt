@@ -1,4 +1,4 @@
-use Rattle.std.proofs.Common.{◌≡◌, drop, map, string_bytes}
+use Rattle.std.proofs.Common.{◌≡◌, drop}
 use Rattle.serde_json.specs.View.{items_view}
 use Rattle.cmwq_json.specs.InTurn.{in_turn}
 use Rattle.cmwq_json.specs.Names.{nobody}
