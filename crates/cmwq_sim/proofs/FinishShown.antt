@@ -24,12 +24,13 @@ use Rattle.cmwq_model.specs.Answer.{answer}
 use Rattle.cmwq_model.specs.Legal.{IsLegal, entry_for}
 use Rattle.cmwq_laws.specs.Endings.{is_spared}
 use Rattle.cmwq_laws.specs.FirstWidths.{HasFirstWidths}
-use Rattle.cmwq_laws.specs.Activations.{waits, is_left, is_in}
+use Rattle.cmwq_laws.specs.Activations.{waits, is_left, is_in, keeps_widths}
 use Rattle.cmwq_laws.proofs.Lists.{All_each, All_map, All_filter, All_both, count_by-cons}
 use Rattle.cmwq_laws.proofs.Filters.{filter_same, filter_twice, count_none}
 use Rattle.cmwq_laws.proofs.Joined.{stays_active}
 use Rattle.cmwq_laws.proofs.Endings.{open_go_on}
 use Rattle.cmwq_laws.proofs.Promoted.{newly_of_open}
+use Rattle.cmwq_laws.proofs.NewlyActive.{width_same}
 use Rattle.cmwq_laws.proofs.WorklistSteps.{worklists_go_on}
 use Rattle.cmwq_ties.proofs.Members.{In, found, of_in, all_in, in_filter, filter_in, in_option, option_in}
 use Rattle.cmwq_sim.specs.Plan.{Plan, queue_of, is_of, no_queue}
@@ -242,12 +243,13 @@ any_kept n i (x ∷ xs) h = at (is_job i x) refl (any_kept n i xs h)
 abbrev pub ended_with : Moment → ℕ → Option ℕ → Moment
 ended_with m i o = record m { ready = m.ready ++ option_to_list o; behind = filter (is_kept o) m.behind; cpu = filter (λ k. not (is_job i k)) m.cpu }
 
-pub finish_shown : (s : Plan) (past : List Entry) (m : Moment) (seat : ℕ → ℕ) (i : ℕ) (o : Option ℕ) → Shows s past m seat → HasFirstWidths (layout_for s) past → ((q : ℕ) → width (layout_for s) past q ≡ first_width (layout_for s) q)
-    → list_any (is_job i) m.cpu ≡ true → find (is_of s (queue_of s i)) m.behind ≡ o
+pub finish_shown : (s : Plan) (past : List Entry) (m : Moment) (seat : ℕ → ℕ) (i : ℕ) (o : Option ℕ) → Shows s past m seat → list_any (is_job i) m.cpu ≡ true → find (is_of s (queue_of s i)) m.behind ≡ o
     → Shows s (entry_for (layout_for s) past (Worker (worker (seat i))) call.Finish ∷ past) (ended_with m i o) seat
 unfolding IsLegal queueings
-finish_shown s past m seat i o h old wide on first = record {
+finish_shown s past m seat i o h on first = record {
   legal = legal;
+  widths = ((λ q. width_same (layout_for s) past e q (ap keeps_widths is) ∙ h.wide q), h.widths);
+  wide = λ q. width_same (layout_for s) past e q (ap keeps_widths is) ∙ h.wide q;
   kept = (ap is_retired is, h.kept);
   queued = ap (λ r. queueings past ++ option_to_list (if opens r then option_and_then (λ j. option_map (queued_at past j) (place_wanted past call.Finish j)) (item_of e) else None)) is ∙ append-nil (queueings past) ∙ h.queued;
   ready = ready_after s past m seat e i h legal is on o makes;
@@ -282,7 +284,7 @@ finish_shown s past m seat i o h old wide on first = record {
     legal = (ap (λ b. (b && true) && true) (lt-ltb (seat i) 8 (runner_there (layout_for s) past (worker (seat i)) i h.legal run_at.runs)), refl, h.legal)
 
     makes : newly_active (layout_for s) past e ≡ option_to_list (option_map (queueing_for s) o)
-    makes = finish_makes_ready s past m seat e (seat i) i h old wide legal is run_at ∙ ap (λ p. option_to_list (option_map (queueing_for s) p)) first
+    makes = finish_makes_ready s past m seat e (seat i) i h h.widths h.wide legal is run_at ∙ ap (λ p. option_to_list (option_map (queueing_for s) p)) first
 
     not_true : (b : Bool) → not b ≡ true → b ≡ false
     not_true true h = cc

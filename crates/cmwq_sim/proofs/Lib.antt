@@ -6,5 +6,6 @@ pub mod Finish
 pub mod FinishShown
 pub mod WakeShown
 pub mod TakersAre
+pub mod Phases
 pub mod Progress
 pub mod Outset

@@ -32,7 +32,7 @@ use Rattle.cmwq_laws.proofs.Filters.{filter_same, none_found, count_none}
 use Rattle.cmwq_laws.proofs.Joined.{stays_active, active_live}
 use Rattle.cmwq_laws.proofs.Endings.{open_go_on}
 use Rattle.cmwq_laws.proofs.Promoted.{newly_of_open}
-use Rattle.cmwq_laws.proofs.NewlyActive.{newly_active_are}
+use Rattle.cmwq_laws.proofs.NewlyActive.{newly_active_are, width_same}
 use Rattle.cmwq_laws.proofs.WorklistSteps.{worklists_go_on}
 use Rattle.cmwq_laws.proofs.RunSteps.{workers_run_on}
 use Rattle.cmwq_laws.proofs.ItemRuns.{same_worker-true}
@@ -162,7 +162,7 @@ count-append p (x ∷ xs) ys =
     omega arith
 
 -- an item stands once among those that run
-alone : (m : Moment) (j : Job) (rest : List Job) → m.cpu ≡ j ∷ rest → times m j.item ≤ 1 → (AllByRecursion (λ k. is_job j.item k ≡ false) rest) × (AllByRecursion (λ x. is_sleeper j.item x ≡ false) m.sleeping)
+pub alone : (m : Moment) (j : Job) (rest : List Job) → m.cpu ≡ j ∷ rest → times m j.item ≤ 1 → (AllByRecursion (λ k. is_job j.item k ≡ false) rest) × (AllByRecursion (λ x. is_sleeper j.item x ≡ false) m.sleeping)
 alone m j rest is h =
     let c : count_by (is_job j.item) m.cpu ≡ 1 + count_by (is_job j.item) rest = ap (count_by (is_job j.item)) is ∙ count_by-cons (is_job j.item) j rest ∙ ap (λ b. cond b 1 0 + count_by (is_job j.item) rest) (eq-eqb j.item j.item refl) in
     (count_none (is_job j.item) rest (omega arith), count_none (is_sleeper j.item) m.sleeping (omega arith))
@@ -175,6 +175,8 @@ pub sleep_shown : (s : Plan) (past : List Entry) (m : Moment) (seat : ℕ → �
 unfolding IsLegal queueings is_asleep
 sleep_shown s past m seat j rest until left h is = record {
   legal = legal;
+  widths = ((λ q. width_same (layout_for s) past e q quiet.widths ∙ h.wide q), h.widths);
+  wide = λ q. width_same (layout_for s) past e q quiet.widths ∙ h.wide q;
   kept = (quiet.stays, h.kept);
   queued = ap (λ o. queueings past ++ option_to_list o) (none_opens past e quiet) ∙ append-nil (queueings past) ∙ h.queued;
   ready = worklist_as_before (layout_for s) past e pool legal quiet ∙ all_kept (λ x. not (starts x.number e)) (worklist (layout_for s) past pool) (All_each _ (worklist (layout_for s) past pool) (λ x. ap (λ r. not (is_at (number_started r) x.number)) slept)) ∙ h.ready;

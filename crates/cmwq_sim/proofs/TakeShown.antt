@@ -23,6 +23,7 @@ use Rattle.cmwq_model.specs.Legal.{IsLegal, entry_for}
 use Rattle.cmwq_laws.specs.RunSteps.{run_after}
 use Rattle.cmwq_laws.proofs.Lists.{All_map, All_both, All_append, count_by-cons}
 use Rattle.cmwq_laws.proofs.Filters.{count_none}
+use Rattle.cmwq_laws.proofs.NewlyActive.{width_same}
 use Rattle.cmwq_laws.proofs.RunSteps.{workers_run_on, run_begun}
 use Rattle.cmwq_laws.proofs.ItemRuns.{same_worker-true}
 use Rattle.cmwq_laws.proofs.OwedSteps.{by_itself}
@@ -56,7 +57,7 @@ goes_by s past e x y i b legal who differs r = record {
   sleeps = ap (λ c. if c then asleep_after e.reply (is_asleep past (worker y)) else is_asleep past (worker y)) (not_by e x y who differs) ∙ r.sleeps
 }
 
-job_item : (i : ℕ) (ms : List ℕ) → (job_with i ms).item ≡ i
+pub job_item : (i : ℕ) (ms : List ℕ) → (job_with i ms).item ≡ i
 job_item i [] = refl
 job_item i (b ∷ ms) = refl
 
@@ -79,6 +80,8 @@ pub take_shown : (s : Plan) (past : List Entry) (m : Moment) (seat : ℕ → ℕ
 unfolding IsLegal queueings is_asleep
 take_shown s past m seat x i rest h less free is clear = record {
   legal = legal;
+  widths = ((λ q. width_same (layout_for s) past e q quiet.widths ∙ h.wide q), h.widths);
+  wide = λ q. width_same (layout_for s) past e q quiet.widths ∙ h.wide q;
   kept = (quiet.stays, h.kept);
   queued = ap (λ o. queueings past ++ option_to_list o) (none_opens past e quiet) ∙ append-nil (queueings past) ∙ h.queued;
   ready = worklist_as_before (layout_for s) past e pool legal quiet ∙ ap₂ (λ o ws. filter (λ (y : Queueing). not (is_at o y.number)) ws) started (h.ready ∙ ap (map (queueing_for s)) is)

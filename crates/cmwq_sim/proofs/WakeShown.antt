@@ -32,7 +32,7 @@ use Rattle.cmwq_laws.proofs.Filters.{filter_same, none_found, count_none}
 use Rattle.cmwq_laws.proofs.Joined.{stays_active, active_live}
 use Rattle.cmwq_laws.proofs.Endings.{open_go_on}
 use Rattle.cmwq_laws.proofs.Promoted.{newly_of_open}
-use Rattle.cmwq_laws.proofs.NewlyActive.{newly_active_are}
+use Rattle.cmwq_laws.proofs.NewlyActive.{newly_active_are, width_same}
 use Rattle.cmwq_laws.proofs.WorklistSteps.{worklists_go_on}
 use Rattle.cmwq_laws.proofs.RunSteps.{workers_run_on}
 use Rattle.cmwq_laws.proofs.ItemRuns.{same_worker-true}
@@ -92,6 +92,8 @@ pub wake_shown : (s : Plan) (past : List Entry) (m : Moment) (seat : ℕ → ℕ
 unfolding IsLegal queueings is_asleep
 wake_shown s past m seat i burn left h on = record {
   legal = legal;
+  widths = ((λ q. width_same (layout_for s) past e q quiet.widths ∙ h.wide q), h.widths);
+  wide = λ q. width_same (layout_for s) past e q quiet.widths ∙ h.wide q;
   kept = (quiet.stays, h.kept);
   queued = ap (λ o. queueings past ++ option_to_list o) (none_opens past e quiet) ∙ append-nil (queueings past) ∙ h.queued;
   ready = worklist_as_before (layout_for s) past e pool legal quiet ∙ all_kept (λ x. not (starts x.number e)) (worklist (layout_for s) past pool) (All_each _ (worklist (layout_for s) past pool) (λ x. ap (λ r. not (is_at (number_started r) x.number)) woke)) ∙ h.ready;

@@ -6,13 +6,15 @@ use Rattle.cmwq_model.specs.declared.id.WorkerId.{WorkerId}
 use Rattle.cmwq_model.specs.declared.entry.Entry.{Entry}
 use Rattle.cmwq_model.specs.declared.record.Queueing.{Queueing}
 use Rattle.cmwq_model.specs.declared.shape.QueueShape.{QueueShape}
-use Rattle.cmwq_model.specs.Layout.{Layout}
+use Rattle.cmwq_model.specs.Layout.{Layout, first_width}
 use Rattle.cmwq_model.specs.Runs.{run, is_asleep}
 use Rattle.cmwq_model.specs.Queueings.{queueings, still_open}
 use Rattle.cmwq_model.specs.Active.{worklist}
+use Rattle.cmwq_model.specs.Widths.{width}
 use Rattle.cmwq_model.specs.Workers.{worker_at, is_retired}
 use Rattle.cmwq_model.specs.Legal.{IsLegal}
 use Rattle.cmwq_laws.specs.Activations.{waits}
+use Rattle.cmwq_laws.specs.FirstWidths.{HasFirstWidths}
 use Rattle.cmwq_sim.specs.declared.scenario.SimQueue.{SimQueue}
 use Rattle.cmwq_sim.specs.Plan.{Plan, queue_of}
 use Rattle.cmwq_sim.specs.Lines.{Moment, Job, Sleeper, items_of, is_held_by}
@@ -62,6 +64,8 @@ pub record Shows (s : Plan) (past : List Entry) (m : Moment) (seat : ℕ → ℕ
   pub sleeping : AllByRecursion (λ x. IsRunAt past (seat x.item) x.item true) m.sleeping
   pub no_others : (w : WorkerId) (n : ℕ) → run past w ≡ Some n → (w ≡ worker (seat n)) × (runs_in m n ≡ true)
   pub once : (i : ℕ) → times m i ≤ 1
+  pub widths : HasFirstWidths (layout_for s) past
+  pub wide : (q : ℕ) → width (layout_for s) past q ≡ first_width (layout_for s) q
   pub few : length m.ready + length m.behind + length m.cpu + length m.sleeping ≤ 8
 
 -- what may start next
