@@ -82,7 +82,7 @@ turned p q xs = filter_twice p q xs ∙ filter_same _ _ xs (All_each _ xs (λ x.
     both false false = refl
 
 -- every queue's pool is that of normal priority
-in_pool : (s : Plan) (k : ℕ) → is_in (layout_for s) pool (queueing_for s k) ≡ true
+pub in_pool : (s : Plan) (k : ℕ) → is_in (layout_for s) pool (queueing_for s k) ≡ true
 in_pool s k = ap (λ b. beq b false) (ap (λ (x : QueueShape). x.high) (get_or-map queue_shape s.queues (queue_of s k) no_queue))
 
 module _ (s : Plan) (past : List Entry) (m : Moment) (seat : ℕ → ℕ) (e : Entry) (i : ℕ) (h : Shows s past m seat) (legal : IsLegal (layout_for s) (e ∷ past)) (is : e.reply ≡ reply.Finished i) (on : list_any (is_job i) m.cpu ≡ true)

@@ -7,5 +7,6 @@ pub mod FinishShown
 pub mod WakeShown
 pub mod TakersAre
 pub mod Phases
+pub mod Queued
 pub mod Progress
 pub mod Outset
