@@ -5,7 +5,7 @@ use Rattle.std.specs.Option.{option_map_or}
 use Rattle.std.specs.List.{AllByRecursion, list_any, range_with_len}
 use Rattle.std.proofs.lemmas.List.{map-append, length-map}
 use Rattle.std.proofs.lemmas.List.Elements.{filter-append}
-use Rattle.std.proofs.lemmas.Bool.{lt-ltb, eq-eqb, ne_eqb, and_parts}
+use Rattle.std.proofs.lemmas.Bool.{lt-ltb, eqb-true, ne_eqb}
 use Rattle.std.proofs.lemmas.Bool.Decides.{nat_tests}
 use Rattle.std.proofs.lemmas.Option.{same_Some}
 use Rattle.std.proofs.Math.ListN.{get_or-map}
@@ -42,11 +42,13 @@ use Rattle.cmwq_laws.proofs.Filters.{filter_same, none_found}
 use Rattle.cmwq_laws.proofs.Joined.{active_live, stays_active}
 use Rattle.cmwq_laws.proofs.Endings.{open_go_on}
 use Rattle.cmwq_laws.proofs.NewlyActive.{newly_active_are, opened_have_way, width_same}
+use Rattle.cmwq_laws.proofs.Promoted.{newly_of_open}
+use Rattle.std.proofs.lemmas.List.FromFn.{length-range_with_len}
 use Rattle.cmwq_laws.proofs.WorklistSteps.{worklists_go_on}
 use Rattle.cmwq_sim.specs.Plan.{Plan, queue_of, is_of, max_active, no_queue}
 use Rattle.cmwq_sim.specs.Lines.{Moment, Job, Sleeper, queue_item, items_of}
-use Rattle.cmwq_sim.specs.Shows.{layout_for, queue_shape, pool, queueing_for, times, Shows}
-use Rattle.cmwq_sim.proofs.Steps.{all_kept, count-append}
+use Rattle.cmwq_sim.specs.Shows.{layout_for, queue_shape, pool, queueing_for, is_job, is_sleeper, IsRunAt, Shows}
+use Rattle.cmwq_sim.proofs.Steps.{all_kept, none_kept, count-append}
 use Rattle.cmwq_sim.proofs.FinishShown.{in_pool}
 
 -- ---- answers yes
@@ -241,10 +243,6 @@ module _ (s : Plan) (k : ℕ) (past : List Entry) (m : Moment) (h : ShowsQueued 
   none_ends : ending past (entry_for (layout_for s) past caller (queue_call s k)) ≡ None
   none_ends = none_found (is_ended past (entry_for (layout_for s) past caller (queue_call s k))) (still_open past) (All_each _ (still_open past) (λ x. ap not (spares x)))
 
-  -- it is active at once where fewer than max_active of its queue stand before it
-  way : Bool
-  way = nat_lt (count_by (is_of s (queue_of s k)) (m.ready ++ m.behind)) (max_active s (queue_of s k))
-
   counted : (is : List ℕ) → count_by (is_beside (queueing_for s k)) (map (queueing_for s) is) ≡ count_by (is_of s (queue_of s k)) is
   counted [] = refl
   counted (i ∷ is) = count_by-cons (is_beside (queueing_for s k)) (queueing_for s i) (map (queueing_for s) is) ∙ ap₂ (λ b n. cond b 1 0 + n) (nothing (queue_of s i == queue_of s k)) (counted is) ∙ sym (count_by-cons (is_of s (queue_of s k)) i is)
@@ -253,6 +251,7 @@ module _ (s : Plan) (k : ℕ) (past : List Entry) (m : Moment) (h : ShowsQueued 
       nothing true = refl
       nothing false = refl
 
+  -- it is active at once where fewer than max_active of its queue stand before it
   has_way : has_way_at_once (layout_for s) past (entry_for (layout_for s) past caller (queue_call s k)) (queueing_for s k) ≡ nat_lt (count_by (is_of s (queue_of s k)) (m.ready ++ m.behind)) (max_active s (queue_of s k))
   has_way = ap₂ nat_lt (ap (count_by (is_beside (queueing_for s k))) (spared_all (still_open past) ∙ open_are) ∙ counted (range_with_len 0 k) ∙ sym (h.counts (is_of s (queue_of s k))))
       (h.wide (queue_of s k) ∙ ap (λ (q : QueueShape). q.max_active) (get_or-map queue_shape s.queues (queue_of s k) no_queue))
@@ -264,3 +263,182 @@ module _ (s : Plan) (k : ℕ) (past : List Entry) (m : Moment) (h : ShowsQueued 
 
   open_after : (few : k < 8) (there : queue_of s k < length s.queues) → still_open (entry_for (layout_for s) past caller (queue_call s k) ∷ past) ≡ still_open past ++ queueing_for s k ∷ []
   open_after few there = open_go_on (layout_for s) past (entry_for (layout_for s) past caller (queue_call s k)) (legal few there) ∙ ap₂ (λ xs o. xs ++ option_to_list o) (spared_all (still_open past)) opened
+
+  all_queued : AllByRecursion IsQueued ((entry_for (layout_for s) past caller (queue_call s k)) ∷ past)
+  all_queued = (record { who = refl; says = ap is_yes answered }, h.all)
+
+  -- ---- what is ready then
+
+  left : (x : Queueing) → is_left past (entry_for (layout_for s) past caller (queue_call s k)) x ≡ true
+  left x = ap₂ (λ b o. b && not (is_at o x.number)) (spares x) said.starts
+
+  started_in : (b : Bool) → filter (is_in (layout_for s) pool) (if b then queueing_for s k ∷ [] else []) ≡ map (queueing_for s) (if b then k ∷ [] else [])
+  started_in true = ap (λ b. cond b (queueing_for s k ∷ []) []) (in_pool s k)
+  started_in false = refl
+
+  ready_after : (few : k < 8) (there : queue_of s k < length s.queues) → worklist (layout_for s) ((entry_for (layout_for s) past caller (queue_call s k)) ∷ past) pool ≡ map (queueing_for s) (m.ready ++ (if nat_lt (count_by (is_of s (queue_of s k)) (m.ready ++ m.behind)) (max_active s (queue_of s k)) then k ∷ [] else []))
+  ready_after few there =
+      worklists_go_on (layout_for s) past (entry_for (layout_for s) past caller (queue_call s k)) pool (legal few there)
+      ∙ ap₂ (λ xs ys. xs ++ filter (is_in (layout_for s) pool) ys) (all_kept (is_left past (entry_for (layout_for s) past caller (queue_call s k))) (worklist (layout_for s) past pool) (All_each _ (worklist (layout_for s) past pool) left) ∙ h.ready) (newly few there)
+      ∙ ap (λ ys. map (queueing_for s) m.ready ++ ys) (started_in (nat_lt (count_by (is_of s (queue_of s k)) (m.ready ++ m.behind)) (max_active s (queue_of s k))))
+      ∙ sym (map-append (queueing_for s) m.ready (if nat_lt (count_by (is_of s (queue_of s k)) (m.ready ++ m.behind)) (max_active s (queue_of s k)) then k ∷ [] else []))
+
+  -- ---- and what is behind
+
+  newly_last : (b : Bool) → AllByRecursion (λ (x : Queueing). x.number ≡ k) (if b then queueing_for s k ∷ [] else [])
+  newly_last true = (refl, tt)
+  newly_last false = tt
+
+  none_both : (xs : List Queueing) → AllByRecursion (λ (x : Queueing). x.number ≡ k) xs → AllByRecursion (λ (x : Queueing). x.number < k) xs → xs ≡ []
+  none_both [] a b = refl
+  none_both (x ∷ xs) a b = let e = a.0 in let l = b.0 in absurd (omega arith)
+
+  front : (xs ys : List Queueing) → AllByRecursion (λ (x : Queueing). x.number ≡ k) (xs ++ ys) → AllByRecursion (λ (x : Queueing). x.number ≡ k) xs
+  front [] ys all = tt
+  front (x ∷ xs) ys all = (all.0, front xs ys all.1)
+
+  keep : (q : Queueing → Bool) (xs : List Queueing) → AllByRecursion (λ (x : Queueing). x.number < k) xs → AllByRecursion (λ (x : Queueing). x.number < k) (filter q xs)
+  keep q [] all = tt
+  keep q (x ∷ xs) all = at (q x) (keep q xs all.1)
+    where
+      at : (b : Bool) → AllByRecursion (λ (y : Queueing). y.number < k) (filter q xs) → AllByRecursion (λ (y : Queueing). y.number < k) (cond b (x ∷ filter q xs) (filter q xs))
+      at true rest = (all.0, rest)
+      at false rest = rest
+
+  old_ones : AllByRecursion (λ (x : Queueing). x.number < k) (still_open past)
+  old_ones = subst (AllByRecursion (λ (x : Queueing). x.number < k)) (sym all_open) numbered
+
+  none_newly : (few : k < 8) (there : queue_of s k < length s.queues) → AllByRecursion (λ x. is_newly_active (layout_for s) past (entry_for (layout_for s) past caller (queue_call s k)) x ≡ false) (still_open past)
+  none_newly few there =
+      none_kept (is_newly_active (layout_for s) past (entry_for (layout_for s) past caller (queue_call s k))) (still_open past)
+        (none_both (filter (is_newly_active (layout_for s) past (entry_for (layout_for s) past caller (queue_call s k))) (still_open past))
+          (front (filter (is_newly_active (layout_for s) past (entry_for (layout_for s) past caller (queue_call s k))) (still_open past)) (filter (is_newly_active (layout_for s) past (entry_for (layout_for s) past caller (queue_call s k))) (queueing_for s k ∷ []))
+            (subst (AllByRecursion (λ (x : Queueing). x.number ≡ k))
+              (sym (newly few there) ∙ newly_of_open (layout_for s) past (entry_for (layout_for s) past caller (queue_call s k)) ∙ ap (filter (is_newly_active (layout_for s) past (entry_for (layout_for s) past caller (queue_call s k)))) (open_after few there) ∙ filter-append (is_newly_active (layout_for s) past (entry_for (layout_for s) past caller (queue_call s k))) (still_open past) (queueing_for s k ∷ []))
+              (newly_last (nat_lt (count_by (is_of s (queue_of s k)) (m.ready ++ m.behind)) (max_active s (queue_of s k))))))
+          (keep (is_newly_active (layout_for s) past (entry_for (layout_for s) past caller (queue_call s k))) (still_open past) old_ones))
+
+  as_before : (few : k < 8) (there : queue_of s k < length s.queues) (x : Queueing) → x.number < k → is_newly_active (layout_for s) past (entry_for (layout_for s) past caller (queue_call s k)) x ≡ false → waits (layout_for s) ((entry_for (layout_for s) past caller (queue_call s k)) ∷ past) x ≡ waits (layout_for s) past x
+  as_before few there x less none = at (is_active (layout_for s) past x) refl
+    where
+      live : is_live ((entry_for (layout_for s) past caller (queue_call s k)) ∷ past) x ≡ true
+      live = stays_open ((entry_for (layout_for s) past caller (queue_call s k)) ∷ past) x.item.0 x.number all_queued ∙ lt-ltb x.number (suc (length past)) (let n = h.many in omega arith)
+
+      simple : (a : Bool) → (a && true) ≡ false → a ≡ false
+      simple true h = h
+      simple false h = refl
+
+      at : (b : Bool) → is_active (layout_for s) past x ≡ b → not (is_active (layout_for s) ((entry_for (layout_for s) past caller (queue_call s k)) ∷ past) x) ≡ not b
+      at true was = ap not (stays_active (layout_for s) past (entry_for (layout_for s) past caller (queue_call s k)) x was live)
+      at false was = ap not (simple (is_active (layout_for s) ((entry_for (layout_for s) past caller (queue_call s k)) ∷ past) x) (sym (ap (λ b. is_active (layout_for s) ((entry_for (layout_for s) past caller (queue_call s k)) ∷ past) x && not b) was) ∙ none))
+
+  last_waits : (few : k < 8) (there : queue_of s k < length s.queues) → waits (layout_for s) ((entry_for (layout_for s) past caller (queue_call s k)) ∷ past) (queueing_for s k) ≡ not (nat_lt (count_by (is_of s (queue_of s k)) (m.ready ++ m.behind)) (max_active s (queue_of s k)))
+  last_waits few there = ap not (opened_have_way (layout_for s) past (entry_for (layout_for s) past caller (queue_call s k)) (queueing_for s k) (legal few there) opened ∙ has_way)
+
+  put : (b : Bool) → cond (not b) (queueing_for s k ∷ []) [] ≡ map (queueing_for s) (if b then [] else k ∷ [])
+  put true = refl
+  put false = refl
+
+  behind_after : (few : k < 8) (there : queue_of s k < length s.queues) → filter (waits (layout_for s) ((entry_for (layout_for s) past caller (queue_call s k)) ∷ past)) (still_open ((entry_for (layout_for s) past caller (queue_call s k)) ∷ past)) ≡ map (queueing_for s) (m.behind ++ (if nat_lt (count_by (is_of s (queue_of s k)) (m.ready ++ m.behind)) (max_active s (queue_of s k)) then [] else k ∷ []))
+  behind_after few there =
+      ap (filter (waits (layout_for s) ((entry_for (layout_for s) past caller (queue_call s k)) ∷ past))) (open_after few there)
+      ∙ filter-append (waits (layout_for s) ((entry_for (layout_for s) past caller (queue_call s k)) ∷ past)) (still_open past) (queueing_for s k ∷ [])
+      ∙ ap₂ (λ xs ys. xs ++ ys)
+          (filter_same (waits (layout_for s) ((entry_for (layout_for s) past caller (queue_call s k)) ∷ past)) (waits (layout_for s) past) (still_open past)
+            (All_both (λ (x : Queueing). x.number < k) (λ x. is_newly_active (layout_for s) past (entry_for (layout_for s) past caller (queue_call s k)) x ≡ false) _ (still_open past) (λ x less none. as_before few there x less none) old_ones (none_newly few there)) ∙ h.behind)
+          (ap (λ b. cond b (queueing_for s k ∷ []) []) (last_waits few there) ∙ put (nat_lt (count_by (is_of s (queue_of s k)) (m.ready ++ m.behind)) (max_active s (queue_of s k))))
+      ∙ sym (map-append (queueing_for s) m.behind (if nat_lt (count_by (is_of s (queue_of s k)) (m.ready ++ m.behind)) (max_active s (queue_of s k)) then [] else k ∷ []))
+
+  -- ---- together
+
+  pub queue_shown : (few : k < 8) (there : queue_of s k < length s.queues) → ShowsQueued s (suc k) ((entry_for (layout_for s) past caller (queue_call s k)) ∷ past) (queue_item s m k)
+  unfolding queueings
+  queue_shown few there = at (nat_lt (count_by (is_of s (queue_of s k)) (m.ready ++ m.behind)) (max_active s (queue_of s k))) refl
+    where
+      counts_ready : (p : ℕ → Bool) → count_by p ((m.ready ++ k ∷ []) ++ m.behind) ≡ count_by p (range_with_len 0 (suc k))
+      counts_ready p =
+          let a = count-append p (m.ready ++ k ∷ []) m.behind in
+          let b = count-append p m.ready (k ∷ []) in
+          let c = h.counts p in
+          let d = count-append p m.ready m.behind in
+          let e = ap (count_by p) (range_more 0 k ∙ ap (λ n. range_with_len 0 k ++ n ∷ []) (omega arith)) ∙ count-append p (range_with_len 0 k) (k ∷ []) in
+          omega arith
+
+      counts_behind : (p : ℕ → Bool) → count_by p (m.ready ++ (m.behind ++ k ∷ [])) ≡ count_by p (range_with_len 0 (suc k))
+      counts_behind p =
+          let a = count-append p m.ready (m.behind ++ k ∷ []) in
+          let b = count-append p m.behind (k ∷ []) in
+          let c = h.counts p in
+          let d = count-append p m.ready m.behind in
+          let e = ap (count_by p) (range_more 0 k ∙ ap (λ n. range_with_len 0 k ++ n ∷ []) (omega arith)) ∙ count-append p (range_with_len 0 k) (k ∷ []) in
+          omega arith
+
+      still_wide : (q : ℕ) → width (layout_for s) ((entry_for (layout_for s) past caller (queue_call s k)) ∷ past) q ≡ first_width (layout_for s) q
+      still_wide q = width_same (layout_for s) past (entry_for (layout_for s) past caller (queue_call s k)) q said.widths ∙ h.wide q
+
+      all_listed : queueings ((entry_for (layout_for s) past caller (queue_call s k)) ∷ past) ≡ map (queueing_for s) (range_with_len 0 (suc k))
+      all_listed = ap₂ (λ xs o. xs ++ option_to_list o) h.queued opened ∙ sym (map-append (queueing_for s) (range_with_len 0 k) (k ∷ [])) ∙ ap (map (queueing_for s)) (sym (range_more 0 k ∙ ap (λ n. range_with_len 0 k ++ n ∷ []) (omega arith)))
+
+      at : (b : Bool) → nat_lt (count_by (is_of s (queue_of s k)) (m.ready ++ m.behind)) (max_active s (queue_of s k)) ≡ b → ShowsQueued s (suc k) ((entry_for (layout_for s) past caller (queue_call s k)) ∷ past) (if b then record m { ready = m.ready ++ k ∷ [] } else record m { behind = m.behind ++ k ∷ [] })
+      at true is = record {
+        legal = legal few there; all = all_queued; many = ap suc h.many; queued = all_listed;
+        ready = ready_after few there ∙ ap (λ b. map (queueing_for s) (m.ready ++ (if b then k ∷ [] else []))) is;
+        behind = behind_after few there ∙ ap (λ b. map (queueing_for s) (m.behind ++ (if b then [] else k ∷ []))) is ∙ ap (map (queueing_for s)) (append-nil m.behind);
+        cpu = h.cpu; sleeping = h.sleeping; counts = counts_ready; widths = (still_wide, h.widths); wide = still_wide
+      }
+      at false is = record {
+        legal = legal few there; all = all_queued; many = ap suc h.many; queued = all_listed;
+        ready = ready_after few there ∙ ap (λ b. map (queueing_for s) (m.ready ++ (if b then k ∷ [] else []))) is ∙ ap (map (queueing_for s)) (append-nil m.ready);
+        behind = behind_after few there ∙ ap (λ b. map (queueing_for s) (m.behind ++ (if b then [] else k ∷ []))) is;
+        cpu = h.cpu; sleeping = h.sleeping; counts = counts_behind; widths = (still_wide, h.widths); wide = still_wide
+      }
+
+-- ---- when all are queued
+
+none_retired : (past : List Entry) → AllByRecursion IsQueued past → AllByRecursion (λ e. is_retired e.reply ≡ false) past
+none_retired [] all = tt
+none_retired (e ∷ past) all = ((says e.reply all.0.says).stays, none_retired past all.1)
+
+none_later : (i b n : ℕ) → i < b → count_by (λ j. j == i) (range_with_len b n) ≡ 0
+none_later i b zero less = refl
+none_later i b (suc n) less = count_by-cons (λ j. j == i) b (range_with_len (b + 1) n) ∙ ap₂ (λ c r. cond c 1 0 + r) (ne_eqb b i (λ same. absurd (omega arith))) (none_later i (b + 1) n (omega arith))
+
+once_among : (a k i : ℕ) → count_by (λ j. j == i) (range_with_len a k) ≤ 1
+once_among a zero i = omega arith
+once_among a (suc k) i = at (a == i) refl (once_among (a + 1) k i)
+  where
+    at : (b : Bool) → (a == i) ≡ b → count_by (λ j. j == i) (range_with_len (a + 1) k) ≤ 1 → count_by (λ j. j == i) (range_with_len a (suc k)) ≤ 1
+    at true is rest =
+        let c = count_by-cons (λ j. j == i) a (range_with_len (a + 1) k) ∙ ap (λ c. cond c 1 0 + count_by (λ j. j == i) (range_with_len (a + 1) k)) is in
+        let same : a ≡ i = eqb-true a i is in
+        let d = none_later i (a + 1) k (omega arith) in
+        omega arith
+    at false is rest =
+        let c = count_by-cons (λ j. j == i) a (range_with_len (a + 1) k) ∙ ap (λ c. cond c 1 0 + count_by (λ j. j == i) (range_with_len (a + 1) k)) is in
+        omega arith
+
+count_all : (xs : List ℕ) → count_by (λ j. true) xs ≡ length xs
+count_all [] = refl
+count_all (x ∷ xs) = count_by-cons (λ j. true) x xs ∙ ap (λ n. 1 + n) (count_all xs) ∙ omega arith
+
+pub all_shown : (s : Plan) (past : List Entry) (m : Moment) (seat : ℕ → ℕ) → length s.items ≤ 8 → ShowsQueued s (length s.items) past m → Shows s past m seat
+all_shown s past m seat few h = record {
+  legal = h.legal; kept = none_retired past h.all; queued = h.queued; ready = h.ready; behind = h.behind;
+  cpu = subst (AllByRecursion (λ j. IsRunAt past (seat j.item) j.item false)) (sym h.cpu) tt; sleeping = subst (AllByRecursion (λ x. IsRunAt past (seat x.item) x.item true)) (sym h.sleeping) tt;
+  no_others = λ w n runs. absurd (none_some (sym (nobody_runs past w h.all) ∙ runs));
+  once = λ i.
+    let a = ap₂ (λ (js : List Job) (xs : List Sleeper). count_by (is_job i) js + count_by (is_sleeper i) xs) h.cpu h.sleeping in
+    let b = count-append (λ j. j == i) m.ready m.behind in
+    let c = h.counts (λ j. j == i) in
+    let d = once_among 0 (length s.items) i in
+    omega arith;
+  widths = h.widths; wide = h.wide;
+  few =
+    let a = ap₂ (λ (js : List Job) (xs : List Sleeper). length js + length xs) h.cpu h.sleeping in
+    let b = length-append m.ready m.behind in
+    let c = sym (count_all (m.ready ++ m.behind)) ∙ h.counts (λ j. true) ∙ count_all (range_with_len 0 (length s.items)) ∙ length-range_with_len 0 (length s.items) in
+    omega arith
+}
+  where
+    none_some : {n : ℕ} → None ≡ Some n → ⊥
+    none_some {n} h = cc

@@ -56,7 +56,7 @@ pub all_kept : {X : Type 0} (p : X → Bool) (xs : List X) → AllByRecursion (�
 all_kept p [] h = refl
 all_kept p (x ∷ xs) h = ap₂ (λ b ys. cond b (x ∷ ys) ys) h.0 (all_kept p xs h.1)
 
-none_kept : {X : Type 0} (p : X → Bool) (xs : List X) → filter p xs ≡ [] → AllByRecursion (λ x. p x ≡ false) xs
+pub none_kept : {X : Type 0} (p : X → Bool) (xs : List X) → filter p xs ≡ [] → AllByRecursion (λ x. p x ≡ false) xs
 none_kept p [] h = tt
 none_kept p (x ∷ xs) h = at (p x) refl h (λ k. none_kept p xs k)
   where
