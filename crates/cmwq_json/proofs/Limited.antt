@@ -16,7 +16,8 @@ use Rattle.cmwq_json.specs.InTurn.{in_turn}
 use Rattle.cmwq_json.specs.Keys.{has_keys}
 use Rattle.cmwq_json.specs.Names.{Named, nobody, add_named, is_between, is_taken, name_said, number_of}
 use Rattle.cmwq_json.specs.Numbers.{number_between, width_for, width_said}
-use Rattle.cmwq_json.specs.Scenarios.{queue_with, queue_said, add_queue, add_part, if_few, ms_said, queue_number, item_with, item_said, add_item}
+use Rattle.cmwq_json.specs.Queues.{with_parts, parts_said}
+use Rattle.cmwq_json.specs.Scenarios.{queue_said, add_queue, add_part, if_few, ms_said, queue_number, item_with, item_said, add_item}
 use Rattle.cmwq_json.proofs.Turns.{kept}
 
 -- ---- lists with one more
@@ -82,16 +83,22 @@ then_said P said each (Some d) = each d
 
 -- ---- queues
 
-queue_limits : (d : Data) (x : List ℕ × SimQueue) → queue_said d ≡ Some x → IsQueue x.1
-queue_limits d x is = at (has_keys (codes "intensive" ∷ codes "max_active" ∷ codes "name" ∷ []) d) (option_and_then name_said (get (codes "name") d)) (option_and_then width_said (get (codes "max_active") d))
-    (option_and_then as_bool (get (codes "intensive") d)) (then_said (IsBetween 1 512) width_said width_limits (get (codes "max_active") d)) is
+parts_limits : (d : Data) → IfSome (parts_said d) (λ parts. IsBetween 1 512 parts.1)
+parts_limits d = at (option_and_then name_said (get (codes "name") d)) (option_and_then width_said (get (codes "max_active") d)) (option_and_then as_bool (get (codes "intensive") d)) (then_said (IsBetween 1 512) width_said width_limits (get (codes "max_active") d))
   where
-    at : (b : Bool) (name : Option (List ℕ)) (w : Option ℕ) (i : Option Bool) → IfSome w (IsBetween 1 512) → (if b then queue_with name w i else None) ≡ Some x → IsQueue x.1
-    at false name w i h said = cc
-    at true None w i h said = cc
-    at true (Some n) None i h said = cc
-    at true (Some n) (Some w) None h said = cc
-    at true (Some n) (Some w) (Some i) h said = subst (λ (y : List ℕ × SimQueue). IsQueue y.1) (same_Some (n, record { max_active = w; intensive = i }) x said) h
+    at : (name : Option (List ℕ)) (w : Option ℕ) (i : Option Bool) → IfSome w (IsBetween 1 512) → IfSome (with_parts name w i) (λ parts. IsBetween 1 512 parts.1)
+    at None w i h = tt
+    at (Some n) None i h = tt
+    at (Some n) (Some w) None h = tt
+    at (Some n) (Some w) (Some i) h = h
+
+queue_limits : (d : Data) (x : List ℕ × SimQueue) → queue_said d ≡ Some x → IsQueue x.1
+queue_limits d x is = at (has_keys (codes "intensive" ∷ codes "max_active" ∷ codes "name" ∷ []) d) (parts_said d) (parts_limits d) is
+  where
+    at : (b : Bool) (parts : Option (List ℕ × ℕ × Bool)) → IfSome parts (λ p. IsBetween 1 512 p.1) → (if b then option_map (λ p. (p.0, record { max_active = p.1; intensive = p.2 })) parts else None) ≡ Some x → IsQueue x.1
+    at false parts h said = cc
+    at true None h said = cc
+    at true (Some p) h said = subst (λ (y : List ℕ × SimQueue). IsQueue y.1) (same_Some (p.0, record { max_active = p.1; intensive = p.2 }) x said) h
 
 pub queues_kept : (n : ℕ) (ds : Items) (m : Named SimQueue) → in_turn add_queue n nobody ds ≡ Ok m → AreKept IsQueue m
 queues_kept n ds m is = kept (AreKept IsQueue) add_queue one n nobody ds m (record { same = refl; few = omega arith; values = tt }) is

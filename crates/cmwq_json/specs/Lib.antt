@@ -4,5 +4,6 @@ pub mod Members
 pub mod Names
 pub mod Numbers
 pub mod Parts
+pub mod Queues
 pub mod Scenarios
 pub mod Scripts

@@ -1,28 +1,22 @@
 -- What a JSON value says of a scenario, or which member of it is refused first.
-use Rattle.std.specs.Prelude.{ℕ, Bool, if◌then◌else◌, List, [], ◌∷◌, ◌++◌, length, Option, Some, None, Result, Ok, Err, option_map, option_and_then, codes, nat_lt}
+use Rattle.std.specs.Prelude.{ℕ, if◌then◌else◌, List, [], ◌∷◌, ◌++◌, length, Option, Some, None, Result, Ok, Err, option_map, option_and_then, codes, nat_lt}
 use Rattle.serde_json.specs.Data.{Data, Items}
-use Rattle.serde_json.specs.Find.{get, as_bool, as_str, as_array}
+use Rattle.serde_json.specs.Find.{get, as_str, as_array}
 use Rattle.cmwq_sim.specs.declared.scenario.SimQueue.{SimQueue}
 use Rattle.cmwq_sim.specs.Plan.{Plan, Item}
 use Rattle.cmwq_json.specs.declared.refused.Refused.{Refused}
 use Rattle.cmwq_json.specs.InTurn.{in_turn}
 use Rattle.cmwq_json.specs.Keys.{has_keys}
 use Rattle.cmwq_json.specs.Names.{name_said, Named, nobody, number_of, add_named, is_between}
-use Rattle.cmwq_json.specs.Numbers.{number_between, width_said}
+use Rattle.cmwq_json.specs.Numbers.{number_between}
+use Rattle.cmwq_json.specs.Queues.{parts_said}
 use Rattle.cmwq_json.specs.Parts.{top, queues, items}
 
 -- ---- a queue: its name, its max_active, and whether it is CPU intensive
 
-abbrev pub queue_with : Option (List ℕ) → Option ℕ → Option Bool → Option (List ℕ × SimQueue)
-queue_with (Some name) (Some width) (Some intensive) = Some (name, record { max_active = width; intensive = intensive })
-queue_with (Some name) (Some width) None = None
-queue_with (Some name) None o = None
-queue_with None w o = None
-
 abbrev pub queue_said : Data → Option (List ℕ × SimQueue)
 queue_said d =
-    if has_keys (codes "intensive" ∷ codes "max_active" ∷ codes "name" ∷ []) d
-    then queue_with (option_and_then name_said (get (codes "name") d)) (option_and_then width_said (get (codes "max_active") d)) (option_and_then as_bool (get (codes "intensive") d))
+    if has_keys (codes "intensive" ∷ codes "max_active" ∷ codes "name" ∷ []) d then option_map (λ parts. (parts.0, record { max_active = parts.1; intensive = parts.2 })) (parts_said d)
     else None
 
 abbrev pub add_queue : Named SimQueue → Data → Option (Named SimQueue)
@@ -33,6 +27,7 @@ add_queue before d = option_and_then (add_named 8 before) (queue_said d)
 abbrev pub add_part : List ℕ → Data → Option (List ℕ)
 add_part before d = option_map (λ n. before ++ n ∷ []) (number_between 1 1000 d)
 
+-- there are 1 to 8
 abbrev pub if_few : Result (List ℕ) ℕ → Option (List ℕ)
 if_few (Ok ms) = if is_between 1 8 (length ms) then Some ms else None
 if_few (Err i) = None
@@ -65,6 +60,7 @@ pub record PlanWithNames : Type 0 where
   pub plan : Plan
   pub names : List (List ℕ)
 
+-- the items are looked at once there is a queue and none is refused
 abbrev pub script_with : Named SimQueue → Result (Named Item) ℕ → Result PlanWithNames Refused
 script_with qs (Ok is) = Ok (record { plan = record { queues = qs.values; items = is.values }; names = is.names })
 script_with qs (Err i) = Err (items i)

@@ -1,9 +1,9 @@
 //! The keys of an object.
 
-ghost use Rattle.std.specs.Prelude.{◌≡◌, map, is_some, option_map};
+ghost use Rattle.std.specs.Prelude.{◌≡◌, map, is_some, option_map, option_and_then};
 ghost use Rattle.std.specs.List.{list_all};
-ghost use Rattle.serde_json.specs.Find.{get, as_object};
-ghost use Rattle.serde_json.specs.View.{view};
+ghost use Rattle.serde_json.specs.Find.{get, as_array, as_object};
+ghost use Rattle.serde_json.specs.View.{view, items_view};
 ghost use Rattle.cmwq_json.specs.Keys as spec;
 
 use serde_json::Value;
@@ -34,4 +34,11 @@ pub fn has_keys(value: &Value, keys: &[&str]) -> bool
     ensures { result ≡ spec.has_keys (map (λ key. key.now) keys.now) (view value.now) }
 {
     len(value) == Some(keys.len()) && has_each(value, keys)
+}
+
+/// The array at a key.
+pub fn array_at<'v>(value: &'v Value, key: &str) -> Option<&'v Vec<Value>>
+    ensures { option_map (λ v. items_view v.now.items) result ≡ option_and_then as_array (get key.now (view value.now)) }
+{
+    value.get(key)?.as_array()
 }

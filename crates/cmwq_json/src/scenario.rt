@@ -10,9 +10,10 @@ ghost use Rattle.cmwq_json.specs.Members.{named_of};
 ghost use Rattle.cmwq_json.specs.Scenarios as spec;
 ghost use Rattle.cmwq_json.specs.Scripts.{items_of, script_of, told, HasLimits};
 
-use crate::keys::has_keys;
+use crate::keys::{array_at, has_keys};
 use crate::names::{Members, in_order, number_of, read_name};
-use crate::numbers::{read_number, read_width};
+use crate::numbers::read_number;
+use crate::queues::read_parts;
 use crate::refused::{Part, Refused};
 use cmwq_sim::{Scenario, SimItem, SimQueue};
 use indexmap::IndexSet;
@@ -33,9 +34,7 @@ fn read_queue(value: &Value) -> Option<(&str, SimQueue)>
     if !has_keys(value, &["intensive", "max_active", "name"]) {
         return None;
     }
-    let name = read_name(value.get("name")?)?;
-    let max_active = read_width(value.get("max_active")?)?;
-    let intensive = value.get("intensive")?.as_bool()?;
+    let (name, max_active, intensive) = read_parts(value)?;
     Some((
         name,
         SimQueue {
@@ -204,12 +203,6 @@ fn read_lists(
         },
         names,
     }))
-}
-
-fn array_at<'v>(value: &'v Value, key: &str) -> Option<&'v Vec<Value>>
-    ensures { option_map (λ v. items_view v.now.items) result ≡ option_and_then as_array (get key.now (view value.now)) }
-{
-    value.get(key)?.as_array()
 }
 
 /// The scenario that a value names, or the first member that is refused: the keys and their types first, then the queues in

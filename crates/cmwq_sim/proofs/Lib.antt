@@ -8,5 +8,6 @@ pub mod WakeShown
 pub mod TakersAre
 pub mod Phases
 pub mod Queued
+pub mod Roomy
 pub mod Progress
 pub mod Outset

@@ -88,7 +88,7 @@ less_kept f q (x ∷ xs) = at (q x) (less_kept f q xs)
     at true h = let a = sum_by-cons f x (filter q xs) in let b = sum_by-cons f x xs in omega arith
     at false h = let b = sum_by-cons f x xs in omega arith
 
-found_apart : {X : Type 0} (f : X → ℕ) (p q : X → Bool) (xs : List X) (z : X) → find p xs ≡ Some z → q z ≡ false → sum_by f (filter q xs) + f z ≤ sum_by f xs
+pub found_apart : {X : Type 0} (f : X → ℕ) (p q : X → Bool) (xs : List X) (z : X) → find p xs ≡ Some z → q z ≡ false → sum_by f (filter q xs) + f z ≤ sum_by f xs
 found_apart f p q [] z is out = cc
 found_apart f p q (x ∷ xs) z is out = at (p x) is (λ k. found_apart f p q xs z k out)
   where

@@ -5,12 +5,13 @@ mod laws;
 mod scenario;
 mod tables;
 mod text;
-mod takes;
 
 pub use laws::all_items_end;
 pub use scenario::{Line, LineKind, Scenario, SimItem, SimQueue};
-pub use takes::taker;
 pub use text::spell_lines;
 pub use tables::{
     tables_with_intensive, tables_with_one_active, tables_with_three_active, tables_with_two_active,
 };
+
+#[cfg(test)]
+mod tests;
