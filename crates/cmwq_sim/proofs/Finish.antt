@@ -1,28 +1,24 @@
 -- What the end of a run makes ready.
-use Rattle.std.proofs.Common.{◌≡◌, ◌≢◌, ◌==◌, ◌<◌, ◌≤◌, ◌+◌, ◌-◌, ℕ, zero, suc, Bool, true, false, cond, not, ◌&&◌, ◌||◌, List, [], ◌∷◌, ◌++◌, length, map, filter, find, count_by, Option, Some, None, nat_lt, refl, sym, ap, ap₂, ◌∙◌, subst, arith, ◌⊎◌, inl, inr, ⊎_elim, option_to_list, append-nil}
-use Rattle.std.specs.Prelude.{is_some, option_map, option_and_then, if◌then◌else◌, slice_get}
+use Rattle.std.proofs.Common.{◌≡◌, ◌==◌, ◌≤◌, ◌-◌, ℕ, zero, suc, Bool, true, false, cond, not, ◌&&◌, List, [], ◌∷◌, ◌++◌, map, filter, find, count_by, Option, Some, None, nat_lt, refl, sym, ap, ap₂, ◌∙◌, subst, arith, ⊎_elim, option_to_list, append-nil}
+use Rattle.std.specs.Prelude.{option_map, option_and_then, if◌then◌else◌, slice_get}
 use Rattle.std.specs.Option.{option_or}
 use Rattle.std.specs.List.{AllByRecursion}
-use Rattle.std.proofs.lemmas.Bool.{eqb-true, and_parts}
 use Rattle.std.proofs.lemmas.Bool.Decides.{nat_tests}
 use Rattle.std.proofs.lemmas.Option.{same_Some}
-use Rattle.cmwq_model.specs.declared.id.Who.TheVariants.{Worker}
-use Rattle.cmwq_model.specs.declared.call.Call.TheVariants as call
 use Rattle.cmwq_model.specs.declared.reply.Reply.TheVariants as reply
 use Rattle.cmwq_model.specs.declared.entry.Entry.{Entry}
 use Rattle.cmwq_model.specs.declared.record.Queueing.{Queueing}
 use Rattle.cmwq_model.specs.Layout.{Layout, first_width}
 use Rattle.cmwq_model.specs.Calls.{item_of}
 use Rattle.cmwq_model.specs.Fate.{number_finished, number_cancelled}
-use Rattle.cmwq_model.specs.Runs.{run}
-use Rattle.cmwq_model.specs.Queueings.{queueings, still_open, is_live, opening, opens, queued_at, place_wanted, queueing_at}
+use Rattle.cmwq_model.specs.Queueings.{queueings, still_open, is_live, opening, opens, queued_at, place_wanted}
 use Rattle.cmwq_model.specs.Widths.{width}
 use Rattle.cmwq_model.specs.Active.{is_active, is_ahead, has_way, newly_active}
 use Rattle.cmwq_model.specs.Legal.{IsLegal}
 use Rattle.cmwq_laws.specs.Endings.{is_ended, ending, number_replaced}
 use Rattle.cmwq_laws.specs.Fidelity.{is_on, open_on}
 use Rattle.cmwq_laws.specs.FirstWidths.{HasFirstWidths}
-use Rattle.cmwq_laws.specs.Activations.{keeps_widths, waits, is_beside, beside, behind_width, has_way_at_once}
+use Rattle.cmwq_laws.specs.Activations.{keeps_widths, waits, behind_width, has_way_at_once}
 use Rattle.cmwq_laws.proofs.Lists.{All_each, All_both}
 use Rattle.cmwq_laws.proofs.Ranks.{is_below, Ranked}
 use Rattle.cmwq_laws.proofs.Active.{ways, open_ranked, on_each}
@@ -34,7 +30,7 @@ use Rattle.cmwq_laws.proofs.NewlyActive.{newly_active_are}
 use Rattle.cmwq_ties.proofs.Members.{In, found, in_filter}
 use Rattle.cmwq_sim.specs.Plan.{Plan, queue_of, is_of}
 use Rattle.cmwq_sim.specs.Lines.{Moment, items_of}
-use Rattle.cmwq_sim.specs.Shows.{layout_for, pool, worker, queueing_for, IsRunAt, Shows}
+use Rattle.cmwq_sim.specs.Shows.{layout_for, worker, queueing_for, IsRunAt, Shows}
 use Rattle.cmwq_sim.proofs.TakeReads.{run_found}
 
 -- of a list whose first w pass, the one just behind them is the first that doesn't
@@ -122,7 +118,7 @@ find_mapped s q (x ∷ xs) = at (queue_of s x == q) (find_mapped s q xs)
 pub finish_makes_ready : (s : Plan) (past : List Entry) (m : Moment) (seat : ℕ → ℕ) (e : Entry) (x i : ℕ) → Shows s past m seat → HasFirstWidths (layout_for s) past → ((q : ℕ) → width (layout_for s) past q ≡ first_width (layout_for s) q)
     → IsLegal (layout_for s) (e ∷ past) → e.reply ≡ reply.Finished i → IsRunAt past x i false
     → newly_active (layout_for s) past e ≡ option_to_list (option_map (queueing_for s) (find (is_of s (queue_of s i)) m.behind))
-finish_makes_ready s past m seat e x i h old wide legal is r = 
+finish_makes_ready s past m seat e x i h old wide legal is r =
     newly_active_are (layout_for s) past e legal (ap keeps_widths is)
     ∙ ap₂ (λ a b. filter (waits (layout_for s) past) (option_to_list (behind_width (layout_for s) past a)) ++ filter (has_way_at_once (layout_for s) past e) (option_to_list b)) (ends_run s past m seat e i h legal is) opened
     ∙ append-nil _ ∙ first_waiting s past i old wide way ∙ ap (λ xs. option_to_list (find (is_on (queue_of s i) 0) xs)) h.behind ∙ ap option_to_list (find_mapped s (queue_of s i) m.behind)

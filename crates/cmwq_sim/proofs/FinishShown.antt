@@ -1,9 +1,9 @@
 -- The end of a run carries the relation.
-use Rattle.std.proofs.Common.{◌≡◌, ◌≢◌, ◌==◌, ◌<◌, ◌≤◌, ◌+◌, ℕ, zero, suc, Bool, true, false, cond, not, ◌&&◌, ◌||◌, List, [], ◌∷◌, ◌++◌, length, map, filter, find, count_by, Option, Some, None, nat_lt, refl, sym, ap, ap₂, ◌∙◌, subst, arith, ◌⊎◌, inl, inr, ⊎_elim, option_to_list, append-nil, length-append}
-use Rattle.std.specs.Prelude.{is_some, option_map, option_and_then, if◌then◌else◌}
+use Rattle.std.proofs.Common.{◌≡◌, ◌==◌, ◌≤◌, ◌+◌, ℕ, suc, Bool, true, false, cond, not, ◌&&◌, ◌||◌, List, [], ◌∷◌, ◌++◌, length, map, filter, find, count_by, Option, Some, None, refl, sym, ap, ap₂, ◌∙◌, subst, arith, inl, inr, ⊎_elim, option_to_list, append-nil, length-append}
+use Rattle.std.specs.Prelude.{option_map, option_and_then, if◌then◌else◌}
 use Rattle.std.specs.List.{AllByRecursion, list_any}
 use Rattle.std.proofs.lemmas.List.{map-append}
-use Rattle.std.proofs.lemmas.Bool.{lt-ltb, eqb-true, eq-eqb, ne_eqb, and_parts, or_cases, cases_eq}
+use Rattle.std.proofs.lemmas.Bool.{lt-ltb, eqb-true, eq-eqb, ne_eqb, or_cases}
 use Rattle.std.proofs.lemmas.Option.{same_Some}
 use mathlib.Core.Bool.{beq}
 use Rattle.std.proofs.Math.ListN.{get_or-map}
@@ -14,16 +14,13 @@ use Rattle.cmwq_model.specs.declared.reply.Reply.TheVariants as reply
 use Rattle.cmwq_model.specs.declared.entry.Entry.{Entry}
 use Rattle.cmwq_model.specs.declared.record.Queueing.{Queueing}
 use Rattle.cmwq_model.specs.declared.shape.QueueShape.{QueueShape}
-use Rattle.cmwq_model.specs.Layout.{Layout, first_width, queue_at}
 use Rattle.cmwq_model.specs.Calls.{item_of, is_by, is_at, is_of_item}
-use Rattle.cmwq_model.specs.Fate.{number_finished, number_cancelled, number_started, replaces, starts, is_started}
-use Rattle.cmwq_model.specs.Queueings.{queueings, still_open, is_live, opening, opens, queued_at, place_wanted}
-use Rattle.cmwq_model.specs.Widths.{width}
+use Rattle.cmwq_model.specs.Fate.{number_finished, number_cancelled, number_started, replaces, is_started}
+use Rattle.cmwq_model.specs.Queueings.{queueings, still_open, is_live, opens, queued_at, place_wanted}
 use Rattle.cmwq_model.specs.Active.{is_active, is_newly_active, newly_active, worklist}
 use Rattle.cmwq_model.specs.Answer.{answer}
 use Rattle.cmwq_model.specs.Legal.{IsLegal, entry_for}
 use Rattle.cmwq_laws.specs.Endings.{is_spared}
-use Rattle.cmwq_laws.specs.FirstWidths.{HasFirstWidths}
 use Rattle.cmwq_laws.specs.Activations.{waits, is_left, is_in, keeps_widths}
 use Rattle.cmwq_laws.proofs.Lists.{All_each, All_map, All_filter, All_both, count_by-cons}
 use Rattle.cmwq_laws.proofs.Filters.{filter_same, filter_twice, count_none}
@@ -32,10 +29,10 @@ use Rattle.cmwq_laws.proofs.Endings.{open_go_on}
 use Rattle.cmwq_laws.proofs.Promoted.{newly_of_open}
 use Rattle.cmwq_laws.proofs.NewlyActive.{width_same}
 use Rattle.cmwq_laws.proofs.WorklistSteps.{worklists_go_on}
-use Rattle.cmwq_ties.proofs.Members.{In, found, of_in, all_in, in_filter, filter_in, in_option, option_in}
+use Rattle.cmwq_ties.proofs.Members.{In, found, of_in, all_in, in_filter, filter_in, in_option}
 use Rattle.cmwq_sim.specs.Plan.{Plan, queue_of, is_of, no_queue}
 use Rattle.cmwq_sim.specs.Lines.{Moment, Job, is_other}
-use Rattle.cmwq_sim.specs.Shows.{layout_for, queue_shape, pool, worker, queueing_for, IsRunAt, is_job, is_sleeper, runs_in, times, Shows}
+use Rattle.cmwq_sim.specs.Shows.{layout_for, queue_shape, pool, worker, queueing_for, IsRunAt, is_job, is_sleeper, runs_in, Shows}
 use Rattle.cmwq_sim.proofs.TakeReads.{any_counted, one_fewer, finish_answered}
 use Rattle.cmwq_sim.proofs.TakeShown.{goes_by}
 use Rattle.cmwq_ties.proofs.PoolNext.{runner_there}
@@ -44,7 +41,7 @@ use Rattle.cmwq_laws.proofs.OwedSteps.{by_itself}
 use Rattle.cmwq_laws.specs.RunSteps.{run_after}
 use Rattle.cmwq_model.specs.Runs.{run}
 use Rattle.cmwq_model.specs.Workers.{is_retired}
-use Rattle.cmwq_sim.proofs.Steps.{all_kept, count-append, other_seat}
+use Rattle.cmwq_sim.proofs.Steps.{count-append, other_seat}
 use Rattle.cmwq_sim.proofs.Finish.{finish_makes_ready}
 
 -- what stays behind
@@ -258,17 +255,17 @@ finish_shown s past m seat i o h on first = record {
   sleeping = All_both (λ k. IsRunAt past (seat k.item) k.item true) (λ k. is_sleeper i k ≡ false) _ m.sleeping (λ k r differs. other k.item true r differs) h.sleeping (let c = any_counted (is_job i) m.cpu on in let t = h.once i in count_none (is_sleeper i) m.sleeping (omega arith));
   no_others = λ w n runs. at w n (is_by (Worker w) e) refl (sym (workers_run_on (layout_for s) past e w legal) ∙ runs);
   once = λ k.
-    let t = h.once k in
-    let a = count-append (λ j. j == k) m.ready (option_to_list o) in
-    let b = moved_counts k (is_of s (queue_of s i)) o m.behind first in
-    let c = fewer_filtered (is_job k) (λ j. not (is_job i j)) m.cpu in
-    omega arith;
+      let t = h.once k in
+      let a = count-append (λ j. j == k) m.ready (option_to_list o) in
+      let b = moved_counts k (is_of s (queue_of s i)) o m.behind first in
+      let c = fewer_filtered (is_job k) (λ j. not (is_job i j)) m.cpu in
+      omega arith;
   few =
-    let f = h.few in
-    let a = length-append m.ready (option_to_list o) in
-    let b = moved_length (is_of s (queue_of s i)) o m.behind first in
-    let c = shorter_filtered (λ j. not (is_job i j)) m.cpu in
-    omega arith
+      let f = h.few in
+      let a = length-append m.ready (option_to_list o) in
+      let b = moved_length (is_of s (queue_of s i)) o m.behind first in
+      let c = shorter_filtered (λ j. not (is_job i j)) m.cpu in
+      omega arith;
 }
   where
     e : Entry

@@ -1,13 +1,13 @@
 -- Of each pool's workers one is always enlisted and idle, or all are enlisted.
-use Rattle.std.proofs.Common.{◌≡◌, ◌≢◌, ◌==◌, ◌<◌, ◌≤◌, ◌+◌, ℕ, zero, suc, Bool, true, false, cond, not, ◌&&◌, ◌||◌, List, [], ◌∷◌, find, Option, Some, None, nat_lt, refl, sym, ap, ap₂, ◌∙◌, subst, arith, ◌⊎◌, inl, inr, ⊎_elim}
-use Rattle.std.specs.Prelude.{option_map, option_and_then, is_some, if◌then◌else◌}
+use Rattle.std.proofs.Common.{◌≡◌, ◌≢◌, ◌==◌, ◌<◌, ◌≤◌, ◌+◌, ℕ, zero, suc, Bool, true, false, cond, not, ◌&&◌, ◌||◌, List, [], ◌∷◌, find, Option, Some, None, refl, sym, ap, ap₂, ◌∙◌, subst, arith, ⊎_elim}
+use Rattle.std.specs.Prelude.{is_some, if◌then◌else◌}
 use Rattle.std.specs.List.{AllByRecursion, list_any, range_with_len}
-use Rattle.std.proofs.lemmas.Bool.{eqb-true, eq-eqb, ne_eqb, and_parts, or_cases, cases_eq}
+use Rattle.std.proofs.lemmas.Bool.{eq-eqb, ne_eqb, and_parts, cases_eq}
 use Rattle.std.proofs.lemmas.Option.{same_Some}
 use Rattle.cmwq_model.specs.declared.id.PoolId.{PoolId}
 use Rattle.cmwq_model.specs.declared.id.WorkerId.{WorkerId}
 use Rattle.cmwq_model.specs.declared.id.Who.{Who}
-use Rattle.cmwq_model.specs.declared.id.Who.TheVariants.{Caller, Worker}
+use Rattle.cmwq_model.specs.declared.id.Who.TheVariants.{Worker}
 use Rattle.cmwq_model.specs.declared.reply.Reply.{Reply}
 use Rattle.cmwq_model.specs.declared.reply.Reply.TheVariants as reply
 use Rattle.cmwq_model.specs.declared.entry.Entry.{Entry}
@@ -18,7 +18,6 @@ use Rattle.cmwq_model.specs.Runs.{run, has_run, last_start}
 use Rattle.cmwq_model.specs.Workers.{worker_at, index_enlisted, is_in_pool, enlists, is_retired, is_enlisted, is_idle, is_other_idle, is_reserve, enlisted_by}
 use Rattle.cmwq_model.specs.Legal.{IsLegal}
 use Rattle.cmwq_laws.specs.RunSteps.{run_after}
-use Rattle.cmwq_laws.specs.Reasons.{StartsNext}
 use Rattle.cmwq_laws.proofs.Starts.{starts_next}
 use Rattle.cmwq_laws.proofs.ItemRuns.{same_worker-true}
 use Rattle.cmwq_laws.proofs.RunSteps.{workers_run_on}
@@ -171,8 +170,8 @@ after_start s past e p x n legal kept who is enlists_it = elim (any_below (is_ot
         let f = found_in (is_reserve past p) 0 s.workers z found in
         let by : is_by (Worker (worker_at p z)) e ≡ false = not_by e p x z who (λ same. both (is_enlisted past (worker_at p z)) f.is (ap (λ y. is_enlisted past (worker_at p y)) (sym same) ∙ (idle_parts past p x is).0)) in
         idle z (omega (arith, f.high)) (is_idle_from (e ∷ past) p z
-          (ap (λ b. b || (not (is_by (Worker (worker_at p z)) e && is_retired e.reply) && is_enlisted past (worker_at p z))) (ap₂ (λ w o. is_in_pool p w && is_at o z) who (told ∙ found) ∙ ap₂ (λ a b. a && b) (pool_itself p) (eq-eqb z z refl)))
-          (workers_run_on s past e (worker_at p z) legal ∙ ap (λ b. if b then run_after e.reply (run past (worker_at p z)) else run past (worker_at p z)) by ∙ free (run past (worker_at p z)) (λ m runs. both (is_enlisted past (worker_at p z)) f.is (runners_are_enlisted s past (worker_at p z) m legal.2 runs))))
+        (ap (λ b. b || (not (is_by (Worker (worker_at p z)) e && is_retired e.reply) && is_enlisted past (worker_at p z))) (ap₂ (λ w o. is_in_pool p w && is_at o z) who (told ∙ found) ∙ ap₂ (λ a b. a && b) (pool_itself p) (eq-eqb z z refl)))
+        (workers_run_on s past e (worker_at p z) legal ∙ ap (λ b. if b then run_after e.reply (run past (worker_at p z)) else run past (worker_at p z)) by ∙ free (run past (worker_at p z)) (λ m runs. both (is_enlisted past (worker_at p z)) f.is (runners_are_enlisted s past (worker_at p z) m legal.2 runs))))
       where
         both : (b : Bool) → not b ≡ true → b ≡ true → ⊥
         both true h k = cc
@@ -202,7 +201,7 @@ idle_or_all s (e ∷ past) p legal kept some = elim (idle_or_all s past p legal.
     at x less is true by None st =
         let k = idle_parts past p x is in
         idle x less (is_idle_from (e ∷ past) p x (enlisted_go_on past e (worker_at p x) (ap₂ (λ a b. a && b) by kept.0) k.0)
-          (workers_run_on s past e (worker_at p x) legal ∙ ap (λ b. if b then run_after e.reply (run past (worker_at p x)) else run past (worker_at p x)) by ∙ ap (run_after e.reply) k.1 ∙ stays e.reply st))
+        (workers_run_on s past e (worker_at p x) legal ∙ ap (λ b. if b then run_after e.reply (run past (worker_at p x)) else run past (worker_at p x)) by ∙ ap (run_after e.reply) k.1 ∙ stays e.reply st))
       where
         stays : (r : Reply) → number_started r ≡ None → run_after r None ≡ None
         stays (reply.Started m) h = cc

@@ -11,3 +11,4 @@ pub mod Queued
 pub mod Roomy
 pub mod Progress
 pub mod Outset
+pub mod Once

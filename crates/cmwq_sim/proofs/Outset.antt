@@ -1,18 +1,17 @@
 -- At the outset as much is left to do as the items have in all.
-use Rattle.std.proofs.Common.{◌≡◌, ◌==◌, ◌<◌, ◌≤◌, ◌+◌, ℕ, zero, suc, Bool, true, false, cond, ◌||◌, List, [], ◌∷◌, ◌++◌, length, drop, map, count_by, nat_lt, refl, sym, ap, ap₂, ◌∙◌, subst, arith, inl, add-one, drop-cons}
+use Rattle.std.proofs.Common.{◌≡◌, ◌<◌, ◌≤◌, ◌+◌, ℕ, zero, suc, Bool, true, false, cond, ◌||◌, List, [], ◌∷◌, ◌++◌, length, drop, map, count_by, nat_lt, refl, sym, ap, ◌∙◌, subst, arith, inl, add-one, drop-cons}
 use Rattle.std.specs.Prelude.{if◌then◌else◌, slice_index_or, sum, sum_by, fold}
 use Rattle.std.specs.List.{AllByRecursion, list_any, range_with_len}
 use Rattle.std.proofs.lemmas.Bool.{eqb-true}
 use Rattle.std.proofs.lemmas.Bool.Decides.{nat_tests}
 use Rattle.std.proofs.lemmas.List.Sums.{sum_by-cons, sum_by_push}
 use Rattle.cmwq_laws.proofs.Lists.{count_by-cons}
-use Rattle.cmwq_sim.specs.declared.scenario.SimQueue.{SimQueue}
-use Rattle.cmwq_sim.specs.Plan.{Plan, Item, queue_of, ms_of, max_active, is_of, time_of, whole_time, no_item, no_queue}
+use Rattle.cmwq_sim.specs.Plan.{Plan, Item, queue_of, max_active, is_of, time_of, whole_time, no_item, no_queue}
 use Rattle.cmwq_sim.specs.Limits.{IsQueue, IsItem, IsWithinLimits}
-use Rattle.cmwq_sim.specs.Lines.{Moment, Job, Sleeper, queue_item, queued, empty, items_of}
+use Rattle.cmwq_sim.specs.Lines.{Moment, queue_item, queued, empty}
 use Rattle.cmwq_sim.specs.Ends.{AllItemsEnd}
 use Rattle.cmwq_sim.proofs.Steps.{any-append}
-use Rattle.cmwq_sim.proofs.Progress.{all_at, all_one, last_any, time_at, rest, active, of_job, of_sleeper, IsSleeper, FirstMayBeDone, Sound, Begins, all_pass}
+use Rattle.cmwq_sim.proofs.Progress.{all_at, all_one, last_any, time_at, rest, of_job, of_sleeper, IsSleeper, FirstMayBeDone, Begins, all_pass}
 
 -- while the items are queued
 pub record Queues (s : Plan) (m : Moment) : Type 0 where
@@ -39,12 +38,18 @@ queues s m i fine less h = at (nat_lt (count_by (is_of s (queue_of s i)) (m.read
     at : (b : Bool) → nat_lt (count_by (is_of s (queue_of s i)) (m.ready ++ m.behind)) (max_active s (queue_of s i)) ≡ b
         → Queues s (if b then record m { ready = m.ready ++ i ∷ [] } else record m { behind = m.behind ++ i ∷ [] })
     at true room = record {
-      ready = all_one (λ k. k < length s.items) m.ready i h.ready less; behind = h.behind; cpu = h.cpu; sleeping = h.sleeping;
-      held = λ q some. any-append (is_of s q) m.ready (i ∷ []) ∙ ap (λ b. b || list_any (is_of s q) (i ∷ [])) (h.held q some)
+      ready = all_one (λ k. k < length s.items) m.ready i h.ready less;
+      behind = h.behind;
+      cpu = h.cpu;
+      sleeping = h.sleeping;
+      held = λ q some. any-append (is_of s q) m.ready (i ∷ []) ∙ ap (λ b. b || list_any (is_of s q) (i ∷ [])) (h.held q some);
     }
     at false full = record {
-      ready = h.ready; behind = all_one (λ k. k < length s.items) m.behind i h.behind less; cpu = h.cpu; sleeping = h.sleeping;
-      held = λ q some. either q (is_of s q i) refl (sym (last_any (is_of s q) m.behind i (is_of s q i) refl) ∙ some)
+      ready = h.ready;
+      behind = all_one (λ k. k < length s.items) m.behind i h.behind less;
+      cpu = h.cpu;
+      sleeping = h.sleeping;
+      held = λ q some. either q (is_of s q i) refl (sym (last_any (is_of s q) m.behind i (is_of s q i) refl) ∙ some);
     }
       where
         old : (q : ℕ) (a b : Bool) → list_any (is_of s q) m.ready ≡ a → list_any (is_of s q) m.behind ≡ b → (a || b) ≡ true → a ≡ true
@@ -112,10 +117,12 @@ begins s fine =
     from : (m : Moment) → Queues s m → Begins s 0 m
     from m k = record {
       sound = record {
-        ready = k.ready; behind = k.behind; sleeping = subst (AllByRecursion (IsSleeper s 0)) (sym k.sleeping) tt;
-        held = λ q some. ap (λ b. (b || list_any (of_job s q) m.cpu) || list_any (of_sleeper s q) m.sleeping) (k.held q some)
+        ready = k.ready;
+        behind = k.behind;
+        sleeping = subst (AllByRecursion (IsSleeper s 0)) (sym k.sleeping) tt;
+        held = λ q some. ap (λ b. (b || list_any (of_job s q) m.cpu) || list_any (of_sleeper s q) m.sleeping) (k.held q some);
       };
-      first = subst (FirstMayBeDone s) (sym k.cpu) tt
+      first = subst (FirstMayBeDone s) (sym k.cpu) tt;
     }
 
 pub all_items_end : AllItemsEnd

@@ -1,5 +1,5 @@
 -- The phases of a millisecond, as the calls that make them.
-use Rattle.std.proofs.Common.{◌≡◌, ◌==◌, ◌<◌, ◌≤◌, ◌+◌, ℕ, zero, suc, Bool, true, false, cond, not, ◌&&◌, ◌||◌, List, [], ◌∷◌, ◌++◌, length, drop, map, filter, find, count_by, Option, Some, None, refl, sym, ap, ap₂, ◌∙◌, subst, arith, option_to_list, append-nil, append_assoc, length-append, add-one}
+use Rattle.std.proofs.Common.{◌≡◌, ◌==◌, ◌+◌, ℕ, zero, suc, Bool, true, false, cond, not, ◌||◌, List, [], ◌∷◌, ◌++◌, length, drop, map, filter, find, Option, Some, None, refl, sym, ap, ap₂, ◌∙◌, subst, arith, option_to_list, append-nil, append_assoc, length-append, add-one}
 use Rattle.std.specs.Prelude.{if◌then◌else◌}
 use Rattle.std.specs.List.{AllByRecursion, list_any}
 use Rattle.std.proofs.lemmas.List.{map-append}
@@ -13,7 +13,7 @@ use Rattle.cmwq_laws.proofs.Lists.{All_each}
 use Rattle.cmwq_laws.proofs.Filters.{count_none}
 use Rattle.cmwq_sim.specs.declared.scenario.LineKind.TheVariants as kind
 use Rattle.cmwq_sim.specs.Plan.{Plan, Event, queue_of, is_of}
-use Rattle.cmwq_sim.specs.Lines.{Moment, Job, Sleeper, make_ready, after_burn, after_sleep, serve_first, serve, is_due, is_not, wake_sleeper, wake_item, is_held_by, job_of, starting, tell, tell_starts, start_these, start}
+use Rattle.cmwq_sim.specs.Lines.{Moment, Job, Sleeper, make_ready, after_burn, after_sleep, serve_first, serve, is_due, is_not, wake_sleeper, wake_item, is_held_by, job_of, starting, tell_starts, start_these, start}
 use Rattle.cmwq_sim.specs.Shows.{layout_for, worker, is_job, is_sleeper, Shows, to_start, next_of}
 use Rattle.cmwq_sim.specs.Takers.{IsTaker, NoTaker}
 use Rattle.cmwq_sim.proofs.TakeReads.{any_counted}
@@ -26,8 +26,18 @@ use Rattle.cmwq_sim.proofs.TakersAre.{taker_starts, no_taker, starting_goes, sta
 -- a history doesn't show the lines
 pub other_lines : (s : Plan) (past : List Entry) (m : Moment) (seat : ℕ → ℕ) (ls : List Event) → Shows s past m seat → Shows s past (record m { lines = ls }) seat
 other_lines s past m seat ls h = record {
-  legal = h.legal; kept = h.kept; queued = h.queued; ready = h.ready; behind = h.behind; cpu = h.cpu; sleeping = h.sleeping;
-  no_others = h.no_others; once = h.once; widths = h.widths; wide = h.wide; few = h.few
+  legal = h.legal;
+  kept = h.kept;
+  queued = h.queued;
+  ready = h.ready;
+  behind = h.behind;
+  cpu = h.cpu;
+  sleeping = h.sleeping;
+  no_others = h.no_others;
+  once = h.once;
+  widths = h.widths;
+  wide = h.wide;
+  few = h.few;
 }
 
 -- ---- a run ends
@@ -36,15 +46,15 @@ ready_made : (s : Plan) (past : List Entry) (m : Moment) (seat : ℕ → ℕ) (j
     → Shows s past (make_ready (record m { cpu = js; lines = ls }) o) seat
 ready_made s past m seat js ls None h =
     subst (λ xs. Shows s past (record m { ready = xs; cpu = js; lines = ls }) seat) (append-nil m.ready)
-        (subst (λ xs. Shows s past (record m { ready = m.ready ++ []; behind = xs; cpu = js; lines = ls }) seat) (all_kept (is_kept None) m.behind (All_each _ m.behind (λ k. refl))) h)
+    (subst (λ xs. Shows s past (record m { ready = m.ready ++ []; behind = xs; cpu = js; lines = ls }) seat) (all_kept (is_kept None) m.behind (All_each _ m.behind (λ k. refl))) h)
 ready_made s past m seat js ls (Some z) h = h
 
 pub end_shown : (s : Plan) (past : List Entry) (m : Moment) (seat : ℕ → ℕ) (i : ℕ) (js : List Job) (ls : List Event) → Shows s past m seat → list_any (is_job i) m.cpu ≡ true → filter (λ k. not (is_job i k)) m.cpu ≡ js
     → Shows s (entry_for (layout_for s) past (Worker (worker (seat i))) call.Finish ∷ past) (make_ready (record m { cpu = js; lines = ls }) (find (is_of s (queue_of s i)) m.behind)) seat
 end_shown s past m seat i js ls h on left =
     ready_made s (e ∷ past) m seat js ls o
-        (subst (λ xs. Shows s (e ∷ past) (record m { ready = m.ready ++ option_to_list o; behind = filter (is_kept o) m.behind; cpu = xs; lines = ls }) seat) left
-            (other_lines s (e ∷ past) (ended_with m i o) seat ls (finish_shown s past m seat i o h on refl)))
+    (subst (λ xs. Shows s (e ∷ past) (record m { ready = m.ready ++ option_to_list o; behind = filter (is_kept o) m.behind; cpu = xs; lines = ls }) seat) left
+    (other_lines s (e ∷ past) (ended_with m i o) seat ls (finish_shown s past m seat i o h on refl)))
   where
     o : Option ℕ
     o = find (is_of s (queue_of s i)) m.behind
@@ -67,16 +77,16 @@ pub serve_sleeps : (s : Plan) (t : ℕ) (past : List Entry) (m : Moment) (seat :
     → Shows s (entry_for (layout_for s) past (Worker (worker (seat j.item))) call.Sleep ∷ past) (serve s t m) seat
 serve_sleeps s t past m seat j js pause left h is done parts =
     subst (λ n. Shows s (entry_for (layout_for s) past (Worker (worker (seat j.item))) call.Sleep ∷ past) n seat) (sym (serve_is s t m j js is done ∙ ap (after_burn s t (record m { cpu = js }) j.item) parts))
-        (other_lines s (entry_for (layout_for s) past (Worker (worker (seat j.item))) call.Sleep ∷ past) (asleep_with m j js (t + pause) left) seat (m.lines ++ record { at = t; kind = kind.Sleeps; items = j.item ∷ [] } ∷ []) (sleep_shown s past m seat j js (t + pause) left h is))
+    (other_lines s (entry_for (layout_for s) past (Worker (worker (seat j.item))) call.Sleep ∷ past) (asleep_with m j js (t + pause) left) seat (m.lines ++ record { at = t; kind = kind.Sleeps; items = j.item ∷ [] } ∷ []) (sleep_shown s past m seat j js (t + pause) left h is))
 
 pub serve_ends : (s : Plan) (t : ℕ) (past : List Entry) (m : Moment) (seat : ℕ → ℕ) (j : Job) (js : List Job) → Shows s past m seat → m.cpu ≡ j ∷ js → (j.burn == 0) ≡ true → j.left ≡ []
     → Shows s (entry_for (layout_for s) past (Worker (worker (seat j.item))) call.Finish ∷ past) (serve s t m) seat
 serve_ends s t past m seat j js h is done parts =
     subst (λ n. Shows s (entry_for (layout_for s) past (Worker (worker (seat j.item))) call.Finish ∷ past) n seat) (sym (serve_is s t m j js is done ∙ ap (after_burn s t (record m { cpu = js }) j.item) parts))
-        (end_shown s past m seat j.item js (m.lines ++ record { at = t; kind = kind.Ends; items = j.item ∷ [] } ∷ []) h
-            (ap (list_any (is_job j.item)) is ∙ ap (λ b. b || list_any (is_job j.item) js) (eq-eqb j.item j.item refl))
-            (ap (filter (λ k. not (is_job j.item k))) is ∙ ap (λ b. cond (not b) (j ∷ filter (λ k. not (is_job j.item k)) js) (filter (λ k. not (is_job j.item k)) js)) (eq-eqb j.item j.item refl)
-              ∙ all_kept (λ k. not (is_job j.item k)) js (turned js (alone m j js is (h.once j.item)).0)))
+    (end_shown s past m seat j.item js (m.lines ++ record { at = t; kind = kind.Ends; items = j.item ∷ [] } ∷ []) h
+    (ap (list_any (is_job j.item)) is ∙ ap (λ b. b || list_any (is_job j.item) js) (eq-eqb j.item j.item refl))
+    (ap (filter (λ k. not (is_job j.item k))) is ∙ ap (λ b. cond (not b) (j ∷ filter (λ k. not (is_job j.item k)) js) (filter (λ k. not (is_job j.item k)) js)) (eq-eqb j.item j.item refl)
+    ∙ all_kept (λ k. not (is_job j.item k)) js (turned js (alone m j js is (h.once j.item)).0)))
   where
     turned : (ks : List Job) → AllByRecursion (λ k. is_job j.item k ≡ false) ks → AllByRecursion (λ k. not (is_job j.item k) ≡ true) ks
     turned [] all = tt
@@ -84,7 +94,7 @@ serve_ends s t past m seat j js h is done parts =
 
 -- ---- (2) a sleeper wakes, and burns or ends
 
-found_any : {X : Type 0} (p q : X → Bool) → ((x : X) → p x ≡ true → q x ≡ true) → (xs : List X) (z : X) → find p xs ≡ Some z → list_any q xs ≡ true
+pub found_any : {X : Type 0} (p q : X → Bool) → ((x : X) → p x ≡ true → q x ≡ true) → (xs : List X) (z : X) → find p xs ≡ Some z → list_any q xs ≡ true
 found_any p q more [] z is = cc
 found_any p q more (x ∷ xs) z is = at (p x) refl is (λ k. found_any p q more xs z k)
   where
@@ -96,7 +106,7 @@ found_any p q more (x ∷ xs) z is = at (p x) refl is (λ k. found_any p q more 
     at true h k later = ap (λ b. b || list_any q xs) (more x h)
     at false h k later = ap (λ b. q x || b) (later k) ∙ either (q x)
 
-found_passes : {X : Type 0} (p : X → Bool) (xs : List X) (z : X) → find p xs ≡ Some z → p z ≡ true
+pub found_passes : {X : Type 0} (p : X → Bool) (xs : List X) (z : X) → find p xs ≡ Some z → p z ≡ true
 found_passes p [] z is = cc
 found_passes p (x ∷ xs) z is = at (p x) refl is (λ k. found_passes p xs z k)
   where
@@ -126,8 +136,8 @@ module _ (s : Plan) (t i : ℕ) (past : List Entry) (m : Moment) (seat : ℕ →
   pub wake_burns : (b : ℕ) (left : List ℕ) → x.left ≡ b ∷ left → Shows s (entry_for (layout_for s) past (Worker (worker (seat i))) call.Wake ∷ past) (wake_item s t m i) seat
   wake_burns b left parts =
       subst (λ k. Shows s (entry_for (layout_for s) past (Worker (worker (seat k))) call.Wake ∷ past) (wake_item s t m i) seat) its
-        (subst (λ n. Shows s (entry_for (layout_for s) past (Worker (worker (seat x.item))) call.Wake ∷ past) n seat) (sym (wake_is (b ∷ left) parts))
-          (other_lines s (entry_for (layout_for s) past (Worker (worker (seat x.item))) call.Wake ∷ past) (awake_with m x.item b left) seat (m.lines ++ record { at = t; kind = kind.WakesBurns; items = x.item ∷ [] } ∷ []) (wake_shown s past m seat x.item b left h asleep)))
+      (subst (λ n. Shows s (entry_for (layout_for s) past (Worker (worker (seat x.item))) call.Wake ∷ past) n seat) (sym (wake_is (b ∷ left) parts))
+      (other_lines s (entry_for (layout_for s) past (Worker (worker (seat x.item))) call.Wake ∷ past) (awake_with m x.item b left) seat (m.lines ++ record { at = t; kind = kind.WakesBurns; items = x.item ∷ [] } ∷ []) (wake_shown s past m seat x.item b left h asleep)))
 
   joined : list_any (is_job x.item) (m.cpu ++ record { item = x.item; burn = 0; left = [] } ∷ []) ≡ true
   joined = any-append (is_job x.item) m.cpu (record { item = x.item; burn = 0; left = [] } ∷ []) ∙ ap (λ b. list_any (is_job x.item) m.cpu || (b || false)) (eq-eqb x.item x.item refl) ∙ either (list_any (is_job x.item) m.cpu)
@@ -146,8 +156,8 @@ module _ (s : Plan) (t i : ℕ) (past : List Entry) (m : Moment) (seat : ℕ →
   pub wake_ends : x.left ≡ [] → Shows s (entry_for (layout_for s) (entry_for (layout_for s) past (Worker (worker (seat i))) call.Wake ∷ past) (Worker (worker (seat i))) call.Finish ∷ entry_for (layout_for s) past (Worker (worker (seat i))) call.Wake ∷ past) (wake_item s t m i) seat
   wake_ends parts =
       subst (λ k. Shows s (entry_for (layout_for s) (entry_for (layout_for s) past (Worker (worker (seat k))) call.Wake ∷ past) (Worker (worker (seat k))) call.Finish ∷ entry_for (layout_for s) past (Worker (worker (seat k))) call.Wake ∷ past) (wake_item s t m i) seat) its
-        (subst (λ n. Shows s (entry_for (layout_for s) (entry_for (layout_for s) past (Worker (worker (seat x.item))) call.Wake ∷ past) (Worker (worker (seat x.item))) call.Finish ∷ entry_for (layout_for s) past (Worker (worker (seat x.item))) call.Wake ∷ past) n seat) (sym (wake_is [] parts))
-          (end_shown s (entry_for (layout_for s) past (Worker (worker (seat x.item))) call.Wake ∷ past) (awake_with m x.item 0 []) seat x.item m.cpu (m.lines ++ record { at = t; kind = kind.WakesEnds; items = x.item ∷ [] } ∷ []) (wake_shown s past m seat x.item 0 [] h asleep) joined others))
+      (subst (λ n. Shows s (entry_for (layout_for s) (entry_for (layout_for s) past (Worker (worker (seat x.item))) call.Wake ∷ past) (Worker (worker (seat x.item))) call.Finish ∷ entry_for (layout_for s) past (Worker (worker (seat x.item))) call.Wake ∷ past) n seat) (sym (wake_is [] parts))
+      (end_shown s (entry_for (layout_for s) past (Worker (worker (seat x.item))) call.Wake ∷ past) (awake_with m x.item 0 []) seat x.item m.cpu (m.lines ++ record { at = t; kind = kind.WakesEnds; items = x.item ∷ [] } ∷ []) (wake_shown s past m seat x.item 0 [] h asleep) joined others))
 
 -- ---- (3) starts, one take after the other
 
@@ -187,7 +197,7 @@ take_goes s past m seat is x n h t =
     let k = taker_starts s past (taken s m is) seat x n h t in
     let may = may_start s (taken s m is) n k.1 in
     subst (λ m2. Shows s (entry_for (layout_for s) past (Worker (worker x)) call.Take ∷ past) m2 (seat_with seat n x)) (takes_on s m is n)
-        (take_shown s past (taken s m is) seat x n (drop 1 (taken s m is).ready) h t.below k.0 may.first may.clear)
+    (take_shown s past (taken s m is) seat x n (drop 1 (taken s m is).ready) h t.below k.0 may.first may.clear)
 
 -- what has started, and what would start then, is what starts in all
 pub starts_on : (s : Plan) (past : List Entry) (m : Moment) (seat : ℕ → ℕ) (is : List ℕ) (x n : ℕ) → Shows s past (taken s m is) seat → IsTaker (layout_for s) past x n

@@ -1,18 +1,17 @@
 -- Each millisecond takes one off what is left to do, until nobody is left.
-use Rattle.std.proofs.Common.{◌≡◌, ◌==◌, ◌<◌, ◌≤◌, ◌+◌, ◌-◌, ℕ, zero, suc, Bool, true, false, cond, not, ◌&&◌, ◌||◌, List, [], ◌∷◌, ◌++◌, length, drop, map, filter, find, count_by, Option, Some, None, nat_lt, refl, sym, ap, ap₂, ◌∙◌, subst, arith, ◌⊎◌, inl, inr, ⊎_elim, add-one, drop-cons}
+use Rattle.std.proofs.Common.{◌≡◌, ◌==◌, ◌<◌, ◌≤◌, ◌+◌, ◌-◌, ℕ, zero, suc, Bool, true, false, cond, not, ◌&&◌, ◌||◌, List, [], ◌∷◌, ◌++◌, length, drop, map, filter, find, Option, Some, None, refl, sym, ap, ap₂, ◌∙◌, subst, arith, ◌⊎◌, inl, inr, ⊎_elim}
 use Rattle.std.specs.Prelude.{if◌then◌else◌, slice_index_or, sum, sum_by, fold}
 use Rattle.std.specs.List.{AllByRecursion, list_any, range_with_len}
-use Rattle.std.proofs.lemmas.Bool.{eqb-true, eq-eqb, and_parts, cases_eq}
+use Rattle.std.proofs.lemmas.Bool.{eqb-true, eq-eqb, and_parts}
 use Rattle.std.proofs.lemmas.Bool.Decides.{nat_tests}
 use Rattle.std.proofs.lemmas.List.Sums.{sum_by-cons, sum_by-append, sum_by_push}
 use Rattle.std.proofs.lemmas.Option.{same_Some}
-use Rattle.cmwq_laws.proofs.Lists.{All_map, All_both, All_append, All_filter, All_each, count_by-cons}
-use Rattle.cmwq_sim.specs.declared.scenario.SimQueue.{SimQueue}
+use Rattle.cmwq_laws.proofs.Lists.{All_map, All_both, All_append, All_filter, All_each}
 use Rattle.cmwq_sim.specs.declared.scenario.LineKind.TheVariants as kind
-use Rattle.cmwq_sim.specs.Plan.{Plan, Item, Event, queue_of, ms_of, max_active, is_of, time_of, whole_time, no_item, no_queue}
-use Rattle.cmwq_sim.specs.Limits.{IsBetween, IsQueue, IsItem, IsWithinLimits}
-use Rattle.cmwq_sim.specs.Lines.{Moment, Job, Sleeper, is_other, make_ready, end, after_burn, after_sleep, serve_first, serve, is_due, is_not, wake_sleeper, wake_item, wake, is_held_by, job_with, job_of, starting, tell, tell_starts, start_these, start, burn_first, burn, millisecond, queue_item, queued, empty, items_of}
-use Rattle.cmwq_sim.specs.Ends.{NobodyIsLeft, AllItemsEnd}
+use Rattle.cmwq_sim.specs.Plan.{Plan, Event, queue_of, ms_of, is_of, no_item}
+use Rattle.cmwq_sim.specs.Limits.{IsBetween, IsItem, IsWithinLimits}
+use Rattle.cmwq_sim.specs.Lines.{Moment, Job, Sleeper, is_other, make_ready, end, after_burn, after_sleep, serve_first, serve, is_due, is_not, wake_sleeper, wake_item, wake, is_held_by, job_with, job_of, starting, tell, tell_starts, start_these, start, burn_first, burn, millisecond}
+use Rattle.cmwq_sim.specs.Ends.{NobodyIsLeft}
 use Rattle.cmwq_sim.proofs.Steps.{any-append}
 
 -- ---- lists
@@ -175,7 +174,7 @@ to_sleep s t i pause left m ls h more lasting = record {
   behind = h.behind;
   sleeping = all_one (IsSleeper s t) m.sleeping (record { item = i; until = t + pause; left = left }) h.sleeping (record { there = h.there; later = omega arith; left = lasting });
   held = λ q some. ap (λ b. (list_any (is_of s q) m.ready || list_any (of_job s q) m.cpu) || b) (last_any (of_sleeper s q) m.sleeping (record { item = i; until = t + pause; left = left }) (is_of s q i) refl)
-      ∙ moved (list_any (is_of s q) m.ready || list_any (of_job s q) m.cpu) (list_any (of_sleeper s q) m.sleeping) (is_of s q i) (h.held q some)
+      ∙ moved (list_any (is_of s q) m.ready || list_any (of_job s q) m.cpu) (list_any (of_sleeper s q) m.sleeping) (is_of s q i) (h.held q some);
 }
   where
     moved : (a b c : Bool) → ((a || b) || c) ≡ true → (a || (b || c)) ≡ true
@@ -188,7 +187,7 @@ to_cpu s t i b left m ls h = record {
   behind = h.behind;
   sleeping = h.sleeping;
   held = λ q some. ap (λ c. (list_any (is_of s q) m.ready || c) || list_any (of_sleeper s q) m.sleeping) (last_any (of_job s q) m.cpu (record { item = i; burn = b; left = left }) (is_of s q i) refl)
-      ∙ moved (list_any (is_of s q) m.ready) (list_any (of_job s q) m.cpu) (list_any (of_sleeper s q) m.sleeping) (is_of s q i) (h.held q some)
+      ∙ moved (list_any (is_of s q) m.ready) (list_any (of_job s q) m.cpu) (list_any (of_sleeper s q) m.sleeping) (is_of s q i) (h.held q some);
 }
   where
     moved : (a b c d : Bool) → (((a || b) || c) || d) ≡ true → ((a || (b || d)) || c) ≡ true
@@ -207,8 +206,10 @@ ends s t i m h = at (find (is_of s (queue_of s i)) m.behind) refl
   where
     at : (o : Option ℕ) → find (is_of s (queue_of s i)) m.behind ≡ o → Sound s t (make_ready m o)
     at None none = record {
-      ready = h.ready; behind = h.behind; sleeping = h.sleeping;
-      held = λ q some. other q (is_of s q i) refl (h.held q some) some
+      ready = h.ready;
+      behind = h.behind;
+      sleeping = h.sleeping;
+      held = λ q some. other q (is_of s q i) refl (h.held q some) some;
     }
       where
         other : (q : ℕ) (b : Bool) → is_of s q i ≡ b → (active s q m || is_of s q i) ≡ true → list_any (is_of s q) m.behind ≡ true → active s q m ≡ true
@@ -227,8 +228,8 @@ ends s t i m h = at (find (is_of s (queue_of s i)) m.behind) refl
           behind = all_kept (λ k. k < length s.items) (is_other z) m.behind h.behind;
           sleeping = h.sleeping;
           held = λ q some. ap (λ b. (b || list_any (of_job s q) m.cpu) || list_any (of_sleeper s q) m.sleeping)
-                  (last_any (is_of s q) m.ready z (is_of s q i) (ap (λ k. k == q) (eqb-true (queue_of s z) (queue_of s i) z_is.1)))
-              ∙ moved (list_any (is_of s q) m.ready) (list_any (of_job s q) m.cpu) (list_any (of_sleeper s q) m.sleeping) (is_of s q i) (h.held q (any_still (is_of s q) (is_other z) m.behind some))
+              (last_any (is_of s q) m.ready z (is_of s q i) (ap (λ k. k == q) (eqb-true (queue_of s z) (queue_of s i) z_is.1)))
+              ∙ moved (list_any (is_of s q) m.ready) (list_any (of_job s q) m.cpu) (list_any (of_sleeper s q) m.sleeping) (is_of s q i) (h.held q (any_still (is_of s q) (is_other z) m.behind some));
         }
       where
         moved : (a b c d : Bool) → (((a || b) || c) || d) ≡ true → (((a || d) || b) || c) ≡ true
@@ -273,8 +274,11 @@ served s t m h first = at m.cpu refl first
 
         loose : Loose s t j.item (record m { cpu = js })
         loose = record {
-          there = k.0.there; ready = h.ready; behind = h.behind; sleeping = h.sleeping;
-          held = λ q some. moved (list_any (is_of s q) m.ready) (of_job s q j) (list_any (of_job s q) js) (list_any (of_sleeper s q) m.sleeping) (sym (ap (λ xs. (list_any (is_of s q) m.ready || list_any (of_job s q) xs) || list_any (of_sleeper s q) m.sleeping) is) ∙ h.held q some)
+          there = k.0.there;
+          ready = h.ready;
+          behind = h.behind;
+          sleeping = h.sleeping;
+          held = λ q some. moved (list_any (is_of s q) m.ready) (of_job s q j) (list_any (of_job s q) js) (list_any (of_sleeper s q) m.sleeping) (sym (ap (λ xs. (list_any (is_of s q) m.ready || list_any (of_job s q) xs) || list_any (of_sleeper s q) m.sleeping) is) ∙ h.held q some);
         }
           where
             moved : (a d b c : Bool) → ((a || (d || b)) || c) ≡ true → (((a || b) || c) || d) ≡ true
@@ -293,7 +297,7 @@ served s t m h first = at m.cpu refl first
         over false burns left l = record {
           sound = h;
           cpu = subst (AllByRecursion (IsRunning s)) (sym is) (record { job = k.0; burns = more }, k.1);
-          less = omega arith
+          less = omega arith;
         }
           where
             more : 1 ≤ j.burn
@@ -301,7 +305,7 @@ served s t m h first = at m.cpu refl first
         over true done [] l = record {
           sound = ends s t j.item (tell t kind.Ends (j.item ∷ []) (record m { cpu = js })) (record { there = loose.there; ready = loose.ready; behind = loose.behind; sleeping = loose.sleeping; held = loose.held });
           cpu = subst (AllByRecursion (IsRunning s)) (sym (same_cpu (find (is_of s (queue_of s j.item)) m.behind))) k.1;
-          less = let a = ends_less s t j.item (tell t kind.Ends (j.item ∷ []) (record m { cpu = js })) in let w = without in omega arith
+          less = let a = ends_less s t j.item (tell t kind.Ends (j.item ∷ []) (record m { cpu = js })) in let w = without in omega arith;
         }
           where
             same_cpu : (o : Option ℕ) → (make_ready (tell t kind.Ends (j.item ∷ []) (record m { cpu = js })) o).cpu ≡ js
@@ -311,10 +315,10 @@ served s t m h first = at m.cpu refl first
           sound = to_sleep s t j.item pause left (record m { cpu = js }) (m.lines ++ record { at = t; kind = kind.Sleeps; items = j.item ∷ [] } ∷ []) loose lasting.0 lasting.1;
           cpu = k.1;
           less =
-            let a = sum_by_push (sleeper_rest t) m.sleeping (record { item = j.item; until = t + pause; left = left }) in
-            let b = ap sum l ∙ sum_by-cons (λ x. x) pause left in
-            let w = without in
-            omega arith
+              let a = sum_by_push (sleeper_rest t) m.sleeping (record { item = j.item; until = t + pause; left = left }) in
+              let b = ap sum l ∙ sum_by-cons (λ x. x) pause left in
+              let w = without in
+              omega arith;
         }
           where
             lasting : (1 ≤ pause) × Lasting left
@@ -341,7 +345,7 @@ woke s t k r m h = at (find (is_due t k) m.sleeping) refl
     at None none = record {
       goes = h.goes;
       passed = All_both (λ (x : Sleeper). (x.item < k → t + 1 ≤ x.until) × (t ≤ x.until)) (λ x. is_due t k x ≡ false) (λ (x : Sleeper). x.item < k + 1 → t + 1 ≤ x.until) m.sleeping (λ x both due less. later x both.0 both.1 due less)
-          (All_both (λ (x : Sleeper). x.item < k → t + 1 ≤ x.until) (IsSleeper s t) (λ (x : Sleeper). (x.item < k → t + 1 ≤ x.until) × (t ≤ x.until)) m.sleeping (λ x a b. (a, b.later)) h.passed h.goes.sound.sleeping) (none_found_all (is_due t k) m.sleeping none)
+          (All_both (λ (x : Sleeper). x.item < k → t + 1 ≤ x.until) (IsSleeper s t) (λ (x : Sleeper). (x.item < k → t + 1 ≤ x.until) × (t ≤ x.until)) m.sleeping (λ x a b. (a, b.later)) h.passed h.goes.sound.sleeping) (none_found_all (is_due t k) m.sleeping none);
     }
       where
         later : (x : Sleeper) → (x.item < k → t + 1 ≤ x.until) → t ≤ x.until → is_due t k x ≡ false → x.item < k + 1 → t + 1 ≤ x.until
@@ -364,9 +368,12 @@ woke s t k r m h = at (find (is_due t k) m.sleeping) refl
 
         loose : Loose s t x.item (record m { sleeping = filter (is_not x.item) m.sleeping })
         loose = record {
-          there = found.0.there; ready = h.goes.sound.ready; behind = h.goes.sound.behind; sleeping = all_kept (IsSleeper s t) (is_not x.item) m.sleeping h.goes.sound.sleeping;
+          there = found.0.there;
+          ready = h.goes.sound.ready;
+          behind = h.goes.sound.behind;
+          sleeping = all_kept (IsSleeper s t) (is_not x.item) m.sleeping h.goes.sound.sleeping;
           held = λ q any. moved (list_any (is_of s q) m.ready || list_any (of_job s q) m.cpu) (list_any (of_sleeper s q) m.sleeping) (list_any (of_sleeper s q) (filter (is_not x.item) m.sleeping)) (is_of s q x.item) (h.goes.sound.held q any)
-              (λ c. any_removed (of_sleeper s q) (is_not x.item) (is_of s q x.item) (λ y out. ap (is_of s q) (eqb-true y.item x.item (not_false (y.item == x.item) out))) m.sleeping c)
+              (λ c. any_removed (of_sleeper s q) (is_not x.item) (is_of s q x.item) (λ y out. ap (is_of s q) (eqb-true y.item x.item (not_false (y.item == x.item) out))) m.sleeping c);
         }
           where
             moved : (a c e d : Bool) → (a || c) ≡ true → (c ≡ true → (e || d) ≡ true) → ((a || e) || d) ≡ true
@@ -387,9 +394,9 @@ woke s t k r m h = at (find (is_due t k) m.sleeping) refl
           goes = record {
             sound = ends s t x.item told (record { there = loose.there; ready = loose.ready; behind = loose.behind; sleeping = loose.sleeping; held = loose.held });
             cpu = subst (AllByRecursion (IsRunning s)) (sym (same_cpu (find (is_of s (queue_of s x.item)) m.behind))) h.goes.cpu;
-            less = let a = ends_less s t x.item told in let b = apart in let c = h.goes.less in omega arith
+            less = let a = ends_less s t x.item told in let b = apart in let c = h.goes.less in omega arith;
           };
-          passed = subst (AllByRecursion (λ (y : Sleeper). y.item < k + 1 → t + 1 ≤ y.until)) (sym (same_sleeping (find (is_of s (queue_of s x.item)) m.behind))) passed
+          passed = subst (AllByRecursion (λ (y : Sleeper). y.item < k + 1 → t + 1 ≤ y.until)) (sym (same_sleeping (find (is_of s (queue_of s x.item)) m.behind))) passed;
         }
           where
             told : Moment
@@ -407,13 +414,13 @@ woke s t k r m h = at (find (is_due t k) m.sleeping) refl
             sound = to_cpu s t x.item b left (record m { sleeping = filter (is_not x.item) m.sleeping }) (m.lines ++ record { at = t; kind = kind.WakesBurns; items = x.item ∷ [] } ∷ []) loose;
             cpu = all_one (IsRunning s) m.cpu (record { item = x.item; burn = b; left = left }) h.goes.cpu (record { job = record { there = found.0.there; left = lasting.1 }; burns = lasting.0 });
             less =
-              let a = apart in
-              let c = sum_by_push job_rest m.cpu (record { item = x.item; burn = b; left = left }) in
-              let d = ap sum l ∙ sum_by-cons (λ y. y) b left in
-              let e = h.goes.less in
-              omega arith
+                let a = apart in
+                let c = sum_by_push job_rest m.cpu (record { item = x.item; burn = b; left = left }) in
+                let d = ap sum l ∙ sum_by-cons (λ y. y) b left in
+                let e = h.goes.less in
+                omega arith;
           };
-          passed = passed
+          passed = passed;
         }
           where
             lasting : (1 ≤ b) × Lasting left
@@ -443,7 +450,7 @@ rest_with i [] = omega arith
 rest_with i (b ∷ ms) = sym (sum_by-cons (λ x. x) b ms)
 
 -- what starts stands first among the ready ones
-starting_first : (s : Plan) (cpu : List Job) (xs : List ℕ) → starting s cpu xs ++ drop (length (starting s cpu xs)) xs ≡ xs
+pub starting_first : (s : Plan) (cpu : List Job) (xs : List ℕ) → starting s cpu xs ++ drop (length (starting s cpu xs)) xs ≡ xs
 unfolding starting
 starting_first s cpu [] = refl
 starting_first s cpu (i ∷ xs) = at (list_any (is_held_by s) cpu) (starting_first s (cpu ++ job_of s i ∷ []) xs)
@@ -493,7 +500,7 @@ pub record Started (s : Plan) (t r : ℕ) (m : Moment) : Type 0 where
 moved_lines : (s : Plan) (t r : ℕ) (m : Moment) (ls : List Event) → Started s t r m → Started s t r (record m { lines = ls })
 moved_lines s t r m ls h = record {
   awake = record { goes = record { sound = record { ready = h.awake.goes.sound.ready; behind = h.awake.goes.sound.behind; sleeping = h.awake.goes.sound.sleeping; held = h.awake.goes.sound.held }; cpu = h.awake.goes.cpu; less = h.awake.goes.less }; later = h.awake.later };
-  free = h.free
+  free = h.free;
 }
 
 pub started : (s : Plan) (t r : ℕ) (m : Moment) → IsWithinLimits s → Awake s t r m → Started s t r (start s t m)
@@ -546,17 +553,19 @@ started s t r m fine h = at (starting s m.cpu m.ready) refl
           awake = record {
             goes = record {
               sound = record {
-                ready = parts.1; behind = h.goes.sound.behind; sleeping = h.goes.sound.sleeping;
+                ready = parts.1;
+                behind = h.goes.sound.behind;
+                sleeping = h.goes.sound.sleeping;
                 held = λ q some. ap (λ b. (list_any (is_of s q) (drop (length is) m.ready) || b) || list_any (of_sleeper s q) m.sleeping) (any-append (of_job s q) m.cpu (map (job_of s) is) ∙ ap (λ b. list_any (of_job s q) m.cpu || b) (same_any s q is))
                     ∙ moved (list_any (is_of s q) m.ready) (list_any (is_of s q) is) (list_any (is_of s q) (drop (length is) m.ready)) (list_any (of_job s q) m.cpu) (list_any (of_sleeper s q) m.sleeping)
-                        (sym (ap (list_any (is_of s q)) split) ∙ any-append (is_of s q) is (drop (length is) m.ready)) (h.goes.sound.held q some)
+                    (sym (ap (list_any (is_of s q)) split) ∙ any-append (is_of s q) is (drop (length is) m.ready)) (h.goes.sound.held q some);
               };
               cpu = All_append (IsRunning s) m.cpu (map (job_of s) is) h.goes.cpu (all_start s is fine parts.0);
-              less = let a = sum_by-append job_rest m.cpu (map (job_of s) is) in let b = same_rest s is in let c = sums in let d = h.goes.less in omega arith
+              less = let a = sum_by-append job_rest m.cpu (map (job_of s) is) in let b = same_rest s is in let c = sums in let d = h.goes.less in omega arith;
             };
-            later = h.later
+            later = h.later;
           };
-          free = none
+          free = none;
         }
 
         told : (ks : List ℕ) → Started s t r (record m { ready = drop (length is) m.ready; cpu = m.cpu ++ map (job_of s) is }) → Started s t r (tell_starts t ks (record m { ready = drop (length is) m.ready; cpu = m.cpu ++ map (job_of s) is }))
@@ -592,30 +601,39 @@ burnt s t r m h = at m.cpu refl
     sound = h.awake.goes.sound
 
     at : (xs : List Job) → m.cpu ≡ xs → Begins s (t + 1) (record m { cpu = burn_first xs }) × ((rest s (t + 1) (record m { cpu = burn_first xs }) + 1 ≤ r) ⊎ NobodyIsLeft (record m { cpu = burn_first xs }))
-    at (j ∷ js) is = (record {
-          sound = record {
-            ready = sound.ready; behind = sound.behind; sleeping = slept_on s t m.sleeping sound.sleeping h.awake.later;
-            held = λ q some. ap (λ xs. (list_any (is_of s q) m.ready || list_any (of_job s q) xs) || list_any (of_sleeper s q) m.sleeping) (sym is) ∙ sound.held q some
-          };
-          first = (record { there = runs.0.job.there; left = runs.0.job.left }, runs.1)
-        },
-        inl (
+    at (j ∷ js) is = (
+      record {
+        sound = record {
+          ready = sound.ready;
+          behind = sound.behind;
+          sleeping = slept_on s t m.sleeping sound.sleeping h.awake.later;
+          held = λ q some. ap (λ xs. (list_any (is_of s q) m.ready || list_any (of_job s q) xs) || list_any (of_sleeper s q) m.sleeping) (sym is) ∙ sound.held q some;
+        };
+        first = (record { there = runs.0.job.there; left = runs.0.job.left }, runs.1);
+      },
+      inl (
           let a = ap (sum_by job_rest) is ∙ sum_by-cons job_rest j js in
           let b = sum_by-cons job_rest (record j { burn = j.burn - 1 }) js in
           let c = runs.0.burns in
           let d = sleeps_less t m.sleeping h.awake.later in
           let e = h.awake.goes.less in
-          omega arith))
+          omega arith),
+    )
       where
         runs : IsRunning s j × AllByRecursion (IsRunning s) js
         runs = subst (AllByRecursion (IsRunning s)) is h.awake.goes.cpu
-    at [] is = (record {
-          sound = record {
-            ready = sound.ready; behind = sound.behind; sleeping = slept_on s t m.sleeping sound.sleeping h.awake.later;
-            held = λ q some. ap (λ xs. (list_any (is_of s q) m.ready || list_any (of_job s q) xs) || list_any (of_sleeper s q) m.sleeping) (sym is) ∙ sound.held q some
-          };
-          first = tt
-        }, asleep m.sleeping refl)
+    at [] is = (
+      record {
+        sound = record {
+          ready = sound.ready;
+          behind = sound.behind;
+          sleeping = slept_on s t m.sleeping sound.sleeping h.awake.later;
+          held = λ q some. ap (λ xs. (list_any (is_of s q) m.ready || list_any (of_job s q) xs) || list_any (of_sleeper s q) m.sleeping) (sym is) ∙ sound.held q some;
+        };
+        first = tt;
+      },
+      asleep m.sleeping refl,
+    )
       where
         nobody_behind : (ks : List ℕ) → m.behind ≡ ks → m.sleeping ≡ [] → ks ≡ []
         nobody_behind [] k none = refl
@@ -623,17 +641,17 @@ burnt s t r m h = at m.cpu refl
             let q : ℕ = queue_of s k in
             let some = ap (list_any (is_of s (queue_of s k))) are ∙ still_any (is_of s (queue_of s k)) k ks (eq-eqb (queue_of s k) (queue_of s k) refl) in
             let bad : false ≡ true = sym (ap₂ (λ a b. (list_any (is_of s (queue_of s k)) a || list_any (of_job s (queue_of s k)) b) || list_any (of_sleeper s (queue_of s k)) []) (h.free is) is)
-                  ∙ sym (ap (λ c. (list_any (is_of s (queue_of s k)) m.ready || list_any (of_job s (queue_of s k)) m.cpu) || list_any (of_sleeper s (queue_of s k)) c) none) ∙ sound.held (queue_of s k) some in
+            ∙ sym (ap (λ c. (list_any (is_of s (queue_of s k)) m.ready || list_any (of_job s (queue_of s k)) m.cpu) || list_any (of_sleeper s (queue_of s k)) c) none) ∙ sound.held (queue_of s k) some in
             cc
 
         asleep : (xs : List Sleeper) → m.sleeping ≡ xs → (rest s (t + 1) (record m { cpu = [] }) + 1 ≤ r) ⊎ NobodyIsLeft (record m { cpu = [] })
         asleep [] none = inr (record { ready = h.free is; behind = nobody_behind m.behind refl none; cpu = refl; sleeping = none })
         asleep (x ∷ xs) some = inl (
-          let a = ap length some in
-          let d = sleeps_less t m.sleeping h.awake.later in
-          let c = ap (sum_by job_rest) is in
-          let e = h.awake.goes.less in
-          omega arith)
+            let a = ap length some in
+            let d = sleeps_less t m.sleeping h.awake.later in
+            let c = ap (sum_by job_rest) is in
+            let e = h.awake.goes.less in
+            omega arith)
 
 -- ---- a millisecond, and all of them
 

@@ -1,15 +1,12 @@
 -- Items are queued one after the other, before any worker is asked.
-use Rattle.std.proofs.Common.{◌≡◌, ◌==◌, ◌<◌, ◌≤◌, ◌+◌, ℕ, zero, suc, Bool, true, false, cond, not, ◌&&◌, ◌||◌, List, [], ◌∷◌, ◌++◌, length, map, filter, find, count_by, Option, Some, None, nat_lt, refl, sym, ap, ap₂, ◌∙◌, subst, arith, option_to_list, append-nil, append_assoc, length-append, add-one}
-use Rattle.std.specs.Prelude.{if◌then◌else◌, option_map, option_and_then, is_some, IsTrue, fold, slice_index_or}
+use Rattle.std.proofs.Common.{◌≡◌, ◌==◌, ◌<◌, ◌≤◌, ◌+◌, ℕ, zero, suc, Bool, true, false, cond, not, ◌&&◌, ◌||◌, List, [], ◌∷◌, ◌++◌, length, map, filter, count_by, Some, None, nat_lt, refl, sym, ap, ap₂, ◌∙◌, subst, arith, option_to_list, append-nil, length-append}
+use Rattle.std.specs.Prelude.{if◌then◌else◌, option_and_then, is_some}
 use Rattle.std.specs.Option.{option_map_or}
 use Rattle.std.specs.List.{AllByRecursion, list_any, range_with_len}
 use Rattle.std.proofs.lemmas.List.{map-append, length-map}
 use Rattle.std.proofs.lemmas.List.Elements.{filter-append}
 use Rattle.std.proofs.lemmas.Bool.{lt-ltb, eqb-true, ne_eqb}
-use Rattle.std.proofs.lemmas.Bool.Decides.{nat_tests}
-use Rattle.std.proofs.lemmas.Option.{same_Some}
 use Rattle.std.proofs.Math.ListN.{get_or-map}
-use Rattle.cmwq_model.specs.declared.id.CallerId.{CallerId}
 use Rattle.cmwq_model.specs.declared.id.WorkerId.{WorkerId}
 use Rattle.cmwq_model.specs.declared.id.Who.{Who}
 use Rattle.cmwq_model.specs.declared.id.Who.TheVariants.{Caller, Worker}
@@ -18,35 +15,34 @@ use Rattle.cmwq_model.specs.declared.call.Call.TheVariants as call
 use Rattle.cmwq_model.specs.declared.reply.Reply.{Reply}
 use Rattle.cmwq_model.specs.declared.reply.Reply.TheVariants as reply
 use Rattle.cmwq_model.specs.declared.entry.Entry.{Entry}
-use Rattle.cmwq_model.specs.declared.record.Place.{Place}
 use Rattle.cmwq_model.specs.declared.record.Queueing.{Queueing}
 use Rattle.cmwq_model.specs.declared.record.Start.{Start}
 use Rattle.cmwq_model.specs.declared.shape.QueueShape.{QueueShape}
-use Rattle.cmwq_model.specs.Layout.{Layout, first_width, fits}
-use Rattle.cmwq_model.specs.Calls.{is_at, is_by, is_of_item, worker_of, item_of, item_at}
-use Rattle.cmwq_model.specs.Fate.{number_started, number_finished, number_cancelled, replaces, starts, finishes, is_started, is_finished, is_cancelled, is_open}
-use Rattle.cmwq_model.specs.Bookings.{booking, booking_of, due_in, is_booked, settles}
-use Rattle.cmwq_model.specs.Runs.{last_start, run, start_in, starts_item, item_start, item_run}
-use Rattle.cmwq_model.specs.Tickets.{gives_ticket, ticket_for, ends_destroy, ticket_in, tickets, is_unended, is_cancelling, is_draining, is_done, is_gone, is_cancel_sync_of, is_drain_of}
+use Rattle.cmwq_model.specs.Layout.{first_width}
+use Rattle.cmwq_model.specs.Calls.{is_at, is_by, is_of_item, worker_of, item_at}
+use Rattle.cmwq_model.specs.Fate.{number_started, number_finished, number_cancelled, replaces, is_started, is_finished, is_cancelled, is_open}
+use Rattle.cmwq_model.specs.Bookings.{booking, due_in, settles}
+use Rattle.cmwq_model.specs.Runs.{last_start, run, start_in, item_start, item_run}
+use Rattle.cmwq_model.specs.Tickets.{gives_ticket, ticket_for, ends_destroy, tickets, is_unended, is_cancelling, is_done, is_gone, is_cancel_sync_of, is_drain_of}
 use Rattle.cmwq_model.specs.Queueings.{queue_of as queue_run, opens, opening, queueings, is_live, still_open, is_unstarted, unstarted, is_pending, runs_elsewhere, cpu_for}
 use Rattle.cmwq_model.specs.Widths.{width}
-use Rattle.cmwq_model.specs.Active.{is_active, is_newly_active, newly_active, worklist, same_place}
+use Rattle.cmwq_model.specs.Active.{is_active, is_newly_active, newly_active, worklist}
 use Rattle.cmwq_model.specs.Workers.{is_retired}
 use Rattle.cmwq_model.specs.Answer.{queue_answer, answer, is_shut}
 use Rattle.cmwq_model.specs.Legal.{IsLegal, entry_for}
 use Rattle.cmwq_laws.specs.Endings.{is_spared, is_ended, ending}
 use Rattle.cmwq_laws.specs.FirstWidths.{HasFirstWidths}
 use Rattle.cmwq_laws.specs.Activations.{waits, is_left, is_in, is_beside, keeps_widths, behind_width, has_way_at_once}
-use Rattle.cmwq_laws.proofs.Lists.{All_each, All_append, All_both, count_by-cons}
+use Rattle.cmwq_laws.proofs.Lists.{All_each, All_both, count_by-cons}
 use Rattle.cmwq_laws.proofs.Filters.{filter_same, none_found}
-use Rattle.cmwq_laws.proofs.Joined.{active_live, stays_active}
+use Rattle.cmwq_laws.proofs.Joined.{stays_active}
 use Rattle.cmwq_laws.proofs.Endings.{open_go_on}
 use Rattle.cmwq_laws.proofs.NewlyActive.{newly_active_are, opened_have_way, width_same}
 use Rattle.cmwq_laws.proofs.Promoted.{newly_of_open}
 use Rattle.std.proofs.lemmas.List.FromFn.{length-range_with_len}
 use Rattle.cmwq_laws.proofs.WorklistSteps.{worklists_go_on}
 use Rattle.cmwq_sim.specs.Plan.{Plan, queue_of, is_of, max_active, no_queue}
-use Rattle.cmwq_sim.specs.Lines.{Moment, Job, Sleeper, queue_item, items_of}
+use Rattle.cmwq_sim.specs.Lines.{Moment, Job, Sleeper, queue_item}
 use Rattle.cmwq_sim.specs.Shows.{layout_for, queue_shape, pool, queueing_for, is_job, is_sleeper, IsRunAt, Shows}
 use Rattle.cmwq_sim.proofs.Steps.{all_kept, none_kept, count-append}
 use Rattle.cmwq_sim.proofs.FinishShown.{in_pool}
@@ -207,7 +203,7 @@ module _ (s : Plan) (k : ℕ) (past : List Entry) (m : Moment) (h : ShowsQueued 
       (never_gone past (queue_of s k) h.all) (ap (λ ts. list_any (is_cancel_sync_of k) (filter (is_unended past) ts)) (no_tickets past h.all)) (ap₂ (λ a b. is_some a || is_some b) (no_booking past k h.all) free)
       (ap (λ o. option_map_or (λ (start : Start). not (is_at (queue_run past start.number) (queue_of s k))) o false) (no_item_run past k h.all))
       (ap (λ ts. list_any (is_drain_of (queue_of s k)) (filter (is_unended past) ts) && true) (no_tickets past h.all))
-    ∙ ap reply.Yes h.many
+      ∙ ap reply.Yes h.many
     where
       at : (gone cancelling pending elsewhere shut : Bool) → gone ≡ false → cancelling ≡ false → pending ≡ false → elsewhere ≡ false → shut ≡ false
           → (if gone then reply.Gone else if cancelling then reply.No else if pending then reply.No else if elsewhere then reply.Foreign else if shut then reply.Draining else reply.Yes (length past)) ≡ reply.Yes (length past)
@@ -311,12 +307,12 @@ module _ (s : Plan) (k : ℕ) (past : List Entry) (m : Moment) (h : ShowsQueued 
   none_newly : (few : k < 8) (there : queue_of s k < length s.queues) → AllByRecursion (λ x. is_newly_active (layout_for s) past (entry_for (layout_for s) past caller (queue_call s k)) x ≡ false) (still_open past)
   none_newly few there =
       none_kept (is_newly_active (layout_for s) past (entry_for (layout_for s) past caller (queue_call s k))) (still_open past)
-        (none_both (filter (is_newly_active (layout_for s) past (entry_for (layout_for s) past caller (queue_call s k))) (still_open past))
-          (front (filter (is_newly_active (layout_for s) past (entry_for (layout_for s) past caller (queue_call s k))) (still_open past)) (filter (is_newly_active (layout_for s) past (entry_for (layout_for s) past caller (queue_call s k))) (queueing_for s k ∷ []))
-            (subst (AllByRecursion (λ (x : Queueing). x.number ≡ k))
-              (sym (newly few there) ∙ newly_of_open (layout_for s) past (entry_for (layout_for s) past caller (queue_call s k)) ∙ ap (filter (is_newly_active (layout_for s) past (entry_for (layout_for s) past caller (queue_call s k)))) (open_after few there) ∙ filter-append (is_newly_active (layout_for s) past (entry_for (layout_for s) past caller (queue_call s k))) (still_open past) (queueing_for s k ∷ []))
-              (newly_last (nat_lt (count_by (is_of s (queue_of s k)) (m.ready ++ m.behind)) (max_active s (queue_of s k))))))
-          (keep (is_newly_active (layout_for s) past (entry_for (layout_for s) past caller (queue_call s k))) (still_open past) old_ones))
+      (none_both (filter (is_newly_active (layout_for s) past (entry_for (layout_for s) past caller (queue_call s k))) (still_open past))
+      (front (filter (is_newly_active (layout_for s) past (entry_for (layout_for s) past caller (queue_call s k))) (still_open past)) (filter (is_newly_active (layout_for s) past (entry_for (layout_for s) past caller (queue_call s k))) (queueing_for s k ∷ []))
+      (subst (AllByRecursion (λ (x : Queueing). x.number ≡ k))
+      (sym (newly few there) ∙ newly_of_open (layout_for s) past (entry_for (layout_for s) past caller (queue_call s k)) ∙ ap (filter (is_newly_active (layout_for s) past (entry_for (layout_for s) past caller (queue_call s k)))) (open_after few there) ∙ filter-append (is_newly_active (layout_for s) past (entry_for (layout_for s) past caller (queue_call s k))) (still_open past) (queueing_for s k ∷ []))
+      (newly_last (nat_lt (count_by (is_of s (queue_of s k)) (m.ready ++ m.behind)) (max_active s (queue_of s k))))))
+      (keep (is_newly_active (layout_for s) past (entry_for (layout_for s) past caller (queue_call s k))) (still_open past) old_ones))
 
   as_before : (few : k < 8) (there : queue_of s k < length s.queues) (x : Queueing) → x.number < k → is_newly_active (layout_for s) past (entry_for (layout_for s) past caller (queue_call s k)) x ≡ false → waits (layout_for s) ((entry_for (layout_for s) past caller (queue_call s k)) ∷ past) x ≡ waits (layout_for s) past x
   as_before few there x less none = at (is_active (layout_for s) past x) refl
@@ -344,9 +340,9 @@ module _ (s : Plan) (k : ℕ) (past : List Entry) (m : Moment) (h : ShowsQueued 
       ap (filter (waits (layout_for s) ((entry_for (layout_for s) past caller (queue_call s k)) ∷ past))) (open_after few there)
       ∙ filter-append (waits (layout_for s) ((entry_for (layout_for s) past caller (queue_call s k)) ∷ past)) (still_open past) (queueing_for s k ∷ [])
       ∙ ap₂ (λ xs ys. xs ++ ys)
-          (filter_same (waits (layout_for s) ((entry_for (layout_for s) past caller (queue_call s k)) ∷ past)) (waits (layout_for s) past) (still_open past)
-            (All_both (λ (x : Queueing). x.number < k) (λ x. is_newly_active (layout_for s) past (entry_for (layout_for s) past caller (queue_call s k)) x ≡ false) _ (still_open past) (λ x less none. as_before few there x less none) old_ones (none_newly few there)) ∙ h.behind)
-          (ap (λ b. cond b (queueing_for s k ∷ []) []) (last_waits few there) ∙ put (nat_lt (count_by (is_of s (queue_of s k)) (m.ready ++ m.behind)) (max_active s (queue_of s k))))
+      (filter_same (waits (layout_for s) ((entry_for (layout_for s) past caller (queue_call s k)) ∷ past)) (waits (layout_for s) past) (still_open past)
+      (All_both (λ (x : Queueing). x.number < k) (λ x. is_newly_active (layout_for s) past (entry_for (layout_for s) past caller (queue_call s k)) x ≡ false) _ (still_open past) (λ x less none. as_before few there x less none) old_ones (none_newly few there)) ∙ h.behind)
+      (ap (λ b. cond b (queueing_for s k ∷ []) []) (last_waits few there) ∙ put (nat_lt (count_by (is_of s (queue_of s k)) (m.ready ++ m.behind)) (max_active s (queue_of s k))))
       ∙ sym (map-append (queueing_for s) m.behind (if nat_lt (count_by (is_of s (queue_of s k)) (m.ready ++ m.behind)) (max_active s (queue_of s k)) then [] else k ∷ []))
 
   -- ---- together
@@ -381,16 +377,30 @@ module _ (s : Plan) (k : ℕ) (past : List Entry) (m : Moment) (h : ShowsQueued 
 
       at : (b : Bool) → nat_lt (count_by (is_of s (queue_of s k)) (m.ready ++ m.behind)) (max_active s (queue_of s k)) ≡ b → ShowsQueued s (suc k) ((entry_for (layout_for s) past caller (queue_call s k)) ∷ past) (if b then record m { ready = m.ready ++ k ∷ [] } else record m { behind = m.behind ++ k ∷ [] })
       at true is = record {
-        legal = legal few there; all = all_queued; many = ap suc h.many; queued = all_listed;
+        legal = legal few there;
+        all = all_queued;
+        many = ap suc h.many;
+        queued = all_listed;
         ready = ready_after few there ∙ ap (λ b. map (queueing_for s) (m.ready ++ (if b then k ∷ [] else []))) is;
         behind = behind_after few there ∙ ap (λ b. map (queueing_for s) (m.behind ++ (if b then [] else k ∷ []))) is ∙ ap (map (queueing_for s)) (append-nil m.behind);
-        cpu = h.cpu; sleeping = h.sleeping; counts = counts_ready; widths = (still_wide, h.widths); wide = still_wide
+        cpu = h.cpu;
+        sleeping = h.sleeping;
+        counts = counts_ready;
+        widths = (still_wide, h.widths);
+        wide = still_wide;
       }
       at false is = record {
-        legal = legal few there; all = all_queued; many = ap suc h.many; queued = all_listed;
+        legal = legal few there;
+        all = all_queued;
+        many = ap suc h.many;
+        queued = all_listed;
         ready = ready_after few there ∙ ap (λ b. map (queueing_for s) (m.ready ++ (if b then k ∷ [] else []))) is ∙ ap (map (queueing_for s)) (append-nil m.ready);
         behind = behind_after few there ∙ ap (λ b. map (queueing_for s) (m.behind ++ (if b then [] else k ∷ []))) is;
-        cpu = h.cpu; sleeping = h.sleeping; counts = counts_behind; widths = (still_wide, h.widths); wide = still_wide
+        cpu = h.cpu;
+        sleeping = h.sleeping;
+        counts = counts_behind;
+        widths = (still_wide, h.widths);
+        wide = still_wide;
       }
 
 -- ---- when all are queued
@@ -399,11 +409,11 @@ none_retired : (past : List Entry) → AllByRecursion IsQueued past → AllByRec
 none_retired [] all = tt
 none_retired (e ∷ past) all = ((says e.reply all.0.says).stays, none_retired past all.1)
 
-none_later : (i b n : ℕ) → i < b → count_by (λ j. j == i) (range_with_len b n) ≡ 0
+pub none_later : (i b n : ℕ) → i < b → count_by (λ j. j == i) (range_with_len b n) ≡ 0
 none_later i b zero less = refl
 none_later i b (suc n) less = count_by-cons (λ j. j == i) b (range_with_len (b + 1) n) ∙ ap₂ (λ c r. cond c 1 0 + r) (ne_eqb b i (λ same. absurd (omega arith))) (none_later i (b + 1) n (omega arith))
 
-once_among : (a k i : ℕ) → count_by (λ j. j == i) (range_with_len a k) ≤ 1
+pub once_among : (a k i : ℕ) → count_by (λ j. j == i) (range_with_len a k) ≤ 1
 once_among a zero i = omega arith
 once_among a (suc k) i = at (a == i) refl (once_among (a + 1) k i)
   where
@@ -423,21 +433,27 @@ count_all (x ∷ xs) = count_by-cons (λ j. true) x xs ∙ ap (λ n. 1 + n) (cou
 
 pub all_shown : (s : Plan) (past : List Entry) (m : Moment) (seat : ℕ → ℕ) → length s.items ≤ 8 → ShowsQueued s (length s.items) past m → Shows s past m seat
 all_shown s past m seat few h = record {
-  legal = h.legal; kept = none_retired past h.all; queued = h.queued; ready = h.ready; behind = h.behind;
-  cpu = subst (AllByRecursion (λ j. IsRunAt past (seat j.item) j.item false)) (sym h.cpu) tt; sleeping = subst (AllByRecursion (λ x. IsRunAt past (seat x.item) x.item true)) (sym h.sleeping) tt;
+  legal = h.legal;
+  kept = none_retired past h.all;
+  queued = h.queued;
+  ready = h.ready;
+  behind = h.behind;
+  cpu = subst (AllByRecursion (λ j. IsRunAt past (seat j.item) j.item false)) (sym h.cpu) tt;
+  sleeping = subst (AllByRecursion (λ x. IsRunAt past (seat x.item) x.item true)) (sym h.sleeping) tt;
   no_others = λ w n runs. absurd (none_some (sym (nobody_runs past w h.all) ∙ runs));
   once = λ i.
-    let a = ap₂ (λ (js : List Job) (xs : List Sleeper). count_by (is_job i) js + count_by (is_sleeper i) xs) h.cpu h.sleeping in
-    let b = count-append (λ j. j == i) m.ready m.behind in
-    let c = h.counts (λ j. j == i) in
-    let d = once_among 0 (length s.items) i in
-    omega arith;
-  widths = h.widths; wide = h.wide;
+      let a = ap₂ (λ (js : List Job) (xs : List Sleeper). count_by (is_job i) js + count_by (is_sleeper i) xs) h.cpu h.sleeping in
+      let b = count-append (λ j. j == i) m.ready m.behind in
+      let c = h.counts (λ j. j == i) in
+      let d = once_among 0 (length s.items) i in
+      omega arith;
+  widths = h.widths;
+  wide = h.wide;
   few =
-    let a = ap₂ (λ (js : List Job) (xs : List Sleeper). length js + length xs) h.cpu h.sleeping in
-    let b = length-append m.ready m.behind in
-    let c = sym (count_all (m.ready ++ m.behind)) ∙ h.counts (λ j. true) ∙ count_all (range_with_len 0 (length s.items)) ∙ length-range_with_len 0 (length s.items) in
-    omega arith
+      let a = ap₂ (λ (js : List Job) (xs : List Sleeper). length js + length xs) h.cpu h.sleeping in
+      let b = length-append m.ready m.behind in
+      let c = sym (count_all (m.ready ++ m.behind)) ∙ h.counts (λ j. true) ∙ count_all (range_with_len 0 (length s.items)) ∙ length-range_with_len 0 (length s.items) in
+      omega arith;
 }
   where
     none_some : {n : ℕ} → None ≡ Some n → ⊥

@@ -1,9 +1,8 @@
 -- No call of a replay is refused for want of room: a queueing needs three entries, a sleep two, and there are few of both.
-use Rattle.std.proofs.Common.{◌≡◌, ◌==◌, ◌<◌, ◌≤◌, ◌+◌, ◌*◌, ℕ, zero, suc, Bool, true, false, cond, not, ◌&&◌, ◌||◌, List, [], ◌∷◌, ◌++◌, length, drop, map, filter, find, count_by, Option, Some, None, refl, sym, ap, ap₂, ◌∙◌, subst, arith, option_to_list, nat_lt}
+use Rattle.std.proofs.Common.{◌≡◌, ◌==◌, ◌<◌, ◌≤◌, ◌+◌, ℕ, Bool, true, false, not, List, [], ◌∷◌, ◌++◌, length, drop, map, filter, find, count_by, Option, Some, None, refl, sym, ap, ◌∙◌, subst, arith, nat_lt}
 use Rattle.std.specs.Prelude.{if◌then◌else◌, sum_by, option_and_then, option_map, is_some}
-use Rattle.std.proofs.lemmas.Bool.{eq-eqb, eqb-true}
+use Rattle.std.proofs.lemmas.Bool.{eq-eqb}
 use Rattle.std.proofs.lemmas.List.Sums.{sum_by-cons, sum_by_push, sum_by-append}
-use Rattle.cmwq_model.specs.declared.reply.Reply.{Reply}
 use Rattle.cmwq_model.specs.declared.reply.Reply.TheVariants as reply
 use Rattle.cmwq_model.specs.declared.entry.Entry.{Entry}
 use Rattle.cmwq_model.specs.Layout.{Layout}
@@ -12,11 +11,11 @@ use Rattle.cmwq_model.specs.Fate.{number_started, number_finished}
 use Rattle.cmwq_model.specs.Bookings.{booking, booking_of, booked_by, due_in}
 use Rattle.cmwq_model.specs.Runs.{last_start, is_asleep}
 use Rattle.cmwq_model.specs.Queueings.{queueings, opens, opening, queued_at, place_wanted}
-use Rattle.cmwq_model.specs.Tickets.{tickets, gives_ticket, is_done}
+use Rattle.cmwq_model.specs.Tickets.{tickets, gives_ticket}
 use Rattle.cmwq_model.specs.Widths.{is_frozen}
 use Rattle.cmwq_model.specs.Room.{owed, needed}
 use Rattle.cmwq_model.specs.Legal.{IsLegal}
-use Rattle.cmwq_laws.specs.RoomSteps.{one, ends_unstarted, is_slept, is_woke, settles_booked, is_frozen_now, is_thawed_now}
+use Rattle.cmwq_laws.specs.RoomSteps.{one, is_slept, is_frozen_now}
 use Rattle.cmwq_laws.proofs.OwedFrozen.{frozen_counted}
 use Rattle.cmwq_laws.proofs.OwedItems.{tickets_counted, booked_counted}
 use Rattle.cmwq_laws.proofs.OwedSteps.{runs_counted, sleepers_counted}

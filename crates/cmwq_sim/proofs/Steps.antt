@@ -1,15 +1,13 @@
 -- What one more entry does to what a history shows.
-use Rattle.std.proofs.Common.{◌≡◌, ◌≢◌, ◌==◌, ◌<◌, ◌≤◌, ◌+◌, ℕ, zero, suc, Bool, true, false, cond, not, ◌&&◌, ◌||◌, List, [], ◌∷◌, ◌++◌, length, map, filter, find, count_by, Option, Some, None, nat_lt, refl, sym, ap, ap₂, ◌∙◌, subst, arith, ◌⊎◌, inl, inr, ⊎_elim, option_to_list, append-nil, length-append}
-use Rattle.std.specs.Prelude.{option_map, option_and_then, is_some, if◌then◌else◌, IsTrue}
+use Rattle.std.proofs.Common.{◌≡◌, ◌≢◌, ◌==◌, ◌<◌, ◌≤◌, ◌+◌, ℕ, Bool, true, false, cond, not, ◌&&◌, ◌||◌, List, [], ◌∷◌, ◌++◌, length, filter, count_by, Option, None, refl, sym, ap, ap₂, ◌∙◌, subst, arith, option_to_list, append-nil, length-append}
+use Rattle.std.specs.Prelude.{option_map, option_and_then, if◌then◌else◌, IsTrue}
 use Rattle.std.specs.List.{AllByRecursion, list_any}
 use Rattle.cmwq_ties.proofs.PoolNext.{runner_there}
-use Rattle.std.proofs.lemmas.Bool.{lt-ltb, eqb-true, eq-eqb, ne_eqb, and_parts, or_cases, cases_eq, false_from_ne_true}
+use Rattle.std.proofs.lemmas.Bool.{lt-ltb, eq-eqb, ne_eqb}
 use Rattle.std.proofs.lemmas.Option.{same_Some}
 use Rattle.cmwq_model.specs.declared.id.PoolId.{PoolId}
 use Rattle.cmwq_model.specs.declared.id.WorkerId.{WorkerId}
-use Rattle.cmwq_model.specs.declared.id.Who.{Who}
-use Rattle.cmwq_model.specs.declared.id.Who.TheVariants.{Caller, Worker}
-use Rattle.cmwq_model.specs.declared.call.Call.{Call}
+use Rattle.cmwq_model.specs.declared.id.Who.TheVariants.{Worker}
 use Rattle.cmwq_model.specs.declared.call.Call.TheVariants as call
 use Rattle.cmwq_model.specs.declared.reply.Reply.{Reply}
 use Rattle.cmwq_model.specs.declared.reply.Reply.TheVariants as reply
@@ -21,25 +19,24 @@ use Rattle.cmwq_model.specs.Fate.{number_started, number_finished, number_cancel
 use Rattle.cmwq_model.specs.Runs.{run, is_asleep, asleep_after}
 use Rattle.cmwq_model.specs.Queueings.{opens, opening, queued_at, place_wanted, queueings, still_open, is_live}
 use Rattle.cmwq_model.specs.Active.{is_active, is_newly_active, newly_active, worklist}
-use Rattle.cmwq_model.specs.Workers.{is_retired, worker_at}
+use Rattle.cmwq_model.specs.Workers.{is_retired}
 use Rattle.cmwq_model.specs.Answer.{answer}
 use Rattle.cmwq_model.specs.Legal.{IsLegal, entry_for}
 use Rattle.cmwq_laws.specs.RunSteps.{run_after}
 use Rattle.cmwq_laws.specs.Endings.{is_spared, is_ended, ending}
 use Rattle.cmwq_laws.specs.Activations.{waits, is_left, is_in, keeps_widths, behind_width, has_way_at_once}
-use Rattle.cmwq_laws.proofs.Lists.{All_map, All_both, All_each, All_append, All_filter, count_by-cons}
+use Rattle.cmwq_laws.proofs.Lists.{All_both, All_each, All_append, All_filter, count_by-cons}
 use Rattle.cmwq_laws.proofs.Filters.{filter_same, none_found, count_none}
-use Rattle.cmwq_laws.proofs.Joined.{stays_active, active_live}
+use Rattle.cmwq_laws.proofs.Joined.{stays_active}
 use Rattle.cmwq_laws.proofs.Endings.{open_go_on}
 use Rattle.cmwq_laws.proofs.Promoted.{newly_of_open}
 use Rattle.cmwq_laws.proofs.NewlyActive.{newly_active_are, width_same}
 use Rattle.cmwq_laws.proofs.WorklistSteps.{worklists_go_on}
 use Rattle.cmwq_laws.proofs.RunSteps.{workers_run_on}
-use Rattle.cmwq_laws.proofs.ItemRuns.{same_worker-true}
 use Rattle.cmwq_laws.proofs.OwedSteps.{by_itself}
-use Rattle.cmwq_sim.specs.Plan.{Plan, queue_of}
-use Rattle.cmwq_sim.specs.Lines.{Moment, Job, Sleeper, items_of}
-use Rattle.cmwq_sim.specs.Shows.{layout_for, pool, worker, queueing_for, IsRunAt, is_job, is_sleeper, runs_in, times, Shows}
+use Rattle.cmwq_sim.specs.Plan.{Plan}
+use Rattle.cmwq_sim.specs.Lines.{Moment, Job}
+use Rattle.cmwq_sim.specs.Shows.{layout_for, pool, worker, IsRunAt, is_job, is_sleeper, runs_in, times, Shows}
 use Rattle.cmwq_sim.proofs.TakeReads.{sleep_answered}
 
 -- ---- an entry that opens and ends nothing
@@ -150,7 +147,7 @@ goes_on : (s : Layout) (past : List Entry) (e : Entry) (x y i : ℕ) (b : Bool) 
 unfolding is_asleep
 goes_on s past e x y i b legal after who differs r = record {
   runs = same_runs s past e (worker y) legal after ∙ r.runs;
-  sleeps = ap (λ c. if c then asleep_after e.reply (is_asleep past (worker y)) else is_asleep past (worker y)) (not_by e x y who differs) ∙ r.sleeps
+  sleeps = ap (λ c. if c then asleep_after e.reply (is_asleep past (worker y)) else is_asleep past (worker y)) (not_by e x y who differs) ∙ r.sleeps;
 }
 
 pub count-append : {X : Type 0} (p : X → Bool) (xs ys : List X) → count_by p (xs ++ ys) ≡ count_by p xs + count_by p ys
@@ -183,19 +180,19 @@ sleep_shown s past m seat j rest until left h is = record {
   behind = waiting_as_before (layout_for s) past e legal quiet ∙ h.behind;
   cpu = All_both (λ k. IsRunAt past (seat k.item) k.item false) (λ k. is_job j.item k ≡ false) _ rest (λ k r differs. other k.item false r differs) jobs.1 apart.0;
   sleeping = All_append _ m.sleeping (record { item = j.item; until = until; left = left } ∷ [])
-    (All_both (λ x. IsRunAt past (seat x.item) x.item true) (λ x. is_sleeper j.item x ≡ false) _ m.sleeping (λ x r differs. other x.item true r differs) h.sleeping apart.1)
-    (record { runs = same_runs (layout_for s) past e (worker (seat j.item)) legal after ∙ jobs.0.runs; sleeps = ap₂ (λ c r. if c then asleep_after r (is_asleep past (worker (seat j.item))) else is_asleep past (worker (seat j.item))) (by_itself e (worker (seat j.item)) refl) slept }, tt);
+      (All_both (λ x. IsRunAt past (seat x.item) x.item true) (λ x. is_sleeper j.item x ≡ false) _ m.sleeping (λ x r differs. other x.item true r differs) h.sleeping apart.1)
+      (record { runs = same_runs (layout_for s) past e (worker (seat j.item)) legal after ∙ jobs.0.runs; sleeps = ap₂ (λ c r. if c then asleep_after r (is_asleep past (worker (seat j.item))) else is_asleep past (worker (seat j.item))) (by_itself e (worker (seat j.item)) refl) slept }, tt);
   no_others = λ w n runs. let k = h.no_others w n (sym (same_runs (layout_for s) past e w legal after) ∙ runs) in (k.0, moved n k.1);
   once = λ i.
-    let o = h.once i in
-    let c = ap (count_by (is_job i)) is ∙ count_by-cons (is_job i) j rest in
-    let d = count-append (is_sleeper i) m.sleeping (record { item = j.item; until = until; left = left } ∷ []) ∙ ap (λ n. count_by (is_sleeper i) m.sleeping + n) (count_by-cons (is_sleeper i) (record { item = j.item; until = until; left = left }) []) in
-    omega arith;
+      let o = h.once i in
+      let c = ap (count_by (is_job i)) is ∙ count_by-cons (is_job i) j rest in
+      let d = count-append (is_sleeper i) m.sleeping (record { item = j.item; until = until; left = left } ∷ []) ∙ ap (λ n. count_by (is_sleeper i) m.sleeping + n) (count_by-cons (is_sleeper i) (record { item = j.item; until = until; left = left }) []) in
+      omega arith;
   few =
-    let f = h.few in
-    let c = ap length is in
-    let d = length-append m.sleeping (record { item = j.item; until = until; left = left } ∷ []) in
-    omega arith
+      let f = h.few in
+      let c = ap length is in
+      let d = length-append m.sleeping (record { item = j.item; until = until; left = left } ∷ []) in
+      omega arith;
 }
   where
     e : Entry

@@ -1,14 +1,14 @@
 -- A take starts what the lists say, and some worker may take it.
-use Rattle.std.proofs.Common.{◌≡◌, ◌≢◌, ◌==◌, ◌<◌, ◌≤◌, ◌+◌, ℕ, zero, suc, Bool, true, false, cond, not, ◌&&◌, ◌||◌, List, [], ◌∷◌, ◌++◌, length, map, filter, find, count_by, Option, Some, None, nat_lt, refl, sym, ap, ap₂, ◌∙◌, subst, arith, ◌⊎◌, inl, inr, ⊎_elim, length-append}
+use Rattle.std.proofs.Common.{◌≡◌, ◌≢◌, ◌==◌, ◌<◌, ◌≤◌, ◌+◌, ℕ, zero, suc, Bool, true, false, cond, not, ◌&&◌, ◌||◌, List, [], ◌∷◌, ◌++◌, length, map, filter, find, count_by, Option, Some, None, nat_lt, refl, sym, ap, ap₂, ◌∙◌, subst, arith, ◌⊎◌, ⊎_elim, length-append}
 use Rattle.std.proofs.lemmas.List.{length-map}
-use Rattle.std.specs.Prelude.{option_map, option_and_then, is_some, if◌then◌else◌, slice_index_or}
+use Rattle.std.specs.Prelude.{option_map, option_and_then, is_some, if◌then◌else◌}
 use Rattle.std.specs.Option.{option_map_or}
 use Rattle.std.specs.List.{AllByRecursion, list_any, range_with_len}
-use Rattle.std.proofs.lemmas.Bool.{eqb-true, eq-eqb, ne_eqb, and_parts, or_cases, cases_eq, false_from_ne_true}
+use Rattle.std.proofs.lemmas.Bool.{eqb-true, eq-eqb, or_cases, cases_eq}
 use Rattle.std.proofs.lemmas.Bool.Decides.{nat_tests}
 use Rattle.std.proofs.lemmas.Option.{same_Some}
 use Rattle.cmwq_model.specs.declared.id.WorkerId.{WorkerId}
-use Rattle.cmwq_model.specs.declared.id.Who.TheVariants.{Caller, Worker}
+use Rattle.cmwq_model.specs.declared.id.Who.TheVariants.{Worker}
 use Rattle.cmwq_model.specs.declared.call.Call.TheVariants as call
 use Rattle.cmwq_model.specs.declared.reply.Reply.{Reply}
 use Rattle.cmwq_model.specs.declared.reply.Reply.TheVariants as reply
@@ -17,25 +17,23 @@ use Rattle.cmwq_model.specs.declared.record.Queueing.{Queueing}
 use Rattle.cmwq_model.specs.declared.record.Start.{Start}
 use Rattle.cmwq_model.specs.declared.shape.QueueShape.{QueueShape}
 use Rattle.std.proofs.Math.ListN.{get_or-map}
-use Rattle.cmwq_model.specs.Layout.{Layout, indices, is_intensive, queue_at}
-use Rattle.cmwq_model.specs.Calls.{item_at}
+use Rattle.cmwq_model.specs.Layout.{indices, is_intensive}
 use Rattle.cmwq_model.specs.Fate.{number_started}
-use Rattle.cmwq_model.specs.Runs.{run, has_run, is_asleep, runs_awake, runs_asleep, item_run, item_runs}
-use Rattle.cmwq_model.specs.Queueings.{queueings, queueing_at, has_number, queue_of as queue_of_number, run_queue}
-use Rattle.cmwq_model.specs.Active.{worklist, next, is_startable}
-use Rattle.cmwq_model.specs.Workers.{worker_at, is_enlisted, is_idle, is_holding, runnable, enlisted_by}
+use Rattle.cmwq_model.specs.Runs.{run, has_run, is_asleep, item_run}
+use Rattle.cmwq_model.specs.Queueings.{queueing_at, has_number, queue_of as queue_of_number, run_queue}
+use Rattle.cmwq_model.specs.Active.{next, is_startable}
+use Rattle.cmwq_model.specs.Workers.{is_enlisted, is_idle, is_holding, runnable, enlisted_by}
 use Rattle.cmwq_model.specs.Answer.{answer, take_answer, finish_answer, start_of, started}
 use Rattle.cmwq_laws.proofs.Lists.{count_by-cons}
-use Rattle.cmwq_laws.proofs.Entries.{IsKnown}
-use Rattle.cmwq_laws.proofs.RunsActive.{found_known, found_number}
+use Rattle.cmwq_laws.proofs.RunsActive.{found_known}
 use Rattle.cmwq_laws.proofs.Pools.{runs_are_in_pools}
 use Rattle.cmwq_laws.proofs.ItemSteps.{items_are_run}
 use Rattle.cmwq_ties.proofs.PoolNext.{runner_there}
 use Rattle.cmwq_sim.specs.Plan.{Plan, queue_of, no_queue}
 use Rattle.cmwq_sim.specs.Plan as plan
 use Rattle.cmwq_sim.specs.Lines.{Moment, Job, Sleeper, items_of, is_held_by}
-use Rattle.cmwq_sim.specs.Shows.{layout_for, queue_shape, pool, worker, queueing_for, IsRunAt, is_job, is_sleeper, runs_in, times, Shows, next_of, to_start}
-use Rattle.cmwq_sim.proofs.Idle.{Any, one, none, any_below, IdleOrAll, idle, all, idle_or_all}
+use Rattle.cmwq_sim.specs.Shows.{layout_for, queue_shape, pool, worker, queueing_for, IsRunAt, is_job, is_sleeper, runs_in, Shows, next_of, to_start}
+use Rattle.cmwq_sim.proofs.Idle.{one, none, any_below, idle, all, idle_or_all}
 
 -- ---- the three calls of a run
 
@@ -189,9 +187,9 @@ not_holding s past m seat x h clear = at (run past (worker x)) refl (is_asleep p
     at (Some n) runs false sleeps =
         let k = h.no_others (worker x) n runs in
         holds_by_item s past m seat x n h runs sleeps ∙ ⊎_elim
-          (λ job. none_held s n m.cpu clear job)
-          (λ sleeper. differ (sym sleeps ∙ ap (is_asleep past) k.0 ∙ asleep_one past seat n m.sleeping h.sleeping sleeper))
-          (or_cases (list_any (is_job n) m.cpu) (list_any (is_sleeper n) m.sleeping) k.1)
+        (λ job. none_held s n m.cpu clear job)
+        (λ sleeper. differ (sym sleeps ∙ ap (is_asleep past) k.0 ∙ asleep_one past seat n m.sleeping h.sleeping sleeper))
+        (or_cases (list_any (is_job n) m.cpu) (list_any (is_sleeper n) m.sleeping) k.1)
       where
         differ : false ≡ true → not (plan.is_intensive s (queue_of s n)) ≡ false
         differ e = cc

@@ -1,38 +1,37 @@
 -- A take that starts carries the relation.
-use Rattle.std.proofs.Common.{◌≡◌, ◌≢◌, ◌==◌, ◌<◌, ◌≤◌, ◌+◌, ℕ, zero, suc, Bool, true, false, cond, not, ◌&&◌, ◌||◌, List, [], ◌∷◌, ◌++◌, length, map, filter, find, count_by, Option, Some, None, nat_lt, refl, sym, ap, ap₂, ◌∙◌, subst, arith, ◌⊎◌, inl, inr, ⊎_elim, option_to_list, append-nil, length-append}
-use Rattle.std.specs.Prelude.{is_some, if◌then◌else◌, IsTrue}
+use Rattle.std.proofs.Common.{◌≡◌, ◌≢◌, ◌==◌, ◌<◌, ◌+◌, ℕ, Bool, true, false, cond, not, ◌&&◌, ◌||◌, List, [], ◌∷◌, ◌++◌, length, map, filter, count_by, Option, Some, None, refl, sym, ap, ap₂, ◌∙◌, subst, arith, option_to_list, append-nil, length-append}
+use Rattle.std.specs.Prelude.{if◌then◌else◌}
 use Rattle.std.specs.List.{AllByRecursion, list_any}
-use Rattle.std.proofs.lemmas.Bool.{lt-ltb, eqb-true, eq-eqb, ne_eqb, and_parts, or_cases, cases_eq}
+use Rattle.std.proofs.lemmas.Bool.{lt-ltb, eq-eqb, ne_eqb}
 use Rattle.std.proofs.lemmas.Option.{same_Some}
 use Rattle.cmwq_model.specs.declared.id.WorkerId.{WorkerId}
-use Rattle.cmwq_model.specs.declared.id.Who.TheVariants.{Caller, Worker}
+use Rattle.cmwq_model.specs.declared.id.Who.TheVariants.{Worker}
 use Rattle.cmwq_model.specs.declared.call.Call.TheVariants as call
 use Rattle.cmwq_model.specs.declared.reply.Reply.{Reply}
 use Rattle.cmwq_model.specs.declared.reply.Reply.TheVariants as reply
 use Rattle.cmwq_model.specs.declared.entry.Entry.{Entry}
 use Rattle.cmwq_model.specs.declared.record.Queueing.{Queueing}
-use Rattle.cmwq_model.specs.Layout.{Layout, fits}
+use Rattle.cmwq_model.specs.Layout.{Layout}
 use Rattle.cmwq_model.specs.Calls.{is_at, is_by}
-use Rattle.cmwq_model.specs.Fate.{number_started, starts}
+use Rattle.cmwq_model.specs.Fate.{number_started}
 use Rattle.cmwq_model.specs.Runs.{run, is_asleep, asleep_after}
 use Rattle.cmwq_model.specs.Queueings.{queueings}
-use Rattle.cmwq_model.specs.Active.{worklist}
 use Rattle.cmwq_model.specs.Workers.{is_idle}
 use Rattle.cmwq_model.specs.Answer.{answer}
 use Rattle.cmwq_model.specs.Legal.{IsLegal, entry_for}
 use Rattle.cmwq_laws.specs.RunSteps.{run_after}
-use Rattle.cmwq_laws.proofs.Lists.{All_map, All_both, All_append, count_by-cons}
+use Rattle.cmwq_laws.proofs.Lists.{All_both, All_append, count_by-cons}
 use Rattle.cmwq_laws.proofs.Filters.{count_none}
 use Rattle.cmwq_laws.proofs.NewlyActive.{width_same}
 use Rattle.cmwq_laws.proofs.RunSteps.{workers_run_on, run_begun}
 use Rattle.cmwq_laws.proofs.ItemRuns.{same_worker-true}
 use Rattle.cmwq_laws.proofs.OwedSteps.{by_itself}
 use Rattle.cmwq_sim.specs.Plan.{Plan, ms_of}
-use Rattle.cmwq_sim.specs.Lines.{Moment, Job, Sleeper, is_held_by, job_of, job_with}
-use Rattle.cmwq_sim.specs.Shows.{layout_for, pool, worker, queueing_for, IsRunAt, is_job, is_sleeper, runs_in, times, Shows, to_start, next_of}
+use Rattle.cmwq_sim.specs.Lines.{Moment, is_held_by, job_of, job_with}
+use Rattle.cmwq_sim.specs.Shows.{layout_for, pool, worker, queueing_for, IsRunAt, is_job, is_sleeper, runs_in, Shows, to_start, next_of}
 use Rattle.cmwq_sim.proofs.Idle.{idle_parts}
-use Rattle.cmwq_sim.proofs.TakeReads.{take_answered, runs_counted, first_counted}
-use Rattle.cmwq_sim.proofs.Steps.{IsQuiet, all_kept, none_opens, worklist_as_before, waiting_as_before, not_by, count-append, any-append}
+use Rattle.cmwq_sim.proofs.TakeReads.{take_answered, runs_counted}
+use Rattle.cmwq_sim.proofs.Steps.{IsQuiet, none_opens, worklist_as_before, waiting_as_before, not_by, count-append, any-append}
 
 quiet_start : (r : Reply) (n : ℕ) → number_started r ≡ Some n → IsQuiet r
 quiet_start (reply.Started m) n h = record { opens = refl; finishes = refl; cancels = refl; replaces = refl; widths = refl; stays = refl }
@@ -54,7 +53,7 @@ pub goes_by : (s : Layout) (past : List Entry) (e : Entry) (x y i : ℕ) (b : Bo
 unfolding is_asleep
 goes_by s past e x y i b legal who differs r = record {
   runs = workers_run_on s past e (worker y) legal ∙ ap (λ c. if c then run_after e.reply (run past (worker y)) else run past (worker y)) (not_by e x y who differs) ∙ r.runs;
-  sleeps = ap (λ c. if c then asleep_after e.reply (is_asleep past (worker y)) else is_asleep past (worker y)) (not_by e x y who differs) ∙ r.sleeps
+  sleeps = ap (λ c. if c then asleep_after e.reply (is_asleep past (worker y)) else is_asleep past (worker y)) (not_by e x y who differs) ∙ r.sleeps;
 }
 
 pub job_item : (i : ℕ) (ms : List ℕ) → (job_with i ms).item ≡ i
@@ -85,22 +84,22 @@ take_shown s past m seat x i rest h less free is clear = record {
   kept = (quiet.stays, h.kept);
   queued = ap (λ o. queueings past ++ option_to_list o) (none_opens past e quiet) ∙ append-nil (queueings past) ∙ h.queued;
   ready = worklist_as_before (layout_for s) past e pool legal quiet ∙ ap₂ (λ o ws. filter (λ (y : Queueing). not (is_at o y.number)) ws) started (h.ready ∙ ap (map (queueing_for s)) is)
-    ∙ ap (λ b. cond (not b) (queueing_for s i ∷ filter (λ (y : Queueing). not (i == y.number)) (map (queueing_for s) rest)) (filter (λ (y : Queueing). not (i == y.number)) (map (queueing_for s) rest))) (eq-eqb i i refl)
-    ∙ others_left s i rest (count_none (λ k. k == i) rest (omega (arith, counts, h.once i)));
+      ∙ ap (λ b. cond (not b) (queueing_for s i ∷ filter (λ (y : Queueing). not (i == y.number)) (map (queueing_for s) rest)) (filter (λ (y : Queueing). not (i == y.number)) (map (queueing_for s) rest))) (eq-eqb i i refl)
+      ∙ others_left s i rest (count_none (λ k. k == i) rest (omega (arith, counts, h.once i)));
   behind = waiting_as_before (layout_for s) past e legal quiet ∙ h.behind;
   cpu = All_append _ m.cpu (job_of s i ∷ []) (All_both (λ k. IsRunAt past (seat k.item) k.item false) (λ k. is_job i k ≡ false) _ m.cpu (λ k r differs. other k.item false r differs) h.cpu (count_none (is_job i) m.cpu (omega (arith, counts, h.once i)))) (subst (λ k. IsRunAt (e ∷ past) (seat_with seat i x k) k false) (sym (job_item i (ms_of s i))) own, tt);
   sleeping = All_both (λ k. IsRunAt past (seat k.item) k.item true) (λ k. is_sleeper i k ≡ false) _ m.sleeping (λ k r differs. other k.item true r differs) h.sleeping (count_none (is_sleeper i) m.sleeping (omega (arith, counts, h.once i)));
   no_others = λ w n runs. at w n (is_by (Worker w) e) refl (sym (workers_run_on (layout_for s) past e w legal) ∙ runs);
   once = λ k.
-    let o = h.once k in
-    let a = ap (count_by (λ j. j == k)) is ∙ count_by-cons (λ j. j == k) i rest in
-    let b = count-append (is_job k) m.cpu (job_of s i ∷ []) ∙ ap (λ n. count_by (is_job k) m.cpu + n) (count_by-cons (is_job k) (job_of s i) [] ∙ ap (λ j. cond (j == k) 1 0 + 0) (job_item i (ms_of s i))) in
-    omega arith;
+      let o = h.once k in
+      let a = ap (count_by (λ j. j == k)) is ∙ count_by-cons (λ j. j == k) i rest in
+      let b = count-append (is_job k) m.cpu (job_of s i ∷ []) ∙ ap (λ n. count_by (is_job k) m.cpu + n) (count_by-cons (is_job k) (job_of s i) [] ∙ ap (λ j. cond (j == k) 1 0 + 0) (job_item i (ms_of s i))) in
+      omega arith;
   few =
-    let f = h.few in
-    let c = ap length is in
-    let d = length-append m.cpu (job_of s i ∷ []) in
-    omega arith
+      let f = h.few in
+      let c = ap length is in
+      let d = length-append m.cpu (job_of s i ∷ []) in
+      omega arith;
 }
   where
     e : Entry
@@ -136,7 +135,7 @@ take_shown s past m seat x i rest h less free is clear = record {
     own : IsRunAt (e ∷ past) (seat_with seat i x i) i false
     own = subst (λ y. IsRunAt (e ∷ past) y i false) (sym seat_own) (record {
       runs = run_begun (layout_for s) past e (worker x) i legal (by_itself e (worker x) refl) started;
-      sleeps = ap (λ c. if c then asleep_after e.reply (is_asleep past (worker x)) else is_asleep past (worker x)) (by_itself e (worker x) refl) ∙ awake_start (answer (layout_for s) past (Worker (worker x)) call.Take) i (is_asleep past (worker x)) started
+      sleeps = ap (λ c. if c then asleep_after e.reply (is_asleep past (worker x)) else is_asleep past (worker x)) (by_itself e (worker x) refl) ∙ awake_start (answer (layout_for s) past (Worker (worker x)) call.Take) i (is_asleep past (worker x)) started;
     })
 
     joined : (n : ℕ) → list_any (is_job n) (m.cpu ++ job_of s i ∷ []) ≡ (list_any (is_job n) m.cpu || ((i == n) || false))
@@ -144,9 +143,10 @@ take_shown s past m seat x i rest h less free is clear = record {
 
     at : (w : WorkerId) (n : ℕ) (b : Bool) → is_by (Worker w) e ≡ b → (if is_by (Worker w) e then run_after e.reply (run past w) else run past w) ≡ Some n → (w ≡ worker (seat_with seat i x n)) × (runs_in (started_with s m i rest) n ≡ true)
     at w n true by runs =
-        let same : i ≡ n = same_Some i n (sym (started_after (answer (layout_for s) past (Worker (worker x)) call.Take) i (run past w) started) ∙ sym (ap (λ c. if c then run_after e.reply (run past w) else run past w) by) ∙ runs) in
-        (sym (same_worker-true (worker x) w by) ∙ ap worker (sym seat_own ∙ ap (seat_with seat i x) same),
-         ap (λ b. b || list_any (is_sleeper n) m.sleeping) (joined n ∙ ap (λ b. list_any (is_job n) m.cpu || (b || false)) (eq-eqb i n same)) ∙ last (list_any (is_job n) m.cpu))
+        let same : i ≡ n = same_Some i n (sym (started_after (answer (layout_for s) past (Worker (worker x)) call.Take) i (run past w) started) ∙ sym (ap (λ c. if c then run_after e.reply (run past w) else run past w) by) ∙ runs) in (
+          sym (same_worker-true (worker x) w by) ∙ ap worker (sym seat_own ∙ ap (seat_with seat i x) same),
+          ap (λ b. b || list_any (is_sleeper n) m.sleeping) (joined n ∙ ap (λ b. list_any (is_job n) m.cpu || (b || false)) (eq-eqb i n same)) ∙ last (list_any (is_job n) m.cpu),
+        )
       where
         last : (b : Bool) → ((b || true) || list_any (is_sleeper n) m.sleeping) ≡ true
         last true = refl
@@ -154,10 +154,10 @@ take_shown s past m seat x i rest h less free is clear = record {
     at w n false by runs =
         let k = h.no_others w n (sym (ap (λ c. if c then run_after e.reply (run past w) else run past w) by) ∙ runs) in
         let differs : (n == i) ≡ false = ne_eqb n i (λ same.
-          let c = runs_counted m i (subst (λ z. runs_in m z ≡ true) same k.1) in
-          let o = h.once i in
-          let p = counts in
-          absurd (omega arith)) in
+        let c = runs_counted m i (subst (λ z. runs_in m z ≡ true) same k.1) in
+        let o = h.once i in
+        let p = counts in
+        absurd (omega arith)) in
         (k.0 ∙ ap worker (sym (seat_is n differs)), ap (λ b. b || list_any (is_sleeper n) m.sleeping) (joined n) ∙ more (list_any (is_job n) m.cpu) (list_any (is_sleeper n) m.sleeping) (i == n) k.1)
       where
         more : (a b c : Bool) → (a || b) ≡ true → ((a || (c || false)) || b) ≡ true

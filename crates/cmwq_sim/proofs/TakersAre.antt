@@ -1,5 +1,5 @@
 -- The first worker that would start an item starts what the lists say, and where there is none they say none.
-use Rattle.std.proofs.Common.{◌≡◌, ◌<◌, ℕ, Bool, true, false, List, [], ◌∷◌, ◌++◌, Option, Some, None, refl, sym, ap, ap₂, ◌∙◌, subst, arith}
+use Rattle.std.proofs.Common.{◌≡◌, ℕ, Bool, true, false, List, [], ◌∷◌, ◌++◌, Option, Some, None, refl, sym, ap, ◌∙◌}
 use Rattle.std.specs.Prelude.{if◌then◌else◌}
 use Rattle.std.specs.List.{list_any}
 use Rattle.cmwq_model.specs.declared.entry.Entry.{Entry}
@@ -7,7 +7,7 @@ use Rattle.cmwq_model.specs.Workers.{is_idle}
 use Rattle.cmwq_sim.specs.Plan.{Plan}
 use Rattle.cmwq_sim.specs.Lines.{Moment, Job, is_held_by, job_of, starting}
 use Rattle.cmwq_sim.specs.Shows.{layout_for, pool, Shows, to_start, next_of}
-use Rattle.cmwq_sim.specs.Takers.{taken_by, IsTaker, NoTaker}
+use Rattle.cmwq_sim.specs.Takers.{IsTaker, NoTaker}
 use Rattle.cmwq_sim.proofs.TakeReads.{take_answered, some_idle}
 
 pub taker_starts : (s : Plan) (past : List Entry) (m : Moment) (seat : ℕ → ℕ) (x n : ℕ) → Shows s past m seat → IsTaker (layout_for s) past x n → (is_idle past pool x ≡ true) × (to_start s m ≡ Some n)

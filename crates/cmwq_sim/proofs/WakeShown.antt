@@ -1,50 +1,32 @@
 -- A wake carries the relation.
-use Rattle.std.proofs.Common.{◌≡◌, ◌≢◌, ◌==◌, ◌<◌, ◌≤◌, ◌+◌, ℕ, zero, suc, Bool, true, false, cond, not, ◌&&◌, ◌||◌, List, [], ◌∷◌, ◌++◌, length, map, filter, find, count_by, Option, Some, None, nat_lt, refl, sym, ap, ap₂, ◌∙◌, subst, arith, ◌⊎◌, inl, inr, ⊎_elim, option_to_list, append-nil, length-append}
-use Rattle.std.specs.Prelude.{option_map, option_and_then, is_some, if◌then◌else◌, IsTrue}
+use Rattle.std.proofs.Common.{◌≡◌, ◌==◌, ◌≤◌, ◌+◌, ℕ, suc, Bool, true, false, cond, not, ◌&&◌, ◌||◌, List, [], ◌∷◌, ◌++◌, length, filter, count_by, Option, refl, sym, ap, ap₂, ◌∙◌, subst, arith, ⊎_elim, option_to_list, append-nil, length-append}
+use Rattle.std.specs.Prelude.{if◌then◌else◌}
 use Rattle.std.specs.List.{AllByRecursion, list_any}
 use Rattle.cmwq_ties.proofs.PoolNext.{runner_there}
-use Rattle.std.proofs.lemmas.Bool.{lt-ltb, eqb-true, eq-eqb, ne_eqb, and_parts, or_cases, cases_eq, false_from_ne_true}
-use Rattle.std.proofs.lemmas.Option.{same_Some}
-use Rattle.cmwq_model.specs.declared.id.PoolId.{PoolId}
-use Rattle.cmwq_model.specs.declared.id.WorkerId.{WorkerId}
-use Rattle.cmwq_model.specs.declared.id.Who.{Who}
-use Rattle.cmwq_model.specs.declared.id.Who.TheVariants.{Caller, Worker}
-use Rattle.cmwq_model.specs.declared.call.Call.{Call}
+use Rattle.std.proofs.lemmas.Bool.{lt-ltb, eqb-true, eq-eqb, ne_eqb, or_cases}
+use Rattle.cmwq_model.specs.declared.id.Who.TheVariants.{Worker}
 use Rattle.cmwq_model.specs.declared.call.Call.TheVariants as call
-use Rattle.cmwq_model.specs.declared.reply.Reply.{Reply}
 use Rattle.cmwq_model.specs.declared.reply.Reply.TheVariants as reply
 use Rattle.cmwq_model.specs.declared.entry.Entry.{Entry}
-use Rattle.cmwq_model.specs.declared.record.Queueing.{Queueing}
-use Rattle.cmwq_model.specs.Layout.{Layout, fits}
-use Rattle.cmwq_model.specs.Calls.{item_of, is_at, is_by, is_of_item, same_who}
-use Rattle.cmwq_model.specs.Fate.{number_started, number_finished, number_cancelled, replaces, starts, is_started}
-use Rattle.cmwq_model.specs.Runs.{run, is_asleep, asleep_after}
-use Rattle.cmwq_model.specs.Queueings.{opens, opening, queued_at, place_wanted, queueings, still_open, is_live}
-use Rattle.cmwq_model.specs.Active.{is_active, is_newly_active, newly_active, worklist}
-use Rattle.cmwq_model.specs.Workers.{is_retired, worker_at}
+use Rattle.cmwq_model.specs.Calls.{is_at}
+use Rattle.cmwq_model.specs.Fate.{number_started, starts}
+use Rattle.cmwq_model.specs.Runs.{is_asleep, asleep_after}
+use Rattle.cmwq_model.specs.Queueings.{queueings}
+use Rattle.cmwq_model.specs.Active.{worklist}
 use Rattle.cmwq_model.specs.Answer.{answer}
 use Rattle.cmwq_model.specs.Legal.{IsLegal, entry_for}
 use Rattle.cmwq_laws.specs.RunSteps.{run_after}
-use Rattle.cmwq_laws.specs.Endings.{is_spared, is_ended, ending}
-use Rattle.cmwq_laws.specs.Activations.{waits, is_left, is_in, keeps_widths, behind_width, has_way_at_once}
 use Rattle.cmwq_laws.proofs.Lists.{All_map, All_both, All_each, All_append, All_filter, count_by-cons}
-use Rattle.cmwq_laws.proofs.Filters.{filter_same, none_found, count_none}
-use Rattle.cmwq_laws.proofs.Joined.{stays_active, active_live}
-use Rattle.cmwq_laws.proofs.Endings.{open_go_on}
-use Rattle.cmwq_laws.proofs.Promoted.{newly_of_open}
-use Rattle.cmwq_laws.proofs.NewlyActive.{newly_active_are, width_same}
-use Rattle.cmwq_laws.proofs.WorklistSteps.{worklists_go_on}
-use Rattle.cmwq_laws.proofs.RunSteps.{workers_run_on}
-use Rattle.cmwq_laws.proofs.ItemRuns.{same_worker-true}
+use Rattle.cmwq_laws.proofs.Filters.{count_none}
+use Rattle.cmwq_laws.proofs.NewlyActive.{width_same}
 use Rattle.cmwq_laws.proofs.OwedSteps.{by_itself}
-use Rattle.cmwq_sim.specs.Plan.{Plan, queue_of}
-use Rattle.cmwq_sim.specs.Lines.{Moment, Job, Sleeper, items_of}
-use Rattle.cmwq_sim.specs.Shows.{layout_for, pool, worker, queueing_for, IsRunAt, is_job, is_sleeper, runs_in, times, Shows}
+use Rattle.cmwq_sim.specs.Plan.{Plan}
+use Rattle.cmwq_sim.specs.Lines.{Moment, Sleeper}
+use Rattle.cmwq_sim.specs.Shows.{layout_for, pool, worker, IsRunAt, is_job, is_sleeper, runs_in, Shows}
 use Rattle.cmwq_sim.proofs.TakeReads.{wake_answered, any_counted}
 use Rattle.cmwq_sim.proofs.Steps.{IsQuiet, all_kept, none_opens, worklist_as_before, waiting_as_before, same_runs, other_seat, count-append, any-append}
 use Rattle.cmwq_sim.proofs.TakeShown.{goes_by}
 use Rattle.cmwq_sim.proofs.FinishShown.{fewer_filtered, shorter_filtered}
-
 
 wakes : IsQuiet reply.Woke
 wakes = record { opens = refl; finishes = refl; cancels = refl; replaces = refl; widths = refl; stays = refl }
@@ -99,20 +81,20 @@ wake_shown s past m seat i burn left h on = record {
   ready = worklist_as_before (layout_for s) past e pool legal quiet ∙ all_kept (λ x. not (starts x.number e)) (worklist (layout_for s) past pool) (All_each _ (worklist (layout_for s) past pool) (λ x. ap (λ r. not (is_at (number_started r) x.number)) woke)) ∙ h.ready;
   behind = waiting_as_before (layout_for s) past e legal quiet ∙ h.behind;
   cpu = All_append _ m.cpu (record { item = i; burn = burn; left = left } ∷ [])
-    (All_both (λ k. IsRunAt past (seat k.item) k.item false) (λ k. is_job i k ≡ false) _ m.cpu (λ k r differs. other k.item false r differs) h.cpu (count_none (is_job i) m.cpu (omega (arith, some, h.once i))))
-    (record { runs = same_runs (layout_for s) past e (worker (seat i)) legal after ∙ run_at.runs; sleeps = ap₂ (λ c r. if c then asleep_after r (is_asleep past (worker (seat i))) else is_asleep past (worker (seat i))) (by_itself e (worker (seat i)) refl) woke }, tt);
+      (All_both (λ k. IsRunAt past (seat k.item) k.item false) (λ k. is_job i k ≡ false) _ m.cpu (λ k r differs. other k.item false r differs) h.cpu (count_none (is_job i) m.cpu (omega (arith, some, h.once i))))
+      (record { runs = same_runs (layout_for s) past e (worker (seat i)) legal after ∙ run_at.runs; sleeps = ap₂ (λ c r. if c then asleep_after r (is_asleep past (worker (seat i))) else is_asleep past (worker (seat i))) (by_itself e (worker (seat i)) refl) woke }, tt);
   sleeping = All_filter (λ k. IsRunAt (e ∷ past) (seat k.item) k.item true) (λ k. not (is_sleeper i k)) m.sleeping (All_map (λ k. IsRunAt past (seat k.item) k.item true) _ m.sleeping (λ k r kept. other k.item true r (not_true (is_sleeper i k) kept)) h.sleeping);
   no_others = λ w n runs. let k = h.no_others w n (sym (same_runs (layout_for s) past e w legal after) ∙ runs) in (k.0, moved n (n == i) refl k.1);
   once = λ k.
-    let o = h.once k in
-    let a = count-append (is_job k) m.cpu (record { item = i; burn = burn; left = left } ∷ []) ∙ ap (λ n. count_by (is_job k) m.cpu + n) (count_by-cons (is_job k) (record { item = i; burn = burn; left = left }) []) in
-    let b = moved_count k (i == k) refl in
-    omega arith;
+      let o = h.once k in
+      let a = count-append (is_job k) m.cpu (record { item = i; burn = burn; left = left } ∷ []) ∙ ap (λ n. count_by (is_job k) m.cpu + n) (count_by-cons (is_job k) (record { item = i; burn = burn; left = left }) []) in
+      let b = moved_count k (i == k) refl in
+      omega arith;
   few =
-    let f = h.few in
-    let c = one_shorter i m.sleeping on in
-    let d = length-append m.cpu (record { item = i; burn = burn; left = left } ∷ []) in
-    omega arith
+      let f = h.few in
+      let c = one_shorter i m.sleeping on in
+      let d = length-append m.cpu (record { item = i; burn = burn; left = left } ∷ []) in
+      omega arith;
 }
   where
     e : Entry

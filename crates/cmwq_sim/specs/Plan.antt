@@ -1,5 +1,5 @@
 -- Scenarios and their lines, as plain values.
-use Rattle.std.specs.Prelude.{ℕ, Bool, false, ◌==◌, List, [], length, slice_index_or, sum, map}
+use Rattle.std.specs.Prelude.{ℕ, Bool, false, ◌==◌, List, [], slice_index_or, sum, map}
 use Rattle.cmwq_sim.specs.declared.scenario.SimQueue.{SimQueue}
 use Rattle.cmwq_sim.specs.declared.scenario.SimItem.{SimItem}
 use Rattle.cmwq_sim.specs.declared.scenario.Scenario.{Scenario}

@@ -1,6 +1,5 @@
 -- Worked tables: three items, the first of which burns 5, sleeps 10 and burns 5, and the others burn 5 and sleep 10.
 use Rattle.std.specs.Prelude.{◌≡◌, ℕ, true, false, List, [], ◌∷◌}
-use Rattle.cmwq_sim.specs.declared.scenario.SimQueue.{SimQueue}
 use Rattle.cmwq_sim.specs.declared.scenario.LineKind.{LineKind}
 use Rattle.cmwq_sim.specs.declared.scenario.LineKind.TheVariants as kind
 use Rattle.cmwq_sim.specs.Plan.{Plan, Item, Event}

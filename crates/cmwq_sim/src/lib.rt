@@ -6,12 +6,12 @@ mod scenario;
 mod tables;
 mod text;
 
-pub use laws::all_items_end;
+pub use laws::{all_items_end, each_ends_once};
 pub use scenario::{Line, LineKind, Scenario, SimItem, SimQueue};
-pub use text::spell_lines;
 pub use tables::{
     tables_with_intensive, tables_with_one_active, tables_with_three_active, tables_with_two_active,
 };
+pub use text::spell_lines;
 
 #[cfg(test)]
 mod tests;

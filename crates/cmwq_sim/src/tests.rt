@@ -23,8 +23,7 @@ fn a_table_of_every_kind_of_line(rt: HostRuntime) -> Result<(), Fail> {
     lines.push(line(&rt, 20, LineKind::WakesEnds, &[1])?)?;
     lines.push(line(&rt, 64000, LineKind::Ends, &[2])?)?;
     let text = spell_lines(rt.alloc(), names.as_slice(), lines.as_slice())?;
-    assert_eq!(
-        rt;
+    assert_eq!(rt;
         text.as_str(),
         "TIME IN MSECS\tEVENT\n0\tw0 starts and burns CPU\n5\tw0 sleeps\n5\tw1 and last start and burn CPU\n15\tw0 wakes up and burns CPU\n20\tw1 wakes up and finishes\n64000\tlast finishes\n"
     );

@@ -1,5 +1,4 @@
-use Rattle.std.proofs.Common.{◌≡◌, ◌++◌, map, take, string_bytes}
-use Rattle.std.specs.List.{flat_map}
+use Rattle.std.proofs.Common.{◌≡◌, map, take, string_bytes}
 use Rattle.cmwq_sim.specs.Plan.{event_of}
 use Rattle.cmwq_sim.specs.Text.{lines_text}
 use Rattle.cmwq_sim.proofs.text.spell_lines.Given as goal
