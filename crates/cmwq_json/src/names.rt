@@ -77,12 +77,14 @@ impl<T: Drop> Members<T> {
         name: &str,
         value: T,
     ) -> Result<bool, AllocError>
-        ensures { IfOk result (λ added. spec.add_named most (named_of self.old) (name.now, value) ≡ (if added then Some (named_of self.new) else None)) }
+        ensures { IfOk result (λ added. spec.add_named most (named_of self.old) (name.now, value)
+            ≡ (if added then Some (named_of self.new) else None)) }
     {
         if self.names.len() >= most {
             return Ok(false);
         }
-        if !self.names.insert(String::from_str(alloc, name)?)? {
+        let is_new = self.names.insert(String::from_str(alloc, name)?)?;
+        if !is_new {
             return Ok(false);
         }
         self.values.push(value)?;

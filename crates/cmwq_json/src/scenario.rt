@@ -87,7 +87,8 @@ fn read_item<'v>(
     value: &'v Value,
 ) -> Result<Option<(&'v str, SimItem)>, AllocError>
     requires { length queue_names.now.keys ≤ 8 }
-    ensures { IfOk result (λ r. option_map (λ x. (x.0.now, item_of x.1)) r ≡ spec.item_said (map string_bytes queue_names.now.keys) (view value.now)) }
+    ensures { IfOk result (λ r. option_map (λ x. (x.0.now, item_of x.1)) r
+        ≡ spec.item_said (map string_bytes queue_names.now.keys) (view value.now)) }
 {
     if !has_keys(value, &["ms", "name", "queue"]) {
         return Ok(None);
@@ -125,7 +126,8 @@ fn add_item(
     value: &Value,
 ) -> Result<bool, AllocError>
     requires { length queue_names.now.keys ≤ 8 }
-    ensures { IfOk result (λ added. spec.add_item (map string_bytes queue_names.now.keys) (items_of items.old) (view value.now) ≡ (if added then Some (items_of items.new) else None)) }
+    ensures { IfOk result (λ added. spec.add_item (map string_bytes queue_names.now.keys) (items_of items.old) (view value.now)
+        ≡ (if added then Some (items_of items.new) else None)) }
 {
     match read_item(alloc, queue_names, value)? {
         Some((name, item)) => items.add(alloc, 8, name, item),
@@ -172,7 +174,8 @@ fn read_lists(
     queues: &[Value],
     items: &[Value],
 ) -> Result<Result<Script, Refused>, AllocError>
-    ensures says { IfOk result (λ r. told script_of r ≡ spec.items_then (items_view items.now) (in_turn spec.add_queue 0 nobody (items_view queues.now))) }
+    ensures says { IfOk result (λ r. told script_of r
+        ≡ spec.items_then (items_view items.now) (in_turn spec.add_queue 0 nobody (items_view queues.now))) }
     ensures within_limits { IfOk result (λ r. IfOk r HasLimits) }
 {
     let queues = match read_queues(alloc, queues)? {

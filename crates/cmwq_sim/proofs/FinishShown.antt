@@ -166,7 +166,7 @@ module _ (s : Plan) (past : List Entry) (m : Moment) (seat : ℕ → ℕ) (e : E
 
 -- ---- the lists
 
-job_run : (past : List Entry) (seat : ℕ → ℕ) (i : ℕ) (xs : List Job) → AllByRecursion (λ j. IsRunAt past (seat j.item) j.item false) xs → list_any (is_job i) xs ≡ true → IsRunAt past (seat i) i false
+pub job_run : (past : List Entry) (seat : ℕ → ℕ) (i : ℕ) (xs : List Job) → AllByRecursion (λ j. IsRunAt past (seat j.item) j.item false) xs → list_any (is_job i) xs ≡ true → IsRunAt past (seat i) i false
 job_run past seat i [] each on = cc
 job_run past seat i (j ∷ xs) each on = ⊎_elim (λ here. subst (λ k. IsRunAt past (seat k) k false) (eqb-true j.item i here) each.0) (λ later. job_run past seat i xs each.1 later) (or_cases (is_job i j) (list_any (is_job i) xs) on)
 

@@ -9,6 +9,8 @@ pub mod TakersAre
 pub mod Phases
 pub mod Queued
 pub mod Roomy
+pub mod Determined
+pub mod RoomKept
 pub mod Progress
 pub mod Outset
 pub mod Once

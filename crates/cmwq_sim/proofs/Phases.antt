@@ -117,6 +117,9 @@ found_passes p (x ∷ xs) z is = at (p x) refl is (λ k. found_passes p xs z k)
 pub due_item : (t i : ℕ) (x : Sleeper) → is_due t i x ≡ true → x.item ≡ i
 due_item t i x h = eqb-true x.item i (and_parts (x.item == i) (x.until == t) h).0
 
+pub asleep_there : (t i : ℕ) (m : Moment) (x : Sleeper) → find (is_due t i) m.sleeping ≡ Some x → list_any (is_sleeper i) m.sleeping ≡ true
+asleep_there t i m x due = found_any (is_due t i) (is_sleeper i) (λ y k. (and_parts (y.item == i) (y.until == t) k).0) m.sleeping x due
+
 pub wake_nobody : (s : Plan) (t i : ℕ) (m : Moment) → find (is_due t i) m.sleeping ≡ None → wake_item s t m i ≡ m
 wake_nobody s t i m none = ap (wake_sleeper s t m) none
 
@@ -125,7 +128,7 @@ module _ (s : Plan) (t i : ℕ) (past : List Entry) (m : Moment) (seat : ℕ →
   its = due_item t i x (found_passes (is_due t i) m.sleeping x due)
 
   asleep : list_any (is_sleeper x.item) m.sleeping ≡ true
-  asleep = subst (λ k. list_any (is_sleeper k) m.sleeping ≡ true) (sym its) (found_any (is_due t i) (is_sleeper i) (λ y k. (and_parts (y.item == i) (y.until == t) k).0) m.sleeping x due)
+  asleep = subst (λ k. list_any (is_sleeper k) m.sleeping ≡ true) (sym its) (asleep_there t i m x due)
 
   wake_is : (left : List ℕ) → x.left ≡ left → wake_item s t m i ≡ after_sleep s t (record m { sleeping = filter (is_not x.item) m.sleeping }) x.item left
   wake_is left parts = ap (wake_sleeper s t m) due ∙ ap (after_sleep s t (record m { sleeping = filter (is_not x.item) m.sleeping }) x.item) parts

@@ -197,7 +197,7 @@ module _ (s : Plan) (k : ℕ) (past : List Entry) (m : Moment) (h : ShowsQueued 
   free = none_found (is_unstarted past k) (still_open past) (subst (AllByRecursion (λ x. is_unstarted past k x ≡ false)) (sym open_are)
       (all_mapped s (λ x. is_unstarted past k x ≡ false) (range_with_len 0 k) (each (λ i. i < 0 + k) (λ i. is_unstarted past k (queueing_for s i) ≡ false) (range_with_len 0 k) (λ i less. ap (λ b. b && not (is_started past i)) (ne_eqb i k (λ same. absurd (omega arith)))) (below 0 k))))
 
-  answered : answer (layout_for s) past caller (queue_call s k) ≡ reply.Yes k
+  pub answered : answer (layout_for s) past caller (queue_call s k) ≡ reply.Yes k
   unfolding answer queue_answer
   answered = at (is_gone past (queue_of s k)) (is_cancelling past k) (is_pending past k) (runs_elsewhere past k (queue_of s k)) (is_shut past caller (queue_of s k) 0)
       (never_gone past (queue_of s k) h.all) (ap (λ ts. list_any (is_cancel_sync_of k) (filter (is_unended past) ts)) (no_tickets past h.all)) (ap₂ (λ a b. is_some a || is_some b) (no_booking past k h.all) free)

@@ -133,7 +133,7 @@ wake_takes_none s t i m = at (find (is_due t i) m.sleeping) refl
             omega arith
 
 -- a start takes the first part off the list
-start_parts : (i : ℕ) (ms : List ℕ) → length (job_with i ms).left ≤ length ms
+pub start_parts : (i : ℕ) (ms : List ℕ) → length (job_with i ms).left ≤ length ms
 start_parts i [] = omega arith
 start_parts i (b ∷ ms) = omega arith
 

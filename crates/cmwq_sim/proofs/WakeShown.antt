@@ -31,7 +31,7 @@ use Rattle.cmwq_sim.proofs.FinishShown.{fewer_filtered, shorter_filtered}
 wakes : IsQuiet reply.Woke
 wakes = record { opens = refl; finishes = refl; cancels = refl; replaces = refl; widths = refl; stays = refl }
 
-sleeper_run : (past : List Entry) (seat : ℕ → ℕ) (i : ℕ) (xs : List Sleeper) → AllByRecursion (λ j. IsRunAt past (seat j.item) j.item true) xs → list_any (is_sleeper i) xs ≡ true → IsRunAt past (seat i) i true
+pub sleeper_run : (past : List Entry) (seat : ℕ → ℕ) (i : ℕ) (xs : List Sleeper) → AllByRecursion (λ j. IsRunAt past (seat j.item) j.item true) xs → list_any (is_sleeper i) xs ≡ true → IsRunAt past (seat i) i true
 sleeper_run past seat i [] each on = cc
 sleeper_run past seat i (j ∷ xs) each on = ⊎_elim (λ here. subst (λ k. IsRunAt past (seat k) k true) (eqb-true j.item i here) each.0) (λ later. sleeper_run past seat i xs each.1 later) (or_cases (is_sleeper i j) (list_any (is_sleeper i) xs) on)
 

@@ -16,7 +16,7 @@ use Rattle.cmwq_model.specs.Legal.{IsLegal}
 use Rattle.cmwq_laws.specs.Activations.{waits}
 use Rattle.cmwq_laws.specs.FirstWidths.{HasFirstWidths}
 use Rattle.cmwq_sim.specs.declared.scenario.SimQueue.{SimQueue}
-use Rattle.cmwq_sim.specs.Plan.{Plan, queue_of}
+use Rattle.cmwq_sim.specs.Plan.{Plan, Event, queue_of}
 use Rattle.cmwq_sim.specs.Lines.{Moment, Job, Sleeper, items_of, is_held_by}
 
 -- one CPU, a pool of eight workers, room for 1,000 entries
@@ -75,3 +75,14 @@ next_of (i ∷ ready) = Some i
 
 abbrev pub to_start : Plan → Moment → Option ℕ
 to_start s m = if list_any (is_held_by s) m.cpu then None else next_of m.ready
+
+-- What waits is determined by the history: the moment at which these are on the CPU's list and asleep, and these lines have been told.
+abbrev pub number_of : Queueing → ℕ
+number_of x = x.number
+
+abbrev pub moment_of : Plan → List Entry → List Job → List Sleeper → List Event → Moment
+moment_of s past cpu sleeping lines = record {
+  ready = map number_of (worklist (layout_for s) past pool);
+  behind = map number_of (filter (waits (layout_for s) past) (still_open past));
+  cpu = cpu; sleeping = sleeping; lines = lines
+}
