@@ -1,5 +1,5 @@
 -- Each call of a replay keeps room for those to come.
-use Rattle.std.proofs.Common.{◌≡◌, ◌==◌, ◌<◌, ◌≤◌, ◌+◌, ◌*◌, ◌||◌, ℕ, Bool, true, false, List, [], ◌∷◌, ◌++◌, length, drop, find, Option, Some, None, refl, sym, ap, ap₂, ◌∙◌, subst, arith}
+use Rattle.std.proofs.Common.{◌≡◌, ◌==◌, ◌<◌, ◌≤◌, ◌+◌, ◌*◌, ◌||◌, ℕ, Bool, true, false, List, [], ◌∷◌, ◌++◌, length, drop, find, Some, refl, ap, ◌∙◌, subst, arith}
 use Rattle.std.specs.Prelude.{nat_le, sum_by}
 use Rattle.std.specs.List.{AllByRecursion, list_any}
 use Rattle.std.proofs.lemmas.Bool.Decides.{nat_tests}
@@ -20,10 +20,10 @@ use Rattle.cmwq_laws.proofs.Promised.{promised_need_no_more}
 use Rattle.cmwq_sim.specs.Plan.{Plan, queue_of, ms_of}
 use Rattle.cmwq_sim.specs.Limits.{IsWithinLimits}
 use Rattle.cmwq_sim.specs.Lines.{Moment, Job, Sleeper, serve, is_due, wake_item, job_of, queue_item}
-use Rattle.cmwq_sim.specs.Shows.{layout_for, worker, IsRunAt, is_job, is_sleeper, Shows}
+use Rattle.cmwq_sim.specs.Shows.{layout_for, worker, IsRunAt, is_job, Shows}
 use Rattle.cmwq_sim.specs.Takers.{IsTaker}
 use Rattle.cmwq_sim.proofs.TakeReads.{sleep_answered, finish_answered, wake_answered}
-use Rattle.cmwq_sim.proofs.TakeShown.{started_with, seat_with}
+use Rattle.cmwq_sim.proofs.TakeShown.{started_with}
 use Rattle.cmwq_sim.proofs.WakeShown.{sleeper_run, wake_shown}
 use Rattle.cmwq_sim.proofs.FinishShown.{job_run}
 use Rattle.cmwq_sim.proofs.Steps.{any-append}
@@ -74,7 +74,7 @@ module _ (s : Plan) (t i : ℕ) (past : List Entry) (m : Moment) (seat : ℕ →
   woken_run =
       let k = wake_shown s past m seat i 0 [] h (asleep_there t i m x due) in
       job_run (entry_for (layout_for s) past (Worker (worker (seat i))) call.Wake ∷ past) seat i (m.cpu ++ record { item = i; burn = 0; left = [] } ∷ []) k.cpu
-          (any-append (is_job i) m.cpu (record { item = i; burn = 0; left = [] } ∷ []) ∙ ap (λ b. list_any (is_job i) m.cpu || (b || false)) (eq-eqb i i refl) ∙ either (list_any (is_job i) m.cpu))
+      (any-append (is_job i) m.cpu (record { item = i; burn = 0; left = [] } ∷ []) ∙ ap (λ b. list_any (is_job i) m.cpu || (b || false)) (eq-eqb i i refl) ∙ either (list_any (is_job i) m.cpu))
     where
       either : (b : Bool) → (b || true) ≡ true
       either true = refl
@@ -86,7 +86,7 @@ module _ (s : Plan) (t i : ℕ) (past : List Entry) (m : Moment) (seat : ℕ →
       let legal = (wake_ends s t i past m seat x h due parts).legal in
       let a = promised_need_no_more (layout_for s) past (entry_for (layout_for s) past (Worker (worker (seat i))) call.Wake) legal.2 woke in
       let b = promised_need_no_more (layout_for s) (entry_for (layout_for s) past (Worker (worker (seat i))) call.Wake ∷ past) (entry_for (layout_for s) (entry_for (layout_for s) past (Worker (worker (seat i))) call.Wake ∷ past) (Worker (worker (seat i))) call.Finish) legal
-          (ap is_promised (finish_answered s (entry_for (layout_for s) past (Worker (worker (seat i))) call.Wake ∷ past) (seat i) i woken_run)) in
+      (ap is_promised (finish_answered s (entry_for (layout_for s) past (Worker (worker (seat i))) call.Wake ∷ past) (seat i) i woken_run)) in
       let c = wake_takes_none s t i m in
       omega arith
 

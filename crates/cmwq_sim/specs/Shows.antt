@@ -84,5 +84,7 @@ abbrev pub moment_of : Plan → List Entry → List Job → List Sleeper → Lis
 moment_of s past cpu sleeping lines = record {
   ready = map number_of (worklist (layout_for s) past pool);
   behind = map number_of (filter (waits (layout_for s) past) (still_open past));
-  cpu = cpu; sleeping = sleeping; lines = lines
+  cpu = cpu;
+  sleeping = sleeping;
+  lines = lines;
 }
