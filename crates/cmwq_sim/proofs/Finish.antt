@@ -15,18 +15,19 @@ use Rattle.cmwq_model.specs.Queueings.{queueings, still_open, is_live, opening, 
 use Rattle.cmwq_model.specs.Widths.{width}
 use Rattle.cmwq_model.specs.Active.{is_active, is_ahead, has_way, newly_active}
 use Rattle.cmwq_model.specs.Legal.{IsLegal}
-use Rattle.cmwq_laws.specs.Endings.{is_ended, ending, number_replaced}
-use Rattle.cmwq_laws.specs.Fidelity.{is_on, open_on}
+use Rattle.cmwq_steps.specs.Endings.{is_ended, ending, number_replaced}
+use Rattle.cmwq_steps.specs.Places.{is_on, open_on}
 use Rattle.cmwq_laws.specs.FirstWidths.{HasFirstWidths}
-use Rattle.cmwq_laws.specs.Activations.{keeps_widths, waits, behind_width, has_way_at_once}
-use Rattle.cmwq_laws.proofs.Lists.{All_each, All_both}
-use Rattle.cmwq_laws.proofs.Ranks.{is_below, Ranked}
-use Rattle.cmwq_laws.proofs.Active.{ways, open_ranked, on_each}
-use Rattle.cmwq_laws.proofs.Joined.{active_live}
+use Rattle.cmwq_active.specs.Looks.{keeps_widths}
+use Rattle.cmwq_steps.specs.Activations.{waits, behind_width, has_way_at_once}
+use Rattle.cmwq_active.proofs.Lists.{All_each, All_both}
+use Rattle.cmwq_steps.proofs.Ranks.{is_below, Ranked}
+use Rattle.cmwq_steps.proofs.Active.{ways, open_ranked, on_each}
+use Rattle.cmwq_active.proofs.Joined.{active_live}
 use Rattle.cmwq_laws.proofs.AsBefore.{active_as_before}
-use Rattle.cmwq_laws.proofs.Ended.{ends_which}
-use Rattle.cmwq_laws.proofs.RunsActive.{run_is_active}
-use Rattle.cmwq_laws.proofs.NewlyActive.{newly_active_are}
+use Rattle.cmwq_steps.proofs.Ended.{ends_which}
+use Rattle.cmwq_steps.proofs.RunsActive.{run_is_active}
+use Rattle.cmwq_steps.proofs.NewlyActive.{newly_active_are}
 use Rattle.cmwq_ties.proofs.Members.{In, found, in_filter}
 use Rattle.cmwq_sim.specs.Plan.{Plan, queue_of, is_of}
 use Rattle.cmwq_sim.specs.Lines.{Moment, items_of}

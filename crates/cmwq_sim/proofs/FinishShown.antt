@@ -20,15 +20,16 @@ use Rattle.cmwq_model.specs.Queueings.{queueings, still_open, is_live, opens, qu
 use Rattle.cmwq_model.specs.Active.{is_active, is_newly_active, newly_active, worklist}
 use Rattle.cmwq_model.specs.Answer.{answer}
 use Rattle.cmwq_model.specs.Legal.{IsLegal, entry_for}
-use Rattle.cmwq_laws.specs.Endings.{is_spared}
-use Rattle.cmwq_laws.specs.Activations.{waits, is_left, is_in, keeps_widths}
-use Rattle.cmwq_laws.proofs.Lists.{All_each, All_map, All_filter, All_both, count_by-cons}
-use Rattle.cmwq_laws.proofs.Filters.{filter_same, filter_twice, count_none}
-use Rattle.cmwq_laws.proofs.Joined.{stays_active}
-use Rattle.cmwq_laws.proofs.Endings.{open_go_on}
-use Rattle.cmwq_laws.proofs.Promoted.{newly_of_open}
-use Rattle.cmwq_laws.proofs.NewlyActive.{width_same}
-use Rattle.cmwq_laws.proofs.WorklistSteps.{worklists_go_on}
+use Rattle.cmwq_steps.specs.Endings.{is_spared}
+use Rattle.cmwq_steps.specs.Activations.{waits, is_left, is_in}
+use Rattle.cmwq_active.specs.Looks.{keeps_widths}
+use Rattle.cmwq_active.proofs.Lists.{All_each, All_map, All_filter, All_both, count_by-cons}
+use Rattle.cmwq_steps.proofs.Filters.{filter_same, filter_twice, count_none}
+use Rattle.cmwq_active.proofs.Joined.{stays_active}
+use Rattle.cmwq_steps.proofs.Endings.{open_go_on}
+use Rattle.cmwq_steps.proofs.Promoted.{newly_of_open}
+use Rattle.cmwq_active.proofs.Widths.{width_same}
+use Rattle.cmwq_steps.proofs.WorklistSteps.{worklists_go_on}
 use Rattle.cmwq_ties.proofs.Members.{In, found, of_in, all_in, in_filter, filter_in, in_option}
 use Rattle.cmwq_sim.specs.Plan.{Plan, queue_of, is_of, no_queue}
 use Rattle.cmwq_sim.specs.Lines.{Moment, Job, is_other}
@@ -36,9 +37,9 @@ use Rattle.cmwq_sim.specs.Shows.{layout_for, queue_shape, pool, worker, queueing
 use Rattle.cmwq_sim.proofs.TakeReads.{any_counted, one_fewer, finish_answered}
 use Rattle.cmwq_sim.proofs.TakeShown.{goes_by}
 use Rattle.cmwq_ties.proofs.PoolNext.{runner_there}
-use Rattle.cmwq_laws.proofs.RunSteps.{workers_run_on}
-use Rattle.cmwq_laws.proofs.OwedSteps.{by_itself}
-use Rattle.cmwq_laws.specs.RunSteps.{run_after}
+use Rattle.cmwq_steps.proofs.RunSteps.{workers_run_on}
+use Rattle.cmwq_steps.proofs.OwedSteps.{by_itself}
+use Rattle.cmwq_steps.specs.RunSteps.{run_after}
 use Rattle.cmwq_model.specs.Runs.{run}
 use Rattle.cmwq_model.specs.Workers.{is_retired}
 use Rattle.cmwq_sim.proofs.Steps.{count-append, other_seat}

@@ -9,8 +9,8 @@ use Rattle.cmwq_model.specs.declared.id.Who.TheVariants.{Worker}
 use Rattle.cmwq_model.specs.declared.call.Call.TheVariants as call
 use Rattle.cmwq_model.specs.declared.entry.Entry.{Entry}
 use Rattle.cmwq_model.specs.Legal.{entry_for}
-use Rattle.cmwq_laws.proofs.Lists.{All_each}
-use Rattle.cmwq_laws.proofs.Filters.{count_none}
+use Rattle.cmwq_active.proofs.Lists.{All_each}
+use Rattle.cmwq_steps.proofs.Filters.{count_none}
 use Rattle.cmwq_sim.specs.declared.scenario.LineKind.TheVariants as kind
 use Rattle.cmwq_sim.specs.Plan.{Plan, Event, queue_of, is_of}
 use Rattle.cmwq_sim.specs.Lines.{Moment, Job, Sleeper, make_ready, after_burn, after_sleep, serve_first, serve, is_due, is_not, wake_sleeper, wake_item, is_held_by, job_of, starting, tell_starts, start_these, start}

@@ -30,17 +30,19 @@ use Rattle.cmwq_model.specs.Active.{is_active, is_newly_active, newly_active, wo
 use Rattle.cmwq_model.specs.Workers.{is_retired}
 use Rattle.cmwq_model.specs.Answer.{queue_answer, answer, is_shut}
 use Rattle.cmwq_model.specs.Legal.{IsLegal, entry_for}
-use Rattle.cmwq_laws.specs.Endings.{is_spared, is_ended, ending}
+use Rattle.cmwq_steps.specs.Endings.{is_spared, is_ended, ending}
 use Rattle.cmwq_laws.specs.FirstWidths.{HasFirstWidths}
-use Rattle.cmwq_laws.specs.Activations.{waits, is_left, is_in, is_beside, keeps_widths, behind_width, has_way_at_once}
-use Rattle.cmwq_laws.proofs.Lists.{All_each, All_both, count_by-cons}
-use Rattle.cmwq_laws.proofs.Filters.{filter_same, none_found}
-use Rattle.cmwq_laws.proofs.Joined.{stays_active}
-use Rattle.cmwq_laws.proofs.Endings.{open_go_on}
-use Rattle.cmwq_laws.proofs.NewlyActive.{newly_active_are, opened_have_way, width_same}
-use Rattle.cmwq_laws.proofs.Promoted.{newly_of_open}
+use Rattle.cmwq_steps.specs.Activations.{waits, is_left, is_in, is_beside, behind_width, has_way_at_once}
+use Rattle.cmwq_active.specs.Looks.{keeps_widths}
+use Rattle.cmwq_active.proofs.Lists.{All_each, All_both, count_by-cons}
+use Rattle.cmwq_steps.proofs.Filters.{filter_same, none_found}
+use Rattle.cmwq_active.proofs.Joined.{stays_active}
+use Rattle.cmwq_steps.proofs.Endings.{open_go_on}
+use Rattle.cmwq_steps.proofs.NewlyActive.{newly_active_are, opened_have_way}
+use Rattle.cmwq_active.proofs.Widths.{width_same}
+use Rattle.cmwq_steps.proofs.Promoted.{newly_of_open}
 use Rattle.std.proofs.lemmas.List.FromFn.{length-range_with_len}
-use Rattle.cmwq_laws.proofs.WorklistSteps.{worklists_go_on}
+use Rattle.cmwq_steps.proofs.WorklistSteps.{worklists_go_on}
 use Rattle.cmwq_sim.specs.Plan.{Plan, queue_of, is_of, max_active, no_queue}
 use Rattle.cmwq_sim.specs.Lines.{Moment, Job, Sleeper, queue_item}
 use Rattle.cmwq_sim.specs.Shows.{layout_for, queue_shape, pool, queueing_for, is_job, is_sleeper, IsRunAt, Shows}

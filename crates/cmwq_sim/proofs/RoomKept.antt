@@ -15,8 +15,8 @@ use Rattle.cmwq_model.specs.declared.entry.Entry.{Entry}
 use Rattle.cmwq_model.specs.Fate.{number_started}
 use Rattle.cmwq_model.specs.Room.{needed, has_room}
 use Rattle.cmwq_model.specs.Legal.{IsLegal, entry_for}
-use Rattle.cmwq_laws.specs.RoomSteps.{is_promised}
-use Rattle.cmwq_laws.proofs.Promised.{promised_need_no_more}
+use Rattle.cmwq_steps.specs.RoomSteps.{is_promised}
+use Rattle.cmwq_steps.proofs.Promised.{promised_need_no_more}
 use Rattle.cmwq_sim.specs.Plan.{Plan, queue_of, ms_of}
 use Rattle.cmwq_sim.specs.Limits.{IsWithinLimits}
 use Rattle.cmwq_sim.specs.Lines.{Moment, Job, Sleeper, serve, is_due, wake_item, job_of, queue_item}

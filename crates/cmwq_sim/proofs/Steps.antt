@@ -22,18 +22,20 @@ use Rattle.cmwq_model.specs.Active.{is_active, is_newly_active, newly_active, wo
 use Rattle.cmwq_model.specs.Workers.{is_retired}
 use Rattle.cmwq_model.specs.Answer.{answer}
 use Rattle.cmwq_model.specs.Legal.{IsLegal, entry_for}
-use Rattle.cmwq_laws.specs.RunSteps.{run_after}
-use Rattle.cmwq_laws.specs.Endings.{is_spared, is_ended, ending}
-use Rattle.cmwq_laws.specs.Activations.{waits, is_left, is_in, keeps_widths, behind_width, has_way_at_once}
-use Rattle.cmwq_laws.proofs.Lists.{All_both, All_each, All_append, All_filter, count_by-cons}
-use Rattle.cmwq_laws.proofs.Filters.{filter_same, none_found, count_none}
-use Rattle.cmwq_laws.proofs.Joined.{stays_active}
-use Rattle.cmwq_laws.proofs.Endings.{open_go_on}
-use Rattle.cmwq_laws.proofs.Promoted.{newly_of_open}
-use Rattle.cmwq_laws.proofs.NewlyActive.{newly_active_are, width_same}
-use Rattle.cmwq_laws.proofs.WorklistSteps.{worklists_go_on}
-use Rattle.cmwq_laws.proofs.RunSteps.{workers_run_on}
-use Rattle.cmwq_laws.proofs.OwedSteps.{by_itself}
+use Rattle.cmwq_steps.specs.RunSteps.{run_after}
+use Rattle.cmwq_steps.specs.Endings.{is_spared, is_ended, ending}
+use Rattle.cmwq_steps.specs.Activations.{waits, is_left, is_in, behind_width, has_way_at_once}
+use Rattle.cmwq_active.specs.Looks.{keeps_widths}
+use Rattle.cmwq_active.proofs.Lists.{All_both, All_each, All_append, All_filter, count_by-cons}
+use Rattle.cmwq_steps.proofs.Filters.{filter_same, none_found, count_none}
+use Rattle.cmwq_active.proofs.Joined.{stays_active}
+use Rattle.cmwq_steps.proofs.Endings.{open_go_on}
+use Rattle.cmwq_steps.proofs.Promoted.{newly_of_open}
+use Rattle.cmwq_steps.proofs.NewlyActive.{newly_active_are}
+use Rattle.cmwq_active.proofs.Widths.{width_same}
+use Rattle.cmwq_steps.proofs.WorklistSteps.{worklists_go_on}
+use Rattle.cmwq_steps.proofs.RunSteps.{workers_run_on}
+use Rattle.cmwq_steps.proofs.OwedSteps.{by_itself}
 use Rattle.cmwq_sim.specs.Plan.{Plan}
 use Rattle.cmwq_sim.specs.Lines.{Moment, Job}
 use Rattle.cmwq_sim.specs.Shows.{layout_for, pool, worker, IsRunAt, is_job, is_sleeper, runs_in, times, Shows}

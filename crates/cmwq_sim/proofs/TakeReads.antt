@@ -24,10 +24,10 @@ use Rattle.cmwq_model.specs.Queueings.{queueing_at, has_number, queue_of as queu
 use Rattle.cmwq_model.specs.Active.{next, is_startable}
 use Rattle.cmwq_model.specs.Workers.{is_enlisted, is_idle, is_holding, runnable, enlisted_by}
 use Rattle.cmwq_model.specs.Answer.{answer, take_answer, finish_answer, start_of, started}
-use Rattle.cmwq_laws.proofs.Lists.{count_by-cons}
-use Rattle.cmwq_laws.proofs.RunsActive.{found_known}
-use Rattle.cmwq_laws.proofs.Pools.{runs_are_in_pools}
-use Rattle.cmwq_laws.proofs.ItemSteps.{items_are_run}
+use Rattle.cmwq_active.proofs.Lists.{count_by-cons}
+use Rattle.cmwq_steps.proofs.RunsActive.{found_known}
+use Rattle.cmwq_steps.proofs.Pools.{runs_are_in_pools}
+use Rattle.cmwq_steps.proofs.ItemSteps.{items_are_run}
 use Rattle.cmwq_ties.proofs.PoolNext.{runner_there}
 use Rattle.cmwq_sim.specs.Plan.{Plan, queue_of, no_queue}
 use Rattle.cmwq_sim.specs.Plan as plan

@@ -19,13 +19,13 @@ use Rattle.cmwq_model.specs.Queueings.{queueings}
 use Rattle.cmwq_model.specs.Workers.{is_idle}
 use Rattle.cmwq_model.specs.Answer.{answer}
 use Rattle.cmwq_model.specs.Legal.{IsLegal, entry_for}
-use Rattle.cmwq_laws.specs.RunSteps.{run_after}
-use Rattle.cmwq_laws.proofs.Lists.{All_both, All_append, count_by-cons}
-use Rattle.cmwq_laws.proofs.Filters.{count_none}
-use Rattle.cmwq_laws.proofs.NewlyActive.{width_same}
-use Rattle.cmwq_laws.proofs.RunSteps.{workers_run_on, run_begun}
-use Rattle.cmwq_laws.proofs.ItemRuns.{same_worker-true}
-use Rattle.cmwq_laws.proofs.OwedSteps.{by_itself}
+use Rattle.cmwq_steps.specs.RunSteps.{run_after}
+use Rattle.cmwq_active.proofs.Lists.{All_both, All_append, count_by-cons}
+use Rattle.cmwq_steps.proofs.Filters.{count_none}
+use Rattle.cmwq_active.proofs.Widths.{width_same}
+use Rattle.cmwq_steps.proofs.RunSteps.{workers_run_on, run_begun}
+use Rattle.cmwq_steps.proofs.ItemRuns.{same_worker-true}
+use Rattle.cmwq_steps.proofs.OwedSteps.{by_itself}
 use Rattle.cmwq_sim.specs.Plan.{Plan, ms_of}
 use Rattle.cmwq_sim.specs.Lines.{Moment, is_held_by, job_of, job_with}
 use Rattle.cmwq_sim.specs.Shows.{layout_for, pool, worker, queueing_for, IsRunAt, is_job, is_sleeper, runs_in, Shows, to_start, next_of}

@@ -15,11 +15,11 @@ use Rattle.cmwq_model.specs.Queueings.{queueings}
 use Rattle.cmwq_model.specs.Active.{worklist}
 use Rattle.cmwq_model.specs.Answer.{answer}
 use Rattle.cmwq_model.specs.Legal.{IsLegal, entry_for}
-use Rattle.cmwq_laws.specs.RunSteps.{run_after}
-use Rattle.cmwq_laws.proofs.Lists.{All_map, All_both, All_each, All_append, All_filter, count_by-cons}
-use Rattle.cmwq_laws.proofs.Filters.{count_none}
-use Rattle.cmwq_laws.proofs.NewlyActive.{width_same}
-use Rattle.cmwq_laws.proofs.OwedSteps.{by_itself}
+use Rattle.cmwq_steps.specs.RunSteps.{run_after}
+use Rattle.cmwq_active.proofs.Lists.{All_map, All_both, All_each, All_append, All_filter, count_by-cons}
+use Rattle.cmwq_steps.proofs.Filters.{count_none}
+use Rattle.cmwq_active.proofs.Widths.{width_same}
+use Rattle.cmwq_steps.proofs.OwedSteps.{by_itself}
 use Rattle.cmwq_sim.specs.Plan.{Plan}
 use Rattle.cmwq_sim.specs.Lines.{Moment, Sleeper}
 use Rattle.cmwq_sim.specs.Shows.{layout_for, pool, worker, IsRunAt, is_job, is_sleeper, runs_in, Shows}

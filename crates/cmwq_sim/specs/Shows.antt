@@ -13,7 +13,7 @@ use Rattle.cmwq_model.specs.Active.{worklist}
 use Rattle.cmwq_model.specs.Widths.{width}
 use Rattle.cmwq_model.specs.Workers.{worker_at, is_retired}
 use Rattle.cmwq_model.specs.Legal.{IsLegal}
-use Rattle.cmwq_laws.specs.Activations.{waits}
+use Rattle.cmwq_steps.specs.Activations.{waits}
 use Rattle.cmwq_laws.specs.FirstWidths.{HasFirstWidths}
 use Rattle.cmwq_sim.specs.declared.scenario.SimQueue.{SimQueue}
 use Rattle.cmwq_sim.specs.Plan.{Plan, Event, queue_of}
