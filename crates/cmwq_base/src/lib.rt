@@ -13,8 +13,8 @@ pub use cmwq_io::{
     flush_all, write_all,
 };
 pub use cmwq_model::{
-    Booking, Call, CallerId, Counts, CpuId, Entry, Illegal, ItemId, Mark, Number, Place, PoolId,
-    QueueId, QueueShape, Queueing, Reply, Shape, Start, Ticket, Wanted, Who, WorkerId,
+    Booking, Call, CallerId, Counts, CpuId, Entry, Illegal, ItemId, Mark, NoMemory, Number, Place,
+    PoolId, QueueId, QueueShape, Queueing, Reply, Shape, Start, Ticket, Wanted, Who, WorkerId,
 };
 pub use cmwq_text::{entry_fits, reply_fits};
 pub use files::{CallFile, HistoryFile, read_calls, read_history};

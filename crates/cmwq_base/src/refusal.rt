@@ -49,6 +49,14 @@ impl<T: Drop> From<AllocFailed<T>> for Refusal {
     }
 }
 
+impl From<cmwq_model::NoMemory> for Refusal {
+    ghost from_gives = { λ _ e. e ≡ NoMemory };
+
+    fn from(_error: cmwq_model::NoMemory) -> Refusal {
+        Refusal::NoMemory
+    }
+}
+
 impl From<cmwq_io::ReadFault> for Refusal {
     ghost from_gives = { λ _ e. e ≡ ReadFault };
 

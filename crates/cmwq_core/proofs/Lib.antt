@@ -11,5 +11,7 @@ pub mod Firing
 pub mod Told
 pub mod Appended
 mod Ends
+mod OwedBound
+mod Judging
 mod Relied
 mod Marked

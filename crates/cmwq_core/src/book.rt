@@ -456,7 +456,7 @@ impl Book {
     }
 
     /// What the entry of the call does.
-    fn effect(&self, who: Who, call: Call) -> Effect
+    pub(crate) fn effect(&self, who: Who, call: Call) -> Effect
         requires fit { fits self.now.layout who call ≡ true }
         ensures entry { result.entry ≡ next_entry self.now who call }
         ensures is { IsEffect self.now.layout (past_of self.now.entries) result }
@@ -489,7 +489,7 @@ impl Book {
     }
 
     /// Appends an entry for which there is room, and tells each part what it does.
-    fn append(&mut self, effect: Effect)
+    pub(crate) fn append(&mut self, effect: Effect)
         requires is { IsEffect self.old.layout (past_of self.old.entries) effect }
         requires room { length self.old.entries + 1 + effect.owing ≤ self.old.room }
         ensures { self.new ≡ with_entry self.old effect.entry }

@@ -3,10 +3,12 @@
 
 mod book;
 mod effect;
+mod judge;
 mod new;
 mod tables;
 
 pub use book::{Book, Full};
+pub use judge::check;
 
 #[cfg(test)]
 mod tests;

@@ -23,7 +23,7 @@ fn judge<S: Source, O: Sink>(
     ensures write_fault { IsErrOf result Refusal.WriteFault → Rises (O.troubles output.old) (O.troubles output.new) }
 {
     let file = read_history(alloc, input)?;
-    let verdict = cmwq_plain::check(&file.shape, &file.entries).err();
+    let verdict = cmwq_core::check(alloc, &file.shape, &file.entries)?.err();
     write_verdict(output, file.entries.len() as u32, verdict)?;
     Ok(verdict)
 }

@@ -25,7 +25,7 @@ fn upgrade<S: Source, O: Sink>(
     ensures write_fault { IsErrOf result Refusal.WriteFault → Rises (O.troubles output.old) (O.troubles output.new) }
 {
     let file = read_history(alloc, input)?;
-    if let Err(illegal) = cmwq_plain::check(&file.shape, &file.entries) {
+    if let Err(illegal) = cmwq_core::check(alloc, &file.shape, &file.entries)? {
         return Ok(Some(illegal));
     }
     write_history(output, &file.shape, &file.entries)?;

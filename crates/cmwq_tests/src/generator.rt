@@ -13,16 +13,16 @@ use std::alloc::{AllocError, Global};
 use std::process::Abort;
 use std::test::Fail;
 
-pub(crate) const CPUS: u8 = 2;
+const CPUS: u8 = 2;
 
-pub(crate) const WORKERS: u8 = 3;
+const WORKERS: u8 = 3;
 
-pub(crate) const CALLERS: u8 = 2;
+const CALLERS: u8 = 2;
 
-pub(crate) const ITEMS: u16 = 6;
+const ITEMS: u16 = 6;
 
 /// One queue of each kind: wide and freezable, CPU intensive, of high priority.
-pub(crate) const QUEUES: [QueueShape; 3] = [
+const QUEUES: [QueueShape; 3] = [
     QueueShape {
         max_active: 2,
         high: false,
@@ -62,26 +62,14 @@ pub(crate) fn shape(alloc: Global) -> Result<Option<Shape>, AllocError> {
 #[derive(Drop)]
 pub(crate) struct Generator {
     random: Pcg32,
-    /// Whether widths change and queues are destroyed.
-    changes: bool,
     tickets: Vec<(Who, Number)>,
 }
 
 impl Generator {
-    /// All calls.
     pub(crate) fn new(alloc: Global, seed: u64) -> Generator {
         Generator {
             random: Pcg32::new(seed, 1),
-            changes: true,
             tickets: Vec::new(alloc),
-        }
-    }
-
-    /// The calls that neither change a width nor destroy a queue.
-    pub(crate) fn steady(alloc: Global, seed: u64) -> Generator {
-        Generator {
-            changes: false,
-            ..Generator::new(alloc, seed)
         }
     }
 
@@ -160,7 +148,7 @@ impl Generator {
 
     /// A call of a caller that isn't the end of a wait.
     fn call(&mut self) -> Call {
-        if self.changes && self.below(8) == 0 {
+        if self.below(8) == 0 {
             return self.change();
         }
         match self.below(32) {
@@ -198,7 +186,7 @@ impl Generator {
     }
 
     /// A caller or a worker with a call of its own.
-    fn who_calls(&mut self) -> (Who, Call) {
+    pub(crate) fn who_calls(&mut self) -> (Who, Call) {
         match self.below(8) {
             0 => {
                 let nobody = (Who::Caller(CallerId(0)), Call::End { ticket: 0 });
@@ -212,8 +200,8 @@ impl Generator {
         }
     }
 
-    /// Keeps which tickets stand.
-    fn keep(&mut self, entry: &Entry, number: Number) -> Result<(), Fail> {
+    /// Keeps which tickets stand after this entry, which has this number.
+    pub(crate) fn keep(&mut self, entry: &Entry, number: Number) -> Result<(), Fail> {
         match (entry.call, entry.reply) {
             (_, reply) if gives_ticket(reply) => self.tickets.push((entry.who, number))?,
             (Call::End { ticket }, Reply::Done) => {
@@ -245,7 +233,7 @@ impl Generator {
 }
 
 /// Whether a reply gives a ticket.
-pub(crate) fn gives_ticket(reply: Reply) -> bool {
+fn gives_ticket(reply: Reply) -> bool {
     matches!(
         reply,
         Reply::Ticket(_)

@@ -1,13 +1,11 @@
-//! Tests that cross crates: generated histories, whose replies are the plain answers, through the words of the program,
-//! and beside the parts that are told of them.
+//! Tests that cross crates: generated histories, whose replies are the plain answers, and the worked examples, through the
+//! words of the program and through the book.
 #![tactic(auto)]
 
 #[cfg(test)]
+mod book;
+#[cfg(test)]
 mod generator;
-#[cfg(test)]
-mod parts;
-#[cfg(test)]
-mod replies;
 #[cfg(test)]
 mod words;
 #[cfg(test)]

@@ -155,7 +155,7 @@ fn an_altered_entry_is_named(rt: HostRuntime) -> Result<(), Fail> {
     Ok(())
 }
 
-/// What goes before an entry that is left out stays right, so `check` names none of it.
+/// What goes before an entry that is left out stays right, so `check` names none of it; and it says what the plain check says.
 #[test]
 fn an_entry_that_is_left_out_is_found_behind_it(rt: HostRuntime) -> Result<(), Fail> {
     let mut found = false;
@@ -169,9 +169,15 @@ fn an_entry_that_is_left_out_is_found_behind_it(rt: HostRuntime) -> Result<(), F
         if made.entries.len() > 1000 || !cmwq_plain::all_fit(&made.shape, &made.entries) {
             return Err(Fail::new("a generated entry does not fit"));
         }
-        if let Err(illegal) = cmwq_plain::check(&made.shape, &made.entries) {
-            assert!(rt; illegal.at as usize >= at);
-            found = true;
+        let history = text_of(rt.alloc(), &made.shape, &made.entries)?;
+        let verdict = judged(rt.alloc(), history.as_slice())?;
+        match cmwq_plain::check(&made.shape, &made.entries) {
+            Ok(()) => assert_eq!(rt; verdict.status, 0),
+            Err(illegal) => {
+                assert!(rt; illegal.at as usize >= at);
+                assert_eq!(rt; verdict.output.as_slice(), illegal_line(&illegal).as_bytes());
+                found = true;
+            }
         }
     }
     assert!(rt; found);

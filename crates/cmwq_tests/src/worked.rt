@@ -13,6 +13,7 @@ use std::process::Abort;
 const ROOM: usize = 4_000;
 
 /// A file of calls, the history that they make, what is said on standard error, and the status.
+#[derive(Clone, Copy)]
 struct Example {
     calls: &'static [u8],
     history: &'static [u8],

@@ -1,6 +1,8 @@
 //! Queueings, runs, workers and room.
 
 use super::{Example, hold};
+use crate::book::agrees_in_every_room;
+use std::test::Fail;
 
 const FIRST_RUN: Example = Example {
     calls: b"shape 1 2 1 3 100
@@ -325,19 +327,33 @@ c0 1 cancel 0 = no
     status: 4,
 };
 
+const EXAMPLES: [Example; 13] = [
+    FIRST_RUN,
+    NO_CALLS,
+    PENDING_ITEM,
+    QUEUED_WHILE_IT_RUNS,
+    INACTIVE_AND_CANCELLED,
+    HELD_BY_A_RUN,
+    CPU_INTENSIVE,
+    FOREIGN,
+    RETIRE_WHILE_ENOUGH_IDLE,
+    LANES,
+    MAX_ACTIVE_AS_IT_HOLDS,
+    NO_ROOM,
+    RUNS_KEEP_THEIR_ROOM,
+];
+
 #[test]
 fn hold_through_all_words(rt: HostRuntime) {
-    hold(&rt, &FIRST_RUN);
-    hold(&rt, &NO_CALLS);
-    hold(&rt, &PENDING_ITEM);
-    hold(&rt, &QUEUED_WHILE_IT_RUNS);
-    hold(&rt, &INACTIVE_AND_CANCELLED);
-    hold(&rt, &HELD_BY_A_RUN);
-    hold(&rt, &CPU_INTENSIVE);
-    hold(&rt, &FOREIGN);
-    hold(&rt, &RETIRE_WHILE_ENOUGH_IDLE);
-    hold(&rt, &LANES);
-    hold(&rt, &MAX_ACTIVE_AS_IT_HOLDS);
-    hold(&rt, &NO_ROOM);
-    hold(&rt, &RUNS_KEEP_THEIR_ROOM);
+    for example in &EXAMPLES {
+        hold(&rt, example);
+    }
+}
+
+#[test]
+fn hold_for_the_book_in_every_room(rt: HostRuntime) -> Result<(), Fail> {
+    for example in &EXAMPLES {
+        agrees_in_every_room(&rt, example.calls)?;
+    }
+    Ok(())
 }

@@ -1,6 +1,8 @@
 //! Timers, and what one event makes active.
 
 use super::{Example, hold};
+use crate::book::agrees_in_every_room;
+use std::test::Fail;
 
 const TIMER_AT_ITS_TICK: Example = Example {
     calls: b"shape 1 2 1 1 100
@@ -114,10 +116,24 @@ c0 7 fire = fired 0 9
     status: 0,
 };
 
+const EXAMPLES: [Example; 4] = [
+    TIMER_AT_ITS_TICK,
+    TWO_MADE_ACTIVE_AT_ONCE,
+    MODIFY_REPLACES,
+    TIMER_HELD_BACK,
+];
+
 #[test]
 fn hold_through_all_words(rt: HostRuntime) {
-    hold(&rt, &TIMER_AT_ITS_TICK);
-    hold(&rt, &TWO_MADE_ACTIVE_AT_ONCE);
-    hold(&rt, &MODIFY_REPLACES);
-    hold(&rt, &TIMER_HELD_BACK);
+    for example in &EXAMPLES {
+        hold(&rt, example);
+    }
+}
+
+#[test]
+fn hold_for_the_book_in_every_room(rt: HostRuntime) -> Result<(), Fail> {
+    for example in &EXAMPLES {
+        agrees_in_every_room(&rt, example.calls)?;
+    }
+    Ok(())
 }

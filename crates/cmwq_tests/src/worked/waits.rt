@@ -1,6 +1,8 @@
 //! Flushes, cancels that wait, and drains.
 
 use super::{Example, hold};
+use crate::book::agrees_in_every_room;
+use std::test::Fail;
 
 const FLUSH_WAITS_FOR_OLDER: Example = Example {
     calls: b"shape 1 2 1 3 100
@@ -170,11 +172,25 @@ c0 9 end 1 = done
     status: 0,
 };
 
+const EXAMPLES: [Example; 5] = [
+    FLUSH_WAITS_FOR_OLDER,
+    CANCEL_SYNC_OF_SELF_QUEUEING,
+    DRAIN_REFUSES_OTHERS,
+    FLUSH_DELAYED_AND_CANCEL_SYNC,
+    FLUSHES_END_AS_ITEMS_ARE_CANCELLED,
+];
+
 #[test]
 fn hold_through_all_words(rt: HostRuntime) {
-    hold(&rt, &FLUSH_WAITS_FOR_OLDER);
-    hold(&rt, &CANCEL_SYNC_OF_SELF_QUEUEING);
-    hold(&rt, &DRAIN_REFUSES_OTHERS);
-    hold(&rt, &FLUSH_DELAYED_AND_CANCEL_SYNC);
-    hold(&rt, &FLUSHES_END_AS_ITEMS_ARE_CANCELLED);
+    for example in &EXAMPLES {
+        hold(&rt, example);
+    }
+}
+
+#[test]
+fn hold_for_the_book_in_every_room(rt: HostRuntime) -> Result<(), Fail> {
+    for example in &EXAMPLES {
+        agrees_in_every_room(&rt, example.calls)?;
+    }
+    Ok(())
 }

@@ -1,6 +1,8 @@
 //! Widths that change, freezing, and queues that go.
 
 use super::{Example, hold};
+use crate::book::agrees_in_every_room;
+use std::test::Fail;
 
 const WIDTH_GOES_UP_AND_DOWN: Example = Example {
     calls: b"shape 1 4 1 4 100
@@ -214,11 +216,25 @@ w0n0 0 queue 0 0 0 = misuse
     status: 0,
 };
 
+const EXAMPLES: [Example; 5] = [
+    WIDTH_GOES_UP_AND_DOWN,
+    FROZEN_AND_THAWED,
+    SET_MAX_WHILE_FROZEN,
+    QUEUE_DESTROYED,
+    GONE_BEFORE_ALL_ELSE,
+];
+
 #[test]
 fn hold_through_all_words(rt: HostRuntime) {
-    hold(&rt, &WIDTH_GOES_UP_AND_DOWN);
-    hold(&rt, &FROZEN_AND_THAWED);
-    hold(&rt, &SET_MAX_WHILE_FROZEN);
-    hold(&rt, &QUEUE_DESTROYED);
-    hold(&rt, &GONE_BEFORE_ALL_ELSE);
+    for example in &EXAMPLES {
+        hold(&rt, example);
+    }
+}
+
+#[test]
+fn hold_for_the_book_in_every_room(rt: HostRuntime) -> Result<(), Fail> {
+    for example in &EXAMPLES {
+        agrees_in_every_room(&rt, example.calls)?;
+    }
+    Ok(())
 }

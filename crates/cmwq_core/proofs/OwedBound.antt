@@ -1,0 +1,82 @@
+-- What a legal history owes is never more than 10,000 entries, where the layout is inside the limits.
+use Rattle.std.proofs.Common.{◌≡◌, ◌≤◌, ℕ, Bool, true, false, List, [], ◌∷◌, length, length-append, ap, ◌∙◌, arith}
+use Rattle.std.specs.Prelude.{◌*◌, IsTrue, if◌then◌else◌, flat_map}
+use Rattle.std.specs.List.{range_with_len}
+use Rattle.std.proofs.lemmas.Bool.{and_parts, leb-true}
+use Rattle.std.proofs.lemmas.List.{length-map}
+use Rattle.std.proofs.lemmas.List.Concat.{flat_map-cons}
+use Rattle.std.proofs.lemmas.List.FromFn.{length-range_with_len}
+use Rattle.std.proofs.lemmas.List.Sums.{count_by-le-length}
+use Rattle.cmwq_model.specs.declared.id.PoolId.{PoolId}
+use Rattle.cmwq_model.specs.declared.entry.Entry.{Entry}
+use Rattle.cmwq_model.specs.Layout.{Layout, is_layout, indices}
+use Rattle.cmwq_model.specs.Bookings.{is_booked}
+use Rattle.cmwq_model.specs.Runs.{has_run, runs_asleep}
+use Rattle.cmwq_model.specs.Queueings.{still_open}
+use Rattle.cmwq_model.specs.Widths.{is_frozen}
+use Rattle.cmwq_model.specs.Workers.{worker_at}
+use Rattle.cmwq_model.specs.Legal.{IsLegal}
+use Rattle.cmwq_model.specs.Room.{owed, workers, cpu_workers, pool_workers, has_not_started}
+use Rattle.cmwq_steps.proofs.Limits.{two_for_each_item}
+use Rattle.cmwq_ties.proofs.LayoutLimits.{items_few}
+use Rattle.cmwq_ties.proofs.TicketLimits.{unended_few}
+
+-- ---- at most 64 workers
+
+few_in_all : {X : Type 0} (f : ℕ → List X) → ((i : ℕ) → length (f i) ≤ 16) → (is : List ℕ) → length (flat_map f is) ≤ 16 * length is
+few_in_all f few [] = omega arith
+few_in_all f few (i ∷ is) =
+    let parts = ap length (flat_map-cons f i is) ∙ length-append (f i) (flat_map f is) in
+    let first = few i in
+    let rest = few_in_all f few is in
+    omega arith
+
+in_pool : (s : Layout) (p : PoolId) → length (pool_workers s p) ≡ s.workers
+in_pool s p = length-map (indices s) (worker_at p) ∙ length-range_with_len 0 s.workers
+
+on_cpu : (s : Layout) → s.workers ≤ 8 → (c : ℕ) → length (cpu_workers s c) ≤ 16
+on_cpu s few c =
+    let normal : PoolId = record { cpu = record { 0 = c }; high = false } in
+    let high : PoolId = record { cpu = record { 0 = c }; high = true } in
+    let both = length-append (pool_workers s normal) (pool_workers s high) in
+    let first = in_pool s normal in
+    let second = in_pool s high in
+    omega arith
+
+cpus_few : (s : Layout) → IsTrue (is_layout s) → s.cpus ≤ 4
+cpus_few s inside = leb-true s.cpus 4 (and_parts _ _ (and_parts _ _ (and_parts _ _ (and_parts _ _ (and_parts _ _ (and_parts _ _ inside).0).0).0).0).0).1
+
+pools_small : (s : Layout) → IsTrue (is_layout s) → s.workers ≤ 8
+pools_small s inside = leb-true s.workers 8 (and_parts _ _ (and_parts _ _ (and_parts _ _ (and_parts _ _ (and_parts _ _ (and_parts _ _ inside).0).0).0).0).1).1
+
+callers_few : (s : Layout) → IsTrue (is_layout s) → s.callers ≤ 64
+callers_few s inside = leb-true s.callers 64 (and_parts _ _ (and_parts _ _ (and_parts _ _ (and_parts _ _ (and_parts _ _ inside).0).0).0).1).1
+
+workers_few : (s : Layout) → IsTrue (is_layout s) → length (workers s) ≤ 64
+workers_few s inside =
+    let cpus = cpus_few s inside in
+    let all : length (workers s) ≤ 16 * length (range_with_len 0 s.cpus) = few_in_all (cpu_workers s) (on_cpu s (pools_small s inside)) (range_with_len 0 s.cpus) in
+    let many = length-range_with_len 0 s.cpus in
+    omega arith
+
+at_most_one : (b : Bool) → (if b then 1 else 0) ≤ 1
+at_most_one true = omega arith
+at_most_one false = omega arith
+
+-- ---- in all
+
+pub owed_few : (s : Layout) (past : List Entry) → IsTrue (is_layout s) → IsLegal s past → owed s past ≤ 10000
+unfolding owed
+owed_few s past inside legal =
+    let items = items_few s inside in
+    let callers = callers_few s inside in
+    let many = workers_few s inside in
+    let flying = two_for_each_item s past legal in
+    let unstarted = count_by-le-length (has_not_started past) (still_open past) in
+    let runs = count_by-le-length (has_run past) (workers s) in
+    let asleep = count_by-le-length (runs_asleep past) (workers s) in
+    let booked = count_by-le-length (is_booked past) (range_with_len 0 s.items) in
+    let rows = length-range_with_len 0 s.items in
+    let tickets = unended_few s past legal in
+    let frozen = at_most_one (is_frozen past) in
+    omega arith

@@ -1,0 +1,34 @@
+-- Lists seen through a view of each element.
+use Rattle.std.proofs.Common.{◌≡◌, ℕ, suc, ◌||◌, ◌&&◌, ◌+◌, ◌==◌, nat_eq, Bor, Bool, true, false, cond, not, List, [], ◌∷◌, length, map, position, Option, Some, None, refl, ap, ap₂, nat_lt, ◌∙◌, sym}
+use Rattle.std.proofs.lemmas.List.{length-map}
+use Rattle.std.specs.List.{list_any, list_all, prefix_len}
+use Rattle.std.specs.Prelude.{String, option_map}
+use Rattle.std.specs.Option.{option_map_or, option_eq}
+use Rattle.std.proofs.lemmas.List.Folds.{list_all-map}
+use Rattle.serde_json.specs.Data.{Members}
+use Rattle.std.specs.declared.alloc.Global.{Global}
+use Rattle.serde_json.specs.declared.value.Value.{Value}
+use Rattle.serde_json.specs.View.{members_view}
+use Rattle.cmwq_json.specs.Keys.{count_of}
+
+pub count_of-members_view : (ms : List (String Global × Value)) → count_of (members_view ms) ≡ length ms
+count_of-members_view [] = refl
+count_of-members_view (m ∷ ms) = ap suc (count_of-members_view ms)
+
+prefix_len-map : {X Y : Type 0} (p : Y → Bool) (f : X → Y) (xs : List X) → prefix_len p (map f xs) ≡ prefix_len (λ x. p (f x)) xs
+prefix_len-map p f [] = refl
+prefix_len-map p f (x ∷ xs) = ap (λ n. cond (p (f x)) (1 + n) 0) (prefix_len-map p f xs)
+
+pub position-map : {X Y : Type 0} (p : Y → Bool) (f : X → Y) (xs : List X) → position p (map f xs) ≡ position (λ x. p (f x)) xs
+position-map p f xs = ap₂ (λ i n. cond (nat_lt i n) (Some i) None) (prefix_len-map (λ y. not (p y)) f xs) (length-map xs f)
+
+pub list_any-map : {X Y : Type 0} (p : Y → Bool) (f : X → Y) (xs : List X) → list_any p (map f xs) ≡ list_any (λ x. p (f x)) xs
+list_any-map p f [] = refl
+list_any-map p f (x ∷ xs) = ap (λ b. p (f x) || b) (list_any-map p f xs)
+
+pub keys_counted : (keys : List (Bor (List ℕ))) (object : Option Members) (count : Option ℕ) (each : Bool) (test : List ℕ → Bool) → count ≡ option_map count_of object → true ≡ option_eq nat_eq count (Some (length keys))
+    → each ≡ list_all (λ (key : Bor (List ℕ)). test key.now) keys → each ≡ (option_map_or (λ ms. count_of ms == length (map (λ (key : Bor (List ℕ)). key.now) keys)) object false && list_all test (map (λ (key : Bor (List ℕ)). key.now) keys))
+keys_counted keys None count each test is same all = let bad : true ≡ false = same ∙ ap (λ n. option_eq nat_eq n (Some (length keys))) is in cc
+keys_counted keys (Some ms) count each test is same all =
+    let counted : (count_of ms == length (map (λ (key : Bor (List ℕ)). key.now) keys)) ≡ true = ap (λ n. count_of ms == n) (length-map keys (λ (key : Bor (List ℕ)). key.now)) ∙ sym (same ∙ ap (λ n. option_eq nat_eq n (Some (length keys))) is) in
+    all ∙ sym (list_all-map test (λ (key : Bor (List ℕ)). key.now) keys) ∙ sym (ap (λ c. c && list_all test (map (λ (key : Bor (List ℕ)). key.now) keys)) counted)

@@ -1,0 +1,4 @@
+mod Adding
+mod Arrays
+mod Limited
+mod Turns

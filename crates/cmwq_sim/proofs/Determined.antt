@@ -1,0 +1,14 @@
+-- The history that shows a moment says who waits in it.
+use Rattle.std.proofs.Common.{◌≡◌, ℕ, List, [], ◌∷◌, map, refl, ap, ap₂, ◌∙◌}
+use Rattle.cmwq_model.specs.declared.entry.Entry.{Entry}
+use Rattle.cmwq_sim.specs.Plan.{Plan}
+use Rattle.cmwq_sim.specs.Lines.{Moment}
+use Rattle.cmwq_sim.specs.Shows.{queueing_for, number_of, moment_of, Shows}
+
+numbers : (s : Plan) (is : List ℕ) → map number_of (map (queueing_for s) is) ≡ is
+numbers s [] = refl
+numbers s (i ∷ is) = ap (λ ks. i ∷ ks) (numbers s is)
+
+-- so the code that keeps the lists of those that run needs none of those that wait
+pub determined : (s : Plan) (past : List Entry) (m : Moment) (seat : ℕ → ℕ) → Shows s past m seat → moment_of s past m.cpu m.sleeping m.lines ≡ m
+determined s past m seat h = ap₂ (λ r b. record m { ready = r; behind = b }) (ap (map number_of) h.ready ∙ numbers s m.ready) (ap (map number_of) h.behind ∙ numbers s m.behind)

@@ -1,0 +1,135 @@
+-- What the end of a run makes ready.
+use Rattle.std.proofs.Common.{◌≡◌, ◌==◌, ◌≤◌, ◌-◌, ℕ, zero, suc, Bool, true, false, cond, not, ◌&&◌, List, [], ◌∷◌, ◌++◌, map, filter, find, count_by, Option, Some, None, nat_lt, refl, sym, ap, ap₂, ◌∙◌, subst, arith, ⊎_elim, option_to_list, append-nil}
+use Rattle.std.specs.Prelude.{option_map, option_and_then, if◌then◌else◌, slice_get}
+use Rattle.std.specs.Option.{option_or}
+use Rattle.std.specs.List.{AllByRecursion}
+use Rattle.std.proofs.lemmas.Bool.Decides.{nat_tests}
+use Rattle.std.proofs.lemmas.Option.{same_Some}
+use Rattle.cmwq_model.specs.declared.reply.Reply.TheVariants as reply
+use Rattle.cmwq_model.specs.declared.entry.Entry.{Entry}
+use Rattle.cmwq_model.specs.declared.record.Queueing.{Queueing}
+use Rattle.cmwq_model.specs.Layout.{Layout, first_width}
+use Rattle.cmwq_model.specs.Calls.{item_of}
+use Rattle.cmwq_model.specs.Fate.{number_finished, number_cancelled}
+use Rattle.cmwq_model.specs.Queueings.{queueings, still_open, is_live, opening, opens, queued_at, place_wanted}
+use Rattle.cmwq_model.specs.Widths.{width}
+use Rattle.cmwq_model.specs.Active.{is_active, is_ahead, has_way, newly_active}
+use Rattle.cmwq_model.specs.Legal.{IsLegal}
+use Rattle.cmwq_steps.specs.Endings.{is_ended, ending, number_replaced}
+use Rattle.cmwq_steps.specs.Places.{is_on, open_on}
+use Rattle.cmwq_laws.specs.FirstWidths.{HasFirstWidths}
+use Rattle.cmwq_active.specs.Looks.{keeps_widths}
+use Rattle.cmwq_steps.specs.Activations.{waits, behind_width, has_way_at_once}
+use Rattle.cmwq_active.proofs.Lists.{All_each, All_both}
+use Rattle.cmwq_steps.proofs.Ranks.{is_below, Ranked}
+use Rattle.cmwq_steps.proofs.Active.{ways, open_ranked, on_each}
+use Rattle.cmwq_active.proofs.Joined.{active_live}
+use Rattle.cmwq_laws.proofs.AsBefore.{active_as_before}
+use Rattle.cmwq_steps.proofs.Ended.{ends_which}
+use Rattle.cmwq_steps.proofs.RunsActive.{run_is_active}
+use Rattle.cmwq_steps.proofs.NewlyActive.{newly_active_are}
+use Rattle.cmwq_ties.proofs.Members.{In, found, in_filter}
+use Rattle.cmwq_sim.specs.Plan.{Plan, queue_of, is_of}
+use Rattle.cmwq_sim.specs.Lines.{Moment, items_of}
+use Rattle.cmwq_sim.specs.Shows.{layout_for, worker, queueing_for, IsRunAt, Shows}
+use Rattle.cmwq_sim.proofs.TakeReads.{run_found}
+
+-- of a list whose first w pass, the one just behind them is the first that doesn't
+first_behind : (f : Queueing → Bool) (rank : Queueing → ℕ) (w k : ℕ) (xs : List Queueing) → k ≤ w → AllByRecursion (λ x. f x ≡ nat_lt (rank x) w) xs → Ranked rank k xs
+    → filter (λ x. not (f x)) (option_to_list (slice_get xs (w - k))) ≡ option_to_list (find (λ x. not (f x)) xs)
+first_behind f rank w k [] less each h = refl
+first_behind f rank w k (x ∷ xs) less each h = at (w - k) refl (λ more. first_behind f rank w (suc k) xs more each.1 h.1)
+  where
+    at : (n : ℕ) → w - k ≡ n → (suc k ≤ w → filter (λ y. not (f y)) (option_to_list (slice_get xs (w - suc k))) ≡ option_to_list (find (λ y. not (f y)) xs))
+        → filter (λ y. not (f y)) (option_to_list (slice_get (x ∷ xs) n)) ≡ option_to_list (find (λ y. not (f y)) (x ∷ xs))
+    at zero is later =
+        let same : nat_lt k w ≡ false = grind (arith, nat_tests) in
+        let fails : f x ≡ false = each.0 ∙ ap (λ r. nat_lt r w) h.0 ∙ same in
+        ap (λ b. cond (not b) (x ∷ []) []) fails ∙ sym (ap (λ b. option_to_list (cond (not b) (Some x) (find (λ y. not (f y)) xs))) fails)
+    at (suc n) is later =
+        let same : nat_lt k w ≡ true = grind (arith, nat_tests) in
+        let passes : f x ≡ true = each.0 ∙ ap (λ r. nat_lt r w) h.0 ∙ same in
+        let rest : w - suc k ≡ n = omega arith in
+        ap (λ j. filter (λ y. not (f y)) (option_to_list (slice_get xs j))) (sym rest) ∙ later (omega arith) ∙ sym (ap (λ b. option_to_list (cond (not b) (Some x) (find (λ y. not (f y)) xs))) passes)
+
+find_turned : (p q : Queueing → Bool) (xs : List Queueing) → find p (filter q xs) ≡ find q (filter p xs)
+find_turned p q [] = refl
+find_turned p q (x ∷ xs) = at (p x) refl (q x) refl (find_turned p q xs)
+  where
+    at : (a : Bool) → p x ≡ a → (b : Bool) → q x ≡ b → find p (filter q xs) ≡ find q (filter p xs) → find p (cond b (x ∷ filter q xs) (filter q xs)) ≡ find q (cond a (x ∷ filter p xs) (filter p xs))
+    at true ha true hb same = ap (λ c. cond c (Some x) (find p (filter q xs))) ha ∙ sym (ap (λ c. cond c (Some x) (find q (filter p xs))) hb)
+    at true ha false hb same = same ∙ sym (ap (λ c. cond c (Some x) (find q (filter p xs))) hb)
+    at false ha true hb same = ap (λ c. cond c (Some x) (find p (filter q xs))) ha ∙ same
+    at false ha false hb same = same
+
+-- while the widths are the first ones, what is open is active where there is way
+active_way : (s : Layout) (past : List Entry) (x : Queueing) → HasFirstWidths s past → ((q : ℕ) → width s past q ≡ first_width s q) → is_live past x ≡ true → is_active s past x ≡ has_way s past x
+active_way s past x old wide live = active_as_before s past x old ∙ ap₂ (λ l w. l && nat_lt (count_by (is_ahead x) (still_open past)) w) live (sym (wide x.place.queue.0))
+
+first_waiting : (s : Plan) (past : List Entry) (i : ℕ) → HasFirstWidths (layout_for s) past → ((q : ℕ) → width (layout_for s) past q ≡ first_width (layout_for s) q) → has_way (layout_for s) past (queueing_for s i) ≡ true
+    → filter (waits (layout_for s) past) (option_to_list (behind_width (layout_for s) past (Some (queueing_for s i)))) ≡ option_to_list (find (is_on (queue_of s i) 0) (filter (waits (layout_for s) past) (still_open past)))
+first_waiting s past i old wide way =
+    ap (λ b. filter (waits (layout_for s) past) (option_to_list (if b then slice_get (open_on past q 0) w else None))) way
+    ∙ ap (λ n. filter (waits (layout_for s) past) (option_to_list (slice_get (open_on past q 0) n))) (sym none)
+    ∙ first_behind (is_active (layout_for s) past) (λ x. count_by (is_below x) (open_on past q 0)) w 0 (open_on past q 0) (omega arith) each (open_ranked past q 0)
+    ∙ ap option_to_list (find_turned (waits (layout_for s) past) (is_on q 0) (still_open past))
+  where
+    q : ℕ
+    q = queue_of s i
+
+    w : ℕ
+    w = width (layout_for s) past (queue_of s i)
+
+    none : width (layout_for s) past (queue_of s i) - 0 ≡ width (layout_for s) past (queue_of s i)
+    none = omega arith
+
+    each : AllByRecursion (λ x. is_active (layout_for s) past x ≡ nat_lt (count_by (is_below x) (open_on past (queue_of s i) 0)) (width (layout_for s) past (queue_of s i))) (open_on past (queue_of s i) 0)
+    each = All_both (λ x. is_active (layout_for s) past x ≡ has_way (layout_for s) past x) (λ x. has_way (layout_for s) past x ≡ nat_lt (count_by (is_below x) (open_on past (queue_of s i) 0)) (width (layout_for s) past (queue_of s i))) _ (open_on past (queue_of s i) 0) (λ x a b. a ∙ b)
+        (on_each (λ x. is_active (layout_for s) past x ≡ has_way (layout_for s) past x) past (queue_of s i) 0 (All_each _ (queueings past) (λ x live on. active_way (layout_for s) past x old wide live)))
+        (ways (layout_for s) past (queue_of s i) 0)
+
+-- ---- what a finish makes ready is the first of the queue that is behind
+
+mapped : (s : Plan) (y : Queueing) (xs : List ℕ) → In y (map (queueing_for s) xs) → y ≡ queueing_for s y.number
+mapped s y [] h = absurd h
+mapped s y (x ∷ xs) h = ⊎_elim (λ e. sym e ∙ ap (λ (z : Queueing). queueing_for s z.number) e) (λ later. mapped s y xs later) h
+
+ends_run : (s : Plan) (past : List Entry) (m : Moment) (seat : ℕ → ℕ) (e : Entry) (i : ℕ) → Shows s past m seat → IsLegal (layout_for s) (e ∷ past) → e.reply ≡ reply.Finished i → ending past e ≡ Some (queueing_for s i)
+ends_run s past m seat e i h legal is = at (ending past e) refl
+    (ends_which (layout_for s) past e legal ∙ ap (λ r. option_or (number_finished r) (option_or (number_cancelled e.reply) (number_replaced past e))) is)
+  where
+    at : (o : Option Queueing) → ending past e ≡ o → option_map (λ (x : Queueing). x.number) (ending past e) ≡ Some i → ending past e ≡ Some (queueing_for s i)
+    at None none number = absurd (none_some (sym (ap (option_map (λ (x : Queueing). x.number)) none) ∙ number))
+      where
+        none_some : {n : ℕ} → None ≡ Some n → ⊥
+        none_some {n} h = cc
+    at (Some y) some number =
+        let there = in_filter (is_live past) (queueings past) y (found (is_ended past e) (still_open past) y some).0 in
+        let n : y.number ≡ i = same_Some y.number i (sym (ap (option_map (λ (x : Queueing). x.number)) some) ∙ number) in
+        some ∙ ap Some (mapped s y (items_of s) (subst (In y) h.queued there.0) ∙ ap (queueing_for s) n)
+
+find_mapped : (s : Plan) (q : ℕ) (xs : List ℕ) → find (is_on q 0) (map (queueing_for s) xs) ≡ option_map (queueing_for s) (find (is_of s q) xs)
+find_mapped s q [] = refl
+find_mapped s q (x ∷ xs) = at (queue_of s x == q) (find_mapped s q xs)
+  where
+    at : (b : Bool) → find (is_on q 0) (map (queueing_for s) xs) ≡ option_map (queueing_for s) (find (is_of s q) xs) → cond (b && true) (Some (queueing_for s x)) (find (is_on q 0) (map (queueing_for s) xs)) ≡ option_map (queueing_for s) (cond b (Some x) (find (is_of s q) xs))
+    at true h = refl
+    at false h = h
+
+pub finish_makes_ready : (s : Plan) (past : List Entry) (m : Moment) (seat : ℕ → ℕ) (e : Entry) (x i : ℕ) → Shows s past m seat → HasFirstWidths (layout_for s) past → ((q : ℕ) → width (layout_for s) past q ≡ first_width (layout_for s) q)
+    → IsLegal (layout_for s) (e ∷ past) → e.reply ≡ reply.Finished i → IsRunAt past x i false
+    → newly_active (layout_for s) past e ≡ option_to_list (option_map (queueing_for s) (find (is_of s (queue_of s i)) m.behind))
+finish_makes_ready s past m seat e x i h old wide legal is r =
+    newly_active_are (layout_for s) past e legal (ap keeps_widths is)
+    ∙ ap₂ (λ a b. filter (waits (layout_for s) past) (option_to_list (behind_width (layout_for s) past a)) ++ filter (has_way_at_once (layout_for s) past e) (option_to_list b)) (ends_run s past m seat e i h legal is) opened
+    ∙ append-nil _ ∙ first_waiting s past i old wide way ∙ ap (λ xs. option_to_list (find (is_on (queue_of s i) 0) xs)) h.behind ∙ ap option_to_list (find_mapped s (queue_of s i) m.behind)
+  where
+    opened : opening past e ≡ None
+    opened = ap (λ r. if opens r then option_and_then (λ j. option_map (queued_at past j) (place_wanted past e.call j)) (item_of e) else None) is
+
+    way : has_way (layout_for s) past (queueing_for s i) ≡ true
+    way =
+        let k = run_is_active (layout_for s) past (worker x) i h.legal r.runs in
+        let same : k.queueing ≡ queueing_for s i = same_Some k.queueing (queueing_for s i) (sym k.found ∙ run_found s past m seat (worker x) i h r.runs) in
+        let active : is_active (layout_for s) past (queueing_for s i) ≡ true = subst (λ y. is_active (layout_for s) past y ≡ true) same k.active in
+        sym (active_way (layout_for s) past (queueing_for s i) old wide (active_live (layout_for s) past (queueing_for s i) active)) ∙ active

@@ -1,0 +1,16 @@
+pub mod Idle
+pub mod TakeReads
+pub mod Steps
+pub mod TakeShown
+pub mod Finish
+pub mod FinishShown
+pub mod WakeShown
+pub mod TakersAre
+pub mod Phases
+pub mod Queued
+pub mod Roomy
+pub mod Determined
+pub mod RoomKept
+pub mod Progress
+pub mod Outset
+pub mod Once

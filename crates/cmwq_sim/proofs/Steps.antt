@@ -1,0 +1,233 @@
+-- What one more entry does to what a history shows.
+use Rattle.std.proofs.Common.{◌≡◌, ◌≢◌, ◌==◌, ◌<◌, ◌≤◌, ◌+◌, ℕ, Bool, true, false, cond, not, ◌&&◌, ◌||◌, List, [], ◌∷◌, ◌++◌, length, filter, count_by, Option, None, refl, sym, ap, ap₂, ◌∙◌, subst, arith, option_to_list, append-nil, length-append}
+use Rattle.std.specs.Prelude.{option_map, option_and_then, if◌then◌else◌, IsTrue}
+use Rattle.std.specs.List.{AllByRecursion, list_any}
+use Rattle.cmwq_ties.proofs.PoolNext.{runner_there}
+use Rattle.std.proofs.lemmas.Bool.{lt-ltb, eq-eqb, ne_eqb}
+use Rattle.std.proofs.lemmas.Option.{same_Some}
+use Rattle.cmwq_model.specs.declared.id.PoolId.{PoolId}
+use Rattle.cmwq_model.specs.declared.id.WorkerId.{WorkerId}
+use Rattle.cmwq_model.specs.declared.id.Who.TheVariants.{Worker}
+use Rattle.cmwq_model.specs.declared.call.Call.TheVariants as call
+use Rattle.cmwq_model.specs.declared.reply.Reply.{Reply}
+use Rattle.cmwq_model.specs.declared.reply.Reply.TheVariants as reply
+use Rattle.cmwq_model.specs.declared.entry.Entry.{Entry}
+use Rattle.cmwq_model.specs.declared.record.Queueing.{Queueing}
+use Rattle.cmwq_model.specs.Layout.{Layout, fits}
+use Rattle.cmwq_model.specs.Calls.{item_of, is_at, is_by, is_of_item, same_who}
+use Rattle.cmwq_model.specs.Fate.{number_started, number_finished, number_cancelled, replaces, starts, is_started}
+use Rattle.cmwq_model.specs.Runs.{run, is_asleep, asleep_after}
+use Rattle.cmwq_model.specs.Queueings.{opens, opening, queued_at, place_wanted, queueings, still_open, is_live}
+use Rattle.cmwq_model.specs.Active.{is_active, is_newly_active, newly_active, worklist}
+use Rattle.cmwq_model.specs.Workers.{is_retired}
+use Rattle.cmwq_model.specs.Answer.{answer}
+use Rattle.cmwq_model.specs.Legal.{IsLegal, entry_for}
+use Rattle.cmwq_steps.specs.RunSteps.{run_after}
+use Rattle.cmwq_steps.specs.Endings.{is_spared, is_ended, ending}
+use Rattle.cmwq_steps.specs.Activations.{waits, is_left, is_in, behind_width, has_way_at_once}
+use Rattle.cmwq_active.specs.Looks.{keeps_widths}
+use Rattle.cmwq_active.proofs.Lists.{All_both, All_each, All_append, All_filter, count_by-cons}
+use Rattle.cmwq_steps.proofs.Filters.{filter_same, none_found, count_none}
+use Rattle.cmwq_active.proofs.Joined.{stays_active}
+use Rattle.cmwq_steps.proofs.Endings.{open_go_on}
+use Rattle.cmwq_steps.proofs.Promoted.{newly_of_open}
+use Rattle.cmwq_steps.proofs.NewlyActive.{newly_active_are}
+use Rattle.cmwq_active.proofs.Widths.{width_same}
+use Rattle.cmwq_steps.proofs.WorklistSteps.{worklists_go_on}
+use Rattle.cmwq_steps.proofs.RunSteps.{workers_run_on}
+use Rattle.cmwq_steps.proofs.OwedSteps.{by_itself}
+use Rattle.cmwq_sim.specs.Plan.{Plan}
+use Rattle.cmwq_sim.specs.Lines.{Moment, Job}
+use Rattle.cmwq_sim.specs.Shows.{layout_for, pool, worker, IsRunAt, is_job, is_sleeper, runs_in, times, Shows}
+use Rattle.cmwq_sim.proofs.TakeReads.{sleep_answered}
+
+-- ---- an entry that opens and ends nothing
+
+pub record IsQuiet (r : Reply) : Type 0 where
+  pub opens : opens r ≡ false
+  pub finishes : number_finished r ≡ None
+  pub cancels : number_cancelled r ≡ None
+  pub replaces : replaces r ≡ false
+  pub widths : keeps_widths r ≡ true
+  pub stays : is_retired r ≡ false
+
+pub all_kept : {X : Type 0} (p : X → Bool) (xs : List X) → AllByRecursion (λ x. p x ≡ true) xs → filter p xs ≡ xs
+all_kept p [] h = refl
+all_kept p (x ∷ xs) h = ap₂ (λ b ys. cond b (x ∷ ys) ys) h.0 (all_kept p xs h.1)
+
+pub none_kept : {X : Type 0} (p : X → Bool) (xs : List X) → filter p xs ≡ [] → AllByRecursion (λ x. p x ≡ false) xs
+none_kept p [] h = tt
+none_kept p (x ∷ xs) h = at (p x) refl h (λ k. none_kept p xs k)
+  where
+    at : (b : Bool) → p x ≡ b → cond b (x ∷ filter p xs) (filter p xs) ≡ [] → (filter p xs ≡ [] → AllByRecursion (λ y. p y ≡ false) xs) → AllByRecursion (λ y. p y ≡ false) (x ∷ xs)
+    at true is k later = cc
+    at false is k later = (is, later k)
+
+spares : (past : List Entry) (e : Entry) (x : Queueing) → IsQuiet e.reply → is_spared past e x ≡ true
+spares past e x q =
+    ap₂ (λ a b. not (is_at a x.number) && not (is_at b x.number) && not (replaces e.reply && is_of_item x.item.0 e && not (is_started past x.number))) q.finishes q.cancels
+    ∙ ap (λ b. not (b && is_of_item x.item.0 e && not (is_started past x.number))) q.replaces
+
+none_ends : (past : List Entry) (e : Entry) → IsQuiet e.reply → ending past e ≡ None
+none_ends past e q = none_found (is_ended past e) (still_open past) (All_each _ (still_open past) (λ x. ap not (spares past e x q)))
+
+pub none_opens : (past : List Entry) (e : Entry) → IsQuiet e.reply → opening past e ≡ None
+none_opens past e q = ap (λ b. if b then option_and_then (λ i. option_map (queued_at past i) (place_wanted past e.call i)) (item_of e) else None) q.opens
+
+pub open_as_before : (s : Layout) (past : List Entry) (e : Entry) → IsLegal s (e ∷ past) → IsQuiet e.reply → still_open (e ∷ past) ≡ still_open past
+open_as_before s past e legal q = open_go_on s past e legal
+    ∙ ap₂ (λ xs o. xs ++ option_to_list o) (all_kept (is_spared past e) (still_open past) (All_each _ (still_open past) (λ x. spares past e x q))) (none_opens past e q) ∙ append-nil (still_open past)
+
+none_newly : (s : Layout) (past : List Entry) (e : Entry) → IsLegal s (e ∷ past) → IsQuiet e.reply → newly_active s past e ≡ []
+none_newly s past e legal q = newly_active_are s past e legal q.widths
+    ∙ ap₂ (λ a b. filter (waits s past) (option_to_list (behind_width s past a)) ++ filter (has_way_at_once s past e) (option_to_list b)) (none_ends past e q) (none_opens past e q)
+
+-- what is left of the worklist is what doesn't start
+pub worklist_as_before : (s : Layout) (past : List Entry) (e : Entry) (p : PoolId) → IsLegal s (e ∷ past) → IsQuiet e.reply → worklist s (e ∷ past) p ≡ filter (λ x. not (starts x.number e)) (worklist s past p)
+worklist_as_before s past e p legal q = worklists_go_on s past e p legal
+    ∙ ap₂ (λ xs ys. xs ++ filter (is_in s p) ys) (filter_same (is_left past e) (λ x. not (starts x.number e)) (worklist s past p) (All_each _ (worklist s past p) (λ x. ap (λ b. b && not (starts x.number e)) (spares past e x q)))) (none_newly s past e legal q)
+    ∙ append-nil (filter (λ x. not (starts x.number e)) (worklist s past p))
+
+-- and the same wait
+pub waiting_as_before : (s : Layout) (past : List Entry) (e : Entry) → IsLegal s (e ∷ past) → IsQuiet e.reply → filter (waits s (e ∷ past)) (still_open (e ∷ past)) ≡ filter (waits s past) (still_open past)
+waiting_as_before s past e legal q =
+    filter_same (waits s (e ∷ past)) (waits s past) (still_open (e ∷ past)) (All_both (λ x. is_live (e ∷ past) x ≡ true) (λ x. is_newly_active s past e x ≡ false) _ (still_open (e ∷ past)) same (lives (e ∷ past)) (none_kept (is_newly_active s past e) (still_open (e ∷ past)) (sym (newly_of_open s past e) ∙ none_newly s past e legal q)))
+    ∙ ap (filter (waits s past)) (open_as_before s past e legal q)
+  where
+    lives : (h : List Entry) → AllByRecursion (λ x. is_live h x ≡ true) (still_open h)
+    lives h = passing (is_live h) (queueings h)
+      where
+        passing : (p : Queueing → Bool) (xs : List Queueing) → AllByRecursion (λ x. p x ≡ true) (filter p xs)
+        passing p xs = All_filter (λ x. p x ≡ true) p xs (All_each _ xs (λ x k. k))
+
+    same : (x : Queueing) → is_live (e ∷ past) x ≡ true → is_newly_active s past e x ≡ false → not (is_active s (e ∷ past) x) ≡ not (is_active s past x)
+    same x live new = at (is_active s past x) refl
+      where
+        at : (b : Bool) → is_active s past x ≡ b → not (is_active s (e ∷ past) x) ≡ not b
+        at true was = ap not (stays_active s past e x was live)
+        at false was = ap not (simple (is_active s (e ∷ past) x) (sym (ap (λ b. is_active s (e ∷ past) x && not b) was) ∙ new))
+          where
+            simple : (a : Bool) → (a && true) ≡ false → a ≡ false
+            simple true h = h
+            simple false h = refl
+
+-- ---- sleep
+
+fits_sleep : (s : Plan) (x : ℕ) → x < 8 → IsTrue (fits (layout_for s) (Worker (worker x)) call.Sleep)
+fits_sleep s x less = ap (λ b. (b && true) && true) (lt-ltb x 8 less)
+
+pub any-append : {X : Type 0} (p : X → Bool) (xs ys : List X) → list_any p (xs ++ ys) ≡ (list_any p xs || list_any p ys)
+any-append p [] ys = refl
+any-append p (x ∷ xs) ys = ap (λ b. p x || b) (any-append p xs ys) ∙ sorted (p x) (list_any p xs) (list_any p ys)
+  where
+    sorted : (a b c : Bool) → (a || (b || c)) ≡ ((a || b) || c)
+    sorted true b c = refl
+    sorted false b c = refl
+
+sleeps : IsQuiet reply.Slept
+sleeps = record { opens = refl; finishes = refl; cancels = refl; replaces = refl; widths = refl; stays = refl }
+
+either : {X : Type 0} (b : Bool) (x : X) → (if b then x else x) ≡ x
+either true x = refl
+either false x = refl
+
+pub same_runs : (s : Layout) (past : List Entry) (e : Entry) (w : WorkerId) → IsLegal s (e ∷ past) → ((o : Option ℕ) → run_after e.reply o ≡ o) → run (e ∷ past) w ≡ run past w
+same_runs s past e w legal h = workers_run_on s past e w legal ∙ ap (λ o. if is_by (Worker w) e then o else run past w) (h (run past w)) ∙ either (is_by (Worker w) e) (run past w)
+
+-- the worker of another item is another one
+pub other_seat : (past : List Entry) (seat : ℕ → ℕ) (i k : ℕ) (a b : Bool) → IsRunAt past (seat i) i a → IsRunAt past (seat k) k b → (k == i) ≡ false → seat i ≢ seat k
+other_seat past seat i k a b h g differs same =
+    let one : k ≡ i = same_Some k i (sym g.runs ∙ ap (λ x. run past (worker x)) (sym same) ∙ h.runs) in
+    let t : (k == i) ≡ true = eq-eqb k i one in
+    cc
+
+pub not_by : (e : Entry) (x y : ℕ) → e.who ≡ Worker (worker x) → x ≢ y → is_by (Worker (worker y)) e ≡ false
+not_by e x y who differs = ap (λ w. same_who w (Worker (worker y))) who ∙ ne_eqb x y differs
+
+-- a run of another item goes on as it is
+goes_on : (s : Layout) (past : List Entry) (e : Entry) (x y i : ℕ) (b : Bool) → IsLegal s (e ∷ past) → ((o : Option ℕ) → run_after e.reply o ≡ o) → e.who ≡ Worker (worker x) → x ≢ y → IsRunAt past y i b → IsRunAt (e ∷ past) y i b
+unfolding is_asleep
+goes_on s past e x y i b legal after who differs r = record {
+  runs = same_runs s past e (worker y) legal after ∙ r.runs;
+  sleeps = ap (λ c. if c then asleep_after e.reply (is_asleep past (worker y)) else is_asleep past (worker y)) (not_by e x y who differs) ∙ r.sleeps;
+}
+
+pub count-append : {X : Type 0} (p : X → Bool) (xs ys : List X) → count_by p (xs ++ ys) ≡ count_by p xs + count_by p ys
+count-append p [] ys = omega arith
+count-append p (x ∷ xs) ys =
+    let a = count_by-cons p x (xs ++ ys) in
+    let b = count_by-cons p x xs in
+    let c = count-append p xs ys in
+    omega arith
+
+-- an item stands once among those that run
+pub alone : (m : Moment) (j : Job) (rest : List Job) → m.cpu ≡ j ∷ rest → times m j.item ≤ 1 → (AllByRecursion (λ k. is_job j.item k ≡ false) rest) × (AllByRecursion (λ x. is_sleeper j.item x ≡ false) m.sleeping)
+alone m j rest is h =
+    let c : count_by (is_job j.item) m.cpu ≡ 1 + count_by (is_job j.item) rest = ap (count_by (is_job j.item)) is ∙ count_by-cons (is_job j.item) j rest ∙ ap (λ b. cond b 1 0 + count_by (is_job j.item) rest) (eq-eqb j.item j.item refl) in
+    (count_none (is_job j.item) rest (omega arith), count_none (is_sleeper j.item) m.sleeping (omega arith))
+
+abbrev pub asleep_with : Moment → Job → List Job → ℕ → List ℕ → Moment
+asleep_with m j rest until left = record m { cpu = rest; sleeping = m.sleeping ++ record { item = j.item; until = until; left = left } ∷ [] }
+
+pub sleep_shown : (s : Plan) (past : List Entry) (m : Moment) (seat : ℕ → ℕ) (j : Job) (rest : List Job) (until : ℕ) (left : List ℕ) → Shows s past m seat → m.cpu ≡ j ∷ rest
+    → Shows s (entry_for (layout_for s) past (Worker (worker (seat j.item))) call.Sleep ∷ past) (asleep_with m j rest until left) seat
+unfolding IsLegal queueings is_asleep
+sleep_shown s past m seat j rest until left h is = record {
+  legal = legal;
+  widths = ((λ q. width_same (layout_for s) past e q quiet.widths ∙ h.wide q), h.widths);
+  wide = λ q. width_same (layout_for s) past e q quiet.widths ∙ h.wide q;
+  kept = (quiet.stays, h.kept);
+  queued = ap (λ o. queueings past ++ option_to_list o) (none_opens past e quiet) ∙ append-nil (queueings past) ∙ h.queued;
+  ready = worklist_as_before (layout_for s) past e pool legal quiet ∙ all_kept (λ x. not (starts x.number e)) (worklist (layout_for s) past pool) (All_each _ (worklist (layout_for s) past pool) (λ x. ap (λ r. not (is_at (number_started r) x.number)) slept)) ∙ h.ready;
+  behind = waiting_as_before (layout_for s) past e legal quiet ∙ h.behind;
+  cpu = All_both (λ k. IsRunAt past (seat k.item) k.item false) (λ k. is_job j.item k ≡ false) _ rest (λ k r differs. other k.item false r differs) jobs.1 apart.0;
+  sleeping = All_append _ m.sleeping (record { item = j.item; until = until; left = left } ∷ [])
+      (All_both (λ x. IsRunAt past (seat x.item) x.item true) (λ x. is_sleeper j.item x ≡ false) _ m.sleeping (λ x r differs. other x.item true r differs) h.sleeping apart.1)
+      (record { runs = same_runs (layout_for s) past e (worker (seat j.item)) legal after ∙ jobs.0.runs; sleeps = ap₂ (λ c r. if c then asleep_after r (is_asleep past (worker (seat j.item))) else is_asleep past (worker (seat j.item))) (by_itself e (worker (seat j.item)) refl) slept }, tt);
+  no_others = λ w n runs. let k = h.no_others w n (sym (same_runs (layout_for s) past e w legal after) ∙ runs) in (k.0, moved n k.1);
+  once = λ i.
+      let o = h.once i in
+      let c = ap (count_by (is_job i)) is ∙ count_by-cons (is_job i) j rest in
+      let d = count-append (is_sleeper i) m.sleeping (record { item = j.item; until = until; left = left } ∷ []) ∙ ap (λ n. count_by (is_sleeper i) m.sleeping + n) (count_by-cons (is_sleeper i) (record { item = j.item; until = until; left = left }) []) in
+      omega arith;
+  few =
+      let f = h.few in
+      let c = ap length is in
+      let d = length-append m.sleeping (record { item = j.item; until = until; left = left } ∷ []) in
+      omega arith;
+}
+  where
+    e : Entry
+    e = entry_for (layout_for s) past (Worker (worker (seat j.item))) call.Sleep
+
+    jobs : AllByRecursion (λ k. IsRunAt past (seat k.item) k.item false) (j ∷ rest)
+    jobs = subst (AllByRecursion (λ k. IsRunAt past (seat k.item) k.item false)) is h.cpu
+
+    slept : answer (layout_for s) past (Worker (worker (seat j.item))) call.Sleep ≡ reply.Slept
+    slept = sleep_answered s past (seat j.item) j.item jobs.0
+
+    quiet : IsQuiet (answer (layout_for s) past (Worker (worker (seat j.item))) call.Sleep)
+    quiet = subst IsQuiet (sym slept) sleeps
+
+    legal : IsLegal (layout_for s) (e ∷ past)
+    legal = (fits_sleep s (seat j.item) (runner_there (layout_for s) past (worker (seat j.item)) j.item h.legal jobs.0.runs), refl, h.legal)
+
+    after : (o : Option ℕ) → run_after (answer (layout_for s) past (Worker (worker (seat j.item))) call.Sleep) o ≡ o
+    after o = ap (λ r. run_after r o) slept
+
+    apart : (AllByRecursion (λ k. is_job j.item k ≡ false) rest) × (AllByRecursion (λ x. is_sleeper j.item x ≡ false) m.sleeping)
+    apart = alone m j rest is (h.once j.item)
+
+    other : (i : ℕ) (b : Bool) → IsRunAt past (seat i) i b → (i == j.item) ≡ false → IsRunAt (e ∷ past) (seat i) i b
+    other i b r differs = goes_on (layout_for s) past e (seat j.item) (seat i) i b legal after refl (other_seat past seat j.item i false b jobs.0 r differs) r
+
+    moved : (n : ℕ) → runs_in m n ≡ true → runs_in (asleep_with m j rest until left) n ≡ true
+    moved n k = arrange (is_job n j) (list_any (is_job n) rest) (list_any (is_sleeper n) m.sleeping) _ (sym (ap (λ js. list_any (is_job n) js || list_any (is_sleeper n) m.sleeping) is) ∙ k) (any-append (is_sleeper n) m.sleeping (record { item = j.item; until = until; left = left } ∷ []))
+      where
+        arrange : (a b c d : Bool) → ((a || b) || c) ≡ true → d ≡ (c || (a || false)) → (b || d) ≡ true
+        arrange true true c d h k = refl
+        arrange true false true d h k = k
+        arrange true false false d h k = k
+        arrange false true c d h k = refl
+        arrange false false true d h k = k
+        arrange false false false d h k = cc

@@ -1,0 +1,90 @@
+-- What a history shows of a moment: the same items wait, are on the CPU's list and sleep, each of those in a worker of its own.
+use Rattle.std.specs.Prelude.{◌≡◌, ℕ, ◌+◌, ◌≤◌, Bool, true, false, ◌||◌, ◌==◌, if◌then◌else◌, List, [], ◌∷◌, length, map, filter, count_by, Option, Some, None}
+use Rattle.std.specs.List.{AllByRecursion, list_any}
+use Rattle.cmwq_model.specs.declared.id.PoolId.{PoolId}
+use Rattle.cmwq_model.specs.declared.id.WorkerId.{WorkerId}
+use Rattle.cmwq_model.specs.declared.entry.Entry.{Entry}
+use Rattle.cmwq_model.specs.declared.record.Queueing.{Queueing}
+use Rattle.cmwq_model.specs.declared.shape.QueueShape.{QueueShape}
+use Rattle.cmwq_model.specs.Layout.{Layout, first_width}
+use Rattle.cmwq_model.specs.Runs.{run, is_asleep}
+use Rattle.cmwq_model.specs.Queueings.{queueings, still_open}
+use Rattle.cmwq_model.specs.Active.{worklist}
+use Rattle.cmwq_model.specs.Widths.{width}
+use Rattle.cmwq_model.specs.Workers.{worker_at, is_retired}
+use Rattle.cmwq_model.specs.Legal.{IsLegal}
+use Rattle.cmwq_steps.specs.Activations.{waits}
+use Rattle.cmwq_laws.specs.FirstWidths.{HasFirstWidths}
+use Rattle.cmwq_sim.specs.declared.scenario.SimQueue.{SimQueue}
+use Rattle.cmwq_sim.specs.Plan.{Plan, Event, queue_of}
+use Rattle.cmwq_sim.specs.Lines.{Moment, Job, Sleeper, items_of, is_held_by}
+
+-- one CPU, a pool of eight workers, room for 1,000 entries
+abbrev pub queue_shape : SimQueue → QueueShape
+queue_shape q = record { max_active = q.max_active; high = false; intensive = q.intensive; freezable = false }
+
+abbrev pub layout_for : Plan → Layout
+layout_for s = record { cpus = 1; workers = 8; callers = 1; items = 8; room = 1000; queues = map queue_shape s.queues }
+
+abbrev pub pool : PoolId
+pool = record { cpu = record { 0 = 0 }; high = false }
+
+abbrev pub worker : ℕ → WorkerId
+worker x = worker_at pool x
+
+-- items are queued one after the other at first, so the number of each is its own
+abbrev pub queueing_for : Plan → ℕ → Queueing
+queueing_for s i = record { item = record { 0 = i }; place = record { queue = record { 0 = queue_of s i }; cpu = record { 0 = 0 } }; number = i }
+
+-- the worker with this index runs the item, and that sleeps or not
+pub record IsRunAt (past : List Entry) (x i : ℕ) (asleep : Bool) : Type 0 where
+  pub runs : run past (worker x) ≡ Some i
+  pub sleeps : is_asleep past (worker x) ≡ asleep
+
+abbrev pub is_job : ℕ → Job → Bool
+is_job i j = j.item == i
+
+abbrev pub is_sleeper : ℕ → Sleeper → Bool
+is_sleeper i x = x.item == i
+
+abbrev pub runs_in : Moment → ℕ → Bool
+runs_in m i = list_any (is_job i) m.cpu || list_any (is_sleeper i) m.sleeping
+
+abbrev pub times : Moment → ℕ → ℕ
+times m i = count_by (λ j. j == i) m.ready + count_by (λ j. j == i) m.behind + count_by (is_job i) m.cpu + count_by (is_sleeper i) m.sleeping
+
+-- seat gives the worker of each item
+pub record Shows (s : Plan) (past : List Entry) (m : Moment) (seat : ℕ → ℕ) : Type 0 where
+  pub legal : IsLegal (layout_for s) past
+  pub kept : AllByRecursion (λ e. is_retired e.reply ≡ false) past
+  pub queued : queueings past ≡ map (queueing_for s) (items_of s)
+  pub ready : worklist (layout_for s) past pool ≡ map (queueing_for s) m.ready
+  pub behind : filter (waits (layout_for s) past) (still_open past) ≡ map (queueing_for s) m.behind
+  pub cpu : AllByRecursion (λ j. IsRunAt past (seat j.item) j.item false) m.cpu
+  pub sleeping : AllByRecursion (λ x. IsRunAt past (seat x.item) x.item true) m.sleeping
+  pub no_others : (w : WorkerId) (n : ℕ) → run past w ≡ Some n → (w ≡ worker (seat n)) × (runs_in m n ≡ true)
+  pub once : (i : ℕ) → times m i ≤ 1
+  pub widths : HasFirstWidths (layout_for s) past
+  pub wide : (q : ℕ) → width (layout_for s) past q ≡ first_width (layout_for s) q
+  pub few : length m.ready + length m.behind + length m.cpu + length m.sleeping ≤ 8
+
+-- what may start next
+abbrev pub next_of : List ℕ → Option ℕ
+next_of [] = None
+next_of (i ∷ ready) = Some i
+
+abbrev pub to_start : Plan → Moment → Option ℕ
+to_start s m = if list_any (is_held_by s) m.cpu then None else next_of m.ready
+
+-- What waits is determined by the history: the moment at which these are on the CPU's list and asleep, and these lines have been told.
+abbrev pub number_of : Queueing → ℕ
+number_of x = x.number
+
+abbrev pub moment_of : Plan → List Entry → List Job → List Sleeper → List Event → Moment
+moment_of s past cpu sleeping lines = record {
+  ready = map number_of (worklist (layout_for s) past pool);
+  behind = map number_of (filter (waits (layout_for s) past) (still_open past));
+  cpu = cpu;
+  sleeping = sleeping;
+  lines = lines;
+}

@@ -1,0 +1,20 @@
+-- Which worker's take would start an item.
+use Rattle.std.specs.Prelude.{◌≡◌, ℕ, ◌<◌, List, Option, Some, None}
+use Rattle.cmwq_model.specs.declared.entry.Entry.{Entry}
+use Rattle.cmwq_model.specs.declared.id.Who.TheVariants.{Worker}
+use Rattle.cmwq_model.specs.declared.call.Call.TheVariants as call
+use Rattle.cmwq_model.specs.Layout.{Layout}
+use Rattle.cmwq_model.specs.Fate.{number_started}
+use Rattle.cmwq_model.specs.Answer.{answer}
+use Rattle.cmwq_sim.specs.Shows.{worker}
+
+-- what a take of the worker with this index would start
+abbrev pub taken_by : Layout → List Entry → ℕ → Option ℕ
+taken_by s past x = number_started (answer s past (Worker (worker x)) call.Take)
+
+pub record IsTaker (s : Layout) (past : List Entry) (x n : ℕ) : Type 0 where
+  pub below : x < 8
+  pub starts : taken_by s past x ≡ Some n
+
+abbrev pub NoTaker : Layout → List Entry → ℕ → Type 0
+NoTaker s past n = (x : ℕ) → x < n → taken_by s past x ≡ None

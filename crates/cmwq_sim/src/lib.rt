@@ -1,0 +1,17 @@
+//! Scenarios: what a few items on one CPU do, millisecond by millisecond.
+#![tactic(auto)]
+
+mod laws;
+mod scenario;
+mod tables;
+mod text;
+
+pub use laws::{all_items_end, each_ends_once};
+pub use scenario::{Line, LineKind, Scenario, SimItem, SimQueue};
+pub use tables::{
+    tables_with_intensive, tables_with_one_active, tables_with_three_active, tables_with_two_active,
+};
+pub use text::spell_lines;
+
+#[cfg(test)]
+mod tests;

@@ -1,0 +1,170 @@
+//! The book beside the plain program: whatever calls come, and in whatever room, both say the same.
+
+ghost use Rattle.std.specs.Prelude.{◌≡◌};
+
+use crate::generator::{Generator, shape};
+use cmwq_base::{Memory, read_calls};
+use cmwq_core::{Book, Full};
+use cmwq_look::{Past, is_pending, item_runs};
+use cmwq_model::{Call, Counts, Entry, ItemId, Mark, Number, Reply, Shape, Who};
+use cmwq_plain::{has_room, reply_of, serial_of};
+use cmwq_text::entry_line;
+use std::process::Abort;
+use std::test::Fail;
+
+/// How many histories are generated, and how many calls each has.
+const HISTORIES: u64 = 12;
+
+const CALLS: u32 = 120;
+
+/// The room of a generated history, which doesn't take all of its calls.
+const ROOM: u32 = 110;
+
+/// A book, and the list that the plain program makes of the same calls in the same room.
+#[derive(Drop)]
+struct Pair {
+    shape: Shape,
+    book: Book,
+    /// The shape with the book's room in place of its own.
+    plain: Shape,
+    entries: Vec<Entry>,
+    ghost fitting: { book.layout ≡ shape },
+}
+
+fn is_same(one: &Entry, other: &Entry) -> bool {
+    entry_line(one).as_bytes() == entry_line(other).as_bytes()
+}
+
+/// The bits of an item, read off a list.
+fn bits_of(rt: &impl Abort, entries: &[Entry], item: ItemId) -> u8 {
+    assert!(rt; entries.len() <= 1_000_000);
+    let past = Past::new(entries);
+    u8::from(is_pending(&past, item.0)) + 2 * u8::from(item_runs(&past, item.0))
+}
+
+impl Pair {
+    fn new(rt: &(impl Abort + AllocGlobal), shape: Shape, room: u32) -> Result<Pair, Fail> {
+        assert!(rt; room <= 1_000_000);
+        let alloc = rt.alloc();
+        let counts = Counts {
+            room,
+            ..shape.counts()
+        };
+        let queues = shape.queues().to_vec(alloc)?;
+        let plain = Shape::new(counts, queues).ok_or("no shape")?;
+        let book = Book::new(alloc, &shape, room)?;
+        Ok(Pair {
+            shape,
+            book,
+            plain,
+            entries: Vec::new(alloc),
+        })
+    }
+
+    /// The entry that the plain program gives the call, if there is room for it.
+    fn plain_entry(&self, rt: &impl Abort, who: Who, call: Call) -> Option<Entry> {
+        assert!(rt; self.entries.len() <= 1_000_000);
+        if !has_room(&self.plain, &self.entries, who, call) {
+            return None;
+        }
+        Some(Entry {
+            who,
+            serial: serial_of(&self.entries, who),
+            call,
+            reply: reply_of(&self.plain, &self.entries, who, call),
+        })
+    }
+
+    /// What the book says before an entry: its serial, and whether a wait that ends is over.
+    fn foresees(&self, entry: &Entry) -> bool {
+        let ready = match (entry.call, entry.reply) {
+            (Call::End { ticket }, Reply::Done) => self.book.ready(ticket),
+            (Call::End { ticket }, Reply::Waiting(_)) => !self.book.ready(ticket),
+            _ => true,
+        };
+        ready && self.book.serial(entry.who) == entry.serial
+    }
+
+    /// After an entry each item has the bits that its mark promised: the named item those of the mark, the others their old ones.
+    fn compare_bits(&self, rt: &impl Abort, mark: &Mark) {
+        let older = match self.entries.split_last() {
+            Some((_, older)) => older,
+            None => &[],
+        };
+        for item in 0..self.shape.counts().items {
+            let item = ItemId(item);
+            let promised = if mark.item == Some(item) {
+                mark.bits
+            } else {
+                bits_of(rt, older, item)
+            };
+            assert_eq!(rt; bits_of(rt, &self.entries, item), promised);
+            assert_eq!(rt; self.book.bits(item), promised);
+        }
+    }
+
+    /// Makes the call on both. Answers its entry, or nothing where both refuse it for want of room.
+    fn step(&mut self, rt: &impl Abort, who: Who, call: Call) -> Result<Option<Entry>, Fail> {
+        assert!(rt; self.shape.fits(who, call));
+        let wanted = self.plain_entry(rt, who, call);
+        let would = self.book.would(who, call);
+        if let Some(entry) = wanted {
+            assert!(rt; self.foresees(&entry), "{entry:?}");
+        }
+        match (self.book.step(who, call), would, wanted) {
+            (Ok(reply), Ok(mark), Some(entry)) => {
+                assert!(rt; is_same(&Entry { reply, ..entry }, &entry), "{entry:?}");
+                assert!(rt; is_same(&mark.entry, &entry), "{entry:?}");
+                self.entries.push(entry)?;
+                self.compare_bits(rt, &mark);
+            }
+            (Err(Full), Err(Full), None) => {}
+            _ => assert!(rt; false, "{who:?} {call:?}: only one of them is full"),
+        }
+        Ok(wanted)
+    }
+
+    fn compare_histories(&self, rt: &impl Abort) {
+        let history = self.book.history();
+        assert_eq!(rt; history.len(), self.entries.len());
+        for (entry, wanted) in history.iter().zip(&self.entries) {
+            assert!(rt; is_same(entry, wanted), "{wanted:?}");
+        }
+    }
+}
+
+/// Makes these calls in every room from none to more than they need.
+pub(crate) fn agrees_in_every_room(
+    rt: &(impl Abort + AllocGlobal),
+    calls: &[u8],
+) -> Result<(), Fail> {
+    let file = read_calls(rt.alloc(), &mut Memory::reader(calls))?;
+    for room in 0..=file.calls.len() as u32 + 10 {
+        let mut pair = Pair::new(rt, file.shape.copy(rt.alloc())?, room)?;
+        for &(who, call) in &file.calls {
+            pair.step(rt, who, call)?;
+        }
+        pair.compare_histories(rt);
+    }
+    Ok(())
+}
+
+#[test]
+fn the_book_answers_as_the_plain_program(rt: HostRuntime) -> Result<(), Fail> {
+    for seed in 0..HISTORIES {
+        let shape = shape(rt.alloc())?.ok_or("no shape")?;
+        let mut pair = Pair::new(&rt, shape, ROOM)?;
+        let mut generator = Generator::new(rt.alloc(), seed);
+        for _ in 0..CALLS {
+            assert!(rt; pair.entries.len() <= 1_000_000);
+            let number = pair.entries.len() as Number;
+            let (who, call) = generator.who_calls();
+            if let Some(entry) = pair.step(&rt, who, call)? {
+                generator.keep(&entry, number)?;
+            }
+        }
+        assert!(rt; pair.entries.len() < CALLS as usize);
+        pair.compare_histories(&rt);
+    }
+    Ok(())
+}
