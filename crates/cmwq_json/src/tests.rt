@@ -1,4 +1,5 @@
 use super::*;
+use cmwq_sim::{replay, spell_lines};
 use serde_json::Value;
 use std::test::Fail;
 
@@ -163,5 +164,46 @@ fn the_ninth_is_one_too_many(rt: HostRuntime) -> Result<(), Fail> {
             if count < 9 { None } else { item(8) }
         );
     }
+    Ok(())
+}
+
+// The table of a text's scenario.
+fn table(rt: &HostRuntime, text: &str) -> Result<String, Fail> {
+    let value = Value::from_str(rt.alloc(), text)?;
+    match read_scenario(rt.alloc(), &value)? {
+        Ok(script) => {
+            let lines = replay(rt.alloc(), &script.scenario)?;
+            let names = script.names.as_slice();
+            Ok(spell_lines(rt.alloc(), names, lines.as_slice())?)
+        }
+        Err(_refused) => Ok(String::from_str(rt.alloc(), "refused")?),
+    }
+}
+
+#[test]
+fn the_next_starts_while_one_sleeps(rt: HostRuntime) -> Result<(), Fail> {
+    let text = table(
+        &rt,
+        r#"{"queues":[{"name":"q0","max_active":2,"intensive":false}],
+        "items":[{"name":"w0","queue":"q0","ms":[5,10,5]},{"name":"w1","queue":"q0","ms":[5,10]},{"name":"w2","queue":"q0","ms":[5,10]}]}"#,
+    )?;
+    assert_eq!(rt;
+        text.as_str(),
+        "TIME IN MSECS\tEVENT\n0\tw0 starts and burns CPU\n5\tw0 sleeps\n5\tw1 starts and burns CPU\n10\tw1 sleeps\n15\tw0 wakes up and burns CPU\n20\tw0 finishes\n20\tw1 wakes up and finishes\n20\tw2 starts and burns CPU\n25\tw2 sleeps\n35\tw2 wakes up and finishes\n"
+    );
+    Ok(())
+}
+
+#[test]
+fn items_of_an_intensive_queue_start_beside_each_other(rt: HostRuntime) -> Result<(), Fail> {
+    let text = table(
+        &rt,
+        r#"{"queues":[{"name":"q0","max_active":3,"intensive":false},{"name":"q1","max_active":3,"intensive":true}],
+        "items":[{"name":"w0","queue":"q0","ms":[5,10,5]},{"name":"w1","queue":"q1","ms":[5,10]},{"name":"w2","queue":"q1","ms":[5,10]}]}"#,
+    )?;
+    assert_eq!(rt;
+        text.as_str(),
+        "TIME IN MSECS\tEVENT\n0\tw0 starts and burns CPU\n5\tw0 sleeps\n5\tw1 and w2 start and burn CPU\n10\tw1 sleeps\n15\tw2 sleeps\n15\tw0 wakes up and burns CPU\n20\tw0 finishes\n20\tw1 wakes up and finishes\n25\tw2 wakes up and finishes\n"
+    );
     Ok(())
 }

@@ -14,3 +14,6 @@ pub mod RoomKept
 pub mod Progress
 pub mod Outset
 pub mod Once
+pub mod Within
+pub mod Courses
+pub mod Sleepers

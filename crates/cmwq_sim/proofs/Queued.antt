@@ -1,6 +1,6 @@
 -- Items are queued one after the other, before any worker is asked.
 use Rattle.std.proofs.Common.{◌≡◌, ◌==◌, ◌<◌, ◌≤◌, ◌+◌, ℕ, zero, suc, Bool, true, false, cond, not, ◌&&◌, ◌||◌, List, [], ◌∷◌, ◌++◌, length, map, filter, count_by, Some, None, nat_lt, refl, sym, ap, ap₂, ◌∙◌, subst, arith, option_to_list, append-nil, length-append}
-use Rattle.std.specs.Prelude.{if◌then◌else◌, option_and_then, is_some}
+use Rattle.std.specs.Prelude.{if◌then◌else◌, slice_index_or, option_and_then, is_some}
 use Rattle.std.specs.Option.{option_map_or}
 use Rattle.std.specs.List.{AllByRecursion, list_any, range_with_len}
 use Rattle.std.proofs.lemmas.List.{map-append, length-map}
@@ -18,15 +18,15 @@ use Rattle.cmwq_model.specs.declared.entry.Entry.{Entry}
 use Rattle.cmwq_model.specs.declared.record.Queueing.{Queueing}
 use Rattle.cmwq_model.specs.declared.record.Start.{Start}
 use Rattle.cmwq_model.specs.declared.shape.QueueShape.{QueueShape}
-use Rattle.cmwq_model.specs.Layout.{first_width}
+use Rattle.cmwq_model.specs.Layout.{first_width, no_queue as no_shape}
 use Rattle.cmwq_model.specs.Calls.{is_at, is_by, is_of_item, worker_of, item_at}
 use Rattle.cmwq_model.specs.Fate.{number_started, number_finished, number_cancelled, replaces, is_started, is_finished, is_cancelled, is_open}
 use Rattle.cmwq_model.specs.Bookings.{booking, due_in, settles}
 use Rattle.cmwq_model.specs.Runs.{last_start, run, start_in, item_start, item_run}
 use Rattle.cmwq_model.specs.Tickets.{gives_ticket, ticket_for, ends_destroy, tickets, is_unended, is_cancelling, is_done, is_gone, is_cancel_sync_of, is_drain_of}
 use Rattle.cmwq_model.specs.Queueings.{queue_of as queue_run, opens, opening, queueings, is_live, still_open, is_unstarted, unstarted, is_pending, runs_elsewhere, cpu_for}
-use Rattle.cmwq_model.specs.Widths.{width}
-use Rattle.cmwq_model.specs.Active.{is_active, is_newly_active, newly_active, worklist}
+use Rattle.cmwq_model.specs.Widths.{width, is_frozen, max_active as width_kept}
+use Rattle.cmwq_model.specs.Active.{is_active, is_newly_active, newly_active, activated, worklist}
 use Rattle.cmwq_model.specs.Workers.{is_retired}
 use Rattle.cmwq_model.specs.Answer.{queue_answer, answer, is_shut}
 use Rattle.cmwq_model.specs.Legal.{IsLegal, entry_for}
@@ -43,8 +43,9 @@ use Rattle.cmwq_active.proofs.Widths.{width_same}
 use Rattle.cmwq_steps.proofs.Promoted.{newly_of_open}
 use Rattle.std.proofs.lemmas.List.FromFn.{length-range_with_len}
 use Rattle.cmwq_steps.proofs.WorklistSteps.{worklists_go_on}
+use Rattle.cmwq_sim.specs.declared.scenario.SimQueue.{SimQueue}
 use Rattle.cmwq_sim.specs.Plan.{Plan, queue_of, is_of, max_active, no_queue}
-use Rattle.cmwq_sim.specs.Lines.{Moment, Job, Sleeper, queue_item}
+use Rattle.cmwq_sim.specs.Lines.{Moment, Job, Sleeper, queue_item, empty}
 use Rattle.cmwq_sim.specs.Shows.{layout_for, queue_shape, pool, queueing_for, is_job, is_sleeper, IsRunAt, Shows}
 use Rattle.cmwq_sim.proofs.Steps.{all_kept, none_kept, count-append}
 use Rattle.cmwq_sim.proofs.FinishShown.{in_pool}
@@ -165,7 +166,7 @@ queue_call s i = call.Queue (record { 0 = i }) (record { 0 = queue_of s i }) (re
 abbrev pub caller : Who
 caller = Caller (record { 0 = 0 })
 
-range_more : (a k : ℕ) → range_with_len a (suc k) ≡ range_with_len a k ++ (a + k) ∷ []
+pub range_more : (a k : ℕ) → range_with_len a (suc k) ≡ range_with_len a k ++ (a + k) ∷ []
 range_more a zero = ap (λ n. n ∷ []) (omega arith)
 range_more a (suc k) = ap (λ xs. a ∷ xs) (range_more (a + 1) k ∙ ap (λ n. range_with_len (a + 1) k ++ n ∷ []) (omega arith))
 
@@ -405,7 +406,28 @@ module _ (s : Plan) (k : ℕ) (past : List Entry) (m : Moment) (h : ShowsQueued 
         wide = still_wide;
       }
 
--- ---- when all are queued
+-- ---- before the first, and when all are queued
+
+never_freezable : (qs : List SimQueue) (q : ℕ) → (slice_index_or (map queue_shape qs) q no_shape).freezable ≡ false
+never_freezable [] q = refl
+never_freezable (x ∷ qs) zero = refl
+never_freezable (x ∷ qs) (suc q) = never_freezable qs q
+
+pub nothing_shown : (s : Plan) → ShowsQueued s 0 [] empty
+unfolding IsLegal queueings worklist activated width width_kept is_frozen
+nothing_shown s = record {
+  legal = tt;
+  all = tt;
+  many = refl;
+  queued = refl;
+  ready = refl;
+  behind = refl;
+  cpu = refl;
+  sleeping = refl;
+  counts = λ p. refl;
+  widths = tt;
+  wide = λ q. ap (λ b. if b && false then 0 else first_width (layout_for s) q) (never_freezable s.queues q);
+}
 
 none_retired : (past : List Entry) → AllByRecursion IsQueued past → AllByRecursion (λ e. is_retired e.reply ≡ false) past
 none_retired [] all = tt

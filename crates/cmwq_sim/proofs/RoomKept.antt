@@ -19,22 +19,19 @@ use Rattle.cmwq_steps.specs.RoomSteps.{is_promised}
 use Rattle.cmwq_steps.proofs.Promised.{promised_need_no_more}
 use Rattle.cmwq_sim.specs.Plan.{Plan, queue_of, ms_of}
 use Rattle.cmwq_sim.specs.Limits.{IsWithinLimits}
+use Rattle.cmwq_sim.specs.Rooms.{parts_at, parts_of_job, parts_left, IsRoomy}
 use Rattle.cmwq_sim.specs.Lines.{Moment, Job, Sleeper, serve, is_due, wake_item, job_of, queue_item}
 use Rattle.cmwq_sim.specs.Shows.{layout_for, worker, IsRunAt, is_job, Shows}
 use Rattle.cmwq_sim.specs.Takers.{IsTaker}
 use Rattle.cmwq_sim.proofs.TakeReads.{sleep_answered, finish_answered, wake_answered}
-use Rattle.cmwq_sim.proofs.TakeShown.{started_with}
+use Rattle.cmwq_sim.proofs.TakeShown.{started_with, take_shown}
 use Rattle.cmwq_sim.proofs.WakeShown.{sleeper_run, wake_shown}
 use Rattle.cmwq_sim.proofs.FinishShown.{job_run}
 use Rattle.cmwq_sim.proofs.Steps.{any-append}
 use Rattle.cmwq_sim.proofs.TakersAre.{taker_starts}
 use Rattle.cmwq_sim.proofs.Phases.{serve_sleeps, serve_ends, wake_burns, wake_ends, asleep_there, taken, may_start, takes_on, take_goes}
 use Rattle.cmwq_sim.proofs.Queued.{ShowsQueued, queue_call, caller, queue_shown, answered}
-use Rattle.cmwq_sim.proofs.Roomy.{needs_two, needs_three, parts_at, parts_of_job, parts_left, sleep_takes_one, end_takes_none, wake_takes_none, start_parts, queued_parts}
-
--- with what the parts that are left may still need, eight items of eight parts need no more than this
-abbrev pub IsRoomy : Plan → List Entry → Moment → Type 0
-IsRoomy s past m = needed (layout_for s) past + 2 * parts_left s m ≤ 152
+use Rattle.cmwq_sim.proofs.Roomy.{needs_two, needs_three, sleep_takes_one, end_takes_none, wake_takes_none, start_parts, queued_parts}
 
 -- so there is room for what would be appended
 pub has_room_then : (s : Plan) (past : List Entry) (who : Who) (c : Call) (m : Moment) → IsRoomy s (entry_for (layout_for s) past who c ∷ past) m → has_room (layout_for s) 1000 past who c ≡ true
@@ -67,6 +64,11 @@ module _ (s : Plan) (t i : ℕ) (past : List Entry) (m : Moment) (seat : ℕ →
   wake_burns_roomy b left parts =
       let a = promised_need_no_more (layout_for s) past (entry_for (layout_for s) past (Worker (worker (seat i))) call.Wake) (wake_burns s t i past m seat x h due b left parts).legal woke in
       let c = wake_takes_none s t i m in
+      omega arith
+
+  pub wake_roomy : IsRoomy s (entry_for (layout_for s) past (Worker (worker (seat i))) call.Wake ∷ past) m
+  wake_roomy =
+      let a = promised_need_no_more (layout_for s) past (entry_for (layout_for s) past (Worker (worker (seat i))) call.Wake) (wake_shown s past m seat i 0 [] h (asleep_there t i m x due)).legal woke in
       omega arith
 
   -- awake, and with nothing left
@@ -111,6 +113,15 @@ take_roomy s past m seat is x n h roomy t =
     let may = may_start s (taken s m is) n k.1 in
     let a = promised_need_no_more (layout_for s) past (entry_for (layout_for s) past (Worker (worker x)) call.Take) (take_goes s past m seat is x n h t).legal (started_promised _ n t.starts) in
     let b : parts_left s (taken s m (is ++ n ∷ [])) ≤ parts_left s (taken s m is) = subst (λ m2. parts_left s m2 ≤ parts_left s (taken s m is)) (takes_on s m is n) (start_takes_none s (taken s m is) n (drop 1 (taken s m is).ready) may.first) in
+    omega arith
+
+pub start_roomy : (s : Plan) (past : List Entry) (m : Moment) (seat : ℕ → ℕ) (x n : ℕ) → Shows s past m seat → IsRoomy s past m → IsTaker (layout_for s) past x n
+    → IsRoomy s (entry_for (layout_for s) past (Worker (worker x)) call.Take ∷ past) (started_with s m n (drop 1 m.ready))
+start_roomy s past m seat x n h roomy t =
+    let k = taker_starts s past m seat x n h t in
+    let may = may_start s m n k.1 in
+    let a = promised_need_no_more (layout_for s) past (entry_for (layout_for s) past (Worker (worker x)) call.Take) (take_shown s past m seat x n (drop 1 m.ready) h t.below k.0 may.first may.clear).legal (started_promised _ n t.starts) in
+    let b = start_takes_none s m n (drop 1 m.ready) may.first in
     omega arith
 
 -- ---- queueing: three entries for it, and two for each of eight parts

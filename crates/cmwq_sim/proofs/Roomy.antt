@@ -23,6 +23,7 @@ use Rattle.cmwq_steps.proofs.OwedSteps.{runs_counted, sleepers_counted}
 use Rattle.cmwq_steps.proofs.OwedWaiting.{waiting_counted}
 use Rattle.cmwq_sim.specs.declared.scenario.LineKind.TheVariants as kind
 use Rattle.cmwq_sim.specs.Plan.{Plan, queue_of, ms_of, is_of, max_active, no_item}
+use Rattle.cmwq_sim.specs.Rooms.{parts_at, parts_of_job, parts_of_sleeper, parts_left}
 use Rattle.cmwq_sim.specs.Lines.{queue_item, Moment, Job, Sleeper, is_other, make_ready, end, after_burn, after_sleep, serve, is_due, is_not, wake_sleeper, wake_item, tell, job_with, job_of}
 use Rattle.cmwq_sim.specs.Shows.{layout_for}
 use Rattle.cmwq_sim.specs.Limits.{IsItem, IsWithinLimits}
@@ -76,18 +77,6 @@ unfolding owed queueings last_start is_asleep booking tickets is_frozen
 needs_nothing_at_first s = refl
 
 -- ---- how many parts are left: each sleep takes one
-
-abbrev pub parts_at : Plan → ℕ → ℕ
-parts_at s i = length (ms_of s i)
-
-abbrev pub parts_of_job : Job → ℕ
-parts_of_job j = length j.left
-
-abbrev pub parts_of_sleeper : Sleeper → ℕ
-parts_of_sleeper x = length x.left
-
-abbrev pub parts_left : Plan → Moment → ℕ
-parts_left s m = sum_by (parts_at s) m.ready + sum_by (parts_at s) m.behind + sum_by parts_of_job m.cpu + sum_by parts_of_sleeper m.sleeping
 
 end_parts : (s : Plan) (i : ℕ) (m : Moment) → parts_left s (end s i m) ≤ parts_left s m
 end_parts s i m = at (find (is_of s (queue_of s i)) m.behind) refl

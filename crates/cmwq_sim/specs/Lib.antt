@@ -4,5 +4,7 @@ pub mod Limits
 pub mod Lines
 pub mod Tables
 pub mod Shows
+pub mod Rooms
+pub mod Standing
 pub mod Takers
 pub mod Text

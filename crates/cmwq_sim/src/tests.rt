@@ -36,3 +36,10 @@ fn no_lines(rt: HostRuntime) -> Result<(), Fail> {
     assert_eq!(rt; text.as_str(), "TIME IN MSECS\tEVENT\n");
     Ok(())
 }
+
+fn item(rt: &HostRuntime, queue: u8, ms: &[u16]) -> Result<SimItem, Fail> {
+    Ok(SimItem {
+        queue,
+        ms: ms.to_vec(rt.alloc())?,
+    })
+}

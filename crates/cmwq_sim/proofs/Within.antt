@@ -1,0 +1,35 @@
+-- The limits of a plan, at the scenario that it is of.
+use Rattle.std.proofs.Common.{◌≡◌, ◌<◌, ◌≤◌, ℕ, zero, suc, List, [], ◌∷◌, length, map, get_or, arith, refl, ap₂, ◌&&◌, true}
+use Rattle.std.specs.List.{list_all}
+use Rattle.std.proofs.lemmas.Bool.{le-leb}
+use Rattle.cmwq_model.specs.Layout.{is_between, is_queue, are_queues}
+use Rattle.cmwq_sim.specs.declared.scenario.SimQueue.{SimQueue}
+use Rattle.cmwq_sim.specs.Shows.{queue_shape}
+use Rattle.std.specs.List.{AllByRecursion}
+use Rattle.std.proofs.lemmas.List.{length-map}
+use Rattle.cmwq_sim.specs.declared.scenario.SimItem.{SimItem}
+use Rattle.cmwq_sim.specs.declared.scenario.Scenario.{Scenario}
+use Rattle.cmwq_sim.specs.Plan.{Plan, item_of, plan_of}
+use Rattle.cmwq_sim.specs.Limits.{IsBetween, IsQueue, IsItem, IsWithinLimits}
+
+pub each_item : (n : ℕ) (xs : List SimItem) (i : ℕ) (d : SimItem) → AllByRecursion (IsItem n) (map item_of xs) → i < length xs → IsItem n (item_of (get_or xs i d))
+each_item n [] i d all less = absurd (omega arith)
+each_item n (x ∷ xs) zero d all less = all.0
+each_item n (x ∷ xs) (suc i) d all less = each_item n xs i d all.1 (omega arith)
+
+pub few_items : (s : Scenario) → IsWithinLimits (plan_of s) → length s.items.items ≤ 8
+few_items s h = let k = h.few_items in let e = length-map s.items.items item_of in omega arith
+
+between : (low high n : ℕ) → IsBetween low high n → is_between low high n ≡ true
+between low high n h = ap₂ (λ a b. a && b) (le-leb low n h.0) (le-leb n high h.1)
+
+-- a plan's queues make a shape
+are_queues_fine : (qs : List SimQueue) → AllByRecursion IsQueue qs → list_all is_queue (map queue_shape qs) ≡ true
+are_queues_fine [] all = refl
+are_queues_fine (q ∷ qs) all = ap₂ (λ a b. a && b) (between 1 512 q.max_active all.0) (are_queues_fine qs all.1)
+
+pub makes_a_shape : (s : Plan) → IsWithinLimits s → are_queues (map queue_shape s.queues) ≡ true
+makes_a_shape s h =
+    let few = h.few_queues in
+    let same = length-map s.queues queue_shape in
+    ap₂ (λ a b. a && b) (between 1 64 (length (map queue_shape s.queues)) (omega arith, omega arith)) (are_queues_fine s.queues h.queues)

@@ -1,0 +1,6 @@
+use Rattle.std.proofs.Common.{◌≡◌, ◌≤◌, ◌*◌, take}
+use Rattle.std.specs.Prelude.{sum}
+use Rattle.cmwq_sim.proofs.times.time_of.Given as goal
+
+abbrev pub invariant-loop-part : goal.invariant-loop-part
+invariant-loop-part l = (l.time ≡ sum (take l.part-index l.ms)) × (l.time ≤ 1000 * l.part-index)
