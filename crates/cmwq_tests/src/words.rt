@@ -175,7 +175,10 @@ fn an_entry_that_is_left_out_is_found_behind_it(rt: HostRuntime) -> Result<(), F
             Ok(()) => assert_eq!(rt; verdict.status, 0),
             Err(illegal) => {
                 assert!(rt; illegal.at as usize >= at);
-                assert_eq!(rt; verdict.output.as_slice(), illegal_line(&illegal).as_bytes());
+                assert_eq!(rt;
+                    verdict.output.as_slice(),
+                    illegal_line(&illegal).as_bytes()
+                );
                 found = true;
             }
         }

@@ -16,23 +16,24 @@ loop-who-preserved c =
     let here = c.loop-who.invariant in
     let was_ok = sym c.step.ensures.room ∙ c.is_err.ensures.negation in
     elim c.if-is_err.branch [
-      then-is_err w ↦
-        let kept = when_err c.step.result _ (sym c.is_err.ensures.value ∙ w.if-is_err.true) c.step.ensures.full in
-        let more = more_refused _ _ c.loop-who.book here.layout here.room c.args.calls.now c.loop-who.who-index _ c.loop-who-test.true here.past (was_ok ∙ ap not w.if-is_err.true) in
-        record {
-          layout = ap (λ (h : History). h.layout) kept ∙ here.layout;
-          room = ap (λ (h : History). h.room) kept ∙ here.room;
-          past = ap past_in kept ∙ sym (ap (λ (t : Steps). t.past) more);
-          left_out = w.left_out-is ∙ ap (λ n. n + 1) here.left_out ∙ sym (ap (λ (t : Steps). t.left_out) more);
-          few = one_more _ _ _ w.left_out-is here.few;
-        }
-    | else-is_err w ↦
-        let made = when_ok c.step.result _ (sym c.is_err.ensures.value ∙ w.if-is_err.false) c.step.ensures.entry in
-        let more = more_taken _ _ c.loop-who.book here.layout here.room c.args.calls.now c.loop-who.who-index _ c.loop-who-test.true here.past (was_ok ∙ ap not w.if-is_err.false) in
-        record {
-          layout = ap (λ (h : History). h.layout) made ∙ here.layout;
-          room = ap (λ (h : History). h.room) made ∙ here.room;
-          past = ap past_in made ∙ sym (ap (λ (t : Steps). t.past) more);
-          left_out = w.left_out-is ∙ here.left_out ∙ sym (ap (λ (t : Steps). t.left_out) more);
-          few = as_many _ _ _ w.left_out-is here.few;
-        } ]
+      | then-is_err w ↦
+          let kept = when_err c.step.result _ (sym c.is_err.ensures.value ∙ w.if-is_err.true) c.step.ensures.full in
+          let more = more_refused _ _ c.loop-who.book here.layout here.room c.args.calls.now c.loop-who.who-index _ c.loop-who-test.true here.past (was_ok ∙ ap not w.if-is_err.true) in
+          record {
+            layout = ap (λ (h : History). h.layout) kept ∙ here.layout;
+            room = ap (λ (h : History). h.room) kept ∙ here.room;
+            past = ap past_in kept ∙ sym (ap (λ (t : Steps). t.past) more);
+            left_out = w.left_out-is ∙ ap (λ n. n + 1) here.left_out ∙ sym (ap (λ (t : Steps). t.left_out) more);
+            few = one_more _ _ _ w.left_out-is here.few;
+          }
+      | else-is_err w ↦
+          let made = when_ok c.step.result _ (sym c.is_err.ensures.value ∙ w.if-is_err.false) c.step.ensures.entry in
+          let more = more_taken _ _ c.loop-who.book here.layout here.room c.args.calls.now c.loop-who.who-index _ c.loop-who-test.true here.past (was_ok ∙ ap not w.if-is_err.false) in
+          record {
+            layout = ap (λ (h : History). h.layout) made ∙ here.layout;
+            room = ap (λ (h : History). h.room) made ∙ here.room;
+            past = ap past_in made ∙ sym (ap (λ (t : Steps). t.past) more);
+            left_out = w.left_out-is ∙ here.left_out ∙ sym (ap (λ (t : Steps). t.left_out) more);
+            few = as_many _ _ _ w.left_out-is here.few;
+          }
+    ]
