@@ -75,14 +75,13 @@ impl Pair {
         })
     }
 
-    /// What the book says before an entry: its serial, and whether a wait that ends is over.
+    /// Whether a wait that ends is over, as the book says before the entry.
     fn foresees(&self, entry: &Entry) -> bool {
-        let ready = match (entry.call, entry.reply) {
+        match (entry.call, entry.reply) {
             (Call::End { ticket }, Reply::Done) => self.book.ready(ticket),
             (Call::End { ticket }, Reply::Waiting(_)) => !self.book.ready(ticket),
             _ => true,
-        };
-        ready && self.book.serial(entry.who) == entry.serial
+        }
     }
 
     /// After an entry each item has the bits that its mark promised: the named item those of the mark, the others their old ones.
