@@ -1,0 +1,5 @@
+pub mod Beginnings
+mod Adding
+pub mod Legally
+mod Seats
+mod Marking
