@@ -9,4 +9,4 @@ mod sleepers;
 pub use desk::Desk;
 pub use fault::{RunFault, Shortage};
 pub use seat::Seat;
-pub use sleepers::{Rings, Sleepers};
+pub use sleepers::{Rings, Sleepers, place_of};

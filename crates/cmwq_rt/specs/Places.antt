@@ -1,0 +1,23 @@
+-- Which callers and workers of a hub are given out.
+use Rattle.std.specs.Prelude.{◌≡◌, ℕ, zero, suc, ◌+◌, ◌*◌, ◌<◌, ◌≤◌, Bool, true, false, not, ◌&&◌, if◌then◌else◌, Option, Some, None, nat_lt, MatchOption}
+use Rattle.cmwq_model.specs.declared.id.WorkerId.{WorkerId}
+use Rattle.cmwq_model.specs.Layout.{Layout}
+
+-- the callers are given out by number: so many are; the workers in their order: the next one, if one is left, and how many are
+pub record Places : Type 0 where
+  pub callers : ℕ
+  pub next : Option WorkerId
+  pub workers : ℕ
+
+-- by CPU, the normal pool before the one of high priority, then by index
+abbrev pub first_worker : WorkerId
+first_worker = record { pool = record { cpu = record { 0 = 0 }; high = false }; index = 0 }
+
+abbrev pub after_worker : Layout → WorkerId → Option WorkerId
+after_worker s w =
+    if nat_lt (w.index + 1) s.workers then Some (record w { index = w.index + 1 })
+    else (if not w.pool.high then Some (record { pool = record { cpu = w.pool.cpu; high = true }; index = 0 })
+    else (if nat_lt (w.pool.cpu.0 + 1) s.cpus then Some (record { pool = record { cpu = record { 0 = w.pool.cpu.0 + 1 }; high = false }; index = 0 }) else None))
+
+abbrev pub all_free : Places
+all_free = record { callers = 0; next = Some first_worker; workers = 0 }
