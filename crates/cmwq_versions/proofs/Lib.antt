@@ -1,0 +1,5 @@
+mod Beginnings
+mod Adding
+mod Legally
+mod Seats
+mod Marking

@@ -18,9 +18,9 @@ pub(crate) fn put_out<R: Wait>(
     ensures idle { drop result.0.behind result.0.log.items ≡ [] }
     ensures shown { MatchResult result.1 (λ _. Shows writer.desk.shown.value mark result.0.desk.shown.value (view result.0.desk.place)) (λ _. result.0.desk.shown.value ≡ writer.desk.shown.value) }
 {
-    if writer.append(mark).is_err() {
+    let Ok(()) = writer.append(mark) else {
         return (writer, Err(NoMemory));
-    }
+    };
     let (writer, published) = writer.publish_as::<Look, R>(rt);
     published.unwrap();
     (writer, Ok(()))

@@ -25,12 +25,22 @@ fn look<N: HubName>(reader: BitsReader, item: ItemId) -> (BitsReader, Option<(Fr
     }
 }
 
-/// One reader of the published bits.
+/// One reader of the published bits. Contracts see nothing of it.
 #[derive(Drop)]
 pub struct Sights<N: HubName> {
     reader: BitsReader,
     of: PhantomData<N>,
-    ghost ours: { IsOurs N.layout N.book (view reader.place) },
+}
+
+impl<N: HubName> Model for Sights<N> {
+    ghost use Rattle.left_right.specs.Sides.{view as view_of};
+    ghost use Rattle.cmwq_versions.specs.Published.{IsOurs};
+
+    ghost Value = { Unit {0} };
+
+    ghost view = { λ s. tt };
+
+    ghost invariant = { λ s. IsOurs N.layout N.book (view_of s.reader.place) };
 }
 
 impl<N: HubName> Sights<N> {
