@@ -73,7 +73,7 @@ next_follows x s book log m op next of log_is item bits_is len book_is longer = 
         let shape : y.shape ≡ s = made.shape ∙ of.0 in
         let was : (i : ℕ) → i < x.shape.items → slice_index x.bits.items i ≡ bits (past_of log) i = λ i lt. is.bits_are i lt ∙ ap (λ l. bits (past_of l) i) log_is in
         let leaves : (i : ℕ) → bits (m.entry ∷ past_of log) i ≡ (if is_named op.item i then m.bits else bits (past_of log) i) =
-            λ i. subst (λ (t : Option ItemId). bits (m.entry ∷ past_of log) i ≡ (if is_named t i then m.bits else bits (past_of log) i)) (sym item) (next.bits_are i) in
+        λ i. subst (λ (t : Option ItemId). bits (m.entry ∷ past_of log) i ≡ (if is_named t i then m.bits else bits (past_of log) i)) (sym item) (next.bits_are i) in
         let past : past_of y.seen.log ≡ m.entry ∷ past_of log = ap past_of seen ∙ newest_is_first log m.entry in
         record {
           legal = rw (shape, past) next.legal;

@@ -15,5 +15,5 @@ replace_with-requires g c =
     let longer = c.in-Some.ensures in (
       out.2,
       next_follows s.writer.desk.shown.value g.N.HubName.layout g.N.HubName.book s.front mark op next out.0 out.1
-      refl refl (c.len.ensures.len ∙ ap length longer) c.token.ensures.0 (c.token.ensures.1 ∙ longer),
+          refl refl (c.len.ensures.len ∙ ap length longer) c.token.ensures.0 (c.token.ensures.1 ∙ longer),
     )
