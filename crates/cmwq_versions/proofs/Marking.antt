@@ -1,9 +1,9 @@
 -- What one mark makes of a version.
-use Rattle.std.proofs.Common.{◌≡◌, ℕ, ◌+◌, ◌<◌, List, [], ◌∷◌, ◌++◌, length, set, Bool, Option, refl, sym, ap, ◌∙◌, subst, arith, length-set, fold}
+use Rattle.std.proofs.Common.{◌≡◌, ℕ, ◌<◌, List, [], ◌∷◌, ◌++◌, length, Bool, Option, refl, sym, ap, ◌∙◌, subst, arith, length-set, fold}
 use Rattle.std.proofs.lemmas.List.{get_or-replicate, length-replicate}
 use Rattle.std.proofs.lemmas.Grind.{common_steps}
 use Rattle.std.proofs.lemmas.Bool.Decides.{nat_tests}
-use Rattle.std.specs.Prelude.{◌==◌, option_map, if◌then◌else◌, replicate, slice_index, slice_set, Some, None}
+use Rattle.std.specs.Prelude.{◌==◌, option_map, if◌then◌else◌, replicate, slice_index, Some, None}
 use Rattle.crossbeam_utils.specs.Register.{TurnsAt}
 use Rattle.logbook.specs.Pages.{Book}
 use Rattle.logbook.specs.declared.tokens.Seen.{Seen}
@@ -12,7 +12,7 @@ use Rattle.cmwq_model.specs.declared.entry.Entry.{Entry}
 use Rattle.cmwq_model.specs.declared.entry.Mark.{Mark}
 use Rattle.cmwq_model.specs.Layout.{Layout}
 use Rattle.cmwq_model.specs.Calls.{is_at}
-use Rattle.cmwq_model.specs.Legal.{IsLegal, past_of, bits}
+use Rattle.cmwq_model.specs.Legal.{past_of, bits}
 use Rattle.cmwq_versions.specs.declared.log.Law.{Law}
 use Rattle.cmwq_versions.specs.declared.versions.Versions.{Versions}
 use Rattle.cmwq_versions.specs.declared.versions.Known.{Known}

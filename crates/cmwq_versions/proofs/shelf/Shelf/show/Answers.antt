@@ -1,5 +1,4 @@
-use Rattle.std.proofs.Common.{sym, ap, ◌∙◌, ◌++◌, [], ◌∷◌, refl, length, List}
-use Rattle.cmwq_model.specs.declared.entry.Entry.{Entry}
+use Rattle.std.proofs.Common.{ap, ◌∙◌, refl, length}
 use Rattle.cmwq_versions.specs.declared.versions.Publish.{Publish}
 use Rattle.cmwq_versions.specs.Next.{IsNext}
 use Rattle.cmwq_versions.proofs.Marking.{next_follows}
