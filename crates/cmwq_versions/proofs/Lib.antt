@@ -3,3 +3,4 @@ mod Adding
 pub mod Legally
 mod Seats
 mod Marking
+mod First

@@ -1,9 +1,9 @@
 -- What one mark makes of a version.
-use Rattle.std.proofs.Common.{◌≡◌, ℕ, ◌+◌, ◌<◌, List, [], ◌∷◌, ◌++◌, length, set, Bool, Option, refl, sym, ap, ◌∙◌, subst, arith, length-set, fold}
+use Rattle.std.proofs.Common.{◌≡◌, ℕ, ◌<◌, List, [], ◌∷◌, ◌++◌, length, Bool, Option, refl, sym, ap, ◌∙◌, subst, arith, length-set, fold}
 use Rattle.std.proofs.lemmas.List.{get_or-replicate, length-replicate}
 use Rattle.std.proofs.lemmas.Grind.{common_steps}
 use Rattle.std.proofs.lemmas.Bool.Decides.{nat_tests}
-use Rattle.std.specs.Prelude.{◌==◌, option_map, if◌then◌else◌, replicate, slice_index, slice_set, Some, None}
+use Rattle.std.specs.Prelude.{◌==◌, option_map, if◌then◌else◌, replicate, slice_index, Some, None}
 use Rattle.crossbeam_utils.specs.Register.{TurnsAt}
 use Rattle.logbook.specs.Pages.{Book}
 use Rattle.logbook.specs.declared.tokens.Seen.{Seen}
@@ -12,7 +12,7 @@ use Rattle.cmwq_model.specs.declared.entry.Entry.{Entry}
 use Rattle.cmwq_model.specs.declared.entry.Mark.{Mark}
 use Rattle.cmwq_model.specs.Layout.{Layout}
 use Rattle.cmwq_model.specs.Calls.{is_at}
-use Rattle.cmwq_model.specs.Legal.{IsLegal, past_of, bits}
+use Rattle.cmwq_model.specs.Legal.{past_of, bits}
 use Rattle.cmwq_versions.specs.declared.log.Law.{Law}
 use Rattle.cmwq_versions.specs.declared.versions.Versions.{Versions}
 use Rattle.cmwq_versions.specs.declared.versions.Known.{Known}
@@ -73,7 +73,7 @@ next_follows x s book log m op next of log_is item bits_is len book_is longer = 
         let shape : y.shape ≡ s = made.shape ∙ of.0 in
         let was : (i : ℕ) → i < x.shape.items → slice_index x.bits.items i ≡ bits (past_of log) i = λ i lt. is.bits_are i lt ∙ ap (λ l. bits (past_of l) i) log_is in
         let leaves : (i : ℕ) → bits (m.entry ∷ past_of log) i ≡ (if is_named op.item i then m.bits else bits (past_of log) i) =
-            λ i. subst (λ (t : Option ItemId). bits (m.entry ∷ past_of log) i ≡ (if is_named t i then m.bits else bits (past_of log) i)) (sym item) (next.bits_are i) in
+        λ i. subst (λ (t : Option ItemId). bits (m.entry ∷ past_of log) i ≡ (if is_named t i then m.bits else bits (past_of log) i)) (sym item) (next.bits_are i) in
         let past : past_of y.seen.log ≡ m.entry ∷ past_of log = ap past_of seen ∙ newest_is_first log m.entry in
         record {
           legal = rw (shape, past) next.legal;

@@ -1,14 +1,12 @@
 -- Each step of a seat keeps the rule of the versions.
-use Rattle.std.proofs.Common.{◌≡◌, ◌≢◌, ℕ, zero, suc, List, [], ◌∷◌, ◌++◌, set, Option, refl, sym, ◌∙◌, subst, ⊎_elim}
-use mathlib.Core.Option.{some, some-ne-none, some-injective}
+use Rattle.std.proofs.Common.{◌≡◌, ◌≢◌, ℕ, List, [], ◌∷◌, ◌++◌, set, Option, refl, ◌∙◌, subst, ⊎_elim}
+use mathlib.Core.Option.{some}
 use lib.ListN.{get_elem?}
 use Rattle.crossbeam_utils.specs.Register.{Admits, TurnsAt, Forks, Merges}
 use Rattle.atomic_table.proofs.Lists.{at_set, at_snoc}
-use Rattle.logbook.specs.Pages.{Book}
-use Rattle.cmwq_model.specs.Layout.{Layout}
 use Rattle.cmwq_versions.specs.declared.versions.Versions.{Versions}
 use Rattle.cmwq_versions.specs.declared.versions.Known.{Known}
-use Rattle.cmwq_versions.specs.Published.{Holds, IsVersion, IsOurs, Fits, Sees, knows, newcomer}
+use Rattle.cmwq_versions.specs.Published.{Holds, IsVersion, Fits, Sees, knows, newcomer}
 
 -- who knows no hub fits each version
 pub newcomer_fits : (x : Versions) → Fits x newcomer

@@ -15,3 +15,6 @@ pub use name::HubName;
 pub use opening::Opening;
 pub use shelf::Shelf;
 pub use sights::{Readers, Sights};
+
+#[cfg(test)]
+mod tests;

@@ -45,7 +45,7 @@ impl<N: HubName> Model for Sights<N> {
 
 impl<N: HubName> Sights<N> {
     /// What is published, and the bits of an item after it: 1 if it is pending, plus 2 if it runs; 0 for an item that
-    /// the hub doesn't have. It takes no lock and no memory, and waits for nobody. `None` after the shelf was ended.
+    /// the hub doesn't have. It takes no lock and no memory, and waits for nobody. `None` only once the shelf is ended.
     pub fn look(&mut self, item: ItemId) -> Option<(Front<N>, u8)>
         ensures { IfSome result (λ f. item.0 < N.layout.items → f.1 ≡ bits (past_of f.0) item.0) }
     {

@@ -63,13 +63,8 @@ impl Versions {
         requires ours { IsOf N.layout N.book self.now }
         ensures { item.0 < N.layout.items → result.1 ≡ bits_of (past_of result.0) item.0 }
     {
-        let item = usize::from(item.0);
-        let bits = if item < self.bits.len() {
-            self.bits[item]
-        } else {
-            0
-        };
-        (Front::of(self.seen.again(), self.len), bits)
+        let bits = self.bits.get(usize::from(item.0)).copied();
+        (Front::of(self.seen.again(), self.len), bits.unwrap_or(0))
     }
 }
 

@@ -9,5 +9,5 @@ returns c =
     let x : Versions = record { shape = c.in_ok-copy.field-0; bits = c.in_ok-bits.bits; len = 0; seen = c.args.seen } in
     let shape : x.shape ≡ c.args.shape.now = c.in_ok-copy.ensures in
     let zeros : x.bits.items ≡ replicate c.args.shape.now.items 0 =
-        c.in_ok-bits.ensures.items_if_clones_equal (λ x e. e) ∙ ap (λ n. replicate n 0) (c.from.ensures ∙ ap (λ (l : Layout). l.items) c.counts.ensures.counts) in
+    c.in_ok-bits.ensures.items_if_clones_equal (λ x e. e) ∙ ap (λ n. replicate n 0) (c.from.ensures ∙ ap (λ (l : Layout). l.items) c.counts.ensures.counts) in
     (none_is_version x c.requires refl (zeros ∙ ap (λ (l : Layout). replicate l.items 0) (sym shape)), shape, refl, refl, zeros)

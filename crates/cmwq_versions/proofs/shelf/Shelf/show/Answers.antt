@@ -1,5 +1,4 @@
-use Rattle.std.proofs.Common.{sym, ap, ◌∙◌, ◌++◌, [], ◌∷◌, refl, length, List}
-use Rattle.cmwq_model.specs.declared.entry.Entry.{Entry}
+use Rattle.std.proofs.Common.{ap, ◌∙◌, refl, length}
 use Rattle.cmwq_versions.specs.declared.versions.Publish.{Publish}
 use Rattle.cmwq_versions.specs.Next.{IsNext}
 use Rattle.cmwq_versions.proofs.Marking.{next_follows}
@@ -15,5 +14,5 @@ replace_with-requires g c =
     let longer = c.in-Some.ensures in (
       out.2,
       next_follows s.writer.desk.shown.value g.N.HubName.layout g.N.HubName.book s.front mark op next out.0 out.1
-      refl refl (c.len.ensures.len ∙ ap length longer) c.token.ensures.0 (c.token.ensures.1 ∙ longer),
+          refl refl (c.len.ensures.len ∙ ap length longer) c.token.ensures.0 (c.token.ensures.1 ∙ longer),
     )
