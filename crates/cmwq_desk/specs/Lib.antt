@@ -3,3 +3,4 @@ pub mod Calls
 pub mod Faults
 pub mod Whole
 pub mod Steps
+pub mod Settled

@@ -13,6 +13,7 @@ ghost use Rattle.cmwq_desk.specs.Calls.{Extends, own_entry};
 ghost use Rattle.cmwq_desk.specs.Faults.{Says, Refused, IsStranger};
 ghost use Rattle.cmwq_desk.specs.Whole.{Completes, BrokeOff, Stops, EndsOwn, is_drain};
 ghost use Rattle.cmwq_desk.specs.Steps.{InStep, Lacks, HasFired, HasFiredSome, HasEnded, HasEndedSome, StartsOne, is_start, is_nothing};
+ghost use Rattle.cmwq_desk.specs.Settled.{Settles};
 ghost use Rattle.cmwq_desk.specs.declared.fault.RunFault.TheVariants as faults;
 ghost use Rattle.cmwq_model.specs.Queueings.{still_open};
 ghost use Rattle.cmwq_model.specs.Active.{is_active};
@@ -376,7 +377,7 @@ impl<N: HubName> Desk<N> {
 
     /// The seat sees all the history.
     pub fn settle(&self, seat: &mut Seat<N>) -> Result<(), RunFault>
-        ensures settled { IfOk result (λ _. (seat.new ≡ record seat.old { seen = self.now }) × IsPrefix seat.old.seen self.now × (serial_of (past_of self.now) seat.old.who ≡ seat.old.serial)) }
+        ensures settled { IfOk result (λ _. Settles self.now seat.old seat.new) }
         ensures stranger { IfErr result (λ f. (seat.new ≡ seat.old) × IsStranger seat.old f) }
     {
         self.compare(seat)?;

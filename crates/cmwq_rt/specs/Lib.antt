@@ -1,3 +1,2 @@
 pub mod Later
 pub mod Places
-pub mod Settled

@@ -1,6 +1,7 @@
 -- Which callers and workers of a hub are given out.
 use Rattle.std.specs.Prelude.{◌≡◌, ℕ, zero, suc, ◌+◌, ◌*◌, ◌<◌, ◌≤◌, Bool, true, false, not, ◌&&◌, if◌then◌else◌, Option, Some, None, nat_lt, MatchOption}
 use Rattle.cmwq_model.specs.declared.id.WorkerId.{WorkerId}
+use Rattle.cmwq_model.specs.declared.shape.Counts.{Counts}
 use Rattle.cmwq_model.specs.Layout.{Layout}
 
 -- the callers are given out by number: so many are; the workers in their order: the next one, if one is left, and how many are
@@ -21,3 +22,20 @@ after_worker s w =
 
 abbrev pub all_free : Places
 all_free = record { callers = 0; next = Some first_worker; workers = 0 }
+
+-- the counts are those of the layout, and inside their limits
+pub record AreCounts (s : Layout) (n : Counts) : Type 0 where
+  pub cpus : n.cpus ≡ s.cpus
+  pub workers : n.workers ≡ s.workers
+  pub callers : n.callers ≡ s.callers
+  pub few_cpus : (0 < s.cpus) × (s.cpus ≤ 4)
+  pub few_workers : (0 < s.workers) × (s.workers ≤ 8)
+  pub few_callers : (0 < s.callers) × (s.callers ≤ 64)
+
+-- the place of a worker among all that there could be
+abbrev pub place : WorkerId → ℕ
+place w = 16 * w.pool.cpu.0 + (if w.pool.high then 8 else 0) + w.index
+
+-- the next worker is inside the layout, and no more were given out than stand before it
+abbrev pub IsNextPlace : Layout → Option WorkerId → ℕ → Type 0
+IsNextPlace s next given = MatchOption next (Unit {0}) (λ w. (w.pool.cpu.0 < s.cpus) × (w.index < s.workers) × (given ≤ place w))

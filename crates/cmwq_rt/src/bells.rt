@@ -13,9 +13,11 @@ pub struct Bells {
 }
 
 fn row_of_bells(alloc: Global) -> Result<Vec<Condvar>, NoMemory> {
-    let mut bells = Vec::with_capacity(alloc, 64)?;
+    let mut bells = Vec::new(alloc);
     for _ in 0..64 {
-        bells.push(Condvar::new())?;
+        let Ok(()) = bells.push(Condvar::new()) else {
+            return Err(NoMemory);
+        };
     }
     Ok(bells)
 }
