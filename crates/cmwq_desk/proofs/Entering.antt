@@ -53,7 +53,7 @@ extends s v log call own step pre fit legal =
     let e = own_entry s log v call in
     let older = shorter_begins v.seen log (log ++ e ∷ []) pre (prefix_front log (e ∷ [])) step.1 in
     let made : made_by v.who (log ++ e ∷ []) ≡ made_by v.who v.seen ++ e ∷ [] =
-        filter-append (is_by v.who) log (e ∷ []) ∙ ap (λ xs. xs ++ made_by v.who (e ∷ [])) (made_all v log own step.0 older) ∙ ap (λ xs. made_by v.who v.seen ++ xs) (made_own v.who e refl) in
+    filter-append (is_by v.who) log (e ∷ []) ∙ ap (λ xs. xs ++ made_by v.who (e ∷ [])) (made_all v log own step.0 older) ∙ ap (λ xs. made_by v.who v.seen ++ xs) (made_own v.who e refl) in
     record {
       before = log;
       older = older;

@@ -22,7 +22,9 @@ use crate::fault::{RunFault, Shortage};
 use crate::seat::Seat;
 use crate::sleepers::{Rings, Sleepers};
 use cmwq_core::{Book, Full};
-use cmwq_model::{Call, CallerId, Entry, ItemId, Mark, NoMemory, Number, Reply, Shape, Who, WorkerId};
+use cmwq_model::{
+    Call, CallerId, Entry, ItemId, Mark, NoMemory, Number, Reply, Shape, Who, WorkerId,
+};
 use cmwq_versions::{Front, HubName, Shelf};
 use std::marker::Model;
 use std::sync::ledger::Share;
@@ -122,12 +124,7 @@ impl<N: HubName> Desk<N> {
     }
 
     /// The seat makes an entry. Where there is no room for it, it sees all the history.
-    fn enter<R: Wait>(
-        &mut self,
-        rt: &R,
-        seat: &mut Seat<N>,
-        call: Call,
-    ) -> Result<Reply, Shortage>
+    fn enter<R: Wait>(&mut self, rt: &R, seat: &mut Seat<N>, call: Call) -> Result<Reply, Shortage>
         requires fits { IsTrue (fits N.layout seat.old.who call) }
         requires step { InStep self.old seat.old }
         ensures made { IfOk result (λ reply. Extends N.layout seat.old call reply seat.new) }
@@ -320,11 +317,7 @@ impl<N: HubName> Desk<N> {
     }
 
     /// Starts a queueing, if the worker would start one now, and answers its item.
-    pub fn start<R: Wait>(
-        &mut self,
-        rt: &R,
-        seat: &mut Seat<N>,
-    ) -> Result<Option<ItemId>, RunFault>
+    pub fn start<R: Wait>(&mut self, rt: &R, seat: &mut Seat<N>) -> Result<Option<ItemId>, RunFault>
         requires { is_caller seat.old.who ≡ false }
         ensures started { IfOk result (λ o. MatchOption o (seat.new ≡ seat.old) (λ item. (item.0 < N.layout.items) × StartsOne N.layout seat.old seat.new)) }
         ensures refused { IfErr result (λ f. Refused N.layout seat.old calls.Take f seat.new) }

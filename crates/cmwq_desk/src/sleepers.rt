@@ -2,7 +2,9 @@
 ghost use Rattle.std.specs.Prelude.{◌≡◌};
 
 use cmwq_core::Book;
-use cmwq_model::{Call, CallerId, Counts, CpuId, Entry, NoMemory, Number, PoolId, Reply, Shape, Who, WorkerId};
+use cmwq_model::{
+    Call, CallerId, Counts, CpuId, Entry, NoMemory, Number, PoolId, Reply, Shape, Who, WorkerId,
+};
 use std::alloc::Global;
 
 /// Who is to be woken: a bit for each caller, and for each worker.
@@ -63,10 +65,7 @@ enum Touched {
 fn pools_touched_by(entry: Entry) -> Touched {
     match (entry.reply, entry.who) {
         (
-            Reply::Started(_)
-            | Reply::StartedEnlist(_, _)
-            | Reply::Slept
-            | Reply::Finished(_),
+            Reply::Started(_) | Reply::StartedEnlist(_, _) | Reply::Slept | Reply::Finished(_),
             Who::Worker(worker),
         ) => Touched::One(worker.pool),
         (

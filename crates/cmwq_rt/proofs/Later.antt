@@ -1,8 +1,11 @@
 -- What a worker's calls leave, one after another.
-use Rattle.std.proofs.Common.{◌≡◌, ℕ, ◌+◌, ◌≤◌, List, [], ◌∷◌, length, refl, sym, ap, ◌∙◌, arith, subst, false}
+use Rattle.std.proofs.Common.{◌≡◌, ℕ, ◌+◌, ◌≤◌, List, [], ◌∷◌, length, refl, sym, ap, ◌∙◌, arith, subst, Bool, true, false, Result, Ok, Err}
+use Rattle.std.specs.Prelude.{IfOk, IfErr, MatchBool}
 use mathlib.Core.List.{IsPrefix}
 use Rattle.cmwq_model.specs.declared.call.Call.{Call}
+use Rattle.cmwq_model.specs.declared.call.Call.TheVariants as call
 use Rattle.cmwq_model.specs.declared.reply.Reply.{Reply}
+use Rattle.cmwq_model.specs.declared.reply.Reply.TheVariants as reply
 use Rattle.cmwq_model.specs.declared.entry.Entry.{Entry}
 use Rattle.cmwq_model.specs.Layout.{Layout}
 use Rattle.cmwq_desk.specs.Seats.{Seated, Gains, is_caller}
@@ -32,3 +35,9 @@ later_begins v w l = l.2 v.seen (prefix_self v.seen)
 
 pub later_worker : (v w : Seated) → Later v w → is_caller v.who ≡ false → is_caller w.who ≡ false
 later_worker v w l is = ap is_caller l.0 ∙ is
+
+-- a worker that asked to retire where it would be retired, or didn't ask
+pub later_retired : (s : Layout) (v w : Seated) (r : Result Bool RunFault) → IfOk r (λ b. MatchBool b (Extends s v call.Retire reply.Retired w) (w ≡ v)) → IfErr r (λ f. Refused s v call.Retire f w) → Later v w
+later_retired s v w (Ok true) x n = later_made s v w call.Retire reply.Retired x
+later_retired s v w (Ok false) same n = subst (Later v) (sym same) (later_self v)
+later_retired s v w (Err f) x refused = later_refused s v w call.Retire f refused

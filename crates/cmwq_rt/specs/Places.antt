@@ -33,9 +33,13 @@ pub record AreCounts (s : Layout) (n : Counts) : Type 0 where
   pub few_callers : (0 < s.callers) × (s.callers ≤ 64)
 
 -- the place of a worker among all that there could be
-abbrev pub place : WorkerId → ℕ
-place w = 16 * w.pool.cpu.0 + (if w.pool.high then 8 else 0) + w.index
+abbrev pub lane : Bool → ℕ
+lane false = 0
+lane true = 8
 
--- the next worker is inside the layout, and no more were given out than stand before it
+abbrev pub place : WorkerId → ℕ
+place w = 16 * w.pool.cpu.0 + lane w.pool.high + w.index
+
+-- the next worker is inside the layout, and no more were given out than stand before it, so never more than 64
 abbrev pub IsNextPlace : Layout → Option WorkerId → ℕ → Type 0
-IsNextPlace s next given = MatchOption next (Unit {0}) (λ w. (w.pool.cpu.0 < s.cpus) × (w.index < s.workers) × (given ≤ place w))
+IsNextPlace s next given = MatchOption next (given ≤ 64) (λ w. (w.pool.cpu.0 < s.cpus) × (w.index < s.workers) × (given ≤ place w))

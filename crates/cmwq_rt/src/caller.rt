@@ -126,17 +126,24 @@ impl<N: HubName> Caller<N> {
             hub.leave(desk);
             return Ok(reply);
         };
-        match hub.until_ended(rt, desk, &mut self.seat, call, ticket) {
-            Ok(()) => Ok(reply),
-            Err(fault) => Err(fault),
+        if let Err(fault) = hub.until_ended(rt, desk, &mut self.seat, call, ticket) {
+            return Err(fault);
         }
+        Ok(reply)
     }
 
     /// Queues an item (`queue_work_on`): one entry.
     ///
     /// # Errors
     /// As of all calls of one entry: `Closed`, `NoMemory` where the hub has failed, `Stranger`, `Full`; it has made no entry then.
-    pub fn queue<R: Wait>(&mut self, rt: &R, hub: &Hub<N>, item: ItemId, queue: QueueId, cpu: CpuId) -> Result<Reply, RunFault>
+    pub fn queue<R: Wait>(
+        &mut self,
+        rt: &R,
+        hub: &Hub<N>,
+        item: ItemId,
+        queue: QueueId,
+        cpu: CpuId,
+    ) -> Result<Reply, RunFault>
         requires { has_numbers N.layout (calls.Queue item queue cpu) ≡ true }
         ensures made { IfOk result (λ reply. Extends N.layout self.old (calls.Queue item queue cpu) reply self.new) }
         ensures refused { IfErr result (λ f. Refused N.layout self.old (calls.Queue item queue cpu) f self.new) }
@@ -148,24 +155,58 @@ impl<N: HubName> Caller<N> {
     ///
     /// # Errors
     /// As of all calls of one entry: `Closed`, `NoMemory` where the hub has failed, `Stranger`, `Full`; it has made no entry then.
-    pub fn delay<R: Wait>(&mut self, rt: &R, hub: &Hub<N>, item: ItemId, queue: QueueId, cpu: CpuId, ticks: u32) -> Result<Reply, RunFault>
+    pub fn delay<R: Wait>(
+        &mut self,
+        rt: &R,
+        hub: &Hub<N>,
+        item: ItemId,
+        queue: QueueId,
+        cpu: CpuId,
+        ticks: u32,
+    ) -> Result<Reply, RunFault>
         requires { has_numbers N.layout (calls.Delay item queue cpu ticks) ≡ true }
         ensures made { IfOk result (λ reply. Extends N.layout self.old (calls.Delay item queue cpu ticks) reply self.new) }
         ensures refused { IfErr result (λ f. Refused N.layout self.old (calls.Delay item queue cpu ticks) f self.new) }
     {
-        self.make(rt, hub, Call::Delay { item, queue, cpu, ticks })
+        self.make(
+            rt,
+            hub,
+            Call::Delay {
+                item,
+                queue,
+                cpu,
+                ticks,
+            },
+        )
     }
 
     /// Queues or delays an item anew (`mod_delayed_work_on`): one entry.
     ///
     /// # Errors
     /// As of all calls of one entry: `Closed`, `NoMemory` where the hub has failed, `Stranger`, `Full`; it has made no entry then.
-    pub fn modify<R: Wait>(&mut self, rt: &R, hub: &Hub<N>, item: ItemId, queue: QueueId, cpu: CpuId, ticks: u32) -> Result<Reply, RunFault>
+    pub fn modify<R: Wait>(
+        &mut self,
+        rt: &R,
+        hub: &Hub<N>,
+        item: ItemId,
+        queue: QueueId,
+        cpu: CpuId,
+        ticks: u32,
+    ) -> Result<Reply, RunFault>
         requires { has_numbers N.layout (calls.Modify item queue cpu ticks) ≡ true }
         ensures made { IfOk result (λ reply. Extends N.layout self.old (calls.Modify item queue cpu ticks) reply self.new) }
         ensures refused { IfErr result (λ f. Refused N.layout self.old (calls.Modify item queue cpu ticks) f self.new) }
     {
-        self.make(rt, hub, Call::Modify { item, queue, cpu, ticks })
+        self.make(
+            rt,
+            hub,
+            Call::Modify {
+                item,
+                queue,
+                cpu,
+                ticks,
+            },
+        )
     }
 
     /// Takes a pending item back (`cancel_work`, `cancel_delayed_work`): one entry.
@@ -184,7 +225,12 @@ impl<N: HubName> Caller<N> {
     ///
     /// # Errors
     /// As of all calls of one entry: `Closed`, `NoMemory` where the hub has failed, `Stranger`, `Full`; it has made no entry then.
-    pub fn flush_begin<R: Wait>(&mut self, rt: &R, hub: &Hub<N>, queue: QueueId) -> Result<Reply, RunFault>
+    pub fn flush_begin<R: Wait>(
+        &mut self,
+        rt: &R,
+        hub: &Hub<N>,
+        queue: QueueId,
+    ) -> Result<Reply, RunFault>
         requires { has_numbers N.layout (calls.Flush queue) ≡ true }
         ensures made { IfOk result (λ reply. Extends N.layout self.old (calls.Flush queue) reply self.new) }
         ensures refused { IfErr result (λ f. Refused N.layout self.old (calls.Flush queue) f self.new) }
@@ -196,7 +242,12 @@ impl<N: HubName> Caller<N> {
     ///
     /// # Errors
     /// As of all calls of one entry: `Closed`, `NoMemory` where the hub has failed, `Stranger`, `Full`; it has made no entry then.
-    pub fn flush_try<R: Wait>(&mut self, rt: &R, hub: &Hub<N>, ticket: Number) -> Result<Reply, RunFault>
+    pub fn flush_try<R: Wait>(
+        &mut self,
+        rt: &R,
+        hub: &Hub<N>,
+        ticket: Number,
+    ) -> Result<Reply, RunFault>
         ensures made { IfOk result (λ reply. Extends N.layout self.old (calls.End ticket) reply self.new) }
         ensures refused { IfErr result (λ f. Refused N.layout self.old (calls.End ticket) f self.new) }
     {
@@ -207,7 +258,13 @@ impl<N: HubName> Caller<N> {
     ///
     /// # Errors
     /// As of all calls of one entry: `Closed`, `NoMemory` where the hub has failed, `Stranger`, `Full`; it has made no entry then.
-    pub fn set_max<R: Wait>(&mut self, rt: &R, hub: &Hub<N>, queue: QueueId, max_active: u32) -> Result<Reply, RunFault>
+    pub fn set_max<R: Wait>(
+        &mut self,
+        rt: &R,
+        hub: &Hub<N>,
+        queue: QueueId,
+        max_active: u32,
+    ) -> Result<Reply, RunFault>
         requires { has_numbers N.layout (calls.SetMax queue max_active) ≡ true }
         ensures made { IfOk result (λ reply. Extends N.layout self.old (calls.SetMax queue max_active) reply self.new) }
         ensures refused { IfErr result (λ f. Refused N.layout self.old (calls.SetMax queue max_active) f self.new) }
@@ -256,7 +313,12 @@ impl<N: HubName> Caller<N> {
     ///
     /// # Errors
     /// Those of a call of one entry, with no entry made; `NoMemory` also behind the first, and then it tells the ticket, which stands unended.
-    pub fn flush<R: Wait>(&mut self, rt: &R, hub: &Hub<N>, queue: QueueId) -> Result<Reply, RunFault>
+    pub fn flush<R: Wait>(
+        &mut self,
+        rt: &R,
+        hub: &Hub<N>,
+        queue: QueueId,
+    ) -> Result<Reply, RunFault>
         requires { has_numbers N.layout (calls.Flush queue) ≡ true }
         ensures done { IfOk result (λ reply. Completes N.layout self.old (calls.Flush queue) reply self.new) }
         ensures broke { IfErr result (λ f. BrokeOff N.layout self.old (calls.Flush queue) f self.new) }
@@ -268,7 +330,12 @@ impl<N: HubName> Caller<N> {
     ///
     /// # Errors
     /// Those of a call of one entry, with no entry made; `NoMemory` also behind the first, and then it tells the ticket, which stands unended.
-    pub fn flush_item<R: Wait>(&mut self, rt: &R, hub: &Hub<N>, item: ItemId) -> Result<Reply, RunFault>
+    pub fn flush_item<R: Wait>(
+        &mut self,
+        rt: &R,
+        hub: &Hub<N>,
+        item: ItemId,
+    ) -> Result<Reply, RunFault>
         requires { has_numbers N.layout (calls.FlushItem item) ≡ true }
         ensures done { IfOk result (λ reply. Completes N.layout self.old (calls.FlushItem item) reply self.new) }
         ensures broke { IfErr result (λ f. BrokeOff N.layout self.old (calls.FlushItem item) f self.new) }
@@ -280,7 +347,12 @@ impl<N: HubName> Caller<N> {
     ///
     /// # Errors
     /// Those of a call of one entry, with no entry made; `NoMemory` also behind the first, and then it tells the ticket, which stands unended.
-    pub fn flush_delayed<R: Wait>(&mut self, rt: &R, hub: &Hub<N>, item: ItemId) -> Result<Reply, RunFault>
+    pub fn flush_delayed<R: Wait>(
+        &mut self,
+        rt: &R,
+        hub: &Hub<N>,
+        item: ItemId,
+    ) -> Result<Reply, RunFault>
         requires { has_numbers N.layout (calls.FlushDelayed item) ≡ true }
         ensures done { IfOk result (λ reply. Completes N.layout self.old (calls.FlushDelayed item) reply self.new) }
         ensures broke { IfErr result (λ f. BrokeOff N.layout self.old (calls.FlushDelayed item) f self.new) }
@@ -292,7 +364,12 @@ impl<N: HubName> Caller<N> {
     ///
     /// # Errors
     /// Those of a call of one entry, with no entry made; `NoMemory` also behind the first, and then it tells the ticket, which stands unended.
-    pub fn cancel_sync<R: Wait>(&mut self, rt: &R, hub: &Hub<N>, item: ItemId) -> Result<Reply, RunFault>
+    pub fn cancel_sync<R: Wait>(
+        &mut self,
+        rt: &R,
+        hub: &Hub<N>,
+        item: ItemId,
+    ) -> Result<Reply, RunFault>
         requires { has_numbers N.layout (calls.CancelSync item) ≡ true }
         ensures done { IfOk result (λ reply. Completes N.layout self.old (calls.CancelSync item) reply self.new) }
         ensures broke { IfErr result (λ f. BrokeOff N.layout self.old (calls.CancelSync item) f self.new) }
@@ -304,7 +381,12 @@ impl<N: HubName> Caller<N> {
     ///
     /// # Errors
     /// Those of a call of one entry, with no entry made; `NoMemory` also behind the first, and then it tells the ticket, which stands unended.
-    pub fn drain<R: Wait>(&mut self, rt: &R, hub: &Hub<N>, queue: QueueId) -> Result<Reply, RunFault>
+    pub fn drain<R: Wait>(
+        &mut self,
+        rt: &R,
+        hub: &Hub<N>,
+        queue: QueueId,
+    ) -> Result<Reply, RunFault>
         requires { has_numbers N.layout (calls.Drain queue) ≡ true }
         ensures done { IfOk result (λ reply. Completes N.layout self.old (calls.Drain queue) reply self.new) }
         ensures broke { IfErr result (λ f. BrokeOff N.layout self.old (calls.Drain queue) f self.new) }
@@ -316,7 +398,12 @@ impl<N: HubName> Caller<N> {
     ///
     /// # Errors
     /// Those of a call of one entry, with no entry made; `NoMemory` also behind the first, and then it tells the ticket, which stands unended.
-    pub fn destroy<R: Wait>(&mut self, rt: &R, hub: &Hub<N>, queue: QueueId) -> Result<Reply, RunFault>
+    pub fn destroy<R: Wait>(
+        &mut self,
+        rt: &R,
+        hub: &Hub<N>,
+        queue: QueueId,
+    ) -> Result<Reply, RunFault>
         requires { has_numbers N.layout (calls.Destroy queue) ≡ true }
         ensures done { IfOk result (λ reply. Completes N.layout self.old (calls.Destroy queue) reply self.new) }
         ensures broke { IfErr result (λ f. BrokeOff N.layout self.old (calls.Destroy queue) f self.new) }

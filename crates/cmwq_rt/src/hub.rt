@@ -229,10 +229,7 @@ fn settle_all<N: HubName>(
     settle_workers(desk, workers)
 }
 
-fn settle_callers<N: HubName>(
-    desk: &Desk<N>,
-    callers: &mut [Caller<N>],
-) -> Result<(), RunFault>
+fn settle_callers<N: HubName>(desk: &Desk<N>, callers: &mut [Caller<N>]) -> Result<(), RunFault>
     ensures settled { IfOk result (λ _. AllSettle desk.now callers.old callers.new) }
     ensures stranger { IfErr result (λ f. (who : _) × IsStranger who f) }
 {
@@ -242,10 +239,7 @@ fn settle_callers<N: HubName>(
     Ok(())
 }
 
-fn settle_workers<N: HubName>(
-    desk: &Desk<N>,
-    workers: &mut [Worker<N>],
-) -> Result<(), RunFault>
+fn settle_workers<N: HubName>(desk: &Desk<N>, workers: &mut [Worker<N>]) -> Result<(), RunFault>
     ensures settled { IfOk result (λ _. AllSettle desk.now workers.old workers.new) }
     ensures stranger { IfErr result (λ f. (who : _) × IsStranger who f) }
 {

@@ -98,11 +98,7 @@ impl<N: HubName> Seats<N> {
         let share = self.rest.split_off(1, 0);
         self.next = worker_after(self.counts, worker);
         self.workers += 1;
-        Ok(Worker::new(Seat::new(
-            Who::Worker(worker),
-            self.start.again(),
-            share,
-        )))
+        Ok(Worker::new(Seat::new(Who::Worker(worker), self.start.again(), share)))
     }
 
     /// What nobody got of the ledger.

@@ -189,7 +189,6 @@ impl<'a, N: HubName, R: Wait> RunCtx<'a, N, R> {
 }
 
 /// Runs an item in a context that has the worker's seat, and gives the seat back.
-#[tactic(auto, using(crate::proofs::Later::later_trans))]
 fn run_once<N: HubName, R: Wait, W: Work>(
     rt: &R,
     hub: &Hub<N>,

@@ -35,8 +35,7 @@ invariant_of-self-in-Ok-step g c =
     let old = c.self.inside.book in
     let next : Entry = own_entry s c.args.self.now c.args.seat.now c.args.call in
     let after : c.step.new.self ≡ record old { entries = old.entries ++ next ∷ [] } = c.in-Ok-step.ensures.entry ∙ rw (← c.self.invariant.1, ← c.self.view_is, ← c.who-who.ensures.who) refl in
-    let all : c.step.new.self.entries ≡ old.entries ++ next ∷ [] = ap (λ (h : History). h.entries) after in
-    (
+    let all : c.step.new.self.entries ≡ old.entries ++ next ∷ [] = ap (λ (h : History). h.entries) after in (
       c.self.invariant.0,
       ap (λ (h : History). h.layout) after ∙ c.self.invariant.1,
       ap (λ (h : History). h.room) after ∙ c.self.invariant.2,
@@ -55,8 +54,7 @@ returns-clause-made g c =
     let reply_is : c.in-Ok-step.reply ≡ (own_entry s log v call).reply = rw (← c.self.invariant.1, ← c.self.view_is, ← c.who-who.ensures.who) c.in-Ok-step.ensures.reply in
     let log_is : c.wake.new.self ≡ log ++ own_entry s log v call ∷ [] = c.wake.ensures ∙ ap (λ (h : History). h.entries) c.in-Ok-step.ensures.entry ∙ rw (← c.self.invariant.1, ← c.self.view_is, ← c.who-who.ensures.who) refl in
     let legal : IsLegal s (past_of log) = rw (← c.self.invariant.1, ← c.self.view_is) c.len-len.ensures.legal in
-    let pre : IsPrefix v.seen (log ++ own_entry s log v call ∷ []) = subst (IsPrefix v.seen) now_is c.count.ensures.older in
-    (
+    let pre : IsPrefix v.seen (log ++ own_entry s log v call ∷ []) = subst (IsPrefix v.seen) now_is c.count.ensures.older in (
       rw (reply_is, w_is) (extends s v log call c.serial-serial.ensures.own c.requires.step pre c.requires.fits legal),
       rw (w_is, log_is) (step_after s v log call c.requires.step),
     )
