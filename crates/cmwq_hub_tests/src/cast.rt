@@ -1,9 +1,12 @@
 //! Callers and workers in threads of their own.
 
+ghost use Rattle.std.specs.Prelude.{◌≡◌};
+
 use crate::fixture::end;
-use cmwq_model::{Entry, Reply, Who};
-use cmwq_rt::{Caller, Hub, HubName, Seats, Work, Worker};
+use cmwq_model::{Entry, Reply, Shape, Who};
+use cmwq_rt::{Caller, Hub, HubName, HubParts, Seats, Work, Worker};
 use std::alloc::Global;
+use std::marker::Brand;
 use std::process::Abort;
 use std::sync::Wait;
 use std::thread;
@@ -153,22 +156,45 @@ pub(crate) fn starts_in(history: &[Entry]) -> usize {
         .count()
 }
 
-/// Runs a thread for each caller and each worker of the hub to its end. The history is legal, and the workers count theirs of it.
-pub(crate) fn run<
-    N: HubName + Send + Sync,
+/// A thread for each caller and each worker of the hub, to its end.
+fn run_all<
+    'x,
+    N: HubName + Send + Sync + 'static,
     P: Work + Act + Sync,
     R: Threads + Wait + Abort + AllocGlobal + Sync,
->(rt: &R, hub: Hub<N>, seats: Seats<N>, play: &P) -> Vec<Entry> {
-    let shared = &hub;
+>(rt: &'x R, hub: &'x Hub<N>, seats: Seats<N>, play: &'x P) -> Ended<N> {
+    thread::scope(thread::scope_env(), rt, |scope| -> Ended<N> {
+        run_threads(scope, rt, hub, seats, play)
+    })
+}
+
+fn run_under<
+    N: HubName + Send + Sync + 'static,
+    P: Work + Act + Sync,
+    R: Threads + Wait + Abort + AllocGlobal + Sync,
+>(rt: &R, parts: HubParts, play: &P) -> Vec<Entry>
+    requires layout { parts.shape ≡ N.layout }
+    requires book { parts.opening.book ≡ N.book }
+    requires ledger { (parts.blank.name ≡ N.name) × (parts.blank.parts ≡ N.parts) }
+{
+    let (hub, seats) = Hub::<N>::open(parts);
     let Ended {
         mut callers,
         mut workers,
         made,
-    } = thread::scope(thread::scope_env(), rt, |scope| -> Ended<N> {
-        run_threads(scope, rt, shared, seats, play)
-    });
+    } = run_all(rt, &hub, seats, play);
     let history = end(rt, hub, callers.as_mut_slice(), workers.as_mut_slice());
     let counted = history.iter().filter(|entry| is_by_a_worker(entry)).count();
     assert_eq!(rt; counted as u64, made);
     history
+}
+
+/// Runs all callers and workers of a hub of this shape at once. The history is legal, and the workers count theirs of it.
+pub(crate) fn run<P: Work + Act + Sync, R: Threads + Wait + Abort + AllocGlobal + Sync>(
+    rt: &R,
+    shape: &Shape,
+    play: &P,
+) -> Vec<Entry> {
+    let parts = HubParts::new(rt, rt.alloc(), shape).expect(rt, "memory");
+    run_under::<Brand, P, R>(rt, parts, play)
 }

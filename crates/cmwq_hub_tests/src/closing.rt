@@ -1,13 +1,12 @@
 //! A hub is closed while a caller waits.
 
 use crate::cast::{Act, run};
-use crate::fixture::{Scene, begin_flush, make, on_a_hub, plain_queue, shape};
+use crate::fixture::{begin_flush, make, plain_queue, shape};
 use cmwq_model::{Call, Counts, CpuId, ItemId, Number, QueueId, Reply};
-use cmwq_rt::{Caller, Gate, Gates, Hub, HubName, RunCtx, RunFault, Seats, Work};
+use cmwq_rt::{Caller, Gate, Gates, Hub, HubName, RunCtx, RunFault, Work};
 use std::process::Abort;
 use std::sync::Wait;
 use std::thread;
-use std::thread::Threads;
 
 /// An item is held at gate 0.
 #[derive(Drop)]
@@ -80,19 +79,6 @@ impl Act for Held {
     }
 }
 
-impl Scene for Held {
-    fn play<N: HubName + Send + Sync, R: Threads + Wait + Abort + AllocGlobal + Sync>(
-        &self,
-        rt: &R,
-        hub: Hub<N>,
-        seats: Seats<N>,
-    ) {
-        let history = run(rt, hub, seats, self);
-        let last = history.last().expect(rt, "an entry");
-        assert!(rt; matches!(last.call, Call::End { .. }));
-    }
-}
-
 #[test]
 fn a_call_that_waits_goes_on_after_the_close(rt: HostRuntime) {
     let counts = Counts {
@@ -106,5 +92,7 @@ fn a_call_that_waits_goes_on_after_the_close(rt: HostRuntime) {
     let held = Held {
         gates: Gates::new(),
     };
-    on_a_hub(&rt, &shape, &held);
+    let history = run(&rt, &shape, &held);
+    let last = history.last().expect(&rt, "an entry");
+    assert!(rt; matches!(last.call, Call::End { .. }));
 }

@@ -1,17 +1,19 @@
 //! Many callers and workers at once.
 
+ghost use Rattle.std.specs.Prelude.{◌<◌};
+ghost use Rattle.cmwq_rt.specs.Later.{Later};
+
 use crate::cast::{Act, run, starts_in};
-use crate::fixture::{Scene, make, on_a_hub, plain_queue, shape};
+use crate::fixture::{make, plain_queue, shape};
 use cmwq_model::{
     Call, Counts, CpuId, Entry, ItemId, PoolId, QueueId, QueueShape, Reply, Who, WorkerId,
 };
-use cmwq_rt::{Caller, Hub, HubName, RunCtx, Seats, Work};
+use cmwq_rt::{Caller, Hub, HubName, RunCtx, Work};
 use rand_core::utils::NextWord;
 use rand_pcg::Pcg32;
 use std::process::Abort;
 use std::sync::Wait;
 use std::sync::atomic::{AtomicU64, Ordering};
-use std::thread::Threads;
 
 const CALLERS: u8 = 8;
 
@@ -52,7 +54,9 @@ const SOMEBODY: Who = Who::Worker(WorkerId {
 });
 
 /// Queues the item behind this one.
-fn queue_next<N: HubName, R: Wait>(item: ItemId, context: &mut RunCtx<N, R>) {
+fn queue_next<N: HubName, R: Wait>(item: ItemId, context: &mut RunCtx<N, R>)
+    ensures { Later context.old context.new }
+{
     let item = ItemId(item.0.wrapping_add(1));
     let queue = QueueId(0);
     let cpu = CpuId(0);
@@ -86,8 +90,11 @@ impl Work for Crowd {
 struct Dice(Pcg32);
 
 impl Dice {
-    fn below(&mut self, limit: u32) -> u32 {
-        self.0.next_word() % limit.max(1)
+    fn below(&mut self, limit: u32) -> u32
+        requires { 0 < limit }
+        ensures { result < limit }
+    {
+        self.0.next_word() % limit
     }
 
     fn item(&mut self) -> ItemId {
@@ -199,27 +206,6 @@ fn ends_a_ticket(entry: &Entry) -> bool {
     matches!(entry.call, Call::End { .. })
 }
 
-impl Scene for Crowd {
-    fn play<N: HubName + Send + Sync, R: Threads + Wait + Abort + AllocGlobal + Sync>(
-        &self,
-        rt: &R,
-        hub: Hub<N>,
-        seats: Seats<N>,
-    ) {
-        let history = run(rt, hub, seats, self);
-        assert!(rt; history.len() >= ENTRIES, "{} entries", history.len());
-        let answered = history.iter().filter(|entry| is_answered(entry)).count();
-        assert_eq!(rt; answered as u64, self.answers.load(Ordering::SeqCst));
-        assert_eq!(rt;
-            starts_in(&history) as u64,
-            self.runs.load(Ordering::SeqCst)
-        );
-        let given = history.iter().filter(|entry| gives_a_ticket(entry)).count();
-        let ended = history.iter().filter(|entry| ends_a_ticket(entry)).count();
-        assert_eq!(rt; given, ended);
-    }
-}
-
 #[test]
 fn a_crowd_makes_one_legal_history(rt: HostRuntime) {
     let counts = Counts {
@@ -234,5 +220,15 @@ fn a_crowd_makes_one_legal_history(rt: HostRuntime) {
         runs: AtomicU64::new(0),
         answers: AtomicU64::new(0),
     };
-    on_a_hub(&rt, &shape, &crowd);
+    let history = run(&rt, &shape, &crowd);
+    assert!(rt; history.len() >= ENTRIES, "{} entries", history.len());
+    let answered = history.iter().filter(|entry| is_answered(entry)).count();
+    assert_eq!(rt; answered as u64, crowd.answers.load(Ordering::SeqCst));
+    assert_eq!(rt;
+        starts_in(&history) as u64,
+        crowd.runs.load(Ordering::SeqCst)
+    );
+    let given = history.iter().filter(|entry| gives_a_ticket(entry)).count();
+    let ended = history.iter().filter(|entry| ends_a_ticket(entry)).count();
+    assert_eq!(rt; given, ended);
 }

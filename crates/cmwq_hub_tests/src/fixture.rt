@@ -2,14 +2,15 @@
 
 ghost use Rattle.std.specs.Prelude.{◌≡◌, ◌<◌};
 
-use cmwq_model::{Call, CallerId, Counts, Entry, ItemId, QueueId, QueueShape, Reply, Shape, Who};
+use cmwq_model::{
+    Call, CallerId, Counts, Entry, ItemId, NoMemory, QueueId, QueueShape, Reply, Shape, Who,
+};
 use cmwq_rt::{Caller, Hub, HubName, HubParts, RunFault, Seats, Worker};
 use cmwq_text::{entry_line, read_entry};
 use std::alloc::Global;
 use std::marker::Brand;
 use std::process::Abort;
 use std::sync::Wait;
-use std::thread::Threads;
 
 /// A queue that isn't freezable, nor of high priority, nor CPU intensive.
 pub(crate) fn plain_queue(max_active: u16) -> QueueShape {
@@ -32,15 +33,10 @@ pub(crate) fn shape(
 
 /// What happens on a hub that was just opened.
 pub(crate) trait Scene {
-    fn play<N: HubName + Send + Sync, R: Threads + Wait + Abort + AllocGlobal + Sync>(
-        &self,
-        rt: &R,
-        hub: Hub<N>,
-        seats: Seats<N>,
-    );
+    fn play<N: HubName, R: Wait + Abort + AllocGlobal>(&self, rt: &R, hub: Hub<N>, seats: Seats<N>);
 }
 
-fn play_under<N: HubName + Send + Sync, S: Scene, R: Threads + Wait + Abort + AllocGlobal + Sync>(
+fn play_under<N: HubName, S: Scene, R: Wait + Abort + AllocGlobal>(
     rt: &R,
     parts: HubParts,
     scene: &S,
@@ -54,11 +50,7 @@ fn play_under<N: HubName + Send + Sync, S: Scene, R: Threads + Wait + Abort + Al
 }
 
 /// Opens a hub of this shape, for the scene alone.
-pub(crate) fn on_a_hub<S: Scene, R: Threads + Wait + Abort + AllocGlobal + Sync>(
-    rt: &R,
-    shape: &Shape,
-    scene: &S,
-) {
+pub(crate) fn on_a_hub<S: Scene, R: Wait + Abort + AllocGlobal>(rt: &R, shape: &Shape, scene: &S) {
     let parts = HubParts::new(rt, rt.alloc(), shape).expect(rt, "memory");
     play_under::<Brand, S, R>(rt, parts, scene);
 }
@@ -160,6 +152,15 @@ pub(crate) fn fault<N: HubName, R: Wait + Abort>(
     make(rt, hub, caller, asked.call).err()
 }
 
+/// Whether these entries are a legal history of the shape.
+fn is_legal(alloc: Global, shape: &Shape, entries: &[Entry]) -> Result<bool, NoMemory> {
+    if entries.len() > 1_000_000 || !cmwq_plain::all_fit(shape, entries) {
+        return Ok(false);
+    }
+    let verdict = cmwq_core::check(alloc, shape, entries)?;
+    Ok(verdict.is_ok())
+}
+
 /// Ends the hub. Its history is legal.
 pub(crate) fn end<N: HubName, R: Wait + Abort + AllocGlobal>(
     rt: &R,
@@ -172,11 +173,19 @@ pub(crate) fn end<N: HubName, R: Wait + Abort + AllocGlobal>(
     let history = hub
         .into_history(rt, callers, workers)
         .expect(rt, "a history");
-    assert!(rt; history.len() <= 1_000_000);
-    assert!(rt; cmwq_plain::all_fit(&shape, &history));
-    let verdict = cmwq_core::check(alloc, &shape, &history).expect(rt, "memory");
-    assert!(rt; verdict.is_ok());
+    assert!(rt; is_legal(alloc, &shape, &history).expect(rt, "memory"));
     history
+}
+
+/// Ends a hub that had this caller alone.
+pub(crate) fn end_alone<N: HubName, R: Wait + Abort + AllocGlobal>(
+    rt: &R,
+    hub: Hub<N>,
+    caller: Caller<N>,
+) -> Vec<Entry> {
+    let mut callers = [caller];
+    let mut workers = [];
+    end(rt, hub, &mut callers, &mut workers)
 }
 
 /// The history is that of these lines.

@@ -1,13 +1,12 @@
 //! Two runs at a time: one waits at a gate that the other opens.
 
 use crate::cast::{Act, run, starts_in};
-use crate::fixture::{Scene, make, on_a_hub, plain_queue, shape};
+use crate::fixture::{make, plain_queue, shape};
 use cmwq_model::{Call, Counts, CpuId, ItemId, QueueId, Reply};
-use cmwq_rt::{Caller, Gate, Gates, Hub, HubName, RunCtx, Seats, Work};
+use cmwq_rt::{Caller, Gate, Gates, Hub, HubName, RunCtx, Work};
 use std::process::Abort;
 use std::sync::Wait;
 use std::sync::atomic::{AtomicU32, Ordering};
-use std::thread::Threads;
 
 /// Item 0 sleeps at gate 0, which the other item opens. It counts the runs of each.
 #[derive(Drop)]
@@ -63,22 +62,6 @@ impl Act for Waits {
     }
 }
 
-impl Scene for Waits {
-    fn play<N: HubName + Send + Sync, R: Threads + Wait + Abort + AllocGlobal + Sync>(
-        &self,
-        rt: &R,
-        hub: Hub<N>,
-        seats: Seats<N>,
-    ) {
-        let history = run(rt, hub, seats, self);
-        assert_eq!(rt; history.len(), 10);
-        assert_eq!(rt; starts_in(&history), 2);
-        let runs = [&self.first_runs, &self.second_runs];
-        assert_eq!(rt; runs.map(|count| count.load(Ordering::SeqCst)), [1, 1]);
-        assert_eq!(rt; self.was_open.load(Ordering::SeqCst), 1);
-    }
-}
-
 #[test]
 fn a_run_waits_for_another(rt: HostRuntime) {
     let counts = Counts {
@@ -95,5 +78,10 @@ fn a_run_waits_for_another(rt: HostRuntime) {
         second_runs: AtomicU32::new(0),
         was_open: AtomicU32::new(0),
     };
-    on_a_hub(&rt, &shape, &waits);
+    let history = run(&rt, &shape, &waits);
+    assert_eq!(rt; history.len(), 10);
+    assert_eq!(rt; starts_in(&history), 2);
+    let runs = [&waits.first_runs, &waits.second_runs];
+    assert_eq!(rt; runs.map(|count| count.load(Ordering::SeqCst)), [1, 1]);
+    assert_eq!(rt; waits.was_open.load(Ordering::SeqCst), 1);
 }

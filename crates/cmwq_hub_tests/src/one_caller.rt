@@ -3,13 +3,12 @@
 ghost use Rattle.std.specs.Prelude.{◌≡◌};
 
 use crate::fixture::{
-    Scene, answer, begin_flush, bits, compare, end, fault, make, on_a_hub, plain_queue, shape,
+    Scene, answer, begin_flush, bits, compare, end_alone, fault, make, on_a_hub, plain_queue, shape,
 };
 use cmwq_model::{Call, Counts, ItemId, QueueId, QueueShape, Reply, Shape};
 use cmwq_rt::{Caller, Hub, HubName, RunFault, Seats};
 use std::process::Abort;
 use std::sync::Wait;
-use std::thread::Threads;
 
 const COUNTS: Counts = Counts {
     cpus: 1,
@@ -30,7 +29,7 @@ fn read_bits<N: HubName>(rt: &impl Abort, shape: &Shape, caller: &mut Caller<N>)
 struct EachCall;
 
 impl Scene for EachCall {
-    fn play<N: HubName + Send + Sync, R: Threads + Wait + Abort + AllocGlobal + Sync>(
+    fn play<N: HubName, R: Wait + Abort + AllocGlobal>(
         &self,
         rt: &R,
         hub: Hub<N>,
@@ -46,8 +45,7 @@ impl Scene for EachCall {
         let begun = begin_flush(rt, &hub, &mut caller, QueueId(0));
         assert!(rt; matches!(begun, Ok(Reply::Ticket(10))));
         answer(rt, &hub, &mut caller, &WAITED);
-        let mut callers = [caller];
-        let history = end(rt, hub, &mut callers, &mut []);
+        let history = end_alone(rt, hub, caller);
         compare(rt, &history, &HISTORY);
     }
 }
@@ -100,7 +98,7 @@ fn a_write_is_read_back(rt: HostRuntime) {
 struct AllSeats;
 
 impl Scene for AllSeats {
-    fn play<N: HubName + Send + Sync, R: Threads + Wait + Abort + AllocGlobal + Sync>(
+    fn play<N: HubName, R: Wait + Abort + AllocGlobal>(
         &self,
         rt: &R,
         hub: Hub<N>,
@@ -113,8 +111,7 @@ impl Scene for AllSeats {
             assert!(rt; seats.worker().is_ok());
         }
         assert_eq!(rt; seats.worker().err(), Some(RunFault::NoPlace));
-        let mut callers = [caller];
-        assert!(rt; end(rt, hub, &mut callers, &mut []).is_empty());
+        assert!(rt; end_alone(rt, hub, caller).is_empty());
     }
 }
 
@@ -128,7 +125,7 @@ fn no_seat_is_given_out_twice(rt: HostRuntime) {
 struct Widths;
 
 impl Scene for Widths {
-    fn play<N: HubName + Send + Sync, R: Threads + Wait + Abort + AllocGlobal + Sync>(
+    fn play<N: HubName, R: Wait + Abort + AllocGlobal>(
         &self,
         rt: &R,
         hub: Hub<N>,
@@ -137,8 +134,7 @@ impl Scene for Widths {
         let mut seats = seats;
         let mut caller = seats.caller().expect(rt, "a caller");
         answer(rt, &hub, &mut caller, &WIDTHS);
-        let mut callers = [caller];
-        let history = end(rt, hub, &mut callers, &mut []);
+        let history = end_alone(rt, hub, caller);
         compare(rt, &history, &WIDTHS);
     }
 }
@@ -164,7 +160,7 @@ fn a_queue_is_frozen_and_widened(rt: HostRuntime) {
 struct Ends;
 
 impl Scene for Ends {
-    fn play<N: HubName + Send + Sync, R: Threads + Wait + Abort + AllocGlobal + Sync>(
+    fn play<N: HubName, R: Wait + Abort + AllocGlobal>(
         &self,
         rt: &R,
         hub: Hub<N>,
@@ -187,8 +183,7 @@ impl Scene for Ends {
             fault(rt, &hub, &mut caller, b"c0 3 tick 1 = now 1"),
             closed
         );
-        let mut callers = [caller];
-        assert_eq!(rt; end(rt, hub, &mut callers, &mut []).len(), 3);
+        assert_eq!(rt; end_alone(rt, hub, caller).len(), 3);
     }
 }
 
@@ -204,7 +199,7 @@ fn a_closed_hub_makes_no_entry(rt: HostRuntime) {
 struct Fails;
 
 impl Scene for Fails {
-    fn play<N: HubName + Send + Sync, R: Threads + Wait + Abort + AllocGlobal + Sync>(
+    fn play<N: HubName, R: Wait + Abort + AllocGlobal>(
         &self,
         rt: &R,
         hub: Hub<N>,
@@ -222,8 +217,7 @@ impl Scene for Fails {
             fault(rt, &hub, &mut caller, b"c0 0 drain 0 = idle"),
             failed
         );
-        let mut callers = [caller];
-        assert!(rt; end(rt, hub, &mut callers, &mut []).is_empty());
+        assert!(rt; end_alone(rt, hub, caller).is_empty());
     }
 }
 
@@ -237,7 +231,7 @@ fn a_failed_hub_makes_no_entry(rt: HostRuntime) {
 struct Room;
 
 impl Scene for Room {
-    fn play<N: HubName + Send + Sync, R: Threads + Wait + Abort + AllocGlobal + Sync>(
+    fn play<N: HubName, R: Wait + Abort + AllocGlobal>(
         &self,
         rt: &R,
         hub: Hub<N>,
@@ -257,8 +251,7 @@ impl Scene for Room {
         );
         answer(rt, &hub, &mut caller, &FILLED[1..]);
         assert_eq!(rt; fault(rt, &hub, &mut caller, b"c0 3 tick 1 = now 1"), full);
-        let mut callers = [caller];
-        let history = end(rt, hub, &mut callers, &mut []);
+        let history = end_alone(rt, hub, caller);
         compare(rt, &history, &FILLED);
     }
 }
