@@ -20,7 +20,7 @@ const CALLERS: u8 = 8;
 const ITEMS: u16 = 16;
 
 /// How many calls each caller makes.
-const CALLS: u32 = 7_000;
+const CALLS: u32 = 7_500;
 
 /// As many entries as there are at least.
 const ENTRIES: usize = 100_000;
