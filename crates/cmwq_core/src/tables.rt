@@ -1,9 +1,11 @@
 //! Where each pool, flush book and serial of a book stands, and what they are told of an entry.
 
-ghost use Rattle.std.specs.Prelude.{◌≡◌, ◌<◌, length, is_some, Some};
+ghost use Rattle.std.specs.Prelude.{◌≡◌, ◌<◌, length, is_some, true, Some};
+ghost use Rattle.cmwq_model.specs.declared.call.Call.{Call};
+ghost use Rattle.cmwq_model.specs.declared.id.Who.{Who};
 ghost use Rattle.cmwq_model.specs.declared.id.PoolId.{PoolId};
 ghost use Rattle.cmwq_ties.specs.Pools.{MayAllBeAdded, MayBeTold, told_reply};
-ghost use Rattle.cmwq_model.specs.Layout.{Layout, pool_at};
+ghost use Rattle.cmwq_model.specs.Layout.{Layout, fits, pool_at};
 ghost use Rattle.cmwq_model.specs.Fate.{finishes, number_finished};
 ghost use Rattle.cmwq_ties.specs.BarrierBooks as barriers;
 ghost use Rattle.cmwq_model.specs.declared.entry.Entry.{Entry};
@@ -26,6 +28,11 @@ use cmwq_model::{
 use cmwq_pool::Pool;
 use cmwq_ticket::Tickets;
 use cmwq_timer::Timers;
+
+/// Whoever makes a call that fits a layout is there: so `fits` of a shape shows of whom the serial may be asked.
+pub fn those_who_fit_are_there()
+    ensures { (s : Layout) (who : Who) (c : Call) → fits s who c ≡ true → tables.IsThere s who }
+{}
 
 pub(crate) fn pool_place(pool: PoolId) -> usize
     ensures { result ≡ tables.pool_place pool }
