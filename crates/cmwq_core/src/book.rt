@@ -501,8 +501,15 @@ impl Book {
         tell_cancelled(&self.queues, &mut self.pools, entry.reply, effect.ended);
         tell_width(&mut self.most, entry.call, entry.reply);
         self.frozen = frozen_after(entry.reply, self.frozen);
-        tell_line(&mut self.line, effect.ended, effect.opened);
-        self.line.pass(&self.queues, &self.most, self.frozen);
+        tell_line(
+            &mut self.line,
+            &self.queues,
+            &self.most,
+            self.frozen,
+            entry.reply,
+            effect.ended,
+            effect.opened,
+        );
         list_active(&self.queues, &mut self.pools, self.line.promoted());
         tell_ended(&mut self.books, effect.ended);
         tell_opened(&mut self.books, effect.opened);
