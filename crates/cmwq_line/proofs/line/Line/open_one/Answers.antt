@@ -1,4 +1,4 @@
-use Rattle.std.proofs.Common.{◌≡◌, ◌<◌, length}
+use Rattle.std.proofs.Common.{◌<◌, length}
 use Rattle.cmwq_line.specs.Line.{Lined, place_of}
 use Rattle.cmwq_line.proofs.Passes.{read_count}
 use Rattle.cmwq_line.proofs.Behind.{opened_active, opened_waits}
@@ -13,7 +13,7 @@ returns-then-index-width c =
     let seen = read_count b.counts.items x c.place_of-at.result c.index.result.now c.place_of-at.ensures inside c.index.ensures in
     let read = read_count b.counts.items x c.place_of-at.result c.index_mut.result.now c.place_of-at.ensures inside c.index_mut.ensures.value in
     rw (← c.self.view_is) (λ wide before is many passed.
-        rw (c.push_reserved.ensures.items, read, c.place_of-at.ensures) (opened_active wide l x c.requires.cpu at before many passed (rw (is, ← seen) c.if-index-width.true)))
+    rw (c.push_reserved.ensures.items, read, c.place_of-at.ensures) (opened_active wide l x c.requires.cpu at before many passed (rw (is, ← seen) c.if-index-width.true)))
 
 pub returns-else-index-width : goal.returns-else-index-width
 returns-else-index-width c =
@@ -23,4 +23,4 @@ returns-else-index-width c =
     let inside : c.place_of-at.result < length b.counts.items = rw c.place_of-at.ensures at in
     let seen = read_count b.counts.items x c.place_of-at.result c.index.result.now c.place_of-at.ensures inside c.index.ensures in
     rw (← c.self.view_is) (λ wide before is many passed.
-        rw c.push_reserved-else-index-width.ensures.items (opened_waits wide l x c.requires.cpu at before many passed (rw (is, ← seen) c.if-index-width.false)))
+    rw c.push_reserved-else-index-width.ensures.items (opened_waits wide l x c.requires.cpu at before many passed (rw (is, ← seen) c.if-index-width.false)))
