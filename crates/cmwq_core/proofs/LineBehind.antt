@@ -1,7 +1,7 @@
 -- What waits is behind the width, and what finishes doesn't wait.
-use Rattle.std.proofs.Common.{◌≡◌, ℕ, ◌+◌, ◌<◌, ◌≤◌, Bool, true, false, not, List, [], ◌∷◌, length, filter, count_by, cond, max, min, Option, Some, None, is_some, refl, sym, ap, ◌∙◌, subst, arith, ⊎_elim}
+use Rattle.std.proofs.Common.{◌≡◌, ℕ, ◌+◌, ◌<◌, ◌≤◌, Bool, true, false, not, List, [], ◌∷◌, length, count_by, cond, max, min, Option, Some, None, is_some, refl, sym, ap, ◌∙◌, subst, arith, ⊎_elim}
 use Rattle.std.specs.Prelude.{IfSome, option_and_then}
-use Rattle.std.specs.List.{AllByRecursion, list_any}
+use Rattle.std.specs.List.{list_any}
 use Rattle.std.proofs.lemmas.Option.{same_Some}
 use Rattle.std.proofs.lemmas.Bool.{not-true}
 use Rattle.std.proofs.lemmas.List.Sums.{count_by-le-length}
@@ -27,7 +27,6 @@ use Rattle.cmwq_steps.specs.Waiting.{waiting}
 use Rattle.cmwq_steps.proofs.Active.{active_counted}
 use Rattle.cmwq_steps.proofs.Fresh.{finishes_run}
 use Rattle.cmwq_steps.proofs.RunsActive.{run_is_active}
-use Rattle.cmwq_ties.specs.Places as places
 use Rattle.cmwq_ties.proofs.Members.{In, all_in, found, in_filter, filter_in}
 use Rattle.cmwq_ties.proofs.PlacesFit.{open_there, opened_are_there}
 use Rattle.cmwq_line.specs.Line.{Lined, count_beside, is_waiting, AreBehind, IsBehind, IsPlacedIf}
