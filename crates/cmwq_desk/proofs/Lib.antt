@@ -1,0 +1,6 @@
+pub mod Beginnings
+pub mod Entries
+pub mod Entering
+pub mod Firing
+pub mod Whole
+pub mod Fitting

@@ -1,0 +1,139 @@
+-- Whole calls, put together of their steps.
+use Rattle.std.proofs.Common.{◌≡◌, ◌≢◌, ◌⊎◌, ℕ, ◌+◌, List, [], ◌∷◌, ◌++◌, Bool, true, false, true≢false, length, refl, ap, sym, ◌∙◌, subst, inl, inr, append-nil, append_assoc, None, Some}
+use Rattle.std.specs.Prelude.{All, MatchOption, MatchBool, Option}
+use mathlib.Core.List.{IsPrefix}
+use Rattle.cmwq_model.specs.declared.id.Who.{Who}
+use Rattle.cmwq_model.specs.declared.call.Call.{Call}
+use Rattle.cmwq_model.specs.declared.call.Call.TheVariants as call
+use Rattle.cmwq_model.specs.declared.reply.Reply.{Reply}
+use Rattle.cmwq_model.specs.declared.reply.Reply.TheVariants as reply
+use Rattle.cmwq_model.specs.declared.entry.Entry.{Entry}
+use Rattle.cmwq_model.specs.Layout.{Layout}
+use Rattle.cmwq_model.specs.Answer.{answer}
+use Rattle.cmwq_model.specs.Legal.{IsLegal, past_of}
+use Rattle.cmwq_desk.specs.Seats.{Seated, Gains, made_by}
+use Rattle.cmwq_desk.specs.Calls.{Extends, own_entry}
+use Rattle.cmwq_desk.specs.Faults.{Refused, Says, IsStranger}
+use Rattle.cmwq_desk.specs.declared.fault.RunFault.{RunFault}
+use Rattle.cmwq_desk.specs.declared.fault.RunFault.TheVariants.{NoMemory}
+use Rattle.cmwq_desk.specs.Whole.{Completes, BrokeOff, Makes, Behind, Fires, EndsOwn, EndsTicket, Stops, IsFire, IsPart, PartEnd, PartBehind, is_tick, is_drain, ticket_given, ticket_left}
+use Rattle.cmwq_desk.specs.Steps.{HasFired, HasFiredSome, HasEnded, HasEndedSome, still_unended}
+use Rattle.cmwq_desk.proofs.Entries.{gains_none, gains_more}
+use Rattle.cmwq_desk.proofs.Firing.{ends_extended}
+
+-- a hub that turns out to be another's says so of any call
+pub stranger_says : (s : Layout) (w : Seated) (c : Call) (f : RunFault) → IsStranger w f → Says s w c f
+stranger_says s w c f is = subst (λ g. Says s w c g) (sym is.2) is.3
+
+behind_tick : (s : Layout) (who : Who) (history made es : List Entry) (c : Call) (r : Reply) → is_tick c ≡ true → Fires s who history s.items made es → Behind s who history made c r es
+behind_tick s who history made es c r is fires = rw is fires
+
+pub tick_completes : (s : Layout) (v m w : Seated) (c : Call) (r : Reply) → is_tick c ≡ true → Extends s v c r m → HasFired s m w → Completes s v c r w
+tick_completes s v m w c r is x fired =
+    let e = own_entry s x.before v c in
+    let same = x.gains.same in
+    let fires = subst (λ made. Fires s v.who w.seen s.items made fired.entries) x.gains.made (subst (λ who. Fires s who w.seen s.items (made_by who m.seen) fired.entries) same fired.fires) in
+    record {
+      entries = e ∷ fired.entries;
+      gains = gains_more v m w (e ∷ []) fired.entries x.gains fired.gains;
+      makes = record {
+        first = e;
+        rest = fired.entries;
+        all = refl;
+        is = (refl, sym x.reply);
+        behind = behind_tick s v.who w.seen (made_by v.who v.seen ++ e ∷ []) fired.entries c r is fires;
+      };
+      ends = subst (λ who. EndsOwn s who w.seen) same fired.ends;
+      legal = fired.legal;
+    }
+
+left_more : (e : Entry) (es : List Entry) → ticket_given e.reply ≡ None → ticket_left (e ∷ es) ≡ None
+left_more e [] none = none
+left_more e (f ∷ es) none = refl
+
+pub tick_broke : (s : Layout) (v m w : Seated) (c : Call) (r : Reply) (f : RunFault) → is_tick c ≡ true → ticket_given r ≡ None → f ≡ NoMemory None → Extends s v c r m → HasFiredSome m w → BrokeOff s v c f w
+tick_broke s v m w c r f is none told x some =
+    let e = own_entry s x.before v c in
+    let left : ticket_left (e ∷ some.0) ≡ None = left_more e some.0 (ap ticket_given (sym x.reply) ∙ none) in
+    inr (e, some.0, gains_more v m w (e ∷ []) some.0 x.gains some.1, (refl, rw is some.2), inl (told ∙ ap NoMemory (sym left)))
+
+-- a call that gave no ticket
+pub begun_completes : (s : Layout) (v w : Seated) (c : Call) (r : Reply) → is_tick c ≡ false → ticket_given r ≡ None → Extends s v c r w → Completes s v c r w
+begun_completes s v w c r is none x =
+    let e = own_entry s x.before v c in record {
+      entries = e ∷ [];
+      gains = x.gains;
+      makes = record { first = e; rest = []; all = refl; is = (refl, sym x.reply); behind = rw (is, none) refl };
+      ends = ends_extended s v w c r x;
+      legal = x.legal;
+    }
+
+pub ended_completes : (s : Layout) (v m w : Seated) (c : Call) (r : Reply) (k : ℕ) → is_tick c ≡ false → ticket_given r ≡ Some k → Extends s v c r m → HasEnded s m c k w → Completes s v c r w
+ended_completes s v m w c r k is given x ended =
+    let e = own_entry s x.before v c in
+    let same = x.gains.same in
+    let end = subst (λ made. EndsTicket s v.who w.seen made c k ended.entries) x.gains.made (subst (λ who. EndsTicket s who w.seen (made_by who m.seen) c k ended.entries) same ended.is) in
+    record {
+      entries = e ∷ ended.entries;
+      gains = gains_more v m w (e ∷ []) ended.entries x.gains ended.gains;
+      makes = record { first = e; rest = ended.entries; all = refl; is = (refl, sym x.reply); behind = rw (is, given) end };
+      ends = subst (λ who. EndsOwn s who w.seen) same ended.ends;
+      legal = ended.legal;
+    }
+
+left_ended : (e : Entry) (es : List Entry) (k : ℕ) → ticket_given e.reply ≡ Some k → still_unended k es ≡ ticket_left (e ∷ es)
+left_ended e [] k given = sym given
+left_ended e (f ∷ es) k given = refl
+
+pub ended_broke : (s : Layout) (v m w : Seated) (c : Call) (r : Reply) (k : ℕ) (f : RunFault) → is_tick c ≡ false → ticket_given r ≡ Some k → Extends s v c r m → HasEndedSome s m c k f w → BrokeOff s v c f w
+ended_broke s v m w c r k f is given x some =
+    let e = own_entry s x.before v c in
+    let from : ticket_given e.reply ≡ Some k = ap ticket_given (sym x.reply) ∙ given in
+    inr (e, some.0, gains_more v m w (e ∷ []) some.0 x.gains some.1, (refl, rw (is, from) some.2), subst (λ t. Stops w t f) (left_ended e some.0 k from) some.3)
+
+-- the end of a ticket, by itself and behind a drain
+pub ended_alone : (s : Layout) (v w : Seated) (c : Call) (k : ℕ) → is_drain c ≡ false → Extends s v (call.End k) reply.Done w → HasEnded s v c k w
+ended_alone s v w c k is x =
+    let e = own_entry s x.before v (call.End k) in record {
+      entries = e ∷ [];
+      gains = x.gains;
+      is = (e, [], refl, (refl, sym x.reply), rw is refl);
+      ends = ends_extended s v w (call.End k) reply.Done x;
+      legal = x.legal;
+    }
+
+pub ended_fired : (s : Layout) (v m w : Seated) (c : Call) (k : ℕ) → is_drain c ≡ true → Extends s v (call.End k) reply.Done m → HasFired s m w → HasEnded s v c k w
+ended_fired s v m w c k is x fired =
+    let e = own_entry s x.before v (call.End k) in
+    let same = x.gains.same in
+    let fires = subst (λ made. Fires s v.who w.seen s.items made fired.entries) x.gains.made (subst (λ who. Fires s who w.seen s.items (made_by who m.seen) fired.entries) same fired.fires) in
+    record {
+      entries = e ∷ fired.entries;
+      gains = gains_more v m w (e ∷ []) fired.entries x.gains fired.gains;
+      is = (e, fired.entries, refl, (refl, sym x.reply), rw is fires);
+      ends = subst (λ who. EndsOwn s who w.seen) same fired.ends;
+      legal = fired.legal;
+    }
+
+pub ended_some : (s : Layout) (v m w : Seated) (c : Call) (k : ℕ) (f : RunFault) → is_drain c ≡ true → f ≡ NoMemory None → Extends s v (call.End k) reply.Done m → HasFiredSome m w → HasEndedSome s v c k f w
+ended_some s v m w c k f is told x some =
+    let e = own_entry s x.before v (call.End k) in (
+      e ∷ some.0,
+      gains_more v m w (e ∷ []) some.0 x.gains some.1,
+      inr (e, some.0, refl, (refl, sym x.reply), rw is some.2),
+      inl told,
+    )
+
+pub ended_not : (v w : Seated) (s : Layout) (c : Call) (k : ℕ) (f : RunFault) → w ≡ v → Stops v (Some k) f → HasEndedSome s v c k f w
+ended_not v w s c k f same stops = subst (λ x. HasEndedSome s v c k f x) (sym same) ([], gains_none v, inl refl, stops)
+
+pub when_true : {A : Type 0} (B : Type 0) (b : Bool) → b ≡ true → MatchBool b A B → A
+when_true B true e m = m
+when_true B false e m = absurd (true≢false (sym e))
+
+tick_gives_none : (s : Layout) (past : List Entry) (who : Who) (t : ℕ) → ticket_given (answer s past who (call.Tick t)) ≡ None
+unfolding answer
+tick_gives_none s past who t = refl
+
+pub ticks_give_none : (s : Layout) (v w : Seated) (t : ℕ) (r : Reply) → Extends s v (call.Tick t) r w → ticket_given r ≡ None
+ticks_give_none s v w t r x = ap ticket_given x.reply ∙ tick_gives_none s (past_of x.before) v.who t

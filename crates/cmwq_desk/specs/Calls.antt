@@ -1,0 +1,25 @@
+-- What a call of one entry promises.
+use Rattle.std.specs.Prelude.{◌≡◌, ℕ, ◌+◌, List, [], ◌∷◌, ◌++◌}
+use mathlib.Core.List.{IsPrefix}
+use Rattle.cmwq_model.specs.declared.call.Call.{Call}
+use Rattle.cmwq_model.specs.declared.reply.Reply.{Reply}
+use Rattle.cmwq_model.specs.declared.entry.Entry.{Entry}
+use Rattle.cmwq_model.specs.Layout.{Layout}
+use Rattle.cmwq_model.specs.Calls.{serial_of}
+use Rattle.cmwq_model.specs.Legal.{IsLegal, past_of, entry_for}
+use Rattle.cmwq_desk.specs.Seats.{Seated, Gains}
+
+abbrev pub own_entry : Layout → List Entry → Seated → Call → Entry
+own_entry s before v call = entry_for s (past_of before) v.who call
+
+-- What it sees now begins with what it had seen, is legal, and ends with the entry that the call gets there, under the next serial; the
+-- answer is that entry's reply. It has as many entries there as its serial says.
+pub record Extends (s : Layout) (v : Seated) (call : Call) (r : Reply) (w : Seated) : Type 0 where
+  pub before : List Entry
+  pub older : IsPrefix v.seen before
+  pub ends : w.seen ≡ before ++ own_entry s before v call ∷ []
+  pub reply : r ≡ (own_entry s before v call).reply
+  pub serial : (own_entry s before v call).serial ≡ v.serial
+  pub gains : Gains v (own_entry s before v call ∷ []) w
+  pub counts : serial_of (past_of w.seen) w.who ≡ w.serial
+  pub legal : IsLegal s (past_of w.seen)

@@ -1,0 +1,67 @@
+-- What one step under the lock leaves.
+use Rattle.std.specs.Prelude.{◌≡◌, ℕ, ◌≤◌, Bool, true, false, List, [], ◌∷◌, length, All, Option, Some, None}
+use Rattle.cmwq_model.specs.declared.call.Call.{Call}
+use Rattle.cmwq_model.specs.declared.call.Call.TheVariants as call
+use Rattle.cmwq_model.specs.declared.reply.Reply.{Reply}
+use Rattle.cmwq_model.specs.declared.reply.Reply.TheVariants as reply
+use Rattle.cmwq_model.specs.declared.entry.Entry.{Entry}
+use Rattle.cmwq_model.specs.Layout.{Layout}
+use Rattle.cmwq_model.specs.Calls.{serial_of}
+use Rattle.cmwq_model.specs.Legal.{IsLegal, past_of}
+use Rattle.cmwq_model.specs.Room.{has_room}
+use Rattle.cmwq_desk.specs.Seats.{Seated, Gains, made_by}
+use Rattle.cmwq_desk.specs.Calls.{Extends}
+use Rattle.cmwq_desk.specs.Whole.{Fires, EndsOwn, IsFire, EndsTicket, PartEnd, Stops}
+use Rattle.cmwq_desk.specs.declared.fault.RunFault.{RunFault}
+use Rattle.cmwq_desk.specs.declared.fault.Shortage.{Shortage}
+use Rattle.cmwq_desk.specs.declared.fault.Shortage.TheVariants.{Room, Memory}
+
+-- a seat counts the entries that the history has of it, and has seen no more than there is
+abbrev pub InStep : List Entry → Seated → Type 0
+InStep history v = (serial_of (past_of history) v.who ≡ v.serial) × (length v.seen ≤ length history)
+
+-- what was short
+abbrev pub Lacks : Layout → Seated → Call → Shortage → Type 0
+Lacks s w call Room = has_room s s.room (past_of w.seen) w.who call ≡ false
+Lacks s w call Memory = Unit {0}
+
+-- all that was due was fired, as far as there was room
+pub record HasFired (s : Layout) (v w : Seated) : Type 0 where
+  pub entries : List Entry
+  pub gains : Gains v entries w
+  pub fires : Fires s v.who w.seen s.items (made_by v.who v.seen) entries
+  pub ends : EndsOwn s v.who w.seen
+  pub legal : IsLegal s (past_of w.seen)
+
+abbrev pub is_nothing : Reply → Bool
+is_nothing reply.Nothing = true
+is_nothing r = false
+
+-- some fires were made
+abbrev pub HasFiredSome : Seated → Seated → Type 0
+HasFiredSome v w = (es : List Entry) × Gains v es w × All IsFire es
+
+-- a worker starts a queueing of its pool
+abbrev pub is_start : Reply → Bool
+is_start (reply.Started n) = true
+is_start (reply.StartedEnlist n x) = true
+is_start r = false
+
+abbrev pub StartsOne : Layout → Seated → Seated → Type 0
+StartsOne s v w = (r : Reply) × (is_start r ≡ true) × Extends s v call.Take r w
+
+-- A wait ended: its ticket's end was done, and what a drain fires was fired.
+pub record HasEnded (s : Layout) (v : Seated) (c : Call) (k : ℕ) (w : Seated) : Type 0 where
+  pub entries : List Entry
+  pub gains : Gains v entries w
+  pub is : EndsTicket s v.who w.seen (made_by v.who v.seen) c k entries
+  pub ends : EndsOwn s v.who w.seen
+  pub legal : IsLegal s (past_of w.seen)
+
+-- or it stopped behind some of that
+abbrev pub still_unended : ℕ → List Entry → Option ℕ
+still_unended k [] = Some k
+still_unended k (e ∷ es) = None
+
+abbrev pub HasEndedSome : Layout → Seated → Call → ℕ → RunFault → Seated → Type 0
+HasEndedSome s v c k f w = (es : List Entry) × Gains v es w × PartEnd c k es × Stops w (still_unended k es) f

@@ -1,0 +1,12 @@
+//! What a hub keeps under its lock, and the seats of its callers and workers.
+#![tactic(auto)]
+
+mod desk;
+mod fault;
+mod seat;
+mod sleepers;
+
+pub use desk::Desk;
+pub use fault::{RunFault, Shortage};
+pub use seat::Seat;
+pub use sleepers::{Rings, Sleepers, place_of};

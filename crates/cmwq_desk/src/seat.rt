@@ -1,0 +1,115 @@
+//! The seat of a caller or a worker: who it is, how many entries it made, and the history as far as it has seen it.
+ghost use Rattle.std.specs.Prelude.{◌≡◌, ◌+◌, ◌≤◌, ◌++◌, ◌∷◌, [], length};
+ghost use mathlib.Core.List.{IsPrefix};
+ghost use Rattle.cmwq_model.specs.Calls.{serial_of};
+ghost use Rattle.cmwq_model.specs.Legal.{past_of, IsLegal};
+ghost use Rattle.cmwq_core.specs.Tables.{IsThere};
+ghost use Rattle.cmwq_desk.specs.Seats.{newcomer};
+
+use cmwq_model::Who;
+use cmwq_versions::{Front, HubName};
+use std::marker::Model;
+use std::sync::ledger;
+use std::sync::ledger::Share;
+
+/// What a caller or a worker of a hub holds. Contracts see who it is, its serial and the history that it has seen, which is legal.
+#[derive(Drop)]
+pub struct Seat<N: HubName> {
+    who: Who,
+    serial: u32,
+    share: Share<N>,
+    front: Front<N>,
+}
+
+impl<N: HubName> Model for Seat<N> {
+    ghost use Rattle.std.specs.Prelude.{◌≡◌, ◌≤◌};
+    ghost use Rattle.cmwq_model.specs.Calls.{serial_of};
+    ghost use Rattle.cmwq_model.specs.Legal.{past_of};
+    ghost use Rattle.cmwq_core.specs.Tables.{IsThere};
+    ghost use Rattle.cmwq_desk.specs.Seats.{Seated};
+
+    ghost Value = { Seated };
+
+    ghost view = { λ s. record { who = s.who; serial = s.serial; seen = s.front } };
+
+    ghost invariant = { λ s. IsThere N.layout s.who × (s.serial ≤ serial_of (past_of s.front) s.who) × (s.share.parts ≡ 1) × (s.share.amount ≡ s.serial) };
+}
+
+impl<N: HubName> Seat<N> {
+    /// The seat of one who has made no call.
+    pub fn new(who: Who, front: Front<N>, share: Share<N>) -> Seat<N>
+        requires there { IsThere N.layout who }
+        requires empty { front ≡ [] }
+        requires share { (share.parts ≡ 1) × (share.amount ≡ 0) }
+        ensures { result ≡ newcomer who }
+    {
+        Seat {
+            who,
+            serial: 0,
+            share,
+            front,
+        }
+    }
+
+    /// Who it is.
+    pub fn who(&self) -> Who
+        ensures who { result ≡ self.now.who }
+        ensures there { IsThere N.layout self.now.who }
+    {
+        self.who
+    }
+
+    /// How many entries it has made.
+    pub fn serial(&self) -> u32
+        ensures serial { result ≡ self.now.serial }
+        ensures own { self.now.serial ≤ serial_of (past_of self.now.seen) self.now.who }
+    {
+        self.serial
+    }
+
+    /// How many entries it has seen.
+    pub fn seen(&self) -> u64
+        ensures seen { result ≡ length self.now.seen }
+        ensures legal { IsLegal N.layout (past_of self.now.seen) }
+    {
+        self.front.len()
+    }
+
+    /// Sees as much of the history as the front, which is no shorter.
+    pub fn see(&mut self, front: &Front<N>)
+        requires { length self.old.seen ≤ length front.now }
+        ensures seen { self.new ≡ record self.old { seen = front.now } }
+        ensures older { IsPrefix self.old.seen front.now }
+    {
+        self.front.begins(front);
+        self.front = front.again();
+    }
+
+    /// The same after an entry of its own, which the ledger counts.
+    pub fn count(&mut self, front: &Front<N>, serial: u32, entries: &mut ledger::Book<N>)
+        requires longer { length self.old.seen ≤ length front.now }
+        requires next { serial ≡ self.old.serial + 1 }
+        requires own { serial ≤ serial_of (past_of front.now) self.old.who }
+        ensures seen { self.new ≡ record self.old { serial = serial; seen = front.now } }
+        ensures older { IsPrefix self.old.seen front.now }
+        ensures counted { entries.new.total ≡ entries.old.total + 1 }
+    {
+        self.front.begins(front);
+        self.front = front.again();
+        entries.add(&mut self.share, 1);
+        self.serial = serial;
+    }
+
+    /// What the ledger has of it: as many entries as its serial says.
+    pub fn into_share(self) -> Share<N>
+        ensures { (result.parts ≡ 1) × (result.amount ≡ self.serial) }
+    {
+        let Seat {
+            who: _,
+            serial: _,
+            share,
+            front: _front,
+        } = self;
+        share
+    }
+}

@@ -1,0 +1,70 @@
+-- The places of callers and workers.
+use Rattle.std.proofs.Common.{◌≡◌, ℕ, zero, suc, ◌+◌, ◌*◌, ◌<◌, ◌≤◌, List, Bool, true, false, true≢false, ◌&&◌, not, refl, sym, ap, ◌∙◌, subst, arith, IsTrue}
+use Rattle.std.specs.Prelude.{Option, Some, None, MatchOption, nat_lt, if◌then◌else◌}
+use Rattle.std.proofs.lemmas.Bool.{leb-true, ltb-true}
+use Rattle.cmwq_model.specs.declared.id.WorkerId.{WorkerId}
+use Rattle.cmwq_model.specs.declared.shape.Counts.{Counts}
+use Rattle.cmwq_model.specs.declared.shape.QueueShape.{QueueShape}
+use Rattle.cmwq_model.specs.Layout.{Layout, layout_of, is_layout}
+use Rattle.cmwq_rt.specs.Places.{AreCounts, IsNextPlace, after_worker, place, lane}
+
+and_both : (a b : Bool) → (a && b) ≡ true → (a ≡ true) × (b ≡ true)
+and_both true b e = (refl, e)
+and_both false b e = absurd (true≢false (sym e))
+
+pub counts_are : (s : Layout) (n : Counts) (queues : List QueueShape) → layout_of n queues ≡ s → is_layout s ≡ true → AreCounts s n
+counts_are s n queues is limits =
+    let all = and_both _ _ limits in
+    let most = and_both _ _ all.0 in
+    let more = and_both _ _ most.0 in
+    let three = and_both _ _ more.0 in
+    let two = and_both _ _ three.0 in
+    let cpus = and_both _ _ two.0 in
+    let workers = and_both _ _ two.1 in
+    let callers = and_both _ _ three.1 in
+    record {
+      cpus = ap (λ (l : Layout). l.cpus) is;
+      workers = ap (λ (l : Layout). l.workers) is;
+      callers = ap (λ (l : Layout). l.callers) is;
+      few_cpus = (leb-true 1 s.cpus cpus.0, leb-true s.cpus 4 cpus.1);
+      few_workers = (leb-true 1 s.workers workers.0, leb-true s.workers 8 workers.1);
+      few_callers = (leb-true 1 s.callers callers.0, leb-true s.callers 64 callers.1);
+    }
+
+eight : (h : Bool) → lane h ≤ 8
+eight true = omega arith
+eight false = omega arith
+
+-- never more than 64 workers are given out
+pub few_given : (s : Layout) (n : Counts) (next : Option WorkerId) (given : ℕ) → AreCounts s n → IsNextPlace s next given → given ≤ 64
+few_given s n None given are is = is
+few_given s n (Some w) given are is =
+    let e = eight w.pool.high in let c = is.0 in let i = is.1 in let p = is.2 in let cpus = are.few_cpus.1 in let workers = are.few_workers.1 in omega arith
+
+-- behind the worker that is given out stands the next one
+pub next_place : (s : Layout) (n : Counts) (w : WorkerId) (given : ℕ) → AreCounts s n → w.pool.cpu.0 < s.cpus → w.index < s.workers → given ≤ place w → IsNextPlace s (after_worker s w) (given + 1)
+next_place s n w given are cpu index before = same_pool_next (nat_lt (w.index + 1) s.workers) refl
+  where
+    few : given + 1 ≤ 64
+    few = let e = eight w.pool.high in let cpus = are.few_cpus.1 in let workers = are.few_workers.1 in omega arith
+
+    next_cpu : (b : Bool) → nat_lt (w.pool.cpu.0 + 1) s.cpus ≡ b
+        → IsNextPlace s (if b then Some (record { pool = record { cpu = record { 0 = w.pool.cpu.0 + 1 }; high = false }; index = 0 }) else None) (given + 1)
+    next_cpu true is = (ltb-true (w.pool.cpu.0 + 1) s.cpus is, are.few_workers.0, (let e = eight w.pool.high in let workers = are.few_workers.1 in omega arith))
+    next_cpu false is = few
+
+    high_pool : (h : Bool) → w.pool.high ≡ h
+        → IsNextPlace s (if not h then Some (record { pool = record { cpu = w.pool.cpu; high = true }; index = 0 })
+        else (if nat_lt (w.pool.cpu.0 + 1) s.cpus then Some (record { pool = record { cpu = record { 0 = w.pool.cpu.0 + 1 }; high = false }; index = 0 }) else None)) (given + 1)
+    high_pool true is = next_cpu (nat_lt (w.pool.cpu.0 + 1) s.cpus) refl
+    high_pool false is =
+        let low : lane w.pool.high ≡ 0 = ap lane is in
+        let workers = are.few_workers.1 in
+        (cpu, are.few_workers.0, omega arith)
+
+    same_pool_next : (b : Bool) → nat_lt (w.index + 1) s.workers ≡ b
+        → IsNextPlace s (if b then Some (record w { index = w.index + 1 })
+        else (if not w.pool.high then Some (record { pool = record { cpu = w.pool.cpu; high = true }; index = 0 })
+        else (if nat_lt (w.pool.cpu.0 + 1) s.cpus then Some (record { pool = record { cpu = record { 0 = w.pool.cpu.0 + 1 }; high = false }; index = 0 }) else None))) (given + 1)
+    same_pool_next true is = (cpu, ltb-true (w.index + 1) s.workers is, omega arith)
+    same_pool_next false is = high_pool w.pool.high refl

@@ -1,0 +1,9 @@
+-- What a work function may have done to its worker, and what a worker's loop has done.
+use Rattle.std.specs.Prelude.{◌≡◌, ℕ, ◌≤◌, List}
+use mathlib.Core.List.{IsPrefix}
+use Rattle.cmwq_model.specs.declared.entry.Entry.{Entry}
+use Rattle.cmwq_desk.specs.Seats.{Seated}
+
+-- It is the same worker, which has made no fewer entries, and whatever began what it had seen begins what it sees now.
+abbrev pub Later : Seated → Seated → Type 0
+Later v w = (w.who ≡ v.who) × (v.serial ≤ w.serial) × ((front : List Entry) → IsPrefix front v.seen → IsPrefix front w.seen)

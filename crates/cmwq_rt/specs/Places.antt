@@ -1,0 +1,45 @@
+-- Which callers and workers of a hub are given out.
+use Rattle.std.specs.Prelude.{◌≡◌, ℕ, zero, suc, ◌+◌, ◌*◌, ◌<◌, ◌≤◌, Bool, true, false, not, ◌&&◌, if◌then◌else◌, Option, Some, None, nat_lt, MatchOption}
+use Rattle.cmwq_model.specs.declared.id.WorkerId.{WorkerId}
+use Rattle.cmwq_model.specs.declared.shape.Counts.{Counts}
+use Rattle.cmwq_model.specs.Layout.{Layout}
+
+-- the callers are given out by number: so many are; the workers in their order: the next one, if one is left, and how many are
+pub record Places : Type 0 where
+  pub callers : ℕ
+  pub next : Option WorkerId
+  pub workers : ℕ
+
+-- by CPU, the normal pool before the one of high priority, then by index
+abbrev pub first_worker : WorkerId
+first_worker = record { pool = record { cpu = record { 0 = 0 }; high = false }; index = 0 }
+
+abbrev pub after_worker : Layout → WorkerId → Option WorkerId
+after_worker s w =
+    if nat_lt (w.index + 1) s.workers then Some (record w { index = w.index + 1 })
+    else (if not w.pool.high then Some (record { pool = record { cpu = w.pool.cpu; high = true }; index = 0 })
+    else (if nat_lt (w.pool.cpu.0 + 1) s.cpus then Some (record { pool = record { cpu = record { 0 = w.pool.cpu.0 + 1 }; high = false }; index = 0 }) else None))
+
+abbrev pub all_free : Places
+all_free = record { callers = 0; next = Some first_worker; workers = 0 }
+
+-- the counts are those of the layout, and inside their limits
+pub record AreCounts (s : Layout) (n : Counts) : Type 0 where
+  pub cpus : n.cpus ≡ s.cpus
+  pub workers : n.workers ≡ s.workers
+  pub callers : n.callers ≡ s.callers
+  pub few_cpus : (0 < s.cpus) × (s.cpus ≤ 4)
+  pub few_workers : (0 < s.workers) × (s.workers ≤ 8)
+  pub few_callers : (0 < s.callers) × (s.callers ≤ 64)
+
+-- the place of a worker among all that there could be
+abbrev pub lane : Bool → ℕ
+lane false = 0
+lane true = 8
+
+abbrev pub place : WorkerId → ℕ
+place w = 16 * w.pool.cpu.0 + lane w.pool.high + w.index
+
+-- the next worker is inside the layout, and no more were given out than stand before it, so never more than 64
+abbrev pub IsNextPlace : Layout → Option WorkerId → ℕ → Type 0
+IsNextPlace s next given = MatchOption next (given ≤ 64) (λ w. (w.pool.cpu.0 < s.cpus) × (w.index < s.workers) × (given ≤ place w))

@@ -1,0 +1,413 @@
+//! A caller of a hub.
+ghost use Rattle.std.specs.Prelude.{◌≡◌, ◌<◌, length, true, false, IfOk, IfErr, MatchOption, Some, None};
+ghost use mathlib.Core.List.{IsPrefix};
+ghost use Rattle.cmwq_model.specs.Layout.{has_numbers, is_callers};
+ghost use Rattle.cmwq_model.specs.Legal.{past_of, IsLegal, bits};
+ghost use Rattle.cmwq_model.specs.declared.call.Call.TheVariants as calls;
+ghost use Rattle.cmwq_desk.specs.Seats.{is_caller};
+ghost use Rattle.cmwq_desk.specs.Calls.{Extends};
+ghost use Rattle.cmwq_desk.specs.Faults.{Refused, IsStranger};
+ghost use Rattle.cmwq_desk.specs.Whole.{Completes, BrokeOff, is_tick, ticket_given};
+ghost use Rattle.cmwq_desk.specs.Settled.{Settles};
+
+use crate::hub::Hub;
+use cmwq_desk::{Desk, RunFault, Seat};
+use cmwq_model::{Call, CpuId, ItemId, Number, QueueId, Reply};
+use cmwq_versions::{HubName, Sights};
+use std::marker::Model;
+use std::sync::Wait;
+use std::sync::ledger::Share;
+
+/// One of the callers of a hub. Contracts see who it is, its serial and the history that it has seen.
+#[derive(Drop)]
+pub struct Caller<N: HubName> {
+    seat: Seat<N>,
+    sights: Sights<N>,
+}
+
+impl<N: HubName> Model for Caller<N> {
+    ghost use Rattle.std.specs.Prelude.{◌≡◌, true};
+    ghost use Rattle.cmwq_desk.specs.Seats.{Seated, is_caller};
+
+    ghost Value = { Seated };
+
+    ghost view = { λ c. c.seat };
+
+    ghost invariant = { λ c. is_caller c.seat.who ≡ true };
+}
+
+fn ticket_in(reply: Reply) -> Option<Number>
+    ensures { result ≡ ticket_given reply }
+{
+    match reply {
+        Reply::Ticket(ticket)
+        | Reply::TicketQueued(ticket)
+        | Reply::TicketCancelled(ticket, _)
+        | Reply::TicketUnbooked(ticket)
+        | Reply::TicketNo(ticket) => Some(ticket),
+        _ => None,
+    }
+}
+
+impl<N: HubName> Caller<N> {
+    pub(crate) fn new(seat: Seat<N>, sights: Sights<N>) -> Caller<N>
+        requires { is_caller seat.who ≡ true }
+        ensures { result ≡ seat }
+    {
+        Caller { seat, sights }
+    }
+
+    pub(crate) fn settle(&mut self, desk: &Desk<N>) -> Result<(), RunFault>
+        ensures settled { IfOk result (λ _. Settles desk.now self.old self.new) }
+        ensures stranger { IfErr result (λ f. (self.new ≡ self.old) × IsStranger self.old f) }
+    {
+        desk.settle(&mut self.seat)
+    }
+
+    /// What the hub's ledger has of it: as many entries as its serial says.
+    pub fn into_share(self) -> Share<N>
+        ensures { (result.parts ≡ 1) × (result.amount ≡ self.serial) }
+    {
+        let Caller {
+            seat,
+            sights: _sights,
+        } = self;
+        seat.into_share()
+    }
+
+    /// The bits of an item (`work_busy`): 1 if it is pending, plus 2 if it runs, after a list of entries that begins with all that the
+    /// caller has seen, and that it has seen from then on. It takes no lock, no memory, and waits for nobody. None where the reader gives
+    /// no guard.
+    pub fn busy(&mut self, item: ItemId) -> Option<u8>
+        requires { item.0 < N.layout.items }
+        ensures bits { MatchOption result (self.new ≡ self.old) (λ b. b ≡ bits (past_of self.new.seen) item.0) }
+        ensures seen { IsPrefix self.old.seen self.new.seen }
+        ensures legal { IsLegal N.layout (past_of self.new.seen) }
+        ensures same { (self.new.who ≡ self.old.who) × (self.new.serial ≡ self.old.serial) }
+    {
+        let seen = self.seat.seen();
+        let (front, bits) = self.sights.look(item)?;
+        if front.len() < seen {
+            return None;
+        }
+        self.seat.see(&front);
+        Some(bits)
+    }
+
+    /// A call of one entry.
+    fn make<R: Wait>(&mut self, rt: &R, hub: &Hub<N>, call: Call) -> Result<Reply, RunFault>
+        requires callers { is_callers call ≡ true }
+        requires numbers { has_numbers N.layout call ≡ true }
+        ensures made { IfOk result (λ reply. Extends N.layout self.old call reply self.new) }
+        ensures refused { IfErr result (λ f. Refused N.layout self.old call f self.new) }
+    {
+        let _who = self.seat.who();
+        hub.call(rt, &mut self.seat, call)
+    }
+
+    /// A call that may give a ticket, which is ended as soon as it may be.
+    fn wait_out<R: Wait>(&mut self, rt: &R, hub: &Hub<N>, call: Call) -> Result<Reply, RunFault>
+        requires callers { is_callers call ≡ true }
+        requires numbers { has_numbers N.layout call ≡ true }
+        requires waits { is_tick call ≡ false }
+        ensures done { IfOk result (λ reply. Completes N.layout self.old call reply self.new) }
+        ensures broke { IfErr result (λ f. BrokeOff N.layout self.old call f self.new) }
+    {
+        let _who = self.seat.who();
+        let mut desk = hub.lock(rt);
+        let reply = match desk.call(rt, &mut self.seat, call) {
+            Ok(reply) => reply,
+            Err(fault) => {
+                hub.leave(desk);
+                return Err(fault);
+            }
+        };
+        let Some(ticket) = ticket_in(reply) else {
+            hub.leave(desk);
+            return Ok(reply);
+        };
+        if let Err(fault) = hub.until_ended(rt, desk, &mut self.seat, call, ticket) {
+            return Err(fault);
+        }
+        Ok(reply)
+    }
+
+    /// Queues an item (`queue_work_on`): one entry.
+    ///
+    /// # Errors
+    /// As of all calls of one entry: `Closed`, `NoMemory` where the hub has failed, `Stranger`, `Full`; it has made no entry then.
+    pub fn queue<R: Wait>(
+        &mut self,
+        rt: &R,
+        hub: &Hub<N>,
+        item: ItemId,
+        queue: QueueId,
+        cpu: CpuId,
+    ) -> Result<Reply, RunFault>
+        requires { has_numbers N.layout (calls.Queue item queue cpu) ≡ true }
+        ensures made { IfOk result (λ reply. Extends N.layout self.old (calls.Queue item queue cpu) reply self.new) }
+        ensures refused { IfErr result (λ f. Refused N.layout self.old (calls.Queue item queue cpu) f self.new) }
+    {
+        self.make(rt, hub, Call::Queue { item, queue, cpu })
+    }
+
+    /// Queues an item after so many ticks (`queue_delayed_work_on`): one entry.
+    ///
+    /// # Errors
+    /// As of all calls of one entry: `Closed`, `NoMemory` where the hub has failed, `Stranger`, `Full`; it has made no entry then.
+    pub fn delay<R: Wait>(
+        &mut self,
+        rt: &R,
+        hub: &Hub<N>,
+        item: ItemId,
+        queue: QueueId,
+        cpu: CpuId,
+        ticks: u32,
+    ) -> Result<Reply, RunFault>
+        requires { has_numbers N.layout (calls.Delay item queue cpu ticks) ≡ true }
+        ensures made { IfOk result (λ reply. Extends N.layout self.old (calls.Delay item queue cpu ticks) reply self.new) }
+        ensures refused { IfErr result (λ f. Refused N.layout self.old (calls.Delay item queue cpu ticks) f self.new) }
+    {
+        self.make(
+            rt,
+            hub,
+            Call::Delay {
+                item,
+                queue,
+                cpu,
+                ticks,
+            },
+        )
+    }
+
+    /// Queues or delays an item anew (`mod_delayed_work_on`): one entry.
+    ///
+    /// # Errors
+    /// As of all calls of one entry: `Closed`, `NoMemory` where the hub has failed, `Stranger`, `Full`; it has made no entry then.
+    pub fn modify<R: Wait>(
+        &mut self,
+        rt: &R,
+        hub: &Hub<N>,
+        item: ItemId,
+        queue: QueueId,
+        cpu: CpuId,
+        ticks: u32,
+    ) -> Result<Reply, RunFault>
+        requires { has_numbers N.layout (calls.Modify item queue cpu ticks) ≡ true }
+        ensures made { IfOk result (λ reply. Extends N.layout self.old (calls.Modify item queue cpu ticks) reply self.new) }
+        ensures refused { IfErr result (λ f. Refused N.layout self.old (calls.Modify item queue cpu ticks) f self.new) }
+    {
+        self.make(
+            rt,
+            hub,
+            Call::Modify {
+                item,
+                queue,
+                cpu,
+                ticks,
+            },
+        )
+    }
+
+    /// Takes a pending item back (`cancel_work`, `cancel_delayed_work`): one entry.
+    ///
+    /// # Errors
+    /// As of all calls of one entry: `Closed`, `NoMemory` where the hub has failed, `Stranger`, `Full`; it has made no entry then.
+    pub fn cancel<R: Wait>(&mut self, rt: &R, hub: &Hub<N>, item: ItemId) -> Result<Reply, RunFault>
+        requires { has_numbers N.layout (calls.Cancel item) ≡ true }
+        ensures made { IfOk result (λ reply. Extends N.layout self.old (calls.Cancel item) reply self.new) }
+        ensures refused { IfErr result (λ f. Refused N.layout self.old (calls.Cancel item) f self.new) }
+    {
+        self.make(rt, hub, Call::Cancel { item })
+    }
+
+    /// Begins to wait for all that is queued on a queue, and doesn't wait: one entry, whose reply gives the ticket.
+    ///
+    /// # Errors
+    /// As of all calls of one entry: `Closed`, `NoMemory` where the hub has failed, `Stranger`, `Full`; it has made no entry then.
+    pub fn flush_begin<R: Wait>(
+        &mut self,
+        rt: &R,
+        hub: &Hub<N>,
+        queue: QueueId,
+    ) -> Result<Reply, RunFault>
+        requires { has_numbers N.layout (calls.Flush queue) ≡ true }
+        ensures made { IfOk result (λ reply. Extends N.layout self.old (calls.Flush queue) reply self.new) }
+        ensures refused { IfErr result (λ f. Refused N.layout self.old (calls.Flush queue) f self.new) }
+    {
+        self.make(rt, hub, Call::Flush { queue })
+    }
+
+    /// Ends a ticket if it may end (`done`), and else says what it waits for: one entry.
+    ///
+    /// # Errors
+    /// As of all calls of one entry: `Closed`, `NoMemory` where the hub has failed, `Stranger`, `Full`; it has made no entry then.
+    pub fn flush_try<R: Wait>(
+        &mut self,
+        rt: &R,
+        hub: &Hub<N>,
+        ticket: Number,
+    ) -> Result<Reply, RunFault>
+        ensures made { IfOk result (λ reply. Extends N.layout self.old (calls.End ticket) reply self.new) }
+        ensures refused { IfErr result (λ f. Refused N.layout self.old (calls.End ticket) f self.new) }
+    {
+        self.make(rt, hub, Call::End { ticket })
+    }
+
+    /// Sets how many queueings of a queue may be active on one CPU (`workqueue_set_max_active`): one entry.
+    ///
+    /// # Errors
+    /// As of all calls of one entry: `Closed`, `NoMemory` where the hub has failed, `Stranger`, `Full`; it has made no entry then.
+    pub fn set_max<R: Wait>(
+        &mut self,
+        rt: &R,
+        hub: &Hub<N>,
+        queue: QueueId,
+        max_active: u32,
+    ) -> Result<Reply, RunFault>
+        requires { has_numbers N.layout (calls.SetMax queue max_active) ≡ true }
+        ensures made { IfOk result (λ reply. Extends N.layout self.old (calls.SetMax queue max_active) reply self.new) }
+        ensures refused { IfErr result (λ f. Refused N.layout self.old (calls.SetMax queue max_active) f self.new) }
+    {
+        self.make(rt, hub, Call::SetMax { queue, max_active })
+    }
+
+    /// Lets nothing more become active on freezable queues (`freeze_workqueues_begin`): one entry.
+    ///
+    /// # Errors
+    /// As of all calls of one entry: `Closed`, `NoMemory` where the hub has failed, `Stranger`, `Full`; it has made no entry then.
+    pub fn freeze<R: Wait>(&mut self, rt: &R, hub: &Hub<N>) -> Result<Reply, RunFault>
+        ensures made { IfOk result (λ reply. Extends N.layout self.old calls.Freeze reply self.new) }
+        ensures refused { IfErr result (λ f. Refused N.layout self.old calls.Freeze f self.new) }
+    {
+        self.make(rt, hub, Call::Freeze)
+    }
+
+    /// Ends that (`thaw_workqueues`): one entry.
+    ///
+    /// # Errors
+    /// As of all calls of one entry: `Closed`, `NoMemory` where the hub has failed, `Stranger`, `Full`; it has made no entry then.
+    pub fn thaw<R: Wait>(&mut self, rt: &R, hub: &Hub<N>) -> Result<Reply, RunFault>
+        ensures made { IfOk result (λ reply. Extends N.layout self.old calls.Thaw reply self.new) }
+        ensures refused { IfErr result (λ f. Refused N.layout self.old calls.Thaw f self.new) }
+    {
+        self.make(rt, hub, Call::Thaw)
+    }
+
+    /// Lets so many ticks go by, and then fires what is due: the tick's entry and those of the fires, until there is nothing to fire or no
+    /// room, but at most as many as there are items. The answer is the tick's.
+    ///
+    /// # Errors
+    /// Those of a call of one entry, with no entry made; `NoMemory` also behind some of them.
+    pub fn tick<R: Wait>(&mut self, rt: &R, hub: &Hub<N>, ticks: u32) -> Result<Reply, RunFault>
+        ensures done { IfOk result (λ reply. Completes N.layout self.old (calls.Tick ticks) reply self.new) }
+        ensures broke { IfErr result (λ f. BrokeOff N.layout self.old (calls.Tick ticks) f self.new) }
+    {
+        let mut desk = hub.lock(rt);
+        let answer = desk.tick(rt, &mut self.seat, ticks);
+        hub.leave(desk);
+        answer
+    }
+
+    /// Waits until all that was queued on a queue before has ended (`flush_workqueue`): the entry that begins the wait, and the one that ends it.
+    ///
+    /// # Errors
+    /// Those of a call of one entry, with no entry made; `NoMemory` also behind the first, and then it tells the ticket, which stands unended.
+    pub fn flush<R: Wait>(
+        &mut self,
+        rt: &R,
+        hub: &Hub<N>,
+        queue: QueueId,
+    ) -> Result<Reply, RunFault>
+        requires { has_numbers N.layout (calls.Flush queue) ≡ true }
+        ensures done { IfOk result (λ reply. Completes N.layout self.old (calls.Flush queue) reply self.new) }
+        ensures broke { IfErr result (λ f. BrokeOff N.layout self.old (calls.Flush queue) f self.new) }
+    {
+        self.wait_out(rt, hub, Call::Flush { queue })
+    }
+
+    /// Waits until the queueings of an item that are open have ended (`flush_work`): one entry where there are none, else two.
+    ///
+    /// # Errors
+    /// Those of a call of one entry, with no entry made; `NoMemory` also behind the first, and then it tells the ticket, which stands unended.
+    pub fn flush_item<R: Wait>(
+        &mut self,
+        rt: &R,
+        hub: &Hub<N>,
+        item: ItemId,
+    ) -> Result<Reply, RunFault>
+        requires { has_numbers N.layout (calls.FlushItem item) ≡ true }
+        ensures done { IfOk result (λ reply. Completes N.layout self.old (calls.FlushItem item) reply self.new) }
+        ensures broke { IfErr result (λ f. BrokeOff N.layout self.old (calls.FlushItem item) f self.new) }
+    {
+        self.wait_out(rt, hub, Call::FlushItem { item })
+    }
+
+    /// The same, after queueing the item at once if it is delayed (`flush_delayed_work`).
+    ///
+    /// # Errors
+    /// Those of a call of one entry, with no entry made; `NoMemory` also behind the first, and then it tells the ticket, which stands unended.
+    pub fn flush_delayed<R: Wait>(
+        &mut self,
+        rt: &R,
+        hub: &Hub<N>,
+        item: ItemId,
+    ) -> Result<Reply, RunFault>
+        requires { has_numbers N.layout (calls.FlushDelayed item) ≡ true }
+        ensures done { IfOk result (λ reply. Completes N.layout self.old (calls.FlushDelayed item) reply self.new) }
+        ensures broke { IfErr result (λ f. BrokeOff N.layout self.old (calls.FlushDelayed item) f self.new) }
+    {
+        self.wait_out(rt, hub, Call::FlushDelayed { item })
+    }
+
+    /// Takes an item back and waits until it doesn't run (`cancel_work_sync`, `cancel_delayed_work_sync`): two entries.
+    ///
+    /// # Errors
+    /// Those of a call of one entry, with no entry made; `NoMemory` also behind the first, and then it tells the ticket, which stands unended.
+    pub fn cancel_sync<R: Wait>(
+        &mut self,
+        rt: &R,
+        hub: &Hub<N>,
+        item: ItemId,
+    ) -> Result<Reply, RunFault>
+        requires { has_numbers N.layout (calls.CancelSync item) ≡ true }
+        ensures done { IfOk result (λ reply. Completes N.layout self.old (calls.CancelSync item) reply self.new) }
+        ensures broke { IfErr result (λ f. BrokeOff N.layout self.old (calls.CancelSync item) f self.new) }
+    {
+        self.wait_out(rt, hub, Call::CancelSync { item })
+    }
+
+    /// Waits until a queue is empty (`drain_workqueue`), and then fires what is due: two entries and those of the fires.
+    ///
+    /// # Errors
+    /// Those of a call of one entry, with no entry made; `NoMemory` also behind the first, and then it tells the ticket, which stands unended.
+    pub fn drain<R: Wait>(
+        &mut self,
+        rt: &R,
+        hub: &Hub<N>,
+        queue: QueueId,
+    ) -> Result<Reply, RunFault>
+        requires { has_numbers N.layout (calls.Drain queue) ≡ true }
+        ensures done { IfOk result (λ reply. Completes N.layout self.old (calls.Drain queue) reply self.new) }
+        ensures broke { IfErr result (λ f. BrokeOff N.layout self.old (calls.Drain queue) f self.new) }
+    {
+        self.wait_out(rt, hub, Call::Drain { queue })
+    }
+
+    /// Waits until a queue is empty, which is then gone (`destroy_workqueue`): two entries.
+    ///
+    /// # Errors
+    /// Those of a call of one entry, with no entry made; `NoMemory` also behind the first, and then it tells the ticket, which stands unended.
+    pub fn destroy<R: Wait>(
+        &mut self,
+        rt: &R,
+        hub: &Hub<N>,
+        queue: QueueId,
+    ) -> Result<Reply, RunFault>
+        requires { has_numbers N.layout (calls.Destroy queue) ≡ true }
+        ensures done { IfOk result (λ reply. Completes N.layout self.old (calls.Destroy queue) reply self.new) }
+        ensures broke { IfErr result (λ f. BrokeOff N.layout self.old (calls.Destroy queue) f self.new) }
+    {
+        self.wait_out(rt, hub, Call::Destroy { queue })
+    }
+}

@@ -1,0 +1,6 @@
+pub mod Beginnings
+mod Adding
+pub mod Legally
+mod Seats
+mod Marking
+mod First

@@ -1,0 +1,5 @@
+pub mod Unnamed
+pub mod Log
+pub mod Next
+pub mod Marked
+pub mod Published

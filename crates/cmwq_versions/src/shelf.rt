@@ -1,0 +1,92 @@
+ghost use Rattle.std.specs.Prelude.{◌≡◌, ◌<◌, ◌^◌, ◌++◌, ◌∷◌, [], length, drop, MatchResult};
+ghost use Rattle.left_right.specs.Sides.{view};
+ghost use Rattle.cmwq_versions.specs.Next.{IsNext};
+ghost use Rattle.cmwq_versions.specs.Published.{Follows, Shows, IsOut};
+
+use crate::front::Front;
+use crate::log::Head;
+use crate::name::HubName;
+use crate::publishing::put_out;
+use crate::versions::{BitsWriter, Publish};
+use cmwq_model::{Mark, NoMemory};
+use core::mem::replace_with;
+use std::marker::Model;
+use std::sync::Wait;
+
+/// What the lock keeps of the published history. Contracts see it as the entries that are published, the oldest first.
+pub struct Shelf<N: HubName> {
+    head: Head<N>,
+    front: Front<N>,
+    writer: BitsWriter,
+}
+
+impl<N: HubName> Model for Shelf<N> {
+    ghost use Rattle.std.specs.Prelude.{List, drop};
+    ghost use Rattle.cmwq_model.specs.declared.entry.Entry.{Entry};
+    ghost use Rattle.cmwq_versions.specs.Published.{IsOut};
+
+    ghost Value = { List Entry };
+
+    ghost view = { λ s. s.front };
+
+    ghost invariant = { λ s. IsOut N.layout N.book s.front s.writer.desk.shown.value (drop s.writer.behind s.writer.log.items) };
+}
+
+impl<N: HubName> Shelf<N> {
+    // The shelf of a hub whose writer shows no entry.
+    pub(crate) fn new(head: Head<N>, front: Front<N>, writer: BitsWriter) -> Shelf<N>
+        requires { IsOut N.layout N.book front writer.desk.shown.value (drop writer.behind writer.log.items) }
+        ensures { result ≡ front }
+    {
+        Shelf {
+            head,
+            front,
+            writer,
+        }
+    }
+
+    /// Publishes one more entry, with the bits that its mark leaves. It waits for readers that still read the version
+    /// before the last. After `NoMemory` nothing more is published, and each later call answers `NoMemory` too.
+    pub fn show<R: Wait>(&mut self, rt: &R, mark: Mark) -> Result<(), NoMemory>
+        requires next { IsNext N.layout self.old mark }
+        requires few { length self.old < 2 ^ 32 }
+        ensures { MatchResult result (λ _. self.new ≡ self.old ++ mark.entry ∷ []) (λ _. self.new ≡ self.old) }
+    {
+        let Some(front) = self.front.extended(&self.head, mark.entry) else {
+            return Err(NoMemory);
+        };
+        let publish = Publish {
+            item: mark.item,
+            bits: mark.bits,
+            len: front.len(),
+            seen: front.token(),
+        };
+        replace_with(
+            &mut self.writer,
+            publish,
+            |writer, publish| -> (BitsWriter, Result<(), NoMemory>)
+                requires { (drop writer.behind writer.log.items ≡ []) × Follows writer.desk.shown.value publish }
+                ensures { (drop result.0.behind result.0.log.items ≡ []) × MatchResult result.1 (λ _. Shows writer.desk.shown.value publish result.0.desk.shown.value (view result.0.desk.place)) (λ _. result.0.desk.shown.value ≡ writer.desk.shown.value) }
+            { put_out(rt, writer, publish) },
+        )?;
+        self.front = front;
+        Ok(())
+    }
+
+    /// All that is published.
+    pub fn front(&self) -> &Front<N>
+        ensures { result.now ≡ self.now }
+    {
+        &self.front
+    }
+
+    /// Waits for the readers to leave. From then on they find nothing.
+    pub fn end<R: Wait>(self, rt: &R) {
+        let Shelf {
+            head: _head,
+            front: _front,
+            writer,
+        } = self;
+        writer.take(rt);
+    }
+}
