@@ -1,3 +1,4 @@
 pub mod Later
 pub mod Settling
 pub mod Placing
+pub mod Following

@@ -3,6 +3,7 @@
 
 mod bells;
 mod caller;
+mod follow;
 mod gates;
 mod hub;
 mod parts;
