@@ -12,6 +12,7 @@ word_of_name name =
     if bytes_eq name (codes "step") then Some word.Step
     else if bytes_eq name (codes "check") then Some word.Check
     else if bytes_eq name (codes "upgrade") then Some word.Upgrade
+    else if bytes_eq name (codes "replay") then Some word.Replay
     else None
 
 -- what clap reads of the program's command line: a word is a subcommand, and there is one
@@ -21,8 +22,11 @@ program = record (new_app (codes "cmwq")).top { has_version = true; subcommand_r
 abbrev pub without_words : App
 without_words = record { top = program; subs = [] }
 
+abbrev pub with_word : App → List ℕ → App
+with_word a name = with_subcommand a (new_app name).top
+
 abbrev pub app : App
-app = with_subcommand (with_subcommand (with_subcommand without_words (new_app (codes "step")).top) (new_app (codes "check")).top) (new_app (codes "upgrade")).top
+app = with_word (with_word (with_word (with_word without_words (codes "step")) (codes "check")) (codes "upgrade")) (codes "replay")
 
 -- the words as texts
 abbrev pub texts : List (Bor Text) → List Text

@@ -1,4 +1,4 @@
-//! `cmwq`: answers calls of a workqueue runtime and judges its histories, on standard input and output.
+//! `cmwq`: answers calls of a workqueue runtime, judges its histories and replays scenarios, on standard input and output.
 #![tactic(auto)]
 
 mod word;
@@ -6,6 +6,7 @@ mod word;
 use clap::error::ErrorKind;
 use cmwq_base::{BufferedSink, FromStd};
 use cmwq_engine::{run_check, run_step, run_upgrade};
+use cmwq_replay::run_replay;
 use std::alloc::{AllocError, Global};
 use std::io;
 use std::process::ExitCode;
@@ -53,6 +54,7 @@ fn run(rt: &HostRuntime, word: Word) -> u8 {
         Word::Step => run_step(alloc, &mut input, &mut output, &mut errors),
         Word::Check => run_check(alloc, &mut input, &mut output, &mut errors),
         Word::Upgrade => run_upgrade(alloc, &mut input, &mut output, &mut errors),
+        Word::Replay => run_replay(alloc, &mut input, &mut output, &mut errors),
     }
 }
 

@@ -16,7 +16,23 @@ pub enum Word {
     Check,
     /// Writes a legal history in the newest format.
     Upgrade,
+    /// Writes the table of a scenario.
+    Replay,
 }
+
+/// What the help of `replay` shows below its usage.
+const SCENARIO_HELP: &str =
+    r#"A scenario says which items are queued at 0 ms on one CPU, in this order, and of each how long it burns CPU,
+sleeps, burns CPU, .. in turn:
+
+  {"queues":[{"name":"q0","max_active":2,"intensive":false}],
+   "items":[{"name":"w0","queue":"q0","ms":[5,10,5]},
+            {"name":"w1","queue":"q0","ms":[5,10]}]}
+
+There are 1 to 8 queues and up to 8 items. A name has 1 to 16 letters, digits and _; no two queues share one, and no
+two items. max_active is how many items of a queue may have begun and not ended at a time: 0 stands for 256, and more
+than 512 for 512. While an item of a queue that isn't CPU intensive burns or waits for the CPU, no other item starts.
+An item has 1 to 8 parts of 1 to 1000 ms."#;
 
 /// The word with this name.
 fn word_named(name: &str) -> Option<Word>
@@ -26,6 +42,7 @@ fn word_named(name: &str) -> Option<Word>
         "step" => Some(Word::Step),
         "check" => Some(Word::Check),
         "upgrade" => Some(Word::Upgrade),
+        "replay" => Some(Word::Replay),
         _ => None,
     }
 }
@@ -77,9 +94,16 @@ fn command<'a>(alloc: Global) -> Result<Command<'a>, Error>
         "upgrade",
         "Reads a history of either format from standard input and writes it in format 2, if it is legal",
     );
+    let replay = subcommand(
+        alloc,
+        "replay",
+        "Reads a scenario in JSON from standard input and writes its table of times and events",
+    )
+    .after_help(SCENARIO_HELP);
     let command = with_word(program(alloc), step)?;
     let command = with_word(command, check)?;
-    with_word(command, upgrade)
+    let command = with_word(command, upgrade)?;
+    with_word(command, replay)
 }
 
 /// The name of the word that clap's matches of the command line hold.
@@ -129,6 +153,8 @@ mod tests {
         assert_eq!(rt; word, Word::Check);
         let word = word_of(rt.alloc(), &["cmwq", "upgrade"])?;
         assert_eq!(rt; word, Word::Upgrade);
+        let word = word_of(rt.alloc(), &["cmwq", "replay"])?;
+        assert_eq!(rt; word, Word::Replay);
         Ok(())
     }
 

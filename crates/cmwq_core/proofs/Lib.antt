@@ -3,6 +3,7 @@ pub mod Steps
 pub mod First
 pub mod Listing
 pub mod LineSteps
+pub mod LineBehind
 pub mod GoneSteps
 pub mod WidthSteps
 pub mod Readings

@@ -33,9 +33,9 @@ use Rattle.cmwq_ties.proofs.PlacesFit.{open_there}
 use Rattle.cmwq_ties.proofs.Members.{In, of_in, all_in, in_right, in_filter, filter_in}
 use Rattle.cmwq_ties.proofs.Rising.{rises_unique}
 use Rattle.cmwq_ties.proofs.QueueingSteps.{QueueingStep, ends_one, ends_none, queueing_step, open_numbers_rise}
-use Rattle.cmwq_line.specs.Line.{Lined, count_at, count_beside, place_of, is_waiting, is_other, ended, HaveWay, Passes, IsPlaced, ArePlaced}
+use Rattle.cmwq_line.specs.Line.{Lined, count_at, count_beside, place_of, is_waiting, is_other, ended, told_ended, told_opened, MayEnd, MayOpen, HaveWay, Passes, IsPlaced, ArePlaced}
 use Rattle.cmwq_line.proofs.Passes.{count_set, place_inside, on_itself, on_parts}
-use Rattle.cmwq_core.specs.Lines.{IsLineOf, told_ended, told_opened, MayEnd, MayOpen}
+use Rattle.cmwq_core.specs.Lines.{IsLineOf}
 
 -- ---- lists
 
@@ -65,7 +65,7 @@ other_number s past x y here fails there = false_from_ne_true (y.number == x.num
     let is = rises_unique number_of_queueing (still_open past) y x (open_numbers_rise past) k.0 here (eqb-true y.number x.number same) in
     differ (sym fails ∙ (sym (ap (waits s past) is) ∙ k.1)))
 
-waits_by_number : (s : Layout) (past : List Entry) (x : Queueing) → In x (still_open past) → list_any (has_number x.number) (waiting s past) ≡ waits s past x
+pub waits_by_number : (s : Layout) (past : List Entry) (x : Queueing) → In x (still_open past) → list_any (has_number x.number) (waiting s past) ≡ waits s past x
 waits_by_number s past x here = by (waits s past x) refl
   where
     by : (b : Bool) → waits s past x ≡ b → list_any (has_number x.number) (waiting s past) ≡ b

@@ -15,7 +15,7 @@ use Rattle.cmwq_model.specs.declared.record.Start.{Start}
 use Rattle.cmwq_model.specs.Layout.{Layout}
 use Rattle.cmwq_model.specs.declared.record.Ticket.{Ticket}
 use Rattle.cmwq_model.specs.Tickets.{unended}
-use Rattle.cmwq_model.specs.Calls.{is_at, is_of_item, item_of, item_at}
+use Rattle.cmwq_model.specs.Calls.{is_at, is_of_item, item_of, item_at, item_called, item_fired}
 use Rattle.cmwq_model.specs.Bookings.{settles, booking, booking_of, is_booked}
 use Rattle.cmwq_model.specs.Fate.{number_started, number_finished}
 use Rattle.cmwq_model.specs.Runs.{item_run, item_runs}
@@ -167,9 +167,31 @@ same_next : (h : History) (e : Entry) → IsLegal h.layout (e ∷ past_in h) →
 unfolding IsLegal
 same_next h e legal = legal.1
 
+no_fire : (r : Reply) (n : ℕ) → number_started r ≡ Some n → item_fired r ≡ None
+no_fire (reply.Fired i k) n h = cc
+no_fire r n h = refl
+
+-- what an entry starts is known, and the entry marks its item
+pub record StartIsMarked (past : List Entry) (e : Entry) (n : ℕ) : Type 0 where
+  pub queueing : Queueing
+  pub is_known : queueing_at past n ≡ Some queueing
+  pub is_marked : item_marked past e ≡ Some queueing.item.0
+
+start_marked : (s : Layout) (past : List Entry) (e : Entry) (n : ℕ) → IsLegal s (e ∷ past) → number_started e.reply ≡ Some n → StartIsMarked past e n
+start_marked s past e n legal h =
+    let k = start_found s past e n legal (legal_before s past e legal) h in
+    let none : item_of e ≡ None = ap₂ option_or (ap item_called (starts_next s past e n legal h).is_take) (no_fire e.reply n h) in
+    record {
+      queueing = k.0;
+      is_known = k.1;
+      is_marked = ap₂ (λ o m. option_or o (option_and_then (item_at past) (option_or m (number_finished e.reply)))) none h ∙ item_in past n k.0 k.1;
+    }
+
 pub marks_nothing : (h : History) (e : Entry) → IsLegal h.layout (e ∷ past_in h) → item_marked (past_in h) e ≡ None → IsMark h e.who e.call (record { entry = e; item = None; bits = 0 })
 marks_nothing h e legal none = record {
   is_next = same_next h e legal;
+  item_is = sym none;
+  starts = λ n is. let k = start_marked h.layout (past_in h) e n legal is in let bad : None ≡ Some k.queueing.item.0 = sym none ∙ k.is_marked in cc;
   bits_are = λ i. others_stay h.layout (past_in h) e i legal (ap (λ o. is_at o i) none);
 }
 
@@ -180,6 +202,10 @@ bits_of_one s past e i j false other legal is = others_stay s past e j legal (ap
 pub marks_one : (h : History) (e : Entry) (i b : ℕ) → IsLegal h.layout (e ∷ past_in h) → item_marked (past_in h) e ≡ Some i → b ≡ bits (e ∷ past_in h) i → IsMark h e.who e.call (record { entry = e; item = Some (record { 0 = i }); bits = b })
 marks_one h e i b legal marked bits_are = record {
   is_next = same_next h e legal;
+  item_is = sym marked;
+  starts = λ n is.
+      let k = start_marked h.layout (past_in h) e n legal is in
+      record { queueing = k.queueing; is_known = k.is_known; is_its = ap (λ j. Some (let item : ItemId = record { 0 = j } in item)) (same_Some i k.queueing.item.0 (sym marked ∙ k.is_marked)) };
   bits_are = λ j. bits_of_one h.layout (past_in h) e i j (i == j) refl legal marked ∙ ap (λ n. if i == j then n else bits (past_in h) j) (sym bits_are);
 }
 

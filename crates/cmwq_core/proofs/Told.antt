@@ -1,6 +1,6 @@
 -- The parts that are told of an effect are those of the longer history, and may be told of it.
 use Rattle.std.proofs.Common.{◌≡◌, ℕ, ◌+◌, ◌*◌, ◌<◌, ◌≤◌, Bool, true, false, ◌&&◌, ◌==◌, ⊎_elim, List, [], ◌∷◌, length, filter, Option, Some, None, refl, sym, ap, ap₂, ◌∙◌, subst, arith, IsTrue, nat_lt, nat_le}
-use Rattle.std.specs.Prelude.{slice_set, if◌then◌else◌}
+use Rattle.std.specs.Prelude.{slice_set, if◌then◌else◌, is_some, IfSome}
 use Rattle.cmwq_model.specs.declared.id.PoolId.{PoolId}
 use Rattle.cmwq_model.specs.declared.entry.Entry.{Entry}
 use Rattle.cmwq_model.specs.declared.record.Queueing.{Queueing}
@@ -37,7 +37,7 @@ use Rattle.cmwq_flush.specs.BarrierBook as barriers_book
 use Rattle.cmwq_ties.specs.Pools.{MayAllBeAdded}
 use Rattle.cmwq_ties.proofs.PoolAdds.{active_may_be_added}
 use Rattle.cmwq_model.specs.declared.shape.QueueShape.{QueueShape}
-use Rattle.cmwq_line.specs.Line.{Lined, HaveWay, Passes, ArePlaced, width_by}
+use Rattle.cmwq_line.specs.Line.{Lined, IsPassed, AreBehind, IsPlacedIf, is_waiting, ArePlaced, width_by}
 use Rattle.std.proofs.lemmas.Bool.{and_parts, ltb-true, eqb-true, false_from_ne_true, cases_lt}
 use Rattle.std.proofs.lemmas.List.Elements.{All-from_recursion}
 use mathlib.Core.Bool.{beq}
@@ -64,8 +64,11 @@ use Rattle.cmwq_ties.proofs.TicketsFollow.{tickets_follow, tickets_may_be_told}
 use Rattle.cmwq_core.specs.Gone.{AreGone, MayTellGone, TellGone}
 use Rattle.cmwq_ties.proofs.FlightFollow.{flights_follow, flights_may_be_told}
 use Rattle.cmwq_core.proofs.GoneSteps.{gone_follow, may_tell_gone}
-use Rattle.cmwq_core.specs.Lines as lines
+use Rattle.cmwq_line.specs.Line as lines
 use Rattle.cmwq_core.specs.Lines.{IsLineOf}
+use Rattle.cmwq_model.specs.Fate.{number_finished}
+use Rattle.cmwq_active.specs.Looks.{keeps_widths}
+use Rattle.cmwq_core.proofs.LineBehind.{all_behind, finished_waits_not, ended_placed, opened_placed}
 use Rattle.cmwq_core.specs.Widths.{AreWidths, TellWidth, MayTellWidth}
 use Rattle.cmwq_core.proofs.WidthSteps.{told_widths, widths_are}
 use Rattle.cmwq_core.proofs.Listing.{may_all_same}
@@ -377,24 +380,19 @@ may_tell_width s past f most is many = by f.entry.call (numbers_fit s past f.ent
 -- ---- the pass, as it is called
 
 pub record PassMade (s : Layout) (past : List Entry) (f : Effect) (l : Lined) (old most : List ℕ) (stopped frozen : Bool) (new : Lined) : Type 0 where
-  pub mid : Lined
   pub queues : List QueueShape
   pub widths : List ℕ
-  pub mid_is : mid ≡ lines.told_opened f.opened (lines.told_ended f.ended l)
   pub queues_are : queues ≡ s.queues
   pub widths_are_most : widths ≡ most
   pub width : TellWidth f.entry.call f.entry.reply old most
   pub frozen_is : frozen ≡ frozen_after f.entry.reply stopped
-  pub passes : (way : Queueing → Bool) → HaveWay way (width_by queues widths frozen) mid.counts mid.waiting → Passes way mid.waiting mid.counts new.counts new.waiting new.promoted
-  pub same_room : new.room ≡ mid.room
+  pub passed : IsPassed (width_by queues widths frozen) (lines.told_opened f.opened (lines.told_ended f.ended l)) new
 
 pub pass_made : (s : Layout) (past : List Entry) (f : Effect) (l : Lined) (old most : List ℕ) (stopped frozen : Bool) (new : Lined) → AreWidths s past old stopped → PassMade s past f l old most stopped frozen new →
     ArePassed s past f.entry (lines.told_opened f.opened (lines.told_ended f.ended l)) new (width_by s.queues most frozen)
 pass_made s past f l old most stopped frozen new are made = record {
-  passes = λ way have.
-      let moved : HaveWay way (width_by made.queues made.widths frozen) made.mid.counts made.mid.waiting = rw (made.mid_is, made.queues_are, made.widths_are_most) have in
-      rw (made.mid_is) at (made.passes way moved);
-  room = made.same_room ∙ ap (λ (m : Lined). m.room) made.mid_is;
+  passes = λ way have. made.passed.passes way (rw (made.queues_are, made.widths_are_most) have);
+  room = made.passed.room;
   widths = widths_are s (f.entry ∷ past) most frozen (subst (AreWidths s (f.entry ∷ past) most) (sym made.frozen_is) (told_widths s past f.entry old most stopped are made.width));
 }
 
@@ -403,10 +401,23 @@ pub promoted_newly : (s : Layout) (past : List Entry) (f : Effect) (l : Lined) (
 promoted_newly s past f l old most stopped frozen new is small before line are made =
     (line_told s past f l new (width_by s.queues most frozen) is small before line (pass_made s past f l old most stopped frozen new are made)).1
 
-pub may_pass : (s : Layout) (past : List Entry) (f : Effect) (l mid : Lined) (queues : List QueueShape) → IsEffect s past f → IsSmall s → IsLegal s past → IsLineOf s past l → mid ≡ lines.told_opened f.opened (lines.told_ended f.ended l) → queues ≡ s.queues →
-    ArePlaced (length queues) mid.waiting
-may_pass s past f l mid queues is small before line same those = rw (those, same)
+pub may_pass : (s : Layout) (past : List Entry) (f : Effect) (l : Lined) (queues : List QueueShape) → IsEffect s past f → IsSmall s → IsLegal s past → IsLineOf s past l → queues ≡ s.queues →
+    ArePlaced (length queues) (lines.told_opened f.opened (lines.told_ended f.ended l)).waiting
+may_pass s past f l queues is small before line those = rw those
     (are_placed s past f.entry is.legal small.cpus (lines.told_opened f.opened (lines.told_ended f.ended l)) (line_ready s past f l is small before line).0)
+
+-- what waits is behind the widths, as the line is told of them
+pub may_be_behind : (s : Layout) (past : List Entry) (f : Effect) (l : Lined) (old most : List ℕ) (stopped frozen : Bool) (queues : List QueueShape) (widths : List ℕ) → IsSmall s → IsLegal s past → IsLineOf s past l → AreWidths s past old stopped →
+    queues ≡ s.queues → widths ≡ most → TellWidth f.entry.call f.entry.reply old most → frozen ≡ frozen_after f.entry.reply stopped → keeps_widths f.entry.reply ≡ true → AreBehind (width_by queues widths frozen) l.counts l.waiting
+may_be_behind s past f l old most stopped frozen queues widths small before line are those same width is keeps = rw (those, same)
+    (all_behind s past f.entry l (width_by s.queues most frozen) before small.cpus line keeps
+    (widths_are s (f.entry ∷ past) most frozen (subst (AreWidths s (f.entry ∷ past) most) (sym is) (told_widths s past f.entry old most stopped are width))))
+
+pub may_have_run : (s : Layout) (past : List Entry) (f : Effect) (l : Lined) → IsEffect s past f → IsLegal s past → IsLineOf s past l → is_some (number_finished f.entry.reply) ≡ true → IfSome f.ended (λ x. is_waiting l x ≡ false)
+may_have_run s past f l is before line h = rw is.ended (finished_waits_not s past f.entry l is.legal before line h)
+
+pub may_be_placed : (s : Layout) (past : List Entry) (f : Effect) (queues : List QueueShape) → IsEffect s past f → IsSmall s → IsLegal s past → queues ≡ s.queues → IsPlacedIf (length queues) f.ended × IsPlacedIf (length queues) f.opened
+may_be_placed s past f queues is small before those = rw those (ended_placed s past f.entry f.ended before small.cpus (sym is.ended), opened_placed s past f.entry f.opened is.legal small.cpus (sym is.opened))
 
 -- ---- flights and tickets
 

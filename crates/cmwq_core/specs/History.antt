@@ -1,18 +1,22 @@
 -- What callers see of a book: its history with the shape and the room, and what one more call makes of it.
-use Rattle.std.specs.Prelude.{◌≡◌, ℕ, Bool, false, not, ◌==◌, if◌then◌else◌, List, [], ◌∷◌, ◌++◌, find, option_map, is_some}
+use Rattle.std.specs.Prelude.{◌≡◌, ℕ, Bool, false, not, ◌==◌, if◌then◌else◌, List, [], ◌∷◌, ◌++◌, find, Option, Some, option_map, is_some}
 use Rattle.std.specs.Option.{option_map_or}
 use Rattle.cmwq_model.specs.declared.id.ItemId.{ItemId}
 use Rattle.cmwq_model.specs.declared.id.Who.{Who}
 use Rattle.cmwq_model.specs.declared.call.Call.{Call}
 use Rattle.cmwq_model.specs.declared.entry.Entry.{Entry}
 use Rattle.cmwq_model.specs.declared.entry.Mark.{Mark}
+use Rattle.cmwq_model.specs.declared.record.Queueing.{Queueing}
 use Rattle.cmwq_model.specs.declared.record.Ticket.{Ticket}
 use Rattle.cmwq_model.specs.Layout.{Layout}
 use Rattle.cmwq_model.specs.Calls.{is_at}
+use Rattle.cmwq_model.specs.Fate.{number_started}
+use Rattle.cmwq_model.specs.Queueings.{queueing_at}
 use Rattle.cmwq_model.specs.Tickets.{unended}
 use Rattle.cmwq_model.specs.Waits.{waits_for}
 use Rattle.cmwq_model.specs.Legal.{past_of, entry_for, bits}
 use Rattle.cmwq_model.specs.Room.{has_room}
+use Rattle.cmwq_steps.specs.Marks.{item_marked}
 
 -- the entries stand with the oldest first
 pub record History : Type 0 where
@@ -33,15 +37,27 @@ takes h who call = has_room h.layout h.room (past_in h) who call
 abbrev pub with_entry : History → Entry → History
 with_entry h e = record h { entries = h.entries ++ e ∷ [] }
 
--- A mark says the bits of each item after its entry: of the item that it names those that stand there, of each other item the old ones.
+-- A mark names the item of its entry, or that of the queueing that its entry starts or finishes.
+abbrev pub item_named : Mark → Option ℕ
+item_named m = option_map (λ (item : ItemId). item.0) m.item
+
+-- this is the item of the queueing with number n
+pub record IsItemOf (past : List Entry) (n : ℕ) (item : Option ItemId) : Type 0 where
+  pub queueing : Queueing
+  pub is_known : queueing_at past n ≡ Some queueing
+  pub is_its : item ≡ Some queueing.item
+
+-- It says the bits of each item after its entry: of the item that it names those that stand there, of each other item the old ones.
 abbrev pub names : Mark → ℕ → Bool
-names m i = is_at (option_map (λ (item : ItemId). item.0) m.item) i
+names m i = is_at (item_named m) i
 
 abbrev pub bits_after : Mark → List Entry → ℕ → ℕ
 bits_after m past i = if names m i then m.bits else bits past i
 
 pub record IsMark (h : History) (who : Who) (call : Call) (m : Mark) : Type 0 where
   pub is_next : m.entry ≡ next_entry h who call
+  pub item_is : item_named m ≡ item_marked (past_in h) m.entry
+  pub starts : (n : ℕ) → number_started m.entry.reply ≡ Some n → IsItemOf (past_in h) n m.item
   pub bits_are : (i : ℕ) → bits (m.entry ∷ past_in h) i ≡ bits_after m (past_in h) i
 
 -- an unended ticket has this number, and waits for nothing

@@ -10,6 +10,7 @@ ghost use Rattle.cmwq_ties.specs.Told.{number_of_queueing};
 ghost use Rattle.cmwq_model.specs.Legal as legal;
 ghost use Rattle.cmwq_model.specs.Legal.{past_of, IsLegal};
 ghost use Rattle.cmwq_model.specs.Queueings.{still_open};
+ghost use Rattle.cmwq_model.specs.Room.{needed};
 ghost use Rattle.cmwq_model.specs.Active.{is_active};
 ghost use Rattle.cmwq_ties.specs.Pools.{IsSeatOf, pool_of, run_task};
 ghost use Rattle.cmwq_core.specs.Tables as tables;
@@ -153,6 +154,7 @@ impl Book {
     pub fn len(&self) -> u32
         ensures len { result ≡ length self.now.entries }
         ensures within { length self.now.entries ≤ self.now.room }
+        ensures needed { needed self.now.layout (past_in self.now) ≤ self.now.room }
         ensures few { self.now.room ≤ 1010000 }
         ensures legal { IsLegal self.now.layout (past_in self.now) }
     {
@@ -499,8 +501,15 @@ impl Book {
         tell_cancelled(&self.queues, &mut self.pools, entry.reply, effect.ended);
         tell_width(&mut self.most, entry.call, entry.reply);
         self.frozen = frozen_after(entry.reply, self.frozen);
-        tell_line(&mut self.line, effect.ended, effect.opened);
-        self.line.pass(&self.queues, &self.most, self.frozen);
+        tell_line(
+            &mut self.line,
+            &self.queues,
+            &self.most,
+            self.frozen,
+            entry.reply,
+            effect.ended,
+            effect.opened,
+        );
         list_active(&self.queues, &mut self.pools, self.line.promoted());
         tell_ended(&mut self.books, effect.ended);
         tell_opened(&mut self.books, effect.opened);

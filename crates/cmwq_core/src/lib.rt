@@ -9,6 +9,7 @@ mod tables;
 
 pub use book::{Book, Full};
 pub use judge::check;
+pub use tables::those_who_fit_are_there;
 
 #[cfg(test)]
 mod tests;

@@ -1,9 +1,11 @@
 //! Where each pool, flush book and serial of a book stands, and what they are told of an entry.
 
-ghost use Rattle.std.specs.Prelude.{◌≡◌, ◌<◌, length, is_some, Some};
+ghost use Rattle.std.specs.Prelude.{◌≡◌, ◌*◌, ◌<◌, length, is_some, true, false, IfSome, Some};
+ghost use Rattle.cmwq_model.specs.declared.call.Call.{Call};
+ghost use Rattle.cmwq_model.specs.declared.id.Who.{Who};
 ghost use Rattle.cmwq_model.specs.declared.id.PoolId.{PoolId};
 ghost use Rattle.cmwq_ties.specs.Pools.{MayAllBeAdded, MayBeTold, told_reply};
-ghost use Rattle.cmwq_model.specs.Layout.{Layout, pool_at};
+ghost use Rattle.cmwq_model.specs.Layout.{Layout, fits, pool_at};
 ghost use Rattle.cmwq_model.specs.Fate.{finishes, number_finished};
 ghost use Rattle.cmwq_ties.specs.BarrierBooks as barriers;
 ghost use Rattle.cmwq_model.specs.declared.entry.Entry.{Entry};
@@ -13,9 +15,10 @@ ghost use Rattle.cmwq_core.specs.Tables as tables;
 ghost use Rattle.cmwq_ties.specs.Flights as rows;
 ghost use Rattle.cmwq_ties.specs.Tickets as held;
 ghost use Rattle.cmwq_core.specs.Gone as lost;
-ghost use Rattle.cmwq_core.specs.Lines as lines;
+ghost use Rattle.cmwq_line.specs.Line as lines;
 ghost use Rattle.cmwq_core.specs.Widths as widths;
 ghost use Rattle.cmwq_model.specs.Widths.{frozen_after};
+ghost use Rattle.cmwq_active.specs.Looks.{keeps_widths};
 
 use cmwq_flight::Flights;
 use cmwq_flush::{Barriers, Flushes};
@@ -26,6 +29,11 @@ use cmwq_model::{
 use cmwq_pool::Pool;
 use cmwq_ticket::Tickets;
 use cmwq_timer::Timers;
+
+/// Whoever makes a call that fits a layout is there: so `fits` of a shape shows of whom the serial may be asked.
+pub fn those_who_fit_are_there()
+    ensures { (s : Layout) (who : Who) (c : Call) → fits s who c ≡ true → tables.IsThere s who }
+{}
 
 pub(crate) fn pool_place(pool: PoolId) -> usize
     ensures { result ≡ tables.pool_place pool }
@@ -277,8 +285,15 @@ pub(crate) fn frozen_after(reply: Reply, frozen: bool) -> bool
     }
 }
 
+/// Whether the reply leaves the width of each queue as it is.
+fn keeps_widths(reply: Reply) -> bool
+    ensures { result ≡ keeps_widths reply }
+{
+    !matches!(reply, Reply::Width(_) | Reply::Frozen | Reply::Thawed)
+}
+
 /// Tells what waits of a queueing that ended, and of one that was opened.
-pub(crate) fn tell_line(line: &mut Line, ended: Option<Queueing>, opened: Option<Queueing>)
+fn tell_waiting(line: &mut Line, ended: Option<Queueing>, opened: Option<Queueing>)
     requires ended { lines.MayEnd ended line.old }
     requires opened { lines.MayOpen opened (lines.told_ended ended line.old) }
     ensures { line.new ≡ lines.told_opened opened (lines.told_ended ended line.old) }
@@ -288,6 +303,36 @@ pub(crate) fn tell_line(line: &mut Line, ended: Option<Queueing>, opened: Option
     }
     if let Some(queueing) = opened {
         line.open(queueing);
+    }
+}
+
+/// Tells what waits of a queueing that ended, and of one that was opened; what has way then becomes active. All that wait are
+/// looked at only where the widths may have changed.
+pub(crate) fn tell_line(
+    line: &mut Line,
+    queues: &[QueueShape],
+    most: &[u32],
+    frozen: bool,
+    reply: Reply,
+    ended: Option<Queueing>,
+    opened: Option<Queueing>,
+)
+    requires most { length most.now ≡ length queues.now }
+    requires counts { length line.old.counts ≡ 4 * length queues.now }
+    requires ended { lines.MayEnd ended line.old }
+    requires ended_placed { lines.IsPlacedIf (length queues.now) ended }
+    requires ran { is_some (number_finished reply) ≡ true → IfSome ended (λ x. lines.is_waiting line.old x ≡ false) }
+    requires opened { lines.MayOpen opened (lines.told_ended ended line.old) }
+    requires opened_placed { lines.IsPlacedIf (length queues.now) opened }
+    requires behind { keeps_widths reply ≡ true → lines.AreBehind (lines.width_by queues.now most.now frozen) line.old.counts line.old.waiting }
+    requires placed { lines.ArePlaced (length queues.now) (lines.told_opened opened (lines.told_ended ended line.old)).waiting }
+    ensures { lines.IsPassed (lines.width_by queues.now most.now frozen) (lines.told_opened opened (lines.told_ended ended line.old)) line.new }
+{
+    if keeps_widths(reply) {
+        line.go_on(queues, most, frozen, ended, is_finish(reply), opened);
+    } else {
+        tell_waiting(line, ended, opened);
+        line.pass(queues, most, frozen);
     }
 }
 

@@ -1,6 +1,5 @@
 -- The steps of one call more, from what became of the book.
-use Rattle.std.proofs.Common.{◌≡◌, ℕ, ◌+◌, ◌<◌, true, false, List, [], ◌∷◌, length, Result, Ok, Err, refl, sym, ap, ◌∙◌, take, get_or, true≢false}
-use Rattle.std.specs.Prelude.{is_err, IfOk, OnErr}
+use Rattle.std.proofs.Common.{◌≡◌, ℕ, ◌+◌, ◌<◌, true, false, List, [], ◌∷◌, length, refl, sym, ap, ◌∙◌, take, get_or}
 use Rattle.std.proofs.lemmas.List.{reverse-append}
 use Rattle.std.proofs.lemmas.List.Sums.{fold_more}
 use Rattle.cmwq_model.specs.declared.id.Who.{Who}
@@ -8,15 +7,6 @@ use Rattle.cmwq_model.specs.declared.call.Call.{Call}
 use Rattle.cmwq_model.specs.Layout.{Layout}
 use Rattle.cmwq_model.specs.Room.{Steps, step, steps, none}
 use Rattle.cmwq_core.specs.History.{History, past_in, takes, next_entry, with_entry}
-
--- what an answer says, once it is known which of the two it is
-pub when_ok : {T E : Type 0} (r : Result T E) (P : Type 0) → is_err r ≡ false → IfOk r (λ _. P) → P
-when_ok (Ok x) P is p = p
-when_ok (Err e) P is p = absurd (true≢false is)
-
-pub when_err : {T E : Type 0} (r : Result T E) (P : Type 0) → is_err r ≡ true → OnErr r P → P
-when_err (Ok x) P is p = absurd (true≢false (sym is))
-when_err (Err e) P is p = p
 
 module _ (s : Layout) (room : ℕ) (h : History) (layout_is : h.layout ≡ s) (room_is : h.room ≡ room) where
   -- a call that a book takes is the newest entry of the steps

@@ -6,7 +6,7 @@ ghost use Rattle.cmwq_model.specs.Room.{steps};
 ghost use Rattle.cmwq_core.specs.History.{past_in};
 
 use cmwq_base::{Call, NoMemory, Shape, Who};
-use cmwq_core::Book;
+use cmwq_core::{Book, Full};
 use std::alloc::Global;
 
 /// The book of the calls that had room, and how many calls were left out for want of it.
@@ -27,8 +27,9 @@ pub fn steps_of(alloc: Global, shape: &Shape, calls: &[(Who, Call)]) -> Result<S
     let mut book = Book::new(alloc, shape, shape.counts().room)?;
     let mut left_out = 0;
     for &(who, call) in calls {
-        if book.step(who, call).is_err() {
-            left_out += 1;
+        match book.step(who, call) {
+            Ok(_) => {}
+            Err(Full) => left_out += 1,
         }
     }
     Ok(Steps { book, left_out })

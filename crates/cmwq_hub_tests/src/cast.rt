@@ -168,6 +168,18 @@ fn run_all<
     })
 }
 
+/// How many entries all callers and workers count.
+fn entries_of<N: HubName>(callers: &[Caller<N>], workers: &[Worker<N>]) -> u64 {
+    let mut all = 0u64;
+    for caller in callers {
+        all = all.wrapping_add(u64::from(caller.serial()));
+    }
+    for worker in workers {
+        all = all.wrapping_add(u64::from(worker.serial()));
+    }
+    all
+}
+
 fn run_under<
     N: HubName + Send + Sync + 'static,
     P: Work + Act + Sync,
@@ -184,12 +196,14 @@ fn run_under<
         made,
     } = run_all(rt, &hub, seats, play);
     let history = end(rt, hub, callers.as_mut_slice(), workers.as_mut_slice());
-    let counted = history.iter().filter(|entry| is_by_a_worker(entry)).count();
-    assert_eq!(rt; counted as u64, made);
+    let counted = entries_of(callers.as_slice(), workers.as_slice());
+    assert_eq!(rt; history.len() as u64, counted);
+    let by_workers = history.iter().filter(|entry| is_by_a_worker(entry)).count();
+    assert_eq!(rt; by_workers as u64, made);
     history
 }
 
-/// Runs all callers and workers of a hub of this shape at once. The history is legal, and the workers count theirs of it.
+/// Runs all callers and workers of a hub of this shape at once. The history is legal, and as long as all of them count.
 pub(crate) fn run<P: Work + Act + Sync, R: Threads + Wait + Abort + AllocGlobal + Sync>(
     rt: &R,
     shape: &Shape,

@@ -4,7 +4,7 @@ use Rattle.serde_json.specs.Data.{Data, Items}
 use Rattle.serde_json.specs.Find.{get, as_str, as_array}
 use Rattle.cmwq_sim.specs.declared.scenario.SimQueue.{SimQueue}
 use Rattle.cmwq_sim.specs.Plan.{Plan, Item}
-use Rattle.cmwq_json.specs.declared.refused.Refused.{Refused}
+use Rattle.cmwq_input.specs.declared.refused.Refused.{Refused}
 use Rattle.cmwq_json.specs.InTurn.{in_turn}
 use Rattle.cmwq_json.specs.Keys.{has_keys}
 use Rattle.cmwq_json.specs.Names.{name_said, Named, nobody, number_of, add_named, is_between}

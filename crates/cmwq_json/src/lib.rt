@@ -5,14 +5,12 @@ mod keys;
 mod names;
 mod numbers;
 mod queues;
-mod refused;
 mod scenario;
 
 pub use keys::{array_at, has_keys};
 pub use names::{Members, is_name, number_of, read_name};
 pub use numbers::{read_number, read_width};
 pub use queues::read_parts;
-pub use refused::{Part, Refused};
 pub use scenario::{Script, read_scenario};
 
 #[cfg(test)]

@@ -14,7 +14,7 @@ use crate::keys::{array_at, has_keys};
 use crate::names::{Members, in_order, number_of, read_name};
 use crate::numbers::read_number;
 use crate::queues::read_parts;
-use crate::refused::{Part, Refused};
+use cmwq_input::{Part, Refused};
 use cmwq_sim::{Scenario, SimItem, SimQueue};
 use indexmap::IndexSet;
 use serde_json::Value;

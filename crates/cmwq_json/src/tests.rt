@@ -1,4 +1,5 @@
 use super::*;
+use cmwq_input::{Part, Refused};
 use cmwq_sim::{replay, spell_lines};
 use serde_json::Value;
 use std::test::Fail;

@@ -1,6 +1,6 @@
 -- What waits to become active, and how many are active of each queue on each CPU.
-use Rattle.std.specs.Prelude.{◌≡◌, ℕ, ◌+◌, ◌*◌, ◌-◌, ◌<◌, ◌≤◌, Bool, ◌&&◌, not, ◌==◌, if◌then◌else◌, List, [], ◌∷◌, ◌++◌, length, filter, count_by, replicate, nat_lt, slice_index, slice_set, slice_index_or, All}
-use Rattle.std.specs.List.{list_any}
+use Rattle.std.specs.Prelude.{◌≡◌, ℕ, ◌+◌, ◌*◌, ◌-◌, ◌<◌, ◌≤◌, Bool, true, false, Option, Some, None, ◌&&◌, not, ◌==◌, if◌then◌else◌, List, [], ◌∷◌, ◌++◌, length, filter, count_by, replicate, nat_lt, slice_index, slice_set, slice_index_or, All}
+use Rattle.std.specs.List.{AllByRecursion, list_any}
 use Rattle.cmwq_model.specs.declared.record.Queueing.{Queueing}
 use Rattle.cmwq_model.specs.declared.shape.QueueShape.{QueueShape}
 use Rattle.cmwq_model.specs.Layout.{no_queue}
@@ -43,6 +43,24 @@ ended l x =
     if is_waiting l x then record l { waiting = filter (is_other x.number) l.waiting }
     else record l { counts = slice_set l.counts (place_of x.place.queue.0 x.place.cpu.0) (count_beside l.counts x - 1) }
 
+-- it is told of a queueing that ended, and of one that was opened, where there was one
+abbrev pub told_ended : Option Queueing → Lined → Lined
+told_ended None l = l
+told_ended (Some x) l = ended l x
+
+abbrev pub told_opened : Option Queueing → Lined → Lined
+told_opened None l = l
+told_opened (Some x) l = opened l x
+
+-- each may be told
+abbrev pub MayEnd : Option Queueing → Lined → Type 0
+MayEnd None l = Unit {0}
+MayEnd (Some x) l = (place_of x.place.queue.0 x.place.cpu.0 < length l.counts) × (is_waiting l x ≡ false → 0 < count_beside l.counts x)
+
+abbrev pub MayOpen : Option Queueing → Lined → Type 0
+MayOpen None l = Unit {0}
+MayOpen (Some x) l = length l.waiting < l.room
+
 -- how wide queue q is, by max_active of each queue and whether the freezable ones are frozen
 abbrev pub width_by : List QueueShape → List ℕ → Bool → ℕ → ℕ
 width_by queues most frozen q = if (slice_index_or queues q no_queue).freezable && frozen then 0 else slice_index most q
@@ -60,12 +78,41 @@ pub record Passes (way : Queueing → Bool) (xs : List Queueing) (old new : List
   pub many : length new ≡ length old
   pub counts : (q c : ℕ) → c < 4 → place_of q c < length old → count_at new q c ≡ count_at old q c + count_by (is_on q c) (filter way xs)
 
+-- The line after the pass is that before it with what has way made active.
+pub record IsPassed (wide : ℕ → ℕ) (old new : Lined) : Type 0 where
+  pub passes : (way : Queueing → Bool) → HaveWay way wide old.counts old.waiting → Passes way old.waiting old.counts new.counts new.waiting new.promoted
+  pub many : length new.counts ≡ length old.counts
+  pub room : new.room ≡ old.room
+  pub sorted : length new.waiting + length new.promoted ≡ length old.waiting
+
+-- the width or more are active beside the queueing, at a place that is counted
+pub record IsBehind (wide : ℕ → ℕ) (counts : List ℕ) (x : Queueing) : Type 0 where
+  pub cpu : x.place.cpu.0 < 4
+  pub counted : place_of x.place.queue.0 x.place.cpu.0 < length counts
+  pub behind : wide x.place.queue.0 ≤ count_beside counts x
+
+abbrev pub AreBehind : (ℕ → ℕ) → List ℕ → List Queueing → Type 0
+AreBehind wide counts xs = AllByRecursion (IsBehind wide counts) xs
+
 -- the queueing is of a queue that there is, on one of four CPUs
 abbrev pub IsPlaced : ℕ → Queueing → Type 0
 IsPlaced queues x = (x.place.queue.0 < queues) × (x.place.cpu.0 < 4)
 
 abbrev pub ArePlaced : ℕ → List Queueing → Type 0
 ArePlaced queues xs = All (IsPlaced queues) xs
+
+abbrev pub IsPlacedIf : ℕ → Option Queueing → Type 0
+IsPlacedIf queues None = Unit {0}
+IsPlacedIf queues (Some x) = IsPlaced queues x
+
+-- the first of a list that is of queue q on CPU c is taken out
+pub record IsFirstTaken (q c : ℕ) (old new : List Queueing) (x : Queueing) : Type 0 where
+  pub before : List Queueing
+  pub after : List Queueing
+  pub stood : old ≡ before ++ x ∷ after
+  pub left : new ≡ before ++ after
+  pub is_there : is_on q c x ≡ true
+  pub none_before : AllByRecursion (λ y. is_on q c y ≡ false) before
 
 -- there is room in each list, and no more wait than may
 pub record IsLine (room waiting_room spare_room promoted_room : ℕ) (waiting spare : List Queueing) : Type 0 where

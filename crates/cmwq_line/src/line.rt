@@ -1,9 +1,8 @@
-ghost use Rattle.std.specs.Prelude.{◌≡◌, ℕ, Bool, ◌*◌, ◌<◌, false, length, IfOk};
-ghost use Rattle.cmwq_model.specs.declared.record.Queueing.{Queueing};
-ghost use Rattle.cmwq_line.specs.Line.{ArePlaced, HaveWay, Passes, count_beside, ended, is_waiting, new_lined, opened, place_of, width_by};
+ghost use Rattle.std.specs.Prelude.{◌≡◌, ℕ, Bool, ◌+◌, ◌*◌, ◌<◌, true, false, [], length, IfOk, IfSome};
+ghost use Rattle.cmwq_line.specs.Line.{AreBehind, ArePlaced, IsPassed, IsPlacedIf, Lined, MayEnd, MayOpen, count_beside, ended, is_waiting, new_lined, opened, place_of, told_ended, told_opened, width_by};
 
-use crate::pass::{pass, place_of};
-use crate::waiting::{has_number, take_number};
+use crate::pass::{pass, place_of, width_by};
+use crate::waiting::{has_number, take_first, take_number};
 use cmwq_model::{NoMemory, QueueShape, Queueing};
 use std::alloc::Global;
 use std::marker::Model;
@@ -73,15 +72,123 @@ impl Line {
         }
     }
 
+    /// An active queueing ends: the first that waits beside it takes its place, unless more than the width were active there.
+    fn end_active(&mut self, queueing: Queueing, width: u32)
+        requires cpu { queueing.place.cpu.0 < 4 }
+        requires place { place_of queueing.place.queue.0 queueing.place.cpu.0 < length self.old.counts }
+        requires active { is_waiting self.old queueing ≡ false }
+        requires counted { 0 < count_beside self.old.counts queueing }
+        requires none { self.old.promoted ≡ [] }
+        ensures { (wide : ℕ → ℕ) → wide queueing.place.queue.0 ≡ width → AreBehind wide self.old.counts self.old.waiting → IsPassed wide (ended self.old queueing) self.new }
+    {
+        let at = place_of(queueing.place);
+        if self.counts[at] <= width {
+            match take_first(&mut self.waiting, queueing.place) {
+                Some(next) => {
+                    self.promoted.push_reserved(next);
+                    return;
+                }
+                None => {}
+            }
+        }
+        self.counts[at] -= 1;
+    }
+
+    /// A queueing ends, and makes way for the first that waits beside it where it was active.
+    fn end_one(&mut self, queueing: Queueing, has_run: bool, width: u32)
+        requires cpu { queueing.place.cpu.0 < 4 }
+        requires place { place_of queueing.place.queue.0 queueing.place.cpu.0 < length self.old.counts }
+        requires counted { is_waiting self.old queueing ≡ false → 0 < count_beside self.old.counts queueing }
+        requires ran { has_run ≡ true → is_waiting self.old queueing ≡ false }
+        requires none { self.old.promoted ≡ [] }
+        ensures { (wide : ℕ → ℕ) → wide queueing.place.queue.0 ≡ width → AreBehind wide self.old.counts self.old.waiting → IsPassed wide (ended self.old queueing) self.new }
+    {
+        if !has_run && has_number(&self.waiting, queueing.number) {
+            take_number(&mut self.waiting, queueing.number);
+        } else {
+            self.end_active(queueing, width);
+        }
+    }
+
+    /// A queueing is opened, behind all that wait: it is active at once where fewer than the width are active beside it.
+    fn open_one(&mut self, queueing: Queueing, width: u32)
+        requires cpu { queueing.place.cpu.0 < 4 }
+        requires place { place_of queueing.place.queue.0 queueing.place.cpu.0 < length self.old.counts }
+        requires room { length self.old.waiting + length self.old.promoted < self.old.room }
+        ensures { (wide : ℕ → ℕ) (before : Lined) → wide queueing.place.queue.0 ≡ width → length before.counts ≡ length self.old.counts → IsPassed wide before self.old → IsPassed wide (opened before queueing) self.new }
+    {
+        let at = place_of(queueing.place);
+        if self.counts[at] < width {
+            self.counts[at] += 1;
+            self.promoted.push_reserved(queueing);
+        } else {
+            self.waiting.push_reserved(queueing);
+        }
+    }
+
+    /// A queueing ends, if there is one, and makes way where it was active.
+    fn end_some(
+        &mut self,
+        queues: &[QueueShape],
+        most: &[u32],
+        frozen: bool,
+        ended: Option<Queueing>,
+        has_run: bool,
+    )
+        requires most { length most.now ≡ length queues.now }
+        requires ended { MayEnd ended self.old }
+        requires placed { IsPlacedIf (length queues.now) ended }
+        requires ran { has_run ≡ true → IfSome ended (λ x. is_waiting self.old x ≡ false) }
+        requires behind { AreBehind (width_by queues.now most.now frozen) self.old.counts self.old.waiting }
+        ensures { IsPassed (width_by queues.now most.now frozen) (told_ended ended self.old) self.new }
+    {
+        self.promoted.clear();
+        match ended {
+            Some(queueing) => {
+                let width = width_by(queues, most, frozen, queueing.place.queue);
+                self.end_one(queueing, has_run, width);
+            }
+            None => {}
+        }
+    }
+
+    /// An entry that changes no width ends a queueing, which had a run or not, and opens one. What has way then becomes active:
+    /// the first that waits beside an active one that ends, and what is opened, for wherever others wait the widths are filled.
+    pub fn go_on(
+        &mut self,
+        queues: &[QueueShape],
+        most: &[u32],
+        frozen: bool,
+        ended: Option<Queueing>,
+        has_run: bool,
+        opened: Option<Queueing>,
+    )
+        requires most { length most.now ≡ length queues.now }
+        requires counts { length self.old.counts ≡ 4 * length queues.now }
+        requires ended { MayEnd ended self.old }
+        requires ended_placed { IsPlacedIf (length queues.now) ended }
+        requires ran { has_run ≡ true → IfSome ended (λ x. is_waiting self.old x ≡ false) }
+        requires opened { MayOpen opened (told_ended ended self.old) }
+        requires opened_placed { IsPlacedIf (length queues.now) opened }
+        requires behind { AreBehind (width_by queues.now most.now frozen) self.old.counts self.old.waiting }
+        ensures { IsPassed (width_by queues.now most.now frozen) (told_opened opened (told_ended ended self.old)) self.new }
+    {
+        self.end_some(queues, most, frozen, ended, has_run);
+        match opened {
+            Some(queueing) => {
+                let width = width_by(queues, most, frozen, queueing.place.queue);
+                self.open_one(queueing, width);
+            }
+            None => {}
+        }
+    }
+
     /// What has way becomes active, by number: where fewer than the width are active beside it.
     pub fn pass(&mut self, queues: &[QueueShape], most: &[u32], frozen: bool)
         requires most { length most.now ≡ length queues.now }
         requires counts { length self.old.counts ≡ 4 * length queues.now }
         requires placed { ArePlaced (length queues.now) self.old.waiting }
-        ensures passes { (way : Queueing → Bool) → HaveWay way (width_by queues.now most.now frozen) self.old.counts self.old.waiting
-            → Passes way self.old.waiting self.old.counts self.new.counts self.new.waiting self.new.promoted }
-        ensures many { length self.new.counts ≡ length self.old.counts }
-        ensures room { self.new.room ≡ self.old.room }
+        ensures { IsPassed (width_by queues.now most.now frozen) self.old self.new }
     {
         self.promoted.clear();
         pass(

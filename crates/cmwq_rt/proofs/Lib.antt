@@ -1,3 +1,5 @@
 pub mod Later
 pub mod Settling
 pub mod Placing
+pub mod Following
+pub mod Gathering

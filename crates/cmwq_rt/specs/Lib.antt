@@ -1,2 +1,4 @@
 pub mod Later
 pub mod Places
+pub mod Scripts
+pub mod Ended

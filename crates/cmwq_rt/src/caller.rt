@@ -64,6 +64,13 @@ impl<N: HubName> Caller<N> {
         desk.settle(&mut self.seat)
     }
 
+    /// How many entries it has made.
+    pub fn serial(&self) -> u32
+        ensures { result ≡ self.now.serial }
+    {
+        self.seat.serial()
+    }
+
     /// What the hub's ledger has of it: as many entries as its serial says.
     pub fn into_share(self) -> Share<N>
         ensures { (result.parts ≡ 1) × (result.amount ≡ self.serial) }
@@ -106,7 +113,12 @@ impl<N: HubName> Caller<N> {
     }
 
     /// A call that may give a ticket, which is ended as soon as it may be.
-    fn wait_out<R: Wait>(&mut self, rt: &R, hub: &Hub<N>, call: Call) -> Result<Reply, RunFault>
+    pub(crate) fn wait_out<R: Wait>(
+        &mut self,
+        rt: &R,
+        hub: &Hub<N>,
+        call: Call,
+    ) -> Result<Reply, RunFault>
         requires callers { is_callers call ≡ true }
         requires numbers { has_numbers N.layout call ≡ true }
         requires waits { is_tick call ≡ false }

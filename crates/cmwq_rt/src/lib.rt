@@ -3,9 +3,11 @@
 
 mod bells;
 mod caller;
+mod follow;
 mod gates;
 mod hub;
 mod parts;
+mod scripts;
 mod seats;
 mod work;
 mod worker;
@@ -16,6 +18,7 @@ pub use cmwq_versions::HubName;
 pub use gates::{Gate, Gates};
 pub use hub::Hub;
 pub use parts::HubParts;
+pub use scripts::{Report, run_scripts};
 pub use seats::Seats;
 pub use work::{RunCtx, Work};
 pub use worker::Worker;

@@ -48,6 +48,13 @@ impl<N: HubName> Worker<N> {
         desk.settle(&mut self.seat)
     }
 
+    /// How many entries it has made.
+    pub fn serial(&self) -> u32
+        ensures { result ≡ self.now.serial }
+    {
+        self.seat.serial()
+    }
+
     /// What the hub's ledger has of it: as many entries as its serial says.
     pub fn into_share(self) -> Share<N>
         ensures { (result.parts ≡ 1) × (result.amount ≡ self.serial) }

@@ -3,7 +3,7 @@ use Rattle.std.proofs.Common.{◌≡◌, ℕ, ◌+◌, ◌<◌, Bool, true, fals
 use Rattle.std.proofs.lemmas.Bool.Decides.{nat_tests}
 use Rattle.std.proofs.lemmas.Bool.{false≢true}
 use Rattle.cmwq_timer.specs.declared.timer.Timer.{Timer}
-use Rattle.cmwq_timer.specs.declared.timers.Candidate.{Candidate}
+use Rattle.cmwq_timer.specs.declared.leads.Candidate.{Candidate}
 use Rattle.cmwq_timer.specs.Due.{may_fire, is_sooner}
 use Rattle.cmwq_timer.specs.Candidates.{sooner}
 use Rattle.cmwq_timer.specs.Rows.{Rows, timer_of, MayFire}

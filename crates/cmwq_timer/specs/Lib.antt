@@ -1,3 +1,4 @@
 pub mod Due
 pub mod Rows
 pub mod Candidates
+pub mod Leads

@@ -1,7 +1,7 @@
 ghost use Rattle.std.specs.Prelude.{◌≡◌, ℕ, ◌^◌, ◌<◌, Some, None, IfOk, IfSome, IfNone, length, replicate, slice_set};
-ghost use Rattle.cmwq_timer.specs.Candidates.{sooner};
 ghost use Rattle.cmwq_timer.specs.Rows.{timer_of, due_of, is_booked_on, HaveBits, NoneMayFire, IsFirstToFire};
 
+use crate::leads::{BLOCK, Candidate, block_of, first_lead, lead_of, sooner};
 use crate::timer::Timer;
 use cmwq_model::{ItemId, NoMemory, Number, Place, QueueId};
 use std::alloc::Global;
@@ -11,17 +11,20 @@ use std::marker::Model;
 #[derive(Debug, Drop)]
 pub struct Timers {
     rows: Vec<Option<Timer>>,
+    /// Of each block of items, the one whose timer comes first.
+    leads: Vec<Option<Candidate>>,
 }
 
 impl Model for Timers {
     ghost use Rattle.cmwq_timer.specs.Rows.{Rows, HaveBits};
+    ghost use Rattle.cmwq_timer.specs.Leads.{AreLeads};
     ghost use Rattle.std.specs.Prelude.{◌^◌, ◌<◌, vec_len};
 
     ghost Value = { Rows };
 
     ghost view = { λ t. t.rows.items };
 
-    ghost invariant = { λ t. (vec_len t.rows < 2 ^ 16) × HaveBits t.rows.items };
+    ghost invariant = { λ t. (vec_len t.rows < 2 ^ 16) × HaveBits t.rows.items × AreLeads t.rows.items t.leads.items };
 }
 
 impl Timers {
@@ -31,6 +34,7 @@ impl Timers {
     {
         Ok(Timers {
             rows: vec![in alloc; None; usize::from(items)]?,
+            leads: vec![in alloc; None; usize::from(items).div_ceil(BLOCK)]?,
         })
     }
 
@@ -53,6 +57,7 @@ impl Timers {
             due,
             number: at,
         });
+        self.leads[block_of(item)] = lead_of(&self.rows, block_of(item));
     }
 
     /// Takes an item's booking back, if it has one (`del_timer`).
@@ -61,6 +66,7 @@ impl Timers {
         ensures { self.new ≡ slice_set self.old item.0 None }
     {
         self.rows[usize::from(item.0)] = None;
+        self.leads[block_of(item)] = lead_of(&self.rows, block_of(item));
     }
 
     /// The timer that is set for an item, if it is booked: where it is to be queued, when, and by which entry.
@@ -94,6 +100,25 @@ impl Timers {
         ensures found { IfSome result (λ item. IsFirstToFire now held self.now item.0) }
         ensures none { IfNone result (NoneMayFire now held self.now) }
     {
+        match first_lead(&self.leads) {
+            None => None,
+            Some(lead) => {
+                if lead.timer.may_fire(now, held) {
+                    Some(lead.item)
+                } else if now < lead.timer.due {
+                    None
+                } else {
+                    self.first_of_all(now, held)
+                }
+            }
+        }
+    }
+
+    /// The same, by a look at each item: where the one whose timer comes first is held back.
+    fn first_of_all(&self, now: u64, held: u64) -> Option<ItemId>
+        ensures found { IfSome result (λ item. IsFirstToFire now held self.now item.0) }
+        ensures none { IfNone result (NoneMayFire now held self.now) }
+    {
         let mut first = None;
         for (index, row) in self.rows.iter().enumerate() {
             if let Some(timer) = row {
@@ -110,23 +135,6 @@ impl Timers {
             }
         }
         first.map(|candidate| candidate.item)
-    }
-}
-
-/// An item that may fire, and its timer.
-#[derive(Clone, Copy)]
-struct Candidate {
-    item: ItemId,
-    timer: Timer,
-}
-
-/// The one of the two that fires first.
-fn sooner(first: Option<Candidate>, next: Candidate) -> Candidate
-    ensures { result ≡ sooner first next }
-{
-    match first {
-        Some(first) if !next.timer.is_sooner(&first.timer) => first,
-        _ => next,
     }
 }
 

@@ -1,9 +1,10 @@
-use Rattle.std.proofs.Common.{◌≡◌, ◌≤◌, ◌+◌, ◌∙◌, ℕ, sym, ap, arith, not}
+use Rattle.std.proofs.Common.{◌≡◌, ◌≤◌, ◌+◌, ◌∙◌, ℕ, sym, ap, arith}
+use Rattle.std.specs.Prelude.{is_ok}
 use Rattle.cmwq_core.specs.History.{History, past_in}
 use Rattle.cmwq_model.specs.Room.{Steps}
-use Rattle.cmwq_engine.proofs.Steps.{more_taken, more_refused, when_ok, when_err}
+use Rattle.cmwq_engine.proofs.Steps.{more_taken, more_refused}
 use Rattle.cmwq_engine.proofs.history.steps_of.Goals as goal
-use Rattle.cmwq_engine.proofs.history.steps_of.Goals.{then-is_err, else-is_err}
+use Rattle.cmwq_engine.proofs.history.steps_of.Goals.{in-Ok, in-Err}
 
 one_more : (new old n : ℕ) → new ≡ old + 1 → old ≤ n → new ≤ n + 1
 one_more new old n is few = omega arith
@@ -14,26 +15,26 @@ as_many new old n is few = omega arith
 pub loop-who-preserved : goal.loop-who-preserved
 loop-who-preserved c =
     let here = c.loop-who.invariant in
-    let was_ok = sym c.step.ensures.room ∙ c.is_err.ensures.negation in
-    elim c.if-is_err.branch [
-      | then-is_err w ↦
-          let kept = when_err c.step.result _ (sym c.is_err.ensures.value ∙ w.if-is_err.true) c.step.ensures.full in
-          let more = more_refused _ _ c.loop-who.book here.layout here.room c.args.calls.now c.loop-who.who-index _ c.loop-who-test.true here.past (was_ok ∙ ap not w.if-is_err.true) in
-          record {
-            layout = ap (λ (h : History). h.layout) kept ∙ here.layout;
-            room = ap (λ (h : History). h.room) kept ∙ here.room;
-            past = ap past_in kept ∙ sym (ap (λ (t : Steps). t.past) more);
-            left_out = w.left_out-is ∙ ap (λ n. n + 1) here.left_out ∙ sym (ap (λ (t : Steps). t.left_out) more);
-            few = one_more _ _ _ w.left_out-is here.few;
-          }
-      | else-is_err w ↦
-          let made = when_ok c.step.result _ (sym c.is_err.ensures.value ∙ w.if-is_err.false) c.step.ensures.entry in
-          let more = more_taken _ _ c.loop-who.book here.layout here.room c.args.calls.now c.loop-who.who-index _ c.loop-who-test.true here.past (was_ok ∙ ap not w.if-is_err.false) in
+    let takes = sym c.step.ensures.room in
+    elim c.match-step.branch [
+      | in-Ok w ↦
+          let made = w.in-Ok.ensures.entry in
+          let more = more_taken _ _ c.loop-who.book here.layout here.room c.args.calls.now c.loop-who.who-index _ c.loop-who-test.true here.past (takes ∙ ap is_ok w.in-Ok.is) in
           record {
             layout = ap (λ (h : History). h.layout) made ∙ here.layout;
             room = ap (λ (h : History). h.room) made ∙ here.room;
             past = ap past_in made ∙ sym (ap (λ (t : Steps). t.past) more);
             left_out = w.left_out-is ∙ here.left_out ∙ sym (ap (λ (t : Steps). t.left_out) more);
             few = as_many _ _ _ w.left_out-is here.few;
+          }
+      | in-Err w ↦
+          let kept = w.in-Err.ensures.full in
+          let more = more_refused _ _ c.loop-who.book here.layout here.room c.args.calls.now c.loop-who.who-index _ c.loop-who-test.true here.past (takes ∙ ap is_ok w.in-Err.is) in
+          record {
+            layout = ap (λ (h : History). h.layout) kept ∙ here.layout;
+            room = ap (λ (h : History). h.room) kept ∙ here.room;
+            past = ap past_in kept ∙ sym (ap (λ (t : Steps). t.past) more);
+            left_out = w.left_out-is ∙ ap (λ n. n + 1) here.left_out ∙ sym (ap (λ (t : Steps). t.left_out) more);
+            few = one_more _ _ _ w.left_out-is here.few;
           }
     ]

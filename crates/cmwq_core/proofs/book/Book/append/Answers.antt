@@ -11,7 +11,7 @@ use Rattle.cmwq_ties.specs.BarrierBooks as barriers
 use Rattle.cmwq_core.specs.Tables.{ListAll}
 use Rattle.cmwq_core.proofs.Follow.{who_below}
 use Rattle.cmwq_core.proofs.Steps.{small, may_tell, serial_most}
-use Rattle.cmwq_core.proofs.Told.{may_cancel, may_end_books, may_open_books, may_end_barriers, may_open_barriers, may_set_timers, may_be_done, may_begin, may_be_done_barriers, may_begin_barriers, may_end_line, line_ready, may_tell_width, PassMade, pass_made, promoted_newly, may_pass, may_be_listed, may_list_all, may_end_flights, may_start_flights, may_open_flights, may_end_tickets, may_give_tickets, may_lose_queue}
+use Rattle.cmwq_core.proofs.Told.{may_cancel, may_end_books, may_open_books, may_end_barriers, may_open_barriers, may_set_timers, may_be_done, may_begin, may_be_done_barriers, may_begin_barriers, may_end_line, line_ready, may_tell_width, PassMade, pass_made, promoted_newly, may_pass, may_be_behind, may_have_run, may_be_placed, may_be_listed, may_list_all, may_end_flights, may_start_flights, may_open_flights, may_end_tickets, may_give_tickets, may_lose_queue}
 use Rattle.cmwq_core.proofs.Appended.{effect_there, effect_serial, told_book}
 use Rattle.cmwq_core.proofs.book.Book.append.Goals as goal
 
@@ -45,30 +45,63 @@ tell_line-requires-clause-opened c =
     let s = layout_of b.counts b.queues.items in let past = past_of b.entries.items in
     (line_ready s past c.args.effect b.line r.is (small s c.self.invariant.inside) c.self.invariant.legal c.self.invariant.parts_are.line).1
 
-pub pass-requires-clause-placed : goal.pass-requires-clause-placed
-pass-requires-clause-placed c =
+pub tell_line-requires-clause-most : goal.tell_line-requires-clause-most
+tell_line-requires-clause-most c =
     let r = rw (← c.self.view_is) at c.requires in let b = c.self.inside in
     let s = layout_of b.counts b.queues.items in let past = past_of b.entries.items in
-    may_pass s past c.args.effect b.line c.tell_line.new.line c.deref-2.result.now r.is (small s c.self.invariant.inside) c.self.invariant.legal c.self.invariant.parts_are.line c.tell_line.ensures c.deref-2.ensures.value
+    rw (c.deref-2.ensures.value, c.deref-3.ensures.value) (c.tell_width.ensures.many ∙ c.self.invariant.parts_are.widths.many)
+
+pub tell_line-requires-clause-counts : goal.tell_line-requires-clause-counts
+tell_line-requires-clause-counts c =
+    let r = rw (← c.self.view_is) at c.requires in let b = c.self.inside in
+    let s = layout_of b.counts b.queues.items in let past = past_of b.entries.items in
+    rw c.deref-2.ensures.value c.self.invariant.parts_are.line.many
+
+pub tell_line-requires-clause-ended_placed : goal.tell_line-requires-clause-ended_placed
+tell_line-requires-clause-ended_placed c =
+    let r = rw (← c.self.view_is) at c.requires in let b = c.self.inside in
+    let s = layout_of b.counts b.queues.items in let past = past_of b.entries.items in
+    (may_be_placed s past c.args.effect c.deref-2.result.now r.is (small s c.self.invariant.inside) c.self.invariant.legal c.deref-2.ensures.value).0
+
+pub tell_line-requires-clause-opened_placed : goal.tell_line-requires-clause-opened_placed
+tell_line-requires-clause-opened_placed c =
+    let r = rw (← c.self.view_is) at c.requires in let b = c.self.inside in
+    let s = layout_of b.counts b.queues.items in let past = past_of b.entries.items in
+    (may_be_placed s past c.args.effect c.deref-2.result.now r.is (small s c.self.invariant.inside) c.self.invariant.legal c.deref-2.ensures.value).1
+
+pub tell_line-requires-clause-ran : goal.tell_line-requires-clause-ran
+tell_line-requires-clause-ran c =
+    let r = rw (← c.self.view_is) at c.requires in let b = c.self.inside in
+    let s = layout_of b.counts b.queues.items in let past = past_of b.entries.items in
+    may_have_run s past c.args.effect b.line r.is c.self.invariant.legal c.self.invariant.parts_are.line
+
+pub tell_line-requires-clause-behind : goal.tell_line-requires-clause-behind
+tell_line-requires-clause-behind c =
+    let r = rw (← c.self.view_is) at c.requires in let b = c.self.inside in
+    let s = layout_of b.counts b.queues.items in let past = past_of b.entries.items in
+    may_be_behind s past c.args.effect b.line b.most.items c.tell_width.new.most.items b.frozen c.frozen_after-self-inside.result c.deref-2.result.now c.deref-3.result.now (small s c.self.invariant.inside) c.self.invariant.legal c.self.invariant.parts_are.line c.self.invariant.parts_are.widths c.deref-2.ensures.value c.deref-3.ensures.value c.tell_width.ensures c.frozen_after-self-inside.ensures
+
+pub tell_line-requires-clause-placed : goal.tell_line-requires-clause-placed
+tell_line-requires-clause-placed c =
+    let r = rw (← c.self.view_is) at c.requires in let b = c.self.inside in
+    let s = layout_of b.counts b.queues.items in let past = past_of b.entries.items in
+    may_pass s past c.args.effect b.line c.deref-2.result.now r.is (small s c.self.invariant.inside) c.self.invariant.legal c.self.invariant.parts_are.line c.deref-2.ensures.value
 
 pub list_active-requires-clause-there : goal.list_active-requires-clause-there
 list_active-requires-clause-there c =
     let r = rw (← c.self.view_is) at c.requires in let b = c.self.inside in
     let s = layout_of b.counts b.queues.items in let past = past_of b.entries.items in let are = c.self.invariant.parts_are in
-    let made : PassMade s past c.args.effect b.line b.most.items c.tell_width.new.most.items b.frozen c.frozen_after-self-inside.result c.pass.new.self =
+    let made : PassMade s past c.args.effect b.line b.most.items c.tell_width.new.most.items b.frozen c.frozen_after-self-inside.result c.tell_line.new.line =
     record {
-      mid = c.tell_line.new.line;
       queues = c.deref-2.result.now;
       widths = c.deref-3.result.now;
-      mid_is = c.tell_line.ensures;
       queues_are = c.deref-2.ensures.value;
       widths_are_most = c.deref-3.ensures.value;
       width = c.tell_width.ensures;
       frozen_is = c.frozen_after-self-inside.ensures;
-      passes = c.pass.ensures.passes;
-      same_room = c.pass.ensures.room;
+      passed = c.tell_line.ensures;
     } in
-    let newly = c.promoted.ensures ∙ promoted_newly s past c.args.effect b.line b.most.items c.tell_width.new.most.items b.frozen c.frozen_after-self-inside.result c.pass.new.self r.is (small s c.self.invariant.inside) c.self.invariant.legal are.line are.widths made in
+    let newly = c.promoted.ensures ∙ promoted_newly s past c.args.effect b.line b.most.items c.tell_width.new.most.items b.frozen c.frozen_after-self-inside.result c.tell_line.new.line r.is (small s c.self.invariant.inside) c.self.invariant.legal are.line are.widths made in
     let told = c.tell_cancelled.ensures s c.args.effect.entry (sym c.deref.ensures.value) refl in
     rw c.deref-4.ensures.value (may_be_listed s past c.args.effect c.tell_cancelled.new.pools.items c.promoted.result.now r.is (told.many ∙ (c.tell_worker.ensures.many ∙ are.pools.many)) newly)
 
@@ -76,20 +109,17 @@ pub list_active-requires-clause-may : goal.list_active-requires-clause-may
 list_active-requires-clause-may c =
     let r = rw (← c.self.view_is) at c.requires in let b = c.self.inside in
     let s = layout_of b.counts b.queues.items in let past = past_of b.entries.items in let are = c.self.invariant.parts_are in
-    let made : PassMade s past c.args.effect b.line b.most.items c.tell_width.new.most.items b.frozen c.frozen_after-self-inside.result c.pass.new.self =
+    let made : PassMade s past c.args.effect b.line b.most.items c.tell_width.new.most.items b.frozen c.frozen_after-self-inside.result c.tell_line.new.line =
     record {
-      mid = c.tell_line.new.line;
       queues = c.deref-2.result.now;
       widths = c.deref-3.result.now;
-      mid_is = c.tell_line.ensures;
       queues_are = c.deref-2.ensures.value;
       widths_are_most = c.deref-3.ensures.value;
       width = c.tell_width.ensures;
       frozen_is = c.frozen_after-self-inside.ensures;
-      passes = c.pass.ensures.passes;
-      same_room = c.pass.ensures.room;
+      passed = c.tell_line.ensures;
     } in
-    let newly = c.promoted.ensures ∙ promoted_newly s past c.args.effect b.line b.most.items c.tell_width.new.most.items b.frozen c.frozen_after-self-inside.result c.pass.new.self r.is (small s c.self.invariant.inside) c.self.invariant.legal are.line are.widths made in
+    let newly = c.promoted.ensures ∙ promoted_newly s past c.args.effect b.line b.most.items c.tell_width.new.most.items b.frozen c.frozen_after-self-inside.result c.tell_line.new.line r.is (small s c.self.invariant.inside) c.self.invariant.legal are.line are.widths made in
     let told = c.tell_cancelled.ensures s c.args.effect.entry (sym c.deref.ensures.value) refl in
     rw c.deref-4.ensures.value (may_list_all s past c.args.effect b.pools.items c.tell_worker.new.pools.items c.tell_cancelled.new.pools.items c.promoted.result.now r.is are.pools c.tell_worker.ensures told newly)
 
@@ -193,20 +223,17 @@ invariant_of-self c =
     let s = layout_of b.counts b.queues.items in let past = past_of b.entries.items in let e = c.args.effect.entry in let are = c.self.invariant.parts_are in
     let ticks : c.from.result ≡ ticks_told e.call = c.from.ensures ∙ c.ticks_of.ensures.ticks in
     let few : ticks_told e.call < 2 ^ 32 = rw (← c.ticks_of.ensures.ticks) c.ticks_of.ensures.small in
-    let made : PassMade s past c.args.effect b.line b.most.items c.tell_width.new.most.items b.frozen c.frozen_after-self-inside.result c.pass.new.self =
+    let made : PassMade s past c.args.effect b.line b.most.items c.tell_width.new.most.items b.frozen c.frozen_after-self-inside.result c.tell_line.new.line =
     record {
-      mid = c.tell_line.new.line;
       queues = c.deref-2.result.now;
       widths = c.deref-3.result.now;
-      mid_is = c.tell_line.ensures;
       queues_are = c.deref-2.ensures.value;
       widths_are_most = c.deref-3.ensures.value;
       width = c.tell_width.ensures;
       frozen_is = c.frozen_after-self-inside.ensures;
-      passes = c.pass.ensures.passes;
-      same_room = c.pass.ensures.room;
+      passed = c.tell_line.ensures;
     } in
-    let listed : ListAll s.queues c.pass.new.self.promoted c.tell_cancelled.new.pools.items c.list_active.new.pools.items = rw (c.deref-4.ensures.value, c.promoted.ensures) at c.list_active.ensures in
+    let listed : ListAll s.queues c.tell_line.new.line.promoted c.tell_cancelled.new.pools.items c.list_active.new.pools.items = rw (c.deref-4.ensures.value, c.promoted.ensures) at c.list_active.ensures in
     rw (c.push_reserved.ensures.items, c.push_reserved.ensures.capacity)
     (told_book s b.room b.entries.items (vec_capacity b.entries) _ _ c.args.effect c.self.invariant r.is (record {
       pools_mid = c.tell_worker.new.pools.items;
@@ -229,7 +256,7 @@ invariant_of-self c =
       flights = c.tell_flights.ensures;
       tickets = c.tell_tickets.ensures;
       gone = c.tell_gone.ensures;
-      line = pass_made s past c.args.effect b.line b.most.items c.tell_width.new.most.items b.frozen c.frozen_after-self-inside.result c.pass.new.self are.widths made;
+      line = pass_made s past c.args.effect b.line b.most.items c.tell_width.new.most.items b.frozen c.frozen_after-self-inside.result c.tell_line.new.line are.widths made;
       widths = c.tell_width.ensures;
       frozen = c.frozen_after-self-inside.ensures;
       owing = refl;

@@ -1,14 +1,22 @@
-use Rattle.std.proofs.Common.{◌∙◌, sym}
-use Rattle.cmwq_timer.proofs.Below.{FirstBelow-skip, FirstBelow-next, FirstBelow-held}
-use Rattle.cmwq_timer.proofs.timers.Timers.first_due.Goals.{in-Some+then-may_fire, in-Some+else-may_fire, in_default}
+use Rattle.std.proofs.Common.{◌*◌, length, sym, ◌∙◌}
+use Rattle.cmwq_timer.specs.Leads.{AreLeads}
+use Rattle.cmwq_timer.proofs.Leading.{lead_fires, none_fires, none_is_due}
 use Rattle.cmwq_timer.proofs.timers.Timers.first_due.Goals as goal
 
-pub loop-index-preserved : goal.loop-index-preserved
-loop-index-preserved c =
-    let rows = c.deref-row-items.result.now in
-    let k = c.loop-index.index in
-    elim c.match-row.branch [
-      | in-Some+then-may_fire w ↦ rw (w.first-is, w.sooner.ensures) (FirstBelow-next _ _ rows k c.loop-index.first _ (w.in-Some.is, sym w.may_fire.ensures ∙ w.if-may_fire.true) c.loop-index.invariant)
-      | in-Some+else-may_fire w ↦ rw w.first-is (FirstBelow-held _ _ rows k _ w.in-Some.timer w.in-Some.is (sym w.may_fire.ensures ∙ w.if-may_fire.false) c.loop-index.invariant)
-      | in_default w ↦ rw w.first-is (FirstBelow-skip _ _ rows k _ (λ t may. w.in_default.not-Some t may.0) c.loop-index.invariant)
-    ]
+pub returns-in-None-clause-none : goal.returns-in-None-clause-none
+returns-in-None-clause-none c =
+    let rows = c.self.inside.rows.items in
+    let are : AreLeads rows c.deref.result.now = rw c.deref.ensures.value c.self.invariant.2 in
+    rw (← c.self.view_is) (none_fires rows (16 * length c.deref.result.now) are.many c.args.now c.args.held (c.in-None.ensures rows are))
+
+pub returns-then-may_fire-clause-found : goal.returns-then-may_fire-clause-found
+returns-then-may_fire-clause-found c =
+    let rows = c.self.inside.rows.items in
+    let are : AreLeads rows c.deref.result.now = rw c.deref.ensures.value c.self.invariant.2 in
+    rw (← c.self.view_is) (lead_fires rows (16 * length c.deref.result.now) are.many c.args.now c.args.held c.in-Some.lead (c.in-Some.ensures rows are) (sym c.may_fire.ensures ∙ c.if-may_fire.true))
+
+pub returns-then-now-lead-clause-none : goal.returns-then-now-lead-clause-none
+returns-then-now-lead-clause-none c =
+    let rows = c.self.inside.rows.items in
+    let are : AreLeads rows c.deref.result.now = rw c.deref.ensures.value c.self.invariant.2 in
+    rw (← c.self.view_is) (none_is_due rows (16 * length c.deref.result.now) are.many c.args.now c.args.held c.in-Some.lead (c.in-Some.ensures rows are) c.if-now-lead.true)

@@ -1,0 +1,9 @@
+//! The word `replay`, over any source of bytes and any sinks.
+#![tactic(auto)]
+
+mod replay;
+
+pub use replay::run_replay;
+
+#[cfg(test)]
+mod tests;

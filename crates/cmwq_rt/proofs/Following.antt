@@ -1,0 +1,116 @@
+-- A caller follows a script, one call after another.
+use Rattle.std.proofs.Common.{◌≡◌, ◌≢◌, ◌⊎◌, ℕ, zero, suc, ◌+◌, ◌<◌, ◌≤◌, List, [], ◌∷◌, ◌++◌, Bool, true, false, length, refl, sym, ap, ◌∙◌, subst, inl, inr, arith, append_assoc, append-nil, length-append, Some, None, take, get_or}
+use Rattle.std.proofs.lemmas.List.{take_more}
+use Rattle.std.specs.Prelude.{MatchBool, MatchOption, Option, All}
+use mathlib.Core.List.{IsPrefix}
+use Rattle.cmwq_model.specs.declared.id.Who.{Who}
+use Rattle.cmwq_model.specs.declared.call.Call.{Call}
+use Rattle.cmwq_model.specs.declared.call.Call.TheVariants as call
+use Rattle.cmwq_model.specs.declared.reply.Reply.{Reply}
+use Rattle.cmwq_model.specs.declared.entry.Entry.{Entry}
+use Rattle.cmwq_model.specs.Layout.{Layout}
+use Rattle.cmwq_desk.specs.Seats.{Seated, Gains, made_by}
+use Rattle.cmwq_desk.specs.Faults.{Refused, Says}
+use Rattle.cmwq_desk.specs.declared.fault.RunFault.{RunFault}
+use Rattle.cmwq_desk.specs.declared.fault.RunFault.TheVariants.{Full}
+use Rattle.cmwq_desk.specs.Whole.{Completes, BrokeOff, Makes, Behind, EndsTicket, Fires, HadNoRoom, is_tick, is_drain, ticket_given}
+use Rattle.cmwq_desk.proofs.Beginnings.{prefix_self, prefix_trans}
+use Rattle.cmwq_rt.specs.Scripts.{Follows, HasFollowed}
+
+module _ (s : Layout) (who : Who) (old new : List Entry) (more : IsPrefix old new) where
+  -- what holds of a history holds of a longer one
+  room_later : (made : List Entry) (c : Call) → HadNoRoom s who old made c → HadNoRoom s who new made c
+  room_later made c (before, older, mine, none) = (before, prefix_trans before old new older more, mine, none)
+
+  fires_later : (n : ℕ) (made es : List Entry) → Fires s who old n made es → Fires s who new n made es
+  fires_later zero made es f = f
+  fires_later (suc n) made es (inl (none, room)) = inl (none, room_later made call.Fire room)
+  fires_later (suc n) made es (inr (inl last)) = inr (inl last)
+  fires_later (suc n) made es (inr (inr (e, rest, is, fire, other, f))) = inr (inr (e, rest, is, fire, other, fires_later n (made ++ e ∷ []) rest f))
+
+  end_later : (made : List Entry) (c : Call) (k : ℕ) (es : List Entry) → EndsTicket s who old made c k es → EndsTicket s who new made c k es
+  end_later made c k es (e, rest, is, done, behind) = (e, rest, is, done, drained (is_drain c) behind)
+    where
+      drained : (b : Bool) → MatchBool b (Fires s who old s.items (made ++ e ∷ []) rest) (rest ≡ []) → MatchBool b (Fires s who new s.items (made ++ e ∷ []) rest) (rest ≡ [])
+      drained true f = fires_later s.items (made ++ e ∷ []) rest f
+      drained false none = none
+
+  behind_later : (made : List Entry) (c : Call) (r : Reply) (es : List Entry) → Behind s who old made c r es → Behind s who new made c r es
+  behind_later made c r es = ticked (is_tick c)
+    where
+      ended : (o : Option ℕ) → MatchOption o (es ≡ []) (λ k. EndsTicket s who old made c k es) → MatchOption o (es ≡ []) (λ k. EndsTicket s who new made c k es)
+      ended None none = none
+      ended (Some k) end = end_later made c k es end
+
+      ticked : (b : Bool) → MatchBool b (Fires s who old s.items made es) (MatchOption (ticket_given r) (es ≡ []) (λ k. EndsTicket s who old made c k es))
+          → MatchBool b (Fires s who new s.items made es) (MatchOption (ticket_given r) (es ≡ []) (λ k. EndsTicket s who new made c k es))
+      ticked true f = fires_later s.items made es f
+      ticked false e = ended (ticket_given r) e
+
+  makes_later : (made : List Entry) (c : Call) (r : Reply) (es : List Entry) → Makes s who old made c r es → Makes s who new made c r es
+  makes_later made c r es m = record { first = m.first; rest = m.rest; all = m.all; is = m.is; behind = behind_later (made ++ m.first ∷ []) c r m.rest m.behind }
+
+  pub follows_later : (script : List Call) (made all : List Entry) (full : ℕ) → Follows s who old made script all full → Follows s who new made script all full
+  follows_later [] made all full f = f
+  follows_later (c ∷ cs) made all full (inl (r, es, m, f)) = inl (r, es, makes_later made c r es m, follows_later cs (made ++ es) all full f)
+  follows_later (c ∷ cs) made all full (inr (n, is, room, f)) = inr (n, is, room_later made c room, follows_later cs made all n f)
+
+-- one more call of the script
+follows_one : (s : Layout) (who : Who) (h : List Entry) (script : List Call) (c : Call) (made mid all : List Entry) (full : ℕ) (r : Reply) (es : List Entry)
+    → Follows s who h made script mid full → Makes s who h mid c r es → all ≡ mid ++ es → Follows s who h made (script ++ c ∷ []) all full
+follows_one s who h [] c made mid all full r es (same, none) m is =
+    inl (r, es, subst (λ xs. Makes s who h xs c r es) same m, (is ∙ ap (λ xs. xs ++ es) same, none))
+follows_one s who h (d ∷ ds) c made mid all full r es (inl (q, fs, n, f)) m is = inl (q, fs, n, follows_one s who h ds c (made ++ fs) mid all full r es f m is)
+follows_one s who h (d ∷ ds) c made mid all full r es (inr (n, is_n, room, f)) m is = inr (n, is_n, room, follows_one s who h ds c made mid all n r es f m is)
+
+follows_none : (s : Layout) (who : Who) (h : List Entry) (script : List Call) (c : Call) (made all : List Entry) (full : ℕ)
+    → Follows s who h made script all full → HadNoRoom s who h all c → Follows s who h made (script ++ c ∷ []) all (full + 1)
+follows_none s who h [] c made all full (same, none) room = inr (0, ap (λ n. n + 1) none, subst (λ xs. HadNoRoom s who h xs c) same room, (same, refl))
+follows_none s who h (d ∷ ds) c made all full (inl (q, fs, n, f)) room = inl (q, fs, n, follows_none s who h ds c (made ++ fs) all full f room)
+follows_none s who h (d ∷ ds) c made all full (inr (n, is, lacks, f)) room = inr (n + 1, ap (λ k. k + 1) is, lacks, follows_none s who h ds c made all n f room)
+
+pub followed_none : (s : Layout) (v : Seated) → v.serial ≡ 0 → v.seen ≡ [] → HasFollowed s [] 0 v
+followed_none s v serial seen =
+    let none : made_by v.who v.seen ≡ [] = ap (made_by v.who) seen in
+    record { follows = (none, refl); serial = serial ∙ sym (ap length none) }
+
+pub followed_more : (s : Layout) (script : List Call) (c : Call) (full : ℕ) (v w : Seated) (r : Reply) → HasFollowed s script full v → Completes s v c r w → HasFollowed s (script ++ c ∷ []) full w
+followed_more s script c full v w r has x =
+    let g = x.gains in
+    let old : Follows s v.who w.seen [] script (made_by v.who v.seen) full = follows_later s v.who v.seen w.seen g.older script [] (made_by v.who v.seen) full has.follows in
+    let now : Follows s v.who w.seen [] (script ++ c ∷ []) (made_by v.who w.seen) full = follows_one s v.who w.seen script c [] (made_by v.who v.seen) (made_by v.who w.seen) full r x.entries old x.makes g.made in
+    record {
+      follows = subst (λ a. Follows s a w.seen [] (script ++ c ∷ []) (made_by a w.seen) full) (sym g.same) now;
+      serial = subst (λ a. w.serial ≡ length (made_by a w.seen)) (sym g.same)
+          (let n = g.serial in let m = has.serial in let l = ap length g.made in let t = length-append (made_by v.who v.seen) x.entries in omega (arith, n, m, l, t));
+    }
+
+pub followed_full : (s : Layout) (script : List Call) (c : Call) (full : ℕ) (v w : Seated) → HasFollowed s script full v → Refused s v c Full w → HasFollowed s (script ++ c ∷ []) (full + 1) w
+followed_full s script c full v w has refused =
+    let g = refused.0 in
+    let mine : made_by v.who w.seen ≡ made_by v.who v.seen = g.made ∙ append-nil (made_by v.who v.seen) in
+    let old : Follows s v.who w.seen [] script (made_by v.who w.seen) full = subst (λ all. Follows s v.who w.seen [] script all full) (sym mine) (follows_later s v.who v.seen w.seen g.older script [] (made_by v.who v.seen) full has.follows) in
+    let room : HadNoRoom s w.who w.seen (made_by w.who w.seen) c = (w.seen, prefix_self w.seen, refl, refused.1) in
+    record {
+      follows = subst (λ a. Follows s a w.seen [] (script ++ c ∷ []) (made_by a w.seen) (full + 1)) (sym g.same)
+          (follows_none s v.who w.seen script c [] (made_by v.who w.seen) full old (subst (λ a. HadNoRoom s a w.seen (made_by a w.seen) c) g.same room));
+      serial = subst (λ a. w.serial ≡ length (made_by a w.seen)) (sym g.same) (let n = g.serial in let m = has.serial in let l = ap length mine in omega (arith, n, m, l));
+    }
+
+-- what is refused for want of room has made no entry
+broke_full : (s : Layout) (v w : Seated) (c : Call) → BrokeOff s v c Full w → Refused s v c Full w
+broke_full s v w c (inl r) = r
+broke_full s v w c (inr (e, es, gains, part, inl memory)) = absurd (cc memory)
+broke_full s v w c (inr (e, es, gains, part, inr (own, book, stranger, differs))) = absurd (cc stranger)
+
+pub followed_call : (s : Layout) (script : List Call) (k : ℕ) (d : Call) (full : ℕ) (v w : Seated) (r : Reply) → k < length script
+    → HasFollowed s (take k script) full v → Completes s v (get_or script k d) r w → HasFollowed s (take (k + 1) script) full w
+followed_call s script k d full v w r lt has x = rw (take_more script k d lt) (followed_more s (take k script) (get_or script k d) full v w r has x)
+
+pub followed_skip : (s : Layout) (script : List Call) (k : ℕ) (d : Call) (full : ℕ) (v w : Seated) (f : RunFault) → k < length script → f ≡ Full
+    → HasFollowed s (take k script) full v → BrokeOff s v (get_or script k d) f w → HasFollowed s (take (k + 1) script) (full + 1) w
+followed_skip s script k d full v w f lt is has broke =
+    rw (take_more script k d lt) (followed_full s (take k script) (get_or script k d) full v w has (broke_full s v w (get_or script k d) (subst (λ g. BrokeOff s v (get_or script k d) g w) is broke)))
+
+pub refused_same : (s : Layout) (v w : Seated) (c : Call) (f : RunFault) → f ≡ Full → BrokeOff s v c f w → w.who ≡ v.who
+refused_same s v w c f is broke = (broke_full s v w c (subst (λ g. BrokeOff s v c g w) is broke)).0.same

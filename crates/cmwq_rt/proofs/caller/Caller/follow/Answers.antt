@@ -1,0 +1,32 @@
+use Rattle.std.proofs.Common.{◌≡◌, ◌≤◌, ◌+◌, ◌∙◌, sym, ap, refl, arith, subst, take, List}
+use Rattle.cmwq_model.specs.declared.call.Call.{Call}
+use Rattle.std.proofs.lemmas.List.{take_all}
+use Rattle.cmwq_rt.specs.Scripts.{HasFollowed}
+use Rattle.cmwq_rt.proofs.Following.{followed_none, followed_call, followed_skip, refused_same}
+use Rattle.cmwq_rt.proofs.caller.Caller.follow.Goals as goal
+use Rattle.cmwq_rt.proofs.caller.Caller.follow.Goals.{in-Ok, in-Err-Full}
+
+pub loop-k-init : goal.loop-k-init
+loop-k-init g c = (followed_none g.N.HubName.layout c.args.self.now c.requires.fresh.0 c.requires.fresh.1, omega arith, refl)
+
+pub loop-k-preserved : goal.loop-k-preserved
+loop-k-preserved g c =
+    let s = g.N.HubName.layout in
+    let script = c.args.script.now in
+    let i = c.loop-k.invariant in
+    elim c.match-make_whole.branch [
+      | in-Ok w ↦ (
+        rw w.full-is (followed_call s script c.loop-k.k _ c.loop-k.full c.loop-k.self c.make_whole.new.self _ c.loop-k-test.true i.0 w.in-Ok.ensures.done),
+        (let n = w.full-is in let m = i.1 in omega (arith, n, m)),
+        w.in-Ok.ensures.done.gains.same ∙ i.2,
+      )
+      | in-Err-Full w ↦ (
+        rw w.full-is (followed_skip s script c.loop-k.k _ c.loop-k.full c.loop-k.self c.make_whole.new.self _ c.loop-k-test.true w.in-Err-Full.field-0-is i.0 w.in-Err-Full.ensures.broke),
+        (let n = w.full-is in let m = i.1 in omega (arith, n, m)),
+        refused_same s c.loop-k.self c.make_whole.new.self _ _ w.in-Err-Full.field-0-is w.in-Err-Full.ensures.broke ∙ i.2,
+      )
+    ]
+
+pub returns-clause-followed : goal.returns-clause-followed
+returns-clause-followed g c =
+    subst (λ (xs : List Call). HasFollowed g.N.HubName.layout xs c.loop-k.full c.loop-k.self) (take_all c.loop-k.k c.args.script.now c.loop-k-test.false) c.loop-k.invariant.0

@@ -1,0 +1,32 @@
+-- What a caller that follows a script leaves in a history.
+use Rattle.std.specs.Prelude.{◌≡◌, ◌⊎◌, ℕ, ◌+◌, Bool, true, false, List, [], ◌∷◌, ◌++◌, length}
+use Rattle.cmwq_model.specs.declared.id.Who.{Who}
+use Rattle.cmwq_model.specs.declared.call.Call.{Call}
+use Rattle.cmwq_model.specs.declared.reply.Reply.{Reply}
+use Rattle.cmwq_model.specs.declared.entry.Entry.{Entry}
+use Rattle.cmwq_model.specs.declared.call.Call.TheVariants as call
+use Rattle.cmwq_model.specs.Layout.{Layout, is_callers, has_numbers}
+use Rattle.cmwq_desk.specs.Seats.{Seated, made_by}
+use Rattle.cmwq_desk.specs.Whole.{Makes, HadNoRoom}
+
+-- A script holds whole calls of callers with numbers inside the layout: ends and fires come by themselves.
+abbrev pub is_whole : Call → Bool
+is_whole (call.End t) = false
+is_whole call.Fire = false
+is_whole c = is_callers c
+
+abbrev pub IsScripted : Layout → Call → Type 0
+IsScripted s c = (is_whole c ≡ true) × (has_numbers s c ≡ true)
+
+-- The caller's entries in a history are these, and then for each call of the script, in order, those that it makes; or none where there was
+-- no room for the call, so many times in all.
+abbrev pub Follows : Layout → Who → List Entry → List Entry → List Call → List Entry → ℕ → Type 0
+Follows s who history made [] all full = (all ≡ made) × (full ≡ 0)
+Follows s who history made (c ∷ cs) all full =
+    ((r : Reply) × (es : List Entry) × Makes s who history made c r es × Follows s who history (made ++ es) cs all full)
+    ⊎ ((n : ℕ) × (full ≡ n + 1) × HadNoRoom s who history made c × Follows s who history made cs all n)
+
+-- a caller has followed a script from its first call on, and has made no other entries
+pub record HasFollowed (s : Layout) (script : List Call) (full : ℕ) (v : Seated) : Type 0 where
+  pub follows : Follows s v.who v.seen [] script (made_by v.who v.seen) full
+  pub serial : v.serial ≡ length (made_by v.who v.seen)

@@ -1,0 +1,64 @@
+//! Callers that follow scripts.
+ghost use Rattle.std.specs.Prelude.{◌≡◌, ◌<◌, ◌≤◌, ◌^◌, [], length, true, IfOk, IfErr, All};
+ghost use Rattle.cmwq_model.specs.Layout.{has_numbers, is_callers};
+ghost use Rattle.cmwq_desk.specs.Whole.{Completes, BrokeOff};
+ghost use Rattle.cmwq_rt.specs.Scripts.{IsScripted, HasFollowed};
+
+use crate::caller::Caller;
+use crate::hub::Hub;
+use cmwq_desk::RunFault;
+use cmwq_model::{Call, Reply};
+use cmwq_versions::HubName;
+use std::sync::Wait;
+
+impl<N: HubName> Caller<N> {
+    /// A whole call: it makes its entry and those that belong to it, as the method of its name does.
+    ///
+    /// # Errors
+    /// Those of that method.
+    pub fn make_whole<R: Wait>(
+        &mut self,
+        rt: &R,
+        hub: &Hub<N>,
+        call: Call,
+    ) -> Result<Reply, RunFault>
+        requires callers { is_callers call ≡ true }
+        requires numbers { has_numbers N.layout call ≡ true }
+        ensures done { IfOk result (λ reply. Completes N.layout self.old call reply self.new) }
+        ensures broke { IfErr result (λ f. BrokeOff N.layout self.old call f self.new) }
+    {
+        match call {
+            Call::Tick { ticks } => self.tick(rt, hub, ticks),
+            _ => self.wait_out(rt, hub, call),
+        }
+    }
+
+    /// Makes the calls of a script, one after another, each whole; those for which there is no room are left out. It answers how many
+    /// entries it made, and how many calls were left out.
+    ///
+    /// # Errors
+    /// Those of the calls but `Full`: the script breaks off there.
+    pub fn follow<R: Wait>(
+        &mut self,
+        rt: &R,
+        hub: &Hub<N>,
+        script: &[Call],
+    ) -> Result<(u32, u32), RunFault>
+        requires fresh { (self.old.serial ≡ 0) × (self.old.seen ≡ []) }
+        requires whole { All (IsScripted N.layout) script.now }
+        requires short { length script.now < 2 ^ 32 }
+        ensures followed { IfOk result (λ t. HasFollowed N.layout script.now t.1 self.new) }
+        ensures count { IfOk result (λ t. t.0 ≡ self.new.serial) }
+        ensures same { IfOk result (λ _. self.new.who ≡ self.old.who) }
+    {
+        let mut full = 0u32;
+        for k in 0..script.len() {
+            match self.make_whole(rt, hub, script[k]) {
+                Ok(_) => {}
+                Err(RunFault::Full) => full += 1,
+                Err(fault) => return Err(fault),
+            }
+        }
+        Ok((self.serial(), full))
+    }
+}

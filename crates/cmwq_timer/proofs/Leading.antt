@@ -1,0 +1,141 @@
+-- Which of two leads comes first, and the leads of rows of which one is set.
+use Rattle.std.proofs.Common.{inl, inr, ◌==◌, ◌≡◌, ◌≢◌, ℕ, ◌+◌, ◌*◌, ◌<◌, ◌≤◌, Bool, true, false, List, length, Option, Some, None, cond, min, sym, refl, ◌∙◌, arith, ◌⊎◌, ⊎_elim}
+use Rattle.std.specs.Prelude.{slice_set, slice_index_or}
+use Rattle.std.proofs.lemmas.Bool.Decides.{nat_tests}
+use Rattle.std.proofs.lemmas.Bool.{false≢true, cases_lt, eqb-true, eq-eqb}
+use Rattle.std.proofs.lemmas.Grind.{get_or-set_at}
+use Rattle.std.proofs.lemmas.List.{get_or-set_other, get_or_past, length-set}
+use Rattle.cmwq_timer.specs.declared.timer.Timer.{Timer}
+use Rattle.cmwq_timer.specs.declared.leads.Candidate.{Candidate}
+use Rattle.cmwq_timer.specs.Due.{may_fire, is_sooner}
+use Rattle.cmwq_timer.specs.Candidates.{sooner}
+use Rattle.cmwq_timer.specs.Leads.{IsBookedIn, LeadsIn, IsLead, AreLeads}
+use Rattle.cmwq_timer.specs.Rows.{Rows, timer_of, MayFire, NoneMayFire, IsFirstToFire}
+
+sooner_chain : (a b c : Timer) → is_sooner a b ≡ false → is_sooner c b ≡ true → is_sooner a c ≡ false
+sooner_chain a b c = grind (arith, nat_tests)
+
+sooner_self : (a : Timer) → is_sooner a a ≡ false
+sooner_self a = grind (arith, nat_tests)
+
+-- what is not sooner than one that isn't sooner than a third
+sooner_on : (a b c : Timer) → is_sooner a c ≡ false → is_sooner c b ≡ false → is_sooner a b ≡ false
+sooner_on a b c = grind (arith, nat_tests)
+
+-- the lead of two ranges that follow one another
+abbrev pub led : Option Candidate → Option Candidate → Option Candidate
+led first None = first
+led first (Some next) = Some (sooner first next)
+
+module _ (rows : Rows) (lo mid hi : ℕ) (up : lo ≤ mid) (on : mid ≤ hi) where
+  parted : (i : ℕ) (t : Timer) → IsBookedIn rows lo hi i t → IsBookedIn rows lo mid i t ⊎ IsBookedIn rows mid hi i t
+  parted i t is = ⊎_elim (λ l. inl (record { from = is.from; below = l; booked = is.booked })) (λ g. inr (record { from = g; below = is.below; booked = is.booked })) (cases_lt i mid)
+
+  wider_left : (i : ℕ) (t : Timer) → IsBookedIn rows lo mid i t → IsBookedIn rows lo hi i t
+  wider_left i t is = let b = is.below in record { from = is.from; below = omega arith; booked = is.booked }
+
+  wider_right : (i : ℕ) (t : Timer) → IsBookedIn rows mid hi i t → IsBookedIn rows lo hi i t
+  wider_right i t is = let f = is.from in record { from = omega arith; below = is.below; booked = is.booked }
+
+  pub lead_of_both : (first next : Option Candidate) → IsLead rows lo mid first → IsLead rows mid hi next → IsLead rows lo hi (led first next)
+  lead_of_both None None a b = λ i t is. ⊎_elim (λ l. a i t l) (λ r. b i t r) (parted i t is)
+  lead_of_both (Some c) None a b = record {
+    is_booked = wider_left c.item.0 c.timer a.is_booked;
+    none_sooner = λ i t is. ⊎_elim (λ l. a.none_sooner i t l) (λ r. absurd (b i t r)) (parted i t is);
+  }
+  lead_of_both None (Some d) a b = record {
+    is_booked = wider_right d.item.0 d.timer b.is_booked;
+    none_sooner = λ i t is. ⊎_elim (λ l. absurd (a i t l)) (λ r. b.none_sooner i t r) (parted i t is);
+  }
+  lead_of_both (Some c) (Some d) a b = by (is_sooner d.timer c.timer) refl
+    where
+      by : (s : Bool) → is_sooner d.timer c.timer ≡ s → LeadsIn rows lo hi (cond s d c)
+      by true is = record {
+        is_booked = wider_right d.item.0 d.timer b.is_booked;
+        none_sooner = λ i t h. ⊎_elim (λ l. sooner_chain t c.timer d.timer (a.none_sooner i t l) is) (λ r. b.none_sooner i t r) (parted i t h);
+      }
+      by false is = record {
+        is_booked = wider_left c.item.0 c.timer a.is_booked;
+        none_sooner = λ i t h. ⊎_elim (λ l. a.none_sooner i t l) (λ r. sooner_on t c.timer d.timer (b.none_sooner i t r) is) (parted i t h);
+      }
+
+pub none_led : (rows : Rows) (lo : ℕ) → IsLead rows lo lo None
+none_led rows lo = λ i t is. let a = is.from in let b = is.below in absurd (omega arith)
+
+one_timer : (o : Option Timer) (t u : Timer) → o ≡ Some t → o ≡ Some u → u ≡ t
+one_timer o t u p q = cc
+
+-- one row alone
+pub one_led : (rows : Rows) (k : ℕ) (t : Timer) → timer_of rows k ≡ Some t → IsLead rows k (k + 1) (Some (record { item = record { 0 = k }; timer = t }))
+one_led rows k t at = record {
+  is_booked = record { from = omega arith; below = omega arith; booked = at };
+  none_sooner = λ i u is.
+      let a = is.from in let b = is.below in
+      let here : i ≡ k = omega arith in
+      let same : u ≡ t = one_timer (timer_of rows k) t u at (rw here at is.booked) in
+      rw same (sooner_self t);
+}
+
+pub one_unled : (rows : Rows) (k : ℕ) → ((t : Timer) → timer_of rows k ≡ Some t → ⊥) → IsLead rows k (k + 1) None
+one_unled rows k none = λ i t is. let a = is.from in let b = is.below in let here : i ≡ k = omega arith in none t (rw here at is.booked)
+
+-- rows that are alike there
+pub lead_same : (rows new : Rows) (lo hi : ℕ) (o : Option Candidate) → ((i : ℕ) → lo ≤ i → i < hi → timer_of new i ≡ timer_of rows i) → IsLead rows lo hi o → IsLead new lo hi o
+lead_same rows new lo hi None same lead = λ i t is. lead i t (record { from = is.from; below = is.below; booked = sym (same i is.from is.below) ∙ is.booked })
+lead_same rows new lo hi (Some c) same lead = record {
+  is_booked = record { from = lead.is_booked.from; below = lead.is_booked.below; booked = same c.item.0 lead.is_booked.from lead.is_booked.below ∙ lead.is_booked.booked };
+  none_sooner = λ i t is. lead.none_sooner i t (record { from = is.from; below = is.below; booked = sym (same i is.from is.below) ∙ is.booked });
+}
+
+-- a row is set, and its block's lead
+pub leads_set : (rows : Rows) (leads : List (Option Candidate)) (k b : ℕ) (row : Option Timer) (lead : Option Candidate) → AreLeads rows leads → 16 * b ≤ k → k < 16 * b + 16 → b < length leads
+    → IsLead (slice_set rows k row) (16 * b) (16 * b + 16) lead → AreLeads (slice_set rows k row) (slice_set leads b lead)
+leads_set rows leads k b row lead are from below there is = record {
+  many = let n : length (slice_set rows k row) ≡ length rows = length-set rows k row in let m : length (slice_set leads b lead) ≡ length leads = length-set leads b lead in let old = are.many in omega arith;
+  each = λ d inside. by d (rw (length-set leads b lead) at inside) (d == b) refl;
+}
+  where
+    by : (d : ℕ) → d < length leads → (e : Bool) → (d == b) ≡ e → IsLead (slice_set rows k row) (16 * d) (16 * d + 16) (slice_index_or (slice_set leads b lead) d None)
+    by d inside true e = let here : d ≡ b = eqb-true d b e in rw (here, get_or-set_at leads b b lead None refl there) is
+    by d inside false e =
+        let apart : d ≢ b = λ h. false≢true (sym e ∙ eq-eqb d b h) in
+        rw (get_or-set_other leads b d lead None apart)
+        (lead_same rows (slice_set rows k row) (16 * d) (16 * d + 16) (slice_index_or leads d None) (λ i lo hi. get_or-set_other rows k i row None (λ h. apart (omega arith))) (are.each d inside))
+
+-- ---- the first to fire
+
+none_past : (rows : Rows) (i : ℕ) (t : Timer) → timer_of rows i ≡ Some t → i < length rows
+none_past rows i t at = ⊎_elim (λ l. l) (λ g. absurd (let past : timer_of rows i ≡ None = get_or_past rows i None g in let bad : None ≡ Some t = sym past ∙ at in cc)) (cases_lt i (length rows))
+
+module _ (rows : Rows) (all : ℕ) (whole : length rows ≤ all) (now held : ℕ) where
+  inside : (i : ℕ) (t : Timer) → MayFire now held rows i t → IsBookedIn rows 0 all i t
+  inside i t may = let l = none_past rows i t may.0 in record { from = omega arith; below = omega arith; booked = may.0 }
+
+  pub lead_fires : (c : Candidate) → IsLead rows 0 all (Some c) → may_fire now held c.timer ≡ true → IsFirstToFire now held rows c.item.0
+  lead_fires c lead may = record {
+    timer = c.timer;
+    may_fire = (lead.is_booked.booked, may);
+    none_sooner = λ j other may. lead.none_sooner j other (inside j other may);
+  }
+
+  pub none_fires : IsLead rows 0 all None → NoneMayFire now held rows
+  none_fires lead = λ i t may. lead i t (inside i t may)
+
+  later : (t c : Timer) → is_sooner t c ≡ false → now < c.due → may_fire now held t ≡ true → ⊥
+  later t c = grind (arith, nat_tests)
+
+  pub none_is_due : (c : Candidate) → IsLead rows 0 all (Some c) → now < c.timer.due → NoneMayFire now held rows
+  none_is_due c lead less = λ i t may. later t c.timer (lead.none_sooner i t (inside i t may)) less may.1
+
+-- what has been looked at is all that there is of a block
+pub lead_whole : (rows : Rows) (lo k hi : ℕ) (o : Option Candidate) → lo ≤ k → k ≤ hi → min (length rows) hi ≤ k → IsLead rows lo k o → IsLead rows lo hi o
+lead_whole rows lo k hi o up on past lead = lead_of_both rows lo k hi up on o None lead (λ i t is. let a = is.from in let b = is.below in let l = none_past rows i t is.booked in omega arith)
+
+pub all_led : (rows : Rows) (leads : List (Option Candidate)) (k : ℕ) (first : Option Candidate) (lead : Option Candidate) → AreLeads rows leads → k < length leads → slice_index_or leads k None ≡ lead → IsLead rows 0 (16 * k) first → IsLead rows 0 (16 * (k + 1)) (led first lead)
+all_led rows leads k first lead are inside is so_far =
+    let more : 16 * (k + 1) ≡ 16 * k + 16 = omega arith in
+    rw more (lead_of_both rows 0 (16 * k) (16 * k + 16) (omega arith) (omega arith) first lead so_far (rw (← is) (are.each k inside)))
+
+pub is_none : {X : Type 0} (o : Option X) → ((x : X) → o ≡ Some x → ⊥) → o ≡ None
+is_none None not = refl
+is_none (Some x) not = absurd (not x refl)
