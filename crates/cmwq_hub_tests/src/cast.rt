@@ -1,0 +1,200 @@
+//! Callers and workers in threads of their own.
+
+ghost use Rattle.std.specs.Prelude.{◌≡◌};
+
+use crate::fixture::end;
+use cmwq_model::{Entry, Reply, Shape, Who};
+use cmwq_rt::{Caller, Hub, HubName, HubParts, Seats, Work, Worker};
+use std::alloc::Global;
+use std::marker::Brand;
+use std::process::Abort;
+use std::sync::Wait;
+use std::thread;
+use std::thread::{JoinHandle, Scope, Threads};
+
+/// What each caller does, by its number.
+pub(crate) trait Act {
+    fn act<N: HubName, R: Wait + Abort>(
+        &self,
+        rt: &R,
+        hub: &Hub<N>,
+        caller: &mut Caller<N>,
+        number: u8,
+    );
+}
+
+/// A worker whose loop has ended, and how many entries it says that it made.
+#[derive(Drop)]
+struct WorkerEnd<N: HubName> {
+    worker: Worker<N>,
+    made: Option<u32>,
+}
+
+/// All callers and workers, after their threads have ended, and how many entries the workers say that they made.
+#[derive(Drop)]
+struct Ended<N: HubName> {
+    callers: Vec<Caller<N>>,
+    workers: Vec<Worker<N>>,
+    made: u64,
+}
+
+fn act_once<N: HubName, A: Act, R: Wait + Abort>(
+    rt: &R,
+    hub: &Hub<N>,
+    caller: Caller<N>,
+    number: u8,
+    act: &A,
+) -> Caller<N> {
+    let mut caller = caller;
+    act.act::<N, R>(rt, hub, &mut caller, number);
+    caller
+}
+
+fn work_to_the_end<N: HubName, W: Work, R: Wait>(
+    rt: &R,
+    hub: &Hub<N>,
+    worker: Worker<N>,
+    work: &W,
+) -> WorkerEnd<N> {
+    let mut worker = worker;
+    let made = hub.work(rt, &mut worker, work).ok();
+    WorkerEnd { worker, made }
+}
+
+fn start_callers<
+    's,
+    E,
+    N: HubName + Send + Sync + 's,
+    A: Act + Sync,
+    R: Threads + Wait + Abort + AllocGlobal + Sync,
+>(
+    scope: &Scope<'s, E>,
+    rt: &'s R,
+    hub: &'s Hub<N>,
+    seats: &mut Seats<N>,
+    act: &'s A,
+) -> Vec<JoinHandle<Caller<N>>> {
+    let alloc: Global = rt.alloc();
+    let mut threads = Vec::new(alloc);
+    for number in 0..hub.shape().counts().callers {
+        let caller = seats.caller().expect(rt, "a caller");
+        match scope.spawn(move || act_once(rt, hub, caller, number, act)) {
+            Ok(thread) => threads.push(thread).expect(rt, "memory"),
+            Err(_) => panic!(rt; "no thread"),
+        }
+    }
+    threads
+}
+
+fn start_workers<
+    's,
+    E,
+    N: HubName + Send + Sync + 's,
+    W: Work + Sync,
+    R: Threads + Wait + Abort + AllocGlobal + Sync,
+>(
+    scope: &Scope<'s, E>,
+    rt: &'s R,
+    hub: &'s Hub<N>,
+    seats: &mut Seats<N>,
+    work: &'s W,
+) -> Vec<JoinHandle<WorkerEnd<N>>> {
+    let alloc: Global = rt.alloc();
+    let mut threads = Vec::new(alloc);
+    for _ in 0..64 {
+        let Ok(worker) = seats.worker() else {
+            break;
+        };
+        match scope.spawn(move || work_to_the_end(rt, hub, worker, work)) {
+            Ok(thread) => threads.push(thread).expect(rt, "memory"),
+            Err(_) => panic!(rt; "no thread"),
+        }
+    }
+    threads
+}
+
+/// The hub is closed when all callers have ended.
+fn run_threads<
+    's,
+    E,
+    N: HubName + Send + Sync + 's,
+    P: Work + Act + Sync,
+    R: Threads + Wait + Abort + AllocGlobal + Sync,
+>(scope: &Scope<'s, E>, rt: &'s R, hub: &'s Hub<N>, seats: Seats<N>, play: &'s P) -> Ended<N> {
+    let mut seats = seats;
+    let alloc: Global = rt.alloc();
+    let acting = start_callers(scope, rt, hub, &mut seats, play);
+    let working = start_workers(scope, rt, hub, &mut seats, play);
+    let mut callers = Vec::new(alloc);
+    for thread in acting {
+        callers.push(thread.join(rt)).expect(rt, "memory");
+    }
+    hub.close(rt);
+    let mut workers = Vec::new(alloc);
+    let mut made = 0u64;
+    for thread in working {
+        let WorkerEnd { worker, made: own } = thread.join(rt);
+        made = made.wrapping_add(u64::from(own.expect(rt, "a worker that came to its end")));
+        workers.push(worker).expect(rt, "memory");
+    }
+    Ended {
+        callers,
+        workers,
+        made,
+    }
+}
+
+fn is_by_a_worker(entry: &Entry) -> bool {
+    matches!(entry.who, Who::Worker(_))
+}
+
+/// How many queueings were started.
+pub(crate) fn starts_in(history: &[Entry]) -> usize {
+    history
+        .iter()
+        .filter(|entry| matches!(entry.reply, Reply::Started(_) | Reply::StartedEnlist(..)))
+        .count()
+}
+
+/// A thread for each caller and each worker of the hub, to its end.
+fn run_all<
+    'x,
+    N: HubName + Send + Sync + 'static,
+    P: Work + Act + Sync,
+    R: Threads + Wait + Abort + AllocGlobal + Sync,
+>(rt: &'x R, hub: &'x Hub<N>, seats: Seats<N>, play: &'x P) -> Ended<N> {
+    thread::scope(thread::scope_env(), rt, |scope| -> Ended<N> {
+        run_threads(scope, rt, hub, seats, play)
+    })
+}
+
+fn run_under<
+    N: HubName + Send + Sync + 'static,
+    P: Work + Act + Sync,
+    R: Threads + Wait + Abort + AllocGlobal + Sync,
+>(rt: &R, parts: HubParts, play: &P) -> Vec<Entry>
+    requires layout { parts.shape ≡ N.layout }
+    requires book { parts.opening.book ≡ N.book }
+    requires ledger { (parts.blank.name ≡ N.name) × (parts.blank.parts ≡ N.parts) }
+{
+    let (hub, seats) = Hub::<N>::open(parts);
+    let Ended {
+        mut callers,
+        mut workers,
+        made,
+    } = run_all(rt, &hub, seats, play);
+    let history = end(rt, hub, callers.as_mut_slice(), workers.as_mut_slice());
+    let counted = history.iter().filter(|entry| is_by_a_worker(entry)).count();
+    assert_eq!(rt; counted as u64, made);
+    history
+}
+
+/// Runs all callers and workers of a hub of this shape at once. The history is legal, and the workers count theirs of it.
+pub(crate) fn run<P: Work + Act + Sync, R: Threads + Wait + Abort + AllocGlobal + Sync>(
+    rt: &R,
+    shape: &Shape,
+    play: &P,
+) -> Vec<Entry> {
+    let parts = HubParts::new(rt, rt.alloc(), shape).expect(rt, "memory");
+    run_under::<Brand, P, R>(rt, parts, play)
+}

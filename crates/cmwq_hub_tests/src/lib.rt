@@ -1,0 +1,15 @@
+//! Tests of the hub, by callers, workers and work functions of their own.
+#![tactic(auto)]
+
+#[cfg(test)]
+mod cast;
+#[cfg(test)]
+mod closing;
+#[cfg(test)]
+mod crowd;
+#[cfg(test)]
+mod fixture;
+#[cfg(test)]
+mod gate;
+#[cfg(test)]
+mod one_caller;
