@@ -13,6 +13,7 @@ word_of_name name =
     else if bytes_eq name (codes "check") then Some word.Check
     else if bytes_eq name (codes "upgrade") then Some word.Upgrade
     else if bytes_eq name (codes "replay") then Some word.Replay
+    else if bytes_eq name (codes "run") then Some word.Run
     else None
 
 -- what clap reads of the program's command line: a word is a subcommand, and there is one
@@ -25,8 +26,12 @@ without_words = record { top = program; subs = [] }
 abbrev pub with_word : App → List ℕ → App
 with_word a name = with_subcommand a (new_app name).top
 
+-- the words whose inputs are lines, and then those whose inputs are JSON
+abbrev pub with_lines : App
+with_lines = with_word (with_word (with_word without_words (codes "step")) (codes "check")) (codes "upgrade")
+
 abbrev pub app : App
-app = with_word (with_word (with_word (with_word without_words (codes "step")) (codes "check")) (codes "upgrade")) (codes "replay")
+app = with_word (with_word with_lines (codes "replay")) (codes "run")
 
 -- the words as texts
 abbrev pub texts : List (Bor Text) → List Text

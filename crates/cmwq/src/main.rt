@@ -1,4 +1,5 @@
-//! `cmwq`: answers calls of a workqueue runtime, judges its histories and replays scenarios, on standard input and output.
+//! `cmwq`: answers calls of a workqueue runtime, judges its histories, replays scenarios and runs scripts on threads, on standard input
+//! and output.
 #![tactic(auto)]
 
 mod word;
@@ -7,9 +8,12 @@ use clap::error::ErrorKind;
 use cmwq_base::{BufferedSink, FromStd};
 use cmwq_engine::{run_check, run_step, run_upgrade};
 use cmwq_replay::run_replay;
+use cmwq_run::run_run;
 use std::alloc::{AllocError, Global};
 use std::io;
 use std::process::ExitCode;
+use std::sync::Wait;
+use std::thread::Threads;
 use word::{Word, word_of};
 
 /// The exit status of a wrong use.
@@ -42,8 +46,8 @@ fn texts(alloc: Global, args: &[String]) -> Result<Vec<&str>, AllocError> {
     Ok(words)
 }
 
-/// Does what a word says, over the standard streams.
-fn run(rt: &HostRuntime, word: Word) -> u8 {
+/// Does what a word says, over the standard streams. A run's threads are made by the last handle, which `main` alone can give.
+fn run<T: Threads + Wait + Sync>(rt: &HostRuntime, word: Word, threads: &T) -> u8 {
     let alloc = rt.alloc();
     let mut input = FromStd::new(rt.stdin());
     let mut errors = FromStd::new(rt.stderr());
@@ -55,16 +59,17 @@ fn run(rt: &HostRuntime, word: Word) -> u8 {
         Word::Check => run_check(alloc, &mut input, &mut output, &mut errors),
         Word::Upgrade => run_upgrade(alloc, &mut input, &mut output, &mut errors),
         Word::Replay => run_replay(alloc, &mut input, &mut output, &mut errors),
+        Word::Run => run_run(threads, alloc, &mut input, &mut output, &mut errors),
     }
 }
 
-fn answer(rt: &HostRuntime, args: &[String]) -> u8 {
+fn answer<T: Threads + Wait + Sync>(rt: &HostRuntime, args: &[String], threads: &T) -> u8 {
     let alloc = rt.alloc();
     let Ok(words) = texts(alloc, args) else {
         return no_memory(rt);
     };
     match word_of(alloc, &words) {
-        Ok(word) => run(rt, word),
+        Ok(word) => run(rt, word, threads),
         Err(error) => told(rt, &error),
     }
 }
@@ -74,7 +79,7 @@ fn main(rt: HostRuntime) -> ExitCode {
         rt.alloc(),
     )?));
     let status = match args {
-        Ok(args) => answer(&rt, &args),
+        Ok(args) => answer(&rt, &args, &rt),
         Err(error) if matches!(error.kind(), io::ErrorKind::OutOfMemory) => no_memory(&rt),
         Err(_) => {
             let _ = rt.eprintln("cmwq: an argument is no text");

@@ -1,7 +1,7 @@
 ghost use Rattle.std.specs.Prelude.{◌≡◌, true, false, IfOk, IfErr, IsSome, Some, option_map, map};
 ghost use Rattle.clap.specs.Words.{kind_of, app_of, new_app, with_subcommand};
 ghost use Rattle.clap.specs.declared.builder.command.Command.TheViews.{out-Command as fields_of};
-ghost use Rattle.cmwq.specs.Word.{word_of_name, without_words, app, texts, is_taken, name_matched, word_matched};
+ghost use Rattle.cmwq.specs.Word.{word_of_name, without_words, with_lines, app, texts, is_taken, name_matched, word_matched};
 
 use clap::error::ErrorKind;
 use clap::{Command, Error};
@@ -18,7 +18,56 @@ pub enum Word {
     Upgrade,
     /// Writes the table of a scenario.
     Replay,
+    /// Runs a script on threads and writes its history.
+    Run,
 }
+
+/// What the help of `step` shows below its usage.
+const CALLS_HELP: &str =
+    r"The input is a line for the shape, one for each queue, and then calls, each with who makes it:
+
+  shape 1 2 1 3 100
+  wq 1 -
+  c0 queue 0 0 0
+  w0n0 take
+  w0n0 finish
+
+A shape is the numbers of CPUs, of workers in each pool, of callers and of items, and the room in entries. A queue is its
+max_active and its flags: `-`, or some of h (high priority), i (CPU intensive) and f (freezable). Callers are c0, c1, ..;
+w0n1 is worker 1 of CPU 0's normal pool, and w0h1 that of its pool of high priority. Calls of callers and of workers:
+
+  queue <item> <queue> <cpu>         delay <item> <queue> <cpu> <ticks>     modify <item> <queue> <cpu> <ticks>
+  cancel <item>
+Calls of callers alone:
+  tick <n>               fire                   flush <queue>          flush_item <item>      flush_delayed <item>
+  cancel_sync <item>     drain <queue>          destroy <queue>        end <ticket>
+  set_max <queue> <n>    freeze                 thaw
+Calls of workers alone:
+  take                   finish                 sleep                  wake                   retire";
+
+/// What the help of `check` shows below its usage.
+const HISTORY_HELP: &str =
+    r"A history is what `step` and `run` write: a line for its format, the shape, the queues, and a line for each entry, who made
+it, its serial, the call and the reply:
+
+  history 2
+  shape 1 2 1 3 100
+  wq 1 -
+  c0 0 queue 0 0 0 = yes 0
+  w0n0 0 take = started 0 enlist 1
+  w0n0 1 finish = finished 0
+
+gives `legal 3`. A history without its first line is one of the former format.";
+
+/// What the help of `upgrade` shows below its usage.
+const FORMER_HELP: &str = r"A history of the former format has no line for its format:
+
+  shape 1 2 1 3 100
+  wq 1 -
+  c0 0 queue 0 0 0 = yes 0
+
+is written with the line `history 2` before it. Of an illegal history nothing is written, and the verdict goes to standard
+error.";
 
 /// What the help of `replay` shows below its usage.
 const SCENARIO_HELP: &str =
@@ -34,6 +83,28 @@ two items. max_active is how many items of a queue may have begun and not ended 
 than 512 for 512. While an item of a queue that isn't CPU intensive burns or waits for the CPU, no other item starts.
 An item has 1 to 8 parts of 1 to 1000 ms."#;
 
+/// What the help of `run` shows below its usage.
+const SCRIPT_HELP: &str =
+    r#"A script says what each item does when it runs, and what each caller calls, one after the other, in a thread of its own:
+
+  {"cpus":1,"workers":2,"room":100,
+   "queues":[{"name":"q0","max_active":2,"high":false,"intensive":false}],
+   "items":[{"name":"A","does":[["sleep_at","g"]]},
+            {"name":"B","does":[["open","g"]]}],
+   "callers":[[["queue","A","q0",0],["queue","B","q0",0],["flush","q0"]]]}
+
+There are 1 to 4 CPUs, 1 to 8 workers in each of their two pools, room for up to 1,000,000 entries, 1 to 64 queues, 1 to
+256 items of up to 64 actions, and 1 to 64 callers of up to 1,000 calls. Names are as in `replay`; a queue may say
+"freezable":true. Calls:
+
+  ["queue",item,queue,cpu]           ["cancel",item]          ["flush",queue]          ["set_max",queue,n]
+  ["delay",item,queue,cpu,ticks]     ["cancel_sync",item]     ["flush_item",item]      ["freeze"]
+  ["modify",item,queue,cpu,ticks]    ["tick",n]               ["flush_delayed",item]   ["thaw"]
+                                     ["drain",queue]          ["destroy",queue]
+
+An action is queue, delay, modify or cancel, or ["open",gate], or ["sleep_at",gate]: the run sleeps until the gate is open.
+There are at most 16 gates, and a name makes one. The output is the history of this one run, which `check` accepts."#;
+
 /// The word with this name.
 fn word_named(name: &str) -> Option<Word>
     ensures { result ≡ word_of_name name.now }
@@ -43,6 +114,7 @@ fn word_named(name: &str) -> Option<Word>
         "check" => Some(Word::Check),
         "upgrade" => Some(Word::Upgrade),
         "replay" => Some(Word::Replay),
+        "run" => Some(Word::Run),
         _ => None,
     }
 }
@@ -74,36 +146,53 @@ fn with_word<'a>(program: Command<'a>, word: Command<'a>) -> Result<Command<'a>,
     Ok(program.subcommand(word)?)
 }
 
-/// The program's command line, as `--help` shows it.
-fn command<'a>(alloc: Global) -> Result<Command<'a>, Error>
-    ensures ok { IfOk result (λ c. app_of c ≡ app) }
+/// The program with the words whose inputs are lines.
+fn with_lines<'a>(alloc: Global) -> Result<Command<'a>, Error>
+    ensures ok { IfOk result (λ c. app_of c ≡ with_lines) }
     ensures err { IfErr result (λ e. kind_of e ≡ ErrorKind.OutOfMemory) }
 {
     let step = subcommand(
         alloc,
         "step",
         "Reads call lines from standard input and writes the history of their answers",
-    );
+    )
+    .after_help(CALLS_HELP);
     let check = subcommand(
         alloc,
         "check",
         "Reads a history from standard input and writes whether it is legal, or its first wrong entry",
-    );
+    )
+    .after_help(HISTORY_HELP);
     let upgrade = subcommand(
         alloc,
         "upgrade",
         "Reads a history of either format from standard input and writes it in format 2, if it is legal",
-    );
+    )
+    .after_help(FORMER_HELP);
+    let command = with_word(program(alloc), step)?;
+    let command = with_word(command, check)?;
+    with_word(command, upgrade)
+}
+
+/// The program's command line, as `--help` shows it.
+fn command<'a>(alloc: Global) -> Result<Command<'a>, Error>
+    ensures ok { IfOk result (λ c. app_of c ≡ app) }
+    ensures err { IfErr result (λ e. kind_of e ≡ ErrorKind.OutOfMemory) }
+{
     let replay = subcommand(
         alloc,
         "replay",
         "Reads a scenario in JSON from standard input and writes its table of times and events",
     )
     .after_help(SCENARIO_HELP);
-    let command = with_word(program(alloc), step)?;
-    let command = with_word(command, check)?;
-    let command = with_word(command, upgrade)?;
-    with_word(command, replay)
+    let run = subcommand(
+        alloc,
+        "run",
+        "Reads a script in JSON from standard input, runs it on threads and writes the history of that run",
+    )
+    .after_help(SCRIPT_HELP);
+    let command = with_word(with_lines(alloc)?, replay)?;
+    with_word(command, run)
 }
 
 /// The name of the word that clap's matches of the command line hold.
@@ -155,6 +244,8 @@ mod tests {
         assert_eq!(rt; word, Word::Upgrade);
         let word = word_of(rt.alloc(), &["cmwq", "replay"])?;
         assert_eq!(rt; word, Word::Replay);
+        let word = word_of(rt.alloc(), &["cmwq", "run"])?;
+        assert_eq!(rt; word, Word::Run);
         Ok(())
     }
 

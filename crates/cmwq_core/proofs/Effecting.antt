@@ -1,6 +1,6 @@
 -- What an entry does, read off the book.
-use Rattle.std.proofs.Common.{◌≡◌, ℕ, ◌<◌, List, ◌∷◌, length, Option, Some, None, refl, sym, ap, ◌∙◌, subst}
-use Rattle.std.specs.Prelude.{option_and_then, option_map}
+use Rattle.std.proofs.Common.{◌≡◌, ℕ, List, ◌∷◌, length, Option, Some, None, refl, sym, ap, ◌∙◌}
+use Rattle.std.specs.Prelude.{option_and_then}
 use Rattle.std.specs.Option.{option_map_or}
 use Rattle.std.proofs.lemmas.Option.{same_Some}
 use Rattle.cmwq_model.specs.declared.id.CpuId.{CpuId}
@@ -17,18 +17,12 @@ use Rattle.cmwq_model.specs.Calls.{item_of}
 use Rattle.cmwq_model.specs.Fate.{number_started}
 use Rattle.cmwq_model.specs.Runs.{item_run}
 use Rattle.cmwq_model.specs.Queueings.{unstarted, queueing_at, cpu_for, is_unstarted, still_open}
-use Rattle.cmwq_model.specs.Active.{next}
 use Rattle.cmwq_model.specs.Legal.{IsLegal}
 use Rattle.cmwq_steps.specs.Endings.{ending}
 use Rattle.cmwq_steps.specs.ItemQueueings.{queueing_run, ended_by}
 use Rattle.cmwq_steps.proofs.EndsAsTold.{ends_as_told, runs_are_queueings, unstarted_found}
 use Rattle.cmwq_steps.proofs.Unstarted.{next_unstarted}
-use Rattle.cmwq_pool.specs.declared.task.Task.{Task}
-use Rattle.cmwq_pool.specs.Lineup.{next_task}
-use Rattle.cmwq_ties.specs.Pools.{task_for, pool_of}
 use Rattle.cmwq_ties.proofs.Members.{found}
-use Rattle.cmwq_ties.proofs.PlacesFit.{open_there}
-use Rattle.cmwq_ties.proofs.PoolNext.{next_task_is}
 use Rattle.std.proofs.Common.{◌-◌, ◌≤◌, ◌+◌, ◌*◌, ◌==◌, Bool, true, false, not, is_some, arith}
 use Rattle.std.proofs.Common.{nat_lt, nat_le}
 use Rattle.std.proofs.lemmas.Bool.{and_parts, ltb-true}
@@ -38,8 +32,8 @@ use Rattle.cmwq_model.specs.Layout.{fits, may_make, has_numbers}
 use Rattle.cmwq_ties.proofs.FirstDue.{timers_may_be_told}
 use Rattle.cmwq_ties.proofs.Settled.{place_fits}
 use Rattle.cmwq_core.specs.Book.{IsCallInside}
-use Rattle.cmwq_core.specs.Tables.{IsThere}
-use Rattle.cmwq_core.proofs.Steps.{fits_there}
+use Rattle.cmwq_state.specs.Tables.{IsThere}
+use Rattle.cmwq_state.proofs.Steps.{fits_there}
 use Rattle.cmwq_model.specs.declared.record.Booking.{Booking}
 use Rattle.cmwq_model.specs.Bookings.{booking_of}
 use Rattle.cmwq_model.specs.Fate.{is_started}
@@ -55,7 +49,7 @@ use Rattle.cmwq_core.specs.Effects.{ended_from, IsInside, started_from, next_for
 use Rattle.cmwq_ties.specs.Flights.{starting}
 use Rattle.cmwq_steps.proofs.Starts.{starts_next}
 use Rattle.cmwq_steps.proofs.ItemRuns.{run_is}
-use Rattle.cmwq_core.specs.Flights.{run_open}
+use Rattle.cmwq_state.specs.Flights.{run_open}
 
 from_reply : (past : List Entry) (who : Who) (i : Option ℕ) (r : Reply) → ended_by past who i r ≡ ended_from r (queueing_run past who) (option_and_then (unstarted past) i)
 from_reply past who i (reply.Finished n) = refl
@@ -68,33 +62,7 @@ from_reply past who i r = refl
 pub ends_from : (s : Layout) (past : List Entry) (e : Entry) → IsLegal s (e ∷ past) → ended_from e.reply (queueing_run past e.who) (option_and_then (unstarted past) (item_of e)) ≡ ending past e
 ends_from s past e legal = sym (ends_as_told s past e legal ∙ from_reply past e.who (item_of e) e.reply)
 
--- ---- what is next
-
-pub record NextOpen (s : Layout) (past : List Entry) (p : PoolId) (t : Task) : Type 0 where
-  pub item : t.item.0 < s.items
-  pub is : unstarted past t.item.0 ≡ next s past p
-
-pub next_open : (s : Layout) (past : List Entry) (p : PoolId) (t : Task) → IsLegal s past → next_task (pool_of s past p) ≡ Some t → NextOpen s past p t
-next_open s past p t legal h = by (next s past p) refl (sym (next_task_is s past p legal) ∙ h)
-  where
-    by : (o : Option Queueing) → next s past p ≡ o → option_map (task_for s) (next s past p) ≡ Some t → NextOpen s past p t
-    by None is k = let bad : None ≡ Some t = sym (ap (option_map (task_for s)) is) ∙ k in cc
-    by (Some x) is k =
-        let task : task_for s x ≡ t = same_Some (task_for s x) t (sym (ap (option_map (task_for s)) is) ∙ k) in
-        let of_task : x.item.0 ≡ t.item.0 = ap (λ (u : Task). u.item.0) task in
-        let un = next_unstarted s past legal p x is in
-        let stands = (found (is_unstarted past x.item.0) (still_open past) x un).0 in
-        record {
-          item = subst (λ i. i < s.items) of_task (open_there s past x legal stands).item;
-          is = ap (unstarted past) (sym of_task) ∙ (un ∙ sym is);
-        }
-
-pub next_none : (s : Layout) (past : List Entry) (p : PoolId) → IsLegal s past → next_task (pool_of s past p) ≡ None → None ≡ next s past p
-next_none s past p legal h = by (next s past p) refl (sym (next_task_is s past p legal) ∙ h)
-  where
-    by : (o : Option Queueing) → next s past p ≡ o → option_map (task_for s) (next s past p) ≡ None → None ≡ next s past p
-    by None is k = sym is
-    by (Some x) is k = let bad : Some (task_for s x) ≡ None = sym (ap (option_map (task_for s)) is) ∙ k in cc
+-- ---- what starts
 
 pub starts_from : (s : Layout) (past : List Entry) (e : Entry) → IsLegal s (e ∷ past) → IsLegal s past → started_from e.reply (next_for s past e.who) ≡ starting past e
 starts_from s past e legal before = by e.reply refl

@@ -1,31 +1,24 @@
 -- The bits of an item, and the mark of an entry.
-use Rattle.std.proofs.Common.{◌≡◌, ℕ, ◌+◌, ◌-◌, ◌<◌, ◌≤◌, find, ◌==◌, ◌||◌, ◌&&◌, Bool, true, false, List, ◌∷◌, length, filter, count_by, arith, Option, Some, None, is_some, refl, sym, ap, ap₂, ◌∙◌, subst}
+use Rattle.std.proofs.Common.{◌≡◌, ℕ, ◌+◌, ◌<◌, find, ◌==◌, ◌||◌, ◌&&◌, Bool, true, false, List, ◌∷◌, length, Option, Some, None, is_some, refl, sym, ap, ap₂, ◌∙◌, subst}
 use Rattle.std.specs.Prelude.{Contains, if◌then◌else◌, option_and_then, option_map}
 use Rattle.std.specs.Option.{option_or}
 use Rattle.std.proofs.lemmas.Bool.{eqb-true}
-use Rattle.std.proofs.lemmas.List.Filters.{length-filter_both}
-use Rattle.std.proofs.lemmas.List.Sums.{length-filter}
 use Rattle.std.proofs.lemmas.Option.{same_Some}
 use Rattle.cmwq_model.specs.declared.id.ItemId.{ItemId}
 use Rattle.cmwq_model.specs.declared.reply.Reply.{Reply}
 use Rattle.cmwq_model.specs.declared.reply.Reply.TheVariants as reply
 use Rattle.cmwq_model.specs.declared.entry.Entry.{Entry}
 use Rattle.cmwq_model.specs.declared.record.Queueing.{Queueing}
-use Rattle.cmwq_model.specs.declared.record.Start.{Start}
 use Rattle.cmwq_model.specs.Layout.{Layout}
 use Rattle.cmwq_model.specs.declared.record.Ticket.{Ticket}
 use Rattle.cmwq_model.specs.Tickets.{unended}
 use Rattle.cmwq_model.specs.Calls.{is_at, is_of_item, item_of, item_at, item_called, item_fired}
 use Rattle.cmwq_model.specs.Bookings.{settles, booking, booking_of, is_booked}
 use Rattle.cmwq_model.specs.Fate.{number_started, number_finished}
-use Rattle.cmwq_model.specs.Runs.{item_run, item_runs}
-use Rattle.cmwq_model.specs.Queueings.{queueing_at, unstarted, is_pending, opening, still_open}
+use Rattle.cmwq_model.specs.Queueings.{queueing_at, unstarted, is_pending, opening}
 use Rattle.cmwq_model.specs.Legal.{IsLegal, bits}
-use Rattle.cmwq_model.specs.Active.{is_active}
-use Rattle.cmwq_steps.specs.Activations.{waits}
-use Rattle.cmwq_steps.specs.Waiting.{waiting}
 use Rattle.cmwq_ties.proofs.Members.{found, in_contained}
-use Rattle.cmwq_core.proofs.Told.{open_there}
+use Rattle.cmwq_state.proofs.Told.{open_there}
 use Rattle.cmwq_steps.specs.Marks.{item_marked}
 use Rattle.cmwq_steps.specs.Endings.{ending}
 use Rattle.cmwq_steps.specs.ItemQueueings.{queueing_run}
@@ -33,7 +26,8 @@ use Rattle.cmwq_steps.proofs.Marks.{others_stay}
 use Rattle.cmwq_steps.proofs.Standing.{booking_after}
 use Rattle.cmwq_steps.proofs.Fresh.{finishes_run}
 use Rattle.cmwq_steps.proofs.RunsActive.{found_known, found_number, run_is_active}
-use Rattle.cmwq_core.specs.Effects.{IsEffect, item_number, ended_from}
+use Rattle.cmwq_state.specs.Effects.{IsEffect, item_number}
+use Rattle.cmwq_core.specs.Effects.{ended_from}
 use Rattle.cmwq_flight.specs.Flights.{Flight, with_started, with_unstarted, without_run}
 use Rattle.cmwq_ties.specs.Flights.{flight_of, starting}
 use Rattle.cmwq_ties.proofs.FlightSteps as rows
@@ -43,13 +37,10 @@ use Rattle.cmwq_steps.proofs.Starts.{starts_next}
 use Rattle.cmwq_steps.proofs.Unstarted.{next_unstarted}
 use Rattle.cmwq_core.specs.Flights.{standing, ended_at, started_at, opened_at}
 use Rattle.cmwq_core.specs.History.{History, past_in, next_entry, IsMark, has_number}
-use Rattle.cmwq_core.specs.declared.effect.Effect.{Effect}
+use Rattle.cmwq_state.specs.declared.effect.Effect.{Effect}
 use Rattle.cmwq_ties.proofs.FlightKinds.{legal_before}
 use Rattle.cmwq_core.proofs.Effecting.{ends_from, entry_inside}
-use Rattle.cmwq_core.proofs.Readings.{run_some, some_mapped}
-
-pub running : (s : Layout) (past : List Entry) (i : ℕ) → IsLegal s past → is_some (flight_of past i).run ≡ item_runs past i
-running s past i legal = run_some s past i legal ∙ some_mapped (λ (t : Start). t.number) (item_run past i)
+use Rattle.cmwq_state.proofs.Counting.{running}
 
 -- whether the item runs and waits, after an effect
 with_ended : (r : Reply) (o : Option Queueing) (i : ℕ) (f : Flight) → standing (rows.row_ended r o i f) ≡ ended_at r o i (standing f)
@@ -208,15 +199,6 @@ marks_one h e i b legal marked bits_are = record {
       record { queueing = k.queueing; is_known = k.is_known; is_its = ap (λ j. Some (let item : ItemId = record { 0 = j } in item)) (same_Some i k.queueing.item.0 (sym marked ∙ k.is_marked)) };
   bits_are = λ j. bits_of_one h.layout (past_in h) e i j (i == j) refl legal marked ∙ ap (λ n. if i == j then n else bits (past_in h) j) (sym bits_are);
 }
-
--- ---- how many are active
-
-pub active_and_waiting : (s : Layout) (past : List Entry) (xs : List Queueing) → count_by (is_active s past) xs + length (filter (waits s past) xs) ≡ length xs
-active_and_waiting s past xs =
-    let all = length-filter_both (is_active s past) (waits s past) (λ x. refl) xs in let counted = length-filter (is_active s past) xs in omega arith
-
-pub active_rest : (s : Layout) (past : List Entry) (live many : ℕ) → live ≡ length (still_open past) → many ≡ length (waiting s past) → (many ≤ live) × (live - many ≡ count_by (is_active s past) (still_open past))
-active_rest s past live many all some = let both = active_and_waiting s past (still_open past) in (omega arith, omega arith)
 
 -- ---- what is marked is there
 

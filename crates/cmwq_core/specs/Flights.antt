@@ -1,16 +1,10 @@
--- What an item runs, as a queueing, and what becomes of whether it runs and waits.
-use Rattle.std.specs.Prelude.{ℕ, ◌==◌, true, false, if◌then◌else◌, List, Option, Some, None, is_some}
-use Rattle.cmwq_model.specs.declared.entry.Entry.{Entry}
+-- What becomes of whether an item runs and waits.
+use Rattle.std.specs.Prelude.{ℕ, ◌==◌, true, false, if◌then◌else◌, Option, Some, None, is_some}
 use Rattle.cmwq_model.specs.declared.record.Queueing.{Queueing}
 use Rattle.cmwq_model.specs.declared.reply.Reply.{Reply}
 use Rattle.cmwq_model.specs.Fate.{number_finished}
-use Rattle.cmwq_model.specs.Runs.{item_run}
 use Rattle.cmwq_flight.specs.Flights.{Flight}
-use Rattle.cmwq_ties.specs.Flights.{queueing_started}
-use Rattle.cmwq_core.specs.declared.book.marks.Standing.{Standing}
-
-abbrev pub run_open : List Entry → ℕ → Option Queueing
-run_open past i = queueing_started past (item_run past i)
+use Rattle.cmwq_core.specs.declared.marks.Standing.{Standing}
 
 abbrev pub standing : Flight → Standing
 standing f = record { runs = is_some f.run; waits = is_some f.unstarted }

@@ -1,5 +1,5 @@
 -- What callers see of a book: its history with the shape and the room, and what one more call makes of it.
-use Rattle.std.specs.Prelude.{◌≡◌, ℕ, Bool, false, not, ◌==◌, if◌then◌else◌, List, [], ◌∷◌, ◌++◌, find, Option, Some, option_map, is_some}
+use Rattle.std.specs.Prelude.{◌≡◌, ℕ, Bool, false, not, if◌then◌else◌, List, ◌∷◌, find, Option, Some, option_map, is_some}
 use Rattle.std.specs.Option.{option_map_or}
 use Rattle.cmwq_model.specs.declared.id.ItemId.{ItemId}
 use Rattle.cmwq_model.specs.declared.id.Who.{Who}
@@ -8,34 +8,23 @@ use Rattle.cmwq_model.specs.declared.entry.Entry.{Entry}
 use Rattle.cmwq_model.specs.declared.entry.Mark.{Mark}
 use Rattle.cmwq_model.specs.declared.record.Queueing.{Queueing}
 use Rattle.cmwq_model.specs.declared.record.Ticket.{Ticket}
-use Rattle.cmwq_model.specs.Layout.{Layout}
 use Rattle.cmwq_model.specs.Calls.{is_at}
 use Rattle.cmwq_model.specs.Fate.{number_started}
 use Rattle.cmwq_model.specs.Queueings.{queueing_at}
 use Rattle.cmwq_model.specs.Tickets.{unended}
 use Rattle.cmwq_model.specs.Waits.{waits_for}
-use Rattle.cmwq_model.specs.Legal.{past_of, entry_for, bits}
+use Rattle.cmwq_model.specs.Legal.{entry_for, bits}
 use Rattle.cmwq_model.specs.Room.{has_room}
 use Rattle.cmwq_steps.specs.Marks.{item_marked}
+pub use Rattle.cmwq_state.specs.History.{History, past_in, with_entry, has_number}
+pub use Rattle.cmwq_state.specs.Tables.{IsThere}
 
--- the entries stand with the oldest first
-pub record History : Type 0 where
-  pub layout : Layout
-  pub room : ℕ
-  pub entries : List Entry
-
-abbrev pub past_in : History → List Entry
-past_in h = past_of h.entries
-
--- the entry that a call gets, whether there is room for it, and the history with it
+-- the entry that a call gets, and whether there is room for it
 abbrev pub next_entry : History → Who → Call → Entry
 next_entry h who call = entry_for h.layout (past_in h) who call
 
 abbrev pub takes : History → Who → Call → Bool
 takes h who call = has_room h.layout h.room (past_in h) who call
-
-abbrev pub with_entry : History → Entry → History
-with_entry h e = record h { entries = h.entries ++ e ∷ [] }
 
 -- A mark names the item of its entry, or that of the queueing that its entry starts or finishes.
 abbrev pub item_named : Mark → Option ℕ
@@ -61,9 +50,6 @@ pub record IsMark (h : History) (who : Who) (call : Call) (m : Mark) : Type 0 wh
   pub bits_are : (i : ℕ) → bits (m.entry ∷ past_in h) i ≡ bits_after m (past_in h) i
 
 -- an unended ticket has this number, and waits for nothing
-abbrev pub has_number : ℕ → Ticket → Bool
-has_number n t = t.number == n
-
 abbrev pub is_done_waiting : List Entry → Ticket → Bool
 is_done_waiting past t = not (is_some (waits_for past t.number t.call))
 

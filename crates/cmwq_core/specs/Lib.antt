@@ -1,9 +1,6 @@
-pub mod Tables
 pub mod Flights
-pub mod Gone
-pub mod Lines
-pub mod Widths
 pub mod History
+pub mod Plans
 pub mod Relied
 pub mod Book
 pub mod Effects

@@ -6,8 +6,9 @@ ghost use Rattle.cmwq_model.specs.Legal.{IsLegal, past_of};
 ghost use Rattle.cmwq_model.specs.Verdict.{AllFit, Wants, IsFirstWrong};
 ghost use Rattle.cmwq_core.specs.History.{next_entry, with_entry};
 
-use crate::book::Book;
+use crate::effects::effect;
 use cmwq_model::{Entry, Illegal, NoMemory, Shape, Wanted};
+use cmwq_state::State;
 use std::alloc::Global;
 
 #[cfg(test)]
@@ -33,9 +34,9 @@ pub fn check(
 {
     // it shows that the shape is inside the limits, on which the bound rests
     let _counts = shape.counts();
-    let mut book = Book::new(alloc, shape, entries.len() as u32 + MOST_OWED)?;
+    let mut state = State::new(alloc, shape, entries.len() as u32 + MOST_OWED)?;
     for at in 0..entries.len() {
-        if let Some(wanted) = judged(&mut book, entries[at]) {
+        if let Some(wanted) = judged(&mut state, entries[at]) {
             return Ok(Err(Illegal {
                 at: at as u32,
                 wanted,
@@ -46,15 +47,15 @@ pub fn check(
 }
 
 /// What should stand in the next entry where something else stands; an entry that is right is appended.
-fn judged(book: &mut Book, entry: Entry) -> Option<Wanted>
-    requires fit { fits book.old.layout entry.who entry.call ≡ true }
-    requires inside { IsTrue (is_layout book.old.layout) }
-    requires room { length book.old.entries + 10001 ≤ book.old.room }
-    ensures right { result ≡ None → entry ≡ next_entry book.old entry.who entry.call }
-    ensures appended { result ≡ None → book.new ≡ with_entry book.old entry }
-    ensures wrong { IfSome result (Wants book.old.layout (past_of book.old.entries) entry) }
+fn judged(state: &mut State, entry: Entry) -> Option<Wanted>
+    requires fit { fits state.old.layout entry.who entry.call ≡ true }
+    requires inside { IsTrue (is_layout state.old.layout) }
+    requires room { length state.old.entries + 10001 ≤ state.old.room }
+    ensures right { result ≡ None → entry ≡ next_entry state.old entry.who entry.call }
+    ensures appended { result ≡ None → state.new ≡ with_entry state.old entry }
+    ensures wrong { IfSome result (Wants state.old.layout (past_of state.old.entries) entry) }
 {
-    let effect = book.effect(entry.who, entry.call);
+    let effect = effect(state, entry.who, entry.call);
     let due = effect.entry;
     if entry.serial != due.serial {
         return Some(Wanted::Serial(due.serial));
@@ -62,6 +63,6 @@ fn judged(book: &mut Book, entry: Entry) -> Option<Wanted>
     if !entry.reply.is_same(due.reply) {
         return Some(Wanted::Reply(due.reply));
     }
-    book.append(effect);
+    state.append(effect);
     None
 }

@@ -1,15 +1,18 @@
 //! The book of a work queue runtime.
 #![tactic(auto)]
 
+mod answers;
 mod book;
-mod effect;
+mod effects;
 mod judge;
-mod new;
-mod tables;
+mod marks;
+mod plan;
+mod workers;
 
 pub use book::{Book, Full};
+pub use cmwq_state::those_who_fit_are_there;
 pub use judge::check;
-pub use tables::those_who_fit_are_there;
+pub use plan::Plan;
 
 #[cfg(test)]
 mod tests;

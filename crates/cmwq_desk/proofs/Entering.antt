@@ -1,15 +1,14 @@
 -- What a call of one entry leaves.
-use Rattle.std.proofs.Common.{◌≡◌, ℕ, ◌+◌, ◌≤◌, List, [], ◌∷◌, ◌++◌, length, refl, ap, sym, ◌∙◌, subst, arith, length-append, append-nil, IsTrue, Bool}
+use Rattle.std.proofs.Common.{◌≡◌, ◌+◌, ◌≤◌, List, [], ◌∷◌, ◌++◌, refl, ap, sym, ◌∙◌, subst, arith, append-nil, IsTrue, Bool}
 use Rattle.std.proofs.lemmas.List.Elements.{filter-append}
 use mathlib.Core.List.{IsPrefix}
 use Rattle.cmwq_model.specs.declared.id.Who.{Who}
 use Rattle.cmwq_model.specs.declared.call.Call.{Call}
-use Rattle.cmwq_model.specs.declared.reply.Reply.{Reply}
 use Rattle.cmwq_model.specs.declared.entry.Entry.{Entry}
 use Rattle.cmwq_model.specs.declared.entry.Mark.{Mark}
 use Rattle.cmwq_model.specs.Layout.{Layout, fits}
 use Rattle.cmwq_model.specs.Calls.{serial_of, is_by}
-use Rattle.cmwq_model.specs.Legal.{IsLegal, past_of, entry_for}
+use Rattle.cmwq_model.specs.Legal.{IsLegal, past_of}
 use Rattle.cmwq_model.specs.Room.{has_room}
 use Rattle.cmwq_core.specs.History.{History, IsMark, takes}
 use Rattle.cmwq_versions.specs.Next.{IsNext}
@@ -18,7 +17,7 @@ use Rattle.cmwq_desk.specs.Seats.{Seated, Gains, made_by}
 use Rattle.cmwq_desk.specs.Calls.{Extends, own_entry}
 use Rattle.cmwq_desk.specs.Steps.{InStep}
 use Rattle.cmwq_versions.proofs.Beginnings.{shorter_begins}
-use Rattle.cmwq_desk.proofs.Beginnings.{prefix_self, prefix_front}
+use Rattle.cmwq_desk.proofs.Beginnings.{prefix_front}
 use Rattle.cmwq_versions.proofs.Legally.{newest_is_first}
 use Rattle.cmwq_desk.proofs.Entries.{made_length, made_same, made_own}
 

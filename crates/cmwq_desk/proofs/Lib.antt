@@ -4,3 +4,4 @@ pub mod Entering
 pub mod Firing
 pub mod Whole
 pub mod Fitting
+mod Foretold

@@ -1,7 +1,6 @@
 -- Whole calls, put together of their steps.
-use Rattle.std.proofs.Common.{◌≡◌, ◌≢◌, ◌⊎◌, ℕ, ◌+◌, List, [], ◌∷◌, ◌++◌, Bool, true, false, true≢false, length, refl, ap, sym, ◌∙◌, subst, inl, inr, append-nil, append_assoc, None, Some}
-use Rattle.std.specs.Prelude.{All, MatchOption, MatchBool, Option}
-use mathlib.Core.List.{IsPrefix}
+use Rattle.std.proofs.Common.{◌≡◌, ℕ, List, [], ◌∷◌, ◌++◌, Bool, true, false, true≢false, refl, ap, sym, ◌∙◌, subst, inl, inr, None, Some}
+use Rattle.std.specs.Prelude.{MatchBool}
 use Rattle.cmwq_model.specs.declared.id.Who.{Who}
 use Rattle.cmwq_model.specs.declared.call.Call.{Call}
 use Rattle.cmwq_model.specs.declared.call.Call.TheVariants as call
@@ -10,13 +9,13 @@ use Rattle.cmwq_model.specs.declared.reply.Reply.TheVariants as reply
 use Rattle.cmwq_model.specs.declared.entry.Entry.{Entry}
 use Rattle.cmwq_model.specs.Layout.{Layout}
 use Rattle.cmwq_model.specs.Answer.{answer}
-use Rattle.cmwq_model.specs.Legal.{IsLegal, past_of}
-use Rattle.cmwq_desk.specs.Seats.{Seated, Gains, made_by}
+use Rattle.cmwq_model.specs.Legal.{past_of}
+use Rattle.cmwq_desk.specs.Seats.{Seated, made_by}
 use Rattle.cmwq_desk.specs.Calls.{Extends, own_entry}
-use Rattle.cmwq_desk.specs.Faults.{Refused, Says, IsStranger}
+use Rattle.cmwq_desk.specs.Faults.{Says, IsStranger}
 use Rattle.cmwq_desk.specs.declared.fault.RunFault.{RunFault}
 use Rattle.cmwq_desk.specs.declared.fault.RunFault.TheVariants.{NoMemory}
-use Rattle.cmwq_desk.specs.Whole.{Completes, BrokeOff, Makes, Behind, Fires, EndsOwn, EndsTicket, Stops, IsFire, IsPart, PartEnd, PartBehind, is_tick, is_drain, ticket_given, ticket_left}
+use Rattle.cmwq_desk.specs.Whole.{Completes, BrokeOff, Behind, Fires, EndsOwn, EndsTicket, Stops, is_tick, is_drain, ticket_given, ticket_left}
 use Rattle.cmwq_desk.specs.Steps.{HasFired, HasFiredSome, HasEnded, HasEndedSome, still_unended}
 use Rattle.cmwq_desk.proofs.Entries.{gains_none, gains_more}
 use Rattle.cmwq_desk.proofs.Firing.{ends_extended}

@@ -1,4 +1,5 @@
 pub mod Seats
+pub mod Held
 pub mod Calls
 pub mod Faults
 pub mod Whole

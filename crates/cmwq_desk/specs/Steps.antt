@@ -1,5 +1,5 @@
 -- What one step under the lock leaves.
-use Rattle.std.specs.Prelude.{◌≡◌, ℕ, ◌≤◌, Bool, true, false, List, [], ◌∷◌, length, All, Option, Some, None}
+use Rattle.std.specs.Prelude.{◌≡◌, ◌⊎◌, ℕ, ◌≤◌, Bool, true, false, List, [], ◌∷◌, length, All, Option, Some, None}
 use Rattle.cmwq_model.specs.declared.call.Call.{Call}
 use Rattle.cmwq_model.specs.declared.call.Call.TheVariants as call
 use Rattle.cmwq_model.specs.declared.reply.Reply.{Reply}
@@ -10,7 +10,8 @@ use Rattle.cmwq_model.specs.Calls.{serial_of}
 use Rattle.cmwq_model.specs.Legal.{IsLegal, past_of}
 use Rattle.cmwq_model.specs.Room.{has_room}
 use Rattle.cmwq_desk.specs.Seats.{Seated, Gains, made_by}
-use Rattle.cmwq_desk.specs.Calls.{Extends}
+use Rattle.cmwq_desk.specs.Held.{Held}
+use Rattle.cmwq_desk.specs.Calls.{Extends, own_entry}
 use Rattle.cmwq_desk.specs.Whole.{Fires, EndsOwn, IsFire, EndsTicket, PartEnd, Stops}
 use Rattle.cmwq_desk.specs.declared.fault.RunFault.{RunFault}
 use Rattle.cmwq_desk.specs.declared.fault.Shortage.{Shortage}
@@ -20,10 +21,10 @@ use Rattle.cmwq_desk.specs.declared.fault.Shortage.TheVariants.{Room, Memory}
 abbrev pub InStep : List Entry → Seated → Type 0
 InStep history v = (serial_of (past_of history) v.who ≡ v.serial) × (length v.seen ≤ length history)
 
--- what was short
-abbrev pub Lacks : Layout → Seated → Call → Shortage → Type 0
-Lacks s w call Room = has_room s s.room (past_of w.seen) w.who call ≡ false
-Lacks s w call Memory = Unit {0}
+-- what was short, and what that leaves
+abbrev pub Lacks : Layout → Held → Seated → Call → Shortage → Held → Type 0
+Lacks s old w call Room new = (has_room s s.room (past_of w.seen) w.who call ≡ false) × (new ≡ old)
+Lacks s old w call Memory new = new ≡ record old { failed = true }
 
 -- all that was due was fired, as far as there was room
 pub record HasFired (s : Layout) (v w : Seated) : Type 0 where
@@ -46,6 +47,19 @@ abbrev pub is_start : Reply → Bool
 is_start (reply.Started n) = true
 is_start (reply.StartedEnlist n x) = true
 is_start r = false
+
+-- the call would get no such reply now
+abbrev pub WouldNot : (Reply → Bool) → Layout → List Entry → Seated → Call → Type 0
+WouldNot is s history v call = is (own_entry s history v call).reply ≡ false
+
+-- a worker that is sent to the reserve
+abbrev pub is_retired : Reply → Bool
+is_retired reply.Retired = true
+is_retired r = false
+
+-- it isn't, or there is no room for that
+abbrev pub IsKept : Layout → List Entry → Seated → Type 0
+IsKept s history v = WouldNot is_retired s history v call.Retire ⊎ (has_room s s.room (past_of history) v.who call.Retire ≡ false)
 
 abbrev pub StartsOne : Layout → Seated → Seated → Type 0
 StartsOne s v w = (r : Reply) × (is_start r ≡ true) × Extends s v call.Take r w

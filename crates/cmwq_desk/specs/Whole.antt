@@ -1,5 +1,5 @@
 -- What a whole call does, which may make several entries: a tick fires what is due, and a call that waits ends its ticket.
-use Rattle.std.specs.Prelude.{◌≡◌, ◌≢◌, ◌⊎◌, ℕ, zero, suc, Bool, true, false, List, [], ◌∷◌, ◌++◌, All, Option, Some, None, MatchOption, MatchBool}
+use Rattle.std.specs.Prelude.{◌≡◌, ◌≢◌, ◌⊎◌, ℕ, zero, suc, Bool, true, false, if◌then◌else◌, List, [], ◌∷◌, ◌++◌, All, Option, None, MatchOption, MatchBool}
 use mathlib.Core.List.{IsPrefix}
 use Rattle.cmwq_model.specs.declared.id.Who.{Who}
 use Rattle.cmwq_model.specs.declared.call.Call.{Call}
@@ -11,6 +11,8 @@ use Rattle.cmwq_model.specs.Layout.{Layout}
 use Rattle.cmwq_model.specs.Calls.{is_by}
 use Rattle.cmwq_model.specs.Legal.{IsLegal, past_of}
 use Rattle.cmwq_model.specs.Room.{has_room}
+use Rattle.cmwq_model.specs.Tickets.{gives_ticket}
+use Rattle.cmwq_steps.specs.Reasons.{number_given}
 use Rattle.cmwq_desk.specs.Seats.{Seated, Gains, made_by}
 use Rattle.cmwq_desk.specs.Faults.{Refused, IsStranger}
 use Rattle.cmwq_desk.specs.declared.fault.RunFault.{RunFault}
@@ -18,12 +20,7 @@ use Rattle.cmwq_desk.specs.declared.fault.RunFault.TheVariants.{NoMemory}
 
 -- the ticket that a reply gives
 abbrev pub ticket_given : Reply → Option ℕ
-ticket_given (reply.Ticket k) = Some k
-ticket_given (reply.TicketQueued k) = Some k
-ticket_given (reply.TicketCancelled k n) = Some k
-ticket_given (reply.TicketUnbooked k) = Some k
-ticket_given (reply.TicketNo k) = Some k
-ticket_given r = None
+ticket_given r = if gives_ticket r then number_given r else None
 
 abbrev pub Is : Call → Reply → Entry → Type 0
 Is c r e = (e.call ≡ c) × (e.reply ≡ r)

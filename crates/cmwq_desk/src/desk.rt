@@ -7,30 +7,30 @@ ghost use Rattle.cmwq_model.specs.Legal.{past_of, IsLegal};
 ghost use Rattle.cmwq_model.specs.Room.{has_room};
 ghost use Rattle.cmwq_model.specs.declared.call.Call.TheVariants as calls;
 ghost use Rattle.cmwq_model.specs.declared.reply.Reply.TheVariants as replies;
-ghost use Rattle.cmwq_core.specs.History.{IsMark, takes};
+ghost use Rattle.cmwq_core.specs.History.{takes};
+ghost use Rattle.cmwq_core.specs.Plans.{IsPlan};
+ghost use Rattle.cmwq_model.specs.Tickets.{is_done};
 ghost use Rattle.cmwq_desk.specs.Seats.{Seated, Gains, is_caller};
+ghost use Rattle.cmwq_desk.specs.Held.{Held, opened, IsOpenTo, GoesOn, Leaves, is_over, active_in};
 ghost use Rattle.cmwq_desk.specs.Calls.{Extends, own_entry};
 ghost use Rattle.cmwq_desk.specs.Faults.{Says, Refused, IsStranger};
 ghost use Rattle.cmwq_desk.specs.Whole.{Completes, BrokeOff, Stops, EndsOwn, is_drain};
-ghost use Rattle.cmwq_desk.specs.Steps.{InStep, Lacks, HasFired, HasFiredSome, HasEnded, HasEndedSome, StartsOne, is_start, is_nothing};
+ghost use Rattle.cmwq_desk.specs.Steps.{InStep, Lacks, HasFired, HasFiredSome, HasEnded, HasEndedSome, StartsOne, WouldNot, IsKept, is_start, is_retired, is_nothing};
 ghost use Rattle.cmwq_desk.specs.Settled.{Settles};
 ghost use Rattle.cmwq_desk.specs.declared.fault.RunFault.TheVariants as faults;
-ghost use Rattle.cmwq_model.specs.Queueings.{still_open};
-ghost use Rattle.cmwq_model.specs.Active.{is_active};
 
 use crate::fault::{RunFault, Shortage};
 use crate::seat::Seat;
 use crate::sleepers::{Rings, Sleepers};
-use cmwq_core::{Book, Full};
-use cmwq_model::{
-    Call, CallerId, Entry, ItemId, Mark, NoMemory, Number, Reply, Shape, Who, WorkerId,
-};
+use cmwq_core::{Book, Full, Plan};
+use cmwq_model::{Call, Entry, ItemId, NoMemory, Number, Reply, Shape, Ticket, Who};
 use cmwq_versions::{Front, HubName, Shelf};
 use std::marker::Model;
 use std::sync::ledger::Share;
 use std::sync::{Wait, ledger};
 
-/// What a hub keeps under its lock. Contracts see it as its history, which is legal, and which is the Book's and the published one.
+/// What a hub keeps under its lock. Contracts see its history, which is legal and is the Book's and the published one, whether it is closed,
+/// and whether it has failed.
 pub struct Desk<N: HubName> {
     shape: Shape,
     book: Book,
@@ -42,13 +42,13 @@ pub struct Desk<N: HubName> {
 }
 
 impl<N: HubName> Model for Desk<N> {
-    ghost use Rattle.std.specs.Prelude.{◌≡◌, List, length};
-    ghost use Rattle.cmwq_model.specs.declared.entry.Entry.{Entry};
+    ghost use Rattle.std.specs.Prelude.{◌≡◌, length};
     ghost use Rattle.cmwq_core.specs.History.{History};
+    ghost use Rattle.cmwq_desk.specs.Held.{Held};
 
-    ghost Value = { List Entry };
+    ghost Value = { Held };
 
-    ghost view = { λ d. d.book.entries };
+    ghost view = { λ d. record { history = d.book.entries; closed = d.closed; failed = d.failed } };
 
     ghost invariant = { λ d. (d.shape ≡ N.layout) × (d.book.layout ≡ N.layout) × (d.book.room ≡ N.layout.room) × (d.shelf ≡ d.book.entries) × (d.entries.total ≡ length d.book.entries) };
 }
@@ -66,7 +66,7 @@ impl<N: HubName> Desk<N> {
         requires book { book ≡ record { layout = N.layout; room = N.layout.room; entries = [] } }
         requires shelf { shelf ≡ [] }
         requires entries { entries.total ≡ 0 }
-        ensures { result ≡ [] }
+        ensures { result ≡ opened }
     {
         Desk {
             shape,
@@ -79,45 +79,41 @@ impl<N: HubName> Desk<N> {
         }
     }
 
-    /// Makes the entry that was foretold: it is published, then it is the Book's, and its seat has seen it.
+    /// Makes the entry that was planned: it is published, then it is the Book's, and its seat has seen it.
     fn make<R: Wait>(
         &mut self,
         rt: &R,
         seat: &mut Seat<N>,
         call: Call,
-        mark: Mark,
+        plan: &Plan,
     ) -> Result<Reply, NoMemory>
         requires fits { IsTrue (fits N.layout seat.old.who call) }
-        requires step { InStep self.old seat.old }
-        requires room { has_room N.layout N.layout.room (past_of self.old) seat.old.who call ≡ true }
-        requires mark { IsMark (record { layout = N.layout; room = N.layout.room; entries = self.old }) seat.old.who call mark }
-        ensures made { IfOk result (λ reply. Extends N.layout seat.old call reply seat.new × InStep self.new seat.new) }
-        ensures reply { IfOk result (λ reply. reply ≡ (own_entry N.layout self.old seat.old call).reply) }
-        ensures same { IfErr result (λ _. (self.new ≡ self.old) × (seat.new ≡ seat.old)) }
+        requires step { InStep self.old.history seat.old }
+        requires plan { IsPlan (record { layout = N.layout; room = N.layout.room; entries = self.old.history }) seat.old.who call plan.now }
+        ensures made { IfOk result (λ reply. Extends N.layout seat.old call reply seat.new × InStep self.new.history seat.new) }
+        ensures reply { IfOk result (λ reply. reply ≡ (own_entry N.layout self.old.history seat.old call).reply) }
+        ensures goes_on { IfOk result (λ _. GoesOn self.old self.new) }
+        ensures failed { IfErr result (λ _. (self.new ≡ record self.old { failed = true }) × (seat.new ≡ seat.old)) }
     {
-        let who = seat.who();
+        let _call = call;
         let serial = seat.serial();
         let _len = self.book.len();
-        let Ok(()) = self.shelf.show(rt, mark) else {
+        let Ok(()) = self.shelf.show(rt, plan.mark) else {
             self.failed = true;
             self.sleepers.ring_all();
             return Err(NoMemory);
         };
-        match self.book.step(who, call) {
-            Ok(reply) => {
-                seat.count(self.shelf.front(), serial + 1, &mut self.entries);
-                self.wake(mark.entry);
-                Ok(reply)
-            }
-            Err(Full) => unreachable!(),
-        }
+        let reply = self.book.carry(plan);
+        seat.count(self.shelf.front(), serial + 1, &mut self.entries);
+        self.wake(plan);
+        Ok(reply)
     }
 
     /// Who can go on after an entry is to be woken.
-    fn wake(&mut self, entry: Entry)
+    fn wake(&mut self, plan: &Plan)
         ensures { self.new ≡ self.old }
     {
-        self.sleepers.changed(&self.book, &self.shape, entry);
+        self.sleepers.changed(&self.book, &self.shape, plan);
         if self.closed && self.book.active_count() == 0 {
             self.sleepers.ring_workers();
         }
@@ -126,15 +122,16 @@ impl<N: HubName> Desk<N> {
     /// The seat makes an entry. Where there is no room for it, it sees all the history.
     fn enter<R: Wait>(&mut self, rt: &R, seat: &mut Seat<N>, call: Call) -> Result<Reply, Shortage>
         requires fits { IsTrue (fits N.layout seat.old.who call) }
-        requires step { InStep self.old seat.old }
+        requires step { InStep self.old.history seat.old }
         ensures made { IfOk result (λ reply. Extends N.layout seat.old call reply seat.new) }
-        ensures short { IfErr result (λ what. (self.new ≡ self.old) × Gains seat.old [] seat.new × Lacks N.layout seat.new call what) }
-        ensures step { InStep self.new seat.new }
+        ensures goes_on { IfOk result (λ _. GoesOn self.old self.new) }
+        ensures short { IfErr result (λ what. Gains seat.old [] seat.new × Lacks N.layout self.old seat.new call what self.new) }
+        ensures step { InStep self.new.history seat.new }
     {
         let who = seat.who();
         let _own = seat.serial();
-        match self.book.would(who, call) {
-            Ok(mark) => match self.make(rt, seat, call, mark) {
+        match self.book.plan(who, call) {
+            Ok(plan) => match self.make(rt, seat, call, &plan) {
                 Ok(reply) => Ok(reply),
                 Err(NoMemory) => Err(Shortage::Memory),
             },
@@ -147,7 +144,7 @@ impl<N: HubName> Desk<N> {
 
     /// The hub counts the entries that the seat counts, and has all the history that the seat has seen.
     fn compare(&self, seat: &Seat<N>) -> Result<(), RunFault>
-        ensures step { IfOk result (λ _. InStep self.now seat.now) }
+        ensures step { IfOk result (λ _. InStep self.now.history seat.now) }
         ensures stranger { IfErr result (λ f. IsStranger seat.now f) }
     {
         let own = seat.serial();
@@ -169,17 +166,22 @@ impl<N: HubName> Desk<N> {
         Ok(())
     }
 
-    /// A call of one entry, also after the hub was closed.
-    pub fn serve<R: Wait>(
+    /// A call of one entry. A closed hub refuses those of callers.
+    pub fn call<R: Wait>(
         &mut self,
         rt: &R,
         seat: &mut Seat<N>,
         call: Call,
     ) -> Result<Reply, RunFault>
         requires { IsTrue (fits N.layout seat.old.who call) }
-        ensures made { IfOk result (λ reply. Extends N.layout seat.old call reply seat.new × InStep self.new seat.new) }
+        ensures made { IfOk result (λ reply. Extends N.layout seat.old call reply seat.new × InStep self.new.history seat.new) }
+        ensures open { IfOk result (λ _. IsOpenTo self.old seat.old.who × GoesOn self.old self.new) }
         ensures refused { IfErr result (λ f. Refused N.layout seat.old call f seat.new) }
+        ensures leaves { IfErr result (λ f. Leaves self.old f self.new) }
     {
+        if self.closed && matches!(seat.who(), Who::Caller(_)) {
+            return Err(RunFault::Closed);
+        }
         if self.failed {
             return Err(RunFault::NoMemory { ticket: None });
         }
@@ -191,31 +193,16 @@ impl<N: HubName> Desk<N> {
         }
     }
 
-    /// A call of one entry, which a closed hub refuses.
-    pub fn call<R: Wait>(
-        &mut self,
-        rt: &R,
-        seat: &mut Seat<N>,
-        call: Call,
-    ) -> Result<Reply, RunFault>
-        requires { IsTrue (fits N.layout seat.old.who call) }
-        ensures made { IfOk result (λ reply. Extends N.layout seat.old call reply seat.new × InStep self.new seat.new) }
-        ensures refused { IfErr result (λ f. Refused N.layout seat.old call f seat.new) }
-    {
-        if self.closed {
-            return Err(RunFault::Closed);
-        }
-        self.serve(rt, seat, call)
-    }
-
     /// Fires what is due, in a seat that has just made an entry: until there is nothing, or no room, but at most as many times as there are
     /// items.
     fn fire_due<R: Wait>(&mut self, rt: &R, seat: &mut Seat<N>) -> Result<(), RunFault>
         requires caller { is_caller seat.old.who ≡ true }
-        requires step { InStep self.old seat.old }
+        requires step { InStep self.old.history seat.old }
         requires begun { EndsOwn N.layout seat.old.who seat.old.seen }
         ensures fired { IfOk result (λ _. HasFired N.layout seat.old seat.new) }
+        ensures goes_on { IfOk result (λ _. GoesOn self.old self.new) }
         ensures short { IfErr result (λ f. (f ≡ faults.NoMemory None) × HasFiredSome seat.old seat.new) }
+        ensures leaves { IfErr result (λ f. Leaves self.old f self.new) }
     {
         let _legal = seat.seen();
         for _ in 0..self.shape.counts().items {
@@ -245,7 +232,9 @@ impl<N: HubName> Desk<N> {
     ) -> Result<Reply, RunFault>
         requires { is_caller seat.old.who ≡ true }
         ensures done { IfOk result (λ reply. Completes N.layout seat.old (calls.Tick ticks) reply seat.new) }
+        ensures open { IfOk result (λ _. IsOpenTo self.old seat.old.who × GoesOn self.old self.new) }
         ensures broke { IfErr result (λ f. BrokeOff N.layout seat.old (calls.Tick ticks) f seat.new) }
+        ensures leaves { IfErr result (λ f. Leaves self.old f self.new) }
     {
         let _who = seat.who();
         let reply = self.call(rt, seat, Call::Tick { ticks })?;
@@ -263,26 +252,27 @@ impl<N: HubName> Desk<N> {
         ticket: Number,
     ) -> Result<bool, RunFault>
         requires { is_caller seat.old.who ≡ true }
-        ensures done { IfOk result (λ b. MatchBool b (Extends N.layout seat.old (calls.End ticket) replies.Done seat.new × InStep self.new seat.new) (seat.new ≡ seat.old)) }
+        ensures done { IfOk result (λ b. MatchBool b (Extends N.layout seat.old (calls.End ticket) replies.Done seat.new × InStep self.new.history seat.new) (seat.new ≡ seat.old)) }
+        ensures waits { IfOk result (λ b. MatchBool b (GoesOn self.old self.new) ((self.new ≡ self.old) × WouldNot is_done N.layout self.old.history seat.old (calls.End ticket))) }
+        ensures open { IfOk result (λ _. self.old.failed ≡ false) }
         ensures stopped { IfErr result (λ f. (seat.new ≡ seat.old) × Stops seat.old (Some ticket) f) }
+        ensures leaves { IfErr result (λ f. Leaves self.old f self.new) }
     {
         if self.failed {
             return Err(RunFault::NoMemory {
                 ticket: Some(ticket),
             });
         }
-        if !self.book.ready(ticket) {
-            return Ok(false);
-        }
         self.compare(seat)?;
         let call = Call::End { ticket };
-        let Ok(mark) = self.book.would(seat.who(), call) else {
+        let _needed = self.book.len();
+        let Ok(plan) = self.book.plan(seat.who(), call) else {
             return Ok(false);
         };
-        if !matches!(mark.entry.reply, Reply::Done) {
+        if !is_done(plan.mark.entry.reply) {
             return Ok(false);
         }
-        match self.make(rt, seat, call, mark) {
+        match self.make(rt, seat, call, &plan) {
             Ok(_) => Ok(true),
             Err(NoMemory) => Err(RunFault::NoMemory {
                 ticket: Some(ticket),
@@ -300,7 +290,10 @@ impl<N: HubName> Desk<N> {
     ) -> Result<bool, RunFault>
         requires { is_caller seat.old.who ≡ true }
         ensures done { IfOk result (λ b. MatchBool b (HasEnded N.layout seat.old call ticket seat.new) (seat.new ≡ seat.old)) }
+        ensures waits { IfOk result (λ b. MatchBool b (GoesOn self.old self.new) ((self.new ≡ self.old) × WouldNot is_done N.layout self.old.history seat.old (calls.End ticket))) }
+        ensures open { IfOk result (λ _. self.old.failed ≡ false) }
         ensures stopped { IfErr result (λ f. HasEndedSome N.layout seat.old call ticket f seat.new) }
+        ensures leaves { IfErr result (λ f. Leaves self.old f self.new) }
     {
         match self.end_ticket(rt, seat, ticket) {
             Ok(true) => {}
@@ -320,26 +313,27 @@ impl<N: HubName> Desk<N> {
     pub fn start<R: Wait>(&mut self, rt: &R, seat: &mut Seat<N>) -> Result<Option<ItemId>, RunFault>
         requires { is_caller seat.old.who ≡ false }
         ensures started { IfOk result (λ o. MatchOption o (seat.new ≡ seat.old) (λ item. (item.0 < N.layout.items) × StartsOne N.layout seat.old seat.new)) }
+        ensures none { IfOk result (λ o. MatchOption o ((self.new ≡ self.old) × WouldNot is_start N.layout self.old.history seat.old calls.Take) (λ _. GoesOn self.old self.new)) }
+        ensures open { IfOk result (λ _. self.old.failed ≡ false) }
         ensures refused { IfErr result (λ f. Refused N.layout seat.old calls.Take f seat.new) }
+        ensures leaves { IfErr result (λ f. Leaves self.old f self.new) }
     {
         let who = seat.who();
         if self.failed {
             return Err(RunFault::NoMemory { ticket: None });
         }
         self.compare(seat)?;
-        let Ok(mark) = self.book.would(who, Call::Take) else {
+        let _needed = self.book.len();
+        let Ok(plan) = self.book.plan(who, Call::Take) else {
             return Ok(None);
         };
-        if !starts(mark.entry.reply) {
+        if !starts(plan.mark.entry.reply) {
             return Ok(None);
         }
-        let Some(item) = mark.item else {
-            return Ok(None);
+        let Some(item) = plan.mark.item else {
+            unreachable!()
         };
-        if item.0 >= self.shape.counts().items {
-            return Ok(None);
-        }
-        match self.make(rt, seat, Call::Take, mark) {
+        match self.make(rt, seat, Call::Take, &plan) {
             Ok(_) => Ok(Some(item)),
             Err(NoMemory) => Err(RunFault::NoMemory { ticket: None }),
         }
@@ -349,20 +343,23 @@ impl<N: HubName> Desk<N> {
     pub fn retire<R: Wait>(&mut self, rt: &R, seat: &mut Seat<N>) -> Result<bool, RunFault>
         requires { is_caller seat.old.who ≡ false }
         ensures retired { IfOk result (λ b. MatchBool b (Extends N.layout seat.old calls.Retire replies.Retired seat.new) (seat.new ≡ seat.old)) }
+        ensures kept { IfOk result (λ b. MatchBool b (GoesOn self.old self.new) ((self.new ≡ self.old) × IsKept N.layout self.old.history seat.old)) }
+        ensures open { IfOk result (λ _. self.old.failed ≡ false) }
         ensures refused { IfErr result (λ f. Refused N.layout seat.old calls.Retire f seat.new) }
+        ensures leaves { IfErr result (λ f. Leaves self.old f self.new) }
     {
         let who = seat.who();
         if self.failed {
             return Err(RunFault::NoMemory { ticket: None });
         }
         self.compare(seat)?;
-        let Ok(mark) = self.book.would(who, Call::Retire) else {
+        let Ok(plan) = self.book.plan(who, Call::Retire) else {
             return Ok(false);
         };
-        if !matches!(mark.entry.reply, Reply::Retired) {
+        if !is_retired(plan.mark.entry.reply) {
             return Ok(false);
         }
-        match self.make(rt, seat, Call::Retire, mark) {
+        match self.make(rt, seat, Call::Retire, &plan) {
             Ok(_) => Ok(true),
             Err(NoMemory) => Err(RunFault::NoMemory { ticket: None }),
         }
@@ -370,34 +367,32 @@ impl<N: HubName> Desk<N> {
 
     /// The seat sees all the history.
     pub fn settle(&self, seat: &mut Seat<N>) -> Result<(), RunFault>
-        ensures settled { IfOk result (λ _. Settles self.now seat.old seat.new) }
+        ensures settled { IfOk result (λ _. Settles self.now.history seat.old seat.new) }
         ensures stranger { IfErr result (λ f. (seat.new ≡ seat.old) × IsStranger seat.old f) }
     {
         self.compare(seat)?;
-        seat.see(self.shelf.front());
+        let history = self.shelf.front();
+        seat.see(history);
         Ok(())
     }
 
     /// Whether workers may go: the hub has failed, or it is closed and no active queueing is open.
-    pub fn is_over(&self) -> bool {
+    pub fn is_over(&self) -> bool
+        ensures { result ≡ is_over N.layout self.now }
+    {
         self.failed || self.closed && self.book.active_count() == 0
-    }
-
-    /// Whether the hub has failed: it answers no call any more.
-    pub fn has_failed(&self) -> bool {
-        self.failed
     }
 
     /// How many active queueings are open.
     pub fn active_count(&self) -> u32
-        ensures { result ≡ count_by (is_active N.layout (past_of self.now)) (still_open (past_of self.now)) }
+        ensures { result ≡ active_in N.layout self.now.history }
     {
         self.book.active_count()
     }
 
     /// Callers make no calls from now on.
     pub fn close(&mut self)
-        ensures { self.new ≡ self.old }
+        ensures { self.new ≡ record self.old { closed = true } }
     {
         self.closed = true;
         self.sleepers.ring_all();
@@ -405,20 +400,39 @@ impl<N: HubName> Desk<N> {
 
     /// Nobody makes a call from now on.
     pub fn fail(&mut self)
-        ensures { self.new ≡ self.old }
+        ensures { self.new ≡ record self.old { failed = true } }
     {
         self.failed = true;
         self.sleepers.ring_all();
     }
 
-    /// A seat goes to sleep: a caller until its ticket may end, a worker until it may start something.
-    pub fn sleeps(&mut self, who: Who, ticket: Number)
+    /// A caller goes to sleep until the wait that the call began may end.
+    pub fn waits(&mut self, who: Who, call: Call, ticket: Number)
         ensures { self.new ≡ self.old }
     {
-        match who {
-            Who::Caller(caller) => self.sleepers.waits(caller, Some(ticket)),
-            Who::Worker(worker) => self.sleepers.idles(worker),
+        if let Who::Caller(caller) = who {
+            self.sleepers.waits(Ticket {
+                caller,
+                call,
+                number: ticket,
+            });
         }
+    }
+
+    /// A worker goes to sleep until it may start something.
+    pub fn idles(&mut self, who: Who)
+        ensures { self.new ≡ self.old }
+    {
+        if let Who::Worker(worker) = who {
+            self.sleepers.idles(worker);
+        }
+    }
+
+    /// A caller or a worker is awake again, also where nobody woke it.
+    pub fn awakes(&mut self, who: Who)
+        ensures { self.new ≡ self.old }
+    {
+        self.sleepers.awakes(who);
     }
 
     /// Who is to be woken, once.
@@ -431,14 +445,14 @@ impl<N: HubName> Desk<N> {
     /// The ledger has counted the entries of the history.
     pub fn audit(&mut self, all: &mut Share<N>)
         requires { all.old.parts ≡ N.parts }
-        ensures { (self.new ≡ self.old) × (length self.old ≡ all.old.amount) }
+        ensures { (self.new ≡ self.old) × (length self.old.history ≡ all.old.amount) }
     {
         self.entries.audit(all);
     }
 
     /// The history. It waits for the readers to leave.
     pub fn end<R: Wait>(self, rt: &R) -> Vec<Entry>
-        ensures entries { result.items ≡ self }
+        ensures entries { result.items ≡ self.history }
         ensures legal { IsLegal N.layout (past_of result.items) }
     {
         let Desk {
@@ -460,6 +474,18 @@ fn is_drain(call: Call) -> bool
     ensures { result ≡ is_drain call }
 {
     matches!(call, Call::Drain { .. })
+}
+
+fn is_done(reply: Reply) -> bool
+    ensures { result ≡ is_done reply }
+{
+    matches!(reply, Reply::Done)
+}
+
+fn is_retired(reply: Reply) -> bool
+    ensures { result ≡ is_retired reply }
+{
+    matches!(reply, Reply::Retired)
 }
 
 fn is_nothing(reply: Reply) -> bool

@@ -3,7 +3,7 @@ ghost use Rattle.std.specs.Prelude.{◌≡◌, ◌+◌, ◌≤◌, ◌++◌, ◌
 ghost use mathlib.Core.List.{IsPrefix};
 ghost use Rattle.cmwq_model.specs.Calls.{serial_of};
 ghost use Rattle.cmwq_model.specs.Legal.{past_of, IsLegal};
-ghost use Rattle.cmwq_core.specs.Tables.{IsThere};
+ghost use Rattle.cmwq_core.specs.History.{IsThere};
 ghost use Rattle.cmwq_desk.specs.Seats.{newcomer};
 
 use cmwq_model::Who;
@@ -25,7 +25,7 @@ impl<N: HubName> Model for Seat<N> {
     ghost use Rattle.std.specs.Prelude.{◌≡◌, ◌≤◌};
     ghost use Rattle.cmwq_model.specs.Calls.{serial_of};
     ghost use Rattle.cmwq_model.specs.Legal.{past_of};
-    ghost use Rattle.cmwq_core.specs.Tables.{IsThere};
+    ghost use Rattle.cmwq_core.specs.History.{IsThere};
     ghost use Rattle.cmwq_desk.specs.Seats.{Seated};
 
     ghost Value = { Seated };
@@ -94,8 +94,7 @@ impl<N: HubName> Seat<N> {
         ensures older { IsPrefix self.old.seen front.now }
         ensures counted { entries.new.total ≡ entries.old.total + 1 }
     {
-        self.front.begins(front);
-        self.front = front.again();
+        self.see(front);
         entries.add(&mut self.share, 1);
         self.serial = serial;
     }

@@ -1,9 +1,10 @@
 //! Who sleeps and what for, and who is to be woken. No contract speaks of it: a bell that never rings meets them all.
 ghost use Rattle.std.specs.Prelude.{◌≡◌};
 
-use cmwq_core::Book;
+use cmwq_core::{Book, Plan};
 use cmwq_model::{
-    Call, CallerId, Counts, CpuId, Entry, NoMemory, Number, PoolId, Reply, Shape, Who, WorkerId,
+    Call, CallerId, CpuId, Entry, NoMemory, PoolId, QueueId, Queueing, Reply, Shape, Ticket, Who,
+    WorkerId,
 };
 use std::alloc::Global;
 
@@ -24,10 +25,11 @@ const EVERYBODY: Rings = Rings {
     workers: u64::MAX,
 };
 
-/// The ticket that each caller sleeps for, and which workers sleep.
+/// The wait that each caller sleeps for, and which workers sleep.
 #[derive(Drop)]
 pub struct Sleepers {
-    waiters: Vec<Option<Number>>,
+    waiters: Vec<Option<Ticket>>,
+    waiting: u64,
     idle: u64,
     rings: Rings,
 }
@@ -42,17 +44,37 @@ pub fn place_of(worker: WorkerId) -> u8 {
     pool * 8 + worker.index % 8
 }
 
-/// Whether an entry with this reply may have ended what a ticket waits for.
-fn may_end_a_wait(reply: Reply) -> bool {
-    matches!(
-        reply,
-        Reply::Finished(_)
-            | Reply::Cancelled(_)
-            | Reply::Again(_)
-            | Reply::Rebooked(_)
-            | Reply::TicketCancelled(_, _)
-            | Reply::Done
-    )
+/// Whether the end of this queueing may let the wait end. Flushes of a queue end in the order in which they were begun, and are looked at
+/// apart.
+fn may_end_by(ticket: Ticket, ended: Queueing) -> bool {
+    match ticket.call {
+        Call::FlushItem { item } | Call::FlushDelayed { item } | Call::CancelSync { item } => item.0
+            == ended.item.0,
+        Call::Drain { queue } | Call::Destroy { queue } => queue.0 == ended.place.queue.0,
+        _ => false,
+    }
+}
+
+/// The queue whose flushes may end by an entry: that of what it ends, or of the flush that it ends, since another may be served then.
+fn flushed_queue(plan: &Plan) -> Option<QueueId> {
+    if let Some(ended) = plan.ended() {
+        return Some(ended.place.queue);
+    }
+    match plan.done()?.call {
+        Call::Flush { queue } => Some(queue),
+        _ => None,
+    }
+}
+
+/// The pool of this CPU in which the queue's items run.
+fn pool_at(shape: &Shape, queue: QueueId, cpu: CpuId) -> Touched {
+    match shape.queues().get(usize::from(queue.0)) {
+        Some(queue) => Touched::One(PoolId {
+            cpu,
+            high: queue.high,
+        }),
+        None => Touched::None,
+    }
 }
 
 /// The pools in which an entry may have let something start.
@@ -62,15 +84,24 @@ enum Touched {
     All,
 }
 
-fn pools_touched_by(entry: Entry) -> Touched {
-    match (entry.reply, entry.who) {
+/// A worker that has finished asks for the next itself, and so wakes nobody. What is queued while its item runs waits for that run, in
+/// whose pool it is.
+fn pools_touched_by(shape: &Shape, entry: Entry) -> Touched {
+    match (entry.reply, entry.who, entry.call) {
         (
-            Reply::Started(_) | Reply::StartedEnlist(_, _) | Reply::Slept | Reply::Finished(_),
+            Reply::Started(_) | Reply::StartedEnlist(_, _) | Reply::Slept | Reply::Retired,
             Who::Worker(worker),
+            _,
         ) => Touched::One(worker.pool),
         (
-            Reply::Yes(_)
-            | Reply::Again(_)
+            Reply::Yes(_),
+            _,
+            Call::Queue { queue, cpu, .. }
+            | Call::Delay { queue, cpu, .. }
+            | Call::Modify { queue, cpu, .. },
+        ) => pool_at(shape, queue, cpu),
+        (
+            Reply::Again(_)
             | Reply::Rebooked(_)
             | Reply::Fired(_, _)
             | Reply::Cancelled(_)
@@ -79,9 +110,27 @@ fn pools_touched_by(entry: Entry) -> Touched {
             | Reply::Width(_)
             | Reply::Thawed,
             _,
+            _,
         ) => Touched::All,
         _ => Touched::None,
     }
+}
+
+fn is_flush_of(ticket: Ticket, queue: QueueId) -> bool {
+    matches!(ticket.call, Call::Flush { queue: flushed } if flushed.0 == queue.0)
+}
+
+fn is_before(ticket: Ticket, first: Option<Ticket>) -> bool {
+    match first {
+        Some(first) => ticket.number < first.number,
+        None => true,
+    }
+}
+
+/// Whether a worker of the pool sleeps.
+fn has_idle(idle: u64, pool: PoolId) -> bool {
+    let first = place_of(WorkerId { pool, index: 0 });
+    first < 64 && idle >> first & 0xff != 0
 }
 
 /// Whether this worker is not enlisted, would start a queueing, or neither.
@@ -98,13 +147,10 @@ fn prospect_of(book: &Book, shape: &Shape, worker: WorkerId) -> Prospect
     if !shape.fits(who, Call::Take) {
         return Prospect::Nothing;
     }
-    match book.would(who, Call::Take) {
-        Ok(mark) => match mark.entry.reply {
-            Reply::Misuse => Prospect::Reserve,
-            Reply::Started(_) | Reply::StartedEnlist(_, _) => Prospect::Starts,
-            _ => Prospect::Nothing,
-        },
-        Err(_) => Prospect::Nothing,
+    match book.reply(who, Call::Take) {
+        Reply::Misuse => Prospect::Reserve,
+        Reply::Started(_) | Reply::StartedEnlist(_, _) => Prospect::Starts,
+        _ => Prospect::Nothing,
     }
 }
 
@@ -113,15 +159,18 @@ impl Sleepers {
     pub fn new(alloc: Global) -> Result<Sleepers, NoMemory> {
         Ok(Sleepers {
             waiters: Vec::from_elem(alloc, None, 64)?,
+            waiting: 0,
             idle: 0,
             rings: NOBODY,
         })
     }
 
-    /// A caller goes to sleep until its ticket may end, or is awake again.
-    pub fn waits(&mut self, caller: CallerId, ticket: Option<Number>) {
-        if let Some(place) = self.waiters.get_mut(usize::from(caller.0)) {
-            *place = ticket;
+    /// A caller goes to sleep until its wait may end.
+    pub fn waits(&mut self, ticket: Ticket) {
+        let caller = ticket.caller.0;
+        if let Some(place) = self.waiters.get_mut(usize::from(caller)) {
+            *place = Some(ticket);
+            self.waiting |= bit(caller);
         }
     }
 
@@ -130,30 +179,86 @@ impl Sleepers {
         self.idle |= bit(place_of(worker));
     }
 
-    /// After an entry: whose ticket is ready, and a worker of each pool in which something may start.
-    pub fn changed(&mut self, book: &Book, shape: &Shape, entry: Entry)
-        requires { book.now.layout ≡ shape.now }
-    {
-        if may_end_a_wait(entry.reply) {
-            self.ring_waiters(book);
-        }
-        match pools_touched_by(entry) {
-            Touched::None => {}
-            Touched::One(pool) => self.ring_pool(book, shape, pool),
-            Touched::All => self.ring_pools(book, shape),
+    /// A caller or a worker is awake again, also where nobody woke it.
+    pub fn awakes(&mut self, who: Who) {
+        match who {
+            Who::Caller(caller) => self.waiting &= !bit(caller.0),
+            Who::Worker(worker) => self.idle &= !bit(place_of(worker)),
         }
     }
 
-    fn ring_waiters(&mut self, book: &Book) {
-        let mut place = 0;
-        for waiter in self.waiters.iter_mut() {
-            if let Some(ticket) = *waiter {
-                if book.ready(ticket) {
-                    *waiter = None;
-                    self.rings.callers |= bit(place);
+    /// After an entry: those whose wait may end now, and a worker of each pool in which something may start.
+    pub fn changed(&mut self, book: &Book, shape: &Shape, plan: &Plan)
+        requires { book.now.layout ≡ shape.now }
+    {
+        if self.waiting != 0 {
+            self.ring_waiters(book, plan);
+        }
+        if self.idle != 0 {
+            match pools_touched_by(shape, plan.mark.entry) {
+                Touched::None => {}
+                Touched::One(pool) => self.ring_pool(book, shape, pool),
+                Touched::All => self.ring_pools(book, shape),
+            }
+        }
+    }
+
+    fn ring_waiters(&mut self, book: &Book, plan: &Plan) {
+        if let Some(ended) = plan.ended() {
+            self.ring_ended(book, ended);
+        }
+        if let Some(queue) = flushed_queue(plan) {
+            self.ring_flushes(book, queue);
+        }
+    }
+
+    fn ring_caller(&mut self, caller: CallerId) {
+        self.waiting &= !bit(caller.0);
+        self.rings.callers |= bit(caller.0);
+    }
+
+    /// The wait of the caller with this number, if it sleeps.
+    fn wait_of(&self, caller: u8) -> Option<Ticket> {
+        if self.waiting & bit(caller) == 0 {
+            return None;
+        }
+        *self.waiters.get(usize::from(caller))?
+    }
+
+    /// Wakes those who wait for the item or for all of the queue, where that has ended.
+    fn ring_ended(&mut self, book: &Book, ended: Queueing) {
+        for caller in 0..64 {
+            if let Some(ticket) = self.wait_of(caller) {
+                if may_end_by(ticket, ended) && book.ready(ticket.number) {
+                    self.ring_caller(ticket.caller);
                 }
             }
-            place = place.wrapping_add(1);
+        }
+    }
+
+    /// Of those who sleep in a flush of the queue, the one that was begun first.
+    fn first_flush(&self, queue: QueueId) -> Option<Ticket> {
+        let mut first: Option<Ticket> = None;
+        for caller in 0..64 {
+            if let Some(ticket) = self.wait_of(caller) {
+                if is_flush_of(ticket, queue) && is_before(ticket, first) {
+                    first = Some(ticket);
+                }
+            }
+        }
+        first
+    }
+
+    /// Wakes those whose flush of the queue has ended, the oldest first, up to one that hasn't.
+    fn ring_flushes(&mut self, book: &Book, queue: QueueId) {
+        for _ in 0..64 {
+            let Some(ticket) = self.first_flush(queue) else {
+                return;
+            };
+            if !book.ready(ticket.number) {
+                return;
+            }
+            self.ring_caller(ticket.caller);
         }
     }
 
@@ -172,6 +277,9 @@ impl Sleepers {
     fn ring_pool(&mut self, book: &Book, shape: &Shape, pool: PoolId)
         requires { book.now.layout ≡ shape.now }
     {
+        if !has_idle(self.idle, pool) {
+            return;
+        }
         for index in 0..8 {
             let worker = WorkerId { pool, index };
             let mine = bit(place_of(worker));

@@ -9,7 +9,9 @@ mod told;
 mod upgrade;
 
 pub use judge::run_check;
+pub use output::write_history;
 pub use step::run_step;
+pub use told::tell_full;
 pub use upgrade::{newest_stay, run_upgrade};
 
 #[cfg(test)]

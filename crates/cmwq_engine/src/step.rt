@@ -45,7 +45,7 @@ pub fn run_step<S: Source, O: Sink, E: Sink>(
     let ended = step(alloc, input, output);
     match ended {
         Ok(0) => {}
-        Ok(left_out) => tell_full(errors, left_out),
+        Ok(left_out) => tell_full(errors, u64::from(left_out)),
         Err(refusal) => tell_refusal(errors, refusal),
     }
     status(&ended)

@@ -12,7 +12,7 @@ use std::fmt::Write;
 /// Room for the longest line that is told.
 type Told = ArrayString<128>;
 
-fn spell_full(left_out: u32) -> Result<Told, fmt::Error> {
+fn spell_full(left_out: u64) -> Result<Told, fmt::Error> {
     let mut line = Told::new();
     writeln!(line, "cmwq: full {left_out}")?;
     Ok(line)
@@ -32,7 +32,7 @@ fn tell<E: Sink>(errors: &mut E, line: Result<Told, fmt::Error>) {
 }
 
 /// Tells how many calls were left out for want of room. Takes no memory; a failing sink changes nothing.
-pub fn tell_full<E: Sink>(errors: &mut E, left_out: u32) {
+pub fn tell_full<E: Sink>(errors: &mut E, left_out: u64) {
     tell(errors, spell_full(left_out));
 }
 

@@ -1,8 +1,8 @@
 //! A hub is closed while a caller waits.
 
 use crate::cast::{Act, run};
-use crate::fixture::{begin_flush, make, plain_queue, shape};
-use cmwq_model::{Call, Counts, CpuId, ItemId, Number, QueueId, Reply};
+use crate::fixture::{entries_of_others, make, plain_queue, shape};
+use cmwq_model::{Call, Counts, CpuId, ItemId, QueueId, Reply};
 use cmwq_rt::{Caller, Gate, Gates, Hub, HubName, RunCtx, RunFault, Work};
 use std::process::Abort;
 use std::sync::Wait;
@@ -32,21 +32,6 @@ const FLUSH: Call = Call::Flush { queue: QueueId(0) };
 fn wait_for_the_item<N: HubName, R: Wait + Abort>(rt: &R, hub: &Hub<N>, caller: &mut Caller<N>) {
     assert!(rt; make(rt, hub, caller, QUEUE).is_ok());
     assert!(rt; matches!(make(rt, hub, caller, FLUSH), Ok(Reply::Ticket(_))));
-}
-
-/// How many entries others have made, told by a ticket on a queue that nobody uses, after so many such tickets of its own.
-fn entries_of_others<N: HubName, R: Wait + Abort>(
-    rt: &R,
-    hub: &Hub<N>,
-    caller: &mut Caller<N>,
-    asked: u32,
-) -> Number {
-    let Ok(Reply::Ticket(ticket)) = begin_flush(rt, hub, caller, QueueId(1)) else {
-        panic!(rt; "no ticket");
-    };
-    let ended = make(rt, hub, caller, Call::End { ticket });
-    assert!(rt; matches!(ended, Ok(Reply::Done)));
-    ticket.wrapping_sub(asked.wrapping_mul(2))
 }
 
 /// Waits until the item runs and the other caller has begun its flush, which make three entries.

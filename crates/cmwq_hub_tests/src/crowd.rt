@@ -5,9 +5,7 @@ ghost use Rattle.cmwq_rt.specs.Later.{Later};
 
 use crate::cast::{Act, run, starts_in};
 use crate::fixture::{make, plain_queue, shape};
-use cmwq_model::{
-    Call, Counts, CpuId, Entry, ItemId, PoolId, QueueId, QueueShape, Reply, Who, WorkerId,
-};
+use cmwq_model::{Call, Counts, CpuId, Entry, ItemId, QueueId, QueueShape, Reply, Who};
 use cmwq_rt::{Caller, Hub, HubName, RunCtx, Work};
 use rand_core::utils::NextWord;
 use rand_pcg::Pcg32;
@@ -45,14 +43,6 @@ struct Crowd {
     answers: AtomicU64,
 }
 
-const SOMEBODY: Who = Who::Worker(WorkerId {
-    pool: PoolId {
-        cpu: CpuId(0),
-        high: false,
-    },
-    index: 0,
-});
-
 /// Queues the item behind this one.
 fn queue_next<N: HubName, R: Wait>(item: ItemId, context: &mut RunCtx<N, R>)
     ensures { Later context.old context.new }
@@ -62,7 +52,7 @@ fn queue_next<N: HubName, R: Wait>(item: ItemId, context: &mut RunCtx<N, R>)
     let cpu = CpuId(0);
     if context
         .shape()
-        .fits(SOMEBODY, Call::Queue { item, queue, cpu })
+        .has_numbers(Call::Queue { item, queue, cpu })
     {
         let _reply = context.queue(item, queue, cpu);
     }

@@ -3,7 +3,7 @@
 ghost use Rattle.std.specs.Prelude.{◌≡◌, ◌<◌};
 
 use cmwq_model::{
-    Call, CallerId, Counts, Entry, ItemId, NoMemory, QueueId, QueueShape, Reply, Shape, Who,
+    Call, CallerId, Counts, Entry, ItemId, NoMemory, Number, QueueId, QueueShape, Reply, Shape, Who,
 };
 use cmwq_rt::{Caller, Hub, HubName, HubParts, RunFault, Seats, Worker};
 use cmwq_text::{entry_line, read_entry};
@@ -116,6 +116,22 @@ pub(crate) fn begin_flush<N: HubName, R: Wait + Abort>(
     caller.flush_begin(rt, hub, queue)
 }
 
+/// How many entries have been made, but for those of this function, told by a ticket on queue 1, which nobody uses, after the caller has
+/// asked so often before.
+pub(crate) fn entries_of_others<N: HubName, R: Wait + Abort>(
+    rt: &R,
+    hub: &Hub<N>,
+    caller: &mut Caller<N>,
+    asked: u32,
+) -> Number {
+    let Ok(Reply::Ticket(ticket)) = begin_flush(rt, hub, caller, QueueId(1)) else {
+        panic!(rt; "no ticket");
+    };
+    let ended = make(rt, hub, caller, Call::End { ticket });
+    assert!(rt; matches!(ended, Ok(Reply::Done)));
+    ticket.wrapping_sub(asked.wrapping_mul(2))
+}
+
 /// The bits of an item that the hub has. It can't wait.
 pub(crate) fn bits<N: HubName>(caller: &mut Caller<N>, item: ItemId) -> Option<u8>
     requires { item.0 < N.layout.items }
@@ -153,7 +169,7 @@ pub(crate) fn fault<N: HubName, R: Wait + Abort>(
 }
 
 /// Whether these entries are a legal history of the shape.
-fn is_legal(alloc: Global, shape: &Shape, entries: &[Entry]) -> Result<bool, NoMemory> {
+pub(crate) fn is_legal(alloc: Global, shape: &Shape, entries: &[Entry]) -> Result<bool, NoMemory> {
     if entries.len() > 1_000_000 || !cmwq_plain::all_fit(shape, entries) {
         return Ok(false);
     }

@@ -12,4 +12,8 @@ mod fixture;
 #[cfg(test)]
 mod gate;
 #[cfg(test)]
+mod hostile;
+#[cfg(test)]
 mod one_caller;
+#[cfg(test)]
+mod scripts;

@@ -1,7 +1,8 @@
--- Which JSON value the bytes of an input are.
-use Rattle.std.specs.Prelude.{◌≡◌, ℕ, ◌<◌, ◌≤◌, List, length, None, Some, IsUtf8}
+-- Which JSON value the bytes of an input are, and what that says.
+use Rattle.std.specs.Prelude.{◌≡◌, ℕ, ◌<◌, ◌≤◌, List, length, None, Some, Result, IsUtf8}
 use Rattle.serde_json.specs.Data.{Data}
 use Rattle.serde_json.specs.Read.{read}
+use Rattle.cmwq_input.specs.declared.refused.Refused.{Refused}
 
 -- an input has at most so many bytes
 abbrev pub most_bytes : ℕ
@@ -23,3 +24,7 @@ pub record IsJson (bytes : List ℕ) (d : Data) : Type 0 where
 pub record IsNoJson (bytes : List ℕ) : Type 0 where
   pub short : IsShort bytes
   pub no_value : IsUtf8 bytes → read bytes ≡ None
+
+-- they are a JSON value that says this: what its words mean, or its first member that is refused
+abbrev pub Says : {X : Type 0} → (Data → Result X Refused) → List ℕ → Result X Refused → Type 0
+Says said_of bytes said = (d : Data) × IsJson bytes d × (said_of d ≡ said)

@@ -9,6 +9,7 @@ pub enum Part {
     Top,
     Queues,
     Items,
+    Callers,
 }
 
 /// The first member that is refused: its part, and its place there, or 0 for the whole.
@@ -24,6 +25,7 @@ impl fmt::Display for Part {
             Part::Top => "top",
             Part::Queues => "queues",
             Part::Items => "items",
+            Part::Callers => "callers",
         })
     }
 }

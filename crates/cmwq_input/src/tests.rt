@@ -92,6 +92,14 @@ fn what_is_told(rt: HostRuntime) -> Result<(), Fail> {
             "cmwq: items 1: refused\n",
             1,
         ),
+        (
+            Fault::Member(Refused {
+                part: Part::Callers,
+                index: 63,
+            }),
+            "cmwq: callers 63: refused\n",
+            1,
+        ),
         (Fault::ReadFault, "cmwq: read fault\n", 5),
         (Fault::WriteFault, "cmwq: write fault\n", 5),
     ] {

@@ -13,7 +13,7 @@ use Rattle.cmwq_json.proofs.Arrays.{list_any-map}
 abbrev pub same : String Global → String Global → Bool
 same a b = bytes_eq (string_bytes a) (string_bytes b)
 
-taken : (names : List (String Global)) (s : String Global) (name : List ℕ) → string_bytes s ≡ name → is_taken (map string_bytes names) name ≡ list_any (same s) names
+pub taken : (names : List (String Global)) (s : String Global) (name : List ℕ) → string_bytes s ≡ name → is_taken (map string_bytes names) name ≡ list_any (same s) names
 taken names s name is = list_any-map (bytes_eq name) string_bytes names ∙ ap (λ n. list_any (λ k. bytes_eq n (string_bytes k)) names) (sym is)
 
 turned : (b : Bool) → true ≡ not b → b ≡ false

@@ -1,4 +1,4 @@
-mod Adding
-mod Arrays
-mod Limited
-mod Turns
+pub mod Adding
+pub mod Arrays
+pub mod Limited
+pub mod Turns

@@ -26,34 +26,35 @@ pub all_pushed : {X : Type 0} (P : X → Type 0) (xs : List X) (x : X) → AllBy
 all_pushed P [] x all one = (one, tt)
 all_pushed P (y ∷ xs) x all one = (all.0, all_pushed P xs x all.1 one)
 
-pub record AreKept {X : Type 0} (P : X → Type 0) (m : Named X) : Type 0 where
+-- members that each have a name, no more than so many
+pub record AreKept {X : Type 0} (most : ℕ) (P : X → Type 0) (m : Named X) : Type 0 where
   pub same : length m.names ≡ length m.values
-  pub few : length m.names ≤ 8
+  pub few : length m.names ≤ most
   pub values : AllByRecursion P m.values
 
-added : {X : Type 0} (P : X → Type 0) (before after : Named X) (x : List ℕ × X) → AreKept P before → P x.1 → add_named 8 before x ≡ Some after → AreKept P after
-added {X} P before after x k one is = at (nat_lt (length before.names) 8) refl (is_taken before.names x.0) is
+pub added : {X : Type 0} (most : ℕ) (P : X → Type 0) (before after : Named X) (x : List ℕ × X) → AreKept most P before → P x.1 → add_named most before x ≡ Some after → AreKept most P after
+added {X} most P before after x k one is = at (nat_lt (length before.names) most) refl (is_taken before.names x.0) is
   where
-    at : (room : Bool) → nat_lt (length before.names) 8 ≡ room → (t : Bool) → (if room && not t then Some (record { names = before.names ++ x.0 ∷ []; values = before.values ++ x.1 ∷ [] }) else None) ≡ Some after → AreKept P after
+    at : (room : Bool) → nat_lt (length before.names) most ≡ room → (t : Bool) → (if room && not t then Some (record { names = before.names ++ x.0 ∷ []; values = before.values ++ x.1 ∷ [] }) else None) ≡ Some after → AreKept most P after
     at true room false h =
-        let less : length before.names < 8 = grind (arith, nat_tests) in
+        let less : length before.names < most = grind (arith, nat_tests) in
         let same = k.same in
         let a = length-append before.names (x.0 ∷ []) in
         let b = length-append before.values (x.1 ∷ []) in
-        subst (AreKept P) (same_Some _ after h) (record { same = omega arith; few = omega arith; values = all_pushed P before.values x.1 k.values one })
+        subst (AreKept most P) (same_Some _ after h) (record { same = omega arith; few = omega arith; values = all_pushed P before.values x.1 k.values one })
     at true room true h = cc
     at false room t h = cc
 
 -- ---- numbers
 
-between : (low high n : ℕ) → is_between low high n ≡ true → IsBetween low high n
+pub between : (low high n : ℕ) → is_between low high n ≡ true → IsBetween low high n
 between low high n h =
     let p = and_parts (nat_le low n) (nat_le n high) h in
     let a : low ≤ n = grind (arith, nat_tests) in
     let b : n ≤ high = grind (arith, nat_tests) in
     (a, b)
 
-number_limits : (low high : ℕ) (d : Data) → IfSome (number_between low high d) (IsBetween low high)
+pub number_limits : (low high : ℕ) (d : Data) → IfSome (number_between low high d) (IsBetween low high)
 number_limits low high d = at (option_and_then as_u64 (as_number d))
   where
     pick : (n : ℕ) (b : Bool) → is_between low high n ≡ b → IfSome (if b then Some n else None) (IsBetween low high)
@@ -64,7 +65,7 @@ number_limits low high d = at (option_and_then as_u64 (as_number d))
     at None = tt
     at (Some n) = pick n (is_between low high n) refl
 
-width_limits : (d : Data) → IfSome (width_said d) (IsBetween 1 512)
+pub width_limits : (d : Data) → IfSome (width_said d) (IsBetween 1 512)
 width_limits d = at (number_between 0 4294967295 d)
   where
     wide : (n : ℕ) → IsBetween 1 512 (width_for n)
@@ -83,7 +84,7 @@ then_said P said each (Some d) = each d
 
 -- ---- queues
 
-parts_limits : (d : Data) → IfSome (parts_said d) (λ parts. IsBetween 1 512 parts.1)
+pub parts_limits : (d : Data) → IfSome (parts_said d) (λ parts. IsBetween 1 512 parts.1)
 parts_limits d = at (option_and_then name_said (get (codes "name") d)) (option_and_then width_said (get (codes "max_active") d)) (option_and_then as_bool (get (codes "intensive") d)) (then_said (IsBetween 1 512) width_said width_limits (get (codes "max_active") d))
   where
     at : (name : Option (List ℕ)) (w : Option ℕ) (i : Option Bool) → IfSome w (IsBetween 1 512) → IfSome (with_parts name w i) (λ parts. IsBetween 1 512 parts.1)
@@ -100,19 +101,19 @@ queue_limits d x is = at (has_keys (codes "intensive" ∷ codes "max_active" ∷
     at true None h said = cc
     at true (Some p) h said = subst (λ (y : List ℕ × SimQueue). IsQueue y.1) (same_Some (p.0, record { max_active = p.1; intensive = p.2 }) x said) h
 
-pub queues_kept : (n : ℕ) (ds : Items) (m : Named SimQueue) → in_turn add_queue n nobody ds ≡ Ok m → AreKept IsQueue m
-queues_kept n ds m is = kept (AreKept IsQueue) add_queue one n nobody ds m (record { same = refl; few = omega arith; values = tt }) is
+pub queues_kept : (n : ℕ) (ds : Items) (m : Named SimQueue) → in_turn add_queue n nobody ds ≡ Ok m → AreKept 8 IsQueue m
+queues_kept n ds m is = kept (AreKept 8 IsQueue) add_queue one n nobody ds m (record { same = refl; few = omega arith; values = tt }) is
   where
-    one : (before : Named SimQueue) (d : Data) (after : Named SimQueue) → AreKept IsQueue before → add_queue before d ≡ Some after → AreKept IsQueue after
+    one : (before : Named SimQueue) (d : Data) (after : Named SimQueue) → AreKept 8 IsQueue before → add_queue before d ≡ Some after → AreKept 8 IsQueue after
     one before d after k said = at (queue_said d) refl said
       where
-        at : (o : Option (List ℕ × SimQueue)) → queue_said d ≡ o → option_and_then (add_named 8 before) o ≡ Some after → AreKept IsQueue after
+        at : (o : Option (List ℕ × SimQueue)) → queue_said d ≡ o → option_and_then (add_named 8 before) o ≡ Some after → AreKept 8 IsQueue after
         at None h none = cc
-        at (Some x) h some = added IsQueue before after x k (queue_limits d x h) some
+        at (Some x) h some = added 8 IsQueue before after x k (queue_limits d x h) some
 
 -- ---- items
 
-placed : {X : Type 0} (p : X → Bool) (xs : List X) → IfSome (position p xs) (λ i. i < length xs)
+pub placed : {X : Type 0} (p : X → Bool) (xs : List X) → IfSome (position p xs) (λ i. i < length xs)
 placed p xs = at (nat_lt (position_or_len p xs) (length xs)) refl
   where
     at : (b : Bool) → nat_lt (position_or_len p xs) (length xs) ≡ b → IfSome (cond b (Some (position_or_len p xs)) None) (λ i. i < length xs)
@@ -166,15 +167,15 @@ item_limits names d x is = at (has_keys (codes "ms" ∷ codes "name" ∷ codes "
     at true (Some n) (Some q) None h k said = cc
     at true (Some n) (Some q) (Some ms) h k said = subst (λ (y : List ℕ × Item). IsItem (length names) y.1) (same_Some (n, record { queue = q; ms = ms }) x said) (record { queue = h; parts = k.few; ms = k.each })
 
-items_kept : (names : List (List ℕ)) (n : ℕ) (ds : Items) (m : Named Item) → in_turn (add_item names) n nobody ds ≡ Ok m → AreKept (IsItem (length names)) m
-items_kept names n ds m is = kept (AreKept (IsItem (length names))) (add_item names) one n nobody ds m (record { same = refl; few = omega arith; values = tt }) is
+items_kept : (names : List (List ℕ)) (n : ℕ) (ds : Items) (m : Named Item) → in_turn (add_item names) n nobody ds ≡ Ok m → AreKept 8 (IsItem (length names)) m
+items_kept names n ds m is = kept (AreKept 8 (IsItem (length names))) (add_item names) one n nobody ds m (record { same = refl; few = omega arith; values = tt }) is
   where
-    one : (before : Named Item) (d : Data) (after : Named Item) → AreKept (IsItem (length names)) before → add_item names before d ≡ Some after → AreKept (IsItem (length names)) after
+    one : (before : Named Item) (d : Data) (after : Named Item) → AreKept 8 (IsItem (length names)) before → add_item names before d ≡ Some after → AreKept 8 (IsItem (length names)) after
     one before d after k said = at (item_said names d) refl said
       where
-        at : (o : Option (List ℕ × Item)) → item_said names d ≡ o → option_and_then (add_named 8 before) o ≡ Some after → AreKept (IsItem (length names)) after
+        at : (o : Option (List ℕ × Item)) → item_said names d ≡ o → option_and_then (add_named 8 before) o ≡ Some after → AreKept 8 (IsItem (length names)) after
         at None h none = cc
-        at (Some x) h some = added (IsItem (length names)) before after x k (item_limits names d x h) some
+        at (Some x) h some = added 8 (IsItem (length names)) before after x k (item_limits names d x h) some
 
 -- ---- the whole
 

@@ -9,7 +9,7 @@ use Rattle.serde_json.specs.declared.value.Value.{Value}
 use Rattle.serde_json.specs.View.{view, items_view}
 use Rattle.cmwq_json.specs.InTurn.{in_turn}
 
-drop_end : (i : ℕ) (all : List Value) → length all ≤ i → drop i all ≡ []
+pub drop_end : (i : ℕ) (all : List Value) → length all ≤ i → drop i all ≡ []
 drop_end zero [] h = refl
 drop_end (suc i) [] h = refl
 drop_end zero (x ∷ all) h = absurd (omega arith)

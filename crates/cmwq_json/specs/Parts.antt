@@ -11,3 +11,6 @@ queues i = record { part = part.Queues; index = i }
 
 abbrev pub items : ℕ → Refused
 items i = record { part = part.Items; index = i }
+
+abbrev pub callers : ℕ → Refused
+callers i = record { part = part.Callers; index = i }

@@ -14,4 +14,5 @@ pub mod Answer
 pub mod Legal
 pub mod Room
 pub mod Kernel
+pub mod Scripted
 pub mod Verdict

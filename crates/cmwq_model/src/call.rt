@@ -86,6 +86,14 @@ pub enum Call {
 
 impl Call {
     ghost use Rattle.cmwq_model.specs.Layout.{is_callers, is_workers};
+    ghost use Rattle.cmwq_model.specs.Scripted.{is_whole};
+
+    /// Whether a script may hold such a call: callers make it, and it neither ends a wait nor fires a timer, which a whole call does itself.
+    pub fn is_whole(&self) -> bool
+        ensures { result ≡ is_whole self.now }
+    {
+        !matches!(self, Call::End { .. } | Call::Fire) && self.is_callers()
+    }
 
     /// Whether callers make such a call.
     pub fn is_callers(&self) -> bool

@@ -145,7 +145,7 @@ impl Shape {
     }
 
     /// Whether the numbers that stand in a call are inside the shape.
-    fn has_numbers(&self, call: Call) -> bool
+    pub fn has_numbers(&self, call: Call) -> bool
         ensures { result ≡ has_numbers self.now call }
     {
         match call {

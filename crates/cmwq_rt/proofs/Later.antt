@@ -1,5 +1,5 @@
 -- What a worker's calls leave, one after another.
-use Rattle.std.proofs.Common.{◌≡◌, ℕ, ◌+◌, ◌≤◌, List, [], ◌∷◌, length, refl, sym, ap, ◌∙◌, arith, subst, Bool, true, false, Result, Ok, Err}
+use Rattle.std.proofs.Common.{◌≡◌, List, [], refl, sym, ap, ◌∙◌, arith, subst, Bool, true, false, Result, Ok, Err}
 use Rattle.std.specs.Prelude.{IfOk, IfErr, MatchBool}
 use mathlib.Core.List.{IsPrefix}
 use Rattle.cmwq_model.specs.declared.call.Call.{Call}

@@ -2,4 +2,3 @@ pub mod Later
 pub mod Settling
 pub mod Placing
 pub mod Following
-pub mod Gathering

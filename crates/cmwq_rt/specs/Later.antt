@@ -1,5 +1,5 @@
 -- What a work function may have done to its worker, and what a worker's loop has done.
-use Rattle.std.specs.Prelude.{◌≡◌, ℕ, ◌≤◌, List}
+use Rattle.std.specs.Prelude.{◌≡◌, ◌≤◌, List}
 use mathlib.Core.List.{IsPrefix}
 use Rattle.cmwq_model.specs.declared.entry.Entry.{Entry}
 use Rattle.cmwq_desk.specs.Seats.{Seated}

@@ -1,4 +1,3 @@
 pub mod Later
 pub mod Places
 pub mod Scripts
-pub mod Ended

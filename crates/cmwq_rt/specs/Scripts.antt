@@ -1,22 +1,12 @@
 -- What a caller that follows a script leaves in a history.
-use Rattle.std.specs.Prelude.{◌≡◌, ◌⊎◌, ℕ, ◌+◌, Bool, true, false, List, [], ◌∷◌, ◌++◌, length}
+use Rattle.std.specs.Prelude.{◌≡◌, ◌⊎◌, ℕ, ◌+◌, List, [], ◌∷◌, ◌++◌, length}
 use Rattle.cmwq_model.specs.declared.id.Who.{Who}
 use Rattle.cmwq_model.specs.declared.call.Call.{Call}
 use Rattle.cmwq_model.specs.declared.reply.Reply.{Reply}
 use Rattle.cmwq_model.specs.declared.entry.Entry.{Entry}
-use Rattle.cmwq_model.specs.declared.call.Call.TheVariants as call
-use Rattle.cmwq_model.specs.Layout.{Layout, is_callers, has_numbers}
+use Rattle.cmwq_model.specs.Layout.{Layout}
 use Rattle.cmwq_desk.specs.Seats.{Seated, made_by}
 use Rattle.cmwq_desk.specs.Whole.{Makes, HadNoRoom}
-
--- A script holds whole calls of callers with numbers inside the layout: ends and fires come by themselves.
-abbrev pub is_whole : Call → Bool
-is_whole (call.End t) = false
-is_whole call.Fire = false
-is_whole c = is_callers c
-
-abbrev pub IsScripted : Layout → Call → Type 0
-IsScripted s c = (is_whole c ≡ true) × (has_numbers s c ≡ true)
 
 -- The caller's entries in a history are these, and then for each call of the script, in order, those that it makes; or none where there was
 -- no room for the call, so many times in all.

@@ -57,8 +57,12 @@ impl<N: HubName> Caller<N> {
         Caller { seat, sights }
     }
 
-    pub(crate) fn settle(&mut self, desk: &Desk<N>) -> Result<(), RunFault>
-        ensures settled { IfOk result (λ _. Settles desk.now self.old self.new) }
+    /// Sees the whole history that lay under the lock of a hub that is no more.
+    ///
+    /// # Errors
+    /// `Stranger` where that was another hub's.
+    pub fn settle(&mut self, desk: &Desk<N>) -> Result<(), RunFault>
+        ensures settled { IfOk result (λ _. Settles desk.now.history self.old self.new) }
         ensures stranger { IfErr result (λ f. (self.new ≡ self.old) × IsStranger self.old f) }
     {
         desk.settle(&mut self.seat)

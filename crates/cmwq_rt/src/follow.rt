@@ -1,8 +1,9 @@
 //! Callers that follow scripts.
 ghost use Rattle.std.specs.Prelude.{◌≡◌, ◌<◌, ◌≤◌, ◌^◌, [], length, true, IfOk, IfErr, All};
 ghost use Rattle.cmwq_model.specs.Layout.{has_numbers, is_callers};
+ghost use Rattle.cmwq_model.specs.Scripted.{IsScripted};
 ghost use Rattle.cmwq_desk.specs.Whole.{Completes, BrokeOff};
-ghost use Rattle.cmwq_rt.specs.Scripts.{IsScripted, HasFollowed};
+ghost use Rattle.cmwq_rt.specs.Scripts.{HasFollowed};
 
 use crate::caller::Caller;
 use crate::hub::Hub;

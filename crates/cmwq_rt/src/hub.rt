@@ -6,6 +6,7 @@ ghost use Rattle.cmwq_model.specs.declared.call.Call.TheVariants as calls;
 ghost use Rattle.cmwq_model.specs.Layout.{fits};
 ghost use Rattle.cmwq_model.specs.Legal.{past_of, IsLegal};
 ghost use Rattle.cmwq_desk.specs.Seats.{is_caller};
+ghost use Rattle.cmwq_desk.specs.Held.{active_in};
 ghost use Rattle.cmwq_desk.specs.Calls.{Extends};
 ghost use Rattle.cmwq_desk.specs.Faults.{Refused, IsStranger};
 ghost use Rattle.cmwq_desk.specs.Steps.{HasEnded, HasEndedSome};
@@ -16,7 +17,7 @@ use crate::bells::Bells;
 use crate::caller::Caller;
 use crate::worker::Worker;
 use cmwq_desk::{Desk, RunFault, Seat};
-use cmwq_model::{Call, Entry, ItemId, Number, Reply, Shape};
+use cmwq_model::{Call, Entry, ItemId, Number, Reply, Shape, Who};
 use cmwq_versions::HubName;
 use std::sync::{Mutex, MutexGuard, Wait};
 
@@ -77,34 +78,16 @@ impl<N: HubName> Hub<N> {
         &self,
         rt: &R,
         mut desk: MutexGuard<'a, Desk<N>>,
-        seat: &Seat<N>,
-        ticket: Number,
+        who: Who,
     ) -> MutexGuard<'a, Desk<N>> {
-        let who = seat.who();
-        desk.sleeps(who, ticket);
         let rings = desk.rings();
         self.bells.ring(rings);
-        self.bells.wait(rt, desk, who)
+        let mut desk = self.bells.wait(rt, desk, who);
+        desk.awakes(who);
+        desk
     }
 
-    /// A worker's call of one entry.
-    pub(crate) fn serve<R: Wait>(
-        &self,
-        rt: &R,
-        seat: &mut Seat<N>,
-        call: Call,
-    ) -> Result<Reply, RunFault>
-        requires { IsTrue (fits N.layout seat.old.who call) }
-        ensures made { IfOk result (λ reply. Extends N.layout seat.old call reply seat.new) }
-        ensures refused { IfErr result (λ f. Refused N.layout seat.old call f seat.new) }
-    {
-        let mut desk = self.lock(rt);
-        let answer = desk.serve(rt, seat, call);
-        self.leave(desk);
-        answer
-    }
-
-    /// A caller's call of one entry.
+    /// A call of one entry.
     pub(crate) fn call<R: Wait>(
         &self,
         rt: &R,
@@ -147,12 +130,13 @@ impl<N: HubName> Hub<N> {
                     return Err(fault);
                 }
             }
-            desk = self.sleep(rt, desk, seat, ticket);
+            desk.waits(seat.who(), call, ticket);
+            desk = self.sleep(rt, desk, seat.who());
         }
         unreachable!()
     }
 
-    /// Sleeps until the worker may start a queueing, or may go: none; and lets the lock go.
+    /// Sleeps until the worker may start a queueing, or may go: none, as nothing active is open; and lets the lock go.
     pub(crate) fn until_start<R: Wait>(
         &self,
         rt: &R,
@@ -160,7 +144,7 @@ impl<N: HubName> Hub<N> {
         seat: &mut Seat<N>,
     ) -> Result<Option<ItemId>, RunFault>
         requires { is_caller seat.old.who ≡ false }
-        ensures item { IfOk result (λ o. MatchOption o (Unit {0}) (λ item. item.0 < N.layout.items)) }
+        ensures item { IfOk result (λ o. MatchOption o (active_in N.layout seat.new.seen ≡ 0) (λ item. item.0 < N.layout.items)) }
         ensures later { Later seat.old seat.new }
     {
         let mut desk = desk;
@@ -173,10 +157,15 @@ impl<N: HubName> Hub<N> {
                 }
             }
             if desk.is_over() {
+                let settled = desk.settle(seat);
                 self.leave(desk);
-                return Ok(None);
+                return match settled {
+                    Ok(()) => Ok(None),
+                    Err(fault) => Err(fault),
+                };
             }
-            desk = self.sleep(rt, desk, seat, 0);
+            desk.idles(seat.who());
+            desk = self.sleep(rt, desk, seat.who());
         }
         unreachable!()
     }
@@ -205,8 +194,8 @@ impl<N: HubName> Hub<N> {
         }
     }
 
-    /// What lay under the lock.
-    pub(crate) fn into_desk(self) -> Desk<N> {
+    /// What lay under the lock, for a layer above that settles its callers and workers itself.
+    pub fn into_desk(self) -> Desk<N> {
         let Hub {
             desk,
             bells: _bells,
@@ -221,8 +210,8 @@ fn settle_all<N: HubName>(
     callers: &mut [Caller<N>],
     workers: &mut [Worker<N>],
 ) -> Result<(), RunFault>
-    ensures callers { IfOk result (λ _. AllSettle desk.now callers.old callers.new) }
-    ensures workers { IfOk result (λ _. AllSettle desk.now workers.old workers.new) }
+    ensures callers { IfOk result (λ _. AllSettle desk.now.history callers.old callers.new) }
+    ensures workers { IfOk result (λ _. AllSettle desk.now.history workers.old workers.new) }
     ensures stranger { IfErr result (λ f. (who : _) × IsStranger who f) }
 {
     settle_callers(desk, callers)?;
@@ -230,7 +219,7 @@ fn settle_all<N: HubName>(
 }
 
 fn settle_callers<N: HubName>(desk: &Desk<N>, callers: &mut [Caller<N>]) -> Result<(), RunFault>
-    ensures settled { IfOk result (λ _. AllSettle desk.now callers.old callers.new) }
+    ensures settled { IfOk result (λ _. AllSettle desk.now.history callers.old callers.new) }
     ensures stranger { IfErr result (λ f. (who : _) × IsStranger who f) }
 {
     for caller in callers.iter_mut() {
@@ -240,7 +229,7 @@ fn settle_callers<N: HubName>(desk: &Desk<N>, callers: &mut [Caller<N>]) -> Resu
 }
 
 fn settle_workers<N: HubName>(desk: &Desk<N>, workers: &mut [Worker<N>]) -> Result<(), RunFault>
-    ensures settled { IfOk result (λ _. AllSettle desk.now workers.old workers.new) }
+    ensures settled { IfOk result (λ _. AllSettle desk.now.history workers.old workers.new) }
     ensures stranger { IfErr result (λ f. (who : _) × IsStranger who f) }
 {
     for worker in workers.iter_mut() {

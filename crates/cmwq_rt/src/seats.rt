@@ -2,7 +2,7 @@
 ghost use Rattle.std.specs.Prelude.{◌≡◌, ◌+◌, ◌<◌, ◌≤◌, [], IfOk, IfErr, MatchOption, MatchResult, None};
 ghost use Rattle.cmwq_model.specs.declared.id.Who.TheVariants as whos;
 ghost use Rattle.cmwq_model.specs.Layout.{Layout};
-ghost use Rattle.cmwq_core.specs.Tables.{IsThere};
+ghost use Rattle.cmwq_core.specs.History.{IsThere};
 ghost use Rattle.cmwq_desk.specs.Seats.{newcomer};
 ghost use Rattle.cmwq_desk.specs.declared.fault.RunFault.TheVariants.{NoPlace};
 ghost use Rattle.cmwq_rt.specs.Places.{Places, after_worker, all_free, AreCounts};

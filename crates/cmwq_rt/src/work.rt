@@ -69,7 +69,7 @@ impl<'a, N: HubName, R: Wait> RunCtx<'a, N, R> {
         ensures refused { IfErr result (λ f. Refused N.layout self.old call f self.new) }
     {
         let _who = self.seat.who();
-        self.hub.serve(self.rt, &mut self.seat, call)
+        self.hub.call(self.rt, &mut self.seat, call)
     }
 
     /// Queues an item (`queue_work_on`): one entry of the worker.

@@ -3,6 +3,7 @@ ghost use Rattle.std.specs.Prelude.{◌≡◌, ◌+◌, ◌<◌, false, IfOk, If
 ghost use mathlib.Core.List.{IsPrefix};
 ghost use Rattle.cmwq_model.specs.Legal.{past_of, IsLegal};
 ghost use Rattle.cmwq_desk.specs.Seats.{is_caller};
+ghost use Rattle.cmwq_desk.specs.Held.{active_in};
 ghost use Rattle.cmwq_desk.specs.Faults.{IsStranger};
 ghost use Rattle.cmwq_rt.specs.Later.{Later};
 ghost use Rattle.cmwq_desk.specs.Settled.{Settles};
@@ -42,7 +43,7 @@ impl<N: HubName> Worker<N> {
     }
 
     pub(crate) fn settle(&mut self, desk: &Desk<N>) -> Result<(), RunFault>
-        ensures settled { IfOk result (λ _. Settles desk.now self.old self.new) }
+        ensures settled { IfOk result (λ _. Settles desk.now.history self.old self.new) }
         ensures stranger { IfErr result (λ f. (self.new ≡ self.old) × IsStranger self.old f) }
     {
         desk.settle(&mut self.seat)
@@ -65,7 +66,7 @@ impl<N: HubName> Worker<N> {
 
 impl<N: HubName> Hub<N> {
     /// A worker's loop (`worker_thread`): it starts what it may start, runs the work function once for each start, and goes when the
-    /// hub is closed and no active queueing is open. It answers how many entries it made. Between runs it sleeps, or goes to the
+    /// hub is closed and no active queueing is open, as it then sees. It answers how many entries it made. Between runs it sleeps, or goes to the
     /// pool's reserve where it would be sent there.
     ///
     /// # Errors
@@ -76,6 +77,7 @@ impl<N: HubName> Hub<N> {
         worker: &mut Worker<N>,
         work: &W,
     ) -> Result<u32, RunFault>
+        ensures idle { IfOk result (λ _. active_in N.layout worker.new.seen ≡ 0) }
         ensures count { IfOk result (λ n. worker.new.serial ≡ worker.old.serial + n) }
         ensures seen { IsPrefix worker.old.seen worker.new.seen }
         ensures legal { IsLegal N.layout (past_of worker.new.seen) }
@@ -102,7 +104,8 @@ impl<N: HubName> Hub<N> {
         work: &W,
     ) -> Result<(), RunFault>
         requires { is_caller seat.old.who ≡ false }
-        ensures { Later seat.old seat.new }
+        ensures idle { IfOk result (λ _. active_in N.layout seat.new.seen ≡ 0) }
+        ensures later { Later seat.old seat.new }
     {
         let mut next = self.until_start(rt, self.lock(rt), seat)?;
         for _ in rt.forever() {
@@ -118,12 +121,12 @@ impl<N: HubName> Hub<N> {
     /// Ends the run, and starts the next one: in one hold of the lock, if there is one now.
     fn go_on<R: Wait>(&self, rt: &R, seat: &mut Seat<N>) -> Result<Option<ItemId>, RunFault>
         requires { is_caller seat.old.who ≡ false }
-        ensures item { IfOk result (λ o. MatchOption o (Unit {0}) (λ item. item.0 < N.layout.items)) }
+        ensures item { IfOk result (λ o. MatchOption o (active_in N.layout seat.new.seen ≡ 0) (λ item. item.0 < N.layout.items)) }
         ensures later { Later seat.old seat.new }
     {
         let mut desk = self.lock(rt);
         let _who = seat.who();
-        if let Err(fault) = desk.serve(rt, seat, Call::Finish) {
+        if let Err(fault) = desk.call(rt, seat, Call::Finish) {
             self.leave(desk);
             return Err(fault);
         }

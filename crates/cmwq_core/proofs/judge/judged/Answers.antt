@@ -5,7 +5,7 @@ use Rattle.cmwq_core.proofs.judge.judged.Goals as goal
 
 pub append-requires-clause-room : goal.append-requires-clause-room
 append-requires-clause-room c =
-    let few = owed_few c.args.book.now.layout (_ ∷ past_of c.args.book.now.entries) c.requires.inside c.effect-effect.ensures.is.legal in
+    let few = owed_few c.args.state.now.layout (_ ∷ past_of c.args.state.now.entries) c.requires.inside c.effect-effect.ensures.is.legal in
     let owing = c.effect-effect.ensures.is.owing in
     let room = c.requires.room in
     omega arith

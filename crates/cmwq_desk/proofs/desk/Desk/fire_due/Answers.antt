@@ -1,4 +1,4 @@
-use Rattle.std.proofs.Common.{◌≡◌, true, ap, sym, ◌∙◌, refl, arith, subst}
+use Rattle.std.proofs.Common.{ap, sym, ◌∙◌, refl, arith, subst}
 use Rattle.cmwq_model.specs.Layout.{Layout}
 use Rattle.cmwq_model.specs.declared.call.Call.TheVariants as calls
 use Rattle.cmwq_desk.specs.Seats.{is_caller}
@@ -14,6 +14,7 @@ loop-init g c = (
   c.requires.step,
   c.requires.caller,
   ap (λ (s : Layout). s.items) (c.counts-end.ensures.counts ∙ c.self.invariant.0),
+  (refl, refl),
 )
 
 pub enter-requires-clause-fits : goal.enter-requires-clause-fits
@@ -23,13 +24,13 @@ pub enter-requires-clause-step : goal.enter-requires-clause-step
 enter-requires-clause-step g c = c.loop.invariant.1
 
 pub returns-in-Err-Memory-clause-short : goal.returns-in-Err-Memory-clause-short
-returns-in-Err-Memory-clause-short g c = (refl, up_to_some g.N.HubName.layout c.loop.counter c.args.seat.now c.loop.seat c.enter.new.seat c.loop.invariant.0 c.in-Err-Memory.ensures.short.1)
+returns-in-Err-Memory-clause-short g c = (refl, up_to_some g.N.HubName.layout c.loop.counter c.args.seat.now c.loop.seat c.enter.new.seat c.loop.invariant.0 c.in-Err-Memory.ensures.short.0)
 
 pub returns-in-Err-Room-clause-fired : goal.returns-in-Err-Room-clause-fired
 returns-in-Err-Room-clause-fired g c =
     let s = g.N.HubName.layout in
-    let short : Lacks s c.enter.new.seat calls.Fire Room = subst (Lacks s c.enter.new.seat calls.Fire) c.in-Err-Room.field-0-is c.in-Err-Room.ensures.short.2 in
-    up_to_full s c.loop.counter c.args.seat.now c.loop.seat c.enter.new.seat (let less = c.loop-test.true in let end = c.loop.invariant.3 in omega (arith, less, end)) c.loop.invariant.0 c.in-Err-Room.ensures.short.1 short c.seen-legal-in-Err-Room.ensures.legal
+    let short : Lacks s c.loop.self c.enter.new.seat calls.Fire Room c.enter.new.self = subst (λ what. Lacks s c.loop.self c.enter.new.seat calls.Fire what c.enter.new.self) c.in-Err-Room.field-0-is c.in-Err-Room.ensures.short.1 in
+    up_to_full s c.loop.counter c.args.seat.now c.loop.seat c.enter.new.seat (let less = c.loop-test.true in let end = c.loop.invariant.3 in omega (arith, less, end)) c.loop.invariant.0 c.in-Err-Room.ensures.short.0 short.0 c.seen-legal-in-Err-Room.ensures.legal
 
 pub returns-then-is_nothing-clause-fired : goal.returns-then-is_nothing-clause-fired
 returns-then-is_nothing-clause-fired g c =
@@ -43,6 +44,7 @@ loop-preserved g c = (
   c.enter.ensures.step,
   ap is_caller c.in-Ok.ensures.made.gains.same ∙ c.loop.invariant.2,
   c.loop.invariant.3,
+  (c.in-Ok.ensures.goes_on.0 ∙ c.loop.invariant.4.0, c.in-Ok.ensures.goes_on.1 ∙ c.loop.invariant.4.1),
 )
 
 pub returns-clause-fired : goal.returns-clause-fired

@@ -1,4 +1,4 @@
-use Rattle.std.proofs.Common.{◌≡◌, ◌≤◌, ◌+◌, ◌∙◌, sym, ap, refl, arith, subst, take, List}
+use Rattle.std.proofs.Common.{◌∙◌, refl, arith, subst, List}
 use Rattle.cmwq_model.specs.declared.call.Call.{Call}
 use Rattle.std.proofs.lemmas.List.{take_all}
 use Rattle.cmwq_rt.specs.Scripts.{HasFollowed}

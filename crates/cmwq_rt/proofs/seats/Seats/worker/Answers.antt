@@ -1,5 +1,5 @@
-use Rattle.std.proofs.Common.{arith, subst, sym, ◌≡◌, ◌+◌}
-use Rattle.std.specs.Prelude.{Option, Some, MatchOption}
+use Rattle.std.proofs.Common.{arith, subst, sym, ◌+◌}
+use Rattle.std.specs.Prelude.{Option, Some}
 use Rattle.cmwq_model.specs.declared.id.WorkerId.{WorkerId}
 use Rattle.cmwq_rt.specs.Places.{IsNextPlace}
 use Rattle.cmwq_rt.proofs.Placing.{next_place}

@@ -1,8 +1,0 @@
-use Rattle.cmwq_model.specs.Legal.{past_of}
-use Rattle.cmwq_model.specs.Layout.{layout_of}
-use Rattle.cmwq_core.proofs.Readings.{draining_read}
-use Rattle.cmwq_core.proofs.book.Book.is_draining.Goals as goal
-
-pub returns : goal.returns
-returns c = let b = c.self.inside in let here = rw (← c.self.view_is) at c.requires in
-    rw (← c.self.view_is) (draining_read (layout_of b.counts b.queues.items) (past_of b.entries.items) b.books.items c.args.queue.0 c.from.result c.index.result.now c.draining.result c.self.invariant.parts_are.books here c.from.ensures c.index.ensures c.draining.ensures)

@@ -1,8 +1,0 @@
-use Rattle.std.proofs.Common.{◌∙◌, ap, is_some}
-use Rattle.cmwq_model.specs.Legal.{past_of}
-use Rattle.cmwq_core.proofs.Marked.{running}
-use Rattle.cmwq_core.proofs.book.Book.is_running.Goals as goal
-
-pub returns : goal.returns
-returns c = let b = c.args.self.now in
-    c.is_some.ensures ∙ (ap is_some c.item_run.ensures.is ∙ running b.layout (past_of b.entries) c.args.item.0 c.item_run.ensures.legal)

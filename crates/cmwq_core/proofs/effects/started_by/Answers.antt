@@ -1,0 +1,10 @@
+use Rattle.std.proofs.Common.{◌∙◌, ap}
+use Rattle.cmwq_model.specs.Legal.{past_of}
+use Rattle.cmwq_core.specs.Effects.{started_from}
+use Rattle.cmwq_ties.proofs.FlightKinds.{legal_before}
+use Rattle.cmwq_core.proofs.Effecting.{starts_from}
+use Rattle.cmwq_core.proofs.effects.started_by.Goals as goal
+
+pub returns : goal.returns
+returns c = let b = c.args.state.now in
+    c.started_from.ensures ∙ (ap (started_from c.args.entry.reply) c.next_for.ensures ∙ starts_from b.layout (past_of b.entries) c.args.entry c.requires.legal (legal_before b.layout (past_of b.entries) c.args.entry c.requires.legal))

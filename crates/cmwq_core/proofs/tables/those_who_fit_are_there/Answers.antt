@@ -1,5 +1,0 @@
-use Rattle.cmwq_core.proofs.Steps.{fits_there}
-use Rattle.cmwq_core.proofs.tables.those_who_fit_are_there.Goals as goal
-
-pub returns : goal.returns
-returns c = fits_there

@@ -1,0 +1,17 @@
+use Rattle.std.proofs.Common.{◌≡◌, ap, refl, false, inr}
+use Rattle.cmwq_model.specs.declared.call.Call.TheVariants as calls
+use Rattle.cmwq_model.specs.Legal.{past_of}
+use Rattle.cmwq_model.specs.Room.{has_room}
+use Rattle.cmwq_desk.specs.Held.{Held}
+use Rattle.cmwq_desk.proofs.Entering.{room_is}
+use Rattle.cmwq_desk.proofs.desk.Desk.retire.Goals as goal
+
+pub returns-in_default-clause-kept : goal.returns-in_default-clause-kept
+returns-in_default-clause-kept g c =
+    let s = g.N.HubName.layout in
+    let log = c.args.self.now.history in
+    let v = c.args.seat.now in
+    let held : c.self.inside.book.entries ≡ log = ap (λ (h : Held). h.history) c.self.view_is in
+    let full : has_room s s.room (past_of log) v.who calls.Retire ≡ false =
+    room_is s c.self.inside.book log c.who-who.result v.who calls.Retire false c.self.invariant.1 c.self.invariant.2 held c.who-who.ensures.who c.in_default.ensures.room in
+    (refl, inr full)

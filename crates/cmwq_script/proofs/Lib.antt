@@ -1,0 +1,8 @@
+mod Lists
+mod Naming
+mod Gating
+mod Readings
+mod CallLimits
+mod ActionLimits
+mod PartLimits
+mod Within

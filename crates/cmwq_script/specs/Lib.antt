@@ -1,0 +1,13 @@
+pub mod Then
+pub mod Words
+pub mod Lists
+pub mod Known
+pub mod Calls
+pub mod Gates
+pub mod Actions
+pub mod Items
+pub mod Queues
+pub mod Callers
+pub mod Runs
+pub mod Views
+pub mod Scripts

@@ -1,0 +1,21 @@
+//! Reads what a JSON value says of a run on threads: its shape, what each item does and the scripts of its callers, or which member of it
+//! is refused first.
+#![tactic(auto)]
+
+mod action;
+mod call;
+mod caller;
+mod gates;
+mod item;
+mod names;
+mod parts;
+mod queue;
+mod script;
+mod top;
+mod word;
+
+pub use action::Action;
+pub use script::{Script, read_script};
+
+#[cfg(test)]
+mod tests;

@@ -1,0 +1,85 @@
+//! A script of a run, as a JSON value names it.
+
+ghost use Rattle.std.specs.Prelude.{◌≡◌, IfOk};
+ghost use Rattle.serde_json.specs.View.{view};
+ghost use Rattle.cmwq_json.specs.Scripts.{told};
+ghost use Rattle.cmwq_script.specs.Runs as spec;
+ghost use Rattle.cmwq_script.specs.Scripts.{run_of, MayRun};
+ghost use Rattle.cmwq_script.specs.Views.{top_of};
+
+use crate::action::Action;
+use crate::caller::read_callers;
+use crate::item::{Items, read_items};
+use crate::names::Names;
+use crate::queue::read_queues;
+use crate::top::Top;
+use cmwq_input::{Part, Refused};
+use cmwq_json::Members;
+use cmwq_model::{Call, Counts, Shape};
+use serde_json::Value;
+use std::alloc::{AllocError, Global};
+
+/// What a run does: its shape, what the function of each item does, the names of the gates, and the calls of each caller.
+#[derive(Drop)]
+pub struct Script {
+    pub shape: Shape,
+    /// The actions of each item, by its number.
+    pub does: Vec<Vec<Action>>,
+    /// The name of each gate, by its number.
+    pub gates: Vec<String>,
+    /// The calls of each caller, by its number.
+    pub callers: Vec<Vec<Call>>,
+}
+
+/// The script of these parts.
+fn read_lists(alloc: Global, top: &Top<'_>) -> Result<Result<Script, Refused>, AllocError>
+    ensures says { IfOk result (λ r. told run_of r ≡ spec.with_queues (top_of top.now) (spec.queues_said (top_of top.now))) }
+    ensures within { IfOk result (λ r. IfOk r MayRun) }
+{
+    let queues = match read_queues(alloc, top.queues)? {
+        Ok(queues) => queues,
+        Err(refused) => return Ok(Err(refused)),
+    };
+    let Members { names, values } = queues;
+    let names = Names::new(alloc, top.items, names, top.cpus)?;
+    let items = match read_items(alloc, &names, top.items)? {
+        Ok(items) => items,
+        Err(refused) => return Ok(Err(refused)),
+    };
+    let callers = match read_callers(alloc, &names, top.callers)? {
+        Ok(callers) => callers,
+        Err(refused) => return Ok(Err(refused)),
+    };
+    let Items { members, gates } = items;
+    let does = members.values;
+    let counts = Counts {
+        cpus: top.cpus,
+        workers: top.workers,
+        callers: callers.len() as u8,
+        items: does.len() as u16,
+        room: top.room,
+    };
+    let shape = Shape::new(counts, values).unwrap();
+    let gates = gates.into_names(alloc)?;
+    Ok(Ok(Script {
+        shape,
+        does,
+        gates,
+        callers,
+    }))
+}
+
+/// The script of a run that a value names, or the first member that is refused: first the keys, their types and the numbers of the top,
+/// then the queues in order, then the items, then the callers. An Err is want of memory.
+pub fn read_script(alloc: Global, value: &Value) -> Result<Result<Script, Refused>, AllocError>
+    ensures says { IfOk result (λ r. told run_of r ≡ spec.run_said (view value.now)) }
+    ensures within { IfOk result (λ r. IfOk r MayRun) }
+{
+    match Top::read(value) {
+        Some(top) => read_lists(alloc, &top),
+        None => Ok(Err(Refused {
+            part: Part::Top,
+            index: 0,
+        })),
+    }
+}

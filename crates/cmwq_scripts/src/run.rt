@@ -1,0 +1,198 @@
+//! Scripts, each followed by a thread of its own, beside a thread for each worker.
+ghost use Rattle.std.specs.Prelude.{◌≡◌, ◌+◌, ◌<◌, ◌≤◌, ◌^◌, length, map, All, IfOk, count_by};
+ghost use Rattle.cmwq_model.specs.Legal.{past_of, IsLegal};
+ghost use Rattle.cmwq_model.specs.Queueings.{still_open};
+ghost use Rattle.cmwq_model.specs.Active.{is_active};
+ghost use Rattle.cmwq_model.specs.Scripted.{IsScripted};
+ghost use Rattle.cmwq_scripts.specs.Ended.{HaveEnded, AllFollow};
+
+use crate::ends::WorkerEnd;
+use crate::gather::{Ends, gather};
+use crate::start::{WorkerThread, start_callers, start_workers};
+use cmwq_model::{Call, Entry, Shape};
+use cmwq_rt::{Hub, HubName, HubParts, RunFault, Seats, Work};
+use std::alloc::{AllocError, Global};
+use std::marker::Brand;
+use std::sync::Wait;
+use std::thread;
+use std::thread::{Scope, Threads, join_promised};
+
+/// The history of a run on threads, how many entries its callers and workers count as theirs, and how many calls were left out for
+/// want of room.
+#[derive(Drop)]
+pub struct Report {
+    pub history: Vec<Entry>,
+    pub answered: u64,
+    pub full: u64,
+}
+
+// Runs all threads to their end.
+fn run_all<'s, E, N: HubName + Send + Sync + 's, W: Work + Sync, R: Threads + Wait + Sync>(
+    scope: &Scope<'s, E>,
+    rt: &'s R,
+    hub: &'s Hub<N>,
+    alloc: Global,
+    seats: Seats<N>,
+    scripts: &'s [Vec<Call>],
+    work: &'s W,
+) -> Result<Ends<N>, RunFault>
+    requires fresh { (seats.callers ≡ 0) × (seats.workers ≡ 0) }
+    requires few { length scripts.now ≤ 64 }
+    requires calls { All (λ s. All (IsScripted N.layout) s.items × (length s.items < 2 ^ 32)) scripts.now }
+    ensures each { IfOk result (λ r. HaveEnded N.layout scripts.now r.callers.items) }
+    ensures rest { IfOk result (λ r. (r.rest.parts + (length r.callers.items + length r.workers.items) ≡ 128) × (r.rest.amount ≡ 0)) }
+{
+    let mut seats = seats;
+    let handles = match start_callers(scope, rt, hub, alloc, &mut seats, scripts) {
+        Ok(handles) => handles,
+        Err(fault) => {
+            hub.fail(rt);
+            return Err(fault);
+        }
+    };
+    let working = match start_workers(scope, rt, hub, alloc, &mut seats, work) {
+        Ok(working) => working,
+        Err(fault) => {
+            hub.fail(rt);
+            return Err(fault);
+        }
+    };
+    let joined = join_promised(rt, handles);
+    hub.close(rt);
+    let ended = join_all(rt, alloc, working);
+    let Ok(callers) = joined else {
+        return Err(RunFault::NoMemory { ticket: None });
+    };
+    let Ok(workers) = ended else {
+        return Err(RunFault::NoMemory { ticket: None });
+    };
+    Ok(Ends {
+        callers,
+        workers,
+        rest: seats.into_rest(),
+    })
+}
+
+fn join_all<N: HubName, R: Threads>(
+    rt: &R,
+    alloc: Global,
+    threads: Vec<WorkerThread<N>>,
+) -> Result<Vec<WorkerEnd<N>>, AllocError>
+    ensures { IfOk result (λ v. length v.items ≡ length threads.items) }
+{
+    let mut threads = threads;
+    let mut all = Vec::new(alloc);
+    for _ in 0..threads.len() {
+        let Some(thread) = threads.pop() else {
+            return Err(AllocError);
+        };
+        all.push(thread.join(rt))?;
+    }
+    Ok(all)
+}
+
+// The report of a hub whose threads have ended.
+fn make_report<N: HubName, R: Wait>(
+    rt: &R,
+    hub: Hub<N>,
+    ends: Ends<N>,
+    scripts: &[Vec<Call>],
+) -> Result<Report, RunFault>
+    requires parts { N.parts ≡ 128 }
+    requires each { HaveEnded N.layout scripts.now ends.callers.items }
+    requires rest { (ends.rest.parts + (length ends.callers.items + length ends.workers.items) ≡ 128) × (ends.rest.amount ≡ 0) }
+    ensures legal { IfOk result (λ r. IsLegal N.layout (past_of r.history.items)) }
+    ensures counted { IfOk result (λ r. r.answered ≡ length r.history.items) }
+    ensures follow { IfOk result (λ r. AllFollow N.layout 0 (map (λ s. s.items) scripts.now) r.full r.history.items) }
+    ensures finished { IfOk result (λ r. count_by (is_active N.layout (past_of r.history.items)) (still_open (past_of r.history.items)) ≡ 0) }
+{
+    let mut desk = hub.into_desk();
+    let gathered = gather(&mut desk, ends, scripts);
+    let history = desk.end(rt);
+    match gathered {
+        Ok((answered, full)) => Ok(Report {
+            history,
+            answered,
+            full,
+        }),
+        Err(fault) => Err(fault),
+    }
+}
+
+// Runs all threads in a scope of their own.
+fn run_threads<'x, N: HubName + Send + Sync, W: Work + Sync, R: Threads + Wait + Sync>(
+    rt: &'x R,
+    hub: &'x Hub<N>,
+    alloc: Global,
+    seats: Seats<N>,
+    scripts: &'x [Vec<Call>],
+    work: &'x W,
+) -> Result<Ends<N>, RunFault>
+    requires fresh { (seats.callers ≡ 0) × (seats.workers ≡ 0) }
+    requires few { length scripts.now ≤ 64 }
+    requires calls { All (λ s. All (IsScripted N.layout) s.items × (length s.items < 2 ^ 32)) scripts.now }
+    ensures each { IfOk result (λ r. HaveEnded N.layout scripts.now r.callers.items) }
+    ensures rest { IfOk result (λ r. (r.rest.parts + (length r.callers.items + length r.workers.items) ≡ 128) × (r.rest.amount ≡ 0)) }
+{
+    thread::scope(
+        thread::scope_env(),
+        rt,
+        |scope| -> Result<Ends<N>, RunFault>
+            requires { (seats.callers ≡ 0) × (seats.workers ≡ 0) × (length scripts.now ≤ 64) × All (λ s. All (IsScripted N.layout) s.items × (length s.items < 2 ^ 32)) scripts.now }
+            ensures { IfOk result (λ r. HaveEnded N.layout scripts.entry.now r.callers.items × (r.rest.parts + (length r.callers.items + length r.workers.items) ≡ 128) × (r.rest.amount ≡ 0)) }
+        { run_all(scope, rt, hub, alloc, seats, scripts, work) },
+    )
+}
+
+// Runs the scripts on a hub of these parts.
+fn run_parts<'x, N: HubName + Send + Sync + 'static, W: Work + Sync, R: Threads + Wait + Sync>(
+    rt: &'x R,
+    alloc: Global,
+    parts: HubParts,
+    scripts: &'x [Vec<Call>],
+    work: &'x W,
+) -> Result<Report, RunFault>
+    requires layout { parts.shape ≡ N.layout }
+    requires book { parts.opening.book ≡ N.book }
+    requires ledger { (parts.blank.name ≡ N.name) × (parts.blank.parts ≡ N.parts) }
+    requires few { length scripts.now ≤ 64 }
+    requires calls { All (λ s. All (IsScripted N.layout) s.items × (length s.items < 2 ^ 32)) scripts.now }
+    ensures legal { IfOk result (λ r. IsLegal N.layout (past_of r.history.items)) }
+    ensures counted { IfOk result (λ r. r.answered ≡ length r.history.items) }
+    ensures follow { IfOk result (λ r. AllFollow N.layout 0 (map (λ s. s.items) scripts.now) r.full r.history.items) }
+    ensures finished { IfOk result (λ r. count_by (is_active N.layout (past_of r.history.items)) (still_open (past_of r.history.items)) ≡ 0) }
+{
+    let (hub, seats) = Hub::<N>::open(parts);
+    let ends = run_threads(rt, &hub, alloc, seats, scripts, work);
+    match ends {
+        Ok(ends) => make_report(rt, hub, ends, scripts),
+        Err(fault) => {
+            hub.into_desk().end(rt);
+            Err(fault)
+        }
+    }
+}
+
+/// Runs scripts on a new hub: a thread for each script, whose caller follows it, and one for each worker. Once all callers have ended the
+/// hub is closed, and the workers go on until no active queueing is open.
+///
+/// # Errors
+/// The first fault of a thread; `NoThread` where one can't be made; `NoPlace` where there are more scripts than callers; `Unfinished`
+/// where an active queueing is open at the end; `NoMemory`. All threads have ended then.
+pub fn run_scripts<'x, W: Work + Sync, R: Threads + Wait + Sync>(
+    rt: &'x R,
+    alloc: Global,
+    shape: &Shape,
+    scripts: &'x [Vec<Call>],
+    work: &'x W,
+) -> Result<Report, RunFault>
+    requires few { length scripts.now ≤ 64 }
+    requires calls { All (λ s. All (IsScripted shape.now) s.items × (length s.items < 2 ^ 32)) scripts.now }
+    ensures legal { IfOk result (λ r. IsLegal shape.now (past_of r.history.items)) }
+    ensures counted { IfOk result (λ r. r.answered ≡ length r.history.items) }
+    ensures follow { IfOk result (λ r. AllFollow shape.now 0 (map (λ s. s.items) scripts.now) r.full r.history.items) }
+    ensures finished { IfOk result (λ r. count_by (is_active shape.now (past_of r.history.items)) (still_open (past_of r.history.items)) ≡ 0) }
+{
+    let parts = HubParts::new(rt, alloc, shape)?;
+    run_parts::<Brand, W, R>(rt, alloc, parts, scripts, work)
+}

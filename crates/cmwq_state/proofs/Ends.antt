@@ -1,0 +1,102 @@
+-- What a ticket still waits for, and which booking fires first, read off the parts.
+use Rattle.std.proofs.Common.{◌≡◌, ℕ, ◌<◌, Bool, true, false, List, [], ◌∷◌, find, length, get_or, Option, Some, None, refl, sym, ap, ◌∙◌, subst, IsTrue, ◌↔◌}
+use Rattle.std.specs.Prelude.{Contains, slice_get, option_map, option_and_then}
+use Rattle.std.proofs.Common.{◌⊎◌, inl, inr}
+use Rattle.std.proofs.lemmas.List.{get_or_default}
+use Rattle.cmwq_model.specs.declared.id.QueueId.{QueueId}
+use Rattle.cmwq_model.specs.declared.id.ItemId.{ItemId}
+use Rattle.cmwq_model.specs.declared.call.Call.{Call}
+use Rattle.cmwq_model.specs.declared.call.Call.TheVariants as call
+use Rattle.cmwq_model.specs.declared.entry.Entry.{Entry}
+use Rattle.cmwq_model.specs.declared.record.Queueing.{Queueing}
+use Rattle.cmwq_model.specs.declared.record.Start.{Start}
+use Rattle.cmwq_model.specs.Layout.{Layout}
+use Rattle.cmwq_model.specs.Tickets.{unended, ticket_of, is_ticket}
+use Rattle.cmwq_model.specs.declared.id.Who.{Who}
+use Rattle.cmwq_ties.proofs.Members.{found, in_contained}
+use Rattle.cmwq_model.specs.Waits.{waits_for}
+use Rattle.cmwq_model.specs.Runs.{item_run}
+use Rattle.cmwq_model.specs.Queueings.{queueing_at, still_open}
+use Rattle.cmwq_model.specs.Legal.{IsLegal}
+use Rattle.cmwq_steps.proofs.EndsAsTold.{runs_are_queueings}
+use Rattle.cmwq_steps.proofs.RunsActive.{found_number}
+use Rattle.cmwq_state.specs.Flights.{run_open}
+use Rattle.cmwq_flush.specs.FlushBook.{FlushBook, flush_tickets, IsReady}
+use Rattle.cmwq_ties.specs.FlushBooks.{AreFlushes}
+use Rattle.cmwq_ties.proofs.FlushReads.{ready_flushes_wait_for_nothing, flushes_wait_for_least_open, drains_wait_for_least_open}
+use Rattle.cmwq_ties.specs.BarrierBooks.{wait_by, wait_for, barriers_of}
+use Rattle.cmwq_ties.proofs.BarrierEnds.{unended_waits_stand}
+use Rattle.cmwq_ties.proofs.BarrierReads.{barriers_wait_for_least}
+use Rattle.cmwq_flush.specs.BarrierBook.{BarrierBook, tickets_in, waits_for as book_waits_for}
+use Rattle.cmwq_model.specs.declared.record.Ticket.{Ticket}
+use Rattle.std.specs.Prelude.{is_some}
+use Rattle.cmwq_state.specs.Tables.{AreBooks, book_in, no_book}
+
+pub flushes_found : (s : Layout) (past : List Entry) (books : List FlushBook) (q i : ℕ) (v : FlushBook) → AreBooks s past books → q < length s.queues → i ≡ q → v ≡ get_or books i v → AreFlushes s past q v
+flushes_found s past books q i v are here at found =
+    let inside : i < length books = rw (at, are.many) here in
+    let book : v ≡ book_in books q = found ∙ (get_or_default books i v no_book inside ∙ ap (λ j. get_or books j no_book) at) in
+    subst (AreFlushes s past q) (sym book) (are.each q here)
+
+-- a flush that is ready waits for nothing, and another for the least that is open
+pub ready_for_none : (s : Layout) (past : List Entry) (q : QueueId) (b : FlushBook) (t : ℕ) (r : Bool) → AreFlushes s past q.0 b → Contains (flush_tickets b) t → IsTrue r ↔ IsReady b t → r ≡ true → None ≡ waits_for past t (call.Flush q)
+ready_for_none s past q b t r is here test h = sym ((ready_flushes_wait_for_nothing s past q b t is here).0 (test.0 h))
+
+pub waits_for_first : (s : Layout) (past : List Entry) (q : QueueId) (b : FlushBook) (t : ℕ) (r : Bool) → AreFlushes s past q.0 b → Contains (flush_tickets b) t → IsTrue r ↔ IsReady b t → r ≡ false → slice_get b.opened 0 ≡ waits_for past t (call.Flush q)
+waits_for_first s past q b t r is here test h = by (waits_for past t (call.Flush q)) refl
+  where
+    by : (o : Option ℕ) → waits_for past t (call.Flush q) ≡ o → slice_get b.opened 0 ≡ waits_for past t (call.Flush q)
+    by None none = let yes : r ≡ true = test.1 ((ready_flushes_wait_for_nothing s past q b t is here).1 none) in cc
+    by (Some n) some = flushes_wait_for_least_open s past q b t n is here some ∙ sym some
+
+-- nothing is found that never passes
+pub none_waited : (xs : List Queueing) → None ≡ option_map (λ (x : Queueing). x.number) (find (λ x. false) xs)
+none_waited xs = sym (ap (option_map (λ (x : Queueing). x.number)) (no_one xs))
+  where
+    no_one : (ys : List Queueing) → find (λ x. false) ys ≡ None
+    no_one [] = refl
+    no_one (y ∷ ys) = no_one ys
+
+pub other_waits : (past : List Entry) (n : ℕ) (c : Call) → ((q : QueueId) → c ≡ call.Flush q → ⊥) → ((q : QueueId) → c ≡ call.Drain q → ⊥) → ((i : ItemId) → c ≡ call.FlushItem i → ⊥)
+    → ((i : ItemId) → c ≡ call.FlushDelayed i → ⊥) → ((i : ItemId) → c ≡ call.CancelSync i → ⊥) → ((q : QueueId) → c ≡ call.Destroy q → ⊥) → None ≡ waits_for past n c
+other_waits past n (call.Flush q) a b d e f g = absurd (a q refl)
+other_waits past n (call.Drain q) a b d e f g = absurd (b q refl)
+other_waits past n (call.FlushItem i) a b d e f g = absurd (d i refl)
+other_waits past n (call.FlushDelayed i) a b d e f g = absurd (e i refl)
+other_waits past n (call.CancelSync i) a b d e f g = absurd (f i refl)
+other_waits past n (call.Destroy q) a b d e f g = absurd (g q refl)
+other_waits past n c a b d e f g = none_waited (still_open past)
+
+-- ---- what a cancel_sync waits for
+
+pub run_waits : (s : Layout) (past : List Entry) (i : ItemId) (o : Option Queueing) → IsLegal s past → run_open past i.0 ≡ o → option_map (λ (x : Queueing). x.number) o ≡ waits_for past 0 (call.CancelSync i)
+run_waits s past i o legal h = ap (option_map (λ (x : Queueing). x.number)) (sym h) ∙ by (item_run past i.0) refl
+  where
+    by : (t : Option Start) → item_run past i.0 ≡ t → option_map (λ (x : Queueing). x.number) (option_and_then (λ (u : Start). queueing_at past u.number) t) ≡ option_map (λ (u : Start). u.number) t
+    by None is = refl
+    by (Some u) is = let r = runs_are_queueings s past legal i.0 u is in
+        ap (option_map (λ (x : Queueing). x.number)) r.found ∙ ap Some (found_number past u.number r.queueing r.found)
+
+-- ---- what a flush of an item, a drain and a destroy wait for
+
+abbrev IsItemFlush : Call → Type 0
+IsItemFlush c = ((i : ItemId) × (c ≡ call.FlushItem i)) ⊎ ((i : ItemId) × (c ≡ call.FlushDelayed i))
+
+waits_item : (t : Ticket) → IsItemFlush t.call → is_some (wait_for t) ≡ true
+waits_item t (inl f) = ap (λ c. is_some (wait_by c t.number)) f.1
+waits_item t (inr f) = ap (λ c. is_some (wait_by c t.number)) f.1
+
+pub barrier_stands : (s : Layout) (past : List Entry) (t : Ticket) (b : BarrierBook) → b ≡ barriers_of s past → Contains (unended past) t → IsItemFlush t.call → Contains (tickets_in b.barriers) t.number
+barrier_stands s past t b is here item =
+    let P : BarrierBook → Type 0 = λ v. Contains (tickets_in v.barriers) t.number in
+    subst P (sym is) (unended_waits_stand s past t here (waits_item t item))
+
+pub barrier_waits : (s : Layout) (past : List Entry) (t : Ticket) (b : BarrierBook) → b ≡ barriers_of s past → IsLegal s past → Contains (unended past) t → IsItemFlush t.call → book_waits_for b t.number ≡ waits_for past t.number t.call
+barrier_waits s past t b is legal here item = ap (λ v. book_waits_for v t.number) is ∙ barriers_wait_for_least s past t legal here (waits_item t item)
+
+pub drain_waits : (s : Layout) (past : List Entry) (q : QueueId) (t : Ticket) (b : FlushBook) → AreFlushes s past q.0 b → (t.call ≡ call.Drain q) ⊎ (t.call ≡ call.Destroy q) → slice_get b.opened 0 ≡ waits_for past t.number t.call
+drain_waits s past q t b is (inl e) = sym (ap (waits_for past t.number) e ∙ (drains_wait_for_least_open s past q b t.number is).0)
+drain_waits s past q t b is (inr e) = sym (ap (waits_for past t.number) e ∙ (drains_wait_for_least_open s past q b t.number is).1)
+
+pub found_unended : (past : List Entry) (who : Who) (n : ℕ) (t : Ticket) → ticket_of past who n ≡ Some t → Contains (unended past) t
+found_unended past who n t h = in_contained (unended past) t (found (is_ticket who n) (unended past) t h).0

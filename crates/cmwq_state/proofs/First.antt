@@ -1,0 +1,118 @@
+-- The parts of a new book are those of no entries.
+use Rattle.std.proofs.Common.{◌≡◌, ℕ, Bool, ◌*◌, ◌≤◌, true, false, List, [], length, replicate, refl, sym, ◌∙◌, arith, None, subst}
+use Rattle.std.proofs.lemmas.List.{get_or-replicate, length-replicate}
+use Rattle.cmwq_model.specs.Layout.{Layout, is_layout}
+use Rattle.cmwq_model.specs.Calls.{now}
+use Rattle.cmwq_model.specs.Legal.{IsLegal}
+use Rattle.cmwq_model.specs.Room.{owed}
+use Rattle.cmwq_laws.proofs.WithinRoom.{steps_within_room}
+use Rattle.cmwq_pool.specs.Lineup.{Lineup, new_lineup}
+use Rattle.cmwq_flush.specs.FlushBook.{FlushBook, new_book}
+use Rattle.cmwq_flush.specs.BarrierBook.{BarrierBook, new_barriers}
+use Rattle.cmwq_ties.specs.FlushBooks.{AreFlushes}
+use Rattle.cmwq_ties.proofs.PoolSteps.{pools_at_first}
+use Rattle.cmwq_ties.proofs.FlushSteps.{flushes_at_first}
+use Rattle.cmwq_ties.proofs.BarrierSteps.{barriers_at_first}
+use Rattle.cmwq_ties.proofs.TimerSteps.{no_timers_at_first}
+use Rattle.cmwq_state.specs.Tables.{pool_place, no_pool, no_book, who_place}
+use Rattle.cmwq_model.specs.Queueings.{queueings}
+use Rattle.cmwq_steps.specs.Places.{active_count}
+use Rattle.cmwq_timer.specs.Rows.{Rows}
+use Rattle.cmwq_model.specs.Tickets.{tickets, is_gone}
+use Rattle.cmwq_model.specs.declared.record.Ticket.{Ticket}
+use Rattle.cmwq_ties.proofs.TicketsFollow.{no_tickets_at_first}
+use Rattle.cmwq_flight.specs.Flights.{Flight, no_flight}
+use Rattle.cmwq_ties.proofs.FlightFollow.{no_flights_at_first}
+use Rattle.cmwq_state.specs.Gone.{AreGone}
+use Rattle.cmwq_line.specs.Line.{Lined, new_lined, place_of}
+use Rattle.cmwq_line.proofs.Passes.{place_inside}
+use Rattle.cmwq_state.specs.Lines.{IsLineOf}
+use Rattle.cmwq_state.proofs.WidthSteps.{first_most, widths_at_first}
+use Rattle.cmwq_state.specs.State.{Parts, AreParts, IsState}
+use Rattle.cmwq_state.proofs.Follow.{IsSmall, pool_place_inside, who_below}
+use Rattle.cmwq_state.proofs.Steps.{small}
+
+abbrev pub first_parts : Layout → Parts
+first_parts s = record {
+  pools = replicate (2 * s.cpus) (new_lineup s.items s.workers);
+  books = replicate (length s.queues) (new_book s.callers);
+  barriers = new_barriers s.items s.callers;
+  timers = replicate s.items None;
+  time = 0;
+  serials = replicate 128 0;
+  flights = replicate s.items no_flight;
+  tickets = replicate s.callers [];
+  gone = replicate (length s.queues) false;
+  line = new_lined (length s.queues) (2 * s.items);
+  most = first_most s.queues;
+  frozen = false;
+  owing = 0;
+}
+
+nothing_owed : (s : Layout) → owed s [] ≡ 0
+unfolding owed
+nothing_owed s = let within = steps_within_room s 0 [] in omega arith
+
+first_time : 0 ≡ now []
+unfolding now
+first_time = refl
+
+gone_at_first : (s : Layout) → AreGone s [] (replicate (length s.queues) false)
+unfolding is_gone
+gone_at_first s = record {
+  many = length-replicate (length s.queues) false;
+  each = λ q here. get_or-replicate (length s.queues) q false false here;
+}
+
+line_at_first : (s : Layout) → IsLineOf s [] (new_lined (length s.queues) (2 * s.items))
+unfolding active_count queueings
+line_at_first s = record {
+  room = refl;
+  many = length-replicate (4 * length s.queues) (let n : ℕ = 0 in n);
+  waiting = refl;
+  counts = λ q c here less. get_or-replicate (4 * length s.queues) (place_of q c) 0 0 (place_inside q c (length s.queues) (4 * length s.queues) here less refl);
+}
+
+pub parts_at_first : (s : Layout) → IsSmall s → AreParts s [] (first_parts s)
+parts_at_first s small = record {
+  pools = record {
+    many = length-replicate (2 * s.cpus) (new_lineup s.items s.workers);
+    each = λ p here. get_or-replicate (2 * s.cpus) (pool_place p) (new_lineup s.items s.workers) no_pool (pool_place_inside p s.cpus (2 * s.cpus) refl here) ∙ sym (pools_at_first s p);
+  };
+  books = record {
+    many = length-replicate (length s.queues) (new_book s.callers);
+    each = λ q here. subst (AreFlushes s [] q) (sym (get_or-replicate (length s.queues) q (new_book s.callers) no_book here)) (flushes_at_first s q);
+  };
+  barriers = sym (barriers_at_first s);
+  timers = sym (no_timers_at_first s);
+  time = first_time;
+  serials = record {
+    many = length-replicate 128 (let n : ℕ = 0 in n);
+    each = λ who there. get_or-replicate 128 (who_place who) 0 0 (who_below s who there small.cpus small.workers small.callers);
+  };
+  flights = sym (no_flights_at_first s);
+  tickets = sym (no_tickets_at_first s);
+  gone = gone_at_first s;
+  line = line_at_first s;
+  widths = widths_at_first s;
+  owing = sym (nothing_owed s);
+}
+
+pub book_at_first : (s : Layout) (room capacity : ℕ) → is_layout s ≡ true → room ≤ 1010000 → room ≤ capacity → IsState s room [] capacity (first_parts s)
+unfolding IsLegal
+book_at_first s room capacity inside few reserved = record {
+  inside = inside;
+  few = few;
+  reserved = reserved;
+  legal = tt;
+  parts_are = parts_at_first s (small s inside);
+  within = omega arith;
+  soon = omega arith;
+}
+
+-- so the parts that are made are those of a book
+pub book_made : (s : Layout) (room capacity : ℕ) (pools : List Lineup) (books : List FlushBook) (barriers : BarrierBook) (timers : Rows) (serials : List ℕ) (flights : List Flight) (tickets : List (List Ticket)) (gone : List Bool) (line : Lined) (most : List ℕ) → is_layout s ≡ true → room ≤ 1010000 → room ≤ capacity →
+    pools ≡ replicate (2 * s.cpus) (new_lineup s.items s.workers) → books ≡ replicate (length s.queues) (new_book s.callers) → barriers ≡ new_barriers s.items s.callers → timers ≡ replicate s.items None → serials ≡ replicate 128 0 →
+    flights ≡ replicate s.items no_flight → tickets ≡ replicate s.callers [] → gone ≡ replicate (length s.queues) false → line ≡ new_lined (length s.queues) (2 * s.items) → most ≡ first_most s.queues →
+    IsState s room [] capacity (record { pools = pools; books = books; barriers = barriers; timers = timers; time = 0; serials = serials; flights = flights; tickets = tickets; gone = gone; line = line; most = most; frozen = false; owing = 0 })
+book_made s room capacity pools books barriers timers serials flights tickets gone line most inside few reserved p b r t n g h k l m = rw (p, b, r, t, n, g, h, k, l, m) (book_at_first s room capacity inside few reserved)

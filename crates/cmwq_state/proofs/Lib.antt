@@ -1,0 +1,15 @@
+pub mod Follow
+pub mod Steps
+pub mod First
+pub mod Listing
+pub mod LineSteps
+pub mod LineBehind
+pub mod GoneSteps
+pub mod WidthSteps
+pub mod Readings
+pub mod Counting
+pub mod Nexts
+pub mod Ends
+pub mod Firing
+pub mod Told
+pub mod Appended

@@ -1,0 +1,29 @@
+-- What became active is listed one after the other.
+use Rattle.std.proofs.Common.{◌≡◌, ℕ, ◌+◌, ◌<◌, true, List, [], ◌∷◌, length, filter, drop, cond, get_or, subst, IsTrue}
+use Rattle.std.proofs.lemmas.List.{drop_more}
+use Rattle.cmwq_model.specs.declared.id.PoolId.{PoolId}
+use Rattle.cmwq_model.specs.declared.record.Queueing.{Queueing}
+use Rattle.cmwq_model.specs.declared.shape.QueueShape.{QueueShape}
+use Rattle.cmwq_model.specs.Layout.{Layout, pool_at}
+use Rattle.cmwq_steps.specs.Activations.{is_in}
+use Rattle.cmwq_pool.specs.Lineup.{Lineup, may_add, added}
+use Rattle.cmwq_ties.specs.Pools.{MayAllBeAdded, task_for}
+use Rattle.cmwq_ties.proofs.PoolSeats.{pool_itself}
+use Rattle.cmwq_state.specs.Tables.{only, those_in, pool_in, MayListOne, IsListable}
+
+may_first : (queues : List QueueShape) (p : PoolId) (x : Queueing) (xs : List Queueing) (l : Lineup) → is_in (only queues) p x ≡ true → MayAllBeAdded (only queues) (those_in queues p (x ∷ xs)) l → IsTrue (may_add l x.number x.item.0)
+may_first queues p x xs l here may = (subst (λ b. MayAllBeAdded (only queues) (cond b (x ∷ filter (is_in (only queues) p) xs) (filter (is_in (only queues) p) xs)) l) here may).0
+
+pub may_list : (queues : List QueueShape) (pools : List Lineup) (xs : List Queueing) (i : ℕ) (d : Queueing) → i < length xs → IsListable queues pools (get_or xs i d) →
+    ((p : PoolId) → MayAllBeAdded (only queues) (those_in queues p (drop i xs)) (pool_in pools p)) → MayListOne queues (get_or xs i d) pools
+may_list queues pools xs i d inside there may =
+    let x = get_or xs i d in let p = pool_at (only queues) x.place in
+    record {
+      there = there;
+      may = may_first queues p x (drop (i + 1) xs) (pool_in pools p) (pool_itself (record { pool = p; index = 0 })) (subst (λ ys. MayAllBeAdded (only queues) (those_in queues p ys) (pool_in pools p)) (drop_more xs i d inside) (may p));
+    }
+
+-- what may be listed is the same for a layout and for its queues alone
+pub may_all_same : (s : Layout) (xs : List Queueing) (l : Lineup) → MayAllBeAdded s xs l → MayAllBeAdded (only s.queues) xs l
+may_all_same s [] l may = tt
+may_all_same s (x ∷ xs) l may = (may.0, may_all_same s xs (added l (task_for s x)) may.1)

@@ -1,0 +1,173 @@
+-- What a book reads off its parts is what the definitions say.
+use Rattle.std.proofs.Common.{◌≡◌, ℕ, ◌<◌, ◌≤◌, Bool, true, false, not, ◌&&◌, ◌||◌, ◌==◌, List, [], ◌∷◌, length, map, find, cond, Option, Some, None, is_some, refl, sym, ap, ap₂, ◌∙◌, subst, arith, nat_lt, nat_le}
+use Rattle.std.specs.Option.{option_map_or}
+use Rattle.std.specs.Prelude.{option_and_then, option_map}
+use Rattle.cmwq_model.specs.declared.id.WorkerId.{WorkerId}
+use Rattle.cmwq_model.specs.declared.id.Who.{Who}
+use Rattle.cmwq_model.specs.declared.id.Who.TheVariants.{Worker}
+use Rattle.cmwq_model.specs.declared.entry.Entry.{Entry}
+use Rattle.cmwq_model.specs.declared.record.Queueing.{Queueing}
+use Rattle.cmwq_model.specs.declared.record.Booking.{Booking}
+use Rattle.cmwq_model.specs.declared.record.Start.{Start}
+use Rattle.cmwq_model.specs.Layout.{Layout}
+use Rattle.cmwq_model.specs.Calls.{is_at, item_at}
+use Rattle.cmwq_model.specs.Bookings.{booking}
+use Rattle.cmwq_model.specs.Runs.{run, item_run}
+use Rattle.cmwq_model.specs.Queueings.{unstarted, queueing_at, queue_of, runs_elsewhere, still_open, is_item_open, is_of}
+use Rattle.cmwq_model.specs.Legal.{IsLegal}
+use Rattle.cmwq_steps.specs.ItemQueueings.{queueing_run}
+use Rattle.cmwq_steps.proofs.EndsAsTold.{runs_are_queueings}
+use Rattle.cmwq_timer.specs.declared.timer.Timer.{Timer}
+use Rattle.cmwq_ties.proofs.FirstDue.{in_standing, standing_fits}
+use Rattle.cmwq_ties.specs.Timers.{row_of, timer_for}
+use Rattle.std.proofs.Common.{zero, suc, filter, ◌++◌, option_to_list, get_or, IsTrue, ◌↔◌}
+use Rattle.std.proofs.lemmas.Bool.{lt-ltb, le-ltb}
+use Rattle.std.proofs.lemmas.List.{get_or_default}
+use Rattle.cmwq_model.specs.Tickets.{is_draining}
+use Rattle.cmwq_flush.specs.FlushBook.{FlushBook}
+use Rattle.cmwq_ties.proofs.FlushReads.{draining_while_drains_stand}
+use Rattle.cmwq_state.specs.Tables.{AreBooks, book_in, no_book}
+use Rattle.std.proofs.lemmas.Option.{same_Some}
+use Rattle.std.specs.List.{AllByRecursion}
+use Rattle.cmwq_model.specs.Queueings.{queueings, is_live, has_number}
+use Rattle.cmwq_model.specs.Tickets.{unended, ticket_of, is_ticket, is_crowded, is_held_by}
+use Rattle.cmwq_active.proofs.Lists.{count_by-none}
+use Rattle.cmwq_steps.proofs.Filters.{none_found}
+use Rattle.cmwq_steps.proofs.RunsActive.{found_known, found_number}
+use Rattle.cmwq_steps.proofs.ItemRuns.{runs_are_items}
+use Rattle.cmwq_pool.specs.declared.task.Task.{Task}
+use Rattle.cmwq_ties.specs.Told.{number_of_queueing}
+use Rattle.cmwq_ties.specs.Pools.{task_for, run_task}
+use Rattle.cmwq_ties.proofs.ItemNumbers.{run_then_unstarted}
+use Rattle.cmwq_ties.proofs.Members.{found, filter_in}
+use Rattle.cmwq_ties.proofs.PlacesFit.{open_there}
+use Rattle.cmwq_flight.specs.Flights.{Flight, flight_at}
+use Rattle.cmwq_ties.specs.Flights.{flight_of, flights_of}
+use Rattle.cmwq_ties.proofs.FlightFollow.{flights_for_items, row_of as flight_row}
+use Rattle.cmwq_state.specs.Flights.{run_open}
+
+pub some_mapped : {X Y : Type 0} (f : X → Y) (o : Option X) → is_some (option_map f o) ≡ is_some o
+some_mapped f None = refl
+some_mapped f (Some x) = refl
+
+-- what is in flight of an item
+pub flight_there : (s : Layout) (past : List Entry) (rows : List Flight) (i : ℕ) → rows ≡ flights_of s past → i < s.items → i < length rows
+flight_there s past rows i are here = rw (are, flights_for_items s past) here
+
+pub flight_read : (s : Layout) (past : List Entry) (rows : List Flight) (i : ℕ) → rows ≡ flights_of s past → i < s.items → flight_at rows i ≡ flight_of past i
+flight_read s past rows i are here = ap (λ (all : List Flight). flight_at all i) are ∙ flight_row s past i here
+
+-- the queue of an item's run
+pub elsewhere : (s : Layout) (past : List Entry) (i q : ℕ) → IsLegal s past → option_map_or (λ (x : Queueing). not (x.place.queue.0 == q)) (run_open past i) false ≡ runs_elsewhere past i q
+elsewhere s past i q legal = by (item_run past i) refl
+  where
+    by : (o : Option Start) → item_run past i ≡ o → option_map_or (λ (x : Queueing). not (x.place.queue.0 == q)) (option_and_then (λ (t : Start). queueing_at past t.number) o) false ≡ option_map_or (λ (t : Start). not (is_at (queue_of past t.number) q)) o false
+    by None h = refl
+    by (Some t) h = let r = runs_are_queueings s past legal i t h in
+        ap (λ o. option_map_or (λ (x : Queueing). not (x.place.queue.0 == q)) o false) r.found ∙ sym (ap (λ o. not (is_at (option_map (λ (x : Queueing). x.place.queue.0) o) q)) r.found)
+
+pub elsewhere_none : (s : Layout) (past : List Entry) (i q : ℕ) → IsLegal s past → run_open past i ≡ None → false ≡ runs_elsewhere past i q
+elsewhere_none s past i q legal none = ap (λ o. option_map_or (λ (x : Queueing). not (x.place.queue.0 == q)) o false) (sym none) ∙ elsewhere s past i q legal
+
+-- ---- tickets
+
+never : {X : Type 0} (p : X → Bool) (xs : List X) → ((x : X) → p x ≡ false) → AllByRecursion (λ x. p x ≡ false) xs
+never p [] h = tt
+never p (x ∷ xs) h = (h x, never p xs h)
+
+and_false : (b : Bool) → (b && false) ≡ false
+and_false true = refl
+and_false false = refl
+
+pub no_ticket : (past : List Entry) {who : Who} {w : WorkerId} (n : ℕ) → who ≡ Worker w → None ≡ ticket_of past who n
+no_ticket past {who} {w} n h = rw h (sym (none_found (is_ticket (Worker w) n) (unended past) (never (is_ticket (Worker w) n) (unended past) (λ t. and_false (t.number == n)))))
+
+pub not_crowded : (past : List Entry) {who : Who} {w : WorkerId} → who ≡ Worker w → false ≡ is_crowded past who
+not_crowded past {who} {w} h = rw h (sym (ap (nat_le 64) (count_by-none (is_held_by (Worker w)) (unended past) (never (is_held_by (Worker w)) (unended past) (λ t. refl)))))
+
+-- ---- an item is open where it runs or has an unstarted queueing
+
+abbrev has_any : List ℕ → Bool
+has_any [] = false
+has_any (n ∷ ns) = true
+
+found_any : (p : Queueing → Bool) (xs : List Queueing) → is_some (find p xs) ≡ has_any (map number_of_queueing (filter p xs))
+found_any p [] = refl
+found_any p (x ∷ xs) = by (p x) (found_any p xs)
+  where
+    by : (b : Bool) → is_some (find p xs) ≡ has_any (map number_of_queueing (filter p xs)) → is_some (cond b (Some x) (find p xs)) ≡ has_any (map number_of_queueing (cond b (x ∷ filter p xs) (filter p xs)))
+    by true h = refl
+    by false h = h
+
+either_any : (a b : Option ℕ) → has_any (option_to_list a ++ option_to_list b) ≡ (is_some a || is_some b)
+either_any None None = refl
+either_any None (Some n) = refl
+either_any (Some m) b = refl
+
+pub run_some : (s : Layout) (past : List Entry) (i : ℕ) → IsLegal s past → is_some (run_open past i) ≡ is_some (option_map (λ (t : Start). t.number) (item_run past i))
+run_some s past i legal = by (item_run past i) refl
+  where
+    by : (o : Option Start) → item_run past i ≡ o → is_some (option_and_then (λ (t : Start). queueing_at past t.number) o) ≡ is_some (option_map (λ (t : Start). t.number) o)
+    by None h = refl
+    by (Some t) h = let r = runs_are_queueings s past legal i t h in ap is_some r.found
+
+pub open_as : (s : Layout) (past : List Entry) (i : ℕ) → IsLegal s past → (is_some (run_open past i) || is_some (unstarted past i)) ≡ is_item_open past i
+open_as s past i legal =
+    ap₂ (λ a b. a || b) (run_some s past i legal) (sym (some_mapped number_of_queueing (unstarted past i)))
+    ∙ (sym (either_any (option_map (λ (t : Start). t.number) (item_run past i)) (option_map number_of_queueing (unstarted past i))) ∙ (ap has_any (sym (run_then_unstarted s past i legal)) ∙ sym (found_any (is_of i) (still_open past))))
+
+-- ---- what a worker's seat runs
+
+pub record SeatRuns (s : Layout) (past : List Entry) (w : WorkerId) (t : Task) : Type 0 where
+  pub item : t.item.0 < s.items
+  pub run : run_open past t.item.0 ≡ queueing_run past (Worker w)
+
+pub seat_runs : (s : Layout) (past : List Entry) (w : WorkerId) (t : Task) → IsLegal s past → run_task s past w ≡ Some t → SeatRuns s past w t
+seat_runs s past w t legal h = by (run past w) refl h
+  where
+    by_found : (n : ℕ) → run past w ≡ Some n → (o : Option Queueing) → queueing_at past n ≡ o → option_map (task_for s) o ≡ Some t → SeatRuns s past w t
+    by_found n is None at k = cc
+    by_found n is (Some x) at k =
+        let known = found_known past n x at in
+        let number = found_number past n x at in
+        let item : item_at past n ≡ Some x.item.0 = ap (item_at past) (sym number) ∙ known.item in
+        let starts = runs_are_items s past w n x.item.0 legal is item in
+        let r = runs_are_queueings s past legal x.item.0 (record { worker = w; number = n }) starts in
+        let same : r.queueing ≡ x = same_Some r.queueing x (sym r.found ∙ at) in
+        let live : is_live past x ≡ true = ap (is_live past) (sym same) ∙ r.live in
+        let stands = filter_in (is_live past) (queueings past) x (found (has_number n) (queueings past) x at).0 live in
+        let task : task_for s x ≡ t = same_Some (task_for s x) t k in
+        let of_task : x.item.0 ≡ t.item.0 = ap (λ (u : Task). u.item.0) task in
+        record {
+          item = subst (λ i. i < s.items) of_task (open_there s past x legal stands).item;
+          run = ap (run_open past) (sym of_task) ∙ (ap (option_and_then (λ (u : Start). queueing_at past u.number)) starts ∙ sym (ap (option_and_then (queueing_at past)) is));
+        }
+
+    by : (o : Option ℕ) → run past w ≡ o → option_map (task_for s) (option_and_then (queueing_at past) (run past w)) ≡ Some t → SeatRuns s past w t
+    by None is k = let bad : None ≡ Some t = sym (ap (λ o. option_map (task_for s) (option_and_then (queueing_at past) o)) is) ∙ k in cc
+    by (Some n) is k = by_found n is (queueing_at past n) refl (sym (ap (λ o. option_map (task_for s) (option_and_then (queueing_at past) o)) is) ∙ k)
+
+-- ---- draining
+
+pub as_test : (b : Bool) (n : ℕ) → IsTrue b ↔ (0 < n) → b ≡ nat_lt 0 n
+as_test true n h = sym (lt-ltb 0 n (h.0 refl))
+as_test false n h = sym (le-ltb 0 n (by n h))
+  where
+    by : (m : ℕ) → IsTrue false ↔ (0 < m) → m ≤ 0
+    by zero k = omega arith
+    by (suc m) k = let bad : false ≡ true = k.1 (omega arith) in cc
+
+pub draining_read : (s : Layout) (past : List Entry) (books : List FlushBook) (q i : ℕ) (v : FlushBook) (r : Bool) → AreBooks s past books → q < length s.queues → i ≡ q → v ≡ get_or books i v → IsTrue r ↔ (0 < length v.drains) → r ≡ is_draining past q
+draining_read s past books q i v r are here at found test =
+    let inside : i < length books = rw (at, are.many) here in
+    let book : v ≡ book_in books q = found ∙ (get_or_default books i v no_book inside ∙ ap (λ j. get_or books j no_book) at) in
+    as_test r (length v.drains) test ∙ (ap (λ (b : FlushBook). nat_lt 0 (length b.drains)) book ∙ sym (draining_while_drains_stand s past q (book_in books q) (are.each q here)))
+
+-- ---- bookings
+
+pub timer_there : (s : Layout) (past : List Entry) (i : ℕ) (t : Timer) → IsLegal s past → row_of past i ≡ Some t → t.place.queue.0 < length s.queues
+timer_there s past i t legal h = by (booking past i) refl h
+  where
+    by : (o : Option Booking) → booking past i ≡ o → option_map timer_for o ≡ Some t → t.place.queue.0 < length s.queues
+    by None is k = cc
+    by (Some b) is k = subst (λ (u : Timer). u.place.queue.0 < length s.queues) (same_Some (timer_for b) t k) (standing_fits s past b legal (in_standing past i b is)).queue

@@ -1,0 +1,10 @@
+use Rattle.std.proofs.Common.{◌∙◌, ap}
+use Rattle.cmwq_model.specs.Layout.{layout_of}
+use Rattle.cmwq_model.specs.Legal.{past_of}
+use Rattle.cmwq_ticket.specs.Rows.{Rows, is_being_destroyed}
+use Rattle.cmwq_ties.proofs.TicketsFollow.{destroyed_alike}
+use Rattle.cmwq_state.proofs.state.State.is_being_destroyed.Goals as goal
+
+pub returns : goal.returns
+returns c = let b = c.self.inside in
+    rw (← c.self.view_is) (c.is_being_destroyed.ensures ∙ (ap (λ (rows : Rows). is_being_destroyed rows c.args.queue.0) c.self.invariant.parts_are.tickets ∙ destroyed_alike (layout_of b.counts b.queues.items) (past_of b.entries.items) c.args.queue.0 c.self.invariant.legal))

@@ -1,0 +1,10 @@
+use Rattle.std.proofs.Common.{◌∙◌, ap}
+use Rattle.cmwq_model.specs.Layout.{layout_of}
+use Rattle.cmwq_model.specs.Legal.{past_of}
+use Rattle.cmwq_ticket.specs.Rows.{Rows, is_cancelling}
+use Rattle.cmwq_ties.proofs.TicketsFollow.{cancelling_alike}
+use Rattle.cmwq_state.proofs.state.State.is_cancelling.Goals as goal
+
+pub returns : goal.returns
+returns c = let b = c.self.inside in
+    rw (← c.self.view_is) (c.is_cancelling.ensures ∙ (ap (λ (rows : Rows). is_cancelling rows c.args.item.0) c.self.invariant.parts_are.tickets ∙ cancelling_alike (layout_of b.counts b.queues.items) (past_of b.entries.items) c.args.item.0 c.self.invariant.legal))

@@ -1,0 +1,11 @@
+use Rattle.std.proofs.Common.{◌≡◌, length, arith}
+use Rattle.std.proofs.lemmas.List.{length-reverse}
+use Rattle.cmwq_model.specs.Legal.{past_of}
+use Rattle.cmwq_state.proofs.state.State.len.Goals as goal
+
+pub returns-clause-needed : goal.returns-clause-needed
+returns-clause-needed c =
+    let b = c.self.inside in
+    let within = c.self.invariant.within in let owing = c.self.invariant.parts_are.owing in
+    let many : length (past_of b.entries.items) ≡ length b.entries.items = length-reverse b.entries.items in
+    rw (← c.self.view_is) (omega arith)

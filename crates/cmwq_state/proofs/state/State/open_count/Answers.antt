@@ -1,0 +1,10 @@
+use Rattle.std.proofs.Common.{◌∙◌, ap}
+use Rattle.cmwq_model.specs.Layout.{layout_of}
+use Rattle.cmwq_model.specs.Legal.{past_of}
+use Rattle.cmwq_flight.specs.Flights.{open_count}
+use Rattle.cmwq_ties.proofs.FlightReads.{open_are_in_flight}
+use Rattle.cmwq_state.proofs.state.State.open_count.Goals as goal
+
+pub returns : goal.returns
+returns c = let b = c.self.inside in
+    rw (← c.self.view_is) (c.open_count.ensures ∙ (ap open_count c.self.invariant.parts_are.flights ∙ open_are_in_flight (layout_of b.counts b.queues.items) (past_of b.entries.items) c.self.invariant.legal))

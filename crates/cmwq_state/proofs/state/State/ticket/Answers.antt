@@ -1,0 +1,10 @@
+use Rattle.std.proofs.Common.{◌∙◌, ap}
+use Rattle.cmwq_model.specs.Layout.{layout_of}
+use Rattle.cmwq_model.specs.Legal.{past_of}
+use Rattle.cmwq_ticket.specs.Rows.{Rows, any_ticket}
+use Rattle.cmwq_ties.proofs.TicketsFollow.{tickets_of_any_caller}
+use Rattle.cmwq_state.proofs.state.State.ticket.Goals as goal
+
+pub returns-clause-is : goal.returns-clause-is
+returns-clause-is c = let b = c.self.inside in
+    rw (← c.self.view_is) (c.any.ensures ∙ (ap (λ (rows : Rows). any_ticket rows c.args.number) c.self.invariant.parts_are.tickets ∙ tickets_of_any_caller (layout_of b.counts b.queues.items) (past_of b.entries.items) c.args.number c.self.invariant.legal))

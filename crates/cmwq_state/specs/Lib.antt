@@ -1,0 +1,8 @@
+pub mod Tables
+pub mod Flights
+pub mod Gone
+pub mod Lines
+pub mod Widths
+pub mod History
+pub mod Effects
+pub mod State

@@ -1,0 +1,62 @@
+-- What the parts of a state are of the past.
+use Rattle.std.specs.Prelude.{◌≡◌, ℕ, ◌+◌, ◌*◌, ◌^◌, ◌≤◌, true, Bool, List, length}
+use Rattle.cmwq_model.specs.declared.entry.Entry.{Entry}
+use Rattle.cmwq_model.specs.Layout.{Layout, is_layout}
+use Rattle.cmwq_model.specs.Calls.{now}
+use Rattle.cmwq_model.specs.Legal.{IsLegal, past_of}
+use Rattle.cmwq_model.specs.Room.{owed}
+use Rattle.cmwq_pool.specs.Lineup.{Lineup}
+use Rattle.cmwq_flush.specs.FlushBook.{FlushBook}
+use Rattle.cmwq_flush.specs.BarrierBook.{BarrierBook}
+use Rattle.cmwq_timer.specs.Rows.{Rows}
+use Rattle.cmwq_model.specs.declared.record.Ticket.{Ticket}
+use Rattle.cmwq_ties.specs.BarrierBooks.{barriers_of}
+use Rattle.cmwq_ties.specs.Timers.{timers_of}
+use Rattle.cmwq_line.specs.Line.{Lined}
+use Rattle.cmwq_flight.specs.Flights.{Flight}
+use Rattle.cmwq_ties.specs.Flights.{flights_of}
+use Rattle.cmwq_ties.specs.Tickets.{tickets_of}
+use Rattle.cmwq_state.specs.Gone.{AreGone}
+use Rattle.cmwq_state.specs.Lines.{IsLineOf}
+use Rattle.cmwq_state.specs.Widths.{AreWidths}
+use Rattle.cmwq_state.specs.Tables.{ArePools, AreBooks, AreSerials}
+
+-- the parts, as plain values
+pub record Parts : Type 0 where
+  pub pools : List Lineup
+  pub books : List FlushBook
+  pub barriers : BarrierBook
+  pub timers : Rows
+  pub time : ℕ
+  pub serials : List ℕ
+  pub flights : List Flight
+  pub tickets : List (List Ticket)
+  pub gone : List Bool
+  pub line : Lined
+  pub most : List ℕ
+  pub frozen : Bool
+  pub owing : ℕ
+
+-- what each part is of the past
+pub record AreParts (s : Layout) (past : List Entry) (parts : Parts) : Type 0 where
+  pub pools : ArePools s past parts.pools
+  pub books : AreBooks s past parts.books
+  pub barriers : parts.barriers ≡ barriers_of s past
+  pub timers : parts.timers ≡ timers_of s past
+  pub time : parts.time ≡ now past
+  pub serials : AreSerials s past parts.serials
+  pub flights : parts.flights ≡ flights_of s past
+  pub tickets : parts.tickets ≡ tickets_of s past
+  pub gone : AreGone s past parts.gone
+  pub line : IsLineOf s past parts.line
+  pub widths : AreWidths s past parts.most parts.frozen
+  pub owing : parts.owing ≡ owed s past
+
+pub record IsState (s : Layout) (room : ℕ) (entries : List Entry) (capacity : ℕ) (parts : Parts) : Type 0 where
+  pub inside : is_layout s ≡ true
+  pub few : room ≤ 1010000
+  pub reserved : room ≤ capacity
+  pub legal : IsLegal s (past_of entries)
+  pub parts_are : AreParts s (past_of entries) parts
+  pub within : length entries + parts.owing ≤ room
+  pub soon : parts.time ≤ length entries * 2 ^ 32

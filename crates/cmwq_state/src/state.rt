@@ -1,0 +1,253 @@
+//! The state, the reads of workers and counts, and the entry that is appended.
+
+ghost use Rattle.std.specs.Prelude.{◌≡◌, ◌<◌, ◌≤◌, ◌+◌, ◌^◌, [], true, length, count_by, nat_le, IfOk};
+ghost use Rattle.cmwq_model.specs.Layout.{is_layout, layout_of};
+ghost use Rattle.cmwq_model.specs.Calls as calls;
+ghost use Rattle.cmwq_model.specs.Legal.{past_of, IsLegal};
+ghost use Rattle.cmwq_model.specs.Queueings.{still_open};
+ghost use Rattle.cmwq_model.specs.Room.{needed, owed};
+ghost use Rattle.cmwq_model.specs.Active.{is_active};
+ghost use Rattle.cmwq_state.specs.Tables as tables;
+ghost use Rattle.cmwq_state.specs.Effects.{IsEffect};
+ghost use Rattle.cmwq_state.specs.History.{past_in, with_entry};
+
+mod first_due;
+mod reads;
+mod waits;
+mod workers;
+
+use crate::effect::Effect;
+use crate::new::{new_books, new_gone, new_most, new_pools, new_serials};
+use crate::tables::{
+    frozen_after, list_active, tell_barrier_begun, tell_barrier_done, tell_barriers, tell_begun,
+    tell_cancelled, tell_done, tell_ended, tell_flights, tell_gone, tell_line, tell_opened,
+    tell_tickets, tell_timers, tell_width, tell_worker, who_place,
+};
+use cmwq_flight::Flights;
+use cmwq_flush::{Barriers, Flushes};
+use cmwq_line::Line;
+use cmwq_model::{Call, Counts, Entry, NoMemory, QueueShape, Shape, Who};
+use cmwq_pool::Pool;
+use cmwq_ticket::Tickets;
+use cmwq_timer::Timers;
+use std::alloc::Global;
+use std::marker::Model;
+
+/// A history, and beside it the parts that answer without looking back. Contracts see the history, with its shape and its room.
+#[derive(Drop)]
+pub struct State {
+    counts: Counts,
+    queues: Vec<QueueShape>,
+    room: u32,
+    entries: Vec<Entry>,
+    pools: Vec<Pool>,
+    books: Vec<Flushes>,
+    barriers: Barriers,
+    timers: Timers,
+    time: u64,
+    serials: Vec<u32>,
+    flights: Flights,
+    tickets: Tickets,
+    gone: Vec<bool>,
+    line: Line,
+    most: Vec<u32>,
+    frozen: bool,
+    owing: u32,
+}
+
+impl Model for State {
+    ghost use Rattle.std.specs.Vec.{vec_capacity};
+    ghost use Rattle.cmwq_model.specs.Layout.{layout_of};
+    ghost use Rattle.cmwq_state.specs.History.{History};
+    ghost use Rattle.cmwq_state.specs.State.{IsState};
+
+    ghost Value = { History };
+
+    ghost view = { λ s. record { layout = layout_of s.counts s.queues.items; room = s.room; entries = s.entries.items } };
+
+    ghost invariant = { λ s. IsState (layout_of s.counts s.queues.items) s.room s.entries.items (vec_capacity s.entries)
+        (record { pools = s.pools.items; books = s.books.items; barriers = s.barriers; timers = s.timers; time = s.time; serials = s.serials.items; flights = s.flights; tickets = s.tickets; gone = s.gone.items; line = s.line; most = s.most.items; frozen = s.frozen; owing = s.owing }) };
+}
+
+fn ticks_of(call: Call) -> u32
+    ensures ticks { result ≡ calls.ticks_told call }
+    ensures small { result < 2 ^ 32 }
+{
+    match call {
+        Call::Tick { ticks } => ticks,
+        _ => 0,
+    }
+}
+
+impl State {
+    /// A state with no entries, and room for so many. No later call takes memory.
+    ///
+    /// # Errors
+    /// `NoMemory` where it ran out.
+    pub fn new(alloc: Global, shape: &Shape, room: u32) -> Result<State, NoMemory>
+        requires { room ≤ 1010000 }
+        ensures { IfOk result (λ state. state ≡ record { layout = shape.now; room = room; entries = [] }) }
+    {
+        State::start(alloc, shape.counts(), shape.queues().to_vec(alloc)?, room)
+    }
+
+    fn start(
+        alloc: Global,
+        counts: Counts,
+        queues: Vec<QueueShape>,
+        room: u32,
+    ) -> Result<State, NoMemory>
+        requires inside { is_layout (layout_of counts queues.items) ≡ true }
+        requires few { room ≤ 1010000 }
+        ensures { IfOk result (λ state. state ≡ record { layout = layout_of counts queues.items; room = room; entries = [] }) }
+    {
+        let many = queues.len();
+        let entries = Vec::with_capacity(alloc, room as usize)?;
+        let pools = new_pools(alloc, counts.cpus, counts.items, counts.workers)?;
+        let books = new_books(alloc, many, counts.callers)?;
+        let barriers = Barriers::new(alloc, counts.items, counts.callers)?;
+        let timers = Timers::new(alloc, counts.items)?;
+        let serials = new_serials(alloc)?;
+        let flights = Flights::new(alloc, counts.items)?;
+        let tickets = Tickets::new(alloc, counts.callers)?;
+        let gone = new_gone(alloc, many)?;
+        let line = Line::new(alloc, many, 2 * counts.items)?;
+        let most = new_most(alloc, &queues)?;
+        Ok(State {
+            counts,
+            queues,
+            room,
+            entries,
+            pools,
+            books,
+            barriers,
+            timers,
+            time: 0,
+            serials,
+            flights,
+            tickets,
+            gone,
+            line,
+            most,
+            frozen: false,
+            owing: 0,
+        })
+    }
+
+    /// How many entries there are.
+    pub fn len(&self) -> u32
+        ensures len { result ≡ length self.now.entries }
+        ensures within { length self.now.entries ≤ self.now.room }
+        ensures needed { needed self.now.layout (past_in self.now) ≤ self.now.room }
+        ensures few { self.now.room ≤ 1010000 }
+        ensures legal { IsLegal self.now.layout (past_in self.now) }
+    {
+        self.entries.len() as u32
+    }
+
+    /// The serial of the next entry of this caller or worker: how many entries it has.
+    pub fn serial(&self, who: Who) -> u32
+        requires { tables.IsThere self.now.layout who }
+        ensures is { result ≡ calls.serial_of (past_of self.now.entries) who }
+        ensures legal { IsLegal self.now.layout (past_of self.now.entries) }
+    {
+        self.serials[who_place(who)]
+    }
+
+    /// The tick that it is.
+    pub fn time(&self) -> u64
+        ensures time { result ≡ calls.now (past_of self.now.entries) }
+        ensures small { result < 2 ^ 63 }
+    {
+        self.time
+    }
+
+    /// Whether one more entry and what is owed then are within the room.
+    pub fn has_room(&self, owing: u32) -> bool
+        ensures { result ≡ nat_le (length self.now.entries + 1 + owing) self.now.room }
+    {
+        self.entries.len() as u64 + 1 + u64::from(owing) <= u64::from(self.room)
+    }
+
+    /// Appends an entry for which there is room, and tells each part what it does.
+    pub fn append(&mut self, effect: Effect)
+        requires is { IsEffect self.old.layout (past_of self.old.entries) effect }
+        requires room { length self.old.entries + 1 + effect.owing ≤ self.old.room }
+        ensures { self.new ≡ with_entry self.old effect.entry }
+    {
+        let entry = effect.entry;
+        tell_worker(&mut self.pools, entry.who, entry.reply);
+        tell_cancelled(&self.queues, &mut self.pools, entry.reply, effect.ended);
+        tell_width(&mut self.most, entry.call, entry.reply);
+        self.frozen = frozen_after(entry.reply, self.frozen);
+        tell_line(
+            &mut self.line,
+            &self.queues,
+            &self.most,
+            self.frozen,
+            entry.reply,
+            effect.ended,
+            effect.opened,
+        );
+        list_active(&self.queues, &mut self.pools, self.line.promoted());
+        tell_ended(&mut self.books, effect.ended);
+        tell_opened(&mut self.books, effect.opened);
+        tell_done(&mut self.books, effect.done);
+        tell_begun(&mut self.books, effect.begun);
+        tell_barriers(&mut self.barriers, effect.ended, effect.opened);
+        tell_barrier_done(&mut self.barriers, effect.done);
+        tell_barrier_begun(&mut self.barriers, effect.begun);
+        tell_flights(
+            &mut self.flights,
+            entry.reply,
+            effect.ended,
+            effect.started,
+            effect.opened,
+        );
+        tell_tickets(&mut self.tickets, effect.done, effect.begun);
+        tell_gone(&mut self.gone, effect.done);
+        tell_timers(&mut self.timers, effect.settled, effect.booked);
+        self.time += u64::from(ticks_of(entry.call));
+        self.serials[who_place(entry.who)] = entry.serial + 1;
+        self.owing = effect.owing;
+        self.entries.push_reserved(entry);
+    }
+
+    /// How many queueings are open.
+    pub fn open_count(&self) -> u32
+        ensures { result ≡ length (still_open (past_in self.now)) }
+    {
+        self.flights.open_count()
+    }
+
+    /// How many of them are active.
+    pub fn active_count(&self) -> u32
+        ensures { result ≡ count_by (is_active self.now.layout (past_in self.now)) (still_open (past_in self.now)) }
+    {
+        self.flights.open_count() - self.line.len() as u32
+    }
+
+    /// How many entries are owed.
+    pub fn owing(&self) -> u32
+        ensures is { result ≡ owed self.now.layout (past_of self.now.entries) }
+        ensures few { result ≤ 1010000 }
+        ensures legal { IsLegal self.now.layout (past_of self.now.entries) }
+    {
+        self.owing
+    }
+
+    /// The entries, the oldest first.
+    pub fn history(&self) -> &[Entry]
+        ensures entries { result.now ≡ self.now.entries }
+        ensures legal { IsLegal self.now.layout (past_of self.now.entries) }
+    {
+        &self.entries
+    }
+
+    /// The entries, the oldest first.
+    pub fn into_history(self) -> Vec<Entry>
+        ensures { result.items ≡ self.entries }
+    {
+        self.entries
+    }
+}

@@ -1,0 +1,66 @@
+//! What a ticket still waits for.
+
+ghost use Rattle.std.specs.Prelude.{◌≡◌, ◌<◌, Contains, length, true};
+ghost use Rattle.cmwq_model.specs.declared.call.Call.TheVariants as call;
+ghost use Rattle.cmwq_model.specs.Layout.{has_numbers};
+ghost use Rattle.cmwq_model.specs.Legal.{IsLegal, past_of};
+ghost use Rattle.cmwq_model.specs.Tickets.{is_flush_of, unended};
+ghost use Rattle.cmwq_model.specs.Waits.{waits_for};
+ghost use Rattle.cmwq_ties.specs.FlushBooks.{AreFlushes};
+
+use crate::state::State;
+use cmwq_flush::Flushes;
+use cmwq_model::{Call, ItemId, Number, QueueId, Ticket};
+
+impl State {
+    /// The flush book of a queue.
+    fn flushes(&self, queue: QueueId) -> &Flushes
+        requires { queue.0 < length self.now.layout.queues }
+        ensures is { AreFlushes self.now.layout (past_of self.now.entries) queue.0 result.now }
+        ensures legal { IsLegal self.now.layout (past_of self.now.entries) }
+    {
+        &self.books[usize::from(queue.0)]
+    }
+
+    fn flush_waits_for(&self, queue: QueueId, ticket: Ticket) -> Option<Number>
+        requires queue { queue.0 < length self.now.layout.queues }
+        requires flush { is_flush_of queue.0 ticket ≡ true }
+        requires unended { Contains (unended (past_of self.now.entries)) ticket }
+        ensures { result ≡ waits_for (past_of self.now.entries) ticket.number (call.Flush queue) }
+    {
+        let flushes = self.flushes(queue);
+        if flushes.ready(ticket.number) {
+            None
+        } else {
+            flushes.least_open()
+        }
+    }
+
+    /// The number of what an item runs.
+    fn run_number(&self, item: ItemId) -> Option<Number>
+        requires { item.0 < self.now.layout.items }
+        ensures { result ≡ waits_for (past_of self.now.entries) 0 (call.CancelSync item) }
+    {
+        match self.item_run(item) {
+            Some(queueing) => Some(queueing.number),
+            None => None,
+        }
+    }
+
+    /// What an unended ticket still waits for.
+    pub fn waits_for(&self, ticket: Ticket) -> Option<Number>
+        requires there { has_numbers self.now.layout ticket.call ≡ true }
+        requires unended { Contains (unended (past_of self.now.entries)) ticket }
+        ensures { result ≡ waits_for (past_of self.now.entries) ticket.number ticket.call }
+    {
+        match ticket.call {
+            Call::Flush { queue } => self.flush_waits_for(queue, ticket),
+            Call::Drain { queue } | Call::Destroy { queue } => self.flushes(queue).least_open(),
+            Call::FlushItem { .. } | Call::FlushDelayed { .. } => {
+                self.barriers.waits_for(ticket.number)
+            }
+            Call::CancelSync { item } => self.run_number(item),
+            _ => None,
+        }
+    }
+}

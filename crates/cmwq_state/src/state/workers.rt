@@ -1,0 +1,123 @@
+//! What pools and workers do, read off the pools.
+
+ghost use Rattle.std.specs.Prelude.{◌≡◌, ◌<◌, ◌&&◌, option_map};
+ghost use Rattle.cmwq_model.specs.declared.id.Who.TheVariants.{Worker};
+ghost use Rattle.cmwq_model.specs.Runs as runs;
+ghost use Rattle.cmwq_model.specs.Workers as workers;
+ghost use Rattle.cmwq_model.specs.Active as active;
+ghost use Rattle.cmwq_model.specs.Legal.{past_of, IsLegal};
+ghost use Rattle.cmwq_ties.specs.Pools.{IsSeatOf, pool_of, run_task};
+ghost use Rattle.cmwq_ties.specs.Told.{number_of_queueing};
+ghost use Rattle.cmwq_state.specs.Tables as tables;
+
+use crate::state::State;
+use crate::tables::pool_place;
+use cmwq_model::{Number, PoolId, Queueing, WorkerId};
+use cmwq_pool::{Pool, Seat};
+
+impl State {
+    /// The pool with this name.
+    pub(crate) fn pool(&self, pool: PoolId) -> &Pool
+        requires { pool.cpu.0 < self.now.layout.cpus }
+        ensures is { result.now ≡ pool_of self.now.layout (past_of self.now.entries) pool }
+        ensures legal { IsLegal self.now.layout (past_of self.now.entries) }
+    {
+        &self.pools[pool_place(pool)]
+    }
+
+    /// The seat of a worker in its pool.
+    pub(crate) fn seat(&self, worker: WorkerId) -> Seat
+        requires { tables.IsThere self.now.layout (Worker worker) }
+        ensures is { IsSeatOf (past_of self.now.entries) worker result }
+        ensures task { result.run ≡ run_task self.now.layout (past_of self.now.entries) worker }
+        ensures legal { IsLegal self.now.layout (past_of self.now.entries) }
+    {
+        self.pool(worker.pool).seat(worker.index)
+    }
+
+    /// Whether the worker has a run and is awake.
+    pub fn runs_awake(&self, worker: WorkerId) -> bool
+        requires { tables.IsThere self.now.layout (Worker worker) }
+        ensures { result ≡ runs.runs_awake (past_of self.now.entries) worker }
+    {
+        self.seat(worker).runs_awake()
+    }
+
+    /// Whether the worker has a run and sleeps.
+    pub fn runs_asleep(&self, worker: WorkerId) -> bool
+        requires { tables.IsThere self.now.layout (Worker worker) }
+        ensures { result ≡ runs.runs_asleep (past_of self.now.entries) worker }
+    {
+        self.seat(worker).runs_asleep()
+    }
+
+    /// Whether the worker has a run.
+    pub fn has_run(&self, worker: WorkerId) -> bool
+        requires { tables.IsThere self.now.layout (Worker worker) }
+        ensures { result ≡ runs.has_run (past_of self.now.entries) worker }
+    {
+        self.seat(worker).run.is_some()
+    }
+
+    /// Whether the worker is enlisted.
+    pub fn is_enlisted(&self, worker: WorkerId) -> bool
+        requires { tables.IsThere self.now.layout (Worker worker) }
+        ensures { result ≡ workers.is_enlisted (past_of self.now.entries) worker }
+    {
+        self.seat(worker).enlisted
+    }
+
+    /// Whether the worker is idle and may go back to the reserve.
+    pub fn may_retire(&self, worker: WorkerId) -> bool
+        requires { tables.IsThere self.now.layout (Worker worker) }
+        ensures { result ≡ (workers.is_idle (past_of self.now.entries) worker.pool worker.index && workers.may_retire self.now.layout (past_of self.now.entries) worker.pool) }
+    {
+        self.pool(worker.pool).may_retire(worker.index)
+    }
+
+    /// The number of the next queueing to start.
+    pub fn next(&self, pool: PoolId) -> Option<Number>
+        requires { pool.cpu.0 < self.now.layout.cpus }
+        ensures { result ≡ option_map number_of_queueing (active.next self.now.layout (past_of self.now.entries) pool) }
+    {
+        self.pool(pool).next()
+    }
+
+    /// How many runs hold the pool: those that are awake, but for those of CPU intensive queues.
+    pub fn runnable(&self, pool: PoolId) -> u32
+        requires { pool.cpu.0 < self.now.layout.cpus }
+        ensures { result ≡ workers.runnable self.now.layout (past_of self.now.entries) pool }
+    {
+        self.pool(pool).runnable()
+    }
+
+    /// The worker of the reserve that is enlisted where this one starts a queueing.
+    pub fn enlisted_by(&self, worker: WorkerId) -> Option<u8>
+        requires { tables.IsThere self.now.layout (Worker worker) }
+        ensures { result ≡ workers.enlisted_by self.now.layout (past_of self.now.entries) worker }
+    {
+        self.pool(worker.pool).would_enlist(worker.index)
+    }
+
+    /// The number of what the worker runs.
+    pub fn run(&self, worker: WorkerId) -> Option<Number>
+        requires { tables.IsThere self.now.layout (Worker worker) }
+        ensures { result ≡ runs.run (past_of self.now.entries) worker }
+    {
+        match self.seat(worker).run {
+            Some(task) => Some(task.number),
+            None => None,
+        }
+    }
+
+    /// What the pool would start next.
+    pub fn next_queueing(&self, pool: PoolId) -> Option<Queueing>
+        requires { pool.cpu.0 < self.now.layout.cpus }
+        ensures { result ≡ active.next self.now.layout (past_of self.now.entries) pool }
+    {
+        match self.pool(pool).next_task() {
+            Some(task) => self.unstarted(task.item),
+            None => None,
+        }
+    }
+}
