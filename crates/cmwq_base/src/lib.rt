@@ -10,7 +10,7 @@ mod writing;
 
 pub use cmwq_io::{
     BufferedSink, FailsAt, FromStd, Memory, ReadFault, Sink, Source, Trouble, WriteFault,
-    flush_all, write_all,
+    flush_all, tell, write_all,
 };
 pub use cmwq_model::{
     Booking, Call, CallerId, Counts, CpuId, Entry, Illegal, ItemId, Mark, NoMemory, Number, Place,

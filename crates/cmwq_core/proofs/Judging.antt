@@ -18,10 +18,6 @@ pub record AreJudged (s : Layout) (entries : List Entry) (k : ℕ) (b : History)
   pub legal : IsLegal s (past_of (take k entries))
   pub book : b ≡ book_at s entries k
 
-pub nothing_judged : (s : Layout) → IsLegal s []
-unfolding IsLegal
-nothing_judged s = tt
-
 module _ (s : Layout) (entries : List Entry) (k : ℕ) (d : Entry) where
   past_more : k < length entries → past_of (take (k + 1) entries) ≡ get_or entries k d ∷ past_of (take k entries)
   past_more h = ap reverse (take_more entries k d h) ∙ reverse-append (take k entries) (get_or entries k d ∷ [])

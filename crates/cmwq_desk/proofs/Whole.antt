@@ -20,10 +20,6 @@ use Rattle.cmwq_desk.specs.Steps.{HasFired, HasFiredSome, HasEnded, HasEndedSome
 use Rattle.cmwq_desk.proofs.Entries.{gains_none, gains_more}
 use Rattle.cmwq_desk.proofs.Firing.{ends_extended}
 
--- a hub that turns out to be another's says so of any call
-pub stranger_says : (s : Layout) (w : Seated) (c : Call) (f : RunFault) → IsStranger w f → Says s w c f
-stranger_says s w c f is = subst (λ g. Says s w c g) (sym is.2) is.3
-
 behind_tick : (s : Layout) (who : Who) (history made es : List Entry) (c : Call) (r : Reply) → is_tick c ≡ true → Fires s who history s.items made es → Behind s who history made c r es
 behind_tick s who history made es c r is fires = rw is fires
 
@@ -55,17 +51,6 @@ tick_broke s v m w c r f is none told x some =
     let e = own_entry s x.before v c in
     let left : ticket_left (e ∷ some.0) ≡ None = left_more e some.0 (ap ticket_given (sym x.reply) ∙ none) in
     inr (e, some.0, gains_more v m w (e ∷ []) some.0 x.gains some.1, (refl, rw is some.2), inl (told ∙ ap NoMemory (sym left)))
-
--- a call that gave no ticket
-pub begun_completes : (s : Layout) (v w : Seated) (c : Call) (r : Reply) → is_tick c ≡ false → ticket_given r ≡ None → Extends s v c r w → Completes s v c r w
-begun_completes s v w c r is none x =
-    let e = own_entry s x.before v c in record {
-      entries = e ∷ [];
-      gains = x.gains;
-      makes = record { first = e; rest = []; all = refl; is = (refl, sym x.reply); behind = rw (is, none) refl };
-      ends = ends_extended s v w c r x;
-      legal = x.legal;
-    }
 
 pub ended_completes : (s : Layout) (v m w : Seated) (c : Call) (r : Reply) (k : ℕ) → is_tick c ≡ false → ticket_given r ≡ Some k → Extends s v c r m → HasEnded s m c k w → Completes s v c r w
 ended_completes s v m w c r k is given x ended =

@@ -7,8 +7,8 @@ ghost use Rattle.cmwq_base.specs.declared.refusal.Refusal.{Refusal as TheRefusal
 ghost use Rattle.cmwq_engine.specs.Check.{CheckEnds, check_status};
 
 use crate::output::write_verdict;
-use crate::told::{refusal_status, tell_refusal};
-use cmwq_base::{Illegal, Refusal, Sink, Source, read_history};
+use crate::told::refusal_status;
+use cmwq_base::{Illegal, Refusal, Sink, Source, read_history, tell};
 use std::alloc::Global;
 
 /// Reads a history, and then writes its verdict. Answers its first entry that is wrong, if one is.
@@ -49,7 +49,7 @@ pub fn run_check<S: Source, O: Sink, E: Sink>(
 {
     let ended = judge(alloc, input, output);
     if let Err(refusal) = ended {
-        tell_refusal(errors, refusal);
+        tell(errors, refusal);
     }
     status(&ended)
 }

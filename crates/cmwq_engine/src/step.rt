@@ -7,8 +7,8 @@ ghost use Rattle.cmwq_engine.specs.Step.{StepEnds, step_status};
 
 use crate::history::steps_of;
 use crate::output::write_history;
-use crate::told::{refusal_status, tell_full, tell_refusal};
-use cmwq_base::{Refusal, Sink, Source, read_calls};
+use crate::told::{refusal_status, tell_full};
+use cmwq_base::{Refusal, Sink, Source, read_calls, tell};
 use std::alloc::Global;
 
 /// Reads a file of calls, and then writes the history that they make. Answers how many calls were left out for want of
@@ -46,7 +46,7 @@ pub fn run_step<S: Source, O: Sink, E: Sink>(
     match ended {
         Ok(0) => {}
         Ok(left_out) => tell_full(errors, u64::from(left_out)),
-        Err(refusal) => tell_refusal(errors, refusal),
+        Err(refusal) => tell(errors, refusal),
     }
     status(&ended)
 }

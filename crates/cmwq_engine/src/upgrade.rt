@@ -9,8 +9,8 @@ ghost use Rattle.cmwq_engine.specs.Upgrade.{UpgradeEnds, IsFlushed, NewestStay};
 
 use crate::judge::status;
 use crate::output::write_history;
-use crate::told::{tell_illegal, tell_refusal};
-use cmwq_base::{Illegal, Refusal, Sink, Source, read_history};
+use crate::told::tell_illegal;
+use cmwq_base::{Illegal, Refusal, Sink, Source, read_history, tell};
 use std::alloc::Global;
 
 /// Reads a history, and writes it in format 2 if it is legal. Answers its first entry that is wrong, if one is.
@@ -54,7 +54,7 @@ pub fn run_upgrade<S: Source, O: Sink, E: Sink>(
     match ended {
         Ok(None) => {}
         Ok(Some(illegal)) => tell_illegal(errors, illegal),
-        Err(refusal) => tell_refusal(errors, refusal),
+        Err(refusal) => tell(errors, refusal),
     }
     status(&ended)
 }

@@ -1,5 +1,5 @@
 use super::*;
-use cmwq_io::{FailsAt, Memory};
+use cmwq_io::{FailsAt, Memory, tell};
 use serde_json::Value;
 use std::test::Fail;
 
@@ -104,7 +104,7 @@ fn what_is_told(rt: HostRuntime) -> Result<(), Fail> {
         (Fault::WriteFault, "cmwq: write fault\n", 5),
     ] {
         let mut errors = Memory::writer(rt.alloc(), 64)?;
-        tell_fault(&mut errors, fault);
+        tell(&mut errors, fault);
         assert_eq!(rt; errors.as_slice(), text.as_bytes());
         assert_eq!(rt; fault_status(fault), status);
     }

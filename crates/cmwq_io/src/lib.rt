@@ -10,6 +10,7 @@ mod memory;
 mod patient;
 mod sink;
 mod source;
+mod telling;
 #[cfg(test)]
 mod tests;
 mod trouble;
@@ -22,4 +23,5 @@ pub use memory::Memory;
 pub use patient::{flush_all, read_some, write_all};
 pub use sink::Sink;
 pub use source::Source;
+pub use telling::tell;
 pub use trouble::{ReadFault, Trouble, WriteFault};

@@ -1,6 +1,6 @@
 use crate::{
     BufferedSink, FailsAt, Found, FromStd, Line, Lines, Memory, ReadFault, Sink, Source, Trouble,
-    WriteFault, flush_all, read_some, write_all,
+    WriteFault, flush_all, read_some, tell, write_all,
 };
 use std::io;
 use std::io::{ErrorKind, Read, Write};
@@ -227,5 +227,13 @@ fn the_last_flush_of_a_sink_counts_too(rt: HostRuntime) -> Result<(), Fail> {
     assert_eq!(rt; write_all(&mut sink, b"abc"), Ok(()));
     assert_eq!(rt; flush_all(&mut sink), Err(WriteFault));
     assert_eq!(rt; sink.inner().inner().as_slice(), b"abc".as_slice());
+    Ok(())
+}
+
+#[test]
+fn what_is_told_is_one_line(rt: HostRuntime) -> Result<(), Fail> {
+    let mut errors = Memory::writer(rt.alloc(), 64)?;
+    tell(&mut errors, format_args!("full {}", 3));
+    assert_eq!(rt; errors.as_slice(), b"cmwq: full 3\n".as_slice());
     Ok(())
 }

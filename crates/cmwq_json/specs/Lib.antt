@@ -5,5 +5,5 @@ pub mod Names
 pub mod Numbers
 pub mod Parts
 pub mod Queues
+pub mod Readings
 pub mod Scenarios
-pub mod Scripts

@@ -8,7 +8,7 @@ ghost use Rattle.cmwq_json.specs.InTurn.{in_turn};
 ghost use Rattle.cmwq_json.specs.Names.{nobody};
 ghost use Rattle.cmwq_json.specs.Members.{named_of};
 ghost use Rattle.cmwq_json.specs.Scenarios as spec;
-ghost use Rattle.cmwq_json.specs.Scripts.{items_of, script_of, told, HasLimits};
+ghost use Rattle.cmwq_json.specs.Readings.{items_of, with_names_of, told, HasLimits};
 
 use crate::keys::{array_at, has_keys};
 use crate::names::{Members, in_order, number_of, read_name};
@@ -22,7 +22,7 @@ use std::alloc::{AllocError, Global};
 
 /// A scenario, and the names of its items.
 #[derive(Drop)]
-pub struct Script {
+pub struct ScenarioWithNames {
     pub scenario: Scenario,
     pub names: Vec<String>,
 }
@@ -173,8 +173,8 @@ fn read_lists(
     alloc: Global,
     queues: &[Value],
     items: &[Value],
-) -> Result<Result<Script, Refused>, AllocError>
-    ensures says { IfOk result (λ r. told script_of r
+) -> Result<Result<ScenarioWithNames, Refused>, AllocError>
+    ensures says { IfOk result (λ r. told with_names_of r
         ≡ spec.items_then (items_view items.now) (in_turn spec.add_queue 0 nobody (items_view queues.now))) }
     ensures within_limits { IfOk result (λ r. IfOk r HasLimits) }
 {
@@ -199,7 +199,7 @@ fn read_lists(
         })),
     };
     let names = in_order(alloc, items.names)?;
-    Ok(Ok(Script {
+    Ok(Ok(ScenarioWithNames {
         scenario: Scenario {
             queues: queues.values,
             items: items.values,
@@ -210,8 +210,11 @@ fn read_lists(
 
 /// The scenario that a value names, or the first member that is refused: the keys and their types first, then the queues in
 /// order, then the items. An Err is want of memory.
-pub fn read_scenario(alloc: Global, value: &Value) -> Result<Result<Script, Refused>, AllocError>
-    ensures says { IfOk result (λ r. told script_of r ≡ spec.scenario_of (view value.now)) }
+pub fn read_scenario(
+    alloc: Global,
+    value: &Value,
+) -> Result<Result<ScenarioWithNames, Refused>, AllocError>
+    ensures says { IfOk result (λ r. told with_names_of r ≡ spec.scenario_of (view value.now)) }
     ensures within_limits { IfOk result (λ r. IfOk r HasLimits) }
 {
     const TOP: Refused = Refused {

@@ -8,8 +8,8 @@ ghost use Rattle.cmwq_input.specs.declared.refused.Refused.{Refused as TheRefuse
 ghost use Rattle.cmwq_json.specs.Scenarios.{PlanWithNames, scenario_of};
 ghost use Rattle.cmwq_replay.specs.Replay.{ReplayEnds, table_text, replay_status};
 
-use cmwq_input::{Fault, fault_status, read_value, tell_fault, write_text};
-use cmwq_io::{Sink, Source};
+use cmwq_input::{Fault, fault_status, read_value, write_text};
+use cmwq_io::{Sink, Source, tell};
 use cmwq_json::read_scenario;
 use cmwq_sim::spell_lines;
 use serde_json::Value;
@@ -58,7 +58,7 @@ pub fn run_replay<S: Source, O: Sink, E: Sink>(
 {
     let ended = replay(alloc, input, output);
     if let Err(fault) = ended {
-        tell_fault(errors, fault);
+        tell(errors, fault);
     }
     status(&ended)
 }

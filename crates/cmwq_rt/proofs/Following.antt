@@ -1,6 +1,7 @@
 -- A caller follows a script, one call after another.
-use Rattle.std.proofs.Common.{◌≡◌, ℕ, zero, suc, ◌+◌, ◌<◌, List, [], ◌∷◌, ◌++◌, Bool, true, false, length, refl, sym, ap, ◌∙◌, subst, inl, inr, arith, append-nil, length-append, Some, None, take, get_or}
+use Rattle.std.proofs.Common.{◌≡◌, ℕ, zero, suc, ◌+◌, ◌<◌, List, [], ◌∷◌, ◌++◌, Bool, true, false, length, refl, sym, ap, ◌∙◌, subst, inl, inr, arith, append-nil, length-append, Some, None, take, get_or, drop}
 use Rattle.std.proofs.lemmas.List.{take_more}
+use Rattle.std.proofs.Math.Seq.{split_at}
 use Rattle.std.specs.Prelude.{MatchBool, MatchOption, Option}
 use mathlib.Core.List.{IsPrefix}
 use Rattle.cmwq_model.specs.declared.id.Who.{Who}
@@ -12,10 +13,10 @@ use Rattle.cmwq_model.specs.Layout.{Layout}
 use Rattle.cmwq_desk.specs.Seats.{Seated, made_by}
 use Rattle.cmwq_desk.specs.Faults.{Refused}
 use Rattle.cmwq_desk.specs.declared.fault.RunFault.{RunFault}
-use Rattle.cmwq_desk.specs.declared.fault.RunFault.TheVariants.{Full}
+use Rattle.cmwq_desk.specs.declared.fault.RunFault.TheVariants.{NoMemory, Full, Unfinished, NoPlace, Closed, Stranger, NoThread}
 use Rattle.cmwq_desk.specs.Whole.{Completes, BrokeOff, Makes, Behind, EndsTicket, Fires, HadNoRoom, is_tick, is_drain, ticket_given}
 use Rattle.cmwq_desk.proofs.Beginnings.{prefix_self, prefix_trans}
-use Rattle.cmwq_rt.specs.Scripts.{Follows, HasFollowed}
+use Rattle.cmwq_rt.specs.Scripts.{Follows, HasFollowed, HasStopped, is_full}
 
 module _ (s : Layout) (who : Who) (old new : List Entry) (more : IsPrefix old new) where
   -- what holds of a history holds of a longer one
@@ -112,5 +113,29 @@ pub followed_skip : (s : Layout) (script : List Call) (k : ℕ) (d : Call) (full
 followed_skip s script k d full v w f lt is has broke =
     rw (take_more script k d lt) (followed_full s (take k script) (get_or script k d) full v w has (broke_full s v w (get_or script k d) (subst (λ g. BrokeOff s v (get_or script k d) g w) is broke)))
 
-pub refused_same : (s : Layout) (v w : Seated) (c : Call) (f : RunFault) → f ≡ Full → BrokeOff s v c f w → w.who ≡ v.who
-refused_same s v w c f is broke = (broke_full s v w c (subst (λ g. BrokeOff s v c g w) is broke)).0.same
+pub broke_same : (s : Layout) (v w : Seated) (c : Call) (f : RunFault) → BrokeOff s v c f w → w.who ≡ v.who
+broke_same s v w c f (inl refused) = refused.0.same
+broke_same s v w c f (inr (e, es, gains, part, stops)) = gains.same
+
+pub told_full : (f : RunFault) → is_full f ≡ true → f ≡ Full
+told_full Full is = refl
+told_full (NoMemory ticket) is = absurd (cc is)
+told_full Unfinished is = absurd (cc is)
+told_full NoPlace is = absurd (cc is)
+told_full Closed is = absurd (cc is)
+told_full (Stranger own book) is = absurd (cc is)
+told_full NoThread is = absurd (cc is)
+
+pub stopped_at : (s : Layout) (script : List Call) (k : ℕ) (d : Call) (full : ℕ) (v w : Seated) (f : RunFault) → k < length script → is_full f ≡ false
+    → HasFollowed s (take k script) full v → BrokeOff s v (get_or script k d) f w → HasStopped s script f w
+stopped_at s script k d full v w f lt other has broke = record {
+  front = take k script;
+  next = get_or script k d;
+  rest = drop (suc k) script;
+  script_is = split_at script k d lt;
+  left_out = full;
+  before = v;
+  followed = has;
+  broke = broke;
+  other = other;
+}

@@ -30,12 +30,6 @@ later_made s v w c r x = later_gains v w _ x.gains
 pub later_refused : (s : Layout) (v w : Seated) (c : Call) (f : RunFault) → Refused s v c f w → Later v w
 later_refused s v w c f r = later_gains v w [] r.0
 
-pub later_begins : (v w : Seated) → Later v w → IsPrefix v.seen w.seen
-later_begins v w l = l.2 v.seen (prefix_self v.seen)
-
-pub later_worker : (v w : Seated) → Later v w → is_caller v.who ≡ false → is_caller w.who ≡ false
-later_worker v w l is = ap is_caller l.0 ∙ is
-
 -- a worker that asked to retire where it would be retired, or didn't ask
 pub later_retired : (s : Layout) (v w : Seated) (r : Result Bool RunFault) → IfOk r (λ b. MatchBool b (Extends s v call.Retire reply.Retired w) (w ≡ v)) → IfErr r (λ f. Refused s v call.Retire f w) → Later v w
 later_retired s v w (Ok true) x n = later_made s v w call.Retire reply.Retired x

@@ -1,12 +1,14 @@
 -- What a caller that follows a script leaves in a history.
-use Rattle.std.specs.Prelude.{◌≡◌, ◌⊎◌, ℕ, ◌+◌, List, [], ◌∷◌, ◌++◌, length}
+use Rattle.std.specs.Prelude.{◌≡◌, ◌⊎◌, ℕ, Bool, true, false, ◌+◌, List, [], ◌∷◌, ◌++◌, length}
 use Rattle.cmwq_model.specs.declared.id.Who.{Who}
 use Rattle.cmwq_model.specs.declared.call.Call.{Call}
 use Rattle.cmwq_model.specs.declared.reply.Reply.{Reply}
 use Rattle.cmwq_model.specs.declared.entry.Entry.{Entry}
 use Rattle.cmwq_model.specs.Layout.{Layout}
 use Rattle.cmwq_desk.specs.Seats.{Seated, made_by}
-use Rattle.cmwq_desk.specs.Whole.{Makes, HadNoRoom}
+use Rattle.cmwq_desk.specs.Whole.{Makes, HadNoRoom, BrokeOff}
+use Rattle.cmwq_desk.specs.declared.fault.RunFault.{RunFault}
+use Rattle.cmwq_desk.specs.declared.fault.RunFault.TheVariants.{Full}
 
 -- The caller's entries in a history are these, and then for each call of the script, in order, those that it makes; or none where there was
 -- no room for the call, so many times in all.
@@ -20,3 +22,19 @@ Follows s who history made (c ∷ cs) all full =
 pub record HasFollowed (s : Layout) (script : List Call) (full : ℕ) (v : Seated) : Type 0 where
   pub follows : Follows s v.who v.seen [] script (made_by v.who v.seen) full
   pub serial : v.serial ≡ length (made_by v.who v.seen)
+
+abbrev pub is_full : RunFault → Bool
+is_full Full = true
+is_full f = false
+
+-- A caller has broken off a script: it followed a front of it, and the next call answered this fault, which isn't want of room.
+pub record HasStopped (s : Layout) (script : List Call) (f : RunFault) (v : Seated) : Type 0 where
+  pub front : List Call
+  pub next : Call
+  pub rest : List Call
+  pub script_is : script ≡ front ++ next ∷ rest
+  pub left_out : ℕ
+  pub before : Seated
+  pub followed : HasFollowed s front left_out before
+  pub broke : BrokeOff s before next f v
+  pub other : is_full f ≡ false

@@ -3,7 +3,7 @@ ghost use Rattle.std.specs.Prelude.{◌≡◌, ◌<◌, ◌≤◌, ◌^◌, [], 
 ghost use Rattle.cmwq_model.specs.Layout.{has_numbers, is_callers};
 ghost use Rattle.cmwq_model.specs.Scripted.{IsScripted};
 ghost use Rattle.cmwq_desk.specs.Whole.{Completes, BrokeOff};
-ghost use Rattle.cmwq_rt.specs.Scripts.{HasFollowed};
+ghost use Rattle.cmwq_rt.specs.Scripts.{HasFollowed, HasStopped, is_full};
 
 use crate::caller::Caller;
 use crate::hub::Hub;
@@ -11,6 +11,12 @@ use cmwq_desk::RunFault;
 use cmwq_model::{Call, Reply};
 use cmwq_versions::HubName;
 use std::sync::Wait;
+
+fn is_full(fault: RunFault) -> bool
+    ensures { result ≡ is_full fault }
+{
+    matches!(fault, RunFault::Full)
+}
 
 impl<N: HubName> Caller<N> {
     /// A whole call: it makes its entry and those that belong to it, as the method of its name does.
@@ -38,7 +44,7 @@ impl<N: HubName> Caller<N> {
     /// entries it made, and how many calls were left out.
     ///
     /// # Errors
-    /// Those of the calls but `Full`: the script breaks off there.
+    /// Those of the calls but `Full`: the script breaks off at the first call that answers one.
     pub fn follow<R: Wait>(
         &mut self,
         rt: &R,
@@ -50,14 +56,19 @@ impl<N: HubName> Caller<N> {
         requires short { length script.now < 2 ^ 32 }
         ensures followed { IfOk result (λ t. HasFollowed N.layout script.now t.1 self.new) }
         ensures count { IfOk result (λ t. t.0 ≡ self.new.serial) }
-        ensures same { IfOk result (λ _. self.new.who ≡ self.old.who) }
+        ensures stopped { IfErr result (λ f. HasStopped N.layout script.now f self.new) }
+        ensures same { self.new.who ≡ self.old.who }
     {
         let mut full = 0u32;
         for k in 0..script.len() {
             match self.make_whole(rt, hub, script[k]) {
                 Ok(_) => {}
-                Err(RunFault::Full) => full += 1,
-                Err(fault) => return Err(fault),
+                Err(fault) => {
+                    if !is_full(fault) {
+                        return Err(fault);
+                    }
+                    full += 1;
+                }
             }
         }
         Ok((self.serial(), full))

@@ -41,7 +41,7 @@ impl Gates {
         }
     }
 
-    /// Whether a gate was looked at in vain, and is shut still.
+    /// Whether a run has looked at this gate in vain, even if it was opened later.
     pub fn was_missed<R: Wait>(&self, rt: &R, gate: u8) -> bool {
         let state = self.state.lock(rt);
         state.was_missed[usize::from(gate % 16)]

@@ -5,12 +5,9 @@ ghost use Rattle.cmwq_input.specs.declared.fault.Fault.TheVariants as fault;
 ghost use Rattle.cmwq_run.specs.Run.{failure_status, failed_run};
 
 use arrayvec::ArrayString;
-use cmwq_input::{Fault, Refused, fault_status, tell_fault};
-use cmwq_io::{Sink, flush_all, write_all};
+use cmwq_input::{Fault, Refused, fault_status};
 use cmwq_rt::RunFault;
 use std::alloc::AllocError;
-use std::fmt;
-use std::fmt::Write;
 use thiserror::Error;
 
 /// The name of a gate: at most 16 bytes.
@@ -69,23 +66,6 @@ impl From<RunFault> for Failure {
             RunFault::NoThread => 7,
         };
         Failure::Run { number }
-    }
-}
-
-/// Room for the longest line that is told.
-type Told = ArrayString<64>;
-
-fn spell(failure: Failure) -> Result<Told, fmt::Error> {
-    let mut line = Told::new();
-    writeln!(line, "cmwq: {failure}")?;
-    Ok(line)
-}
-
-/// Tells why a run failed. Takes no memory; a failing sink changes nothing.
-pub fn tell_failure<E: Sink>(errors: &mut E, failure: Failure) {
-    if let Ok(line) = spell(failure) {
-        let _ = write_all(errors, line.as_bytes());
-        let _ = flush_all(errors);
     }
 }
 

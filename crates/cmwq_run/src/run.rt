@@ -9,11 +9,11 @@ ghost use Rattle.cmwq_input.specs.declared.fault.Fault.TheVariants as fault;
 ghost use Rattle.cmwq_script.specs.Runs.{run_said};
 ghost use Rattle.cmwq_script.specs.Scripts.{run_of, MayRun};
 
-use crate::failure::{Failure, GateName, failure_status_of, tell_failure};
+use crate::failure::{Failure, GateName, failure_status_of};
 use crate::play::Play;
 use cmwq_engine::{tell_full, write_history};
 use cmwq_input::{Fault, read_value};
-use cmwq_io::{Sink, Source};
+use cmwq_io::{Sink, Source, tell};
 use cmwq_script::{Script, read_script};
 use cmwq_scripts::{Report, run_scripts};
 use serde_json::Value;
@@ -121,7 +121,7 @@ pub fn run_run<S: Source, O: Sink, E: Sink, R: Threads + Wait + Sync>(
     match &ended {
         Ok(0) => {}
         Ok(left_out) => tell_full(errors, *left_out),
-        Err(failure) => tell_failure(errors, *failure),
+        Err(failure) => tell(errors, *failure),
     }
     status(&ended)
 }

@@ -4,7 +4,7 @@ ghost use Rattle.std.specs.Prelude.{◌≡◌, IfOk, Some, None, option_map, if�
 ghost use Rattle.serde_json.specs.View.{view, items_view};
 ghost use Rattle.cmwq_json.specs.InTurn.{in_turn};
 ghost use Rattle.cmwq_json.specs.Parts as refused;
-ghost use Rattle.cmwq_json.specs.Scripts.{told};
+ghost use Rattle.cmwq_json.specs.Readings.{told};
 ghost use Rattle.cmwq_script.specs.Items as spec;
 ghost use Rattle.cmwq_script.specs.Runs.{some_of};
 ghost use Rattle.cmwq_script.specs.Views.{work_of};

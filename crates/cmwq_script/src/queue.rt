@@ -6,7 +6,7 @@ ghost use Rattle.cmwq_json.specs.InTurn.{in_turn};
 ghost use Rattle.cmwq_json.specs.Names.{nobody};
 ghost use Rattle.cmwq_json.specs.Members.{named_of};
 ghost use Rattle.cmwq_json.specs.Parts as refused;
-ghost use Rattle.cmwq_json.specs.Scripts.{told};
+ghost use Rattle.cmwq_json.specs.Readings.{told};
 ghost use Rattle.cmwq_script.specs.Queues as spec;
 ghost use Rattle.cmwq_script.specs.Runs.{some_of};
 

@@ -2,7 +2,7 @@
 
 ghost use Rattle.std.specs.Prelude.{◌≡◌, IfOk};
 ghost use Rattle.serde_json.specs.View.{view};
-ghost use Rattle.cmwq_json.specs.Scripts.{told};
+ghost use Rattle.cmwq_json.specs.Readings.{told};
 ghost use Rattle.cmwq_script.specs.Runs as spec;
 ghost use Rattle.cmwq_script.specs.Scripts.{run_of, MayRun};
 ghost use Rattle.cmwq_script.specs.Views.{top_of};

@@ -163,9 +163,6 @@ module _ (s : Plan) (t : ℕ) (r : Course) (job : Running) (js : List Running) (
 pub unserved : (s : Plan) (t : ℕ) (r : Course) (job : Running) (js : List Running) → Stands s r → r.cpu.items ≡ job ∷ js → 0 < job.burn → StandsAt s r (serve s t (moment_in s r))
 unserved s t r job js h is burns = record { stands = h; moment = sym (serve_burns s t (moment_in s r) (job_seen s job) (map (job_seen s) js) (ap (map (job_seen s)) is) (ne_eqb job.burn 0 (λ none. absurd (omega arith)))) }
 
-pub nobody_served : (s : Plan) (t : ℕ) (r : Course) → Stands s r → r.cpu.items ≡ [] → StandsAt s r (serve s t (moment_in s r))
-nobody_served s t r h is = record { stands = h; moment = sym (serve_idle s t (moment_in s r) (ap (map (job_seen s)) is)) }
-
 -- ---- who runs has a number below 8
 
 found_below : (s : Plan) (n : ℕ) (x : Queueing) (k len : ℕ) → find (has_number n) (map (queueing_for s) (range_with_len k len)) ≡ Some x → n < k + len
@@ -475,9 +472,6 @@ none_yet s b is = subst (λ x. QueuedSoFar s x 0) (sym is) (record {
 
 pub queued_shown : (s : Plan) (b : History) → IsWithinLimits s → QueuedSoFar s b (length s.items) → (seat : ℕ → ℕ) → Shows s (past_in b) (queued s) seat
 queued_shown s b limits h seat = all_shown s (past_in b) (queued s) seat limits.few_items h.shows
-
-pub queued_roomy : (s : Plan) (b : History) → IsWithinLimits s → QueuedSoFar s b (length s.items) → IsRoomy s (past_in b) (queued s)
-queued_roomy s b limits h = let few = limits.few_items in let r = h.roomy in omega arith
 
 told : (s : Plan) (t : ℕ) (past : List Entry) (m : Moment) (seat : ℕ → ℕ) (is : List ℕ) → Shows s past m seat → Shows s past (tell_starts t is m) seat
 told s t past m seat [] h = h

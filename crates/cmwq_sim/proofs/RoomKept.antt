@@ -106,15 +106,6 @@ start_takes_none s m n rest is =
     let c = start_parts n (ms_of s n) in
     omega arith
 
-pub take_roomy : (s : Plan) (past : List Entry) (m : Moment) (seat : ℕ → ℕ) (is : List ℕ) (x n : ℕ) → Shows s past (taken s m is) seat → IsRoomy s past (taken s m is) → IsTaker (layout_for s) past x n
-    → IsRoomy s (entry_for (layout_for s) past (Worker (worker x)) call.Take ∷ past) (taken s m (is ++ n ∷ []))
-take_roomy s past m seat is x n h roomy t =
-    let k = taker_starts s past (taken s m is) seat x n h t in
-    let may = may_start s (taken s m is) n k.1 in
-    let a = promised_need_no_more (layout_for s) past (entry_for (layout_for s) past (Worker (worker x)) call.Take) (take_goes s past m seat is x n h t).legal (started_promised _ n t.starts) in
-    let b : parts_left s (taken s m (is ++ n ∷ [])) ≤ parts_left s (taken s m is) = subst (λ m2. parts_left s m2 ≤ parts_left s (taken s m is)) (takes_on s m is n) (start_takes_none s (taken s m is) n (drop 1 (taken s m is).ready) may.first) in
-    omega arith
-
 pub start_roomy : (s : Plan) (past : List Entry) (m : Moment) (seat : ℕ → ℕ) (x n : ℕ) → Shows s past m seat → IsRoomy s past m → IsTaker (layout_for s) past x n
     → IsRoomy s (entry_for (layout_for s) past (Worker (worker x)) call.Take ∷ past) (started_with s m n (drop 1 m.ready))
 start_roomy s past m seat x n h roomy t =

@@ -136,13 +136,6 @@ starts_parts s (i ∷ is) =
     let d = starts_parts s is in
     omega arith
 
-pub starts_take_none : (s : Plan) (m : Moment) (is : List ℕ) → is ++ drop (length is) m.ready ≡ m.ready → parts_left s (taken s m is) ≤ parts_left s m
-starts_take_none s m is split =
-    let a = sym (sum_by-append (parts_at s) is (drop (length is) m.ready)) ∙ ap (sum_by (parts_at s)) split in
-    let b = sum_by-append parts_of_job m.cpu (map (job_of s) is) in
-    let c = starts_parts s is in
-    omega arith
-
 pub queued_parts : (s : Plan) (m : Moment) (i : ℕ) → IsWithinLimits s → i < length s.items → parts_left s (queue_item s m i) ≤ parts_left s m + 8
 queued_parts s m i fine less = at (nat_lt (count_by (is_of s (queue_of s i)) (m.ready ++ m.behind)) (max_active s (queue_of s i)))
   where

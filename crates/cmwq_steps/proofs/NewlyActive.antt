@@ -269,9 +269,6 @@ moves_none s past e x y legal is beyond = at (is_ahead x y) refl
     at true h = ap (λ b. is_spared past e x && (b && (count_by (is_ahead x) (still_open past) == width s past x.place.queue.0))) h ∙ none (is_spared past e x) _ (more h)
     at false h = ap (λ b. is_spared past e x && (b && (count_by (is_ahead x) (still_open past) == width s past x.place.queue.0))) h ∙ none_passes (is_spared past e x) (count_by (is_ahead x) (still_open past) == width s past x.place.queue.0)
 
-ending_live : (past : List Entry) (e : Entry) (y : Queueing) → ending past e ≡ Some y → is_live past y ≡ true
-ending_live past e y is = (find_holds (IsOpenOne past) (is_ended past e) (still_open past) y (open_known past) is).holds.live
-
 promotes : (s : Layout) (past : List Entry) (e : Entry) (y : Queueing) → IsLegal s (e ∷ past) → ending past e ≡ Some y → filter (moves_up s past e y) (still_open past) ≡ option_to_list (behind_width s past (Some y))
 promotes s past e y legal is = at (has_way s past y) refl
   where

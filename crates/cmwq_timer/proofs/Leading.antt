@@ -59,9 +59,6 @@ module _ (rows : Rows) (lo mid hi : ℕ) (up : lo ≤ mid) (on : mid ≤ hi) whe
         none_sooner = λ i t h. ⊎_elim (λ l. a.none_sooner i t l) (λ r. sooner_on t c.timer d.timer (b.none_sooner i t r) is) (parted i t h);
       }
 
-pub none_led : (rows : Rows) (lo : ℕ) → IsLead rows lo lo None
-none_led rows lo = λ i t is. let a = is.from in let b = is.below in absurd (omega arith)
-
 one_timer : (o : Option Timer) (t u : Timer) → o ≡ Some t → o ≡ Some u → u ≡ t
 one_timer o t u p q = cc
 
@@ -86,21 +83,6 @@ lead_same rows new lo hi (Some c) same lead = record {
   is_booked = record { from = lead.is_booked.from; below = lead.is_booked.below; booked = same c.item.0 lead.is_booked.from lead.is_booked.below ∙ lead.is_booked.booked };
   none_sooner = λ i t is. lead.none_sooner i t (record { from = is.from; below = is.below; booked = sym (same i is.from is.below) ∙ is.booked });
 }
-
--- a row is set, and its block's lead
-pub leads_set : (rows : Rows) (leads : List (Option Candidate)) (k b : ℕ) (row : Option Timer) (lead : Option Candidate) → AreLeads rows leads → 16 * b ≤ k → k < 16 * b + 16 → b < length leads
-    → IsLead (slice_set rows k row) (16 * b) (16 * b + 16) lead → AreLeads (slice_set rows k row) (slice_set leads b lead)
-leads_set rows leads k b row lead are from below there is = record {
-  many = let n : length (slice_set rows k row) ≡ length rows = length-set rows k row in let m : length (slice_set leads b lead) ≡ length leads = length-set leads b lead in let old = are.many in omega arith;
-  each = λ d inside. by d (rw (length-set leads b lead) at inside) (d == b) refl;
-}
-  where
-    by : (d : ℕ) → d < length leads → (e : Bool) → (d == b) ≡ e → IsLead (slice_set rows k row) (16 * d) (16 * d + 16) (slice_index_or (slice_set leads b lead) d None)
-    by d inside true e = let here : d ≡ b = eqb-true d b e in rw (here, get_or-set_at leads b b lead None refl there) is
-    by d inside false e =
-        let apart : d ≢ b = λ h. false≢true (sym e ∙ eq-eqb d b h) in
-        rw (get_or-set_other leads b d lead None apart)
-        (lead_same rows (slice_set rows k row) (16 * d) (16 * d + 16) (slice_index_or leads d None) (λ i lo hi. get_or-set_other rows k i row None (λ h. apart (omega arith))) (are.each d inside))
 
 -- ---- the first to fire
 

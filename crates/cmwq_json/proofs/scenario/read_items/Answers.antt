@@ -3,7 +3,7 @@ use Rattle.serde_json.specs.View.{items_view}
 use Rattle.cmwq_json.specs.InTurn.{in_turn}
 use Rattle.cmwq_json.specs.Names.{nobody, map_named}
 use Rattle.cmwq_sim.specs.Plan.{item_of}
-use Rattle.cmwq_json.specs.Scripts.{items_of}
+use Rattle.cmwq_json.specs.Readings.{items_of}
 use Rattle.cmwq_json.specs.Scenarios.{add_item}
 use Rattle.cmwq_json.proofs.Turns.{went_on, stopped, done}
 use Rattle.cmwq_json.proofs.scenario.read_items.Goals as goal

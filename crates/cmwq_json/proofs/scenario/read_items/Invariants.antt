@@ -2,7 +2,7 @@ use Rattle.std.proofs.Common.{◌≡◌, drop, map, string_bytes}
 use Rattle.serde_json.specs.View.{items_view}
 use Rattle.cmwq_json.specs.InTurn.{in_turn}
 use Rattle.cmwq_json.specs.Names.{nobody}
-use Rattle.cmwq_json.specs.Scripts.{items_of}
+use Rattle.cmwq_json.specs.Readings.{items_of}
 use Rattle.cmwq_json.specs.Scenarios.{add_item}
 use Rattle.cmwq_json.proofs.scenario.read_items.Given as goal
 

@@ -3,7 +3,7 @@ use Rattle.std.proofs.lemmas.List.{length-map}
 use Rattle.cmwq_sim.specs.Plan.{item_of}
 use Rattle.serde_json.specs.View.{items_view}
 use Rattle.cmwq_json.specs.Members.{named_of}
-use Rattle.cmwq_json.specs.Scripts.{items_of, told}
+use Rattle.cmwq_json.specs.Readings.{items_of, told}
 use Rattle.cmwq_json.proofs.Limited.{within_limits, names_few, some_left}
 use Rattle.cmwq_json.proofs.scenario.read_lists.Goals as goal
 

@@ -5,7 +5,7 @@ use Rattle.cmwq_model.specs.declared.shape.Counts.{Counts}
 use Rattle.cmwq_model.specs.Layout.{Layout, layout_of}
 use Rattle.cmwq_json.specs.Members.{named_of}
 use Rattle.cmwq_json.specs.Parts as refused
-use Rattle.cmwq_json.specs.Scripts.{told}
+use Rattle.cmwq_json.specs.Readings.{told}
 use Rattle.cmwq_script.specs.Known.{Known}
 use Rattle.cmwq_script.specs.Views.{work_of, calls_of}
 use Rattle.cmwq_script.proofs.Readings.{when_read}

@@ -1,13 +1,25 @@
-use Rattle.std.proofs.Common.{◌∙◌, refl, arith, subst, List}
+use Rattle.std.proofs.Common.{◌∙◌, sym, refl, arith, subst, List}
 use Rattle.cmwq_model.specs.declared.call.Call.{Call}
 use Rattle.std.proofs.lemmas.List.{take_all}
 use Rattle.cmwq_rt.specs.Scripts.{HasFollowed}
-use Rattle.cmwq_rt.proofs.Following.{followed_none, followed_call, followed_skip, refused_same}
+use Rattle.cmwq_rt.proofs.Following.{followed_none, followed_call, followed_skip, broke_same, stopped_at, told_full}
 use Rattle.cmwq_rt.proofs.caller.Caller.follow.Goals as goal
-use Rattle.cmwq_rt.proofs.caller.Caller.follow.Goals.{in-Ok, in-Err-Full}
+use Rattle.cmwq_rt.proofs.caller.Caller.follow.Goals.{in-Ok, in-Err+else-not-is_full}
 
 pub loop-k-init : goal.loop-k-init
 loop-k-init g c = (followed_none g.N.HubName.layout c.args.self.now c.requires.fresh.0 c.requires.fresh.1, omega arith, refl)
+
+pub returns-clause-followed : goal.returns-clause-followed
+returns-clause-followed g c =
+    subst (λ (xs : List Call). HasFollowed g.N.HubName.layout xs c.loop-k.full c.loop-k.self) (take_all c.loop-k.k c.args.script.now c.loop-k-test.false) c.loop-k.invariant.0
+
+pub returns-then-not-is_full-clause-stopped : goal.returns-then-not-is_full-clause-stopped
+returns-then-not-is_full-clause-stopped g c =
+    stopped_at g.N.HubName.layout c.args.script.now c.loop-k.k _ c.loop-k.full c.loop-k.self c.make_whole.new.self c.in-Err.fault c.loop-k-test.true
+    (sym c.is_full.ensures ∙ c.if-not-is_full.true) c.loop-k.invariant.0 c.in-Err.ensures.broke
+
+pub returns-then-not-is_full-clause-same : goal.returns-then-not-is_full-clause-same
+returns-then-not-is_full-clause-same g c = broke_same g.N.HubName.layout c.loop-k.self c.make_whole.new.self _ _ c.in-Err.ensures.broke ∙ c.loop-k.invariant.2
 
 pub loop-k-preserved : goal.loop-k-preserved
 loop-k-preserved g c =
@@ -20,13 +32,10 @@ loop-k-preserved g c =
         (let n = w.full-is in let m = i.1 in omega (arith, n, m)),
         w.in-Ok.ensures.done.gains.same ∙ i.2,
       )
-      | in-Err-Full w ↦ (
-        rw w.full-is (followed_skip s script c.loop-k.k _ c.loop-k.full c.loop-k.self c.make_whole.new.self _ c.loop-k-test.true w.in-Err-Full.field-0-is i.0 w.in-Err-Full.ensures.broke),
-        (let n = w.full-is in let m = i.1 in omega (arith, n, m)),
-        refused_same s c.loop-k.self c.make_whole.new.self _ _ w.in-Err-Full.field-0-is w.in-Err-Full.ensures.broke ∙ i.2,
-      )
+      | in-Err+else-not-is_full w ↦ (
+          let full = told_full w.in-Err.fault (sym w.is_full.ensures ∙ w.if-not-is_full.false) in (
+            rw w.full-is (followed_skip s script c.loop-k.k _ c.loop-k.full c.loop-k.self c.make_whole.new.self _ c.loop-k-test.true full i.0 w.in-Err.ensures.broke),
+            (let n = w.full-is in let m = i.1 in omega (arith, n, m)),
+            broke_same s c.loop-k.self c.make_whole.new.self _ _ w.in-Err.ensures.broke ∙ i.2,
+          ))
     ]
-
-pub returns-clause-followed : goal.returns-clause-followed
-returns-clause-followed g c =
-    subst (λ (xs : List Call). HasFollowed g.N.HubName.layout xs c.loop-k.full c.loop-k.self) (take_all c.loop-k.k c.args.script.now c.loop-k-test.false) c.loop-k.invariant.0
