@@ -1,7 +1,7 @@
 //! What the threads of callers and workers run, and what they give back.
 ghost use Rattle.std.specs.Prelude.{◌≡◌, ◌<◌, ◌^◌, [], length, All, IfOk};
 ghost use Rattle.cmwq_model.specs.Scripted.{IsScripted};
-ghost use Rattle.cmwq_rt.specs.Scripts.{HasFollowed};
+ghost use Rattle.cmwq_scripts.specs.Ended.{FollowedAt, caller_at};
 
 use cmwq_model::{Call, CallerId};
 use cmwq_rt::{Caller, Hub, HubName, RunFault, Work, Worker};
@@ -44,16 +44,18 @@ pub(crate) fn follow_all<N: HubName, R: Wait>(
     rt: &R,
     hub: &Hub<N>,
     caller: Caller<N>,
+    who: CallerId,
     script: &Vec<Call>,
 ) -> CallerEnd<N>
+    requires who { caller.who ≡ caller_at who.0 }
     requires fresh { (caller.serial ≡ 0) × (caller.seen ≡ []) }
     requires calls { All (IsScripted N.layout) script.now.items }
     requires short { length script.now.items < 2 ^ 32 }
-    ensures same { result.caller.who ≡ caller.who }
-    ensures followed { IfOk result.outcome (λ t. HasFollowed N.layout script.now.items t.1 result.caller) }
+    ensures { IfOk result.outcome (λ t. FollowedAt N.layout who.0 script.now.items t.1 result.caller) }
 {
     let mut caller = caller;
     let outcome = caller.follow(rt, hub, script.as_slice());
+    let _who = who;
     CallerEnd { caller, outcome }
 }
 

@@ -40,7 +40,7 @@ fn start_caller<'s, E, N: HubName + Send + Sync + 's, R: Wait + Sync>(
         move || -> CallerEnd<N>
             requires { (caller.who ≡ caller_at who.0) × (caller.serial ≡ 0) × (caller.seen ≡ []) × All (IsScripted N.layout) script.now.items × (length script.now.items < 2 ^ 32) }
             ensures { IfOk result.outcome (λ t. FollowedAt N.layout who.0 script.entry.now.items t.1 result.caller) }
-        { follow_all(rt, hub, caller, script) },
+        { follow_all(rt, hub, caller, who, script) },
     );
     match started {
         Ok(thread) => Ok(thread),
