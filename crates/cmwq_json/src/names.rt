@@ -60,6 +60,7 @@ pub struct Members<T> {
 }
 
 impl<T: Drop> Members<T> {
+    /// No member.
     pub fn new(alloc: Global) -> Self
         ensures { named_of result ≡ spec.nobody }
     {

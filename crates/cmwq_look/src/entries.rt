@@ -6,13 +6,14 @@ ghost use Rattle.cmwq_model.specs.Bookings.{settles, due_in, booked_by, booking_
 
 use cmwq_model::{Booking, Call, Entry, ItemId, Number, Place, PoolId, Reply, Who, WorkerId};
 
-/// Whether these are one pool.
+/// Whether these are the same pool.
 pub fn is_same_pool(a: PoolId, b: PoolId) -> bool
     ensures { result ≡ same_pool a b }
 {
     a.cpu.0 == b.cpu.0 && a.high == b.high
 }
 
+/// Whether these are the same worker.
 pub fn is_same_worker(a: WorkerId, b: WorkerId) -> bool
     ensures { result ≡ same_worker a b }
 {

@@ -36,6 +36,7 @@ fn ring_all_of(bells: &[Condvar], rings: u64) {
 }
 
 impl Bells {
+    /// A bell for each caller and worker that may be.
     pub fn new(alloc: Global) -> Result<Bells, NoMemory> {
         Ok(Bells {
             callers: row_of_bells(alloc)?,

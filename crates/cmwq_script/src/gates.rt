@@ -31,6 +31,7 @@ impl Model for Gates {
 }
 
 impl Gates {
+    /// No gate.
     pub fn new(alloc: Global) -> Gates
         ensures { result ≡ [] }
     {

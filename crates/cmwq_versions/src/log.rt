@@ -70,6 +70,7 @@ pub struct Log {
 }
 
 impl Log {
+    /// A log without an entry.
     pub fn new() -> Log {
         let (seen, mut first, _second) = Seen::open(Start::alone(), 0, 0);
         Log {

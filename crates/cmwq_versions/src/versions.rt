@@ -57,7 +57,7 @@ impl Absorb<Publish> for Versions {
 }
 
 impl Versions {
-    // The entries that made the version, and the bits of an item after them.
+    /// The entries that made the version, and the bits of an item after them.
     pub fn read<N: HubName>(&self, item: ItemId) -> (Front<N>, u8)
         requires version { IsVersion self.now }
         requires ours { IsOf N.layout N.book self.now }
@@ -111,6 +111,8 @@ impl Join<Option<Known>> for Notes {
     ghost spent = { newcomer };
 }
 
+/// What reads a hub's published versions.
 pub type BitsReader = Reader<Versions, Option<Known>, Published>;
 
+/// What publishes them.
 pub type BitsWriter = Writer<Versions, Publish, Option<Known>, Published>;
