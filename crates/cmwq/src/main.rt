@@ -2,19 +2,17 @@
 //! and output.
 #![tactic(auto)]
 
-mod word;
-
 use clap::error::ErrorKind;
 use cmwq_base::{BufferedSink, FromStd};
 use cmwq_engine::{run_check, run_step, run_upgrade};
 use cmwq_replay::run_replay;
 use cmwq_run::run_run;
+use cmwq_word::{Word, word_of};
 use std::alloc::{AllocError, Global};
 use std::io;
 use std::process::ExitCode;
 use std::sync::Wait;
 use std::thread::Threads;
-use word::{Word, word_of};
 
 /// The exit status of a wrong use.
 const WRONG_USE: u8 = 2;

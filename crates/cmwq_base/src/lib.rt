@@ -24,6 +24,3 @@ pub use laws::{
 };
 pub use refusal::Refusal;
 pub use writing::{write_entry, write_shape};
-
-#[cfg(test)]
-mod tests;

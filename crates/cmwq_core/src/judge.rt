@@ -11,9 +11,6 @@ use cmwq_model::{Entry, Illegal, NoMemory, Shape, Wanted};
 use cmwq_state::State;
 use std::alloc::Global;
 
-#[cfg(test)]
-mod tests;
-
 /// No legal history owes more entries than these, so that a book with so much room beyond the entries refuses none of them.
 const MOST_OWED: u32 = 10_000;
 

@@ -13,6 +13,3 @@ pub use book::{Book, Full};
 pub use cmwq_state::those_who_fit_are_there;
 pub use judge::check;
 pub use plan::Plan;
-
-#[cfg(test)]
-mod tests;

@@ -13,6 +13,3 @@ pub use output::write_history;
 pub use step::run_step;
 pub use told::tell_full;
 pub use upgrade::{newest_stay, run_upgrade};
-
-#[cfg(test)]
-mod tests;

@@ -125,6 +125,3 @@ impl Flights {
         self.queueings.remove(run);
     }
 }
-
-#[cfg(test)]
-mod tests;

@@ -136,6 +136,3 @@ impl Barriers {
         has_barrier(&self.barriers, ticket)
     }
 }
-
-#[cfg(test)]
-mod tests;

@@ -227,6 +227,3 @@ fn serve_oldest(served: &mut Vec<Served>, overflow: &mut Vec<Number>, bound: u64
         served.push_reserved(Served { ticket, bound });
     }
 }
-
-#[cfg(test)]
-mod tests;

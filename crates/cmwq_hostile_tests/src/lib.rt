@@ -11,4 +11,6 @@ mod faults;
 #[cfg(test)]
 mod inputs;
 #[cfg(test)]
+mod run;
+#[cfg(test)]
 mod word;

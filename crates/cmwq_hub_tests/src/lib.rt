@@ -17,3 +17,5 @@ mod hostile;
 mod one_caller;
 #[cfg(test)]
 mod scripts;
+#[cfg(test)]
+mod versions;

@@ -14,6 +14,3 @@ pub use output::write_text;
 pub use refused::{Part, Refused};
 pub use status::fault_status;
 pub use value::read_value;
-
-#[cfg(test)]
-mod tests;

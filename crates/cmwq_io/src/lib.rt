@@ -11,8 +11,6 @@ mod patient;
 mod sink;
 mod source;
 mod telling;
-#[cfg(test)]
-mod tests;
 mod trouble;
 
 pub use buffered::BufferedSink;

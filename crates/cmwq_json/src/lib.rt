@@ -12,6 +12,3 @@ pub use names::{Members, in_order, is_name, number_of, read_name};
 pub use numbers::{read_number, read_width};
 pub use queues::read_parts;
 pub use scenario::{ScenarioWithNames, read_scenario};
-
-#[cfg(test)]
-mod tests;

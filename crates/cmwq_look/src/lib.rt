@@ -25,6 +25,3 @@ pub use tickets::{
     unended_at,
 };
 pub use widths::{is_frozen, width_set};
-
-#[cfg(test)]
-mod tests;

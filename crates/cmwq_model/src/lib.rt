@@ -19,6 +19,3 @@ pub use record::{Booking, Place, Queueing, Start, Ticket};
 pub use reply::Reply;
 pub use shape::{Counts, QueueShape, Shape};
 pub use verdict::{Illegal, Wanted};
-
-#[cfg(test)]
-mod tests;

@@ -55,6 +55,3 @@ pub fn has_room(shape: &Shape, entries: &[Entry], who: Who, call: Call) -> bool
     };
     room::needed(shape, &Past::with(entries, entry)) <= layout::room_of(shape)
 }
-
-#[cfg(test)]
-mod tests;

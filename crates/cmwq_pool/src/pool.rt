@@ -206,6 +206,3 @@ impl Pool {
         self.seats[usize::from(worker)].enlisted = false;
     }
 }
-
-#[cfg(test)]
-mod tests;

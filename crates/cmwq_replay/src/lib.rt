@@ -4,6 +4,3 @@
 mod replay;
 
 pub use replay::run_replay;
-
-#[cfg(test)]
-mod tests;

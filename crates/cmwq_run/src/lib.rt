@@ -7,6 +7,3 @@ mod run;
 
 pub use play::Play;
 pub use run::run_run;
-
-#[cfg(test)]
-mod tests;

@@ -16,6 +16,3 @@ mod word;
 
 pub use action::Action;
 pub use script::{Script, read_script};
-
-#[cfg(test)]
-mod tests;

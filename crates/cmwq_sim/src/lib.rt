@@ -15,6 +15,3 @@ pub use tables::{
     tables_with_intensive, tables_with_one_active, tables_with_three_active, tables_with_two_active,
 };
 pub use text::spell_lines;
-
-#[cfg(test)]
-mod tests;

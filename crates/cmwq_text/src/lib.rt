@@ -27,6 +27,3 @@ pub use reply::reply_fits;
 pub use shape::{begins_queue, read_counts, read_queue_of_calls, read_queue_of_history};
 pub use spelling::{counts_line, entry_line, queue_line, version_line};
 pub use verdict::{illegal_line, legal_line};
-
-#[cfg(test)]
-mod tests;

@@ -159,6 +159,3 @@ fn new_rows(alloc: Global, callers: u8) -> Result<Vec<Row>, NoMemory>
     }
     Ok(rows)
 }
-
-#[cfg(test)]
-mod tests;

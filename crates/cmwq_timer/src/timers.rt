@@ -137,6 +137,3 @@ impl Timers {
         first.map(|candidate| candidate.item)
     }
 }
-
-#[cfg(test)]
-mod tests;

@@ -3,4 +3,3 @@ mod Adding
 pub mod Legally
 mod Seats
 mod Marking
-mod First

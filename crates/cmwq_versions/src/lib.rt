@@ -15,6 +15,3 @@ pub use name::HubName;
 pub use opening::Opening;
 pub use shelf::Shelf;
 pub use sights::{Readers, Sights};
-
-#[cfg(test)]
-mod tests;

@@ -1,0 +1,115 @@
+ghost use Rattle.std.specs.Prelude.{◌≡◌, []};
+ghost use Rattle.cmwq_versions.specs.Next.{IsNext};
+
+use cmwq_model::{
+    Call, CallerId, Counts, CpuId, Entry, ItemId, Mark, NoMemory, QueueId, QueueShape, Reply,
+    Shape, Who,
+};
+use cmwq_versions::*;
+use std::alloc::Global;
+use std::marker::Brand;
+use std::process::Abort;
+use std::sync::Wait;
+use std::test::Fail;
+
+fn shape(rt: &impl Abort, alloc: Global) -> Result<Shape, NoMemory> {
+    let mut queues = Vec::new(alloc);
+    let queue = QueueShape {
+        max_active: 1,
+        high: false,
+        intensive: false,
+        freezable: false,
+    };
+    queues.push(queue).map_err(|_| NoMemory)?;
+    let counts = Counts {
+        cpus: 1,
+        workers: 1,
+        callers: 1,
+        items: 2,
+        room: 100,
+    };
+    Ok(Shape::new(counts, queues).expect(rt, "inside the limits"))
+}
+
+const CALLER: Who = Who::Caller(CallerId(0));
+
+const QUEUE: Call = Call::Queue {
+    item: ItemId(1),
+    queue: QueueId(0),
+    cpu: CpuId(0),
+};
+
+// The number of entries that are read, and the bits of an item.
+type Read = Option<(u64, u8)>;
+
+fn read<N: HubName>(sights: &mut Option<Sights<N>>, item: u16) -> Read {
+    let (front, bits) = sights.as_mut()?.look(ItemId(item))?;
+    Some((front.len(), bits))
+}
+
+// What is read of item 1 before its entry is shown, after it, then of item 0, and of item 1 once the shelf was ended.
+fn shown_and_read<N: HubName, R: Wait>(
+    rt: &R,
+    opening: Opening,
+    mark: Mark,
+) -> (Read, Read, Read, Read)
+    requires layout { opening.layout ≡ N.layout }
+    requires book { opening.book ≡ N.book }
+    requires next { IsNext opening.layout [] mark }
+{
+    let (mut shelf, mut readers) = opening.named::<N>();
+    let mut sights = readers.next();
+    let older = shelf.front().again();
+    let before = read(&mut sights, 1);
+    let shown = shelf.show(rt, mark);
+    older.begins(shelf.front());
+    let after = read(&mut sights, 1);
+    let other = read(&mut sights, 0);
+    shelf.end(rt);
+    let ended = read(&mut sights, 1);
+    (before, shown.ok().and(after), other, ended)
+}
+
+#[test]
+fn a_shown_entry_is_read(rt: HostRuntime) -> Result<(), Fail> {
+    let shape = shape(&rt, rt.alloc())?;
+    if !shape.fits(CALLER, QUEUE) {
+        return Err("the call fits".into());
+    }
+    let mark = Mark {
+        entry: Entry {
+            who: CALLER,
+            serial: 0,
+            call: QUEUE,
+            reply: Reply::Yes(0),
+        },
+        item: Some(ItemId(1)),
+        bits: 1,
+    };
+    let opening = Opening::new(&rt, rt.alloc(), &shape, 1)?;
+    let (before, after, other, ended) = shown_and_read::<Brand, _>(&rt, opening, mark);
+    assert_eq!(rt; (before, after), (Some((0, 0)), Some((1, 1))));
+    assert_eq!(rt; (other, ended), (Some((1, 0)), None));
+    Ok(())
+}
+
+fn two_readers<N: HubName, R: Wait>(rt: &R, opening: Opening) -> [bool; 2]
+    requires layout { opening.layout ≡ N.layout }
+    requires book { opening.book ≡ N.book }
+{
+    let (shelf, mut readers) = opening.named::<N>();
+    let found = [readers.next().is_some(), readers.next().is_some()];
+    shelf.end(rt);
+    found
+}
+
+#[test]
+fn as_many_readers_as_were_asked_for(rt: HostRuntime) -> Result<(), Fail> {
+    let shape = shape(&rt, rt.alloc())?;
+    for (readers, found) in [(0, [false, false]), (1, [true, false]), (2, [true, true])] {
+        let opening = Opening::new(&rt, rt.alloc(), &shape, readers)?;
+        assert_eq!(rt; two_readers::<Brand, _>(&rt, opening), found);
+    }
+    Opening::new(&rt, rt.alloc(), &shape, 3)?.end(&rt);
+    Ok(())
+}

@@ -1,0 +1,100 @@
+use cmwq_flight::*;
+use cmwq_model::{CpuId, ItemId, Number, Place, QueueId, Queueing};
+use std::process::Abort;
+use std::test::Fail;
+
+fn queueing(item: u16, number: Number) -> Queueing {
+    Queueing {
+        item: ItemId(item),
+        place: Place {
+            queue: QueueId(63),
+            cpu: CpuId(2),
+        },
+        number,
+    }
+}
+
+fn open(rt: &impl Abort, flights: &mut Flights, queueing: Queueing) {
+    assert!(rt; queueing.item.0 < flights.items());
+    assert!(rt; flights.unstarted(queueing.item).is_none());
+    flights.open(queueing);
+}
+
+fn start(rt: &impl Abort, flights: &mut Flights, item: ItemId) {
+    assert!(rt; item.0 < flights.items());
+    assert!(rt; flights.run(item).is_none());
+    assert!(rt; flights.unstarted(item).is_some());
+    flights.start(item);
+}
+
+fn finish(rt: &impl Abort, flights: &mut Flights, item: ItemId) {
+    assert!(rt; item.0 < flights.items());
+    assert!(rt; flights.run(item).is_some());
+    flights.finish(item);
+}
+
+fn take_back(rt: &impl Abort, flights: &mut Flights, item: ItemId) {
+    assert!(rt; item.0 < flights.items());
+    flights.take_back(item);
+}
+
+/// The numbers of an item's run and of its unstarted queueing.
+fn numbers(rt: &impl Abort, flights: &Flights, item: ItemId) -> (Option<Number>, Option<Number>) {
+    assert!(rt; item.0 < flights.items());
+    let run = flights.run(item).map(|queueing| queueing.number);
+    let unstarted = flights.unstarted(item).map(|queueing| queueing.number);
+    (run, unstarted)
+}
+
+#[test]
+fn an_item_is_queued_again_while_it_runs(rt: HostRuntime) -> Result<(), Fail> {
+    let mut flights = Flights::new(rt.alloc(), 3)?;
+    let item = ItemId(1);
+    assert_eq!(rt; flights.items(), 3);
+    assert_eq!(rt; flights.open_count(), 0);
+    open(&rt, &mut flights, queueing(1, 7));
+    assert_eq!(rt; numbers(&rt, &flights, item), (None, Some(7)));
+    start(&rt, &mut flights, item);
+    assert_eq!(rt; numbers(&rt, &flights, item), (Some(7), None));
+    open(&rt, &mut flights, queueing(1, 9));
+    assert_eq!(rt; numbers(&rt, &flights, item), (Some(7), Some(9)));
+    assert_eq!(rt; numbers(&rt, &flights, ItemId(0)), (None, None));
+    assert_eq!(rt; flights.open_count(), 2);
+    finish(&rt, &mut flights, item);
+    assert_eq!(rt; numbers(&rt, &flights, item), (None, Some(9)));
+    take_back(&rt, &mut flights, item);
+    take_back(&rt, &mut flights, item);
+    assert_eq!(rt; numbers(&rt, &flights, item), (None, None));
+    assert_eq!(rt; flights.open_count(), 0);
+    Ok(())
+}
+
+#[test]
+fn two_of_as_many_items_as_may_be(rt: HostRuntime) -> Result<(), Fail> {
+    let mut flights = Flights::new(rt.alloc(), 256)?;
+    for item in 0..256 {
+        open(&rt, &mut flights, queueing(item, u32::from(item)));
+        start(&rt, &mut flights, ItemId(item));
+        open(&rt, &mut flights, queueing(item, u32::from(item) + 256));
+    }
+    assert_eq!(rt; flights.open_count(), 512);
+    for item in (0..256).rev() {
+        assert_eq!(rt;
+            numbers(&rt, &flights, ItemId(item)),
+            (Some(u32::from(item)), Some(u32::from(item) + 256))
+        );
+        finish(&rt, &mut flights, ItemId(item));
+        open_place(&rt, &flights, item)?;
+    }
+    assert_eq!(rt; flights.open_count(), 256);
+    Ok(())
+}
+
+/// What an item's unstarted queueing says besides its number.
+fn open_place(rt: &impl Abort, flights: &Flights, item: u16) -> Result<(), Fail> {
+    assert!(rt; item < flights.items());
+    let queueing = flights.unstarted(ItemId(item)).ok_or("none")?;
+    assert_eq!(rt; queueing.item, ItemId(item));
+    assert!(rt; queueing.place.queue == QueueId(63) && queueing.place.cpu == CpuId(2));
+    Ok(())
+}

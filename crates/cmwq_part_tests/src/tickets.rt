@@ -1,0 +1,118 @@
+ghost use Rattle.std.specs.Prelude.{◌≡◌};
+ghost use Rattle.cmwq_ticket.specs.Rows.{ticket_of};
+
+use cmwq_model::{Call, CallerId, ItemId, Number, QueueId, Ticket};
+use cmwq_ticket::*;
+use std::process::Abort;
+use std::test::Fail;
+
+fn ticket(caller: u8, call: Call, number: Number) -> Ticket {
+    Ticket {
+        caller: CallerId(caller),
+        call,
+        number,
+    }
+}
+
+fn give(rt: &impl Abort, tickets: &mut Tickets, ticket: Ticket) {
+    assert!(rt; tickets.may_give(&ticket), "gives {}", ticket.number);
+    tickets.give(ticket);
+}
+
+fn find(rt: &impl Abort, tickets: &Tickets, caller: u8, number: Number) -> Option<Ticket>
+    ensures { result ≡ ticket_of tickets.now caller number }
+{
+    assert!(rt; caller < tickets.callers(), "caller {caller} is there");
+    tickets.find(CallerId(caller), number)
+}
+
+fn end(rt: &impl Abort, tickets: &mut Tickets, caller: u8, number: Number) {
+    assert!(rt;
+        find(rt, tickets, caller, number).is_some(),
+        "{number} stands"
+    );
+    tickets.end(CallerId(caller), number);
+}
+
+const CANCEL_SYNC: Call = Call::CancelSync { item: ItemId(255) };
+
+const DRAIN: Call = Call::Drain { queue: QueueId(63) };
+
+const DESTROY: Call = Call::Destroy { queue: QueueId(63) };
+
+const FLUSH: Call = Call::Flush { queue: QueueId(63) };
+
+#[test]
+fn gives_and_ends(rt: HostRuntime) -> Result<(), Fail> {
+    let mut tickets = Tickets::new(rt.alloc(), 2)?;
+    assert_eq!(rt; tickets.callers(), 2);
+    assert!(rt; tickets.is_empty());
+    give(&rt, &mut tickets, ticket(0, FLUSH, 3));
+    give(&rt, &mut tickets, ticket(1, FLUSH, 4));
+    give(&rt, &mut tickets, ticket(0, CANCEL_SYNC, 7));
+    assert!(rt;
+        !tickets.may_give(&ticket(0, FLUSH, 7)),
+        "numbers come rising"
+    );
+    assert!(rt;
+        !tickets.may_give(&ticket(2, FLUSH, 9)),
+        "there are two callers"
+    );
+    assert_eq!(rt; tickets.len(), 3);
+    let found = find(&rt, &tickets, 0, 7).ok_or("no ticket")?;
+    assert!(rt; found.number == 7 && found.caller == CallerId(0));
+    assert!(rt; find(&rt, &tickets, 1, 7).is_none());
+    assert_eq!(rt; tickets.any(4).ok_or("no ticket")?.caller, CallerId(1));
+    end(&rt, &mut tickets, 0, 3);
+    assert!(rt; find(&rt, &tickets, 0, 3).is_none() && tickets.any(3).is_none());
+    assert_eq!(rt; tickets.len(), 2);
+    Ok(())
+}
+
+#[test]
+fn knows_what_is_being_done(rt: HostRuntime) -> Result<(), Fail> {
+    let mut tickets = Tickets::new(rt.alloc(), 2)?;
+    assert!(rt; !tickets.is_cancelling(ItemId(255)) && !tickets.is_draining(QueueId(63)));
+    give(&rt, &mut tickets, ticket(0, CANCEL_SYNC, 1));
+    give(&rt, &mut tickets, ticket(1, CANCEL_SYNC, 2));
+    give(&rt, &mut tickets, ticket(1, DRAIN, 3));
+    end(&rt, &mut tickets, 0, 1);
+    assert!(rt; tickets.is_cancelling(ItemId(255)), "the other stands");
+    assert!(rt; !tickets.is_cancelling(ItemId(254)) && !tickets.is_cancelling(ItemId(256)));
+    end(&rt, &mut tickets, 1, 2);
+    assert!(rt; !tickets.is_cancelling(ItemId(255)));
+    assert!(rt; tickets.is_draining(QueueId(63)) && !tickets.is_being_destroyed(QueueId(63)));
+    give(&rt, &mut tickets, ticket(0, DESTROY, 4));
+    end(&rt, &mut tickets, 1, 3);
+    assert!(rt; tickets.is_draining(QueueId(63)), "a destroy drains");
+    assert!(rt; tickets.is_being_destroyed(QueueId(63)));
+    assert!(rt; !tickets.is_being_destroyed(QueueId(62)));
+    end(&rt, &mut tickets, 0, 4);
+    assert!(rt; !tickets.is_draining(QueueId(63)) && !tickets.is_being_destroyed(QueueId(63)));
+    Ok(())
+}
+
+/// 64 callers with 64 tickets each, which all cancel one item, and no caller can be given one more.
+#[test]
+fn as_many_as_may_be(rt: HostRuntime) -> Result<(), Fail> {
+    let mut tickets = Tickets::new(rt.alloc(), 64)?;
+    for number in 0..4096 {
+        give(
+            &rt,
+            &mut tickets,
+            ticket((number % 64) as u8, CANCEL_SYNC, number),
+        );
+    }
+    assert_eq!(rt; tickets.len(), 4096);
+    for caller in 0..64 {
+        assert!(rt; caller < tickets.callers());
+        assert!(rt; tickets.is_crowded(CallerId(caller)), "{caller} has 64");
+        assert!(rt; !tickets.may_give(&ticket(caller, FLUSH, 5000)));
+    }
+    for number in 0..4096 {
+        assert!(rt; tickets.is_cancelling(ItemId(255)), "{number} stands");
+        end(&rt, &mut tickets, (number % 64) as u8, number);
+    }
+    assert!(rt; tickets.is_empty() && !tickets.is_cancelling(ItemId(255)));
+    Ok(())
+}

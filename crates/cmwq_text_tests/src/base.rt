@@ -1,0 +1,175 @@
+use cmwq_base::*;
+use std::alloc::{AllocError, Global};
+use std::process::Abort;
+
+const CALLS: &[u8] = b"shape 1 2 1 3 100
+wq 0 hif
+c0 queue 0 0 0
+w0n0 take
+w0n0 finish
+c0 freeze
+c0 destroy 0
+";
+
+const HISTORY: &[u8] = b"history 2
+shape 1 2 1 3 100
+wq 1 f
+c0 0 freeze = frozen
+c0 1 set_max 0 7 = width 7
+c0 2 thaw = thawed
+c0 3 destroy 0 = ticket 3
+";
+
+const OLD_HISTORY: &[u8] = b"shape 1 2 1 3 100
+wq 1 -
+c0 0 queue 0 0 0 = yes 0
+w0n0 0 take = started 0 enlist 1
+w0n0 1 finish = finished 0
+";
+
+fn refused(rt: &impl Abort, alloc: Global, text: &[u8]) -> Refusal {
+    read_calls(alloc, &mut Memory::reader(text))
+        .err()
+        .expect(rt, "a refusal")
+}
+
+#[test]
+fn reads_calls(rt: HostRuntime) {
+    let file = read_calls(rt.alloc(), &mut Memory::reader(CALLS)).expect(&rt, "calls");
+    assert_eq!(rt; file.calls.len(), 5);
+    assert_eq!(rt; file.shape.counts().room, 100);
+}
+
+/// What is written of a history that is read.
+fn written_again(rt: &impl Abort, alloc: Global, file: &HistoryFile) -> Memory<Vec<u8>> {
+    let mut output = Memory::writer(alloc, 200).expect(rt, "memory");
+    write_shape(&mut output, &file.shape).expect(rt, "written");
+    for entry in &file.entries {
+        write_entry(&mut output, entry).expect(rt, "written");
+    }
+    output
+}
+
+#[test]
+fn what_is_read_is_written_again(rt: HostRuntime) {
+    let file = read_history(rt.alloc(), &mut Memory::reader(HISTORY)).expect(&rt, "a history");
+    assert_eq!(rt; file.version, 2);
+    assert_eq!(rt; written_again(&rt, rt.alloc(), &file).as_slice(), HISTORY);
+}
+
+#[test]
+fn format_1_is_written_as_format_2(rt: HostRuntime) {
+    let mut source = Memory::reader(OLD_HISTORY);
+    let file = read_history(rt.alloc(), &mut source).expect(&rt, "a history");
+    assert_eq!(rt; file.version, 1);
+    let output = written_again(&rt, rt.alloc(), &file);
+    assert_eq!(rt;
+        output.as_slice().strip_prefix(b"history 2\n"),
+        Some(OLD_HISTORY)
+    );
+}
+
+fn history_refused(rt: &impl Abort, alloc: Global, text: &str) -> Refusal {
+    read_history(alloc, &mut Memory::reader(text.as_bytes()))
+        .err()
+        .expect(rt, "a refusal")
+}
+
+/// Histories, and why each is refused.
+const NO_HISTORIES: [(&str, Refusal); 15] = [
+    ("", Refusal::BadShape(1)),
+    ("history 2", Refusal::BadLine(1)),
+    ("history 3", Refusal::BadLine(1)),
+    ("history 2\n", Refusal::BadShape(2)),
+    ("history 1\n", Refusal::BadShape(1)),
+    ("history 3\nshape 1 2 1 3 100\n", Refusal::BadShape(1)),
+    ("history 2 \nshape 1 2 1 3 100\n", Refusal::BadShape(1)),
+    ("history 2\nhistory 2\n", Refusal::BadShape(2)),
+    ("history 2\nshape 1 2 1 3 100\n", Refusal::BadShape(3)),
+    (
+        "history 2\nshape 1 2 1 3 100\nwq 1 fh\n",
+        Refusal::BadShape(3),
+    ),
+    (
+        "history 2\nshape 1 2 1 3 100\nwq 1 -\nc0 0 set_max 0 0 = width 1\n",
+        Refusal::BadLine(4),
+    ),
+    (
+        "history 2\nshape 1 2 1 3 100\nwq 1 -\nc0 0 destroy 1 = gone\n",
+        Refusal::NoSuchId(4),
+    ),
+    ("shape 1 2 1 3 100\nwq 1 f\n", Refusal::BadShape(2)),
+    (
+        "shape 1 2 1 3 100\nwq 1 -\nc0 0 freeze = no\n",
+        Refusal::BadLine(3),
+    ),
+    (
+        "shape 1 2 1 3 100\nwq 1 -\nc0 0 drain 0 = gone\n",
+        Refusal::BadLine(3),
+    ),
+];
+
+#[test]
+fn the_first_refusal_of_a_history_is_told(rt: HostRuntime) {
+    for (text, refusal) in NO_HISTORIES {
+        assert_eq!(rt; history_refused(&rt, rt.alloc(), text), refusal, "{text}");
+    }
+}
+
+#[test]
+fn the_first_refusal_is_told(rt: HostRuntime) {
+    let alloc = rt.alloc();
+    assert_eq!(rt; refused(&rt, alloc, b""), Refusal::BadShape(1));
+    assert_eq!(rt; refused(&rt, alloc, b"history 2\n"), Refusal::BadShape(1));
+    assert_eq!(rt;
+        refused(&rt, alloc, b"shape 1 2 1 3 100\n"),
+        Refusal::BadShape(2)
+    );
+    assert_eq!(rt;
+        refused(&rt, alloc, b"shape 1 2 1 3 100"),
+        Refusal::BadLine(1)
+    );
+    assert_eq!(rt;
+        refused(
+            &rt,
+            alloc,
+            b"shape 1 2 1 3 100\nwq 1 -\nc0 queue 3 0 0\nc0 bogus\n"
+        ),
+        Refusal::NoSuchId(3)
+    );
+    assert_eq!(rt;
+        refused(&rt, alloc, b"shape 1 2 1 3 100\nwq 1 -\nc0 fire\nwq 1 -\n"),
+        Refusal::BadLine(4)
+    );
+}
+
+#[test]
+fn a_failing_source_is_a_read_fault(rt: HostRuntime) {
+    let mut source = FailsAt::new(Memory::reader(CALLS), 1);
+    let error = read_calls(rt.alloc(), &mut source).err();
+    assert_eq!(rt; error, Some(Refusal::ReadFault));
+}
+
+/// A call file whose third line has so many bytes, with a line feed or without.
+fn with_a_line_of(alloc: Global, bytes: usize, ended: bool) -> Result<Vec<u8>, AllocError> {
+    let mut text = Vec::new(alloc);
+    text.extend_from_slice(b"shape 1 2 1 3 100\nwq 1 -\n")?;
+    for _ in 0..bytes {
+        text.push(b'1')?;
+    }
+    if ended {
+        text.push(b'\n')?;
+    }
+    Ok(text)
+}
+
+#[test]
+fn a_line_of_120_bytes_is_judged(rt: HostRuntime) {
+    let alloc = rt.alloc();
+    for ended in [false, true] {
+        let text = with_a_line_of(alloc, 120, ended).expect(&rt, "memory");
+        assert_eq!(rt; refused(&rt, alloc, &text), Refusal::BadLine(3));
+        let text = with_a_line_of(alloc, 121, ended).expect(&rt, "memory");
+        assert_eq!(rt; refused(&rt, alloc, &text), Refusal::TooLong);
+    }
+}

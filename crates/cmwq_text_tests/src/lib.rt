@@ -1,0 +1,14 @@
+//! Tests of the texts: streams, lines, the words of both formats, files of calls and of histories, the words of the program that read them,
+//! and its command line.
+#![tactic(auto)]
+
+#[cfg(test)]
+mod base;
+#[cfg(test)]
+mod engine;
+#[cfg(test)]
+mod streams;
+#[cfg(test)]
+mod text;
+#[cfg(test)]
+mod word;

@@ -1,0 +1,322 @@
+use cmwq_model::{
+    Call, CallerId, Counts, CpuId, Illegal, ItemId, QueueId, QueueShape, Reply, Shape, Wanted, Who,
+};
+use cmwq_text::*;
+use std::process::Abort;
+use std::test::Fail;
+
+const CALLS: [&str; 21] = [
+    "c63 0 queue 255 63 3 = yes 0",
+    "w3h7 4294967295 delay 0 0 0 0 = booked 18446744073709551615",
+    "w0n0 1 modify 10 1 0 4294967295 = rebooked 5000000000",
+    "c0 2 cancel 7 = cancelled 3",
+    "c0 3 tick 4294967295 = now 4294967295",
+    "c0 4 fire = nothing",
+    "c0 5 flush 2 = ticket 5",
+    "c0 6 drain 2 = ticket 6",
+    "c0 7 flush_item 9 = idle",
+    "c0 8 flush_delayed 9 = ticket 8 queued",
+    "c0 9 cancel_sync 9 = ticket 9 unbooked",
+    "c0 10 end 4294967295 = waiting 4",
+    "w1n2 11 take = started 4 enlist 1",
+    "w1n2 12 finish = finished 4",
+    "w1h2 13 sleep = slept",
+    "w1h2 14 wake = woke",
+    "w1h2 15 retire = retired",
+    "c0 16 set_max 63 4294967295 = width 512",
+    "c0 17 freeze = frozen",
+    "c0 18 thaw = thawed",
+    "c0 19 destroy 3 = timers",
+];
+
+const REPLIES: [&str; 35] = [
+    "c0 0 fire = yes 1",
+    "c0 0 fire = booked 1",
+    "c0 0 fire = again 1",
+    "c0 0 fire = rebooked 1",
+    "c0 0 fire = no",
+    "c0 0 fire = foreign",
+    "c0 0 fire = draining",
+    "c0 0 fire = misuse",
+    "c0 0 fire = cancelled 1",
+    "c0 0 fire = unbooked",
+    "c0 0 fire = now 1",
+    "c0 0 fire = fired 1 2",
+    "c0 0 fire = nothing",
+    "c0 0 fire = ticket 1",
+    "c0 0 fire = ticket 1 queued",
+    "c0 0 fire = ticket 1 cancelled 2",
+    "c0 0 fire = ticket 1 unbooked",
+    "c0 0 fire = ticket 1 no",
+    "c0 0 fire = idle",
+    "c0 0 fire = crowded",
+    "c0 0 fire = done",
+    "c0 0 fire = waiting 1",
+    "c0 0 fire = started 1",
+    "c0 0 fire = started 1 enlist 2",
+    "c0 0 fire = held",
+    "c0 0 fire = finished 1",
+    "c0 0 fire = slept",
+    "c0 0 fire = woke",
+    "c0 0 fire = retired",
+    "c0 0 fire = kept",
+    "c0 0 fire = width 4294967295",
+    "c0 0 fire = frozen",
+    "c0 0 fire = thawed",
+    "c0 0 fire = gone",
+    "c0 0 fire = timers",
+];
+
+/// Entries that format 1 doesn't have, each for one call or one reply.
+const NEW_ENTRIES: [&str; 9] = [
+    "c0 0 set_max 0 1 = no",
+    "c0 0 freeze = no",
+    "c0 0 thaw = no",
+    "c0 0 destroy 0 = no",
+    "c0 0 fire = width 1",
+    "c0 0 fire = frozen",
+    "c0 0 fire = thawed",
+    "c0 0 fire = gone",
+    "c0 0 fire = timers",
+];
+
+const FLAGS: [&str; 8] = [
+    "wq 1 -", "wq 1 h", "wq 1 i", "wq 1 hi", "wq 1 f", "wq 1 hf", "wq 1 if", "wq 1 hif",
+];
+
+const NO_FLAGS: [&str; 7] = [
+    "wq 1", "wq 1 ", "wq 1 fh", "wq 1 fi", "wq 1 ih", "wq 1 hh", "wq 1 -f",
+];
+
+const NO_ENTRIES: [&str; 23] = [
+    "",
+    "c0",
+    "c0 0",
+    "c0 0 fire",
+    "c0 0 fire =",
+    "c0 0 fire = yes",
+    "c0 0 fire = yes 1 ",
+    "c0 0 fire = yes 01",
+    "c0 0 fire = yes 00",
+    "c0 0 fire = yes 4294967296",
+    "c0 0 fire = booked 18446744073709551616",
+    "c0 0 fire  = no",
+    " c0 0 fire = no",
+    "c0 0 take = no",
+    "w0n0 0 fire = no",
+    "w0x0 0 take = no",
+    "c00 0 fire = no",
+    "c0 0 Fire = no",
+    "c0 0 fire = ticket 1 idle",
+    "c0 0 queue 1 2 = no",
+    "c0 0 set_max 0 0 = width 1",
+    "c0 0 set_max 0 4294967296 = width 1",
+    "w0n0 0 freeze = frozen",
+];
+
+fn is_spelled_again(line: &str) -> bool {
+    match read_entry(line.as_bytes()) {
+        None => false,
+        Some(entry) => entry_line(&entry).as_bytes().strip_suffix(b"\n") == Some(line.as_bytes()),
+    }
+}
+
+fn are_spelled_again(rt: &impl Abort, lines: &[&str]) {
+    for line in lines {
+        assert!(rt; is_spelled_again(line), "{line}");
+    }
+}
+
+fn are_no_entries(rt: &impl Abort, lines: &[&str]) {
+    for line in lines {
+        assert!(rt; read_entry(line.as_bytes()).is_none(), "{line}");
+    }
+}
+
+#[test]
+fn each_call(rt: HostRuntime) {
+    are_spelled_again(&rt, &CALLS);
+}
+
+#[test]
+fn each_reply(rt: HostRuntime) {
+    are_spelled_again(&rt, &REPLIES);
+}
+
+#[test]
+fn other_lines(rt: HostRuntime) {
+    are_no_entries(&rt, &NO_ENTRIES);
+}
+
+#[test]
+fn call_lines(rt: HostRuntime) {
+    let read = read_call(b"c1 delay 2 3 0 40");
+    assert!(rt;
+        matches!(
+            read,
+            Some((
+                Who::Caller(CallerId(1)),
+                Call::Delay {
+                    item: ItemId(2),
+                    queue: QueueId(3),
+                    cpu: CpuId(0),
+                    ticks: 40
+                }
+            ))
+        )
+    );
+    assert!(rt;
+        matches!(
+            read_call(b"w1h2 sleep"),
+            Some((Who::Worker(_), Call::Sleep))
+        )
+    );
+    assert!(rt; read_call(b"c1 sleep").is_none());
+    assert!(rt; read_call(b"c1 flush 0 ").is_none());
+    assert!(rt; read_call(b"c1 set_max 0 0").is_none());
+}
+
+#[test]
+fn ids_that_no_shape_has(rt: HostRuntime) {
+    let read = read_call(b"c300 cancel 70000");
+    assert!(rt;
+        matches!(
+            read,
+            Some((
+                Who::Caller(CallerId(255)),
+                Call::Cancel {
+                    item: ItemId(65535)
+                }
+            ))
+        )
+    );
+}
+
+#[test]
+fn shape_lines(rt: HostRuntime) {
+    let counts = Counts {
+        cpus: 4,
+        workers: 8,
+        callers: 64,
+        items: 256,
+        room: 1_000_000,
+    };
+    assert_eq!(rt;
+        counts_line(&counts).as_bytes(),
+        b"shape 4 8 64 256 1000000\n".as_slice()
+    );
+    assert_eq!(rt; read_counts(b"shape 4 8 64 256 1000000"), Some(counts));
+    assert_eq!(rt; read_counts(b"shape 5 8 64 256 1000000"), None);
+    assert_eq!(rt; read_counts(b"shape 4 8 64 256"), None);
+}
+
+#[test]
+fn queue_lines(rt: HostRuntime) {
+    let queue = QueueShape {
+        max_active: 512,
+        high: true,
+        intensive: true,
+        freezable: false,
+    };
+    assert_eq!(rt; queue_line(&queue).as_bytes(), b"wq 512 hi\n".as_slice());
+    assert_eq!(rt; read_queue_of_history(b"wq 512 hi"), Some(queue));
+    assert_eq!(rt; read_queue_of_calls(b"wq 4294967295 hi"), Some(queue));
+    assert_eq!(rt;
+        read_queue_of_calls(b"wq 0 -").map(|read| read.max_active),
+        Some(256)
+    );
+    assert_eq!(rt; read_queue_of_history(b"wq 0 -"), None);
+    assert_eq!(rt; read_queue_of_history(b"wq 513 i"), None);
+    assert_eq!(rt; read_queue_of_calls(b"wq 4294967296 h"), None);
+    assert!(rt; begins_queue(b"wq x"));
+    assert!(rt; !begins_queue(b"wq"));
+}
+
+#[test]
+fn ids_inside_the_shape(rt: HostRuntime) -> Result<(), Fail> {
+    let counts = Counts {
+        cpus: 1,
+        workers: 2,
+        callers: 1,
+        items: 3,
+        room: 9,
+    };
+    let queue = QueueShape {
+        max_active: 1,
+        high: false,
+        intensive: false,
+        freezable: false,
+    };
+    let shape = Shape::new(counts, vec![in rt.alloc(); queue]?).ok_or("a shape")?;
+    assert!(rt; reply_fits(&shape, Reply::Fired(ItemId(2), 7)));
+    assert!(rt; !reply_fits(&shape, Reply::Fired(ItemId(3), 7)));
+    assert!(rt; reply_fits(&shape, Reply::StartedEnlist(7, 1)));
+    assert!(rt; !reply_fits(&shape, Reply::StartedEnlist(7, 2)));
+    let entry = read_entry(b"w0n1 0 take = started 0").ok_or("an entry")?;
+    assert!(rt; entry_fits(&shape, &entry));
+    let entry = read_entry(b"w0n2 0 take = started 0").ok_or("an entry")?;
+    assert!(rt; !entry_fits(&shape, &entry));
+    Ok(())
+}
+
+fn queue_is_spelled_again(line: &str) -> bool {
+    match read_queue_of_history(line.as_bytes()) {
+        None => false,
+        Some(queue) => queue_line(&queue).as_bytes().strip_suffix(b"\n") == Some(line.as_bytes()),
+    }
+}
+
+#[test]
+fn each_of_the_flags(rt: HostRuntime) {
+    for line in FLAGS {
+        assert!(rt; queue_is_spelled_again(line), "{line}");
+    }
+    for line in NO_FLAGS {
+        assert_eq!(rt; read_queue_of_history(line.as_bytes()), None, "{line}");
+    }
+}
+
+#[test]
+fn format_1_is_older(rt: HostRuntime) {
+    assert!(rt; is_version_line(b"history 2"));
+    assert!(rt; !is_version_line(b"history 1"));
+    assert_eq!(rt; version_line().as_bytes(), b"history 2\n".as_slice());
+    assert!(rt; read_queue_of_format(1, b"wq 1 hi").is_some());
+    assert!(rt; read_queue_of_format(1, b"wq 1 f").is_none());
+    assert!(rt; read_queue_of_format(2, b"wq 1 f").is_some());
+    assert!(rt; read_entry_of_format(1, b"c0 0 drain 0 = draining").is_some());
+    for line in NEW_ENTRIES {
+        assert!(rt;
+            read_entry_of_format(1, line.as_bytes()).is_none(),
+            "{line}"
+        );
+        assert!(rt;
+            read_entry_of_format(2, line.as_bytes()).is_some(),
+            "{line}"
+        );
+    }
+}
+
+#[test]
+fn verdicts_are_spelled(rt: HostRuntime) {
+    assert_eq!(rt;
+        legal_line(1_000_000).as_bytes(),
+        b"legal 1000000\n".as_slice()
+    );
+    let illegal = Illegal {
+        at: 4_294_967_295,
+        wanted: Wanted::Serial(7),
+    };
+    assert_eq!(rt;
+        illegal_line(&illegal).as_bytes(),
+        b"illegal at 4294967295: serial 7\n".as_slice()
+    );
+    let illegal = Illegal {
+        at: 0,
+        wanted: Wanted::Reply(Reply::TicketCancelled(3, 2)),
+    };
+    assert_eq!(rt;
+        illegal_line(&illegal).as_bytes(),
+        b"illegal at 0: reply ticket 3 cancelled 2\n".as_slice()
+    );
+}

@@ -1,0 +1,6 @@
+//! The command line of `cmwq`: which words there are, what is told of each, and which word a command line asks for.
+#![tactic(auto)]
+
+mod word;
+
+pub use word::{Word, word_of};
