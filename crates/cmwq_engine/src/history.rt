@@ -1,18 +1,17 @@
 //! The history that a list of calls makes.
 
-ghost use Rattle.std.specs.Prelude.{◌≡◌, ◌≤◌, length, IfOk, IsTrue, All};
+ghost use Rattle.std.specs.Prelude.{◌≡◌, ◌≤◌, length, reverse, IfOk, IsTrue, All};
 ghost use Rattle.cmwq_model.specs.Layout.{fits};
 ghost use Rattle.cmwq_model.specs.Room.{steps};
-ghost use Rattle.cmwq_core.specs.History.{past_in};
 
-use cmwq_base::{Call, NoMemory, Shape, Who};
+use cmwq_base::{Call, Entry, NoMemory, Shape, Who};
 use cmwq_core::{Book, Full};
 use std::alloc::Global;
 
-/// The book of the calls that had room, and how many calls were left out for want of it.
+/// The history of the calls that had room, and how many calls were left out for want of it.
 #[derive(Drop)]
 pub struct Steps {
-    pub book: Book,
+    pub history: Vec<Entry>,
     pub left_out: u32,
 }
 
@@ -21,7 +20,7 @@ pub struct Steps {
 pub fn steps_of(alloc: Global, shape: &Shape, calls: &[(Who, Call)]) -> Result<Steps, NoMemory>
     requires few { length calls.now ≤ 1000000 }
     requires fitting { All (λ x. IsTrue (fits shape.now x.0 x.1)) calls.now }
-    ensures past { IfOk result (λ r. past_in r.book ≡ (steps shape.now shape.now.room calls.now).past) }
+    ensures past { IfOk result (λ r. reverse r.history.items ≡ (steps shape.now shape.now.room calls.now).past) }
     ensures left_out { IfOk result (λ r. r.left_out ≡ (steps shape.now shape.now.room calls.now).left_out) }
 {
     let mut book = Book::new(alloc, shape, shape.counts().room)?;
@@ -32,5 +31,8 @@ pub fn steps_of(alloc: Global, shape: &Shape, calls: &[(Who, Call)]) -> Result<S
             Err(Full) => left_out += 1,
         }
     }
-    Ok(Steps { book, left_out })
+    Ok(Steps {
+        history: book.into_history(),
+        left_out,
+    })
 }

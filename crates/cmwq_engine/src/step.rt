@@ -21,7 +21,7 @@ fn step<S: Source, O: Sink>(alloc: Global, input: &mut S, output: &mut O) -> Res
 {
     let file = read_calls(alloc, input)?;
     let steps = steps_of(alloc, &file.shape, &file.calls)?;
-    write_history(output, &file.shape, steps.book.history())?;
+    write_history(output, &file.shape, &steps.history)?;
     Ok(steps.left_out)
 }
 

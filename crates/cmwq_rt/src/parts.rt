@@ -36,9 +36,9 @@ pub struct HubParts {
 struct Rest {
     shape: Shape,
     shape_of_desk: Shape,
-    book: Book,
     sleepers: Sleepers,
     bells: Bells,
+    book: Book,
 }
 
 fn rest_of(alloc: Global, shape: &Shape) -> Result<Rest, NoMemory>
@@ -48,9 +48,9 @@ fn rest_of(alloc: Global, shape: &Shape) -> Result<Rest, NoMemory>
     Ok(Rest {
         shape: shape.copy(alloc)?,
         shape_of_desk: shape.copy(alloc)?,
-        book: Book::new(alloc, shape, shape.counts().room)?,
         sleepers: Sleepers::new(alloc)?,
         bells: Bells::new(alloc)?,
+        book: Book::new(alloc, shape, shape.counts().room)?,
     })
 }
 

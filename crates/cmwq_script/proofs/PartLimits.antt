@@ -24,7 +24,7 @@ use Rattle.cmwq_script.specs.Items.{item_said, Work, no_work, add_item}
 use Rattle.cmwq_script.specs.Queues.{has_queue_keys, freezable_said, queue_said, add_queue}
 use Rattle.cmwq_script.specs.Calls.{call_said}
 use Rattle.cmwq_script.specs.Callers.{add_few, add_call, calls_said, add_caller}
-use Rattle.cmwq_script.specs.Scripts.{IsAction}
+use Rattle.cmwq_script.specs.Scripts.{IsAction, AreCalls}
 use Rattle.cmwq_script.proofs.Readings.{any_read, then_holds, when_read, list_read, all_weaker}
 use Rattle.cmwq_script.proofs.CallLimits.{AreIn, said_is_scripted}
 use Rattle.cmwq_script.proofs.ActionLimits.{AreActions, actions_grow, does_in}
@@ -150,10 +150,6 @@ few_more {X} most P before x all one = at (nat_lt (length before) most) refl
         let more = length-append before (x ∷ []) in
         (all_pushed P before x all one, omega arith)
     at false h = tt
-
--- the calls of one caller
-abbrev pub AreCalls : Layout → List Call → Type 0
-AreCalls s calls = AllByRecursion (IsScripted s) calls × (length calls ≤ 1000)
 
 module _ (known : Known) (s : Layout) (are : AreIn known s) where
   calls_in : (d : Data) → IfSome (calls_said known d) (AreCalls s)

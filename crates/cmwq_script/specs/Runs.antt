@@ -72,12 +72,15 @@ callers_said known t = some_of callers length (in_turn (add_caller known) 0 [] t
 abbrev pub known_in : Top → Named QueueShape → Known
 known_in t qs = record { items = names_after [] t.items; queues = qs.names; cpus = t.cpus }
 
-abbrev pub layout_in : Top → Named QueueShape → Work → List (List Call) → Layout
-layout_in t qs w cs = record { cpus = t.cpus; workers = t.workers; callers = length cs; items = length w.items.values; room = t.room; queues = qs.values }
+abbrev pub layout_in : Top → List QueueShape → Work → List (List Call) → Layout
+layout_in t qs w cs = record { cpus = t.cpus; workers = t.workers; callers = length cs; items = length w.items.values; room = t.room; queues = qs }
+
+abbrev pub run_in : Top → List QueueShape → Work → List (List Call) → Run
+run_in t qs w cs = record { layout = layout_in t qs w cs; does = w.items.values; gates = w.gates; callers = cs }
 
 abbrev pub with_callers : Top → Named QueueShape → Work → Result (List (List Call)) Refused → Result Run Refused
 with_callers t qs w (Err refused) = Err refused
-with_callers t qs w (Ok cs) = Ok (record { layout = layout_in t qs w cs; does = w.items.values; gates = w.gates; callers = cs })
+with_callers t qs w (Ok cs) = Ok (run_in t qs.values w cs)
 
 abbrev pub with_items : Top → Named QueueShape → Result Work Refused → Result Run Refused
 with_items t qs (Err refused) = Err refused

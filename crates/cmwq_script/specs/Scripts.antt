@@ -1,8 +1,9 @@
 -- What the reader's scripts are as plain values, and what they keep to.
-use Rattle.std.specs.Prelude.{◌≡◌, ℕ, ◌<◌, ◌≤◌, ◌^◌, Bool, true, false, length, map, string_bytes, All}
+use Rattle.std.specs.Prelude.{◌≡◌, ℕ, ◌<◌, ◌≤◌, ◌^◌, Bool, true, false, length, List, map, string_bytes, All}
+use Rattle.std.specs.List.{AllByRecursion}
 use Rattle.cmwq_model.specs.declared.call.Call.{Call}
 use Rattle.cmwq_model.specs.declared.call.Call.TheVariants as call
-use Rattle.cmwq_model.specs.Layout.{Layout, has_numbers}
+use Rattle.cmwq_model.specs.Layout.{Layout, is_layout, has_numbers}
 use Rattle.cmwq_model.specs.Scripted.{IsScripted}
 use Rattle.cmwq_script.specs.declared.action.Action.{Action}
 use Rattle.cmwq_script.specs.declared.action.Action.TheVariants as action
@@ -26,6 +27,21 @@ abbrev pub IsAction : Layout → ℕ → Action → Type 0
 IsAction layout gates (action.Call c) = (is_own c ≡ true) × (has_numbers layout c ≡ true)
 IsAction layout gates (action.Open g) = g < gates
 IsAction layout gates (action.SleepAt g) = g < gates
+
+-- the calls of one caller, inside the layout
+abbrev pub AreCalls : Layout → List Call → Type 0
+AreCalls layout calls = AllByRecursion (IsScripted layout) calls × (length calls ≤ 1000)
+
+-- a run inside its limits
+pub record IsWithin (run : Run) : Type 0 where
+  pub allowed : is_layout run.layout ≡ true
+  pub few_callers : length run.callers ≤ 64
+  pub callers : length run.callers ≡ run.layout.callers
+  pub calls : AllByRecursion (AreCalls run.layout) run.callers
+  pub few_items : length run.does ≤ 256
+  pub items : length run.does ≡ run.layout.items
+  pub does : AllByRecursion (AllByRecursion (IsAction run.layout (length run.gates))) run.does
+  pub few_gates : length run.gates ≤ 16
 
 -- what a runner of the script needs
 pub record MayRun (s : Script) : Type 0 where

@@ -1,11 +1,12 @@
 //! A script of a run, as a JSON value names it.
 
-ghost use Rattle.std.specs.Prelude.{◌≡◌, IfOk};
+ghost use Rattle.std.specs.Prelude.{◌≡◌, IfOk, Ok};
 ghost use Rattle.serde_json.specs.View.{view};
+ghost use Rattle.cmwq_json.specs.Members.{named_of};
 ghost use Rattle.cmwq_json.specs.Readings.{told};
 ghost use Rattle.cmwq_script.specs.Runs as spec;
-ghost use Rattle.cmwq_script.specs.Scripts.{run_of, MayRun};
-ghost use Rattle.cmwq_script.specs.Views.{top_of};
+ghost use Rattle.cmwq_script.specs.Scripts.{run_of, IsWithin, MayRun};
+ghost use Rattle.cmwq_script.specs.Views.{top_of, work_of, calls_of};
 
 use crate::action::Action;
 use crate::caller::read_callers;
@@ -15,7 +16,7 @@ use crate::queue::read_queues;
 use crate::top::Top;
 use cmwq_input::{Part, Refused};
 use cmwq_json::Members;
-use cmwq_model::{Call, Counts, Shape};
+use cmwq_model::{Call, Counts, QueueShape, Shape};
 use serde_json::Value;
 use std::alloc::{AllocError, Global};
 
@@ -31,25 +32,18 @@ pub struct Script {
     pub callers: Vec<Vec<Call>>,
 }
 
-/// The script of these parts.
-fn read_lists(alloc: Global, top: &Top<'_>) -> Result<Result<Script, Refused>, AllocError>
-    ensures says { IfOk result (λ r. told run_of r ≡ spec.with_queues (top_of top.now) (spec.queues_said (top_of top.now))) }
-    ensures within { IfOk result (λ r. IfOk r MayRun) }
+/// The script of parts that are inside the limits.
+fn script_of(
+    alloc: Global,
+    top: &Top<'_>,
+    queues: Vec<QueueShape>,
+    items: Items,
+    callers: Vec<Vec<Call>>,
+) -> Result<Script, AllocError>
+    requires { IsWithin (spec.run_in (top_of top.now) queues.items (work_of items) (calls_of callers)) }
+    ensures says { IfOk result (λ script. run_of script ≡ spec.run_in (top_of top.now) queues.items (work_of items) (calls_of callers)) }
+    ensures within { IfOk result MayRun }
 {
-    let queues = match read_queues(alloc, top.queues)? {
-        Ok(queues) => queues,
-        Err(refused) => return Ok(Err(refused)),
-    };
-    let Members { names, values } = queues;
-    let names = Names::new(alloc, top.items, names, top.cpus)?;
-    let items = match read_items(alloc, &names, top.items)? {
-        Ok(items) => items,
-        Err(refused) => return Ok(Err(refused)),
-    };
-    let callers = match read_callers(alloc, &names, top.callers)? {
-        Ok(callers) => callers,
-        Err(refused) => return Ok(Err(refused)),
-    };
     let Items { members, gates } = items;
     let does = members.values;
     let counts = Counts {
@@ -59,14 +53,47 @@ fn read_lists(alloc: Global, top: &Top<'_>) -> Result<Result<Script, Refused>, A
         items: does.len() as u16,
         room: top.room,
     };
-    let shape = Shape::new(counts, values).unwrap();
+    let shape = Shape::new(counts, queues).unwrap();
     let gates = gates.into_names(alloc)?;
-    Ok(Ok(Script {
+    Ok(Script {
         shape,
         does,
         gates,
         callers,
-    }))
+    })
+}
+
+/// The script of these queues, and of the items and the callers, which are read in turn.
+fn with_queues(
+    alloc: Global,
+    top: &Top<'_>,
+    queues: Members<QueueShape>,
+) -> Result<Result<Script, Refused>, AllocError>
+    requires { spec.queues_said (top_of top.now) ≡ Ok (named_of queues) }
+    ensures says { IfOk result (λ r. told run_of r ≡ spec.with_queues (top_of top.now) (Ok (named_of queues))) }
+    ensures within { IfOk result (λ r. IfOk r MayRun) }
+{
+    let Members { names, values } = queues;
+    let names = Names::new(alloc, top.items, names, top.cpus)?;
+    let items = match read_items(alloc, &names, top.items)? {
+        Ok(items) => items,
+        Err(refused) => return Ok(Err(refused)),
+    };
+    match read_callers(alloc, &names, top.callers)? {
+        Ok(callers) => Ok(Ok(script_of(alloc, top, values, items, callers)?)),
+        Err(refused) => Ok(Err(refused)),
+    }
+}
+
+/// The script of the lists of a top.
+fn read_lists(alloc: Global, top: &Top<'_>) -> Result<Result<Script, Refused>, AllocError>
+    ensures says { IfOk result (λ r. told run_of r ≡ spec.with_queues (top_of top.now) (spec.queues_said (top_of top.now))) }
+    ensures within { IfOk result (λ r. IfOk r MayRun) }
+{
+    match read_queues(alloc, top.queues)? {
+        Ok(queues) => with_queues(alloc, top, queues),
+        Err(refused) => Ok(Err(refused)),
+    }
 }
 
 /// The script of a run that a value names, or the first member that is refused: first the keys, their types and the numbers of the top,

@@ -11,8 +11,8 @@ returns-in_err-write_history-clause-ends g c =
     let p = err_from_is_err_and c.from_residual-in_err-write_history.result c.from_residual-in_err-write_history.ensures.1 in
     let file = calls_in c.in_ok-file.file in
     let steps = rw c.deref.ensures.value at c.in_ok-steps.ensures.past in
-    let text = answer_is file c.in_ok-steps.steps.book.entries steps in
-    let front = rw c.history.ensures.entries at c.in_err-write_history.ensures.err in
+    let text = answer_is file c.in_ok-steps.steps.history.items steps in
+    let front = rw c.deref-2.ensures.value at c.in_err-write_history.ensures.err in
     rw (p.1) (ends_cut step_word call_file_of _ _ _ file _ _ (p.2 ∙ c.in_err-write_history.ensures.only) c.in_ok-file.ensures.exact refl (rw text at front))
 
 pub returns-clause-ends : goal.returns-clause-ends
@@ -20,6 +20,6 @@ returns-clause-ends g c =
     let file = calls_in c.in_ok-file.file in
     let steps = rw c.deref.ensures.value at c.in_ok-steps.ensures.past in
     let left_out = rw c.deref.ensures.value at c.in_ok-steps.ensures.left_out in
-    let text = answer_is file c.in_ok-steps.steps.book.entries steps in
-    let whole = rw c.history.ensures.entries at c.in_ok-write_history.ensures.ok in
+    let text = answer_is file c.in_ok-steps.steps.history.items steps in
+    let whole = rw c.deref-2.ensures.value at c.in_ok-write_history.ensures.ok in
     ends_done step_word call_file_of _ _ _ file c.in_ok-steps.steps.left_out c.in_ok-file.ensures.exact (sym left_out) (rw text at whole)
