@@ -3,6 +3,8 @@ use cmwq_model::{ItemId, Number};
 use std::process::Abort;
 use std::test::Fail;
 
+const ITEM: ItemId = ItemId(0);
+
 fn open(rt: &impl Abort, barriers: &mut Barriers, item: ItemId, number: Number) {
     assert!(rt; barriers.may_open(item, number));
     barriers.opened(item, number);
@@ -18,11 +20,11 @@ fn begin(rt: &impl Abort, barriers: &mut Barriers, item: ItemId, ticket: Number)
     barriers.begin(item, ticket);
 }
 
-fn waits_for(rt: &impl Abort, barriers: &Barriers, ticket: Number) -> Option<Number> {
+/// What a flush waits for, of which it is ready when that is nothing.
+fn waits_for(rt: &impl Abort, barriers: &Barriers, ticket: Number, least: Option<Number>) {
     assert!(rt; barriers.stands(ticket));
-    let least = barriers.waits_for(ticket);
+    assert_eq!(rt; barriers.waits_for(ticket), least, "{ticket} waits");
     assert_eq!(rt; barriers.ready(ticket), least.is_none());
-    least
 }
 
 fn end(rt: &impl Abort, barriers: &mut Barriers, ticket: Number) {
@@ -31,33 +33,32 @@ fn end(rt: &impl Abort, barriers: &mut Barriers, ticket: Number) {
     barriers.end(ticket);
 }
 
+/// Item 0 has two open queueings, of which flush 1 waits for the first and flush 3 for both.
+fn two_flushes(rt: &(impl Abort + AllocGlobal)) -> Result<Barriers, Fail> {
+    let mut barriers = Barriers::new(rt.alloc(), 2, 1)?;
+    open(rt, &mut barriers, ITEM, 0);
+    begin(rt, &mut barriers, ITEM, 1);
+    open(rt, &mut barriers, ITEM, 2);
+    assert!(rt; !barriers.may_open(ITEM, 3), "two are open");
+    begin(rt, &mut barriers, ITEM, 3);
+    waits_for(rt, &barriers, 1, Some(0));
+    waits_for(rt, &barriers, 3, Some(0));
+    Ok(barriers)
+}
+
 #[test]
 fn waits_for_run_and_unstarted_queueing(rt: HostRuntime) -> Result<(), Fail> {
-    let mut barriers = Barriers::new(rt.alloc(), 2, 1)?;
-    let item = ItemId(0);
-    open(&rt, &mut barriers, item, 0);
-    begin(&rt, &mut barriers, item, 1);
-    open(&rt, &mut barriers, item, 2);
-    assert!(rt; !barriers.may_open(item, 3), "two are open");
-    begin(&rt, &mut barriers, item, 3);
-    assert_eq!(rt; waits_for(&rt, &barriers, 1), Some(0));
-    assert_eq!(rt; waits_for(&rt, &barriers, 3), Some(0));
-    close(&rt, &mut barriers, item, 2);
-    assert_eq!(rt;
-        waits_for(&rt, &barriers, 3),
-        Some(0),
-        "the run is still open"
-    );
-    open(&rt, &mut barriers, item, 4);
-    close(&rt, &mut barriers, item, 0);
-    assert_eq!(rt;
-        waits_for(&rt, &barriers, 3),
-        None,
-        "a later queueing is not waited for"
-    );
+    let mut barriers = two_flushes(&rt)?;
+    close(&rt, &mut barriers, ITEM, 2);
+    // the run is still open
+    waits_for(&rt, &barriers, 3, Some(0));
+    open(&rt, &mut barriers, ITEM, 4);
+    close(&rt, &mut barriers, ITEM, 0);
+    // a later queueing is not waited for
+    waits_for(&rt, &barriers, 3, None);
     end(&rt, &mut barriers, 1);
     assert!(rt; !barriers.stands(1));
-    assert_eq!(rt; waits_for(&rt, &barriers, 3), None);
+    waits_for(&rt, &barriers, 3, None);
     end(&rt, &mut barriers, 3);
     Ok(())
 }
@@ -68,7 +69,7 @@ fn waits_for_queueing_of_the_same_entry(rt: HostRuntime) -> Result<(), Fail> {
     let item = ItemId(1);
     open(&rt, &mut barriers, item, 5);
     begin(&rt, &mut barriers, item, 5);
-    assert_eq!(rt; waits_for(&rt, &barriers, 5), Some(5));
+    waits_for(&rt, &barriers, 5, Some(5));
     assert!(rt; !barriers.may_begin(ItemId(2), 6), "no such item");
     close(&rt, &mut barriers, item, 5);
     end(&rt, &mut barriers, 5);
@@ -87,6 +88,6 @@ fn as_many_as_may_be(rt: HostRuntime) -> Result<(), Fail> {
         begin(&rt, &mut barriers, ItemId(255), ticket);
     }
     assert!(rt; !barriers.may_begin(ItemId(255), 4608));
-    assert_eq!(rt; waits_for(&rt, &barriers, 4607), Some(255));
+    waits_for(&rt, &barriers, 4607, Some(255));
     Ok(())
 }

@@ -46,48 +46,14 @@ fn numbers(rt: &impl Abort, flights: &Flights, item: ItemId) -> (Option<Number>,
     (run, unstarted)
 }
 
-#[test]
-fn an_item_is_queued_again_while_it_runs(rt: HostRuntime) -> Result<(), Fail> {
-    let mut flights = Flights::new(rt.alloc(), 3)?;
-    let item = ItemId(1);
-    assert_eq!(rt; flights.items(), 3);
-    assert_eq!(rt; flights.open_count(), 0);
-    open(&rt, &mut flights, queueing(1, 7));
-    assert_eq!(rt; numbers(&rt, &flights, item), (None, Some(7)));
-    start(&rt, &mut flights, item);
-    assert_eq!(rt; numbers(&rt, &flights, item), (Some(7), None));
-    open(&rt, &mut flights, queueing(1, 9));
-    assert_eq!(rt; numbers(&rt, &flights, item), (Some(7), Some(9)));
-    assert_eq!(rt; numbers(&rt, &flights, ItemId(0)), (None, None));
-    assert_eq!(rt; flights.open_count(), 2);
-    finish(&rt, &mut flights, item);
-    assert_eq!(rt; numbers(&rt, &flights, item), (None, Some(9)));
-    take_back(&rt, &mut flights, item);
-    take_back(&rt, &mut flights, item);
-    assert_eq!(rt; numbers(&rt, &flights, item), (None, None));
-    assert_eq!(rt; flights.open_count(), 0);
-    Ok(())
-}
-
-#[test]
-fn two_of_as_many_items_as_may_be(rt: HostRuntime) -> Result<(), Fail> {
-    let mut flights = Flights::new(rt.alloc(), 256)?;
-    for item in 0..256 {
-        open(&rt, &mut flights, queueing(item, u32::from(item)));
-        start(&rt, &mut flights, ItemId(item));
-        open(&rt, &mut flights, queueing(item, u32::from(item) + 256));
-    }
-    assert_eq!(rt; flights.open_count(), 512);
-    for item in (0..256).rev() {
-        assert_eq!(rt;
-            numbers(&rt, &flights, ItemId(item)),
-            (Some(u32::from(item)), Some(u32::from(item) + 256))
-        );
-        finish(&rt, &mut flights, ItemId(item));
-        open_place(&rt, &flights, item)?;
-    }
-    assert_eq!(rt; flights.open_count(), 256);
-    Ok(())
+fn numbers_are(
+    rt: &impl Abort,
+    flights: &Flights,
+    item: u16,
+    run: Option<Number>,
+    unstarted: Option<Number>,
+) {
+    assert_eq!(rt; numbers(rt, flights, ItemId(item)), (run, unstarted));
 }
 
 /// What an item's unstarted queueing says besides its number.
@@ -96,5 +62,58 @@ fn open_place(rt: &impl Abort, flights: &Flights, item: u16) -> Result<(), Fail>
     let queueing = flights.unstarted(ItemId(item)).ok_or("none")?;
     assert_eq!(rt; queueing.item, ItemId(item));
     assert!(rt; queueing.place.queue == QueueId(63) && queueing.place.cpu == CpuId(2));
+    Ok(())
+}
+
+/// Item 1 of three runs, and is queued again.
+fn runs_and_is_queued(rt: &(impl Abort + AllocGlobal)) -> Result<Flights, Fail> {
+    let mut flights = Flights::new(rt.alloc(), 3)?;
+    assert_eq!(rt; flights.items(), 3);
+    assert_eq!(rt; flights.open_count(), 0);
+    open(rt, &mut flights, queueing(1, 7));
+    numbers_are(rt, &flights, 1, None, Some(7));
+    start(rt, &mut flights, ItemId(1));
+    numbers_are(rt, &flights, 1, Some(7), None);
+    open(rt, &mut flights, queueing(1, 9));
+    Ok(flights)
+}
+
+#[test]
+fn an_item_is_queued_again_while_it_runs(rt: HostRuntime) -> Result<(), Fail> {
+    let mut flights = runs_and_is_queued(&rt)?;
+    numbers_are(&rt, &flights, 1, Some(7), Some(9));
+    numbers_are(&rt, &flights, 0, None, None);
+    assert_eq!(rt; flights.open_count(), 2);
+    finish(&rt, &mut flights, ItemId(1));
+    numbers_are(&rt, &flights, 1, None, Some(9));
+    take_back(&rt, &mut flights, ItemId(1));
+    take_back(&rt, &mut flights, ItemId(1));
+    numbers_are(&rt, &flights, 1, None, None);
+    assert_eq!(rt; flights.open_count(), 0);
+    Ok(())
+}
+
+/// As many items as may be run, and are queued again.
+fn all_run_and_are_queued(rt: &(impl Abort + AllocGlobal)) -> Result<Flights, Fail> {
+    let mut flights = Flights::new(rt.alloc(), 256)?;
+    for item in 0..256 {
+        open(rt, &mut flights, queueing(item, u32::from(item)));
+        start(rt, &mut flights, ItemId(item));
+        open(rt, &mut flights, queueing(item, u32::from(item) + 256));
+    }
+    Ok(flights)
+}
+
+#[test]
+fn two_of_as_many_items_as_may_be(rt: HostRuntime) -> Result<(), Fail> {
+    let mut flights = all_run_and_are_queued(&rt)?;
+    assert_eq!(rt; flights.open_count(), 512);
+    for item in (0..256).rev() {
+        let number = u32::from(item);
+        numbers_are(&rt, &flights, item, Some(number), Some(number + 256));
+        finish(&rt, &mut flights, ItemId(item));
+        open_place(&rt, &flights, item)?;
+    }
+    assert_eq!(rt; flights.open_count(), 256);
     Ok(())
 }

@@ -31,16 +31,42 @@ fn end(rt: &impl Abort, flushes: &mut Flushes, ticket: Number) {
     flushes.end(ticket);
 }
 
+/// An open queueing, so many flushes that wait for it, and a later queueing.
+fn begun(rt: &(impl Abort + AllocGlobal), last: Number) -> Result<Flushes, Fail>
+    requires { last < 100 }
+{
+    let mut flushes = Flushes::new(rt.alloc(), 1)?;
+    open(rt, &mut flushes, 0);
+    for ticket in 1..=last {
+        begin(rt, &mut flushes, ticket);
+    }
+    open(rt, &mut flushes, last + 1);
+    Ok(flushes)
+}
+
+/// Opens, flushes and ends again and again.
+fn go_round(rt: &impl Abort, flushes: &mut Flushes) {
+    for round in 0..33 {
+        let number = 100 + 3 * round;
+        open(rt, flushes, number);
+        begin(rt, flushes, number + 1);
+        assert!(rt; !is_ready(rt, flushes, number + 1));
+        close(rt, flushes, number);
+        end(rt, flushes, number + 1);
+    }
+}
+
+fn end_all(rt: &impl Abort, flushes: &mut Flushes, from: Number, to: Number) {
+    for ticket in from..=to {
+        end(rt, flushes, ticket);
+    }
+}
+
 /// Sixteen flushes of one open queueing: the sixteenth is in overflow until another ends, and then waits for what was
 /// opened before that.
 #[test]
 fn sixteen_flushes(rt: HostRuntime) -> Result<(), Fail> {
-    let mut flushes = Flushes::new(rt.alloc(), 1)?;
-    open(&rt, &mut flushes, 0);
-    for ticket in 1..=16 {
-        begin(&rt, &mut flushes, ticket);
-    }
-    open(&rt, &mut flushes, 17);
+    let mut flushes = begun(&rt, 16)?;
     assert!(rt; !is_ready(&rt, &flushes, 16));
     assert_eq!(rt; flushes.least_open(), Some(0));
     close(&rt, &mut flushes, 0);
@@ -51,17 +77,8 @@ fn sixteen_flushes(rt: HostRuntime) -> Result<(), Fail> {
     end(&rt, &mut flushes, 1);
     close(&rt, &mut flushes, 17);
     end(&rt, &mut flushes, 16);
-    for ticket in 2..15 {
-        end(&rt, &mut flushes, ticket);
-    }
-    for round in 0..33 {
-        let number = 100 + 3 * round;
-        open(&rt, &mut flushes, number);
-        begin(&rt, &mut flushes, number + 1);
-        assert!(rt; !is_ready(&rt, &flushes, number + 1));
-        close(&rt, &mut flushes, number);
-        end(&rt, &mut flushes, number + 1);
-    }
+    end_all(&rt, &mut flushes, 2, 14);
+    go_round(&rt, &mut flushes);
     assert_eq!(rt; flushes.least_open(), None);
     Ok(())
 }
@@ -70,39 +87,39 @@ fn sixteen_flushes(rt: HostRuntime) -> Result<(), Fail> {
 /// overflow with the second.
 #[test]
 fn forty_flushes(rt: HostRuntime) -> Result<(), Fail> {
-    let mut flushes = Flushes::new(rt.alloc(), 1)?;
-    open(&rt, &mut flushes, 0);
-    for ticket in 1..=40 {
-        begin(&rt, &mut flushes, ticket);
-    }
-    open(&rt, &mut flushes, 41);
+    let mut flushes = begun(&rt, 40)?;
     close(&rt, &mut flushes, 0);
     assert!(rt; !is_ready(&rt, &flushes, 40));
     assert_eq!(rt; flushes.least_open(), Some(41));
     end(&rt, &mut flushes, 15);
     assert!(rt; !is_ready(&rt, &flushes, 16));
     close(&rt, &mut flushes, 41);
-    for ticket in (1..15).chain(16..=40) {
-        end(&rt, &mut flushes, ticket);
-    }
+    end_all(&rt, &mut flushes, 1, 14);
+    end_all(&rt, &mut flushes, 16, 40);
     assert!(rt; !flushes.stands(40));
     Ok(())
+}
+
+fn drain(rt: &impl Abort, flushes: &mut Flushes, ticket: Number) {
+    assert!(rt; flushes.may_drain(ticket));
+    flushes.drain_begin(ticket);
+}
+
+fn end_drain(rt: &impl Abort, flushes: &mut Flushes, ticket: Number) {
+    assert!(rt; flushes.is_drain(ticket));
+    flushes.drain_end(ticket);
 }
 
 #[test]
 fn drains(rt: HostRuntime) -> Result<(), Fail> {
     let mut flushes = Flushes::new(rt.alloc(), 1)?;
     assert!(rt; !flushes.draining());
-    for ticket in [3, 5] {
-        assert!(rt; flushes.may_drain(ticket));
-        flushes.drain_begin(ticket);
-    }
+    drain(&rt, &mut flushes, 3);
+    drain(&rt, &mut flushes, 5);
     assert!(rt; !flushes.may_drain(5), "tickets come rising");
-    assert!(rt; flushes.is_drain(3));
-    flushes.drain_end(3);
+    end_drain(&rt, &mut flushes, 3);
     assert!(rt; flushes.draining());
-    assert!(rt; flushes.is_drain(5));
-    flushes.drain_end(5);
+    end_drain(&rt, &mut flushes, 5);
     assert!(rt; !flushes.draining());
     Ok(())
 }
@@ -153,43 +170,69 @@ fn compare(rt: &impl Abort, flushes: &Flushes, numbers: &[Number], standing: &[P
     }
 }
 
-/// Ten thousand calls that a generator chooses, beside a plain program that keeps two sorted lists.
-#[test]
-fn generated_calls(rt: HostRuntime) -> Result<(), Fail> {
-    let mut flushes = Flushes::new(rt.alloc(), 1)?;
-    let mut numbers = Vec::new(rt.alloc());
-    let mut standing = Vec::new(rt.alloc());
-    let mut seed = 7;
-    let mut longest = 0;
-    for next in 0..10_000 {
-        match chance(&mut seed, 16) {
-            0..4 if flushes.may_open(next) => {
-                flushes.opened(next);
-                numbers.push(next)?;
+/// The flushes of a queue, beside a plain program that keeps two sorted lists.
+#[derive(Drop)]
+struct Beside {
+    flushes: Flushes,
+    numbers: Vec<Number>,
+    standing: Vec<Plain>,
+    seed: u64,
+}
+
+impl Beside {
+    fn close_any(&mut self, rt: &impl Abort) {
+        assert!(rt; !self.numbers.is_empty());
+        let place = chance(&mut self.seed, self.numbers.len());
+        let number = self.numbers.remove(place);
+        close(rt, &mut self.flushes, number);
+    }
+
+    fn end_any_that_is_ready(&mut self, rt: &impl Abort) {
+        assert!(rt; !self.standing.is_empty());
+        let place = chance(&mut self.seed, self.standing.len());
+        if is_plainly_ready(&self.standing[place], &self.numbers) {
+            let flush = self.standing.remove(place);
+            end(rt, &mut self.flushes, flush.ticket);
+        }
+    }
+
+    /// Makes the call that the generator chooses.
+    fn call(&mut self, rt: &impl Abort, next: Number) -> Result<(), Fail> {
+        match chance(&mut self.seed, 16) {
+            0..4 if self.flushes.may_open(next) => {
+                open(rt, &mut self.flushes, next);
+                self.numbers.push(next)?;
             }
-            4..9 if flushes.may_begin(next) => {
-                flushes.begin(next);
-                standing.push(Plain {
+            4..9 if self.flushes.may_begin(next) => {
+                begin(rt, &mut self.flushes, next);
+                self.standing.push(Plain {
                     ticket: next,
                     served: None,
                 })?;
             }
-            9..13 if !numbers.is_empty() => {
-                let number = numbers.remove(chance(&mut seed, numbers.len()));
-                close(&rt, &mut flushes, number);
-            }
-            _ if !standing.is_empty() => {
-                let place = chance(&mut seed, standing.len());
-                if is_plainly_ready(&standing[place], &numbers) {
-                    let flush = standing.remove(place);
-                    end(&rt, &mut flushes, flush.ticket);
-                }
-            }
+            9..13 if !self.numbers.is_empty() => self.close_any(rt),
+            _ if !self.standing.is_empty() => self.end_any_that_is_ready(rt),
             _ => {}
         }
-        serve(&mut standing, next);
-        compare(&rt, &flushes, &numbers, &standing);
-        longest = longest.max(standing.len());
+        serve(&mut self.standing, next);
+        Ok(())
+    }
+}
+
+/// Ten thousand calls that a generator chooses.
+#[test]
+fn generated_calls(rt: HostRuntime) -> Result<(), Fail> {
+    let mut beside = Beside {
+        flushes: Flushes::new(rt.alloc(), 1)?,
+        numbers: Vec::new(rt.alloc()),
+        standing: Vec::new(rt.alloc()),
+        seed: 7,
+    };
+    let mut longest = 0;
+    for next in 0..10_000 {
+        beside.call(&rt, next)?;
+        compare(&rt, &beside.flushes, &beside.numbers, &beside.standing);
+        longest = longest.max(beside.standing.len());
     }
     assert!(rt; longest > 30, "at most {longest} flushes stood");
     Ok(())

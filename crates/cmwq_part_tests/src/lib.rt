@@ -6,6 +6,8 @@ mod barriers;
 #[cfg(test)]
 mod book;
 #[cfg(test)]
+mod fixture;
+#[cfg(test)]
 mod flights;
 #[cfg(test)]
 mod flushes;

@@ -1,61 +1,45 @@
+use crate::fixture::{CALLER, POOL, queue, shape};
 use cmwq_model::*;
-use std::alloc::Global;
 use std::process::Abort;
 use std::test::Fail;
 
-fn shape(rt: &impl Abort, alloc: Global) -> Shape {
-    let mut queues = Vec::new(alloc);
-    let queue = QueueShape {
-        max_active: 1,
-        high: false,
-        intensive: false,
-        freezable: false,
-    };
-    queues.push(queue).expect(rt, "memory");
-    let counts = Counts {
-        cpus: 1,
-        workers: 2,
-        callers: 1,
-        items: 3,
-        room: 100,
-    };
-    assert!(rt; counts.are_allowed() && queue.is_allowed());
-    Shape::new(counts, queues).expect(rt, "inside the limits")
-}
-
-const CALLER: Who = Who::Caller(CallerId(0));
-
+/// The second worker.
 const WORKER: Who = Who::Worker(WorkerId {
-    pool: PoolId {
-        cpu: CpuId(0),
-        high: false,
-    },
+    pool: POOL,
     index: 1,
 });
 
-fn queue(item: u16) -> Call {
-    Call::Queue {
-        item: ItemId(item),
-        queue: QueueId(0),
-        cpu: CpuId(0),
-    }
+fn is_same(rt: &impl Abort, shape: &Shape, other: &Shape) {
+    assert!(rt; shape.counts() == other.counts());
+    assert!(rt; shape.queues() == other.queues());
 }
 
 #[test]
-fn tells_what_it_is_made_of(rt: HostRuntime) {
-    let shape = shape(&rt, rt.alloc());
+fn tells_what_it_is_made_of(rt: HostRuntime) -> Result<(), Fail> {
+    let shape = shape(&rt, 100)?;
     assert_eq!(rt; shape.counts().items, 3);
     assert_eq!(rt; shape.queues().len(), 1);
-    let copy = shape.copy(rt.alloc()).expect(&rt, "memory");
-    assert!(rt; copy.counts() == shape.counts() && copy.queues() == shape.queues());
+    is_same(&rt, &shape, &shape.copy(rt.alloc())?);
+    Ok(())
+}
+
+fn fits(rt: &impl Abort, shape: &Shape, who: Who, call: Call, wanted: bool) {
+    assert!(rt; shape.fits(who, call) == wanted, "{who:?}, {call:?}");
 }
 
 #[test]
-fn calls_fit(rt: HostRuntime) {
-    let shape = shape(&rt, rt.alloc());
-    assert!(rt; shape.fits(CALLER, queue(2)) && shape.fits(WORKER, queue(2)));
-    assert!(rt; !shape.fits(CALLER, queue(3)));
-    assert!(rt; shape.fits(WORKER, Call::Take) && !shape.fits(CALLER, Call::Take));
+fn calls_fit(rt: HostRuntime) -> Result<(), Fail> {
+    let shape = shape(&rt, 100)?;
+    fits(&rt, &shape, CALLER, queue(2), true);
+    fits(&rt, &shape, WORKER, queue(2), true);
+    fits(&rt, &shape, CALLER, queue(3), false);
+    fits(&rt, &shape, WORKER, Call::Take, true);
+    fits(&rt, &shape, CALLER, Call::Take, false);
+    Ok(())
+}
+
+#[test]
+fn workers_take_and_callers_fire(rt: HostRuntime) {
     assert!(rt; Call::Take.is_workers() && !Call::Take.is_callers());
     assert!(rt; Call::Fire.is_callers() && !Call::Fire.is_workers());
 }
@@ -76,17 +60,28 @@ fn too_much_is_no_shape(rt: HostRuntime) {
 #[test]
 fn the_kernel_says(rt: HostRuntime) {
     let cancel = Call::Cancel { item: ItemId(0) };
-    assert_eq!(rt; Reply::Yes(4).kernel(queue(0)), Some(true));
-    assert_eq!(rt; Reply::Unbooked.kernel(cancel), Some(true));
-    assert_eq!(rt; Reply::No.kernel(cancel), Some(false));
-    assert_eq!(rt; Reply::Misuse.kernel(cancel), None);
-    assert_eq!(rt; Reply::Width(4).kernel(queue(0)), None);
+    let returns = [
+        (queue(0), Reply::Yes(4), Some(true)),
+        (cancel, Reply::Unbooked, Some(true)),
+        (cancel, Reply::No, Some(false)),
+        (cancel, Reply::Misuse, None),
+        (queue(0), Reply::Width(4), None),
+    ];
+    for (call, reply, returned) in returns {
+        assert_eq!(rt; reply.kernel(call), returned, "{call:?}: {reply:?}");
+    }
 }
 
 #[test]
 fn replies_are_told_apart(rt: HostRuntime) {
-    assert!(rt; Reply::Width(4).is_same(Reply::Width(4)));
-    assert!(rt; !Reply::Width(4).is_same(Reply::Width(5)) && !Reply::Gone.is_same(Reply::Timers));
+    let pairs = [
+        (Reply::Width(4), Reply::Width(4), true),
+        (Reply::Width(4), Reply::Width(5), false),
+        (Reply::Gone, Reply::Timers, false),
+    ];
+    for (reply, other, same) in pairs {
+        assert_eq!(rt; reply.is_same(other), same, "{reply:?}, {other:?}");
+    }
 }
 
 #[test]

@@ -42,23 +42,38 @@ const DESTROY: Call = Call::Destroy { queue: QueueId(63) };
 
 const FLUSH: Call = Call::Flush { queue: QueueId(63) };
 
-#[test]
-fn gives_and_ends(rt: HostRuntime) -> Result<(), Fail> {
+/// What is being done: whether item 255 is being cancelled, and whether queue 63 is drained, and destroyed.
+fn is_done(rt: &impl Abort, tickets: &Tickets, cancels: bool, drains: bool, destroys: bool) {
+    assert_eq!(rt; tickets.is_cancelling(ItemId(255)), cancels);
+    assert_eq!(rt; tickets.is_draining(QueueId(63)), drains);
+    assert_eq!(rt; tickets.is_being_destroyed(QueueId(63)), destroys);
+}
+
+/// Caller 0 has the tickets 3 and 7, and caller 1 the ticket 4.
+fn three_given(rt: &(impl Abort + AllocGlobal)) -> Result<Tickets, Fail> {
     let mut tickets = Tickets::new(rt.alloc(), 2)?;
     assert_eq!(rt; tickets.callers(), 2);
     assert!(rt; tickets.is_empty());
-    give(&rt, &mut tickets, ticket(0, FLUSH, 3));
-    give(&rt, &mut tickets, ticket(1, FLUSH, 4));
-    give(&rt, &mut tickets, ticket(0, CANCEL_SYNC, 7));
-    assert!(rt;
-        !tickets.may_give(&ticket(0, FLUSH, 7)),
-        "numbers come rising"
-    );
-    assert!(rt;
-        !tickets.may_give(&ticket(2, FLUSH, 9)),
-        "there are two callers"
-    );
+    give(rt, &mut tickets, ticket(0, FLUSH, 3));
+    give(rt, &mut tickets, ticket(1, FLUSH, 4));
+    give(rt, &mut tickets, ticket(0, CANCEL_SYNC, 7));
+    Ok(tickets)
+}
+
+#[test]
+fn gives_rising_numbers_to_its_callers(rt: HostRuntime) -> Result<(), Fail> {
+    let tickets = three_given(&rt)?;
+    let late = ticket(0, FLUSH, 7);
+    assert!(rt; !tickets.may_give(&late), "numbers come rising");
+    let strange = ticket(2, FLUSH, 9);
+    assert!(rt; !tickets.may_give(&strange), "there are two callers");
     assert_eq!(rt; tickets.len(), 3);
+    Ok(())
+}
+
+#[test]
+fn finds_until_the_end(rt: HostRuntime) -> Result<(), Fail> {
+    let mut tickets = three_given(&rt)?;
     let found = find(&rt, &tickets, 0, 7).ok_or("no ticket")?;
     assert!(rt; found.number == 7 && found.caller == CallerId(0));
     assert!(rt; find(&rt, &tickets, 1, 7).is_none());
@@ -69,26 +84,38 @@ fn gives_and_ends(rt: HostRuntime) -> Result<(), Fail> {
     Ok(())
 }
 
-#[test]
-fn knows_what_is_being_done(rt: HostRuntime) -> Result<(), Fail> {
+/// Caller 1 cancels an item, as another did before, and drains a queue.
+fn cancels_and_drains(rt: &(impl Abort + AllocGlobal)) -> Result<Tickets, Fail> {
     let mut tickets = Tickets::new(rt.alloc(), 2)?;
-    assert!(rt; !tickets.is_cancelling(ItemId(255)) && !tickets.is_draining(QueueId(63)));
-    give(&rt, &mut tickets, ticket(0, CANCEL_SYNC, 1));
-    give(&rt, &mut tickets, ticket(1, CANCEL_SYNC, 2));
-    give(&rt, &mut tickets, ticket(1, DRAIN, 3));
-    end(&rt, &mut tickets, 0, 1);
-    assert!(rt; tickets.is_cancelling(ItemId(255)), "the other stands");
+    is_done(rt, &tickets, false, false, false);
+    give(rt, &mut tickets, ticket(0, CANCEL_SYNC, 1));
+    give(rt, &mut tickets, ticket(1, CANCEL_SYNC, 2));
+    give(rt, &mut tickets, ticket(1, DRAIN, 3));
+    end(rt, &mut tickets, 0, 1);
+    Ok(tickets)
+}
+
+#[test]
+fn knows_what_is_cancelled(rt: HostRuntime) -> Result<(), Fail> {
+    let mut tickets = cancels_and_drains(&rt)?;
+    is_done(&rt, &tickets, true, true, false);
     assert!(rt; !tickets.is_cancelling(ItemId(254)) && !tickets.is_cancelling(ItemId(256)));
     end(&rt, &mut tickets, 1, 2);
-    assert!(rt; !tickets.is_cancelling(ItemId(255)));
-    assert!(rt; tickets.is_draining(QueueId(63)) && !tickets.is_being_destroyed(QueueId(63)));
+    is_done(&rt, &tickets, false, true, false);
+    Ok(())
+}
+
+/// A destroy drains too.
+#[test]
+fn knows_what_is_drained(rt: HostRuntime) -> Result<(), Fail> {
+    let mut tickets = cancels_and_drains(&rt)?;
+    end(&rt, &mut tickets, 1, 2);
     give(&rt, &mut tickets, ticket(0, DESTROY, 4));
     end(&rt, &mut tickets, 1, 3);
-    assert!(rt; tickets.is_draining(QueueId(63)), "a destroy drains");
-    assert!(rt; tickets.is_being_destroyed(QueueId(63)));
+    is_done(&rt, &tickets, false, true, true);
     assert!(rt; !tickets.is_being_destroyed(QueueId(62)));
     end(&rt, &mut tickets, 0, 4);
-    assert!(rt; !tickets.is_draining(QueueId(63)) && !tickets.is_being_destroyed(QueueId(63)));
+    is_done(&rt, &tickets, false, false, false);
     Ok(())
 }
 

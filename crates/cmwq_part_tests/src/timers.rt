@@ -1,55 +1,94 @@
-ghost use Rattle.std.specs.Prelude.{◌≡◌};
-
-use cmwq_model::{CpuId, ItemId, Place, QueueId};
+use cmwq_model::{CpuId, ItemId, Number, Place, QueueId};
 use cmwq_timer::*;
+use std::process::Abort;
 use std::test::Fail;
 
 /// Queue 63 alone is held back.
 const HELD: u64 = 1 << 63;
 
-fn on(queue: u8) -> Place
-    ensures { result.queue.0 ≡ queue }
-{
-    Place {
+fn book(rt: &impl Abort, timers: &mut Timers, item: u16, queue: u8, due: u64, number: Number) {
+    assert!(rt; item < timers.items() && queue < 64);
+    let place = Place {
         queue: QueueId(queue),
         cpu: CpuId(2),
-    }
+    };
+    timers.book(ItemId(item), place, due, number);
+}
+
+fn unbook(rt: &impl Abort, timers: &mut Timers, item: u16) {
+    assert!(rt; item < timers.items());
+    timers.unbook(ItemId(item));
+}
+
+fn booked(rt: &impl Abort, timers: &Timers, item: u16) -> Option<u64> {
+    assert!(rt; item < timers.items());
+    timers.booked(ItemId(item))
+}
+
+fn timer(rt: &impl Abort, timers: &Timers, item: u16) -> Option<Timer> {
+    assert!(rt; item < timers.items());
+    timers.timer(ItemId(item))
+}
+
+fn first_is(rt: &impl Abort, timers: &Timers, now: u64, held: u64, item: Option<ItemId>) {
+    assert_eq!(rt; timers.first_due(now, held), item, "at {now}");
+}
+
+/// Items 3 and then 1 are due at 5 on queue 0, and item 0 at 4 on queue 63.
+fn three_booked(rt: &(impl Abort + AllocGlobal)) -> Result<Timers, Fail> {
+    let mut timers = Timers::new(rt.alloc(), 4)?;
+    book(rt, &mut timers, 3, 0, 5, 10);
+    book(rt, &mut timers, 1, 0, 5, 11);
+    book(rt, &mut timers, 0, 63, 4, 12);
+    Ok(timers)
+}
+
+#[test]
+fn nothing_is_booked_at_first(rt: HostRuntime) -> Result<(), Fail> {
+    let timers = Timers::new(rt.alloc(), 4)?;
+    assert_eq!(rt; timers.items(), 4);
+    assert_eq!(rt; booked(&rt, &timers, 0), None);
+    first_is(&rt, &timers, 9, 0, None);
+    Ok(())
+}
+
+#[test]
+fn tells_what_is_booked(rt: HostRuntime) -> Result<(), Fail> {
+    let timers = three_booked(&rt)?;
+    assert_eq!(rt; booked(&rt, &timers, 3), Some(5));
+    assert!(rt; timers.is_booked_on(QueueId(63)) && !timers.is_booked_on(QueueId(62)));
+    Ok(())
+}
+
+#[test]
+fn tells_a_timer(rt: HostRuntime) -> Result<(), Fail> {
+    let timer = timer(&rt, &three_booked(&rt)?, 0).ok_or("no timer")?;
+    assert!(rt; timer.place.cpu == CpuId(2) && timer.place.queue == QueueId(63));
+    assert!(rt; timer.due == 4 && timer.number == 12);
+    Ok(())
 }
 
 #[test]
 fn fires_by_tick_and_then_by_booking(rt: HostRuntime) -> Result<(), Fail> {
-    let mut timers = Timers::new(rt.alloc(), 4)?;
-    assert_eq!(rt; timers.items(), 4);
-    assert_eq!(rt; timers.booked(ItemId(0)), None);
-    assert_eq!(rt; timers.first_due(9, 0), None);
-    timers.book(ItemId(3), on(0), 5, 10);
-    timers.book(ItemId(1), on(0), 5, 11);
-    timers.book(ItemId(0), on(63), 4, 12);
-    assert_eq!(rt; timers.booked(ItemId(3)), Some(5));
-    assert!(rt; timers.is_booked_on(QueueId(63)) && !timers.is_booked_on(QueueId(62)));
-    let timer = timers.timer(ItemId(0)).ok_or("no timer")?;
-    assert!(rt; timer.place.cpu == CpuId(2) && timer.place.queue == QueueId(63));
-    assert!(rt; timer.due == 4 && timer.number == 12);
-    assert_eq!(rt; timers.first_due(3, 0), None, "nothing is due");
-    assert_eq!(rt; timers.first_due(4, 0), Some(ItemId(0)), "due now");
-    assert_eq!(rt; timers.first_due(4, HELD), None, "the queue is held back");
-    assert_eq!(rt; timers.first_due(9, HELD), Some(ItemId(3)), "booked first");
-    timers.unbook(ItemId(3));
-    assert_eq!(rt; timers.booked(ItemId(3)), None);
-    assert_eq!(rt; timers.first_due(9, HELD), Some(ItemId(1)));
-    timers.book(ItemId(1), on(63), 5, 13);
-    assert_eq!(rt;
-        timers.first_due(9, HELD),
-        None,
-        "booked anew on another queue"
-    );
+    let mut timers = three_booked(&rt)?;
+    // nothing is due, item 0 is, its queue is held back, and item 3 was booked before item 1
+    first_is(&rt, &timers, 3, 0, None);
+    first_is(&rt, &timers, 4, 0, Some(ItemId(0)));
+    first_is(&rt, &timers, 4, HELD, None);
+    first_is(&rt, &timers, 9, HELD, Some(ItemId(3)));
+    unbook(&rt, &mut timers, 3);
+    assert_eq!(rt; booked(&rt, &timers, 3), None);
+    first_is(&rt, &timers, 9, HELD, Some(ItemId(1)));
+    // booked anew on another queue
+    book(&rt, &mut timers, 1, 63, 5, 13);
+    first_is(&rt, &timers, 9, HELD, None);
     Ok(())
 }
 
 #[test]
 fn as_many_items_as_may_be(rt: HostRuntime) -> Result<(), Fail> {
     let mut timers = Timers::new(rt.alloc(), 256)?;
-    timers.book(ItemId(255), on(63), u64::MAX, 7);
-    assert_eq!(rt; timers.first_due(u64::MAX, 0), Some(ItemId(255)));
+    book(&rt, &mut timers, 255, 63, u64::MAX, 7);
+    first_is(&rt, &timers, u64::MAX, 0, Some(ItemId(255)));
     Ok(())
 }
