@@ -1,6 +1,7 @@
 use cmwq_base::*;
 use std::alloc::{AllocError, Global};
 use std::process::Abort;
+use std::test::Fail;
 
 const CALLS: &[u8] = b"shape 1 2 1 3 100
 wq 0 hif
@@ -27,10 +28,14 @@ w0n0 0 take = started 0 enlist 1
 w0n0 1 finish = finished 0
 ";
 
-fn refused(rt: &impl Abort, alloc: Global, text: &[u8]) -> Refusal {
-    read_calls(alloc, &mut Memory::reader(text))
-        .err()
-        .expect(rt, "a refusal")
+/// Why a file of calls is refused, if it is.
+fn calls_refused(alloc: Global, source: &mut impl Source) -> Option<Refusal> {
+    read_calls(alloc, source).err()
+}
+
+/// Why a history is refused, if it is.
+fn history_refused(alloc: Global, source: &mut impl Source) -> Option<Refusal> {
+    read_history(alloc, source).err()
 }
 
 #[test]
@@ -40,39 +45,39 @@ fn reads_calls(rt: HostRuntime) {
     assert_eq!(rt; file.shape.counts().room, 100);
 }
 
-/// What is written of a history that is read.
-fn written_again(rt: &impl Abort, alloc: Global, file: &HistoryFile) -> Memory<Vec<u8>> {
-    let mut output = Memory::writer(alloc, 200).expect(rt, "memory");
-    write_shape(&mut output, &file.shape).expect(rt, "written");
+fn write_file(rt: &impl Abort, output: &mut impl Sink, file: &HistoryFile) {
+    write_shape(output, &file.shape).expect(rt, "written");
     for entry in &file.entries {
-        write_entry(&mut output, entry).expect(rt, "written");
+        write_entry(output, entry).expect(rt, "written");
     }
-    output
+}
+
+/// The format of a history, and what is written of it when it is read.
+fn written_again(
+    rt: &(impl Abort + AllocGlobal),
+    source: &mut impl Source,
+) -> (u8, Memory<Vec<u8>>) {
+    let file = read_history(rt.alloc(), source).expect(rt, "a history");
+    let mut output = Memory::writer(rt.alloc(), 200).expect(rt, "memory");
+    write_file(rt, &mut output, &file);
+    (file.version, output)
 }
 
 #[test]
 fn what_is_read_is_written_again(rt: HostRuntime) {
-    let file = read_history(rt.alloc(), &mut Memory::reader(HISTORY)).expect(&rt, "a history");
-    assert_eq!(rt; file.version, 2);
-    assert_eq!(rt; written_again(&rt, rt.alloc(), &file).as_slice(), HISTORY);
+    let (version, output) = written_again(&rt, &mut Memory::reader(HISTORY));
+    assert_eq!(rt; version, 2);
+    assert_eq!(rt; output.as_slice(), HISTORY);
 }
 
 #[test]
 fn format_1_is_written_as_format_2(rt: HostRuntime) {
-    let mut source = Memory::reader(OLD_HISTORY);
-    let file = read_history(rt.alloc(), &mut source).expect(&rt, "a history");
-    assert_eq!(rt; file.version, 1);
-    let output = written_again(&rt, rt.alloc(), &file);
+    let (version, output) = written_again(&rt, &mut Memory::reader(OLD_HISTORY));
+    assert_eq!(rt; version, 1);
     assert_eq!(rt;
         output.as_slice().strip_prefix(b"history 2\n"),
         Some(OLD_HISTORY)
     );
-}
-
-fn history_refused(rt: &impl Abort, alloc: Global, text: &str) -> Refusal {
-    read_history(alloc, &mut Memory::reader(text.as_bytes()))
-        .err()
-        .expect(rt, "a refusal")
 }
 
 /// Histories, and why each is refused.
@@ -112,42 +117,42 @@ const NO_HISTORIES: [(&str, Refusal); 15] = [
 #[test]
 fn the_first_refusal_of_a_history_is_told(rt: HostRuntime) {
     for (text, refusal) in NO_HISTORIES {
-        assert_eq!(rt; history_refused(&rt, rt.alloc(), text), refusal, "{text}");
+        let mut source = Memory::reader(text.as_bytes());
+        let refused = history_refused(rt.alloc(), &mut source);
+        assert_eq!(rt; refused, Some(refusal), "{text}");
     }
 }
 
+/// Files that are none of calls, and why each is refused.
+const NO_CALLS: [(&str, Refusal); 6] = [
+    ("", Refusal::BadShape(1)),
+    ("history 2\n", Refusal::BadShape(1)),
+    ("shape 1 2 1 3 100\n", Refusal::BadShape(2)),
+    ("shape 1 2 1 3 100", Refusal::BadLine(1)),
+    (
+        "shape 1 2 1 3 100\nwq 1 -\nc0 queue 3 0 0\nc0 bogus\n",
+        Refusal::NoSuchId(3),
+    ),
+    (
+        "shape 1 2 1 3 100\nwq 1 -\nc0 fire\nwq 1 -\n",
+        Refusal::BadLine(4),
+    ),
+];
+
 #[test]
 fn the_first_refusal_is_told(rt: HostRuntime) {
-    let alloc = rt.alloc();
-    assert_eq!(rt; refused(&rt, alloc, b""), Refusal::BadShape(1));
-    assert_eq!(rt; refused(&rt, alloc, b"history 2\n"), Refusal::BadShape(1));
-    assert_eq!(rt;
-        refused(&rt, alloc, b"shape 1 2 1 3 100\n"),
-        Refusal::BadShape(2)
-    );
-    assert_eq!(rt;
-        refused(&rt, alloc, b"shape 1 2 1 3 100"),
-        Refusal::BadLine(1)
-    );
-    assert_eq!(rt;
-        refused(
-            &rt,
-            alloc,
-            b"shape 1 2 1 3 100\nwq 1 -\nc0 queue 3 0 0\nc0 bogus\n"
-        ),
-        Refusal::NoSuchId(3)
-    );
-    assert_eq!(rt;
-        refused(&rt, alloc, b"shape 1 2 1 3 100\nwq 1 -\nc0 fire\nwq 1 -\n"),
-        Refusal::BadLine(4)
-    );
+    for (text, refusal) in NO_CALLS {
+        let mut source = Memory::reader(text.as_bytes());
+        let refused = calls_refused(rt.alloc(), &mut source);
+        assert_eq!(rt; refused, Some(refusal), "{text}");
+    }
 }
 
 #[test]
 fn a_failing_source_is_a_read_fault(rt: HostRuntime) {
     let mut source = FailsAt::new(Memory::reader(CALLS), 1);
-    let error = read_calls(rt.alloc(), &mut source).err();
-    assert_eq!(rt; error, Some(Refusal::ReadFault));
+    let refused = calls_refused(rt.alloc(), &mut source);
+    assert_eq!(rt; refused, Some(Refusal::ReadFault));
 }
 
 /// A call file whose third line has so many bytes, with a line feed or without.
@@ -164,12 +169,16 @@ fn with_a_line_of(alloc: Global, bytes: usize, ended: bool) -> Result<Vec<u8>, A
 }
 
 #[test]
-fn a_line_of_120_bytes_is_judged(rt: HostRuntime) {
-    let alloc = rt.alloc();
-    for ended in [false, true] {
-        let text = with_a_line_of(alloc, 120, ended).expect(&rt, "memory");
-        assert_eq!(rt; refused(&rt, alloc, &text), Refusal::BadLine(3));
-        let text = with_a_line_of(alloc, 121, ended).expect(&rt, "memory");
-        assert_eq!(rt; refused(&rt, alloc, &text), Refusal::TooLong);
+fn a_line_of_120_bytes_is_judged(rt: HostRuntime) -> Result<(), Fail> {
+    for (bytes, ended, refusal) in [
+        (120, false, Refusal::BadLine(3)),
+        (121, false, Refusal::TooLong),
+        (120, true, Refusal::BadLine(3)),
+        (121, true, Refusal::TooLong),
+    ] {
+        let text = with_a_line_of(rt.alloc(), bytes, ended)?;
+        let refused = calls_refused(rt.alloc(), &mut Memory::reader(&text));
+        assert_eq!(rt; refused, Some(refusal));
     }
+    Ok(())
 }

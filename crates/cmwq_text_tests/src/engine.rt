@@ -1,6 +1,4 @@
-ghost use Rattle.std.specs.Prelude.{◌<◌};
-
-use cmwq_base::{FailsAt, Memory};
+use cmwq_base::{FailsAt, Memory, Sink, Source};
 use cmwq_engine::*;
 use std::alloc::Global;
 use std::process::Abort;
@@ -18,48 +16,76 @@ w0n0 1 finish = finished 0
 /// How long the line of the format is, which a history of format 1 doesn't have.
 const FORMAT_LINE: usize = 10;
 
-/// Runs `step`, and compares its status and what it wrote.
-fn check_step(
-    rt: &(impl Abort + AllocGlobal),
-    calls: &[u8],
-    status: u8,
-    history: &[u8],
-    told: &[u8],
-) {
-    let alloc = rt.alloc();
-    let mut output = Memory::writer(alloc, 400).expect(rt, "memory");
-    let mut errors = Memory::writer(alloc, 100).expect(rt, "memory");
-    let ended = run_step(alloc, &mut Memory::reader(calls), &mut output, &mut errors);
-    assert_eq!(rt; ended, status);
-    assert_eq!(rt; output.as_slice(), history);
-    assert_eq!(rt; errors.as_slice(), told);
+const LEGAL: &[u8] = b"legal 3\n";
+
+const READ_FAULT: &[u8] = b"cmwq: read fault\n";
+
+const WRITE_FAULT: &[u8] = b"cmwq: write fault\n";
+
+/// The words of the program that are tried here.
+#[derive(Clone, Copy)]
+enum Word {
+    Step,
+    Check,
+    Upgrade,
 }
 
-/// Runs `check`, and compares its status and what it wrote.
-fn check_verdict(
+/// The status of a word, and what it wrote and told.
+type Ended<'a> = (u8, &'a [u8], &'a [u8]);
+
+fn run(
+    alloc: Global,
+    word: Word,
+    input: &mut impl Source,
+    output: &mut impl Sink,
+    errors: &mut impl Sink,
+) -> u8 {
+    match word {
+        Word::Step => run_step(alloc, input, output, errors),
+        Word::Check => run_check(alloc, input, output, errors),
+        Word::Upgrade => run_upgrade(alloc, input, output, errors),
+    }
+}
+
+/// Memory to write, which has room for what a word writes or tells.
+fn room(rt: &(impl Abort + AllocGlobal)) -> Memory<Vec<u8>> {
+    Memory::writer(rt.alloc(), 400).expect(rt, "memory")
+}
+
+/// Runs a word over this text.
+fn check(rt: &(impl Abort + AllocGlobal), word: Word, text: &[u8], wanted: Ended) {
+    let mut output = room(rt);
+    let mut errors = room(rt);
+    let mut input = Memory::reader(text);
+    let status = run(rt.alloc(), word, &mut input, &mut output, &mut errors);
+    assert_eq!(rt; (status, output.as_slice(), errors.as_slice()), wanted);
+}
+
+/// Runs a word over a source and an output: the call of each after so many fails.
+fn check_faulty(
     rt: &(impl Abort + AllocGlobal),
-    history: &[u8],
-    status: u8,
-    verdict: &[u8],
-    told: &[u8],
+    word: Word,
+    reads: u32,
+    writes: u32,
+    wanted: Ended,
 ) {
-    let alloc = rt.alloc();
-    let mut output = Memory::writer(alloc, 100).expect(rt, "memory");
-    let mut errors = Memory::writer(alloc, 100).expect(rt, "memory");
-    let ended = run_check(
-        alloc,
-        &mut Memory::reader(history),
-        &mut output,
-        &mut errors,
+    let text = match word {
+        Word::Step => CALLS,
+        Word::Check | Word::Upgrade => HISTORY,
+    };
+    let mut input = FailsAt::new(Memory::reader(text), u64::from(reads) + 1);
+    let mut output = FailsAt::new(room(rt), u64::from(writes) + 1);
+    let mut errors = room(rt);
+    let status = run(rt.alloc(), word, &mut input, &mut output, &mut errors);
+    assert_eq!(rt;
+        (status, output.inner().as_slice(), errors.as_slice()),
+        wanted
     );
-    assert_eq!(rt; ended, status);
-    assert_eq!(rt; output.as_slice(), verdict);
-    assert_eq!(rt; errors.as_slice(), told);
 }
 
 #[test]
 fn answers_the_first_run(rt: HostRuntime) {
-    check_step(&rt, CALLS, 0, HISTORY, b"");
+    check(&rt, Word::Step, CALLS, (0, HISTORY, b""));
 }
 
 /// What `step` does with so many bytes of the first run: its status, the bytes of the history, and what it tells.
@@ -87,229 +113,176 @@ fn refuses_what_is_cut_in_a_line(rt: HostRuntime) {
         let (status, written, told) = cut_after(bytes);
         let calls = CALLS.get(..bytes).expect(&rt, "a front");
         let history = HISTORY.get(..written).expect(&rt, "a front");
-        check_step(&rt, calls, status, history, told);
+        check(&rt, Word::Step, calls, (status, history, told));
     }
 }
 
 #[test]
 fn tells_what_has_no_room(rt: HostRuntime) {
-    check_step(
+    check(
         &rt,
+        Word::Step,
         b"shape 1 1 1 1 0\nwq 1 -\nc0 fire\n",
-        4,
-        b"history 2\nshape 1 1 1 1 0\nwq 1 -\n",
-        b"cmwq: full 1\n",
+        (
+            4,
+            b"history 2\nshape 1 1 1 1 0\nwq 1 -\n",
+            b"cmwq: full 1\n",
+        ),
     );
 }
 
 #[test]
 fn judges_the_first_run(rt: HostRuntime) {
-    check_verdict(&rt, HISTORY, 0, b"legal 3\n", b"");
-    check_verdict(&rt, &HISTORY[..35], 0, b"legal 0\n", b"");
-    check_verdict(&rt, &HISTORY[FORMAT_LINE..], 0, b"legal 3\n", b"");
+    check(&rt, Word::Check, HISTORY, (0, LEGAL, b""));
+    check(&rt, Word::Check, &HISTORY[..35], (0, b"legal 0\n", b""));
+    check(&rt, Word::Check, &HISTORY[FORMAT_LINE..], (0, LEGAL, b""));
 }
 
-#[test]
-fn names_the_first_wrong_entry(rt: HostRuntime) {
-    check_verdict(
-        &rt,
-        b"shape 1 2 1 3 100
+/// Histories that aren't legal, and what is written of each.
+const ILLEGAL: [(&str, &str); 3] = [
+    (
+        "shape 1 2 1 3 100
 wq 1 -
 c0 0 queue 0 0 0 = yes 0
 w0n0 0 take = started 0 enlist 1
 w0n0 1 finish = nothing
 ",
-        3,
-        b"illegal at 2: reply finished 0\n",
-        b"",
-    );
-    check_verdict(
-        &rt,
-        b"shape 1 2 1 3 100
+        "illegal at 2: reply finished 0\n",
+    ),
+    (
+        "shape 1 2 1 3 100
 wq 1 -
 c0 0 queue 0 0 0 = yes 0
 w0n0 0 take = started 0 enlist 1
 w0n0 2 finish = nothing
 ",
-        3,
-        b"illegal at 2: serial 1\n",
-        b"",
-    );
-    check_verdict(
-        &rt,
-        b"shape 1 2 1 3 100\nwq 1 -\nc0 0 queue 0 0 0 = no\nc0 5 fire = held\n",
-        3,
-        b"illegal at 0: reply yes 0\n",
-        b"",
-    );
+        "illegal at 2: serial 1\n",
+    ),
+    (
+        "shape 1 2 1 3 100\nwq 1 -\nc0 0 queue 0 0 0 = no\nc0 5 fire = held\n",
+        "illegal at 0: reply yes 0\n",
+    ),
+];
+
+#[test]
+fn names_the_first_wrong_entry(rt: HostRuntime) {
+    for (history, verdict) in ILLEGAL {
+        check(
+            &rt,
+            Word::Check,
+            history.as_bytes(),
+            (3, verdict.as_bytes(), b""),
+        );
+    }
 }
+
+/// Histories that are refused, and what is told of each.
+const REFUSED: [(&str, &str); 2] = [
+    (
+        "shape 1 2 1 3 100\nwq 1 -\nc0 0 fire = fired 3 0\n",
+        "cmwq: line 3: no such number\n",
+    ),
+    ("shape 1 2 1 3 100\nwq 0 -\n", "cmwq: line 2: bad shape\n"),
+];
 
 #[test]
 fn judges_no_refused_history(rt: HostRuntime) {
-    check_verdict(
-        &rt,
-        &HISTORY[..119],
-        1,
-        b"",
-        b"cmwq: line 6: not a line of this format\n",
-    );
-    check_verdict(
-        &rt,
-        b"shape 1 2 1 3 100\nwq 1 -\nc0 0 fire = fired 3 0\n",
-        1,
-        b"",
-        b"cmwq: line 3: no such number\n",
-    );
-    check_verdict(
-        &rt,
-        b"shape 1 2 1 3 100\nwq 0 -\n",
-        1,
-        b"",
-        b"cmwq: line 2: bad shape\n",
-    );
-}
-
-/// Runs a word over a source whose call with this number fails, and an output whose call with that number does.
-fn faulty(
-    rt: &(impl Abort + AllocGlobal),
-    checks: bool,
-    read: u64,
-    write: u64,
-) -> (u8, Memory<Vec<u8>>, Memory<Vec<u8>>)
-    requires reads { 0 < read }
-    requires writes { 0 < write }
-{
-    let alloc = rt.alloc();
-    let input = if checks { HISTORY } else { CALLS };
-    let mut input = FailsAt::new(Memory::reader(input), read);
-    let output = Memory::writer(alloc, 200).expect(rt, "memory");
-    let mut output = FailsAt::new(output, write);
-    let mut errors = Memory::writer(alloc, 100).expect(rt, "memory");
-    let status = if checks {
-        run_check(alloc, &mut input, &mut output, &mut errors)
-    } else {
-        run_step(alloc, &mut input, &mut output, &mut errors)
-    };
-    let mut out = Memory::writer(alloc, 200).expect(rt, "memory");
-    cmwq_base::write_all(&mut out, output.inner().as_slice()).expect(rt, "room");
-    (status, out, errors)
+    let cut = b"cmwq: line 6: not a line of this format\n";
+    check(&rt, Word::Check, &HISTORY[..119], (1, b"", cut));
+    for (history, told) in REFUSED {
+        check(
+            &rt,
+            Word::Check,
+            history.as_bytes(),
+            (1, b"", told.as_bytes()),
+        );
+    }
 }
 
 #[test]
 fn each_call_of_the_source_may_fail(rt: HostRuntime) {
-    for checks in [false, true] {
-        for call in 1..=2 {
-            let (status, output, errors) = faulty(&rt, checks, call, 100);
-            assert_eq!(rt; status, 5);
-            assert_eq!(rt; output.as_slice(), b"".as_slice());
-            assert_eq!(rt; errors.as_slice(), b"cmwq: read fault\n".as_slice());
-        }
-        let (status, _, _) = faulty(&rt, checks, 3, 100);
-        assert_eq!(rt; status, 0);
+    for (word, wrote) in [(Word::Step, HISTORY), (Word::Check, LEGAL)] {
+        check_faulty(&rt, word, 0, 99, (5, b"", READ_FAULT));
+        check_faulty(&rt, word, 1, 99, (5, b"", READ_FAULT));
+        check_faulty(&rt, word, 2, 99, (0, wrote, b""));
     }
 }
 
 /// `step` writes the format, the shape, the queue and three entries, and flushes.
 #[test]
 fn each_call_of_the_output_of_step_may_fail(rt: HostRuntime) {
-    let fronts = [0, 10, 28, 35, 60, 93, 120];
-    for (before, written) in fronts.iter().enumerate() {
-        let (status, output, errors) = faulty(&rt, false, 100, before as u64 + 1);
-        assert_eq!(rt; status, 5);
-        assert_eq!(rt; Some(output.as_slice()), HISTORY.get(..*written));
-        assert_eq!(rt; errors.as_slice(), b"cmwq: write fault\n".as_slice());
+    let fronts = [
+        (0, 0),
+        (1, 10),
+        (2, 28),
+        (3, 35),
+        (4, 60),
+        (5, 93),
+        (6, 120),
+    ];
+    for (writes, written) in fronts {
+        let front = HISTORY.get(..written).expect(&rt, "a front");
+        check_faulty(&rt, Word::Step, 99, writes, (5, front, WRITE_FAULT));
     }
-    let (status, output, _) = faulty(&rt, false, 100, 8);
-    assert_eq!(rt; status, 0);
-    assert_eq!(rt; output.as_slice(), HISTORY);
+    check_faulty(&rt, Word::Step, 99, 7, (0, HISTORY, b""));
 }
 
 /// `check` writes one line, and flushes.
 #[test]
 fn each_call_of_the_output_of_check_may_fail(rt: HostRuntime) {
-    let (status, output, errors) = faulty(&rt, true, 100, 1);
-    assert_eq!(rt; status, 5);
-    assert_eq!(rt; output.as_slice(), b"".as_slice());
-    assert_eq!(rt; errors.as_slice(), b"cmwq: write fault\n".as_slice());
-    let (status, output, errors) = faulty(&rt, true, 100, 2);
-    assert_eq!(rt; status, 5);
-    assert_eq!(rt; output.as_slice(), b"legal 3\n".as_slice());
-    assert_eq!(rt; errors.as_slice(), b"cmwq: write fault\n".as_slice());
-    let (status, _, _) = faulty(&rt, true, 100, 3);
-    assert_eq!(rt; status, 0);
+    check_faulty(&rt, Word::Check, 99, 0, (5, b"", WRITE_FAULT));
+    check_faulty(&rt, Word::Check, 99, 1, (5, LEGAL, WRITE_FAULT));
+    check_faulty(&rt, Word::Check, 99, 2, (0, LEGAL, b""));
 }
 
-/// Runs `step` over a source and an output of which each is interrupted so many times in a row.
+/// The status of `step` over a source and an output of which each is interrupted so many times in a row.
 fn interrupted(rt: &(impl Abort + AllocGlobal), reads: u64, writes: u64) -> u8 {
-    let alloc = rt.alloc();
     let mut input = FailsAt::interrupted(Memory::reader(CALLS), 1, reads);
-    let output = Memory::writer(alloc, 200).expect(rt, "memory");
-    let mut output = FailsAt::interrupted(output, 2, writes);
-    let mut errors = Memory::writer(alloc, 100).expect(rt, "memory");
-    run_step(alloc, &mut input, &mut output, &mut errors)
+    let mut output = FailsAt::interrupted(room(rt), 2, writes);
+    run(
+        rt.alloc(),
+        Word::Step,
+        &mut input,
+        &mut output,
+        &mut room(rt),
+    )
 }
 
 #[test]
 fn a_thousand_interruptions_are_borne(rt: HostRuntime) {
-    assert_eq!(rt; interrupted(&rt, 1_000, 1_000), 0);
-    assert_eq!(rt; interrupted(&rt, 1_001, 0), 5);
-    assert_eq!(rt; interrupted(&rt, 0, 1_001), 5);
-}
-
-/// Runs `upgrade`, and compares its status and what it wrote.
-fn check_upgrade(
-    rt: &(impl Abort + AllocGlobal),
-    history: &[u8],
-    status: u8,
-    upgraded: &[u8],
-    told: &[u8],
-) {
-    let alloc = rt.alloc();
-    let mut output = Memory::writer(alloc, 400).expect(rt, "memory");
-    let mut errors = Memory::writer(alloc, 100).expect(rt, "memory");
-    let ended = run_upgrade(
-        alloc,
-        &mut Memory::reader(history),
-        &mut output,
-        &mut errors,
-    );
-    assert_eq!(rt; ended, status);
-    assert_eq!(rt; output.as_slice(), upgraded);
-    assert_eq!(rt; errors.as_slice(), told);
+    for (reads, writes, status) in [(1_000, 1_000, 0), (1_001, 0, 5), (0, 1_001, 5)] {
+        assert_eq!(rt; interrupted(&rt, reads, writes), status);
+    }
 }
 
 #[test]
 fn brings_a_legal_history_to_format_2(rt: HostRuntime) {
-    check_upgrade(&rt, &HISTORY[FORMAT_LINE..], 0, HISTORY, b"");
-    check_upgrade(&rt, HISTORY, 0, HISTORY, b"");
+    check(
+        &rt,
+        Word::Upgrade,
+        &HISTORY[FORMAT_LINE..],
+        (0, HISTORY, b""),
+    );
+    check(&rt, Word::Upgrade, HISTORY, (0, HISTORY, b""));
 }
 
 #[test]
 fn brings_no_other_history_over(rt: HostRuntime) {
-    check_upgrade(
+    check(
         &rt,
+        Word::Upgrade,
         b"shape 1 2 1 3 100\nwq 1 -\nc0 0 queue 0 0 0 = no\n",
-        3,
-        b"",
-        b"illegal at 0: reply yes 0\n",
+        (3, b"", b"illegal at 0: reply yes 0\n"),
     );
-    check_upgrade(
+    check(
         &rt,
+        Word::Upgrade,
         b"shape 1 2 1 3 100\nwq 1 -\nc0 0 freeze = frozen\n",
-        1,
-        b"",
-        b"cmwq: line 3: not a line of this format\n",
+        (1, b"", b"cmwq: line 3: not a line of this format\n"),
     );
 }
 
 #[test]
 fn a_fault_of_the_output_of_upgrade_is_told(rt: HostRuntime) {
-    let alloc = rt.alloc();
-    let output = Memory::writer(alloc, 200).expect(&rt, "memory");
-    let mut output = FailsAt::new(output, 3);
-    let mut errors = Memory::writer(alloc, 100).expect(&rt, "memory");
-    let mut input = Memory::reader(HISTORY);
-    assert_eq!(rt; run_upgrade(alloc, &mut input, &mut output, &mut errors), 5);
-    assert_eq!(rt; Some(output.inner().as_slice()), HISTORY.get(..28));
-    assert_eq!(rt; errors.as_slice(), b"cmwq: write fault\n".as_slice());
+    check_faulty(&rt, Word::Upgrade, 99, 2, (5, &HISTORY[..28], WRITE_FAULT));
 }
