@@ -1,3 +1,4 @@
+use crate::same::same;
 use cmwq_base::*;
 use std::alloc::{AllocError, Global};
 use std::process::Abort;
@@ -41,8 +42,8 @@ fn history_refused(alloc: Global, source: &mut impl Source) -> Option<Refusal> {
 #[test]
 fn reads_calls(rt: HostRuntime) {
     let file = read_calls(rt.alloc(), &mut Memory::reader(CALLS)).expect(&rt, "calls");
-    assert_eq!(rt; file.calls.len(), 5);
-    assert_eq!(rt; file.shape.counts().room, 100);
+    same(&rt, file.calls.len(), 5);
+    same(&rt, file.shape.counts().room, 100);
 }
 
 fn write_file(rt: &impl Abort, output: &mut impl Sink, file: &HistoryFile) {
@@ -66,17 +67,18 @@ fn written_again(
 #[test]
 fn what_is_read_is_written_again(rt: HostRuntime) {
     let (version, output) = written_again(&rt, &mut Memory::reader(HISTORY));
-    assert_eq!(rt; version, 2);
-    assert_eq!(rt; output.as_slice(), HISTORY);
+    same(&rt, version, 2);
+    same(&rt, output.as_slice(), HISTORY);
 }
 
 #[test]
 fn format_1_is_written_as_format_2(rt: HostRuntime) {
     let (version, output) = written_again(&rt, &mut Memory::reader(OLD_HISTORY));
-    assert_eq!(rt; version, 1);
-    assert_eq!(rt;
+    same(&rt, version, 1);
+    same(
+        &rt,
         output.as_slice().strip_prefix(b"history 2\n"),
-        Some(OLD_HISTORY)
+        Some(OLD_HISTORY),
     );
 }
 
@@ -152,7 +154,7 @@ fn the_first_refusal_is_told(rt: HostRuntime) {
 fn a_failing_source_is_a_read_fault(rt: HostRuntime) {
     let mut source = FailsAt::new(Memory::reader(CALLS), 1);
     let refused = calls_refused(rt.alloc(), &mut source);
-    assert_eq!(rt; refused, Some(Refusal::ReadFault));
+    same(&rt, refused, Some(Refusal::ReadFault));
 }
 
 /// A call file whose third line has so many bytes, with a line feed or without.
@@ -178,7 +180,7 @@ fn a_line_of_120_bytes_is_judged(rt: HostRuntime) -> Result<(), Fail> {
     ] {
         let text = with_a_line_of(rt.alloc(), bytes, ended)?;
         let refused = calls_refused(rt.alloc(), &mut Memory::reader(&text));
-        assert_eq!(rt; refused, Some(refusal));
+        same(&rt, refused, Some(refusal));
     }
     Ok(())
 }

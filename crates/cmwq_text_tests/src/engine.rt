@@ -1,3 +1,4 @@
+use crate::same::same;
 use cmwq_base::{FailsAt, Memory, Sink, Source};
 use cmwq_engine::*;
 use std::alloc::Global;
@@ -33,6 +34,7 @@ enum Word {
 /// The status of a word, and what it wrote and told.
 type Ended<'a> = (u8, &'a [u8], &'a [u8]);
 
+/// Runs a word and answers its status. Promises nothing, so that what calls it is short to prove.
 fn run(
     alloc: Global,
     word: Word,
@@ -58,7 +60,7 @@ fn check(rt: &(impl Abort + AllocGlobal), word: Word, text: &[u8], wanted: Ended
     let mut errors = room(rt);
     let mut input = Memory::reader(text);
     let status = run(rt.alloc(), word, &mut input, &mut output, &mut errors);
-    assert_eq!(rt; (status, output.as_slice(), errors.as_slice()), wanted);
+    same(rt, (status, output.as_slice(), errors.as_slice()), wanted);
 }
 
 /// Runs a word over a source and an output: the call of each after so many fails.
@@ -77,9 +79,10 @@ fn check_faulty(
     let mut output = FailsAt::new(room(rt), u64::from(writes) + 1);
     let mut errors = room(rt);
     let status = run(rt.alloc(), word, &mut input, &mut output, &mut errors);
-    assert_eq!(rt;
+    same(
+        rt,
         (status, output.inner().as_slice(), errors.as_slice()),
-        wanted
+        wanted,
     );
 }
 
@@ -107,8 +110,8 @@ fn cut_after(bytes: usize) -> (u8, usize, &'static [u8]) {
 
 #[test]
 fn refuses_what_is_cut_in_a_line(rt: HostRuntime) {
-    assert_eq!(rt; CALLS.len(), 62);
-    assert_eq!(rt; HISTORY.len(), 120);
+    same(&rt, CALLS.len(), 62);
+    same(&rt, HISTORY.len(), 120);
     for bytes in 0..=62 {
         let (status, written, told) = cut_after(bytes);
         let calls = CALLS.get(..bytes).expect(&rt, "a front");
@@ -251,7 +254,7 @@ fn interrupted(rt: &(impl Abort + AllocGlobal), reads: u64, writes: u64) -> u8 {
 #[test]
 fn a_thousand_interruptions_are_borne(rt: HostRuntime) {
     for (reads, writes, status) in [(1_000, 1_000, 0), (1_001, 0, 5), (0, 1_001, 5)] {
-        assert_eq!(rt; interrupted(&rt, reads, writes), status);
+        same(&rt, interrupted(&rt, reads, writes), status);
     }
 }
 

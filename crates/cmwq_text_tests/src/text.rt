@@ -1,6 +1,5 @@
-use cmwq_model::{
-    Call, CallerId, Counts, CpuId, Illegal, ItemId, QueueId, QueueShape, Reply, Shape, Wanted, Who,
-};
+use crate::same::same;
+use cmwq_model::{Counts, Illegal, ItemId, QueueShape, Reply, Shape, Wanted};
 use cmwq_text::*;
 use std::process::Abort;
 use std::test::Fail;
@@ -148,48 +147,32 @@ fn other_lines(rt: HostRuntime) {
     are_no_entries(&rt, &NO_ENTRIES);
 }
 
-#[test]
-fn call_lines(rt: HostRuntime) {
-    let read = read_call(b"c1 delay 2 3 0 40");
-    assert!(rt;
-        matches!(
-            read,
-            Some((
-                Who::Caller(CallerId(1)),
-                Call::Delay {
-                    item: ItemId(2),
-                    queue: QueueId(3),
-                    cpu: CpuId(0),
-                    ticks: 40
-                }
-            ))
-        )
-    );
-    assert!(rt;
-        matches!(
-            read_call(b"w1h2 sleep"),
-            Some((Who::Worker(_), Call::Sleep))
-        )
-    );
-    assert!(rt; read_call(b"c1 sleep").is_none());
-    assert!(rt; read_call(b"c1 flush 0 ").is_none());
-    assert!(rt; read_call(b"c1 set_max 0 0").is_none());
-}
+/// Calls, and how what is read of each is spelled. No shape has the ids of the last.
+const CALL_LINES: [(&str, &str); 6] = [
+    (
+        "c1 delay 2 3 0 40",
+        "Some((Caller(CallerId(1)), Delay { item: ItemId(2), queue: QueueId(3), cpu: CpuId(0), ticks: 40 }))",
+    ),
+    (
+        "w1h2 sleep",
+        "Some((Worker(WorkerId { pool: PoolId { cpu: CpuId(1), high: true }, index: 2 }), Sleep))",
+    ),
+    ("c1 sleep", "None"),
+    ("c1 flush 0 ", "None"),
+    ("c1 set_max 0 0", "None"),
+    (
+        "c300 cancel 70000",
+        "Some((Caller(CallerId(255)), Cancel { item: ItemId(65535) }))",
+    ),
+];
 
 #[test]
-fn ids_that_no_shape_has(rt: HostRuntime) {
-    let read = read_call(b"c300 cancel 70000");
-    assert!(rt;
-        matches!(
-            read,
-            Some((
-                Who::Caller(CallerId(255)),
-                Call::Cancel {
-                    item: ItemId(65535)
-                }
-            ))
-        )
-    );
+fn call_lines(rt: HostRuntime) -> Result<(), Fail> {
+    for (line, spelled) in CALL_LINES {
+        let read = format!(in rt.alloc(); "{:?}", read_call(line.as_bytes()))?;
+        same(&rt, read.as_str(), spelled);
+    }
+    Ok(())
 }
 
 #[test]
@@ -201,13 +184,15 @@ fn shape_lines(rt: HostRuntime) {
         items: 256,
         room: 1_000_000,
     };
-    assert_eq!(rt;
+    same(
+        &rt,
         counts_line(&counts).as_bytes(),
-        b"shape 4 8 64 256 1000000\n".as_slice()
+        b"shape 4 8 64 256 1000000\n".as_slice(),
     );
-    assert_eq!(rt; read_counts(b"shape 4 8 64 256 1000000"), Some(counts));
-    assert_eq!(rt; read_counts(b"shape 5 8 64 256 1000000"), None);
-    assert_eq!(rt; read_counts(b"shape 4 8 64 256"), None);
+    same(&rt, read_counts(b"shape 4 8 64 256 1000000"), Some(counts));
+    for line in ["shape 5 8 64 256 1000000", "shape 4 8 64 256"] {
+        assert!(rt; read_counts(line.as_bytes()).is_none(), "{line}");
+    }
 }
 
 #[test]
@@ -218,22 +203,29 @@ fn queue_lines(rt: HostRuntime) {
         intensive: true,
         freezable: false,
     };
-    assert_eq!(rt; queue_line(&queue).as_bytes(), b"wq 512 hi\n".as_slice());
-    assert_eq!(rt; read_queue_of_history(b"wq 512 hi"), Some(queue));
-    assert_eq!(rt; read_queue_of_calls(b"wq 4294967295 hi"), Some(queue));
-    assert_eq!(rt;
-        read_queue_of_calls(b"wq 0 -").map(|read| read.max_active),
-        Some(256)
+    same(
+        &rt,
+        queue_line(&queue).as_bytes(),
+        b"wq 512 hi\n".as_slice(),
     );
-    assert_eq!(rt; read_queue_of_history(b"wq 0 -"), None);
-    assert_eq!(rt; read_queue_of_history(b"wq 513 i"), None);
-    assert_eq!(rt; read_queue_of_calls(b"wq 4294967296 h"), None);
+    same(&rt, read_queue_of_history(b"wq 512 hi"), Some(queue));
+    same(&rt, read_queue_of_calls(b"wq 4294967295 hi"), Some(queue));
+    let read = read_queue_of_calls(b"wq 0 -").map(|read| read.max_active);
+    same(&rt, read, Some(256));
+}
+
+#[test]
+fn other_queue_lines(rt: HostRuntime) {
+    for line in ["wq 0 -", "wq 513 i"] {
+        assert!(rt; read_queue_of_history(line.as_bytes()).is_none(), "{line}");
+    }
+    assert!(rt; read_queue_of_calls(b"wq 4294967296 h").is_none());
     assert!(rt; begins_queue(b"wq x"));
     assert!(rt; !begins_queue(b"wq"));
 }
 
-#[test]
-fn ids_inside_the_shape(rt: HostRuntime) -> Result<(), Fail> {
+/// A shape of two workers, three items and room for nine entries.
+fn small_shape(rt: &impl AllocGlobal) -> Result<Shape, Fail> {
     let counts = Counts {
         cpus: 1,
         workers: 2,
@@ -247,15 +239,33 @@ fn ids_inside_the_shape(rt: HostRuntime) -> Result<(), Fail> {
         intensive: false,
         freezable: false,
     };
-    let shape = Shape::new(counts, vec![in rt.alloc(); queue]?).ok_or("a shape")?;
-    assert!(rt; reply_fits(&shape, Reply::Fired(ItemId(2), 7)));
-    assert!(rt; !reply_fits(&shape, Reply::Fired(ItemId(3), 7)));
-    assert!(rt; reply_fits(&shape, Reply::StartedEnlist(7, 1)));
-    assert!(rt; !reply_fits(&shape, Reply::StartedEnlist(7, 2)));
-    let entry = read_entry(b"w0n1 0 take = started 0").ok_or("an entry")?;
-    assert!(rt; entry_fits(&shape, &entry));
-    let entry = read_entry(b"w0n2 0 take = started 0").ok_or("an entry")?;
-    assert!(rt; !entry_fits(&shape, &entry));
+    Ok(Shape::new(counts, vec![in rt.alloc(); queue]?).ok_or("a shape")?)
+}
+
+#[test]
+fn replies_inside_the_shape(rt: HostRuntime) -> Result<(), Fail> {
+    let shape = small_shape(&rt)?;
+    for (reply, fits) in [
+        (Reply::Fired(ItemId(2), 7), true),
+        (Reply::Fired(ItemId(3), 7), false),
+        (Reply::StartedEnlist(7, 1), true),
+        (Reply::StartedEnlist(7, 2), false),
+    ] {
+        same(&rt, reply_fits(&shape, reply), fits);
+    }
+    Ok(())
+}
+
+#[test]
+fn entries_inside_the_shape(rt: HostRuntime) -> Result<(), Fail> {
+    let shape = small_shape(&rt)?;
+    for (line, fits) in [
+        ("w0n1 0 take = started 0", true),
+        ("w0n2 0 take = started 0", false),
+    ] {
+        let entry = read_entry(line.as_bytes()).ok_or("an entry")?;
+        same(&rt, entry_fits(&shape, &entry), fits);
+    }
     Ok(())
 }
 
@@ -280,43 +290,55 @@ fn each_of_the_flags(rt: HostRuntime) {
 fn format_1_is_older(rt: HostRuntime) {
     assert!(rt; is_version_line(b"history 2"));
     assert!(rt; !is_version_line(b"history 1"));
-    assert_eq!(rt; version_line().as_bytes(), b"history 2\n".as_slice());
-    assert!(rt; read_queue_of_format(1, b"wq 1 hi").is_some());
-    assert!(rt; read_queue_of_format(1, b"wq 1 f").is_none());
-    assert!(rt; read_queue_of_format(2, b"wq 1 f").is_some());
-    assert!(rt; read_entry_of_format(1, b"c0 0 drain 0 = draining").is_some());
-    for line in NEW_ENTRIES {
-        assert!(rt;
-            read_entry_of_format(1, line.as_bytes()).is_none(),
-            "{line}"
-        );
-        assert!(rt;
-            read_entry_of_format(2, line.as_bytes()).is_some(),
-            "{line}"
-        );
+    same(&rt, version_line().as_bytes(), b"history 2\n".as_slice());
+}
+
+#[test]
+fn format_1_has_no_freezable_queue(rt: HostRuntime) {
+    for (version, line, read) in [
+        (1, "wq 1 hi", true),
+        (1, "wq 1 f", false),
+        (2, "wq 1 f", true),
+    ] {
+        let queue = read_queue_of_format(version, line.as_bytes());
+        assert_eq!(rt; queue.is_some(), read, "{line}");
     }
 }
 
 #[test]
-fn verdicts_are_spelled(rt: HostRuntime) {
-    assert_eq!(rt;
+fn format_1_has_no_new_entry(rt: HostRuntime) {
+    assert!(rt; read_entry_of_format(1, b"c0 0 drain 0 = draining").is_some());
+    for line in NEW_ENTRIES {
+        let old = read_entry_of_format(1, line.as_bytes());
+        assert!(rt; old.is_none(), "{line}");
+        let new = read_entry_of_format(2, line.as_bytes());
+        assert!(rt; new.is_some(), "{line}");
+    }
+}
+
+#[test]
+fn a_legal_verdict_is_spelled(rt: HostRuntime) {
+    same(
+        &rt,
         legal_line(1_000_000).as_bytes(),
-        b"legal 1000000\n".as_slice()
+        b"legal 1000000\n".as_slice(),
     );
-    let illegal = Illegal {
-        at: 4_294_967_295,
-        wanted: Wanted::Serial(7),
-    };
-    assert_eq!(rt;
-        illegal_line(&illegal).as_bytes(),
-        b"illegal at 4294967295: serial 7\n".as_slice()
+}
+
+fn illegal_is_spelled(rt: &impl Abort, at: u32, wanted: Wanted, line: &str) {
+    let spelled = illegal_line(&Illegal { at, wanted });
+    same(rt, spelled.as_bytes(), line.as_bytes());
+}
+
+#[test]
+fn what_is_wanted_is_spelled(rt: HostRuntime) {
+    let serial = Wanted::Serial(7);
+    illegal_is_spelled(
+        &rt,
+        4_294_967_295,
+        serial,
+        "illegal at 4294967295: serial 7\n",
     );
-    let illegal = Illegal {
-        at: 0,
-        wanted: Wanted::Reply(Reply::TicketCancelled(3, 2)),
-    };
-    assert_eq!(rt;
-        illegal_line(&illegal).as_bytes(),
-        b"illegal at 0: reply ticket 3 cancelled 2\n".as_slice()
-    );
+    let reply = Wanted::Reply(Reply::TicketCancelled(3, 2));
+    illegal_is_spelled(&rt, 0, reply, "illegal at 0: reply ticket 3 cancelled 2\n");
 }

@@ -1,3 +1,4 @@
+use crate::same::same;
 use cmwq_word::*;
 use std::test::Fail;
 
@@ -10,7 +11,7 @@ fn reads_each_word(rt: HostRuntime) -> Result<(), Fail> {
         ("replay", Word::Replay),
         ("run", Word::Run),
     ] {
-        assert_eq!(rt; word_of(rt.alloc(), &["cmwq", name])?, word);
+        same(&rt, word_of(rt.alloc(), &["cmwq", name])?, word);
     }
     Ok(())
 }
