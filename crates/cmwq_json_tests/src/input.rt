@@ -1,3 +1,4 @@
+use crate::same::same;
 use cmwq_input::*;
 use cmwq_io::{FailsAt, Memory, tell};
 use serde_json::Value;
@@ -15,8 +16,8 @@ fn a_value_is_read(rt: HostRuntime) -> Result<(), Fail> {
     let Ok(value) = read_value(rt.alloc(), &mut source) else {
         panic!(rt; "refused");
     };
-    assert_eq!(rt; value.get(0usize).and_then(Value::as_u64), Some(1));
-    assert_eq!(rt; value.get(1usize).and_then(Value::as_bool), Some(true));
+    same(&rt, value.get(0usize).and_then(Value::as_u64), Some(1));
+    same(&rt, value.get(1usize).and_then(Value::as_bool), Some(true));
     Ok(())
 }
 
@@ -28,7 +29,7 @@ fn what_is_no_json_is_refused(rt: HostRuntime) {
         b"\"\xff\"".as_slice(),
         b"1 2".as_slice(),
     ] {
-        assert_eq!(rt; fault_of(&rt, bytes), Some(Fault::NotJson));
+        same(&rt, fault_of(&rt, bytes), Some(Fault::NotJson));
     }
 }
 
@@ -44,9 +45,9 @@ fn long(rt: &HostRuntime, count: usize) -> Result<Vec<u8>, Fail> {
 #[test]
 fn one_byte_more_is_too_long(rt: HostRuntime) -> Result<(), Fail> {
     let most = long(&rt, MOST_BYTES)?;
-    assert_eq!(rt; fault_of(&rt, &most), None);
+    same(&rt, fault_of(&rt, &most), None);
     let more = long(&rt, MOST_BYTES + 1)?;
-    assert_eq!(rt; fault_of(&rt, &more), Some(Fault::TooLong));
+    same(&rt, fault_of(&rt, &more), Some(Fault::TooLong));
     Ok(())
 }
 
@@ -56,10 +57,10 @@ fn a_read_that_fails(rt: HostRuntime) {
     for call in 1..3u64 {
         let mut source = FailsAt::new(Memory::reader(text), call);
         let fault = read_value(rt.alloc(), &mut source).err();
-        assert_eq!(rt; fault, Some(Fault::ReadFault));
+        same(&rt, fault, Some(Fault::ReadFault));
     }
     let mut source = FailsAt::interrupted(Memory::reader(text), 1, 1_000);
-    assert_eq!(rt; read_value(rt.alloc(), &mut source).err(), None);
+    same(&rt, read_value(rt.alloc(), &mut source).err(), None);
 }
 
 #[test]
@@ -105,8 +106,8 @@ fn what_is_told(rt: HostRuntime) -> Result<(), Fail> {
     ] {
         let mut errors = Memory::writer(rt.alloc(), 64)?;
         tell(&mut errors, fault);
-        assert_eq!(rt; errors.as_slice(), text.as_bytes());
-        assert_eq!(rt; fault_status(fault), status);
+        same(&rt, errors.as_slice(), text.as_bytes());
+        same(&rt, fault_status(fault), status);
     }
     Ok(())
 }
@@ -115,8 +116,8 @@ fn what_is_told(rt: HostRuntime) -> Result<(), Fail> {
 fn a_text_is_written(rt: HostRuntime) -> Result<(), Fail> {
     let mut sink = Memory::writer(rt.alloc(), 8)?;
     assert!(rt; write_text(&mut sink, "lines\n").is_ok());
-    assert_eq!(rt; sink.as_slice(), b"lines\n".as_slice());
+    same(&rt, sink.as_slice(), b"lines\n".as_slice());
     assert!(rt; write_text(&mut sink, "more").is_err());
-    assert_eq!(rt; sink.as_slice(), b"lines\nmo".as_slice());
+    same(&rt, sink.as_slice(), b"lines\nmo".as_slice());
     Ok(())
 }

@@ -4,7 +4,11 @@
 #[cfg(test)]
 mod input;
 #[cfg(test)]
+mod lists;
+#[cfg(test)]
 mod replay;
+#[cfg(test)]
+mod same;
 #[cfg(test)]
 mod scenario;
 #[cfg(test)]

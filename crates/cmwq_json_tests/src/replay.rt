@@ -1,7 +1,7 @@
-ghost use Rattle.std.specs.Prelude.{◌<◌};
-
-use cmwq_io::{FailsAt, Memory};
+use crate::same::same;
+use cmwq_io::{FailsAt, Memory, Sink, Source};
 use cmwq_replay::*;
+use std::alloc::Global;
 use std::process::Abort;
 
 const SCENARIO: &[u8] = br#"{"queues":[{"name":"q0","max_active":3,"intensive":false}],
@@ -20,27 +20,39 @@ const TABLE: &[u8] = b"TIME IN MSECS\tEVENT
 25\tw2 wakes up and finishes
 ";
 
-/// Runs `replay`, and compares its status and what it wrote.
-fn check_replay(
-    rt: &(impl Abort + AllocGlobal),
-    scenario: &[u8],
-    status: u8,
-    table: &[u8],
-    told: &[u8],
-) {
-    let alloc = rt.alloc();
-    let mut output = Memory::writer(alloc, 400).expect(rt, "memory");
-    let mut errors = Memory::writer(alloc, 100).expect(rt, "memory");
+const READ_FAULT: &[u8] = b"cmwq: read fault\n";
+
+const WRITE_FAULT: &[u8] = b"cmwq: write fault\n";
+
+/// The status of `replay`, and what it wrote and told.
+type Ended<'a> = (u8, &'a [u8], &'a [u8]);
+
+/// Runs `replay` and answers its status. Promises nothing, so that what calls it is short to prove.
+fn run(
+    alloc: Global,
+    input: &mut impl Source,
+    output: &mut impl Sink,
+    errors: &mut impl Sink,
+) -> u8 {
+    run_replay(alloc, input, output, errors)
+}
+
+fn room(rt: &(impl Abort + AllocGlobal), bytes: usize) -> Memory<Vec<u8>> {
+    Memory::writer(rt.alloc(), bytes).expect(rt, "memory")
+}
+
+/// Runs `replay` over an output with room for so many bytes.
+fn check_replay(rt: &(impl Abort + AllocGlobal), scenario: &[u8], bytes: usize, wanted: Ended) {
+    let mut output = room(rt, bytes);
+    let mut errors = room(rt, 100);
     let mut input = Memory::reader(scenario);
-    let ended = run_replay(alloc, &mut input, &mut output, &mut errors);
-    assert_eq!(rt; ended, status);
-    assert_eq!(rt; output.as_slice(), table);
-    assert_eq!(rt; errors.as_slice(), told);
+    let status = run(rt.alloc(), &mut input, &mut output, &mut errors);
+    same(rt, (status, output.as_slice(), errors.as_slice()), wanted);
 }
 
 #[test]
 fn writes_the_table_of_a_scenario(rt: HostRuntime) {
-    check_replay(&rt, SCENARIO, 0, TABLE, b"");
+    check_replay(&rt, SCENARIO, 400, (0, TABLE, b""));
 }
 
 #[test]
@@ -48,9 +60,8 @@ fn writes_the_heading_where_there_is_no_item(rt: HostRuntime) {
     check_replay(
         &rt,
         br#"{"queues":[{"name":"q0","max_active":0,"intensive":false}],"items":[]}"#,
-        0,
-        b"TIME IN MSECS\tEVENT\n",
-        b"",
+        400,
+        (0, b"TIME IN MSECS\tEVENT\n", b""),
     );
 }
 
@@ -74,50 +85,33 @@ fn tells_what_is_refused(rt: HostRuntime) {
         ),
     ];
     for (scenario, told) in refused {
-        check_replay(&rt, scenario, 1, b"", told);
+        check_replay(&rt, scenario, 400, (1, b"", told));
     }
 }
 
-/// Runs `replay` over a source whose call with this number fails, and an output whose call with that number does, and compares
-/// its status and what it wrote.
-fn check_faulty(
-    rt: &(impl Abort + AllocGlobal),
-    read: u64,
-    write: u64,
-    status: u8,
-    table: &[u8],
-    told: &[u8],
-)
-    requires reads { 0 < read }
-    requires writes { 0 < write }
-{
-    let alloc = rt.alloc();
-    let mut input = FailsAt::new(Memory::reader(SCENARIO), read);
-    let output = Memory::writer(alloc, 400).expect(rt, "memory");
-    let mut output = FailsAt::new(output, write);
-    let mut errors = Memory::writer(alloc, 100).expect(rt, "memory");
-    let ended = run_replay(alloc, &mut input, &mut output, &mut errors);
-    assert_eq!(rt; ended, status);
-    assert_eq!(rt; output.inner().as_slice(), table);
-    assert_eq!(rt; errors.as_slice(), told);
+/// Runs `replay` over a source and an output: the call of each after so many fails.
+fn check_faulty(rt: &(impl Abort + AllocGlobal), reads: u32, writes: u32, wanted: Ended) {
+    let mut input = FailsAt::new(Memory::reader(SCENARIO), u64::from(reads) + 1);
+    let mut output = FailsAt::new(room(rt, 400), u64::from(writes) + 1);
+    let mut errors = room(rt, 100);
+    let status = run(rt.alloc(), &mut input, &mut output, &mut errors);
+    same(
+        rt,
+        (status, output.inner().as_slice(), errors.as_slice()),
+        wanted,
+    );
 }
 
 #[test]
 fn a_fault_of_reading_or_writing_is_told(rt: HostRuntime) {
-    check_faulty(&rt, 1, 9, 5, b"", b"cmwq: read fault\n");
-    check_faulty(&rt, 2, 9, 5, b"", b"cmwq: read fault\n");
-    check_faulty(&rt, 9, 1, 5, b"", b"cmwq: write fault\n");
-    check_faulty(&rt, 9, 2, 5, TABLE, b"cmwq: write fault\n");
-    check_faulty(&rt, 9, 9, 0, TABLE, b"");
+    check_faulty(&rt, 0, 8, (5, b"", READ_FAULT));
+    check_faulty(&rt, 1, 8, (5, b"", READ_FAULT));
+    check_faulty(&rt, 8, 0, (5, b"", WRITE_FAULT));
+    check_faulty(&rt, 8, 1, (5, TABLE, WRITE_FAULT));
+    check_faulty(&rt, 8, 8, (0, TABLE, b""));
 }
 
 #[test]
 fn a_front_of_the_table_is_written(rt: HostRuntime) {
-    let alloc = rt.alloc();
-    let mut output = Memory::writer(alloc, 30).expect(&rt, "memory");
-    let mut errors = Memory::writer(alloc, 100).expect(&rt, "memory");
-    let mut input = Memory::reader(SCENARIO);
-    assert_eq!(rt; run_replay(alloc, &mut input, &mut output, &mut errors), 5);
-    assert_eq!(rt; Some(output.as_slice()), TABLE.get(..30));
-    assert_eq!(rt; errors.as_slice(), b"cmwq: write fault\n".as_slice());
+    check_replay(&rt, SCENARIO, 30, (5, &TABLE[..30], WRITE_FAULT));
 }

@@ -1,16 +1,29 @@
+use crate::lists::numbered;
+use crate::same::{is_spelled, same};
 use cmwq_input::{Part, Refused};
 use cmwq_json::*;
 use cmwq_sim::{replay, spell_lines};
 use serde_json::Value;
+use std::process::Abort;
 use std::test::Fail;
 
 // The first refused member of a text, or None where it names a scenario.
-fn refusal(rt: &HostRuntime, text: &str) -> Result<Option<Refused>, Fail> {
+fn refusal(rt: &impl AllocGlobal, text: &str) -> Result<Option<Refused>, Fail> {
     let value = Value::from_str(rt.alloc(), text)?;
     match read_scenario(rt.alloc(), &value)? {
         Ok(_script) => Ok(None),
         Err(refused) => Ok(Some(refused)),
     }
+}
+
+// This member of a text is the first that is refused; or None is.
+fn is_refused(
+    rt: &(impl Abort + AllocGlobal),
+    text: &str,
+    refused: Option<Refused>,
+) -> Result<(), Fail> {
+    assert_eq!(rt; refusal(rt, text)?, refused, "{text}");
+    Ok(())
 }
 
 fn top() -> Option<Refused> {
@@ -43,23 +56,15 @@ fn names_and_numbers_of_a_scenario(rt: HostRuntime) -> Result<(), Fail> {
     let Ok(script) = read_scenario(rt.alloc(), &value)? else {
         panic!(rt; "refused");
     };
-    assert_eq!(rt; script.names.len(), 2);
-    assert_eq!(rt; script.names[0].as_str(), "w0");
-    assert_eq!(rt; script.names[1].as_str(), "q0");
-    let queues = &script.scenario.queues;
-    assert_eq!(rt; queues.len(), 2);
-    assert_eq!(rt; queues[0].max_active, 256);
-    assert!(rt; !queues[0].intensive);
-    assert_eq!(rt; queues[1].max_active, 512);
-    assert!(rt; queues[1].intensive);
-    let items = &script.scenario.items;
-    assert_eq!(rt; items.len(), 2);
-    assert_eq!(rt; items[0].queue, 0);
-    assert_eq!(rt; items[0].ms.as_slice(), [5, 10, 5].as_slice());
-    assert_eq!(rt; items[1].queue, 1);
-    assert_eq!(rt; items[1].ms.as_slice(), [1000].as_slice());
-    Ok(())
+    is_spelled(&rt, &script.names, r#"["w0", "q0"]"#)?;
+    is_spelled(&rt, &script.scenario, SCENARIO)
 }
+
+const SCENARIO: &str = "Scenario { queues: [\
+    SimQueue { max_active: 256, intensive: false }, \
+    SimQueue { max_active: 512, intensive: true }], items: [\
+    SimItem { queue: 0, ms: [5, 10, 5] }, \
+    SimItem { queue: 1, ms: [1000] }] }";
 
 #[test]
 fn a_whole_of_another_form(rt: HostRuntime) -> Result<(), Fail> {
@@ -72,7 +77,7 @@ fn a_whole_of_another_form(rt: HostRuntime) -> Result<(), Fail> {
         r#"{"queues":null,"items":[]}"#,
         r#"{"queues":[],"items":[],"more":1}"#,
     ] {
-        assert_eq!(rt; refusal(&rt, text)?, top(), "{text}");
+        is_refused(&rt, text, top())?;
     }
     Ok(())
 }
@@ -106,7 +111,7 @@ fn queues_that_are_refused(rt: HostRuntime) -> Result<(), Fail> {
         ),
     ] {
         let text = format!(in rt.alloc(); r#"{{"queues":[{text}],"items":[3]}}"#)?;
-        assert_eq!(rt; refusal(&rt, text.as_str())?, queue(index), "{text}");
+        is_refused(&rt, text.as_str(), queue(index))?;
     }
     Ok(())
 }
@@ -133,43 +138,42 @@ fn items_that_are_refused(rt: HostRuntime) -> Result<(), Fail> {
         let text = format!(in rt.alloc();
             r#"{{"queues":[{{"name":"q","max_active":1,"intensive":false}}],"items":[{text}]}}"#
         )?;
-        assert_eq!(rt; refusal(&rt, text.as_str())?, item(index), "{text}");
+        is_refused(&rt, text.as_str(), item(index))?;
     }
     Ok(())
+}
+
+// A scenario of so many queues.
+fn with_queues(rt: &impl AllocGlobal, count: usize) -> Result<String, Fail> {
+    let back = r#"","max_active":1,"intensive":true}"#;
+    let queues = numbered(rt, count, r#"{"name":"q"#, back)?;
+    Ok(format!(in rt.alloc(); r#"{{"queues":[{queues}],"items":[]}}"#)?)
+}
+
+// A scenario of so many items.
+fn with_items(rt: &impl AllocGlobal, count: usize) -> Result<String, Fail> {
+    let items = numbered(rt, count, r#"{"name":"x"#, r#"","queue":"q0","ms":[1]}"#)?;
+    Ok(format!(in rt.alloc();
+        r#"{{"queues":[{{"name":"q0","max_active":1,"intensive":true}}],"items":[{items}]}}"#
+    )?)
 }
 
 #[test]
 fn the_ninth_is_one_too_many(rt: HostRuntime) -> Result<(), Fail> {
     for count in 1..10usize {
-        let mut queues = String::new(rt.alloc());
-        let mut items = String::new(rt.alloc());
-        for place in 0..count {
-            let comma = if place == 0 { "" } else { "," };
-            queues.push_str(format!(in rt.alloc();
-                r#"{comma}{{"name":"q{place}","max_active":1,"intensive":true}}"#
-            )?.as_str())?;
-            items.push_str(format!(in rt.alloc();
-                r#"{comma}{{"name":"x{place}","queue":"q0","ms":[1]}}"#
-            )?.as_str())?;
-        }
-        let many_queues = format!(in rt.alloc(); r#"{{"queues":[{queues}],"items":[]}}"#)?;
-        let many_items = format!(in rt.alloc();
-            r#"{{"queues":[{{"name":"q0","max_active":1,"intensive":true}}],"items":[{items}]}}"#
-        )?;
-        assert_eq!(rt;
-            refusal(&rt, many_queues.as_str())?,
-            if count < 9 { None } else { queue(8) }
-        );
-        assert_eq!(rt;
-            refusal(&rt, many_items.as_str())?,
-            if count < 9 { None } else { item(8) }
-        );
+        let (queue, item) = if count < 9 {
+            (None, None)
+        } else {
+            (queue(8), item(8))
+        };
+        is_refused(&rt, with_queues(&rt, count)?.as_str(), queue)?;
+        is_refused(&rt, with_items(&rt, count)?.as_str(), item)?;
     }
     Ok(())
 }
 
 // The table of a text's scenario.
-fn table(rt: &HostRuntime, text: &str) -> Result<String, Fail> {
+fn table(rt: &impl AllocGlobal, text: &str) -> Result<String, Fail> {
     let value = Value::from_str(rt.alloc(), text)?;
     match read_scenario(rt.alloc(), &value)? {
         Ok(script) => {
@@ -188,9 +192,10 @@ fn the_next_starts_while_one_sleeps(rt: HostRuntime) -> Result<(), Fail> {
         r#"{"queues":[{"name":"q0","max_active":2,"intensive":false}],
         "items":[{"name":"w0","queue":"q0","ms":[5,10,5]},{"name":"w1","queue":"q0","ms":[5,10]},{"name":"w2","queue":"q0","ms":[5,10]}]}"#,
     )?;
-    assert_eq!(rt;
+    same(
+        &rt,
         text.as_str(),
-        "TIME IN MSECS\tEVENT\n0\tw0 starts and burns CPU\n5\tw0 sleeps\n5\tw1 starts and burns CPU\n10\tw1 sleeps\n15\tw0 wakes up and burns CPU\n20\tw0 finishes\n20\tw1 wakes up and finishes\n20\tw2 starts and burns CPU\n25\tw2 sleeps\n35\tw2 wakes up and finishes\n"
+        "TIME IN MSECS\tEVENT\n0\tw0 starts and burns CPU\n5\tw0 sleeps\n5\tw1 starts and burns CPU\n10\tw1 sleeps\n15\tw0 wakes up and burns CPU\n20\tw0 finishes\n20\tw1 wakes up and finishes\n20\tw2 starts and burns CPU\n25\tw2 sleeps\n35\tw2 wakes up and finishes\n",
     );
     Ok(())
 }
@@ -202,9 +207,10 @@ fn items_of_an_intensive_queue_start_beside_each_other(rt: HostRuntime) -> Resul
         r#"{"queues":[{"name":"q0","max_active":3,"intensive":false},{"name":"q1","max_active":3,"intensive":true}],
         "items":[{"name":"w0","queue":"q0","ms":[5,10,5]},{"name":"w1","queue":"q1","ms":[5,10]},{"name":"w2","queue":"q1","ms":[5,10]}]}"#,
     )?;
-    assert_eq!(rt;
+    same(
+        &rt,
         text.as_str(),
-        "TIME IN MSECS\tEVENT\n0\tw0 starts and burns CPU\n5\tw0 sleeps\n5\tw1 and w2 start and burn CPU\n10\tw1 sleeps\n15\tw2 sleeps\n15\tw0 wakes up and burns CPU\n20\tw0 finishes\n20\tw1 wakes up and finishes\n25\tw2 wakes up and finishes\n"
+        "TIME IN MSECS\tEVENT\n0\tw0 starts and burns CPU\n5\tw0 sleeps\n5\tw1 and w2 start and burn CPU\n10\tw1 sleeps\n15\tw2 sleeps\n15\tw0 wakes up and burns CPU\n20\tw0 finishes\n20\tw1 wakes up and finishes\n25\tw2 wakes up and finishes\n",
     );
     Ok(())
 }
