@@ -1,11 +1,13 @@
+use crate::lists::{numbered, times};
+use crate::same::is_spelled;
 use cmwq_input::{Part, Refused};
-use cmwq_model::{Call, CpuId, ItemId, QueueId, QueueShape};
 use cmwq_script::*;
 use serde_json::Value;
+use std::process::Abort;
 use std::test::Fail;
 
 // The first refused member of a text, or None where it names a script.
-fn refusal(rt: &HostRuntime, text: &str) -> Result<Option<Refused>, Fail> {
+fn refusal(rt: &impl AllocGlobal, text: &str) -> Result<Option<Refused>, Fail> {
     let value = Value::from_str(rt.alloc(), text)?;
     match read_script(rt.alloc(), &value)? {
         Ok(_script) => Ok(None),
@@ -13,12 +15,22 @@ fn refusal(rt: &HostRuntime, text: &str) -> Result<Option<Refused>, Fail> {
     }
 }
 
+// This member of a text is the first that is refused; or None is.
+fn is_refused(
+    rt: &(impl Abort + AllocGlobal),
+    text: &str,
+    refused: Option<Refused>,
+) -> Result<(), Fail> {
+    assert_eq!(rt; refusal(rt, text)?, refused, "{text}");
+    Ok(())
+}
+
 fn at(part: Part, index: usize) -> Option<Refused> {
     Some(Refused { part, index })
 }
 
 // A script of these members, with two CPUs.
-fn script(rt: &HostRuntime, queues: &str, items: &str, callers: &str) -> Result<String, Fail> {
+fn script(rt: &impl AllocGlobal, queues: &str, items: &str, callers: &str) -> Result<String, Fail> {
     Ok(format!(in rt.alloc();
         r#"{{"cpus":2,"workers":1,"room":9,"queues":[{queues}],"items":[{items}],"callers":[{callers}]}}"#
     )?)
@@ -28,21 +40,17 @@ const QUEUE: &str = r#"{"name":"q","max_active":1,"high":false,"intensive":false
 
 const ITEM: &str = r#"{"name":"x","does":[]}"#;
 
-// The same text so many times, with commas between.
-fn times(rt: &HostRuntime, count: usize, text: &str) -> Result<String, Fail> {
-    let mut list = String::new(rt.alloc());
-    for place in 0..count {
-        list.push_str(if place == 0 { "" } else { "," })?;
-        list.push_str(text)?;
-    }
-    Ok(list)
-}
-
 // The script of a text that names one.
-fn read(rt: &HostRuntime, text: &str) -> Result<Script, Fail> {
+fn read(rt: &impl AllocGlobal, text: &str) -> Result<Script, Fail> {
     let value = Value::from_str(rt.alloc(), text)?;
     Ok(read_script(rt.alloc(), &value)??)
 }
+
+const COUNTS: &str = "Counts { cpus: 2, workers: 8, callers: 2, items: 3, room: 1000000 }";
+
+const QUEUES: &str =
+    "[QueueShape { max_active: 1, high: false, intensive: false, freezable: false }, \
+    QueueShape { max_active: 512, high: true, intensive: true, freezable: true }]";
 
 #[test]
 fn the_shape_of_a_script(rt: HostRuntime) -> Result<(), Fail> {
@@ -51,34 +59,27 @@ fn the_shape_of_a_script(rt: HostRuntime) -> Result<(), Fail> {
         "items":[{ITEM},{{"does":[],"name":"y"}},{{"does":[],"name":"z"}}],"callers":[[],[]]}}"#
     )?;
     let script = read(&rt, text.as_str())?;
-    let counts = script.shape.counts();
-    assert_eq!(rt;
-        (counts.cpus, counts.workers, counts.room),
-        (2, 8, 1_000_000)
-    );
-    assert_eq!(rt; (counts.callers, counts.items), (2, 3));
-    let queues = script.shape.queues();
-    assert_eq!(rt; queues.len(), 2);
-    assert_eq!(rt;
-        queues[0],
-        QueueShape {
-            max_active: 1,
-            high: false,
-            intensive: false,
-            freezable: false,
-        }
-    );
-    assert_eq!(rt;
-        queues[1],
-        QueueShape {
-            max_active: 512,
-            high: true,
-            intensive: true,
-            freezable: true,
-        }
-    );
+    is_spelled(&rt, &script.shape.counts(), COUNTS)?;
+    is_spelled(&rt, &script.shape.queues(), QUEUES)?;
     Ok(())
 }
+
+// The calls of two callers: the first makes none.
+const CALLS: &str = "[[], [\
+    Queue { item: ItemId(0), queue: QueueId(1), cpu: CpuId(1) }, \
+    Delay { item: ItemId(1), queue: QueueId(0), cpu: CpuId(0), ticks: 7 }, \
+    Modify { item: ItemId(0), queue: QueueId(0), cpu: CpuId(0), ticks: 4294967295 }, \
+    Cancel { item: ItemId(1) }, \
+    Tick { ticks: 3 }, \
+    Flush { queue: QueueId(1) }, \
+    FlushItem { item: ItemId(1) }, \
+    FlushDelayed { item: ItemId(0) }, \
+    CancelSync { item: ItemId(1) }, \
+    Drain { queue: QueueId(0) }, \
+    SetMax { queue: QueueId(1), max_active: 4294967295 }, \
+    Freeze, \
+    Thaw, \
+    Destroy { queue: QueueId(1) }]]";
 
 #[test]
 fn the_calls_of_a_caller(rt: HostRuntime) -> Result<(), Fail> {
@@ -92,63 +93,19 @@ fn the_calls_of_a_caller(rt: HostRuntime) -> Result<(), Fail> {
     let callers = format!(in rt.alloc(); "[],[{calls}]")?;
     let text = script(&rt, queues.as_str(), items.as_str(), callers.as_str())?;
     let script = read(&rt, text.as_str())?;
-    assert_eq!(rt; script.callers.len(), 2);
-    assert_eq!(rt; script.callers[0].len(), 0);
-    let calls = script.callers[1].as_slice();
-    assert_eq!(rt; calls.len(), 14);
-    assert!(rt;
-        matches!(
-            calls[0],
-            Call::Queue {
-                item: ItemId(0),
-                queue: QueueId(1),
-                cpu: CpuId(1)
-            }
-        )
-    );
-    assert!(rt;
-        matches!(
-            calls[1],
-            Call::Delay {
-                item: ItemId(1),
-                queue: QueueId(0),
-                cpu: CpuId(0),
-                ticks: 7
-            }
-        )
-    );
-    assert!(rt;
-        matches!(
-            calls[2],
-            Call::Modify {
-                item: ItemId(0),
-                queue: QueueId(0),
-                cpu: CpuId(0),
-                ticks: 4_294_967_295
-            }
-        )
-    );
-    assert!(rt; matches!(calls[3], Call::Cancel { item: ItemId(1) }));
-    assert!(rt; matches!(calls[4], Call::Tick { ticks: 3 }));
-    assert!(rt; matches!(calls[5], Call::Flush { queue: QueueId(1) }));
-    assert!(rt; matches!(calls[6], Call::FlushItem { item: ItemId(1) }));
-    assert!(rt; matches!(calls[7], Call::FlushDelayed { item: ItemId(0) }));
-    assert!(rt; matches!(calls[8], Call::CancelSync { item: ItemId(1) }));
-    assert!(rt; matches!(calls[9], Call::Drain { queue: QueueId(0) }));
-    assert!(rt;
-        matches!(
-            calls[10],
-            Call::SetMax {
-                queue: QueueId(1),
-                max_active: 4_294_967_295
-            }
-        )
-    );
-    assert!(rt; matches!(calls[11], Call::Freeze));
-    assert!(rt; matches!(calls[12], Call::Thaw));
-    assert!(rt; matches!(calls[13], Call::Destroy { queue: QueueId(1) }));
-    Ok(())
+    is_spelled(&rt, &script.callers, CALLS)
 }
+
+// The actions of two items.
+const ACTIONS: &str = "[[\
+    SleepAt { gate: 0 }, \
+    Call(Queue { item: ItemId(1), queue: QueueId(0), cpu: CpuId(0) }), \
+    Open { gate: 1 }, \
+    Call(Cancel { item: ItemId(0) })], [\
+    Open { gate: 1 }, \
+    Call(Delay { item: ItemId(1), queue: QueueId(0), cpu: CpuId(1), ticks: 2 }), \
+    Call(Modify { item: ItemId(0), queue: QueueId(0), cpu: CpuId(0), ticks: 0 }), \
+    SleepAt { gate: 2 }]]";
 
 #[test]
 fn the_actions_of_items(rt: HostRuntime) -> Result<(), Fail> {
@@ -157,51 +114,8 @@ fn the_actions_of_items(rt: HostRuntime) -> Result<(), Fail> {
         {"name":"y","does":[["open","early"],["delay","y","q",1,2],["modify","x","q",0,0],["sleep_at","last"]]}"#;
     let text = script(&rt, QUEUE, items, "[]")?;
     let script = read(&rt, text.as_str())?;
-    assert_eq!(rt; script.gates.len(), 3);
-    assert_eq!(rt; script.gates[0].as_str(), "late");
-    assert_eq!(rt; script.gates[1].as_str(), "early");
-    assert_eq!(rt; script.gates[2].as_str(), "last");
-    assert_eq!(rt; script.does.len(), 2);
-    let (first, second) = (script.does[0].as_slice(), script.does[1].as_slice());
-    assert_eq!(rt; (first.len(), second.len()), (4, 4));
-    assert!(rt; matches!(first[0], Action::SleepAt { gate: 0 }));
-    assert!(rt;
-        matches!(
-            first[1],
-            Action::Call(Call::Queue {
-                item: ItemId(1),
-                queue: QueueId(0),
-                cpu: CpuId(0)
-            })
-        )
-    );
-    assert!(rt; matches!(first[2], Action::Open { gate: 1 }));
-    assert!(rt; matches!(first[3], Action::Call(Call::Cancel { item: ItemId(0) })));
-    assert!(rt; matches!(second[0], Action::Open { gate: 1 }));
-    assert!(rt;
-        matches!(
-            second[1],
-            Action::Call(Call::Delay {
-                item: ItemId(1),
-                queue: QueueId(0),
-                cpu: CpuId(1),
-                ticks: 2
-            })
-        )
-    );
-    assert!(rt;
-        matches!(
-            second[2],
-            Action::Call(Call::Modify {
-                item: ItemId(0),
-                queue: QueueId(0),
-                cpu: CpuId(0),
-                ticks: 0
-            })
-        )
-    );
-    assert!(rt; matches!(second[3], Action::SleepAt { gate: 2 }));
-    Ok(())
+    is_spelled(&rt, &script.gates, r#"["late", "early", "last"]"#)?;
+    is_spelled(&rt, &script.does, ACTIONS)
 }
 
 #[test]
@@ -209,12 +123,19 @@ fn the_script_of_a_gate(rt: HostRuntime) -> Result<(), Fail> {
     let text =
         r#"{"cpus":1,"workers":2,"room":100,"queues":[{"name":"q0","max_active":2,"high":false,"intensive":false}],"items":[{"name":"A","does":[["sleep_at","g"]]},{"name":"B","does":[["open","g"]]}],"callers":[[["queue","A","q0",0],["queue","B","q0",0],["flush","q0"]]]}"#;
     let script = read(&rt, text)?;
-    assert_eq!(rt; script.gates.len(), 1);
-    assert_eq!(rt; script.gates[0].as_str(), "g");
-    assert_eq!(rt; (script.does.len(), script.callers.len()), (2, 1));
-    assert_eq!(rt; script.callers[0].len(), 3);
-    Ok(())
+    is_spelled(&rt, &script.gates, r#"["g"]"#)?;
+    is_spelled(
+        &rt,
+        &script.does,
+        "[[SleepAt { gate: 0 }], [Open { gate: 0 }]]",
+    )?;
+    is_spelled(&rt, &script.callers, GATE_CALLS)
 }
+
+const GATE_CALLS: &str = "[[\
+    Queue { item: ItemId(0), queue: QueueId(0), cpu: CpuId(0) }, \
+    Queue { item: ItemId(1), queue: QueueId(0), cpu: CpuId(0) }, \
+    Flush { queue: QueueId(0) }]]";
 
 #[test]
 fn a_top_of_another_form(rt: HostRuntime) -> Result<(), Fail> {
@@ -244,9 +165,9 @@ fn a_top_of_another_form(rt: HostRuntime) -> Result<(), Fail> {
         let text = format!(in rt.alloc();
             r#"{{"cpus":{cpus},"workers":{workers},"room":{room},{lists}}}"#
         )?;
-        assert_eq!(rt; refusal(&rt, text.as_str())?, at(Part::Top, 0), "{text}");
+        is_refused(&rt, text.as_str(), at(Part::Top, 0))?;
     }
-    assert_eq!(rt; refusal(&rt, "[]")?, at(Part::Top, 0));
+    is_refused(&rt, "[]", at(Part::Top, 0))?;
     Ok(())
 }
 
@@ -282,11 +203,7 @@ fn queues_that_are_refused(rt: HostRuntime) -> Result<(), Fail> {
         ),
     ] {
         let text = script(&rt, queues, "3", "3")?;
-        assert_eq!(rt;
-            refusal(&rt, text.as_str())?,
-            at(Part::Queues, index),
-            "{text}"
-        );
+        is_refused(&rt, text.as_str(), at(Part::Queues, index))?;
     }
     Ok(())
 }
@@ -323,11 +240,7 @@ fn items_that_are_refused(rt: HostRuntime) -> Result<(), Fail> {
         (r#"{"name":"x","does":[["queue","x","p",0]]}"#, 0),
     ] {
         let text = script(&rt, QUEUE, items, "3")?;
-        assert_eq!(rt;
-            refusal(&rt, text.as_str())?,
-            at(Part::Items, index),
-            "{text}"
-        );
+        is_refused(&rt, text.as_str(), at(Part::Items, index))?;
     }
     Ok(())
 }
@@ -354,13 +267,19 @@ fn callers_that_are_refused(rt: HostRuntime) -> Result<(), Fail> {
         (r#"[["tick",0],["queue","x","q",1]],[["destroy","p"]],3"#, 1),
     ] {
         let text = script(&rt, QUEUE, ITEM, callers)?;
-        assert_eq!(rt;
-            refusal(&rt, text.as_str())?,
-            at(Part::Callers, index),
-            "{text}"
-        );
+        is_refused(&rt, text.as_str(), at(Part::Callers, index))?;
     }
     Ok(())
+}
+
+// Queues q0, q1 and so on.
+fn queues(rt: &impl AllocGlobal, count: usize) -> Result<String, Fail> {
+    numbered(
+        rt,
+        count,
+        r#"{"name":"q"#,
+        r#"","max_active":1,"high":false,"intensive":true}"#,
+    )
 }
 
 #[test]
@@ -371,56 +290,55 @@ fn as_many_members_as_may_be(rt: HostRuntime) -> Result<(), Fail> {
         (64, 257, 65, at(Part::Items, 256)),
         (64, 256, 65, at(Part::Callers, 64)),
     ] {
-        let mut queues = String::new(rt.alloc());
-        for place in 0..queue_count {
-            let comma = if place == 0 { "" } else { "," };
-            queues.push_str(format!(in rt.alloc();
-                r#"{comma}{{"name":"q{place}","max_active":1,"high":false,"intensive":true}}"#
-            )?.as_str())?;
-        }
-        let mut items = String::new(rt.alloc());
-        for place in 0..item_count {
-            let comma = if place == 0 { "" } else { "," };
-            items.push_str(format!(in rt.alloc();
-                r#"{comma}{{"name":"x{place}","does":[]}}"#
-            )?.as_str())?;
-        }
+        let queues = queues(&rt, queue_count)?;
+        let items = numbered(&rt, item_count, r#"{"name":"x"#, r#"","does":[]}"#)?;
         let callers = times(&rt, caller_count, r#"[["queue","x255","q63",1]]"#)?;
         let text = script(&rt, queues.as_str(), items.as_str(), callers.as_str())?;
-        assert_eq!(rt; refusal(&rt, text.as_str())?, refused);
+        is_refused(&rt, text.as_str(), refused)?;
     }
     Ok(())
 }
 
+// A script of one item with so many actions, and of one caller with so many calls.
+fn busy_script(rt: &impl AllocGlobal, calls: usize, actions: usize) -> Result<String, Fail> {
+    let calls = times(rt, calls, r#"["tick",1]"#)?;
+    let actions = times(rt, actions, r#"["open","g"]"#)?;
+    let items = format!(in rt.alloc(); r#"{{"name":"x","does":[{actions}]}}"#)?;
+    let callers = format!(in rt.alloc(); "[{calls}]")?;
+    script(rt, QUEUE, items.as_str(), callers.as_str())
+}
+
 #[test]
 fn as_many_calls_and_actions_as_may_be(rt: HostRuntime) -> Result<(), Fail> {
-    for (call_count, action_count, refused) in [
+    for (calls, actions, refused) in [
         (1_000, 64, None),
         (1_001, 64, at(Part::Callers, 0)),
         (1_000, 65, at(Part::Items, 0)),
     ] {
-        let calls = times(&rt, call_count, r#"["tick",1]"#)?;
-        let actions = times(&rt, action_count, r#"["open","g"]"#)?;
-        let items = format!(in rt.alloc(); r#"{{"name":"x","does":[{actions}]}}"#)?;
-        let callers = format!(in rt.alloc(); "[{calls}]")?;
-        let text = script(&rt, QUEUE, items.as_str(), callers.as_str())?;
-        assert_eq!(rt; refusal(&rt, text.as_str())?, refused);
+        let text = busy_script(&rt, calls, actions)?;
+        is_refused(&rt, text.as_str(), refused)?;
     }
     Ok(())
+}
+
+// Items that each open a gate of their own.
+fn openers(rt: &impl AllocGlobal, count: usize) -> Result<String, Fail> {
+    let mut items = String::new(rt.alloc());
+    for place in 0..count {
+        let comma = if place == 0 { "" } else { "," };
+        items.push_str(format!(in rt.alloc();
+            r#"{comma}{{"name":"x{place}","does":[["open","g{place}"],["sleep_at","g0"]]}}"#
+        )?.as_str())?;
+    }
+    Ok(items)
 }
 
 #[test]
 fn as_many_gates_as_may_be(rt: HostRuntime) -> Result<(), Fail> {
     for (count, refused) in [(16, None), (17, at(Part::Items, 16))] {
-        let mut items = String::new(rt.alloc());
-        for place in 0..count {
-            let comma = if place == 0 { "" } else { "," };
-            items.push_str(format!(in rt.alloc();
-                r#"{comma}{{"name":"x{place}","does":[["open","g{place}"],["sleep_at","g0"]]}}"#
-            )?.as_str())?;
-        }
+        let items = openers(&rt, count)?;
         let text = script(&rt, QUEUE, items.as_str(), "[]")?;
-        assert_eq!(rt; refusal(&rt, text.as_str())?, refused);
+        is_refused(&rt, text.as_str(), refused)?;
     }
     Ok(())
 }
