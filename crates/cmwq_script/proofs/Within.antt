@@ -3,6 +3,7 @@ use Rattle.std.proofs.Common.{◌≡◌, ℕ, ◌≤◌, ◌<◌, ◌^◌, ◌&&
 use Rattle.std.specs.Prelude.{All, String}
 use Rattle.std.specs.List.{AllByRecursion, list_all}
 use Rattle.std.specs.declared.alloc.Global.{Global}
+use Rattle.std.specs.declared.vec.Vec.{Vec}
 use Rattle.std.proofs.lemmas.Bool.Decides.{nat_tests}
 use Rattle.std.proofs.lemmas.List.{length-map}
 use Rattle.std.proofs.lemmas.List.Elements.{All-from_recursion}
@@ -14,13 +15,14 @@ use Rattle.cmwq_input.specs.declared.refused.Refused.{Refused}
 use Rattle.cmwq_json.specs.InTurn.{in_turn}
 use Rattle.cmwq_json.specs.Names.{Named, nobody}
 use Rattle.cmwq_json.specs.Parts as refused
+use Rattle.cmwq_script.specs.declared.item.Items.{Items}
 use Rattle.cmwq_script.specs.declared.script.Script.{Script}
 use Rattle.cmwq_script.specs.Items.{Work, no_work, add_item}
 use Rattle.cmwq_script.specs.Queues.{add_queue}
 use Rattle.cmwq_script.specs.Callers.{add_caller}
 use Rattle.cmwq_script.specs.Runs.{Top, some_of, queues_said, items_said, callers_said, known_in, layout_in, run_in}
 use Rattle.cmwq_script.specs.Scripts.{run_of, IsAction, AreCalls, IsWithin, MayRun}
-use Rattle.cmwq_script.specs.Views.{calls_of}
+use Rattle.cmwq_script.specs.Views.{work_of, calls_of}
 use Rattle.cmwq_script.proofs.Readings.{all_weaker, all_unmapped}
 use Rattle.cmwq_script.proofs.CallLimits.{AreIn}
 use Rattle.cmwq_script.proofs.PartLimits.{IsWide, queues_kept, items_kept, items_named, names_are_known, callers_kept}
@@ -130,12 +132,11 @@ may_run script r =
     few : (n : ℕ) → n ≤ 1000 → n < 2 ^ 32
     few n h = omega arith
 
--- so may a script of the same shape and gates
-pub may_run_as : (script : Script) (s : Layout) (gates : List (List ℕ)) → script.shape ≡ s → map string_bytes script.gates.items ≡ gates
-    → IsWithin (record { layout = s; does = map (λ actions. actions.items) script.does.items; gates = gates; callers = calls_of script.callers }) → MayRun script
-may_run_as script s gates shape_is gates_are run =
-    let does = map (λ actions. actions.items) script.does.items in
-    let callers = calls_of script.callers in
-    may_run script
-    (subst (λ (l : Layout). IsWithin (record { layout = l; does = does; gates = map string_bytes script.gates.items; callers = callers })) (sym shape_is)
-    (subst (λ (g : List (List ℕ)). IsWithin (record { layout = s; does = does; gates = g; callers = callers })) (sym gates_are) run))
+-- so may the script that is made of parts inside the limits
+pub made_may_run : (t : Top) (qs : List QueueShape) (items : Items) (callers : Vec (Vec Call Global) Global) (s : Layout) (gates : Vec (String Global) Global) → s ≡ layout_in t qs (work_of items) (calls_of callers)
+    → map string_bytes gates.items ≡ items.gates → IsWithin (run_in t qs (work_of items) (calls_of callers)) → MayRun (record { shape = s; does = items.members.values; gates = gates; callers = callers })
+made_may_run t qs items callers s gates shape_is gates_are run =
+    let does = (work_of items).items.values in
+    may_run (record { shape = s; does = items.members.values; gates = gates; callers = callers })
+    (subst (λ (l : Layout). IsWithin (record { layout = l; does = does; gates = map string_bytes gates.items; callers = calls_of callers })) (sym shape_is)
+    (subst (λ (g : List (List ℕ)). IsWithin (record { layout = layout_in t qs (work_of items) (calls_of callers); does = does; gates = g; callers = calls_of callers })) (sym gates_are) run))

@@ -3,9 +3,8 @@ use Rattle.std.proofs.lemmas.List.{length-map}
 use Rattle.cmwq_model.specs.declared.shape.Counts.{Counts}
 use Rattle.cmwq_model.specs.Layout.{Layout, layout_of, is_layout}
 use Rattle.cmwq_script.specs.Views.{top_of, work_of, calls_of}
-use Rattle.cmwq_script.specs.Runs.{layout_in}
 use Rattle.cmwq_script.proofs.Readings.{when_read}
-use Rattle.cmwq_script.proofs.Within.{layout_counted, may_run_as}
+use Rattle.cmwq_script.proofs.Within.{layout_counted, made_may_run}
 use Rattle.cmwq_script.proofs.script.script_of.Goals as goal
 
 pub overflow_cast-counts : goal.overflow_cast-counts
@@ -26,8 +25,8 @@ pub returns-clause-within : goal.returns-clause-within
 returns-clause-within c =
     let t = top_of c.args.top.now in
     let n : Counts = record { cpus = c.args.top.now.cpus; workers = c.args.top.now.workers; callers = c.len.result; items = c.len-2.result; room = c.args.top.now.room } in
-    may_run_as (record { shape = c.unwrap-shape.result; does = c.args.items.members.values; gates = c.in_ok-gates.gates; callers = c.args.callers }) (layout_in t c.args.queues.items (work_of c.args.items) (calls_of c.args.callers)) c.args.items.gates
-    (when_read (λ (s : Layout). s ≡ layout_of n c.args.queues.items) c.new.result c.unwrap-shape.result c.new.ensures.made c.unwrap-shape.ensures
-    ∙ layout_counted t c.args.queues.items (work_of c.args.items) (calls_of c.args.callers) c.len.result c.len-2.result
-    (c.len.ensures ∙ c.args.callers.ok.0 ∙ sym (length-map c.args.callers.items (λ calls. calls.items))) (c.len-2.ensures ∙ c.args.items.members.values.ok.0 ∙ sym (length-map c.args.items.members.values.items (λ actions. actions.items))))
-    c.in_ok-gates.ensures c.requires
+    let made = when_read (λ (s : Layout). s ≡ layout_of n c.args.queues.items) c.new.result c.unwrap-shape.result c.new.ensures.made c.unwrap-shape.ensures in
+    let counted =
+    layout_counted t c.args.queues.items (work_of c.args.items) (calls_of c.args.callers) c.len.result c.len-2.result (c.len.ensures ∙ c.args.callers.ok.0 ∙ sym (length-map c.args.callers.items (λ calls. calls.items)))
+    (c.len-2.ensures ∙ c.args.items.members.values.ok.0 ∙ sym (length-map c.args.items.members.values.items (λ actions. actions.items))) in
+    made_may_run t c.args.queues.items c.args.items c.args.callers c.unwrap-shape.result c.in_ok-gates.gates (made ∙ counted) c.in_ok-gates.ensures c.requires
