@@ -1,7 +1,8 @@
 //! The history that a list of calls makes.
 
-ghost use Rattle.std.specs.Prelude.{◌≡◌, ◌≤◌, length, reverse, IfOk, IsTrue, All};
+ghost use Rattle.std.specs.Prelude.{◌≡◌, ◌≤◌, length, IfOk, IsTrue, All};
 ghost use Rattle.cmwq_model.specs.Layout.{fits};
+ghost use Rattle.cmwq_model.specs.Legal.{past_of};
 ghost use Rattle.cmwq_model.specs.Room.{steps};
 
 use cmwq_base::{Call, Entry, NoMemory, Shape, Who};
@@ -20,7 +21,7 @@ pub struct Steps {
 pub fn steps_of(alloc: Global, shape: &Shape, calls: &[(Who, Call)]) -> Result<Steps, NoMemory>
     requires few { length calls.now ≤ 1000000 }
     requires fitting { All (λ x. IsTrue (fits shape.now x.0 x.1)) calls.now }
-    ensures past { IfOk result (λ r. reverse r.history.items ≡ (steps shape.now shape.now.room calls.now).past) }
+    ensures past { IfOk result (λ r. past_of r.history.items ≡ (steps shape.now shape.now.room calls.now).past) }
     ensures left_out { IfOk result (λ r. r.left_out ≡ (steps shape.now shape.now.room calls.now).left_out) }
 {
     let mut book = Book::new(alloc, shape, shape.counts().room)?;

@@ -32,7 +32,7 @@ IsAction layout gates (action.SleepAt g) = g < gates
 abbrev pub AreCalls : Layout → List Call → Type 0
 AreCalls layout calls = AllByRecursion (IsScripted layout) calls × (length calls ≤ 1000)
 
--- a run inside its limits
+-- a run inside the limits: what has to hold of the parts that are read, so that a script can be made of them
 pub record IsWithin (run : Run) : Type 0 where
   pub allowed : is_layout run.layout ≡ true
   pub few_callers : length run.callers ≤ 64
