@@ -6,7 +6,7 @@ ghost use Rattle.cmwq_json.specs.Members.{named_of};
 ghost use Rattle.cmwq_json.specs.Readings.{told};
 ghost use Rattle.cmwq_script.specs.Runs as spec;
 ghost use Rattle.cmwq_script.specs.Scripts.{run_of, IsWithin, MayRun};
-ghost use Rattle.cmwq_script.specs.Views.{top_of, work_of, calls_of};
+ghost use Rattle.cmwq_script.specs.Views.{top_of, queues_of, work_of, calls_of};
 
 use crate::action::Action;
 use crate::caller::read_callers;
@@ -63,7 +63,45 @@ fn script_of(
     })
 }
 
+/// The script of these queues and items, and of the callers, which are read now.
+fn with_items(
+    alloc: Global,
+    top: &Top<'_>,
+    names: &Names,
+    queues: Vec<QueueShape>,
+    items: Items,
+) -> Result<Result<Script, Refused>, AllocError>
+    requires known { names.now ≡ spec.known_in (top_of top.now) (queues_of names.now queues) }
+    requires queues { spec.queues_said (top_of top.now) ≡ Ok (queues_of names.now queues) }
+    requires items { spec.items_said names.now (top_of top.now) ≡ Ok (work_of items) }
+    ensures says { IfOk result (λ r. told run_of r ≡ spec.with_callers (top_of top.now) (queues_of names.now queues) (work_of items) (spec.callers_said names.now (top_of top.now))) }
+    ensures within { IfOk result (λ r. IfOk r MayRun) }
+{
+    match read_callers(alloc, names, top.callers)? {
+        Ok(callers) => Ok(Ok(script_of(alloc, top, queues, items, callers)?)),
+        Err(refused) => Ok(Err(refused)),
+    }
+}
+
 /// The script of these queues, and of the items and the callers, which are read in turn.
+fn with_names(
+    alloc: Global,
+    top: &Top<'_>,
+    names: &Names,
+    queues: Vec<QueueShape>,
+) -> Result<Result<Script, Refused>, AllocError>
+    requires known { names.now ≡ spec.known_in (top_of top.now) (queues_of names.now queues) }
+    requires queues { spec.queues_said (top_of top.now) ≡ Ok (queues_of names.now queues) }
+    ensures says { IfOk result (λ r. told run_of r ≡ spec.with_queues (top_of top.now) (Ok (queues_of names.now queues))) }
+    ensures within { IfOk result (λ r. IfOk r MayRun) }
+{
+    match read_items(alloc, names, top.items)? {
+        Ok(items) => with_items(alloc, top, names, queues, items),
+        Err(refused) => Ok(Err(refused)),
+    }
+}
+
+/// The script of the queues that were read, by whose names calls may name them.
 fn with_queues(
     alloc: Global,
     top: &Top<'_>,
@@ -75,14 +113,7 @@ fn with_queues(
 {
     let Members { names, values } = queues;
     let names = Names::new(alloc, top.items, names, top.cpus)?;
-    let items = match read_items(alloc, &names, top.items)? {
-        Ok(items) => items,
-        Err(refused) => return Ok(Err(refused)),
-    };
-    match read_callers(alloc, &names, top.callers)? {
-        Ok(callers) => Ok(Ok(script_of(alloc, top, values, items, callers)?)),
-        Err(refused) => Ok(Err(refused)),
-    }
+    with_names(alloc, top, &names, values)
 }
 
 /// The script of the lists of a top.
