@@ -5,6 +5,7 @@ ghost use Rattle.cmwq_model.specs.Layout.{Layout, fits};
 ghost use Rattle.cmwq_model.specs.Calls.{serial_of};
 ghost use Rattle.cmwq_model.specs.Legal.{past_of, IsLegal};
 ghost use Rattle.cmwq_model.specs.Room.{has_room};
+ghost use Rattle.cmwq_model.specs.declared.call.Call.{Call};
 ghost use Rattle.cmwq_model.specs.declared.call.Call.TheVariants as calls;
 ghost use Rattle.cmwq_model.specs.declared.reply.Reply.TheVariants as replies;
 ghost use Rattle.cmwq_core.specs.History.{takes};
@@ -166,6 +167,22 @@ impl<N: HubName> Desk<N> {
         Ok(())
     }
 
+    /// Whether the hub takes a call of the seat's: a closed one takes none of callers, a failed one none at all.
+    fn admits(&self, seat: &Seat<N>) -> Result<(), RunFault>
+        ensures open { IfOk result (λ _. IsOpenTo self.now seat.now.who) }
+        ensures step { IfOk result (λ _. InStep self.now.history seat.now) }
+        ensures says { IfErr result (λ f. (call : Call) → Says N.layout seat.now call f) }
+        ensures leaves { IfErr result (λ f. Leaves self.now f self.now) }
+    {
+        if self.closed && matches!(seat.who(), Who::Caller(_)) {
+            return Err(RunFault::Closed);
+        }
+        if self.failed {
+            return Err(RunFault::NoMemory { ticket: None });
+        }
+        self.compare(seat)
+    }
+
     /// A call of one entry. A closed hub refuses those of callers.
     pub fn call<R: Wait>(
         &mut self,
@@ -179,13 +196,10 @@ impl<N: HubName> Desk<N> {
         ensures refused { IfErr result (λ f. Refused N.layout seat.old call f seat.new) }
         ensures leaves { IfErr result (λ f. Leaves self.old f self.new) }
     {
-        if self.closed && matches!(seat.who(), Who::Caller(_)) {
-            return Err(RunFault::Closed);
+        match self.admits(seat) {
+            Ok(()) => {}
+            Err(fault) => return Err(fault),
         }
-        if self.failed {
-            return Err(RunFault::NoMemory { ticket: None });
-        }
-        self.compare(seat)?;
         match self.enter(rt, seat, call) {
             Ok(reply) => Ok(reply),
             Err(Shortage::Room) => Err(RunFault::Full),

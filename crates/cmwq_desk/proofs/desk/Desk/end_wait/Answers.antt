@@ -1,5 +1,5 @@
 use Rattle.std.proofs.Common.{◌∙◌, sym}
-use Rattle.cmwq_desk.proofs.Whole.{ended_not, ended_some, ended_fired, when_true}
+use Rattle.cmwq_desk.proofs.Whole.{ended_not, ended_alone, ended_some, ended_fired, when_true}
 use Rattle.cmwq_desk.proofs.desk.Desk.end_wait.Goals as goal
 
 pub returns-in-Err-clause-stopped : goal.returns-in-Err-clause-stopped
@@ -15,3 +15,8 @@ pub returns-in-Err-fire_due-clause-stopped : goal.returns-in-Err-fire_due-clause
 returns-in-Err-fire_due-clause-stopped g c =
     ended_some g.N.HubName.layout c.args.seat.now c.end_ticket.new.seat c.fire_due.new.seat c.args.call c.args.ticket c.in-Err-fire_due.fault (sym c.is_drain.ensures ∙ c.if-not-is_drain.false)
     c.in-Err-fire_due.ensures.short.0 (when_true _ c.in-Ok-true.field-0 c.in-Ok-true.field-0-test c.in-Ok-true.ensures.done).0 c.in-Err-fire_due.ensures.short.1
+
+pub returns-then-not-is_drain-clause-done : goal.returns-then-not-is_drain-clause-done
+returns-then-not-is_drain-clause-done g c =
+    ended_alone g.N.HubName.layout c.args.seat.now c.end_ticket.new.seat c.args.call c.args.ticket (sym c.is_drain.ensures ∙ c.if-not-is_drain.true)
+    (when_true _ c.in-Ok-true.field-0 c.in-Ok-true.field-0-test c.in-Ok-true.ensures.done).0
