@@ -1,0 +1,8 @@
+use Rattle.std.proofs.Common.{rules}
+use Rattle.cmwq_rt.proofs.work.RunCtx.sleep.Goals as goal
+
+pub returns-clause-made : goal.returns-clause-made
+returns-clause-made g c = search (rules, c.make-answer.ensures.made)
+
+pub returns-clause-refused : goal.returns-clause-refused
+returns-clause-refused g c = search (rules, c.make-answer.ensures.refused)
