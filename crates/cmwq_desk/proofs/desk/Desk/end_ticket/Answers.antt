@@ -1,4 +1,4 @@
-use Rattle.std.proofs.Common.{◌≡◌, ◌≤◌, ap, refl, arith, false}
+use Rattle.std.proofs.Common.{◌≡◌, ◌≤◌, ap, refl, arith, false, rules}
 use Rattle.cmwq_model.specs.declared.call.Call.TheVariants as calls
 use Rattle.cmwq_model.specs.Legal.{past_of, IsLegal}
 use Rattle.cmwq_model.specs.Room.{needed, has_room}
@@ -21,3 +21,6 @@ returns-in_default-clause-waits g c =
     let within : needed s (past_of log) ≤ s.room = let room = c.self.invariant.2 in omega (arith, need, room) in
     let fit = caller_fits s v.who (calls.End c.args.ticket) c.requires c.who.ensures.there refl refl in
     (refl, full_ends_none s (past_of log) v.who (calls.End c.args.ticket) fit legal within full)
+
+pub returns-in-Ok-make-clause-done : goal.returns-in-Ok-make-clause-done
+returns-in-Ok-make-clause-done g c = search rules

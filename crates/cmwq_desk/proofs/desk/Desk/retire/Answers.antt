@@ -1,4 +1,4 @@
-use Rattle.std.proofs.Common.{◌≡◌, ap, refl, false, inr}
+use Rattle.std.proofs.Common.{◌≡◌, ap, refl, false, inr, rules}
 use Rattle.cmwq_model.specs.declared.call.Call.TheVariants as calls
 use Rattle.cmwq_model.specs.Legal.{past_of}
 use Rattle.cmwq_model.specs.Room.{has_room}
@@ -15,3 +15,6 @@ returns-in_default-clause-kept g c =
     let full : has_room s s.room (past_of log) v.who calls.Retire ≡ false =
     room_is s c.self.inside.book log c.who-who.result v.who calls.Retire false c.self.invariant.1 c.self.invariant.2 held c.who-who.ensures.who c.in_default.ensures.room in
     (refl, inr full)
+
+pub returns-in-Ok-make-clause-retired : goal.returns-in-Ok-make-clause-retired
+returns-in-Ok-make-clause-retired g c = search rules
