@@ -104,14 +104,7 @@ fn push_call(line: &mut Line, call: Call)
         Call::Tick { ticks: number } | Call::End { ticket: number } => {
             line.push_phrase(keyword, &[number.into()]);
         }
-        Call::Fire
-        | Call::Take
-        | Call::Finish
-        | Call::Sleep
-        | Call::Wake
-        | Call::Retire
-        | Call::Freeze
-        | Call::Thaw => line.push_phrase(keyword, &[]),
+        _ => line.push_phrase(keyword, &[]),
     }
 }
 
