@@ -1,5 +1,5 @@
 -- Calls in a text: how each is spelled, and how each is read.
-use Rattle.std.specs.Prelude.{ℕ, Bool, true, ◌&&◌, nat_le, if◌then◌else◌, List, [], ◌∷◌, map, Option, Some, None, decimal}
+use Rattle.std.specs.Prelude.{ℕ, Bool, true, false, ◌&&◌, nat_le, if◌then◌else◌, List, [], ◌∷◌, map, Option, Some, None, decimal}
 use Rattle.cmwq_model.specs.declared.id.Who.{Who}
 use Rattle.cmwq_model.specs.declared.id.Who.TheVariants.{Caller, Worker}
 use Rattle.cmwq_model.specs.declared.call.Call.{Call}
@@ -66,6 +66,29 @@ call_after word.Freeze = none call.Freeze
 call_after word.Thaw = none call.Thaw
 call_after word.Destroy = one queue_in call.Destroy
 call_after keyword = λ words. None
+
+-- whether the call of a keyword queues an item
+abbrev pub is_queueing : Keyword → Bool
+is_queueing word.Queue = true
+is_queueing word.Delay = true
+is_queueing word.Modify = true
+is_queueing keyword = false
+
+-- whether it has an item and nothing else
+abbrev pub has_item : Keyword → Bool
+has_item word.Cancel = true
+has_item word.FlushItem = true
+has_item word.FlushDelayed = true
+has_item word.CancelSync = true
+has_item keyword = false
+
+-- whether it has a queue first
+abbrev pub has_queue : Keyword → Bool
+has_queue word.Flush = true
+has_queue word.Drain = true
+has_queue word.SetMax = true
+has_queue word.Destroy = true
+has_queue keyword = false
 
 abbrev pub call_in : List (List ℕ) → Option (Call × List (List ℕ))
 call_in words = do

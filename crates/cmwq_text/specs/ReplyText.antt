@@ -1,5 +1,5 @@
 -- Replies in a text: how each is spelled, and how each is read.
-use Rattle.std.specs.Prelude.{ℕ, List, [], ◌∷◌, ◌++◌, Option, Some, None}
+use Rattle.std.specs.Prelude.{ℕ, Bool, true, false, List, [], ◌∷◌, ◌++◌, Option, Some, None}
 use Rattle.cmwq_model.specs.declared.reply.Reply.{Reply}
 use Rattle.cmwq_model.specs.declared.reply.Reply.TheVariants as reply
 use Rattle.cmwq_text.specs.declared.keyword.Keyword.{Keyword}
@@ -104,6 +104,25 @@ reply_after word.Thawed = none reply.Thawed
 reply_after word.Gone = none reply.Gone
 reply_after word.Timers = none reply.Timers
 reply_after keyword = λ words. None
+
+-- whether the reply of a keyword has a number first
+abbrev pub has_number : Keyword → Bool
+has_number word.Yes = true
+has_number word.Again = true
+has_number word.Cancelled = true
+has_number word.Ticket = true
+has_number word.Waiting = true
+has_number word.Started = true
+has_number word.Finished = true
+has_number word.Width = true
+has_number keyword = false
+
+-- whether it has a time
+abbrev pub has_time : Keyword → Bool
+has_time word.Booked = true
+has_time word.Rebooked = true
+has_time word.Now = true
+has_time keyword = false
 
 abbrev pub reply_in : List (List ℕ) → Option (Reply × List (List ℕ))
 reply_in words = do

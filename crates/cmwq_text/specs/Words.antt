@@ -1,6 +1,7 @@
 -- A line as its words, and reading from the first word on: a reader gives a value and the words that are left, if it can.
 use Rattle.std.specs.Prelude.{ℕ, Bool, true, false, ◌==◌, if◌then◌else◌, List, [], ◌∷◌, ◌++◌, Option, Some, None}
 use Rattle.std.specs.List.{slice_split, join_with_byte}
+use Rattle.std.specs.Option.{option_map}
 use Rattle.std.specs.Str.{bytes_eq}
 use denote.Ref.{Bor}
 use Rattle.cmwq_text.specs.Numbers.{number_of, byte_of, short_of}
@@ -48,6 +49,10 @@ first_in (word ∷ words) = Some (word, words)
 abbrev pub after : List ℕ → List (List ℕ) → Option (List (List ℕ))
 after word [] = None
 after word (first ∷ words) = if bytes_eq first word then Some words else None
+
+-- what was read, if anything was, with the words that are left
+abbrev pub with_left : {A : Type 0} → Option A → List (List ℕ) → Option (A × List (List ℕ))
+with_left value words = option_map (λ x. (x, words)) value
 
 -- what the first word says, as of tells it of a word
 abbrev pub word_in : {A : Type 0} → (List ℕ → Option A) → List (List ℕ) → Option (A × List (List ℕ))

@@ -1,112 +1,119 @@
 //! Calls in a text.
-ghost use Rattle.std.specs.Prelude.{◌≡◌};
-ghost use Rattle.cmwq_text.specs.CallText.{call_after, call_in, is_of_kind, may_say, call_of};
+ghost use Rattle.std.specs.Prelude.{◌≡◌, true};
+ghost use Rattle.cmwq_text.specs.Words.{with_left};
+ghost use Rattle.cmwq_text.specs.CallText.{is_queueing, has_item, has_queue, call_after, call_in, is_of_kind, may_say, call_of};
 
 use crate::id::{cpu_in, item_in, queue_in, who_in};
 use crate::keyword::{Keyword, keyword_in};
 use crate::word::{Words, number_in};
 use cmwq_model::{Call, Who};
 
-/// The call after its keyword.
+/// The call after a keyword that queues an item.
 #[tactic(auto, unfolding(crate::specs::CallText::call_after))]
-fn call_after<'a>(keyword: Keyword, words: Words<'a>) -> Option<(Call, Words<'a>)>
-    ensures { result ≡ call_after keyword words.entry }
+fn queueing_after(keyword: Keyword, words: &mut Words<'_>) -> Option<Call>
+    requires { is_queueing keyword ≡ true }
+    ensures { with_left result words.new ≡ call_after keyword words.old }
 {
+    let item = item_in(words)?;
+    let queue = queue_in(words)?;
+    let cpu = cpu_in(words)?;
     match keyword {
-        Keyword::Queue => {
-            let (item, words) = item_in(words)?;
-            let (queue, words) = queue_in(words)?;
-            let (cpu, words) = cpu_in(words)?;
-            Some((Call::Queue { item, queue, cpu }, words))
-        }
+        Keyword::Queue => Some(Call::Queue { item, queue, cpu }),
         Keyword::Delay => {
-            let (item, words) = item_in(words)?;
-            let (queue, words) = queue_in(words)?;
-            let (cpu, words) = cpu_in(words)?;
-            let (ticks, words) = number_in(words)?;
-            Some((
-                Call::Delay {
-                    item,
-                    queue,
-                    cpu,
-                    ticks,
-                },
-                words,
-            ))
+            let ticks = number_in(words)?;
+            Some(Call::Delay {
+                item,
+                queue,
+                cpu,
+                ticks,
+            })
         }
         Keyword::Modify => {
-            let (item, words) = item_in(words)?;
-            let (queue, words) = queue_in(words)?;
-            let (cpu, words) = cpu_in(words)?;
-            let (ticks, words) = number_in(words)?;
-            Some((
-                Call::Modify {
-                    item,
-                    queue,
-                    cpu,
-                    ticks,
-                },
-                words,
-            ))
-        }
-        Keyword::Cancel => {
-            let (item, words) = item_in(words)?;
-            Some((Call::Cancel { item }, words))
-        }
-        Keyword::Tick => {
-            let (ticks, words) = number_in(words)?;
-            Some((Call::Tick { ticks }, words))
-        }
-        Keyword::Fire => Some((Call::Fire, words)),
-        Keyword::Flush => {
-            let (queue, words) = queue_in(words)?;
-            Some((Call::Flush { queue }, words))
-        }
-        Keyword::Drain => {
-            let (queue, words) = queue_in(words)?;
-            Some((Call::Drain { queue }, words))
-        }
-        Keyword::FlushItem => {
-            let (item, words) = item_in(words)?;
-            Some((Call::FlushItem { item }, words))
-        }
-        Keyword::FlushDelayed => {
-            let (item, words) = item_in(words)?;
-            Some((Call::FlushDelayed { item }, words))
-        }
-        Keyword::CancelSync => {
-            let (item, words) = item_in(words)?;
-            Some((Call::CancelSync { item }, words))
-        }
-        Keyword::End => {
-            let (ticket, words) = number_in(words)?;
-            Some((Call::End { ticket }, words))
-        }
-        Keyword::Take => Some((Call::Take, words)),
-        Keyword::Finish => Some((Call::Finish, words)),
-        Keyword::Sleep => Some((Call::Sleep, words)),
-        Keyword::Wake => Some((Call::Wake, words)),
-        Keyword::Retire => Some((Call::Retire, words)),
-        Keyword::SetMax => {
-            let (queue, words) = queue_in(words)?;
-            let (max_active, words) = number_in(words)?;
-            Some((Call::SetMax { queue, max_active }, words))
-        }
-        Keyword::Freeze => Some((Call::Freeze, words)),
-        Keyword::Thaw => Some((Call::Thaw, words)),
-        Keyword::Destroy => {
-            let (queue, words) = queue_in(words)?;
-            Some((Call::Destroy { queue }, words))
+            let ticks = number_in(words)?;
+            Some(Call::Modify {
+                item,
+                queue,
+                cpu,
+                ticks,
+            })
         }
         _ => None,
     }
 }
 
-/// A call.
-pub fn call_in<'a>(words: Words<'a>) -> Option<(Call, Words<'a>)>
-    ensures { result ≡ call_in words.entry }
+/// The call after a keyword that an item follows, and nothing else.
+#[tactic(auto, unfolding(crate::specs::CallText::call_after))]
+fn item_call_after(keyword: Keyword, words: &mut Words<'_>) -> Option<Call>
+    requires { has_item keyword ≡ true }
+    ensures { with_left result words.new ≡ call_after keyword words.old }
 {
-    let (keyword, words) = keyword_in(words)?;
+    let item = item_in(words)?;
+    match keyword {
+        Keyword::Cancel => Some(Call::Cancel { item }),
+        Keyword::FlushItem => Some(Call::FlushItem { item }),
+        Keyword::FlushDelayed => Some(Call::FlushDelayed { item }),
+        Keyword::CancelSync => Some(Call::CancelSync { item }),
+        _ => None,
+    }
+}
+
+/// The call after a keyword that a queue follows.
+#[tactic(auto, unfolding(crate::specs::CallText::call_after))]
+fn queue_call_after(keyword: Keyword, words: &mut Words<'_>) -> Option<Call>
+    requires { has_queue keyword ≡ true }
+    ensures { with_left result words.new ≡ call_after keyword words.old }
+{
+    let queue = queue_in(words)?;
+    match keyword {
+        Keyword::Flush => Some(Call::Flush { queue }),
+        Keyword::Drain => Some(Call::Drain { queue }),
+        Keyword::SetMax => {
+            let max_active = number_in(words)?;
+            Some(Call::SetMax { queue, max_active })
+        }
+        Keyword::Destroy => Some(Call::Destroy { queue }),
+        _ => None,
+    }
+}
+
+/// The call after its keyword.
+#[tactic(auto, unfolding(crate::specs::CallText::call_after))]
+fn call_after(keyword: Keyword, words: &mut Words<'_>) -> Option<Call>
+    ensures { with_left result words.new ≡ call_after keyword words.old }
+{
+    match keyword {
+        Keyword::Queue | Keyword::Delay | Keyword::Modify => queueing_after(keyword, words),
+        Keyword::Cancel | Keyword::FlushItem | Keyword::FlushDelayed | Keyword::CancelSync => {
+            item_call_after(keyword, words)
+        }
+        Keyword::Flush | Keyword::Drain | Keyword::SetMax | Keyword::Destroy => {
+            queue_call_after(keyword, words)
+        }
+        Keyword::Tick => {
+            let ticks = number_in(words)?;
+            Some(Call::Tick { ticks })
+        }
+        Keyword::End => {
+            let ticket = number_in(words)?;
+            Some(Call::End { ticket })
+        }
+        Keyword::Fire => Some(Call::Fire),
+        Keyword::Take => Some(Call::Take),
+        Keyword::Finish => Some(Call::Finish),
+        Keyword::Sleep => Some(Call::Sleep),
+        Keyword::Wake => Some(Call::Wake),
+        Keyword::Retire => Some(Call::Retire),
+        Keyword::Freeze => Some(Call::Freeze),
+        Keyword::Thaw => Some(Call::Thaw),
+        _ => None,
+    }
+}
+
+/// A call.
+pub fn call_in(words: &mut Words<'_>) -> Option<Call>
+    ensures { with_left result words.new ≡ call_in words.old }
+{
+    let keyword = keyword_in(words)?;
     call_after(keyword, words)
 }
 
@@ -134,8 +141,9 @@ pub fn may_say(who: Who, call: Call) -> bool
 pub fn read_call(line: &[u8]) -> Option<(Who, Call)>
     ensures { result ≡ call_of line.now }
 {
-    let (who, words) = who_in(Words::of(line))?;
-    let (call, words) = call_in(words)?;
+    let mut words = Words::of(line);
+    let who = who_in(&mut words)?;
+    let call = call_in(&mut words)?;
     if words.is_end() && may_say(who, call) {
         Some((who, call))
     } else {

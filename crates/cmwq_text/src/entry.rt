@@ -16,10 +16,12 @@ use cmwq_model::{Entry, Shape};
 pub fn read_entry(line: &[u8]) -> Option<Entry>
     ensures { result ≡ entry_of line.now }
 {
-    let (who, words) = who_in(Words::of(line))?;
-    let (serial, words) = number_in(words)?;
-    let (call, words) = call_in(words)?;
-    let (reply, words) = reply_in(words.after(b"=")?)?;
+    let mut words = Words::of(line);
+    let who = who_in(&mut words)?;
+    let serial = number_in(&mut words)?;
+    let call = call_in(&mut words)?;
+    words.after(b"=")?;
+    let reply = reply_in(&mut words)?;
     if words.is_end() && may_say(who, call) {
         Some(Entry {
             who,

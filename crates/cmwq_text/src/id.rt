@@ -1,5 +1,6 @@
 //! Items, queues, CPUs, callers and workers in a text.
 ghost use Rattle.std.specs.Prelude.{◌≡◌, position};
+ghost use Rattle.cmwq_text.specs.Words.{with_left};
 ghost use Rattle.cmwq_text.specs.IdText.{is_pool_letter, item_in, queue_in, cpu_in, caller_of, worker_of, who_of, who_in};
 
 use crate::number::byte_of;
@@ -7,27 +8,24 @@ use crate::word::{Words, byte_in, short_in};
 use cmwq_model::{CallerId, CpuId, ItemId, PoolId, QueueId, Who, WorkerId};
 
 /// An item. One that no `ItemId` can hold is read as the greatest, which no shape has.
-pub fn item_in<'a>(words: Words<'a>) -> Option<(ItemId, Words<'a>)>
-    ensures { result ≡ item_in words.entry }
+pub fn item_in(words: &mut Words<'_>) -> Option<ItemId>
+    ensures { with_left result words.new ≡ item_in words.old }
 {
-    let (item, words) = short_in(words)?;
-    Some((ItemId(item), words))
+    Some(ItemId(short_in(words)?))
 }
 
 /// A queue. One that no `QueueId` can hold is read as the greatest, which no shape has.
-pub fn queue_in<'a>(words: Words<'a>) -> Option<(QueueId, Words<'a>)>
-    ensures { result ≡ queue_in words.entry }
+pub fn queue_in(words: &mut Words<'_>) -> Option<QueueId>
+    ensures { with_left result words.new ≡ queue_in words.old }
 {
-    let (queue, words) = byte_in(words)?;
-    Some((QueueId(queue), words))
+    Some(QueueId(byte_in(words)?))
 }
 
 /// A CPU. One that no `CpuId` can hold is read as the greatest, which no shape has.
-pub fn cpu_in<'a>(words: Words<'a>) -> Option<(CpuId, Words<'a>)>
-    ensures { result ≡ cpu_in words.entry }
+pub fn cpu_in(words: &mut Words<'_>) -> Option<CpuId>
+    ensures { with_left result words.new ≡ cpu_in words.old }
 {
-    let (cpu, words) = byte_in(words)?;
-    Some((CpuId(cpu), words))
+    Some(CpuId(byte_in(words)?))
 }
 
 fn caller_of(name: &[u8]) -> Option<Who>
@@ -69,9 +67,8 @@ fn who_of(word: &[u8]) -> Option<Who>
 }
 
 /// A caller or a worker.
-pub fn who_in<'a>(words: Words<'a>) -> Option<(Who, Words<'a>)>
-    ensures { result ≡ who_in words.entry }
+pub fn who_in(words: &mut Words<'_>) -> Option<Who>
+    ensures { with_left result words.new ≡ who_in words.old }
 {
-    let (word, words) = words.first()?;
-    Some((who_of(word)?, words))
+    who_of(words.first()?)
 }

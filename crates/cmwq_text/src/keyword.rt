@@ -1,4 +1,5 @@
 ghost use Rattle.std.specs.Prelude.{◌≡◌, ◌≤◌, length, find};
+ghost use Rattle.cmwq_text.specs.Words.{with_left};
 ghost use Rattle.cmwq_text.specs.Keywords.{text, is_text, keyword_of, keyword_in};
 
 use crate::word::Words;
@@ -201,9 +202,8 @@ fn keyword_of(word: &[u8]) -> Option<Keyword>
 }
 
 /// The keyword that the first word is.
-pub fn keyword_in<'a>(words: Words<'a>) -> Option<(Keyword, Words<'a>)>
-    ensures { result ≡ keyword_in words.entry }
+pub fn keyword_in(words: &mut Words<'_>) -> Option<Keyword>
+    ensures { with_left result words.new ≡ keyword_in words.old }
 {
-    let (word, words) = words.first()?;
-    Some((keyword_of(word)?, words))
+    keyword_of(words.first()?)
 }

@@ -79,16 +79,19 @@ impl Line {
         self.push_numbers(numbers);
     }
 
-    /// Spells two such phrases.
-    pub(crate) fn push_phrases(&mut self, first: (Keyword, &[u64]), second: (Keyword, &[u64]))
-        requires { length self.old + 28 + 21 * (length first.1.now + length second.1.now) ≤ 256 }
-        ensures exact { let a = phrase first.entry.0 first.entry.1.now in
-            let b = phrase second.entry.0 second.entry.1.now in
-            self.new ≡ self.old ++ spaced (a ++ b) }
-        ensures short { let count = length first.entry.1.now + length second.entry.1.now in
-            length self.new ≤ length self.old + 28 + 21 * count }
+    /// Spells a keyword and a number, and then a keyword and numbers.
+    pub(crate) fn push_phrases(
+        &mut self,
+        first: Keyword,
+        number: u32,
+        second: Keyword,
+        numbers: &[u64],
+    )
+        requires { length self.old + 49 + 21 * length numbers.now ≤ 256 }
+        ensures exact { self.new ≡ self.old ++ spaced (phrase first (number ∷ []) ++ phrase second numbers.now) }
+        ensures short { length self.new ≤ length self.old + 49 + 21 * length numbers.now }
     {
-        self.push_phrase(first.0, first.1);
-        self.push_phrase(second.0, second.1);
+        self.push_phrase(first, &[number.into()]);
+        self.push_phrase(second, numbers);
     }
 }

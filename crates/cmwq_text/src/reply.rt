@@ -1,7 +1,8 @@
 //! Replies in a text.
-ghost use Rattle.std.specs.Prelude.{◌≡◌};
+ghost use Rattle.std.specs.Prelude.{◌≡◌, true};
 ghost use Rattle.cmwq_model.specs.Layout.{reply_fits};
-ghost use Rattle.cmwq_text.specs.ReplyText.{ticket_with, ticket_after, started_with, started_after, reply_after, reply_in};
+ghost use Rattle.cmwq_text.specs.Words.{with_left};
+ghost use Rattle.cmwq_text.specs.ReplyText.{has_number, has_time, ticket_with, ticket_after, started_with, started_after, reply_after, reply_in};
 
 use crate::id::item_in;
 use crate::keyword::{Keyword, keyword_in};
@@ -9,140 +10,130 @@ use crate::word::{Words, byte_in, long_in, number_in};
 use cmwq_model::{Number, Reply, Shape};
 
 #[tactic(auto, unfolding(crate::specs::ReplyText::ticket_with))]
-fn ticket_with<'a>(k: Number, keyword: Keyword, words: Words<'a>) -> Option<(Reply, Words<'a>)>
-    ensures { result ≡ ticket_with k keyword words.entry }
+fn ticket_with(k: Number, keyword: Keyword, words: &mut Words<'_>) -> Option<Reply>
+    ensures { with_left result words.new ≡ ticket_with k keyword words.old }
 {
     match keyword {
-        Keyword::Queued => Some((Reply::TicketQueued(k), words)),
-        Keyword::Cancelled => {
-            let (n, words) = number_in(words)?;
-            Some((Reply::TicketCancelled(k, n), words))
-        }
-        Keyword::Unbooked => Some((Reply::TicketUnbooked(k), words)),
-        Keyword::No => Some((Reply::TicketNo(k), words)),
+        Keyword::Queued => Some(Reply::TicketQueued(k)),
+        Keyword::Cancelled => Some(Reply::TicketCancelled(k, number_in(words)?)),
+        Keyword::Unbooked => Some(Reply::TicketUnbooked(k)),
+        Keyword::No => Some(Reply::TicketNo(k)),
         _ => None,
     }
 }
 
 /// The reply after `ticket <k>`.
 #[tactic(auto, unfolding(crate::specs::ReplyText::ticket_after))]
-fn ticket_after<'a>(k: Number, words: Words<'a>) -> Option<(Reply, Words<'a>)>
-    ensures { result ≡ ticket_after k words.entry }
+fn ticket_after(k: Number, words: &mut Words<'_>) -> Option<Reply>
+    ensures { with_left result words.new ≡ ticket_after k words.old }
 {
     if words.is_end() {
-        return Some((Reply::Ticket(k), words));
+        return Some(Reply::Ticket(k));
     }
-    let (keyword, words) = keyword_in(words)?;
+    let keyword = keyword_in(words)?;
     ticket_with(k, keyword, words)
 }
 
 #[tactic(auto, unfolding(crate::specs::ReplyText::started_with))]
-fn started_with<'a>(n: Number, keyword: Keyword, words: Words<'a>) -> Option<(Reply, Words<'a>)>
-    ensures { result ≡ started_with n keyword words.entry }
+fn started_with(n: Number, keyword: Keyword, words: &mut Words<'_>) -> Option<Reply>
+    ensures { with_left result words.new ≡ started_with n keyword words.old }
 {
     match keyword {
-        Keyword::Enlist => {
-            let (index, words) = byte_in(words)?;
-            Some((Reply::StartedEnlist(n, index), words))
-        }
+        Keyword::Enlist => Some(Reply::StartedEnlist(n, byte_in(words)?)),
         _ => None,
     }
 }
 
 /// The reply after `started <n>`.
 #[tactic(auto, unfolding(crate::specs::ReplyText::started_after))]
-fn started_after<'a>(n: Number, words: Words<'a>) -> Option<(Reply, Words<'a>)>
-    ensures { result ≡ started_after n words.entry }
+fn started_after(n: Number, words: &mut Words<'_>) -> Option<Reply>
+    ensures { with_left result words.new ≡ started_after n words.old }
 {
     if words.is_end() {
-        return Some((Reply::Started(n), words));
+        return Some(Reply::Started(n));
     }
-    let (keyword, words) = keyword_in(words)?;
+    let keyword = keyword_in(words)?;
     started_with(n, keyword, words)
+}
+
+/// The reply after a keyword that a number follows.
+#[tactic(auto, unfolding(crate::specs::ReplyText::reply_after))]
+fn number_reply_after(keyword: Keyword, words: &mut Words<'_>) -> Option<Reply>
+    requires { has_number keyword ≡ true }
+    ensures { with_left result words.new ≡ reply_after keyword words.old }
+{
+    let n = number_in(words)?;
+    match keyword {
+        Keyword::Yes => Some(Reply::Yes(n)),
+        Keyword::Again => Some(Reply::Again(n)),
+        Keyword::Cancelled => Some(Reply::Cancelled(n)),
+        Keyword::Ticket => ticket_after(n, words),
+        Keyword::Waiting => Some(Reply::Waiting(n)),
+        Keyword::Started => started_after(n, words),
+        Keyword::Finished => Some(Reply::Finished(n)),
+        Keyword::Width => Some(Reply::Width(n)),
+        _ => None,
+    }
+}
+
+/// The reply after a keyword that a time follows.
+#[tactic(auto, unfolding(crate::specs::ReplyText::reply_after))]
+fn time_reply_after(keyword: Keyword, words: &mut Words<'_>) -> Option<Reply>
+    requires { has_time keyword ≡ true }
+    ensures { with_left result words.new ≡ reply_after keyword words.old }
+{
+    let time = long_in(words)?;
+    match keyword {
+        Keyword::Booked => Some(Reply::Booked(time)),
+        Keyword::Rebooked => Some(Reply::Rebooked(time)),
+        Keyword::Now => Some(Reply::Now(time)),
+        _ => None,
+    }
 }
 
 /// The reply after its keyword.
 #[tactic(auto, unfolding(crate::specs::ReplyText::reply_after))]
-fn reply_after<'a>(keyword: Keyword, words: Words<'a>) -> Option<(Reply, Words<'a>)>
-    ensures { result ≡ reply_after keyword words.entry }
+fn reply_after(keyword: Keyword, words: &mut Words<'_>) -> Option<Reply>
+    ensures { with_left result words.new ≡ reply_after keyword words.old }
 {
     match keyword {
-        Keyword::Yes => {
-            let (k, words) = number_in(words)?;
-            Some((Reply::Yes(k), words))
-        }
-        Keyword::Booked => {
-            let (due, words) = long_in(words)?;
-            Some((Reply::Booked(due), words))
-        }
-        Keyword::Again => {
-            let (k, words) = number_in(words)?;
-            Some((Reply::Again(k), words))
-        }
-        Keyword::Rebooked => {
-            let (due, words) = long_in(words)?;
-            Some((Reply::Rebooked(due), words))
-        }
-        Keyword::No => Some((Reply::No, words)),
-        Keyword::Foreign => Some((Reply::Foreign, words)),
-        Keyword::Draining => Some((Reply::Draining, words)),
-        Keyword::Misuse => Some((Reply::Misuse, words)),
-        Keyword::Cancelled => {
-            let (n, words) = number_in(words)?;
-            Some((Reply::Cancelled(n), words))
-        }
-        Keyword::Unbooked => Some((Reply::Unbooked, words)),
-        Keyword::Now => {
-            let (now, words) = long_in(words)?;
-            Some((Reply::Now(now), words))
-        }
-        Keyword::Fired => {
-            let (item, words) = item_in(words)?;
-            let (k, words) = number_in(words)?;
-            Some((Reply::Fired(item, k), words))
-        }
-        Keyword::Nothing => Some((Reply::Nothing, words)),
-        Keyword::Ticket => {
-            let (k, words) = number_in(words)?;
-            ticket_after(k, words)
-        }
-        Keyword::Idle => Some((Reply::Idle, words)),
-        Keyword::Crowded => Some((Reply::Crowded, words)),
-        Keyword::Done => Some((Reply::Done, words)),
-        Keyword::Waiting => {
-            let (n, words) = number_in(words)?;
-            Some((Reply::Waiting(n), words))
-        }
-        Keyword::Started => {
-            let (n, words) = number_in(words)?;
-            started_after(n, words)
-        }
-        Keyword::Held => Some((Reply::Held, words)),
-        Keyword::Finished => {
-            let (n, words) = number_in(words)?;
-            Some((Reply::Finished(n), words))
-        }
-        Keyword::Slept => Some((Reply::Slept, words)),
-        Keyword::Woke => Some((Reply::Woke, words)),
-        Keyword::Retired => Some((Reply::Retired, words)),
-        Keyword::Kept => Some((Reply::Kept, words)),
-        Keyword::Width => {
-            let (width, words) = number_in(words)?;
-            Some((Reply::Width(width), words))
-        }
-        Keyword::Frozen => Some((Reply::Frozen, words)),
-        Keyword::Thawed => Some((Reply::Thawed, words)),
-        Keyword::Gone => Some((Reply::Gone, words)),
-        Keyword::Timers => Some((Reply::Timers, words)),
+        Keyword::Yes
+        | Keyword::Again
+        | Keyword::Cancelled
+        | Keyword::Ticket
+        | Keyword::Waiting
+        | Keyword::Started
+        | Keyword::Finished
+        | Keyword::Width => number_reply_after(keyword, words),
+        Keyword::Booked | Keyword::Rebooked | Keyword::Now => time_reply_after(keyword, words),
+        Keyword::Fired => Some(Reply::Fired(item_in(words)?, number_in(words)?)),
+        Keyword::No => Some(Reply::No),
+        Keyword::Foreign => Some(Reply::Foreign),
+        Keyword::Draining => Some(Reply::Draining),
+        Keyword::Misuse => Some(Reply::Misuse),
+        Keyword::Unbooked => Some(Reply::Unbooked),
+        Keyword::Nothing => Some(Reply::Nothing),
+        Keyword::Idle => Some(Reply::Idle),
+        Keyword::Crowded => Some(Reply::Crowded),
+        Keyword::Done => Some(Reply::Done),
+        Keyword::Held => Some(Reply::Held),
+        Keyword::Slept => Some(Reply::Slept),
+        Keyword::Woke => Some(Reply::Woke),
+        Keyword::Retired => Some(Reply::Retired),
+        Keyword::Kept => Some(Reply::Kept),
+        Keyword::Frozen => Some(Reply::Frozen),
+        Keyword::Thawed => Some(Reply::Thawed),
+        Keyword::Gone => Some(Reply::Gone),
+        Keyword::Timers => Some(Reply::Timers),
         _ => None,
     }
 }
 
 /// A reply.
-pub fn reply_in<'a>(words: Words<'a>) -> Option<(Reply, Words<'a>)>
-    ensures { result ≡ reply_in words.entry }
+pub fn reply_in(words: &mut Words<'_>) -> Option<Reply>
+    ensures { with_left result words.new ≡ reply_in words.old }
 {
-    let (keyword, words) = keyword_in(words)?;
+    let keyword = keyword_in(words)?;
     reply_after(keyword, words)
 }
 

@@ -25,18 +25,14 @@ pub struct QueueLine {
 pub fn read_counts(line: &[u8]) -> Option<Counts>
     ensures { result ≡ counts_of line.now }
 {
-    let words = Words::of(line).after(b"shape")?;
-    let (cpus, words) = byte_in(words)?;
-    let (workers, words) = byte_in(words)?;
-    let (callers, words) = byte_in(words)?;
-    let (items, words) = short_in(words)?;
-    let (room, words) = number_in(words)?;
+    let mut words = Words::of(line);
+    words.after(b"shape")?;
     let counts = Counts {
-        cpus,
-        workers,
-        callers,
-        items,
-        room,
+        cpus: byte_in(&mut words)?,
+        workers: byte_in(&mut words)?,
+        callers: byte_in(&mut words)?,
+        items: short_in(&mut words)?,
+        room: number_in(&mut words)?,
     };
     if words.is_end() && counts.are_allowed() {
         Some(counts)
@@ -78,10 +74,10 @@ fn flags_of(word: &[u8]) -> Option<Flags>
 fn queue_line_of(line: &[u8]) -> Option<QueueLine>
     ensures { result ≡ queue_line_of line.now }
 {
-    let words = Words::of(line).after(b"wq")?;
-    let (max_active, words) = number_in(words)?;
-    let (word, words) = words.first()?;
-    let flags = flags_of(word)?;
+    let mut words = Words::of(line);
+    words.after(b"wq")?;
+    let max_active = number_in(&mut words)?;
+    let flags = flags_of(words.first()?)?;
     if words.is_end() {
         Some(QueueLine { max_active, flags })
     } else {

@@ -1,6 +1,7 @@
 //! How shapes, queues, calls and entries are spelled.
-ghost use Rattle.std.specs.Prelude.{◌≡◌, ◌+◌, ◌≤◌, ◌++◌, length};
+ghost use Rattle.std.specs.Prelude.{◌≡◌, ◌+◌, ◌≤◌, ◌++◌, length, Some, slice_get};
 ghost use Rattle.cmwq_text.specs.Words.{spaced};
+ghost use Rattle.cmwq_text.specs.Keywords.{text};
 ghost use Rattle.cmwq_text.specs.IdText.{who_text};
 ghost use Rattle.cmwq_text.specs.CallText.{call_words};
 ghost use Rattle.cmwq_text.specs.ReplyText.{reply_words};
@@ -31,6 +32,36 @@ fn push_who(line: &mut Line, who: Who)
     }
 }
 
+/// The keyword that a call begins with.
+#[tactic(auto, unfolding(crate::specs::CallText::call_words))]
+fn call_keyword(call: Call) -> Keyword
+    ensures { slice_get (call_words call) 0 ≡ Some (text result) }
+{
+    match call {
+        Call::Queue { .. } => Keyword::Queue,
+        Call::Delay { .. } => Keyword::Delay,
+        Call::Modify { .. } => Keyword::Modify,
+        Call::Cancel { .. } => Keyword::Cancel,
+        Call::Tick { .. } => Keyword::Tick,
+        Call::Fire => Keyword::Fire,
+        Call::Flush { .. } => Keyword::Flush,
+        Call::Drain { .. } => Keyword::Drain,
+        Call::FlushItem { .. } => Keyword::FlushItem,
+        Call::FlushDelayed { .. } => Keyword::FlushDelayed,
+        Call::CancelSync { .. } => Keyword::CancelSync,
+        Call::End { .. } => Keyword::End,
+        Call::Take => Keyword::Take,
+        Call::Finish => Keyword::Finish,
+        Call::Sleep => Keyword::Sleep,
+        Call::Wake => Keyword::Wake,
+        Call::Retire => Keyword::Retire,
+        Call::SetMax { .. } => Keyword::SetMax,
+        Call::Freeze => Keyword::Freeze,
+        Call::Thaw => Keyword::Thaw,
+        Call::Destroy { .. } => Keyword::Destroy,
+    }
+}
+
 /// Each word after a space.
 #[tactic(auto, unfolding(crate::specs::CallText::call_words))]
 fn push_call(line: &mut Line, call: Call)
@@ -38,50 +69,85 @@ fn push_call(line: &mut Line, call: Call)
     ensures exact { line.new ≡ line.old ++ spaced (call_words call) }
     ensures short { length line.new ≤ length line.old + 98 }
 {
+    let keyword = call_keyword(call);
     match call {
-        Call::Queue { item, queue, cpu } => line.push_phrase(
-            Keyword::Queue,
-            &[item.0.into(), queue.0.into(), cpu.0.into()],
-        ),
+        Call::Queue { item, queue, cpu } => {
+            line.push_phrase(keyword, &[item.0.into(), queue.0.into(), cpu.0.into()]);
+        }
         Call::Delay {
             item,
             queue,
             cpu,
             ticks,
-        } => line.push_phrase(
-            Keyword::Delay,
-            &[item.0.into(), queue.0.into(), cpu.0.into(), ticks.into()],
-        ),
-        Call::Modify {
+        }
+        | Call::Modify {
             item,
             queue,
             cpu,
             ticks,
-        } => line.push_phrase(
-            Keyword::Modify,
-            &[item.0.into(), queue.0.into(), cpu.0.into(), ticks.into()],
-        ),
-        Call::Cancel { item } => line.push_phrase(Keyword::Cancel, &[item.0.into()]),
-        Call::Tick { ticks } => line.push_phrase(Keyword::Tick, &[ticks.into()]),
-        Call::Fire => line.push_phrase(Keyword::Fire, &[]),
-        Call::Flush { queue } => line.push_phrase(Keyword::Flush, &[queue.0.into()]),
-        Call::Drain { queue } => line.push_phrase(Keyword::Drain, &[queue.0.into()]),
-        Call::FlushItem { item } => line.push_phrase(Keyword::FlushItem, &[item.0.into()]),
-        Call::FlushDelayed { item } => line.push_phrase(Keyword::FlushDelayed, &[item.0.into()]),
-        Call::CancelSync { item } => line.push_phrase(Keyword::CancelSync, &[item.0.into()]),
-        Call::End { ticket } => line.push_phrase(Keyword::End, &[ticket.into()]),
-        Call::Take => line.push_phrase(Keyword::Take, &[]),
-        Call::Finish => line.push_phrase(Keyword::Finish, &[]),
-        Call::Sleep => line.push_phrase(Keyword::Sleep, &[]),
-        Call::Wake => line.push_phrase(Keyword::Wake, &[]),
-        Call::Retire => line.push_phrase(Keyword::Retire, &[]),
-        Call::SetMax { queue, max_active } => line.push_phrase(
-            Keyword::SetMax,
-            &[queue.0.into(), max_active.into()],
-        ),
-        Call::Freeze => line.push_phrase(Keyword::Freeze, &[]),
-        Call::Thaw => line.push_phrase(Keyword::Thaw, &[]),
-        Call::Destroy { queue } => line.push_phrase(Keyword::Destroy, &[queue.0.into()]),
+        } => {
+            line.push_phrase(
+                keyword,
+                &[item.0.into(), queue.0.into(), cpu.0.into(), ticks.into()],
+            );
+        }
+        Call::Cancel { item }
+        | Call::FlushItem { item }
+        | Call::FlushDelayed { item }
+        | Call::CancelSync { item } => line.push_phrase(keyword, &[item.0.into()]),
+        Call::Flush { queue } | Call::Drain { queue } | Call::Destroy { queue } => {
+            line.push_phrase(keyword, &[queue.0.into()]);
+        }
+        Call::SetMax { queue, max_active } => {
+            line.push_phrase(keyword, &[queue.0.into(), max_active.into()]);
+        }
+        Call::Tick { ticks: number } | Call::End { ticket: number } => {
+            line.push_phrase(keyword, &[number.into()]);
+        }
+        _ => line.push_phrase(keyword, &[]),
+    }
+}
+
+/// The keyword that a reply begins with.
+#[tactic(auto, unfolding(crate::specs::ReplyText::reply_words))]
+fn reply_keyword(reply: Reply) -> Keyword
+    ensures { slice_get (reply_words reply) 0 ≡ Some (text result) }
+{
+    match reply {
+        Reply::Yes(_) => Keyword::Yes,
+        Reply::Booked(_) => Keyword::Booked,
+        Reply::Again(_) => Keyword::Again,
+        Reply::Rebooked(_) => Keyword::Rebooked,
+        Reply::No => Keyword::No,
+        Reply::Foreign => Keyword::Foreign,
+        Reply::Draining => Keyword::Draining,
+        Reply::Misuse => Keyword::Misuse,
+        Reply::Cancelled(_) => Keyword::Cancelled,
+        Reply::Unbooked => Keyword::Unbooked,
+        Reply::Now(_) => Keyword::Now,
+        Reply::Fired(..) => Keyword::Fired,
+        Reply::Nothing => Keyword::Nothing,
+        Reply::Ticket(_)
+        | Reply::TicketQueued(_)
+        | Reply::TicketCancelled(..)
+        | Reply::TicketUnbooked(_)
+        | Reply::TicketNo(_) => Keyword::Ticket,
+        Reply::Idle => Keyword::Idle,
+        Reply::Crowded => Keyword::Crowded,
+        Reply::Done => Keyword::Done,
+        Reply::Waiting(_) => Keyword::Waiting,
+        Reply::Started(_) | Reply::StartedEnlist(..) => Keyword::Started,
+        Reply::Held => Keyword::Held,
+        Reply::Finished(_) => Keyword::Finished,
+        Reply::Slept => Keyword::Slept,
+        Reply::Woke => Keyword::Woke,
+        Reply::Retired => Keyword::Retired,
+        Reply::Kept => Keyword::Kept,
+        Reply::Width(_) => Keyword::Width,
+        Reply::Frozen => Keyword::Frozen,
+        Reply::Thawed => Keyword::Thawed,
+        Reply::Gone => Keyword::Gone,
+        Reply::Timers => Keyword::Timers,
     }
 }
 
@@ -92,54 +158,30 @@ pub(crate) fn push_reply(line: &mut Line, reply: Reply)
     ensures exact { line.new ≡ line.old ++ spaced (reply_words reply) }
     ensures short { length line.new ≤ length line.old + 70 }
 {
+    let keyword = reply_keyword(reply);
     match reply {
-        Reply::Yes(k) => line.push_phrase(Keyword::Yes, &[k.into()]),
-        Reply::Booked(due) => line.push_phrase(Keyword::Booked, &[due]),
-        Reply::Again(k) => line.push_phrase(Keyword::Again, &[k.into()]),
-        Reply::Rebooked(due) => line.push_phrase(Keyword::Rebooked, &[due]),
-        Reply::No => line.push_phrase(Keyword::No, &[]),
-        Reply::Foreign => line.push_phrase(Keyword::Foreign, &[]),
-        Reply::Draining => line.push_phrase(Keyword::Draining, &[]),
-        Reply::Misuse => line.push_phrase(Keyword::Misuse, &[]),
-        Reply::Cancelled(n) => line.push_phrase(Keyword::Cancelled, &[n.into()]),
-        Reply::Unbooked => line.push_phrase(Keyword::Unbooked, &[]),
-        Reply::Now(now) => line.push_phrase(Keyword::Now, &[now]),
-        Reply::Fired(item, k) => line.push_phrase(Keyword::Fired, &[item.0.into(), k.into()]),
-        Reply::Nothing => line.push_phrase(Keyword::Nothing, &[]),
-        Reply::Ticket(k) => line.push_phrase(Keyword::Ticket, &[k.into()]),
-        Reply::TicketQueued(k) => line.push_phrases(
-            (Keyword::Ticket, &[k.into()]),
-            (Keyword::Queued, &[]),
-        ),
-        Reply::TicketCancelled(k, n) => line.push_phrases(
-            (Keyword::Ticket, &[k.into()]),
-            (Keyword::Cancelled, &[n.into()]),
-        ),
-        Reply::TicketUnbooked(k) => line.push_phrases(
-            (Keyword::Ticket, &[k.into()]),
-            (Keyword::Unbooked, &[]),
-        ),
-        Reply::TicketNo(k) => line.push_phrases((Keyword::Ticket, &[k.into()]), (Keyword::No, &[])),
-        Reply::Idle => line.push_phrase(Keyword::Idle, &[]),
-        Reply::Crowded => line.push_phrase(Keyword::Crowded, &[]),
-        Reply::Done => line.push_phrase(Keyword::Done, &[]),
-        Reply::Waiting(n) => line.push_phrase(Keyword::Waiting, &[n.into()]),
-        Reply::Started(n) => line.push_phrase(Keyword::Started, &[n.into()]),
-        Reply::StartedEnlist(n, index) => line.push_phrases(
-            (Keyword::Started, &[n.into()]),
-            (Keyword::Enlist, &[index.into()]),
-        ),
-        Reply::Held => line.push_phrase(Keyword::Held, &[]),
-        Reply::Finished(n) => line.push_phrase(Keyword::Finished, &[n.into()]),
-        Reply::Slept => line.push_phrase(Keyword::Slept, &[]),
-        Reply::Woke => line.push_phrase(Keyword::Woke, &[]),
-        Reply::Retired => line.push_phrase(Keyword::Retired, &[]),
-        Reply::Kept => line.push_phrase(Keyword::Kept, &[]),
-        Reply::Width(n) => line.push_phrase(Keyword::Width, &[n.into()]),
-        Reply::Frozen => line.push_phrase(Keyword::Frozen, &[]),
-        Reply::Thawed => line.push_phrase(Keyword::Thawed, &[]),
-        Reply::Gone => line.push_phrase(Keyword::Gone, &[]),
-        Reply::Timers => line.push_phrase(Keyword::Timers, &[]),
+        Reply::Yes(n)
+        | Reply::Again(n)
+        | Reply::Cancelled(n)
+        | Reply::Ticket(n)
+        | Reply::Waiting(n)
+        | Reply::Started(n)
+        | Reply::Finished(n)
+        | Reply::Width(n) => line.push_phrase(keyword, &[n.into()]),
+        Reply::Booked(time) | Reply::Rebooked(time) | Reply::Now(time) => {
+            line.push_phrase(keyword, &[time]);
+        }
+        Reply::Fired(item, k) => line.push_phrase(keyword, &[item.0.into(), k.into()]),
+        Reply::TicketQueued(k) => line.push_phrases(keyword, k, Keyword::Queued, &[]),
+        Reply::TicketCancelled(k, n) => {
+            line.push_phrases(keyword, k, Keyword::Cancelled, &[n.into()]);
+        }
+        Reply::TicketUnbooked(k) => line.push_phrases(keyword, k, Keyword::Unbooked, &[]),
+        Reply::TicketNo(k) => line.push_phrases(keyword, k, Keyword::No, &[]),
+        Reply::StartedEnlist(n, index) => {
+            line.push_phrases(keyword, n, Keyword::Enlist, &[index.into()]);
+        }
+        _ => line.push_phrase(keyword, &[]),
     }
 }
 

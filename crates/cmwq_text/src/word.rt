@@ -1,6 +1,6 @@
-//! A line as its words.
+//! A line as its words. Each reader takes the words that it reads; where it gives None, some may be taken.
 ghost use Rattle.std.specs.Prelude.{◌≡◌, position};
-ghost use Rattle.cmwq_text.specs.Words.{is_space, byte_in, short_in, number_in, long_in};
+ghost use Rattle.cmwq_text.specs.Words.{is_space, with_left, byte_in, short_in, number_in, long_in};
 
 use crate::number::{byte_of, long_of, number_of, short_of};
 use std::marker::Model;
@@ -45,60 +45,57 @@ impl<'a> Words<'a> {
         self.bytes.is_none()
     }
 
-    /// The first word, and those after it.
+    /// Takes the first word.
     #[tactic(auto, using(crate::proofs::Splits::split_without_space, crate::proofs::Splits::split_at_space))]
-    pub fn first(self) -> Option<(&'a [u8], Words<'a>)>
-        ensures { option_map (λ x. (x.0.now, x.1)) result ≡ first_in self.entry }
+    pub fn first(&mut self) -> Option<&'a [u8]>
+        ensures { option_map (λ word. (word.now, self.new)) result ≡ first_in self.old }
     {
         let bytes = self.bytes?;
         match first_space(bytes) {
-            None => Some((bytes, Words { bytes: None })),
+            None => {
+                self.bytes = None;
+                Some(bytes)
+            }
             Some(end) => {
-                let words = Words {
-                    bytes: Some(&bytes[end + 1..]),
-                };
-                Some((&bytes[..end], words))
+                self.bytes = Some(&bytes[end + 1..]);
+                Some(&bytes[..end])
             }
         }
     }
 
-    /// The words after this one.
-    pub fn after(self, word: &[u8]) -> Option<Words<'a>>
-        ensures { result ≡ after word.now self.entry }
+    /// Takes the first word, if it is this one.
+    pub fn after(&mut self, word: &[u8]) -> Option<()>
+        ensures { option_map (λ _. self.new) result ≡ after word.now self.old }
     {
-        let (first, words) = self.first()?;
-        if first == word { Some(words) } else { None }
+        let first = self.first()?;
+        if first == word { Some(()) } else { None }
     }
 }
 
 /// A number that a byte holds. A greater one is read as the greatest that it holds.
-pub fn byte_in<'a>(words: Words<'a>) -> Option<(u8, Words<'a>)>
-    ensures { result ≡ byte_in words.entry }
+pub fn byte_in(words: &mut Words<'_>) -> Option<u8>
+    ensures { with_left result words.new ≡ byte_in words.old }
 {
-    let (word, words) = words.first()?;
-    Some((byte_of(word)?, words))
+    byte_of(words.first()?)
 }
 
 /// A number of at most 65,535. A greater one is read as that.
-pub fn short_in<'a>(words: Words<'a>) -> Option<(u16, Words<'a>)>
-    ensures { result ≡ short_in words.entry }
+pub fn short_in(words: &mut Words<'_>) -> Option<u16>
+    ensures { with_left result words.new ≡ short_in words.old }
 {
-    let (word, words) = words.first()?;
-    Some((short_of(word)?, words))
+    short_of(words.first()?)
 }
 
 /// A number of at most 4,294,967,295.
-pub fn number_in<'a>(words: Words<'a>) -> Option<(u32, Words<'a>)>
-    ensures { result ≡ number_in words.entry }
+pub fn number_in(words: &mut Words<'_>) -> Option<u32>
+    ensures { with_left result words.new ≡ number_in words.old }
 {
-    let (word, words) = words.first()?;
-    Some((number_of(word)?, words))
+    number_of(words.first()?)
 }
 
 /// A number of at most 18,446,744,073,709,551,615.
-pub fn long_in<'a>(words: Words<'a>) -> Option<(u64, Words<'a>)>
-    ensures { result ≡ long_in words.entry }
+pub fn long_in(words: &mut Words<'_>) -> Option<u64>
+    ensures { with_left result words.new ≡ long_in words.old }
 {
-    let (word, words) = words.first()?;
-    Some((long_of(word)?, words))
+    long_of(words.first()?)
 }

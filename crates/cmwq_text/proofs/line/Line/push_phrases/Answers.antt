@@ -1,9 +1,9 @@
+use Rattle.std.specs.Prelude.{◌∷◌, []}
 use Rattle.cmwq_text.specs.CallText.{phrase}
 use Rattle.cmwq_text.proofs.Spacing.{in_a_row}
 use Rattle.cmwq_text.proofs.line.Line.push_phrases.Goals as goal
 
 pub returns-clause-exact : goal.returns-clause-exact
 returns-clause-exact c =
-    let a = c.args.first in
-    let b = c.args.second in
-    rw (c.push_phrase-2.ensures.exact, c.push_phrase.ensures.exact) (in_a_row c.args.self.now (phrase a.0 a.1.now) (phrase b.0 b.1.now))
+    let a = c.args in
+    rw (c.push_phrase-2.ensures.exact, c.push_phrase.ensures.exact, c.into.ensures) (in_a_row a.self.now (phrase a.first (a.number ∷ [])) (phrase a.second a.numbers.now))
