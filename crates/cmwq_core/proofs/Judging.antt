@@ -1,5 +1,5 @@
 -- A history that is judged from its first entry on.
-use Rattle.std.proofs.Common.{◌≡◌, ◌+◌, ◌<◌, ℕ, List, [], ◌∷◌, length, take, drop, get_or, reverse, sym, ap, ◌∙◌, subst, arith, add-one}
+use Rattle.std.proofs.Common.{◌≡◌, ◌+◌, ◌<◌, ℕ, List, [], ◌∷◌, length, take, drop, get_or, reverse, sym, ap, ap₂, ◌∙◌, subst, arith, add-one}
 use Rattle.std.proofs.Math.Seq.{split_at}
 use Rattle.std.proofs.lemmas.List.{take_more, reverse-append, length-take-le}
 use Rattle.cmwq_model.specs.declared.entry.Entry.{Entry}
@@ -7,7 +7,7 @@ use Rattle.cmwq_model.specs.declared.verdict.Wanted.{Wanted}
 use Rattle.cmwq_model.specs.Layout.{Layout}
 use Rattle.cmwq_model.specs.Legal.{IsLegal, past_of, entry_for}
 use Rattle.cmwq_model.specs.Verdict.{AllFit, Wants, IsFirstWrong}
-use Rattle.cmwq_core.specs.History.{History, with_entry}
+use Rattle.cmwq_core.specs.History.{History, next_entry, with_entry}
 
 -- the book beside the entries, when so many are judged
 abbrev pub book_at : Layout → List Entry → ℕ → History
@@ -18,18 +18,30 @@ pub record AreJudged (s : Layout) (entries : List Entry) (k : ℕ) (b : History)
   pub legal : IsLegal s (past_of (take k entries))
   pub book : b ≡ book_at s entries k
 
+-- before the first
+pub judged_none : (entries : List Entry) (b : History) → b.room ≡ length entries + 10000 → b.entries ≡ [] → AreJudged b.layout entries 0 b
+unfolding IsLegal
+judged_none entries b room fresh = record { legal = tt; book = ap₂ (λ (n : ℕ) (es : List Entry). let made : History = record { layout = b.layout; room = n; entries = es } in made) room fresh }
+
 module _ (s : Layout) (entries : List Entry) (k : ℕ) (d : Entry) where
   past_more : k < length entries → past_of (take (k + 1) entries) ≡ get_or entries k d ∷ past_of (take k entries)
   past_more h = ap reverse (take_more entries k d h) ∙ reverse-append (take k entries) (get_or entries k d ∷ [])
 
   -- an entry that is right keeps the history legal, and the book beside it
-  pub legal_more : k < length entries → AllFit s entries → IsLegal s (past_of (take k entries))
+  legal_more : k < length entries → AllFit s entries → IsLegal s (past_of (take k entries))
       → get_or entries k d ≡ entry_for s (past_of (take k entries)) (get_or entries k d).who (get_or entries k d).call → IsLegal s (past_of (take (k + 1) entries))
   unfolding IsLegal
   legal_more h fit legal right = subst (IsLegal s) (sym (past_more h)) (fit k d h, right, legal)
 
-  pub book_more : k < length entries → with_entry (book_at s entries k) (get_or entries k d) ≡ book_at s entries (k + 1)
+  book_more : k < length entries → with_entry (book_at s entries k) (get_or entries k d) ≡ book_at s entries (k + 1)
   book_more h = ap (λ (es : List Entry). let b : History = record { layout = s; room = length entries + 10000; entries = es } in b) (sym (take_more entries k d h))
+
+  pub judged_more : (b : History) → k < length entries → AllFit s entries → AreJudged s entries k b
+      → get_or entries k d ≡ next_entry b (get_or entries k d).who (get_or entries k d).call → AreJudged s entries (k + 1) (with_entry b (get_or entries k d))
+  judged_more b h fit are right = record {
+    legal = legal_more h fit are.legal (rw are.book at right);
+    book = rw are.book (book_more h);
+  }
 
   -- an entry after a legal history that isn't right is the first that is wrong
   pub first_wrong : (w : Wanted) → k < length entries → IsLegal s (past_of (take k entries)) → Wants s (past_of (take k entries)) (get_or entries k d) w

@@ -1,6 +1,6 @@
 //! The verdict of a history.
 
-ghost use Rattle.std.specs.Prelude.{◌≡◌, ◌≤◌, ◌+◌, true, length, None, IfOk, IfSome, OnOk, IfErr, IsTrue};
+ghost use Rattle.std.specs.Prelude.{◌≡◌, ◌≤◌, ◌+◌, true, [], length, None, IfOk, IfSome, OnOk, IfErr, IsTrue};
 ghost use Rattle.cmwq_model.specs.Layout.{fits, is_layout};
 ghost use Rattle.cmwq_model.specs.Legal.{IsLegal, past_of};
 ghost use Rattle.cmwq_model.specs.Verdict.{AllFit, Wants, IsFirstWrong};
@@ -32,15 +32,28 @@ pub fn check(
     // it shows that the shape is inside the limits, on which the bound rests
     let _counts = shape.counts();
     let mut state = State::new(alloc, shape, entries.len() as u32 + MOST_OWED)?;
+    Ok(verdict(&mut state, entries))
+}
+
+/// The verdict of a history, whose entries are appended to a state that has none while they are right.
+fn verdict(state: &mut State, entries: &[Entry]) -> Result<(), Illegal>
+    requires few { length entries.now ≤ 1000000 }
+    requires fitting { AllFit state.old.layout entries.now }
+    requires inside { IsTrue (is_layout state.old.layout) }
+    requires room { state.old.room ≡ length entries.now + 10000 }
+    requires fresh { state.old.entries ≡ [] }
+    ensures legal { OnOk result (IsLegal state.old.layout (past_of entries.now)) }
+    ensures illegal { IfErr result (IsFirstWrong state.old.layout entries.now) }
+{
     for at in 0..entries.len() {
-        if let Some(wanted) = judged(&mut state, entries[at]) {
-            return Ok(Err(Illegal {
+        if let Some(wanted) = judged(state, entries[at]) {
+            return Err(Illegal {
                 at: at as u32,
                 wanted,
-            }));
+            });
         }
     }
-    Ok(Ok(()))
+    Ok(())
 }
 
 /// What should stand in the next entry where something else stands; an entry that is right is appended.

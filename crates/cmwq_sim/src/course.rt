@@ -23,6 +23,7 @@ use cmwq_model::{
     Shape, Who, WorkerId,
 };
 use std::alloc::{AllocError, Global};
+use std::mem::replace;
 
 /// An item on the CPU's list: what is left of its burn, and which of its parts comes next.
 #[derive(Clone, Copy, Debug)]
@@ -385,6 +386,17 @@ impl Course {
         self.burn(scenario);
         Ok(())
     }
+
+    /// Each millisecond, until all items have ended. The lines are handed out.
+    fn run(&mut self, alloc: Global, scenario: &Scenario) -> Result<Vec<Line>, NoMemory>
+        requires { StandsAt (plan_of scenario.now) self.old (lines.queued (plan_of scenario.now)) }
+        ensures { IfOk result (λ told. map event_of told.items ≡ lines.scenario_lines (plan_of scenario.now)) }
+    {
+        for at in 0..whole_time(scenario) + 1 {
+            self.millisecond(alloc, scenario, at)?;
+        }
+        Ok(replace(&mut self.lines, Vec::new(alloc)))
+    }
 }
 
 /// The lines of a scenario: what befalls its items on one CPU with a pool of eight workers, until all have ended. The error
@@ -393,9 +405,5 @@ pub fn replay(alloc: Global, scenario: &Scenario) -> Result<Vec<Line>, NoMemory>
     requires { IsWithinLimits (plan_of scenario.now) }
     ensures { IfOk result (λ told. map event_of told.items ≡ lines.scenario_lines (plan_of scenario.now)) }
 {
-    let mut course = Course::new(alloc, scenario)?;
-    for at in 0..whole_time(scenario) + 1 {
-        course.millisecond(alloc, scenario, at)?;
-    }
-    Ok(course.lines)
+    Course::new(alloc, scenario)?.run(alloc, scenario)
 }

@@ -1,22 +1,111 @@
 //! The parts of a new state.
 
-ghost use Rattle.std.specs.Prelude.{◌≡◌, ◌*◌, ◌<◌, ◌≤◌, false, IfOk, IsTrue, map, replicate, vec_capacity};
+ghost use Rattle.std.specs.Prelude.{◌≡◌, ◌*◌, ◌<◌, ◌≤◌, [], None, false, IfOk, IsTrue, length, map, replicate, vec_capacity};
 ghost use Rattle.cmwq_model.specs.Layout.{is_between};
 ghost use Rattle.cmwq_pool.specs.Lineup.{new_lineup};
 ghost use Rattle.cmwq_flush.specs.FlushBook.{new_book};
+ghost use Rattle.cmwq_flush.specs.BarrierBook.{new_barriers};
+ghost use Rattle.cmwq_flight.specs.Flights.{no_flight};
+ghost use Rattle.cmwq_line.specs.Line.{new_lined};
 
-use cmwq_flush::Flushes;
-use cmwq_model::{NoMemory, QueueShape};
+use cmwq_flight::Flights;
+use cmwq_flush::{Barriers, Flushes};
+use cmwq_line::Line;
+use cmwq_model::{Counts, NoMemory, QueueShape};
 use cmwq_pool::Pool;
+use cmwq_ticket::Tickets;
+use cmwq_timer::Timers;
 use std::alloc::Global;
 
-/// Two new pools for each CPU.
-pub(crate) fn new_pools(
+/// What is kept of callers, workers and items.
+#[derive(Drop)]
+pub(crate) struct ItemParts {
+    pub(crate) serials: Vec<u32>,
+    pub(crate) pools: Vec<Pool>,
+    pub(crate) timers: Timers,
+    pub(crate) flights: Flights,
+}
+
+/// What is kept of flushes and tickets.
+#[derive(Drop)]
+pub(crate) struct FlushParts {
+    pub(crate) books: Vec<Flushes>,
+    pub(crate) barriers: Barriers,
+    pub(crate) tickets: Tickets,
+}
+
+/// The queues, and what is kept of them.
+#[derive(Drop)]
+pub(crate) struct QueueParts {
+    pub(crate) queues: Vec<QueueShape>,
+    pub(crate) gone: Vec<bool>,
+    pub(crate) line: Line,
+    pub(crate) most: Vec<u32>,
+}
+
+pub(crate) fn new_item_parts(alloc: Global, counts: Counts) -> Result<ItemParts, NoMemory>
+    requires items { IsTrue (is_between 1 256 counts.items) }
+    requires workers { IsTrue (is_between 1 8 counts.workers) }
+    ensures serials { IfOk result (λ parts. parts.serials.items ≡ replicate 128 0) }
+    ensures pools { IfOk result (λ parts. parts.pools.items ≡ replicate (2 * counts.cpus) (new_lineup counts.items counts.workers)) }
+    ensures timers { IfOk result (λ parts. parts.timers ≡ replicate counts.items None) }
+    ensures flights { IfOk result (λ parts. parts.flights ≡ replicate counts.items no_flight) }
+{
+    let serials = vec![in alloc; 0; 128]?;
+    let pools = new_pools(alloc, counts.cpus, counts.items, counts.workers)?;
+    let timers = Timers::new(alloc, counts.items)?;
+    let flights = Flights::new(alloc, counts.items)?;
+    Ok(ItemParts {
+        serials,
+        pools,
+        timers,
+        flights,
+    })
+}
+
+pub(crate) fn new_flush_parts(
     alloc: Global,
-    cpus: u8,
-    items: u16,
-    workers: u8,
-) -> Result<Vec<Pool>, NoMemory>
+    counts: Counts,
+    queues: usize,
+) -> Result<FlushParts, NoMemory>
+    ensures books { IfOk result (λ parts. parts.books.items ≡ replicate queues (new_book counts.callers)) }
+    ensures barriers { IfOk result (λ parts. parts.barriers ≡ new_barriers counts.items counts.callers) }
+    ensures tickets { IfOk result (λ parts. parts.tickets ≡ replicate counts.callers []) }
+{
+    let books = new_books(alloc, queues, counts.callers)?;
+    let barriers = Barriers::new(alloc, counts.items, counts.callers)?;
+    let tickets = Tickets::new(alloc, counts.callers)?;
+    Ok(FlushParts {
+        books,
+        barriers,
+        tickets,
+    })
+}
+
+pub(crate) fn new_queue_parts(
+    alloc: Global,
+    queues: &[QueueShape],
+    room: u16,
+) -> Result<QueueParts, NoMemory>
+    requires { length queues.now < 256 }
+    ensures queues { IfOk result (λ parts. parts.queues.items ≡ queues.now) }
+    ensures gone { IfOk result (λ parts. parts.gone.items ≡ replicate (length queues.now) false) }
+    ensures line { IfOk result (λ parts. parts.line ≡ new_lined (length queues.now) room) }
+    ensures most { IfOk result (λ parts. parts.most.items ≡ map (λ q. q.max_active) queues.now) }
+{
+    let gone = new_gone(alloc, queues.len())?;
+    let line = Line::new(alloc, queues.len(), room)?;
+    let most = new_most(alloc, queues)?;
+    Ok(QueueParts {
+        queues: queues.to_vec(alloc)?,
+        gone,
+        line,
+        most,
+    })
+}
+
+/// Two new pools for each CPU.
+fn new_pools(alloc: Global, cpus: u8, items: u16, workers: u8) -> Result<Vec<Pool>, NoMemory>
     requires items { IsTrue (is_between 1 256 items) }
     requires workers { IsTrue (is_between 1 8 workers) }
     ensures { IfOk result (λ pools. pools.items ≡ replicate (2 * cpus) (new_lineup items workers)) }
@@ -30,7 +119,7 @@ pub(crate) fn new_pools(
 }
 
 /// A new flush book for each queue.
-pub(crate) fn new_books(alloc: Global, queues: usize, callers: u8) -> Result<Vec<Flushes>, NoMemory>
+fn new_books(alloc: Global, queues: usize, callers: u8) -> Result<Vec<Flushes>, NoMemory>
     ensures { IfOk result (λ books. books.items ≡ replicate queues (new_book callers)) }
 {
     let mut books = Vec::with_capacity(alloc, queues)?;
@@ -40,14 +129,8 @@ pub(crate) fn new_books(alloc: Global, queues: usize, callers: u8) -> Result<Vec
     Ok(books)
 }
 
-pub(crate) fn new_serials(alloc: Global) -> Result<Vec<u32>, NoMemory>
-    ensures { IfOk result (λ serials. serials.items ≡ replicate 128 0) }
-{
-    Ok(vec![in alloc; 0; 128]?)
-}
-
 /// The max_active of each queue at first.
-pub(crate) fn new_most(alloc: Global, queues: &[QueueShape]) -> Result<Vec<u32>, NoMemory>
+fn new_most(alloc: Global, queues: &[QueueShape]) -> Result<Vec<u32>, NoMemory>
     ensures { IfOk result (λ most. most.items ≡ map (λ q. q.max_active) queues.now) }
 {
     Ok(
@@ -59,7 +142,7 @@ pub(crate) fn new_most(alloc: Global, queues: &[QueueShape]) -> Result<Vec<u32>,
 }
 
 /// No queue is gone at first.
-pub(crate) fn new_gone(alloc: Global, queues: usize) -> Result<Vec<bool>, NoMemory>
+fn new_gone(alloc: Global, queues: usize) -> Result<Vec<bool>, NoMemory>
     ensures { IfOk result (λ gone. gone.items ≡ replicate queues false) }
 {
     Ok(vec![in alloc; false; queues]?)

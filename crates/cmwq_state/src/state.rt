@@ -17,7 +17,7 @@ mod waits;
 mod workers;
 
 use crate::effect::Effect;
-use crate::new::{new_books, new_gone, new_most, new_pools, new_serials};
+use crate::new::{new_flush_parts, new_item_parts, new_queue_parts};
 use crate::tables::{
     frozen_after, list_active, tell_barrier_begun, tell_barrier_done, tell_barriers, tell_begun,
     tell_cancelled, tell_done, tell_ended, tell_flights, tell_gone, tell_line, tell_opened,
@@ -88,47 +88,39 @@ impl State {
         requires { room ≤ 1010000 }
         ensures { IfOk result (λ state. state ≡ record { layout = shape.now; room = room; entries = [] }) }
     {
-        State::start(alloc, shape.counts(), shape.queues().to_vec(alloc)?, room)
+        State::start(alloc, shape.counts(), shape.queues(), room)
     }
 
     fn start(
         alloc: Global,
         counts: Counts,
-        queues: Vec<QueueShape>,
+        queues: &[QueueShape],
         room: u32,
     ) -> Result<State, NoMemory>
-        requires inside { is_layout (layout_of counts queues.items) ≡ true }
+        requires inside { is_layout (layout_of counts queues.now) ≡ true }
         requires few { room ≤ 1010000 }
-        ensures { IfOk result (λ state. state ≡ record { layout = layout_of counts queues.items; room = room; entries = [] }) }
+        ensures { IfOk result (λ state. state ≡ record { layout = layout_of counts queues.now; room = room; entries = [] }) }
     {
-        let many = queues.len();
         let entries = Vec::with_capacity(alloc, room as usize)?;
-        let pools = new_pools(alloc, counts.cpus, counts.items, counts.workers)?;
-        let books = new_books(alloc, many, counts.callers)?;
-        let barriers = Barriers::new(alloc, counts.items, counts.callers)?;
-        let timers = Timers::new(alloc, counts.items)?;
-        let serials = new_serials(alloc)?;
-        let flights = Flights::new(alloc, counts.items)?;
-        let tickets = Tickets::new(alloc, counts.callers)?;
-        let gone = new_gone(alloc, many)?;
-        let line = Line::new(alloc, many, 2 * counts.items)?;
-        let most = new_most(alloc, &queues)?;
+        let of_items = new_item_parts(alloc, counts)?;
+        let of_flushes = new_flush_parts(alloc, counts, queues.len())?;
+        let of_queues = new_queue_parts(alloc, queues, 2 * counts.items)?;
         Ok(State {
             counts,
-            queues,
+            queues: of_queues.queues,
             room,
             entries,
-            pools,
-            books,
-            barriers,
-            timers,
+            pools: of_items.pools,
+            books: of_flushes.books,
+            barriers: of_flushes.barriers,
+            timers: of_items.timers,
             time: 0,
-            serials,
-            flights,
-            tickets,
-            gone,
-            line,
-            most,
+            serials: of_items.serials,
+            flights: of_items.flights,
+            tickets: of_flushes.tickets,
+            gone: of_queues.gone,
+            line: of_queues.line,
+            most: of_queues.most,
             frozen: false,
             owing: 0,
         })

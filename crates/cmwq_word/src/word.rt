@@ -1,11 +1,10 @@
 ghost use Rattle.std.specs.Prelude.{◌≡◌, true, false, IfOk, IfErr, IsSome, Some, option_map, map};
-ghost use Rattle.clap.specs.Words.{kind_of, app_of, new_app, with_subcommand};
-ghost use Rattle.clap.specs.declared.builder.command.Command.TheViews.{out-Command as fields_of};
-ghost use Rattle.cmwq_word.specs.Word.{word_of_name, without_words, with_lines, app, texts, is_taken, name_matched, word_matched};
+ghost use Rattle.clap.specs.Words.{kind_of, app_of};
+ghost use Rattle.cmwq_word.specs.Word.{word_of_name, without_words, with_word, with_lines, app, texts, is_taken, name_matched, word_matched};
 
 use clap::error::ErrorKind;
 use clap::{Command, Error};
-use std::alloc::Global;
+use std::alloc::{AllocError, Global};
 
 /// What the program is asked to do.
 #[derive(Clone, Copy, Debug, PartialEq, Eq)]
@@ -119,14 +118,6 @@ fn word_named(name: &str) -> Option<Word>
     }
 }
 
-/// A word of the program, with what it does.
-fn subcommand<'a>(alloc: Global, name: &'a str, about: &'a str) -> Command<'a>
-    ensures app { app_of result ≡ new_app name.entry.now }
-    ensures local { (fields_of result).has_globals ≡ false }
-{
-    Command::new(alloc, name).about(about)
-}
-
 /// The program, before it has its words.
 fn program<'a>(alloc: Global) -> Command<'a>
     ensures { app_of result ≡ without_words }
@@ -137,62 +128,43 @@ fn program<'a>(alloc: Global) -> Command<'a>
         .subcommand_required(true)
 }
 
-/// The program with one word more.
-fn with_word<'a>(program: Command<'a>, word: Command<'a>) -> Result<Command<'a>, Error>
-    requires { (fields_of word).has_globals ≡ false }
-    ensures ok { IfOk result (λ c. app_of c ≡ with_subcommand (app_of program.entry) (app_of word.entry).top) }
-    ensures err { IfErr result (λ e. kind_of e ≡ ErrorKind.OutOfMemory) }
+/// The program with one word more: its name, what it does, and what its help shows below its usage.
+fn with_word<'a>(
+    alloc: Global,
+    program: Command<'a>,
+    name: &'a str,
+    about: &'a str,
+    help: &'a str,
+) -> Result<Command<'a>, AllocError>
+    ensures { IfOk result (λ c. app_of c ≡ with_word (app_of program.entry) name.entry.now) }
 {
-    Ok(program.subcommand(word)?)
+    program.subcommand(Command::new(alloc, name).about(about).after_help(help))
 }
 
 /// The program with the words whose inputs are lines.
-fn with_lines<'a>(alloc: Global) -> Result<Command<'a>, Error>
-    ensures ok { IfOk result (λ c. app_of c ≡ with_lines) }
-    ensures err { IfErr result (λ e. kind_of e ≡ ErrorKind.OutOfMemory) }
+fn with_lines<'a>(alloc: Global) -> Result<Command<'a>, AllocError>
+    ensures { IfOk result (λ c. app_of c ≡ with_lines) }
 {
-    let step = subcommand(
-        alloc,
-        "step",
-        "Reads call lines from standard input and writes the history of their answers",
-    )
-    .after_help(CALLS_HELP);
-    let check = subcommand(
-        alloc,
-        "check",
-        "Reads a history from standard input and writes whether it is legal, or its first wrong entry",
-    )
-    .after_help(HISTORY_HELP);
-    let upgrade = subcommand(
-        alloc,
-        "upgrade",
-        "Reads a history of either format from standard input and writes it in format 2, if it is legal",
-    )
-    .after_help(FORMER_HELP);
-    let command = with_word(program(alloc), step)?;
-    let command = with_word(command, check)?;
-    with_word(command, upgrade)
+    let about = "Reads call lines from standard input and writes the history of their answers";
+    let command = with_word(alloc, program(alloc), "step", about, CALLS_HELP)?;
+    let about =
+        "Reads a history from standard input and writes whether it is legal, or its first wrong entry";
+    let command = with_word(alloc, command, "check", about, HISTORY_HELP)?;
+    let about =
+        "Reads a history of either format from standard input and writes it in format 2, if it is legal";
+    with_word(alloc, command, "upgrade", about, FORMER_HELP)
 }
 
 /// The program's command line, as `--help` shows it.
-fn command<'a>(alloc: Global) -> Result<Command<'a>, Error>
-    ensures ok { IfOk result (λ c. app_of c ≡ app) }
-    ensures err { IfErr result (λ e. kind_of e ≡ ErrorKind.OutOfMemory) }
+fn command<'a>(alloc: Global) -> Result<Command<'a>, AllocError>
+    ensures { IfOk result (λ c. app_of c ≡ app) }
 {
-    let replay = subcommand(
-        alloc,
-        "replay",
-        "Reads a scenario in JSON from standard input and writes its table of times and events",
-    )
-    .after_help(SCENARIO_HELP);
-    let run = subcommand(
-        alloc,
-        "run",
-        "Reads a script in JSON from standard input, runs it on threads and writes the history of that run",
-    )
-    .after_help(SCRIPT_HELP);
-    let command = with_word(with_lines(alloc)?, replay)?;
-    with_word(command, run)
+    let about =
+        "Reads a scenario in JSON from standard input and writes its table of times and events";
+    let command = with_word(alloc, with_lines(alloc)?, "replay", about, SCENARIO_HELP)?;
+    let about =
+        "Reads a script in JSON from standard input, runs it on threads and writes the history of that run";
+    with_word(alloc, command, "run", about, SCRIPT_HELP)
 }
 
 /// The name of the word that clap's matches of the command line hold.
@@ -222,9 +194,7 @@ pub fn word_of<'a>(alloc: Global, words: &'a [&'a str]) -> Result<Word, Error>
 }
 
 /// What is told where a parse gives no word, which clap's own checks leave no room for.
-fn unknown(alloc: Global) -> Result<Error, Error>
-    ensures { IfErr result (λ e. kind_of e ≡ ErrorKind.OutOfMemory) }
-{
+fn unknown(alloc: Global) -> Result<Error, AllocError> {
     let mut command = command(alloc)?;
-    Ok(command.error(ErrorKind::InvalidSubcommand, "no such word")?)
+    command.error(ErrorKind::InvalidSubcommand, "no such word")
 }

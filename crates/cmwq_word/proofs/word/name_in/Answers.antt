@@ -9,4 +9,4 @@ unfolding is_taken
 returns-in_err-matches-clause-err c =
     let p = err_from_is_err_and c.from_residual-in_err-matches.result c.from_residual-in_err-matches.ensures.1 in
     rw (p.1, p.2) (λ (taken : is_taken (texts c.args.words.now) ≡ true).
-    c.in_err-matches.ensures.passes (ap (λ (a : App). takes a (texts c.args.words.now)) c.in_ok-command.ensures.ok ∙ taken))
+    c.in_err-matches.ensures.passes (ap (λ (a : App). takes a (texts c.args.words.now)) c.in_ok-command.ensures ∙ taken))
