@@ -43,6 +43,7 @@ pub(crate) struct QueueParts {
     pub(crate) most: Vec<u32>,
 }
 
+/// What is kept of callers, workers and items before the first entry.
 pub(crate) fn new_item_parts(alloc: Global, counts: Counts) -> Result<ItemParts, NoMemory>
     requires items { IsTrue (is_between 1 256 counts.items) }
     requires workers { IsTrue (is_between 1 8 counts.workers) }
@@ -63,6 +64,7 @@ pub(crate) fn new_item_parts(alloc: Global, counts: Counts) -> Result<ItemParts,
     })
 }
 
+/// What is kept of flushes and tickets before the first entry.
 pub(crate) fn new_flush_parts(
     alloc: Global,
     counts: Counts,
@@ -82,6 +84,7 @@ pub(crate) fn new_flush_parts(
     })
 }
 
+/// A copy of the queues, and what is kept of them before the first entry.
 pub(crate) fn new_queue_parts(
     alloc: Global,
     queues: &[QueueShape],
