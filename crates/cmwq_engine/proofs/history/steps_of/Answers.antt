@@ -1,7 +1,9 @@
-use Rattle.std.proofs.Common.{◌≡◌, ◌≤◌, ◌+◌, ◌∙◌, ℕ, sym, ap, arith}
+use Rattle.std.proofs.Common.{◌≡◌, ◌≤◌, ◌+◌, ◌∙◌, ℕ, sym, ap, arith, rules}
+use Rattle.std.proofs.lemmas.List.{take_all}
 use Rattle.std.specs.Prelude.{is_ok}
 use Rattle.cmwq_core.specs.History.{History, past_in}
-use Rattle.cmwq_model.specs.Room.{Steps}
+use Rattle.cmwq_model.specs.Legal.{past_of}
+use Rattle.cmwq_model.specs.Room.{Steps, steps}
 use Rattle.cmwq_engine.proofs.Steps.{more_taken, more_refused}
 use Rattle.cmwq_engine.proofs.history.steps_of.Goals as goal
 use Rattle.cmwq_engine.proofs.history.steps_of.Goals.{in-Ok, in-Err}
@@ -38,3 +40,6 @@ loop-who-preserved c =
             few = one_more _ _ _ w.left_out-is here.few;
           }
     ]
+
+pub returns-clause-past : goal.returns-clause-past
+returns-clause-past c = search (rules, take_all, ap past_of, ap (λ calls. (steps c.args.shape.now c.args.shape.now.room calls).past))

@@ -37,3 +37,6 @@ returns-clause-made g c =
       rw (reply_is, w_is) (extends s v log call c.serial-serial.ensures.own c.requires.step pre c.requires.fits legal),
       rw (w_is, log_is) (step_after s v log call c.requires.step),
     )
+
+pub returns-clause-reply : goal.returns-clause-reply
+returns-clause-reply g c = c.carry-reply.ensures.reply ∙ ap (λ (e : Entry). e.reply) c.requires.plan.mark.is_next

@@ -1,4 +1,4 @@
-use Rattle.std.proofs.Common.{arith}
+use Rattle.std.proofs.Common.{arith, rules}
 use Rattle.cmwq_rt.proofs.Placing.{few_given}
 use Rattle.cmwq_rt.proofs.seats.Seats.caller.Goals as goal
 
@@ -11,3 +11,6 @@ split_off-share-requires-clause-has_parts g c =
     let parts = i.3 in
     let left = c.in-Some.ensures in
     omega (arith, few, callers, readers, parts, left)
+
+pub returns-clause-given : goal.returns-clause-given
+returns-clause-given g c = search rules
