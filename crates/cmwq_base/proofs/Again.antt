@@ -1,8 +1,9 @@
 -- The text of a file that is spelled is read again as itself.
-use Rattle.std.proofs.Common.{◌≡◌, ◌+◌, ◌≤◌, ℕ, true, false, List, [], ◌∷◌, ◌++◌, length, Ok, leb, Some, None, refl, sym, ap, ◌∙◌, append_assoc, append-nil, arith, subst, length-append}
+use Rattle.std.proofs.Common.{◌≡◌, ◌+◌, ◌≤◌, ◌==◌, ℕ, Bool, true, false, ◌&&◌, not, List, [], ◌∷◌, ◌++◌, length, Ok, Err, leb, Option, Some, None, refl, sym, ap, ◌∙◌, append_assoc, append-nil, arith, subst, length-append, get_or}
 use Rattle.std.specs.Prelude.{if◌then◌else◌, codes, IsTrue, flat_map}
 use Rattle.std.specs.List.{All, list_all}
-use Rattle.std.proofs.lemmas.Bool.{lt-leb, le-ltb, leb-true}
+use Rattle.std.proofs.lemmas.Bool.{lt-leb, le-ltb, le-leb, leb-true, eqb-true, eq-eqb}
+use Rattle.std.proofs.lemmas.Bool.Decides.{nat_tests}
 use Rattle.std.proofs.lemmas.List.Elements.{All-head, All-tail}
 use Rattle.std.proofs.lemmas.List.Splits.{slice_split_at}
 use Rattle.cmwq_io.specs.Feeds.{is_feed}
@@ -16,39 +17,51 @@ use Rattle.cmwq_text.specs.Words.{joined}
 use Rattle.cmwq_text.specs.IdText.{who_text}
 use Rattle.cmwq_text.specs.CallText.{call_words, call_text}
 use Rattle.cmwq_text.specs.EntryText.{entry_words, entry_text}
-use Rattle.cmwq_text.specs.ShapeText.{counts_words, counts_text, counts_of, queue_words, queue_text, begins_queue}
-use Rattle.cmwq_text.specs.Formats.{is_version_line, allows_queue, allows_entry, queue_of_format, entry_of_format}
-use Rattle.cmwq_text.specs.HistoryText.{counts_in, version_text, shape_text}
+use Rattle.cmwq_text.specs.EndText.{end_words, end_text, end_of}
+use Rattle.cmwq_text.specs.ShapeText.{counts_words, counts_text, queue_words, queue_text, begins_queue}
+use Rattle.cmwq_text.specs.Numbers.{greatest_number}
+use Rattle.cmwq_text.specs.Formats.{version_name, old_lines, most_lines, line_limit, room_limit, needs_end, allows_queue, allows_entry, counts_of_format, queue_of_format, entry_of_format, short_call_of}
+use Rattle.cmwq_text.specs.HistoryText.{counts_in, version_text, shape_text, last_text, text_of_format}
 use Rattle.cmwq_text.specs.Laws.{IsLineOf}
-use Rattle.cmwq_model.specs.Ranges.{IsWho, IsCall, IsEntry}
+use Rattle.cmwq_model.specs.Ranges.{IsWho, IsCall, IsEntry, greatest}
+use Rattle.cmwq_text.proofs.ReadRanges.{wide_entry, wide_calls, short_entry_is, short_calls_are}
 use Rattle.cmwq_text.proofs.Steps.{both}
 use Rattle.cmwq_text.proofs.EntryLaws.{calls_read_again, entries_read_again}
+use Rattle.cmwq_text.proofs.EndLaws.{ends_read_again, entry_ends_none}
 use Rattle.cmwq_text.proofs.ShapeLaws.{counts_read_again, queues_read_again}
-use Rattle.cmwq_text.proofs.WholeLines.{IsWholeLine, whole_version, whole_counts, whole_queue, whole_call, whole_entry, who_begins_no_queue, entry_begins, fits_line}
+use Rattle.cmwq_text.proofs.WholeLines.{IsWholeLine, whole_version, whole_long_version, whole_counts, whole_queue, whole_call, whole_entry, whole_end, who_begins_no_queue, entry_begins, fits_line}
 use Rattle.cmwq_base.specs.Pieces.{pieces}
-use Rattle.cmwq_base.specs.Files.{File, Stage, Kind, begin, opened, head, body, shape_made, and_then, begun, queue_line, item_line, first_item, after_head, after_line, at_end, without_items, after_pieces, after_text, file_of}
-use Rattle.cmwq_base.specs.Kinds.{calls_kind, history_kind}
+use Rattle.cmwq_base.specs.Files.{File, IsSound, Stage, Kind, begin, opened, head, body, ended, shape_made, and_then, begun, queue_line, item_line, end_in, or_ended, body_line, first_item, after_head, after_line, at_end, without_end, without_items, after_pieces, after_text, file_of}
+use Rattle.cmwq_base.specs.Kinds.{calls_kind, history_kind, history_file_of}
 use Rattle.cmwq_base.specs.FileLaws.{HistoriesReadAgain, OldHistoriesReadAgain, CallFilesReadAgain}
+use Rattle.cmwq_base.specs.declared.refusal.Refusal.TheVariants as refusal
+use Rattle.cmwq_base.proofs.Limits.{none_passes}
 use Rattle.cmwq_base.proofs.Texts.{after_first_piece, pieces_some}
 
--- a line of the kind is read again, is none of a queue, and fits the shape
+-- a line of the kind is read again, is none of a queue and not the last line, and fits the shape
 record IsAgain {X : Type 0} (k : Kind X) (v : ℕ) (text : X → List ℕ) (s : Layout) (x : X) : Type 0 where
   line : List ℕ
   whole : IsWholeLine (text x) line
   read : k.item_of v line ≡ Some x
   other : begins_queue line ≡ false
+  no_end : end_in k v line ≡ None
   inside : k.fits_in s x ≡ true
 
 -- the kind reads the line of the queue again
 abbrev ReadsQueue : {X : Type 0} → Kind X → ℕ → QueueShape → Type 0
 ReadsQueue k v q = (line : List ℕ) → IsTrue (is_queue q) → IsLineOf (queue_text q) line → k.queue_of v line ≡ Some q
 
-pieces_behind : (bytes line rest : List ℕ) → IsWholeLine bytes line → pieces (bytes ++ rest) ≡ line ∷ pieces rest
+-- what stands behind the lines of the kind ends the text
+pub record Ends {X : Type 0} (k : Kind X) (v : ℕ) (last : ℕ → List ℕ) : Type 0 where
+  pub behind : (n : ℕ) (s : Layout) (xs : List X) → length xs ≤ line_limit v → after_text k n (body v s xs) (last (length xs)) ≡ Ok (record { version = v; layout = s; items = xs })
+  pub alone : (n : ℕ) (c : Counts) (qs : List QueueShape) → is_layout (layout_of c qs) ≡ true → after_text k n (head v c qs) (last 0) ≡ Ok (record { version = v; layout = layout_of c qs; items = [] })
+
+pub pieces_behind : (bytes line rest : List ℕ) → IsWholeLine bytes line → pieces (bytes ++ rest) ≡ line ∷ pieces rest
 pieces_behind bytes line rest w =
     let front : bytes ++ rest ≡ line ++ 10 ∷ rest = ap (λ t. t ++ rest) w.is ∙ append_assoc line (10 ∷ []) rest in
     ap pieces front ∙ slice_split_at is_feed line 10 rest w.one refl
 
-module _ {X : Type 0} (k : Kind X) (v : ℕ) (text : X → List ℕ) where
+module _ {X : Type 0} (k : Kind X) where
   line_goes : (n : ℕ) (stage next : Stage X) (bytes line rest : List ℕ) → IsWholeLine bytes line → after_line k n stage line ≡ Ok next → after_text k n stage (bytes ++ rest) ≡ after_text k (n + 1) next rest
   line_goes n stage next bytes line rest w h =
       let some = pieces_some rest in
@@ -56,23 +69,40 @@ module _ {X : Type 0} (k : Kind X) (v : ℕ) (text : X → List ℕ) where
       ∙ after_first_piece k n stage line (pieces rest) some.0 some.1 some.2 (le-ltb 120 (length line) w.short)
       ∙ ap (and_then (λ next. after_text k (n + 1) next rest)) h
 
+counts_again : (v : ℕ) (c : Counts) → IsTrue (are_counts c.cpus c.workers c.callers c.items c.room) → c.room ≤ room_limit v → counts_of_format v (joined (counts_words c)) ≡ Some c
+unfolding counts_of_format
+counts_again v c inside room = rw (counts_read_again c (joined (counts_words c)) inside (whole_counts c inside).is, le-leb c.room (room_limit v) room) refl
+
+begun_goes : {X : Type 0} (n v : ℕ) (c : Counts) → IsTrue (are_counts c.cpus c.workers c.callers c.items c.room) → c.room ≤ room_limit v → begun {X = X} n v (counts_of_format v (joined (counts_words c))) ≡ Ok (head v c [])
+begun_goes n v c inside room = ap (begun n v) (counts_again v c inside room)
+
+module _ {X : Type 0} (k : Kind X) (v : ℕ) (text : X → List ℕ) (last : ℕ → List ℕ) (ends : Ends k v last) where
   -- ---- lines of the kind
 
-  item_goes : (n : ℕ) (s : Layout) (xs : List X) (x : X) (a : IsAgain k v text s x) → length xs + 1 ≤ 1000000 → item_line k n v s xs a.line ≡ Ok (body v s (xs ++ x ∷ []))
+  item_goes : (n : ℕ) (s : Layout) (xs : List X) (x : X) (a : IsAgain k v text s x) → length xs + 1 ≤ line_limit v → item_line k n v s xs a.line ≡ Ok (body v s (xs ++ x ∷ []))
   unfolding item_line
-  item_goes n s xs x a room = rw (lt-leb 1000000 (length xs) (omega arith), a.read, a.inside) refl
+  item_goes n s xs x a room = rw (lt-leb (line_limit v) (length xs) (omega arith), a.read, a.inside) refl
 
-  body_goes : (n : ℕ) (s : Layout) (xs : List X) (x : X) (a : IsAgain k v text s x) → length xs + 1 ≤ 1000000 → after_line k n (body v s xs) a.line ≡ Ok (body v s (xs ++ x ∷ []))
+  line_body : (n : ℕ) (s : Layout) (xs : List X) (x : X) (a : IsAgain k v text s x) → length xs + 1 ≤ line_limit v → body_line k n v s xs a.line ≡ Ok (body v s (xs ++ x ∷ []))
+  unfolding body_line
+  line_body n s xs x a room = ap (or_ended k n v s xs a.line) a.no_end ∙ item_goes n s xs x a room
+
+  body_goes : (n : ℕ) (s : Layout) (xs : List X) (x : X) (a : IsAgain k v text s x) → length xs + 1 ≤ line_limit v → after_line k n (body v s xs) a.line ≡ Ok (body v s (xs ++ x ∷ []))
   unfolding after_line
-  body_goes n s xs x a room = item_goes n s xs x a room
+  body_goes n s xs x a room = line_body n s xs x a room
 
-  items_end : (n : ℕ) (s : Layout) (xs ys : List X) → length xs + length ys ≤ 1000000 → All (IsAgain k v text s) ys → after_text k n (body v s xs) (flat_map text ys) ≡ Ok (record { version = v; layout = s; items = xs ++ ys })
-  unfolding after_pieces at_end
-  items_end n s xs [] room each = ap (λ items. Ok (record { version = v; layout = s; items = items })) (sym (append-nil xs))
+  items_end : (n : ℕ) (s : Layout) (xs ys : List X) → length xs + length ys ≤ line_limit v → All (IsAgain k v text s) ys
+      → after_text k n (body v s xs) (flat_map text ys ++ last (length xs + length ys)) ≡ Ok (record { version = v; layout = s; items = xs ++ ys })
+  items_end n s xs [] room each =
+      let all : length xs + 0 ≡ length xs = omega arith in
+      ap (λ m. after_text k n (body v s xs) (last m)) all ∙ ends.behind n s xs (omega (arith, room)) ∙ ap (λ items. Ok (record { version = v; layout = s; items = items })) (sym (append-nil xs))
   items_end n s xs (y ∷ ys) room each =
       let a = All-head (IsAgain k v text s) y ys each in
       let more = length-append xs (y ∷ []) in
-      line_goes n (body v s xs) (body v s (xs ++ y ∷ [])) (text y) a.line (flat_map text ys) a.whole (body_goes n s xs y a (omega arith))
+      let all : length xs + length (y ∷ ys) ≡ length (xs ++ y ∷ []) + length ys = omega (arith, more) in
+      ap (λ m. after_text k n (body v s xs) ((text y ++ flat_map text ys) ++ last m)) all
+      ∙ ap (after_text k n (body v s xs)) (append_assoc (text y) (flat_map text ys) (last (length (xs ++ y ∷ []) + length ys)))
+      ∙ line_goes k n (body v s xs) (body v s (xs ++ y ∷ [])) (text y) a.line (flat_map text ys ++ last (length (xs ++ y ∷ []) + length ys)) a.whole (body_goes n s xs y a (omega arith))
       ∙ items_end (n + 1) s (xs ++ y ∷ []) ys (omega arith) (All-tail (IsAgain k v text s) y ys each)
       ∙ ap (λ items. Ok (record { version = v; layout = s; items = items })) (append_assoc xs (y ∷ []) ys)
 
@@ -90,116 +120,216 @@ module _ {X : Type 0} (k : Kind X) (v : ℕ) (text : X → List ℕ) where
       let parts = both (is_queue q) (list_all is_queue qs) inside in
       let more = length-append before (q ∷ []) in
       ap (after_text k n (head v c before)) (append_assoc (queue_text q) (flat_map queue_text qs) rest)
-      ∙ line_goes n (head v c before) (head v c (before ++ q ∷ [])) (queue_text q) (joined (queue_words q)) (flat_map queue_text qs ++ rest) (whole_queue q parts.0) (queue_goes n c before q (All-head (ReadsQueue k v) q qs reads) parts.0 (omega arith))
+      ∙ line_goes k n (head v c before) (head v c (before ++ q ∷ [])) (queue_text q) (joined (queue_words q)) (flat_map queue_text qs ++ rest) (whole_queue q parts.0) (queue_goes n c before q (All-head (ReadsQueue k v) q qs reads) parts.0 (omega arith))
       ∙ queues_go (n + 1) c (before ++ q ∷ []) qs rest f (All-tail (ReadsQueue k v) q qs reads) parts.1 (omega arith) (λ m. ap (λ all. after_text k m (head v c all) rest) (append_assoc before (q ∷ []) qs) ∙ goes m)
 
   -- ---- the first line that is none of a queue, or the end
 
-  first_goes : (n : ℕ) (c : Counts) (qs : List QueueShape) (x : X) (a : IsAgain k v text (layout_of c qs) x) → is_layout (layout_of c qs) ≡ true → after_line k n (head v c qs) a.line ≡ Ok (body v (layout_of c qs) (x ∷ []))
+  first_goes : (n : ℕ) (c : Counts) (qs : List QueueShape) (x : X) (a : IsAgain k v text (layout_of c qs) x) → 1 ≤ line_limit v → is_layout (layout_of c qs) ≡ true → after_line k n (head v c qs) a.line ≡ Ok (body v (layout_of c qs) (x ∷ []))
   unfolding after_line after_head
-  first_goes n c qs x a inside =
+  first_goes n c qs x a room inside =
       ap (λ b. if b then queue_line k n v c qs a.line else first_item k n v (shape_made c qs) a.line) a.other
       ∙ ap (λ b. first_item k n v (if b then Some (layout_of c qs) else None) a.line) inside
-      ∙ item_goes n (layout_of c qs) [] x a (omega arith)
+      ∙ line_body n (layout_of c qs) [] x a (omega arith)
 
-  shape_ends : (n : ℕ) (c : Counts) (qs : List QueueShape) → is_layout (layout_of c qs) ≡ true → after_text k n (head v c qs) [] ≡ Ok (record { version = v; layout = layout_of c qs; items = [] })
-  unfolding after_pieces at_end
-  shape_ends n c qs inside = ap (λ b. without_items n v (if b then Some (layout_of c qs) else None)) inside
-
-  head_ends : (n : ℕ) (c : Counts) (qs : List QueueShape) (ys : List X) → is_layout (layout_of c qs) ≡ true → length ys ≤ 1000000 → All (IsAgain k v text (layout_of c qs)) ys
-      → after_text k n (head v c qs) (flat_map text ys) ≡ Ok (record { version = v; layout = layout_of c qs; items = ys })
-  head_ends n c qs [] inside room each = shape_ends n c qs inside
+  head_ends : (n : ℕ) (c : Counts) (qs : List QueueShape) (ys : List X) → is_layout (layout_of c qs) ≡ true → length ys ≤ line_limit v → All (IsAgain k v text (layout_of c qs)) ys
+      → after_text k n (head v c qs) (flat_map text ys ++ last (length ys)) ≡ Ok (record { version = v; layout = layout_of c qs; items = ys })
+  head_ends n c qs [] inside room each = ends.alone n c qs inside
   head_ends n c qs (y ∷ ys) inside room each =
       let a = All-head (IsAgain k v text (layout_of c qs)) y ys each in
-      line_goes n (head v c qs) (body v (layout_of c qs) (y ∷ [])) (text y) a.line (flat_map text ys) a.whole (first_goes n c qs y a inside)
+      let all : length (y ∷ ys) ≡ length (y ∷ []) + length ys = omega arith in
+      ap (λ m. after_text k n (head v c qs) ((text y ++ flat_map text ys) ++ last m)) all
+      ∙ ap (after_text k n (head v c qs)) (append_assoc (text y) (flat_map text ys) (last (length (y ∷ []) + length ys)))
+      ∙ line_goes k n (head v c qs) (body v (layout_of c qs) (y ∷ [])) (text y) a.line (flat_map text ys ++ last (length (y ∷ []) + length ys)) a.whole (first_goes n c qs y a (omega arith) inside)
       ∙ items_end (n + 1) (layout_of c qs) (y ∷ []) ys (omega arith) (All-tail (IsAgain k v text (layout_of c qs)) y ys each)
 
   -- ---- the whole
 
-  begun_goes : (n : ℕ) (c : Counts) → IsTrue (are_counts c.cpus c.workers c.callers c.items c.room) → begun {X = X} n v (counts_of (joined (counts_words c))) ≡ Ok (head v c [])
-  begun_goes n c inside = ap (begun n v) (counts_read_again c (joined (counts_words c)) inside (whole_counts c inside).is)
-
   -- from the shape line on
-  shape_read_again : (n : ℕ) (stage : Stage X) (f : File X) → f.version ≡ v → ((c : Counts) → IsTrue (are_counts c.cpus c.workers c.callers c.items c.room) → after_line k n stage (joined (counts_words c)) ≡ Ok (head v c []))
-      → All (ReadsQueue k v) f.layout.queues → is_layout f.layout ≡ true → length f.items ≤ 1000000 → All (IsAgain k v text f.layout) f.items
-      → after_text k n stage (shape_text f.layout ++ flat_map text f.items) ≡ Ok f
-  shape_read_again n stage f is_version begins reads inside room each =
+  shape_read_again : (n : ℕ) (stage : Stage X) (f : File X) → f.version ≡ v → ((c : Counts) → IsTrue (are_counts c.cpus c.workers c.callers c.items c.room) → c.room ≤ room_limit v → after_line k n stage (joined (counts_words c)) ≡ Ok (head v c []))
+      → All (ReadsQueue k v) f.layout.queues → is_layout f.layout ≡ true → IsSound k f → All (IsAgain k v text f.layout) f.items
+      → after_text k n stage (shape_text f.layout ++ (flat_map text f.items ++ last (length f.items))) ≡ Ok f
+  shape_read_again n stage f is_version begins reads inside sound each =
       let s : Layout = f.layout in
       let c : Counts = counts_in s in
-      let rest : List ℕ = flat_map text f.items in
+      let rest : List ℕ = flat_map text f.items ++ last (length f.items) in
       let parts = both (are_counts s.cpus s.workers s.callers s.items s.room) (are_queues s.queues) inside in
       let queues = both (is_between 1 64 (length s.queues)) (list_all is_queue s.queues) parts.1 in
       let few : length s.queues ≤ 64 = leb-true (length s.queues) 64 (both (leb 1 (length s.queues)) (leb (length s.queues) 64) queues.0).1 in
+      let rooms : s.room ≤ room_limit v = subst (λ w. s.room ≤ room_limit w) is_version sound.room in
+      let room : length f.items ≤ line_limit v = subst (λ w. length f.items ≤ line_limit w) is_version sound.few in
       let made : File X = record { version = v; layout = s; items = f.items } in
       let same : made ≡ f = ap (λ w. record { version = w; layout = s; items = f.items }) (sym is_version) in
       ap (after_text k n stage) (append_assoc (counts_text c) (flat_map queue_text s.queues) rest)
-      ∙ line_goes n stage (head v c []) (counts_text c) (joined (counts_words c)) (flat_map queue_text s.queues ++ rest) (whole_counts c parts.0) (begins c parts.0)
+      ∙ line_goes k n stage (head v c []) (counts_text c) (joined (counts_words c)) (flat_map queue_text s.queues ++ rest) (whole_counts c parts.0) (begins c parts.0 rooms)
       ∙ queues_go (n + 1) c [] s.queues rest made reads queues.1 (omega (arith, few)) (λ m. head_ends m c s.queues f.items inside room each)
       ∙ ap Ok same
 
 -- ---- histories
 
-entry_again : (v : ℕ) (s : Layout) (e : Entry) → IsEntry e → entry_fits s e ≡ true → allows_entry v e ≡ true → IsAgain history_kind v entry_text s e
+none_in : (v : ℕ) (line : List ℕ) → end_of line ≡ None → end_in history_kind v line ≡ None
+none_in v line none = by_need (needs_end v) (end_of line) none
+  where
+    by_need : (b : Bool) (o : Option ℕ) → o ≡ None → (if b then o else None) ≡ None
+    by_need true o none = none
+    by_need false o none = refl
+
+entry_again : (v : ℕ) (s : Layout) (e : Entry) → (IsEntry greatest_number) e → entry_fits s e ≡ true → allows_entry v e ≡ true → IsAgain history_kind v entry_text s e
 unfolding entry_of_format
 entry_again v s e h inside allowed =
     let line : List ℕ = joined (entry_words e) in
     let whole = whole_entry e h in
     let said = fits_line s e.who e.call (both (fits s e.who e.call) (reply_fits s e.reply) inside).0 in
-    record { line = line; whole = whole; read = rw (entries_read_again e line h said whole.is, allowed) refl; other = entry_begins e h; inside = inside }
+    record { line = line; whole = whole; read = rw (entries_read_again e line h said whole.is, allowed) refl; other = entry_begins e h; no_end = none_in v line (entry_ends_none e h); inside = inside }
 
 queue_again : (v : ℕ) (q : QueueShape) → allows_queue v q ≡ true → ReadsQueue history_kind v q
 unfolding queue_of_format
 queue_again v q allowed line is spelled = rw ((queues_read_again q line is spelled).1, allowed) refl
 
--- the shape line is none that says the format
-shape_says_none : (c : Counts) → is_version_line (joined (counts_words c)) ≡ false
-shape_says_none c = refl
+-- the shape line is none that says a format
+shape_says_none : (c : Counts) → (history_kind.says_format 2 (joined (counts_words c)) ≡ false) × (history_kind.says_format 3 (joined (counts_words c)) ≡ false)
+shape_says_none c = (refl, refl)
 
-old_begins : (c : Counts) → IsTrue (are_counts c.cpus c.workers c.callers c.items c.room) → after_line history_kind 1 begin (joined (counts_words c)) ≡ Ok (head 1 c [])
+old_begins : (c : Counts) → IsTrue (are_counts c.cpus c.workers c.callers c.items c.room) → c.room ≤ room_limit 1 → after_line history_kind 1 begin (joined (counts_words c)) ≡ Ok (head 1 c [])
 unfolding after_line
-old_begins c inside = rw (shape_says_none c) (begun_goes history_kind 1 entry_text 1 c inside)
+old_begins c inside room = rw ((shape_says_none c).0, (shape_says_none c).1) (begun_goes 1 1 c inside room)
+
+-- ---- the last line of a history
+
+-- a text that ends here, in a format that has no last line or as a front
+nothing_more : (k : Kind Entry) (n : ℕ) (f : File Entry) → (k.needs_end f.version && not k.is_front) ≡ false → without_end k n f ≡ Ok f
+nothing_more k n f none = ap (λ b. if b then Err (refusal.BadLine n) else Ok f) none
+
+body_is_all : (n v : ℕ) (s : Layout) (xs : List Entry) → needs_end v ≡ false → after_text history_kind n (body v s xs) [] ≡ Ok (record { version = v; layout = s; items = xs })
+unfolding after_pieces at_end
+body_is_all n v s xs none = rw none refl
+
+shape_is_all : (n v : ℕ) (c : Counts) (qs : List QueueShape) → needs_end v ≡ false → is_layout (layout_of c qs) ≡ true → after_text history_kind n (head v c qs) [] ≡ Ok (record { version = v; layout = layout_of c qs; items = [] })
+unfolding after_pieces at_end
+shape_is_all n v c qs none inside = rw (inside, none) refl
+
+ended_is_all : (n v : ℕ) (s : Layout) (xs : List Entry) → after_text history_kind n (ended v s xs) [] ≡ Ok (record { version = v; layout = s; items = xs })
+unfolding after_pieces at_end
+ended_is_all n v s xs = refl
+
+end_read : (v n : ℕ) → n ≤ greatest_number → needs_end v ≡ true → end_in history_kind v (joined (end_words n)) ≡ Some n
+end_read v n le needed = ap (λ b. if b then end_of (joined (end_words n)) else None) needed ∙ ends_read_again n (joined (end_words n)) le (whole_end n le).is
+
+pub body_ends : (n v : ℕ) (s : Layout) (xs : List Entry) → length xs ≤ greatest_number → needs_end v ≡ true → body_line history_kind n v s xs (joined (end_words (length xs))) ≡ Ok (ended v s xs)
+unfolding body_line
+body_ends n v s xs le needed = ap (or_ended history_kind n v s xs (joined (end_words (length xs)))) (end_read v (length xs) le needed) ∙ ap (λ b. if b then Ok (ended v s xs) else Err (refusal.BadLine n)) (eq-eqb (length xs) (length xs) refl)
+
+pub body_goes_over : (n v : ℕ) (s : Layout) (xs : List Entry) → length xs ≤ greatest_number → needs_end v ≡ true → after_line history_kind n (body v s xs) (joined (end_words (length xs))) ≡ Ok (ended v s xs)
+unfolding after_line
+body_goes_over n v s xs le needed = body_ends n v s xs le needed
+
+pub head_goes_over : (n v : ℕ) (c : Counts) (qs : List QueueShape) → needs_end v ≡ true → is_layout (layout_of c qs) ≡ true → after_line history_kind n (head v c qs) (joined (end_words 0)) ≡ Ok (ended v (layout_of c qs) [])
+unfolding after_line after_head
+head_goes_over n v c qs needed inside =
+    ap (λ b. first_item history_kind n v (if b then Some (layout_of c qs) else None) (joined (end_words 0))) inside
+    ∙ body_ends n v (layout_of c qs) [] (omega arith) needed
+
+-- what stands behind the entries of a history, in any format
+pub history_ends : (v : ℕ) → Ends history_kind v (last_text v)
+history_ends v = by_need (needs_end v) refl
+  where
+    by_need : (b : Bool) → needs_end v ≡ b → Ends history_kind v (λ m. if b then end_text m else [])
+    by_need false none = record { behind = λ n s xs few. body_is_all n v s xs none; alone = λ n c qs inside. shape_is_all n v c qs none inside }
+    by_need true needed = record {
+      behind = λ n s xs few.
+          let most : line_limit v ≤ most_lines = none_passes old_lines most_lines v (omega arith) in
+          let le : length xs ≤ greatest_number = omega (arith, few, most) in
+          ap (after_text history_kind n (body v s xs)) (sym (append-nil (end_text (length xs))))
+          ∙ line_goes history_kind n (body v s xs) (ended v s xs) (end_text (length xs)) (joined (end_words (length xs))) [] (whole_end (length xs) le) (body_goes_over n v s xs le needed)
+          ∙ ended_is_all (n + 1) v s xs;
+      alone = λ n c qs inside.
+          ap (after_text history_kind n (head v c qs)) (sym (append-nil (end_text 0)))
+          ∙ line_goes history_kind n (head v c qs) (ended v (layout_of c qs) []) (end_text 0) (joined (end_words 0)) [] (whole_end 0 (omega arith)) (head_goes_over n v c qs needed inside)
+          ∙ ended_is_all (n + 1) v (layout_of c qs) [];
+    }
 
 pub old_histories_read_again : OldHistoriesReadAgain
 unfolding file_of
 old_histories_read_again f is_version of_format inside sound each =
     let old = subst (λ v. All (λ q. IsTrue (allows_queue v q)) f.layout.queues × All (λ e. IsTrue (allows_entry v e)) f.items) is_version of_format in
-    shape_read_again history_kind 1 entry_text 1 begin f is_version old_begins (λ i d lt. queue_again 1 _ (old.0 i d lt)) inside sound.few
-    (λ i d lt. entry_again 1 f.layout _ (each i d lt) (sound.fitting i d lt) (old.1 i d lt))
+    ap (after_text history_kind 1 begin) (append_assoc (shape_text f.layout) (flat_map entry_text f.items) (last_text 1 (length f.items)))
+    ∙ shape_read_again history_kind 1 entry_text (last_text 1) (history_ends 1) 1 begin f is_version old_begins (λ i d lt. queue_again 1 _ (old.0 i d lt)) inside sound
+    (λ i d lt. entry_again 1 f.layout _ (wide_entry _ (each i d lt)) (sound.fitting i d lt) (old.1 i d lt))
 
-begins : (c : Counts) → IsTrue (are_counts c.cpus c.workers c.callers c.items c.room) → after_line history_kind 2 opened (joined (counts_words c)) ≡ Ok (head 2 c [])
+begins : (v : ℕ) (c : Counts) → IsTrue (are_counts c.cpus c.workers c.callers c.items c.room) → c.room ≤ room_limit v → after_line history_kind 2 (opened v) (joined (counts_words c)) ≡ Ok (head v c [])
 unfolding after_line
-begins c inside = begun_goes history_kind 2 entry_text 2 c inside
+begins v c inside room = begun_goes 2 v c inside room
 
-says : after_line history_kind 1 begin (codes "history 2") ≡ Ok opened
+says : after_line history_kind 1 begin (codes "history 2") ≡ Ok (opened 2)
 unfolding after_line
 says = refl
 
-pub histories_read_again : HistoriesReadAgain
+long_says : after_line history_kind 1 begin (codes "history 3") ≡ Ok (opened 3)
+unfolding after_line
+long_says = refl
+
+-- format 2 has all entries with short numbers
+pub new_allows : (e : Entry) → (IsEntry greatest) e → allows_entry 2 e ≡ true
+new_allows e h = rw (short_entry_is e h) refl
+
+-- in a format whose first line says it, and which has all queues and these entries
+newer_read_again : (v : ℕ) (f : File Entry) → f.version ≡ v → IsWholeLine (version_text v) (version_name v) → after_line history_kind 1 begin (version_name v) ≡ Ok (opened v)
+    → ((q : QueueShape) → allows_queue v q ≡ true) → All (λ e. allows_entry v e ≡ true) f.items
+    → IsTrue (is_layout f.layout) → IsSound history_kind f → All (IsEntry greatest_number) f.items → history_file_of (text_of_format v f.layout f.items) ≡ Ok f
 unfolding file_of
-histories_read_again f is_version inside sound each =
-    let rest : List ℕ = shape_text f.layout ++ flat_map entry_text f.items in
-    ap (after_text history_kind 1 begin) (append_assoc (version_text 2) (shape_text f.layout) (flat_map entry_text f.items))
-    ∙ line_goes history_kind 2 entry_text 1 begin opened (version_text 2) (codes "history 2") rest whole_version says
-    ∙ shape_read_again history_kind 2 entry_text 2 opened f is_version begins (λ i d lt. queue_again 2 _ refl) inside sound.few
-    (λ i d lt. entry_again 2 f.layout _ (each i d lt) (sound.fitting i d lt) refl)
+newer_read_again v f is_version whole said queues entries inside sound each =
+    let last : List ℕ = last_text v (length f.items) in
+    let rest : List ℕ = shape_text f.layout ++ (flat_map entry_text f.items ++ last) in
+    let parts : text_of_format v f.layout f.items ≡ version_text v ++ rest = simp append_assoc in
+    ap (after_text history_kind 1 begin) parts
+    ∙ line_goes history_kind 1 begin (opened v) (version_text v) (version_name v) rest whole said
+    ∙ shape_read_again history_kind v entry_text (last_text v) (history_ends v) 2 (opened v) f is_version (begins v) (λ i d lt. queue_again v _ (queues (get_or f.layout.queues i d))) inside sound
+    (λ i d lt. entry_again v f.layout _ (each i d lt) (sound.fitting i d lt) (entries i d lt))
+
+pub histories_read_again : HistoriesReadAgain
+histories_read_again f low high of_format inside sound each = by_version (f.version == 3) refl
+  where
+    Again : ℕ → Type 0
+    Again v = history_file_of (text_of_format v f.layout f.items) ≡ Ok f
+
+    of : (v : ℕ) → f.version ≡ v → All (λ e. allows_entry v e ≡ true) f.items
+    of v is = subst (λ v. All (λ e. allows_entry v e ≡ true) f.items) is of_format.1
+
+    by_version : (b : Bool) → (f.version == 3) ≡ b → Again f.version
+    by_version true h =
+        let is : f.version ≡ 3 = eqb-true f.version 3 h in
+        subst Again (sym is) (newer_read_again 3 f is whole_long_version long_says (λ q. refl) (of 3 is) inside sound each)
+    by_version false h =
+        let is : f.version ≡ 2 = grind (arith, nat_tests) in
+        subst Again (sym is) (newer_read_again 2 f is whole_version says (λ q. refl) (of 2 is) inside sound each)
 
 -- ---- calls
 
 abbrev call_line : Who × Call → List ℕ
 call_line x = call_text x.0 x.1
 
-call_again : (s : Layout) (x : Who × Call) → IsWho x.0 → IsCall x.1 → fits s x.0 x.1 ≡ true → IsAgain calls_kind 1 call_line s x
+call_again : (s : Layout) (x : Who × Call) → IsWho x.0 → (IsCall greatest) x.1 → fits s x.0 x.1 ≡ true → IsAgain calls_kind 1 call_line s x
+unfolding short_call_of
 call_again s x h k inside =
     let line : List ℕ = joined (who_text x.0 ∷ call_words x.1) in
-    let whole = whole_call x.0 x.1 h k in
-    record { line = line; whole = whole; read = calls_read_again x.0 x.1 line h k (fits_line s x.0 x.1 inside) whole.is; other = who_begins_no_queue x.0 (call_words x.1) h; inside = inside }
+    let wide = wide_calls x.1 k in
+    let whole = whole_call x.0 x.1 h wide in
+    record { line = line; whole = whole; read = rw (calls_read_again x.0 x.1 line h wide (fits_line s x.0 x.1 inside) whole.is, short_calls_are x k) refl; other = who_begins_no_queue x.0 (call_words x.1) h; no_end = refl; inside = inside }
 
-calls_begin : (c : Counts) → IsTrue (are_counts c.cpus c.workers c.callers c.items c.room) → after_line calls_kind 1 begin (joined (counts_words c)) ≡ Ok (head 1 c [])
+calls_begin : (c : Counts) → IsTrue (are_counts c.cpus c.workers c.callers c.items c.room) → c.room ≤ room_limit 1 → after_line calls_kind 1 begin (joined (counts_words c)) ≡ Ok (head 1 c [])
 unfolding after_line
-calls_begin c inside = begun_goes calls_kind 1 call_line 1 c inside
+calls_begin c inside room = begun_goes 1 1 c inside room
+
+calls_end : Ends calls_kind 1 (λ m. [])
+unfolding after_pieces at_end
+calls_end = record {
+  behind = λ n s xs few. refl;
+  alone = λ n c qs inside. ap (λ b. without_items calls_kind n 1 (if b then Some (layout_of c qs) else None)) inside;
+}
 
 pub call_files_read_again : CallFilesReadAgain
 unfolding file_of
 call_files_read_again f is_version inside sound each =
-    shape_read_again calls_kind 1 call_line 1 begin f is_version calls_begin (λ i d lt line is spelled. (queues_read_again _ line is spelled).0) inside sound.few
+    ap (λ t. after_text calls_kind 1 begin (shape_text f.layout ++ t)) (sym (append-nil (flat_map call_line f.items)))
+    ∙ shape_read_again calls_kind 1 call_line (λ m. []) calls_end 1 begin f is_version calls_begin (λ i d lt line is spelled. (queues_read_again _ line is spelled).0) inside sound
     (λ i d lt. let ranges = each i d lt in call_again f.layout _ ranges.0 ranges.1 (sound.fitting i d lt))

@@ -1,6 +1,9 @@
 pub mod Texts
+pub mod Limits
 pub mod Progress
 pub mod Fronts
 pub mod Spelled
+pub mod CallsSpelled
 pub mod Again
 pub mod Sound
+pub mod Whole

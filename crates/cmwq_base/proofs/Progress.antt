@@ -1,8 +1,10 @@
 -- How a reader's progress goes on from line to line.
-use Rattle.std.proofs.Common.{◌≡◌, ◌+◌, ◌<◌, ℕ, Bool, true, false, List, [], ◌∷◌, ◌++◌, length, Result, Ok, Err, nat_le, Option, Some, None, refl, sym, ap, ◌∙◌, arith, subst, length-append}
+use Rattle.std.proofs.Common.{◌≡◌, ◌+◌, ◌<◌, ◌≤◌, ℕ, ◌==◌, Bool, true, false, ◌&&◌, not, List, [], ◌∷◌, ◌++◌, length, Result, Ok, Err, nat_le, Option, Some, None, refl, sym, ap, ◌∙◌, arith, subst, length-append}
 use Rattle.std.specs.Prelude.{if◌then◌else◌, IfSome, IfOk, IsTrue}
 use Rattle.std.proofs.lemmas.List.Elements.{All-nil, All-push}
 use Rattle.std.proofs.lemmas.Bool.Decides.{nat_tests}
+use Rattle.std.proofs.lemmas.Bool.{leb-true}
+use Rattle.std.proofs.lemmas.Option.{same_Some}
 use Rattle.std.specs.Io.KnownBytes.{prepend_known}
 use Rattle.cmwq_io.specs.declared.lines.Found.{Found}
 use Rattle.cmwq_io.specs.declared.lines.Found.TheVariants.{Whole, Cut, Long, End}
@@ -11,11 +13,15 @@ use Rattle.cmwq_model.specs.declared.shape.Counts.{Counts}
 use Rattle.cmwq_model.specs.declared.shape.QueueShape.{QueueShape}
 use Rattle.cmwq_model.specs.Layout.{Layout, layout_of, is_layout}
 use Rattle.cmwq_text.specs.ShapeText.{counts_of, begins_queue}
+use Rattle.cmwq_text.specs.EndText.{end_of}
+use Rattle.cmwq_text.specs.Formats.{old_lines, most_lines, line_limit, room_limit, allows_counts, counts_of_format}
+use Rattle.cmwq_text.proofs.Steps.{bind_some, chosen}
 use Rattle.cmwq_base.specs.declared.refusal.Refusal.{Refusal}
 use Rattle.cmwq_base.specs.declared.refusal.Refusal.TheVariants as refusal
-use Rattle.cmwq_base.specs.Files.{File, IsVersion, IsSound, Stage, begin, opened, head, body, Kind, shape_made, and_then, begun, with_queue, queue_line, with_item, item_line, first_item, after_head, after_line, after_cut, at_end, without_items, after_text, file_of}
+use Rattle.cmwq_base.specs.Files.{File, IsVersion, IsSound, Stage, begin, opened, head, body, ended, Kind, as_front, shape_made, and_then, begun, with_queue, queue_line, with_item, item_line, end_in, or_ended, body_line, first_item, after_head, after_line, after_cut, is_ended, at_end, at_cut, without_end, without_items, after_text, file_of}
 use Rattle.cmwq_base.specs.Gives.{Refuses, Makes, Fails, Gives}
-use Rattle.cmwq_base.specs.Stages.{lines_in, IsWithin}
+use Rattle.cmwq_base.specs.Stages.{lines_in, IsSaid, IsWithin}
+use Rattle.cmwq_base.proofs.Limits.{none_passes}
 use Rattle.cmwq_base.proofs.Texts.{text_whole, text_long, text_cut, text_end}
 
 -- what is left of a known text gives from here on what the text gives
@@ -26,70 +32,100 @@ SameRead k (Some text) (Some rest) n stage = file_of k text ≡ after_text k n s
 
 pub record Progress {X : Type 0} (k : Kind X) (old now : Option (List ℕ)) (n : ℕ) (stage : Stage X) : Type 0 where
   pub same : SameRead k old now n stage
-  pub count : lines_in stage + 1 ≡ n
+  pub count : n ≤ lines_in stage + 1
   pub within : IsWithin k stage
 
 pub found_so : (before after : Option (List ℕ)) (line : List ℕ) (how so : Found) → how ≡ so → TakesKnownLine before after how line → TakesKnownLine before after so line
 found_so before after line how so is t = subst (λ h. TakesKnownLine before after h line) is t
 
+-- the counts that a format allows are read as those of a shape line
+pub counts_read : (v : ℕ) (line : List ℕ) (c : Counts) → counts_of_format v line ≡ Some c → (counts_of line ≡ Some c) × IsTrue (allows_counts v c)
+unfolding counts_of_format
+counts_read v line c h =
+    let read = bind_some (counts_of line) (λ (c : Counts). if allows_counts v c then Some c else None) c h in
+    let found = chosen (allows_counts v read.0) (Some read.0) c read.2 in
+    (read.1 ∙ found.1, subst (λ x. IsTrue (allows_counts v x)) (same_Some read.0 c found.1) found.0)
+
 -- ---- one line more
 
 pub record Grows {X : Type 0} (k : Kind X) (old new : Stage X) : Type 0 where
-  pub count : lines_in new ≡ lines_in old + 1
+  pub count : lines_in old + 1 ≤ lines_in new
   pub within : IsWithin k old → IsWithin k new
 
 module _ {X : Type 0} (k : Kind X) (n : ℕ) where
-  begun_grows : (v : ℕ) (stage : Stage X) (o : Option Counts) (next : Stage X) → lines_in stage + 1 ≡ v → (IsWithin k stage → IsVersion k v) → begun n v o ≡ Ok next → Grows k stage next
-  begun_grows v stage None next lines is_version h = cc
-  begun_grows v stage (Some c) next lines is_version h =
+  begun_grows : (v : ℕ) (stage : Stage X) (line : List ℕ) (o : Option Counts) (next : Stage X) → counts_of_format v line ≡ o → lines_in stage + 1 ≤ 2 → (IsWithin k stage → IsVersion k v) → begun n v o ≡ Ok next → Grows k stage next
+  begun_grows v stage line None next read lines is_version h = cc
+  begun_grows v stage line (Some c) next read lines is_version h =
       let is : head v c [] ≡ next = cc in
-      subst (Grows k stage) is (record { count = omega (arith, lines); within = λ w. (is_version w, omega arith) })
+      let room : c.room ≤ room_limit v = leb-true c.room (room_limit v) (counts_read v line c read).1 in
+      subst (Grows k stage) is (record { count = omega (arith, lines); within = λ w. (is_version w, omega arith, room) })
 
-  said : (line : List ℕ) → k.says_format line ≡ true → ((line : List ℕ) → k.says_format line ≡ false) → ⊥
-  said line says none = let both : true ≡ false = sym says ∙ none line in cc
+  said : (u : ℕ) (line : List ℕ) → k.says_format u line ≡ true → ((u : ℕ) (line : List ℕ) → k.says_format u line ≡ false) → ⊥
+  said u line says none = let both : true ≡ false = sym says ∙ none u line in cc
 
-  first_grows : (line : List ℕ) (next : Stage X) (b : Bool) → k.says_format line ≡ b → (if b then Ok opened else begun n 1 (counts_of line)) ≡ Ok next → Grows k begin next
-  first_grows line next true says h =
-      let is : opened ≡ next = cc in
-      subst (Grows k begin) is (record { count = refl; within = λ _. (line, says) })
-  first_grows line next false says h = begun_grows 1 begin (counts_of line) next refl (λ _. (omega arith, omega arith, λ _. refl)) h
+  opened_grows : (v : ℕ) (line : List ℕ) (next : Stage X) → 2 ≤ v → v ≤ 3 → k.says_format v line ≡ true → opened v ≡ next → Grows k begin next
+  opened_grows v line next low high says is =
+      subst (Grows k begin) is (record { count = omega arith; within = λ _. record { low = low; high = high; line = line; says = says } })
+
+  third_grows : (line : List ℕ) (next : Stage X) (b : Bool) → k.says_format 3 line ≡ b → (if b then Ok (opened 3) else begun n 1 (counts_of_format 1 line)) ≡ Ok next → Grows k begin next
+  third_grows line next true says h = let is : opened 3 ≡ next = cc in opened_grows 3 line next (omega arith) (omega arith) says is
+  third_grows line next false says h = begun_grows 1 begin line (counts_of_format 1 line) next refl (omega arith) (λ _. (omega arith, omega arith, λ _. refl)) h
+
+  first_grows : (line : List ℕ) (next : Stage X) (b : Bool) → k.says_format 2 line ≡ b
+      → (if b then Ok (opened 2) else if k.says_format 3 line then Ok (opened 3) else begun n 1 (counts_of_format 1 line)) ≡ Ok next → Grows k begin next
+  first_grows line next true says h = let is : opened 2 ≡ next = cc in opened_grows 2 line next (omega arith) (omega arith) says is
+  first_grows line next false says h = third_grows line next (k.says_format 3 line) refl h
 
   queue_grows : (v : ℕ) (c : Counts) (qs : List QueueShape) (o : Option QueueShape) (next : Stage X) → length qs < 64 → with_queue n v c qs o ≡ Ok next → Grows k (head v c qs) next
   queue_grows v c qs None next room h = cc
   queue_grows v c qs (Some q) next room h =
       let is : head v c (qs ++ q ∷ []) ≡ next = cc in
       let more = length-append qs (q ∷ []) in
-      subst (Grows k (head v c qs)) is (record { count = omega arith; within = λ w. (w.0, omega arith) })
+      subst (Grows k (head v c qs)) is (record { count = omega arith; within = λ w. (w.0, omega arith, w.2) })
 
   queue_line_grows : (v : ℕ) (c : Counts) (qs : List QueueShape) (line : List ℕ) (next : Stage X) (b : Bool) → nat_le 64 (length qs) ≡ b
       → (if b then Err (refusal.BadShape n) else with_queue n v c qs (k.queue_of v line)) ≡ Ok next → Grows k (head v c qs) next
   queue_line_grows v c qs line next true full h = cc
   queue_line_grows v c qs line next false full h = queue_grows v c qs (k.queue_of v line) next (grind (arith, nat_tests)) h
 
-  item_grows : (v : ℕ) (s : Layout) (xs : List X) (x : X) (next : Stage X) (b : Bool) → k.fits_in s x ≡ b → length xs < 1000000 → (if b then Ok (body v s (xs ++ x ∷ [])) else Err (refusal.NoSuchId n)) ≡ Ok next → Grows k (body v s xs) next
+  item_grows : (v : ℕ) (s : Layout) (xs : List X) (x : X) (next : Stage X) (b : Bool) → k.fits_in s x ≡ b → length xs < line_limit v → (if b then Ok (body v s (xs ++ x ∷ [])) else Err (refusal.NoSuchId n)) ≡ Ok next → Grows k (body v s xs) next
   item_grows v s xs x next true fitting room h =
       let is : body v s (xs ++ x ∷ []) ≡ next = cc in
       let more = length-append xs (x ∷ []) in
-      subst (Grows k (body v s xs)) is (record { count = omega arith; within = λ w. (w.0, w.1, omega arith, All-push (λ y. IsTrue (k.fits_in s y)) xs x w.3 fitting) })
+      subst (Grows k (body v s xs)) is (record { count = omega arith; within = λ w. (w.0, w.1, w.2, omega arith, All-push (λ y. IsTrue (k.fits_in s y)) xs x w.4 fitting) })
   item_grows v s xs x next false fitting room h = cc
 
-  with_item_grows : (v : ℕ) (s : Layout) (xs : List X) (o : Option X) (next : Stage X) → length xs < 1000000 → with_item k n v s xs o ≡ Ok next → Grows k (body v s xs) next
+  with_item_grows : (v : ℕ) (s : Layout) (xs : List X) (o : Option X) (next : Stage X) → length xs < line_limit v → with_item k n v s xs o ≡ Ok next → Grows k (body v s xs) next
   with_item_grows v s xs None next room h = cc
   with_item_grows v s xs (Some x) next room h = item_grows v s xs x next (k.fits_in s x) refl room h
 
-  item_line_if : (v : ℕ) (s : Layout) (xs : List X) (line : List ℕ) (next : Stage X) (b : Bool) → nat_le 1000000 (length xs) ≡ b
+  item_line_if : (v : ℕ) (s : Layout) (xs : List X) (line : List ℕ) (next : Stage X) (b : Bool) → nat_le (line_limit v) (length xs) ≡ b
       → (if b then Err refusal.TooLong else with_item k n v s xs (k.item_of v line)) ≡ Ok next → Grows k (body v s xs) next
   item_line_if v s xs line next true full h = cc
   item_line_if v s xs line next false full h = with_item_grows v s xs (k.item_of v line) next (grind (arith, nat_tests)) h
 
   item_line_grows : (v : ℕ) (s : Layout) (xs : List X) (line : List ℕ) (next : Stage X) → item_line k n v s xs line ≡ Ok next → Grows k (body v s xs) next
   unfolding item_line
-  item_line_grows v s xs line next h = item_line_if v s xs line next (nat_le 1000000 (length xs)) refl h
+  item_line_grows v s xs line next h = item_line_if v s xs line next (nat_le (line_limit v) (length xs)) refl h
+
+  ended_grows : (v : ℕ) (s : Layout) (xs : List X) (next : Stage X) (b : Bool) → k.needs_end v ≡ true → (if b then Ok (ended v s xs) else Err (refusal.BadLine n)) ≡ Ok next → Grows k (body v s xs) next
+  ended_grows v s xs next true needed h =
+      let is : ended v s xs ≡ next = cc in
+      subst (Grows k (body v s xs)) is (record { count = omega arith; within = λ w. (needed, w) })
+  ended_grows v s xs next false needed h = cc
+
+  or_ended_grows : (v : ℕ) (s : Layout) (xs : List X) (line : List ℕ) (o : Option ℕ) (next : Stage X) → end_in k v line ≡ o → or_ended k n v s xs line o ≡ Ok next → Grows k (body v s xs) next
+  or_ended_grows v s xs line None next is h = item_line_grows v s xs line next h
+  or_ended_grows v s xs line (Some m) next is h = ended_grows v s xs next (m == length xs) (chosen (k.needs_end v) (end_of line) m is).0 h
+
+  body_line_grows : (v : ℕ) (s : Layout) (xs : List X) (line : List ℕ) (next : Stage X) → body_line k n v s xs line ≡ Ok next → Grows k (body v s xs) next
+  unfolding body_line
+  body_line_grows v s xs line next h = or_ended_grows v s xs line (end_in k v line) next refl h
 
   first_item_grows : (v : ℕ) (c : Counts) (qs : List QueueShape) (line : List ℕ) (next : Stage X) (b : Bool) → first_item k n v (if b then Some (layout_of c qs) else None) line ≡ Ok next → Grows k (head v c qs) next
   first_item_grows v c qs line next true h =
-      let g = item_line_grows v (layout_of c qs) [] line next h in
-      record { count = let more = g.count in omega arith; within = λ w. g.within (w.0, w.1, omega arith, All-nil (λ x. IsTrue (k.fits_in (layout_of c qs) x))) }
+      let g = body_line_grows v (layout_of c qs) [] line next h in
+      record { count = let more = g.count in omega arith; within = λ w. g.within (w.0, w.1, w.2, omega arith, All-nil (λ x. IsTrue (k.fits_in (layout_of c qs) x))) }
   first_item_grows v c qs line next false h = cc
 
   head_grows : (v : ℕ) (c : Counts) (qs : List QueueShape) (line : List ℕ) (next : Stage X) (b : Bool) → (if b then queue_line k n v c qs line else first_item k n v (shape_made c qs) line) ≡ Ok next → Grows k (head v c qs) next
@@ -98,10 +134,28 @@ module _ {X : Type 0} (k : Kind X) (n : ℕ) where
 
   pub line_grows : (stage next : Stage X) (line : List ℕ) → after_line k n stage line ≡ Ok next → Grows k stage next
   unfolding after_line after_head
-  line_grows begin next line h = first_grows line next (k.says_format line) refl h
-  line_grows opened next line h = begun_grows 2 opened (counts_of line) next refl (λ w. (omega arith, omega arith, λ none. absurd (said w.0 w.1 none))) h
+  line_grows begin next line h = first_grows line next (k.says_format 2 line) refl h
+  line_grows (opened v) next line h =
+      begun_grows v (opened v) line (counts_of_format v line) next refl (omega arith) (λ (w : IsSaid k v). (omega (arith, w.low), w.high, λ none. absurd (said v w.line w.says none))) h
   line_grows (head v c qs) next line h = head_grows v c qs line next (begins_queue line) h
-  line_grows (body v s xs) next line h = item_line_grows v s xs line next h
+  line_grows (body v s xs) next line h = body_line_grows v s xs line next h
+  line_grows (ended v s xs) next line h = cc
+
+-- no stage has so many lines
+pub too_many : {X : Type 0} (k : Kind X) (n : ℕ) (stage : Stage X) → 4611686018427377973 ≤ n → n ≤ lines_in stage + 1 → IsWithin k stage → ⊥
+too_many k n begin many count w = omega (arith, many, count)
+too_many k n (opened v) many count w = omega (arith, many, count)
+too_many k n (head v c qs) many count w = let few = w.1 in omega (arith, many, count, few)
+too_many k n (body v s xs) many count w =
+    let few = w.1 in
+    let items = w.3 in
+    let most : line_limit v ≤ most_lines = none_passes old_lines most_lines v (omega arith) in
+    omega (arith, many, count, few, items, most)
+too_many k n (ended v s xs) many count w =
+    let few = w.1.1 in
+    let items = w.1.3 in
+    let most : line_limit v ≤ most_lines = none_passes old_lines most_lines v (omega arith) in
+    omega (arith, many, count, few, items, most)
 
 -- ---- the answers of the reader
 
@@ -139,19 +193,22 @@ module _ {X : Type 0} (k : Kind X) (n : ℕ) (stage : Stage X) where
   is_cut : (stage : Stage X) (r : Result (File X) Refusal) → r ≡ Err (after_cut n stage) → Fails (after_cut n stage) r
   unfolding after_cut
   is_cut begin r h = h
-  is_cut opened r h = h
+  is_cut (opened v) r h = h
   is_cut (head v c qs) r h = h
-  is_cut (body v s xs) r h = by_full (nat_le 1000000 (length xs)) h
+  is_cut (ended v s xs) r h = h
+  is_cut (body v s xs) r h = by_full (nat_le (line_limit v) (length xs)) h
     where
       by_full : (b : Bool) → r ≡ Err (if b then refusal.TooLong else refusal.BadLine n) → Fails (if b then refusal.TooLong else refusal.BadLine n) r
       by_full true h = h
       by_full false h = h
 
-  pub cut_fails : (old before after : Option (List ℕ)) (line : List ℕ) (e : Refusal) → SameRead k old before n stage → TakesKnownLine before after Cut line → e ≡ after_cut n stage → IfSome old (λ text. Fails e (file_of k text))
-  cut_fails None before after line e h t is = tt
-  cut_fails (Some text) None after line e h t is = absurd h
-  cut_fails (Some text) (Some b) None line e h t is = absurd t
-  cut_fails (Some text) (Some b) (Some a) line e h t is = subst (λ r. Fails r (file_of k text)) (sym is) (is_cut stage (file_of k text) (h ∙ text_cut k n stage b a line t))
+  pub cut_fails : (old before after : Option (List ℕ)) (line : List ℕ) (e : Refusal) → (k.is_front && not (is_ended stage)) ≡ false → SameRead k old before n stage → TakesKnownLine before after Cut line → e ≡ after_cut n stage → IfSome old (λ text. Fails e (file_of k text))
+  cut_fails None before after line e kept h t is = tt
+  cut_fails (Some text) None after line e kept h t is = absurd h
+  cut_fails (Some text) (Some b) None line e kept h t is = absurd t
+  cut_fails (Some text) (Some b) (Some a) line e kept h t is =
+      let refused : at_cut k n stage ≡ Err (after_cut n stage) = ap (λ leaves. if leaves then at_end k n stage else Err (after_cut n stage)) kept in
+      subst (λ r. Fails r (file_of k text)) (sym is) (is_cut stage (file_of k text) (h ∙ text_cut k n stage b a line t ∙ refused))
 
   refuses_fails : {Z : Type 0} (e : Refusal) (r : Result Z Refusal) → Refuses e r → Fails e r
   refuses_fails refusal.NoMemory r h = h
@@ -166,12 +223,31 @@ module _ {X : Type 0} (k : Kind X) (n : ℕ) (stage : Stage X) where
   makes_gives view (Ok y) read h = h
   makes_gives view (Err e) read h = refuses_fails e read h
 
-  pub end_gives : {Y : Type 0} (view : Y → File X) (r : Result Y Refusal) (old before after : Option (List ℕ)) (line : List ℕ) → SameRead k old before n stage → TakesKnownLine before after End line → Makes view r (at_end n stage)
+  pub end_gives : {Y : Type 0} (view : Y → File X) (r : Result Y Refusal) (old before after : Option (List ℕ)) (line : List ℕ) → SameRead k old before n stage → TakesKnownLine before after End line → Makes view r (at_end k n stage)
       → IfSome old (λ text. Gives view r (file_of k text))
   end_gives view r None before after line h t g = tt
   end_gives view r (Some text) None after line h t g = absurd h
   end_gives view r (Some text) (Some b) None line h t g = absurd t
   end_gives view r (Some text) (Some b) (Some a) line h t g = makes_gives view r (file_of k text) (subst (Makes view r) (sym (h ∙ text_end k n stage b a line t)) g)
+
+module _ {X : Type 0} (k : Kind X) (n : ℕ) (stage : Stage X) where
+  pub cut_gives : {Y : Type 0} (view : Y → File X) (r : Result Y Refusal) (old before after : Option (List ℕ)) (line : List ℕ) → (k.is_front && not (is_ended stage)) ≡ true → SameRead k old before n stage → TakesKnownLine before after Cut line
+      → Makes view r (at_end k n stage) → IfSome old (λ text. Gives view r (file_of k text))
+  cut_gives view r None before after line left h t g = tt
+  cut_gives view r (Some text) None after line left h t g = absurd h
+  cut_gives view r (Some text) (Some b) None line left h t g = absurd t
+  cut_gives view r (Some text) (Some b) (Some a) line left h t g =
+      let over : at_cut k n stage ≡ at_end k n stage = ap (λ leaves. if leaves then at_end k n stage else Err (after_cut n stage)) left in
+      makes_gives k n stage view r (file_of k text) (subst (Makes view r) (sym (h ∙ text_cut k n stage b a line t ∙ over)) g)
+
+-- whole lines are read alike
+pub line_alike : {X : Type 0} (front : Bool) (k : Kind X) (n : ℕ) (stage : Stage X) (line : List ℕ) → after_line (as_front front k) n stage line ≡ after_line k n stage line
+unfolding after_line after_head body_line item_line
+line_alike front k n begin line = refl
+line_alike front k n (opened v) line = refl
+line_alike front k n (head v c qs) line = refl
+line_alike front k n (body v s xs) line = refl
+line_alike front k n (ended v s xs) line = refl
 
 -- only the source's own failure is a read fault, and no reader gives a write fault
 abbrev pub is_fault : Refusal → Bool
@@ -191,9 +267,10 @@ refuses_no_fault (refusal.NoSuchId m) r h = refl
 cut_is_no_fault : {X : Type 0} (n : ℕ) (stage : Stage X) → is_fault (after_cut n stage) ≡ false
 unfolding after_cut
 cut_is_no_fault n begin = refl
-cut_is_no_fault n opened = refl
+cut_is_no_fault n (opened v) = refl
 cut_is_no_fault n (head v c qs) = refl
-cut_is_no_fault n (body v s xs) = by_full (nat_le 1000000 (length xs))
+cut_is_no_fault n (ended v s xs) = refl
+cut_is_no_fault n (body v s xs) = by_full (nat_le (line_limit v) (length xs))
   where
     by_full : (b : Bool) → is_fault (if b then refusal.TooLong else refusal.BadLine n) ≡ false
     by_full true = refl
@@ -214,20 +291,31 @@ makes_no_fault view (Ok y) read f h fault is = cc
 makes_no_fault view (Err e) read f h fault is = no_fault e f (Err e) (refuses_no_fault e read h) fault refl is
 
 -- what a reader's stage gives is sound
-sound_without : {X : Type 0} (k : Kind X) (n v : ℕ) (o : Option Layout) (f : File X) → IsVersion k v → without_items n v o ≡ Ok f → IsVersion k f.version × IsSound k f
-sound_without k n v None f w h = cc
-sound_without k n v (Some s) f w h =
-    let is : record { version = v; layout = s; items = [] } ≡ f = cc in
-    subst (λ f. IsVersion k f.version × IsSound k f) is (w, record { few = omega arith; fitting = All-nil (λ x. IsTrue (k.fits_in s x)) })
+pub ends_with : {X : Type 0} (k : Kind X) (n : ℕ) (f g : File X) → without_end k n f ≡ Ok g → f ≡ g
+ends_with k n f g h = by_lack (k.needs_end f.version && not k.is_front) h
+  where
+    by_lack : (b : Bool) → (if b then Err (refusal.BadLine n) else Ok f) ≡ Ok g → f ≡ g
+    by_lack true h = cc
+    by_lack false h = cc
 
-pub end_sound : {X : Type 0} (k : Kind X) (n : ℕ) (stage : Stage X) (f : File X) → IsWithin k stage → at_end n stage ≡ Ok f → IsVersion k f.version × IsSound k f
+sound_without : {X : Type 0} (k : Kind X) (n v : ℕ) (c : Counts) (qs : List QueueShape) (b : Bool) (f : File X) → IsVersion k v → c.room ≤ room_limit v
+    → without_items k n v (if b then Some (layout_of c qs) else None) ≡ Ok f → IsVersion k f.version × IsSound k f
+sound_without k n v c qs false f w room h = cc
+sound_without k n v c qs true f w room h =
+    let is : record { version = v; layout = layout_of c qs; items = [] } ≡ f = ends_with k n (record { version = v; layout = layout_of c qs; items = [] }) f h in
+    subst (λ f. IsVersion k f.version × IsSound k f) is (w, record { room = room; few = omega arith; fitting = All-nil (λ x. IsTrue (k.fits_in (layout_of c qs) x)) })
+
+pub end_sound : {X : Type 0} (k : Kind X) (n : ℕ) (stage : Stage X) (f : File X) → IsWithin k stage → at_end k n stage ≡ Ok f → IsVersion k f.version × IsSound k f
 unfolding at_end
 end_sound k n begin f w h = cc
-end_sound k n opened f w h = cc
-end_sound k n (head v c qs) f w h = sound_without k n v (shape_made c qs) f w.0 h
+end_sound k n (opened v) f w h = cc
+end_sound k n (head v c qs) f w h = sound_without k n v c qs (is_layout (layout_of c qs)) f w.0 w.2 h
 end_sound k n (body v s xs) f w h =
+    let is : record { version = v; layout = s; items = xs } ≡ f = ends_with k n (record { version = v; layout = s; items = xs }) f h in
+    subst (λ f. IsVersion k f.version × IsSound k f) is (w.0, record { room = w.2; few = w.3; fitting = w.4 })
+end_sound k n (ended v s xs) f w h =
     let is : record { version = v; layout = s; items = xs } ≡ f = cc in
-    subst (λ f. IsVersion k f.version × IsSound k f) is (w.0, record { few = w.2; fitting = w.3 })
+    subst (λ f. IsVersion k f.version × IsSound k f) is (w.1.0, record { room = w.1.2; few = w.1.3; fitting = w.1.4 })
 
 -- at the beginning nothing has been read
 pub starts : {X : Type 0} (k : Kind X) (text : Option (List ℕ)) (ahead : List ℕ) → ahead ≡ [] → SameRead k text (prepend_known ahead text) 1 begin
@@ -235,10 +323,13 @@ unfolding file_of
 starts k None ahead none = tt
 starts k (Some text) ahead none = ap (λ bytes. after_text k 1 begin (bytes ++ text)) (sym none)
 
-pub makes_sound : {X Y : Type 0} (k : Kind X) (view : Y → File X) (r : Result Y Refusal) (n : ℕ) (stage : Stage X) → IsWithin k stage → Makes view r (at_end n stage) → IfOk r (λ y. IsSound k (view y))
-makes_sound k view (Ok y) n stage w h = (end_sound k n stage (view y) w h).1
-makes_sound k view (Err e) n stage w h = tt
+pub makes_sound : {X Y : Type 0} (front : Bool) (k : Kind X) (view : Y → File X) (r : Result Y Refusal) (n : ℕ) (stage : Stage X) → IsWithin (as_front front k) stage → Makes view r (at_end (as_front front k) n stage)
+    → IfOk r (λ y. IsSound k (view y))
+makes_sound front k view (Ok y) n stage w h =
+    let sound = (end_sound (as_front front k) n stage (view y) w h).1 in
+    record { room = sound.room; few = sound.few; fitting = sound.fitting }
+makes_sound front k view (Err e) n stage w h = tt
 
-pub makes_version : {X Y : Type 0} (k : Kind X) (view : Y → File X) (r : Result Y Refusal) (n : ℕ) (stage : Stage X) → IsWithin k stage → Makes view r (at_end n stage) → IfOk r (λ y. IsVersion k (view y).version)
+pub makes_version : {X Y : Type 0} (k : Kind X) (view : Y → File X) (r : Result Y Refusal) (n : ℕ) (stage : Stage X) → IsWithin k stage → Makes view r (at_end k n stage) → IfOk r (λ y. IsVersion k (view y).version)
 makes_version k view (Ok y) n stage w h = (end_sound k n stage (view y) w h).0
 makes_version k view (Err e) n stage w h = tt

@@ -1,6 +1,6 @@
 -- What is read of a whole text is sound: its shape is inside the limits, it has no more lines than a file may have, each of them fits the
 -- shape, and has what each line of its kind has.
-use Rattle.std.proofs.Common.{◌≡◌, ◌+◌, ℕ, Bool, true, false, List, [], ◌∷◌, ◌++◌, length, Result, Ok, Err, nat_le, Option, Some, None, refl, subst}
+use Rattle.std.proofs.Common.{◌≡◌, ◌+◌, ℕ, ◌==◌, Bool, true, false, ◌&&◌, not, List, [], ◌∷◌, ◌++◌, length, Result, Ok, Err, nat_le, Option, Some, None, refl, subst}
 use Rattle.std.specs.Prelude.{if◌then◌else◌, IsTrue}
 use Rattle.std.specs.List.{All}
 use Rattle.std.proofs.lemmas.List.Elements.{All-nil, All-push}
@@ -10,16 +10,18 @@ use Rattle.cmwq_model.specs.declared.entry.Entry.{Entry}
 use Rattle.cmwq_model.specs.declared.shape.Counts.{Counts}
 use Rattle.cmwq_model.specs.declared.shape.QueueShape.{QueueShape}
 use Rattle.cmwq_model.specs.Layout.{Layout, layout_of, is_layout}
-use Rattle.cmwq_model.specs.Ranges.{IsWho, IsCall, IsEntry}
-use Rattle.cmwq_text.specs.ShapeText.{counts_of, begins_queue}
-use Rattle.cmwq_text.proofs.ReadRanges.{call_line_inside, entry_of_format_inside}
+use Rattle.cmwq_model.specs.Ranges.{IsWho, IsCall, IsEntry, greatest}
+use Rattle.cmwq_text.specs.Numbers.{greatest_number}
+use Rattle.cmwq_text.specs.ShapeText.{begins_queue}
+use Rattle.cmwq_text.specs.Formats.{line_limit, counts_of_format}
+use Rattle.cmwq_text.proofs.ReadRanges.{short_call_inside, entry_of_format_inside}
 use Rattle.cmwq_base.specs.declared.refusal.Refusal.{Refusal}
 use Rattle.cmwq_base.specs.declared.refusal.Refusal.TheVariants as refusal
 use Rattle.cmwq_base.specs.Pieces.{pieces}
-use Rattle.cmwq_base.specs.Files.{File, IsSound, Kind, Stage, begin, opened, head, body, is_long, shape_made, and_then, begun, with_queue, queue_line, with_item, item_line, first_item, after_head, after_line, after_cut, at_end, without_items, after_last, after_pieces, file_of}
-use Rattle.cmwq_base.specs.Kinds.{calls_kind, call_file_of, history_kind, history_file_of}
+use Rattle.cmwq_base.specs.Files.{File, IsVersion, IsSound, Kind, as_front, Stage, begin, opened, head, body, ended, is_long, shape_made, and_then, begun, with_queue, queue_line, with_item, item_line, end_in, or_ended, body_line, first_item, after_head, after_line, after_cut, is_ended, at_end, without_items, after_last, after_pieces, file_of}
+use Rattle.cmwq_base.specs.Kinds.{calls_kind, call_file_of, history_kind, history_file_of, front_file_of}
 use Rattle.cmwq_base.specs.Stages.{IsWithin}
-use Rattle.cmwq_base.proofs.Progress.{line_grows, end_sound}
+use Rattle.cmwq_base.proofs.Progress.{line_grows, ends_with, end_sound}
 
 -- ---- what must have been where a file was read
 
@@ -45,11 +47,17 @@ module _ {X : Type 0} (k : Kind X) (Holds : Stage X → Type 0)
     number : ℕ
     stage : Stage X
     holds : Holds stage
-    is : at_end number stage ≡ Ok f
+    is : at_end k number stage ≡ Ok f
 
-  last_ends : (n : ℕ) (stage : Stage X) (last : List ℕ) (f : File X) → Holds stage → after_last n stage last ≡ Ok f → EndsAt f
+  cut_ends : (n : ℕ) (stage : Stage X) (f : File X) (long leaves : Bool) → Holds stage
+      → (if long then Err refusal.TooLong else if leaves then at_end k n stage else Err (after_cut n stage)) ≡ Ok f → EndsAt f
+  cut_ends n stage f true leaves holds h = cc
+  cut_ends n stage f false true holds h = record { number = n; stage = stage; holds = holds; is = h }
+  cut_ends n stage f false false holds h = cc
+
+  last_ends : (n : ℕ) (stage : Stage X) (last : List ℕ) (f : File X) → Holds stage → after_last k n stage last ≡ Ok f → EndsAt f
   last_ends n stage [] f holds h = record { number = n; stage = stage; holds = holds; is = h }
-  last_ends n stage (b ∷ bs) f holds h = absurd (no_cut n stage f (is_long (b ∷ bs)) h)
+  last_ends n stage (b ∷ bs) f holds h = cut_ends n stage f (is_long (b ∷ bs)) (k.is_front && not (is_ended stage)) holds h
 
   pieces_end : (ps : List (List ℕ)) (n : ℕ) (stage : Stage X) (f : File X) → Holds stage → after_pieces k n stage ps ≡ Ok f → EndsAt f
   unfolding after_pieces
@@ -68,6 +76,7 @@ module _ {X : Type 0} (k : Kind X) (Holds : Stage X → Type 0)
 
 -- what is read of a text of the kind
 pub record IsReadOf {X : Type 0} (k : Kind X) (P : X → Type 0) (f : File X) : Type 0 where
+  pub version : IsVersion k f.version
   pub shape : IsTrue (is_layout f.layout)
   pub sound : IsSound k f
   pub each : All P f.items
@@ -75,17 +84,22 @@ pub record IsReadOf {X : Type 0} (k : Kind X) (P : X → Type 0) (f : File X) : 
 module _ {X : Type 0} (k : Kind X) (P : X → Type 0) (reads : (v : ℕ) (line : List ℕ) (x : X) → k.item_of v line ≡ Some x → P x) where
   abbrev Has : Stage X → Type 0
   Has begin = Unit {0}
-  Has opened = Unit {0}
+  Has (opened v) = Unit {0}
   Has (head v counts queues) = Unit {0}
   Has (body v s items) = IsTrue (is_layout s) × All P items
+  Has (ended v s items) = IsTrue (is_layout s) × All P items
 
   begun_has : (n v : ℕ) (o : Option Counts) (next : Stage X) → begun n v o ≡ Ok next → Has next
   begun_has n v None next h = cc
   begun_has n v (Some c) next h = let is : head v c [] ≡ next = cc in subst Has is tt
 
-  first_has : (n : ℕ) (line : List ℕ) (next : Stage X) (b : Bool) → (if b then Ok opened else begun n 1 (counts_of line)) ≡ Ok next → Has next
-  first_has n line next true h = let is : opened ≡ next = cc in subst Has is tt
-  first_has n line next false h = begun_has n 1 (counts_of line) next h
+  third_has : (n : ℕ) (line : List ℕ) (next : Stage X) (b : Bool) → (if b then Ok (opened 3) else begun n 1 (counts_of_format 1 line)) ≡ Ok next → Has next
+  third_has n line next true h = let is : opened 3 ≡ next = cc in subst Has is tt
+  third_has n line next false h = begun_has n 1 (counts_of_format 1 line) next h
+
+  first_has : (n : ℕ) (line : List ℕ) (next : Stage X) (b : Bool) → (if b then Ok (opened 2) else if k.says_format 3 line then Ok (opened 3) else begun n 1 (counts_of_format 1 line)) ≡ Ok next → Has next
+  first_has n line next true h = let is : opened 2 ≡ next = cc in subst Has is tt
+  first_has n line next false h = third_has n line next (k.says_format 3 line) h
 
   queue_has : (n v : ℕ) (c : Counts) (qs : List QueueShape) (o : Option QueueShape) (next : Stage X) → with_queue n v c qs o ≡ Ok next → Has next
   queue_has n v c qs None next h = cc
@@ -115,11 +129,23 @@ module _ {X : Type 0} (k : Kind X) (P : X → Type 0) (reads : (v : ℕ) (line :
 
   item_line_has : (n v : ℕ) (s : Layout) (xs : List X) (line : List ℕ) (next : Stage X) → Has (body v s xs) → item_line k n v s xs line ≡ Ok next → Has next
   unfolding item_line
-  item_line_has n v s xs line next has h = item_line_if n v s xs line next (nat_le 1000000 (length xs)) has h
+  item_line_has n v s xs line next has h = item_line_if n v s xs line next (nat_le (line_limit v) (length xs)) has h
+
+  ended_has : (n v : ℕ) (s : Layout) (xs : List X) (next : Stage X) (b : Bool) → Has (body v s xs) → (if b then Ok (ended v s xs) else Err (refusal.BadLine n)) ≡ Ok next → Has next
+  ended_has n v s xs next true has h = let is : ended v s xs ≡ next = cc in subst Has is has
+  ended_has n v s xs next false has h = cc
+
+  or_ended_has : (n v : ℕ) (s : Layout) (xs : List X) (line : List ℕ) (o : Option ℕ) (next : Stage X) → Has (body v s xs) → or_ended k n v s xs line o ≡ Ok next → Has next
+  or_ended_has n v s xs line None next has h = item_line_has n v s xs line next has h
+  or_ended_has n v s xs line (Some m) next has h = ended_has n v s xs next (m == length xs) has h
+
+  body_line_has : (n v : ℕ) (s : Layout) (xs : List X) (line : List ℕ) (next : Stage X) → Has (body v s xs) → body_line k n v s xs line ≡ Ok next → Has next
+  unfolding body_line
+  body_line_has n v s xs line next has h = or_ended_has n v s xs line (end_in k v line) next has h
 
   first_item_has : (n v : ℕ) (c : Counts) (qs : List QueueShape) (line : List ℕ) (next : Stage X) (b : Bool) → is_layout (layout_of c qs) ≡ b
       → first_item k n v (if b then Some (layout_of c qs) else None) line ≡ Ok next → Has next
-  first_item_has n v c qs line next true inside h = item_line_has n v (layout_of c qs) [] line next (inside, All-nil P) h
+  first_item_has n v c qs line next true inside h = body_line_has n v (layout_of c qs) [] line next (inside, All-nil P) h
   first_item_has n v c qs line next false inside h = cc
 
   head_has : (n v : ℕ) (c : Counts) (qs : List QueueShape) (line : List ℕ) (next : Stage X) (b : Bool)
@@ -129,10 +155,11 @@ module _ {X : Type 0} (k : Kind X) (P : X → Type 0) (reads : (v : ℕ) (line :
 
   line_has : (n : ℕ) (stage next : Stage X) (line : List ℕ) → Has stage → after_line k n stage line ≡ Ok next → Has next
   unfolding after_line after_head
-  line_has n begin next line has h = first_has n line next (k.says_format line) h
-  line_has n opened next line has h = begun_has n 2 (counts_of line) next h
+  line_has n begin next line has h = first_has n line next (k.says_format 2 line) h
+  line_has n (opened v) next line has h = begun_has n v (counts_of_format v line) next h
   line_has n (head v c qs) next line has h = head_has n v c qs line next (begins_queue line) h
-  line_has n (body v s xs) next line has h = item_line_has n v s xs line next has h
+  line_has n (body v s xs) next line has h = body_line_has n v s xs line next has h
+  line_has n (ended v s xs) next line has h = cc
 
   -- ---- the end
 
@@ -140,18 +167,21 @@ module _ {X : Type 0} (k : Kind X) (P : X → Type 0) (reads : (v : ℕ) (line :
   HasEach f = IsTrue (is_layout f.layout) × All P f.items
 
   shape_has : (n v : ℕ) (c : Counts) (qs : List QueueShape) (f : File X) (b : Bool) → is_layout (layout_of c qs) ≡ b
-      → without_items n v (if b then Some (layout_of c qs) else None) ≡ Ok f → HasEach f
+      → without_items k n v (if b then Some (layout_of c qs) else None) ≡ Ok f → HasEach f
   shape_has n v c qs f true inside h =
-      let is : record { version = v; layout = layout_of c qs; items = [] } ≡ f = cc in
+      let is : record { version = v; layout = layout_of c qs; items = [] } ≡ f = ends_with k n (record { version = v; layout = layout_of c qs; items = [] }) f h in
       subst HasEach is (inside, All-nil P)
   shape_has n v c qs f false inside h = cc
 
-  end_has : (n : ℕ) (stage : Stage X) (f : File X) → Has stage → at_end n stage ≡ Ok f → HasEach f
+  end_has : (n : ℕ) (stage : Stage X) (f : File X) → Has stage → at_end k n stage ≡ Ok f → HasEach f
   unfolding at_end
   end_has n begin f has h = cc
-  end_has n opened f has h = cc
+  end_has n (opened v) f has h = cc
   end_has n (head v c qs) f has h = shape_has n v c qs f (is_layout (layout_of c qs)) refl h
   end_has n (body v s xs) f has h =
+      let is : record { version = v; layout = s; items = xs } ≡ f = ends_with k n (record { version = v; layout = s; items = xs }) f h in
+      subst HasEach is has
+  end_has n (ended v s xs) f has h =
       let is : record { version = v; layout = s; items = xs } ≡ f = cc in
       subst HasEach is has
 
@@ -165,15 +195,19 @@ module _ {X : Type 0} (k : Kind X) (P : X → Type 0) (reads : (v : ℕ) (line :
   file_is_read text f h =
       let end = text_ends k Stands line_stands text f (tt, tt) h in
       let has = end_has end.number end.stage f end.holds.1 end.is in
-      record { shape = has.0; sound = (end_sound k end.number end.stage f end.holds.0 end.is).1; each = has.1 }
+      let sound = end_sound k end.number end.stage f end.holds.0 end.is in
+      record { shape = has.0; version = sound.0; sound = sound.1; each = has.1 }
 
 -- ---- the two kinds
 
 abbrev pub IsCallInside : Who × Call → Type 0
-IsCallInside x = IsWho x.0 × IsCall x.1
+IsCallInside x = IsWho x.0 × (IsCall greatest) x.1
 
 pub calls_are_read : (text : List ℕ) (f : File (Who × Call)) → call_file_of text ≡ Ok f → IsReadOf calls_kind IsCallInside f
-calls_are_read = file_is_read calls_kind IsCallInside (λ v. call_line_inside)
+calls_are_read = file_is_read calls_kind IsCallInside (λ v. short_call_inside)
 
-pub history_is_read : (text : List ℕ) (f : File Entry) → history_file_of text ≡ Ok f → IsReadOf history_kind IsEntry f
-history_is_read = file_is_read history_kind IsEntry entry_of_format_inside
+pub front_is_read : (text : List ℕ) (f : File Entry) → front_file_of true text ≡ Ok f → IsReadOf (as_front true history_kind) (IsEntry greatest_number) f
+front_is_read = file_is_read (as_front true history_kind) (IsEntry greatest_number) entry_of_format_inside
+
+pub history_is_read : (text : List ℕ) (f : File Entry) → history_file_of text ≡ Ok f → IsReadOf history_kind (IsEntry greatest_number) f
+history_is_read = file_is_read history_kind (IsEntry greatest_number) entry_of_format_inside

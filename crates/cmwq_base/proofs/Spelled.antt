@@ -1,7 +1,8 @@
 -- What is read of the file of a history is spelled so.
-use Rattle.std.proofs.Common.{◌≡◌, ◌+◌, ℕ, Bool, true, false, List, [], ◌∷◌, ◌++◌, length, Result, Ok, Err, nat_le, Option, Some, None, refl, sym, ap, ◌∙◌, append_assoc, append-nil, subst}
-use Rattle.std.specs.Prelude.{if◌then◌else◌, codes, IsTrue, flat_map}
+use Rattle.std.proofs.Common.{◌≡◌, ◌+◌, ◌==◌, ℕ, Bool, true, false, ◌&&◌, List, [], ◌∷◌, ◌++◌, length, Result, Ok, Err, nat_le, Option, Some, None, refl, sym, ap, ◌∙◌, append_assoc, append-nil, subst}
+use Rattle.std.specs.Prelude.{if◌then◌else◌, IsTrue, flat_map}
 use Rattle.std.specs.List.{All, join_with_byte}
+use Rattle.std.proofs.lemmas.Bool.{eqb-true}
 use Rattle.std.proofs.lemmas.List.{flat_map_more}
 use Rattle.std.proofs.lemmas.List.Elements.{All-nil, All-push}
 use Rattle.std.proofs.lemmas.Option.{same_Some}
@@ -12,26 +13,30 @@ use Rattle.cmwq_model.specs.declared.shape.Counts.{Counts}
 use Rattle.cmwq_model.specs.declared.shape.QueueShape.{QueueShape}
 use Rattle.cmwq_model.specs.Layout.{Layout, layout_of, is_layout, entry_fits}
 use Rattle.cmwq_text.specs.EntryText.{entry_text, entry_of}
-use Rattle.cmwq_text.specs.ShapeText.{counts_text, counts_of, queue_text, queue_of_history, begins_queue}
-use Rattle.cmwq_text.specs.Formats.{is_version_line, allows_queue, allows_entry, queue_of_format, entry_of_format}
-use Rattle.cmwq_text.specs.HistoryText.{version_text, head_text, text_of_format}
+use Rattle.cmwq_text.specs.ShapeText.{counts_text, queue_text, queue_of_history, begins_queue}
+use Rattle.cmwq_text.specs.EndText.{end_text, end_of}
+use Rattle.cmwq_text.specs.Formats.{version_name, is_version_line, needs_end, line_limit, allows_queue, allows_entry, counts_of_format, queue_of_format, entry_of_format}
+use Rattle.cmwq_text.specs.HistoryText.{version_text, head_text, body_text, last_text, text_of_format}
 use Rattle.cmwq_text.proofs.Steps.{bind_some, chosen}
 use Rattle.cmwq_text.proofs.EntryLaws.{entries_spelled_so}
+use Rattle.cmwq_text.proofs.EndLaws.{ends_spelled_so}
 use Rattle.cmwq_text.proofs.ShapeLaws.{counts_spelled_so, queues_spelled_so}
 use Rattle.cmwq_base.specs.declared.refusal.Refusal.{Refusal}
 use Rattle.cmwq_base.specs.declared.refusal.Refusal.TheVariants as refusal
 use Rattle.cmwq_base.specs.Pieces.{pieces}
-use Rattle.cmwq_base.specs.Files.{File, Stage, begin, opened, head, body, is_long, shape_made, and_then, begun, with_queue, queue_line, with_item, item_line, first_item, after_head, after_line, at_end, without_items, after_last, after_pieces, file_of}
+use Rattle.cmwq_base.specs.Files.{File, Stage, begin, opened, head, body, ended, is_long, shape_made, and_then, begun, with_queue, queue_line, with_item, item_line, end_in, or_ended, body_line, first_item, after_head, after_line, at_end, without_end, without_items, after_last, after_pieces, file_of}
 use Rattle.cmwq_base.specs.Kinds.{history_kind, history_file_of}
+use Rattle.cmwq_base.proofs.Progress.{counts_read}
 use Rattle.cmwq_base.proofs.Sound.{no_cut, short_goes, next_goes}
 use Rattle.cmwq_base.specs.FileLaws.{IsOfFormat, HistoriesHaveOneText, HistoriesAreOfTheirFormat}
 
 -- the text of what has been read so far
 abbrev written : Stage Entry → List ℕ
 written begin = []
-written opened = version_text 2
+written (opened v) = version_text v
 written (head v counts queues) = version_text v ++ (counts_text counts ++ flat_map queue_text queues)
-written (body v s items) = text_of_format v s items
+written (body v s items) = body_text v s items
+written (ended v s items) = text_of_format v s items
 
 -- the shape that has been read is inside the limits, and all is of the format
 abbrev AreQueuesOf : ℕ → List QueueShape → Type 0
@@ -42,9 +47,10 @@ AreEntriesOf v entries = All (λ e. IsTrue (allows_entry v e)) entries
 
 abbrev IsInside : Stage Entry → Type 0
 IsInside begin = Unit {0}
-IsInside opened = Unit {0}
+IsInside (opened v) = Unit {0}
 IsInside (head v counts queues) = AreQueuesOf v queues
 IsInside (body v s items) = IsTrue (is_layout s) × AreQueuesOf v s.queues × AreEntriesOf v items
+IsInside (ended v s items) = IsTrue (is_layout s) × AreQueuesOf v s.queues × AreEntriesOf v items
 
 -- a line with its line feed goes behind what was written
 record Spells (stage next : Stage Entry) (line : List ℕ) : Type 0 where
@@ -69,11 +75,11 @@ entry_read v line e h =
 -- ---- one line
 
 module _ (n v : ℕ) where
-  begun_spells : (stage : Stage Entry) (line : List ℕ) (o : Option Counts) (next : Stage Entry) → written stage ≡ version_text v → counts_of line ≡ o → begun n v o ≡ Ok next → Spells stage next line
+  begun_spells : (stage : Stage Entry) (line : List ℕ) (o : Option Counts) (next : Stage Entry) → written stage ≡ version_text v → counts_of_format v line ≡ o → begun n v o ≡ Ok next → Spells stage next line
   begun_spells stage line None next before is h = cc
   begun_spells stage line (Some c) next before is h =
       let same : head v c [] ≡ next = cc in
-      let text = ap (λ t. t ++ (line ++ 10 ∷ [])) before ∙ ap (λ t. version_text v ++ t) (sym (counts_spelled_so c line is) ∙ sym (append-nil (counts_text c))) in
+      let text = ap (λ t. t ++ (line ++ 10 ∷ [])) before ∙ ap (λ t. version_text v ++ t) (sym (counts_spelled_so c line (counts_read v line c is).0) ∙ sym (append-nil (counts_text c))) in
       subst (λ st. Spells stage st line) same (record { text = text; inside = All-nil (λ q. IsTrue (allows_queue v q)) })
 
   queue_spells : (c : Counts) (qs : List QueueShape) (line : List ℕ) (o : Option QueueShape) (next : Stage Entry) → AreQueuesOf v qs → queue_of_format v line ≡ o → with_queue n v c qs o ≡ Ok next → Spells (head v c qs) next line
@@ -94,7 +100,7 @@ module _ (n v : ℕ) where
   item_spells s xs line e next true inside is fitting h =
       let same : body v s (xs ++ e ∷ []) ≡ next = cc in
       let read = entry_read v line e is in
-      let text = ap (λ t. text_of_format v s xs ++ t) (sym (entries_spelled_so s e line inside.0 fitting read.0)) ∙ flat_map_more entry_text (head_text v s) xs e in
+      let text = ap (λ t. body_text v s xs ++ t) (sym (entries_spelled_so s e line inside.0 fitting read.0)) ∙ flat_map_more entry_text (head_text v s) xs e in
       subst (λ st. Spells (body v s xs) st line) same (record { text = text; inside = (inside.0, inside.1, All-push (λ e. IsTrue (allows_entry v e)) xs e inside.2 read.1) })
   item_spells s xs line e next false inside is fitting h = cc
 
@@ -109,12 +115,30 @@ module _ (n v : ℕ) where
 
   item_line_spells : (s : Layout) (xs : List Entry) (line : List ℕ) (next : Stage Entry) → IsInside (body v s xs) → item_line history_kind n v s xs line ≡ Ok next → Spells (body v s xs) next line
   unfolding item_line
-  item_line_spells s xs line next inside h = item_line_if s xs line next (nat_le 1000000 (length xs)) inside h
+  item_line_spells s xs line next inside h = item_line_if s xs line next (nat_le (line_limit v) (length xs)) inside h
+
+  -- the last line
+  ended_spells : (s : Layout) (xs : List Entry) (line : List ℕ) (m : ℕ) (next : Stage Entry) (b : Bool) → IsInside (body v s xs) → end_in history_kind v line ≡ Some m → (m == length xs) ≡ b
+      → (if b then Ok (ended v s xs) else Err (refusal.BadLine n)) ≡ Ok next → Spells (body v s xs) next line
+  ended_spells s xs line m next true inside is many h =
+      let same : ended v s xs ≡ next = cc in
+      let found = chosen (needs_end v) (end_of line) m is in
+      let last : last_text v (length xs) ≡ line ++ 10 ∷ [] = rw found.0 (ap end_text (sym (eqb-true m (length xs) many)) ∙ ends_spelled_so m line found.1) in
+      subst (λ st. Spells (body v s xs) st line) same (record { text = ap (λ t. body_text v s xs ++ t) (sym last); inside = inside })
+  ended_spells s xs line m next false inside is many h = cc
+
+  or_ended_spells : (s : Layout) (xs : List Entry) (line : List ℕ) (o : Option ℕ) (next : Stage Entry) → IsInside (body v s xs) → end_in history_kind v line ≡ o → or_ended history_kind n v s xs line o ≡ Ok next → Spells (body v s xs) next line
+  or_ended_spells s xs line None next inside is h = item_line_spells s xs line next inside h
+  or_ended_spells s xs line (Some m) next inside is h = ended_spells s xs line m next (m == length xs) inside is refl h
+
+  body_line_spells : (s : Layout) (xs : List Entry) (line : List ℕ) (next : Stage Entry) → IsInside (body v s xs) → body_line history_kind n v s xs line ≡ Ok next → Spells (body v s xs) next line
+  unfolding body_line
+  body_line_spells s xs line next inside h = or_ended_spells s xs line (end_in history_kind v line) next inside refl h
 
   first_item_spells : (c : Counts) (qs : List QueueShape) (line : List ℕ) (next : Stage Entry) (b : Bool) → AreQueuesOf v qs → is_layout (layout_of c qs) ≡ b
       → first_item history_kind n v (if b then Some (layout_of c qs) else None) line ≡ Ok next → Spells (head v c qs) next line
   first_item_spells c qs line next true of_format inside h =
-      let more = item_line_spells (layout_of c qs) [] line next (inside, of_format, All-nil (λ e. IsTrue (allows_entry v e))) h in
+      let more = body_line_spells (layout_of c qs) [] line next (inside, of_format, All-nil (λ e. IsTrue (allows_entry v e))) h in
       record { text = ap (λ t. t ++ (line ++ 10 ∷ [])) (sym (append-nil (head_text v (layout_of c qs)))) ∙ more.text; inside = more.inside }
   first_item_spells c qs line next false of_format inside h = cc
 
@@ -122,19 +146,28 @@ module _ (n v : ℕ) where
   head_spells c qs line next true inside h = queue_line_spells c qs line next (nat_le 64 (length qs)) inside h
   head_spells c qs line next false inside h = first_item_spells c qs line next (is_layout (layout_of c qs)) inside refl h
 
-first_line_spells : (n : ℕ) (line : List ℕ) (next : Stage Entry) (b : Bool) → is_version_line line ≡ b → (if b then Ok opened else begun n 1 (counts_of line)) ≡ Ok next → Spells begin next line
-first_line_spells n line next true is h =
-    let same : opened ≡ next = cc in
-    let text = ap (λ t. t ++ 10 ∷ []) ((bytes_eq-Decides line (codes "history 2")).0 is) in
+third_line_spells : (n : ℕ) (line : List ℕ) (next : Stage Entry) (b : Bool) → is_version_line 3 line ≡ b → (if b then Ok (opened 3) else begun n 1 (counts_of_format 1 line)) ≡ Ok next → Spells begin next line
+third_line_spells n line next true is h =
+    let same : opened 3 ≡ next = cc in
+    let text = ap (λ t. t ++ 10 ∷ []) ((bytes_eq-Decides line (version_name 3)).0 is) in
     subst (λ st. Spells begin st line) same (record { text = text; inside = tt })
-first_line_spells n line next false is h = begun_spells n 1 begin line (counts_of line) next refl refl h
+third_line_spells n line next false is h = begun_spells n 1 begin line (counts_of_format 1 line) next refl refl h
+
+first_line_spells : (n : ℕ) (line : List ℕ) (next : Stage Entry) (b : Bool) → is_version_line 2 line ≡ b
+    → (if b then Ok (opened 2) else if is_version_line 3 line then Ok (opened 3) else begun n 1 (counts_of_format 1 line)) ≡ Ok next → Spells begin next line
+first_line_spells n line next true is h =
+    let same : opened 2 ≡ next = cc in
+    let text = ap (λ t. t ++ 10 ∷ []) ((bytes_eq-Decides line (version_name 2)).0 is) in
+    subst (λ st. Spells begin st line) same (record { text = text; inside = tt })
+first_line_spells n line next false is h = third_line_spells n line next (is_version_line 3 line) refl h
 
 line_spells : (n : ℕ) (stage next : Stage Entry) (line : List ℕ) → IsInside stage → after_line history_kind n stage line ≡ Ok next → Spells stage next line
 unfolding after_line after_head
-line_spells n begin next line inside h = first_line_spells n line next (is_version_line line) refl h
-line_spells n opened next line inside h = begun_spells n 2 opened line (counts_of line) next refl refl h
+line_spells n begin next line inside h = first_line_spells n line next (is_version_line 2 line) refl h
+line_spells n (opened v) next line inside h = begun_spells n v (opened v) line (counts_of_format v line) next refl refl h
 line_spells n (head v c qs) next line inside h = head_spells n v c qs line next (begins_queue line) inside h
-line_spells n (body v s xs) next line inside h = item_line_spells n v s xs line next inside h
+line_spells n (body v s xs) next line inside h = body_line_spells n v s xs line next inside h
+line_spells n (ended v s xs) next line inside h = cc
 
 -- ---- the end
 
@@ -148,22 +181,40 @@ IsToldBy text f = (text ≡ text_in f) × IsOfFormat f
 told_after : (a b : List ℕ) (f : File Entry) → a ≡ b → IsToldBy b f → IsToldBy a f
 told_after a b f same told = (same ∙ told.0, told.1)
 
-shape_spells : (n v : ℕ) (c : Counts) (qs : List QueueShape) (b : Bool) (f : File Entry) → AreQueuesOf v qs → without_items n v (if b then Some (layout_of c qs) else None) ≡ Ok f → IsToldBy (written (head v c qs)) f
+-- a text may end without a last line only in a format that has none
+record IsWithoutEnd (f g : File Entry) : Type 0 where
+  same : f ≡ g
+  last : last_text f.version (length f.items) ≡ []
+
+ends_without : (n : ℕ) (f g : File Entry) → without_end history_kind n f ≡ Ok g → IsWithoutEnd f g
+ends_without n f g h = by_need (needs_end f.version) refl h
+  where
+    by_need : (b : Bool) → needs_end f.version ≡ b → (if b && true then Err (refusal.BadLine n) else Ok f) ≡ Ok g → IsWithoutEnd f g
+    by_need true is h = cc
+    by_need false is h = record { same = cc; last = ap (λ b. if b then end_text (length f.items) else []) is }
+
+shape_spells : (n v : ℕ) (c : Counts) (qs : List QueueShape) (b : Bool) (f : File Entry) → AreQueuesOf v qs → without_items history_kind n v (if b then Some (layout_of c qs) else None) ≡ Ok f → IsToldBy (written (head v c qs)) f
 shape_spells n v c qs true f inside h =
-    let same : record { version = v; layout = layout_of c qs; items = [] } ≡ f = cc in
-    subst (IsToldBy (written (head v c qs))) same (sym (append-nil (head_text v (layout_of c qs))), (inside, All-nil (λ e. IsTrue (allows_entry v e))))
+    let over = ends_without n (record { version = v; layout = layout_of c qs; items = [] }) f h in
+    let front : List ℕ = head_text v (layout_of c qs) in
+    let text : front ≡ (front ++ []) ++ last_text v 0 = sym (append-nil front) ∙ sym (append-nil (front ++ [])) ∙ ap (λ t. (front ++ []) ++ t) (sym over.last) in
+    subst (IsToldBy (written (head v c qs))) over.same (text, (inside, All-nil (λ e. IsTrue (allows_entry v e))))
 shape_spells n v c qs false f inside h = cc
 
-end_spells : (n : ℕ) (stage : Stage Entry) (f : File Entry) → IsInside stage → at_end n stage ≡ Ok f → IsToldBy (written stage) f
+end_spells : (n : ℕ) (stage : Stage Entry) (f : File Entry) → IsInside stage → at_end history_kind n stage ≡ Ok f → IsToldBy (written stage) f
 unfolding at_end
 end_spells n begin f inside h = cc
-end_spells n opened f inside h = cc
+end_spells n (opened v) f inside h = cc
 end_spells n (head v c qs) f inside h = shape_spells n v c qs (is_layout (layout_of c qs)) f inside h
 end_spells n (body v s xs) f inside h =
+    let over = ends_without n (record { version = v; layout = s; items = xs }) f h in
+    let text : body_text v s xs ≡ text_of_format v s xs = sym (append-nil (body_text v s xs)) ∙ ap (λ t. body_text v s xs ++ t) (sym over.last) in
+    subst (IsToldBy (body_text v s xs)) over.same (text, (inside.1, inside.2))
+end_spells n (ended v s xs) f inside h =
     let same : record { version = v; layout = s; items = xs } ≡ f = cc in
     subst (IsToldBy (text_of_format v s xs)) same (refl, (inside.1, inside.2))
 
-last_spells : (n : ℕ) (stage : Stage Entry) (last : List ℕ) (f : File Entry) → IsInside stage → after_last n stage last ≡ Ok f → IsToldBy (written stage ++ last) f
+last_spells : (n : ℕ) (stage : Stage Entry) (last : List ℕ) (f : File Entry) → IsInside stage → after_last history_kind n stage last ≡ Ok f → IsToldBy (written stage ++ last) f
 last_spells n stage [] f inside h = told_after (written stage ++ []) (written stage) f (append-nil (written stage)) (end_spells n stage f inside h)
 last_spells n stage (b ∷ bs) f inside h = absurd (no_cut n stage f (is_long (b ∷ bs)) h)
 

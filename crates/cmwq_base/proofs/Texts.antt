@@ -12,7 +12,7 @@ use Rattle.cmwq_io.specs.declared.lines.Found.TheVariants.{Whole, Cut, Long, End
 use Rattle.cmwq_io.specs.FirstLine.{first_line, after_line as rest_of, is_long as is_text_long, TakesLine}
 use Rattle.cmwq_base.specs.declared.refusal.Refusal.TheVariants as refusal
 use Rattle.cmwq_base.specs.Pieces.{pieces}
-use Rattle.cmwq_base.specs.Files.{Stage, Kind, is_long, and_then, after_line, after_cut, at_end, after_last, after_pieces, after_text}
+use Rattle.cmwq_base.specs.Files.{Stage, Kind, is_long, and_then, after_line, at_end, at_cut, after_last, after_pieces, after_text}
 
 -- ---- pieces
 
@@ -20,7 +20,7 @@ feed_within : (text : List ℕ) (b : Bool) → nat_lt (position_or_len is_feed t
 feed_within text true h = refl
 feed_within text false h = refl
 
-has_feed_is : (text : List ℕ) → has_feed text ≡ nat_lt (position_or_len is_feed text) (length text)
+pub has_feed_is : (text : List ℕ) → has_feed text ≡ nat_lt (position_or_len is_feed text) (length text)
 has_feed_is text = feed_within text (nat_lt (position_or_len is_feed text) (length text)) refl
 
 -- the pieces of a text are its first line and those of the rest, where it has a line feed, and else the text alone
@@ -32,7 +32,7 @@ none_within text h =
     let none : nat_lt (position_or_len is_feed text) (length text) ≡ false = sym (has_feed_is text) ∙ h in
     grind (arith, nat_tests)
 
-first_is_all : (text : List ℕ) → has_feed text ≡ false → first_line text ≡ text
+pub first_is_all : (text : List ℕ) → has_feed text ≡ false → first_line text ≡ text
 first_is_all text h = take_all (position_or_len is_feed text) text (none_within text h)
 
 pub pieces_last : (text : List ℕ) → has_feed text ≡ false → pieces text ≡ text ∷ []
@@ -92,11 +92,11 @@ module _ {X : Type 0} (k : Kind X) (n : ℕ) (stage : Stage X) where
       ∙ ap (λ l. and_then (λ next. after_text k (n + 1) next (rest_of old)) (after_line k n stage l)) (sym is_line)
       ∙ ap (λ r. and_then (λ next. after_text k (n + 1) next r) (after_line k n stage line)) (sym is_rest)
 
-  long_last : (text : List ℕ) → is_long text ≡ true → after_last n stage text ≡ Err refusal.TooLong
+  long_last : (text : List ℕ) → is_long text ≡ true → after_last k n stage text ≡ Err refusal.TooLong
   long_last [] h = cc
-  long_last (b ∷ bs) h = ap (λ c. if c then Err refusal.TooLong else Err (after_cut n stage)) h
+  long_last (b ∷ bs) h = ap (λ c. if c then Err refusal.TooLong else at_cut k n stage) h
 
-  long_piece : (line : List ℕ) (rest : List (List ℕ)) → is_long line ≡ true → after_pieces k n stage (line ∷ rest) ≡ Err refusal.TooLong
+  pub long_piece : (line : List ℕ) (rest : List (List ℕ)) → is_long line ≡ true → after_pieces k n stage (line ∷ rest) ≡ Err refusal.TooLong
   unfolding after_pieces
   long_piece line [] h = long_last line h
   long_piece line (p ∷ ps) h = ap (λ c. if c then Err refusal.TooLong else and_then (λ next. after_pieces k (n + 1) next (p ∷ ps)) (after_line k n stage line)) h
@@ -111,24 +111,24 @@ module _ {X : Type 0} (k : Kind X) (n : ℕ) (stage : Stage X) where
       by_feed true h = ap (after_pieces k n stage) (pieces_fed old h) ∙ long_piece (first_line old) (pieces (rest_of old)) long
       by_feed false h = ap (after_pieces k n stage) (pieces_last old h) ∙ long_piece old [] (subst (λ l. is_long l ≡ true) (first_is_all old h) long)
 
-  cut_last : (text : List ℕ) → is_long text ≡ false → (length text == 0) ≡ false → after_last n stage text ≡ Err (after_cut n stage)
+  cut_last : (text : List ℕ) → is_long text ≡ false → (length text == 0) ≡ false → after_last k n stage text ≡ at_cut k n stage
   cut_last [] h some = cc
-  cut_last (b ∷ bs) h some = ap (λ c. if c then Err refusal.TooLong else Err (after_cut n stage)) h
+  cut_last (b ∷ bs) h some = ap (λ c. if c then Err refusal.TooLong else at_cut k n stage) h
 
-  last_piece : (text : List ℕ) → has_feed text ≡ false → after_text k n stage text ≡ after_last n stage text
+  pub last_piece : (text : List ℕ) → has_feed text ≡ false → after_text k n stage text ≡ after_last k n stage text
   unfolding after_pieces
   last_piece text h = ap (after_pieces k n stage) (pieces_last text h)
 
-  pub text_cut : (old new line : List ℕ) → TakesLine old new Cut line → after_text k n stage old ≡ Err (after_cut n stage)
+  pub text_cut : (old new line : List ℕ) → TakesLine old new Cut line → after_text k n stage old ≡ at_cut k n stage
   text_cut old new line t =
       let f = cut_found (is_text_long old) (has_feed old) (length old == 0) t.kind in
       last_piece old f.1 ∙ cut_last old (subst (λ l. is_long l ≡ false) (first_is_all old f.1) f.0) f.2
 
-  none_last : (text : List ℕ) → (length text == 0) ≡ true → after_last n stage text ≡ at_end n stage
+  none_last : (text : List ℕ) → (length text == 0) ≡ true → after_last k n stage text ≡ at_end k n stage
   none_last [] h = refl
   none_last (b ∷ bs) h = let bad : suc (length bs) ≡ 0 = eqb-true (suc (length bs)) 0 h in absurd (omega arith)
 
-  pub text_end : (old new line : List ℕ) → TakesLine old new End line → after_text k n stage old ≡ at_end n stage
+  pub text_end : (old new line : List ℕ) → TakesLine old new End line → after_text k n stage old ≡ at_end k n stage
   text_end old new line t =
       let f = end_found (is_text_long old) (has_feed old) (length old == 0) t.kind in
       last_piece old f.0 ∙ none_last old f.1

@@ -36,6 +36,7 @@ pub use Rattle.cmwq_text.specs.HistoryText
 pub use Rattle.cmwq_text.specs.Laws
 pub mod Pieces
 pub mod Files
+pub mod Lines
 pub mod Gives
 pub mod Stages
 pub mod Kinds

@@ -1,30 +1,45 @@
--- A stage of the reader as the definitions see it.
+-- A stage of the reader as the definitions see it. What gathers the items is seen as a shape and a list.
 use Rattle.std.specs.Prelude.{◌≡◌, ℕ, ◌+◌, ◌≤◌, true, List, length, IsTrue}
 use Rattle.std.specs.List.{All}
+use Rattle.cmwq_model.specs.Layout.{Layout}
+use Rattle.cmwq_text.specs.Formats.{line_limit, room_limit}
 use Rattle.cmwq_base.specs.declared.stage.Stage.{Stage as ReaderStage}
 use Rattle.cmwq_base.specs.declared.stage.Stage.TheVariants as reader
 use Rattle.cmwq_base.specs.declared.stage.Contents.{Contents}
-use Rattle.cmwq_base.specs.Files.{File, IsVersion, Kind, Stage, begin, opened, head, body}
+use Rattle.cmwq_base.specs.Files.{File, IsVersion, Kind, Stage, begin, opened, head, body, ended}
 
-abbrev pub stage_of : {X : Type 0} → ReaderStage X → Stage X
-stage_of reader.Begin = begin
-stage_of reader.Opened = opened
-stage_of (reader.Head v counts queues) = head v counts queues.items
-stage_of (reader.Body v shape items) = body v shape items.items
+abbrev pub stage_of : {G X : Type 0} → (G → Layout) → (G → List X) → ReaderStage G → Stage X
+stage_of layout items reader.Begin = begin
+stage_of layout items (reader.Opened v) = opened v
+stage_of layout items (reader.Head v counts queues) = head v counts queues.items
+stage_of layout items (reader.Body v all) = body v (layout all) (items all)
+stage_of layout items (reader.Ended v all) = ended v (layout all) (items all)
 
-abbrev pub contents_of : {X : Type 0} → Contents X → File X
-contents_of c = record { version = c.version; layout = c.shape; items = c.items.items }
+abbrev pub contents_of : {G X : Type 0} → (G → Layout) → (G → List X) → Contents G → File X
+contents_of layout items c = record { version = c.version; layout = layout c.all; items = items c.all }
 
--- how many lines it has taken (in format 2 one more before the shape line), that these are no more than a file may have, that format 2 was said,
--- and that each item fits the shape
+-- at least as many lines as it has taken (a format may be said before the shape line), that these are no more than a file may have, that the
+-- format was said, that a file with a last line is of a format that has one, and that each item fits the shape
 abbrev pub lines_in : {X : Type 0} → Stage X → ℕ
 lines_in begin = 0
-lines_in opened = 1
-lines_in (head v counts queues) = v + length queues
-lines_in (body v s items) = v + length s.queues + length items
+lines_in (opened v) = 1
+lines_in (head v counts queues) = 2 + length queues
+lines_in (body v s items) = 2 + length s.queues + length items
+lines_in (ended v s items) = 3 + length s.queues + length items
+
+-- a first line says this format
+pub record IsSaid {X : Type 0} (k : Kind X) (v : ℕ) : Type 0 where
+  pub low : 2 ≤ v
+  pub high : v ≤ 3
+  pub line : List ℕ
+  pub says : k.says_format v line ≡ true
+
+abbrev pub IsWhole : {X : Type 0} → Kind X → ℕ → Layout → List X → Type 0
+IsWhole k v s items = IsVersion k v × (length s.queues ≤ 64) × (s.room ≤ room_limit v) × (length items ≤ line_limit v) × All (λ x. IsTrue (k.fits_in s x)) items
 
 abbrev pub IsWithin : {X : Type 0} → Kind X → Stage X → Type 0
 IsWithin k begin = Unit {0}
-IsWithin k opened = (line : List ℕ) × (k.says_format line ≡ true)
-IsWithin k (head v counts queues) = IsVersion k v × (length queues ≤ 64)
-IsWithin k (body v s items) = IsVersion k v × (length s.queues ≤ 64) × (length items ≤ 1000000) × All (λ x. IsTrue (k.fits_in s x)) items
+IsWithin k (opened v) = IsSaid k v
+IsWithin k (head v counts queues) = IsVersion k v × (length queues ≤ 64) × (counts.room ≤ room_limit v)
+IsWithin k (body v s items) = IsWhole k v s items
+IsWithin k (ended v s items) = IsTrue (k.needs_end v) × IsWhole k v s items

@@ -4,10 +4,12 @@ ghost use Rattle.std.specs.Prelude.{◌≡◌, ◌≤◌, length, IfSome, IfOk, 
 ghost use Rattle.std.specs.List.{All};
 ghost use Rattle.cmwq_model.specs.Layout.{fits};
 ghost use Rattle.cmwq_model.specs.Verdict.{AllFit};
+ghost use Rattle.cmwq_text.specs.Formats.{old_lines, old_room, line_limit, room_limit};
 ghost use Rattle.cmwq_io.specs.Counts.{Rises};
 ghost use Rattle.cmwq_base.specs.Gives.{Gives};
 ghost use Rattle.cmwq_base.specs.Kinds.{call_file_of, history_file_of};
 
+use crate::gather::Listed;
 use crate::reading::read_file;
 use crate::refusal::Refusal;
 use crate::stage::FileLine;
@@ -20,7 +22,7 @@ impl FileLine for (Who, Call) {
 
     ghost kind = { calls_kind };
 
-    fn says_format(_line: &[u8]) -> bool {
+    fn says_format(_version: u8, _line: &[u8]) -> bool {
         false
     }
 
@@ -29,7 +31,11 @@ impl FileLine for (Who, Call) {
     }
 
     fn read(_version: u8, line: &[u8]) -> Option<Self> {
-        cmwq_text::read_call(line)
+        cmwq_text::read_short_call(line)
+    }
+
+    fn needs_end(_version: u8) -> bool {
+        false
     }
 
     fn fits(&self, shape: &Shape) -> bool {
@@ -43,8 +49,8 @@ impl FileLine for Entry {
 
     ghost kind = { history_kind };
 
-    fn says_format(line: &[u8]) -> bool {
-        cmwq_text::is_version_line(line)
+    fn says_format(version: u8, line: &[u8]) -> bool {
+        cmwq_text::is_version_line(version, line)
     }
 
     fn read_queue(version: u8, line: &[u8]) -> Option<QueueShape> {
@@ -53,6 +59,10 @@ impl FileLine for Entry {
 
     fn read(version: u8, line: &[u8]) -> Option<Self> {
         cmwq_text::read_entry_of_format(version, line)
+    }
+
+    fn needs_end(version: u8) -> bool {
+        cmwq_text::needs_end(version)
     }
 
     fn fits(&self, shape: &Shape) -> bool {
@@ -72,7 +82,7 @@ pub struct CallFile {
 pub struct HistoryFile {
     pub shape: Shape,
     pub entries: Vec<Entry>,
-    /// The format in which it was read, 1 or 2.
+    /// The format in which it was read, 1, 2 or 3.
     pub version: u8,
 }
 
@@ -85,35 +95,37 @@ ghost use Rattle.cmwq_base.specs.Views.{calls_in, history_in};
 /// The first refusal in the order of the bytes; `ReadFault` where the source fails, `NoMemory` where memory runs out.
 pub fn read_calls<S: Source>(alloc: Global, source: &mut S) -> Result<CallFile, Refusal>
     ensures exact { IfSome (S.left source.old) (λ text. Gives calls_in result (call_file_of text)) }
-    ensures few { IfOk result (λ file. length file.calls.items ≤ 1000000) }
+    ensures room { IfOk result (λ file. file.shape.room ≤ old_room) }
+    ensures few { IfOk result (λ file. length file.calls.items ≤ old_lines) }
     ensures fitting { IfOk result (λ file. All (λ x. IsTrue (fits file.shape x.0 x.1)) file.calls.items) }
     ensures fault { IsErrOf result Refusal.ReadFault → Rises (S.troubles source.old) (S.troubles source.new) }
     ensures nothing_written { IsErrOf result Refusal.WriteFault → ⊥ }
 {
-    let file = read_file::<(Who, Call), S>(alloc, source)?;
+    let file = read_file::<Listed<(Who, Call)>, S>(alloc, source, false)?;
     Ok(CallFile {
-        shape: file.shape,
-        calls: file.items,
+        shape: file.all.shape,
+        calls: file.all.items,
     })
 }
 
-/// Reads a history of format 1 or 2 to the end of the source, as `read_calls` does. Format 2 is that of a history
-/// whose first line is `history 2`. Any reply may follow any call.
+/// Reads a history to the end of the source, as `read_calls` does. Format 2 is that of a history whose first line is `history 2`,
+/// and 3 that of one with `history 3`, whose last line says how many entries stand before it. Any reply may follow any call.
 ///
 /// # Errors
 /// As those of `read_calls`.
 pub fn read_history<S: Source>(alloc: Global, source: &mut S) -> Result<HistoryFile, Refusal>
     ensures exact { IfSome (S.left source.old) (λ text. Gives history_in result (history_file_of text)) }
-    ensures version { IfOk result (λ file. (1 ≤ file.version) × (file.version ≤ 2)) }
-    ensures few { IfOk result (λ file. length file.entries.items ≤ 1000000) }
+    ensures version { IfOk result (λ file. (1 ≤ file.version) × (file.version ≤ 3)) }
+    ensures room { IfOk result (λ file. file.shape.room ≤ room_limit file.version) }
+    ensures few { IfOk result (λ file. length file.entries.items ≤ line_limit file.version) }
     ensures fitting { IfOk result (λ file. AllFit file.shape file.entries.items) }
     ensures fault { IsErrOf result Refusal.ReadFault → Rises (S.troubles source.old) (S.troubles source.new) }
     ensures nothing_written { IsErrOf result Refusal.WriteFault → ⊥ }
 {
-    let file = read_file::<Entry, S>(alloc, source)?;
+    let file = read_file::<Listed<Entry>, S>(alloc, source, false)?;
     Ok(HistoryFile {
-        shape: file.shape,
-        entries: file.items,
+        shape: file.all.shape,
+        entries: file.all.items,
         version: file.version,
     })
 }

@@ -1,9 +1,19 @@
 //! What the texts of whole files keep, over every value.
-ghost use Rattle.cmwq_base.specs.FileLaws.{HistoriesHaveOneText, HistoriesAreOfTheirFormat, HistoriesReadAgain, OldHistoriesReadAgain, CallFilesReadAgain};
+ghost use Rattle.cmwq_base.specs.FileLaws.{CallFilesSpelledSo, FrontsAreWholeLines, HistoriesHaveOneText, HistoriesAreOfTheirFormat, HistoriesReadAgain, OldHistoriesReadAgain, CallFilesReadAgain};
 
 /// A history and its shape have one text in each format: what is read of a file is spelled so.
 pub fn histories_have_one_text()
     ensures { HistoriesHaveOneText }
+{}
+
+/// What is read of a file of calls is spelled so, but for each max_active that is taken as another one.
+pub fn call_files_spelled_so()
+    ensures { CallFilesSpelledSo }
+{}
+
+/// A front is read as its whole lines are with the last line that they lack.
+pub fn fronts_are_whole_lines()
+    ensures { FrontsAreWholeLines }
 {}
 
 /// What is read of a history has nothing that its format doesn't have.

@@ -2,6 +2,7 @@
 #![tactic(auto)]
 
 mod files;
+mod gather;
 mod laws;
 mod reading;
 mod refusal;
@@ -18,9 +19,13 @@ pub use cmwq_model::{
 };
 pub use cmwq_text::{entry_fits, reply_fits};
 pub use files::{CallFile, HistoryFile, read_calls, read_history};
+pub use gather::{Gather, Listed};
 pub use laws::{
-    call_files_read_again, histories_are_of_their_format, histories_have_one_text,
-    histories_read_again, old_histories_read_again,
+    call_files_read_again, call_files_spelled_so, fronts_are_whole_lines,
+    histories_are_of_their_format, histories_have_one_text, histories_read_again,
+    old_histories_read_again,
 };
+pub use reading::read_file;
 pub use refusal::Refusal;
-pub use writing::{write_entry, write_shape};
+pub use stage::{Contents, FileLine};
+pub use writing::{write_end, write_entry, write_shape};

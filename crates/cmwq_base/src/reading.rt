@@ -2,27 +2,31 @@
 
 ghost use Rattle.std.specs.Prelude.{◌≡◌, IfSome, IfOk, IsErrOf};
 ghost use Rattle.cmwq_io.specs.Counts.{Rises};
-ghost use Rattle.cmwq_base.specs.Files.{file_of, IsVersion, IsSound};
+ghost use Rattle.cmwq_base.specs.Files.{as_front, file_of, IsVersion, IsSound};
 ghost use Rattle.cmwq_base.specs.Gives.{Gives};
 ghost use Rattle.cmwq_base.specs.Stages.{contents_of};
 
+use crate::gather::Gather;
 use crate::refusal::Refusal;
-use crate::stage::{Contents, FileLine, Stage};
+use crate::stage::{Contents, Stage};
 use cmwq_io::{Found, Line, Lines, Source};
 use std::alloc::Global;
 
-/// One more than the lines that a file may have: the one that says its format, its shape line, 64 queues and 1,000,000
-/// others.
-const TOO_MANY_LINES: u32 = 1_000_067;
+/// One more than the lines that a file may have: the one that says its format, its shape line, 64 queues, as many others as
+/// any format allows, and the last line.
+const TOO_MANY_LINES: u64 = 4_611_686_018_427_377_972;
 
-/// Reads a file of lines of this kind, to the end of the source.
-pub fn read_file<T: FileLine + Drop, S: Source>(
+/// Reads a file of lines of this kind, to the end of the source, and hands on what each line says. Beside what gathers that it
+/// takes memory for one line and for what is read ahead. Where `is_front` says that more was to be written behind what is there, a rest
+/// without a line feed is left out, and the last line of the format may be missing; else these are refused.
+pub fn read_file<G: Gather + Drop, S: Source>(
     alloc: Global,
     source: &mut S,
-) -> Result<Contents<T>, Refusal>
-    ensures exact { IfSome (S.left source.old) (λ text. Gives contents_of result (file_of T.kind text)) }
-    ensures version { IfOk result (λ file. IsVersion T.kind file.version) }
-    ensures sound { IfOk result (λ file. IsSound T.kind (contents_of file)) }
+    is_front: bool,
+) -> Result<Contents<G>, Refusal>
+    ensures exact { IfSome (S.left source.old) (λ text. Gives (contents_of G.layout G.items) result (file_of (as_front is_front G.Item.kind) text)) }
+    ensures version { IfOk result (λ file. IsVersion G.Item.kind file.version) }
+    ensures sound { IfOk result (λ file. IsSound G.Item.kind (contents_of G.layout G.items file)) }
     ensures fault { IsErrOf result Refusal.ReadFault → Rises (S.troubles source.old) (S.troubles source.new) }
     ensures nothing_written { IsErrOf result Refusal.WriteFault → ⊥ }
 {
@@ -33,8 +37,11 @@ pub fn read_file<T: FileLine + Drop, S: Source>(
         match lines.next_line(source, &mut line)? {
             Found::Whole => stage = stage.take(alloc, number, line.as_slice())?,
             Found::Long => return Err(Refusal::TooLong),
+            Found::Cut if stage.leaves_cut(is_front) => {
+                return stage.finish(alloc, number, is_front);
+            }
             Found::Cut => return Err(stage.cut(number)),
-            Found::End => return stage.finish(alloc, number),
+            Found::End => return stage.finish(alloc, number, is_front),
         }
     }
     Err(Refusal::TooLong)

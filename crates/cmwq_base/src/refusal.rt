@@ -15,14 +15,14 @@ pub enum Refusal {
     NoMemory,
     /// This line is not one of the format, or the last one has no line feed.
     #[error("line {0}: not a line of this format")]
-    BadLine(u32),
+    BadLine(u64),
     /// This line of the shape is malformed or missing, or passes a limit.
     #[error("line {0}: bad shape")]
-    BadShape(u32),
+    BadShape(u64),
     /// This line names an item, a queue, a CPU, a caller or a worker that the shape doesn't have.
     #[error("line {0}: no such number")]
-    NoSuchId(u32),
-    /// A line has more than 120 bytes, or there are more than 1,000,000 lines after the queues.
+    NoSuchId(u64),
+    /// A line has more than 120 bytes, or there are more lines after the queues than the format allows.
     #[error("input too long")]
     TooLong,
     /// The source failed.

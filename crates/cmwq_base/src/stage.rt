@@ -1,21 +1,19 @@
 //! How far a file has been read, and what each of its lines adds.
 
-ghost use Rattle.std.specs.Prelude.{◌≡◌};
-ghost use Rattle.cmwq_text.specs.ShapeText.{counts_of};
-ghost use Rattle.cmwq_base.specs.Files.{shape_made, begun as begun_by, first_line as first_line_by, queue_line, item_line, first_item as first_item_by, after_head as after_head_by};
+ghost use Rattle.std.specs.Prelude.{◌≡◌, ◌&&◌, not};
+ghost use Rattle.cmwq_text.specs.Formats.{counts_of_format};
+ghost use Rattle.cmwq_base.specs.Files.{shape_made, begun as begun_by, first_line as first_line_by, queue_line, item_line, end_in as end_in_by, body_line, first_item as first_item_by, after_head as after_head_by};
 
+use crate::gather::Gather;
 use crate::refusal::Refusal;
 use cmwq_model::{Counts, QueueShape, Shape};
-use cmwq_text::{begins_queue, read_counts};
+use cmwq_text::{begins_queue, line_limit, read_counts_of_format, read_end};
 use std::alloc::Global;
 
 /// The greatest number of queues.
 const QUEUE_LIMIT: usize = 64;
 
-/// The greatest number of lines after the queues.
-const LINE_LIMIT: usize = 1_000_000;
-
-/// What the lines of a kind of file say, in its format 1 or 2.
+/// What the lines of a kind of file say, by its format, which is 1, 2 or 3.
 pub trait FileLine: Sized {
     ghost use Rattle.cmwq_model.specs.Layout.{Layout};
     ghost use Rattle.cmwq_base.specs.Files.{Kind};
@@ -23,9 +21,9 @@ pub trait FileLine: Sized {
     /// How the lines are read.
     ghost kind: { Kind Self };
 
-    /// Whether a first line says that the format is 2.
-    fn says_format(line: &[u8]) -> bool
-        ensures { result ≡ kind.says_format line.now };
+    /// Whether a first line says that the format is this one.
+    fn says_format(version: u8, line: &[u8]) -> bool
+        ensures { result ≡ kind.says_format version line.now };
 
     /// The queue of a queue's line.
     fn read_queue(version: u8, line: &[u8]) -> Option<QueueShape>
@@ -35,6 +33,10 @@ pub trait FileLine: Sized {
     fn read(version: u8, line: &[u8]) -> Option<Self>
         ensures { result ≡ kind.item_of version line.now };
 
+    /// Whether the format has a last line, which says how many of these lines stand before it.
+    fn needs_end(version: u8) -> bool
+        ensures { result ≡ kind.needs_end version };
+
     /// Whether its numbers are inside the shape.
     fn fits(&self, shape: &Shape) -> bool
         ensures { result ≡ kind.fits_in shape.now self.now };
@@ -42,11 +44,13 @@ pub trait FileLine: Sized {
 
 /// How far a file has been read.
 #[derive(Drop)]
-pub enum Stage<T> {
+pub enum Stage<G> {
     /// The first line comes next: the one that says the format, or the shape line.
     Begin,
-    /// The format is 2, and the shape line comes next.
-    Opened,
+    /// This is the format, and the shape line comes next.
+    Opened {
+        version: u8,
+    },
     /// The shape line, and the queues so far.
     Head {
         version: u8,
@@ -56,105 +60,118 @@ pub enum Stage<T> {
     /// The shape, and what the lines behind it say.
     Body {
         version: u8,
-        shape: Shape,
-        items: Vec<T>,
+        all: G,
+    },
+    /// The same, with the last line.
+    Ended {
+        version: u8,
+        all: G,
     },
 }
 
-impl<T: FileLine + Drop> Stage<T> {
-    ghost use Rattle.cmwq_base.specs.Files.{after_line, after_cut, at_end};
+impl<G: Gather + Drop> Stage<G> {
+    ghost use Rattle.cmwq_base.specs.Files.{as_front, after_line, after_cut, is_ended, at_end};
     ghost use Rattle.cmwq_base.specs.Gives.{Makes};
     ghost use Rattle.cmwq_base.specs.Stages.{stage_of, contents_of};
 
     /// Takes one whole line, without its line feed, the `number`-th of the file.
     #[tactic(auto, unfolding(crate::specs::Files::after_line))]
-    pub fn take(self, alloc: Global, number: u32, line: &[u8]) -> Result<Stage<T>, Refusal>
-        ensures { Makes stage_of result (after_line T.kind number (stage_of self) line.now) }
+    pub fn take(self, alloc: Global, number: u64, line: &[u8]) -> Result<Stage<G>, Refusal>
+        ensures { Makes (stage_of G.layout G.items) result (after_line G.Item.kind number (stage_of G.layout G.items self) line.now) }
     {
         match self {
             Stage::Begin => first_line(alloc, number, line),
-            Stage::Opened => begun(alloc, number, 2, line),
+            Stage::Opened { version } => begun(alloc, number, version, line),
             Stage::Head {
                 version,
                 counts,
                 queues,
             } => after_head(alloc, number, version, counts, queues, line),
-            Stage::Body {
-                version,
-                shape,
-                items,
-            } => with_item(number, version, shape, items, line),
+            Stage::Body { version, all } => with_line(number, version, all, line),
+            Stage::Ended { .. } => Err(Refusal::BadLine(number)),
         }
+    }
+
+    /// Whether a rest without a line feed is left out here: of a front, but not behind the last line.
+    pub fn leaves_cut(&self, is_front: bool) -> bool
+        ensures { result ≡ (is_front && not (is_ended (stage_of G.layout G.items self.now))) }
+    {
+        is_front && !matches!(self, Stage::Ended { .. })
     }
 
     /// Why a last line without its line feed is refused, the `number`-th of the file.
     #[tactic(auto, unfolding(crate::specs::Files::after_cut))]
-    pub fn cut(&self, number: u32) -> Refusal
-        ensures { result ≡ after_cut number (stage_of self.now) }
+    pub fn cut(&self, number: u64) -> Refusal
+        ensures { result ≡ after_cut number (stage_of G.layout G.items self.now) }
     {
         match self {
-            Stage::Body { items, .. } if items.len() >= LINE_LIMIT => Refusal::TooLong,
+            Stage::Body { version, all } if all.len() >= line_limit(*version) => Refusal::TooLong,
             _ => Refusal::BadLine(number),
         }
     }
 
-    /// The end of the file, where its `number`-th line would be.
+    /// The end of the file, where its `number`-th line would be. A last line that is missing is refused there, but in a front.
     #[tactic(auto, unfolding(crate::specs::Files::at_end))]
-    pub fn finish(self, alloc: Global, number: u32) -> Result<Contents<T>, Refusal>
-        ensures { Makes contents_of result (at_end number (stage_of self)) }
+    pub fn finish(self, alloc: Global, number: u64, is_front: bool) -> Result<Contents<G>, Refusal>
+        ensures { Makes (contents_of G.layout G.items) result (at_end (as_front is_front G.Item.kind) number (stage_of G.layout G.items self)) }
     {
         match self {
-            Stage::Begin | Stage::Opened => Err(Refusal::BadShape(number)),
+            Stage::Begin | Stage::Opened { .. } => Err(Refusal::BadShape(number)),
             Stage::Head {
                 version,
                 counts,
                 queues,
             } => match shape_of(counts, queues) {
+                Some(_) if lacks_end::<G::Item>(version, is_front) => {
+                    Err(Refusal::BadLine(number))
+                }
                 Some(shape) => Ok(Contents {
                     version,
-                    shape,
-                    items: Vec::new(alloc),
+                    all: G::begin(alloc, shape)?,
                 }),
                 None => Err(Refusal::BadShape(number)),
             },
-            Stage::Body {
-                version,
-                shape,
-                items,
-            } => Ok(Contents {
-                version,
-                shape,
-                items,
-            }),
+            Stage::Body { version, .. } if lacks_end::<G::Item>(version, is_front) => {
+                Err(Refusal::BadLine(number))
+            }
+            Stage::Body { version, all } | Stage::Ended { version, all } => {
+                Ok(Contents { version, all })
+            }
         }
     }
 }
 
-/// What a file says: its format, its shape, and what the lines behind it say.
+/// What a file says: its format, and what was gathered of its shape and of what the lines behind it say.
 #[derive(Drop)]
-pub struct Contents<T> {
+pub struct Contents<G> {
     pub version: u8,
-    pub shape: Shape,
-    pub items: Vec<T>,
+    pub all: G,
 }
 
 ghost use Rattle.cmwq_base.specs.Gives.{Makes};
 ghost use Rattle.cmwq_base.specs.Stages.{stage_of};
 
-fn first_line<T: FileLine>(alloc: Global, number: u32, line: &[u8]) -> Result<Stage<T>, Refusal>
-    ensures { Makes stage_of result (first_line_by T.kind number line.now) }
+fn first_line<G: Gather>(alloc: Global, number: u64, line: &[u8]) -> Result<Stage<G>, Refusal>
+    ensures { Makes (stage_of G.layout G.items) result (first_line_by G.Item.kind number line.now) }
 {
-    if T::says_format(line) {
-        Ok(Stage::Opened)
+    if G::Item::says_format(2, line) {
+        Ok(Stage::Opened { version: 2 })
+    } else if G::Item::says_format(3, line) {
+        Ok(Stage::Opened { version: 3 })
     } else {
         begun(alloc, number, 1, line)
     }
 }
 
-fn begun<T>(alloc: Global, number: u32, version: u8, line: &[u8]) -> Result<Stage<T>, Refusal>
-    ensures { Makes stage_of result (begun_by number version (counts_of line.now)) }
+fn begun<G: Gather>(
+    alloc: Global,
+    number: u64,
+    version: u8,
+    line: &[u8],
+) -> Result<Stage<G>, Refusal>
+    ensures { Makes (stage_of G.layout G.items) result (begun_by number version (counts_of_format version line.now)) }
 {
-    match read_counts(line) {
+    match read_counts_of_format(version, line) {
         Some(counts) => Ok(Stage::Head {
             version,
             counts,
@@ -164,19 +181,19 @@ fn begun<T>(alloc: Global, number: u32, version: u8, line: &[u8]) -> Result<Stag
     }
 }
 
-fn with_queue<T: FileLine>(
-    number: u32,
+fn with_queue<G: Gather>(
+    number: u64,
     version: u8,
     counts: Counts,
     mut queues: Vec<QueueShape>,
     line: &[u8],
-) -> Result<Stage<T>, Refusal>
-    ensures { Makes stage_of result (queue_line T.kind number version counts queues.items line.now) }
+) -> Result<Stage<G>, Refusal>
+    ensures { Makes (stage_of G.layout G.items) result (queue_line G.Item.kind number version counts queues.items line.now) }
 {
     if queues.len() >= QUEUE_LIMIT {
         return Err(Refusal::BadShape(number));
     }
-    match T::read_queue(version, line) {
+    match G::Item::read_queue(version, line) {
         Some(queue) => {
             queues.push(queue)?;
             Ok(Stage::Head {
@@ -190,44 +207,73 @@ fn with_queue<T: FileLine>(
 }
 
 #[tactic(auto, unfolding(crate::specs::Files::item_line))]
-fn with_item<T: FileLine + Drop>(
-    number: u32,
+fn with_item<G: Gather + Drop>(
+    number: u64,
     version: u8,
-    shape: Shape,
-    mut items: Vec<T>,
+    mut all: G,
     line: &[u8],
-) -> Result<Stage<T>, Refusal>
-    ensures { Makes stage_of result (item_line T.kind number version shape items.items line.now) }
+) -> Result<Stage<G>, Refusal>
+    ensures { Makes (stage_of G.layout G.items) result (item_line G.Item.kind number version (G.layout all) (G.items all) line.now) }
 {
-    if items.len() >= LINE_LIMIT {
+    if all.len() >= line_limit(version) {
         return Err(Refusal::TooLong);
     }
-    match T::read(version, line) {
-        Some(item) if item.fits(&shape) => {
-            items.push(item)?;
-            Ok(Stage::Body {
-                version,
-                shape,
-                items,
-            })
+    match G::Item::read(version, line) {
+        Some(item) if item.fits(all.shape()) => {
+            all.take(item)?;
+            Ok(Stage::Body { version, all })
         }
         Some(_) => Err(Refusal::NoSuchId(number)),
         None => Err(Refusal::BadLine(number)),
     }
 }
 
-fn first_item<T: FileLine + Drop>(
+/// Whether a file of this format that ends without its last line is refused.
+fn lacks_end<T: FileLine>(version: u8, is_front: bool) -> bool
+    ensures { result ≡ (T.kind.needs_end version && not is_front) }
+{
+    T::needs_end(version) && !is_front
+}
+
+/// How many lines the last line says that stand before it, of a line that is one in this format.
+fn end_in<T: FileLine>(version: u8, line: &[u8]) -> Option<u64>
+    ensures { result ≡ end_in_by T.kind version line.now }
+{
+    if T::needs_end(version) {
+        read_end(line)
+    } else {
+        None
+    }
+}
+
+#[tactic(auto, unfolding(crate::specs::Files::body_line))]
+fn with_line<G: Gather + Drop>(
+    number: u64,
+    version: u8,
+    all: G,
+    line: &[u8],
+) -> Result<Stage<G>, Refusal>
+    ensures { Makes (stage_of G.layout G.items) result (body_line G.Item.kind number version (G.layout all) (G.items all) line.now) }
+{
+    match end_in::<G::Item>(version, line) {
+        Some(entries) if entries == all.len() => Ok(Stage::Ended { version, all }),
+        Some(_) => Err(Refusal::BadLine(number)),
+        None => with_item(number, version, all, line),
+    }
+}
+
+fn first_item<G: Gather + Drop>(
     alloc: Global,
-    number: u32,
+    number: u64,
     version: u8,
     counts: Counts,
     queues: Vec<QueueShape>,
     line: &[u8],
-) -> Result<Stage<T>, Refusal>
-    ensures { Makes stage_of result (first_item_by T.kind number version (shape_made counts queues.items) line.now) }
+) -> Result<Stage<G>, Refusal>
+    ensures { Makes (stage_of G.layout G.items) result (first_item_by G.Item.kind number version (shape_made counts queues.items) line.now) }
 {
     match shape_of(counts, queues) {
-        Some(shape) => with_item(number, version, shape, Vec::new(alloc), line),
+        Some(shape) => with_line(number, version, G::begin(alloc, shape)?, line),
         None => Err(Refusal::BadShape(number)),
     }
 }
@@ -240,15 +286,15 @@ fn shape_of(counts: Counts, queues: Vec<QueueShape>) -> Option<Shape>
 }
 
 #[tactic(auto, unfolding(crate::specs::Files::after_head))]
-fn after_head<T: FileLine + Drop>(
+fn after_head<G: Gather + Drop>(
     alloc: Global,
-    number: u32,
+    number: u64,
     version: u8,
     counts: Counts,
     queues: Vec<QueueShape>,
     line: &[u8],
-) -> Result<Stage<T>, Refusal>
-    ensures { Makes stage_of result (after_head_by T.kind number version counts queues.items line.now) }
+) -> Result<Stage<G>, Refusal>
+    ensures { Makes (stage_of G.layout G.items) result (after_head_by G.Item.kind number version counts queues.items line.now) }
 {
     if begins_queue(line) {
         with_queue(number, version, counts, queues, line)

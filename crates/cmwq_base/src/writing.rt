@@ -5,13 +5,13 @@ ghost use Rattle.std.specs.Io.KnownBytes.{Appends};
 ghost use Rattle.cmwq_io.specs.Counts.{Rises};
 ghost use Rattle.cmwq_io.specs.Moves.{AppendsFront};
 ghost use Rattle.cmwq_text.specs.EntryText.{entry_text};
-ghost use Rattle.cmwq_text.specs.HistoryText.{head_text};
+ghost use Rattle.cmwq_text.specs.HistoryText.{head_text, last_text};
 ghost use Rattle.cmwq_text.specs.ShapeText.{queue_text};
 
 use crate::refusal::Refusal;
 use cmwq_io::{Sink, WriteFault, write_all};
 use cmwq_model::{Entry, QueueShape, Shape};
-use cmwq_text::{counts_line, entry_line, queue_line, version_line};
+use cmwq_text::{counts_line, end_line, entry_line, needs_end, queue_line, version_line};
 
 /// Writes the line of an entry. Takes no memory.
 ///
@@ -28,21 +28,39 @@ pub fn write_entry<W: Sink>(sink: &mut W, entry: &Entry) -> Result<(), Refusal>
     Ok(())
 }
 
-/// Writes the head of a history: the line `history 2`, which says its format, the shape line and a line for each queue.
+/// Writes the head of a history of format 2 or 3: the line that says its format, the shape line and a line for each queue.
 /// Takes no memory.
 ///
 /// # Errors
 /// `WriteFault` where the sink fails; a front of the lines has been written then.
-pub fn write_shape<W: Sink>(sink: &mut W, shape: &Shape) -> Result<(), Refusal>
-    ensures ok { OnOk result (Appends (W.written sink.old) (W.written sink.new) (head_text 2 shape.now)) }
-    ensures err { OnErr result (AppendsFront (W.written sink.old) (W.written sink.new) (head_text 2 shape.now)) }
+pub fn write_shape<W: Sink>(sink: &mut W, version: u8, shape: &Shape) -> Result<(), Refusal>
+    requires { 2 ≤ version }
+    ensures ok { OnOk result (Appends (W.written sink.old) (W.written sink.new) (head_text version shape.now)) }
+    ensures err { OnErr result (AppendsFront (W.written sink.old) (W.written sink.new) (head_text version shape.now)) }
     ensures only { IfErr result (λ e. e ≡ Refusal.WriteFault) }
     ensures grown { W.troubles sink.old ≤ W.troubles sink.new }
     ensures fault { OnErr result (Rises (W.troubles sink.old) (W.troubles sink.new)) }
 {
-    write_all(sink, version_line().as_bytes())?;
+    write_all(sink, version_line(version).as_bytes())?;
     write_all(sink, counts_line(&shape.counts()).as_bytes())?;
     write_queues(sink, shape.queues())?;
+    Ok(())
+}
+
+/// Writes the last line of a history of this format with so many entries, and of a format without one nothing. Takes no memory.
+///
+/// # Errors
+/// `WriteFault` where the sink fails; a front of the line has been written then.
+pub fn write_end<W: Sink>(sink: &mut W, version: u8, entries: u64) -> Result<(), Refusal>
+    ensures ok { OnOk result (Appends (W.written sink.old) (W.written sink.new) (last_text version entries)) }
+    ensures err { OnErr result (AppendsFront (W.written sink.old) (W.written sink.new) (last_text version entries)) }
+    ensures only { IfErr result (λ e. e ≡ Refusal.WriteFault) }
+    ensures grown { W.troubles sink.old ≤ W.troubles sink.new }
+    ensures fault { OnErr result (Rises (W.troubles sink.old) (W.troubles sink.new)) }
+{
+    if needs_end(version) {
+        write_all(sink, end_line(entries).as_bytes())?;
+    }
     Ok(())
 }
 

@@ -1,10 +1,15 @@
 -- A history that is judged from its first entry on.
-use Rattle.std.proofs.Common.{◌≡◌, ◌+◌, ◌<◌, ℕ, List, [], ◌∷◌, length, take, drop, get_or, reverse, sym, ap, ap₂, ◌∙◌, subst, arith, add-one}
+use Rattle.std.proofs.Common.{◌≡◌, ◌+◌, ◌*◌, ◌^◌, ◌<◌, ◌≤◌, ℕ, true, refl, List, [], ◌∷◌, length, take, drop, get_or, reverse, sym, ap, ap₂, ◌∙◌, subst, arith, add-one}
 use Rattle.std.proofs.Math.Seq.{split_at}
 use Rattle.std.proofs.lemmas.List.{take_more, reverse-append, length-take-le}
 use Rattle.cmwq_model.specs.declared.entry.Entry.{Entry}
 use Rattle.cmwq_model.specs.declared.verdict.Wanted.{Wanted}
+use Rattle.cmwq_model.specs.declared.call.Call.{Call}
+use Rattle.cmwq_model.specs.declared.call.Call.TheVariants as call
 use Rattle.cmwq_model.specs.Layout.{Layout}
+use Rattle.cmwq_model.specs.Calls.{now, ticks_told}
+use Rattle.cmwq_model.specs.Room.{has_time, most_time}
+use Rattle.std.proofs.lemmas.Bool.{le-leb}
 use Rattle.cmwq_model.specs.Legal.{IsLegal, past_of, entry_for}
 use Rattle.cmwq_model.specs.Verdict.{AllFit, Wants, IsFirstWrong}
 use Rattle.cmwq_core.specs.History.{History, next_entry, with_entry}
@@ -17,11 +22,17 @@ book_at s entries k = record { layout = s; room = length entries + 10000; entrie
 pub record AreJudged (s : Layout) (entries : List Entry) (k : ℕ) (b : History) : Type 0 where
   pub legal : IsLegal s (past_of (take k entries))
   pub book : b ≡ book_at s entries k
+  pub soon : now (past_of (take k entries)) ≤ k * 2 ^ 32
+
+-- so that each tick of a history of a million entries has time
+pub time_for : (past : List Entry) (c : Call) (k : ℕ) → now past ≤ k * 2 ^ 32 → k < 1073741824 → ticks_told c < 2 ^ 32 → has_time past c ≡ true
+time_for past (call.Tick t) k soon few less = le-leb (now past + t) most_time (omega arith)
+time_for past c k soon few less = refl
 
 -- before the first
 pub judged_none : (entries : List Entry) (b : History) → b.room ≡ length entries + 10000 → b.entries ≡ [] → AreJudged b.layout entries 0 b
-unfolding IsLegal
-judged_none entries b room fresh = record { legal = tt; book = ap₂ (λ (n : ℕ) (es : List Entry). let made : History = record { layout = b.layout; room = n; entries = es } in made) room fresh }
+unfolding IsLegal now
+judged_none entries b room fresh = record { legal = tt; soon = omega arith; book = ap₂ (λ (n : ℕ) (es : List Entry). let made : History = record { layout = b.layout; room = n; entries = es } in made) room fresh }
 
 module _ (s : Layout) (entries : List Entry) (k : ℕ) (d : Entry) where
   past_more : k < length entries → past_of (take (k + 1) entries) ≡ get_or entries k d ∷ past_of (take k entries)
@@ -36,11 +47,18 @@ module _ (s : Layout) (entries : List Entry) (k : ℕ) (d : Entry) where
   book_more : k < length entries → with_entry (book_at s entries k) (get_or entries k d) ≡ book_at s entries (k + 1)
   book_more h = ap (λ (es : List Entry). let b : History = record { layout = s; room = length entries + 10000; entries = es } in b) (sym (take_more entries k d h))
 
+  -- and the time is short
+  soon_more : k < length entries → now (past_of (take k entries)) ≤ k * 2 ^ 32 → ticks_told (get_or entries k d).call < 2 ^ 32 → now (past_of (take (k + 1) entries)) ≤ (k + 1) * 2 ^ 32
+  unfolding now
+  soon_more h soon few = rw (past_more h) (omega arith)
+
   pub judged_more : (b : History) → k < length entries → AllFit s entries → AreJudged s entries k b
-      → get_or entries k d ≡ next_entry b (get_or entries k d).who (get_or entries k d).call → AreJudged s entries (k + 1) (with_entry b (get_or entries k d))
-  judged_more b h fit are right = record {
+      → get_or entries k d ≡ next_entry b (get_or entries k d).who (get_or entries k d).call → ticks_told (get_or entries k d).call < 2 ^ 32
+      → AreJudged s entries (k + 1) (with_entry b (get_or entries k d))
+  judged_more b h fit are right few = record {
     legal = legal_more h fit are.legal (rw are.book at right);
     book = rw are.book (book_more h);
+    soon = soon_more h are.soon few;
   }
 
   -- an entry after a legal history that isn't right is the first that is wrong

@@ -4,3 +4,4 @@ pub mod Plans
 pub mod Relied
 pub mod Book
 pub mod Effects
+pub mod Judged

@@ -11,60 +11,60 @@ ghost use Rattle.cmwq_core.specs.History.{past_in, next_entry, takes, with_entry
 ghost use Rattle.cmwq_core.specs.Plans.{IsPlan};
 ghost use Rattle.cmwq_core.specs.Relied.{IsReliable};
 
-use crate::effects::{effect, next_entry as foretold};
-use crate::marks::{bits_of, mark};
+use crate::course::{Course, Full};
 use crate::plan::Plan;
 use cmwq_model::{Call, Entry, ItemId, Mark, NoMemory, Number, Reply, Shape, Who};
-use cmwq_state::State;
 use std::alloc::Global;
 use std::marker::Model;
 
-/// There is no room for the entry and for what would be owed then.
-#[derive(Clone, Copy, Debug, PartialEq, Eq)]
-pub struct Full;
-
-/// The runtime of one thread: its history, and the parts that answer without looking back.
+/// The runtime of one thread that keeps its whole history.
 #[derive(Drop)]
 pub struct Book {
-    state: State,
+    course: Course,
+    entries: Vec<Entry>,
 }
 
 impl Model for Book {
+    ghost use Rattle.std.specs.Prelude.{◌≡◌, ◌≤◌};
+    ghost use Rattle.std.specs.Vec.{vec_capacity};
     ghost use Rattle.cmwq_core.specs.History.{History};
 
     ghost Value = { History };
 
-    ghost view = { λ b. b.state };
+    ghost view = { λ b. b.course };
+
+    ghost invariant = { λ b. (b.entries.items ≡ b.course.entries) × (b.course.room ≤ vec_capacity b.entries) × (b.course.room ≤ 1010000) };
 }
 
 impl Book {
     /// A book with no entries. No later call takes memory; the error says that it ran out.
-    pub fn new(alloc: Global, shape: &Shape, room: u32) -> Result<Book, NoMemory>
+    pub fn new(alloc: Global, shape: &Shape, room: u64) -> Result<Book, NoMemory>
         requires { room ≤ 1010000 }
         ensures { IfOk result (λ book. book ≡ record { layout = shape.now; room = room; entries = [] }) }
     {
         Ok(Book {
-            state: State::new(alloc, shape, room)?,
+            course: Course::new(alloc, shape, room)?,
+            entries: Vec::with_capacity(alloc, room as usize)?,
         })
     }
 
     /// How many entries there are.
-    pub fn len(&self) -> u32
+    pub fn len(&self) -> u64
         ensures len { result ≡ length self.now.entries }
         ensures within { length self.now.entries ≤ self.now.room }
         ensures needed { needed self.now.layout (past_in self.now) ≤ self.now.room }
         ensures few { self.now.room ≤ 1010000 }
         ensures legal { IsLegal self.now.layout (past_in self.now) }
     {
-        self.state.len()
+        self.course.len()
     }
 
     /// The serial of the next entry of this caller or worker: how many entries it has.
-    pub fn serial(&self, who: Who) -> u32
+    pub fn serial(&self, who: Who) -> u64
         requires { tables.IsThere self.now.layout who }
         ensures { result ≡ calls.serial_of (past_in self.now) who }
     {
-        self.state.serial(who)
+        self.course.serial(who)
     }
 
     /// What the call would be answered, whether or not there is room for it.
@@ -72,7 +72,7 @@ impl Book {
         requires { IsTrue (fits self.now.layout who call) }
         ensures { result ≡ (next_entry self.now who call).reply }
     {
-        foretold(&self.state, who, call).reply
+        self.course.reply(who, call)
     }
 
     /// The entry that a step of this call would append, found with all that it does, so that `carry` needn't find it again.
@@ -84,13 +84,7 @@ impl Book {
         ensures room { is_ok result ≡ takes self.now who call }
         ensures plan { IfOk result (λ plan. IsPlan self.now who call plan) }
     {
-        let effect = effect(&self.state, who, call);
-        if self.state.has_room(effect.owing) {
-            let mark = mark(&self.state, effect);
-            Ok(Plan { effect, mark })
-        } else {
-            Err(Full)
-        }
+        self.course.plan(who, call)
     }
 
     /// Makes the entry that was planned, and answers its reply. The book is still the one that planned it.
@@ -99,8 +93,10 @@ impl Book {
         ensures reply { result ≡ plan.now.mark.entry.reply }
         ensures entry { self.new ≡ with_entry self.old plan.now.mark.entry }
     {
-        self.state.append(plan.effect);
-        plan.effect.entry.reply
+        let _within = self.course.len();
+        let reply = self.course.carry(plan);
+        self.entries.push_reserved(plan.mark.entry);
+        reply
     }
 
     /// What a step of this call would append, with the bits of the item that it can change.
@@ -112,10 +108,7 @@ impl Book {
         ensures room { is_ok result ≡ takes self.now who call }
         ensures mark { IfOk result (λ mark. IsMark self.now who call mark) }
     {
-        match self.plan(who, call) {
-            Ok(plan) => Ok(plan.mark),
-            Err(Full) => Err(Full),
-        }
+        self.course.would(who, call)
     }
 
     /// Makes the call: one entry more, with the one answer.
@@ -129,13 +122,10 @@ impl Book {
         ensures entry { IfOk result (λ _. self.new ≡ with_entry self.old (next_entry self.old who call)) }
         ensures full { OnErr result (self.new ≡ self.old) }
     {
-        let effect = effect(&self.state, who, call);
-        if self.state.has_room(effect.owing) {
-            self.state.append(effect);
-            Ok(effect.entry.reply)
-        } else {
-            Err(Full)
-        }
+        let entry = self.course.next(who, call)?;
+        let _within = self.course.len();
+        self.entries.push_reserved(entry);
+        Ok(entry.reply)
     }
 
     /// Whether the ticket with this number stands and waits for nothing, so that its end would be answered done. False of any
@@ -143,10 +133,7 @@ impl Book {
     pub fn ready(&self, ticket: Number) -> bool
         ensures { result ≡ is_ready (past_in self.now) ticket }
     {
-        match self.state.ticket(ticket) {
-            None => false,
-            Some(ticket) => self.state.waits_for(ticket).is_none(),
-        }
+        self.course.ready(ticket)
     }
 
     /// The bits of an item (`work_busy`): 1 if it is pending, plus 2 if it runs.
@@ -154,21 +141,21 @@ impl Book {
         requires { item.0 < self.now.layout.items }
         ensures { result ≡ legal.bits (past_in self.now) item.0 }
     {
-        bits_of(self.state.is_pending(item), self.state.is_running(item))
+        self.course.bits(item)
     }
 
     /// How many queueings are open.
     pub fn open_count(&self) -> u32
         ensures { result ≡ length (still_open (past_in self.now)) }
     {
-        self.state.open_count()
+        self.course.open_count()
     }
 
     /// How many of them are active.
     pub fn active_count(&self) -> u32
         ensures { result ≡ count_by (is_active self.now.layout (past_in self.now)) (still_open (past_in self.now)) }
     {
-        self.state.active_count()
+        self.course.active_count()
     }
 
     /// The entries, the oldest first. What a user relies on holds of them.
@@ -176,13 +163,14 @@ impl Book {
         ensures entries { result.now ≡ self.now.entries }
         ensures reliable { IsReliable self.now.layout (past_in self.now) }
     {
-        self.state.history()
+        self.course.reliable();
+        &self.entries
     }
 
     /// The entries, the oldest first.
     pub fn into_history(self) -> Vec<Entry>
         ensures { result.items ≡ self.entries }
     {
-        self.state.into_history()
+        self.entries
     }
 }

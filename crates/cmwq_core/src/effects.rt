@@ -168,14 +168,14 @@ fn ends_early(reply: Reply, ended: Option<Queueing>) -> bool
 }
 
 /// 1 or 0.
-fn one(test: bool) -> u32
+fn one(test: bool) -> u64
     ensures one { result ≡ one test }
     ensures few { result ≤ 1 }
 {
     if test { 1 } else { 0 }
 }
 
-fn paid_alone(reply: Reply) -> u32
+fn paid_alone(reply: Reply) -> u64
     ensures paid { result ≡ paid_alone reply }
     ensures few { result ≤ 2 }
 {
@@ -186,7 +186,7 @@ fn paid_alone(reply: Reply) -> u32
     }
 }
 
-fn taken_alone(reply: Reply) -> u32
+fn taken_alone(reply: Reply) -> u64
     ensures taken { result ≡ taken_alone reply }
     ensures few { result ≤ 1 }
 {
@@ -369,7 +369,7 @@ fn owed_with(
     ended: Option<Queueing>,
     opened: Option<Queueing>,
     booked: Option<Booking>,
-) -> u32
+) -> u64
     requires inside { IsInside state.now.layout entry }
     requires legal { IsLegal state.now.layout (entry ∷ past_of state.now.entries) }
     requires ended { ended ≡ ending (past_of state.now.entries) entry }

@@ -3,13 +3,15 @@
 
 mod answers;
 mod book;
+mod course;
 mod effects;
 mod judge;
 mod marks;
 mod plan;
 mod workers;
 
-pub use book::{Book, Full};
+pub use book::Book;
 pub use cmwq_state::those_who_fit_are_there;
-pub use judge::check;
+pub use course::{Course, Full};
+pub use judge::{Judge, check};
 pub use plan::Plan;

@@ -54,3 +54,13 @@ gains_more v m w xs ys a b = record {
       subst (λ who. made_by who w.seen ≡ made_by who m.seen ++ ys) a.same b.made
       ∙ ap (λ zs. zs ++ ys) a.made ∙ append_assoc (made_by v.who v.seen) xs ys;
 }
+
+-- who made no entry counts as many as before
+pub counts_kept : (m w : Seated) → serial_of (past_of m.seen) m.who ≡ m.serial → Gains m [] w → serial_of (past_of w.seen) w.who ≡ w.serial
+counts_kept m w counts gains =
+    let made : made_by w.who w.seen ≡ made_by m.who m.seen ++ [] = subst (λ who. made_by who w.seen ≡ made_by m.who m.seen ++ []) (sym gains.same) gains.made in
+    let a = made_length w.who w.seen in
+    let b = made_length m.who m.seen in
+    let c = ap length (made ∙ append-nil (made_by m.who m.seen)) in
+    let d = gains.serial in
+    omega (arith, a, b, c, d, counts)

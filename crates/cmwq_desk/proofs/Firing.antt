@@ -7,14 +7,15 @@ use Rattle.cmwq_model.specs.declared.reply.Reply.{Reply}
 use Rattle.cmwq_model.specs.declared.reply.Reply.TheVariants as reply
 use Rattle.cmwq_model.specs.declared.entry.Entry.{Entry}
 use Rattle.cmwq_model.specs.Layout.{Layout}
+use Rattle.cmwq_model.specs.Calls.{serial_of}
 use Rattle.cmwq_model.specs.Legal.{IsLegal, past_of}
 use Rattle.cmwq_model.specs.Room.{has_room}
 use Rattle.cmwq_desk.specs.Seats.{Seated, Gains, made_by}
 use Rattle.cmwq_desk.specs.Calls.{Extends, own_entry}
-use Rattle.cmwq_desk.specs.Whole.{Fires, HadNoRoom, EndsOwn, IsFire}
+use Rattle.cmwq_desk.specs.Whole.{Fires, HadNoRoom, EndsOwn, EndsFiring, IsFire}
 use Rattle.cmwq_desk.specs.Steps.{HasFired, HasFiredSome, is_nothing}
 use Rattle.cmwq_desk.proofs.Beginnings.{prefix_self}
-use Rattle.cmwq_desk.proofs.Entries.{gains_none, gains_more, is_by_own}
+use Rattle.cmwq_desk.proofs.Entries.{gains_none, gains_more, counts_kept, is_by_own}
 
 -- So far these fires were made, and whatever the next ones are, so many of them at most, all together are fires.
 pub record FiredSo (s : Layout) (left : ℕ) (v m : Seated) : Type 0 where
@@ -22,19 +23,21 @@ pub record FiredSo (s : Layout) (left : ℕ) (v m : Seated) : Type 0 where
   pub gains : Gains v entries m
   pub fires : All IsFire entries
   pub goes_on : (history more : List Entry) → Fires s v.who history left (made_by v.who v.seen ++ entries) more → Fires s v.who history s.items (made_by v.who v.seen) (entries ++ more)
-  pub ends : EndsOwn s v.who m.seen
+  pub counts : serial_of (past_of m.seen) m.who ≡ m.serial
+  pub ends : EndsFiring s v.who m.seen
   pub legal : IsLegal s (past_of m.seen)
 
-pub ends_extended : (s : Layout) (v w : Seated) (c : _) (r : Reply) → Extends s v c r w → EndsOwn s v.who w.seen
-ends_extended s v w c r x = inl (x.before, own_entry s x.before v c, x.ends, is_by_own (own_entry s x.before v c))
+pub ends_extended : (s : Layout) (v w : Seated) (c : _) (r : Reply) → Extends s v c r w → EndsOwn v.who w.seen
+ends_extended s v w c r x = (x.before, own_entry s x.before v c, x.ends, is_by_own (own_entry s x.before v c))
 
-pub fired_none : (s : Layout) (v : Seated) → EndsOwn s v.who v.seen → IsLegal s (past_of v.seen) → FiredSo s s.items v v
-fired_none s v ends legal = record {
+pub fired_none : (s : Layout) (v : Seated) → serial_of (past_of v.seen) v.who ≡ v.serial → EndsOwn v.who v.seen → IsLegal s (past_of v.seen) → FiredSo s s.items v v
+fired_none s v counts ends legal = record {
   entries = [];
   gains = gains_none v;
   fires = All-nil IsFire;
   goes_on = (λ history more f. subst (λ made. Fires s v.who history s.items made more) (append-nil (made_by v.who v.seen)) f);
-  ends = ends;
+  counts = counts;
+  ends = inl ends;
   legal = legal;
 }
 
@@ -51,7 +54,8 @@ fired_more s n v m w r other so x =
           subst (λ es. Fires s v.who history s.items (made_by v.who v.seen) es) (sym (append_assoc so.entries (e ∷ []) more))
           (so.goes_on history (e ∷ more)
           (inr (inr (e, more, refl, refl, (λ nothing. other (x.reply ∙ nothing)), subst (λ made. Fires s v.who history n made more) (sym (append_assoc (made_by v.who v.seen) so.entries (e ∷ []))) f)))));
-      ends = subst (λ who. EndsOwn s who w.seen) same (ends_extended s m w call.Fire r x);
+      counts = x.counts;
+      ends = inl (subst (λ who. EndsOwn who w.seen) same (ends_extended s m w call.Fire r x));
       legal = x.legal;
     }
 
@@ -61,6 +65,7 @@ fired_all s v m so = record {
   entries = so.entries;
   gains = so.gains;
   fires = subst (λ es. Fires s v.who m.seen s.items (made_by v.who v.seen) es) (append-nil so.entries) (so.goes_on m.seen [] refl);
+  counts = so.counts;
   ends = so.ends;
   legal = so.legal;
 }
@@ -71,7 +76,8 @@ fired_last s n v m w r none so x =
       entries = so.entries ++ e ∷ [];
       gains = gains_more v m w so.entries (e ∷ []) so.gains x.gains;
       fires = so.goes_on w.seen (e ∷ []) (inr (inl (e, refl, (refl, sym x.reply ∙ none))));
-      ends = subst (λ who. EndsOwn s who w.seen) so.gains.same (ends_extended s m w call.Fire r x);
+      counts = x.counts;
+      ends = inl (subst (λ who. EndsOwn who w.seen) so.gains.same (ends_extended s m w call.Fire r x));
       legal = x.legal;
     }
 
@@ -83,6 +89,7 @@ fired_full s n v m w so gains full legal =
       entries = so.entries;
       gains = all;
       fires = subst (λ es. Fires s v.who w.seen s.items (made_by v.who v.seen) es) (append-nil so.entries) (so.goes_on w.seen [] (inl (refl, at)));
+      counts = counts_kept m w so.counts gains;
       ends = inr (w.seen, prefix_self w.seen, refl, none);
       legal = legal;
     }
@@ -101,8 +108,8 @@ nothing_isnt r e same = true≢false (sym (ap is_nothing same) ∙ e)
 abbrev pub FiredUpTo : Layout → ℕ → Seated → Seated → Type 0
 FiredUpTo s k v m = (n : ℕ) × (n + k ≡ s.items) × FiredSo s n v m
 
-pub up_to_none : (s : Layout) (v : Seated) → EndsOwn s v.who v.seen → IsLegal s (past_of v.seen) → FiredUpTo s 0 v v
-up_to_none s v ends legal = (s.items, omega arith, fired_none s v ends legal)
+pub up_to_none : (s : Layout) (v : Seated) → serial_of (past_of v.seen) v.who ≡ v.serial → EndsOwn v.who v.seen → IsLegal s (past_of v.seen) → FiredUpTo s 0 v v
+up_to_none s v counts ends legal = (s.items, omega arith, fired_none s v counts ends legal)
 
 pub up_to_more : (s : Layout) (k : ℕ) (v m w : Seated) (r : Reply) → k < s.items → is_nothing r ≡ false → FiredUpTo s k v m → Extends s m call.Fire r w → FiredUpTo s (k + 1) v w
 up_to_more s k v m w r less other (zero, sum, so) x = absurd (omega arith)

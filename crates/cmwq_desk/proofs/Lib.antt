@@ -1,6 +1,7 @@
 pub mod Beginnings
 pub mod Entries
 pub mod Entering
+pub mod Serials
 pub mod Firing
 pub mod Whole
 pub mod Fitting

@@ -1,5 +1,5 @@
 -- Whole calls, put together of their steps.
-use Rattle.std.proofs.Common.{◌≡◌, ℕ, List, [], ◌∷◌, ◌++◌, Bool, true, false, true≢false, refl, ap, sym, ◌∙◌, subst, inl, inr, None, Some}
+use Rattle.std.proofs.Common.{◌≡◌, ℕ, List, [], ◌∷◌, ◌++◌, Bool, true, false, ◌||◌, true≢false, refl, ap, sym, ◌∙◌, subst, inl, inr, None, Some}
 use Rattle.std.specs.Prelude.{MatchBool}
 use Rattle.cmwq_model.specs.declared.id.Who.{Who}
 use Rattle.cmwq_model.specs.declared.call.Call.{Call}
@@ -12,16 +12,20 @@ use Rattle.cmwq_model.specs.Answer.{answer}
 use Rattle.cmwq_model.specs.Legal.{past_of}
 use Rattle.cmwq_desk.specs.Seats.{Seated, made_by}
 use Rattle.cmwq_desk.specs.Calls.{Extends, own_entry}
-use Rattle.cmwq_desk.specs.Faults.{Says, IsStranger}
 use Rattle.cmwq_desk.specs.declared.fault.RunFault.{RunFault}
 use Rattle.cmwq_desk.specs.declared.fault.RunFault.TheVariants.{NoMemory}
-use Rattle.cmwq_desk.specs.Whole.{Completes, BrokeOff, Behind, Fires, EndsOwn, EndsTicket, Stops, is_tick, is_drain, ticket_given, ticket_left}
+use Rattle.cmwq_desk.specs.Whole.{Completes, BrokeOff, Behind, Fires, EndsOwn, EndsFiring, EndsWhole, EndsTicket, Stops, is_tick, is_drain, ticket_given, ticket_left}
 use Rattle.cmwq_desk.specs.Steps.{HasFired, HasFiredSome, HasEnded, HasEndedSome, still_unended}
 use Rattle.cmwq_desk.proofs.Entries.{gains_none, gains_more}
 use Rattle.cmwq_desk.proofs.Firing.{ends_extended}
+use Rattle.cmwq_desk.proofs.Serials.{stand_next}
 
 behind_tick : (s : Layout) (who : Who) (history made es : List Entry) (c : Call) (r : Reply) → is_tick c ≡ true → Fires s who history s.items made es → Behind s who history made c r es
 behind_tick s who history made es c r is fires = rw is fires
+
+ends_own : (s : Layout) (who : Who) (seen : List Entry) (b : Bool) → EndsOwn who seen → MatchBool b (EndsFiring s who seen) (EndsOwn who seen)
+ends_own s who seen true own = inl own
+ends_own s who seen false own = own
 
 pub tick_completes : (s : Layout) (v m w : Seated) (c : Call) (r : Reply) → is_tick c ≡ true → Extends s v c r m → HasFired s m w → Completes s v c r w
 tick_completes s v m w c r is x fired =
@@ -38,8 +42,23 @@ tick_completes s v m w c r is x fired =
         is = (refl, sym x.reply);
         behind = behind_tick s v.who w.seen (made_by v.who v.seen ++ e ∷ []) fired.entries c r is fires;
       };
-      ends = subst (λ who. EndsOwn s who w.seen) same fired.ends;
+      serials = stand_next s v w (e ∷ fired.entries) (gains_more v m w (e ∷ []) fired.entries x.gains fired.gains) fired.counts fired.legal;
+      counts = fired.counts;
+      ends = rw is (subst (λ who. EndsFiring s who w.seen) same fired.ends);
       legal = fired.legal;
+    }
+
+-- a call of one entry
+pub alone_completes : (s : Layout) (v w : Seated) (c : Call) (r : Reply) → is_tick c ≡ false → ticket_given r ≡ None → Extends s v c r w → Completes s v c r w
+alone_completes s v w c r is none x =
+    let e = own_entry s x.before v c in record {
+      entries = e ∷ [];
+      gains = x.gains;
+      makes = record { first = e; rest = []; all = refl; is = (refl, sym x.reply); behind = rw (is, none) refl };
+      serials = ap (λ n. n ∷ []) x.serial;
+      counts = x.counts;
+      ends = rw is (ends_own s v.who w.seen (is_drain c) (ends_extended s v w c r x));
+      legal = x.legal;
     }
 
 left_more : (e : Entry) (es : List Entry) → ticket_given e.reply ≡ None → ticket_left (e ∷ es) ≡ None
@@ -61,7 +80,9 @@ ended_completes s v m w c r k is given x ended =
       entries = e ∷ ended.entries;
       gains = gains_more v m w (e ∷ []) ended.entries x.gains ended.gains;
       makes = record { first = e; rest = ended.entries; all = refl; is = (refl, sym x.reply); behind = rw (is, given) end };
-      ends = subst (λ who. EndsOwn s who w.seen) same ended.ends;
+      serials = stand_next s v w (e ∷ ended.entries) (gains_more v m w (e ∷ []) ended.entries x.gains ended.gains) ended.counts ended.legal;
+      counts = ended.counts;
+      ends = rw is (subst (λ who. MatchBool (is_drain c) (EndsFiring s who w.seen) (EndsOwn who w.seen)) same ended.ends);
       legal = ended.legal;
     }
 
@@ -82,7 +103,8 @@ ended_alone s v w c k is x =
       entries = e ∷ [];
       gains = x.gains;
       is = (e, [], refl, (refl, sym x.reply), rw is refl);
-      ends = ends_extended s v w (call.End k) reply.Done x;
+      counts = x.counts;
+      ends = rw is (ends_extended s v w (call.End k) reply.Done x);
       legal = x.legal;
     }
 
@@ -95,7 +117,8 @@ ended_fired s v m w c k is x fired =
       entries = e ∷ fired.entries;
       gains = gains_more v m w (e ∷ []) fired.entries x.gains fired.gains;
       is = (e, fired.entries, refl, (refl, sym x.reply), rw is fires);
-      ends = subst (λ who. EndsOwn s who w.seen) same fired.ends;
+      counts = fired.counts;
+      ends = rw is (subst (λ who. EndsFiring s who w.seen) same fired.ends);
       legal = fired.legal;
     }
 

@@ -1,5 +1,6 @@
 -- What a call of one entry promises.
-use Rattle.std.specs.Prelude.{◌≡◌, List, [], ◌∷◌, ◌++◌}
+use Rattle.std.specs.Prelude.{◌≡◌, ℕ, List, [], ◌∷◌, ◌++◌, length, map}
+use Rattle.std.specs.List.{range_with_len}
 use mathlib.Core.List.{IsPrefix}
 use Rattle.cmwq_model.specs.declared.call.Call.{Call}
 use Rattle.cmwq_model.specs.declared.reply.Reply.{Reply}
@@ -23,3 +24,7 @@ pub record Extends (s : Layout) (v : Seated) (call : Call) (r : Reply) (w : Seat
   pub gains : Gains v (own_entry s before v call ∷ []) w
   pub counts : serial_of (past_of w.seen) w.who ≡ w.serial
   pub legal : IsLegal s (past_of w.seen)
+
+-- the entries stand under the serials from this one on
+abbrev pub StandFrom : ℕ → List Entry → Type 0
+StandFrom first entries = map (λ (e : Entry). e.serial) entries ≡ range_with_len first (length entries)

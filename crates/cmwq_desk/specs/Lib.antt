@@ -4,4 +4,7 @@ pub mod Calls
 pub mod Faults
 pub mod Whole
 pub mod Steps
+pub mod Starts
 pub mod Settled
+pub mod Journals
+pub mod Places

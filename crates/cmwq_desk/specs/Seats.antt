@@ -1,5 +1,5 @@
 -- What contracts see of a caller or a worker of a hub.
-use Rattle.std.specs.Prelude.{◌≡◌, ℕ, ◌+◌, Bool, true, false, List, [], ◌++◌, length, filter}
+use Rattle.std.specs.Prelude.{◌≡◌, ℕ, ◌+◌, ◌≤◌, Bool, true, false, List, [], ◌++◌, length, filter}
 use mathlib.Core.List.{IsPrefix}
 use Rattle.cmwq_model.specs.declared.id.Who.{Who}
 use Rattle.cmwq_model.specs.declared.id.Who.TheVariants.{Caller, Worker}
@@ -22,6 +22,10 @@ is_caller (Worker w) = false
 -- the entries of one who, in order
 abbrev pub made_by : Who → List Entry → List Entry
 made_by who entries = filter (is_by who) entries
+
+-- of two views of one history the shorter begins the longer
+abbrev pub Agree : List Entry → List Entry → Type 0
+Agree a b = (length a ≤ length b → IsPrefix a b) × (length b ≤ length a → IsPrefix b a)
 
 -- What it sees now begins with what it had seen, and of its own entries it has made these since.
 pub record Gains (v : Seated) (new : List Entry) (w : Seated) : Type 0 where

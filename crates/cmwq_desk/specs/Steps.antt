@@ -1,5 +1,5 @@
 -- What one step under the lock leaves.
-use Rattle.std.specs.Prelude.{◌≡◌, ◌⊎◌, ℕ, ◌≤◌, Bool, true, false, List, [], ◌∷◌, length, All, Option, Some, None}
+use Rattle.std.specs.Prelude.{◌≡◌, ◌⊎◌, ◌&&◌, ℕ, ◌≤◌, Bool, true, false, List, [], ◌∷◌, length, All, Option, Some, None, MatchBool}
 use Rattle.cmwq_model.specs.declared.call.Call.{Call}
 use Rattle.cmwq_model.specs.declared.call.Call.TheVariants as call
 use Rattle.cmwq_model.specs.declared.reply.Reply.{Reply}
@@ -9,17 +9,27 @@ use Rattle.cmwq_model.specs.Layout.{Layout}
 use Rattle.cmwq_model.specs.Calls.{serial_of}
 use Rattle.cmwq_model.specs.Legal.{IsLegal, past_of}
 use Rattle.cmwq_model.specs.Room.{has_room}
-use Rattle.cmwq_desk.specs.Seats.{Seated, Gains, made_by}
-use Rattle.cmwq_desk.specs.Held.{Held}
-use Rattle.cmwq_desk.specs.Calls.{Extends, own_entry}
-use Rattle.cmwq_desk.specs.Whole.{Fires, EndsOwn, IsFire, EndsTicket, PartEnd, Stops}
+use Rattle.cmwq_desk.specs.Seats.{Seated, Gains, is_caller, made_by}
+use Rattle.cmwq_desk.specs.Held.{Held, IsOpenTo}
+use Rattle.cmwq_desk.specs.Calls.{own_entry}
+use Rattle.cmwq_desk.specs.Whole.{Fires, EndsOwn, EndsFiring, IsFire, EndsTicket, PartEnd, Stops, is_drain}
 use Rattle.cmwq_desk.specs.declared.fault.RunFault.{RunFault}
+use Rattle.cmwq_desk.specs.declared.fault.RunFault.TheVariants.{Closed, NoMemory, Stranger, Full}
 use Rattle.cmwq_desk.specs.declared.fault.Shortage.{Shortage}
 use Rattle.cmwq_desk.specs.declared.fault.Shortage.TheVariants.{Room, Memory}
 
 -- a seat counts the entries that the history has of it, and has seen no more than there is
 abbrev pub InStep : List Entry → Seated → Type 0
 InStep history v = (serial_of (past_of history) v.who ≡ v.serial) × (length v.seen ≤ length history)
+
+-- Which fault a call answers where there are several: to a caller that the hub is closed, then that it has failed, then that it isn't the
+-- seat's own, then that there is no room for the call. Memory may run out once the call is let in.
+abbrev pub TellsFirst : Held → Seated → RunFault → Type 0
+TellsFirst h v Closed = (h.closed && is_caller v.who) ≡ true
+TellsFirst h v (NoMemory ticket) = ((h.closed && is_caller v.who) ≡ false) × ((h.failed ≡ true) ⊎ InStep h.history v)
+TellsFirst h v (Stranger own book) = IsOpenTo h v.who
+TellsFirst h v Full = IsOpenTo h v.who × InStep h.history v
+TellsFirst h v f = ⊥
 
 -- what was short, and what that leaves
 abbrev pub Lacks : Layout → Held → Seated → Call → Shortage → Held → Type 0
@@ -31,7 +41,8 @@ pub record HasFired (s : Layout) (v w : Seated) : Type 0 where
   pub entries : List Entry
   pub gains : Gains v entries w
   pub fires : Fires s v.who w.seen s.items (made_by v.who v.seen) entries
-  pub ends : EndsOwn s v.who w.seen
+  pub counts : serial_of (past_of w.seen) w.who ≡ w.serial
+  pub ends : EndsFiring s v.who w.seen
   pub legal : IsLegal s (past_of w.seen)
 
 abbrev pub is_nothing : Reply → Bool
@@ -61,15 +72,13 @@ is_retired r = false
 abbrev pub IsKept : Layout → List Entry → Seated → Type 0
 IsKept s history v = WouldNot is_retired s history v call.Retire ⊎ (has_room s s.room (past_of history) v.who call.Retire ≡ false)
 
-abbrev pub StartsOne : Layout → Seated → Seated → Type 0
-StartsOne s v w = (r : Reply) × (is_start r ≡ true) × Extends s v call.Take r w
-
 -- A wait ended: its ticket's end was done, and what a drain fires was fired.
 pub record HasEnded (s : Layout) (v : Seated) (c : Call) (k : ℕ) (w : Seated) : Type 0 where
   pub entries : List Entry
   pub gains : Gains v entries w
   pub is : EndsTicket s v.who w.seen (made_by v.who v.seen) c k entries
-  pub ends : EndsOwn s v.who w.seen
+  pub counts : serial_of (past_of w.seen) w.who ≡ w.serial
+  pub ends : MatchBool (is_drain c) (EndsFiring s v.who w.seen) (EndsOwn v.who w.seen)
   pub legal : IsLegal s (past_of w.seen)
 
 -- or it stopped behind some of that

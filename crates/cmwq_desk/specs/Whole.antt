@@ -1,5 +1,5 @@
 -- What a whole call does, which may make several entries: a tick fires what is due, and a call that waits ends its ticket.
-use Rattle.std.specs.Prelude.{◌≡◌, ◌≢◌, ◌⊎◌, ℕ, zero, suc, Bool, true, false, if◌then◌else◌, List, [], ◌∷◌, ◌++◌, All, Option, None, MatchOption, MatchBool}
+use Rattle.std.specs.Prelude.{◌≡◌, ◌≢◌, ◌⊎◌, ◌||◌, ℕ, zero, suc, Bool, true, false, if◌then◌else◌, List, [], ◌∷◌, ◌++◌, All, Option, None, MatchOption, MatchBool}
 use mathlib.Core.List.{IsPrefix}
 use Rattle.cmwq_model.specs.declared.id.Who.{Who}
 use Rattle.cmwq_model.specs.declared.call.Call.{Call}
@@ -8,12 +8,13 @@ use Rattle.cmwq_model.specs.declared.reply.Reply.{Reply}
 use Rattle.cmwq_model.specs.declared.reply.Reply.TheVariants as reply
 use Rattle.cmwq_model.specs.declared.entry.Entry.{Entry}
 use Rattle.cmwq_model.specs.Layout.{Layout}
-use Rattle.cmwq_model.specs.Calls.{is_by}
+use Rattle.cmwq_model.specs.Calls.{is_by, serial_of}
 use Rattle.cmwq_model.specs.Legal.{IsLegal, past_of}
 use Rattle.cmwq_model.specs.Room.{has_room}
 use Rattle.cmwq_model.specs.Tickets.{gives_ticket}
 use Rattle.cmwq_steps.specs.Reasons.{number_given}
 use Rattle.cmwq_desk.specs.Seats.{Seated, Gains, made_by}
+use Rattle.cmwq_desk.specs.Calls.{StandFrom}
 use Rattle.cmwq_desk.specs.Faults.{Refused, IsStranger}
 use Rattle.cmwq_desk.specs.declared.fault.RunFault.{RunFault}
 use Rattle.cmwq_desk.specs.declared.fault.RunFault.TheVariants.{NoMemory}
@@ -62,16 +63,27 @@ pub record Makes (s : Layout) (who : Who) (history made : List Entry) (c : Call)
   pub is : Is c r first
   pub behind : Behind s who history (made ++ first ∷ []) c r rest
 
--- what it sees ends with an entry of its own, or behind that there was no room for another fire
-abbrev pub EndsOwn : Layout → Who → List Entry → Type 0
-EndsOwn s who seen = ((before : List Entry) × (e : Entry) × (seen ≡ before ++ e ∷ []) × (is_by who e ≡ true)) ⊎ HadNoRoom s who seen (made_by who seen) call.Fire
+-- what it sees ends with an entry of its own
+abbrev pub EndsOwn : Who → List Entry → Type 0
+EndsOwn who seen = (before : List Entry) × (e : Entry) × (seen ≡ before ++ e ∷ []) × (is_by who e ≡ true)
 
--- A whole call was answered: it made its entries and no others, and what its caller sees is legal and ends with them.
+-- after timers were fired: so too, or behind that there was no room for another fire
+abbrev pub EndsFiring : Layout → Who → List Entry → Type 0
+EndsFiring s who seen = EndsOwn who seen ⊎ HadNoRoom s who seen (made_by who seen) call.Fire
+
+-- how a whole call ends what its caller sees: a tick and a drain fire timers
+abbrev pub EndsWhole : Layout → Who → List Entry → Call → Type 0
+EndsWhole s who seen c = MatchBool (is_tick c || is_drain c) (EndsFiring s who seen) (EndsOwn who seen)
+
+-- A whole call was answered: it made its entries and no others, under the caller's next serials, and what its caller sees is legal and ends
+-- with them. It has as many entries there as its serial says.
 pub record Completes (s : Layout) (v : Seated) (c : Call) (r : Reply) (w : Seated) : Type 0 where
   pub entries : List Entry
   pub gains : Gains v entries w
   pub makes : Makes s v.who w.seen (made_by v.who v.seen) c r entries
-  pub ends : EndsOwn s v.who w.seen
+  pub serials : StandFrom v.serial entries
+  pub counts : serial_of (past_of w.seen) w.who ≡ w.serial
+  pub ends : EndsWhole s v.who w.seen c
   pub legal : IsLegal s (past_of w.seen)
 
 -- A whole call broke off behind these entries of it.

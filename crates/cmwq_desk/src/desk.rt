@@ -1,5 +1,5 @@
 //! What a hub keeps under its lock: the Book, the published history, the ledger of entries, and who sleeps.
-ghost use Rattle.std.specs.Prelude.{◌≡◌, ◌≤◌, ◌<◌, ◌+◌, ◌++◌, ◌∷◌, ◌^◌, [], length, true, false, IsTrue, count_by, IfOk, IfErr, IfSome, MatchOption, MatchResult, MatchBool, Some, None};
+ghost use Rattle.std.specs.Prelude.{◌≡◌, ◌≤◌, ◌<◌, ◌+◌, ◌++◌, ◌∷◌, ◌^◌, [], drop, length, OnErr, true, false, IsTrue, count_by, IfOk, IfErr, IfSome, MatchOption, MatchResult, MatchBool, Some, None};
 ghost use mathlib.Core.List.{IsPrefix};
 ghost use Rattle.cmwq_model.specs.Layout.{Layout, fits};
 ghost use Rattle.cmwq_model.specs.Calls.{serial_of};
@@ -16,15 +16,18 @@ ghost use Rattle.cmwq_desk.specs.Held.{Held, opened, IsOpenTo, GoesOn, Leaves, i
 ghost use Rattle.cmwq_desk.specs.Calls.{Extends, own_entry};
 ghost use Rattle.cmwq_desk.specs.Faults.{Says, Refused, IsStranger};
 ghost use Rattle.cmwq_desk.specs.Whole.{Completes, BrokeOff, Stops, EndsOwn, is_drain};
-ghost use Rattle.cmwq_desk.specs.Steps.{InStep, Lacks, HasFired, HasFiredSome, HasEnded, HasEndedSome, StartsOne, WouldNot, IsKept, is_start, is_retired, is_nothing};
+ghost use Rattle.cmwq_desk.specs.Steps.{InStep, TellsFirst, Lacks, HasFired, HasFiredSome, HasEnded, HasEndedSome, WouldNot, IsKept, is_start, is_retired, is_nothing};
+ghost use Rattle.cmwq_desk.specs.Starts.{StartsOne};
 ghost use Rattle.cmwq_desk.specs.Settled.{Settles};
 ghost use Rattle.cmwq_desk.specs.declared.fault.RunFault.TheVariants as faults;
 
 use crate::fault::{RunFault, Shortage};
+use crate::journal::{Journal, Rest};
 use crate::seat::Seat;
 use crate::sleepers::{Rings, Sleepers};
-use cmwq_core::{Book, Full, Plan};
+use cmwq_core::{Course, Full, Plan};
 use cmwq_model::{Call, Entry, ItemId, NoMemory, Number, Reply, Shape, Ticket, Who};
+use cmwq_tail::Tail;
 use cmwq_versions::{Front, HubName, Shelf};
 use std::marker::Model;
 use std::sync::ledger::Share;
@@ -34,13 +37,18 @@ use std::sync::{Wait, ledger};
 /// and whether it has failed.
 pub struct Desk<N: HubName> {
     shape: Shape,
-    book: Book,
+    course: Course,
+    tail: Tail<Entry>,
     shelf: Shelf<N>,
     entries: ledger::Book<N>,
     sleepers: Sleepers,
     failed: bool,
     closed: bool,
+    crowded: bool,
 }
+
+/// As many entries are made in one hold of the lock, at most: a call's own, and a fire of each item.
+const MOST_AT_ONCE: u32 = 257;
 
 impl<N: HubName> Model for Desk<N> {
     ghost use Rattle.std.specs.Prelude.{◌≡◌, length};
@@ -49,34 +57,38 @@ impl<N: HubName> Model for Desk<N> {
 
     ghost Value = { Held };
 
-    ghost view = { λ d. record { history = d.book.entries; closed = d.closed; failed = d.failed } };
+    ghost view = { λ d. record { history = d.course.entries; closed = d.closed; failed = d.failed } };
 
-    ghost invariant = { λ d. (d.shape ≡ N.layout) × (d.book.layout ≡ N.layout) × (d.book.room ≡ N.layout.room) × (d.shelf ≡ d.book.entries) × (d.entries.total ≡ length d.book.entries) };
+    ghost invariant = { λ d. (d.shape ≡ N.layout) × (d.course.layout ≡ N.layout) × (d.course.room ≡ N.layout.room) × (d.shelf ≡ d.course.entries) × (d.entries.total ≡ length d.course.entries) × (d.tail.all ≡ d.course.entries) };
 }
 
 impl<N: HubName> Desk<N> {
     /// The desk of a hub that has no entry.
     pub fn new(
         shape: Shape,
-        book: Book,
+        course: Course,
+        tail: Tail<Entry>,
         shelf: Shelf<N>,
         entries: ledger::Book<N>,
         sleepers: Sleepers,
     ) -> Desk<N>
         requires shape { shape ≡ N.layout }
-        requires book { book ≡ record { layout = N.layout; room = N.layout.room; entries = [] } }
+        requires course { course ≡ record { layout = N.layout; room = N.layout.room; entries = [] } }
+        requires tail { tail.all ≡ [] }
         requires shelf { shelf ≡ [] }
         requires entries { entries.total ≡ 0 }
         ensures { result ≡ opened }
     {
         Desk {
             shape,
-            book,
+            course,
+            tail,
             shelf,
             entries,
             sleepers,
             failed: false,
             closed: false,
+            crowded: false,
         }
     }
 
@@ -93,18 +105,25 @@ impl<N: HubName> Desk<N> {
         requires plan { IsPlan (record { layout = N.layout; room = N.layout.room; entries = self.old.history }) seat.old.who call plan.now }
         ensures made { IfOk result (λ reply. Extends N.layout seat.old call reply seat.new × InStep self.new.history seat.new) }
         ensures reply { IfOk result (λ reply. reply ≡ (own_entry N.layout self.old.history seat.old call).reply) }
+        ensures seen { IfOk result (λ _. seat.new.seen ≡ self.old.history ++ own_entry N.layout self.old.history seat.old call ∷ []) }
         ensures goes_on { IfOk result (λ _. GoesOn self.old self.new) }
         ensures failed { IfErr result (λ _. (self.new ≡ record self.old { failed = true }) × (seat.new ≡ seat.old)) }
     {
         let _call = call;
         let serial = seat.serial();
-        let _len = self.book.len();
+        let _len = self.course.len();
+        if self.tail.space() == 0 {
+            self.failed = true;
+            self.sleepers.ring_all();
+            return Err(NoMemory);
+        }
         let Ok(()) = self.shelf.show(rt, plan.mark) else {
             self.failed = true;
             self.sleepers.ring_all();
             return Err(NoMemory);
         };
-        let reply = self.book.carry(plan);
+        let reply = self.course.carry(plan);
+        self.tail.push(plan.mark.entry);
         seat.count(self.shelf.front(), serial + 1, &mut self.entries);
         self.wake(plan);
         Ok(reply)
@@ -114,8 +133,8 @@ impl<N: HubName> Desk<N> {
     fn wake(&mut self, plan: &Plan)
         ensures { self.new ≡ self.old }
     {
-        self.sleepers.changed(&self.book, &self.shape, plan);
-        if self.closed && self.book.active_count() == 0 {
+        self.sleepers.changed(&self.course, &self.shape, plan);
+        if self.closed && self.course.active_count() == 0 {
             self.sleepers.ring_workers();
         }
     }
@@ -131,7 +150,7 @@ impl<N: HubName> Desk<N> {
     {
         let who = seat.who();
         let _own = seat.serial();
-        match self.book.plan(who, call) {
+        match self.course.plan(who, call) {
             Ok(plan) => match self.make(rt, seat, call, &plan) {
                 Ok(reply) => Ok(reply),
                 Err(NoMemory) => Err(Shortage::Memory),
@@ -149,7 +168,7 @@ impl<N: HubName> Desk<N> {
         ensures stranger { IfErr result (λ f. IsStranger seat.now f) }
     {
         let own = seat.serial();
-        let book = self.book.serial(seat.who());
+        let book = self.course.serial(seat.who());
         if own != book {
             return Err(RunFault::Stranger {
                 own: u64::from(own),
@@ -157,7 +176,7 @@ impl<N: HubName> Desk<N> {
             });
         }
         let seen = seat.seen();
-        let len = u64::from(self.book.len());
+        let len = u64::from(self.course.len());
         if len < seen {
             return Err(RunFault::Stranger {
                 own: seen,
@@ -172,6 +191,7 @@ impl<N: HubName> Desk<N> {
         ensures open { IfOk result (λ _. IsOpenTo self.now seat.now.who) }
         ensures step { IfOk result (λ _. InStep self.now.history seat.now) }
         ensures says { IfErr result (λ f. (call : Call) → Says N.layout seat.now call f) }
+        ensures first { IfErr result (λ f. TellsFirst self.now seat.now f) }
         ensures leaves { IfErr result (λ f. Leaves self.now f self.now) }
     {
         if self.closed && matches!(seat.who(), Who::Caller(_)) {
@@ -194,6 +214,7 @@ impl<N: HubName> Desk<N> {
         ensures made { IfOk result (λ reply. Extends N.layout seat.old call reply seat.new × InStep self.new.history seat.new) }
         ensures open { IfOk result (λ _. IsOpenTo self.old seat.old.who × GoesOn self.old self.new) }
         ensures refused { IfErr result (λ f. Refused N.layout seat.old call f seat.new) }
+        ensures first { IfErr result (λ f. TellsFirst self.old seat.old f) }
         ensures leaves { IfErr result (λ f. Leaves self.old f self.new) }
     {
         match self.admits(seat) {
@@ -212,7 +233,8 @@ impl<N: HubName> Desk<N> {
     fn fire_due<R: Wait>(&mut self, rt: &R, seat: &mut Seat<N>) -> Result<(), RunFault>
         requires caller { is_caller seat.old.who ≡ true }
         requires step { InStep self.old.history seat.old }
-        requires begun { EndsOwn N.layout seat.old.who seat.old.seen }
+        requires begun { EndsOwn seat.old.who seat.old.seen }
+        requires counted { serial_of (past_of seat.old.seen) seat.old.who ≡ seat.old.serial }
         ensures fired { IfOk result (λ _. HasFired N.layout seat.old seat.new) }
         ensures goes_on { IfOk result (λ _. GoesOn self.old self.new) }
         ensures short { IfErr result (λ f. (f ≡ faults.NoMemory None) × HasFiredSome seat.old seat.new) }
@@ -279,8 +301,8 @@ impl<N: HubName> Desk<N> {
         }
         self.compare(seat)?;
         let call = Call::End { ticket };
-        let _needed = self.book.len();
-        let Ok(plan) = self.book.plan(seat.who(), call) else {
+        let _needed = self.course.len();
+        let Ok(plan) = self.course.plan(seat.who(), call) else {
             return Ok(false);
         };
         if !is_done(plan.mark.entry.reply) {
@@ -326,10 +348,11 @@ impl<N: HubName> Desk<N> {
     /// Starts a queueing, if the worker would start one now, and answers its item.
     pub fn start<R: Wait>(&mut self, rt: &R, seat: &mut Seat<N>) -> Result<Option<ItemId>, RunFault>
         requires { is_caller seat.old.who ≡ false }
-        ensures started { IfOk result (λ o. MatchOption o (seat.new ≡ seat.old) (λ item. (item.0 < N.layout.items) × StartsOne N.layout seat.old seat.new)) }
+        ensures started { IfOk result (λ o. MatchOption o (seat.new ≡ seat.old) (λ item. (item.0 < N.layout.items) × StartsOne N.layout seat.old item seat.new)) }
         ensures none { IfOk result (λ o. MatchOption o ((self.new ≡ self.old) × WouldNot is_start N.layout self.old.history seat.old calls.Take) (λ _. GoesOn self.old self.new)) }
         ensures open { IfOk result (λ _. self.old.failed ≡ false) }
         ensures refused { IfErr result (λ f. Refused N.layout seat.old calls.Take f seat.new) }
+        ensures first { IfErr result (λ f. TellsFirst self.old seat.old f) }
         ensures leaves { IfErr result (λ f. Leaves self.old f self.new) }
     {
         let who = seat.who();
@@ -337,8 +360,8 @@ impl<N: HubName> Desk<N> {
             return Err(RunFault::NoMemory { ticket: None });
         }
         self.compare(seat)?;
-        let _needed = self.book.len();
-        let Ok(plan) = self.book.plan(who, Call::Take) else {
+        let _needed = self.course.len();
+        let Ok(plan) = self.course.plan(who, Call::Take) else {
             return Ok(None);
         };
         if !starts(plan.mark.entry.reply) {
@@ -360,6 +383,7 @@ impl<N: HubName> Desk<N> {
         ensures kept { IfOk result (λ b. MatchBool b (GoesOn self.old self.new) ((self.new ≡ self.old) × IsKept N.layout self.old.history seat.old)) }
         ensures open { IfOk result (λ _. self.old.failed ≡ false) }
         ensures refused { IfErr result (λ f. Refused N.layout seat.old calls.Retire f seat.new) }
+        ensures first { IfErr result (λ f. TellsFirst self.old seat.old f) }
         ensures leaves { IfErr result (λ f. Leaves self.old f self.new) }
     {
         let who = seat.who();
@@ -367,7 +391,7 @@ impl<N: HubName> Desk<N> {
             return Err(RunFault::NoMemory { ticket: None });
         }
         self.compare(seat)?;
-        let Ok(plan) = self.book.plan(who, Call::Retire) else {
+        let Ok(plan) = self.course.plan(who, Call::Retire) else {
             return Ok(false);
         };
         if !is_retired(plan.mark.entry.reply) {
@@ -394,14 +418,14 @@ impl<N: HubName> Desk<N> {
     pub fn is_over(&self) -> bool
         ensures { result ≡ is_over N.layout self.now }
     {
-        self.failed || self.closed && self.book.active_count() == 0
+        self.failed || self.closed && self.course.active_count() == 0
     }
 
     /// How many active queueings are open.
     pub fn active_count(&self) -> u32
         ensures { result ≡ active_in N.layout self.now.history }
     {
-        self.book.active_count()
+        self.course.active_count()
     }
 
     /// Callers make no calls from now on.
@@ -464,23 +488,75 @@ impl<N: HubName> Desk<N> {
         self.entries.audit(all);
     }
 
-    /// The history. It waits for the readers to leave.
-    pub fn end<R: Wait>(self, rt: &R) -> Vec<Entry>
-        ensures entries { result.items ≡ self.history }
-        ensures legal { IsLegal N.layout (past_of result.items) }
+    /// Whether all that is made in one hold of the lock can be kept, or nothing is made any more.
+    pub fn has_space(&self) -> bool {
+        let space = self.tail.space();
+        let len = u64::from(self.course.len());
+        self.failed
+            || MOST_AT_ONCE <= space
+            || u64::from(self.shape.counts().room) <= u64::from(space) + len
+    }
+
+    /// Somebody sleeps until there is space.
+    pub fn crowds(&mut self)
+        ensures { self.new ≡ self.old }
+    {
+        self.crowded = true;
+    }
+
+    /// Whether there is enough to hand over: half of what may be kept, or somebody waits for space, or nothing more may come.
+    pub fn wants_journal(&self) -> bool {
+        let kept = self.tail.kept().len() as u64;
+        self.crowded || self.is_over() || u64::from(self.tail.room()) <= 2 * kept
+    }
+
+    /// Who writes the history down, and has all of it so far.
+    pub fn journal(&self, spare: Vec<Entry>) -> Journal<N>
+        requires { spare.items ≡ [] }
+        ensures { result ≡ record { seen = self.now.history; batch = [] } }
+    {
+        Journal::new(self.shelf.front().again(), spare)
+    }
+
+    /// Hands over what was entered since the last time. Nothing is copied.
+    pub fn hand_over(&mut self, journal: &mut Journal<N>) -> Result<(), RunFault>
+        ensures handed { IfOk result (λ _. journal.new.seen ≡ self.old.history) }
+        ensures batch { IfOk result (λ _. self.old.history ≡ journal.old.seen ++ journal.new.batch) }
+        ensures refused { OnErr result (journal.new.seen ≡ journal.old.seen) }
+        ensures same { self.new ≡ self.old }
+    {
+        if self.crowded {
+            self.crowded = false;
+            self.sleepers.ring_all();
+        }
+        let first = self.tail.first();
+        journal.take(first, &mut self.tail, self.shelf.front())
+    }
+
+    /// What was not handed over. It waits for the readers to leave.
+    pub fn end<R: Wait>(self, rt: &R) -> Rest
+        ensures rest { result.entries.items ≡ drop result.first self.history }
+        ensures within { result.first ≤ length self.history }
+        ensures legal { IsLegal N.layout (past_of self.history) }
     {
         let Desk {
             shape: _shape,
-            book,
+            course,
+            tail,
             shelf,
             entries: _entries,
             sleepers: _sleepers,
             failed: _,
             closed: _,
+            crowded: _,
         } = self;
-        let _len = book.len();
+        let _len = course.len();
         shelf.end(rt);
-        book.into_history()
+        let first = tail.first();
+        Rest {
+            first,
+            entries: tail.into_kept(),
+        }
     }
 }
 

@@ -3,10 +3,12 @@
 
 mod desk;
 mod fault;
+mod journal;
 mod seat;
 mod sleepers;
 
 pub use desk::Desk;
 pub use fault::{RunFault, Shortage};
+pub use journal::{Journal, Rest};
 pub use seat::Seat;
 pub use sleepers::{Rings, Sleepers, place_of};

@@ -4,7 +4,7 @@ ghost use mathlib.Core.List.{IsPrefix};
 ghost use Rattle.cmwq_model.specs.Calls.{serial_of};
 ghost use Rattle.cmwq_model.specs.Legal.{past_of, IsLegal};
 ghost use Rattle.cmwq_core.specs.History.{IsThere};
-ghost use Rattle.cmwq_desk.specs.Seats.{newcomer};
+ghost use Rattle.cmwq_desk.specs.Seats.{Agree, newcomer};
 
 use cmwq_model::Who;
 use cmwq_versions::{Front, HubName};
@@ -16,7 +16,7 @@ use std::sync::ledger::Share;
 #[derive(Drop)]
 pub struct Seat<N: HubName> {
     who: Who,
-    serial: u32,
+    serial: u64,
     share: Share<N>,
     front: Front<N>,
 }
@@ -60,7 +60,7 @@ impl<N: HubName> Seat<N> {
     }
 
     /// How many entries it has made.
-    pub fn serial(&self) -> u32
+    pub fn serial(&self) -> u64
         ensures serial { result ≡ self.now.serial }
         ensures own { self.now.serial ≤ serial_of (past_of self.now.seen) self.now.who }
     {
@@ -85,8 +85,21 @@ impl<N: HubName> Seat<N> {
         self.front = front.again();
     }
 
+    /// Of what two seats of a hub have seen the shorter begins the longer.
+    pub fn agrees(&self, other: &Seat<N>)
+        ensures { Agree self.now.seen other.now.seen }
+    {
+        let (own, others) = (self.seen(), other.seen());
+        if own <= others {
+            self.front.begins(&other.front);
+        }
+        if others <= own {
+            other.front.begins(&self.front);
+        }
+    }
+
     /// The same after an entry of its own, which the ledger counts.
-    pub fn count(&mut self, front: &Front<N>, serial: u32, entries: &mut ledger::Book<N>)
+    pub fn count(&mut self, front: &Front<N>, serial: u64, entries: &mut ledger::Book<N>)
         requires longer { length self.old.seen ≤ length front.now }
         requires next { serial ≡ self.old.serial + 1 }
         requires own { serial ≤ serial_of (past_of front.now) self.old.who }

@@ -1,7 +1,8 @@
-//! Who sleeps and what for, and who is to be woken. No contract speaks of it: a bell that never rings meets them all.
-ghost use Rattle.std.specs.Prelude.{◌≡◌};
+//! Who sleeps and what for, and who is to be woken. No contract speaks of that: a bell that never rings meets them all.
+ghost use Rattle.std.specs.Prelude.{◌≡◌, ◌<◌};
+ghost use Rattle.cmwq_desk.specs.Places.{place};
 
-use cmwq_core::{Book, Plan};
+use cmwq_core::{Course, Plan};
 use cmwq_model::{
     Call, CallerId, CpuId, Entry, NoMemory, PoolId, QueueId, Queueing, Reply, Shape, Ticket, Who,
     WorkerId,
@@ -38,8 +39,12 @@ fn bit(place: u8) -> u64 {
     if place < 64 { 1 << place } else { 0 }
 }
 
-/// The place of a worker among those of all pools.
-pub fn place_of(worker: WorkerId) -> u8 {
+/// The place of a worker among those of all pools, of which there are 64 at most: each worker of four CPUs and eight workers a pool has one
+/// of its own.
+pub fn place_of(worker: WorkerId) -> u8
+    ensures is { worker.pool.cpu.0 < 4 → worker.index < 8 → result ≡ place worker }
+    ensures few { result < 64 }
+{
     let pool = worker.pool.cpu.0 % 4 * 2 + u8::from(worker.pool.high);
     pool * 8 + worker.index % 8
 }
@@ -140,7 +145,7 @@ enum Prospect {
     Nothing,
 }
 
-fn prospect_of(book: &Book, shape: &Shape, worker: WorkerId) -> Prospect
+fn prospect_of(book: &Course, shape: &Shape, worker: WorkerId) -> Prospect
     requires { book.now.layout ≡ shape.now }
 {
     let who = Who::Worker(worker);
@@ -188,7 +193,7 @@ impl Sleepers {
     }
 
     /// After an entry: those whose wait may end now, and a worker of each pool in which something may start.
-    pub fn changed(&mut self, book: &Book, shape: &Shape, plan: &Plan)
+    pub fn changed(&mut self, book: &Course, shape: &Shape, plan: &Plan)
         requires { book.now.layout ≡ shape.now }
     {
         if self.waiting != 0 {
@@ -203,7 +208,7 @@ impl Sleepers {
         }
     }
 
-    fn ring_waiters(&mut self, book: &Book, plan: &Plan) {
+    fn ring_waiters(&mut self, book: &Course, plan: &Plan) {
         if let Some(ended) = plan.ended() {
             self.ring_ended(book, ended);
         }
@@ -226,7 +231,7 @@ impl Sleepers {
     }
 
     /// Wakes those who wait for the item or for all of the queue, where that has ended.
-    fn ring_ended(&mut self, book: &Book, ended: Queueing) {
+    fn ring_ended(&mut self, book: &Course, ended: Queueing) {
         for caller in 0..64 {
             if let Some(ticket) = self.wait_of(caller) {
                 if may_end_by(ticket, ended) && book.ready(ticket.number) {
@@ -250,7 +255,7 @@ impl Sleepers {
     }
 
     /// Wakes those whose flush of the queue has ended, the oldest first, up to one that hasn't.
-    fn ring_flushes(&mut self, book: &Book, queue: QueueId) {
+    fn ring_flushes(&mut self, book: &Course, queue: QueueId) {
         for _ in 0..64 {
             let Some(ticket) = self.first_flush(queue) else {
                 return;
@@ -262,7 +267,7 @@ impl Sleepers {
         }
     }
 
-    fn ring_pools(&mut self, book: &Book, shape: &Shape)
+    fn ring_pools(&mut self, book: &Course, shape: &Shape)
         requires { book.now.layout ≡ shape.now }
     {
         for cpu in 0..shape.counts().cpus {
@@ -274,7 +279,7 @@ impl Sleepers {
     }
 
     /// Wakes one of the pool's sleeping workers, if it would start a queueing.
-    fn ring_pool(&mut self, book: &Book, shape: &Shape, pool: PoolId)
+    fn ring_pool(&mut self, book: &Course, shape: &Shape, pool: PoolId)
         requires { book.now.layout ≡ shape.now }
     {
         if !has_idle(self.idle, pool) {

@@ -3,13 +3,16 @@
 
 mod history;
 mod judge;
+mod judging;
 mod output;
 mod step;
+mod stepping;
 mod told;
 mod upgrade;
 
-pub use judge::run_check;
+pub use judge::{run_check, run_front_check};
 pub use output::write_history;
 pub use step::run_step;
+pub use stepping::{Stepping, write_new};
 pub use told::tell_full;
 pub use upgrade::{newest_stay, run_upgrade};

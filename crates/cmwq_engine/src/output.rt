@@ -5,11 +5,11 @@ ghost use Rattle.std.specs.Io.KnownBytes.{Appends};
 ghost use Rattle.cmwq_io.specs.Counts.{Rises};
 ghost use Rattle.cmwq_io.specs.Moves.{AppendsFront};
 ghost use Rattle.cmwq_text.specs.EntryText.{entry_text};
-ghost use Rattle.cmwq_text.specs.HistoryText.{entries_text, history_text};
+ghost use Rattle.cmwq_text.specs.HistoryText.{entries_text, history_text, text_of_format};
 ghost use Rattle.cmwq_engine.specs.Check.{verdict_line_text};
 
 use cmwq_base::{
-    Entry, Illegal, Refusal, Shape, Sink, flush_all, write_all, write_entry, write_shape,
+    Entry, Illegal, Refusal, Shape, Sink, flush_all, write_all, write_end, write_entry, write_shape,
 };
 use cmwq_text::{Line, illegal_line, legal_line};
 
@@ -37,13 +37,34 @@ pub fn write_history<W: Sink>(sink: &mut W, shape: &Shape, entries: &[Entry]) ->
     ensures only { IfErr result (λ e. e ≡ Refusal.WriteFault) }
     ensures fault { OnErr result (Rises (W.troubles sink.old) (W.troubles sink.new)) }
 {
-    write_shape(sink, shape)?;
+    write_history_as(sink, 2, shape, entries)
+}
+
+/// Writes a history with its shape in format 2 or 3, as `write_history` does.
+///
+/// # Errors
+/// As those of `write_history`.
+pub fn write_history_as<W: Sink>(
+    sink: &mut W,
+    version: u8,
+    shape: &Shape,
+    entries: &[Entry],
+) -> Result<(), Refusal>
+    requires { 2 ≤ version }
+    ensures ok { OnOk result (Appends (W.written sink.old) (W.written sink.new) (text_of_format version shape.now entries.now)) }
+    ensures err { OnErr result (AppendsFront (W.written sink.old) (W.written sink.new) (text_of_format version shape.now entries.now)) }
+    ensures flushed { OnOk result (W.held sink.new ≡ 0) }
+    ensures only { IfErr result (λ e. e ≡ Refusal.WriteFault) }
+    ensures fault { OnErr result (Rises (W.troubles sink.old) (W.troubles sink.new)) }
+{
+    write_shape(sink, version, shape)?;
     write_entries(sink, entries)?;
+    write_end(sink, version, entries.len() as u64)?;
     flush_all(sink)?;
     Ok(())
 }
 
-fn verdict_line(entries: u32, illegal: Option<Illegal>) -> Line
+fn verdict_line(entries: u64, illegal: Option<Illegal>) -> Line
     ensures { result ≡ verdict_line_text entries illegal }
 {
     match illegal {
@@ -58,7 +79,7 @@ fn verdict_line(entries: u32, illegal: Option<Illegal>) -> Line
 /// `WriteFault` where the sink fails, also at the flush; a front of the line has been written then.
 pub fn write_verdict<W: Sink>(
     sink: &mut W,
-    entries: u32,
+    entries: u64,
     illegal: Option<Illegal>,
 ) -> Result<(), Refusal>
     ensures ok { OnOk result (Appends (W.written sink.old) (W.written sink.new) (verdict_line_text entries illegal)) }

@@ -8,12 +8,15 @@ ghost use Rattle.cmwq_engine.specs.Check.{check_status};
 ghost use Rattle.cmwq_engine.specs.Upgrade.{UpgradeEnds, IsFlushed, NewestStay};
 
 use crate::judge::status;
-use crate::output::write_history;
+use crate::output::write_history_as;
 use crate::told::tell_illegal;
 use cmwq_base::{Illegal, Refusal, Sink, Source, read_history, tell};
 use std::alloc::Global;
 
-/// Reads a history, and writes it in format 2 if it is legal. Answers its first entry that is wrong, if one is.
+/// More entries than these are not kept, so that none of them can bring the time beyond what a judge knows.
+const MOST_KEPT: usize = 1_073_741_824;
+
+/// Reads a history, and writes it in its format, or in format 2 where that is 1, if it is legal. Answers its first entry that is wrong, if one is.
 fn upgrade<S: Source, O: Sink>(
     alloc: Global,
     input: &mut S,
@@ -25,15 +28,18 @@ fn upgrade<S: Source, O: Sink>(
     ensures write_fault { IsErrOf result Refusal.WriteFault → Rises (O.troubles output.old) (O.troubles output.new) }
 {
     let file = read_history(alloc, input)?;
+    if file.entries.len() > MOST_KEPT {
+        return Err(Refusal::NoMemory);
+    }
     if let Err(illegal) = cmwq_core::check(alloc, &file.shape, &file.entries)? {
         return Ok(Some(illegal));
     }
-    write_history(output, &file.shape, &file.entries)?;
+    write_history_as(output, file.version.max(2), &file.shape, &file.entries)?;
     Ok(None)
 }
 
-/// Reads all of a history of either format. A legal one is written as format 2 with the same shape and entries, and nothing
-/// else; of an illegal one nothing is written, and its verdict is told on `errors`, as the line that `run_check` writes. What
+/// Reads all of a history of any format. A legal one is written as format 2, or as 3 where it is of that, with the same shape and
+/// entries, and nothing else; of an illegal one nothing is written, and its verdict is told on `errors`, as the line that `run_check` writes. What
 /// went wrong is told there too; that its own writes fail changes nothing. Answers the exit status: 0 written, 1 refused
 /// input, 3 illegal, 4 no memory, 5 a fault of reading or writing. At a fault of writing a front of the text is written, and
 /// at each other status but 0 nothing.
@@ -59,7 +65,7 @@ pub fn run_upgrade<S: Source, O: Sink, E: Sink>(
     status(&ended)
 }
 
-/// So a legal history of format 2 comes out as it was, byte for byte.
+/// So a legal history of format 2 or 3 comes out as it was, byte for byte.
 pub fn newest_stay()
     ensures { NewestStay }
 {}

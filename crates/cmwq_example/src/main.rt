@@ -170,8 +170,8 @@ fn serve<N: HubName + Send + Sync + 'static, R: Threads + Wait + Sync>(
     let ended = run(rt, &service, seats);
     let Service { hub, log } = service;
     let (mut callers, mut workers) = ([], []);
-    let history = hub.into_history(rt, &mut callers, &mut workers)?;
-    ended.map(|()| (log, history))
+    let rest = hub.into_history(rt, &mut callers, &mut workers)?;
+    ended.map(|()| (log, rest.entries))
 }
 
 /// A fault is told on standard error, with status 1. What the name `Brand` stands for, the parts of this hub, is said to the proof alone.

@@ -1,7 +1,7 @@
 -- What each call keeps of the colouring, and what the counts of colours say of a flush.
 use Rattle.std.proofs.Common.{◌≡◌, ◌≢◌, ℕ, ◌+◌, ◌<◌, ◌≤◌, true, false, cond, List, [], ◌∷◌, ◌++◌, length, get_or, take, suc, sym, ap, ◌∙◌, arith, ⊎_elim}
 use Rattle.std.specs.Prelude.{All, AllPairs}
-use Rattle.std.specs.List.{remove, list_all}
+use Rattle.std.specs.List.{remove}
 use Rattle.std.specs.List.Sorted.{IsNonDecreasingBy}
 use Rattle.std.proofs.lemmas.Bool.{cases_lt}
 use Rattle.std.proofs.lemmas.Bool.Decides.{nat_tests}
@@ -9,13 +9,13 @@ use Rattle.std.proofs.lemmas.List.{get_or-take, length-take-le, get_or_append_le
 use Rattle.std.proofs.lemmas.List.Elements.{All-push, All-filter, All-take, All-drop, All-append}
 use Rattle.std.proofs.lemmas.List.Edits.{length-remove, get_or-remove_below, get_or-remove_above}
 use Rattle.std.proofs.lemmas.List.Quantifiers.{all_pairs_push, all_pairs_remove}
-use Rattle.std.proofs.lemmas.List.Sums.{AllPass-from_list_all, list_all-from_AllPass, get_or-le-sum_by, sum_by-le}
+use Rattle.std.proofs.lemmas.List.Sums.{get_or-le-sum_by, sum_by-le}
 use Rattle.cmwq_flush.specs.declared.served.Served.{Served}
 use Rattle.cmwq_flush.specs.declared.tally.Row.{Row}
 use Rattle.cmwq_flush.specs.Rows.{has_colour, is_unused, without_row, is_other_row}
 use Rattle.cmwq_flush.specs.Served.{bound_of, first_waiting}
 use Rattle.cmwq_flush.specs.FlushBook.{flush_from}
-use Rattle.cmwq_flush.specs.Colouring.{Differs, HasRightColour, IsColouring}
+use Rattle.cmwq_flush.specs.Colouring.{Differs, HasRightColour, IsColouring, AreUnused, WaitsForNothing}
 use Rattle.cmwq_flush.proofs.Waiting.{first_waiting-push, first_waiting-none, first_waiting-remove, first_waiting-le, first_waiting_at_most, first_waiting_after}
 
 -- a queueing is opened after all were served, with the current colour
@@ -87,19 +87,18 @@ none_has c rows unused k d lt same =
 
 module _ (colours : List ℕ) (served : List Served) (rows : List Row) (i : ℕ) (few : length served ≤ 15) (lt : i < length served) (rise : IsNonDecreasingBy bound_of served) (is : IsColouring colours served rows) where
   -- where the counts of a flush's colour and of all older ones are 0, it waits for nothing that is open
-  pub ready_from_clear : list_all (is_unused rows) (take (i + 1) colours) ≡ true → (d : Served) → All (λ r. (get_or served i d).bound ≤ r.number) rows
+  pub ready_from_clear : AreUnused rows (take (i + 1) colours) → WaitsForNothing rows served i
   ready_from_clear clear d k e within =
       let n = (get_or rows k e).number in
       let front = length-take-le (i + 1) colours (omega arith) in
       ⊎_elim (λ (waits : n < (get_or served i d).bound).
       let first = first_waiting_at_most served i n d waits in
-      let unused = AllPass-from_list_all (is_unused rows) (take (i + 1) colours) clear (first_waiting served n) 0 (omega arith) in
+      let unused = clear (first_waiting served n) 0 (omega arith) in
       absurd (none_has (get_or colours (first_waiting served n) 0) rows (rw (get_or-take (i + 1) colours (first_waiting served n) 0 (omega arith)) at unused) k e within (is.right k e within))) (λ (after : (get_or served i d).bound ≤ n). after) (cases_lt n (get_or served i d).bound)
 
   -- and the other way round
-  pub clear_from_ready : ((d : Served) → All (λ r. (get_or served i d).bound ≤ r.number) rows) → list_all (is_unused rows) (take (i + 1) colours) ≡ true
-  clear_from_ready ready =
-      list_all-from_AllPass (is_unused rows) (take (i + 1) colours) (λ k d within.
+  pub clear_from_ready : WaitsForNothing rows served i → AreUnused rows (take (i + 1) colours)
+  clear_from_ready ready k d within =
       let front = length-take-le (i + 1) colours (omega arith) in
       rw (get_or-take (i + 1) colours k d (omega arith), get_or_default colours k d 0 (omega arith)) (none_counted (get_or colours k 0) rows (λ j e inside.
       let n = (get_or rows j e).number in
@@ -107,4 +106,4 @@ module _ (colours : List ℕ) (served : List Served) (rows : List Row) (i : ℕ)
       let most = first_waiting-le served n in
       let differs = is.distinct k (first_waiting served n) 0 (omega arith) (omega arith) in
       let colour = is.right j e inside in
-      grind (arith, nat_tests))))
+      grind (arith, nat_tests)))

@@ -1,7 +1,7 @@
 -- Each call keeps a flush book right.
 use Rattle.std.proofs.Common.{◌≡◌, ℕ, ◌+◌, ◌<◌, ◌≤◌, Bool, true, false, cond, List, [], ◌∷◌, ◌++◌, length, get_or, take, Some, None, ap, refl, arith, ⊎_elim}
 use Rattle.std.specs.Prelude.{All, AllPairs, Contains, map, ◌↔◌, Option, IfSome, slice_get}
-use Rattle.std.specs.List.{remove, list_all, range_with_len}
+use Rattle.std.specs.List.{remove, range_with_len}
 use Rattle.std.proofs.lemmas.List.FromFn.{get_or-range_with_len}
 use Rattle.std.proofs.lemmas.Bool.{cases_lt}
 use Rattle.std.proofs.lemmas.List.{get_or-map, get_or_default, length-map, length-append}
@@ -10,13 +10,13 @@ use Rattle.std.proofs.lemmas.List.Edits.{length-remove}
 use Rattle.cmwq_flush.specs.declared.served.Served.{Served}
 use Rattle.cmwq_flush.specs.declared.tally.Row.{Row}
 use Rattle.cmwq_flush.specs.Numbers.{IsRising, is_other, without}
-use Rattle.cmwq_flush.specs.Rows.{number_of, numbers_of, without_row, is_other_row, is_unused, ComesBefore}
+use Rattle.cmwq_flush.specs.Rows.{number_of, numbers_of, without_row, is_other_row, ComesBefore}
 use Rattle.cmwq_flush.specs.Served.{ticket_of, tickets_of, IsOlder, HasTicketAt, LacksTicket}
 use Rattle.cmwq_flush.specs.FlushBook.{FlushBook, new_book, flush_from, flush_tickets, served_of, IsReady, HasRoom, served_with_oldest, without_oldest, serve_oldest, after_end}
-use Rattle.cmwq_flush.specs.Colouring.{IsOrderly, IsColouring, IsRight}
+use Rattle.cmwq_flush.specs.Colouring.{IsOrderly, IsColouring, IsRight, IsToldByColours, AreUnused}
 use Rattle.cmwq_flush.proofs.Search.{find_at_key, find_absent, absent_is_none, remove_at}
 use Rattle.cmwq_flush.proofs.Orderly.{orderly_opened, orderly_ended, orderly_overflow, orderly_served, orderly_removed, orderly_left, orderly_drain_ended, rising_served, rising_overflow, length_filter_le, All_left, All_right}
-use Rattle.cmwq_flush.proofs.Recolouring.{colouring_opened, colouring_ended, colouring_served, colouring_removed, ready_from_clear, clear_from_ready}
+use Rattle.cmwq_flush.proofs.Recolouring.{colouring_opened, colouring_ended, colouring_served, colouring_removed}
 
 split : (t : Bool) (r : Row) (rows : List Row) (ns : List ℕ) → numbers_of rows ≡ ns → numbers_of (cond t (r ∷ rows) rows) ≡ cond t (number_of r ∷ ns) ns
 split true r rows ns e = ap (λ ms. number_of r ∷ ms) e
@@ -166,11 +166,30 @@ module _ (b : FlushBook) (rows : List Row) (colours : List ℕ) (t : ℕ) (is : 
   pub rows_ready : (i : ℕ) → b.opened ≡ numbers_of rows → HasTicketAt b.served t i → ((d : Served) → All (λ r. (get_or b.served i d).bound ≤ r.number) rows) → IsReady b t
   rows_ready i opened at ready = rw (served_at i at, opened) (numbers_from_rows (get_or b.served i (flush_from 0 0)).bound rows (ready (flush_from 0 0)))
 
-  -- the counts of its colour and of all older ones are 0 exactly where it is ready
-  pub clear_is_ready : (i : ℕ) → b.opened ≡ numbers_of rows → HasTicketAt b.served t i → (list_all (is_unused rows) (take (i + 1) colours) ≡ true) ↔ IsReady b t
-  clear_is_ready i opened at =
-      let o = is.orderly in
-      (λ clear. rows_ready i opened at (ready_from_clear colours b.served rows i o.few at.0 o.bounds_rise is.colouring clear), λ ready. clear_from_ready colours b.served rows i o.few at.0 o.bounds_rise is.colouring (ready_rows i opened at ready))
+  -- it has one place
+  one_place : (i j : ℕ) → HasTicketAt b.served t i → HasTicketAt b.served t j → i ≡ j
+  one_place i j at_i at_j =
+      let d = flush_from 0 0 in let here = at_i.1 d in let there = at_j.1 d in
+      ⊎_elim (λ (before : i < j). absurd (let rise = served_rise i j d before at_j.0 in omega arith)) (λ (after : j ≤ i).
+      ⊎_elim (λ (before : j < i). absurd (let rise = served_rise j i d before at_i.0 in omega arith)) (λ (same : i ≤ j). omega arith) (cases_lt j i)) (cases_lt i j)
+
+  pub told_at : (i : ℕ) (told : Bool) → b.opened ≡ numbers_of rows → HasTicketAt b.served t i → (told ≡ true) ↔ AreUnused rows (take (i + 1) colours) → IsToldByColours b t told
+  told_at i told opened at clear = record {
+    rows = rows;
+    colours = colours;
+    opened = opened;
+    colouring = is.colouring;
+    told = λ j at_j. rw (one_place j i at_j at) clear;
+  }
+
+  pub told_in_overflow : (told : Bool) → b.opened ≡ numbers_of rows → LacksTicket b.served t → IsToldByColours b t told
+  told_in_overflow told opened absent = record {
+    rows = rows;
+    colours = colours;
+    opened = opened;
+    colouring = is.colouring;
+    told = λ j at_j. absurd (let d = flush_from 0 0 in absent j d at_j.0 (at_j.1 d));
+  }
 
   pub empty_is_ready : b.opened ≡ numbers_of rows → LacksTicket b.served t → (rows ≡ []) ↔ IsReady b t
   empty_is_ready opened absent = (λ none. rw (not_served absent, opened, none) refl, λ ready. no_rows rows (rw (not_served absent, opened) at ready))

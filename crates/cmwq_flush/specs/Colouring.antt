@@ -1,11 +1,12 @@
 -- What holds of a flush book and its colours at every moment.
-use Rattle.std.specs.Prelude.{◌≡◌, ◌≢◌, ℕ, ◌*◌, ◌<◌, ◌≤◌, List, length, All, AllPairs, slice_index}
+use Rattle.std.specs.Prelude.{◌≡◌, ◌≢◌, ◌↔◌, ℕ, ◌+◌, ◌*◌, ◌<◌, ◌≤◌, Bool, List, length, take, All, AllPairs, IsTrue, slice_index}
+use Rattle.std.specs.List.{HoldsAt}
 use Rattle.std.specs.List.Sorted.{IsNonDecreasingBy}
 use Rattle.cmwq_flush.specs.declared.served.Served.{Served}
 use Rattle.cmwq_flush.specs.declared.tally.Row.{Row}
 use Rattle.cmwq_flush.specs.Numbers.{IsRising}
-use Rattle.cmwq_flush.specs.Rows.{numbers_of}
-use Rattle.cmwq_flush.specs.Served.{bound_of, first_waiting}
+use Rattle.cmwq_flush.specs.Rows.{numbers_of, is_unused}
+use Rattle.cmwq_flush.specs.Served.{bound_of, first_waiting, HasTicketAt}
 use Rattle.cmwq_flush.specs.FlushBook.{FlushBook, flush_tickets, standing}
 
 abbrev pub Differs : ℕ → ℕ → Type 0
@@ -24,6 +25,23 @@ pub record IsColouring (colours : List ℕ) (served : List Served) (rows : List 
   pub distinct : AllPairs Differs colours
   pub below : All (λ c. c < 16) colours
   pub right : All (HasRightColour colours served) rows
+
+-- the counts of these colours are 0
+abbrev pub AreUnused : List Row → List ℕ → Type 0
+AreUnused rows colours = All (λ c. IsTrue (is_unused rows c)) colours
+
+-- nothing is open that the flush at this place waits for
+abbrev pub WaitsForNothing : List Row → List Served → ℕ → Type 0
+WaitsForNothing rows served i = HoldsAt (λ s. All (λ r. s.bound ≤ r.number) rows) served i
+
+-- By a colouring of the book: a served flush is told ready exactly where the counts of its colour and of all older ones are 0. The i-th of the
+-- flushes has the i-th colour, so these are the colours up to its place.
+pub record IsToldByColours (b : FlushBook) (t : ℕ) (ready : Bool) : Type 0 where
+  pub rows : List Row
+  pub colours : List ℕ
+  pub opened : b.opened ≡ numbers_of rows
+  pub colouring : IsColouring colours b.served rows
+  pub told : (i : ℕ) → HasTicketAt b.served t i → IsTrue ready ↔ AreUnused rows (take (i + 1) colours)
 
 -- numbers and bounds below what comes next, bounds and tickets by age, and no more of each than there may be
 pub record IsOrderly (b : FlushBook) (rows : List Row) : Type 0 where

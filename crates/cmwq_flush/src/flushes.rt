@@ -1,6 +1,9 @@
-ghost use Rattle.std.specs.Prelude.{◌≡◌, ◌∷◌, ◌++◌, [], ◌<◌, ◌≤◌, ◌↔◌, All, Contains, IfOk, IfSome, IsTrue, length, slice_get, slice_index, vec_capacity, vec_len};
+ghost use Rattle.std.specs.Prelude.{◌≡◌, ◌∷◌, ◌++◌, [], ◌+◌, ◌<◌, ◌≤◌, ◌↔◌, All, Contains, IfOk, IfSome, IsTrue, length, slice_get, slice_index, take, vec_capacity, vec_len};
 ghost use Rattle.std.specs.List.{remove};
+ghost use Rattle.std.specs.List.Sorted.{IsNonDecreasingBy};
 ghost use Rattle.cmwq_flush.specs.FlushBook.{CanBegin, CanDrain, CanOpen, HasRoom, IsReady, after_begin, after_drain_begin, after_drain_end, after_end, after_ended, after_opened, flush_tickets, new_book, served_with_oldest, without_oldest};
+ghost use Rattle.cmwq_flush.specs.Colouring.{IsColouring, IsToldByColours, AreUnused, WaitsForNothing};
+ghost use Rattle.cmwq_flush.specs.Served.{bound_of};
 
 use crate::limits::{COLOURS, MOST_SERVED, TICKETS_OF_CALLER};
 use crate::served::{Served, find_served, is_latest_served, is_served};
@@ -60,11 +63,12 @@ impl Flushes {
 
     /// A queueing of this number was opened (`insert_work`, which gives it the current colour).
     pub fn opened(&mut self, number: Number)
-        requires { CanOpen self.old number }
+        requires can { CanOpen self.old number }
+        requires few { number < 9223372036854775808 }
         ensures { self.new ≡ after_opened self.old number }
     {
         self.tally.open(number, self.colours[self.served.len()]);
-        self.next = u64::from(number) + 1;
+        self.next = number + 1;
     }
 
     /// An open queueing has ended (`pwq_dec_nr_in_flight`).
@@ -90,13 +94,15 @@ impl Flushes {
         }
     }
 
-    /// Whether a flush may end: nothing is open that it waits for.
+    /// Whether a flush may end: nothing is open that it waits for. Of a served one that is so exactly where the counts of its colour and of all
+    /// older ones are 0 (`nr_in_flight`, of which the kernel waits for one colour after the other).
     pub fn ready(&self, ticket: Number) -> bool
         requires { Contains (flush_tickets self.now) ticket }
-        ensures { IsTrue result ↔ IsReady self.now ticket }
+        ensures bound { IsTrue result ↔ IsReady self.now ticket }
+        ensures colours { IsToldByColours self.now ticket result }
     {
         match find_served(&self.served, ticket) {
-            Some(place) => self.tally.are_clear(&self.colours[..place + 1]),
+            Some(place) => is_served_ready(&self.tally, &self.colours, &self.served, place),
             None => self.tally.is_empty(),
         }
     }
@@ -122,7 +128,7 @@ impl Flushes {
     pub fn may_open(&self, number: Number) -> bool
         ensures { IsTrue result ↔ CanOpen self.now number }
     {
-        self.next <= u64::from(number) && !self.tally.is_full()
+        self.next <= number && !self.tally.is_full()
     }
 
     /// Whether the queueing of this number is open.
@@ -204,6 +210,23 @@ impl Flushes {
     {
         !self.drains.is_empty()
     }
+}
+
+/// Whether the served flush at this place may end: the counts of its colour and of all older ones are 0, so nothing is open below its bound.
+fn is_served_ready(
+    tally: &Tally,
+    colours: &[Colour; COLOURS],
+    served: &[Served],
+    place: usize,
+) -> bool
+    requires place { place < length served.now }
+    requires few { length served.now ≤ MOST_SERVED }
+    requires rise { IsNonDecreasingBy bound_of served.now }
+    requires colouring { IsColouring colours.now served.now tally.now }
+    ensures colours { IsTrue result ↔ AreUnused tally.now (take (place + 1) colours.now) }
+    ensures bound { IsTrue result ↔ WaitsForNothing tally.now served.now place }
+{
+    tally.are_clear(&colours[..place + 1])
 }
 
 /// Puts the colour at this place behind all others: it is free.

@@ -14,6 +14,8 @@ impl<T: Source> Source for Drip<T> {
 
     ghost troubles = { λ d. T.troubles d.inner };
 
+    ghost outcomes = { λ d. T.outcomes d.inner };
+
     fn read(&mut self, buf: &mut [u8]) -> Result<usize, Trouble> {
         self.inner.read(&mut buf[..1])
     }
@@ -25,6 +27,8 @@ impl<T: Sink> Sink for Drip<T> {
     ghost held = { λ d. T.held d.inner };
 
     ghost troubles = { λ d. T.troubles d.inner };
+
+    ghost outcomes = { λ d. T.outcomes d.inner };
 
     fn write(&mut self, buf: &[u8]) -> Result<usize, Trouble> {
         self.inner.write(&buf[..1])

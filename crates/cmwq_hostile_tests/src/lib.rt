@@ -11,6 +11,8 @@ mod faults;
 #[cfg(test)]
 mod inputs;
 #[cfg(test)]
+mod large;
+#[cfg(test)]
 mod run;
 #[cfg(test)]
 mod word;

@@ -92,6 +92,40 @@ fn a_gate_that_nobody_opens_is_told(rt: HostRuntime) {
     assert_eq!(rt; ran.output.as_slice(), b"".as_slice());
 }
 
+/// There is room for the two runs and for no sleep. Nobody opens the gate.
+const SLEEP_WITHOUT_ROOM: &[u8] = br#"{"cpus":1,"workers":1,"room":3,
+"queues":[{"name":"q0","max_active":1,"high":false,"intensive":false}],
+"items":[{"name":"A","does":[["sleep_at","g"]]}],
+"callers":[[["queue","A","q0",0]]]}"#;
+
+/// The first gate is opened, and the second isn't.
+const SECOND_GATE_SHUT: &[u8] = br#"{"cpus":1,"workers":2,"room":100,
+"queues":[{"name":"q0","max_active":2,"high":false,"intensive":false}],
+"items":[{"name":"A","does":[["sleep_at","g"],["sleep_at","h"]]},{"name":"B","does":[["open","g"]]}],
+"callers":[[["queue","A","q0",0],["queue","B","q0",0],["flush","q0"]]]}"#;
+
+/// A run tells that a gate was missed, and writes nothing.
+fn tells_a_gate<R: Threads + Wait + Abort + AllocGlobal + Sync>(
+    rt: &R,
+    script: &[u8],
+    told: &[u8],
+) {
+    let ran = run_on(rt, script);
+    assert_eq!(rt; ran.errors.as_slice(), told);
+    assert_eq!(rt; ran.status, 1);
+    assert_eq!(rt; ran.output.as_slice(), b"".as_slice());
+}
+
+#[test]
+fn a_sleep_without_room_passes_its_gate(rt: HostRuntime) {
+    tells_a_gate(&rt, SLEEP_WITHOUT_ROOM, b"cmwq: gate g was not opened\n");
+}
+
+#[test]
+fn the_second_gate_is_told_by_its_name(rt: HostRuntime) {
+    tells_a_gate(&rt, SECOND_GATE_SHUT, b"cmwq: gate h was not opened\n");
+}
+
 #[test]
 fn a_run_makes_calls(rt: HostRuntime) {
     let ran = run_on(&rt, CALLS_OF_A_RUN);

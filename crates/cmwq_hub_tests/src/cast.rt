@@ -27,15 +27,15 @@ pub(crate) trait Act {
 #[derive(Drop)]
 struct WorkerEnd<N: HubName> {
     worker: Worker<N>,
-    made: Option<u32>,
+    made: Option<u64>,
 }
 
-/// All callers and workers, after their threads have ended, and how many entries the workers say that they made.
+/// All callers and workers, after their threads have ended, and how many entries the workers say that they made, if none met a fault.
 #[derive(Drop)]
 struct Ended<N: HubName> {
     callers: Vec<Caller<N>>,
     workers: Vec<Worker<N>>,
-    made: u64,
+    made: Option<u64>,
 }
 
 fn act_once<N: HubName, A: Act, R: Wait + Abort>(
@@ -113,6 +113,10 @@ fn start_workers<
     threads
 }
 
+fn sum_of(made: Option<u64>, own: Option<u64>) -> Option<u64> {
+    Some(made?.wrapping_add(own?))
+}
+
 /// The hub is closed when all callers have ended.
 fn run_threads<
     's,
@@ -131,10 +135,10 @@ fn run_threads<
     }
     hub.close(rt);
     let mut workers = Vec::new(alloc);
-    let mut made = 0u64;
+    let mut made = Some(0u64);
     for thread in working {
         let WorkerEnd { worker, made: own } = thread.join(rt);
-        made = made.wrapping_add(u64::from(own.expect(rt, "a worker that came to its end")));
+        made = sum_of(made, own);
         workers.push(worker).expect(rt, "memory");
     }
     Ended {
@@ -172,19 +176,26 @@ fn run_all<
 fn entries_of<N: HubName>(callers: &[Caller<N>], workers: &[Worker<N>]) -> u64 {
     let mut all = 0u64;
     for caller in callers {
-        all = all.wrapping_add(u64::from(caller.serial()));
+        all = all.wrapping_add(caller.serial());
     }
     for worker in workers {
-        all = all.wrapping_add(u64::from(worker.serial()));
+        all = all.wrapping_add(worker.serial());
     }
     all
+}
+
+/// The history that a hub left, and how many entries the workers say that they made, if none met a fault.
+#[derive(Drop)]
+struct Ran {
+    history: Vec<Entry>,
+    made: Option<u64>,
 }
 
 fn run_under<
     N: HubName + Send + Sync + 'static,
     P: Work + Act + Sync,
     R: Threads + Wait + Abort + AllocGlobal + Sync,
->(rt: &R, parts: HubParts, play: &P) -> Vec<Entry>
+>(rt: &R, parts: HubParts, play: &P) -> Ran
     requires layout { parts.shape ≡ N.layout }
     requires book { parts.opening.book ≡ N.book }
     requires ledger { (parts.blank.name ≡ N.name) × (parts.blank.parts ≡ N.parts) }
@@ -198,9 +209,16 @@ fn run_under<
     let history = end(rt, hub, callers.as_mut_slice(), workers.as_mut_slice());
     let counted = entries_of(callers.as_slice(), workers.as_slice());
     assert_eq!(rt; history.len() as u64, counted);
-    let by_workers = history.iter().filter(|entry| is_by_a_worker(entry)).count();
-    assert_eq!(rt; by_workers as u64, made);
-    history
+    Ran { history, made }
+}
+
+fn run_on_a_new_hub<P: Work + Act + Sync, R: Threads + Wait + Abort + AllocGlobal + Sync>(
+    rt: &R,
+    shape: &Shape,
+    play: &P,
+) -> Ran {
+    let parts = HubParts::new(rt, rt.alloc(), shape).expect(rt, "memory");
+    run_under::<Brand, P, R>(rt, parts, play)
 }
 
 /// Runs all callers and workers of a hub of this shape at once. The history is legal, and as long as all of them count.
@@ -209,6 +227,19 @@ pub(crate) fn run<P: Work + Act + Sync, R: Threads + Wait + Abort + AllocGlobal 
     shape: &Shape,
     play: &P,
 ) -> Vec<Entry> {
-    let parts = HubParts::new(rt, rt.alloc(), shape).expect(rt, "memory");
-    run_under::<Brand, P, R>(rt, parts, play)
+    let Ran { history, made } = run_on_a_new_hub(rt, shape, play);
+    let by_workers = history.iter().filter(|entry| is_by_a_worker(entry)).count();
+    assert_eq!(rt; made, Some(by_workers as u64));
+    history
+}
+
+/// The same for a hub that fails: a worker meets a fault.
+pub(crate) fn run_to_a_fault<P: Work + Act + Sync, R: Threads + Wait + Abort + AllocGlobal + Sync>(
+    rt: &R,
+    shape: &Shape,
+    play: &P,
+) -> Vec<Entry> {
+    let Ran { history, made } = run_on_a_new_hub(rt, shape, play);
+    assert_eq!(rt; made, None);
+    history
 }

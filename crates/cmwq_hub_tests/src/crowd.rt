@@ -45,7 +45,7 @@ struct Crowd {
 
 /// Queues the item behind this one.
 fn queue_next<N: HubName, R: Wait>(item: ItemId, context: &mut RunCtx<N, R>)
-    ensures { Later context.old context.new }
+    ensures { Later context.old.seat context.new.seat }
 {
     let item = ItemId(item.0.wrapping_add(1));
     let queue = QueueId(0);

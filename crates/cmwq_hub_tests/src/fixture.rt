@@ -55,6 +55,17 @@ pub(crate) fn on_a_hub<S: Scene, R: Wait + Abort + AllocGlobal>(rt: &R, shape: &
     play_under::<Brand, S, R>(rt, parts, scene);
 }
 
+/// Opens a hub of this shape that keeps so many entries at a time, for the scene alone.
+pub(crate) fn on_a_hub_keeping<S: Scene, R: Wait + Abort + AllocGlobal>(
+    rt: &R,
+    shape: &Shape,
+    kept: u32,
+    scene: &S,
+) {
+    let parts = HubParts::keeping(rt, rt.alloc(), shape, kept).expect(rt, "memory");
+    play_under::<Brand, S, R>(rt, parts, scene);
+}
+
 /// Makes a caller's call.
 pub(crate) fn make<N: HubName, R: Wait + Abort>(
     rt: &R,
@@ -122,7 +133,7 @@ pub(crate) fn entries_of_others<N: HubName, R: Wait + Abort>(
     rt: &R,
     hub: &Hub<N>,
     caller: &mut Caller<N>,
-    asked: u32,
+    asked: u64,
 ) -> Number {
     let Ok(Reply::Ticket(ticket)) = begin_flush(rt, hub, caller, QueueId(1)) else {
         panic!(rt; "no ticket");
@@ -186,11 +197,12 @@ pub(crate) fn end<N: HubName, R: Wait + Abort + AllocGlobal>(
 ) -> Vec<Entry> {
     let alloc: Global = rt.alloc();
     let shape = hub.shape().copy(alloc).expect(rt, "memory");
-    let history = hub
+    let rest = hub
         .into_history(rt, callers, workers)
         .expect(rt, "a history");
-    assert!(rt; is_legal(alloc, &shape, &history).expect(rt, "memory"));
-    history
+    assert_eq!(rt; rest.first, 0);
+    assert!(rt; is_legal(alloc, &shape, &rest.entries).expect(rt, "memory"));
+    rest.entries
 }
 
 /// Ends a hub that had this caller alone.

@@ -89,7 +89,7 @@ impl Flushes {
     ) {
         assert!(rt; matches!(answer(rt, hub, caller, queueing(ITEM)), Reply::Yes(_)));
         for asked in 0..400_000 {
-            if entries_of_others(rt, hub, caller, asked) == 2 + u32::from(FLUSHES) {
+            if entries_of_others(rt, hub, caller, asked) == 2 + u64::from(FLUSHES) {
                 self.gates.open(rt, 0);
                 return;
             }
@@ -135,6 +135,45 @@ fn forty_flushes_wait_for_one_item(rt: HostRuntime) {
         matches!(entry.call, Call::End { .. }) && entry.who != Who::Caller(CallerId(0))
     });
     assert!(rt; finished.is_some() && finished < first_end);
+}
+
+/// An item that is held is queued once more.
+#[derive(Drop)]
+struct Again {
+    gates: Gates,
+}
+
+impl Work for Again {
+    fn run<N: HubName, R: Wait>(&self, _item: ItemId, context: &mut RunCtx<N, R>) {
+        self.gates.pass(context.rt(), 0);
+    }
+}
+
+impl Act for Again {
+    fn act<N: HubName, R: Wait + Abort>(
+        &self,
+        rt: &R,
+        hub: &Hub<N>,
+        caller: &mut Caller<N>,
+        _number: u8,
+    ) {
+        assert!(rt; matches!(answer(rt, hub, caller, queueing(ITEM)), Reply::Yes(_)));
+        until_it_runs(rt, hub, caller);
+        assert!(rt; matches!(answer(rt, hub, caller, queueing(ITEM)), Reply::Yes(_)));
+        assert_eq!(rt; bits(rt, hub, caller), Some(3));
+        self.gates.open(rt, 0);
+        answer(rt, hub, caller, Call::Flush { queue: QUEUE });
+        assert_eq!(rt; bits(rt, hub, caller), Some(0));
+    }
+}
+
+#[test]
+fn an_item_that_runs_is_pending_too(rt: HostRuntime) {
+    let shape = shape(&rt, counts(1, 1), &[plain_queue(2)]);
+    let again = Again {
+        gates: Gates::new(),
+    };
+    run(&rt, &shape, &again);
 }
 
 /// An item queues itself in each of its first thousand runs, while a cancel_sync waits for it.

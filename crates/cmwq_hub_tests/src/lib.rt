@@ -8,11 +8,17 @@ mod closing;
 #[cfg(test)]
 mod crowd;
 #[cfg(test)]
+mod eight;
+#[cfg(test)]
+mod failing;
+#[cfg(test)]
 mod fixture;
 #[cfg(test)]
 mod gate;
 #[cfg(test)]
 mod hostile;
+#[cfg(test)]
+mod journal;
 #[cfg(test)]
 mod one_caller;
 #[cfg(test)]

@@ -25,6 +25,34 @@ fn read_bits<N: HubName>(rt: &impl Abort, shape: &Shape, caller: &mut Caller<N>)
     bits(caller, ItemId(0))
 }
 
+/// A caller that has made a call, beside a worker that has seen none.
+struct TwoViews;
+
+impl Scene for TwoViews {
+    fn play<N: HubName, R: Wait + Abort + AllocGlobal>(
+        &self,
+        rt: &R,
+        hub: Hub<N>,
+        seats: Seats<N>,
+    ) {
+        let mut seats = seats;
+        let mut caller = seats.caller().expect(rt, "a caller");
+        let worker = seats.worker().expect(rt, "a worker");
+        answer(rt, &hub, &mut caller, &[b"c0 0 queue 0 0 0 = yes 0"]);
+        caller.agrees(&caller);
+        caller.agrees_with(&worker);
+        worker.agrees(&worker);
+        let history = end_alone(rt, hub, caller);
+        compare(rt, &history, &[b"c0 0 queue 0 0 0 = yes 0"]);
+    }
+}
+
+#[test]
+fn a_caller_and_a_worker_agree(rt: HostRuntime) {
+    let shape = shape(&rt, COUNTS, &[plain_queue(1)]);
+    on_a_hub(&rt, &shape, &TwoViews);
+}
+
 /// Each of a caller's calls once.
 struct EachCall;
 

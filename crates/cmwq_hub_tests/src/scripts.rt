@@ -18,7 +18,7 @@ impl Work for Nothing {
     fn run<N: HubName, R: Wait>(&self, _item: ItemId, _context: &mut RunCtx<N, R>) {}
 }
 
-fn counts(room: u32) -> Counts {
+fn counts(room: u64) -> Counts {
     Counts {
         cpus: 1,
         workers: 2,

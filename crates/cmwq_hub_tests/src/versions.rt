@@ -39,12 +39,12 @@ const QUEUE: Call = Call::Queue {
     cpu: CpuId(0),
 };
 
-// The number of entries that are read, and the bits of an item.
-type Read = Option<(u64, u8)>;
+// The number of entries that are read, the bits of an item, and how many are the caller's.
+type Read = Option<(u64, u8, u64)>;
 
 fn read<N: HubName>(sights: &mut Option<Sights<N>>, item: u16) -> Read {
-    let (front, bits) = sights.as_mut()?.look(ItemId(item))?;
-    Some((front.len(), bits))
+    let found = sights.as_mut()?.look(ItemId(item), CallerId(0))?;
+    Some((found.front.len(), found.bits, found.serial))
 }
 
 // What is read of item 1 before its entry is shown, after it, then of item 0, and of item 1 once the shelf was ended.
@@ -88,8 +88,8 @@ fn a_shown_entry_is_read(rt: HostRuntime) -> Result<(), Fail> {
     };
     let opening = Opening::new(&rt, rt.alloc(), &shape, 1)?;
     let (before, after, other, ended) = shown_and_read::<Brand, _>(&rt, opening, mark);
-    assert_eq!(rt; (before, after), (Some((0, 0)), Some((1, 1))));
-    assert_eq!(rt; (other, ended), (Some((1, 0)), None));
+    assert_eq!(rt; (before, after), (Some((0, 0, 0)), Some((1, 1, 1))));
+    assert_eq!(rt; (other, ended), (Some((1, 0, 1)), None));
     Ok(())
 }
 

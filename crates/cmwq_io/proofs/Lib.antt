@@ -1,4 +1,5 @@
 pub mod KnownBytes
 pub mod Trying
+pub mod Calls
 pub mod ReadAheadLemmas
 pub mod FirstLineLemmas

@@ -1,5 +1,5 @@
 -- What a clause reads of a source or a sink that fails on purpose.
-use Rattle.std.specs.Prelude.{ℕ, ◌-◌, nat_lt, if◌then◌else◌, Option, Some, None}
+use Rattle.std.specs.Prelude.{ℕ, ◌-◌, nat_lt, if◌then◌else◌, List, Option, Some, None}
 use Rattle.cmwq_io.specs.declared.trouble.Trouble.{Trouble}
 use Rattle.cmwq_io.specs.declared.fails_at.Plan.{Plan}
 use Rattle.cmwq_io.specs.declared.fails_at.FailsAt.{FailsAt}
@@ -12,6 +12,9 @@ plan_of f = f.plan
 
 abbrev pub troubles_of : {T : Type 0} → FailsAt T → ℕ
 troubles_of f = f.troubles
+
+abbrev pub outcomes_of : {T : Type 0} → FailsAt T → List (Option Trouble)
+outcomes_of f = f.outcomes
 
 -- the trouble that the next call answers
 abbrev pub trouble_due : Plan → Option Trouble

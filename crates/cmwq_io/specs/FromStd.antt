@@ -1,5 +1,5 @@
 -- What a clause reads of a reader or a writer of std that serves as a source or a sink.
-use Rattle.std.specs.Prelude.{ℕ}
+use Rattle.std.specs.Prelude.{ℕ, List, Option}
 use Rattle.std.specs.declared.io.ErrorKind.{ErrorKind}
 use Rattle.std.specs.declared.io.ErrorKind.TheVariants as kind
 use Rattle.cmwq_io.specs.declared.trouble.Trouble.{Trouble}
@@ -16,3 +16,6 @@ inner_of s = s.inner
 
 abbrev pub troubles_of : {T : Type 0} → FromStd T → ℕ
 troubles_of s = s.troubles
+
+abbrev pub outcomes_of : {T : Type 0} → FromStd T → List (Option Trouble)
+outcomes_of s = s.outcomes

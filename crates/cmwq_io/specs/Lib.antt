@@ -1,4 +1,5 @@
 pub mod Counts
+pub mod Outcomes
 pub mod Moves
 pub mod FromStd
 pub mod Memory

@@ -1,5 +1,6 @@
 -- What a clause reads of bytes in memory that serve as a source or a sink.
-use Rattle.std.specs.Prelude.{ℕ}
+use Rattle.std.specs.Prelude.{ℕ, List, Option}
+use Rattle.cmwq_io.specs.declared.trouble.Trouble.{Trouble}
 use Rattle.cmwq_io.specs.declared.memory.Memory.{Memory}
 
 abbrev pub bytes_of : {T : Type 0} → Memory T → T
@@ -7,3 +8,6 @@ bytes_of m = m.bytes
 
 abbrev pub troubles_of : {T : Type 0} → Memory T → ℕ
 troubles_of m = m.troubles
+
+abbrev pub outcomes_of : {T : Type 0} → Memory T → List (Option Trouble)
+outcomes_of m = m.outcomes

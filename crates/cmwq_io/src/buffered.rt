@@ -1,9 +1,11 @@
 //! A sink that gathers small writes.
 ghost use Rattle.std.specs.Prelude.{◌≡◌, ◌+◌, ◌-◌, ◌<◌, ◌≤◌, [], ◌++◌, length, take, drop, IfOk, OnOk, OnErr, vec_len, vec_capacity};
-ghost use Rattle.std.specs.Io.KnownBytes.{Keeps, append_known};
+ghost use Rattle.std.specs.Io.KnownBytes.{Keeps, WriteAppends, append_known};
 ghost use Rattle.cmwq_io.specs.Counts.{CountsTrouble};
+ghost use Rattle.cmwq_io.specs.Moves.{TakesPart};
 
 use crate::memory::fill;
+use crate::outcomes::Outcomes;
 use crate::sink::Sink;
 use crate::trouble::Trouble;
 use std::alloc::{AllocError, Global};
@@ -17,6 +19,7 @@ const BUFFER: usize = 65_536;
 pub struct BufferedSink<W> {
     inner: W,
     buffer: Vec<u8>,
+    outcomes: Outcomes,
     ghost room: { 0 < vec_capacity buffer },
 }
 
@@ -31,7 +34,11 @@ impl<W> BufferedSink<W> {
         ensures empty { IfOk result (λ s. gathered s ≡ []) }
     {
         let buffer = Vec::with_capacity(alloc, BUFFER)?;
-        Ok(BufferedSink { inner, buffer })
+        Ok(BufferedSink {
+            inner,
+            buffer,
+            outcomes: Outcomes::new(),
+        })
     }
 
     /// What it writes to.
@@ -52,6 +59,7 @@ impl<W: Sink> BufferedSink<W> {
         ensures less { OnOk result (vec_len self.new.buffer < vec_len self.old.buffer) }
         ensures room { vec_capacity self.new.buffer ≡ vec_capacity self.old.buffer }
         ensures count { CountsTrouble (W.troubles self.old.inner) (W.troubles self.new.inner) result }
+        ensures outcomes { self.new.outcomes ≡ self.old.outcomes }
     {
         let count = self.inner.write(self.buffer.as_slice())?;
         remove_front(&mut self.buffer, count);
@@ -63,12 +71,38 @@ impl<W: Sink> BufferedSink<W> {
         ensures bytes { Keeps (all_written W.written self.old) (all_written W.written self.new) }
         ensures room { OnOk result (vec_len self.new.buffer < vec_capacity self.new.buffer) }
         ensures count { CountsTrouble (W.troubles self.old.inner) (W.troubles self.new.inner) result }
+        ensures outcomes { self.new.outcomes ≡ self.old.outcomes }
     {
         if self.buffer.len() == self.buffer.capacity() {
             self.hand_on()
         } else {
             Ok(())
         }
+    }
+
+    /// Gathers a front of `buf`, at least one byte.
+    fn gather(&mut self, buf: &[u8]) -> Result<usize, Trouble>
+        requires { 0 < length buf.now }
+        ensures bound { TakesPart result buf.now }
+        ensures bytes { WriteAppends (all_written W.written self.old) (all_written W.written self.new) result buf.now }
+        ensures count { CountsTrouble (W.troubles self.old.inner) (W.troubles self.new.inner) result }
+        ensures outcomes { self.new.outcomes ≡ self.old.outcomes }
+    {
+        self.make_room()?;
+        fill(&mut self.buffer, buf)
+    }
+
+    /// Hands on all that is gathered, and has the inner sink hand on all.
+    fn hand_all_on(&mut self) -> Result<(), Trouble>
+        ensures bytes { Keeps (all_written W.written self.old) (all_written W.written self.new) }
+        ensures empty { OnOk result (length (gathered self.new) + W.held self.new.inner ≡ 0) }
+        ensures count { CountsTrouble (W.troubles self.old.inner) (W.troubles self.new.inner) result }
+        ensures outcomes { self.new.outcomes ≡ self.old.outcomes }
+    {
+        while !self.buffer.is_empty() {
+            self.hand_on()?;
+        }
+        self.inner.flush()
     }
 }
 
@@ -79,16 +113,18 @@ impl<W: Sink> Sink for BufferedSink<W> {
 
     ghost troubles = { λ s. W.troubles s.inner };
 
+    ghost outcomes = { λ s. s.outcomes };
+
     fn write(&mut self, buf: &[u8]) -> Result<usize, Trouble> {
-        self.make_room()?;
-        fill(&mut self.buffer, buf)
+        let answer = self.gather(buf);
+        self.outcomes.add(&answer);
+        answer
     }
 
     fn flush(&mut self) -> Result<(), Trouble> {
-        while !self.buffer.is_empty() {
-            self.hand_on()?;
-        }
-        self.inner.flush()
+        let answer = self.hand_all_on();
+        self.outcomes.add(&answer);
+        answer
     }
 }
 

@@ -1,10 +1,12 @@
 //! A source or a sink that fails on purpose, for tests.
-ghost use Rattle.std.specs.Prelude.{◌≡◌, ◌-◌, ◌<◌, length, Err, IfSome, OnOk};
+ghost use Rattle.std.specs.Prelude.{◌≡◌, ◌-◌, ◌<◌, [], ◌∷◌, ◌++◌, length, Err, IfSome, OnOk};
 ghost use Rattle.std.specs.Io.{ReadsAtMost};
 ghost use Rattle.std.specs.Io.KnownBytes.{ReadConsumes, WriteAppends, Keeps};
 ghost use Rattle.cmwq_io.specs.Counts.{CountsTrouble};
+ghost use Rattle.cmwq_io.specs.Outcomes.{outcome_of};
 ghost use Rattle.cmwq_io.specs.Moves.{TakesPart};
 
+use crate::outcomes::Outcomes;
 use crate::sink::Sink;
 use crate::source::Source;
 use crate::trouble::{Trouble, count_after};
@@ -46,10 +48,11 @@ pub struct FailsAt<T> {
     inner: T,
     plan: Plan,
     troubles: u64,
+    outcomes: Outcomes,
 }
 
 impl<T> FailsAt<T> {
-    ghost use Rattle.cmwq_io.specs.FailsAt.{inner_of, plan_of, troubles_of};
+    ghost use Rattle.cmwq_io.specs.FailsAt.{inner_of, plan_of, troubles_of, outcomes_of};
 
     /// The call with this number, counted from 1, answers `Failed`, and all others are passed on.
     pub fn new(inner: T, call: u64) -> FailsAt<T>
@@ -57,6 +60,7 @@ impl<T> FailsAt<T> {
         ensures inner { inner_of result ≡ inner }
         ensures plan { plan_of result ≡ record { before = call - 1; times = 1; trouble = Trouble.Failed } }
         ensures troubles { troubles_of result ≡ 0 }
+        ensures outcomes { outcomes_of result ≡ [] }
     {
         let plan = Plan {
             before: call - 1,
@@ -67,6 +71,7 @@ impl<T> FailsAt<T> {
             inner,
             plan,
             troubles: 0,
+            outcomes: Outcomes::new(),
         }
     }
 
@@ -77,6 +82,7 @@ impl<T> FailsAt<T> {
         ensures inner { inner_of result ≡ inner }
         ensures plan { plan_of result ≡ record { before = call - 1; times = times; trouble = Trouble.Interrupted } }
         ensures troubles { troubles_of result ≡ 0 }
+        ensures outcomes { outcomes_of result ≡ [] }
     {
         let plan = Plan {
             before: call - 1,
@@ -87,6 +93,7 @@ impl<T> FailsAt<T> {
             inner,
             plan,
             troubles: 0,
+            outcomes: Outcomes::new(),
         }
     }
 
@@ -103,6 +110,8 @@ impl<T: Source> Source for FailsAt<T> {
 
     ghost troubles = { λ f. f.troubles };
 
+    ghost outcomes = { λ f. f.outcomes };
+
     ghost use Rattle.cmwq_io.specs.FailsAt.{trouble_due, plan_after};
 
     fn read(&mut self, buf: &mut [u8]) -> Result<usize, Trouble>
@@ -110,6 +119,7 @@ impl<T: Source> Source for FailsAt<T> {
         ensures bound { ReadsAtMost result buf.new }
         ensures bytes { ReadConsumes (T.left self.old.inner) (T.left self.new.inner) result buf.new }
         ensures count { CountsTrouble self.old.troubles self.new.troubles result }
+        ensures outcome { self.new.outcomes ≡ self.old.outcomes ++ outcome_of result ∷ [] }
         ensures due { IfSome (trouble_due self.old.plan) (λ trouble. result ≡ Err trouble) }
         ensures plan { self.new.plan ≡ plan_after self.old.plan }
     {
@@ -118,6 +128,7 @@ impl<T: Source> Source for FailsAt<T> {
             None => self.inner.read(buf),
         };
         self.troubles = count_after(self.troubles, &answer);
+        self.outcomes.add(&answer);
         answer
     }
 }
@@ -129,6 +140,8 @@ impl<T: Sink> Sink for FailsAt<T> {
 
     ghost troubles = { λ f. f.troubles };
 
+    ghost outcomes = { λ f. f.outcomes };
+
     ghost use Rattle.cmwq_io.specs.FailsAt.{trouble_due, plan_after};
 
     fn write(&mut self, buf: &[u8]) -> Result<usize, Trouble>
@@ -136,6 +149,7 @@ impl<T: Sink> Sink for FailsAt<T> {
         ensures bound { TakesPart result buf.now }
         ensures bytes { WriteAppends (T.written self.old.inner) (T.written self.new.inner) result buf.now }
         ensures count { CountsTrouble self.old.troubles self.new.troubles result }
+        ensures outcome { self.new.outcomes ≡ self.old.outcomes ++ outcome_of result ∷ [] }
         ensures due { IfSome (trouble_due self.old.plan) (λ trouble. result ≡ Err trouble) }
         ensures plan { self.new.plan ≡ plan_after self.old.plan }
     {
@@ -144,6 +158,7 @@ impl<T: Sink> Sink for FailsAt<T> {
             None => self.inner.write(buf),
         };
         self.troubles = count_after(self.troubles, &answer);
+        self.outcomes.add(&answer);
         answer
     }
 
@@ -151,6 +166,7 @@ impl<T: Sink> Sink for FailsAt<T> {
         ensures bytes { Keeps (T.written self.old.inner) (T.written self.new.inner) }
         ensures empty { OnOk result (T.held self.new.inner ≡ 0) }
         ensures count { CountsTrouble self.old.troubles self.new.troubles result }
+        ensures outcome { self.new.outcomes ≡ self.old.outcomes ++ outcome_of result ∷ [] }
         ensures due { IfSome (trouble_due self.old.plan) (λ trouble. result ≡ Err trouble) }
         ensures plan { self.new.plan ≡ plan_after self.old.plan }
     {
@@ -159,6 +175,7 @@ impl<T: Sink> Sink for FailsAt<T> {
             None => self.inner.flush(),
         };
         self.troubles = count_after(self.troubles, &answer);
+        self.outcomes.add(&answer);
         answer
     }
 }

@@ -1,8 +1,9 @@
 //! std's readers and writers as sources and sinks.
-ghost use Rattle.std.specs.Prelude.{◌≡◌};
+ghost use Rattle.std.specs.Prelude.{◌≡◌, []};
 ghost use Rattle.std.specs.IoError.{error_kind};
 ghost use Rattle.cmwq_io.specs.FromStd.{trouble_of};
 
+use crate::outcomes::Outcomes;
 use crate::sink::Sink;
 use crate::source::Source;
 use crate::trouble::{Trouble, count_after};
@@ -15,17 +16,23 @@ use std::io::{ErrorKind, Read, Write};
 pub struct FromStd<T> {
     inner: T,
     troubles: u64,
+    outcomes: Outcomes,
 }
 
 impl<T> FromStd<T> {
-    ghost use Rattle.cmwq_io.specs.FromStd.{inner_of, troubles_of};
+    ghost use Rattle.cmwq_io.specs.FromStd.{inner_of, troubles_of, outcomes_of};
 
     /// Reads from `inner`, or writes to it. No call has failed yet.
     pub fn new(inner: T) -> FromStd<T>
         ensures inner { inner_of result ≡ inner }
         ensures troubles { troubles_of result ≡ 0 }
+        ensures outcomes { outcomes_of result ≡ [] }
     {
-        FromStd { inner, troubles: 0 }
+        FromStd {
+            inner,
+            troubles: 0,
+            outcomes: Outcomes::new(),
+        }
     }
 }
 
@@ -44,12 +51,15 @@ impl<T: Read> Source for FromStd<T> {
 
     ghost troubles = { λ s. s.troubles };
 
+    ghost outcomes = { λ s. s.outcomes };
+
     fn read(&mut self, buf: &mut [u8]) -> Result<usize, Trouble> {
         let answer = match self.inner.read(buf) {
             Ok(count) => Ok(count),
             Err(error) => Err(trouble_of(&error)),
         };
         self.troubles = count_after(self.troubles, &answer);
+        self.outcomes.add(&answer);
         answer
     }
 }
@@ -61,6 +71,8 @@ impl<T: Write> Sink for FromStd<T> {
 
     ghost troubles = { λ s. s.troubles };
 
+    ghost outcomes = { λ s. s.outcomes };
+
     fn write(&mut self, buf: &[u8]) -> Result<usize, Trouble> {
         let answer = match self.inner.write(buf) {
             Ok(0) => Err(Trouble::Failed),
@@ -68,6 +80,7 @@ impl<T: Write> Sink for FromStd<T> {
             Err(error) => Err(trouble_of(&error)),
         };
         self.troubles = count_after(self.troubles, &answer);
+        self.outcomes.add(&answer);
         answer
     }
 
@@ -77,6 +90,7 @@ impl<T: Write> Sink for FromStd<T> {
             Err(error) => Err(trouble_of(&error)),
         };
         self.troubles = count_after(self.troubles, &answer);
+        self.outcomes.add(&answer);
         answer
     }
 }

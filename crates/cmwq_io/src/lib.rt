@@ -7,6 +7,7 @@ mod fails_at;
 mod from_std;
 mod lines;
 mod memory;
+mod outcomes;
 mod patient;
 mod sink;
 mod source;

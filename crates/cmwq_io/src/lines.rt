@@ -2,6 +2,7 @@
 ghost use Rattle.std.specs.Prelude.{◌≡◌, ◌+◌, ◌-◌, ◌<◌, ◌≤◌, ℕ, List, [], ◌++◌, length, take, drop, slice_range, position, vec_len, true, false, MatchBool, IfSome, IfOk, OnErr};
 ghost use Rattle.std.specs.Io.KnownBytes.{Keeps, ReadConsumes, IsAtEnd, prepend_known};
 ghost use Rattle.cmwq_io.specs.Counts.{Rises};
+ghost use Rattle.cmwq_io.specs.Outcomes.{EndsAtFault};
 ghost use Rattle.cmwq_io.specs.Feeds.{is_feed, near_feed};
 
 use crate::patient::read_some;
@@ -119,6 +120,7 @@ impl Lines {
     /// must be one and the same source at each call. `line` gets the line where it is `Whole` or `Cut`, and
     /// is empty otherwise. A `Long` line stays where it is. On `Err` nothing is lost, and the next call goes on
     /// where this one stood.
+    #[tactic(auto, using(crate::proofs::Calls::none_made, crate::proofs::Calls::made_on))]
     pub fn next_line<S: Source>(
         &mut self,
         source: &mut S,
@@ -130,6 +132,7 @@ impl Lines {
             (prepend_known self.new (S.left source.new))) }
         ensures grown { S.troubles source.old ≤ S.troubles source.new }
         ensures fault { OnErr result (Rises (S.troubles source.old) (S.troubles source.new)) }
+        ensures calls { EndsAtFault (S.outcomes source.old) (S.outcomes source.new) result }
     {
         while self.is_short() {
             if !self.read_more(source)? {
@@ -171,6 +174,7 @@ impl Lines {
             ((self.new ≡ self.old) × IsAtEnd (S.left source.new))) }
         ensures grown { S.troubles source.old ≤ S.troubles source.new }
         ensures fault { OnErr result (Rises (S.troubles source.old) (S.troubles source.new)) }
+        ensures calls { EndsAtFault (S.outcomes source.old) (S.outcomes source.new) result }
     {
         let kept = move_to_front(&mut self.bytes, self.start, self.end);
         self.start = 0;
@@ -253,6 +257,7 @@ fn read_behind<S: Source>(
     ensures len { vec_len bytes.new ≡ vec_len bytes.old }
     ensures grown { S.troubles source.old ≤ S.troubles source.new }
     ensures fault { OnErr result (Rises (S.troubles source.old) (S.troubles source.new)) }
+    ensures calls { EndsAtFault (S.outcomes source.old) (S.outcomes source.new) result }
 {
     read_some(source, &mut bytes[at..])
 }

@@ -2,6 +2,7 @@
 ghost use Rattle.std.specs.Prelude.{◌≡◌, ◌↔◌, ◌<◌, ◌≤◌, [], ◌++◌, length, take, Some, IsErr, IfOk, OnErr, vec_len, vec_capacity};
 ghost use Rattle.cmwq_io.specs.Moves.{TakesPart};
 
+use crate::outcomes::Outcomes;
 use crate::sink::Sink;
 use crate::source::Source;
 use crate::trouble::{Trouble, count_after};
@@ -13,31 +14,51 @@ use std::alloc::{AllocError, Global};
 pub struct Memory<T> {
     bytes: T,
     troubles: u64,
+    outcomes: Outcomes,
+}
+
+impl<T> Memory<T> {
+    ghost use Rattle.cmwq_io.specs.Memory.{bytes_of, troubles_of, outcomes_of};
+
+    /// Over these bytes. No call yet.
+    fn over(bytes: T) -> Memory<T>
+        ensures bytes { bytes_of result ≡ bytes }
+        ensures troubles { troubles_of result ≡ 0 }
+        ensures outcomes { outcomes_of result ≡ [] }
+    {
+        Memory {
+            bytes,
+            troubles: 0,
+            outcomes: Outcomes::new(),
+        }
+    }
 }
 
 impl<'a> Memory<&'a [u8]> {
-    ghost use Rattle.cmwq_io.specs.Memory.{bytes_of, troubles_of};
+    ghost use Rattle.cmwq_io.specs.Memory.{bytes_of, troubles_of, outcomes_of};
 
     /// Reads these bytes.
     pub fn reader(bytes: &'a [u8]) -> Memory<&'a [u8]>
         ensures bytes { (bytes_of result).now ≡ bytes.entry.now }
         ensures troubles { troubles_of result ≡ 0 }
+        ensures outcomes { outcomes_of result ≡ [] }
     {
-        Memory { bytes, troubles: 0 }
+        Memory::over(bytes)
     }
 }
 
 impl Memory<Vec<u8>> {
-    ghost use Rattle.cmwq_io.specs.Memory.{bytes_of, troubles_of};
+    ghost use Rattle.cmwq_io.specs.Memory.{bytes_of, troubles_of, outcomes_of};
 
     /// Takes `room` bytes. Fails where memory runs out.
     pub fn writer(alloc: Global, room: usize) -> Result<Memory<Vec<u8>>, AllocError>
         ensures bytes { IfOk result (λ m. (bytes_of m).items ≡ []) }
         ensures room { IfOk result (λ m. vec_capacity (bytes_of m) ≡ room) }
         ensures troubles { IfOk result (λ m. troubles_of m ≡ 0) }
+        ensures outcomes { IfOk result (λ m. outcomes_of m ≡ []) }
     {
         let bytes = Vec::with_capacity(alloc, room)?;
-        Ok(Memory { bytes, troubles: 0 })
+        Ok(Memory::over(bytes))
     }
 
     /// What was written.
@@ -53,12 +74,16 @@ impl<'a> Source for Memory<&'a [u8]> {
 
     ghost troubles = { λ m. m.troubles };
 
+    ghost outcomes = { λ m. m.outcomes };
+
     fn read(&mut self, buf: &mut [u8]) -> Result<usize, Trouble> {
         let all = self.bytes;
         let count = all.len().min(buf.len());
         buf[..count].copy_from_slice(&all[..count]);
         self.bytes = &all[count..];
-        Ok(count)
+        let answer = Ok(count);
+        self.outcomes.add(&answer);
+        answer
     }
 }
 
@@ -69,14 +94,19 @@ impl Sink for Memory<Vec<u8>> {
 
     ghost troubles = { λ m. m.troubles };
 
+    ghost outcomes = { λ m. m.outcomes };
+
     fn write(&mut self, buf: &[u8]) -> Result<usize, Trouble> {
         let answer = fill(&mut self.bytes, buf);
         self.troubles = count_after(self.troubles, &answer);
+        self.outcomes.add(&answer);
         answer
     }
 
     fn flush(&mut self) -> Result<(), Trouble> {
-        Ok(())
+        let answer = Ok(());
+        self.outcomes.add(&answer);
+        answer
     }
 }
 

@@ -2,7 +2,7 @@
 use Rattle.std.proofs.Common.{◌≡◌, ◌<◌, ◌≤◌, ◌+◌, ◌*◌, ℕ, zero, suc, Bool, true, false, ◌&&◌, List, [], ◌∷◌, length, find, Option, Some, None, nat_lt, refl, sym, ap, ap₂, subst, arith}
 use Rattle.std.specs.Prelude.{option_map, option_and_then, if◌then◌else◌, IsTrue, reverse}
 use Rattle.std.specs.List.{All, AllByRecursion, range_with_len, list_any}
-use Rattle.std.proofs.lemmas.Bool.{and_parts, leb-true, ltb-true, lt-ltb}
+use Rattle.std.proofs.lemmas.Bool.{and_parts, leb-true, le-leb, ltb-true, lt-ltb}
 use Rattle.std.proofs.lemmas.List.{reverse-append, reverse-reverse, length-reverse}
 use Rattle.std.proofs.lemmas.List.Elements.{All-from_recursion, recursion_from_All}
 use Rattle.cmwq_model.specs.declared.id.WorkerId.{WorkerId}
@@ -24,6 +24,7 @@ use Rattle.cmwq_model.specs.Active.{next}
 use Rattle.cmwq_model.specs.Waits.{holds_up, least_waited, waits_for}
 use Rattle.cmwq_model.specs.Workers.{enlisted_by, is_other_idle, is_reserve}
 use Rattle.cmwq_model.specs.Legal.{IsLegal, past_of}
+use Rattle.cmwq_model.specs.Room.{most_time, has_time}
 use Rattle.cmwq_active.proofs.Lists.{All_append}
 use Rattle.cmwq_steps.proofs.Activated.{find_holds, next_holds}
 use Rattle.cmwq_steps.proofs.Entries.{IsKnown, known_more, queueings_known}
@@ -120,9 +121,9 @@ ticks_asked (call.Modify i q c t) = t
 ticks_asked (call.Tick t) = t
 ticks_asked c = 0
 
-record Limits (s : Layout) (past : List Entry) (c : Call) : Type 0 where
-  long : length past ≤ greatest
-  soon : now past ≤ length past * greatest
+record Limits (s : Layout) (most : ℕ) (past : List Entry) (c : Call) : Type 0 where
+  long : length past ≤ most
+  soon : now past + ticks_told c ≤ most_time
   ticks : ticks_asked c ≤ greatest
   few_items : s.items ≤ 256
   few_workers : s.workers ≤ 8
@@ -132,34 +133,34 @@ replies_fit s past who c r legal (cause.fires w b due) = booked_item s past b.it
 replies_fit s past who c r legal (cause.enlists w x y en idle starts clear by) = lt-ltb y s.workers (reserve_there s past w y by)
 replies_fit s past who c r legal other = refl
 
-replies_in_range : (s : Layout) (past : List Entry) (who : Who) (c : Call) (r : Reply) → IsLegal s past → Limits s past c → Cause s past who c r → IsReply r
-replies_in_range s past who c r legal l (cause.waiting w k t n waits) = let less = waited_older s past t.number n t.call legal waits in let most = l.long in omega arith
-replies_in_range s past who c r legal l (cause.queued w i q d free idle) = l.long
-replies_in_range s past who c r legal l (cause.delayed_by_none w i q d t none free idle) = l.long
-replies_in_range s past who c r legal l (cause.delayed w i q d t some free idle) = let long = l.long in let soon = l.soon in let ticks = l.ticks in omega arith
-replies_in_range s past who c r legal l (cause.modified_idle w i q d t none free idle) = l.long
-replies_in_range s past who c r legal l (cause.modified_again w i q d t none free was) = l.long
-replies_in_range s past who c r legal l (cause.modified_booked w i q d t some free idle) = let long = l.long in let soon = l.soon in let ticks = l.ticks in omega arith
-replies_in_range s past who c r legal l (cause.modified_rebooked w i q d t some free was) = let long = l.long in let soon = l.soon in let ticks = l.ticks in omega arith
-replies_in_range s past who c r legal l (cause.cancelled w i x u) = let less = unstarted_older past i.0 x u in let most = l.long in omega arith
-replies_in_range s past who c r legal l (cause.told w t) = let long = l.long in let soon = l.soon in let ticks = l.ticks in omega arith
-replies_in_range s past who c r legal l (cause.fires w b due) =
+replies_in_range : (s : Layout) (most : ℕ) (past : List Entry) (who : Who) (c : Call) (r : Reply) → IsLegal s past → Limits s most past c → Cause s past who c r → IsReply most r
+replies_in_range s m past who c r legal l (cause.waiting w k t n waits) = let less = waited_older s past t.number n t.call legal waits in let long = l.long in omega arith
+replies_in_range s m past who c r legal l (cause.queued w i q d free idle) = l.long
+replies_in_range s m past who c r legal l (cause.delayed_by_none w i q d t none free idle) = l.long
+replies_in_range s m past who c r legal l (cause.delayed w i q d t some free idle) = let soon = l.soon in let ticks = l.ticks in omega arith
+replies_in_range s m past who c r legal l (cause.modified_idle w i q d t none free idle) = l.long
+replies_in_range s m past who c r legal l (cause.modified_again w i q d t none free was) = l.long
+replies_in_range s m past who c r legal l (cause.modified_booked w i q d t some free idle) = let soon = l.soon in let ticks = l.ticks in omega arith
+replies_in_range s m past who c r legal l (cause.modified_rebooked w i q d t some free was) = let soon = l.soon in let ticks = l.ticks in omega arith
+replies_in_range s m past who c r legal l (cause.cancelled w i x u) = let less = unstarted_older past i.0 x u in let long = l.long in omega arith
+replies_in_range s m past who c r legal l (cause.told w t) = let soon = l.soon in omega arith
+replies_in_range s m past who c r legal l (cause.fires w b due) =
     let less = ltb-true b.item.0 s.items (booked_item s past b.item.0 b legal (due_own past b due)) in let few = l.few_items in (omega arith, l.long)
-replies_in_range s past who c r legal l (cause.flushed w q free here) = l.long
-replies_in_range s past who c r legal l (cause.drained w q free here) = l.long
-replies_in_range s past who c r legal l (cause.destroyed w q free here only none) = l.long
-replies_in_range s past who c r legal l (cause.widened w q n here) = grind arith
-replies_in_range s past who c r legal l (cause.item_flushed w i free some) = l.long
-replies_in_range s past who c r legal l (cause.delayed_queued w i free shut was) = l.long
-replies_in_range s past who c r legal l (cause.delayed_flushed w i free none some) = l.long
-replies_in_range s past who c r legal l (cause.sync_cancelled w i x free u) = let less = unstarted_older past i.0 x u in let most = l.long in (l.long, omega arith)
-replies_in_range s past who c r legal l (cause.sync_unbooked w i free none was) = l.long
-replies_in_range s past who c r legal l (cause.sync_waits w i free none idle) = l.long
-replies_in_range s past who c r legal l (cause.starts w x en idle begins clear none) = let less = next_older s past w x begins in let most = l.long in omega arith
-replies_in_range s past who c r legal l (cause.enlists w x y en idle begins clear by) =
-    let less = next_older s past w x begins in let most = l.long in let there = reserve_there s past w y by in let few = l.few_workers in (omega arith, omega arith)
-replies_in_range s past who c r legal l (cause.finishes w n awake runs) = let less = run_older s past w n legal runs in let most = l.long in omega arith
-replies_in_range s past who c r legal l other = tt
+replies_in_range s m past who c r legal l (cause.flushed w q free here) = l.long
+replies_in_range s m past who c r legal l (cause.drained w q free here) = l.long
+replies_in_range s m past who c r legal l (cause.destroyed w q free here only none) = l.long
+replies_in_range s m past who c r legal l (cause.widened w q n here) = grind arith
+replies_in_range s m past who c r legal l (cause.item_flushed w i free some) = l.long
+replies_in_range s m past who c r legal l (cause.delayed_queued w i free shut was) = l.long
+replies_in_range s m past who c r legal l (cause.delayed_flushed w i free none some) = l.long
+replies_in_range s m past who c r legal l (cause.sync_cancelled w i x free u) = let less = unstarted_older past i.0 x u in let long = l.long in (l.long, omega arith)
+replies_in_range s m past who c r legal l (cause.sync_unbooked w i free none was) = l.long
+replies_in_range s m past who c r legal l (cause.sync_waits w i free none idle) = l.long
+replies_in_range s m past who c r legal l (cause.starts w x en idle begins clear none) = let less = next_older s past w x begins in let long = l.long in omega arith
+replies_in_range s m past who c r legal l (cause.enlists w x y en idle begins clear by) =
+    let less = next_older s past w x begins in let long = l.long in let there = reserve_there s past w y by in let few = l.few_workers in (omega arith, omega arith)
+replies_in_range s m past who c r legal l (cause.finishes w n awake runs) = let less = run_older s past w n legal runs in let long = l.long in omega arith
+replies_in_range s m past who c r legal l other = tt
 
 -- ---- the laws
 
@@ -170,31 +171,31 @@ entries_fit s past e legal = ap₂ (λ a b. a && b) (legal_fits s past e legal) 
 serial_most : (past : List Entry) (who : Who) → serial_of past who ≤ length past
 serial_most past who = count_by-le-length (is_by who) past
 
-asked_most : (c : Call) → IsCall c → ticks_asked c ≤ greatest
-asked_most (call.Delay i q c t) h = h.1
-asked_most (call.Modify i q c t) h = h.1
-asked_most (call.Tick t) h = h
-asked_most c h = omega arith
+asked_most : (m : ℕ) (c : Call) → IsCall m c → ticks_asked c ≤ greatest
+asked_most m (call.Delay i q c t) h = h.1
+asked_most m (call.Modify i q c t) h = h.1
+asked_most m (call.Tick t) h = h
+asked_most m c h = omega arith
 
-told_most : (c : Call) → IsCall c → ticks_told c ≤ greatest
-told_most (call.Tick t) h = h
-told_most c h = omega arith
+told_most : (m : ℕ) (c : Call) → IsCall m c → ticks_told c ≤ greatest
+told_most m (call.Tick t) h = h
+told_most m c h = omega arith
 
-now_most : (past : List Entry) → AllByRecursion (λ e. IsWho e.who × IsCall e.call) past → now past ≤ length past * greatest
+pub now_most : (m : ℕ) (past : List Entry) → AllByRecursion (λ e. IsWho e.who × IsCall m e.call) past → now past ≤ length past * greatest
 unfolding now
-now_most [] h = omega arith
-now_most (e ∷ past) h = let rest = now_most past h.1 in let here = told_most e.call h.0.1 in omega arith
+now_most m [] h = omega arith
+now_most m (e ∷ past) h = let rest = now_most m past h.1 in let here = told_most m e.call h.0.1 in omega arith
 
-entry_in_range : (s : Layout) (past : List Entry) (e : Entry) → is_layout s ≡ true → IsLegal s (e ∷ past) → length past ≤ greatest → IsWho e.who × IsCall e.call → AllByRecursion (λ f. IsWho f.who × IsCall f.call) past → IsEntry e
+entry_in_range : (s : Layout) (m : ℕ) (past : List Entry) (e : Entry) → is_layout s ≡ true → IsLegal s (e ∷ past) → length past ≤ m → now past + ticks_told e.call ≤ most_time → IsWho e.who × IsCall m e.call → IsEntry m e
 unfolding IsLegal
-entry_in_range s past e inside legal long own older = record {
+entry_in_range s m past e inside legal long soon own = record {
   who = own.0;
-  serial = let is : e.serial ≡ serial_of past e.who = ap (λ (x : Entry). x.serial) legal.1 in let most = serial_most past e.who in omega arith;
+  serial = let is : e.serial ≡ serial_of past e.who = ap (λ (x : Entry). x.serial) legal.1 in let least = serial_most past e.who in omega arith;
   call = own.1;
-  reply = replies_in_range s past e.who e.call e.reply legal.2 (record {
+  reply = replies_in_range s m past e.who e.call e.reply legal.2 (record {
     long = long;
-    soon = now_most past older;
-    ticks = asked_most e.call own.1;
+    soon = soon;
+    ticks = asked_most m e.call own.1;
     few_items = leb-true s.items 256 (and_parts _ _ (and_parts _ _ (and_parts _ _ (and_parts _ _ inside).0).0).1).1;
     few_workers = leb-true s.workers 8 (and_parts _ _ (and_parts _ _ (and_parts _ _ (and_parts _ _ (and_parts _ _ (and_parts _ _ inside).0).0).0).0).1).1;
   }) (cause_of s past e legal);
@@ -205,21 +206,30 @@ unfolding IsLegal
 past_fits s [] legal = tt
 past_fits s (e ∷ past) legal = (entries_fit s past e legal, past_fits s past legal.2)
 
-past_in_range : (s : Layout) (past : List Entry) → is_layout s ≡ true → IsLegal s past → length past ≤ greatest → AllByRecursion (λ e. IsWho e.who × IsCall e.call) past → AllByRecursion IsEntry past
-unfolding IsLegal
-past_in_range s [] inside legal long all = tt
-past_in_range s (e ∷ past) inside legal long all = (entry_in_range s past e inside legal (omega arith) all.0 all.1, past_in_range s past inside legal.2 (omega arith) all.1)
+past_in_range : (s : Layout) (m : ℕ) (past : List Entry) → is_layout s ≡ true → IsLegal s past → length past ≤ m → now past ≤ most_time → AllByRecursion (λ e. IsWho e.who × IsCall m e.call) past → AllByRecursion (IsEntry m) past
+unfolding IsLegal now
+past_in_range s m [] inside legal long soon all = tt
+past_in_range s m (e ∷ past) inside legal long soon all = (entry_in_range s m past e inside legal (omega arith) soon all.0, past_in_range s m past inside legal.2 (omega arith) (omega arith) all.1)
 
 All_reverse : (P : Entry → Type 0) (xs : List Entry) → AllByRecursion P xs → AllByRecursion P (reverse xs)
 All_reverse P [] h = tt
 All_reverse P (x ∷ xs) h = subst (AllByRecursion P) (sym (reverse-append (x ∷ []) xs)) (All_append P (reverse xs) (x ∷ []) (All_reverse P xs h.1) (h.0, tt))
 
-pub legal_histories_fit : (s : Layout) (entries : List Entry) → IsTrue (is_layout s) → IsLegal s (past_of entries) → length entries ≤ greatest → All (λ e. IsWho e.who × IsCall e.call) entries
-    → All (λ e. IsTrue (entry_fits s e)) entries × All IsEntry entries
-legal_histories_fit s entries inside legal long all = (
+pub legal_histories_fit : (s : Layout) (m : ℕ) (entries : List Entry) → IsTrue (is_layout s) → IsLegal s (past_of entries) → length entries ≤ m → now (past_of entries) ≤ most_time → All (λ e. IsWho e.who × IsCall m e.call) entries
+    → All (λ e. IsTrue (entry_fits s e)) entries × All (IsEntry m) entries
+legal_histories_fit s m entries inside legal long soon all = (
   back (λ e. IsTrue (entry_fits s e)) (past_fits s (past_of entries) legal),
-  back IsEntry (past_in_range s (past_of entries) inside legal (let same = length-reverse entries in omega arith) (All_reverse (λ e. IsWho e.who × IsCall e.call) entries (recursion_from_All (λ e. IsWho e.who × IsCall e.call) entries all))),
+  back (IsEntry m) (past_in_range s m (past_of entries) inside legal (let same = length-reverse entries in omega arith) soon (All_reverse (λ e. IsWho e.who × IsCall m e.call) entries (recursion_from_All (λ e. IsWho e.who × IsCall m e.call) entries all))),
 )
   where
     back : (P : Entry → Type 0) → AllByRecursion P (past_of entries) → All P entries
     back P h = All-from_recursion P entries (subst (AllByRecursion P) (reverse-reverse entries) (All_reverse P (reverse entries) h))
+
+-- ---- a short history has room for every tick
+
+has_time_with : (past : List Entry) (c : Call) → now past + ticks_told c ≤ most_time → has_time past c ≡ true
+has_time_with past (call.Tick t) h = le-leb (now past + t) most_time h
+has_time_with past c h = refl
+
+pub short_has_time : (m : ℕ) (past : List Entry) (c : Call) → AllByRecursion (λ e. IsWho e.who × IsCall m e.call) past → IsCall m c → length past ≤ 1010000 → has_time past c ≡ true
+short_has_time m past c all own short = let soon = now_most m past all in let more = told_most m c own in has_time_with past c (omega arith)

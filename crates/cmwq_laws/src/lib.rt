@@ -24,7 +24,7 @@ pub use headline::{
     queueings_start, runs_are_active,
 };
 pub use illegal::illegal_histories_break_laws;
-pub use room::{promised_are_never_full, steps_are_within_room};
+pub use room::{promised_are_never_full, short_have_time, steps_are_within_room};
 pub use sanity::{
     calls_have_one_entry, cancelled_never_start, items_have_one_run, queueings_end_once,
     serials_count_up, steps_are_legal,

@@ -14,7 +14,7 @@ pub fn booking(past: &Past<'_>, item: u16) -> Option<Booking>
     for k in 0..past.len() {
         let entry = past.at(k);
         if settles(entry.reply) && is_of_item(item, &entry) {
-            standing = booking_of(&entry, k as u32);
+            standing = booking_of(&entry, k as u64);
         }
     }
     standing

@@ -59,7 +59,7 @@ fn queued_at(past: &Past<'_>, item: u16, place: Place) -> Queueing
             queue: place.queue,
             cpu: cpu_for(past, item, place.cpu),
         },
-        number: past.len() as u32,
+        number: past.len() as u64,
     }
 }
 

@@ -7,7 +7,7 @@ use cmwq_model::Who;
 
 /// The serial of the next entry of this caller or worker: how many it has.
 #[tactic(auto, using(crate::proofs::Parts::ends, crate::proofs::Steps::serial_step))]
-pub fn serial_of(past: &Past<'_>, who: Who) -> u32
+pub fn serial_of(past: &Past<'_>, who: Who) -> u64
     ensures { result ≡ serial_of past.now who }
 {
     let mut serial = 0;

@@ -64,7 +64,7 @@ fn ticket_at(past: &Past<'_>, number: usize) -> Option<Ticket>
     ensures { tickets (upto past.now (number + 1))
         ≡ tickets (upto past.now number) ++ option_to_list result }
 {
-    ticket_in(&past.at(number), number as u32)
+    ticket_in(&past.at(number), number as u64)
 }
 
 /// The ticket that the entry with this number gave, if it is unended.

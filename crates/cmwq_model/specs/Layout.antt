@@ -25,12 +25,15 @@ pub record Layout : Type 0 where
 abbrev pub layout_of : Counts → List QueueShape → Layout
 layout_of n queues = record { cpus = n.cpus; workers = n.workers; callers = n.callers; items = n.items; room = n.room; queues = queues }
 
--- the limits of every shape
+-- the limits of every shape: a room is 2 ^ 62 at most
+abbrev pub most_room : ℕ
+most_room = 4611686018427387904
+
 abbrev pub is_between : ℕ → ℕ → ℕ → Bool
 is_between low high n = nat_le low n && nat_le n high
 
 abbrev pub are_counts : ℕ → ℕ → ℕ → ℕ → ℕ → Bool
-are_counts cpus workers callers items room = is_between 1 4 cpus && is_between 1 8 workers && is_between 1 64 callers && is_between 1 256 items && nat_le room 1000000
+are_counts cpus workers callers items room = is_between 1 4 cpus && is_between 1 8 workers && is_between 1 64 callers && is_between 1 256 items && nat_le room most_room
 
 abbrev pub is_queue : QueueShape → Bool
 is_queue q = is_between 1 512 q.max_active

@@ -1,13 +1,15 @@
 -- Room: what a history still owes, which calls are refused for want of room, and the steps of a list of calls.
-use Rattle.std.specs.Prelude.{ℕ, ◌+◌, ◌*◌, Bool, true, false, not, if◌then◌else◌, List, [], ◌∷◌, ◌++◌, length, map, fold, count_by, flat_map, nat_le}
+use Rattle.std.specs.Prelude.{ℕ, ◌+◌, ◌*◌, Bool, true, false, not, ◌&&◌, if◌then◌else◌, List, [], ◌∷◌, ◌++◌, length, map, fold, count_by, flat_map, nat_le}
 use Rattle.std.specs.List.{range_with_len}
 use Rattle.cmwq_model.specs.declared.id.PoolId.{PoolId}
 use Rattle.cmwq_model.specs.declared.id.WorkerId.{WorkerId}
 use Rattle.cmwq_model.specs.declared.id.Who.{Who}
 use Rattle.cmwq_model.specs.declared.call.Call.{Call}
+use Rattle.cmwq_model.specs.declared.call.Call.TheVariants as call
 use Rattle.cmwq_model.specs.declared.entry.Entry.{Entry}
 use Rattle.cmwq_model.specs.declared.record.Queueing.{Queueing}
 use Rattle.cmwq_model.specs.Layout.{Layout, indices}
+use Rattle.cmwq_model.specs.Calls.{now}
 use Rattle.cmwq_model.specs.Bookings.{is_booked}
 use Rattle.cmwq_model.specs.Fate.{is_started}
 use Rattle.cmwq_model.specs.Runs.{has_run, runs_asleep}
@@ -40,9 +42,17 @@ owed s past =
 abbrev pub needed : Layout → List Entry → ℕ
 needed s past = length past + owed s past
 
+-- the time has a room of its own, 2 ^ 62 ticks: a tick that would go beyond it has none
+abbrev pub most_time : ℕ
+most_time = 4611686018427387904
+
+abbrev pub has_time : List Entry → Call → Bool
+has_time past (call.Tick ticks) = nat_le (now past + ticks) most_time
+has_time past c = true
+
 -- a call has room where the history with its entry, and what that owes, is within the room; the program's is that of the layout
 abbrev pub has_room : Layout → ℕ → List Entry → Who → Call → Bool
-has_room s room past who call = nat_le (needed s (entry_for s past who call ∷ past)) room
+has_room s room past who call = has_time past call && nat_le (needed s (entry_for s past who call ∷ past)) room
 
 -- the steps of a list of calls: the entry of each that has room, and how many were left out
 pub record Steps : Type 0 where

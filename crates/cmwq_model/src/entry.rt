@@ -6,7 +6,7 @@ use crate::reply::Reply;
 #[derive(Clone, Copy, Debug)]
 pub struct Entry {
     pub who: Who,
-    pub serial: u32,
+    pub serial: u64,
     pub call: Call,
     pub reply: Reply,
 }

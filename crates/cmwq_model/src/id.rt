@@ -15,7 +15,7 @@ pub struct CpuId(pub u8);
 pub struct CallerId(pub u8);
 
 /// The position of an entry in the history, from 0. A queueing or a ticket has the number of the entry that made it.
-pub type Number = u32;
+pub type Number = u64;
 
 /// One of the two worker pools of a CPU (the kernel's `worker_pool`).
 #[derive(Clone, Copy, Debug, PartialEq, Eq)]

@@ -28,12 +28,12 @@ pub struct Counts {
     pub workers: u8,
     pub callers: u8,
     pub items: u16,
-    pub room: u32,
+    pub room: u64,
 }
 
 impl Counts {
     /// Whether each number is inside its limits: 1 to 4 CPUs, 1 to 8 workers, 1 to 64 callers, 1 to 256 items,
-    /// and a room of at most 1,000,000 entries.
+    /// and a room of at most 2^62 entries.
     pub fn are_allowed(&self) -> bool
         ensures { result ≡ are_counts self.now.cpus self.now.workers self.now.callers self.now.items self.now.room }
     {
@@ -41,7 +41,7 @@ impl Counts {
             && (1..=8).contains(&self.workers)
             && (1..=64).contains(&self.callers)
             && (1..=256).contains(&self.items)
-            && self.room <= 1_000_000
+            && self.room <= 4_611_686_018_427_387_904
     }
 }
 

@@ -5,7 +5,7 @@ use crate::reply::Reply;
 #[derive(Clone, Copy, Debug)]
 pub enum Wanted {
     /// The serial should be this one.
-    Serial(u32),
+    Serial(u64),
     /// The serial is right, and the reply should be this one.
     Reply(Reply),
 }

@@ -81,7 +81,7 @@ fn waits_for_queueing_of_the_same_entry(rt: HostRuntime) -> Result<(), Fail> {
 fn as_many_as_may_be(rt: HostRuntime) -> Result<(), Fail> {
     let mut barriers = Barriers::new(rt.alloc(), 256, 64)?;
     for number in 0..512 {
-        open(&rt, &mut barriers, ItemId(number % 256), u32::from(number));
+        open(&rt, &mut barriers, ItemId(number % 256), u64::from(number));
     }
     assert!(rt; !barriers.may_open(ItemId(255), 512));
     for ticket in 512..4608 {

@@ -67,7 +67,7 @@ fn bits_are(rt: &impl Abort, shape: &Shape, book: &Book, item: u16, bits: u8)
     assert_eq!(rt; book.bits(ItemId(item)), bits);
 }
 
-fn serial(rt: &impl Abort, shape: &Shape, book: &Book, who: Who) -> u32
+fn serial(rt: &impl Abort, shape: &Shape, book: &Book, who: Who) -> u64
     requires { book.now.layout ≡ shape.now }
 {
     let counts = shape.counts();

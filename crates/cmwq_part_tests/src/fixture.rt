@@ -32,7 +32,7 @@ pub fn queue(item: u16) -> Call {
     }
 }
 
-pub fn entry(who: Who, serial: u32, call: Call, reply: Reply) -> Entry {
+pub fn entry(who: Who, serial: u64, call: Call, reply: Reply) -> Entry {
     Entry {
         who,
         serial,
@@ -59,7 +59,7 @@ pub fn first_run() -> [Entry; 3] {
 }
 
 /// One queue, of which one queueing at a time may be active, for two workers, a caller and three items.
-pub fn shape(rt: &(impl Abort + AllocGlobal), room: u32) -> Result<Shape, Fail> {
+pub fn shape(rt: &(impl Abort + AllocGlobal), room: u64) -> Result<Shape, Fail> {
     let queue = QueueShape {
         max_active: 1,
         high: false,

@@ -97,9 +97,9 @@ fn an_item_is_queued_again_while_it_runs(rt: HostRuntime) -> Result<(), Fail> {
 fn all_run_and_are_queued(rt: &(impl Abort + AllocGlobal)) -> Result<Flights, Fail> {
     let mut flights = Flights::new(rt.alloc(), 256)?;
     for item in 0..256 {
-        open(rt, &mut flights, queueing(item, u32::from(item)));
+        open(rt, &mut flights, queueing(item, u64::from(item)));
         start(rt, &mut flights, ItemId(item));
-        open(rt, &mut flights, queueing(item, u32::from(item) + 256));
+        open(rt, &mut flights, queueing(item, u64::from(item) + 256));
     }
     Ok(flights)
 }
@@ -109,11 +109,22 @@ fn two_of_as_many_items_as_may_be(rt: HostRuntime) -> Result<(), Fail> {
     let mut flights = all_run_and_are_queued(&rt)?;
     assert_eq!(rt; flights.open_count(), 512);
     for item in (0..256).rev() {
-        let number = u32::from(item);
+        let number = u64::from(item);
         numbers_are(&rt, &flights, item, Some(number), Some(number + 256));
         finish(&rt, &mut flights, ItemId(item));
         open_place(&rt, &flights, item)?;
     }
     assert_eq!(rt; flights.open_count(), 256);
+    Ok(())
+}
+
+/// Two numbers that are the same in their last 32 bits.
+#[test]
+fn long_numbers_are_told_apart(rt: HostRuntime) -> Result<(), Fail> {
+    let mut flights = Flights::new(rt.alloc(), 2)?;
+    open(&rt, &mut flights, queueing(0, 7));
+    open(&rt, &mut flights, queueing(1, 4_294_967_303));
+    numbers_are(&rt, &flights, 0, None, Some(7));
+    numbers_are(&rt, &flights, 1, None, Some(4_294_967_303));
     Ok(())
 }

@@ -174,7 +174,7 @@ fn a_running_item_is_not_started_again(rt: HostRuntime) -> Result<(), Fail> {
 fn as_many_as_may_be(rt: HostRuntime) -> Result<(), Fail> {
     let mut pool = Pool::new(rt.alloc(), 256, 8)?;
     for item in 0..256 {
-        let added = Event::Add(u32::from(item), ItemId(item), false);
+        let added = Event::Add(u64::from(item), ItemId(item), false);
         tell(&rt, &mut pool, added);
     }
     assert!(rt; !pool.may_add(256, ItemId(0)));

@@ -143,3 +143,18 @@ fn as_many_as_may_be(rt: HostRuntime) -> Result<(), Fail> {
     assert!(rt; tickets.is_empty() && !tickets.is_cancelling(ItemId(255)));
     Ok(())
 }
+
+/// A number that 32 bits don't hold.
+const LONG: Number = 5_000_000_000;
+
+#[test]
+fn a_long_number_is_found_as_it_is(rt: HostRuntime) -> Result<(), Fail> {
+    let mut tickets = Tickets::new(rt.alloc(), 1)?;
+    give(&rt, &mut tickets, ticket(0, FLUSH, LONG));
+    let found = find(&rt, &tickets, 0, LONG).map(|ticket| ticket.number);
+    assert_eq!(rt; found, Some(LONG));
+    assert!(rt; find(&rt, &tickets, 0, LONG - (1 << 32)).is_none());
+    end(&rt, &mut tickets, 0, LONG);
+    assert!(rt; tickets.is_empty());
+    Ok(())
+}

@@ -92,3 +92,17 @@ fn as_many_items_as_may_be(rt: HostRuntime) -> Result<(), Fail> {
     first_is(&rt, &timers, u64::MAX, 0, Some(ItemId(255)));
     Ok(())
 }
+
+/// Due beyond what 32 bits hold, with a number beyond that: it comes after the item that is due at 706,000,000.
+#[test]
+fn a_late_timer_with_a_long_number(rt: HostRuntime) -> Result<(), Fail> {
+    let mut timers = Timers::new(rt.alloc(), 4)?;
+    book(&rt, &mut timers, 0, 0, 5_000_000_000, 4_294_967_296);
+    book(&rt, &mut timers, 1, 0, 706_000_000, 4_294_967_297);
+    first_is(&rt, &timers, 5_000_000_000, 0, Some(ItemId(1)));
+    unbook(&rt, &mut timers, 1);
+    first_is(&rt, &timers, 4_999_999_999, 0, None);
+    first_is(&rt, &timers, 5_000_000_000, 0, Some(ItemId(0)));
+    assert_eq!(rt; booked(&rt, &timers, 0), Some(5_000_000_000));
+    Ok(())
+}

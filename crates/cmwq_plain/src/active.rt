@@ -124,7 +124,7 @@ fn since(shape: &Shape, past: &Past<'_>, queueing: &Queueing) -> Option<Number>
     let mut found = None;
     for k in 0..past.len() {
         if found.is_none() && is_active(shape, &past.before(k + 1), queueing) {
-            found = Some(k as u32);
+            found = Some(k as u64);
         }
     }
     found

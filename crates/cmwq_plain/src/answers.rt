@@ -56,7 +56,7 @@ fn queue_answer(past: &Past<'_>, who: Who, item: u16, queue: u8, ticks: u32) -> 
     } else if is_shut(past, who, queue, ticks) {
         Reply::Draining
     } else if ticks == 0 {
-        Reply::Yes(past.len() as u32)
+        Reply::Yes(past.len() as u64)
     } else {
         Reply::Booked(now(past) + u64::from(ticks))
     }
@@ -78,12 +78,12 @@ fn modify_answer(past: &Past<'_>, who: Who, item: u16, queue: u8, ticks: u32) ->
         Reply::Draining
     } else if is_pending(past, item) {
         if ticks == 0 {
-            Reply::Again(past.len() as u32)
+            Reply::Again(past.len() as u64)
         } else {
             Reply::Rebooked(now(past) + u64::from(ticks))
         }
     } else if ticks == 0 {
-        Reply::Yes(past.len() as u32)
+        Reply::Yes(past.len() as u64)
     } else {
         Reply::Booked(now(past) + u64::from(ticks))
     }
@@ -130,7 +130,7 @@ fn flush_item_answer(past: &Past<'_>, who: Who, item: u16) -> Reply
     if is_crowded(past, who) {
         Reply::Crowded
     } else if is_item_open(past, item) {
-        Reply::Ticket(past.len() as u32)
+        Reply::Ticket(past.len() as u64)
     } else {
         Reply::Idle
     }
@@ -155,9 +155,9 @@ fn flush_delayed_answer(past: &Past<'_>, who: Who, item: u16) -> Reply
     } else if is_held_back(past, item) {
         Reply::Draining
     } else if is_booked(past, item) {
-        Reply::TicketQueued(past.len() as u32)
+        Reply::TicketQueued(past.len() as u64)
     } else if is_item_open(past, item) {
-        Reply::Ticket(past.len() as u32)
+        Reply::Ticket(past.len() as u64)
     } else {
         Reply::Idle
     }
@@ -186,7 +186,7 @@ fn cancel_sync_answer(past: &Past<'_>, who: Who, item: u16) -> Reply
         return Reply::Crowded;
     }
     taken_back_for(
-        past.len() as u32,
+        past.len() as u64,
         unstarted(past, item),
         is_booked(past, item),
     )
@@ -202,7 +202,7 @@ fn wait_answer(past: &Past<'_>, who: Who, queue: u8) -> Reply
     } else if is_crowded(past, who) {
         Reply::Crowded
     } else {
-        Reply::Ticket(past.len() as u32)
+        Reply::Ticket(past.len() as u64)
     }
 }
 
@@ -219,7 +219,7 @@ fn destroy_answer(past: &Past<'_>, who: Who, queue: u8) -> Reply
     } else if is_crowded(past, who) {
         Reply::Crowded
     } else {
-        Reply::Ticket(past.len() as u32)
+        Reply::Ticket(past.len() as u64)
     }
 }
 
@@ -362,7 +362,7 @@ pub fn answer(shape: &Shape, past: &Past<'_>, who: Who, call: Call) -> Reply
         } => modify_answer(past, who, item.0, queue.0, ticks),
         Call::Cancel { item } => cancel_answer(past, who, item.0),
         Call::Tick { ticks } => Reply::Now(now(past) + u64::from(ticks)),
-        Call::Fire => fired(first_due(past), past.len() as u32),
+        Call::Fire => fired(first_due(past), past.len() as u64),
         Call::Flush { queue } | Call::Drain { queue } => wait_answer(past, who, queue.0),
         Call::SetMax { queue, max_active } => set_max_answer(past, queue.0, max_active),
         Call::Freeze => {

@@ -21,7 +21,7 @@ fn fireable_at(past: &Past<'_>, number: usize) -> Option<Booking>
     ensures { fireable_upto past.now (number + 1)
         ≡ fireable_upto past.now number ++ option_to_list result }
 {
-    match booking_of(&past.at(number), number as u32) {
+    match booking_of(&past.at(number), number as u64) {
         None => None,
         Some(made) => {
             if stands(past, &made) && may_fire(past, &made) {
@@ -72,7 +72,7 @@ fn standing_at(past: &Past<'_>, number: usize) -> Option<Booking>
     ensures { standing_upto past.now (number + 1)
         ≡ standing_upto past.now number ++ option_to_list result }
 {
-    match booking_of(&past.at(number), number as u32) {
+    match booking_of(&past.at(number), number as u64) {
         None => None,
         Some(made) => {
             if stands(past, &made) {

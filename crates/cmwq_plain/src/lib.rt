@@ -34,14 +34,14 @@ pub fn reply_of(shape: &Shape, entries: &[Entry], who: Who, call: Call) -> Reply
 }
 
 /// The serial of the next entry of this caller or worker: how many entries it has.
-pub fn serial_of(entries: &[Entry], who: Who) -> u32
+pub fn serial_of(entries: &[Entry], who: Who) -> u64
     requires { length entries.now ≤ 1000000 }
     ensures { result ≡ calls.serial_of (past_of entries.now) who }
 {
     cmwq_look::serial_of(&Past::new(entries), who)
 }
 
-/// Whether the history with the call's entry, and what it then still owes, is within the shape's room. A call without
+/// Whether the history with the call's entry, and what it then still owes, is within the shape's room, and its time within 2^62 ticks. A call without
 /// room is refused and has no entry.
 pub fn has_room(shape: &Shape, entries: &[Entry], who: Who, call: Call) -> bool
     requires { length entries.now ≤ 1000000 }
@@ -53,5 +53,6 @@ pub fn has_room(shape: &Shape, entries: &[Entry], who: Who, call: Call) -> bool
         call,
         reply: reply_of(shape, entries, who, call),
     };
-    room::needed(shape, &Past::with(entries, entry)) <= layout::room_of(shape)
+    room::has_time(&Past::new(entries), call)
+        && room::needed(shape, &Past::with(entries, entry)) <= layout::room_of(shape)
 }

@@ -3,14 +3,17 @@ ghost use Rattle.std.specs.List.{range_with_len};
 ghost use Rattle.cmwq_model.specs.Bookings.{is_booked};
 ghost use Rattle.cmwq_model.specs.Queueings.{still_open};
 ghost use Rattle.cmwq_model.specs.Tickets.{unended};
-ghost use Rattle.cmwq_model.specs.Room.{pool_workers, cpu_workers, workers, has_not_started, owed, needed};
+ghost use Rattle.cmwq_model.specs.Room.{pool_workers, cpu_workers, workers, has_not_started, owed, needed, has_time};
 ghost use Rattle.cmwq_plain.specs.Partial.{owed_by_runs};
 
 use crate::layout::{cpus, items, workers};
 use cmwq_look::{
-    Past, has_run, is_booked, is_frozen, is_started, open_at, runs_asleep, unended_at,
+    Past, has_run, is_booked, is_frozen, is_started, now, open_at, runs_asleep, unended_at,
 };
-use cmwq_model::{CpuId, PoolId, Shape, WorkerId};
+use cmwq_model::{Call, CpuId, PoolId, Shape, WorkerId};
+
+/// The time that a history may come to.
+const MOST_TIME: u64 = 4_611_686_018_427_387_904;
 
 /// How many open queueings haven't started.
 #[tactic(auto, using(cmwq_look::proofs::Lists::count_push, cmwq_look::proofs::Steps::open_ends))]
@@ -115,4 +118,14 @@ pub fn needed(shape: &Shape, past: &Past<'_>) -> usize
     ensures { result ≡ needed shape.now past.now }
 {
     past.len() + owed(shape, past)
+}
+
+/// Whether the time after this call is at most 2^62 ticks.
+pub fn has_time(past: &Past<'_>, call: Call) -> bool
+    ensures { result ≡ has_time past.now call }
+{
+    match call {
+        Call::Tick { ticks } => now(past) + u64::from(ticks) <= MOST_TIME,
+        _ => true,
+    }
 }

@@ -20,7 +20,7 @@ pub fn check(shape: &Shape, entries: &[Entry]) -> Result<(), Illegal>
     for at in 0..entries.len() {
         if let Some(wanted) = wanted(shape, &entries[..at], entries[at]) {
             return Err(Illegal {
-                at: at as u32,
+                at: at as u64,
                 wanted,
             });
         }

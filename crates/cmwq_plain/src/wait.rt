@@ -32,7 +32,7 @@ fn served(past: &Past<'_>, queue: u8, number: Number) -> Option<Number>
             && (number as usize) <= k
             && is_served_after(&past.before(k + 1), queue, number)
         {
-            found = Some(k as u32);
+            found = Some(k as u64);
         }
     }
     found

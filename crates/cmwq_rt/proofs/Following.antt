@@ -1,5 +1,5 @@
 -- A caller follows a script, one call after another.
-use Rattle.std.proofs.Common.{◌≡◌, ℕ, zero, suc, ◌+◌, ◌<◌, List, [], ◌∷◌, ◌++◌, Bool, true, false, length, refl, sym, ap, ◌∙◌, subst, inl, inr, arith, append-nil, length-append, Some, None, take, get_or, drop}
+use Rattle.std.proofs.Common.{◌≡◌, ℕ, zero, suc, ◌+◌, ◌<◌, List, [], ◌∷◌, ◌++◌, Bool, true, false, length, refl, sym, ap, ◌∙◌, subst, inl, inr, arith, append-nil, append_assoc, Some, None, take, get_or, drop}
 use Rattle.std.proofs.lemmas.List.{take_more}
 use Rattle.std.proofs.Math.Seq.{split_at}
 use Rattle.std.specs.Prelude.{MatchBool, MatchOption, Option}
@@ -10,12 +10,15 @@ use Rattle.cmwq_model.specs.declared.call.Call.TheVariants as call
 use Rattle.cmwq_model.specs.declared.reply.Reply.{Reply}
 use Rattle.cmwq_model.specs.declared.entry.Entry.{Entry}
 use Rattle.cmwq_model.specs.Layout.{Layout}
-use Rattle.cmwq_desk.specs.Seats.{Seated, made_by}
+use Rattle.cmwq_model.specs.Legal.{past_of}
+use Rattle.cmwq_model.specs.Room.{has_room}
+use Rattle.cmwq_desk.specs.Seats.{Seated, Gains, made_by}
 use Rattle.cmwq_desk.specs.Faults.{Refused}
 use Rattle.cmwq_desk.specs.declared.fault.RunFault.{RunFault}
 use Rattle.cmwq_desk.specs.declared.fault.RunFault.TheVariants.{NoMemory, Full, Unfinished, NoPlace, Closed, Stranger, NoThread}
 use Rattle.cmwq_desk.specs.Whole.{Completes, BrokeOff, Makes, Behind, EndsTicket, Fires, HadNoRoom, is_tick, is_drain, ticket_given}
 use Rattle.cmwq_desk.proofs.Beginnings.{prefix_self, prefix_trans}
+use Rattle.cmwq_desk.proofs.Entries.{gains_none, gains_more}
 use Rattle.cmwq_rt.specs.Scripts.{Follows, HasFollowed, HasStopped, is_full}
 
 module _ (s : Layout) (who : Who) (old new : List Entry) (more : IsPrefix old new) where
@@ -70,32 +73,32 @@ follows_none s who h [] c made all full (same, none) room = inr (0, ap (λ n. n 
 follows_none s who h (d ∷ ds) c made all full (inl (q, fs, n, f)) room = inl (q, fs, n, follows_none s who h ds c (made ++ fs) all full f room)
 follows_none s who h (d ∷ ds) c made all full (inr (n, is, lacks, f)) room = inr (n + 1, ap (λ k. k + 1) is, lacks, follows_none s who h ds c made all n f room)
 
-pub followed_none : (s : Layout) (v : Seated) → v.serial ≡ 0 → v.seen ≡ [] → HasFollowed s [] 0 v
-followed_none s v serial seen =
-    let none : made_by v.who v.seen ≡ [] = ap (made_by v.who) seen in
-    record { follows = (none, refl); serial = serial ∙ sym (ap length none) }
+pub followed_none : (s : Layout) (v : Seated) → HasFollowed s [] 0 v v
+followed_none s v = record { entries = []; gains = gains_none v; follows = (append-nil (made_by v.who v.seen), refl) }
 
-pub followed_more : (s : Layout) (script : List Call) (c : Call) (full : ℕ) (v w : Seated) (r : Reply) → HasFollowed s script full v → Completes s v c r w → HasFollowed s (script ++ c ∷ []) full w
-followed_more s script c full v w r has x =
-    let g = x.gains in
-    let old : Follows s v.who w.seen [] script (made_by v.who v.seen) full = follows_later s v.who v.seen w.seen g.older script [] (made_by v.who v.seen) full has.follows in
-    let now : Follows s v.who w.seen [] (script ++ c ∷ []) (made_by v.who w.seen) full = follows_one s v.who w.seen script c [] (made_by v.who v.seen) (made_by v.who w.seen) full r x.entries old x.makes g.made in
+pub followed_more : (s : Layout) (script : List Call) (c : Call) (full : ℕ) (v m w : Seated) (r : Reply) → HasFollowed s script full v m → Completes s m c r w → HasFollowed s (script ++ c ∷ []) full v w
+followed_more s script c full v m w r has x =
+    let mine = made_by v.who v.seen in
+    let old = follows_later s v.who m.seen w.seen x.gains.older script mine (mine ++ has.entries) full has.follows in
+    let makes : Makes s v.who w.seen (mine ++ has.entries) c r x.entries =
+    subst (λ made. Makes s v.who w.seen made c r x.entries) has.gains.made (subst (λ who. Makes s who w.seen (made_by who m.seen) c r x.entries) has.gains.same x.makes) in
     record {
-      follows = subst (λ a. Follows s a w.seen [] (script ++ c ∷ []) (made_by a w.seen) full) (sym g.same) now;
-      serial = subst (λ a. w.serial ≡ length (made_by a w.seen)) (sym g.same)
-          (let n = g.serial in let m = has.serial in let l = ap length g.made in let t = length-append (made_by v.who v.seen) x.entries in omega (arith, n, m, l, t));
+      entries = has.entries ++ x.entries;
+      gains = gains_more v m w has.entries x.entries has.gains x.gains;
+      follows = follows_one s v.who w.seen script c mine (mine ++ has.entries) (mine ++ (has.entries ++ x.entries)) full r x.entries old makes (sym (append_assoc mine has.entries x.entries));
     }
 
-pub followed_full : (s : Layout) (script : List Call) (c : Call) (full : ℕ) (v w : Seated) → HasFollowed s script full v → Refused s v c Full w → HasFollowed s (script ++ c ∷ []) (full + 1) w
-followed_full s script c full v w has refused =
-    let g = refused.0 in
-    let mine : made_by v.who w.seen ≡ made_by v.who v.seen = g.made ∙ append-nil (made_by v.who v.seen) in
-    let old : Follows s v.who w.seen [] script (made_by v.who w.seen) full = subst (λ all. Follows s v.who w.seen [] script all full) (sym mine) (follows_later s v.who v.seen w.seen g.older script [] (made_by v.who v.seen) full has.follows) in
-    let room : HadNoRoom s w.who w.seen (made_by w.who w.seen) c = (w.seen, prefix_self w.seen, refl, refused.1) in
+pub followed_full : (s : Layout) (script : List Call) (c : Call) (full : ℕ) (v m w : Seated) → HasFollowed s script full v m → Refused s m c Full w → HasFollowed s (script ++ c ∷ []) (full + 1) v w
+followed_full s script c full v m w has refused =
+    let mine = made_by v.who v.seen in
+    let all : Gains v has.entries w = subst (λ es. Gains v es w) (append-nil has.entries) (gains_more v m w has.entries [] has.gains refused.0) in
+    let room : HadNoRoom s v.who w.seen (mine ++ has.entries) c =
+    (w.seen, prefix_self w.seen, all.made, subst (λ who. has_room s s.room (past_of w.seen) who c ≡ false) all.same refused.1) in
     record {
-      follows = subst (λ a. Follows s a w.seen [] (script ++ c ∷ []) (made_by a w.seen) (full + 1)) (sym g.same)
-          (follows_none s v.who w.seen script c [] (made_by v.who w.seen) full old (subst (λ a. HadNoRoom s a w.seen (made_by a w.seen) c) g.same room));
-      serial = subst (λ a. w.serial ≡ length (made_by a w.seen)) (sym g.same) (let n = g.serial in let m = has.serial in let l = ap length mine in omega (arith, n, m, l));
+      entries = has.entries;
+      gains = all;
+      follows = follows_none s v.who w.seen script c mine (mine ++ has.entries) full
+          (follows_later s v.who m.seen w.seen refused.0.older script mine (mine ++ has.entries) full has.follows) room;
     }
 
 -- what is refused for want of room has made no entry
@@ -104,14 +107,14 @@ broke_full s v w c (inl r) = r
 broke_full s v w c (inr (e, es, gains, part, inl memory)) = absurd (cc memory)
 broke_full s v w c (inr (e, es, gains, part, inr (own, book, stranger, differs))) = absurd (cc stranger)
 
-pub followed_call : (s : Layout) (script : List Call) (k : ℕ) (d : Call) (full : ℕ) (v w : Seated) (r : Reply) → k < length script
-    → HasFollowed s (take k script) full v → Completes s v (get_or script k d) r w → HasFollowed s (take (k + 1) script) full w
-followed_call s script k d full v w r lt has x = rw (take_more script k d lt) (followed_more s (take k script) (get_or script k d) full v w r has x)
+pub followed_call : (s : Layout) (script : List Call) (k : ℕ) (d : Call) (full : ℕ) (v m w : Seated) (r : Reply) → k < length script
+    → HasFollowed s (take k script) full v m → Completes s m (get_or script k d) r w → HasFollowed s (take (k + 1) script) full v w
+followed_call s script k d full v m w r lt has x = rw (take_more script k d lt) (followed_more s (take k script) (get_or script k d) full v m w r has x)
 
-pub followed_skip : (s : Layout) (script : List Call) (k : ℕ) (d : Call) (full : ℕ) (v w : Seated) (f : RunFault) → k < length script → f ≡ Full
-    → HasFollowed s (take k script) full v → BrokeOff s v (get_or script k d) f w → HasFollowed s (take (k + 1) script) (full + 1) w
-followed_skip s script k d full v w f lt is has broke =
-    rw (take_more script k d lt) (followed_full s (take k script) (get_or script k d) full v w has (broke_full s v w (get_or script k d) (subst (λ g. BrokeOff s v (get_or script k d) g w) is broke)))
+pub followed_skip : (s : Layout) (script : List Call) (k : ℕ) (d : Call) (full : ℕ) (v m w : Seated) (f : RunFault) → k < length script → f ≡ Full
+    → HasFollowed s (take k script) full v m → BrokeOff s m (get_or script k d) f w → HasFollowed s (take (k + 1) script) (full + 1) v w
+followed_skip s script k d full v m w f lt is has broke =
+    rw (take_more script k d lt) (followed_full s (take k script) (get_or script k d) full v m w has (broke_full s m w (get_or script k d) (subst (λ g. BrokeOff s m (get_or script k d) g w) is broke)))
 
 pub broke_same : (s : Layout) (v w : Seated) (c : Call) (f : RunFault) → BrokeOff s v c f w → w.who ≡ v.who
 broke_same s v w c f (inl refused) = refused.0.same
@@ -126,15 +129,15 @@ told_full Closed is = absurd (cc is)
 told_full (Stranger own book) is = absurd (cc is)
 told_full NoThread is = absurd (cc is)
 
-pub stopped_at : (s : Layout) (script : List Call) (k : ℕ) (d : Call) (full : ℕ) (v w : Seated) (f : RunFault) → k < length script → is_full f ≡ false
-    → HasFollowed s (take k script) full v → BrokeOff s v (get_or script k d) f w → HasStopped s script f w
-stopped_at s script k d full v w f lt other has broke = record {
+pub stopped_at : (s : Layout) (script : List Call) (k : ℕ) (d : Call) (full : ℕ) (v m w : Seated) (f : RunFault) → k < length script → is_full f ≡ false
+    → HasFollowed s (take k script) full v m → BrokeOff s m (get_or script k d) f w → HasStopped s script f v w
+stopped_at s script k d full v m w f lt other has broke = record {
   front = take k script;
   next = get_or script k d;
   rest = drop (suc k) script;
   script_is = split_at script k d lt;
   left_out = full;
-  before = v;
+  before = m;
   followed = has;
   broke = broke;
   other = other;

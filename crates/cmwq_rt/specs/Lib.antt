@@ -1,3 +1,6 @@
 pub mod Later
 pub mod Places
 pub mod Scripts
+pub mod Ending
+pub mod Starting
+pub mod Running

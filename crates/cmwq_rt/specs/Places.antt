@@ -1,8 +1,9 @@
 -- Which callers and workers of a hub are given out.
-use Rattle.std.specs.Prelude.{◌≡◌, ℕ, ◌+◌, ◌*◌, ◌<◌, ◌≤◌, Bool, true, false, not, if◌then◌else◌, Option, Some, None, nat_lt, MatchOption}
+use Rattle.std.specs.Prelude.{◌≡◌, ℕ, zero, suc, ◌+◌, ◌<◌, ◌≤◌, true, false, not, if◌then◌else◌, Option, Some, None, nat_lt, MatchOption}
 use Rattle.cmwq_model.specs.declared.id.WorkerId.{WorkerId}
 use Rattle.cmwq_model.specs.declared.shape.Counts.{Counts}
 use Rattle.cmwq_model.specs.Layout.{Layout}
+use Rattle.cmwq_desk.specs.Places.{place}
 
 -- the callers are given out by number: so many are; the workers in their order: the next one, if one is left, and how many are
 pub record Places : Type 0 where
@@ -20,6 +21,15 @@ after_worker s w =
     else (if not w.pool.high then Some (record { pool = record { cpu = w.pool.cpu; high = true }; index = 0 })
     else (if nat_lt (w.pool.cpu.0 + 1) s.cpus then Some (record { pool = record { cpu = record { 0 = w.pool.cpu.0 + 1 }; high = false }; index = 0 }) else None))
 
+abbrev pub next_after : Layout → Option WorkerId → Option WorkerId
+next_after s None = None
+next_after s (Some w) = after_worker s w
+
+-- the workers by their numbers in that order
+abbrev pub worker_at : Layout → ℕ → Option WorkerId
+worker_at s zero = Some first_worker
+worker_at s (suc k) = next_after s (worker_at s k)
+
 abbrev pub all_free : Places
 all_free = record { callers = 0; next = Some first_worker; workers = 0 }
 
@@ -31,14 +41,6 @@ pub record AreCounts (s : Layout) (n : Counts) : Type 0 where
   pub few_cpus : (0 < s.cpus) × (s.cpus ≤ 4)
   pub few_workers : (0 < s.workers) × (s.workers ≤ 8)
   pub few_callers : (0 < s.callers) × (s.callers ≤ 64)
-
--- the place of a worker among all that there could be
-abbrev pub lane : Bool → ℕ
-lane false = 0
-lane true = 8
-
-abbrev pub place : WorkerId → ℕ
-place w = 16 * w.pool.cpu.0 + lane w.pool.high + w.index
 
 -- the next worker is inside the layout, and no more were given out than stand before it, so never more than 64
 abbrev pub IsNextPlace : Layout → Option WorkerId → ℕ → Type 0

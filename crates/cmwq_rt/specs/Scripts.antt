@@ -1,11 +1,11 @@
 -- What a caller that follows a script leaves in a history.
-use Rattle.std.specs.Prelude.{◌≡◌, ◌⊎◌, ℕ, Bool, true, false, ◌+◌, List, [], ◌∷◌, ◌++◌, length}
+use Rattle.std.specs.Prelude.{◌≡◌, ◌⊎◌, ℕ, Bool, true, false, ◌+◌, List, [], ◌∷◌, ◌++◌}
 use Rattle.cmwq_model.specs.declared.id.Who.{Who}
 use Rattle.cmwq_model.specs.declared.call.Call.{Call}
 use Rattle.cmwq_model.specs.declared.reply.Reply.{Reply}
 use Rattle.cmwq_model.specs.declared.entry.Entry.{Entry}
 use Rattle.cmwq_model.specs.Layout.{Layout}
-use Rattle.cmwq_desk.specs.Seats.{Seated, made_by}
+use Rattle.cmwq_desk.specs.Seats.{Seated, Gains, made_by}
 use Rattle.cmwq_desk.specs.Whole.{Makes, HadNoRoom, BrokeOff}
 use Rattle.cmwq_desk.specs.declared.fault.RunFault.{RunFault}
 use Rattle.cmwq_desk.specs.declared.fault.RunFault.TheVariants.{Full}
@@ -18,23 +18,24 @@ Follows s who history made (c ∷ cs) all full =
     ((r : Reply) × (es : List Entry) × Makes s who history made c r es × Follows s who history (made ++ es) cs all full)
     ⊎ ((n : ℕ) × (full ≡ n + 1) × HadNoRoom s who history made c × Follows s who history made cs all n)
 
--- a caller has followed a script from its first call on, and has made no other entries
-pub record HasFollowed (s : Layout) (script : List Call) (full : ℕ) (v : Seated) : Type 0 where
-  pub follows : Follows s v.who v.seen [] script (made_by v.who v.seen) full
-  pub serial : v.serial ≡ length (made_by v.who v.seen)
+-- a caller has followed a script, and has made no other entries since
+pub record HasFollowed (s : Layout) (script : List Call) (full : ℕ) (v w : Seated) : Type 0 where
+  pub entries : List Entry
+  pub gains : Gains v entries w
+  pub follows : Follows s v.who w.seen (made_by v.who v.seen) script (made_by v.who v.seen ++ entries) full
 
 abbrev pub is_full : RunFault → Bool
 is_full Full = true
 is_full f = false
 
 -- A caller has broken off a script: it followed a front of it, and the next call answered this fault, which isn't want of room.
-pub record HasStopped (s : Layout) (script : List Call) (f : RunFault) (v : Seated) : Type 0 where
+pub record HasStopped (s : Layout) (script : List Call) (f : RunFault) (v w : Seated) : Type 0 where
   pub front : List Call
   pub next : Call
   pub rest : List Call
   pub script_is : script ≡ front ++ next ∷ rest
   pub left_out : ℕ
   pub before : Seated
-  pub followed : HasFollowed s front left_out before
-  pub broke : BrokeOff s before next f v
+  pub followed : HasFollowed s front left_out v before
+  pub broke : BrokeOff s before next f w
   pub other : is_full f ≡ false

@@ -1,18 +1,19 @@
 //! A caller of a hub.
-ghost use Rattle.std.specs.Prelude.{◌≡◌, ◌<◌, length, true, false, IfOk, IfErr, MatchOption, Some, None};
+ghost use Rattle.std.specs.Prelude.{◌≡◌, ◌<◌, [], length, true, false, IfOk, IfErr, MatchOption, Some, None};
 ghost use mathlib.Core.List.{IsPrefix};
 ghost use Rattle.cmwq_model.specs.Layout.{has_numbers, is_callers};
 ghost use Rattle.cmwq_model.specs.Legal.{past_of, IsLegal, bits};
 ghost use Rattle.cmwq_model.specs.declared.call.Call.TheVariants as calls;
-ghost use Rattle.cmwq_desk.specs.Seats.{is_caller};
+ghost use Rattle.cmwq_desk.specs.Seats.{Agree, Gains, is_caller};
 ghost use Rattle.cmwq_desk.specs.Calls.{Extends};
 ghost use Rattle.cmwq_desk.specs.Faults.{Refused, IsStranger};
 ghost use Rattle.cmwq_desk.specs.Whole.{Completes, BrokeOff, is_tick, ticket_given};
 ghost use Rattle.cmwq_desk.specs.Settled.{Settles};
 
 use crate::hub::Hub;
+use crate::worker::Worker;
 use cmwq_desk::{Desk, RunFault, Seat};
-use cmwq_model::{Call, CpuId, ItemId, Number, QueueId, Reply};
+use cmwq_model::{Call, CpuId, ItemId, Number, QueueId, Reply, Who};
 use cmwq_versions::{HubName, Sights};
 use std::marker::Model;
 use std::sync::Wait;
@@ -69,10 +70,24 @@ impl<N: HubName> Caller<N> {
     }
 
     /// How many entries it has made.
-    pub fn serial(&self) -> u32
+    pub fn serial(&self) -> u64
         ensures { result ≡ self.now.serial }
     {
         self.seat.serial()
+    }
+
+    /// Of what two callers of a hub have seen the shorter begins the longer.
+    pub fn agrees(&self, other: &Caller<N>)
+        ensures { Agree self.now.seen other.now.seen }
+    {
+        self.seat.agrees(&other.seat);
+    }
+
+    /// Of what a caller and a worker of a hub have seen the shorter begins the longer.
+    pub fn agrees_with(&self, worker: &Worker<N>)
+        ensures { Agree self.now.seen worker.now.seen }
+    {
+        self.seat.agrees(worker.seat());
     }
 
     /// What the hub's ledger has of it: as many entries as its serial says.
@@ -87,22 +102,27 @@ impl<N: HubName> Caller<N> {
     }
 
     /// The bits of an item (`work_busy`): 1 if it is pending, plus 2 if it runs, after a list of entries that begins with all that the
-    /// caller has seen, and that it has seen from then on. It takes no lock, no memory, and waits for nobody. None where the reader gives
-    /// no guard.
+    /// caller has seen, and that it has seen from then on; none of those that are new is its own. It takes no lock, no memory, and waits for
+    /// nobody. None where the reader gives no guard.
     pub fn busy(&mut self, item: ItemId) -> Option<u8>
         requires { item.0 < N.layout.items }
         ensures bits { MatchOption result (self.new ≡ self.old) (λ b. b ≡ bits (past_of self.new.seen) item.0) }
         ensures seen { IsPrefix self.old.seen self.new.seen }
         ensures legal { IsLegal N.layout (past_of self.new.seen) }
         ensures same { (self.new.who ≡ self.old.who) × (self.new.serial ≡ self.old.serial) }
+        ensures own { Gains self.old [] self.new }
     {
+        let Who::Caller(caller) = self.seat.who() else {
+            return None;
+        };
+        let own = self.seat.serial();
         let seen = self.seat.seen();
-        let (front, bits) = self.sights.look(item)?;
-        if front.len() < seen {
+        let found = self.sights.look(item, caller)?;
+        if found.front.len() < seen || found.serial != own {
             return None;
         }
-        self.seat.see(&front);
-        Some(bits)
+        self.seat.see(&found.front);
+        Some(found.bits)
     }
 
     /// A call of one entry.
@@ -130,7 +150,7 @@ impl<N: HubName> Caller<N> {
         ensures broke { IfErr result (λ f. BrokeOff N.layout self.old call f self.new) }
     {
         let _who = self.seat.who();
-        let mut desk = hub.lock(rt);
+        let mut desk = hub.spacious(rt, hub.lock(rt), self.seat.who());
         let reply = match desk.call(rt, &mut self.seat, call) {
             Ok(reply) => reply,
             Err(fault) => {
@@ -319,7 +339,7 @@ impl<N: HubName> Caller<N> {
         ensures done { IfOk result (λ reply. Completes N.layout self.old (calls.Tick ticks) reply self.new) }
         ensures broke { IfErr result (λ f. BrokeOff N.layout self.old (calls.Tick ticks) f self.new) }
     {
-        let mut desk = hub.lock(rt);
+        let mut desk = hub.spacious(rt, hub.lock(rt), self.seat.who());
         let answer = desk.tick(rt, &mut self.seat, ticks);
         hub.leave(desk);
         answer

@@ -1,8 +1,9 @@
 //! Callers that follow scripts.
-ghost use Rattle.std.specs.Prelude.{◌≡◌, ◌<◌, ◌≤◌, ◌^◌, [], length, true, IfOk, IfErr, All};
+ghost use Rattle.std.specs.Prelude.{◌≡◌, ◌+◌, ◌<◌, ◌^◌, length, true, IfOk, IfErr, All};
 ghost use Rattle.cmwq_model.specs.Layout.{has_numbers, is_callers};
 ghost use Rattle.cmwq_model.specs.Scripted.{IsScripted};
 ghost use Rattle.cmwq_desk.specs.Whole.{Completes, BrokeOff};
+ghost use Rattle.cmwq_rt.specs.Running.{is_of_call};
 ghost use Rattle.cmwq_rt.specs.Scripts.{HasFollowed, HasStopped, is_full};
 
 use crate::caller::Caller;
@@ -45,20 +46,22 @@ impl<N: HubName> Caller<N> {
     ///
     /// # Errors
     /// Those of the calls but `Full`: the script breaks off at the first call that answers one.
+    #[tactic(auto, using(crate::proofs::Running::broke_is_of_call))]
     pub fn follow<R: Wait>(
         &mut self,
         rt: &R,
         hub: &Hub<N>,
         script: &[Call],
-    ) -> Result<(u32, u32), RunFault>
-        requires fresh { (self.old.serial ≡ 0) × (self.old.seen ≡ []) }
+    ) -> Result<(u64, u32), RunFault>
         requires whole { All (IsScripted N.layout) script.now }
         requires short { length script.now < 2 ^ 32 }
-        ensures followed { IfOk result (λ t. HasFollowed N.layout script.now t.1 self.new) }
-        ensures count { IfOk result (λ t. t.0 ≡ self.new.serial) }
-        ensures stopped { IfErr result (λ f. HasStopped N.layout script.now f self.new) }
+        ensures followed { IfOk result (λ t. HasFollowed N.layout script.now t.1 self.old self.new) }
+        ensures count { IfOk result (λ t. self.new.serial ≡ self.old.serial + t.0) }
+        ensures stopped { IfErr result (λ f. HasStopped N.layout script.now f self.old self.new) }
+        ensures fault { IfErr result (λ f. is_of_call f ≡ true) }
         ensures same { self.new.who ≡ self.old.who }
     {
+        let first = self.serial();
         let mut full = 0u32;
         for k in 0..script.len() {
             match self.make_whole(rt, hub, script[k]) {
@@ -71,6 +74,6 @@ impl<N: HubName> Caller<N> {
                 }
             }
         }
-        Ok((self.serial(), full))
+        Ok((self.serial() - first, full))
     }
 }

@@ -1,30 +1,32 @@
 //! The hub: one desk behind a lock.
-ghost use Rattle.std.specs.Prelude.{◌≡◌, ◌<◌, ◌≤◌, true, false, IsTrue, IfOk, IfErr, MatchOption, Some, slice_get};
+ghost use Rattle.std.specs.Prelude.{◌≡◌, ◌⊎◌, ◌<◌, ◌≤◌, ◌++◌, [], OnErr, true, false, IsTrue, IfOk, IfErr, Some, slice_get};
 ghost use Rattle.std.specs.Sync.Mutex.{mutex_guard_value};
 ghost use mathlib.Core.List.{IsPrefix};
 ghost use Rattle.cmwq_model.specs.declared.call.Call.TheVariants as calls;
 ghost use Rattle.cmwq_model.specs.Layout.{fits};
 ghost use Rattle.cmwq_model.specs.Legal.{past_of, IsLegal};
 ghost use Rattle.cmwq_desk.specs.Seats.{is_caller};
-ghost use Rattle.cmwq_desk.specs.Held.{active_in};
 ghost use Rattle.cmwq_desk.specs.Calls.{Extends};
-ghost use Rattle.cmwq_desk.specs.Faults.{Refused, IsStranger};
+ghost use Rattle.cmwq_desk.specs.Faults.{Refused};
 ghost use Rattle.cmwq_desk.specs.Steps.{HasEnded, HasEndedSome};
 ghost use Rattle.cmwq_rt.specs.Later.{Later};
+ghost use Rattle.cmwq_rt.specs.Running.{IsNext, is_of_call};
 ghost use Rattle.cmwq_desk.specs.Settled.{AllSettle};
+ghost use Rattle.cmwq_rt.specs.Ending.{EndsAs, OneIsStranger};
 
 use crate::bells::Bells;
 use crate::caller::Caller;
 use crate::worker::Worker;
-use cmwq_desk::{Desk, RunFault, Seat};
+use cmwq_desk::{Desk, Journal, Rest, RunFault, Seat};
 use cmwq_model::{Call, Entry, ItemId, Number, Reply, Shape, Who};
 use cmwq_versions::HubName;
-use std::sync::{Mutex, MutexGuard, Wait};
+use std::sync::{Condvar, Mutex, MutexGuard, Wait};
 
 /// A Book that threads share. Its callers and workers carry its name, so that none of them is taken for another hub's.
 pub struct Hub<N: HubName> {
     desk: Mutex<Desk<N>>,
     bells: Bells,
+    journal: Condvar,
     shape: Shape,
     ghost shape_is: { shape ≡ N.layout },
 }
@@ -36,6 +38,7 @@ impl<N: HubName> Hub<N> {
         Hub {
             desk: Mutex::new(desk),
             bells,
+            journal: Condvar::new(),
             shape,
         }
     }
@@ -69,8 +72,12 @@ impl<N: HubName> Hub<N> {
     /// Lets the lock go, and then wakes those who can go on after what was done under it.
     pub(crate) fn leave(&self, mut desk: MutexGuard<Desk<N>>) {
         let rings = desk.rings();
+        let is_wanted = desk.wants_journal();
         MutexGuard::unlock(desk);
         self.bells.ring(rings);
+        if is_wanted {
+            self.journal.notify_all();
+        }
     }
 
     /// Sleeps until its bell rings, with the lock let go meanwhile.
@@ -82,9 +89,73 @@ impl<N: HubName> Hub<N> {
     ) -> MutexGuard<'a, Desk<N>> {
         let rings = desk.rings();
         self.bells.ring(rings);
+        if desk.wants_journal() {
+            self.journal.notify_all();
+        }
         let mut desk = self.bells.wait(rt, desk, who);
         desk.awakes(who);
         desk
+    }
+
+    /// Sleeps until there is space for all that is entered in one hold of the lock.
+    pub(crate) fn spacious<'a, R: Wait>(
+        &self,
+        rt: &R,
+        desk: MutexGuard<'a, Desk<N>>,
+        who: Who,
+    ) -> MutexGuard<'a, Desk<N>> {
+        let mut desk = desk;
+        for _ in rt.forever() {
+            if desk.has_space() {
+                return desk;
+            }
+            desk.crowds();
+            desk = self.sleep(rt, desk, who);
+        }
+        unreachable!()
+    }
+
+    /// A journal of a hub that has no entry yet, or of what comes from now on. `spare` is an empty buffer, at least as large as the
+    /// number of entries that the hub keeps.
+    pub fn journal<R: Wait>(&self, rt: &R, spare: Vec<Entry>) -> Journal<N>
+        requires { spare.items ≡ [] }
+        ensures legal { IsLegal N.layout (past_of result.seen) }
+        ensures batch { result.batch ≡ [] }
+    {
+        let desk = self.desk.lock(rt);
+        let journal = desk.journal(spare);
+        self.leave(desk);
+        let _legal = journal.len();
+        journal
+    }
+
+    /// Sleeps until there is enough to write down, or nobody makes a call any more, and takes it. It answers whether more may come.
+    ///
+    /// # Errors
+    /// `Stranger` where the journal isn't the one that has all that was handed over, `NoMemory` where its buffer is too small. It has
+    /// taken nothing then.
+    pub fn hand_over<R: Wait>(&self, rt: &R, journal: &mut Journal<N>) -> Result<bool, RunFault>
+        ensures batch { IfOk result (λ _. journal.new.seen ≡ journal.old.seen ++ journal.new.batch) }
+        ensures legal { IfOk result (λ _. IsLegal N.layout (past_of journal.new.seen)) }
+        ensures refused { OnErr result (journal.new.seen ≡ journal.old.seen) }
+    {
+        let mut desk = self.desk.lock(rt);
+        for _ in rt.forever() {
+            if desk.wants_journal() {
+                break;
+            }
+            desk = self.journal.wait(rt, desk);
+        }
+        let is_over = desk.is_over();
+        let handed = desk.hand_over(journal);
+        self.leave(desk);
+        match handed {
+            Ok(()) => {
+                let _len = journal.len();
+                Ok(!is_over)
+            }
+            Err(fault) => Err(fault),
+        }
     }
 
     /// A call of one entry.
@@ -98,7 +169,7 @@ impl<N: HubName> Hub<N> {
         ensures made { IfOk result (λ reply. Extends N.layout seat.old call reply seat.new) }
         ensures refused { IfErr result (λ f. Refused N.layout seat.old call f seat.new) }
     {
-        let mut desk = self.lock(rt);
+        let mut desk = self.spacious(rt, self.lock(rt), seat.who());
         let answer = desk.call(rt, seat, call);
         self.leave(desk);
         answer
@@ -119,6 +190,7 @@ impl<N: HubName> Hub<N> {
     {
         let mut desk = desk;
         for _ in rt.forever() {
+            desk = self.spacious(rt, desk, seat.who());
             match desk.end_wait(rt, seat, call, ticket) {
                 Ok(true) => {
                     self.leave(desk);
@@ -137,6 +209,7 @@ impl<N: HubName> Hub<N> {
     }
 
     /// Sleeps until the worker may start a queueing, or may go: none, as nothing active is open; and lets the lock go.
+    #[tactic(auto, using(crate::proofs::Running::refused_is_of_call, crate::proofs::Running::stranger_is_of_call))]
     pub(crate) fn until_start<R: Wait>(
         &self,
         rt: &R,
@@ -144,16 +217,22 @@ impl<N: HubName> Hub<N> {
         seat: &mut Seat<N>,
     ) -> Result<Option<ItemId>, RunFault>
         requires { is_caller seat.old.who ≡ false }
-        ensures item { IfOk result (λ o. MatchOption o (active_in N.layout seat.new.seen ≡ 0) (λ item. item.0 < N.layout.items)) }
+        ensures fault { IfErr result (λ f. is_of_call f ≡ true) }
+        ensures next { IfOk result (λ o. IsNext N.layout seat.old o seat.new) }
         ensures later { Later seat.old seat.new }
     {
         let mut desk = desk;
         for _ in rt.forever() {
+            desk = self.spacious(rt, desk, seat.who());
             match desk.start(rt, seat) {
                 Ok(None) => {}
-                answer => {
+                Ok(Some(item)) => {
                     self.leave(desk);
-                    return answer;
+                    return Ok(Some(item));
+                }
+                Err(fault) => {
+                    self.leave(desk);
+                    return Err(fault);
                 }
             }
             if desk.is_over() {
@@ -170,7 +249,8 @@ impl<N: HubName> Hub<N> {
         unreachable!()
     }
 
-    /// The history, which each of these callers and workers has seen whole from then on. It waits for readers to leave.
+    /// What was not handed over of the history, which each of these callers and workers has seen whole from then on. It waits for readers
+    /// to leave.
     ///
     /// # Errors
     /// `Stranger` where one of them is another hub's. The hub and its history are then gone.
@@ -179,17 +259,15 @@ impl<N: HubName> Hub<N> {
         rt: &R,
         callers: &mut [Caller<N>],
         workers: &mut [Worker<N>],
-    ) -> Result<Vec<Entry>, RunFault>
-        ensures legal { IfOk result (λ h. IsLegal N.layout (past_of h.items)) }
-        ensures callers { IfOk result (λ h. AllSettle h.items callers.old callers.new) }
-        ensures workers { IfOk result (λ h. AllSettle h.items workers.old workers.new) }
-        ensures stranger { IfErr result (λ f. (who : _) × IsStranger who f) }
+    ) -> Result<Rest, RunFault>
+        ensures legal { IfOk result (λ rest. EndsAs N.layout callers.old callers.new workers.old workers.new rest.first rest.entries.items) }
+        ensures stranger { IfErr result (λ f. OneIsStranger callers.old f ⊎ OneIsStranger workers.old f) }
     {
         let desk = self.into_desk();
         let settled = settle_all(&desk, callers, workers);
-        let history = desk.end(rt);
+        let rest = desk.end(rt);
         match settled {
-            Ok(()) => Ok(history),
+            Ok(()) => Ok(rest),
             Err(fault) => Err(fault),
         }
     }
@@ -199,6 +277,7 @@ impl<N: HubName> Hub<N> {
         let Hub {
             desk,
             bells: _bells,
+            journal: _journal,
             shape: _shape,
         } = self;
         desk.into_inner()
@@ -212,7 +291,7 @@ fn settle_all<N: HubName>(
 ) -> Result<(), RunFault>
     ensures callers { IfOk result (λ _. AllSettle desk.now.history callers.old callers.new) }
     ensures workers { IfOk result (λ _. AllSettle desk.now.history workers.old workers.new) }
-    ensures stranger { IfErr result (λ f. (who : _) × IsStranger who f) }
+    ensures stranger { IfErr result (λ f. OneIsStranger callers.old f ⊎ OneIsStranger workers.old f) }
 {
     settle_callers(desk, callers)?;
     settle_workers(desk, workers)
@@ -220,7 +299,7 @@ fn settle_all<N: HubName>(
 
 fn settle_callers<N: HubName>(desk: &Desk<N>, callers: &mut [Caller<N>]) -> Result<(), RunFault>
     ensures settled { IfOk result (λ _. AllSettle desk.now.history callers.old callers.new) }
-    ensures stranger { IfErr result (λ f. (who : _) × IsStranger who f) }
+    ensures stranger { IfErr result (λ f. OneIsStranger callers.old f) }
 {
     for caller in callers.iter_mut() {
         caller.settle(desk)?;
@@ -230,7 +309,7 @@ fn settle_callers<N: HubName>(desk: &Desk<N>, callers: &mut [Caller<N>]) -> Resu
 
 fn settle_workers<N: HubName>(desk: &Desk<N>, workers: &mut [Worker<N>]) -> Result<(), RunFault>
     ensures settled { IfOk result (λ _. AllSettle desk.now.history workers.old workers.new) }
-    ensures stranger { IfErr result (λ f. (who : _) × IsStranger who f) }
+    ensures stranger { IfErr result (λ f. OneIsStranger workers.old f) }
 {
     for worker in workers.iter_mut() {
         worker.settle(desk)?;

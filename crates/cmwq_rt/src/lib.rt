@@ -12,7 +12,7 @@ mod work;
 mod worker;
 
 pub use caller::Caller;
-pub use cmwq_desk::RunFault;
+pub use cmwq_desk::{Journal, Rest, RunFault};
 pub use cmwq_versions::HubName;
 pub use gates::{Gate, Gates};
 pub use hub::Hub;

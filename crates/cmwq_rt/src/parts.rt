@@ -1,13 +1,15 @@
 //! The parts of a hub that has no name yet.
-ghost use Rattle.std.specs.Prelude.{◌≡◌, [], IfOk};
+ghost use Rattle.std.specs.Prelude.{◌≡◌, [], IfOk, IfErr, None};
+ghost use Rattle.cmwq_desk.specs.declared.fault.RunFault.TheVariants as faults;
 ghost use Rattle.cmwq_rt.specs.Places.{all_free};
 
 use crate::bells::Bells;
 use crate::hub::Hub;
 use crate::seats::Seats;
-use cmwq_core::Book;
+use cmwq_core::Course;
 use cmwq_desk::{Desk, RunFault, Sleepers};
-use cmwq_model::{NoMemory, Shape};
+use cmwq_model::{Entry, NoMemory, Shape};
+use cmwq_tail::Tail;
 use cmwq_versions::{HubName, Opening};
 use std::alloc::Global;
 use std::sync::Wait;
@@ -20,13 +22,15 @@ const SHARES: u64 = 128;
 pub struct HubParts {
     pub shape: Shape,
     shape_of_desk: Shape,
-    book: Book,
+    course: Course,
+    tail: Tail<Entry>,
     pub opening: Opening,
     sleepers: Sleepers,
     bells: Bells,
     pub blank: Blank,
     ghost shapes_are: { shape_of_desk ≡ shape },
-    ghost book_is: { book ≡ record { layout = shape; room = shape.room; entries = [] } },
+    ghost course_is: { course ≡ record { layout = shape; room = shape.room; entries = [] } },
+    ghost tail_is: { tail.all ≡ [] },
     ghost opening_is: { (opening.layout ≡ shape) × (opening.readers ≡ shape.callers) },
     ghost shares: { blank.parts ≡ 128 },
 }
@@ -38,19 +42,22 @@ struct Rest {
     shape_of_desk: Shape,
     sleepers: Sleepers,
     bells: Bells,
-    book: Book,
+    course: Course,
+    tail: Tail<Entry>,
 }
 
-fn rest_of(alloc: Global, shape: &Shape) -> Result<Rest, NoMemory>
+fn rest_of(alloc: Global, shape: &Shape, kept: u32) -> Result<Rest, NoMemory>
     ensures shapes { IfOk result (λ r. (r.shape ≡ shape.now) × (r.shape_of_desk ≡ shape.now)) }
-    ensures book { IfOk result (λ r. r.book ≡ record { layout = shape.now; room = shape.now.room; entries = [] }) }
+    ensures course { IfOk result (λ r. r.course ≡ record { layout = shape.now; room = shape.now.room; entries = [] }) }
+    ensures tail { IfOk result (λ r. r.tail.all ≡ []) }
 {
     Ok(Rest {
         shape: shape.copy(alloc)?,
         shape_of_desk: shape.copy(alloc)?,
         sleepers: Sleepers::new(alloc)?,
         bells: Bells::new(alloc)?,
-        book: Book::new(alloc, shape, shape.counts().room)?,
+        course: Course::new(alloc, shape, shape.counts().room)?,
+        tail: Tail::new(alloc, kept)?,
     })
 }
 
@@ -60,9 +67,29 @@ impl HubParts {
     /// # Errors
     /// `NoMemory` where memory runs out.
     pub fn new<R: Wait>(rt: &R, alloc: Global, shape: &Shape) -> Result<HubParts, RunFault>
-        ensures { IfOk result (λ p. p.shape ≡ shape.now) }
+        ensures shape { IfOk result (λ p. p.shape ≡ shape.now) }
+        ensures fault { IfErr result (λ f. f ≡ faults.NoMemory None) }
     {
-        let Ok(rest) = rest_of(alloc, shape) else {
+        let Ok(kept) = u32::try_from(shape.counts().room) else {
+            return Err(RunFault::NoMemory { ticket: None });
+        };
+        HubParts::keeping(rt, alloc, shape, kept)
+    }
+
+    /// The same, where so many entries are kept until a journal takes them.
+    ///
+    /// # Errors
+    /// `NoMemory` where memory runs out.
+    pub fn keeping<R: Wait>(
+        rt: &R,
+        alloc: Global,
+        shape: &Shape,
+        kept: u32,
+    ) -> Result<HubParts, RunFault>
+        ensures shape { IfOk result (λ p. p.shape ≡ shape.now) }
+        ensures fault { IfErr result (λ f. f ≡ faults.NoMemory None) }
+    {
+        let Ok(rest) = rest_of(alloc, shape, kept) else {
             return Err(RunFault::NoMemory { ticket: None });
         };
         let readers = usize::from(shape.counts().callers);
@@ -72,14 +99,16 @@ impl HubParts {
         let Rest {
             shape,
             shape_of_desk,
-            book,
+            course,
+            tail,
             sleepers,
             bells,
         } = rest;
         Ok(HubParts {
             shape,
             shape_of_desk,
-            book,
+            course,
+            tail,
             opening,
             sleepers,
             bells,
@@ -99,7 +128,8 @@ impl<N: HubName> Hub<N> {
         let HubParts {
             shape,
             shape_of_desk,
-            book,
+            course,
+            tail,
             opening,
             sleepers,
             bells,
@@ -109,7 +139,7 @@ impl<N: HubName> Hub<N> {
         let (shelf, readers) = opening.named::<N>();
         let start = shelf.front().again();
         let (entries, rest) = blank.open::<N>();
-        let desk = Desk::new(shape_of_desk, book, shelf, entries, sleepers);
+        let desk = Desk::new(shape_of_desk, course, tail, shelf, entries, sleepers);
         let seats = Seats::new(counts, readers, start, rest);
         (Hub::new(desk, bells, shape), seats)
     }

@@ -72,7 +72,7 @@ impl<N: HubName> Seats<N> {
     /// # Errors
     /// `NoPlace` where all are given out.
     pub fn caller(&mut self) -> Result<Caller<N>, RunFault>
-        ensures given { IfOk result (λ c. (c ≡ newcomer (whos.Caller (record { 0 = self.old.callers }))) × (self.new ≡ record self.old { callers = self.old.callers + 1 })) }
+        ensures given { IfOk result (λ c. (c ≡ newcomer (whos.Caller (record { 0 = self.old.callers }))) × (self.old.callers < N.layout.callers) × (self.new ≡ record self.old { callers = self.old.callers + 1 })) }
         ensures none { IfErr result (λ f. (f ≡ NoPlace) × (self.old.callers ≡ N.layout.callers) × (self.new ≡ self.old)) }
     {
         let Some(sights) = self.readers.next() else {

@@ -1,11 +1,13 @@
 //! What workers run.
-ghost use Rattle.std.specs.Prelude.{◌≡◌, ◌<◌, true, false, IsTrue, IfOk, IfErr};
+ghost use Rattle.std.specs.Prelude.{◌≡◌, ◌⊎◌, ◌<◌, true, false, IsTrue, IfOk, IfErr, None};
 ghost use Rattle.cmwq_model.specs.Layout.{fits, has_numbers, is_workers};
 ghost use Rattle.cmwq_model.specs.declared.call.Call.TheVariants as calls;
 ghost use Rattle.cmwq_desk.specs.Seats.{is_caller};
 ghost use Rattle.cmwq_desk.specs.Calls.{Extends};
 ghost use Rattle.cmwq_desk.specs.Faults.{Refused};
 ghost use Rattle.cmwq_rt.specs.Later.{Later};
+ghost use Rattle.cmwq_rt.specs.Starting.{HasStarted};
+ghost use Rattle.cmwq_rt.specs.Running.{RunsItem, MakesOne, fault_after, is_of_call};
 
 use crate::hub::Hub;
 use cmwq_desk::{RunFault, Seat};
@@ -15,35 +17,48 @@ use core::mem::replace_with;
 use std::marker::Model;
 use std::sync::Wait;
 
-/// What a work function is given: it makes calls by its worker. Contracts see who that is, its serial and the history that it has seen.
+/// What a work function is given: it makes calls by its worker. Contracts see who that is, its serial and the history that it has seen,
+/// and the fault that a call of this run has answered, if any but want of room was.
 #[derive(Drop)]
 pub struct RunCtx<'a, N: HubName, R> {
     rt: &'a R,
     hub: &'a Hub<N>,
     seat: Seat<N>,
     is_asleep: bool,
+    fault: Option<RunFault>,
 }
 
 impl<'a, N: HubName, R> Model for RunCtx<'a, N, R> {
-    ghost use Rattle.std.specs.Prelude.{◌≡◌, false};
-    ghost use Rattle.cmwq_desk.specs.Seats.{Seated, is_caller};
+    ghost use Rattle.std.specs.Prelude.{◌≡◌, false, true, IfSome};
+    ghost use Rattle.cmwq_desk.specs.Seats.{is_caller};
+    ghost use Rattle.cmwq_rt.specs.Running.{Running, is_of_call};
 
-    ghost Value = { Seated };
+    ghost Value = { Running };
 
-    ghost view = { λ c. c.seat };
+    ghost view = { λ c. record { seat = c.seat; fault = c.fault } };
 
-    ghost invariant = { λ c. is_caller c.seat.who ≡ false };
+    ghost invariant = { λ c. (is_caller c.seat.who ≡ false) × IfSome c.fault (λ f. is_of_call f ≡ true) };
 }
 
 /// The work functions of all items (the kernel's `work_func_t`).
 pub trait Work {
-    ghost use Rattle.std.specs.Prelude.{◌<◌};
+    ghost use Rattle.std.specs.Prelude.{◌≡◌, ◌<◌, None};
+    ghost use Rattle.cmwq_model.specs.Layout.{Layout};
     ghost use Rattle.cmwq_rt.specs.Later.{Later};
+    ghost use Rattle.cmwq_rt.specs.Starting.{HasStarted};
+    ghost use Rattle.cmwq_rt.specs.Running.{Behavior};
 
-    /// Runs an item, once for each start of one of its queueings.
+    /// What one run of an item does in a hub of this shape: `Hub::work` carries it into the history. Nothing is said where it is left out.
+    ghost does: { Self → Layout → Behavior } = { λ _ _ _ _ _. Unit {0} };
+
+    /// Runs an item, once for each start of one of its queueings. A run in which a call answered a fault other than want of room may
+    /// break off: its worker answers that fault.
     fn run<N: HubName, R: Wait>(&self, item: ItemId, context: &mut RunCtx<N, R>)
-        requires { item.0 < N.layout.items }
-        ensures { Later context.old context.new };
+        requires item { item.0 < N.layout.items }
+        requires started { HasStarted context.old.seat item }
+        requires fresh { context.old.fault ≡ None }
+        ensures later { Later context.old.seat context.new.seat }
+        ensures done { context.new.fault ≡ None → does self.now N.layout item context.old.seat context.new.seat };
 }
 
 impl<'a, N: HubName, R: Wait> RunCtx<'a, N, R> {
@@ -60,16 +75,22 @@ impl<'a, N: HubName, R: Wait> RunCtx<'a, N, R> {
     }
 
     /// Makes a worker's call: one entry, or none at a fault.
-    #[tactic(auto, using(crate::proofs::Later::later_made, crate::proofs::Later::later_refused))]
+    #[tactic(auto, using(crate::proofs::Later::later_made, crate::proofs::Later::later_refused, crate::proofs::Running::refused_is_of_call))]
     fn make(&mut self, call: Call) -> Result<Reply, RunFault>
         requires workers { is_workers call ≡ true }
         requires numbers { has_numbers N.layout call ≡ true }
-        ensures later { Later self.old self.new }
-        ensures made { IfOk result (λ reply. Extends N.layout self.old call reply self.new) }
-        ensures refused { IfErr result (λ f. Refused N.layout self.old call f self.new) }
+        ensures later { Later self.old.seat self.new.seat }
+        ensures made { IfOk result (λ reply. Extends N.layout self.old.seat call reply self.new.seat) }
+        ensures refused { IfErr result (λ f. Refused N.layout self.old.seat call f self.new.seat) }
+        ensures fault { self.new.fault ≡ fault_after result self.old.fault }
     {
         let _who = self.seat.who();
-        self.hub.call(self.rt, &mut self.seat, call)
+        let answer = self.hub.call(self.rt, &mut self.seat, call);
+        match answer {
+            Ok(_) | Err(RunFault::Full) => {}
+            Err(fault) => self.fault = Some(fault),
+        }
+        answer
     }
 
     /// Queues an item (`queue_work_on`): one entry of the worker.
@@ -78,9 +99,10 @@ impl<'a, N: HubName, R: Wait> RunCtx<'a, N, R> {
     /// `Full` where there is no room for it, `NoMemory` where the hub has failed; it has made no entry then.
     pub fn queue(&mut self, item: ItemId, queue: QueueId, cpu: CpuId) -> Result<Reply, RunFault>
         requires { has_numbers N.layout (calls.Queue item queue cpu) ≡ true }
-        ensures later { Later self.old self.new }
-        ensures made { IfOk result (λ reply. Extends N.layout self.old (calls.Queue item queue cpu) reply self.new) }
-        ensures refused { IfErr result (λ f. Refused N.layout self.old (calls.Queue item queue cpu) f self.new) }
+        ensures later { Later self.old.seat self.new.seat }
+        ensures made { IfOk result (λ reply. Extends N.layout self.old.seat (calls.Queue item queue cpu) reply self.new.seat) }
+        ensures refused { IfErr result (λ f. Refused N.layout self.old.seat (calls.Queue item queue cpu) f self.new.seat) }
+        ensures fault { self.new.fault ≡ fault_after result self.old.fault }
     {
         self.make(Call::Queue { item, queue, cpu })
     }
@@ -97,9 +119,10 @@ impl<'a, N: HubName, R: Wait> RunCtx<'a, N, R> {
         ticks: u32,
     ) -> Result<Reply, RunFault>
         requires { has_numbers N.layout (calls.Delay item queue cpu ticks) ≡ true }
-        ensures later { Later self.old self.new }
-        ensures made { IfOk result (λ reply. Extends N.layout self.old (calls.Delay item queue cpu ticks) reply self.new) }
-        ensures refused { IfErr result (λ f. Refused N.layout self.old (calls.Delay item queue cpu ticks) f self.new) }
+        ensures later { Later self.old.seat self.new.seat }
+        ensures made { IfOk result (λ reply. Extends N.layout self.old.seat (calls.Delay item queue cpu ticks) reply self.new.seat) }
+        ensures refused { IfErr result (λ f. Refused N.layout self.old.seat (calls.Delay item queue cpu ticks) f self.new.seat) }
+        ensures fault { self.new.fault ≡ fault_after result self.old.fault }
     {
         self.make(Call::Delay {
             item,
@@ -121,9 +144,10 @@ impl<'a, N: HubName, R: Wait> RunCtx<'a, N, R> {
         ticks: u32,
     ) -> Result<Reply, RunFault>
         requires { has_numbers N.layout (calls.Modify item queue cpu ticks) ≡ true }
-        ensures later { Later self.old self.new }
-        ensures made { IfOk result (λ reply. Extends N.layout self.old (calls.Modify item queue cpu ticks) reply self.new) }
-        ensures refused { IfErr result (λ f. Refused N.layout self.old (calls.Modify item queue cpu ticks) f self.new) }
+        ensures later { Later self.old.seat self.new.seat }
+        ensures made { IfOk result (λ reply. Extends N.layout self.old.seat (calls.Modify item queue cpu ticks) reply self.new.seat) }
+        ensures refused { IfErr result (λ f. Refused N.layout self.old.seat (calls.Modify item queue cpu ticks) f self.new.seat) }
+        ensures fault { self.new.fault ≡ fault_after result self.old.fault }
     {
         self.make(Call::Modify {
             item,
@@ -139,9 +163,10 @@ impl<'a, N: HubName, R: Wait> RunCtx<'a, N, R> {
     /// As of `queue`.
     pub fn cancel(&mut self, item: ItemId) -> Result<Reply, RunFault>
         requires { has_numbers N.layout (calls.Cancel item) ≡ true }
-        ensures later { Later self.old self.new }
-        ensures made { IfOk result (λ reply. Extends N.layout self.old (calls.Cancel item) reply self.new) }
-        ensures refused { IfErr result (λ f. Refused N.layout self.old (calls.Cancel item) f self.new) }
+        ensures later { Later self.old.seat self.new.seat }
+        ensures made { IfOk result (λ reply. Extends N.layout self.old.seat (calls.Cancel item) reply self.new.seat) }
+        ensures refused { IfErr result (λ f. Refused N.layout self.old.seat (calls.Cancel item) f self.new.seat) }
+        ensures fault { self.new.fault ≡ fault_after result self.old.fault }
     {
         self.make(Call::Cancel { item })
     }
@@ -151,9 +176,10 @@ impl<'a, N: HubName, R: Wait> RunCtx<'a, N, R> {
     /// # Errors
     /// As of `queue`.
     pub fn sleep(&mut self) -> Result<Reply, RunFault>
-        ensures later { Later self.old self.new }
-        ensures made { IfOk result (λ reply. Extends N.layout self.old calls.Sleep reply self.new) }
-        ensures refused { IfErr result (λ f. Refused N.layout self.old calls.Sleep f self.new) }
+        ensures later { Later self.old.seat self.new.seat }
+        ensures made { IfOk result (λ reply. Extends N.layout self.old.seat calls.Sleep reply self.new.seat) }
+        ensures refused { IfErr result (λ f. Refused N.layout self.old.seat calls.Sleep f self.new.seat) }
+        ensures fault { self.new.fault ≡ fault_after result self.old.fault }
     {
         let answer = self.make(Call::Sleep);
         self.is_asleep |= matches!(answer, Ok(Reply::Slept));
@@ -165,9 +191,10 @@ impl<'a, N: HubName, R: Wait> RunCtx<'a, N, R> {
     /// # Errors
     /// As of `queue`.
     pub fn wake(&mut self) -> Result<Reply, RunFault>
-        ensures later { Later self.old self.new }
-        ensures made { IfOk result (λ reply. Extends N.layout self.old calls.Wake reply self.new) }
-        ensures refused { IfErr result (λ f. Refused N.layout self.old calls.Wake f self.new) }
+        ensures later { Later self.old.seat self.new.seat }
+        ensures made { IfOk result (λ reply. Extends N.layout self.old.seat calls.Wake reply self.new.seat) }
+        ensures refused { IfErr result (λ f. Refused N.layout self.old.seat calls.Wake f self.new.seat) }
+        ensures fault { self.new.fault ≡ fault_after result self.old.fault }
     {
         let answer = self.make(Call::Wake);
         self.is_asleep &= !matches!(answer, Ok(Reply::Woke));
@@ -176,11 +203,17 @@ impl<'a, N: HubName, R: Wait> RunCtx<'a, N, R> {
 }
 
 impl<'a, N: HubName, R: Wait> RunCtx<'a, N, R> {
-    /// Wakes a run that came back asleep.
-    #[tactic(auto, using(crate::proofs::Later::later_self))]
-    fn wake_up(&mut self) -> Result<(), RunFault>
-        ensures { Later self.old self.new }
+    /// Wakes a run that came back asleep. One that a fault broke off answers it.
+    #[tactic(auto, using(crate::proofs::Later::later_self, crate::proofs::Running::refused_is_of_call))]
+    fn end_run(&mut self) -> Result<(), RunFault>
+        ensures later { Later self.old.seat self.new.seat }
+        ensures fault { IfErr result (λ f. is_of_call f ≡ true) }
+        ensures whole { IfOk result (λ _. self.old.fault ≡ None) }
+        ensures wakes { IfOk result (λ _. (self.new.seat ≡ self.old.seat) ⊎ MakesOne N.layout self.old.seat calls.Wake self.new.seat) }
     {
+        if let Some(fault) = self.fault {
+            return Err(fault);
+        }
         if self.is_asleep {
             self.wake()?;
         }
@@ -198,23 +231,28 @@ fn run_once<N: HubName, R: Wait, W: Work>(
 ) -> (Seat<N>, Result<(), RunFault>)
     requires worker { is_caller seat.who ≡ false }
     requires item { item.0 < N.layout.items }
-    ensures { Later seat result.0 }
+    requires started { HasStarted seat item }
+    ensures later { Later seat result.0 }
+    ensures ran { IfOk result.1 (λ _. RunsItem N.layout (W.does work.now N.layout) item seat result.0) }
+    ensures fault { IfErr result.1 (λ f. is_of_call f ≡ true) }
 {
     let mut context = RunCtx {
         rt,
         hub,
         seat,
         is_asleep: false,
+        fault: None,
     };
     work.run::<N, R>(item, &mut context);
-    let woken = context.wake_up();
+    let ended = context.end_run();
     let RunCtx {
         rt: _,
         hub: _,
         seat,
         is_asleep: _,
+        fault: _,
     } = context;
-    (seat, woken)
+    (seat, ended)
 }
 
 /// The same in place.
@@ -227,14 +265,17 @@ pub(crate) fn run_in<N: HubName, R: Wait, W: Work>(
 ) -> Result<(), RunFault>
     requires worker { is_caller seat.old.who ≡ false }
     requires item { item.0 < N.layout.items }
-    ensures { Later seat.old seat.new }
+    requires started { HasStarted seat.old item }
+    ensures later { Later seat.old seat.new }
+    ensures ran { IfOk result (λ _. RunsItem N.layout (W.does work.now N.layout) item seat.old seat.new) }
+    ensures fault { IfErr result (λ f. is_of_call f ≡ true) }
 {
     replace_with(
         seat,
         (),
         |seat, _nothing| -> (Seat<N>, Result<(), RunFault>)
-            requires { (is_caller seat.who ≡ false) × (item.0 < N.layout.items) }
-            ensures { Later seat result.0 }
+            requires { (is_caller seat.who ≡ false) × (item.0 < N.layout.items) × HasStarted seat item }
+            ensures { Later seat result.0 × IfOk result.1 (λ _. RunsItem N.layout (W.does work.entry.now N.layout) item seat result.0) × IfErr result.1 (λ f. is_of_call f ≡ true) }
         { run_once(rt, hub, seat, work, item) },
     )
 }

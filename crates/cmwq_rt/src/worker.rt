@@ -1,11 +1,12 @@
 //! A worker of a hub.
-ghost use Rattle.std.specs.Prelude.{◌≡◌, ◌+◌, ◌<◌, false, IfOk, IfErr, MatchOption};
+ghost use Rattle.std.specs.Prelude.{◌≡◌, ◌+◌, true, false, IfOk, IfErr};
 ghost use mathlib.Core.List.{IsPrefix};
 ghost use Rattle.cmwq_model.specs.Legal.{past_of, IsLegal};
-ghost use Rattle.cmwq_desk.specs.Seats.{is_caller};
+ghost use Rattle.cmwq_desk.specs.Seats.{Agree, Seated, is_caller};
 ghost use Rattle.cmwq_desk.specs.Held.{active_in};
 ghost use Rattle.cmwq_desk.specs.Faults.{IsStranger};
 ghost use Rattle.cmwq_rt.specs.Later.{Later};
+ghost use Rattle.cmwq_rt.specs.Running.{EndsRun, HasWorked, IsNext, is_of_call};
 ghost use Rattle.cmwq_desk.specs.Settled.{Settles};
 
 use crate::hub::Hub;
@@ -42,7 +43,11 @@ impl<N: HubName> Worker<N> {
         Worker { seat }
     }
 
-    pub(crate) fn settle(&mut self, desk: &Desk<N>) -> Result<(), RunFault>
+    /// Sees the whole history that lay under the lock of a hub that is no more.
+    ///
+    /// # Errors
+    /// `Stranger` where that was another hub's.
+    pub fn settle(&mut self, desk: &Desk<N>) -> Result<(), RunFault>
         ensures settled { IfOk result (λ _. Settles desk.now.history self.old self.new) }
         ensures stranger { IfErr result (λ f. (self.new ≡ self.old) × IsStranger self.old f) }
     {
@@ -50,10 +55,23 @@ impl<N: HubName> Worker<N> {
     }
 
     /// How many entries it has made.
-    pub fn serial(&self) -> u32
+    pub fn serial(&self) -> u64
         ensures { result ≡ self.now.serial }
     {
         self.seat.serial()
+    }
+
+    pub(crate) fn seat(&self) -> &Seat<N>
+        ensures { result.now ≡ self.now }
+    {
+        &self.seat
+    }
+
+    /// Of what two workers of a hub have seen the shorter begins the longer.
+    pub fn agrees(&self, other: &Worker<N>)
+        ensures { Agree self.now.seen other.now.seen }
+    {
+        self.seat.agrees(&other.seat);
     }
 
     /// What the hub's ledger has of it: as many entries as its serial says.
@@ -67,7 +85,7 @@ impl<N: HubName> Worker<N> {
 impl<N: HubName> Hub<N> {
     /// A worker's loop (`worker_thread`): it starts what it may start, runs the work function once for each start, and goes when the
     /// hub is closed and no active queueing is open, as it then sees. It answers how many entries it made. Between runs it sleeps, or goes to the
-    /// pool's reserve where it would be sent there.
+    /// pool's reserve where it would be sent there. What each run made is what the work function says that it does.
     ///
     /// # Errors
     /// `NoMemory` where the hub has failed; whatever else is answered, the hub has failed from then on.
@@ -76,7 +94,9 @@ impl<N: HubName> Hub<N> {
         rt: &R,
         worker: &mut Worker<N>,
         work: &W,
-    ) -> Result<u32, RunFault>
+    ) -> Result<u64, RunFault>
+        ensures fault { IfErr result (λ f. is_of_call f ≡ true) }
+        ensures worked { IfOk result (λ _. HasWorked N.layout (W.does work.now N.layout) worker.old worker.new) }
         ensures idle { IfOk result (λ _. active_in N.layout worker.new.seen ≡ 0) }
         ensures count { IfOk result (λ n. worker.new.serial ≡ worker.old.serial + n) }
         ensures seen { IsPrefix worker.old.seen worker.new.seen }
@@ -104,6 +124,8 @@ impl<N: HubName> Hub<N> {
         work: &W,
     ) -> Result<(), RunFault>
         requires { is_caller seat.old.who ≡ false }
+        ensures fault { IfErr result (λ f. is_of_call f ≡ true) }
+        ensures worked { IfOk result (λ _. HasWorked N.layout (W.does work.now N.layout) seat.old seat.new) }
         ensures idle { IfOk result (λ _. active_in N.layout seat.new.seen ≡ 0) }
         ensures later { Later seat.old seat.new }
     {
@@ -119,13 +141,14 @@ impl<N: HubName> Hub<N> {
     }
 
     /// Ends the run, and starts the next one: in one hold of the lock, if there is one now.
+    #[tactic(auto, using(crate::proofs::Running::refused_is_of_call))]
     fn go_on<R: Wait>(&self, rt: &R, seat: &mut Seat<N>) -> Result<Option<ItemId>, RunFault>
         requires { is_caller seat.old.who ≡ false }
-        ensures item { IfOk result (λ o. MatchOption o (active_in N.layout seat.new.seen ≡ 0) (λ item. item.0 < N.layout.items)) }
+        ensures fault { IfErr result (λ f. is_of_call f ≡ true) }
+        ensures next { IfOk result (λ o. (ended : Seated) × EndsRun N.layout seat.old ended × IsNext N.layout ended o seat.new) }
         ensures later { Later seat.old seat.new }
     {
-        let mut desk = self.lock(rt);
-        let _who = seat.who();
+        let mut desk = self.spacious(rt, self.lock(rt), seat.who());
         if let Err(fault) = desk.call(rt, seat, Call::Finish) {
             self.leave(desk);
             return Err(fault);

@@ -1,7 +1,15 @@
 //! The work functions of a script: what each item does when it runs.
-ghost use Rattle.std.specs.Prelude.{◌≡◌, ◌<◌, true};
+ghost use Rattle.std.specs.Prelude.{◌≡◌, ◌<◌, true, false, IfOk, IfErr, None, Some};
 ghost use Rattle.cmwq_model.specs.Layout.{has_numbers};
+ghost use Rattle.cmwq_desk.specs.Calls.{Extends};
+ghost use Rattle.cmwq_desk.specs.Faults.{Refused};
+ghost use Rattle.cmwq_desk.specs.declared.fault.RunFault.TheVariants.{Full};
 ghost use Rattle.cmwq_rt.specs.Later.{Later};
+ghost use Rattle.cmwq_rt.specs.Running.{fault_after};
+ghost use Rattle.cmwq_rt.specs.Scripts.{is_full};
+ghost use Rattle.cmwq_script.specs.Scripts.{is_own};
+ghost use Rattle.cmwq_script.specs.declared.action.Action.TheVariants as actions;
+ghost use Rattle.cmwq_run.specs.Played.{Acts, ActInTurn, SleepsOnce};
 
 use cmwq_model::{Call, ItemId, Reply};
 use cmwq_rt::{Gate, Gates, HubName, RunCtx, RunFault, Work};
@@ -15,14 +23,24 @@ pub struct Play<'a> {
     gates: Gates,
 }
 
-/// What a run makes of a call that it is told to make: calls that make no sense of a run are left out.
-fn call<N: HubName, R: Wait>(context: &mut RunCtx<N, R>, call: Call) -> Result<(), RunFault>
-    ensures { Later context.old context.new }
+fn is_own(call: Call) -> bool
+    ensures { result ≡ is_own call }
 {
-    if !context.shape().has_numbers(call) {
-        return Ok(());
-    }
-    let answer = match call {
+    matches!(
+        call,
+        Call::Queue { .. } | Call::Delay { .. } | Call::Modify { .. } | Call::Cancel { .. }
+    )
+}
+
+fn make<N: HubName, R: Wait>(context: &mut RunCtx<N, R>, call: Call) -> Result<Reply, RunFault>
+    requires own { is_own call ≡ true }
+    requires numbers { has_numbers N.layout call ≡ true }
+    ensures later { Later context.old.seat context.new.seat }
+    ensures made { IfOk result (λ reply. Extends N.layout context.old.seat call reply context.new.seat) }
+    ensures refused { IfErr result (λ f. Refused N.layout context.old.seat call f context.new.seat) }
+    ensures fault { context.new.fault ≡ fault_after result context.old.fault }
+{
+    match call {
         Call::Queue { item, queue, cpu } => context.queue(item, queue, cpu),
         Call::Delay {
             item,
@@ -37,13 +55,28 @@ fn call<N: HubName, R: Wait>(context: &mut RunCtx<N, R>, call: Call) -> Result<(
             ticks,
         } => context.modify(item, queue, cpu, ticks),
         Call::Cancel { item } => context.cancel(item),
-        _ => return Ok(()),
-    };
-    unless_full(answer)
+        _ => unreachable!(),
+    }
+}
+
+/// What a run makes of a call that it is told to make: calls that make no sense of a run are left out.
+fn call<N: HubName, R: Wait>(context: &mut RunCtx<N, R>, call: Call) -> Result<(), RunFault>
+    requires { context.old.fault ≡ None }
+    ensures later { Later context.old.seat context.new.seat }
+    ensures done { IfOk result (λ _. (context.new.fault ≡ None) × Acts N.layout (actions.Call call) context.old.seat context.new.seat) }
+    ensures broke { IfErr result (λ f. context.new.fault ≡ Some f) }
+{
+    if !is_own(call) || !context.shape().has_numbers(call) {
+        return Ok(());
+    }
+    unless_full(make(context, call))
 }
 
 /// An action for which there is no room is left out.
-fn unless_full(answer: Result<Reply, RunFault>) -> Result<(), RunFault> {
+fn unless_full(answer: Result<Reply, RunFault>) -> Result<(), RunFault>
+    ensures passes { IfOk result (λ _. IfErr answer (λ f. f ≡ Full)) }
+    ensures broke { IfErr result (λ f. IfOk answer (λ _. ⊥) × IfErr answer (λ e. e ≡ f) × (is_full f ≡ false)) }
+{
     match answer {
         Ok(_) | Err(RunFault::Full) => Ok(()),
         Err(fault) => Err(fault),
@@ -52,7 +85,9 @@ fn unless_full(answer: Result<Reply, RunFault>) -> Result<(), RunFault> {
 
 impl<'a> Play<'a> {
     /// What each item does, by its number; all gates are shut.
-    pub fn new(does: &'a [Vec<Action>]) -> Play<'a> {
+    pub fn new(does: &'a [Vec<Action>]) -> Play<'a>
+        ensures { result.does.now ≡ does.now }
+    {
         Play {
             does,
             gates: Gates::new(),
@@ -70,7 +105,10 @@ impl<'a> Play<'a> {
         context: &mut RunCtx<N, R>,
         gate: u8,
     ) -> Result<(), RunFault>
-        ensures { Later context.old context.new }
+        requires { context.old.fault ≡ None }
+        ensures later { Later context.old.seat context.new.seat }
+        ensures done { IfOk result (λ _. (context.new.fault ≡ None) × SleepsOnce N.layout context.old.seat context.new.seat) }
+        ensures broke { IfErr result (λ f. context.new.fault ≡ Some f) }
     {
         let asleep = context.sleep();
         self.gates.pass(context.rt(), gate);
@@ -85,7 +123,10 @@ impl<'a> Play<'a> {
         context: &mut RunCtx<N, R>,
         action: Action,
     ) -> Result<(), RunFault>
-        ensures { Later context.old context.new }
+        requires { context.old.fault ≡ None }
+        ensures later { Later context.old.seat context.new.seat }
+        ensures done { IfOk result (λ _. (context.new.fault ≡ None) × Acts N.layout action context.old.seat context.new.seat) }
+        ensures broke { IfErr result (λ f. context.new.fault ≡ Some f) }
     {
         match action {
             Action::Call(made) => call(context, made),
@@ -96,18 +137,36 @@ impl<'a> Play<'a> {
             Action::SleepAt { gate } => self.sleep_at(context, gate),
         }
     }
+
+    /// Acts in turn, until a call answers a fault other than want of room.
+    fn act_all<N: HubName, R: Wait>(
+        &self,
+        context: &mut RunCtx<N, R>,
+        actions: &[Action],
+    ) -> Result<(), RunFault>
+        requires { context.old.fault ≡ None }
+        ensures later { Later context.old.seat context.new.seat }
+        ensures done { IfOk result (λ _. (context.new.fault ≡ None) × ActInTurn N.layout actions.now context.old.seat context.new.seat) }
+        ensures broke { IfErr result (λ f. context.new.fault ≡ Some f) }
+    {
+        for k in 0..actions.len() {
+            self.act(context, actions[k])?;
+        }
+        Ok(())
+    }
 }
 
 impl<'a> Work for Play<'a> {
-    /// A fault other than want of room ends the run: its worker meets it next.
+    ghost use Rattle.std.specs.Prelude.{map};
+    ghost use Rattle.cmwq_run.specs.Played.{plays};
+
+    ghost does = { λ p. plays (map (λ d. d.items) p.does.now) };
+
+    /// A fault other than want of room ends the run: its worker answers it.
     fn run<N: HubName, R: Wait>(&self, item: ItemId, context: &mut RunCtx<N, R>) {
         let Some(actions) = self.does.get(usize::from(item.0)) else {
             return;
         };
-        for action in actions {
-            if self.act(context, *action).is_err() {
-                return;
-            }
-        }
+        let _broke = self.act_all(context, actions.as_slice());
     }
 }

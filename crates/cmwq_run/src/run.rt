@@ -1,10 +1,10 @@
 //! The word `run`.
-ghost use Rattle.std.specs.Prelude.{◌≡◌, ◌≤◌, ℕ, Result, Ok, length, IfSome, IfOk, IfErr, OnOk, IsErrOf};
+ghost use Rattle.std.specs.Prelude.{◌≡◌, ◌≤◌, ℕ, Result, Ok, length, map, string_bytes, IfSome, IfOk, IfErr, OnOk, IsErrOf};
 ghost use Rattle.serde_json.specs.View.{view};
 ghost use Rattle.cmwq_io.specs.Counts.{Rises};
 ghost use Rattle.cmwq_run.specs.declared.failure.Failure.{Failure as TheFailure};
 ghost use Rattle.cmwq_run.specs.declared.failure.Failure.TheVariants as failure;
-ghost use Rattle.cmwq_run.specs.Run.{RunEnds, Leaves, FailsOn, run_status};
+ghost use Rattle.cmwq_run.specs.Run.{RunEnds, Leaves, FailsOn, IsNamed, run_status};
 ghost use Rattle.cmwq_input.specs.declared.fault.Fault.TheVariants as fault;
 ghost use Rattle.cmwq_script.specs.Runs.{run_said};
 ghost use Rattle.cmwq_script.specs.Scripts.{run_of, MayRun};
@@ -24,6 +24,7 @@ use std::thread::Threads;
 /// The first gate, in the order of their first use, that a run passed after it had looked at it in vain.
 fn missed_gate<R: Wait>(rt: &R, play: &Play, gates: &[String]) -> Option<GateName>
     requires { length gates.now ≤ 16 }
+    ensures { IfSome result (λ name. IsNamed (map string_bytes gates.now) name.bytes) }
 {
     for (number, name) in gates.iter().enumerate() {
         if play.was_missed(rt, number as u8) {

@@ -1,26 +1,39 @@
 -- What `step` and `upgrade` write is read again, and is legal: so `check` finds nothing wrong in it.
-use Rattle.std.proofs.Common.{◌≡◌, inl, inr, ◌≤◌, ℕ, List, Result, Ok, Err, None, Some, length, refl, sym, ◌∙◌, subst, arith}
+use Rattle.std.proofs.Common.{◌≡◌, inl, inr, ◌≤◌, ◌==◌, Bool, true, false, ℕ, List, Result, Ok, Err, None, Some, length, refl, sym, ◌∙◌, subst, arith, get_or}
 use Rattle.std.specs.Prelude.{reverse, IsTrue}
-use Rattle.std.specs.List.{AllByRecursion}
+use Rattle.std.specs.List.{All, AllByRecursion}
+use Rattle.std.proofs.lemmas.Bool.{eqb-true, le-leb}
+use Rattle.std.proofs.lemmas.Bool.Decides.{nat_tests}
 use Rattle.std.proofs.lemmas.List.{reverse-reverse, length-reverse}
 use Rattle.std.proofs.lemmas.List.Elements.{All-from_recursion, recursion_from_All}
 use Rattle.cmwq_model.specs.declared.id.Who.{Who}
 use Rattle.cmwq_model.specs.declared.call.Call.{Call}
 use Rattle.cmwq_model.specs.declared.entry.Entry.{Entry}
+use Rattle.cmwq_model.specs.declared.shape.QueueShape.{QueueShape}
 use Rattle.cmwq_model.specs.declared.verdict.Illegal.{Illegal}
-use Rattle.cmwq_model.specs.Layout.{Layout, fits}
-use Rattle.cmwq_model.specs.Ranges.{IsWho, IsCall}
+use Rattle.cmwq_model.specs.Layout.{Layout, most_room, fits}
+use Rattle.cmwq_model.specs.Ranges.{IsWho, IsCall, IsEntry, greatest}
 use Rattle.cmwq_model.specs.Legal.{IsLegal, past_of}
 use Rattle.cmwq_laws.proofs.FirstWrong.{wrong_are_illegal}
+use Rattle.cmwq_model.specs.Calls.{now}
+use Rattle.cmwq_model.specs.Room.{most_time}
 use Rattle.cmwq_laws.proofs.InRange.{legal_histories_fit}
+use Rattle.cmwq_laws.proofs.WithinRoom.{steps_within_room}
 use Rattle.cmwq_laws.proofs.OneEntry.{steps_are_legal}
 use Rattle.cmwq_base.specs.declared.refusal.Refusal.{Refusal}
 use Rattle.cmwq_base.specs.declared.refusal.Refusal.TheVariants as refusal
 use Rattle.cmwq_base.specs.Files.{File}
 use Rattle.cmwq_base.specs.Kinds.{history_file_of}
-use Rattle.cmwq_base.proofs.Again.{histories_read_again}
+use Rattle.cmwq_base.specs.FileLaws.{IsOfFormat}
+use Rattle.cmwq_text.specs.Numbers.{greatest_number}
+use Rattle.cmwq_text.specs.Formats.{by_age, old_lines, old_room, most_lines, line_limit, room_limit, allows_queue, allows_entry}
+use Rattle.cmwq_text.proofs.ReadRanges.{wide_entry, allowed_short}
+use Rattle.cmwq_base.proofs.Limits.{oldest_has, older_has, none_falls}
+use Rattle.cmwq_base.proofs.Again.{histories_read_again, new_allows}
+use Rattle.cmwq_base.proofs.Spelled.{histories_are_of_their_format}
 use Rattle.cmwq_base.proofs.Sound.{calls_are_read, history_is_read, IsCallInside}
 use Rattle.cmwq_engine.specs.Check.{IsVerdict}
+use Rattle.cmwq_engine.specs.Upgrade.{upgraded_version}
 use Rattle.cmwq_engine.specs.Step.{steps_in, answer_text}
 use Rattle.cmwq_runs.specs.Checks.{newest, history_in, IsLegalText, StepIsChecked, UpgradeIsChecked, PassesCheck, StepsPassCheck, UpgradesPassCheck}
 use Rattle.cmwq_runs.proofs.Stepped.{steps_are_few, steps_are_of, all_reversed}
@@ -29,7 +42,7 @@ abbrev Fits : Layout → Who × Call → Type 0
 Fits s c = IsTrue (fits s c.0 c.1)
 
 abbrev IsInRange : Entry → Type 0
-IsInRange e = IsWho e.who × IsCall e.call
+IsInRange e = IsWho e.who × (IsCall greatest) e.call
 
 pub step_is_checked : StepIsChecked
 step_is_checked text f h =
@@ -39,14 +52,45 @@ step_is_checked text f h =
     let entries : List Entry = reverse past in
     let legal : IsLegal s (past_of entries) = subst (IsLegal s) (sym (reverse-reverse past)) (steps_are_legal s s.room f.items (recursion_from_All (Fits s) f.items read.sound.fitting)) in
     let each : AllByRecursion IsInRange past = steps_are_of s s.room IsCallInside f.items (recursion_from_All IsCallInside f.items read.each) in
-    let few : length entries ≤ 1000000 = omega (arith, length-reverse past, steps_are_few s s.room f.items, read.sound.few) in
-    let inside = legal_histories_fit s entries read.shape legal (omega arith) (all_reversed IsInRange past (All-from_recursion IsInRange past each)) in
-    (histories_read_again (history_in f) refl read.shape (record { few = few; fitting = inside.0 }) inside.1, legal)
+    let is_old : f.version ≡ 1 = read.version.2 (λ _ _. refl) in
+    let most : line_limit f.version ≡ old_lines = oldest_has old_lines most_lines f.version is_old in
+    let room : s.room ≤ room_limit 2 = subst (λ n. s.room ≤ n) (oldest_has old_room most_room f.version is_old ∙ sym (older_has old_room most_room 2 (omega arith))) read.sound.room in
+    let few : length entries ≤ old_lines = omega (arith, length-reverse past, steps_are_few s s.room f.items, read.sound.few, most) in
+    let within : length entries ≤ line_limit 2 = subst (λ n. length entries ≤ n) (sym (older_has old_lines most_lines 2 (omega arith))) few in
+    let soon : now (past_of entries) ≤ most_time = rw (reverse-reverse past) (steps_within_room s s.room f.items).1 in
+    let inside = legal_histories_fit s greatest entries read.shape legal (omega arith) soon (all_reversed IsInRange past (All-from_recursion IsInRange past each)) in
+    let of_format : IsOfFormat (history_in f) = (λ i d lt. refl, λ i d lt. new_allows (get_or entries i d) (inside.1 i d lt)) in
+    (histories_read_again (history_in f) (omega arith) (omega arith) of_format read.shape (record { room = room; few = within; fitting = inside.0 }) (λ i d lt. wide_entry (get_or entries i d) (inside.1 i d lt)), legal)
+
+-- what a format has, that one has too in which it is written
+upgraded_queues : (v : ℕ) (qs : List QueueShape) → All (λ q. IsTrue (allows_queue (upgraded_version v) q)) qs
+upgraded_queues v qs i d lt = rw (le-leb 2 (upgraded_version v) (omega arith)) refl
+
+upgraded_entries : (f : File Entry) → f.version ≤ 3 → All (λ e. IsTrue (allows_entry f.version e)) f.items
+    → (b : Bool) → (f.version == 3) ≡ b → All (λ e. IsTrue (allows_entry (upgraded_version f.version) e)) f.items
+upgraded_entries f high allowed true h =
+    let is : f.version ≡ 3 = eqb-true f.version 3 h in
+    let same : f.version ≡ upgraded_version f.version = omega (arith, is) in
+    subst (λ v. All (λ e. IsTrue (allows_entry v e)) f.items) same allowed
+upgraded_entries f high allowed false h =
+    let old : f.version ≤ 2 = grind (arith, nat_tests) in
+    let same : 2 ≡ upgraded_version f.version = omega (arith, old) in
+    let short : All (λ e. IsTrue (allows_entry 2 e)) f.items = λ i d lt. rw (allowed_short f.version (get_or f.items i d) old (allowed i d lt)) refl in
+    subst (λ v. All (λ e. IsTrue (allows_entry v e)) f.items) same short
 
 pub upgrade_is_checked : UpgradeIsChecked
 upgrade_is_checked text f h legal =
     let read = history_is_read text f h in
-    (histories_read_again (newest f.layout f.items) refl read.shape (record { few = read.sound.few; fitting = read.sound.fitting }) read.each, legal)
+    let v : ℕ = upgraded_version f.version in
+    let later : f.version ≤ v = omega arith in
+    let high : v ≤ 3 = omega (arith, read.version.1) in
+    let rooms : by_age old_room most_room f.version ≤ by_age old_room most_room v = none_falls old_room most_room f.version v (omega arith) later in
+    let lines : by_age old_lines most_lines f.version ≤ by_age old_lines most_lines v = none_falls old_lines most_lines f.version v (omega arith) later in
+    let room : f.layout.room ≤ room_limit v = omega (arith, rooms, read.sound.room) in
+    let few : length f.items ≤ line_limit v = omega (arith, lines, read.sound.few) in
+    let out : File Entry = record { version = v; layout = f.layout; items = f.items } in
+    let of_format : IsOfFormat out = (upgraded_queues f.version f.layout.queues, upgraded_entries f read.version.1 (histories_are_of_their_format text f h).1 (f.version == 3) refl) in
+    (histories_read_again out (omega arith) high of_format read.shape (record { room = room; few = few; fitting = read.sound.fitting }) read.each, legal)
 
 -- ---- so `check` finds nothing wrong
 
@@ -75,4 +119,4 @@ pub steps_pass_check : StepsPassCheck
 steps_pass_check text written n ends = subst PassesCheck (sym ends.3) (legal_passes (answer_text ends.0) (history_in ends.0) (step_is_checked text ends.0 ends.1))
 
 pub upgrades_pass_check : UpgradesPassCheck
-upgrades_pass_check text written ends = subst PassesCheck (sym ends.3) (legal_passes _ (newest ends.0.layout ends.0.items) (upgrade_is_checked text ends.0 ends.1 ends.2))
+upgrades_pass_check text written ends = subst PassesCheck (sym ends.3) (legal_passes _ _ (upgrade_is_checked text ends.0 ends.1 ends.2))

@@ -10,7 +10,7 @@ use Rattle.cmwq_base.specs.Files.{File}
 use Rattle.cmwq_base.specs.Kinds.{call_file_of, history_file_of}
 use Rattle.cmwq_engine.specs.Check.{IsVerdict, CheckEnds, check_status}
 use Rattle.cmwq_engine.specs.Step.{steps_in, answer_text, StepEnds}
-use Rattle.cmwq_engine.specs.Upgrade.{upgraded_text, UpgradeEnds}
+use Rattle.cmwq_engine.specs.Upgrade.{upgraded_version, upgraded_text, UpgradeEnds}
 
 abbrev pub newest : Layout → List Entry → File Entry
 newest s entries = record { version = 2; layout = s; items = entries }
@@ -27,10 +27,10 @@ IsLegalText text f = (history_file_of text ≡ Ok f) × IsVerdict f None
 abbrev pub StepIsChecked : Type 0
 StepIsChecked = (text : List ℕ) (f : File (Who × Call)) → call_file_of text ≡ Ok f → IsLegalText (answer_text f) (history_in f)
 
--- what `upgrade` writes of a legal history is read as format 2 of it, and is legal
+-- what `upgrade` writes of a legal history is read as that history, in format 2 or 3, and is legal
 abbrev pub UpgradeIsChecked : Type 0
 UpgradeIsChecked = (text : List ℕ) (f : File Entry) → history_file_of text ≡ Ok f → IsVerdict f None
-    → IsLegalText (upgraded_text f None) (newest f.layout f.items)
+    → IsLegalText (upgraded_text f None) (record { version = upgraded_version f.version; layout = f.layout; items = f.items })
 
 -- each run of `check` on the text ends with status 0, or with 4 or 5: memory ran out, or the source or the output failed
 abbrev pub PassesCheck : List ℕ → Type 0

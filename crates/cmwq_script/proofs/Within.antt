@@ -9,7 +9,7 @@ use Rattle.std.proofs.lemmas.List.{length-map}
 use Rattle.std.proofs.lemmas.List.Elements.{All-from_recursion}
 use Rattle.cmwq_model.specs.declared.call.Call.{Call}
 use Rattle.cmwq_model.specs.declared.shape.QueueShape.{QueueShape}
-use Rattle.cmwq_model.specs.Layout.{Layout, layout_of, is_queue}
+use Rattle.cmwq_model.specs.Layout.{most_room, Layout, layout_of, is_queue}
 use Rattle.cmwq_model.specs.Scripted.{IsScripted}
 use Rattle.cmwq_input.specs.declared.refused.Refused.{Refused}
 use Rattle.cmwq_json.specs.InTurn.{in_turn}
@@ -82,7 +82,7 @@ module _ (t : Top) (qs : Named QueueShape) (w : Work) (cs : List (List Call)) (q
       let callers_few = callers.1 in
       record {
         allowed =
-            both _ _ (both _ _ (both _ _ (both _ _ (both _ _ (within 1 4 t.cpus limits.0 limits.1) (within 1 8 t.workers limits.2 limits.3)) (within 1 64 (length cs) (omega arith) (omega arith))) (within 1 256 (length w.items.values) (omega arith) (omega arith))) (at_most t.room 1000000 limits.4))
+            both _ _ (both _ _ (both _ _ (both _ _ (both _ _ (within 1 4 t.cpus limits.0 limits.1) (within 1 8 t.workers limits.2 limits.3)) (within 1 64 (length cs) (omega arith) (omega arith))) (within 1 256 (length w.items.values) (omega arith) (omega arith))) (at_most t.room most_room (let few = limits.4 in omega arith)))
             (both _ _ (within 1 64 (length qs.values) (omega arith) (omega arith)) (queues_allowed qs.values wide.values));
         few_callers = callers_few;
         callers = refl;

@@ -11,7 +11,7 @@ use serde_json::Value;
 pub struct Top<'v> {
     pub cpus: u8,
     pub workers: u8,
-    pub room: u32,
+    pub room: u64,
     pub queues: &'v [Value],
     pub items: &'v [Value],
     pub callers: &'v [Value],
@@ -38,7 +38,7 @@ impl<'v> Top<'v> {
         Some(Top {
             cpus: cpus as u8,
             workers: workers as u8,
-            room: room as u32,
+            room,
             queues: array_at(value, "queues")?.as_slice(),
             items: array_at(value, "items")?.as_slice(),
             callers: array_at(value, "callers")?.as_slice(),

@@ -1,26 +1,37 @@
--- What the threads of callers gave back, and what their scripts leave in one history.
-use Rattle.std.specs.Prelude.{◌≡◌, ℕ, suc, ◌+◌, List, [], ◌∷◌, length, slice_get, Some, IfOk}
+-- What the threads of callers and workers gave back, and what they leave in one history.
+use Rattle.std.specs.Prelude.{◌≡◌, ℕ, suc, ◌+◌, ◌<◌, ◌≤◌, List, [], ◌∷◌, length, slice_get, Some, None, Bool, true, false, IfOk, IfErr}
 use Rattle.std.specs.declared.vec.Vec.{Vec}
 use Rattle.std.specs.declared.alloc.Global.{Global}
 use Rattle.cmwq_model.specs.declared.id.Who.{Who}
-use Rattle.cmwq_model.specs.declared.id.Who.TheVariants.{Caller}
+use Rattle.cmwq_model.specs.declared.id.Who.TheVariants.{Caller, Worker}
+use Rattle.cmwq_model.specs.declared.id.WorkerId.{WorkerId}
 use Rattle.cmwq_model.specs.declared.call.Call.{Call}
 use Rattle.cmwq_model.specs.declared.entry.Entry.{Entry}
 use Rattle.cmwq_model.specs.Layout.{Layout}
-use Rattle.cmwq_desk.specs.Seats.{Seated, made_by}
+use Rattle.cmwq_model.specs.Calls.{serial_of}
+use Rattle.cmwq_model.specs.Legal.{past_of, IsLegal}
+use Rattle.cmwq_desk.specs.Seats.{Seated, newcomer, made_by}
+use Rattle.cmwq_desk.specs.Held.{active_in}
+use Rattle.cmwq_desk.specs.declared.fault.RunFault.{RunFault}
+use Rattle.cmwq_desk.specs.declared.fault.RunFault.TheVariants.{Unfinished, NoPlace}
+use Rattle.cmwq_rt.specs.Places.{worker_at}
+use Rattle.cmwq_rt.specs.Running.{Behavior, HasWorked, RunsInTurn, is_of_call}
 use Rattle.cmwq_rt.specs.Scripts.{Follows, HasFollowed}
 use Rattle.cmwq_scripts.specs.declared.ends.CallerEnd.{CallerEnd}
+use Rattle.cmwq_scripts.specs.declared.ends.WorkerEnd.{WorkerEnd}
+use mathlib.Core.List.{IsPrefix}
 
 abbrev pub caller_at : ℕ → Who
 caller_at k = Caller (record { 0 = k })
 
--- the caller of this place has followed the script and done nothing else
+-- the caller of this place has followed the script from its first call on and done nothing else
 abbrev pub FollowedAt : Layout → ℕ → List Call → ℕ → Seated → Type 0
-FollowedAt s k script full v = (v.who ≡ caller_at k) × HasFollowed s script full v
+FollowedAt s k script full v = HasFollowed s script full (newcomer (caller_at k)) v
 
 -- one end for each script, in order: who gave no fault has followed it
 pub record HaveEnded {N : Type 0} (s : Layout) (scripts : List (Vec Call Global)) (ends : List (CallerEnd N)) : Type 0 where
   pub each : length ends ≡ length scripts
+  pub faults : (k : ℕ) (e : CallerEnd N) → slice_get ends k ≡ Some e → IfErr e.outcome (λ f. is_of_call f ≡ true)
   pub followed : (k : ℕ) (e : CallerEnd N) (x : Vec Call Global) → slice_get ends k ≡ Some e → slice_get scripts k ≡ Some x → IfOk e.outcome (λ t. FollowedAt s k x.items t.1 e.caller)
 
 -- the entries of the caller of this place in a history follow the script
@@ -31,3 +42,51 @@ FollowsIn s k script full history = Follows s (caller_at k) history [] script (m
 abbrev pub AllFollow : Layout → ℕ → List (List Call) → ℕ → List Entry → Type 0
 AllFollow s k [] full history = full ≡ 0
 AllFollow s k (x ∷ xs) full history = (n m : ℕ) × FollowsIn s k x n history × AllFollow s (suc k) xs m history × (full ≡ n + m)
+
+-- the callers from this place on, up to the last of the shape, who have done nothing
+pub record AreNewcomers (s : Layout) (first : ℕ) (callers : List Seated) : Type 0 where
+  pub all : first + length callers ≡ s.callers
+  pub each : (k : ℕ) (c : Seated) → slice_get callers k ≡ Some c → c ≡ newcomer (caller_at (first + k))
+
+-- callers from this place on have no entry in a history
+pub record AreSilent (s : Layout) (first : ℕ) (history : List Entry) : Type 0 where
+  pub none : (k : ℕ) → first ≤ k → k < s.callers → made_by (caller_at k) history ≡ []
+
+-- what a worker's thread has done to its worker
+abbrev pub WorkedFrom : Layout → Behavior → Seated → Seated → Type 0
+WorkedFrom s does v w = (w.who ≡ v.who) × HasWorked s does v w
+
+-- one end for each worker of the shape, in order: who gave no fault has worked
+pub record HaveWorked {N : Type 0} (s : Layout) (does : Behavior) (ends : List (WorkerEnd N)) : Type 0 where
+  pub all : worker_at s (length ends) ≡ None
+  pub faults : (k : ℕ) (e : WorkerEnd N) → slice_get ends k ≡ Some e → IfErr e.outcome (λ f. is_of_call f ≡ true)
+  pub worked : (k : ℕ) (e : WorkerEnd N) → slice_get ends k ≡ Some e → (x : WorkerId) → worker_at s k ≡ Some x
+      → IfOk e.outcome (λ _. WorkedFrom s does (newcomer (Worker x)) e.worker)
+
+-- a worker's runs in a history are so many, each does what its item does, and it has no other entries there
+pub record WorkedIn (s : Layout) (does : Behavior) (x : WorkerId) (history : List Entry) : Type 0 where
+  pub runs : ℕ
+  pub last : Seated
+  pub in_turn : RunsInTurn s does runs (newcomer (Worker x)) last
+  pub older : IsPrefix last.seen history
+  pub own : serial_of (past_of history) (Worker x) ≡ last.serial
+
+-- so have all workers
+pub record AllWorked (s : Layout) (does : Behavior) (history : List Entry) : Type 0 where
+  pub each : (k : ℕ) (x : WorkerId) → worker_at s k ≡ Some x → WorkedIn s does x history
+
+-- all callers followed their scripts, and yet an active queueing is open in the history
+abbrev pub IsUnfinished : Layout → List (List Call) → List Entry → Type 0
+IsUnfinished s scripts history = (full : ℕ) × AllFollow s 0 scripts full history × (0 < active_in s history)
+
+-- what a fault tells of a run: a legal history that is unfinished, or that there are more scripts than callers
+abbrev pub FailsAs : Layout → List (List Call) → RunFault → Type 0
+FailsAs s scripts Unfinished = (history : List Entry) × IsLegal s (past_of history) × IsUnfinished s scripts history
+FailsAs s scripts NoPlace = s.callers < length scripts
+FailsAs s scripts f = Unit {0}
+
+-- a fault that says nothing of what callers and workers did
+abbrev pub is_silent : RunFault → Bool
+is_silent Unfinished = false
+is_silent NoPlace = false
+is_silent f = true

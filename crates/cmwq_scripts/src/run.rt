@@ -1,17 +1,17 @@
 //! Scripts, each followed by a thread of its own, beside a thread for each worker.
-ghost use Rattle.std.specs.Prelude.{◌≡◌, ◌+◌, ◌<◌, ◌≤◌, ◌^◌, length, map, All, IfOk, count_by};
+ghost use Rattle.std.specs.Prelude.{◌≡◌, ◌+◌, ◌<◌, ◌≤◌, ◌^◌, length, map, All, IfOk, IfErr};
 ghost use Rattle.cmwq_model.specs.Legal.{past_of, IsLegal};
-ghost use Rattle.cmwq_model.specs.Queueings.{still_open};
-ghost use Rattle.cmwq_model.specs.Active.{is_active};
 ghost use Rattle.cmwq_model.specs.Scripted.{IsScripted};
-ghost use Rattle.cmwq_scripts.specs.Ended.{HaveEnded, AllFollow};
+ghost use Rattle.cmwq_desk.specs.Held.{active_in};
+ghost use Rattle.cmwq_rt.specs.Places.{all_free};
+ghost use Rattle.cmwq_scripts.specs.Ended.{AllFollow, AllWorked, AreNewcomers, AreSilent, FailsAs, HaveEnded, HaveWorked};
 
-use crate::ends::WorkerEnd;
 use crate::gather::{Ends, gather};
-use crate::start::{WorkerThread, start_callers, start_workers};
+use crate::start::{idle_callers, start_callers, start_workers};
+use cmwq_desk::Rest;
 use cmwq_model::{Call, Entry, Shape};
 use cmwq_rt::{Hub, HubName, HubParts, RunFault, Seats, Work};
-use std::alloc::{AllocError, Global};
+use std::alloc::Global;
 use std::marker::Brand;
 use std::sync::Wait;
 use std::thread;
@@ -36,11 +36,14 @@ fn run_all<'s, E, N: HubName + Send + Sync + 's, W: Work + Sync, R: Threads + Wa
     scripts: &'s [Vec<Call>],
     work: &'s W,
 ) -> Result<Ends<N>, RunFault>
-    requires fresh { (seats.callers ≡ 0) × (seats.workers ≡ 0) }
+    requires fresh { seats ≡ all_free }
     requires few { length scripts.now ≤ 64 }
     requires calls { All (λ s. All (IsScripted N.layout) s.items × (length s.items < 2 ^ 32)) scripts.now }
     ensures each { IfOk result (λ r. HaveEnded N.layout scripts.now r.callers.items) }
-    ensures rest { IfOk result (λ r. (r.rest.parts + (length r.callers.items + length r.workers.items) ≡ 128) × (r.rest.amount ≡ 0)) }
+    ensures worked { IfOk result (λ r. HaveWorked N.layout (W.does work.now N.layout) r.workers.items) }
+    ensures idle { IfOk result (λ r. AreNewcomers N.layout (length scripts.now) r.idle.items) }
+    ensures rest { IfOk result (λ r. (r.rest.parts + (length r.callers.items + length r.workers.items + length r.idle.items) ≡ 128) × (r.rest.amount ≡ 0)) }
+    ensures fails { IfErr result (λ f. FailsAs N.layout (map (λ s. s.items) scripts.now) f) }
 {
     let mut seats = seats;
     let handles = match start_callers(scope, rt, hub, alloc, &mut seats, scripts) {
@@ -59,59 +62,56 @@ fn run_all<'s, E, N: HubName + Send + Sync + 's, W: Work + Sync, R: Threads + Wa
     };
     let joined = join_promised(rt, handles);
     hub.close(rt);
-    let ended = join_all(rt, alloc, working);
+    let ended = join_promised(rt, working);
     let Ok(callers) = joined else {
         return Err(RunFault::NoMemory { ticket: None });
     };
     let Ok(workers) = ended else {
         return Err(RunFault::NoMemory { ticket: None });
     };
+    let idle = idle_callers(alloc, hub.shape(), &mut seats)?;
     Ok(Ends {
         callers,
         workers,
+        idle,
         rest: seats.into_rest(),
     })
 }
 
-fn join_all<N: HubName, R: Threads>(
-    rt: &R,
-    alloc: Global,
-    threads: Vec<WorkerThread<N>>,
-) -> Result<Vec<WorkerEnd<N>>, AllocError>
-    ensures { IfOk result (λ v. length v.items ≡ length threads.items) }
-{
-    let mut threads = threads;
-    let mut all = Vec::new(alloc);
-    for _ in 0..threads.len() {
-        let Some(thread) = threads.pop() else {
-            return Err(AllocError);
-        };
-        all.push(thread.join(rt))?;
-    }
-    Ok(all)
-}
-
 // The report of a hub whose threads have ended.
-fn make_report<N: HubName, R: Wait>(
+fn make_report<N: HubName, W: Work, R: Wait>(
     rt: &R,
     hub: Hub<N>,
     ends: Ends<N>,
     scripts: &[Vec<Call>],
+    work: &W,
 ) -> Result<Report, RunFault>
     requires parts { N.parts ≡ 128 }
     requires each { HaveEnded N.layout scripts.now ends.callers.items }
-    requires rest { (ends.rest.parts + (length ends.callers.items + length ends.workers.items) ≡ 128) × (ends.rest.amount ≡ 0) }
+    requires worked { HaveWorked N.layout (W.does work.now N.layout) ends.workers.items }
+    requires idle { AreNewcomers N.layout (length scripts.now) ends.idle.items }
+    requires rest { (ends.rest.parts + (length ends.callers.items + length ends.workers.items + length ends.idle.items) ≡ 128) × (ends.rest.amount ≡ 0) }
     ensures legal { IfOk result (λ r. IsLegal N.layout (past_of r.history.items)) }
     ensures counted { IfOk result (λ r. r.answered ≡ length r.history.items) }
     ensures follow { IfOk result (λ r. AllFollow N.layout 0 (map (λ s. s.items) scripts.now) r.full r.history.items) }
-    ensures finished { IfOk result (λ r. count_by (is_active N.layout (past_of r.history.items)) (still_open (past_of r.history.items)) ≡ 0) }
+    ensures worked { IfOk result (λ r. AllWorked N.layout (W.does work.now N.layout) r.history.items) }
+    ensures silent { IfOk result (λ r. AreSilent N.layout (length scripts.now) r.history.items) }
+    ensures finished { IfOk result (λ r. active_in N.layout r.history.items ≡ 0) }
+    ensures fails { IfErr result (λ f. FailsAs N.layout (map (λ s. s.items) scripts.now) f) }
 {
     let mut desk = hub.into_desk();
-    let gathered = gather(&mut desk, ends, scripts);
-    let history = desk.end(rt);
+    let gathered = gather(&mut desk, ends, scripts, work);
+    let Rest { first, entries } = desk.end(rt);
+    // no journal took any
+    if first != 0 {
+        return Err(RunFault::Stranger {
+            own: 0,
+            book: first,
+        });
+    }
     match gathered {
         Ok((answered, full)) => Ok(Report {
-            history,
+            history: entries,
             answered,
             full,
         }),
@@ -128,18 +128,23 @@ fn run_threads<'x, N: HubName + Send + Sync, W: Work + Sync, R: Threads + Wait +
     scripts: &'x [Vec<Call>],
     work: &'x W,
 ) -> Result<Ends<N>, RunFault>
-    requires fresh { (seats.callers ≡ 0) × (seats.workers ≡ 0) }
+    requires fresh { seats ≡ all_free }
     requires few { length scripts.now ≤ 64 }
     requires calls { All (λ s. All (IsScripted N.layout) s.items × (length s.items < 2 ^ 32)) scripts.now }
     ensures each { IfOk result (λ r. HaveEnded N.layout scripts.now r.callers.items) }
-    ensures rest { IfOk result (λ r. (r.rest.parts + (length r.callers.items + length r.workers.items) ≡ 128) × (r.rest.amount ≡ 0)) }
+    ensures worked { IfOk result (λ r. HaveWorked N.layout (W.does work.now N.layout) r.workers.items) }
+    ensures idle { IfOk result (λ r. AreNewcomers N.layout (length scripts.now) r.idle.items) }
+    ensures rest { IfOk result (λ r. (r.rest.parts + (length r.callers.items + length r.workers.items + length r.idle.items) ≡ 128) × (r.rest.amount ≡ 0)) }
+    ensures fails { IfErr result (λ f. FailsAs N.layout (map (λ s. s.items) scripts.now) f) }
 {
     thread::scope(
         thread::scope_env(),
         rt,
         |scope| -> Result<Ends<N>, RunFault>
-            requires { (seats.callers ≡ 0) × (seats.workers ≡ 0) × (length scripts.now ≤ 64) × All (λ s. All (IsScripted N.layout) s.items × (length s.items < 2 ^ 32)) scripts.now }
-            ensures { IfOk result (λ r. HaveEnded N.layout scripts.entry.now r.callers.items × (r.rest.parts + (length r.callers.items + length r.workers.items) ≡ 128) × (r.rest.amount ≡ 0)) }
+            requires { (seats ≡ all_free) × (length scripts.now ≤ 64) × All (λ s. All (IsScripted N.layout) s.items × (length s.items < 2 ^ 32)) scripts.now }
+            ensures { IfOk result (λ r. HaveEnded N.layout scripts.entry.now r.callers.items × HaveWorked N.layout (W.does work.entry.now N.layout) r.workers.items
+                × AreNewcomers N.layout (length scripts.entry.now) r.idle.items
+                × (r.rest.parts + (length r.callers.items + length r.workers.items + length r.idle.items) ≡ 128) × (r.rest.amount ≡ 0)) × IfErr result (λ f. FailsAs N.layout (map (λ s. s.items) scripts.entry.now) f) }
         { run_all(scope, rt, hub, alloc, seats, scripts, work) },
     )
 }
@@ -160,12 +165,15 @@ fn run_parts<'x, N: HubName + Send + Sync + 'static, W: Work + Sync, R: Threads 
     ensures legal { IfOk result (λ r. IsLegal N.layout (past_of r.history.items)) }
     ensures counted { IfOk result (λ r. r.answered ≡ length r.history.items) }
     ensures follow { IfOk result (λ r. AllFollow N.layout 0 (map (λ s. s.items) scripts.now) r.full r.history.items) }
-    ensures finished { IfOk result (λ r. count_by (is_active N.layout (past_of r.history.items)) (still_open (past_of r.history.items)) ≡ 0) }
+    ensures worked { IfOk result (λ r. AllWorked N.layout (W.does work.now N.layout) r.history.items) }
+    ensures silent { IfOk result (λ r. AreSilent N.layout (length scripts.now) r.history.items) }
+    ensures finished { IfOk result (λ r. active_in N.layout r.history.items ≡ 0) }
+    ensures fails { IfErr result (λ f. FailsAs N.layout (map (λ s. s.items) scripts.now) f) }
 {
     let (hub, seats) = Hub::<N>::open(parts);
     let ends = run_threads(rt, &hub, alloc, seats, scripts, work);
     match ends {
-        Ok(ends) => make_report(rt, hub, ends, scripts),
+        Ok(ends) => make_report(rt, hub, ends, scripts, work),
         Err(fault) => {
             hub.into_desk().end(rt);
             Err(fault)
@@ -177,8 +185,8 @@ fn run_parts<'x, N: HubName + Send + Sync + 'static, W: Work + Sync, R: Threads 
 /// hub is closed, and the workers go on until no active queueing is open.
 ///
 /// # Errors
-/// The first fault of a thread; `NoThread` where one can't be made; `NoPlace` where there are more scripts than callers; `Unfinished`
-/// where an active queueing is open at the end; `NoMemory`. All threads have ended then.
+/// The first fault of a thread; `NoThread` where one can't be made; `NoPlace` only where there are more scripts than callers; `Unfinished`
+/// only where all callers have followed their scripts and an active queueing is open at the end; `NoMemory`. All threads have ended then.
 pub fn run_scripts<'x, W: Work + Sync, R: Threads + Wait + Sync>(
     rt: &'x R,
     alloc: Global,
@@ -191,7 +199,10 @@ pub fn run_scripts<'x, W: Work + Sync, R: Threads + Wait + Sync>(
     ensures legal { IfOk result (λ r. IsLegal shape.now (past_of r.history.items)) }
     ensures counted { IfOk result (λ r. r.answered ≡ length r.history.items) }
     ensures follow { IfOk result (λ r. AllFollow shape.now 0 (map (λ s. s.items) scripts.now) r.full r.history.items) }
-    ensures finished { IfOk result (λ r. count_by (is_active shape.now (past_of r.history.items)) (still_open (past_of r.history.items)) ≡ 0) }
+    ensures worked { IfOk result (λ r. AllWorked shape.now (W.does work.now shape.now) r.history.items) }
+    ensures silent { IfOk result (λ r. AreSilent shape.now (length scripts.now) r.history.items) }
+    ensures finished { IfOk result (λ r. active_in shape.now r.history.items ≡ 0) }
+    ensures fails { IfErr result (λ f. FailsAs shape.now (map (λ s. s.items) scripts.now) f) }
 {
     let parts = HubParts::new(rt, alloc, shape)?;
     run_parts::<Brand, W, R>(rt, alloc, parts, scripts, work)

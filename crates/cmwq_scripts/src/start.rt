@@ -1,16 +1,21 @@
 //! Starts the threads of callers and workers.
-ghost use Rattle.std.specs.Prelude.{◌≡◌, ℕ, ◌+◌, ◌<◌, ◌≤◌, ◌^◌, [], length, All, IfOk, slice_get, Some};
+ghost use Rattle.std.specs.Prelude.{◌≡◌, ℕ, ◌+◌, ◌<◌, ◌≤◌, ◌^◌, [], length, map, true, All, IfOk, IfErr, slice_get, Some, None};
+ghost use Rattle.cmwq_rt.specs.Running.{is_of_call};
+ghost use Rattle.cmwq_model.specs.declared.id.WorkerId as ids;
+ghost use Rattle.cmwq_model.specs.declared.id.Who.TheVariants as whos;
 ghost use Rattle.cmwq_model.specs.Scripted.{IsScripted};
-ghost use Rattle.cmwq_scripts.specs.Ended.{FollowedAt, caller_at};
+ghost use Rattle.cmwq_desk.specs.Seats.{newcomer};
+ghost use Rattle.cmwq_rt.specs.Places.{first_worker, worker_at};
+ghost use Rattle.cmwq_scripts.specs.Ended.{AreNewcomers, FailsAs, FollowedAt, WorkedFrom, caller_at, is_silent};
 
-use crate::ends::{CallerEnd, FollowsScript, WorkerEnd, follow_all, work_all};
-use cmwq_model::{Call, CallerId};
-use cmwq_rt::{Caller, Hub, HubName, RunFault, Seats, Work};
+use crate::ends::{CallerEnd, FollowsScript, RunsWork, WorkerEnd, follow_all, work_all};
+use cmwq_model::{Call, CallerId, Shape};
+use cmwq_rt::{Caller, Hub, HubName, RunFault, Seats, Work, Worker};
 use std::alloc::Global;
 use std::marker::PhantomData;
 use std::snapshot::Snapshot;
 use std::sync::Wait;
-use std::thread::{JoinHandle, PromisedHandle, Scope};
+use std::thread::{PromisedHandle, Scope};
 
 /// The thread of a caller.
 pub(crate) type CallerThread<N> = PromisedHandle<CallerEnd<N>, FollowsScript<N>>;
@@ -28,7 +33,8 @@ fn start_caller<'s, E, N: HubName + Send + Sync + 's, R: Wait + Sync>(
     requires fresh { (caller.serial ≡ 0) × (caller.seen ≡ []) }
     requires calls { All (IsScripted N.layout) script.now.items }
     requires short { length script.now.items < 2 ^ 32 }
-    ensures { IfOk result (λ h. (h.promise.who ≡ who) × (h.promise.script.value ≡ script.now)) }
+    ensures thread { IfOk result (λ h. (h.promise.who ≡ who) × (h.promise.script.value ≡ script.now)) }
+    ensures fault { IfErr result (λ f. is_silent f ≡ true) }
 {
     let promise: FollowsScript<N> = FollowsScript {
         who,
@@ -39,7 +45,7 @@ fn start_caller<'s, E, N: HubName + Send + Sync + 's, R: Wait + Sync>(
         promise,
         move || -> CallerEnd<N>
             requires { (caller.who ≡ caller_at who.0) × (caller.serial ≡ 0) × (caller.seen ≡ []) × All (IsScripted N.layout) script.now.items × (length script.now.items < 2 ^ 32) }
-            ensures { IfOk result.outcome (λ t. FollowedAt N.layout who.0 script.entry.now.items t.1 result.caller) }
+            ensures { IfOk result.outcome (λ t. FollowedAt N.layout who.0 script.entry.now.items t.1 result.caller) × IfErr result.outcome (λ f. is_of_call f ≡ true) }
         { follow_all(rt, hub, caller, who, script) },
     );
     match started {
@@ -60,7 +66,8 @@ pub(crate) fn start_callers<'s, E, N: HubName + Send + Sync + 's, R: Wait + Sync
     requires fresh { seats.old.callers ≡ 0 }
     requires few { length scripts.now ≤ 64 }
     requires calls { All (λ s. All (IsScripted N.layout) s.items × (length s.items < 2 ^ 32)) scripts.now }
-    ensures all { IfOk result (λ hs. (seats.new.callers ≡ length hs.items) × (length hs.items ≡ length scripts.now) × (seats.new.workers ≡ seats.old.workers)) }
+    ensures all { IfOk result (λ hs. (seats.new ≡ record seats.old { callers = length hs.items }) × (length hs.items ≡ length scripts.now)) }
+    ensures fails { IfErr result (λ f. FailsAs N.layout (map (λ s. s.items) scripts.now) f) }
     ensures each { IfOk result (λ hs. (k : ℕ) (h s : _) → slice_get hs.items k ≡ Some h → slice_get scripts.now k ≡ Some s → (h.promise.who.0 ≡ k) × (h.promise.script.value ≡ s)) }
 {
     let mut threads = Vec::new(alloc);
@@ -81,9 +88,36 @@ pub(crate) fn start_callers<'s, E, N: HubName + Send + Sync + 's, R: Wait + Sync
 }
 
 /// The thread of a worker.
-pub(crate) type WorkerThread<N> = JoinHandle<WorkerEnd<N>>;
+pub(crate) type WorkerThread<N, W> = PromisedHandle<WorkerEnd<N>, RunsWork<N, W>>;
 
-// Starts the threads of all workers.
+// Starts the thread of one worker.
+fn start_worker<'s, E, N: HubName + Send + Sync + 's, W: Work + Sync, R: Wait + Sync>(
+    scope: &Scope<'s, E>,
+    rt: &'s R,
+    hub: &'s Hub<N>,
+    worker: Worker<N>,
+    work: &'s W,
+) -> Result<WorkerThread<N, W>, RunFault>
+    ensures thread { IfOk result (λ h. (h.promise.worker.value ≡ worker) × (h.promise.work.value ≡ work.now)) }
+    ensures fault { IfErr result (λ f. is_silent f ≡ true) }
+{
+    let promise: RunsWork<N, W> = RunsWork {
+        worker: Snapshot::of(&worker),
+        work: Snapshot::of(work),
+    };
+    let started = scope.spawn_with(
+        promise,
+        move || -> WorkerEnd<N>
+            ensures { IfOk result.outcome (λ _. WorkedFrom N.layout (W.does work.entry.now N.layout) worker result.worker) × IfErr result.outcome (λ f. is_of_call f ≡ true) }
+        { work_all(rt, hub, worker, work) },
+    );
+    match started {
+        Ok(thread) => Ok(thread),
+        Err(_) => Err(RunFault::NoThread),
+    }
+}
+
+// Starts the threads of all workers, as far as threads can be made.
 pub(crate) fn start_workers<'s, E, N: HubName + Send + Sync + 's, W: Work + Sync, R: Wait + Sync>(
     scope: &Scope<'s, E>,
     rt: &'s R,
@@ -91,21 +125,53 @@ pub(crate) fn start_workers<'s, E, N: HubName + Send + Sync + 's, W: Work + Sync
     alloc: Global,
     seats: &mut Seats<N>,
     work: &'s W,
-) -> Result<Vec<WorkerThread<N>>, RunFault>
-    ensures { IfOk result (λ hs. (seats.new.workers ≡ seats.old.workers + length hs.items) × (seats.new.callers ≡ seats.old.callers)) }
+) -> Result<Vec<WorkerThread<N, W>>, RunFault>
+    requires fresh { seats.old.next ≡ Some first_worker }
+    ensures fault { IfErr result (λ f. is_silent f ≡ true) }
+    ensures all { IfOk result (λ hs. (worker_at N.layout (length hs.items) ≡ None) × (seats.new.workers ≡ seats.old.workers + length hs.items) × (seats.new.callers ≡ seats.old.callers)) }
+    ensures each { IfOk result (λ hs. (k : ℕ) (h : _) → slice_get hs.items k ≡ Some h → (x : ids.WorkerId) → worker_at N.layout k ≡ Some x → (h.promise.worker.value ≡ newcomer (whos.Worker x)) × (h.promise.work.value ≡ work.now)) }
 {
     let mut threads = Vec::new(alloc);
-    for _ in 0..64 {
+    for _ in 0..=most_workers(hub.shape()) {
         if threads.reserve(1).is_err() {
             return Err(RunFault::NoMemory { ticket: None });
         }
         let Ok(worker) = seats.worker() else {
-            break;
+            return Ok(threads);
         };
-        match scope.spawn(move || work_all(rt, hub, worker, work)) {
+        match start_worker(scope, rt, hub, worker, work) {
             Ok(thread) => threads.push_reserved(thread),
-            Err(_) => return Err(RunFault::NoThread),
+            Err(fault) => return Err(fault),
         }
     }
-    Ok(threads)
+    Err(RunFault::NoThread)
+}
+
+// How many workers there are.
+fn most_workers(shape: &Shape) -> u32 {
+    let counts = shape.counts();
+    2 * u32::from(counts.cpus) * u32::from(counts.workers)
+}
+
+// The callers for whom there is no script.
+pub(crate) fn idle_callers<N: HubName>(
+    alloc: Global,
+    shape: &Shape,
+    seats: &mut Seats<N>,
+) -> Result<Vec<Caller<N>>, RunFault>
+    ensures all { IfOk result (λ cs. AreNewcomers N.layout seats.old.callers cs.items) }
+    ensures fault { IfErr result (λ f. is_silent f ≡ true) }
+    ensures seats { IfOk result (λ cs. (seats.new.callers ≡ seats.old.callers + length cs.items) × (seats.new.workers ≡ seats.old.workers)) }
+{
+    let mut callers = Vec::new(alloc);
+    for _ in 0..=shape.counts().callers {
+        if callers.reserve(1).is_err() {
+            return Err(RunFault::NoMemory { ticket: None });
+        }
+        let Ok(caller) = seats.caller() else {
+            return Ok(callers);
+        };
+        callers.push_reserved(caller);
+    }
+    Err(RunFault::NoThread)
 }

@@ -10,7 +10,7 @@ use Rattle.cmwq_model.specs.declared.call.Call.{Call}
 use Rattle.cmwq_model.specs.declared.call.Call.TheVariants as call
 use Rattle.cmwq_model.specs.declared.entry.Entry.{Entry}
 use Rattle.cmwq_model.specs.Layout.{fits, is_workers, has_numbers}
-use Rattle.cmwq_model.specs.Room.{has_room}
+use Rattle.cmwq_model.specs.Room.{has_time, has_room}
 use Rattle.cmwq_model.specs.Legal.{entry_for}
 use Rattle.cmwq_model.specs.Queueings.{has_number}
 use Rattle.cmwq_steps.proofs.Pools.{runs_are_in_pools}
@@ -83,8 +83,8 @@ stands_at s r m limits layout room shows roomy seats seated lists = record {
 pub past_after : (s : Plan) (h h2 : History) (who : Who) (c : Call) → h.layout ≡ layout_for s → h2 ≡ with_entry h (next_entry h who c) → past_in h2 ≡ entry_for (layout_for s) (past_in h) who c ∷ past_in h
 past_after s h h2 who c layout is = ap past_in is ∙ one_more_is_newest h.entries (next_entry h who c) ∙ ap (λ l. entry_for l (past_in h) who c ∷ past_in h) layout
 
-pub room_for : (s : Plan) (h : History) (who : Who) (c : Call) (m : Moment) → h.layout ≡ layout_for s → h.room ≡ 1000 → IsRoomy s (entry_for (layout_for s) (past_in h) who c ∷ past_in h) m → takes h who c ≡ true
-room_for s h who c m layout room roomy = ap₂ (λ l n. has_room l n (past_in h) who c) layout room ∙ has_room_then s (past_in h) who c m roomy
+pub room_for : (s : Plan) (h : History) (who : Who) (c : Call) (m : Moment) → h.layout ≡ layout_for s → h.room ≡ 1000 → has_time (past_in h) c ≡ true → IsRoomy s (entry_for (layout_for s) (past_in h) who c ∷ past_in h) m → takes h who c ≡ true
+room_for s h who c m layout room time roomy = ap₂ (λ l n. has_room l n (past_in h) who c) layout room ∙ has_room_then s (past_in h) who c m time roomy
 
 pub worker_fits : (s : Plan) (h : History) (x : ℕ) (c : Call) → h.layout ≡ layout_for s → x < 8 → is_workers c ≡ true → has_numbers (layout_for s) c ≡ true → fits h.layout (Worker (worker x)) c ≡ true
 worker_fits s h x c layout less works numbers = ap (λ l. fits l (Worker (worker x)) c) layout ∙ ap₂ (λ a b. (a && b) && has_numbers (layout_for s) c) (lt-ltb x 8 less) works ∙ numbers
@@ -155,10 +155,10 @@ module _ (s : Plan) (t : ℕ) (r : Course) (job : Running) (js : List Running) (
       })))
 
   pub has_room_to_sleep : (pause : ℕ) (left : List ℕ) → drop job.next (ms_of s job.item) ≡ pause ∷ left → takes r.book (Worker (worker (seat_in r.seats job.item))) call.Sleep ≡ true
-  has_room_to_sleep pause left parts = room_for s r.book (Worker (worker (seat_in r.seats job.item))) call.Sleep (serve s t (moment_in s r)) h.layout h.room (sleeps_roomy pause left parts)
+  has_room_to_sleep pause left parts = room_for s r.book (Worker (worker (seat_in r.seats job.item))) call.Sleep (serve s t (moment_in s r)) h.layout h.room refl (sleeps_roomy pause left parts)
 
   pub has_room_to_end : drop job.next (ms_of s job.item) ≡ [] → takes r.book (Worker (worker (seat_in r.seats job.item))) call.Finish ≡ true
-  has_room_to_end parts = room_for s r.book (Worker (worker (seat_in r.seats job.item))) call.Finish (serve s t (moment_in s r)) h.layout h.room (ends_roomy parts)
+  has_room_to_end parts = room_for s r.book (Worker (worker (seat_in r.seats job.item))) call.Finish (serve s t (moment_in s r)) h.layout h.room refl (ends_roomy parts)
 
 pub unserved : (s : Plan) (t : ℕ) (r : Course) (job : Running) (js : List Running) → Stands s r → r.cpu.items ≡ job ∷ js → 0 < job.burn → StandsAt s r (serve s t (moment_in s r))
 unserved s t r job js h is burns = record { stands = h; moment = sym (serve_burns s t (moment_in s r) (job_seen s job) (map (job_seen s) js) (ap (map (job_seen s)) is) (ne_eqb job.burn 0 (λ none. absurd (omega arith)))) }
@@ -257,7 +257,7 @@ module _ (s : Plan) (t i : ℕ) (r : Course) (x : Asleep) (o : Option Asleep) (h
       }))
 
   pub has_room_to_wake : takes r.book (Worker (worker (seat_in r.seats i))) call.Wake ≡ true
-  has_room_to_wake = room_for s r.book (Worker (worker (seat_in r.seats i))) call.Wake (moment_in s r) h.layout h.room (wake_roomy s t i (past_in r.book) (moment_in s r) (seat_in r.seats) (sleeper_seen s x) h.shows h.roomy due)
+  has_room_to_wake = room_for s r.book (Worker (worker (seat_in r.seats i))) call.Wake (moment_in s r) h.layout h.room refl (wake_roomy s t i (past_in r.book) (moment_in s r) (seat_in r.seats) (sleeper_seen s x) h.shows h.roomy due)
 
   -- awake, and then at its end
   module _ (b : History) (book : b ≡ with_entry r.book (next_entry r.book (Worker (worker (seat_in r.seats i))) call.Wake)) (parts : drop x.next (ms_of s i) ≡ []) where
@@ -276,7 +276,7 @@ module _ (s : Plan) (t i : ℕ) (r : Course) (x : Asleep) (o : Option Asleep) (h
         (wake_ends s t i (past_in r.book) (moment_in s r) (seat_in r.seats) (sleeper_seen s x) h.shows due (parts_of [] parts))
 
     pub has_room_to_finish : takes b (Worker (worker (seat_in r.seats i))) call.Finish ≡ true
-    has_room_to_finish = room_for s b (Worker (worker (seat_in r.seats i))) call.Finish (wake_item s t (moment_in s r) i) awake_layout (ap (λ (k : History). k.room) book ∙ h.room) ended_roomy
+    has_room_to_finish = room_for s b (Worker (worker (seat_in r.seats i))) call.Finish (wake_item s t (moment_in s r) i) awake_layout (ap (λ (k : History). k.room) book ∙ h.room) refl ended_roomy
 
     pub wakes_to_end : (r2 : Course) → r2.book ≡ with_entry b (next_entry b (Worker (worker (seat_in r.seats i))) call.Finish) → r2.seats ≡ r.seats → r2.cpu.items ≡ r.cpu.items
         → r2.sleeping.items ≡ filter (λ (y : Asleep). not (y.item == i)) r.sleeping.items
@@ -353,7 +353,7 @@ module _ (s : Plan) (r : Course) (x n : ℕ) (h : Stands s r) (t : IsTaker r.boo
   one_roomy = start_roomy s (past_in r.book) (moment_in s r) (seat_in r.seats) x n h.shows h.roomy taker_is
 
   pub has_room_to_take : takes r.book (Worker (worker x)) call.Take ≡ true
-  has_room_to_take = room_for s r.book (Worker (worker x)) call.Take (started_one s (moment_in s r) n) h.layout h.room one_roomy
+  has_room_to_take = room_for s r.book (Worker (worker x)) call.Take (started_one s (moment_in s r) n) h.layout h.room refl one_roomy
 
   pub some_part : drop 0 (ms_of s n) ≡ [] → ⊥
   some_part none =
@@ -448,7 +448,7 @@ module _ (s : Plan) (b : History) (k : ℕ) (limits : IsWithinLimits s) (h : Que
   next_roomy = queue_roomy s k (past_in b) (fold (queue_item s) empty (range_with_len 0 k)) h.shows limits less few queue_there h.roomy
 
   pub has_room_to_queue : takes b caller (queue_call s k) ≡ true
-  has_room_to_queue = room_for s b caller (queue_call s k) (queue_item s (fold (queue_item s) empty (range_with_len 0 k)) k) h.layout h.room (let a = next_roomy in let f = few in omega arith)
+  has_room_to_queue = room_for s b caller (queue_call s k) (queue_item s (fold (queue_item s) empty (range_with_len 0 k)) k) h.layout h.room refl (let a = next_roomy in let f = few in omega arith)
 
   pub one_queued : (b2 : History) → b2 ≡ with_entry b (next_entry b caller (queue_call s k)) → QueuedSoFar s b2 (k + 1)
   one_queued b2 is =

@@ -5,6 +5,7 @@ use Rattle.std.specs.List.{AllByRecursion, list_any}
 use Rattle.std.proofs.lemmas.Bool.Decides.{nat_tests}
 use Rattle.std.proofs.lemmas.Bool.{eq-eqb}
 use Rattle.std.proofs.lemmas.List.Sums.{sum_by-cons, sum_by_push}
+use Rattle.std.specs.Cmp.Derive.{both_true}
 use Rattle.cmwq_model.specs.declared.id.Who.{Who}
 use Rattle.cmwq_model.specs.declared.id.Who.TheVariants.{Worker}
 use Rattle.cmwq_model.specs.declared.call.Call.{Call}
@@ -13,7 +14,7 @@ use Rattle.cmwq_model.specs.declared.reply.Reply.{Reply}
 use Rattle.cmwq_model.specs.declared.reply.Reply.TheVariants as reply
 use Rattle.cmwq_model.specs.declared.entry.Entry.{Entry}
 use Rattle.cmwq_model.specs.Fate.{number_started}
-use Rattle.cmwq_model.specs.Room.{needed, has_room}
+use Rattle.cmwq_model.specs.Room.{has_time, needed, has_room}
 use Rattle.cmwq_model.specs.Legal.{IsLegal, entry_for}
 use Rattle.cmwq_steps.specs.RoomSteps.{is_promised}
 use Rattle.cmwq_steps.proofs.Promised.{promised_need_no_more}
@@ -34,8 +35,8 @@ use Rattle.cmwq_sim.proofs.Queued.{ShowsQueued, queue_call, caller, queue_shown,
 use Rattle.cmwq_sim.proofs.Roomy.{needs_two, needs_three, sleep_takes_one, end_takes_none, wake_takes_none, start_parts, queued_parts}
 
 -- so there is room for what would be appended
-pub has_room_then : (s : Plan) (past : List Entry) (who : Who) (c : Call) (m : Moment) → IsRoomy s (entry_for (layout_for s) past who c ∷ past) m → has_room (layout_for s) 1000 past who c ≡ true
-has_room_then s past who c m h = at (needed (layout_for s) (entry_for (layout_for s) past who c ∷ past)) (omega arith)
+pub has_room_then : (s : Plan) (past : List Entry) (who : Who) (c : Call) (m : Moment) → has_time past c ≡ true → IsRoomy s (entry_for (layout_for s) past who c ∷ past) m → has_room (layout_for s) 1000 past who c ≡ true
+has_room_then s past who c m time h = both_true time (at (needed (layout_for s) (entry_for (layout_for s) past who c ∷ past)) (omega arith))
   where
     at : (n : ℕ) → n ≤ 152 → nat_le n 1000 ≡ true
     at n less = grind (arith, nat_tests)

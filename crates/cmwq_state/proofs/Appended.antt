@@ -2,7 +2,11 @@
 use Rattle.std.proofs.Common.{◌≡◌, ℕ, ◌+◌, ◌^◌, ◌<◌, ◌≤◌, true, List, [], ◌∷◌, ◌++◌, length, ap, arith, length-append}
 use Rattle.cmwq_model.specs.declared.entry.Entry.{Entry}
 use Rattle.cmwq_model.specs.Layout.{Layout, fits}
-use Rattle.cmwq_model.specs.Calls.{serial_of, ticks_told}
+use Rattle.std.proofs.lemmas.Bool.{leb-true}
+use Rattle.cmwq_model.specs.declared.call.Call.{Call}
+use Rattle.cmwq_model.specs.declared.call.Call.TheVariants as call
+use Rattle.cmwq_model.specs.Calls.{serial_of, ticks_told, now}
+use Rattle.cmwq_model.specs.Room.{has_time, most_time}
 use Rattle.cmwq_model.specs.Legal.{IsLegal, past_of}
 use Rattle.cmwq_state.specs.Tables.{IsThere}
 use Rattle.cmwq_state.specs.State.{Parts, IsState}
@@ -22,18 +26,22 @@ pub effect_serial : (s : Layout) (past : List Entry) (f : Effect) → IsEffect s
 unfolding IsLegal
 effect_serial s past f is = ap (λ (x : Entry). x.serial) is.legal.1
 
-pub told_book : (s : Layout) (room : ℕ) (entries : List Entry) (capacity : ℕ) (old new : Parts) (f : Effect) → IsState s room entries capacity old → IsEffect s (past_of entries) f → Told s (past_of entries) f old new →
-    ticks_told f.entry.call < 2 ^ 32 → length entries + 1 + f.owing ≤ room → IsState s room (entries ++ f.entry ∷ []) capacity new
-told_book s room entries capacity old new f b is told ticks within =
+-- the time after a call that has time is within its room
+time_within : (past : List Entry) (c : Call) (time : ℕ) → time ≡ now past → time ≤ most_time → has_time past c ≡ true → time + ticks_told c ≤ most_time
+time_within past (call.Tick t) time is within h = let fits = leb-true (now past + t) most_time h in omega arith
+time_within past c time is within h = omega arith
+
+pub told_book : (s : Layout) (room : ℕ) (entries : List Entry) (old new : Parts) (f : Effect) → IsState s room entries old → IsEffect s (past_of entries) f → Told s (past_of entries) f old new →
+    has_time (past_of entries) f.entry.call ≡ true → length entries + 1 + f.owing ≤ room → IsState s room (entries ++ f.entry ∷ []) new
+told_book s room entries old new f b is told ticks within =
     let past = past_of entries in
-    let soon = b.soon in let time = told.time in
+    let time = told.time in let is_now = b.parts_are.time in
     let one_more : length (entries ++ f.entry ∷ []) ≡ length entries + 1 = length-append entries (f.entry ∷ []) in
     record {
       inside = b.inside;
       few = b.few;
-      reserved = b.reserved;
       legal = rw (past_more entries f.entry) is.legal;
       parts_are = rw (past_more entries f.entry) (told_parts s past f old new is (small s b.inside) (effect_there s past f is) b.legal b.parts_are told);
       within = rw (one_more, told.owing) within;
-      soon = rw (one_more, told.time) (omega arith);
+      soon = rw told.time (time_within past f.entry.call old.time b.parts_are.time b.soon ticks);
     }

@@ -1,7 +1,7 @@
 -- The parts of a new book are those of no entries.
 use Rattle.std.proofs.Common.{◌≡◌, ℕ, Bool, ◌*◌, ◌≤◌, true, false, List, [], length, replicate, refl, sym, ◌∙◌, arith, None, subst}
 use Rattle.std.proofs.lemmas.List.{get_or-replicate, length-replicate}
-use Rattle.cmwq_model.specs.Layout.{Layout, is_layout}
+use Rattle.cmwq_model.specs.Layout.{Layout, is_layout, most_room}
 use Rattle.cmwq_model.specs.Calls.{now}
 use Rattle.cmwq_model.specs.Legal.{IsLegal}
 use Rattle.cmwq_model.specs.Room.{owed}
@@ -51,7 +51,7 @@ first_parts s = record {
 
 nothing_owed : (s : Layout) → owed s [] ≡ 0
 unfolding owed
-nothing_owed s = let within = steps_within_room s 0 [] in omega arith
+nothing_owed s = let within = (steps_within_room s 0 []).0 in omega arith
 
 first_time : 0 ≡ now []
 unfolding now
@@ -98,12 +98,11 @@ parts_at_first s small = record {
   owing = sym (nothing_owed s);
 }
 
-pub book_at_first : (s : Layout) (room capacity : ℕ) → is_layout s ≡ true → room ≤ 1010000 → room ≤ capacity → IsState s room [] capacity (first_parts s)
+pub book_at_first : (s : Layout) (room : ℕ) → is_layout s ≡ true → room ≤ most_room → IsState s room [] (first_parts s)
 unfolding IsLegal
-book_at_first s room capacity inside few reserved = record {
+book_at_first s room inside few = record {
   inside = inside;
   few = few;
-  reserved = reserved;
   legal = tt;
   parts_are = parts_at_first s (small s inside);
   within = omega arith;
@@ -111,8 +110,8 @@ book_at_first s room capacity inside few reserved = record {
 }
 
 -- so the parts that are made are those of a book
-pub book_made : (s : Layout) (room capacity : ℕ) (pools : List Lineup) (books : List FlushBook) (barriers : BarrierBook) (timers : Rows) (serials : List ℕ) (flights : List Flight) (tickets : List (List Ticket)) (gone : List Bool) (line : Lined) (most : List ℕ) → is_layout s ≡ true → room ≤ 1010000 → room ≤ capacity →
+pub book_made : (s : Layout) (room : ℕ) (pools : List Lineup) (books : List FlushBook) (barriers : BarrierBook) (timers : Rows) (serials : List ℕ) (flights : List Flight) (tickets : List (List Ticket)) (gone : List Bool) (line : Lined) (most : List ℕ) → is_layout s ≡ true → room ≤ most_room →
     pools ≡ replicate (2 * s.cpus) (new_lineup s.items s.workers) → books ≡ replicate (length s.queues) (new_book s.callers) → barriers ≡ new_barriers s.items s.callers → timers ≡ replicate s.items None → serials ≡ replicate 128 0 →
     flights ≡ replicate s.items no_flight → tickets ≡ replicate s.callers [] → gone ≡ replicate (length s.queues) false → line ≡ new_lined (length s.queues) (2 * s.items) → most ≡ first_most s.queues →
-    IsState s room [] capacity (record { pools = pools; books = books; barriers = barriers; timers = timers; time = 0; serials = serials; flights = flights; tickets = tickets; gone = gone; line = line; most = most; frozen = false; owing = 0 })
-book_made s room capacity pools books barriers timers serials flights tickets gone line most inside few reserved p b r t n g h k l m = rw (p, b, r, t, n, g, h, k, l, m) (book_at_first s room capacity inside few reserved)
+    IsState s room [] (record { pools = pools; books = books; barriers = barriers; timers = timers; time = 0; serials = serials; flights = flights; tickets = tickets; gone = gone; line = line; most = most; frozen = false; owing = 0 })
+book_made s room pools books barriers timers serials flights tickets gone line most inside few p b r t n g h k l m = rw (p, b, r, t, n, g, h, k, l, m) (book_at_first s room inside few)

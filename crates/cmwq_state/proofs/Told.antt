@@ -15,6 +15,7 @@ use Rattle.cmwq_flush.specs.FlushBook.{FlushBook}
 use Rattle.cmwq_timer.specs.Rows.{Rows}
 use Rattle.cmwq_steps.specs.Endings.{ending, is_ended}
 use Rattle.cmwq_steps.proofs.Standing.{due_settles}
+use Rattle.cmwq_active.proofs.Rising.{opening_number}
 use Rattle.cmwq_steps.proofs.StateSteps.{time_goes_on}
 use Rattle.cmwq_ties.specs.Places as places
 use Rattle.cmwq_ties.specs.Pools as pools
@@ -263,8 +264,8 @@ may_end_books s past f old inside is before are = by f.ended refl
         let mine = subst (λ o. flushes.MayEnd o q (book_in old q)) same may in
         (rw are.many there.queue, mine (eq-eqb q q refl))
 
-pub may_open_books : (s : Layout) (past : List Entry) (f : Effect) (old mid : List FlushBook) → IsTrue (is_layout s) → IsEffect s past f → AreBooks s past old → TellEnded f.ended old mid → MayTellOpened f.opened mid
-may_open_books s past f old mid inside is are told = by f.opened refl
+pub may_open_books : (s : Layout) (past : List Entry) (f : Effect) (old mid : List FlushBook) → length past < 9223372036854775808 → IsTrue (is_layout s) → IsEffect s past f → AreBooks s past old → TellEnded f.ended old mid → MayTellOpened f.opened mid
+may_open_books s past f old mid few inside is are told = by f.opened refl
   where
     by : (o : Option Queueing) → f.opened ≡ o → MayTellOpened o mid
     by None h = tt
@@ -275,7 +276,8 @@ may_open_books s past f old mid inside is are told = by f.opened refl
         let may = (flushes_may_be_told s past f.entry q (book_in old q) inside is.legal (are.each q there.queue)).opened in
         let mine = subst (λ o. flushes.MayOpen o q (flushes.told_ended (ending past f.entry) q (book_in old q))) same may in
         let here : book_in mid q ≡ flushes.told_ended (ending past f.entry) q (book_in old q) = told.each q ∙ ap (λ o. flushes.told_ended o q (book_in old q)) is.ended in
-        (rw (told.many, are.many) there.queue, rw here (mine (eq-eqb q q refl)))
+        let number : x.number ≡ length past = opening_number past f.entry x same in
+        (rw (told.many, are.many) there.queue, rw here (mine (eq-eqb q q refl)), omega arith)
 
 pub may_end_barriers : (s : Layout) (past : List Entry) (f : Effect) → IsEffect s past f → barriers.MayEnd f.ended (barriers.barriers_of s past)
 may_end_barriers s past f is = rw is.ended (barriers_may_be_told s past f.entry is.legal).ended

@@ -1,10 +1,10 @@
 -- What the parts of a state are of the past.
-use Rattle.std.specs.Prelude.{◌≡◌, ℕ, ◌+◌, ◌*◌, ◌^◌, ◌≤◌, true, Bool, List, length}
+use Rattle.std.specs.Prelude.{◌≡◌, ℕ, ◌+◌, ◌≤◌, true, Bool, List, length}
 use Rattle.cmwq_model.specs.declared.entry.Entry.{Entry}
-use Rattle.cmwq_model.specs.Layout.{Layout, is_layout}
+use Rattle.cmwq_model.specs.Layout.{Layout, is_layout, most_room}
 use Rattle.cmwq_model.specs.Calls.{now}
 use Rattle.cmwq_model.specs.Legal.{IsLegal, past_of}
-use Rattle.cmwq_model.specs.Room.{owed}
+use Rattle.cmwq_model.specs.Room.{owed, most_time}
 use Rattle.cmwq_pool.specs.Lineup.{Lineup}
 use Rattle.cmwq_flush.specs.FlushBook.{FlushBook}
 use Rattle.cmwq_flush.specs.BarrierBook.{BarrierBook}
@@ -52,11 +52,10 @@ pub record AreParts (s : Layout) (past : List Entry) (parts : Parts) : Type 0 wh
   pub widths : AreWidths s past parts.most parts.frozen
   pub owing : parts.owing ≡ owed s past
 
-pub record IsState (s : Layout) (room : ℕ) (entries : List Entry) (capacity : ℕ) (parts : Parts) : Type 0 where
+pub record IsState (s : Layout) (room : ℕ) (entries : List Entry) (parts : Parts) : Type 0 where
   pub inside : is_layout s ≡ true
-  pub few : room ≤ 1010000
-  pub reserved : room ≤ capacity
+  pub few : room ≤ most_room
   pub legal : IsLegal s (past_of entries)
   pub parts_are : AreParts s (past_of entries) parts
   pub within : length entries + parts.owing ≤ room
-  pub soon : parts.time ≤ length entries * 2 ^ 32
+  pub soon : parts.time ≤ most_time

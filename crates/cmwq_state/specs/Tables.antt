@@ -81,7 +81,7 @@ pub record TellEnded (ended : Option Queueing) (old new : List FlushBook) : Type
 
 abbrev pub MayTellOpened : Option Queueing → List FlushBook → Type 0
 MayTellOpened None books = Unit {0}
-MayTellOpened (Some x) books = (x.place.queue.0 < length books) × CanOpen (book_in books x.place.queue.0) x.number
+MayTellOpened (Some x) books = (x.place.queue.0 < length books) × CanOpen (book_in books x.place.queue.0) x.number × (x.number < 9223372036854775808)
 
 pub record TellOpened (opened : Option Queueing) (old new : List FlushBook) : Type 0 where
   pub many : length new ≡ length old

@@ -19,5 +19,5 @@ pub struct Effect {
     /// Its new booking.
     pub booked: Option<Booking>,
     /// How many entries are owed after it.
-    pub owing: u32,
+    pub owing: u64,
 }

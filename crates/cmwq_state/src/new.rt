@@ -20,7 +20,7 @@ use std::alloc::Global;
 /// What is kept of callers, workers and items.
 #[derive(Drop)]
 pub(crate) struct ItemParts {
-    pub(crate) serials: Vec<u32>,
+    pub(crate) serials: Vec<u64>,
     pub(crate) pools: Vec<Pool>,
     pub(crate) timers: Timers,
     pub(crate) flights: Flights,

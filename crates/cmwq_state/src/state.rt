@@ -1,11 +1,11 @@
 //! The state, the reads of workers and counts, and the entry that is appended.
 
-ghost use Rattle.std.specs.Prelude.{◌≡◌, ◌<◌, ◌≤◌, ◌+◌, ◌^◌, [], true, length, count_by, nat_le, IfOk};
-ghost use Rattle.cmwq_model.specs.Layout.{is_layout, layout_of};
+ghost use Rattle.std.specs.Prelude.{◌≡◌, ◌<◌, ◌≤◌, ◌+◌, ◌^◌, ◌&&◌, [], true, length, count_by, nat_le, IfOk};
+ghost use Rattle.cmwq_model.specs.Layout.{is_layout, layout_of, most_room};
 ghost use Rattle.cmwq_model.specs.Calls as calls;
 ghost use Rattle.cmwq_model.specs.Legal.{past_of, IsLegal};
 ghost use Rattle.cmwq_model.specs.Queueings.{still_open};
-ghost use Rattle.cmwq_model.specs.Room.{needed, owed};
+ghost use Rattle.cmwq_model.specs.Room.{needed, owed, has_time, most_time};
 ghost use Rattle.cmwq_model.specs.Active.{is_active};
 ghost use Rattle.cmwq_state.specs.Tables as tables;
 ghost use Rattle.cmwq_state.specs.Effects.{IsEffect};
@@ -28,50 +28,55 @@ use cmwq_flush::{Barriers, Flushes};
 use cmwq_line::Line;
 use cmwq_model::{Call, Counts, Entry, NoMemory, QueueShape, Shape, Who};
 use cmwq_pool::Pool;
+use cmwq_tail::Trail;
 use cmwq_ticket::Tickets;
 use cmwq_timer::Timers;
 use std::alloc::Global;
 use std::marker::Model;
 
-/// A history, and beside it the parts that answer without looking back. Contracts see the history, with its shape and its room.
+/// The time that a history may come to: 2^62 ticks.
+const MOST_TIME: u64 = 4_611_686_018_427_387_904;
+
+/// The parts that answer without looking back at a history, of whose entries none is kept. Contracts see the whole history, with its
+/// shape and its room.
 #[derive(Drop)]
 pub struct State {
     counts: Counts,
     queues: Vec<QueueShape>,
-    room: u32,
-    entries: Vec<Entry>,
+    room: u64,
+    entries: Trail<Entry>,
     pools: Vec<Pool>,
     books: Vec<Flushes>,
     barriers: Barriers,
     timers: Timers,
     time: u64,
-    serials: Vec<u32>,
+    serials: Vec<u64>,
     flights: Flights,
     tickets: Tickets,
     gone: Vec<bool>,
     line: Line,
     most: Vec<u32>,
     frozen: bool,
-    owing: u32,
+    owing: u64,
 }
 
 impl Model for State {
-    ghost use Rattle.std.specs.Vec.{vec_capacity};
     ghost use Rattle.cmwq_model.specs.Layout.{layout_of};
     ghost use Rattle.cmwq_state.specs.History.{History};
     ghost use Rattle.cmwq_state.specs.State.{IsState};
 
     ghost Value = { History };
 
-    ghost view = { λ s. record { layout = layout_of s.counts s.queues.items; room = s.room; entries = s.entries.items } };
+    ghost view = { λ s. record { layout = layout_of s.counts s.queues.items; room = s.room; entries = s.entries } };
 
-    ghost invariant = { λ s. IsState (layout_of s.counts s.queues.items) s.room s.entries.items (vec_capacity s.entries)
+    ghost invariant = { λ s. IsState (layout_of s.counts s.queues.items) s.room s.entries
         (record { pools = s.pools.items; books = s.books.items; barriers = s.barriers; timers = s.timers; time = s.time; serials = s.serials.items; flights = s.flights; tickets = s.tickets; gone = s.gone.items; line = s.line; most = s.most.items; frozen = s.frozen; owing = s.owing }) };
 }
 
-fn ticks_of(call: Call) -> u32
+/// The ticks that a call lets go by.
+pub fn ticks_of(call: Call) -> u32
     ensures ticks { result ≡ calls.ticks_told call }
-    ensures small { result < 2 ^ 32 }
+    ensures small { calls.ticks_told call < 2 ^ 32 }
 {
     match call {
         Call::Tick { ticks } => ticks,
@@ -84,8 +89,8 @@ impl State {
     ///
     /// # Errors
     /// `NoMemory` where it ran out.
-    pub fn new(alloc: Global, shape: &Shape, room: u32) -> Result<State, NoMemory>
-        requires { room ≤ 1010000 }
+    pub fn new(alloc: Global, shape: &Shape, room: u64) -> Result<State, NoMemory>
+        requires { room ≤ most_room }
         ensures { IfOk result (λ state. state ≡ record { layout = shape.now; room = room; entries = [] }) }
     {
         State::start(alloc, shape.counts(), shape.queues(), room)
@@ -95,13 +100,13 @@ impl State {
         alloc: Global,
         counts: Counts,
         queues: &[QueueShape],
-        room: u32,
+        room: u64,
     ) -> Result<State, NoMemory>
         requires inside { is_layout (layout_of counts queues.now) ≡ true }
-        requires few { room ≤ 1010000 }
+        requires few { room ≤ most_room }
         ensures { IfOk result (λ state. state ≡ record { layout = layout_of counts queues.now; room = room; entries = [] }) }
     {
-        let entries = Vec::with_capacity(alloc, room as usize)?;
+        let entries = Trail::new();
         let of_items = new_item_parts(alloc, counts)?;
         let of_flushes = new_flush_parts(alloc, counts, queues.len())?;
         let of_queues = new_queue_parts(alloc, queues, 2 * counts.items)?;
@@ -127,18 +132,18 @@ impl State {
     }
 
     /// How many entries there are.
-    pub fn len(&self) -> u32
+    pub fn len(&self) -> u64
         ensures len { result ≡ length self.now.entries }
         ensures within { length self.now.entries ≤ self.now.room }
         ensures needed { needed self.now.layout (past_in self.now) ≤ self.now.room }
-        ensures few { self.now.room ≤ 1010000 }
+        ensures few { self.now.room ≤ most_room }
         ensures legal { IsLegal self.now.layout (past_in self.now) }
     {
-        self.entries.len() as u32
+        self.entries.len()
     }
 
     /// The serial of the next entry of this caller or worker: how many entries it has.
-    pub fn serial(&self, who: Who) -> u32
+    pub fn serial(&self, who: Who) -> u64
         requires { tables.IsThere self.now.layout who }
         ensures is { result ≡ calls.serial_of (past_of self.now.entries) who }
         ensures legal { IsLegal self.now.layout (past_of self.now.entries) }
@@ -149,22 +154,33 @@ impl State {
     /// The tick that it is.
     pub fn time(&self) -> u64
         ensures time { result ≡ calls.now (past_of self.now.entries) }
-        ensures small { result < 2 ^ 63 }
+        ensures small { result ≤ most_time }
     {
         self.time
     }
 
-    /// Whether one more entry and what is owed then are within the room.
-    pub fn has_room(&self, owing: u32) -> bool
-        ensures { result ≡ nat_le (length self.now.entries + 1 + owing) self.now.room }
+    /// Whether the time after this call is within its room.
+    pub fn has_time(&self, call: Call) -> bool
+        ensures { result ≡ has_time (past_of self.now.entries) call }
     {
-        self.entries.len() as u64 + 1 + u64::from(owing) <= u64::from(self.room)
+        match call {
+            Call::Tick { ticks } => self.time + u64::from(ticks) <= MOST_TIME,
+            _ => true,
+        }
     }
 
-    /// Appends an entry for which there is room, and tells each part what it does.
+    /// Whether one more entry of this call and what is owed then are within the room, and the time after it within its own.
+    pub fn has_room(&self, call: Call, owing: u64) -> bool
+        ensures { result ≡ (has_time (past_of self.now.entries) call && nat_le (length self.now.entries + 1 + owing) self.now.room) }
+    {
+        self.has_time(call) && owing < self.room - self.entries.len()
+    }
+
+    /// Appends an entry for which there is room and time, and tells each part what it does.
     pub fn append(&mut self, effect: Effect)
         requires is { IsEffect self.old.layout (past_of self.old.entries) effect }
         requires room { length self.old.entries + 1 + effect.owing ≤ self.old.room }
+        requires time { has_time (past_of self.old.entries) effect.entry.call ≡ true }
         ensures { self.new ≡ with_entry self.old effect.entry }
     {
         let entry = effect.entry;
@@ -202,7 +218,7 @@ impl State {
         self.time += u64::from(ticks_of(entry.call));
         self.serials[who_place(entry.who)] = entry.serial + 1;
         self.owing = effect.owing;
-        self.entries.push_reserved(entry);
+        self.entries.push(&entry);
     }
 
     /// How many queueings are open.
@@ -220,26 +236,11 @@ impl State {
     }
 
     /// How many entries are owed.
-    pub fn owing(&self) -> u32
+    pub fn owing(&self) -> u64
         ensures is { result ≡ owed self.now.layout (past_of self.now.entries) }
-        ensures few { result ≤ 1010000 }
+        ensures few { result ≤ most_room }
         ensures legal { IsLegal self.now.layout (past_of self.now.entries) }
     {
         self.owing
-    }
-
-    /// The entries, the oldest first.
-    pub fn history(&self) -> &[Entry]
-        ensures entries { result.now ≡ self.now.entries }
-        ensures legal { IsLegal self.now.layout (past_of self.now.entries) }
-    {
-        &self.entries
-    }
-
-    /// The entries, the oldest first.
-    pub fn into_history(self) -> Vec<Entry>
-        ensures { result.items ≡ self.entries }
-    {
-        self.entries
     }
 }

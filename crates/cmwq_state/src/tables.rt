@@ -118,7 +118,7 @@ pub(crate) fn tell_barriers(book: &mut Barriers, ended: Option<Queueing>, opened
 }
 
 /// Takes a queueing that was taken back or replaced from its pool.
-pub(crate) fn tell_removed(pools: &mut Vec<Pool>, pool: PoolId, number: u32)
+pub(crate) fn tell_removed(pools: &mut Vec<Pool>, pool: PoolId, number: Number)
     requires { tables.pool_place pool < length pools.old.items }
     ensures { tables.RemovedFrom pool number pools.old.items pools.new.items }
 {

@@ -18,7 +18,7 @@ const HISTORIES: u64 = 12;
 const CALLS: u32 = 120;
 
 /// The room of a generated history, which doesn't take all of its calls.
-const ROOM: u32 = 110;
+const ROOM: u64 = 110;
 
 /// A book, and the list that the plain program makes of the same calls in the same room.
 #[derive(Drop)]
@@ -43,7 +43,7 @@ fn bits_of(rt: &impl Abort, entries: &[Entry], item: ItemId) -> u8 {
 }
 
 impl Pair {
-    fn new(rt: &(impl Abort + AllocGlobal), shape: Shape, room: u32) -> Result<Pair, Fail> {
+    fn new(rt: &(impl Abort + AllocGlobal), shape: Shape, room: u64) -> Result<Pair, Fail> {
         assert!(rt; room <= 1_000_000);
         let alloc = rt.alloc();
         let counts = Counts {
@@ -138,7 +138,7 @@ pub(crate) fn agrees_in_every_room(
     calls: &[u8],
 ) -> Result<(), Fail> {
     let file = read_calls(rt.alloc(), &mut Memory::reader(calls))?;
-    for room in 0..=file.calls.len() as u32 + 10 {
+    for room in 0..=file.calls.len() as u64 + 10 {
         let mut pair = Pair::new(rt, file.shape.copy(rt.alloc())?, room)?;
         for &(who, call) in &file.calls {
             pair.step(rt, who, call)?;

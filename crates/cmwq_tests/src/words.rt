@@ -67,7 +67,7 @@ fn make_history(rt: &(impl Abort + AllocGlobal), seed: u64) -> Result<Made, Fail
 
 fn text_of(alloc: Global, shape: &Shape, entries: &[Entry]) -> Result<Memory<Vec<u8>>, Fail> {
     let mut text = Memory::writer(alloc, ROOM)?;
-    write_shape(&mut text, shape)?;
+    write_shape(&mut text, 2, shape)?;
     for entry in entries {
         write_entry(&mut text, entry)?;
     }

@@ -5,6 +5,7 @@ use Rattle.cmwq_model.specs.declared.call.Call.{Call}
 use Rattle.cmwq_model.specs.declared.call.Call.TheVariants as call
 use Rattle.cmwq_text.specs.declared.keyword.Keyword.{Keyword}
 use Rattle.cmwq_text.specs.declared.keyword.Keyword.TheVariants as word
+use Rattle.cmwq_text.specs.Numbers.{greatest_number}
 use Rattle.cmwq_model.specs.Ranges.{greatest_byte, greatest_short}
 use Rattle.cmwq_text.specs.Keywords.{text, keyword_in}
 use Rattle.cmwq_text.specs.CallText.{call_words, call_after, call_in}
@@ -12,11 +13,11 @@ use Rattle.cmwq_model.specs.Ranges.{IsCall}
 use Rattle.cmwq_text.proofs.Steps.{bind_some}
 use Rattle.cmwq_text.proofs.WordLaws.{are_plain}
 use Rattle.cmwq_text.proofs.KeywordLaws.{keyword_again, keyword_takes}
-use Rattle.cmwq_text.proofs.IdLaws.{item_again, queue_again, cpu_again, number_in_again}
-use Rattle.cmwq_text.proofs.RowLaws.{an_item, a_queue, a_cpu, a_number, none_takes, one_takes, two_takes, three_takes, four_takes}
-use Rattle.cmwq_text.proofs.PhraseLaws.{phrase_is_plain, size, byte_len, short_len, number_len}
+use Rattle.cmwq_text.proofs.IdLaws.{item_again, queue_again, cpu_again, number_in_again, wide_in_again}
+use Rattle.cmwq_text.proofs.RowLaws.{an_item, a_queue, a_cpu, a_number, a_wide, none_takes, one_takes, two_takes, three_takes, four_takes}
+use Rattle.cmwq_text.proofs.PhraseLaws.{phrase_is_plain, size, byte_len, short_len, number_len, wide_len}
 
-pub call_again : (c : Call) (ws : List (List ℕ)) → IsCall c → call_in (call_words c ++ ws) ≡ Some (c, ws)
+pub call_again : (c : Call) (ws : List (List ℕ)) → (IsCall greatest_number) c → call_in (call_words c ++ ws) ≡ Some (c, ws)
 unfolding call_words call_after
 call_again (call.Queue i q c) ws h = rw (keyword_again word.Queue, item_again i (decimal q.0 ∷ decimal c.0 ∷ ws) h.0, queue_again q (decimal c.0 ∷ ws) h.1, cpu_again c ws h.2) refl
 call_again (call.Delay i q c n) ws h = rw (keyword_again word.Delay, item_again i (decimal q.0 ∷ decimal c.0 ∷ decimal n ∷ ws) h.0.0, queue_again q (decimal c.0 ∷ decimal n ∷ ws) h.0.1, cpu_again c (decimal n ∷ ws) h.0.2, number_in_again n ws h.1) refl
@@ -29,7 +30,7 @@ call_again (call.Drain q) ws h = rw (keyword_again word.Drain, queue_again q ws 
 call_again (call.FlushItem i) ws h = rw (keyword_again word.FlushItem, item_again i ws h) refl
 call_again (call.FlushDelayed i) ws h = rw (keyword_again word.FlushDelayed, item_again i ws h) refl
 call_again (call.CancelSync i) ws h = rw (keyword_again word.CancelSync, item_again i ws h) refl
-call_again (call.End n) ws h = rw (keyword_again word.End, number_in_again n ws h) refl
+call_again (call.End n) ws h = rw (keyword_again word.End, wide_in_again n ws h) refl
 call_again call.Take ws h = rw (keyword_again word.Take) refl
 call_again call.Finish ws h = rw (keyword_again word.Finish) refl
 call_again call.Sleep ws h = rw (keyword_again word.Sleep) refl
@@ -77,7 +78,7 @@ call_after_is word.Drain ws x e h = one_takes a_queue call.Drain (text word.Drai
 call_after_is word.FlushItem ws x e h = one_takes an_item call.FlushItem (text word.FlushItem ∷ []) IsKnownCall call_words (λ i. refl) (λ i h. h) ws x e h
 call_after_is word.FlushDelayed ws x e h = one_takes an_item call.FlushDelayed (text word.FlushDelayed ∷ []) IsKnownCall call_words (λ i. refl) (λ i h. h) ws x e h
 call_after_is word.CancelSync ws x e h = one_takes an_item call.CancelSync (text word.CancelSync ∷ []) IsKnownCall call_words (λ i. refl) (λ i h. h) ws x e h
-call_after_is word.End ws x e h = one_takes a_number call.End (text word.End ∷ []) IsKnownCall call_words (λ n. refl) (λ n h. tt) ws x e h
+call_after_is word.End ws x e h = one_takes a_wide call.End (text word.End ∷ []) IsKnownCall call_words (λ n. refl) (λ n h. tt) ws x e h
 call_after_is word.Take ws x e h = none_takes call.Take (text word.Take ∷ []) call_words refl ws x e
 call_after_is word.Finish ws x e h = none_takes call.Finish (text word.Finish ∷ []) call_words refl ws x e
 call_after_is word.Sleep ws x e h = none_takes call.Sleep (text word.Sleep ∷ []) call_words refl ws x e
@@ -94,7 +95,7 @@ call_takes ws x e h =
     let k = bind_some (keyword_in ws) (λ (k : Keyword × List (List ℕ)). call_after k.0 k.1) x e in
     keyword_takes ws k.0 k.1 ∙ call_after_is k.0.0 k.0.1 x k.2 h
 
-pub call_is_plain : (c : Call) → IsCall c → are_plain (call_words c) ≡ true
+pub call_is_plain : (c : Call) → (IsCall greatest_number) c → are_plain (call_words c) ≡ true
 unfolding call_words
 call_is_plain (call.Queue i q c) h = phrase_is_plain word.Queue (i.0 ∷ q.0 ∷ c.0 ∷ []) (omega arith, (omega arith, (omega arith, tt)))
 call_is_plain (call.Delay i q c n) h = phrase_is_plain word.Delay (i.0 ∷ q.0 ∷ c.0 ∷ n ∷ []) (omega arith, (omega arith, (omega arith, (omega arith, tt))))
@@ -118,7 +119,7 @@ call_is_plain call.Freeze h = phrase_is_plain word.Freeze [] tt
 call_is_plain call.Thaw h = phrase_is_plain word.Thaw [] tt
 call_is_plain (call.Destroy q) h = phrase_is_plain word.Destroy (q.0 ∷ []) (omega arith, tt)
 
-pub call_is_short : (c : Call) → IsCall c → size (call_words c) ≤ 32
+pub call_is_short : (c : Call) → (IsCall greatest_number) c → size (call_words c) ≤ 32
 unfolding call_words text
 call_is_short (call.Queue i q c) h = omega (arith, short_len i.0 h.0, byte_len q.0 h.1, byte_len c.0 h.2)
 call_is_short (call.Delay i q c n) h = omega (arith, short_len i.0 h.0.0, byte_len q.0 h.0.1, byte_len c.0 h.0.2, number_len n h.1)
@@ -131,7 +132,7 @@ call_is_short (call.Drain q) h = omega (arith, byte_len q.0 h)
 call_is_short (call.FlushItem i) h = omega (arith, short_len i.0 h)
 call_is_short (call.FlushDelayed i) h = omega (arith, short_len i.0 h)
 call_is_short (call.CancelSync i) h = omega (arith, short_len i.0 h)
-call_is_short (call.End n) h = omega (arith, number_len n h)
+call_is_short (call.End n) h = omega (arith, wide_len n h)
 call_is_short call.Take h = omega arith
 call_is_short call.Finish h = omega arith
 call_is_short call.Sleep h = omega arith

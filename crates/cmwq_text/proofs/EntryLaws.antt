@@ -9,21 +9,22 @@ use Rattle.cmwq_model.specs.declared.call.Call.{Call}
 use Rattle.cmwq_model.specs.declared.reply.Reply.{Reply}
 use Rattle.cmwq_model.specs.declared.entry.Entry.{Entry}
 use Rattle.cmwq_model.specs.Layout.{may_make, has_numbers, fits, entry_fits, reply_fits}
-use Rattle.cmwq_text.specs.Words.{◌>>=◌, words_of, joined, is_end, after, number_in}
+use Rattle.cmwq_text.specs.Words.{◌>>=◌, words_of, joined, is_end, after, wide_in}
 use Rattle.cmwq_text.specs.IdText.{who_text, who_in}
 use Rattle.cmwq_text.specs.CallText.{call_words, call_text, call_in, may_say, call_of}
 use Rattle.cmwq_text.specs.ReplyText.{reply_words, reply_in}
 use Rattle.cmwq_text.specs.EntryText.{entry_words, entry_text, entry_of}
+use Rattle.cmwq_text.specs.Numbers.{greatest_number}
 use Rattle.cmwq_model.specs.Ranges.{IsWho, IsCall, IsEntry}
 use Rattle.cmwq_text.specs.Laws.{CallsReadAgain, EntriesReadAgain, CallsSpelledSo, EntriesSpelledSo, EntriesStandApart}
 use Rattle.cmwq_text.proofs.Steps.{bind_some, chosen, both}
 use Rattle.cmwq_text.proofs.WordLaws.{is_plain, are_plain, and_true, are_plain-append, is_plain-decimal, after_takes}
-use Rattle.cmwq_text.proofs.IdLaws.{who_again, who_takes, is_plain-who, number_in_again, number_in_takes}
+use Rattle.cmwq_text.proofs.IdLaws.{who_again, who_takes, is_plain-who, wide_in_again, wide_in_takes}
 use Rattle.cmwq_text.proofs.CallLaws.{call_again, call_takes, call_is_plain}
 use Rattle.cmwq_text.proofs.ReplyLaws.{reply_again, reply_takes, reply_is_plain}
 use Rattle.cmwq_text.proofs.LineLaws.{line_words, line_is, no_more, lines_apart, layout_is_small, known_who, known_call, known_reply}
 
-call_again_alone : (c : Call) → IsCall c → call_in (call_words c) ≡ Some (c, [])
+call_again_alone : (c : Call) → (IsCall greatest_number) c → call_in (call_words c) ≡ Some (c, [])
 call_again_alone c h = ap call_in (sym (append-nil (call_words c))) ∙ call_again c [] h
 
 -- ---- lines of calls
@@ -34,7 +35,7 @@ call_from ws = do
   c ← call_in who.1
   if is_end c.1 && may_say who.0 c.0 then Some (who.0, c.0) else None
 
-pub call_line_is_plain : (who : Who) (c : Call) → IsWho who → IsCall c → are_plain (who_text who ∷ call_words c) ≡ true
+pub call_line_is_plain : (who : Who) (c : Call) → IsWho who → (IsCall greatest_number) c → are_plain (who_text who ∷ call_words c) ≡ true
 call_line_is_plain who c h k = and_true (is_plain (who_text who)) (are_plain (call_words c)) (is_plain-who who h) (call_is_plain c k)
 
 pub calls_read_again : CallsReadAgain
@@ -77,12 +78,12 @@ abbrev pub entry_after_serial : Who → ℕ × List (List ℕ) → Option Entry
 entry_after_serial who n = call_in n.1 >>= entry_after_call who n.0
 
 abbrev pub entry_after_who : Who × List (List ℕ) → Option Entry
-entry_after_who who = number_in who.1 >>= entry_after_serial who.0
+entry_after_who who = wide_in who.1 >>= entry_after_serial who.0
 
-abbrev entry_from : List (List ℕ) → Option Entry
+abbrev pub entry_from : List (List ℕ) → Option Entry
 entry_from ws = who_in ws >>= entry_after_who
 
-pub entry_is_plain : (e : Entry) → IsEntry e → are_plain (entry_words e) ≡ true
+pub entry_is_plain : (e : Entry) → (IsEntry greatest_number) e → are_plain (entry_words e) ≡ true
 entry_is_plain e h =
     let answer : List (List ℕ) = (61 ∷ []) ∷ reply_words e.reply in
     let behind : List (List ℕ) = call_words e.call ++ answer in
@@ -95,7 +96,7 @@ unfolding entry_text entry_of
 entries_read_again e line h kind is =
     let answer : List (List ℕ) = (61 ∷ []) ∷ reply_words e.reply in
     let words : words_of line ≡ entry_words e = line_words (who_text e.who) (decimal e.serial ∷ (call_words e.call ++ answer)) line (entry_is_plain e h) is in
-    ap entry_from words ∙ rw (who_again e.who h.who, number_in_again e.serial (call_words e.call ++ answer) h.serial, call_again e.call answer h.call, reply_again e.reply h.reply, kind) refl
+    ap entry_from words ∙ rw (who_again e.who h.who, wide_in_again e.serial (call_words e.call ++ answer) h.serial, call_again e.call answer h.call, reply_again e.reply h.reply, kind) refl
 
 -- the parts of an entry's words, one behind the other
 entry_pieces : (ws a b c d rest : List (List ℕ)) (e : Entry) → ws ≡ who_text e.who ∷ a → a ≡ decimal e.serial ∷ b → b ≡ call_words e.call ++ c → c ≡ (61 ∷ []) ∷ d → d ≡ reply_words e.reply ++ rest → rest ≡ [] → ws ≡ entry_words e
@@ -107,7 +108,7 @@ pub entries_spelled_so : EntriesSpelledSo
 unfolding entry_text entry_of
 entries_spelled_so s e line small fit is =
     let who = bind_some (who_in (words_of line)) entry_after_who e is in
-    let serial = bind_some (number_in who.0.1) (entry_after_serial who.0.0) e who.2 in
+    let serial = bind_some (wide_in who.0.1) (entry_after_serial who.0.0) e who.2 in
     let c = bind_some (call_in serial.0.1) (entry_after_call who.0.0 serial.0.0) e serial.2 in
     let answer = bind_some (after (codes "=") c.0.1) (entry_after_equals who.0.0 serial.0.0 c.0.0) e c.2 in
     let r = bind_some (reply_in answer.0) (entry_at_end who.0.0 serial.0.0 c.0.0) e answer.2 in
@@ -120,7 +121,7 @@ entries_spelled_so s e line small fit is =
     let limits = layout_is_small s small in
     let ended : r.0.1 ≡ [] = no_more r.0.1 (both (is_end r.0.1) (may_say who.0.0 c.0.0) found.0).0 in
     let who_part : words_of line ≡ who_text who.0.0 ∷ who.0.1 = who_takes (words_of line) who.0 who.1 (known_who s who.0.0 c.0.0 limits inner.0) in
-    let serial_part : who.0.1 ≡ decimal serial.0.0 ∷ serial.0.1 = number_in_takes who.0.1 serial.0 serial.1 in
+    let serial_part : who.0.1 ≡ decimal serial.0.0 ∷ serial.0.1 = wide_in_takes who.0.1 serial.0 serial.1 in
     let call_part : serial.0.1 ≡ call_words c.0.0 ++ c.0.1 = call_takes serial.0.1 c.0 c.1 (known_call s c.0.0 limits inner.1) in
     let equals_part : c.0.1 ≡ (61 ∷ []) ∷ answer.0 = after_takes (codes "=") c.0.1 answer.0 answer.1 in
     let reply_part : answer.0 ≡ reply_words r.0.0 ++ r.0.1 = reply_takes answer.0 r.0 r.1 (known_reply s r.0.0 limits outer.1) in

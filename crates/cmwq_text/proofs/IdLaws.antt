@@ -16,9 +16,9 @@ use Rattle.cmwq_model.specs.declared.id.QueueId.{QueueId}
 use Rattle.cmwq_model.specs.declared.id.CpuId.{CpuId}
 use Rattle.cmwq_model.specs.declared.id.Who.{Who}
 use Rattle.cmwq_model.specs.declared.id.Who.TheVariants.{Caller, Worker}
-use Rattle.cmwq_text.specs.Numbers.{number_of, byte_of, short_of}
+use Rattle.cmwq_text.specs.Numbers.{number_of, byte_of, short_of, greatest_number}
 use Rattle.cmwq_model.specs.Ranges.{greatest, greatest_long, greatest_byte, greatest_short}
-use Rattle.cmwq_text.specs.Words.{◌>>=◌, one, byte_in, short_in, number_in, long_in}
+use Rattle.cmwq_text.specs.Words.{◌>>=◌, one, byte_in, short_in, number_in, wide_in, long_in}
 use Rattle.cmwq_text.specs.IdText.{item, queue, cpu, caller, worker, item_in, queue_in, cpu_in, pool_letter, is_pool_letter, who_text, caller_of, worker_of, who_of, who_in}
 use Rattle.cmwq_model.specs.Ranges.{IsWho}
 use Rattle.cmwq_text.proofs.Steps.{bind_some}
@@ -29,6 +29,9 @@ use Rattle.cmwq_text.proofs.WordLaws.{word_takes, is_plain, is_plain-append, is_
 
 pub number_in_again : (n : ℕ) (ws : List (List ℕ)) → n ≤ greatest → number_in (decimal n ∷ ws) ≡ Some (n, ws)
 number_in_again n ws le = rw (number_again greatest n le (omega arith)) refl
+
+pub wide_in_again : (n : ℕ) (ws : List (List ℕ)) → n ≤ greatest_number → wide_in (decimal n ∷ ws) ≡ Some (n, ws)
+wide_in_again n ws le = rw (number_again greatest_number n le (omega arith)) refl
 
 pub long_in_again : (n : ℕ) (ws : List (List ℕ)) → n ≤ greatest_long → long_in (decimal n ∷ ws) ≡ Some (n, ws)
 long_in_again n ws le = rw (number_again greatest_long n le (omega arith)) refl
@@ -49,6 +52,11 @@ pub number_in_takes : (ws : List (List ℕ)) (x : ℕ × List (List ℕ)) → nu
 number_in_takes ws x e =
     let read = word_takes (number_of greatest) ws x e in
     read.1 ∙ ap (λ (w : List ℕ). w ∷ x.1) (number_takes greatest x.0 read.0 (omega arith) read.2).0
+
+pub wide_in_takes : (ws : List (List ℕ)) (x : ℕ × List (List ℕ)) → wide_in ws ≡ Some x → ws ≡ decimal x.0 ∷ x.1
+wide_in_takes ws x e =
+    let read = word_takes (number_of greatest_number) ws x e in
+    read.1 ∙ ap (λ (w : List ℕ). w ∷ x.1) (number_takes greatest_number x.0 read.0 (omega arith) read.2).0
 
 pub long_in_takes : (ws : List (List ℕ)) (x : ℕ × List (List ℕ)) → long_in ws ≡ Some x → ws ≡ decimal x.0 ∷ x.1
 long_in_takes ws x e =

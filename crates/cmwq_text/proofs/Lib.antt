@@ -12,6 +12,7 @@ pub mod CallLaws
 pub mod ReplyLaws
 pub mod LineLaws
 pub mod EntryLaws
+pub mod EndLaws
 pub mod ReadRanges
 pub mod ShapeLaws
 pub mod WholeLines

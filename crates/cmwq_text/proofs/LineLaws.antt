@@ -9,7 +9,7 @@ use Rattle.cmwq_model.specs.declared.call.Call.{Call}
 use Rattle.cmwq_model.specs.declared.call.Call.TheVariants as call
 use Rattle.cmwq_model.specs.declared.reply.Reply.{Reply}
 use Rattle.cmwq_model.specs.declared.reply.Reply.TheVariants as reply
-use Rattle.cmwq_model.specs.Layout.{Layout, is_layout, are_counts, are_queues, is_between, may_make, has_numbers, has_place, is_callers, is_workers, reply_fits}
+use Rattle.cmwq_model.specs.Layout.{Layout, is_layout, most_room, are_counts, are_queues, is_between, may_make, has_numbers, has_place, is_callers, is_workers, reply_fits}
 use Rattle.cmwq_model.specs.Ranges.{greatest_byte, greatest_short}
 use Rattle.cmwq_text.specs.Words.{words_of, joined, line_text, is_end}
 use Rattle.cmwq_text.specs.Laws.{IsLineOf}
@@ -91,17 +91,17 @@ pub record IsSmall (s : Layout) : Type 0 where
 at_most : (low high n : ℕ) → is_between low high n ≡ true → n ≤ high
 at_most low high n e = leb-true n high (both (leb low n) (leb n high) e).1
 
-pub counts_are_small : (cpus workers callers items room : ℕ) → are_counts cpus workers callers items room ≡ true → (cpus ≤ 4) × (workers ≤ 8) × (callers ≤ 64) × (items ≤ 256) × (room ≤ 1000000)
+pub counts_are_small : (cpus workers callers items room : ℕ) → are_counts cpus workers callers items room ≡ true → (cpus ≤ 4) × (workers ≤ 8) × (callers ≤ 64) × (items ≤ 256) × (room ≤ most_room)
 counts_are_small cpus workers callers items room e =
     let a = is_between 1 4 cpus in
     let b = is_between 1 8 workers in
     let c = is_between 1 64 callers in
     let d = is_between 1 256 items in
-    let four = both (a && b && c && d) (leb room 1000000) e in
+    let four = both (a && b && c && d) (leb room most_room) e in
     let three = both (a && b && c) d four.0 in
     let two = both (a && b) c three.0 in
     let one = both a b two.0 in
-    (at_most 1 4 cpus one.0, at_most 1 8 workers one.1, at_most 1 64 callers two.1, at_most 1 256 items three.1, leb-true room 1000000 four.1)
+    (at_most 1 4 cpus one.0, at_most 1 8 workers one.1, at_most 1 64 callers two.1, at_most 1 256 items three.1, leb-true room most_room four.1)
 
 pub layout_is_small : (s : Layout) → is_layout s ≡ true → IsSmall s
 layout_is_small s e =

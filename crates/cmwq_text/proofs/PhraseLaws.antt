@@ -5,6 +5,7 @@ use Rattle.std.specs.List.{AllByRecursion}
 use Rattle.std.proofs.lemmas.List.{length-append}
 use Rattle.std.proofs.lemmas.Fmt.{length-decimal-le}
 use Rattle.cmwq_text.specs.declared.keyword.Keyword.{Keyword}
+use Rattle.cmwq_text.specs.Numbers.{greatest_number}
 use Rattle.cmwq_model.specs.Ranges.{greatest, greatest_long, greatest_byte, greatest_short}
 use Rattle.cmwq_text.specs.Words.{joined, line_text}
 use Rattle.cmwq_text.specs.Keywords.{text}
@@ -29,6 +30,9 @@ short_len n le = length-decimal-le 5 n (omega arith) (omega arith) (omega arith)
 
 pub number_len : (n : ℕ) → n ≤ greatest → length (decimal n) ≤ 10
 number_len n le = length-decimal-le 10 n (omega arith) (omega arith) (omega arith)
+
+pub wide_len : (n : ℕ) → n ≤ greatest_number → length (decimal n) ≤ 19
+wide_len n le = length-decimal-le 19 n (omega arith) (omega arith) (omega arith)
 
 pub long_len : (n : ℕ) → n ≤ greatest_long → length (decimal n) ≤ 20
 long_len n le = length-decimal-le 20 n (omega arith) (omega arith) (omega arith)

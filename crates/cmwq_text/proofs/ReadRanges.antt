@@ -1,7 +1,9 @@
 -- What is read of a line is inside the ranges of its types: a number above its limit is refused, and an id above its type's greatest number is
 -- read as that number.
-use Rattle.std.proofs.Common.{◌≡◌, ℕ, ◌≤◌, ◌+◌, ◌&&◌, List, [], ◌∷◌, eqb, get_or, take, drop, Option, Some, None, arith, subst, cond, ◌∙◌, inl, inr, min}
+use Rattle.std.proofs.Common.{◌≡◌, ℕ, zero, suc, ◌≤◌, ◌+◌, true, leb, refl, ◌&&◌, List, [], ◌∷◌, eqb, get_or, take, drop, Option, Some, None, arith, subst, cond, ◌∙◌, inl, inr, min}
 use Rattle.std.specs.Prelude.{codes, position}
+use Rattle.std.specs.Cmp.Derive.{both_true}
+use Rattle.std.proofs.lemmas.Bool.{leb-true, le-leb}
 use Rattle.std.proofs.lemmas.Option.{same_Some}
 use Rattle.cmwq_model.specs.declared.id.ItemId.{ItemId}
 use Rattle.cmwq_model.specs.declared.id.QueueId.{QueueId}
@@ -12,18 +14,19 @@ use Rattle.cmwq_model.specs.declared.call.Call.TheVariants as call
 use Rattle.cmwq_model.specs.declared.reply.Reply.{Reply}
 use Rattle.cmwq_model.specs.declared.reply.Reply.TheVariants as reply
 use Rattle.cmwq_model.specs.declared.entry.Entry.{Entry}
+use Rattle.cmwq_text.specs.Numbers.{greatest_number}
 use Rattle.cmwq_model.specs.Ranges.{greatest, greatest_long, greatest_byte, greatest_short, IsWho, IsCall, IsReply, IsEntry}
 use Rattle.cmwq_text.specs.declared.keyword.Keyword.{Keyword}
 use Rattle.cmwq_text.specs.declared.keyword.Keyword.TheVariants as word
 use Rattle.cmwq_text.specs.Numbers.{number_of, held_at_most, byte_of, short_of}
-use Rattle.cmwq_text.specs.Words.{◌>>=◌, words_of, is_end, after, byte_in, short_in, number_in, long_in, none, one, two, three, four}
+use Rattle.cmwq_text.specs.Words.{◌>>=◌, words_of, is_end, after, byte_in, short_in, number_in, wide_in, long_in, none, one, two, three, four}
 use Rattle.cmwq_text.specs.Keywords.{keyword_in}
 use Rattle.cmwq_text.specs.IdText.{item, queue, cpu, caller, worker, item_in, queue_in, cpu_in, is_pool_letter, caller_of, worker_of, who_of, who_in}
 use Rattle.cmwq_text.specs.CallText.{call_after, call_in, may_say, call_of}
 use Rattle.cmwq_text.specs.ReplyText.{ticket_with, ticket_after, started_with, started_after, reply_after, reply_in}
 use Rattle.cmwq_text.specs.EntryText.{entry_of}
-use Rattle.cmwq_text.specs.Formats.{allows_entry, entry_of_format}
-use Rattle.cmwq_text.proofs.Steps.{bind_some, chosen}
+use Rattle.cmwq_text.specs.Formats.{is_short, is_short_call, is_short_reply, is_short_entry, short_call_of, allows_entry, entry_of_format}
+use Rattle.cmwq_text.proofs.Steps.{bind_some, chosen, both}
 use Rattle.cmwq_text.proofs.NumberLaws.{number_takes}
 use Rattle.cmwq_text.proofs.WordLaws.{word_takes}
 use Rattle.cmwq_text.proofs.IdLaws.{read_at, first_says}
@@ -50,6 +53,9 @@ record Reader (A : Type 0) : Type 1 where
 number_inside : (ws : List (List ℕ)) (x : ℕ × List (List ℕ)) → number_in ws ≡ Some x → x.0 ≤ greatest
 number_inside ws x e = let read = word_takes (number_of greatest) ws x e in (number_takes greatest x.0 read.0 (omega arith) read.2).1
 
+wide_inside : (ws : List (List ℕ)) (x : ℕ × List (List ℕ)) → wide_in ws ≡ Some x → x.0 ≤ greatest_number
+wide_inside ws x e = let read = word_takes (number_of greatest_number) ws x e in (number_takes greatest_number x.0 read.0 (omega arith) read.2).1
+
 long_inside : (ws : List (List ℕ)) (x : ℕ × List (List ℕ)) → long_in ws ≡ Some x → x.0 ≤ greatest_long
 long_inside ws x e = let read = word_takes (number_of greatest_long) ws x e in (number_takes greatest_long x.0 read.0 (omega arith) read.2).1
 
@@ -61,6 +67,9 @@ short_in_inside ws x e = let read = word_takes short_of ws x e in short_inside r
 
 abbrev number_reader : Reader ℕ
 number_reader = record { read = number_in; IsInside = λ n. n ≤ greatest; inside = number_inside }
+
+abbrev wide_reader : Reader ℕ
+wide_reader = record { read = wide_in; IsInside = λ n. n ≤ greatest_number; inside = wide_inside }
 
 abbrev long_reader : Reader ℕ
 long_reader = record { read = long_in; IsInside = λ n. n ≤ greatest_long; inside = long_inside }
@@ -143,104 +152,104 @@ who_inside ws x e = let read = word_takes who_of ws x e in who_of_inside read.0 
 
 -- ---- calls
 
-call_after_inside : (k : Keyword) (ws : List (List ℕ)) (x : Call × List (List ℕ)) → call_after k ws ≡ Some x → IsCall x.0
+call_after_inside : (k : Keyword) (ws : List (List ℕ)) (x : Call × List (List ℕ)) → call_after k ws ≡ Some x → (IsCall greatest_number) x.0
 unfolding call_after
-call_after_inside word.Queue ws x e = three_inside item_reader queue_reader cpu_reader call.Queue IsCall (λ i q c small. (small.0, small.1, small.2)) ws x e
-call_after_inside word.Delay ws x e = four_inside item_reader queue_reader cpu_reader number_reader call.Delay IsCall (λ i q c n small. ((small.0, small.1, small.2), small.3)) ws x e
-call_after_inside word.Modify ws x e = four_inside item_reader queue_reader cpu_reader number_reader call.Modify IsCall (λ i q c n small. ((small.0, small.1, small.2), small.3)) ws x e
-call_after_inside word.Cancel ws x e = one_inside item_reader call.Cancel IsCall (λ i small. small) ws x e
-call_after_inside word.Tick ws x e = one_inside number_reader call.Tick IsCall (λ n small. small) ws x e
-call_after_inside word.Fire ws x e = none_inside call.Fire IsCall tt ws x e
-call_after_inside word.Flush ws x e = one_inside queue_reader call.Flush IsCall (λ q small. small) ws x e
-call_after_inside word.Drain ws x e = one_inside queue_reader call.Drain IsCall (λ q small. small) ws x e
-call_after_inside word.FlushItem ws x e = one_inside item_reader call.FlushItem IsCall (λ i small. small) ws x e
-call_after_inside word.FlushDelayed ws x e = one_inside item_reader call.FlushDelayed IsCall (λ i small. small) ws x e
-call_after_inside word.CancelSync ws x e = one_inside item_reader call.CancelSync IsCall (λ i small. small) ws x e
-call_after_inside word.End ws x e = one_inside number_reader call.End IsCall (λ n small. small) ws x e
-call_after_inside word.Take ws x e = none_inside call.Take IsCall tt ws x e
-call_after_inside word.Finish ws x e = none_inside call.Finish IsCall tt ws x e
-call_after_inside word.Sleep ws x e = none_inside call.Sleep IsCall tt ws x e
-call_after_inside word.Wake ws x e = none_inside call.Wake IsCall tt ws x e
-call_after_inside word.Retire ws x e = none_inside call.Retire IsCall tt ws x e
-call_after_inside word.SetMax ws x e = two_inside queue_reader number_reader call.SetMax IsCall (λ q n small. small) ws x e
-call_after_inside word.Freeze ws x e = none_inside call.Freeze IsCall tt ws x e
-call_after_inside word.Thaw ws x e = none_inside call.Thaw IsCall tt ws x e
-call_after_inside word.Destroy ws x e = one_inside queue_reader call.Destroy IsCall (λ q small. small) ws x e
+call_after_inside word.Queue ws x e = three_inside item_reader queue_reader cpu_reader call.Queue (IsCall greatest_number) (λ i q c small. (small.0, small.1, small.2)) ws x e
+call_after_inside word.Delay ws x e = four_inside item_reader queue_reader cpu_reader number_reader call.Delay (IsCall greatest_number) (λ i q c n small. ((small.0, small.1, small.2), small.3)) ws x e
+call_after_inside word.Modify ws x e = four_inside item_reader queue_reader cpu_reader number_reader call.Modify (IsCall greatest_number) (λ i q c n small. ((small.0, small.1, small.2), small.3)) ws x e
+call_after_inside word.Cancel ws x e = one_inside item_reader call.Cancel (IsCall greatest_number) (λ i small. small) ws x e
+call_after_inside word.Tick ws x e = one_inside number_reader call.Tick (IsCall greatest_number) (λ n small. small) ws x e
+call_after_inside word.Fire ws x e = none_inside call.Fire (IsCall greatest_number) tt ws x e
+call_after_inside word.Flush ws x e = one_inside queue_reader call.Flush (IsCall greatest_number) (λ q small. small) ws x e
+call_after_inside word.Drain ws x e = one_inside queue_reader call.Drain (IsCall greatest_number) (λ q small. small) ws x e
+call_after_inside word.FlushItem ws x e = one_inside item_reader call.FlushItem (IsCall greatest_number) (λ i small. small) ws x e
+call_after_inside word.FlushDelayed ws x e = one_inside item_reader call.FlushDelayed (IsCall greatest_number) (λ i small. small) ws x e
+call_after_inside word.CancelSync ws x e = one_inside item_reader call.CancelSync (IsCall greatest_number) (λ i small. small) ws x e
+call_after_inside word.End ws x e = one_inside wide_reader call.End (IsCall greatest_number) (λ n small. small) ws x e
+call_after_inside word.Take ws x e = none_inside call.Take (IsCall greatest_number) tt ws x e
+call_after_inside word.Finish ws x e = none_inside call.Finish (IsCall greatest_number) tt ws x e
+call_after_inside word.Sleep ws x e = none_inside call.Sleep (IsCall greatest_number) tt ws x e
+call_after_inside word.Wake ws x e = none_inside call.Wake (IsCall greatest_number) tt ws x e
+call_after_inside word.Retire ws x e = none_inside call.Retire (IsCall greatest_number) tt ws x e
+call_after_inside word.SetMax ws x e = two_inside queue_reader number_reader call.SetMax (IsCall greatest_number) (λ q n small. small) ws x e
+call_after_inside word.Freeze ws x e = none_inside call.Freeze (IsCall greatest_number) tt ws x e
+call_after_inside word.Thaw ws x e = none_inside call.Thaw (IsCall greatest_number) tt ws x e
+call_after_inside word.Destroy ws x e = one_inside queue_reader call.Destroy (IsCall greatest_number) (λ q small. small) ws x e
 call_after_inside k ws x e = absurd cc
 
-pub call_inside : (ws : List (List ℕ)) (x : Call × List (List ℕ)) → call_in ws ≡ Some x → IsCall x.0
+pub call_inside : (ws : List (List ℕ)) (x : Call × List (List ℕ)) → call_in ws ≡ Some x → (IsCall greatest_number) x.0
 call_inside ws x e =
     let k = bind_some (keyword_in ws) (λ (k : Keyword × List (List ℕ)). call_after k.0 k.1) x e in
     call_after_inside k.0.0 k.0.1 x k.2
 
 -- ---- replies
 
-ticket_with_inside : (n : ℕ) (k : Keyword) (ws : List (List ℕ)) (x : Reply × List (List ℕ)) → n ≤ greatest → ticket_with n k ws ≡ Some x → IsReply x.0
+ticket_with_inside : (n : ℕ) (k : Keyword) (ws : List (List ℕ)) (x : Reply × List (List ℕ)) → n ≤ greatest_number → ticket_with n k ws ≡ Some x → (IsReply greatest_number) x.0
 unfolding ticket_with
-ticket_with_inside n word.Queued ws x own e = none_inside (reply.TicketQueued n) IsReply own ws x e
-ticket_with_inside n word.Cancelled ws x own e = one_inside number_reader (reply.TicketCancelled n) IsReply (λ m small. (own, small)) ws x e
-ticket_with_inside n word.Unbooked ws x own e = none_inside (reply.TicketUnbooked n) IsReply own ws x e
-ticket_with_inside n word.No ws x own e = none_inside (reply.TicketNo n) IsReply own ws x e
+ticket_with_inside n word.Queued ws x own e = none_inside (reply.TicketQueued n) (IsReply greatest_number) own ws x e
+ticket_with_inside n word.Cancelled ws x own e = one_inside wide_reader (reply.TicketCancelled n) (IsReply greatest_number) (λ m small. (own, small)) ws x e
+ticket_with_inside n word.Unbooked ws x own e = none_inside (reply.TicketUnbooked n) (IsReply greatest_number) own ws x e
+ticket_with_inside n word.No ws x own e = none_inside (reply.TicketNo n) (IsReply greatest_number) own ws x e
 ticket_with_inside n k ws x own e = absurd cc
 
-ticket_after_inside : (n : ℕ) (ws : List (List ℕ)) (x : Reply × List (List ℕ)) → n ≤ greatest → ticket_after n ws ≡ Some x → IsReply x.0
+ticket_after_inside : (n : ℕ) (ws : List (List ℕ)) (x : Reply × List (List ℕ)) → n ≤ greatest_number → ticket_after n ws ≡ Some x → (IsReply greatest_number) x.0
 unfolding ticket_after
-ticket_after_inside n [] x own e = none_inside (reply.Ticket n) IsReply own [] x e
+ticket_after_inside n [] x own e = none_inside (reply.Ticket n) (IsReply greatest_number) own [] x e
 ticket_after_inside n (w ∷ ws) x own e =
     let k = bind_some (keyword_in (w ∷ ws)) (λ (k : Keyword × List (List ℕ)). ticket_with n k.0 k.1) x e in
     ticket_with_inside n k.0.0 k.0.1 x own k.2
 
-started_with_inside : (n : ℕ) (k : Keyword) (ws : List (List ℕ)) (x : Reply × List (List ℕ)) → n ≤ greatest → started_with n k ws ≡ Some x → IsReply x.0
+started_with_inside : (n : ℕ) (k : Keyword) (ws : List (List ℕ)) (x : Reply × List (List ℕ)) → n ≤ greatest_number → started_with n k ws ≡ Some x → (IsReply greatest_number) x.0
 unfolding started_with
-started_with_inside n word.Enlist ws x own e = one_inside byte_reader (reply.StartedEnlist n) IsReply (λ y small. (own, small)) ws x e
+started_with_inside n word.Enlist ws x own e = one_inside byte_reader (reply.StartedEnlist n) (IsReply greatest_number) (λ y small. (own, small)) ws x e
 started_with_inside n k ws x own e = absurd cc
 
-started_after_inside : (n : ℕ) (ws : List (List ℕ)) (x : Reply × List (List ℕ)) → n ≤ greatest → started_after n ws ≡ Some x → IsReply x.0
+started_after_inside : (n : ℕ) (ws : List (List ℕ)) (x : Reply × List (List ℕ)) → n ≤ greatest_number → started_after n ws ≡ Some x → (IsReply greatest_number) x.0
 unfolding started_after
-started_after_inside n [] x own e = none_inside (reply.Started n) IsReply own [] x e
+started_after_inside n [] x own e = none_inside (reply.Started n) (IsReply greatest_number) own [] x e
 started_after_inside n (w ∷ ws) x own e =
     let k = bind_some (keyword_in (w ∷ ws)) (λ (k : Keyword × List (List ℕ)). started_with n k.0 k.1) x e in
     started_with_inside n k.0.0 k.0.1 x own k.2
 
-reply_after_inside : (k : Keyword) (ws : List (List ℕ)) (x : Reply × List (List ℕ)) → reply_after k ws ≡ Some x → IsReply x.0
+reply_after_inside : (k : Keyword) (ws : List (List ℕ)) (x : Reply × List (List ℕ)) → reply_after k ws ≡ Some x → (IsReply greatest_number) x.0
 unfolding reply_after
-reply_after_inside word.Yes ws x e = one_inside number_reader reply.Yes IsReply (λ n small. small) ws x e
-reply_after_inside word.Booked ws x e = one_inside long_reader reply.Booked IsReply (λ t small. small) ws x e
-reply_after_inside word.Again ws x e = one_inside number_reader reply.Again IsReply (λ n small. small) ws x e
-reply_after_inside word.Rebooked ws x e = one_inside long_reader reply.Rebooked IsReply (λ t small. small) ws x e
-reply_after_inside word.No ws x e = none_inside reply.No IsReply tt ws x e
-reply_after_inside word.Foreign ws x e = none_inside reply.Foreign IsReply tt ws x e
-reply_after_inside word.Draining ws x e = none_inside reply.Draining IsReply tt ws x e
-reply_after_inside word.Misuse ws x e = none_inside reply.Misuse IsReply tt ws x e
-reply_after_inside word.Cancelled ws x e = one_inside number_reader reply.Cancelled IsReply (λ n small. small) ws x e
-reply_after_inside word.Unbooked ws x e = none_inside reply.Unbooked IsReply tt ws x e
-reply_after_inside word.Now ws x e = one_inside long_reader reply.Now IsReply (λ t small. small) ws x e
-reply_after_inside word.Fired ws x e = two_inside item_reader number_reader reply.Fired IsReply (λ i n small. small) ws x e
-reply_after_inside word.Nothing ws x e = none_inside reply.Nothing IsReply tt ws x e
+reply_after_inside word.Yes ws x e = one_inside wide_reader reply.Yes (IsReply greatest_number) (λ n small. small) ws x e
+reply_after_inside word.Booked ws x e = one_inside long_reader reply.Booked (IsReply greatest_number) (λ t small. small) ws x e
+reply_after_inside word.Again ws x e = one_inside wide_reader reply.Again (IsReply greatest_number) (λ n small. small) ws x e
+reply_after_inside word.Rebooked ws x e = one_inside long_reader reply.Rebooked (IsReply greatest_number) (λ t small. small) ws x e
+reply_after_inside word.No ws x e = none_inside reply.No (IsReply greatest_number) tt ws x e
+reply_after_inside word.Foreign ws x e = none_inside reply.Foreign (IsReply greatest_number) tt ws x e
+reply_after_inside word.Draining ws x e = none_inside reply.Draining (IsReply greatest_number) tt ws x e
+reply_after_inside word.Misuse ws x e = none_inside reply.Misuse (IsReply greatest_number) tt ws x e
+reply_after_inside word.Cancelled ws x e = one_inside wide_reader reply.Cancelled (IsReply greatest_number) (λ n small. small) ws x e
+reply_after_inside word.Unbooked ws x e = none_inside reply.Unbooked (IsReply greatest_number) tt ws x e
+reply_after_inside word.Now ws x e = one_inside long_reader reply.Now (IsReply greatest_number) (λ t small. small) ws x e
+reply_after_inside word.Fired ws x e = two_inside item_reader wide_reader reply.Fired (IsReply greatest_number) (λ i n small. small) ws x e
+reply_after_inside word.Nothing ws x e = none_inside reply.Nothing (IsReply greatest_number) tt ws x e
 reply_after_inside word.Ticket ws x e =
-    let n = bind_some (number_in ws) (λ (n : ℕ × List (List ℕ)). ticket_after n.0 n.1) x e in
-    ticket_after_inside n.0.0 n.0.1 x (number_reader.inside ws n.0 n.1) n.2
-reply_after_inside word.Idle ws x e = none_inside reply.Idle IsReply tt ws x e
-reply_after_inside word.Crowded ws x e = none_inside reply.Crowded IsReply tt ws x e
-reply_after_inside word.Done ws x e = none_inside reply.Done IsReply tt ws x e
-reply_after_inside word.Waiting ws x e = one_inside number_reader reply.Waiting IsReply (λ n small. small) ws x e
+    let n = bind_some (wide_in ws) (λ (n : ℕ × List (List ℕ)). ticket_after n.0 n.1) x e in
+    ticket_after_inside n.0.0 n.0.1 x (wide_reader.inside ws n.0 n.1) n.2
+reply_after_inside word.Idle ws x e = none_inside reply.Idle (IsReply greatest_number) tt ws x e
+reply_after_inside word.Crowded ws x e = none_inside reply.Crowded (IsReply greatest_number) tt ws x e
+reply_after_inside word.Done ws x e = none_inside reply.Done (IsReply greatest_number) tt ws x e
+reply_after_inside word.Waiting ws x e = one_inside wide_reader reply.Waiting (IsReply greatest_number) (λ n small. small) ws x e
 reply_after_inside word.Started ws x e =
-    let n = bind_some (number_in ws) (λ (n : ℕ × List (List ℕ)). started_after n.0 n.1) x e in
-    started_after_inside n.0.0 n.0.1 x (number_reader.inside ws n.0 n.1) n.2
-reply_after_inside word.Held ws x e = none_inside reply.Held IsReply tt ws x e
-reply_after_inside word.Finished ws x e = one_inside number_reader reply.Finished IsReply (λ n small. small) ws x e
-reply_after_inside word.Slept ws x e = none_inside reply.Slept IsReply tt ws x e
-reply_after_inside word.Woke ws x e = none_inside reply.Woke IsReply tt ws x e
-reply_after_inside word.Retired ws x e = none_inside reply.Retired IsReply tt ws x e
-reply_after_inside word.Kept ws x e = none_inside reply.Kept IsReply tt ws x e
-reply_after_inside word.Width ws x e = one_inside number_reader reply.Width IsReply (λ n small. small) ws x e
-reply_after_inside word.Frozen ws x e = none_inside reply.Frozen IsReply tt ws x e
-reply_after_inside word.Thawed ws x e = none_inside reply.Thawed IsReply tt ws x e
-reply_after_inside word.Gone ws x e = none_inside reply.Gone IsReply tt ws x e
-reply_after_inside word.Timers ws x e = none_inside reply.Timers IsReply tt ws x e
+    let n = bind_some (wide_in ws) (λ (n : ℕ × List (List ℕ)). started_after n.0 n.1) x e in
+    started_after_inside n.0.0 n.0.1 x (wide_reader.inside ws n.0 n.1) n.2
+reply_after_inside word.Held ws x e = none_inside reply.Held (IsReply greatest_number) tt ws x e
+reply_after_inside word.Finished ws x e = one_inside wide_reader reply.Finished (IsReply greatest_number) (λ n small. small) ws x e
+reply_after_inside word.Slept ws x e = none_inside reply.Slept (IsReply greatest_number) tt ws x e
+reply_after_inside word.Woke ws x e = none_inside reply.Woke (IsReply greatest_number) tt ws x e
+reply_after_inside word.Retired ws x e = none_inside reply.Retired (IsReply greatest_number) tt ws x e
+reply_after_inside word.Kept ws x e = none_inside reply.Kept (IsReply greatest_number) tt ws x e
+reply_after_inside word.Width ws x e = one_inside number_reader reply.Width (IsReply greatest_number) (λ n small. small) ws x e
+reply_after_inside word.Frozen ws x e = none_inside reply.Frozen (IsReply greatest_number) tt ws x e
+reply_after_inside word.Thawed ws x e = none_inside reply.Thawed (IsReply greatest_number) tt ws x e
+reply_after_inside word.Gone ws x e = none_inside reply.Gone (IsReply greatest_number) tt ws x e
+reply_after_inside word.Timers ws x e = none_inside reply.Timers (IsReply greatest_number) tt ws x e
 reply_after_inside k ws x e = absurd cc
 
-pub reply_inside : (ws : List (List ℕ)) (x : Reply × List (List ℕ)) → reply_in ws ≡ Some x → IsReply x.0
+pub reply_inside : (ws : List (List ℕ)) (x : Reply × List (List ℕ)) → reply_in ws ≡ Some x → (IsReply greatest_number) x.0
 reply_inside ws x e =
     let k = bind_some (keyword_in ws) (λ (k : Keyword × List (List ℕ)). reply_after k.0 k.1) x e in
     reply_after_inside k.0.0 k.0.1 x k.2
@@ -250,30 +259,209 @@ reply_inside ws x e =
 abbrev call_at_end : Who → Call × List (List ℕ) → Option (Who × Call)
 call_at_end who c = cond (is_end c.1 && may_say who c.0) (Some (who, c.0)) None
 
-pub call_line_inside : (line : List ℕ) (x : Who × Call) → call_of line ≡ Some x → IsWho x.0 × IsCall x.1
+pub call_line_inside : (line : List ℕ) (x : Who × Call) → call_of line ≡ Some x → IsWho x.0 × (IsCall greatest_number) x.1
 unfolding call_of
 call_line_inside line x e =
     let who = bind_some (who_in (words_of line)) (λ (w : Who × List (List ℕ)). call_in w.1 >>= λ (c : Call × List (List ℕ)). call_at_end w.0 c) x e in
     let c = bind_some (call_in who.0.1) (call_at_end who.0.0) x who.2 in
     let found = chosen (is_end c.0.1 && may_say who.0.0 c.0.0) (Some (who.0.0, c.0.0)) x c.2 in
-    subst (λ (y : Who × Call). IsWho y.0 × IsCall y.1) (same_Some _ _ found.1) (who_inside _ who.0 who.1, call_inside _ c.0 c.1)
+    subst (λ (y : Who × Call). IsWho y.0 × (IsCall greatest_number) y.1) (same_Some _ _ found.1) (who_inside _ who.0 who.1, call_inside _ c.0 c.1)
 
-pub entry_inside : (line : List ℕ) (e : Entry) → entry_of line ≡ Some e → IsEntry e
+pub entry_inside : (line : List ℕ) (e : Entry) → entry_of line ≡ Some e → (IsEntry greatest_number) e
 unfolding entry_of
 entry_inside line e is =
     let who = bind_some (who_in (words_of line)) entry_after_who e is in
-    let serial = bind_some (number_in who.0.1) (entry_after_serial who.0.0) e who.2 in
+    let serial = bind_some (wide_in who.0.1) (entry_after_serial who.0.0) e who.2 in
     let c = bind_some (call_in serial.0.1) (entry_after_call who.0.0 serial.0.0) e serial.2 in
     let answer = bind_some (after (codes "=") c.0.1) (entry_after_equals who.0.0 serial.0.0 c.0.0) e c.2 in
     let r = bind_some (reply_in answer.0) (entry_at_end who.0.0 serial.0.0 c.0.0) e answer.2 in
     let made : Entry = record { who = who.0.0; serial = serial.0.0; call = c.0.0; reply = r.0.0 } in
     let found = chosen (is_end r.0.1 && may_say who.0.0 c.0.0) (Some made) e r.2 in
-    subst IsEntry (same_Some _ _ found.1)
-    (record { who = who_inside _ who.0 who.1; serial = number_inside _ serial.0 serial.1; call = call_inside _ c.0 c.1; reply = reply_inside _ r.0 r.1 })
+    subst (IsEntry greatest_number) (same_Some _ _ found.1)
+    (record { who = who_inside _ who.0 who.1; serial = wide_inside _ serial.0 serial.1; call = call_inside _ c.0 c.1; reply = reply_inside _ r.0 r.1 })
 
-pub entry_of_format_inside : (v : ℕ) (line : List ℕ) (e : Entry) → entry_of_format v line ≡ Some e → IsEntry e
+pub entry_of_format_inside : (v : ℕ) (line : List ℕ) (e : Entry) → entry_of_format v line ≡ Some e → (IsEntry greatest_number) e
 unfolding entry_of_format
 entry_of_format_inside v line e is =
     let read = bind_some (entry_of line) (λ (e : Entry). cond (allows_entry v e) (Some e) None) e is in
     let found = chosen (allows_entry v read.0) (Some read.0) e read.2 in
     entry_inside line e (read.1 ∙ found.1)
+
+-- ---- what formats 1 and 2 and files of calls have
+
+short_call : (c : Call) → (IsCall greatest_number) c → is_short_call c ≡ true → (IsCall greatest) c
+short_call (call.End n) h is = leb-true n greatest is
+short_call (call.Queue i q c) h is = h
+short_call (call.Delay i q c n) h is = h
+short_call (call.Modify i q c n) h is = h
+short_call (call.Cancel i) h is = h
+short_call (call.Tick n) h is = h
+short_call call.Fire h is = h
+short_call (call.Flush q) h is = h
+short_call (call.Drain q) h is = h
+short_call (call.FlushItem i) h is = h
+short_call (call.FlushDelayed i) h is = h
+short_call (call.CancelSync i) h is = h
+short_call call.Take h is = h
+short_call call.Finish h is = h
+short_call call.Sleep h is = h
+short_call call.Wake h is = h
+short_call call.Retire h is = h
+short_call (call.SetMax q n) h is = h
+short_call call.Freeze h is = h
+short_call call.Thaw h is = h
+short_call (call.Destroy q) h is = h
+
+short_reply : (r : Reply) → (IsReply greatest_number) r → is_short_reply r ≡ true → (IsReply greatest) r
+short_reply (reply.Yes n) h is = leb-true n greatest is
+short_reply (reply.Again n) h is = leb-true n greatest is
+short_reply (reply.Cancelled n) h is = leb-true n greatest is
+short_reply (reply.Ticket n) h is = leb-true n greatest is
+short_reply (reply.TicketQueued n) h is = leb-true n greatest is
+short_reply (reply.TicketUnbooked n) h is = leb-true n greatest is
+short_reply (reply.TicketNo n) h is = leb-true n greatest is
+short_reply (reply.Waiting n) h is = leb-true n greatest is
+short_reply (reply.Started n) h is = leb-true n greatest is
+short_reply (reply.Finished n) h is = leb-true n greatest is
+short_reply (reply.Fired i n) h is = (h.0, leb-true n greatest is)
+short_reply (reply.TicketCancelled n m) h is = let parts = both (leb n greatest) (leb m greatest) is in (leb-true n greatest parts.0, leb-true m greatest parts.1)
+short_reply (reply.StartedEnlist n x) h is = (leb-true n greatest is, h.1)
+short_reply (reply.Booked t) h is = h
+short_reply (reply.Rebooked t) h is = h
+short_reply reply.No h is = h
+short_reply reply.Foreign h is = h
+short_reply reply.Draining h is = h
+short_reply reply.Misuse h is = h
+short_reply reply.Unbooked h is = h
+short_reply (reply.Now t) h is = h
+short_reply reply.Nothing h is = h
+short_reply reply.Idle h is = h
+short_reply reply.Crowded h is = h
+short_reply reply.Done h is = h
+short_reply reply.Held h is = h
+short_reply reply.Slept h is = h
+short_reply reply.Woke h is = h
+short_reply reply.Retired h is = h
+short_reply reply.Kept h is = h
+short_reply (reply.Width n) h is = h
+short_reply reply.Frozen h is = h
+short_reply reply.Thawed h is = h
+short_reply reply.Gone h is = h
+short_reply reply.Timers h is = h
+
+-- what is short is so, and the other way round
+pub short_entry : (e : Entry) → (IsEntry greatest_number) e → is_short_entry e ≡ true → (IsEntry greatest) e
+short_entry e h is =
+    let outer = both (is_short e.serial && is_short_call e.call) (is_short_reply e.reply) is in
+    let inner = both (is_short e.serial) (is_short_call e.call) outer.0 in
+    record { who = h.who; serial = leb-true e.serial greatest inner.0; call = short_call e.call h.call inner.1; reply = short_reply e.reply h.reply outer.1 }
+
+is_short_as : (n : ℕ) → n ≤ greatest → is_short n ≡ true
+is_short_as n h = le-leb n greatest h
+
+short_call_is : (c : Call) → (IsCall greatest) c → is_short_call c ≡ true
+short_call_is (call.End n) h = is_short_as n h
+short_call_is c h = refl
+
+short_reply_is : (r : Reply) → (IsReply greatest) r → is_short_reply r ≡ true
+short_reply_is (reply.Yes n) h = is_short_as n h
+short_reply_is (reply.Again n) h = is_short_as n h
+short_reply_is (reply.Cancelled n) h = is_short_as n h
+short_reply_is (reply.Ticket n) h = is_short_as n h
+short_reply_is (reply.TicketQueued n) h = is_short_as n h
+short_reply_is (reply.TicketUnbooked n) h = is_short_as n h
+short_reply_is (reply.TicketNo n) h = is_short_as n h
+short_reply_is (reply.Waiting n) h = is_short_as n h
+short_reply_is (reply.Started n) h = is_short_as n h
+short_reply_is (reply.Finished n) h = is_short_as n h
+short_reply_is (reply.Fired i n) h = is_short_as n h.1
+short_reply_is (reply.TicketCancelled n m) h = both_true (is_short_as n h.0) (is_short_as m h.1)
+short_reply_is (reply.StartedEnlist n x) h = is_short_as n h.0
+short_reply_is r h = refl
+
+pub short_entry_is : (e : Entry) → (IsEntry greatest) e → is_short_entry e ≡ true
+short_entry_is e h = both_true (both_true (is_short_as e.serial h.serial) (short_call_is e.call h.call)) (short_reply_is e.reply h.reply)
+
+wide_call : (c : Call) → (IsCall greatest) c → (IsCall greatest_number) c
+wide_call (call.End n) h = omega arith
+wide_call (call.Queue i q c) h = h
+wide_call (call.Delay i q c n) h = h
+wide_call (call.Modify i q c n) h = h
+wide_call (call.Cancel i) h = h
+wide_call (call.Tick n) h = h
+wide_call call.Fire h = h
+wide_call (call.Flush q) h = h
+wide_call (call.Drain q) h = h
+wide_call (call.FlushItem i) h = h
+wide_call (call.FlushDelayed i) h = h
+wide_call (call.CancelSync i) h = h
+wide_call call.Take h = h
+wide_call call.Finish h = h
+wide_call call.Sleep h = h
+wide_call call.Wake h = h
+wide_call call.Retire h = h
+wide_call (call.SetMax q n) h = h
+wide_call call.Freeze h = h
+wide_call call.Thaw h = h
+wide_call (call.Destroy q) h = h
+
+wide_reply : (r : Reply) → (IsReply greatest) r → (IsReply greatest_number) r
+wide_reply (reply.Yes n) h = omega arith
+wide_reply (reply.Again n) h = omega arith
+wide_reply (reply.Cancelled n) h = omega arith
+wide_reply (reply.Ticket n) h = omega arith
+wide_reply (reply.TicketQueued n) h = omega arith
+wide_reply (reply.TicketUnbooked n) h = omega arith
+wide_reply (reply.TicketNo n) h = omega arith
+wide_reply (reply.Waiting n) h = omega arith
+wide_reply (reply.Started n) h = omega arith
+wide_reply (reply.Finished n) h = omega arith
+wide_reply (reply.Fired i n) h = (h.0, let most = h.1 in omega arith)
+wide_reply (reply.TicketCancelled n m) h = (let most = h.0 in omega arith, let most = h.1 in omega arith)
+wide_reply (reply.StartedEnlist n x) h = (let most = h.0 in omega arith, h.1)
+wide_reply (reply.Booked t) h = h
+wide_reply (reply.Rebooked t) h = h
+wide_reply reply.No h = h
+wide_reply reply.Foreign h = h
+wide_reply reply.Draining h = h
+wide_reply reply.Misuse h = h
+wide_reply reply.Unbooked h = h
+wide_reply (reply.Now t) h = h
+wide_reply reply.Nothing h = h
+wide_reply reply.Idle h = h
+wide_reply reply.Crowded h = h
+wide_reply reply.Done h = h
+wide_reply reply.Held h = h
+wide_reply reply.Slept h = h
+wide_reply reply.Woke h = h
+wide_reply reply.Retired h = h
+wide_reply reply.Kept h = h
+wide_reply (reply.Width n) h = h
+wide_reply reply.Frozen h = h
+wide_reply reply.Thawed h = h
+wide_reply reply.Gone h = h
+wide_reply reply.Timers h = h
+
+pub wide_entry : (e : Entry) → (IsEntry greatest) e → (IsEntry greatest_number) e
+wide_entry e h = record { who = h.who; serial = let most = h.serial in omega arith; call = wide_call e.call h.call; reply = wide_reply e.reply h.reply }
+
+pub wide_calls : (c : Call) → (IsCall greatest) c → (IsCall greatest_number) c
+wide_calls c h = wide_call c h
+
+-- so what a history of format 1 or 2 says has short numbers, and what a file of calls says
+pub allowed_short : (v : ℕ) (e : Entry) → v ≤ 2 → allows_entry v e ≡ true → is_short_entry e ≡ true
+allowed_short zero e h is = (both (is_short_entry e) _ is).0
+allowed_short (suc zero) e h is = (both (is_short_entry e) _ is).0
+allowed_short (suc (suc zero)) e h is = (both (is_short_entry e) _ is).0
+allowed_short (suc (suc (suc n))) e h is = absurd (omega arith)
+
+pub short_call_inside : (line : List ℕ) (x : Who × Call) → short_call_of line ≡ Some x → IsWho x.0 × (IsCall greatest) x.1
+unfolding short_call_of
+short_call_inside line x is =
+    let read = bind_some (call_of line) (λ (y : Who × Call). cond (is_short_call y.1) (Some y) None) x is in
+    let found = chosen (is_short_call read.0.1) (Some read.0) x read.2 in
+    let inside = call_line_inside line read.0 read.1 in
+    subst (λ (y : Who × Call). IsWho y.0 × (IsCall greatest) y.1) (same_Some read.0 x found.1) (inside.0, short_call read.0.1 inside.1 found.0)
+
+pub short_calls_are : (x : Who × Call) → (IsCall greatest) x.1 → is_short_call x.1 ≡ true
+short_calls_are x h = short_call_is x.1 h

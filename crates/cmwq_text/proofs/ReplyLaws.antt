@@ -5,8 +5,9 @@ use Rattle.cmwq_model.specs.declared.reply.Reply.{Reply}
 use Rattle.cmwq_model.specs.declared.reply.Reply.TheVariants as reply
 use Rattle.cmwq_text.specs.declared.keyword.Keyword.{Keyword}
 use Rattle.cmwq_text.specs.declared.keyword.Keyword.TheVariants as word
+use Rattle.cmwq_text.specs.Numbers.{greatest_number}
 use Rattle.cmwq_model.specs.Ranges.{greatest_byte, greatest_short}
-use Rattle.cmwq_text.specs.Words.{number_in}
+use Rattle.cmwq_text.specs.Words.{wide_in}
 use Rattle.cmwq_text.specs.Keywords.{text, keyword_in}
 use Rattle.cmwq_text.specs.CallText.{phrase}
 use Rattle.cmwq_text.specs.ReplyText.{reply_words, ticket_with, ticket_after, started_with, started_after, reply_after, reply_in}
@@ -14,39 +15,39 @@ use Rattle.cmwq_model.specs.Ranges.{IsReply}
 use Rattle.cmwq_text.proofs.Steps.{bind_some}
 use Rattle.cmwq_text.proofs.WordLaws.{are_plain, are_plain-append}
 use Rattle.cmwq_text.proofs.KeywordLaws.{keyword_again, keyword_takes}
-use Rattle.cmwq_text.proofs.IdLaws.{item_again, number_in_again, long_in_again, byte_in_again, number_in_takes}
-use Rattle.cmwq_text.proofs.RowLaws.{an_item, a_number, a_long, an_index, none_takes, one_takes, two_takes}
-use Rattle.cmwq_text.proofs.PhraseLaws.{phrase_is_plain, size, byte_len, short_len, number_len, long_len}
+use Rattle.cmwq_text.proofs.IdLaws.{item_again, number_in_again, wide_in_again, long_in_again, byte_in_again, wide_in_takes}
+use Rattle.cmwq_text.proofs.RowLaws.{an_item, a_number, a_wide, a_long, an_index, none_takes, one_takes, two_takes}
+use Rattle.cmwq_text.proofs.PhraseLaws.{phrase_is_plain, size, byte_len, short_len, number_len, wide_len, long_len}
 
 -- a reply stands at the end of its line
-pub reply_again : (r : Reply) → IsReply r → reply_in (reply_words r) ≡ Some (r, [])
+pub reply_again : (r : Reply) → (IsReply greatest_number) r → reply_in (reply_words r) ≡ Some (r, [])
 unfolding reply_words reply_after ticket_after ticket_with started_after started_with
-reply_again (reply.Yes n) h = rw (keyword_again word.Yes, number_in_again n [] h) refl
+reply_again (reply.Yes n) h = rw (keyword_again word.Yes, wide_in_again n [] h) refl
 reply_again (reply.Booked t) h = rw (keyword_again word.Booked, long_in_again t [] h) refl
-reply_again (reply.Again n) h = rw (keyword_again word.Again, number_in_again n [] h) refl
+reply_again (reply.Again n) h = rw (keyword_again word.Again, wide_in_again n [] h) refl
 reply_again (reply.Rebooked t) h = rw (keyword_again word.Rebooked, long_in_again t [] h) refl
 reply_again reply.No h = rw (keyword_again word.No) refl
 reply_again reply.Foreign h = rw (keyword_again word.Foreign) refl
 reply_again reply.Draining h = rw (keyword_again word.Draining) refl
 reply_again reply.Misuse h = rw (keyword_again word.Misuse) refl
-reply_again (reply.Cancelled n) h = rw (keyword_again word.Cancelled, number_in_again n [] h) refl
+reply_again (reply.Cancelled n) h = rw (keyword_again word.Cancelled, wide_in_again n [] h) refl
 reply_again reply.Unbooked h = rw (keyword_again word.Unbooked) refl
 reply_again (reply.Now t) h = rw (keyword_again word.Now, long_in_again t [] h) refl
-reply_again (reply.Fired i n) h = rw (keyword_again word.Fired, item_again i (decimal n ∷ []) h.0, number_in_again n [] h.1) refl
+reply_again (reply.Fired i n) h = rw (keyword_again word.Fired, item_again i (decimal n ∷ []) h.0, wide_in_again n [] h.1) refl
 reply_again reply.Nothing h = rw (keyword_again word.Nothing) refl
-reply_again (reply.Ticket n) h = rw (keyword_again word.Ticket, number_in_again n [] h) refl
-reply_again (reply.TicketQueued n) h = rw (keyword_again word.Ticket, number_in_again n (text word.Queued ∷ []) h, keyword_again word.Queued) refl
-reply_again (reply.TicketCancelled n m) h = rw (keyword_again word.Ticket, number_in_again n (text word.Cancelled ∷ decimal m ∷ []) h.0, keyword_again word.Cancelled, number_in_again m [] h.1) refl
-reply_again (reply.TicketUnbooked n) h = rw (keyword_again word.Ticket, number_in_again n (text word.Unbooked ∷ []) h, keyword_again word.Unbooked) refl
-reply_again (reply.TicketNo n) h = rw (keyword_again word.Ticket, number_in_again n (text word.No ∷ []) h, keyword_again word.No) refl
+reply_again (reply.Ticket n) h = rw (keyword_again word.Ticket, wide_in_again n [] h) refl
+reply_again (reply.TicketQueued n) h = rw (keyword_again word.Ticket, wide_in_again n (text word.Queued ∷ []) h, keyword_again word.Queued) refl
+reply_again (reply.TicketCancelled n m) h = rw (keyword_again word.Ticket, wide_in_again n (text word.Cancelled ∷ decimal m ∷ []) h.0, keyword_again word.Cancelled, wide_in_again m [] h.1) refl
+reply_again (reply.TicketUnbooked n) h = rw (keyword_again word.Ticket, wide_in_again n (text word.Unbooked ∷ []) h, keyword_again word.Unbooked) refl
+reply_again (reply.TicketNo n) h = rw (keyword_again word.Ticket, wide_in_again n (text word.No ∷ []) h, keyword_again word.No) refl
 reply_again reply.Idle h = rw (keyword_again word.Idle) refl
 reply_again reply.Crowded h = rw (keyword_again word.Crowded) refl
 reply_again reply.Done h = rw (keyword_again word.Done) refl
-reply_again (reply.Waiting n) h = rw (keyword_again word.Waiting, number_in_again n [] h) refl
-reply_again (reply.Started n) h = rw (keyword_again word.Started, number_in_again n [] h) refl
-reply_again (reply.StartedEnlist n x) h = rw (keyword_again word.Started, number_in_again n (text word.Enlist ∷ decimal x ∷ []) h.0, keyword_again word.Enlist, byte_in_again x [] h.1) refl
+reply_again (reply.Waiting n) h = rw (keyword_again word.Waiting, wide_in_again n [] h) refl
+reply_again (reply.Started n) h = rw (keyword_again word.Started, wide_in_again n [] h) refl
+reply_again (reply.StartedEnlist n x) h = rw (keyword_again word.Started, wide_in_again n (text word.Enlist ∷ decimal x ∷ []) h.0, keyword_again word.Enlist, byte_in_again x [] h.1) refl
 reply_again reply.Held h = rw (keyword_again word.Held) refl
-reply_again (reply.Finished n) h = rw (keyword_again word.Finished, number_in_again n [] h) refl
+reply_again (reply.Finished n) h = rw (keyword_again word.Finished, wide_in_again n [] h) refl
 reply_again reply.Slept h = rw (keyword_again word.Slept) refl
 reply_again reply.Woke h = rw (keyword_again word.Woke) refl
 reply_again reply.Retired h = rw (keyword_again word.Retired) refl
@@ -66,7 +67,7 @@ IsKnownReply r = Unit {0}
 ticket_with_is : (n : ℕ) (k : Keyword) (ws : List (List ℕ)) (x : Reply × List (List ℕ)) → ticket_with n k ws ≡ Some x → IsKnownReply x.0 → phrase word.Ticket (n ∷ []) ++ text k ∷ ws ≡ reply_words x.0 ++ x.1
 unfolding reply_words ticket_with
 ticket_with_is n word.Queued ws x e h = none_takes (reply.TicketQueued n) (phrase word.Ticket (n ∷ []) ++ text word.Queued ∷ []) reply_words refl ws x e
-ticket_with_is n word.Cancelled ws x e h = one_takes a_number (reply.TicketCancelled n) (phrase word.Ticket (n ∷ []) ++ text word.Cancelled ∷ []) IsKnownReply reply_words (λ m. refl) (λ m h. tt) ws x e h
+ticket_with_is n word.Cancelled ws x e h = one_takes a_wide (reply.TicketCancelled n) (phrase word.Ticket (n ∷ []) ++ text word.Cancelled ∷ []) IsKnownReply reply_words (λ m. refl) (λ m h. tt) ws x e h
 ticket_with_is n word.Unbooked ws x e h = none_takes (reply.TicketUnbooked n) (phrase word.Ticket (n ∷ []) ++ text word.Unbooked ∷ []) reply_words refl ws x e
 ticket_with_is n word.No ws x e h = none_takes (reply.TicketNo n) (phrase word.Ticket (n ∷ []) ++ text word.No ∷ []) reply_words refl ws x e
 ticket_with_is n k ws x e h = absurd cc
@@ -92,31 +93,31 @@ started_after_is n (w ∷ ws) x e h =
 
 reply_after_is : (k : Keyword) (ws : List (List ℕ)) (x : Reply × List (List ℕ)) → reply_after k ws ≡ Some x → IsKnownReply x.0 → text k ∷ ws ≡ reply_words x.0 ++ x.1
 unfolding reply_words reply_after
-reply_after_is word.Yes ws x e h = one_takes a_number reply.Yes (text word.Yes ∷ []) IsKnownReply reply_words (λ n. refl) (λ n h. tt) ws x e h
+reply_after_is word.Yes ws x e h = one_takes a_wide reply.Yes (text word.Yes ∷ []) IsKnownReply reply_words (λ n. refl) (λ n h. tt) ws x e h
 reply_after_is word.Booked ws x e h = one_takes a_long reply.Booked (text word.Booked ∷ []) IsKnownReply reply_words (λ t. refl) (λ t h. tt) ws x e h
-reply_after_is word.Again ws x e h = one_takes a_number reply.Again (text word.Again ∷ []) IsKnownReply reply_words (λ n. refl) (λ n h. tt) ws x e h
+reply_after_is word.Again ws x e h = one_takes a_wide reply.Again (text word.Again ∷ []) IsKnownReply reply_words (λ n. refl) (λ n h. tt) ws x e h
 reply_after_is word.Rebooked ws x e h = one_takes a_long reply.Rebooked (text word.Rebooked ∷ []) IsKnownReply reply_words (λ t. refl) (λ t h. tt) ws x e h
 reply_after_is word.No ws x e h = none_takes reply.No (text word.No ∷ []) reply_words refl ws x e
 reply_after_is word.Foreign ws x e h = none_takes reply.Foreign (text word.Foreign ∷ []) reply_words refl ws x e
 reply_after_is word.Draining ws x e h = none_takes reply.Draining (text word.Draining ∷ []) reply_words refl ws x e
 reply_after_is word.Misuse ws x e h = none_takes reply.Misuse (text word.Misuse ∷ []) reply_words refl ws x e
-reply_after_is word.Cancelled ws x e h = one_takes a_number reply.Cancelled (text word.Cancelled ∷ []) IsKnownReply reply_words (λ n. refl) (λ n h. tt) ws x e h
+reply_after_is word.Cancelled ws x e h = one_takes a_wide reply.Cancelled (text word.Cancelled ∷ []) IsKnownReply reply_words (λ n. refl) (λ n h. tt) ws x e h
 reply_after_is word.Unbooked ws x e h = none_takes reply.Unbooked (text word.Unbooked ∷ []) reply_words refl ws x e
 reply_after_is word.Now ws x e h = one_takes a_long reply.Now (text word.Now ∷ []) IsKnownReply reply_words (λ t. refl) (λ t h. tt) ws x e h
-reply_after_is word.Fired ws x e h = two_takes an_item a_number reply.Fired (text word.Fired ∷ []) IsKnownReply reply_words (λ i n. refl) (λ i n h. (h, tt)) ws x e h
+reply_after_is word.Fired ws x e h = two_takes an_item a_wide reply.Fired (text word.Fired ∷ []) IsKnownReply reply_words (λ i n. refl) (λ i n h. (h, tt)) ws x e h
 reply_after_is word.Nothing ws x e h = none_takes reply.Nothing (text word.Nothing ∷ []) reply_words refl ws x e
 reply_after_is word.Ticket ws x e h =
-    let n = bind_some (number_in ws) (λ (n : ℕ × List (List ℕ)). ticket_after n.0 n.1) x e in
-    ap (λ (t : List (List ℕ)). text word.Ticket ∷ t) (number_in_takes ws n.0 n.1) ∙ ticket_after_is n.0.0 n.0.1 x n.2 h
+    let n = bind_some (wide_in ws) (λ (n : ℕ × List (List ℕ)). ticket_after n.0 n.1) x e in
+    ap (λ (t : List (List ℕ)). text word.Ticket ∷ t) (wide_in_takes ws n.0 n.1) ∙ ticket_after_is n.0.0 n.0.1 x n.2 h
 reply_after_is word.Idle ws x e h = none_takes reply.Idle (text word.Idle ∷ []) reply_words refl ws x e
 reply_after_is word.Crowded ws x e h = none_takes reply.Crowded (text word.Crowded ∷ []) reply_words refl ws x e
 reply_after_is word.Done ws x e h = none_takes reply.Done (text word.Done ∷ []) reply_words refl ws x e
-reply_after_is word.Waiting ws x e h = one_takes a_number reply.Waiting (text word.Waiting ∷ []) IsKnownReply reply_words (λ n. refl) (λ n h. tt) ws x e h
+reply_after_is word.Waiting ws x e h = one_takes a_wide reply.Waiting (text word.Waiting ∷ []) IsKnownReply reply_words (λ n. refl) (λ n h. tt) ws x e h
 reply_after_is word.Started ws x e h =
-    let n = bind_some (number_in ws) (λ (n : ℕ × List (List ℕ)). started_after n.0 n.1) x e in
-    ap (λ (t : List (List ℕ)). text word.Started ∷ t) (number_in_takes ws n.0 n.1) ∙ started_after_is n.0.0 n.0.1 x n.2 h
+    let n = bind_some (wide_in ws) (λ (n : ℕ × List (List ℕ)). started_after n.0 n.1) x e in
+    ap (λ (t : List (List ℕ)). text word.Started ∷ t) (wide_in_takes ws n.0 n.1) ∙ started_after_is n.0.0 n.0.1 x n.2 h
 reply_after_is word.Held ws x e h = none_takes reply.Held (text word.Held ∷ []) reply_words refl ws x e
-reply_after_is word.Finished ws x e h = one_takes a_number reply.Finished (text word.Finished ∷ []) IsKnownReply reply_words (λ n. refl) (λ n h. tt) ws x e h
+reply_after_is word.Finished ws x e h = one_takes a_wide reply.Finished (text word.Finished ∷ []) IsKnownReply reply_words (λ n. refl) (λ n h. tt) ws x e h
 reply_after_is word.Slept ws x e h = none_takes reply.Slept (text word.Slept ∷ []) reply_words refl ws x e
 reply_after_is word.Woke ws x e h = none_takes reply.Woke (text word.Woke ∷ []) reply_words refl ws x e
 reply_after_is word.Retired ws x e h = none_takes reply.Retired (text word.Retired ∷ []) reply_words refl ws x e
@@ -133,7 +134,7 @@ reply_takes ws x e h =
     let k = bind_some (keyword_in ws) (λ (k : Keyword × List (List ℕ)). reply_after k.0 k.1) x e in
     keyword_takes ws k.0 k.1 ∙ reply_after_is k.0.0 k.0.1 x k.2 h
 
-pub reply_is_plain : (r : Reply) → IsReply r → are_plain (reply_words r) ≡ true
+pub reply_is_plain : (r : Reply) → (IsReply greatest_number) r → are_plain (reply_words r) ≡ true
 unfolding reply_words
 reply_is_plain (reply.Yes n) h = phrase_is_plain word.Yes (n ∷ []) (omega arith, tt)
 reply_is_plain (reply.Booked t) h = phrase_is_plain word.Booked (t ∷ []) (omega arith, tt)
@@ -171,34 +172,34 @@ reply_is_plain reply.Thawed h = phrase_is_plain word.Thawed [] tt
 reply_is_plain reply.Gone h = phrase_is_plain word.Gone [] tt
 reply_is_plain reply.Timers h = phrase_is_plain word.Timers [] tt
 
-pub reply_is_short : (r : Reply) → IsReply r → size (reply_words r) ≤ 39
+pub reply_is_short : (r : Reply) → (IsReply greatest_number) r → size (reply_words r) ≤ 57
 unfolding reply_words text
-reply_is_short (reply.Yes n) h = omega (arith, number_len n h)
+reply_is_short (reply.Yes n) h = omega (arith, wide_len n h)
 reply_is_short (reply.Booked t) h = omega (arith, long_len t h)
-reply_is_short (reply.Again n) h = omega (arith, number_len n h)
+reply_is_short (reply.Again n) h = omega (arith, wide_len n h)
 reply_is_short (reply.Rebooked t) h = omega (arith, long_len t h)
 reply_is_short reply.No h = omega arith
 reply_is_short reply.Foreign h = omega arith
 reply_is_short reply.Draining h = omega arith
 reply_is_short reply.Misuse h = omega arith
-reply_is_short (reply.Cancelled n) h = omega (arith, number_len n h)
+reply_is_short (reply.Cancelled n) h = omega (arith, wide_len n h)
 reply_is_short reply.Unbooked h = omega arith
 reply_is_short (reply.Now t) h = omega (arith, long_len t h)
-reply_is_short (reply.Fired i n) h = omega (arith, short_len i.0 h.0, number_len n h.1)
+reply_is_short (reply.Fired i n) h = omega (arith, short_len i.0 h.0, wide_len n h.1)
 reply_is_short reply.Nothing h = omega arith
-reply_is_short (reply.Ticket n) h = omega (arith, number_len n h)
-reply_is_short (reply.TicketQueued n) h = omega (arith, number_len n h)
-reply_is_short (reply.TicketCancelled n m) h = omega (arith, number_len n h.0, number_len m h.1)
-reply_is_short (reply.TicketUnbooked n) h = omega (arith, number_len n h)
-reply_is_short (reply.TicketNo n) h = omega (arith, number_len n h)
+reply_is_short (reply.Ticket n) h = omega (arith, wide_len n h)
+reply_is_short (reply.TicketQueued n) h = omega (arith, wide_len n h)
+reply_is_short (reply.TicketCancelled n m) h = omega (arith, wide_len n h.0, wide_len m h.1)
+reply_is_short (reply.TicketUnbooked n) h = omega (arith, wide_len n h)
+reply_is_short (reply.TicketNo n) h = omega (arith, wide_len n h)
 reply_is_short reply.Idle h = omega arith
 reply_is_short reply.Crowded h = omega arith
 reply_is_short reply.Done h = omega arith
-reply_is_short (reply.Waiting n) h = omega (arith, number_len n h)
-reply_is_short (reply.Started n) h = omega (arith, number_len n h)
-reply_is_short (reply.StartedEnlist n x) h = omega (arith, number_len n h.0, byte_len x h.1)
+reply_is_short (reply.Waiting n) h = omega (arith, wide_len n h)
+reply_is_short (reply.Started n) h = omega (arith, wide_len n h)
+reply_is_short (reply.StartedEnlist n x) h = omega (arith, wide_len n h.0, byte_len x h.1)
 reply_is_short reply.Held h = omega arith
-reply_is_short (reply.Finished n) h = omega (arith, number_len n h)
+reply_is_short (reply.Finished n) h = omega (arith, wide_len n h)
 reply_is_short reply.Slept h = omega arith
 reply_is_short reply.Woke h = omega arith
 reply_is_short reply.Retired h = omega arith

@@ -6,10 +6,10 @@ use Rattle.cmwq_model.specs.declared.id.ItemId.{ItemId}
 use Rattle.cmwq_model.specs.declared.id.QueueId.{QueueId}
 use Rattle.cmwq_model.specs.declared.id.CpuId.{CpuId}
 use Rattle.cmwq_model.specs.Ranges.{greatest_byte, greatest_short}
-use Rattle.cmwq_text.specs.Words.{◌>>=◌, none, one, two, three, four, byte_in, number_in, long_in}
+use Rattle.cmwq_text.specs.Words.{◌>>=◌, none, one, two, three, four, byte_in, number_in, wide_in, long_in}
 use Rattle.cmwq_text.specs.IdText.{item_in, queue_in, cpu_in}
 use Rattle.cmwq_text.proofs.Steps.{bind_some}
-use Rattle.cmwq_text.proofs.IdLaws.{item_takes, queue_takes, cpu_takes, number_in_takes, long_in_takes, byte_in_takes}
+use Rattle.cmwq_text.proofs.IdLaws.{item_takes, queue_takes, cpu_takes, number_in_takes, wide_in_takes, long_in_takes, byte_in_takes}
 
 -- a reader of one word, how its values are spelled, and of which values it is said
 pub record Token (A : Type 0) : Type 1 where
@@ -29,6 +29,9 @@ a_cpu = record { read = cpu_in; spell = λ c. decimal c.0; IsKnown = λ c. c.0 <
 
 abbrev pub a_number : Token ℕ
 a_number = record { read = number_in; spell = decimal; IsKnown = λ _. Unit {0}; takes = λ ws x e _. number_in_takes ws x e }
+
+abbrev pub a_wide : Token ℕ
+a_wide = record { read = wide_in; spell = decimal; IsKnown = λ _. Unit {0}; takes = λ ws x e _. wide_in_takes ws x e }
 
 abbrev pub a_long : Token ℕ
 a_long = record { read = long_in; spell = decimal; IsKnown = λ _. Unit {0}; takes = λ ws x e _. long_in_takes ws x e }

@@ -16,23 +16,25 @@ use Rattle.cmwq_model.specs.declared.shape.QueueShape.{QueueShape}
 use Rattle.cmwq_model.specs.Layout.{are_counts, is_between, is_queue}
 use Rattle.cmwq_text.specs.declared.shape.Flags.{Flags}
 use Rattle.cmwq_text.specs.declared.shape.QueueLine.{QueueLine}
-use Rattle.cmwq_text.specs.Words.{◌>>=◌, words_of, line_text, is_end, after, word_in, byte_in, short_in, number_in}
+use Rattle.cmwq_text.specs.Words.{◌>>=◌, words_of, line_text, is_end, after, word_in, byte_in, short_in, number_in, wide_in}
 use Rattle.cmwq_text.specs.IdText.{who_text, pool_letter}
 use Rattle.cmwq_text.specs.CallText.{call_words, call_text}
 use Rattle.cmwq_text.specs.ReplyText.{reply_words}
 use Rattle.cmwq_text.specs.EntryText.{entry_words, entry_text}
 use Rattle.cmwq_text.specs.ShapeText.{counts_words, counts_text, counts_of, flags, flags_in, flags_text, all_flags, flags_of, queue_words, queue_text, queue_line_of, queue_with, width_taken, queue_of_calls, queue_of_history}
+use Rattle.cmwq_text.specs.Numbers.{greatest_number}
 use Rattle.cmwq_model.specs.Ranges.{IsWho, IsCall, IsEntry}
 use Rattle.cmwq_text.specs.Laws.{IsLineOf, CountsReadAgain, QueuesReadAgain, CountsSpelledSo, QueuesSpelledSo, LinesAreShort}
 use Rattle.cmwq_text.proofs.Steps.{bind_some, chosen, both}
 use Rattle.cmwq_text.proofs.NumberLaws.{short_again}
 use Rattle.cmwq_text.proofs.KeywordLaws.{found_passes}
 use Rattle.cmwq_text.proofs.WordLaws.{is_plain, are_plain, and_true, is_plain-decimal, after_takes, word_takes}
-use Rattle.cmwq_text.proofs.IdLaws.{byte_in_again, number_in_again, byte_in_takes, short_in_takes, number_in_takes}
+use Rattle.cmwq_text.proofs.IdLaws.{byte_in_again, number_in_again, wide_in_again, byte_in_takes, short_in_takes, number_in_takes, wide_in_takes}
 use Rattle.cmwq_text.proofs.CallLaws.{call_is_short}
 use Rattle.cmwq_text.proofs.ReplyLaws.{reply_is_short}
-use Rattle.cmwq_text.proofs.PhraseLaws.{numbers_are_plain, size, size-append, line_len, byte_len, number_len}
+use Rattle.cmwq_text.proofs.PhraseLaws.{numbers_are_plain, size, size-append, line_len, byte_len, number_len, wide_len}
 use Rattle.cmwq_text.proofs.LineLaws.{line_words, line_is, no_more, counts_are_small}
+use Rattle.cmwq_text.proofs.EndLaws.{end_is_short}
 
 short_in_again : (n : ℕ) (ws : List (List ℕ)) → n ≤ 65535 → short_in (decimal n ∷ ws) ≡ Some (n, ws)
 short_in_again n ws le = rw (short_again n le) refl
@@ -41,7 +43,7 @@ abbrev counts_tested : Counts → List (List ℕ) → Option Counts
 counts_tested n ws = cond (is_end ws && are_counts n.cpus n.workers n.callers n.items n.room) (Some n) None
 
 abbrev counts_after_items : ℕ → ℕ → ℕ → ℕ × List (List ℕ) → Option Counts
-counts_after_items cpus workers callers i = number_in i.1 >>= λ room. counts_tested (record { cpus = cpus; workers = workers; callers = callers; items = i.0; room = room.0 }) room.1
+counts_after_items cpus workers callers i = wide_in i.1 >>= λ room. counts_tested (record { cpus = cpus; workers = workers; callers = callers; items = i.0; room = room.0 }) room.1
 
 abbrev counts_after_callers : ℕ → ℕ → ℕ × List (List ℕ) → Option Counts
 counts_after_callers cpus workers c = short_in c.1 >>= counts_after_items cpus workers c.0
@@ -52,7 +54,7 @@ counts_after_workers cpus w = byte_in w.1 >>= counts_after_callers cpus w.0
 abbrev counts_after_cpus : ℕ × List (List ℕ) → Option Counts
 counts_after_cpus c = byte_in c.1 >>= counts_after_workers c.0
 
-abbrev counts_from : List (List ℕ) → Option Counts
+abbrev pub counts_from : List (List ℕ) → Option Counts
 counts_from ws = after (codes "shape") ws >>= λ rest. byte_in rest >>= counts_after_cpus
 
 pub counts_are_plain : (n : Counts) → IsTrue (are_counts n.cpus n.workers n.callers n.items n.room) → are_plain (counts_words n) ≡ true
@@ -72,7 +74,7 @@ counts_read_again n line inside is =
       byte_in_again n.workers (decimal n.callers ∷ decimal n.items ∷ decimal n.room ∷ []) (omega arith),
       byte_in_again n.callers (decimal n.items ∷ decimal n.room ∷ []) (omega arith),
       short_in_again n.items (decimal n.room ∷ []) (omega arith),
-      number_in_again n.room [] (omega arith),
+      wide_in_again n.room [] (omega arith),
       inside,
     ) refl
 
@@ -87,7 +89,7 @@ counts_spelled_so n line is =
     let workers = bind_some (byte_in cpus.0.1) (counts_after_workers cpus.0.0) n cpus.2 in
     let callers = bind_some (byte_in workers.0.1) (counts_after_callers cpus.0.0 workers.0.0) n workers.2 in
     let items = bind_some (short_in callers.0.1) (counts_after_items cpus.0.0 workers.0.0 callers.0.0) n callers.2 in
-    let room = bind_some (number_in items.0.1) (λ (r : ℕ × List (List ℕ)). counts_tested (record { cpus = cpus.0.0; workers = workers.0.0; callers = callers.0.0; items = items.0.0; room = r.0 }) r.1) n items.2 in
+    let room = bind_some (wide_in items.0.1) (λ (r : ℕ × List (List ℕ)). counts_tested (record { cpus = cpus.0.0; workers = workers.0.0; callers = callers.0.0; items = items.0.0; room = r.0 }) r.1) n items.2 in
     let made : Counts = record { cpus = cpus.0.0; workers = workers.0.0; callers = callers.0.0; items = items.0.0; room = room.0.0 } in
     let found = chosen (is_end room.0.1 && are_counts made.cpus made.workers made.callers made.items made.room) (Some made) n room.2 in
     let tests = both (is_end room.0.1) (are_counts made.cpus made.workers made.callers made.items made.room) found.0 in
@@ -98,7 +100,7 @@ counts_spelled_so n line is =
     (byte_in_takes cpus.0.1 workers.0 workers.1 (omega arith))
     (byte_in_takes workers.0.1 callers.0 callers.1 (omega arith))
     (short_in_takes callers.0.1 items.0 items.1 (omega arith))
-    (number_in_takes items.0.1 room.0 room.1)
+    (wide_in_takes items.0.1 room.0 room.1)
     (no_more room.0.1 tests.0) in
     line_is line (counts_words n) (words ∙ ap counts_words (same_Some _ _ found.1))
 
@@ -189,29 +191,38 @@ queues_spelled_so q line is =
     let words : words_of line ≡ queue_words (queue_with l.0.max_active l.0.flags) = queue_line_takes line l.0 l.1 in
     line_is line (queue_words q) (words ∙ ap queue_words (same_Some _ _ found.1))
 
+-- in a file of calls it is spelled with the width that stands there, which is taken as another one where it is 0 or more than 512
+pub queues_of_calls_spelled_so : (q : QueueShape) (line : List ℕ) → queue_of_calls line ≡ Some q
+    → (l : QueueLine) × (queue_with (width_taken l.max_active) l.flags ≡ q) × IsLineOf (queue_text (queue_with l.max_active l.flags)) line
+unfolding queue_text queue_of_calls
+queues_of_calls_spelled_so q line is =
+    let l = bind_some (queue_line_of line) (λ (l : QueueLine). Some (queue_with (width_taken l.max_active) l.flags)) q is in
+    let words : words_of line ≡ queue_words (queue_with l.0.max_active l.0.flags) = queue_line_takes line l.0 l.1 in
+    (l.0, same_Some _ _ l.2, line_is line (queue_words (queue_with l.0.max_active l.0.flags)) words)
+
 -- ---- how long lines are
 
 who_is_short : (who : Who) → IsWho who → length (who_text who) ≤ 8
 who_is_short (Caller c) h = omega (arith, byte_len c.0 h)
 who_is_short (Worker w) h = omega (arith, byte_len w.pool.cpu.0 h.0, byte_len w.index h.1, length-append (decimal w.pool.cpu.0) (pool_letter w.pool.high ∷ decimal w.index))
 
-pub call_line_is_short : (who : Who) (c : Call) → IsWho who → IsCall c → length (call_text who c) ≤ 121
+pub call_line_is_short : (who : Who) (c : Call) → IsWho who → (IsCall greatest_number) c → length (call_text who c) ≤ 121
 unfolding call_text
 call_line_is_short who c h k = omega (arith, line_len (who_text who) (call_words c), who_is_short who h, call_is_short c k)
 
-pub entry_line_is_short : (e : Entry) → IsEntry e → length (entry_text e) ≤ 121
+pub entry_line_is_short : (e : Entry) → (IsEntry greatest_number) e → length (entry_text e) ≤ 121
 unfolding entry_text
 entry_line_is_short e h =
     let answer : List (List ℕ) = (61 ∷ []) ∷ reply_words e.reply in
     let len : length (line_text (entry_words e)) ≡ size (entry_words e) = line_len (who_text e.who) (decimal e.serial ∷ (call_words e.call ++ answer)) in
-    omega (arith, len, size-append (call_words e.call) answer, who_is_short e.who h.who, number_len e.serial h.serial, call_is_short e.call h.call, reply_is_short e.reply h.reply)
+    omega (arith, len, size-append (call_words e.call) answer, who_is_short e.who h.who, wide_len e.serial h.serial, call_is_short e.call h.call, reply_is_short e.reply h.reply)
 
 pub counts_line_is_short : (n : Counts) → IsTrue (are_counts n.cpus n.workers n.callers n.items n.room) → length (counts_text n) ≤ 121
 unfolding counts_text
 counts_line_is_short n inside =
     let small = counts_are_small n.cpus n.workers n.callers n.items n.room inside in
     let len : length (line_text (counts_words n)) ≡ size (counts_words n) = line_len (codes "shape") (decimal n.cpus ∷ decimal n.workers ∷ decimal n.callers ∷ decimal n.items ∷ decimal n.room ∷ []) in
-    omega (arith, len, number_len n.cpus (omega arith), number_len n.workers (omega arith), number_len n.callers (omega arith), number_len n.items (omega arith), number_len n.room (omega arith))
+    omega (arith, len, number_len n.cpus (omega arith), number_len n.workers (omega arith), number_len n.callers (omega arith), number_len n.items (omega arith), wide_len n.room (omega arith))
 
 flags_are_short : (high intensive freezable : Bool) → length (flags_text (flags high intensive freezable)) ≤ 3
 flags_are_short true true true = omega arith
@@ -232,4 +243,4 @@ queue_line_is_short q inside =
     omega (arith, len, number_len q.max_active (omega arith), flags_are_short q.high q.intensive q.freezable)
 
 pub lines_are_short : LinesAreShort
-lines_are_short = (call_line_is_short, entry_line_is_short, counts_line_is_short, queue_line_is_short)
+lines_are_short = (call_line_is_short, entry_line_is_short, counts_line_is_short, queue_line_is_short, end_is_short)

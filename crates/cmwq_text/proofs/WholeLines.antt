@@ -1,5 +1,5 @@
 -- Lines that are spelled end at their line feed and nowhere before, and lines of queues begin as no others do.
-use Rattle.std.proofs.Common.{◌≡◌, ℕ, zero, suc, ◌<◌, ◌≤◌, Bool, true, false, ◌&&◌, List, [], ◌∷◌, ◌++◌, length, get_or, leb, ltb, eqb, refl, ap, ◌∙◌, arith}
+use Rattle.std.proofs.Common.{◌≡◌, ℕ, zero, suc, ◌<◌, ◌≤◌, Bool, true, false, ◌&&◌, List, [], ◌∷◌, ◌++◌, length, get_or, leb, ltb, eqb, None, refl, ap, ◌∙◌, arith}
 use Rattle.std.specs.Prelude.{codes, IsTrue, ◌==◌}
 use Rattle.std.specs.Char.{is_ascii_digit}
 use Rattle.std.specs.Fmt.{decimal}
@@ -16,22 +16,26 @@ use Rattle.cmwq_model.specs.declared.entry.Entry.{Entry}
 use Rattle.cmwq_model.specs.declared.shape.Counts.{Counts}
 use Rattle.cmwq_model.specs.declared.shape.QueueShape.{QueueShape}
 use Rattle.cmwq_model.specs.Layout.{Layout, are_counts, is_queue, is_callers, is_workers, fits, may_make, has_numbers}
-use Rattle.cmwq_text.specs.Words.{joined, line_text, spaced}
-use Rattle.cmwq_text.specs.IdText.{who_text, pool_letter}
+use Rattle.cmwq_text.specs.Words.{words_of, joined, line_text, spaced}
+use Rattle.cmwq_text.specs.IdText.{who_text, pool_letter, who_of}
 use Rattle.cmwq_text.specs.CallText.{call_words, call_text, is_of_kind, sets_some, may_say}
 use Rattle.cmwq_text.specs.ReplyText.{reply_words}
-use Rattle.cmwq_text.specs.EntryText.{entry_words, entry_text}
+use Rattle.cmwq_text.specs.EntryText.{entry_words, entry_text, entry_of}
+use Rattle.cmwq_text.specs.EndText.{end_words, end_text}
 use Rattle.cmwq_text.specs.HistoryText.{version_text}
-use Rattle.cmwq_text.specs.ShapeText.{counts_words, counts_text, queue_words, queue_text, begins_queue}
+use Rattle.cmwq_text.specs.Formats.{counts_of_format, entry_of_format}
+use Rattle.cmwq_text.specs.ShapeText.{counts_words, counts_text, counts_of, queue_words, queue_text, begins_queue}
+use Rattle.cmwq_text.specs.Numbers.{greatest_number}
 use Rattle.cmwq_model.specs.Ranges.{IsWho, IsCall, IsEntry}
 use Rattle.cmwq_text.specs.Laws.{IsLineOf}
 use Rattle.cmwq_text.proofs.Steps.{both}
 use Rattle.cmwq_text.proofs.NumberLaws.{own}
 use Rattle.cmwq_text.proofs.Spacing.{joined_spaced}
-use Rattle.cmwq_text.proofs.WordLaws.{are_plain, and_true}
+use Rattle.cmwq_text.proofs.WordLaws.{are_plain, and_true, words_again}
 use Rattle.cmwq_text.proofs.LineLaws.{has_no_feed, joined_has_none}
-use Rattle.cmwq_text.proofs.EntryLaws.{call_line_is_plain, entry_is_plain}
-use Rattle.cmwq_text.proofs.ShapeLaws.{counts_are_plain, queue_is_plain, call_line_is_short, entry_line_is_short, counts_line_is_short, queue_line_is_short}
+use Rattle.cmwq_text.proofs.EntryLaws.{call_line_is_plain, entry_is_plain, entry_from}
+use Rattle.cmwq_text.proofs.EndLaws.{end_is_plain, end_is_short}
+use Rattle.cmwq_text.proofs.ShapeLaws.{counts_from, counts_are_plain, queue_is_plain, call_line_is_short, entry_line_is_short, counts_line_is_short, queue_line_is_short}
 
 -- the text is the line and its line feed, no other stands inside it, and it is no longer than a line may be
 pub record IsWholeLine (text line : List ℕ) : Type 0 where
@@ -55,6 +59,9 @@ whole_line words plain short =
 pub whole_version : IsWholeLine (version_text 2) (codes "history 2")
 whole_version = record { is = refl; one = one_feed (codes "history 2") refl; short = omega arith }
 
+pub whole_long_version : IsWholeLine (version_text 3) (codes "history 3")
+whole_long_version = record { is = refl; one = one_feed (codes "history 3") refl; short = omega arith }
+
 pub whole_counts : (n : Counts) → IsTrue (are_counts n.cpus n.workers n.callers n.items n.room) → IsWholeLine (counts_text n) (joined (counts_words n))
 unfolding counts_text
 whole_counts n inside = whole_line (counts_words n) (counts_are_plain n inside) (counts_line_is_short n inside)
@@ -65,13 +72,17 @@ whole_queue q inside =
     let small : q.max_active ≤ 512 = leb-true q.max_active 512 (both (leb 1 q.max_active) (leb q.max_active 512) inside).1 in
     whole_line (queue_words q) (queue_is_plain q small) (queue_line_is_short q inside)
 
-pub whole_call : (who : Who) (c : Call) → IsWho who → IsCall c → IsWholeLine (call_text who c) (joined (who_text who ∷ call_words c))
+pub whole_call : (who : Who) (c : Call) → IsWho who → (IsCall greatest_number) c → IsWholeLine (call_text who c) (joined (who_text who ∷ call_words c))
 unfolding call_text
 whole_call who c h k = whole_line (who_text who ∷ call_words c) (call_line_is_plain who c h k) (call_line_is_short who c h k)
 
-pub whole_entry : (e : Entry) → IsEntry e → IsWholeLine (entry_text e) (joined (entry_words e))
+pub whole_entry : (e : Entry) → (IsEntry greatest_number) e → IsWholeLine (entry_text e) (joined (entry_words e))
 unfolding entry_text
 whole_entry e h = whole_line (entry_words e) (entry_is_plain e h) (entry_line_is_short e h)
+
+pub whole_end : (n : ℕ) → n ≤ greatest_number → IsWholeLine (end_text n) (joined (end_words n))
+unfolding end_text
+whole_end n le = whole_line (end_words n) (end_is_plain n le) (end_is_short n le)
 
 -- ---- how lines begin
 
@@ -92,8 +103,32 @@ who_begins (Worker w) rest h = worker_begins (decimal w.pool.cpu.0) w.pool.high 
 pub who_begins_no_queue : (who : Who) (words : List (List ℕ)) → IsWho who → begins_queue (joined (who_text who ∷ words)) ≡ false
 who_begins_no_queue who words h = ap begins_queue (joined_spaced (who_text who) words) ∙ who_begins who (spaced words) h
 
-pub entry_begins : (e : Entry) → IsEntry e → begins_queue (joined (entry_words e)) ≡ false
+pub entry_begins : (e : Entry) → (IsEntry greatest_number) e → begins_queue (joined (entry_words e)) ≡ false
 entry_begins e h = who_begins_no_queue e.who (decimal e.serial ∷ (call_words e.call ++ codes "=" ∷ reply_words e.reply)) h.who
+
+pub end_begins : (n : ℕ) → begins_queue (joined (end_words n)) ≡ false
+end_begins n = refl
+
+-- ---- the last line is no shape line and no line of an entry
+
+end_words_of : (n : ℕ) → n ≤ greatest_number → words_of (joined (end_words n)) ≡ end_words n
+end_words_of n le = words_again (codes "end") (decimal n ∷ []) (end_is_plain n le)
+
+end_is_no_counts : (n : ℕ) → n ≤ greatest_number → counts_of (joined (end_words n)) ≡ None
+unfolding counts_of
+end_is_no_counts n le = ap counts_from (end_words_of n le)
+
+pub end_is_no_shape : (v n : ℕ) → n ≤ greatest_number → counts_of_format v (joined (end_words n)) ≡ None
+unfolding counts_of_format
+end_is_no_shape v n le = rw (end_is_no_counts n le) refl
+
+end_of_no_entry : (n : ℕ) → n ≤ greatest_number → entry_of (joined (end_words n)) ≡ None
+unfolding entry_of who_of
+end_of_no_entry n le = ap entry_from (end_words_of n le)
+
+pub end_is_no_entry : (v n : ℕ) → n ≤ greatest_number → entry_of_format v (joined (end_words n)) ≡ None
+unfolding entry_of_format
+end_is_no_entry v n le = rw (end_of_no_entry n le) refl
 
 -- ---- what fits a shape may be said
 

@@ -7,7 +7,7 @@ use Rattle.cmwq_model.specs.declared.call.Call.TheVariants as call
 use Rattle.cmwq_model.specs.Layout.{is_callers, is_workers}
 use Rattle.cmwq_text.specs.declared.keyword.Keyword.{Keyword}
 use Rattle.cmwq_text.specs.declared.keyword.Keyword.TheVariants as word
-use Rattle.cmwq_text.specs.Words.{◌>>=◌, words_of, line_text, is_end, number_in, none, one, two, three, four}
+use Rattle.cmwq_text.specs.Words.{◌>>=◌, words_of, line_text, is_end, number_in, wide_in, none, one, two, three, four}
 use Rattle.cmwq_text.specs.Keywords.{text, keyword_in}
 use Rattle.cmwq_text.specs.IdText.{who_text, item_in, queue_in, cpu_in, who_in}
 
@@ -55,7 +55,7 @@ call_after word.Drain = one queue_in call.Drain
 call_after word.FlushItem = one item_in call.FlushItem
 call_after word.FlushDelayed = one item_in call.FlushDelayed
 call_after word.CancelSync = one item_in call.CancelSync
-call_after word.End = one number_in call.End
+call_after word.End = one wide_in call.End
 call_after word.Take = none call.Take
 call_after word.Finish = none call.Finish
 call_after word.Sleep = none call.Sleep

@@ -1,7 +1,7 @@
 -- Entries in a text: `<who> <serial> <call> = <reply>`.
 use Rattle.std.specs.Prelude.{ℕ, ◌&&◌, if◌then◌else◌, List, ◌∷◌, ◌++◌, Option, Some, None, codes, decimal}
 use Rattle.cmwq_model.specs.declared.entry.Entry.{Entry}
-use Rattle.cmwq_text.specs.Words.{◌>>=◌, words_of, line_text, is_end, after, number_in}
+use Rattle.cmwq_text.specs.Words.{◌>>=◌, words_of, line_text, is_end, after, wide_in}
 use Rattle.cmwq_text.specs.IdText.{who_text, who_in}
 use Rattle.cmwq_text.specs.CallText.{call_words, call_in, may_say}
 use Rattle.cmwq_text.specs.ReplyText.{reply_words, reply_in}
@@ -17,7 +17,7 @@ entry_text e = line_text (entry_words e)
 unfoldable pub entry_of : List ℕ → Option Entry
 entry_of line = do
   who ← who_in (words_of line)
-  serial ← number_in who.1
+  serial ← wide_in who.1
   call ← call_in serial.1
   answer ← after (codes "=") call.1
   reply ← reply_in answer

@@ -1,20 +1,52 @@
--- The two formats of histories. A history of format 2 begins with the line `history 2`, and has the whole grammar. One of format 1 has no such
--- line, and neither freezable queues, nor set_max, freeze, thaw and destroy, nor the replies that came with them.
-use Rattle.std.specs.Prelude.{ℕ, Bool, true, false, not, ◌&&◌, ◌||◌, ◌==◌, if◌then◌else◌, List, Option, Some, None, codes}
+-- The three formats of histories. A history of format 2 begins with the line `history 2`, and has the whole grammar. One of format 1 has no such
+-- line, and neither freezable queues, nor set_max, freeze, thaw and destroy, nor the replies that came with them. One of format 3 begins with the
+-- line `history 3`, and is as one of format 2 but for its limits, those of its lines, its room and its numbers, and for its last line, which says how
+-- many entries stand before it.
+use Rattle.std.specs.Prelude.{ℕ, Bool, true, false, not, ◌&&◌, ◌||◌, ◌==◌, if◌then◌else◌, List, Option, Some, None, codes, nat_le}
 use Rattle.std.specs.Str.{bytes_eq}
 use Rattle.cmwq_model.specs.declared.call.Call.{Call}
 use Rattle.cmwq_model.specs.declared.call.Call.TheVariants as call
 use Rattle.cmwq_model.specs.declared.reply.Reply.{Reply}
 use Rattle.cmwq_model.specs.declared.reply.Reply.TheVariants as reply
 use Rattle.cmwq_model.specs.declared.entry.Entry.{Entry}
+use Rattle.cmwq_model.specs.declared.id.Who.{Who}
+use Rattle.cmwq_model.specs.declared.shape.Counts.{Counts}
+use Rattle.cmwq_model.specs.Layout.{most_room}
+use Rattle.cmwq_model.specs.Ranges.{greatest}
+use Rattle.cmwq_model.specs.Room.{most_time}
+use Rattle.cmwq_text.specs.CallText.{call_of}
 use Rattle.cmwq_model.specs.declared.shape.QueueShape.{QueueShape}
 use Rattle.cmwq_text.specs.Words.{◌>>=◌}
-use Rattle.cmwq_text.specs.ShapeText.{queue_of_history}
+use Rattle.cmwq_text.specs.ShapeText.{counts_of, queue_of_history}
 use Rattle.cmwq_text.specs.EntryText.{entry_of}
 
--- the first line of a history of format 2, without its line feed
-abbrev pub is_version_line : List ℕ → Bool
-is_version_line line = bytes_eq line (codes "history 2")
+-- the first line of a history of format 2 or 3, without its line feed
+abbrev pub version_name : ℕ → List ℕ
+version_name version = if version == 3 then codes "history 3" else codes "history 2"
+
+abbrev pub is_version_line : ℕ → List ℕ → Bool
+is_version_line version line = bytes_eq line (version_name version)
+
+-- the limits of formats 1 and 2 and of files of calls: of the lines behind the queues, and of the room
+abbrev pub old_lines : ℕ
+old_lines = 1000000
+
+abbrev pub old_room : ℕ
+old_room = 1000000
+
+-- the lines of format 3: 2 ^ 62 - 10000, as many entries as a judge takes. Its room is the greatest that a shape has.
+abbrev pub most_lines : ℕ
+most_lines = 4611686018427377904
+
+-- what an older format has at most, and a newer one
+unfoldable pub by_age : ℕ → ℕ → ℕ → ℕ
+by_age old new version = if nat_le 3 version then new else old
+
+abbrev pub line_limit : ℕ → ℕ
+line_limit version = by_age old_lines most_lines version
+
+abbrev pub room_limit : ℕ → ℕ
+room_limit version = by_age old_room most_room version
 
 abbrev pub is_old_call : Call → Bool
 is_old_call (call.SetMax q n) = false
@@ -31,14 +63,58 @@ is_old_reply reply.Gone = false
 is_old_reply reply.Timers = false
 is_old_reply r = true
 
--- whether a history of this format may have such a queue, and such an entry
+-- the numbers of entries in formats 1 and 2 and in files of calls
+abbrev pub is_short : ℕ → Bool
+is_short n = nat_le n greatest
+
+abbrev pub is_short_call : Call → Bool
+is_short_call (call.End ticket) = is_short ticket
+is_short_call c = true
+
+abbrev pub is_short_reply : Reply → Bool
+is_short_reply (reply.Yes n) = is_short n
+is_short_reply (reply.Again n) = is_short n
+is_short_reply (reply.Cancelled n) = is_short n
+is_short_reply (reply.Ticket n) = is_short n
+is_short_reply (reply.TicketQueued n) = is_short n
+is_short_reply (reply.TicketUnbooked n) = is_short n
+is_short_reply (reply.TicketNo n) = is_short n
+is_short_reply (reply.Waiting n) = is_short n
+is_short_reply (reply.Started n) = is_short n
+is_short_reply (reply.Finished n) = is_short n
+is_short_reply (reply.Fired i n) = is_short n
+is_short_reply (reply.TicketCancelled n m) = is_short n && is_short m
+is_short_reply (reply.StartedEnlist n x) = is_short n
+is_short_reply r = true
+
+abbrev pub is_short_entry : Entry → Bool
+is_short_entry e = is_short e.serial && is_short_call e.call && is_short_reply e.reply
+
+-- a time that a runtime reaches
+abbrev pub is_timely : Reply → Bool
+is_timely (reply.Now time) = nat_le time most_time
+is_timely r = true
+
+-- whether a history of this format has a last line
+abbrev pub needs_end : ℕ → Bool
+needs_end version = nat_le 3 version
+
+-- whether a history of this format may have such a queue, and such an entry; format 3 has numbers beyond 4,294,967,295, and no time beyond 2 ^ 62
 abbrev pub allows_queue : ℕ → QueueShape → Bool
-allows_queue version q = version == 2 || not q.freezable
+allows_queue version q = nat_le 2 version || not q.freezable
 
 abbrev pub allows_entry : ℕ → Entry → Bool
-allows_entry version e = version == 2 || (is_old_call e.call && is_old_reply e.reply)
+allows_entry version e = if nat_le 3 version then is_timely e.reply else (is_short_entry e && (nat_le 2 version || (is_old_call e.call && is_old_reply e.reply)))
 
--- the queue and the entry of a line of such a history
+abbrev pub allows_counts : ℕ → Counts → Bool
+allows_counts version c = nat_le c.room (room_limit version)
+
+-- the counts, the queue and the entry of a line of such a history
+unfoldable pub counts_of_format : ℕ → List ℕ → Option Counts
+counts_of_format version line = do
+  c ← counts_of line
+  if allows_counts version c then Some c else None
+
 unfoldable pub queue_of_format : ℕ → List ℕ → Option QueueShape
 queue_of_format version line = do
   q ← queue_of_history line
@@ -48,3 +124,9 @@ unfoldable pub entry_of_format : ℕ → List ℕ → Option Entry
 entry_of_format version line = do
   e ← entry_of line
   if allows_entry version e then Some e else None
+
+-- the call of a line in a file of calls
+unfoldable pub short_call_of : List ℕ → Option (Who × Call)
+short_call_of line = do
+  x ← call_of line
+  if is_short_call x.1 then Some x else None

@@ -1,6 +1,6 @@
--- The whole text of a history with its shape: in format 2 the line `history 2`, then the shape line, a line for each queue, a line for each
--- entry from the oldest on. That of calls with their shape has a line for each call in place of the entries, and no line of a format.
-use Rattle.std.specs.Prelude.{ℕ, ◌==◌, if◌then◌else◌, List, [], ◌∷◌, ◌++◌, codes}
+-- The whole text of a history with its shape: in format 2 the line `history 2` and in format 3 `history 3`, then the shape line, a line for each queue, a line for each
+-- entry from the oldest on, and in format 3 the line `end <entries>`. That of calls with their shape has a line for each call in place of the entries, and no line of a format.
+use Rattle.std.specs.Prelude.{ℕ, if◌then◌else◌, List, [], ◌∷◌, ◌++◌, length, nat_le}
 use Rattle.std.specs.List.{flat_map}
 use Rattle.cmwq_model.specs.declared.id.Who.{Who}
 use Rattle.cmwq_model.specs.declared.call.Call.{Call}
@@ -9,6 +9,8 @@ use Rattle.cmwq_model.specs.declared.shape.Counts.{Counts}
 use Rattle.cmwq_model.specs.Layout.{Layout}
 use Rattle.cmwq_text.specs.CallText.{call_text}
 use Rattle.cmwq_text.specs.EntryText.{entry_text}
+use Rattle.cmwq_text.specs.EndText.{end_text}
+use Rattle.cmwq_text.specs.Formats.{version_name, needs_end}
 use Rattle.cmwq_text.specs.ShapeText.{counts_text, queue_text}
 
 abbrev pub counts_in : Layout → Counts
@@ -21,16 +23,24 @@ abbrev pub entries_text : List Entry → List ℕ
 entries_text entries = flat_map entry_text entries
 
 abbrev pub version_text : ℕ → List ℕ
-version_text version = if version == 2 then codes "history 2" ++ 10 ∷ [] else []
+version_text version = if nat_le 2 version then version_name version ++ 10 ∷ [] else []
 
 -- what stands before the entries
 abbrev pub head_text : ℕ → Layout → List ℕ
 head_text version s = version_text version ++ shape_text s
 
-abbrev pub text_of_format : ℕ → Layout → List Entry → List ℕ
-text_of_format version s entries = head_text version s ++ entries_text entries
+-- what stands before the last line of its format
+abbrev pub body_text : ℕ → Layout → List Entry → List ℕ
+body_text version s entries = head_text version s ++ entries_text entries
 
--- as it is written
+-- the last line of a history with so many entries, or nothing in a format without one
+abbrev pub last_text : ℕ → ℕ → List ℕ
+last_text version entries = if needs_end version then end_text entries else []
+
+abbrev pub text_of_format : ℕ → Layout → List Entry → List ℕ
+text_of_format version s entries = body_text version s entries ++ last_text version (length entries)
+
+-- as steps are written
 abbrev pub history_text : Layout → List Entry → List ℕ
 history_text s entries = text_of_format 2 s entries
 

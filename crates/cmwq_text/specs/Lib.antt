@@ -7,6 +7,7 @@ pub mod ReplyText
 pub mod EntryText
 pub mod ShapeText
 pub mod Formats
+pub mod EndText
 pub mod HistoryText
 pub mod VerdictText
 pub mod Laws

@@ -4,6 +4,10 @@ use Rattle.std.specs.Str.{all_ascii_digits}
 use Rattle.std.specs.Char.{is_ascii_digit}
 use Rattle.cmwq_model.specs.Ranges.{greatest_byte, greatest_short, greatest}
 
+-- the greatest number of an entry that a text of any format has: its 19 digits keep each line within 120 bytes
+abbrev pub greatest_number : ℕ
+greatest_number = 9223372036854775807
+
 -- what digits stand for, behind digits that stand for n
 abbrev pub value_from : ℕ → List ℕ → ℕ
 value_from n [] = n

@@ -4,7 +4,7 @@ use Rattle.cmwq_model.specs.declared.reply.Reply.{Reply}
 use Rattle.cmwq_model.specs.declared.reply.Reply.TheVariants as reply
 use Rattle.cmwq_text.specs.declared.keyword.Keyword.{Keyword}
 use Rattle.cmwq_text.specs.declared.keyword.Keyword.TheVariants as word
-use Rattle.cmwq_text.specs.Words.{◌>>=◌, byte_in, number_in, long_in, none, one, two}
+use Rattle.cmwq_text.specs.Words.{◌>>=◌, byte_in, number_in, wide_in, long_in, none, one, two}
 use Rattle.cmwq_text.specs.Keywords.{keyword_in}
 use Rattle.cmwq_text.specs.IdText.{item_in}
 use Rattle.cmwq_text.specs.CallText.{phrase}
@@ -49,7 +49,7 @@ reply_words reply.Timers = phrase word.Timers []
 -- after `ticket <k>` comes nothing, or a second keyword
 unfoldable pub ticket_with : ℕ → Keyword → List (List ℕ) → Option (Reply × List (List ℕ))
 ticket_with k word.Queued = none (reply.TicketQueued k)
-ticket_with k word.Cancelled = one number_in (reply.TicketCancelled k)
+ticket_with k word.Cancelled = one wide_in (reply.TicketCancelled k)
 ticket_with k word.Unbooked = none (reply.TicketUnbooked k)
 ticket_with k word.No = none (reply.TicketNo k)
 ticket_with k keyword = λ words. None
@@ -73,27 +73,27 @@ started_after n (first ∷ words) = do
 
 -- the reply after its keyword
 unfoldable pub reply_after : Keyword → List (List ℕ) → Option (Reply × List (List ℕ))
-reply_after word.Yes = one number_in reply.Yes
+reply_after word.Yes = one wide_in reply.Yes
 reply_after word.Booked = one long_in reply.Booked
-reply_after word.Again = one number_in reply.Again
+reply_after word.Again = one wide_in reply.Again
 reply_after word.Rebooked = one long_in reply.Rebooked
 reply_after word.No = none reply.No
 reply_after word.Foreign = none reply.Foreign
 reply_after word.Draining = none reply.Draining
 reply_after word.Misuse = none reply.Misuse
-reply_after word.Cancelled = one number_in reply.Cancelled
+reply_after word.Cancelled = one wide_in reply.Cancelled
 reply_after word.Unbooked = none reply.Unbooked
 reply_after word.Now = one long_in reply.Now
-reply_after word.Fired = two item_in number_in reply.Fired
+reply_after word.Fired = two item_in wide_in reply.Fired
 reply_after word.Nothing = none reply.Nothing
-reply_after word.Ticket = λ words. number_in words >>= λ k. ticket_after k.0 k.1
+reply_after word.Ticket = λ words. wide_in words >>= λ k. ticket_after k.0 k.1
 reply_after word.Idle = none reply.Idle
 reply_after word.Crowded = none reply.Crowded
 reply_after word.Done = none reply.Done
-reply_after word.Waiting = one number_in reply.Waiting
-reply_after word.Started = λ words. number_in words >>= λ n. started_after n.0 n.1
+reply_after word.Waiting = one wide_in reply.Waiting
+reply_after word.Started = λ words. wide_in words >>= λ n. started_after n.0 n.1
 reply_after word.Held = none reply.Held
-reply_after word.Finished = one number_in reply.Finished
+reply_after word.Finished = one wide_in reply.Finished
 reply_after word.Slept = none reply.Slept
 reply_after word.Woke = none reply.Woke
 reply_after word.Retired = none reply.Retired
@@ -114,7 +114,6 @@ has_number word.Ticket = true
 has_number word.Waiting = true
 has_number word.Started = true
 has_number word.Finished = true
-has_number word.Width = true
 has_number keyword = false
 
 -- whether it has a time

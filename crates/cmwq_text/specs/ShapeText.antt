@@ -7,7 +7,7 @@ use Rattle.cmwq_model.specs.declared.shape.QueueShape.{QueueShape}
 use Rattle.cmwq_model.specs.Layout.{are_counts, is_between}
 use Rattle.cmwq_text.specs.declared.shape.Flags.{Flags}
 use Rattle.cmwq_text.specs.declared.shape.QueueLine.{QueueLine}
-use Rattle.cmwq_text.specs.Words.{◌>>=◌, words_of, line_text, is_end, after, word_in, byte_in, short_in, number_in}
+use Rattle.cmwq_text.specs.Words.{◌>>=◌, words_of, line_text, is_end, after, word_in, byte_in, short_in, number_in, wide_in}
 
 abbrev pub counts_words : Counts → List (List ℕ)
 counts_words n = codes "shape" ∷ decimal n.cpus ∷ decimal n.workers ∷ decimal n.callers ∷ decimal n.items ∷ decimal n.room ∷ []
@@ -23,7 +23,7 @@ counts_of line = do
   workers ← byte_in cpus.1
   callers ← byte_in workers.1
   items ← short_in callers.1
-  room ← number_in items.1
+  room ← wide_in items.1
   if is_end room.1 && are_counts cpus.0 workers.0 callers.0 items.0 room.0
       then Some (record { cpus = cpus.0; workers = workers.0; callers = callers.0; items = items.0; room = room.0 })
       else None

@@ -4,7 +4,7 @@ use Rattle.std.specs.List.{slice_split, join_with_byte}
 use Rattle.std.specs.Option.{option_map}
 use Rattle.std.specs.Str.{bytes_eq}
 use denote.Ref.{Bor}
-use Rattle.cmwq_text.specs.Numbers.{number_of, byte_of, short_of}
+use Rattle.cmwq_text.specs.Numbers.{number_of, byte_of, short_of, greatest_number}
 use Rattle.cmwq_model.specs.Ranges.{greatest, greatest_long}
 
 infixl 10 ◌>>=◌
@@ -69,6 +69,10 @@ short_in words = word_in short_of words
 
 abbrev pub number_in : List (List ℕ) → Option (ℕ × List (List ℕ))
 number_in words = word_in (number_of greatest) words
+
+-- the number of an entry, a serial or a ticket
+abbrev pub wide_in : List (List ℕ) → Option (ℕ × List (List ℕ))
+wide_in words = word_in (number_of greatest_number) words
 
 abbrev pub long_in : List (List ℕ) → Option (ℕ × List (List ℕ))
 long_in words = word_in (number_of greatest_long) words

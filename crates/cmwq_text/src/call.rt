@@ -5,7 +5,7 @@ ghost use Rattle.cmwq_text.specs.CallText.{is_queueing, has_item, has_queue, cal
 
 use crate::id::{cpu_in, item_in, queue_in, who_in};
 use crate::keyword::{Keyword, keyword_in};
-use crate::word::{Words, number_in};
+use crate::word::{Words, number_in, wide_in};
 use cmwq_model::{Call, Who};
 
 /// The call after a keyword that queues an item.
@@ -94,7 +94,7 @@ fn call_after(keyword: Keyword, words: &mut Words<'_>) -> Option<Call>
             Some(Call::Tick { ticks })
         }
         Keyword::End => {
-            let ticket = number_in(words)?;
+            let ticket = wide_in(words)?;
             Some(Call::End { ticket })
         }
         Keyword::Fire => Some(Call::Fire),

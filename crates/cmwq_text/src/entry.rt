@@ -6,7 +6,7 @@ ghost use Rattle.cmwq_text.specs.EntryText.{entry_of};
 use crate::call::{call_in, may_say};
 use crate::id::who_in;
 use crate::reply::{reply_fits, reply_in};
-use crate::word::{Words, number_in};
+use crate::word::{Words, wide_in};
 use cmwq_model::{Entry, Shape};
 
 /// The entry of a line of a history, without its line feed. None: it is no such line, the who isn't of the kind that
@@ -18,7 +18,7 @@ pub fn read_entry(line: &[u8]) -> Option<Entry>
 {
     let mut words = Words::of(line);
     let who = who_in(&mut words)?;
-    let serial = number_in(&mut words)?;
+    let serial = wide_in(&mut words)?;
     let call = call_in(&mut words)?;
     words.after(b"=")?;
     let reply = reply_in(&mut words)?;

@@ -1,5 +1,5 @@
 //! What the texts of lines keep, over every value.
-ghost use Rattle.cmwq_text.specs.Laws.{CallsReadAgain, EntriesReadAgain, CountsReadAgain, QueuesReadAgain, CallsSpelledSo, EntriesSpelledSo, CountsSpelledSo, QueuesSpelledSo, EntriesStandApart, LinesAreShort};
+ghost use Rattle.cmwq_text.specs.Laws.{CallsReadAgain, EntriesReadAgain, CountsReadAgain, QueuesReadAgain, CallsSpelledSo, EntriesSpelledSo, CountsSpelledSo, QueuesSpelledSo, EndsReadAgain, EndsSpelledSo, EntriesStandApart, LinesAreShort};
 
 /// Each line of calls that is spelled is read again as itself.
 pub fn calls_read_again()
@@ -39,6 +39,16 @@ pub fn counts_spelled_so()
 /// What is read from a line of a queue in a history is spelled so.
 pub fn queues_spelled_so()
     ensures { QueuesSpelledSo }
+{}
+
+/// Each last line of a history that is spelled is read again as itself.
+pub fn ends_read_again()
+    ensures { EndsReadAgain }
+{}
+
+/// What is read from a last line of a history is spelled so.
+pub fn ends_spelled_so()
+    ensures { EndsSpelledSo }
 {}
 
 /// No text of an entry begins another's.

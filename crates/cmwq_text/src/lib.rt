@@ -2,6 +2,7 @@
 #![tactic(auto)]
 
 mod call;
+mod end;
 mod entry;
 mod format;
 mod id;
@@ -16,11 +17,16 @@ mod verdict;
 mod word;
 
 pub use call::read_call;
+pub use end::{end_line, read_end};
 pub use entry::{entry_fits, read_entry};
-pub use format::{is_version_line, read_entry_of_format, read_queue_of_format};
+pub use format::{
+    is_version_line, line_limit, needs_end, read_counts_of_format, read_entry_of_format,
+    read_queue_of_format, read_short_call,
+};
 pub use laws::{
-    calls_read_again, calls_spelled_so, counts_read_again, counts_spelled_so, entries_read_again,
-    entries_spelled_so, entries_stand_apart, lines_are_short, queues_read_again, queues_spelled_so,
+    calls_read_again, calls_spelled_so, counts_read_again, counts_spelled_so, ends_read_again,
+    ends_spelled_so, entries_read_again, entries_spelled_so, entries_stand_apart, lines_are_short,
+    queues_read_again, queues_spelled_so,
 };
 pub use line::Line;
 pub use reply::reply_fits;

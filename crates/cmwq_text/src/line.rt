@@ -83,7 +83,7 @@ impl Line {
     pub(crate) fn push_phrases(
         &mut self,
         first: Keyword,
-        number: u32,
+        number: u64,
         second: Keyword,
         numbers: &[u64],
     )
@@ -91,7 +91,7 @@ impl Line {
         ensures exact { self.new ≡ self.old ++ spaced (phrase first (number ∷ []) ++ phrase second numbers.now) }
         ensures short { length self.new ≤ length self.old + 49 + 21 * length numbers.now }
     {
-        self.push_phrase(first, &[number.into()]);
+        self.push_phrase(first, &[number]);
         self.push_phrase(second, numbers);
     }
 }

@@ -1,7 +1,10 @@
 //! Numbers in a text.
 ghost use Rattle.std.specs.Prelude.{◌≡◌, ◌≤◌, IfSome};
-ghost use Rattle.cmwq_text.specs.Numbers.{with_digit, digits_from, is_begun, number_of, byte_of, short_of};
+ghost use Rattle.cmwq_text.specs.Numbers.{with_digit, digits_from, is_begun, number_of, byte_of, short_of, greatest_number};
 ghost use Rattle.cmwq_model.specs.Ranges.{greatest, greatest_long};
+
+/// The greatest number of an entry.
+const GREATEST_NUMBER: u64 = 9_223_372_036_854_775_807;
 
 /// The number with a digit after it, if that is at most the limit.
 fn with_digit(limit: u64, value: u64, digit: u8) -> Option<u64>
@@ -61,6 +64,13 @@ pub fn number_of(word: &[u8]) -> Option<u32>
     ensures { result ≡ number_of greatest word.now }
 {
     u32::try_from(limited(u64::from(u32::MAX), word)?).ok()
+}
+
+/// The number of at most 9,223,372,036,854,775,807 that a word spells.
+pub fn wide_of(word: &[u8]) -> Option<u64>
+    ensures { result ≡ number_of greatest_number word.now }
+{
+    limited(GREATEST_NUMBER, word)
 }
 
 /// The same, and a number above 65,535 is read as that.

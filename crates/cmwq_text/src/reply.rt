@@ -6,7 +6,7 @@ ghost use Rattle.cmwq_text.specs.ReplyText.{has_number, has_time, ticket_with, t
 
 use crate::id::item_in;
 use crate::keyword::{Keyword, keyword_in};
-use crate::word::{Words, byte_in, long_in, number_in};
+use crate::word::{Words, byte_in, long_in, number_in, wide_in};
 use cmwq_model::{Number, Reply, Shape};
 
 #[tactic(auto, unfolding(crate::specs::ReplyText::ticket_with))]
@@ -15,7 +15,7 @@ fn ticket_with(k: Number, keyword: Keyword, words: &mut Words<'_>) -> Option<Rep
 {
     match keyword {
         Keyword::Queued => Some(Reply::TicketQueued(k)),
-        Keyword::Cancelled => Some(Reply::TicketCancelled(k, number_in(words)?)),
+        Keyword::Cancelled => Some(Reply::TicketCancelled(k, wide_in(words)?)),
         Keyword::Unbooked => Some(Reply::TicketUnbooked(k)),
         Keyword::No => Some(Reply::TicketNo(k)),
         _ => None,
@@ -62,7 +62,7 @@ fn number_reply_after(keyword: Keyword, words: &mut Words<'_>) -> Option<Reply>
     requires { has_number keyword ≡ true }
     ensures { with_left result words.new ≡ reply_after keyword words.old }
 {
-    let n = number_in(words)?;
+    let n = wide_in(words)?;
     match keyword {
         Keyword::Yes => Some(Reply::Yes(n)),
         Keyword::Again => Some(Reply::Again(n)),
@@ -71,7 +71,6 @@ fn number_reply_after(keyword: Keyword, words: &mut Words<'_>) -> Option<Reply>
         Keyword::Waiting => Some(Reply::Waiting(n)),
         Keyword::Started => started_after(n, words),
         Keyword::Finished => Some(Reply::Finished(n)),
-        Keyword::Width => Some(Reply::Width(n)),
         _ => None,
     }
 }
@@ -103,10 +102,10 @@ fn reply_after(keyword: Keyword, words: &mut Words<'_>) -> Option<Reply>
         | Keyword::Ticket
         | Keyword::Waiting
         | Keyword::Started
-        | Keyword::Finished
-        | Keyword::Width => number_reply_after(keyword, words),
+        | Keyword::Finished => number_reply_after(keyword, words),
+        Keyword::Width => Some(Reply::Width(number_in(words)?)),
         Keyword::Booked | Keyword::Rebooked | Keyword::Now => time_reply_after(keyword, words),
-        Keyword::Fired => Some(Reply::Fired(item_in(words)?, number_in(words)?)),
+        Keyword::Fired => Some(Reply::Fired(item_in(words)?, wide_in(words)?)),
         Keyword::No => Some(Reply::No),
         Keyword::Foreign => Some(Reply::Foreign),
         Keyword::Draining => Some(Reply::Draining),

@@ -2,7 +2,7 @@
 ghost use Rattle.std.specs.Prelude.{◌≡◌};
 ghost use Rattle.cmwq_text.specs.ShapeText.{counts_of, begins_queue, flags_of, queue_line_of, queue_of_calls, queue_of_history, width_taken};
 
-use crate::word::{Words, byte_in, number_in, short_in};
+use crate::word::{Words, byte_in, number_in, short_in, wide_in};
 use cmwq_model::{Counts, QueueShape};
 
 /// The flags of a queue.
@@ -32,7 +32,7 @@ pub fn read_counts(line: &[u8]) -> Option<Counts>
         workers: byte_in(&mut words)?,
         callers: byte_in(&mut words)?,
         items: short_in(&mut words)?,
-        room: number_in(&mut words)?,
+        room: wide_in(&mut words)?,
     };
     if words.is_end() && counts.are_allowed() {
         Some(counts)

@@ -101,9 +101,8 @@ fn push_call(line: &mut Line, call: Call)
         Call::SetMax { queue, max_active } => {
             line.push_phrase(keyword, &[queue.0.into(), max_active.into()]);
         }
-        Call::Tick { ticks: number } | Call::End { ticket: number } => {
-            line.push_phrase(keyword, &[number.into()]);
-        }
+        Call::Tick { ticks } => line.push_phrase(keyword, &[ticks.into()]),
+        Call::End { ticket } => line.push_phrase(keyword, &[ticket]),
         _ => line.push_phrase(keyword, &[]),
     }
 }
@@ -166,15 +165,15 @@ pub(crate) fn push_reply(line: &mut Line, reply: Reply)
         | Reply::Ticket(n)
         | Reply::Waiting(n)
         | Reply::Started(n)
-        | Reply::Finished(n)
-        | Reply::Width(n) => line.push_phrase(keyword, &[n.into()]),
+        | Reply::Finished(n) => line.push_phrase(keyword, &[n]),
+        Reply::Width(width) => line.push_phrase(keyword, &[width.into()]),
         Reply::Booked(time) | Reply::Rebooked(time) | Reply::Now(time) => {
             line.push_phrase(keyword, &[time]);
         }
-        Reply::Fired(item, k) => line.push_phrase(keyword, &[item.0.into(), k.into()]),
+        Reply::Fired(item, k) => line.push_phrase(keyword, &[item.0.into(), k]),
         Reply::TicketQueued(k) => line.push_phrases(keyword, k, Keyword::Queued, &[]),
         Reply::TicketCancelled(k, n) => {
-            line.push_phrases(keyword, k, Keyword::Cancelled, &[n.into()]);
+            line.push_phrases(keyword, k, Keyword::Cancelled, &[n]);
         }
         Reply::TicketUnbooked(k) => line.push_phrases(keyword, k, Keyword::Unbooked, &[]),
         Reply::TicketNo(k) => line.push_phrases(keyword, k, Keyword::No, &[]),
@@ -192,7 +191,7 @@ pub fn entry_line(entry: &Entry) -> Line
 {
     let mut line = Line::new();
     push_who(&mut line, entry.who);
-    line.push_numbers(&[entry.serial.into()]);
+    line.push_numbers(&[entry.serial]);
     push_call(&mut line, entry.call);
     line.push(" =");
     push_reply(&mut line, entry.reply);
@@ -200,12 +199,17 @@ pub fn entry_line(entry: &Entry) -> Line
     line
 }
 
-/// The first line of a history of format 2, with its line feed.
-pub fn version_line() -> Line
-    ensures { result ≡ version_text 2 }
+/// The first line of a history of this format, with its line feed.
+pub fn version_line(version: u8) -> Line
+    requires { 2 ≤ version }
+    ensures { result ≡ version_text version }
 {
     let mut line = Line::new();
-    line.push("history 2\n");
+    line.push(if version == 3 {
+        "history 3\n"
+    } else {
+        "history 2\n"
+    });
     line
 }
 
@@ -221,7 +225,7 @@ pub fn counts_line(counts: &Counts) -> Line
         counts.workers.into(),
         counts.callers.into(),
         counts.items.into(),
-        counts.room.into(),
+        counts.room,
     ]);
     line.push("\n");
     line

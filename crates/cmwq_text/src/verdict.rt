@@ -8,12 +8,12 @@ use crate::spelling::push_reply;
 use cmwq_model::{Illegal, Wanted};
 
 /// The line of a legal history with this many entries, with its line feed.
-pub fn legal_line(entries: u32) -> Line
+pub fn legal_line(entries: u64) -> Line
     ensures { result ≡ legal_text entries }
 {
     let mut line = Line::new();
     line.push("legal ");
-    line.push_number(entries.into());
+    line.push_number(entries);
     line.push("\n");
     line
 }
@@ -26,7 +26,7 @@ fn push_wanted(line: &mut Line, wanted: Wanted)
     match wanted {
         Wanted::Serial(serial) => {
             line.push(": serial ");
-            line.push_number(serial.into());
+            line.push_number(serial);
         }
         Wanted::Reply(reply) => {
             line.push(": reply");
@@ -41,7 +41,7 @@ pub fn illegal_line(illegal: &Illegal) -> Line
 {
     let mut line = Line::new();
     line.push("illegal at ");
-    line.push_number(illegal.at.into());
+    line.push_number(illegal.at);
     push_wanted(&mut line, illegal.wanted);
     line.push("\n");
     line

@@ -1,8 +1,8 @@
 //! A line as its words. Each reader takes the words that it reads; where it gives None, some may be taken.
 ghost use Rattle.std.specs.Prelude.{◌≡◌, position};
-ghost use Rattle.cmwq_text.specs.Words.{is_space, with_left, byte_in, short_in, number_in, long_in};
+ghost use Rattle.cmwq_text.specs.Words.{is_space, with_left, byte_in, short_in, number_in, wide_in, long_in};
 
-use crate::number::{byte_of, long_of, number_of, short_of};
+use crate::number::{byte_of, long_of, number_of, short_of, wide_of};
 use std::marker::Model;
 
 fn first_space(bytes: &[u8]) -> Option<usize>
@@ -91,6 +91,13 @@ pub fn number_in(words: &mut Words<'_>) -> Option<u32>
     ensures { with_left result words.new ≡ number_in words.old }
 {
     number_of(words.first()?)
+}
+
+/// A number of at most 9,223,372,036,854,775,807.
+pub fn wide_in(words: &mut Words<'_>) -> Option<u64>
+    ensures { with_left result words.new ≡ wide_in words.old }
+{
+    wide_of(words.first()?)
 }
 
 /// A number of at most 18,446,744,073,709,551,615.

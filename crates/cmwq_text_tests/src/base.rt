@@ -47,7 +47,7 @@ fn reads_calls(rt: HostRuntime) {
 }
 
 fn write_file(rt: &impl Abort, output: &mut impl Sink, file: &HistoryFile) {
-    write_shape(output, &file.shape).expect(rt, "written");
+    write_shape(output, 2, &file.shape).expect(rt, "written");
     for entry in &file.entries {
         write_entry(output, entry).expect(rt, "written");
     }
@@ -71,6 +71,29 @@ fn what_is_read_is_written_again(rt: HostRuntime) {
     same(&rt, output.as_slice(), HISTORY);
 }
 
+const LONG_HISTORY: &[u8] = b"history 3
+shape 1 2 1 3 4294967296
+wq 1 f
+c0 0 fire = nothing
+c0 4294967296 end 9223372036854775807 = misuse
+end 2
+";
+
+#[test]
+fn format_3_is_read_and_written_again(rt: HostRuntime) {
+    let mut source = Memory::reader(LONG_HISTORY);
+    let file = read_history(rt.alloc(), &mut source).expect(&rt, "a history");
+    same(&rt, file.version, 3);
+    let mut output = Memory::writer(rt.alloc(), 200).expect(&rt, "memory");
+    write_shape(&mut output, 3, &file.shape).expect(&rt, "written");
+    for entry in &file.entries {
+        write_entry(&mut output, entry).expect(&rt, "written");
+    }
+    let entries = file.entries.len() as u64;
+    write_end(&mut output, 3, entries).expect(&rt, "written");
+    same(&rt, output.as_slice(), LONG_HISTORY);
+}
+
 #[test]
 fn format_1_is_written_as_format_2(rt: HostRuntime) {
     let (version, output) = written_again(&rt, &mut Memory::reader(OLD_HISTORY));
@@ -83,13 +106,24 @@ fn format_1_is_written_as_format_2(rt: HostRuntime) {
 }
 
 /// Histories, and why each is refused.
-const NO_HISTORIES: [(&str, Refusal); 15] = [
+const NO_HISTORIES: [(&str, Refusal); 20] = [
     ("", Refusal::BadShape(1)),
     ("history 2", Refusal::BadLine(1)),
     ("history 3", Refusal::BadLine(1)),
+    ("history 4", Refusal::BadLine(1)),
     ("history 2\n", Refusal::BadShape(2)),
     ("history 1\n", Refusal::BadShape(1)),
-    ("history 3\nshape 1 2 1 3 100\n", Refusal::BadShape(1)),
+    ("history 3\nshape 1 2 1 3 100\n", Refusal::BadShape(3)),
+    (
+        "history 3\nshape 1 2 1 3 100\nend 0\n",
+        Refusal::BadShape(3),
+    ),
+    (
+        "history 2\nshape 1 2 1 3 100\nwq 1 -\nend 0\n",
+        Refusal::BadLine(4),
+    ),
+    ("shape 1 2 1 3 100\nwq 1 -\nend 0\n", Refusal::BadLine(3)),
+    ("history 4\nshape 1 2 1 3 100\n", Refusal::BadShape(1)),
     ("history 2 \nshape 1 2 1 3 100\n", Refusal::BadShape(1)),
     ("history 2\nhistory 2\n", Refusal::BadShape(2)),
     ("history 2\nshape 1 2 1 3 100\n", Refusal::BadShape(3)),
@@ -123,6 +157,29 @@ fn the_first_refusal_of_a_history_is_told(rt: HostRuntime) {
         let refused = history_refused(rt.alloc(), &mut source);
         assert_eq!(rt; refused, Some(refusal), "{text}");
     }
+}
+
+/// What stands behind the head of a history of format 3 whose last line isn't right, and where it is refused.
+const NO_LAST_LINES: [(&str, Refusal); 9] = [
+    ("", Refusal::BadLine(4)),
+    ("end 1\n", Refusal::BadLine(4)),
+    ("end\n", Refusal::BadLine(4)),
+    ("end 0", Refusal::BadLine(4)),
+    ("c0 0 fire = nothing\n", Refusal::BadLine(5)),
+    ("c0 0 fire = nothing\nend 0\n", Refusal::BadLine(5)),
+    ("end 0\nend 0\n", Refusal::BadLine(5)),
+    ("end 0\nc0 0 fire = nothing\n", Refusal::BadLine(5)),
+    ("end 0\nc0", Refusal::BadLine(5)),
+];
+
+#[test]
+fn format_3_ends_with_its_last_line(rt: HostRuntime) -> Result<(), Fail> {
+    for (rest, refusal) in NO_LAST_LINES {
+        let text = format!(in rt.alloc(); "history 3\nshape 1 2 1 3 100\nwq 1 -\n{rest}")?;
+        let refused = history_refused(rt.alloc(), &mut Memory::reader(text.as_bytes()));
+        assert_eq!(rt; refused, Some(refusal), "{text}");
+    }
+    Ok(())
 }
 
 /// Files that are none of calls, and why each is refused.

@@ -28,6 +28,7 @@ const WRITE_FAULT: &[u8] = b"cmwq: write fault\n";
 enum Word {
     Step,
     Check,
+    Front,
     Upgrade,
 }
 
@@ -45,6 +46,7 @@ fn run(
     match word {
         Word::Step => run_step(alloc, input, output, errors),
         Word::Check => run_check(alloc, input, output, errors),
+        Word::Front => run_front_check(alloc, input, output, errors),
         Word::Upgrade => run_upgrade(alloc, input, output, errors),
     }
 }
@@ -73,7 +75,7 @@ fn check_faulty(
 ) {
     let text = match word {
         Word::Step => CALLS,
-        Word::Check | Word::Upgrade => HISTORY,
+        Word::Check | Word::Front | Word::Upgrade => HISTORY,
     };
     let mut input = FailsAt::new(Memory::reader(text), u64::from(reads) + 1);
     let mut output = FailsAt::new(room(rt), u64::from(writes) + 1);
@@ -199,6 +201,77 @@ fn judges_no_refused_history(rt: HostRuntime) {
             history.as_bytes(),
             (1, b"", told.as_bytes()),
         );
+    }
+}
+
+/// A refusal comes before a verdict, also where the wrong entry stands before it.
+#[test]
+fn a_refusal_behind_a_wrong_entry_is_told(rt: HostRuntime) {
+    for head in ["history 2\n", "history 3\n"] {
+        let text = format!(in rt.alloc();
+            "{head}shape 1 2 1 3 100\nwq 1 -\nc0 0 fire = held\nc0 1 bogus\n"
+        );
+        let text = text.expect(&rt, "memory");
+        let told = b"cmwq: line 5: not a line of this format\n";
+        check(&rt, Word::Check, text.as_bytes(), (1, b"", told));
+    }
+}
+
+const LONG_HISTORY: &[u8] = b"history 3\nshape 1 2 1 3 100\nwq 1 -\nc0 0 fire = nothing\nend 1\n";
+
+/// What `check` does with so many bytes of it: its status, and what it writes and tells.
+fn long_after(bytes: usize) -> Ended<'static> {
+    match bytes {
+        0 => (1, b"", b"cmwq: line 1: bad shape\n"),
+        1..=9 => (1, b"", b"cmwq: line 1: not a line of this format\n"),
+        10 => (1, b"", b"cmwq: line 2: bad shape\n"),
+        11..=27 => (1, b"", b"cmwq: line 2: not a line of this format\n"),
+        28 => (1, b"", b"cmwq: line 3: bad shape\n"),
+        29..=34 => (1, b"", b"cmwq: line 3: not a line of this format\n"),
+        35..=54 => (1, b"", b"cmwq: line 4: not a line of this format\n"),
+        55..=60 => (1, b"", b"cmwq: line 5: not a line of this format\n"),
+        _ => (0, b"legal 1\n", b""),
+    }
+}
+
+/// The same with `--front`.
+fn front_after(bytes: usize) -> Ended<'static> {
+    match bytes {
+        0..=9 => (1, b"", b"cmwq: line 1: bad shape\n"),
+        10..=27 => (1, b"", b"cmwq: line 2: bad shape\n"),
+        28..=34 => (1, b"", b"cmwq: line 3: bad shape\n"),
+        35..=54 => (0, b"legal 0\n", b""),
+        _ => (0, b"legal 1\n", b""),
+    }
+}
+
+#[test]
+fn a_history_of_format_3_may_be_cut_anywhere(rt: HostRuntime) {
+    same(&rt, LONG_HISTORY.len(), 61);
+    for bytes in 0..=61 {
+        let front = LONG_HISTORY.get(..bytes).expect(&rt, "a front");
+        check(&rt, Word::Check, front, long_after(bytes));
+        check(&rt, Word::Front, front, front_after(bytes));
+    }
+    check(&rt, Word::Upgrade, LONG_HISTORY, (0, LONG_HISTORY, b""));
+}
+
+/// What is refused of a front too, and where.
+#[test]
+fn nothing_stands_behind_the_last_line(rt: HostRuntime) {
+    for (rest, told) in [
+        ("end 0\nc0", "cmwq: line 5: not a line of this format\n"),
+        (
+            "end 0\nend 0\n",
+            "cmwq: line 5: not a line of this format\n",
+        ),
+        ("end 1\n", "cmwq: line 4: not a line of this format\n"),
+    ] {
+        let text = format!(in rt.alloc(); "history 3\nshape 1 2 1 3 100\nwq 1 -\n{rest}");
+        let text = text.expect(&rt, "memory");
+        for word in [Word::Check, Word::Front] {
+            check(&rt, word, text.as_bytes(), (1, b"", told.as_bytes()));
+        }
     }
 }
 

@@ -97,7 +97,7 @@ const NO_ENTRIES: [&str; 23] = [
     "c0 0 fire = yes 1 ",
     "c0 0 fire = yes 01",
     "c0 0 fire = yes 00",
-    "c0 0 fire = yes 4294967296",
+    "c0 0 fire = yes 9223372036854775808",
     "c0 0 fire = booked 18446744073709551616",
     "c0 0 fire  = no",
     " c0 0 fire = no",
@@ -288,9 +288,9 @@ fn each_of_the_flags(rt: HostRuntime) {
 
 #[test]
 fn format_1_is_older(rt: HostRuntime) {
-    assert!(rt; is_version_line(b"history 2"));
-    assert!(rt; !is_version_line(b"history 1"));
-    same(&rt, version_line().as_bytes(), b"history 2\n".as_slice());
+    assert!(rt; is_version_line(2, b"history 2"));
+    assert!(rt; !is_version_line(2, b"history 1"));
+    same(&rt, version_line(2).as_bytes(), b"history 2\n".as_slice());
 }
 
 #[test]
@@ -325,7 +325,7 @@ fn a_legal_verdict_is_spelled(rt: HostRuntime) {
     );
 }
 
-fn illegal_is_spelled(rt: &impl Abort, at: u32, wanted: Wanted, line: &str) {
+fn illegal_is_spelled(rt: &impl Abort, at: u64, wanted: Wanted, line: &str) {
     let spelled = illegal_line(&Illegal { at, wanted });
     same(rt, spelled.as_bytes(), line.as_bytes());
 }
@@ -341,4 +341,67 @@ fn what_is_wanted_is_spelled(rt: HostRuntime) {
     );
     let reply = Wanted::Reply(Reply::TicketCancelled(3, 2));
     illegal_is_spelled(&rt, 0, reply, "illegal at 0: reply ticket 3 cancelled 2\n");
+}
+
+/// Lines that format 3 alone has: a long serial, long numbers of entries, a long ticket.
+const LONG_ENTRIES: [&str; 5] = [
+    "c0 4294967296 fire = nothing",
+    "c0 0 fire = fired 1 4294967296",
+    "c0 0 end 9223372036854775807 = misuse",
+    "c0 0 cancel_sync 0 = ticket 9223372036854775807 cancelled 4294967296",
+    "w0n0 9223372036854775807 take = started 9223372036854775807 enlist 1",
+];
+
+#[test]
+fn format_3_has_long_numbers(rt: HostRuntime) {
+    are_spelled_again(&rt, &LONG_ENTRIES);
+    for line in LONG_ENTRIES {
+        for (version, read) in [(1, false), (2, false), (3, true)] {
+            let entry = read_entry_of_format(version, line.as_bytes());
+            assert_eq!(rt; entry.is_some(), read, "{line}");
+        }
+    }
+}
+
+#[test]
+fn format_3_has_a_first_line_and_a_large_room(rt: HostRuntime) {
+    assert!(rt; is_version_line(3, b"history 3"));
+    assert!(rt; !is_version_line(2, b"history 3"));
+    same(&rt, version_line(3).as_bytes(), b"history 3\n".as_slice());
+    for (version, read) in [(1, false), (2, false), (3, true)] {
+        let counts = read_counts_of_format(version, b"shape 1 1 1 1 1000001");
+        same(&rt, counts.is_some(), read);
+    }
+}
+
+/// Lines, and how many entries each says as the last line of a history.
+const LAST_LINES: [(&str, Option<u64>); 8] = [
+    ("end 0", Some(0)),
+    ("end 9223372036854775807", Some(9_223_372_036_854_775_807)),
+    ("end 9223372036854775808", None),
+    ("end", None),
+    ("end 01", None),
+    ("end 1 ", None),
+    ("end 1 1", None),
+    ("c0 end 1", None),
+];
+
+#[test]
+fn format_3_has_a_last_line(rt: HostRuntime) {
+    for (version, needed) in [(1, false), (2, false), (3, true)] {
+        same(&rt, needs_end(version), needed);
+    }
+    same(&rt, end_line(12).as_bytes(), b"end 12\n".as_slice());
+    for (line, entries) in LAST_LINES {
+        assert_eq!(rt; read_end(line.as_bytes()), entries, "{line}");
+    }
+}
+
+/// A time is 2 ^ 62 at most.
+#[test]
+fn format_3_has_an_end_of_time(rt: HostRuntime) {
+    let last = read_entry_of_format(3, b"c0 0 tick 1 = now 4611686018427387904");
+    assert!(rt; last.is_some());
+    let beyond = read_entry_of_format(3, b"c0 0 tick 1 = now 4611686018427387905");
+    assert!(rt; beyond.is_none());
 }

@@ -6,7 +6,7 @@ use std::test::Fail;
 fn reads_each_word(rt: HostRuntime) -> Result<(), Fail> {
     for (name, word) in [
         ("step", Word::Step),
-        ("check", Word::Check),
+        ("check", Word::Check { front: false }),
         ("upgrade", Word::Upgrade),
         ("replay", Word::Replay),
         ("run", Word::Run),
@@ -14,6 +14,23 @@ fn reads_each_word(rt: HostRuntime) -> Result<(), Fail> {
         same(&rt, word_of(rt.alloc(), &["cmwq", name])?, word);
     }
     Ok(())
+}
+
+#[test]
+fn reads_the_flag_of_check(rt: HostRuntime) -> Result<(), Fail> {
+    let word = word_of(rt.alloc(), &["cmwq", "check", "--front"])?;
+    same(&rt, word, Word::Check { front: true });
+    Ok(())
+}
+
+#[test]
+fn refuses_the_flag_elsewhere(rt: HostRuntime) {
+    for name in ["step", "upgrade", "replay", "run"] {
+        assert!(rt; word_of(rt.alloc(), &["cmwq", name, "--front"]).is_err());
+    }
+    assert!(rt; word_of(rt.alloc(), &["cmwq", "--front", "check"]).is_err());
+    assert!(rt; word_of(rt.alloc(), &["cmwq", "check", "--front", "--front"]).is_err());
+    assert!(rt; word_of(rt.alloc(), &["cmwq", "check", "front"]).is_err());
 }
 
 #[test]

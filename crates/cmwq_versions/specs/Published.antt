@@ -4,19 +4,25 @@ use mathlib.Core.Option.{some}
 use lib.ListN.{get_elem?}
 use Rattle.logbook.specs.Pages.{Book}
 use Rattle.cmwq_model.specs.declared.entry.Entry.{Entry}
+use Rattle.cmwq_model.specs.declared.id.CallerId.{CallerId}
+use Rattle.cmwq_model.specs.declared.id.ItemId.{ItemId}
+use Rattle.cmwq_model.specs.declared.id.Who.TheVariants.{Caller}
+use Rattle.cmwq_model.specs.Calls.{serial_of}
 use Rattle.cmwq_model.specs.Layout.{Layout}
 use Rattle.cmwq_model.specs.Legal.{IsLegal, past_of, bits}
 use Rattle.cmwq_versions.specs.declared.versions.Versions.{Versions}
 use Rattle.cmwq_versions.specs.declared.versions.Known.{Known}
 use Rattle.cmwq_versions.specs.declared.versions.Publish.{Publish}
-use Rattle.cmwq_versions.specs.Marked.{marked}
+use Rattle.cmwq_versions.specs.Marked.{marked, counted}
 
--- the entries are a legal history of this shape, and these are their number and the bits of all items after them
+-- the entries are a legal history of this shape, and these are their number, the bits of all items after them, and how many each caller has
 pub record IsVersion (x : Versions) : Type 0 where
   pub legal : IsLegal x.shape (past_of x.seen.log)
   pub len_is : x.len ≡ length x.seen.log
   pub items : length x.bits.items ≡ x.shape.items
   pub bits_are : (i : ℕ) → i < x.shape.items → slice_index x.bits.items i ≡ bits (past_of x.seen.log) i
+  pub callers : length x.serials.items ≡ x.shape.callers
+  pub serials_are : (c : ℕ) → c < x.shape.callers → slice_index x.serials.items c ≡ serial_of (past_of x.seen.log) (Caller (record { 0 = c }))
 
 -- the version is of this hub
 abbrev pub IsOf : Layout → Book → Versions → Type 0
@@ -48,6 +54,7 @@ Sees v x y w = IsVersion y × (w ≡ knows y) × Fits y v
 pub record IsMadeBy (x : Versions) (op : Publish) (y : Versions) : Type 0 where
   pub shape : y.shape ≡ x.shape
   pub bits : y.bits.items ≡ marked x.bits.items op.item op.bits
+  pub serials : y.serials.items ≡ counted x.serials.items op.caller op.serial
   pub len : y.len ≡ op.len
   pub seen : y.seen ≡ op.seen
 
@@ -62,3 +69,7 @@ Shows x op y w = IsMadeBy x op y × (w ≡ knows y)
 -- the version shows these entries of this hub, and no mark waits
 abbrev pub IsOut : Layout → Book → List Entry → Versions → List Publish → Type 0
 IsOut layout book log x waiting = IsOf layout book x × (x.seen.log ≡ log) × (waiting ≡ [])
+
+-- the bits of an item after these entries, and how many of them a caller has made
+abbrev pub IsGlance : Layout → ItemId → CallerId → List Entry → ℕ → ℕ → Type 0
+IsGlance s item caller log b n = (item.0 < s.items → b ≡ bits (past_of log) item.0) × (caller.0 < s.callers → n ≡ serial_of (past_of log) (Caller caller))

@@ -15,3 +15,4 @@ pub use name::HubName;
 pub use opening::Opening;
 pub use shelf::Shelf;
 pub use sights::{Readers, Sights};
+pub use versions::Glance;

@@ -18,15 +18,17 @@ use std::sync::Wait;
 // As many as a writer has places for.
 const MOST_READERS: usize = 0xffff_ffff;
 
-// No entry, and no item that is pending or runs.
+// No entry, no item that is pending or runs, and no caller that has made one.
 fn empty(alloc: Global, shape: &Shape, seen: Sight) -> Result<Versions, NoMemory>
     requires { seen.log ≡ [] }
-    ensures { IfOk result (λ x. IsVersion x × (x.shape ≡ shape.now) × (x.seen ≡ seen) × (x.len ≡ 0) × (x.bits.items ≡ replicate shape.now.items 0)) }
+    ensures { IfOk result (λ x. IsVersion x × (x.shape ≡ shape.now) × (x.seen ≡ seen) × (x.len ≡ 0) × (x.bits.items ≡ replicate shape.now.items 0) × (x.serials.items ≡ replicate shape.now.callers 0)) }
 {
     let bits = Vec::from_elem(alloc, 0u8, usize::from(shape.counts().items))?;
+    let serials = Vec::from_elem(alloc, 0u64, usize::from(shape.counts().callers))?;
     Ok(Versions {
         shape: shape.copy(alloc)?,
         bits,
+        serials,
         len: 0,
         seen,
     })
@@ -54,6 +56,8 @@ fn opened_writer<R: Wait>(
     let nothing = Publish {
         item: None,
         bits: 0,
+        caller: None,
+        serial: 0,
         len: 0,
         seen: seen.again(),
     };

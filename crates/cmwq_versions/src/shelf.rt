@@ -1,5 +1,6 @@
 ghost use Rattle.std.specs.Prelude.{◌≡◌, ◌<◌, ◌^◌, ◌++◌, ◌∷◌, [], length, drop, MatchResult};
 ghost use Rattle.left_right.specs.Sides.{view};
+ghost use Rattle.cmwq_versions.specs.Marked.{caller_of};
 ghost use Rattle.cmwq_versions.specs.Next.{IsNext};
 ghost use Rattle.cmwq_versions.specs.Published.{Follows, Shows, IsOut};
 
@@ -8,7 +9,7 @@ use crate::log::Head;
 use crate::name::HubName;
 use crate::publishing::put_out;
 use crate::versions::{BitsWriter, Publish};
-use cmwq_model::{Mark, NoMemory};
+use cmwq_model::{CallerId, Mark, NoMemory, Who};
 use core::mem::replace_with;
 use std::marker::Model;
 use std::sync::Wait;
@@ -32,6 +33,16 @@ impl<N: HubName> Model for Shelf<N> {
     ghost invariant = { λ s. IsOut N.layout N.book s.front s.writer.desk.shown.value (drop s.writer.behind s.writer.log.items) };
 }
 
+// The caller, where it is one.
+fn caller_of(who: Who) -> Option<CallerId>
+    ensures { result ≡ caller_of who }
+{
+    match who {
+        Who::Caller(caller) => Some(caller),
+        Who::Worker(_) => None,
+    }
+}
+
 impl<N: HubName> Shelf<N> {
     // The shelf of a hub whose writer shows no entry.
     pub(crate) fn new(head: Head<N>, front: Front<N>, writer: BitsWriter) -> Shelf<N>
@@ -49,7 +60,7 @@ impl<N: HubName> Shelf<N> {
     /// before the last. After `NoMemory` nothing more is published, and each later call answers `NoMemory` too.
     pub fn show<R: Wait>(&mut self, rt: &R, mark: Mark) -> Result<(), NoMemory>
         requires next { IsNext N.layout self.old mark }
-        requires few { length self.old < 2 ^ 32 }
+        requires few { length self.old < 2 ^ 62 }
         ensures { MatchResult result (λ _. self.new ≡ self.old ++ mark.entry ∷ []) (λ _. self.new ≡ self.old) }
     {
         let Some(front) = self.front.extended(&self.head, mark.entry) else {
@@ -58,6 +69,8 @@ impl<N: HubName> Shelf<N> {
         let publish = Publish {
             item: mark.item,
             bits: mark.bits,
+            caller: caller_of(mark.entry.who),
+            serial: mark.entry.serial + 1,
             len: front.len(),
             seen: front.token(),
         };

@@ -1,24 +1,26 @@
-ghost use Rattle.std.specs.Prelude.{◌≡◌, ◌<◌, ◌+◌, IfSome, MatchOption, All, length};
+ghost use Rattle.std.specs.Prelude.{◌≡◌, ◌+◌, IfSome, MatchOption, All, length};
 ghost use Rattle.left_right.specs.Sides.{view};
-ghost use Rattle.cmwq_model.specs.Legal.{past_of, bits};
-ghost use Rattle.cmwq_versions.specs.Published.{IsOurs};
+ghost use Rattle.cmwq_versions.specs.Published.{IsOurs, IsGlance};
 
-use crate::front::Front;
 use crate::name::HubName;
-use crate::versions::{BitsReader, Look};
-use cmwq_model::ItemId;
+use crate::versions::{BitsReader, Glance, Look};
+use cmwq_model::{CallerId, ItemId};
 use core::mem::replace_with;
 use std::marker::{Model, PhantomData};
 
 // What is published, and the bits of an item after it.
-fn look<N: HubName>(reader: BitsReader, item: ItemId) -> (BitsReader, Option<(Front<N>, u8)>)
+fn look<N: HubName>(
+    reader: BitsReader,
+    item: ItemId,
+    caller: CallerId,
+) -> (BitsReader, Option<Glance<N>>)
     requires { IsOurs N.layout N.book (view reader.place) }
     ensures ours { IsOurs N.layout N.book (view result.0.place) }
-    ensures read { IfSome result.1 (λ f. item.0 < N.layout.items → f.1 ≡ bits (past_of f.0) item.0) }
+    ensures read { IfSome result.1 (λ g. IsGlance N.layout item caller g.front g.bits g.serial) }
 {
     match reader.enter_as::<Look>() {
         Ok(reading) => {
-            let found = reading.get().read(item);
+            let found = reading.get().read(item, caller);
             (reading.leave(), Some(found))
         }
         Err(reader) => (reader, None),
@@ -44,18 +46,19 @@ impl<N: HubName> Model for Sights<N> {
 }
 
 impl<N: HubName> Sights<N> {
-    /// What is published, and the bits of an item after it: 1 if it is pending, plus 2 if it runs; 0 for an item that
-    /// the hub doesn't have. It takes no lock and no memory, and waits for nobody. `None` only once the shelf is ended.
-    pub fn look(&mut self, item: ItemId) -> Option<(Front<N>, u8)>
-        ensures { IfSome result (λ f. item.0 < N.layout.items → f.1 ≡ bits (past_of f.0) item.0) }
+    /// What is published, the bits of an item after it: 1 if it is pending, plus 2 if it runs; 0 for an item that
+    /// the hub doesn't have; and how many entries of it a caller has made; 0 for one that the hub doesn't have. It takes no lock and no
+    /// memory, and waits for nobody. `None` only once the shelf is ended.
+    pub fn look(&mut self, item: ItemId, caller: CallerId) -> Option<Glance<N>>
+        ensures { IfSome result (λ g. IsGlance N.layout item caller g.front g.bits g.serial) }
     {
         replace_with(
             &mut self.reader,
-            item,
-            |reader, item| -> (BitsReader, Option<(Front<N>, u8)>)
+            (item, caller),
+            |reader, (item, caller)| -> (BitsReader, Option<Glance<N>>)
                 requires { IsOurs N.layout N.book (view reader.place) }
-                ensures { IsOurs N.layout N.book (view result.0.place) × IfSome result.1 (λ f. item.0 < N.layout.items → f.1 ≡ bits (past_of f.0) item.0) }
-            { look(reader, item) },
+                ensures { IsOurs N.layout N.book (view result.0.place) × IfSome result.1 (λ g. IsGlance N.layout item caller g.front g.bits g.serial) }
+            { look(reader, item, caller) },
         )
     }
 }

@@ -1,45 +1,46 @@
 //! What readers read: the bits of all items after some beginning of the history.
-ghost use Rattle.std.specs.Prelude.{◌≡◌, ◌<◌};
-ghost use Rattle.cmwq_model.specs.Legal.{past_of, bits as bits_of};
-ghost use Rattle.cmwq_versions.specs.Published.{IsVersion, IsOf};
+ghost use Rattle.cmwq_versions.specs.Published.{IsVersion, IsOf, IsGlance};
 
 use crate::front::Front;
 use crate::log::Sight;
 use crate::name::HubName;
 use atomic_table::{Join, Split};
-use cmwq_model::{ItemId, Shape};
+use cmwq_model::{CallerId, ItemId, Shape};
 use crossbeam_utils::rule::{Outcome, Protocol};
 use left_right::Absorb;
 use left_right::reader::Reader;
 use left_right::writer::Writer;
 use std::alloc::AllocError;
 
-/// The bits of all items, how many entries made them, and the token of these entries.
+/// The bits of all items, how many entries each caller has made, how many there are in all, and the token of these entries.
 #[derive(Drop)]
 pub struct Versions {
     pub shape: Shape,
     pub bits: Vec<u8>,
+    pub serials: Vec<u64>,
     pub len: u64,
     pub seen: Sight,
 }
 
-/// The bits that one more entry leaves to one item, how many entries there are then, and their token.
+/// The bits that one more entry leaves to one item, how many its caller has made then, how many there are in all, and their token.
 #[derive(Drop)]
 pub struct Publish {
     pub item: Option<ItemId>,
     pub bits: u8,
+    pub caller: Option<CallerId>,
+    pub serial: u64,
     pub len: u64,
     pub seen: Sight,
 }
 
 impl Absorb<Publish> for Versions {
-    ghost use Rattle.cmwq_versions.specs.Marked.{marked};
+    ghost use Rattle.cmwq_versions.specs.Marked.{marked, counted};
 
-    type State = (Shape, [u8; 0], u64, Sight);
+    type State = (Shape, [u8; 0], [u64; 0], u64, Sight);
 
-    ghost state = { λ v. (v.shape, v.bits.items, v.len, v.seen) };
+    ghost state = { λ v. (v.shape, v.bits.items, v.serials.items, v.len, v.seen) };
 
-    ghost applied = { λ s op. (s.0, marked s.1 op.item op.bits, op.len, op.seen) };
+    ghost applied = { λ s op. (s.0, marked s.1 op.item op.bits, counted s.2 op.caller op.serial, op.len, op.seen) };
 
     ghost never_fails = { Unit {0} };
 
@@ -50,21 +51,40 @@ impl Absorb<Publish> for Versions {
                 self.bits[item] = operation.bits;
             }
         }
+        if let Some(caller) = operation.caller {
+            let caller = usize::from(caller.0);
+            if caller < self.serials.len() {
+                self.serials[caller] = operation.serial;
+            }
+        }
         self.len = operation.len;
         self.seen = operation.seen.again();
         Ok(())
     }
 }
 
+/// What a reader finds published: the entries, the bits of an item after them, and how many of them a caller has made.
+#[derive(Drop)]
+pub struct Glance<N: HubName> {
+    pub front: Front<N>,
+    pub bits: u8,
+    pub serial: u64,
+}
+
 impl Versions {
-    /// The entries that made the version, and the bits of an item after them.
-    pub fn read<N: HubName>(&self, item: ItemId) -> (Front<N>, u8)
+    /// The entries that made the version, the bits of an item after them, and how many are this caller's.
+    pub fn read<N: HubName>(&self, item: ItemId, caller: CallerId) -> Glance<N>
         requires version { IsVersion self.now }
         requires ours { IsOf N.layout N.book self.now }
-        ensures { item.0 < N.layout.items → result.1 ≡ bits_of (past_of result.0) item.0 }
+        ensures { IsGlance N.layout item caller result.front result.bits result.serial }
     {
         let bits = self.bits.get(usize::from(item.0)).copied();
-        (Front::of(self.seen.again(), self.len), bits.unwrap_or(0))
+        let serial = self.serials.get(usize::from(caller.0)).copied();
+        Glance {
+            front: Front::of(self.seen.again(), self.len),
+            bits: bits.unwrap_or(0),
+            serial: serial.unwrap_or(0),
+        }
     }
 }
 

@@ -1,9 +1,9 @@
-ghost use Rattle.std.specs.Prelude.{◌≡◌, true, false, IfOk, IfErr, IsSome, Some, option_map, map};
-ghost use Rattle.clap.specs.Words.{kind_of, app_of};
-ghost use Rattle.cmwq_word.specs.Word.{word_of_name, without_words, with_word, with_lines, app, texts, is_taken, name_matched, word_matched};
+ghost use Rattle.std.specs.Prelude.{◌≡◌, true, false, IfOk, IfErr, IsSome, Some, map};
+ghost use Rattle.clap.specs.Words.{kind_of, app_of, found_of, rows_of, with_subcommand};
+ghost use Rattle.cmwq_word.specs.Word.{without_words, with_word, check, with_lines, app, has_front, word_found, texts, is_taken, word_matched};
 
 use clap::error::ErrorKind;
-use clap::{Command, Error};
+use clap::{Arg, ArgAction, ArgMatches, Command, Error};
 use std::alloc::{AllocError, Global};
 
 /// What the program is asked to do.
@@ -11,8 +11,11 @@ use std::alloc::{AllocError, Global};
 pub enum Word {
     /// Answers call lines with their history.
     Step,
-    /// Judges a history.
-    Check,
+    /// Judges a history, or the front of one whose writing was cut off.
+    Check {
+        /// Whether it is judged by the whole lines that are there.
+        front: bool,
+    },
     /// Writes a legal history in the newest format.
     Upgrade,
     /// Writes the table of a scenario.
@@ -56,17 +59,18 @@ it, its serial, the call and the reply:
   w0n0 0 take = started 0 enlist 1
   w0n0 1 finish = finished 0
 
-gives `legal 3`. A history without its first line is one of the former format.";
+gives `legal 3`. One of format 3 begins with `history 3`, ends with `end 3` for three entries, and has greater limits; one without
+a first line is of format 1.";
 
 /// What the help of `upgrade` shows below its usage.
-const FORMER_HELP: &str = r"A history of the former format has no line for its format:
+const FORMER_HELP: &str = r"A history of format 1 has no line for its format:
 
   shape 1 2 1 3 100
   wq 1 -
   c0 0 queue 0 0 0 = yes 0
 
-is written with the line `history 2` before it. Of an illegal history nothing is written, and the verdict goes to standard
-error.";
+is written with the line `history 2` before it; one of format 2 or 3 as it is. Of an illegal history nothing is
+written, and the verdict goes to standard error.";
 
 /// What the help of `replay` shows below its usage.
 const SCENARIO_HELP: &str =
@@ -104,13 +108,22 @@ There are 1 to 4 CPUs, 1 to 8 workers in each of their two pools, room for up to
 An action is queue, delay, modify or cancel, or ["open",gate], or ["sleep_at",gate]: the run sleeps until the gate is open.
 There are at most 16 gates, and a name makes one. The output is the history of this one run, which `check` accepts."#;
 
-/// The word with this name.
-fn word_named(name: &str) -> Option<Word>
-    ensures { result ≡ word_of_name name.now }
+/// Whether the matches of `check` have its flag.
+fn has_front(matches: &ArgMatches) -> bool
+    ensures { result ≡ has_front (rows_of (found_of matches.now)) }
+{
+    matches.get_one::<bool>("front").unwrap_or(false)
+}
+
+/// The word with this name and these matches.
+fn word_found(name: &str, matches: &ArgMatches) -> Option<Word>
+    ensures { result ≡ word_found (name.now, rows_of (found_of matches.now)) }
 {
     match name {
         "step" => Some(Word::Step),
-        "check" => Some(Word::Check),
+        "check" => Some(Word::Check {
+            front: has_front(matches),
+        }),
         "upgrade" => Some(Word::Upgrade),
         "replay" => Some(Word::Replay),
         "run" => Some(Word::Run),
@@ -141,17 +154,34 @@ fn with_word<'a>(
     program.subcommand(Command::new(alloc, name).about(about).after_help(help))
 }
 
+/// The program with the word `check`, which has a flag.
+fn with_check<'a>(alloc: Global, program: Command<'a>) -> Result<Command<'a>, AllocError>
+    ensures { IfOk result (λ c. app_of c ≡ with_subcommand (app_of program.entry) check) }
+{
+    let about =
+        "Reads a history from standard input and writes whether it is legal, or its first wrong entry";
+    let front = Arg::new(alloc, "front")
+        .long("front")
+        .action(ArgAction::SetTrue)
+        .help(
+            "Judges the whole lines that are there: a rest without a line feed is left out, and `end` may be missing; statuses are as without it",
+        );
+    let check = Command::new(alloc, "check")
+        .about(about)
+        .after_help(HISTORY_HELP)
+        .arg(front)?;
+    program.subcommand(check)
+}
+
 /// The program with the words whose inputs are lines.
 fn with_lines<'a>(alloc: Global) -> Result<Command<'a>, AllocError>
     ensures { IfOk result (λ c. app_of c ≡ with_lines) }
 {
     let about = "Reads call lines from standard input and writes the history of their answers";
     let command = with_word(alloc, program(alloc), "step", about, CALLS_HELP)?;
+    let command = with_check(alloc, command)?;
     let about =
-        "Reads a history from standard input and writes whether it is legal, or its first wrong entry";
-    let command = with_word(alloc, command, "check", about, HISTORY_HELP)?;
-    let about =
-        "Reads a history of either format from standard input and writes it in format 2, if it is legal";
+        "Reads a history from standard input and writes it, if it is legal: one of format 1 in format 2, and others as they are";
     with_word(alloc, command, "upgrade", about, FORMER_HELP)
 }
 
@@ -167,14 +197,17 @@ fn command<'a>(alloc: Global) -> Result<Command<'a>, AllocError>
     with_word(alloc, command, "run", about, SCRIPT_HELP)
 }
 
-/// The name of the word that clap's matches of the command line hold.
-#[tactic(auto, unfolding(crate::specs::Word::is_taken, crate::specs::Word::name_matched))]
-fn name_in<'a>(alloc: Global, words: &'a [&'a str]) -> Result<Option<&'a str>, Error>
-    ensures ok { IfOk result (λ name. option_map (λ s. s.now) name ≡ name_matched (texts words.entry.now)) }
+/// The word that clap's matches of the command line hold.
+#[tactic(auto, unfolding(crate::specs::Word::is_taken, crate::specs::Word::word_matched))]
+fn word_in<'a>(alloc: Global, words: &'a [&'a str]) -> Result<Option<Word>, Error>
+    ensures ok { IfOk result (λ word. word ≡ word_matched (texts words.entry.now)) }
     ensures err { IfErr result (λ e. is_taken (texts words.entry.now) ≡ true → kind_of e ≡ ErrorKind.OutOfMemory) }
 {
     let matches = command(alloc)?.try_get_matches_from(words)?;
-    Ok(matches.subcommand_name())
+    match matches.subcommand() {
+        Some((name, found)) => Ok(word_found(name, found)),
+        None => Ok(None),
+    }
 }
 
 /// Reads the command line, whose first word is the program's name. An error is clap's, to be printed as it says:
@@ -184,11 +217,8 @@ pub fn word_of<'a>(alloc: Global, words: &'a [&'a str]) -> Result<Word, Error>
     ensures err { IfErr result (λ e. is_taken (texts words.entry.now) ≡ true
         → IsSome (word_matched (texts words.entry.now)) → kind_of e ≡ ErrorKind.OutOfMemory) }
 {
-    match name_in(alloc, words)? {
-        Some(name) => match word_named(name) {
-            Some(word) => Ok(word),
-            None => Err(unknown(alloc)?),
-        },
+    match word_in(alloc, words)? {
+        Some(word) => Ok(word),
         None => Err(unknown(alloc)?),
     }
 }

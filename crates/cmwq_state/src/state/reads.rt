@@ -25,7 +25,7 @@ impl State {
     pub fn number(&self) -> Number
         ensures { result ≡ length (past_of self.now.entries) }
     {
-        self.entries.len() as u32
+        self.entries.len()
     }
 
     /// Whether the system is frozen.

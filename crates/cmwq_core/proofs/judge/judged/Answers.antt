@@ -1,4 +1,6 @@
-use Rattle.std.proofs.Common.{◌∷◌, arith}
+use Rattle.std.proofs.Common.{◌≡◌, ◌∷◌, true, sym, subst, arith}
+use Rattle.cmwq_model.specs.declared.entry.Entry.{Entry}
+use Rattle.cmwq_model.specs.Room.{has_time}
 use Rattle.cmwq_model.specs.Legal.{past_of}
 use Rattle.cmwq_core.proofs.OwedBound.{owed_few}
 use Rattle.cmwq_core.proofs.judge.judged.Goals as goal
@@ -9,3 +11,7 @@ append-requires-clause-room c =
     let owing = c.effect-effect.ensures.is.owing in
     let room = c.requires.room in
     omega arith
+
+pub append-requires-clause-time : goal.append-requires-clause-time
+append-requires-clause-time c =
+    subst (λ (e : Entry). has_time (past_of c.args.state.now.entries) e.call ≡ true) (sym c.effect-effect.ensures.entry) c.requires.time

@@ -1,5 +1,7 @@
 use Rattle.std.proofs.Common.{ℕ, ◌+◌, ◌-◌, ◌≤◌, List, length, take, drop, length-drop, arith}
 use Rattle.std.proofs.lemmas.List.{take_rest}
+use Rattle.std.proofs.lemmas.Result.{err_from_is_err_and}
+use Rattle.cmwq_io.proofs.Calls.{made_on, given_up_on}
 use Rattle.cmwq_io.proofs.KnownBytes.{Appends-more}
 use Rattle.cmwq_io.proofs.patient.write_all.Goals as goal
 
@@ -15,4 +17,10 @@ loop-done-preserved g c =
       within = within_rest c.args.bytes.now c.loop-done.done c.in_ok-done.field-0 before.within part.within;
       bytes = Appends-more _ _ _ c.args.bytes.now c.loop-done.done c.in_ok-done.field-0 before.bytes c.in_ok-done.ensures.bytes;
       grown = omega (arith, before.grown, count.grown);
+      calls = made_on _ _ _ before.calls c.in_ok-done.ensures.calls;
     }
+
+pub returns-in_err-done-clause-calls : goal.returns-in_err-done-clause-calls
+returns-in_err-done-clause-calls g c =
+    let p = err_from_is_err_and c.from_residual.result c.from_residual.ensures.1 in
+    rw (p.1) (given_up_on _ _ _ c.loop-done.invariant.calls c.in_err-done.ensures.calls)

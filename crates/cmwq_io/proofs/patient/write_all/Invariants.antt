@@ -1,5 +1,6 @@
 use Rattle.std.proofs.Common.{◌-◌, ◌≤◌, length, take}
 use Rattle.std.specs.Io.KnownBytes.{Appends}
+use Rattle.cmwq_io.specs.Outcomes.{IsAllMade, GoesOnBy}
 use Rattle.cmwq_io.proofs.patient.write_all.Given as goal
 
 abbrev pub invariant-loop-done : goal.invariant-loop-done
@@ -7,6 +8,7 @@ invariant-loop-done g l = record {
   within : l.done ≤ length l.bytes;
   bytes : Appends (g.W.Sink.written l.initial.sink) (g.W.Sink.written l.sink) (take l.done l.bytes);
   grown : g.W.Sink.troubles l.initial.sink ≤ g.W.Sink.troubles l.sink;
+  calls : GoesOnBy IsAllMade (g.W.Sink.outcomes l.initial.sink) (g.W.Sink.outcomes l.sink);
 }
 
 abbrev pub decreases-loop-done : goal.decreases-loop-done

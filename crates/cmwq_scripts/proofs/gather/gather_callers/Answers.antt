@@ -16,11 +16,12 @@ loop-preserved g c =
     let s = g.N.HubName.layout in (
       (let i = inv.0 in omega (arith, len, i)),
       (let i = inv.1 in let p = share.0 in omega (arith, p, i)),
-      (let i = inv.2 in let p = share.1 in let a = c.in_ok-answered.ensures in omega (arith, p, i, a)),
+      (let i = inv.2 in let p = share.1 in let a = c.in_ok-answered.ensures.sum in omega (arith, p, i, a)),
       (λ k e x at was. inv.3 k e x (subst (λ l. slice_get l k ≡ Some e) (sym last) (kept_at new end e k at)) was),
-      rw c.in_ok-full.ensures
+      rw c.in_ok-full.ensures.sum
           (gathered (λ x. x.items) s c.args.desk.now.history c.args.scripts.now (length new) (length new) c.in_ok-made.left_out c.loop.full
           (let i = inv.0 in let r = c.requires.each in omega (arith, len, i, r))
           (λ v at. c.in_ok-made.ensures.seen (length new) v.items (inv.3 (length new) end v (subst (λ l. slice_get l (length new) ≡ Some end) (sym last) (last_at new end)) at))
           (subst (λ n. AllFollow s n (drop n (map (λ x. x.items) c.args.scripts.now)) c.loop.full c.args.desk.now.history) next inv.4)),
+      (λ k e at. inv.5 k e (subst (λ l. slice_get l k ≡ Some e) (sym last) (kept_at new end e k at))),
     )

@@ -4,5 +4,5 @@ use Rattle.cmwq_scripts.proofs.start.start_callers.Given as goal
 
 abbrev pub invariant-loop-k : goal.invariant-loop-k
 invariant-loop-k g l =
-    (length l.threads.items ≡ l.k) × (l.seats.callers ≡ l.k) × (l.seats.workers ≡ l.fn.seats.workers)
+    (length l.threads.items ≡ l.k) × (l.seats ≡ record l.fn.seats { callers = l.k })
     × ((k : ℕ) (h s : _) → slice_get l.threads.items k ≡ Some h → slice_get l.fn.scripts k ≡ Some s → (h.promise.who.0 ≡ k) × (h.promise.script.value ≡ s))

@@ -13,11 +13,11 @@ returns-in_default-clause-waits g c =
     let s = g.N.HubName.layout in
     let log = c.args.self.now.history in
     let v = c.args.seat.now in
-    let held : c.self.inside.book.entries ≡ log = ap (λ (h : Held). h.history) c.self.view_is in
+    let held : c.self.inside.course.entries ≡ log = ap (λ (h : Held). h.history) c.self.view_is in
     let full : has_room s s.room (past_of log) v.who (calls.End c.args.ticket) ≡ false =
-    room_is s c.self.inside.book log c.who.result v.who (calls.End c.args.ticket) false c.self.invariant.1 c.self.invariant.2 held c.who.ensures.who c.in_default.ensures.room in
+    room_is s c.self.inside.course log c.who.result v.who (calls.End c.args.ticket) false c.self.invariant.1 c.self.invariant.2 held c.who.ensures.who c.in_default.ensures.room in
     let legal : IsLegal s (past_of log) = rw (← c.self.invariant.1, ← held) c.len-needed.ensures.legal in
-    let need : needed s (past_of log) ≤ c.self.inside.book.room = rw (← c.self.invariant.1, ← held) c.len-needed.ensures.needed in
+    let need : needed s (past_of log) ≤ c.self.inside.course.room = rw (← c.self.invariant.1, ← held) c.len-needed.ensures.needed in
     let within : needed s (past_of log) ≤ s.room = let room = c.self.invariant.2 in omega (arith, need, room) in
     let fit = caller_fits s v.who (calls.End c.args.ticket) c.requires c.who.ensures.there refl refl in
     (refl, full_ends_none s (past_of log) v.who (calls.End c.args.ticket) fit legal within full)

@@ -10,10 +10,10 @@ pub returns-in-Err-clause-short : goal.returns-in-Err-clause-short
 returns-in-Err-clause-short g c =
     let s = g.N.HubName.layout in
     let log = c.args.self.now.history in
-    let held : c.self.inside.book.entries ≡ log = ap (λ (h : Held). h.history) c.self.view_is in
+    let held : c.self.inside.course.entries ≡ log = ap (λ (h : Held). h.history) c.self.view_is in
     let v = c.args.seat.now in
     let log_is = c.front.ensures ∙ c.self.invariant.3 ∙ held in
     let w_is : c.see.new.self ≡ record v { seen = log } = c.see.ensures.seen ∙ rw log_is refl in
     let full : has_room s s.room (past_of log) v.who c.args.call ≡ false =
-    room_is s c.self.inside.book log c.who-who.result v.who c.args.call false c.self.invariant.1 c.self.invariant.2 held c.who-who.ensures.who c.in-Err.ensures.room in
+    room_is s c.self.inside.course log c.who-who.result v.who c.args.call false c.self.invariant.1 c.self.invariant.2 held c.who-who.ensures.who c.in-Err.ensures.room in
     (rw w_is (gains_seen v log c.serial-own.ensures.own c.requires.step (subst (IsPrefix v.seen) log_is c.see.ensures.older)), (rw w_is full, refl))

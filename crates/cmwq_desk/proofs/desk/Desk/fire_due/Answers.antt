@@ -10,7 +10,7 @@ use Rattle.cmwq_desk.proofs.desk.Desk.fire_due.Goals as goal
 
 pub loop-init : goal.loop-init
 loop-init g c = (
-  up_to_none g.N.HubName.layout c.args.seat.now c.requires.begun c.seen-legal.ensures.legal,
+  up_to_none g.N.HubName.layout c.args.seat.now c.requires.counted c.requires.begun c.seen-legal.ensures.legal,
   c.requires.step,
   c.requires.caller,
   ap (λ (s : Layout). s.items) (c.counts-end.ensures.counts ∙ c.self.invariant.0),

@@ -7,6 +7,7 @@ use Rattle.cmwq_model.specs.Legal.{past_of, IsLegal}
 use Rattle.cmwq_core.specs.History.{History}
 use Rattle.cmwq_desk.specs.Held.{Held}
 use Rattle.cmwq_desk.specs.Calls.{own_entry}
+use Rattle.cmwq_desk.specs.Seats.{Seated}
 use Rattle.cmwq_desk.proofs.Entering.{serial_after, shown_is, extends, step_after, seated_after}
 use Rattle.cmwq_desk.proofs.desk.Desk.make.Goals as goal
 
@@ -14,7 +15,7 @@ pub count-requires-clause-own : goal.count-requires-clause-own
 count-requires-clause-own g c =
     let s = g.N.HubName.layout in
     let log = c.args.self.now.history in
-    let held : c.self.inside.book.entries ≡ log = ap (λ (h : Held). h.history) c.self.view_is in
+    let held : c.self.inside.course.entries ≡ log = ap (λ (h : Held). h.history) c.self.view_is in
     let v = c.args.seat.now in
     let now_is = c.front.ensures ∙ shown_is s log c.self.inside.shelf c.show.new.self v c.args.call c.args.plan.now.mark c.requires.plan.mark.is_next (c.self.invariant.3 ∙ held) c.in-Ok.ensures in
     let after : serial_of (past_of c.front.result.now) v.who ≡ v.serial + 1 = rw now_is (serial_after s log v c.args.call c.requires.step.0) in
@@ -24,7 +25,7 @@ pub returns-clause-made : goal.returns-clause-made
 returns-clause-made g c =
     let s = g.N.HubName.layout in
     let log = c.args.self.now.history in
-    let held : c.self.inside.book.entries ≡ log = ap (λ (h : Held). h.history) c.self.view_is in
+    let held : c.self.inside.course.entries ≡ log = ap (λ (h : Held). h.history) c.self.view_is in
     let v = c.args.seat.now in
     let call = c.args.call in
     let now_is = c.front.ensures ∙ shown_is s log c.self.inside.shelf c.show.new.self v call c.args.plan.now.mark c.requires.plan.mark.is_next (c.self.invariant.3 ∙ held) c.in-Ok.ensures in
@@ -37,6 +38,15 @@ returns-clause-made g c =
       rw (reply_is, w_is) (extends s v log call c.serial-serial.ensures.own c.requires.step pre c.requires.fits legal),
       rw (w_is, log_is) (step_after s v log call c.requires.step),
     )
+
+pub returns-clause-seen : goal.returns-clause-seen
+returns-clause-seen g c =
+    let s = g.N.HubName.layout in
+    let log = c.args.self.now.history in
+    let held : c.self.inside.course.entries ≡ log = ap (λ (h : Held). h.history) c.self.view_is in
+    let v = c.args.seat.now in
+    let now_is = c.front.ensures ∙ shown_is s log c.self.inside.shelf c.show.new.self v c.args.call c.args.plan.now.mark c.requires.plan.mark.is_next (c.self.invariant.3 ∙ held) c.in-Ok.ensures in
+    ap (λ (w : Seated). w.seen) c.count.ensures.seen ∙ now_is
 
 pub returns-clause-reply : goal.returns-clause-reply
 returns-clause-reply g c = c.carry-reply.ensures.reply ∙ ap (λ (e : Entry). e.reply) c.requires.plan.mark.is_next

@@ -11,9 +11,9 @@ returns-in_default-clause-kept g c =
     let s = g.N.HubName.layout in
     let log = c.args.self.now.history in
     let v = c.args.seat.now in
-    let held : c.self.inside.book.entries ≡ log = ap (λ (h : Held). h.history) c.self.view_is in
+    let held : c.self.inside.course.entries ≡ log = ap (λ (h : Held). h.history) c.self.view_is in
     let full : has_room s s.room (past_of log) v.who calls.Retire ≡ false =
-    room_is s c.self.inside.book log c.who-who.result v.who calls.Retire false c.self.invariant.1 c.self.invariant.2 held c.who-who.ensures.who c.in_default.ensures.room in
+    room_is s c.self.inside.course log c.who-who.result v.who calls.Retire false c.self.invariant.1 c.self.invariant.2 held c.who-who.ensures.who c.in_default.ensures.room in
     (refl, inr full)
 
 pub returns-in-Ok-make-clause-retired : goal.returns-in-Ok-make-clause-retired

@@ -11,9 +11,9 @@ ready-requires c = let b = c.args.self.now in
 pub returns-then-ready : goal.returns-then-ready
 returns-then-ready c = let b = c.args.self.now in
     let stands = (unended_flushes_stand b.layout (past_of b.entries) c.args.queue.0 c.flushes-flushes.result.now c.args.ticket c.flushes-flushes.ensures.is c.requires.unended).0 c.requires.flush in
-    ready_for_none b.layout (past_of b.entries) c.args.queue c.flushes-flushes.result.now c.args.ticket.number c.ready.result c.flushes-flushes.ensures.is stands c.ready.ensures c.if-ready.true
+    ready_for_none b.layout (past_of b.entries) c.args.queue c.flushes-flushes.result.now c.args.ticket.number c.ready.result c.flushes-flushes.ensures.is stands c.ready.ensures.bound c.if-ready.true
 
 pub returns-else-ready : goal.returns-else-ready
 returns-else-ready c = let b = c.args.self.now in
     let stands = (unended_flushes_stand b.layout (past_of b.entries) c.args.queue.0 c.flushes-flushes.result.now c.args.ticket c.flushes-flushes.ensures.is c.requires.unended).0 c.requires.flush in
-    c.least_open.ensures.first ∙ waits_for_first b.layout (past_of b.entries) c.args.queue c.flushes-flushes.result.now c.args.ticket.number c.ready.result c.flushes-flushes.ensures.is stands c.ready.ensures c.if-ready.false
+    c.least_open.ensures.first ∙ waits_for_first b.layout (past_of b.entries) c.args.queue c.flushes-flushes.result.now c.args.ticket.number c.ready.result c.flushes-flushes.ensures.is stands c.ready.ensures.bound c.if-ready.false

@@ -7,5 +7,5 @@ pub returns-clause-needed : goal.returns-clause-needed
 returns-clause-needed c =
     let b = c.self.inside in
     let within = c.self.invariant.within in let owing = c.self.invariant.parts_are.owing in
-    let many : length (past_of b.entries.items) ≡ length b.entries.items = length-reverse b.entries.items in
+    let many : length (past_of b.entries) ≡ length b.entries = length-reverse b.entries in
     rw (← c.self.view_is) (omega arith)

@@ -1,5 +1,3 @@
-use Rattle.std.proofs.Common.{◌≤◌, arith}
-use Rattle.std.specs.Vec.{vec_capacity}
 use Rattle.cmwq_model.specs.Layout.{layout_of}
 use Rattle.cmwq_state.proofs.First.{book_made}
 use Rattle.cmwq_state.proofs.state.State.start.Goals as goal
@@ -7,8 +5,7 @@ use Rattle.cmwq_state.proofs.state.State.start.Goals as goal
 pub invariant_of-result : goal.invariant_of-result
 invariant_of-result c =
     let s = layout_of c.args.counts c.args.queues.now in
-    let room : c.args.room ≤ vec_capacity c.in_ok-entries.entries = let h = c.in_ok-entries.ensures.exact in omega arith in
     let items = c.in_ok-of_items in let flushes = c.in_ok-of_flushes in let queues = c.in_ok-of_queues in
-    rw (c.in_ok-entries.ensures.items, queues.ensures.queues)
-    (book_made s c.args.room (vec_capacity c.in_ok-entries.entries) items.of_items.pools.items flushes.of_flushes.books.items flushes.of_flushes.barriers items.of_items.timers items.of_items.serials.items items.of_items.flights flushes.of_flushes.tickets queues.of_queues.gone.items queues.of_queues.line queues.of_queues.most.items
-    c.requires.inside c.requires.few room items.ensures.pools flushes.ensures.books flushes.ensures.barriers items.ensures.timers items.ensures.serials items.ensures.flights flushes.ensures.tickets queues.ensures.gone queues.ensures.line queues.ensures.most)
+    rw (c.new-entries.ensures, queues.ensures.queues)
+    (book_made s c.args.room items.of_items.pools.items flushes.of_flushes.books.items flushes.of_flushes.barriers items.of_items.timers items.of_items.serials.items items.of_items.flights flushes.of_flushes.tickets queues.of_queues.gone.items queues.of_queues.line queues.of_queues.most.items
+    c.requires.inside c.requires.few items.ensures.pools flushes.ensures.books flushes.ensures.barriers items.ensures.timers items.ensures.serials items.ensures.flights flushes.ensures.tickets queues.ensures.gone queues.ensures.line queues.ensures.most)

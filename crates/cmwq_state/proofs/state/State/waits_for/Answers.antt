@@ -6,11 +6,11 @@ use Rattle.cmwq_state.proofs.state.State.waits_for.Goals as goal
 
 pub waits_for-requires : goal.waits_for-requires
 waits_for-requires c = let b = c.self.inside in let here = rw (← c.self.view_is) at c.requires.unended in
-    barrier_stands (layout_of b.counts b.queues.items) (past_of b.entries.items) c.args.ticket b.barriers c.self.invariant.parts_are.barriers here c.in-FlushItem.is
+    barrier_stands (layout_of b.counts b.queues.items) (past_of b.entries) c.args.ticket b.barriers c.self.invariant.parts_are.barriers here c.in-FlushItem.is
 
 pub returns-in-FlushItem : goal.returns-in-FlushItem
 returns-in-FlushItem c = let b = c.self.inside in let here = rw (← c.self.view_is) at c.requires.unended in
-    c.waits_for.ensures.value ∙ rw (← c.self.view_is) (barrier_waits (layout_of b.counts b.queues.items) (past_of b.entries.items) c.args.ticket b.barriers c.self.invariant.parts_are.barriers c.self.invariant.legal here c.in-FlushItem.is)
+    c.waits_for.ensures.value ∙ rw (← c.self.view_is) (barrier_waits (layout_of b.counts b.queues.items) (past_of b.entries) c.args.ticket b.barriers c.self.invariant.parts_are.barriers c.self.invariant.legal here c.in-FlushItem.is)
 
 pub returns-in_default : goal.returns-in_default
 returns-in_default c = let b = c.args.self.now in

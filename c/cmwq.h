@@ -1,0 +1,218 @@
+/*
+ * The Book of cmwq for C: a workqueue runtime of one thread, whose every answer is proved to be the one of the definitions
+ * (docs/SEMANTICS.md; docs/C.md says what is proved for a C caller, and what he owes).
+ *
+ * Link libcmwq_c.a. It takes memory by malloc, and only in cmwq_open() and cmwq_check(). It has no thread, lock, clock or state of its own.
+ */
+#ifndef CMWQ_H
+#define CMWQ_H
+
+#include <stdbool.h>
+#include <stddef.h>
+#include <stdint.h>
+
+#ifdef __cplusplus
+extern "C" {
+#define CMWQ_ASSERT(holds) static_assert(holds, "cmwq.h")
+#else
+#define CMWQ_ASSERT(holds) _Static_assert(holds, "cmwq.h")
+#endif
+
+/**
+ * enum cmwq_status - what calls answer
+ * @CMWQ_OK: done. At every other status nothing has changed, neither the book nor what the pointers lead to.
+ * @CMWQ_REFUSED: no such call, caller, worker, item or entry; or a shape outside the limits
+ * @CMWQ_CLOSED: the handle has no book
+ * @CMWQ_FULL: no room for the entry and for what would be owed then, or for its ticks
+ * @CMWQ_NO_MEMORY: malloc gave none
+ * @CMWQ_SHORT: the buffer doesn't hold the line (CMWQ_LINE bytes always do)
+ * @CMWQ_CROWDED: as many entries are kept as may be: read them, and call cmwq_forget()
+ * @CMWQ_ILLEGAL: of cmwq_check() alone: the history isn't legal, and the line says where. It is an answer, and so is written
+ */
+enum cmwq_status { CMWQ_OK, CMWQ_REFUSED, CMWQ_CLOSED, CMWQ_FULL, CMWQ_NO_MEMORY, CMWQ_SHORT, CMWQ_CROWDED, CMWQ_ILLEGAL };
+
+/* No line that the library writes is longer, with its line feed. */
+#define CMWQ_LINE 256
+
+/**
+ * struct cmwq_book - a book, or none
+ *
+ * It lies with the caller, begins as all zeros (struct cmwq_book book = {0}), and is changed by the calls below alone: never copy one, and
+ * change no field. One call at a time on each; under a lock of yours any thread may make it.
+ */
+struct cmwq_book { void *at; bool live; };
+
+/**
+ * struct cmwq_shape - what a book is made of (docs/FORMATS.md)
+ * @room: how many entries there may be, with those that are owed; up to 2^62
+ * @keep: how many entries are kept at once; as many as @room: none need be forgotten
+ * @items: 1 to 256 (the work_structs)
+ * @cpus: 1 to 4; numbers, not processors
+ * @workers: 1 to 8 in each of a CPU's two pools
+ * @callers: 1 to 64
+ */
+struct cmwq_shape { uint64_t room; uint32_t keep; uint16_t items; uint8_t cpus, workers, callers; };
+
+/**
+ * struct cmwq_queue - a queue, as alloc_workqueue() makes it
+ * @max_active: 1 to 512
+ * @high: not 0: WQ_HIGHPRI
+ * @intensive: not 0: WQ_CPU_INTENSIVE
+ * @freezable: not 0: WQ_FREEZABLE
+ */
+struct cmwq_queue { uint16_t max_active; uint8_t high, intensive, freezable; };
+
+enum cmwq_who_kind { CMWQ_CALLER, CMWQ_WORKER, CMWQ_HIGH_WORKER };
+
+/**
+ * struct cmwq_who - who calls: caller @index, or worker @index of the normal or the high pool of @cpu
+ * A work function calls as the worker that runs it.
+ */
+struct cmwq_who { uint8_t kind, index, cpu; };
+
+enum cmwq_kind {            /* what is read beside who                  the kernel's call */
+    CMWQ_QUEUE,             /* item queue cpu                           queue_work_on() */
+    CMWQ_DELAY,             /* item queue cpu, number: ticks            queue_delayed_work_on() */
+    CMWQ_MODIFY,            /* item queue cpu, number: ticks            mod_delayed_work_on() */
+    CMWQ_CANCEL,            /* item                                     cancel_work(), cancel_delayed_work() */
+    CMWQ_TICK,              /* number: ticks that went by               jiffies */
+    CMWQ_FIRE,              /*                                          delayed_work_timer_fn() */
+    CMWQ_FLUSH,             /* queue                                    flush_workqueue(): begins */
+    CMWQ_DRAIN,             /* queue                                    drain_workqueue(): begins */
+    CMWQ_FLUSH_ITEM,        /* item                                     flush_work(): begins */
+    CMWQ_FLUSH_DELAYED,     /* item                                     flush_delayed_work(): begins */
+    CMWQ_CANCEL_SYNC,       /* item                                     cancel_work_sync(): begins */
+    CMWQ_END,               /* ticket                                   the return of a call that began to wait */
+    CMWQ_TAKE,              /* worker                                   process_one_work(): begins */
+    CMWQ_FINISH,            /* worker                                   process_one_work(): ends */
+    CMWQ_SLEEP,             /* worker                                   wq_worker_sleeping() */
+    CMWQ_WAKE,              /* worker                                   wq_worker_running() */
+    CMWQ_RETIRE,            /* worker                                   idle_worker_timeout() */
+    CMWQ_SET_MAX,           /* queue, number: max_active, 1 or more     workqueue_set_max_active() */
+    CMWQ_FREEZE,            /*                                          freeze_workqueues_begin() */
+    CMWQ_THAW,              /*                                          thaw_workqueues() */
+    CMWQ_DESTROY            /* queue                                    destroy_workqueue(): begins */
+};
+
+/* struct cmwq_call - a call. What its kind doesn't name isn't read; of an entry it is 0. */
+struct cmwq_call { uint64_t ticket; uint32_t number; uint16_t item; uint8_t kind, queue, cpu; struct cmwq_who who; };
+
+enum cmwq_reply_kind {      /* what it has                              what the kernel's call returns */
+    CMWQ_YES,               /* number: the queueing                     queue_work_on(): true; mod_delayed_work_on(): false */
+    CMWQ_BOOKED,            /* number: the tick for which it is set     queue_delayed_work_on(): true; mod_delayed_work_on(): false */
+    CMWQ_AGAIN,             /* number: the queueing                     mod_delayed_work_on(): true */
+    CMWQ_REBOOKED,          /* number: the tick                         mod_delayed_work_on(): true */
+    CMWQ_NO,                /*                                          false: it was pending, or wasn't */
+    CMWQ_FOREIGN,           /*                                          (the item runs on another queue) */
+    CMWQ_DRAINING,          /*                                          (the queue is drained, or gone) */
+    CMWQ_MISUSE,            /*                                          (not possible at this point) */
+    CMWQ_CANCELLED,         /* number: the queueing                     cancel_work(): true */
+    CMWQ_UNBOOKED,          /*                                          cancel_delayed_work(): true */
+    CMWQ_NOW,               /* number: the tick it is now               jiffies */
+    CMWQ_FIRED,             /* item, number: its queueing */
+    CMWQ_NOTHING,           /*                                          (none is due, none waits) */
+    CMWQ_TICKET,            /* number: the ticket */
+    CMWQ_TICKET_QUEUED,     /* number: the ticket and the queueing */
+    CMWQ_TICKET_CANCELLED,  /* number: the ticket, other: the queueing  cancel_work_sync(): true */
+    CMWQ_TICKET_UNBOOKED,   /* number: the ticket                       cancel_work_sync(): true */
+    CMWQ_TICKET_NO,         /* number: the ticket                       cancel_work_sync(): false */
+    CMWQ_IDLE,              /*                                          flush_work(): false */
+    CMWQ_CROWD,             /*                                          (the caller has 64 tickets that haven't ended) */
+    CMWQ_DONE,              /*                                          the wait is over */
+    CMWQ_WAITING,           /* number: a queueing for which it waits */
+    CMWQ_STARTED,           /* number: the queueing */
+    CMWQ_STARTED_ENLIST,    /* number: the queueing, other: a worker that is enlisted */
+    CMWQ_HELD,              /*                                          (another run holds the pool) */
+    CMWQ_FINISHED,          /* number: the queueing */
+    CMWQ_SLEPT, CMWQ_WOKE, CMWQ_RETIRED, CMWQ_KEPT,
+    CMWQ_WIDTH,             /* number: the max_active that holds */
+    CMWQ_FROZEN, CMWQ_THAWED,
+    CMWQ_GONE,              /*                                          destroy_workqueue() is over */
+    CMWQ_TIMERS             /*                                          (an item is delayed on the queue) */
+};
+
+/* struct cmwq_reply - a reply. What its kind doesn't have is 0. */
+struct cmwq_reply { uint64_t number, other; uint16_t item; uint8_t kind; };
+
+/* struct cmwq_entry - an entry of the history: the call, its how many-th entry of that who it is, from 0, and the reply */
+struct cmwq_entry { uint64_t serial; struct cmwq_call call; struct cmwq_reply reply; };
+
+/**
+ * cmwq_open() - opens a book with no entries; one that the handle has is closed
+ * @queues: @len of them, 1 to 64
+ * Return: CMWQ_OK; CMWQ_REFUSED; CMWQ_NO_MEMORY. It takes some 50 bytes for each entry that may be kept, and up to 5 MB beside.
+ */
+uint32_t cmwq_open(struct cmwq_book *book, const struct cmwq_shape *shape, const struct cmwq_queue *queues, size_t len);
+
+/** cmwq_close() - gives up the book, if there is one; more than once does no harm. Its memory is free then. */
+void cmwq_close(struct cmwq_book *book);
+
+/**
+ * cmwq_step() - makes a call: the history has one entry more, with the one reply of the definitions
+ * Return: CMWQ_OK and *@reply; CMWQ_REFUSED; CMWQ_CLOSED; CMWQ_FULL; CMWQ_CROWDED. Takes no memory and never waits.
+ */
+uint32_t cmwq_step(struct cmwq_book *book, const struct cmwq_call *call, struct cmwq_reply *reply);
+
+/**
+ * cmwq_step_line() - the same by lines of text, as `cmwq step` reads and writes them
+ * @line: a call such as "c0 queue 0 0 0", without a line feed
+ * @out: takes the line of the entry with its line feed, *@written bytes; no 0 behind it
+ * Return: as cmwq_step(); CMWQ_SHORT.
+ */
+uint32_t cmwq_step_line(struct cmwq_book *book, const uint8_t *line, size_t line_len, uint8_t *out, size_t out_len, size_t *written);
+
+/** cmwq_would() - says what cmwq_step() would, and makes nothing. Return: as cmwq_step(). */
+uint32_t cmwq_would(struct cmwq_book *book, const struct cmwq_call *call, struct cmwq_reply *reply);
+
+/** cmwq_ready() - whether this ticket stands and waits for nothing: its CMWQ_END would be answered done, or gone. False of a closed handle. */
+bool cmwq_ready(struct cmwq_book *book, uint64_t ticket);
+
+/** cmwq_bits() - work_busy(): 1 if the item is pending, plus 2 if it runs. Return: CMWQ_OK; CMWQ_REFUSED; CMWQ_CLOSED. */
+uint32_t cmwq_bits(struct cmwq_book *book, uint16_t item, uint8_t *bits);
+
+/** cmwq_serial() - how many entries a caller or worker has. Return: CMWQ_OK; CMWQ_REFUSED; CMWQ_CLOSED. */
+uint32_t cmwq_serial(struct cmwq_book *book, const struct cmwq_who *who, uint64_t *serial);
+
+/* Counts, 0 of a closed handle: the entries; how many more there is room for, the owed among them; the forgotten ones; open queueings; active ones. */
+uint64_t cmwq_len(struct cmwq_book *book);
+uint64_t cmwq_room_left(struct cmwq_book *book);
+uint64_t cmwq_first(struct cmwq_book *book);
+uint32_t cmwq_open_count(struct cmwq_book *book);
+uint32_t cmwq_active_count(struct cmwq_book *book);
+
+/**
+ * cmwq_entry() - the entry with this number; kept are those from cmwq_first() to before cmwq_len()
+ * cmwq_entry_line() - its line, with its line feed
+ * cmwq_forget() - forgets all that are kept, so that a history that runs on takes as many more; the answers stay those of the whole history
+ * Return: CMWQ_OK; CMWQ_REFUSED: it isn't kept; CMWQ_CLOSED; CMWQ_SHORT.
+ */
+uint32_t cmwq_entry(struct cmwq_book *book, uint64_t number, struct cmwq_entry *entry);
+uint32_t cmwq_entry_line(struct cmwq_book *book, uint64_t number, uint8_t *out, size_t out_len, size_t *written);
+uint32_t cmwq_forget(struct cmwq_book *book);
+
+/**
+ * cmwq_check() - judges a whole history file, of any format, as `cmwq check`; needs no book
+ * @out: takes its line: "legal <entries>", or the first entry that is wrong and what should stand there
+ * Return: CMWQ_OK: legal; CMWQ_ILLEGAL; CMWQ_REFUSED: no history, nothing is written; CMWQ_NO_MEMORY; CMWQ_SHORT.
+ */
+uint32_t cmwq_check(const uint8_t *text, size_t len, uint8_t *out, size_t out_len, size_t *written);
+
+/* The layout: tools/c holds the sizes against those that the crate proves. */
+CMWQ_ASSERT(sizeof(struct cmwq_book) == 2 * sizeof(void *) && offsetof(struct cmwq_book, live) == sizeof(void *) && sizeof(size_t) == 8);
+CMWQ_ASSERT(sizeof(struct cmwq_shape) == 24 && offsetof(struct cmwq_shape, keep) == 8 && offsetof(struct cmwq_shape, items) == 12 &&
+            offsetof(struct cmwq_shape, cpus) == 14 && offsetof(struct cmwq_shape, workers) == 15 && offsetof(struct cmwq_shape, callers) == 16);
+CMWQ_ASSERT(sizeof(struct cmwq_queue) == 6 && offsetof(struct cmwq_queue, high) == 2 && offsetof(struct cmwq_queue, freezable) == 4);
+CMWQ_ASSERT(sizeof(struct cmwq_who) == 3 && offsetof(struct cmwq_who, index) == 1 && offsetof(struct cmwq_who, cpu) == 2);
+CMWQ_ASSERT(sizeof(struct cmwq_call) == 24 && offsetof(struct cmwq_call, number) == 8 && offsetof(struct cmwq_call, item) == 12 &&
+            offsetof(struct cmwq_call, kind) == 14 && offsetof(struct cmwq_call, queue) == 15 && offsetof(struct cmwq_call, cpu) == 16 &&
+            offsetof(struct cmwq_call, who) == 17);
+CMWQ_ASSERT(sizeof(struct cmwq_reply) == 24 && offsetof(struct cmwq_reply, other) == 8 && offsetof(struct cmwq_reply, item) == 16 &&
+            offsetof(struct cmwq_reply, kind) == 18);
+CMWQ_ASSERT(sizeof(struct cmwq_entry) == 56 && offsetof(struct cmwq_entry, call) == 8 && offsetof(struct cmwq_entry, reply) == 32);
+CMWQ_ASSERT(CMWQ_DESTROY == 20 && CMWQ_TIMERS == 34 && CMWQ_ILLEGAL == 7);
+#undef CMWQ_ASSERT
+
+#ifdef __cplusplus
+}
+#endif
+#endif

@@ -1,0 +1,24 @@
+/* What libcmwq_c.a asks of the heap, by malloc, realloc and free. malloc aligns to 16 bytes, which is as much as the library asks for. */
+#include <stdbool.h>
+#include <stddef.h>
+#include <stdlib.h>
+
+struct block { bool ok; void *at; };
+
+struct block rattle_alloc(size_t size, size_t align)
+{
+    void *at = malloc(size ? size : align);
+    return (struct block){at != NULL, at};
+}
+
+struct block rattle_realloc(void *old, size_t kept, size_t size, size_t align)
+{
+    void *at = realloc(old, size ? size : align);
+    (void)kept;
+    return (struct block){at != NULL, at ? at : old};
+}
+
+void rattle_dealloc(void *at)
+{
+    free(at);
+}

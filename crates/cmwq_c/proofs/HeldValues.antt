@@ -1,0 +1,30 @@
+-- The machine values of a `Held`. Assumes `Logic`.
+use Rattle.std.proofs.Common.{◌≡◌, List, [], ◌∷◌, ◌++◌, refl, ap, ◌∙◌, T}
+use seplogic.Ra.Ura.{Ura}
+use mir.Syntax.{ty_ptr, ty_struct, tcons, tnil}
+use mir.Val.{Val, vstruct, vcons, vnil, of_list, has_ty, WT}
+use base.Logic.{ent, emp}
+use types.Logic.{Logic, sem}
+use denote.RattleType.{RattleType}
+use denote.Laws.{Is}
+use denote.RawPtr.{Ptr, block_ptr, null_ptr, ptr_val}
+use denote.Shadow.{makes_shadow}
+use denote.Struct.Struct.{Struct}
+use denote.Struct.Owning.{shape}
+use Rattle.cmwq_c.specs.contracts.held.Held as held
+
+abbrev pub held_of : Ptr → Val
+held_of p = vstruct (vcons (ptr_val p) vnil)
+
+pub held_good : (p : Ptr) → T (has_ty (ty_struct [] (tcons ty_ptr tnil)) (held_of p)) × WT (held_of p)
+held_good (block_ptr b o) = (tt, (tt, tt))
+held_good null_ptr = (tt, (record { fits = lib.Dec.lit< tt }, tt))
+
+abbrev pub Data : RattleType
+Data = Struct (shape held.the_type)
+
+pub held_told : (p : Ptr) (vs : List Val) → Is Data (p, tt) vs → vs ≡ held_of p ∷ []
+held_told p vs is = is.1.0 ∙ ap (λ (ws : List Val). vstruct (of_list (ws ++ [])) ∷ []) is.1.1.0
+
+pub held_made : {M : Type 1} {𝓤 : Ura M} (𝓛 : Logic 𝓤) (p : Ptr) → ent 𝓤 (emp 𝓤) (sem 𝓛 (Data.own_val (p, tt) (held_of p ∷ [])))
+held_made 𝓛 p = makes_shadow 𝓛 (Data.own_val (p, tt) (held_of p ∷ [])) (λ vss. (tt, (tt, tt))) ((ptr_val p ∷ [], tt), (refl, (refl, tt)))

@@ -1,0 +1,4 @@
+pub mod ApartValues
+pub mod HeldValues
+pub mod Verdicts
+pub mod Tables

@@ -1,0 +1,5 @@
+pub mod Books
+pub mod Owned
+pub mod Numbers
+pub mod Statuses
+pub mod Verdicts

@@ -1,0 +1,12 @@
+-- What a handle owns.
+use Rattle.std.specs.Prelude.{Bool, true, false}
+use base.Fml.{Fml, ftrue}
+use denote.RawPtr.{Ptr}
+use Rattle.libc.specs.Heap.{chunk}
+use Rattle.std_alloc.specs.Box.Ownership.{box_owns}
+use Rattle.cmwq_c.specs.contracts.session.Session.{the_row}
+
+-- a book of the heap at p where it is full, and nothing else
+abbrev pub held : Bool → Ptr → the_row.Denot → Fml
+held true p book = box_owns chunk the_row p book
+held false p book = ftrue

@@ -1,0 +1,222 @@
+//! A book with its shape and the entries that it keeps, so that each call of C is tried before it is made.
+ghost use Rattle.std.specs.Prelude.{◌≡◌, ◌+◌, ◌<◌, ◌≤◌, true, length, count_by, None, Some, IfOk, IfErr, OnErr, IfSome, is_some, slice_get, nat_lt, IsTrue};
+ghost use Rattle.cmwq_model.specs.Layout.{fits, most_room, is_layout};
+ghost use Rattle.cmwq_model.specs.Calls.{serial_of};
+ghost use Rattle.cmwq_model.specs.Legal as legal;
+ghost use Rattle.cmwq_model.specs.Queueings.{still_open};
+ghost use Rattle.cmwq_model.specs.Active.{is_active};
+ghost use Rattle.cmwq_core.specs.History.{next_entry, past_in, is_ready};
+ghost use Rattle.cmwq_core.specs.Plans.{IsPlan};
+ghost use Rattle.cmwq_c.specs.Books.{is_inside, opened, with_made, with_none_kept, has_space, entry_at, refusal_of};
+
+use cmwq_core::{Course, Plan};
+use cmwq_model::{Call, Entry, ItemId, NoMemory, Number, Shape, Who};
+use cmwq_tail::Tail;
+use std::alloc::Global;
+use std::marker::Model;
+
+/// Why a call isn't made.
+#[derive(Clone, Copy)]
+pub enum Refusal {
+    /// It is no call of the shape.
+    Unfit,
+    /// As many entries are kept as may be.
+    Crowded,
+    /// There is no room.
+    Full,
+}
+
+/// What a handle has.
+#[derive(Drop)]
+pub struct Session {
+    shape: Shape,
+    course: Course,
+    tail: Tail<Entry>,
+}
+
+impl Model for Session {
+    ghost use Rattle.std.specs.Prelude.{◌≡◌};
+    ghost use Rattle.cmwq_c.specs.Books.{Opened};
+
+    ghost Value = { Opened };
+
+    ghost view = { λ s. record { history = s.course; given = s.tail.given; keep = s.tail.room } };
+
+    ghost invariant = { λ s. (s.course.layout ≡ s.shape) × (s.course.room ≡ s.shape.room) × (s.tail.all ≡ s.course.entries) };
+}
+
+impl Session {
+    /// No entries. The error says that memory ran out.
+    pub fn new(alloc: Global, shape: Shape, keep: u32) -> Result<Session, NoMemory>
+        ensures { IfOk result (λ s. s ≡ opened shape keep) }
+    {
+        let course = Course::new(alloc, &shape, shape.counts().room)?;
+        let tail = Tail::new(alloc, keep)?;
+        Ok(Session {
+            shape,
+            course,
+            tail,
+        })
+    }
+
+    /// Why the call wouldn't be made, but for want of room.
+    fn refusal(&self, who: Who, call: Call) -> Option<Refusal>
+        ensures fit { result ≡ None → fits self.now.history.layout who call ≡ true }
+        ensures space { result ≡ None → has_space self.now ≡ true }
+        ensures same { IfSome result (λ r. refusal_of self.now who call ≡ Some r) }
+    {
+        if !self.shape.fits(who, call) {
+            Some(Refusal::Unfit)
+        } else if self.tail.space() == 0 {
+            Some(Refusal::Crowded)
+        } else {
+            None
+        }
+    }
+
+    /// What a step of the call would make.
+    pub fn plan(&self, who: Who, call: Call) -> Result<Plan, Refusal>
+        ensures plan { IfOk result (λ plan. IsPlan self.now.history who call plan) }
+        ensures space { IfOk result (λ plan. has_space self.now ≡ true) }
+        ensures made { IfOk result (λ plan. refusal_of self.now who call ≡ None) }
+        ensures refused { IfErr result (λ r. refusal_of self.now who call ≡ Some r) }
+    {
+        if let Some(refusal) = self.refusal(who, call) {
+            return Err(refusal);
+        }
+        match self.course.plan(who, call) {
+            Ok(plan) => Ok(plan),
+            Err(_) => Err(Refusal::Full),
+        }
+    }
+
+    /// Makes what was planned.
+    pub fn carry(&mut self, plan: &Plan)
+        requires plan { (who : _) × (call : _) × IsPlan self.old.history who call plan.now }
+        requires space { has_space self.old ≡ true }
+        ensures { self.new ≡ with_made self.old plan.now.mark.entry }
+    {
+        let _within = self.course.len();
+        let _reply = self.course.carry(plan);
+        self.tail.push(plan.mark.entry);
+    }
+
+    /// Makes the call, and answers its entry.
+    pub fn step(&mut self, who: Who, call: Call) -> Result<Entry, Refusal>
+        ensures entry { IfOk result (λ entry. entry ≡ next_entry self.old.history who call) }
+        ensures made { IfOk result (λ entry. self.new ≡ with_made self.old entry) }
+        ensures taken { IfOk result (λ _. refusal_of self.old who call ≡ None) }
+        ensures refused { IfErr result (λ r. refusal_of self.old who call ≡ Some r) }
+        ensures kept { OnErr result (self.new ≡ self.old) }
+    {
+        if let Some(refusal) = self.refusal(who, call) {
+            return Err(refusal);
+        }
+        let _within = self.course.len();
+        match self.course.next(who, call) {
+            Ok(entry) => {
+                let _within = self.tail.len();
+                self.tail.push(entry);
+                Ok(entry)
+            }
+            Err(_) => Err(Refusal::Full),
+        }
+    }
+
+    /// How many entries there are.
+    pub fn len(&self) -> u64
+        ensures { result ≡ length self.now.history.entries }
+    {
+        self.course.len()
+    }
+
+    /// How many entries more there is room for, what is owed among them.
+    pub fn room_left(&self) -> u64
+        ensures { result + length self.now.history.entries ≡ self.now.history.room }
+    {
+        let len = self.course.len();
+        self.shape.counts().room - len
+    }
+
+    /// How many entries were forgotten.
+    pub fn first(&self) -> u64
+        ensures { result ≡ self.now.given }
+    {
+        self.tail.first()
+    }
+
+    /// The entry with this number, if it is kept.
+    pub fn entry(&self, number: Number) -> Option<Entry>
+        ensures { result ≡ entry_at self.now number }
+    {
+        let first = self.tail.first();
+        if number < first {
+            return None;
+        }
+        self.tail.kept().get((number - first) as usize).copied()
+    }
+
+    /// Forgets all entries that are kept.
+    pub fn forget(&mut self)
+        ensures { self.new ≡ with_none_kept self.old }
+    {
+        self.tail.forget();
+    }
+
+    /// Whether the ticket with this number waits for nothing.
+    pub fn ready(&self, ticket: Number) -> bool
+        ensures { result ≡ is_ready (past_in self.now.history) ticket }
+    {
+        self.course.ready(ticket)
+    }
+
+    /// The bits of an item, if the shape has it.
+    pub fn bits(&self, item: ItemId) -> Option<u8>
+        ensures inside { is_some result ≡ nat_lt item.0 self.now.history.layout.items }
+        ensures bits { IfSome result (λ b. b ≡ legal.bits (past_in self.now.history) item.0) }
+    {
+        if item.0 < self.shape.counts().items {
+            Some(self.course.bits(item))
+        } else {
+            None
+        }
+    }
+
+    fn has(&self, who: Who) -> bool
+        ensures { result ≡ is_inside self.now.history.layout who }
+    {
+        let counts = self.shape.counts();
+        match who {
+            Who::Caller(caller) => caller.0 < counts.callers,
+            Who::Worker(worker) => {
+                worker.pool.cpu.0 < counts.cpus && worker.index < counts.workers
+            }
+        }
+    }
+
+    /// How many entries this caller or worker has, if the shape has it.
+    pub fn serial(&self, who: Who) -> Option<u64>
+        ensures inside { is_some result ≡ is_inside self.now.history.layout who }
+        ensures serial { IfSome result (λ s. s ≡ serial_of (past_in self.now.history) who) }
+    {
+        if self.has(who) {
+            Some(self.course.serial(who))
+        } else {
+            None
+        }
+    }
+
+    /// How many queueings are open.
+    pub fn open_count(&self) -> u32
+        ensures { result ≡ length (still_open (past_in self.now.history)) }
+    {
+        self.course.open_count()
+    }
+
+    /// How many of them are active.
+    pub fn active_count(&self) -> u32
+        ensures { result ≡ count_by (is_active self.now.history.layout (past_in self.now.history)) (still_open (past_in self.now.history)) }
+    {
+        self.course.active_count()
+    }
+}

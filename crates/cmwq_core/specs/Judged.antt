@@ -1,0 +1,12 @@
+-- What callers see of a judge: the entries that were right so far.
+use Rattle.std.specs.Prelude.{List, [], ◌∷◌, ◌++◌}
+use Rattle.cmwq_model.specs.declared.entry.Entry.{Entry}
+use Rattle.cmwq_model.specs.Layout.{Layout}
+
+-- the entries stand with the oldest first
+pub record Judged : Type 0 where
+  pub layout : Layout
+  pub entries : List Entry
+
+abbrev pub seen_too : Judged → Entry → Judged
+seen_too j e = record j { entries = j.entries ++ e ∷ [] }

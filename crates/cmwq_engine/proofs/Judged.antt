@@ -1,0 +1,21 @@
+-- The first wrong entry of a history stays that when more is read behind it.
+use Rattle.std.proofs.Common.{◌≡◌, List, [], ◌∷◌, ◌++◌, length, refl, ap, ◌∙◌, append_assoc}
+use Rattle.cmwq_model.specs.declared.entry.Entry.{Entry}
+use Rattle.cmwq_model.specs.declared.verdict.Illegal.{Illegal}
+use Rattle.cmwq_model.specs.Layout.{Layout}
+use Rattle.cmwq_model.specs.Legal.{IsLegal, past_of}
+use Rattle.cmwq_model.specs.Verdict.{Wants, IsFirstWrong}
+
+pub wrong_stays : (s : Layout) (entries : List Entry) (x : Entry) (i : Illegal) → IsFirstWrong s entries i → IsFirstWrong s (entries ++ x ∷ []) i
+wrong_stays s entries x i w = record {
+  before = w.before;
+  entry = w.entry;
+  rest = w.rest ++ x ∷ [];
+  parts = ap (λ l. l ++ x ∷ []) w.parts ∙ append_assoc w.before (w.entry ∷ w.rest) (x ∷ []);
+  place = w.place;
+  is_legal = w.is_legal;
+  wants = w.wants;
+}
+
+pub wrong_now : (s : Layout) (entries : List Entry) (x : Entry) (i : Illegal) → i.at ≡ length entries → IsLegal s (past_of entries) → Wants s (past_of entries) x i.wanted → IsFirstWrong s (entries ++ x ∷ []) i
+wrong_now s entries x i at legal wants = record { before = entries; entry = x; rest = []; parts = refl; place = at; is_legal = legal; wants = wants }

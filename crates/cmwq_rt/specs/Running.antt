@@ -1,0 +1,65 @@
+-- What a worker's loop leaves: one run after another.
+use Rattle.std.specs.Prelude.{◌≡◌, ◌⊎◌, ◌<◌, ℕ, zero, suc, Bool, true, false, Option, Some, None, Result, Ok, Err, MatchOption}
+use mathlib.Core.List.{IsPrefix}
+use Rattle.cmwq_model.specs.declared.id.Who.{Who}
+use Rattle.cmwq_model.specs.declared.id.ItemId.{ItemId}
+use Rattle.cmwq_model.specs.declared.call.Call.{Call}
+use Rattle.cmwq_model.specs.declared.call.Call.TheVariants as call
+use Rattle.cmwq_model.specs.declared.reply.Reply.{Reply}
+use Rattle.cmwq_model.specs.declared.reply.Reply.TheVariants as reply
+use Rattle.cmwq_model.specs.Layout.{Layout}
+use Rattle.cmwq_desk.specs.Seats.{Seated}
+use Rattle.cmwq_desk.specs.Held.{active_in}
+use Rattle.cmwq_desk.specs.Calls.{Extends}
+use Rattle.cmwq_desk.specs.Settled.{Settles}
+use Rattle.cmwq_desk.specs.Starts.{StartsOne}
+use Rattle.cmwq_desk.specs.declared.fault.RunFault.{RunFault}
+use Rattle.cmwq_desk.specs.declared.fault.RunFault.TheVariants.{Full, Unfinished, NoPlace, NoThread}
+
+-- a worker that runs an item, and the fault that one of its calls has answered since the run began, want of room aside
+pub record Running : Type 0 where
+  pub seat : Seated
+  pub fault : Option RunFault
+
+-- the fault of a run after a call has answered
+abbrev pub fault_after : Result Reply RunFault → Option RunFault → Option RunFault
+fault_after (Ok r) old = old
+fault_after (Err Full) old = old
+fault_after (Err f) old = Some f
+
+-- whether a call may answer this fault: the others are those of who makes seats and threads
+abbrev pub is_of_call : RunFault → Bool
+is_of_call Unfinished = false
+is_of_call NoPlace = false
+is_of_call NoThread = false
+is_of_call f = true
+
+-- one entry was made, by this call
+abbrev pub MakesOne : Layout → Seated → Call → Seated → Type 0
+MakesOne s v c w = (r : Reply) × Extends s v c r w
+
+-- what one run of an item does, as a relation of what its worker saw when it began and when it had ended
+abbrev pub Behavior : Type 1
+Behavior = ItemId → Seated → Seated → Type 0
+
+-- the work function ran, and a run that it left asleep woke
+abbrev pub RunsItem : Layout → Behavior → ItemId → Seated → Seated → Type 0
+RunsItem s does item v w = (done : Seated) × does item v done × ((w ≡ done) ⊎ MakesOne s done call.Wake w)
+
+-- the run ended, and the worker may have been sent to the reserve
+abbrev pub EndsRun : Layout → Seated → Seated → Type 0
+EndsRun s v w = (ended : Seated) × MakesOne s v call.Finish ended × ((w ≡ ended) ⊎ Extends s ended call.Retire reply.Retired w)
+
+-- so many runs, one after another: each starts a queueing, runs its item, and ends
+abbrev pub RunsInTurn : Layout → Behavior → ℕ → Seated → Seated → Type 0
+RunsInTurn s does zero v w = w ≡ v
+RunsInTurn s does (suc n) v w = (before started ran : Seated) × (item : ItemId)
+    × RunsInTurn s does n v before × StartsOne s before item started × RunsItem s does item started ran × EndsRun s ran w
+
+-- a worker has run what it started, and has made no other entry in the history that it sees
+abbrev pub HasWorked : Layout → Behavior → Seated → Seated → Type 0
+HasWorked s does v w = (n : ℕ) × (last : Seated) × RunsInTurn s does n v last × Settles w.seen last w
+
+-- what a worker does next: it starts a queueing of this item, or it sees that nothing active is open
+abbrev pub IsNext : Layout → Seated → Option ItemId → Seated → Type 0
+IsNext s v next w = MatchOption next ((active_in s w.seen ≡ 0) × Settles w.seen v w) (λ item. (item.0 < s.items) × StartsOne s v item w)
