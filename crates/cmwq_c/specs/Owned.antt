@@ -2,9 +2,14 @@
 use Rattle.std.specs.Prelude.{Bool, true, false}
 use base.Fml.{Fml, ftrue}
 use denote.RawPtr.{Ptr}
-use Rattle.libc.specs.Heap.{chunk}
+use mir.Syntax.{Ty}
+use Rattle.std_heap.specs.contracts.GlobalAllocator.TheImpl.{ghosts}
 use Rattle.std_alloc.specs.Box.Ownership.{box_owns}
 use Rattle.cmwq_c.specs.contracts.session.Session.{the_row}
+
+-- what the heap wants to free a block, by whichever handle to it
+abbrev pub chunk : Ty → Ptr → Fml
+chunk = ghosts.dealloc_token (record { memory = record { seal = tt } })
 
 -- a book of the heap at p where it is full, and nothing else
 abbrev pub held : Bool → Ptr → the_row.Denot → Fml

@@ -22,14 +22,13 @@ use denote.Steps.{nothing, heard}
 use denote.Triple.Entry.{alive}
 use denote.Triple.Walked.{Stays, stay_dropped, walk_of, Goes-dropped}
 use Rattle.core.proofs.alloc.Calls.{Al, handle_tells}
-use Rattle.libc.specs.Heap.{chunk}
 use Rattle.std.proofs.raw_atomic.Walks.{proved_at, leaves}
 use Rattle.std_alloc.specs.Box.Ownership.{box_owns}
 use Rattle.std_heap.specs.contracts.Global as global
 use Rattle.std_heap.specs.contracts.GlobalAllocator.TheImpl as impl
 use Rattle.std_heap.proofs.Global.TheLaws as laws
 use Rattle.cmwq_c.specs.contracts.session.Session as book
-use Rattle.cmwq_c.specs.Owned.{held}
+use Rattle.cmwq_c.specs.Owned.{chunk, held}
 use Rattle.cmwq_c.specs.contracts.held.Held as Held
 use Rattle.cmwq_c.proofs.ApartValues.{both, apart_good, apart_in}
 use Rattle.cmwq_c.proofs.HeldValues.{held_of, held_good, held_told}
