@@ -8,7 +8,8 @@ use Rattle.cmwq_core.specs.History.{next_entry}
 use Rattle.cmwq_text.specs.EntryText.{entry_text}
 use Rattle.cmwq_c.specs.declared.session.Refusal.{Refusal}
 use Rattle.cmwq_c.specs.declared.session.Refusal.TheVariants.{Unfit, Crowded, Full}
-use Rattle.cmwq_c.specs.Books.{Opened, is_inside, refusal_of}
+use Rattle.cmwq_tail_book.specs.Lasting.{Lasting}
+use Rattle.cmwq_c.specs.Books.{is_inside, refusal_of}
 
 -- 0 done, 1 refused, 3 full, 6 crowded
 abbrev pub status_of : Option Refusal → ℕ
@@ -18,9 +19,9 @@ status_of (Some Full) = 3
 status_of (Some Crowded) = 6
 
 -- of a call by its numbers or by its line: 1 where these mean none
-abbrev pub call_status : Opened → Option (Who × Call) → ℕ
-call_status o None = 1
-call_status o (Some asked) = status_of (refusal_of o asked.0 asked.1)
+abbrev pub call_status : Lasting → Option (Who × Call) → ℕ
+call_status l None = 1
+call_status l (Some asked) = status_of (refusal_of l asked.0 asked.1)
 
 -- 5 where so many bytes don't hold a text
 abbrev pub space_status : ℕ → List ℕ → ℕ
@@ -30,9 +31,9 @@ space_status room text = if nat_lt room (length text) then 5 else 0
 abbrev pub unless : ℕ → ℕ → ℕ
 unless status next = if status == 0 then next else status
 
-abbrev pub line_status : Opened → Option (Who × Call) → ℕ → ℕ
-line_status o None room = 1
-line_status o (Some asked) room = unless (status_of (refusal_of o asked.0 asked.1)) (space_status room (entry_text (next_entry o.history asked.0 asked.1)))
+abbrev pub line_status : Lasting → Option (Who × Call) → ℕ → ℕ
+line_status l None room = 1
+line_status l (Some asked) room = unless (status_of (refusal_of l asked.0 asked.1)) (space_status room (entry_text (next_entry l.history asked.0 asked.1)))
 
 -- of an entry by its number: 1 where it isn't kept
 abbrev pub entry_status : Option Entry → ℕ

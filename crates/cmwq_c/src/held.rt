@@ -1,6 +1,6 @@
 //! A book of the heap as C holds it: by a pointer of no type.
 ghost use Rattle.std.specs.Prelude.{◌≡◌, true, false, Bool};
-ghost use Rattle.cmwq_c.specs.Books.{Opened};
+ghost use Rattle.cmwq_tail_book.specs.Lasting.{Lasting};
 ghost use Rattle.cmwq_c.specs.Owned.{held};
 
 use crate::apart::Apart;
@@ -15,7 +15,7 @@ use std::ptr;
 pub struct Held {
     at: *mut u8,
     pub ghost full: { Bool },
-    pub ghost book: { Opened },
+    pub ghost book: { Lasting },
 }
 
 impl Model for Held {

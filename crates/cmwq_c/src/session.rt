@@ -1,17 +1,18 @@
-//! A book with its shape and the entries that it keeps, so that each call of C is tried before it is made.
+//! A book with its shape, so that each call of C is tried before it is made.
 ghost use Rattle.std.specs.Prelude.{◌≡◌, ◌+◌, ◌<◌, ◌≤◌, true, length, count_by, None, Some, IfOk, IfErr, OnErr, IfSome, is_some, slice_get, nat_lt, IsTrue};
-ghost use Rattle.cmwq_model.specs.Layout.{fits, most_room, is_layout};
+ghost use Rattle.cmwq_model.specs.Layout.{fits, is_layout};
 ghost use Rattle.cmwq_model.specs.Calls.{serial_of};
 ghost use Rattle.cmwq_model.specs.Legal as legal;
 ghost use Rattle.cmwq_model.specs.Queueings.{still_open};
 ghost use Rattle.cmwq_model.specs.Active.{is_active};
 ghost use Rattle.cmwq_core.specs.History.{next_entry, past_in, is_ready};
 ghost use Rattle.cmwq_core.specs.Plans.{IsPlan};
-ghost use Rattle.cmwq_c.specs.Books.{is_inside, opened, with_made, with_none_kept, has_space, entry_at, refusal_of};
+ghost use Rattle.cmwq_tail_book.specs.Lasting.{opened, with_made, with_none_kept, has_space, entry_at};
+ghost use Rattle.cmwq_c.specs.Books.{is_inside, refusal_of, refused_by};
 
-use cmwq_core::{Course, Plan};
+use cmwq_core::Plan;
 use cmwq_model::{Call, Entry, ItemId, NoMemory, Number, Shape, Who};
-use cmwq_tail::Tail;
+use cmwq_tail_book::{TailBook, Unmade};
 use std::alloc::Global;
 use std::marker::Model;
 
@@ -26,23 +27,31 @@ pub enum Refusal {
     Full,
 }
 
+fn refused_by(unmade: Unmade) -> Refusal
+    ensures { result ≡ refused_by unmade }
+{
+    match unmade {
+        Unmade::Crowded => Refusal::Crowded,
+        Unmade::Full => Refusal::Full,
+    }
+}
+
 /// What a handle has.
 #[derive(Drop)]
 pub struct Session {
     shape: Shape,
-    course: Course,
-    tail: Tail<Entry>,
+    book: TailBook,
 }
 
 impl Model for Session {
     ghost use Rattle.std.specs.Prelude.{◌≡◌};
-    ghost use Rattle.cmwq_c.specs.Books.{Opened};
+    ghost use Rattle.cmwq_tail_book.specs.Lasting.{Lasting};
 
-    ghost Value = { Opened };
+    ghost Value = { Lasting };
 
-    ghost view = { λ s. record { history = s.course; given = s.tail.given; keep = s.tail.room } };
+    ghost view = { λ s. s.book };
 
-    ghost invariant = { λ s. (s.course.layout ≡ s.shape) × (s.course.room ≡ s.shape.room) × (s.tail.all ≡ s.course.entries) };
+    ghost invariant = { λ s. s.book.history.layout ≡ s.shape };
 }
 
 impl Session {
@@ -50,28 +59,8 @@ impl Session {
     pub fn new(alloc: Global, shape: Shape, keep: u32) -> Result<Session, NoMemory>
         ensures { IfOk result (λ s. s ≡ opened shape keep) }
     {
-        let course = Course::new(alloc, &shape, shape.counts().room)?;
-        let tail = Tail::new(alloc, keep)?;
-        Ok(Session {
-            shape,
-            course,
-            tail,
-        })
-    }
-
-    /// Why the call wouldn't be made, but for want of room.
-    fn refusal(&self, who: Who, call: Call) -> Option<Refusal>
-        ensures fit { result ≡ None → fits self.now.history.layout who call ≡ true }
-        ensures space { result ≡ None → has_space self.now ≡ true }
-        ensures same { IfSome result (λ r. refusal_of self.now who call ≡ Some r) }
-    {
-        if !self.shape.fits(who, call) {
-            Some(Refusal::Unfit)
-        } else if self.tail.space() == 0 {
-            Some(Refusal::Crowded)
-        } else {
-            None
-        }
+        let book = TailBook::new(alloc, &shape, keep)?;
+        Ok(Session { shape, book })
     }
 
     /// What a step of the call would make.
@@ -81,12 +70,12 @@ impl Session {
         ensures made { IfOk result (λ plan. refusal_of self.now who call ≡ None) }
         ensures refused { IfErr result (λ r. refusal_of self.now who call ≡ Some r) }
     {
-        if let Some(refusal) = self.refusal(who, call) {
-            return Err(refusal);
+        if !self.shape.fits(who, call) {
+            return Err(Refusal::Unfit);
         }
-        match self.course.plan(who, call) {
+        match self.book.plan(who, call) {
             Ok(plan) => Ok(plan),
-            Err(_) => Err(Refusal::Full),
+            Err(unmade) => Err(refused_by(unmade)),
         }
     }
 
@@ -96,9 +85,7 @@ impl Session {
         requires space { has_space self.old ≡ true }
         ensures { self.new ≡ with_made self.old plan.now.mark.entry }
     {
-        let _within = self.course.len();
-        let _reply = self.course.carry(plan);
-        self.tail.push(plan.mark.entry);
+        self.book.carry(plan);
     }
 
     /// Makes the call, and answers its entry.
@@ -109,17 +96,12 @@ impl Session {
         ensures refused { IfErr result (λ r. refusal_of self.old who call ≡ Some r) }
         ensures kept { OnErr result (self.new ≡ self.old) }
     {
-        if let Some(refusal) = self.refusal(who, call) {
-            return Err(refusal);
+        if !self.shape.fits(who, call) {
+            return Err(Refusal::Unfit);
         }
-        let _within = self.course.len();
-        match self.course.next(who, call) {
-            Ok(entry) => {
-                let _within = self.tail.len();
-                self.tail.push(entry);
-                Ok(entry)
-            }
-            Err(_) => Err(Refusal::Full),
+        match self.book.step(who, call) {
+            Ok(entry) => Ok(entry),
+            Err(unmade) => Err(refused_by(unmade)),
         }
     }
 
@@ -127,14 +109,14 @@ impl Session {
     pub fn len(&self) -> u64
         ensures { result ≡ length self.now.history.entries }
     {
-        self.course.len()
+        self.book.len()
     }
 
     /// How many entries more there is room for, what is owed among them.
     pub fn room_left(&self) -> u64
         ensures { result + length self.now.history.entries ≡ self.now.history.room }
     {
-        let len = self.course.len();
+        let len = self.book.len();
         self.shape.counts().room - len
     }
 
@@ -142,32 +124,28 @@ impl Session {
     pub fn first(&self) -> u64
         ensures { result ≡ self.now.given }
     {
-        self.tail.first()
+        self.book.first()
     }
 
     /// The entry with this number, if it is kept.
     pub fn entry(&self, number: Number) -> Option<Entry>
         ensures { result ≡ entry_at self.now number }
     {
-        let first = self.tail.first();
-        if number < first {
-            return None;
-        }
-        self.tail.kept().get((number - first) as usize).copied()
+        self.book.entry(number)
     }
 
     /// Forgets all entries that are kept.
     pub fn forget(&mut self)
         ensures { self.new ≡ with_none_kept self.old }
     {
-        self.tail.forget();
+        self.book.forget();
     }
 
     /// Whether the ticket with this number waits for nothing.
     pub fn ready(&self, ticket: Number) -> bool
         ensures { result ≡ is_ready (past_in self.now.history) ticket }
     {
-        self.course.ready(ticket)
+        self.book.ready(ticket)
     }
 
     /// The bits of an item, if the shape has it.
@@ -176,7 +154,7 @@ impl Session {
         ensures bits { IfSome result (λ b. b ≡ legal.bits (past_in self.now.history) item.0) }
     {
         if item.0 < self.shape.counts().items {
-            Some(self.course.bits(item))
+            Some(self.book.bits(item))
         } else {
             None
         }
@@ -200,7 +178,7 @@ impl Session {
         ensures serial { IfSome result (λ s. s ≡ serial_of (past_in self.now.history) who) }
     {
         if self.has(who) {
-            Some(self.course.serial(who))
+            Some(self.book.serial(who))
         } else {
             None
         }
@@ -210,13 +188,13 @@ impl Session {
     pub fn open_count(&self) -> u32
         ensures { result ≡ length (still_open (past_in self.now.history)) }
     {
-        self.course.open_count()
+        self.book.open_count()
     }
 
     /// How many of them are active.
     pub fn active_count(&self) -> u32
         ensures { result ≡ count_by (is_active self.now.history.layout (past_in self.now.history)) (still_open (past_in self.now.history)) }
     {
-        self.course.active_count()
+        self.book.active_count()
     }
 }

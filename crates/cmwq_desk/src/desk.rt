@@ -47,9 +47,6 @@ pub struct Desk<N: HubName> {
     crowded: bool,
 }
 
-/// As many entries are made in one hold of the lock, at most: a call's own, and a fire of each item.
-const MOST_AT_ONCE: u32 = 257;
-
 impl<N: HubName> Model for Desk<N> {
     ghost use Rattle.std.specs.Prelude.{◌≡◌, length};
     ghost use Rattle.cmwq_core.specs.History.{History};
@@ -488,13 +485,18 @@ impl<N: HubName> Desk<N> {
         self.entries.audit(all);
     }
 
-    /// Whether all that is made in one hold of the lock can be kept, or nothing is made any more.
-    pub fn has_space(&self) -> bool {
+    /// Whether so many entries can be kept, or all that the room still allows, or nothing is made any more.
+    pub fn has_space(&self, entries: u32) -> bool {
         let space = self.tail.space();
-        let len = u64::from(self.course.len());
-        self.failed
-            || MOST_AT_ONCE <= space
-            || u64::from(self.shape.counts().room) <= u64::from(space) + len
+        let len = self.course.len();
+        self.failed || entries <= space || self.shape.counts().room <= u64::from(space) + len
+    }
+
+    /// Drops all that is kept, which nobody is handed then.
+    pub fn drop_kept(&mut self)
+        ensures { self.new ≡ self.old }
+    {
+        self.tail.forget();
     }
 
     /// Somebody sleeps until there is space.

@@ -49,21 +49,19 @@ fn play_under<N: HubName, S: Scene, R: Wait + Abort + AllocGlobal>(
     scene.play::<N, R>(rt, hub, seats);
 }
 
-/// Opens a hub of this shape, for the scene alone.
-pub(crate) fn on_a_hub<S: Scene, R: Wait + Abort + AllocGlobal>(rt: &R, shape: &Shape, scene: &S) {
-    let parts = HubParts::new(rt, rt.alloc(), shape).expect(rt, "memory");
+/// Opens the hub of these parts, for the scene alone.
+pub(crate) fn on_parts<S: Scene, R: Wait + Abort + AllocGlobal>(
+    rt: &R,
+    parts: HubParts,
+    scene: &S,
+) {
     play_under::<Brand, S, R>(rt, parts, scene);
 }
 
-/// Opens a hub of this shape that keeps so many entries at a time, for the scene alone.
-pub(crate) fn on_a_hub_keeping<S: Scene, R: Wait + Abort + AllocGlobal>(
-    rt: &R,
-    shape: &Shape,
-    kept: u32,
-    scene: &S,
-) {
-    let parts = HubParts::keeping(rt, rt.alloc(), shape, kept).expect(rt, "memory");
-    play_under::<Brand, S, R>(rt, parts, scene);
+/// Opens a hub of this shape that keeps its whole history, for the scene alone.
+pub(crate) fn on_a_hub<S: Scene, R: Wait + Abort + AllocGlobal>(rt: &R, shape: &Shape, scene: &S) {
+    let parts = HubParts::new(rt, rt.alloc(), shape).expect(rt, "memory");
+    on_parts(rt, parts, scene);
 }
 
 /// Makes a caller's call.

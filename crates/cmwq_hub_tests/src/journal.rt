@@ -1,8 +1,8 @@
-//! A hub that keeps few entries at a time: a journal takes them from it, batch after batch.
+//! Hubs that keep few entries at a time: a journal takes them, batch after batch, or they are dropped.
 
-use crate::fixture::{Scene, is_legal, make, on_a_hub_keeping, plain_queue, shape};
-use cmwq_model::{Call, Counts, CpuId, Entry, ItemId, QueueId};
-use cmwq_rt::{Caller, Hub, HubName, Journal, Seats};
+use crate::fixture::{Scene, is_legal, make, on_parts, plain_queue, shape};
+use cmwq_model::{Call, Counts, CpuId, Entry, ItemId, QueueId, Shape};
+use cmwq_rt::{Caller, Hub, HubName, HubParts, Journal, Seats};
 use std::alloc::Global;
 use std::process::Abort;
 use std::sync::Wait;
@@ -15,37 +15,51 @@ const COUNTS: Counts = Counts {
     room: 5_000_000_000,
 };
 
-/// How many entries the hub keeps.
-const KEPT: u32 = 512;
+const ITEM: ItemId = ItemId(0);
 
-/// How many pairs of calls are made before a batch is taken: half of what is kept, as a journal is then woken.
-const PAIRS: u32 = 128;
+const QUEUE: Call = Call::Queue {
+    item: ITEM,
+    queue: QueueId(0),
+    cpu: CpuId(0),
+};
 
-/// Makes as many calls as there is space for, and takes their entries.
-fn take_a_batch<N: HubName, R: Wait + Abort>(
+const CANCEL: Call = Call::Cancel { item: ITEM };
+
+fn one_item(rt: &(impl Abort + AllocGlobal)) -> Shape {
+    shape(rt, COUNTS, &[plain_queue(1)])
+}
+
+/// Makes so many calls, of which each second one takes the item back.
+fn make_calls<N: HubName, R: Wait + Abort>(
     rt: &R,
     hub: &Hub<N>,
     caller: &mut Caller<N>,
+    calls: u32,
+) {
+    for number in 0..calls {
+        let call = if number % 2 == 0 { QUEUE } else { CANCEL };
+        assert!(rt; make(rt, hub, caller, call).is_ok());
+    }
+}
+
+fn take_a_batch<N: HubName, R: Wait + Abort>(
+    rt: &R,
+    hub: &Hub<N>,
     journal: &mut Journal<N>,
     all: &mut Vec<Entry>,
 ) {
-    let item = ItemId(0);
-    let queue = Call::Queue {
-        item,
-        queue: QueueId(0),
-        cpu: CpuId(0),
-    };
-    for _ in 0..PAIRS {
-        assert!(rt; make(rt, hub, caller, queue).is_ok());
-        assert!(rt; make(rt, hub, caller, Call::Cancel { item }).is_ok());
-    }
     assert!(rt; hub.hand_over(rt, journal).expect(rt, "a batch"));
     for entry in journal.batch() {
         all.push(*entry).expect(rt, "memory");
     }
 }
 
-struct Batches;
+/// So many entries are kept, and so many calls are made before each of the batches is taken.
+struct Batches {
+    kept: u32,
+    calls: u32,
+    batches: u32,
+}
 
 impl Scene for Batches {
     fn play<N: HubName, R: Wait + Abort + AllocGlobal>(
@@ -58,29 +72,88 @@ impl Scene for Batches {
         let shape = hub.shape().copy(alloc).expect(rt, "memory");
         let mut seats = seats;
         let mut caller = seats.caller().expect(rt, "a caller");
-        let spare = Vec::with_capacity(alloc, KEPT as usize).expect(rt, "memory");
+        let spare = Vec::with_capacity(alloc, self.kept as usize).expect(rt, "memory");
         let mut journal = hub.journal(rt, spare);
         let mut all = Vec::new(alloc);
-        for _ in 0..4 {
-            take_a_batch(rt, &hub, &mut caller, &mut journal, &mut all);
+        for _ in 0..self.batches {
+            make_calls(rt, &hub, &mut caller, self.calls);
+            take_a_batch(rt, &hub, &mut journal, &mut all);
         }
         hub.close(rt);
         assert!(rt; !hub.hand_over(rt, &mut journal).expect(rt, "the end"));
         assert!(rt; journal.batch().is_empty());
-        assert_eq!(rt; all.len(), 1024);
+        assert_eq!(rt; all.len() as u64, journal.len());
         assert!(rt; is_legal(alloc, &shape, &all).expect(rt, "memory"));
         let mut callers = [caller];
         let mut workers = [];
         let rest = hub
             .into_history(rt, &mut callers, &mut workers)
             .expect(rt, "a history");
-        assert_eq!(rt; rest.first, 1024);
+        assert_eq!(rt; rest.first, u64::from(self.batches) * u64::from(self.calls));
         assert!(rt; rest.entries.is_empty());
     }
 }
 
+fn takes_batches(rt: &(impl Wait + Abort + AllocGlobal), kept: u32, calls: u32, batches: u32) {
+    let shape = one_item(rt);
+    let parts = HubParts::keeping(rt, rt.alloc(), &shape, kept).expect(rt, "memory");
+    let scene = Batches {
+        kept,
+        calls,
+        batches,
+    };
+    on_parts(rt, parts, &scene);
+}
+
 #[test]
 fn a_journal_takes_a_long_history_in_batches(rt: HostRuntime) {
-    let shape = shape(&rt, COUNTS, &[plain_queue(1)]);
-    on_a_hub_keeping(&rt, &shape, KEPT, &Batches);
+    takes_batches(&rt, 512, 256, 4);
+}
+
+#[test]
+fn a_tail_holds_one_entry_or_two(rt: HostRuntime) {
+    takes_batches(&rt, 1, 1, 20);
+    takes_batches(&rt, 2, 2, 20);
+}
+
+/// Nobody takes the entries of the hub.
+struct Drops;
+
+impl Scene for Drops {
+    fn play<N: HubName, R: Wait + Abort + AllocGlobal>(
+        &self,
+        rt: &R,
+        hub: Hub<N>,
+        seats: Seats<N>,
+    ) {
+        let mut seats = seats;
+        let mut caller = seats.caller().expect(rt, "a caller");
+        make_calls(rt, &hub, &mut caller, 600);
+        let delay = Call::Delay {
+            item: ITEM,
+            queue: QueueId(0),
+            cpu: CpuId(0),
+            ticks: 1,
+        };
+        assert!(rt; make(rt, &hub, &mut caller, delay).is_ok());
+        assert!(rt; make(rt, &hub, &mut caller, Call::Tick { ticks: 1 }).is_ok());
+        let mut callers = [caller];
+        let mut workers = [];
+        let rest = hub
+            .into_history(rt, &mut callers, &mut workers)
+            .expect(rt, "a history");
+        // the tick, and the fire behind it
+        assert_eq!(rt; rest.first, 601);
+        assert_eq!(rt; rest.entries.len(), 2);
+        assert!(rt;
+            matches!(rest.entries.first(), Some(entry) if matches!(entry.call, Call::Tick { .. }))
+        );
+    }
+}
+
+#[test]
+fn a_hub_drops_what_nobody_wants(rt: HostRuntime) {
+    let shape = one_item(&rt);
+    let parts = HubParts::dropping(&rt, rt.alloc(), &shape).expect(&rt, "memory");
+    on_parts(&rt, parts, &Drops);
 }

@@ -150,7 +150,7 @@ impl<N: HubName> Caller<N> {
         ensures broke { IfErr result (λ f. BrokeOff N.layout self.old call f self.new) }
     {
         let _who = self.seat.who();
-        let mut desk = hub.spacious(rt, hub.lock(rt), self.seat.who());
+        let mut desk = hub.spacious(rt, hub.lock(rt), self.seat.who(), 1);
         let reply = match desk.call(rt, &mut self.seat, call) {
             Ok(reply) => reply,
             Err(fault) => {
@@ -339,7 +339,7 @@ impl<N: HubName> Caller<N> {
         ensures done { IfOk result (λ reply. Completes N.layout self.old (calls.Tick ticks) reply self.new) }
         ensures broke { IfErr result (λ f. BrokeOff N.layout self.old (calls.Tick ticks) f self.new) }
     {
-        let mut desk = hub.spacious(rt, hub.lock(rt), self.seat.who());
+        let mut desk = hub.spacious(rt, hub.lock(rt), self.seat.who(), hub.with_fires());
         let answer = desk.tick(rt, &mut self.seat, ticks);
         hub.leave(desk);
         answer

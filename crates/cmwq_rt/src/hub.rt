@@ -28,11 +28,12 @@ pub struct Hub<N: HubName> {
     bells: Bells,
     journal: Condvar,
     shape: Shape,
+    is_dropping: bool,
     ghost shape_is: { shape ≡ N.layout },
 }
 
 impl<N: HubName> Hub<N> {
-    pub(crate) fn new(desk: Desk<N>, bells: Bells, shape: Shape) -> Hub<N>
+    pub(crate) fn new(desk: Desk<N>, bells: Bells, shape: Shape, is_dropping: bool) -> Hub<N>
         requires { shape ≡ N.layout }
     {
         Hub {
@@ -40,6 +41,7 @@ impl<N: HubName> Hub<N> {
             bells,
             journal: Condvar::new(),
             shape,
+            is_dropping,
         }
     }
 
@@ -97,16 +99,26 @@ impl<N: HubName> Hub<N> {
         desk
     }
 
-    /// Sleeps until there is space for all that is entered in one hold of the lock.
+    /// How many entries are made in one hold of the lock, at most, where what is due is fired behind the first.
+    pub(crate) fn with_fires(&self) -> u32 {
+        1 + u32::from(self.shape.counts().items)
+    }
+
+    /// Sleeps until there is space for so many entries, or makes it where nobody wants them.
     pub(crate) fn spacious<'a, R: Wait>(
         &self,
         rt: &R,
         desk: MutexGuard<'a, Desk<N>>,
         who: Who,
+        entries: u32,
     ) -> MutexGuard<'a, Desk<N>> {
         let mut desk = desk;
         for _ in rt.forever() {
-            if desk.has_space() {
+            if desk.has_space(entries) {
+                return desk;
+            }
+            if self.is_dropping {
+                desk.drop_kept();
                 return desk;
             }
             desk.crowds();
@@ -169,7 +181,7 @@ impl<N: HubName> Hub<N> {
         ensures made { IfOk result (λ reply. Extends N.layout seat.old call reply seat.new) }
         ensures refused { IfErr result (λ f. Refused N.layout seat.old call f seat.new) }
     {
-        let mut desk = self.spacious(rt, self.lock(rt), seat.who());
+        let mut desk = self.spacious(rt, self.lock(rt), seat.who(), 1);
         let answer = desk.call(rt, seat, call);
         self.leave(desk);
         answer
@@ -188,9 +200,13 @@ impl<N: HubName> Hub<N> {
         ensures ended { IfOk result (λ _. HasEnded N.layout seat.old call ticket seat.new) }
         ensures stopped { IfErr result (λ f. HasEndedSome N.layout seat.old call ticket f seat.new) }
     {
+        let most = match call {
+            Call::Drain { .. } => self.with_fires(),
+            _ => 1,
+        };
         let mut desk = desk;
         for _ in rt.forever() {
-            desk = self.spacious(rt, desk, seat.who());
+            desk = self.spacious(rt, desk, seat.who(), most);
             match desk.end_wait(rt, seat, call, ticket) {
                 Ok(true) => {
                     self.leave(desk);
@@ -223,7 +239,7 @@ impl<N: HubName> Hub<N> {
     {
         let mut desk = desk;
         for _ in rt.forever() {
-            desk = self.spacious(rt, desk, seat.who());
+            desk = self.spacious(rt, desk, seat.who(), 1);
             match desk.start(rt, seat) {
                 Ok(None) => {}
                 Ok(Some(item)) => {
@@ -279,6 +295,7 @@ impl<N: HubName> Hub<N> {
             bells: _bells,
             journal: _journal,
             shape: _shape,
+            is_dropping: _,
         } = self;
         desk.into_inner()
     }

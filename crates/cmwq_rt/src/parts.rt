@@ -28,6 +28,7 @@ pub struct HubParts {
     sleepers: Sleepers,
     bells: Bells,
     pub blank: Blank,
+    is_dropping: bool,
     ghost shapes_are: { shape_of_desk ≡ shape },
     ghost course_is: { course ≡ record { layout = shape; room = shape.room; entries = [] } },
     ghost tail_is: { tail.all ≡ [] },
@@ -113,7 +114,23 @@ impl HubParts {
             sleepers,
             bells,
             blank: Blank::new(SHARES),
+            is_dropping: false,
         })
+    }
+
+    /// The same of a hub that drops its oldest entries where there is no space for more, for who wants no history: no journal is to be
+    /// kept of it.
+    ///
+    /// # Errors
+    /// `NoMemory` where memory runs out.
+    pub fn dropping<R: Wait>(rt: &R, alloc: Global, shape: &Shape) -> Result<HubParts, RunFault>
+        ensures shape { IfOk result (λ p. p.shape ≡ shape.now) }
+        ensures fault { IfErr result (λ f. f ≡ faults.NoMemory None) }
+    {
+        let kept = 1 + u32::from(shape.counts().items);
+        let mut parts = HubParts::keeping(rt, alloc, shape, kept)?;
+        parts.is_dropping = true;
+        Ok(parts)
     }
 }
 
@@ -134,6 +151,7 @@ impl<N: HubName> Hub<N> {
             sleepers,
             bells,
             blank,
+            is_dropping,
         } = parts;
         let counts = shape.counts();
         let (shelf, readers) = opening.named::<N>();
@@ -141,6 +159,6 @@ impl<N: HubName> Hub<N> {
         let (entries, rest) = blank.open::<N>();
         let desk = Desk::new(shape_of_desk, course, tail, shelf, entries, sleepers);
         let seats = Seats::new(counts, readers, start, rest);
-        (Hub::new(desk, bells, shape), seats)
+        (Hub::new(desk, bells, shape, is_dropping), seats)
     }
 }

@@ -148,11 +148,12 @@ impl<N: HubName> Hub<N> {
         ensures next { IfOk result (λ o. (ended : Seated) × EndsRun N.layout seat.old ended × IsNext N.layout ended o seat.new) }
         ensures later { Later seat.old seat.new }
     {
-        let mut desk = self.spacious(rt, self.lock(rt), seat.who());
+        let mut desk = self.spacious(rt, self.lock(rt), seat.who(), 1);
         if let Err(fault) = desk.call(rt, seat, Call::Finish) {
             self.leave(desk);
             return Err(fault);
         }
+        desk = self.spacious(rt, desk, seat.who(), 1);
         if let Err(fault) = desk.retire(rt, seat) {
             self.leave(desk);
             return Err(fault);

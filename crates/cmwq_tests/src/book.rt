@@ -31,7 +31,7 @@ struct Pair {
     ghost fitting: { book.layout ≡ shape },
 }
 
-fn is_same(one: &Entry, other: &Entry) -> bool {
+pub(crate) fn is_same(one: &Entry, other: &Entry) -> bool {
     entry_line(one).as_bytes() == entry_line(other).as_bytes()
 }
 
