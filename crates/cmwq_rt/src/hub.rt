@@ -20,7 +20,8 @@ use crate::worker::Worker;
 use cmwq_desk::{Desk, Journal, Rest, RunFault, Seat};
 use cmwq_model::{Call, Entry, ItemId, Number, Reply, Shape, Who};
 use cmwq_versions::HubName;
-use std::sync::{Condvar, Mutex, MutexGuard, Wait};
+use std::sync::{Condvar, CondvarTimeouts, Mutex, MutexGuard, Wait};
+use std::time::{Clock, Duration};
 
 /// A Book that threads share. Its callers and workers carry its name, so that none of them is taken for another hub's.
 pub struct Hub<N: HubName> {
@@ -158,6 +159,37 @@ impl<N: HubName> Hub<N> {
             }
             desk = self.journal.wait(rt, desk);
         }
+        self.give(desk, journal)
+    }
+
+    /// The same, but it sleeps no longer than so, and takes what there is then: so the last entries of a quiet hub are written down too.
+    ///
+    /// # Errors
+    /// As of `hand_over`.
+    pub fn hand_over_within<R: Wait + Clock>(
+        &self,
+        rt: &R,
+        journal: &mut Journal<N>,
+        time: Duration,
+    ) -> Result<bool, RunFault>
+        ensures batch { IfOk result (λ _. journal.new.seen ≡ journal.old.seen ++ journal.new.batch) }
+        ensures legal { IfOk result (λ _. IsLegal N.layout (past_of journal.new.seen)) }
+        ensures refused { OnErr result (journal.new.seen ≡ journal.old.seen) }
+    {
+        let mut desk = self.desk.lock(rt);
+        if !desk.wants_journal() {
+            (desk, _) = self.journal.wait_timeout(rt, desk, time);
+        }
+        self.give(desk, journal)
+    }
+
+    /// Hands over what there is, lets the lock go, and answers whether more may come.
+    fn give(&self, desk: MutexGuard<Desk<N>>, journal: &mut Journal<N>) -> Result<bool, RunFault>
+        ensures batch { IfOk result (λ _. journal.new.seen ≡ journal.old.seen ++ journal.new.batch) }
+        ensures legal { IfOk result (λ _. IsLegal N.layout (past_of journal.new.seen)) }
+        ensures refused { OnErr result (journal.new.seen ≡ journal.old.seen) }
+    {
+        let mut desk = desk;
         let is_over = desk.is_over();
         let handed = desk.hand_over(journal);
         self.leave(desk);
