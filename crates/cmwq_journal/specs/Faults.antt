@@ -5,7 +5,6 @@ use Rattle.cmwq_io.specs.Moves.{AppendsFront}
 use Rattle.cmwq_model.specs.declared.entry.Entry.{Entry}
 use Rattle.cmwq_model.specs.Layout.{Layout}
 use Rattle.cmwq_text.specs.HistoryText.{body_text, entries_text, last_text}
-use Rattle.cmwq_desk.specs.declared.fault.RunFault.{RunFault}
 use Rattle.cmwq_desk.specs.declared.fault.RunFault.TheVariants.{Stranger}
 use Rattle.cmwq_journal.specs.declared.fault.JournalFault.{JournalFault}
 use Rattle.cmwq_journal.specs.declared.fault.JournalFault.TheVariants.{Late, Write, Hub}

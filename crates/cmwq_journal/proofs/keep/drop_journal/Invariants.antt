@@ -1,4 +1,3 @@
-use Rattle.std.proofs.Common.{◌≡◌}
 use mathlib.Core.List.{IsPrefix}
 use Rattle.cmwq_journal.proofs.keep.drop_journal.Given as goal
 
