@@ -55,6 +55,7 @@ fn take_a_batch<N: HubName, R: Wait + Abort>(
 }
 
 /// So many entries are kept, and so many calls are made before each of the batches is taken.
+#[derive(Drop)]
 struct Batches {
     kept: u32,
     calls: u32,
