@@ -506,10 +506,19 @@ impl<N: HubName> Desk<N> {
         self.crowded = true;
     }
 
-    /// Whether there is enough to hand over: half of what may be kept, or somebody waits for space, or nothing more may come.
+    /// Whether nobody makes a call any more.
+    pub fn has_failed(&self) -> bool
+        ensures { result ≡ self.now.failed }
+    {
+        self.failed
+    }
+
+    /// Whether there is enough to hand over: half of what may be kept, or anything of a hub that is over, or somebody waits for space, or
+    /// nothing more may come.
     pub fn wants_journal(&self) -> bool {
         let kept = self.tail.kept().len() as u64;
-        self.crowded || self.is_over() || u64::from(self.tail.room()) <= 2 * kept
+        let is_enough = u64::from(self.tail.room()) <= 2 * kept || self.is_over();
+        self.failed || self.crowded || is_enough && kept > 0
     }
 
     /// Who writes the history down, and has all of it so far.

@@ -81,6 +81,7 @@ impl Scene for Batches {
             take_a_batch(rt, &hub, &mut journal, &mut all);
         }
         hub.close(rt);
+        hub.fail(rt);
         assert!(rt; !hub.hand_over(rt, &mut journal).expect(rt, "the end"));
         assert!(rt; journal.batch().is_empty());
         assert_eq!(rt; all.len() as u64, journal.len());

@@ -61,7 +61,8 @@ impl<N: HubName> Hub<N> {
         self.leave(desk);
     }
 
-    /// Nobody makes a call from now on: each answers `NoMemory`, and so do those that wait.
+    /// Nobody makes a call from now on: each answers `NoMemory`, and so do those that wait. So ends the journal of a hub whose callers and
+    /// workers have all come back.
     pub fn fail<R: Wait>(&self, rt: &R) {
         let mut desk = self.desk.lock(rt);
         desk.fail();
@@ -142,7 +143,7 @@ impl<N: HubName> Hub<N> {
         journal
     }
 
-    /// Sleeps until there is enough to write down, or nobody makes a call any more, and takes it. It answers whether more may come.
+    /// Sleeps until there is enough to write down, or the hub has failed, and takes it. It answers whether more may come.
     ///
     /// # Errors
     /// `Stranger` where the journal isn't the one that has all that was handed over, `NoMemory` where its buffer is too small. It has
@@ -190,13 +191,13 @@ impl<N: HubName> Hub<N> {
         ensures refused { OnErr result (journal.new.seen ≡ journal.old.seen) }
     {
         let mut desk = desk;
-        let is_over = desk.is_over();
+        let has_failed = desk.has_failed();
         let handed = desk.hand_over(journal);
         self.leave(desk);
         match handed {
             Ok(()) => {
                 let _len = journal.len();
-                Ok(!is_over)
+                Ok(!has_failed)
             }
             Err(fault) => Err(fault),
         }
