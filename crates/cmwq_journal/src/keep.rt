@@ -15,18 +15,21 @@ use cmwq_io::Sink;
 use cmwq_rt::Hub;
 use cmwq_versions::HubName;
 use std::sync::Wait;
+use std::time::{Clock, Duration};
 
-/// Writes the history of a hub as text of format 3 while it is made, but for its last line: until the hub has failed, or is closed and
-/// no active queueing is open. It flushes behind each batch, and sleeps in between. It takes no memory, and writes without the hub's lock.
+/// Writes the history of a hub as text of format 3 while it is made, but for its last line, until the hub has failed: so who has joined
+/// all callers and workers ends it by `Hub::fail`. It flushes behind each batch, and waits for the next no longer than `time`. It takes
+/// no memory, and writes without the hub's lock.
 ///
 /// # Errors
 /// `Late` where the journal has entries already: the hub is as it was. Otherwise the hub has failed, so that everybody answers:
 /// `Write` where the sink fails; the entries that were not written whole are those of the journal's batch, and what is left in the hub.
-/// `Hub` where `Hub::hand_over` answers a fault.
-pub fn keep_journal<N: HubName, R: Wait, O: Sink>(
+/// `Hub` where `Hub::hand_over_within` answers a fault.
+pub fn keep_journal<N: HubName, R: Wait + Clock, O: Sink>(
     rt: &R,
     hub: &Hub<N>,
     journal: &mut Journal<N>,
+    time: Duration,
     output: &mut O,
 ) -> Result<(), JournalFault>
     ensures began { OnOk result (journal.old.seen ≡ []) }
@@ -40,7 +43,7 @@ pub fn keep_journal<N: HubName, R: Wait, O: Sink>(
     if late > 0 {
         return Err(JournalFault::Late(late));
     }
-    let kept = keep_from_start(rt, hub, journal, output);
+    let kept = keep_from_start(rt, hub, journal, time, output);
     let _legal = journal.len();
     match kept {
         Ok(()) => Ok(()),
@@ -51,10 +54,11 @@ pub fn keep_journal<N: HubName, R: Wait, O: Sink>(
     }
 }
 
-fn keep_from_start<N: HubName, R: Wait, O: Sink>(
+fn keep_from_start<N: HubName, R: Wait + Clock, O: Sink>(
     rt: &R,
     hub: &Hub<N>,
     journal: &mut Journal<N>,
+    time: Duration,
     output: &mut O,
 ) -> Result<(), JournalFault>
     requires { journal.old.seen ≡ [] }
@@ -68,7 +72,7 @@ fn keep_from_start<N: HubName, R: Wait, O: Sink>(
     }
     for _ in rt.forever() {
         let written = journal.len();
-        let more = match hub.hand_over(rt, journal) {
+        let more = match hub.hand_over_within(rt, journal, time) {
             Ok(more) => more,
             Err(fault) => return Err(JournalFault::Hub { fault, written }),
         };

@@ -9,7 +9,7 @@ pub returns-in-Err-write_batch-clause-broke : goal.returns-in-Err-write_batch-cl
 returns-in-Err-write_batch-clause-broke g c =
     let s = g.N.HubName.layout in
     let old = c.loop.journal.seen in
-    let new = c.hand_over.new.journal in
+    let new = c.hand_over_within.new.journal in
     let start = g.O.Sink.written c.args.output.now in
     let before = g.O.Sink.written c.loop.output in
     let end = g.O.Sink.written c.write_batch.new.output in

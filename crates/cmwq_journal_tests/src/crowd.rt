@@ -1,0 +1,285 @@
+//! Callers and workers in threads of their own, whose history a thread writes.
+
+ghost use Rattle.std.specs.Prelude.{◌<◌};
+
+use crate::fixture::{
+    Output, Scene, is_whole, journal_of, lines_of, on_a_hub_keeping, output, turn,
+};
+use cmwq_base::write_end;
+use cmwq_journal::{JournalFault, end_journal, keep_journal};
+use cmwq_model::ItemId;
+use cmwq_rt::{Caller, Hub, HubName, Journal, RunCtx, RunFault, Seats, Work, Worker};
+use std::alloc::Global;
+use std::process::Abort;
+use std::sync::Wait;
+use std::thread;
+use std::thread::{JoinHandle, Scope, Threads};
+use std::time::{Clock, Duration};
+
+/// Few, so that callers and workers wait for space again and again.
+const KEPT: u32 = 2;
+
+/// No longer does the journal wait for a batch.
+const TIME: Duration = Duration::from_millis(20);
+
+/// Items that do nothing.
+#[derive(Drop)]
+struct Idle;
+
+impl Work for Idle {
+    fn run<N: HubName, R: Wait>(&self, _item: ItemId, _context: &mut RunCtx<N, R>) {}
+}
+
+/// What a journal's thread leaves.
+#[derive(Drop)]
+struct Kept<N: HubName> {
+    journal: Journal<N>,
+    output: Output,
+    ended: Result<(), JournalFault>,
+}
+
+/// What a caller's thread leaves: its first fault.
+#[derive(Drop)]
+struct Called<N: HubName> {
+    caller: Caller<N>,
+    fault: Option<RunFault>,
+}
+
+/// What all threads leave.
+#[derive(Drop)]
+struct Ended<N: HubName> {
+    callers: Vec<Caller<N>>,
+    workers: Vec<Worker<N>>,
+    faults: Vec<RunFault>,
+    kept: Kept<N>,
+}
+
+fn keep<N: HubName, R: Wait + Clock>(
+    rt: &R,
+    hub: &Hub<N>,
+    journal: Journal<N>,
+    output: Output,
+) -> Kept<N> {
+    let mut journal = journal;
+    let mut output = output;
+    let ended = keep_journal(rt, hub, &mut journal, TIME, &mut output);
+    Kept {
+        journal,
+        output,
+        ended,
+    }
+}
+
+/// The first caller waits for its item each time, the other takes it back.
+fn call<N: HubName, R: Wait + Abort>(
+    rt: &R,
+    hub: &Hub<N>,
+    caller: Caller<N>,
+    number: u16,
+    turns: u32,
+) -> Called<N> {
+    let mut caller = caller;
+    let mut fault = None;
+    for _ in 0..turns {
+        if let Err(first) = turn(rt, hub, &mut caller, ItemId(number), number == 0) {
+            fault = Some(first);
+            break;
+        }
+    }
+    Called { caller, fault }
+}
+
+fn work<N: HubName, R: Wait>(rt: &R, hub: &Hub<N>, worker: Worker<N>) -> Worker<N> {
+    let mut worker = worker;
+    let _made = hub.work(rt, &mut worker, &Idle);
+    worker
+}
+
+fn start_callers<
+    's,
+    E,
+    N: HubName + Send + Sync + 's,
+    R: Threads + Wait + Clock + Abort + AllocGlobal + Sync,
+>(
+    scope: &Scope<'s, E>,
+    rt: &'s R,
+    hub: &'s Hub<N>,
+    seats: &mut Seats<N>,
+    turns: u32,
+) -> Vec<JoinHandle<Called<N>>> {
+    let alloc: Global = rt.alloc();
+    let mut threads = Vec::new(alloc);
+    for number in 0..2 {
+        let caller = seats.caller().expect(rt, "a caller");
+        match scope.spawn(move || call(rt, hub, caller, number, turns)) {
+            Ok(thread) => threads.push(thread).expect(rt, "memory"),
+            Err(_) => panic!(rt; "no thread"),
+        }
+    }
+    threads
+}
+
+fn start_workers<
+    's,
+    E,
+    N: HubName + Send + Sync + 's,
+    R: Threads + Wait + Clock + Abort + AllocGlobal + Sync,
+>(
+    scope: &Scope<'s, E>,
+    rt: &'s R,
+    hub: &'s Hub<N>,
+    seats: &mut Seats<N>,
+) -> Vec<JoinHandle<Worker<N>>> {
+    let alloc: Global = rt.alloc();
+    let mut threads = Vec::new(alloc);
+    for _ in 0..64 {
+        let Ok(worker) = seats.worker() else {
+            break;
+        };
+        match scope.spawn(move || work(rt, hub, worker)) {
+            Ok(thread) => threads.push(thread).expect(rt, "memory"),
+            Err(_) => panic!(rt; "no thread"),
+        }
+    }
+    threads
+}
+
+/// The hub is closed when all callers have ended, and fails when all workers have, so that its journal ends.
+fn run_threads<
+    's,
+    E,
+    N: HubName + Send + Sync + 's,
+    R: Threads + Wait + Clock + Abort + AllocGlobal + Sync,
+>(
+    scope: &Scope<'s, E>,
+    rt: &'s R,
+    hub: &'s Hub<N>,
+    seats: Seats<N>,
+    output: Output,
+    turns: u32,
+) -> Ended<N> {
+    let alloc: Global = rt.alloc();
+    let mut seats = seats;
+    let journal = journal_of(rt, hub, KEPT);
+    let Ok(keeping) = scope.spawn(move || keep(rt, hub, journal, output)) else {
+        panic!(rt; "no thread");
+    };
+    let calling = start_callers(scope, rt, hub, &mut seats, turns);
+    let working = start_workers(scope, rt, hub, &mut seats);
+    let mut callers = Vec::new(alloc);
+    let mut faults = Vec::new(alloc);
+    for thread in calling {
+        let Called { caller, fault } = thread.join(rt);
+        callers.push(caller).expect(rt, "memory");
+        if let Some(fault) = fault {
+            faults.push(fault).expect(rt, "memory");
+        }
+    }
+    hub.close(rt);
+    let mut workers = Vec::new(alloc);
+    for thread in working {
+        workers.push(thread.join(rt)).expect(rt, "memory");
+    }
+    hub.fail(rt);
+    Ended {
+        callers,
+        workers,
+        faults,
+        kept: keeping.join(rt),
+    }
+}
+
+fn run_all<
+    'x,
+    N: HubName + Send + Sync + 'static,
+    R: Threads + Wait + Clock + Abort + AllocGlobal + Sync,
+>(rt: &'x R, hub: &'x Hub<N>, seats: Seats<N>, output: Output, turns: u32) -> Ended<N> {
+    thread::scope(thread::scope_env(), rt, |scope| -> Ended<N> {
+        run_threads(scope, rt, hub, seats, output, turns)
+    })
+}
+
+/// Forty flushes of one caller, whose whole history is written.
+#[derive(Drop)]
+struct Flushes;
+
+impl Scene for Flushes {
+    fn play<
+        N: HubName + Send + Sync + 'static,
+        R: Threads + Wait + Clock + Abort + AllocGlobal + Sync,
+    >(&self, rt: &R, hub: Hub<N>, seats: Seats<N>) {
+        let never = output(rt, u64::MAX);
+        let ended = run_all(rt, &hub, seats, never, 40);
+        let Ended {
+            mut callers,
+            mut workers,
+            faults,
+            kept,
+        } = ended;
+        let Kept {
+            journal,
+            mut output,
+            ended,
+        } = kept;
+        assert!(rt; faults.is_empty() && ended.is_ok());
+        let rest = hub
+            .into_history(rt, callers.as_mut_slice(), workers.as_mut_slice())
+            .expect(rt, "a history");
+        assert!(rt; end_journal(&journal, &rest, &mut output).is_ok());
+        assert!(rt; is_whole(rt, &output));
+        assert!(rt; journal.len() >= 240);
+    }
+}
+
+#[test]
+fn a_history_of_many_threads_is_written(rt: HostRuntime) {
+    on_a_hub_keeping(&rt, KEPT, &Flushes);
+}
+
+/// A sink whose call with this number fails.
+#[derive(Drop)]
+struct Fails {
+    call: u64,
+}
+
+impl Scene for Fails {
+    fn play<
+        N: HubName + Send + Sync + 'static,
+        R: Threads + Wait + Clock + Abort + AllocGlobal + Sync,
+    >(&self, rt: &R, hub: Hub<N>, seats: Seats<N>) {
+        let failing = output(rt, self.call);
+        let Ended {
+            mut callers,
+            mut workers,
+            faults,
+            kept,
+        } = run_all(rt, &hub, seats, failing, 400);
+        let Kept {
+            journal: _journal,
+            mut output,
+            ended,
+        } = kept;
+        assert!(rt; matches!(ended, Err(JournalFault::Write { .. })));
+        assert_eq!(rt; faults.len(), 2);
+        assert!(rt;
+            faults
+                .iter()
+                .all(|fault| matches!(fault, RunFault::NoMemory { .. }))
+        );
+        let rest = hub.into_history(rt, callers.as_mut_slice(), workers.as_mut_slice());
+        assert!(rt; rest.is_ok());
+        if self.call > 3 {
+            let entries = lines_of(&output).wrapping_sub(3);
+            assert!(rt; write_end(&mut output, 3, entries).is_ok());
+            assert!(rt; is_whole(rt, &output));
+        }
+    }
+}
+
+/// Calls 1 to 3 write the head and 4 flushes it, so that the others are of the first batch.
+#[test]
+fn everybody_answers_where_the_sink_fails(rt: HostRuntime) {
+    for call in 1..=6 {
+        on_a_hub_keeping(&rt, KEPT, &Fails { call });
+    }
+}

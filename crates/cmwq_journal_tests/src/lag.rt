@@ -1,0 +1,57 @@
+//! A journal that begins to write when the hub has ended already, and journals that are none.
+
+use crate::fixture::{Scene, is_whole, journal_of, on_a_hub_keeping, output, turn};
+use cmwq_journal::{JournalFault, drop_journal, end_journal, keep_journal};
+use cmwq_model::ItemId;
+use cmwq_rt::{Hub, HubName, RunFault, Seats};
+use std::process::Abort;
+use std::sync::Wait;
+use std::thread::Threads;
+use std::time::{Clock, Duration};
+
+const KEPT: u32 = 1_024;
+
+const TIME: Duration = Duration::from_millis(20);
+
+#[derive(Drop)]
+struct Lag;
+
+impl Scene for Lag {
+    fn play<
+        N: HubName + Send + Sync + 'static,
+        R: Threads + Wait + Clock + Abort + AllocGlobal + Sync,
+    >(&self, rt: &R, hub: Hub<N>, seats: Seats<N>) {
+        let mut seats = seats;
+        let mut caller = seats.caller().expect(rt, "a caller");
+        let mut journal = journal_of(rt, &hub, KEPT);
+        let mut early = journal_of(rt, &hub, KEPT);
+        for _ in 0..100 {
+            assert!(rt; turn(rt, &hub, &mut caller, ItemId(0), false).is_ok());
+        }
+        hub.close(rt);
+        hub.fail(rt);
+        let mut output = output(rt, u64::MAX);
+        let mut late = journal_of(rt, &hub, KEPT);
+        let fault = keep_journal(rt, &hub, &mut late, TIME, &mut output).err();
+        assert_eq!(rt; fault, Some(JournalFault::Late(200)));
+        assert!(rt; output.inner().as_slice().is_empty());
+        assert!(rt; keep_journal(rt, &hub, &mut journal, TIME, &mut output).is_ok());
+        assert!(rt; drop_journal(rt, &hub, &mut late).is_ok());
+        let fault = RunFault::Stranger { own: 0, book: 200 };
+        assert_eq!(rt; drop_journal(rt, &hub, &mut early).err(), Some(fault));
+        let mut callers = [caller];
+        let mut workers = [];
+        let rest = hub
+            .into_history(rt, &mut callers, &mut workers)
+            .expect(rt, "a history");
+        let ended = end_journal(&early, &rest, &mut output).err();
+        assert_eq!(rt; ended, Some(JournalFault::Hub { fault, written: 0 }));
+        assert!(rt; end_journal(&journal, &rest, &mut output).is_ok());
+        assert!(rt; is_whole(rt, &output));
+    }
+}
+
+#[test]
+fn a_journal_that_lags_writes_all(rt: HostRuntime) {
+    on_a_hub_keeping(&rt, KEPT, &Lag);
+}
