@@ -20,7 +20,7 @@ use std::time::{Clock, Duration};
 const KEPT: u32 = 2;
 
 /// No longer does the journal wait for a batch.
-const TIME: Duration = Duration::from_millis(20);
+const MILLISECONDS: u64 = 20;
 
 /// Items that do nothing.
 #[derive(Drop)]
@@ -62,7 +62,13 @@ fn keep<N: HubName, R: Wait + Clock>(
 ) -> Kept<N> {
     let mut journal = journal;
     let mut output = output;
-    let ended = keep_journal(rt, hub, &mut journal, TIME, &mut output);
+    let ended = keep_journal(
+        rt,
+        hub,
+        &mut journal,
+        Duration::from_millis(MILLISECONDS),
+        &mut output,
+    );
     Kept {
         journal,
         output,

@@ -11,7 +11,7 @@ use std::time::{Clock, Duration};
 
 const KEPT: u32 = 1_024;
 
-const TIME: Duration = Duration::from_millis(20);
+const MILLISECONDS: u64 = 20;
 
 #[derive(Drop)]
 struct Lag;
@@ -32,10 +32,26 @@ impl Scene for Lag {
         hub.fail(rt);
         let mut output = output(rt, u64::MAX);
         let mut late = journal_of(rt, &hub, KEPT);
-        let fault = keep_journal(rt, &hub, &mut late, TIME, &mut output).err();
+        let fault = keep_journal(
+            rt,
+            &hub,
+            &mut late,
+            Duration::from_millis(MILLISECONDS),
+            &mut output,
+        )
+        .err();
         assert_eq!(rt; fault, Some(JournalFault::Late(200)));
         assert!(rt; output.inner().as_slice().is_empty());
-        assert!(rt; keep_journal(rt, &hub, &mut journal, TIME, &mut output).is_ok());
+        assert!(rt;
+            keep_journal(
+                rt,
+                &hub,
+                &mut journal,
+                Duration::from_millis(MILLISECONDS),
+                &mut output
+            )
+            .is_ok()
+        );
         assert!(rt; drop_journal(rt, &hub, &mut late).is_ok());
         let fault = RunFault::Stranger { own: 0, book: 200 };
         assert_eq!(rt; drop_journal(rt, &hub, &mut early).err(), Some(fault));
