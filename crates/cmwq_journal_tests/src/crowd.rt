@@ -1,15 +1,14 @@
 //! Callers and workers in threads of their own, whose history a thread writes.
 
-ghost use Rattle.std.specs.Prelude.{◌<◌};
+ghost use Rattle.std.specs.Prelude.{◌≡◌, ◌<◌};
 
-use crate::fixture::{
-    Output, Scene, is_whole, journal_of, lines_of, on_a_hub_keeping, output, turn,
-};
+use crate::fixture::{Output, is_whole, journal_of, lines_of, output, parts_keeping, turn};
 use cmwq_base::write_end;
 use cmwq_journal::{JournalFault, end_journal, keep_journal};
 use cmwq_model::ItemId;
-use cmwq_rt::{Caller, Hub, HubName, Journal, RunCtx, RunFault, Seats, Work, Worker};
+use cmwq_rt::{Caller, Hub, HubName, HubParts, Journal, RunCtx, RunFault, Seats, Work, Worker};
 use std::alloc::Global;
+use std::marker::Brand;
 use std::process::Abort;
 use std::sync::Wait;
 use std::thread;
@@ -205,80 +204,86 @@ fn run_all<
     })
 }
 
-/// Forty flushes of one caller, whose whole history is written.
+/// What a run leaves, and how its journal ended.
 #[derive(Drop)]
-struct Flushes;
+struct Outcome {
+    faults: Vec<RunFault>,
+    kept: Result<(), JournalFault>,
+    output: Output,
+    entries: u64,
+}
 
-impl Scene for Flushes {
-    fn play<
-        N: HubName + Send + Sync + 'static,
-        R: Threads + Wait + Clock + Abort + AllocGlobal + Sync,
-    >(&self, rt: &R, hub: Hub<N>, seats: Seats<N>) {
-        let never = output(rt, u64::MAX);
-        let ended = run_all(rt, &hub, seats, never, 40);
-        let Ended {
-            mut callers,
-            mut workers,
-            faults,
-            kept,
-        } = ended;
-        let Kept {
-            journal,
-            mut output,
-            ended,
-        } = kept;
-        assert!(rt; faults.is_empty() && ended.is_ok());
-        let rest = hub
-            .into_history(rt, callers.as_mut_slice(), workers.as_mut_slice())
-            .expect(rt, "a history");
+/// Of a journal that was kept to the end the last line is written too.
+fn run_under<
+    N: HubName + Send + Sync + 'static,
+    R: Threads + Wait + Clock + Abort + AllocGlobal + Sync,
+>(rt: &R, parts: HubParts, call: u64, turns: u32) -> Outcome
+    requires layout { parts.shape ≡ N.layout }
+    requires book { parts.opening.book ≡ N.book }
+    requires ledger { (parts.blank.name ≡ N.name) × (parts.blank.parts ≡ N.parts) }
+{
+    let (hub, seats) = Hub::<N>::open(parts);
+    let Ended {
+        mut callers,
+        mut workers,
+        faults,
+        kept,
+    } = run_all(rt, &hub, seats, output(rt, call), turns);
+    let Kept {
+        journal,
+        mut output,
+        ended: kept,
+    } = kept;
+    let rest = hub
+        .into_history(rt, callers.as_mut_slice(), workers.as_mut_slice())
+        .expect(rt, "a history");
+    if kept.is_ok() {
         assert!(rt; end_journal(&journal, &rest, &mut output).is_ok());
-        assert!(rt; is_whole(rt, &output));
-        assert!(rt; journal.len() >= 240);
     }
+    Outcome {
+        faults,
+        kept,
+        output,
+        entries: journal.len(),
+    }
+}
+
+/// So many turns of each caller, with a sink whose call with this number fails.
+fn run<R: Threads + Wait + Clock + Abort + AllocGlobal + Sync>(
+    rt: &R,
+    call: u64,
+    turns: u32,
+) -> Outcome {
+    let parts = parts_keeping(rt, KEPT);
+    run_under::<Brand, R>(rt, parts, call, turns)
 }
 
 #[test]
 fn a_history_of_many_threads_is_written(rt: HostRuntime) {
-    on_a_hub_keeping(&rt, KEPT, &Flushes);
+    let outcome = run(&rt, u64::MAX, 40);
+    assert!(rt; outcome.faults.is_empty() && outcome.kept.is_ok());
+    assert!(rt; is_whole(&rt, &outcome.output));
+    assert!(rt; outcome.entries >= 240);
 }
 
-/// A sink whose call with this number fails.
-#[derive(Drop)]
-struct Fails {
-    call: u64,
-}
-
-impl Scene for Fails {
-    fn play<
-        N: HubName + Send + Sync + 'static,
-        R: Threads + Wait + Clock + Abort + AllocGlobal + Sync,
-    >(&self, rt: &R, hub: Hub<N>, seats: Seats<N>) {
-        let failing = output(rt, self.call);
-        let Ended {
-            mut callers,
-            mut workers,
-            faults,
-            kept,
-        } = run_all(rt, &hub, seats, failing, 400);
-        let Kept {
-            journal: _journal,
-            mut output,
-            ended,
-        } = kept;
-        assert!(rt; matches!(ended, Err(JournalFault::Write { .. })));
-        assert_eq!(rt; faults.len(), 2);
-        assert!(rt;
-            faults
-                .iter()
-                .all(|fault| matches!(fault, RunFault::NoMemory { .. }))
-        );
-        let rest = hub.into_history(rt, callers.as_mut_slice(), workers.as_mut_slice());
-        assert!(rt; rest.is_ok());
-        if self.call > 3 {
-            let entries = lines_of(&output).wrapping_sub(3);
-            assert!(rt; write_end(&mut output, 3, entries).is_ok());
-            assert!(rt; is_whole(rt, &output));
-        }
+fn fails_at<R: Threads + Wait + Clock + Abort + AllocGlobal + Sync>(rt: &R, call: u64) {
+    let Outcome {
+        faults,
+        kept,
+        mut output,
+        entries: _,
+    } = run(rt, call, 400);
+    assert!(rt; matches!(kept, Err(JournalFault::Write { .. })));
+    assert_eq!(rt; faults.len(), 2);
+    assert!(rt;
+        faults
+            .iter()
+            .all(|fault| matches!(fault, RunFault::NoMemory { .. }))
+    );
+    if call > 3 {
+        let entries = lines_of(&output).wrapping_sub(3);
+        assert!(rt; write_end(&mut output, 3, entries).is_ok());
+        assert!(rt; is_whole(rt, &output));
     }
 }
 
@@ -286,6 +291,6 @@ impl Scene for Fails {
 #[test]
 fn everybody_answers_where_the_sink_fails(rt: HostRuntime) {
     for call in 1..=6 {
-        on_a_hub_keeping(&rt, KEPT, &Fails { call });
+        fails_at(&rt, call);
     }
 }

@@ -1,47 +1,17 @@
 //! Hubs that keep few entries, calls on them, and sinks for their journals.
 
-ghost use Rattle.std.specs.Prelude.{◌≡◌, ◌<◌};
-
 use cmwq_base::{FailsAt, Memory, read_history};
 use cmwq_core::check;
 use cmwq_model::{Call, CallerId, Counts, CpuId, ItemId, QueueId, QueueShape, Reply, Shape, Who};
-use cmwq_rt::{Caller, Hub, HubName, HubParts, Journal, RunFault, Seats};
+use cmwq_rt::{Caller, Hub, HubName, HubParts, Journal, RunFault};
 use std::alloc::Global;
-use std::marker::Brand;
 use std::process::Abort;
 use std::sync::Wait;
-use std::thread::Threads;
-use std::time::Clock;
 
 const QUEUE: QueueId = QueueId(0);
 
-/// What happens on a hub that was just opened.
-pub(crate) trait Scene {
-    fn play<
-        N: HubName + Send + Sync + 'static,
-        R: Threads + Wait + Clock + Abort + AllocGlobal + Sync,
-    >(&self, rt: &R, hub: Hub<N>, seats: Seats<N>);
-}
-
-fn play_under<
-    N: HubName + Send + Sync + 'static,
-    S: Scene,
-    R: Threads + Wait + Clock + Abort + AllocGlobal + Sync,
->(rt: &R, parts: HubParts, scene: &S)
-    requires layout { parts.shape ≡ N.layout }
-    requires book { parts.opening.book ≡ N.book }
-    requires ledger { (parts.blank.name ≡ N.name) × (parts.blank.parts ≡ N.parts) }
-{
-    let (hub, seats) = Hub::<N>::open(parts);
-    scene.play::<N, R>(rt, hub, seats);
-}
-
-/// Opens a hub of two callers and two items that keeps so many entries at a time, for the scene alone.
-pub(crate) fn on_a_hub_keeping<S: Scene, R: Threads + Wait + Clock + Abort + AllocGlobal + Sync>(
-    rt: &R,
-    kept: u32,
-    scene: &S,
-) {
+/// The parts of a hub of two callers and two items that keeps so many entries at a time.
+pub(crate) fn parts_keeping<R: Wait + Abort + AllocGlobal>(rt: &R, kept: u32) -> HubParts {
     let counts = Counts {
         cpus: 1,
         workers: 1,
@@ -57,8 +27,7 @@ pub(crate) fn on_a_hub_keeping<S: Scene, R: Threads + Wait + Clock + Abort + All
     };
     let queues = [queue].to_vec(rt.alloc()).expect(rt, "memory");
     let shape = Shape::new(counts, queues).expect(rt, "inside the limits");
-    let parts = HubParts::keeping(rt, rt.alloc(), &shape, kept).expect(rt, "memory");
-    play_under::<Brand, S, R>(rt, parts, scene);
+    HubParts::keeping(rt, rt.alloc(), &shape, kept).expect(rt, "memory")
 }
 
 /// A journal of the hub that may keep so many.
