@@ -1,5 +1,5 @@
 -- What callers see of a book that runs on: its whole history, how many of its entries were given away, and how many may be kept.
-use Rattle.std.specs.Prelude.{◌≡◌, ◌≤◌, ℕ, ◌+◌, Bool, if◌then◌else◌, List, [], length, drop, slice_get, Option, None, Some, nat_lt}
+use Rattle.std.specs.Prelude.{ℕ, ◌+◌, Bool, if◌then◌else◌, List, [], length, drop, slice_get, Option, None, Some, nat_lt}
 use Rattle.cmwq_model.specs.declared.id.Who.{Who}
 use Rattle.cmwq_model.specs.declared.call.Call.{Call}
 use Rattle.cmwq_model.specs.declared.entry.Entry.{Entry}

@@ -191,14 +191,6 @@ impl TailBook {
         self.course.serial(who)
     }
 
-    /// What the call would be answered, whether or not there is room for it.
-    pub fn reply(&self, who: Who, call: Call) -> Reply
-        requires { IsTrue (fits self.now.history.layout who call) }
-        ensures { result ≡ (next_entry self.now.history who call).reply }
-    {
-        self.course.reply(who, call)
-    }
-
     /// Whether the ticket with this number stands and waits for nothing, so that its end would be answered done.
     pub fn ready(&self, ticket: Number) -> bool
         ensures { result ≡ is_ready (past_in self.now.history) ticket }
