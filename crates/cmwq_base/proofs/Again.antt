@@ -1,5 +1,5 @@
 -- The text of a file that is spelled is read again as itself.
-use Rattle.std.proofs.Common.{◌≡◌, ◌+◌, ◌≤◌, ◌==◌, ℕ, Bool, true, false, ◌&&◌, not, List, [], ◌∷◌, ◌++◌, length, Ok, Err, leb, Option, Some, None, refl, sym, ap, ◌∙◌, append_assoc, append-nil, arith, subst, length-append, get_or}
+use Rattle.std.proofs.Common.{◌≡◌, inl, inr, ◌+◌, ◌≤◌, ◌==◌, ℕ, Bool, true, false, ◌&&◌, not, List, [], ◌∷◌, ◌++◌, length, Ok, Err, leb, Option, Some, None, refl, sym, ap, ◌∙◌, append_assoc, append-nil, arith, subst, length-append, get_or}
 use Rattle.std.specs.Prelude.{if◌then◌else◌, codes, IsTrue, flat_map}
 use Rattle.std.specs.List.{All, list_all}
 use Rattle.std.proofs.lemmas.Bool.{lt-leb, le-ltb, le-leb, leb-true, eqb-true, eq-eqb}
@@ -20,19 +20,19 @@ use Rattle.cmwq_text.specs.EntryText.{entry_words, entry_text}
 use Rattle.cmwq_text.specs.EndText.{end_words, end_text, end_of}
 use Rattle.cmwq_text.specs.ShapeText.{counts_words, counts_text, queue_words, queue_text, begins_queue}
 use Rattle.cmwq_text.specs.Numbers.{greatest_number}
-use Rattle.cmwq_text.specs.Formats.{version_name, old_lines, most_lines, line_limit, room_limit, needs_end, allows_queue, allows_entry, counts_of_format, queue_of_format, entry_of_format, short_call_of}
-use Rattle.cmwq_text.specs.HistoryText.{counts_in, version_text, shape_text, last_text, text_of_format}
+use Rattle.cmwq_text.specs.Formats.{version_name, old_lines, most_lines, line_limit, room_limit, needs_end, allows_queue, allows_entry, counts_of_format, queue_of_format, entry_of_format, calls_name, number_limit, call_of_format}
+use Rattle.cmwq_text.specs.HistoryText.{counts_in, version_text, shape_text, last_text, text_of_format, calls_version_text, calls_text}
 use Rattle.cmwq_text.specs.Laws.{IsLineOf}
 use Rattle.cmwq_model.specs.Ranges.{IsWho, IsCall, IsEntry, greatest}
-use Rattle.cmwq_text.proofs.ReadRanges.{wide_entry, wide_calls, short_entry_is, short_calls_are}
+use Rattle.cmwq_text.proofs.ReadRanges.{wide_entry, short_entry_is, allowed_call, wide_call_of}
 use Rattle.cmwq_text.proofs.Steps.{both}
 use Rattle.cmwq_text.proofs.EntryLaws.{calls_read_again, entries_read_again}
 use Rattle.cmwq_text.proofs.EndLaws.{ends_read_again, entry_ends_none}
 use Rattle.cmwq_text.proofs.ShapeLaws.{counts_read_again, queues_read_again}
-use Rattle.cmwq_text.proofs.WholeLines.{IsWholeLine, whole_version, whole_long_version, whole_counts, whole_queue, whole_call, whole_entry, whole_end, who_begins_no_queue, entry_begins, fits_line}
+use Rattle.cmwq_text.proofs.WholeLines.{IsWholeLine, whole_version, whole_long_version, whole_calls_version, whole_counts, whole_queue, whole_call, whole_entry, whole_end, who_begins_no_queue, entry_begins, fits_line}
 use Rattle.cmwq_base.specs.Pieces.{pieces}
 use Rattle.cmwq_base.specs.Files.{File, IsSound, Stage, Kind, begin, opened, head, body, ended, shape_made, and_then, begun, queue_line, item_line, end_in, or_ended, body_line, first_item, after_head, after_line, at_end, without_end, without_items, after_pieces, after_text, file_of}
-use Rattle.cmwq_base.specs.Kinds.{calls_kind, history_kind, history_file_of}
+use Rattle.cmwq_base.specs.Kinds.{calls_kind, call_file_of, history_kind, history_file_of}
 use Rattle.cmwq_base.specs.FileLaws.{HistoriesReadAgain, OldHistoriesReadAgain, CallFilesReadAgain}
 use Rattle.cmwq_base.specs.declared.refusal.Refusal.TheVariants as refusal
 use Rattle.cmwq_base.proofs.Limits.{none_passes}
@@ -308,28 +308,61 @@ histories_read_again f low high of_format inside sound each = by_version (f.vers
 abbrev call_line : Who × Call → List ℕ
 call_line x = call_text x.0 x.1
 
-call_again : (s : Layout) (x : Who × Call) → IsWho x.0 → (IsCall greatest) x.1 → fits s x.0 x.1 ≡ true → IsAgain calls_kind 1 call_line s x
-unfolding short_call_of
-call_again s x h k inside =
+call_again : (v : ℕ) (s : Layout) (x : Who × Call) → IsWho x.0 → (IsCall (number_limit v)) x.1 → fits s x.0 x.1 ≡ true → IsAgain calls_kind v call_line s x
+unfolding call_of_format
+call_again v s x h k inside =
     let line : List ℕ = joined (who_text x.0 ∷ call_words x.1) in
-    let wide = wide_calls x.1 k in
+    let wide = wide_call_of v x.1 k in
     let whole = whole_call x.0 x.1 h wide in
-    record { line = line; whole = whole; read = rw (calls_read_again x.0 x.1 line h wide (fits_line s x.0 x.1 inside) whole.is, short_calls_are x k) refl; other = who_begins_no_queue x.0 (call_words x.1) h; no_end = refl; inside = inside }
+    record { line = line; whole = whole; read = rw (calls_read_again x.0 x.1 line h wide (fits_line s x.0 x.1 inside) whole.is, allowed_call v x.1 k) refl; other = who_begins_no_queue x.0 (call_words x.1) h; no_end = refl; inside = inside }
 
-calls_begin : (c : Counts) → IsTrue (are_counts c.cpus c.workers c.callers c.items c.room) → c.room ≤ room_limit 1 → after_line calls_kind 1 begin (joined (counts_words c)) ≡ Ok (head 1 c [])
+-- the shape line is none that says a format
+shape_says_no_calls : (c : Counts) → calls_kind.says_format 3 (joined (counts_words c)) ≡ false
+shape_says_no_calls c = refl
+
+old_calls_begin : (c : Counts) → IsTrue (are_counts c.cpus c.workers c.callers c.items c.room) → c.room ≤ room_limit 1 → after_line calls_kind 1 begin (joined (counts_words c)) ≡ Ok (head 1 c [])
 unfolding after_line
-calls_begin c inside room = begun_goes 1 1 c inside room
+old_calls_begin c inside room = rw (shape_says_no_calls c) (begun_goes 1 1 c inside room)
 
-calls_end : Ends calls_kind 1 (λ m. [])
+calls_begin : (v : ℕ) (c : Counts) → IsTrue (are_counts c.cpus c.workers c.callers c.items c.room) → c.room ≤ room_limit v → after_line calls_kind 2 (opened v) (joined (counts_words c)) ≡ Ok (head v c [])
+unfolding after_line
+calls_begin v c inside room = begun_goes 2 v c inside room
+
+calls_say : after_line calls_kind 1 begin calls_name ≡ Ok (opened 3)
+unfolding after_line
+calls_say = refl
+
+calls_end : (v : ℕ) → Ends calls_kind v (λ m. [])
 unfolding after_pieces at_end
-calls_end = record {
+calls_end v = record {
   behind = λ n s xs few. refl;
-  alone = λ n c qs inside. ap (λ b. without_items calls_kind n 1 (if b then Some (layout_of c qs) else None)) inside;
+  alone = λ n c qs inside. ap (λ b. without_items calls_kind n v (if b then Some (layout_of c qs) else None)) inside;
 }
 
+module _ (f : File (Who × Call)) (inside : IsTrue (is_layout f.layout)) (sound : IsSound calls_kind f) (each : All (λ x. IsWho x.0 × (IsCall (number_limit f.version)) x.1) f.items) where
+  -- from the shape line on
+  calls_again : (v n : ℕ) (stage : Stage (Who × Call)) → f.version ≡ v
+      → ((c : Counts) → IsTrue (are_counts c.cpus c.workers c.callers c.items c.room) → c.room ≤ room_limit v → after_line calls_kind n stage (joined (counts_words c)) ≡ Ok (head v c []))
+      → after_text calls_kind n stage (shape_text f.layout ++ flat_map call_line f.items) ≡ Ok f
+  calls_again v n stage is begins =
+      let numbers = subst (λ v. All (λ x. IsWho x.0 × (IsCall (number_limit v)) x.1) f.items) is each in
+      ap (λ t. after_text calls_kind n stage (shape_text f.layout ++ t)) (sym (append-nil (flat_map call_line f.items)))
+      ∙ shape_read_again calls_kind v call_line (λ m. []) (calls_end v) n stage f is begins (λ i d lt line is spelled. (queues_read_again _ line is spelled).0) inside sound
+      (λ i d lt. let ranges = numbers i d lt in call_again v f.layout _ ranges.0 ranges.1 (sound.fitting i d lt))
+
+  abbrev Again : ℕ → Type 0
+  Again v = call_file_of (calls_text v f.layout f.items) ≡ Ok f
+
+  old_calls_again : f.version ≡ 1 → Again 1
+  unfolding file_of
+  old_calls_again is = calls_again 1 1 begin is old_calls_begin
+
+  new_calls_again : f.version ≡ 3 → Again 3
+  unfolding file_of
+  new_calls_again is =
+      line_goes calls_kind 1 begin (opened 3) (calls_version_text 3) calls_name (shape_text f.layout ++ flat_map call_line f.items) whole_calls_version calls_say
+      ∙ calls_again 3 2 (opened 3) is (calls_begin 3)
+
 pub call_files_read_again : CallFilesReadAgain
-unfolding file_of
-call_files_read_again f is_version inside sound each =
-    ap (λ t. after_text calls_kind 1 begin (shape_text f.layout ++ t)) (sym (append-nil (flat_map call_line f.items)))
-    ∙ shape_read_again calls_kind 1 call_line (λ m. []) calls_end 1 begin f is_version calls_begin (λ i d lt line is spelled. (queues_read_again _ line is spelled).0) inside sound
-    (λ i d lt. let ranges = each i d lt in call_again f.layout _ ranges.0 ranges.1 (sound.fitting i d lt))
+call_files_read_again f (inl is) inside sound each = subst (λ v. call_file_of (calls_text v f.layout f.items) ≡ Ok f) (sym is) (old_calls_again f inside sound each is)
+call_files_read_again f (inr is) inside sound each = subst (λ v. call_file_of (calls_text v f.layout f.items) ≡ Ok f) (sym is) (new_calls_again f inside sound each is)

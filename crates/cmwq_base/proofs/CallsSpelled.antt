@@ -2,7 +2,9 @@
 use Rattle.std.proofs.Common.{◌≡◌, ◌+◌, ℕ, Bool, true, false, List, [], ◌∷◌, ◌++◌, length, Result, Ok, Err, nat_le, Option, Some, None, refl, sym, ap, ◌∙◌, append_assoc, append-nil, subst}
 use Rattle.std.specs.Prelude.{if◌then◌else◌, IsTrue, flat_map, map}
 use Rattle.std.specs.List.{join_with_byte}
+use Rattle.std.specs.Str.{bytes_eq}
 use Rattle.std.proofs.lemmas.List.{flat_map_more, map_push}
+use Rattle.std.proofs.lemmas.Slice.Eq.{bytes_eq-Decides}
 use Rattle.std.proofs.lemmas.List.Splits.{join_with_byte-slice_split}
 use Rattle.cmwq_model.specs.declared.id.Who.{Who}
 use Rattle.cmwq_model.specs.declared.call.Call.{Call}
@@ -11,8 +13,8 @@ use Rattle.cmwq_model.specs.declared.shape.QueueShape.{QueueShape}
 use Rattle.cmwq_model.specs.Layout.{Layout, layout_of, is_layout, fits}
 use Rattle.cmwq_text.specs.CallText.{call_text, call_of}
 use Rattle.cmwq_text.specs.ShapeText.{counts_text, queue_text, queue_with, queue_of_calls, begins_queue}
-use Rattle.cmwq_text.specs.Formats.{line_limit, counts_of_format, is_short_call, short_call_of}
-use Rattle.cmwq_text.specs.HistoryText.{counts_in, shape_text, calls_text}
+use Rattle.cmwq_text.specs.Formats.{calls_name, line_limit, counts_of_format, allows_call, call_of_format}
+use Rattle.cmwq_text.specs.HistoryText.{counts_in, shape_text, calls_version_text, calls_text}
 use Rattle.cmwq_text.proofs.Steps.{bind_some, chosen}
 use Rattle.cmwq_text.proofs.EntryLaws.{calls_spelled_so}
 use Rattle.cmwq_text.proofs.ShapeLaws.{counts_spelled_so, queues_of_calls_spelled_so}
@@ -31,10 +33,10 @@ CallStage = Stage (Who × Call)
 -- the text of what has been read so far, with the queues as they are written
 abbrev written : List QueueShape → CallStage → List ℕ
 written queues begin = []
-written queues (opened v) = []
-written queues (head v counts taken) = counts_text counts ++ flat_map queue_text queues
-written queues (body v s items) = calls_text (layout_of (counts_in s) queues) items
-written queues (ended v s items) = calls_text (layout_of (counts_in s) queues) items
+written queues (opened v) = calls_version_text v
+written queues (head v counts taken) = calls_version_text v ++ (counts_text counts ++ flat_map queue_text queues)
+written queues (body v s items) = calls_text v (layout_of (counts_in s) queues) items
+written queues (ended v s items) = calls_text v (layout_of (counts_in s) queues) items
 
 -- the queues that have been read are those that are written as they are taken, and a whole shape is inside the limits
 abbrev AreTaken : List QueueShape → CallStage → Type 0
@@ -50,12 +52,16 @@ record IsFront (stage : CallStage) (front : List ℕ) : Type 0 where
   text : front ≡ written queues stage
   taken : AreTaken queues stage
 
--- a short call is read as any call is
-short_call_read : (line : List ℕ) (x : Who × Call) → short_call_of line ≡ Some x → call_of line ≡ Some x
-unfolding short_call_of
-short_call_read line x h =
-    let read = bind_some (call_of line) (λ (x : Who × Call). if is_short_call x.1 then Some x else None) x h in
-    read.1 ∙ (chosen (is_short_call read.0.1) (Some read.0) x read.2).1
+-- a call of a format is read as any call is
+call_read : (v : ℕ) (line : List ℕ) (x : Who × Call) → call_of_format v line ≡ Some x → call_of line ≡ Some x
+unfolding call_of_format
+call_read v line x h =
+    let read = bind_some (call_of line) (λ (x : Who × Call). if allows_call v x.1 then Some x else None) x h in
+    read.1 ∙ (chosen (allows_call v read.0.1) (Some read.0) x read.2).1
+
+-- one text more behind a front that has this before the rest of it
+behind : (before rest more : List ℕ) (front : List ℕ) → front ≡ before ++ rest → front ++ more ≡ before ++ (rest ++ more)
+behind before rest more front is = ap (λ t. t ++ more) is ∙ append_assoc before rest more
 
 -- ---- one line
 
@@ -64,11 +70,11 @@ module _ (n v : ℕ) (front line : List ℕ) where
   abbrev longer : List ℕ
   longer = front ++ (line ++ 10 ∷ [])
 
-  begun_goes : (o : Option Counts) (next : CallStage) → front ≡ [] → counts_of_format v line ≡ o → begun n v o ≡ Ok next → IsFront next longer
-  begun_goes None next empty is h = cc
-  begun_goes (Some c) next empty is h =
+  begun_goes : (o : Option Counts) (next : CallStage) → front ≡ calls_version_text v → counts_of_format v line ≡ o → begun n v o ≡ Ok next → IsFront next longer
+  begun_goes None next before is h = cc
+  begun_goes (Some c) next before is h =
       let same : head v c [] ≡ next = cc in
-      let text = ap (λ t. t ++ (line ++ 10 ∷ [])) empty ∙ sym (counts_spelled_so c line (counts_read v line c is).0) ∙ sym (append-nil (counts_text c)) in
+      let text = ap (λ t. t ++ (line ++ 10 ∷ [])) before ∙ ap (λ t. calls_version_text v ++ t) (sym (counts_spelled_so c line (counts_read v line c is).0) ∙ sym (append-nil (counts_text c))) in
       subst (λ st. IsFront st longer) same (record { queues = []; text = text; taken = refl })
 
   queue_goes : (c : Counts) (taken : List QueueShape) (o : Option QueueShape) (next : CallStage) → IsFront (head v c taken) front → queue_of_calls line ≡ o → with_queue n v c taken o ≡ Ok next → IsFront next longer
@@ -78,7 +84,8 @@ module _ (n v : ℕ) (front line : List ℕ) where
       let read = queues_of_calls_spelled_so q line is in
       let one : QueueShape = queue_with read.0.max_active read.0.flags in
       let shape : List ℕ = counts_text c ++ flat_map queue_text before.queues in
-      let text = ap (λ t. t ++ (line ++ 10 ∷ [])) before.text ∙ ap (λ t. shape ++ t) (sym read.2) ∙ flat_map_more queue_text (counts_text c) before.queues one in
+      let more_text = ap (λ t. shape ++ t) (sym read.2) ∙ flat_map_more queue_text (counts_text c) before.queues one in
+      let text = behind (calls_version_text v) shape (line ++ 10 ∷ []) front before.text ∙ ap (λ t. calls_version_text v ++ t) more_text in
       let more = map_push queue_taken before.queues one ∙ ap (λ qs. qs ++ queue_taken one ∷ []) before.taken ∙ ap (λ x. taken ++ x ∷ []) read.1 in
       subst (λ st. IsFront st longer) same (record { queues = before.queues ++ one ∷ []; text = text; taken = more })
 
@@ -87,24 +94,26 @@ module _ (n v : ℕ) (front line : List ℕ) where
   queue_line_goes c taken next true before h = cc
   queue_line_goes c taken next false before h = queue_goes c taken (queue_of_calls line) next before refl h
 
-  item_goes : (s : Layout) (xs : List (Who × Call)) (x : Who × Call) (next : CallStage) (b : Bool) → IsFront (body v s xs) front → short_call_of line ≡ Some x → fits s x.0 x.1 ≡ b
+  item_goes : (s : Layout) (xs : List (Who × Call)) (x : Who × Call) (next : CallStage) (b : Bool) → IsFront (body v s xs) front → call_of_format v line ≡ Some x → fits s x.0 x.1 ≡ b
       → (if b then Ok (body v s (xs ++ x ∷ [])) else Err (refusal.NoSuchId n)) ≡ Ok next → IsFront next longer
   item_goes s xs x next true before is fitting h =
       let same : body v s (xs ++ x ∷ []) ≡ next = cc in
       let shape : Layout = layout_of (counts_in s) before.queues in
-      let spelled = calls_spelled_so s x.0 x.1 line before.taken.0 fitting (short_call_read line x is) in
-      let text = ap (λ t. t ++ (line ++ 10 ∷ [])) before.text ∙ ap (λ t. calls_text shape xs ++ t) (sym spelled) ∙ flat_map_more (λ (x : Who × Call). call_text x.0 x.1) (shape_text shape) xs x in
+      let spelled = calls_spelled_so s x.0 x.1 line before.taken.0 fitting (call_read v line x is) in
+      let calls : List ℕ = shape_text shape ++ flat_map (λ (x : Who × Call). call_text x.0 x.1) xs in
+      let more_text = ap (λ t. calls ++ t) (sym spelled) ∙ flat_map_more (λ (x : Who × Call). call_text x.0 x.1) (shape_text shape) xs x in
+      let text = behind (calls_version_text v) calls (line ++ 10 ∷ []) front before.text ∙ ap (λ t. calls_version_text v ++ t) more_text in
       subst (λ st. IsFront st longer) same (record { queues = before.queues; text = text; taken = before.taken })
   item_goes s xs x next false before is fitting h = cc
 
-  with_item_goes : (s : Layout) (xs : List (Who × Call)) (o : Option (Who × Call)) (next : CallStage) → IsFront (body v s xs) front → short_call_of line ≡ o → with_item calls_kind n v s xs o ≡ Ok next → IsFront next longer
+  with_item_goes : (s : Layout) (xs : List (Who × Call)) (o : Option (Who × Call)) (next : CallStage) → IsFront (body v s xs) front → call_of_format v line ≡ o → with_item calls_kind n v s xs o ≡ Ok next → IsFront next longer
   with_item_goes s xs None next before is h = cc
   with_item_goes s xs (Some x) next before is h = item_goes s xs x next (fits s x.0 x.1) before is refl h
 
   item_line_if : (s : Layout) (xs : List (Who × Call)) (next : CallStage) (b : Bool) → IsFront (body v s xs) front
-      → (if b then Err refusal.TooLong else with_item calls_kind n v s xs (short_call_of line)) ≡ Ok next → IsFront next longer
+      → (if b then Err refusal.TooLong else with_item calls_kind n v s xs (call_of_format v line)) ≡ Ok next → IsFront next longer
   item_line_if s xs next true before h = cc
-  item_line_if s xs next false before h = with_item_goes s xs (short_call_of line) next before refl h
+  item_line_if s xs next false before h = with_item_goes s xs (call_of_format v line) next before refl h
 
   item_line_goes : (s : Layout) (xs : List (Who × Call)) (next : CallStage) → IsFront (body v s xs) front → item_line calls_kind n v s xs line ≡ Ok next → IsFront next longer
   unfolding item_line
@@ -114,7 +123,7 @@ module _ (n v : ℕ) (front line : List ℕ) where
       → first_item calls_kind n v (if b then Some (layout_of c taken) else None) line ≡ Ok next → IsFront next longer
   unfolding body_line
   first_item_goes c taken next true before inside h =
-      let text = before.text ∙ sym (append-nil (counts_text c ++ flat_map queue_text before.queues)) in
+      let text = before.text ∙ ap (λ t. calls_version_text v ++ t) (sym (append-nil (counts_text c ++ flat_map queue_text before.queues))) in
       item_line_goes (layout_of c taken) [] next (record { queues = before.queues; text = text; taken = (inside, before.taken) }) h
   first_item_goes c taken next false before inside h = cc
 
@@ -123,9 +132,17 @@ module _ (n v : ℕ) (front line : List ℕ) where
   head_goes c taken next true before h = queue_line_goes c taken next (nat_le 64 (length taken)) before h
   head_goes c taken next false before h = first_item_goes c taken next (is_layout (layout_of c taken)) before refl h
 
+first_goes : (n : ℕ) (front line : List ℕ) (next : CallStage) (b : Bool) → front ≡ [] → bytes_eq line calls_name ≡ b → (if b then Ok (opened 3) else begun n 1 (counts_of_format 1 line)) ≡ Ok next
+    → IsFront next (front ++ (line ++ 10 ∷ []))
+first_goes n front line next true empty is h =
+    let same : opened 3 ≡ next = cc in
+    let text = ap (λ t. t ++ (line ++ 10 ∷ [])) empty ∙ ap (λ t. t ++ 10 ∷ []) ((bytes_eq-Decides line calls_name).0 is) in
+    subst (λ st. IsFront st (front ++ (line ++ 10 ∷ []))) same (record { queues = []; text = text; taken = tt })
+first_goes n front line next false empty is h = begun_goes n 1 front line (counts_of_format 1 line) next empty refl h
+
 line_goes : (n : ℕ) (stage next : CallStage) (front line : List ℕ) → IsFront stage front → after_line calls_kind n stage line ≡ Ok next → IsFront next (front ++ (line ++ 10 ∷ []))
 unfolding after_line after_head body_line
-line_goes n begin next front line before h = begun_goes n 1 front line (counts_of_format 1 line) next before.text refl h
+line_goes n begin next front line before h = first_goes n front line next (bytes_eq line calls_name) before.text refl h
 line_goes n (opened v) next front line before h = begun_goes n v front line (counts_of_format v line) next before.text refl h
 line_goes n (head v c taken) next front line before h = head_goes n v front line c taken next (begins_queue line) before h
 line_goes n (body v s xs) next front line before h = item_line_goes n v front line s xs next before h
@@ -137,7 +154,7 @@ shape_is_all : (n v : ℕ) (c : Counts) (taken : List QueueShape) (text : List �
     → without_items calls_kind n v (if b then Some (layout_of c taken) else None) ≡ Ok f → IsTextOfCalls f text
 shape_is_all n v c taken text true f before h =
     let same : record { version = v; layout = layout_of c taken; items = [] } ≡ f = cc in
-    let all = before.text ∙ sym (append-nil (counts_text c ++ flat_map queue_text before.queues)) in
+    let all = before.text ∙ ap (λ t. calls_version_text v ++ t) (sym (append-nil (counts_text c ++ flat_map queue_text before.queues))) in
     subst (λ g. IsTextOfCalls g text) same (before.queues, before.taken, all)
 shape_is_all n v c taken text false f before h = cc
 

@@ -1,5 +1,5 @@
 -- How a reader's progress goes on from line to line.
-use Rattle.std.proofs.Common.{◌≡◌, ◌+◌, ◌<◌, ◌≤◌, ℕ, ◌==◌, Bool, true, false, ◌&&◌, not, List, [], ◌∷◌, ◌++◌, length, Result, Ok, Err, nat_le, Option, Some, None, refl, sym, ap, ◌∙◌, arith, subst, length-append}
+use Rattle.std.proofs.Common.{◌≡◌, inl, inr, ◌+◌, ◌<◌, ◌≤◌, ℕ, ◌==◌, Bool, true, false, ◌&&◌, not, List, [], ◌∷◌, ◌++◌, length, Result, Ok, Err, nat_le, Option, Some, None, refl, sym, ap, ◌∙◌, arith, subst, length-append}
 use Rattle.std.specs.Prelude.{if◌then◌else◌, IfSome, IfOk, IsTrue}
 use Rattle.std.proofs.lemmas.List.Elements.{All-nil, All-push}
 use Rattle.std.proofs.lemmas.Bool.Decides.{nat_tests}
@@ -60,16 +60,13 @@ module _ {X : Type 0} (k : Kind X) (n : ℕ) where
       let room : c.room ≤ room_limit v = leb-true c.room (room_limit v) (counts_read v line c read).1 in
       subst (Grows k stage) is (record { count = omega (arith, lines); within = λ w. (is_version w, omega arith, room) })
 
-  said : (u : ℕ) (line : List ℕ) → k.says_format u line ≡ true → ((u : ℕ) (line : List ℕ) → k.says_format u line ≡ false) → ⊥
-  said u line says none = let both : true ≡ false = sym says ∙ none u line in cc
-
   opened_grows : (v : ℕ) (line : List ℕ) (next : Stage X) → 2 ≤ v → v ≤ 3 → k.says_format v line ≡ true → opened v ≡ next → Grows k begin next
   opened_grows v line next low high says is =
       subst (Grows k begin) is (record { count = omega arith; within = λ _. record { low = low; high = high; line = line; says = says } })
 
   third_grows : (line : List ℕ) (next : Stage X) (b : Bool) → k.says_format 3 line ≡ b → (if b then Ok (opened 3) else begun n 1 (counts_of_format 1 line)) ≡ Ok next → Grows k begin next
   third_grows line next true says h = let is : opened 3 ≡ next = cc in opened_grows 3 line next (omega arith) (omega arith) says is
-  third_grows line next false says h = begun_grows 1 begin line (counts_of_format 1 line) next refl (omega arith) (λ _. (omega arith, omega arith, λ _. refl)) h
+  third_grows line next false says h = begun_grows 1 begin line (counts_of_format 1 line) next refl (omega arith) (λ _. (omega arith, omega arith, inl refl)) h
 
   first_grows : (line : List ℕ) (next : Stage X) (b : Bool) → k.says_format 2 line ≡ b
       → (if b then Ok (opened 2) else if k.says_format 3 line then Ok (opened 3) else begun n 1 (counts_of_format 1 line)) ≡ Ok next → Grows k begin next
@@ -136,7 +133,7 @@ module _ {X : Type 0} (k : Kind X) (n : ℕ) where
   unfolding after_line after_head
   line_grows begin next line h = first_grows line next (k.says_format 2 line) refl h
   line_grows (opened v) next line h =
-      begun_grows v (opened v) line (counts_of_format v line) next refl (omega arith) (λ (w : IsSaid k v). (omega (arith, w.low), w.high, λ none. absurd (said v w.line w.says none))) h
+      begun_grows v (opened v) line (counts_of_format v line) next refl (omega arith) (λ (w : IsSaid k v). (omega (arith, w.low), w.high, inr (w.line, w.says))) h
   line_grows (head v c qs) next line h = head_grows v c qs line next (begins_queue line) h
   line_grows (body v s xs) next line h = body_line_grows v s xs line next h
   line_grows (ended v s xs) next line h = cc

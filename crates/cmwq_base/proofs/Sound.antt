@@ -10,11 +10,11 @@ use Rattle.cmwq_model.specs.declared.entry.Entry.{Entry}
 use Rattle.cmwq_model.specs.declared.shape.Counts.{Counts}
 use Rattle.cmwq_model.specs.declared.shape.QueueShape.{QueueShape}
 use Rattle.cmwq_model.specs.Layout.{Layout, layout_of, is_layout}
-use Rattle.cmwq_model.specs.Ranges.{IsWho, IsCall, IsEntry, greatest}
+use Rattle.cmwq_model.specs.Ranges.{IsWho, IsCall, IsEntry}
 use Rattle.cmwq_text.specs.Numbers.{greatest_number}
 use Rattle.cmwq_text.specs.ShapeText.{begins_queue}
-use Rattle.cmwq_text.specs.Formats.{line_limit, counts_of_format}
-use Rattle.cmwq_text.proofs.ReadRanges.{short_call_inside, entry_of_format_inside}
+use Rattle.cmwq_text.specs.Formats.{line_limit, number_limit, counts_of_format}
+use Rattle.cmwq_text.proofs.ReadRanges.{call_of_format_inside, entry_of_format_inside}
 use Rattle.cmwq_base.specs.declared.refusal.Refusal.{Refusal}
 use Rattle.cmwq_base.specs.declared.refusal.Refusal.TheVariants as refusal
 use Rattle.cmwq_base.specs.Pieces.{pieces}
@@ -75,19 +75,19 @@ module _ {X : Type 0} (k : Kind X) (Holds : Stage X → Type 0)
 -- ---- what each stage keeps
 
 -- what is read of a text of the kind
-pub record IsReadOf {X : Type 0} (k : Kind X) (P : X → Type 0) (f : File X) : Type 0 where
+pub record IsReadOf {X : Type 0} (k : Kind X) (P : ℕ → X → Type 0) (f : File X) : Type 0 where
   pub version : IsVersion k f.version
   pub shape : IsTrue (is_layout f.layout)
   pub sound : IsSound k f
-  pub each : All P f.items
+  pub each : All (P f.version) f.items
 
-module _ {X : Type 0} (k : Kind X) (P : X → Type 0) (reads : (v : ℕ) (line : List ℕ) (x : X) → k.item_of v line ≡ Some x → P x) where
+module _ {X : Type 0} (k : Kind X) (P : ℕ → X → Type 0) (reads : (v : ℕ) (line : List ℕ) (x : X) → k.item_of v line ≡ Some x → P v x) where
   abbrev Has : Stage X → Type 0
   Has begin = Unit {0}
   Has (opened v) = Unit {0}
   Has (head v counts queues) = Unit {0}
-  Has (body v s items) = IsTrue (is_layout s) × All P items
-  Has (ended v s items) = IsTrue (is_layout s) × All P items
+  Has (body v s items) = IsTrue (is_layout s) × All (P v) items
+  Has (ended v s items) = IsTrue (is_layout s) × All (P v) items
 
   begun_has : (n v : ℕ) (o : Option Counts) (next : Stage X) → begun n v o ≡ Ok next → Has next
   begun_has n v None next h = cc
@@ -110,11 +110,11 @@ module _ {X : Type 0} (k : Kind X) (P : X → Type 0) (reads : (v : ℕ) (line :
   queue_line_has n v c qs line next true h = cc
   queue_line_has n v c qs line next false h = queue_has n v c qs (k.queue_of v line) next h
 
-  item_has : (n v : ℕ) (s : Layout) (xs : List X) (x : X) (next : Stage X) (b : Bool) → P x → Has (body v s xs)
+  item_has : (n v : ℕ) (s : Layout) (xs : List X) (x : X) (next : Stage X) (b : Bool) → P v x → Has (body v s xs)
       → (if b then Ok (body v s (xs ++ x ∷ [])) else Err (refusal.NoSuchId n)) ≡ Ok next → Has next
   item_has n v s xs x next true own has h =
       let is : body v s (xs ++ x ∷ []) ≡ next = cc in
-      subst Has is (has.0, All-push P xs x has.1 own)
+      subst Has is (has.0, All-push (P v) xs x has.1 own)
   item_has n v s xs x next false own has h = cc
 
   with_item_has : (n v : ℕ) (s : Layout) (xs : List X) (line : List ℕ) (o : Option X) (next : Stage X) → k.item_of v line ≡ o → Has (body v s xs)
@@ -145,7 +145,7 @@ module _ {X : Type 0} (k : Kind X) (P : X → Type 0) (reads : (v : ℕ) (line :
 
   first_item_has : (n v : ℕ) (c : Counts) (qs : List QueueShape) (line : List ℕ) (next : Stage X) (b : Bool) → is_layout (layout_of c qs) ≡ b
       → first_item k n v (if b then Some (layout_of c qs) else None) line ≡ Ok next → Has next
-  first_item_has n v c qs line next true inside h = body_line_has n v (layout_of c qs) [] line next (inside, All-nil P) h
+  first_item_has n v c qs line next true inside h = body_line_has n v (layout_of c qs) [] line next (inside, All-nil (P v)) h
   first_item_has n v c qs line next false inside h = cc
 
   head_has : (n v : ℕ) (c : Counts) (qs : List QueueShape) (line : List ℕ) (next : Stage X) (b : Bool)
@@ -164,13 +164,13 @@ module _ {X : Type 0} (k : Kind X) (P : X → Type 0) (reads : (v : ℕ) (line :
   -- ---- the end
 
   abbrev HasEach : File X → Type 0
-  HasEach f = IsTrue (is_layout f.layout) × All P f.items
+  HasEach f = IsTrue (is_layout f.layout) × All (P f.version) f.items
 
   shape_has : (n v : ℕ) (c : Counts) (qs : List QueueShape) (f : File X) (b : Bool) → is_layout (layout_of c qs) ≡ b
       → without_items k n v (if b then Some (layout_of c qs) else None) ≡ Ok f → HasEach f
   shape_has n v c qs f true inside h =
       let is : record { version = v; layout = layout_of c qs; items = [] } ≡ f = ends_with k n (record { version = v; layout = layout_of c qs; items = [] }) f h in
-      subst HasEach is (inside, All-nil P)
+      subst HasEach is (inside, All-nil (P v))
   shape_has n v c qs f false inside h = cc
 
   end_has : (n : ℕ) (stage : Stage X) (f : File X) → Has stage → at_end k n stage ≡ Ok f → HasEach f
@@ -200,14 +200,14 @@ module _ {X : Type 0} (k : Kind X) (P : X → Type 0) (reads : (v : ℕ) (line :
 
 -- ---- the two kinds
 
-abbrev pub IsCallInside : Who × Call → Type 0
-IsCallInside x = IsWho x.0 × (IsCall greatest) x.1
+abbrev pub IsCallInside : ℕ → Who × Call → Type 0
+IsCallInside v x = IsWho x.0 × (IsCall (number_limit v)) x.1
 
 pub calls_are_read : (text : List ℕ) (f : File (Who × Call)) → call_file_of text ≡ Ok f → IsReadOf calls_kind IsCallInside f
-calls_are_read = file_is_read calls_kind IsCallInside (λ v. short_call_inside)
+calls_are_read = file_is_read calls_kind IsCallInside call_of_format_inside
 
-pub front_is_read : (text : List ℕ) (f : File Entry) → front_file_of true text ≡ Ok f → IsReadOf (as_front true history_kind) (IsEntry greatest_number) f
-front_is_read = file_is_read (as_front true history_kind) (IsEntry greatest_number) entry_of_format_inside
+pub front_is_read : (text : List ℕ) (f : File Entry) → front_file_of true text ≡ Ok f → IsReadOf (as_front true history_kind) (λ v. IsEntry greatest_number) f
+front_is_read = file_is_read (as_front true history_kind) (λ v. IsEntry greatest_number) entry_of_format_inside
 
-pub history_is_read : (text : List ℕ) (f : File Entry) → history_file_of text ≡ Ok f → IsReadOf history_kind (IsEntry greatest_number) f
-history_is_read = file_is_read history_kind (IsEntry greatest_number) entry_of_format_inside
+pub history_is_read : (text : List ℕ) (f : File Entry) → history_file_of text ≡ Ok f → IsReadOf history_kind (λ v. IsEntry greatest_number) f
+history_is_read = file_is_read history_kind (λ v. IsEntry greatest_number) entry_of_format_inside

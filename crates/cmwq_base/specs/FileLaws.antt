@@ -8,7 +8,7 @@ use Rattle.cmwq_model.specs.declared.shape.QueueShape.{QueueShape}
 use Rattle.cmwq_model.specs.Layout.{layout_of, is_layout}
 use Rattle.cmwq_model.specs.Ranges.{IsWho, IsCall, IsEntry, greatest}
 use Rattle.cmwq_text.specs.Numbers.{greatest_number}
-use Rattle.cmwq_text.specs.Formats.{allows_queue, allows_entry}
+use Rattle.cmwq_text.specs.Formats.{number_limit, allows_queue, allows_entry}
 use Rattle.cmwq_text.specs.ShapeText.{flags_in, queue_with, width_taken}
 use Rattle.cmwq_text.specs.HistoryText.{last_text, text_of_format, counts_in, calls_text}
 use Rattle.cmwq_base.specs.Files.{File, IsSound, is_long}
@@ -25,7 +25,7 @@ queue_taken q = queue_with (width_taken q.max_active) (flags_in q)
 
 -- the text of these calls and their shape, where a queue may be written with another max_active that is taken as its own
 abbrev pub IsTextOfCalls : File (Who × Call) → List ℕ → Type 0
-IsTextOfCalls f text = (queues : List QueueShape) × (map queue_taken queues ≡ f.layout.queues) × (text ≡ calls_text (layout_of (counts_in f.layout) queues) f.items)
+IsTextOfCalls f text = (queues : List QueueShape) × (map queue_taken queues ≡ f.layout.queues) × (text ≡ calls_text f.version (layout_of (counts_in f.layout) queues) f.items)
 
 -- what is read of a file of calls is spelled so, but for max_active
 abbrev pub CallFilesSpelledSo : Type 0
@@ -60,6 +60,8 @@ HistoriesReadAgain =
 abbrev pub OldHistoriesReadAgain : Type 0
 OldHistoriesReadAgain = (f : File Entry) → f.version ≡ 1 → IsOfFormat f → IsTrue (is_layout f.layout) → IsSound history_kind f → All (IsEntry greatest) f.items → history_file_of (text_of_format 1 f.layout f.items) ≡ Ok f
 
--- the same of a file of calls
+-- the same of a file of calls, of either format
 abbrev pub CallFilesReadAgain : Type 0
-CallFilesReadAgain = (f : File (Who × Call)) → f.version ≡ 1 → IsTrue (is_layout f.layout) → IsSound calls_kind f → All (λ x. IsWho x.0 × (IsCall greatest) x.1) f.items → call_file_of (calls_text f.layout f.items) ≡ Ok f
+CallFilesReadAgain =
+    (f : File (Who × Call)) → (f.version ≡ 1) ⊎ (f.version ≡ 3) → IsTrue (is_layout f.layout) → IsSound calls_kind f → All (λ x. IsWho x.0 × (IsCall (number_limit f.version)) x.1) f.items
+    → call_file_of (calls_text f.version f.layout f.items) ≡ Ok f

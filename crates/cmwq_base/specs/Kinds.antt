@@ -5,13 +5,13 @@ use Rattle.cmwq_model.specs.declared.call.Call.{Call}
 use Rattle.cmwq_model.specs.declared.entry.Entry.{Entry}
 use Rattle.cmwq_model.specs.Layout.{fits, entry_fits}
 use Rattle.cmwq_text.specs.ShapeText.{queue_of_calls}
-use Rattle.cmwq_text.specs.Formats.{is_version_line, needs_end, queue_of_format, entry_of_format, short_call_of}
+use Rattle.cmwq_text.specs.Formats.{is_version_line, needs_end, queue_of_format, entry_of_format, is_calls_line, call_of_format}
 use Rattle.cmwq_base.specs.declared.refusal.Refusal.{Refusal}
 use Rattle.cmwq_base.specs.Files.{File, Kind, as_front, file_of}
 
--- no line says the format of a file of calls, and it has no last line
+-- a first line may say that a file of calls is of format 3, and it has no last line
 abbrev pub calls_kind : Kind (Who × Call)
-calls_kind = record { says_format = λ v line. false; queue_of = λ v. queue_of_calls; item_of = λ v. short_call_of; fits_in = λ s x. fits s x.0 x.1; needs_end = λ v. false; is_front = false }
+calls_kind = record { says_format = is_calls_line; queue_of = λ v. queue_of_calls; item_of = call_of_format; fits_in = λ s x. fits s x.0 x.1; needs_end = λ v. false; is_front = false }
 
 abbrev pub history_kind : Kind Entry
 history_kind = record { says_format = is_version_line; queue_of = queue_of_format; item_of = entry_of_format; fits_in = entry_fits; needs_end = needs_end; is_front = false }

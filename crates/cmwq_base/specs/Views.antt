@@ -7,7 +7,7 @@ use Rattle.cmwq_base.specs.declared.files.HistoryFile.{HistoryFile}
 use Rattle.cmwq_base.specs.Files.{File}
 
 abbrev pub calls_in : CallFile → File (Who × Call)
-calls_in f = record { version = 1; layout = f.shape; items = f.calls.items }
+calls_in f = record { version = f.version; layout = f.shape; items = f.calls.items }
 
 abbrev pub history_in : HistoryFile → File Entry
 history_in f = record { version = f.version; layout = f.shape; items = f.entries.items }

@@ -1,10 +1,10 @@
 //! Files of calls and histories.
 
-ghost use Rattle.std.specs.Prelude.{◌≡◌, ◌≤◌, length, IfSome, IfOk, IsErrOf, IsTrue};
+ghost use Rattle.std.specs.Prelude.{◌≡◌, ◌⊎◌, ◌≤◌, length, IfSome, IfOk, IsErrOf, IsTrue};
 ghost use Rattle.std.specs.List.{All};
 ghost use Rattle.cmwq_model.specs.Layout.{fits};
 ghost use Rattle.cmwq_model.specs.Verdict.{AllFit};
-ghost use Rattle.cmwq_text.specs.Formats.{old_lines, old_room, line_limit, room_limit};
+ghost use Rattle.cmwq_text.specs.Formats.{line_limit, room_limit};
 ghost use Rattle.cmwq_io.specs.Counts.{Rises};
 ghost use Rattle.cmwq_base.specs.Gives.{Gives};
 ghost use Rattle.cmwq_base.specs.Kinds.{call_file_of, history_file_of};
@@ -22,16 +22,16 @@ impl FileLine for (Who, Call) {
 
     ghost kind = { calls_kind };
 
-    fn says_format(_version: u8, _line: &[u8]) -> bool {
-        false
+    fn says_format(version: u8, line: &[u8]) -> bool {
+        cmwq_text::is_calls_line(version, line)
     }
 
     fn read_queue(_version: u8, line: &[u8]) -> Option<QueueShape> {
         cmwq_text::read_queue_of_calls(line)
     }
 
-    fn read(_version: u8, line: &[u8]) -> Option<Self> {
-        cmwq_text::read_short_call(line)
+    fn read(version: u8, line: &[u8]) -> Option<Self> {
+        cmwq_text::read_call_of_format(version, line)
     }
 
     fn needs_end(_version: u8) -> bool {
@@ -75,6 +75,8 @@ impl FileLine for Entry {
 pub struct CallFile {
     pub shape: Shape,
     pub calls: Vec<(Who, Call)>,
+    /// The format in which it was read: 3 where its first line says so, and else 1.
+    pub version: u8,
 }
 
 /// A history: a shape, and entries that fit it.
@@ -88,15 +90,16 @@ pub struct HistoryFile {
 
 ghost use Rattle.cmwq_base.specs.Views.{calls_in, history_in};
 
-/// Reads a file of calls to the end of the source. After an error nothing is kept, and the source has been read up to a
+/// Reads a file of calls to the end of the source. One whose first line is `calls 3` has the limits of format 3. After an error nothing is kept, and the source has been read up to a
 /// place that isn't said.
 ///
 /// # Errors
 /// The first refusal in the order of the bytes; `ReadFault` where the source fails, `NoMemory` where memory runs out.
 pub fn read_calls<S: Source>(alloc: Global, source: &mut S) -> Result<CallFile, Refusal>
     ensures exact { IfSome (S.left source.old) (λ text. Gives calls_in result (call_file_of text)) }
-    ensures room { IfOk result (λ file. file.shape.room ≤ old_room) }
-    ensures few { IfOk result (λ file. length file.calls.items ≤ old_lines) }
+    ensures version { IfOk result (λ file. (file.version ≡ 1) ⊎ (file.version ≡ 3)) }
+    ensures room { IfOk result (λ file. file.shape.room ≤ room_limit file.version) }
+    ensures few { IfOk result (λ file. length file.calls.items ≤ line_limit file.version) }
     ensures fitting { IfOk result (λ file. All (λ x. IsTrue (fits file.shape x.0 x.1)) file.calls.items) }
     ensures fault { IsErrOf result Refusal.ReadFault → Rises (S.troubles source.old) (S.troubles source.new) }
     ensures nothing_written { IsErrOf result Refusal.WriteFault → ⊥ }
@@ -105,6 +108,7 @@ pub fn read_calls<S: Source>(alloc: Global, source: &mut S) -> Result<CallFile, 
     Ok(CallFile {
         shape: file.all.shape,
         calls: file.all.items,
+        version: file.version,
     })
 }
 

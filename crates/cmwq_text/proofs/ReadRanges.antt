@@ -1,7 +1,7 @@
 -- What is read of a line is inside the ranges of its types: a number above its limit is refused, and an id above its type's greatest number is
 -- read as that number.
-use Rattle.std.proofs.Common.{◌≡◌, ℕ, zero, suc, ◌≤◌, ◌+◌, true, leb, refl, ◌&&◌, List, [], ◌∷◌, eqb, get_or, take, drop, Option, Some, None, arith, subst, cond, ◌∙◌, inl, inr, min}
-use Rattle.std.specs.Prelude.{codes, position}
+use Rattle.std.proofs.Common.{◌≡◌, ℕ, zero, suc, ◌≤◌, ◌+◌, Bool, true, false, leb, nat_le, refl, ◌&&◌, ◌||◌, List, [], ◌∷◌, eqb, get_or, take, drop, Option, Some, None, arith, subst, cond, ◌∙◌, inl, inr, min}
+use Rattle.std.specs.Prelude.{if◌then◌else◌, codes, position}
 use Rattle.std.specs.Cmp.Derive.{both_true}
 use Rattle.std.proofs.lemmas.Bool.{leb-true, le-leb}
 use Rattle.std.proofs.lemmas.Option.{same_Some}
@@ -25,7 +25,7 @@ use Rattle.cmwq_text.specs.IdText.{item, queue, cpu, caller, worker, item_in, qu
 use Rattle.cmwq_text.specs.CallText.{call_after, call_in, may_say, call_of}
 use Rattle.cmwq_text.specs.ReplyText.{ticket_with, ticket_after, started_with, started_after, reply_after, reply_in}
 use Rattle.cmwq_text.specs.EntryText.{entry_of}
-use Rattle.cmwq_text.specs.Formats.{is_short, is_short_call, is_short_reply, is_short_entry, short_call_of, allows_entry, entry_of_format}
+use Rattle.cmwq_text.specs.Formats.{is_short, is_short_call, is_short_reply, is_short_entry, number_limit, by_age, allows_call, call_of_format, allows_entry, entry_of_format}
 use Rattle.cmwq_text.proofs.Steps.{bind_some, chosen, both}
 use Rattle.cmwq_text.proofs.NumberLaws.{number_takes}
 use Rattle.cmwq_text.proofs.WordLaws.{word_takes}
@@ -455,13 +455,32 @@ allowed_short (suc zero) e h is = (both (is_short_entry e) _ is).0
 allowed_short (suc (suc zero)) e h is = (both (is_short_entry e) _ is).0
 allowed_short (suc (suc (suc n))) e h is = absurd (omega arith)
 
-pub short_call_inside : (line : List ℕ) (x : Who × Call) → short_call_of line ≡ Some x → IsWho x.0 × (IsCall greatest) x.1
-unfolding short_call_of
-short_call_inside line x is =
-    let read = bind_some (call_of line) (λ (y : Who × Call). cond (is_short_call y.1) (Some y) None) x is in
-    let found = chosen (is_short_call read.0.1) (Some read.0) x read.2 in
-    let inside = call_line_inside line read.0 read.1 in
-    subst (λ (y : Who × Call). IsWho y.0 × (IsCall greatest) y.1) (same_Some read.0 x found.1) (inside.0, short_call read.0.1 inside.1 found.0)
+-- a call that a file of calls of a format says has the numbers of that format, and one with these is of the format
+module _ (v : ℕ) where
+  limited_call : (b : Bool) (c : Call) → (IsCall greatest_number) c → (b || is_short_call c) ≡ true → (IsCall (if b then greatest_number else greatest)) c
+  limited_call true c h is = h
+  limited_call false c h is = short_call c h is
 
-pub short_calls_are : (x : Who × Call) → (IsCall greatest) x.1 → is_short_call x.1 ≡ true
-short_calls_are x h = short_call_is x.1 h
+  limited_is : (b : Bool) (c : Call) → (IsCall (if b then greatest_number else greatest)) c → (b || is_short_call c) ≡ true
+  limited_is true c h = refl
+  limited_is false c h = short_call_is c h
+
+  limited_wide : (b : Bool) (c : Call) → (IsCall (if b then greatest_number else greatest)) c → (IsCall greatest_number) c
+  limited_wide true c h = h
+  limited_wide false c h = wide_calls c h
+
+  pub call_of_format_inside : (line : List ℕ) (x : Who × Call) → call_of_format v line ≡ Some x → IsWho x.0 × (IsCall (number_limit v)) x.1
+  unfolding call_of_format by_age
+  call_of_format_inside line x is =
+      let read = bind_some (call_of line) (λ (y : Who × Call). cond (allows_call v y.1) (Some y) None) x is in
+      let found = chosen (allows_call v read.0.1) (Some read.0) x read.2 in
+      let inside = call_line_inside line read.0 read.1 in
+      subst (λ (y : Who × Call). IsWho y.0 × (IsCall (number_limit v)) y.1) (same_Some read.0 x found.1) (inside.0, limited_call (nat_le 3 v) read.0.1 inside.1 found.0)
+
+  pub allowed_call : (c : Call) → (IsCall (number_limit v)) c → allows_call v c ≡ true
+  unfolding by_age
+  allowed_call c h = limited_is (nat_le 3 v) c h
+
+  pub wide_call_of : (c : Call) → (IsCall (number_limit v)) c → (IsCall greatest_number) c
+  unfolding by_age
+  wide_call_of c h = limited_wide (nat_le 3 v) c h

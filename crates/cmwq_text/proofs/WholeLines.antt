@@ -22,8 +22,8 @@ use Rattle.cmwq_text.specs.CallText.{call_words, call_text, is_of_kind, sets_som
 use Rattle.cmwq_text.specs.ReplyText.{reply_words}
 use Rattle.cmwq_text.specs.EntryText.{entry_words, entry_text, entry_of}
 use Rattle.cmwq_text.specs.EndText.{end_words, end_text}
-use Rattle.cmwq_text.specs.HistoryText.{version_text}
-use Rattle.cmwq_text.specs.Formats.{counts_of_format, entry_of_format}
+use Rattle.cmwq_text.specs.HistoryText.{version_text, calls_version_text}
+use Rattle.cmwq_text.specs.Formats.{calls_name, counts_of_format, entry_of_format}
 use Rattle.cmwq_text.specs.ShapeText.{counts_words, counts_text, counts_of, queue_words, queue_text, begins_queue}
 use Rattle.cmwq_text.specs.Numbers.{greatest_number}
 use Rattle.cmwq_model.specs.Ranges.{IsWho, IsCall, IsEntry}
@@ -61,6 +61,9 @@ whole_version = record { is = refl; one = one_feed (codes "history 2") refl; sho
 
 pub whole_long_version : IsWholeLine (version_text 3) (codes "history 3")
 whole_long_version = record { is = refl; one = one_feed (codes "history 3") refl; short = omega arith }
+
+pub whole_calls_version : IsWholeLine (calls_version_text 3) calls_name
+whole_calls_version = record { is = refl; one = one_feed calls_name refl; short = omega arith }
 
 pub whole_counts : (n : Counts) → IsTrue (are_counts n.cpus n.workers n.callers n.items n.room) → IsWholeLine (counts_text n) (joined (counts_words n))
 unfolding counts_text

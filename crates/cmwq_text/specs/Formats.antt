@@ -1,7 +1,8 @@
 -- The three formats of histories. A history of format 2 begins with the line `history 2`, and has the whole grammar. One of format 1 has no such
 -- line, and neither freezable queues, nor set_max, freeze, thaw and destroy, nor the replies that came with them. One of format 3 begins with the
 -- line `history 3`, and is as one of format 2 but for its limits, those of its lines, its room and its numbers, and for its last line, which says how
--- many entries stand before it.
+-- many entries stand before it. A file of calls has no line of a format and the limits of the older ones, or begins with the line `calls 3` and has
+-- those of format 3.
 use Rattle.std.specs.Prelude.{ℕ, Bool, true, false, not, ◌&&◌, ◌||◌, ◌==◌, if◌then◌else◌, List, Option, Some, None, codes, nat_le}
 use Rattle.std.specs.Str.{bytes_eq}
 use Rattle.cmwq_model.specs.declared.call.Call.{Call}
@@ -16,6 +17,7 @@ use Rattle.cmwq_model.specs.Ranges.{greatest}
 use Rattle.cmwq_model.specs.Room.{most_time}
 use Rattle.cmwq_text.specs.CallText.{call_of}
 use Rattle.cmwq_model.specs.declared.shape.QueueShape.{QueueShape}
+use Rattle.cmwq_text.specs.Numbers.{greatest_number}
 use Rattle.cmwq_text.specs.Words.{◌>>=◌}
 use Rattle.cmwq_text.specs.ShapeText.{counts_of, queue_of_history}
 use Rattle.cmwq_text.specs.EntryText.{entry_of}
@@ -27,7 +29,14 @@ version_name version = if version == 3 then codes "history 3" else codes "histor
 abbrev pub is_version_line : ℕ → List ℕ → Bool
 is_version_line version line = bytes_eq line (version_name version)
 
--- the limits of formats 1 and 2 and of files of calls: of the lines behind the queues, and of the room
+-- that of a file of calls of format 3
+abbrev pub calls_name : List ℕ
+calls_name = codes "calls 3"
+
+abbrev pub is_calls_line : ℕ → List ℕ → Bool
+is_calls_line version line = version == 3 && bytes_eq line calls_name
+
+-- the limits of formats 1 and 2, and of files of calls without a line of a format: of the lines behind the queues, and of the room
 abbrev pub old_lines : ℕ
 old_lines = 1000000
 
@@ -63,7 +72,7 @@ is_old_reply reply.Gone = false
 is_old_reply reply.Timers = false
 is_old_reply r = true
 
--- the numbers of entries in formats 1 and 2 and in files of calls
+-- the numbers of entries in formats 1 and 2, and in files of calls without a line of a format
 abbrev pub is_short : ℕ → Bool
 is_short n = nat_le n greatest
 
@@ -125,8 +134,15 @@ entry_of_format version line = do
   e ← entry_of line
   if allows_entry version e then Some e else None
 
--- the call of a line in a file of calls
-unfoldable pub short_call_of : List ℕ → Option (Who × Call)
-short_call_of line = do
+-- the greatest number of an entry
+abbrev pub number_limit : ℕ → ℕ
+number_limit version = by_age greatest greatest_number version
+
+-- the call of a line in a file of calls, whose format is 3 where its first line says so, and else 1
+abbrev pub allows_call : ℕ → Call → Bool
+allows_call version c = nat_le 3 version || is_short_call c
+
+unfoldable pub call_of_format : ℕ → List ℕ → Option (Who × Call)
+call_of_format version line = do
   x ← call_of line
-  if is_short_call x.1 then Some x else None
+  if allows_call version x.1 then Some x else None

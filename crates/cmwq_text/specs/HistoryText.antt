@@ -1,5 +1,6 @@
 -- The whole text of a history with its shape: in format 2 the line `history 2` and in format 3 `history 3`, then the shape line, a line for each queue, a line for each
--- entry from the oldest on, and in format 3 the line `end <entries>`. That of calls with their shape has a line for each call in place of the entries, and no line of a format.
+-- entry from the oldest on, and in format 3 the line `end <entries>`. That of calls with their shape has a line for each call in place of the entries, in format 3
+-- the first line `calls 3` and else none of a format, and no last line.
 use Rattle.std.specs.Prelude.{ℕ, if◌then◌else◌, List, [], ◌∷◌, ◌++◌, length, nat_le}
 use Rattle.std.specs.List.{flat_map}
 use Rattle.cmwq_model.specs.declared.id.Who.{Who}
@@ -10,7 +11,7 @@ use Rattle.cmwq_model.specs.Layout.{Layout}
 use Rattle.cmwq_text.specs.CallText.{call_text}
 use Rattle.cmwq_text.specs.EntryText.{entry_text}
 use Rattle.cmwq_text.specs.EndText.{end_text}
-use Rattle.cmwq_text.specs.Formats.{version_name, needs_end}
+use Rattle.cmwq_text.specs.Formats.{version_name, calls_name, needs_end}
 use Rattle.cmwq_text.specs.ShapeText.{counts_text, queue_text}
 
 abbrev pub counts_in : Layout → Counts
@@ -44,5 +45,8 @@ text_of_format version s entries = body_text version s entries ++ last_text vers
 abbrev pub history_text : Layout → List Entry → List ℕ
 history_text s entries = text_of_format 2 s entries
 
-abbrev pub calls_text : Layout → List (Who × Call) → List ℕ
-calls_text s calls = shape_text s ++ flat_map (λ x. call_text x.0 x.1) calls
+abbrev pub calls_version_text : ℕ → List ℕ
+calls_version_text version = if nat_le 3 version then calls_name ++ 10 ∷ [] else []
+
+abbrev pub calls_text : ℕ → Layout → List (Who × Call) → List ℕ
+calls_text version s calls = calls_version_text version ++ (shape_text s ++ flat_map (λ x. call_text x.0 x.1) calls)

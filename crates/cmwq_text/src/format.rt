@@ -1,6 +1,6 @@
 //! The three formats of histories.
 ghost use Rattle.std.specs.Prelude.{◌≡◌, ◌≤◌};
-ghost use Rattle.cmwq_text.specs.Formats.{is_version_line, is_old_call, is_old_reply, is_short, is_short_call, is_short_reply, is_short_entry, is_timely, short_call_of, most_lines, line_limit, room_limit, allows_counts, needs_end, allows_queue, allows_entry, counts_of_format, queue_of_format, entry_of_format};
+ghost use Rattle.cmwq_text.specs.Formats.{is_version_line, is_calls_line, is_old_call, is_old_reply, is_short, is_short_call, is_short_reply, is_short_entry, is_timely, allows_call, call_of_format, most_lines, line_limit, room_limit, allows_counts, needs_end, allows_queue, allows_entry, counts_of_format, queue_of_format, entry_of_format};
 
 use crate::call::read_call;
 use crate::entry::read_entry;
@@ -13,7 +13,7 @@ const WHOLE: u8 = 2;
 /// The format that has it with greater limits.
 const LONG: u8 = 3;
 
-/// The greatest number of an entry in the formats before that, and in files of calls.
+/// The greatest number of an entry in the formats before that.
 const GREATEST_SHORT: Number = 4_294_967_295;
 
 /// The greatest numbers of lines behind the queues: in the formats before it, and in it.
@@ -38,6 +38,13 @@ pub fn is_version_line(version: u8, line: &[u8]) -> bool
     } else {
         line == b"history 2".as_slice()
     }
+}
+
+/// Whether this is the first line of a file of calls of this format, without its line feed. Only 3 has one.
+pub fn is_calls_line(version: u8, line: &[u8]) -> bool
+    ensures { result ≡ is_calls_line version line.now }
+{
+    version == LONG && line == b"calls 3".as_slice()
 }
 
 /// The greatest number of lines behind the queues in this format.
@@ -202,13 +209,20 @@ pub fn read_entry_of_format(version: u8, line: &[u8]) -> Option<Entry>
     }
 }
 
-/// The who and the call of a line in a file of calls, without its line feed. None: it is no line of a call, or its ticket is above 4,294,967,295.
-#[tactic(auto, unfolding(crate::specs::Formats::short_call_of))]
-pub fn read_short_call(line: &[u8]) -> Option<(Who, Call)>
-    ensures { result ≡ short_call_of line.now }
+fn allows_call(version: u8, call: Call) -> bool
+    ensures { result ≡ allows_call version call }
+{
+    version >= LONG || is_short_call(call)
+}
+
+/// The who and the call of a line in a file of calls of this format, without its line feed. None: it is no line of a call, or its ticket is
+/// above 4,294,967,295 and the format isn't 3.
+#[tactic(auto, unfolding(crate::specs::Formats::call_of_format))]
+pub fn read_call_of_format(version: u8, line: &[u8]) -> Option<(Who, Call)>
+    ensures { result ≡ call_of_format version line.now }
 {
     let (who, call) = read_call(line)?;
-    if is_short_call(call) {
+    if allows_call(version, call) {
         Some((who, call))
     } else {
         None
