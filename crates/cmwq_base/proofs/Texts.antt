@@ -50,25 +50,25 @@ pieces_some text = by_feed (has_feed text) refl
 
 -- ---- how the first line was found
 
-whole_found : (a b c : Bool) → Whole ≡ (if a then Long else if b then Whole else if c then End else Cut) → (a ≡ false) × (b ≡ true)
+pub whole_found : (a b c : Bool) → Whole ≡ (if a then Long else if b then Whole else if c then End else Cut) → (a ≡ false) × (b ≡ true)
 whole_found true b c h = cc
 whole_found false true c h = (refl, refl)
 whole_found false false true h = cc
 whole_found false false false h = cc
 
-cut_found : (a b c : Bool) → Cut ≡ (if a then Long else if b then Whole else if c then End else Cut) → (a ≡ false) × (b ≡ false) × (c ≡ false)
+pub cut_found : (a b c : Bool) → Cut ≡ (if a then Long else if b then Whole else if c then End else Cut) → (a ≡ false) × (b ≡ false) × (c ≡ false)
 cut_found true b c h = cc
 cut_found false true c h = cc
 cut_found false false true h = cc
 cut_found false false false h = (refl, refl, refl)
 
-end_found : (a b c : Bool) → End ≡ (if a then Long else if b then Whole else if c then End else Cut) → (b ≡ false) × (c ≡ true)
+pub end_found : (a b c : Bool) → End ≡ (if a then Long else if b then Whole else if c then End else Cut) → (b ≡ false) × (c ≡ true)
 end_found true b c h = cc
 end_found false true c h = cc
 end_found false false true h = (refl, refl)
 end_found false false false h = cc
 
-long_found : (a b c : Bool) → Long ≡ (if a then Long else if b then Whole else if c then End else Cut) → a ≡ true
+pub long_found : (a b c : Bool) → Long ≡ (if a then Long else if b then Whole else if c then End else Cut) → a ≡ true
 long_found true b c h = refl
 long_found false true c h = cc
 long_found false false true h = cc

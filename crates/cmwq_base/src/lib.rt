@@ -25,7 +25,7 @@ pub use laws::{
     histories_are_of_their_format, histories_have_one_text, histories_read_again,
     old_histories_read_again,
 };
-pub use reading::read_file;
+pub use reading::{TOO_MANY_LINES, read_file};
 pub use refusal::Refusal;
-pub use stage::{Contents, FileLine};
+pub use stage::{Contents, FileLine, Stage};
 pub use writing::{write_end, write_entry, write_shape};

@@ -4,19 +4,23 @@ use Rattle.std.proofs.lemmas.List.{reverse-reverse}
 use Rattle.std.specs.Prelude.{IfSome, reverse}
 use Rattle.std.specs.Io.KnownBytes.{Appends}
 use Rattle.cmwq_io.specs.Moves.{AppendsFront}
+use Rattle.cmwq_model.specs.Legal.{past_of}
+use Rattle.cmwq_model.specs.Room.{Steps}
 use Rattle.cmwq_model.specs.declared.entry.Entry.{Entry}
 use Rattle.cmwq_model.specs.declared.id.Who.{Who}
 use Rattle.cmwq_model.specs.declared.call.Call.{Call}
-use Rattle.cmwq_text.specs.HistoryText.{history_text}
+use Rattle.cmwq_text.specs.HistoryText.{text_of_format}
 use Rattle.cmwq_base.specs.declared.refusal.Refusal.{Refusal}
 use Rattle.cmwq_base.specs.declared.refusal.Refusal.TheVariants as refusal
 use Rattle.cmwq_base.specs.Files.{File}
-use Rattle.cmwq_engine.specs.Ends.{Word, RunEnds}
-use Rattle.cmwq_engine.specs.Step.{steps_in, answer_text}
+use Rattle.cmwq_engine.specs.Ends.{Word, RunEnds, written_version}
+use Rattle.cmwq_engine.specs.Live.{lived}
+use Rattle.cmwq_engine.proofs.Lived.{lived_steps}
+use Rattle.cmwq_engine.specs.Step.{answer_text}
 
 -- the text of the entries is that of the steps
-pub answer_is : (f : File (Who × Call)) (entries : List Entry) → reverse entries ≡ (steps_in f).past → history_text f.layout entries ≡ answer_text f
-answer_is f entries h = ap (history_text f.layout) (sym (reverse-reverse entries) ∙ ap reverse h)
+pub answer_is : (f : File (Who × Call)) (entries : List Entry) → past_of entries ≡ (lived f.layout f.items).steps.past → text_of_format (written_version f.version) f.layout entries ≡ answer_text f
+answer_is f entries h = ap (text_of_format (written_version f.version) f.layout) (sym (reverse-reverse entries) ∙ ap reverse (h ∙ ap (λ (t : Steps). t.past) (lived_steps f.layout f.items)))
 
 module _ {X R : Type 0} (w : Word X R) (file_of : List ℕ → Result X Refusal) (left old new : Option (List ℕ)) (x : X) (r : R) where
   pub ends_done : IfSome left (λ text. file_of text ≡ Ok x) → w.Answers x r → Appends old new (w.text_of x r) → IfSome left (λ text. RunEnds w (file_of text) old new (Ok r))

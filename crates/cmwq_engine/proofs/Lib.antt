@@ -4,3 +4,4 @@ pub mod Timely
 pub mod Steps
 pub mod Lived
 pub mod Reached
+pub mod Living

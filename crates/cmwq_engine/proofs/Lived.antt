@@ -2,6 +2,7 @@
 use Rattle.std.proofs.Common.{◌≡◌, ◌+◌, ℕ, true, false, List, [], ◌∷◌, ◌++◌, Option, Some, None, refl, sym, ap, ◌∙◌, arith, length-append, append-nil, Bool}
 use Rattle.std.specs.Prelude.{fold, reverse}
 use Rattle.std.proofs.lemmas.Grind.{flat_map-append}
+use Rattle.std.proofs.lemmas.Option.{same_Some}
 use Rattle.std.proofs.lemmas.List.{reverse-append}
 use Rattle.std.proofs.lemmas.List.Sums.{fold-append}
 use Rattle.cmwq_model.specs.declared.id.Who.{Who}
@@ -13,7 +14,7 @@ use Rattle.cmwq_model.specs.Room.{Steps, none, step, steps, has_room}
 use Rattle.cmwq_text.specs.EntryText.{entry_text}
 use Rattle.cmwq_text.specs.HistoryText.{entries_text}
 use Rattle.cmwq_core.specs.History.{History, past_in, takes, next_entry, with_entry}
-use Rattle.cmwq_engine.specs.Live.{Lived, made_by, made_text, lived_step, lived, IsStepping}
+use Rattle.cmwq_engine.specs.Live.{Lived, made_by, made_text, lived_step, lived, Stepped, IsStepping, IsRecorded}
 use Rattle.cmwq_engine.proofs.Steps.{step_taken, step_refused}
 
 lived_more : (s : Layout) (calls : List (Who × Call)) (c : Who × Call) → lived s (calls ++ c ∷ []) ≡ lived_step s s.room (lived s calls) c
@@ -57,6 +58,54 @@ left s calls h n last c is refused =
       made = sym (ap (λ (l : Lived). l.made) more ∙ made_refused s s.room h is.layout is.room t c is.past refused);
       few = omega (arith, size, is.few);
     }
+
+-- ---- the entries that are kept
+
+made_past : (s : Layout) (room : ℕ) (t : Steps) (c : Who × Call) (e : Entry) (b : Bool) → has_room s room t.past c.0 c.1 ≡ b → Some e ≡ made_by s room t c → (step s room t c).past ≡ e ∷ t.past
+made_past s room t c e true h is =
+    let made : made_by s room t c ≡ Some (entry_for s t.past c.0 c.1) = rw h refl in
+    let same = same_Some e (entry_for s t.past c.0 c.1) (is ∙ made) in
+    rw h (ap (λ e. e ∷ t.past) (sym same))
+made_past s room t c e false h is =
+    let made : made_by s room t c ≡ None = rw h refl in
+    let none : Some e ≡ None = is ∙ made in
+    cc
+
+left_past : (s : Layout) (room : ℕ) (t : Steps) (c : Who × Call) (b : Bool) → has_room s room t.past c.0 c.1 ≡ b → None ≡ made_by s room t c → (step s room t c).past ≡ t.past
+left_past s room t c true h is =
+    let made : made_by s room t c ≡ Some (entry_for s t.past c.0 c.1) = rw h refl in
+    let none : None ≡ Some (entry_for s t.past c.0 c.1) = is ∙ made in
+    cc
+left_past s room t c false h is = rw h refl
+
+module _ (s : Layout) (calls : List (Who × Call)) (c : Who × Call) where
+  steps_more : (lived s (calls ++ c ∷ [])).steps ≡ step s s.room (lived s calls).steps c
+  steps_more = ap (λ (l : Lived). l.steps) (lived_more s calls c)
+
+  made_more_is : (lived s (calls ++ c ∷ [])).made ≡ made_by s s.room (lived s calls).steps c
+  made_more_is = ap (λ (l : Lived). l.made) (lived_more s calls c)
+
+  past_made : (e : Entry) → Some e ≡ (lived s (calls ++ c ∷ [])).made → (lived s (calls ++ c ∷ [])).steps.past ≡ e ∷ (lived s calls).steps.past
+  past_made e is = ap (λ (t : Steps). t.past) steps_more ∙ made_past s s.room (lived s calls).steps c e (has_room s s.room (lived s calls).steps.past c.0 c.1) refl (is ∙ made_more_is)
+
+  past_left : None ≡ (lived s (calls ++ c ∷ [])).made → (lived s (calls ++ c ∷ [])).steps.past ≡ (lived s calls).steps.past
+  past_left is = ap (λ (t : Steps). t.past) steps_more ∙ left_past s s.room (lived s calls).steps c (has_room s s.room (lived s calls).steps.past c.0 c.1) refl (is ∙ made_more_is)
+
+module _ (t u : Stepped) (entries : List Entry) (c : Who × Call) (recorded : IsRecorded t entries) (layout : u.layout ≡ t.layout) (calls : u.calls ≡ t.calls ++ c ∷ []) where
+  grown : u ≡ record { layout = t.layout; calls = t.calls ++ c ∷ [] }
+  grown = ap (λ s. record { layout = s; calls = u.calls }) layout ∙ ap (λ cs. record { layout = t.layout; calls = cs }) calls
+
+  pub recorded_made : (e : Entry) → Some e ≡ (lived u.layout u.calls).made → IsRecorded u (entries ++ e ∷ [])
+  recorded_made e is =
+      let made = is ∙ ap (λ (v : Stepped). (lived v.layout v.calls).made) grown in
+      let past = past_made t.layout t.calls c e made in
+      record { past = reverse-append entries (e ∷ []) ∙ ap (λ p. e ∷ p) recorded.past ∙ sym (ap (λ (v : Stepped). (lived v.layout v.calls).steps.past) grown ∙ past) }
+
+  pub recorded_left : None ≡ (lived u.layout u.calls).made → IsRecorded u entries
+  recorded_left is =
+      let made = is ∙ ap (λ (v : Stepped). (lived v.layout v.calls).made) grown in
+      let past = past_left t.layout t.calls c made in
+      record { past = recorded.past ∙ sym (ap (λ (v : Stepped). (lived v.layout v.calls).steps.past) grown ∙ past) }
 
 -- ---- the text of one call more
 

@@ -1,5 +1,5 @@
 -- How a run of one of the program's words ends: it has read all of its input, and then writes all of its answer, or a fault stopped it.
-use Rattle.std.specs.Prelude.{◌≡◌, ℕ, List, Result, Ok, Err, Option}
+use Rattle.std.specs.Prelude.{◌≡◌, ℕ, max, List, Result, Ok, Err, Option}
 use Rattle.std.specs.Io.KnownBytes.{Keeps, Appends}
 use Rattle.cmwq_io.specs.Moves.{AppendsFront}
 use Rattle.cmwq_base.specs.declared.refusal.Refusal.{Refusal}
@@ -20,6 +20,10 @@ RunEnds w file old new (Err refusal.TooLong) = (file ≡ Err refusal.TooLong) ×
 RunEnds w file old new (Err (refusal.BadLine n)) = (file ≡ Err (refusal.BadLine n)) × Keeps old new
 RunEnds w file old new (Err (refusal.BadShape n)) = (file ≡ Err (refusal.BadShape n)) × Keeps old new
 RunEnds w file old new (Err (refusal.NoSuchId n)) = (file ≡ Err (refusal.NoSuchId n)) × Keeps old new
+
+-- the format of the history that a word writes of what it read in a format: what is not of the oldest stays
+abbrev pub written_version : ℕ → ℕ
+written_version version = max version 2
 
 -- the exit status of a refused run: 1 refused input, 4 no memory, 5 a fault of reading or writing
 abbrev pub refusal_status : Refusal → ℕ

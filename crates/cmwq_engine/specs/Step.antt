@@ -3,18 +3,18 @@ use Rattle.std.specs.Prelude.{◌≡◌, ℕ, zero, suc, List, Result, Ok, Err, 
 use Rattle.cmwq_model.specs.declared.id.Who.{Who}
 use Rattle.cmwq_model.specs.declared.call.Call.{Call}
 use Rattle.cmwq_model.specs.Room.{Steps, steps}
-use Rattle.cmwq_text.specs.HistoryText.{history_text}
+use Rattle.cmwq_text.specs.HistoryText.{text_of_format}
 use Rattle.cmwq_base.specs.declared.refusal.Refusal.{Refusal}
 use Rattle.cmwq_base.specs.Files.{File}
 use Rattle.cmwq_base.specs.Kinds.{call_file_of}
-use Rattle.cmwq_engine.specs.Ends.{Word, RunEnds, refusal_status}
+use Rattle.cmwq_engine.specs.Ends.{Word, RunEnds, written_version, refusal_status}
 
 abbrev pub steps_in : File (Who × Call) → Steps
 steps_in f = steps f.layout f.layout.room f.items
 
--- the text of the history that the calls of a file make, with its shape
+-- the text of the history that the calls of a file make, with its shape: of format 3 where the file is, and else of format 2
 abbrev pub answer_text : File (Who × Call) → List ℕ
-answer_text f = history_text f.layout (reverse (steps_in f).past)
+answer_text f = text_of_format (written_version f.version) f.layout (reverse (steps_in f).past)
 
 -- `step` answers how many calls were left out, and writes that history
 abbrev pub step_word : Word (File (Who × Call)) ℕ

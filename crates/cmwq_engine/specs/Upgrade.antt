@@ -1,21 +1,17 @@
 -- What a run of `upgrade` reads, writes and answers.
-use Rattle.std.specs.Prelude.{◌≡◌, ◌≤◌, ℕ, max, List, [], Result, Ok, Option, None, Some}
+use Rattle.std.specs.Prelude.{◌≡◌, ◌≤◌, ℕ, List, [], Result, Ok, Option, None, Some}
 use Rattle.cmwq_model.specs.declared.entry.Entry.{Entry}
 use Rattle.cmwq_model.specs.declared.verdict.Illegal.{Illegal}
 use Rattle.cmwq_text.specs.HistoryText.{text_of_format}
 use Rattle.cmwq_base.specs.declared.refusal.Refusal.{Refusal}
 use Rattle.cmwq_base.specs.Files.{File}
 use Rattle.cmwq_base.specs.Kinds.{history_file_of}
-use Rattle.cmwq_engine.specs.Ends.{Word, RunEnds}
+use Rattle.cmwq_engine.specs.Ends.{Word, RunEnds, written_version}
 use Rattle.cmwq_engine.specs.Check.{IsVerdict}
-
--- in which format a history is written: what is not of the oldest stays
-abbrev pub upgraded_version : ℕ → ℕ
-upgraded_version version = max version 2
 
 -- of a legal history the text of that format with the same shape and entries, of another nothing
 abbrev pub upgraded_text : File Entry → Option Illegal → List ℕ
-upgraded_text f None = text_of_format (upgraded_version f.version) f.layout f.items
+upgraded_text f None = text_of_format (written_version f.version) f.layout f.items
 upgraded_text f (Some i) = []
 
 -- `upgrade` answers the verdict as `check` does, and writes that

@@ -1,10 +1,11 @@
 //! What the program's words do, over any source of bytes and any sinks.
 #![tactic(auto)]
 
-mod history;
 mod judge;
 mod judging;
+mod live;
 mod output;
+mod recording;
 mod step;
 mod stepping;
 mod told;
@@ -12,7 +13,7 @@ mod upgrade;
 
 pub use judge::{run_check, run_front_check};
 pub use output::write_history;
+pub use live::run_step_live;
 pub use step::run_step;
-pub use stepping::{Stepping, write_new};
 pub use told::tell_full;
 pub use upgrade::{newest_stay, run_upgrade};

@@ -1,24 +1,24 @@
 //! Calls whose steps are made while they are read.
 
-ghost use Rattle.std.specs.Prelude.{◌≡◌, ◌≤◌, OnOk, OnErr, IfErr};
-ghost use Rattle.std.specs.Io.KnownBytes.{Appends};
-ghost use Rattle.cmwq_io.specs.Counts.{Rises};
-ghost use Rattle.cmwq_io.specs.Moves.{AppendsFront};
-ghost use Rattle.cmwq_engine.specs.Live.{lived, made_text, first_text, new_text};
+ghost use Rattle.std.specs.Prelude.{◌≡◌, ◌<◌, ◌++◌, ◌∷◌, [], true, is_ok, length, IsTrue};
+ghost use Rattle.cmwq_model.specs.Layout.{fits};
+ghost use Rattle.cmwq_text.specs.Formats.{most_lines};
+ghost use Rattle.cmwq_base.specs.Kinds.{calls_kind};
+ghost use Rattle.cmwq_base.specs.Lines.{IsNextLine};
+ghost use Rattle.cmwq_engine.specs.Live.{lived};
 
-use cmwq_base::{
-    Call, Entry, Gather, NoMemory, Refusal, Shape, Sink, Who, flush_all, write_entry, write_shape,
-};
+use cmwq_base::{Call, Entry, Gather, NoMemory, Shape, Who};
 use cmwq_core::{Course, Full};
 use cmwq_tail::Trail;
 use std::alloc::Global;
 use std::marker::Model;
 
-/// Makes the steps of the calls of a file as they come, and keeps of all entries the last alone.
+/// Makes the steps of the calls of a file as they come, and keeps of all entries the last alone. The course is boxed, since the reader hands
+/// what gathers on by value with each line.
 #[derive(Drop)]
 pub struct Stepping {
     shape: Shape,
-    course: Course,
+    course: Box<Course>,
     left_out: u64,
     made: Option<Entry>,
     all: Trail<(Who, Call)>,
@@ -31,7 +31,7 @@ impl Model for Stepping {
 
     ghost view = { λ s. record { layout = s.shape; calls = s.all } };
 
-    ghost invariant = { λ s. IsStepping s.shape s.all s.course s.left_out s.made };
+    ghost invariant = { λ s. IsStepping s.shape s.all s.course.value s.left_out s.made };
 }
 
 impl Stepping {
@@ -42,7 +42,14 @@ impl Stepping {
         self.made
     }
 
-    /// How many calls had none.
+    /// How many entries the calls made.
+    pub fn entries(&self) -> u64
+        ensures { result ≡ length (lived self.now.layout self.now.calls).steps.past }
+    {
+        self.course.len()
+    }
+
+    /// How many calls had no room.
     pub fn left_out(&self) -> u64
         ensures { result ≡ (lived self.now.layout self.now.calls).steps.left_out }
     {
@@ -60,6 +67,9 @@ impl Gather for Stepping {
     fn begin(alloc: Global, shape: Shape) -> Result<Self, NoMemory> {
         let room = shape.counts().room;
         let course = Course::new(alloc, &shape, room)?;
+        let Ok(course) = Box::new(alloc, course) else {
+            return Err(NoMemory);
+        };
         let all = Trail::new();
         Ok(Stepping {
             shape,
@@ -79,7 +89,14 @@ impl Gather for Stepping {
     }
 
     #[tactic(auto, using(crate::proofs::Lived::stepped, crate::proofs::Lived::left))]
-    fn take(&mut self, item: (Who, Call)) -> Result<(), NoMemory> {
+    fn take(&mut self, item: (Who, Call)) -> Result<(), NoMemory>
+        requires said { IsNextLine calls_kind (length self.old.calls) item }
+        requires fits { IsTrue (fits self.old.layout item.0 item.1) }
+        requires few { length self.old.calls < most_lines }
+        ensures done { is_ok result ≡ true }
+        ensures shape { self.new.layout ≡ self.old.layout }
+        ensures item { self.new.calls ≡ self.old.calls ++ item ∷ [] }
+    {
         let (who, call) = item;
         match self.course.next(who, call) {
             Ok(entry) => {
@@ -93,49 +110,5 @@ impl Gather for Stepping {
             }
         }
         Ok(())
-    }
-}
-
-/// Writes the entry of the last call, if it had room, and before the first call's the head; and flushes. Takes no memory.
-///
-/// # Errors
-/// `WriteFault` where the sink fails, also at the flush; a front of the text has been written then.
-pub fn write_new<O: Sink>(output: &mut O, calls: &Stepping) -> Result<(), Refusal>
-    ensures ok { OnOk result (Appends (O.written output.old) (O.written output.new) (new_text calls.now.layout calls.now.calls)) }
-    ensures err { OnErr result (AppendsFront (O.written output.old) (O.written output.new) (new_text calls.now.layout calls.now.calls)) }
-    ensures flushed { OnOk result (O.held output.new ≡ 0) }
-    ensures only { IfErr result (λ e. e ≡ Refusal.WriteFault) }
-    ensures fault { OnErr result (Rises (O.troubles output.old) (O.troubles output.new)) }
-{
-    write_first(output, calls)?;
-    write_made(output, calls.made())?;
-    flush_all(output)?;
-    Ok(())
-}
-
-fn write_first<O: Sink>(output: &mut O, calls: &Stepping) -> Result<(), Refusal>
-    ensures ok { OnOk result (Appends (O.written output.old) (O.written output.new) (first_text calls.now.layout calls.now.calls)) }
-    ensures err { OnErr result (AppendsFront (O.written output.old) (O.written output.new) (first_text calls.now.layout calls.now.calls)) }
-    ensures only { IfErr result (λ e. e ≡ Refusal.WriteFault) }
-    ensures grown { O.troubles output.old ≤ O.troubles output.new }
-    ensures fault { OnErr result (Rises (O.troubles output.old) (O.troubles output.new)) }
-{
-    if calls.len() == 1 {
-        write_shape(output, 2, calls.shape())
-    } else {
-        Ok(())
-    }
-}
-
-fn write_made<O: Sink>(output: &mut O, made: Option<Entry>) -> Result<(), Refusal>
-    ensures ok { OnOk result (Appends (O.written output.old) (O.written output.new) (made_text made)) }
-    ensures err { OnErr result (AppendsFront (O.written output.old) (O.written output.new) (made_text made)) }
-    ensures only { IfErr result (λ e. e ≡ Refusal.WriteFault) }
-    ensures grown { O.troubles output.old ≤ O.troubles output.new }
-    ensures fault { OnErr result (Rises (O.troubles output.old) (O.troubles output.new)) }
-{
-    match made {
-        Some(entry) => write_entry(output, &entry),
-        None => Ok(()),
     }
 }

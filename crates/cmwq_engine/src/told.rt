@@ -11,6 +11,11 @@ pub fn tell_full<E: Sink>(errors: &mut E, left_out: u64) {
     tell(errors, format_args!("full {left_out}"));
 }
 
+/// Tells the line of the first call for which there was no room. Takes no memory; a failing sink changes nothing.
+pub fn tell_no_room<E: Sink>(errors: &mut E, line: u64) {
+    tell(errors, format_args!("line {line}: no room"));
+}
+
 /// Tells the first entry that is wrong of an illegal history. Takes no memory; a failing sink changes nothing.
 pub fn tell_illegal<E: Sink>(errors: &mut E, illegal: Illegal) {
     let _ = write_all(errors, illegal_line(&illegal).as_bytes());

@@ -2,7 +2,7 @@ use Rattle.std.proofs.lemmas.Result.{err_from_is_err_and}
 use Rattle.cmwq_io.proofs.KnownBytes.{Appends-trans}
 use Rattle.cmwq_base.proofs.Fronts.{front_before, front_after, front_whole}
 use Rattle.cmwq_engine.specs.Live.{made_text, lived}
-use Rattle.cmwq_engine.proofs.stepping.write_new.Goals as goal
+use Rattle.cmwq_engine.proofs.live.write_new.Goals as goal
 
 pub returns-in_err-write_first-clause-err : goal.returns-in_err-write_first-clause-err
 returns-in_err-write_first-clause-err g c =
