@@ -1,8 +1,10 @@
 -- What is read of a whole text is sound: its shape is inside the limits, it has no more lines than a file may have, each of them fits the
 -- shape, and has what each line of its kind has.
-use Rattle.std.proofs.Common.{◌≡◌, ◌+◌, ℕ, ◌==◌, Bool, true, false, ◌&&◌, not, List, [], ◌∷◌, ◌++◌, length, Result, Ok, Err, nat_le, Option, Some, None, refl, subst}
+use Rattle.std.proofs.Common.{◌≡◌, ◌⊎◌, inl, inr, ◌+◌, ℕ, ◌==◌, Bool, true, false, ◌&&◌, not, List, [], ◌∷◌, ◌++◌, length, Result, Ok, Err, nat_le, Option, Some, None, refl, subst}
 use Rattle.std.specs.Prelude.{if◌then◌else◌, IsTrue}
 use Rattle.std.specs.List.{All}
+use Rattle.std.specs.Str.{bytes_eq}
+use Rattle.std.proofs.lemmas.Bool.{eqb-true}
 use Rattle.std.proofs.lemmas.List.Elements.{All-nil, All-push}
 use Rattle.cmwq_model.specs.declared.id.Who.{Who}
 use Rattle.cmwq_model.specs.declared.call.Call.{Call}
@@ -13,7 +15,8 @@ use Rattle.cmwq_model.specs.Layout.{Layout, layout_of, is_layout}
 use Rattle.cmwq_model.specs.Ranges.{IsWho, IsCall, IsEntry}
 use Rattle.cmwq_text.specs.Numbers.{greatest_number}
 use Rattle.cmwq_text.specs.ShapeText.{begins_queue}
-use Rattle.cmwq_text.specs.Formats.{line_limit, number_limit, counts_of_format}
+use Rattle.cmwq_text.specs.Formats.{calls_name, is_calls_line, line_limit, number_limit, counts_of_format}
+use Rattle.cmwq_text.proofs.Steps.{both}
 use Rattle.cmwq_text.proofs.ReadRanges.{call_of_format_inside, entry_of_format_inside}
 use Rattle.cmwq_base.specs.declared.refusal.Refusal.{Refusal}
 use Rattle.cmwq_base.specs.declared.refusal.Refusal.TheVariants as refusal
@@ -202,6 +205,14 @@ module _ {X : Type 0} (k : Kind X) (P : ℕ → X → Type 0) (reads : (v : ℕ)
 
 abbrev pub IsCallInside : ℕ → Who × Call → Type 0
 IsCallInside v x = IsWho x.0 × (IsCall (number_limit v)) x.1
+
+-- the first line of a file of calls says no other format than 3
+pub one_or_three : (v : ℕ) → IsVersion calls_kind v → (v ≡ 1) ⊎ (v ≡ 3)
+one_or_three v is = from is.2
+  where
+    from : (v ≡ 1) ⊎ ((line : List ℕ) × (is_calls_line v line ≡ true)) → (v ≡ 1) ⊎ (v ≡ 3)
+    from (inl one) = inl one
+    from (inr said) = inr (eqb-true v 3 (both (v == 3) (bytes_eq said.0 calls_name) said.1).0)
 
 pub calls_are_read : (text : List ℕ) (f : File (Who × Call)) → call_file_of text ≡ Ok f → IsReadOf calls_kind IsCallInside f
 calls_are_read = file_is_read calls_kind IsCallInside call_of_format_inside

@@ -1,8 +1,8 @@
 -- What `step` and `upgrade` write is read again, and is legal: so `check` finds nothing wrong in it.
-use Rattle.std.proofs.Common.{◌≡◌, inl, inr, ◌≤◌, ◌==◌, Bool, true, false, ℕ, List, Result, Ok, Err, None, Some, length, refl, sym, ◌∙◌, subst, arith, get_or}
+use Rattle.std.proofs.Common.{◌≡◌, ◌⊎◌, inl, inr, ◌≤◌, ◌==◌, nat_le, Bool, true, false, ℕ, List, Result, Ok, Err, None, Some, length, refl, sym, ◌∙◌, subst, arith, get_or}
 use Rattle.std.specs.Prelude.{reverse, IsTrue}
 use Rattle.std.specs.List.{All, AllByRecursion}
-use Rattle.std.proofs.lemmas.Bool.{eqb-true, le-leb}
+use Rattle.std.proofs.lemmas.Bool.{eqb-true, le-leb, leb-true}
 use Rattle.std.proofs.lemmas.Bool.Decides.{nat_tests}
 use Rattle.std.proofs.lemmas.List.{reverse-reverse, length-reverse}
 use Rattle.std.proofs.lemmas.List.Elements.{All-from_recursion, recursion_from_All}
@@ -11,7 +11,7 @@ use Rattle.cmwq_model.specs.declared.call.Call.{Call}
 use Rattle.cmwq_model.specs.declared.entry.Entry.{Entry}
 use Rattle.cmwq_model.specs.declared.shape.QueueShape.{QueueShape}
 use Rattle.cmwq_model.specs.declared.verdict.Illegal.{Illegal}
-use Rattle.cmwq_model.specs.Layout.{Layout, most_room, fits}
+use Rattle.cmwq_model.specs.Layout.{Layout, most_room, is_layout, fits}
 use Rattle.cmwq_model.specs.Ranges.{IsWho, IsCall, IsEntry, greatest}
 use Rattle.cmwq_model.specs.Legal.{IsLegal, past_of}
 use Rattle.cmwq_laws.proofs.FirstWrong.{wrong_are_illegal}
@@ -23,65 +23,113 @@ use Rattle.cmwq_laws.proofs.OneEntry.{steps_are_legal}
 use Rattle.cmwq_base.specs.declared.refusal.Refusal.{Refusal}
 use Rattle.cmwq_base.specs.declared.refusal.Refusal.TheVariants as refusal
 use Rattle.cmwq_base.specs.Files.{File}
-use Rattle.cmwq_base.specs.Kinds.{history_file_of}
+use Rattle.cmwq_base.specs.Kinds.{calls_kind, history_file_of}
 use Rattle.cmwq_base.specs.FileLaws.{IsOfFormat}
 use Rattle.cmwq_text.specs.Numbers.{greatest_number}
-use Rattle.cmwq_text.specs.Formats.{by_age, old_lines, old_room, most_lines, line_limit, room_limit, allows_queue, allows_entry}
+use Rattle.cmwq_text.specs.Formats.{by_age, old_lines, old_room, most_lines, line_limit, room_limit, number_limit, allows_queue, allows_entry}
+use Rattle.cmwq_text.specs.HistoryText.{text_of_format}
+use Rattle.cmwq_text.proofs.Steps.{both}
 use Rattle.cmwq_text.proofs.ReadRanges.{wide_entry, allowed_short}
-use Rattle.cmwq_base.proofs.Limits.{oldest_has, older_has, none_falls}
+use Rattle.cmwq_base.proofs.Limits.{oldest_has, older_has, newest_has, none_falls}
 use Rattle.cmwq_base.proofs.Again.{histories_read_again, new_allows}
 use Rattle.cmwq_base.proofs.Spelled.{histories_are_of_their_format}
-use Rattle.cmwq_base.proofs.Sound.{calls_are_read, history_is_read, IsCallInside}
+use Rattle.cmwq_base.proofs.Sound.{IsReadOf, calls_are_read, history_is_read, IsCallInside, one_or_three}
 use Rattle.cmwq_engine.specs.Check.{IsVerdict}
-use Rattle.cmwq_engine.specs.Upgrade.{upgraded_version}
+use Rattle.cmwq_engine.specs.Ends.{written_version}
 use Rattle.cmwq_engine.specs.Step.{steps_in, answer_text}
-use Rattle.cmwq_runs.specs.Checks.{newest, history_in, IsLegalText, StepIsChecked, UpgradeIsChecked, PassesCheck, StepsPassCheck, UpgradesPassCheck}
+use Rattle.cmwq_runs.specs.Checks.{history_in, IsLegalText, LegalHistoriesAreChecked, StepIsChecked, UpgradeIsChecked, PassesCheck, StepsPassCheck, UpgradesPassCheck}
 use Rattle.cmwq_runs.proofs.Stepped.{steps_are_few, steps_are_of, all_reversed}
+use Rattle.cmwq_runs.proofs.Timely.{legal_histories_are_timely}
+
+-- ---- format 3
+
+room_is_within : (s : Layout) → IsTrue (is_layout s) → s.room ≤ most_room
+room_is_within s inside = leb-true s.room most_room (both _ (nat_le s.room most_room) (both _ _ inside).0).1
+
+pub legal_histories_are_checked : LegalHistoriesAreChecked
+legal_histories_are_checked s entries shape legal few soon all =
+    let out : File Entry = record { version = 3; layout = s; items = entries } in
+    let inside = legal_histories_fit s greatest_number entries shape legal (omega (arith, few)) soon all in
+    let of_format : IsOfFormat out = (λ i d lt. refl, legal_histories_are_timely s entries legal soon) in
+    let room : s.room ≤ room_limit 3 = subst (λ n. s.room ≤ n) (sym (newest_has old_room most_room 3 (omega arith))) (room_is_within s shape) in
+    let within : length entries ≤ line_limit 3 = subst (λ n. length entries ≤ n) (sym (newest_has old_lines most_lines 3 (omega arith))) few in
+    (histories_read_again out (omega arith) (omega arith) of_format shape (record { room = room; few = within; fitting = inside.0 }) inside.1, legal)
+
+-- ---- steps
 
 abbrev Fits : Layout → Who × Call → Type 0
 Fits s c = IsTrue (fits s c.0 c.1)
 
-abbrev IsInRange : Entry → Type 0
-IsInRange e = IsWho e.who × (IsCall greatest) e.call
+abbrev IsInRange : ℕ → Entry → Type 0
+IsInRange v e = IsWho e.who × (IsCall (number_limit v)) e.call
+
+module _ (f : File (Who × Call)) (read : IsReadOf calls_kind IsCallInside f) where
+  abbrev made : List Entry
+  made = reverse (steps_in f).past
+
+  abbrev AreChecked : ℕ → Type 0
+  AreChecked v = IsLegalText (text_of_format v f.layout made) (record { version = v; layout = f.layout; items = made })
+
+  made_legal : IsLegal f.layout (past_of made)
+  made_legal = subst (IsLegal f.layout) (sym (reverse-reverse (steps_in f).past)) (steps_are_legal f.layout f.layout.room f.items (recursion_from_All (Fits f.layout) f.items read.sound.fitting))
+
+  made_few : length made ≤ length f.items
+  made_few = omega (arith, length-reverse (steps_in f).past, steps_are_few f.layout f.layout.room f.items)
+
+  made_soon : now (past_of made) ≤ most_time
+  made_soon = rw (reverse-reverse (steps_in f).past) (steps_within_room f.layout f.layout.room f.items).1
+
+  made_in_range : All (IsInRange f.version) made
+  made_in_range =
+      let past : List Entry = (steps_in f).past in
+      let each : AllByRecursion (IsInRange f.version) past = steps_are_of f.layout f.layout.room (IsCallInside f.version) f.items (recursion_from_All (IsCallInside f.version) f.items read.each) in
+      all_reversed (IsInRange f.version) past (All-from_recursion (IsInRange f.version) past each)
+
+  old_steps_checked : f.version ≡ 1 → AreChecked 2
+  old_steps_checked is =
+      let most : line_limit f.version ≡ old_lines = oldest_has old_lines most_lines f.version is in
+      let room : f.layout.room ≤ room_limit 2 = subst (λ n. f.layout.room ≤ n) (oldest_has old_room most_room f.version is ∙ sym (older_has old_room most_room 2 (omega arith))) read.sound.room in
+      let few : length made ≤ old_lines = omega (arith, made_few, read.sound.few, most) in
+      let within : length made ≤ line_limit 2 = subst (λ n. length made ≤ n) (sym (older_has old_lines most_lines 2 (omega arith))) few in
+      let ranges : All (λ e. IsWho e.who × (IsCall greatest) e.call) made = subst (λ n. All (λ e. IsWho e.who × (IsCall n) e.call) made) (oldest_has greatest greatest_number f.version is) made_in_range in
+      let inside = legal_histories_fit f.layout greatest made read.shape made_legal (omega (arith, few)) made_soon ranges in
+      let out : File Entry = record { version = 2; layout = f.layout; items = made } in
+      let of_format : IsOfFormat out = (λ i d lt. refl, λ i d lt. new_allows (get_or made i d) (inside.1 i d lt)) in
+      (histories_read_again out (omega arith) (omega arith) of_format read.shape (record { room = room; few = within; fitting = inside.0 }) (λ i d lt. wide_entry (get_or made i d) (inside.1 i d lt)), made_legal)
+
+  new_steps_checked : f.version ≡ 3 → AreChecked 3
+  new_steps_checked is =
+      let most : line_limit f.version ≡ most_lines = newest_has old_lines most_lines f.version (omega (arith, is)) in
+      let ranges : All (λ e. IsWho e.who × (IsCall greatest_number) e.call) made = subst (λ n. All (λ e. IsWho e.who × (IsCall n) e.call) made) (newest_has greatest greatest_number f.version (omega (arith, is))) made_in_range in
+      legal_histories_are_checked f.layout made read.shape made_legal (omega (arith, made_few, read.sound.few, most)) made_soon ranges
+
+  steps_checked : (f.version ≡ 1) ⊎ (f.version ≡ 3) → AreChecked (written_version f.version)
+  steps_checked (inl is) = let same : 2 ≡ written_version f.version = omega (arith, is) in subst AreChecked same (old_steps_checked is)
+  steps_checked (inr is) = let same : 3 ≡ written_version f.version = omega (arith, is) in subst AreChecked same (new_steps_checked is)
 
 pub step_is_checked : StepIsChecked
-step_is_checked text f h =
-    let read = calls_are_read text f h in
-    let s : Layout = f.layout in
-    let past : List Entry = (steps_in f).past in
-    let entries : List Entry = reverse past in
-    let legal : IsLegal s (past_of entries) = subst (IsLegal s) (sym (reverse-reverse past)) (steps_are_legal s s.room f.items (recursion_from_All (Fits s) f.items read.sound.fitting)) in
-    let each : AllByRecursion IsInRange past = steps_are_of s s.room IsCallInside f.items (recursion_from_All IsCallInside f.items read.each) in
-    let is_old : f.version ≡ 1 = read.version.2 (λ _ _. refl) in
-    let most : line_limit f.version ≡ old_lines = oldest_has old_lines most_lines f.version is_old in
-    let room : s.room ≤ room_limit 2 = subst (λ n. s.room ≤ n) (oldest_has old_room most_room f.version is_old ∙ sym (older_has old_room most_room 2 (omega arith))) read.sound.room in
-    let few : length entries ≤ old_lines = omega (arith, length-reverse past, steps_are_few s s.room f.items, read.sound.few, most) in
-    let within : length entries ≤ line_limit 2 = subst (λ n. length entries ≤ n) (sym (older_has old_lines most_lines 2 (omega arith))) few in
-    let soon : now (past_of entries) ≤ most_time = rw (reverse-reverse past) (steps_within_room s s.room f.items).1 in
-    let inside = legal_histories_fit s greatest entries read.shape legal (omega arith) soon (all_reversed IsInRange past (All-from_recursion IsInRange past each)) in
-    let of_format : IsOfFormat (history_in f) = (λ i d lt. refl, λ i d lt. new_allows (get_or entries i d) (inside.1 i d lt)) in
-    (histories_read_again (history_in f) (omega arith) (omega arith) of_format read.shape (record { room = room; few = within; fitting = inside.0 }) (λ i d lt. wide_entry (get_or entries i d) (inside.1 i d lt)), legal)
+step_is_checked text f h = let read = calls_are_read text f h in steps_checked f read (one_or_three f.version read.version)
 
 -- what a format has, that one has too in which it is written
-upgraded_queues : (v : ℕ) (qs : List QueueShape) → All (λ q. IsTrue (allows_queue (upgraded_version v) q)) qs
-upgraded_queues v qs i d lt = rw (le-leb 2 (upgraded_version v) (omega arith)) refl
+upgraded_queues : (v : ℕ) (qs : List QueueShape) → All (λ q. IsTrue (allows_queue (written_version v) q)) qs
+upgraded_queues v qs i d lt = rw (le-leb 2 (written_version v) (omega arith)) refl
 
 upgraded_entries : (f : File Entry) → f.version ≤ 3 → All (λ e. IsTrue (allows_entry f.version e)) f.items
-    → (b : Bool) → (f.version == 3) ≡ b → All (λ e. IsTrue (allows_entry (upgraded_version f.version) e)) f.items
+    → (b : Bool) → (f.version == 3) ≡ b → All (λ e. IsTrue (allows_entry (written_version f.version) e)) f.items
 upgraded_entries f high allowed true h =
     let is : f.version ≡ 3 = eqb-true f.version 3 h in
-    let same : f.version ≡ upgraded_version f.version = omega (arith, is) in
+    let same : f.version ≡ written_version f.version = omega (arith, is) in
     subst (λ v. All (λ e. IsTrue (allows_entry v e)) f.items) same allowed
 upgraded_entries f high allowed false h =
     let old : f.version ≤ 2 = grind (arith, nat_tests) in
-    let same : 2 ≡ upgraded_version f.version = omega (arith, old) in
+    let same : 2 ≡ written_version f.version = omega (arith, old) in
     let short : All (λ e. IsTrue (allows_entry 2 e)) f.items = λ i d lt. rw (allowed_short f.version (get_or f.items i d) old (allowed i d lt)) refl in
     subst (λ v. All (λ e. IsTrue (allows_entry v e)) f.items) same short
 
 pub upgrade_is_checked : UpgradeIsChecked
 upgrade_is_checked text f h legal =
     let read = history_is_read text f h in
-    let v : ℕ = upgraded_version f.version in
+    let v : ℕ = written_version f.version in
     let later : f.version ≤ v = omega arith in
     let high : v ≤ 3 = omega (arith, read.version.1) in
     let rooms : by_age old_room most_room f.version ≤ by_age old_room most_room v = none_falls old_room most_room f.version v (omega arith) later in

@@ -1,13 +1,19 @@
-//! What `step` and `upgrade` write is a legal history.
+//! What `step`, `upgrade` and a journal write is a legal history.
 
-ghost use Rattle.cmwq_runs.specs.Checks.{StepIsChecked, UpgradeIsChecked, StepsPassCheck, UpgradesPassCheck};
+ghost use Rattle.cmwq_runs.specs.Checks.{LegalHistoriesAreChecked, StepIsChecked, UpgradeIsChecked, StepsPassCheck, UpgradesPassCheck};
 
-/// What `step` writes is read as a history of format 2, with the shape that was read and the entries of the steps, and it is legal.
+/// The text of a legal history in format 3 is read as that history: so what a journal writes of a hub is, with its last line, as long as its entries and its
+/// time are within the limits of the format.
+pub fn legal_histories_are_checked()
+    ensures { LegalHistoriesAreChecked }
+{}
+
+/// What `step` writes is read as a history of format 2, or 3 where its calls were of that, with the shape that was read and the entries of the steps, and it is legal.
 pub fn step_is_checked()
     ensures { StepIsChecked }
 {}
 
-/// What `upgrade` writes of a legal history is read as one of format 2, with its shape and entries, and it is legal.
+/// What `upgrade` writes of a legal history is read as one of format 2 or 3, with its shape and entries, and it is legal.
 pub fn upgrade_is_checked()
     ensures { UpgradeIsChecked }
 {}

@@ -3,4 +3,7 @@
 
 mod checks;
 
-pub use checks::{step_is_checked, steps_pass_check, upgrade_is_checked, upgrades_pass_check};
+pub use checks::{
+    legal_histories_are_checked, step_is_checked, steps_pass_check, upgrade_is_checked,
+    upgrades_pass_check,
+};
