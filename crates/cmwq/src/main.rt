@@ -4,7 +4,7 @@
 
 use clap::error::ErrorKind;
 use cmwq_base::{BufferedSink, FromStd};
-use cmwq_engine::{run_check, run_front_check, run_step, run_upgrade};
+use cmwq_engine::{run_check, run_front_check, run_step, run_step_live, run_upgrade};
 use cmwq_replay::run_replay;
 use cmwq_run::run_run;
 use cmwq_word::{Word, word_of};
@@ -53,7 +53,8 @@ fn run<T: Threads + Wait + Sync>(rt: &HostRuntime, word: Word, threads: &T) -> u
         return no_memory(rt);
     };
     match word {
-        Word::Step => run_step(alloc, &mut input, &mut output, &mut errors),
+        Word::Step { live: false } => run_step(alloc, &mut input, &mut output, &mut errors),
+        Word::Step { live: true } => run_step_live(alloc, &mut input, &mut output, &mut errors),
         Word::Check { front: false } => run_check(alloc, &mut input, &mut output, &mut errors),
         Word::Check { front: true } => run_front_check(alloc, &mut input, &mut output, &mut errors),
         Word::Upgrade => run_upgrade(alloc, &mut input, &mut output, &mut errors),

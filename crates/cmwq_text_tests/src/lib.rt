@@ -7,6 +7,8 @@ mod base;
 #[cfg(test)]
 mod engine;
 #[cfg(test)]
+mod live;
+#[cfg(test)]
 mod many;
 #[cfg(test)]
 mod same;

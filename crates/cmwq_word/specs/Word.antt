@@ -8,15 +8,15 @@ use Rattle.clap.specs.declared.builder.action.ArgAction.TheVariants.{SetTrue}
 use Rattle.cmwq_word.specs.declared.word.Word.{Word}
 use Rattle.cmwq_word.specs.declared.word.Word.TheVariants as word
 
--- the matches of `check` have its flag `--front`
-abbrev pub has_front : List Row → Bool
-has_front rows = option_map_or (λ value. bytes_eq value (codes "true")) (one_of (codes "front") rows) false
+-- the matches of a word have the flag of this name
+abbrev pub has_flag : List ℕ → List Row → Bool
+has_flag name rows = option_map_or (λ value. bytes_eq value (codes "true")) (one_of name rows) false
 
 -- the word with this name and these matches
 abbrev pub word_found : Text × List Row → Option Word
 word_found found =
-    if bytes_eq found.0 (codes "step") then Some word.Step
-    else if bytes_eq found.0 (codes "check") then Some (word.Check (has_front found.1))
+    if bytes_eq found.0 (codes "step") then Some (word.Step (has_flag (codes "live") found.1))
+    else if bytes_eq found.0 (codes "check") then Some (word.Check (has_flag (codes "front") found.1))
     else if bytes_eq found.0 (codes "upgrade") then Some word.Upgrade
     else if bytes_eq found.0 (codes "replay") then Some word.Replay
     else if bytes_eq found.0 (codes "run") then Some word.Run
@@ -32,16 +32,16 @@ without_words = record { top = program; subs = [] }
 abbrev pub with_word : App → List ℕ → App
 with_word a name = with_subcommand a (new_app name).top
 
--- `check` has a flag, `--front`
-abbrev pub front : Rule
-front = record (new_rule (codes "front")) { long = Some (codes "front"); action = Some SetTrue }
+-- a word with a flag: two dashes and its name
+abbrev pub flag : List ℕ → Rule
+flag name = record (new_rule name) { long = Some name; action = Some SetTrue }
 
-abbrev pub check : Shape
-check = (with_rule (new_app (codes "check")) front).top
+abbrev pub with_flagged : App → List ℕ → List ℕ → App
+with_flagged a name flag_name = with_subcommand a (with_rule (new_app name) (flag flag_name)).top
 
--- the words whose inputs are lines, and then those whose inputs are JSON
+-- the words whose inputs are lines, of which `step` has `--live` and `check` has `--front`, and then those whose inputs are JSON
 abbrev pub with_lines : App
-with_lines = with_word (with_subcommand (with_word without_words (codes "step")) check) (codes "upgrade")
+with_lines = with_word (with_flagged (with_flagged without_words (codes "step") (codes "live")) (codes "check") (codes "front")) (codes "upgrade")
 
 abbrev pub app : App
 app = with_word (with_word with_lines (codes "replay")) (codes "run")

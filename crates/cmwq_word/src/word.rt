@@ -1,6 +1,6 @@
 ghost use Rattle.std.specs.Prelude.{◌≡◌, true, false, IfOk, IfErr, IsSome, Some, map};
 ghost use Rattle.clap.specs.Words.{kind_of, app_of, found_of, rows_of, with_subcommand};
-ghost use Rattle.cmwq_word.specs.Word.{without_words, with_word, check, with_lines, app, has_front, word_found, texts, is_taken, word_matched};
+ghost use Rattle.cmwq_word.specs.Word.{without_words, with_word, with_flagged, with_lines, app, has_flag, word_found, texts, is_taken, word_matched};
 
 use clap::error::ErrorKind;
 use clap::{Arg, ArgAction, ArgMatches, Command, Error};
@@ -10,7 +10,10 @@ use std::alloc::{AllocError, Global};
 #[derive(Clone, Copy, Debug, PartialEq, Eq)]
 pub enum Word {
     /// Answers call lines with their history.
-    Step,
+    Step {
+        /// Whether each call is answered before the next line is read.
+        live: bool,
+    },
     /// Judges a history, or the front of one whose writing was cut off.
     Check {
         /// Whether it is judged by the whole lines that are there.
@@ -45,7 +48,9 @@ Calls of callers alone:
   cancel_sync <item>     drain <queue>          destroy <queue>        end <ticket>
   set_max <queue> <n>    freeze                 thaw
 Calls of workers alone:
-  take                   finish                 sleep                  wake                   retire";
+  take                   finish                 sleep                  wake                   retire
+
+With a first line `calls 3` the limits are those of histories of format 3, in which the answer is then.";
 
 /// What the help of `check` shows below its usage.
 const HISTORY_HELP: &str =
@@ -108,11 +113,11 @@ There are 1 to 4 CPUs, 1 to 8 workers in each of their two pools, room for up to
 An action is queue, delay, modify or cancel, or ["open",gate], or ["sleep_at",gate]: the run sleeps until the gate is open.
 There are at most 16 gates, and a name makes one. The output is the history of this one run, which `check` accepts."#;
 
-/// Whether the matches of `check` have its flag.
-fn has_front(matches: &ArgMatches) -> bool
-    ensures { result ≡ has_front (rows_of (found_of matches.now)) }
+/// Whether the matches of a word have the flag of this name.
+fn has_flag(matches: &ArgMatches, name: &str) -> bool
+    ensures { result ≡ has_flag name.now (rows_of (found_of matches.now)) }
 {
-    matches.get_one::<bool>("front").unwrap_or(false)
+    matches.get_one::<bool>(name).unwrap_or(false)
 }
 
 /// The word with this name and these matches.
@@ -120,9 +125,11 @@ fn word_found(name: &str, matches: &ArgMatches) -> Option<Word>
     ensures { result ≡ word_found (name.now, rows_of (found_of matches.now)) }
 {
     match name {
-        "step" => Some(Word::Step),
+        "step" => Some(Word::Step {
+            live: has_flag(matches, "live"),
+        }),
         "check" => Some(Word::Check {
-            front: has_front(matches),
+            front: has_flag(matches, "front"),
         }),
         "upgrade" => Some(Word::Upgrade),
         "replay" => Some(Word::Replay),
@@ -154,23 +161,33 @@ fn with_word<'a>(
     program.subcommand(Command::new(alloc, name).about(about).after_help(help))
 }
 
-/// The program with the word `check`, which has a flag.
-fn with_check<'a>(alloc: Global, program: Command<'a>) -> Result<Command<'a>, AllocError>
-    ensures { IfOk result (λ c. app_of c ≡ with_subcommand (app_of program.entry) check) }
+/// A flag of a word, and what its help says of it.
+#[derive(Drop)]
+struct Flag<'a> {
+    name: &'a str,
+    help: &'a str,
+}
+
+/// The same of a word with a flag.
+fn with_flagged<'a>(
+    alloc: Global,
+    program: Command<'a>,
+    name: &'a str,
+    about: &'a str,
+    help: &'a str,
+    flag: Flag<'a>,
+) -> Result<Command<'a>, AllocError>
+    ensures { IfOk result (λ c. app_of c ≡ with_flagged (app_of program.entry) name.entry.now flag.entry.name.now) }
 {
-    let about =
-        "Reads a history from standard input and writes whether it is legal, or its first wrong entry";
-    let front = Arg::new(alloc, "front")
-        .long("front")
+    let rule = Arg::new(alloc, flag.name)
+        .long(flag.name)
         .action(ArgAction::SetTrue)
-        .help(
-            "Judges the whole lines that are there: a rest without a line feed is left out, and `end` may be missing; statuses are as without it",
-        );
-    let check = Command::new(alloc, "check")
+        .help(flag.help);
+    let word = Command::new(alloc, name)
         .about(about)
-        .after_help(HISTORY_HELP)
-        .arg(front)?;
-    program.subcommand(check)
+        .after_help(help)
+        .arg(rule)?;
+    program.subcommand(word)
 }
 
 /// The program with the words whose inputs are lines.
@@ -178,8 +195,18 @@ fn with_lines<'a>(alloc: Global) -> Result<Command<'a>, AllocError>
     ensures { IfOk result (λ c. app_of c ≡ with_lines) }
 {
     let about = "Reads call lines from standard input and writes the history of their answers";
-    let command = with_word(alloc, program(alloc), "step", about, CALLS_HELP)?;
-    let command = with_check(alloc, command)?;
+    let live = Flag {
+        name: "live",
+        help: "Writes the entry of each call before it reads the next line, and ends at the first call without room",
+    };
+    let command = with_flagged(alloc, program(alloc), "step", about, CALLS_HELP, live)?;
+    let about =
+        "Reads a history from standard input and writes whether it is legal, or its first wrong entry";
+    let front = Flag {
+        name: "front",
+        help: "Judges the whole lines that are there: a rest without a line feed is left out, and `end` may be missing; statuses are as without it",
+    };
+    let command = with_flagged(alloc, command, "check", about, HISTORY_HELP, front)?;
     let about =
         "Reads a history from standard input and writes it, if it is legal: one of format 1 in format 2, and others as they are";
     with_word(alloc, command, "upgrade", about, FORMER_HELP)
