@@ -66,6 +66,7 @@ fn answer<O: Sink>(output: &mut O, stage: &Stage<Stepping>) -> Result<bool, Refu
     ensures answered { IfOk result (λ has_room. MatchBool has_room (left_out_by (stage_of (λ s. s.layout) (λ s. s.calls) stage.now) ≡ 0) (1 ≤ left_out_by (stage_of (λ s. s.layout) (λ s. s.calls) stage.now))) }
     ensures written { IfOk result (λ has_room. MatchBool has_room (Appends (O.written output.old) (O.written output.new) (new_of (stage_of (λ s. s.layout) (λ s. s.calls) stage.now))) (output.new ≡ output.old)) }
     ensures err { OnErr result (AppendsFront (O.written output.old) (O.written output.new) (new_of (stage_of (λ s. s.layout) (λ s. s.calls) stage.now))) }
+    ensures flushed { OnOk result ((O.held output.new ≡ 0) ⊎ (output.new ≡ output.old)) }
     ensures only { IfErr result (λ e. e ≡ Refusal.WriteFault) }
     ensures grown { O.troubles output.old ≤ O.troubles output.new }
     ensures fault { OnErr result (Rises (O.troubles output.old) (O.troubles output.new)) }
@@ -125,6 +126,7 @@ fn live<S: Source, O: Sink>(
     output: &mut O,
 ) -> Result<Option<u64>, Refusal>
     ensures ends { IfSome (S.left input.old) (λ text. LiveEnds text (O.written output.old) (O.written output.new) result) }
+    ensures flushed { OnOk result ((O.held output.new ≡ 0) ⊎ (output.new ≡ output.old)) }
     ensures read_fault { IsErrOf result Refusal.ReadFault → Rises (S.troubles input.old) (S.troubles input.new) }
     ensures write_fault { IsErrOf result Refusal.WriteFault → Rises (O.troubles output.old) (O.troubles output.new) }
 {
@@ -166,6 +168,7 @@ pub fn run_step_live<S: Source, O: Sink, E: Sink>(
     ensures ends { (ended : Result (Option ℕ) TheRefusal)
         × (result ≡ live_status ended)
         × IfSome (S.left input.old) (λ text. LiveEnds text (O.written output.old) (O.written output.new) ended)
+        × OnOk ended ((O.held output.new ≡ 0) ⊎ (output.new ≡ output.old))
         × (IsErrOf ended Refusal.ReadFault → Rises (S.troubles input.old) (S.troubles input.new))
         × (IsErrOf ended Refusal.WriteFault → Rises (O.troubles output.old) (O.troubles output.new)) }
 {

@@ -1,4 +1,4 @@
-use Rattle.std.proofs.Common.{◌≡◌, ◌≤◌, ◌<◌, ◌∙◌, ◌^◌, ◌-◌, Bool, true, false, Ok, Err, nat_lt, refl, sym, arith, ℕ}
+use Rattle.std.proofs.Common.{◌≡◌, ◌⊎◌, inl, inr, ap, ◌≤◌, ◌<◌, ◌∙◌, ◌^◌, ◌-◌, Bool, true, false, Ok, Err, nat_lt, refl, sym, arith, ℕ}
 use Rattle.std.specs.Prelude.{MatchBool}
 use Rattle.std.proofs.lemmas.Bool.{ltb-true}
 use Rattle.std.proofs.lemmas.Bool.Decides.{nat_tests}
@@ -22,6 +22,12 @@ rises_then a b c le r = record { grown = omega (arith, le, r.grown); more = λ l
     by_end true is lt = let more = r.more (ltb-true b (2 ^ 64 - 1) is) in omega (arith, le, more)
     by_end false is lt = let grown = r.grown in grind (arith, nat_tests)
 
+-- behind a step that flushed, or left the output as it was, the output is flushed or as it was at first
+still_flushed : {O : Type 0} (held : O → ℕ) (first before after : O) → (held after ≡ 0) ⊎ (after ≡ before) → (held before ≡ 0) ⊎ (before ≡ first) → (held after ≡ 0) ⊎ (after ≡ first)
+still_flushed held first before after (inl now) was = inl now
+still_flushed held first before after (inr same) (inl flushed) = inl (ap held same ∙ flushed)
+still_flushed held first before after (inr same) (inr was) = inr (same ∙ was)
+
 chosen_so : (A B : Type 0) (b : Bool) → b ≡ true → MatchBool b A B → A
 chosen_so A B true is h = h
 chosen_so A B false is h = cc
@@ -36,7 +42,7 @@ returns-in_err-lines-clause-ends g c =
     rw (p.1, p.2) (ends_for_memory _ _ 1 _ _ _ (lives (g.S.Source.left c.args.input.now) _ (g.O.Sink.written c.args.output.now) refl))
 
 pub loop-number-init : goal.loop-number-init
-loop-number-init g c = record { living = lives (g.S.Source.left c.args.input.now) _ (g.O.Sink.written c.args.output.now) c.in_ok-lines.ensures; reads = omega arith; writes = omega arith }
+loop-number-init g c = record { living = lives (g.S.Source.left c.args.input.now) _ (g.O.Sink.written c.args.output.now) c.in_ok-lines.ensures; flushed = inr refl; reads = omega arith; writes = omega arith }
 
 pub returns-in_err-next_line-clause-ends : goal.returns-in_err-next_line-clause-ends
 returns-in_err-next_line-clause-ends g c =
@@ -139,6 +145,7 @@ loop-number-preserved g c =
     let room = chosen_so _ _ c.in_ok-answer-in-Whole.field-0 c.if-not-branch.false c.in_ok-answer-in-Whole.ensures.answered in
     let new = chosen_so _ _ c.in_ok-answer-in-Whole.field-0 c.if-not-branch.false c.in_ok-answer-in-Whole.ensures.written in
     record {
+      flushed = still_flushed g.O.Sink.held _ _ _ c.in_ok-answer-in-Whole.ensures.flushed c.loop-number.invariant.flushed;
       living = lives_on _ _ c.loop-number.number stage _ _ c.loop-number.invariant.living _ _ next _ line taken room new;
       reads = omega (arith, c.loop-number.invariant.reads, c.in_ok-next_line.ensures.grown);
       writes = omega (arith, c.loop-number.invariant.writes, c.in_ok-answer-in-Whole.ensures.grown);
