@@ -15,11 +15,28 @@ use std::thread;
 use std::thread::{JoinHandle, Scope, Threads};
 use std::time::{Clock, Duration};
 
-/// Few, so that callers and workers wait for space again and again.
-const KEPT: u32 = 2;
-
 /// No longer does the journal wait for a batch.
 const MILLISECONDS: u64 = 20;
+
+/// Who calls, and how many entries the hub keeps: few, so that callers and workers wait for space again and again.
+#[derive(Clone, Copy)]
+struct Crowd {
+    callers: u8,
+    /// The first so many callers flush in each turn, and the others cancel.
+    flushers: u8,
+    turns: u32,
+    kept: u32,
+    /// Whether the hub is closed before its journal begins, so that callers wait for space while it is.
+    closes_first: bool,
+}
+
+const PAIR: Crowd = Crowd {
+    callers: 2,
+    flushers: 1,
+    turns: 40,
+    kept: 2,
+    closes_first: false,
+};
 
 /// Items that do nothing.
 #[derive(Drop)]
@@ -75,18 +92,19 @@ fn keep<N: HubName, R: Wait + Clock>(
     }
 }
 
-/// The first caller waits for its item each time, the other takes it back.
+/// A flusher waits for its item each time, another takes it back.
 fn call<N: HubName, R: Wait + Abort>(
     rt: &R,
     hub: &Hub<N>,
     caller: Caller<N>,
-    number: u16,
-    turns: u32,
+    number: u8,
+    crowd: Crowd,
 ) -> Called<N> {
     let mut caller = caller;
     let mut fault = None;
-    for _ in 0..turns {
-        if let Err(first) = turn(rt, hub, &mut caller, ItemId(number), number == 0) {
+    let item = ItemId(u16::from(number));
+    for _ in 0..crowd.turns {
+        if let Err(first) = turn(rt, hub, &mut caller, item, number < crowd.flushers) {
             fault = Some(first);
             break;
         }
@@ -110,13 +128,13 @@ fn start_callers<
     rt: &'s R,
     hub: &'s Hub<N>,
     seats: &mut Seats<N>,
-    turns: u32,
+    crowd: Crowd,
 ) -> Vec<JoinHandle<Called<N>>> {
     let alloc: Global = rt.alloc();
     let mut threads = Vec::new(alloc);
-    for number in 0..2 {
+    for number in 0..crowd.callers {
         let caller = seats.caller().expect(rt, "a caller");
-        match scope.spawn(move || call(rt, hub, caller, number, turns)) {
+        match scope.spawn(move || call(rt, hub, caller, number, crowd)) {
             Ok(thread) => threads.push(thread).expect(rt, "memory"),
             Err(_) => panic!(rt; "no thread"),
         }
@@ -161,16 +179,19 @@ fn run_threads<
     hub: &'s Hub<N>,
     seats: Seats<N>,
     output: Output,
-    turns: u32,
+    crowd: Crowd,
 ) -> Ended<N> {
     let alloc: Global = rt.alloc();
     let mut seats = seats;
-    let journal = journal_of(rt, hub, KEPT);
+    let journal = journal_of(rt, hub, crowd.kept);
+    let calling = start_callers(scope, rt, hub, &mut seats, crowd);
+    let working = start_workers(scope, rt, hub, &mut seats);
+    if crowd.closes_first {
+        hub.close(rt);
+    }
     let Ok(keeping) = scope.spawn(move || keep(rt, hub, journal, output)) else {
         panic!(rt; "no thread");
     };
-    let calling = start_callers(scope, rt, hub, &mut seats, turns);
-    let working = start_workers(scope, rt, hub, &mut seats);
     let mut callers = Vec::new(alloc);
     let mut faults = Vec::new(alloc);
     for thread in calling {
@@ -198,9 +219,9 @@ fn run_all<
     'x,
     N: HubName + Send + Sync + 'static,
     R: Threads + Wait + Clock + Abort + AllocGlobal + Sync,
->(rt: &'x R, hub: &'x Hub<N>, seats: Seats<N>, output: Output, turns: u32) -> Ended<N> {
+>(rt: &'x R, hub: &'x Hub<N>, seats: Seats<N>, output: Output, crowd: Crowd) -> Ended<N> {
     thread::scope(thread::scope_env(), rt, |scope| -> Ended<N> {
-        run_threads(scope, rt, hub, seats, output, turns)
+        run_threads(scope, rt, hub, seats, output, crowd)
     })
 }
 
@@ -217,7 +238,7 @@ struct Outcome {
 fn run_under<
     N: HubName + Send + Sync + 'static,
     R: Threads + Wait + Clock + Abort + AllocGlobal + Sync,
->(rt: &R, parts: HubParts, call: u64, turns: u32) -> Outcome
+>(rt: &R, parts: HubParts, call: u64, crowd: Crowd) -> Outcome
     requires layout { parts.shape ≡ N.layout }
     requires book { parts.opening.book ≡ N.book }
     requires ledger { (parts.blank.name ≡ N.name) × (parts.blank.parts ≡ N.parts) }
@@ -228,7 +249,7 @@ fn run_under<
         mut workers,
         faults,
         kept,
-    } = run_all(rt, &hub, seats, output(rt, call), turns);
+    } = run_all(rt, &hub, seats, output(rt, call), crowd);
     let Kept {
         journal,
         mut output,
@@ -248,22 +269,57 @@ fn run_under<
     }
 }
 
-/// So many turns of each caller, with a sink whose call with this number fails.
+/// With a sink whose call with this number fails.
 fn run<R: Threads + Wait + Clock + Abort + AllocGlobal + Sync>(
     rt: &R,
     call: u64,
-    turns: u32,
+    crowd: Crowd,
 ) -> Outcome {
-    let parts = parts_keeping(rt, KEPT);
-    run_under::<Brand, R>(rt, parts, call, turns)
+    let parts = parts_keeping(rt, crowd.kept, crowd.callers);
+    run_under::<Brand, R>(rt, parts, call, crowd)
 }
 
 #[test]
 fn a_history_of_many_threads_is_written(rt: HostRuntime) {
-    let outcome = run(&rt, u64::MAX, 40);
+    let outcome = run(&rt, u64::MAX, PAIR);
     assert!(rt; outcome.faults.is_empty() && outcome.kept.is_ok());
     assert!(rt; is_whole(&rt, &outcome.output));
     assert!(rt; outcome.entries >= 240);
+}
+
+/// Forty flushes at a time owe more entries than the hub keeps.
+#[test]
+fn forty_flush_with_a_tail_of_eight(rt: HostRuntime) {
+    let crowd = Crowd {
+        callers: 40,
+        flushers: 40,
+        turns: 3,
+        kept: 8,
+        closes_first: false,
+    };
+    let outcome = run(&rt, u64::MAX, crowd);
+    assert!(rt; outcome.faults.is_empty() && outcome.kept.is_ok());
+    assert!(rt; is_whole(&rt, &outcome.output));
+    assert!(rt; outcome.entries >= 360);
+}
+
+/// Who waits for space gets it, and who comes later finds the hub closed.
+#[test]
+fn a_hub_is_closed_while_callers_wait_for_space(rt: HostRuntime) {
+    let crowd = Crowd {
+        kept: 1,
+        closes_first: true,
+        ..PAIR
+    };
+    let outcome = run(&rt, u64::MAX, crowd);
+    assert!(rt; outcome.kept.is_ok());
+    assert!(rt;
+        outcome
+            .faults
+            .iter()
+            .all(|fault| matches!(fault, RunFault::Closed))
+    );
+    assert!(rt; is_whole(&rt, &outcome.output));
 }
 
 fn fails_at<R: Threads + Wait + Clock + Abort + AllocGlobal + Sync>(rt: &R, call: u64) {
@@ -272,7 +328,7 @@ fn fails_at<R: Threads + Wait + Clock + Abort + AllocGlobal + Sync>(rt: &R, call
         kept,
         mut output,
         entries: _,
-    } = run(rt, call, 400);
+    } = run(rt, call, Crowd { turns: 400, ..PAIR });
     assert!(rt; matches!(kept, Err(JournalFault::Write { .. })));
     assert_eq!(rt; faults.len(), 2);
     assert!(rt;

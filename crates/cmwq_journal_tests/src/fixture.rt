@@ -10,13 +10,17 @@ use std::sync::Wait;
 
 const QUEUE: QueueId = QueueId(0);
 
-/// The parts of a hub of two callers and two items that keeps so many entries at a time.
-pub(crate) fn parts_keeping<R: Wait + Abort + AllocGlobal>(rt: &R, kept: u32) -> HubParts {
+/// The parts of a hub of so many callers, with an item for each, that keeps so many entries at a time.
+pub(crate) fn parts_keeping<R: Wait + Abort + AllocGlobal>(
+    rt: &R,
+    kept: u32,
+    callers: u8,
+) -> HubParts {
     let counts = Counts {
         cpus: 1,
         workers: 1,
-        callers: 2,
-        items: 2,
+        callers,
+        items: u16::from(callers),
         room: 5_000_000_000,
     };
     let queue = QueueShape {

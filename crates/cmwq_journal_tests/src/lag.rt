@@ -67,7 +67,7 @@ fn lag_under<N: HubName, R: Wait + Clock + Abort + AllocGlobal>(rt: &R, parts: H
 }
 
 fn lag<R: Wait + Clock + Abort + AllocGlobal>(rt: &R) {
-    let parts = parts_keeping(rt, KEPT);
+    let parts = parts_keeping(rt, KEPT, 2);
     lag_under::<Brand, R>(rt, parts);
 }
 
