@@ -11,7 +11,7 @@ mod told;
 mod upgrade;
 
 pub use judge::{run_check, run_front_check};
-pub use output::write_history;
+pub use output::{write_history, write_history_as};
 pub use step::run_step;
 pub use stepping::{Stepping, write_new};
 pub use told::tell_full;
