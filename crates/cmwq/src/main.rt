@@ -13,6 +13,7 @@ use std::io;
 use std::process::ExitCode;
 use std::sync::Wait;
 use std::thread::Threads;
+use std::time::Clock;
 
 /// The exit status of a wrong use.
 const WRONG_USE: u8 = 2;
@@ -45,7 +46,7 @@ fn texts(alloc: Global, args: &[String]) -> Result<Vec<&str>, AllocError> {
 }
 
 /// Does what a word says, over the standard streams. A run's threads are made by the last handle, which `main` alone can give.
-fn run<T: Threads + Wait + Sync>(rt: &HostRuntime, word: Word, threads: &T) -> u8 {
+fn run<T: Threads + Wait + Clock + Sync>(rt: &HostRuntime, word: Word, threads: &T) -> u8 {
     let alloc = rt.alloc();
     let mut input = FromStd::new(rt.stdin());
     let mut errors = FromStd::new(rt.stderr());
@@ -63,7 +64,7 @@ fn run<T: Threads + Wait + Sync>(rt: &HostRuntime, word: Word, threads: &T) -> u
     }
 }
 
-fn answer<T: Threads + Wait + Sync>(rt: &HostRuntime, args: &[String], threads: &T) -> u8 {
+fn answer<T: Threads + Wait + Clock + Sync>(rt: &HostRuntime, args: &[String], threads: &T) -> u8 {
     let alloc = rt.alloc();
     let Ok(words) = texts(alloc, args) else {
         return no_memory(rt);

@@ -12,8 +12,8 @@ mod told;
 mod upgrade;
 
 pub use judge::{run_check, run_front_check};
-pub use output::write_history;
 pub use live::run_step_live;
+pub use output::write_history;
 pub use step::run_step;
 pub use told::tell_full;
 pub use upgrade::{newest_stay, run_upgrade};

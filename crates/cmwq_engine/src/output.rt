@@ -5,7 +5,7 @@ ghost use Rattle.std.specs.Io.KnownBytes.{Appends};
 ghost use Rattle.cmwq_io.specs.Counts.{Rises};
 ghost use Rattle.cmwq_io.specs.Moves.{AppendsFront};
 ghost use Rattle.cmwq_text.specs.EntryText.{entry_text};
-ghost use Rattle.cmwq_text.specs.HistoryText.{entries_text, history_text, text_of_format};
+ghost use Rattle.cmwq_text.specs.HistoryText.{entries_text, text_of_format};
 ghost use Rattle.cmwq_engine.specs.Check.{verdict_line_text};
 
 use cmwq_base::{
@@ -26,25 +26,11 @@ fn write_entries<W: Sink>(sink: &mut W, entries: &[Entry]) -> Result<(), Refusal
     Ok(())
 }
 
-/// Writes a history with its shape, and flushes. Takes no memory.
+/// Writes a history with its shape in format 2 or 3, and flushes. Takes no memory.
 ///
 /// # Errors
 /// `WriteFault` where the sink fails, also at the flush; a front of the text has been written then.
-pub fn write_history<W: Sink>(sink: &mut W, shape: &Shape, entries: &[Entry]) -> Result<(), Refusal>
-    ensures ok { OnOk result (Appends (W.written sink.old) (W.written sink.new) (history_text shape.now entries.now)) }
-    ensures err { OnErr result (AppendsFront (W.written sink.old) (W.written sink.new) (history_text shape.now entries.now)) }
-    ensures flushed { OnOk result (W.held sink.new ≡ 0) }
-    ensures only { IfErr result (λ e. e ≡ Refusal.WriteFault) }
-    ensures fault { OnErr result (Rises (W.troubles sink.old) (W.troubles sink.new)) }
-{
-    write_history_as(sink, 2, shape, entries)
-}
-
-/// Writes a history with its shape in format 2 or 3, as `write_history` does.
-///
-/// # Errors
-/// As those of `write_history`.
-pub fn write_history_as<W: Sink>(
+pub fn write_history<W: Sink>(
     sink: &mut W,
     version: u8,
     shape: &Shape,

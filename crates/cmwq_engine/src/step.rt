@@ -5,7 +5,7 @@ ghost use Rattle.cmwq_io.specs.Counts.{Rises};
 ghost use Rattle.cmwq_base.specs.declared.refusal.Refusal.{Refusal as TheRefusal};
 ghost use Rattle.cmwq_engine.specs.Step.{StepEnds, step_status};
 
-use crate::output::write_history_as;
+use crate::output::write_history;
 use crate::recording::Recording;
 use crate::told::{refusal_status, tell_full};
 use cmwq_base::{Gather, Refusal, Sink, Source, read_file, tell};
@@ -21,7 +21,7 @@ fn step<S: Source, O: Sink>(alloc: Global, input: &mut S, output: &mut O) -> Res
 {
     let file = read_file::<Recording, S>(alloc, input, false)?;
     let steps = file.all;
-    write_history_as(output, file.version.max(2), steps.shape(), steps.history())?;
+    write_history(output, file.version.max(2), steps.shape(), steps.history())?;
     Ok(steps.left_out())
 }
 

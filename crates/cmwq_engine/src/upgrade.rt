@@ -8,7 +8,7 @@ ghost use Rattle.cmwq_engine.specs.Check.{check_status};
 ghost use Rattle.cmwq_engine.specs.Upgrade.{UpgradeEnds, IsFlushed, NewestStay};
 
 use crate::judge::status;
-use crate::output::write_history_as;
+use crate::output::write_history;
 use crate::told::tell_illegal;
 use cmwq_base::{Illegal, Refusal, Sink, Source, read_history, tell};
 use std::alloc::Global;
@@ -34,7 +34,7 @@ fn upgrade<S: Source, O: Sink>(
     if let Err(illegal) = cmwq_core::check(alloc, &file.shape, &file.entries)? {
         return Ok(Some(illegal));
     }
-    write_history_as(output, file.version.max(2), &file.shape, &file.entries)?;
+    write_history(output, file.version.max(2), &file.shape, &file.entries)?;
     Ok(None)
 }
 

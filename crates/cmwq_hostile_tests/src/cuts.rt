@@ -6,6 +6,7 @@ use std::process::Abort;
 use std::sync::Wait;
 use std::test::Fail;
 use std::thread::Threads;
+use std::time::Clock;
 
 /// The ending of a refused input.
 fn refused(told: &str) -> Ending {
@@ -32,7 +33,7 @@ fn whole_lines(text: &[u8]) -> usize {
 
 /// Runs a word over each front of a text. What ends inside a line is refused, and what ends behind a line that `head` counts or before
 /// the first; each longer front of whole lines is an input, which ends as the next of `endings` says.
-fn cut_lines<R: Threads + Wait + Abort + AllocGlobal + Sync>(
+fn cut_lines<R: Threads + Wait + Clock + Abort + AllocGlobal + Sync>(
     rt: &R,
     word: Word,
     text: &[u8],
@@ -117,7 +118,7 @@ fn a_history_of_the_former_format_is_cut_and_upgraded(rt: HostRuntime) -> Result
 }
 
 /// An input in JSON ends with its last bracket and a line feed; only what has that bracket is JSON.
-fn cut_json<R: Threads + Wait + Abort + AllocGlobal + Sync>(rt: &R, whole: Whole) {
+fn cut_json<R: Threads + Wait + Clock + Abort + AllocGlobal + Sync>(rt: &R, whole: Whole) {
     let text = whole.input;
     let json = text.len().saturating_sub(1);
     for bytes in 0..=text.len() {

@@ -8,6 +8,7 @@ use cmwq_io::{FailsAt, Memory};
 use std::process::Abort;
 use std::sync::Wait;
 use std::thread::Threads;
+use std::time::Clock;
 
 /// More calls than a run makes of its source or of a sink.
 const NEVER: u64 = 10_000;
@@ -30,7 +31,7 @@ fn bytes_of(sink: &Failing) -> &[u8] {
 }
 
 /// Runs a word of whose source the call with this number fails. Nothing is written then. Answers whether the run made that call.
-fn fails_to_read<R: Threads + Wait + Abort + AllocGlobal + Sync>(
+fn fails_to_read<R: Threads + Wait + Clock + Abort + AllocGlobal + Sync>(
     rt: &R,
     whole: Whole,
     call: u64,
@@ -68,7 +69,7 @@ fn each_call_of_the_source_may_fail(rt: HostRuntime) {
 
 /// Runs a word of whose output the call with this number fails. All bytes before that call have gone out. Answers whether the run made
 /// that call.
-fn fails_to_write<R: Threads + Wait + Abort + AllocGlobal + Sync>(
+fn fails_to_write<R: Threads + Wait + Clock + Abort + AllocGlobal + Sync>(
     rt: &R,
     whole: Whole,
     call: u64,
@@ -106,7 +107,11 @@ fn each_call_of_the_output_may_fail(rt: HostRuntime) {
 }
 
 /// Runs a word over an empty input, which is refused, where the telling of it fails at the call with this number.
-fn fails_to_tell<R: Threads + Wait + Abort + AllocGlobal + Sync>(rt: &R, word: Word, call: u64)
+fn fails_to_tell<R: Threads + Wait + Clock + Abort + AllocGlobal + Sync>(
+    rt: &R,
+    word: Word,
+    call: u64,
+)
     requires { 0 < call }
 {
     let mut input = Memory::reader(b"");

@@ -6,6 +6,7 @@ use std::alloc::{AllocError, Global};
 use std::process::Abort;
 use std::sync::Wait;
 use std::thread::Threads;
+use std::time::Clock;
 
 /// How many bytes an input in JSON may have.
 const LIMIT: usize = 1_048_576;
@@ -19,7 +20,7 @@ fn padded(alloc: Global, input: &[u8], bytes: usize) -> Result<Vec<u8>, AllocErr
 }
 
 /// Runs a word over its input, which is padded to so many bytes.
-fn ends_with<R: Threads + Wait + Abort + AllocGlobal + Sync>(
+fn ends_with<R: Threads + Wait + Clock + Abort + AllocGlobal + Sync>(
     rt: &R,
     word: Word,
     input: &[u8],

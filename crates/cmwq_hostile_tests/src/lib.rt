@@ -11,6 +11,8 @@ mod faults;
 #[cfg(test)]
 mod inputs;
 #[cfg(test)]
+mod journal;
+#[cfg(test)]
 mod large;
 #[cfg(test)]
 mod run;

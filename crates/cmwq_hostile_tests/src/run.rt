@@ -6,6 +6,7 @@ use cmwq_run::*;
 use std::process::Abort;
 use std::sync::Wait;
 use std::thread::Threads;
+use std::time::Clock;
 
 /// Item A sleeps at a gate that item B opens.
 const GATE: &[u8] = br#"{"cpus":1,"workers":2,"room":100,
@@ -40,14 +41,17 @@ const LITTLE_ROOM: &[u8] = br#"{"cpus":1,"workers":1,"room":3,
 
 /// What a run answered, wrote and told.
 #[derive(Drop)]
-struct Ran {
-    status: u8,
-    output: Memory<Vec<u8>>,
-    errors: Memory<Vec<u8>>,
+pub(crate) struct Ran {
+    pub(crate) status: u8,
+    pub(crate) output: Memory<Vec<u8>>,
+    pub(crate) errors: Memory<Vec<u8>>,
 }
 
 /// Runs a script.
-fn run_on<R: Threads + Wait + Abort + AllocGlobal + Sync>(rt: &R, script: &[u8]) -> Ran {
+pub(crate) fn run_on<R: Threads + Wait + Clock + Abort + AllocGlobal + Sync>(
+    rt: &R,
+    script: &[u8],
+) -> Ran {
     let alloc = rt.alloc();
     let mut input = Memory::reader(script);
     let mut output = Memory::writer(alloc, 4_000).expect(rt, "memory");
@@ -105,7 +109,7 @@ const SECOND_GATE_SHUT: &[u8] = br#"{"cpus":1,"workers":2,"room":100,
 "callers":[[["queue","A","q0",0],["queue","B","q0",0],["flush","q0"]]]}"#;
 
 /// A run tells that a gate was missed, and writes nothing.
-fn tells_a_gate<R: Threads + Wait + Abort + AllocGlobal + Sync>(
+fn tells_a_gate<R: Threads + Wait + Clock + Abort + AllocGlobal + Sync>(
     rt: &R,
     script: &[u8],
     told: &[u8],
@@ -173,7 +177,7 @@ fn tells_what_is_refused(rt: HostRuntime) {
 }
 
 /// Runs a script over a source whose call with this number fails, and an output whose call with that number does. Answers the status.
-fn run_faulty<R: Threads + Wait + Abort + AllocGlobal + Sync>(
+fn run_faulty<R: Threads + Wait + Clock + Abort + AllocGlobal + Sync>(
     rt: &R,
     read: u64,
     write: u64,

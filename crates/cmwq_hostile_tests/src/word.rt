@@ -7,6 +7,7 @@ use cmwq_run::run_run;
 use std::process::Abort;
 use std::sync::Wait;
 use std::thread::Threads;
+use std::time::Clock;
 
 /// What the program is asked to do.
 #[derive(Clone, Copy, Debug)]
@@ -25,7 +26,7 @@ impl Word {
         S: Source,
         O: Sink,
         E: Sink,
-        R: Threads + Wait + AllocGlobal + Sync,
+        R: Threads + Wait + Clock + AllocGlobal + Sync,
     {
         let alloc = rt.alloc();
         match self {
@@ -47,7 +48,7 @@ pub(crate) struct Ending<'a> {
 }
 
 /// Runs a word over an input in memory, and compares how it ended.
-pub(crate) fn ends_so<R: Threads + Wait + Abort + AllocGlobal + Sync>(
+pub(crate) fn ends_so<R: Threads + Wait + Clock + Abort + AllocGlobal + Sync>(
     rt: &R,
     word: Word,
     input: &[u8],

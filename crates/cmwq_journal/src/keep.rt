@@ -36,6 +36,7 @@ pub fn keep_journal<N: HubName, R: Wait + Clock, O: Sink>(
     ensures written { OnOk result (Appends (O.written output.old) (O.written output.new) (body_text 3 N.layout journal.new.seen)) }
     ensures flushed { OnOk result (O.held output.new ≡ 0) }
     ensures legal { IsLegal N.layout (past_of journal.new.seen) }
+    ensures grown { O.troubles output.old ≤ O.troubles output.new }
     ensures broke { IfErr result (λ f. Broke N.layout journal.old.seen journal.new.seen (O.written output.old) (O.written output.new) f) }
     ensures sink { IfErr result (λ f. is_of_sink f ≡ true → Rises (O.troubles output.old) (O.troubles output.new)) }
 {
@@ -64,6 +65,7 @@ fn keep_from_start<N: HubName, R: Wait + Clock, O: Sink>(
     requires { journal.old.seen ≡ [] }
     ensures written { OnOk result (Appends (O.written output.old) (O.written output.new) (body_text 3 N.layout journal.new.seen)) }
     ensures flushed { OnOk result (O.held output.new ≡ 0) }
+    ensures grown { O.troubles output.old ≤ O.troubles output.new }
     ensures broke { IfErr result (λ f. Broke N.layout journal.old.seen journal.new.seen (O.written output.old) (O.written output.new) f) }
     ensures sink { IfErr result (λ f. is_of_sink f ≡ true → Rises (O.troubles output.old) (O.troubles output.new)) }
 {

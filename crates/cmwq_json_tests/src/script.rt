@@ -171,6 +171,67 @@ fn a_top_of_another_form(rt: HostRuntime) -> Result<(), Fail> {
     Ok(())
 }
 
+// A script of one queue, one item and one caller, with these numbers beside its CPUs and workers.
+fn with_numbers(rt: &impl AllocGlobal, numbers: &str) -> Result<String, Fail> {
+    Ok(format!(in rt.alloc();
+        r#"{{"cpus":1,"workers":1,{numbers},"queues":[{QUEUE}],"items":[{ITEM}],"callers":[[]]}}"#
+    )?)
+}
+
+#[test]
+fn how_histories_are_written(rt: HostRuntime) -> Result<(), Fail> {
+    for (numbers, room, version, journal) in [
+        (r#""room":1000000"#, 1_000_000, 2, None),
+        (r#""format":2,"room":1000000"#, 1_000_000, 2, None),
+        (
+            r#""room":4611686018427387904,"format":3"#,
+            4_611_686_018_427_387_904,
+            3,
+            None,
+        ),
+        (
+            r#""journal":1,"room":4611686018427387904"#,
+            4_611_686_018_427_387_904,
+            3,
+            Some(1),
+        ),
+        (
+            r#""journal":1000000,"room":0,"format":3"#,
+            0,
+            3,
+            Some(1_000_000),
+        ),
+    ] {
+        let script = read(&rt, with_numbers(&rt, numbers)?.as_str())?;
+        assert_eq!(rt; script.shape.counts().room, room, "{numbers}");
+        assert_eq!(rt; script.version, version, "{numbers}");
+        assert_eq!(rt; script.journal, journal, "{numbers}");
+    }
+    Ok(())
+}
+
+#[test]
+fn histories_that_are_not_written(rt: HostRuntime) -> Result<(), Fail> {
+    for numbers in [
+        r#""room":1000001"#,
+        r#""format":2,"room":1000001"#,
+        r#""format":1,"room":1"#,
+        r#""format":4,"room":1"#,
+        r#""format":"3","room":1"#,
+        r#""format":2,"journal":1,"room":1"#,
+        r#""journal":0,"room":1"#,
+        r#""journal":1000001,"room":1"#,
+        r#""journal":null,"room":1"#,
+        r#""journal":1,"room":4611686018427387905"#,
+        r#""format":3,"room":4611686018427387905"#,
+        r#""format":3,"journal":1,"more":1,"room":1"#,
+    ] {
+        let text = with_numbers(&rt, numbers)?;
+        is_refused(&rt, text.as_str(), at(Part::Top, 0))?;
+    }
+    Ok(())
+}
+
 #[test]
 fn queues_that_are_refused(rt: HostRuntime) -> Result<(), Fail> {
     for (queues, index) in [

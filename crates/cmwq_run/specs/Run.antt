@@ -1,20 +1,17 @@
 -- What `run` reads, writes and answers.
-use Rattle.std.specs.Prelude.{◌≡◌, ℕ, zero, suc, List, length, Result, Ok, Err, Option, Some, slice_get}
+use Rattle.std.specs.Prelude.{◌≡◌, ◌⊎◌, ℕ, zero, suc, List, Result, Ok, Err, Option, Some, slice_get, MatchOption}
 use Rattle.std.specs.Io.KnownBytes.{Keeps, Appends}
-use Rattle.serde_json.specs.Data.{Data}
 use Rattle.cmwq_io.specs.Moves.{AppendsFront}
 use Rattle.cmwq_model.specs.declared.entry.Entry.{Entry}
 use Rattle.cmwq_model.specs.Legal.{IsLegal, past_of}
-use Rattle.cmwq_desk.specs.Held.{active_in}
-use Rattle.cmwq_text.specs.HistoryText.{history_text}
+use Rattle.cmwq_text.specs.HistoryText.{text_of_format}
 use Rattle.cmwq_input.specs.declared.fault.Fault.{Fault}
 use Rattle.cmwq_input.specs.declared.fault.Fault.TheVariants as fault
-use Rattle.cmwq_input.specs.declared.refused.Refused.{Refused}
 use Rattle.cmwq_input.specs.Inputs.{Says, IsNoJson, IsLong}
 use Rattle.cmwq_input.specs.Statuses.{fault_status}
 use Rattle.cmwq_desk.specs.declared.fault.RunFault.{RunFault}
 use Rattle.cmwq_desk.specs.declared.fault.RunFault.TheVariants as run_fault
-use Rattle.cmwq_scripts.specs.Ended.{AllFollow, AllWorked, AreSilent, FailsAs}
+use Rattle.cmwq_scripts.specs.Ended.{FailsAs, IsLeft}
 use Rattle.cmwq_script.specs.Runs.{Run, run_said}
 use Rattle.cmwq_run.specs.Played.{plays}
 use Rattle.cmwq_run.specs.declared.failure.Failure.{Failure}
@@ -22,22 +19,28 @@ use Rattle.cmwq_run.specs.declared.failure.Failure.TheVariants as failure
 
 -- A history that the run may leave: it is legal, each caller's entries follow its script but for so many calls in all that had no room, each worker's
 -- are runs in which items did their actions, nobody else has any, and nothing active is left behind.
-pub record Leaves (r : Run) (full : ℕ) (history : List Entry) : Type 0 where
-  pub legal : IsLegal r.layout (past_of history)
-  pub follow : AllFollow r.layout 0 r.callers full history
-  pub worked : AllWorked r.layout (plays r.does r.layout) history
-  pub silent : AreSilent r.layout (length r.callers) history
-  pub finished : active_in r.layout history ≡ 0
+abbrev pub Leaves : Run → ℕ → List Entry → Type 0
+Leaves r full history = IsLeft r.layout (plays r.does r.layout) r.callers full history
 
--- a run that the text says, and a history that it may leave
-pub record Ran (text : List ℕ) (full : ℕ) : Type 0 where
-  pub run : Run
-  pub said : Says run_said text (Ok run)
-  pub history : List Entry
-  pub leaves : Leaves run full history
+-- its text, in the format of the run
+abbrev pub text_of : Run → List Entry → List ℕ
+text_of r history = text_of_format r.version r.layout history
 
-abbrev pub ran_text : {text : List ℕ} {full : ℕ} → Ran text full → List ℕ
-ran_text x = history_text x.run.layout x.history
+-- ---- what a run writes
+
+-- such a history, whole
+abbrev pub Writes : Run → ℕ → Option (List ℕ) → Option (List ℕ) → Type 0
+Writes r full old new = (history : List Entry) × Leaves r full history × Appends old new (text_of r history)
+
+-- a front of it
+abbrev pub WritesFront : Run → Option (List ℕ) → Option (List ℕ) → Type 0
+WritesFront r old new = (full : ℕ) × (history : List Entry) × Leaves r full history × AppendsFront old new (text_of r history)
+
+-- Where it breaks off: nothing; but with a journal, which writes as it goes, a front of a legal history, which it need not leave.
+abbrev pub BreaksOff : Run → Option (List ℕ) → Option (List ℕ) → Type 0
+BreaksOff r old new = MatchOption r.journal (Keeps old new) (λ kept. (history : List Entry) × IsLegal r.layout (past_of history) × AppendsFront old new (text_of r history))
+
+-- ---- what is told of a run
 
 -- what a fault of the hub is told as
 abbrev pub failed_run : RunFault → Failure
@@ -57,25 +60,32 @@ FailsOf r told = (f : RunFault) × (failed_run f ≡ told) × FailsAs r.layout r
 abbrev pub IsNamed : List (List ℕ) → List ℕ → Type 0
 IsNamed gates name = (k : ℕ) × (slice_get gates k ≡ Some name)
 
--- It writes such a history, or a failure stopped it. Only a fault of writing comes after the first byte is written.
+-- a failure but of writing
+abbrev pub FailsOn : Run → Failure → Type 0
+FailsOn r (failure.Input fault.NoMemory) = Unit {0}
+FailsOn r (failure.Input f) = ⊥
+FailsOn r (failure.Run n) = FailsOf r (failure.Run n)
+FailsOn r (failure.Gate name) = IsNamed r.gates name.bytes
+
+-- How the run of a script ends: it writes a history, or a failure stopped it. A gate is told of a run that came to its end, whose history a journal has written.
+abbrev pub ScriptEnds : Run → Option (List ℕ) → Option (List ℕ) → Result ℕ Failure → Type 0
+ScriptEnds r old new (Ok full) = Writes r full old new
+ScriptEnds r old new (Err (failure.Input fault.WriteFault)) = MatchOption r.journal (WritesFront r old new) (λ kept. BreaksOff r old new)
+ScriptEnds r old new (Err (failure.Gate name)) = FailsOn r (failure.Gate name) × MatchOption r.journal (Keeps old new) (λ kept. (full : ℕ) × Writes r full old new)
+ScriptEnds r old new (Err f) = FailsOn r f × BreaksOff r old new
+
+-- the text says a script, whose run ends so
+abbrev pub Runs : List ℕ → Option (List ℕ) → Option (List ℕ) → Result ℕ Failure → Type 0
+Runs text old new ended = (r : Run) × Says run_said text (Ok r) × ScriptEnds r old new ended
+
+-- Nothing is written but by the run of a script.
 abbrev pub RunEnds : List ℕ → Option (List ℕ) → Option (List ℕ) → Result ℕ Failure → Type 0
-RunEnds text old new (Ok full) = (x : Ran text full) × Appends old new (ran_text x)
-RunEnds text old new (Err (failure.Input fault.WriteFault)) = (full : ℕ) × (x : Ran text full) × AppendsFront old new (ran_text x)
 RunEnds text old new (Err (failure.Input (fault.Member r))) = Says run_said text (Err r) × Keeps old new
 RunEnds text old new (Err (failure.Input fault.NotJson)) = IsNoJson text × Keeps old new
 RunEnds text old new (Err (failure.Input fault.TooLong)) = IsLong text × Keeps old new
-RunEnds text old new (Err (failure.Input fault.NoMemory)) = Keeps old new
 RunEnds text old new (Err (failure.Input fault.ReadFault)) = Keeps old new
-RunEnds text old new (Err (failure.Run n)) = (r : Run) × Says run_said text (Ok r) × FailsOf r (failure.Run n) × Keeps old new
-RunEnds text old new (Err (failure.Gate name)) = (r : Run) × Says run_said text (Ok r) × IsNamed r.gates name.bytes × Keeps old new
-
--- what a failure after the reading tells of what the input said
-abbrev pub FailsOn : Result Run Refused → Failure → Type 0
-FailsOn said (failure.Input fault.NoMemory) = Unit {0}
-FailsOn said (failure.Input (fault.Member r)) = said ≡ Err r
-FailsOn said (failure.Input f) = ⊥
-FailsOn said (failure.Run n) = (r : Run) × (said ≡ Ok r) × FailsOf r (failure.Run n)
-FailsOn said (failure.Gate name) = (r : Run) × (said ≡ Ok r) × IsNamed r.gates name.bytes
+RunEnds text old new (Err (failure.Input fault.NoMemory)) = Keeps old new ⊎ Runs text old new (Err (failure.Input fault.NoMemory))
+RunEnds text old new ended = Runs text old new ended
 
 -- the exit status: 0 done, 1 refused input or a gate that was not opened, 4 no memory or calls that had no room, 5 a fault of reading, writing or running
 abbrev pub failure_status : Failure → ℕ

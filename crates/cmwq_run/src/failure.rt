@@ -5,7 +5,7 @@ ghost use Rattle.cmwq_input.specs.declared.fault.Fault.TheVariants as fault;
 ghost use Rattle.cmwq_run.specs.Run.{failure_status, failed_run};
 
 use arrayvec::ArrayString;
-use cmwq_input::{Fault, Refused, fault_status};
+use cmwq_input::{Fault, fault_status};
 use cmwq_rt::RunFault;
 use std::alloc::AllocError;
 use thiserror::Error;
@@ -41,14 +41,6 @@ impl From<AllocError> for Failure {
 
     fn from(_error: AllocError) -> Failure {
         Failure::Input(Fault::NoMemory)
-    }
-}
-
-impl From<Refused> for Failure {
-    ghost from_gives = { λ refused f. f ≡ failure.Input (fault.Member refused) };
-
-    fn from(refused: Refused) -> Failure {
-        Failure::Input(Fault::Member(refused))
     }
 }
 

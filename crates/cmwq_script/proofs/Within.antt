@@ -20,7 +20,8 @@ use Rattle.cmwq_script.specs.declared.script.Script.{Script}
 use Rattle.cmwq_script.specs.Items.{Work, no_work, add_item}
 use Rattle.cmwq_script.specs.Queues.{add_queue}
 use Rattle.cmwq_script.specs.Callers.{add_caller}
-use Rattle.cmwq_script.specs.Runs.{Top, some_of, queues_said, items_said, callers_said, known_in, layout_in, run_in}
+use Rattle.cmwq_script.specs.Tops.{Top, IsRecorded}
+use Rattle.cmwq_script.specs.Runs.{some_of, queues_said, items_said, callers_said, known_in, layout_in, run_in}
 use Rattle.cmwq_script.specs.Scripts.{run_of, IsAction, AreCalls, IsWithin, MayRun}
 use Rattle.cmwq_script.specs.Views.{work_of, calls_of}
 use Rattle.cmwq_script.proofs.Readings.{all_weaker, all_unmapped}
@@ -59,8 +60,8 @@ queues_allowed (q ∷ qs) all = both (is_queue q) (list_all is_queue qs) (within
 -- what is read is inside the limits
 module _ (t : Top) (qs : Named QueueShape) (w : Work) (cs : List (List Call)) (queues_read : queues_said t ≡ Ok qs) (items_read : items_said (known_in t qs) t ≡ Ok w)
     (callers_read : callers_said (known_in t qs) t ≡ Ok cs) where
-  pub is_within : (1 ≤ t.cpus) × (t.cpus ≤ 4) × (1 ≤ t.workers) × (t.workers ≤ 8) × (t.room ≤ 1000000) → IsWithin (run_in t qs.values w cs)
-  is_within limits =
+  pub is_within : (1 ≤ t.cpus) × (t.cpus ≤ 4) × (1 ≤ t.workers) × (t.workers ≤ 8) × (t.room ≤ most_room) → IsRecorded t.version t.journal → IsWithin (run_in t qs.values w cs)
+  is_within limits recorded =
       let s = layout_in t qs.values w cs in
       let known = known_in t qs in
       let q = some_read refused.queues (λ (m : Named QueueShape). length m.values) (in_turn add_queue 0 nobody t.queues) qs queues_read in
@@ -82,7 +83,7 @@ module _ (t : Top) (qs : Named QueueShape) (w : Work) (cs : List (List Call)) (q
       let callers_few = callers.1 in
       record {
         allowed =
-            both _ _ (both _ _ (both _ _ (both _ _ (both _ _ (within 1 4 t.cpus limits.0 limits.1) (within 1 8 t.workers limits.2 limits.3)) (within 1 64 (length cs) (omega arith) (omega arith))) (within 1 256 (length w.items.values) (omega arith) (omega arith))) (at_most t.room most_room (let few = limits.4 in omega arith)))
+            both _ _ (both _ _ (both _ _ (both _ _ (both _ _ (within 1 4 t.cpus limits.0 limits.1) (within 1 8 t.workers limits.2 limits.3)) (within 1 64 (length cs) (omega arith) (omega arith))) (within 1 256 (length w.items.values) (omega arith) (omega arith))) (at_most t.room most_room limits.4))
             (both _ _ (within 1 64 (length qs.values) (omega arith) (omega arith)) (queues_allowed qs.values wide.values));
         few_callers = callers_few;
         callers = refl;
@@ -91,6 +92,7 @@ module _ (t : Top) (qs : Named QueueShape) (w : Work) (cs : List (List Call)) (q
         items = refl;
         does = items.items.values;
         few_gates = items.few_gates;
+        recorded = recorded;
       }
 
 pub few_queue_names : (t : Top) (keys : List (String Global)) (values : List QueueShape) → queues_said t ≡ Ok (record { names = map string_bytes keys; values = values }) → length keys ≤ 64
@@ -127,6 +129,7 @@ may_run script r =
           (All-from_recursion _ script.does.items (all_unmapped (All (IsAction script.shape (length (map string_bytes script.gates.items)))) (λ actions. actions.items) script.does.items
           (all_weaker (AllByRecursion (IsAction script.shape (length (map string_bytes script.gates.items)))) (All (IsAction script.shape (length (map string_bytes script.gates.items)))) (All-from_recursion (IsAction script.shape (length (map string_bytes script.gates.items)))) (map (λ actions. actions.items) script.does.items) r.does)));
       few_gates = omega arith;
+      recorded = r.recorded;
     }
   where
     few : (n : ℕ) → n ≤ 1000 → n < 2 ^ 32
@@ -134,9 +137,9 @@ may_run script r =
 
 -- so may the script that is made of parts inside the limits
 pub made_may_run : (t : Top) (qs : List QueueShape) (items : Items) (callers : Vec (Vec Call Global) Global) (s : Layout) (gates : Vec (String Global) Global) → s ≡ layout_in t qs (work_of items) (calls_of callers)
-    → map string_bytes gates.items ≡ items.gates → IsWithin (run_in t qs (work_of items) (calls_of callers)) → MayRun (record { shape = s; does = items.members.values; gates = gates; callers = callers })
+    → map string_bytes gates.items ≡ items.gates → IsWithin (run_in t qs (work_of items) (calls_of callers)) → MayRun (record { shape = s; does = items.members.values; gates = gates; callers = callers; version = t.version; journal = t.journal })
 made_may_run t qs items callers s gates shape_is gates_are run =
     let does = (work_of items).items.values in
-    may_run (record { shape = s; does = items.members.values; gates = gates; callers = callers })
-    (subst (λ (l : Layout). IsWithin (record { layout = l; does = does; gates = map string_bytes gates.items; callers = calls_of callers })) (sym shape_is)
-    (subst (λ (g : List (List ℕ)). IsWithin (record { layout = layout_in t qs (work_of items) (calls_of callers); does = does; gates = g; callers = calls_of callers })) (sym gates_are) run))
+    may_run (record { shape = s; does = items.members.values; gates = gates; callers = callers; version = t.version; journal = t.journal })
+    (subst (λ (l : Layout). IsWithin (record { layout = l; does = does; gates = map string_bytes gates.items; callers = calls_of callers; version = t.version; journal = t.journal })) (sym shape_is)
+    (subst (λ (g : List (List ℕ)). IsWithin (record { layout = layout_in t qs (work_of items) (calls_of callers); does = does; gates = g; callers = calls_of callers; version = t.version; journal = t.journal })) (sym gates_are) run))

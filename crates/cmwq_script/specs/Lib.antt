@@ -8,6 +8,7 @@ pub mod Actions
 pub mod Items
 pub mod Queues
 pub mod Callers
+pub mod Tops
 pub mod Runs
 pub mod Views
 pub mod Scripts

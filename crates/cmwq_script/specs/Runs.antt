@@ -1,59 +1,29 @@
 -- What a JSON value says of a run, or which member of it is refused first.
-use Rattle.std.specs.Prelude.{ℕ, if◌then◌else◌, List, [], ◌∷◌, length, Option, Some, None, Result, Ok, Err, codes, nat_lt}
+use Rattle.std.specs.Prelude.{ℕ, if◌then◌else◌, List, [], length, Option, Result, Ok, Err, nat_lt}
 use Rattle.std.specs.Option.{option_map_or}
-use Rattle.serde_json.specs.Data.{Data, Items}
-use Rattle.serde_json.specs.Find.{get, as_array}
+use Rattle.serde_json.specs.Data.{Data}
 use Rattle.cmwq_model.specs.declared.call.Call.{Call}
 use Rattle.cmwq_model.specs.declared.shape.QueueShape.{QueueShape}
 use Rattle.cmwq_model.specs.Layout.{Layout}
 use Rattle.cmwq_input.specs.declared.refused.Refused.{Refused}
 use Rattle.cmwq_json.specs.InTurn.{in_turn}
-use Rattle.cmwq_json.specs.Keys.{has_keys}
 use Rattle.cmwq_json.specs.Names.{Named, nobody}
-use Rattle.cmwq_json.specs.Numbers.{number_between}
 use Rattle.cmwq_json.specs.Parts.{top, queues, items, callers}
 use Rattle.cmwq_script.specs.declared.action.Action.{Action}
-use Rattle.cmwq_script.specs.Then.{◌>>=◌}
+use Rattle.cmwq_script.specs.Tops.{Top, top_said}
 use Rattle.cmwq_script.specs.Known.{Known, names_after}
 use Rattle.cmwq_script.specs.Items.{Work, no_work, add_item}
 use Rattle.cmwq_script.specs.Queues.{add_queue}
 use Rattle.cmwq_script.specs.Callers.{add_caller}
 
--- ---- the top: its keys, its numbers and its lists
-
-pub record Top : Type 0 where
-  pub cpus : ℕ
-  pub workers : ℕ
-  pub room : ℕ
-  pub queues : Items
-  pub items : Items
-  pub callers : Items
-
-abbrev pub at_key : {A : Type 0} → (Data → Option A) → List ℕ → Data → Option A
-at_key says key d = do
-  e ← get key d
-  says e
-
-abbrev pub top_said : Data → Option Top
-top_said d =
-    if has_keys (codes "callers" ∷ codes "cpus" ∷ codes "items" ∷ codes "queues" ∷ codes "room" ∷ codes "workers" ∷ []) d then (do
-      cpus ← at_key (number_between 1 4) (codes "cpus") d
-      workers ← at_key (number_between 1 8) (codes "workers") d
-      room ← at_key (number_between 0 1000000) (codes "room") d
-      qs ← at_key as_array (codes "queues") d
-      is ← at_key as_array (codes "items") d
-      cs ← at_key as_array (codes "callers") d
-      Some (record { cpus = cpus; workers = workers; room = room; queues = qs; items = is; callers = cs }))
-    else None
-
--- ---- the whole
-
--- the layout, what each item does, the gates by name, and the calls of each caller
+-- the layout, what each item does, the gates by name, the calls of each caller, and how the history is written
 pub record Run : Type 0 where
   pub layout : Layout
   pub does : List (List Action)
   pub gates : List (List ℕ)
   pub callers : List (List Call)
+  pub version : ℕ
+  pub journal : Option ℕ
 
 -- a part with at least one member, of which none is refused
 abbrev pub some_of : {S : Type 0} → (ℕ → Refused) → (S → ℕ) → Result S ℕ → Result S Refused
@@ -76,7 +46,7 @@ abbrev pub layout_in : Top → List QueueShape → Work → List (List Call) →
 layout_in t qs w cs = record { cpus = t.cpus; workers = t.workers; callers = length cs; items = length w.items.values; room = t.room; queues = qs }
 
 abbrev pub run_in : Top → List QueueShape → Work → List (List Call) → Run
-run_in t qs w cs = record { layout = layout_in t qs w cs; does = w.items.values; gates = w.gates; callers = cs }
+run_in t qs w cs = record { layout = layout_in t qs w cs; does = w.items.values; gates = w.gates; callers = cs; version = t.version; journal = t.journal }
 
 abbrev pub with_callers : Top → Named QueueShape → Work → Result (List (List Call)) Refused → Result Run Refused
 with_callers t qs w (Err refused) = Err refused

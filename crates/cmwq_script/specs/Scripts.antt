@@ -8,11 +8,12 @@ use Rattle.cmwq_model.specs.Scripted.{IsScripted}
 use Rattle.cmwq_script.specs.declared.action.Action.{Action}
 use Rattle.cmwq_script.specs.declared.action.Action.TheVariants as action
 use Rattle.cmwq_script.specs.declared.script.Script.{Script}
+use Rattle.cmwq_script.specs.Tops.{IsRecorded}
 use Rattle.cmwq_script.specs.Runs.{Run}
 use Rattle.cmwq_script.specs.Views.{calls_of}
 
 abbrev pub run_of : Script → Run
-run_of s = record { layout = s.shape; does = map (λ d. d.items) s.does.items; gates = map string_bytes s.gates.items; callers = calls_of s.callers }
+run_of s = record { layout = s.shape; does = map (λ d. d.items) s.does.items; gates = map string_bytes s.gates.items; callers = calls_of s.callers; version = s.version; journal = s.journal }
 
 -- the calls that an item may make
 abbrev pub is_own : Call → Bool
@@ -42,6 +43,7 @@ pub record IsWithin (run : Run) : Type 0 where
   pub items : length run.does ≡ run.layout.items
   pub does : AllByRecursion (AllByRecursion (IsAction run.layout (length run.gates))) run.does
   pub few_gates : length run.gates ≤ 16
+  pub recorded : IsRecorded run.version run.journal
 
 -- what a runner of the script needs
 pub record MayRun (s : Script) : Type 0 where
@@ -51,3 +53,4 @@ pub record MayRun (s : Script) : Type 0 where
   pub items : length s.does.items ≡ s.shape.items
   pub does : All (λ actions. All (IsAction s.shape (length s.gates.items)) actions.items) s.does.items
   pub few_gates : length s.gates.items ≤ 16
+  pub recorded : IsRecorded s.version s.journal

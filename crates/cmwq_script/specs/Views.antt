@@ -11,13 +11,13 @@ use Rattle.cmwq_script.specs.declared.item.Items.{Items}
 use Rattle.cmwq_script.specs.declared.top.Top as declared
 use Rattle.cmwq_script.specs.Known.{Known}
 use Rattle.cmwq_script.specs.Items.{Work}
-use Rattle.cmwq_script.specs.Runs.{Top}
+use Rattle.cmwq_script.specs.Tops.{Top}
 
 abbrev pub work_of : Items → Work
 work_of w = record { items = map_named (λ actions. actions.items) (named_of w.members); gates = w.gates }
 
 abbrev pub top_of : declared.Top → Top
-top_of t = record { cpus = t.cpus; workers = t.workers; room = t.room; queues = items_view t.queues.now; items = items_view t.items.now; callers = items_view t.callers.now }
+top_of t = record { cpus = t.cpus; workers = t.workers; room = t.room; version = t.version; journal = t.journal; queues = items_view t.queues.now; items = items_view t.items.now; callers = items_view t.callers.now }
 
 abbrev pub calls_of : Vec (Vec Call Global) Global → List (List Call)
 calls_of callers = map (λ calls. calls.items) callers.items

@@ -20,7 +20,8 @@ use cmwq_model::{Call, Counts, QueueShape, Shape};
 use serde_json::Value;
 use std::alloc::{AllocError, Global};
 
-/// What a run does: its shape, what the function of each item does, the names of the gates, and the calls of each caller.
+/// What a run does: its shape, what the function of each item does, the names of the gates, the calls of each caller, and how its history
+/// is written.
 #[derive(Drop)]
 pub struct Script {
     pub shape: Shape,
@@ -30,6 +31,10 @@ pub struct Script {
     pub gates: Vec<String>,
     /// The calls of each caller, by its number.
     pub callers: Vec<Vec<Call>>,
+    /// The format of the history: 2 or 3.
+    pub version: u8,
+    /// How many entries are kept at a time, where the history is written as it is made: in format 3 then.
+    pub journal: Option<u32>,
 }
 
 /// The script of parts that are inside the limits.
@@ -60,6 +65,8 @@ fn script_of(
         does,
         gates,
         callers,
+        version: top.version,
+        journal: top.journal,
     })
 }
 

@@ -1,5 +1,5 @@
 -- What the threads of callers and workers gave back, and what they leave in one history.
-use Rattle.std.specs.Prelude.{◌≡◌, ℕ, suc, ◌+◌, ◌<◌, ◌≤◌, List, [], ◌∷◌, length, slice_get, Some, None, Bool, true, false, IfOk, IfErr}
+use Rattle.std.specs.Prelude.{◌≡◌, ℕ, suc, ◌+◌, ◌<◌, ◌≤◌, List, [], ◌∷◌, length, map, slice_get, Some, None, Bool, true, false, Result, Ok, Err, IfOk, IfErr}
 use Rattle.std.specs.declared.vec.Vec.{Vec}
 use Rattle.std.specs.declared.alloc.Global.{Global}
 use Rattle.cmwq_model.specs.declared.id.Who.{Who}
@@ -19,6 +19,7 @@ use Rattle.cmwq_rt.specs.Running.{Behavior, HasWorked, RunsInTurn, is_of_call}
 use Rattle.cmwq_rt.specs.Scripts.{Follows, HasFollowed}
 use Rattle.cmwq_scripts.specs.declared.ends.CallerEnd.{CallerEnd}
 use Rattle.cmwq_scripts.specs.declared.ends.WorkerEnd.{WorkerEnd}
+use Rattle.cmwq_scripts.specs.declared.gather.Ends.{Ends}
 use mathlib.Core.List.{IsPrefix}
 
 abbrev pub caller_at : ℕ → Who
@@ -90,3 +91,24 @@ abbrev pub is_silent : RunFault → Bool
 is_silent Unfinished = false
 is_silent NoPlace = false
 is_silent f = true
+
+-- all threads have ended, and none with a fault, or by one that tells so much
+pub record HaveRun {N : Type 0} (s : Layout) (does : Behavior) (scripts : List (Vec Call Global)) (ends : Ends N) : Type 0 where
+  pub callers : HaveEnded s scripts ends.callers.items
+  pub workers : HaveWorked s does ends.workers.items
+  pub idle : AreNewcomers s (length scripts) ends.idle.items
+  pub parts : ends.rest.parts + (length ends.callers.items + length ends.workers.items + length ends.idle.items) ≡ 128
+  pub amount : ends.rest.amount ≡ 0
+
+abbrev pub EndsAll : {N : Type 0} → Layout → Behavior → List (Vec Call Global) → Result (Ends N) RunFault → Type 0
+EndsAll s does scripts (Ok ends) = HaveRun s does scripts ends
+EndsAll s does scripts (Err f) = FailsAs s (map (λ x. x.items) scripts) f
+
+-- A history that these scripts leave: it is legal, each caller's entries follow its script but for so many calls in all that had no room, each worker's
+-- are runs of items, nobody else has any, and nothing active is left behind.
+pub record IsLeft (s : Layout) (does : Behavior) (scripts : List (List Call)) (full : ℕ) (history : List Entry) : Type 0 where
+  pub legal : IsLegal s (past_of history)
+  pub follow : AllFollow s 0 scripts full history
+  pub worked : AllWorked s does history
+  pub silent : AreSilent s (length scripts) history
+  pub finished : active_in s history ≡ 0

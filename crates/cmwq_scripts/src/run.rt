@@ -120,7 +120,7 @@ fn make_report<N: HubName, W: Work, R: Wait>(
 }
 
 // Runs all threads in a scope of their own.
-fn run_threads<'x, N: HubName + Send + Sync, W: Work + Sync, R: Threads + Wait + Sync>(
+pub(crate) fn run_threads<'x, N: HubName + Send + Sync, W: Work + Sync, R: Threads + Wait + Sync>(
     rt: &'x R,
     hub: &'x Hub<N>,
     alloc: Global,

@@ -41,10 +41,6 @@ last_text version entries = if needs_end version then end_text entries else []
 abbrev pub text_of_format : ℕ → Layout → List Entry → List ℕ
 text_of_format version s entries = body_text version s entries ++ last_text version (length entries)
 
--- as steps are written
-abbrev pub history_text : Layout → List Entry → List ℕ
-history_text s entries = text_of_format 2 s entries
-
 abbrev pub calls_version_text : ℕ → List ℕ
 calls_version_text version = if nat_le 3 version then calls_name ++ 10 ∷ [] else []
 

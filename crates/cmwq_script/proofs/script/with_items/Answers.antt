@@ -13,4 +13,4 @@ script_of-requires c =
     is_within t (queues_of c.args.names.now c.args.queues) (work_of c.args.items) (calls_of c.in-Ok.callers) c.requires.queues
     (ap (λ (k : Known). items_said k t) known ∙ c.requires.items)
     (ap (λ (k : Known). callers_said k t) known ∙ sym c.in_ok-callers.ensures ∙ ap (told calls_of) c.in-Ok.is)
-    c.args.top.now.limits
+    c.args.top.now.limits c.args.top.now.recorded

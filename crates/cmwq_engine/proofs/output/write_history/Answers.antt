@@ -3,7 +3,7 @@ use Rattle.std.proofs.lemmas.Result.{err_from_is_err_and}
 use Rattle.cmwq_io.proofs.KnownBytes.{Appends-trans}
 use Rattle.cmwq_base.proofs.Fronts.{front_before, front_after, front_whole}
 use Rattle.cmwq_text.specs.HistoryText.{entries_text, last_text}
-use Rattle.cmwq_engine.proofs.output.write_history_as.Goals as goal
+use Rattle.cmwq_engine.proofs.output.write_history.Goals as goal
 
 pub returns-in_err-write_shape-clause-err : goal.returns-in_err-write_shape-clause-err
 returns-in_err-write_shape-clause-err g c =
