@@ -12,10 +12,11 @@ use std::marker::Model;
 /// For so many entries memory is taken at first; for more, which only a file of calls of format 3 makes, as they come.
 const FIRST_ROOM: u64 = 1_000_000;
 
-/// Makes the steps of the calls of a file as they come, and keeps their entries.
+/// Makes the steps of the calls of a file as they come, and keeps their entries. What makes them is boxed, since the reader hands what gathers on by
+/// value with each line.
 #[derive(Drop)]
 pub struct Recording {
-    stepping: Stepping,
+    stepping: Box<Stepping>,
     history: Vec<Entry>,
 }
 
@@ -24,9 +25,9 @@ impl Model for Recording {
 
     ghost Value = { Stepped };
 
-    ghost view = { λ r. r.stepping };
+    ghost view = { λ r. r.stepping.value };
 
-    ghost invariant = { λ r. IsRecorded r.stepping r.history.items };
+    ghost invariant = { λ r. IsRecorded r.stepping.value r.history.items };
 }
 
 impl Recording {
@@ -56,6 +57,9 @@ impl Gather for Recording {
         let room = shape.counts().room.min(FIRST_ROOM);
         let history = Vec::with_capacity(alloc, room as usize)?;
         let stepping = Stepping::begin(alloc, shape)?;
+        let Ok(stepping) = Box::new(alloc, stepping) else {
+            return Err(NoMemory);
+        };
         Ok(Recording { stepping, history })
     }
 
