@@ -1,13 +1,32 @@
-/* Each field of a call comes back from the entry as it went in, so it lies where the crate reads and writes it; and the sizes are those that it proves. */
+/*
+ * The structs lie as the crate has them: their sizes and the offsets of all fields are those that it proves, when this is compiled; and each field of a
+ * call comes back from the entry as it went in, when it runs.
+ */
 #include "check.h"
-#include "cmwq_layout.h" /* tools/c writes it from the sizes that the crate proves */
+#include "cmwq_layout.h" /* tools/c writes it from what the crate proves */
 
+#define LIES(type, field, offset) _Static_assert(offsetof(struct type, field) == offset, #type "." #field);
+
+_Static_assert(sizeof(struct cmwq_book) == CMWQ_SIZE_Handle, "book");
 _Static_assert(sizeof(struct cmwq_shape) == CMWQ_SIZE_ShapeNumbers, "shape");
 _Static_assert(sizeof(struct cmwq_queue) == CMWQ_SIZE_QueueNumbers, "queue");
 _Static_assert(sizeof(struct cmwq_who) == CMWQ_SIZE_WhoNumbers, "who");
 _Static_assert(sizeof(struct cmwq_call) == CMWQ_SIZE_CallNumbers, "call");
 _Static_assert(sizeof(struct cmwq_reply) == CMWQ_SIZE_ReplyNumbers, "reply");
 _Static_assert(sizeof(struct cmwq_entry) == CMWQ_SIZE_EntryNumbers, "entry");
+
+CMWQ_FIELDS_ShapeNumbers(LIES, cmwq_shape)
+CMWQ_FIELDS_QueueNumbers(LIES, cmwq_queue)
+CMWQ_FIELDS_WhoNumbers(LIES, cmwq_who)
+CMWQ_FIELDS_CallNumbers(LIES, cmwq_call)
+CMWQ_FIELDS_ReplyNumbers(LIES, cmwq_reply)
+CMWQ_FIELDS_EntryNumbers(LIES, cmwq_entry)
+
+/* the crate has the pointer in a struct of its own, alone */
+CMWQ_FIELDS_Held(LIES, cmwq_book)
+#define held at
+CMWQ_FIELDS_Handle(LIES, cmwq_book)
+#undef held
 
 static bool same_call(const struct cmwq_call *a, const struct cmwq_call *b)
 {

@@ -1,6 +1,8 @@
-//! Callers that look at an item over and over, each on a thread of its own, without a lock: `bench/run` times them. The first argument is
-//! how many there are, from 1 to 4.
+//! What `bench/run` times beside the words of `cmwq`. At a number from 1 to 4: so many callers, each on a thread of its own, that look at
+//! an item over and over, without a lock. At `steps`: the calls of a file, made in a Book.
 #![tactic(auto)]
+
+mod steps;
 
 ghost use Rattle.std.specs.Prelude.{◌≡◌, ◌<◌};
 
@@ -107,11 +109,11 @@ fn measure<N: HubName + Send + Sync + 'static, R: Threads + Wait + Sync>(
 fn main(rt: HostRuntime) -> Result<()> {
     let alloc = rt.alloc();
     let args: Vec<String> = std::env::args(&rt)?.collect(alloc)?;
-    let callers: u8 = args
-        .get(1)
-        .context("how many callers?")?
-        .parse()
-        .context("how many callers?")?;
+    let what = args.get(1).context("how many callers, or `steps`?")?;
+    if what.as_str() == "steps" {
+        return steps::time(&rt);
+    }
+    let callers: u8 = what.parse().context("how many callers?")?;
     ensure!((1..=4).contains(&callers), "1 to 4 callers");
     let queues = vec![in alloc; QUEUE]?;
     let shape = Shape::new(COUNTS, queues).context("a shape outside the limits")?;

@@ -5,6 +5,7 @@ use crate::apart::Apart;
 use crate::held::Held;
 use crate::session::Session;
 use std::alloc::Global;
+use std::mem::size_of;
 
 /// A book, or none. All zeros is none.
 #[repr(C)]
@@ -14,6 +15,9 @@ pub struct Handle {
     pub live: bool,
     pub ghost same: { held.full ≡ live },
 }
+
+// the size that cmwq.h asserts too
+const _: () = prove!(size_of::<Handle>() == 16);
 
 impl Handle {
     /// None.

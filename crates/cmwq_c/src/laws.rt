@@ -1,5 +1,15 @@
 //! What the numbers of calls and replies can be relied on for.
+ghost use Rattle.std.specs.Prelude.{[], ◌∷◌};
 ghost use Rattle.cmwq_c.specs.Numbers.{CallsReadAgain, RepliesStandApart};
+ghost use Rattle.cmwq_c.specs.Offsets.{FieldsLieAt};
+ghost use Rattle.cmwq_c.specs.contracts.handle.Handle.{the_row as Handle};
+ghost use Rattle.cmwq_c.specs.contracts.held.Held.{the_row as Held};
+ghost use Rattle.cmwq_c.specs.contracts.numbers.ShapeNumbers.{the_row as ShapeNumbers};
+ghost use Rattle.cmwq_c.specs.contracts.numbers.QueueNumbers.{the_row as QueueNumbers};
+ghost use Rattle.cmwq_c.specs.contracts.numbers.WhoNumbers.{the_row as WhoNumbers};
+ghost use Rattle.cmwq_c.specs.contracts.numbers.CallNumbers.{the_row as CallNumbers};
+ghost use Rattle.cmwq_c.specs.contracts.numbers.ReplyNumbers.{the_row as ReplyNumbers};
+ghost use Rattle.cmwq_c.specs.contracts.numbers.EntryNumbers.{the_row as EntryNumbers};
 
 /// The numbers of each call are read again as it.
 #[tactic(auto, using(crate::proofs::Tables::calls_read_again))]
@@ -11,4 +21,17 @@ pub fn calls_read_again()
 #[tactic(auto, using(crate::proofs::Tables::replies_stand_apart))]
 pub fn replies_stand_apart()
     ensures { RepliesStandApart }
+{}
+
+/// Where the fields of each struct that C sees lie, in the order in which they are written. `tools/c` reads this table, and the header is held
+/// against it.
+pub fn fields_lie_as_told()
+    ensures book { FieldsLieAt Handle (0 ∷ 8 ∷ []) }
+    ensures pointer { FieldsLieAt Held (0 ∷ []) }
+    ensures shape { FieldsLieAt ShapeNumbers (0 ∷ 8 ∷ 12 ∷ 14 ∷ 15 ∷ 16 ∷ []) }
+    ensures queue { FieldsLieAt QueueNumbers (0 ∷ 2 ∷ 3 ∷ 4 ∷ []) }
+    ensures who { FieldsLieAt WhoNumbers (0 ∷ 1 ∷ 2 ∷ []) }
+    ensures call { FieldsLieAt CallNumbers (0 ∷ 8 ∷ 12 ∷ 14 ∷ 15 ∷ 16 ∷ 17 ∷ []) }
+    ensures reply { FieldsLieAt ReplyNumbers (0 ∷ 8 ∷ 16 ∷ 18 ∷ []) }
+    ensures entry { FieldsLieAt EntryNumbers (0 ∷ 8 ∷ 32 ∷ []) }
 {}

@@ -37,7 +37,7 @@ use crate::numbers::{
 use crate::status::{CLOSED, DONE, REFUSED};
 use crate::taken::{book_of, entry_of, foretell, line_of, line_step, number_step, serial_of};
 use cmwq_model::{ItemId, Number};
-pub use laws::{calls_read_again, replies_stand_apart};
+pub use laws::{calls_read_again, fields_lie_as_told, replies_stand_apart};
 use std::alloc::Global;
 use std::mem;
 
