@@ -31,22 +31,41 @@ void rattle_dealloc(void *at)
     free(at);
 }
 
+/* No other call takes memory: with none left all go on as ever. */
+static void others(struct cmwq_book *book)
+{
+    static const char line[] = "c1 flush 0";
+    struct cmwq_call call = {.kind = CMWQ_QUEUE};
+    struct cmwq_who who = {CMWQ_CALLER, 0, 0};
+    struct cmwq_reply reply;
+    struct cmwq_entry entry;
+    uint8_t out[CMWQ_LINE], bits;
+    uint64_t serial;
+    size_t written;
+
+    left = 0;
+    CHECK(cmwq_would(book, &call, &reply) == CMWQ_OK && cmwq_step(book, &call, &reply) == CMWQ_OK && reply.kind == CMWQ_YES);
+    CHECK(cmwq_step_line(book, (const uint8_t *)line, sizeof line - 1, out, sizeof out, &written) == CMWQ_OK);
+    CHECK(cmwq_entry(book, 1, &entry) == CMWQ_OK && entry.reply.kind == CMWQ_TICKET);
+    CHECK(cmwq_entry_line(book, 0, out, sizeof out, &written) == CMWQ_OK);
+    CHECK(cmwq_bits(book, 0, &bits) == CMWQ_OK && cmwq_serial(book, &who, &serial) == CMWQ_OK && !cmwq_ready(book, 1));
+    CHECK(cmwq_open_count(book) == 1 && cmwq_active_count(book) == 1 && cmwq_room_left(book) == 998 && cmwq_first(book) == 0);
+    CHECK(cmwq_forget(book) == CMWQ_OK && cmwq_len(book) == 2 && left == 0);
+}
+
 /* How many allocations an open takes. */
 static long opens(void)
 {
     struct cmwq_shape shape = {.room = 1000, .keep = 1000, .items = 20, .cpus = 2, .workers = 2, .callers = 3};
     struct cmwq_queue queues[3] = {{1, 0, 0, 0}, {2, 1, 0, 0}, {3, 0, 1, 1}};
-    struct cmwq_call call = {.kind = CMWQ_QUEUE};
-    struct cmwq_reply reply;
 
     for (long many = 0;; many++) {
         struct cmwq_book book = {0};
 
         left = many;
         if (cmwq_open(&book, &shape, queues, 3) == CMWQ_OK) {
-            left = 0;
-            CHECK(cmwq_step(&book, &call, &reply) == CMWQ_OK && reply.kind == CMWQ_YES && left == 0);
-            CHECK(cmwq_open(&book, &shape, queues, 3) == CMWQ_NO_MEMORY && book.live && cmwq_len(&book) == 1);
+            others(&book);
+            CHECK(cmwq_open(&book, &shape, queues, 3) == CMWQ_NO_MEMORY && book.live && cmwq_len(&book) == 2);
             cmwq_close(&book);
             CHECK(live == 0);
             return many;
