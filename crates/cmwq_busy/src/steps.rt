@@ -52,7 +52,10 @@ fn time_calls(rt: &HostRuntime, file: &CallFile) -> Result<(u32, Duration)>
 /// Reads a file of calls from the standard input, makes them, and prints how many had room and how long each took.
 pub fn time(rt: &HostRuntime) -> Result<()> {
     let file = read_calls(rt.alloc(), &mut FromStd::new(rt.stdin()))?;
-    ensure!(file.shape.counts().room <= 1_000_000, "a room beyond a million");
+    ensure!(
+        file.shape.counts().room <= 1_000_000,
+        "a room beyond a million"
+    );
     let (made, spent) = time_calls(rt, &file)?;
     println!(rt;
         "{made} calls, {} ns a call",

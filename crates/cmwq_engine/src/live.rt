@@ -84,11 +84,7 @@ fn answer<O: Sink>(output: &mut O, stage: &Stage<Stepping>) -> Result<bool, Refu
 }
 
 /// Writes the head where no call has.
-fn write_missing_head<O: Sink>(
-    output: &mut O,
-    version: u8,
-    calls: &Stepping,
-) -> Result<(), Refusal>
+fn write_missing_head<O: Sink>(output: &mut O, version: u8, calls: &Stepping) -> Result<(), Refusal>
     requires { 2 ≤ version }
     ensures ok { OnOk result (Appends (O.written output.old) (O.written output.new) (missing_head version calls.now.layout calls.now.calls)) }
     ensures err { OnErr result (AppendsFront (O.written output.old) (O.written output.new) (missing_head version calls.now.layout calls.now.calls)) }
