@@ -111,7 +111,10 @@ There are 1 to 4 CPUs, 1 to 8 workers in each of their two pools, room for up to
                                      ["drain",queue]          ["destroy",queue]
 
 An action is queue, delay, modify or cancel, or ["open",gate], or ["sleep_at",gate]: the run sleeps until the gate is open.
-There are at most 16 gates, and a name makes one. The output is the history of this one run, which `check` accepts."#;
+There are at most 16 gates, and a name makes one. The output is the history of this one run, which `check` accepts.
+
+With "format":3 beside "room" it is of format 3, and room may be up to 4,611,686,018,427,387,904. With "journal":64 it is
+written as it is made too, and so many entries are kept at a time."#;
 
 /// Whether the matches of a word have the flag of this name.
 fn has_flag(matches: &ArgMatches, name: &str) -> bool
