@@ -72,12 +72,12 @@ class Book:
 
 
 def replayed(lines):
-    """How many entries a history in format 2 has; each is what its call gives."""
+    """How many entries a history in format 2 or 3 has; each is what its call gives."""
     cpus, workers, callers, items, room = map(int, lines[1].split()[1:])
     heads = [line.split() for line in lines[2:] if line.startswith('wq ')]
     queues = [Queue(int(most), 'h' in flags, 'i' in flags, 'f' in flags) for _, most, flags in heads]
-    entries = lines[2 + len(heads):]
-    with Book(Shape(room, max(room, 1), items, cpus, workers, callers), queues) as book:
+    entries = [line for line in lines[2 + len(heads):] if not line.startswith('end ')]
+    with Book(Shape(room, max(len(entries), 1), items, cpus, workers, callers), queues) as book:
         for entry in entries:
             who, _, rest = entry.split(' ', 2)
             assert book.step(who + ' ' + rest.split(' = ')[0]) == entry + '\n', entry
