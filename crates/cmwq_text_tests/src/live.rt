@@ -160,9 +160,9 @@ fn other_files_of_calls_keep_their_limits(rt: HostRuntime) {
 }
 
 /// Over a source and an output: the call of each after so many fails.
-fn check_faulty(rt: &(impl Abort + AllocGlobal), reads: u64, writes: u64, wanted: Ended) {
-    let mut input = FailsAt::new(Memory::reader(CALLS), reads + 1);
-    let mut output = FailsAt::new(room(rt), writes + 1);
+fn check_faulty(rt: &(impl Abort + AllocGlobal), reads: u32, writes: u32, wanted: Ended) {
+    let mut input = FailsAt::new(Memory::reader(CALLS), u64::from(reads) + 1);
+    let mut output = FailsAt::new(room(rt), u64::from(writes) + 1);
     let mut errors = room(rt);
     let status = live(rt.alloc(), &mut input, &mut output, &mut errors);
     same(
