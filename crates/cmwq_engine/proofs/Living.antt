@@ -1,7 +1,7 @@
 -- What a live run keeps from line to line, and how it ends at each.
-use Rattle.std.proofs.Common.{◌≡◌, ◌⊎◌, inl, inr, ◌+◌, ◌≤◌, ◌==◌, ℕ, zero, suc, Bool, true, false, List, [], ◌∷◌, ◌++◌, length, take, Result, Ok, Err, Option, Some, None, nat_le, refl, sym, ap, ◌∙◌, arith, subst, append_assoc, append-nil}
+use Rattle.std.proofs.Common.{◌≡◌, inl, inr, ◌+◌, ◌≤◌, ◌==◌, ℕ, Bool, true, false, List, [], ◌∷◌, ◌++◌, length, take, Result, Ok, Err, Option, Some, None, nat_le, refl, sym, ap, ◌∙◌, arith, subst, append_assoc, append-nil}
 use Rattle.std.specs.Prelude.{if◌then◌else◌, reverse, IfSome}
-use Rattle.std.specs.Io.KnownBytes.{Appends, Keeps, prepend_known}
+use Rattle.std.specs.Io.KnownBytes.{Appends, prepend_known}
 use Rattle.std.proofs.Math.Seq.{take-append-add}
 use Rattle.std.proofs.lemmas.Bool.Decides.{nat_tests}
 use Rattle.std.proofs.lemmas.List.{length-append, length-reverse}
@@ -17,7 +17,7 @@ use Rattle.cmwq_model.specs.declared.shape.QueueShape.{QueueShape}
 use Rattle.cmwq_model.specs.Layout.{Layout, layout_of, is_layout}
 use Rattle.cmwq_model.specs.Room.{Steps, steps}
 use Rattle.cmwq_text.specs.Formats.{line_limit}
-use Rattle.cmwq_text.specs.HistoryText.{head_text, body_text, last_text}
+use Rattle.cmwq_text.specs.HistoryText.{head_text, last_text}
 use Rattle.cmwq_base.specs.declared.refusal.Refusal.{Refusal}
 use Rattle.cmwq_base.specs.declared.refusal.Refusal.TheVariants as refusal
 use Rattle.cmwq_base.specs.Gives.{Refuses, Fails}
@@ -28,8 +28,8 @@ use Rattle.cmwq_base.proofs.Texts.{pieces_fed, pieces_some, whole_found}
 use Rattle.cmwq_base.proofs.Fronts.{front_after}
 use Rattle.cmwq_base.proofs.Progress.{Progress, starts, line_grows, whole_goes}
 use Rattle.cmwq_engine.specs.Ends.{written_version}
-use Rattle.cmwq_engine.specs.Step.{steps_in, answer_text, StepEnds}
-use Rattle.cmwq_engine.specs.Live.{or_stay, reached, stage_after, last_stage, live_text, left_out_by, IsFirstFull, LiveEnds, lived, new_of, rest_text}
+use Rattle.cmwq_engine.specs.Step.{steps_in, answer_text}
+use Rattle.cmwq_engine.specs.Live.{or_stay, reached, stage_after, last_stage, live_text, left_out_by, LiveEnds, lived, new_of, rest_text}
 use Rattle.cmwq_engine.proofs.Lived.{lived_steps}
 use Rattle.cmwq_engine.proofs.Reached.{Calls, IsBegun, line_wrote, first_reached, reached_stays, reached_long, reached_cut, reached_end}
 

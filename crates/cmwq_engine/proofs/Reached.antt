@@ -23,7 +23,7 @@ use Rattle.cmwq_base.specs.Files.{Stage, Kind, begin, opened, head, body, ended,
 use Rattle.cmwq_base.specs.Kinds.{calls_kind}
 use Rattle.cmwq_base.proofs.Texts.{pieces_fed, pieces_last, pieces_some, whole_found, cut_found, end_found, long_found}
 use Rattle.cmwq_engine.specs.Ends.{written_version}
-use Rattle.cmwq_engine.specs.Live.{or_stay, reached, live_text, left_out_by, lived, made_text, first_text, new_text, new_of}
+use Rattle.cmwq_engine.specs.Live.{or_stay, reached, live_text, left_out_by, lived, made_text, first_text, new_of}
 use Rattle.cmwq_engine.proofs.Lived.{lived_steps, lived_text}
 
 module _ {X : Type 0} (k : Kind X) (n : ℕ) (stage : Stage X) where

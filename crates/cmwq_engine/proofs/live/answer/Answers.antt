@@ -1,4 +1,4 @@
-use Rattle.std.proofs.Common.{◌≡◌, ◌≤◌, ◌<◌, ◌∙◌, ℕ, ap, arith, sym}
+use Rattle.std.proofs.Common.{◌∙◌, ap, arith}
 use Rattle.cmwq_model.specs.Room.{Steps}
 use Rattle.cmwq_engine.proofs.Lived.{lived_steps}
 use Rattle.cmwq_engine.proofs.live.answer.Goals as goal
