@@ -1,5 +1,5 @@
 -- What a fault says: a call that answers one has made no entry, or it had begun and tells its ticket.
-use Rattle.std.specs.Prelude.{◌≡◌, ◌≢◌, ◌⊎◌, ℕ, ◌<◌, true, false, [], length, None}
+use Rattle.std.specs.Prelude.{◌≡◌, ◌≢◌, ◌⊎◌, ℕ, ◌<◌, Bool, true, false, [], length, None}
 use Rattle.cmwq_model.specs.declared.call.Call.{Call}
 use Rattle.cmwq_model.specs.Layout.{Layout}
 use Rattle.cmwq_model.specs.Legal.{past_of}
@@ -25,6 +25,10 @@ Says s w call NoPlace = ⊥
 Says s w call Closed = is_caller w.who ≡ true
 Says s w call (Stranger own book) = Differs w own book
 Says s w call NoThread = ⊥
+
+abbrev pub is_full : RunFault → Bool
+is_full Full = true
+is_full f = false
 
 -- a call of one entry that answered this fault: it made none
 abbrev pub Refused : Layout → Seated → Call → RunFault → Seated → Type 0

@@ -14,7 +14,7 @@ ghost use Rattle.cmwq_model.specs.Tickets.{is_done};
 ghost use Rattle.cmwq_desk.specs.Seats.{Seated, Gains, is_caller};
 ghost use Rattle.cmwq_desk.specs.Held.{Held, opened, IsOpenTo, GoesOn, Leaves, is_over, active_in};
 ghost use Rattle.cmwq_desk.specs.Calls.{Extends, own_entry};
-ghost use Rattle.cmwq_desk.specs.Faults.{Says, Refused, IsStranger};
+ghost use Rattle.cmwq_desk.specs.Faults.{Says, Refused, IsStranger, is_full};
 ghost use Rattle.cmwq_desk.specs.Whole.{Completes, BrokeOff, Stops, EndsOwn, is_drain};
 ghost use Rattle.cmwq_desk.specs.Steps.{InStep, TellsFirst, Lacks, HasFired, HasFiredSome, HasEnded, HasEndedSome, WouldNot, IsKept, is_start, is_retired, is_nothing};
 ghost use Rattle.cmwq_desk.specs.Starts.{StartsOne};
@@ -349,6 +349,7 @@ impl<N: HubName> Desk<N> {
         ensures none { IfOk result (λ o. MatchOption o ((self.new ≡ self.old) × WouldNot is_start N.layout self.old.history seat.old calls.Take) (λ _. GoesOn self.old self.new)) }
         ensures open { IfOk result (λ _. self.old.failed ≡ false) }
         ensures refused { IfErr result (λ f. Refused N.layout seat.old calls.Take f seat.new) }
+        ensures room { IfErr result (λ f. is_full f ≡ false) }
         ensures first { IfErr result (λ f. TellsFirst self.old seat.old f) }
         ensures leaves { IfErr result (λ f. Leaves self.old f self.new) }
     {
@@ -380,6 +381,7 @@ impl<N: HubName> Desk<N> {
         ensures kept { IfOk result (λ b. MatchBool b (GoesOn self.old self.new) ((self.new ≡ self.old) × IsKept N.layout self.old.history seat.old)) }
         ensures open { IfOk result (λ _. self.old.failed ≡ false) }
         ensures refused { IfErr result (λ f. Refused N.layout seat.old calls.Retire f seat.new) }
+        ensures room { IfErr result (λ f. is_full f ≡ false) }
         ensures first { IfErr result (λ f. TellsFirst self.old seat.old f) }
         ensures leaves { IfErr result (λ f. Leaves self.old f self.new) }
     {

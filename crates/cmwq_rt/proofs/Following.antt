@@ -13,13 +13,13 @@ use Rattle.cmwq_model.specs.Layout.{Layout}
 use Rattle.cmwq_model.specs.Legal.{past_of}
 use Rattle.cmwq_model.specs.Room.{has_room}
 use Rattle.cmwq_desk.specs.Seats.{Seated, Gains, made_by}
-use Rattle.cmwq_desk.specs.Faults.{Refused}
+use Rattle.cmwq_desk.specs.Faults.{Refused, is_full}
 use Rattle.cmwq_desk.specs.declared.fault.RunFault.{RunFault}
 use Rattle.cmwq_desk.specs.declared.fault.RunFault.TheVariants.{NoMemory, Full, Unfinished, NoPlace, Closed, Stranger, NoThread}
 use Rattle.cmwq_desk.specs.Whole.{Completes, BrokeOff, Makes, Behind, EndsTicket, Fires, HadNoRoom, is_tick, is_drain, ticket_given}
 use Rattle.cmwq_desk.proofs.Beginnings.{prefix_self, prefix_trans}
 use Rattle.cmwq_desk.proofs.Entries.{gains_none, gains_more}
-use Rattle.cmwq_rt.specs.Scripts.{Follows, HasFollowed, HasStopped, is_full}
+use Rattle.cmwq_rt.specs.Scripts.{Follows, HasFollowed, HasStopped}
 
 module _ (s : Layout) (who : Who) (old new : List Entry) (more : IsPrefix old new) where
   -- what holds of a history holds of a longer one

@@ -14,7 +14,7 @@ use Rattle.cmwq_desk.specs.Calls.{Extends}
 use Rattle.cmwq_desk.specs.Settled.{Settles}
 use Rattle.cmwq_desk.specs.Starts.{StartsOne}
 use Rattle.cmwq_desk.specs.declared.fault.RunFault.{RunFault}
-use Rattle.cmwq_desk.specs.declared.fault.RunFault.TheVariants.{Full, Unfinished, NoPlace, NoThread}
+use Rattle.cmwq_desk.specs.declared.fault.RunFault.TheVariants.{NoMemory, Full, Closed, Stranger}
 
 -- a worker that runs an item, and the fault that one of its calls has answered since the run began, want of room aside
 pub record Running : Type 0 where
@@ -27,12 +27,13 @@ fault_after (Ok r) old = old
 fault_after (Err Full) old = old
 fault_after (Err f) old = Some f
 
--- whether a call may answer this fault: the others are those of who makes seats and threads
-abbrev pub is_of_call : RunFault → Bool
-is_of_call Unfinished = false
-is_of_call NoPlace = false
-is_of_call NoThread = false
-is_of_call f = true
+-- whether a script or a worker's loop may break off with this fault: want of room leaves a call out, and the others are those of who makes
+-- seats and threads
+abbrev pub breaks_off : RunFault → Bool
+breaks_off (NoMemory ticket) = true
+breaks_off Closed = true
+breaks_off (Stranger own book) = true
+breaks_off f = false
 
 -- one entry was made, by this call
 abbrev pub MakesOne : Layout → Seated → Call → Seated → Type 0

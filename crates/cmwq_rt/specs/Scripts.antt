@@ -6,9 +6,9 @@ use Rattle.cmwq_model.specs.declared.reply.Reply.{Reply}
 use Rattle.cmwq_model.specs.declared.entry.Entry.{Entry}
 use Rattle.cmwq_model.specs.Layout.{Layout}
 use Rattle.cmwq_desk.specs.Seats.{Seated, Gains, made_by}
+use Rattle.cmwq_desk.specs.Faults.{is_full}
 use Rattle.cmwq_desk.specs.Whole.{Makes, HadNoRoom, BrokeOff}
 use Rattle.cmwq_desk.specs.declared.fault.RunFault.{RunFault}
-use Rattle.cmwq_desk.specs.declared.fault.RunFault.TheVariants.{Full}
 
 -- The caller's entries in a history are these, and then for each call of the script, in order, those that it makes; or none where there was
 -- no room for the call, so many times in all.
@@ -23,10 +23,6 @@ pub record HasFollowed (s : Layout) (script : List Call) (full : ℕ) (v w : Sea
   pub entries : List Entry
   pub gains : Gains v entries w
   pub follows : Follows s v.who w.seen (made_by v.who v.seen) script (made_by v.who v.seen ++ entries) full
-
-abbrev pub is_full : RunFault → Bool
-is_full Full = true
-is_full f = false
 
 -- A caller has broken off a script: it followed a front of it, and the next call answered this fault, which isn't want of room.
 pub record HasStopped (s : Layout) (script : List Call) (f : RunFault) (v w : Seated) : Type 0 where

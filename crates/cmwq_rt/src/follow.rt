@@ -2,9 +2,10 @@
 ghost use Rattle.std.specs.Prelude.{◌≡◌, ◌+◌, ◌<◌, ◌^◌, length, true, IfOk, IfErr, All};
 ghost use Rattle.cmwq_model.specs.Layout.{has_numbers, is_callers};
 ghost use Rattle.cmwq_model.specs.Scripted.{IsScripted};
+ghost use Rattle.cmwq_desk.specs.Faults.{is_full};
 ghost use Rattle.cmwq_desk.specs.Whole.{Completes, BrokeOff};
-ghost use Rattle.cmwq_rt.specs.Running.{is_of_call};
-ghost use Rattle.cmwq_rt.specs.Scripts.{HasFollowed, HasStopped, is_full};
+ghost use Rattle.cmwq_rt.specs.Running.{breaks_off};
+ghost use Rattle.cmwq_rt.specs.Scripts.{HasFollowed, HasStopped};
 
 use crate::caller::Caller;
 use crate::hub::Hub;
@@ -46,7 +47,7 @@ impl<N: HubName> Caller<N> {
     ///
     /// # Errors
     /// Those of the calls but `Full`: the script breaks off at the first call that answers one.
-    #[tactic(auto, using(crate::proofs::Running::broke_is_of_call))]
+    #[tactic(auto, using(crate::proofs::Running::broke_breaks_off))]
     pub fn follow<R: Wait>(
         &mut self,
         rt: &R,
@@ -58,7 +59,7 @@ impl<N: HubName> Caller<N> {
         ensures followed { IfOk result (λ t. HasFollowed N.layout script.now t.1 self.old self.new) }
         ensures count { IfOk result (λ t. self.new.serial ≡ self.old.serial + t.0) }
         ensures stopped { IfErr result (λ f. HasStopped N.layout script.now f self.old self.new) }
-        ensures fault { IfErr result (λ f. is_of_call f ≡ true) }
+        ensures fault { IfErr result (λ f. breaks_off f ≡ true) }
         ensures same { self.new.who ≡ self.old.who }
     {
         let first = self.serial();

@@ -10,7 +10,7 @@ ghost use Rattle.cmwq_desk.specs.Calls.{Extends};
 ghost use Rattle.cmwq_desk.specs.Faults.{Refused};
 ghost use Rattle.cmwq_desk.specs.Steps.{HasEnded, HasEndedSome};
 ghost use Rattle.cmwq_rt.specs.Later.{Later};
-ghost use Rattle.cmwq_rt.specs.Running.{IsNext, is_of_call};
+ghost use Rattle.cmwq_rt.specs.Running.{IsNext, breaks_off};
 ghost use Rattle.cmwq_desk.specs.Settled.{AllSettle};
 ghost use Rattle.cmwq_rt.specs.Ending.{EndsAs, OneIsStranger};
 
@@ -258,7 +258,7 @@ impl<N: HubName> Hub<N> {
     }
 
     /// Sleeps until the worker may start a queueing, or may go: none, as nothing active is open; and lets the lock go.
-    #[tactic(auto, using(crate::proofs::Running::refused_is_of_call, crate::proofs::Running::stranger_is_of_call))]
+    #[tactic(auto, using(crate::proofs::Running::refused_breaks_off, crate::proofs::Running::stranger_breaks_off))]
     pub(crate) fn until_start<R: Wait>(
         &self,
         rt: &R,
@@ -266,7 +266,7 @@ impl<N: HubName> Hub<N> {
         seat: &mut Seat<N>,
     ) -> Result<Option<ItemId>, RunFault>
         requires { is_caller seat.old.who ≡ false }
-        ensures fault { IfErr result (λ f. is_of_call f ≡ true) }
+        ensures fault { IfErr result (λ f. breaks_off f ≡ true) }
         ensures next { IfOk result (λ o. IsNext N.layout seat.old o seat.new) }
         ensures later { Later seat.old seat.new }
     {

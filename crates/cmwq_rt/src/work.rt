@@ -4,10 +4,10 @@ ghost use Rattle.cmwq_model.specs.Layout.{fits, has_numbers, is_workers};
 ghost use Rattle.cmwq_model.specs.declared.call.Call.TheVariants as calls;
 ghost use Rattle.cmwq_desk.specs.Seats.{is_caller};
 ghost use Rattle.cmwq_desk.specs.Calls.{Extends};
-ghost use Rattle.cmwq_desk.specs.Faults.{Refused};
+ghost use Rattle.cmwq_desk.specs.Faults.{Refused, is_full};
 ghost use Rattle.cmwq_rt.specs.Later.{Later};
 ghost use Rattle.cmwq_rt.specs.Starting.{HasStarted};
-ghost use Rattle.cmwq_rt.specs.Running.{RunsItem, MakesOne, fault_after, is_of_call};
+ghost use Rattle.cmwq_rt.specs.Running.{RunsItem, MakesOne, fault_after, breaks_off};
 
 use crate::hub::Hub;
 use cmwq_desk::{RunFault, Seat};
@@ -31,13 +31,13 @@ pub struct RunCtx<'a, N: HubName, R> {
 impl<'a, N: HubName, R> Model for RunCtx<'a, N, R> {
     ghost use Rattle.std.specs.Prelude.{◌≡◌, false, true, IfSome};
     ghost use Rattle.cmwq_desk.specs.Seats.{is_caller};
-    ghost use Rattle.cmwq_rt.specs.Running.{Running, is_of_call};
+    ghost use Rattle.cmwq_rt.specs.Running.{Running, breaks_off};
 
     ghost Value = { Running };
 
     ghost view = { λ c. record { seat = c.seat; fault = c.fault } };
 
-    ghost invariant = { λ c. (is_caller c.seat.who ≡ false) × IfSome c.fault (λ f. is_of_call f ≡ true) };
+    ghost invariant = { λ c. (is_caller c.seat.who ≡ false) × IfSome c.fault (λ f. breaks_off f ≡ true) };
 }
 
 /// The work functions of all items (the kernel's `work_func_t`).
@@ -75,7 +75,7 @@ impl<'a, N: HubName, R: Wait> RunCtx<'a, N, R> {
     }
 
     /// Makes a worker's call: one entry, or none at a fault.
-    #[tactic(auto, using(crate::proofs::Later::later_made, crate::proofs::Later::later_refused, crate::proofs::Running::refused_is_of_call))]
+    #[tactic(auto, using(crate::proofs::Later::later_made, crate::proofs::Later::later_refused, crate::proofs::Running::refused_breaks_off))]
     fn make(&mut self, call: Call) -> Result<Reply, RunFault>
         requires workers { is_workers call ≡ true }
         requires numbers { has_numbers N.layout call ≡ true }
@@ -204,20 +204,35 @@ impl<'a, N: HubName, R: Wait> RunCtx<'a, N, R> {
 
 impl<'a, N: HubName, R: Wait> RunCtx<'a, N, R> {
     /// Wakes a run that came back asleep. One that a fault broke off answers it.
-    #[tactic(auto, using(crate::proofs::Later::later_self, crate::proofs::Running::refused_is_of_call))]
+    #[tactic(auto, using(crate::proofs::Later::later_self, crate::proofs::Running::refused_breaks_off))]
     fn end_run(&mut self) -> Result<(), RunFault>
         ensures later { Later self.old.seat self.new.seat }
-        ensures fault { IfErr result (λ f. is_of_call f ≡ true) }
+        ensures fault { IfErr result (λ f. breaks_off f ≡ true) }
         ensures whole { IfOk result (λ _. self.old.fault ≡ None) }
         ensures wakes { IfOk result (λ _. (self.new.seat ≡ self.old.seat) ⊎ MakesOne N.layout self.old.seat calls.Wake self.new.seat) }
     {
         if let Some(fault) = self.fault {
             return Err(fault);
         }
-        if self.is_asleep {
-            self.wake()?;
+        if !self.is_asleep {
+            return Ok(());
         }
-        Ok(())
+        match self.wake() {
+            Ok(_) => Ok(()),
+            Err(fault) => Err(with_room(fault)),
+        }
+    }
+}
+
+/// The fault of a call that ends a run. Its room was reserved when the queueing began: should there be none, the hub can't go on, and that is
+/// told as want of memory.
+pub(crate) fn with_room(fault: RunFault) -> RunFault
+    requires { is_full fault ≡ false → breaks_off fault ≡ true }
+    ensures { breaks_off result ≡ true }
+{
+    match fault {
+        RunFault::Full => RunFault::NoMemory { ticket: None },
+        _ => fault,
     }
 }
 
@@ -234,7 +249,7 @@ fn run_once<N: HubName, R: Wait, W: Work>(
     requires started { HasStarted seat item }
     ensures later { Later seat result.0 }
     ensures ran { IfOk result.1 (λ _. RunsItem N.layout (W.does work.now N.layout) item seat result.0) }
-    ensures fault { IfErr result.1 (λ f. is_of_call f ≡ true) }
+    ensures fault { IfErr result.1 (λ f. breaks_off f ≡ true) }
 {
     let mut context = RunCtx {
         rt,
@@ -268,14 +283,14 @@ pub(crate) fn run_in<N: HubName, R: Wait, W: Work>(
     requires started { HasStarted seat.old item }
     ensures later { Later seat.old seat.new }
     ensures ran { IfOk result (λ _. RunsItem N.layout (W.does work.now N.layout) item seat.old seat.new) }
-    ensures fault { IfErr result (λ f. is_of_call f ≡ true) }
+    ensures fault { IfErr result (λ f. breaks_off f ≡ true) }
 {
     replace_with(
         seat,
         (),
         |seat, _nothing| -> (Seat<N>, Result<(), RunFault>)
             requires { (is_caller seat.who ≡ false) × (item.0 < N.layout.items) × HasStarted seat item }
-            ensures { Later seat result.0 × IfOk result.1 (λ _. RunsItem N.layout (W.does work.entry.now N.layout) item seat result.0) × IfErr result.1 (λ f. is_of_call f ≡ true) }
+            ensures { Later seat result.0 × IfOk result.1 (λ _. RunsItem N.layout (W.does work.entry.now N.layout) item seat result.0) × IfErr result.1 (λ f. breaks_off f ≡ true) }
         { run_once(rt, hub, seat, work, item) },
     )
 }

@@ -6,11 +6,11 @@ ghost use Rattle.cmwq_desk.specs.Seats.{Agree, Seated, is_caller};
 ghost use Rattle.cmwq_desk.specs.Held.{active_in};
 ghost use Rattle.cmwq_desk.specs.Faults.{IsStranger};
 ghost use Rattle.cmwq_rt.specs.Later.{Later};
-ghost use Rattle.cmwq_rt.specs.Running.{EndsRun, HasWorked, IsNext, is_of_call};
+ghost use Rattle.cmwq_rt.specs.Running.{EndsRun, HasWorked, IsNext, breaks_off};
 ghost use Rattle.cmwq_desk.specs.Settled.{Settles};
 
 use crate::hub::Hub;
-use crate::work::{Work, run_in};
+use crate::work::{Work, run_in, with_room};
 use cmwq_desk::{Desk, RunFault, Seat};
 use cmwq_model::{Call, ItemId};
 use cmwq_versions::HubName;
@@ -95,7 +95,7 @@ impl<N: HubName> Hub<N> {
         worker: &mut Worker<N>,
         work: &W,
     ) -> Result<u64, RunFault>
-        ensures fault { IfErr result (λ f. is_of_call f ≡ true) }
+        ensures fault { IfErr result (λ f. breaks_off f ≡ true) }
         ensures worked { IfOk result (λ _. HasWorked N.layout (W.does work.now N.layout) worker.old worker.new) }
         ensures idle { IfOk result (λ _. active_in N.layout worker.new.seen ≡ 0) }
         ensures count { IfOk result (λ n. worker.new.serial ≡ worker.old.serial + n) }
@@ -124,7 +124,7 @@ impl<N: HubName> Hub<N> {
         work: &W,
     ) -> Result<(), RunFault>
         requires { is_caller seat.old.who ≡ false }
-        ensures fault { IfErr result (λ f. is_of_call f ≡ true) }
+        ensures fault { IfErr result (λ f. breaks_off f ≡ true) }
         ensures worked { IfOk result (λ _. HasWorked N.layout (W.does work.now N.layout) seat.old seat.new) }
         ensures idle { IfOk result (λ _. active_in N.layout seat.new.seen ≡ 0) }
         ensures later { Later seat.old seat.new }
@@ -141,17 +141,17 @@ impl<N: HubName> Hub<N> {
     }
 
     /// Ends the run, and starts the next one: in one hold of the lock, if there is one now.
-    #[tactic(auto, using(crate::proofs::Running::refused_is_of_call))]
+    #[tactic(auto, using(crate::proofs::Running::refused_breaks_off))]
     fn go_on<R: Wait>(&self, rt: &R, seat: &mut Seat<N>) -> Result<Option<ItemId>, RunFault>
         requires { is_caller seat.old.who ≡ false }
-        ensures fault { IfErr result (λ f. is_of_call f ≡ true) }
+        ensures fault { IfErr result (λ f. breaks_off f ≡ true) }
         ensures next { IfOk result (λ o. (ended : Seated) × EndsRun N.layout seat.old ended × IsNext N.layout ended o seat.new) }
         ensures later { Later seat.old seat.new }
     {
         let mut desk = self.spacious(rt, self.lock(rt), seat.who(), 1);
         if let Err(fault) = desk.call(rt, seat, Call::Finish) {
             self.leave(desk);
-            return Err(fault);
+            return Err(with_room(fault));
         }
         desk = self.spacious(rt, desk, seat.who(), 1);
         if let Err(fault) = desk.retire(rt, seat) {

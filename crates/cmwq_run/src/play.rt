@@ -2,11 +2,10 @@
 ghost use Rattle.std.specs.Prelude.{◌≡◌, ◌<◌, true, false, IfOk, IfErr, None, Some};
 ghost use Rattle.cmwq_model.specs.Layout.{has_numbers};
 ghost use Rattle.cmwq_desk.specs.Calls.{Extends};
-ghost use Rattle.cmwq_desk.specs.Faults.{Refused};
+ghost use Rattle.cmwq_desk.specs.Faults.{Refused, is_full};
 ghost use Rattle.cmwq_desk.specs.declared.fault.RunFault.TheVariants.{Full};
 ghost use Rattle.cmwq_rt.specs.Later.{Later};
 ghost use Rattle.cmwq_rt.specs.Running.{fault_after};
-ghost use Rattle.cmwq_rt.specs.Scripts.{is_full};
 ghost use Rattle.cmwq_script.specs.Scripts.{is_own};
 ghost use Rattle.cmwq_script.specs.declared.action.Action.TheVariants as actions;
 ghost use Rattle.cmwq_run.specs.Played.{Acts, ActInTurn, SleepsOnce};

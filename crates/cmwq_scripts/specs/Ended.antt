@@ -13,9 +13,9 @@ use Rattle.cmwq_model.specs.Legal.{past_of, IsLegal}
 use Rattle.cmwq_desk.specs.Seats.{Seated, newcomer, made_by}
 use Rattle.cmwq_desk.specs.Held.{active_in}
 use Rattle.cmwq_desk.specs.declared.fault.RunFault.{RunFault}
-use Rattle.cmwq_desk.specs.declared.fault.RunFault.TheVariants.{Unfinished, NoPlace}
+use Rattle.cmwq_desk.specs.declared.fault.RunFault.TheVariants.{Full, Unfinished, NoPlace}
 use Rattle.cmwq_rt.specs.Places.{worker_at}
-use Rattle.cmwq_rt.specs.Running.{Behavior, HasWorked, RunsInTurn, is_of_call}
+use Rattle.cmwq_rt.specs.Running.{Behavior, HasWorked, RunsInTurn, breaks_off}
 use Rattle.cmwq_rt.specs.Scripts.{Follows, HasFollowed}
 use Rattle.cmwq_scripts.specs.declared.ends.CallerEnd.{CallerEnd}
 use Rattle.cmwq_scripts.specs.declared.ends.WorkerEnd.{WorkerEnd}
@@ -32,7 +32,7 @@ FollowedAt s k script full v = HasFollowed s script full (newcomer (caller_at k)
 -- one end for each script, in order: who gave no fault has followed it
 pub record HaveEnded {N : Type 0} (s : Layout) (scripts : List (Vec Call Global)) (ends : List (CallerEnd N)) : Type 0 where
   pub each : length ends ≡ length scripts
-  pub faults : (k : ℕ) (e : CallerEnd N) → slice_get ends k ≡ Some e → IfErr e.outcome (λ f. is_of_call f ≡ true)
+  pub faults : (k : ℕ) (e : CallerEnd N) → slice_get ends k ≡ Some e → IfErr e.outcome (λ f. breaks_off f ≡ true)
   pub followed : (k : ℕ) (e : CallerEnd N) (x : Vec Call Global) → slice_get ends k ≡ Some e → slice_get scripts k ≡ Some x → IfOk e.outcome (λ t. FollowedAt s k x.items t.1 e.caller)
 
 -- the entries of the caller of this place in a history follow the script
@@ -60,7 +60,7 @@ WorkedFrom s does v w = (w.who ≡ v.who) × HasWorked s does v w
 -- one end for each worker of the shape, in order: who gave no fault has worked
 pub record HaveWorked {N : Type 0} (s : Layout) (does : Behavior) (ends : List (WorkerEnd N)) : Type 0 where
   pub all : worker_at s (length ends) ≡ None
-  pub faults : (k : ℕ) (e : WorkerEnd N) → slice_get ends k ≡ Some e → IfErr e.outcome (λ f. is_of_call f ≡ true)
+  pub faults : (k : ℕ) (e : WorkerEnd N) → slice_get ends k ≡ Some e → IfErr e.outcome (λ f. breaks_off f ≡ true)
   pub worked : (k : ℕ) (e : WorkerEnd N) → slice_get ends k ≡ Some e → (x : WorkerId) → worker_at s k ≡ Some x
       → IfOk e.outcome (λ _. WorkedFrom s does (newcomer (Worker x)) e.worker)
 
@@ -80,16 +80,18 @@ pub record AllWorked (s : Layout) (does : Behavior) (history : List Entry) : Typ
 abbrev pub IsUnfinished : Layout → List (List Call) → List Entry → Type 0
 IsUnfinished s scripts history = (full : ℕ) × AllFollow s 0 scripts full history × (0 < active_in s history)
 
--- what a fault tells of a run: a legal history that is unfinished, or that there are more scripts than callers
+-- what a fault tells of a run: a legal history that is unfinished, or that there are more scripts than callers; calls without room are left out
 abbrev pub FailsAs : Layout → List (List Call) → RunFault → Type 0
 FailsAs s scripts Unfinished = (history : List Entry) × IsLegal s (past_of history) × IsUnfinished s scripts history
 FailsAs s scripts NoPlace = s.callers < length scripts
+FailsAs s scripts Full = ⊥
 FailsAs s scripts f = Unit {0}
 
 -- a fault that says nothing of what callers and workers did
 abbrev pub is_silent : RunFault → Bool
 is_silent Unfinished = false
 is_silent NoPlace = false
+is_silent Full = false
 is_silent f = true
 
 -- all threads have ended, and none with a fault, or by one that tells so much

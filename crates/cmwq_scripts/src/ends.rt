@@ -1,6 +1,6 @@
 //! What the threads of callers and workers run, and what they give back.
 ghost use Rattle.std.specs.Prelude.{◌≡◌, ◌<◌, ◌^◌, [], length, true, All, IfOk, IfErr};
-ghost use Rattle.cmwq_rt.specs.Running.{is_of_call};
+ghost use Rattle.cmwq_rt.specs.Running.{breaks_off};
 ghost use Rattle.cmwq_model.specs.Scripted.{IsScripted};
 ghost use Rattle.cmwq_scripts.specs.Ended.{FollowedAt, WorkedFrom, caller_at};
 
@@ -28,10 +28,10 @@ pub struct FollowsScript<N: HubName> {
 
 impl<N: HubName> Promise<CallerEnd<N>> for FollowsScript<N> {
     ghost use Rattle.std.specs.Prelude.{◌≡◌, true, IfOk, IfErr};
-    ghost use Rattle.cmwq_rt.specs.Running.{is_of_call};
+    ghost use Rattle.cmwq_rt.specs.Running.{breaks_off};
     ghost use Rattle.cmwq_scripts.specs.Ended.{FollowedAt};
 
-    ghost kept_by = { λ p r. IfOk r.outcome (λ t. FollowedAt N.layout p.who.0 p.script.value.items t.1 r.caller) × IfErr r.outcome (λ f. is_of_call f ≡ true) };
+    ghost kept_by = { λ p r. IfOk r.outcome (λ t. FollowedAt N.layout p.who.0 p.script.value.items t.1 r.caller) × IfErr r.outcome (λ f. breaks_off f ≡ true) };
 }
 
 /// What a worker's thread promises: that this worker runs what it starts, as this work function says.
@@ -43,10 +43,10 @@ pub struct RunsWork<N: HubName, W> {
 
 impl<N: HubName, W: Work> Promise<WorkerEnd<N>> for RunsWork<N, W> {
     ghost use Rattle.std.specs.Prelude.{◌≡◌, true, IfOk, IfErr};
-    ghost use Rattle.cmwq_rt.specs.Running.{is_of_call};
+    ghost use Rattle.cmwq_rt.specs.Running.{breaks_off};
     ghost use Rattle.cmwq_scripts.specs.Ended.{WorkedFrom};
 
-    ghost kept_by = { λ p r. IfOk r.outcome (λ _. WorkedFrom N.layout (W.does p.work.value N.layout) p.worker.value r.worker) × IfErr r.outcome (λ f. is_of_call f ≡ true) };
+    ghost kept_by = { λ p r. IfOk r.outcome (λ _. WorkedFrom N.layout (W.does p.work.value N.layout) p.worker.value r.worker) × IfErr r.outcome (λ f. breaks_off f ≡ true) };
 }
 
 /// A worker whose loop has ended, with the entries that it made.
@@ -69,7 +69,7 @@ pub(crate) fn follow_all<N: HubName, R: Wait>(
     requires calls { All (IsScripted N.layout) script.now.items }
     requires short { length script.now.items < 2 ^ 32 }
     ensures followed { IfOk result.outcome (λ t. FollowedAt N.layout who.0 script.now.items t.1 result.caller) }
-    ensures fault { IfErr result.outcome (λ f. is_of_call f ≡ true) }
+    ensures fault { IfErr result.outcome (λ f. breaks_off f ≡ true) }
 {
     let mut caller = caller;
     let outcome = caller.follow(rt, hub, script.as_slice());
@@ -85,7 +85,7 @@ pub(crate) fn work_all<N: HubName, W: Work, R: Wait>(
     work: &W,
 ) -> WorkerEnd<N>
     ensures worked { IfOk result.outcome (λ _. WorkedFrom N.layout (W.does work.now N.layout) worker result.worker) }
-    ensures fault { IfErr result.outcome (λ f. is_of_call f ≡ true) }
+    ensures fault { IfErr result.outcome (λ f. breaks_off f ≡ true) }
 {
     let mut worker = worker;
     let outcome = hub.work(rt, &mut worker, work);

@@ -7,7 +7,7 @@ ghost use Rattle.cmwq_desk.specs.Seats.{newcomer};
 ghost use Rattle.cmwq_desk.specs.Held.{active_in};
 ghost use Rattle.cmwq_rt.specs.Places.{worker_at};
 ghost use Rattle.cmwq_desk.specs.declared.fault.RunFault.TheVariants.{Unfinished};
-ghost use Rattle.cmwq_rt.specs.Running.{is_of_call};
+ghost use Rattle.cmwq_rt.specs.Running.{breaks_off};
 ghost use Rattle.cmwq_scripts.specs.Ended.{AllFollow, AllWorked, AreNewcomers, AreSilent, FollowedAt, FollowsIn, HaveEnded, HaveWorked, IsUnfinished, WorkedFrom, WorkedIn, is_silent};
 
 use crate::ends::{CallerEnd, WorkerEnd};
@@ -32,7 +32,7 @@ fn added(a: u64, b: u64) -> Result<u64, RunFault>
 {
     match a.checked_add(b) {
         Some(sum) => Ok(sum),
-        None => Err(RunFault::Full),
+        None => Err(RunFault::NoMemory { ticket: None }),
     }
 }
 
@@ -43,7 +43,7 @@ fn gather_caller<N: HubName>(
     all: &mut Share<N>,
 ) -> Result<(u64, u64), RunFault>
     ensures share { IfOk result (λ t. (all.new.parts ≡ all.old.parts + 1) × (all.new.amount ≡ all.old.amount + t.0)) }
-    ensures fault { IfErr end.outcome (λ f. is_of_call f ≡ true) → IfErr result (λ f. is_silent f ≡ true) }
+    ensures fault { IfErr end.outcome (λ f. breaks_off f ≡ true) → IfErr result (λ f. is_silent f ≡ true) }
     ensures seen { IfOk result (λ t. (k : ℕ) (script : List calls.Call) → IfOk end.outcome (λ u. FollowedAt N.layout k script u.1 end.caller) → FollowsIn N.layout k script t.1 desk.now.history) }
 {
     let CallerEnd { caller, outcome } = end;
@@ -94,7 +94,7 @@ fn gather_worker<N: HubName, W: Work>(
     all: &mut Share<N>,
 ) -> Result<u64, RunFault>
     ensures share { IfOk result (λ n. (all.new.parts ≡ all.old.parts + 1) × (all.new.amount ≡ all.old.amount + n)) }
-    ensures fault { IfErr end.outcome (λ f. is_of_call f ≡ true) → IfErr result (λ f. is_silent f ≡ true) }
+    ensures fault { IfErr end.outcome (λ f. breaks_off f ≡ true) → IfErr result (λ f. is_silent f ≡ true) }
     ensures worked { IfOk result (λ _. (x : ids.WorkerId) → IfOk end.outcome (λ _. WorkedFrom N.layout (W.does work.now N.layout) (newcomer (whos.Worker x)) end.worker) → WorkedIn N.layout (W.does work.now N.layout) x desk.now.history) }
 {
     let _work = work;

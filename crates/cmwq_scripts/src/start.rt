@@ -1,6 +1,6 @@
 //! Starts the threads of callers and workers.
 ghost use Rattle.std.specs.Prelude.{◌≡◌, ℕ, ◌+◌, ◌<◌, ◌≤◌, ◌^◌, [], length, map, true, All, IfOk, IfErr, slice_get, Some, None};
-ghost use Rattle.cmwq_rt.specs.Running.{is_of_call};
+ghost use Rattle.cmwq_rt.specs.Running.{breaks_off};
 ghost use Rattle.cmwq_model.specs.declared.id.WorkerId as ids;
 ghost use Rattle.cmwq_model.specs.declared.id.Who.TheVariants as whos;
 ghost use Rattle.cmwq_model.specs.Scripted.{IsScripted};
@@ -45,7 +45,7 @@ fn start_caller<'s, E, N: HubName + Send + Sync + 's, R: Wait + Sync>(
         promise,
         move || -> CallerEnd<N>
             requires { (caller.who ≡ caller_at who.0) × (caller.serial ≡ 0) × (caller.seen ≡ []) × All (IsScripted N.layout) script.now.items × (length script.now.items < 2 ^ 32) }
-            ensures { IfOk result.outcome (λ t. FollowedAt N.layout who.0 script.entry.now.items t.1 result.caller) × IfErr result.outcome (λ f. is_of_call f ≡ true) }
+            ensures { IfOk result.outcome (λ t. FollowedAt N.layout who.0 script.entry.now.items t.1 result.caller) × IfErr result.outcome (λ f. breaks_off f ≡ true) }
         { follow_all(rt, hub, caller, who, script) },
     );
     match started {
@@ -108,7 +108,7 @@ fn start_worker<'s, E, N: HubName + Send + Sync + 's, W: Work + Sync, R: Wait + 
     let started = scope.spawn_with(
         promise,
         move || -> WorkerEnd<N>
-            ensures { IfOk result.outcome (λ _. WorkedFrom N.layout (W.does work.entry.now N.layout) worker result.worker) × IfErr result.outcome (λ f. is_of_call f ≡ true) }
+            ensures { IfOk result.outcome (λ _. WorkedFrom N.layout (W.does work.entry.now N.layout) worker result.worker) × IfErr result.outcome (λ f. breaks_off f ≡ true) }
         { work_all(rt, hub, worker, work) },
     );
     match started {

@@ -1,6 +1,6 @@
 use Rattle.std.proofs.Common.{◌≡◌, ℕ, ◌+◌, true, length, map, drop}
 use Rattle.std.specs.Prelude.{slice_get, Some, IfOk, IfErr}
-use Rattle.cmwq_rt.specs.Running.{is_of_call}
+use Rattle.cmwq_rt.specs.Running.{breaks_off}
 use Rattle.cmwq_scripts.specs.Ended.{FollowedAt, AllFollow}
 use Rattle.cmwq_scripts.proofs.gather.gather_callers.Given as goal
 
@@ -10,4 +10,4 @@ invariant-loop g l =
     × (l.all.parts ≡ l.fn.all.parts + l.counter) × (l.all.amount ≡ l.fn.all.amount + l.answered)
     × ((k : ℕ) (e s : _) → slice_get l.callers.items k ≡ Some e → slice_get l.fn.scripts k ≡ Some s → IfOk e.outcome (λ t. FollowedAt g.N.HubName.layout k s.items t.1 e.caller))
     × AllFollow g.N.HubName.layout (length l.callers.items) (drop (length l.callers.items) (map (λ s. s.items) l.fn.scripts)) l.full l.fn.desk.history
-    × ((k : ℕ) (e : _) → slice_get l.callers.items k ≡ Some e → IfErr e.outcome (λ f. is_of_call f ≡ true))
+    × ((k : ℕ) (e : _) → slice_get l.callers.items k ≡ Some e → IfErr e.outcome (λ f. breaks_off f ≡ true))

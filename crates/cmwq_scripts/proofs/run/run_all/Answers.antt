@@ -1,6 +1,6 @@
 use Rattle.std.proofs.Common.{◌≡◌, ℕ, ◌<◌, true, length, get_or, arith, ap, sym, ◌∙◌, subst}
 use Rattle.std.specs.Prelude.{slice_get, Some, IfOk, IfErr}
-use Rattle.cmwq_rt.specs.Running.{is_of_call}
+use Rattle.cmwq_rt.specs.Running.{breaks_off}
 use Rattle.std.proofs.lemmas.Option.{slice_get_within, slice_get-get_or, get_or_from_slice_get}
 use Rattle.cmwq_model.specs.declared.id.Who.TheVariants.{Worker}
 use Rattle.cmwq_desk.specs.Seats.{newcomer}
@@ -23,7 +23,7 @@ returns-clause-each g c =
       faults = (λ k e at.
           let lt = slice_get_within rs k e at in
           let within : k < length hs = (let l = len in omega (arith, lt, l)) in
-          subst (λ z. IfErr z.outcome (λ f. is_of_call f ≡ true)) (get_or_from_slice_get rs k e e at) (joined.each k e (subst (λ (n : ℕ). k < n) (sym many.0) within)).1.kept.1);
+          subst (λ z. IfErr z.outcome (λ f. breaks_off f ≡ true)) (get_or_from_slice_get rs k e e at) (joined.each k e (subst (λ (n : ℕ). k < n) (sym many.0) within)).1.kept.1);
       followed = (λ k e x at was.
           let lt = slice_get_within rs k e at in
           let within : k < length hs = (let l = len in omega (arith, lt, l)) in
@@ -53,7 +53,7 @@ returns-clause-worked g c =
       faults = (λ k e at.
           let lt = slice_get_within rs k e at in
           let within : k < length hs = (let l = len in omega (arith, lt, l)) in
-          subst (λ z. IfErr z.outcome (λ f. is_of_call f ≡ true)) (get_or_from_slice_get rs k e e at) (joined.each k e (subst (λ (n : ℕ). k < n) (sym many.0) within)).1.kept.1);
+          subst (λ z. IfErr z.outcome (λ f. breaks_off f ≡ true)) (get_or_from_slice_get rs k e e at) (joined.each k e (subst (λ (n : ℕ). k < n) (sym many.0) within)).1.kept.1);
       worked = (λ k e at x there.
           let lt = slice_get_within rs k e at in
           let within : k < length hs = (let l = len in omega (arith, lt, l)) in
