@@ -4,10 +4,10 @@
 
 use clap::error::ErrorKind;
 use cmwq_base::{BufferedSink, FromStd};
-use cmwq_engine::{run_check, run_front_check, run_step, run_step_live, run_upgrade};
-use cmwq_replay::run_replay;
-use cmwq_run::run_run;
-use cmwq_word::{Word, word_of};
+use cmwq_cli::{Word, word_of};
+use cmwq_cmd_history::{run_check, run_front_check, run_step, run_step_live, run_upgrade};
+use cmwq_cmd_replay::run_replay;
+use cmwq_cmd_run::run_run;
 use std::alloc::{AllocError, Global};
 use std::io;
 use std::process::ExitCode;

@@ -4,7 +4,7 @@ use Rattle.cmwq_model.specs.declared.verdict.Illegal.{Illegal}
 use Rattle.cmwq_base.specs.declared.refusal.Refusal.{Refusal}
 use Rattle.cmwq_base.specs.declared.refusal.Refusal.TheVariants as refusal
 use Rattle.cmwq_base.specs.Kinds.{history_file_of}
-use Rattle.cmwq_engine.specs.Check.{CheckEnds, check_status}
+use Rattle.cmwq_cmd_history.specs.Check.{CheckEnds, check_status}
 use Rattle.cmwq_c.specs.Verdicts.{Judges}
 
 pub legal_end : (text line : List ℕ) (ended : Result (Option Illegal) Refusal) → CheckEnds text (Some []) (Some line) ended → 0 ≡ check_status ended → Judges text None line

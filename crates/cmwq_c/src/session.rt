@@ -80,12 +80,12 @@ impl Session {
     }
 
     /// Makes what was planned.
-    pub fn carry(&mut self, plan: &Plan)
+    pub fn commit(&mut self, plan: &Plan)
         requires plan { (who : _) × (call : _) × IsPlan self.old.history who call plan.now }
         requires space { has_space self.old ≡ true }
         ensures { self.new ≡ with_made self.old plan.now.mark.entry }
     {
-        self.book.carry(plan);
+        self.book.commit(plan);
     }
 
     /// Makes the call, and answers its entry.

@@ -126,7 +126,7 @@ fn planned_step(session: &mut Session, plan: &Plan, out: &mut [u8], written: &mu
     match put(entry_line(&plan.mark.entry).as_bytes(), out) {
         Some(n) => {
             *written = n;
-            session.carry(plan);
+            session.commit(plan);
             DONE
         }
         None => SHORT,

@@ -18,19 +18,19 @@ use Rattle.cmwq_model.specs.Fate.{number_started}
 use Rattle.cmwq_model.specs.Runs.{item_run}
 use Rattle.cmwq_model.specs.Queueings.{unstarted, queueing_at, cpu_for, is_unstarted, still_open}
 use Rattle.cmwq_model.specs.Legal.{IsLegal}
-use Rattle.cmwq_steps.specs.Endings.{ending}
-use Rattle.cmwq_steps.specs.ItemQueueings.{queueing_run, ended_by}
-use Rattle.cmwq_steps.proofs.EndsAsTold.{ends_as_told, runs_are_queueings, unstarted_found}
-use Rattle.cmwq_steps.proofs.Unstarted.{next_unstarted}
-use Rattle.cmwq_ties.proofs.Members.{found}
+use Rattle.cmwq_theory_steps.specs.Endings.{ending}
+use Rattle.cmwq_theory_steps.specs.ItemQueueings.{queueing_run, ended_by}
+use Rattle.cmwq_theory_steps.proofs.EndsAsTold.{ends_as_told, runs_are_queueings, unstarted_found}
+use Rattle.cmwq_theory_steps.proofs.Unstarted.{next_unstarted}
+use Rattle.cmwq_refinement.proofs.Members.{found}
 use Rattle.std.proofs.Common.{◌-◌, ◌≤◌, ◌+◌, ◌*◌, ◌==◌, Bool, true, false, not, is_some, arith}
 use Rattle.std.proofs.Common.{nat_lt, nat_le}
 use Rattle.std.proofs.lemmas.Bool.{and_parts, ltb-true}
 use Rattle.cmwq_model.specs.declared.call.Call.{Call}
 use Rattle.cmwq_model.specs.declared.call.Call.TheVariants as call
 use Rattle.cmwq_model.specs.Layout.{fits, may_make, has_numbers}
-use Rattle.cmwq_ties.proofs.FirstDue.{timers_may_be_told}
-use Rattle.cmwq_ties.proofs.Settled.{place_fits}
+use Rattle.cmwq_refinement.proofs.FirstDue.{timers_may_be_told}
+use Rattle.cmwq_refinement.proofs.Settled.{place_fits}
 use Rattle.cmwq_core.specs.Book.{IsCallInside}
 use Rattle.cmwq_state.specs.Tables.{IsThere}
 use Rattle.cmwq_state.proofs.Steps.{fits_there}
@@ -40,15 +40,15 @@ use Rattle.cmwq_model.specs.Fate.{is_started}
 use Rattle.cmwq_model.specs.Queueings.{opening}
 use Rattle.cmwq_model.specs.Room.{owed, has_not_started}
 use Rattle.cmwq_model.specs.Runs.{run}
-use Rattle.cmwq_steps.specs.Histories.{one}
-use Rattle.cmwq_steps.specs.RoomSteps.{ends_unstarted, settles_booked}
-use Rattle.cmwq_steps.proofs.Owing.{owed_goes_on}
-use Rattle.cmwq_steps.proofs.RunSteps.{last_started}
-use Rattle.cmwq_steps.proofs.RunsActive.{found_number}
+use Rattle.cmwq_theory_steps.specs.Histories.{one}
+use Rattle.cmwq_theory_steps.specs.RoomSteps.{ends_unstarted, settles_booked}
+use Rattle.cmwq_theory_steps.proofs.Owing.{owed_goes_on}
+use Rattle.cmwq_theory_steps.proofs.RunSteps.{last_started}
+use Rattle.cmwq_theory_steps.proofs.RunsActive.{found_number}
 use Rattle.cmwq_core.specs.Effects.{ended_from, IsInside, started_from, next_for, ends_early, paid_alone, taken_alone}
-use Rattle.cmwq_ties.specs.Flights.{starting}
-use Rattle.cmwq_steps.proofs.Starts.{starts_next}
-use Rattle.cmwq_steps.proofs.ItemRuns.{run_is}
+use Rattle.cmwq_refinement.specs.Flights.{starting}
+use Rattle.cmwq_theory_steps.proofs.Starts.{starts_next}
+use Rattle.cmwq_theory_steps.proofs.ItemRuns.{run_is}
 use Rattle.cmwq_state.specs.Flights.{run_open}
 
 from_reply : (past : List Entry) (who : Who) (i : Option ℕ) (r : Reply) → ended_by past who i r ≡ ended_from r (queueing_run past who) (option_and_then (unstarted past) i)

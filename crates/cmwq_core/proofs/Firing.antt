@@ -7,7 +7,7 @@ use Rattle.cmwq_model.specs.declared.entry.Entry.{Entry}
 use Rattle.cmwq_model.specs.declared.record.Booking.{Booking}
 use Rattle.cmwq_model.specs.declared.reply.Reply.TheVariants as reply
 use Rattle.cmwq_model.specs.Answer.{first_due, fired}
-use Rattle.cmwq_ties.specs.Timers.{item_due}
+use Rattle.cmwq_refinement.specs.Timers.{item_due}
 
 pub fires : (past : List Entry) (i : ItemId) (n : ℕ) → item_due past ≡ Some i → reply.Fired i n ≡ fired (first_due past) n
 fires past i n h = by (first_due past) h

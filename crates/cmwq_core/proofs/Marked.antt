@@ -17,28 +17,28 @@ use Rattle.cmwq_model.specs.Bookings.{settles, booking, booking_of, is_booked}
 use Rattle.cmwq_model.specs.Fate.{number_started, number_finished}
 use Rattle.cmwq_model.specs.Queueings.{queueing_at, unstarted, is_pending, opening}
 use Rattle.cmwq_model.specs.Legal.{IsLegal, bits}
-use Rattle.cmwq_ties.proofs.Members.{found, in_contained}
+use Rattle.cmwq_refinement.proofs.Members.{found, in_contained}
 use Rattle.cmwq_state.proofs.Told.{open_there}
-use Rattle.cmwq_steps.specs.Marks.{item_marked}
-use Rattle.cmwq_steps.specs.Endings.{ending}
-use Rattle.cmwq_steps.specs.ItemQueueings.{queueing_run}
-use Rattle.cmwq_steps.proofs.Marks.{others_stay}
-use Rattle.cmwq_steps.proofs.Standing.{booking_after}
-use Rattle.cmwq_steps.proofs.Fresh.{finishes_run}
-use Rattle.cmwq_steps.proofs.RunsActive.{found_known, found_number, run_is_active}
+use Rattle.cmwq_theory_steps.specs.Marks.{item_marked}
+use Rattle.cmwq_theory_steps.specs.Endings.{ending}
+use Rattle.cmwq_theory_steps.specs.ItemQueueings.{queueing_run}
+use Rattle.cmwq_theory_steps.proofs.Marks.{others_stay}
+use Rattle.cmwq_theory_steps.proofs.Standing.{booking_after}
+use Rattle.cmwq_theory_steps.proofs.Fresh.{finishes_run}
+use Rattle.cmwq_theory_steps.proofs.RunsActive.{found_known, found_number, run_is_active}
 use Rattle.cmwq_state.specs.Effects.{IsEffect, item_number}
 use Rattle.cmwq_core.specs.Effects.{ended_from}
-use Rattle.cmwq_flight.specs.Flights.{Flight, with_started, with_unstarted, without_run}
-use Rattle.cmwq_ties.specs.Flights.{flight_of, starting}
-use Rattle.cmwq_ties.proofs.FlightSteps as rows
-use Rattle.cmwq_ties.proofs.FlightFollow.{opened_row, starting_there}
-use Rattle.cmwq_steps.proofs.EndsAsTold.{unstarted_found}
-use Rattle.cmwq_steps.proofs.Starts.{starts_next}
-use Rattle.cmwq_steps.proofs.Unstarted.{next_unstarted}
+use Rattle.cmwq_inflight.specs.Flights.{Flight, with_started, with_unstarted, without_run}
+use Rattle.cmwq_refinement.specs.Flights.{flight_of, starting}
+use Rattle.cmwq_refinement.proofs.FlightSteps as rows
+use Rattle.cmwq_refinement.proofs.FlightRefine.{opened_row, starting_there}
+use Rattle.cmwq_theory_steps.proofs.EndsAsTold.{unstarted_found}
+use Rattle.cmwq_theory_steps.proofs.Starts.{starts_next}
+use Rattle.cmwq_theory_steps.proofs.Unstarted.{next_unstarted}
 use Rattle.cmwq_core.specs.Flights.{standing, ended_at, started_at, opened_at}
 use Rattle.cmwq_core.specs.History.{History, past_in, next_entry, IsMark, has_number}
 use Rattle.cmwq_state.specs.declared.effect.Effect.{Effect}
-use Rattle.cmwq_ties.proofs.FlightKinds.{legal_before}
+use Rattle.cmwq_refinement.proofs.FlightKinds.{legal_before}
 use Rattle.cmwq_core.proofs.Effecting.{ends_from, entry_inside}
 use Rattle.cmwq_state.proofs.Counting.{running}
 

@@ -17,9 +17,9 @@ use Rattle.cmwq_model.specs.Widths.{is_frozen}
 use Rattle.cmwq_model.specs.Workers.{worker_at}
 use Rattle.cmwq_model.specs.Legal.{IsLegal}
 use Rattle.cmwq_model.specs.Room.{owed, workers, cpu_workers, pool_workers, has_not_started}
-use Rattle.cmwq_steps.proofs.Limits.{two_for_each_item}
-use Rattle.cmwq_ties.proofs.LayoutLimits.{items_few}
-use Rattle.cmwq_ties.proofs.TicketLimits.{unended_few}
+use Rattle.cmwq_theory_steps.proofs.Limits.{two_for_each_item}
+use Rattle.cmwq_refinement.proofs.LayoutLimits.{items_few}
+use Rattle.cmwq_refinement.proofs.TicketLimits.{unended_few}
 
 -- ---- at most 64 workers
 

@@ -3,14 +3,14 @@ use Rattle.std.proofs.Common.{List}
 use Rattle.cmwq_model.specs.declared.entry.Entry.{Entry}
 use Rattle.cmwq_model.specs.Layout.{Layout}
 use Rattle.cmwq_model.specs.Legal.{IsLegal}
-use Rattle.cmwq_laws.proofs.OneWorker.{runs_in_one_worker}
-use Rattle.cmwq_laws.proofs.StartedOnce.{started_once, starts_earlier}
-use Rattle.cmwq_laws.proofs.WithinWidth.{within_width}
-use Rattle.cmwq_laws.proofs.StartsActive.{only_active_start}
-use Rattle.cmwq_laws.proofs.Width.{runs_within_active}
-use Rattle.cmwq_laws.proofs.WaitedFor.{waits_end_after}
-use Rattle.cmwq_laws.proofs.Settled.{cancels_settle}
-use Rattle.cmwq_laws.proofs.Gone.{gone_stay_empty}
+use Rattle.cmwq_theory_laws.proofs.OneWorker.{runs_in_one_worker}
+use Rattle.cmwq_theory_laws.proofs.StartedOnce.{started_once, starts_earlier}
+use Rattle.cmwq_theory_laws.proofs.WithinWidth.{within_width}
+use Rattle.cmwq_theory_laws.proofs.StartsActive.{only_active_start}
+use Rattle.cmwq_theory_laws.proofs.Width.{runs_within_active}
+use Rattle.cmwq_theory_laws.proofs.WaitedFor.{waits_end_after}
+use Rattle.cmwq_theory_laws.proofs.Settled.{cancels_settle}
+use Rattle.cmwq_theory_laws.proofs.Gone.{gone_stay_empty}
 use Rattle.cmwq_core.specs.Relied.{IsReliable}
 
 pub reliable : (s : Layout) (past : List Entry) → IsLegal s past → IsReliable s past

@@ -11,8 +11,8 @@ use Rattle.cmwq_model.specs.Fate.{number_started, number_finished}
 use Rattle.cmwq_model.specs.Tickets.{gives_ticket, is_done}
 use Rattle.cmwq_model.specs.Layout.{Layout}
 use Rattle.cmwq_model.specs.Calls.{item_of}
-use Rattle.cmwq_steps.specs.Histories.{one}
-use Rattle.cmwq_steps.specs.RoomSteps.{is_slept, is_woke, is_frozen_now, is_thawed_now}
+use Rattle.cmwq_theory_steps.specs.Histories.{one}
+use Rattle.cmwq_theory_steps.specs.RoomSteps.{is_slept, is_woke, is_frozen_now, is_thawed_now}
 
 -- of what the caller runs and the item's unstarted queueing, the one that the reply ends
 abbrev pub ended_from : Reply → Option Queueing → Option Queueing → Option Queueing

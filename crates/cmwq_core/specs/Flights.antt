@@ -3,7 +3,7 @@ use Rattle.std.specs.Prelude.{ℕ, ◌==◌, true, false, if◌then◌else◌, O
 use Rattle.cmwq_model.specs.declared.record.Queueing.{Queueing}
 use Rattle.cmwq_model.specs.declared.reply.Reply.{Reply}
 use Rattle.cmwq_model.specs.Fate.{number_finished}
-use Rattle.cmwq_flight.specs.Flights.{Flight}
+use Rattle.cmwq_inflight.specs.Flights.{Flight}
 use Rattle.cmwq_core.specs.declared.marks.Standing.{Standing}
 
 abbrev pub standing : Flight → Standing

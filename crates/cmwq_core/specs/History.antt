@@ -15,7 +15,7 @@ use Rattle.cmwq_model.specs.Tickets.{unended}
 use Rattle.cmwq_model.specs.Waits.{waits_for}
 use Rattle.cmwq_model.specs.Legal.{entry_for, bits}
 use Rattle.cmwq_model.specs.Room.{has_room}
-use Rattle.cmwq_steps.specs.Marks.{item_marked}
+use Rattle.cmwq_theory_steps.specs.Marks.{item_marked}
 pub use Rattle.cmwq_state.specs.History.{History, past_in, with_entry, has_number}
 pub use Rattle.cmwq_state.specs.Tables.{IsThere}
 

@@ -4,9 +4,9 @@ use Rattle.cmwq_model.specs.declared.entry.Entry.{Entry}
 use Rattle.cmwq_model.specs.Layout.{Layout}
 use Rattle.cmwq_model.specs.Tickets.{is_gone}
 use Rattle.cmwq_model.specs.Legal.{IsLegal}
-use Rattle.cmwq_steps.specs.Histories.{OfEachEntry}
-use Rattle.cmwq_laws.specs.Headline.{RunsInOneWorker, StartedOnce, StartsEarlier, WithinWidthAfter, StartsActive, RunsWithinActive, WaitsEndAfter, CancelsSettle}
-use Rattle.cmwq_laws.specs.Gone.{NoneOpen, NoneBooked}
+use Rattle.cmwq_theory_steps.specs.Histories.{OfEachEntry}
+use Rattle.cmwq_theory_laws.specs.Headline.{RunsInOneWorker, StartedOnce, StartsEarlier, WithinWidthAfter, StartsActive, RunsWithinActive, WaitsEndAfter, CancelsSettle}
+use Rattle.cmwq_theory_laws.specs.Gone.{NoneOpen, NoneBooked}
 
 pub record IsReliable (s : Layout) (past : List Entry) : Type 0 where
   pub legal : IsLegal s past

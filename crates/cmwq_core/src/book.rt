@@ -11,7 +11,7 @@ ghost use Rattle.cmwq_core.specs.History.{past_in, next_entry, takes, with_entry
 ghost use Rattle.cmwq_core.specs.Plans.{IsPlan};
 ghost use Rattle.cmwq_core.specs.Relied.{IsReliable};
 
-use crate::course::{Course, Full};
+use crate::execution::{Execution, Full};
 use crate::plan::Plan;
 use cmwq_model::{Call, Entry, ItemId, Mark, NoMemory, Number, Reply, Shape, Who};
 use std::alloc::Global;
@@ -20,7 +20,7 @@ use std::marker::Model;
 /// The runtime of one thread that keeps its whole history.
 #[derive(Drop)]
 pub struct Book {
-    course: Course,
+    execution: Execution,
     entries: Vec<Entry>,
 }
 
@@ -31,9 +31,9 @@ impl Model for Book {
 
     ghost Value = { History };
 
-    ghost view = { λ b. b.course };
+    ghost view = { λ b. b.execution };
 
-    ghost invariant = { λ b. (b.entries.items ≡ b.course.entries) × (b.course.room ≤ vec_capacity b.entries) × (b.course.room ≤ 1010000) };
+    ghost invariant = { λ b. (b.entries.items ≡ b.execution.entries) × (b.execution.room ≤ vec_capacity b.entries) × (b.execution.room ≤ 1010000) };
 }
 
 impl Book {
@@ -43,7 +43,7 @@ impl Book {
         ensures { IfOk result (λ book. book ≡ record { layout = shape.now; room = room; entries = [] }) }
     {
         Ok(Book {
-            course: Course::new(alloc, shape, room)?,
+            execution: Execution::new(alloc, shape, room)?,
             entries: Vec::with_capacity(alloc, room as usize)?,
         })
     }
@@ -56,7 +56,7 @@ impl Book {
         ensures few { self.now.room ≤ 1010000 }
         ensures legal { IsLegal self.now.layout (past_in self.now) }
     {
-        self.course.len()
+        self.execution.len()
     }
 
     /// The serial of the next entry of this caller or worker: how many entries it has.
@@ -64,7 +64,7 @@ impl Book {
         requires { tables.IsThere self.now.layout who }
         ensures { result ≡ calls.serial_of (past_in self.now) who }
     {
-        self.course.serial(who)
+        self.execution.serial(who)
     }
 
     /// What the call would be answered, whether or not there is room for it.
@@ -72,10 +72,10 @@ impl Book {
         requires { IsTrue (fits self.now.layout who call) }
         ensures { result ≡ (next_entry self.now who call).reply }
     {
-        self.course.reply(who, call)
+        self.execution.reply(who, call)
     }
 
-    /// The entry that a step of this call would append, found with all that it does, so that `carry` needn't find it again.
+    /// The entry that a step of this call would append, found with all that it does, so that `commit` needn't find it again.
     ///
     /// # Errors
     /// `Full` where there is no room for the entry and for what would be owed then, exactly as at `step`.
@@ -84,17 +84,17 @@ impl Book {
         ensures room { is_ok result ≡ takes self.now who call }
         ensures plan { IfOk result (λ plan. IsPlan self.now who call plan) }
     {
-        self.course.plan(who, call)
+        self.execution.plan(who, call)
     }
 
     /// Makes the entry that was planned, and answers its reply. The book is still the one that planned it.
-    pub fn carry(&mut self, plan: &Plan) -> Reply
+    pub fn commit(&mut self, plan: &Plan) -> Reply
         requires { (who : _) × (call : _) × IsPlan self.old who call plan.now }
         ensures reply { result ≡ plan.now.mark.entry.reply }
         ensures entry { self.new ≡ with_entry self.old plan.now.mark.entry }
     {
-        let _within = self.course.len();
-        let reply = self.course.carry(plan);
+        let _within = self.execution.len();
+        let reply = self.execution.commit(plan);
         self.entries.push_reserved(plan.mark.entry);
         reply
     }
@@ -108,7 +108,7 @@ impl Book {
         ensures room { is_ok result ≡ takes self.now who call }
         ensures mark { IfOk result (λ mark. IsMark self.now who call mark) }
     {
-        self.course.would(who, call)
+        self.execution.would(who, call)
     }
 
     /// Makes the call: one entry more, with the one answer.
@@ -122,8 +122,8 @@ impl Book {
         ensures entry { IfOk result (λ _. self.new ≡ with_entry self.old (next_entry self.old who call)) }
         ensures full { OnErr result (self.new ≡ self.old) }
     {
-        let entry = self.course.next(who, call)?;
-        let _within = self.course.len();
+        let entry = self.execution.next(who, call)?;
+        let _within = self.execution.len();
         self.entries.push_reserved(entry);
         Ok(entry.reply)
     }
@@ -133,7 +133,7 @@ impl Book {
     pub fn ready(&self, ticket: Number) -> bool
         ensures { result ≡ is_ready (past_in self.now) ticket }
     {
-        self.course.ready(ticket)
+        self.execution.ready(ticket)
     }
 
     /// The bits of an item (`work_busy`): 1 if it is pending, plus 2 if it runs.
@@ -141,21 +141,21 @@ impl Book {
         requires { item.0 < self.now.layout.items }
         ensures { result ≡ legal.bits (past_in self.now) item.0 }
     {
-        self.course.bits(item)
+        self.execution.bits(item)
     }
 
     /// How many queueings are open.
     pub fn open_count(&self) -> u32
         ensures { result ≡ length (still_open (past_in self.now)) }
     {
-        self.course.open_count()
+        self.execution.open_count()
     }
 
     /// How many of them are active.
     pub fn active_count(&self) -> u32
         ensures { result ≡ count_by (is_active self.now.layout (past_in self.now)) (still_open (past_in self.now)) }
     {
-        self.course.active_count()
+        self.execution.active_count()
     }
 
     /// The entries, the oldest first. What a user relies on holds of them.
@@ -163,7 +163,7 @@ impl Book {
         ensures entries { result.now ≡ self.now.entries }
         ensures reliable { IsReliable self.now.layout (past_in self.now) }
     {
-        self.course.reliable();
+        self.execution.reliable();
         &self.entries
     }
 

@@ -3,8 +3,8 @@
 
 mod answers;
 mod book;
-mod course;
 mod effects;
+mod execution;
 mod judge;
 mod marks;
 mod plan;
@@ -12,6 +12,6 @@ mod workers;
 
 pub use book::Book;
 pub use cmwq_state::those_who_fit_are_there;
-pub use course::{Course, Full};
+pub use execution::{Execution, Full};
 pub use judge::{Judge, check};
 pub use plan::Plan;

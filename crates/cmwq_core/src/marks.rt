@@ -4,9 +4,9 @@ ghost use Rattle.std.specs.Prelude.{◌≡◌, ℕ, ◌+◌, ◌<◌, ◌∷◌,
 ghost use Rattle.cmwq_model.specs.Bookings.{is_booked};
 ghost use Rattle.cmwq_model.specs.Calls.{is_at};
 ghost use Rattle.cmwq_model.specs.Legal.{bits, past_of};
-ghost use Rattle.cmwq_steps.specs.Marks.{item_marked};
+ghost use Rattle.cmwq_theory_steps.specs.Marks.{item_marked};
 ghost use Rattle.cmwq_state.specs.Effects.{IsEffect, item_number};
-ghost use Rattle.cmwq_ties.specs.Flights.{flight_of};
+ghost use Rattle.cmwq_refinement.specs.Flights.{flight_of};
 ghost use Rattle.cmwq_core.specs.Flights.{ended_at, opened_at, standing, started_at};
 ghost use Rattle.cmwq_core.specs.History.{IsMark};
 

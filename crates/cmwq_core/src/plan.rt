@@ -4,7 +4,7 @@ ghost use Rattle.std.specs.Prelude.{◌≡◌};
 use cmwq_model::{Mark, Queueing, Ticket};
 use cmwq_state::Effect;
 
-/// An entry that a book would make next, with all that it does: `Book::plan` finds it, and `Book::carry` makes it.
+/// An entry that a book would make next, with all that it does: `Book::plan` finds it, and `Book::commit` makes it.
 #[derive(Clone, Copy)]
 pub struct Plan {
     pub(crate) effect: Effect,

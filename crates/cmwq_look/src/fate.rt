@@ -29,7 +29,7 @@ pub fn is_finished(past: &Past<'_>, number: Number) -> bool
     finished
 }
 
-/// Whether the queueing of this item with this number was taken back: by its number, or by being replaced before it
+/// Whether the queueing of this item with this number was cancelled: by its number, or by being replaced before it
 /// had started.
 #[tactic(auto, using(crate::proofs::Parts::ends, crate::proofs::Steps::cancelled_steps))]
 pub fn is_cancelled(past: &Past<'_>, item: u16, number: Number) -> bool

@@ -18,14 +18,14 @@ same_place p r = (p.queue.0 == r.queue.0) && (p.cpu.0 == r.cpu.0)
 abbrev pub is_ahead : Queueing → Queueing → Bool
 is_ahead x y = same_place y.place x.place && nat_lt y.number x.number
 
--- there is way: fewer older ones are open on its queue and CPU than the queue is wide
-abbrev pub has_way : Layout → List Entry → Queueing → Bool
-has_way s past x = nat_lt (count_by (is_ahead x) (still_open past)) (width s past x.place.queue.0)
+-- it is below max_active: fewer older ones are open on its queue and CPU than the queue is wide
+abbrev pub is_below_max_active : Layout → List Entry → Queueing → Bool
+is_below_max_active s past x = nat_lt (count_by (is_ahead x) (still_open past)) (width s past x.place.queue.0)
 
--- active: open, and active before the last entry or with way now; so what has become active stays so while it is open
+-- active: open, and active before the last entry or below max_active now; so what has become active stays so while it is open
 unfoldable pub is_active : Layout → List Entry → Queueing → Bool
 is_active s [] x = false
-is_active s (e ∷ past) x = is_live (e ∷ past) x && (is_active s past x || has_way s (e ∷ past) x)
+is_active s (e ∷ past) x = is_live (e ∷ past) x && (is_active s past x || is_below_max_active s (e ∷ past) x)
 
 -- what an entry made active, by number
 abbrev pub is_newly_active : Layout → List Entry → Entry → Queueing → Bool

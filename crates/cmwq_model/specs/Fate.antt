@@ -41,7 +41,7 @@ is_started past n = list_any (starts n) past
 abbrev pub is_finished : List Entry → ℕ → Bool
 is_finished past n = list_any (finishes n) past
 
--- of a queueing of item i: taken back by its number, or replaced before it had started
+-- of a queueing of item i: cancelled by its number, or replaced before it had started
 unfoldable pub is_cancelled : List Entry → ℕ → ℕ → Bool
 is_cancelled [] i n = false
 is_cancelled (e ∷ past) i n = is_cancelled past i n || takes_back n e || (replaces e.reply && is_of_item i e && nat_lt n (length past) && not (is_started past n))

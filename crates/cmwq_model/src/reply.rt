@@ -22,9 +22,9 @@ pub enum Reply {
     Draining,
     /// The call can't be made at this point.
     Misuse,
-    /// This queueing, which hadn't started, is taken back.
+    /// This queueing, which hadn't started, is cancelled.
     Cancelled(Number),
-    /// The delay is taken back.
+    /// The delay is cancelled.
     Unbooked,
     /// The tick that it is now.
     Now(u64),
@@ -36,11 +36,11 @@ pub enum Reply {
     Ticket(Number),
     /// Ticket `k`, and the delayed item is queued as queueing `k`.
     TicketQueued(Number),
-    /// Ticket `k`, and this queueing is taken back.
+    /// Ticket `k`, and this queueing is cancelled.
     TicketCancelled(Number, Number),
-    /// Ticket `k`, and the delay is taken back.
+    /// Ticket `k`, and the delay is cancelled.
     TicketUnbooked(Number),
-    /// Ticket `k`, and nothing was taken back.
+    /// Ticket `k`, and nothing was cancelled.
     TicketNo(Number),
     /// There is nothing to wait for.
     Idle,

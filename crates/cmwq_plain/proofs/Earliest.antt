@@ -14,7 +14,7 @@ use Rattle.cmwq_model.specs.Calls.{item_of}
 use Rattle.cmwq_model.specs.Queueings.{queueings, opening, opens, queued_at, place_wanted}
 use Rattle.cmwq_model.specs.Active.{is_active, is_newly_active, newly_active, is_listed, is_startable, activated, worklist, next}
 use Rattle.cmwq_model.specs.Queueings.{is_live}
-use Rattle.cmwq_active.proofs.Joined.{not_live}
+use Rattle.cmwq_theory_active.proofs.Joined.{not_live}
 use Rattle.cmwq_look.specs.Past.{upto}
 use Rattle.cmwq_look.proofs.Parts.{upto-none, upto-all, upto-grows, length-upto}
 use Rattle.cmwq_look.proofs.Steps.{queueings_step}

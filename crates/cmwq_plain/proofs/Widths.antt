@@ -1,4 +1,4 @@
--- Widths, and what had way before they changed, as a history is gone through.
+-- Widths, and what was below max_active before they changed, as a history is gone through.
 use Rattle.std.proofs.Common.{◌≡◌, ℕ, false, not, ◌&&◌, ◌||◌, List, [], ◌∷◌, refl}
 use Rattle.std.specs.Option.{option_map_or}
 use Rattle.cmwq_model.specs.declared.entry.Entry.{Entry}
@@ -6,8 +6,8 @@ use Rattle.cmwq_model.specs.declared.record.Queueing.{Queueing}
 use Rattle.cmwq_model.specs.Layout.{Layout, first_width}
 use Rattle.cmwq_model.specs.Widths.{max_active, width_set}
 use Rattle.cmwq_model.specs.Queueings.{is_live}
-use Rattle.cmwq_model.specs.Active.{has_way}
-use Rattle.cmwq_active.specs.Looks.{keeps_widths, had_way}
+use Rattle.cmwq_model.specs.Active.{is_below_max_active}
+use Rattle.cmwq_theory_active.specs.Looks.{keeps_widths, was_below_max_active}
 
 pub max_none : (s : Layout) (q : ℕ) → max_active s [] q ≡ first_width s q
 unfolding max_active
@@ -19,12 +19,12 @@ max_step s e past q = refl
 
 pub ruleset max_steps = (max_none, max_step)
 
-pub had_none : (s : Layout) (x : Queueing) → had_way s [] x ≡ false
-unfolding had_way
+pub had_none : (s : Layout) (x : Queueing) → was_below_max_active s [] x ≡ false
+unfolding was_below_max_active
 had_none s x = refl
 
-pub had_step : (s : Layout) (e : Entry) (past : List Entry) (x : Queueing) → had_way s (e ∷ past) x ≡ (had_way s past x || (not (keeps_widths e.reply) && (is_live past x && has_way s past x)))
-unfolding had_way
+pub had_step : (s : Layout) (e : Entry) (past : List Entry) (x : Queueing) → was_below_max_active s (e ∷ past) x ≡ (was_below_max_active s past x || (not (keeps_widths e.reply) && (is_live past x && is_below_max_active s past x)))
+unfolding was_below_max_active
 had_step s e past x = refl
 
 pub ruleset had_steps = (had_none, had_step)

@@ -2,8 +2,8 @@ ghost use Rattle.cmwq_model.specs.Queueings.{is_live};
 ghost use Rattle.std.specs.Prelude.{◌≡◌, ◌&&◌, ◌<◌, ◌+◌, length, if◌then◌else◌, option_map};
 ghost use Rattle.cmwq_model.specs.Active.{same_place, is_ahead, is_active, is_listed, next};
 ghost use Rattle.cmwq_look.specs.Past.{upto};
-ghost use Rattle.cmwq_model.specs.Active.{has_way};
-ghost use Rattle.cmwq_active.specs.Looks.{keeps_widths, had_way};
+ghost use Rattle.cmwq_model.specs.Active.{is_below_max_active};
+ghost use Rattle.cmwq_theory_active.specs.Looks.{keeps_widths, was_below_max_active};
 ghost use Rattle.cmwq_plain.specs.Partial.{ahead_upto};
 ghost use Rattle.cmwq_plain.specs.Earliest.{may_start, since, earlier, better, best_upto, queueing_of};
 
@@ -47,8 +47,8 @@ fn is_ahead_at(past: &Past<'_>, queueing: &Queueing, number: usize) -> bool
 
 /// Whether fewer than the width of its queue stand ahead of the queueing.
 #[tactic(auto, using(crate::proofs::Ahead::ahead_ends))]
-fn has_way(shape: &Shape, past: &Past<'_>, queueing: &Queueing) -> bool
-    ensures { result ≡ has_way shape.now past.now queueing.now }
+fn is_below_max_active(shape: &Shape, past: &Past<'_>, queueing: &Queueing) -> bool
+    ensures { result ≡ is_below_max_active shape.now past.now queueing.now }
 {
     let width = width(shape, past, queueing.place.queue.0);
     let mut ahead: u32 = 0;
@@ -67,32 +67,35 @@ fn keeps_widths(reply: Reply) -> bool
     !matches!(reply, Reply::Width(_) | Reply::Frozen | Reply::Thawed)
 }
 
-fn is_open_with_way(shape: &Shape, past: &Past<'_>, queueing: &Queueing) -> bool
-    ensures { result ≡ (is_live past.now queueing.now && has_way shape.now past.now queueing.now) }
+fn is_open_below_max_active(shape: &Shape, past: &Past<'_>, queueing: &Queueing) -> bool
+    ensures { result ≡ (is_live past.now queueing.now && is_below_max_active shape.now past.now queueing.now) }
 {
-    is_live(past, queueing) && has_way(shape, past, queueing)
+    is_live(past, queueing) && is_below_max_active(shape, past, queueing)
 }
 
-/// Whether the queueing had way just before an entry that changed a width.
+/// Whether the queueing was below max_active just before an entry that changed a width.
 #[tactic(auto, using(cmwq_look::proofs::Parts::ends, crate::proofs::Widths::had_steps))]
-fn had_way(shape: &Shape, past: &Past<'_>, queueing: &Queueing) -> bool
-    ensures { result ≡ had_way shape.now past.now queueing.now }
+fn was_below_max_active(shape: &Shape, past: &Past<'_>, queueing: &Queueing) -> bool
+    ensures { result ≡ was_below_max_active shape.now past.now queueing.now }
 {
     let mut had = false;
     for k in 0..past.len() {
         let entry = past.at(k);
         had = had
-            || (!keeps_widths(entry.reply) && is_open_with_way(shape, &past.before(k), queueing));
+            || (!keeps_widths(entry.reply)
+                && is_open_below_max_active(shape, &past.before(k), queueing));
     }
     had
 }
 
-/// Whether the queueing is active: open, and it has way, or had way before a width changed.
-#[tactic(auto, using(cmwq_active::proofs::Looks::active_by_looks))]
+/// Whether the queueing is active: open, and it is below max_active, or was before a width changed.
+#[tactic(auto, using(cmwq_theory_active::proofs::Looks::active_by_looks))]
 fn is_active(shape: &Shape, past: &Past<'_>, queueing: &Queueing) -> bool
     ensures { result ≡ is_active shape.now past.now queueing.now }
 {
-    is_live(past, queueing) && (had_way(shape, past, queueing) || has_way(shape, past, queueing))
+    is_live(past, queueing)
+        && (was_below_max_active(shape, past, queueing)
+            || is_below_max_active(shape, past, queueing))
 }
 
 /// Whether the queueing is on the pool's worklist.

@@ -1,4 +1,4 @@
--- The marks of what runs: what they say of the seats, and how they follow a start and a finish.
+-- The marks of what runs: what they say of the slots, and how they follow a start and a finish.
 use Rattle.std.proofs.Common.{◌≡◌, ◌≢◌, ℕ, zero, suc, ◌+◌, ◌<◌, ◌≤◌, Bool, true, false, cond, eqb, ltb, not, ◌&&◌, ◌||◌, List, [], ◌∷◌, ◌++◌, take, drop, length, get_or, set, map, Option, Some, None, refl, sym, ap, ap₂, ◌∙◌, arith, zero-add}
 use Rattle.std.specs.Prelude.{count_by, find, replicate, is_some, option_map, IfSome}
 use Rattle.std.specs.List.{list_any, range_with_len}
@@ -9,9 +9,9 @@ use Rattle.std.proofs.lemmas.List.FromFn.{length-map-range_with_len}
 use Rattle.std.proofs.lemmas.Bool.Decides.{nat_tests}
 use Rattle.std.proofs.lemmas.Grind.{common_steps}
 use Rattle.cmwq_pool.specs.declared.task.Task.{Task}
-use Rattle.cmwq_pool.specs.declared.seat.Seat.{Seat}
-use Rattle.cmwq_pool.specs.Seats.{no_seat, seat_at, is_run_of, is_of, runs_item, is_idle, is_reserve_at, is_other_idle, new_seat, indices, enlisted_by, with_seat, with_enlisted, seat_running, seat_enlisted, seats_started}
-use Rattle.cmwq_pool.specs.Lineup.{Lineup, is_startable}
+use Rattle.cmwq_pool.specs.declared.slot.Slot.{Slot}
+use Rattle.cmwq_pool.specs.Slots.{no_slot, slot_at, is_run_of, is_of, runs_item, is_idle, is_reserve_at, is_other_idle, new_slot, indices, enlisted_by, with_slot, with_enlisted, slot_running, slot_enlisted, slots_started}
+use Rattle.cmwq_pool.specs.PoolState.{PoolState, is_startable}
 use Rattle.cmwq_pool.specs.Upkeep.{is_free, AreMarked}
 use Rattle.cmwq_pool.proofs.Finding.{find_agree}
 
@@ -40,22 +40,22 @@ marked : (b any : Bool) (n : ℕ) → any ≡ ltb 0 n → n ≡ cond b 1 0 → b
 marked true any n h e = grind (arith, nat_tests)
 marked false any n h e = grind (arith, nat_tests)
 
-pub marks-runs_item : (running : List Bool) (seats : List Seat) (i : ℕ) → AreMarked running seats → get_or running i false ≡ runs_item seats i
-marks-runs_item running seats i m = marked (get_or running i false) (runs_item seats i) (count_by (is_run_of i) seats) (list_any-count_by (is_run_of i) seats) (m.runs i)
+pub marks-runs_item : (running : List Bool) (slots : List Slot) (i : ℕ) → AreMarked running slots → get_or running i false ≡ runs_item slots i
+marks-runs_item running slots i m = marked (get_or running i false) (runs_item slots i) (count_by (is_run_of i) slots) (list_any-count_by (is_run_of i) slots) (m.runs i)
 
--- by the marks and by the seats the same tasks may start
-pub is_free-is_startable : (running : List Bool) (seats : List Seat) → AreMarked running seats → (t : Task) → is_free running t ≡ is_startable seats t
-is_free-is_startable running seats m t = ap not (marks-runs_item running seats t.item.0 m)
+-- by the marks and by the slots the same tasks may start
+pub is_free-is_startable : (running : List Bool) (slots : List Slot) → AreMarked running slots → (t : Task) → is_free running t ≡ is_startable slots t
+is_free-is_startable running slots m t = ap not (marks-runs_item running slots t.item.0 m)
 
-pub next_by_marks : (listed : List Task) (running : List Bool) (seats : List Seat) → AreMarked running seats → find (is_free running) listed ≡ find (is_startable seats) listed
-next_by_marks listed running seats m = find_agree (is_free running) (is_startable seats) (is_free-is_startable running seats m) listed
+pub next_by_marks : (listed : List Task) (running : List Bool) (slots : List Slot) → AreMarked running slots → find (is_free running) listed ≡ find (is_startable slots) listed
+next_by_marks listed running slots m = find_agree (is_free running) (is_startable slots) (is_free-is_startable running slots m) listed
 
--- ---- a seat that passes a test which none in its place would
+-- ---- a slot that passes a test which none in its place would
 
-pub in_range : (p : Seat → Bool) (seats : List Seat) (w : ℕ) → p no_seat ≡ false → p (seat_at seats w) ≡ true → w < length seats
+pub in_range : (p : Slot → Bool) (slots : List Slot) (w : ℕ) → p no_slot ≡ false → p (slot_at slots w) ≡ true → w < length slots
 in_range p [] w none here = cc
-in_range p (x ∷ seats) zero none here = omega arith
-in_range p (x ∷ seats) (suc w) none here = let h = in_range p seats w none here in omega arith
+in_range p (x ∷ slots) zero none here = omega arith
+in_range p (x ∷ slots) (suc w) none here = let h = in_range p slots w none here in omega arith
 
 -- ---- a new pool
 
@@ -64,11 +64,11 @@ none_marked zero i = refl
 none_marked (suc n) zero = refl
 none_marked (suc n) (suc i) = none_marked n i
 
-none_run : (i : ℕ) (xs : List ℕ) → count_by (is_run_of i) (map new_seat xs) ≡ 0
+none_run : (i : ℕ) (xs : List ℕ) → count_by (is_run_of i) (map new_slot xs) ≡ 0
 none_run i [] = refl
-none_run i (x ∷ xs) = count_by-cons (is_run_of i) (new_seat x) (map new_seat xs) ∙ zero-add (count_by (is_run_of i) (map new_seat xs)) ∙ none_run i xs
+none_run i (x ∷ xs) = count_by-cons (is_run_of i) (new_slot x) (map new_slot xs) ∙ zero-add (count_by (is_run_of i) (map new_slot xs)) ∙ none_run i xs
 
-pub AreMarked-new : (items workers : ℕ) → workers ≤ 8 → AreMarked (replicate items false) (map new_seat (range_with_len 0 workers))
+pub AreMarked-new : (items workers : ℕ) → workers ≤ 8 → AreMarked (replicate items false) (map new_slot (range_with_len 0 workers))
 AreMarked-new items workers h = record {
   few = rw length-map-range_with_len h;
   runs = λ i. none_run i (range_with_len 0 workers) ∙ sym (ap (λ (b : Bool). cond b 1 0) (none_marked items i));
@@ -80,8 +80,8 @@ ran : (o : Option Task) (t : Task) → o ≡ Some t → option_map_or (is_of t.i
 ran None t h = cc
 ran (Some x) t h = let e : x ≡ t = cc in rw e (grind (arith, nat_tests))
 
-pub run-in_range : (seats : List Seat) (w : ℕ) (t : Task) → (seat_at seats w).run ≡ Some t → w < length seats
-run-in_range seats w t h = in_range (is_run_of t.item.0) seats w refl (ran (seat_at seats w).run t h)
+pub run-in_range : (slots : List Slot) (w : ℕ) (t : Task) → (slot_at slots w).run ≡ Some t → w < length slots
+run-in_range slots w t h = in_range (is_run_of t.item.0) slots w refl (ran (slot_at slots w).run t h)
 
 mark_within : (running : List Bool) (i : ℕ) → get_or running i false ≡ true → i < length running
 mark_within [] i h = cc
@@ -93,11 +93,11 @@ some_marked true n h e = refl
 some_marked false n h e = absurd (omega arith)
 
 -- what runs is one of the items
-pub run-item_in_range : (running : List Bool) (seats : List Seat) (w : ℕ) (t : Task) → AreMarked running seats → (seat_at seats w).run ≡ Some t → t.item.0 < length running
-run-item_in_range running seats w t m h =
-    let at_least = get_or-le-sum_by (λ seat. cond (is_run_of t.item.0 seat) 1 0) seats w no_seat (run-in_range seats w t h) in
-    let one = rw (ran (seat_at seats w).run t h) at at_least in
-    mark_within running t.item.0 (some_marked (get_or running t.item.0 false) (count_by (is_run_of t.item.0) seats) one (m.runs t.item.0))
+pub run-item_in_range : (running : List Bool) (slots : List Slot) (w : ℕ) (t : Task) → AreMarked running slots → (slot_at slots w).run ≡ Some t → t.item.0 < length running
+run-item_in_range running slots w t m h =
+    let at_least = get_or-le-sum_by (λ slot. cond (is_run_of t.item.0 slot) 1 0) slots w no_slot (run-in_range slots w t h) in
+    let one = rw (ran (slot_at slots w).run t h) at at_least in
+    mark_within running t.item.0 (some_marked (get_or running t.item.0 false) (count_by (is_run_of t.item.0) slots) one (m.runs t.item.0))
 
 -- ---- a start
 
@@ -125,18 +125,18 @@ reserve_in_range false n None h = tt
 reserve_in_range false n (Some x) h = omega arith
 
 -- whom a start enlists is one of the pool
-pub enlisted_by-in_range : (seats : List Seat) (w : ℕ) → IfSome (enlisted_by seats w) (λ x. x < length seats)
-enlisted_by-in_range seats w = reserve_in_range (list_any (is_other_idle seats w) (indices seats)) (length seats) (find (is_reserve_at seats) (indices seats)) (found_in_range (is_reserve_at seats) 0 (length seats))
+pub enlisted_by-in_range : (slots : List Slot) (w : ℕ) → IfSome (enlisted_by slots w) (λ x. x < length slots)
+enlisted_by-in_range slots w = reserve_in_range (list_any (is_other_idle slots w) (indices slots)) (length slots) (find (is_reserve_at slots) (indices slots)) (found_in_range (is_reserve_at slots) 0 (length slots))
 
 -- enlisting changes nothing that runs
-length-enlisted : (seats : List Seat) (e : Option ℕ) → length (with_enlisted e seats) ≡ length seats
-length-enlisted seats None = refl
-length-enlisted seats (Some x) = length-set seats x (seat_enlisted (seat_at seats x))
+length-enlisted : (slots : List Slot) (e : Option ℕ) → length (with_enlisted e slots) ≡ length slots
+length-enlisted slots None = refl
+length-enlisted slots (Some x) = length-set slots x (slot_enlisted (slot_at slots x))
 
-count_by-enlisted : (i : ℕ) (seats : List Seat) (e : Option ℕ) → IfSome e (λ x. x < length seats) → count_by (is_run_of i) (with_enlisted e seats) ≡ count_by (is_run_of i) seats
-count_by-enlisted i seats None h = refl
-count_by-enlisted i seats (Some x) h =
-    let same = count_by-set (is_run_of i) seats x (seat_enlisted (seat_at seats x)) no_seat h in omega (arith, same)
+count_by-enlisted : (i : ℕ) (slots : List Slot) (e : Option ℕ) → IfSome e (λ x. x < length slots) → count_by (is_run_of i) (with_enlisted e slots) ≡ count_by (is_run_of i) slots
+count_by-enlisted i slots None h = refl
+count_by-enlisted i slots (Some x) h =
+    let same = count_by-set (is_run_of i) slots x (slot_enlisted (slot_at slots x)) no_slot h in omega (arith, same)
 
 more_marked : (running : List Bool) (i j n m : ℕ) (b : Bool) → eqb i j ≡ b → i < length running → get_or running i false ≡ false → n ≡ cond (get_or running j false) 1 0 → m + 0 ≡ n + cond b 1 0 → m ≡ cond (get_or (set running i true) j false) 1 0
 more_marked running i j n m true same h free e more =
@@ -150,36 +150,36 @@ more_marked running i j n m false same h free e more =
     let m_is : m ≡ n = omega arith in
     m_is ∙ e ∙ ap (λ (b : Bool). cond b 1 0) (sym (get_or-set_other running i j true false other))
 
-pub AreMarked-started : (running : List Bool) (seats : List Seat) (w : ℕ) (t : Task) → AreMarked running seats → is_idle (seat_at seats w) ≡ true → is_free running t ≡ true → t.item.0 < length running
-    → AreMarked (set running t.item.0 true) (seats_started seats w t)
-AreMarked-started running seats w t m idle free h =
-    let below = in_range is_idle seats w refl idle in
-    let seated = with_seat (seat_running t) w seats in
-    let length_is = length-set seats w (seat_running t (seat_at seats w)) in
+pub AreMarked-started : (running : List Bool) (slots : List Slot) (w : ℕ) (t : Task) → AreMarked running slots → is_idle (slot_at slots w) ≡ true → is_free running t ≡ true → t.item.0 < length running
+    → AreMarked (set running t.item.0 true) (slots_started slots w t)
+AreMarked-started running slots w t m idle free h =
+    let below = in_range is_idle slots w refl idle in
+    let seated = with_slot (slot_running t) w slots in
+    let length_is = length-set slots w (slot_running t (slot_at slots w)) in
     record {
-      few = rw (length-enlisted seated (enlisted_by seats w), length_is) m.few;
+      few = rw (length-enlisted seated (enlisted_by slots w), length_is) m.few;
       runs = λ j.
-          let more = count_by-set (is_run_of j) seats w (seat_running t (seat_at seats w)) no_seat below in
-          let alone = rw (no_run (seat_at seats w).run j (seat_at seats w).enlisted idle) at more in
-          count_by-enlisted j seated (enlisted_by seats w) (rw length_is (enlisted_by-in_range seats w))
-          ∙ more_marked running t.item.0 j (count_by (is_run_of j) seats) (count_by (is_run_of j) seated) (eqb t.item.0 j) refl h (unmarked (get_or running t.item.0 false) free) (m.runs j) alone;
+          let more = count_by-set (is_run_of j) slots w (slot_running t (slot_at slots w)) no_slot below in
+          let alone = rw (no_run (slot_at slots w).run j (slot_at slots w).enlisted idle) at more in
+          count_by-enlisted j seated (enlisted_by slots w) (rw length_is (enlisted_by-in_range slots w))
+          ∙ more_marked running t.item.0 j (count_by (is_run_of j) slots) (count_by (is_run_of j) seated) (eqb t.item.0 j) refl h (unmarked (get_or running t.item.0 false) free) (m.runs j) alone;
     }
 
-pub length-started : (seats : List Seat) (w : ℕ) (t : Task) → length (seats_started seats w t) ≡ length seats
-length-started seats w t = length-enlisted (with_seat (seat_running t) w seats) (enlisted_by seats w) ∙ length-set seats w (seat_running t (seat_at seats w))
+pub length-started : (slots : List Slot) (w : ℕ) (t : Task) → length (slots_started slots w t) ≡ length slots
+length-started slots w t = length-enlisted (with_slot (slot_running t) w slots) (enlisted_by slots w) ∙ length-set slots w (slot_running t (slot_at slots w))
 
 -- ---- a list that was written in place
 
-pub written_back : (old new : List Seat) (n : ℕ) → n ≡ length old → length new ≡ length old → take n (new ++ drop (length new) old) ≡ new
+pub written_back : (old new : List Slot) (n : ℕ) → n ≡ length old → length new ≡ length old → take n (new ++ drop (length new) old) ≡ new
 written_back old new n n_is same = grind (arith, common_steps)
 
-lineup : ℕ → List Task → List Seat → Lineup
-lineup items listed seats = record { items = items; listed = listed; seats = seats }
+pool_state : ℕ → List Task → List Slot → PoolState
+pool_state items listed slots = record { items = items; listed = listed; slots = slots }
 
-pub same_lineup : (p q : Lineup) → p.items ≡ q.items → p.listed ≡ q.listed → p.seats ≡ q.seats → p ≡ q
-unfolding lineup
-same_lineup p q items listed seats =
-    ap (λ n. lineup n p.listed p.seats) items ∙ ap₂ (λ ts ss. lineup q.items ts ss) listed seats
+pub same_pool_state : (p q : PoolState) → p.items ≡ q.items → p.listed ≡ q.listed → p.slots ≡ q.slots → p ≡ q
+unfolding pool_state
+same_pool_state p q items listed slots =
+    ap (λ n. pool_state n p.listed p.slots) items ∙ ap₂ (λ ts ss. pool_state q.items ts ss) listed slots
 
 -- ---- what is next
 

@@ -9,7 +9,7 @@ use Rattle.std.proofs.lemmas.Map.Steps.{length-le_from_distinct_below}
 use Rattle.std.proofs.lemmas.Cmp.{nat_eq_equiv}
 use Rattle.std.proofs.lemmas.Bool.Decides.{nat_tests}
 use Rattle.cmwq_pool.specs.declared.task.Task.{Task}
-use Rattle.cmwq_pool.specs.Lineup.{is_like, is_not}
+use Rattle.cmwq_pool.specs.PoolState.{is_like, is_not}
 use Rattle.cmwq_pool.specs.Upkeep.{numbers_of, items_of, IsWorklist}
 
 -- ---- joining

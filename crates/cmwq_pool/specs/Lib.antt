@@ -1,3 +1,3 @@
-pub mod Seats
-pub mod Lineup
+pub mod Slots
+pub mod PoolState
 pub mod Upkeep

@@ -1,9 +1,9 @@
--- What a pool keeps true of its parts: the list, the room for it, the seats, and for each item whether it runs.
+-- What a pool keeps true of its parts: the list, the room for it, the slots, and for each item whether it runs.
 use Rattle.std.specs.Prelude.{◌≡◌, ℕ, ◌<◌, ◌≤◌, Bool, false, not, nat_eq, if◌then◌else◌, List, length, map, count_by, slice_index_or, All}
 use Rattle.std.specs.List.{IsDistinct}
 use Rattle.cmwq_pool.specs.declared.task.Task.{Task}
-use Rattle.cmwq_pool.specs.declared.seat.Seat.{Seat}
-use Rattle.cmwq_pool.specs.Seats.{is_run_of}
+use Rattle.cmwq_pool.specs.declared.slot.Slot.{Slot}
+use Rattle.cmwq_pool.specs.Slots.{is_run_of}
 
 abbrev pub numbers_of : List Task → List ℕ
 numbers_of listed = map (λ (t : Task). t.number) listed
@@ -17,15 +17,15 @@ pub record IsWorklist (room : ℕ) (listed : List Task) : Type 0 where
   pub items : IsDistinct nat_eq (items_of listed)
   pub in_range : All (λ t. t.item.0 < room) listed
 
--- an item is marked as running exactly if one seat runs it, and no item has two runs
-pub record AreMarked (running : List Bool) (seats : List Seat) : Type 0 where
-  pub few : length seats ≤ 8
-  pub runs : (i : ℕ) → count_by (is_run_of i) seats ≡ (if slice_index_or running i false then 1 else 0)
+-- an item is marked as running exactly if one slot runs it, and no item has two runs
+pub record AreMarked (running : List Bool) (slots : List Slot) : Type 0 where
+  pub few : length slots ≤ 8
+  pub runs : (i : ℕ) → count_by (is_run_of i) slots ≡ (if slice_index_or running i false then 1 else 0)
 
-pub record IsKept (capacity : ℕ) (listed : List Task) (running : List Bool) (seats : List Seat) : Type 0 where
+pub record IsKept (capacity : ℕ) (listed : List Task) (running : List Bool) (slots : List Slot) : Type 0 where
   pub room : length running ≤ capacity
   pub worklist : IsWorklist (length running) listed
-  pub marks : AreMarked running seats
+  pub marks : AreMarked running slots
 
 -- by the marks, the item has no run
 abbrev pub is_free : List Bool → Task → Bool

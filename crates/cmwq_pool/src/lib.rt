@@ -2,11 +2,11 @@
 #![tactic(auto)]
 
 mod pool;
-mod seat;
-mod seats;
+mod slot;
+mod slots;
 mod task;
 mod worklist;
 
 pub use pool::Pool;
-pub use seat::Seat;
+pub use slot::Slot;
 pub use task::Task;

@@ -1,37 +1,37 @@
 ghost use Rattle.std.specs.Prelude.{◌≡◌, ◌<◌, length, IsTrue, IsSome, IfSome, IfOk, Some};
 ghost use Rattle.cmwq_model.specs.Layout.{is_between};
-ghost use Rattle.cmwq_pool.specs.Seats.{seat_at, is_idle, runs_awake, runs_asleep, run_number, runnable, enlisted_by, may_retire, seat_asleep, seat_awake, seat_free, seat_retired};
-ghost use Rattle.cmwq_pool.specs.Lineup.{new_lineup, task, may_add, added, removed, next_task, next, started, reseated};
+ghost use Rattle.cmwq_pool.specs.Slots.{slot_at, is_idle, runs_awake, runs_asleep, run_number, runnable, enlisted_by, may_retire, slot_asleep, slot_awake, slot_free, slot_retired};
+ghost use Rattle.cmwq_pool.specs.PoolState.{new_pool_state, task, may_add, added, removed, next_task, next, started, with_slot_again};
 
-use crate::seat::Seat;
-use crate::seats::{count_holding, enlisted_by, have_spare, new_seats, start_task, take_run};
+use crate::slot::Slot;
+use crate::slots::{count_holding, enlisted_by, have_spare, new_slots, start_task, take_run};
 use crate::task::Task;
 use crate::worklist::{has_like, next_free, no_marks, take_next, take_number};
 use cmwq_model::{ItemId, NoMemory, Number};
 use std::alloc::Global;
 use std::marker::Model;
 
-/// One worker pool of a CPU (the kernel's `worker_pool`). A contract sees what is listed and each worker's seat.
+/// One worker pool of a CPU (the kernel's `worker_pool`). A contract sees what is listed and each worker's slot.
 /// Only `new` takes memory.
 #[derive(Debug, Drop)]
 pub struct Pool {
     /// The queueings that may start, in their order. There is room for one of each item.
     listed: Vec<Task>,
-    seats: Vec<Seat>,
-    /// For each item, whether one of the seats runs it.
+    slots: Vec<Slot>,
+    /// For each item, whether one of the slots runs it.
     running: Vec<bool>,
 }
 
 impl Model for Pool {
     ghost use Rattle.std.specs.Prelude.{length, vec_capacity};
-    ghost use Rattle.cmwq_pool.specs.Lineup.{Lineup};
+    ghost use Rattle.cmwq_pool.specs.PoolState.{PoolState};
     ghost use Rattle.cmwq_pool.specs.Upkeep.{IsKept};
 
-    ghost Value = { Lineup };
+    ghost Value = { PoolState };
 
-    ghost view = { λ a. record { items = length a.running.items; listed = a.listed.items; seats = a.seats.items } };
+    ghost view = { λ a. record { items = length a.running.items; listed = a.listed.items; slots = a.slots.items } };
 
-    ghost invariant = { λ a. IsKept (vec_capacity a.listed) a.listed.items a.running.items a.seats.items };
+    ghost invariant = { λ a. IsKept (vec_capacity a.listed) a.listed.items a.running.items a.slots.items };
 }
 
 impl Pool {
@@ -40,15 +40,15 @@ impl Pool {
     pub fn new(alloc: Global, items: u16, workers: u8) -> Result<Pool, NoMemory>
         requires items { IsTrue (is_between 1 256 items) }
         requires workers { IsTrue (is_between 1 8 workers) }
-        ensures { IfOk result (λ pool. pool ≡ new_lineup items workers) }
+        ensures { IfOk result (λ pool. pool ≡ new_pool_state items workers) }
     {
         let items = usize::from(items);
         let listed = Vec::with_capacity(alloc, items)?;
-        let seats = new_seats(alloc, workers)?;
+        let slots = new_slots(alloc, workers)?;
         let running = no_marks(alloc, items)?;
         Ok(Pool {
             listed,
-            seats,
+            slots,
             running,
         })
     }
@@ -95,96 +95,96 @@ impl Pool {
 
     /// How many runs are awake and not CPU intensive (the kernel's `nr_running`). While there is one, nothing may start.
     pub fn runnable(&self) -> u32
-        ensures { result ≡ runnable self.now.seats }
+        ensures { result ≡ runnable self.now.slots }
     {
-        count_holding(&self.seats)
+        count_holding(&self.slots)
     }
 
     /// How many workers the pool has. Their indices are below it.
     pub fn workers(&self) -> u8
-        ensures { result ≡ length self.now.seats }
+        ensures { result ≡ length self.now.slots }
     {
-        self.seats.len() as u8
+        self.slots.len() as u8
     }
 
-    /// The seat of a worker: whether it is enlisted, what it runs, and whether that sleeps.
-    pub fn seat(&self, worker: u8) -> Seat
-        requires { worker < length self.now.seats }
-        ensures { result ≡ seat_at self.now.seats worker }
+    /// The slot of a worker: whether it is enlisted, what it runs, and whether that sleeps.
+    pub fn slot(&self, worker: u8) -> Slot
+        requires { worker < length self.now.slots }
+        ensures { result ≡ slot_at self.now.slots worker }
     {
         let index = usize::from(worker);
-        self.seats[index]
+        self.slots[index]
     }
 
     /// Whether a worker is enlisted, and not of the reserve.
     pub fn enlisted(&self, worker: u8) -> bool
-        requires { worker < length self.now.seats }
-        ensures { result ≡ (seat_at self.now.seats worker).enlisted }
+        requires { worker < length self.now.slots }
+        ensures { result ≡ (slot_at self.now.slots worker).enlisted }
     {
-        self.seat(worker).enlisted
+        self.slot(worker).enlisted
     }
 
     /// The number of what a worker runs.
     pub fn run_of(&self, worker: u8) -> Option<Number>
-        requires { worker < length self.now.seats }
-        ensures { result ≡ run_number (seat_at self.now.seats worker) }
+        requires { worker < length self.now.slots }
+        ensures { result ≡ run_number (slot_at self.now.slots worker) }
     {
-        let task = self.seat(worker).run?;
+        let task = self.slot(worker).run?;
         Some(task.number)
     }
 
     /// Whether a worker's run sleeps.
     pub fn asleep(&self, worker: u8) -> bool
-        requires { worker < length self.now.seats }
-        ensures { result ≡ (seat_at self.now.seats worker).asleep }
+        requires { worker < length self.now.slots }
+        ensures { result ≡ (slot_at self.now.slots worker).asleep }
     {
-        self.seat(worker).asleep
+        self.slot(worker).asleep
     }
 
     /// The worker that a start of this one would enlist: where no other is idle, the first of the reserve.
     pub fn would_enlist(&self, worker: u8) -> Option<u8>
-        ensures { result ≡ enlisted_by self.now.seats worker }
+        ensures { result ≡ enlisted_by self.now.slots worker }
     {
-        enlisted_by(&self.seats, worker)
+        enlisted_by(&self.slots, worker)
     }
 
     /// An idle worker starts the next queueing, which no run holds back. Answers the worker that this enlists: where
     /// no other idle one is left, the first of the reserve.
     pub fn start(&mut self, worker: u8) -> Option<u8>
-        requires idle { IsTrue (is_idle (seat_at self.old.seats worker)) }
+        requires idle { IsTrue (is_idle (slot_at self.old.slots worker)) }
         requires next { IsSome (next self.old) }
-        requires free { runnable self.old.seats ≡ 0 }
+        requires free { runnable self.old.slots ≡ 0 }
         ensures started { IfSome (next_task self.old) (λ t. self.new ≡ started self.old worker t) }
-        ensures enlisted { result ≡ enlisted_by self.old.seats worker }
+        ensures enlisted { result ≡ enlisted_by self.old.slots worker }
     {
         let task = take_next(&mut self.listed, &self.running);
         self.running[usize::from(task.item.0)] = true;
-        start_task(&mut self.seats, worker, task)
+        start_task(&mut self.slots, worker, task)
     }
 
     /// A worker's run goes to sleep (the kernel's `wq_worker_sleeping`).
     pub fn sleep(&mut self, worker: u8)
-        requires { IsTrue (runs_awake (seat_at self.old.seats worker)) }
-        ensures { self.new ≡ reseated seat_asleep self.old worker }
+        requires { IsTrue (runs_awake (slot_at self.old.slots worker)) }
+        ensures { self.new ≡ with_slot_again slot_asleep self.old worker }
     {
-        self.seats[usize::from(worker)].asleep = true;
+        self.slots[usize::from(worker)].asleep = true;
     }
 
     /// A worker's run wakes up (the kernel's `wq_worker_running`).
     pub fn wake(&mut self, worker: u8)
-        requires { IsTrue (runs_asleep (seat_at self.old.seats worker)) }
-        ensures { self.new ≡ reseated seat_awake self.old worker }
+        requires { IsTrue (runs_asleep (slot_at self.old.slots worker)) }
+        ensures { self.new ≡ with_slot_again slot_awake self.old worker }
     {
-        self.seats[usize::from(worker)].asleep = false;
+        self.slots[usize::from(worker)].asleep = false;
     }
 
     /// A worker ends its run, which is awake. Answers the number of that.
     pub fn finish(&mut self, worker: u8) -> Number
-        requires { IsTrue (runs_awake (seat_at self.old.seats worker)) }
-        ensures free { self.new ≡ reseated seat_free self.old worker }
-        ensures number { run_number (seat_at self.old.seats worker) ≡ Some result }
+        requires { IsTrue (runs_awake (slot_at self.old.slots worker)) }
+        ensures free { self.new ≡ with_slot_again slot_free self.old worker }
+        ensures number { run_number (slot_at self.old.slots worker) ≡ Some result }
     {
-        let task = take_run(&mut self.seats, worker);
+        let task = take_run(&mut self.slots, worker);
         self.running[usize::from(task.item.0)] = false;
         task.number
     }
@@ -192,17 +192,17 @@ impl Pool {
     /// Whether a worker is idle and may go back to the reserve: more than two are idle, and those past two are a
     /// quarter of the enlisted workers with a run, or more (the kernel's `too_many_workers`).
     pub fn may_retire(&self, worker: u8) -> bool
-        requires { worker < length self.now.seats }
-        ensures { result ≡ may_retire self.now.seats worker }
+        requires { worker < length self.now.slots }
+        ensures { result ≡ may_retire self.now.slots worker }
     {
-        self.seat(worker).is_idle() && have_spare(&self.seats)
+        self.slot(worker).is_idle() && have_spare(&self.slots)
     }
 
     /// An idle worker that may retire goes back to the reserve.
     pub fn retire(&mut self, worker: u8)
-        requires { IsTrue (may_retire self.old.seats worker) }
-        ensures { self.new ≡ reseated seat_retired self.old worker }
+        requires { IsTrue (may_retire self.old.slots worker) }
+        ensures { self.new ≡ with_slot_again slot_retired self.old worker }
     {
-        self.seats[usize::from(worker)].enlisted = false;
+        self.slots[usize::from(worker)].enlisted = false;
     }
 }

@@ -1,6 +1,6 @@
 ghost use Rattle.std.specs.Prelude.{◌≡◌, ◌<◌, length, find, position, filter, nat_eq, IsSome, IfOk, Some, replicate, false, vec_capacity, All};
 ghost use Rattle.std.specs.List.{IsDistinct, list_any};
-ghost use Rattle.cmwq_pool.specs.Lineup.{is_like, is_not};
+ghost use Rattle.cmwq_pool.specs.PoolState.{is_like, is_not};
 ghost use Rattle.cmwq_pool.specs.Upkeep.{numbers_of, is_free};
 
 use crate::task::Task;

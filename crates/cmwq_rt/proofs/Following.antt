@@ -12,13 +12,13 @@ use Rattle.cmwq_model.specs.declared.entry.Entry.{Entry}
 use Rattle.cmwq_model.specs.Layout.{Layout}
 use Rattle.cmwq_model.specs.Legal.{past_of}
 use Rattle.cmwq_model.specs.Room.{has_room}
-use Rattle.cmwq_desk.specs.Seats.{Seated, Gains, made_by}
-use Rattle.cmwq_desk.specs.Faults.{Refused, is_full}
-use Rattle.cmwq_desk.specs.declared.fault.RunFault.{RunFault}
-use Rattle.cmwq_desk.specs.declared.fault.RunFault.TheVariants.{NoMemory, Full, Unfinished, NoPlace, Closed, Stranger, NoThread}
-use Rattle.cmwq_desk.specs.Whole.{Completes, BrokeOff, Makes, Behind, EndsTicket, Fires, HadNoRoom, is_tick, is_drain, ticket_given}
-use Rattle.cmwq_desk.proofs.Beginnings.{prefix_self, prefix_trans}
-use Rattle.cmwq_desk.proofs.Entries.{gains_none, gains_more}
+use Rattle.cmwq_monitor.specs.Participants.{View, Gains, made_by}
+use Rattle.cmwq_monitor.specs.Faults.{Refused, is_full}
+use Rattle.cmwq_monitor.specs.declared.fault.RunFault.{RunFault}
+use Rattle.cmwq_monitor.specs.declared.fault.RunFault.TheVariants.{NoMemory, Full, Unfinished, NoPlace, Closed, Stranger, NoThread}
+use Rattle.cmwq_monitor.specs.Whole.{Completes, BrokeOff, Makes, Behind, EndsTicket, Fires, HadNoRoom, is_tick, is_drain, ticket_given}
+use Rattle.cmwq_monitor.proofs.Beginnings.{prefix_self, prefix_trans}
+use Rattle.cmwq_monitor.proofs.Entries.{gains_none, gains_more}
 use Rattle.cmwq_rt.specs.Scripts.{Follows, HasFollowed, HasStopped}
 
 module _ (s : Layout) (who : Who) (old new : List Entry) (more : IsPrefix old new) where
@@ -73,10 +73,10 @@ follows_none s who h [] c made all full (same, none) room = inr (0, ap (λ n. n 
 follows_none s who h (d ∷ ds) c made all full (inl (q, fs, n, f)) room = inl (q, fs, n, follows_none s who h ds c (made ++ fs) all full f room)
 follows_none s who h (d ∷ ds) c made all full (inr (n, is, lacks, f)) room = inr (n + 1, ap (λ k. k + 1) is, lacks, follows_none s who h ds c made all n f room)
 
-pub followed_none : (s : Layout) (v : Seated) → HasFollowed s [] 0 v v
+pub followed_none : (s : Layout) (v : View) → HasFollowed s [] 0 v v
 followed_none s v = record { entries = []; gains = gains_none v; follows = (append-nil (made_by v.who v.seen), refl) }
 
-pub followed_more : (s : Layout) (script : List Call) (c : Call) (full : ℕ) (v m w : Seated) (r : Reply) → HasFollowed s script full v m → Completes s m c r w → HasFollowed s (script ++ c ∷ []) full v w
+pub followed_more : (s : Layout) (script : List Call) (c : Call) (full : ℕ) (v m w : View) (r : Reply) → HasFollowed s script full v m → Completes s m c r w → HasFollowed s (script ++ c ∷ []) full v w
 followed_more s script c full v m w r has x =
     let mine = made_by v.who v.seen in
     let old = follows_later s v.who m.seen w.seen x.gains.older script mine (mine ++ has.entries) full has.follows in
@@ -88,7 +88,7 @@ followed_more s script c full v m w r has x =
       follows = follows_one s v.who w.seen script c mine (mine ++ has.entries) (mine ++ (has.entries ++ x.entries)) full r x.entries old makes (sym (append_assoc mine has.entries x.entries));
     }
 
-pub followed_full : (s : Layout) (script : List Call) (c : Call) (full : ℕ) (v m w : Seated) → HasFollowed s script full v m → Refused s m c Full w → HasFollowed s (script ++ c ∷ []) (full + 1) v w
+pub followed_full : (s : Layout) (script : List Call) (c : Call) (full : ℕ) (v m w : View) → HasFollowed s script full v m → Refused s m c Full w → HasFollowed s (script ++ c ∷ []) (full + 1) v w
 followed_full s script c full v m w has refused =
     let mine = made_by v.who v.seen in
     let all : Gains v has.entries w = subst (λ es. Gains v es w) (append-nil has.entries) (gains_more v m w has.entries [] has.gains refused.0) in
@@ -102,21 +102,21 @@ followed_full s script c full v m w has refused =
     }
 
 -- what is refused for want of room has made no entry
-broke_full : (s : Layout) (v w : Seated) (c : Call) → BrokeOff s v c Full w → Refused s v c Full w
+broke_full : (s : Layout) (v w : View) (c : Call) → BrokeOff s v c Full w → Refused s v c Full w
 broke_full s v w c (inl r) = r
 broke_full s v w c (inr (e, es, gains, part, inl memory)) = absurd (cc memory)
 broke_full s v w c (inr (e, es, gains, part, inr (own, book, stranger, differs))) = absurd (cc stranger)
 
-pub followed_call : (s : Layout) (script : List Call) (k : ℕ) (d : Call) (full : ℕ) (v m w : Seated) (r : Reply) → k < length script
+pub followed_call : (s : Layout) (script : List Call) (k : ℕ) (d : Call) (full : ℕ) (v m w : View) (r : Reply) → k < length script
     → HasFollowed s (take k script) full v m → Completes s m (get_or script k d) r w → HasFollowed s (take (k + 1) script) full v w
 followed_call s script k d full v m w r lt has x = rw (take_more script k d lt) (followed_more s (take k script) (get_or script k d) full v m w r has x)
 
-pub followed_skip : (s : Layout) (script : List Call) (k : ℕ) (d : Call) (full : ℕ) (v m w : Seated) (f : RunFault) → k < length script → f ≡ Full
+pub followed_skip : (s : Layout) (script : List Call) (k : ℕ) (d : Call) (full : ℕ) (v m w : View) (f : RunFault) → k < length script → f ≡ Full
     → HasFollowed s (take k script) full v m → BrokeOff s m (get_or script k d) f w → HasFollowed s (take (k + 1) script) (full + 1) v w
 followed_skip s script k d full v m w f lt is has broke =
     rw (take_more script k d lt) (followed_full s (take k script) (get_or script k d) full v m w has (broke_full s m w (get_or script k d) (subst (λ g. BrokeOff s m (get_or script k d) g w) is broke)))
 
-pub broke_same : (s : Layout) (v w : Seated) (c : Call) (f : RunFault) → BrokeOff s v c f w → w.who ≡ v.who
+pub broke_same : (s : Layout) (v w : View) (c : Call) (f : RunFault) → BrokeOff s v c f w → w.who ≡ v.who
 broke_same s v w c f (inl refused) = refused.0.same
 broke_same s v w c f (inr (e, es, gains, part, stops)) = gains.same
 
@@ -129,7 +129,7 @@ told_full Closed is = absurd (cc is)
 told_full (Stranger own book) is = absurd (cc is)
 told_full NoThread is = absurd (cc is)
 
-pub stopped_at : (s : Layout) (script : List Call) (k : ℕ) (d : Call) (full : ℕ) (v m w : Seated) (f : RunFault) → k < length script → is_full f ≡ false
+pub stopped_at : (s : Layout) (script : List Call) (k : ℕ) (d : Call) (full : ℕ) (v m w : View) (f : RunFault) → k < length script → is_full f ≡ false
     → HasFollowed s (take k script) full v m → BrokeOff s m (get_or script k d) f w → HasStopped s script f v w
 stopped_at s script k d full v m w f lt other has broke = record {
   front = take k script;

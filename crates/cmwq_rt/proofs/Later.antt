@@ -8,30 +8,30 @@ use Rattle.cmwq_model.specs.declared.reply.Reply.{Reply}
 use Rattle.cmwq_model.specs.declared.reply.Reply.TheVariants as reply
 use Rattle.cmwq_model.specs.declared.entry.Entry.{Entry}
 use Rattle.cmwq_model.specs.Layout.{Layout}
-use Rattle.cmwq_desk.specs.Seats.{Seated, Gains, is_caller}
-use Rattle.cmwq_desk.specs.Calls.{Extends}
-use Rattle.cmwq_desk.specs.Faults.{Refused}
-use Rattle.cmwq_desk.specs.declared.fault.RunFault.{RunFault}
-use Rattle.cmwq_desk.proofs.Beginnings.{prefix_self, prefix_trans}
+use Rattle.cmwq_monitor.specs.Participants.{View, Gains, is_caller}
+use Rattle.cmwq_monitor.specs.Calls.{Extends}
+use Rattle.cmwq_monitor.specs.Faults.{Refused}
+use Rattle.cmwq_monitor.specs.declared.fault.RunFault.{RunFault}
+use Rattle.cmwq_monitor.proofs.Beginnings.{prefix_self, prefix_trans}
 use Rattle.cmwq_rt.specs.Later.{Later}
 
-pub later_self : (v : Seated) → Later v v
+pub later_self : (v : View) → Later v v
 later_self v = (refl, omega arith, λ front p. p)
 
-pub later_trans : (v m w : Seated) → Later v m → Later m w → Later v w
+pub later_trans : (v m w : View) → Later v m → Later m w → Later v w
 later_trans v m w a b = (b.0 ∙ a.0, (let x = a.1 in let y = b.1 in omega (arith, x, y)), λ front p. b.2 front (a.2 front p))
 
-pub later_gains : (v w : Seated) (es : List Entry) → Gains v es w → Later v w
+pub later_gains : (v w : View) (es : List Entry) → Gains v es w → Later v w
 later_gains v w es g = (g.same, (let n = g.serial in omega (arith, n)), λ front p. prefix_trans front v.seen w.seen p g.older)
 
-pub later_made : (s : Layout) (v w : Seated) (c : Call) (r : Reply) → Extends s v c r w → Later v w
+pub later_made : (s : Layout) (v w : View) (c : Call) (r : Reply) → Extends s v c r w → Later v w
 later_made s v w c r x = later_gains v w _ x.gains
 
-pub later_refused : (s : Layout) (v w : Seated) (c : Call) (f : RunFault) → Refused s v c f w → Later v w
+pub later_refused : (s : Layout) (v w : View) (c : Call) (f : RunFault) → Refused s v c f w → Later v w
 later_refused s v w c f r = later_gains v w [] r.0
 
 -- a worker that asked to retire where it would be retired, or didn't ask
-pub later_retired : (s : Layout) (v w : Seated) (r : Result Bool RunFault) → IfOk r (λ b. MatchBool b (Extends s v call.Retire reply.Retired w) (w ≡ v)) → IfErr r (λ f. Refused s v call.Retire f w) → Later v w
+pub later_retired : (s : Layout) (v w : View) (r : Result Bool RunFault) → IfOk r (λ b. MatchBool b (Extends s v call.Retire reply.Retired w) (w ≡ v)) → IfErr r (λ f. Refused s v call.Retire f w) → Later v w
 later_retired s v w (Ok true) x n = later_made s v w call.Retire reply.Retired x
 later_retired s v w (Ok false) same n = subst (Later v) (sym same) (later_self v)
 later_retired s v w (Err f) x refused = later_refused s v w call.Retire f refused

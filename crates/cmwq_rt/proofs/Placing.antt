@@ -6,7 +6,7 @@ use Rattle.cmwq_model.specs.declared.id.WorkerId.{WorkerId}
 use Rattle.cmwq_model.specs.declared.shape.Counts.{Counts}
 use Rattle.cmwq_model.specs.declared.shape.QueueShape.{QueueShape}
 use Rattle.cmwq_model.specs.Layout.{Layout, layout_of, is_layout}
-use Rattle.cmwq_desk.specs.Places.{place, lane}
+use Rattle.cmwq_monitor.specs.Places.{place, lane}
 use Rattle.cmwq_rt.specs.Places.{AreCounts, IsNextPlace, after_worker}
 
 and_both : (a b : Bool) → (a && b) ≡ true → (a ≡ true) × (b ≡ true)

@@ -5,8 +5,8 @@ use Rattle.std.proofs.lemmas.Option.{slice_get_within}
 use native.Mathlib.Decide.{ℕ_discrete}
 use mathlib.Core.Logic.{dite}
 use Rattle.cmwq_model.specs.declared.entry.Entry.{Entry}
-use Rattle.cmwq_desk.specs.Seats.{Seated}
-use Rattle.cmwq_desk.specs.Settled.{Settles, AllSettle}
+use Rattle.cmwq_monitor.specs.Participants.{View}
+use Rattle.cmwq_monitor.specs.Settled.{Settles, AllSettle}
 
 get_set_same : {A : Type 0} (l : List A) (i : ℕ) (a b : A) → slice_get (set l i a) i ≡ Some b → a ≡ b
 get_set_same [] i a b e = absurd (cc e)
@@ -21,23 +21,23 @@ get_set_other (x ∷ xs) (suc i) zero a n = refl
 get_set_other (x ∷ xs) (suc i) (suc k) a n = get_set_other xs i k a (λ e. n (ap suc e))
 
 -- those before this place see it all, and those from there on are as they were
-abbrev pub Done : List Entry → List Seated → List Seated → ℕ → Type 0
-Done log old cur i = (k : ℕ) (v w : Seated) → k < i → slice_get old k ≡ Some v → slice_get cur k ≡ Some w → Settles log v w
+abbrev pub Done : List Entry → List View → List View → ℕ → Type 0
+Done log old cur i = (k : ℕ) (v w : View) → k < i → slice_get old k ≡ Some v → slice_get cur k ≡ Some w → Settles log v w
 
-abbrev pub Left : List Seated → List Seated → ℕ → Type 0
+abbrev pub Left : List View → List View → ℕ → Type 0
 Left old cur i = (k : ℕ) → i ≤ k → slice_get cur k ≡ slice_get old k
 
-pub done_more : (log : List Entry) (old cur : List Seated) (i : ℕ) (x y : Seated) → slice_get cur i ≡ Some x → Settles log x y → Done log old cur i → Left old cur i → Done log old (slice_set cur i y) (i + 1)
+pub done_more : (log : List Entry) (old cur : List View) (i : ℕ) (x y : View) → slice_get cur i ≡ Some x → Settles log x y → Done log old cur i → Left old cur i → Done log old (slice_set cur i y) (i + 1)
 done_more log old cur i x y at is done left k v w lt was now =
     dite (ℕ_discrete k i)
     (λ (e : k ≡ i).
     let w_is : y ≡ w = get_set_same cur i y w (subst (λ (j : ℕ). slice_get (set cur i y) j ≡ Some w) e now) in
     let v_is : x ≡ v = (let t : Some x ≡ Some v = sym at ∙ left i (omega arith) ∙ subst (λ (j : ℕ). slice_get old j ≡ Some v) e was in cc t) in
-    subst (λ (p : Seated × Seated). Settles log p.0 p.1) (λ t. (v_is t, w_is t)) is)
+    subst (λ (p : View × View). Settles log p.0 p.1) (λ t. (v_is t, w_is t)) is)
     (λ (n : k ≢ i). done k v w (omega arith) was (sym (get_set_other cur i k y n) ∙ now))
 
-pub left_more : (old cur : List Seated) (i : ℕ) (y : Seated) → Left old cur i → Left old (slice_set cur i y) (i + 1)
+pub left_more : (old cur : List View) (i : ℕ) (y : View) → Left old cur i → Left old (slice_set cur i y) (i + 1)
 left_more old cur i y left k le = get_set_other cur i k y (λ e. omega arith) ∙ left k (omega arith)
 
-pub done_all : (log : List Entry) (old cur : List Seated) (i : ℕ) → length old ≤ i → Done log old cur i → AllSettle log old cur
+pub done_all : (log : List Entry) (old cur : List View) (i : ℕ) → length old ≤ i → Done log old cur i → AllSettle log old cur
 done_all log old cur i le done k v w was now = let lt = slice_get_within old k v was in done k v w (omega arith) was now

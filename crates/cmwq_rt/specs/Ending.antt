@@ -3,13 +3,13 @@ use Rattle.std.specs.Prelude.{◌≡◌, ◌≤◌, ℕ, List, drop, length, sli
 use Rattle.cmwq_model.specs.declared.entry.Entry.{Entry}
 use Rattle.cmwq_model.specs.Layout.{Layout}
 use Rattle.cmwq_model.specs.Legal.{IsLegal, past_of}
-use Rattle.cmwq_desk.specs.Seats.{Seated}
-use Rattle.cmwq_desk.specs.Faults.{IsStranger}
-use Rattle.cmwq_desk.specs.Settled.{AllSettle}
-use Rattle.cmwq_desk.specs.declared.fault.RunFault.{RunFault}
+use Rattle.cmwq_monitor.specs.Participants.{View}
+use Rattle.cmwq_monitor.specs.Faults.{IsStranger}
+use Rattle.cmwq_monitor.specs.Settled.{AllSettle}
+use Rattle.cmwq_monitor.specs.declared.fault.RunFault.{RunFault}
 
 -- there is a legal history that all callers and workers see, and these are its entries behind the first so many
-pub record EndsAs (s : Layout) (c c' w w' : List Seated) (first : ℕ) (rest : List Entry) : Type 0 where
+pub record EndsAs (s : Layout) (c c' w w' : List View) (first : ℕ) (rest : List Entry) : Type 0 where
   pub history : List Entry
   pub legal : IsLegal s (past_of history)
   pub within : first ≤ length history
@@ -18,5 +18,5 @@ pub record EndsAs (s : Layout) (c c' w w' : List Seated) (first : ℕ) (rest : L
   pub workers : AllSettle history w w'
 
 -- one of those handed in is another hub's
-abbrev pub OneIsStranger : List Seated → RunFault → Type 0
-OneIsStranger handed f = (k : ℕ) × (v : Seated) × (slice_get handed k ≡ Some v) × IsStranger v f
+abbrev pub OneIsStranger : List View → RunFault → Type 0
+OneIsStranger handed f = (k : ℕ) × (v : View) × (slice_get handed k ≡ Some v) × IsStranger v f

@@ -2,8 +2,8 @@
 use Rattle.std.specs.Prelude.{◌≡◌, ◌≤◌, List}
 use mathlib.Core.List.{IsPrefix}
 use Rattle.cmwq_model.specs.declared.entry.Entry.{Entry}
-use Rattle.cmwq_desk.specs.Seats.{Seated}
+use Rattle.cmwq_monitor.specs.Participants.{View}
 
 -- It is the same worker, which has made no fewer entries, and whatever began what it had seen begins what it sees now.
-abbrev pub Later : Seated → Seated → Type 0
+abbrev pub Later : View → View → Type 0
 Later v w = (w.who ≡ v.who) × (v.serial ≤ w.serial) × ((front : List Entry) → IsPrefix front v.seen → IsPrefix front w.seen)

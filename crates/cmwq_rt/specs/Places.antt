@@ -3,7 +3,7 @@ use Rattle.std.specs.Prelude.{◌≡◌, ℕ, zero, suc, ◌+◌, ◌<◌, ◌�
 use Rattle.cmwq_model.specs.declared.id.WorkerId.{WorkerId}
 use Rattle.cmwq_model.specs.declared.shape.Counts.{Counts}
 use Rattle.cmwq_model.specs.Layout.{Layout}
-use Rattle.cmwq_desk.specs.Places.{place}
+use Rattle.cmwq_monitor.specs.Places.{place}
 
 -- the callers are given out by number: so many are; the workers in their order: the next one, if one is left, and how many are
 pub record Places : Type 0 where

@@ -8,17 +8,17 @@ use Rattle.cmwq_model.specs.declared.call.Call.TheVariants as call
 use Rattle.cmwq_model.specs.declared.reply.Reply.{Reply}
 use Rattle.cmwq_model.specs.declared.reply.Reply.TheVariants as reply
 use Rattle.cmwq_model.specs.Layout.{Layout}
-use Rattle.cmwq_desk.specs.Seats.{Seated}
-use Rattle.cmwq_desk.specs.Held.{active_in}
-use Rattle.cmwq_desk.specs.Calls.{Extends}
-use Rattle.cmwq_desk.specs.Settled.{Settles}
-use Rattle.cmwq_desk.specs.Starts.{StartsOne}
-use Rattle.cmwq_desk.specs.declared.fault.RunFault.{RunFault}
-use Rattle.cmwq_desk.specs.declared.fault.RunFault.TheVariants.{NoMemory, Full, Closed, Stranger}
+use Rattle.cmwq_monitor.specs.Participants.{View}
+use Rattle.cmwq_monitor.specs.Held.{active_in}
+use Rattle.cmwq_monitor.specs.Calls.{Extends}
+use Rattle.cmwq_monitor.specs.Settled.{Settles}
+use Rattle.cmwq_monitor.specs.Starts.{StartsOne}
+use Rattle.cmwq_monitor.specs.declared.fault.RunFault.{RunFault}
+use Rattle.cmwq_monitor.specs.declared.fault.RunFault.TheVariants.{NoMemory, Full, Closed, Stranger}
 
 -- a worker that runs an item, and the fault that one of its calls has answered since the run began, want of room aside
 pub record Running : Type 0 where
-  pub seat : Seated
+  pub participant : View
   pub fault : Option RunFault
 
 -- the fault of a run after a call has answered
@@ -28,7 +28,7 @@ fault_after (Err Full) old = old
 fault_after (Err f) old = Some f
 
 -- whether a script or a worker's loop may break off with this fault: want of room leaves a call out, and the others are those of who makes
--- seats and threads
+-- participants and threads
 abbrev pub breaks_off : RunFault → Bool
 breaks_off (NoMemory ticket) = true
 breaks_off Closed = true
@@ -36,31 +36,31 @@ breaks_off (Stranger own book) = true
 breaks_off f = false
 
 -- one entry was made, by this call
-abbrev pub MakesOne : Layout → Seated → Call → Seated → Type 0
+abbrev pub MakesOne : Layout → View → Call → View → Type 0
 MakesOne s v c w = (r : Reply) × Extends s v c r w
 
 -- what one run of an item does, as a relation of what its worker saw when it began and when it had ended
 abbrev pub Behavior : Type 1
-Behavior = ItemId → Seated → Seated → Type 0
+Behavior = ItemId → View → View → Type 0
 
 -- the work function ran, and a run that it left asleep woke
-abbrev pub RunsItem : Layout → Behavior → ItemId → Seated → Seated → Type 0
-RunsItem s does item v w = (done : Seated) × does item v done × ((w ≡ done) ⊎ MakesOne s done call.Wake w)
+abbrev pub RunsItem : Layout → Behavior → ItemId → View → View → Type 0
+RunsItem s does item v w = (done : View) × does item v done × ((w ≡ done) ⊎ MakesOne s done call.Wake w)
 
 -- the run ended, and the worker may have been sent to the reserve
-abbrev pub EndsRun : Layout → Seated → Seated → Type 0
-EndsRun s v w = (ended : Seated) × MakesOne s v call.Finish ended × ((w ≡ ended) ⊎ Extends s ended call.Retire reply.Retired w)
+abbrev pub EndsRun : Layout → View → View → Type 0
+EndsRun s v w = (ended : View) × MakesOne s v call.Finish ended × ((w ≡ ended) ⊎ Extends s ended call.Retire reply.Retired w)
 
 -- so many runs, one after another: each starts a queueing, runs its item, and ends
-abbrev pub RunsInTurn : Layout → Behavior → ℕ → Seated → Seated → Type 0
+abbrev pub RunsInTurn : Layout → Behavior → ℕ → View → View → Type 0
 RunsInTurn s does zero v w = w ≡ v
-RunsInTurn s does (suc n) v w = (before started ran : Seated) × (item : ItemId)
+RunsInTurn s does (suc n) v w = (before started ran : View) × (item : ItemId)
     × RunsInTurn s does n v before × StartsOne s before item started × RunsItem s does item started ran × EndsRun s ran w
 
 -- a worker has run what it started, and has made no other entry in the history that it sees
-abbrev pub HasWorked : Layout → Behavior → Seated → Seated → Type 0
-HasWorked s does v w = (n : ℕ) × (last : Seated) × RunsInTurn s does n v last × Settles w.seen last w
+abbrev pub HasWorked : Layout → Behavior → View → View → Type 0
+HasWorked s does v w = (n : ℕ) × (last : View) × RunsInTurn s does n v last × Settles w.seen last w
 
 -- what a worker does next: it starts a queueing of this item, or it sees that nothing active is open
-abbrev pub IsNext : Layout → Seated → Option ItemId → Seated → Type 0
+abbrev pub IsNext : Layout → View → Option ItemId → View → Type 0
 IsNext s v next w = MatchOption next ((active_in s w.seen ≡ 0) × Settles w.seen v w) (λ item. (item.0 < s.items) × StartsOne s v item w)

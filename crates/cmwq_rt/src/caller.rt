@@ -4,17 +4,17 @@ ghost use mathlib.Core.List.{IsPrefix};
 ghost use Rattle.cmwq_model.specs.Layout.{has_numbers, is_callers};
 ghost use Rattle.cmwq_model.specs.Legal.{past_of, IsLegal, bits};
 ghost use Rattle.cmwq_model.specs.declared.call.Call.TheVariants as calls;
-ghost use Rattle.cmwq_desk.specs.Seats.{Agree, Gains, is_caller};
-ghost use Rattle.cmwq_desk.specs.Calls.{Extends};
-ghost use Rattle.cmwq_desk.specs.Faults.{Refused, IsStranger};
-ghost use Rattle.cmwq_desk.specs.Whole.{Completes, BrokeOff, is_tick, ticket_given};
-ghost use Rattle.cmwq_desk.specs.Settled.{Settles};
+ghost use Rattle.cmwq_monitor.specs.Participants.{Agree, Gains, is_caller};
+ghost use Rattle.cmwq_monitor.specs.Calls.{Extends};
+ghost use Rattle.cmwq_monitor.specs.Faults.{Refused, IsStranger};
+ghost use Rattle.cmwq_monitor.specs.Whole.{Completes, BrokeOff, is_tick, ticket_given};
+ghost use Rattle.cmwq_monitor.specs.Settled.{Settles};
 
 use crate::hub::Hub;
 use crate::worker::Worker;
-use cmwq_desk::{Desk, RunFault, Seat};
 use cmwq_model::{Call, CpuId, ItemId, Number, QueueId, Reply, Who};
-use cmwq_versions::{HubName, Sights};
+use cmwq_monitor::{Monitor, Participant, RunFault};
+use cmwq_publish::{HubName, Reader};
 use std::marker::Model;
 use std::sync::Wait;
 use std::sync::ledger::Share;
@@ -22,19 +22,19 @@ use std::sync::ledger::Share;
 /// One of the callers of a hub. Contracts see who it is, its serial and the history that it has seen.
 #[derive(Drop)]
 pub struct Caller<N: HubName> {
-    seat: Seat<N>,
-    sights: Sights<N>,
+    participant: Participant<N>,
+    reader: Reader<N>,
 }
 
 impl<N: HubName> Model for Caller<N> {
     ghost use Rattle.std.specs.Prelude.{◌≡◌, true};
-    ghost use Rattle.cmwq_desk.specs.Seats.{Seated, is_caller};
+    ghost use Rattle.cmwq_monitor.specs.Participants.{View, is_caller};
 
-    ghost Value = { Seated };
+    ghost Value = { View };
 
-    ghost view = { λ c. c.seat };
+    ghost view = { λ c. c.participant };
 
-    ghost invariant = { λ c. is_caller c.seat.who ≡ true };
+    ghost invariant = { λ c. is_caller c.participant.who ≡ true };
 }
 
 fn ticket_in(reply: Reply) -> Option<Number>
@@ -51,43 +51,46 @@ fn ticket_in(reply: Reply) -> Option<Number>
 }
 
 impl<N: HubName> Caller<N> {
-    pub(crate) fn new(seat: Seat<N>, sights: Sights<N>) -> Caller<N>
-        requires { is_caller seat.who ≡ true }
-        ensures { result ≡ seat }
+    pub(crate) fn new(participant: Participant<N>, reader: Reader<N>) -> Caller<N>
+        requires { is_caller participant.who ≡ true }
+        ensures { result ≡ participant }
     {
-        Caller { seat, sights }
+        Caller {
+            participant,
+            reader,
+        }
     }
 
     /// Sees the whole history that lay under the lock of a hub that is no more.
     ///
     /// # Errors
     /// `Stranger` where that was another hub's.
-    pub fn settle(&mut self, desk: &Desk<N>) -> Result<(), RunFault>
-        ensures settled { IfOk result (λ _. Settles desk.now.history self.old self.new) }
+    pub fn settle(&mut self, monitor: &Monitor<N>) -> Result<(), RunFault>
+        ensures settled { IfOk result (λ _. Settles monitor.now.history self.old self.new) }
         ensures stranger { IfErr result (λ f. (self.new ≡ self.old) × IsStranger self.old f) }
     {
-        desk.settle(&mut self.seat)
+        monitor.settle(&mut self.participant)
     }
 
     /// How many entries it has made.
     pub fn serial(&self) -> u64
         ensures { result ≡ self.now.serial }
     {
-        self.seat.serial()
+        self.participant.serial()
     }
 
     /// Of what two callers of a hub have seen the shorter begins the longer.
     pub fn agrees(&self, other: &Caller<N>)
         ensures { Agree self.now.seen other.now.seen }
     {
-        self.seat.agrees(&other.seat);
+        self.participant.agrees(&other.participant);
     }
 
     /// Of what a caller and a worker of a hub have seen the shorter begins the longer.
     pub fn agrees_with(&self, worker: &Worker<N>)
         ensures { Agree self.now.seen worker.now.seen }
     {
-        self.seat.agrees(worker.seat());
+        self.participant.agrees(worker.participant());
     }
 
     /// What the hub's ledger has of it: as many entries as its serial says.
@@ -95,10 +98,10 @@ impl<N: HubName> Caller<N> {
         ensures { (result.parts ≡ 1) × (result.amount ≡ self.serial) }
     {
         let Caller {
-            seat,
-            sights: _sights,
+            participant,
+            reader: _reader,
         } = self;
-        seat.into_share()
+        participant.into_share()
     }
 
     /// The bits of an item (`work_busy`): 1 if it is pending, plus 2 if it runs, after a list of entries that begins with all that the
@@ -112,16 +115,16 @@ impl<N: HubName> Caller<N> {
         ensures same { (self.new.who ≡ self.old.who) × (self.new.serial ≡ self.old.serial) }
         ensures own { Gains self.old [] self.new }
     {
-        let Who::Caller(caller) = self.seat.who() else {
+        let Who::Caller(caller) = self.participant.who() else {
             return None;
         };
-        let own = self.seat.serial();
-        let seen = self.seat.seen();
-        let found = self.sights.look(item, caller)?;
-        if found.front.len() < seen || found.serial != own {
+        let own = self.participant.serial();
+        let seen = self.participant.seen();
+        let found = self.reader.read(item, caller)?;
+        if found.prefix.len() < seen || found.serial != own {
             return None;
         }
-        self.seat.see(&found.front);
+        self.participant.see(&found.prefix);
         Some(found.bits)
     }
 
@@ -132,8 +135,8 @@ impl<N: HubName> Caller<N> {
         ensures made { IfOk result (λ reply. Extends N.layout self.old call reply self.new) }
         ensures refused { IfErr result (λ f. Refused N.layout self.old call f self.new) }
     {
-        let _who = self.seat.who();
-        hub.call(rt, &mut self.seat, call)
+        let _who = self.participant.who();
+        hub.call(rt, &mut self.participant, call)
     }
 
     /// A call that may give a ticket, which is ended as soon as it may be.
@@ -149,20 +152,20 @@ impl<N: HubName> Caller<N> {
         ensures done { IfOk result (λ reply. Completes N.layout self.old call reply self.new) }
         ensures broke { IfErr result (λ f. BrokeOff N.layout self.old call f self.new) }
     {
-        let _who = self.seat.who();
-        let mut desk = hub.spacious(rt, hub.lock(rt), self.seat.who(), 1);
-        let reply = match desk.call(rt, &mut self.seat, call) {
+        let _who = self.participant.who();
+        let mut monitor = hub.spacious(rt, hub.lock(rt), self.participant.who(), 1);
+        let reply = match monitor.call(rt, &mut self.participant, call) {
             Ok(reply) => reply,
             Err(fault) => {
-                hub.leave(desk);
+                hub.leave(monitor);
                 return Err(fault);
             }
         };
         let Some(ticket) = ticket_in(reply) else {
-            hub.leave(desk);
+            hub.leave(monitor);
             return Ok(reply);
         };
-        if let Err(fault) = hub.until_ended(rt, desk, &mut self.seat, call, ticket) {
+        if let Err(fault) = hub.until_ended(rt, monitor, &mut self.participant, call, ticket) {
             return Err(fault);
         }
         Ok(reply)
@@ -339,9 +342,9 @@ impl<N: HubName> Caller<N> {
         ensures done { IfOk result (λ reply. Completes N.layout self.old (calls.Tick ticks) reply self.new) }
         ensures broke { IfErr result (λ f. BrokeOff N.layout self.old (calls.Tick ticks) f self.new) }
     {
-        let mut desk = hub.spacious(rt, hub.lock(rt), self.seat.who(), hub.with_fires());
-        let answer = desk.tick(rt, &mut self.seat, ticks);
-        hub.leave(desk);
+        let mut monitor = hub.spacious(rt, hub.lock(rt), self.participant.who(), hub.with_fires());
+        let answer = monitor.tick(rt, &mut self.participant, ticks);
+        hub.leave(monitor);
         answer
     }
 

@@ -2,16 +2,16 @@
 ghost use Rattle.std.specs.Prelude.{◌≡◌, ◌+◌, ◌<◌, ◌^◌, length, true, IfOk, IfErr, All};
 ghost use Rattle.cmwq_model.specs.Layout.{has_numbers, is_callers};
 ghost use Rattle.cmwq_model.specs.Scripted.{IsScripted};
-ghost use Rattle.cmwq_desk.specs.Faults.{is_full};
-ghost use Rattle.cmwq_desk.specs.Whole.{Completes, BrokeOff};
+ghost use Rattle.cmwq_monitor.specs.Faults.{is_full};
+ghost use Rattle.cmwq_monitor.specs.Whole.{Completes, BrokeOff};
 ghost use Rattle.cmwq_rt.specs.Running.{breaks_off};
 ghost use Rattle.cmwq_rt.specs.Scripts.{HasFollowed, HasStopped};
 
 use crate::caller::Caller;
 use crate::hub::Hub;
-use cmwq_desk::RunFault;
 use cmwq_model::{Call, Reply};
-use cmwq_versions::HubName;
+use cmwq_monitor::RunFault;
+use cmwq_publish::HubName;
 use std::sync::Wait;
 
 fn is_full(fault: RunFault) -> bool

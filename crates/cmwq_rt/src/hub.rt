@@ -1,32 +1,32 @@
-//! The hub: one desk behind a lock.
+//! The hub: one monitor behind a lock.
 ghost use Rattle.std.specs.Prelude.{◌≡◌, ◌⊎◌, ◌<◌, ◌≤◌, ◌++◌, [], OnErr, true, false, IsTrue, IfOk, IfErr, Some, slice_get};
 ghost use Rattle.std.specs.Sync.Mutex.{mutex_guard_value};
 ghost use mathlib.Core.List.{IsPrefix};
 ghost use Rattle.cmwq_model.specs.declared.call.Call.TheVariants as calls;
 ghost use Rattle.cmwq_model.specs.Layout.{fits};
 ghost use Rattle.cmwq_model.specs.Legal.{past_of, IsLegal};
-ghost use Rattle.cmwq_desk.specs.Seats.{is_caller};
-ghost use Rattle.cmwq_desk.specs.Calls.{Extends};
-ghost use Rattle.cmwq_desk.specs.Faults.{Refused};
-ghost use Rattle.cmwq_desk.specs.Steps.{HasEnded, HasEndedSome};
+ghost use Rattle.cmwq_monitor.specs.Participants.{is_caller};
+ghost use Rattle.cmwq_monitor.specs.Calls.{Extends};
+ghost use Rattle.cmwq_monitor.specs.Faults.{Refused};
+ghost use Rattle.cmwq_monitor.specs.Steps.{HasEnded, HasEndedSome};
 ghost use Rattle.cmwq_rt.specs.Later.{Later};
 ghost use Rattle.cmwq_rt.specs.Running.{IsNext, breaks_off};
-ghost use Rattle.cmwq_desk.specs.Settled.{AllSettle};
+ghost use Rattle.cmwq_monitor.specs.Settled.{AllSettle};
 ghost use Rattle.cmwq_rt.specs.Ending.{EndsAs, OneIsStranger};
 
-use crate::bells::Bells;
 use crate::caller::Caller;
+use crate::condvars::Condvars;
 use crate::worker::Worker;
-use cmwq_desk::{Desk, Journal, Rest, RunFault, Seat};
 use cmwq_model::{Call, Entry, ItemId, Number, Reply, Shape, Who};
-use cmwq_versions::HubName;
+use cmwq_monitor::{Journal, Monitor, Participant, Rest, RunFault};
+use cmwq_publish::HubName;
 use std::sync::{Condvar, CondvarTimeouts, Mutex, MutexGuard, Wait};
 use std::time::{Clock, Duration};
 
 /// A Book that threads share. Its callers and workers carry its name, so that none of them is taken for another hub's.
 pub struct Hub<N: HubName> {
-    desk: Mutex<Desk<N>>,
-    bells: Bells,
+    monitor: Mutex<Monitor<N>>,
+    condvars: Condvars,
     journal: Condvar,
     shape: Shape,
     is_dropping: bool,
@@ -34,12 +34,17 @@ pub struct Hub<N: HubName> {
 }
 
 impl<N: HubName> Hub<N> {
-    pub(crate) fn new(desk: Desk<N>, bells: Bells, shape: Shape, is_dropping: bool) -> Hub<N>
+    pub(crate) fn new(
+        monitor: Monitor<N>,
+        condvars: Condvars,
+        shape: Shape,
+        is_dropping: bool,
+    ) -> Hub<N>
         requires { shape ≡ N.layout }
     {
         Hub {
-            desk: Mutex::new(desk),
-            bells,
+            monitor: Mutex::new(monitor),
+            condvars,
             journal: Condvar::new(),
             shape,
             is_dropping,
@@ -56,49 +61,49 @@ impl<N: HubName> Hub<N> {
     /// Callers make no calls from now on: each answers `Closed`. Calls that wait go on to their end, and workers go on until no active
     /// queueing is open.
     pub fn close<R: Wait>(&self, rt: &R) {
-        let mut desk = self.desk.lock(rt);
-        desk.close();
-        self.leave(desk);
+        let mut monitor = self.monitor.lock(rt);
+        monitor.close();
+        self.leave(monitor);
     }
 
     /// Nobody makes a call from now on: each answers `NoMemory`, and so do those that wait. So ends the journal of a hub whose callers and
     /// workers have all come back.
     pub fn fail<R: Wait>(&self, rt: &R) {
-        let mut desk = self.desk.lock(rt);
-        desk.fail();
-        self.leave(desk);
+        let mut monitor = self.monitor.lock(rt);
+        monitor.fail();
+        self.leave(monitor);
     }
 
-    pub(crate) fn lock<R: Wait>(&self, rt: &R) -> MutexGuard<Desk<N>> {
-        self.desk.lock(rt)
+    pub(crate) fn lock<R: Wait>(&self, rt: &R) -> MutexGuard<Monitor<N>> {
+        self.monitor.lock(rt)
     }
 
     /// Lets the lock go, and then wakes those who can go on after what was done under it.
-    pub(crate) fn leave(&self, mut desk: MutexGuard<Desk<N>>) {
-        let rings = desk.rings();
-        let is_wanted = desk.wants_journal();
-        MutexGuard::unlock(desk);
-        self.bells.ring(rings);
+    pub(crate) fn leave(&self, mut monitor: MutexGuard<Monitor<N>>) {
+        let wakes = monitor.wakes();
+        let is_wanted = monitor.wants_journal();
+        MutexGuard::unlock(monitor);
+        self.condvars.notify(wakes);
         if is_wanted {
             self.journal.notify_all();
         }
     }
 
-    /// Sleeps until its bell rings, with the lock let go meanwhile.
+    /// Sleeps until its condvar wakes, with the lock let go meanwhile.
     fn sleep<'a, R: Wait>(
         &self,
         rt: &R,
-        mut desk: MutexGuard<'a, Desk<N>>,
+        mut monitor: MutexGuard<'a, Monitor<N>>,
         who: Who,
-    ) -> MutexGuard<'a, Desk<N>> {
-        let rings = desk.rings();
-        self.bells.ring(rings);
-        if desk.wants_journal() {
+    ) -> MutexGuard<'a, Monitor<N>> {
+        let wakes = monitor.wakes();
+        self.condvars.notify(wakes);
+        if monitor.wants_journal() {
             self.journal.notify_all();
         }
-        let mut desk = self.bells.wait(rt, desk, who);
-        desk.awakes(who);
-        desk
+        let mut monitor = self.condvars.wait(rt, monitor, who);
+        monitor.awakes(who);
+        monitor
     }
 
     /// How many entries are made in one hold of the lock, at most, where what is due is fired behind the first.
@@ -110,21 +115,21 @@ impl<N: HubName> Hub<N> {
     pub(crate) fn spacious<'a, R: Wait>(
         &self,
         rt: &R,
-        desk: MutexGuard<'a, Desk<N>>,
+        monitor: MutexGuard<'a, Monitor<N>>,
         who: Who,
         entries: u32,
-    ) -> MutexGuard<'a, Desk<N>> {
-        let mut desk = desk;
+    ) -> MutexGuard<'a, Monitor<N>> {
+        let mut monitor = monitor;
         for _ in rt.forever() {
-            if desk.has_space(entries) {
-                return desk;
+            if monitor.has_space(entries) {
+                return monitor;
             }
             if self.is_dropping {
-                desk.drop_kept();
-                return desk;
+                monitor.drop_kept();
+                return monitor;
             }
-            desk.crowds();
-            desk = self.sleep(rt, desk, who);
+            monitor.crowds();
+            monitor = self.sleep(rt, monitor, who);
         }
         unreachable!()
     }
@@ -136,9 +141,9 @@ impl<N: HubName> Hub<N> {
         ensures legal { IsLegal N.layout (past_of result.seen) }
         ensures batch { result.batch ≡ [] }
     {
-        let desk = self.desk.lock(rt);
-        let journal = desk.journal(spare);
-        self.leave(desk);
+        let monitor = self.monitor.lock(rt);
+        let journal = monitor.journal(spare);
+        self.leave(monitor);
         let _legal = journal.len();
         journal
     }
@@ -153,14 +158,14 @@ impl<N: HubName> Hub<N> {
         ensures legal { IfOk result (λ _. IsLegal N.layout (past_of journal.new.seen)) }
         ensures refused { OnErr result (journal.new.seen ≡ journal.old.seen) }
     {
-        let mut desk = self.desk.lock(rt);
+        let mut monitor = self.monitor.lock(rt);
         for _ in rt.forever() {
-            if desk.wants_journal() {
+            if monitor.wants_journal() {
                 break;
             }
-            desk = self.journal.wait(rt, desk);
+            monitor = self.journal.wait(rt, monitor);
         }
-        self.give(desk, journal)
+        self.give(monitor, journal)
     }
 
     /// The same, but it sleeps no longer than so, and takes what there is then: so the last entries of a quiet hub are written down too.
@@ -177,23 +182,27 @@ impl<N: HubName> Hub<N> {
         ensures legal { IfOk result (λ _. IsLegal N.layout (past_of journal.new.seen)) }
         ensures refused { OnErr result (journal.new.seen ≡ journal.old.seen) }
     {
-        let mut desk = self.desk.lock(rt);
-        if !desk.wants_journal() {
-            (desk, _) = self.journal.wait_timeout(rt, desk, time);
+        let mut monitor = self.monitor.lock(rt);
+        if !monitor.wants_journal() {
+            (monitor, _) = self.journal.wait_timeout(rt, monitor, time);
         }
-        self.give(desk, journal)
+        self.give(monitor, journal)
     }
 
     /// Hands over what there is, lets the lock go, and answers whether more may come.
-    fn give(&self, desk: MutexGuard<Desk<N>>, journal: &mut Journal<N>) -> Result<bool, RunFault>
+    fn give(
+        &self,
+        monitor: MutexGuard<Monitor<N>>,
+        journal: &mut Journal<N>,
+    ) -> Result<bool, RunFault>
         ensures batch { IfOk result (λ _. journal.new.seen ≡ journal.old.seen ++ journal.new.batch) }
         ensures legal { IfOk result (λ _. IsLegal N.layout (past_of journal.new.seen)) }
         ensures refused { OnErr result (journal.new.seen ≡ journal.old.seen) }
     {
-        let mut desk = desk;
-        let has_failed = desk.has_failed();
-        let handed = desk.hand_over(journal);
-        self.leave(desk);
+        let mut monitor = monitor;
+        let has_failed = monitor.has_failed();
+        let handed = monitor.hand_over(journal);
+        self.leave(monitor);
         match handed {
             Ok(()) => {
                 let _len = journal.len();
@@ -207,16 +216,16 @@ impl<N: HubName> Hub<N> {
     pub(crate) fn call<R: Wait>(
         &self,
         rt: &R,
-        seat: &mut Seat<N>,
+        participant: &mut Participant<N>,
         call: Call,
     ) -> Result<Reply, RunFault>
-        requires { IsTrue (fits N.layout seat.old.who call) }
-        ensures made { IfOk result (λ reply. Extends N.layout seat.old call reply seat.new) }
-        ensures refused { IfErr result (λ f. Refused N.layout seat.old call f seat.new) }
+        requires { IsTrue (fits N.layout participant.old.who call) }
+        ensures made { IfOk result (λ reply. Extends N.layout participant.old call reply participant.new) }
+        ensures refused { IfErr result (λ f. Refused N.layout participant.old call f participant.new) }
     {
-        let mut desk = self.spacious(rt, self.lock(rt), seat.who(), 1);
-        let answer = desk.call(rt, seat, call);
-        self.leave(desk);
+        let mut monitor = self.spacious(rt, self.lock(rt), participant.who(), 1);
+        let answer = monitor.call(rt, participant, call);
+        self.leave(monitor);
         answer
     }
 
@@ -224,35 +233,35 @@ impl<N: HubName> Hub<N> {
     pub(crate) fn until_ended<R: Wait>(
         &self,
         rt: &R,
-        desk: MutexGuard<Desk<N>>,
-        seat: &mut Seat<N>,
+        monitor: MutexGuard<Monitor<N>>,
+        participant: &mut Participant<N>,
         call: Call,
         ticket: Number,
     ) -> Result<(), RunFault>
-        requires { is_caller seat.old.who ≡ true }
-        ensures ended { IfOk result (λ _. HasEnded N.layout seat.old call ticket seat.new) }
-        ensures stopped { IfErr result (λ f. HasEndedSome N.layout seat.old call ticket f seat.new) }
+        requires { is_caller participant.old.who ≡ true }
+        ensures ended { IfOk result (λ _. HasEnded N.layout participant.old call ticket participant.new) }
+        ensures stopped { IfErr result (λ f. HasEndedSome N.layout participant.old call ticket f participant.new) }
     {
         let most = match call {
             Call::Drain { .. } => self.with_fires(),
             _ => 1,
         };
-        let mut desk = desk;
+        let mut monitor = monitor;
         for _ in rt.forever() {
-            desk = self.spacious(rt, desk, seat.who(), most);
-            match desk.end_wait(rt, seat, call, ticket) {
+            monitor = self.spacious(rt, monitor, participant.who(), most);
+            match monitor.end_wait(rt, participant, call, ticket) {
                 Ok(true) => {
-                    self.leave(desk);
+                    self.leave(monitor);
                     return Ok(());
                 }
                 Ok(false) => {}
                 Err(fault) => {
-                    self.leave(desk);
+                    self.leave(monitor);
                     return Err(fault);
                 }
             }
-            desk.waits(seat.who(), call, ticket);
-            desk = self.sleep(rt, desk, seat.who());
+            monitor.waits(participant.who(), call, ticket);
+            monitor = self.sleep(rt, monitor, participant.who());
         }
         unreachable!()
     }
@@ -262,38 +271,38 @@ impl<N: HubName> Hub<N> {
     pub(crate) fn until_start<R: Wait>(
         &self,
         rt: &R,
-        desk: MutexGuard<Desk<N>>,
-        seat: &mut Seat<N>,
+        monitor: MutexGuard<Monitor<N>>,
+        participant: &mut Participant<N>,
     ) -> Result<Option<ItemId>, RunFault>
-        requires { is_caller seat.old.who ≡ false }
+        requires { is_caller participant.old.who ≡ false }
         ensures fault { IfErr result (λ f. breaks_off f ≡ true) }
-        ensures next { IfOk result (λ o. IsNext N.layout seat.old o seat.new) }
-        ensures later { Later seat.old seat.new }
+        ensures next { IfOk result (λ o. IsNext N.layout participant.old o participant.new) }
+        ensures later { Later participant.old participant.new }
     {
-        let mut desk = desk;
+        let mut monitor = monitor;
         for _ in rt.forever() {
-            desk = self.spacious(rt, desk, seat.who(), 1);
-            match desk.start(rt, seat) {
+            monitor = self.spacious(rt, monitor, participant.who(), 1);
+            match monitor.start(rt, participant) {
                 Ok(None) => {}
                 Ok(Some(item)) => {
-                    self.leave(desk);
+                    self.leave(monitor);
                     return Ok(Some(item));
                 }
                 Err(fault) => {
-                    self.leave(desk);
+                    self.leave(monitor);
                     return Err(fault);
                 }
             }
-            if desk.is_over() {
-                let settled = desk.settle(seat);
-                self.leave(desk);
+            if monitor.is_over() {
+                let settled = monitor.settle(participant);
+                self.leave(monitor);
                 return match settled {
                     Ok(()) => Ok(None),
                     Err(fault) => Err(fault),
                 };
             }
-            desk.idles(seat.who());
-            desk = self.sleep(rt, desk, seat.who());
+            monitor.idles(participant.who());
+            monitor = self.sleep(rt, monitor, participant.who());
         }
         unreachable!()
     }
@@ -312,9 +321,9 @@ impl<N: HubName> Hub<N> {
         ensures legal { IfOk result (λ rest. EndsAs N.layout callers.old callers.new workers.old workers.new rest.first rest.entries.items) }
         ensures stranger { IfErr result (λ f. OneIsStranger callers.old f ⊎ OneIsStranger workers.old f) }
     {
-        let desk = self.into_desk();
-        let settled = settle_all(&desk, callers, workers);
-        let rest = desk.end(rt);
+        let monitor = self.into_monitor();
+        let settled = settle_all(&monitor, callers, workers);
+        let rest = monitor.end(rt);
         match settled {
             Ok(()) => Ok(rest),
             Err(fault) => Err(fault),
@@ -322,47 +331,53 @@ impl<N: HubName> Hub<N> {
     }
 
     /// What lay under the lock, for a layer above that settles its callers and workers itself.
-    pub fn into_desk(self) -> Desk<N> {
+    pub fn into_monitor(self) -> Monitor<N> {
         let Hub {
-            desk,
-            bells: _bells,
+            monitor,
+            condvars: _condvars,
             journal: _journal,
             shape: _shape,
             is_dropping: _,
         } = self;
-        desk.into_inner()
+        monitor.into_inner()
     }
 }
 
 fn settle_all<N: HubName>(
-    desk: &Desk<N>,
+    monitor: &Monitor<N>,
     callers: &mut [Caller<N>],
     workers: &mut [Worker<N>],
 ) -> Result<(), RunFault>
-    ensures callers { IfOk result (λ _. AllSettle desk.now.history callers.old callers.new) }
-    ensures workers { IfOk result (λ _. AllSettle desk.now.history workers.old workers.new) }
+    ensures callers { IfOk result (λ _. AllSettle monitor.now.history callers.old callers.new) }
+    ensures workers { IfOk result (λ _. AllSettle monitor.now.history workers.old workers.new) }
     ensures stranger { IfErr result (λ f. OneIsStranger callers.old f ⊎ OneIsStranger workers.old f) }
 {
-    settle_callers(desk, callers)?;
-    settle_workers(desk, workers)
+    settle_callers(monitor, callers)?;
+    settle_workers(monitor, workers)
 }
 
-fn settle_callers<N: HubName>(desk: &Desk<N>, callers: &mut [Caller<N>]) -> Result<(), RunFault>
-    ensures settled { IfOk result (λ _. AllSettle desk.now.history callers.old callers.new) }
+fn settle_callers<N: HubName>(
+    monitor: &Monitor<N>,
+    callers: &mut [Caller<N>],
+) -> Result<(), RunFault>
+    ensures settled { IfOk result (λ _. AllSettle monitor.now.history callers.old callers.new) }
     ensures stranger { IfErr result (λ f. OneIsStranger callers.old f) }
 {
     for caller in callers.iter_mut() {
-        caller.settle(desk)?;
+        caller.settle(monitor)?;
     }
     Ok(())
 }
 
-fn settle_workers<N: HubName>(desk: &Desk<N>, workers: &mut [Worker<N>]) -> Result<(), RunFault>
-    ensures settled { IfOk result (λ _. AllSettle desk.now.history workers.old workers.new) }
+fn settle_workers<N: HubName>(
+    monitor: &Monitor<N>,
+    workers: &mut [Worker<N>],
+) -> Result<(), RunFault>
+    ensures settled { IfOk result (λ _. AllSettle monitor.now.history workers.old workers.new) }
     ensures stranger { IfErr result (λ f. OneIsStranger workers.old f) }
 {
     for worker in workers.iter_mut() {
-        worker.settle(desk)?;
+        worker.settle(monitor)?;
     }
     Ok(())
 }

@@ -1,16 +1,16 @@
 //! The parts of a hub that has no name yet.
 ghost use Rattle.std.specs.Prelude.{◌≡◌, [], IfOk, IfErr, None};
-ghost use Rattle.cmwq_desk.specs.declared.fault.RunFault.TheVariants as faults;
+ghost use Rattle.cmwq_monitor.specs.declared.fault.RunFault.TheVariants as faults;
 ghost use Rattle.cmwq_rt.specs.Places.{all_free};
 
-use crate::bells::Bells;
+use crate::condvars::Condvars;
 use crate::hub::Hub;
-use crate::seats::Seats;
-use cmwq_core::Course;
-use cmwq_desk::{Desk, RunFault, Sleepers};
+use crate::participants::Participants;
+use cmwq_core::Execution;
 use cmwq_model::{Entry, NoMemory, Shape};
+use cmwq_monitor::{Monitor, RunFault, Sleepers};
+use cmwq_publish::{HubName, Opening};
 use cmwq_tail::Tail;
-use cmwq_versions::{HubName, Opening};
 use std::alloc::Global;
 use std::sync::Wait;
 use std::sync::ledger::Blank;
@@ -21,16 +21,16 @@ const SHARES: u64 = 128;
 /// All that a hub needs. No call of the hub takes memory.
 pub struct HubParts {
     pub shape: Shape,
-    shape_of_desk: Shape,
-    course: Course,
+    shape_of_monitor: Shape,
+    execution: Execution,
     tail: Tail<Entry>,
     pub opening: Opening,
     sleepers: Sleepers,
-    bells: Bells,
+    condvars: Condvars,
     pub blank: Blank,
     is_dropping: bool,
-    ghost shapes_are: { shape_of_desk ≡ shape },
-    ghost course_is: { course ≡ record { layout = shape; room = shape.room; entries = [] } },
+    ghost shapes_are: { shape_of_monitor ≡ shape },
+    ghost execution_is: { execution ≡ record { layout = shape; room = shape.room; entries = [] } },
     ghost tail_is: { tail.all ≡ [] },
     ghost opening_is: { (opening.layout ≡ shape) × (opening.readers ≡ shape.callers) },
     ghost shares: { blank.parts ≡ 128 },
@@ -40,30 +40,30 @@ pub struct HubParts {
 #[derive(Drop)]
 struct Rest {
     shape: Shape,
-    shape_of_desk: Shape,
+    shape_of_monitor: Shape,
     sleepers: Sleepers,
-    bells: Bells,
-    course: Course,
+    condvars: Condvars,
+    execution: Execution,
     tail: Tail<Entry>,
 }
 
 fn rest_of(alloc: Global, shape: &Shape, kept: u32) -> Result<Rest, NoMemory>
-    ensures shapes { IfOk result (λ r. (r.shape ≡ shape.now) × (r.shape_of_desk ≡ shape.now)) }
-    ensures course { IfOk result (λ r. r.course ≡ record { layout = shape.now; room = shape.now.room; entries = [] }) }
+    ensures shapes { IfOk result (λ r. (r.shape ≡ shape.now) × (r.shape_of_monitor ≡ shape.now)) }
+    ensures execution { IfOk result (λ r. r.execution ≡ record { layout = shape.now; room = shape.now.room; entries = [] }) }
     ensures tail { IfOk result (λ r. r.tail.all ≡ []) }
 {
     Ok(Rest {
         shape: shape.copy(alloc)?,
-        shape_of_desk: shape.copy(alloc)?,
+        shape_of_monitor: shape.copy(alloc)?,
         sleepers: Sleepers::new(alloc)?,
-        bells: Bells::new(alloc)?,
-        course: Course::new(alloc, shape, shape.counts().room)?,
+        condvars: Condvars::new(alloc)?,
+        execution: Execution::new(alloc, shape, shape.counts().room)?,
         tail: Tail::new(alloc, kept)?,
     })
 }
 
 impl HubParts {
-    /// The Book, the published history with a reader for each caller, a bell for each caller and worker, and the ledger of entries.
+    /// The Book, the published history with a reader for each caller, a condvar for each caller and worker, and the ledger of entries.
     ///
     /// # Errors
     /// `NoMemory` where memory runs out.
@@ -99,20 +99,20 @@ impl HubParts {
         };
         let Rest {
             shape,
-            shape_of_desk,
-            course,
+            shape_of_monitor,
+            execution,
             tail,
             sleepers,
-            bells,
+            condvars,
         } = rest;
         Ok(HubParts {
             shape,
-            shape_of_desk,
-            course,
+            shape_of_monitor,
+            execution,
             tail,
             opening,
             sleepers,
-            bells,
+            condvars,
             blank: Blank::new(SHARES),
             is_dropping: false,
         })
@@ -135,8 +135,8 @@ impl HubParts {
 }
 
 impl<N: HubName> Hub<N> {
-    /// Opens a hub under a name, which a caller's and a worker's type carries. It takes no memory. The seats give out its callers and workers.
-    pub fn open(parts: HubParts) -> (Hub<N>, Seats<N>)
+    /// Opens a hub under a name, which a caller's and a worker's type carries. It takes no memory. The participants give out its callers and workers.
+    pub fn open(parts: HubParts) -> (Hub<N>, Participants<N>)
         requires layout { parts.shape ≡ N.layout }
         requires book { parts.opening.book ≡ N.book }
         requires ledger { (parts.blank.name ≡ N.name) × (parts.blank.parts ≡ N.parts) }
@@ -144,21 +144,31 @@ impl<N: HubName> Hub<N> {
     {
         let HubParts {
             shape,
-            shape_of_desk,
-            course,
+            shape_of_monitor,
+            execution,
             tail,
             opening,
             sleepers,
-            bells,
+            condvars,
             blank,
             is_dropping,
         } = parts;
         let counts = shape.counts();
-        let (shelf, readers) = opening.named::<N>();
-        let start = shelf.front().again();
+        let (publisher, readers) = opening.named::<N>();
+        let start = publisher.prefix().again();
         let (entries, rest) = blank.open::<N>();
-        let desk = Desk::new(shape_of_desk, course, tail, shelf, entries, sleepers);
-        let seats = Seats::new(counts, readers, start, rest);
-        (Hub::new(desk, bells, shape, is_dropping), seats)
+        let monitor = Monitor::new(
+            shape_of_monitor,
+            execution,
+            tail,
+            publisher,
+            entries,
+            sleepers,
+        );
+        let participants = Participants::new(counts, readers, start, rest);
+        (
+            Hub::new(monitor, condvars, shape, is_dropping),
+            participants,
+        )
     }
 }

@@ -2,17 +2,17 @@
 ghost use Rattle.std.specs.Prelude.{◌≡◌, ◌⊎◌, ◌<◌, true, false, IsTrue, IfOk, IfErr, None};
 ghost use Rattle.cmwq_model.specs.Layout.{fits, has_numbers, is_workers};
 ghost use Rattle.cmwq_model.specs.declared.call.Call.TheVariants as calls;
-ghost use Rattle.cmwq_desk.specs.Seats.{is_caller};
-ghost use Rattle.cmwq_desk.specs.Calls.{Extends};
-ghost use Rattle.cmwq_desk.specs.Faults.{Refused, is_full};
+ghost use Rattle.cmwq_monitor.specs.Participants.{is_caller};
+ghost use Rattle.cmwq_monitor.specs.Calls.{Extends};
+ghost use Rattle.cmwq_monitor.specs.Faults.{Refused, is_full};
 ghost use Rattle.cmwq_rt.specs.Later.{Later};
 ghost use Rattle.cmwq_rt.specs.Starting.{HasStarted};
 ghost use Rattle.cmwq_rt.specs.Running.{RunsItem, MakesOne, fault_after, breaks_off};
 
 use crate::hub::Hub;
-use cmwq_desk::{RunFault, Seat};
 use cmwq_model::{Call, CpuId, ItemId, QueueId, Reply, Shape};
-use cmwq_versions::HubName;
+use cmwq_monitor::{Participant, RunFault};
+use cmwq_publish::HubName;
 use core::mem::replace_with;
 use std::marker::Model;
 use std::sync::Wait;
@@ -23,21 +23,21 @@ use std::sync::Wait;
 pub struct RunCtx<'a, N: HubName, R> {
     rt: &'a R,
     hub: &'a Hub<N>,
-    seat: Seat<N>,
+    participant: Participant<N>,
     is_asleep: bool,
     fault: Option<RunFault>,
 }
 
 impl<'a, N: HubName, R> Model for RunCtx<'a, N, R> {
     ghost use Rattle.std.specs.Prelude.{◌≡◌, false, true, IfSome};
-    ghost use Rattle.cmwq_desk.specs.Seats.{is_caller};
+    ghost use Rattle.cmwq_monitor.specs.Participants.{is_caller};
     ghost use Rattle.cmwq_rt.specs.Running.{Running, breaks_off};
 
     ghost Value = { Running };
 
-    ghost view = { λ c. record { seat = c.seat; fault = c.fault } };
+    ghost view = { λ c. record { participant = c.participant; fault = c.fault } };
 
-    ghost invariant = { λ c. (is_caller c.seat.who ≡ false) × IfSome c.fault (λ f. breaks_off f ≡ true) };
+    ghost invariant = { λ c. (is_caller c.participant.who ≡ false) × IfSome c.fault (λ f. breaks_off f ≡ true) };
 }
 
 /// The work functions of all items (the kernel's `work_func_t`).
@@ -55,10 +55,10 @@ pub trait Work {
     /// break off: its worker answers that fault.
     fn run<N: HubName, R: Wait>(&self, item: ItemId, context: &mut RunCtx<N, R>)
         requires item { item.0 < N.layout.items }
-        requires started { HasStarted context.old.seat item }
+        requires started { HasStarted context.old.participant item }
         requires fresh { context.old.fault ≡ None }
-        ensures later { Later context.old.seat context.new.seat }
-        ensures done { context.new.fault ≡ None → does self.now N.layout item context.old.seat context.new.seat };
+        ensures later { Later context.old.participant context.new.participant }
+        ensures done { context.new.fault ≡ None → does self.now N.layout item context.old.participant context.new.participant };
 }
 
 impl<'a, N: HubName, R: Wait> RunCtx<'a, N, R> {
@@ -79,13 +79,13 @@ impl<'a, N: HubName, R: Wait> RunCtx<'a, N, R> {
     fn make(&mut self, call: Call) -> Result<Reply, RunFault>
         requires workers { is_workers call ≡ true }
         requires numbers { has_numbers N.layout call ≡ true }
-        ensures later { Later self.old.seat self.new.seat }
-        ensures made { IfOk result (λ reply. Extends N.layout self.old.seat call reply self.new.seat) }
-        ensures refused { IfErr result (λ f. Refused N.layout self.old.seat call f self.new.seat) }
+        ensures later { Later self.old.participant self.new.participant }
+        ensures made { IfOk result (λ reply. Extends N.layout self.old.participant call reply self.new.participant) }
+        ensures refused { IfErr result (λ f. Refused N.layout self.old.participant call f self.new.participant) }
         ensures fault { self.new.fault ≡ fault_after result self.old.fault }
     {
-        let _who = self.seat.who();
-        let answer = self.hub.call(self.rt, &mut self.seat, call);
+        let _who = self.participant.who();
+        let answer = self.hub.call(self.rt, &mut self.participant, call);
         match answer {
             Ok(_) | Err(RunFault::Full) => {}
             Err(fault) => self.fault = Some(fault),
@@ -99,9 +99,9 @@ impl<'a, N: HubName, R: Wait> RunCtx<'a, N, R> {
     /// `Full` where there is no room for it, `NoMemory` where the hub has failed; it has made no entry then.
     pub fn queue(&mut self, item: ItemId, queue: QueueId, cpu: CpuId) -> Result<Reply, RunFault>
         requires { has_numbers N.layout (calls.Queue item queue cpu) ≡ true }
-        ensures later { Later self.old.seat self.new.seat }
-        ensures made { IfOk result (λ reply. Extends N.layout self.old.seat (calls.Queue item queue cpu) reply self.new.seat) }
-        ensures refused { IfErr result (λ f. Refused N.layout self.old.seat (calls.Queue item queue cpu) f self.new.seat) }
+        ensures later { Later self.old.participant self.new.participant }
+        ensures made { IfOk result (λ reply. Extends N.layout self.old.participant (calls.Queue item queue cpu) reply self.new.participant) }
+        ensures refused { IfErr result (λ f. Refused N.layout self.old.participant (calls.Queue item queue cpu) f self.new.participant) }
         ensures fault { self.new.fault ≡ fault_after result self.old.fault }
     {
         self.make(Call::Queue { item, queue, cpu })
@@ -119,9 +119,9 @@ impl<'a, N: HubName, R: Wait> RunCtx<'a, N, R> {
         ticks: u32,
     ) -> Result<Reply, RunFault>
         requires { has_numbers N.layout (calls.Delay item queue cpu ticks) ≡ true }
-        ensures later { Later self.old.seat self.new.seat }
-        ensures made { IfOk result (λ reply. Extends N.layout self.old.seat (calls.Delay item queue cpu ticks) reply self.new.seat) }
-        ensures refused { IfErr result (λ f. Refused N.layout self.old.seat (calls.Delay item queue cpu ticks) f self.new.seat) }
+        ensures later { Later self.old.participant self.new.participant }
+        ensures made { IfOk result (λ reply. Extends N.layout self.old.participant (calls.Delay item queue cpu ticks) reply self.new.participant) }
+        ensures refused { IfErr result (λ f. Refused N.layout self.old.participant (calls.Delay item queue cpu ticks) f self.new.participant) }
         ensures fault { self.new.fault ≡ fault_after result self.old.fault }
     {
         self.make(Call::Delay {
@@ -144,9 +144,9 @@ impl<'a, N: HubName, R: Wait> RunCtx<'a, N, R> {
         ticks: u32,
     ) -> Result<Reply, RunFault>
         requires { has_numbers N.layout (calls.Modify item queue cpu ticks) ≡ true }
-        ensures later { Later self.old.seat self.new.seat }
-        ensures made { IfOk result (λ reply. Extends N.layout self.old.seat (calls.Modify item queue cpu ticks) reply self.new.seat) }
-        ensures refused { IfErr result (λ f. Refused N.layout self.old.seat (calls.Modify item queue cpu ticks) f self.new.seat) }
+        ensures later { Later self.old.participant self.new.participant }
+        ensures made { IfOk result (λ reply. Extends N.layout self.old.participant (calls.Modify item queue cpu ticks) reply self.new.participant) }
+        ensures refused { IfErr result (λ f. Refused N.layout self.old.participant (calls.Modify item queue cpu ticks) f self.new.participant) }
         ensures fault { self.new.fault ≡ fault_after result self.old.fault }
     {
         self.make(Call::Modify {
@@ -163,9 +163,9 @@ impl<'a, N: HubName, R: Wait> RunCtx<'a, N, R> {
     /// As of `queue`.
     pub fn cancel(&mut self, item: ItemId) -> Result<Reply, RunFault>
         requires { has_numbers N.layout (calls.Cancel item) ≡ true }
-        ensures later { Later self.old.seat self.new.seat }
-        ensures made { IfOk result (λ reply. Extends N.layout self.old.seat (calls.Cancel item) reply self.new.seat) }
-        ensures refused { IfErr result (λ f. Refused N.layout self.old.seat (calls.Cancel item) f self.new.seat) }
+        ensures later { Later self.old.participant self.new.participant }
+        ensures made { IfOk result (λ reply. Extends N.layout self.old.participant (calls.Cancel item) reply self.new.participant) }
+        ensures refused { IfErr result (λ f. Refused N.layout self.old.participant (calls.Cancel item) f self.new.participant) }
         ensures fault { self.new.fault ≡ fault_after result self.old.fault }
     {
         self.make(Call::Cancel { item })
@@ -176,9 +176,9 @@ impl<'a, N: HubName, R: Wait> RunCtx<'a, N, R> {
     /// # Errors
     /// As of `queue`.
     pub fn sleep(&mut self) -> Result<Reply, RunFault>
-        ensures later { Later self.old.seat self.new.seat }
-        ensures made { IfOk result (λ reply. Extends N.layout self.old.seat calls.Sleep reply self.new.seat) }
-        ensures refused { IfErr result (λ f. Refused N.layout self.old.seat calls.Sleep f self.new.seat) }
+        ensures later { Later self.old.participant self.new.participant }
+        ensures made { IfOk result (λ reply. Extends N.layout self.old.participant calls.Sleep reply self.new.participant) }
+        ensures refused { IfErr result (λ f. Refused N.layout self.old.participant calls.Sleep f self.new.participant) }
         ensures fault { self.new.fault ≡ fault_after result self.old.fault }
     {
         let answer = self.make(Call::Sleep);
@@ -191,9 +191,9 @@ impl<'a, N: HubName, R: Wait> RunCtx<'a, N, R> {
     /// # Errors
     /// As of `queue`.
     pub fn wake(&mut self) -> Result<Reply, RunFault>
-        ensures later { Later self.old.seat self.new.seat }
-        ensures made { IfOk result (λ reply. Extends N.layout self.old.seat calls.Wake reply self.new.seat) }
-        ensures refused { IfErr result (λ f. Refused N.layout self.old.seat calls.Wake f self.new.seat) }
+        ensures later { Later self.old.participant self.new.participant }
+        ensures made { IfOk result (λ reply. Extends N.layout self.old.participant calls.Wake reply self.new.participant) }
+        ensures refused { IfErr result (λ f. Refused N.layout self.old.participant calls.Wake f self.new.participant) }
         ensures fault { self.new.fault ≡ fault_after result self.old.fault }
     {
         let answer = self.make(Call::Wake);
@@ -206,10 +206,10 @@ impl<'a, N: HubName, R: Wait> RunCtx<'a, N, R> {
     /// Wakes a run that came back asleep. One that a fault broke off answers it.
     #[tactic(auto, using(crate::proofs::Later::later_self, crate::proofs::Running::refused_breaks_off))]
     fn end_run(&mut self) -> Result<(), RunFault>
-        ensures later { Later self.old.seat self.new.seat }
+        ensures later { Later self.old.participant self.new.participant }
         ensures fault { IfErr result (λ f. breaks_off f ≡ true) }
         ensures whole { IfOk result (λ _. self.old.fault ≡ None) }
-        ensures wakes { IfOk result (λ _. (self.new.seat ≡ self.old.seat) ⊎ MakesOne N.layout self.old.seat calls.Wake self.new.seat) }
+        ensures wakes { IfOk result (λ _. (self.new.participant ≡ self.old.participant) ⊎ MakesOne N.layout self.old.participant calls.Wake self.new.participant) }
     {
         if let Some(fault) = self.fault {
             return Err(fault);
@@ -236,25 +236,25 @@ pub(crate) fn with_room(fault: RunFault) -> RunFault
     }
 }
 
-/// Runs an item in a context that has the worker's seat, and gives the seat back.
+/// Runs an item in a context that has the worker's participant, and gives the participant back.
 fn run_once<N: HubName, R: Wait, W: Work>(
     rt: &R,
     hub: &Hub<N>,
-    seat: Seat<N>,
+    participant: Participant<N>,
     work: &W,
     item: ItemId,
-) -> (Seat<N>, Result<(), RunFault>)
-    requires worker { is_caller seat.who ≡ false }
+) -> (Participant<N>, Result<(), RunFault>)
+    requires worker { is_caller participant.who ≡ false }
     requires item { item.0 < N.layout.items }
-    requires started { HasStarted seat item }
-    ensures later { Later seat result.0 }
-    ensures ran { IfOk result.1 (λ _. RunsItem N.layout (W.does work.now N.layout) item seat result.0) }
+    requires started { HasStarted participant item }
+    ensures later { Later participant result.0 }
+    ensures ran { IfOk result.1 (λ _. RunsItem N.layout (W.does work.now N.layout) item participant result.0) }
     ensures fault { IfErr result.1 (λ f. breaks_off f ≡ true) }
 {
     let mut context = RunCtx {
         rt,
         hub,
-        seat,
+        participant,
         is_asleep: false,
         fault: None,
     };
@@ -263,34 +263,34 @@ fn run_once<N: HubName, R: Wait, W: Work>(
     let RunCtx {
         rt: _,
         hub: _,
-        seat,
+        participant,
         is_asleep: _,
         fault: _,
     } = context;
-    (seat, ended)
+    (participant, ended)
 }
 
 /// The same in place.
 pub(crate) fn run_in<N: HubName, R: Wait, W: Work>(
     rt: &R,
     hub: &Hub<N>,
-    seat: &mut Seat<N>,
+    participant: &mut Participant<N>,
     work: &W,
     item: ItemId,
 ) -> Result<(), RunFault>
-    requires worker { is_caller seat.old.who ≡ false }
+    requires worker { is_caller participant.old.who ≡ false }
     requires item { item.0 < N.layout.items }
-    requires started { HasStarted seat.old item }
-    ensures later { Later seat.old seat.new }
-    ensures ran { IfOk result (λ _. RunsItem N.layout (W.does work.now N.layout) item seat.old seat.new) }
+    requires started { HasStarted participant.old item }
+    ensures later { Later participant.old participant.new }
+    ensures ran { IfOk result (λ _. RunsItem N.layout (W.does work.now N.layout) item participant.old participant.new) }
     ensures fault { IfErr result (λ f. breaks_off f ≡ true) }
 {
     replace_with(
-        seat,
+        participant,
         (),
-        |seat, _nothing| -> (Seat<N>, Result<(), RunFault>)
-            requires { (is_caller seat.who ≡ false) × (item.0 < N.layout.items) × HasStarted seat item }
-            ensures { Later seat result.0 × IfOk result.1 (λ _. RunsItem N.layout (W.does work.entry.now N.layout) item seat result.0) × IfErr result.1 (λ f. breaks_off f ≡ true) }
-        { run_once(rt, hub, seat, work, item) },
+        |participant, _nothing| -> (Participant<N>, Result<(), RunFault>)
+            requires { (is_caller participant.who ≡ false) × (item.0 < N.layout.items) × HasStarted participant item }
+            ensures { Later participant result.0 × IfOk result.1 (λ _. RunsItem N.layout (W.does work.entry.now N.layout) item participant result.0) × IfErr result.1 (λ f. breaks_off f ≡ true) }
+        { run_once(rt, hub, participant, work, item) },
     )
 }

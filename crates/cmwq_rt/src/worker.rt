@@ -2,18 +2,18 @@
 ghost use Rattle.std.specs.Prelude.{◌≡◌, ◌+◌, true, false, IfOk, IfErr};
 ghost use mathlib.Core.List.{IsPrefix};
 ghost use Rattle.cmwq_model.specs.Legal.{past_of, IsLegal};
-ghost use Rattle.cmwq_desk.specs.Seats.{Agree, Seated, is_caller};
-ghost use Rattle.cmwq_desk.specs.Held.{active_in};
-ghost use Rattle.cmwq_desk.specs.Faults.{IsStranger};
+ghost use Rattle.cmwq_monitor.specs.Participants.{Agree, View, is_caller};
+ghost use Rattle.cmwq_monitor.specs.Held.{active_in};
+ghost use Rattle.cmwq_monitor.specs.Faults.{IsStranger};
 ghost use Rattle.cmwq_rt.specs.Later.{Later};
 ghost use Rattle.cmwq_rt.specs.Running.{EndsRun, HasWorked, IsNext, breaks_off};
-ghost use Rattle.cmwq_desk.specs.Settled.{Settles};
+ghost use Rattle.cmwq_monitor.specs.Settled.{Settles};
 
 use crate::hub::Hub;
 use crate::work::{Work, run_in, with_room};
-use cmwq_desk::{Desk, RunFault, Seat};
 use cmwq_model::{Call, ItemId};
-use cmwq_versions::HubName;
+use cmwq_monitor::{Monitor, Participant, RunFault};
+use cmwq_publish::HubName;
 use std::marker::Model;
 use std::sync::Wait;
 use std::sync::ledger::Share;
@@ -21,64 +21,64 @@ use std::sync::ledger::Share;
 /// A worker: it runs what is queued on its pool. Contracts see who it is, its serial and the history that it has seen.
 #[derive(Drop)]
 pub struct Worker<N: HubName> {
-    seat: Seat<N>,
+    participant: Participant<N>,
 }
 
 impl<N: HubName> Model for Worker<N> {
     ghost use Rattle.std.specs.Prelude.{◌≡◌, false};
-    ghost use Rattle.cmwq_desk.specs.Seats.{Seated, is_caller};
+    ghost use Rattle.cmwq_monitor.specs.Participants.{View, is_caller};
 
-    ghost Value = { Seated };
+    ghost Value = { View };
 
-    ghost view = { λ w. w.seat };
+    ghost view = { λ w. w.participant };
 
-    ghost invariant = { λ w. is_caller w.seat.who ≡ false };
+    ghost invariant = { λ w. is_caller w.participant.who ≡ false };
 }
 
 impl<N: HubName> Worker<N> {
-    pub(crate) fn new(seat: Seat<N>) -> Worker<N>
-        requires { is_caller seat.who ≡ false }
-        ensures { result ≡ seat }
+    pub(crate) fn new(participant: Participant<N>) -> Worker<N>
+        requires { is_caller participant.who ≡ false }
+        ensures { result ≡ participant }
     {
-        Worker { seat }
+        Worker { participant }
     }
 
     /// Sees the whole history that lay under the lock of a hub that is no more.
     ///
     /// # Errors
     /// `Stranger` where that was another hub's.
-    pub fn settle(&mut self, desk: &Desk<N>) -> Result<(), RunFault>
-        ensures settled { IfOk result (λ _. Settles desk.now.history self.old self.new) }
+    pub fn settle(&mut self, monitor: &Monitor<N>) -> Result<(), RunFault>
+        ensures settled { IfOk result (λ _. Settles monitor.now.history self.old self.new) }
         ensures stranger { IfErr result (λ f. (self.new ≡ self.old) × IsStranger self.old f) }
     {
-        desk.settle(&mut self.seat)
+        monitor.settle(&mut self.participant)
     }
 
     /// How many entries it has made.
     pub fn serial(&self) -> u64
         ensures { result ≡ self.now.serial }
     {
-        self.seat.serial()
+        self.participant.serial()
     }
 
-    pub(crate) fn seat(&self) -> &Seat<N>
+    pub(crate) fn participant(&self) -> &Participant<N>
         ensures { result.now ≡ self.now }
     {
-        &self.seat
+        &self.participant
     }
 
     /// Of what two workers of a hub have seen the shorter begins the longer.
     pub fn agrees(&self, other: &Worker<N>)
         ensures { Agree self.now.seen other.now.seen }
     {
-        self.seat.agrees(&other.seat);
+        self.participant.agrees(&other.participant);
     }
 
     /// What the hub's ledger has of it: as many entries as its serial says.
     pub fn into_share(self) -> Share<N>
         ensures { (result.parts ≡ 1) × (result.amount ≡ self.serial) }
     {
-        self.seat.into_share()
+        self.participant.into_share()
     }
 }
 
@@ -103,10 +103,10 @@ impl<N: HubName> Hub<N> {
         ensures legal { IsLegal N.layout (past_of worker.new.seen) }
         ensures same { worker.new.who ≡ worker.old.who }
     {
-        let first = worker.seat.serial();
-        let ended = self.run_all(rt, &mut worker.seat, work);
-        let last = worker.seat.serial();
-        let _legal = worker.seat.seen();
+        let first = worker.participant.serial();
+        let ended = self.run_all(rt, &mut worker.participant, work);
+        let last = worker.participant.serial();
+        let _legal = worker.participant.seen();
         match ended {
             Ok(()) => Ok(last - first),
             Err(fault) => {
@@ -120,44 +120,48 @@ impl<N: HubName> Hub<N> {
     fn run_all<R: Wait, W: Work>(
         &self,
         rt: &R,
-        seat: &mut Seat<N>,
+        participant: &mut Participant<N>,
         work: &W,
     ) -> Result<(), RunFault>
-        requires { is_caller seat.old.who ≡ false }
+        requires { is_caller participant.old.who ≡ false }
         ensures fault { IfErr result (λ f. breaks_off f ≡ true) }
-        ensures worked { IfOk result (λ _. HasWorked N.layout (W.does work.now N.layout) seat.old seat.new) }
-        ensures idle { IfOk result (λ _. active_in N.layout seat.new.seen ≡ 0) }
-        ensures later { Later seat.old seat.new }
+        ensures worked { IfOk result (λ _. HasWorked N.layout (W.does work.now N.layout) participant.old participant.new) }
+        ensures idle { IfOk result (λ _. active_in N.layout participant.new.seen ≡ 0) }
+        ensures later { Later participant.old participant.new }
     {
-        let mut next = self.until_start(rt, self.lock(rt), seat)?;
+        let mut next = self.until_start(rt, self.lock(rt), participant)?;
         for _ in rt.forever() {
             let Some(item) = next else {
                 return Ok(());
             };
-            run_in(rt, self, seat, work, item)?;
-            next = self.go_on(rt, seat)?;
+            run_in(rt, self, participant, work, item)?;
+            next = self.go_on(rt, participant)?;
         }
         unreachable!()
     }
 
     /// Ends the run, and starts the next one: in one hold of the lock, if there is one now.
     #[tactic(auto, using(crate::proofs::Running::refused_breaks_off))]
-    fn go_on<R: Wait>(&self, rt: &R, seat: &mut Seat<N>) -> Result<Option<ItemId>, RunFault>
-        requires { is_caller seat.old.who ≡ false }
+    fn go_on<R: Wait>(
+        &self,
+        rt: &R,
+        participant: &mut Participant<N>,
+    ) -> Result<Option<ItemId>, RunFault>
+        requires { is_caller participant.old.who ≡ false }
         ensures fault { IfErr result (λ f. breaks_off f ≡ true) }
-        ensures next { IfOk result (λ o. (ended : Seated) × EndsRun N.layout seat.old ended × IsNext N.layout ended o seat.new) }
-        ensures later { Later seat.old seat.new }
+        ensures next { IfOk result (λ o. (ended : View) × EndsRun N.layout participant.old ended × IsNext N.layout ended o participant.new) }
+        ensures later { Later participant.old participant.new }
     {
-        let mut desk = self.spacious(rt, self.lock(rt), seat.who(), 1);
-        if let Err(fault) = desk.call(rt, seat, Call::Finish) {
-            self.leave(desk);
+        let mut monitor = self.spacious(rt, self.lock(rt), participant.who(), 1);
+        if let Err(fault) = monitor.call(rt, participant, Call::Finish) {
+            self.leave(monitor);
             return Err(with_room(fault));
         }
-        desk = self.spacious(rt, desk, seat.who(), 1);
-        if let Err(fault) = desk.retire(rt, seat) {
-            self.leave(desk);
+        monitor = self.spacious(rt, monitor, participant.who(), 1);
+        if let Err(fault) = monitor.retire(rt, participant) {
+            self.leave(monitor);
             return Err(fault);
         }
-        self.until_start(rt, desk, seat)
+        self.until_start(rt, monitor, participant)
     }
 }

@@ -13,22 +13,22 @@ use Rattle.cmwq_model.specs.Calls.{item_of}
 use Rattle.cmwq_model.specs.Fate.{number_finished, number_cancelled}
 use Rattle.cmwq_model.specs.Queueings.{queueings, still_open, is_live, opening, opens, queued_at, place_wanted}
 use Rattle.cmwq_model.specs.Widths.{width}
-use Rattle.cmwq_model.specs.Active.{is_active, is_ahead, has_way, newly_active}
+use Rattle.cmwq_model.specs.Active.{is_active, is_ahead, is_below_max_active, newly_active}
 use Rattle.cmwq_model.specs.Legal.{IsLegal}
-use Rattle.cmwq_steps.specs.Endings.{is_ended, ending, number_replaced}
-use Rattle.cmwq_steps.specs.Places.{is_on, open_on}
-use Rattle.cmwq_laws.specs.FirstWidths.{HasFirstWidths}
-use Rattle.cmwq_active.specs.Looks.{keeps_widths}
-use Rattle.cmwq_steps.specs.Activations.{waits, behind_width, has_way_at_once}
-use Rattle.cmwq_active.proofs.Lists.{All_each, All_both}
-use Rattle.cmwq_steps.proofs.Ranks.{is_below, Ranked}
-use Rattle.cmwq_steps.proofs.Active.{ways, open_ranked, on_each}
-use Rattle.cmwq_active.proofs.Joined.{active_live}
-use Rattle.cmwq_laws.proofs.AsBefore.{active_as_before}
-use Rattle.cmwq_steps.proofs.Ended.{ends_which}
-use Rattle.cmwq_steps.proofs.RunsActive.{run_is_active}
-use Rattle.cmwq_steps.proofs.NewlyActive.{newly_active_are}
-use Rattle.cmwq_ties.proofs.Members.{In, found, in_filter}
+use Rattle.cmwq_theory_steps.specs.Endings.{is_ended, ending, number_replaced}
+use Rattle.cmwq_theory_steps.specs.Places.{is_on, open_on}
+use Rattle.cmwq_theory_laws.specs.FirstWidths.{HasFirstWidths}
+use Rattle.cmwq_theory_active.specs.Looks.{keeps_widths}
+use Rattle.cmwq_theory_steps.specs.Activations.{waits, behind_width, is_below_max_active_at_once}
+use Rattle.cmwq_theory_active.proofs.Lists.{All_each, All_both}
+use Rattle.cmwq_theory_steps.proofs.Ranks.{is_below, Ranked}
+use Rattle.cmwq_theory_steps.proofs.Active.{ways, open_ranked, on_each}
+use Rattle.cmwq_theory_active.proofs.Joined.{active_live}
+use Rattle.cmwq_theory_laws.proofs.AsBefore.{active_as_before}
+use Rattle.cmwq_theory_steps.proofs.Ended.{ends_which}
+use Rattle.cmwq_theory_steps.proofs.RunsActive.{run_is_active}
+use Rattle.cmwq_theory_steps.proofs.NewlyActive.{newly_active_are}
+use Rattle.cmwq_refinement.proofs.Members.{In, found, in_filter}
 use Rattle.cmwq_sim.specs.Plan.{Plan, queue_of, is_of}
 use Rattle.cmwq_sim.specs.Lines.{Moment, items_of}
 use Rattle.cmwq_sim.specs.Shows.{layout_for, worker, queueing_for, IsRunAt, Shows}
@@ -62,11 +62,11 @@ find_turned p q (x ∷ xs) = at (p x) refl (q x) refl (find_turned p q xs)
     at false ha true hb same = ap (λ c. cond c (Some x) (find p (filter q xs))) ha ∙ same
     at false ha false hb same = same
 
--- while the widths are the first ones, what is open is active where there is way
-active_way : (s : Layout) (past : List Entry) (x : Queueing) → HasFirstWidths s past → ((q : ℕ) → width s past q ≡ first_width s q) → is_live past x ≡ true → is_active s past x ≡ has_way s past x
+-- while the widths are the first ones, what is open is active where it is below max_active
+active_way : (s : Layout) (past : List Entry) (x : Queueing) → HasFirstWidths s past → ((q : ℕ) → width s past q ≡ first_width s q) → is_live past x ≡ true → is_active s past x ≡ is_below_max_active s past x
 active_way s past x old wide live = active_as_before s past x old ∙ ap₂ (λ l w. l && nat_lt (count_by (is_ahead x) (still_open past)) w) live (sym (wide x.place.queue.0))
 
-first_waiting : (s : Plan) (past : List Entry) (i : ℕ) → HasFirstWidths (layout_for s) past → ((q : ℕ) → width (layout_for s) past q ≡ first_width (layout_for s) q) → has_way (layout_for s) past (queueing_for s i) ≡ true
+first_waiting : (s : Plan) (past : List Entry) (i : ℕ) → HasFirstWidths (layout_for s) past → ((q : ℕ) → width (layout_for s) past q ≡ first_width (layout_for s) q) → is_below_max_active (layout_for s) past (queueing_for s i) ≡ true
     → filter (waits (layout_for s) past) (option_to_list (behind_width (layout_for s) past (Some (queueing_for s i)))) ≡ option_to_list (find (is_on (queue_of s i) 0) (filter (waits (layout_for s) past) (still_open past)))
 first_waiting s past i old wide way =
     ap (λ b. filter (waits (layout_for s) past) (option_to_list (if b then slice_get (open_on past q 0) w else None))) way
@@ -84,8 +84,8 @@ first_waiting s past i old wide way =
     none = omega arith
 
     each : AllByRecursion (λ x. is_active (layout_for s) past x ≡ nat_lt (count_by (is_below x) (open_on past (queue_of s i) 0)) (width (layout_for s) past (queue_of s i))) (open_on past (queue_of s i) 0)
-    each = All_both (λ x. is_active (layout_for s) past x ≡ has_way (layout_for s) past x) (λ x. has_way (layout_for s) past x ≡ nat_lt (count_by (is_below x) (open_on past (queue_of s i) 0)) (width (layout_for s) past (queue_of s i))) _ (open_on past (queue_of s i) 0) (λ x a b. a ∙ b)
-        (on_each (λ x. is_active (layout_for s) past x ≡ has_way (layout_for s) past x) past (queue_of s i) 0 (All_each _ (queueings past) (λ x live on. active_way (layout_for s) past x old wide live)))
+    each = All_both (λ x. is_active (layout_for s) past x ≡ is_below_max_active (layout_for s) past x) (λ x. is_below_max_active (layout_for s) past x ≡ nat_lt (count_by (is_below x) (open_on past (queue_of s i) 0)) (width (layout_for s) past (queue_of s i))) _ (open_on past (queue_of s i) 0) (λ x a b. a ∙ b)
+        (on_each (λ x. is_active (layout_for s) past x ≡ is_below_max_active (layout_for s) past x) past (queue_of s i) 0 (All_each _ (queueings past) (λ x live on. active_way (layout_for s) past x old wide live)))
         (ways (layout_for s) past (queue_of s i) 0)
 
 -- ---- what a finish makes ready is the first of the queue that is behind
@@ -94,8 +94,8 @@ mapped : (s : Plan) (y : Queueing) (xs : List ℕ) → In y (map (queueing_for s
 mapped s y [] h = absurd h
 mapped s y (x ∷ xs) h = ⊎_elim (λ e. sym e ∙ ap (λ (z : Queueing). queueing_for s z.number) e) (λ later. mapped s y xs later) h
 
-ends_run : (s : Plan) (past : List Entry) (m : Moment) (seat : ℕ → ℕ) (e : Entry) (i : ℕ) → Shows s past m seat → IsLegal (layout_for s) (e ∷ past) → e.reply ≡ reply.Finished i → ending past e ≡ Some (queueing_for s i)
-ends_run s past m seat e i h legal is = at (ending past e) refl
+ends_run : (s : Plan) (past : List Entry) (m : Moment) (slot : ℕ → ℕ) (e : Entry) (i : ℕ) → Shows s past m slot → IsLegal (layout_for s) (e ∷ past) → e.reply ≡ reply.Finished i → ending past e ≡ Some (queueing_for s i)
+ends_run s past m slot e i h legal is = at (ending past e) refl
     (ends_which (layout_for s) past e legal ∙ ap (λ r. option_or (number_finished r) (option_or (number_cancelled e.reply) (number_replaced past e))) is)
   where
     at : (o : Option Queueing) → ending past e ≡ o → option_map (λ (x : Queueing). x.number) (ending past e) ≡ Some i → ending past e ≡ Some (queueing_for s i)
@@ -116,20 +116,20 @@ find_mapped s q (x ∷ xs) = at (queue_of s x == q) (find_mapped s q xs)
     at true h = refl
     at false h = h
 
-pub finish_makes_ready : (s : Plan) (past : List Entry) (m : Moment) (seat : ℕ → ℕ) (e : Entry) (x i : ℕ) → Shows s past m seat → HasFirstWidths (layout_for s) past → ((q : ℕ) → width (layout_for s) past q ≡ first_width (layout_for s) q)
+pub finish_makes_ready : (s : Plan) (past : List Entry) (m : Moment) (slot : ℕ → ℕ) (e : Entry) (x i : ℕ) → Shows s past m slot → HasFirstWidths (layout_for s) past → ((q : ℕ) → width (layout_for s) past q ≡ first_width (layout_for s) q)
     → IsLegal (layout_for s) (e ∷ past) → e.reply ≡ reply.Finished i → IsRunAt past x i false
     → newly_active (layout_for s) past e ≡ option_to_list (option_map (queueing_for s) (find (is_of s (queue_of s i)) m.behind))
-finish_makes_ready s past m seat e x i h old wide legal is r =
+finish_makes_ready s past m slot e x i h old wide legal is r =
     newly_active_are (layout_for s) past e legal (ap keeps_widths is)
-    ∙ ap₂ (λ a b. filter (waits (layout_for s) past) (option_to_list (behind_width (layout_for s) past a)) ++ filter (has_way_at_once (layout_for s) past e) (option_to_list b)) (ends_run s past m seat e i h legal is) opened
+    ∙ ap₂ (λ a b. filter (waits (layout_for s) past) (option_to_list (behind_width (layout_for s) past a)) ++ filter (is_below_max_active_at_once (layout_for s) past e) (option_to_list b)) (ends_run s past m slot e i h legal is) opened
     ∙ append-nil _ ∙ first_waiting s past i old wide way ∙ ap (λ xs. option_to_list (find (is_on (queue_of s i) 0) xs)) h.behind ∙ ap option_to_list (find_mapped s (queue_of s i) m.behind)
   where
     opened : opening past e ≡ None
     opened = ap (λ r. if opens r then option_and_then (λ j. option_map (queued_at past j) (place_wanted past e.call j)) (item_of e) else None) is
 
-    way : has_way (layout_for s) past (queueing_for s i) ≡ true
+    way : is_below_max_active (layout_for s) past (queueing_for s i) ≡ true
     way =
         let k = run_is_active (layout_for s) past (worker x) i h.legal r.runs in
-        let same : k.queueing ≡ queueing_for s i = same_Some k.queueing (queueing_for s i) (sym k.found ∙ run_found s past m seat (worker x) i h r.runs) in
+        let same : k.queueing ≡ queueing_for s i = same_Some k.queueing (queueing_for s i) (sym k.found ∙ run_found s past m slot (worker x) i h r.runs) in
         let active : is_active (layout_for s) past (queueing_for s i) ≡ true = subst (λ y. is_active (layout_for s) past y ≡ true) same k.active in
         sym (active_way (layout_for s) past (queueing_for s i) old wide (active_live (layout_for s) past (queueing_for s i) active)) ∙ active

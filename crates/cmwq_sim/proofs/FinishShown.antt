@@ -20,29 +20,29 @@ use Rattle.cmwq_model.specs.Queueings.{queueings, still_open, is_live, opens, qu
 use Rattle.cmwq_model.specs.Active.{is_active, is_newly_active, newly_active, worklist}
 use Rattle.cmwq_model.specs.Answer.{answer}
 use Rattle.cmwq_model.specs.Legal.{IsLegal, entry_for}
-use Rattle.cmwq_steps.specs.Endings.{is_spared}
-use Rattle.cmwq_steps.specs.Activations.{waits, is_left, is_in}
-use Rattle.cmwq_active.specs.Looks.{keeps_widths}
-use Rattle.cmwq_active.proofs.Lists.{All_each, All_map, All_filter, All_both, count_by-cons}
-use Rattle.cmwq_steps.proofs.Filters.{filter_same, filter_twice, count_none}
-use Rattle.cmwq_active.proofs.Joined.{stays_active}
-use Rattle.cmwq_steps.proofs.Endings.{open_go_on}
-use Rattle.cmwq_steps.proofs.Promoted.{newly_of_open}
-use Rattle.cmwq_active.proofs.Widths.{width_same}
-use Rattle.cmwq_steps.proofs.WorklistSteps.{worklists_go_on}
-use Rattle.cmwq_ties.proofs.Members.{In, found, of_in, all_in, in_filter, filter_in, in_option}
+use Rattle.cmwq_theory_steps.specs.Endings.{survives}
+use Rattle.cmwq_theory_steps.specs.Activations.{waits, is_left, is_in}
+use Rattle.cmwq_theory_active.specs.Looks.{keeps_widths}
+use Rattle.cmwq_theory_active.proofs.Lists.{All_each, All_map, All_filter, All_both, count_by-cons}
+use Rattle.cmwq_theory_steps.proofs.Filters.{filter_same, filter_twice, count_none}
+use Rattle.cmwq_theory_active.proofs.Joined.{stays_active}
+use Rattle.cmwq_theory_steps.proofs.Endings.{open_go_on}
+use Rattle.cmwq_theory_steps.proofs.Promoted.{newly_of_open}
+use Rattle.cmwq_theory_active.proofs.Widths.{width_same}
+use Rattle.cmwq_theory_steps.proofs.WorklistSteps.{worklists_go_on}
+use Rattle.cmwq_refinement.proofs.Members.{In, found, of_in, all_in, in_filter, filter_in, in_option}
 use Rattle.cmwq_sim.specs.Plan.{Plan, queue_of, is_of, no_queue}
 use Rattle.cmwq_sim.specs.Lines.{Moment, Job, is_other}
 use Rattle.cmwq_sim.specs.Shows.{layout_for, queue_shape, pool, worker, queueing_for, IsRunAt, is_job, is_sleeper, runs_in, Shows}
 use Rattle.cmwq_sim.proofs.TakeReads.{any_counted, one_fewer, finish_answered}
 use Rattle.cmwq_sim.proofs.TakeShown.{goes_by}
-use Rattle.cmwq_ties.proofs.PoolNext.{runner_there}
-use Rattle.cmwq_steps.proofs.RunSteps.{workers_run_on}
-use Rattle.cmwq_steps.proofs.OwedSteps.{by_itself}
-use Rattle.cmwq_steps.specs.RunSteps.{run_after}
+use Rattle.cmwq_refinement.proofs.PoolNext.{runner_there}
+use Rattle.cmwq_theory_steps.proofs.RunSteps.{workers_run_on}
+use Rattle.cmwq_theory_steps.proofs.OwedSteps.{by_itself}
+use Rattle.cmwq_theory_steps.specs.RunSteps.{run_after}
 use Rattle.cmwq_model.specs.Runs.{run}
 use Rattle.cmwq_model.specs.Workers.{is_retired}
-use Rattle.cmwq_sim.proofs.Steps.{count-append, other_seat}
+use Rattle.cmwq_sim.proofs.Steps.{count-append, other_slot}
 use Rattle.cmwq_sim.proofs.Finish.{finish_makes_ready}
 
 -- what stays behind
@@ -83,10 +83,10 @@ turned p q xs = filter_twice p q xs ∙ filter_same _ _ xs (All_each _ xs (λ x.
 pub in_pool : (s : Plan) (k : ℕ) → is_in (layout_for s) pool (queueing_for s k) ≡ true
 in_pool s k = ap (λ b. beq b false) (ap (λ (x : QueueShape). x.high) (get_or-map queue_shape s.queues (queue_of s k) no_queue))
 
-module _ (s : Plan) (past : List Entry) (m : Moment) (seat : ℕ → ℕ) (e : Entry) (i : ℕ) (h : Shows s past m seat) (legal : IsLegal (layout_for s) (e ∷ past)) (is : e.reply ≡ reply.Finished i) (on : list_any (is_job i) m.cpu ≡ true)
+module _ (s : Plan) (past : List Entry) (m : Moment) (slot : ℕ → ℕ) (e : Entry) (i : ℕ) (h : Shows s past m slot) (legal : IsLegal (layout_for s) (e ∷ past)) (is : e.reply ≡ reply.Finished i) (on : list_any (is_job i) m.cpu ≡ true)
     (o : Option ℕ) (makes : newly_active (layout_for s) past e ≡ option_to_list (option_map (queueing_for s) o)) where
-  spared : (k : ℕ) → is_spared past e (queueing_for s k) ≡ not (i == k)
-  spared k = ap (λ r. not (is_at (number_finished r) k) && not (is_at (number_cancelled r) k) && not (replaces r && is_of_item k e && not (is_started past k))) is ∙ and_twice (not (i == k))
+  survivors : (k : ℕ) → survives past e (queueing_for s k) ≡ not (i == k)
+  survivors k = ap (λ r. not (is_at (number_finished r) k) && not (is_at (number_cancelled r) k) && not (replaces r && is_of_item k e && not (is_started past k))) is ∙ and_twice (not (i == k))
 
   differ : (k : ℕ) → (k == i) ≡ false → not (i == k) ≡ true
   differ k apart_is = ap not (ne_eqb i k (λ same. apart (k == i) apart_is (eq-eqb k i (sym same))))
@@ -101,13 +101,13 @@ module _ (s : Plan) (past : List Entry) (m : Moment) (seat : ℕ → ℕ) (e : E
   behind_others : AllByRecursion (λ k. (k == i) ≡ false) m.behind
   behind_others = let c = any_counted (is_job i) m.cpu on in let t = h.once i in count_none (λ k. k == i) m.behind (omega arith)
 
-  open_after : still_open (e ∷ past) ≡ filter (is_spared past e) (still_open past)
-  open_after = open_go_on (layout_for s) past e legal ∙ ap (λ r. filter (is_spared past e) (still_open past) ++ option_to_list (if opens r then option_and_then (λ j. option_map (queued_at past j) (place_wanted past e.call j)) (item_of e) else None)) is ∙ append-nil (filter (is_spared past e) (still_open past))
+  open_after : still_open (e ∷ past) ≡ filter (survives past e) (still_open past)
+  open_after = open_go_on (layout_for s) past e legal ∙ ap (λ r. filter (survives past e) (still_open past) ++ option_to_list (if opens r then option_and_then (λ j. option_map (queued_at past j) (place_wanted past e.call j)) (item_of e) else None)) is ∙ append-nil (filter (survives past e) (still_open past))
 
   -- ---- the worklist
 
   left : (k : ℕ) → (k == i) ≡ false → is_left past e (queueing_for s k) ≡ true
-  left k apart_is = ap₂ (λ b r. b && not (is_at (number_started r) k)) (spared k ∙ differ k apart_is) is
+  left k apart_is = ap₂ (λ b r. b && not (is_at (number_started r) k)) (survivors k ∙ differ k apart_is) is
 
   all_left : (xs : List ℕ) → AllByRecursion (λ k. (k == i) ≡ false) xs → filter (is_left past e) (map (queueing_for s) xs) ≡ map (queueing_for s) xs
   all_left [] each = refl
@@ -142,7 +142,7 @@ module _ (s : Plan) (past : List Entry) (m : Moment) (seat : ℕ → ℕ) (e : E
   behind_open : (k : ℕ) → In k m.behind → In (queueing_for s k) (still_open (e ∷ past))
   behind_open k there =
       let waiting = in_filter (waits (layout_for s) past) (still_open past) (queueing_for s k) (subst (In (queueing_for s k)) (sym h.behind) (in_map s k m.behind there)) in
-      subst (In (queueing_for s k)) (sym open_after) (filter_in (is_spared past e) (still_open past) (queueing_for s k) waiting.0 (spared k ∙ differ k (of_in (λ j. (j == i) ≡ false) m.behind k behind_others there)))
+      subst (In (queueing_for s k)) (sym open_after) (filter_in (survives past e) (still_open past) (queueing_for s k) waiting.0 (survivors k ∙ differ k (of_in (λ j. (j == i) ≡ false) m.behind k behind_others there)))
 
   same : (x : Queueing) → is_live (e ∷ past) x ≡ true → not (is_active (layout_for s) (e ∷ past) x) ≡ (waits (layout_for s) past x && not (is_newly_active (layout_for s) past e x))
   same x live = at (is_active (layout_for s) past x) refl (is_active (layout_for s) (e ∷ past) x) refl
@@ -153,23 +153,23 @@ module _ (s : Plan) (past : List Entry) (m : Moment) (seat : ℕ → ℕ) (e : E
       at false was true now = refl
       at false was false now = refl
 
-  spare_behind : (xs : List ℕ) → AllByRecursion (λ k. (k == i) ≡ false) xs → filter (is_spared past e) (map (queueing_for s) xs) ≡ map (queueing_for s) xs
+  spare_behind : (xs : List ℕ) → AllByRecursion (λ k. (k == i) ≡ false) xs → filter (survives past e) (map (queueing_for s) xs) ≡ map (queueing_for s) xs
   spare_behind [] each = refl
-  spare_behind (x ∷ xs) each = ap₂ (λ b ys. cond b (queueing_for s x ∷ ys) ys) (spared x ∙ differ x each.0) (spare_behind xs each.1)
+  spare_behind (x ∷ xs) each = ap₂ (λ b ys. cond b (queueing_for s x ∷ ys) ys) (survivors x ∙ differ x each.0) (spare_behind xs each.1)
 
   pub behind_after : filter (waits (layout_for s) (e ∷ past)) (still_open (e ∷ past)) ≡ map (queueing_for s) (filter (is_kept o) m.behind)
   behind_after =
       filter_same _ _ (still_open (e ∷ past)) (All_filter (λ x. not (is_active (layout_for s) (e ∷ past) x) ≡ (waits (layout_for s) past x && not (is_newly_active (layout_for s) past e x))) (is_live (e ∷ past)) (queueings (e ∷ past)) (All_each _ (queueings (e ∷ past)) same))
       ∙ sym (filter_twice (λ x. not (is_newly_active (layout_for s) past e x)) (waits (layout_for s) past) (still_open (e ∷ past)))
       ∙ ap (λ xs. filter (λ x. not (is_newly_active (layout_for s) past e x)) (filter (waits (layout_for s) past) xs)) open_after
-      ∙ ap (filter (λ x. not (is_newly_active (layout_for s) past e x))) (turned (waits (layout_for s) past) (is_spared past e) (still_open past) ∙ ap (filter (is_spared past e)) h.behind ∙ spare_behind m.behind behind_others)
+      ∙ ap (filter (λ x. not (is_newly_active (layout_for s) past e x))) (turned (waits (layout_for s) past) (survives past e) (still_open past) ∙ ap (filter (survives past e)) h.behind ∙ spare_behind m.behind behind_others)
       ∙ filter_mapped s (λ x. not (is_newly_active (layout_for s) past e x)) (is_kept o) m.behind (all_in _ m.behind (λ k there. newly_passes k (behind_open k there) (is_newly_active (layout_for s) past e (queueing_for s k)) refl o makes))
 
 -- ---- the lists
 
-pub job_run : (past : List Entry) (seat : ℕ → ℕ) (i : ℕ) (xs : List Job) → AllByRecursion (λ j. IsRunAt past (seat j.item) j.item false) xs → list_any (is_job i) xs ≡ true → IsRunAt past (seat i) i false
-job_run past seat i [] each on = cc
-job_run past seat i (j ∷ xs) each on = ⊎_elim (λ here. subst (λ k. IsRunAt past (seat k) k false) (eqb-true j.item i here) each.0) (λ later. job_run past seat i xs each.1 later) (or_cases (is_job i j) (list_any (is_job i) xs) on)
+pub job_run : (past : List Entry) (slot : ℕ → ℕ) (i : ℕ) (xs : List Job) → AllByRecursion (λ j. IsRunAt past (slot j.item) j.item false) xs → list_any (is_job i) xs ≡ true → IsRunAt past (slot i) i false
+job_run past slot i [] each on = cc
+job_run past slot i (j ∷ xs) each on = ⊎_elim (λ here. subst (λ k. IsRunAt past (slot k) k false) (eqb-true j.item i here) each.0) (λ later. job_run past slot i xs each.1 later) (or_cases (is_job i j) (list_any (is_job i) xs) on)
 
 pub fewer_filtered : {X : Type 0} (p q : X → Bool) (xs : List X) → count_by p (filter q xs) ≤ count_by p xs
 fewer_filtered p q [] = omega arith
@@ -241,19 +241,19 @@ any_kept n i (x ∷ xs) h = at (is_job i x) refl (any_kept n i xs h)
 abbrev pub ended_with : Moment → ℕ → Option ℕ → Moment
 ended_with m i o = record m { ready = m.ready ++ option_to_list o; behind = filter (is_kept o) m.behind; cpu = filter (λ k. not (is_job i k)) m.cpu }
 
-pub finish_shown : (s : Plan) (past : List Entry) (m : Moment) (seat : ℕ → ℕ) (i : ℕ) (o : Option ℕ) → Shows s past m seat → list_any (is_job i) m.cpu ≡ true → find (is_of s (queue_of s i)) m.behind ≡ o
-    → Shows s (entry_for (layout_for s) past (Worker (worker (seat i))) call.Finish ∷ past) (ended_with m i o) seat
+pub finish_shown : (s : Plan) (past : List Entry) (m : Moment) (slot : ℕ → ℕ) (i : ℕ) (o : Option ℕ) → Shows s past m slot → list_any (is_job i) m.cpu ≡ true → find (is_of s (queue_of s i)) m.behind ≡ o
+    → Shows s (entry_for (layout_for s) past (Worker (worker (slot i))) call.Finish ∷ past) (ended_with m i o) slot
 unfolding IsLegal queueings
-finish_shown s past m seat i o h on first = record {
+finish_shown s past m slot i o h on first = record {
   legal = legal;
   widths = ((λ q. width_same (layout_for s) past e q (ap keeps_widths is) ∙ h.wide q), h.widths);
   wide = λ q. width_same (layout_for s) past e q (ap keeps_widths is) ∙ h.wide q;
   kept = (ap is_retired is, h.kept);
   queued = ap (λ r. queueings past ++ option_to_list (if opens r then option_and_then (λ j. option_map (queued_at past j) (place_wanted past call.Finish j)) (item_of e) else None)) is ∙ append-nil (queueings past) ∙ h.queued;
-  ready = ready_after s past m seat e i h legal is on o makes;
-  behind = behind_after s past m seat e i h legal is on o makes;
-  cpu = All_filter (λ k. IsRunAt (e ∷ past) (seat k.item) k.item false) (λ k. not (is_job i k)) m.cpu (All_map (λ k. IsRunAt past (seat k.item) k.item false) _ m.cpu (λ k r kept. other k.item false r (not_true (is_job i k) kept)) h.cpu);
-  sleeping = All_both (λ k. IsRunAt past (seat k.item) k.item true) (λ k. is_sleeper i k ≡ false) _ m.sleeping (λ k r differs. other k.item true r differs) h.sleeping (let c = any_counted (is_job i) m.cpu on in let t = h.once i in count_none (is_sleeper i) m.sleeping (omega arith));
+  ready = ready_after s past m slot e i h legal is on o makes;
+  behind = behind_after s past m slot e i h legal is on o makes;
+  cpu = All_filter (λ k. IsRunAt (e ∷ past) (slot k.item) k.item false) (λ k. not (is_job i k)) m.cpu (All_map (λ k. IsRunAt past (slot k.item) k.item false) _ m.cpu (λ k r kept. other k.item false r (not_true (is_job i k) kept)) h.cpu);
+  sleeping = All_both (λ k. IsRunAt past (slot k.item) k.item true) (λ k. is_sleeper i k ≡ false) _ m.sleeping (λ k r differs. other k.item true r differs) h.sleeping (let c = any_counted (is_job i) m.cpu on in let t = h.once i in count_none (is_sleeper i) m.sleeping (omega arith));
   no_others = λ w n runs. at w n (is_by (Worker w) e) refl (sym (workers_run_on (layout_for s) past e w legal) ∙ runs);
   once = λ k.
       let t = h.once k in
@@ -270,35 +270,35 @@ finish_shown s past m seat i o h on first = record {
 }
   where
     e : Entry
-    e = entry_for (layout_for s) past (Worker (worker (seat i))) call.Finish
+    e = entry_for (layout_for s) past (Worker (worker (slot i))) call.Finish
 
-    run_at : IsRunAt past (seat i) i false
-    run_at = job_run past seat i m.cpu h.cpu on
+    run_at : IsRunAt past (slot i) i false
+    run_at = job_run past slot i m.cpu h.cpu on
 
-    is : answer (layout_for s) past (Worker (worker (seat i))) call.Finish ≡ reply.Finished i
-    is = finish_answered s past (seat i) i run_at
+    is : answer (layout_for s) past (Worker (worker (slot i))) call.Finish ≡ reply.Finished i
+    is = finish_answered s past (slot i) i run_at
 
     legal : IsLegal (layout_for s) (e ∷ past)
-    legal = (ap (λ b. (b && true) && true) (lt-ltb (seat i) 8 (runner_there (layout_for s) past (worker (seat i)) i h.legal run_at.runs)), refl, h.legal)
+    legal = (ap (λ b. (b && true) && true) (lt-ltb (slot i) 8 (runner_there (layout_for s) past (worker (slot i)) i h.legal run_at.runs)), refl, h.legal)
 
     makes : newly_active (layout_for s) past e ≡ option_to_list (option_map (queueing_for s) o)
-    makes = finish_makes_ready s past m seat e (seat i) i h h.widths h.wide legal is run_at ∙ ap (λ p. option_to_list (option_map (queueing_for s) p)) first
+    makes = finish_makes_ready s past m slot e (slot i) i h h.widths h.wide legal is run_at ∙ ap (λ p. option_to_list (option_map (queueing_for s) p)) first
 
     not_true : (b : Bool) → not b ≡ true → b ≡ false
     not_true true h = cc
     not_true false h = refl
 
-    other : (k : ℕ) (b : Bool) → IsRunAt past (seat k) k b → (k == i) ≡ false → IsRunAt (e ∷ past) (seat k) k b
-    other k b r differs = goes_by (layout_for s) past e (seat i) (seat k) k b legal refl (other_seat past seat i k false b run_at r differs) r
+    other : (k : ℕ) (b : Bool) → IsRunAt past (slot k) k b → (k == i) ≡ false → IsRunAt (e ∷ past) (slot k) k b
+    other k b r differs = goes_by (layout_for s) past e (slot i) (slot k) k b legal refl (other_slot past slot i k false b run_at r differs) r
 
-    at : (w : WorkerId) (n : ℕ) (b : Bool) → is_by (Worker w) e ≡ b → (if is_by (Worker w) e then run_after e.reply (run past w) else run past w) ≡ Some n → (w ≡ worker (seat n)) × (runs_in (ended_with m i o) n ≡ true)
+    at : (w : WorkerId) (n : ℕ) (b : Bool) → is_by (Worker w) e ≡ b → (if is_by (Worker w) e then run_after e.reply (run past w) else run past w) ≡ Some n → (w ≡ worker (slot n)) × (runs_in (ended_with m i o) n ≡ true)
     at w n true by runs = absurd (none_some (sym (ap (λ r. run_after r (run past w)) is) ∙ sym (ap (λ c. if c then run_after e.reply (run past w) else run past w) by) ∙ runs))
       where
         none_some : None ≡ Some n → ⊥
         none_some h = cc
     at w n false by runs =
         let k = h.no_others w n (sym (ap (λ c. if c then run_after e.reply (run past w) else run past w) by) ∙ runs) in
-        let differs : (n == i) ≡ false = ne_eqb n i (λ same. apart (is_by (Worker w) e) by (by_itself e w (ap Worker (sym (k.0 ∙ ap (λ j. worker (seat j)) same))))) in
+        let differs : (n == i) ≡ false = ne_eqb n i (λ same. apart (is_by (Worker w) e) by (by_itself e w (ap Worker (sym (k.0 ∙ ap (λ j. worker (slot j)) same))))) in
         (k.0, ap (λ b. b || list_any (is_sleeper n) m.sleeping) (any_kept n i m.cpu differs) ∙ k.1)
       where
         apart : (b : Bool) → b ≡ false → b ≡ true → ⊥

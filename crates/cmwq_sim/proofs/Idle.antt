@@ -17,13 +17,13 @@ use Rattle.cmwq_model.specs.Fate.{number_started}
 use Rattle.cmwq_model.specs.Runs.{run, has_run, last_start}
 use Rattle.cmwq_model.specs.Workers.{worker_at, index_enlisted, is_in_pool, enlists, is_retired, is_enlisted, is_idle, is_other_idle, is_reserve, enlisted_by}
 use Rattle.cmwq_model.specs.Legal.{IsLegal}
-use Rattle.cmwq_steps.specs.RunSteps.{run_after}
-use Rattle.cmwq_steps.proofs.Starts.{starts_next}
-use Rattle.cmwq_steps.proofs.ItemRuns.{same_worker-true}
-use Rattle.cmwq_steps.proofs.RunSteps.{workers_run_on}
-use Rattle.cmwq_steps.proofs.ItemRuns.{same_worker_itself}
-use Rattle.cmwq_steps.proofs.Reasons.{retire_reason}
-use Rattle.cmwq_steps.proofs.Causes.{cause_of}
+use Rattle.cmwq_theory_steps.specs.RunSteps.{run_after}
+use Rattle.cmwq_theory_steps.proofs.Starts.{starts_next}
+use Rattle.cmwq_theory_steps.proofs.ItemRuns.{same_worker-true}
+use Rattle.cmwq_theory_steps.proofs.RunSteps.{workers_run_on}
+use Rattle.cmwq_theory_steps.proofs.ItemRuns.{same_worker_itself}
+use Rattle.cmwq_theory_steps.proofs.Reasons.{retire_reason}
+use Rattle.cmwq_theory_steps.proofs.Causes.{cause_of}
 
 -- whose entry it is
 by_whom : (e : Entry) (v w : WorkerId) → e.who ≡ Worker v → is_by (Worker w) e ≡ true → v ≡ w

@@ -15,5 +15,5 @@ pub mod Progress
 pub mod Outset
 pub mod Once
 pub mod Within
-pub mod Courses
+pub mod Executions
 pub mod Sleepers

@@ -3,7 +3,7 @@ use Rattle.std.proofs.Common.{◌≡◌, ◌==◌, ◌<◌, ◌≤◌, ◌+◌, 
 use Rattle.std.specs.Prelude.{if◌then◌else◌, fold}
 use Rattle.std.specs.List.{list_any, range_with_len}
 use Rattle.std.proofs.lemmas.Bool.{eq-eqb, eqb-true, and_parts}
-use Rattle.cmwq_active.proofs.Lists.{count_by-cons}
+use Rattle.cmwq_theory_active.proofs.Lists.{count_by-cons}
 use Rattle.cmwq_sim.specs.declared.scenario.LineKind.{LineKind}
 use Rattle.cmwq_sim.specs.declared.scenario.LineKind.TheVariants as kind
 use Rattle.cmwq_sim.specs.Plan.{Plan, Event, queue_of, ms_of, max_active, is_of, whole_time}

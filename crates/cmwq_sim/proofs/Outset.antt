@@ -5,7 +5,7 @@ use Rattle.std.specs.List.{AllByRecursion, list_any, range_with_len}
 use Rattle.std.proofs.lemmas.Bool.{eqb-true}
 use Rattle.std.proofs.lemmas.Bool.Decides.{nat_tests}
 use Rattle.std.proofs.lemmas.List.Sums.{sum_by-cons, sum_by_push}
-use Rattle.cmwq_active.proofs.Lists.{count_by-cons}
+use Rattle.cmwq_theory_active.proofs.Lists.{count_by-cons}
 use Rattle.cmwq_sim.specs.Plan.{Plan, Item, queue_of, max_active, is_of, time_of, whole_time, no_item, no_queue}
 use Rattle.cmwq_sim.specs.Limits.{IsQueue, IsItem, IsWithinLimits}
 use Rattle.cmwq_sim.specs.Lines.{Moment, queue_item, queued, empty}

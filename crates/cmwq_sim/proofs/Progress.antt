@@ -6,7 +6,7 @@ use Rattle.std.proofs.lemmas.Bool.{eqb-true, eq-eqb, and_parts}
 use Rattle.std.proofs.lemmas.Bool.Decides.{nat_tests}
 use Rattle.std.proofs.lemmas.List.Sums.{sum_by-cons, sum_by-append, sum_by_push}
 use Rattle.std.proofs.lemmas.Option.{same_Some}
-use Rattle.cmwq_active.proofs.Lists.{All_map, All_both, All_append, All_filter, All_each}
+use Rattle.cmwq_theory_active.proofs.Lists.{All_map, All_both, All_append, All_filter, All_each}
 use Rattle.cmwq_sim.specs.declared.scenario.LineKind.TheVariants as kind
 use Rattle.cmwq_sim.specs.Plan.{Plan, Event, queue_of, ms_of, is_of, no_item}
 use Rattle.cmwq_sim.specs.Limits.{IsBetween, IsItem, IsWithinLimits}

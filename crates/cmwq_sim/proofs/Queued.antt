@@ -30,19 +30,19 @@ use Rattle.cmwq_model.specs.Active.{is_active, is_newly_active, newly_active, ac
 use Rattle.cmwq_model.specs.Workers.{is_retired}
 use Rattle.cmwq_model.specs.Answer.{queue_answer, answer, is_shut}
 use Rattle.cmwq_model.specs.Legal.{IsLegal, entry_for}
-use Rattle.cmwq_steps.specs.Endings.{is_spared, is_ended, ending}
-use Rattle.cmwq_laws.specs.FirstWidths.{HasFirstWidths}
-use Rattle.cmwq_steps.specs.Activations.{waits, is_left, is_in, is_beside, behind_width, has_way_at_once}
-use Rattle.cmwq_active.specs.Looks.{keeps_widths}
-use Rattle.cmwq_active.proofs.Lists.{All_each, All_both, count_by-cons}
-use Rattle.cmwq_steps.proofs.Filters.{filter_same, none_found}
-use Rattle.cmwq_active.proofs.Joined.{stays_active}
-use Rattle.cmwq_steps.proofs.Endings.{open_go_on}
-use Rattle.cmwq_steps.proofs.NewlyActive.{newly_active_are, opened_have_way}
-use Rattle.cmwq_active.proofs.Widths.{width_same}
-use Rattle.cmwq_steps.proofs.Promoted.{newly_of_open}
+use Rattle.cmwq_theory_steps.specs.Endings.{survives, is_ended, ending}
+use Rattle.cmwq_theory_laws.specs.FirstWidths.{HasFirstWidths}
+use Rattle.cmwq_theory_steps.specs.Activations.{waits, is_left, is_in, is_of_same_pwq, behind_width, is_below_max_active_at_once}
+use Rattle.cmwq_theory_active.specs.Looks.{keeps_widths}
+use Rattle.cmwq_theory_active.proofs.Lists.{All_each, All_both, count_by-cons}
+use Rattle.cmwq_theory_steps.proofs.Filters.{filter_same, none_found}
+use Rattle.cmwq_theory_active.proofs.Joined.{stays_active}
+use Rattle.cmwq_theory_steps.proofs.Endings.{open_go_on}
+use Rattle.cmwq_theory_steps.proofs.NewlyActive.{newly_active_are, opened_are_below_max_active}
+use Rattle.cmwq_theory_active.proofs.Widths.{width_same}
+use Rattle.cmwq_theory_steps.proofs.Promoted.{newly_of_open}
 use Rattle.std.proofs.lemmas.List.FromFn.{length-range_with_len}
-use Rattle.cmwq_steps.proofs.WorklistSteps.{worklists_go_on}
+use Rattle.cmwq_theory_steps.proofs.WorklistSteps.{worklists_go_on}
 use Rattle.cmwq_sim.specs.declared.scenario.SimQueue.{SimQueue}
 use Rattle.cmwq_sim.specs.Plan.{Plan, queue_of, is_of, max_active, no_queue}
 use Rattle.cmwq_sim.specs.Lines.{Moment, Job, Sleeper, queue_item, empty}
@@ -231,37 +231,37 @@ module _ (s : Plan) (k : ℕ) (past : List Entry) (m : Moment) (h : ShowsQueued 
   opened = ap (λ r. if opens r then Some (record { item = record { 0 = k }; place = record { queue = record { 0 = queue_of s k }; cpu = cpu_for past k (record { 0 = 0 }) }; number = length past }) else None) answered
       ∙ ap₂ (λ o n. Some (record { item = record { 0 = k }; place = record { queue = record { 0 = queue_of s k }; cpu = option_map_or (λ (start : Start). start.worker.pool.cpu) o (record { 0 = 0 }) }; number = n })) (no_item_run past k h.all) h.many
 
-  spares : (x : Queueing) → is_spared past (entry_for (layout_for s) past caller (queue_call s k)) x ≡ true
+  spares : (x : Queueing) → survives past (entry_for (layout_for s) past caller (queue_call s k)) x ≡ true
   spares x =
       ap₂ (λ a b. not (is_at a x.number) && not (is_at b x.number) && not (replaces (answer (layout_for s) past caller (queue_call s k)) && is_of_item x.item.0 (entry_for (layout_for s) past caller (queue_call s k)) && not (is_started past x.number))) said.finishes said.cancels
       ∙ ap (λ b. not (b && is_of_item x.item.0 (entry_for (layout_for s) past caller (queue_call s k)) && not (is_started past x.number))) said.replaces
 
-  spared_all : (xs : List Queueing) → filter (is_spared past (entry_for (layout_for s) past caller (queue_call s k))) xs ≡ xs
-  spared_all xs = all_kept (is_spared past (entry_for (layout_for s) past caller (queue_call s k))) xs (All_each _ xs spares)
+  survivors_are_all : (xs : List Queueing) → filter (survives past (entry_for (layout_for s) past caller (queue_call s k))) xs ≡ xs
+  survivors_are_all xs = all_kept (survives past (entry_for (layout_for s) past caller (queue_call s k))) xs (All_each _ xs spares)
 
   none_ends : ending past (entry_for (layout_for s) past caller (queue_call s k)) ≡ None
   none_ends = none_found (is_ended past (entry_for (layout_for s) past caller (queue_call s k))) (still_open past) (All_each _ (still_open past) (λ x. ap not (spares x)))
 
-  counted : (is : List ℕ) → count_by (is_beside (queueing_for s k)) (map (queueing_for s) is) ≡ count_by (is_of s (queue_of s k)) is
+  counted : (is : List ℕ) → count_by (is_of_same_pwq (queueing_for s k)) (map (queueing_for s) is) ≡ count_by (is_of s (queue_of s k)) is
   counted [] = refl
-  counted (i ∷ is) = count_by-cons (is_beside (queueing_for s k)) (queueing_for s i) (map (queueing_for s) is) ∙ ap₂ (λ b n. cond b 1 0 + n) (nothing (queue_of s i == queue_of s k)) (counted is) ∙ sym (count_by-cons (is_of s (queue_of s k)) i is)
+  counted (i ∷ is) = count_by-cons (is_of_same_pwq (queueing_for s k)) (queueing_for s i) (map (queueing_for s) is) ∙ ap₂ (λ b n. cond b 1 0 + n) (nothing (queue_of s i == queue_of s k)) (counted is) ∙ sym (count_by-cons (is_of s (queue_of s k)) i is)
     where
       nothing : (b : Bool) → (b && true) ≡ b
       nothing true = refl
       nothing false = refl
 
   -- it is active at once where fewer than max_active of its queue stand before it
-  has_way : has_way_at_once (layout_for s) past (entry_for (layout_for s) past caller (queue_call s k)) (queueing_for s k) ≡ nat_lt (count_by (is_of s (queue_of s k)) (m.ready ++ m.behind)) (max_active s (queue_of s k))
-  has_way = ap₂ nat_lt (ap (count_by (is_beside (queueing_for s k))) (spared_all (still_open past) ∙ open_are) ∙ counted (range_with_len 0 k) ∙ sym (h.counts (is_of s (queue_of s k))))
+  is_below_max_active : is_below_max_active_at_once (layout_for s) past (entry_for (layout_for s) past caller (queue_call s k)) (queueing_for s k) ≡ nat_lt (count_by (is_of s (queue_of s k)) (m.ready ++ m.behind)) (max_active s (queue_of s k))
+  is_below_max_active = ap₂ nat_lt (ap (count_by (is_of_same_pwq (queueing_for s k))) (survivors_are_all (still_open past) ∙ open_are) ∙ counted (range_with_len 0 k) ∙ sym (h.counts (is_of s (queue_of s k))))
       (h.wide (queue_of s k) ∙ ap (λ (q : QueueShape). q.max_active) (get_or-map queue_shape s.queues (queue_of s k) no_queue))
 
   newly : (few : k < 8) (there : queue_of s k < length s.queues) → newly_active (layout_for s) past (entry_for (layout_for s) past caller (queue_call s k)) ≡ (if nat_lt (count_by (is_of s (queue_of s k)) (m.ready ++ m.behind)) (max_active s (queue_of s k)) then queueing_for s k ∷ [] else [])
   newly few there = newly_active_are (layout_for s) past (entry_for (layout_for s) past caller (queue_call s k)) (legal few there) said.widths
-      ∙ ap₂ (λ a b. filter (waits (layout_for s) past) (option_to_list (behind_width (layout_for s) past a)) ++ filter (has_way_at_once (layout_for s) past (entry_for (layout_for s) past caller (queue_call s k))) (option_to_list b)) none_ends opened
-      ∙ ap (λ b. cond b (queueing_for s k ∷ []) []) has_way
+      ∙ ap₂ (λ a b. filter (waits (layout_for s) past) (option_to_list (behind_width (layout_for s) past a)) ++ filter (is_below_max_active_at_once (layout_for s) past (entry_for (layout_for s) past caller (queue_call s k))) (option_to_list b)) none_ends opened
+      ∙ ap (λ b. cond b (queueing_for s k ∷ []) []) is_below_max_active
 
   open_after : (few : k < 8) (there : queue_of s k < length s.queues) → still_open (entry_for (layout_for s) past caller (queue_call s k) ∷ past) ≡ still_open past ++ queueing_for s k ∷ []
-  open_after few there = open_go_on (layout_for s) past (entry_for (layout_for s) past caller (queue_call s k)) (legal few there) ∙ ap₂ (λ xs o. xs ++ option_to_list o) (spared_all (still_open past)) opened
+  open_after few there = open_go_on (layout_for s) past (entry_for (layout_for s) past caller (queue_call s k)) (legal few there) ∙ ap₂ (λ xs o. xs ++ option_to_list o) (survivors_are_all (still_open past)) opened
 
   all_queued : AllByRecursion IsQueued ((entry_for (layout_for s) past caller (queue_call s k)) ∷ past)
   all_queued = (record { who = refl; says = ap is_yes answered }, h.all)
@@ -332,7 +332,7 @@ module _ (s : Plan) (k : ℕ) (past : List Entry) (m : Moment) (h : ShowsQueued 
       at false was = ap not (simple (is_active (layout_for s) ((entry_for (layout_for s) past caller (queue_call s k)) ∷ past) x) (sym (ap (λ b. is_active (layout_for s) ((entry_for (layout_for s) past caller (queue_call s k)) ∷ past) x && not b) was) ∙ none))
 
   last_waits : (few : k < 8) (there : queue_of s k < length s.queues) → waits (layout_for s) ((entry_for (layout_for s) past caller (queue_call s k)) ∷ past) (queueing_for s k) ≡ not (nat_lt (count_by (is_of s (queue_of s k)) (m.ready ++ m.behind)) (max_active s (queue_of s k)))
-  last_waits few there = ap not (opened_have_way (layout_for s) past (entry_for (layout_for s) past caller (queue_call s k)) (queueing_for s k) (legal few there) opened ∙ has_way)
+  last_waits few there = ap not (opened_are_below_max_active (layout_for s) past (entry_for (layout_for s) past caller (queue_call s k)) (queueing_for s k) (legal few there) opened ∙ is_below_max_active)
 
   put : (b : Bool) → cond (not b) (queueing_for s k ∷ []) [] ≡ map (queueing_for s) (if b then [] else k ∷ [])
   put true = refl
@@ -455,15 +455,15 @@ count_all : (xs : List ℕ) → count_by (λ j. true) xs ≡ length xs
 count_all [] = refl
 count_all (x ∷ xs) = count_by-cons (λ j. true) x xs ∙ ap (λ n. 1 + n) (count_all xs) ∙ omega arith
 
-pub all_shown : (s : Plan) (past : List Entry) (m : Moment) (seat : ℕ → ℕ) → length s.items ≤ 8 → ShowsQueued s (length s.items) past m → Shows s past m seat
-all_shown s past m seat few h = record {
+pub all_shown : (s : Plan) (past : List Entry) (m : Moment) (slot : ℕ → ℕ) → length s.items ≤ 8 → ShowsQueued s (length s.items) past m → Shows s past m slot
+all_shown s past m slot few h = record {
   legal = h.legal;
   kept = none_retired past h.all;
   queued = h.queued;
   ready = h.ready;
   behind = h.behind;
-  cpu = subst (AllByRecursion (λ j. IsRunAt past (seat j.item) j.item false)) (sym h.cpu) tt;
-  sleeping = subst (AllByRecursion (λ x. IsRunAt past (seat x.item) x.item true)) (sym h.sleeping) tt;
+  cpu = subst (AllByRecursion (λ j. IsRunAt past (slot j.item) j.item false)) (sym h.cpu) tt;
+  sleeping = subst (AllByRecursion (λ x. IsRunAt past (slot x.item) x.item true)) (sym h.sleeping) tt;
   no_others = λ w n runs. absurd (none_some (sym (nobody_runs past w h.all) ∙ runs));
   once = λ i.
       let a = ap₂ (λ (js : List Job) (xs : List Sleeper). count_by (is_job i) js + count_by (is_sleeper i) xs) h.cpu h.sleeping in

@@ -15,12 +15,12 @@ use Rattle.cmwq_model.specs.Tickets.{tickets, gives_ticket}
 use Rattle.cmwq_model.specs.Widths.{is_frozen}
 use Rattle.cmwq_model.specs.Room.{owed, needed}
 use Rattle.cmwq_model.specs.Legal.{IsLegal}
-use Rattle.cmwq_steps.specs.Histories.{one}
-use Rattle.cmwq_steps.specs.RoomSteps.{is_slept, is_frozen_now}
-use Rattle.cmwq_steps.proofs.OwedFrozen.{frozen_counted}
-use Rattle.cmwq_steps.proofs.OwedItems.{tickets_counted, booked_counted}
-use Rattle.cmwq_steps.proofs.OwedSteps.{runs_counted, sleepers_counted}
-use Rattle.cmwq_steps.proofs.OwedWaiting.{waiting_counted}
+use Rattle.cmwq_theory_steps.specs.Histories.{one}
+use Rattle.cmwq_theory_steps.specs.RoomSteps.{is_slept, is_frozen_now}
+use Rattle.cmwq_theory_steps.proofs.OwedFrozen.{frozen_counted}
+use Rattle.cmwq_theory_steps.proofs.OwedItems.{tickets_counted, booked_counted}
+use Rattle.cmwq_theory_steps.proofs.OwedSteps.{runs_counted, sleepers_counted}
+use Rattle.cmwq_theory_steps.proofs.OwedWaiting.{waiting_counted}
 use Rattle.cmwq_sim.specs.declared.scenario.LineKind.TheVariants as kind
 use Rattle.cmwq_sim.specs.Plan.{Plan, queue_of, ms_of, is_of, max_active, no_item}
 use Rattle.cmwq_sim.specs.Rooms.{parts_at, parts_of_job, parts_of_sleeper, parts_left}

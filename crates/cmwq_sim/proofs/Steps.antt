@@ -2,7 +2,7 @@
 use Rattle.std.proofs.Common.{◌≡◌, ◌≢◌, ◌==◌, ◌<◌, ◌≤◌, ◌+◌, ℕ, Bool, true, false, cond, not, ◌&&◌, ◌||◌, List, [], ◌∷◌, ◌++◌, length, filter, count_by, Option, None, refl, sym, ap, ap₂, ◌∙◌, subst, arith, option_to_list, append-nil, length-append}
 use Rattle.std.specs.Prelude.{option_map, option_and_then, if◌then◌else◌, IsTrue}
 use Rattle.std.specs.List.{AllByRecursion, list_any}
-use Rattle.cmwq_ties.proofs.PoolNext.{runner_there}
+use Rattle.cmwq_refinement.proofs.PoolNext.{runner_there}
 use Rattle.std.proofs.lemmas.Bool.{lt-ltb, eq-eqb, ne_eqb}
 use Rattle.std.proofs.lemmas.Option.{same_Some}
 use Rattle.cmwq_model.specs.declared.id.PoolId.{PoolId}
@@ -22,20 +22,20 @@ use Rattle.cmwq_model.specs.Active.{is_active, is_newly_active, newly_active, wo
 use Rattle.cmwq_model.specs.Workers.{is_retired}
 use Rattle.cmwq_model.specs.Answer.{answer}
 use Rattle.cmwq_model.specs.Legal.{IsLegal, entry_for}
-use Rattle.cmwq_steps.specs.RunSteps.{run_after}
-use Rattle.cmwq_steps.specs.Endings.{is_spared, is_ended, ending}
-use Rattle.cmwq_steps.specs.Activations.{waits, is_left, is_in, behind_width, has_way_at_once}
-use Rattle.cmwq_active.specs.Looks.{keeps_widths}
-use Rattle.cmwq_active.proofs.Lists.{All_both, All_each, All_append, All_filter, count_by-cons}
-use Rattle.cmwq_steps.proofs.Filters.{filter_same, none_found, count_none}
-use Rattle.cmwq_active.proofs.Joined.{stays_active}
-use Rattle.cmwq_steps.proofs.Endings.{open_go_on}
-use Rattle.cmwq_steps.proofs.Promoted.{newly_of_open}
-use Rattle.cmwq_steps.proofs.NewlyActive.{newly_active_are}
-use Rattle.cmwq_active.proofs.Widths.{width_same}
-use Rattle.cmwq_steps.proofs.WorklistSteps.{worklists_go_on}
-use Rattle.cmwq_steps.proofs.RunSteps.{workers_run_on}
-use Rattle.cmwq_steps.proofs.OwedSteps.{by_itself}
+use Rattle.cmwq_theory_steps.specs.RunSteps.{run_after}
+use Rattle.cmwq_theory_steps.specs.Endings.{survives, is_ended, ending}
+use Rattle.cmwq_theory_steps.specs.Activations.{waits, is_left, is_in, behind_width, is_below_max_active_at_once}
+use Rattle.cmwq_theory_active.specs.Looks.{keeps_widths}
+use Rattle.cmwq_theory_active.proofs.Lists.{All_both, All_each, All_append, All_filter, count_by-cons}
+use Rattle.cmwq_theory_steps.proofs.Filters.{filter_same, none_found, count_none}
+use Rattle.cmwq_theory_active.proofs.Joined.{stays_active}
+use Rattle.cmwq_theory_steps.proofs.Endings.{open_go_on}
+use Rattle.cmwq_theory_steps.proofs.Promoted.{newly_of_open}
+use Rattle.cmwq_theory_steps.proofs.NewlyActive.{newly_active_are}
+use Rattle.cmwq_theory_active.proofs.Widths.{width_same}
+use Rattle.cmwq_theory_steps.proofs.WorklistSteps.{worklists_go_on}
+use Rattle.cmwq_theory_steps.proofs.RunSteps.{workers_run_on}
+use Rattle.cmwq_theory_steps.proofs.OwedSteps.{by_itself}
 use Rattle.cmwq_sim.specs.Plan.{Plan}
 use Rattle.cmwq_sim.specs.Lines.{Moment, Job}
 use Rattle.cmwq_sim.specs.Shows.{layout_for, pool, worker, IsRunAt, is_job, is_sleeper, runs_in, times, Shows}
@@ -63,7 +63,7 @@ none_kept p (x ∷ xs) h = at (p x) refl h (λ k. none_kept p xs k)
     at true is k later = cc
     at false is k later = (is, later k)
 
-spares : (past : List Entry) (e : Entry) (x : Queueing) → IsQuiet e.reply → is_spared past e x ≡ true
+spares : (past : List Entry) (e : Entry) (x : Queueing) → IsQuiet e.reply → survives past e x ≡ true
 spares past e x q =
     ap₂ (λ a b. not (is_at a x.number) && not (is_at b x.number) && not (replaces e.reply && is_of_item x.item.0 e && not (is_started past x.number))) q.finishes q.cancels
     ∙ ap (λ b. not (b && is_of_item x.item.0 e && not (is_started past x.number))) q.replaces
@@ -76,11 +76,11 @@ none_opens past e q = ap (λ b. if b then option_and_then (λ i. option_map (que
 
 pub open_as_before : (s : Layout) (past : List Entry) (e : Entry) → IsLegal s (e ∷ past) → IsQuiet e.reply → still_open (e ∷ past) ≡ still_open past
 open_as_before s past e legal q = open_go_on s past e legal
-    ∙ ap₂ (λ xs o. xs ++ option_to_list o) (all_kept (is_spared past e) (still_open past) (All_each _ (still_open past) (λ x. spares past e x q))) (none_opens past e q) ∙ append-nil (still_open past)
+    ∙ ap₂ (λ xs o. xs ++ option_to_list o) (all_kept (survives past e) (still_open past) (All_each _ (still_open past) (λ x. spares past e x q))) (none_opens past e q) ∙ append-nil (still_open past)
 
 none_newly : (s : Layout) (past : List Entry) (e : Entry) → IsLegal s (e ∷ past) → IsQuiet e.reply → newly_active s past e ≡ []
 none_newly s past e legal q = newly_active_are s past e legal q.widths
-    ∙ ap₂ (λ a b. filter (waits s past) (option_to_list (behind_width s past a)) ++ filter (has_way_at_once s past e) (option_to_list b)) (none_ends past e q) (none_opens past e q)
+    ∙ ap₂ (λ a b. filter (waits s past) (option_to_list (behind_width s past a)) ++ filter (is_below_max_active_at_once s past e) (option_to_list b)) (none_ends past e q) (none_opens past e q)
 
 -- what is left of the worklist is what doesn't start
 pub worklist_as_before : (s : Layout) (past : List Entry) (e : Entry) (p : PoolId) → IsLegal s (e ∷ past) → IsQuiet e.reply → worklist s (e ∷ past) p ≡ filter (λ x. not (starts x.number e)) (worklist s past p)
@@ -135,8 +135,8 @@ pub same_runs : (s : Layout) (past : List Entry) (e : Entry) (w : WorkerId) → 
 same_runs s past e w legal h = workers_run_on s past e w legal ∙ ap (λ o. if is_by (Worker w) e then o else run past w) (h (run past w)) ∙ either (is_by (Worker w) e) (run past w)
 
 -- the worker of another item is another one
-pub other_seat : (past : List Entry) (seat : ℕ → ℕ) (i k : ℕ) (a b : Bool) → IsRunAt past (seat i) i a → IsRunAt past (seat k) k b → (k == i) ≡ false → seat i ≢ seat k
-other_seat past seat i k a b h g differs same =
+pub other_slot : (past : List Entry) (slot : ℕ → ℕ) (i k : ℕ) (a b : Bool) → IsRunAt past (slot i) i a → IsRunAt past (slot k) k b → (k == i) ≡ false → slot i ≢ slot k
+other_slot past slot i k a b h g differs same =
     let one : k ≡ i = same_Some k i (sym g.runs ∙ ap (λ x. run past (worker x)) (sym same) ∙ h.runs) in
     let t : (k == i) ≡ true = eq-eqb k i one in
     cc
@@ -169,10 +169,10 @@ alone m j rest is h =
 abbrev pub asleep_with : Moment → Job → List Job → ℕ → List ℕ → Moment
 asleep_with m j rest until left = record m { cpu = rest; sleeping = m.sleeping ++ record { item = j.item; until = until; left = left } ∷ [] }
 
-pub sleep_shown : (s : Plan) (past : List Entry) (m : Moment) (seat : ℕ → ℕ) (j : Job) (rest : List Job) (until : ℕ) (left : List ℕ) → Shows s past m seat → m.cpu ≡ j ∷ rest
-    → Shows s (entry_for (layout_for s) past (Worker (worker (seat j.item))) call.Sleep ∷ past) (asleep_with m j rest until left) seat
+pub sleep_shown : (s : Plan) (past : List Entry) (m : Moment) (slot : ℕ → ℕ) (j : Job) (rest : List Job) (until : ℕ) (left : List ℕ) → Shows s past m slot → m.cpu ≡ j ∷ rest
+    → Shows s (entry_for (layout_for s) past (Worker (worker (slot j.item))) call.Sleep ∷ past) (asleep_with m j rest until left) slot
 unfolding IsLegal queueings is_asleep
-sleep_shown s past m seat j rest until left h is = record {
+sleep_shown s past m slot j rest until left h is = record {
   legal = legal;
   widths = ((λ q. width_same (layout_for s) past e q quiet.widths ∙ h.wide q), h.widths);
   wide = λ q. width_same (layout_for s) past e q quiet.widths ∙ h.wide q;
@@ -180,10 +180,10 @@ sleep_shown s past m seat j rest until left h is = record {
   queued = ap (λ o. queueings past ++ option_to_list o) (none_opens past e quiet) ∙ append-nil (queueings past) ∙ h.queued;
   ready = worklist_as_before (layout_for s) past e pool legal quiet ∙ all_kept (λ x. not (starts x.number e)) (worklist (layout_for s) past pool) (All_each _ (worklist (layout_for s) past pool) (λ x. ap (λ r. not (is_at (number_started r) x.number)) slept)) ∙ h.ready;
   behind = waiting_as_before (layout_for s) past e legal quiet ∙ h.behind;
-  cpu = All_both (λ k. IsRunAt past (seat k.item) k.item false) (λ k. is_job j.item k ≡ false) _ rest (λ k r differs. other k.item false r differs) jobs.1 apart.0;
+  cpu = All_both (λ k. IsRunAt past (slot k.item) k.item false) (λ k. is_job j.item k ≡ false) _ rest (λ k r differs. other k.item false r differs) jobs.1 apart.0;
   sleeping = All_append _ m.sleeping (record { item = j.item; until = until; left = left } ∷ [])
-      (All_both (λ x. IsRunAt past (seat x.item) x.item true) (λ x. is_sleeper j.item x ≡ false) _ m.sleeping (λ x r differs. other x.item true r differs) h.sleeping apart.1)
-      (record { runs = same_runs (layout_for s) past e (worker (seat j.item)) legal after ∙ jobs.0.runs; sleeps = ap₂ (λ c r. if c then asleep_after r (is_asleep past (worker (seat j.item))) else is_asleep past (worker (seat j.item))) (by_itself e (worker (seat j.item)) refl) slept }, tt);
+      (All_both (λ x. IsRunAt past (slot x.item) x.item true) (λ x. is_sleeper j.item x ≡ false) _ m.sleeping (λ x r differs. other x.item true r differs) h.sleeping apart.1)
+      (record { runs = same_runs (layout_for s) past e (worker (slot j.item)) legal after ∙ jobs.0.runs; sleeps = ap₂ (λ c r. if c then asleep_after r (is_asleep past (worker (slot j.item))) else is_asleep past (worker (slot j.item))) (by_itself e (worker (slot j.item)) refl) slept }, tt);
   no_others = λ w n runs. let k = h.no_others w n (sym (same_runs (layout_for s) past e w legal after) ∙ runs) in (k.0, moved n k.1);
   once = λ i.
       let o = h.once i in
@@ -198,28 +198,28 @@ sleep_shown s past m seat j rest until left h is = record {
 }
   where
     e : Entry
-    e = entry_for (layout_for s) past (Worker (worker (seat j.item))) call.Sleep
+    e = entry_for (layout_for s) past (Worker (worker (slot j.item))) call.Sleep
 
-    jobs : AllByRecursion (λ k. IsRunAt past (seat k.item) k.item false) (j ∷ rest)
-    jobs = subst (AllByRecursion (λ k. IsRunAt past (seat k.item) k.item false)) is h.cpu
+    jobs : AllByRecursion (λ k. IsRunAt past (slot k.item) k.item false) (j ∷ rest)
+    jobs = subst (AllByRecursion (λ k. IsRunAt past (slot k.item) k.item false)) is h.cpu
 
-    slept : answer (layout_for s) past (Worker (worker (seat j.item))) call.Sleep ≡ reply.Slept
-    slept = sleep_answered s past (seat j.item) j.item jobs.0
+    slept : answer (layout_for s) past (Worker (worker (slot j.item))) call.Sleep ≡ reply.Slept
+    slept = sleep_answered s past (slot j.item) j.item jobs.0
 
-    quiet : IsQuiet (answer (layout_for s) past (Worker (worker (seat j.item))) call.Sleep)
+    quiet : IsQuiet (answer (layout_for s) past (Worker (worker (slot j.item))) call.Sleep)
     quiet = subst IsQuiet (sym slept) sleeps
 
     legal : IsLegal (layout_for s) (e ∷ past)
-    legal = (fits_sleep s (seat j.item) (runner_there (layout_for s) past (worker (seat j.item)) j.item h.legal jobs.0.runs), refl, h.legal)
+    legal = (fits_sleep s (slot j.item) (runner_there (layout_for s) past (worker (slot j.item)) j.item h.legal jobs.0.runs), refl, h.legal)
 
-    after : (o : Option ℕ) → run_after (answer (layout_for s) past (Worker (worker (seat j.item))) call.Sleep) o ≡ o
+    after : (o : Option ℕ) → run_after (answer (layout_for s) past (Worker (worker (slot j.item))) call.Sleep) o ≡ o
     after o = ap (λ r. run_after r o) slept
 
     apart : (AllByRecursion (λ k. is_job j.item k ≡ false) rest) × (AllByRecursion (λ x. is_sleeper j.item x ≡ false) m.sleeping)
     apart = alone m j rest is (h.once j.item)
 
-    other : (i : ℕ) (b : Bool) → IsRunAt past (seat i) i b → (i == j.item) ≡ false → IsRunAt (e ∷ past) (seat i) i b
-    other i b r differs = goes_on (layout_for s) past e (seat j.item) (seat i) i b legal after refl (other_seat past seat j.item i false b jobs.0 r differs) r
+    other : (i : ℕ) (b : Bool) → IsRunAt past (slot i) i b → (i == j.item) ≡ false → IsRunAt (e ∷ past) (slot i) i b
+    other i b r differs = goes_on (layout_for s) past e (slot j.item) (slot i) i b legal after refl (other_slot past slot j.item i false b jobs.0 r differs) r
 
     moved : (n : ℕ) → runs_in m n ≡ true → runs_in (asleep_with m j rest until left) n ≡ true
     moved n k = arrange (is_job n j) (list_any (is_job n) rest) (list_any (is_sleeper n) m.sleeping) _ (sym (ap (λ js. list_any (is_job n) js || list_any (is_sleeper n) m.sleeping) is) ∙ k) (any-append (is_sleeper n) m.sleeping (record { item = j.item; until = until; left = left } ∷ []))

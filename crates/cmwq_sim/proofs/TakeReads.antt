@@ -24,11 +24,11 @@ use Rattle.cmwq_model.specs.Queueings.{queueing_at, has_number, queue_of as queu
 use Rattle.cmwq_model.specs.Active.{next, is_startable}
 use Rattle.cmwq_model.specs.Workers.{is_enlisted, is_idle, is_holding, runnable, enlisted_by}
 use Rattle.cmwq_model.specs.Answer.{answer, take_answer, finish_answer, start_of, started}
-use Rattle.cmwq_active.proofs.Lists.{count_by-cons}
-use Rattle.cmwq_steps.proofs.RunsActive.{found_known}
-use Rattle.cmwq_steps.proofs.Pools.{runs_are_in_pools}
-use Rattle.cmwq_steps.proofs.ItemSteps.{items_are_run}
-use Rattle.cmwq_ties.proofs.PoolNext.{runner_there}
+use Rattle.cmwq_theory_active.proofs.Lists.{count_by-cons}
+use Rattle.cmwq_theory_steps.proofs.RunsActive.{found_known}
+use Rattle.cmwq_theory_steps.proofs.Pools.{runs_are_in_pools}
+use Rattle.cmwq_theory_steps.proofs.ItemSteps.{items_are_run}
+use Rattle.cmwq_refinement.proofs.PoolNext.{runner_there}
 use Rattle.cmwq_sim.specs.Plan.{Plan, queue_of, no_queue}
 use Rattle.cmwq_sim.specs.Plan as plan
 use Rattle.cmwq_sim.specs.Lines.{Moment, Job, Sleeper, items_of, is_held_by}
@@ -94,8 +94,8 @@ found_mapped s n x (i ∷ xs) h = at (i == n) refl h (λ k. found_mapped s n x x
     at true is k later = sym (same_Some (queueing_for s i) x k) ∙ ap (queueing_for s) (eqb-true i n is)
     at false is k later = later k
 
-pub run_found : (s : Plan) (past : List Entry) (m : Moment) (seat : ℕ → ℕ) (w : WorkerId) (n : ℕ) → Shows s past m seat → run past w ≡ Some n → queueing_at past n ≡ Some (queueing_for s n)
-run_found s past m seat w n h is =
+pub run_found : (s : Plan) (past : List Entry) (m : Moment) (slot : ℕ → ℕ) (w : WorkerId) (n : ℕ) → Shows s past m slot → run past w ≡ Some n → queueing_at past n ≡ Some (queueing_for s n)
+run_found s past m slot w n h is =
     let r = runs_are_in_pools (layout_for s) past w n h.legal is in
     r.found ∙ ap Some (found_mapped s n r.queueing (items_of s) (sym (ap (find (has_number n)) h.queued) ∙ r.found))
 
@@ -104,14 +104,14 @@ run_found s past m seat w n h is =
 pub runs_counted : (m : Moment) (i : ℕ) → runs_in m i ≡ true → 1 ≤ count_by (is_job i) m.cpu + count_by (is_sleeper i) m.sleeping
 runs_counted m i h = ⊎_elim (λ a. let c = any_counted (is_job i) m.cpu a in omega arith) (λ b. let c = any_counted (is_sleeper i) m.sleeping b in omega arith) (or_cases (list_any (is_job i) m.cpu) (list_any (is_sleeper i) m.sleeping) h)
 
-startable : (s : Plan) (past : List Entry) (m : Moment) (seat : ℕ → ℕ) (i : ℕ) → Shows s past m seat → 1 ≤ count_by (λ j. j == i) m.ready → is_startable past (queueing_for s i) ≡ true
-startable s past m seat i h some = at (item_run past i) refl
+startable : (s : Plan) (past : List Entry) (m : Moment) (slot : ℕ → ℕ) (i : ℕ) → Shows s past m slot → 1 ≤ count_by (λ j. j == i) m.ready → is_startable past (queueing_for s i) ≡ true
+startable s past m slot i h some = at (item_run past i) refl
   where
     at : (o : Option Start) → item_run past i ≡ o → not (is_some (item_run past i)) ≡ true
     at None is = ap (λ o. not (is_some o)) is
     at (Some st) is =
         let k = items_are_run (layout_for s) past i st h.legal is in
-        let known = found_known past st.number (queueing_for s st.number) (run_found s past m seat st.worker st.number h k.0) in
+        let known = found_known past st.number (queueing_for s st.number) (run_found s past m slot st.worker st.number h k.0) in
         let same : st.number ≡ i = same_Some st.number i (sym known.item ∙ k.1) in
         let c = runs_counted m i (ap (runs_in m) (sym same) ∙ (h.no_others st.worker st.number k.0).1) in
         let o = h.once i in
@@ -120,13 +120,13 @@ startable s past m seat i h some = at (item_run past i) refl
 pub first_counted : (i : ℕ) (xs : List ℕ) → 1 ≤ count_by (λ j. j == i) (i ∷ xs)
 first_counted i xs = let c = count_by-cons (λ j. j == i) i xs ∙ ap (λ b. cond b 1 0 + count_by (λ j. j == i) xs) (eq-eqb i i refl) in omega arith
 
-pub next_is : (s : Plan) (past : List Entry) (m : Moment) (seat : ℕ → ℕ) → Shows s past m seat → next (layout_for s) past pool ≡ option_map (queueing_for s) (next_of m.ready)
+pub next_is : (s : Plan) (past : List Entry) (m : Moment) (slot : ℕ → ℕ) → Shows s past m slot → next (layout_for s) past pool ≡ option_map (queueing_for s) (next_of m.ready)
 unfolding next
-next_is s past m seat h = ap (find (is_startable past)) h.ready ∙ at m.ready refl
+next_is s past m slot h = ap (find (is_startable past)) h.ready ∙ at m.ready refl
   where
     at : (xs : List ℕ) → m.ready ≡ xs → find (is_startable past) (map (queueing_for s) xs) ≡ option_map (queueing_for s) (next_of xs)
     at [] is = refl
-    at (i ∷ xs) is = ap (λ b. cond b (Some (queueing_for s i)) (find (is_startable past) (map (queueing_for s) xs))) (startable s past m seat i h (subst (λ ys. 1 ≤ count_by (λ j. j == i) ys) (sym is) (first_counted i xs)))
+    at (i ∷ xs) is = ap (λ b. cond b (Some (queueing_for s i)) (find (is_startable past) (map (queueing_for s) xs))) (startable s past m slot i h (subst (λ ys. 1 ≤ count_by (λ j. j == i) ys) (sym is) (first_counted i xs)))
 
 -- ---- the pool is held where an item on the CPU's list holds it
 
@@ -134,24 +134,24 @@ queue_mapped : (s : Plan) (q : ℕ) → is_intensive (layout_for s) q ≡ plan.i
 queue_mapped s q = ap (λ (x : QueueShape). x.intensive) (get_or-map queue_shape s.queues q no_queue)
 
 -- a worker with a run that is awake holds the pool where the item's queue isn't CPU intensive
-holds_by_item : (s : Plan) (past : List Entry) (m : Moment) (seat : ℕ → ℕ) (x n : ℕ) → Shows s past m seat → run past (worker x) ≡ Some n → is_asleep past (worker x) ≡ false
+holds_by_item : (s : Plan) (past : List Entry) (m : Moment) (slot : ℕ → ℕ) (x n : ℕ) → Shows s past m slot → run past (worker x) ≡ Some n → is_asleep past (worker x) ≡ false
     → is_holding (layout_for s) past pool x ≡ not (plan.is_intensive s (queue_of s n))
-holds_by_item s past m seat x n h runs awake =
+holds_by_item s past m slot x n h runs awake =
     ap₂ (λ o b. (is_some o && not b) && not (option_map_or (is_intensive (layout_for s)) (option_and_then (queue_of_number past) o) false)) runs awake
-    ∙ ap (λ o. not (option_map_or (is_intensive (layout_for s)) (option_map (λ (y : Queueing). y.place.queue.0) o) false)) (run_found s past m seat (worker x) n h runs)
+    ∙ ap (λ o. not (option_map_or (is_intensive (layout_for s)) (option_map (λ (y : Queueing). y.place.queue.0) o) false)) (run_found s past m slot (worker x) n h runs)
     ∙ ap not (queue_mapped s (queue_of s n))
 
 -- an element of the CPU's list that passes
-record Held (s : Plan) (past : List Entry) (seat : ℕ → ℕ) : Type 0 where
+record Held (s : Plan) (past : List Entry) (slot : ℕ → ℕ) : Type 0 where
   job : Job
   held : is_held_by s job ≡ true
-  run_at : IsRunAt past (seat job.item) job.item false
+  run_at : IsRunAt past (slot job.item) job.item false
 
-held_one : (s : Plan) (past : List Entry) (seat : ℕ → ℕ) (cpu : List Job) → AllByRecursion (λ j. IsRunAt past (seat j.item) j.item false) cpu → list_any (is_held_by s) cpu ≡ true → Held s past seat
-held_one s past seat [] each h = cc
-held_one s past seat (j ∷ cpu) each h = at (is_held_by s j) refl h (λ k. held_one s past seat cpu each.1 k)
+held_one : (s : Plan) (past : List Entry) (slot : ℕ → ℕ) (cpu : List Job) → AllByRecursion (λ j. IsRunAt past (slot j.item) j.item false) cpu → list_any (is_held_by s) cpu ≡ true → Held s past slot
+held_one s past slot [] each h = cc
+held_one s past slot (j ∷ cpu) each h = at (is_held_by s j) refl h (λ k. held_one s past slot cpu each.1 k)
   where
-    at : (b : Bool) → is_held_by s j ≡ b → (b || list_any (is_held_by s) cpu) ≡ true → (list_any (is_held_by s) cpu ≡ true → Held s past seat) → Held s past seat
+    at : (b : Bool) → is_held_by s j ≡ b → (b || list_any (is_held_by s) cpu) ≡ true → (list_any (is_held_by s) cpu ≡ true → Held s past slot) → Held s past slot
     at true is k later = record { job = j; held = is; run_at = each.0 }
     at false is k later = later k
 
@@ -168,15 +168,15 @@ none_held s n (j ∷ cpu) h k = ⊎_elim
     neither false b h = (refl, h)
 
 -- and a sleeper's run sleeps
-asleep_one : (past : List Entry) (seat : ℕ → ℕ) (n : ℕ) (xs : List Sleeper) → AllByRecursion (λ x. IsRunAt past (seat x.item) x.item true) xs → list_any (is_sleeper n) xs ≡ true → is_asleep past (worker (seat n)) ≡ true
-asleep_one past seat n [] each h = cc
-asleep_one past seat n (x ∷ xs) each h = ⊎_elim
-    (λ here. ap (λ i. is_asleep past (worker (seat i))) (sym (eqb-true x.item n here)) ∙ each.0.sleeps)
-    (λ later. asleep_one past seat n xs each.1 later)
+asleep_one : (past : List Entry) (slot : ℕ → ℕ) (n : ℕ) (xs : List Sleeper) → AllByRecursion (λ x. IsRunAt past (slot x.item) x.item true) xs → list_any (is_sleeper n) xs ≡ true → is_asleep past (worker (slot n)) ≡ true
+asleep_one past slot n [] each h = cc
+asleep_one past slot n (x ∷ xs) each h = ⊎_elim
+    (λ here. ap (λ i. is_asleep past (worker (slot i))) (sym (eqb-true x.item n here)) ∙ each.0.sleeps)
+    (λ later. asleep_one past slot n xs each.1 later)
     (or_cases (is_sleeper n x) (list_any (is_sleeper n) xs) h)
 
-not_holding : (s : Plan) (past : List Entry) (m : Moment) (seat : ℕ → ℕ) (x : ℕ) → Shows s past m seat → list_any (is_held_by s) m.cpu ≡ false → is_holding (layout_for s) past pool x ≡ false
-not_holding s past m seat x h clear = at (run past (worker x)) refl (is_asleep past (worker x)) refl
+not_holding : (s : Plan) (past : List Entry) (m : Moment) (slot : ℕ → ℕ) (x : ℕ) → Shows s past m slot → list_any (is_held_by s) m.cpu ≡ false → is_holding (layout_for s) past pool x ≡ false
+not_holding s past m slot x h clear = at (run past (worker x)) refl (is_asleep past (worker x)) refl
   where
     rest : Bool
     rest = not (option_map_or (is_intensive (layout_for s)) (run_queue past (worker x)) false)
@@ -186,38 +186,38 @@ not_holding s past m seat x h clear = at (run past (worker x)) refl (is_asleep p
     at (Some n) runs true sleeps = ap₂ (λ o b. (is_some o && not b) && rest) runs sleeps
     at (Some n) runs false sleeps =
         let k = h.no_others (worker x) n runs in
-        holds_by_item s past m seat x n h runs sleeps ∙ ⊎_elim
+        holds_by_item s past m slot x n h runs sleeps ∙ ⊎_elim
         (λ job. none_held s n m.cpu clear job)
-        (λ sleeper. differ (sym sleeps ∙ ap (is_asleep past) k.0 ∙ asleep_one past seat n m.sleeping h.sleeping sleeper))
+        (λ sleeper. differ (sym sleeps ∙ ap (is_asleep past) k.0 ∙ asleep_one past slot n m.sleeping h.sleeping sleeper))
         (or_cases (list_any (is_job n) m.cpu) (list_any (is_sleeper n) m.sleeping) k.1)
       where
         differ : false ≡ true → not (plan.is_intensive s (queue_of s n)) ≡ false
         differ e = cc
 
-pub runnable_is : (s : Plan) (past : List Entry) (m : Moment) (seat : ℕ → ℕ) → Shows s past m seat → nat_lt 0 (runnable (layout_for s) past pool) ≡ list_any (is_held_by s) m.cpu
+pub runnable_is : (s : Plan) (past : List Entry) (m : Moment) (slot : ℕ → ℕ) → Shows s past m slot → nat_lt 0 (runnable (layout_for s) past pool) ≡ list_any (is_held_by s) m.cpu
 unfolding runnable
-runnable_is s past m seat h = at (list_any (is_held_by s) m.cpu) refl
+runnable_is s past m slot h = at (list_any (is_held_by s) m.cpu) refl
   where
     at : (b : Bool) → list_any (is_held_by s) m.cpu ≡ b → nat_lt 0 (count_by (is_holding (layout_for s) past pool) (indices (layout_for s))) ≡ b
     at true is =
-        let k = held_one s past seat m.cpu h.cpu is in
-        let below : seat k.job.item < 8 = runner_there (layout_for s) past (worker (seat k.job.item)) k.job.item h.legal k.run_at.runs in
-        let c = one_counted (is_holding (layout_for s) past pool) 0 8 (seat k.job.item) (omega arith) (omega arith) (holds_by_item s past m seat (seat k.job.item) k.job.item h k.run_at.runs k.run_at.sleeps ∙ k.held) in
+        let k = held_one s past slot m.cpu h.cpu is in
+        let below : slot k.job.item < 8 = runner_there (layout_for s) past (worker (slot k.job.item)) k.job.item h.legal k.run_at.runs in
+        let c = one_counted (is_holding (layout_for s) past pool) 0 8 (slot k.job.item) (omega arith) (omega arith) (holds_by_item s past m slot (slot k.job.item) k.job.item h k.run_at.runs k.run_at.sleeps ∙ k.held) in
         positive (count_by (is_holding (layout_for s) past pool) (indices (layout_for s))) c
       where
         positive : (n : ℕ) → 1 ≤ n → nat_lt 0 n ≡ true
         positive n h = grind (arith, nat_tests)
-    at false is = ap (nat_lt 0) (none_counted (is_holding (layout_for s) past pool) 0 8 (λ x low high. not_holding s past m seat x h is))
+    at false is = ap (nat_lt 0) (none_counted (is_holding (layout_for s) past pool) 0 8 (λ x low high. not_holding s past m slot x h is))
 
 -- ---- what a take is answered
 
-pub take_answered : (s : Plan) (past : List Entry) (m : Moment) (seat : ℕ → ℕ) (x : ℕ) → Shows s past m seat
+pub take_answered : (s : Plan) (past : List Entry) (m : Moment) (slot : ℕ → ℕ) (x : ℕ) → Shows s past m slot
     → number_started (answer (layout_for s) past (Worker (worker x)) call.Take) ≡ (if is_idle past pool x then to_start s m else None)
 unfolding answer take_answer
-take_answered s past m seat x h =
-    ap (λ o. number_started (if not (is_enlisted past (worker x)) || has_run past (worker x) then reply.Misuse else start_of (layout_for s) past (worker x) o)) (next_is s past m seat h)
+take_answered s past m slot x h =
+    ap (λ o. number_started (if not (is_enlisted past (worker x)) || has_run past (worker x) then reply.Misuse else start_of (layout_for s) past (worker x) o)) (next_is s past m slot h)
     ∙ at m.ready (is_enlisted past (worker x)) (has_run past (worker x)) (nat_lt 0 (runnable (layout_for s) past pool)) (enlisted_by (layout_for s) past (worker x))
-    ∙ ap (λ b. if is_idle past pool x then (if b then None else next_of m.ready) else None) (runnable_is s past m seat h)
+    ∙ ap (λ b. if is_idle past pool x then (if b then None else next_of m.ready) else None) (runnable_is s past m slot h)
   where
     start : Bool → Option ℕ → Option Queueing → Reply
     start held o None = reply.Nothing
@@ -276,54 +276,54 @@ covered (suc n) ys h =
     let rest : n ≤ length (keeps n ys) = covered n (keeps n ys) (λ x below. still_has n x ys (omega arith) (h x (omega arith))) in
     omega arith
 
-job_seat : (seat : ℕ → ℕ) (n x : ℕ) (js : List Job) (ys : List ℕ) → x ≡ seat n → list_any (is_job n) js ≡ true → list_any (λ y. y == x) (map (λ (j : Job). seat j.item) js ++ ys) ≡ true
-job_seat seat n x [] ys same h = cc
-job_seat seat n x (j ∷ js) ys same h = ⊎_elim
-    (λ here. ap (λ b. b || list_any (λ y. y == x) (map (λ (k : Job). seat k.item) js ++ ys)) (eq-eqb (seat j.item) x (ap seat (eqb-true j.item n here) ∙ sym same)))
-    (λ later. ap (λ b. (seat j.item == x) || b) (job_seat seat n x js ys same later) ∙ any_or (seat j.item == x))
+job_slot : (slot : ℕ → ℕ) (n x : ℕ) (js : List Job) (ys : List ℕ) → x ≡ slot n → list_any (is_job n) js ≡ true → list_any (λ y. y == x) (map (λ (j : Job). slot j.item) js ++ ys) ≡ true
+job_slot slot n x [] ys same h = cc
+job_slot slot n x (j ∷ js) ys same h = ⊎_elim
+    (λ here. ap (λ b. b || list_any (λ y. y == x) (map (λ (k : Job). slot k.item) js ++ ys)) (eq-eqb (slot j.item) x (ap slot (eqb-true j.item n here) ∙ sym same)))
+    (λ later. ap (λ b. (slot j.item == x) || b) (job_slot slot n x js ys same later) ∙ any_or (slot j.item == x))
     (or_cases (is_job n j) (list_any (is_job n) js) h)
   where
     any_or : (b : Bool) → (b || true) ≡ true
     any_or true = refl
     any_or false = refl
 
-sleeper_seat : (seat : ℕ → ℕ) (n x : ℕ) (ys : List ℕ) (xs : List Sleeper) → x ≡ seat n → list_any (is_sleeper n) xs ≡ true → list_any (λ y. y == x) (ys ++ map (λ (z : Sleeper). seat z.item) xs) ≡ true
-sleeper_seat seat n x [] [] same h = cc
-sleeper_seat seat n x [] (z ∷ xs) same h = ⊎_elim
-    (λ here. ap (λ b. b || list_any (λ y. y == x) (map (λ (k : Sleeper). seat k.item) xs)) (eq-eqb (seat z.item) x (ap seat (eqb-true z.item n here) ∙ sym same)))
-    (λ later. ap (λ b. (seat z.item == x) || b) (sleeper_seat seat n x [] xs same later) ∙ any_or (seat z.item == x))
+sleeper_slot : (slot : ℕ → ℕ) (n x : ℕ) (ys : List ℕ) (xs : List Sleeper) → x ≡ slot n → list_any (is_sleeper n) xs ≡ true → list_any (λ y. y == x) (ys ++ map (λ (z : Sleeper). slot z.item) xs) ≡ true
+sleeper_slot slot n x [] [] same h = cc
+sleeper_slot slot n x [] (z ∷ xs) same h = ⊎_elim
+    (λ here. ap (λ b. b || list_any (λ y. y == x) (map (λ (k : Sleeper). slot k.item) xs)) (eq-eqb (slot z.item) x (ap slot (eqb-true z.item n here) ∙ sym same)))
+    (λ later. ap (λ b. (slot z.item == x) || b) (sleeper_slot slot n x [] xs same later) ∙ any_or (slot z.item == x))
     (or_cases (is_sleeper n z) (list_any (is_sleeper n) xs) h)
   where
     any_or : (b : Bool) → (b || true) ≡ true
     any_or true = refl
     any_or false = refl
-sleeper_seat seat n x (y ∷ ys) xs same h = ap (λ b. (y == x) || b) (sleeper_seat seat n x ys xs same h) ∙ any_or (y == x)
+sleeper_slot slot n x (y ∷ ys) xs same h = ap (λ b. (y == x) || b) (sleeper_slot slot n x ys xs same h) ∙ any_or (y == x)
   where
     any_or : (b : Bool) → (b || true) ≡ true
     any_or true = refl
     any_or false = refl
 
 -- where all workers run, eight items do
-all_run : (s : Plan) (past : List Entry) (m : Moment) (seat : ℕ → ℕ) → Shows s past m seat → ((x : ℕ) → x < 8 → has_run past (worker x) ≡ true) → 8 ≤ length m.cpu + length m.sleeping
-all_run s past m seat h each =
-    let c : 8 ≤ length (map (λ (j : Job). seat j.item) m.cpu ++ map (λ (x : Sleeper). seat x.item) m.sleeping) = covered 8 _ (λ x less. at x (run past (worker x)) refl (each x less)) in
+all_run : (s : Plan) (past : List Entry) (m : Moment) (slot : ℕ → ℕ) → Shows s past m slot → ((x : ℕ) → x < 8 → has_run past (worker x) ≡ true) → 8 ≤ length m.cpu + length m.sleeping
+all_run s past m slot h each =
+    let c : 8 ≤ length (map (λ (j : Job). slot j.item) m.cpu ++ map (λ (x : Sleeper). slot x.item) m.sleeping) = covered 8 _ (λ x less. at x (run past (worker x)) refl (each x less)) in
     let d = simp (length-append, length-map) at c in
     omega arith
   where
-    at : (x : ℕ) (o : Option ℕ) → run past (worker x) ≡ o → is_some (run past (worker x)) ≡ true → list_any (λ y. y == x) (map (λ (j : Job). seat j.item) m.cpu ++ map (λ (x : Sleeper). seat x.item) m.sleeping) ≡ true
+    at : (x : ℕ) (o : Option ℕ) → run past (worker x) ≡ o → is_some (run past (worker x)) ≡ true → list_any (λ y. y == x) (map (λ (j : Job). slot j.item) m.cpu ++ map (λ (x : Sleeper). slot x.item) m.sleeping) ≡ true
     at x None is some = cc
     at x (Some n) is some =
         let k = h.no_others (worker x) n is in
-        let same : x ≡ seat n = ap (λ (w : WorkerId). w.index) k.0 in
-        ⊎_elim (λ j. job_seat seat n x m.cpu (map (λ (z : Sleeper). seat z.item) m.sleeping) same j) (λ z. sleeper_seat seat n x (map (λ (j : Job). seat j.item) m.cpu) m.sleeping same z) (or_cases (list_any (is_job n) m.cpu) (list_any (is_sleeper n) m.sleeping) k.1)
+        let same : x ≡ slot n = ap (λ (w : WorkerId). w.index) k.0 in
+        ⊎_elim (λ j. job_slot slot n x m.cpu (map (λ (z : Sleeper). slot z.item) m.sleeping) same j) (λ z. sleeper_slot slot n x (map (λ (j : Job). slot j.item) m.cpu) m.sleeping same z) (or_cases (list_any (is_job n) m.cpu) (list_any (is_sleeper n) m.sleeping) k.1)
 
-pub some_idle : (s : Plan) (past : List Entry) (m : Moment) (seat : ℕ → ℕ) (i : ℕ) → Shows s past m seat → next_of m.ready ≡ Some i → (x : ℕ) × (x < 8) × (is_idle past pool x ≡ true)
-some_idle s past m seat i h first = elim (idle_or_all (layout_for s) past pool h.legal h.kept (omega arith)) [
+pub some_idle : (s : Plan) (past : List Entry) (m : Moment) (slot : ℕ → ℕ) (i : ℕ) → Shows s past m slot → next_of m.ready ≡ Some i → (x : ℕ) × (x < 8) × (is_idle past pool x ≡ true)
+some_idle s past m slot i h first = elim (idle_or_all (layout_for s) past pool h.legal h.kept (omega arith)) [
   | idle x less is ↦ (x, less, is)
   | all enlisted ↦ elim (any_below (is_idle past pool) 8) [
     | one x less is ↦ (x, less, is)
     | none nobody ↦
-        let full = all_run s past m seat h (λ x less. runs (is_enlisted past (worker x)) (has_run past (worker x)) (enlisted x less) (nobody x less)) in
+        let full = all_run s past m slot h (λ x less. runs (is_enlisted past (worker x)) (has_run past (worker x)) (enlisted x less) (nobody x less)) in
         let f = h.few in
         let r = first_long m.ready first in
         absurd (omega arith)

@@ -19,13 +19,13 @@ use Rattle.cmwq_model.specs.Queueings.{queueings}
 use Rattle.cmwq_model.specs.Workers.{is_idle}
 use Rattle.cmwq_model.specs.Answer.{answer}
 use Rattle.cmwq_model.specs.Legal.{IsLegal, entry_for}
-use Rattle.cmwq_steps.specs.RunSteps.{run_after}
-use Rattle.cmwq_active.proofs.Lists.{All_both, All_append, count_by-cons}
-use Rattle.cmwq_steps.proofs.Filters.{count_none}
-use Rattle.cmwq_active.proofs.Widths.{width_same}
-use Rattle.cmwq_steps.proofs.RunSteps.{workers_run_on, run_begun}
-use Rattle.cmwq_steps.proofs.ItemRuns.{same_worker-true}
-use Rattle.cmwq_steps.proofs.OwedSteps.{by_itself}
+use Rattle.cmwq_theory_steps.specs.RunSteps.{run_after}
+use Rattle.cmwq_theory_active.proofs.Lists.{All_both, All_append, count_by-cons}
+use Rattle.cmwq_theory_steps.proofs.Filters.{count_none}
+use Rattle.cmwq_theory_active.proofs.Widths.{width_same}
+use Rattle.cmwq_theory_steps.proofs.RunSteps.{workers_run_on, run_begun}
+use Rattle.cmwq_theory_steps.proofs.ItemRuns.{same_worker-true}
+use Rattle.cmwq_theory_steps.proofs.OwedSteps.{by_itself}
 use Rattle.cmwq_sim.specs.Plan.{Plan, ms_of}
 use Rattle.cmwq_sim.specs.Lines.{Moment, is_held_by, job_of, job_with}
 use Rattle.cmwq_sim.specs.Shows.{layout_for, pool, worker, queueing_for, IsRunAt, is_job, is_sleeper, runs_in, Shows, to_start, next_of}
@@ -68,16 +68,16 @@ others_left s i (k ∷ xs) h = ap₂ (λ b ys. cond (not b) (queueing_for s k �
     differ true h k = cc
     differ false h k = cc
 
-abbrev pub seat_with : (ℕ → ℕ) → ℕ → ℕ → ℕ → ℕ
-seat_with seat i x k = if k == i then x else seat k
+abbrev pub slot_with : (ℕ → ℕ) → ℕ → ℕ → ℕ → ℕ
+slot_with slot i x k = if k == i then x else slot k
 
 abbrev pub started_with : Plan → Moment → ℕ → List ℕ → Moment
 started_with s m i rest = record m { ready = rest; cpu = m.cpu ++ job_of s i ∷ [] }
 
-pub take_shown : (s : Plan) (past : List Entry) (m : Moment) (seat : ℕ → ℕ) (x i : ℕ) (rest : List ℕ) → Shows s past m seat → x < 8 → is_idle past pool x ≡ true → m.ready ≡ i ∷ rest → list_any (is_held_by s) m.cpu ≡ false
-    → Shows s (entry_for (layout_for s) past (Worker (worker x)) call.Take ∷ past) (started_with s m i rest) (seat_with seat i x)
+pub take_shown : (s : Plan) (past : List Entry) (m : Moment) (slot : ℕ → ℕ) (x i : ℕ) (rest : List ℕ) → Shows s past m slot → x < 8 → is_idle past pool x ≡ true → m.ready ≡ i ∷ rest → list_any (is_held_by s) m.cpu ≡ false
+    → Shows s (entry_for (layout_for s) past (Worker (worker x)) call.Take ∷ past) (started_with s m i rest) (slot_with slot i x)
 unfolding IsLegal queueings is_asleep
-take_shown s past m seat x i rest h less free is clear = record {
+take_shown s past m slot x i rest h less free is clear = record {
   legal = legal;
   widths = ((λ q. width_same (layout_for s) past e q quiet.widths ∙ h.wide q), h.widths);
   wide = λ q. width_same (layout_for s) past e q quiet.widths ∙ h.wide q;
@@ -87,8 +87,8 @@ take_shown s past m seat x i rest h less free is clear = record {
       ∙ ap (λ b. cond (not b) (queueing_for s i ∷ filter (λ (y : Queueing). not (i == y.number)) (map (queueing_for s) rest)) (filter (λ (y : Queueing). not (i == y.number)) (map (queueing_for s) rest))) (eq-eqb i i refl)
       ∙ others_left s i rest (count_none (λ k. k == i) rest (omega (arith, counts, h.once i)));
   behind = waiting_as_before (layout_for s) past e legal quiet ∙ h.behind;
-  cpu = All_append _ m.cpu (job_of s i ∷ []) (All_both (λ k. IsRunAt past (seat k.item) k.item false) (λ k. is_job i k ≡ false) _ m.cpu (λ k r differs. other k.item false r differs) h.cpu (count_none (is_job i) m.cpu (omega (arith, counts, h.once i)))) (subst (λ k. IsRunAt (e ∷ past) (seat_with seat i x k) k false) (sym (job_item i (ms_of s i))) own, tt);
-  sleeping = All_both (λ k. IsRunAt past (seat k.item) k.item true) (λ k. is_sleeper i k ≡ false) _ m.sleeping (λ k r differs. other k.item true r differs) h.sleeping (count_none (is_sleeper i) m.sleeping (omega (arith, counts, h.once i)));
+  cpu = All_append _ m.cpu (job_of s i ∷ []) (All_both (λ k. IsRunAt past (slot k.item) k.item false) (λ k. is_job i k ≡ false) _ m.cpu (λ k r differs. other k.item false r differs) h.cpu (count_none (is_job i) m.cpu (omega (arith, counts, h.once i)))) (subst (λ k. IsRunAt (e ∷ past) (slot_with slot i x k) k false) (sym (job_item i (ms_of s i))) own, tt);
+  sleeping = All_both (λ k. IsRunAt past (slot k.item) k.item true) (λ k. is_sleeper i k ≡ false) _ m.sleeping (λ k r differs. other k.item true r differs) h.sleeping (count_none (is_sleeper i) m.sleeping (omega (arith, counts, h.once i)));
   no_others = λ w n runs. at w n (is_by (Worker w) e) refl (sym (workers_run_on (layout_for s) past e w legal) ∙ runs);
   once = λ k.
       let o = h.once k in
@@ -106,7 +106,7 @@ take_shown s past m seat x i rest h less free is clear = record {
     e = entry_for (layout_for s) past (Worker (worker x)) call.Take
 
     started : number_started (answer (layout_for s) past (Worker (worker x)) call.Take) ≡ Some i
-    started = take_answered s past m seat x h ∙ ap (λ b. if b then to_start s m else None) free ∙ ap (λ b. if b then None else next_of m.ready) clear ∙ ap next_of is
+    started = take_answered s past m slot x h ∙ ap (λ b. if b then to_start s m else None) free ∙ ap (λ b. if b then None else next_of m.ready) clear ∙ ap next_of is
 
     quiet : IsQuiet (answer (layout_for s) past (Worker (worker x)) call.Take)
     quiet = quiet_start (answer (layout_for s) past (Worker (worker x)) call.Take) i started
@@ -120,20 +120,20 @@ take_shown s past m seat x i rest h less free is clear = record {
     idle_run : run past (worker x) ≡ None
     idle_run = (idle_parts past pool x free).1
 
-    seat_is : (k : ℕ) → (k == i) ≡ false → seat_with seat i x k ≡ seat k
-    seat_is k differs = ap (λ b. if b then x else seat k) differs
+    slot_is : (k : ℕ) → (k == i) ≡ false → slot_with slot i x k ≡ slot k
+    slot_is k differs = ap (λ b. if b then x else slot k) differs
 
-    seat_own : seat_with seat i x i ≡ x
-    seat_own = ap (λ b. if b then x else seat i) (eq-eqb i i refl)
+    slot_own : slot_with slot i x i ≡ x
+    slot_own = ap (λ b. if b then x else slot i) (eq-eqb i i refl)
 
-    other : (k : ℕ) (b : Bool) → IsRunAt past (seat k) k b → (k == i) ≡ false → IsRunAt (e ∷ past) (seat_with seat i x k) k b
-    other k b r differs = subst (λ y. IsRunAt (e ∷ past) y k b) (sym (seat_is k differs)) (goes_by (layout_for s) past e x (seat k) k b legal refl (λ same. none_some (sym idle_run ∙ ap (λ y. run past (worker y)) same ∙ r.runs)) r)
+    other : (k : ℕ) (b : Bool) → IsRunAt past (slot k) k b → (k == i) ≡ false → IsRunAt (e ∷ past) (slot_with slot i x k) k b
+    other k b r differs = subst (λ y. IsRunAt (e ∷ past) y k b) (sym (slot_is k differs)) (goes_by (layout_for s) past e x (slot k) k b legal refl (λ same. none_some (sym idle_run ∙ ap (λ y. run past (worker y)) same ∙ r.runs)) r)
       where
         none_some : {n : ℕ} → None ≡ Some n → ⊥
         none_some {n} h = cc
 
-    own : IsRunAt (e ∷ past) (seat_with seat i x i) i false
-    own = subst (λ y. IsRunAt (e ∷ past) y i false) (sym seat_own) (record {
+    own : IsRunAt (e ∷ past) (slot_with slot i x i) i false
+    own = subst (λ y. IsRunAt (e ∷ past) y i false) (sym slot_own) (record {
       runs = run_begun (layout_for s) past e (worker x) i legal (by_itself e (worker x) refl) started;
       sleeps = ap (λ c. if c then asleep_after e.reply (is_asleep past (worker x)) else is_asleep past (worker x)) (by_itself e (worker x) refl) ∙ awake_start (answer (layout_for s) past (Worker (worker x)) call.Take) i (is_asleep past (worker x)) started;
     })
@@ -141,10 +141,10 @@ take_shown s past m seat x i rest h less free is clear = record {
     joined : (n : ℕ) → list_any (is_job n) (m.cpu ++ job_of s i ∷ []) ≡ (list_any (is_job n) m.cpu || ((i == n) || false))
     joined n = any-append (is_job n) m.cpu (job_of s i ∷ []) ∙ ap (λ j. list_any (is_job n) m.cpu || ((j == n) || false)) (job_item i (ms_of s i))
 
-    at : (w : WorkerId) (n : ℕ) (b : Bool) → is_by (Worker w) e ≡ b → (if is_by (Worker w) e then run_after e.reply (run past w) else run past w) ≡ Some n → (w ≡ worker (seat_with seat i x n)) × (runs_in (started_with s m i rest) n ≡ true)
+    at : (w : WorkerId) (n : ℕ) (b : Bool) → is_by (Worker w) e ≡ b → (if is_by (Worker w) e then run_after e.reply (run past w) else run past w) ≡ Some n → (w ≡ worker (slot_with slot i x n)) × (runs_in (started_with s m i rest) n ≡ true)
     at w n true by runs =
         let same : i ≡ n = same_Some i n (sym (started_after (answer (layout_for s) past (Worker (worker x)) call.Take) i (run past w) started) ∙ sym (ap (λ c. if c then run_after e.reply (run past w) else run past w) by) ∙ runs) in (
-          sym (same_worker-true (worker x) w by) ∙ ap worker (sym seat_own ∙ ap (seat_with seat i x) same),
+          sym (same_worker-true (worker x) w by) ∙ ap worker (sym slot_own ∙ ap (slot_with slot i x) same),
           ap (λ b. b || list_any (is_sleeper n) m.sleeping) (joined n ∙ ap (λ b. list_any (is_job n) m.cpu || (b || false)) (eq-eqb i n same)) ∙ last (list_any (is_job n) m.cpu),
         )
       where
@@ -158,7 +158,7 @@ take_shown s past m seat x i rest h less free is clear = record {
         let o = h.once i in
         let p = counts in
         absurd (omega arith)) in
-        (k.0 ∙ ap worker (sym (seat_is n differs)), ap (λ b. b || list_any (is_sleeper n) m.sleeping) (joined n) ∙ more (list_any (is_job n) m.cpu) (list_any (is_sleeper n) m.sleeping) (i == n) k.1)
+        (k.0 ∙ ap worker (sym (slot_is n differs)), ap (λ b. b || list_any (is_sleeper n) m.sleeping) (joined n) ∙ more (list_any (is_job n) m.cpu) (list_any (is_sleeper n) m.sleeping) (i == n) k.1)
       where
         more : (a b c : Bool) → (a || b) ≡ true → ((a || (c || false)) || b) ≡ true
         more true b c h = refl

@@ -10,8 +10,8 @@ use Rattle.cmwq_sim.specs.Shows.{layout_for, pool, Shows, to_start, next_of}
 use Rattle.cmwq_sim.specs.Takers.{IsTaker, NoTaker}
 use Rattle.cmwq_sim.proofs.TakeReads.{take_answered, some_idle}
 
-pub taker_starts : (s : Plan) (past : List Entry) (m : Moment) (seat : ℕ → ℕ) (x n : ℕ) → Shows s past m seat → IsTaker (layout_for s) past x n → (is_idle past pool x ≡ true) × (to_start s m ≡ Some n)
-taker_starts s past m seat x n h t = at (is_idle past pool x) refl (sym (take_answered s past m seat x h) ∙ t.starts)
+pub taker_starts : (s : Plan) (past : List Entry) (m : Moment) (slot : ℕ → ℕ) (x n : ℕ) → Shows s past m slot → IsTaker (layout_for s) past x n → (is_idle past pool x ≡ true) × (to_start s m ≡ Some n)
+taker_starts s past m slot x n h t = at (is_idle past pool x) refl (sym (take_answered s past m slot x h) ∙ t.starts)
   where
     at : (b : Bool) → is_idle past pool x ≡ b → (if is_idle past pool x then to_start s m else None) ≡ Some n → (is_idle past pool x ≡ true) × (to_start s m ≡ Some n)
     at true is k = (is, sym (ap (λ b. if b then to_start s m else None) is) ∙ k)
@@ -20,14 +20,14 @@ taker_starts s past m seat x n h t = at (is_idle past pool x) refl (sym (take_an
         none_some : None ≡ Some n → ⊥
         none_some h = cc
 
-pub no_taker : (s : Plan) (past : List Entry) (m : Moment) (seat : ℕ → ℕ) → Shows s past m seat → NoTaker (layout_for s) past 8 → to_start s m ≡ None
-no_taker s past m seat h nobody = held (list_any (is_held_by s) m.cpu) refl
+pub no_taker : (s : Plan) (past : List Entry) (m : Moment) (slot : ℕ → ℕ) → Shows s past m slot → NoTaker (layout_for s) past 8 → to_start s m ≡ None
+no_taker s past m slot h nobody = held (list_any (is_held_by s) m.cpu) refl
   where
     first : (o : Option ℕ) → next_of m.ready ≡ o → list_any (is_held_by s) m.cpu ≡ false → next_of m.ready ≡ None
     first None is clear = is
     first (Some i) is clear =
-        let w = some_idle s past m seat i h is in
-        sym (ap (λ b. if b then None else next_of m.ready) clear) ∙ sym (ap (λ b. if b then to_start s m else None) w.2) ∙ sym (take_answered s past m seat w.0 h) ∙ nobody w.0 w.1
+        let w = some_idle s past m slot i h is in
+        sym (ap (λ b. if b then None else next_of m.ready) clear) ∙ sym (ap (λ b. if b then to_start s m else None) w.2) ∙ sym (take_answered s past m slot w.0 h) ∙ nobody w.0 w.1
 
     held : (b : Bool) → list_any (is_held_by s) m.cpu ≡ b → to_start s m ≡ None
     held true is = ap (λ b. if b then None else next_of m.ready) is

@@ -2,7 +2,7 @@
 use Rattle.std.proofs.Common.{◌≡◌, ◌==◌, ◌≤◌, ◌+◌, ℕ, suc, Bool, true, false, cond, not, ◌&&◌, ◌||◌, List, [], ◌∷◌, ◌++◌, length, filter, count_by, Option, refl, sym, ap, ap₂, ◌∙◌, subst, arith, ⊎_elim, option_to_list, append-nil, length-append}
 use Rattle.std.specs.Prelude.{if◌then◌else◌}
 use Rattle.std.specs.List.{AllByRecursion, list_any}
-use Rattle.cmwq_ties.proofs.PoolNext.{runner_there}
+use Rattle.cmwq_refinement.proofs.PoolNext.{runner_there}
 use Rattle.std.proofs.lemmas.Bool.{lt-ltb, eqb-true, eq-eqb, ne_eqb, or_cases}
 use Rattle.cmwq_model.specs.declared.id.Who.TheVariants.{Worker}
 use Rattle.cmwq_model.specs.declared.call.Call.TheVariants as call
@@ -15,25 +15,25 @@ use Rattle.cmwq_model.specs.Queueings.{queueings}
 use Rattle.cmwq_model.specs.Active.{worklist}
 use Rattle.cmwq_model.specs.Answer.{answer}
 use Rattle.cmwq_model.specs.Legal.{IsLegal, entry_for}
-use Rattle.cmwq_steps.specs.RunSteps.{run_after}
-use Rattle.cmwq_active.proofs.Lists.{All_map, All_both, All_each, All_append, All_filter, count_by-cons}
-use Rattle.cmwq_steps.proofs.Filters.{count_none}
-use Rattle.cmwq_active.proofs.Widths.{width_same}
-use Rattle.cmwq_steps.proofs.OwedSteps.{by_itself}
+use Rattle.cmwq_theory_steps.specs.RunSteps.{run_after}
+use Rattle.cmwq_theory_active.proofs.Lists.{All_map, All_both, All_each, All_append, All_filter, count_by-cons}
+use Rattle.cmwq_theory_steps.proofs.Filters.{count_none}
+use Rattle.cmwq_theory_active.proofs.Widths.{width_same}
+use Rattle.cmwq_theory_steps.proofs.OwedSteps.{by_itself}
 use Rattle.cmwq_sim.specs.Plan.{Plan}
 use Rattle.cmwq_sim.specs.Lines.{Moment, Sleeper}
 use Rattle.cmwq_sim.specs.Shows.{layout_for, pool, worker, IsRunAt, is_job, is_sleeper, runs_in, Shows}
 use Rattle.cmwq_sim.proofs.TakeReads.{wake_answered, any_counted}
-use Rattle.cmwq_sim.proofs.Steps.{IsQuiet, all_kept, none_opens, worklist_as_before, waiting_as_before, same_runs, other_seat, count-append, any-append}
+use Rattle.cmwq_sim.proofs.Steps.{IsQuiet, all_kept, none_opens, worklist_as_before, waiting_as_before, same_runs, other_slot, count-append, any-append}
 use Rattle.cmwq_sim.proofs.TakeShown.{goes_by}
 use Rattle.cmwq_sim.proofs.FinishShown.{fewer_filtered, shorter_filtered}
 
 wakes : IsQuiet reply.Woke
 wakes = record { opens = refl; finishes = refl; cancels = refl; replaces = refl; widths = refl; stays = refl }
 
-pub sleeper_run : (past : List Entry) (seat : ℕ → ℕ) (i : ℕ) (xs : List Sleeper) → AllByRecursion (λ j. IsRunAt past (seat j.item) j.item true) xs → list_any (is_sleeper i) xs ≡ true → IsRunAt past (seat i) i true
-sleeper_run past seat i [] each on = cc
-sleeper_run past seat i (j ∷ xs) each on = ⊎_elim (λ here. subst (λ k. IsRunAt past (seat k) k true) (eqb-true j.item i here) each.0) (λ later. sleeper_run past seat i xs each.1 later) (or_cases (is_sleeper i j) (list_any (is_sleeper i) xs) on)
+pub sleeper_run : (past : List Entry) (slot : ℕ → ℕ) (i : ℕ) (xs : List Sleeper) → AllByRecursion (λ j. IsRunAt past (slot j.item) j.item true) xs → list_any (is_sleeper i) xs ≡ true → IsRunAt past (slot i) i true
+sleeper_run past slot i [] each on = cc
+sleeper_run past slot i (j ∷ xs) each on = ⊎_elim (λ here. subst (λ k. IsRunAt past (slot k) k true) (eqb-true j.item i here) each.0) (λ later. sleeper_run past slot i xs each.1 later) (or_cases (is_sleeper i j) (list_any (is_sleeper i) xs) on)
 
 any_kept : (n i : ℕ) (xs : List Sleeper) → (n == i) ≡ false → list_any (is_sleeper n) (filter (λ k. not (is_sleeper i k)) xs) ≡ list_any (is_sleeper n) xs
 any_kept n i [] h = refl
@@ -69,10 +69,10 @@ one_shorter i (x ∷ xs) h = at (is_sleeper i x) h (shorter_filtered (λ k. not 
 abbrev pub awake_with : Moment → ℕ → ℕ → List ℕ → Moment
 awake_with m i burn left = record m { cpu = m.cpu ++ record { item = i; burn = burn; left = left } ∷ []; sleeping = filter (λ k. not (is_sleeper i k)) m.sleeping }
 
-pub wake_shown : (s : Plan) (past : List Entry) (m : Moment) (seat : ℕ → ℕ) (i burn : ℕ) (left : List ℕ) → Shows s past m seat → list_any (is_sleeper i) m.sleeping ≡ true
-    → Shows s (entry_for (layout_for s) past (Worker (worker (seat i))) call.Wake ∷ past) (awake_with m i burn left) seat
+pub wake_shown : (s : Plan) (past : List Entry) (m : Moment) (slot : ℕ → ℕ) (i burn : ℕ) (left : List ℕ) → Shows s past m slot → list_any (is_sleeper i) m.sleeping ≡ true
+    → Shows s (entry_for (layout_for s) past (Worker (worker (slot i))) call.Wake ∷ past) (awake_with m i burn left) slot
 unfolding IsLegal queueings is_asleep
-wake_shown s past m seat i burn left h on = record {
+wake_shown s past m slot i burn left h on = record {
   legal = legal;
   widths = ((λ q. width_same (layout_for s) past e q quiet.widths ∙ h.wide q), h.widths);
   wide = λ q. width_same (layout_for s) past e q quiet.widths ∙ h.wide q;
@@ -81,9 +81,9 @@ wake_shown s past m seat i burn left h on = record {
   ready = worklist_as_before (layout_for s) past e pool legal quiet ∙ all_kept (λ x. not (starts x.number e)) (worklist (layout_for s) past pool) (All_each _ (worklist (layout_for s) past pool) (λ x. ap (λ r. not (is_at (number_started r) x.number)) woke)) ∙ h.ready;
   behind = waiting_as_before (layout_for s) past e legal quiet ∙ h.behind;
   cpu = All_append _ m.cpu (record { item = i; burn = burn; left = left } ∷ [])
-      (All_both (λ k. IsRunAt past (seat k.item) k.item false) (λ k. is_job i k ≡ false) _ m.cpu (λ k r differs. other k.item false r differs) h.cpu (count_none (is_job i) m.cpu (omega (arith, some, h.once i))))
-      (record { runs = same_runs (layout_for s) past e (worker (seat i)) legal after ∙ run_at.runs; sleeps = ap₂ (λ c r. if c then asleep_after r (is_asleep past (worker (seat i))) else is_asleep past (worker (seat i))) (by_itself e (worker (seat i)) refl) woke }, tt);
-  sleeping = All_filter (λ k. IsRunAt (e ∷ past) (seat k.item) k.item true) (λ k. not (is_sleeper i k)) m.sleeping (All_map (λ k. IsRunAt past (seat k.item) k.item true) _ m.sleeping (λ k r kept. other k.item true r (not_true (is_sleeper i k) kept)) h.sleeping);
+      (All_both (λ k. IsRunAt past (slot k.item) k.item false) (λ k. is_job i k ≡ false) _ m.cpu (λ k r differs. other k.item false r differs) h.cpu (count_none (is_job i) m.cpu (omega (arith, some, h.once i))))
+      (record { runs = same_runs (layout_for s) past e (worker (slot i)) legal after ∙ run_at.runs; sleeps = ap₂ (λ c r. if c then asleep_after r (is_asleep past (worker (slot i))) else is_asleep past (worker (slot i))) (by_itself e (worker (slot i)) refl) woke }, tt);
+  sleeping = All_filter (λ k. IsRunAt (e ∷ past) (slot k.item) k.item true) (λ k. not (is_sleeper i k)) m.sleeping (All_map (λ k. IsRunAt past (slot k.item) k.item true) _ m.sleeping (λ k r kept. other k.item true r (not_true (is_sleeper i k) kept)) h.sleeping);
   no_others = λ w n runs. let k = h.no_others w n (sym (same_runs (layout_for s) past e w legal after) ∙ runs) in (k.0, moved n (n == i) refl k.1);
   once = λ k.
       let o = h.once k in
@@ -98,32 +98,32 @@ wake_shown s past m seat i burn left h on = record {
 }
   where
     e : Entry
-    e = entry_for (layout_for s) past (Worker (worker (seat i))) call.Wake
+    e = entry_for (layout_for s) past (Worker (worker (slot i))) call.Wake
 
     some : 1 ≤ count_by (is_sleeper i) m.sleeping
     some = any_counted (is_sleeper i) m.sleeping on
 
-    run_at : IsRunAt past (seat i) i true
-    run_at = sleeper_run past seat i m.sleeping h.sleeping on
+    run_at : IsRunAt past (slot i) i true
+    run_at = sleeper_run past slot i m.sleeping h.sleeping on
 
-    woke : answer (layout_for s) past (Worker (worker (seat i))) call.Wake ≡ reply.Woke
-    woke = wake_answered s past (seat i) i run_at
+    woke : answer (layout_for s) past (Worker (worker (slot i))) call.Wake ≡ reply.Woke
+    woke = wake_answered s past (slot i) i run_at
 
-    quiet : IsQuiet (answer (layout_for s) past (Worker (worker (seat i))) call.Wake)
+    quiet : IsQuiet (answer (layout_for s) past (Worker (worker (slot i))) call.Wake)
     quiet = subst IsQuiet (sym woke) wakes
 
     legal : IsLegal (layout_for s) (e ∷ past)
-    legal = (ap (λ b. (b && true) && true) (lt-ltb (seat i) 8 (runner_there (layout_for s) past (worker (seat i)) i h.legal run_at.runs)), refl, h.legal)
+    legal = (ap (λ b. (b && true) && true) (lt-ltb (slot i) 8 (runner_there (layout_for s) past (worker (slot i)) i h.legal run_at.runs)), refl, h.legal)
 
-    after : (o : Option ℕ) → run_after (answer (layout_for s) past (Worker (worker (seat i))) call.Wake) o ≡ o
+    after : (o : Option ℕ) → run_after (answer (layout_for s) past (Worker (worker (slot i))) call.Wake) o ≡ o
     after o = ap (λ r. run_after r o) woke
 
     not_true : (b : Bool) → not b ≡ true → b ≡ false
     not_true true h = cc
     not_true false h = refl
 
-    other : (k : ℕ) (b : Bool) → IsRunAt past (seat k) k b → (k == i) ≡ false → IsRunAt (e ∷ past) (seat k) k b
-    other k b r differs = goes_by (layout_for s) past e (seat i) (seat k) k b legal refl (other_seat past seat i k true b run_at r differs) r
+    other : (k : ℕ) (b : Bool) → IsRunAt past (slot k) k b → (k == i) ≡ false → IsRunAt (e ∷ past) (slot k) k b
+    other k b r differs = goes_by (layout_for s) past e (slot i) (slot k) k b legal refl (other_slot past slot i k true b run_at r differs) r
 
     moved_count : (k : ℕ) (b : Bool) → (i == k) ≡ b → count_by (is_sleeper k) (filter (λ j. not (is_sleeper i j)) m.sleeping) + cond (i == k) 1 0 ≤ count_by (is_sleeper k) m.sleeping
     moved_count k true is =

@@ -13,8 +13,8 @@ use Rattle.cmwq_model.specs.Active.{worklist}
 use Rattle.cmwq_model.specs.Widths.{width}
 use Rattle.cmwq_model.specs.Workers.{worker_at, is_retired}
 use Rattle.cmwq_model.specs.Legal.{IsLegal}
-use Rattle.cmwq_steps.specs.Activations.{waits}
-use Rattle.cmwq_laws.specs.FirstWidths.{HasFirstWidths}
+use Rattle.cmwq_theory_steps.specs.Activations.{waits}
+use Rattle.cmwq_theory_laws.specs.FirstWidths.{HasFirstWidths}
 use Rattle.cmwq_sim.specs.declared.scenario.SimQueue.{SimQueue}
 use Rattle.cmwq_sim.specs.Plan.{Plan, Event, queue_of}
 use Rattle.cmwq_sim.specs.Lines.{Moment, Job, Sleeper, items_of, is_held_by}
@@ -53,16 +53,16 @@ runs_in m i = list_any (is_job i) m.cpu || list_any (is_sleeper i) m.sleeping
 abbrev pub times : Moment → ℕ → ℕ
 times m i = count_by (λ j. j == i) m.ready + count_by (λ j. j == i) m.behind + count_by (is_job i) m.cpu + count_by (is_sleeper i) m.sleeping
 
--- seat gives the worker of each item
-pub record Shows (s : Plan) (past : List Entry) (m : Moment) (seat : ℕ → ℕ) : Type 0 where
+-- slot gives the worker of each item
+pub record Shows (s : Plan) (past : List Entry) (m : Moment) (slot : ℕ → ℕ) : Type 0 where
   pub legal : IsLegal (layout_for s) past
   pub kept : AllByRecursion (λ e. is_retired e.reply ≡ false) past
   pub queued : queueings past ≡ map (queueing_for s) (items_of s)
   pub ready : worklist (layout_for s) past pool ≡ map (queueing_for s) m.ready
   pub behind : filter (waits (layout_for s) past) (still_open past) ≡ map (queueing_for s) m.behind
-  pub cpu : AllByRecursion (λ j. IsRunAt past (seat j.item) j.item false) m.cpu
-  pub sleeping : AllByRecursion (λ x. IsRunAt past (seat x.item) x.item true) m.sleeping
-  pub no_others : (w : WorkerId) (n : ℕ) → run past w ≡ Some n → (w ≡ worker (seat n)) × (runs_in m n ≡ true)
+  pub cpu : AllByRecursion (λ j. IsRunAt past (slot j.item) j.item false) m.cpu
+  pub sleeping : AllByRecursion (λ x. IsRunAt past (slot x.item) x.item true) m.sleeping
+  pub no_others : (w : WorkerId) (n : ℕ) → run past w ≡ Some n → (w ≡ worker (slot n)) × (runs_in m n ≡ true)
   pub once : (i : ℕ) → times m i ≤ 1
   pub widths : HasFirstWidths (layout_for s) past
   pub wide : (q : ℕ) → width (layout_for s) past q ≡ first_width (layout_for s) q

@@ -3,9 +3,9 @@ use Rattle.std.specs.Prelude.{◌≡◌, ℕ, ◌<◌, ◌-◌, ◌++◌, ◌∷
 use Rattle.std.specs.List.{AllByRecursion}
 use Rattle.cmwq_core.specs.History.{past_in}
 use Rattle.cmwq_sim.specs.declared.scenario.LineKind.TheVariants as kind
-use Rattle.cmwq_sim.specs.declared.course.Running.{Running}
-use Rattle.cmwq_sim.specs.declared.course.Asleep.{Asleep}
-use Rattle.cmwq_sim.specs.declared.course.Course.{Course}
+use Rattle.cmwq_sim.specs.declared.execution.Running.{Running}
+use Rattle.cmwq_sim.specs.declared.execution.Asleep.{Asleep}
+use Rattle.cmwq_sim.specs.declared.execution.Execution.{Execution}
 use Rattle.cmwq_sim.specs.Plan.{Plan, Event, ms_of, event_of}
 use Rattle.cmwq_sim.specs.Limits.{IsWithinLimits}
 use Rattle.cmwq_sim.specs.Lines.{Moment, Job, Sleeper, job_of}
@@ -18,23 +18,23 @@ job_seen s j = record { item = j.item; burn = j.burn; left = drop j.next (ms_of 
 abbrev pub sleeper_seen : Plan → Asleep → Sleeper
 sleeper_seen s x = record { item = x.item; until = x.until; left = drop x.next (ms_of s x.item) }
 
-abbrev pub moment_in : Plan → Course → Moment
+abbrev pub moment_in : Plan → Execution → Moment
 moment_in s r = moment_of s (past_in r.book) (map (job_seen s) r.cpu.items) (map (sleeper_seen s) r.sleeping.items) (map event_of r.lines.items)
 
-abbrev pub seat_in : List ℕ → ℕ → ℕ
-seat_in seats i = slice_index seats i
+abbrev pub slot_in : List ℕ → ℕ → ℕ
+slot_in slots i = slice_index slots i
 
-pub record Stands (s : Plan) (r : Course) : Type 0 where
+pub record Stands (s : Plan) (r : Execution) : Type 0 where
   pub limits : IsWithinLimits s
   pub layout : r.book.layout ≡ layout_for s
   pub room : r.book.room ≡ 1000
-  pub shows : Shows s (past_in r.book) (moment_in s r) (seat_in r.seats)
+  pub shows : Shows s (past_in r.book) (moment_in s r) (slot_in r.slots)
   pub roomy : IsRoomy s (past_in r.book) (moment_in s r)
-  pub seats : length r.seats ≡ 8
-  pub seated : AllByRecursion (λ x. x < 8) r.seats
+  pub slots : length r.slots ≡ 8
+  pub seated : AllByRecursion (λ x. x < 8) r.slots
 
 -- it stands, and at this moment
-pub record StandsAt (s : Plan) (r : Course) (m : Moment) : Type 0 where
+pub record StandsAt (s : Plan) (r : Execution) (m : Moment) : Type 0 where
   pub stands : Stands s r
   pub moment : moment_in s r ≡ m
 

@@ -1,14 +1,14 @@
 //! Scenarios: what a few items on one CPU do, millisecond by millisecond.
 #![tactic(auto)]
 
-mod course;
+mod execution;
 mod laws;
 mod scenario;
 mod tables;
 mod text;
 mod times;
 
-pub use course::replay;
+pub use execution::replay;
 pub use laws::{all_items_end, each_ends_once};
 pub use scenario::{Line, LineKind, Scenario, SimItem, SimQueue};
 pub use tables::{

@@ -10,9 +10,9 @@ use Rattle.cmwq_model.specs.Runs.{item_run, item_runs}
 use Rattle.cmwq_model.specs.Queueings.{still_open}
 use Rattle.cmwq_model.specs.Legal.{IsLegal}
 use Rattle.cmwq_model.specs.Active.{is_active}
-use Rattle.cmwq_steps.specs.Activations.{waits}
-use Rattle.cmwq_steps.specs.Waiting.{waiting}
-use Rattle.cmwq_ties.specs.Flights.{flight_of}
+use Rattle.cmwq_theory_steps.specs.Activations.{waits}
+use Rattle.cmwq_theory_steps.specs.Waiting.{waiting}
+use Rattle.cmwq_refinement.specs.Flights.{flight_of}
 use Rattle.cmwq_state.proofs.Readings.{run_some, some_mapped}
 
 pub running : (s : Layout) (past : List Entry) (i : ℕ) → IsLegal s past → is_some (flight_of past i).run ≡ item_runs past i

@@ -13,20 +13,20 @@ use Rattle.cmwq_model.specs.declared.record.Start.{Start}
 use Rattle.cmwq_model.specs.Layout.{Layout}
 use Rattle.cmwq_model.specs.Tickets.{unended, ticket_of, is_ticket}
 use Rattle.cmwq_model.specs.declared.id.Who.{Who}
-use Rattle.cmwq_ties.proofs.Members.{found, in_contained}
+use Rattle.cmwq_refinement.proofs.Members.{found, in_contained}
 use Rattle.cmwq_model.specs.Waits.{waits_for}
 use Rattle.cmwq_model.specs.Runs.{item_run}
 use Rattle.cmwq_model.specs.Queueings.{queueing_at, still_open}
 use Rattle.cmwq_model.specs.Legal.{IsLegal}
-use Rattle.cmwq_steps.proofs.EndsAsTold.{runs_are_queueings}
-use Rattle.cmwq_steps.proofs.RunsActive.{found_number}
+use Rattle.cmwq_theory_steps.proofs.EndsAsTold.{runs_are_queueings}
+use Rattle.cmwq_theory_steps.proofs.RunsActive.{found_number}
 use Rattle.cmwq_state.specs.Flights.{run_open}
 use Rattle.cmwq_flush.specs.FlushBook.{FlushBook, flush_tickets, IsReady}
-use Rattle.cmwq_ties.specs.FlushBooks.{AreFlushes}
-use Rattle.cmwq_ties.proofs.FlushReads.{ready_flushes_wait_for_nothing, flushes_wait_for_least_open, drains_wait_for_least_open}
-use Rattle.cmwq_ties.specs.BarrierBooks.{wait_by, wait_for, barriers_of}
-use Rattle.cmwq_ties.proofs.BarrierEnds.{unended_waits_stand}
-use Rattle.cmwq_ties.proofs.BarrierReads.{barriers_wait_for_least}
+use Rattle.cmwq_refinement.specs.FlushBooks.{AreFlushes}
+use Rattle.cmwq_refinement.proofs.FlushReads.{ready_flushes_wait_for_nothing, flushes_wait_for_least_open, drains_wait_for_least_open}
+use Rattle.cmwq_refinement.specs.BarrierBooks.{wait_by, wait_for, barriers_of}
+use Rattle.cmwq_refinement.proofs.BarrierEnds.{unended_waits_stand}
+use Rattle.cmwq_refinement.proofs.BarrierReads.{barriers_wait_for_least}
 use Rattle.cmwq_flush.specs.BarrierBook.{BarrierBook, tickets_in, waits_for as book_waits_for}
 use Rattle.cmwq_model.specs.declared.record.Ticket.{Ticket}
 use Rattle.std.specs.Prelude.{is_some}

@@ -11,9 +11,9 @@ use Rattle.cmwq_model.specs.Calls.{now}
 use Rattle.cmwq_model.specs.Legal.{IsLegal}
 use Rattle.cmwq_timer.specs.Rows.{IsFirstToFire, NoneMayFire}
 use Rattle.cmwq_flush.specs.FlushBook.{FlushBook}
-use Rattle.cmwq_ties.specs.Timers.{HoldsDraining, item_due, timers_of}
-use Rattle.cmwq_ties.proofs.FirstDue.{first_timer_is_first_due, no_timer_is_none_due}
-use Rattle.cmwq_ties.proofs.FlushReads.{draining_while_drains_stand}
+use Rattle.cmwq_refinement.specs.Timers.{HoldsDraining, item_due, timers_of}
+use Rattle.cmwq_refinement.proofs.FirstDue.{first_timer_is_first_due, no_timer_is_none_due}
+use Rattle.cmwq_refinement.proofs.FlushReads.{draining_while_drains_stand}
 use Rattle.cmwq_state.specs.Tables.{AreBooks, book_in}
 
 abbrev pub AreHeldTo : List FlushBook → ℕ → ℕ → Type 0

@@ -5,36 +5,36 @@ use Rattle.cmwq_model.specs.Layout.{Layout, is_layout, most_room}
 use Rattle.cmwq_model.specs.Calls.{now}
 use Rattle.cmwq_model.specs.Legal.{IsLegal}
 use Rattle.cmwq_model.specs.Room.{owed}
-use Rattle.cmwq_laws.proofs.WithinRoom.{steps_within_room}
-use Rattle.cmwq_pool.specs.Lineup.{Lineup, new_lineup}
+use Rattle.cmwq_theory_laws.proofs.WithinRoom.{steps_within_room}
+use Rattle.cmwq_pool.specs.PoolState.{PoolState, new_pool_state}
 use Rattle.cmwq_flush.specs.FlushBook.{FlushBook, new_book}
 use Rattle.cmwq_flush.specs.BarrierBook.{BarrierBook, new_barriers}
-use Rattle.cmwq_ties.specs.FlushBooks.{AreFlushes}
-use Rattle.cmwq_ties.proofs.PoolSteps.{pools_at_first}
-use Rattle.cmwq_ties.proofs.FlushSteps.{flushes_at_first}
-use Rattle.cmwq_ties.proofs.BarrierSteps.{barriers_at_first}
-use Rattle.cmwq_ties.proofs.TimerSteps.{no_timers_at_first}
+use Rattle.cmwq_refinement.specs.FlushBooks.{AreFlushes}
+use Rattle.cmwq_refinement.proofs.PoolSteps.{pools_at_first}
+use Rattle.cmwq_refinement.proofs.FlushSteps.{flushes_at_first}
+use Rattle.cmwq_refinement.proofs.BarrierSteps.{barriers_at_first}
+use Rattle.cmwq_refinement.proofs.TimerSteps.{no_timers_at_first}
 use Rattle.cmwq_state.specs.Tables.{pool_place, no_pool, no_book, who_place}
 use Rattle.cmwq_model.specs.Queueings.{queueings}
-use Rattle.cmwq_steps.specs.Places.{active_count}
+use Rattle.cmwq_theory_steps.specs.Places.{active_count}
 use Rattle.cmwq_timer.specs.Rows.{Rows}
 use Rattle.cmwq_model.specs.Tickets.{tickets, is_gone}
 use Rattle.cmwq_model.specs.declared.record.Ticket.{Ticket}
-use Rattle.cmwq_ties.proofs.TicketsFollow.{no_tickets_at_first}
-use Rattle.cmwq_flight.specs.Flights.{Flight, no_flight}
-use Rattle.cmwq_ties.proofs.FlightFollow.{no_flights_at_first}
+use Rattle.cmwq_refinement.proofs.TicketsRefine.{no_tickets_at_first}
+use Rattle.cmwq_inflight.specs.Flights.{Flight, no_flight}
+use Rattle.cmwq_refinement.proofs.FlightRefine.{no_flights_at_first}
 use Rattle.cmwq_state.specs.Gone.{AreGone}
-use Rattle.cmwq_line.specs.Line.{Lined, new_lined, place_of}
-use Rattle.cmwq_line.proofs.Passes.{place_inside}
-use Rattle.cmwq_state.specs.Lines.{IsLineOf}
+use Rattle.cmwq_pwq.specs.Pwqs.{PwqState, new_pwq_state, place_of}
+use Rattle.cmwq_pwq.proofs.Passes.{place_inside}
+use Rattle.cmwq_state.specs.Lines.{ArePwqsOf}
 use Rattle.cmwq_state.proofs.WidthSteps.{first_most, widths_at_first}
 use Rattle.cmwq_state.specs.State.{Parts, AreParts, IsState}
-use Rattle.cmwq_state.proofs.Follow.{IsSmall, pool_place_inside, who_below}
+use Rattle.cmwq_state.proofs.Refine.{IsSmall, pool_place_inside, who_below}
 use Rattle.cmwq_state.proofs.Steps.{small}
 
 abbrev pub first_parts : Layout → Parts
 first_parts s = record {
-  pools = replicate (2 * s.cpus) (new_lineup s.items s.workers);
+  pools = replicate (2 * s.cpus) (new_pool_state s.items s.workers);
   books = replicate (length s.queues) (new_book s.callers);
   barriers = new_barriers s.items s.callers;
   timers = replicate s.items None;
@@ -43,7 +43,7 @@ first_parts s = record {
   flights = replicate s.items no_flight;
   tickets = replicate s.callers [];
   gone = replicate (length s.queues) false;
-  line = new_lined (length s.queues) (2 * s.items);
+  pwqs = new_pwq_state (length s.queues) (2 * s.items);
   most = first_most s.queues;
   frozen = false;
   owing = 0;
@@ -64,9 +64,9 @@ gone_at_first s = record {
   each = λ q here. get_or-replicate (length s.queues) q false false here;
 }
 
-line_at_first : (s : Layout) → IsLineOf s [] (new_lined (length s.queues) (2 * s.items))
+pwqs_at_first : (s : Layout) → ArePwqsOf s [] (new_pwq_state (length s.queues) (2 * s.items))
 unfolding active_count queueings
-line_at_first s = record {
+pwqs_at_first s = record {
   room = refl;
   many = length-replicate (4 * length s.queues) (let n : ℕ = 0 in n);
   waiting = refl;
@@ -76,8 +76,8 @@ line_at_first s = record {
 pub parts_at_first : (s : Layout) → IsSmall s → AreParts s [] (first_parts s)
 parts_at_first s small = record {
   pools = record {
-    many = length-replicate (2 * s.cpus) (new_lineup s.items s.workers);
-    each = λ p here. get_or-replicate (2 * s.cpus) (pool_place p) (new_lineup s.items s.workers) no_pool (pool_place_inside p s.cpus (2 * s.cpus) refl here) ∙ sym (pools_at_first s p);
+    many = length-replicate (2 * s.cpus) (new_pool_state s.items s.workers);
+    each = λ p here. get_or-replicate (2 * s.cpus) (pool_place p) (new_pool_state s.items s.workers) no_pool (pool_place_inside p s.cpus (2 * s.cpus) refl here) ∙ sym (pools_at_first s p);
   };
   books = record {
     many = length-replicate (length s.queues) (new_book s.callers);
@@ -93,7 +93,7 @@ parts_at_first s small = record {
   flights = sym (no_flights_at_first s);
   tickets = sym (no_tickets_at_first s);
   gone = gone_at_first s;
-  line = line_at_first s;
+  pwqs = pwqs_at_first s;
   widths = widths_at_first s;
   owing = sym (nothing_owed s);
 }
@@ -110,8 +110,8 @@ book_at_first s room inside few = record {
 }
 
 -- so the parts that are made are those of a book
-pub book_made : (s : Layout) (room : ℕ) (pools : List Lineup) (books : List FlushBook) (barriers : BarrierBook) (timers : Rows) (serials : List ℕ) (flights : List Flight) (tickets : List (List Ticket)) (gone : List Bool) (line : Lined) (most : List ℕ) → is_layout s ≡ true → room ≤ most_room →
-    pools ≡ replicate (2 * s.cpus) (new_lineup s.items s.workers) → books ≡ replicate (length s.queues) (new_book s.callers) → barriers ≡ new_barriers s.items s.callers → timers ≡ replicate s.items None → serials ≡ replicate 128 0 →
-    flights ≡ replicate s.items no_flight → tickets ≡ replicate s.callers [] → gone ≡ replicate (length s.queues) false → line ≡ new_lined (length s.queues) (2 * s.items) → most ≡ first_most s.queues →
-    IsState s room [] (record { pools = pools; books = books; barriers = barriers; timers = timers; time = 0; serials = serials; flights = flights; tickets = tickets; gone = gone; line = line; most = most; frozen = false; owing = 0 })
-book_made s room pools books barriers timers serials flights tickets gone line most inside few p b r t n g h k l m = rw (p, b, r, t, n, g, h, k, l, m) (book_at_first s room inside few)
+pub book_made : (s : Layout) (room : ℕ) (pools : List PoolState) (books : List FlushBook) (barriers : BarrierBook) (timers : Rows) (serials : List ℕ) (flights : List Flight) (tickets : List (List Ticket)) (gone : List Bool) (pwqs : PwqState) (most : List ℕ) → is_layout s ≡ true → room ≤ most_room →
+    pools ≡ replicate (2 * s.cpus) (new_pool_state s.items s.workers) → books ≡ replicate (length s.queues) (new_book s.callers) → barriers ≡ new_barriers s.items s.callers → timers ≡ replicate s.items None → serials ≡ replicate 128 0 →
+    flights ≡ replicate s.items no_flight → tickets ≡ replicate s.callers [] → gone ≡ replicate (length s.queues) false → pwqs ≡ new_pwq_state (length s.queues) (2 * s.items) → most ≡ first_most s.queues →
+    IsState s room [] (record { pools = pools; books = books; barriers = barriers; timers = timers; time = 0; serials = serials; flights = flights; tickets = tickets; gone = gone; pwqs = pwqs; most = most; frozen = false; owing = 0 })
+book_made s room pools books barriers timers serials flights tickets gone pwqs most inside few p b r t n g h k l m = rw (p, b, r, t, n, g, h, k, l, m) (book_at_first s room inside few)

@@ -10,9 +10,9 @@ use Rattle.cmwq_model.specs.declared.record.Ticket.{Ticket}
 use Rattle.cmwq_model.specs.Layout.{Layout, has_numbers}
 use Rattle.cmwq_model.specs.Tickets.{is_destroy_of, is_gone, is_done, ends_destroy}
 use Rattle.cmwq_model.specs.Legal.{IsLegal}
-use Rattle.cmwq_steps.specs.TicketSteps.{ticket_asked, ticket_ended}
-use Rattle.cmwq_ties.proofs.FlushEnds.{ended_ready}
-use Rattle.cmwq_ties.proofs.PlacesFit.{unended_fit}
+use Rattle.cmwq_theory_steps.specs.TicketSteps.{ticket_asked, ticket_ended}
+use Rattle.cmwq_refinement.proofs.FlushEnds.{ended_ready}
+use Rattle.cmwq_refinement.proofs.PlacesFit.{unended_fit}
 use Rattle.cmwq_state.specs.Gone.{AreGone, MayLose, MayTellGone, TellGone}
 
 -- a queue goes by the end of a destroy
@@ -25,8 +25,8 @@ gone_after : (past : List Entry) (e : Entry) (q : ℕ) → is_gone (e ∷ past) 
 unfolding is_gone
 gone_after past e q = ap (λ b. is_gone past q || b) (gone_by past e q (is_done e.reply) e.call)
 
-pub gone_follow : (s : Layout) (past : List Entry) (e : Entry) (old new : List Bool) → AreGone s past old → TellGone (ticket_ended past e) old new → AreGone s (e ∷ past) new
-gone_follow s past e old new are told = record {
+pub gone_refine : (s : Layout) (past : List Entry) (e : Entry) (old new : List Bool) → AreGone s past old → TellGone (ticket_ended past e) old new → AreGone s (e ∷ past) new
+gone_refine s past e old new are told = record {
   many = told.many ∙ are.many;
   each = λ q here. told.each q ∙ (ap (λ b. b || option_map_or (is_destroy_of q) (ticket_ended past e) false) (are.each q here) ∙ sym (gone_after past e q));
 }

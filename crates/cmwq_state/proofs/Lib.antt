@@ -1,9 +1,9 @@
-pub mod Follow
+pub mod Refine
 pub mod Steps
 pub mod First
 pub mod Listing
-pub mod LineSteps
-pub mod LineBehind
+pub mod PwqsSteps
+pub mod PwqsBehind
 pub mod GoneSteps
 pub mod WidthSteps
 pub mod Readings

@@ -9,13 +9,13 @@ use Rattle.cmwq_model.specs.Layout.{Layout}
 use Rattle.cmwq_model.specs.Queueings.{unstarted, is_unstarted, still_open}
 use Rattle.cmwq_model.specs.Active.{next}
 use Rattle.cmwq_model.specs.Legal.{IsLegal}
-use Rattle.cmwq_steps.proofs.Unstarted.{next_unstarted}
+use Rattle.cmwq_theory_steps.proofs.Unstarted.{next_unstarted}
 use Rattle.cmwq_pool.specs.declared.task.Task.{Task}
-use Rattle.cmwq_pool.specs.Lineup.{next_task}
-use Rattle.cmwq_ties.specs.Pools.{task_for, pool_of}
-use Rattle.cmwq_ties.proofs.Members.{found}
-use Rattle.cmwq_ties.proofs.PlacesFit.{open_there}
-use Rattle.cmwq_ties.proofs.PoolNext.{next_task_is}
+use Rattle.cmwq_pool.specs.PoolState.{next_task}
+use Rattle.cmwq_refinement.specs.Pools.{task_for, pool_of}
+use Rattle.cmwq_refinement.proofs.Members.{found}
+use Rattle.cmwq_refinement.proofs.PlacesFit.{open_there}
+use Rattle.cmwq_refinement.proofs.PoolNext.{next_task_is}
 
 pub record NextOpen (s : Layout) (past : List Entry) (p : PoolId) (t : Task) : Type 0 where
   pub item : t.item.0 < s.items

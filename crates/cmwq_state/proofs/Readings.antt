@@ -15,35 +15,35 @@ use Rattle.cmwq_model.specs.Bookings.{booking}
 use Rattle.cmwq_model.specs.Runs.{run, item_run}
 use Rattle.cmwq_model.specs.Queueings.{unstarted, queueing_at, queue_of, runs_elsewhere, still_open, is_item_open, is_of}
 use Rattle.cmwq_model.specs.Legal.{IsLegal}
-use Rattle.cmwq_steps.specs.ItemQueueings.{queueing_run}
-use Rattle.cmwq_steps.proofs.EndsAsTold.{runs_are_queueings}
+use Rattle.cmwq_theory_steps.specs.ItemQueueings.{queueing_run}
+use Rattle.cmwq_theory_steps.proofs.EndsAsTold.{runs_are_queueings}
 use Rattle.cmwq_timer.specs.declared.timer.Timer.{Timer}
-use Rattle.cmwq_ties.proofs.FirstDue.{in_standing, standing_fits}
-use Rattle.cmwq_ties.specs.Timers.{row_of, timer_for}
+use Rattle.cmwq_refinement.proofs.FirstDue.{in_standing, standing_fits}
+use Rattle.cmwq_refinement.specs.Timers.{row_of, timer_for}
 use Rattle.std.proofs.Common.{zero, suc, filter, ◌++◌, option_to_list, get_or, IsTrue, ◌↔◌}
 use Rattle.std.proofs.lemmas.Bool.{lt-ltb, le-ltb}
 use Rattle.std.proofs.lemmas.List.{get_or_default}
 use Rattle.cmwq_model.specs.Tickets.{is_draining}
 use Rattle.cmwq_flush.specs.FlushBook.{FlushBook}
-use Rattle.cmwq_ties.proofs.FlushReads.{draining_while_drains_stand}
+use Rattle.cmwq_refinement.proofs.FlushReads.{draining_while_drains_stand}
 use Rattle.cmwq_state.specs.Tables.{AreBooks, book_in, no_book}
 use Rattle.std.proofs.lemmas.Option.{same_Some}
 use Rattle.std.specs.List.{AllByRecursion}
 use Rattle.cmwq_model.specs.Queueings.{queueings, is_live, has_number}
 use Rattle.cmwq_model.specs.Tickets.{unended, ticket_of, is_ticket, is_crowded, is_held_by}
-use Rattle.cmwq_active.proofs.Lists.{count_by-none}
-use Rattle.cmwq_steps.proofs.Filters.{none_found}
-use Rattle.cmwq_steps.proofs.RunsActive.{found_known, found_number}
-use Rattle.cmwq_steps.proofs.ItemRuns.{runs_are_items}
+use Rattle.cmwq_theory_active.proofs.Lists.{count_by-none}
+use Rattle.cmwq_theory_steps.proofs.Filters.{none_found}
+use Rattle.cmwq_theory_steps.proofs.RunsActive.{found_known, found_number}
+use Rattle.cmwq_theory_steps.proofs.ItemRuns.{runs_are_items}
 use Rattle.cmwq_pool.specs.declared.task.Task.{Task}
-use Rattle.cmwq_ties.specs.Told.{number_of_queueing}
-use Rattle.cmwq_ties.specs.Pools.{task_for, run_task}
-use Rattle.cmwq_ties.proofs.ItemNumbers.{run_then_unstarted}
-use Rattle.cmwq_ties.proofs.Members.{found, filter_in}
-use Rattle.cmwq_ties.proofs.PlacesFit.{open_there}
-use Rattle.cmwq_flight.specs.Flights.{Flight, flight_at}
-use Rattle.cmwq_ties.specs.Flights.{flight_of, flights_of}
-use Rattle.cmwq_ties.proofs.FlightFollow.{flights_for_items, row_of as flight_row}
+use Rattle.cmwq_refinement.specs.Told.{number_of_queueing}
+use Rattle.cmwq_refinement.specs.Pools.{task_for, run_task}
+use Rattle.cmwq_refinement.proofs.ItemNumbers.{run_then_unstarted}
+use Rattle.cmwq_refinement.proofs.Members.{found, filter_in}
+use Rattle.cmwq_refinement.proofs.PlacesFit.{open_there}
+use Rattle.cmwq_inflight.specs.Flights.{Flight, flight_at}
+use Rattle.cmwq_refinement.specs.Flights.{flight_of, flights_of}
+use Rattle.cmwq_refinement.proofs.FlightRefine.{flights_for_items, row_of as flight_row}
 use Rattle.cmwq_state.specs.Flights.{run_open}
 
 pub some_mapped : {X Y : Type 0} (f : X → Y) (o : Option X) → is_some (option_map f o) ≡ is_some o
@@ -116,16 +116,16 @@ open_as s past i legal =
     ap₂ (λ a b. a || b) (run_some s past i legal) (sym (some_mapped number_of_queueing (unstarted past i)))
     ∙ (sym (either_any (option_map (λ (t : Start). t.number) (item_run past i)) (option_map number_of_queueing (unstarted past i))) ∙ (ap has_any (sym (run_then_unstarted s past i legal)) ∙ sym (found_any (is_of i) (still_open past))))
 
--- ---- what a worker's seat runs
+-- ---- what a worker's slot runs
 
-pub record SeatRuns (s : Layout) (past : List Entry) (w : WorkerId) (t : Task) : Type 0 where
+pub record SlotRuns (s : Layout) (past : List Entry) (w : WorkerId) (t : Task) : Type 0 where
   pub item : t.item.0 < s.items
   pub run : run_open past t.item.0 ≡ queueing_run past (Worker w)
 
-pub seat_runs : (s : Layout) (past : List Entry) (w : WorkerId) (t : Task) → IsLegal s past → run_task s past w ≡ Some t → SeatRuns s past w t
-seat_runs s past w t legal h = by (run past w) refl h
+pub slot_runs : (s : Layout) (past : List Entry) (w : WorkerId) (t : Task) → IsLegal s past → run_task s past w ≡ Some t → SlotRuns s past w t
+slot_runs s past w t legal h = by (run past w) refl h
   where
-    by_found : (n : ℕ) → run past w ≡ Some n → (o : Option Queueing) → queueing_at past n ≡ o → option_map (task_for s) o ≡ Some t → SeatRuns s past w t
+    by_found : (n : ℕ) → run past w ≡ Some n → (o : Option Queueing) → queueing_at past n ≡ o → option_map (task_for s) o ≡ Some t → SlotRuns s past w t
     by_found n is None at k = cc
     by_found n is (Some x) at k =
         let known = found_known past n x at in
@@ -143,7 +143,7 @@ seat_runs s past w t legal h = by (run past w) refl h
           run = ap (run_open past) (sym of_task) ∙ (ap (option_and_then (λ (u : Start). queueing_at past u.number)) starts ∙ sym (ap (option_and_then (queueing_at past)) is));
         }
 
-    by : (o : Option ℕ) → run past w ≡ o → option_map (task_for s) (option_and_then (queueing_at past) (run past w)) ≡ Some t → SeatRuns s past w t
+    by : (o : Option ℕ) → run past w ≡ o → option_map (task_for s) (option_and_then (queueing_at past) (run past w)) ≡ Some t → SlotRuns s past w t
     by None is k = let bad : None ≡ Some t = sym (ap (λ o. option_map (task_for s) (option_and_then (queueing_at past) o)) is) ∙ k in cc
     by (Some n) is k = by_found n is (queueing_at past n) refl (sym (ap (λ o. option_map (task_for s) (option_and_then (queueing_at past) o)) is) ∙ k)
 

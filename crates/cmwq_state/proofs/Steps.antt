@@ -10,10 +10,10 @@ use Rattle.cmwq_model.specs.declared.entry.Entry.{Entry}
 use Rattle.cmwq_model.specs.Layout.{Layout, is_layout, fits}
 use Rattle.cmwq_model.specs.Calls.{is_by, serial_of}
 use Rattle.cmwq_model.specs.Legal.{IsLegal, past_of, entry_for}
-use Rattle.cmwq_pool.specs.Lineup.{Lineup}
-use Rattle.cmwq_ties.proofs.PoolMay.{workers_may_be_told}
+use Rattle.cmwq_pool.specs.PoolState.{PoolState}
+use Rattle.cmwq_refinement.proofs.PoolMay.{workers_may_be_told}
 use Rattle.cmwq_state.specs.Tables.{IsThere, ArePools, MayTellWorker}
-use Rattle.cmwq_state.proofs.Follow.{IsSmall, pool_place_inside}
+use Rattle.cmwq_state.proofs.Refine.{IsSmall, pool_place_inside}
 
 pub past_more : (entries : List Entry) (e : Entry) → past_of (entries ++ e ∷ []) ≡ e ∷ past_of entries
 past_more entries e = reverse-append entries (e ∷ [])
@@ -45,7 +45,7 @@ pub serial_most : (past : List Entry) (who : Who) → serial_of past who ≤ len
 serial_most past who = count_by-le-length (is_by who) past
 
 -- what the pools are told may be told
-pub may_tell : (s : Layout) (past : List Entry) (e : Entry) (pools : List Lineup) → IsLegal s (e ∷ past) → IsThere s e.who → ArePools s past pools → MayTellWorker e.who e.reply pools
+pub may_tell : (s : Layout) (past : List Entry) (e : Entry) (pools : List PoolState) → IsLegal s (e ∷ past) → IsThere s e.who → ArePools s past pools → MayTellWorker e.who e.reply pools
 may_tell s past e pools legal there are = by e.who refl there where
   by : (who : Who) → e.who ≡ who → IsThere s who → MayTellWorker who e.reply pools
   by (Caller c) is here = tt

@@ -10,117 +10,117 @@ use Rattle.cmwq_model.specs.Calls.{item_of, serial_of, ticks_told}
 use Rattle.cmwq_model.specs.Bookings.{settles, due_in, booking_of}
 use Rattle.cmwq_model.specs.Queueings.{still_open, opening}
 use Rattle.cmwq_model.specs.Legal.{IsLegal}
-use Rattle.cmwq_pool.specs.Lineup.{Lineup}
+use Rattle.cmwq_pool.specs.PoolState.{PoolState}
 use Rattle.cmwq_flush.specs.FlushBook.{FlushBook}
 use Rattle.cmwq_timer.specs.Rows.{Rows}
-use Rattle.cmwq_steps.specs.Endings.{ending, is_ended}
-use Rattle.cmwq_steps.proofs.Standing.{due_settles}
-use Rattle.cmwq_active.proofs.Rising.{opening_number}
-use Rattle.cmwq_steps.proofs.StateSteps.{time_goes_on}
-use Rattle.cmwq_ties.specs.Places as places
-use Rattle.cmwq_ties.specs.Pools as pools
-use Rattle.cmwq_ties.specs.FlushBooks as flushes
-use Rattle.cmwq_ties.specs.BarrierBooks as barriers
-use Rattle.cmwq_ties.specs.Timers as timers
-use Rattle.cmwq_ties.proofs.PoolSteps.{pools_follow}
-use Rattle.cmwq_ties.proofs.FlushSteps.{flushes_follow}
-use Rattle.cmwq_ties.proofs.FlushMay.{flushes_may_be_told}
-use Rattle.cmwq_ties.proofs.BarrierSteps.{barriers_follow}
-use Rattle.cmwq_ties.proofs.TimerMay.{timers_follow, timers_may_be_set}
-use Rattle.cmwq_ties.proofs.PlacesFit.{opened_are_there, open_are_there}
-use Rattle.cmwq_ties.proofs.Members.{In, all_in, in_filter, found, in_contained}
-use Rattle.cmwq_ties.proofs.BarrierMay.{barriers_may_be_told}
+use Rattle.cmwq_theory_steps.specs.Endings.{ending, is_ended}
+use Rattle.cmwq_theory_steps.proofs.Standing.{due_settles}
+use Rattle.cmwq_theory_active.proofs.Rising.{opening_number}
+use Rattle.cmwq_theory_steps.proofs.StateSteps.{time_goes_on}
+use Rattle.cmwq_refinement.specs.Places as places
+use Rattle.cmwq_refinement.specs.Pools as pools
+use Rattle.cmwq_refinement.specs.FlushBooks as flushes
+use Rattle.cmwq_refinement.specs.BarrierBooks as barriers
+use Rattle.cmwq_refinement.specs.Timers as timers
+use Rattle.cmwq_refinement.proofs.PoolSteps.{pools_refine}
+use Rattle.cmwq_refinement.proofs.FlushSteps.{flushes_refine}
+use Rattle.cmwq_refinement.proofs.FlushMay.{flushes_may_be_told}
+use Rattle.cmwq_refinement.proofs.BarrierSteps.{barriers_refine}
+use Rattle.cmwq_refinement.proofs.TimerMay.{timers_refine, timers_may_be_set}
+use Rattle.cmwq_refinement.proofs.PlacesFit.{opened_are_there, open_are_there}
+use Rattle.cmwq_refinement.proofs.Members.{In, all_in, in_filter, found, in_contained}
+use Rattle.cmwq_refinement.proofs.BarrierMay.{barriers_may_be_told}
 use Rattle.std.proofs.lemmas.Bool.{eq-eqb}
 use Rattle.cmwq_model.specs.Active.{newly_active}
 use Rattle.cmwq_model.specs.Widths.{frozen_after}
-use Rattle.cmwq_steps.specs.Activations.{is_in}
+use Rattle.cmwq_theory_steps.specs.Activations.{is_in}
 use Rattle.cmwq_flush.specs.BarrierBook as barriers_book
-use Rattle.cmwq_ties.specs.Pools.{MayAllBeAdded}
-use Rattle.cmwq_ties.proofs.PoolAdds.{active_may_be_added}
+use Rattle.cmwq_refinement.specs.Pools.{MayAllBeAdded}
+use Rattle.cmwq_refinement.proofs.PoolAdds.{active_may_be_added}
 use Rattle.cmwq_model.specs.declared.shape.QueueShape.{QueueShape}
-use Rattle.cmwq_line.specs.Line.{Lined, IsPassed, AreBehind, IsPlacedIf, is_waiting, ArePlaced, width_by}
+use Rattle.cmwq_pwq.specs.Pwqs.{PwqState, IsPassed, AreBehind, IsPlacedIf, is_waiting, ArePlaced, width_by}
 use Rattle.std.proofs.lemmas.Bool.{and_parts, ltb-true, eqb-true, false_from_ne_true, cases_lt}
 use Rattle.std.proofs.lemmas.List.Elements.{All-from_recursion}
 use mathlib.Core.Bool.{beq}
-use Rattle.cmwq_model.specs.Active.{has_way}
-use Rattle.cmwq_steps.specs.Activations.{waits}
-use Rattle.cmwq_steps.specs.Waiting.{candidates}
-use Rattle.cmwq_steps.proofs.Waiting.{newly_are}
-use Rattle.cmwq_steps.proofs.Filters.{filter_none}
-use Rattle.cmwq_ties.proofs.PlacesFit.{open_there as open_in_there}
+use Rattle.cmwq_model.specs.Active.{is_below_max_active}
+use Rattle.cmwq_theory_steps.specs.Activations.{waits}
+use Rattle.cmwq_theory_steps.specs.Waiting.{candidates}
+use Rattle.cmwq_theory_steps.proofs.Waiting.{newly_are}
+use Rattle.cmwq_theory_steps.proofs.Filters.{filter_none}
+use Rattle.cmwq_refinement.proofs.PlacesFit.{open_there as open_in_there}
 use Rattle.cmwq_model.specs.declared.call.Call.{Call}
 use Rattle.cmwq_model.specs.declared.call.Call.TheVariants as call
 use Rattle.cmwq_model.specs.declared.record.Ticket.{Ticket}
 use Rattle.cmwq_model.specs.Layout.{has_numbers}
 use Rattle.cmwq_model.specs.Tickets.{flushes as flushes_queue, drains as drains_queue}
-use Rattle.cmwq_steps.specs.TicketSteps.{ticket_ended}
-use Rattle.cmwq_ties.proofs.FlushEnds.{ended_ready}
-use Rattle.cmwq_ties.proofs.Settled.{numbers_fit}
-use Rattle.cmwq_ties.proofs.TicketSteps.{ticket_in_is}
-use Rattle.cmwq_ties.proofs.PlacesFit.{unended_fit}
-use Rattle.cmwq_flight.specs.Flights.{Flight}
-use Rattle.cmwq_ties.specs.Flights as flights
-use Rattle.cmwq_ties.specs.Tickets as tickets
-use Rattle.cmwq_ties.proofs.TicketsFollow.{tickets_follow, tickets_may_be_told}
+use Rattle.cmwq_theory_steps.specs.TicketSteps.{ticket_ended}
+use Rattle.cmwq_refinement.proofs.FlushEnds.{ended_ready}
+use Rattle.cmwq_refinement.proofs.Settled.{numbers_fit}
+use Rattle.cmwq_refinement.proofs.TicketSteps.{ticket_in_is}
+use Rattle.cmwq_refinement.proofs.PlacesFit.{unended_fit}
+use Rattle.cmwq_inflight.specs.Flights.{Flight}
+use Rattle.cmwq_refinement.specs.Flights as flights
+use Rattle.cmwq_refinement.specs.Tickets as tickets
+use Rattle.cmwq_refinement.proofs.TicketsRefine.{tickets_refine, tickets_may_be_told}
 use Rattle.cmwq_state.specs.Gone.{AreGone, MayTellGone, TellGone}
-use Rattle.cmwq_ties.proofs.FlightFollow.{flights_follow, flights_may_be_told}
-use Rattle.cmwq_state.proofs.GoneSteps.{gone_follow, may_tell_gone}
-use Rattle.cmwq_line.specs.Line as lines
-use Rattle.cmwq_state.specs.Lines.{IsLineOf}
+use Rattle.cmwq_refinement.proofs.FlightRefine.{flights_refine, flights_may_be_told}
+use Rattle.cmwq_state.proofs.GoneSteps.{gone_refine, may_tell_gone}
+use Rattle.cmwq_pwq.specs.Pwqs as lines
+use Rattle.cmwq_state.specs.Lines.{ArePwqsOf}
 use Rattle.cmwq_model.specs.Fate.{number_finished}
-use Rattle.cmwq_active.specs.Looks.{keeps_widths}
-use Rattle.cmwq_state.proofs.LineBehind.{all_behind, finished_waits_not, ended_placed, opened_placed}
+use Rattle.cmwq_theory_active.specs.Looks.{keeps_widths}
+use Rattle.cmwq_state.proofs.PwqsBehind.{all_behind, finished_waits_not, ended_placed, opened_placed}
 use Rattle.cmwq_state.specs.Widths.{AreWidths, TellWidth, MayTellWidth}
 use Rattle.cmwq_state.proofs.WidthSteps.{told_widths, widths_are}
 use Rattle.cmwq_state.proofs.Listing.{may_all_same}
-use Rattle.cmwq_state.proofs.LineSteps.{ArePassed, IsReadyToPass, are_placed, line_ended, line_opened, line_passed}
+use Rattle.cmwq_state.proofs.PwqsSteps.{ArePassed, IsReadyToPass, are_placed, pwqs_ended, pwqs_opened, pwqs_passed}
 use Rattle.cmwq_state.specs.Tables.{IsThere, who_place, pool_in, book_in, only, those_in, ArePools, AreBooks, AreSerials, TellWorker, TellCancelled, TellEnded, TellOpened, TellDone, TellBegun, ListAll, IsListable, MayBeListed, MayTellEnded, MayTellOpened, MayTellCancelled, MayTellDone, MayTellBegun, MayEndWait, MayBeginWait}
 use Rattle.cmwq_state.specs.State.{Parts, AreParts}
 use Rattle.cmwq_state.specs.Effects.{IsEffect, item_number}
 use Rattle.cmwq_state.specs.declared.effect.Effect.{Effect}
-use Rattle.cmwq_state.proofs.Follow.{IsSmall, serials_told}
+use Rattle.cmwq_state.proofs.Refine.{IsSmall, serials_told}
 
 -- ---- pools
 
-pub told_pools : (s : Layout) (past : List Entry) (f : Effect) (old mid late new : List Lineup) (promoted : List Queueing) → IsEffect s past f → ArePools s past old → TellWorker f.entry.who f.entry.reply old mid → TellCancelled s f.entry f.ended mid late →
-    promoted ≡ newly_active s past f.entry → ListAll s.queues promoted late new → ArePools s (f.entry ∷ past) new
-told_pools s past f old mid late new promoted is are first second newly third = record {
+pub told_pools : (s : Layout) (past : List Entry) (f : Effect) (old mid late new : List PoolState) (activated : List Queueing) → IsEffect s past f → ArePools s past old → TellWorker f.entry.who f.entry.reply old mid → TellCancelled s f.entry f.ended mid late →
+    activated ≡ newly_active s past f.entry → ListAll s.queues activated late new → ArePools s (f.entry ∷ past) new
+told_pools s past f old mid late new activated is are first second newly third = record {
   many = third.many ∙ (second.many ∙ (first.many ∙ are.many));
   each = λ p here. let e = f.entry in
       third.each p ∙ (ap₂ (λ xs l. pools.told_active s (filter (is_in s p) xs) l) newly
       (second.each p ∙ ap₂ (pools.told_cancelled s p e) is.ended (first.each p ∙ ap (pools.told_worker p e.who e.reply) (are.each p here)))
-      ∙ sym (pools_follow s past e p is.legal));
+      ∙ sym (pools_refine s past e p is.legal));
 }
 
 -- what became active is of queues and CPUs that there are, and may be listed
 newly_there : (s : Layout) (past : List Entry) (e : Entry) (x : Queueing) → IsLegal s (e ∷ past) → In x (newly_active s past e) → places.IsThere s x
 newly_there s past e x legal h =
-    let one = in_filter (has_way s (e ∷ past)) (candidates s past e) x (subst (In x) (newly_are s past e) h) in
+    let one = in_filter (is_below_max_active s (e ∷ past)) (candidates s past e) x (subst (In x) (newly_are s past e) h) in
     open_in_there s (e ∷ past) x legal (in_filter (waits s past) (still_open (e ∷ past)) x one.0).0
 
-pub may_be_listed : (s : Layout) (past : List Entry) (f : Effect) (late : List Lineup) (promoted : List Queueing) → IsEffect s past f → length late ≡ 2 * s.cpus → promoted ≡ newly_active s past f.entry → MayBeListed s.queues promoted late
-may_be_listed s past f late promoted is many newly = rw newly (All-from_recursion (IsListable s.queues late) (newly_active s past f.entry) (all_in (IsListable s.queues late) (newly_active s past f.entry) (λ x h.
+pub may_be_listed : (s : Layout) (past : List Entry) (f : Effect) (late : List PoolState) (activated : List Queueing) → IsEffect s past f → length late ≡ 2 * s.cpus → activated ≡ newly_active s past f.entry → MayBeListed s.queues activated late
+may_be_listed s past f late activated is many newly = rw newly (All-from_recursion (IsListable s.queues late) (newly_active s past f.entry) (all_in (IsListable s.queues late) (newly_active s past f.entry) (λ x h.
     let there = newly_there s past f.entry x is.legal h in let cpu = there.cpu in (there.queue, omega arith))))
 
-pub may_list_all : (s : Layout) (past : List Entry) (f : Effect) (old mid late : List Lineup) (promoted : List Queueing) → IsEffect s past f → ArePools s past old → TellWorker f.entry.who f.entry.reply old mid → TellCancelled s f.entry f.ended mid late →
-    promoted ≡ newly_active s past f.entry → (p : PoolId) → MayAllBeAdded (only s.queues) (those_in s.queues p promoted) (pool_in late p)
-may_list_all s past f old mid late promoted is are first second newly p = ⊎_elim here nowhere (cases_lt p.cpu.0 s.cpus)
+pub may_list_all : (s : Layout) (past : List Entry) (f : Effect) (old mid late : List PoolState) (activated : List Queueing) → IsEffect s past f → ArePools s past old → TellWorker f.entry.who f.entry.reply old mid → TellCancelled s f.entry f.ended mid late →
+    activated ≡ newly_active s past f.entry → (p : PoolId) → MayAllBeAdded (only s.queues) (those_in s.queues p activated) (pool_in late p)
+may_list_all s past f old mid late activated is are first second newly p = ⊎_elim here nowhere (cases_lt p.cpu.0 s.cpus)
   where
-    here : p.cpu.0 < s.cpus → MayAllBeAdded (only s.queues) (those_in s.queues p promoted) (pool_in late p)
+    here : p.cpu.0 < s.cpus → MayAllBeAdded (only s.queues) (those_in s.queues p activated) (pool_in late p)
     here less =
         let e = f.entry in
         let told : pool_in late p ≡ pools.told_first s past p e (pools.pool_of s past p) = second.each p ∙ ap₂ (pools.told_cancelled s p e) is.ended (first.each p ∙ ap (pools.told_worker p e.who e.reply) (are.each p less)) in
         let may = active_may_be_added s past e p is.legal in
-        may_all_same s (filter (is_in s p) promoted) (pool_in late p) (rw (newly, told) may)
+        may_all_same s (filter (is_in s p) activated) (pool_in late p) (rw (newly, told) may)
 
     apart : (x : Queueing) → In x (newly_active s past f.entry) → s.cpus ≤ p.cpu.0 → is_in s p x ≡ false
     apart x h most =
         let there = newly_there s past f.entry x is.legal h in let cpu = there.cpu in
         ap (λ b. b && beq (pool_at s x.place).high p.high) (false_from_ne_true (x.place.cpu.0 == p.cpu.0) (λ same. let is = eqb-true x.place.cpu.0 p.cpu.0 same in absurd (omega arith)))
 
-    nowhere : s.cpus ≤ p.cpu.0 → MayAllBeAdded (only s.queues) (those_in s.queues p promoted) (pool_in late p)
+    nowhere : s.cpus ≤ p.cpu.0 → MayAllBeAdded (only s.queues) (those_in s.queues p activated) (pool_in late p)
     nowhere most =
-        let none : those_in s.queues p promoted ≡ [] = ap (filter (is_in s p)) newly ∙ filter_none (is_in s p) (newly_active s past f.entry) (all_in (λ x. is_in s p x ≡ false) (newly_active s past f.entry) (λ x h. apart x h most)) in
+        let none : those_in s.queues p activated ≡ [] = ap (filter (is_in s p)) newly ∙ filter_none (is_in s p) (newly_active s past f.entry) (all_in (λ x. is_in s p x ≡ false) (newly_active s past f.entry) (λ x h. apart x h most)) in
         rw none tt
 
 -- ---- flush books
@@ -133,7 +133,7 @@ told_books s past f old mid late end new is are first second third fourth = reco
       (third.each q ∙ ap₂ (λ o b. flushes.told_done o q b) is.done
       (second.each q ∙ ap₂ (λ o b. flushes.told_opened o q b) is.opened
       (first.each q ∙ ap (λ o. flushes.told_ended o q (book_in old q)) is.ended)))))
-      (flushes_follow s past f.entry q (book_in old q) is.legal (are.each q here));
+      (flushes_refine s past f.entry q (book_in old q) is.legal (are.each q here));
 }
 
 -- ---- barriers and timers
@@ -144,7 +144,7 @@ barriers_told f b = barriers.told_begun f.begun (barriers.told_done f.done (barr
 pub told_barriers : (s : Layout) (past : List Entry) (f : Effect) → IsEffect s past f → barriers_told f (barriers.barriers_of s past) ≡ barriers.barriers_of s (f.entry ∷ past)
 told_barriers s past f is =
     ap₂ (λ o b. barriers.told_begun o b) is.begun (ap₂ (λ o b. barriers.told_done o b) is.done (ap₂ (λ o b. barriers.told_opened o b) is.opened (ap (λ o. barriers.told_ended o (barriers.barriers_of s past)) is.ended)))
-    ∙ sym (barriers_follow s past f.entry is.legal)
+    ∙ sym (barriers_refine s past f.entry is.legal)
 
 differ : false ≡ true → ⊥
 differ h = cc
@@ -164,7 +164,7 @@ told_by e past rows false h = ap (λ o. timers.told_settled None o rows) (not_bo
     not_booked e past k = rw (no_due e.reply k) refl
 
 pub told_timers : (s : Layout) (past : List Entry) (f : Effect) → IsEffect s past f → timers.told_settled (item_number f.settled) f.booked (timers.timers_of s past) ≡ timers.timers_of s (f.entry ∷ past)
-told_timers s past f is = ap₂ (λ o b. timers.told_settled o b (timers.timers_of s past)) is.settled is.booked ∙ (told_by f.entry past (timers.timers_of s past) (settles f.entry.reply) refl ∙ sym (timers_follow s past f.entry is.legal))
+told_timers s past f is = ap₂ (λ o b. timers.told_settled o b (timers.timers_of s past)) is.settled is.booked ∙ (told_by f.entry past (timers.timers_of s past) (settles f.entry.reply) refl ∙ sym (timers_refine s past f.entry is.legal))
 
 -- ---- flights
 
@@ -175,7 +175,7 @@ same_told : (s : Layout) (past : List Entry) (f : Effect) (rows : List Flight) �
 same_told s past f rows is = rw (is.ended, is.started, is.opened) refl
 
 pub told_flights : (s : Layout) (past : List Entry) (f : Effect) → IsEffect s past f → flights_told f (flights.flights_of s past) ≡ flights.flights_of s (f.entry ∷ past)
-told_flights s past f is = same_told s past f (flights.flights_of s past) is ∙ sym (flights_follow s past f.entry is.legal)
+told_flights s past f is = same_told s past f (flights.flights_of s past) is ∙ sym (flights_refine s past f.entry is.legal)
 
 -- ---- tickets
 
@@ -183,20 +183,20 @@ abbrev pub tickets_told : Effect → List (List Ticket) → List (List Ticket)
 tickets_told f rows = tickets.told_given f.begun (tickets.told_ended f.done rows)
 
 pub told_tickets : (s : Layout) (past : List Entry) (f : Effect) → IsEffect s past f → tickets_told f (tickets.tickets_of s past) ≡ tickets.tickets_of s (f.entry ∷ past)
-told_tickets s past f is = rw (is.done, is.begun) (tickets_follow s past f.entry is.legal)
+told_tickets s past f is = rw (is.done, is.begun) (tickets_refine s past f.entry is.legal)
 
 -- ---- all of them
 
 pub record Told (s : Layout) (past : List Entry) (f : Effect) (old new : Parts) : Type 0 where
-  pub pools_mid : List Lineup
-  pub pools_late : List Lineup
+  pub pools_mid : List PoolState
+  pub pools_late : List PoolState
   pub books_mid : List FlushBook
   pub books_late : List FlushBook
   pub books_end : List FlushBook
-  pub line_wide : ℕ → ℕ
+  pub pwqs_wide : ℕ → ℕ
   pub worker : TellWorker f.entry.who f.entry.reply old.pools pools_mid
   pub cancelled : TellCancelled s f.entry f.ended pools_mid pools_late
-  pub listed : ListAll s.queues new.line.promoted pools_late new.pools
+  pub listed : ListAll s.queues new.pwqs.activated pools_late new.pools
   pub ended : TellEnded f.ended old.books books_mid
   pub opened : TellOpened f.opened books_mid books_late
   pub done : TellDone f.done books_late books_end
@@ -208,24 +208,24 @@ pub record Told (s : Layout) (past : List Entry) (f : Effect) (old new : Parts) 
   pub flights : new.flights ≡ flights_told f old.flights
   pub tickets : new.tickets ≡ tickets_told f old.tickets
   pub gone : TellGone f.done old.gone new.gone
-  pub line : ArePassed s past f.entry (lines.told_opened f.opened (lines.told_ended f.ended old.line)) new.line line_wide
+  pub pwqs : ArePassed s past f.entry (lines.told_opened f.opened (lines.told_ended f.ended old.pwqs)) new.pwqs pwqs_wide
   pub widths : TellWidth f.entry.call f.entry.reply old.most new.most
   pub frozen : new.frozen ≡ frozen_after f.entry.reply old.frozen
   pub owing : new.owing ≡ f.owing
 
-pub line_told : (s : Layout) (past : List Entry) (f : Effect) (l new : Lined) (wide : ℕ → ℕ) → IsEffect s past f → IsSmall s → IsLegal s past → IsLineOf s past l →
-    ArePassed s past f.entry (lines.told_opened f.opened (lines.told_ended f.ended l)) new wide → IsLineOf s (f.entry ∷ past) new × (new.promoted ≡ newly_active s past f.entry)
-line_told s past f l new wide is small before are passed =
-    let mid = (line_ended s past f.entry is.legal small.cpus l are before).0 in
-    let ready = (line_opened s past f.entry is.legal small.cpus (lines.told_ended (ending past f.entry) l) mid).0 in
+pub pwqs_told : (s : Layout) (past : List Entry) (f : Effect) (l new : PwqState) (wide : ℕ → ℕ) → IsEffect s past f → IsSmall s → IsLegal s past → ArePwqsOf s past l →
+    ArePassed s past f.entry (lines.told_opened f.opened (lines.told_ended f.ended l)) new wide → ArePwqsOf s (f.entry ∷ past) new × (new.activated ≡ newly_active s past f.entry)
+pwqs_told s past f l new wide is small before are passed =
+    let mid = (pwqs_ended s past f.entry is.legal small.cpus l are before).0 in
+    let ready = (pwqs_opened s past f.entry is.legal small.cpus (lines.told_ended (ending past f.entry) l) mid).0 in
     let same : lines.told_opened f.opened (lines.told_ended f.ended l) ≡ lines.told_opened (opening past f.entry) (lines.told_ended (ending past f.entry) l) = ap₂ (λ o x. lines.told_opened o (lines.told_ended x l)) is.opened is.ended in
-    line_passed s past f.entry is.legal small.cpus (lines.told_opened (opening past f.entry) (lines.told_ended (ending past f.entry) l)) new wide ready (subst (λ m. ArePassed s past f.entry m new wide) same passed)
+    pwqs_passed s past f.entry is.legal small.cpus (lines.told_opened (opening past f.entry) (lines.told_ended (ending past f.entry) l)) new wide ready (subst (λ m. ArePassed s past f.entry m new wide) same passed)
 
 pub told_parts : (s : Layout) (past : List Entry) (f : Effect) (old new : Parts) → IsEffect s past f → IsSmall s → IsThere s f.entry.who → IsLegal s past → AreParts s past old → Told s past f old new → AreParts s (f.entry ∷ past) new
 told_parts s past f old new is small there before are told =
-    let line = line_told s past f old.line new.line told.line_wide is small before are.line told.line in
+    let pwqs = pwqs_told s past f old.pwqs new.pwqs told.pwqs_wide is small before are.pwqs told.pwqs in
     record {
-      pools = told_pools s past f old.pools told.pools_mid told.pools_late new.pools new.line.promoted is are.pools told.worker told.cancelled line.1 told.listed;
+      pools = told_pools s past f old.pools told.pools_mid told.pools_late new.pools new.pwqs.activated is are.pools told.worker told.cancelled pwqs.1 told.listed;
       books = told_books s past f old.books told.books_mid told.books_late told.books_end new.books is are.books told.ended told.opened told.done told.begun;
       barriers = told.barrier ∙ (ap (barriers_told f) are.barriers ∙ told_barriers s past f is);
       timers = told.timer ∙ (ap (λ rows. timers.told_settled (item_number f.settled) f.booked rows) are.timers ∙ told_timers s past f is);
@@ -233,8 +233,8 @@ told_parts s past f old new is small there before are told =
       serials = subst (AreSerials s (f.entry ∷ past)) (sym told.serials) (serials_told s f.entry past old.serials small there are.serials);
       flights = told.flights ∙ (ap (flights_told f) are.flights ∙ told_flights s past f is);
       tickets = told.tickets ∙ (ap (tickets_told f) are.tickets ∙ told_tickets s past f is);
-      gone = gone_follow s past f.entry old.gone new.gone are.gone (subst (λ o. TellGone o old.gone new.gone) is.done told.gone);
-      line = line.0;
+      gone = gone_refine s past f.entry old.gone new.gone are.gone (subst (λ o. TellGone o old.gone new.gone) is.done told.gone);
+      pwqs = pwqs.0;
       widths = subst (AreWidths s (f.entry ∷ past) new.most) (sym told.frozen) (told_widths s past f.entry old.most new.most old.frozen are.widths told.widths);
       owing = told.owing ∙ is.owing;
     }
@@ -244,7 +244,7 @@ told_parts s past f old new is small there before are told =
 pub open_there : (s : Layout) (past : List Entry) (f : Effect) (x : Queueing) → IsEffect s past f → IsLegal s past → f.ended ≡ Some x → places.IsThere s x
 open_there s past f x is before h = open_are_there s past x before (in_contained (still_open past) x (found (is_ended past f.entry) (still_open past) x (sym is.ended ∙ h)).0)
 
-pub may_cancel : (s : Layout) (past : List Entry) (f : Effect) (old : List Lineup) → IsEffect s past f → IsLegal s past → length old ≡ 2 * s.cpus → MayTellCancelled f.ended s.queues old
+pub may_cancel : (s : Layout) (past : List Entry) (f : Effect) (old : List PoolState) → IsEffect s past f → IsLegal s past → length old ≡ 2 * s.cpus → MayTellCancelled f.ended s.queues old
 may_cancel s past f old is before many = by f.ended refl
   where
     by : (o : Option Queueing) → f.ended ≡ o → MayTellCancelled o s.queues old
@@ -361,14 +361,14 @@ may_begin_barriers s past f is = rw (is.ended, is.opened, is.done, is.begun) (ba
 
 -- ---- what waits
 
-pub may_end_line : (s : Layout) (past : List Entry) (f : Effect) (l : Lined) → IsEffect s past f → IsSmall s → IsLegal s past → IsLineOf s past l → lines.MayEnd f.ended l
-may_end_line s past f l is small before are = rw is.ended (line_ended s past f.entry is.legal small.cpus l are before).1
+pub may_end_in_pwqs : (s : Layout) (past : List Entry) (f : Effect) (l : PwqState) → IsEffect s past f → IsSmall s → IsLegal s past → ArePwqsOf s past l → lines.MayEnd f.ended l
+may_end_in_pwqs s past f l is small before are = rw is.ended (pwqs_ended s past f.entry is.legal small.cpus l are before).1
 
-pub line_ready : (s : Layout) (past : List Entry) (f : Effect) (l : Lined) → IsEffect s past f → IsSmall s → IsLegal s past → IsLineOf s past l →
+pub pwqs_ready : (s : Layout) (past : List Entry) (f : Effect) (l : PwqState) → IsEffect s past f → IsSmall s → IsLegal s past → ArePwqsOf s past l →
     IsReadyToPass s past f.entry (lines.told_opened f.opened (lines.told_ended f.ended l)) × lines.MayOpen f.opened (lines.told_ended f.ended l)
-line_ready s past f l is small before are =
-    let mid = (line_ended s past f.entry is.legal small.cpus l are before).0 in
-    rw (is.opened, is.ended) (line_opened s past f.entry is.legal small.cpus (lines.told_ended (ending past f.entry) l) mid)
+pwqs_ready s past f l is small before are =
+    let mid = (pwqs_ended s past f.entry is.legal small.cpus l are before).0 in
+    rw (is.opened, is.ended) (pwqs_opened s past f.entry is.legal small.cpus (lines.told_ended (ending past f.entry) l) mid)
 
 -- ---- widths
 
@@ -381,7 +381,7 @@ may_tell_width s past f most is many = by f.entry.call (numbers_fit s past f.ent
 
 -- ---- the pass, as it is called
 
-pub record PassMade (s : Layout) (past : List Entry) (f : Effect) (l : Lined) (old most : List ℕ) (stopped frozen : Bool) (new : Lined) : Type 0 where
+pub record PassMade (s : Layout) (past : List Entry) (f : Effect) (l : PwqState) (old most : List ℕ) (stopped frozen : Bool) (new : PwqState) : Type 0 where
   pub queues : List QueueShape
   pub widths : List ℕ
   pub queues_are : queues ≡ s.queues
@@ -390,7 +390,7 @@ pub record PassMade (s : Layout) (past : List Entry) (f : Effect) (l : Lined) (o
   pub frozen_is : frozen ≡ frozen_after f.entry.reply stopped
   pub passed : IsPassed (width_by queues widths frozen) (lines.told_opened f.opened (lines.told_ended f.ended l)) new
 
-pub pass_made : (s : Layout) (past : List Entry) (f : Effect) (l : Lined) (old most : List ℕ) (stopped frozen : Bool) (new : Lined) → AreWidths s past old stopped → PassMade s past f l old most stopped frozen new →
+pub pass_made : (s : Layout) (past : List Entry) (f : Effect) (l : PwqState) (old most : List ℕ) (stopped frozen : Bool) (new : PwqState) → AreWidths s past old stopped → PassMade s past f l old most stopped frozen new →
     ArePassed s past f.entry (lines.told_opened f.opened (lines.told_ended f.ended l)) new (width_by s.queues most frozen)
 pass_made s past f l old most stopped frozen new are made = record {
   passes = λ way have. made.passed.passes way (rw (made.queues_are, made.widths_are_most) have);
@@ -398,25 +398,25 @@ pass_made s past f l old most stopped frozen new are made = record {
   widths = widths_are s (f.entry ∷ past) most frozen (subst (AreWidths s (f.entry ∷ past) most) (sym made.frozen_is) (told_widths s past f.entry old most stopped are made.width));
 }
 
-pub promoted_newly : (s : Layout) (past : List Entry) (f : Effect) (l : Lined) (old most : List ℕ) (stopped frozen : Bool) (new : Lined) → IsEffect s past f → IsSmall s → IsLegal s past → IsLineOf s past l → AreWidths s past old stopped →
-    PassMade s past f l old most stopped frozen new → new.promoted ≡ newly_active s past f.entry
-promoted_newly s past f l old most stopped frozen new is small before line are made =
-    (line_told s past f l new (width_by s.queues most frozen) is small before line (pass_made s past f l old most stopped frozen new are made)).1
+pub activated_newly : (s : Layout) (past : List Entry) (f : Effect) (l : PwqState) (old most : List ℕ) (stopped frozen : Bool) (new : PwqState) → IsEffect s past f → IsSmall s → IsLegal s past → ArePwqsOf s past l → AreWidths s past old stopped →
+    PassMade s past f l old most stopped frozen new → new.activated ≡ newly_active s past f.entry
+activated_newly s past f l old most stopped frozen new is small before pwqs are made =
+    (pwqs_told s past f l new (width_by s.queues most frozen) is small before pwqs (pass_made s past f l old most stopped frozen new are made)).1
 
-pub may_pass : (s : Layout) (past : List Entry) (f : Effect) (l : Lined) (queues : List QueueShape) → IsEffect s past f → IsSmall s → IsLegal s past → IsLineOf s past l → queues ≡ s.queues →
+pub may_pass : (s : Layout) (past : List Entry) (f : Effect) (l : PwqState) (queues : List QueueShape) → IsEffect s past f → IsSmall s → IsLegal s past → ArePwqsOf s past l → queues ≡ s.queues →
     ArePlaced (length queues) (lines.told_opened f.opened (lines.told_ended f.ended l)).waiting
-may_pass s past f l queues is small before line those = rw those
-    (are_placed s past f.entry is.legal small.cpus (lines.told_opened f.opened (lines.told_ended f.ended l)) (line_ready s past f l is small before line).0)
+may_pass s past f l queues is small before pwqs those = rw those
+    (are_placed s past f.entry is.legal small.cpus (lines.told_opened f.opened (lines.told_ended f.ended l)) (pwqs_ready s past f l is small before pwqs).0)
 
--- what waits is behind the widths, as the line is told of them
-pub may_be_behind : (s : Layout) (past : List Entry) (f : Effect) (l : Lined) (old most : List ℕ) (stopped frozen : Bool) (queues : List QueueShape) (widths : List ℕ) → IsSmall s → IsLegal s past → IsLineOf s past l → AreWidths s past old stopped →
+-- what waits is behind the widths, as the pool workqueues are told of them
+pub may_be_behind : (s : Layout) (past : List Entry) (f : Effect) (l : PwqState) (old most : List ℕ) (stopped frozen : Bool) (queues : List QueueShape) (widths : List ℕ) → IsSmall s → IsLegal s past → ArePwqsOf s past l → AreWidths s past old stopped →
     queues ≡ s.queues → widths ≡ most → TellWidth f.entry.call f.entry.reply old most → frozen ≡ frozen_after f.entry.reply stopped → keeps_widths f.entry.reply ≡ true → AreBehind (width_by queues widths frozen) l.counts l.waiting
-may_be_behind s past f l old most stopped frozen queues widths small before line are those same width is keeps = rw (those, same)
-    (all_behind s past f.entry l (width_by s.queues most frozen) before small.cpus line keeps
+may_be_behind s past f l old most stopped frozen queues widths small before pwqs are those same width is keeps = rw (those, same)
+    (all_behind s past f.entry l (width_by s.queues most frozen) before small.cpus pwqs keeps
     (widths_are s (f.entry ∷ past) most frozen (subst (AreWidths s (f.entry ∷ past) most) (sym is) (told_widths s past f.entry old most stopped are width))))
 
-pub may_have_run : (s : Layout) (past : List Entry) (f : Effect) (l : Lined) → IsEffect s past f → IsLegal s past → IsLineOf s past l → is_some (number_finished f.entry.reply) ≡ true → IfSome f.ended (λ x. is_waiting l x ≡ false)
-may_have_run s past f l is before line h = rw is.ended (finished_waits_not s past f.entry l is.legal before line h)
+pub may_have_run : (s : Layout) (past : List Entry) (f : Effect) (l : PwqState) → IsEffect s past f → IsLegal s past → ArePwqsOf s past l → is_some (number_finished f.entry.reply) ≡ true → IfSome f.ended (λ x. is_waiting l x ≡ false)
+may_have_run s past f l is before pwqs h = rw is.ended (finished_waits_not s past f.entry l is.legal before pwqs h)
 
 pub may_be_placed : (s : Layout) (past : List Entry) (f : Effect) (queues : List QueueShape) → IsEffect s past f → IsSmall s → IsLegal s past → queues ≡ s.queues → IsPlacedIf (length queues) f.ended × IsPlacedIf (length queues) f.opened
 may_be_placed s past f queues is small before those = rw those (ended_placed s past f.entry f.ended before small.cpus (sym is.ended), opened_placed s past f.entry f.opened is.legal small.cpus (sym is.opened))

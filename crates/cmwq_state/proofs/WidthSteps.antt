@@ -7,7 +7,7 @@ use Rattle.cmwq_model.specs.declared.entry.Entry.{Entry}
 use Rattle.cmwq_model.specs.declared.shape.QueueShape.{QueueShape}
 use Rattle.cmwq_model.specs.Layout.{Layout, no_queue, queue_at}
 use Rattle.cmwq_model.specs.Widths.{max_active, is_frozen, frozen_after, width, width_set}
-use Rattle.cmwq_line.specs.Line.{width_by}
+use Rattle.cmwq_pwq.specs.Pwqs.{width_by}
 use Rattle.cmwq_state.specs.Widths.{AreWidths, TellWidth}
 
 pub told_widths : (s : Layout) (past : List Entry) (e : Entry) (old new : List ℕ) (frozen : Bool) → AreWidths s past old frozen → TellWidth e.call e.reply old new → AreWidths s (e ∷ past) new (frozen_after e.reply frozen)

@@ -8,10 +8,10 @@ use Rattle.cmwq_model.specs.Bookings.{settles, booking_of}
 use Rattle.cmwq_model.specs.Queueings.{opening}
 use Rattle.cmwq_model.specs.Legal.{IsLegal}
 use Rattle.cmwq_model.specs.Room.{owed}
-use Rattle.cmwq_steps.specs.Endings.{ending}
-use Rattle.cmwq_steps.specs.TicketSteps.{ticket_ended}
-use Rattle.cmwq_ties.specs.Told.{ticket_given}
-use Rattle.cmwq_ties.specs.Flights.{starting}
+use Rattle.cmwq_theory_steps.specs.Endings.{ending}
+use Rattle.cmwq_theory_steps.specs.TicketSteps.{ticket_ended}
+use Rattle.cmwq_refinement.specs.Told.{ticket_given}
+use Rattle.cmwq_refinement.specs.Flights.{starting}
 use Rattle.cmwq_state.specs.declared.effect.Effect.{Effect}
 
 abbrev pub item_number : Option ItemId → Option ℕ

@@ -1,13 +1,13 @@
--- What waits, and how many are active, follow a history.
+-- What waits, and how many are active, refine a history.
 use Rattle.std.specs.Prelude.{◌≡◌, ℕ, ◌*◌, ◌<◌, List, length}
 use Rattle.cmwq_model.specs.declared.entry.Entry.{Entry}
 use Rattle.cmwq_model.specs.Layout.{Layout}
-use Rattle.cmwq_steps.specs.Places.{active_count}
-use Rattle.cmwq_steps.specs.Waiting.{waiting}
-use Rattle.cmwq_line.specs.Line.{Lined, count_at}
+use Rattle.cmwq_theory_steps.specs.Places.{active_count}
+use Rattle.cmwq_theory_steps.specs.Waiting.{waiting}
+use Rattle.cmwq_pwq.specs.Pwqs.{PwqState, count_at}
 
--- the line of a history; what its last pass made active doesn't matter
-pub record IsLineOf (s : Layout) (past : List Entry) (l : Lined) : Type 0 where
+-- the pwqs of a history; what its last pass made active doesn't matter
+pub record ArePwqsOf (s : Layout) (past : List Entry) (l : PwqState) : Type 0 where
   pub room : l.room ≡ 2 * s.items
   pub many : length l.counts ≡ 4 * length s.queues
   pub waiting : l.waiting ≡ waiting s past

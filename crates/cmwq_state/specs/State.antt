@@ -5,25 +5,25 @@ use Rattle.cmwq_model.specs.Layout.{Layout, is_layout, most_room}
 use Rattle.cmwq_model.specs.Calls.{now}
 use Rattle.cmwq_model.specs.Legal.{IsLegal, past_of}
 use Rattle.cmwq_model.specs.Room.{owed, most_time}
-use Rattle.cmwq_pool.specs.Lineup.{Lineup}
+use Rattle.cmwq_pool.specs.PoolState.{PoolState}
 use Rattle.cmwq_flush.specs.FlushBook.{FlushBook}
 use Rattle.cmwq_flush.specs.BarrierBook.{BarrierBook}
 use Rattle.cmwq_timer.specs.Rows.{Rows}
 use Rattle.cmwq_model.specs.declared.record.Ticket.{Ticket}
-use Rattle.cmwq_ties.specs.BarrierBooks.{barriers_of}
-use Rattle.cmwq_ties.specs.Timers.{timers_of}
-use Rattle.cmwq_line.specs.Line.{Lined}
-use Rattle.cmwq_flight.specs.Flights.{Flight}
-use Rattle.cmwq_ties.specs.Flights.{flights_of}
-use Rattle.cmwq_ties.specs.Tickets.{tickets_of}
+use Rattle.cmwq_refinement.specs.BarrierBooks.{barriers_of}
+use Rattle.cmwq_refinement.specs.Timers.{timers_of}
+use Rattle.cmwq_pwq.specs.Pwqs.{PwqState}
+use Rattle.cmwq_inflight.specs.Flights.{Flight}
+use Rattle.cmwq_refinement.specs.Flights.{flights_of}
+use Rattle.cmwq_refinement.specs.Tickets.{tickets_of}
 use Rattle.cmwq_state.specs.Gone.{AreGone}
-use Rattle.cmwq_state.specs.Lines.{IsLineOf}
+use Rattle.cmwq_state.specs.Lines.{ArePwqsOf}
 use Rattle.cmwq_state.specs.Widths.{AreWidths}
 use Rattle.cmwq_state.specs.Tables.{ArePools, AreBooks, AreSerials}
 
 -- the parts, as plain values
 pub record Parts : Type 0 where
-  pub pools : List Lineup
+  pub pools : List PoolState
   pub books : List FlushBook
   pub barriers : BarrierBook
   pub timers : Rows
@@ -32,7 +32,7 @@ pub record Parts : Type 0 where
   pub flights : List Flight
   pub tickets : List (List Ticket)
   pub gone : List Bool
-  pub line : Lined
+  pub pwqs : PwqState
   pub most : List ℕ
   pub frozen : Bool
   pub owing : ℕ
@@ -48,7 +48,7 @@ pub record AreParts (s : Layout) (past : List Entry) (parts : Parts) : Type 0 wh
   pub flights : parts.flights ≡ flights_of s past
   pub tickets : parts.tickets ≡ tickets_of s past
   pub gone : AreGone s past parts.gone
-  pub line : IsLineOf s past parts.line
+  pub pwqs : ArePwqsOf s past parts.pwqs
   pub widths : AreWidths s past parts.most parts.frozen
   pub owing : parts.owing ≡ owed s past
 

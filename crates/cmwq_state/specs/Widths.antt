@@ -1,4 +1,4 @@
--- The widths of a book follow a history: max_active of each queue, and whether the freezable ones are frozen.
+-- The widths of a book refine a history: max_active of each queue, and whether the freezable ones are frozen.
 use Rattle.std.specs.Prelude.{◌≡◌, ℕ, ◌<◌, Bool, if◌then◌else◌, List, length, None, slice_index}
 use Rattle.std.specs.Option.{option_map_or}
 use Rattle.cmwq_model.specs.declared.call.Call.{Call}

@@ -2,17 +2,17 @@
 
 ghost use Rattle.std.specs.Prelude.{◌≡◌, ◌*◌, ◌<◌, ◌≤◌, [], None, false, IfOk, IsTrue, length, map, replicate, vec_capacity};
 ghost use Rattle.cmwq_model.specs.Layout.{is_between};
-ghost use Rattle.cmwq_pool.specs.Lineup.{new_lineup};
+ghost use Rattle.cmwq_pool.specs.PoolState.{new_pool_state};
 ghost use Rattle.cmwq_flush.specs.FlushBook.{new_book};
 ghost use Rattle.cmwq_flush.specs.BarrierBook.{new_barriers};
-ghost use Rattle.cmwq_flight.specs.Flights.{no_flight};
-ghost use Rattle.cmwq_line.specs.Line.{new_lined};
+ghost use Rattle.cmwq_inflight.specs.Flights.{no_flight};
+ghost use Rattle.cmwq_pwq.specs.Pwqs.{new_pwq_state};
 
-use cmwq_flight::Flights;
 use cmwq_flush::{Barriers, Flushes};
-use cmwq_line::Line;
+use cmwq_inflight::Flights;
 use cmwq_model::{Counts, NoMemory, QueueShape};
 use cmwq_pool::Pool;
+use cmwq_pwq::Pwqs;
 use cmwq_ticket::Tickets;
 use cmwq_timer::Timers;
 use std::alloc::Global;
@@ -39,7 +39,7 @@ pub(crate) struct FlushParts {
 pub(crate) struct QueueParts {
     pub(crate) queues: Vec<QueueShape>,
     pub(crate) gone: Vec<bool>,
-    pub(crate) line: Line,
+    pub(crate) pwqs: Pwqs,
     pub(crate) most: Vec<u32>,
 }
 
@@ -48,7 +48,7 @@ pub(crate) fn new_item_parts(alloc: Global, counts: Counts) -> Result<ItemParts,
     requires items { IsTrue (is_between 1 256 counts.items) }
     requires workers { IsTrue (is_between 1 8 counts.workers) }
     ensures serials { IfOk result (λ parts. parts.serials.items ≡ replicate 128 0) }
-    ensures pools { IfOk result (λ parts. parts.pools.items ≡ replicate (2 * counts.cpus) (new_lineup counts.items counts.workers)) }
+    ensures pools { IfOk result (λ parts. parts.pools.items ≡ replicate (2 * counts.cpus) (new_pool_state counts.items counts.workers)) }
     ensures timers { IfOk result (λ parts. parts.timers ≡ replicate counts.items None) }
     ensures flights { IfOk result (λ parts. parts.flights ≡ replicate counts.items no_flight) }
 {
@@ -93,16 +93,16 @@ pub(crate) fn new_queue_parts(
     requires { length queues.now < 256 }
     ensures queues { IfOk result (λ parts. parts.queues.items ≡ queues.now) }
     ensures gone { IfOk result (λ parts. parts.gone.items ≡ replicate (length queues.now) false) }
-    ensures line { IfOk result (λ parts. parts.line ≡ new_lined (length queues.now) room) }
+    ensures pwqs { IfOk result (λ parts. parts.pwqs ≡ new_pwq_state (length queues.now) room) }
     ensures most { IfOk result (λ parts. parts.most.items ≡ map (λ q. q.max_active) queues.now) }
 {
     let gone = new_gone(alloc, queues.len())?;
-    let line = Line::new(alloc, queues.len(), room)?;
+    let pwqs = Pwqs::new(alloc, queues.len(), room)?;
     let most = new_most(alloc, queues)?;
     Ok(QueueParts {
         queues: queues.to_vec(alloc)?,
         gone,
-        line,
+        pwqs,
         most,
     })
 }
@@ -111,7 +111,7 @@ pub(crate) fn new_queue_parts(
 fn new_pools(alloc: Global, cpus: u8, items: u16, workers: u8) -> Result<Vec<Pool>, NoMemory>
     requires items { IsTrue (is_between 1 256 items) }
     requires workers { IsTrue (is_between 1 8 workers) }
-    ensures { IfOk result (λ pools. pools.items ≡ replicate (2 * cpus) (new_lineup items workers)) }
+    ensures { IfOk result (λ pools. pools.items ≡ replicate (2 * cpus) (new_pool_state items workers)) }
 {
     let many = 2 * usize::from(cpus);
     let mut pools = Vec::with_capacity(alloc, many)?;

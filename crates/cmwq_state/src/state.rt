@@ -20,14 +20,14 @@ use crate::effect::Effect;
 use crate::new::{new_flush_parts, new_item_parts, new_queue_parts};
 use crate::tables::{
     frozen_after, list_active, tell_barrier_begun, tell_barrier_done, tell_barriers, tell_begun,
-    tell_cancelled, tell_done, tell_ended, tell_flights, tell_gone, tell_line, tell_opened,
+    tell_cancelled, tell_done, tell_ended, tell_flights, tell_gone, tell_opened, tell_pwqs,
     tell_tickets, tell_timers, tell_width, tell_worker, who_place,
 };
-use cmwq_flight::Flights;
 use cmwq_flush::{Barriers, Flushes};
-use cmwq_line::Line;
+use cmwq_inflight::Flights;
 use cmwq_model::{Call, Counts, Entry, NoMemory, QueueShape, Shape, Who};
 use cmwq_pool::Pool;
+use cmwq_pwq::Pwqs;
 use cmwq_tail::Trail;
 use cmwq_ticket::Tickets;
 use cmwq_timer::Timers;
@@ -54,7 +54,7 @@ pub struct State {
     flights: Flights,
     tickets: Tickets,
     gone: Vec<bool>,
-    line: Line,
+    pwqs: Pwqs,
     most: Vec<u32>,
     frozen: bool,
     owing: u64,
@@ -70,7 +70,7 @@ impl Model for State {
     ghost view = { λ s. record { layout = layout_of s.counts s.queues.items; room = s.room; entries = s.entries } };
 
     ghost invariant = { λ s. IsState (layout_of s.counts s.queues.items) s.room s.entries
-        (record { pools = s.pools.items; books = s.books.items; barriers = s.barriers; timers = s.timers; time = s.time; serials = s.serials.items; flights = s.flights; tickets = s.tickets; gone = s.gone.items; line = s.line; most = s.most.items; frozen = s.frozen; owing = s.owing }) };
+        (record { pools = s.pools.items; books = s.books.items; barriers = s.barriers; timers = s.timers; time = s.time; serials = s.serials.items; flights = s.flights; tickets = s.tickets; gone = s.gone.items; pwqs = s.pwqs; most = s.most.items; frozen = s.frozen; owing = s.owing }) };
 }
 
 /// The ticks that a call lets go by.
@@ -124,7 +124,7 @@ impl State {
             flights: of_items.flights,
             tickets: of_flushes.tickets,
             gone: of_queues.gone,
-            line: of_queues.line,
+            pwqs: of_queues.pwqs,
             most: of_queues.most,
             frozen: false,
             owing: 0,
@@ -188,8 +188,8 @@ impl State {
         tell_cancelled(&self.queues, &mut self.pools, entry.reply, effect.ended);
         tell_width(&mut self.most, entry.call, entry.reply);
         self.frozen = frozen_after(entry.reply, self.frozen);
-        tell_line(
-            &mut self.line,
+        tell_pwqs(
+            &mut self.pwqs,
             &self.queues,
             &self.most,
             self.frozen,
@@ -197,7 +197,7 @@ impl State {
             effect.ended,
             effect.opened,
         );
-        list_active(&self.queues, &mut self.pools, self.line.promoted());
+        list_active(&self.queues, &mut self.pools, self.pwqs.activated());
         tell_ended(&mut self.books, effect.ended);
         tell_opened(&mut self.books, effect.opened);
         tell_done(&mut self.books, effect.done);
@@ -232,7 +232,7 @@ impl State {
     pub fn active_count(&self) -> u32
         ensures { result ≡ count_by (is_active self.now.layout (past_in self.now)) (still_open (past_in self.now)) }
     {
-        self.flights.open_count() - self.line.len() as u32
+        self.flights.open_count() - self.pwqs.len() as u32
     }
 
     /// How many entries are owed.

@@ -4,29 +4,29 @@ ghost use Rattle.std.specs.Prelude.{◌≡◌, ◌*◌, ◌<◌, length, is_some
 ghost use Rattle.cmwq_model.specs.declared.call.Call.{Call};
 ghost use Rattle.cmwq_model.specs.declared.id.Who.{Who};
 ghost use Rattle.cmwq_model.specs.declared.id.PoolId.{PoolId};
-ghost use Rattle.cmwq_ties.specs.Pools.{MayAllBeAdded, MayBeTold, told_reply};
+ghost use Rattle.cmwq_refinement.specs.Pools.{MayAllBeAdded, MayBeTold, told_reply};
 ghost use Rattle.cmwq_model.specs.Layout.{Layout, fits, pool_at};
 ghost use Rattle.cmwq_model.specs.Fate.{finishes, number_finished};
-ghost use Rattle.cmwq_ties.specs.BarrierBooks as barriers;
+ghost use Rattle.cmwq_refinement.specs.BarrierBooks as barriers;
 ghost use Rattle.cmwq_model.specs.declared.entry.Entry.{Entry};
-ghost use Rattle.cmwq_ties.specs.Timers as timed;
+ghost use Rattle.cmwq_refinement.specs.Timers as timed;
 ghost use Rattle.cmwq_state.specs.Effects as effects;
 ghost use Rattle.cmwq_state.specs.Tables as tables;
-ghost use Rattle.cmwq_ties.specs.Flights as rows;
-ghost use Rattle.cmwq_ties.specs.Tickets as held;
+ghost use Rattle.cmwq_refinement.specs.Flights as rows;
+ghost use Rattle.cmwq_refinement.specs.Tickets as held;
 ghost use Rattle.cmwq_state.specs.Gone as lost;
-ghost use Rattle.cmwq_line.specs.Line as lines;
+ghost use Rattle.cmwq_pwq.specs.Pwqs as lines;
 ghost use Rattle.cmwq_state.specs.Widths as widths;
 ghost use Rattle.cmwq_model.specs.Widths.{frozen_after};
-ghost use Rattle.cmwq_active.specs.Looks.{keeps_widths};
+ghost use Rattle.cmwq_theory_active.specs.Looks.{keeps_widths};
 
-use cmwq_flight::Flights;
 use cmwq_flush::{Barriers, Flushes};
-use cmwq_line::Line;
+use cmwq_inflight::Flights;
 use cmwq_model::{
     Booking, Call, ItemId, Number, Place, PoolId, QueueShape, Queueing, Reply, Ticket, Who,
 };
 use cmwq_pool::Pool;
+use cmwq_pwq::Pwqs;
 use cmwq_ticket::Tickets;
 use cmwq_timer::Timers;
 
@@ -117,7 +117,7 @@ pub(crate) fn tell_barriers(book: &mut Barriers, ended: Option<Queueing>, opened
     }
 }
 
-/// Takes a queueing that was taken back or replaced from its pool.
+/// Takes a queueing that was cancelled or replaced from its pool.
 pub(crate) fn tell_removed(pools: &mut Vec<Pool>, pool: PoolId, number: Number)
     requires { tables.pool_place pool < length pools.old.items }
     ensures { tables.RemovedFrom pool number pools.old.items pools.new.items }
@@ -252,12 +252,12 @@ fn list_one(queues: &[QueueShape], pools: &mut Vec<Pool>, queueing: Queueing)
 }
 
 /// Lists what became active in its pools.
-pub(crate) fn list_active(queues: &[QueueShape], pools: &mut Vec<Pool>, promoted: &[Queueing])
-    requires there { tables.MayBeListed queues.now promoted.now pools.old.items }
-    requires may { (p : PoolId) → MayAllBeAdded (tables.only queues.now) (tables.those_in queues.now p promoted.now) (tables.pool_in pools.old.items p) }
-    ensures { tables.ListAll queues.now promoted.now pools.old.items pools.new.items }
+pub(crate) fn list_active(queues: &[QueueShape], pools: &mut Vec<Pool>, activated: &[Queueing])
+    requires there { tables.MayBeListed queues.now activated.now pools.old.items }
+    requires may { (p : PoolId) → MayAllBeAdded (tables.only queues.now) (tables.those_in queues.now p activated.now) (tables.pool_in pools.old.items p) }
+    ensures { tables.ListAll queues.now activated.now pools.old.items pools.new.items }
 {
-    for queueing in promoted {
+    for queueing in activated {
         list_one(queues, pools, *queueing);
     }
 }
@@ -293,23 +293,23 @@ fn keeps_widths(reply: Reply) -> bool
 }
 
 /// Tells what waits of a queueing that ended, and of one that was opened.
-fn tell_waiting(line: &mut Line, ended: Option<Queueing>, opened: Option<Queueing>)
-    requires ended { lines.MayEnd ended line.old }
-    requires opened { lines.MayOpen opened (lines.told_ended ended line.old) }
-    ensures { line.new ≡ lines.told_opened opened (lines.told_ended ended line.old) }
+fn tell_waiting(pwqs: &mut Pwqs, ended: Option<Queueing>, opened: Option<Queueing>)
+    requires ended { lines.MayEnd ended pwqs.old }
+    requires opened { lines.MayOpen opened (lines.told_ended ended pwqs.old) }
+    ensures { pwqs.new ≡ lines.told_opened opened (lines.told_ended ended pwqs.old) }
 {
     if let Some(queueing) = ended {
-        line.end(queueing);
+        pwqs.end(queueing);
     }
     if let Some(queueing) = opened {
-        line.open(queueing);
+        pwqs.open(queueing);
     }
 }
 
-/// Tells what waits of a queueing that ended, and of one that was opened; what has way then becomes active. All that wait are
+/// Tells what waits of a queueing that ended, and of one that was opened; what is below max_active then becomes active. All that wait are
 /// looked at only where the widths may have changed.
-pub(crate) fn tell_line(
-    line: &mut Line,
+pub(crate) fn tell_pwqs(
+    pwqs: &mut Pwqs,
     queues: &[QueueShape],
     most: &[u32],
     frozen: bool,
@@ -318,21 +318,21 @@ pub(crate) fn tell_line(
     opened: Option<Queueing>,
 )
     requires most { length most.now ≡ length queues.now }
-    requires counts { length line.old.counts ≡ 4 * length queues.now }
-    requires ended { lines.MayEnd ended line.old }
+    requires counts { length pwqs.old.counts ≡ 4 * length queues.now }
+    requires ended { lines.MayEnd ended pwqs.old }
     requires ended_placed { lines.IsPlacedIf (length queues.now) ended }
-    requires ran { is_some (number_finished reply) ≡ true → IfSome ended (λ x. lines.is_waiting line.old x ≡ false) }
-    requires opened { lines.MayOpen opened (lines.told_ended ended line.old) }
+    requires ran { is_some (number_finished reply) ≡ true → IfSome ended (λ x. lines.is_waiting pwqs.old x ≡ false) }
+    requires opened { lines.MayOpen opened (lines.told_ended ended pwqs.old) }
     requires opened_placed { lines.IsPlacedIf (length queues.now) opened }
-    requires behind { keeps_widths reply ≡ true → lines.AreBehind (lines.width_by queues.now most.now frozen) line.old.counts line.old.waiting }
-    requires placed { lines.ArePlaced (length queues.now) (lines.told_opened opened (lines.told_ended ended line.old)).waiting }
-    ensures { lines.IsPassed (lines.width_by queues.now most.now frozen) (lines.told_opened opened (lines.told_ended ended line.old)) line.new }
+    requires behind { keeps_widths reply ≡ true → lines.AreBehind (lines.width_by queues.now most.now frozen) pwqs.old.counts pwqs.old.waiting }
+    requires placed { lines.ArePlaced (length queues.now) (lines.told_opened opened (lines.told_ended ended pwqs.old)).waiting }
+    ensures { lines.IsPassed (lines.width_by queues.now most.now frozen) (lines.told_opened opened (lines.told_ended ended pwqs.old)) pwqs.new }
 {
     if keeps_widths(reply) {
-        line.go_on(queues, most, frozen, ended, is_finish(reply), opened);
+        pwqs.go_on(queues, most, frozen, ended, is_finish(reply), opened);
     } else {
-        tell_waiting(line, ended, opened);
-        line.pass(queues, most, frozen);
+        tell_waiting(pwqs, ended, opened);
+        pwqs.pass(queues, most, frozen);
     }
 }
 

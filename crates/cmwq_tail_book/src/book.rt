@@ -1,4 +1,4 @@
-//! A course, and the tail of its entries.
+//! An execution, and the tail of its entries.
 ghost use Rattle.std.specs.Prelude.{◌≡◌, ◌≤◌, ◌<◌, ◌+◌, [], length, count_by, None, Some, IfOk, IfErr, OnErr, IsTrue, true};
 ghost use Rattle.std.specs.Vec.{vec_capacity};
 ghost use Rattle.cmwq_model.specs.Layout.{fits, most_room};
@@ -13,7 +13,7 @@ ghost use Rattle.cmwq_core.specs.Plans.{IsPlan};
 ghost use Rattle.cmwq_core.specs.Relied.{IsReliable};
 ghost use Rattle.cmwq_tail_book.specs.Lasting.{opened, with_made, with_none_kept, has_space, kept_of, entry_at, unmade_by};
 
-use cmwq_core::{Course, Full, Plan};
+use cmwq_core::{Execution, Full, Plan};
 use cmwq_model::{Call, Entry, ItemId, NoMemory, Number, Reply, Shape, Who};
 use cmwq_tail::Tail;
 use std::alloc::Global;
@@ -32,7 +32,7 @@ pub enum Unmade {
 /// away of it, at most as many entries as it was made for.
 #[derive(Drop)]
 pub struct TailBook {
-    course: Course,
+    execution: Execution,
     tail: Tail<Entry>,
 }
 
@@ -42,9 +42,9 @@ impl Model for TailBook {
 
     ghost Value = { Lasting };
 
-    ghost view = { λ b. record { history = b.course; given = b.tail.given; keep = b.tail.room } };
+    ghost view = { λ b. record { history = b.execution; given = b.tail.given; keep = b.tail.room } };
 
-    ghost invariant = { λ b. (b.tail.all ≡ b.course.entries) × (b.course.room ≡ b.course.layout.room) };
+    ghost invariant = { λ b. (b.tail.all ≡ b.execution.entries) × (b.execution.room ≡ b.execution.layout.room) };
 }
 
 impl TailBook {
@@ -54,7 +54,7 @@ impl TailBook {
         ensures { IfOk result (λ book. book ≡ opened shape.now keep) }
     {
         Ok(TailBook {
-            course: Course::new(alloc, shape, shape.counts().room)?,
+            execution: Execution::new(alloc, shape, shape.counts().room)?,
             tail: Tail::new(alloc, keep)?,
         })
     }
@@ -66,7 +66,7 @@ impl TailBook {
         ensures room { self.now.history.room ≡ self.now.history.layout.room }
         ensures legal { IsLegal self.now.history.layout (past_in self.now.history) }
     {
-        self.course.len()
+        self.execution.len()
     }
 
     /// How many of them were given away.
@@ -90,7 +90,7 @@ impl TailBook {
         ensures few { length result.now ≤ self.now.keep }
         ensures reliable { IsReliable self.now.history.layout (past_in self.now.history) }
     {
-        self.course.reliable();
+        self.execution.reliable();
         self.tail.kept()
     }
 
@@ -119,21 +119,21 @@ impl TailBook {
         if self.tail.space() == 0 {
             return Err(Unmade::Crowded);
         }
-        match self.course.plan(who, call) {
+        match self.execution.plan(who, call) {
             Ok(plan) => Ok(plan),
             Err(Full) => Err(Unmade::Full),
         }
     }
 
     /// Makes the entry that was planned, and answers its reply. The book is still the one that planned it.
-    pub fn carry(&mut self, plan: &Plan) -> Reply
+    pub fn commit(&mut self, plan: &Plan) -> Reply
         requires plan { (who : _) × (call : _) × IsPlan self.old.history who call plan.now }
         requires space { has_space self.old ≡ true }
         ensures reply { result ≡ plan.now.mark.entry.reply }
         ensures entry { self.new ≡ with_made self.old plan.now.mark.entry }
     {
-        let _within = self.course.len();
-        let reply = self.course.carry(plan);
+        let _within = self.execution.len();
+        let reply = self.execution.commit(plan);
         self.tail.push(plan.mark.entry);
         reply
     }
@@ -153,8 +153,8 @@ impl TailBook {
         if self.tail.space() == 0 {
             return Err(Unmade::Crowded);
         }
-        let _within = self.course.len();
-        match self.course.next(who, call) {
+        let _within = self.execution.len();
+        match self.execution.next(who, call) {
             Ok(entry) => {
                 let _within = self.tail.len();
                 self.tail.push(entry);
@@ -188,14 +188,14 @@ impl TailBook {
         requires { tables.IsThere self.now.history.layout who }
         ensures { result ≡ calls.serial_of (past_in self.now.history) who }
     {
-        self.course.serial(who)
+        self.execution.serial(who)
     }
 
     /// Whether the ticket with this number stands and waits for nothing, so that its end would be answered done.
     pub fn ready(&self, ticket: Number) -> bool
         ensures { result ≡ is_ready (past_in self.now.history) ticket }
     {
-        self.course.ready(ticket)
+        self.execution.ready(ticket)
     }
 
     /// The bits of an item (`work_busy`): 1 if it is pending, plus 2 if it runs.
@@ -203,20 +203,20 @@ impl TailBook {
         requires { item.0 < self.now.history.layout.items }
         ensures { result ≡ legal.bits (past_in self.now.history) item.0 }
     {
-        self.course.bits(item)
+        self.execution.bits(item)
     }
 
     /// How many queueings are open.
     pub fn open_count(&self) -> u32
         ensures { result ≡ length (still_open (past_in self.now.history)) }
     {
-        self.course.open_count()
+        self.execution.open_count()
     }
 
     /// How many of them are active.
     pub fn active_count(&self) -> u32
         ensures { result ≡ count_by (is_active self.now.history.layout (past_in self.now.history)) (still_open (past_in self.now.history)) }
     {
-        self.course.active_count()
+        self.execution.active_count()
     }
 }

@@ -3,7 +3,7 @@ use Rattle.std.proofs.Common.{◌≡◌, ℕ, ◌+◌, ◌<◌, Bool, true, fals
 use Rattle.std.proofs.lemmas.Bool.Decides.{nat_tests}
 use Rattle.std.proofs.lemmas.Bool.{false≢true}
 use Rattle.cmwq_timer.specs.declared.timer.Timer.{Timer}
-use Rattle.cmwq_timer.specs.declared.leads.Candidate.{Candidate}
+use Rattle.cmwq_timer.specs.declared.minima.Candidate.{Candidate}
 use Rattle.cmwq_timer.specs.Due.{may_fire, is_sooner}
 use Rattle.cmwq_timer.specs.Candidates.{sooner}
 use Rattle.cmwq_timer.specs.Rows.{Rows, timer_of, MayFire}
@@ -13,13 +13,13 @@ abbrev pub NoneBelow : ℕ → ℕ → Rows → ℕ → Type 0
 NoneBelow now held rows k = (i : ℕ) (t : Timer) → i < k → MayFire now held rows i t → ⊥
 
 -- this one may fire, and none below k is sooner
-pub record LeadsBelow (now held : ℕ) (rows : Rows) (k : ℕ) (c : Candidate) : Type 0 where
+pub record MinimaBelow (now held : ℕ) (rows : Rows) (k : ℕ) (c : Candidate) : Type 0 where
   pub may_fire : MayFire now held rows c.item.0 c.timer
   pub none_sooner : (i : ℕ) (t : Timer) → i < k → MayFire now held rows i t → is_sooner t c.timer ≡ false
 
 abbrev pub FirstBelow : ℕ → ℕ → Rows → ℕ → Option Candidate → Type 0
 FirstBelow now held rows k None = NoneBelow now held rows k
-FirstBelow now held rows k (Some c) = LeadsBelow now held rows k c
+FirstBelow now held rows k (Some c) = MinimaBelow now held rows k c
 
 sooner_chain : (a b c : Timer) → is_sooner a b ≡ false → is_sooner c b ≡ true → is_sooner a c ≡ false
 sooner_chain a b c = grind (arith, nat_tests)
@@ -53,7 +53,7 @@ not_sooner now held rows i k t u may e other =
     rw same (sooner_self t)
 
 -- a row that may fire takes the lead where it is sooner
-takes_lead : (now held : ℕ) (rows : Rows) (k : ℕ) (c : Candidate) (t : Timer) (s : Bool) → is_sooner t c.timer ≡ s → MayFire now held rows k t → LeadsBelow now held rows k c → LeadsBelow now held rows (k + 1) (cond s (record { item = record { 0 = k }; timer = t }) c)
+takes_lead : (now held : ℕ) (rows : Rows) (k : ℕ) (c : Candidate) (t : Timer) (s : Bool) → is_sooner t c.timer ≡ s → MayFire now held rows k t → MinimaBelow now held rows k c → MinimaBelow now held rows (k + 1) (cond s (record { item = record { 0 = k }; timer = t }) c)
 takes_lead now held rows k c t true is may below = record {
   may_fire = may;
   none_sooner = λ i u lt other. ⊎_elim (λ l. sooner_chain u c.timer t (below.none_sooner i u l other) is) (λ e. not_sooner now held rows i k t u may e other) (is_last i k lt);

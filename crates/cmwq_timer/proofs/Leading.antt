@@ -1,4 +1,4 @@
--- Which of two leads comes first, and the leads of rows of which one is set.
+-- Which of two minima comes first, and the minima of rows of which one is set.
 use Rattle.std.proofs.Common.{inl, inr, ◌==◌, ◌≡◌, ◌≢◌, ℕ, ◌+◌, ◌*◌, ◌<◌, ◌≤◌, Bool, true, false, List, length, Option, Some, None, cond, min, sym, refl, ◌∙◌, arith, ◌⊎◌, ⊎_elim}
 use Rattle.std.specs.Prelude.{slice_set, slice_index_or}
 use Rattle.std.proofs.lemmas.Bool.Decides.{nat_tests}
@@ -6,10 +6,10 @@ use Rattle.std.proofs.lemmas.Bool.{false≢true, cases_lt, eqb-true, eq-eqb}
 use Rattle.std.proofs.lemmas.Grind.{get_or-set_at}
 use Rattle.std.proofs.lemmas.List.{get_or-set_other, get_or_past, length-set}
 use Rattle.cmwq_timer.specs.declared.timer.Timer.{Timer}
-use Rattle.cmwq_timer.specs.declared.leads.Candidate.{Candidate}
+use Rattle.cmwq_timer.specs.declared.minima.Candidate.{Candidate}
 use Rattle.cmwq_timer.specs.Due.{may_fire, is_sooner}
 use Rattle.cmwq_timer.specs.Candidates.{sooner}
-use Rattle.cmwq_timer.specs.Leads.{IsBookedIn, LeadsIn, IsLead, AreLeads}
+use Rattle.cmwq_timer.specs.Minima.{IsBookedIn, MinimaIn, IsLead, AreMinima}
 use Rattle.cmwq_timer.specs.Rows.{Rows, timer_of, MayFire, NoneMayFire, IsFirstToFire}
 
 sooner_chain : (a b c : Timer) → is_sooner a b ≡ false → is_sooner c b ≡ true → is_sooner a c ≡ false
@@ -49,7 +49,7 @@ module _ (rows : Rows) (lo mid hi : ℕ) (up : lo ≤ mid) (on : mid ≤ hi) whe
   }
   lead_of_both (Some c) (Some d) a b = by (is_sooner d.timer c.timer) refl
     where
-      by : (s : Bool) → is_sooner d.timer c.timer ≡ s → LeadsIn rows lo hi (cond s d c)
+      by : (s : Bool) → is_sooner d.timer c.timer ≡ s → MinimaIn rows lo hi (cond s d c)
       by true is = record {
         is_booked = wider_right d.item.0 d.timer b.is_booked;
         none_sooner = λ i t h. ⊎_elim (λ l. sooner_chain t c.timer d.timer (a.none_sooner i t l) is) (λ r. b.none_sooner i t r) (parted i t h);
@@ -113,8 +113,8 @@ module _ (rows : Rows) (all : ℕ) (whole : length rows ≤ all) (now held : ℕ
 pub lead_whole : (rows : Rows) (lo k hi : ℕ) (o : Option Candidate) → lo ≤ k → k ≤ hi → min (length rows) hi ≤ k → IsLead rows lo k o → IsLead rows lo hi o
 lead_whole rows lo k hi o up on past lead = lead_of_both rows lo k hi up on o None lead (λ i t is. let a = is.from in let b = is.below in let l = none_past rows i t is.booked in omega arith)
 
-pub all_led : (rows : Rows) (leads : List (Option Candidate)) (k : ℕ) (first : Option Candidate) (lead : Option Candidate) → AreLeads rows leads → k < length leads → slice_index_or leads k None ≡ lead → IsLead rows 0 (16 * k) first → IsLead rows 0 (16 * (k + 1)) (led first lead)
-all_led rows leads k first lead are inside is so_far =
+pub all_led : (rows : Rows) (minima : List (Option Candidate)) (k : ℕ) (first : Option Candidate) (lead : Option Candidate) → AreMinima rows minima → k < length minima → slice_index_or minima k None ≡ lead → IsLead rows 0 (16 * k) first → IsLead rows 0 (16 * (k + 1)) (led first lead)
+all_led rows minima k first lead are inside is so_far =
     let more : 16 * (k + 1) ≡ 16 * k + 16 = omega arith in
     rw more (lead_of_both rows 0 (16 * k) (16 * k + 16) (omega arith) (omega arith) first lead so_far (rw (← is) (are.each k inside)))
 

@@ -1,4 +1,4 @@
 pub mod Due
 pub mod Rows
 pub mod Candidates
-pub mod Leads
+pub mod Minima

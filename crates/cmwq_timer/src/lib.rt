@@ -1,7 +1,7 @@
 //! The timers of delayed items: which item is booked on which queue for when, and which fires first.
 #![tactic(auto)]
 
-mod leads;
+mod minima;
 mod timer;
 mod timers;
 

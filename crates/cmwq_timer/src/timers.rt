@@ -1,7 +1,7 @@
 ghost use Rattle.std.specs.Prelude.{◌≡◌, ℕ, ◌^◌, ◌<◌, Some, None, IfOk, IfSome, IfNone, length, replicate, slice_set};
 ghost use Rattle.cmwq_timer.specs.Rows.{timer_of, due_of, is_booked_on, HaveBits, NoneMayFire, IsFirstToFire};
 
-use crate::leads::{BLOCK, Candidate, block_of, first_lead, lead_of, sooner};
+use crate::minima::{BLOCK, Candidate, block_of, first_lead, lead_of, sooner};
 use crate::timer::Timer;
 use cmwq_model::{ItemId, NoMemory, Number, Place, QueueId};
 use std::alloc::Global;
@@ -12,19 +12,19 @@ use std::marker::Model;
 pub struct Timers {
     rows: Vec<Option<Timer>>,
     /// Of each block of items, the one whose timer comes first.
-    leads: Vec<Option<Candidate>>,
+    minima: Vec<Option<Candidate>>,
 }
 
 impl Model for Timers {
     ghost use Rattle.cmwq_timer.specs.Rows.{Rows, HaveBits};
-    ghost use Rattle.cmwq_timer.specs.Leads.{AreLeads};
+    ghost use Rattle.cmwq_timer.specs.Minima.{AreMinima};
     ghost use Rattle.std.specs.Prelude.{◌^◌, ◌<◌, vec_len};
 
     ghost Value = { Rows };
 
     ghost view = { λ t. t.rows.items };
 
-    ghost invariant = { λ t. (vec_len t.rows < 2 ^ 16) × HaveBits t.rows.items × AreLeads t.rows.items t.leads.items };
+    ghost invariant = { λ t. (vec_len t.rows < 2 ^ 16) × HaveBits t.rows.items × AreMinima t.rows.items t.minima.items };
 }
 
 impl Timers {
@@ -34,7 +34,7 @@ impl Timers {
     {
         Ok(Timers {
             rows: vec![in alloc; None; usize::from(items)]?,
-            leads: vec![in alloc; None; usize::from(items).div_ceil(BLOCK)]?,
+            minima: vec![in alloc; None; usize::from(items).div_ceil(BLOCK)]?,
         })
     }
 
@@ -57,7 +57,7 @@ impl Timers {
             due,
             number: at,
         });
-        self.leads[block_of(item)] = lead_of(&self.rows, block_of(item));
+        self.minima[block_of(item)] = lead_of(&self.rows, block_of(item));
     }
 
     /// Takes an item's booking back, if it has one (`del_timer`).
@@ -66,7 +66,7 @@ impl Timers {
         ensures { self.new ≡ slice_set self.old item.0 None }
     {
         self.rows[usize::from(item.0)] = None;
-        self.leads[block_of(item)] = lead_of(&self.rows, block_of(item));
+        self.minima[block_of(item)] = lead_of(&self.rows, block_of(item));
     }
 
     /// The timer that is set for an item, if it is booked: where it is to be queued, when, and by which entry.
@@ -100,7 +100,7 @@ impl Timers {
         ensures found { IfSome result (λ item. IsFirstToFire now held self.now item.0) }
         ensures none { IfNone result (NoneMayFire now held self.now) }
     {
-        match first_lead(&self.leads) {
+        match first_lead(&self.minima) {
             None => None,
             Some(lead) => {
                 if lead.timer.may_fire(now, held) {

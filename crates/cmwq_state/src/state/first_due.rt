@@ -4,7 +4,7 @@ ghost use Rattle.std.specs.Prelude.{◌≡◌, ℕ, ◌==◌, ◌<◌, ◌≤◌
 ghost use Rattle.std.specs.Int.{bit_at};
 ghost use Rattle.cmwq_model.specs.Legal.{past_of};
 ghost use Rattle.cmwq_state.specs.Tables.{book_in};
-ghost use Rattle.cmwq_ties.specs.Timers.{item_due};
+ghost use Rattle.cmwq_refinement.specs.Timers.{item_due};
 
 use crate::state::State;
 use cmwq_flush::Flushes;

@@ -10,8 +10,8 @@ ghost use Rattle.cmwq_model.specs.Tickets as waits;
 ghost use Rattle.cmwq_model.specs.Widths as widths;
 ghost use Rattle.cmwq_model.specs.Answer.{is_booked_on, is_shut, may_call, runs_on};
 ghost use Rattle.std.specs.List.{list_any};
-ghost use Rattle.cmwq_steps.specs.ItemQueueings.{queueing_run};
-ghost use Rattle.cmwq_ties.specs.Timers.{row_of};
+ghost use Rattle.cmwq_theory_steps.specs.ItemQueueings.{queueing_run};
+ghost use Rattle.cmwq_refinement.specs.Timers.{row_of};
 ghost use Rattle.cmwq_state.specs.Flights.{run_open};
 ghost use Rattle.cmwq_state.specs.History.{has_number};
 ghost use Rattle.cmwq_state.specs.Tables as tables;
@@ -109,7 +109,7 @@ impl State {
         requires { tables.IsThere self.now.layout (Worker worker) }
         ensures { result ≡ queueing_run (past_of self.now.entries) (Worker worker) }
     {
-        match self.seat(worker).run {
+        match self.slot(worker).run {
             Some(task) => self.item_run(task.item),
             None => None,
         }

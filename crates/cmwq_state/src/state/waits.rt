@@ -6,7 +6,7 @@ ghost use Rattle.cmwq_model.specs.Layout.{has_numbers};
 ghost use Rattle.cmwq_model.specs.Legal.{IsLegal, past_of};
 ghost use Rattle.cmwq_model.specs.Tickets.{is_flush_of, unended};
 ghost use Rattle.cmwq_model.specs.Waits.{waits_for};
-ghost use Rattle.cmwq_ties.specs.FlushBooks.{AreFlushes};
+ghost use Rattle.cmwq_refinement.specs.FlushBooks.{AreFlushes};
 
 use crate::state::State;
 use cmwq_flush::Flushes;

@@ -6,14 +6,14 @@ ghost use Rattle.cmwq_model.specs.Runs as runs;
 ghost use Rattle.cmwq_model.specs.Workers as workers;
 ghost use Rattle.cmwq_model.specs.Active as active;
 ghost use Rattle.cmwq_model.specs.Legal.{past_of, IsLegal};
-ghost use Rattle.cmwq_ties.specs.Pools.{IsSeatOf, pool_of, run_task};
-ghost use Rattle.cmwq_ties.specs.Told.{number_of_queueing};
+ghost use Rattle.cmwq_refinement.specs.Pools.{IsSlotOf, pool_of, run_task};
+ghost use Rattle.cmwq_refinement.specs.Told.{number_of_queueing};
 ghost use Rattle.cmwq_state.specs.Tables as tables;
 
 use crate::state::State;
 use crate::tables::pool_place;
 use cmwq_model::{Number, PoolId, Queueing, WorkerId};
-use cmwq_pool::{Pool, Seat};
+use cmwq_pool::{Pool, Slot};
 
 impl State {
     /// The pool with this name.
@@ -25,14 +25,14 @@ impl State {
         &self.pools[pool_place(pool)]
     }
 
-    /// The seat of a worker in its pool.
-    pub(crate) fn seat(&self, worker: WorkerId) -> Seat
+    /// The slot of a worker in its pool.
+    pub(crate) fn slot(&self, worker: WorkerId) -> Slot
         requires { tables.IsThere self.now.layout (Worker worker) }
-        ensures is { IsSeatOf (past_of self.now.entries) worker result }
+        ensures is { IsSlotOf (past_of self.now.entries) worker result }
         ensures task { result.run ≡ run_task self.now.layout (past_of self.now.entries) worker }
         ensures legal { IsLegal self.now.layout (past_of self.now.entries) }
     {
-        self.pool(worker.pool).seat(worker.index)
+        self.pool(worker.pool).slot(worker.index)
     }
 
     /// Whether the worker has a run and is awake.
@@ -40,7 +40,7 @@ impl State {
         requires { tables.IsThere self.now.layout (Worker worker) }
         ensures { result ≡ runs.runs_awake (past_of self.now.entries) worker }
     {
-        self.seat(worker).runs_awake()
+        self.slot(worker).runs_awake()
     }
 
     /// Whether the worker has a run and sleeps.
@@ -48,7 +48,7 @@ impl State {
         requires { tables.IsThere self.now.layout (Worker worker) }
         ensures { result ≡ runs.runs_asleep (past_of self.now.entries) worker }
     {
-        self.seat(worker).runs_asleep()
+        self.slot(worker).runs_asleep()
     }
 
     /// Whether the worker has a run.
@@ -56,7 +56,7 @@ impl State {
         requires { tables.IsThere self.now.layout (Worker worker) }
         ensures { result ≡ runs.has_run (past_of self.now.entries) worker }
     {
-        self.seat(worker).run.is_some()
+        self.slot(worker).run.is_some()
     }
 
     /// Whether the worker is enlisted.
@@ -64,7 +64,7 @@ impl State {
         requires { tables.IsThere self.now.layout (Worker worker) }
         ensures { result ≡ workers.is_enlisted (past_of self.now.entries) worker }
     {
-        self.seat(worker).enlisted
+        self.slot(worker).enlisted
     }
 
     /// Whether the worker is idle and may go back to the reserve.
@@ -104,7 +104,7 @@ impl State {
         requires { tables.IsThere self.now.layout (Worker worker) }
         ensures { result ≡ runs.run (past_of self.now.entries) worker }
     {
-        match self.seat(worker).run {
+        match self.slot(worker).run {
             Some(task) => Some(task.number),
             None => None,
         }

@@ -1,6 +1,6 @@
 use Rattle.std.proofs.Common.{ap, sym, ◌∙◌, Some}
 use Rattle.cmwq_pool.specs.declared.task.Task.{Task}
-use Rattle.cmwq_pool.specs.Lineup.{is_not}
+use Rattle.cmwq_pool.specs.PoolState.{is_not}
 use Rattle.cmwq_pool.specs.Upkeep.{is_free}
 use Rattle.std.proofs.Common.{filter}
 use Rattle.cmwq_pool.proofs.Finding.{find-position, is_some-position}

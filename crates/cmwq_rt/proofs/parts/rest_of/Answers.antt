@@ -1,5 +1,5 @@
 use Rattle.std.proofs.Common.{rules}
 use Rattle.cmwq_rt.proofs.parts.rest_of.Goals as goal
 
-pub returns-clause-course : goal.returns-clause-course
-returns-clause-course c = search rules
+pub returns-clause-execution : goal.returns-clause-execution
+returns-clause-execution c = search rules

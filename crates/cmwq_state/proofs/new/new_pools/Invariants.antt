@@ -1,7 +1,7 @@
 use Rattle.std.proofs.Common.{◌≡◌, ◌≤◌, replicate}
 use Rattle.std.specs.Vec.{vec_capacity}
-use Rattle.cmwq_pool.specs.Lineup.{new_lineup}
+use Rattle.cmwq_pool.specs.PoolState.{new_pool_state}
 use Rattle.cmwq_state.proofs.new.new_pools.Given as goal
 
 abbrev pub invariant-loop-index : goal.invariant-loop-index
-invariant-loop-index l = record { items : l.pools.items ≡ replicate l.index (new_lineup l.items l.workers); room : l.many ≤ vec_capacity l.pools }
+invariant-loop-index l = record { items : l.pools.items ≡ replicate l.index (new_pool_state l.items l.workers); room : l.many ≤ vec_capacity l.pools }

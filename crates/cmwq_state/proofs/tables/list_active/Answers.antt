@@ -10,6 +10,6 @@ no_one = record { item = record { 0 = 0 }; place = record { queue = record { 0 =
 
 pub list_one-requires : goal.list_one-requires
 list_one-requires c =
-    let xs = c.args.promoted.now in let i = c.loop-queueing.queueing-index in
+    let xs = c.args.activated.now in let i = c.loop-queueing.queueing-index in
     let there : IsListable c.args.queues.now c.args.pools.now.items (get_or xs i no_one) = All-get_or (IsListable c.args.queues.now c.args.pools.now.items) xs i no_one c.loop-queueing-test.true c.requires.there in
     may_list c.args.queues.now c.loop-queueing.pools.items xs i no_one c.loop-queueing-test.true (there.0, rw c.loop-queueing.invariant.told.many there.1) c.loop-queueing.invariant.may

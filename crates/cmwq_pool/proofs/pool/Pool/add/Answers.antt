@@ -1,5 +1,5 @@
 use Rattle.std.proofs.Common.{length, arith}
-use Rattle.cmwq_pool.specs.Lineup.{task}
+use Rattle.cmwq_pool.specs.PoolState.{task}
 use Rattle.cmwq_pool.proofs.Worklists.{room_left, IsWorklist-added}
 use Rattle.cmwq_pool.proofs.pool.Pool.add.Goals as goal
 

@@ -7,7 +7,7 @@ use Rattle.cmwq_pool.proofs.pool.Pool.new.Goals as goal
 
 pub invariant_of-result : goal.invariant_of-result
 invariant_of-result c =
-    rw (c.in_ok-listed.ensures.items, c.in_ok-seats.ensures, c.in_ok-running.ensures)
+    rw (c.in_ok-listed.ensures.items, c.in_ok-slots.ensures, c.in_ok-running.ensures)
     (record {
       room = rw length-replicate (omega (arith, c.in_ok-listed.ensures.exact));
       worklist = IsWorklist-new _;

@@ -1,4 +1,4 @@
-use Rattle.cmwq_pool.specs.Lineup.{is_not}
+use Rattle.cmwq_pool.specs.PoolState.{is_not}
 use Rattle.cmwq_pool.proofs.Worklists.{IsWorklist-filter}
 use Rattle.cmwq_pool.proofs.pool.Pool.remove.Goals as goal
 

@@ -1,5 +1,5 @@
 use Rattle.std.proofs.Common.{ap, ◌∙◌, subst, suc}
-use Rattle.cmwq_desk.specs.Seats.{is_caller}
+use Rattle.cmwq_monitor.specs.Participants.{is_caller}
 use Rattle.cmwq_rt.specs.Running.{IsNext}
 use Rattle.cmwq_rt.proofs.Later.{later_trans}
 use Rattle.cmwq_rt.proofs.hub.Hub.run_all.Goals as goal
@@ -8,10 +8,10 @@ pub loop-preserved : goal.loop-preserved
 loop-preserved g c =
     let s = g.N.HubName.layout in
     let inv = c.loop.invariant in
-    let v = c.args.seat.now in
-    let started = c.loop.seat in
-    let ran = c.run_in.new.seat in
-    let w = c.go_on.new.seat in
+    let v = c.args.participant.now in
+    let started = c.loop.participant in
+    let ran = c.run_in.new.participant in
+    let w = c.go_on.new.participant in
     let later = later_trans started ran w c.run_in.ensures.later c.go_on.ensures.later in
     let (n, before, runs, next) = inv.4 in
     let starts = subst (λ o. IsNext s before o started) c.in-Some-next.is next in

@@ -1,5 +1,5 @@
 use Rattle.std.proofs.Common.{◌≡◌, ℕ, false}
-use Rattle.cmwq_desk.specs.Seats.{Seated, is_caller}
+use Rattle.cmwq_monitor.specs.Participants.{View, is_caller}
 use Rattle.cmwq_rt.specs.Later.{Later}
 use Rattle.cmwq_rt.specs.Running.{RunsInTurn, IsNext}
 use Rattle.cmwq_rt.proofs.hub.Hub.run_all.Given as goal
@@ -7,5 +7,5 @@ use Rattle.cmwq_rt.proofs.hub.Hub.run_all.Given as goal
 abbrev pub invariant-loop : goal.invariant-loop
 invariant-loop g l =
     let s = g.N.HubName.layout in
-    (goal.iterator-loop g).can_next l.iterator' × (goal.iterator-loop g).is_finite l.iterator' × Later l.fn.seat l.seat × (is_caller l.seat.who ≡ false)
-    × ((n : ℕ) × (ended : Seated) × RunsInTurn s (g.W.Work.does l.fn.work s) n l.fn.seat ended × IsNext s ended l.next l.seat)
+    (goal.iterator-loop g).can_next l.iterator' × (goal.iterator-loop g).is_finite l.iterator' × Later l.fn.participant l.participant × (is_caller l.participant.who ≡ false)
+    × ((n : ℕ) × (ended : View) × RunsInTurn s (g.W.Work.does l.fn.work s) n l.fn.participant ended × IsNext s ended l.next l.participant)

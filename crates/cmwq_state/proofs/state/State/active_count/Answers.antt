@@ -1,20 +1,20 @@
 use Rattle.std.proofs.Common.{◌∙◌, ap, arith, length}
 use Rattle.cmwq_model.specs.Layout.{layout_of}
 use Rattle.cmwq_model.specs.Legal.{past_of}
-use Rattle.cmwq_flight.specs.Flights.{open_count}
-use Rattle.cmwq_ties.proofs.FlightReads.{open_are_in_flight}
+use Rattle.cmwq_inflight.specs.Flights.{open_count}
+use Rattle.cmwq_refinement.proofs.FlightReads.{open_are_in_flight}
 use Rattle.cmwq_state.proofs.Counting.{active_rest}
 use Rattle.cmwq_state.proofs.state.State.active_count.Goals as goal
 
 pub overflow_cast-result : goal.overflow_cast-result
 overflow_cast-result c = let b = c.self.inside in
-    let few = (active_rest (layout_of b.counts b.queues.items) (past_of b.entries) c.open_count.result c.len.result (c.open_count.ensures ∙ (ap open_count c.self.invariant.parts_are.flights ∙ open_are_in_flight (layout_of b.counts b.queues.items) (past_of b.entries) c.self.invariant.legal)) (c.len.ensures ∙ ap length c.self.invariant.parts_are.line.waiting)).0 in
+    let few = (active_rest (layout_of b.counts b.queues.items) (past_of b.entries) c.open_count.result c.len.result (c.open_count.ensures ∙ (ap open_count c.self.invariant.parts_are.flights ∙ open_are_in_flight (layout_of b.counts b.queues.items) (past_of b.entries) c.self.invariant.legal)) (c.len.ensures ∙ ap length c.self.invariant.parts_are.pwqs.waiting)).0 in
     omega arith
 
 pub overflow_sub-result : goal.overflow_sub-result
 overflow_sub-result c = let b = c.self.inside in
-    (active_rest (layout_of b.counts b.queues.items) (past_of b.entries) c.open_count.result c.len.result (c.open_count.ensures ∙ (ap open_count c.self.invariant.parts_are.flights ∙ open_are_in_flight (layout_of b.counts b.queues.items) (past_of b.entries) c.self.invariant.legal)) (c.len.ensures ∙ ap length c.self.invariant.parts_are.line.waiting)).0
+    (active_rest (layout_of b.counts b.queues.items) (past_of b.entries) c.open_count.result c.len.result (c.open_count.ensures ∙ (ap open_count c.self.invariant.parts_are.flights ∙ open_are_in_flight (layout_of b.counts b.queues.items) (past_of b.entries) c.self.invariant.legal)) (c.len.ensures ∙ ap length c.self.invariant.parts_are.pwqs.waiting)).0
 
 pub returns : goal.returns
 returns c = let b = c.self.inside in
-    rw (← c.self.view_is) (active_rest (layout_of b.counts b.queues.items) (past_of b.entries) c.open_count.result c.len.result (c.open_count.ensures ∙ (ap open_count c.self.invariant.parts_are.flights ∙ open_are_in_flight (layout_of b.counts b.queues.items) (past_of b.entries) c.self.invariant.legal)) (c.len.ensures ∙ ap length c.self.invariant.parts_are.line.waiting)).1
+    rw (← c.self.view_is) (active_rest (layout_of b.counts b.queues.items) (past_of b.entries) c.open_count.result c.len.result (c.open_count.ensures ∙ (ap open_count c.self.invariant.parts_are.flights ∙ open_are_in_flight (layout_of b.counts b.queues.items) (past_of b.entries) c.self.invariant.legal)) (c.len.ensures ∙ ap length c.self.invariant.parts_are.pwqs.waiting)).1

@@ -5,12 +5,12 @@ use Rattle.cmwq_model.specs.Calls.{ticks_told}
 use Rattle.cmwq_model.specs.Legal.{past_of}
 use Rattle.std.proofs.Common.{ap₂}
 use Rattle.std.proofs.Math.ListN.{set}
-use Rattle.cmwq_line.specs.Line.{width_by}
-use Rattle.cmwq_ties.specs.BarrierBooks as barriers
+use Rattle.cmwq_pwq.specs.Pwqs.{width_by}
+use Rattle.cmwq_refinement.specs.BarrierBooks as barriers
 use Rattle.cmwq_state.specs.Tables.{ListAll}
-use Rattle.cmwq_state.proofs.Follow.{who_below}
+use Rattle.cmwq_state.proofs.Refine.{who_below}
 use Rattle.cmwq_state.proofs.Steps.{small, may_tell, serial_most}
-use Rattle.cmwq_state.proofs.Told.{may_cancel, may_end_books, may_open_books, may_end_barriers, may_open_barriers, may_set_timers, may_be_done, may_begin, may_be_done_barriers, may_begin_barriers, may_end_line, line_ready, may_tell_width, PassMade, pass_made, promoted_newly, may_pass, may_be_behind, may_have_run, may_be_placed, may_be_listed, may_list_all, may_end_flights, may_start_flights, may_open_flights, may_end_tickets, may_give_tickets, may_lose_queue}
+use Rattle.cmwq_state.proofs.Told.{may_cancel, may_end_books, may_open_books, may_end_barriers, may_open_barriers, may_set_timers, may_be_done, may_begin, may_be_done_barriers, may_begin_barriers, may_end_in_pwqs, pwqs_ready, may_tell_width, PassMade, pass_made, activated_newly, may_pass, may_be_behind, may_have_run, may_be_placed, may_be_listed, may_list_all, may_end_flights, may_start_flights, may_open_flights, may_end_tickets, may_give_tickets, may_lose_queue}
 use Rattle.cmwq_state.proofs.Appended.{effect_there, effect_serial, told_book}
 use Rattle.cmwq_state.proofs.state.State.append.Goals as goal
 
@@ -32,65 +32,65 @@ tell_width-requires c =
     let s = layout_of b.counts b.queues.items in let past = past_of b.entries in
     may_tell_width s past c.args.effect b.most.items r.is c.self.invariant.parts_are.widths.many
 
-pub tell_line-requires-clause-ended : goal.tell_line-requires-clause-ended
-tell_line-requires-clause-ended c =
+pub tell_pwqs-requires-clause-ended : goal.tell_pwqs-requires-clause-ended
+tell_pwqs-requires-clause-ended c =
     let r = rw (← c.self.view_is) at c.requires in let b = c.self.inside in
     let s = layout_of b.counts b.queues.items in let past = past_of b.entries in
-    may_end_line s past c.args.effect b.line r.is (small s c.self.invariant.inside) c.self.invariant.legal c.self.invariant.parts_are.line
+    may_end_in_pwqs s past c.args.effect b.pwqs r.is (small s c.self.invariant.inside) c.self.invariant.legal c.self.invariant.parts_are.pwqs
 
-pub tell_line-requires-clause-opened : goal.tell_line-requires-clause-opened
-tell_line-requires-clause-opened c =
+pub tell_pwqs-requires-clause-opened : goal.tell_pwqs-requires-clause-opened
+tell_pwqs-requires-clause-opened c =
     let r = rw (← c.self.view_is) at c.requires in let b = c.self.inside in
     let s = layout_of b.counts b.queues.items in let past = past_of b.entries in
-    (line_ready s past c.args.effect b.line r.is (small s c.self.invariant.inside) c.self.invariant.legal c.self.invariant.parts_are.line).1
+    (pwqs_ready s past c.args.effect b.pwqs r.is (small s c.self.invariant.inside) c.self.invariant.legal c.self.invariant.parts_are.pwqs).1
 
-pub tell_line-requires-clause-most : goal.tell_line-requires-clause-most
-tell_line-requires-clause-most c =
+pub tell_pwqs-requires-clause-most : goal.tell_pwqs-requires-clause-most
+tell_pwqs-requires-clause-most c =
     let r = rw (← c.self.view_is) at c.requires in let b = c.self.inside in
     let s = layout_of b.counts b.queues.items in let past = past_of b.entries in
     rw (c.deref-2.ensures.value, c.deref-3.ensures.value) (c.tell_width.ensures.many ∙ c.self.invariant.parts_are.widths.many)
 
-pub tell_line-requires-clause-counts : goal.tell_line-requires-clause-counts
-tell_line-requires-clause-counts c =
+pub tell_pwqs-requires-clause-counts : goal.tell_pwqs-requires-clause-counts
+tell_pwqs-requires-clause-counts c =
     let r = rw (← c.self.view_is) at c.requires in let b = c.self.inside in
     let s = layout_of b.counts b.queues.items in let past = past_of b.entries in
-    rw c.deref-2.ensures.value c.self.invariant.parts_are.line.many
+    rw c.deref-2.ensures.value c.self.invariant.parts_are.pwqs.many
 
-pub tell_line-requires-clause-ended_placed : goal.tell_line-requires-clause-ended_placed
-tell_line-requires-clause-ended_placed c =
+pub tell_pwqs-requires-clause-ended_placed : goal.tell_pwqs-requires-clause-ended_placed
+tell_pwqs-requires-clause-ended_placed c =
     let r = rw (← c.self.view_is) at c.requires in let b = c.self.inside in
     let s = layout_of b.counts b.queues.items in let past = past_of b.entries in
     (may_be_placed s past c.args.effect c.deref-2.result.now r.is (small s c.self.invariant.inside) c.self.invariant.legal c.deref-2.ensures.value).0
 
-pub tell_line-requires-clause-opened_placed : goal.tell_line-requires-clause-opened_placed
-tell_line-requires-clause-opened_placed c =
+pub tell_pwqs-requires-clause-opened_placed : goal.tell_pwqs-requires-clause-opened_placed
+tell_pwqs-requires-clause-opened_placed c =
     let r = rw (← c.self.view_is) at c.requires in let b = c.self.inside in
     let s = layout_of b.counts b.queues.items in let past = past_of b.entries in
     (may_be_placed s past c.args.effect c.deref-2.result.now r.is (small s c.self.invariant.inside) c.self.invariant.legal c.deref-2.ensures.value).1
 
-pub tell_line-requires-clause-ran : goal.tell_line-requires-clause-ran
-tell_line-requires-clause-ran c =
+pub tell_pwqs-requires-clause-ran : goal.tell_pwqs-requires-clause-ran
+tell_pwqs-requires-clause-ran c =
     let r = rw (← c.self.view_is) at c.requires in let b = c.self.inside in
     let s = layout_of b.counts b.queues.items in let past = past_of b.entries in
-    may_have_run s past c.args.effect b.line r.is c.self.invariant.legal c.self.invariant.parts_are.line
+    may_have_run s past c.args.effect b.pwqs r.is c.self.invariant.legal c.self.invariant.parts_are.pwqs
 
-pub tell_line-requires-clause-behind : goal.tell_line-requires-clause-behind
-tell_line-requires-clause-behind c =
+pub tell_pwqs-requires-clause-behind : goal.tell_pwqs-requires-clause-behind
+tell_pwqs-requires-clause-behind c =
     let r = rw (← c.self.view_is) at c.requires in let b = c.self.inside in
     let s = layout_of b.counts b.queues.items in let past = past_of b.entries in
-    may_be_behind s past c.args.effect b.line b.most.items c.tell_width.new.most.items b.frozen c.frozen_after-self-inside.result c.deref-2.result.now c.deref-3.result.now (small s c.self.invariant.inside) c.self.invariant.legal c.self.invariant.parts_are.line c.self.invariant.parts_are.widths c.deref-2.ensures.value c.deref-3.ensures.value c.tell_width.ensures c.frozen_after-self-inside.ensures
+    may_be_behind s past c.args.effect b.pwqs b.most.items c.tell_width.new.most.items b.frozen c.frozen_after-self-inside.result c.deref-2.result.now c.deref-3.result.now (small s c.self.invariant.inside) c.self.invariant.legal c.self.invariant.parts_are.pwqs c.self.invariant.parts_are.widths c.deref-2.ensures.value c.deref-3.ensures.value c.tell_width.ensures c.frozen_after-self-inside.ensures
 
-pub tell_line-requires-clause-placed : goal.tell_line-requires-clause-placed
-tell_line-requires-clause-placed c =
+pub tell_pwqs-requires-clause-placed : goal.tell_pwqs-requires-clause-placed
+tell_pwqs-requires-clause-placed c =
     let r = rw (← c.self.view_is) at c.requires in let b = c.self.inside in
     let s = layout_of b.counts b.queues.items in let past = past_of b.entries in
-    may_pass s past c.args.effect b.line c.deref-2.result.now r.is (small s c.self.invariant.inside) c.self.invariant.legal c.self.invariant.parts_are.line c.deref-2.ensures.value
+    may_pass s past c.args.effect b.pwqs c.deref-2.result.now r.is (small s c.self.invariant.inside) c.self.invariant.legal c.self.invariant.parts_are.pwqs c.deref-2.ensures.value
 
 pub list_active-requires-clause-there : goal.list_active-requires-clause-there
 list_active-requires-clause-there c =
     let r = rw (← c.self.view_is) at c.requires in let b = c.self.inside in
     let s = layout_of b.counts b.queues.items in let past = past_of b.entries in let are = c.self.invariant.parts_are in
-    let made : PassMade s past c.args.effect b.line b.most.items c.tell_width.new.most.items b.frozen c.frozen_after-self-inside.result c.tell_line.new.line =
+    let made : PassMade s past c.args.effect b.pwqs b.most.items c.tell_width.new.most.items b.frozen c.frozen_after-self-inside.result c.tell_pwqs.new.pwqs =
     record {
       queues = c.deref-2.result.now;
       widths = c.deref-3.result.now;
@@ -98,17 +98,17 @@ list_active-requires-clause-there c =
       widths_are_most = c.deref-3.ensures.value;
       width = c.tell_width.ensures;
       frozen_is = c.frozen_after-self-inside.ensures;
-      passed = c.tell_line.ensures;
+      passed = c.tell_pwqs.ensures;
     } in
-    let newly = c.promoted.ensures ∙ promoted_newly s past c.args.effect b.line b.most.items c.tell_width.new.most.items b.frozen c.frozen_after-self-inside.result c.tell_line.new.line r.is (small s c.self.invariant.inside) c.self.invariant.legal are.line are.widths made in
+    let newly = c.activated.ensures ∙ activated_newly s past c.args.effect b.pwqs b.most.items c.tell_width.new.most.items b.frozen c.frozen_after-self-inside.result c.tell_pwqs.new.pwqs r.is (small s c.self.invariant.inside) c.self.invariant.legal are.pwqs are.widths made in
     let told = c.tell_cancelled.ensures s c.args.effect.entry (sym c.deref.ensures.value) refl in
-    rw c.deref-4.ensures.value (may_be_listed s past c.args.effect c.tell_cancelled.new.pools.items c.promoted.result.now r.is (told.many ∙ (c.tell_worker.ensures.many ∙ are.pools.many)) newly)
+    rw c.deref-4.ensures.value (may_be_listed s past c.args.effect c.tell_cancelled.new.pools.items c.activated.result.now r.is (told.many ∙ (c.tell_worker.ensures.many ∙ are.pools.many)) newly)
 
 pub list_active-requires-clause-may : goal.list_active-requires-clause-may
 list_active-requires-clause-may c =
     let r = rw (← c.self.view_is) at c.requires in let b = c.self.inside in
     let s = layout_of b.counts b.queues.items in let past = past_of b.entries in let are = c.self.invariant.parts_are in
-    let made : PassMade s past c.args.effect b.line b.most.items c.tell_width.new.most.items b.frozen c.frozen_after-self-inside.result c.tell_line.new.line =
+    let made : PassMade s past c.args.effect b.pwqs b.most.items c.tell_width.new.most.items b.frozen c.frozen_after-self-inside.result c.tell_pwqs.new.pwqs =
     record {
       queues = c.deref-2.result.now;
       widths = c.deref-3.result.now;
@@ -116,11 +116,11 @@ list_active-requires-clause-may c =
       widths_are_most = c.deref-3.ensures.value;
       width = c.tell_width.ensures;
       frozen_is = c.frozen_after-self-inside.ensures;
-      passed = c.tell_line.ensures;
+      passed = c.tell_pwqs.ensures;
     } in
-    let newly = c.promoted.ensures ∙ promoted_newly s past c.args.effect b.line b.most.items c.tell_width.new.most.items b.frozen c.frozen_after-self-inside.result c.tell_line.new.line r.is (small s c.self.invariant.inside) c.self.invariant.legal are.line are.widths made in
+    let newly = c.activated.ensures ∙ activated_newly s past c.args.effect b.pwqs b.most.items c.tell_width.new.most.items b.frozen c.frozen_after-self-inside.result c.tell_pwqs.new.pwqs r.is (small s c.self.invariant.inside) c.self.invariant.legal are.pwqs are.widths made in
     let told = c.tell_cancelled.ensures s c.args.effect.entry (sym c.deref.ensures.value) refl in
-    rw c.deref-4.ensures.value (may_list_all s past c.args.effect b.pools.items c.tell_worker.new.pools.items c.tell_cancelled.new.pools.items c.promoted.result.now r.is are.pools c.tell_worker.ensures told newly)
+    rw c.deref-4.ensures.value (may_list_all s past c.args.effect b.pools.items c.tell_worker.new.pools.items c.tell_cancelled.new.pools.items c.activated.result.now r.is are.pools c.tell_worker.ensures told newly)
 
 pub tell_ended-requires : goal.tell_ended-requires
 tell_ended-requires c =
@@ -223,7 +223,7 @@ invariant_of-self c =
     let r = rw (← c.self.view_is) at c.requires in let b = c.self.inside in
     let s = layout_of b.counts b.queues.items in let past = past_of b.entries in let e = c.args.effect.entry in let are = c.self.invariant.parts_are in
     let ticks : c.from.result ≡ ticks_told e.call = c.from.ensures ∙ c.ticks_of.ensures.ticks in
-    let made : PassMade s past c.args.effect b.line b.most.items c.tell_width.new.most.items b.frozen c.frozen_after-self-inside.result c.tell_line.new.line =
+    let made : PassMade s past c.args.effect b.pwqs b.most.items c.tell_width.new.most.items b.frozen c.frozen_after-self-inside.result c.tell_pwqs.new.pwqs =
     record {
       queues = c.deref-2.result.now;
       widths = c.deref-3.result.now;
@@ -231,9 +231,9 @@ invariant_of-self c =
       widths_are_most = c.deref-3.ensures.value;
       width = c.tell_width.ensures;
       frozen_is = c.frozen_after-self-inside.ensures;
-      passed = c.tell_line.ensures;
+      passed = c.tell_pwqs.ensures;
     } in
-    let listed : ListAll s.queues c.tell_line.new.line.promoted c.tell_cancelled.new.pools.items c.list_active.new.pools.items = rw (c.deref-4.ensures.value, c.promoted.ensures) at c.list_active.ensures in
+    let listed : ListAll s.queues c.tell_pwqs.new.pwqs.activated c.tell_cancelled.new.pools.items c.list_active.new.pools.items = rw (c.deref-4.ensures.value, c.activated.ensures) at c.list_active.ensures in
     rw c.push.ensures
     (told_book s b.room b.entries _ _ c.args.effect c.self.invariant r.is (record {
       pools_mid = c.tell_worker.new.pools.items;
@@ -241,7 +241,7 @@ invariant_of-self c =
       books_mid = c.tell_ended.new.books.items;
       books_late = c.tell_opened.new.books.items;
       books_end = c.tell_done.new.books.items;
-      line_wide = width_by s.queues c.tell_width.new.most.items c.frozen_after-self-inside.result;
+      pwqs_wide = width_by s.queues c.tell_width.new.most.items c.frozen_after-self-inside.result;
       worker = c.tell_worker.ensures;
       cancelled = c.tell_cancelled.ensures s e (sym c.deref.ensures.value) refl;
       listed = listed;
@@ -256,7 +256,7 @@ invariant_of-self c =
       flights = c.tell_flights.ensures;
       tickets = c.tell_tickets.ensures;
       gone = c.tell_gone.ensures;
-      line = pass_made s past c.args.effect b.line b.most.items c.tell_width.new.most.items b.frozen c.frozen_after-self-inside.result c.tell_line.new.line are.widths made;
+      pwqs = pass_made s past c.args.effect b.pwqs b.most.items c.tell_width.new.most.items b.frozen c.frozen_after-self-inside.result c.tell_pwqs.new.pwqs are.widths made;
       widths = c.tell_width.ensures;
       frozen = c.frozen_after-self-inside.ensures;
       owing = refl;

@@ -2,7 +2,7 @@ use Rattle.std.proofs.Common.{◌∙◌, ap}
 use Rattle.cmwq_model.specs.Layout.{layout_of}
 use Rattle.cmwq_model.specs.Legal.{past_of}
 use Rattle.cmwq_ticket.specs.Rows.{Rows, is_crowded}
-use Rattle.cmwq_ties.proofs.TicketsFollow.{crowded_alike, rows_for_callers}
+use Rattle.cmwq_refinement.proofs.TicketsRefine.{crowded_alike, rows_for_callers}
 use Rattle.cmwq_state.proofs.Readings.{not_crowded}
 use Rattle.cmwq_state.proofs.state.State.is_crowded.Goals as goal
 

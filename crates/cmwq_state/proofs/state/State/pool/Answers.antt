@@ -1,6 +1,6 @@
 use Rattle.cmwq_model.specs.Layout.{layout_of}
 use Rattle.cmwq_model.specs.Legal.{past_of}
-use Rattle.cmwq_state.proofs.Follow.{pool_found}
+use Rattle.cmwq_state.proofs.Refine.{pool_found}
 use Rattle.cmwq_state.proofs.state.State.pool.Goals as goal
 
 pub returns-clause-is : goal.returns-clause-is

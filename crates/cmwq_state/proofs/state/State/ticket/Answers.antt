@@ -2,7 +2,7 @@ use Rattle.std.proofs.Common.{◌∙◌, ap}
 use Rattle.cmwq_model.specs.Layout.{layout_of}
 use Rattle.cmwq_model.specs.Legal.{past_of}
 use Rattle.cmwq_ticket.specs.Rows.{Rows, any_ticket}
-use Rattle.cmwq_ties.proofs.TicketsFollow.{tickets_of_any_caller}
+use Rattle.cmwq_refinement.proofs.TicketsRefine.{tickets_of_any_caller}
 use Rattle.cmwq_state.proofs.state.State.ticket.Goals as goal
 
 pub returns-clause-is : goal.returns-clause-is

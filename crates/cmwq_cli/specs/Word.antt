@@ -1,0 +1,59 @@
+-- The command line: which words there are, and which one clap's matches hold.
+use Rattle.std.specs.Prelude.{ℕ, Bool, true, false, List, [], map, Option, Some, None, option_and_then, codes, if◌then◌else◌}
+use Rattle.std.specs.Option.{option_map_or}
+use Rattle.std.specs.Str.{bytes_eq}
+use Rattle.std.specs.Borrow.{Bor}
+use Rattle.clap.specs.Words.{App, Text, Row, Rule, new_app, new_rule, with_rule, with_subcommand, Shape, subcommand_of, one_of, takes}
+use Rattle.clap.specs.declared.builder.action.ArgAction.TheVariants.{SetTrue}
+use Rattle.cmwq_cli.specs.declared.word.Word.{Word}
+use Rattle.cmwq_cli.specs.declared.word.Word.TheVariants as word
+
+-- the matches of a word have the flag of this name
+abbrev pub has_flag : List ℕ → List Row → Bool
+has_flag name rows = option_map_or (λ value. bytes_eq value (codes "true")) (one_of name rows) false
+
+-- the word with this name and these matches
+abbrev pub word_found : Text × List Row → Option Word
+word_found found =
+    if bytes_eq found.0 (codes "step") then Some (word.Step (has_flag (codes "live") found.1))
+    else if bytes_eq found.0 (codes "check") then Some (word.Check (has_flag (codes "front") found.1))
+    else if bytes_eq found.0 (codes "upgrade") then Some word.Upgrade
+    else if bytes_eq found.0 (codes "replay") then Some word.Replay
+    else if bytes_eq found.0 (codes "run") then Some word.Run
+    else None
+
+-- what clap reads of the program's command line: a word is a subcommand, and there is one
+abbrev pub program : Shape
+program = record (new_app (codes "cmwq")).top { has_version = true; subcommand_required = true }
+
+abbrev pub without_words : App
+without_words = record { top = program; subs = [] }
+
+abbrev pub with_word : App → List ℕ → App
+with_word a name = with_subcommand a (new_app name).top
+
+-- a word with a flag: two dashes and its name
+abbrev pub flag : List ℕ → Rule
+flag name = record (new_rule name) { long = Some name; action = Some SetTrue }
+
+abbrev pub with_flagged : App → List ℕ → List ℕ → App
+with_flagged a name flag_name = with_subcommand a (with_rule (new_app name) (flag flag_name)).top
+
+-- the words whose inputs are lines, of which `step` has `--live` and `check` has `--front`, and then those whose inputs are JSON
+abbrev pub with_lines : App
+with_lines = with_word (with_flagged (with_flagged without_words (codes "step") (codes "live")) (codes "check") (codes "front")) (codes "upgrade")
+
+abbrev pub app : App
+app = with_word (with_word with_lines (codes "replay")) (codes "run")
+
+-- the words as texts
+abbrev pub texts : List (Bor Text) → List Text
+texts words = map (λ s. s.now) words
+
+-- clap takes the command line: its parse fails only for want of memory
+unfoldable pub is_taken : List Text → Bool
+is_taken words = takes app words
+
+-- the word that clap's matches of a command line hold
+unfoldable pub word_matched : List Text → Option Word
+word_matched words = option_and_then word_found (subcommand_of app words)

@@ -1,0 +1,260 @@
+ghost use Rattle.std.specs.Prelude.{◌≡◌, true, false, IfOk, IfErr, IsSome, Some, map};
+ghost use Rattle.clap.specs.Words.{kind_of, app_of, found_of, rows_of, with_subcommand};
+ghost use Rattle.cmwq_cli.specs.Word.{without_words, with_word, with_flagged, with_lines, app, has_flag, word_found, texts, is_taken, word_matched};
+
+use clap::error::ErrorKind;
+use clap::{Arg, ArgAction, ArgMatches, Command, Error};
+use std::alloc::{AllocError, Global};
+
+/// What the program is asked to do.
+#[derive(Clone, Copy, Debug, PartialEq, Eq)]
+pub enum Word {
+    /// Answers call lines with their history.
+    Step {
+        /// Whether each call is answered before the next line is read.
+        live: bool,
+    },
+    /// Judges a history, or the front of one whose writing was cut off.
+    Check {
+        /// Whether it is judged by the whole lines that are there.
+        front: bool,
+    },
+    /// Writes a legal history in the newest format.
+    Upgrade,
+    /// Writes the table of a scenario.
+    Replay,
+    /// Runs a script on threads and writes its history.
+    Run,
+}
+
+/// What the help of `step` shows below its usage.
+const CALLS_HELP: &str =
+    r"The input is a line for the shape, one for each queue, and then calls, each with who makes it:
+
+  shape 1 2 1 3 100
+  wq 1 -
+  c0 queue 0 0 0
+  w0n0 take
+  w0n0 finish
+
+A shape is the numbers of CPUs, of workers in each pool, of callers and of items, and the room in entries. A queue is its
+max_active and its flags: `-`, or some of h (high priority), i (CPU intensive) and f (freezable). Callers are c0, c1, ..;
+w0n1 is worker 1 of CPU 0's normal pool, and w0h1 that of its pool of high priority. Calls of callers and of workers:
+
+  queue <item> <queue> <cpu>         delay <item> <queue> <cpu> <ticks>     modify <item> <queue> <cpu> <ticks>
+  cancel <item>
+Calls of callers alone:
+  tick <n>               fire                   flush <queue>          flush_item <item>      flush_delayed <item>
+  cancel_sync <item>     drain <queue>          destroy <queue>        end <ticket>
+  set_max <queue> <n>    freeze                 thaw
+Calls of workers alone:
+  take                   finish                 sleep                  wake                   retire
+
+With a first line `calls 3` the limits are those of histories of format 3, in which the answer is then.";
+
+/// What the help of `check` shows below its usage.
+const HISTORY_HELP: &str =
+    r"A history is what `step` and `run` write: a line for its format, the shape, the queues, and a line for each entry, who made
+it, its serial, the call and the reply:
+
+  history 2
+  shape 1 2 1 3 100
+  wq 1 -
+  c0 0 queue 0 0 0 = yes 0
+  w0n0 0 take = started 0 enlist 1
+  w0n0 1 finish = finished 0
+
+gives `legal 3`. One of format 3 begins with `history 3`, ends with `end 3` for three entries, and has greater limits; one without
+a first line is of format 1.";
+
+/// What the help of `upgrade` shows below its usage.
+const FORMER_HELP: &str = r"A history of format 1 has no line for its format:
+
+  shape 1 2 1 3 100
+  wq 1 -
+  c0 0 queue 0 0 0 = yes 0
+
+is written with the line `history 2` before it; one of format 2 or 3 as it is. Of an illegal history nothing is
+written, and the verdict goes to standard error.";
+
+/// What the help of `replay` shows below its usage.
+const SCENARIO_HELP: &str =
+    r#"A scenario says which items are queued at 0 ms on one CPU, in this order, and of each how long it burns CPU,
+sleeps, burns CPU, .. in turn:
+
+  {"queues":[{"name":"q0","max_active":2,"intensive":false}],
+   "items":[{"name":"w0","queue":"q0","ms":[5,10,5]},
+            {"name":"w1","queue":"q0","ms":[5,10]}]}
+
+There are 1 to 8 queues and up to 8 items. A name has 1 to 16 letters, digits and _; no two queues share one, and no
+two items. max_active is how many items of a queue may have begun and not ended at a time: 0 stands for 256, and more
+than 512 for 512. While an item of a queue that isn't CPU intensive burns or waits for the CPU, no other item starts.
+An item has 1 to 8 parts of 1 to 1000 ms."#;
+
+/// What the help of `run` shows below its usage.
+const SCRIPT_HELP: &str =
+    r#"A script says what each item does when it runs, and what each caller calls, one after the other, in a thread of its own:
+
+  {"cpus":1,"workers":2,"room":100,
+   "queues":[{"name":"q0","max_active":2,"high":false,"intensive":false}],
+   "items":[{"name":"A","does":[["sleep_at","g"]]},
+            {"name":"B","does":[["open","g"]]}],
+   "callers":[[["queue","A","q0",0],["queue","B","q0",0],["flush","q0"]]]}
+
+There are 1 to 4 CPUs, 1 to 8 workers in each of their two pools, room for up to 1,000,000 entries, 1 to 64 queues, 1 to
+256 items of up to 64 actions, and 1 to 64 callers of up to 1,000 calls. Names are as in `replay`; a queue may say
+"freezable":true. Calls:
+
+  ["queue",item,queue,cpu]           ["cancel",item]          ["flush",queue]          ["set_max",queue,n]
+  ["delay",item,queue,cpu,ticks]     ["cancel_sync",item]     ["flush_item",item]      ["freeze"]
+  ["modify",item,queue,cpu,ticks]    ["tick",n]               ["flush_delayed",item]   ["thaw"]
+                                     ["drain",queue]          ["destroy",queue]
+
+An action is queue, delay, modify or cancel, or ["open",gate], or ["sleep_at",gate]: the run sleeps until the gate is open.
+There are at most 16 gates, and a name makes one. The output is the history of this one run, which `check` accepts.
+
+With "format":3 beside "room" it is of format 3, and room may be up to 4,611,686,018,427,387,904. With "journal":64 it is
+written as it is made too, and so many entries are kept at a time."#;
+
+/// Whether the matches of a word have the flag of this name.
+fn has_flag(matches: &ArgMatches, name: &str) -> bool
+    ensures { result ≡ has_flag name.now (rows_of (found_of matches.now)) }
+{
+    matches.get_one::<bool>(name).unwrap_or(false)
+}
+
+/// The word with this name and these matches.
+fn word_found(name: &str, matches: &ArgMatches) -> Option<Word>
+    ensures { result ≡ word_found (name.now, rows_of (found_of matches.now)) }
+{
+    match name {
+        "step" => Some(Word::Step {
+            live: has_flag(matches, "live"),
+        }),
+        "check" => Some(Word::Check {
+            front: has_flag(matches, "front"),
+        }),
+        "upgrade" => Some(Word::Upgrade),
+        "replay" => Some(Word::Replay),
+        "run" => Some(Word::Run),
+        _ => None,
+    }
+}
+
+/// The program, before it has its words.
+fn program<'a>(alloc: Global) -> Command<'a>
+    ensures { app_of result ≡ without_words }
+{
+    Command::new(alloc, "cmwq")
+        .version("0.1.0")
+        .about("A concurrency managed workqueue runtime")
+        .subcommand_required(true)
+}
+
+/// The program with one word more: its name, what it does, and what its help shows below its usage.
+fn with_word<'a>(
+    alloc: Global,
+    program: Command<'a>,
+    name: &'a str,
+    about: &'a str,
+    help: &'a str,
+) -> Result<Command<'a>, AllocError>
+    ensures { IfOk result (λ c. app_of c ≡ with_word (app_of program.entry) name.entry.now) }
+{
+    program.subcommand(Command::new(alloc, name).about(about).after_help(help))
+}
+
+/// A flag of a word, and what its help says of it.
+#[derive(Drop)]
+struct Flag<'a> {
+    name: &'a str,
+    help: &'a str,
+}
+
+/// The same of a word with a flag.
+fn with_flagged<'a>(
+    alloc: Global,
+    program: Command<'a>,
+    name: &'a str,
+    about: &'a str,
+    help: &'a str,
+    flag: Flag<'a>,
+) -> Result<Command<'a>, AllocError>
+    ensures { IfOk result (λ c. app_of c ≡ with_flagged (app_of program.entry) name.entry.now flag.entry.name.now) }
+{
+    let rule = Arg::new(alloc, flag.name)
+        .long(flag.name)
+        .action(ArgAction::SetTrue)
+        .help(flag.help);
+    let word = Command::new(alloc, name)
+        .about(about)
+        .after_help(help)
+        .arg(rule)?;
+    program.subcommand(word)
+}
+
+/// The program with the words whose inputs are lines.
+fn with_lines<'a>(alloc: Global) -> Result<Command<'a>, AllocError>
+    ensures { IfOk result (λ c. app_of c ≡ with_lines) }
+{
+    let about = "Reads call lines from standard input and writes the history of their answers";
+    let live = Flag {
+        name: "live",
+        help: "Writes the entry of each call before it reads the next line, and ends at the first call without room",
+    };
+    let command = with_flagged(alloc, program(alloc), "step", about, CALLS_HELP, live)?;
+    let about =
+        "Reads a history from standard input and writes whether it is legal, or its first wrong entry";
+    let front = Flag {
+        name: "front",
+        help: "Judges the whole lines that are there: a rest without a line feed is left out, and `end` may be missing; statuses are as without it",
+    };
+    let command = with_flagged(alloc, command, "check", about, HISTORY_HELP, front)?;
+    let about =
+        "Reads a history from standard input and writes it, if it is legal: one of format 1 in format 2, and others as they are";
+    with_word(alloc, command, "upgrade", about, FORMER_HELP)
+}
+
+/// The program's command line, as `--help` shows it.
+fn command<'a>(alloc: Global) -> Result<Command<'a>, AllocError>
+    ensures { IfOk result (λ c. app_of c ≡ app) }
+{
+    let about =
+        "Reads a scenario in JSON from standard input and writes its table of times and events";
+    let command = with_word(alloc, with_lines(alloc)?, "replay", about, SCENARIO_HELP)?;
+    let about =
+        "Reads a script in JSON from standard input, runs it on threads and writes the history of that run";
+    with_word(alloc, command, "run", about, SCRIPT_HELP)
+}
+
+/// The word that clap's matches of the command line hold.
+#[tactic(auto, unfolding(crate::specs::Word::is_taken, crate::specs::Word::word_matched))]
+fn word_in<'a>(alloc: Global, words: &'a [&'a str]) -> Result<Option<Word>, Error>
+    ensures ok { IfOk result (λ word. word ≡ word_matched (texts words.entry.now)) }
+    ensures err { IfErr result (λ e. is_taken (texts words.entry.now) ≡ true → kind_of e ≡ ErrorKind.OutOfMemory) }
+{
+    let matches = command(alloc)?.try_get_matches_from(words)?;
+    match matches.subcommand() {
+        Some((name, found)) => Ok(word_found(name, found)),
+        None => Ok(None),
+    }
+}
+
+/// Reads the command line, whose first word is the program's name. An error is clap's, to be printed as it says:
+/// help and the version that were asked for, a wrong use, or want of memory.
+pub fn word_of<'a>(alloc: Global, words: &'a [&'a str]) -> Result<Word, Error>
+    ensures ok { IfOk result (λ word. word_matched (texts words.entry.now) ≡ Some word) }
+    ensures err { IfErr result (λ e. is_taken (texts words.entry.now) ≡ true
+        → IsSome (word_matched (texts words.entry.now)) → kind_of e ≡ ErrorKind.OutOfMemory) }
+{
+    match word_in(alloc, words)? {
+        Some(word) => Ok(word),
+        None => Err(unknown(alloc)?),
+    }
+}
+
+/// What is told where a parse gives no word, which clap's own checks leave no room for.
+fn unknown(alloc: Global) -> Result<Error, AllocError> {
+    let mut command = command(alloc)?;
+    command.error(ErrorKind::InvalidSubcommand, "no such word")
+}

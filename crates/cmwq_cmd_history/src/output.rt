@@ -1,0 +1,80 @@
+//! Writes histories and verdicts.
+
+ghost use Rattle.std.specs.Prelude.{◌≡◌, ◌≤◌, flat_map, OnOk, OnErr, IfErr};
+ghost use Rattle.std.specs.Io.KnownBytes.{Appends};
+ghost use Rattle.cmwq_io.specs.Counts.{Rises};
+ghost use Rattle.cmwq_io.specs.Moves.{AppendsFront};
+ghost use Rattle.cmwq_text.specs.EntryText.{entry_text};
+ghost use Rattle.cmwq_text.specs.HistoryText.{entries_text, text_of_format};
+ghost use Rattle.cmwq_cmd_history.specs.Check.{verdict_line_text};
+
+use cmwq_base::{
+    Entry, Illegal, Refusal, Shape, Sink, flush_all, write_all, write_end, write_entry, write_shape,
+};
+use cmwq_text::{Line, illegal_line, legal_line};
+
+fn write_entries<W: Sink>(sink: &mut W, entries: &[Entry]) -> Result<(), Refusal>
+    ensures ok { OnOk result (Appends (W.written sink.old) (W.written sink.new) (entries_text entries.now)) }
+    ensures err { OnErr result (AppendsFront (W.written sink.old) (W.written sink.new) (entries_text entries.now)) }
+    ensures only { IfErr result (λ e. e ≡ Refusal.WriteFault) }
+    ensures grown { W.troubles sink.old ≤ W.troubles sink.new }
+    ensures fault { OnErr result (Rises (W.troubles sink.old) (W.troubles sink.new)) }
+{
+    for entry in entries {
+        write_entry(sink, entry)?;
+    }
+    Ok(())
+}
+
+/// Writes a history with its shape in format 2 or 3, and flushes. Takes no memory.
+///
+/// # Errors
+/// `WriteFault` where the sink fails, also at the flush; a front of the text has been written then.
+pub fn write_history<W: Sink>(
+    sink: &mut W,
+    version: u8,
+    shape: &Shape,
+    entries: &[Entry],
+) -> Result<(), Refusal>
+    requires { 2 ≤ version }
+    ensures ok { OnOk result (Appends (W.written sink.old) (W.written sink.new) (text_of_format version shape.now entries.now)) }
+    ensures err { OnErr result (AppendsFront (W.written sink.old) (W.written sink.new) (text_of_format version shape.now entries.now)) }
+    ensures flushed { OnOk result (W.held sink.new ≡ 0) }
+    ensures only { IfErr result (λ e. e ≡ Refusal.WriteFault) }
+    ensures fault { OnErr result (Rises (W.troubles sink.old) (W.troubles sink.new)) }
+{
+    write_shape(sink, version, shape)?;
+    write_entries(sink, entries)?;
+    write_end(sink, version, entries.len() as u64)?;
+    flush_all(sink)?;
+    Ok(())
+}
+
+fn verdict_line(entries: u64, illegal: Option<Illegal>) -> Line
+    ensures { result ≡ verdict_line_text entries illegal }
+{
+    match illegal {
+        None => legal_line(entries),
+        Some(illegal) => illegal_line(&illegal),
+    }
+}
+
+/// Writes the verdict of a history with this many entries, and flushes. Takes no memory.
+///
+/// # Errors
+/// `WriteFault` where the sink fails, also at the flush; a front of the line has been written then.
+pub fn write_verdict<W: Sink>(
+    sink: &mut W,
+    entries: u64,
+    illegal: Option<Illegal>,
+) -> Result<(), Refusal>
+    ensures ok { OnOk result (Appends (W.written sink.old) (W.written sink.new) (verdict_line_text entries illegal)) }
+    ensures err { OnErr result (AppendsFront (W.written sink.old) (W.written sink.new) (verdict_line_text entries illegal)) }
+    ensures flushed { OnOk result (W.held sink.new ≡ 0) }
+    ensures only { IfErr result (λ e. e ≡ Refusal.WriteFault) }
+    ensures fault { OnErr result (Rises (W.troubles sink.old) (W.troubles sink.new)) }
+{
+    write_all(sink, verdict_line(entries, illegal).as_bytes())?;
+    flush_all(sink)?;
+    Ok(())
+}

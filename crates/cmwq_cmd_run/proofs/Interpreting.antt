@@ -1,0 +1,47 @@
+-- Actions, one after another.
+use Rattle.std.proofs.Common.{◌≡◌, ◌∙◌, ℕ, ◌+◌, ◌<◌, List, [], ◌∷◌, ◌++◌, length, take, get_or, refl, sym, ap, subst, inl, inr, Result, Ok, Err}
+use Rattle.std.specs.Prelude.{IfOk, IfErr, Option, None}
+use Rattle.std.proofs.lemmas.List.{take_more}
+use Rattle.cmwq_model.specs.declared.call.Call.{Call}
+use Rattle.cmwq_model.specs.declared.call.Call.TheVariants as call
+use Rattle.cmwq_model.specs.declared.reply.Reply.{Reply}
+use Rattle.cmwq_model.specs.Layout.{Layout}
+use Rattle.cmwq_monitor.specs.Participants.{View}
+use Rattle.cmwq_monitor.specs.Calls.{Extends}
+use Rattle.cmwq_monitor.specs.Faults.{Refused}
+use Rattle.cmwq_monitor.specs.declared.fault.RunFault.{RunFault}
+use Rattle.cmwq_monitor.specs.declared.fault.RunFault.TheVariants.{Full}
+use Rattle.cmwq_rt.specs.Running.{fault_after}
+use Rattle.cmwq_json_script.specs.declared.action.Action.{Action}
+use Rattle.cmwq_cmd_run.specs.Interpreted.{Acts, ActInTurn, MakesIfRoom, SleepsOnce}
+
+-- one action more
+act_more : (s : Layout) (xs : List Action) (a : Action) (v m w : View) → ActInTurn s xs v m → Acts s a m w → ActInTurn s (xs ++ a ∷ []) v w
+act_more s [] a v m w same acts = (w, subst (λ u. Acts s a u w) same acts, refl)
+act_more s (b ∷ bs) a v m w (next, first, rest) acts = (next, first, act_more s bs a next m w rest acts)
+
+pub act_next : (s : Layout) (xs : List Action) (k : ℕ) (d : Action) (v m w : View) → k < length xs → ActInTurn s (take k xs) v m → Acts s (get_or xs k d) m w → ActInTurn s (take (k + 1) xs) v w
+act_next s xs k d v m w lt before acts = rw (take_more xs k d lt) (act_more s (take k xs) (get_or xs k d) v m w before acts)
+
+-- what answered, or had no room, made its entry if there was room
+made_if_room : (s : Layout) (c : Call) (v w : View) (answer : Result Reply RunFault)
+    → IfOk answer (λ r. Extends s v c r w) → IfErr answer (λ f. Refused s v c f w) → IfErr answer (λ f. f ≡ Full) → MakesIfRoom s v c w
+made_if_room s c v w (Ok r) made refused full = inl (r, made)
+made_if_room s c v w (Err f) made refused full = inr (subst (λ e. Refused s v c e w) full refused)
+
+-- and the run has met no fault
+no_fault : (answer : Result Reply RunFault) (old : Option RunFault) → IfErr answer (λ f. f ≡ Full) → old ≡ None → fault_after answer old ≡ None
+no_fault (Ok r) old full none = none
+no_fault (Err f) old full none = subst (λ e. fault_after (Err e) old ≡ None) (sym full) none
+
+-- a sleep and a wake
+slept : (s : Layout) (v m w : View) (r : Reply) (answer : Result Reply RunFault) (before middle after : Option RunFault)
+    → Extends s v call.Sleep r m → IfOk answer (λ r. Extends s m call.Wake r w) → IfErr answer (λ f. Refused s m call.Wake f w) → IfErr answer (λ f. f ≡ Full)
+    → before ≡ None → middle ≡ before → after ≡ fault_after answer middle → (after ≡ None) × SleepsOnce s v w
+slept s v m w r answer before middle after asleep made refused full none kept is = (is ∙ no_fault answer middle full (kept ∙ none), inl (m, (r, asleep), made_if_room s call.Wake m w answer made refused full))
+
+pub slept_if : (s : Layout) (v m w : View) (r : Reply) (answer : Result Reply RunFault) (passed : Result (Unit {0}) RunFault) (before middle after : Option RunFault)
+    → Extends s v call.Sleep r m → IfOk answer (λ r. Extends s m call.Wake r w) → IfErr answer (λ f. Refused s m call.Wake f w) → IfOk passed (λ _. IfErr answer (λ f. f ≡ Full))
+    → before ≡ None → middle ≡ before → after ≡ fault_after answer middle → IfOk passed (λ _. (after ≡ None) × SleepsOnce s v w)
+slept_if s v m w r answer (Ok u) before middle after asleep made refused full none kept is = slept s v m w r answer before middle after asleep made refused full none kept is
+slept_if s v m w r answer (Err f) before middle after asleep made refused full none kept is = tt

@@ -1,0 +1,2 @@
+pub mod Interpreted
+pub mod Run

@@ -1,0 +1,9 @@
+//! The word `run`, over any source of bytes and any sinks.
+#![tactic(auto)]
+
+mod failure;
+mod interpreter;
+mod run;
+
+pub use interpreter::Interpreter;
+pub use run::run_run;

@@ -1,0 +1,192 @@
+//! The word `run`.
+ghost use Rattle.std.specs.Prelude.{◌≡◌, ◌≤◌, ℕ, Result, None, Some, length, map, string_bytes, IfSome, IfOk, IfErr, OnOk, IsErrOf};
+ghost use Rattle.cmwq_io.specs.Counts.{Rises};
+ghost use Rattle.cmwq_cmd_run.specs.declared.failure.Failure.{Failure as TheFailure};
+ghost use Rattle.cmwq_cmd_run.specs.declared.failure.Failure.TheVariants as failure;
+ghost use Rattle.cmwq_cmd_run.specs.Run.{RunEnds, ScriptEnds, Leaves, FailsOn, IsNamed, run_status};
+ghost use Rattle.cmwq_input.specs.declared.fault.Fault.TheVariants as fault;
+ghost use Rattle.cmwq_json_script.specs.Scripts.{run_of, MayRun};
+
+use crate::failure::{Failure, GateName, failure_status_of};
+use crate::interpreter::Interpreter;
+use cmwq_cmd_history::{tell_full, write_history};
+use cmwq_input::{Fault, read_value};
+use cmwq_io::{Sink, Source, tell};
+use cmwq_json_script::{Script, read_script};
+use cmwq_rt_scripts::{Report, Unwritten, run_scripts, run_scripts_with_journal};
+use std::alloc::Global;
+use std::sync::Wait;
+use std::thread::Threads;
+use std::time::Clock;
+
+/// The first gate, in the order of their first use, that a run passed after it had looked at it in vain.
+fn missed_gate<R: Wait>(rt: &R, interpreter: &Interpreter, gates: &[String]) -> Option<GateName>
+    requires { length gates.now ≤ 16 }
+    ensures { IfSome result (λ name. IsNamed (map string_bytes gates.now) name.bytes) }
+{
+    for (number, name) in gates.iter().enumerate() {
+        if interpreter.was_missed(rt, number as u8) {
+            return GateName::from(name.as_str()).ok();
+        }
+    }
+    None
+}
+
+/// Runs a script on threads. A gate that was not opened is told before calls that had no room.
+fn run_script<R: Threads + Wait + Sync>(
+    rt: &R,
+    alloc: Global,
+    script: &Script,
+) -> Result<Report, Failure>
+    requires { MayRun script.now }
+    ensures leaves { IfOk result (λ r. Leaves (run_of script.now) r.full r.history.items) }
+    ensures failed { IfErr result (λ f. FailsOn (run_of script.now) f) }
+{
+    let interpreter = Interpreter::new(&script.does);
+    let report = match run_scripts(rt, alloc, &script.shape, &script.callers, &interpreter) {
+        Ok(report) => report,
+        Err(fault) => return Err(Failure::from(fault)),
+    };
+    match missed_gate(rt, &interpreter, &script.gates) {
+        Some(name) => Err(Failure::Gate(name)),
+        None => Ok(report),
+    }
+}
+
+/// Runs a script on threads, and then writes the history that it left. Answers how many calls were left out for want of room.
+fn run_and_write<O: Sink, R: Threads + Wait + Sync>(
+    rt: &R,
+    alloc: Global,
+    script: &Script,
+    output: &mut O,
+) -> Result<u64, Failure>
+    requires may { MayRun script.now }
+    requires unjournaled { script.now.journal ≡ None }
+    ensures ends { ScriptEnds (run_of script.now) (O.written output.old) (O.written output.new) result }
+    ensures flushed { OnOk result (O.held output.new ≡ 0) }
+    ensures read_fault { IsErrOf result (failure.Input fault.ReadFault) → ⊥ }
+    ensures write_fault { IsErrOf result (failure.Input fault.WriteFault) → Rises (O.troubles output.old) (O.troubles output.new) }
+{
+    let report = match run_script(rt, alloc, script) {
+        Ok(report) => report,
+        Err(failure) => return Err(failure),
+    };
+    match write_history(output, script.version, &script.shape, &report.history) {
+        Ok(()) => Ok(report.full),
+        Err(_) => Err(Failure::Input(Fault::WriteFault)),
+    }
+}
+
+/// Runs a script on threads, and writes the history while it is made.
+fn run_with_journal<O: Sink, R: Threads + Wait + Clock + Sync>(
+    rt: &R,
+    alloc: Global,
+    script: &Script,
+    kept: u32,
+    output: &mut O,
+) -> Result<u64, Failure>
+    requires may { MayRun script.now }
+    requires journaled { script.now.journal ≡ Some kept }
+    ensures ends { ScriptEnds (run_of script.now) (O.written output.old) (O.written output.new) result }
+    ensures flushed { OnOk result (O.held output.new ≡ 0) }
+    ensures read_fault { IsErrOf result (failure.Input fault.ReadFault) → ⊥ }
+    ensures write_fault { IsErrOf result (failure.Input fault.WriteFault) → Rises (O.troubles output.old) (O.troubles output.new) }
+{
+    let interpreter = Interpreter::new(&script.does);
+    let (shape, callers) = (&script.shape, &script.callers);
+    let full = match run_scripts_with_journal(
+        rt,
+        alloc,
+        shape,
+        callers,
+        &interpreter,
+        kept,
+        output,
+    ) {
+        Ok(written) => written.full,
+        Err(Unwritten::Sink) => return Err(Failure::Input(Fault::WriteFault)),
+        Err(Unwritten::Run(fault)) => return Err(Failure::from(fault)),
+    };
+    match missed_gate(rt, &interpreter, &script.gates) {
+        Some(name) => Err(Failure::Gate(name)),
+        None => Ok(full),
+    }
+}
+
+/// Runs a script as it says.
+fn run_as_said<O: Sink, R: Threads + Wait + Clock + Sync>(
+    rt: &R,
+    alloc: Global,
+    script: &Script,
+    output: &mut O,
+) -> Result<u64, Failure>
+    requires { MayRun script.now }
+    ensures ends { ScriptEnds (run_of script.now) (O.written output.old) (O.written output.new) result }
+    ensures flushed { OnOk result (O.held output.new ≡ 0) }
+    ensures read_fault { IsErrOf result (failure.Input fault.ReadFault) → ⊥ }
+    ensures write_fault { IsErrOf result (failure.Input fault.WriteFault) → Rises (O.troubles output.old) (O.troubles output.new) }
+{
+    match script.journal {
+        Some(kept) => run_with_journal(rt, alloc, script, kept, output),
+        None => run_and_write(rt, alloc, script, output),
+    }
+}
+
+/// Reads a script, runs it on threads, and writes the history that it leaves. Answers how many calls were left out for want of room.
+fn run<S: Source, O: Sink, R: Threads + Wait + Clock + Sync>(
+    rt: &R,
+    alloc: Global,
+    input: &mut S,
+    output: &mut O,
+) -> Result<u64, Failure>
+    ensures ends { IfSome (S.left input.old) (λ text. RunEnds text (O.written output.old) (O.written output.new) result) }
+    ensures flushed { OnOk result (O.held output.new ≡ 0) }
+    ensures read_fault { IsErrOf result (failure.Input fault.ReadFault) → Rises (S.troubles input.old) (S.troubles input.new) }
+    ensures write_fault { IsErrOf result (failure.Input fault.WriteFault) → Rises (O.troubles output.old) (O.troubles output.new) }
+{
+    let value = read_value(alloc, input)?;
+    match read_script(alloc, &value)? {
+        Ok(script) => run_as_said(rt, alloc, &script, output),
+        Err(refused) => Err(Failure::Input(Fault::Member(refused))),
+    }
+}
+
+/// Reads all of a script in JSON, runs it on threads, and writes the history that it leaves with its shape, and nothing else: when the run
+/// is over, or with a journal as it is made. What went wrong is told on `errors`, whose own failing changes nothing: of a run that came
+/// to its end the first of a fault of the hub, a gate that was not opened, and calls left out for want of room. Answers the exit status:
+/// 0 done, 1 refused input or a gate, 4 no memory, or calls left out, 5 a fault of reading, writing or running. At calls left out the
+/// history is written all the same; at a fault of writing a front of it is; at all else nothing is. With a journal the history is whole
+/// at a gate too, and at want of memory and at a fault of the hub or of writing a front of a legal history is written.
+pub fn run_run<S: Source, O: Sink, E: Sink, R: Threads + Wait + Clock + Sync>(
+    rt: &R,
+    alloc: Global,
+    input: &mut S,
+    output: &mut O,
+    errors: &mut E,
+) -> u8
+    ensures ends { (ended : Result ℕ TheFailure)
+        × (result ≡ run_status ended)
+        × IfSome (S.left input.old) (λ text. RunEnds text (O.written output.old) (O.written output.new) ended)
+        × OnOk ended (O.held output.new ≡ 0)
+        × (IsErrOf ended (failure.Input fault.ReadFault) → Rises (S.troubles input.old) (S.troubles input.new))
+        × (IsErrOf ended (failure.Input fault.WriteFault) → Rises (O.troubles output.old) (O.troubles output.new)) }
+{
+    let ended = run(rt, alloc, input, output);
+    match &ended {
+        Ok(0) => {}
+        Ok(left_out) => tell_full(errors, *left_out),
+        Err(failure) => tell(errors, *failure),
+    }
+    status(&ended)
+}
+
+/// The exit status of a run that ended so.
+fn status(ended: &Result<u64, Failure>) -> u8
+    ensures { result ≡ run_status ended.now }
+{
+    match ended {
+        Ok(0) => 0,
+        Ok(_) => 4,
+        Err(failure) => failure_status_of(*failure),
+    }
+}

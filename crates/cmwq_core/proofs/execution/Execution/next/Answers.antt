@@ -1,0 +1,14 @@
+use Rattle.std.proofs.Common.{◌≡◌, true, sym, subst, ◌∙◌}
+use Rattle.std.proofs.lemmas.Bool.{and_parts, leb-true}
+use Rattle.cmwq_model.specs.declared.entry.Entry.{Entry}
+use Rattle.cmwq_model.specs.Legal.{past_of}
+use Rattle.cmwq_model.specs.Room.{has_time}
+use Rattle.cmwq_core.proofs.execution.Execution.next.Goals as goal
+
+pub append-requires-clause-room : goal.append-requires-clause-room
+append-requires-clause-room c = leb-true _ _ (and_parts _ _ (sym c.has_room.ensures ∙ c.if-has_room.true)).1
+
+pub append-requires-clause-time : goal.append-requires-clause-time
+append-requires-clause-time c =
+    subst (λ (e : Entry). has_time (past_of c.self.inside.state.entries) e.call ≡ true) (sym c.effect-effect.ensures.entry)
+    (and_parts _ _ (sym c.has_room.ensures ∙ c.if-has_room.true)).0

@@ -1,0 +1,180 @@
+ghost use Rattle.std.specs.Prelude.{◌≡◌, ◌<◌, ◌≤◌, [], length, count_by, is_ok, IfOk, OnErr, IsTrue};
+ghost use Rattle.cmwq_model.specs.Layout.{fits, most_room};
+ghost use Rattle.cmwq_model.specs.Calls as calls;
+ghost use Rattle.cmwq_model.specs.Legal as legal;
+ghost use Rattle.cmwq_model.specs.Legal.{IsLegal};
+ghost use Rattle.cmwq_model.specs.Queueings.{still_open};
+ghost use Rattle.cmwq_model.specs.Room.{needed};
+ghost use Rattle.cmwq_model.specs.Active.{is_active};
+ghost use Rattle.cmwq_state.specs.Tables as tables;
+ghost use Rattle.cmwq_core.specs.History.{past_in, next_entry, takes, with_entry, IsMark, is_ready};
+ghost use Rattle.cmwq_core.specs.Plans.{IsPlan};
+ghost use Rattle.cmwq_core.specs.Relied.{IsReliable};
+
+use crate::effects::{effect, next_entry as predicted};
+use crate::marks::{bits_of, mark};
+use crate::plan::Plan;
+use cmwq_model::{Call, Entry, ItemId, Mark, NoMemory, Number, Reply, Shape, Who};
+use cmwq_state::State;
+use std::alloc::Global;
+use std::marker::Model;
+
+/// There is no room for the entry and for what would be owed then, or for its ticks.
+#[derive(Clone, Copy, Debug, PartialEq, Eq)]
+pub struct Full;
+
+/// A runtime of one thread that runs on: it answers without looking back, and keeps none of its history, which contracts see whole.
+#[derive(Drop)]
+pub struct Execution {
+    state: State,
+}
+
+impl Model for Execution {
+    ghost use Rattle.cmwq_core.specs.History.{History};
+
+    ghost Value = { History };
+
+    ghost view = { λ c. c.state };
+}
+
+impl Execution {
+    /// An execution with no entries. No later call takes memory; the error says that it ran out.
+    pub fn new(alloc: Global, shape: &Shape, room: u64) -> Result<Execution, NoMemory>
+        requires { room ≤ most_room }
+        ensures { IfOk result (λ execution. execution ≡ record { layout = shape.now; room = room; entries = [] }) }
+    {
+        Ok(Execution {
+            state: State::new(alloc, shape, room)?,
+        })
+    }
+
+    /// How many entries there are.
+    pub fn len(&self) -> u64
+        ensures len { result ≡ length self.now.entries }
+        ensures within { length self.now.entries ≤ self.now.room }
+        ensures needed { needed self.now.layout (past_in self.now) ≤ self.now.room }
+        ensures few { self.now.room ≤ most_room }
+        ensures legal { IsLegal self.now.layout (past_in self.now) }
+    {
+        self.state.len()
+    }
+
+    /// The serial of the next entry of this caller or worker: how many entries it has.
+    pub fn serial(&self, who: Who) -> u64
+        requires { tables.IsThere self.now.layout who }
+        ensures { result ≡ calls.serial_of (past_in self.now) who }
+    {
+        self.state.serial(who)
+    }
+
+    /// What the call would be answered, whether or not there is room for it.
+    pub fn reply(&self, who: Who, call: Call) -> Reply
+        requires { IsTrue (fits self.now.layout who call) }
+        ensures { result ≡ (next_entry self.now who call).reply }
+    {
+        predicted(&self.state, who, call).reply
+    }
+
+    /// The entry that a step of this call would append, found with all that it does, so that `commit` needn't find it again.
+    ///
+    /// # Errors
+    /// `Full` where there is no room for the entry and for what would be owed then, exactly as at `step`.
+    pub fn plan(&self, who: Who, call: Call) -> Result<Plan, Full>
+        requires { IsTrue (fits self.now.layout who call) }
+        ensures room { is_ok result ≡ takes self.now who call }
+        ensures plan { IfOk result (λ plan. IsPlan self.now who call plan) }
+    {
+        let effect = effect(&self.state, who, call);
+        if self.state.has_room(call, effect.owing) {
+            let mark = mark(&self.state, effect);
+            Ok(Plan { effect, mark })
+        } else {
+            Err(Full)
+        }
+    }
+
+    /// Makes the entry that was planned, and answers its reply. The execution is still the one that planned it.
+    pub fn commit(&mut self, plan: &Plan) -> Reply
+        requires { (who : _) × (call : _) × IsPlan self.old who call plan.now }
+        ensures reply { result ≡ plan.now.mark.entry.reply }
+        ensures entry { self.new ≡ with_entry self.old plan.now.mark.entry }
+    {
+        self.state.append(plan.effect);
+        plan.effect.entry.reply
+    }
+
+    /// What a step of this call would append, with the bits of the item that it can change.
+    ///
+    /// # Errors
+    /// `Full` where there is no room for the entry and for what would be owed then, exactly as at `step`.
+    pub fn would(&self, who: Who, call: Call) -> Result<Mark, Full>
+        requires { IsTrue (fits self.now.layout who call) }
+        ensures room { is_ok result ≡ takes self.now who call }
+        ensures mark { IfOk result (λ mark. IsMark self.now who call mark) }
+    {
+        match self.plan(who, call) {
+            Ok(plan) => Ok(plan.mark),
+            Err(Full) => Err(Full),
+        }
+    }
+
+    /// Makes the call: one entry more, which is answered.
+    ///
+    /// # Errors
+    /// `Full` where there is no room for the entry and for what would be owed then. The execution is then the old one.
+    pub fn next(&mut self, who: Who, call: Call) -> Result<Entry, Full>
+        requires { IsTrue (fits self.old.layout who call) }
+        ensures room { is_ok result ≡ takes self.old who call }
+        ensures entry { IfOk result (λ entry. entry ≡ next_entry self.old who call) }
+        ensures execution { IfOk result (λ entry. self.new ≡ with_entry self.old entry) }
+        ensures full { OnErr result (self.new ≡ self.old) }
+    {
+        let effect = effect(&self.state, who, call);
+        if self.state.has_room(call, effect.owing) {
+            self.state.append(effect);
+            Ok(effect.entry)
+        } else {
+            Err(Full)
+        }
+    }
+
+    /// Whether the ticket with this number stands and waits for nothing, so that its end would be answered done. False of any
+    /// other number.
+    pub fn ready(&self, ticket: Number) -> bool
+        ensures { result ≡ is_ready (past_in self.now) ticket }
+    {
+        match self.state.ticket(ticket) {
+            None => false,
+            Some(ticket) => self.state.waits_for(ticket).is_none(),
+        }
+    }
+
+    /// The bits of an item (`work_busy`): 1 if it is pending, plus 2 if it runs.
+    pub fn bits(&self, item: ItemId) -> u8
+        requires { item.0 < self.now.layout.items }
+        ensures { result ≡ legal.bits (past_in self.now) item.0 }
+    {
+        bits_of(self.state.is_pending(item), self.state.is_running(item))
+    }
+
+    /// How many queueings are open.
+    pub fn open_count(&self) -> u32
+        ensures { result ≡ length (still_open (past_in self.now)) }
+    {
+        self.state.open_count()
+    }
+
+    /// How many of them are active.
+    pub fn active_count(&self) -> u32
+        ensures { result ≡ count_by (is_active self.now.layout (past_in self.now)) (still_open (past_in self.now)) }
+    {
+        self.state.active_count()
+    }
+
+    /// What a user relies on holds of the history. Nothing runs but a look at its length.
+    pub fn reliable(&self)
+        ensures { IsReliable self.now.layout (past_in self.now) }
+    {
+        let _len = self.state.len();
+    }
+}

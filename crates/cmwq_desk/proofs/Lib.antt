@@ -1,8 +1,0 @@
-pub mod Beginnings
-pub mod Entries
-pub mod Entering
-pub mod Serials
-pub mod Firing
-pub mod Whole
-pub mod Fitting
-mod Foretold

@@ -1,8 +1,0 @@
-use Rattle.cmwq_desk.proofs.Entries.{gains_none}
-use Rattle.cmwq_desk.proofs.desk.Desk.call.Goals as goal
-
-pub returns-in-Err-clause-refused : goal.returns-in-Err-clause-refused
-returns-in-Err-clause-refused g c = (gains_none c.args.seat.now, c.in-Err.ensures.says c.args.call)
-
-pub returns-in-Ok-enter-clause-open : goal.returns-in-Ok-enter-clause-open
-returns-in-Ok-enter-clause-open g c = (c.in-Ok.ensures.open, c.in-Ok-enter.ensures.goes_on)

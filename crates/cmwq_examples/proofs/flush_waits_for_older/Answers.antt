@@ -1,7 +1,0 @@
-use Rattle.std.proofs.Common.{refl}
-use Rattle.cmwq_examples.proofs.Definitions.{definitions}
-use Rattle.cmwq_examples.proofs.flush_waits_for_older.Goals as goal
-
-pub returns : goal.returns
-unfolding definitions
-returns c = refl

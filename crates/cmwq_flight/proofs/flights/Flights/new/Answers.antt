@@ -1,5 +1,0 @@
-use Rattle.cmwq_flight.proofs.Steps.{none_at_first}
-use Rattle.cmwq_flight.proofs.flights.Flights.new.Goals as goal
-
-pub returns : goal.returns
-returns c = rw (c.in_ok-rows.ensures.items_if_clones_equal (λ y same. same), c.from-items.ensures) (search none_at_first)

@@ -1,0 +1,127 @@
+ghost use Rattle.std.specs.Prelude.{◌≡◌, ◌<◌, Some, None, IfOk, IfSome, IsSome, length, replicate, slice_set};
+ghost use Rattle.cmwq_inflight.specs.Flights.{no_flight, flight_at, open_count, opened, taken_back, started, finished};
+
+use cmwq_model::{ItemId, NoMemory, Queueing};
+use slab::Slab;
+use std::alloc::Global;
+use std::marker::Model;
+
+/// Where an item's queueings stand.
+#[derive(Clone, Copy, Debug)]
+struct Keys {
+    run: Option<usize>,
+    unstarted: Option<usize>,
+}
+
+impl Keys {
+    const NONE: Keys = Keys {
+        run: None,
+        unstarted: None,
+    };
+}
+
+/// The queueings in flight of all items of a runtime. An item has at most one that runs and one that hasn't started.
+#[derive(Debug, Drop)]
+pub struct Flights {
+    /// All that are open. There is room for two of each item.
+    queueings: Slab<Queueing>,
+    /// For each item, which of them are its own.
+    rows: Vec<Keys>,
+}
+
+impl Model for Flights {
+    ghost use Rattle.std.specs.Prelude.{List};
+    ghost use Rattle.cmwq_inflight.specs.Flights.{Flight};
+    ghost use Rattle.cmwq_inflight.specs.Keeping.{flights_by, IsKept};
+
+    ghost Value = { List Flight };
+
+    ghost view = { λ f. flights_by f.queueings f.rows.items };
+
+    ghost invariant = { λ f. IsKept f.queueings f.rows.items };
+}
+
+impl Flights {
+    /// No queueings, of so many items. No later call takes memory; the error says that it ran out.
+    pub fn new(alloc: Global, items: u16) -> Result<Flights, NoMemory>
+        ensures { IfOk result (λ flights. flights ≡ replicate items no_flight) }
+    {
+        let items = usize::from(items);
+        let queueings = Slab::with_capacity(alloc, 2 * items)?;
+        let rows = vec![in alloc; Keys::NONE; items]?;
+        Ok(Flights { queueings, rows })
+    }
+
+    /// How many items there are. Their numbers are below it.
+    pub fn items(&self) -> u16
+        ensures { result ≡ length self.now }
+    {
+        self.rows.len() as u16
+    }
+
+    /// The queueing of an item that runs (the kernel's `worker.current_work`).
+    pub fn run(&self, item: ItemId) -> Option<Queueing>
+        requires { item.0 < length self.now }
+        ensures run { result ≡ (flight_at self.now item.0).run }
+        ensures of_item { IfSome result (λ queueing. queueing.item.0 ≡ item.0) }
+    {
+        let key = self.rows[usize::from(item.0)].run?;
+        self.queueings.get(key).copied()
+    }
+
+    /// The queueing of an item that hasn't started (the kernel's `WORK_STRUCT_PENDING_BIT`).
+    pub fn unstarted(&self, item: ItemId) -> Option<Queueing>
+        requires { item.0 < length self.now }
+        ensures unstarted { result ≡ (flight_at self.now item.0).unstarted }
+        ensures of_item { IfSome result (λ queueing. queueing.item.0 ≡ item.0) }
+    {
+        let key = self.rows[usize::from(item.0)].unstarted?;
+        self.queueings.get(key).copied()
+    }
+
+    /// How many queueings are open: those that run, and those that haven't started.
+    pub fn open_count(&self) -> u32
+        ensures { result ≡ open_count self.now }
+    {
+        self.queueings.len() as u32
+    }
+
+    /// An item without an unstarted queueing is queued (the kernel's `insert_work`).
+    pub fn open(&mut self, queueing: Queueing)
+        requires known { queueing.item.0 < length self.old }
+        requires none { (flight_at self.old queueing.item.0).unstarted ≡ None }
+        ensures { self.new ≡ opened self.old queueing }
+    {
+        let key = self.queueings.insert_reserved(queueing);
+        self.rows[usize::from(queueing.item.0)].unstarted = Some(key);
+    }
+
+    /// An item's unstarted queueing is cancelled or replaced, if it has one (the kernel's `try_to_grab_pending`).
+    pub fn take_back(&mut self, item: ItemId)
+        requires { item.0 < length self.old }
+        ensures { self.new ≡ taken_back self.old item.0 }
+    {
+        if let Some(key) = self.rows[usize::from(item.0)].unstarted.take() {
+            self.queueings.remove(key);
+        }
+    }
+
+    /// An item's unstarted queueing starts; the item doesn't run yet (the kernel's `process_one_work`).
+    pub fn start(&mut self, item: ItemId)
+        requires free { (flight_at self.old item.0).run ≡ None }
+        requires unstarted { IsSome (flight_at self.old item.0).unstarted }
+        ensures { self.new ≡ started self.old item.0 }
+    {
+        let row = &mut self.rows[usize::from(item.0)];
+        row.run = row.unstarted.take();
+    }
+
+    /// An item's run ends.
+    pub fn finish(&mut self, item: ItemId)
+        requires { IsSome (flight_at self.old item.0).run }
+        ensures { self.new ≡ finished self.old item.0 }
+    {
+        let run = self.rows[usize::from(item.0)].run.take().unwrap();
+        self.queueings.remove(run);
+    }
+}

@@ -1,0 +1,145 @@
+-- A run that is read keeps to its limits.
+use Rattle.std.proofs.Common.{◌≡◌, ℕ, ◌≤◌, ◌<◌, ◌^◌, ◌&&◌, Bool, true, false, nat_lt, nat_le, List, [], ◌∷◌, length, map, Result, Ok, Err, refl, sym, ap, subst, ◌∙◌, arith, if◌then◌else◌, string_bytes}
+use Rattle.std.specs.Prelude.{All, String}
+use Rattle.std.specs.List.{AllByRecursion, list_all}
+use Rattle.std.specs.declared.alloc.Global.{Global}
+use Rattle.std.specs.declared.vec.Vec.{Vec}
+use Rattle.std.proofs.lemmas.Bool.Decides.{nat_tests}
+use Rattle.std.proofs.lemmas.List.{length-map}
+use Rattle.std.proofs.lemmas.List.Elements.{All-from_recursion}
+use Rattle.cmwq_model.specs.declared.call.Call.{Call}
+use Rattle.cmwq_model.specs.declared.shape.QueueShape.{QueueShape}
+use Rattle.cmwq_model.specs.Layout.{most_room, Layout, layout_of, is_queue}
+use Rattle.cmwq_model.specs.Scripted.{IsScripted}
+use Rattle.cmwq_input.specs.declared.refused.Refused.{Refused}
+use Rattle.cmwq_json.specs.InTurn.{in_turn}
+use Rattle.cmwq_json.specs.Names.{Named, nobody}
+use Rattle.cmwq_json.specs.Parts as refused
+use Rattle.cmwq_json_script.specs.declared.item.Items.{Items}
+use Rattle.cmwq_json_script.specs.declared.script.Script.{Script}
+use Rattle.cmwq_json_script.specs.Items.{Work, no_work, add_item}
+use Rattle.cmwq_json_script.specs.Queues.{add_queue}
+use Rattle.cmwq_json_script.specs.Callers.{add_caller}
+use Rattle.cmwq_json_script.specs.Tops.{Top, IsRecorded}
+use Rattle.cmwq_json_script.specs.Runs.{some_of, queues_said, items_said, callers_said, known_in, layout_in, run_in}
+use Rattle.cmwq_json_script.specs.Scripts.{run_of, IsAction, AreCalls, IsWithin, MayRun}
+use Rattle.cmwq_json_script.specs.Views.{work_of, calls_of}
+use Rattle.cmwq_json_script.proofs.Readings.{all_weaker, all_unmapped}
+use Rattle.cmwq_json_script.proofs.CallLimits.{AreIn}
+use Rattle.cmwq_json_script.proofs.PartLimits.{IsWide, queues_kept, items_kept, items_named, names_are_known, callers_kept}
+
+-- a part has at least one member, and none is refused
+pub some_read : {S : Type 0} (refused : ℕ → Refused) (count : S → ℕ) (r : Result S ℕ) (s : S) → some_of refused count r ≡ Ok s → (r ≡ Ok s) × (0 < count s)
+some_read refused count (Err i) s is = cc
+some_read {S} refused count (Ok t) s is =
+    let found = at (nat_lt 0 (count t)) refl (Ok t) is in
+    let one : t ≡ s = cc (found.0) in
+    (ap Ok one, subst (λ (x : S). 0 < count x) one found.1)
+  where
+    at : (b : Bool) → nat_lt 0 (count t) ≡ b → (r : Result S Refused) → (if b then r else Err (refused 0)) ≡ Ok s → (r ≡ Ok s) × (0 < count t)
+    at true less r h =
+        let some : 0 < count t = grind (arith, nat_tests) in
+        (h, some)
+    at false less r h = cc
+
+both : (a b : Bool) → a ≡ true → b ≡ true → (a && b) ≡ true
+both true true ha hb = refl
+both true false ha hb = cc
+both false b ha hb = cc
+
+within : (low high n : ℕ) → low ≤ n → n ≤ high → (nat_le low n && nat_le n high) ≡ true
+within low high n a b = both (nat_le low n) (nat_le n high) (grind (arith, nat_tests)) (grind (arith, nat_tests))
+
+at_most : (n high : ℕ) → n ≤ high → nat_le n high ≡ true
+at_most n high h = grind (arith, nat_tests)
+
+queues_allowed : (qs : List QueueShape) → AllByRecursion IsWide qs → list_all is_queue qs ≡ true
+queues_allowed [] all = refl
+queues_allowed (q ∷ qs) all = both (is_queue q) (list_all is_queue qs) (within 1 512 q.max_active all.0.0 all.0.1) (queues_allowed qs all.1)
+
+-- what is read is inside the limits
+module _ (t : Top) (qs : Named QueueShape) (w : Work) (cs : List (List Call)) (queues_read : queues_said t ≡ Ok qs) (items_read : items_said (known_in t qs) t ≡ Ok w)
+    (callers_read : callers_said (known_in t qs) t ≡ Ok cs) where
+  pub is_within : (1 ≤ t.cpus) × (t.cpus ≤ 4) × (1 ≤ t.workers) × (t.workers ≤ 8) × (t.room ≤ most_room) → IsRecorded t.version t.journal → IsWithin (run_in t qs.values w cs)
+  is_within limits recorded =
+      let s = layout_in t qs.values w cs in
+      let known = known_in t qs in
+      let q = some_read refused.queues (λ (m : Named QueueShape). length m.values) (in_turn add_queue 0 nobody t.queues) qs queues_read in
+      let i = some_read refused.items (λ (m : Work). length m.items.values) (in_turn (add_item known) 0 no_work t.items) w items_read in
+      let c = some_read refused.callers length (in_turn (add_caller known) 0 [] t.callers) cs callers_read in
+      let some_queues : 0 < length qs.values = q.1 in
+      let some_items : 0 < length w.items.values = i.1 in
+      let some_callers : 0 < length cs = c.1 in
+      let wide = queues_kept t.queues qs q.0 in
+      let queues_same = wide.same in
+      let queues_few = wide.few in
+      let named = items_named known t.items w i.0 in
+      let items_same = named.same in
+      let items_few = named.few in
+      let all_named = ap length (names_are_known known 0 no_work t.items w i.0) in
+      let are : AreIn known s = record { items = omega arith; queues = omega arith; cpus = omega arith } in
+      let items = items_kept known s are t.items w i.0 in
+      let callers = callers_kept known s are t.callers cs c.0 in
+      let callers_few = callers.1 in
+      record {
+        allowed =
+            both _ _ (both _ _ (both _ _ (both _ _ (both _ _ (within 1 4 t.cpus limits.0 limits.1) (within 1 8 t.workers limits.2 limits.3)) (within 1 64 (length cs) (omega arith) (omega arith))) (within 1 256 (length w.items.values) (omega arith) (omega arith))) (at_most t.room most_room limits.4))
+            (both _ _ (within 1 64 (length qs.values) (omega arith) (omega arith)) (queues_allowed qs.values wide.values));
+        few_callers = callers_few;
+        callers = refl;
+        calls = callers.0;
+        few_items = omega arith;
+        items = refl;
+        does = items.items.values;
+        few_gates = items.few_gates;
+        recorded = recorded;
+      }
+
+pub few_queue_names : (t : Top) (keys : List (String Global)) (values : List QueueShape) → queues_said t ≡ Ok (record { names = map string_bytes keys; values = values }) → length keys ≤ 64
+few_queue_names t keys values is =
+    let named : Named QueueShape = record { names = map string_bytes keys; values = values } in
+    let wide = queues_kept t.queues named (some_read refused.queues (λ (m : Named QueueShape). length m.values) (in_turn add_queue 0 nobody t.queues) named is).0 in
+    let few = wide.few in
+    let l = length-map keys string_bytes in
+    omega arith
+
+-- the layout is that of the numbers that are counted
+pub layout_counted : (t : Top) (qs : List QueueShape) (w : Work) (cs : List (List Call)) (callers items : ℕ) → callers ≡ length cs → items ≡ length w.items.values
+    → layout_of (record { cpus = t.cpus; workers = t.workers; callers = callers; items = items; room = t.room }) qs ≡ layout_in t qs w cs
+layout_counted t qs w cs callers items callers_are items_are =
+    ap (λ n. layout_of (record { cpus = t.cpus; workers = t.workers; callers = n; items = items; room = t.room }) qs) callers_are
+    ∙ ap (λ n. layout_of (record { cpus = t.cpus; workers = t.workers; callers = length cs; items = n; room = t.room }) qs) items_are
+
+pub may_run : (script : Script) → IsWithin (run_of script) → MayRun script
+may_run script r =
+    let callers = length-map script.callers.items (λ calls. calls.items) in
+    let does = length-map script.does.items (λ actions. actions.items) in
+    let gates = length-map script.gates.items string_bytes in
+    let a = r.few_callers in
+    let b = r.callers in
+    let d = r.items in
+    let e = r.few_gates in
+    record {
+      few_callers = omega arith;
+      callers = omega arith;
+      calls = All-from_recursion _ script.callers.items (all_unmapped (λ calls. All (IsScripted script.shape) calls × (length calls < 2 ^ 32)) (λ calls. calls.items) script.callers.items
+          (all_weaker (AreCalls script.shape) (λ calls. All (IsScripted script.shape) calls × (length calls < 2 ^ 32)) (λ calls h. (All-from_recursion (IsScripted script.shape) calls h.0, few (length calls) h.1)) (calls_of script.callers) r.calls));
+      items = omega arith;
+      does = subst (λ n. All (λ actions. All (IsAction script.shape n) actions.items) script.does.items) gates
+          (All-from_recursion _ script.does.items (all_unmapped (All (IsAction script.shape (length (map string_bytes script.gates.items)))) (λ actions. actions.items) script.does.items
+          (all_weaker (AllByRecursion (IsAction script.shape (length (map string_bytes script.gates.items)))) (All (IsAction script.shape (length (map string_bytes script.gates.items)))) (All-from_recursion (IsAction script.shape (length (map string_bytes script.gates.items)))) (map (λ actions. actions.items) script.does.items) r.does)));
+      few_gates = omega arith;
+      recorded = r.recorded;
+    }
+  where
+    few : (n : ℕ) → n ≤ 1000 → n < 2 ^ 32
+    few n h = omega arith
+
+-- so may the script that is made of parts inside the limits
+pub made_may_run : (t : Top) (qs : List QueueShape) (items : Items) (callers : Vec (Vec Call Global) Global) (s : Layout) (gates : Vec (String Global) Global) → s ≡ layout_in t qs (work_of items) (calls_of callers)
+    → map string_bytes gates.items ≡ items.gates → IsWithin (run_in t qs (work_of items) (calls_of callers)) → MayRun (record { shape = s; does = items.members.values; gates = gates; callers = callers; version = t.version; journal = t.journal })
+made_may_run t qs items callers s gates shape_is gates_are run =
+    let does = (work_of items).items.values in
+    may_run (record { shape = s; does = items.members.values; gates = gates; callers = callers; version = t.version; journal = t.journal })
+    (subst (λ (l : Layout). IsWithin (record { layout = l; does = does; gates = map string_bytes gates.items; callers = calls_of callers; version = t.version; journal = t.journal })) (sym shape_is)
+    (subst (λ (g : List (List ℕ)). IsWithin (record { layout = layout_in t qs (work_of items) (calls_of callers); does = does; gates = g; callers = calls_of callers; version = t.version; journal = t.journal })) (sym gates_are) run))

@@ -1,0 +1,9 @@
+use Rattle.std.proofs.Common.{◌≡◌, drop, []}
+use Rattle.serde_json.specs.View.{items_view}
+use Rattle.cmwq_json.specs.InTurn.{in_turn}
+use Rattle.cmwq_json_script.specs.Callers.{add_caller}
+use Rattle.cmwq_json_script.specs.Views.{calls_of}
+use Rattle.cmwq_json_script.proofs.caller.read_in_turn.Given as goal
+
+abbrev pub invariant-loop-index : goal.invariant-loop-index
+invariant-loop-index l = in_turn (add_caller l.names) 0 [] (items_view l.values) ≡ in_turn (add_caller l.names) l.index (calls_of l.callers) (items_view (drop l.index l.values))

@@ -1,0 +1,10 @@
+use Rattle.std.proofs.Common.{◌≡◌, ◌≤◌, [], drop, length, map, string_bytes}
+use Rattle.serde_json.specs.View.{items_view}
+use Rattle.cmwq_json_script.specs.Known.{names_after}
+use Rattle.cmwq_json_script.proofs.names.names_of.Given as goal
+
+abbrev pub invariant-loop-value : goal.invariant-loop-value
+invariant-loop-value l = record {
+  left : names_after [] (items_view l.values) ≡ names_after (map string_bytes l.names.keys) (items_view (drop l.value-index l.values));
+  few : length l.names.keys ≤ 256;
+}

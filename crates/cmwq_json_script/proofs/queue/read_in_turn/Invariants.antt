@@ -1,0 +1,10 @@
+use Rattle.std.proofs.Common.{◌≡◌, drop}
+use Rattle.serde_json.specs.View.{items_view}
+use Rattle.cmwq_json.specs.InTurn.{in_turn}
+use Rattle.cmwq_json.specs.Names.{nobody}
+use Rattle.cmwq_json.specs.Members.{named_of}
+use Rattle.cmwq_json_script.specs.Queues.{add_queue}
+use Rattle.cmwq_json_script.proofs.queue.read_in_turn.Given as goal
+
+abbrev pub invariant-loop-index : goal.invariant-loop-index
+invariant-loop-index l = in_turn add_queue 0 nobody (items_view l.values) ≡ in_turn add_queue l.index (named_of l.queues) (items_view (drop l.index l.values))

@@ -1,0 +1,29 @@
+-- Callers: at most 64, each with a list of at most 1,000 calls.
+use Rattle.std.specs.Prelude.{ℕ, if◌then◌else◌, List, [], ◌∷◌, ◌++◌, length, Option, Some, None, nat_lt}
+use Rattle.std.specs.Result.{result_ok}
+use Rattle.serde_json.specs.Data.{Data}
+use Rattle.serde_json.specs.Find.{as_array}
+use Rattle.cmwq_model.specs.declared.call.Call.{Call}
+use Rattle.cmwq_json.specs.InTurn.{in_turn}
+use Rattle.cmwq_json_script.specs.Then.{◌>>=◌}
+use Rattle.cmwq_json_script.specs.Known.{Known}
+use Rattle.cmwq_json_script.specs.Calls.{call_said}
+
+-- one more, where there are fewer than so many
+abbrev pub add_few : {X : Type 0} → ℕ → List X → X → Option (List X)
+add_few most before x = if nat_lt (length before) most then Some (before ++ x ∷ []) else None
+
+abbrev pub add_call : Known → List Call → Data → Option (List Call)
+add_call known before d = do
+  call ← call_said known d
+  add_few 1000 before call
+
+abbrev pub calls_said : Known → Data → Option (List Call)
+calls_said known d = do
+  ds ← as_array d
+  result_ok (in_turn (add_call known) 0 [] ds)
+
+abbrev pub add_caller : Known → List (List Call) → Data → Option (List (List Call))
+add_caller known before d = do
+  calls ← calls_said known d
+  add_few 64 before calls

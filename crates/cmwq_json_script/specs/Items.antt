@@ -1,0 +1,33 @@
+-- Items: each has a name of its own, and what it does.
+use Rattle.std.specs.Prelude.{ℕ, if◌then◌else◌, List, [], ◌∷◌, Option, Some, None, codes}
+use Rattle.serde_json.specs.Data.{Data}
+use Rattle.serde_json.specs.Find.{get}
+use Rattle.cmwq_json.specs.Keys.{has_keys}
+use Rattle.cmwq_json.specs.Names.{Named, nobody, add_named}
+use Rattle.cmwq_json_script.specs.declared.action.Action.{Action}
+use Rattle.cmwq_json_script.specs.Then.{◌>>=◌}
+use Rattle.cmwq_json_script.specs.Known.{Known, name_in}
+use Rattle.cmwq_json_script.specs.Actions.{Does, does_said}
+
+abbrev pub item_said : Known → List (List ℕ) → Data → Option (List ℕ × Does)
+item_said known gates d =
+    if has_keys (codes "does" ∷ codes "name" ∷ []) d then (do
+      name ← name_in d
+      actions ← get (codes "does") d
+      does ← does_said known gates actions
+      Some (name, does))
+    else None
+
+-- the items so far, and the gates that they name
+pub record Work : Type 0 where
+  pub items : Named (List Action)
+  pub gates : List (List ℕ)
+
+abbrev pub no_work : Work
+no_work = record { items = nobody; gates = [] }
+
+abbrev pub add_item : Known → Work → Data → Option Work
+add_item known before d = do
+  said ← item_said known before.gates d
+  items ← add_named 256 before.items (said.0, said.1.actions)
+  Some (record { items = items; gates = said.1.gates })

@@ -1,0 +1,33 @@
+-- Queues: each has a name of its own, its max_active and its flags. A freezable that is left out is false.
+use Rattle.std.specs.Prelude.{ℕ, Bool, false, ◌||◌, if◌then◌else◌, List, [], ◌∷◌, Option, Some, None, codes}
+use Rattle.std.specs.Option.{option_map_or}
+use Rattle.serde_json.specs.Data.{Data}
+use Rattle.serde_json.specs.Find.{get, as_bool}
+use Rattle.cmwq_model.specs.declared.shape.QueueShape.{QueueShape}
+use Rattle.cmwq_json.specs.Keys.{has_keys}
+use Rattle.cmwq_json.specs.Names.{Named, add_named}
+use Rattle.cmwq_json.specs.Queues.{parts_said}
+use Rattle.cmwq_json_script.specs.Then.{◌>>=◌}
+
+abbrev pub has_queue_keys : Data → Bool
+has_queue_keys d =
+    has_keys (codes "high" ∷ codes "intensive" ∷ codes "max_active" ∷ codes "name" ∷ []) d
+    || has_keys (codes "freezable" ∷ codes "high" ∷ codes "intensive" ∷ codes "max_active" ∷ codes "name" ∷ []) d
+
+abbrev pub freezable_said : Data → Option Bool
+freezable_said d = option_map_or as_bool (get (codes "freezable") d) (Some false)
+
+abbrev pub queue_said : Data → Option (List ℕ × QueueShape)
+queue_said d =
+    if has_queue_keys d then (do
+      parts ← parts_said d
+      flag ← get (codes "high") d
+      high ← as_bool flag
+      freezable ← freezable_said d
+      Some (parts.0, record { max_active = parts.1; high = high; intensive = parts.2; freezable = freezable }))
+    else None
+
+abbrev pub add_queue : Named QueueShape → Data → Option (Named QueueShape)
+add_queue before d = do
+  queue ← queue_said d
+  add_named 64 before queue

@@ -1,0 +1,65 @@
+-- What a JSON value says of a run, or which member of it is refused first.
+use Rattle.std.specs.Prelude.{ℕ, if◌then◌else◌, List, [], length, Option, Result, Ok, Err, nat_lt}
+use Rattle.std.specs.Option.{option_map_or}
+use Rattle.serde_json.specs.Data.{Data}
+use Rattle.cmwq_model.specs.declared.call.Call.{Call}
+use Rattle.cmwq_model.specs.declared.shape.QueueShape.{QueueShape}
+use Rattle.cmwq_model.specs.Layout.{Layout}
+use Rattle.cmwq_input.specs.declared.refused.Refused.{Refused}
+use Rattle.cmwq_json.specs.InTurn.{in_turn}
+use Rattle.cmwq_json.specs.Names.{Named, nobody}
+use Rattle.cmwq_json.specs.Parts.{top, queues, items, callers}
+use Rattle.cmwq_json_script.specs.declared.action.Action.{Action}
+use Rattle.cmwq_json_script.specs.Tops.{Top, top_said}
+use Rattle.cmwq_json_script.specs.Known.{Known, names_after}
+use Rattle.cmwq_json_script.specs.Items.{Work, no_work, add_item}
+use Rattle.cmwq_json_script.specs.Queues.{add_queue}
+use Rattle.cmwq_json_script.specs.Callers.{add_caller}
+
+-- the layout, what each item does, the gates by name, the calls of each caller, and how the history is written
+pub record Run : Type 0 where
+  pub layout : Layout
+  pub does : List (List Action)
+  pub gates : List (List ℕ)
+  pub callers : List (List Call)
+  pub version : ℕ
+  pub journal : Option ℕ
+
+-- a part with at least one member, of which none is refused
+abbrev pub some_of : {S : Type 0} → (ℕ → Refused) → (S → ℕ) → Result S ℕ → Result S Refused
+some_of refused count (Err i) = Err (refused i)
+some_of refused count (Ok s) = if nat_lt 0 (count s) then Ok s else Err (refused 0)
+
+abbrev pub queues_said : Top → Result (Named QueueShape) Refused
+queues_said t = some_of queues (λ qs. length qs.values) (in_turn add_queue 0 nobody t.queues)
+
+abbrev pub items_said : Known → Top → Result Work Refused
+items_said known t = some_of items (λ w. length w.items.values) (in_turn (add_item known) 0 no_work t.items)
+
+abbrev pub callers_said : Known → Top → Result (List (List Call)) Refused
+callers_said known t = some_of callers length (in_turn (add_caller known) 0 [] t.callers)
+
+abbrev pub known_in : Top → Named QueueShape → Known
+known_in t qs = record { items = names_after [] t.items; queues = qs.names; cpus = t.cpus }
+
+abbrev pub layout_in : Top → List QueueShape → Work → List (List Call) → Layout
+layout_in t qs w cs = record { cpus = t.cpus; workers = t.workers; callers = length cs; items = length w.items.values; room = t.room; queues = qs }
+
+abbrev pub run_in : Top → List QueueShape → Work → List (List Call) → Run
+run_in t qs w cs = record { layout = layout_in t qs w cs; does = w.items.values; gates = w.gates; callers = cs; version = t.version; journal = t.journal }
+
+abbrev pub with_callers : Top → Named QueueShape → Work → Result (List (List Call)) Refused → Result Run Refused
+with_callers t qs w (Err refused) = Err refused
+with_callers t qs w (Ok cs) = Ok (run_in t qs.values w cs)
+
+abbrev pub with_items : Top → Named QueueShape → Result Work Refused → Result Run Refused
+with_items t qs (Err refused) = Err refused
+with_items t qs (Ok w) = with_callers t qs w (callers_said (known_in t qs) t)
+
+abbrev pub with_queues : Top → Result (Named QueueShape) Refused → Result Run Refused
+with_queues t (Err refused) = Err refused
+with_queues t (Ok qs) = with_items t qs (items_said (known_in t qs) t)
+
+-- the queues are looked at first, then the items, then the callers
+abbrev pub run_said : Data → Result Run Refused
+run_said d = option_map_or (λ t. with_queues t (queues_said t)) (top_said d) (Err top)

@@ -1,0 +1,68 @@
+-- The top of a script: its keys, its numbers and its lists.
+use Rattle.std.specs.Prelude.{ℕ, ◌≤◌, Bool, ◌==◌, ◌||◌, if◌then◌else◌, List, [], ◌∷◌, Option, Some, None, option_map, codes}
+use Rattle.std.specs.Option.{option_map_or}
+use Rattle.serde_json.specs.Data.{Data, Items}
+use Rattle.serde_json.specs.Find.{get, as_array}
+use Rattle.cmwq_model.specs.Layout.{most_room}
+use Rattle.cmwq_json.specs.Keys.{has_keys}
+use Rattle.cmwq_json.specs.Numbers.{number_between}
+use Rattle.cmwq_json_script.specs.Then.{◌>>=◌}
+
+-- The history is written in the format of this version. With a journal it is written as it is made, and so many entries are kept at a time.
+pub record Top : Type 0 where
+  pub cpus : ℕ
+  pub workers : ℕ
+  pub room : ℕ
+  pub version : ℕ
+  pub journal : Option ℕ
+  pub queues : Items
+  pub items : Items
+  pub callers : Items
+
+abbrev pub at_key : {A : Type 0} → (Data → Option A) → List ℕ → Data → Option A
+at_key says key d = do
+  e ← get key d
+  says e
+
+-- `format` and `journal` may be left out
+abbrev pub has_top_keys : Data → Bool
+has_top_keys d =
+    has_keys (codes "callers" ∷ codes "cpus" ∷ codes "items" ∷ codes "queues" ∷ codes "room" ∷ codes "workers" ∷ []) d
+    || has_keys (codes "callers" ∷ codes "cpus" ∷ codes "format" ∷ codes "items" ∷ codes "queues" ∷ codes "room" ∷ codes "workers" ∷ []) d
+    || has_keys (codes "callers" ∷ codes "cpus" ∷ codes "items" ∷ codes "journal" ∷ codes "queues" ∷ codes "room" ∷ codes "workers" ∷ []) d
+    || has_keys (codes "callers" ∷ codes "cpus" ∷ codes "format" ∷ codes "items" ∷ codes "journal" ∷ codes "queues" ∷ codes "room" ∷ codes "workers" ∷ []) d
+
+abbrev pub journal_said : Data → Option (Option ℕ)
+journal_said d = option_map_or (λ e. option_map Some (number_between 1 1000000 e)) (get (codes "journal") d) (Some None)
+
+-- what a journal writes is of format 3
+abbrev pub least_version : Option ℕ → ℕ
+least_version None = 2
+least_version (Some kept) = 3
+
+-- a format of histories that `run` writes, with a journal or without
+pub record IsRecorded (version : ℕ) (journal : Option ℕ) : Type 0 where
+  pub new : 2 ≤ version
+  pub least : least_version journal ≤ version
+  pub most : version ≤ 3
+
+-- it is the least where it is left out
+abbrev pub version_said : Option ℕ → Data → Option ℕ
+version_said journal d = option_map_or (number_between (least_version journal) 3) (get (codes "format") d) (Some (least_version journal))
+
+abbrev pub room_in : ℕ → ℕ
+room_in version = if version == 3 then most_room else 1000000
+
+abbrev pub top_said : Data → Option Top
+top_said d =
+    if has_top_keys d then (do
+      cpus ← at_key (number_between 1 4) (codes "cpus") d
+      workers ← at_key (number_between 1 8) (codes "workers") d
+      journal ← journal_said d
+      version ← version_said journal d
+      room ← at_key (number_between 0 (room_in version)) (codes "room") d
+      qs ← at_key as_array (codes "queues") d
+      is ← at_key as_array (codes "items") d
+      cs ← at_key as_array (codes "callers") d
+      Some (record { cpus = cpus; workers = workers; room = room; version = version; journal = journal; queues = qs; items = is; callers = cs }))
+    else None

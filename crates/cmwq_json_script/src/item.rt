@@ -1,0 +1,101 @@
+//! Items: their names, and what each does.
+
+ghost use Rattle.std.specs.Prelude.{◌≡◌, IfOk, Some, None, option_map, if◌then◌else◌, length};
+ghost use Rattle.serde_json.specs.View.{view, items_view};
+ghost use Rattle.cmwq_json.specs.InTurn.{in_turn};
+ghost use Rattle.cmwq_json.specs.Parts as refused;
+ghost use Rattle.cmwq_json.specs.Readings.{told};
+ghost use Rattle.cmwq_json_script.specs.Items as spec;
+ghost use Rattle.cmwq_json_script.specs.Runs.{some_of};
+ghost use Rattle.cmwq_json_script.specs.Views.{work_of};
+
+use crate::action::{Action, read_actions};
+use crate::gates::Gates;
+use crate::names::{MOST_ITEMS, Names, name_at};
+use cmwq_input::{Part, Refused};
+use cmwq_json::{Members, has_keys};
+use serde_json::Value;
+use std::alloc::{AllocError, Global};
+
+/// Items, and the gates that they name.
+#[derive(Drop)]
+pub struct Items {
+    pub members: Members<Vec<Action>>,
+    pub gates: Gates,
+}
+
+/// An item: an object with a name, and what it does.
+fn read_item<'v>(
+    alloc: Global,
+    names: &Names,
+    gates: &mut Gates,
+    value: &'v Value,
+) -> Result<Option<(&'v str, Vec<Action>)>, AllocError>
+    ensures { IfOk result (λ r. option_map (λ x. (x.0.now, record { actions = x.1.items; gates = gates.new })) r
+        ≡ spec.item_said names.now gates.old (view value.now)) }
+{
+    if !has_keys(value, &["does", "name"]) {
+        return Ok(None);
+    }
+    let (Some(name), Some(actions)) = (name_at(value), value.get("does")) else {
+        return Ok(None);
+    };
+    match read_actions(alloc, names, gates, actions)? {
+        Some(actions) => Ok(Some((name, actions))),
+        None => Ok(None),
+    }
+}
+
+fn add_item(
+    alloc: Global,
+    names: &Names,
+    items: &mut Items,
+    value: &Value,
+) -> Result<bool, AllocError>
+    ensures { IfOk result (λ added. spec.add_item names.now (work_of items.old) (view value.now)
+        ≡ (if added then Some (work_of items.new) else None)) }
+{
+    match read_item(alloc, names, &mut items.gates, value)? {
+        Some((name, actions)) => items.members.add(alloc, MOST_ITEMS, name, actions),
+        None => Ok(false),
+    }
+}
+
+/// The items in turn, or the place of the first that is refused.
+fn read_in_turn(
+    alloc: Global,
+    names: &Names,
+    values: &[Value],
+) -> Result<Result<Items, usize>, AllocError>
+    ensures { IfOk result (λ r. told work_of r ≡ in_turn (spec.add_item names.now) 0 spec.no_work (items_view values.now)) }
+{
+    let mut items = Items {
+        members: Members::new(alloc),
+        gates: Gates::new(alloc),
+    };
+    for (index, value) in values.iter().enumerate() {
+        if !add_item(alloc, names, &mut items, value)? {
+            return Ok(Err(index));
+        }
+    }
+    Ok(Ok(items))
+}
+
+/// The items, of which there is at least one, or the first that is refused.
+pub fn read_items(
+    alloc: Global,
+    names: &Names,
+    values: &[Value],
+) -> Result<Result<Items, Refused>, AllocError>
+    ensures { IfOk result (λ r. told work_of r ≡ some_of refused.items (λ w. length w.items.values) (in_turn (spec.add_item names.now) 0 spec.no_work (items_view values.now))) }
+{
+    let refuse = |index| Refused {
+        part: Part::Items,
+        index,
+    };
+    match read_in_turn(alloc, names, values)? {
+        Ok(items) if items.members.values.is_empty() => Ok(Err(refuse(0))),
+        Ok(items) => Ok(Ok(items)),
+        Err(index) => Ok(Err(refuse(index))),
+    }
+}

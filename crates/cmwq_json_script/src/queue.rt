@@ -1,0 +1,107 @@
+//! Queues: their names, max_active and flags.
+
+ghost use Rattle.std.specs.Prelude.{◌≡◌, IfOk, Some, None, option_map, if◌then◌else◌, length};
+ghost use Rattle.serde_json.specs.View.{view, items_view};
+ghost use Rattle.cmwq_json.specs.InTurn.{in_turn};
+ghost use Rattle.cmwq_json.specs.Names.{nobody};
+ghost use Rattle.cmwq_json.specs.Members.{named_of};
+ghost use Rattle.cmwq_json.specs.Parts as refused;
+ghost use Rattle.cmwq_json.specs.Readings.{told};
+ghost use Rattle.cmwq_json_script.specs.Queues as spec;
+ghost use Rattle.cmwq_json_script.specs.Runs.{some_of};
+
+use cmwq_input::{Part, Refused};
+use cmwq_json::{Members, has_keys, read_parts};
+use cmwq_model::QueueShape;
+use serde_json::Value;
+use std::alloc::{AllocError, Global};
+
+/// The greatest number of queues.
+const MOST_QUEUES: usize = 64;
+
+fn has_queue_keys(value: &Value) -> bool
+    ensures { result ≡ spec.has_queue_keys (view value.now) }
+{
+    has_keys(value, &["high", "intensive", "max_active", "name"])
+        || has_keys(
+            value,
+            &["freezable", "high", "intensive", "max_active", "name"],
+        )
+}
+
+fn read_freezable(value: &Value) -> Option<bool>
+    ensures { result ≡ spec.freezable_said (view value.now) }
+{
+    match value.get("freezable") {
+        Some(flag) => flag.as_bool(),
+        None => Some(false),
+    }
+}
+
+/// A queue: an object with a name, a max_active and its flags.
+fn read_queue(value: &Value) -> Option<(&str, QueueShape)>
+    ensures { option_map (λ r. (r.0.now, r.1)) result ≡ spec.queue_said (view value.now) }
+{
+    if !has_queue_keys(value) {
+        return None;
+    }
+    let (name, max_active, intensive) = read_parts(value)?;
+    let high = value.get("high")?.as_bool()?;
+    let freezable = read_freezable(value)?;
+    Some((
+        name,
+        QueueShape {
+            max_active,
+            high,
+            intensive,
+            freezable,
+        },
+    ))
+}
+
+fn add_queue(
+    alloc: Global,
+    queues: &mut Members<QueueShape>,
+    value: &Value,
+) -> Result<bool, AllocError>
+    ensures { IfOk result (λ added. spec.add_queue (named_of queues.old) (view value.now) ≡ (if added then Some (named_of queues.new) else None)) }
+{
+    match read_queue(value) {
+        Some((name, queue)) => queues.add(alloc, MOST_QUEUES, name, queue),
+        None => Ok(false),
+    }
+}
+
+/// The queues in turn, or the place of the first that is refused.
+fn read_in_turn(
+    alloc: Global,
+    values: &[Value],
+) -> Result<Result<Members<QueueShape>, usize>, AllocError>
+    ensures { IfOk result (λ r. told named_of r ≡ in_turn spec.add_queue 0 nobody (items_view values.now)) }
+{
+    let mut queues = Members::new(alloc);
+    for (index, value) in values.iter().enumerate() {
+        if !add_queue(alloc, &mut queues, value)? {
+            return Ok(Err(index));
+        }
+    }
+    Ok(Ok(queues))
+}
+
+/// The queues, of which there is at least one, or the first that is refused.
+pub fn read_queues(
+    alloc: Global,
+    values: &[Value],
+) -> Result<Result<Members<QueueShape>, Refused>, AllocError>
+    ensures { IfOk result (λ r. told named_of r ≡ some_of refused.queues (λ qs. length qs.values) (in_turn spec.add_queue 0 nobody (items_view values.now))) }
+{
+    let refuse = |index| Refused {
+        part: Part::Queues,
+        index,
+    };
+    match read_in_turn(alloc, values)? {
+        Ok(queues) if queues.values.is_empty() => Ok(Err(refuse(0))),
+        Ok(queues) => Ok(Ok(queues)),
+        Err(index) => Ok(Err(refuse(index))),
+    }
+}

@@ -1,0 +1,150 @@
+//! A script of a run, as a JSON value names it.
+
+ghost use Rattle.std.specs.Prelude.{◌≡◌, IfOk, Ok};
+ghost use Rattle.serde_json.specs.View.{view};
+ghost use Rattle.cmwq_json.specs.Members.{named_of};
+ghost use Rattle.cmwq_json.specs.Readings.{told};
+ghost use Rattle.cmwq_json_script.specs.Runs as spec;
+ghost use Rattle.cmwq_json_script.specs.Scripts.{run_of, IsWithin, MayRun};
+ghost use Rattle.cmwq_json_script.specs.Views.{top_of, queues_of, work_of, calls_of};
+
+use crate::action::Action;
+use crate::caller::read_callers;
+use crate::item::{Items, read_items};
+use crate::names::Names;
+use crate::queue::read_queues;
+use crate::top::Top;
+use cmwq_input::{Part, Refused};
+use cmwq_json::Members;
+use cmwq_model::{Call, Counts, QueueShape, Shape};
+use serde_json::Value;
+use std::alloc::{AllocError, Global};
+
+/// What a run does: its shape, what the function of each item does, the names of the gates, the calls of each caller, and how its history
+/// is written.
+#[derive(Drop)]
+pub struct Script {
+    pub shape: Shape,
+    /// The actions of each item, by its number.
+    pub does: Vec<Vec<Action>>,
+    /// The name of each gate, by its number.
+    pub gates: Vec<String>,
+    /// The calls of each caller, by its number.
+    pub callers: Vec<Vec<Call>>,
+    /// The format of the history: 2 or 3.
+    pub version: u8,
+    /// How many entries are kept at a time, where the history is written as it is made: in format 3 then.
+    pub journal: Option<u32>,
+}
+
+/// The script of parts that are inside the limits.
+fn script_of(
+    alloc: Global,
+    top: &Top<'_>,
+    queues: Vec<QueueShape>,
+    items: Items,
+    callers: Vec<Vec<Call>>,
+) -> Result<Script, AllocError>
+    requires { IsWithin (spec.run_in (top_of top.now) queues.items (work_of items) (calls_of callers)) }
+    ensures says { IfOk result (λ script. run_of script ≡ spec.run_in (top_of top.now) queues.items (work_of items) (calls_of callers)) }
+    ensures within { IfOk result MayRun }
+{
+    let Items { members, gates } = items;
+    let does = members.values;
+    let counts = Counts {
+        cpus: top.cpus,
+        workers: top.workers,
+        callers: callers.len() as u8,
+        items: does.len() as u16,
+        room: top.room,
+    };
+    let shape = Shape::new(counts, queues).unwrap();
+    let gates = gates.into_names(alloc)?;
+    Ok(Script {
+        shape,
+        does,
+        gates,
+        callers,
+        version: top.version,
+        journal: top.journal,
+    })
+}
+
+/// The script of these queues and items, and of the callers, which are read now.
+fn with_items(
+    alloc: Global,
+    top: &Top<'_>,
+    names: &Names,
+    queues: Vec<QueueShape>,
+    items: Items,
+) -> Result<Result<Script, Refused>, AllocError>
+    requires known { names.now ≡ spec.known_in (top_of top.now) (queues_of names.now queues) }
+    requires queues { spec.queues_said (top_of top.now) ≡ Ok (queues_of names.now queues) }
+    requires items { spec.items_said names.now (top_of top.now) ≡ Ok (work_of items) }
+    ensures says { IfOk result (λ r. told run_of r ≡ spec.with_callers (top_of top.now) (queues_of names.now queues) (work_of items) (spec.callers_said names.now (top_of top.now))) }
+    ensures within { IfOk result (λ r. IfOk r MayRun) }
+{
+    match read_callers(alloc, names, top.callers)? {
+        Ok(callers) => Ok(Ok(script_of(alloc, top, queues, items, callers)?)),
+        Err(refused) => Ok(Err(refused)),
+    }
+}
+
+/// The script of these queues, and of the items and the callers, which are read in turn.
+fn with_names(
+    alloc: Global,
+    top: &Top<'_>,
+    names: &Names,
+    queues: Vec<QueueShape>,
+) -> Result<Result<Script, Refused>, AllocError>
+    requires known { names.now ≡ spec.known_in (top_of top.now) (queues_of names.now queues) }
+    requires queues { spec.queues_said (top_of top.now) ≡ Ok (queues_of names.now queues) }
+    ensures says { IfOk result (λ r. told run_of r ≡ spec.with_queues (top_of top.now) (Ok (queues_of names.now queues))) }
+    ensures within { IfOk result (λ r. IfOk r MayRun) }
+{
+    match read_items(alloc, names, top.items)? {
+        Ok(items) => with_items(alloc, top, names, queues, items),
+        Err(refused) => Ok(Err(refused)),
+    }
+}
+
+/// The script of the queues that were read, by whose names calls may name them.
+fn with_queues(
+    alloc: Global,
+    top: &Top<'_>,
+    queues: Members<QueueShape>,
+) -> Result<Result<Script, Refused>, AllocError>
+    requires { spec.queues_said (top_of top.now) ≡ Ok (named_of queues) }
+    ensures says { IfOk result (λ r. told run_of r ≡ spec.with_queues (top_of top.now) (Ok (named_of queues))) }
+    ensures within { IfOk result (λ r. IfOk r MayRun) }
+{
+    let Members { names, values } = queues;
+    let names = Names::new(alloc, top.items, names, top.cpus)?;
+    with_names(alloc, top, &names, values)
+}
+
+/// The script of the lists of a top.
+fn read_lists(alloc: Global, top: &Top<'_>) -> Result<Result<Script, Refused>, AllocError>
+    ensures says { IfOk result (λ r. told run_of r ≡ spec.with_queues (top_of top.now) (spec.queues_said (top_of top.now))) }
+    ensures within { IfOk result (λ r. IfOk r MayRun) }
+{
+    match read_queues(alloc, top.queues)? {
+        Ok(queues) => with_queues(alloc, top, queues),
+        Err(refused) => Ok(Err(refused)),
+    }
+}
+
+/// The script of a run that a value names, or the first member that is refused: first the keys, their types and the numbers of the top,
+/// then the queues in order, then the items, then the callers. An Err is want of memory.
+pub fn read_script(alloc: Global, value: &Value) -> Result<Result<Script, Refused>, AllocError>
+    ensures says { IfOk result (λ r. told run_of r ≡ spec.run_said (view value.now)) }
+    ensures within { IfOk result (λ r. IfOk r MayRun) }
+{
+    match Top::read(value) {
+        Some(top) => read_lists(alloc, &top),
+        None => Ok(Err(Refused {
+            part: Part::Top,
+            index: 0,
+        })),
+    }
+}

@@ -1,5 +1,0 @@
-use Rattle.cmwq_laws.proofs.AsBefore.{all_as_before}
-use Rattle.cmwq_laws.proofs.before.active_are_as_before.Goals as goal
-
-pub returns : goal.returns
-returns c = all_as_before

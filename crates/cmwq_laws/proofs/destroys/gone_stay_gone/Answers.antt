@@ -1,5 +1,0 @@
-use Rattle.cmwq_laws.proofs.Gone.{gone_stay_gone}
-use Rattle.cmwq_laws.proofs.destroys.gone_stay_gone.Goals as goal
-
-pub returns : goal.returns
-returns c = gone_stay_gone

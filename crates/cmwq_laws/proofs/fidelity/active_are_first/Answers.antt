@@ -1,5 +1,0 @@
-use Rattle.cmwq_steps.proofs.Active.{active_are_first}
-use Rattle.cmwq_laws.proofs.fidelity.active_are_first.Goals as goal
-
-pub returns : goal.returns
-returns c = active_are_first

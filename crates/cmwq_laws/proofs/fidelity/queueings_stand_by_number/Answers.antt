@@ -1,5 +1,0 @@
-use Rattle.cmwq_active.proofs.Rising.{queueings_rise, open_rise}
-use Rattle.cmwq_laws.proofs.fidelity.queueings_stand_by_number.Goals as goal
-
-pub returns : goal.returns
-returns c = λ past. (queueings_rise past, open_rise past)

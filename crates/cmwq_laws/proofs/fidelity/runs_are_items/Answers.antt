@@ -1,5 +1,0 @@
-use Rattle.cmwq_steps.proofs.ItemRuns.{runs_are_items}
-use Rattle.cmwq_laws.proofs.fidelity.runs_are_items.Goals as goal
-
-pub returns : goal.returns
-returns c = runs_are_items

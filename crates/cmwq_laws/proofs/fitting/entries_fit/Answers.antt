@@ -1,5 +1,0 @@
-use Rattle.cmwq_laws.proofs.InRange.{entries_fit}
-use Rattle.cmwq_laws.proofs.fitting.entries_fit.Goals as goal
-
-pub returns : goal.returns
-returns c = entries_fit

@@ -1,5 +1,0 @@
-use Rattle.cmwq_laws.proofs.Settled.{cancels_settle}
-use Rattle.cmwq_laws.proofs.headline.cancel_syncs_settle.Goals as goal
-
-pub returns : goal.returns
-returns c = cancels_settle

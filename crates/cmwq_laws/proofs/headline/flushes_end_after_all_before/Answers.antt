@@ -1,5 +1,0 @@
-use Rattle.cmwq_laws.proofs.WaitedFor.{waits_end_after}
-use Rattle.cmwq_laws.proofs.headline.flushes_end_after_all_before.Goals as goal
-
-pub returns : goal.returns
-returns c = waits_end_after

@@ -1,5 +1,0 @@
-use Rattle.cmwq_laws.proofs.Width.{runs_within_active}
-use Rattle.cmwq_laws.proofs.headline.runs_are_active.Goals as goal
-
-pub returns : goal.returns
-returns c = runs_within_active

@@ -1,5 +1,0 @@
-use Rattle.cmwq_laws.proofs.WithinRoom.{short_room}
-use Rattle.cmwq_laws.proofs.room.short_have_time.Goals as goal
-
-pub returns : goal.returns
-returns c = short_room

@@ -1,5 +1,0 @@
-use Rattle.cmwq_laws.proofs.WithinRoom.{steps_within_room}
-use Rattle.cmwq_laws.proofs.room.steps_are_within_room.Goals as goal
-
-pub returns : goal.returns
-returns c = steps_within_room

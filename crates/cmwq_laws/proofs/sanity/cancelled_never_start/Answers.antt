@@ -1,5 +1,0 @@
-use Rattle.cmwq_laws.proofs.EndedOnce.{cancelled_never_start}
-use Rattle.cmwq_laws.proofs.sanity.cancelled_never_start.Goals as goal
-
-pub returns : goal.returns
-returns c = cancelled_never_start

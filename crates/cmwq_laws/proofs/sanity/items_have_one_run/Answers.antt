@@ -1,5 +1,0 @@
-use Rattle.cmwq_steps.proofs.OneRun.{one_run}
-use Rattle.cmwq_laws.proofs.sanity.items_have_one_run.Goals as goal
-
-pub returns : goal.returns
-returns c = one_run

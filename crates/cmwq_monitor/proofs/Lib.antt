@@ -1,0 +1,8 @@
+pub mod Beginnings
+pub mod Entries
+pub mod Entering
+pub mod Serials
+pub mod Firing
+pub mod Whole
+pub mod Fitting
+mod Predicted

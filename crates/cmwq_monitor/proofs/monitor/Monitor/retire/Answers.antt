@@ -1,0 +1,20 @@
+use Rattle.std.proofs.Common.{◌≡◌, ap, refl, false, inr, rules}
+use Rattle.cmwq_model.specs.declared.call.Call.TheVariants as calls
+use Rattle.cmwq_model.specs.Legal.{past_of}
+use Rattle.cmwq_model.specs.Room.{has_room}
+use Rattle.cmwq_monitor.specs.Held.{Held}
+use Rattle.cmwq_monitor.proofs.Entering.{room_is}
+use Rattle.cmwq_monitor.proofs.monitor.Monitor.retire.Goals as goal
+
+pub returns-in_default-clause-kept : goal.returns-in_default-clause-kept
+returns-in_default-clause-kept g c =
+    let s = g.N.HubName.layout in
+    let log = c.args.self.now.history in
+    let v = c.args.participant.now in
+    let held : c.self.inside.execution.entries ≡ log = ap (λ (h : Held). h.history) c.self.view_is in
+    let full : has_room s s.room (past_of log) v.who calls.Retire ≡ false =
+    room_is s c.self.inside.execution log c.who-who.result v.who calls.Retire false c.self.invariant.1 c.self.invariant.2 held c.who-who.ensures.who c.in_default.ensures.room in
+    (refl, inr full)
+
+pub returns-in-Ok-make-clause-retired : goal.returns-in-Ok-make-clause-retired
+returns-in-Ok-make-clause-retired g c = search rules

@@ -1,0 +1,10 @@
+pub mod Participants
+pub mod Held
+pub mod Calls
+pub mod Faults
+pub mod Whole
+pub mod Steps
+pub mod Starts
+pub mod Settled
+pub mod Journals
+pub mod Places

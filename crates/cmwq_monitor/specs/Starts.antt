@@ -1,0 +1,21 @@
+-- What a worker starts.
+use Rattle.std.specs.Prelude.{◌≡◌, ℕ, List, Some}
+use Rattle.cmwq_model.specs.declared.id.ItemId.{ItemId}
+use Rattle.cmwq_model.specs.declared.call.Call.TheVariants as call
+use Rattle.cmwq_model.specs.declared.reply.Reply.{Reply}
+use Rattle.cmwq_model.specs.declared.entry.Entry.{Entry}
+use Rattle.cmwq_model.specs.declared.record.Queueing.{Queueing}
+use Rattle.cmwq_model.specs.Layout.{Layout}
+use Rattle.cmwq_model.specs.Fate.{number_started}
+use Rattle.cmwq_model.specs.Queueings.{queueing_at}
+use Rattle.cmwq_model.specs.Legal.{past_of}
+use Rattle.cmwq_monitor.specs.Participants.{View}
+use Rattle.cmwq_monitor.specs.Calls.{Extends, own_entry}
+
+-- the entry starts a queueing, and this is its item
+abbrev pub StartsItem : List Entry → Entry → ItemId → Type 0
+StartsItem past e item = (n : ℕ) × (x : Queueing) × (number_started e.reply ≡ Some n) × (queueing_at past n ≡ Some x) × (item ≡ x.item)
+
+-- a worker made one entry, which starts a queueing of this item
+abbrev pub StartsOne : Layout → View → ItemId → View → Type 0
+StartsOne s v item w = (r : Reply) × (taken : Extends s v call.Take r w) × StartsItem (past_of taken.before) (own_entry s taken.before v call.Take) item

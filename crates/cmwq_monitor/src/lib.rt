@@ -1,0 +1,14 @@
+//! What a hub keeps under its lock, and the participants of its callers and workers.
+#![tactic(auto)]
+
+mod fault;
+mod journal;
+mod monitor;
+mod participant;
+mod sleepers;
+
+pub use fault::{RunFault, Shortage};
+pub use journal::{Journal, Rest};
+pub use monitor::Monitor;
+pub use participant::Participant;
+pub use sleepers::{Sleepers, Wakes, place_of};

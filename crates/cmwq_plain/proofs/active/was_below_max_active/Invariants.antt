@@ -1,0 +1,7 @@
+use Rattle.std.proofs.Common.{◌≡◌}
+use Rattle.cmwq_look.specs.Past.{upto}
+use Rattle.cmwq_theory_active.specs.Looks.{was_below_max_active}
+use Rattle.cmwq_plain.proofs.active.was_below_max_active.Given as goal
+
+abbrev pub invariant-loop-k : goal.invariant-loop-k
+invariant-loop-k l = l.had ≡ was_below_max_active l.shape (upto l.past l.k) l.queueing

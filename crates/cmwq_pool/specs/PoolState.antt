@@ -1,0 +1,53 @@
+-- A pool as one plain value: how many items there are, what is listed to start, and the slots of its workers.
+use Rattle.std.specs.Prelude.{ℕ, Bool, ◌&&◌, ◌||◌, not, ◌==◌, List, [], ◌∷◌, ◌++◌, map, filter, find, Option, option_map, nat_lt}
+use Rattle.std.specs.List.{range_with_len, list_any}
+use Rattle.cmwq_pool.specs.declared.task.Task.{Task}
+use Rattle.cmwq_pool.specs.declared.slot.Slot.{Slot}
+use Rattle.cmwq_pool.specs.Slots.{new_slot, runs_item, with_slot, slots_started}
+
+pub record PoolState : Type 0 where
+  pub items : ℕ
+  pub listed : List Task
+  pub slots : List Slot
+
+-- nothing is listed, and worker 0 is enlisted
+abbrev pub new_pool_state : ℕ → ℕ → PoolState
+new_pool_state items workers = record { items = items; listed = []; slots = map new_slot (range_with_len 0 workers) }
+
+abbrev pub task : ℕ → ℕ → Bool → Task
+task n i intensive = record { number = n; item = record { 0 = i }; intensive = intensive }
+
+-- a queueing may be listed if its item is one of those there are, and nothing that is listed has its number or its item
+abbrev pub is_like : ℕ → ℕ → Task → Bool
+is_like n i t = (t.number == n) || (t.item.0 == i)
+
+abbrev pub may_add : PoolState → ℕ → ℕ → Bool
+may_add p n i = nat_lt i p.items && not (list_any (is_like n i) p.listed)
+
+abbrev pub added : PoolState → Task → PoolState
+added p t = record p { listed = p.listed ++ t ∷ [] }
+
+-- all but the one with this number
+abbrev pub is_not : ℕ → Task → Bool
+is_not n t = not (t.number == n)
+
+abbrev pub removed : PoolState → ℕ → PoolState
+removed p n = record p { listed = filter (is_not n) p.listed }
+
+-- the next to start: the first whose item has no run
+abbrev pub is_startable : List Slot → Task → Bool
+is_startable slots t = not (runs_item slots t.item.0)
+
+abbrev pub next_task : PoolState → Option Task
+next_task p = find (is_startable p.slots) p.listed
+
+abbrev pub next : PoolState → Option ℕ
+next p = option_map (λ (t : Task). t.number) (next_task p)
+
+-- it leaves the list, and its worker runs it and enlists whom the rule says
+abbrev pub started : PoolState → ℕ → Task → PoolState
+started p w t = record p { listed = filter (is_not t.number) p.listed; slots = slots_started p.slots w t }
+
+-- the slot of one worker changes, and nothing else
+abbrev pub with_slot_again : (Slot → Slot) → PoolState → ℕ → PoolState
+with_slot_again change p w = record p { slots = with_slot change w p.slots }

@@ -1,0 +1,5 @@
+use Rattle.cmwq_publish.proofs.Seats.{looks}
+use Rattle.cmwq_publish.proofs.reader.read.Goals as goal
+
+pub enter_as-requires : goal.enter_as-requires
+enter_as-requires g c x = looks _ _ x

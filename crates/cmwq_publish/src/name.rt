@@ -1,0 +1,20 @@
+use std::marker::Brand;
+use std::sync::ledger::Ledger;
+
+/// Names one hub: the log of its history, its shape, and the ledger of its entries. Contracts alone read it.
+pub trait HubName: Ledger {
+    ghost use Rattle.logbook.specs.Pages.{Book};
+    ghost use Rattle.cmwq_model.specs.Layout.{Layout};
+
+    ghost book: { Book };
+
+    ghost layout: { Layout };
+}
+
+impl HubName for Brand {
+    ghost use Rattle.cmwq_publish.specs.Unnamed.{no_book, no_layout};
+
+    ghost book = { no_book };
+
+    ghost layout = { no_layout };
+}

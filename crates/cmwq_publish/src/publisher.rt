@@ -1,0 +1,105 @@
+ghost use Rattle.std.specs.Prelude.{◌≡◌, ◌<◌, ◌^◌, ◌++◌, ◌∷◌, [], length, drop, MatchResult};
+ghost use Rattle.left_right.specs.Sides.{view};
+ghost use Rattle.cmwq_publish.specs.Marked.{caller_of};
+ghost use Rattle.cmwq_publish.specs.Next.{IsNext};
+ghost use Rattle.cmwq_publish.specs.Published.{Follows, Shows, IsOut};
+
+use crate::log::Head;
+use crate::name::HubName;
+use crate::prefix::Prefix;
+use crate::publishing::put_out;
+use crate::versions::{BitsWriter, Publish};
+use cmwq_model::{CallerId, Mark, NoMemory, Who};
+use core::mem::replace_with;
+use std::marker::Model;
+use std::sync::Wait;
+
+/// What the lock keeps of the published history. Contracts see it as the entries that are published, the oldest first.
+pub struct Publisher<N: HubName> {
+    head: Head<N>,
+    prefix: Prefix<N>,
+    writer: BitsWriter,
+}
+
+impl<N: HubName> Model for Publisher<N> {
+    ghost use Rattle.std.specs.Prelude.{List, drop};
+    ghost use Rattle.cmwq_model.specs.declared.entry.Entry.{Entry};
+    ghost use Rattle.cmwq_publish.specs.Published.{IsOut};
+
+    ghost Value = { List Entry };
+
+    ghost view = { λ s. s.prefix };
+
+    ghost invariant = { λ s. IsOut N.layout N.book s.prefix s.writer.desk.shown.value (drop s.writer.behind s.writer.log.items) };
+}
+
+// The caller, where it is one.
+fn caller_of(who: Who) -> Option<CallerId>
+    ensures { result ≡ caller_of who }
+{
+    match who {
+        Who::Caller(caller) => Some(caller),
+        Who::Worker(_) => None,
+    }
+}
+
+impl<N: HubName> Publisher<N> {
+    // The publisher of a hub whose writer shows no entry.
+    pub(crate) fn new(head: Head<N>, prefix: Prefix<N>, writer: BitsWriter) -> Publisher<N>
+        requires { IsOut N.layout N.book prefix writer.desk.shown.value (drop writer.behind writer.log.items) }
+        ensures { result ≡ prefix }
+    {
+        Publisher {
+            head,
+            prefix,
+            writer,
+        }
+    }
+
+    /// Publishes one more entry, with the bits that its mark leaves. It waits for readers that still read the version
+    /// before the last. After `NoMemory` nothing more is published, and each later call answers `NoMemory` too.
+    pub fn publish<R: Wait>(&mut self, rt: &R, mark: Mark) -> Result<(), NoMemory>
+        requires next { IsNext N.layout self.old mark }
+        requires few { length self.old < 2 ^ 62 }
+        ensures { MatchResult result (λ _. self.new ≡ self.old ++ mark.entry ∷ []) (λ _. self.new ≡ self.old) }
+    {
+        let Some(prefix) = self.prefix.extended(&self.head, mark.entry) else {
+            return Err(NoMemory);
+        };
+        let publish = Publish {
+            item: mark.item,
+            bits: mark.bits,
+            caller: caller_of(mark.entry.who),
+            serial: mark.entry.serial + 1,
+            len: prefix.len(),
+            seen: prefix.token(),
+        };
+        replace_with(
+            &mut self.writer,
+            publish,
+            |writer, publish| -> (BitsWriter, Result<(), NoMemory>)
+                requires { (drop writer.behind writer.log.items ≡ []) × Follows writer.desk.shown.value publish }
+                ensures { (drop result.0.behind result.0.log.items ≡ []) × MatchResult result.1 (λ _. Shows writer.desk.shown.value publish result.0.desk.shown.value (view result.0.desk.place)) (λ _. result.0.desk.shown.value ≡ writer.desk.shown.value) }
+            { put_out(rt, writer, publish) },
+        )?;
+        self.prefix = prefix;
+        Ok(())
+    }
+
+    /// All that is published.
+    pub fn prefix(&self) -> &Prefix<N>
+        ensures { result.now ≡ self.now }
+    {
+        &self.prefix
+    }
+
+    /// Waits for the readers to leave. From then on they find nothing.
+    pub fn end<R: Wait>(self, rt: &R) {
+        let Publisher {
+            head: _head,
+            prefix: _prefix,
+            writer,
+        } = self;
+        writer.take(rt);
+    }
+}

@@ -1,0 +1,27 @@
+//! One mark is published.
+ghost use Rattle.std.specs.Prelude.{◌≡◌, [], drop, MatchResult};
+ghost use Rattle.left_right.specs.Sides.{view};
+ghost use Rattle.cmwq_publish.specs.Published.{Follows, Shows};
+
+use crate::versions::{BitsWriter, Look, Publish};
+use cmwq_model::NoMemory;
+use std::sync::Wait;
+
+// Readers see the bits that the mark leaves, or that they saw before.
+pub(crate) fn put_out<R: Wait>(
+    rt: &R,
+    mut writer: BitsWriter,
+    mark: Publish,
+) -> (BitsWriter, Result<(), NoMemory>)
+    requires idle { drop writer.behind writer.log.items ≡ [] }
+    requires follows { Follows writer.desk.shown.value mark }
+    ensures idle { drop result.0.behind result.0.log.items ≡ [] }
+    ensures shown { MatchResult result.1 (λ _. Shows writer.desk.shown.value mark result.0.desk.shown.value (view result.0.desk.place)) (λ _. result.0.desk.shown.value ≡ writer.desk.shown.value) }
+{
+    let Ok(()) = writer.append(mark) else {
+        return (writer, Err(NoMemory));
+    };
+    let (writer, published) = writer.publish_as::<Look, R>(rt);
+    published.unwrap();
+    (writer, Ok(()))
+}

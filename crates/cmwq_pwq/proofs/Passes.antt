@@ -1,0 +1,114 @@
+-- One step of the pass over what waits.
+use Rattle.std.proofs.Common.{append-nil, ◌≡◌, ◌≢◌, ℕ, ◌+◌, ◌*◌, ◌<◌, ◌≤◌, Bool, true, false, not, ◌&&◌, ◌==◌, List, [], ◌∷◌, ◌++◌, length, filter, take, drop, cond, get_or, count_by, nat_lt, refl, sym, ap, ap₂, ◌∙◌, subst, arith}
+use Rattle.std.specs.Prelude.{slice_set}
+use Rattle.std.proofs.lemmas.Bool.{eqb-true, eq-eqb, lt-ltb, le-ltb, and_parts}
+use Rattle.std.proofs.lemmas.Grind.{get_or-set_at}
+use Rattle.std.proofs.lemmas.List.{get_or-set_other, take_more, drop_more, take-append-drop, take_all, get_or_default, length-set}
+use Rattle.std.proofs.lemmas.List.Elements.{filter-append}
+use Rattle.std.proofs.lemmas.List.Sums.{sum_by-append}
+use Rattle.cmwq_model.specs.declared.record.Queueing.{Queueing}
+use Rattle.cmwq_theory_steps.specs.Places.{is_on}
+use Rattle.cmwq_theory_active.proofs.Lists.{count_by-cons}
+use Rattle.cmwq_pwq.specs.Pwqs.{place_of, count_at, count_of_same_pwq, AreBelowMaxActive, Passes}
+
+pub count_by-append : {X : Type 0} (p : X → Bool) (xs ys : List X) → count_by p (xs ++ ys) ≡ count_by p xs + count_by p ys
+count_by-append p xs ys = sum_by-append (λ x. cond (p x) 1 0) xs ys
+
+pub count_by-one : {X : Type 0} (p : X → Bool) (x : X) → count_by p (x ∷ []) ≡ cond (p x) 1 0
+count_by-one p x = let e = count_by-cons p x [] in e ∙ (let zero : cond (p x) 1 0 + count_by p [] ≡ cond (p x) 1 0 = omega arith in zero)
+
+-- two places are one only for one queue on one CPU
+pub one_place : (q c r d : ℕ) → c < 4 → d < 4 → place_of q c ≡ place_of r d → (q ≡ r) × (c ≡ d)
+one_place q c r d k m h = (omega arith, omega arith)
+
+pub on_parts : (q c : ℕ) (x : Queueing) → is_on q c x ≡ true → (x.place.queue.0 ≡ q) × (x.place.cpu.0 ≡ c)
+on_parts q c x h = let both = and_parts (x.place.queue.0 == q) (x.place.cpu.0 == c) h in (eqb-true x.place.queue.0 q both.0, eqb-true x.place.cpu.0 c both.1)
+
+pub on_itself : (q c : ℕ) (x : Queueing) → x.place.queue.0 ≡ q → x.place.cpu.0 ≡ c → is_on q c x ≡ true
+on_itself q c x h k = ap₂ (λ a b. a && b) (eq-eqb x.place.queue.0 q h) (eq-eqb x.place.cpu.0 c k)
+
+-- a count that is set, at each place
+pub count_set : (counts : List ℕ) (x : Queueing) (n q c : ℕ) → x.place.cpu.0 < 4 → c < 4 → place_of x.place.queue.0 x.place.cpu.0 < length counts →
+    count_at (slice_set counts (place_of x.place.queue.0 x.place.cpu.0) n) q c ≡ cond (is_on q c x) n (count_at counts q c)
+count_set counts x n q c k m here = by (is_on q c x) refl
+  where
+    at : ℕ
+    at = place_of x.place.queue.0 x.place.cpu.0
+
+    by : (b : Bool) → is_on q c x ≡ b → count_at (slice_set counts (place_of x.place.queue.0 x.place.cpu.0) n) q c ≡ cond b n (count_at counts q c)
+    by true h = let p = on_parts q c x h in get_or-set_at counts (place_of x.place.queue.0 x.place.cpu.0) (place_of q c) n 0 (ap₂ place_of (sym p.0) (sym p.1)) here
+    by false h =
+        let apart : place_of q c ≢ place_of x.place.queue.0 x.place.cpu.0 = λ same.
+        let p = one_place q c x.place.queue.0 x.place.cpu.0 m k same in
+        let on = on_itself q c x (sym p.0) (sym p.1) in
+        let bad : false ≡ true = sym h ∙ on in cc in
+        get_or-set_other counts (place_of x.place.queue.0 x.place.cpu.0) (place_of q c) n 0 apart
+
+module _ (way : Queueing → Bool) (old : List ℕ) (done : List Queueing) (x : Queueing) where
+  pub passes_kept : (new : List ℕ) (rest taken : List Queueing) → Passes way done old new rest taken → way x ≡ false → Passes way (done ++ x ∷ []) old new (rest ++ x ∷ []) taken
+  passes_kept new rest taken p h =
+      let same : filter way (done ++ x ∷ []) ≡ filter way done = filter-append way done (x ∷ []) ∙ (ap (λ b. filter way done ++ cond b (x ∷ []) []) h ∙ append-nil (filter way done)) in
+      record {
+        kept = ap (λ ys. ys ++ x ∷ []) p.kept ∙ sym (filter-append (λ y. not (way y)) done (x ∷ []) ∙ ap (λ b. filter (λ y. not (way y)) done ++ cond (not b) (x ∷ []) []) h);
+        activated = p.activated ∙ sym same;
+        many = p.many;
+        counts = λ q c less here. p.counts q c less here ∙ ap (λ ys. count_at old q c + count_by (is_on q c) ys) (sym same);
+      }
+
+  pub passes_activated : (new : List ℕ) (rest taken : List Queueing) → Passes way done old new rest taken → way x ≡ true → x.place.cpu.0 < 4 → place_of x.place.queue.0 x.place.cpu.0 < length old →
+      Passes way (done ++ x ∷ []) old (slice_set new (place_of x.place.queue.0 x.place.cpu.0) (count_of_same_pwq new x + 1)) rest (taken ++ x ∷ [])
+  passes_activated new rest taken p h few there =
+      let more : filter way (done ++ x ∷ []) ≡ filter way done ++ x ∷ [] = filter-append way done (x ∷ []) ∙ ap (λ b. filter way done ++ cond b (x ∷ []) []) h in
+      let there_new : place_of x.place.queue.0 x.place.cpu.0 < length new = rw p.many there in
+      record {
+        kept = p.kept ∙ sym (filter-append (λ y. not (way y)) done (x ∷ []) ∙ (ap (λ b. filter (λ y. not (way y)) done ++ cond (not b) (x ∷ []) []) h ∙ append-nil (filter (λ y. not (way y)) done)));
+        activated = ap (λ ys. ys ++ x ∷ []) p.activated ∙ sym more;
+        many = length-set new (place_of x.place.queue.0 x.place.cpu.0) (count_of_same_pwq new x + 1) ∙ p.many;
+        counts = λ q c less here.
+            let one_more : count_by (is_on q c) (filter way (done ++ x ∷ [])) ≡ count_by (is_on q c) (filter way done) + cond (is_on q c x) 1 0 = ap (count_by (is_on q c)) more ∙ (count_by-append (is_on q c) (filter way done) (x ∷ []) ∙ ap (λ n. count_by (is_on q c) (filter way done) + n) (count_by-one (is_on q c) x)) in
+            count_set new x (count_of_same_pwq new x + 1) q c few less there_new ∙ by q c less here (is_on q c x) refl ∙ ap (λ n. count_at old q c + n) (sym one_more);
+      }
+    where
+      by : (q c : ℕ) → c < 4 → place_of q c < length old → (b : Bool) → is_on q c x ≡ b → cond b (count_of_same_pwq new x + 1) (count_at new q c) ≡ count_at old q c + (count_by (is_on q c) (filter way done) + cond b 1 0)
+      by q c less here true on =
+          let at = on_parts q c x on in
+          let same : count_of_same_pwq new x ≡ count_at new q c = ap₂ (count_at new) at.0 at.1 in
+          let was = p.counts q c less here in
+          omega arith
+      by q c less here false on = let was = p.counts q c less here in omega arith
+
+  -- what the counts say now is whether it is below max_active
+  pub way_now : (wide : ℕ → ℕ) (xs tail : List Queueing) (new : List ℕ) (rest taken : List Queueing) → AreBelowMaxActive way wide old xs → xs ≡ done ++ x ∷ tail → Passes way done old new rest taken → x.place.cpu.0 < 4 → place_of x.place.queue.0 x.place.cpu.0 < length old →
+      way x ≡ nat_lt (count_of_same_pwq new x) (wide x.place.queue.0)
+  way_now wide xs tail new rest taken have split p few there =
+      have done x tail split ∙ ap (λ n. nat_lt n (wide x.place.queue.0)) (sym (p.counts x.place.queue.0 x.place.cpu.0 few there))
+
+-- the step at place i of the list
+module _ (way : Queueing → Bool) (wide : ℕ → ℕ) (old : List ℕ) (xs : List Queueing) (i : ℕ) (d : Queueing) (inside : i < length xs) (have : AreBelowMaxActive way wide old xs) where
+  pub split_here : xs ≡ take i xs ++ get_or xs i d ∷ drop (i + 1) xs
+  split_here = sym (take-append-drop i xs) ∙ ap (λ ys. take i xs ++ ys) (drop_more xs i d inside)
+
+  pub pass_kept : (new : List ℕ) (rest taken : List Queueing) → Passes way (take i xs) old new rest taken → (get_or xs i d).place.cpu.0 < 4 → place_of (get_or xs i d).place.queue.0 (get_or xs i d).place.cpu.0 < length old →
+      wide (get_or xs i d).place.queue.0 ≤ count_of_same_pwq new (get_or xs i d) → Passes way (take (i + 1) xs) old new (rest ++ get_or xs i d ∷ []) taken
+  pass_kept new rest taken p few there full =
+      let x = get_or xs i d in
+      let not_below_max_active : way x ≡ false = way_now way old (take i xs) x wide xs (drop (i + 1) xs) new rest taken have split_here p few there ∙ le-ltb (count_of_same_pwq new x) (wide x.place.queue.0) full in
+      subst (λ ys. Passes way ys old new (rest ++ x ∷ []) taken) (sym (take_more xs i d inside)) (passes_kept way old (take i xs) x new rest taken p not_below_max_active)
+
+  pub pass_activated : (new : List ℕ) (rest taken : List Queueing) → Passes way (take i xs) old new rest taken → (get_or xs i d).place.cpu.0 < 4 → place_of (get_or xs i d).place.queue.0 (get_or xs i d).place.cpu.0 < length old →
+      count_of_same_pwq new (get_or xs i d) < wide (get_or xs i d).place.queue.0 →
+      Passes way (take (i + 1) xs) old (slice_set new (place_of (get_or xs i d).place.queue.0 (get_or xs i d).place.cpu.0) (count_of_same_pwq new (get_or xs i d) + 1)) rest (taken ++ get_or xs i d ∷ [])
+  pass_activated new rest taken p few there free =
+      let x = get_or xs i d in
+      let is_below_max_active : way x ≡ true = way_now way old (take i xs) x wide xs (drop (i + 1) xs) new rest taken have split_here p few there ∙ lt-ltb (count_of_same_pwq new x) (wide x.place.queue.0) free in
+      subst (λ ys. Passes way ys old (slice_set new (place_of x.place.queue.0 x.place.cpu.0) (count_of_same_pwq new x + 1)) rest (taken ++ x ∷ [])) (sym (take_more xs i d inside)) (passes_activated way old (take i xs) x new rest taken p is_below_max_active few there)
+
+pub pass_all : (way : Queueing → Bool) (old new : List ℕ) (xs rest taken : List Queueing) (i : ℕ) → length xs ≤ i → Passes way (take i xs) old new rest taken → Passes way xs old new rest taken
+pass_all way old new xs rest taken i past p = subst (λ ys. Passes way ys old new rest taken) (take_all i xs past) p
+
+-- what is read at a place that is inside is the count there
+pub read_count : (counts : List ℕ) (x : Queueing) (at n : ℕ) → at ≡ place_of x.place.queue.0 x.place.cpu.0 → at < length counts → n ≡ get_or counts at n → n ≡ count_of_same_pwq counts x
+read_count counts x at n place inside read = read ∙ (get_or_default counts at n 0 inside ∙ ap (λ j. get_or counts j 0) place)
+
+pub place_inside : (q c queues n : ℕ) → q < queues → c < 4 → n ≡ 4 * queues → place_of q c < n
+place_inside q c queues n h k many = omega arith

@@ -1,0 +1,123 @@
+-- What waits to become active, and how many are active of each queue on each CPU.
+use Rattle.std.specs.Prelude.{◌≡◌, ℕ, ◌+◌, ◌*◌, ◌-◌, ◌<◌, ◌≤◌, Bool, true, false, Option, Some, None, ◌&&◌, not, ◌==◌, if◌then◌else◌, List, [], ◌∷◌, ◌++◌, length, filter, count_by, replicate, nat_lt, slice_index, slice_set, slice_index_or, All}
+use Rattle.std.specs.List.{AllByRecursion, list_any}
+use Rattle.cmwq_model.specs.declared.record.Queueing.{Queueing}
+use Rattle.cmwq_model.specs.declared.shape.QueueShape.{QueueShape}
+use Rattle.cmwq_model.specs.Layout.{no_queue}
+use Rattle.cmwq_model.specs.Queueings.{has_number}
+use Rattle.cmwq_theory_steps.specs.Places.{is_on}
+
+-- what waits, and what the last pass made active, both in their order; room is how many may wait
+pub record PwqState : Type 0 where
+  pub room : ℕ
+  pub counts : List ℕ
+  pub waiting : List Queueing
+  pub activated : List Queueing
+
+-- the active ones of queue q on CPU c are counted at this place
+abbrev pub place_of : ℕ → ℕ → ℕ
+place_of q c = 4 * q + c
+
+abbrev pub count_at : List ℕ → ℕ → ℕ → ℕ
+count_at counts q c = slice_index counts (place_of q c)
+
+abbrev pub count_of_same_pwq : List ℕ → Queueing → ℕ
+count_of_same_pwq counts x = count_at counts x.place.queue.0 x.place.cpu.0
+
+abbrev pub new_pwq_state : ℕ → ℕ → PwqState
+new_pwq_state queues room = record { room = room; counts = replicate (4 * queues) 0; waiting = []; activated = [] }
+
+-- a queueing that is opened waits
+abbrev pub opened : PwqState → Queueing → PwqState
+opened l x = record l { waiting = l.waiting ++ x ∷ [] }
+
+-- one that ends waits no more, and where it didn't wait it was active
+abbrev pub is_waiting : PwqState → Queueing → Bool
+is_waiting l x = list_any (has_number x.number) l.waiting
+
+abbrev pub is_other : ℕ → Queueing → Bool
+is_other n x = not (x.number == n)
+
+abbrev pub ended : PwqState → Queueing → PwqState
+ended l x =
+    if is_waiting l x then record l { waiting = filter (is_other x.number) l.waiting }
+    else record l { counts = slice_set l.counts (place_of x.place.queue.0 x.place.cpu.0) (count_of_same_pwq l.counts x - 1) }
+
+-- it is told of a queueing that ended, and of one that was opened, where there was one
+abbrev pub told_ended : Option Queueing → PwqState → PwqState
+told_ended None l = l
+told_ended (Some x) l = ended l x
+
+abbrev pub told_opened : Option Queueing → PwqState → PwqState
+told_opened None l = l
+told_opened (Some x) l = opened l x
+
+-- each may be told
+abbrev pub MayEnd : Option Queueing → PwqState → Type 0
+MayEnd None l = Unit {0}
+MayEnd (Some x) l = (place_of x.place.queue.0 x.place.cpu.0 < length l.counts) × (is_waiting l x ≡ false → 0 < count_of_same_pwq l.counts x)
+
+abbrev pub MayOpen : Option Queueing → PwqState → Type 0
+MayOpen None l = Unit {0}
+MayOpen (Some x) l = length l.waiting < l.room
+
+-- how wide queue q is, by max_active of each queue and whether the freezable ones are frozen
+abbrev pub width_by : List QueueShape → List ℕ → Bool → ℕ → ℕ
+width_by queues most frozen q = if (slice_index_or queues q no_queue).freezable && frozen then 0 else slice_index most q
+
+-- What is below max_active, told by what is counted: a queueing of the list is below max_active where fewer than the width are active on its pool workqueue, with those before it
+-- in the list that are below max_active.
+abbrev pub AreBelowMaxActive : (Queueing → Bool) → (ℕ → ℕ) → List ℕ → List Queueing → Type 0
+AreBelowMaxActive way wide counts xs = (done : List Queueing) (x : Queueing) (rest : List Queueing) → xs ≡ done ++ x ∷ rest
+    → way x ≡ nat_lt (count_of_same_pwq counts x + count_by (is_on x.place.queue.0 x.place.cpu.0) (filter way done)) (wide x.place.queue.0)
+
+-- those that are below max_active become active and are counted, and the others go on waiting
+pub record Passes (way : Queueing → Bool) (xs : List Queueing) (old new : List ℕ) (rest taken : List Queueing) : Type 0 where
+  pub kept : rest ≡ filter (λ x. not (way x)) xs
+  pub activated : taken ≡ filter way xs
+  pub many : length new ≡ length old
+  pub counts : (q c : ℕ) → c < 4 → place_of q c < length old → count_at new q c ≡ count_at old q c + count_by (is_on q c) (filter way xs)
+
+-- The pool workqueues after the pass are those before it with what is below max_active made active.
+pub record IsPassed (wide : ℕ → ℕ) (old new : PwqState) : Type 0 where
+  pub passes : (way : Queueing → Bool) → AreBelowMaxActive way wide old.counts old.waiting → Passes way old.waiting old.counts new.counts new.waiting new.activated
+  pub many : length new.counts ≡ length old.counts
+  pub room : new.room ≡ old.room
+  pub sorted : length new.waiting + length new.activated ≡ length old.waiting
+
+-- the width or more are active beside the queueing, at a place that is counted
+pub record IsBehind (wide : ℕ → ℕ) (counts : List ℕ) (x : Queueing) : Type 0 where
+  pub cpu : x.place.cpu.0 < 4
+  pub counted : place_of x.place.queue.0 x.place.cpu.0 < length counts
+  pub behind : wide x.place.queue.0 ≤ count_of_same_pwq counts x
+
+abbrev pub AreBehind : (ℕ → ℕ) → List ℕ → List Queueing → Type 0
+AreBehind wide counts xs = AllByRecursion (IsBehind wide counts) xs
+
+-- the queueing is of a queue that there is, on one of four CPUs
+abbrev pub IsPlaced : ℕ → Queueing → Type 0
+IsPlaced queues x = (x.place.queue.0 < queues) × (x.place.cpu.0 < 4)
+
+abbrev pub ArePlaced : ℕ → List Queueing → Type 0
+ArePlaced queues xs = All (IsPlaced queues) xs
+
+abbrev pub IsPlacedIf : ℕ → Option Queueing → Type 0
+IsPlacedIf queues None = Unit {0}
+IsPlacedIf queues (Some x) = IsPlaced queues x
+
+-- the first of a list that is of queue q on CPU c is taken out
+pub record IsFirstTaken (q c : ℕ) (old new : List Queueing) (x : Queueing) : Type 0 where
+  pub before : List Queueing
+  pub after : List Queueing
+  pub stood : old ≡ before ++ x ∷ after
+  pub left : new ≡ before ++ after
+  pub is_there : is_on q c x ≡ true
+  pub none_before : AllByRecursion (λ y. is_on q c y ≡ false) before
+
+-- there is room in each list, and no more wait than may
+pub record IsPwqState (room waiting_room spare_room activated_room : ℕ) (waiting spare : List Queueing) : Type 0 where
+  pub waits : room ≤ waiting_room
+  pub spares : room ≤ spare_room
+  pub activates : room ≤ activated_room
+  pub few : length waiting ≤ room
+  pub none_spare : spare ≡ []

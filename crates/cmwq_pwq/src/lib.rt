@@ -1,0 +1,8 @@
+//! What waits to become active, with the active counts and the pass over it.
+#![tactic(auto)]
+
+mod pass;
+mod pwqs;
+mod waiting;
+
+pub use pwqs::Pwqs;

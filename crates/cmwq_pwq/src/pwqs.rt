@@ -1,0 +1,220 @@
+ghost use Rattle.std.specs.Prelude.{◌≡◌, ℕ, Bool, ◌+◌, ◌*◌, ◌<◌, true, false, [], length, IfOk, IfSome};
+ghost use Rattle.cmwq_pwq.specs.Pwqs.{AreBehind, ArePlaced, IsPassed, IsPlacedIf, PwqState, MayEnd, MayOpen, count_of_same_pwq, ended, is_waiting, new_pwq_state, opened, place_of, told_ended, told_opened, width_by};
+
+use crate::pass::{pass, place_of, width_by};
+use crate::waiting::{has_number, take_first, take_number};
+use cmwq_model::{NoMemory, QueueShape, Queueing};
+use std::alloc::Global;
+use std::marker::Model;
+use std::mem::swap;
+
+/// What waits to become active, and how many queueings are active of each queue on each CPU (the kernel's
+/// `inactive_works` and `nr_active`). Only `new` takes memory.
+#[derive(Debug, Drop)]
+pub struct Pwqs {
+    room: u16,
+    counts: Vec<u32>,
+    waiting: Vec<Queueing>,
+    spare: Vec<Queueing>,
+    activated: Vec<Queueing>,
+}
+
+impl Model for Pwqs {
+    ghost use Rattle.std.specs.Prelude.{vec_capacity};
+    ghost use Rattle.cmwq_pwq.specs.Pwqs.{PwqState, IsPwqState};
+
+    ghost Value = { PwqState };
+
+    ghost view = { λ l. record { room = l.room; counts = l.counts.items; waiting = l.waiting.items; activated = l.activated.items } };
+
+    ghost invariant = { λ l. IsPwqState l.room (vec_capacity l.waiting) (vec_capacity l.spare) (vec_capacity l.activated) l.waiting.items l.spare.items };
+}
+
+impl Pwqs {
+    /// Nothing waits and nothing is active of so many queues, and there is room for so many that wait. The error says
+    /// that memory ran out.
+    pub fn new(alloc: Global, queues: usize, room: u16) -> Result<Pwqs, NoMemory>
+        requires { queues < 256 }
+        ensures { IfOk result (λ pwqs. pwqs ≡ new_pwq_state queues room) }
+    {
+        let many = usize::from(room);
+        let counts = vec![in alloc; 0; 4 * queues]?;
+        let waiting = Vec::with_capacity(alloc, many)?;
+        let spare = Vec::with_capacity(alloc, many)?;
+        let activated = Vec::with_capacity(alloc, many)?;
+        Ok(Pwqs {
+            room,
+            counts,
+            waiting,
+            spare,
+            activated,
+        })
+    }
+
+    /// A queueing is opened, and waits behind the others.
+    pub fn open(&mut self, queueing: Queueing)
+        requires { length self.old.waiting < self.old.room }
+        ensures { self.new ≡ opened self.old queueing }
+    {
+        self.waiting.push_reserved(queueing);
+    }
+
+    /// A queueing ends: it waits no more, or else is active no more.
+    pub fn end(&mut self, queueing: Queueing)
+        requires place { place_of queueing.place.queue.0 queueing.place.cpu.0 < length self.old.counts }
+        requires counted { is_waiting self.old queueing ≡ false → 0 < count_of_same_pwq self.old.counts queueing }
+        ensures { self.new ≡ ended self.old queueing }
+    {
+        if has_number(&self.waiting, queueing.number) {
+            take_number(&mut self.waiting, queueing.number);
+        } else {
+            self.counts[place_of(queueing.place)] -= 1;
+        }
+    }
+
+    /// An active queueing ends: the first that waits beside it takes its place, unless more than the width were active there.
+    fn end_active(&mut self, queueing: Queueing, width: u32)
+        requires cpu { queueing.place.cpu.0 < 4 }
+        requires place { place_of queueing.place.queue.0 queueing.place.cpu.0 < length self.old.counts }
+        requires active { is_waiting self.old queueing ≡ false }
+        requires counted { 0 < count_of_same_pwq self.old.counts queueing }
+        requires none { self.old.activated ≡ [] }
+        ensures { (wide : ℕ → ℕ) → wide queueing.place.queue.0 ≡ width → AreBehind wide self.old.counts self.old.waiting → IsPassed wide (ended self.old queueing) self.new }
+    {
+        let at = place_of(queueing.place);
+        if self.counts[at] <= width {
+            match take_first(&mut self.waiting, queueing.place) {
+                Some(next) => {
+                    self.activated.push_reserved(next);
+                    return;
+                }
+                None => {}
+            }
+        }
+        self.counts[at] -= 1;
+    }
+
+    /// A queueing ends, and makes room for the first that waits on its pool workqueue where it was active.
+    fn end_one(&mut self, queueing: Queueing, has_run: bool, width: u32)
+        requires cpu { queueing.place.cpu.0 < 4 }
+        requires place { place_of queueing.place.queue.0 queueing.place.cpu.0 < length self.old.counts }
+        requires counted { is_waiting self.old queueing ≡ false → 0 < count_of_same_pwq self.old.counts queueing }
+        requires ran { has_run ≡ true → is_waiting self.old queueing ≡ false }
+        requires none { self.old.activated ≡ [] }
+        ensures { (wide : ℕ → ℕ) → wide queueing.place.queue.0 ≡ width → AreBehind wide self.old.counts self.old.waiting → IsPassed wide (ended self.old queueing) self.new }
+    {
+        if !has_run && has_number(&self.waiting, queueing.number) {
+            take_number(&mut self.waiting, queueing.number);
+        } else {
+            self.end_active(queueing, width);
+        }
+    }
+
+    /// A queueing is opened, behind all that wait: it is active at once where fewer than the width are active on its pool workqueue.
+    fn open_one(&mut self, queueing: Queueing, width: u32)
+        requires cpu { queueing.place.cpu.0 < 4 }
+        requires place { place_of queueing.place.queue.0 queueing.place.cpu.0 < length self.old.counts }
+        requires room { length self.old.waiting + length self.old.activated < self.old.room }
+        ensures { (wide : ℕ → ℕ) (before : PwqState) → wide queueing.place.queue.0 ≡ width → length before.counts ≡ length self.old.counts → IsPassed wide before self.old → IsPassed wide (opened before queueing) self.new }
+    {
+        let at = place_of(queueing.place);
+        if self.counts[at] < width {
+            self.counts[at] += 1;
+            self.activated.push_reserved(queueing);
+        } else {
+            self.waiting.push_reserved(queueing);
+        }
+    }
+
+    /// A queueing ends, if there is one, and makes room where it was active.
+    fn end_some(
+        &mut self,
+        queues: &[QueueShape],
+        most: &[u32],
+        frozen: bool,
+        ended: Option<Queueing>,
+        has_run: bool,
+    )
+        requires most { length most.now ≡ length queues.now }
+        requires ended { MayEnd ended self.old }
+        requires placed { IsPlacedIf (length queues.now) ended }
+        requires ran { has_run ≡ true → IfSome ended (λ x. is_waiting self.old x ≡ false) }
+        requires behind { AreBehind (width_by queues.now most.now frozen) self.old.counts self.old.waiting }
+        ensures { IsPassed (width_by queues.now most.now frozen) (told_ended ended self.old) self.new }
+    {
+        self.activated.clear();
+        match ended {
+            Some(queueing) => {
+                let width = width_by(queues, most, frozen, queueing.place.queue);
+                self.end_one(queueing, has_run, width);
+            }
+            None => {}
+        }
+    }
+
+    /// An entry that changes no width ends a queueing, which had a run or not, and opens one. What is below max_active then becomes active:
+    /// the first that waits beside an active one that ends, and what is opened, for wherever others wait the widths are filled.
+    pub fn go_on(
+        &mut self,
+        queues: &[QueueShape],
+        most: &[u32],
+        frozen: bool,
+        ended: Option<Queueing>,
+        has_run: bool,
+        opened: Option<Queueing>,
+    )
+        requires most { length most.now ≡ length queues.now }
+        requires counts { length self.old.counts ≡ 4 * length queues.now }
+        requires ended { MayEnd ended self.old }
+        requires ended_placed { IsPlacedIf (length queues.now) ended }
+        requires ran { has_run ≡ true → IfSome ended (λ x. is_waiting self.old x ≡ false) }
+        requires opened { MayOpen opened (told_ended ended self.old) }
+        requires opened_placed { IsPlacedIf (length queues.now) opened }
+        requires behind { AreBehind (width_by queues.now most.now frozen) self.old.counts self.old.waiting }
+        ensures { IsPassed (width_by queues.now most.now frozen) (told_opened opened (told_ended ended self.old)) self.new }
+    {
+        self.end_some(queues, most, frozen, ended, has_run);
+        match opened {
+            Some(queueing) => {
+                let width = width_by(queues, most, frozen, queueing.place.queue);
+                self.open_one(queueing, width);
+            }
+            None => {}
+        }
+    }
+
+    /// What is below max_active becomes active, by number: where fewer than the width are active on its pool workqueue.
+    pub fn pass(&mut self, queues: &[QueueShape], most: &[u32], frozen: bool)
+        requires most { length most.now ≡ length queues.now }
+        requires counts { length self.old.counts ≡ 4 * length queues.now }
+        requires placed { ArePlaced (length queues.now) self.old.waiting }
+        ensures { IsPassed (width_by queues.now most.now frozen) self.old self.new }
+    {
+        self.activated.clear();
+        pass(
+            queues,
+            most,
+            frozen,
+            &self.waiting,
+            &mut self.counts,
+            &mut self.spare,
+            &mut self.activated,
+        );
+        swap(&mut self.waiting, &mut self.spare);
+        self.spare.clear();
+    }
+
+    /// How many wait.
+    pub fn len(&self) -> usize
+        ensures { result ≡ length self.now.waiting }
+    {
+        self.waiting.len()
+    }
+
+    /// What the last pass made active.
+    pub fn activated(&self) -> &[Queueing]
+        ensures { result.now ≡ self.now.activated }
+    {
+        &self.activated
+    }
+}

@@ -1,0 +1,192 @@
+-- The timer that fires first is that of the booking that is due first.
+use Rattle.std.proofs.Common.{◌≡◌, ◌<◌, ◌≤◌, ℕ, suc, Bool, true, false, not, ◌&&◌, ◌||◌, List, [], ◌∷◌, ◌++◌, length, filter, Option, Some, None, option_to_list, nat_lt, nat_le, refl, sym, ap, ap₂, ◌∙◌, subst, arith, append-nil, inl, inr}
+use Rattle.std.specs.Prelude.{option_map, if◌then◌else◌}
+use Rattle.std.specs.List.{AllByRecursion, list_any}
+use Rattle.std.proofs.lemmas.Bool.{eqb-true, eq-eqb, not-true, cases_lt, or_parts}
+use Rattle.std.proofs.lemmas.Bool.Decides.{nat_tests}
+use Rattle.std.proofs.lemmas.Option.{same_Some}
+use Rattle.cmwq_model.specs.declared.id.ItemId.{ItemId}
+use Rattle.cmwq_model.specs.declared.entry.Entry.{Entry}
+use Rattle.cmwq_model.specs.declared.record.Booking.{Booking}
+use Rattle.cmwq_model.specs.Layout.{Layout}
+use Rattle.cmwq_model.specs.Calls.{is_at, is_of_item, now}
+use Rattle.cmwq_model.specs.Bookings.{settles, booking, booking_of, bookings, number_booked, stands, standing}
+use Rattle.cmwq_model.specs.Answer.{may_fire, is_due_before, is_soonest, soonest, first_due}
+use Rattle.cmwq_model.specs.Legal.{IsLegal}
+use Rattle.cmwq_timer.specs.declared.timer.Timer.{Timer}
+use Rattle.cmwq_timer.specs.Due.{is_sooner, may_fire as timer_may_fire}
+use Rattle.cmwq_timer.specs.Rows.{MayFire, NoneMayFire, IsFirstToFire, timer_of}
+use Rattle.cmwq_theory_active.proofs.Lists.{All_map, All_append}
+use Rattle.cmwq_theory_steps.proofs.Entries.{is_at-true}
+use Rattle.cmwq_refinement.specs.Timers.{timer_for, timers_of, HoldsDraining, item_due, MayBeTold}
+use Rattle.cmwq_refinement.proofs.Members.{In, of_in, all_in, in_left, in_right, option_in, in_option, in_filter, filter_in, none_in, found}
+use Rattle.cmwq_refinement.proofs.Rising.{RisesBy, rises_filter, rises_snoc, rises_unique, find_is}
+use Rattle.cmwq_refinement.proofs.TimerSteps.{booking_books, row_at, row_past}
+use Rattle.cmwq_refinement.proofs.Settled.{Fits, bookings_fit, settled_of_an_item, item_there, booking_fits}
+
+-- ---- bookings stand by their numbers
+
+below_more : (n : ℕ) (xs : List Booking) (o : Option Booking) → AllByRecursion (λ b. b.number < n) xs → ((b : Booking) → o ≡ Some b → b.number ≡ n) → AllByRecursion (λ b. b.number < suc n) (xs ++ option_to_list o)
+below_more n xs o h k = All_append (λ b. b.number < suc n) xs (option_to_list o) (All_map (λ b. b.number < n) (λ b. b.number < suc n) xs (λ b less. omega arith) h)
+    (all_in (λ b. b.number < suc n) (option_to_list o) (λ b i. let is = k b (in_option o b i) in omega arith))
+
+bookings_below : (past : List Entry) → AllByRecursion (λ b. b.number < length past) (bookings past)
+unfolding bookings
+bookings_below [] = tt
+bookings_below (e ∷ past) = below_more (length past) (bookings past) (booking_of e (length past)) (bookings_below past) (λ b is. (booking_books e (length past) b is).number)
+
+rises_more : (n : ℕ) (xs : List Booking) (o : Option Booking) → RisesBy number_booked xs → AllByRecursion (λ b. b.number < n) xs → ((b : Booking) → o ≡ Some b → b.number ≡ n) → RisesBy number_booked (xs ++ option_to_list o)
+rises_more n xs None h below k = rw append-nil h
+rises_more n xs (Some b) h below k = rises_snoc number_booked xs b h (subst (λ m. AllByRecursion (λ x. x.number < m) xs) (sym (k b refl)) below)
+
+bookings_rise : (past : List Entry) → RisesBy number_booked (bookings past)
+unfolding bookings
+bookings_rise [] = tt
+bookings_rise (e ∷ past) = rises_more (length past) (bookings past) (booking_of e (length past)) (bookings_rise past) (bookings_below past) (λ b is. (booking_books e (length past) b is).number)
+
+-- ---- an item's booking is one of those that stand
+
+record IsItsBooking (past : List Entry) (i : ℕ) (b : Booking) : Type 0 where
+  item : b.item.0 ≡ i
+  made : In b (bookings past)
+
+more_made : (e : Entry) (past : List Entry) (i : ℕ) (b : Booking) → IsItsBooking past i b → IsItsBooking (e ∷ past) i b
+unfolding bookings
+more_made e past i b h = record { item = h.item; made = in_left (bookings past) (option_to_list (booking_of e (length past))) b h.made }
+
+newly_made : (e : Entry) (past : List Entry) (i : ℕ) (b : Booking) → is_of_item i e ≡ true → booking_of e (length past) ≡ Some b → IsItsBooking (e ∷ past) i b
+unfolding bookings
+newly_made e past i b of_item is =
+    let k = booking_books e (length past) b is in
+    let same : Some b.item.0 ≡ Some i = sym k.item ∙ is_at-true _ i of_item in
+    record { item = same_Some b.item.0 i same; made = in_right (bookings past) (option_to_list (booking_of e (length past))) b (option_in (booking_of e (length past)) b is) }
+
+its_booking : (past : List Entry) (i : ℕ) (b : Booking) → booking past i ≡ Some b → IsItsBooking past i b
+unfolding booking
+its_booking [] i b h = cc
+its_booking (e ∷ past) i b h = which (settles e.reply) (is_of_item i e) refl (its_booking past i b) h
+  where
+    which : (x y : Bool) → is_of_item i e ≡ y → (booking past i ≡ Some b → IsItsBooking past i b) → (if x && y then booking_of e (length past) else booking past i) ≡ Some b → IsItsBooking (e ∷ past) i b
+    which true true is before k = newly_made e past i b is k
+    which true false is before k = more_made e past i b (before k)
+    which false y is before k = more_made e past i b (before k)
+
+pub in_standing : (past : List Entry) (i : ℕ) (b : Booking) → booking past i ≡ Some b → In b (standing past)
+in_standing past i b h =
+    let k = its_booking past i b h in
+    let is : booking past b.item.0 ≡ Some b = ap (booking past) k.item ∙ h in
+    filter_in (stands past) (bookings past) b k.made (ap (λ o. is_at (option_map number_booked o) b.number) is ∙ eq-eqb b.number b.number refl)
+
+-- what stands is the booking of its item
+pub standing_is : (past : List Entry) (b : Booking) → In b (standing past) → booking past b.item.0 ≡ Some b
+standing_is past b h =
+    let k = in_filter (stands past) (bookings past) b h in
+    with (booking past b.item.0) refl k.0 k.1
+  where
+    with : (o : Option Booking) → booking past b.item.0 ≡ o → In b (bookings past) → is_at (option_map number_booked o) b.number ≡ true → o ≡ Some b
+    with None is made h = cc
+    with (Some c) is made h =
+        let number : c.number ≡ b.number = eqb-true c.number b.number h in
+        ap Some (rises_unique number_booked (bookings past) c b (bookings_rise past) (its_booking past b.item.0 c is).made made number)
+
+-- ---- what may fire
+
+abbrev fireable : List Entry → List Booking
+fireable past = filter (may_fire past) (standing past)
+
+pub standing_fits : (s : Layout) (past : List Entry) (b : Booking) → IsLegal s past → In b (standing past) → Fits s b
+standing_fits s past b legal h = of_in (Fits s) (bookings past) b (bookings_fit s past legal) (in_filter (stands past) (bookings past) b h).0
+
+same_test : (s : Layout) (past : List Entry) (held : ℕ) (b : Booking) → HoldsDraining s past held → Fits s b → timer_may_fire (now past) held (timer_for b) ≡ may_fire past b
+same_test s past held b holds fits = ap (λ x. nat_le b.due (now past) && not x) (holds b.place.queue.0 fits.queue)
+
+fires_as_timer : (s : Layout) (past : List Entry) (held : ℕ) (b : Booking) → IsLegal s past → HoldsDraining s past held → In b (fireable past) → MayFire (now past) held (timers_of s past) b.item.0 (timer_for b)
+fires_as_timer s past held b legal holds h =
+    let k = in_filter (may_fire past) (standing past) b h in
+    let fits = standing_fits s past b legal k.0 in
+    (row_at s past b.item.0 fits.item ∙ ap (option_map timer_for) (standing_is past b k.0), same_test s past held b holds fits ∙ k.1)
+
+record IsFired (past : List Entry) (i : ℕ) (t : Timer) : Type 0 where
+  booked : Booking
+  item : booked.item.0 ≡ i
+  timer : timer_for booked ≡ t
+  fires : In booked (fireable past)
+
+fired_booking : (s : Layout) (past : List Entry) (held i : ℕ) (t : Timer) → IsLegal s past → HoldsDraining s past held → i < s.items → MayFire (now past) held (timers_of s past) i t → IsFired past i t
+fired_booking s past held i t legal holds less may = with (booking past i) refl (sym (row_at s past i less) ∙ may.0)
+  where
+    with : (o : Option Booking) → booking past i ≡ o → option_map timer_for o ≡ Some t → IsFired past i t
+    with None is h = cc
+    with (Some b) is h =
+        let same : timer_for b ≡ t = same_Some (timer_for b) t h in
+        let here = in_standing past i b is in
+        record {
+          booked = b;
+          item = (its_booking past i b is).item;
+          timer = same;
+          fires = filter_in (may_fire past) (standing past) b here (sym (same_test s past held b holds (standing_fits s past b legal here)) ∙ ap (timer_may_fire (now past) held) same ∙ may.1);
+        }
+
+within_rows : (s : Layout) (past : List Entry) (i : ℕ) (t : Timer) → timer_of (timers_of s past) i ≡ Some t → i < s.items
+within_rows s past i t h = elim (cases_lt i s.items) [
+  | inl less ↦ less
+  | inr more ↦ let none = row_past s past i more in cc
+]
+
+-- ---- the first
+
+none_before : (b : Booking) (bs : List Booking) → AllByRecursion (λ a. nat_lt a.due b.due ≡ false) bs → list_any (is_due_before b) bs ≡ false
+none_before b [] h = refl
+none_before b (a ∷ rest) h = ap₂ (λ (x y : Bool). x || y) h.0 (none_before b rest h.1)
+
+soonest_before : (b : Booking) (bs : List Booking) → is_soonest bs b ≡ true → AllByRecursion (λ a. nat_lt a.due b.due ≡ false) bs
+soonest_before b bs h = none bs (not-true (list_any (is_due_before b) bs) h)
+  where
+    none : (rest : List Booking) → list_any (is_due_before b) rest ≡ false → AllByRecursion (λ a. nat_lt a.due b.due ≡ false) rest
+    none [] h = tt
+    none (a ∷ rest) h = let k = or_parts (nat_lt a.due b.due) (list_any (is_due_before b) rest) h in (k.0, none rest k.1)
+
+due_later : (a t : Timer) → is_sooner a t ≡ false → nat_lt a.due t.due ≡ false
+due_later a t h = grind (arith, nat_tests)
+
+number_later : (a t : Timer) → is_sooner a t ≡ false → nat_lt t.due a.due ≡ false → t.number ≤ a.number
+number_later a t h k = grind (arith, nat_tests)
+
+soonest_is : (past : List Entry) (bs : List Booking) (b : Booking) → RisesBy number_booked bs → In b bs → AllByRecursion (λ a. is_sooner (timer_for a) (timer_for b) ≡ false) bs → soonest bs ≡ Some b
+soonest_is past bs b rise here none =
+    find_is number_booked (is_soonest bs) bs b rise here (ap not (none_before b bs (All_map _ (λ a. nat_lt a.due b.due ≡ false) bs (λ a h. due_later (timer_for a) (timer_for b) h) none)))
+    (all_in (λ a. is_soonest bs a ≡ true → b.number ≤ a.number) bs (λ a i first. number_later (timer_for a) (timer_for b) (of_in _ bs a none i) (of_in (λ c. nat_lt c.due a.due ≡ false) bs b (soonest_before a bs first) here)))
+
+fireable_rises : (past : List Entry) → RisesBy number_booked (fireable past)
+fireable_rises past = rises_filter number_booked (may_fire past) (standing past) (rises_filter number_booked (stands past) (bookings past) (bookings_rise past))
+
+pub first_timer_is_first_due : (s : Layout) (past : List Entry) (held : ℕ) (i : ItemId) → IsLegal s past → HoldsDraining s past held → IsFirstToFire (now past) held (timers_of s past) i.0 → item_due past ≡ Some i
+unfolding first_due
+first_timer_is_first_due s past held i legal holds first =
+    let f = fired_booking s past held i.0 first.timer legal holds (within_rows s past i.0 first.timer first.may_fire.0) first.may_fire in
+    let none = all_in (λ a. is_sooner (timer_for a) (timer_for f.booked) ≡ false) (fireable past)
+    (λ a k. ap (is_sooner (timer_for a)) f.timer ∙ first.none_sooner a.item.0 (timer_for a) (fires_as_timer s past held a legal holds k)) in
+    ap (option_map (λ (b : Booking). b.item)) (soonest_is past (fireable past) f.booked (fireable_rises past) f.fires none) ∙ ap (λ (n : ℕ). Some (item_id n)) f.item
+  where
+    item_id : ℕ → ItemId
+    item_id n = record { 0 = n }
+
+pub no_timer_is_none_due : (s : Layout) (past : List Entry) (held : ℕ) → IsLegal s past → HoldsDraining s past held → NoneMayFire (now past) held (timers_of s past) → item_due past ≡ None
+unfolding first_due
+no_timer_is_none_due s past held legal holds none =
+    let empty : fireable past ≡ [] = none_in (fireable past) (λ b i. none b.item.0 (timer_for b) (fires_as_timer s past held b legal holds i)) in
+    ap (λ bs. option_map (λ (b : Booking). b.item) (soonest bs)) empty
+
+-- ---- what the timers are told
+
+first_due_fits : (s : Layout) (past : List Entry) (b : Booking) → IsLegal s past → first_due past ≡ Some b → Fits s b
+unfolding first_due
+first_due_fits s past b legal h = standing_fits s past b legal (in_filter (may_fire past) (standing past) b (found (is_soonest (fireable past)) (fireable past) b h).0).0
+
+pub timers_may_be_told : (s : Layout) (past : List Entry) (e : Entry) → IsLegal s (e ∷ past) → MayBeTold s past e
+unfolding IsLegal
+timers_may_be_told s past e legal = record {
+  of_an_item = settled_of_an_item s past e legal;
+  item = λ i. item_there s past e i legal (λ b. first_due_fits s past b legal.2);
+  queue = λ b is. (booking_fits s past e b legal is).queue;
+}

@@ -1,0 +1,129 @@
+-- What an entry ends is a run or an unstarted queueing of its item, and what it starts is an unstarted one of an item without a run.
+use Rattle.std.proofs.Common.{◌≡◌, ℕ, true, false, List, ◌∷◌, Option, Some, None, refl, sym, ap, ◌∙◌}
+use Rattle.std.specs.Prelude.{option_and_then, is_some}
+use Rattle.cmwq_model.specs.declared.id.WorkerId.{WorkerId}
+use Rattle.cmwq_model.specs.declared.id.Who.{Who}
+use Rattle.cmwq_model.specs.declared.id.Who.TheVariants.{Worker}
+use Rattle.cmwq_model.specs.declared.reply.Reply.{Reply}
+use Rattle.cmwq_model.specs.declared.reply.Reply.TheVariants as reply
+use Rattle.cmwq_model.specs.declared.entry.Entry.{Entry}
+use Rattle.cmwq_model.specs.declared.record.Queueing.{Queueing}
+use Rattle.cmwq_model.specs.declared.record.Start.{Start}
+use Rattle.cmwq_model.specs.Layout.{Layout}
+use Rattle.cmwq_model.specs.Calls.{item_of, item_at}
+use Rattle.cmwq_model.specs.Fate.{number_started, number_finished, is_started}
+use Rattle.cmwq_model.specs.Runs.{run, item_run, item_runs}
+use Rattle.cmwq_model.specs.Queueings.{unstarted, queueing_at}
+use Rattle.cmwq_model.specs.Legal.{IsLegal}
+use Rattle.cmwq_theory_steps.specs.Endings.{ending}
+use Rattle.cmwq_theory_steps.specs.ItemQueueings.{queueing_run, ended_by}
+use Rattle.cmwq_theory_steps.proofs.EndsAsTold.{ends_as_told, unstarted_found}
+use Rattle.cmwq_theory_steps.proofs.Fresh.{unstarted_is, finishes_run}
+use Rattle.cmwq_theory_steps.proofs.ItemRuns.{runs_are_items, item_run_started, starts_known}
+use Rattle.cmwq_theory_steps.proofs.ItemSteps.{start_is}
+use Rattle.cmwq_theory_steps.proofs.Pools.{started_was, runs_are_in_pools}
+use Rattle.cmwq_theory_steps.proofs.RunsActive.{found_known, found_number}
+use Rattle.cmwq_refinement.specs.Flights.{starting}
+
+-- the run of an item is this queueing
+pub record IsRun (past : List Entry) (x : Queueing) : Type 0 where
+  pub start : Start
+  pub is_run : item_run past x.item.0 ≡ Some start
+  pub number : start.number ≡ x.number
+  pub found : queueing_at past start.number ≡ Some x
+  pub was_started : is_started past x.number ≡ true
+
+-- what a worker runs is the run of its item
+pub worker_runs : (s : Layout) (past : List Entry) (w : WorkerId) (n : ℕ) (x : Queueing) → IsLegal s past → run past w ≡ Some n
+    → queueing_at past n ≡ Some x → IsRun past x
+worker_runs s past w n x legal runs at =
+    let number = found_number past n x at in
+    let item : item_at past n ≡ Some x.item.0 = ap (item_at past) (sym number) ∙ (found_known past n x at).item in
+    let is = runs_are_items s past w n x.item.0 legal runs item in
+    let begun = start_is s past x.item.0 (record { worker = w; number = n }) legal (item_run_started past x.item.0 (record { worker = w; number = n }) is) in
+    record { start = record { worker = w; number = n }; is_run = is; number = sym number; found = at; was_started = ap (is_started past) number ∙ begun.started }
+
+-- ---- what an entry ends
+
+pub data EndKind (past : List Entry) (e : Entry) : Type 0 where
+  none_ends : ending past e ≡ None → number_finished e.reply ≡ None → EndKind past e
+  run_ends : (x : Queueing) → ending past e ≡ Some x → number_finished e.reply ≡ Some x.number → IsRun past x → EndKind past e
+  unstarted_ends : (x : Queueing) → ending past e ≡ Some x → number_finished e.reply ≡ None → unstarted past x.item.0 ≡ Some x → EndKind past e
+
+module _ (s : Layout) (past : List Entry) (e : Entry) (legal : IsLegal s (e ∷ past)) where
+  pub legal_before : IsLegal s past
+  unfolding IsLegal
+  legal_before = legal.2
+
+  its_own : (i : ℕ) (x : Queueing) → unstarted past i ≡ Some x → unstarted past x.item.0 ≡ Some x
+  its_own i x is = ap (unstarted past) (unstarted_is past i x is).item ∙ is
+
+  of_item_ends : (o : Option ℕ) (p : Option Queueing) → ending past e ≡ option_and_then (unstarted past) o → option_and_then (unstarted past) o ≡ p
+      → number_finished e.reply ≡ None → EndKind past e
+  of_item_ends None p is same unfinished = none_ends is unfinished
+  of_item_ends (Some i) None is same unfinished = none_ends (is ∙ same) unfinished
+  of_item_ends (Some i) (Some x) is same unfinished = unstarted_ends x (is ∙ same) unfinished (its_own i x same)
+
+  finish_ends : (n : ℕ) → number_finished e.reply ≡ Some n → ending past e ≡ queueing_run past e.who → EndKind past e
+  finish_ends n h is =
+      let f = finishes_run s past e n legal h in
+      let r = runs_are_in_pools s past f.worker n legal_before f.is_run in
+      let number = found_number past n r.queueing r.found in
+      run_ends r.queueing (is ∙ ap (queueing_run past) f.by_worker ∙ ap (option_and_then (queueing_at past)) f.is_run ∙ r.found) (h ∙ ap Some (sym number))
+      (worker_runs s past f.worker n r.queueing legal_before f.is_run r.found)
+
+  ends_by : (r : Reply) → e.reply ≡ r → ending past e ≡ ended_by past e.who (item_of e) r → EndKind past e
+  ends_by (reply.Finished n) h is = finish_ends n (ap number_finished h) is
+  ends_by (reply.Cancelled n) h is = of_item_ends (item_of e) (option_and_then (unstarted past) (item_of e)) is refl (ap number_finished h)
+  ends_by (reply.TicketCancelled k n) h is = of_item_ends (item_of e) (option_and_then (unstarted past) (item_of e)) is refl (ap number_finished h)
+  ends_by (reply.Again k) h is = of_item_ends (item_of e) (option_and_then (unstarted past) (item_of e)) is refl (ap number_finished h)
+  ends_by (reply.Rebooked d) h is = of_item_ends (item_of e) (option_and_then (unstarted past) (item_of e)) is refl (ap number_finished h)
+  ends_by r h is = none_ends is (ap number_finished h)
+
+  pub end_kind : EndKind past e
+  end_kind = ends_by e.reply refl (ends_as_told s past e legal)
+
+-- ---- what an entry starts
+
+pub record Starting (past : List Entry) (e : Entry) (x : Queueing) : Type 0 where
+  pub worker : WorkerId
+  pub by_worker : e.who ≡ Worker worker
+  pub number : number_started e.reply ≡ Some x.number
+  pub found : queueing_at past x.number ≡ Some x
+  pub waits : unstarted past x.item.0 ≡ Some x
+  pub has_none : item_run past x.item.0 ≡ None
+  pub ends_none : ending past e ≡ None
+
+pub data StartKind (past : List Entry) (e : Entry) : Type 0 where
+  none_starts : starting past e ≡ None → number_started e.reply ≡ None → StartKind past e
+  one_starts : (x : Queueing) → starting past e ≡ Some x → Starting past e x → StartKind past e
+
+no_run : (o : Option Start) → is_some o ≡ false → o ≡ None
+no_run None h = refl
+no_run (Some x) h = cc
+
+start_ends_none : (past : List Entry) (who : Who) (item : Option ℕ) (r : Reply) (n : ℕ) → number_started r ≡ Some n → ended_by past who item r ≡ None
+start_ends_none past who item (reply.Started m) n h = refl
+start_ends_none past who item (reply.StartedEnlist m x) n h = refl
+start_ends_none past who item r n h = cc
+
+pub start_kind : (s : Layout) (past : List Entry) (e : Entry) → IsLegal s (e ∷ past) → StartKind past e
+start_kind s past e legal = by (number_started e.reply) refl
+  where
+    by : (o : Option ℕ) → number_started e.reply ≡ o → StartKind past e
+    by None h = none_starts (ap (option_and_then (queueing_at past)) h) h
+    by (Some n) h =
+        let k = starts_known s past e n legal h in
+        let was = started_was s past e k.item n legal h k.is_item in
+        let x = was.0 in
+        let waits = unstarted_is past k.item x was.1 in
+        let found = unstarted_found past k.item x was.1 in
+        one_starts x (ap (option_and_then (queueing_at past)) (h ∙ ap Some (sym was.2)) ∙ found) (record {
+          worker = k.worker;
+          by_worker = k.by_worker;
+          number = h ∙ ap Some (sym was.2);
+          found = found;
+          waits = ap (unstarted past) waits.item ∙ was.1;
+          has_none = no_run (item_run past x.item.0) (ap (item_runs past) waits.item ∙ k.has_none);
+          ends_none = ends_as_told s past e legal ∙ start_ends_none past e.who (item_of e) e.reply n h;
+        })

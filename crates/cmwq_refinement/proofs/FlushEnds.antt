@@ -1,0 +1,81 @@
+-- A flush whose end is answered done stands in the book and is ready.
+use Rattle.std.proofs.Common.{◌≡◌, ℕ, true, List, ◌∷◌, Option, Some, None, refl, sym, ap, ◌∙◌, subst}
+use Rattle.std.specs.Prelude.{Contains, if◌then◌else◌, option_map, option_and_then}
+use Rattle.std.specs.Option.{option_or}
+use Rattle.std.proofs.lemmas.Bool.{eqb-true}
+use Rattle.std.proofs.lemmas.Option.{same_Some}
+use Rattle.cmwq_model.specs.declared.call.Call.{Call}
+use Rattle.cmwq_model.specs.declared.call.Call.TheVariants as call
+use Rattle.cmwq_model.specs.declared.reply.Reply.TheVariants as reply
+use Rattle.cmwq_model.specs.declared.entry.Entry.{Entry}
+use Rattle.cmwq_model.specs.declared.record.Queueing.{Queueing}
+use Rattle.cmwq_model.specs.declared.record.Ticket.{Ticket}
+use Rattle.cmwq_model.specs.Layout.{Layout}
+use Rattle.cmwq_model.specs.Calls.{item_of}
+use Rattle.cmwq_model.specs.Fate.{number_finished, number_cancelled, replaces}
+use Rattle.cmwq_model.specs.Queueings.{opens, opening, place_wanted, queued_at, unstarted}
+use Rattle.cmwq_model.specs.Tickets.{flushes, is_flush_of, ticket_of, unended, is_done}
+use Rattle.cmwq_model.specs.Waits.{waits_for}
+use Rattle.cmwq_model.specs.Legal.{IsLegal}
+use Rattle.cmwq_theory_steps.specs.Endings.{ending}
+use Rattle.cmwq_theory_steps.specs.TicketSteps.{ticket_ended, ticket_asked}
+use Rattle.cmwq_theory_steps.proofs.Ended.{ends_which}
+use Rattle.cmwq_theory_steps.proofs.Done.{ends_ticket}
+use Rattle.cmwq_flush.specs.FlushBook.{FlushBook, flush_tickets, IsReady}
+use Rattle.cmwq_refinement.specs.FlushBooks.{AreFlushes}
+use Rattle.cmwq_refinement.proofs.Members.{In, in_contained}
+use Rattle.cmwq_refinement.proofs.TicketSteps.{TicketStep, ticket_step, ends_one, ends_none, ends_it}
+use Rattle.cmwq_refinement.proofs.FlushReads.{unended_flushes_stand, ready_flushes_wait_for_nothing}
+
+-- what is done neither ends nor opens a queueing
+done_opens : (past : List Entry) (e : Entry) → e.reply ≡ reply.Done → opening past e ≡ None
+done_opens past e done = ap (λ r. if opens r then option_and_then (λ i. option_map (queued_at past i) (place_wanted past e.call i)) (item_of e) else None) done
+
+done_ends : (s : Layout) (past : List Entry) (e : Entry) → IsLegal s (e ∷ past) → e.reply ≡ reply.Done → ending past e ≡ None
+done_ends s past e legal done = by (ending past e) (ends_which s past e legal ∙ ap (λ r. option_or (number_finished r) (option_or (number_cancelled r) (if replaces r then replaced else None))) done)
+  where
+    replaced : Option ℕ
+    replaced = option_and_then (λ i. option_map (λ (x : Queueing). x.number) (unstarted past i)) (item_of e)
+
+    by : (o : Option Queueing) → option_map (λ (x : Queueing). x.number) o ≡ None → o ≡ None
+    by None h = refl
+    by (Some x) h = cc
+
+-- the ticket that is ended stands, and waits for nothing
+pub record IsEnded (past : List Entry) (e : Entry) (t : Ticket) : Type 0 where
+  pub stands : In t (unended past)
+  pub ready : waits_for past t.number t.call ≡ None
+  pub ends_none : ending past e ≡ None
+  pub opens_none : opening past e ≡ None
+
+pub ended_ready : (s : Layout) (past : List Entry) (e : Entry) (t : Ticket) → IsLegal s (e ∷ past) → ticket_ended past e ≡ Some t → IsEnded past e t
+ended_ready s past e t legal h = which (ticket_step past e)
+  where
+    which : TicketStep past e → IsEnded past e t
+    which (ends_none is all) = let bad : None ≡ Some t = sym is ∙ h in cc
+    which (ends_one u is here it) =
+        let same : u ≡ t = same_Some u t (sym is ∙ h) in
+        let end = ends_it e u it in
+        let done = ends_ticket s past e u.number legal (end.call, end.reply) in
+        let asked : ticket_ended past e ≡ ticket_of past e.who u.number = ap (λ r. if is_done r then ticket_asked past e.who e.call else None) end.reply ∙ ap (ticket_asked past e.who) end.call in
+        let one : done.ticket ≡ t = same_Some done.ticket t (sym done.found ∙ sym asked ∙ h) in
+        record {
+          stands = subst (λ v. In v (unended past)) same here;
+          ready = subst (λ (v : Ticket). waits_for past v.number v.call ≡ None) one done.ready;
+          ends_none = done_ends s past e legal end.reply;
+          opens_none = done_opens past e end.reply;
+        }
+
+pub done_flushes_may_end : (s : Layout) (past : List Entry) (e : Entry) (q : ℕ) (b : FlushBook) (t : Ticket) → IsLegal s (e ∷ past) → AreFlushes s past q b → ticket_ended past e ≡ Some t → is_flush_of q t ≡ true
+    → Contains (flush_tickets b) t.number × IsReady b t.number
+done_flushes_may_end s past e q b t legal is h flush = (stands, by t.call flush k.ready)
+  where
+    k : IsEnded past e t
+    k = ended_ready s past e t legal h
+
+    stands : Contains (flush_tickets b) t.number
+    stands = (unended_flushes_stand s past q b t is (in_contained (unended past) t k.stands)).0 flush
+
+    by : (c : Call) → flushes q c ≡ true → waits_for past t.number c ≡ None → IsReady b t.number
+    by (call.Flush r) same ready = (ready_flushes_wait_for_nothing s past r b t.number (subst (λ j. AreFlushes s past j b) (sym (eqb-true r.0 q same)) is) stands).1 ready
+    by c same ready = cc

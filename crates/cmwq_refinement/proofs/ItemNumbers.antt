@@ -1,0 +1,182 @@
+-- An item has two open queueings at most: its run, and after that one which hasn't started.
+use Rattle.std.proofs.Common.{◌≡◌, ◌==◌, ◌<◌, ℕ, Bool, true, false, not, ◌&&◌, ◌||◌, List, [], ◌∷◌, ◌++◌, length, map, filter, Option, Some, None, option_to_list, refl, sym, ap, ap₂, ◌∙◌, subst, arith, inl, inr, ◌⊎◌, ⊎_elim}
+use Rattle.std.specs.Prelude.{option_map}
+use Rattle.std.proofs.lemmas.Bool.{eqb-true, eq-eqb, and_parts, not-true, false≢true, false_from_ne_true}
+use Rattle.std.proofs.lemmas.Option.{same_Some}
+use Rattle.cmwq_model.specs.declared.entry.Entry.{Entry}
+use Rattle.cmwq_model.specs.declared.record.Queueing.{Queueing}
+use Rattle.cmwq_model.specs.declared.record.Start.{Start}
+use Rattle.cmwq_model.specs.Layout.{Layout}
+use Rattle.cmwq_model.specs.Calls.{item_at}
+use Rattle.cmwq_model.specs.Fate.{starts, is_started, is_open}
+use Rattle.cmwq_model.specs.Runs.{item_run}
+use Rattle.cmwq_model.specs.Queueings.{queueings, has_number, is_live, still_open, opening, is_of, is_unstarted, unstarted}
+use Rattle.cmwq_model.specs.Legal.{IsLegal}
+use Rattle.cmwq_theory_steps.specs.Endings.{survives}
+use Rattle.cmwq_theory_active.proofs.Rising.{opening_number, queueings_below}
+use Rattle.cmwq_theory_steps.proofs.Entries.{IsKnown, queueings_known}
+use Rattle.cmwq_theory_steps.proofs.Endings.{open_go_on}
+use Rattle.cmwq_theory_steps.proofs.Fresh.{not_started_yet}
+use Rattle.cmwq_theory_steps.proofs.OneRun.{started_runs}
+use Rattle.cmwq_theory_steps.proofs.ItemSteps.{items_are_run}
+use Rattle.cmwq_theory_steps.proofs.RunSteps.{last_started}
+use Rattle.cmwq_theory_steps.proofs.ItemRuns.{run_is}
+use Rattle.cmwq_theory_steps.proofs.RunsActive.{found_known, found_number}
+use Rattle.cmwq_theory_steps.proofs.StartsListed.{starts_listed}
+use Rattle.cmwq_theory_steps.proofs.Pools.{runs_are_in_pools, unstarted_alone}
+use Rattle.cmwq_refinement.specs.Told.{number_of_queueing}
+use Rattle.cmwq_refinement.specs.BarrierBooks.{item_numbers}
+use Rattle.cmwq_refinement.proofs.Members.{In, of_in, in_append, in_filter, filter_in, in_option, found}
+use Rattle.cmwq_refinement.proofs.Rising.{RisesBy, rises_filter}
+use Rattle.cmwq_refinement.proofs.QueueingSteps.{open_numbers_rise}
+
+-- ---- of two open queueings of an item the older has started
+
+-- what is opened hasn't started
+opened_unstarted : (s : Layout) (past : List Entry) (e : Entry) → IsLegal s (e ∷ past) → is_started (e ∷ past) (length past) ≡ false
+unfolding IsLegal
+opened_unstarted s past e legal = ap₂ (λ a b. a || b) not_now (not_started_yet s past (length past) legal.2 (omega arith))
+  where
+    not_now : starts (length past) e ≡ false
+    not_now = false_from_ne_true (starts (length past) e) (λ h.
+        let st = starts_listed s past e (length past) legal h in
+        let older : st.queueing.number < length past = (found_known past (length past) st.queueing st.found).older in
+        let number = st.number in
+        absurd (omega arith))
+
+pub one_of : (s : Layout) (past : List Entry) (x y : Queueing) → IsLegal s past → In x (still_open past) → In y (still_open past) → x.item.0 ≡ y.item.0 → is_started past x.number ≡ false → is_started past y.number ≡ false → x ≡ y
+one_of s past x y legal hx hy item ux uy = same_Some x y (sym (listed x hx refl ux) ∙ ap (unstarted past) item ∙ listed y hy refl uy)
+  where
+    listed : (z : Queueing) → In z (still_open past) → z.item.0 ≡ z.item.0 → is_started past z.number ≡ false → unstarted past z.item.0 ≡ Some z
+    listed z h same idle = of_in (λ w. is_unstarted past z.item.0 w ≡ true → unstarted past z.item.0 ≡ Some w) (still_open past) z (unstarted_alone s past z.item.0 legal) h (ap₂ (λ a b. a && not b) (eq-eqb z.item.0 z.item.0 refl) idle)
+
+not_false : (b : Bool) → (b ≡ false → ⊥) → b ≡ true
+not_false true h = refl
+not_false false h = absurd (h refl)
+
+open_older : (past : List Entry) (x : Queueing) → In x (still_open past) → x.number < length past
+open_older past x i = of_in (λ y. y.number < length past) (queueings past) x (queueings_below past) (in_filter (is_live past) (queueings past) x i).0
+
+pub older_started : (s : Layout) (past : List Entry) (x y : Queueing) → IsLegal s past → In x (still_open past) → In y (still_open past) → x.item.0 ≡ y.item.0 → x.number < y.number → is_started past x.number ≡ true
+unfolding IsLegal queueings
+older_started s [] x y legal hx hy item less = absurd hx
+older_started s (e ∷ past) x y legal hx hy item less = which (in_append (filter (survives past e) (still_open past)) (option_to_list (opening past e)) y (subst (In y) (open_go_on s past e legal) hy)) (older_started s past x y legal.2)
+  where
+    was : In x (still_open past)
+    was = ⊎_elim (λ i. (in_filter (survives past e) (still_open past) x i).0)
+        (λ i. let number = opening_number past e x (in_option (opening past e) x i) in let last = open_older (e ∷ past) y hy in absurd (omega arith))
+        (in_append (filter (survives past e) (still_open past)) (option_to_list (opening past e)) x (subst (In x) (open_go_on s past e legal) hx))
+
+    which : (In y (filter (survives past e) (still_open past))) ⊎ (In y (option_to_list (opening past e))) → (In x (still_open past) → In y (still_open past) → x.item.0 ≡ y.item.0 → x.number < y.number → is_started past x.number ≡ true) → is_started (e ∷ past) x.number ≡ true
+    which (inl i) before = ap (λ b. starts x.number e || b) (before was (in_filter (survives past e) (still_open past) y i).0 item less) ∙ either (starts x.number e)
+      where
+        either : (b : Bool) → (b || true) ≡ true
+        either true = refl
+        either false = refl
+    which (inr i) before = not_false (is_started (e ∷ past) x.number) (λ idle.
+        let number = opening_number past e y (in_option (opening past e) y i) in
+        let new : is_started (e ∷ past) y.number ≡ false = ap (is_started (e ∷ past)) number ∙ opened_unstarted s past e legal in
+        let same : x.number ≡ y.number = ap number_of_queueing (one_of s (e ∷ past) x y legal hx hy item idle new) in
+        absurd (omega arith))
+
+-- ---- the run, and then the unstarted one
+
+record AreItems (past : List Entry) (run : Option ℕ) (new : Option Queueing) (xs : List Queueing) : Type 0 where
+  rise : RisesBy number_of_queueing xs
+  started_run : (x : Queueing) → In x xs → is_started past x.number ≡ true → run ≡ Some x.number
+  unstarted_new : (x : Queueing) → In x xs → is_started past x.number ≡ false → new ≡ Some x
+  run_open : (n : ℕ) → run ≡ Some n → (x : Queueing) × In x xs × (x.number ≡ n) × (is_started past n ≡ true)
+  new_open : (x : Queueing) → new ≡ Some x → In x xs × (is_started past x.number ≡ false)
+  older : (x y : Queueing) → In x xs → In y xs → x.number < y.number → is_started past x.number ≡ true
+
+two_at_most : (past : List Entry) (run : Option ℕ) (new : Option Queueing) (xs : List Queueing) → AreItems past run new xs → map number_of_queueing xs ≡ option_to_list run ++ option_to_list (option_map number_of_queueing new)
+two_at_most past None None [] k = refl
+two_at_most past (Some n) new [] k = absurd (k.run_open n refl).1
+two_at_most past None (Some y) [] k = absurd (k.new_open y refl).0
+two_at_most past run new (x ∷ []) k = by (is_started past x.number) refl
+  where
+    none_new : is_started past x.number ≡ true → (o : Option Queueing) → new ≡ o → o ≡ None
+    none_new started None h = refl
+    none_new started (Some y) h =
+        let there = k.new_open y h in
+        ⊎_elim (λ e. absurd (false≢true (sym there.1 ∙ ap (λ (z : Queueing). is_started past z.number) (sym e) ∙ started))) (λ i. absurd i) there.0
+
+    none_run : is_started past x.number ≡ false → (o : Option ℕ) → run ≡ o → o ≡ None
+    none_run idle None h = refl
+    none_run idle (Some n) h =
+        let there = k.run_open n h in
+        ⊎_elim (λ e. absurd (false≢true (sym idle ∙ ap (λ (z : Queueing). is_started past z.number) e ∙ ap (is_started past) there.2 ∙ there.3))) (λ i. absurd i) there.1
+
+    by : (b : Bool) → is_started past x.number ≡ b → x.number ∷ [] ≡ option_to_list run ++ option_to_list (option_map number_of_queueing new)
+    by true started = sym (ap₂ (λ o p. option_to_list o ++ option_to_list (option_map number_of_queueing p)) (k.started_run x (inl refl) started) (none_new started new refl))
+    by false idle = sym (ap₂ (λ o p. option_to_list o ++ option_to_list (option_map number_of_queueing p)) (none_run idle run refl) (k.unstarted_new x (inl refl) idle))
+two_at_most past run new (x ∷ y ∷ zs) k = rest zs k
+  where
+    rest : (ws : List Queueing) → AreItems past run new (x ∷ y ∷ ws) → map number_of_queueing (x ∷ y ∷ ws) ≡ option_to_list run ++ option_to_list (option_map number_of_queueing new)
+    rest (w ∷ ws) j =
+        let first = j.started_run x (inl refl) (j.older x y (inl refl) (inr (inl refl)) j.rise.0.0) in
+        let second = j.started_run y (inr (inl refl)) (j.older y w (inr (inl refl)) (inr (inr (inl refl))) j.rise.1.0.0) in
+        let same : x.number ≡ y.number = same_Some x.number y.number (sym first ∙ second) in
+        let less : x.number < y.number = j.rise.0.0 in
+        absurd (omega arith)
+    rest [] j =
+        let first = j.started_run x (inl refl) (j.older x y (inl refl) (inr (inl refl)) j.rise.0.0) in
+        let less : x.number < y.number = j.rise.0.0 in
+        let idle : is_started past y.number ≡ false = false_from_ne_true (is_started past y.number) (λ h.
+        let same : x.number ≡ y.number = same_Some x.number y.number (sym first ∙ j.started_run y (inr (inl refl)) h) in
+        absurd (omega arith)) in
+        sym (ap₂ (λ o p. option_to_list o ++ option_to_list (option_map number_of_queueing p)) first (j.unstarted_new y (inr (inl refl)) idle))
+
+-- ---- of a history
+
+abbrev run_number : Option Start → Option ℕ
+run_number o = option_map (λ (start : Start). start.number) o
+
+its_queueing : (s : Layout) (past : List Entry) (i n : ℕ) → IsLegal s past → run_number (item_run past i) ≡ Some n → (x : Queueing) × In x (filter (is_of i) (still_open past)) × (x.number ≡ n) × (is_started past n ≡ true)
+its_queueing s past i n legal h = by (item_run past i) refl h
+  where
+    by : (o : Option Start) → item_run past i ≡ o → run_number o ≡ Some n → (x : Queueing) × In x (filter (is_of i) (still_open past)) × (x.number ≡ n) × (is_started past n ≡ true)
+    by None is k = cc
+    by (Some start) is k =
+        let number : start.number ≡ n = same_Some start.number n k in
+        let runs = items_are_run s past i start legal is in
+        let r = runs_are_in_pools s past start.worker start.number legal runs.0 in
+        let at : r.queueing.number ≡ start.number = found_number past start.number r.queueing r.found in
+        let item : Some r.queueing.item.0 ≡ Some i = sym (found_known past start.number r.queueing r.found).item ∙ ap (item_at past) at ∙ runs.1 in
+        let made = (found (has_number start.number) (queueings past) r.queueing r.found).0 in
+        let open_here = filter_in (is_live past) (queueings past) r.queueing made r.live in
+        (r.queueing, filter_in (is_of i) (still_open past) r.queueing open_here (eq-eqb r.queueing.item.0 i (same_Some r.queueing.item.0 i item)), at ∙ number, ap (is_started past) (sym number) ∙ last_started past start.worker start.number (run_is past start.worker start.number runs.0).last)
+
+are_items : (s : Layout) (past : List Entry) (i : ℕ) → IsLegal s past → AreItems past (run_number (item_run past i)) (unstarted past i) (filter (is_of i) (still_open past))
+are_items s past i legal = record {
+  rise = rises_filter number_of_queueing (is_of i) (still_open past) (open_numbers_rise past);
+  started_run = started_run;
+  unstarted_new = unstarted_new;
+  run_open = λ n h. its_queueing s past i n legal h;
+  new_open = new_open;
+  older = λ x y hx hy less. older_started s past x y legal (its x hx).0 (its y hy).0 ((its x hx).1 ∙ sym (its y hy).1) less;
+}
+  where
+    its : (x : Queueing) → In x (filter (is_of i) (still_open past)) → In x (still_open past) × (x.item.0 ≡ i)
+    its x h = let k = in_filter (is_of i) (still_open past) x h in (k.0, eqb-true x.item.0 i k.1)
+
+    started_run : (x : Queueing) → In x (filter (is_of i) (still_open past)) → is_started past x.number ≡ true → run_number (item_run past i) ≡ Some x.number
+    started_run x h started =
+        let k = its x h in
+        let live = in_filter (is_live past) (queueings past) x k.0 in
+        let known : item_at past x.number ≡ Some i = (of_in (IsKnown past) (queueings past) x (queueings_known past) live.0).item ∙ ap Some k.1 in
+        started_runs s past i x.number legal known started (ap (λ j. is_open past j x.number) (sym k.1) ∙ live.1)
+
+    unstarted_new : (x : Queueing) → In x (filter (is_of i) (still_open past)) → is_started past x.number ≡ false → unstarted past i ≡ Some x
+    unstarted_new x h idle =
+        let k = its x h in
+        of_in (λ w. is_unstarted past i w ≡ true → unstarted past i ≡ Some w) (still_open past) x (unstarted_alone s past i legal) k.0 (ap₂ (λ a b. a && not b) (eq-eqb x.item.0 i k.1) idle)
+
+    new_open : (x : Queueing) → unstarted past i ≡ Some x → In x (filter (is_of i) (still_open past)) × (is_started past x.number ≡ false)
+    new_open x h =
+        let k = found (is_unstarted past i) (still_open past) x h in
+        let both = and_parts (x.item.0 == i) (not (is_started past x.number)) k.1 in
+        (filter_in (is_of i) (still_open past) x k.0 both.0, not-true (is_started past x.number) both.1)
+
+pub run_then_unstarted : (s : Layout) (past : List Entry) (i : ℕ) → IsLegal s past → item_numbers past i ≡ option_to_list (run_number (item_run past i)) ++ option_to_list (option_map number_of_queueing (unstarted past i))
+run_then_unstarted s past i legal = two_at_most past (run_number (item_run past i)) (unstarted past i) (filter (is_of i) (still_open past)) (are_items s past i legal)

@@ -1,0 +1,82 @@
+-- What became active may be added to its pool: no two that are listed have a number or an item in common.
+use Rattle.std.proofs.Common.{◌≡◌, ◌==◌, ◌<◌, false, not, ◌&&◌, ◌||◌, List, [], ◌∷◌, ◌++◌, map, filter, refl, sym, ap, ap₂, ◌∙◌, subst, arith, inl, ⊎_elim}
+use Rattle.std.specs.List.{AllByRecursion}
+use Rattle.std.proofs.lemmas.Bool.{eqb-true, false_from_ne_true, lt-ltb}
+use Rattle.std.proofs.lemmas.Option.{same_Some}
+use Rattle.std.proofs.lemmas.List.{append_assoc}
+use Rattle.std.proofs.lemmas.List.Folds.{list_any_none}
+use Rattle.std.proofs.lemmas.List.Elements.{All-from_recursion}
+use Rattle.cmwq_model.specs.declared.id.PoolId.{PoolId}
+use Rattle.cmwq_model.specs.declared.entry.Entry.{Entry}
+use Rattle.cmwq_model.specs.declared.record.Queueing.{Queueing}
+use Rattle.cmwq_model.specs.Layout.{Layout}
+use Rattle.cmwq_model.specs.Queueings.{still_open}
+use Rattle.cmwq_model.specs.Active.{worklist}
+use Rattle.cmwq_model.specs.Legal.{IsLegal}
+use Rattle.cmwq_theory_steps.specs.Activations.{is_left}
+use Rattle.cmwq_theory_steps.specs.Order.{since, IsSooner, AreInOrder}
+use Rattle.cmwq_theory_steps.proofs.Worklist.{worklist_is}
+use Rattle.cmwq_theory_steps.proofs.WorklistSteps.{worklists_go_on}
+use Rattle.cmwq_pool.specs.declared.task.Task.{Task}
+use Rattle.cmwq_pool.specs.PoolState.{PoolState, is_like, added}
+use Rattle.cmwq_refinement.specs.Told.{number_of_queueing}
+use Rattle.cmwq_refinement.specs.Pools.{task_for, pool_of, made_active, told_first, MayAllBeAdded}
+use Rattle.cmwq_refinement.proofs.Members.{In, of_in, all_in, in_right}
+use Rattle.cmwq_refinement.proofs.Rising.{rises_unique}
+use Rattle.cmwq_refinement.proofs.QueueingSteps.{open_numbers_rise}
+use Rattle.cmwq_refinement.proofs.ItemNumbers.{one_of}
+use Rattle.cmwq_refinement.proofs.PlacesFit.{open_there}
+use Rattle.cmwq_refinement.proofs.PoolReads.{IsOnList, worklist_has}
+use Rattle.cmwq_refinement.proofs.PoolSteps.{first_listed, first_items}
+
+-- ---- tasks with neither a number nor an item in common
+
+abbrev AreApart : List Task → Type 0
+AreApart [] = Unit {0}
+AreApart (t ∷ ts) = AllByRecursion (λ u. is_like u.number u.item.0 t ≡ false) ts × AreApart ts
+
+apart_from : (ts us : List Task) (u : Task) → AreApart (ts ++ u ∷ us) → AllByRecursion (λ t. is_like u.number u.item.0 t ≡ false) ts
+apart_from [] us u h = tt
+apart_from (t ∷ ts) us u h = (of_in (λ v. is_like v.number v.item.0 t ≡ false) (ts ++ u ∷ us) u h.0 (in_right ts (u ∷ us) u (inl refl)), apart_from ts us u h.1)
+
+apart_may_be_added : (s : Layout) (xs : List Queueing) (l : PoolState) → AllByRecursion (λ x. x.item.0 < l.items) xs → AreApart (l.listed ++ map (task_for s) xs) → MayAllBeAdded s xs l
+apart_may_be_added s [] l there apart = tt
+apart_may_be_added s (x ∷ xs) l there apart = (
+  ap₂ (λ a b. a && not b) (lt-ltb x.item.0 l.items there.0) (list_any_none (is_like x.number x.item.0) l.listed (All-from_recursion (λ t. is_like x.number x.item.0 t ≡ false) l.listed (apart_from l.listed (map (task_for s) xs) (task_for s x) apart))),
+  apart_may_be_added s xs (added l (task_for s x)) there.1 (subst AreApart (sym (append_assoc l.listed (task_for s x ∷ []) (map (task_for s) xs))) apart),
+)
+
+-- ---- those of a worklist
+
+not_sooner : (s : Layout) (past : List Entry) (x y : Queueing) → IsSooner s past x y → x ≡ y → ⊥
+not_sooner s past x y h same =
+    let at : h.x_since ≡ h.y_since = same_Some h.x_since h.y_since (sym h.x_is ∙ ap (λ z. since s past z) same ∙ h.y_is) in
+    let number : x.number ≡ y.number = ap number_of_queueing same in
+    ⊎_elim (λ less. absurd (omega arith)) (λ k. let less = k.1 in absurd (omega arith)) h.order
+
+unlike : (s : Layout) (past : List Entry) (p : PoolId) (x y : Queueing) → IsLegal s past → IsSooner s past x y → IsOnList s past p x → IsOnList s past p y → is_like y.number y.item.0 (task_for s x) ≡ false
+unlike s past p x y legal sooner hx hy = ap₂ (λ a b. a || b)
+    (false_from_ne_true (x.number == y.number) (λ h. not_sooner s past x y sooner (rises_unique number_of_queueing (still_open past) x y (open_numbers_rise past) hx.stands hy.stands (eqb-true x.number y.number h))))
+    (false_from_ne_true (x.item.0 == y.item.0) (λ h. not_sooner s past x y sooner (one_of s past x y legal hx.stands hy.stands (eqb-true x.item.0 y.item.0 h) hx.not_started hy.not_started)))
+
+in_order_apart : (s : Layout) (past : List Entry) (p : PoolId) (xs : List Queueing) → IsLegal s past → AreInOrder s past xs → AllByRecursion (IsOnList s past p) xs → AreApart (map (task_for s) xs)
+in_order_apart s past p [] legal order on = tt
+in_order_apart s past p (x ∷ xs) legal order on = (each xs order.0 on.1, in_order_apart s past p xs legal order.1 on.1)
+  where
+    each : (ys : List Queueing) → AllByRecursion (IsSooner s past x) ys → AllByRecursion (IsOnList s past p) ys → AllByRecursion (λ u. is_like u.number u.item.0 (task_for s x) ≡ false) (map (task_for s) ys)
+    each [] h k = tt
+    each (y ∷ ys) h k = (unlike s past p x y legal h.0 on.0 k.0, each ys h.1 k.1)
+
+worklist_apart : (s : Layout) (past : List Entry) (p : PoolId) → IsLegal s past → AreApart (map (task_for s) (worklist s past p))
+worklist_apart s past p legal = in_order_apart s past p (worklist s past p) legal (worklist_is s past p).in_order (worklist_has s past p)
+
+active_there : (s : Layout) (past : List Entry) (e : Entry) (p : PoolId) → IsLegal s (e ∷ past) → AllByRecursion (λ x. x.item.0 < s.items) (made_active s past p e)
+active_there s past e p legal = all_in (λ x. x.item.0 < s.items) (made_active s past p e) (λ x i.
+    let listed = subst (In x) (sym (worklists_go_on s past e p legal)) (in_right (filter (is_left past e) (worklist s past p)) (made_active s past p e) x i) in
+    (open_there s (e ∷ past) x legal (of_in (IsOnList s (e ∷ past) p) (worklist s (e ∷ past) p) x (worklist_has s (e ∷ past) p) listed).stands).item)
+
+pub active_may_be_added : (s : Layout) (past : List Entry) (e : Entry) (p : PoolId) → IsLegal s (e ∷ past) → MayAllBeAdded s (made_active s past p e) (told_first s past p e (pool_of s past p))
+active_may_be_added s past e p legal =
+    apart_may_be_added s (made_active s past p e) (told_first s past p e (pool_of s past p))
+    (subst (λ n. AllByRecursion (λ x. x.item.0 < n) (made_active s past p e)) (sym (first_items s past e p)) (active_there s past e p legal))
+    (subst AreApart (first_listed s past e p legal) (worklist_apart s (e ∷ past) p legal))

@@ -1,0 +1,75 @@
+-- What a pool's worker is answered in a legal history may be told to the pool.
+use Rattle.std.proofs.Common.{◌≡◌, ◌<◌, ℕ, true, false, not, ◌&&◌, List, ◌∷◌, Some, refl, sym, ap, ap₂, ◌∙◌}
+use Rattle.std.specs.Prelude.{option_map, is_some}
+use Rattle.cmwq_model.specs.declared.id.WorkerId.{WorkerId}
+use Rattle.cmwq_model.specs.declared.id.Who.TheVariants.{Worker}
+use Rattle.cmwq_model.specs.declared.reply.Reply.{Reply}
+use Rattle.cmwq_model.specs.declared.reply.Reply.TheVariants as reply
+use Rattle.cmwq_model.specs.declared.entry.Entry.{Entry}
+use Rattle.cmwq_model.specs.Layout.{Layout}
+use Rattle.cmwq_model.specs.Fate.{number_started, number_finished}
+use Rattle.cmwq_model.specs.Runs.{has_run, is_asleep, runs_awake, runs_asleep}
+use Rattle.cmwq_model.specs.Active.{next}
+use Rattle.cmwq_model.specs.Workers.{is_enlisted, may_retire, runnable}
+use Rattle.cmwq_model.specs.Legal.{IsLegal}
+use Rattle.cmwq_theory_steps.proofs.Starts.{starts_next}
+use Rattle.cmwq_theory_steps.proofs.Fresh.{finishes_run}
+use Rattle.cmwq_theory_steps.proofs.Causes.{cause_of}
+use Rattle.cmwq_theory_steps.proofs.Reasons.{sleep_reason, wake_reason, retire_reason}
+use Rattle.cmwq_pool.specs.Slots.{slot_at, is_idle as is_idle_slot, runs_awake as slot_awake_runs, runs_asleep as slot_asleep_runs}
+use Rattle.cmwq_refinement.specs.Told.{number_of_queueing}
+use Rattle.cmwq_refinement.specs.Pools.{pool_of, MayStart, MayBeTold}
+use Rattle.cmwq_refinement.proofs.PoolReads.{slot_is, some_run, idle_slot, runnables_are_runnable, idle_retire_alike}
+use Rattle.cmwq_refinement.proofs.PoolNext.{worker_fits, nexts_are_next}
+use Rattle.cmwq_theory_steps.proofs.OwedSteps.{by_itself, same_starter}
+
+module _ (s : Layout) (past : List Entry) (e : Entry) (w : WorkerId) (legal : IsLegal s (e ∷ past)) (who : e.who ≡ Worker w) where
+  before : IsLegal s past
+  unfolding IsLegal
+  before = legal.2
+
+  there : w.index < s.workers
+  there = worker_fits s past e w legal (by_itself e w who)
+
+  awake_slot : runs_awake past w ≡ true → slot_awake_runs (slot_at (pool_of s past w.pool).slots w.index) ≡ true
+  awake_slot h = ap slot_awake_runs (slot_is s past w.pool w.index there) ∙ ap (λ b. b && not (is_asleep past w)) (some_run s past w before) ∙ h
+
+  asleep_slot : runs_asleep past w ≡ true → slot_asleep_runs (slot_at (pool_of s past w.pool).slots w.index) ≡ true
+  asleep_slot h = ap slot_asleep_runs (slot_is s past w.pool w.index there) ∙ ap (λ b. b && is_asleep past w) (some_run s past w before) ∙ h
+
+  may_start : (n : ℕ) → number_started e.reply ≡ Some n → MayStart (pool_of s past w.pool) w.index
+  may_start n h =
+      let st = starts_next s past e n legal h in
+      let same = same_starter st.worker w (sym st.by_worker ∙ who) in
+      let enlisted : is_enlisted past w ≡ true = ap (is_enlisted past) (sym same) ∙ st.enlisted in
+      let none : has_run past w ≡ false = ap (has_run past) (sym same) ∙ st.idle in
+      let next_is : next s past w.pool ≡ Some st.queueing = ap (λ (v : WorkerId). next s past v.pool) (sym same) ∙ st.is_next in
+      record {
+        idle = ap is_idle_slot (slot_is s past w.pool w.index there) ∙ idle_slot s past w.pool w.index before ∙ ap₂ (λ a b. a && not b) enlisted none;
+        next = ap is_some (nexts_are_next s past w.pool before ∙ ap (option_map number_of_queueing) next_is);
+        free = runnables_are_runnable s past w.pool before ∙ ap (λ (v : WorkerId). runnable s past v.pool) (sym same) ∙ st.is_clear;
+      }
+
+  may_be_told : (r : Reply) → e.reply ≡ r → MayBeTold r (pool_of s past w.pool) w.index
+  may_be_told (reply.Started n) is = may_start n (ap number_started is)
+  may_be_told (reply.StartedEnlist n y) is = may_start n (ap number_started is)
+  may_be_told (reply.Finished n) is =
+      let f = finishes_run s past e n legal (ap number_finished is) in
+      awake_slot (ap (runs_awake past) (sym (same_starter f.worker w (sym f.by_worker ∙ who))) ∙ f.awake)
+  may_be_told reply.Slept is =
+      let k = sleep_reason s past e.who e.call e.reply (cause_of s past e legal) is in
+      awake_slot (ap (runs_awake past) (sym (same_starter k.0 w (sym k.1 ∙ who))) ∙ k.3)
+  may_be_told reply.Woke is =
+      let k = wake_reason s past e.who e.call e.reply (cause_of s past e legal) is in
+      asleep_slot (ap (runs_asleep past) (sym (same_starter k.0 w (sym k.1 ∙ who))) ∙ k.3)
+  may_be_told reply.Retired is =
+      let k = retire_reason s past e.who e.call e.reply (cause_of s past e legal) is in
+      let same = same_starter k.0 w (sym k.1 ∙ who) in
+      let enlisted : is_enlisted past w ≡ true = ap (is_enlisted past) (sym same) ∙ k.3 in
+      let none : has_run past w ≡ false = ap (has_run past) (sym same) ∙ k.4 in
+      let may : may_retire s past w.pool ≡ true = ap (λ (v : WorkerId). may_retire s past v.pool) (sym same) ∙ k.5 in
+      idle_retire_alike s past w.pool w.index before there ∙ ap₂ (λ a b. a && b) (ap₂ (λ a b. a && not b) enlisted none) may
+  may_be_told r is = tt
+
+pub workers_may_be_told : (s : Layout) (past : List Entry) (e : Entry) (w : WorkerId) → IsLegal s (e ∷ past) → e.who ≡ Worker w → MayBeTold e.reply (pool_of s past w.pool) w.index
+workers_may_be_told s past e w legal who = may_be_told s past e w legal who e.reply refl

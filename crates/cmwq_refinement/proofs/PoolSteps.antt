@@ -1,0 +1,266 @@
+-- A pool refines a history, entry by entry.
+use Rattle.std.proofs.Common.{◌≡◌, ◌==◌, ℕ, Bool, true, false, cond, not, ◌&&◌, List, [], ◌∷◌, ◌++◌, map, filter, Option, Some, None, refl, sym, ap, ap₂, ◌∙◌, subst, arith, append-nil}
+use Rattle.std.specs.Prelude.{if◌then◌else◌}
+use Rattle.std.specs.List.{AllByRecursion}
+use Rattle.std.proofs.lemmas.Bool.{eqb-true, eq-eqb, false_from_ne_true, false≢true}
+use Rattle.std.proofs.lemmas.Bool.Decides.{nat_tests}
+use Rattle.std.proofs.lemmas.Option.{same_Some}
+use Rattle.std.proofs.lemmas.List.{map-append, append_assoc}
+use Rattle.cmwq_model.specs.declared.id.PoolId.{PoolId}
+use Rattle.cmwq_model.specs.declared.id.WorkerId.{WorkerId}
+use Rattle.cmwq_model.specs.declared.id.Who.{Who}
+use Rattle.cmwq_model.specs.declared.id.Who.TheVariants.{Caller, Worker}
+use Rattle.cmwq_model.specs.declared.reply.Reply.{Reply}
+use Rattle.cmwq_model.specs.declared.reply.Reply.TheVariants as reply
+use Rattle.cmwq_model.specs.declared.entry.Entry.{Entry}
+use Rattle.cmwq_model.specs.declared.record.Queueing.{Queueing}
+use Rattle.cmwq_model.specs.Layout.{Layout, indices, pool_at}
+use Rattle.cmwq_model.specs.Calls.{is_at, same_pool, is_of_item}
+use Rattle.cmwq_model.specs.Fate.{number_started, number_finished, replaces, finishes, is_started}
+use Rattle.cmwq_model.specs.Runs.{last_start, is_asleep}
+use Rattle.cmwq_model.specs.Queueings.{queueings, still_open, queueing_at}
+use Rattle.cmwq_model.specs.Active.{activated, worklist}
+use Rattle.cmwq_model.specs.Workers.{is_enlisted, worker_at}
+use Rattle.cmwq_model.specs.Legal.{IsLegal}
+use Rattle.cmwq_theory_steps.specs.Endings.{survives, is_ended, ending}
+use Rattle.cmwq_theory_steps.specs.Activations.{is_left, is_in}
+use Rattle.cmwq_theory_active.proofs.Lists.{All_map, All_each}
+use Rattle.cmwq_theory_steps.proofs.Filters.{none_found}
+use Rattle.cmwq_theory_steps.proofs.RunsActive.{listed_pool}
+use Rattle.cmwq_theory_steps.proofs.Entries.{is_at-true}
+use Rattle.cmwq_theory_steps.proofs.Fresh.{finishes_run}
+use Rattle.cmwq_theory_steps.proofs.ItemRuns.{run_is}
+use Rattle.cmwq_theory_steps.proofs.RunSteps.{last_started, no_end}
+use Rattle.cmwq_theory_steps.proofs.StartsListed.{IsFound, queueings_found, StartsListed, starts_listed}
+use Rattle.cmwq_theory_steps.proofs.WorklistSteps.{worklists_go_on}
+use Rattle.cmwq_theory_steps.proofs.Pools.{same_pool-true}
+use Rattle.cmwq_pool.specs.declared.task.Task.{Task}
+use Rattle.cmwq_pool.specs.Slots.{new_slot}
+use Rattle.cmwq_pool.specs.PoolState.{PoolState, new_pool_state, is_not, added, removed, next_task}
+use Rattle.cmwq_refinement.specs.Told.{number_of_queueing}
+use Rattle.cmwq_refinement.specs.Pools.{task_for, slot_of, pool_of, start_next, told_reply, told_worker, told_cancelled, told_active, told_first, made_active, told}
+use Rattle.cmwq_refinement.proofs.Members.{of_in}
+use Rattle.cmwq_refinement.proofs.Numbers.{filter_goes_on}
+use Rattle.cmwq_refinement.proofs.Rising.{rises_unique}
+use Rattle.cmwq_refinement.proofs.QueueingSteps.{QueueingStep, queueing_step, ends_one, ends_none, open_numbers_rise}
+use Rattle.cmwq_refinement.proofs.TimerSteps.{same_rows}
+use Rattle.cmwq_refinement.proofs.PoolReads.{IsOnList, worklist_has}
+use Rattle.cmwq_refinement.proofs.PoolSlots.{StartsTask, starts_task, slots_refine, pool_itself}
+
+-- ---- what joins the list
+
+pool_state_like : (a b : PoolState) → a.items ≡ b.items → a.listed ≡ b.listed → a.slots ≡ b.slots → a ≡ b
+pool_state_like a b items listed slots = λ i. record { items = items i; listed = listed i; slots = slots i }
+
+told_active_is : (s : Layout) (xs : List Queueing) (l : PoolState) → told_active s xs l ≡ record l { listed = l.listed ++ map (task_for s) xs }
+told_active_is s [] l = pool_state_like l (record l { listed = l.listed ++ [] }) refl (sym (append-nil l.listed)) refl
+told_active_is s (x ∷ xs) l = told_active_is s xs (added l (task_for s x))
+    ∙ pool_state_like (record l { listed = (l.listed ++ task_for s x ∷ []) ++ map (task_for s) xs }) (record l { listed = l.listed ++ task_for s x ∷ map (task_for s) xs }) refl (append_assoc l.listed (task_for s x ∷ []) (map (task_for s) xs)) refl
+
+-- ---- what leaves it
+
+filter_mapped : (p : Task → Bool) (q : Queueing → Bool) (f : Queueing → Task) (xs : List Queueing) → AllByRecursion (λ x. p (f x) ≡ q x) xs → filter p (map f xs) ≡ map f (filter q xs)
+filter_mapped p q f [] h = refl
+filter_mapped p q f (x ∷ xs) h = ap₂ (λ b ys. cond b (f x ∷ ys) ys) h.0 (filter_mapped p q f xs h.1) ∙ here (q x)
+  where
+    here : (b : Bool) → cond b (f x ∷ map f (filter q xs)) (map f (filter q xs)) ≡ map f (cond b (x ∷ filter q xs) (filter q xs))
+    here true = refl
+    here false = refl
+
+all_stay : (s : Layout) (past : List Entry) (e : Entry) (p : PoolId) → ((y : Queueing) → IsOnList s past p y → is_left past e y ≡ true) → map (task_for s) (filter (is_left past e) (worklist s past p)) ≡ map (task_for s) (worklist s past p)
+all_stay s past e p h = ap (map (task_for s)) (filter_goes_on number_of_queueing (is_left past e) (worklist s past p) (All_map (IsOnList s past p) (λ y. is_left past e y ≡ true) (worklist s past p) h (worklist_has s past p)))
+
+one_leaves : (s : Layout) (past : List Entry) (e : Entry) (p : PoolId) (n : ℕ) → ((y : Queueing) → IsOnList s past p y → is_left past e y ≡ not (y.number == n)) → map (task_for s) (filter (is_left past e) (worklist s past p)) ≡ filter (is_not n) (map (task_for s) (worklist s past p))
+one_leaves s past e p n h = sym (filter_mapped (is_not n) (is_left past e) (task_for s) (worklist s past p) (All_map (IsOnList s past p) (λ y. is_not n (task_for s y) ≡ is_left past e y) (worklist s past p) (λ y on. sym (h y on)) (worklist_has s past p)))
+
+-- what is listed isn't finished
+not_finished : (s : Layout) (past : List Entry) (e : Entry) (n : ℕ) → IsLegal s (e ∷ past) → is_started past n ≡ false → finishes n e ≡ false
+not_finished s past e n legal new = false_from_ne_true (finishes n e) (λ h.
+    let k = finishes_run s past e n legal (is_at-true (number_finished e.reply) n h) in
+    let started = last_started past k.worker n (run_is past k.worker n k.is_run).last in
+    absurd (false≢true (sym new ∙ started)))
+
+-- ---- an entry that starts nothing
+
+listed_told : (r : Reply) (x : ℕ) (l : PoolState) → number_started r ≡ None → (told_reply r x l).listed ≡ l.listed
+listed_told (reply.Started n) x l h = cc
+listed_told (reply.StartedEnlist n y) x l h = cc
+listed_told r x l h = refl
+
+listed_worker : (p : PoolId) (who : Who) (r : Reply) (l : PoolState) → number_started r ≡ None → (told_worker p who r l).listed ≡ l.listed
+listed_worker p (Caller c) r l h = refl
+listed_worker p (Worker w) r l h = here (same_pool w.pool p)
+  where
+    here : (b : Bool) → (if b then told_reply r w.index l else l).listed ≡ l.listed
+    here true = listed_told r w.index l h
+    here false = refl
+
+listed_cancelled : (s : Layout) (p : PoolId) (e : Entry) (o : Option Queueing) (l m : PoolState) → l.listed ≡ m.listed → (told_cancelled s p e o l).listed ≡ (told_cancelled s p e o m).listed
+listed_cancelled s p e None l m same = same
+listed_cancelled s p e (Some x) l m same = here (is_in s p x && not (finishes x.number e))
+  where
+    here : (b : Bool) → (if b then removed l x.number else l).listed ≡ (if b then removed m x.number else m).listed
+    here true = ap (filter (is_not x.number)) same
+    here false = same
+
+left_if_survives : (past : List Entry) (e : Entry) (y : Queueing) → number_started e.reply ≡ None → is_left past e y ≡ survives past e y
+left_if_survives past e y none = ap (λ o. survives past e y && not (is_at o y.number)) none ∙ both (survives past e y)
+  where
+    both : (b : Bool) → (b && true) ≡ b
+    both true = refl
+    both false = refl
+
+in_its_pool : (s : Layout) (past : List Entry) (p : PoolId) (x : Queueing) → pool_at s x.place ≡ p → is_in s p x ≡ true
+in_its_pool s past p x is = subst (λ q. same_pool q p ≡ true) (sym is) (pool_itself (worker_at p 0))
+
+cancelled_leaves : (s : Layout) (past : List Entry) (e : Entry) (p : PoolId) → IsLegal s (e ∷ past) → number_started e.reply ≡ None → QueueingStep past e
+    → map (task_for s) (filter (is_left past e) (worklist s past p)) ≡ (told_cancelled s p e (ending past e) (pool_of s past p)).listed
+cancelled_leaves s past e p legal none (ends_none is all) =
+    all_stay s past e p (λ y on. left_if_survives past e y none ∙ of_in (λ z. survives past e z ≡ true) (still_open past) y all on.stands) ∙ sym (ap (λ o. (told_cancelled s p e o (pool_of s past p)).listed) is)
+cancelled_leaves s past e p legal none (ends_one x is here all) = kind (is_in s p x && not (finishes x.number e)) refl ∙ sym (ap (λ o. (told_cancelled s p e o (pool_of s past p)).listed) is)
+  where
+    kind : (b : Bool) → (is_in s p x && not (finishes x.number e)) ≡ b → map (task_for s) (filter (is_left past e) (worklist s past p)) ≡ (if is_in s p x && not (finishes x.number e) then removed (pool_of s past p) x.number else pool_of s past p).listed
+    kind true h =
+        one_leaves s past e p x.number (λ y on. left_if_survives past e y none ∙ of_in (λ z. survives past e z ≡ not (z.number == x.number)) (still_open past) y all on.stands)
+        ∙ sym (ap (λ b. (if b then removed (pool_of s past p) x.number else pool_of s past p).listed) h)
+    kind false h =
+        all_stay s past e p (λ y on. left_if_survives past e y none ∙ of_in (λ z. survives past e z ≡ not (z.number == x.number)) (still_open past) y all on.stands ∙ ap not (differs y on))
+        ∙ sym (ap (λ b. (if b then removed (pool_of s past p) x.number else pool_of s past p).listed) h)
+      where
+        differs : (y : Queueing) → IsOnList s past p y → (y.number == x.number) ≡ false
+        differs y on = false_from_ne_true (y.number == x.number) (λ same.
+            let one = rises_unique number_of_queueing (still_open past) y x (open_numbers_rise past) on.stands here (eqb-true y.number x.number same) in
+            let inside : is_in s p x ≡ true = in_its_pool s past p x (subst (λ z. pool_at s z.place ≡ p) one on.pool) in
+            let unfinished : finishes x.number e ≡ false = not_finished s past e x.number legal (subst (λ z. is_started past z.number ≡ false) one on.not_started) in
+            absurd (false≢true (sym h ∙ ap₂ (λ a b. a && not b) inside unfinished)))
+
+-- ---- an entry that starts a queueing
+
+all_survive : (past : List Entry) (e : Entry) (n : ℕ) (y : Queueing) → number_started e.reply ≡ Some n → survives past e y ≡ true
+all_survive past e n y h =
+    let none = no_end e.reply n h in
+    ap₂ (λ a b. not (is_at a y.number) && not (is_at b y.number) && not (replaces e.reply && is_of_item y.item.0 e && not (is_started past y.number))) none.0 none.1
+    ∙ ap (λ r. not (r && is_of_item y.item.0 e && not (is_started past y.number))) none.2
+
+start_ends_none : (past : List Entry) (e : Entry) (n : ℕ) → number_started e.reply ≡ Some n → ending past e ≡ None
+start_ends_none past e n h = none_found (is_ended past e) (still_open past) (All_each (λ y. is_ended past e y ≡ false) (still_open past) (λ y. ap not (all_survive past e n y h)))
+
+left_if_not : (past : List Entry) (e : Entry) (n : ℕ) (y : Queueing) → number_started e.reply ≡ Some n → is_left past e y ≡ not (n == y.number)
+left_if_not past e n y h = ap₂ (λ a o. a && not (is_at o y.number)) (all_survive past e n y h) h
+
+turned : (a b : ℕ) → (a == b) ≡ (b == a)
+turned a b = grind (arith, nat_tests)
+
+start_reply : (r : Reply) (n : ℕ) (x : ℕ) (l : PoolState) → number_started r ≡ Some n → told_reply r x l ≡ start_next x (next_task l) l
+start_reply (reply.Started m) n x l h = refl
+start_reply (reply.StartedEnlist m y) n x l h = refl
+start_reply r n x l h = cc
+
+-- the one that starts leaves the list of its pool
+started_leaves : (s : Layout) (past : List Entry) (e : Entry) (w : WorkerId) (n : ℕ) (r : Reply) → IsLegal s (e ∷ past) → e.who ≡ Worker w → e.reply ≡ r → number_started r ≡ Some n
+    → map (task_for s) (filter (is_left past e) (worklist s past w.pool)) ≡ (start_next w.index (next_task (pool_of s past w.pool)) (pool_of s past w.pool)).listed
+started_leaves s past e w n (reply.Started m) legal who is h = of_task (starts_task s past e w m None legal who is)
+  where
+    of_task : StartsTask s past e w m None → map (task_for s) (filter (is_left past e) (worklist s past w.pool)) ≡ (start_next w.index (next_task (pool_of s past w.pool)) (pool_of s past w.pool)).listed
+    of_task st =
+        one_leaves s past e w.pool st.queueing.number (λ y on. left_if_not past e m y (ap number_started is) ∙ ap (λ k. not (k == y.number)) (sym st.number) ∙ ap not (turned st.queueing.number y.number))
+        ∙ sym (ap (λ o. (start_next w.index o (pool_of s past w.pool)).listed) st.task)
+started_leaves s past e w n (reply.StartedEnlist m x) legal who is h = of_task (starts_task s past e w m (Some x) legal who is)
+  where
+    of_task : StartsTask s past e w m (Some x) → map (task_for s) (filter (is_left past e) (worklist s past w.pool)) ≡ (start_next w.index (next_task (pool_of s past w.pool)) (pool_of s past w.pool)).listed
+    of_task st =
+        one_leaves s past e w.pool st.queueing.number (λ y on. left_if_not past e m y (ap number_started is) ∙ ap (λ k. not (k == y.number)) (sym st.number) ∙ ap not (turned st.queueing.number y.number))
+        ∙ sym (ap (λ o. (start_next w.index o (pool_of s past w.pool)).listed) st.task)
+started_leaves s past e w n r legal who is h = cc
+
+start_leaves : (s : Layout) (past : List Entry) (e : Entry) (p : PoolId) (n : ℕ) → IsLegal s (e ∷ past) → number_started e.reply ≡ Some n
+    → map (task_for s) (filter (is_left past e) (worklist s past p)) ≡ (told_worker p e.who e.reply (pool_of s past p)).listed
+start_leaves s past e p n legal h = here (same_pool st.worker.pool p) refl ∙ sym (ap (λ who. (told_worker p who e.reply (pool_of s past p)).listed) st.by_worker)
+  where
+    st : StartsListed s past e n
+    st = starts_listed s past e n legal (ap (λ o. is_at o n) h ∙ eq-eqb n n refl)
+
+    differs : same_pool st.worker.pool p ≡ false → (y : Queueing) → IsOnList s past p y → (n == y.number) ≡ false
+    differs other y on = false_from_ne_true (n == y.number) (λ same.
+        let number : n ≡ y.number = eqb-true n y.number same in
+        let at : queueing_at past n ≡ Some y = ap (queueing_at past) number ∙ of_in (IsFound past) (queueings past) y (queueings_found past) on.made in
+        let one : st.queueing ≡ y = same_Some st.queueing y (sym st.found ∙ at) in
+        let pool : pool_at s st.queueing.place ≡ p = ap (λ (z : Queueing). pool_at s z.place) one ∙ on.pool in
+        let inside : same_pool (pool_at s st.queueing.place) st.worker.pool ≡ true = listed_pool s past st.worker.pool st.queueing st.listed in
+        let same_one : st.worker.pool ≡ p = sym (same_pool-true (pool_at s st.queueing.place) st.worker.pool inside) ∙ pool in
+        absurd (false≢true (sym other ∙ subst (λ q. same_pool st.worker.pool q ≡ true) same_one (pool_itself st.worker))))
+
+    here : (b : Bool) → same_pool st.worker.pool p ≡ b → map (task_for s) (filter (is_left past e) (worklist s past p)) ≡ (if same_pool st.worker.pool p then told_reply e.reply st.worker.index (pool_of s past p) else pool_of s past p).listed
+    here true same = subst (λ q. map (task_for s) (filter (is_left past e) (worklist s past q)) ≡ (told_reply e.reply st.worker.index (pool_of s past q)).listed) (same_pool-true st.worker.pool p same)
+        (started_leaves s past e st.worker n e.reply legal st.by_worker refl h ∙ sym (ap (λ (l : PoolState). l.listed) (start_reply e.reply n st.worker.index (pool_of s past st.worker.pool) h)))
+        ∙ sym (ap (λ b. (if b then told_reply e.reply st.worker.index (pool_of s past p) else pool_of s past p).listed) same)
+    here false other =
+        all_stay s past e p (λ y on. left_if_not past e n y h ∙ ap not (differs other y on))
+        ∙ sym (ap (λ b. (if b then told_reply e.reply st.worker.index (pool_of s past p) else pool_of s past p).listed) other)
+
+-- ---- together
+
+left_listed : (s : Layout) (past : List Entry) (e : Entry) (p : PoolId) → IsLegal s (e ∷ past)
+    → map (task_for s) (filter (is_left past e) (worklist s past p)) ≡ (told_cancelled s p e (ending past e) (told_worker p e.who e.reply (pool_of s past p))).listed
+left_listed s past e p legal = by (number_started e.reply) refl
+  where
+    by : (o : Option ℕ) → number_started e.reply ≡ o → map (task_for s) (filter (is_left past e) (worklist s past p)) ≡ (told_cancelled s p e (ending past e) (told_worker p e.who e.reply (pool_of s past p))).listed
+    by None none = cancelled_leaves s past e p legal none (queueing_step s past e legal) ∙ listed_cancelled s p e (ending past e) (pool_of s past p) (told_worker p e.who e.reply (pool_of s past p)) (sym (listed_worker p e.who e.reply (pool_of s past p) none))
+    by (Some n) is = start_leaves s past e p n legal is ∙ sym (ap (λ o. (told_cancelled s p e o (told_worker p e.who e.reply (pool_of s past p))).listed) (start_ends_none past e n is))
+
+record SameOthers (l m : PoolState) : Type 0 where
+  items : m.items ≡ l.items
+  slots : m.slots ≡ l.slots
+
+cancelled_others : (s : Layout) (p : PoolId) (e : Entry) (o : Option Queueing) (l : PoolState) → SameOthers l (told_cancelled s p e o l)
+cancelled_others s p e None l = record { items = refl; slots = refl }
+cancelled_others s p e (Some x) l = here (is_in s p x && not (finishes x.number e))
+  where
+    here : (b : Bool) → SameOthers l (if b then removed l x.number else l)
+    here true = record { items = refl; slots = refl }
+    here false = record { items = refl; slots = refl }
+
+start_items : (x : ℕ) (o : Option Task) (l : PoolState) → (start_next x o l).items ≡ l.items
+start_items x None l = refl
+start_items x (Some t) l = refl
+
+reply_items : (r : Reply) (x : ℕ) (l : PoolState) → (told_reply r x l).items ≡ l.items
+reply_items (reply.Started n) x l = start_items x (next_task l) l
+reply_items (reply.StartedEnlist n y) x l = start_items x (next_task l) l
+reply_items r x l = refl
+
+worker_items : (p : PoolId) (who : Who) (r : Reply) (l : PoolState) → (told_worker p who r l).items ≡ l.items
+worker_items p (Caller c) r l = refl
+worker_items p (Worker w) r l = here (same_pool w.pool p)
+  where
+    here : (b : Bool) → (if b then told_reply r w.index l else l).items ≡ l.items
+    here true = reply_items r w.index l
+    here false = refl
+
+-- what is listed after the entry: what is left once the pool is told the first, and then what became active
+pub first_listed : (s : Layout) (past : List Entry) (e : Entry) (p : PoolId) → IsLegal s (e ∷ past)
+    → map (task_for s) (worklist s (e ∷ past) p) ≡ (told_first s past p e (pool_of s past p)).listed ++ map (task_for s) (made_active s past p e)
+first_listed s past e p legal =
+    ap (map (task_for s)) (worklists_go_on s past e p legal) ∙ map-append (task_for s) (filter (is_left past e) (worklist s past p)) (made_active s past p e)
+    ∙ ap (λ ts. ts ++ map (task_for s) (made_active s past p e)) (left_listed s past e p legal)
+
+pub first_items : (s : Layout) (past : List Entry) (e : Entry) (p : PoolId) → (told_first s past p e (pool_of s past p)).items ≡ s.items
+first_items s past e p = (cancelled_others s p e (ending past e) (told_worker p e.who e.reply (pool_of s past p))).items ∙ worker_items p e.who e.reply (pool_of s past p)
+
+pub pools_refine : (s : Layout) (past : List Entry) (e : Entry) (p : PoolId) → IsLegal s (e ∷ past) → pool_of s (e ∷ past) p ≡ told s past p e (pool_of s past p)
+pools_refine s past e p legal =
+    pool_state_like (pool_of s (e ∷ past) p) (record m { listed = m.listed ++ map (task_for s) new }) (sym (first_items s past e p)) (first_listed s past e p legal) (slots_refine s past e p legal ∙ sym slots)
+    ∙ sym (told_active_is s new m)
+  where
+    m : PoolState
+    m = told_first s past p e (pool_of s past p)
+
+    new : List Queueing
+    new = made_active s past p e
+
+    slots : m.slots ≡ (told_worker p e.who e.reply (pool_of s past p)).slots
+    slots = (cancelled_others s p e (ending past e) (told_worker p e.who e.reply (pool_of s past p))).slots
+
+pub pools_at_first : (s : Layout) (p : PoolId) → pool_of s [] p ≡ new_pool_state s.items s.workers
+unfolding worklist activated is_enlisted is_asleep last_start
+pools_at_first s p = pool_state_like (pool_of s [] p) (new_pool_state s.items s.workers) refl refl (same_rows new_slot (slot_of s [] p) (indices s) (λ x. refl))

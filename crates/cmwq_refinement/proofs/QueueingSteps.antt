@@ -1,0 +1,50 @@
+-- The one open queueing that an entry ends, and those that it spares.
+use Rattle.std.proofs.Common.{◌≡◌, ◌==◌, Bool, true, false, not, List, [], ◌∷◌, Option, Some, None, sym, ap, ◌∙◌, refl, subst}
+use Rattle.std.specs.List.{AllByRecursion}
+use Rattle.std.proofs.lemmas.Bool.{eqb-true, eq-eqb, not-false}
+use Rattle.std.proofs.lemmas.Option.{same_Some}
+use Rattle.cmwq_model.specs.declared.entry.Entry.{Entry}
+use Rattle.cmwq_model.specs.declared.record.Queueing.{Queueing}
+use Rattle.cmwq_model.specs.Layout.{Layout}
+use Rattle.cmwq_model.specs.Queueings.{still_open}
+use Rattle.cmwq_model.specs.Legal.{IsLegal}
+use Rattle.cmwq_theory_steps.specs.Endings.{survives, is_ended, ending}
+use Rattle.cmwq_theory_active.specs.Rising.{IsRising}
+use Rattle.cmwq_theory_active.proofs.Lists.{All_map, find_none}
+use Rattle.cmwq_theory_active.proofs.Rising.{open_rise}
+use Rattle.cmwq_theory_steps.proofs.Ended.{one_ends}
+use Rattle.cmwq_refinement.specs.Told.{number_of_queueing}
+use Rattle.cmwq_refinement.proofs.Members.{In, all_in, found, filter_in, in_option}
+use Rattle.cmwq_refinement.proofs.Rising.{RisesBy, rises_unique}
+
+rises_by_number : (xs : List Queueing) → IsRising xs → RisesBy number_of_queueing xs
+rises_by_number [] h = tt
+rises_by_number (x ∷ xs) h = (h.0, rises_by_number xs h.1)
+
+pub open_numbers_rise : (past : List Entry) → RisesBy number_of_queueing (still_open past)
+open_numbers_rise past = rises_by_number (still_open past) (open_rise past)
+
+pub data QueueingStep (past : List Entry) (e : Entry) : Type 0 where
+  ends_one : (x : Queueing) → ending past e ≡ Some x → In x (still_open past) → AllByRecursion (λ y. survives past e y ≡ not (y.number == x.number)) (still_open past) → QueueingStep past e
+  ends_none : ending past e ≡ None → AllByRecursion (λ y. survives past e y ≡ true) (still_open past) → QueueingStep past e
+
+same_flags : (a b : Bool) → (not a ≡ true → b ≡ true) → (b ≡ true → not a ≡ true) → a ≡ not b
+same_flags true true f g = let bad : false ≡ true = g refl in cc
+same_flags true false f g = refl
+same_flags false true f g = refl
+same_flags false false f g = let bad : false ≡ true = f refl in cc
+
+pub queueing_step : (s : Layout) (past : List Entry) (e : Entry) → IsLegal s (e ∷ past) → QueueingStep past e
+queueing_step s past e legal = which (ending past e) refl
+  where
+    only : (x : Queueing) → ending past e ≡ Some x → In x (still_open past) → is_ended past e x ≡ true → (y : Queueing) → In y (still_open past) → survives past e y ≡ not (y.number == x.number)
+    only x is here it y there = same_flags (survives past e y) (y.number == x.number)
+        (λ ended.
+        let listed = subst (In y) (one_ends s past e legal) (filter_in (is_ended past e) (still_open past) y there ended) in
+        let same = same_Some x y (sym is ∙ in_option (ending past e) y listed) in
+        eq-eqb y.number x.number (sym (ap number_of_queueing same)))
+        (λ same. ap (is_ended past e) (rises_unique number_of_queueing (still_open past) y x (open_numbers_rise past) there here (eqb-true y.number x.number same)) ∙ it)
+
+    which : (o : Option Queueing) → ending past e ≡ o → QueueingStep past e
+    which None is = ends_none is (All_map (λ y. is_ended past e y ≡ false) (λ y. survives past e y ≡ true) (still_open past) (λ y h. not-false (survives past e y) h) (find_none (is_ended past e) (still_open past) is))
+    which (Some x) is = let k = found (is_ended past e) (still_open past) x is in ends_one x is k.0 (all_in (λ y. survives past e y ≡ not (y.number == x.number)) (still_open past) (only x is k.0 k.1))

@@ -1,0 +1,112 @@
+-- The unended tickets by their numbers, and the one that an entry ends.
+use Rattle.std.proofs.Common.{◌≡◌, ◌==◌, ◌<◌, ℕ, Bool, true, false, not, ◌&&◌, List, [], ◌∷◌, ◌++◌, length, Option, Some, None, option_to_list, refl, sym, ap, ◌∙◌, subst, append-nil}
+use Rattle.std.specs.Prelude.{if◌then◌else◌}
+use Rattle.std.specs.List.{AllByRecursion}
+use Rattle.std.proofs.lemmas.Bool.{and_parts, eqb-true, eq-eqb, false_from_ne_true}
+use Rattle.std.proofs.lemmas.Option.{same_Some}
+use Rattle.cmwq_model.specs.declared.id.Who.{Who}
+use Rattle.cmwq_model.specs.declared.id.Who.TheVariants.{Caller, Worker}
+use Rattle.cmwq_model.specs.declared.call.Call.{Call}
+use Rattle.cmwq_model.specs.declared.call.Call.TheVariants as call
+use Rattle.cmwq_model.specs.declared.reply.Reply.TheVariants as reply
+use Rattle.cmwq_model.specs.declared.entry.Entry.{Entry}
+use Rattle.cmwq_model.specs.declared.record.Ticket.{Ticket}
+use Rattle.cmwq_model.specs.Calls.{is_by}
+use Rattle.cmwq_model.specs.Tickets.{gives_ticket, ticket_for, ticket_in, tickets, is_end_of, is_done, ends, is_unended, unended}
+use Rattle.cmwq_theory_active.proofs.Lists.{All_map}
+use Rattle.cmwq_theory_steps.proofs.Given.{IsGiven, tickets_given, unended_given}
+use Rattle.cmwq_theory_steps.specs.TicketSteps.{is_kept, is_ended_by, ticket_ended}
+use Rattle.cmwq_theory_steps.proofs.TicketSteps.{is_done_reply, one_ticket_ends}
+use Rattle.cmwq_refinement.specs.Told.{number_of_ticket}
+use Rattle.cmwq_refinement.proofs.Members.{In, all_in, in_filter, filter_in, option_in}
+use Rattle.cmwq_refinement.proofs.Rising.{RisesBy, rises_filter, rises_snoc, rises_unique}
+
+-- ---- by their numbers
+
+-- what a given ticket is
+pub record IsTicketIn (e : Entry) (n : ℕ) (t : Ticket) : Type 0 where
+  pub gives : gives_ticket e.reply ≡ true
+  pub call : t.call ≡ e.call
+  pub number : t.number ≡ n
+  pub caller : e.who ≡ Caller t.caller
+
+pub ticket_in_is : (e : Entry) (n : ℕ) (t : Ticket) → ticket_in e n ≡ Some t → IsTicketIn e n t
+ticket_in_is e n t h = with (gives_ticket e.reply) e.who refl refl h
+  where
+    with : (b : Bool) (who : Who) → gives_ticket e.reply ≡ b → e.who ≡ who → (if b then ticket_for who e.call n else None) ≡ Some t → IsTicketIn e n t
+    with false who gives is k = cc
+    with true (Worker w) gives is k = cc
+    with true (Caller c) gives is k =
+        let same = same_Some _ t k in
+        record { gives = gives; call = ap (λ (u : Ticket). u.call) (sym same); number = ap (λ (u : Ticket). u.number) (sym same); caller = is ∙ ap (λ (u : Ticket). Caller u.caller) same }
+
+rises_more : (n : ℕ) (xs : List Ticket) (o : Option Ticket) → RisesBy number_of_ticket xs → AllByRecursion (λ t. t.number < n) xs → ((t : Ticket) → o ≡ Some t → t.number ≡ n) → RisesBy number_of_ticket (xs ++ option_to_list o)
+rises_more n xs None h below k = rw append-nil h
+rises_more n xs (Some t) h below k = rises_snoc number_of_ticket xs t h (subst (λ m. AllByRecursion (λ u. u.number < m) xs) (sym (k t refl)) below)
+
+tickets_below : (past : List Entry) → AllByRecursion (λ t. t.number < length past) (tickets past)
+tickets_below past = All_map (IsGiven past) (λ t. t.number < length past) (tickets past) (λ t h. h.older) (tickets_given past)
+
+pub tickets_rise : (past : List Entry) → RisesBy number_of_ticket (tickets past)
+unfolding tickets
+tickets_rise [] = tt
+tickets_rise (e ∷ past) = rises_more (length past) (tickets past) (ticket_in e (length past)) (tickets_rise past) (tickets_below past) (λ t h. (ticket_in_is e (length past) t h).number)
+
+pub unended_rise : (past : List Entry) → RisesBy number_of_ticket (unended past)
+unended_rise past = rises_filter number_of_ticket (is_unended past) (tickets past) (tickets_rise past)
+
+pub unended_below : (past : List Entry) → AllByRecursion (λ t. t.number < length past) (unended past)
+unended_below past = All_map (IsGiven past) (λ t. t.number < length past) (unended past) (λ t h. h.older) (unended_given past)
+
+-- ---- the end of a ticket
+
+end_call : (n : ℕ) (c : Call) → is_end_of n c ≡ true → c ≡ call.End n
+end_call n (call.End t) h = ap call.End (eqb-true t n h)
+end_call n c h = cc
+
+-- an entry that ends a ticket answers done to its end
+pub record EndsIt (e : Entry) (t : Ticket) : Type 0 where
+  pub by : is_by (Caller t.caller) e ≡ true
+  pub call : e.call ≡ call.End t.number
+  pub reply : e.reply ≡ reply.Done
+
+pub ends_it : (e : Entry) (t : Ticket) → ends t e ≡ true → EndsIt e t
+ends_it e t h =
+    let outer = and_parts (is_by (Caller t.caller) e && is_end_of t.number e.call) (is_done e.reply) h in
+    let inner = and_parts (is_by (Caller t.caller) e) (is_end_of t.number e.call) outer.0 in
+    record { by = inner.0; call = end_call t.number e.call inner.1; reply = is_done_reply e.reply outer.1 }
+
+-- ---- an entry ends one ticket at most
+
+-- of the unended tickets the entry ends the one with the number of this, and no other
+pub ends_only : (past : List Entry) (e : Entry) (u : Ticket) → In u (unended past) → ends u e ≡ true → (t : Ticket) → In t (unended past) → is_kept e t ≡ not (t.number == u.number)
+ends_only past e u here it t there = ap not (agree (ends t e) (t.number == u.number) forth back)
+  where
+    agree : (a b : Bool) → (a ≡ true → b ≡ true) → (b ≡ true → a ≡ true) → a ≡ b
+    agree true true f g = refl
+    agree true false f g = let bad : false ≡ true = f refl in cc
+    agree false true f g = let bad : false ≡ true = g refl in cc
+    agree false false f g = refl
+
+    forth : ends t e ≡ true → (t.number == u.number) ≡ true
+    forth h = eq-eqb t.number u.number (end_same (sym (ends_it e t h).call ∙ (ends_it e u it).call))
+      where
+        end_same : call.End t.number ≡ call.End u.number → t.number ≡ u.number
+        end_same k = cc
+
+    back : (t.number == u.number) ≡ true → ends t e ≡ true
+    back h = let same = rises_unique number_of_ticket (unended past) t u (unended_rise past) there here (eqb-true t.number u.number h) in ap (λ x. ends x e) same ∙ it
+
+pub data TicketStep (past : List Entry) (e : Entry) : Type 0 where
+  ends_one : (u : Ticket) → ticket_ended past e ≡ Some u → In u (unended past) → ends u e ≡ true → TicketStep past e
+  ends_none : ticket_ended past e ≡ None → AllByRecursion (λ t. is_kept e t ≡ true) (unended past) → TicketStep past e
+
+pub ticket_step : (past : List Entry) (e : Entry) → TicketStep past e
+ticket_step past e = which (ticket_ended past e) refl
+  where
+    which : (o : Option Ticket) → ticket_ended past e ≡ o → TicketStep past e
+    which None is = ends_none is (all_in (λ t. is_kept e t ≡ true) (unended past) (λ t i. ap not (false_from_ne_true (ends t e) (λ h.
+        subst (λ o. In t (option_to_list o)) is (subst (In t) (one_ticket_ends past e) (filter_in (is_ended_by e) (unended past) t i h))))))
+    which (Some u) is =
+        let k = in_filter (is_ended_by e) (unended past) u (subst (In u) (sym (one_ticket_ends past e)) (option_in (ticket_ended past e) u is)) in
+        ends_one u is k.0 k.1

@@ -1,0 +1,45 @@
+-- The timers refine a legal history, and the calls that tell them of an entry may be made.
+use Rattle.std.proofs.Common.{◌≡◌, ℕ, Bool, true, false, List, ◌∷◌, length, Option, Some, None, refl, sym, ap, ◌∙◌, arith}
+use Rattle.std.specs.Prelude.{is_some, if◌then◌else◌, IsTrue}
+use Rattle.cmwq_model.specs.declared.entry.Entry.{Entry}
+use Rattle.cmwq_model.specs.declared.record.Booking.{Booking}
+use Rattle.cmwq_model.specs.Layout.{Layout, is_layout}
+use Rattle.cmwq_model.specs.Calls.{item_of}
+use Rattle.cmwq_model.specs.Bookings.{settles, booking_of}
+use Rattle.cmwq_model.specs.Legal.{IsLegal}
+use Rattle.cmwq_refinement.specs.Timers.{timers_of, told_settled, told, MayBeSet}
+use Rattle.cmwq_refinement.proofs.LayoutLimits.{queues_few}
+use Rattle.cmwq_refinement.proofs.Settled.{settled_of_an_item, booking_fits}
+use Rattle.cmwq_refinement.proofs.TimerSteps.{rows_for_items, bookings_set_timers, settled_timers_are_taken_back, others_keep_timers}
+use Rattle.cmwq_refinement.proofs.FirstDue.{timers_may_be_told}
+
+pub timers_refine : (s : Layout) (past : List Entry) (e : Entry) → IsLegal s (e ∷ past) → timers_of s (e ∷ past) ≡ told past e (timers_of s past)
+timers_refine s past e legal = by (settles e.reply) refl
+  where
+    settled : settles e.reply ≡ true → (i : Option ℕ) (o : Option Booking) → item_of e ≡ i → booking_of e (length past) ≡ o → timers_of s (e ∷ past) ≡ told_settled i o (timers_of s past)
+    settled h i (Some b) item books = bookings_set_timers s past e b books
+    settled h (Some i) None item none = settled_timers_are_taken_back s past e i h none item
+    settled h None None item none = let some = sym (ap is_some item) ∙ settled_of_an_item s past e legal h in cc
+
+    by : (c : Bool) → settles e.reply ≡ c → timers_of s (e ∷ past) ≡ (if c then told_settled (item_of e) (booking_of e (length past)) (timers_of s past) else timers_of s past)
+    by true h = settled h (item_of e) (booking_of e (length past)) refl refl
+    by false h = others_keep_timers s past e h
+
+pub timers_may_be_set : (s : Layout) (past : List Entry) (e : Entry) → IsTrue (is_layout s) → IsLegal s (e ∷ past) → MayBeSet (item_of e) (booking_of e (length past)) (timers_of s past)
+timers_may_be_set s past e inside legal = by (item_of e) (booking_of e (length past)) refl refl
+  where
+    rows : length (timers_of s past) ≡ s.items
+    rows = rows_for_items s past
+
+    by : (i : Option ℕ) (o : Option Booking) → item_of e ≡ i → booking_of e (length past) ≡ o → MayBeSet i o (timers_of s past)
+    by i (Some b) item books =
+        let fits = booking_fits s past e b legal books in
+        let less = fits.item in
+        let on = fits.queue in
+        let few = queues_few s inside in
+        let size = rows in (omega arith, omega arith)
+    by (Some i) None item none =
+        let less = (timers_may_be_told s past e legal).item i item in
+        let size = rows in
+        omega arith
+    by None None item none = tt

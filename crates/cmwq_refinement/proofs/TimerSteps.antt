@@ -1,0 +1,144 @@
+-- The rows of timers, entry by entry.
+use Rattle.std.proofs.Common.{◌≡◌, ◌≢◌, ◌<◌, ◌≤◌, ℕ, Bool, true, false, ◌&&◌, List, [], ◌∷◌, length, map, replicate, set, get_or, Option, Some, None, refl, sym, ap, ap₂, ◌∙◌, arith, ⊎_elim}
+use Rattle.std.specs.Prelude.{option_map, option_and_then, if◌then◌else◌}
+use Rattle.std.specs.List.{range_with_len}
+use Rattle.std.proofs.lemmas.List.{length-set, get_or-set_same, get_or-set_other, get_or_past}
+use Rattle.std.proofs.lemmas.List.FromFn.{fill_by_all, length-range_with_len, length-map-range_with_len, get_or-map-range_with_len}
+use Rattle.std.specs.Option.{option_or}
+use Rattle.std.proofs.lemmas.Option.{same_Some}
+use Rattle.std.proofs.lemmas.Bool.{cases_eq, eq-eqb, ne_eqb}
+use Rattle.cmwq_model.specs.declared.call.Call.{Call}
+use Rattle.cmwq_model.specs.declared.call.Call.TheVariants as call
+use Rattle.cmwq_model.specs.declared.reply.Reply.{Reply}
+use Rattle.cmwq_model.specs.declared.reply.Reply.TheVariants as reply
+use Rattle.cmwq_model.specs.declared.entry.Entry.{Entry}
+use Rattle.cmwq_model.specs.declared.record.Booking.{Booking}
+use Rattle.cmwq_model.specs.Layout.{Layout}
+use Rattle.cmwq_model.specs.Calls.{item_called, item_fired, item_of, is_of_item, is_at}
+use Rattle.cmwq_model.specs.Bookings.{settles, due_in, booked_by, booking_of, booking}
+use Rattle.cmwq_timer.specs.declared.timer.Timer.{Timer}
+use Rattle.cmwq_timer.specs.Rows.{due_of, timer_of}
+use Rattle.cmwq_refinement.specs.Timers.{timer_for, row_of, timers_of, due_in_bookings}
+
+module _ {X : Type 0} where
+  -- one place of a table that a function makes
+  pub set_row : (f g : ℕ → X) (n i : ℕ) (v : X) → g i ≡ v → ((j : ℕ) → j ≢ i → g j ≡ f j) → map g (range_with_len 0 n) ≡ set (map f (range_with_len 0 n)) i v
+  set_row f g n i v here others = sym (fill_by_all g (set (map f (range_with_len 0 n)) i v) n v (length-set (map f (range_with_len 0 n)) i v ∙ length-map-range_with_len f 0 n) at)
+    where
+      at : (k : ℕ) → k < n → get_or (set (map f (range_with_len 0 n)) i v) k v ≡ g k
+      at k less = ⊎_elim same other (cases_eq k i)
+        where
+          same : k ≡ i → get_or (set (map f (range_with_len 0 n)) i v) k v ≡ g k
+          same is =
+              let within : i < length (map f (range_with_len 0 n)) = rw (length-map-range_with_len f 0 n, ← is) less in
+              ap (λ m. get_or (set (map f (range_with_len 0 n)) i v) m v) is ∙ get_or-set_same (map f (range_with_len 0 n)) i v v within ∙ sym here ∙ ap g (sym is)
+
+          other : (k ≡ i → ⊥) → get_or (set (map f (range_with_len 0 n)) i v) k v ≡ g k
+          other differs = get_or-set_other (map f (range_with_len 0 n)) i k v v differs ∙ get_or-map-range_with_len f 0 n k k v less (omega arith) ∙ sym (others k differs)
+
+  pub same_rows : (f g : ℕ → X) (xs : List ℕ) → ((j : ℕ) → g j ≡ f j) → map g xs ≡ map f xs
+  same_rows f g [] h = refl
+  same_rows f g (x ∷ xs) h = ap₂ (λ y ys. y ∷ ys) (h x) (same_rows f g xs h)
+
+-- ---- bookings
+
+pub booking_settled : (past : List Entry) (e : Entry) (i : ℕ) → settles e.reply ≡ true → is_of_item i e ≡ true → booking (e ∷ past) i ≡ booking_of e (length past)
+unfolding booking
+booking_settled past e i h k = ap₂ (λ a b. if a && b then booking_of e (length past) else booking past i) h k
+
+pub booking_of_other : (past : List Entry) (e : Entry) (i : ℕ) → is_of_item i e ≡ false → booking (e ∷ past) i ≡ booking past i
+unfolding booking
+booking_of_other past e i h = ap (λ b. if settles e.reply && b then booking_of e (length past) else booking past i) h ∙ neither (settles e.reply)
+  where
+    neither : (a : Bool) → (if a && false then booking_of e (length past) else booking past i) ≡ booking past i
+    neither true = refl
+    neither false = refl
+
+pub booking_kept : (past : List Entry) (e : Entry) (i : ℕ) → settles e.reply ≡ false → booking (e ∷ past) i ≡ booking past i
+unfolding booking
+booking_kept past e i h = ap (λ a. if a && is_of_item i e then booking_of e (length past) else booking past i) h
+
+-- ---- what an entry books
+
+pub record IsBooked (c : Call) (n due : ℕ) (b : Booking) : Type 0 where
+  pub item : item_called c ≡ Some b.item.0
+  pub number : b.number ≡ n
+
+booked_by_call : (c : Call) (n due : ℕ) (b : Booking) → booked_by c n due ≡ Some b → IsBooked c n due b
+booked_by_call (call.Delay i q k t) n due b h =
+    let same = same_Some _ b h in
+    record { item = ap (λ (x : Booking). Some x.item.0) same; number = ap (λ (x : Booking). x.number) (sym same) }
+booked_by_call (call.Modify i q k t) n due b h =
+    let same = same_Some _ b h in
+    record { item = ap (λ (x : Booking). Some x.item.0) same; number = ap (λ (x : Booking). x.number) (sym same) }
+booked_by_call c n due b h = cc
+
+due_settles : (r : Reply) (due : ℕ) → due_in r ≡ Some due → settles r ≡ true
+due_settles (reply.Booked d) due h = refl
+due_settles (reply.Rebooked d) due h = refl
+due_settles r due h = cc
+
+pub record Books (e : Entry) (n : ℕ) (b : Booking) : Type 0 where
+  pub settled : settles e.reply ≡ true
+  pub item : item_of e ≡ Some b.item.0
+  pub number : b.number ≡ n
+
+pub booking_books : (e : Entry) (n : ℕ) (b : Booking) → booking_of e n ≡ Some b → Books e n b
+booking_books e n b h = with_due (due_in e.reply) refl h
+  where
+    with_due : (o : Option ℕ) → due_in e.reply ≡ o → option_and_then (booked_by e.call n) o ≡ Some b → Books e n b
+    with_due None is found = cc
+    with_due (Some due) is found =
+        let k = booked_by_call e.call n due b found in
+        record { settled = due_settles e.reply due is; item = ap (λ o. option_or o (item_fired e.reply)) k.item; number = k.number }
+
+is_its_item : (e : Entry) (i : ℕ) → item_of e ≡ Some i → is_of_item i e ≡ true
+is_its_item e i h = ap (λ o. is_at o i) h ∙ eq-eqb i i refl
+
+is_no_other : (e : Entry) (i j : ℕ) → item_of e ≡ Some i → j ≢ i → is_of_item j e ≡ false
+is_no_other e i j h differs = ap (λ o. is_at o j) h ∙ ne_eqb i j (λ same. differs (sym same))
+
+-- ---- the rows
+
+-- where an entry settles an item, its row is what the entry books
+row_settled : (s : Layout) (past : List Entry) (e : Entry) (i : ℕ) (o : Option Booking) → settles e.reply ≡ true → item_of e ≡ Some i → booking_of e (length past) ≡ o
+    → timers_of s (e ∷ past) ≡ set (timers_of s past) i (option_map timer_for o)
+row_settled s past e i o settled item is = set_row (row_of past) (row_of (e ∷ past)) s.items i (option_map timer_for o)
+    (ap (option_map timer_for) (booking_settled past e i settled (is_its_item e i item) ∙ is))
+    (λ j differs. ap (option_map timer_for) (booking_of_other past e j (is_no_other e i j item differs)))
+
+pub bookings_set_timers : (s : Layout) (past : List Entry) (e : Entry) (b : Booking) → booking_of e (length past) ≡ Some b → timers_of s (e ∷ past) ≡ set (timers_of s past) b.item.0 (Some (timer_for b))
+bookings_set_timers s past e b h = let k = booking_books e (length past) b h in row_settled s past e b.item.0 (Some b) k.settled k.item h
+
+pub settled_timers_are_taken_back : (s : Layout) (past : List Entry) (e : Entry) (i : ℕ) → settles e.reply ≡ true → booking_of e (length past) ≡ None → item_of e ≡ Some i
+    → timers_of s (e ∷ past) ≡ set (timers_of s past) i None
+settled_timers_are_taken_back s past e i settled none item = row_settled s past e i None settled item none
+
+pub others_keep_timers : (s : Layout) (past : List Entry) (e : Entry) → settles e.reply ≡ false → timers_of s (e ∷ past) ≡ timers_of s past
+others_keep_timers s past e h = same_rows (row_of past) (row_of (e ∷ past)) (range_with_len 0 s.items) (λ j. ap (option_map timer_for) (booking_kept past e j h))
+
+none_rows : (xs : List ℕ) → map (row_of []) xs ≡ replicate (length xs) None
+unfolding booking
+none_rows [] = refl
+none_rows (x ∷ xs) = ap (λ ys. None ∷ ys) (none_rows xs)
+
+pub rows_for_items : (s : Layout) (past : List Entry) → length (timers_of s past) ≡ s.items
+rows_for_items s past = length-map-range_with_len (row_of past) 0 s.items
+
+pub no_timers_at_first : (s : Layout) → timers_of s [] ≡ replicate s.items None
+no_timers_at_first s = none_rows (range_with_len 0 s.items) ∙ ap (λ n. replicate n None) (length-range_with_len 0 s.items)
+
+pub row_at : (s : Layout) (past : List Entry) (i : ℕ) → i < s.items → timer_of (timers_of s past) i ≡ row_of past i
+row_at s past i less = get_or-map-range_with_len (row_of past) 0 s.items i i None less (omega arith)
+
+pub row_past : (s : Layout) (past : List Entry) (i : ℕ) → s.items ≤ i → timer_of (timers_of s past) i ≡ None
+row_past s past i more =
+    let length_is : length (timers_of s past) ≡ s.items = length-map-range_with_len (row_of past) 0 s.items in
+    get_or_past (timers_of s past) i None (rw length_is more)
+
+due_of_row : (o : Option Booking) → option_map (λ (t : Timer). t.due) (option_map timer_for o) ≡ option_map (λ (b : Booking). b.due) o
+due_of_row None = refl
+due_of_row (Some b) = refl
+
+pub timers_are_due_as_booked : (s : Layout) (past : List Entry) (i : ℕ) → i < s.items → due_of (timers_of s past) i ≡ due_in_bookings past i
+timers_are_due_as_booked s past i less = ap (option_map (λ (t : Timer). t.due)) (row_at s past i less) ∙ due_of_row (booking past i)

@@ -1,0 +1,133 @@
+-- A pool refines its worklist, and the runs and the enlisting of its workers.
+use Rattle.std.specs.Prelude.{◌≡◌, ℕ, ◌<◌, ◌&&◌, not, if◌then◌else◌, List, [], ◌∷◌, length, map, filter, fold, Option, Some, None, option_map, option_and_then, IsTrue, IsSome}
+use Rattle.cmwq_model.specs.declared.id.PoolId.{PoolId}
+use Rattle.cmwq_model.specs.declared.id.WorkerId.{WorkerId}
+use Rattle.cmwq_model.specs.declared.id.Who.{Who}
+use Rattle.cmwq_model.specs.declared.id.Who.TheVariants.{Caller, Worker}
+use Rattle.cmwq_model.specs.declared.reply.Reply.{Reply}
+use Rattle.cmwq_model.specs.declared.reply.Reply.TheVariants as reply
+use Rattle.cmwq_model.specs.declared.entry.Entry.{Entry}
+use Rattle.cmwq_model.specs.declared.record.Queueing.{Queueing}
+use Rattle.cmwq_model.specs.Layout.{Layout, indices, is_intensive}
+use Rattle.cmwq_model.specs.Calls.{same_pool}
+use Rattle.cmwq_model.specs.Fate.{finishes}
+use Rattle.cmwq_model.specs.Runs.{run, is_asleep}
+use Rattle.cmwq_model.specs.Queueings.{queueing_at}
+use Rattle.cmwq_model.specs.Active.{newly_active, worklist, next}
+use Rattle.cmwq_model.specs.Workers.{worker_at, is_enlisted, runnable, enlisted_by, is_idle, may_retire}
+use Rattle.cmwq_model.specs.Legal.{IsLegal}
+use Rattle.cmwq_theory_steps.specs.Endings.{ending}
+use Rattle.cmwq_theory_steps.specs.Activations.{is_in}
+use Rattle.cmwq_pool.specs.declared.task.Task.{Task}
+use Rattle.cmwq_pool.specs.declared.slot.Slot.{Slot}
+use Rattle.cmwq_pool.specs.Slots.{slot_at, is_idle as is_idle_slot, runs_awake, runs_asleep, run_number, slot_asleep, slot_awake, slot_free, slot_retired, runnable as slots_runnable, enlisted_by as slots_enlisted_by, may_retire as slot_may_retire}
+use Rattle.cmwq_pool.specs.PoolState.{PoolState, new_pool_state, may_add, added, removed, next_task, started, with_slot_again, next as pool_state_next}
+use Rattle.cmwq_refinement.specs.Told.{number_of_queueing}
+
+-- a queueing as its pool sees it, and what a worker runs
+abbrev pub task_for : Layout → Queueing → Task
+task_for s x = record { number = x.number; item = x.item; intensive = is_intensive s x.place.queue.0 }
+
+abbrev pub run_task : Layout → List Entry → WorkerId → Option Task
+run_task s past w = option_map (task_for s) (option_and_then (queueing_at past) (run past w))
+
+-- the pool of a history: its worklist in order, and a slot for each worker
+abbrev pub slot_of : Layout → List Entry → PoolId → ℕ → Slot
+slot_of s past p x = record { enlisted = is_enlisted past (worker_at p x); run = run_task s past (worker_at p x); asleep = is_asleep past (worker_at p x) }
+
+abbrev pub pool_of : Layout → List Entry → PoolId → PoolState
+pool_of s past p = record { items = s.items; listed = map (task_for s) (worklist s past p); slots = map (slot_of s past p) (indices s) }
+
+-- what a pool is told of a reply to its worker with this index: it started the next, finished, slept, woke or retired
+abbrev pub start_next : ℕ → Option Task → PoolState → PoolState
+start_next x None l = l
+start_next x (Some t) l = started l x t
+
+abbrev pub told_reply : Reply → ℕ → PoolState → PoolState
+told_reply (reply.Started n) x l = start_next x (next_task l) l
+told_reply (reply.StartedEnlist n y) x l = start_next x (next_task l) l
+told_reply (reply.Finished n) x l = with_slot_again slot_free l x
+told_reply reply.Slept x l = with_slot_again slot_asleep l x
+told_reply reply.Woke x l = with_slot_again slot_awake l x
+told_reply reply.Retired x l = with_slot_again slot_retired l x
+told_reply r x l = l
+
+abbrev pub told_worker : PoolId → Who → Reply → PoolState → PoolState
+told_worker p (Caller c) r l = l
+told_worker p (Worker w) r l = if same_pool w.pool p then told_reply r w.index l else l
+
+-- of a queueing of its own that was cancelled or replaced, and of those that became active, in their order
+abbrev pub told_cancelled : Layout → PoolId → Entry → Option Queueing → PoolState → PoolState
+told_cancelled s p e None l = l
+told_cancelled s p e (Some x) l = if is_in s p x && not (finishes x.number e) then removed l x.number else l
+
+abbrev pub told_active : Layout → List Queueing → PoolState → PoolState
+told_active s xs l = fold (λ (m : PoolState) (x : Queueing). added m (task_for s x)) l xs
+
+abbrev pub told_first : Layout → List Entry → PoolId → Entry → PoolState → PoolState
+told_first s past p e l = told_cancelled s p e (ending past e) (told_worker p e.who e.reply l)
+
+abbrev pub made_active : Layout → List Entry → PoolId → Entry → List Queueing
+made_active s past p e = filter (is_in s p) (newly_active s past e)
+
+abbrev pub told : Layout → List Entry → PoolId → Entry → PoolState → PoolState
+told s past p e l = told_active s (made_active s past p e) (told_first s past p e l)
+
+-- at first the pool is a new one, and each entry's calls make it that of the longer history
+abbrev pub PoolsAtFirst : Type 0
+PoolsAtFirst = (s : Layout) (p : PoolId) → pool_of s [] p ≡ new_pool_state s.items s.workers
+
+abbrev pub PoolsRefine : Type 0
+PoolsRefine = (s : Layout) (past : List Entry) (e : Entry) (p : PoolId) → IsLegal s (e ∷ past) → pool_of s (e ∷ past) p ≡ told s past p e (pool_of s past p)
+
+-- what the pool answers is what the definitions say: the next to start, how many runs hold it, whom a start enlists, who may retire
+abbrev pub NextsAreNext : Type 0
+NextsAreNext = (s : Layout) (past : List Entry) (p : PoolId) → IsLegal s past → pool_state_next (pool_of s past p) ≡ option_map number_of_queueing (next s past p)
+
+abbrev pub RunnablesAreRunnable : Type 0
+RunnablesAreRunnable = (s : Layout) (past : List Entry) (p : PoolId) → IsLegal s past → slots_runnable (pool_of s past p).slots ≡ runnable s past p
+
+abbrev pub StartsEnlistAlike : Type 0
+StartsEnlistAlike = (s : Layout) (past : List Entry) (w : WorkerId) → IsLegal s past → slots_enlisted_by (pool_of s past w.pool).slots w.index ≡ enlisted_by s past w
+
+abbrev pub IdleRetireAlike : Type 0
+IdleRetireAlike = (s : Layout) (past : List Entry) (p : PoolId) (x : ℕ) → IsLegal s past → x < s.workers → slot_may_retire (pool_of s past p).slots x ≡ (is_idle past p x && may_retire s past p)
+
+-- and each worker's slot: whether it is enlisted, the number of its run, and whether that sleeps
+pub record IsSlotOf (past : List Entry) (w : WorkerId) (slot : Slot) : Type 0 where
+  pub enlisted : slot.enlisted ≡ is_enlisted past w
+  pub run : run_number slot ≡ run past w
+  pub asleep : slot.asleep ≡ is_asleep past w
+
+abbrev pub SlotsAreWorkers : Type 0
+SlotsAreWorkers = (s : Layout) (past : List Entry) (p : PoolId) (x : ℕ) → IsLegal s past → x < s.workers → IsSlotOf past (worker_at p x) (slot_at (pool_of s past p).slots x)
+
+-- there is a slot for each worker, so that the pool may be asked for it
+abbrev pub SlotsForWorkers : Type 0
+SlotsForWorkers = (s : Layout) (past : List Entry) (p : PoolId) → length (pool_of s past p).slots ≡ s.workers
+
+-- what a pool's worker is answered in a legal history may be told: what each of these calls requires holds before it
+pub record MayStart (l : PoolState) (x : ℕ) : Type 0 where
+  pub idle : IsTrue (is_idle_slot (slot_at l.slots x))
+  pub next : IsSome (pool_state_next l)
+  pub free : slots_runnable l.slots ≡ 0
+
+abbrev pub MayBeTold : Reply → PoolState → ℕ → Type 0
+MayBeTold (reply.Started n) l x = MayStart l x
+MayBeTold (reply.StartedEnlist n y) l x = MayStart l x
+MayBeTold (reply.Finished n) l x = IsTrue (runs_awake (slot_at l.slots x))
+MayBeTold reply.Slept l x = IsTrue (runs_awake (slot_at l.slots x))
+MayBeTold reply.Woke l x = IsTrue (runs_asleep (slot_at l.slots x))
+MayBeTold reply.Retired l x = IsTrue (slot_may_retire l.slots x)
+MayBeTold r l x = Unit {0}
+
+abbrev pub WorkersMayBeTold : Type 0
+WorkersMayBeTold = (s : Layout) (past : List Entry) (e : Entry) (w : WorkerId) → IsLegal s (e ∷ past) → e.who ≡ Worker w → MayBeTold e.reply (pool_of s past w.pool) w.index
+
+-- each queueing that became active may be added to its pool, after those that are told before it
+abbrev pub MayAllBeAdded : Layout → List Queueing → PoolState → Type 0
+MayAllBeAdded s [] l = Unit {0}
+MayAllBeAdded s (x ∷ xs) l = IsTrue (may_add l x.number x.item.0) × MayAllBeAdded s xs (added l (task_for s x))
+
+abbrev pub ActiveMayBeAdded : Type 0
+ActiveMayBeAdded = (s : Layout) (past : List Entry) (e : Entry) (p : PoolId) → IsLegal s (e ∷ past) → MayAllBeAdded s (made_active s past p e) (told_first s past p e (pool_of s past p))

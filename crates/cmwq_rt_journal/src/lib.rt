@@ -1,0 +1,13 @@
+//! Writes the history of a hub that runs on as text, batch after batch, while it is made.
+#![tactic(auto)]
+
+mod fault;
+mod keep;
+mod lines;
+
+pub use cmwq_io::Sink;
+pub use cmwq_monitor::{Journal, Rest, RunFault};
+pub use cmwq_publish::HubName;
+pub use cmwq_rt::Hub;
+pub use fault::JournalFault;
+pub use keep::{drop_journal, end_journal, keep_journal};

@@ -1,0 +1,16 @@
+use Rattle.cmwq_rt_scripts.proofs.Journaling.{has_kept, tells_so}
+use Rattle.cmwq_rt_scripts.proofs.journal.end_run.Goals as goal
+
+pub returns-in-Err-clause-tells : goal.returns-in-Err-clause-tells
+returns-in-Err-clause-tells g c = c.told.ensures.tells g.N.HubName.layout _
+
+pub returns-in-Err-ends-clause-front : goal.returns-in-Err-ends-clause-front
+returns-in-Err-ends-clause-front g c start kept =
+    (c.args.beside.journal.seen, c.requires.legal, has_kept g.N.HubName.layout c.args.beside.journal.seen start (g.O.Sink.written c.args.output.now) c.args.beside.kept kept)
+
+pub returns-in-Ok-count-clause-tells : goal.returns-in-Ok-count-clause-tells
+returns-in-Ok-count-clause-tells g c = tells_so c.write_end.result g.N.HubName.layout _ c.write_end.ensures.tells
+
+pub returns-clause-front : goal.returns-clause-front
+returns-clause-front g c start kept =
+    (c.args.beside.journal.seen, c.requires.legal, has_kept g.N.HubName.layout c.args.beside.journal.seen start (g.O.Sink.written c.args.output.now) c.args.beside.kept kept)

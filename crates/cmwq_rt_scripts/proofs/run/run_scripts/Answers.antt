@@ -1,0 +1,9 @@
+use Rattle.std.proofs.Common.{sym, subst, ◌<◌, length, ◌^◌}
+use Rattle.std.specs.Prelude.{All}
+use Rattle.cmwq_model.specs.Layout.{Layout}
+use Rattle.cmwq_model.specs.Scripted.{IsScripted}
+use Rattle.cmwq_rt_scripts.proofs.run.run_scripts.Goals as goal
+
+pub run_parts-requires-clause-calls : goal.run_parts-requires-clause-calls
+run_parts-requires-clause-calls g c κs within =
+    subst (λ (s : Layout). All (λ x. All (IsScripted s) x.items × (length x.items < 2 ^ 32)) c.args.scripts.now) (sym c.in_ok-parts.ensures.shape) c.requires.calls

@@ -1,0 +1,10 @@
+use Rattle.std.proofs.Common.{◌≡◌, ℕ, ◌+◌, length}
+use Rattle.std.specs.Prelude.{slice_get, Some}
+use Rattle.cmwq_monitor.specs.Participants.{View, newcomer}
+use Rattle.cmwq_rt_scripts.specs.Ended.{caller_at}
+use Rattle.cmwq_rt_scripts.proofs.start.idle_callers.Given as goal
+
+abbrev pub invariant-loop : goal.invariant-loop
+invariant-loop g l =
+    (l.participants.callers ≡ l.fn.participants.callers + length l.callers.items) × (l.participants.workers ≡ l.fn.participants.workers)
+    × ((k : ℕ) (c : View) → slice_get l.callers.items k ≡ Some c → c ≡ newcomer (caller_at (l.fn.participants.callers + k)))

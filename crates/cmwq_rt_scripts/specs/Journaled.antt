@@ -1,0 +1,32 @@
+-- What is written of a run whose history is written as it is made.
+use Rattle.std.specs.Prelude.{◌≡◌, ℕ, List, length, Option, Result, Ok, Err}
+use Rattle.std.specs.Io.KnownBytes.{Appends}
+use Rattle.cmwq_io.specs.Moves.{AppendsFront}
+use Rattle.cmwq_model.specs.declared.call.Call.{Call}
+use Rattle.cmwq_model.specs.declared.entry.Entry.{Entry}
+use Rattle.cmwq_model.specs.Layout.{Layout}
+use Rattle.cmwq_model.specs.Legal.{IsLegal, past_of}
+use Rattle.cmwq_text.specs.HistoryText.{body_text, text_of_format}
+use Rattle.cmwq_rt.specs.Running.{Behavior}
+use Rattle.cmwq_rt_journal.specs.declared.fault.JournalFault.{JournalFault}
+use Rattle.cmwq_rt_scripts.specs.Ended.{FailsAs, IsLeft}
+use Rattle.cmwq_rt_scripts.specs.declared.journal.Unwritten.{Unwritten}
+use Rattle.cmwq_rt_scripts.specs.declared.journal.Unwritten.TheVariants as unwritten
+
+-- the whole text of a history that the scripts leave, of so many entries
+abbrev pub WritesAll : Layout → Behavior → List (List Call) → ℕ → ℕ → Option (List ℕ) → Option (List ℕ) → Type 0
+WritesAll s does scripts entries full a b = (history : List Entry) × IsLeft s does scripts full history × (entries ≡ length history) × Appends a b (text_of_format 3 s history)
+
+-- a front of the text of a legal history
+abbrev pub WritesFront : Layout → Option (List ℕ) → Option (List ℕ) → Type 0
+WritesFront s a b = (history : List Entry) × IsLegal s (past_of history) × AppendsFront a b (text_of_format 3 s history)
+
+-- what a journal that has these entries wrote, to its end or not
+abbrev pub HasKept : Layout → List Entry → Option (List ℕ) → Option (List ℕ) → Result (Unit {0}) JournalFault → Type 0
+HasKept s seen a b (Ok _) = Appends a b (body_text 3 s seen)
+HasKept s seen a b (Err f) = AppendsFront a b (text_of_format 3 s seen)
+
+-- what is told of the scripts where the text ends before its last line
+abbrev pub TellsOf : Layout → List (List Call) → Unwritten → Type 0
+TellsOf s scripts unwritten.Sink = Unit {0}
+TellsOf s scripts (unwritten.Run f) = FailsAs s scripts f

@@ -1,2 +1,0 @@
-mod Ends
-pub mod Playing

@@ -1,9 +1,0 @@
-use Rattle.std.proofs.Common.{◌≡◌, take}
-use Rattle.std.specs.Prelude.{None}
-use Rattle.cmwq_rt.specs.Later.{Later}
-use Rattle.cmwq_run.specs.Played.{ActInTurn}
-use Rattle.cmwq_run.proofs.play.Play.act_all.Given as goal
-
-abbrev pub invariant-loop-k : goal.invariant-loop-k
-invariant-loop-k g l =
-    Later l.fn.context.seat l.context.seat × (l.context.fault ≡ None) × ActInTurn g.N.HubName.layout (take l.k l.fn.actions) l.fn.context.seat l.context.seat

@@ -1,8 +1,0 @@
-use Rattle.std.proofs.Common.{◌≡◌, [], drop}
-use Rattle.serde_json.specs.View.{items_view}
-use Rattle.cmwq_json.specs.InTurn.{in_turn}
-use Rattle.cmwq_script.specs.Actions.{add_action}
-use Rattle.cmwq_script.proofs.action.read_actions.Given as goal
-
-abbrev pub invariant-loop-part : goal.invariant-loop-part
-invariant-loop-part l = in_turn (add_action l.names) 0 (record { actions = []; gates = l.fn.gates }) (items_view l.part-items) ≡ in_turn (add_action l.names) l.part-index (record { actions = l.actions.items; gates = l.gates }) (items_view (drop l.part-index l.part-items))

@@ -1,9 +1,0 @@
-use Rattle.std.proofs.Common.{◌≡◌, drop}
-use Rattle.serde_json.specs.View.{items_view}
-use Rattle.cmwq_json.specs.InTurn.{in_turn}
-use Rattle.cmwq_script.specs.Items.{no_work, add_item}
-use Rattle.cmwq_script.specs.Views.{work_of}
-use Rattle.cmwq_script.proofs.item.read_in_turn.Given as goal
-
-abbrev pub invariant-loop-index : goal.invariant-loop-index
-invariant-loop-index l = in_turn (add_item l.names) 0 no_work (items_view l.values) ≡ in_turn (add_item l.names) l.index (work_of l.items) (items_view (drop l.index l.values))

@@ -1,6 +1,0 @@
-use Rattle.cmwq_sim.specs.Plan.{plan_of}
-use Rattle.cmwq_sim.proofs.Courses.{QueuedSoFar}
-use Rattle.cmwq_sim.proofs.course.queue_all.Given as goal
-
-abbrev pub invariant-loop-item : goal.invariant-loop-item
-invariant-loop-item l = QueuedSoFar (plan_of l.scenario) l.book l.item

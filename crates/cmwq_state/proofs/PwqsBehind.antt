@@ -1,0 +1,117 @@
+-- What waits is behind the width, and what finishes doesn't wait.
+use Rattle.std.proofs.Common.{◌≡◌, ℕ, ◌+◌, ◌<◌, ◌≤◌, Bool, true, false, not, List, [], ◌∷◌, length, count_by, cond, max, min, Option, Some, None, is_some, refl, sym, ap, ◌∙◌, subst, arith, ⊎_elim}
+use Rattle.std.specs.Prelude.{IfSome, option_and_then}
+use Rattle.std.specs.List.{list_any}
+use Rattle.std.proofs.lemmas.Option.{same_Some}
+use Rattle.std.proofs.lemmas.Bool.{not-true}
+use Rattle.std.proofs.lemmas.List.Sums.{count_by-le-length}
+use Rattle.cmwq_model.specs.declared.id.Who.{Who}
+use Rattle.cmwq_model.specs.declared.reply.Reply.{Reply}
+use Rattle.cmwq_model.specs.declared.reply.Reply.TheVariants as reply
+use Rattle.cmwq_model.specs.declared.entry.Entry.{Entry}
+use Rattle.cmwq_model.specs.declared.record.Queueing.{Queueing}
+use Rattle.cmwq_model.specs.Layout.{Layout}
+use Rattle.cmwq_model.specs.Widths.{width}
+use Rattle.cmwq_model.specs.Calls.{item_of}
+use Rattle.cmwq_model.specs.Fate.{number_finished}
+use Rattle.cmwq_model.specs.Queueings.{queueings, still_open, opening, queueing_at, has_number}
+use Rattle.cmwq_model.specs.Active.{is_active}
+use Rattle.cmwq_model.specs.Legal.{IsLegal}
+use Rattle.cmwq_theory_active.specs.Looks.{keeps_widths}
+use Rattle.cmwq_theory_active.proofs.Lists.{count_by-cons}
+use Rattle.cmwq_theory_active.proofs.Widths.{width_same}
+use Rattle.cmwq_theory_steps.specs.ItemQueueings.{queueing_run}
+use Rattle.cmwq_theory_steps.specs.Endings.{ending, is_ended}
+use Rattle.cmwq_theory_steps.specs.Places.{is_on, open_on, active_count}
+use Rattle.cmwq_theory_steps.specs.Activations.{waits}
+use Rattle.cmwq_theory_steps.specs.Waiting.{waiting}
+use Rattle.cmwq_theory_steps.proofs.Active.{active_counted}
+use Rattle.cmwq_theory_steps.proofs.Fresh.{finishes_run}
+use Rattle.cmwq_theory_steps.proofs.RunsActive.{run_is_active}
+use Rattle.cmwq_refinement.proofs.Members.{In, all_in, found, in_filter, filter_in}
+use Rattle.cmwq_refinement.proofs.PlacesFit.{open_there, opened_are_there}
+use Rattle.cmwq_pwq.specs.Pwqs.{PwqState, count_of_same_pwq, is_waiting, AreBehind, IsBehind, IsPlacedIf}
+use Rattle.cmwq_pwq.proofs.Passes.{on_itself, place_inside}
+use Rattle.cmwq_state.specs.Lines.{ArePwqsOf}
+use Rattle.cmwq_theory_steps.specs.ItemQueueings.{ended_by}
+use Rattle.cmwq_theory_steps.proofs.EndsAsTold.{ends_as_told}
+use Rattle.cmwq_state.proofs.PwqsSteps.{waits_by_number}
+
+-- where one fails, fewer pass than there are
+fewer_pass : {X : Type 0} (p : X → Bool) (xs : List X) (x : X) → In x xs → p x ≡ false → count_by p xs < length xs
+fewer_pass p [] x here fails = absurd here
+fewer_pass p (y ∷ ys) x here fails = by (p y) refl here (λ i. fewer_pass p ys x i fails)
+  where
+    by : (b : Bool) → p y ≡ b → In x (y ∷ ys) → (In x ys → count_by p ys < length ys) → count_by p (y ∷ ys) < length (y ∷ ys)
+    by true is h later = ⊎_elim
+        (λ e. let bad : true ≡ false = sym is ∙ (ap p e ∙ fails) in cc)
+        (λ i. let less = later i in let more : count_by p (y ∷ ys) ≡ 1 + count_by p ys = count_by-cons p y ys ∙ ap (λ b. cond b 1 0 + count_by p ys) is in omega arith) h
+    by false is h later = let few = count_by-le-length p ys in let more : count_by p (y ∷ ys) ≡ 0 + count_by p ys = count_by-cons p y ys ∙ ap (λ b. cond b 1 0 + count_by p ys) is in omega arith
+
+-- where more are open than active, the width or more are active
+between : (a n w : ℕ) → max a (min n w) < n → w ≤ max a (min n w)
+between a n w h = omega arith
+
+filled : (s : Layout) (past : List Entry) (q c : ℕ) → active_count s past q c < length (open_on past q c) → width s past q ≤ active_count s past q c
+unfolding active_count queueings
+filled s [] q c h = absurd (let none : length (open_on [] q c) ≡ 0 = refl in omega arith)
+filled s (e ∷ past) q c h = between _ (length (open_on (e ∷ past) q c)) (width s (e ∷ past) q) h
+
+pub waits_behind : (s : Layout) (past : List Entry) (x : Queueing) → In x (waiting s past) → width s past x.place.queue.0 ≤ active_count s past x.place.queue.0 x.place.cpu.0
+waits_behind s past x there =
+    let q = x.place.queue.0 in let c = x.place.cpu.0 in
+    let k = in_filter (waits s past) (still_open past) x there in
+    let here = filter_in (is_on q c) (still_open past) x k.0 (on_itself q c x refl refl) in
+    let less = fewer_pass (is_active s past) (open_on past q c) x here (not-true (is_active s past x) k.1) in
+    filled s past q c (subst (λ n. n < length (open_on past q c)) (active_counted s past q c) less)
+
+pub all_behind : (s : Layout) (past : List Entry) (e : Entry) (l : PwqState) (wide : ℕ → ℕ) → IsLegal s past → s.cpus ≤ 4 → ArePwqsOf s past l → keeps_widths e.reply ≡ true → ((q : ℕ) → q < length s.queues → wide q ≡ width s (e ∷ past) q) → AreBehind wide l.counts l.waiting
+all_behind s past e l wide legal few pwqs keeps widths = subst (AreBehind wide l.counts) (sym pwqs.waiting) (all_in (IsBehind wide l.counts) (waiting s past) one)
+  where
+    one : (x : Queueing) → In x (waiting s past) → IsBehind wide l.counts x
+    one x there =
+        let q = x.place.queue.0 in let c = x.place.cpu.0 in
+        let is = open_there s past x legal (in_filter (waits s past) (still_open past) x there).0 in
+        let cpu : c < 4 = let h = is.cpu in omega arith in
+        let same : wide q ≡ width s past q = widths q is.queue ∙ width_same s past e q keeps in
+        let counted : count_of_same_pwq l.counts x ≡ active_count s past q c = pwqs.counts q c is.queue cpu in
+        let behind = waits_behind s past x there in
+        record {
+          cpu = cpu;
+          counted = place_inside q c (length s.queues) (length l.counts) is.queue cpu pwqs.many;
+          behind = omega arith;
+        }
+
+-- ---- what ends and what is opened
+
+ends_run : (past : List Entry) (who : Who) (i : Option ℕ) (r : Reply) (n : ℕ) → number_finished r ≡ Some n → ended_by past who i r ≡ queueing_run past who
+ends_run past who i (reply.Finished m) n h = refl
+ends_run past who i r n h = cc
+
+finished_active : (s : Layout) (past : List Entry) (e : Entry) (n : ℕ) (x : Queueing) → IsLegal s (e ∷ past) → IsLegal s past → number_finished e.reply ≡ Some n → ending past e ≡ Some x → is_active s past x ≡ true
+finished_active s past e n x legal before h is =
+    let run_of = finishes_run s past e n legal h in
+    let r = run_is_active s past run_of.worker n before run_of.is_run in
+    let runs : queueing_run past e.who ≡ Some r.queueing = ap (queueing_run past) run_of.by_worker ∙ (ap (option_and_then (queueing_at past)) run_of.is_run ∙ r.found) in
+    let ends : ending past e ≡ Some r.queueing = ends_as_told s past e legal ∙ (ends_run past e.who (item_of e) e.reply n h ∙ runs) in
+    subst (λ y. is_active s past y ≡ true) (same_Some r.queueing x (sym ends ∙ is)) r.active
+
+pub ended_open : (s : Layout) (past : List Entry) (e : Entry) (x : Queueing) → ending past e ≡ Some x → In x (still_open past)
+ended_open s past e x is = (found (is_ended past e) (still_open past) x is).0
+
+pub finished_waits_not : (s : Layout) (past : List Entry) (e : Entry) (l : PwqState) → IsLegal s (e ∷ past) → IsLegal s past → ArePwqsOf s past l → is_some (number_finished e.reply) ≡ true → IfSome (ending past e) (λ x. is_waiting l x ≡ false)
+finished_waits_not s past e l legal before pwqs h = by (ending past e) refl (number_finished e.reply) refl h
+  where
+    by : (o : Option Queueing) → ending past e ≡ o → (m : Option ℕ) → number_finished e.reply ≡ m → is_some m ≡ true → IfSome o (λ x. is_waiting l x ≡ false)
+    by None is m told some = tt
+    by (Some x) is None told some = cc
+    by (Some x) is (Some n) told some =
+        ap (list_any (has_number x.number)) pwqs.waiting ∙ (waits_by_number s past x (ended_open s past e x is) ∙ ap not (finished_active s past e n x legal before told is))
+
+pub ended_placed : (s : Layout) (past : List Entry) (e : Entry) (o : Option Queueing) → IsLegal s past → s.cpus ≤ 4 → ending past e ≡ o → IsPlacedIf (length s.queues) o
+ended_placed s past e None before few is = tt
+ended_placed s past e (Some x) before few is = let there = open_there s past x before (ended_open s past e x is) in let h = there.cpu in (there.queue, omega arith)
+
+pub opened_placed : (s : Layout) (past : List Entry) (e : Entry) (o : Option Queueing) → IsLegal s (e ∷ past) → s.cpus ≤ 4 → opening past e ≡ o → IsPlacedIf (length s.queues) o
+opened_placed s past e None legal few is = tt
+opened_placed s past e (Some x) legal few is = let there = opened_are_there s past e x legal is in let h = there.cpu in (there.queue, omega arith)

@@ -1,0 +1,257 @@
+-- The pool workqueues that are told of an entry are those of the longer history.
+use Rattle.std.proofs.Common.{◌≡◌, ℕ, ◌+◌, ◌*◌, ◌-◌, ◌<◌, ◌≤◌, Bool, true, false, not, ◌&&◌, ◌||◌, ◌==◌, append-nil, ⊎_elim, inl, List, [], ◌∷◌, ◌++◌, length, filter, count_by, cond, Option, Some, None, option_to_list, refl, sym, ap, ap₂, ◌∙◌, subst, arith, nat_lt, length-append}
+use Rattle.std.specs.List.{AllByRecursion, list_any}
+use Rattle.std.specs.Prelude.{slice_set, if◌then◌else◌}
+use Rattle.std.proofs.lemmas.Bool.{eq-eqb, eqb-true, false_from_ne_true, not-true, not-false}
+use Rattle.std.proofs.lemmas.Option.{same_Some}
+use Rattle.std.specs.Option.{option_map_or}
+use Rattle.std.proofs.lemmas.List.Elements.{All-from_recursion}
+use Rattle.std.proofs.lemmas.List.Folds.{list_any_none}
+use Rattle.std.proofs.lemmas.List.Sums.{length-filter, count_by-le-length}
+use Rattle.std.proofs.lemmas.List.{length-set}
+use Rattle.cmwq_model.specs.declared.entry.Entry.{Entry}
+use Rattle.cmwq_model.specs.declared.record.Queueing.{Queueing}
+use Rattle.cmwq_model.specs.Layout.{Layout}
+use Rattle.cmwq_model.specs.Widths.{width}
+use Rattle.cmwq_model.specs.Queueings.{still_open, opening, has_number}
+use Rattle.cmwq_model.specs.Active.{is_below_max_active, is_active, newly_active}
+use Rattle.cmwq_model.specs.Legal.{IsLegal}
+use Rattle.cmwq_theory_active.proofs.Lists.{All_map, All_filter}
+use Rattle.cmwq_theory_steps.specs.Histories.{one}
+use Rattle.cmwq_theory_steps.specs.Places.{is_on, active_count}
+use Rattle.cmwq_theory_steps.specs.Endings.{survives, ending}
+use Rattle.cmwq_theory_steps.specs.Activations.{waits, stay_count}
+use Rattle.cmwq_theory_steps.specs.Waiting.{waiting, candidates, has_none, ends_active_on}
+use Rattle.cmwq_theory_steps.proofs.Filters.{filter_same}
+use Rattle.cmwq_theory_steps.proofs.Waiting.{candidates_are, newly_are, waiting_goes_on}
+use Rattle.cmwq_theory_steps.proofs.Way.{way_by_picked}
+use Rattle.cmwq_theory_steps.proofs.ActiveCounts.{stays_counted, active_count_goes_on}
+use Rattle.cmwq_theory_steps.proofs.Limits.{two_for_each_item}
+use Rattle.cmwq_refinement.specs.Told.{number_of_queueing}
+use Rattle.cmwq_refinement.specs.Places as places
+use Rattle.cmwq_refinement.proofs.PlacesFit.{open_there}
+use Rattle.cmwq_refinement.proofs.Members.{In, of_in, all_in, in_right, in_filter, filter_in}
+use Rattle.cmwq_refinement.proofs.Rising.{rises_unique}
+use Rattle.cmwq_refinement.proofs.QueueingSteps.{QueueingStep, ends_one, ends_none, queueing_step, open_numbers_rise}
+use Rattle.cmwq_pwq.specs.Pwqs.{PwqState, count_at, count_of_same_pwq, place_of, is_waiting, is_other, ended, told_ended, told_opened, MayEnd, MayOpen, AreBelowMaxActive, Passes, IsPlaced, ArePlaced}
+use Rattle.cmwq_pwq.proofs.Passes.{count_set, place_inside, on_itself, on_parts}
+use Rattle.cmwq_state.specs.Lines.{ArePwqsOf}
+
+-- ---- lists
+
+any_in : {X : Type 0} (p : X → Bool) (xs : List X) (x : X) → In x xs → p x ≡ true → list_any p xs ≡ true
+any_in p [] x h k = absurd h
+any_in p (y ∷ ys) x h k = ⊎_elim (λ e. ap (λ b. b || list_any p ys) (subst (λ z. p z ≡ true) (sym e) k)) (λ i. or_true (p y) (list_any p ys) (any_in p ys x i k)) h
+  where
+    or_true : (a b : Bool) → b ≡ true → (a || b) ≡ true
+    or_true true b h = refl
+    or_true false b h = h
+
+filter_all : {X : Type 0} (p : X → Bool) (xs : List X) → AllByRecursion (λ x. p x ≡ true) xs → filter p xs ≡ xs
+filter_all p [] h = refl
+filter_all p (x ∷ xs) h = ap₂ (λ b ys. cond b (x ∷ ys) ys) h.0 (filter_all p xs h.1)
+
+fewer : {X : Type 0} (p : X → Bool) (xs : List X) → length (filter p xs) ≤ length xs
+fewer p xs = let h = length-filter p xs in let k = count_by-le-length p xs in omega arith
+
+differ : false ≡ true → ⊥
+differ h = cc
+
+-- ---- what waits has this number where it is this one
+
+other_number : (s : Layout) (past : List Entry) (x y : Queueing) → In x (still_open past) → waits s past x ≡ false → In y (waiting s past) → (y.number == x.number) ≡ false
+other_number s past x y here fails there = false_from_ne_true (y.number == x.number) (λ same.
+    let k = in_filter (waits s past) (still_open past) y there in
+    let is = rises_unique number_of_queueing (still_open past) y x (open_numbers_rise past) k.0 here (eqb-true y.number x.number same) in
+    differ (sym fails ∙ (sym (ap (waits s past) is) ∙ k.1)))
+
+pub waits_by_number : (s : Layout) (past : List Entry) (x : Queueing) → In x (still_open past) → list_any (has_number x.number) (waiting s past) ≡ waits s past x
+waits_by_number s past x here = by (waits s past x) refl
+  where
+    by : (b : Bool) → waits s past x ≡ b → list_any (has_number x.number) (waiting s past) ≡ b
+    by true stays = any_in (has_number x.number) (waiting s past) x (filter_in (waits s past) (still_open past) x here stays) (eq-eqb x.number x.number refl)
+    by false fails = list_any_none (has_number x.number) (waiting s past) (All-from_recursion (λ y. has_number x.number y ≡ false) (waiting s past) (all_in (λ y. has_number x.number y ≡ false) (waiting s past) (λ y there. other_number s past x y here fails there)))
+
+-- ---- after the end: what waited and is survivors, and the counts of those that stay
+
+pub record IsMid (s : Layout) (past : List Entry) (e : Entry) (l : PwqState) : Type 0 where
+  pub room : l.room ≡ 2 * s.items
+  pub many : length l.counts ≡ 4 * length s.queues
+  pub waiting : l.waiting ≡ filter (survives past e) (waiting s past)
+  pub counts : (q c : ℕ) → q < length s.queues → c < 4 → count_at l.counts q c ≡ stay_count s past e q c
+
+-- after what is opened: the candidates
+pub record IsReadyToPass (s : Layout) (past : List Entry) (e : Entry) (l : PwqState) : Type 0 where
+  pub room : l.room ≡ 2 * s.items
+  pub many : length l.counts ≡ 4 * length s.queues
+  pub waiting : l.waiting ≡ candidates s past e
+  pub counts : (q c : ℕ) → q < length s.queues → c < 4 → count_at l.counts q c ≡ stay_count s past e q c
+
+-- after the pass
+pub record ArePassed (s : Layout) (past : List Entry) (e : Entry) (old new : PwqState) (wide : ℕ → ℕ) : Type 0 where
+  pub passes : (way : Queueing → Bool) → AreBelowMaxActive way wide old.counts old.waiting → Passes way old.waiting old.counts new.counts new.waiting new.activated
+  pub room : new.room ≡ old.room
+  pub widths : (q : ℕ) → q < length s.queues → wide q ≡ width s (e ∷ past) q
+
+among_waiting : (P : Queueing → Type 0) (s : Layout) (past : List Entry) → AllByRecursion P (still_open past) → AllByRecursion P (waiting s past)
+among_waiting P s past h = All_filter P (waits s past) (still_open past) (All_map P _ (still_open past) (λ x k _. k) h)
+
+module _ (s : Layout) (past : List Entry) (e : Entry) (legal : IsLegal s (e ∷ past)) (few : s.cpus ≤ 4) where
+  stays_none : (q c : ℕ) → ending past e ≡ None → stay_count s past e q c ≡ active_count s past q c
+  stays_none q c is =
+      let counted = stays_counted s past e legal q c in
+      let zero : one (ends_active_on s past e q c) ≡ 0 = ap (λ o. one (option_map_or (λ (x : Queueing). is_on q c x && is_active s past x) o false)) is in
+      omega arith
+
+  stays_one : (q c : ℕ) (x : Queueing) → ending past e ≡ Some x → stay_count s past e q c + one (is_on q c x && is_active s past x) ≡ active_count s past q c
+  stays_one q c x is = ap (λ o. stay_count s past e q c + one (option_map_or (λ (y : Queueing). is_on q c y && is_active s past y) o false)) (sym is) ∙ stays_counted s past e legal q c
+
+  ended_waiting : (l : PwqState) (x : Queueing) → ArePwqsOf s past l → ending past e ≡ Some x → AllByRecursion (λ y. survives past e y ≡ not (y.number == x.number)) (still_open past) → waits s past x ≡ true →
+      IsMid s past e (record l { waiting = filter (is_other x.number) l.waiting })
+  ended_waiting l x are is survivors stays = record {
+    room = are.room;
+    many = are.many;
+    waiting = ap (filter (is_other x.number)) are.waiting ∙ filter_same (is_other x.number) (survives past e) (waiting s past) (among_waiting (λ y. is_other x.number y ≡ survives past e y) s past (All_map _ _ (still_open past) (λ y h. sym h) survivors));
+    counts = λ q c here less.
+        let counted = stays_one q c x is in
+        let inactive : is_active s past x ≡ false = not-true (is_active s past x) stays in
+        let zero : one (is_on q c x && is_active s past x) ≡ 0 = ap (λ b. one (is_on q c x && b)) inactive ∙ none (is_on q c x) in
+        let was = are.counts q c here less in
+        omega arith;
+  }
+    where
+      none : (b : Bool) → one (b && false) ≡ 0
+      none true = refl
+      none false = refl
+
+  ended_active : (l : PwqState) (x : Queueing) → ArePwqsOf s past l → ending past e ≡ Some x → In x (still_open past) → places.IsThere s x → AllByRecursion (λ y. survives past e y ≡ not (y.number == x.number)) (still_open past) → waits s past x ≡ false →
+      IsMid s past e (record l { counts = slice_set l.counts (place_of x.place.queue.0 x.place.cpu.0) (count_of_same_pwq l.counts x - 1) })
+  ended_active l x are is here there survivors fails = record {
+    room = are.room;
+    many = length-set l.counts (place_of x.place.queue.0 x.place.cpu.0) (count_of_same_pwq l.counts x - 1) ∙ are.many;
+    waiting = are.waiting ∙ sym (filter_all (survives past e) (waiting s past) (all_in (λ y. survives past e y ≡ true) (waiting s past) (λ y listed.
+        of_in (λ z. survives past e z ≡ not (z.number == x.number)) (still_open past) y survivors (in_filter (waits s past) (still_open past) y listed).0 ∙ ap not (other_number s past x y here fails listed))));
+    counts = λ q c inside less. count_set l.counts x (count_of_same_pwq l.counts x - 1) q c cpu less at ∙ by q c inside less (is_on q c x) refl;
+  }
+    where
+      cpu : x.place.cpu.0 < 4
+      cpu = let h = there.cpu in omega arith
+
+      at : place_of x.place.queue.0 x.place.cpu.0 < length l.counts
+      at = place_inside x.place.queue.0 x.place.cpu.0 (length s.queues) (length l.counts) there.queue cpu are.many
+
+      active : is_active s past x ≡ true
+      active = not-false (is_active s past x) fails
+
+      counted : (q c : ℕ) (b : Bool) → is_on q c x ≡ b → stay_count s past e q c + one b ≡ active_count s past q c
+      counted q c b on = ap (λ a. stay_count s past e q c + one a) (sym (ap₂ (λ a d. a && d) on active ∙ and_true b)) ∙ stays_one q c x is
+        where
+          and_true : (a : Bool) → (a && true) ≡ a
+          and_true true = refl
+          and_true false = refl
+
+      by : (q c : ℕ) → q < length s.queues → c < 4 → (b : Bool) → is_on q c x ≡ b → cond b (count_of_same_pwq l.counts x - 1) (count_at l.counts q c) ≡ stay_count s past e q c
+      by q c inside less true on =
+          let p = on_parts q c x on in
+          let same : count_of_same_pwq l.counts x ≡ count_at l.counts q c = ap₂ (count_at l.counts) p.0 p.1 in
+          let was = are.counts q c inside less in let step = counted q c true on in omega arith
+      by q c inside less false on = let was = are.counts q c inside less in let step = counted q c false on in omega arith
+
+  pwqs_ended_as : (l : PwqState) → ArePwqsOf s past l → IsLegal s past → QueueingStep past e → (o : Option Queueing) → ending past e ≡ o → IsMid s past e (told_ended o l) × MayEnd o l
+  pwqs_ended_as l are before (ends_none is survivors) None same = (
+    record {
+      room = are.room;
+      many = are.many;
+      waiting = are.waiting ∙ sym (filter_all (survives past e) (waiting s past) (among_waiting (λ y. survives past e y ≡ true) s past survivors));
+      counts = λ q c here less. are.counts q c here less ∙ sym (stays_none q c is);
+    },
+    tt,
+  )
+  pwqs_ended_as l are before (ends_none is survivors) (Some x) same = cc
+  pwqs_ended_as l are before (ends_one y is here survivors) None same = cc
+  pwqs_ended_as l are before (ends_one y is here survivors) (Some x) same =
+      let it : y ≡ x = same_Some y x (sym is ∙ same) in
+      found x same (subst (λ z. In z (still_open past)) it here) (subst (λ z. AllByRecursion (λ v. survives past e v ≡ not (v.number == z.number)) (still_open past)) it survivors)
+    where
+      found : (x : Queueing) → ending past e ≡ Some x → In x (still_open past) → AllByRecursion (λ v. survives past e v ≡ not (v.number == x.number)) (still_open past) → IsMid s past e (ended l x) × MayEnd (Some x) l
+      found x is here survivors =
+          let there = open_there s past x before here in
+          let cpu : x.place.cpu.0 < 4 = let h = there.cpu in omega arith in
+          let waits_as : is_waiting l x ≡ waits s past x = ap (list_any (has_number x.number)) are.waiting ∙ waits_by_number s past x here in
+          let at = place_inside x.place.queue.0 x.place.cpu.0 (length s.queues) (length l.counts) there.queue cpu are.many in
+          (by (waits s past x) refl there waits_as, (at, λ fails. positive there cpu (sym waits_as ∙ fails)))
+        where
+          by : (b : Bool) → waits s past x ≡ b → places.IsThere s x → is_waiting l x ≡ waits s past x → IsMid s past e (ended l x)
+          by true stays there waits_as = subst (λ b. IsMid s past e (if b then record l { waiting = filter (is_other x.number) l.waiting } else record l { counts = slice_set l.counts (place_of x.place.queue.0 x.place.cpu.0) (count_of_same_pwq l.counts x - 1) })) (sym (waits_as ∙ stays)) (ended_waiting l x are is survivors stays)
+          by false fails there waits_as = subst (λ b. IsMid s past e (if b then record l { waiting = filter (is_other x.number) l.waiting } else record l { counts = slice_set l.counts (place_of x.place.queue.0 x.place.cpu.0) (count_of_same_pwq l.counts x - 1) })) (sym (waits_as ∙ fails)) (ended_active l x are is here there survivors fails)
+
+          positive : places.IsThere s x → x.place.cpu.0 < 4 → waits s past x ≡ false → 0 < count_of_same_pwq l.counts x
+          positive there cpu fails =
+              let active : is_active s past x ≡ true = not-false (is_active s past x) fails in
+              let on = on_itself x.place.queue.0 x.place.cpu.0 x refl refl in
+              let one_more : one (is_on x.place.queue.0 x.place.cpu.0 x && is_active s past x) ≡ 1 = ap₂ (λ a b. one (a && b)) on active in
+              let counted = stays_one x.place.queue.0 x.place.cpu.0 x is in
+              let was = are.counts x.place.queue.0 x.place.cpu.0 there.queue cpu in
+              omega arith
+
+  pub pwqs_ended : (l : PwqState) → ArePwqsOf s past l → IsLegal s past → IsMid s past e (told_ended (ending past e) l) × MayEnd (ending past e) l
+  pwqs_ended l are before = pwqs_ended_as l are before (queueing_step s past e legal) (ending past e) refl
+
+  -- ---- after what is opened: the candidates
+
+  pwqs_opened_as : (l : PwqState) → IsMid s past e l → (o : Option Queueing) → opening past e ≡ o → IsReadyToPass s past e (told_opened o l) × MayOpen o l
+  pwqs_opened_as l mid None is = (
+    record {
+      room = mid.room;
+      many = mid.many;
+      waiting = mid.waiting ∙ (sym (append-nil (filter (survives past e) (waiting s past))) ∙ (ap (λ o. filter (survives past e) (waiting s past) ++ option_to_list o) (sym is) ∙ sym (candidates_are s past e legal)));
+      counts = mid.counts;
+    },
+    tt,
+  )
+  pwqs_opened_as l mid (Some x) is =
+      let all : l.waiting ++ x ∷ [] ≡ candidates s past e = ap (λ ys. ys ++ x ∷ []) mid.waiting ∙ (ap (λ o. filter (survives past e) (waiting s past) ++ option_to_list o) (sym is) ∙ sym (candidates_are s past e legal)) in (
+        record { room = mid.room; many = mid.many; waiting = all; counts = mid.counts },
+        (let more : length (l.waiting ++ x ∷ []) ≡ length l.waiting + 1 = length-append l.waiting (x ∷ []) in
+            let same : length (l.waiting ++ x ∷ []) ≡ length (candidates s past e) = ap length all in
+            let fewer_open = fewer (waits s past) (still_open (e ∷ past)) in
+            let two = two_for_each_item s (e ∷ past) legal in
+            let room = mid.room in
+            omega arith),
+      )
+
+  pub pwqs_opened : (l : PwqState) → IsMid s past e l → IsReadyToPass s past e (told_opened (opening past e) l) × MayOpen (opening past e) l
+  pwqs_opened l mid = pwqs_opened_as l mid (opening past e) refl
+
+  -- ---- after the pass: the pwqs of the longer history
+
+  candidate_there : (x : Queueing) → In x (candidates s past e) → places.IsThere s x
+  candidate_there x h = open_there s (e ∷ past) x legal (in_filter (waits s past) (still_open (e ∷ past)) x h).0
+
+  candidate_placed : (x : Queueing) → In x (candidates s past e) → IsPlaced (length s.queues) x
+  candidate_placed x h = let there = candidate_there x h in let k = there.cpu in (there.queue, omega arith)
+
+  pub are_placed : (l : PwqState) → IsReadyToPass s past e l → ArePlaced (length s.queues) l.waiting
+  are_placed l r = subst (ArePlaced (length s.queues)) (sym r.waiting) (All-from_recursion (IsPlaced (length s.queues)) (candidates s past e) (all_in (IsPlaced (length s.queues)) (candidates s past e) candidate_placed))
+
+  are_below_max_active : (l : PwqState) (wide : ℕ → ℕ) → IsReadyToPass s past e l → ((q : ℕ) → q < length s.queues → wide q ≡ width s (e ∷ past) q) → AreBelowMaxActive (is_below_max_active s (e ∷ past)) wide l.counts l.waiting
+  are_below_max_active l wide r widths = λ done x rest split.
+      let is : candidates s past e ≡ done ++ x ∷ rest = sym r.waiting ∙ split in
+      let placed = candidate_placed x (subst (In x) (sym is) (in_right done (x ∷ rest) x (inl refl))) in
+      way_by_picked s past e done x rest is
+      ∙ ap₂ (λ n w. nat_lt (n + count_by (is_on x.place.queue.0 x.place.cpu.0) (filter (is_below_max_active s (e ∷ past)) done)) w) (sym (r.counts x.place.queue.0 x.place.cpu.0 placed.0 placed.1)) (sym (widths x.place.queue.0 placed.0))
+
+  pub pwqs_passed : (l new : PwqState) (wide : ℕ → ℕ) → IsReadyToPass s past e l → ArePassed s past e l new wide → ArePwqsOf s (e ∷ past) new × (new.activated ≡ newly_active s past e)
+  pwqs_passed l new wide r passed =
+      let p = passed.passes (is_below_max_active s (e ∷ past)) (are_below_max_active l wide r passed.widths) in
+      let newly : filter (is_below_max_active s (e ∷ past)) l.waiting ≡ newly_active s past e = ap (filter (is_below_max_active s (e ∷ past))) r.waiting ∙ sym (newly_are s past e) in (
+        record {
+          room = passed.room ∙ r.room;
+          many = p.many ∙ r.many;
+          waiting = p.kept ∙ (ap (filter (has_none s (e ∷ past))) r.waiting ∙ sym (waiting_goes_on s past e));
+          counts = λ q c here less.
+              let inside = place_inside q c (length s.queues) (length l.counts) here less r.many in
+              p.counts q c less inside ∙ (ap₂ (λ n ys. n + count_by (is_on q c) ys) (r.counts q c here less) newly ∙ sym (active_count_goes_on s past e q c));
+        },
+        p.activated ∙ newly,
+      )

@@ -1,0 +1,73 @@
+-- The parts that are told of one more entry are those of the longer history.
+use Rattle.std.proofs.Common.{◌≡◌, ◌≢◌, ℕ, ◌+◌, ◌*◌, ◌<◌, ◌≤◌, Bool, true, false, List, ◌∷◌, length, refl, sym, ap, ◌∙◌, arith, get_or}
+use Rattle.std.specs.Prelude.{slice_set, slice_index_or, if◌then◌else◌}
+use Rattle.std.proofs.lemmas.List.{get_or-set_other, get_or_default, length-set}
+use Rattle.std.proofs.lemmas.Grind.{common_steps, get_or-set_at}
+use Rattle.cmwq_model.specs.declared.id.PoolId.{PoolId}
+use Rattle.cmwq_model.specs.declared.id.Who.{Who}
+use Rattle.cmwq_model.specs.declared.id.Who.TheVariants.{Caller, Worker}
+use Rattle.cmwq_model.specs.declared.entry.Entry.{Entry}
+use Rattle.cmwq_model.specs.Layout.{Layout}
+use Rattle.cmwq_model.specs.Calls.{same_who, serial_of}
+use Rattle.cmwq_pool.specs.PoolState.{PoolState}
+use Rattle.cmwq_theory_steps.proofs.StateSteps.{serials_go_on}
+use Rattle.cmwq_theory_steps.proofs.ItemRuns.{same_worker-true}
+use Rattle.cmwq_theory_steps.specs.Histories.{one}
+use Rattle.cmwq_refinement.specs.Pools as pools
+use Rattle.cmwq_state.specs.Tables.{IsThere, who_place, pool_place, no_pool, ArePools, AreSerials}
+
+-- ---- serials
+
+pub same_who_is : (a b : Who) → same_who a b ≡ true → a ≡ b
+same_who_is (Caller c) (Caller d) h = grind (arith, common_steps, h)
+same_who_is (Caller c) (Worker v) h = cc
+same_who_is (Worker w) (Caller d) h = cc
+same_who_is (Worker w) (Worker v) h = ap Worker (same_worker-true w v h)
+
+pub who_below : (s : Layout) (a : Who) → IsThere s a → s.cpus ≤ 4 → s.workers ≤ 8 → s.callers ≤ 64 → who_place a < 128
+who_below s (Caller c) f h k m = omega arith
+who_below s (Worker w) f h k m = by_high w.pool.high where
+  by_high : (b : Bool) → 64 + (w.pool.cpu.0 * 16 + (if b then 8 else 0) + w.index) < 128
+  by_high true = omega (arith, f.0, f.1)
+  by_high false = omega (arith, f.0, f.1)
+
+other_who : (s : Layout) (a b : Who) → IsThere s a → IsThere s b → s.workers ≤ 8 → s.callers ≤ 64 → same_who a b ≡ false → who_place b ≢ who_place a
+other_who s (Caller c) (Caller d) f g k m h = grind (arith, common_steps, h)
+other_who s (Caller c) (Worker v) f g k m h = grind (arith, common_steps, f)
+other_who s (Worker w) (Caller d) f g k m h = grind (arith, common_steps, g)
+other_who s (Worker w) (Worker v) f g k m h = by_high w.pool.high refl v.pool.high refl where
+  by_high : (a : Bool) → w.pool.high ≡ a → (b : Bool) → v.pool.high ≡ b → who_place (Worker v) ≢ who_place (Worker w)
+  by_high true ha true hb = grind (arith, common_steps, ha, hb, h, f, g)
+  by_high true ha false hb = grind (arith, common_steps, ha, hb, h, f, g)
+  by_high false ha true hb = grind (arith, common_steps, ha, hb, h, f, g)
+  by_high false ha false hb = grind (arith, common_steps, ha, hb, h, f, g)
+
+pub record IsSmall (s : Layout) : Type 0 where
+  pub cpus : s.cpus ≤ 4
+  pub workers : s.workers ≤ 8
+  pub callers : s.callers ≤ 64
+
+pub serials_told : (s : Layout) (e : Entry) (past : List Entry) (serials : List ℕ) → IsSmall s → IsThere s e.who → AreSerials s past serials →
+    AreSerials s (e ∷ past) (slice_set serials (who_place e.who) (serial_of past e.who + 1))
+serials_told s e past serials small fit are = record { many = length-set serials _ _ ∙ are.many; each = λ who fits. by_who who fits (same_who e.who who) refl } where
+  by_who : (who : Who) → IsThere s who → (b : Bool) → same_who e.who who ≡ b → slice_index_or (slice_set serials (who_place e.who) (serial_of past e.who + 1)) (who_place who) 0 ≡ serial_of (e ∷ past) who
+  by_who who fits true h = let same : e.who ≡ who = same_who_is e.who who h in
+      let inside : who_place e.who < length serials = let below = who_below s e.who fit small.cpus small.workers small.callers in rw are.many below in
+      let more : serial_of (e ∷ past) who ≡ one true + serial_of past who = serials_go_on past e who ∙ ap (λ b. one b + serial_of past who) h in
+      get_or-set_at serials (who_place e.who) (who_place who) (serial_of past e.who + 1) 0 (ap who_place (sym same)) inside ∙ (ap (λ x. serial_of past x + 1) same ∙ (let flip : serial_of past who + 1 ≡ 1 + serial_of past who = omega arith in flip ∙ sym more))
+  by_who who fits false h =
+      let less : serial_of (e ∷ past) who ≡ one false + serial_of past who = serials_go_on past e who ∙ ap (λ b. one b + serial_of past who) h in
+      get_or-set_other serials (who_place e.who) (who_place who) (serial_of past e.who + 1) 0 (other_who s e.who who fit fits small.workers small.callers h) ∙ (are.each who fits ∙ (let flip : serial_of past who ≡ 0 + serial_of past who = omega arith in flip ∙ sym less))
+
+-- ---- the pool that stands at its place
+
+pub pool_place_inside : (p : PoolId) (cpus n : ℕ) → n ≡ 2 * cpus → p.cpu.0 < cpus → pool_place p < n
+pool_place_inside p cpus n many here = by_high p.high where
+  by_high : (b : Bool) → 2 * p.cpu.0 + (if b then 1 else 0) < n
+  by_high true = omega arith
+  by_high false = omega arith
+
+pub pool_found : (s : Layout) (past : List Entry) (found : List PoolState) (p : PoolId) (i : ℕ) (v : PoolState) → ArePools s past found → p.cpu.0 < s.cpus → i ≡ pool_place p → v ≡ get_or found i v → v ≡ pools.pool_of s past p
+pool_found s past found p i v are here at is =
+    let inside : i < length found = rw at (pool_place_inside p s.cpus (length found) are.many here) in
+    is ∙ (get_or_default found i v no_pool inside ∙ (ap (λ j. get_or found j no_pool) at ∙ are.each p here))

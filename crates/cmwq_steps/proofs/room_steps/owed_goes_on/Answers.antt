@@ -1,5 +1,0 @@
-use Rattle.cmwq_steps.proofs.Owing.{owed_goes_on}
-use Rattle.cmwq_steps.proofs.room_steps.owed_goes_on.Goals as goal
-
-pub returns : goal.returns
-returns c = owed_goes_on

@@ -1,0 +1,52 @@
+use crate::same::same;
+use cmwq_cli::*;
+use std::test::Fail;
+
+#[test]
+fn reads_each_word(rt: HostRuntime) -> Result<(), Fail> {
+    for (name, word) in [
+        ("step", Word::Step { live: false }),
+        ("check", Word::Check { front: false }),
+        ("upgrade", Word::Upgrade),
+        ("replay", Word::Replay),
+        ("run", Word::Run),
+    ] {
+        same(&rt, word_of(rt.alloc(), &["cmwq", name])?, word);
+    }
+    Ok(())
+}
+
+#[test]
+fn reads_the_flag_of_check(rt: HostRuntime) -> Result<(), Fail> {
+    let word = word_of(rt.alloc(), &["cmwq", "check", "--front"])?;
+    same(&rt, word, Word::Check { front: true });
+    Ok(())
+}
+
+#[test]
+fn reads_the_flag_of_step(rt: HostRuntime) -> Result<(), Fail> {
+    let word = word_of(rt.alloc(), &["cmwq", "step", "--live"])?;
+    same(&rt, word, Word::Step { live: true });
+    Ok(())
+}
+
+#[test]
+fn refuses_the_flags_elsewhere(rt: HostRuntime) {
+    for name in ["step", "upgrade", "replay", "run"] {
+        assert!(rt; word_of(rt.alloc(), &["cmwq", name, "--front"]).is_err());
+    }
+    for name in ["check", "upgrade", "replay", "run"] {
+        assert!(rt; word_of(rt.alloc(), &["cmwq", name, "--live"]).is_err());
+    }
+    assert!(rt; word_of(rt.alloc(), &["cmwq", "--front", "check"]).is_err());
+    assert!(rt; word_of(rt.alloc(), &["cmwq", "check", "--front", "--front"]).is_err());
+    assert!(rt; word_of(rt.alloc(), &["cmwq", "check", "front"]).is_err());
+}
+
+#[test]
+fn refuses_other_words(rt: HostRuntime) {
+    assert!(rt; word_of(rt.alloc(), &["cmwq"]).is_err());
+    for name in ["steps", "--help"] {
+        assert!(rt; word_of(rt.alloc(), &["cmwq", name]).is_err());
+    }
+}

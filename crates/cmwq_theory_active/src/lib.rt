@@ -1,0 +1,10 @@
+//! What is active, told by few looks at a history: whether a queueing is below max_active, or was just before an entry that changed
+//! a width.
+#![tactic(auto)]
+
+ghost use Rattle.cmwq_theory_active.specs.Looks.{ActiveByLooks};
+
+/// A queueing is active where it is open and is below max_active, or was just before an entry that changed a width.
+pub fn active_by_looks()
+    ensures { ActiveByLooks }
+{}

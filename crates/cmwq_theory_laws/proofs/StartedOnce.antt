@@ -1,0 +1,33 @@
+-- A number is started at most once, and only where an earlier entry opened a queueing under it.
+use Rattle.std.proofs.Common.{◌≡◌, ◌+◌, ◌≤◌, ℕ, Bool, true, false, cond, List, [], ◌∷◌, count_by, refl, ap, arith}
+use Rattle.std.specs.Prelude.{is_some}
+use Rattle.std.specs.List.{AllByRecursion}
+use Rattle.std.proofs.lemmas.Bool.{or_parts}
+use Rattle.cmwq_model.specs.declared.entry.Entry.{Entry}
+use Rattle.cmwq_model.specs.Layout.{Layout}
+use Rattle.cmwq_model.specs.Fate.{starts, is_started}
+use Rattle.cmwq_model.specs.Legal.{IsLegal}
+use Rattle.cmwq_theory_laws.specs.Headline.{StartedOnce, StartsEarlier}
+use Rattle.cmwq_theory_active.proofs.Lists.{count_by-cons, count_by-none}
+use Rattle.cmwq_theory_steps.proofs.StartsListed.{starts_listed, starts_anew}
+
+none_started : (n : ℕ) (past : List Entry) → is_started past n ≡ false → AllByRecursion (λ e. starts n e ≡ false) past
+none_started n [] h = tt
+none_started n (e ∷ past) h = let parts = or_parts (starts n e) (is_started past n) h in (parts.0, none_started n past parts.1)
+
+once_more : (n : ℕ) (past : List Entry) (b : Bool) → (b ≡ true → is_started past n ≡ false) → count_by (starts n) past ≤ 1 → cond b 1 0 + count_by (starts n) past ≤ 1
+once_more n past true new once = let none = count_by-none (starts n) past (none_started n past (new refl)) in omega arith
+once_more n past false new once = omega arith
+
+pub started_once : (s : Layout) (past : List Entry) → IsLegal s past → StartedOnce past
+unfolding IsLegal
+started_once s [] legal n = omega arith
+started_once s (e ∷ past) legal n =
+    let more = once_more n past (starts n e) (starts_anew s past e n legal) (started_once s past legal.2 n) in
+    let count = count_by-cons (starts n) e past in
+    omega arith
+
+pub starts_earlier : (s : Layout) (past : List Entry) → IsLegal s past → StartsEarlier past
+unfolding IsLegal
+starts_earlier s [] legal = tt
+starts_earlier s (e ∷ past) legal = ((λ n h. ap is_some (starts_listed s past e n legal h).found), starts_earlier s past legal.2)

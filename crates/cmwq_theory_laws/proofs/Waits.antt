@@ -1,0 +1,26 @@
+-- What a ticket waits for is the least of what holds it up.
+use Rattle.std.proofs.Common.{◌≡◌, ◌≤◌, ℕ, true, List, find, Option, Some, None, refl, subst}
+use Rattle.std.specs.Prelude.{option_map}
+use Rattle.std.specs.List.{AllByRecursion}
+use Rattle.cmwq_model.specs.declared.call.Call.{Call}
+use Rattle.cmwq_model.specs.declared.call.Call.TheVariants as call
+use Rattle.cmwq_model.specs.declared.entry.Entry.{Entry}
+use Rattle.cmwq_model.specs.declared.record.Queueing.{Queueing}
+use Rattle.cmwq_model.specs.Queueings.{still_open}
+use Rattle.cmwq_model.specs.Waits.{holds_up, waits_for, least_waited}
+use Rattle.cmwq_theory_active.proofs.Lists.{All_each}
+use Rattle.cmwq_theory_active.proofs.Rising.{open_rise, find_least}
+
+found_least : (past : List Entry) (n m : ℕ) (c : Call) (o : Option Queueing) → find (holds_up past n c) (still_open past) ≡ o → option_map (λ (x : Queueing). x.number) o ≡ Some m
+    → AllByRecursion (λ x. holds_up past n c x ≡ true → m ≤ x.number) (still_open past)
+found_least past n m c None found h = cc
+found_least past n m c (Some y) found h =
+    let is : y.number ≡ m = cc in
+    subst (λ k. AllByRecursion (λ x. holds_up past n c x ≡ true → k ≤ x.number) (still_open past)) is (find_least (holds_up past n c) (still_open past) y (open_rise past) found)
+
+waited_least : (past : List Entry) (n m : ℕ) (c : Call) → least_waited past n c ≡ Some m → AllByRecursion (λ x. holds_up past n c x ≡ true → m ≤ x.number) (still_open past)
+waited_least past n m c h = found_least past n m c (find (holds_up past n c) (still_open past)) refl h
+
+pub waits_for_least : (past : List Entry) (n m : ℕ) (c : Call) → waits_for past n c ≡ Some m → AllByRecursion (λ x. holds_up past n c x ≡ true → m ≤ x.number) (still_open past)
+waits_for_least past n m (call.CancelSync i) h = All_each _ (still_open past) (λ x e. cc)
+waits_for_least past n m c h = waited_least past n m c h

@@ -1,0 +1,60 @@
+-- Where an entry makes a queueing active, no more than the width are active there after it.
+use Rattle.std.proofs.Common.{◌≡◌, ◌≤◌, ℕ, min, max, Bool, true, false, not, ◌&&◌, ◌||◌, List, [], ◌∷◌, count_by, refl, sym, ap, ◌∙◌, arith}
+use Rattle.std.proofs.lemmas.Bool.Decides.{nat_tests}
+use Rattle.std.specs.List.{AllByRecursion}
+use Rattle.cmwq_model.specs.declared.entry.Entry.{Entry}
+use Rattle.cmwq_model.specs.declared.record.Queueing.{Queueing}
+use Rattle.cmwq_model.specs.Layout.{Layout}
+use Rattle.cmwq_model.specs.Widths.{width}
+use Rattle.cmwq_model.specs.Queueings.{queueings, is_live, still_open}
+use Rattle.cmwq_model.specs.Active.{is_active, is_below_max_active, is_newly_active}
+use Rattle.cmwq_theory_steps.specs.Places.{is_on, open_on}
+use Rattle.cmwq_theory_steps.specs.Histories.{OfEachEntry}
+use Rattle.cmwq_theory_laws.specs.Headline.{WithinWidthAfter}
+use Rattle.cmwq_theory_active.proofs.Lists.{All_map, All_filter, All_unfilter}
+use Rattle.cmwq_theory_steps.proofs.Filters.{count_by-same}
+use Rattle.cmwq_theory_steps.proofs.Fronts.{front_less, count_or}
+use Rattle.cmwq_theory_active.proofs.Joined.{active_go_on}
+use Rattle.cmwq_theory_steps.proofs.Active.{kept_front, fronts_below_max_active, ways_counted, active_on, first_active}
+
+all_for : {A X : Type 0} (P : A → X → Type 0) (xs : List X) → ((a : A) → AllByRecursion (P a) xs) → AllByRecursion (λ x. (a : A) → P a x) xs
+all_for P [] h = tt
+all_for P (x ∷ xs) h = ((λ a. (h a).0), all_for P xs (λ a. (h a).1))
+
+abbrev FewOn : Layout → List Entry → Entry → ℕ × ℕ → Queueing → Type 0
+FewOn s past e p x = is_on p.0 p.1 x ≡ true → is_active s past x ≡ false → is_below_max_active s (e ∷ past) x ≡ true → count_by (is_active s (e ∷ past)) (open_on (e ∷ past) p.0 p.1) ≤ width s (e ∷ past) p.0
+
+few_on : (s : Layout) (past : List Entry) (e : Entry) (p : ℕ × ℕ) → AllByRecursion (FewOn s past e p) (still_open (e ∷ past))
+few_on s past e p =
+    let kept = kept_front s past e p.0 p.1 (first_active s past p.0 p.1).front in
+    let way = fronts_below_max_active s (e ∷ past) p.0 p.1 in
+    let both = count_by-same (is_active s (e ∷ past)) (λ x. is_active s past x || is_below_max_active s (e ∷ past) x) (open_on (e ∷ past) p.0 p.1) (active_on s past e p.0 p.1) ∙ count_or (is_active s past) (is_below_max_active s (e ∷ past)) (open_on (e ∷ past) p.0 p.1) kept way in
+    let counted = ways_counted s (e ∷ past) p.0 p.1 in
+    All_unfilter _ (is_on p.0 p.1) (still_open (e ∷ past)) (All_map _ (λ x. is_active s past x ≡ false → is_below_max_active s (e ∷ past) x ≡ true → count_by (is_active s (e ∷ past)) (open_on (e ∷ past) p.0 p.1) ≤ width s (e ∷ past) p.0) (open_on (e ∷ past) p.0 p.1)
+    (λ x less fails passes. within _ _ _ _ _ both (less fails passes) counted) (front_less (is_active s past) (is_below_max_active s (e ∷ past)) (open_on (e ∷ past) p.0 p.1) kept way))
+  where
+    within : (k a b l w : ℕ) → k ≡ max a b → a ≤ b → b ≡ min l w → k ≤ w
+    within k a b l w is less counted = grind arith
+
+few_after : (s : Layout) (past : List Entry) (e : Entry) → WithinWidthAfter s past e
+few_after s past e = All_filter _ (is_newly_active s past e) (queueings (e ∷ past)) (All_map _ _ (queueings (e ∷ past)) one (All_unfilter _ (is_live (e ∷ past)) (queueings (e ∷ past)) (all_for (FewOn s past e) (still_open (e ∷ past)) (few_on s past e))))
+  where
+    parts : (x : Queueing) (l a w : Bool) → is_active s (e ∷ past) x ≡ (l && (a || w)) → (is_active s (e ∷ past) x && not a) ≡ true → (l ≡ true) × (a ≡ false) × (w ≡ true)
+    parts x l true w is h = let none : (is_active s (e ∷ past) x && false) ≡ true = h in absurd (no (is_active s (e ∷ past) x) none)
+      where
+        no : (b : Bool) → (b && false) ≡ true → ⊥
+        no true h = cc
+        no false h = cc
+    parts x true false true is h = (refl, refl, refl)
+    parts x true false false is h = let bad : (false && true) ≡ true = sym (ap (λ b. b && true) is) ∙ h in cc
+    parts x false false w is h = let bad : (false && true) ≡ true = sym (ap (λ b. b && true) is) ∙ h in cc
+
+    one : (x : Queueing) → (is_live (e ∷ past) x ≡ true → (p : ℕ × ℕ) → FewOn s past e p x) → is_newly_active s past e x ≡ true → count_by (is_active s (e ∷ past)) (open_on (e ∷ past) x.place.queue.0 x.place.cpu.0) ≤ width s (e ∷ past) x.place.queue.0
+    one x few newly =
+        let on : is_on x.place.queue.0 x.place.cpu.0 x ≡ true = grind (arith, nat_tests) in
+        let k = parts x (is_live (e ∷ past) x) (is_active s past x) (is_below_max_active s (e ∷ past) x) (active_go_on s past e x) newly in
+        few k.0 (x.place.queue.0, x.place.cpu.0) on k.1 k.2
+
+pub within_width : (s : Layout) (past : List Entry) → OfEachEntry (WithinWidthAfter s) past
+within_width s [] = tt
+within_width s (e ∷ past) = (few_after s past e, within_width s past)

@@ -1,0 +1,98 @@
+-- Numbers that replies speak of are those of older entries, so of a number that is still to come nothing was told.
+use Rattle.std.proofs.Common.{◌≡◌, ◌<◌, ◌≤◌, ℕ, true, false, ◌||◌, List, [], ◌∷◌, length, Option, Some, None, nat_lt, refl, ap₂, subst, arith}
+use Rattle.std.proofs.lemmas.Bool.{lt-ltb, le-ltb, eqb-true}
+use Rattle.std.proofs.lemmas.Bool.Decides.{nat_tests}
+use Rattle.std.specs.List.{AllByRecursion}
+use Rattle.cmwq_model.specs.declared.entry.Entry.{Entry}
+use Rattle.cmwq_model.specs.declared.record.Queueing.{Queueing}
+use Rattle.cmwq_model.specs.Layout.{Layout}
+use Rattle.cmwq_model.specs.Calls.{is_at}
+use Rattle.cmwq_model.specs.Fate.{number_started, number_finished, number_cancelled, is_started, is_finished, is_cancelled, is_open}
+use Rattle.cmwq_model.specs.Queueings.{queueings, is_live, still_open, unstarted, is_unstarted}
+use Rattle.cmwq_model.specs.Legal.{IsLegal}
+use Rattle.cmwq_theory_active.proofs.Lists.{All_map, All_filter}
+use Rattle.cmwq_theory_steps.proofs.Entries.{IsKnown, queueings_known}
+use Rattle.cmwq_theory_steps.proofs.Activated.{find_holds}
+use Rattle.cmwq_theory_steps.proofs.ItemRuns.{run_is, started_older, starts_known}
+use Rattle.cmwq_theory_steps.specs.Reasons.{FinishesRun, TakesBack}
+use Rattle.cmwq_theory_steps.proofs.Causes.{cause_of}
+use Rattle.cmwq_theory_steps.proofs.Reasons.{finish_reason, cancel_reason}
+
+pub finishes_run : (s : Layout) (past : List Entry) (e : Entry) (n : ℕ) → IsLegal s (e ∷ past) → number_finished e.reply ≡ Some n → FinishesRun past e.who e.call n
+finishes_run s past e n legal h = finish_reason s past e.who e.call e.reply n (cause_of s past e legal) h
+
+pub takes_back_unstarted : (s : Layout) (past : List Entry) (e : Entry) (n : ℕ) → IsLegal s (e ∷ past) → number_cancelled e.reply ≡ Some n → TakesBack past e.call n
+takes_back_unstarted s past e n legal h = cancel_reason s past e.who e.call e.reply n (cause_of s past e legal) h
+
+-- what is found unstarted is open, known, of that item and not started
+pub record IsWaiting (past : List Entry) (i : ℕ) (x : Queueing) : Type 0 where
+  pub known : IsKnown past x
+  pub live : is_live past x ≡ true
+  pub item : x.item.0 ≡ i
+  pub not_started : is_started past x.number ≡ false
+
+pub record IsOpenOne (past : List Entry) (x : Queueing) : Type 0 where
+  pub known : IsKnown past x
+  pub live : is_live past x ≡ true
+
+pub open_known : (past : List Entry) → AllByRecursion (λ x. IsOpenOne past x) (still_open past)
+open_known past = All_filter (λ x. IsOpenOne past x) (is_live past) (queueings past) (All_map (IsKnown past) (λ x. is_live past x ≡ true → IsOpenOne past x) (queueings past) (λ x known live. record { known = known; live = live }) (queueings_known past))
+
+pub unstarted_is : (past : List Entry) (i : ℕ) (x : Queueing) → unstarted past i ≡ Some x → IsWaiting past i x
+unstarted_is past i x found =
+    let f = find_holds (IsOpenOne past) (is_unstarted past i) (still_open past) x (open_known past) found in
+    record { known = f.holds.known; live = f.holds.live; item = eqb-true x.item.0 i (grind arith); not_started = grind arith }
+
+-- ---- so numbers that replies speak of are older
+
+pub finished_older : (s : Layout) (past : List Entry) (e : Entry) (n : ℕ) → IsLegal s (e ∷ past) → number_finished e.reply ≡ Some n → n < length past
+unfolding IsLegal
+finished_older s past e n legal h =
+    let f = finishes_run s past e n legal h in
+    started_older s past f.worker n legal.2 (run_is past f.worker n f.is_run).last
+
+pub cancelled_older : (s : Layout) (past : List Entry) (e : Entry) (n : ℕ) → IsLegal s (e ∷ past) → number_cancelled e.reply ≡ Some n → n < length past
+cancelled_older s past e n legal h =
+    let f = takes_back_unstarted s past e n legal h in
+    subst (λ k. k < length past) f.number (unstarted_is past f.item f.queueing f.is_unstarted).known.older
+
+-- ---- of a number that is still to come nothing was told
+
+pub not_told : (o : Option ℕ) (n m : ℕ) → ((k : ℕ) → o ≡ Some k → k < m) → m ≤ n → is_at o n ≡ false
+not_told None n m h less = refl
+not_told (Some k) n m h less = let older : k < m = h k refl in grind (arith, nat_tests)
+
+pub not_started_yet : (s : Layout) (past : List Entry) (n : ℕ) → IsLegal s past → length past ≤ n → is_started past n ≡ false
+unfolding IsLegal
+not_started_yet s [] n legal less = refl
+not_started_yet s (e ∷ past) n legal less =
+    ap₂ (λ a b. a || b) (not_told (number_started e.reply) n (length past) (λ k h. (starts_known s past e k legal h).older) (omega arith)) (not_started_yet s past n legal.2 (omega arith))
+
+not_finished_more : (s : Layout) (past : List Entry) (e : Entry) (n : ℕ) → IsLegal s (e ∷ past) → length past ≤ n → is_finished past n ≡ false → is_finished (e ∷ past) n ≡ false
+not_finished_more s past e n legal less earlier = ap₂ (λ a b. a || b) (not_told (number_finished e.reply) n (length past) (λ k h. finished_older s past e k legal h) less) earlier
+
+not_finished_yet : (s : Layout) (past : List Entry) (n : ℕ) → IsLegal s past → length past ≤ n → is_finished past n ≡ false
+unfolding IsLegal
+not_finished_yet s [] n legal less = refl
+not_finished_yet s (e ∷ past) n legal less = not_finished_more s past e n legal (omega arith) (not_finished_yet s past n legal.2 (omega arith))
+
+not_cancelled_more : (s : Layout) (past : List Entry) (e : Entry) (i n : ℕ) → IsLegal s (e ∷ past) → length past ≤ n → is_cancelled past i n ≡ false → is_cancelled (e ∷ past) i n ≡ false
+unfolding is_cancelled
+not_cancelled_more s past e i n legal less earlier =
+    let here = not_told (number_cancelled e.reply) n (length past) (λ k h. cancelled_older s past e k legal h) less in
+    let too_young : nat_lt n (length past) ≡ false = le-ltb n (length past) less in
+    grind arith
+
+not_cancelled_yet : (s : Layout) (past : List Entry) (i n : ℕ) → IsLegal s past → length past ≤ n → is_cancelled past i n ≡ false
+unfolding IsLegal is_cancelled
+not_cancelled_yet s [] i n legal less = refl
+not_cancelled_yet s (e ∷ past) i n legal less = not_cancelled_more s past e i n legal (omega arith) (not_cancelled_yet s past i n legal.2 (omega arith))
+
+-- nor has the entry itself been ended at once
+pub open_at_once : (s : Layout) (past : List Entry) (e : Entry) (i : ℕ) → IsLegal s (e ∷ past) → is_open (e ∷ past) i (length past) ≡ true
+unfolding IsLegal
+open_at_once s past e i legal =
+    let young : nat_lt (length past) (length (e ∷ past)) ≡ true = lt-ltb (length past) (length (e ∷ past)) (omega arith) in
+    let unfinished = not_finished_more s past e (length past) legal (omega arith) (not_finished_yet s past (length past) legal.2 (omega arith)) in
+    let uncancelled = not_cancelled_more s past e i (length past) legal (omega arith) (not_cancelled_yet s past i (length past) legal.2 (omega arith)) in
+    rw (young, unfinished, uncancelled) refl

@@ -1,0 +1,132 @@
+-- A pool's worklist stands in the order in which its queueings became active.
+use Rattle.std.proofs.Common.{◌≡◌, ◌<◌, ◌≤◌, ℕ, Bool, true, false, cond, List, [], ◌∷◌, ◌++◌, length, filter, Option, Some, None, refl, ap, ◌∙◌, arith, inl, inr}
+use Rattle.std.specs.Prelude.{if◌then◌else◌}
+use Rattle.std.specs.List.{AllByRecursion}
+use Rattle.std.specs.Option.{option_or}
+use Rattle.cmwq_model.specs.declared.entry.Entry.{Entry}
+use Rattle.cmwq_model.specs.declared.record.Queueing.{Queueing}
+use Rattle.cmwq_model.specs.Layout.{Layout}
+use Rattle.cmwq_model.specs.Queueings.{queueings, is_live}
+use Rattle.cmwq_model.specs.Active.{is_active, is_newly_active, newly_active, activated}
+use Rattle.cmwq_theory_active.specs.Rising.{IsRising}
+use Rattle.cmwq_theory_steps.specs.Order.{since, IsSooner, AreInOrder}
+use Rattle.cmwq_theory_active.proofs.Lists.{All_map, All_both, All_append, All_each, All_filter}
+use Rattle.cmwq_theory_active.proofs.Rising.{queueings_rise, rising_filter}
+use Rattle.cmwq_theory_active.proofs.Opens.{open_before}
+use Rattle.cmwq_theory_active.proofs.Joined.{stays_active, active_older, active_live}
+
+-- ---- since when a queueing is active
+
+data Since (s : Layout) (e : Entry) (past : List Entry) (x : Queueing) (j : ℕ) : Type 0 where
+  already : since s past x ≡ Some j → Since s e past x j
+  at_once : since s past x ≡ None → is_active s (e ∷ past) x ≡ true → length (e ∷ past) ≡ j → Since s e past x j
+
+since_case : (s : Layout) (e : Entry) (past : List Entry) (x : Queueing) (j : ℕ) (o : Option ℕ) (b : Bool) → since s past x ≡ o → is_active s (e ∷ past) x ≡ b
+    → option_or o (if b then Some (length (e ∷ past)) else None) ≡ Some j → Since s e past x j
+since_case s e past x j (Some k) b ho hb h = already (ho ∙ h)
+since_case s e past x j None true ho hb h = at_once ho hb (let same : length (e ∷ past) ≡ j = cc in same)
+since_case s e past x j None false ho hb h = cc
+
+since_cases : (s : Layout) (e : Entry) (past : List Entry) (x : Queueing) (j : ℕ) → since s (e ∷ past) x ≡ Some j → Since s e past x j
+unfolding since
+since_cases s e past x j h = since_case s e past x j (since s past x) (is_active s (e ∷ past) x) refl refl h
+
+since_keeps : (s : Layout) (e : Entry) (past : List Entry) (x : Queueing) (j : ℕ) → since s past x ≡ Some j → since s (e ∷ past) x ≡ Some j
+unfolding since
+since_keeps s e past x j h = ap (λ o. option_or o (if is_active s (e ∷ past) x then Some (length (e ∷ past)) else None)) h
+
+since_older : (s : Layout) (past : List Entry) (x : Queueing) (j : ℕ) → since s past x ≡ Some j → x.number < length past
+unfolding since
+since_older s [] x j h = cc
+since_older s (e ∷ past) x j h = elim (since_cases s e past x j h) [
+  | already before ↦ let less : x.number < length past = since_older s past x j before in omega arith
+  | at_once none active is ↦ active_older s (e ∷ past) x active
+]
+
+-- what was active at some time and is open now is active now
+pub still_active : (s : Layout) (past : List Entry) (x : Queueing) (j : ℕ) → since s past x ≡ Some j → is_live past x ≡ true → is_active s past x ≡ true
+unfolding since
+still_active s [] x j h live = cc
+still_active s (e ∷ past) x j h live = elim (since_cases s e past x j h) [
+  | already before ↦ let older = since_older s past x j before in
+      stays_active s past e x (still_active s past x j before (open_before e past x.item.0 x.number older live)) live
+  | at_once none active is ↦ active
+]
+
+-- what an entry makes active is active since then
+newly_since : (s : Layout) (past : List Entry) (e : Entry) (x : Queueing) → is_newly_active s past e x ≡ true → since s (e ∷ past) x ≡ Some (length (e ∷ past))
+unfolding since
+newly_since s past e x h = since_now (since s past x) refl
+  where
+    active : is_active s (e ∷ past) x ≡ true
+    active = grind arith
+
+    was_not : is_active s past x ≡ true → ⊥
+    was_not before = grind arith
+
+    since_now : (o : Option ℕ) → since s past x ≡ o → option_or o (if is_active s (e ∷ past) x then Some (length (e ∷ past)) else None) ≡ Some (length (e ∷ past))
+    since_now None ho = ap (λ b. if b then Some (length (e ∷ past)) else None) active
+    since_now (Some j) ho =
+        let older = since_older s past x j ho in
+        absurd (was_not (still_active s past x j ho (open_before e past x.item.0 x.number older (active_live s (e ∷ past) x active))))
+
+-- ---- all that ever became active stand in order
+
+pub record HasSince (s : Layout) (past : List Entry) (x : Queueing) : Type 0 where
+  pub at : ℕ
+  pub is : since s past x ≡ Some at
+  pub within : at ≤ length past
+
+pub activated_since : (s : Layout) (past : List Entry) → AllByRecursion (HasSince s past) (activated s past)
+unfolding activated
+activated_since s [] = tt
+activated_since s (e ∷ past) =
+    All_append (HasSince s (e ∷ past)) (activated s past) (newly_active s past e)
+    (All_map (HasSince s past) (HasSince s (e ∷ past)) (activated s past) (λ x h. let within = h.within in record { at = h.at; is = since_keeps s e past x h.at h.is; within = omega arith }) (activated_since s past))
+    (All_filter (HasSince s (e ∷ past)) (is_newly_active s past e) (queueings (e ∷ past))
+    (All_each (λ x. is_newly_active s past e x ≡ true → HasSince s (e ∷ past) x) (queueings (e ∷ past)) (λ x newly. record { at = length (e ∷ past); is = newly_since s past e x newly; within = omega arith })))
+
+in_order_append : (s : Layout) (past : List Entry) (xs ys : List Queueing) → AreInOrder s past xs → AreInOrder s past ys → AllByRecursion (λ x. AllByRecursion (IsSooner s past x) ys) xs → AreInOrder s past (xs ++ ys)
+in_order_append s past [] ys h k c = k
+in_order_append s past (x ∷ xs) ys h k c = (All_append (IsSooner s past x) xs ys h.0 c.0, in_order_append s past xs ys h.1 k c.1)
+
+in_order_head : (s : Layout) (past : List Entry) (x : Queueing) (xs : List Queueing) (b : Bool) → AllByRecursion (IsSooner s past x) xs → AreInOrder s past xs → AreInOrder s past (cond b (x ∷ xs) xs)
+in_order_head s past x xs true h k = (h, k)
+in_order_head s past x xs false h k = k
+
+pub in_order_filter : (s : Layout) (past : List Entry) (p : Queueing → Bool) (xs : List Queueing) → AreInOrder s past xs → AreInOrder s past (filter p xs)
+in_order_filter s past p [] h = tt
+in_order_filter s past p (x ∷ xs) h =
+    let later = All_filter (IsSooner s past x) p xs (All_map (IsSooner s past x) (λ y. p y ≡ true → IsSooner s past x y) xs (λ y sooner passes. sooner) h.0) in
+    in_order_head s past x (filter p xs) (p x) later (in_order_filter s past p xs h.1)
+
+in_order_keeps : (s : Layout) (past : List Entry) (e : Entry) (xs : List Queueing) → AreInOrder s past xs → AreInOrder s (e ∷ past) xs
+in_order_keeps s past e [] h = tt
+in_order_keeps s past e (x ∷ xs) h = (All_map (IsSooner s past x) (IsSooner s (e ∷ past) x) xs keeps h.0, in_order_keeps s past e xs h.1)
+  where
+    keeps : (y : Queueing) → IsSooner s past x y → IsSooner s (e ∷ past) x y
+    keeps y k = record { x_since = k.x_since; y_since = k.y_since; x_is = since_keeps s e past x k.x_since k.x_is; y_is = since_keeps s e past y k.y_since k.y_is; order = k.order }
+
+-- what is active since one moment stands by number
+one_moment : (s : Layout) (past : List Entry) (j : ℕ) (xs : List Queueing) → IsRising xs → AllByRecursion (λ x. since s past x ≡ Some j) xs → AreInOrder s past xs
+one_moment s past j [] h k = tt
+one_moment s past j (x ∷ xs) h k =
+    (All_both (λ y. x.number < y.number) (λ y. since s past y ≡ Some j) (IsSooner s past x) xs (λ y less is. record { x_since = j; y_since = j; x_is = k.0; y_is = is; order = inr (refl, less) }) h.0 k.1, one_moment s past j xs h.1 k.1)
+
+newly_all_since : (s : Layout) (past : List Entry) (e : Entry) → AllByRecursion (λ x. since s (e ∷ past) x ≡ Some (length (e ∷ past))) (newly_active s past e)
+newly_all_since s past e = All_filter (λ x. since s (e ∷ past) x ≡ Some (length (e ∷ past))) (is_newly_active s past e) (queueings (e ∷ past))
+    (All_each (λ x. is_newly_active s past e x ≡ true → since s (e ∷ past) x ≡ Some (length (e ∷ past))) (queueings (e ∷ past)) (newly_since s past e))
+
+pub activated_in_order : (s : Layout) (past : List Entry) → AreInOrder s past (activated s past)
+unfolding activated
+activated_in_order s [] = tt
+activated_in_order s (e ∷ past) =
+    in_order_append s (e ∷ past) (activated s past) (newly_active s past e)
+    (in_order_keeps s past e (activated s past) (activated_in_order s past))
+    (one_moment s (e ∷ past) (length (e ∷ past)) (newly_active s past e) (rising_filter (is_newly_active s past e) (queueings (e ∷ past)) (queueings_rise (e ∷ past))) (newly_all_since s past e))
+    (All_map (HasSince s past) (λ x. AllByRecursion (IsSooner s (e ∷ past) x) (newly_active s past e)) (activated s past) before (activated_since s past))
+  where
+    before : (x : Queueing) → HasSince s past x → AllByRecursion (IsSooner s (e ∷ past) x) (newly_active s past e)
+    before x h = All_map (λ y. since s (e ∷ past) y ≡ Some (length (e ∷ past))) (IsSooner s (e ∷ past) x) (newly_active s past e)
+        (λ y is. let within = h.within in record { x_since = h.at; y_since = length (e ∷ past); x_is = since_keeps s e past x h.at h.is; y_is = is; order = inl (omega arith) })
+        (newly_all_since s past e)

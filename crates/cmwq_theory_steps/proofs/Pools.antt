@@ -1,0 +1,255 @@
+-- Runs, queueings and bookings of one item keep together: on one queue, and in one pool.
+use Rattle.std.proofs.Common.{◌≡◌, ◌==◌, ℕ, Bool, true, false, not, ◌&&◌, List, [], ◌∷◌, ◌++◌, length, filter, Option, Some, None, option_to_list, refl, sym, ap, ap₂, ◌∙◌, subst, arith}
+use Rattle.std.specs.Prelude.{option_map, option_and_then, is_some, if◌then◌else◌}
+use Rattle.std.specs.Option.{option_or, option_map_or}
+use Rattle.std.specs.List.{AllByRecursion}
+use Rattle.std.proofs.lemmas.Bool.{eq-eqb, eqb-true}
+use Rattle.cmwq_model.specs.declared.id.CpuId.{CpuId}
+use Rattle.cmwq_model.specs.declared.id.PoolId.{PoolId}
+use Rattle.cmwq_model.specs.declared.id.WorkerId.{WorkerId}
+use Rattle.cmwq_model.specs.declared.id.Who.{Who}
+use Rattle.cmwq_model.specs.declared.call.Call.{Call}
+use Rattle.cmwq_model.specs.declared.reply.Reply.{Reply}
+use Rattle.cmwq_model.specs.declared.reply.Reply.TheVariants as reply
+use Rattle.cmwq_model.specs.declared.entry.Entry.{Entry}
+use Rattle.cmwq_model.specs.declared.record.Booking.{Booking}
+use Rattle.cmwq_model.specs.declared.record.Place.{Place}
+use Rattle.cmwq_model.specs.declared.record.Queueing.{Queueing}
+use Rattle.cmwq_model.specs.declared.record.Start.{Start}
+use Rattle.cmwq_model.specs.Layout.{Layout, pool_at, queue_at}
+use Rattle.cmwq_model.specs.Calls.{is_at, same_pool, item_called, item_fired, is_of_item, item_at}
+use Rattle.cmwq_model.specs.Bookings.{settles, due_in, booked_by, booking}
+use Rattle.cmwq_model.specs.Fate.{number_started, starts, is_started}
+use Rattle.cmwq_model.specs.Runs.{run, item_start, item_run, start_in, starts_item}
+use Rattle.cmwq_model.specs.Queueings.{queueings, queueing_at, queue_of, has_number, is_live, still_open, opening, opens, queued_at, place_wanted, cpu_for, is_unstarted, unstarted, runs_elsewhere}
+use Rattle.cmwq_model.specs.Legal.{IsLegal}
+use Rattle.cmwq_theory_steps.specs.Endings.{survives}
+use Rattle.cmwq_theory_steps.specs.RunSteps.{ends_run}
+use Rattle.cmwq_theory_steps.specs.Pools.{IsRunIn}
+use Rattle.cmwq_theory_active.proofs.Lists.{All_map, All_unfilter, All_append, All_filter}
+use Rattle.cmwq_theory_active.proofs.Joined.{active_live, listed_live}
+use Rattle.cmwq_theory_steps.proofs.RunsActive.{run_is_active, found_known}
+use Rattle.cmwq_theory_steps.proofs.Activated.{find_holds}
+use Rattle.cmwq_theory_steps.proofs.Entries.{is_at-true}
+use Rattle.cmwq_theory_steps.proofs.ItemRuns.{flags_same}
+use Rattle.cmwq_theory_steps.proofs.StartsListed.{queueing_at-older, starts_listed}
+use Rattle.cmwq_theory_steps.proofs.Fresh.{unstarted_is}
+use Rattle.cmwq_theory_steps.proofs.Endings.{open_go_on}
+use Rattle.cmwq_theory_steps.proofs.ItemSteps.{StartsOf, starts_of, items_run_on, left_run, runs_its_item}
+use Rattle.cmwq_theory_steps.proofs.Standing.{booking_after}
+use Rattle.cmwq_theory_steps.proofs.Pending.{one_unstarted, booked_or_unstarted, opening_opens}
+use Rattle.cmwq_theory_steps.proofs.Causes.{Cause, cause_of, IsFree}
+use Rattle.cmwq_theory_steps.proofs.Causes as cause
+
+-- ---- a run is in the pool of its worker
+
+pub same_pool-true : (p q : PoolId) → same_pool p q ≡ true → p ≡ q
+same_pool-true p q h =
+    let cpu : p.cpu.0 ≡ q.cpu.0 = eqb-true p.cpu.0 q.cpu.0 (grind arith) in
+    let high : p.high ≡ q.high = flags_same p.high q.high (grind arith) in
+    λ i. record { cpu = record { 0 = cpu i }; high = high i }
+
+pub runs_are_in_pools : (s : Layout) (past : List Entry) (w : WorkerId) (n : ℕ) → IsLegal s past → run past w ≡ Some n → IsRunIn s past w n
+runs_are_in_pools s past w n legal runs =
+    let r = run_is_active s past w n legal runs in
+    record { queueing = r.queueing; found = r.found; live = active_live s past r.queueing r.active; pool = same_pool-true (pool_at s r.queueing.place) w.pool r.pool }
+
+-- ---- what is open and not started is the item's unstarted queueing
+
+pub unstarted_alone : (s : Layout) (past : List Entry) (i : ℕ) → IsLegal s past → AllByRecursion (λ x. is_unstarted past i x ≡ true → unstarted past i ≡ Some x) (still_open past)
+unstarted_alone s past i legal = All_unfilter (λ x. unstarted past i ≡ Some x) (is_unstarted past i) (still_open past) (subst (AllByRecursion (λ x. unstarted past i ≡ Some x)) (sym (one_unstarted s past i legal)) (each (unstarted past i)))
+  where
+    each : (o : Option Queueing) → AllByRecursion (λ x. o ≡ Some x) (option_to_list o)
+    each None = tt
+    each (Some x) = (refl, tt)
+
+-- ---- where a queueing that is opened comes from
+
+-- the queue is the one that the item runs on, if it runs, or that of its booking
+data QueueFrom (past : List Entry) (i q : ℕ) : Type 0 where
+  of_run : runs_elsewhere past i q ≡ false → QueueFrom past i q
+  of_booking : (b : Booking) → booking past i ≡ Some b → b.place.queue.0 ≡ q → QueueFrom past i q
+
+record OpenedAt (past : List Entry) (x : Queueing) : Type 0 where
+  cpu : CpuId
+  is_cpu : x.place.cpu ≡ cpu_for past x.item.0 cpu
+  from : QueueFrom past x.item.0 x.place.queue.0
+
+opened_as : (past : List Entry) (i : ℕ) (p : Place) (x : Queueing) → QueueFrom past i p.queue.0 → Some (queued_at past i p) ≡ Some x → OpenedAt past x
+opened_as past i p x from h = subst (OpenedAt past) (let same : queued_at past i p ≡ x = cc in same) (record { cpu = p.cpu; is_cpu = refl; from = from })
+
+opened_booked : (past : List Entry) (i : ℕ) (x : Queueing) (o : Option Booking) → booking past i ≡ o → option_map (queued_at past i) (option_map (λ (b : Booking). b.place) o) ≡ Some x → OpenedAt past x
+opened_booked past i x None is h = cc
+opened_booked past i x (Some b) is h = opened_as past i b.place x (of_booking b is refl) h
+
+abbrev pub opening_of : List Entry → Call → Reply → Option Queueing
+opening_of past c r = if opens r then option_and_then (λ i. option_map (queued_at past i) (place_wanted past c i)) (option_or (item_called c) (item_fired r)) else None
+
+opened_at : (s : Layout) (past : List Entry) (who : Who) (c : Call) (r : Reply) (x : Queueing) → Cause s past who c r → opening_of past c r ≡ Some x → OpenedAt past x
+opened_at s past who c r x (cause.queued w i q d free idle) h = opened_as past i.0 (record { queue = q; cpu = d }) x (of_run free.not_foreign) h
+opened_at s past who c r x (cause.delayed_by_none w i q d t zero free idle) h = opened_as past i.0 (record { queue = q; cpu = d }) x (of_run free.not_foreign) h
+opened_at s past who c r x (cause.modified_idle w i q d t zero free idle) h = opened_as past i.0 (record { queue = q; cpu = d }) x (of_run free.not_foreign) h
+opened_at s past who c r x (cause.modified_again w i q d t zero free was) h = opened_as past i.0 (record { queue = q; cpu = d }) x (of_run free.not_foreign) h
+opened_at s past who c r x (cause.fires w b due) h = opened_booked past b.item.0 x (booking past b.item.0) refl h
+opened_at s past who c r x (cause.delayed_queued w i free shut was) h = opened_booked past i.0 x (booking past i.0) refl h
+opened_at s past who c r x other h = cc
+
+-- what is booked is booked on the queue that the item runs on
+abbrev pub booking_in : Call → Reply → ℕ → Option Booking
+booking_in c r n = option_and_then (booked_by c n) (due_in r)
+
+record BookedAt (past : List Entry) (i : ℕ) (b : Booking) : Type 0 where
+  not_foreign : runs_elsewhere past i b.place.queue.0 ≡ false
+
+booked_as : (past : List Entry) (i j : ℕ) (a b : Booking) → runs_elsewhere past j a.place.queue.0 ≡ false → (j == i) ≡ true → Some a ≡ Some b → BookedAt past i b
+booked_as past i j a b free is h =
+    let same : a ≡ b = cc in
+    record { not_foreign = subst (λ (x : Booking). runs_elsewhere past i x.place.queue.0 ≡ false) same (subst (λ k. runs_elsewhere past k a.place.queue.0 ≡ false) (eqb-true j i is) free) }
+
+booked_at : (s : Layout) (past : List Entry) (who : Who) (c : Call) (r : Reply) (i n : ℕ) (b : Booking) → Cause s past who c r → is_at (option_or (item_called c) (item_fired r)) i ≡ true → booking_in c r n ≡ Some b → BookedAt past i b
+booked_at s past who c r i n b (cause.delayed w j q d t some free idle) is h = booked_as past i j.0 _ b free.not_foreign is h
+booked_at s past who c r i n b (cause.modified_booked w j q d t some free idle) is h = booked_as past i j.0 _ b free.not_foreign is h
+booked_at s past who c r i n b (cause.modified_rebooked w j q d t some free was) is h = booked_as past i j.0 _ b free.not_foreign is h
+booked_at s past who c r i n b other is h = cc
+
+-- ---- what is unstarted after an entry was so before, or is opened by it
+
+data Came (past : List Entry) (e : Entry) (i : ℕ) (x : Queueing) : Type 0 where
+  earlier : unstarted past i ≡ Some x → Came past e i x
+  at_once : opening past e ≡ Some x → Came past e i x
+
+came_here : (past : List Entry) (e : Entry) (i : ℕ) (o : Option Queueing) → opening past e ≡ o → AllByRecursion (Came past e i) (option_to_list o)
+came_here past e i None h = tt
+came_here past e i (Some x) h = (at_once h, tt)
+
+unstarted_came : (s : Layout) (past : List Entry) (e : Entry) (i : ℕ) (x : Queueing) → IsLegal s (e ∷ past) → unstarted (e ∷ past) i ≡ Some x → Came past e i x
+unfolding IsLegal
+unstarted_came s past e i x legal h =
+    let f = find_holds (λ y. is_unstarted (e ∷ past) i y ≡ true → Came past e i y) (is_unstarted (e ∷ past) i) (still_open (e ∷ past)) x (subst (AllByRecursion (λ y. is_unstarted (e ∷ past) i y ≡ true → Came past e i y)) (sym (open_go_on s past e legal)) all) h in
+    f.holds f.passes
+  where
+    was : (y : Queueing) → is_unstarted (e ∷ past) i y ≡ true → is_unstarted past i y ≡ true
+    was y h = grind arith
+
+    all : AllByRecursion (λ y. is_unstarted (e ∷ past) i y ≡ true → Came past e i y) (filter (survives past e) (still_open past) ++ option_to_list (opening past e))
+    all = All_append _ (filter (survives past e) (still_open past)) (option_to_list (opening past e))
+        (All_filter _ (survives past e) (still_open past) (All_map (λ y. is_unstarted past i y ≡ true → unstarted past i ≡ Some y) _ (still_open past) (λ y alone survivors new. earlier (alone (was y new))) (unstarted_alone s past i legal.2)))
+        (All_map (Came past e i) _ (option_to_list (opening past e)) (λ y came new. came) (came_here past e i (opening past e) refl))
+
+-- ---- where an item runs, it is queued and booked
+
+record KeepsTogether (past : List Entry) (i : ℕ) (start : Start) : Type 0 where
+  booked : (b : Booking) → booking past i ≡ Some b → queue_of past start.number ≡ Some b.place.queue.0
+  queued : (x : Queueing) → unstarted past i ≡ Some x → (queue_of past start.number ≡ Some x.place.queue.0) × (x.place.cpu ≡ start.worker.pool.cpu)
+
+not_elsewhere : (past : List Entry) (i q : ℕ) (start : Start) → item_run past i ≡ Some start → runs_elsewhere past i q ≡ false → queue_of past start.number ≡ Some q
+not_elsewhere past i q start runs h = is_at-true (queue_of past start.number) q (flip _ (sym (ap (λ (o : Option Start). option_map_or (λ (st : Start). not (is_at (queue_of past st.number) q)) o false) runs) ∙ h))
+  where
+    flip : (b : Bool) → not b ≡ false → b ≡ true
+    flip true h = refl
+    flip false h = cc
+
+queue_of-older : (e : Entry) (past : List Entry) (n q : ℕ) → queue_of past n ≡ Some q → queue_of (e ∷ past) n ≡ Some q
+queue_of-older e past n q h = at (queueing_at past n) refl h
+  where
+    at : (o : Option Queueing) → queueing_at past n ≡ o → option_map (λ (x : Queueing). x.place.queue.0) o ≡ Some q → queue_of (e ∷ past) n ≡ Some q
+    at None is h = cc
+    at (Some x) is h = ap (option_map (λ (x : Queueing). x.place.queue.0)) (queueing_at-older e past n x is) ∙ h
+
+-- an entry that starts the item's queueing leaves it neither booked nor queued
+starting_quiet : (r : Reply) (n : ℕ) → number_started r ≡ Some n → (settles r ≡ false) × (opens r ≡ false)
+starting_quiet (reply.Started m) n h = (refl, refl)
+starting_quiet (reply.StartedEnlist m x) n h = (refl, refl)
+starting_quiet r n h = cc
+
+pub started_was : (s : Layout) (past : List Entry) (e : Entry) (i n : ℕ) → IsLegal s (e ∷ past) → number_started e.reply ≡ Some n → item_at past n ≡ Some i → (y : Queueing) × (unstarted past i ≡ Some y) × (y.number ≡ n)
+unfolding IsLegal
+started_was s past e i n legal h item =
+    let st = starts_listed s past e n legal (ap (λ o. is_at o n) h ∙ eq-eqb n n refl) in
+    let known = found_known past n st.queueing st.found in
+    let same : st.queueing.item.0 ≡ i = some_same _ _ (sym known.item ∙ ap (item_at past) st.number ∙ item) in
+    let live = listed_live s past st.worker.pool st.queueing st.listed in
+    let new : is_started past st.queueing.number ≡ false = grind arith in
+    let waits : is_unstarted past i st.queueing ≡ true = ap₂ (λ a b. a && not b) (eq-eqb st.queueing.item.0 i same) new in
+    let found = find_holds (λ x. is_live past x ≡ true → is_unstarted past i x ≡ true → unstarted past i ≡ Some x) (has_number n) (queueings past) st.queueing (All_unfilter _ (is_live past) (queueings past) (unstarted_alone s past i legal.2)) st.found in
+    (st.queueing, found.holds live waits, st.number)
+  where
+    some_same : (a b : ℕ) → Some a ≡ Some b → a ≡ b
+    some_same a b h = cc
+
+begun_together : (s : Layout) (past : List Entry) (e : Entry) (i : ℕ) (start : Start) → IsLegal s (e ∷ past) → starts_item past e i ≡ true → start_in e ≡ Some start → KeepsTogether (e ∷ past) i start
+unfolding IsLegal
+begun_together s past e i start legal is h = record {
+  booked = λ b booked. absurd (not_booked b (sym (booking_after past e i false (ap (λ a. a && is_of_item i e) quiet.0)) ∙ booked));
+  queued = λ x queued. absurd (not_queued x queued (unstarted_came s past e i x legal queued));
+}
+  where
+    st : StartsOf past e i start
+    st = starts_of past e i start is h
+
+    quiet : (settles e.reply ≡ false) × (opens e.reply ≡ false)
+    quiet = starting_quiet e.reply start.number st.number
+
+    was : (y : Queueing) × (unstarted past i ≡ Some y) × (y.number ≡ start.number)
+    was = started_was s past e i start.number legal st.number st.item
+
+    not_booked : (b : Booking) → booking past i ≡ Some b → ⊥
+    not_booked b booked = let none = booked_or_unstarted s past i legal.2 (ap is_some booked) in let some = was.1 in cc
+
+    not_queued : (x : Queueing) → unstarted (e ∷ past) i ≡ Some x → Came past e i x → ⊥
+    not_queued x queued (earlier before) =
+        let new : is_started (e ∷ past) x.number ≡ false = (unstarted_is (e ∷ past) i x queued).not_started in
+        let number : x.number ≡ start.number = ap (λ (y : Queueing). y.number) (let same : x ≡ was.0 = let some = was.1 in cc in same) ∙ was.2 in
+        let starts_it : starts x.number e ≡ true = ap (λ o. is_at o x.number) st.number ∙ eq-eqb start.number x.number (sym number) in
+        let started : is_started (e ∷ past) x.number ≡ true = grind arith in
+        cc
+    not_queued x queued (at_once opened) = let bad : true ≡ false = sym (opening_opens past e x opened) ∙ quiet.1 in cc
+
+left_together : (s : Layout) (past : List Entry) (e : Entry) (i : ℕ) (start : Start) → IsLegal s (e ∷ past) → item_run past i ≡ Some start → KeepsTogether past i start → KeepsTogether (e ∷ past) i start
+left_together s past e i start legal runs kept = record {
+  booked = λ b h. queue_of-older e past start.number b.place.queue.0 (books (settles e.reply && is_of_item i e) refl b h);
+  queued = λ x h. let q = queues x h (unstarted_came s past e i x legal h) in (queue_of-older e past start.number x.place.queue.0 q.0, q.1);
+}
+  where
+    of_item : (settles e.reply && is_of_item i e) ≡ true → is_of_item i e ≡ true
+    of_item h = grind arith
+
+    books : (a : Bool) → (settles e.reply && is_of_item i e) ≡ a → (b : Booking) → booking (e ∷ past) i ≡ Some b → queue_of past start.number ≡ Some b.place.queue.0
+    books true ha b h = not_elsewhere past i b.place.queue.0 start runs (booked_at s past e.who e.call e.reply i (length past) b (cause_of s past e legal) (of_item ha) (sym (booking_after past e i true ha) ∙ h)).not_foreign
+    books false ha b h = kept.booked b (sym (booking_after past e i false ha) ∙ h)
+
+    from_queue : (x : Queueing) → QueueFrom past i x.place.queue.0 → queue_of past start.number ≡ Some x.place.queue.0
+    from_queue x (of_run free) = not_elsewhere past i x.place.queue.0 start runs free
+    from_queue x (of_booking b booked same) = kept.booked b booked ∙ ap Some same
+
+    queues : (x : Queueing) → unstarted (e ∷ past) i ≡ Some x → Came past e i x → (queue_of past start.number ≡ Some x.place.queue.0) × (x.place.cpu ≡ start.worker.pool.cpu)
+    queues x h (earlier before) = kept.queued x before
+    queues x h (at_once opened) =
+        let item = (unstarted_is (e ∷ past) i x h).item in
+        let o = opened_at s past e.who e.call e.reply x (cause_of s past e legal) opened in
+        (from_queue x (subst (λ j. QueueFrom past j x.place.queue.0) item o.from), o.is_cpu ∙ ap (λ j. cpu_for past j o.cpu) item ∙ ap (λ (r : Option Start). option_map_or (λ (st : Start). st.worker.pool.cpu) r o.cpu) runs)
+
+together : (s : Layout) (past : List Entry) (i : ℕ) (start : Start) → IsLegal s past → item_run past i ≡ Some start → KeepsTogether past i start
+unfolding IsLegal item_start
+together s [] i start legal h = cc
+together s (e ∷ past) i start legal h = at (starts_item past e i) refl (sym (items_run_on s past e i legal) ∙ h) (together s past i start legal.2)
+  where
+    at : (b : Bool) → starts_item past e i ≡ b → (if b then start_in e else if ends_run e (item_run past i) then None else item_run past i) ≡ Some start → (item_run past i ≡ Some start → KeepsTogether past i start) → KeepsTogether (e ∷ past) i start
+    at true is h until = begun_together s past e i start legal is h
+    at false is h until = let was = left_run e (item_run past i) start h in left_together s past e i start legal was.0 (until was.0)
+
+-- ---- the laws
+
+pub booked_where_it_runs : (s : Layout) (past : List Entry) (i : ℕ) (start : Start) (b : Booking) → IsLegal s past → item_run past i ≡ Some start → booking past i ≡ Some b → queue_of past start.number ≡ Some b.place.queue.0
+booked_where_it_runs s past i start b legal runs h = (together s past i start legal runs).booked b h
+
+pub queued_where_it_runs : (s : Layout) (past : List Entry) (i : ℕ) (start : Start) (x : Queueing) → IsLegal s past → item_run past i ≡ Some start → unstarted past i ≡ Some x → pool_at s x.place ≡ start.worker.pool
+queued_where_it_runs s past i start x legal runs h =
+    let q = (together s past i start legal runs).queued x h in
+    let r = runs_are_in_pools s past start.worker start.number legal (runs_its_item s past i start legal runs) in
+    let queue : r.queueing.place.queue.0 ≡ x.place.queue.0 = some_same _ _ (sym (ap (option_map (λ (y : Queueing). y.place.queue.0)) r.found) ∙ q.0) in
+    let high : (queue_at s x.place.queue.0).high ≡ start.worker.pool.high = ap (λ n. (queue_at s n).high) (sym queue) ∙ ap (λ (p : PoolId). p.high) r.pool in
+    λ i. record { cpu = q.1 i; high = high i }
+  where
+    some_same : (a b : ℕ) → Some a ≡ Some b → a ≡ b
+    some_same a b h = cc

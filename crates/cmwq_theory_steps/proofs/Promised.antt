@@ -1,0 +1,112 @@
+-- Room: the replies that are promised need no more than the history did before, so they are never refused.
+use Rattle.std.proofs.Common.{◌≡◌, ◌≤◌, ◌+◌, ℕ, Bool, true, false, not, ◌&&◌, List, ◌∷◌, length, Option, Some, None, refl, ap, ap₂, ◌∙◌, subst, arith}
+use Rattle.std.specs.Prelude.{◌*◌, option_map, option_and_then, is_some}
+use Rattle.std.specs.Option.{option_or, option_map_or}
+use Rattle.cmwq_model.specs.declared.id.Who.{Who}
+use Rattle.cmwq_model.specs.declared.call.Call.{Call}
+use Rattle.cmwq_model.specs.declared.reply.Reply.{Reply}
+use Rattle.cmwq_model.specs.declared.reply.Reply.TheVariants as reply
+use Rattle.cmwq_model.specs.declared.entry.Entry.{Entry}
+use Rattle.cmwq_model.specs.declared.record.Queueing.{Queueing}
+use Rattle.cmwq_model.specs.Layout.{Layout}
+use Rattle.cmwq_model.specs.Calls.{item_called, item_fired}
+use Rattle.cmwq_model.specs.Bookings.{settles, due_in, booking_of, booked_by, is_booked}
+use Rattle.cmwq_model.specs.Fate.{number_started, number_finished, number_cancelled, is_started}
+use Rattle.cmwq_model.specs.Queueings.{opens, opening}
+use Rattle.cmwq_model.specs.Tickets.{gives_ticket, is_done}
+use Rattle.cmwq_model.specs.Legal.{IsLegal}
+use Rattle.cmwq_model.specs.Room.{has_not_started, owed, needed, none}
+use Rattle.cmwq_theory_steps.specs.Endings.{ending, number_replaced}
+use Rattle.cmwq_theory_steps.specs.Histories.{one}
+use Rattle.cmwq_theory_steps.specs.RoomSteps.{ends_unstarted, settles_booked, is_slept, is_woke, is_frozen_now, is_thawed_now, is_promised}
+use Rattle.cmwq_theory_steps.proofs.Causes.{Cause, cause_of}
+use Rattle.cmwq_theory_steps.proofs.Causes as cause
+use Rattle.cmwq_theory_steps.proofs.Fresh.{takes_back_unstarted, unstarted_is}
+use Rattle.cmwq_theory_steps.proofs.Standing.{due_own}
+use Rattle.cmwq_theory_steps.proofs.Pending.{opening_opens}
+use Rattle.cmwq_theory_steps.proofs.Ended.{ends_which}
+use Rattle.cmwq_theory_steps.proofs.OwedSteps.{runs_counted, sleepers_counted}
+use Rattle.cmwq_theory_steps.proofs.OwedItems.{tickets_counted, booked_counted}
+use Rattle.cmwq_theory_steps.proofs.OwedWaiting.{waiting_counted}
+use Rattle.cmwq_theory_steps.proofs.OwedFrozen.{frozen_counted}
+
+-- ---- what a promised reply gives back is at least what it takes, and its own entry
+
+weight : (r : Reply) (op bk eu ub : ℕ) → op ≤ one (opens r) → bk ≤ one (is_some (due_in r)) → (is_some (number_cancelled r) ≡ true → eu ≡ 1) → (settles r ≡ true → ub ≡ 1) → is_promised r ≡ true
+    → 1 + 2 * op + one (is_some (number_started r)) + one (is_slept r) + 3 * bk + one (gives_ticket r) + one (is_frozen_now r) ≤ 2 * one (is_some (number_started r)) + 2 * eu + one (is_some (number_finished r)) + one (is_woke r) + 3 * ub + one (is_done r) + one (is_thawed_now r)
+weight (reply.Started n) op bk eu ub ho hb he hu h = omega arith
+weight (reply.StartedEnlist n x) op bk eu ub ho hb he hu h = omega arith
+weight (reply.Finished n) op bk eu ub ho hb he hu h = omega arith
+weight reply.Woke op bk eu ub ho hb he hu h = omega arith
+weight (reply.Fired i k) op bk eu ub ho hb he hu h = let pays = hu refl in omega arith
+weight (reply.Cancelled n) op bk eu ub ho hb he hu h = let pays = he refl in omega arith
+weight reply.Unbooked op bk eu ub ho hb he hu h = let pays = hu refl in omega arith
+weight reply.Done op bk eu ub ho hb he hu h = omega arith
+weight (reply.TicketCancelled k n) op bk eu ub ho hb he hu h = let pays = he refl in omega arith
+weight (reply.TicketUnbooked k) op bk eu ub ho hb he hu h = let pays = hu refl in omega arith
+weight reply.Thawed op bk eu ub ho hb he hu h = omega arith
+weight r op bk eu ub ho hb he hu h = cc
+
+opened_most : (past : List Entry) (e : Entry) → one (is_some (opening past e)) ≤ one (opens e.reply)
+opened_most past e = at (opening past e) refl
+  where
+    at : (o : Option Queueing) → opening past e ≡ o → one (is_some o) ≤ one (opens e.reply)
+    at None h = omega arith
+    at (Some x) h = let same : one (opens e.reply) ≡ 1 = ap one (opening_opens past e x h) in omega arith
+
+booked_most : (e : Entry) (n : ℕ) → one (is_some (booking_of e n)) ≤ one (is_some (due_in e.reply))
+booked_most e n = at (due_in e.reply)
+  where
+    few : (b : Bool) → one b ≤ 1
+    few true = omega arith
+    few false = omega arith
+
+    at : (o : Option ℕ) → one (is_some (option_and_then (booked_by e.call n) o)) ≤ one (is_some o)
+    at None = omega arith
+    at (Some d) = few (is_some (booked_by e.call n d))
+
+-- what is cancelled had not started
+cancelled_unstarted : (s : Layout) (past : List Entry) (e : Entry) (n : ℕ) → IsLegal s (e ∷ past) → number_cancelled e.reply ≡ Some n → ends_unstarted past e ≡ true
+cancelled_unstarted s past e n legal h = at (ending past e) (ends_which s past e legal ∙ which e.reply h)
+  where
+    which : (r : Reply) → number_cancelled r ≡ Some n → option_or (number_finished r) (option_or (number_cancelled r) (number_replaced past e)) ≡ Some n
+    which (reply.Cancelled m) h = h
+    which (reply.TicketCancelled k m) h = h
+    which r h = cc
+
+    new : is_started past n ≡ false
+    new = let k = takes_back_unstarted s past e n legal h in subst (λ m. is_started past m ≡ false) k.number (unstarted_is past k.item k.queueing k.is_unstarted).not_started
+
+    at : (o : Option Queueing) → option_map (λ (x : Queueing). x.number) o ≡ Some n → option_map_or (has_not_started past) o false ≡ true
+    at None k = cc
+    at (Some x) k = let same : x.number ≡ n = cc in ap not (ap (is_started past) same ∙ new)
+
+some_number : (o : Option ℕ) → is_some o ≡ true → (n : ℕ) × (o ≡ Some n)
+some_number None h = cc
+some_number (Some n) h = (n, refl)
+
+cancelled_pays : (s : Layout) (past : List Entry) (e : Entry) → IsLegal s (e ∷ past) → is_some (number_cancelled e.reply) ≡ true → one (ends_unstarted past e) ≡ 1
+cancelled_pays s past e legal h = let n = some_number (number_cancelled e.reply) h in ap one (cancelled_unstarted s past e n.0 legal n.1)
+
+-- what a promised reply settles was booked
+was_booked : (s : Layout) (past : List Entry) (who : Who) (c : Call) (r : Reply) → Cause s past who c r → is_promised r ≡ true → settles r ≡ true → option_map_or (is_booked past) (option_or (item_called c) (item_fired r)) false ≡ true
+was_booked s past who c r (cause.unbooked w i none was) h k = was
+was_booked s past who c r (cause.fires w b due) h k = ap is_some (due_own past b due)
+was_booked s past who c r (cause.sync_unbooked w i free none was) h k = was
+was_booked s past who c r other h k = cc
+
+settled_pays : (s : Layout) (past : List Entry) (e : Entry) → IsLegal s (e ∷ past) → is_promised e.reply ≡ true → settles e.reply ≡ true → one (settles_booked past e) ≡ 1
+settled_pays s past e legal h k = ap₂ (λ a b. one (a && b)) k (was_booked s past e.who e.call e.reply (cause_of s past e legal) h k)
+
+pub promised_need_no_more : (s : Layout) (past : List Entry) (e : Entry) → IsLegal s (e ∷ past) → is_promised e.reply ≡ true → needed s (e ∷ past) ≤ needed s past
+unfolding owed
+promised_need_no_more s past e legal h =
+    let pays = weight e.reply (one (is_some (opening past e))) (one (is_some (booking_of e (length past)))) (one (ends_unstarted past e)) (one (settles_booked past e))
+    (opened_most past e) (booked_most e (length past)) (cancelled_pays s past e legal) (settled_pays s past e legal h) h in
+    let waiting = waiting_counted s past e legal in
+    let runs = runs_counted s past e legal in
+    let sleepers = sleepers_counted s past e legal in
+    let booked = booked_counted s past e legal in
+    let tickets = tickets_counted s past e legal in
+    let frozen = frozen_counted s past e legal in
+    omega arith

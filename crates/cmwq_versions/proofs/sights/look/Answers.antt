@@ -1,5 +1,0 @@
-use Rattle.cmwq_versions.proofs.Seats.{looks}
-use Rattle.cmwq_versions.proofs.sights.look.Goals as goal
-
-pub enter_as-requires : goal.enter_as-requires
-enter_as-requires g c x = looks _ _ x
