@@ -12,7 +12,7 @@ use Rattle.cmwq_model.specs.declared.call.Call.{Call}
 use Rattle.cmwq_model.specs.declared.entry.Entry.{Entry}
 use Rattle.cmwq_model.specs.declared.shape.Counts.{Counts}
 use Rattle.cmwq_model.specs.declared.shape.QueueShape.{QueueShape}
-use Rattle.cmwq_model.specs.Layout.{Layout, layout_of, is_layout, are_counts, are_queues, is_queue, is_between, fits, entry_fits, reply_fits}
+use Rattle.cmwq_model.specs.Prelude.{Layout, layout_of, is_layout, are_counts, are_queues, is_queue, is_between, fits, entry_fits, reply_fits, IsWho, IsCall, IsEntry, greatest}
 use Rattle.cmwq_text.specs.Words.{joined}
 use Rattle.cmwq_text.specs.IdText.{who_text}
 use Rattle.cmwq_text.specs.CallText.{call_words, call_text}
@@ -23,7 +23,6 @@ use Rattle.cmwq_text.specs.Numbers.{greatest_number}
 use Rattle.cmwq_text.specs.Formats.{version_name, old_lines, most_lines, line_limit, room_limit, needs_end, allows_queue, allows_entry, counts_of_format, queue_of_format, entry_of_format, calls_name, number_limit, call_of_format}
 use Rattle.cmwq_text.specs.HistoryText.{counts_in, version_text, shape_text, last_text, text_of_format, calls_version_text, calls_text}
 use Rattle.cmwq_text.specs.Laws.{IsLineOf}
-use Rattle.cmwq_model.specs.Ranges.{IsWho, IsCall, IsEntry, greatest}
 use Rattle.cmwq_text.proofs.ReadRanges.{wide_entry, short_entry_is, allowed_call, wide_call_of}
 use Rattle.cmwq_text.proofs.Steps.{both}
 use Rattle.cmwq_text.proofs.EntryLaws.{calls_read_again, entries_read_again}

@@ -10,7 +10,7 @@ use Rattle.cmwq_model.specs.declared.id.Who.{Who}
 use Rattle.cmwq_model.specs.declared.call.Call.{Call}
 use Rattle.cmwq_model.specs.declared.shape.Counts.{Counts}
 use Rattle.cmwq_model.specs.declared.shape.QueueShape.{QueueShape}
-use Rattle.cmwq_model.specs.Layout.{Layout, layout_of, is_layout, fits}
+use Rattle.cmwq_model.specs.Prelude.{Layout, layout_of, is_layout, fits}
 use Rattle.cmwq_text.specs.CallText.{call_text, call_of}
 use Rattle.cmwq_text.specs.ShapeText.{counts_text, queue_text, queue_with, queue_of_calls, begins_queue}
 use Rattle.cmwq_text.specs.Formats.{calls_name, line_limit, counts_of_format, allows_call, call_of_format}

@@ -11,7 +11,7 @@ use Rattle.cmwq_io.specs.declared.lines.Found.TheVariants.{Whole, Cut, Long, End
 use Rattle.cmwq_io.specs.FirstLine.{TakesKnownLine}
 use Rattle.cmwq_model.specs.declared.shape.Counts.{Counts}
 use Rattle.cmwq_model.specs.declared.shape.QueueShape.{QueueShape}
-use Rattle.cmwq_model.specs.Layout.{Layout, layout_of, is_layout}
+use Rattle.cmwq_model.specs.Prelude.{Layout, layout_of, is_layout}
 use Rattle.cmwq_text.specs.ShapeText.{counts_of, begins_queue}
 use Rattle.cmwq_text.specs.EndText.{end_of}
 use Rattle.cmwq_text.specs.Formats.{old_lines, most_lines, line_limit, room_limit, allows_counts, counts_of_format}

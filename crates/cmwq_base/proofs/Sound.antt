@@ -11,8 +11,7 @@ use Rattle.cmwq_model.specs.declared.call.Call.{Call}
 use Rattle.cmwq_model.specs.declared.entry.Entry.{Entry}
 use Rattle.cmwq_model.specs.declared.shape.Counts.{Counts}
 use Rattle.cmwq_model.specs.declared.shape.QueueShape.{QueueShape}
-use Rattle.cmwq_model.specs.Layout.{Layout, layout_of, is_layout}
-use Rattle.cmwq_model.specs.Ranges.{IsWho, IsCall, IsEntry}
+use Rattle.cmwq_model.specs.Prelude.{Layout, layout_of, is_layout, IsWho, IsCall, IsEntry}
 use Rattle.cmwq_text.specs.Numbers.{greatest_number}
 use Rattle.cmwq_text.specs.ShapeText.{begins_queue}
 use Rattle.cmwq_text.specs.Formats.{calls_name, is_calls_line, line_limit, number_limit, counts_of_format}

@@ -11,7 +11,7 @@ use Rattle.std.proofs.lemmas.List.Splits.{join_with_byte-slice_split}
 use Rattle.cmwq_model.specs.declared.entry.Entry.{Entry}
 use Rattle.cmwq_model.specs.declared.shape.Counts.{Counts}
 use Rattle.cmwq_model.specs.declared.shape.QueueShape.{QueueShape}
-use Rattle.cmwq_model.specs.Layout.{Layout, layout_of, is_layout, entry_fits}
+use Rattle.cmwq_model.specs.Prelude.{Layout, layout_of, is_layout, entry_fits}
 use Rattle.cmwq_text.specs.EntryText.{entry_text, entry_of}
 use Rattle.cmwq_text.specs.ShapeText.{counts_text, queue_text, queue_of_history, begins_queue}
 use Rattle.cmwq_text.specs.EndText.{end_text, end_of}

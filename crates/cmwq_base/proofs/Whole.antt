@@ -11,7 +11,7 @@ use Rattle.cmwq_io.specs.FirstLine.{first_line, after_line as rest_of}
 use Rattle.cmwq_model.specs.declared.entry.Entry.{Entry}
 use Rattle.cmwq_model.specs.declared.shape.Counts.{Counts}
 use Rattle.cmwq_model.specs.declared.shape.QueueShape.{QueueShape}
-use Rattle.cmwq_model.specs.Layout.{Layout, layout_of, is_layout}
+use Rattle.cmwq_model.specs.Prelude.{Layout, layout_of, is_layout}
 use Rattle.cmwq_text.specs.Numbers.{greatest_number}
 use Rattle.cmwq_text.specs.Words.{joined}
 use Rattle.cmwq_text.specs.EndText.{end_words, end_text, end_of}

@@ -5,8 +5,7 @@ use Rattle.cmwq_model.specs.declared.id.Who.{Who}
 use Rattle.cmwq_model.specs.declared.call.Call.{Call}
 use Rattle.cmwq_model.specs.declared.entry.Entry.{Entry}
 use Rattle.cmwq_model.specs.declared.shape.QueueShape.{QueueShape}
-use Rattle.cmwq_model.specs.Layout.{layout_of, is_layout}
-use Rattle.cmwq_model.specs.Ranges.{IsWho, IsCall, IsEntry, greatest}
+use Rattle.cmwq_model.specs.Prelude.{layout_of, is_layout, IsWho, IsCall, IsEntry, greatest}
 use Rattle.cmwq_text.specs.Numbers.{greatest_number}
 use Rattle.cmwq_text.specs.Formats.{number_limit, allows_queue, allows_entry}
 use Rattle.cmwq_text.specs.ShapeText.{flags_in, queue_with, width_taken}

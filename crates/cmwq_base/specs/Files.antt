@@ -5,7 +5,7 @@ use Rattle.std.specs.Prelude.{◌≡◌, ◌⊎◌, ℕ, ◌+◌, ◌≤◌, Boo
 use Rattle.std.specs.List.{All}
 use Rattle.cmwq_model.specs.declared.shape.Counts.{Counts}
 use Rattle.cmwq_model.specs.declared.shape.QueueShape.{QueueShape}
-use Rattle.cmwq_model.specs.Layout.{Layout, layout_of, is_layout}
+use Rattle.cmwq_model.specs.Prelude.{Layout, layout_of, is_layout}
 use Rattle.cmwq_text.specs.ShapeText.{begins_queue}
 use Rattle.cmwq_text.specs.EndText.{end_of}
 use Rattle.cmwq_text.specs.Formats.{line_limit, room_limit, counts_of_format}

@@ -1,7 +1,7 @@
 -- A stage of the reader as the definitions see it. What gathers the items is seen as a shape and a list.
 use Rattle.std.specs.Prelude.{◌≡◌, ℕ, ◌+◌, ◌≤◌, true, List, length, IsTrue}
 use Rattle.std.specs.List.{All}
-use Rattle.cmwq_model.specs.Layout.{Layout}
+use Rattle.cmwq_model.specs.Prelude.{Layout}
 use Rattle.cmwq_text.specs.Formats.{line_limit, room_limit}
 use Rattle.cmwq_base.specs.declared.stage.Stage.{Stage as ReaderStage}
 use Rattle.cmwq_base.specs.declared.stage.Stage.TheVariants as reader

@@ -2,8 +2,7 @@
 
 ghost use Rattle.std.specs.Prelude.{◌≡◌, ◌⊎◌, ◌≤◌, length, IfSome, IfOk, IsErrOf, IsTrue};
 ghost use Rattle.std.specs.List.{All};
-ghost use Rattle.cmwq_model.specs.Layout.{fits};
-ghost use Rattle.cmwq_model.specs.Verdict.{AllFit};
+ghost use Rattle.cmwq_model.specs.Prelude.{fits, AllFit};
 ghost use Rattle.cmwq_text.specs.Formats.{line_limit, room_limit};
 ghost use Rattle.cmwq_io.specs.Counts.{Rises};
 ghost use Rattle.cmwq_base.specs.Gives.{Gives};

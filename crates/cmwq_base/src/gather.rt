@@ -7,7 +7,7 @@ use std::alloc::Global;
 /// Takes what the lines of a file say, in the order in which they stand. Contracts see all that it took, whatever it keeps.
 pub trait Gather: Sized {
     ghost use Rattle.std.specs.Prelude.{◌≡◌, ◌<◌, ◌++◌, ◌∷◌, [], List, length, IfOk, OnOk, IsTrue};
-    ghost use Rattle.cmwq_model.specs.Layout.{Layout};
+    ghost use Rattle.cmwq_model.specs.Prelude.{Layout};
     ghost use Rattle.cmwq_text.specs.Formats.{most_lines};
     ghost use Rattle.cmwq_base.specs.Lines.{IsNextLine};
 

@@ -1,7 +1,7 @@
 //! The calls of a file, made in a Book and timed: what `cmwq step` does between its reading and its writing.
 
 ghost use Rattle.std.specs.Prelude.{◌≡◌, ◌≤◌, IsTrue, All};
-ghost use Rattle.cmwq_model.specs.Layout.{fits};
+ghost use Rattle.cmwq_model.specs.Prelude.{fits};
 
 use anyhow::{Result, ensure};
 use cmwq_base::{Call, CallFile, FromStd, Who, read_calls};

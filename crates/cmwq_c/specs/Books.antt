@@ -3,7 +3,7 @@ use Rattle.std.specs.Prelude.{Bool, ◌&&◌, if◌then◌else◌, Option, Some,
 use Rattle.cmwq_model.specs.declared.id.Who.{Who}
 use Rattle.cmwq_model.specs.declared.id.Who.TheVariants.{Caller, Worker}
 use Rattle.cmwq_model.specs.declared.call.Call.{Call}
-use Rattle.cmwq_model.specs.Layout.{Layout, fits}
+use Rattle.cmwq_model.specs.Prelude.{Layout, fits}
 use Rattle.cmwq_tail_book.specs.declared.book.Unmade.{Unmade}
 use Rattle.cmwq_tail_book.specs.declared.book.Unmade.TheVariants as unmade
 use Rattle.cmwq_tail_book.specs.Lasting.{Lasting, unmade_by}

@@ -3,7 +3,7 @@ use Rattle.std.specs.Prelude.{◌≡◌, ℕ, ◌==◌, Bool, if◌then◌else�
 use Rattle.cmwq_model.specs.declared.id.Who.{Who}
 use Rattle.cmwq_model.specs.declared.call.Call.{Call}
 use Rattle.cmwq_model.specs.declared.entry.Entry.{Entry}
-use Rattle.cmwq_model.specs.Layout.{Layout}
+use Rattle.cmwq_model.specs.Prelude.{Layout}
 use Rattle.cmwq_core.specs.History.{next_entry}
 use Rattle.cmwq_text.specs.EntryText.{entry_text}
 use Rattle.cmwq_c.specs.declared.session.Refusal.{Refusal}

@@ -2,18 +2,16 @@
 #![tactic(auto)]
 
 ghost use Rattle.std.specs.Prelude.{◌≡◌, ◌≢◌, ◌⊎◌, ◌+◌, ℕ, true, false, List, length, count_by, Some, None, Err, IfSome, nat_lt};
-ghost use Rattle.cmwq_model.specs.Layout.{is_layout};
+ghost use Rattle.cmwq_model.specs.declared.verdict.Illegal.{Illegal};
+ghost use Rattle.cmwq_model.specs.Prelude.{is_layout, still_open, is_active};
 ghost use Rattle.cmwq_model.specs.Calls as calls;
 ghost use Rattle.cmwq_model.specs.Legal as legal;
-ghost use Rattle.cmwq_model.specs.Queueings.{still_open};
-ghost use Rattle.cmwq_model.specs.Active.{is_active};
 ghost use Rattle.cmwq_text.specs.CallText.{call_of};
 ghost use Rattle.cmwq_text.specs.EntryText.{entry_text};
 ghost use Rattle.cmwq_core.specs.History.{next_entry, past_in, is_ready};
 ghost use Rattle.cmwq_tail_book.specs.Lasting.{opened, with_made, with_none_kept, entry_at};
 ghost use Rattle.cmwq_c.specs.Books.{is_inside};
 ghost use Rattle.cmwq_c.specs.Numbers.{shape_of, who_of, asked_of, reply_numbers, entry_numbers};
-ghost use Rattle.cmwq_model.specs.declared.verdict.Illegal.{Illegal};
 ghost use Rattle.cmwq_base.specs.declared.refusal.Refusal.{Refusal};
 ghost use Rattle.cmwq_base.specs.Kinds.{history_file_of};
 ghost use Rattle.cmwq_c.specs.Verdicts.{Judges};

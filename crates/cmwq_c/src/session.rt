@@ -1,10 +1,7 @@
 //! A book with its shape, so that each call of C is tried before it is made.
 ghost use Rattle.std.specs.Prelude.{◌≡◌, ◌+◌, ◌<◌, ◌≤◌, true, length, count_by, None, Some, IfOk, IfErr, OnErr, IfSome, is_some, slice_get, nat_lt, IsTrue};
-ghost use Rattle.cmwq_model.specs.Layout.{fits, is_layout};
-ghost use Rattle.cmwq_model.specs.Calls.{serial_of};
+ghost use Rattle.cmwq_model.specs.Prelude.{fits, is_layout, serial_of, still_open, is_active};
 ghost use Rattle.cmwq_model.specs.Legal as legal;
-ghost use Rattle.cmwq_model.specs.Queueings.{still_open};
-ghost use Rattle.cmwq_model.specs.Active.{is_active};
 ghost use Rattle.cmwq_core.specs.History.{next_entry, past_in, is_ready};
 ghost use Rattle.cmwq_core.specs.Plans.{IsPlan};
 ghost use Rattle.cmwq_tail_book.specs.Lasting.{opened, with_made, with_none_kept, has_space, entry_at};

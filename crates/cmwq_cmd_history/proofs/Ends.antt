@@ -4,11 +4,10 @@ use Rattle.std.proofs.lemmas.List.{reverse-reverse}
 use Rattle.std.specs.Prelude.{IfSome, reverse}
 use Rattle.std.specs.Io.KnownBytes.{Appends}
 use Rattle.cmwq_io.specs.Moves.{AppendsFront}
-use Rattle.cmwq_model.specs.Legal.{past_of}
-use Rattle.cmwq_model.specs.Room.{Steps}
 use Rattle.cmwq_model.specs.declared.entry.Entry.{Entry}
 use Rattle.cmwq_model.specs.declared.id.Who.{Who}
 use Rattle.cmwq_model.specs.declared.call.Call.{Call}
+use Rattle.cmwq_model.specs.Prelude.{past_of, Steps}
 use Rattle.cmwq_text.specs.HistoryText.{text_of_format}
 use Rattle.cmwq_base.specs.declared.refusal.Refusal.{Refusal}
 use Rattle.cmwq_base.specs.declared.refusal.Refusal.TheVariants as refusal

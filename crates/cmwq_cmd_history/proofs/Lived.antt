@@ -8,9 +8,7 @@ use Rattle.std.proofs.lemmas.List.Sums.{fold-append}
 use Rattle.cmwq_model.specs.declared.id.Who.{Who}
 use Rattle.cmwq_model.specs.declared.call.Call.{Call}
 use Rattle.cmwq_model.specs.declared.entry.Entry.{Entry}
-use Rattle.cmwq_model.specs.Layout.{Layout}
-use Rattle.cmwq_model.specs.Legal.{entry_for}
-use Rattle.cmwq_model.specs.Room.{Steps, none, step, steps, has_room}
+use Rattle.cmwq_model.specs.Prelude.{Layout, entry_for, Steps, none, step, steps, has_room}
 use Rattle.cmwq_text.specs.EntryText.{entry_text}
 use Rattle.cmwq_text.specs.HistoryText.{entries_text}
 use Rattle.cmwq_core.specs.History.{History, past_in, takes, next_entry, with_entry}

@@ -14,8 +14,7 @@ use Rattle.cmwq_model.specs.declared.id.Who.{Who}
 use Rattle.cmwq_model.specs.declared.call.Call.{Call}
 use Rattle.cmwq_model.specs.declared.shape.Counts.{Counts}
 use Rattle.cmwq_model.specs.declared.shape.QueueShape.{QueueShape}
-use Rattle.cmwq_model.specs.Layout.{Layout, layout_of, is_layout}
-use Rattle.cmwq_model.specs.Room.{Steps, steps}
+use Rattle.cmwq_model.specs.Prelude.{Layout, layout_of, is_layout, Steps, steps}
 use Rattle.cmwq_text.specs.Formats.{line_limit}
 use Rattle.cmwq_text.specs.HistoryText.{head_text, last_text}
 use Rattle.cmwq_base.specs.declared.refusal.Refusal.{Refusal}

@@ -11,8 +11,7 @@ use Rattle.cmwq_model.specs.declared.id.Who.{Who}
 use Rattle.cmwq_model.specs.declared.call.Call.{Call}
 use Rattle.cmwq_model.specs.declared.shape.Counts.{Counts}
 use Rattle.cmwq_model.specs.declared.shape.QueueShape.{QueueShape}
-use Rattle.cmwq_model.specs.Layout.{Layout, layout_of, is_layout}
-use Rattle.cmwq_model.specs.Room.{Steps, none, step, steps, has_room}
+use Rattle.cmwq_model.specs.Prelude.{Layout, layout_of, is_layout, Steps, none, step, steps, has_room}
 use Rattle.cmwq_text.specs.ShapeText.{begins_queue}
 use Rattle.cmwq_text.specs.Formats.{calls_name, line_limit, counts_of_format}
 use Rattle.cmwq_text.specs.HistoryText.{entries_text, head_text}

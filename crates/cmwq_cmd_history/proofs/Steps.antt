@@ -2,8 +2,7 @@
 use Rattle.std.proofs.Common.{◌≡◌, ℕ, ◌+◌, true, false, ◌∷◌, refl, sym}
 use Rattle.cmwq_model.specs.declared.id.Who.{Who}
 use Rattle.cmwq_model.specs.declared.call.Call.{Call}
-use Rattle.cmwq_model.specs.Layout.{Layout}
-use Rattle.cmwq_model.specs.Room.{Steps, step}
+use Rattle.cmwq_model.specs.Prelude.{Layout, Steps, step}
 use Rattle.cmwq_core.specs.History.{History, past_in, takes, next_entry}
 
 module _ (s : Layout) (room : ℕ) (h : History) (layout_is : h.layout ≡ s) (room_is : h.room ≡ room) where

@@ -5,15 +5,11 @@ use Rattle.std.proofs.lemmas.Bool.{le-leb}
 use Rattle.std.proofs.lemmas.List.{reverse-append}
 use Rattle.std.proofs.lemmas.Option.{same_Some}
 use Rattle.cmwq_model.specs.declared.call.Call.{Call}
-use Rattle.cmwq_model.specs.declared.call.Call.TheVariants as call
 use Rattle.cmwq_model.specs.declared.reply.Reply.{Reply}
-use Rattle.cmwq_model.specs.declared.reply.Reply.TheVariants as reply
 use Rattle.cmwq_model.specs.declared.entry.Entry.{Entry}
-use Rattle.cmwq_model.specs.Layout.{Layout}
-use Rattle.cmwq_model.specs.Calls.{now, ticks_told}
-use Rattle.cmwq_model.specs.Answer.{answer}
-use Rattle.cmwq_model.specs.Legal.{past_of, entry_for}
-use Rattle.cmwq_model.specs.Room.{has_time, most_time}
+use Rattle.cmwq_model.specs.Prelude.{Layout, now, ticks_told, answer, past_of, entry_for, has_time, most_time}
+use Rattle.cmwq_model.specs.declared.call.Call.TheVariants as call
+use Rattle.cmwq_model.specs.declared.reply.Reply.TheVariants as reply
 use Rattle.cmwq_text.specs.EntryText.{entry_of}
 use Rattle.cmwq_text.specs.Formats.{allows_entry, is_timely, entry_of_format, old_lines, most_lines, by_age}
 use Rattle.cmwq_text.proofs.Steps.{bind_some, chosen}

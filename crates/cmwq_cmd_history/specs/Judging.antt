@@ -2,10 +2,7 @@
 use Rattle.std.specs.Prelude.{◌≡◌, ◌≤◌, ◌*◌, ◌^◌, List, length, Option, None, Some}
 use Rattle.cmwq_model.specs.declared.entry.Entry.{Entry}
 use Rattle.cmwq_model.specs.declared.verdict.Illegal.{Illegal}
-use Rattle.cmwq_model.specs.Layout.{Layout}
-use Rattle.cmwq_model.specs.Calls.{now}
-use Rattle.cmwq_model.specs.Legal.{IsLegal, past_of}
-use Rattle.cmwq_model.specs.Verdict.{IsFirstWrong}
+use Rattle.cmwq_model.specs.Prelude.{Layout, now, IsLegal, past_of, IsFirstWrong}
 use Rattle.cmwq_core.specs.Judged.{Judged}
 
 pub record Seen : Type 0 where

@@ -5,9 +5,7 @@ use Rattle.cmwq_io.specs.Moves.{AppendsFront}
 use Rattle.cmwq_model.specs.declared.id.Who.{Who}
 use Rattle.cmwq_model.specs.declared.call.Call.{Call}
 use Rattle.cmwq_model.specs.declared.entry.Entry.{Entry}
-use Rattle.cmwq_model.specs.Layout.{Layout}
-use Rattle.cmwq_model.specs.Legal.{entry_for, past_of}
-use Rattle.cmwq_model.specs.Room.{Steps, step, steps, none, has_room}
+use Rattle.cmwq_model.specs.Prelude.{Layout, entry_for, past_of, Steps, step, steps, none, has_room}
 use Rattle.cmwq_core.specs.History.{History, past_in}
 use Rattle.cmwq_text.specs.EntryText.{entry_text}
 use Rattle.cmwq_text.specs.HistoryText.{head_text, body_text, last_text}

@@ -1,7 +1,7 @@
 //! A history that is judged while it is read.
 
 ghost use Rattle.std.specs.Prelude.{◌≡◌, ◌<◌, ◌++◌, ◌∷◌, [], IsTrue, true, is_ok, length};
-ghost use Rattle.cmwq_model.specs.Layout.{entry_fits};
+ghost use Rattle.cmwq_model.specs.Prelude.{entry_fits};
 ghost use Rattle.cmwq_text.specs.Formats.{most_lines};
 ghost use Rattle.cmwq_base.specs.Kinds.{history_kind};
 ghost use Rattle.cmwq_base.specs.Lines.{IsNextLine};

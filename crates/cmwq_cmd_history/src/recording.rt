@@ -1,7 +1,7 @@
 //! Calls whose steps are made while they are read, and whose entries are kept.
 
 ghost use Rattle.std.specs.Prelude.{◌≡◌};
-ghost use Rattle.cmwq_model.specs.Legal.{past_of};
+ghost use Rattle.cmwq_model.specs.Prelude.{past_of};
 ghost use Rattle.cmwq_cmd_history.specs.Live.{lived};
 
 use crate::stepping::Stepping;

@@ -1,7 +1,7 @@
 //! Calls whose steps are made while they are read.
 
 ghost use Rattle.std.specs.Prelude.{◌≡◌, ◌<◌, ◌++◌, ◌∷◌, [], true, is_ok, length, IsTrue};
-ghost use Rattle.cmwq_model.specs.Layout.{fits};
+ghost use Rattle.cmwq_model.specs.Prelude.{fits};
 ghost use Rattle.cmwq_text.specs.Formats.{most_lines};
 ghost use Rattle.cmwq_base.specs.Kinds.{calls_kind};
 ghost use Rattle.cmwq_base.specs.Lines.{IsNextLine};

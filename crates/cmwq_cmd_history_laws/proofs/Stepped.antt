@@ -6,9 +6,7 @@ use Rattle.std.proofs.lemmas.List.{get_or-reverse, length-reverse}
 use Rattle.cmwq_model.specs.declared.id.Who.{Who}
 use Rattle.cmwq_model.specs.declared.call.Call.{Call}
 use Rattle.cmwq_model.specs.declared.entry.Entry.{Entry}
-use Rattle.cmwq_model.specs.Layout.{Layout}
-use Rattle.cmwq_model.specs.Legal.{entry_for}
-use Rattle.cmwq_model.specs.Room.{Steps, has_room, step, steps, none}
+use Rattle.cmwq_model.specs.Prelude.{Layout, entry_for, Steps, has_room, step, steps, none}
 
 module _ (s : Layout) (room : ℕ) where
   -- one step, by whether the call has room

@@ -5,11 +5,7 @@ use Rattle.cmwq_model.specs.declared.id.Who.{Who}
 use Rattle.cmwq_model.specs.declared.call.Call.{Call}
 use Rattle.cmwq_model.specs.declared.entry.Entry.{Entry}
 use Rattle.cmwq_model.specs.declared.verdict.Illegal.{Illegal}
-use Rattle.cmwq_model.specs.Layout.{Layout, is_layout}
-use Rattle.cmwq_model.specs.Calls.{now}
-use Rattle.cmwq_model.specs.Legal.{IsLegal, past_of}
-use Rattle.cmwq_model.specs.Ranges.{IsWho, IsCall}
-use Rattle.cmwq_model.specs.Room.{most_time}
+use Rattle.cmwq_model.specs.Prelude.{Layout, is_layout, now, IsLegal, past_of, IsWho, IsCall, most_time}
 use Rattle.cmwq_text.specs.Numbers.{greatest_number}
 use Rattle.cmwq_text.specs.Formats.{most_lines}
 use Rattle.cmwq_text.specs.HistoryText.{text_of_format}

@@ -4,7 +4,7 @@ use Rattle.std.specs.Prelude.{IfSome}
 use Rattle.std.specs.Io.KnownBytes.{Appends}
 use Rattle.serde_json.specs.Data.{Data}
 use Rattle.cmwq_input.specs.Inputs.{IsJson}
-use Rattle.cmwq_json.specs.Scenarios.{PlanWithNames, scenario_of}
+use Rattle.cmwq_json_scenario.specs.Scenarios.{PlanWithNames, scenario_of}
 use Rattle.cmwq_cmd_replay.specs.Replay.{ReplayEnds, table_text}
 
 -- the table of the scenario that was read is written

@@ -8,7 +8,7 @@ use Rattle.cmwq_input.specs.declared.fault.Fault.{Fault}
 use Rattle.cmwq_input.specs.declared.fault.Fault.TheVariants as fault
 use Rattle.cmwq_input.specs.Inputs.{Says, IsNoJson, IsLong}
 use Rattle.cmwq_input.specs.Statuses.{fault_status}
-use Rattle.cmwq_json.specs.Scenarios.{PlanWithNames, scenario_of}
+use Rattle.cmwq_json_scenario.specs.Scenarios.{PlanWithNames, scenario_of}
 
 -- the table of a scenario: the text of its lines, with the names of its items
 abbrev pub table_text : PlanWithNames → List ℕ

@@ -5,12 +5,12 @@ ghost use Rattle.serde_json.specs.View.{view};
 ghost use Rattle.cmwq_io.specs.Counts.{Rises};
 ghost use Rattle.cmwq_input.specs.declared.fault.Fault.{Fault as TheFault};
 ghost use Rattle.cmwq_input.specs.declared.refused.Refused.{Refused as TheRefused};
-ghost use Rattle.cmwq_json.specs.Scenarios.{PlanWithNames, scenario_of};
+ghost use Rattle.cmwq_json_scenario.specs.Scenarios.{PlanWithNames, scenario_of};
 ghost use Rattle.cmwq_cmd_replay.specs.Replay.{ReplayEnds, table_text, replay_status};
 
 use cmwq_input::{Fault, fault_status, read_value, write_text};
 use cmwq_io::{Sink, Source, tell};
-use cmwq_json::read_scenario;
+use cmwq_json_scenario::read_scenario;
 use cmwq_sim::spell_lines;
 use serde_json::Value;
 use std::alloc::Global;

@@ -3,7 +3,7 @@ use Rattle.std.specs.Prelude.{◌≡◌, ◌⊎◌, ℕ, zero, suc, List, Result
 use Rattle.std.specs.Io.KnownBytes.{Keeps, Appends}
 use Rattle.cmwq_io.specs.Moves.{AppendsFront}
 use Rattle.cmwq_model.specs.declared.entry.Entry.{Entry}
-use Rattle.cmwq_model.specs.Legal.{IsLegal, past_of}
+use Rattle.cmwq_model.specs.Prelude.{IsLegal, past_of}
 use Rattle.cmwq_text.specs.HistoryText.{text_of_format}
 use Rattle.cmwq_input.specs.declared.fault.Fault.{Fault}
 use Rattle.cmwq_input.specs.declared.fault.Fault.TheVariants as fault

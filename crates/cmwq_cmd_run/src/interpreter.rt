@@ -1,6 +1,6 @@
 //! The work functions of a script: what each item does when it runs.
 ghost use Rattle.std.specs.Prelude.{◌≡◌, ◌<◌, true, false, IfOk, IfErr, None, Some};
-ghost use Rattle.cmwq_model.specs.Layout.{has_numbers};
+ghost use Rattle.cmwq_model.specs.Prelude.{has_numbers};
 ghost use Rattle.cmwq_monitor.specs.Calls.{Extends};
 ghost use Rattle.cmwq_monitor.specs.Faults.{Refused, is_full};
 ghost use Rattle.cmwq_monitor.specs.declared.fault.RunFault.TheVariants.{Full};

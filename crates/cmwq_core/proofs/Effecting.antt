@@ -8,16 +8,14 @@ use Rattle.cmwq_model.specs.declared.id.PoolId.{PoolId}
 use Rattle.cmwq_model.specs.declared.id.Who.{Who}
 use Rattle.cmwq_model.specs.declared.id.Who.TheVariants.{Caller, Worker}
 use Rattle.cmwq_model.specs.declared.reply.Reply.{Reply}
-use Rattle.cmwq_model.specs.declared.reply.Reply.TheVariants as reply
 use Rattle.cmwq_model.specs.declared.entry.Entry.{Entry}
 use Rattle.cmwq_model.specs.declared.record.Queueing.{Queueing}
 use Rattle.cmwq_model.specs.declared.record.Start.{Start}
-use Rattle.cmwq_model.specs.Layout.{Layout}
-use Rattle.cmwq_model.specs.Calls.{item_of}
-use Rattle.cmwq_model.specs.Fate.{number_started}
-use Rattle.cmwq_model.specs.Runs.{item_run}
-use Rattle.cmwq_model.specs.Queueings.{unstarted, queueing_at, cpu_for, is_unstarted, still_open}
-use Rattle.cmwq_model.specs.Legal.{IsLegal}
+use Rattle.cmwq_model.specs.declared.call.Call.{Call}
+use Rattle.cmwq_model.specs.declared.record.Booking.{Booking}
+use Rattle.cmwq_model.specs.Prelude.{Layout, item_of, number_started, item_run, unstarted, queueing_at, cpu_for, is_unstarted, still_open, IsLegal, fits, may_make, has_numbers}
+use Rattle.cmwq_model.specs.Prelude.{booking_of, is_started, opening, owed, has_not_started, run}
+use Rattle.cmwq_model.specs.declared.reply.Reply.TheVariants as reply
 use Rattle.cmwq_theory_steps.specs.Endings.{ending}
 use Rattle.cmwq_theory_steps.specs.ItemQueueings.{queueing_run, ended_by}
 use Rattle.cmwq_theory_steps.proofs.EndsAsTold.{ends_as_told, runs_are_queueings, unstarted_found}
@@ -26,20 +24,12 @@ use Rattle.cmwq_refinement.proofs.Members.{found}
 use Rattle.std.proofs.Common.{◌-◌, ◌≤◌, ◌+◌, ◌*◌, ◌==◌, Bool, true, false, not, is_some, arith}
 use Rattle.std.proofs.Common.{nat_lt, nat_le}
 use Rattle.std.proofs.lemmas.Bool.{and_parts, ltb-true}
-use Rattle.cmwq_model.specs.declared.call.Call.{Call}
 use Rattle.cmwq_model.specs.declared.call.Call.TheVariants as call
-use Rattle.cmwq_model.specs.Layout.{fits, may_make, has_numbers}
 use Rattle.cmwq_refinement.proofs.FirstDue.{timers_may_be_told}
 use Rattle.cmwq_refinement.proofs.Settled.{place_fits}
 use Rattle.cmwq_core.specs.Book.{IsCallInside}
 use Rattle.cmwq_state.specs.Tables.{IsThere}
 use Rattle.cmwq_state.proofs.Steps.{fits_there}
-use Rattle.cmwq_model.specs.declared.record.Booking.{Booking}
-use Rattle.cmwq_model.specs.Bookings.{booking_of}
-use Rattle.cmwq_model.specs.Fate.{is_started}
-use Rattle.cmwq_model.specs.Queueings.{opening}
-use Rattle.cmwq_model.specs.Room.{owed, has_not_started}
-use Rattle.cmwq_model.specs.Runs.{run}
 use Rattle.cmwq_theory_steps.specs.Histories.{one}
 use Rattle.cmwq_theory_steps.specs.RoomSteps.{ends_unstarted, settles_booked}
 use Rattle.cmwq_theory_steps.proofs.Owing.{owed_goes_on}

@@ -5,8 +5,8 @@ use Rattle.std.proofs.lemmas.Option.{same_Some}
 use Rattle.cmwq_model.specs.declared.id.ItemId.{ItemId}
 use Rattle.cmwq_model.specs.declared.entry.Entry.{Entry}
 use Rattle.cmwq_model.specs.declared.record.Booking.{Booking}
+use Rattle.cmwq_model.specs.Prelude.{first_due, fired}
 use Rattle.cmwq_model.specs.declared.reply.Reply.TheVariants as reply
-use Rattle.cmwq_model.specs.Answer.{first_due, fired}
 use Rattle.cmwq_refinement.specs.Timers.{item_due}
 
 pub fires : (past : List Entry) (i : ItemId) (n : ℕ) → item_due past ≡ Some i → reply.Fired i n ≡ fired (first_due past) n

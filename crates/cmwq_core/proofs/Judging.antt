@@ -5,13 +5,9 @@ use Rattle.std.proofs.lemmas.List.{take_more, reverse-append, length-take-le}
 use Rattle.cmwq_model.specs.declared.entry.Entry.{Entry}
 use Rattle.cmwq_model.specs.declared.verdict.Wanted.{Wanted}
 use Rattle.cmwq_model.specs.declared.call.Call.{Call}
+use Rattle.cmwq_model.specs.Prelude.{Layout, now, ticks_told, has_time, most_time, IsLegal, past_of, entry_for, AllFit, Wants, IsFirstWrong}
 use Rattle.cmwq_model.specs.declared.call.Call.TheVariants as call
-use Rattle.cmwq_model.specs.Layout.{Layout}
-use Rattle.cmwq_model.specs.Calls.{now, ticks_told}
-use Rattle.cmwq_model.specs.Room.{has_time, most_time}
 use Rattle.std.proofs.lemmas.Bool.{le-leb}
-use Rattle.cmwq_model.specs.Legal.{IsLegal, past_of, entry_for}
-use Rattle.cmwq_model.specs.Verdict.{AllFit, Wants, IsFirstWrong}
 use Rattle.cmwq_core.specs.History.{History, next_entry, with_entry}
 
 -- the book beside the entries, when so many are judged

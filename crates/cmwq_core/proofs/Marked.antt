@@ -6,17 +6,12 @@ use Rattle.std.proofs.lemmas.Bool.{eqb-true}
 use Rattle.std.proofs.lemmas.Option.{same_Some}
 use Rattle.cmwq_model.specs.declared.id.ItemId.{ItemId}
 use Rattle.cmwq_model.specs.declared.reply.Reply.{Reply}
-use Rattle.cmwq_model.specs.declared.reply.Reply.TheVariants as reply
 use Rattle.cmwq_model.specs.declared.entry.Entry.{Entry}
 use Rattle.cmwq_model.specs.declared.record.Queueing.{Queueing}
-use Rattle.cmwq_model.specs.Layout.{Layout}
 use Rattle.cmwq_model.specs.declared.record.Ticket.{Ticket}
-use Rattle.cmwq_model.specs.Tickets.{unended}
-use Rattle.cmwq_model.specs.Calls.{is_at, is_of_item, item_of, item_at, item_called, item_fired}
-use Rattle.cmwq_model.specs.Bookings.{settles, booking, booking_of, is_booked}
-use Rattle.cmwq_model.specs.Fate.{number_started, number_finished}
-use Rattle.cmwq_model.specs.Queueings.{queueing_at, unstarted, is_pending, opening}
-use Rattle.cmwq_model.specs.Legal.{IsLegal, bits}
+use Rattle.cmwq_model.specs.Prelude.{Layout, unended, is_at, is_of_item, item_of, item_at, item_called, item_fired, settles, booking, booking_of, is_booked, number_started}
+use Rattle.cmwq_model.specs.Prelude.{number_finished, queueing_at, unstarted, is_pending, opening, IsLegal, bits}
+use Rattle.cmwq_model.specs.declared.reply.Reply.TheVariants as reply
 use Rattle.cmwq_refinement.proofs.Members.{found, in_contained}
 use Rattle.cmwq_state.proofs.Told.{open_there}
 use Rattle.cmwq_theory_steps.specs.Marks.{item_marked}

@@ -9,14 +9,8 @@ use Rattle.std.proofs.lemmas.List.FromFn.{length-range_with_len}
 use Rattle.std.proofs.lemmas.List.Sums.{count_by-le-length}
 use Rattle.cmwq_model.specs.declared.id.PoolId.{PoolId}
 use Rattle.cmwq_model.specs.declared.entry.Entry.{Entry}
-use Rattle.cmwq_model.specs.Layout.{Layout, is_layout, indices}
-use Rattle.cmwq_model.specs.Bookings.{is_booked}
-use Rattle.cmwq_model.specs.Runs.{has_run, runs_asleep}
-use Rattle.cmwq_model.specs.Queueings.{still_open}
-use Rattle.cmwq_model.specs.Widths.{is_frozen}
-use Rattle.cmwq_model.specs.Workers.{worker_at}
-use Rattle.cmwq_model.specs.Legal.{IsLegal}
-use Rattle.cmwq_model.specs.Room.{owed, workers, cpu_workers, pool_workers, has_not_started}
+use Rattle.cmwq_model.specs.Prelude.{Layout, is_layout, indices, is_booked, has_run, runs_asleep, still_open, is_frozen, worker_at, IsLegal, owed, workers, cpu_workers}
+use Rattle.cmwq_model.specs.Prelude.{pool_workers, has_not_started}
 use Rattle.cmwq_theory_steps.proofs.Limits.{two_for_each_item}
 use Rattle.cmwq_refinement.proofs.LayoutLimits.{items_few}
 use Rattle.cmwq_refinement.proofs.TicketLimits.{unended_few}

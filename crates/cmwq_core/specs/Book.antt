@@ -1,8 +1,8 @@
 -- Which calls a book may be asked to answer.
 use Rattle.std.specs.Prelude.{◌<◌, length}
 use Rattle.cmwq_model.specs.declared.call.Call.{Call}
+use Rattle.cmwq_model.specs.Prelude.{Layout}
 use Rattle.cmwq_model.specs.declared.call.Call.TheVariants as call
-use Rattle.cmwq_model.specs.Layout.{Layout}
 
 -- the numbers of the call are inside the layout
 abbrev pub IsCallInside : Layout → Call → Type 0

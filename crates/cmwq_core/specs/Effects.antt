@@ -3,14 +3,10 @@ use Rattle.std.specs.Prelude.{◌≡◌, ℕ, ◌+◌, ◌*◌, ◌<◌, Bool, f
 use Rattle.cmwq_model.specs.declared.id.Who.{Who}
 use Rattle.cmwq_model.specs.declared.id.Who.TheVariants.{Caller, Worker}
 use Rattle.cmwq_model.specs.declared.reply.Reply.{Reply}
-use Rattle.cmwq_model.specs.declared.reply.Reply.TheVariants as reply
 use Rattle.cmwq_model.specs.declared.record.Queueing.{Queueing}
 use Rattle.cmwq_model.specs.declared.entry.Entry.{Entry}
-use Rattle.cmwq_model.specs.Active.{next}
-use Rattle.cmwq_model.specs.Fate.{number_started, number_finished}
-use Rattle.cmwq_model.specs.Tickets.{gives_ticket, is_done}
-use Rattle.cmwq_model.specs.Layout.{Layout}
-use Rattle.cmwq_model.specs.Calls.{item_of}
+use Rattle.cmwq_model.specs.Prelude.{next, number_started, number_finished, gives_ticket, is_done, Layout, item_of}
+use Rattle.cmwq_model.specs.declared.reply.Reply.TheVariants as reply
 use Rattle.cmwq_theory_steps.specs.Histories.{one}
 use Rattle.cmwq_theory_steps.specs.RoomSteps.{is_slept, is_woke, is_frozen_now, is_thawed_now}
 

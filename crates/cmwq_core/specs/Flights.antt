@@ -2,7 +2,7 @@
 use Rattle.std.specs.Prelude.{ℕ, ◌==◌, true, false, if◌then◌else◌, Option, Some, None, is_some}
 use Rattle.cmwq_model.specs.declared.record.Queueing.{Queueing}
 use Rattle.cmwq_model.specs.declared.reply.Reply.{Reply}
-use Rattle.cmwq_model.specs.Fate.{number_finished}
+use Rattle.cmwq_model.specs.Prelude.{number_finished}
 use Rattle.cmwq_inflight.specs.Flights.{Flight}
 use Rattle.cmwq_core.specs.declared.marks.Standing.{Standing}
 

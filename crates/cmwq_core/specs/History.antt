@@ -8,13 +8,7 @@ use Rattle.cmwq_model.specs.declared.entry.Entry.{Entry}
 use Rattle.cmwq_model.specs.declared.entry.Mark.{Mark}
 use Rattle.cmwq_model.specs.declared.record.Queueing.{Queueing}
 use Rattle.cmwq_model.specs.declared.record.Ticket.{Ticket}
-use Rattle.cmwq_model.specs.Calls.{is_at}
-use Rattle.cmwq_model.specs.Fate.{number_started}
-use Rattle.cmwq_model.specs.Queueings.{queueing_at}
-use Rattle.cmwq_model.specs.Tickets.{unended}
-use Rattle.cmwq_model.specs.Waits.{waits_for}
-use Rattle.cmwq_model.specs.Legal.{entry_for, bits}
-use Rattle.cmwq_model.specs.Room.{has_room}
+use Rattle.cmwq_model.specs.Prelude.{is_at, number_started, queueing_at, unended, waits_for, entry_for, bits, has_room}
 use Rattle.cmwq_theory_steps.specs.Marks.{item_marked}
 pub use Rattle.cmwq_state.specs.History.{History, past_in, with_entry, has_number}
 pub use Rattle.cmwq_state.specs.Tables.{IsThere}

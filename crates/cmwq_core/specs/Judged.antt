@@ -1,7 +1,7 @@
 -- What callers see of a judge: the entries that were right so far.
 use Rattle.std.specs.Prelude.{List, [], ◌∷◌, ◌++◌}
 use Rattle.cmwq_model.specs.declared.entry.Entry.{Entry}
-use Rattle.cmwq_model.specs.Layout.{Layout}
+use Rattle.cmwq_model.specs.Prelude.{Layout}
 
 -- the entries stand with the oldest first
 pub record Judged : Type 0 where

@@ -2,7 +2,7 @@
 use Rattle.std.specs.Prelude.{◌≡◌, ◌+◌, ◌≤◌, true, length}
 use Rattle.cmwq_model.specs.declared.id.Who.{Who}
 use Rattle.cmwq_model.specs.declared.call.Call.{Call}
-use Rattle.cmwq_model.specs.Room.{has_time}
+use Rattle.cmwq_model.specs.Prelude.{has_time}
 use Rattle.cmwq_state.specs.Effects.{IsEffect}
 use Rattle.cmwq_core.specs.declared.plan.Plan.{Plan}
 use Rattle.cmwq_core.specs.History.{History, past_in, IsMark}

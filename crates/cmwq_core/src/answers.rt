@@ -1,9 +1,8 @@
 //! The one answer to each call, read off a state.
 
 ghost use Rattle.std.specs.Prelude.{◌≡◌, ◌<◌, length, true};
-ghost use Rattle.cmwq_model.specs.Legal.{past_of};
-ghost use Rattle.cmwq_model.specs.Tickets.{ticket_of};
-ghost use Rattle.cmwq_model.specs.Answer.{answer, cancel_answer, cancel_sync_answer, destroy_answer, end_of_ticket, fired, first_due, flush_delayed_answer, flush_item_answer, is_held_back, modify_answer, queue_answer, set_max_answer, taken_back, taken_back_for, wait_answer, waiting_for};
+ghost use Rattle.cmwq_model.specs.Prelude.{past_of, ticket_of, answer, cancel_answer, cancel_sync_answer, destroy_answer, end_of_ticket, fired, first_due, flush_delayed_answer};
+ghost use Rattle.cmwq_model.specs.Prelude.{flush_item_answer, is_held_back, modify_answer, queue_answer, set_max_answer, taken_back, taken_back_for, wait_answer, waiting_for};
 ghost use Rattle.cmwq_state.specs.Tables as tables;
 ghost use Rattle.cmwq_core.specs.Book.{IsCallInside};
 

@@ -1,11 +1,7 @@
 ghost use Rattle.std.specs.Prelude.{◌≡◌, ◌<◌, ◌≤◌, [], length, count_by, is_ok, IfOk, OnErr, IsTrue};
-ghost use Rattle.cmwq_model.specs.Layout.{fits};
+ghost use Rattle.cmwq_model.specs.Prelude.{fits, IsLegal, still_open, needed, is_active};
 ghost use Rattle.cmwq_model.specs.Calls as calls;
 ghost use Rattle.cmwq_model.specs.Legal as legal;
-ghost use Rattle.cmwq_model.specs.Legal.{IsLegal};
-ghost use Rattle.cmwq_model.specs.Queueings.{still_open};
-ghost use Rattle.cmwq_model.specs.Room.{needed};
-ghost use Rattle.cmwq_model.specs.Active.{is_active};
 ghost use Rattle.cmwq_state.specs.Tables as tables;
 ghost use Rattle.cmwq_core.specs.History.{past_in, next_entry, takes, with_entry, IsMark, is_ready};
 ghost use Rattle.cmwq_core.specs.Plans.{IsPlan};

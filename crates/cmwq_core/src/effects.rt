@@ -2,13 +2,8 @@
 
 ghost use Rattle.std.specs.Prelude.{◌≡◌, ◌<◌, ◌≤◌, ◌∷◌, false, length, true};
 ghost use Rattle.std.specs.Option.{option_map_or};
-ghost use Rattle.cmwq_model.specs.Layout.{fits};
-ghost use Rattle.cmwq_model.specs.Room.{owed};
-ghost use Rattle.cmwq_model.specs.Bookings.{booked_by, booking_of, is_booked, settles};
-ghost use Rattle.cmwq_model.specs.Calls.{item_of};
-ghost use Rattle.cmwq_model.specs.Legal.{IsLegal, past_of};
-ghost use Rattle.cmwq_model.specs.Queueings.{opening, opens, place_called, place_wanted, queued_at, unstarted};
-ghost use Rattle.cmwq_model.specs.Tickets.{gives_ticket, ticket_in};
+ghost use Rattle.cmwq_model.specs.Prelude.{fits, owed, booked_by, booking_of, is_booked, settles, item_of, IsLegal, past_of, opening, opens, place_called, place_wanted};
+ghost use Rattle.cmwq_model.specs.Prelude.{queued_at, unstarted, gives_ticket, ticket_in};
 ghost use Rattle.cmwq_theory_steps.specs.Endings.{ending};
 ghost use Rattle.cmwq_theory_steps.specs.Histories.{one};
 ghost use Rattle.cmwq_theory_steps.specs.RoomSteps.{settles_booked};

@@ -1,10 +1,7 @@
 //! The verdict of a history.
 
 ghost use Rattle.std.specs.Prelude.{◌≡◌, ◌↔◌, ◌≤◌, ◌<◌, ◌+◌, ◌∷◌, true, [], length, None, IfOk, IfSome, OnOk, OnErr, IfErr, IsTrue};
-ghost use Rattle.cmwq_model.specs.Layout.{fits, is_layout};
-ghost use Rattle.cmwq_model.specs.Legal.{IsLegal, past_of, entry_for};
-ghost use Rattle.cmwq_model.specs.Room.{has_time};
-ghost use Rattle.cmwq_model.specs.Verdict.{AllFit, Wants, IsFirstWrong};
+ghost use Rattle.cmwq_model.specs.Prelude.{fits, is_layout, IsLegal, past_of, entry_for, has_time, AllFit, Wants, IsFirstWrong};
 ghost use Rattle.cmwq_core.specs.History.{next_entry as entry_due, with_entry};
 ghost use Rattle.cmwq_core.specs.Judged.{seen_too};
 
@@ -28,7 +25,7 @@ pub struct Judge {
 
 impl Model for Judge {
     ghost use Rattle.std.specs.Prelude.{◌≡◌, IsTrue};
-    ghost use Rattle.cmwq_model.specs.Layout.{is_layout};
+    ghost use Rattle.cmwq_model.specs.Prelude.{is_layout};
     ghost use Rattle.cmwq_core.specs.Judged.{Judged};
 
     ghost Value = { Judged };

@@ -6,4 +6,3 @@ pub mod Numbers
 pub mod Parts
 pub mod Queues
 pub mod Readings
-pub mod Scenarios

@@ -6,7 +6,7 @@ use Rattle.std.specs.List.{AllByRecursion}
 use Rattle.std.proofs.lemmas.Bool.Decides.{nat_tests}
 use Rattle.serde_json.specs.Data.{Data, Items}
 use Rattle.serde_json.specs.Find.{as_array}
-use Rattle.cmwq_model.specs.Layout.{Layout}
+use Rattle.cmwq_model.specs.Prelude.{Layout}
 use Rattle.cmwq_json.specs.Names.{name_said, number_of}
 use Rattle.cmwq_json.proofs.Limited.{placed, all_pushed}
 use Rattle.cmwq_json_script.specs.declared.word.Word.{Word}

@@ -11,9 +11,8 @@ use Rattle.cmwq_model.specs.declared.id.ItemId.{ItemId}
 use Rattle.cmwq_model.specs.declared.id.QueueId.{QueueId}
 use Rattle.cmwq_model.specs.declared.id.CpuId.{CpuId}
 use Rattle.cmwq_model.specs.declared.call.Call.{Call}
+use Rattle.cmwq_model.specs.Prelude.{Layout, has_numbers, is_whole, IsScripted}
 use Rattle.cmwq_model.specs.declared.call.Call.TheVariants as call
-use Rattle.cmwq_model.specs.Layout.{Layout, has_numbers}
-use Rattle.cmwq_model.specs.Scripted.{is_whole, IsScripted}
 use Rattle.cmwq_json.specs.Names.{number_of}
 use Rattle.cmwq_json.proofs.Limited.{number_limits, placed}
 use Rattle.cmwq_json_script.specs.declared.word.Word.{Word}

@@ -10,8 +10,7 @@ use Rattle.serde_json.specs.Data.{Data, Items, no_items, item}
 use Rattle.serde_json.specs.Find.{get, as_bool, as_array}
 use Rattle.cmwq_model.specs.declared.call.Call.{Call}
 use Rattle.cmwq_model.specs.declared.shape.QueueShape.{QueueShape}
-use Rattle.cmwq_model.specs.Layout.{Layout}
-use Rattle.cmwq_model.specs.Scripted.{IsScripted}
+use Rattle.cmwq_model.specs.Prelude.{Layout, IsScripted}
 use Rattle.cmwq_json.specs.InTurn.{in_turn}
 use Rattle.cmwq_json.specs.Keys.{has_keys}
 use Rattle.cmwq_json.specs.Names.{Named, nobody, add_named, is_taken}

@@ -9,8 +9,7 @@ use Rattle.std.proofs.lemmas.List.{length-map}
 use Rattle.std.proofs.lemmas.List.Elements.{All-from_recursion}
 use Rattle.cmwq_model.specs.declared.call.Call.{Call}
 use Rattle.cmwq_model.specs.declared.shape.QueueShape.{QueueShape}
-use Rattle.cmwq_model.specs.Layout.{most_room, Layout, layout_of, is_queue}
-use Rattle.cmwq_model.specs.Scripted.{IsScripted}
+use Rattle.cmwq_model.specs.Prelude.{most_room, Layout, layout_of, is_queue, IsScripted}
 use Rattle.cmwq_input.specs.declared.refused.Refused.{Refused}
 use Rattle.cmwq_json.specs.InTurn.{in_turn}
 use Rattle.cmwq_json.specs.Names.{Named, nobody}

@@ -2,9 +2,8 @@
 use Rattle.std.specs.Prelude.{◌≡◌, ℕ, ◌<◌, ◌≤◌, ◌^◌, Bool, true, false, length, List, map, string_bytes, All}
 use Rattle.std.specs.List.{AllByRecursion}
 use Rattle.cmwq_model.specs.declared.call.Call.{Call}
+use Rattle.cmwq_model.specs.Prelude.{Layout, is_layout, has_numbers, IsScripted}
 use Rattle.cmwq_model.specs.declared.call.Call.TheVariants as call
-use Rattle.cmwq_model.specs.Layout.{Layout, is_layout, has_numbers}
-use Rattle.cmwq_model.specs.Scripted.{IsScripted}
 use Rattle.cmwq_json_script.specs.declared.action.Action.{Action}
 use Rattle.cmwq_json_script.specs.declared.action.Action.TheVariants as action
 use Rattle.cmwq_json_script.specs.declared.script.Script.{Script}

@@ -3,7 +3,7 @@ use Rattle.std.specs.Prelude.{ℕ, ◌≤◌, Bool, ◌==◌, ◌||◌, if◌the
 use Rattle.std.specs.Option.{option_map_or}
 use Rattle.serde_json.specs.Data.{Data, Items}
 use Rattle.serde_json.specs.Find.{get, as_array}
-use Rattle.cmwq_model.specs.Layout.{most_room}
+use Rattle.cmwq_model.specs.Prelude.{most_room}
 use Rattle.cmwq_json.specs.Keys.{has_keys}
 use Rattle.cmwq_json.specs.Numbers.{number_between}
 use Rattle.cmwq_json_script.specs.Then.{◌>>=◌}

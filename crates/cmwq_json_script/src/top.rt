@@ -2,7 +2,7 @@
 
 ghost use Rattle.std.specs.Prelude.{◌≡◌, ◌≤◌, IfSome, option_map};
 ghost use Rattle.serde_json.specs.View.{view};
-ghost use Rattle.cmwq_model.specs.Layout.{most_room};
+ghost use Rattle.cmwq_model.specs.Prelude.{most_room};
 ghost use Rattle.cmwq_json_script.specs.Tops as spec;
 ghost use Rattle.cmwq_json_script.specs.Tops.{IsRecorded};
 

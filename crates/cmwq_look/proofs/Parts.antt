@@ -3,9 +3,8 @@ use Rattle.std.proofs.Common.{◌≡◌, ℕ, zero, suc, true, nat_lt, slice_get
 use Rattle.std.proofs.lemmas.List.{take-append-drop, reverse-append, drop_all, length-reverse}
 use Rattle.std.proofs.Math.Seq.{take-suc, drop-append_seam}
 use Rattle.cmwq_model.specs.declared.entry.Entry.{Entry}
+use Rattle.cmwq_model.specs.Prelude.{entry_at, past_of}
 use Rattle.std.proofs.lemmas.Bool.{lt-ltb}
-use Rattle.cmwq_model.specs.Calls.{entry_at}
-use Rattle.cmwq_model.specs.Legal.{past_of}
 use Rattle.cmwq_look.specs.Past.{upto, then}
 
 pub upto-none : (past : List Entry) → upto past 0 ≡ []

@@ -5,13 +5,9 @@ use Rattle.cmwq_model.specs.declared.id.Who.{Who}
 use Rattle.cmwq_model.specs.declared.id.Who.TheVariants.{Worker}
 use Rattle.cmwq_model.specs.declared.id.WorkerId.{WorkerId}
 use Rattle.cmwq_model.specs.declared.entry.Entry.{Entry}
-use Rattle.cmwq_model.specs.Calls.{is_by, is_of_item, ticks_told, now, serial_of}
-use Rattle.cmwq_model.specs.Bookings.{settles, booking, booking_of}
-use Rattle.cmwq_model.specs.Fate.{is_started, is_cancelled, takes_back, replaces, number_started}
-use Rattle.cmwq_model.specs.Runs.{last_start, is_asleep, asleep_after, item_start, starts_item, start_in}
-use Rattle.cmwq_model.specs.Queueings.{queueings, opening, still_open, is_live}
-use Rattle.cmwq_model.specs.Tickets.{is_done, ends_destroy, is_gone, tickets, ticket_in, unended, is_unended}
-use Rattle.cmwq_model.specs.Widths.{frozen_after, is_frozen}
+use Rattle.cmwq_model.specs.Prelude.{is_by, is_of_item, ticks_told, now, serial_of, settles, booking, booking_of, is_started, is_cancelled, takes_back, replaces, number_started}
+use Rattle.cmwq_model.specs.Prelude.{last_start, is_asleep, asleep_after, item_start, starts_item, start_in, queueings, opening, still_open, is_live, is_done, ends_destroy}
+use Rattle.cmwq_model.specs.Prelude.{is_gone, tickets, ticket_in, unended, is_unended, frozen_after, is_frozen}
 use Rattle.cmwq_look.specs.Past.{open_upto, unended_upto}
 use Rattle.cmwq_look.proofs.Parts.{upto-none, upto-all}
 

@@ -3,8 +3,7 @@ use Rattle.std.specs.Prelude.{ℕ, ◌-◌, List, ◌∷◌, length, drop, filte
 use Rattle.cmwq_model.specs.declared.entry.Entry.{Entry}
 use Rattle.cmwq_model.specs.declared.record.Queueing.{Queueing}
 use Rattle.cmwq_model.specs.declared.record.Ticket.{Ticket}
-use Rattle.cmwq_model.specs.Queueings.{queueings, is_live}
-use Rattle.cmwq_model.specs.Tickets.{tickets, is_unended}
+use Rattle.cmwq_model.specs.Prelude.{queueings, is_live, tickets, is_unended}
 
 -- the first k entries
 unfoldable pub upto : List Entry → ℕ → List Entry

@@ -1,5 +1,5 @@
 ghost use Rattle.std.specs.Prelude.{◌≡◌};
-ghost use Rattle.cmwq_model.specs.Bookings.{booking, is_booked, stands};
+ghost use Rattle.cmwq_model.specs.Prelude.{booking, is_booked, stands};
 
 use crate::entries::{booking_of, is_of_item, settles};
 use crate::past::Past;

@@ -1,8 +1,7 @@
 //! What single entries say.
 ghost use Rattle.std.specs.Prelude.{◌≡◌};
-ghost use Rattle.cmwq_model.specs.Calls.{same_pool, same_worker, same_who, is_by, item_called, item_fired, item_of, is_of_item, ticks_told};
-ghost use Rattle.cmwq_model.specs.Fate.{starts, finishes, takes_back, number_started, number_finished, number_cancelled, replaces};
-ghost use Rattle.cmwq_model.specs.Bookings.{settles, due_in, booked_by, booking_of};
+ghost use Rattle.cmwq_model.specs.Prelude.{same_pool, same_worker, same_who, is_by, item_called, item_fired, item_of, is_of_item, ticks_told, starts, finishes, takes_back};
+ghost use Rattle.cmwq_model.specs.Prelude.{number_started, number_finished, number_cancelled, replaces, settles, due_in, booked_by, booking_of};
 
 use cmwq_model::{Booking, Call, Entry, ItemId, Number, Place, PoolId, Reply, Who, WorkerId};
 

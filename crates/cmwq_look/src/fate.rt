@@ -1,5 +1,5 @@
 ghost use Rattle.std.specs.Prelude.{◌≡◌};
-ghost use Rattle.cmwq_model.specs.Fate.{is_started, is_finished, is_cancelled, is_open};
+ghost use Rattle.cmwq_model.specs.Prelude.{is_started, is_finished, is_cancelled, is_open};
 
 use crate::entries::{finishes, is_of_item, replaces, starts, takes_back};
 use crate::past::Past;

@@ -1,5 +1,5 @@
 ghost use Rattle.std.specs.Prelude.{◌≡◌, ◌+◌, ◌<◌, ◌≤◌, ◌∷◌, length};
-ghost use Rattle.cmwq_model.specs.Legal.{past_of};
+ghost use Rattle.cmwq_model.specs.Prelude.{past_of};
 ghost use Rattle.cmwq_look.specs.Past.{upto};
 
 use cmwq_model::Entry;
@@ -15,7 +15,7 @@ pub struct Past<'a> {
 impl<'a> Model for Past<'a> {
     ghost use Rattle.std.specs.Prelude.{List, length, ◌≤◌};
     ghost use Rattle.cmwq_model.specs.declared.entry.Entry.{Entry};
-    ghost use Rattle.cmwq_model.specs.Legal.{past_of};
+    ghost use Rattle.cmwq_model.specs.Prelude.{past_of};
     ghost use Rattle.cmwq_look.specs.Past.{then};
 
     ghost Value = { List Entry };

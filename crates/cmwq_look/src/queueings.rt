@@ -1,5 +1,6 @@
 ghost use Rattle.std.specs.Prelude.{◌≡◌, ◌<◌, ◌+◌, ◌++◌, length, option_to_list};
-ghost use Rattle.cmwq_model.specs.Queueings.{opens, place_called, place_wanted, cpu_for, queued_at, opening, queueings, is_live, unstarted, is_unstarted, is_pending, queueing_at, queue_of, run_queue, runs_elsewhere, is_item_open};
+ghost use Rattle.cmwq_model.specs.Prelude.{opens, place_called, place_wanted, cpu_for, queued_at, opening, queueings, is_live, unstarted, is_unstarted, is_pending, queueing_at};
+ghost use Rattle.cmwq_model.specs.Prelude.{queue_of, run_queue, runs_elsewhere, is_item_open};
 ghost use Rattle.cmwq_look.specs.Past.{upto, open_upto};
 
 use crate::bookings::{booking, is_booked};

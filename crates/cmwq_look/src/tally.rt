@@ -1,5 +1,5 @@
 ghost use Rattle.std.specs.Prelude.{◌≡◌, ◌<◌, ◌^◌};
-ghost use Rattle.cmwq_model.specs.Calls.{now, serial_of};
+ghost use Rattle.cmwq_model.specs.Prelude.{now, serial_of};
 
 use crate::entries::{is_by, ticks_told};
 use crate::past::Past;

@@ -16,3 +16,4 @@ pub mod Room
 pub mod Kernel
 pub mod Scripted
 pub mod Verdict
+pub mod Prelude

@@ -6,10 +6,7 @@ use Rattle.cmwq_model.specs.declared.id.Who.{Who}
 use Rattle.cmwq_model.specs.declared.call.Call.{Call}
 use Rattle.cmwq_model.specs.declared.entry.Entry.{Entry}
 use Rattle.cmwq_model.specs.declared.entry.Mark.{Mark}
-use Rattle.cmwq_model.specs.Layout.{Layout, fits}
-use Rattle.cmwq_model.specs.Calls.{serial_of, is_by}
-use Rattle.cmwq_model.specs.Legal.{IsLegal, past_of}
-use Rattle.cmwq_model.specs.Room.{has_room}
+use Rattle.cmwq_model.specs.Prelude.{Layout, fits, serial_of, is_by, IsLegal, past_of, has_room}
 use Rattle.cmwq_core.specs.History.{History, IsMark, takes}
 use Rattle.cmwq_publish.specs.Next.{IsNext}
 use Rattle.cmwq_theory_steps.proofs.StateSteps.{serials_rise}

@@ -8,8 +8,7 @@ use Rattle.cmwq_theory_active.proofs.Lists.{count_by-cons}
 use Rattle.cmwq_pwq.proofs.Passes.{count_by-one, count_by-append}
 use Rattle.cmwq_model.specs.declared.id.Who.{Who}
 use Rattle.cmwq_model.specs.declared.entry.Entry.{Entry}
-use Rattle.cmwq_model.specs.Calls.{is_by, serial_of}
-use Rattle.cmwq_model.specs.Legal.{past_of}
+use Rattle.cmwq_model.specs.Prelude.{is_by, serial_of, past_of}
 use Rattle.cmwq_theory_steps.proofs.StateSteps.{serials_rise}
 use Rattle.cmwq_monitor.specs.Participants.{View, Gains, made_by}
 use Rattle.cmwq_monitor.proofs.Beginnings.{prefix_self, prefix_trans}

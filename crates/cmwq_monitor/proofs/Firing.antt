@@ -4,12 +4,9 @@ use Rattle.std.specs.Prelude.{All}
 use Rattle.std.proofs.lemmas.List.Elements.{All-nil, All-cons, All-append}
 use Rattle.cmwq_model.specs.declared.call.Call.TheVariants as call
 use Rattle.cmwq_model.specs.declared.reply.Reply.{Reply}
-use Rattle.cmwq_model.specs.declared.reply.Reply.TheVariants as reply
 use Rattle.cmwq_model.specs.declared.entry.Entry.{Entry}
-use Rattle.cmwq_model.specs.Layout.{Layout}
-use Rattle.cmwq_model.specs.Calls.{serial_of}
-use Rattle.cmwq_model.specs.Legal.{IsLegal, past_of}
-use Rattle.cmwq_model.specs.Room.{has_room}
+use Rattle.cmwq_model.specs.Prelude.{Layout, serial_of, IsLegal, past_of, has_room}
+use Rattle.cmwq_model.specs.declared.reply.Reply.TheVariants as reply
 use Rattle.cmwq_monitor.specs.Participants.{View, Gains, made_by}
 use Rattle.cmwq_monitor.specs.Calls.{Extends, own_entry}
 use Rattle.cmwq_monitor.specs.Whole.{Fires, HadNoRoom, EndsOwn, EndsFiring, IsFire}

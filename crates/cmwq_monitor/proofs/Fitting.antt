@@ -4,7 +4,7 @@ use Rattle.std.proofs.lemmas.Bool.{lt-ltb}
 use Rattle.cmwq_model.specs.declared.id.Who.{Who}
 use Rattle.cmwq_model.specs.declared.id.Who.TheVariants.{Caller, Worker}
 use Rattle.cmwq_model.specs.declared.call.Call.{Call}
-use Rattle.cmwq_model.specs.Layout.{Layout, fits, is_callers, is_workers, has_numbers}
+use Rattle.cmwq_model.specs.Prelude.{Layout, fits, is_callers, is_workers, has_numbers}
 use Rattle.cmwq_core.specs.History.{IsThere}
 use Rattle.cmwq_monitor.specs.Participants.{is_caller}
 

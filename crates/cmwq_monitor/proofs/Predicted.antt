@@ -8,16 +8,11 @@ use Rattle.cmwq_model.specs.declared.id.ItemId.{ItemId}
 use Rattle.cmwq_model.specs.declared.id.Who.{Who}
 use Rattle.cmwq_model.specs.declared.call.Call.{Call}
 use Rattle.cmwq_model.specs.declared.reply.Reply.{Reply}
-use Rattle.cmwq_model.specs.declared.reply.Reply.TheVariants as reply
 use Rattle.cmwq_model.specs.declared.entry.Entry.{Entry}
 use Rattle.cmwq_model.specs.declared.entry.Mark.{Mark}
 use Rattle.cmwq_model.specs.declared.record.Queueing.{Queueing}
-use Rattle.cmwq_model.specs.Layout.{Layout, fits}
-use Rattle.cmwq_model.specs.Fate.{number_started}
-use Rattle.cmwq_model.specs.Queueings.{still_open, is_unstarted, unstarted, queueing_at}
-use Rattle.cmwq_model.specs.Tickets.{is_done}
-use Rattle.cmwq_model.specs.Legal.{IsLegal, past_of, entry_for}
-use Rattle.cmwq_model.specs.Room.{needed, has_room}
+use Rattle.cmwq_model.specs.Prelude.{Layout, fits, number_started, still_open, is_unstarted, unstarted, queueing_at, is_done, IsLegal, past_of, entry_for, needed, has_room}
+use Rattle.cmwq_model.specs.declared.reply.Reply.TheVariants as reply
 use Rattle.cmwq_core.specs.History.{History, IsMark}
 use Rattle.cmwq_theory_steps.specs.RoomSteps.{is_promised}
 use Rattle.cmwq_theory_laws.proofs.WithinRoom.{promised_have_time}

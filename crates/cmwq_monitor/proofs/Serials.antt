@@ -5,9 +5,7 @@ use Rattle.std.proofs.lemmas.List.{reverse-reverse, map-append, length-map}
 use Rattle.std.proofs.lemmas.List.FromFn.{length-range_with_len}
 use Rattle.std.proofs.Math.Seq.{drop-append_seam}
 use Rattle.cmwq_model.specs.declared.entry.Entry.{Entry}
-use Rattle.cmwq_model.specs.Calls.{serial_of, is_by}
-use Rattle.cmwq_model.specs.Layout.{Layout}
-use Rattle.cmwq_model.specs.Legal.{IsLegal, past_of}
+use Rattle.cmwq_model.specs.Prelude.{serial_of, is_by, Layout, IsLegal, past_of}
 use Rattle.cmwq_theory_laws.specs.Sanity.{serial_told}
 use Rattle.cmwq_theory_laws.proofs.OneEntry.{serials_count}
 use Rattle.cmwq_monitor.specs.Participants.{View, Gains, made_by}

@@ -5,9 +5,7 @@ use mathlib.Core.List.{IsPrefix}
 use Rattle.cmwq_model.specs.declared.call.Call.{Call}
 use Rattle.cmwq_model.specs.declared.reply.Reply.{Reply}
 use Rattle.cmwq_model.specs.declared.entry.Entry.{Entry}
-use Rattle.cmwq_model.specs.Layout.{Layout}
-use Rattle.cmwq_model.specs.Calls.{serial_of}
-use Rattle.cmwq_model.specs.Legal.{IsLegal, past_of, entry_for}
+use Rattle.cmwq_model.specs.Prelude.{Layout, serial_of, IsLegal, past_of, entry_for}
 use Rattle.cmwq_monitor.specs.Participants.{View, Gains}
 
 abbrev pub own_entry : Layout → List Entry → View → Call → Entry

@@ -1,9 +1,7 @@
 -- What a fault says: a call that answers one has made no entry, or it had begun and tells its ticket.
 use Rattle.std.specs.Prelude.{◌≡◌, ◌≢◌, ◌⊎◌, ℕ, ◌<◌, Bool, true, false, [], length, None}
 use Rattle.cmwq_model.specs.declared.call.Call.{Call}
-use Rattle.cmwq_model.specs.Layout.{Layout}
-use Rattle.cmwq_model.specs.Legal.{past_of}
-use Rattle.cmwq_model.specs.Room.{has_room}
+use Rattle.cmwq_model.specs.Prelude.{Layout, past_of, has_room}
 use Rattle.cmwq_monitor.specs.Participants.{View, Gains, is_caller}
 use Rattle.cmwq_monitor.specs.declared.fault.RunFault.{RunFault}
 use Rattle.cmwq_monitor.specs.declared.fault.RunFault.TheVariants.{NoMemory, Full, Unfinished, NoPlace, Closed, Stranger, NoThread}

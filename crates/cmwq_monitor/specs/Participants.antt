@@ -4,7 +4,7 @@ use mathlib.Core.List.{IsPrefix}
 use Rattle.cmwq_model.specs.declared.id.Who.{Who}
 use Rattle.cmwq_model.specs.declared.id.Who.TheVariants.{Caller, Worker}
 use Rattle.cmwq_model.specs.declared.entry.Entry.{Entry}
-use Rattle.cmwq_model.specs.Calls.{is_by}
+use Rattle.cmwq_model.specs.Prelude.{is_by}
 
 -- who it is, how many entries it made, and the history as far as it has seen it, with the oldest entry first
 pub record View : Type 0 where

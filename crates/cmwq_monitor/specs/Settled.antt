@@ -2,8 +2,7 @@
 use Rattle.std.specs.Prelude.{◌≡◌, ℕ, List, Some, slice_get}
 use mathlib.Core.List.{IsPrefix}
 use Rattle.cmwq_model.specs.declared.entry.Entry.{Entry}
-use Rattle.cmwq_model.specs.Calls.{serial_of}
-use Rattle.cmwq_model.specs.Legal.{past_of}
+use Rattle.cmwq_model.specs.Prelude.{serial_of, past_of}
 use Rattle.cmwq_monitor.specs.Participants.{View}
 
 -- it sees all of the history, which begins with what it had seen and has as many entries of it as its serial says

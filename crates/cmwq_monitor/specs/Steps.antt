@@ -1,14 +1,11 @@
 -- What one step under the lock leaves.
 use Rattle.std.specs.Prelude.{◌≡◌, ◌⊎◌, ◌&&◌, ℕ, ◌≤◌, Bool, true, false, List, [], ◌∷◌, length, All, Option, Some, None, MatchBool}
 use Rattle.cmwq_model.specs.declared.call.Call.{Call}
-use Rattle.cmwq_model.specs.declared.call.Call.TheVariants as call
 use Rattle.cmwq_model.specs.declared.reply.Reply.{Reply}
-use Rattle.cmwq_model.specs.declared.reply.Reply.TheVariants as reply
 use Rattle.cmwq_model.specs.declared.entry.Entry.{Entry}
-use Rattle.cmwq_model.specs.Layout.{Layout}
-use Rattle.cmwq_model.specs.Calls.{serial_of}
-use Rattle.cmwq_model.specs.Legal.{IsLegal, past_of}
-use Rattle.cmwq_model.specs.Room.{has_room}
+use Rattle.cmwq_model.specs.Prelude.{Layout, serial_of, IsLegal, past_of, has_room}
+use Rattle.cmwq_model.specs.declared.call.Call.TheVariants as call
+use Rattle.cmwq_model.specs.declared.reply.Reply.TheVariants as reply
 use Rattle.cmwq_monitor.specs.Participants.{View, Gains, is_caller, made_by}
 use Rattle.cmwq_monitor.specs.Held.{Held, IsOpenTo}
 use Rattle.cmwq_monitor.specs.Calls.{own_entry}

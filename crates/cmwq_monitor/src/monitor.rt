@@ -1,16 +1,12 @@
 //! What a hub keeps under its lock: the Book, the published history, the ledger of entries, and who sleeps.
 ghost use Rattle.std.specs.Prelude.{◌≡◌, ◌≤◌, ◌<◌, ◌+◌, ◌++◌, ◌∷◌, ◌^◌, [], drop, length, OnErr, true, false, IsTrue, count_by, IfOk, IfErr, IfSome, MatchOption, MatchResult, MatchBool, Some, None};
 ghost use mathlib.Core.List.{IsPrefix};
-ghost use Rattle.cmwq_model.specs.Layout.{Layout, fits};
-ghost use Rattle.cmwq_model.specs.Calls.{serial_of};
-ghost use Rattle.cmwq_model.specs.Legal.{past_of, IsLegal};
-ghost use Rattle.cmwq_model.specs.Room.{has_room};
 ghost use Rattle.cmwq_model.specs.declared.call.Call.{Call};
+ghost use Rattle.cmwq_model.specs.Prelude.{Layout, fits, serial_of, past_of, IsLegal, has_room, is_done};
 ghost use Rattle.cmwq_model.specs.declared.call.Call.TheVariants as calls;
 ghost use Rattle.cmwq_model.specs.declared.reply.Reply.TheVariants as replies;
 ghost use Rattle.cmwq_core.specs.History.{takes};
 ghost use Rattle.cmwq_core.specs.Plans.{IsPlan};
-ghost use Rattle.cmwq_model.specs.Tickets.{is_done};
 ghost use Rattle.cmwq_monitor.specs.Participants.{View, Gains, is_caller};
 ghost use Rattle.cmwq_monitor.specs.Held.{Held, opened, IsOpenTo, GoesOn, Leaves, is_over, active_in};
 ghost use Rattle.cmwq_monitor.specs.Calls.{Extends, own_entry};

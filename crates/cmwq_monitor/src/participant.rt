@@ -1,8 +1,7 @@
 //! The participant of a caller or a worker: who it is, how many entries it made, and the history as far as it has seen it.
 ghost use Rattle.std.specs.Prelude.{◌≡◌, ◌+◌, ◌≤◌, ◌++◌, ◌∷◌, [], length};
 ghost use mathlib.Core.List.{IsPrefix};
-ghost use Rattle.cmwq_model.specs.Calls.{serial_of};
-ghost use Rattle.cmwq_model.specs.Legal.{past_of, IsLegal};
+ghost use Rattle.cmwq_model.specs.Prelude.{serial_of, past_of, IsLegal};
 ghost use Rattle.cmwq_core.specs.History.{IsThere};
 ghost use Rattle.cmwq_monitor.specs.Participants.{Agree, newcomer};
 
@@ -23,8 +22,7 @@ pub struct Participant<N: HubName> {
 
 impl<N: HubName> Model for Participant<N> {
     ghost use Rattle.std.specs.Prelude.{◌≡◌, ◌≤◌};
-    ghost use Rattle.cmwq_model.specs.Calls.{serial_of};
-    ghost use Rattle.cmwq_model.specs.Legal.{past_of};
+    ghost use Rattle.cmwq_model.specs.Prelude.{serial_of, past_of};
     ghost use Rattle.cmwq_core.specs.History.{IsThere};
     ghost use Rattle.cmwq_monitor.specs.Participants.{View};
 

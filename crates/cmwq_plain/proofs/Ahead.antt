@@ -4,8 +4,7 @@ use Rattle.std.proofs.lemmas.List.Elements.{filter-append}
 use Rattle.std.proofs.lemmas.List.Sums.{sum_by-append}
 use Rattle.cmwq_model.specs.declared.entry.Entry.{Entry}
 use Rattle.cmwq_model.specs.declared.record.Queueing.{Queueing}
-use Rattle.cmwq_model.specs.Queueings.{queueings, opening, still_open, is_live}
-use Rattle.cmwq_model.specs.Active.{is_ahead}
+use Rattle.cmwq_model.specs.Prelude.{queueings, opening, still_open, is_live, is_ahead}
 use Rattle.cmwq_look.specs.Past.{upto, open_upto}
 use Rattle.cmwq_look.proofs.Parts.{upto-grows}
 use Rattle.cmwq_look.proofs.Steps.{queueings_step, open_none, open_all}

@@ -8,9 +8,7 @@ use Rattle.std.proofs.lemmas.List.Sums.{sum_by-append}
 use Rattle.std.proofs.lemmas.List.FromFn.{sum_by-map-range_with_len_more}
 use Rattle.cmwq_model.specs.declared.id.PoolId.{PoolId}
 use Rattle.cmwq_model.specs.declared.id.WorkerId.{WorkerId}
-use Rattle.cmwq_model.specs.Layout.{Layout}
-use Rattle.cmwq_model.specs.Workers.{worker_at}
-use Rattle.cmwq_model.specs.Room.{cpu_workers}
+use Rattle.cmwq_model.specs.Prelude.{Layout, worker_at, cpu_workers}
 
 pub count_append : {X : Type 0} (p : X → Bool) (xs ys : List X) → count_by p (xs ++ ys) ≡ count_by p xs + count_by p ys
 count_append p xs ys = sum_by-append (λ x. if p x then 1 else 0) xs ys

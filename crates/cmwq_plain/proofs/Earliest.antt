@@ -9,11 +9,8 @@ use Rattle.cmwq_model.specs.declared.id.PoolId.{PoolId}
 use Rattle.cmwq_model.specs.declared.entry.Entry.{Entry}
 use Rattle.cmwq_model.specs.declared.record.Place.{Place}
 use Rattle.cmwq_model.specs.declared.record.Queueing.{Queueing}
-use Rattle.cmwq_model.specs.Layout.{Layout}
-use Rattle.cmwq_model.specs.Calls.{item_of}
-use Rattle.cmwq_model.specs.Queueings.{queueings, opening, opens, queued_at, place_wanted}
-use Rattle.cmwq_model.specs.Active.{is_active, is_newly_active, newly_active, is_listed, is_startable, activated, worklist, next}
-use Rattle.cmwq_model.specs.Queueings.{is_live}
+use Rattle.cmwq_model.specs.Prelude.{Layout, item_of, queueings, opening, opens, queued_at, place_wanted, is_active, is_newly_active, newly_active, is_listed, is_startable}
+use Rattle.cmwq_model.specs.Prelude.{activated, worklist, next, is_live}
 use Rattle.cmwq_theory_active.proofs.Joined.{not_live}
 use Rattle.cmwq_look.specs.Past.{upto}
 use Rattle.cmwq_look.proofs.Parts.{upto-none, upto-all, upto-grows, length-upto}

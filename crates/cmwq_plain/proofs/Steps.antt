@@ -4,14 +4,10 @@ use Rattle.std.specs.Option.{option_or}
 use Rattle.cmwq_model.specs.declared.id.Who.TheVariants.{Worker}
 use Rattle.cmwq_model.specs.declared.id.WorkerId.{WorkerId}
 use Rattle.cmwq_model.specs.declared.entry.Entry.{Entry}
-use Rattle.cmwq_model.specs.Calls.{is_by}
-use Rattle.cmwq_model.specs.Bookings.{bookings, booking_of, stands, standing}
-use Rattle.cmwq_model.specs.Workers.{is_enlisted, enlists, is_retired}
 use Rattle.cmwq_model.specs.declared.id.ItemId.{ItemId}
 use Rattle.cmwq_model.specs.declared.call.Call.{Call}
 use Rattle.cmwq_model.specs.declared.call.Call.TheVariants.{CancelSync}
-use Rattle.cmwq_model.specs.Waits.{served, is_served_after, least_waited, waits_for}
-use Rattle.cmwq_model.specs.Answer.{may_fire}
+use Rattle.cmwq_model.specs.Prelude.{is_by, bookings, booking_of, stands, standing, is_enlisted, enlists, is_retired, served, is_served_after, least_waited, waits_for, may_fire}
 use Rattle.cmwq_look.specs.Past.{upto}
 use Rattle.cmwq_look.proofs.Parts.{upto-none, upto-all, length-upto, upto-grows}
 use Rattle.cmwq_plain.specs.Partial.{fireable, fireable_upto, standing_upto}

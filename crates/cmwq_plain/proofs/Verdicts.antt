@@ -5,9 +5,7 @@ use Rattle.std.proofs.lemmas.List.{take_more, reverse-append, length-take-le}
 use Rattle.std.proofs.Common.{add-one}
 use Rattle.cmwq_model.specs.declared.entry.Entry.{Entry}
 use Rattle.cmwq_model.specs.declared.verdict.Wanted.{Wanted}
-use Rattle.cmwq_model.specs.Layout.{Layout}
-use Rattle.cmwq_model.specs.Legal.{IsLegal, past_of, entry_for}
-use Rattle.cmwq_model.specs.Verdict.{AllFit, Wants, IsFirstWrong}
+use Rattle.cmwq_model.specs.Prelude.{Layout, IsLegal, past_of, entry_for, AllFit, Wants, IsFirstWrong}
 
 module _ (s : Layout) (entries : List Entry) (k : ℕ) (d : Entry) where
   past_more : k < length entries → past_of (take (k + 1) entries) ≡ get_or entries k d ∷ past_of (take k entries)

@@ -3,10 +3,7 @@ use Rattle.std.proofs.Common.{◌≡◌, ℕ, false, not, ◌&&◌, ◌||◌, Li
 use Rattle.std.specs.Option.{option_map_or}
 use Rattle.cmwq_model.specs.declared.entry.Entry.{Entry}
 use Rattle.cmwq_model.specs.declared.record.Queueing.{Queueing}
-use Rattle.cmwq_model.specs.Layout.{Layout, first_width}
-use Rattle.cmwq_model.specs.Widths.{max_active, width_set}
-use Rattle.cmwq_model.specs.Queueings.{is_live}
-use Rattle.cmwq_model.specs.Active.{is_below_max_active}
+use Rattle.cmwq_model.specs.Prelude.{Layout, first_width, max_active, width_set, is_live, is_below_max_active}
 use Rattle.cmwq_theory_active.specs.Looks.{keeps_widths, was_below_max_active}
 
 pub max_none : (s : Layout) (q : ℕ) → max_active s [] q ≡ first_width s q

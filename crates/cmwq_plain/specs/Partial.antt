@@ -2,15 +2,11 @@
 use Rattle.std.specs.Prelude.{ℕ, ◌+◌, List, filter, count_by, Option, None}
 use Rattle.cmwq_model.specs.declared.id.WorkerId.{WorkerId}
 use Rattle.cmwq_model.specs.declared.call.Call.{Call}
-use Rattle.cmwq_model.specs.declared.call.Call.TheVariants as call
 use Rattle.cmwq_model.specs.declared.entry.Entry.{Entry}
 use Rattle.cmwq_model.specs.declared.record.Booking.{Booking}
 use Rattle.cmwq_model.specs.declared.record.Queueing.{Queueing}
-use Rattle.cmwq_model.specs.Bookings.{bookings, standing, stands}
-use Rattle.cmwq_model.specs.Runs.{has_run, runs_asleep}
-use Rattle.cmwq_model.specs.Answer.{may_fire}
-use Rattle.cmwq_model.specs.Waits.{served}
-use Rattle.cmwq_model.specs.Active.{is_ahead}
+use Rattle.cmwq_model.specs.Prelude.{bookings, standing, stands, has_run, runs_asleep, may_fire, served, is_ahead}
+use Rattle.cmwq_model.specs.declared.call.Call.TheVariants as call
 use Rattle.cmwq_look.specs.Past.{upto, open_upto}
 
 -- the bookings that may fire, and those of them that the first k entries made

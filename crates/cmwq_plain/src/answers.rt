@@ -1,5 +1,7 @@
 ghost use Rattle.std.specs.Prelude.{◌≡◌};
-ghost use Rattle.cmwq_model.specs.Answer.{may_call, runs_on, is_shut, queue_answer, modify_answer, taken_back, cancel_answer, wait_answer, destroy_answer, set_max_answer, fired, flush_item_answer, is_held_back, flush_delayed_answer, taken_back_for, cancel_sync_answer, waiting_for, end_of_ticket, started, start_of, take_answer, finished, finish_answer, retire_answer, worker_answer, own_answer, answer};
+ghost use Rattle.cmwq_model.specs.Prelude.{may_call, runs_on, is_shut, queue_answer, modify_answer, taken_back, cancel_answer, wait_answer, destroy_answer, set_max_answer};
+ghost use Rattle.cmwq_model.specs.Prelude.{fired, flush_item_answer, is_held_back, flush_delayed_answer, taken_back_for, cancel_sync_answer, waiting_for, end_of_ticket, started};
+ghost use Rattle.cmwq_model.specs.Prelude.{start_of, take_answer, finished, finish_answer, retire_answer, worker_answer, own_answer, answer};
 
 use crate::active::next;
 use crate::fire::{first_due, has_timers};

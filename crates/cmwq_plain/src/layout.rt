@@ -1,5 +1,5 @@
 ghost use Rattle.std.specs.Prelude.{◌≡◌};
-ghost use Rattle.cmwq_model.specs.Layout.{queue_at, first_width, is_freezable, is_intensive, pool_at};
+ghost use Rattle.cmwq_model.specs.Prelude.{queue_at, first_width, is_freezable, is_intensive, pool_at};
 
 use cmwq_model::{Place, PoolId, QueueShape, Shape};
 

@@ -16,8 +16,7 @@ mod worker;
 
 ghost use Rattle.std.specs.Prelude.{◌≡◌, ◌≤◌, length};
 ghost use Rattle.cmwq_model.specs.Calls as calls;
-ghost use Rattle.cmwq_model.specs.Answer.{answer};
-ghost use Rattle.cmwq_model.specs.Legal.{past_of};
+ghost use Rattle.cmwq_model.specs.Prelude.{answer, past_of};
 ghost use Rattle.cmwq_model.specs.Room as room;
 
 use cmwq_look::Past;

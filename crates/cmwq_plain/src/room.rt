@@ -1,9 +1,6 @@
 ghost use Rattle.std.specs.Prelude.{◌≡◌, ◌≤◌, count_by, length};
 ghost use Rattle.std.specs.List.{range_with_len};
-ghost use Rattle.cmwq_model.specs.Bookings.{is_booked};
-ghost use Rattle.cmwq_model.specs.Queueings.{still_open};
-ghost use Rattle.cmwq_model.specs.Tickets.{unended};
-ghost use Rattle.cmwq_model.specs.Room.{pool_workers, cpu_workers, workers, has_not_started, owed, needed, has_time};
+ghost use Rattle.cmwq_model.specs.Prelude.{is_booked, still_open, unended, pool_workers, cpu_workers, workers, has_not_started, owed, needed, has_time};
 ghost use Rattle.cmwq_plain.specs.Partial.{owed_by_runs};
 
 use crate::layout::{cpus, items, workers};

@@ -1,8 +1,7 @@
 //! The verdict of a history.
 
 ghost use Rattle.std.specs.Prelude.{◌≡◌, ◌≤◌, length, None, IfSome, OnOk, IfErr, IsTrue};
-ghost use Rattle.cmwq_model.specs.Legal.{IsLegal, past_of, entry_for};
-ghost use Rattle.cmwq_model.specs.Verdict.{AllFit, Wants, IsFirstWrong};
+ghost use Rattle.cmwq_model.specs.Prelude.{IsLegal, past_of, entry_for, AllFit, Wants, IsFirstWrong};
 
 use crate::{reply_of, serial_of};
 use cmwq_model::{Entry, Illegal, Shape, Wanted};

@@ -1,5 +1,5 @@
 ghost use Rattle.std.specs.Prelude.{◌≡◌, Option};
-ghost use Rattle.cmwq_model.specs.Waits.{is_served_after, served, is_within, holds_up, least_waited, waits_for};
+ghost use Rattle.cmwq_model.specs.Prelude.{is_served_after, served, is_within, holds_up, least_waited, waits_for};
 ghost use Rattle.cmwq_plain.specs.Partial.{served_by};
 
 use cmwq_look::{Past, flushes, item_run, open_at, unended_at};

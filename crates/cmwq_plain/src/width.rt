@@ -1,5 +1,5 @@
 ghost use Rattle.std.specs.Prelude.{◌≡◌};
-ghost use Rattle.cmwq_model.specs.Widths.{max_active, width};
+ghost use Rattle.cmwq_model.specs.Prelude.{max_active, width};
 
 use crate::layout::{first_width, is_freezable};
 use cmwq_look::{Past, is_frozen, width_set};

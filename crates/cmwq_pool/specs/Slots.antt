@@ -2,7 +2,7 @@
 use Rattle.std.specs.Prelude.{ℕ, Bool, true, false, ◌&&◌, not, ◌==◌, if◌then◌else◌, List, length, find, count_by, slice_index_or, slice_set, Option, Some, None, option_map, is_some}
 use Rattle.std.specs.List.{range_with_len, list_any}
 use Rattle.std.specs.Option.{option_map_or}
-use Rattle.cmwq_model.specs.Workers.{has_spare}
+use Rattle.cmwq_model.specs.Prelude.{has_spare}
 use Rattle.cmwq_pool.specs.declared.task.Task.{Task}
 use Rattle.cmwq_pool.specs.declared.slot.Slot.{Slot}
 

@@ -1,5 +1,5 @@
 ghost use Rattle.std.specs.Prelude.{◌≡◌, ◌<◌, length, IsTrue, IsSome, IfSome, IfOk, Some};
-ghost use Rattle.cmwq_model.specs.Layout.{is_between};
+ghost use Rattle.cmwq_model.specs.Prelude.{is_between};
 ghost use Rattle.cmwq_pool.specs.Slots.{slot_at, is_idle, runs_awake, runs_asleep, run_number, runnable, enlisted_by, may_retire, slot_asleep, slot_awake, slot_free, slot_retired};
 ghost use Rattle.cmwq_pool.specs.PoolState.{new_pool_state, task, may_add, added, removed, next_task, next, started, with_slot_again};
 

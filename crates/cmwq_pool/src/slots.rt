@@ -1,6 +1,6 @@
 ghost use Rattle.std.specs.Prelude.{◌≡◌, ◌<◌, ◌≤◌, length, map, count_by, find, IsSome, IfSome, IfOk, Some};
 ghost use Rattle.std.specs.List.{range_with_len, list_any};
-ghost use Rattle.cmwq_model.specs.Workers.{has_spare};
+ghost use Rattle.cmwq_model.specs.Prelude.{has_spare};
 ghost use Rattle.cmwq_pool.specs.Slots.{new_slot, slot_at, is_idle, is_occupied, runnable, indices, is_other_idle, is_reserve_at, enlisted_by, slot_running, slot_free, with_slot, with_enlisted, slots_started};
 
 use crate::slot::Slot;

@@ -8,12 +8,7 @@ use Rattle.cmwq_model.specs.declared.id.CallerId.{CallerId}
 use Rattle.cmwq_model.specs.declared.id.Who.{Who}
 use Rattle.cmwq_model.specs.declared.id.Who.TheVariants.{Caller, Worker}
 use Rattle.cmwq_model.specs.declared.entry.Entry.{Entry}
-use Rattle.cmwq_model.specs.Calls.{is_at, is_by, same_who, serial_of}
-use Rattle.cmwq_model.specs.Layout.{Layout}
-use Rattle.cmwq_model.specs.Bookings.{booking}
-use Rattle.cmwq_model.specs.Runs.{item_start}
-use Rattle.cmwq_model.specs.Queueings.{queueings}
-use Rattle.cmwq_model.specs.Legal.{IsLegal, past_of, bits}
+use Rattle.cmwq_model.specs.Prelude.{is_at, is_by, same_who, serial_of, Layout, booking, item_start, queueings, IsLegal, past_of, bits}
 use Rattle.cmwq_publish.specs.Marked.{caller_of}
 
 pub newest_is_first : (log : List Entry) (e : Entry) → past_of (log ++ e ∷ []) ≡ e ∷ past_of log

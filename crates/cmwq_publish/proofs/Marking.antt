@@ -12,9 +12,7 @@ use Rattle.cmwq_model.specs.declared.id.ItemId.{ItemId}
 use Rattle.cmwq_model.specs.declared.id.Who.TheVariants.{Caller}
 use Rattle.cmwq_model.specs.declared.entry.Entry.{Entry}
 use Rattle.cmwq_model.specs.declared.entry.Mark.{Mark}
-use Rattle.cmwq_model.specs.Layout.{Layout}
-use Rattle.cmwq_model.specs.Calls.{is_at, serial_of}
-use Rattle.cmwq_model.specs.Legal.{past_of, bits}
+use Rattle.cmwq_model.specs.Prelude.{Layout, is_at, serial_of, past_of, bits}
 use Rattle.cmwq_publish.specs.declared.log.Law.{Law}
 use Rattle.cmwq_publish.specs.declared.versions.Versions.{Versions}
 use Rattle.cmwq_publish.specs.declared.versions.Known.{Known}

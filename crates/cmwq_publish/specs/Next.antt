@@ -3,9 +3,7 @@ use Rattle.std.specs.Prelude.{◌≡◌, ℕ, Bool, if◌then◌else◌, List, �
 use Rattle.cmwq_model.specs.declared.id.ItemId.{ItemId}
 use Rattle.cmwq_model.specs.declared.entry.Entry.{Entry}
 use Rattle.cmwq_model.specs.declared.entry.Mark.{Mark}
-use Rattle.cmwq_model.specs.Layout.{Layout}
-use Rattle.cmwq_model.specs.Calls.{is_at}
-use Rattle.cmwq_model.specs.Legal.{IsLegal, past_of, bits}
+use Rattle.cmwq_model.specs.Prelude.{Layout, is_at, IsLegal, past_of, bits}
 
 abbrev pub names : Mark → ℕ → Bool
 names m i = is_at (option_map (λ (item : ItemId). item.0) m.item) i

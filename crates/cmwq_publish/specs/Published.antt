@@ -7,9 +7,7 @@ use Rattle.cmwq_model.specs.declared.entry.Entry.{Entry}
 use Rattle.cmwq_model.specs.declared.id.CallerId.{CallerId}
 use Rattle.cmwq_model.specs.declared.id.ItemId.{ItemId}
 use Rattle.cmwq_model.specs.declared.id.Who.TheVariants.{Caller}
-use Rattle.cmwq_model.specs.Calls.{serial_of}
-use Rattle.cmwq_model.specs.Layout.{Layout}
-use Rattle.cmwq_model.specs.Legal.{IsLegal, past_of, bits}
+use Rattle.cmwq_model.specs.Prelude.{serial_of, Layout, IsLegal, past_of, bits}
 use Rattle.cmwq_publish.specs.declared.versions.Versions.{Versions}
 use Rattle.cmwq_publish.specs.declared.versions.Known.{Known}
 use Rattle.cmwq_publish.specs.declared.versions.Publish.{Publish}

@@ -1,7 +1,7 @@
 -- A published history that has no name yet: which hub it will be, and how many readers it has.
 use Rattle.std.specs.Prelude.{ℕ, []}
 use Rattle.logbook.specs.Pages.{Book}
-use Rattle.cmwq_model.specs.Layout.{Layout}
+use Rattle.cmwq_model.specs.Prelude.{Layout}
 
 pub record Unnamed : Type 0 where
   pub layout : Layout

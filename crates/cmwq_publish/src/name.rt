@@ -4,7 +4,7 @@ use std::sync::ledger::Ledger;
 /// Names one hub: the log of its history, its shape, and the ledger of its entries. Contracts alone read it.
 pub trait HubName: Ledger {
     ghost use Rattle.logbook.specs.Pages.{Book};
-    ghost use Rattle.cmwq_model.specs.Layout.{Layout};
+    ghost use Rattle.cmwq_model.specs.Prelude.{Layout};
 
     ghost book: { Book };
 

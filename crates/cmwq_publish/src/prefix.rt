@@ -1,6 +1,6 @@
 ghost use Rattle.std.specs.Prelude.{◌≡◌, ◌<◌, ◌≤◌, ◌^◌, ◌++◌, ◌∷◌, [], length, IfSome};
 ghost use mathlib.Core.List.{IsPrefix};
-ghost use Rattle.cmwq_model.specs.Legal.{IsLegal, past_of};
+ghost use Rattle.cmwq_model.specs.Prelude.{IsLegal, past_of};
 
 use crate::log::{Add, Head, Law, Nothing, Token};
 use crate::name::HubName;
@@ -20,7 +20,7 @@ pub struct Prefix<N: HubName> {
 impl<N: HubName> Model for Prefix<N> {
     ghost use Rattle.std.specs.Prelude.{◌≡◌, List, length};
     ghost use Rattle.cmwq_model.specs.declared.entry.Entry.{Entry};
-    ghost use Rattle.cmwq_model.specs.Legal.{IsLegal, past_of};
+    ghost use Rattle.cmwq_model.specs.Prelude.{IsLegal, past_of};
 
     ghost Value = { List Entry };
 

@@ -3,8 +3,7 @@ use Rattle.std.specs.Prelude.{◌≡◌, ℕ, ◌+◌, ◌*◌, ◌-◌, ◌<◌
 use Rattle.std.specs.List.{AllByRecursion, list_any}
 use Rattle.cmwq_model.specs.declared.record.Queueing.{Queueing}
 use Rattle.cmwq_model.specs.declared.shape.QueueShape.{QueueShape}
-use Rattle.cmwq_model.specs.Layout.{no_queue}
-use Rattle.cmwq_model.specs.Queueings.{has_number}
+use Rattle.cmwq_model.specs.Prelude.{no_queue, has_number}
 use Rattle.cmwq_theory_steps.specs.Places.{is_on}
 
 -- what waits, and what the last pass made active, both in their order; room is how many may wait

@@ -2,7 +2,7 @@
 
 ghost use Rattle.std.specs.Prelude.{◌≡◌, ◌+◌, ◌≤◌, false, filter, position, vec_len, vec_capacity, IfNone, IfSome, OnSome};
 ghost use Rattle.std.specs.List.{AllByRecursion, list_any};
-ghost use Rattle.cmwq_model.specs.Queueings.{has_number};
+ghost use Rattle.cmwq_model.specs.Prelude.{has_number};
 ghost use Rattle.cmwq_theory_steps.specs.Places.{is_on};
 ghost use Rattle.cmwq_pwq.specs.Pwqs.{is_other, IsFirstTaken};
 

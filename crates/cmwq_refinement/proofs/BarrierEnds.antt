@@ -4,9 +4,7 @@ use Rattle.std.specs.Prelude.{Contains, is_some}
 use Rattle.std.specs.List.{filter_map}
 use Rattle.cmwq_model.specs.declared.entry.Entry.{Entry}
 use Rattle.cmwq_model.specs.declared.record.Ticket.{Ticket}
-use Rattle.cmwq_model.specs.Layout.{Layout}
-use Rattle.cmwq_model.specs.Tickets.{unended}
-use Rattle.cmwq_model.specs.Legal.{IsLegal}
+use Rattle.cmwq_model.specs.Prelude.{Layout, unended, IsLegal}
 use Rattle.cmwq_theory_steps.specs.TicketSteps.{ticket_ended}
 use Rattle.cmwq_flush.specs.declared.barrier.Barrier.{Barrier}
 use Rattle.cmwq_flush.specs.BarrierBook.{tickets_in, IsReady}

@@ -10,10 +10,7 @@ use Rattle.std.proofs.lemmas.List.Sums.{length-filter}
 use Rattle.cmwq_model.specs.declared.entry.Entry.{Entry}
 use Rattle.cmwq_model.specs.declared.record.Queueing.{Queueing}
 use Rattle.cmwq_model.specs.declared.record.Ticket.{Ticket}
-use Rattle.cmwq_model.specs.Layout.{Layout, has_numbers}
-use Rattle.cmwq_model.specs.Queueings.{still_open, opening, is_of}
-use Rattle.cmwq_model.specs.Tickets.{unended}
-use Rattle.cmwq_model.specs.Legal.{IsLegal}
+use Rattle.cmwq_model.specs.Prelude.{Layout, has_numbers, still_open, opening, is_of, unended, IsLegal}
 use Rattle.cmwq_flush.specs.declared.barrier.Barrier.{Barrier}
 use Rattle.cmwq_flush.specs.BarrierBook.{BarrierBook, numbers_open, HasRoom}
 use Rattle.cmwq_theory_steps.specs.Endings.{ending}

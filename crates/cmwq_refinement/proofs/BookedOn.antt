@@ -6,10 +6,7 @@ use Rattle.std.proofs.lemmas.Bool.{or_cases}
 use Rattle.std.proofs.lemmas.List.FromFn.{get_or-map-range_with_len, length-map-range_with_len}
 use Rattle.cmwq_model.specs.declared.entry.Entry.{Entry}
 use Rattle.cmwq_model.specs.declared.record.Booking.{Booking}
-use Rattle.cmwq_model.specs.Layout.{Layout}
-use Rattle.cmwq_model.specs.Bookings.{booking, standing}
-use Rattle.cmwq_model.specs.Answer.{is_booked_on}
-use Rattle.cmwq_model.specs.Legal.{IsLegal}
+use Rattle.cmwq_model.specs.Prelude.{Layout, booking, standing, is_booked_on, IsLegal}
 use Rattle.cmwq_timer.specs.Rows.{is_on, is_booked_on as booked_in_rows}
 use Rattle.cmwq_refinement.specs.Timers.{timer_for, row_of, timers_of}
 use Rattle.cmwq_refinement.proofs.Members.{In, in_at}

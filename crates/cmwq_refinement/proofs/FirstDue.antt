@@ -8,11 +8,8 @@ use Rattle.std.proofs.lemmas.Option.{same_Some}
 use Rattle.cmwq_model.specs.declared.id.ItemId.{ItemId}
 use Rattle.cmwq_model.specs.declared.entry.Entry.{Entry}
 use Rattle.cmwq_model.specs.declared.record.Booking.{Booking}
-use Rattle.cmwq_model.specs.Layout.{Layout}
-use Rattle.cmwq_model.specs.Calls.{is_at, is_of_item, now}
-use Rattle.cmwq_model.specs.Bookings.{settles, booking, booking_of, bookings, number_booked, stands, standing}
-use Rattle.cmwq_model.specs.Answer.{may_fire, is_due_before, is_soonest, soonest, first_due}
-use Rattle.cmwq_model.specs.Legal.{IsLegal}
+use Rattle.cmwq_model.specs.Prelude.{Layout, is_at, is_of_item, now, settles, booking, booking_of, bookings, number_booked, stands, standing, may_fire, is_due_before}
+use Rattle.cmwq_model.specs.Prelude.{is_soonest, soonest, first_due, IsLegal}
 use Rattle.cmwq_timer.specs.declared.timer.Timer.{Timer}
 use Rattle.cmwq_timer.specs.Due.{is_sooner, may_fire as timer_may_fire}
 use Rattle.cmwq_timer.specs.Rows.{MayFire, NoneMayFire, IsFirstToFire, timer_of}

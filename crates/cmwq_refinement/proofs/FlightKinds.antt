@@ -5,16 +5,11 @@ use Rattle.cmwq_model.specs.declared.id.WorkerId.{WorkerId}
 use Rattle.cmwq_model.specs.declared.id.Who.{Who}
 use Rattle.cmwq_model.specs.declared.id.Who.TheVariants.{Worker}
 use Rattle.cmwq_model.specs.declared.reply.Reply.{Reply}
-use Rattle.cmwq_model.specs.declared.reply.Reply.TheVariants as reply
 use Rattle.cmwq_model.specs.declared.entry.Entry.{Entry}
 use Rattle.cmwq_model.specs.declared.record.Queueing.{Queueing}
 use Rattle.cmwq_model.specs.declared.record.Start.{Start}
-use Rattle.cmwq_model.specs.Layout.{Layout}
-use Rattle.cmwq_model.specs.Calls.{item_of, item_at}
-use Rattle.cmwq_model.specs.Fate.{number_started, number_finished, is_started}
-use Rattle.cmwq_model.specs.Runs.{run, item_run, item_runs}
-use Rattle.cmwq_model.specs.Queueings.{unstarted, queueing_at}
-use Rattle.cmwq_model.specs.Legal.{IsLegal}
+use Rattle.cmwq_model.specs.Prelude.{Layout, item_of, item_at, number_started, number_finished, is_started, run, item_run, item_runs, unstarted, queueing_at, IsLegal}
+use Rattle.cmwq_model.specs.declared.reply.Reply.TheVariants as reply
 use Rattle.cmwq_theory_steps.specs.Endings.{ending}
 use Rattle.cmwq_theory_steps.specs.ItemQueueings.{queueing_run, ended_by}
 use Rattle.cmwq_theory_steps.proofs.EndsAsTold.{ends_as_told, unstarted_found}

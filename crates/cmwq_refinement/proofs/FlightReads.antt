@@ -10,10 +10,7 @@ use Rattle.cmwq_model.specs.declared.id.WorkerId.{WorkerId}
 use Rattle.cmwq_model.specs.declared.entry.Entry.{Entry}
 use Rattle.cmwq_model.specs.declared.record.Queueing.{Queueing}
 use Rattle.cmwq_model.specs.declared.record.Start.{Start}
-use Rattle.cmwq_model.specs.Layout.{Layout}
-use Rattle.cmwq_model.specs.Runs.{run, item_run}
-use Rattle.cmwq_model.specs.Queueings.{queueings, has_number, is_live, still_open, is_of, unstarted, queueing_at}
-use Rattle.cmwq_model.specs.Legal.{IsLegal}
+use Rattle.cmwq_model.specs.Prelude.{Layout, run, item_run, queueings, has_number, is_live, still_open, is_of, unstarted, queueing_at, IsLegal}
 use Rattle.cmwq_theory_steps.proofs.EndsAsTold.{runs_are_queueings}
 use Rattle.cmwq_theory_steps.proofs.Pools.{runs_are_in_pools}
 use Rattle.cmwq_theory_steps.proofs.RunsActive.{found_number}

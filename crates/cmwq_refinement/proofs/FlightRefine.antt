@@ -8,11 +8,7 @@ use Rattle.std.proofs.lemmas.Option.{same_Some}
 use Rattle.std.proofs.lemmas.List.FromFn.{length-range_with_len, length-map-range_with_len, get_or-map-range_with_len}
 use Rattle.cmwq_model.specs.declared.entry.Entry.{Entry}
 use Rattle.cmwq_model.specs.declared.record.Queueing.{Queueing}
-use Rattle.cmwq_model.specs.Layout.{Layout}
-use Rattle.cmwq_model.specs.Fate.{is_started}
-use Rattle.cmwq_model.specs.Runs.{item_start}
-use Rattle.cmwq_model.specs.Queueings.{queueings, still_open, is_unstarted, unstarted, opening}
-use Rattle.cmwq_model.specs.Legal.{IsLegal}
+use Rattle.cmwq_model.specs.Prelude.{Layout, is_started, item_start, queueings, still_open, is_unstarted, unstarted, opening, IsLegal}
 use Rattle.cmwq_theory_active.proofs.Rising.{opening_number}
 use Rattle.cmwq_theory_steps.specs.Endings.{is_ended, ending}
 use Rattle.cmwq_theory_steps.specs.Activations.{is_left}

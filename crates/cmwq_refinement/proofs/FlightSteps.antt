@@ -9,12 +9,8 @@ use Rattle.cmwq_model.specs.declared.entry.Entry.{Entry}
 use Rattle.cmwq_model.specs.declared.reply.Reply.{Reply}
 use Rattle.cmwq_model.specs.declared.record.Queueing.{Queueing}
 use Rattle.cmwq_model.specs.declared.record.Start.{Start}
-use Rattle.cmwq_model.specs.Layout.{Layout}
-use Rattle.cmwq_model.specs.Calls.{is_at}
-use Rattle.cmwq_model.specs.Fate.{number_finished, starts, is_started}
-use Rattle.cmwq_model.specs.Runs.{item_run, start_in, starts_item}
-use Rattle.cmwq_model.specs.Queueings.{still_open, is_unstarted, unstarted, queueing_at}
-use Rattle.cmwq_model.specs.Legal.{IsLegal}
+use Rattle.cmwq_model.specs.Prelude.{Layout, is_at, number_finished, starts, is_started, item_run, start_in, starts_item, still_open, is_unstarted, unstarted, queueing_at}
+use Rattle.cmwq_model.specs.Prelude.{IsLegal}
 use Rattle.cmwq_theory_steps.specs.RunSteps.{ends_run}
 use Rattle.cmwq_theory_steps.specs.Endings.{survives, ending}
 use Rattle.cmwq_theory_steps.specs.ItemQueueings.{still_unstarted}

@@ -5,18 +5,13 @@ use Rattle.std.specs.Option.{option_or}
 use Rattle.std.proofs.lemmas.Bool.{eqb-true}
 use Rattle.std.proofs.lemmas.Option.{same_Some}
 use Rattle.cmwq_model.specs.declared.call.Call.{Call}
-use Rattle.cmwq_model.specs.declared.call.Call.TheVariants as call
-use Rattle.cmwq_model.specs.declared.reply.Reply.TheVariants as reply
 use Rattle.cmwq_model.specs.declared.entry.Entry.{Entry}
 use Rattle.cmwq_model.specs.declared.record.Queueing.{Queueing}
 use Rattle.cmwq_model.specs.declared.record.Ticket.{Ticket}
-use Rattle.cmwq_model.specs.Layout.{Layout}
-use Rattle.cmwq_model.specs.Calls.{item_of}
-use Rattle.cmwq_model.specs.Fate.{number_finished, number_cancelled, replaces}
-use Rattle.cmwq_model.specs.Queueings.{opens, opening, place_wanted, queued_at, unstarted}
-use Rattle.cmwq_model.specs.Tickets.{flushes, is_flush_of, ticket_of, unended, is_done}
-use Rattle.cmwq_model.specs.Waits.{waits_for}
-use Rattle.cmwq_model.specs.Legal.{IsLegal}
+use Rattle.cmwq_model.specs.Prelude.{Layout, item_of, number_finished, number_cancelled, replaces, opens, opening, place_wanted, queued_at, unstarted, flushes, is_flush_of}
+use Rattle.cmwq_model.specs.Prelude.{ticket_of, unended, is_done, waits_for, IsLegal}
+use Rattle.cmwq_model.specs.declared.call.Call.TheVariants as call
+use Rattle.cmwq_model.specs.declared.reply.Reply.TheVariants as reply
 use Rattle.cmwq_theory_steps.specs.Endings.{ending}
 use Rattle.cmwq_theory_steps.specs.TicketSteps.{ticket_ended, ticket_asked}
 use Rattle.cmwq_theory_steps.proofs.Ended.{ends_which}

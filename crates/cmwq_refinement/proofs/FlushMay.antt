@@ -8,10 +8,7 @@ use Rattle.std.proofs.lemmas.List.Sums.{length-filter, count_by-le-length}
 use Rattle.cmwq_model.specs.declared.entry.Entry.{Entry}
 use Rattle.cmwq_model.specs.declared.record.Queueing.{Queueing}
 use Rattle.cmwq_model.specs.declared.record.Ticket.{Ticket}
-use Rattle.cmwq_model.specs.Layout.{Layout, is_layout}
-use Rattle.cmwq_model.specs.Queueings.{still_open, opening}
-use Rattle.cmwq_model.specs.Tickets.{unended, is_flush_of, is_drain_of}
-use Rattle.cmwq_model.specs.Legal.{IsLegal}
+use Rattle.cmwq_model.specs.Prelude.{Layout, is_layout, still_open, opening, unended, is_flush_of, is_drain_of, IsLegal}
 use Rattle.cmwq_flush.specs.Served.{ticket_of, tickets_of}
 use Rattle.cmwq_flush.specs.FlushBook.{FlushBook, flush_tickets, standing, HasRoom, CanOpen}
 use Rattle.cmwq_theory_steps.specs.Endings.{ending}

@@ -5,14 +5,11 @@ use Rattle.std.specs.List.{AllByRecursion, list_any}
 use Rattle.std.proofs.lemmas.Bool.{eqb-true, eq-eqb, lt-ltb, ltb-false, le-ltb, leb-true, le-leb, false≢true}
 use Rattle.std.proofs.lemmas.List.Elements.{recursion_from_All, All-from_recursion}
 use Rattle.cmwq_model.specs.declared.id.QueueId.{QueueId}
-use Rattle.cmwq_model.specs.declared.call.Call.TheVariants as call
 use Rattle.cmwq_model.specs.declared.entry.Entry.{Entry}
 use Rattle.cmwq_model.specs.declared.record.Queueing.{Queueing}
 use Rattle.cmwq_model.specs.declared.record.Ticket.{Ticket}
-use Rattle.cmwq_model.specs.Layout.{Layout}
-use Rattle.cmwq_model.specs.Queueings.{still_open}
-use Rattle.cmwq_model.specs.Tickets.{unended, is_flush_of, is_drain_of, is_draining}
-use Rattle.cmwq_model.specs.Waits.{served, is_within, is_older_flush, waits_for}
+use Rattle.cmwq_model.specs.Prelude.{Layout, still_open, unended, is_flush_of, is_drain_of, is_draining, served, is_within, is_older_flush, waits_for}
+use Rattle.cmwq_model.specs.declared.call.Call.TheVariants as call
 use Rattle.cmwq_flush.specs.declared.served.Served.{Served}
 use Rattle.cmwq_flush.specs.Served.{tickets_of, has_ticket}
 use Rattle.cmwq_flush.specs.FlushBook.{FlushBook, flush_tickets, served_of, IsReady}

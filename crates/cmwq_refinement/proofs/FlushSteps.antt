@@ -8,15 +8,12 @@ use Rattle.std.proofs.lemmas.Bool.{lt-ltb, le-ltb, le-leb, lt-leb}
 use Rattle.std.proofs.lemmas.List.{map-append, length-map}
 use Rattle.std.proofs.lemmas.List.Elements.{filter-append}
 use Rattle.cmwq_model.specs.declared.call.Call.{Call}
-use Rattle.cmwq_model.specs.declared.call.Call.TheVariants as call
 use Rattle.cmwq_model.specs.declared.entry.Entry.{Entry}
 use Rattle.cmwq_model.specs.declared.record.Queueing.{Queueing}
 use Rattle.cmwq_model.specs.declared.record.Ticket.{Ticket}
-use Rattle.cmwq_model.specs.Layout.{Layout}
-use Rattle.cmwq_model.specs.Queueings.{still_open, opening, queueings}
-use Rattle.cmwq_model.specs.Tickets.{unended, tickets, flushes, drains, is_flush_of, is_drain_of}
-use Rattle.cmwq_model.specs.Waits.{served, is_served_after, is_older_flush}
-use Rattle.cmwq_model.specs.Legal.{IsLegal}
+use Rattle.cmwq_model.specs.Prelude.{Layout, still_open, opening, queueings, unended, tickets, flushes, drains, is_flush_of, is_drain_of, served, is_served_after}
+use Rattle.cmwq_model.specs.Prelude.{is_older_flush, IsLegal}
+use Rattle.cmwq_model.specs.declared.call.Call.TheVariants as call
 use Rattle.cmwq_flush.specs.declared.served.Served.{Served}
 use Rattle.cmwq_flush.specs.Numbers.{is_other, without}
 use Rattle.cmwq_flush.specs.Served.{ticket_of, tickets_of}

@@ -6,12 +6,8 @@ use Rattle.std.proofs.lemmas.Option.{same_Some}
 use Rattle.cmwq_model.specs.declared.entry.Entry.{Entry}
 use Rattle.cmwq_model.specs.declared.record.Queueing.{Queueing}
 use Rattle.cmwq_model.specs.declared.record.Start.{Start}
-use Rattle.cmwq_model.specs.Layout.{Layout}
-use Rattle.cmwq_model.specs.Calls.{item_at}
-use Rattle.cmwq_model.specs.Fate.{starts, is_started, is_open}
-use Rattle.cmwq_model.specs.Runs.{item_run}
-use Rattle.cmwq_model.specs.Queueings.{queueings, has_number, is_live, still_open, opening, is_of, is_unstarted, unstarted}
-use Rattle.cmwq_model.specs.Legal.{IsLegal}
+use Rattle.cmwq_model.specs.Prelude.{Layout, item_at, starts, is_started, is_open, item_run, queueings, has_number, is_live, still_open, opening, is_of, is_unstarted, unstarted}
+use Rattle.cmwq_model.specs.Prelude.{IsLegal}
 use Rattle.cmwq_theory_steps.specs.Endings.{survives}
 use Rattle.cmwq_theory_active.proofs.Rising.{opening_number, queueings_below}
 use Rattle.cmwq_theory_steps.proofs.Entries.{IsKnown, queueings_known}

@@ -6,19 +6,15 @@ use Rattle.std.specs.List.{AllByRecursion}
 use Rattle.std.proofs.lemmas.Option.{same_Some}
 use Rattle.cmwq_model.specs.declared.id.CpuId.{CpuId}
 use Rattle.cmwq_model.specs.declared.call.Call.{Call}
-use Rattle.cmwq_model.specs.declared.call.Call.TheVariants as call
 use Rattle.cmwq_model.specs.declared.entry.Entry.{Entry}
 use Rattle.cmwq_model.specs.declared.record.Booking.{Booking}
 use Rattle.cmwq_model.specs.declared.record.Place.{Place}
 use Rattle.cmwq_model.specs.declared.record.Queueing.{Queueing}
 use Rattle.cmwq_model.specs.declared.record.Start.{Start}
 use Rattle.cmwq_model.specs.declared.record.Ticket.{Ticket}
-use Rattle.cmwq_model.specs.Layout.{Layout, has_numbers}
-use Rattle.cmwq_model.specs.Bookings.{booking}
-use Rattle.cmwq_model.specs.Runs.{item_run}
-use Rattle.cmwq_model.specs.Queueings.{queueings, has_number, is_live, still_open, opening, place_called, place_booked, place_wanted, cpu_for, queued_at}
-use Rattle.cmwq_model.specs.Tickets.{tickets, unended, is_unended, ticket_in}
-use Rattle.cmwq_model.specs.Legal.{IsLegal}
+use Rattle.cmwq_model.specs.Prelude.{Layout, has_numbers, booking, item_run, queueings, has_number, is_live, still_open, opening, place_called, place_booked, place_wanted}
+use Rattle.cmwq_model.specs.Prelude.{cpu_for, queued_at, tickets, unended, is_unended, ticket_in, IsLegal}
+use Rattle.cmwq_model.specs.declared.call.Call.TheVariants as call
 use Rattle.cmwq_theory_active.proofs.Lists.{All_append}
 use Rattle.cmwq_theory_steps.proofs.Entries.{opening_item}
 use Rattle.cmwq_theory_steps.proofs.Pending.{opening_opens}

@@ -9,10 +9,7 @@ use Rattle.std.proofs.lemmas.List.Elements.{All-from_recursion}
 use Rattle.cmwq_model.specs.declared.id.PoolId.{PoolId}
 use Rattle.cmwq_model.specs.declared.entry.Entry.{Entry}
 use Rattle.cmwq_model.specs.declared.record.Queueing.{Queueing}
-use Rattle.cmwq_model.specs.Layout.{Layout}
-use Rattle.cmwq_model.specs.Queueings.{still_open}
-use Rattle.cmwq_model.specs.Active.{worklist}
-use Rattle.cmwq_model.specs.Legal.{IsLegal}
+use Rattle.cmwq_model.specs.Prelude.{Layout, still_open, worklist, IsLegal}
 use Rattle.cmwq_theory_steps.specs.Activations.{is_left}
 use Rattle.cmwq_theory_steps.specs.Order.{since, IsSooner, AreInOrder}
 use Rattle.cmwq_theory_steps.proofs.Worklist.{worklist_is}

@@ -4,14 +4,9 @@ use Rattle.std.specs.Prelude.{option_map, is_some}
 use Rattle.cmwq_model.specs.declared.id.WorkerId.{WorkerId}
 use Rattle.cmwq_model.specs.declared.id.Who.TheVariants.{Worker}
 use Rattle.cmwq_model.specs.declared.reply.Reply.{Reply}
-use Rattle.cmwq_model.specs.declared.reply.Reply.TheVariants as reply
 use Rattle.cmwq_model.specs.declared.entry.Entry.{Entry}
-use Rattle.cmwq_model.specs.Layout.{Layout}
-use Rattle.cmwq_model.specs.Fate.{number_started, number_finished}
-use Rattle.cmwq_model.specs.Runs.{has_run, is_asleep, runs_awake, runs_asleep}
-use Rattle.cmwq_model.specs.Active.{next}
-use Rattle.cmwq_model.specs.Workers.{is_enlisted, may_retire, runnable}
-use Rattle.cmwq_model.specs.Legal.{IsLegal}
+use Rattle.cmwq_model.specs.Prelude.{Layout, number_started, number_finished, has_run, is_asleep, runs_awake, runs_asleep, next, is_enlisted, may_retire, runnable, IsLegal}
+use Rattle.cmwq_model.specs.declared.reply.Reply.TheVariants as reply
 use Rattle.cmwq_theory_steps.proofs.Starts.{starts_next}
 use Rattle.cmwq_theory_steps.proofs.Fresh.{finishes_run}
 use Rattle.cmwq_theory_steps.proofs.Causes.{cause_of}

@@ -12,13 +12,8 @@ use Rattle.cmwq_model.specs.declared.id.Who.TheVariants.{Caller, Worker}
 use Rattle.cmwq_model.specs.declared.entry.Entry.{Entry}
 use Rattle.cmwq_model.specs.declared.record.Queueing.{Queueing}
 use Rattle.cmwq_model.specs.declared.record.Start.{Start}
-use Rattle.cmwq_model.specs.Layout.{Layout, is_workers, indices, may_make, has_numbers}
-use Rattle.cmwq_model.specs.Calls.{is_by, same_who, item_at}
-use Rattle.cmwq_model.specs.Runs.{run, last_start, item_run, item_runs}
-use Rattle.cmwq_model.specs.Queueings.{is_unstarted, unstarted, still_open}
-use Rattle.cmwq_model.specs.Active.{worklist, next, is_startable}
-use Rattle.cmwq_model.specs.Workers.{worker_at}
-use Rattle.cmwq_model.specs.Legal.{IsLegal}
+use Rattle.cmwq_model.specs.Prelude.{Layout, is_workers, indices, may_make, has_numbers, is_by, same_who, item_at, run, last_start, item_run, item_runs, is_unstarted, unstarted}
+use Rattle.cmwq_model.specs.Prelude.{still_open, worklist, next, is_startable, worker_at, IsLegal}
 use Rattle.cmwq_theory_steps.proofs.RunsActive.{found_known}
 use Rattle.cmwq_theory_steps.proofs.ItemSteps.{items_are_run}
 use Rattle.cmwq_theory_steps.proofs.ItemRuns.{runs_are_items, run_is, last_start_cases, now, before, same_worker-true}

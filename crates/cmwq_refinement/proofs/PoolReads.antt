@@ -8,14 +8,9 @@ use Rattle.cmwq_model.specs.declared.id.PoolId.{PoolId}
 use Rattle.cmwq_model.specs.declared.id.WorkerId.{WorkerId}
 use Rattle.cmwq_model.specs.declared.entry.Entry.{Entry}
 use Rattle.cmwq_model.specs.declared.record.Queueing.{Queueing}
-use Rattle.cmwq_model.specs.Layout.{Layout, indices, is_intensive, pool_at}
-use Rattle.cmwq_model.specs.Calls.{same_pool}
-use Rattle.cmwq_model.specs.Fate.{is_started}
-use Rattle.cmwq_model.specs.Runs.{run, has_run, is_asleep}
-use Rattle.cmwq_model.specs.Queueings.{queueings, still_open, is_live, queueing_at, queue_of, run_queue}
-use Rattle.cmwq_model.specs.Active.{is_active, worklist, is_listed}
-use Rattle.cmwq_model.specs.Workers.{worker_at, is_enlisted, is_holding, is_idle, is_occupied, is_reserve, is_other_idle, runnable, enlisted_by, has_spare, may_retire}
-use Rattle.cmwq_model.specs.Legal.{IsLegal}
+use Rattle.cmwq_model.specs.Prelude.{Layout, indices, is_intensive, pool_at, same_pool, is_started, run, has_run, is_asleep, queueings, still_open, is_live, queueing_at}
+use Rattle.cmwq_model.specs.Prelude.{queue_of, run_queue, is_active, worklist, is_listed, worker_at, is_enlisted, is_holding, is_idle, is_occupied, is_reserve, is_other_idle}
+use Rattle.cmwq_model.specs.Prelude.{runnable, enlisted_by, has_spare, may_retire, IsLegal}
 use Rattle.cmwq_theory_active.proofs.Joined.{active_live}
 use Rattle.cmwq_theory_active.proofs.Lists.{All_map, count_by-cons}
 use Rattle.cmwq_theory_steps.proofs.RunsActive.{found_number}

@@ -9,18 +9,12 @@ use Rattle.cmwq_model.specs.declared.id.WorkerId.{WorkerId}
 use Rattle.cmwq_model.specs.declared.id.Who.{Who}
 use Rattle.cmwq_model.specs.declared.id.Who.TheVariants.{Caller, Worker}
 use Rattle.cmwq_model.specs.declared.reply.Reply.{Reply}
-use Rattle.cmwq_model.specs.declared.reply.Reply.TheVariants as reply
 use Rattle.cmwq_model.specs.declared.entry.Entry.{Entry}
 use Rattle.cmwq_model.specs.declared.record.Queueing.{Queueing}
-use Rattle.cmwq_model.specs.Layout.{Layout, indices}
-use Rattle.cmwq_model.specs.Calls.{is_at, is_by, same_pool, same_who}
-use Rattle.cmwq_model.specs.Fate.{number_started}
-use Rattle.cmwq_model.specs.Runs.{run, is_asleep, asleep_after}
-use Rattle.cmwq_model.specs.Queueings.{queueing_at}
-use Rattle.cmwq_model.specs.Active.{next}
-use Rattle.cmwq_model.specs.Workers.{worker_at, index_enlisted, is_in_pool, enlists, is_retired, is_enlisted, is_other_idle, is_reserve, enlisted_by}
+use Rattle.cmwq_model.specs.Prelude.{Layout, indices, is_at, is_by, same_pool, same_who, number_started, run, is_asleep, asleep_after, queueing_at, next, worker_at}
+use Rattle.cmwq_model.specs.Prelude.{index_enlisted, is_in_pool, enlists, is_retired, is_enlisted, is_other_idle, is_reserve, enlisted_by, IsLegal}
+use Rattle.cmwq_model.specs.declared.reply.Reply.TheVariants as reply
 use Rattle.cmwq_model.specs.Answer.{started as started_reply}
-use Rattle.cmwq_model.specs.Legal.{IsLegal}
 use Rattle.cmwq_theory_steps.specs.RunSteps.{run_after}
 use Rattle.cmwq_theory_steps.proofs.Starts.{starts_next}
 use Rattle.cmwq_theory_steps.proofs.StartsListed.{IsFound, queueings_found, queueing_at-older}

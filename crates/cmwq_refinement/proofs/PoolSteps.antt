@@ -11,17 +11,11 @@ use Rattle.cmwq_model.specs.declared.id.WorkerId.{WorkerId}
 use Rattle.cmwq_model.specs.declared.id.Who.{Who}
 use Rattle.cmwq_model.specs.declared.id.Who.TheVariants.{Caller, Worker}
 use Rattle.cmwq_model.specs.declared.reply.Reply.{Reply}
-use Rattle.cmwq_model.specs.declared.reply.Reply.TheVariants as reply
 use Rattle.cmwq_model.specs.declared.entry.Entry.{Entry}
 use Rattle.cmwq_model.specs.declared.record.Queueing.{Queueing}
-use Rattle.cmwq_model.specs.Layout.{Layout, indices, pool_at}
-use Rattle.cmwq_model.specs.Calls.{is_at, same_pool, is_of_item}
-use Rattle.cmwq_model.specs.Fate.{number_started, number_finished, replaces, finishes, is_started}
-use Rattle.cmwq_model.specs.Runs.{last_start, is_asleep}
-use Rattle.cmwq_model.specs.Queueings.{queueings, still_open, queueing_at}
-use Rattle.cmwq_model.specs.Active.{activated, worklist}
-use Rattle.cmwq_model.specs.Workers.{is_enlisted, worker_at}
-use Rattle.cmwq_model.specs.Legal.{IsLegal}
+use Rattle.cmwq_model.specs.Prelude.{Layout, indices, pool_at, is_at, same_pool, is_of_item, number_started, number_finished, replaces, finishes, is_started, last_start}
+use Rattle.cmwq_model.specs.Prelude.{is_asleep, queueings, still_open, queueing_at, activated, worklist, is_enlisted, worker_at, IsLegal}
+use Rattle.cmwq_model.specs.declared.reply.Reply.TheVariants as reply
 use Rattle.cmwq_theory_steps.specs.Endings.{survives, is_ended, ending}
 use Rattle.cmwq_theory_steps.specs.Activations.{is_left, is_in}
 use Rattle.cmwq_theory_active.proofs.Lists.{All_map, All_each}

@@ -9,24 +9,17 @@ use Rattle.cmwq_model.specs.declared.id.WorkerId.{WorkerId}
 use Rattle.cmwq_model.specs.declared.id.Who.{Who}
 use Rattle.cmwq_model.specs.declared.id.Who.TheVariants.{Caller, Worker}
 use Rattle.cmwq_model.specs.declared.call.Call.{Call}
-use Rattle.cmwq_model.specs.declared.call.Call.TheVariants as call
 use Rattle.cmwq_model.specs.declared.reply.Reply.{Reply}
-use Rattle.cmwq_model.specs.declared.reply.Reply.TheVariants as reply
 use Rattle.cmwq_model.specs.declared.entry.Entry.{Entry}
 use Rattle.cmwq_model.specs.declared.record.Booking.{Booking}
 use Rattle.cmwq_model.specs.declared.record.Queueing.{Queueing}
 use Rattle.cmwq_model.specs.declared.record.Ticket.{Ticket}
-use Rattle.cmwq_model.specs.Layout.{Layout, may_make, has_place, has_numbers}
-use Rattle.cmwq_model.specs.Calls.{item_called, item_fired, item_of}
-use Rattle.cmwq_model.specs.Bookings.{settles, due_in, booked_by, booking_of, bookings}
-use Rattle.cmwq_model.specs.Runs.{runs_awake, runs_asleep, run}
-use Rattle.cmwq_model.specs.Active.{next}
-use Rattle.cmwq_model.specs.Workers.{enlisted_by}
-use Rattle.cmwq_model.specs.Tickets.{is_gone, is_crowded, ticket_of}
-use Rattle.cmwq_model.specs.Widths.{is_frozen}
-use Rattle.cmwq_model.specs.Waits.{waits_for}
-use Rattle.cmwq_model.specs.Answer.{answer, wait_answer, destroy_answer, set_max_answer, fired, first_due, end_of_ticket, waiting_for, take_answer, start_of, started, finish_answer, finished, retire_answer}
-use Rattle.cmwq_model.specs.Legal.{IsLegal}
+use Rattle.cmwq_model.specs.Prelude.{Layout, may_make, has_place, has_numbers, item_called, item_fired, item_of, settles, due_in, booked_by, booking_of, bookings, runs_awake}
+use Rattle.cmwq_model.specs.Prelude.{runs_asleep, run, next, enlisted_by, is_gone, is_crowded, ticket_of, is_frozen, waits_for, answer, wait_answer, destroy_answer}
+use Rattle.cmwq_model.specs.Prelude.{set_max_answer, fired, first_due, end_of_ticket, waiting_for, take_answer, start_of, started, finish_answer, finished, retire_answer}
+use Rattle.cmwq_model.specs.Prelude.{IsLegal}
+use Rattle.cmwq_model.specs.declared.call.Call.TheVariants as call
+use Rattle.cmwq_model.specs.declared.reply.Reply.TheVariants as reply
 use Rattle.cmwq_theory_active.proofs.Lists.{All_append}
 use Rattle.cmwq_theory_steps.proofs.Inversions.{answer_is}
 

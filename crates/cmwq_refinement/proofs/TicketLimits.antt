@@ -5,9 +5,7 @@ use Rattle.std.specs.List.{AllByRecursion}
 use Rattle.std.proofs.lemmas.Bool.{and_parts, eqb-true, ltb-true, leb-false}
 use Rattle.cmwq_model.specs.declared.entry.Entry.{Entry}
 use Rattle.cmwq_model.specs.declared.record.Ticket.{Ticket}
-use Rattle.cmwq_model.specs.Layout.{Layout, is_callers, may_make, has_numbers}
-use Rattle.cmwq_model.specs.Tickets.{tickets, unended, is_unended, ticket_in, is_crowded}
-use Rattle.cmwq_model.specs.Legal.{IsLegal}
+use Rattle.cmwq_model.specs.Prelude.{Layout, is_callers, may_make, has_numbers, tickets, unended, is_unended, ticket_in, is_crowded, IsLegal}
 use Rattle.cmwq_theory_steps.specs.Histories.{one}
 use Rattle.cmwq_theory_steps.specs.TicketSteps.{passes, ticket_ended}
 use Rattle.cmwq_theory_active.proofs.Lists.{All_map, All_append, All_filter}

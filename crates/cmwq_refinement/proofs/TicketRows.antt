@@ -8,7 +8,7 @@ use Rattle.std.proofs.lemmas.List.Elements.{filter-append}
 use Rattle.std.proofs.lemmas.List.FromFn.{get_or-map-range_with_len, sum_by-map-range_with_len_more}
 use Rattle.std.proofs.lemmas.List.Sums.{length-filter}
 use Rattle.cmwq_model.specs.declared.record.Ticket.{Ticket}
-use Rattle.cmwq_model.specs.Tickets.{is_held_by}
+use Rattle.cmwq_model.specs.Prelude.{is_held_by}
 use Rattle.cmwq_theory_active.proofs.Lists.{count_by-cons, find_none}
 use Rattle.cmwq_theory_steps.proofs.Filters.{filter_twice, filter_same, none_found}
 use Rattle.cmwq_theory_steps.proofs.Truth.{flip, or_true}

@@ -7,12 +7,11 @@ use Rattle.std.proofs.lemmas.Option.{same_Some}
 use Rattle.cmwq_model.specs.declared.id.Who.{Who}
 use Rattle.cmwq_model.specs.declared.id.Who.TheVariants.{Caller, Worker}
 use Rattle.cmwq_model.specs.declared.call.Call.{Call}
-use Rattle.cmwq_model.specs.declared.call.Call.TheVariants as call
-use Rattle.cmwq_model.specs.declared.reply.Reply.TheVariants as reply
 use Rattle.cmwq_model.specs.declared.entry.Entry.{Entry}
 use Rattle.cmwq_model.specs.declared.record.Ticket.{Ticket}
-use Rattle.cmwq_model.specs.Calls.{is_by}
-use Rattle.cmwq_model.specs.Tickets.{gives_ticket, ticket_for, ticket_in, tickets, is_end_of, is_done, ends, is_unended, unended}
+use Rattle.cmwq_model.specs.Prelude.{is_by, gives_ticket, ticket_for, ticket_in, tickets, is_end_of, is_done, ends, is_unended, unended}
+use Rattle.cmwq_model.specs.declared.call.Call.TheVariants as call
+use Rattle.cmwq_model.specs.declared.reply.Reply.TheVariants as reply
 use Rattle.cmwq_theory_active.proofs.Lists.{All_map}
 use Rattle.cmwq_theory_steps.proofs.Given.{IsGiven, tickets_given, unended_given}
 use Rattle.cmwq_theory_steps.specs.TicketSteps.{is_kept, is_ended_by, ticket_ended}

@@ -6,12 +6,11 @@ use Rattle.std.proofs.lemmas.Bool.Decides.{nat_tests}
 use Rattle.std.proofs.lemmas.List.FromFn.{length-range_with_len, length-map-range_with_len}
 use Rattle.std.proofs.lemmas.List.Sums.{length-filter}
 use Rattle.cmwq_model.specs.declared.call.Call.{Call}
-use Rattle.cmwq_model.specs.declared.call.Call.TheVariants as call
 use Rattle.cmwq_model.specs.declared.entry.Entry.{Entry}
 use Rattle.cmwq_model.specs.declared.record.Ticket.{Ticket}
-use Rattle.cmwq_model.specs.Layout.{Layout, is_layout, has_numbers}
-use Rattle.cmwq_model.specs.Tickets.{tickets, unended, is_unended, is_held_by, is_crowded, is_ticket, ticket_of, is_cancelling, is_draining, is_being_destroyed, is_cancel_sync_of, is_drain_of, is_destroy_of}
-use Rattle.cmwq_model.specs.Legal.{IsLegal}
+use Rattle.cmwq_model.specs.Prelude.{Layout, is_layout, has_numbers, tickets, unended, is_unended, is_held_by, is_crowded, is_ticket, ticket_of, is_cancelling, is_draining}
+use Rattle.cmwq_model.specs.Prelude.{is_being_destroyed, is_cancel_sync_of, is_drain_of, is_destroy_of, IsLegal}
+use Rattle.cmwq_model.specs.declared.call.Call.TheVariants as call
 use Rattle.cmwq_theory_active.proofs.Lists.{All_map, All_filter, All_each, count_by-filter}
 use Rattle.cmwq_theory_steps.specs.TicketSteps.{is_kept, ticket_ended}
 use Rattle.cmwq_theory_steps.proofs.Filters.{filter_same, count_by-wider}

@@ -3,10 +3,7 @@ use Rattle.std.proofs.Common.{◌≡◌, ℕ, Bool, true, false, List, ◌∷◌
 use Rattle.std.specs.Prelude.{is_some, if◌then◌else◌, IsTrue}
 use Rattle.cmwq_model.specs.declared.entry.Entry.{Entry}
 use Rattle.cmwq_model.specs.declared.record.Booking.{Booking}
-use Rattle.cmwq_model.specs.Layout.{Layout, is_layout}
-use Rattle.cmwq_model.specs.Calls.{item_of}
-use Rattle.cmwq_model.specs.Bookings.{settles, booking_of}
-use Rattle.cmwq_model.specs.Legal.{IsLegal}
+use Rattle.cmwq_model.specs.Prelude.{Layout, is_layout, item_of, settles, booking_of, IsLegal}
 use Rattle.cmwq_refinement.specs.Timers.{timers_of, told_settled, told, MayBeSet}
 use Rattle.cmwq_refinement.proofs.LayoutLimits.{queues_few}
 use Rattle.cmwq_refinement.proofs.Settled.{settled_of_an_item, booking_fits}

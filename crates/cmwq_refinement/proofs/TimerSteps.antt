@@ -8,14 +8,12 @@ use Rattle.std.specs.Option.{option_or}
 use Rattle.std.proofs.lemmas.Option.{same_Some}
 use Rattle.std.proofs.lemmas.Bool.{cases_eq, eq-eqb, ne_eqb}
 use Rattle.cmwq_model.specs.declared.call.Call.{Call}
-use Rattle.cmwq_model.specs.declared.call.Call.TheVariants as call
 use Rattle.cmwq_model.specs.declared.reply.Reply.{Reply}
-use Rattle.cmwq_model.specs.declared.reply.Reply.TheVariants as reply
 use Rattle.cmwq_model.specs.declared.entry.Entry.{Entry}
 use Rattle.cmwq_model.specs.declared.record.Booking.{Booking}
-use Rattle.cmwq_model.specs.Layout.{Layout}
-use Rattle.cmwq_model.specs.Calls.{item_called, item_fired, item_of, is_of_item, is_at}
-use Rattle.cmwq_model.specs.Bookings.{settles, due_in, booked_by, booking_of, booking}
+use Rattle.cmwq_model.specs.Prelude.{Layout, item_called, item_fired, item_of, is_of_item, is_at, settles, due_in, booked_by, booking_of, booking}
+use Rattle.cmwq_model.specs.declared.call.Call.TheVariants as call
+use Rattle.cmwq_model.specs.declared.reply.Reply.TheVariants as reply
 use Rattle.cmwq_timer.specs.declared.timer.Timer.{Timer}
 use Rattle.cmwq_timer.specs.Rows.{due_of, timer_of}
 use Rattle.cmwq_refinement.specs.Timers.{timer_for, row_of, timers_of, due_in_bookings}

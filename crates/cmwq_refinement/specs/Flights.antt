@@ -6,11 +6,7 @@ use Rattle.cmwq_model.specs.declared.reply.Reply.{Reply}
 use Rattle.cmwq_model.specs.declared.entry.Entry.{Entry}
 use Rattle.cmwq_model.specs.declared.record.Queueing.{Queueing}
 use Rattle.cmwq_model.specs.declared.record.Start.{Start}
-use Rattle.cmwq_model.specs.Layout.{Layout}
-use Rattle.cmwq_model.specs.Fate.{number_started, number_finished}
-use Rattle.cmwq_model.specs.Runs.{run, item_run, item_runs}
-use Rattle.cmwq_model.specs.Queueings.{opening, unstarted, queueing_at, still_open}
-use Rattle.cmwq_model.specs.Legal.{IsLegal}
+use Rattle.cmwq_model.specs.Prelude.{Layout, number_started, number_finished, run, item_run, item_runs, opening, unstarted, queueing_at, still_open, IsLegal}
 use Rattle.cmwq_theory_steps.specs.Endings.{ending}
 use Rattle.cmwq_inflight.specs.Flights.{Flight, no_flight, flight_at, open_count, opened, taken_back, started, finished}
 use Rattle.cmwq_refinement.specs.Told.{number_of_queueing}

@@ -2,15 +2,11 @@
 use Rattle.std.specs.Prelude.{◌≡◌, ℕ, ◌<◌, ◌≤◌, ◌↔◌, Bool, ◌==◌, if◌then◌else◌, List, ◌∷◌, length, map, filter, count_by, [], Contains, true, Option, Some, None, slice_get, nat_lt, nat_le, IsTrue}
 use Rattle.std.specs.List.{AllByRecursion}
 use Rattle.cmwq_model.specs.declared.id.QueueId.{QueueId}
-use Rattle.cmwq_model.specs.declared.call.Call.TheVariants as call
 use Rattle.cmwq_model.specs.declared.entry.Entry.{Entry}
 use Rattle.cmwq_model.specs.declared.record.Queueing.{Queueing}
 use Rattle.cmwq_model.specs.declared.record.Ticket.{Ticket}
-use Rattle.cmwq_model.specs.Layout.{Layout, is_layout}
-use Rattle.cmwq_model.specs.Queueings.{still_open, opening}
-use Rattle.cmwq_model.specs.Tickets.{unended, is_flush_of, is_drain_of, is_draining}
-use Rattle.cmwq_model.specs.Waits.{served, is_older_flush, waits_for}
-use Rattle.cmwq_model.specs.Legal.{IsLegal}
+use Rattle.cmwq_model.specs.Prelude.{Layout, is_layout, still_open, opening, unended, is_flush_of, is_drain_of, is_draining, served, is_older_flush, waits_for, IsLegal}
+use Rattle.cmwq_model.specs.declared.call.Call.TheVariants as call
 use Rattle.cmwq_theory_steps.specs.Endings.{ending}
 use Rattle.cmwq_theory_steps.specs.TicketSteps.{ticket_ended}
 use Rattle.cmwq_flush.specs.declared.served.Served.{Served}

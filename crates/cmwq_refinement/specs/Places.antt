@@ -3,10 +3,7 @@ use Rattle.std.specs.Prelude.{◌≡◌, ◌<◌, true, List, ◌∷◌, length,
 use Rattle.cmwq_model.specs.declared.entry.Entry.{Entry}
 use Rattle.cmwq_model.specs.declared.record.Queueing.{Queueing}
 use Rattle.cmwq_model.specs.declared.record.Ticket.{Ticket}
-use Rattle.cmwq_model.specs.Layout.{Layout, has_numbers}
-use Rattle.cmwq_model.specs.Queueings.{still_open, opening}
-use Rattle.cmwq_model.specs.Tickets.{unended}
-use Rattle.cmwq_model.specs.Legal.{IsLegal}
+use Rattle.cmwq_model.specs.Prelude.{Layout, has_numbers, still_open, opening, unended, IsLegal}
 
 pub record IsThere (s : Layout) (x : Queueing) : Type 0 where
   pub item : x.item.0 < s.items

@@ -5,17 +5,11 @@ use Rattle.cmwq_model.specs.declared.id.WorkerId.{WorkerId}
 use Rattle.cmwq_model.specs.declared.id.Who.{Who}
 use Rattle.cmwq_model.specs.declared.id.Who.TheVariants.{Caller, Worker}
 use Rattle.cmwq_model.specs.declared.reply.Reply.{Reply}
-use Rattle.cmwq_model.specs.declared.reply.Reply.TheVariants as reply
 use Rattle.cmwq_model.specs.declared.entry.Entry.{Entry}
 use Rattle.cmwq_model.specs.declared.record.Queueing.{Queueing}
-use Rattle.cmwq_model.specs.Layout.{Layout, indices, is_intensive}
-use Rattle.cmwq_model.specs.Calls.{same_pool}
-use Rattle.cmwq_model.specs.Fate.{finishes}
-use Rattle.cmwq_model.specs.Runs.{run, is_asleep}
-use Rattle.cmwq_model.specs.Queueings.{queueing_at}
-use Rattle.cmwq_model.specs.Active.{newly_active, worklist, next}
-use Rattle.cmwq_model.specs.Workers.{worker_at, is_enlisted, runnable, enlisted_by, is_idle, may_retire}
-use Rattle.cmwq_model.specs.Legal.{IsLegal}
+use Rattle.cmwq_model.specs.Prelude.{Layout, indices, is_intensive, same_pool, finishes, run, is_asleep, queueing_at, newly_active, worklist, next, worker_at, is_enlisted}
+use Rattle.cmwq_model.specs.Prelude.{runnable, enlisted_by, is_idle, may_retire, IsLegal}
+use Rattle.cmwq_model.specs.declared.reply.Reply.TheVariants as reply
 use Rattle.cmwq_theory_steps.specs.Endings.{ending}
 use Rattle.cmwq_theory_steps.specs.Activations.{is_in}
 use Rattle.cmwq_pool.specs.declared.task.Task.{Task}

@@ -5,9 +5,7 @@ use Rattle.cmwq_model.specs.declared.id.Who.{Who}
 use Rattle.cmwq_model.specs.declared.id.Who.TheVariants.{Caller}
 use Rattle.cmwq_model.specs.declared.entry.Entry.{Entry}
 use Rattle.cmwq_model.specs.declared.record.Ticket.{Ticket}
-use Rattle.cmwq_model.specs.Layout.{Layout, is_layout}
-use Rattle.cmwq_model.specs.Tickets.{unended, is_held_by, is_crowded, ticket_of, is_cancelling, is_draining, is_being_destroyed}
-use Rattle.cmwq_model.specs.Legal.{IsLegal}
+use Rattle.cmwq_model.specs.Prelude.{Layout, is_layout, unended, is_held_by, is_crowded, ticket_of, is_cancelling, is_draining, is_being_destroyed, IsLegal}
 use Rattle.cmwq_theory_steps.specs.TicketSteps.{ticket_ended}
 use Rattle.cmwq_ticket.specs.Rows as row
 use Rattle.cmwq_ticket.specs.Rows.{Rows, is_numbered, any_ticket, may_give, given, ended, count}

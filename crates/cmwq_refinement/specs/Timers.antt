@@ -5,12 +5,7 @@ use Rattle.std.specs.Int.{bit_at}
 use Rattle.cmwq_model.specs.declared.id.ItemId.{ItemId}
 use Rattle.cmwq_model.specs.declared.entry.Entry.{Entry}
 use Rattle.cmwq_model.specs.declared.record.Booking.{Booking}
-use Rattle.cmwq_model.specs.Layout.{Layout, is_layout}
-use Rattle.cmwq_model.specs.Calls.{item_of, now}
-use Rattle.cmwq_model.specs.Bookings.{settles, booking, booking_of, standing}
-use Rattle.cmwq_model.specs.Tickets.{is_draining}
-use Rattle.cmwq_model.specs.Answer.{is_booked_on, first_due}
-use Rattle.cmwq_model.specs.Legal.{IsLegal}
+use Rattle.cmwq_model.specs.Prelude.{Layout, is_layout, item_of, now, settles, booking, booking_of, standing, is_draining, is_booked_on, first_due, IsLegal}
 use Rattle.cmwq_timer.specs.declared.timer.Timer.{Timer}
 use Rattle.cmwq_timer.specs.Rows.{Rows, due_of, is_booked_on as booked_in_rows, NoneMayFire, IsFirstToFire}
 

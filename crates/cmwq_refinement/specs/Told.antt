@@ -3,7 +3,7 @@ use Rattle.std.specs.Prelude.{ℕ, List, length, Option}
 use Rattle.cmwq_model.specs.declared.entry.Entry.{Entry}
 use Rattle.cmwq_model.specs.declared.record.Ticket.{Ticket}
 use Rattle.cmwq_model.specs.declared.record.Queueing.{Queueing}
-use Rattle.cmwq_model.specs.Tickets.{ticket_in}
+use Rattle.cmwq_model.specs.Prelude.{ticket_in}
 
 abbrev pub number_of_queueing : Queueing → ℕ
 number_of_queueing x = x.number

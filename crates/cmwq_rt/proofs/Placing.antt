@@ -5,7 +5,7 @@ use Rattle.std.proofs.lemmas.Bool.{leb-true, ltb-true}
 use Rattle.cmwq_model.specs.declared.id.WorkerId.{WorkerId}
 use Rattle.cmwq_model.specs.declared.shape.Counts.{Counts}
 use Rattle.cmwq_model.specs.declared.shape.QueueShape.{QueueShape}
-use Rattle.cmwq_model.specs.Layout.{Layout, layout_of, is_layout}
+use Rattle.cmwq_model.specs.Prelude.{Layout, layout_of, is_layout}
 use Rattle.cmwq_monitor.specs.Places.{place, lane}
 use Rattle.cmwq_rt.specs.Places.{AreCounts, IsNextPlace, after_worker}
 

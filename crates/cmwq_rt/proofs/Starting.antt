@@ -1,8 +1,8 @@
 -- A worker that starts a queueing has its item to run.
 use Rattle.std.proofs.Common.{sym}
 use Rattle.cmwq_model.specs.declared.id.ItemId.{ItemId}
+use Rattle.cmwq_model.specs.Prelude.{Layout}
 use Rattle.cmwq_model.specs.declared.call.Call.TheVariants as call
-use Rattle.cmwq_model.specs.Layout.{Layout}
 use Rattle.cmwq_monitor.specs.Participants.{View}
 use Rattle.cmwq_monitor.specs.Calls.{own_entry}
 use Rattle.cmwq_monitor.specs.Starts.{StartsOne}

@@ -4,7 +4,7 @@ use Rattle.cmwq_model.specs.declared.id.Who.{Who}
 use Rattle.cmwq_model.specs.declared.call.Call.{Call}
 use Rattle.cmwq_model.specs.declared.reply.Reply.{Reply}
 use Rattle.cmwq_model.specs.declared.entry.Entry.{Entry}
-use Rattle.cmwq_model.specs.Layout.{Layout}
+use Rattle.cmwq_model.specs.Prelude.{Layout}
 use Rattle.cmwq_monitor.specs.Participants.{View, Gains, made_by}
 use Rattle.cmwq_monitor.specs.Faults.{is_full}
 use Rattle.cmwq_monitor.specs.Whole.{Makes, HadNoRoom, BrokeOff}

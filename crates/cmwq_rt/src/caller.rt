@@ -1,8 +1,7 @@
 //! A caller of a hub.
 ghost use Rattle.std.specs.Prelude.{◌≡◌, ◌<◌, [], length, true, false, IfOk, IfErr, MatchOption, Some, None};
 ghost use mathlib.Core.List.{IsPrefix};
-ghost use Rattle.cmwq_model.specs.Layout.{has_numbers, is_callers};
-ghost use Rattle.cmwq_model.specs.Legal.{past_of, IsLegal, bits};
+ghost use Rattle.cmwq_model.specs.Prelude.{has_numbers, is_callers, past_of, IsLegal, bits};
 ghost use Rattle.cmwq_model.specs.declared.call.Call.TheVariants as calls;
 ghost use Rattle.cmwq_monitor.specs.Participants.{Agree, Gains, is_caller};
 ghost use Rattle.cmwq_monitor.specs.Calls.{Extends};

@@ -1,7 +1,6 @@
 //! Callers that follow scripts.
 ghost use Rattle.std.specs.Prelude.{◌≡◌, ◌+◌, ◌<◌, ◌^◌, length, true, IfOk, IfErr, All};
-ghost use Rattle.cmwq_model.specs.Layout.{has_numbers, is_callers};
-ghost use Rattle.cmwq_model.specs.Scripted.{IsScripted};
+ghost use Rattle.cmwq_model.specs.Prelude.{has_numbers, is_callers, IsScripted};
 ghost use Rattle.cmwq_monitor.specs.Faults.{is_full};
 ghost use Rattle.cmwq_monitor.specs.Whole.{Completes, BrokeOff};
 ghost use Rattle.cmwq_rt.specs.Running.{breaks_off};

@@ -1,7 +1,7 @@
 //! The callers and workers of a hub that nobody has yet.
 ghost use Rattle.std.specs.Prelude.{◌≡◌, ◌+◌, ◌<◌, ◌≤◌, [], IfOk, IfErr, MatchOption, MatchResult, None};
 ghost use Rattle.cmwq_model.specs.declared.id.Who.TheVariants as whos;
-ghost use Rattle.cmwq_model.specs.Layout.{Layout};
+ghost use Rattle.cmwq_model.specs.Prelude.{Layout};
 ghost use Rattle.cmwq_core.specs.History.{IsThere};
 ghost use Rattle.cmwq_monitor.specs.Participants.{newcomer};
 ghost use Rattle.cmwq_monitor.specs.declared.fault.RunFault.TheVariants.{NoPlace};

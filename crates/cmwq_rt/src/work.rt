@@ -1,6 +1,6 @@
 //! What workers run.
 ghost use Rattle.std.specs.Prelude.{◌≡◌, ◌⊎◌, ◌<◌, true, false, IsTrue, IfOk, IfErr, None};
-ghost use Rattle.cmwq_model.specs.Layout.{fits, has_numbers, is_workers};
+ghost use Rattle.cmwq_model.specs.Prelude.{fits, has_numbers, is_workers};
 ghost use Rattle.cmwq_model.specs.declared.call.Call.TheVariants as calls;
 ghost use Rattle.cmwq_monitor.specs.Participants.{is_caller};
 ghost use Rattle.cmwq_monitor.specs.Calls.{Extends};
@@ -43,7 +43,7 @@ impl<'a, N: HubName, R> Model for RunCtx<'a, N, R> {
 /// The work functions of all items (the kernel's `work_func_t`).
 pub trait Work {
     ghost use Rattle.std.specs.Prelude.{◌≡◌, ◌<◌, None};
-    ghost use Rattle.cmwq_model.specs.Layout.{Layout};
+    ghost use Rattle.cmwq_model.specs.Prelude.{Layout};
     ghost use Rattle.cmwq_rt.specs.Later.{Later};
     ghost use Rattle.cmwq_rt.specs.Starting.{HasStarted};
     ghost use Rattle.cmwq_rt.specs.Running.{Behavior};

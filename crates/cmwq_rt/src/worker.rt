@@ -1,7 +1,7 @@
 //! A worker of a hub.
 ghost use Rattle.std.specs.Prelude.{◌≡◌, ◌+◌, true, false, IfOk, IfErr};
 ghost use mathlib.Core.List.{IsPrefix};
-ghost use Rattle.cmwq_model.specs.Legal.{past_of, IsLegal};
+ghost use Rattle.cmwq_model.specs.Prelude.{past_of, IsLegal};
 ghost use Rattle.cmwq_monitor.specs.Participants.{Agree, View, is_caller};
 ghost use Rattle.cmwq_monitor.specs.Held.{active_in};
 ghost use Rattle.cmwq_monitor.specs.Faults.{IsStranger};

@@ -8,7 +8,7 @@ use Rattle.cmwq_io.specs.Moves.{AppendsFront}
 use Rattle.cmwq_io.proofs.KnownBytes.{Appends-trans}
 use Rattle.cmwq_base.proofs.Fronts.{front_before, front_after}
 use Rattle.cmwq_model.specs.declared.entry.Entry.{Entry}
-use Rattle.cmwq_model.specs.Layout.{Layout}
+use Rattle.cmwq_model.specs.Prelude.{Layout}
 use Rattle.cmwq_text.specs.EntryText.{entry_text}
 use Rattle.cmwq_text.specs.HistoryText.{head_text, body_text, entries_text, last_text, text_of_format}
 use Rattle.cmwq_rt_journal.specs.Breaking.{BreaksOff}

@@ -3,7 +3,7 @@ use Rattle.std.specs.Prelude.{◌≡◌, ◌≢◌, ◌⊎◌, ◌+◌, ◌^◌,
 use Rattle.std.specs.Io.KnownBytes.{Appends}
 use Rattle.cmwq_io.specs.Moves.{AppendsFront}
 use Rattle.cmwq_model.specs.declared.entry.Entry.{Entry}
-use Rattle.cmwq_model.specs.Layout.{Layout}
+use Rattle.cmwq_model.specs.Prelude.{Layout}
 use Rattle.cmwq_text.specs.HistoryText.{body_text, entries_text, last_text}
 use Rattle.cmwq_monitor.specs.declared.fault.RunFault.TheVariants.{Stranger}
 use Rattle.cmwq_rt_journal.specs.declared.fault.JournalFault.{JournalFault}

@@ -4,7 +4,7 @@ ghost use Rattle.std.specs.Prelude.{◌≡◌, ◌≤◌, ℕ, [], ◌++◌, Lis
 ghost use Rattle.std.specs.Io.KnownBytes.{Appends};
 ghost use mathlib.Core.List.{IsPrefix};
 ghost use Rattle.cmwq_io.specs.Counts.{Rises};
-ghost use Rattle.cmwq_model.specs.Legal.{IsLegal, past_of};
+ghost use Rattle.cmwq_model.specs.Prelude.{IsLegal, past_of};
 ghost use Rattle.cmwq_text.specs.HistoryText.{body_text, text_of_format};
 ghost use Rattle.cmwq_rt_journal.specs.Faults.{Broke, EndBroke, ending_text, is_of_sink};
 

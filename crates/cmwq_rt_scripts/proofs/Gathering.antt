@@ -8,9 +8,7 @@ use Rattle.cmwq_model.specs.declared.id.Who.TheVariants.{Worker}
 use Rattle.cmwq_model.specs.declared.id.WorkerId.{WorkerId}
 use Rattle.cmwq_model.specs.declared.call.Call.{Call}
 use Rattle.cmwq_model.specs.declared.entry.Entry.{Entry}
-use Rattle.cmwq_model.specs.Layout.{Layout}
-use Rattle.cmwq_model.specs.Calls.{serial_of}
-use Rattle.cmwq_model.specs.Legal.{past_of}
+use Rattle.cmwq_model.specs.Prelude.{Layout, serial_of, past_of}
 use Rattle.cmwq_monitor.specs.Participants.{View, made_by, newcomer}
 use Rattle.cmwq_monitor.specs.Settled.{Settles}
 use Rattle.cmwq_monitor.proofs.Beginnings.{prefix_trans}

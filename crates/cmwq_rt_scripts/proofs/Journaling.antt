@@ -6,8 +6,7 @@ use Rattle.cmwq_io.specs.Moves.{AppendsFront}
 use Rattle.cmwq_base.proofs.Fronts.{front_before, front_after, front_whole}
 use Rattle.cmwq_model.specs.declared.call.Call.{Call}
 use Rattle.cmwq_model.specs.declared.entry.Entry.{Entry}
-use Rattle.cmwq_model.specs.Layout.{Layout}
-use Rattle.cmwq_model.specs.Legal.{IsLegal, past_of}
+use Rattle.cmwq_model.specs.Prelude.{Layout, IsLegal, past_of}
 use Rattle.cmwq_text.specs.HistoryText.{body_text, last_text, text_of_format}
 use Rattle.cmwq_rt_journal.specs.Faults.{Broke, EndBroke, ending_text}
 use Rattle.cmwq_rt_journal.specs.declared.fault.JournalFault.{JournalFault}

@@ -3,7 +3,7 @@ use Rattle.std.proofs.Common.{◌≡◌, ◌+◌, ap, sym, ◌∙◌, subst, ref
 use Rattle.std.specs.Prelude.{MatchOption, Option, Some, None}
 use Rattle.cmwq_model.specs.declared.id.WorkerId.{WorkerId}
 use Rattle.cmwq_model.specs.declared.id.Who.TheVariants.{Worker}
-use Rattle.cmwq_model.specs.Layout.{Layout}
+use Rattle.cmwq_model.specs.Prelude.{Layout}
 use Rattle.cmwq_monitor.specs.Participants.{View, newcomer}
 use Rattle.cmwq_rt.specs.Places.{Places, after_worker, next_after}
 

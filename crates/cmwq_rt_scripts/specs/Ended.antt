@@ -7,9 +7,7 @@ use Rattle.cmwq_model.specs.declared.id.Who.TheVariants.{Caller, Worker}
 use Rattle.cmwq_model.specs.declared.id.WorkerId.{WorkerId}
 use Rattle.cmwq_model.specs.declared.call.Call.{Call}
 use Rattle.cmwq_model.specs.declared.entry.Entry.{Entry}
-use Rattle.cmwq_model.specs.Layout.{Layout}
-use Rattle.cmwq_model.specs.Calls.{serial_of}
-use Rattle.cmwq_model.specs.Legal.{past_of, IsLegal}
+use Rattle.cmwq_model.specs.Prelude.{Layout, serial_of, past_of, IsLegal}
 use Rattle.cmwq_monitor.specs.Participants.{View, newcomer, made_by}
 use Rattle.cmwq_monitor.specs.Held.{active_in}
 use Rattle.cmwq_monitor.specs.declared.fault.RunFault.{RunFault}

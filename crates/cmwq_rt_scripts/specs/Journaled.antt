@@ -4,8 +4,7 @@ use Rattle.std.specs.Io.KnownBytes.{Appends}
 use Rattle.cmwq_io.specs.Moves.{AppendsFront}
 use Rattle.cmwq_model.specs.declared.call.Call.{Call}
 use Rattle.cmwq_model.specs.declared.entry.Entry.{Entry}
-use Rattle.cmwq_model.specs.Layout.{Layout}
-use Rattle.cmwq_model.specs.Legal.{IsLegal, past_of}
+use Rattle.cmwq_model.specs.Prelude.{Layout, IsLegal, past_of}
 use Rattle.cmwq_text.specs.HistoryText.{body_text, text_of_format}
 use Rattle.cmwq_rt.specs.Running.{Behavior}
 use Rattle.cmwq_rt_journal.specs.declared.fault.JournalFault.{JournalFault}

@@ -4,8 +4,7 @@ use Rattle.std.specs.declared.vec.Vec.{Vec}
 use Rattle.std.specs.declared.alloc.Global.{Global}
 use Rattle.std.specs.List.{list_all}
 use Rattle.cmwq_model.specs.declared.call.Call.{Call}
-use Rattle.cmwq_model.specs.Layout.{Layout, has_numbers}
-use Rattle.cmwq_model.specs.Scripted.{is_whole}
+use Rattle.cmwq_model.specs.Prelude.{Layout, has_numbers, is_whole}
 
 abbrev pub is_scripted : Layout → Call → Bool
 is_scripted s c = is_whole c && has_numbers s c

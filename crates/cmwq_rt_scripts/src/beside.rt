@@ -1,8 +1,7 @@
 //! Runs all threads beside the journal that writes their history.
 ghost use Rattle.std.specs.Prelude.{◌≡◌, ◌<◌, ◌≤◌, ◌^◌, length, true, All, IfOk, IfErr, OnOk};
 ghost use Rattle.cmwq_io.specs.Counts.{Rises};
-ghost use Rattle.cmwq_model.specs.Legal.{past_of, IsLegal};
-ghost use Rattle.cmwq_model.specs.Scripted.{IsScripted};
+ghost use Rattle.cmwq_model.specs.Prelude.{past_of, IsLegal, IsScripted};
 ghost use Rattle.cmwq_rt.specs.Places.{all_free};
 ghost use Rattle.cmwq_rt_journal.specs.Faults.{is_of_sink};
 ghost use Rattle.cmwq_rt_scripts.specs.Ended.{EndsAll, is_silent};

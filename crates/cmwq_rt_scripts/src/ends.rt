@@ -1,7 +1,7 @@
 //! What the threads of callers and workers run, and what they give back.
 ghost use Rattle.std.specs.Prelude.{◌≡◌, ◌<◌, ◌^◌, [], length, true, All, IfOk, IfErr};
 ghost use Rattle.cmwq_rt.specs.Running.{breaks_off};
-ghost use Rattle.cmwq_model.specs.Scripted.{IsScripted};
+ghost use Rattle.cmwq_model.specs.Prelude.{IsScripted};
 ghost use Rattle.cmwq_rt_scripts.specs.Ended.{FollowedAt, WorkedFrom, caller_at};
 
 use cmwq_model::{Call, CallerId};

@@ -1,7 +1,6 @@
 //! Scripts, each followed by a thread of its own, beside a thread for each worker.
 ghost use Rattle.std.specs.Prelude.{◌≡◌, ◌+◌, ◌<◌, ◌≤◌, ◌^◌, length, map, All, IfOk, IfErr};
-ghost use Rattle.cmwq_model.specs.Legal.{past_of, IsLegal};
-ghost use Rattle.cmwq_model.specs.Scripted.{IsScripted};
+ghost use Rattle.cmwq_model.specs.Prelude.{past_of, IsLegal, IsScripted};
 ghost use Rattle.cmwq_monitor.specs.Held.{active_in};
 ghost use Rattle.cmwq_rt.specs.Places.{all_free};
 ghost use Rattle.cmwq_rt_scripts.specs.Ended.{AllFollow, AllWorked, AreNewcomers, AreSilent, FailsAs, HaveEnded, HaveWorked};

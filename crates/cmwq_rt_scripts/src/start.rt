@@ -3,7 +3,7 @@ ghost use Rattle.std.specs.Prelude.{◌≡◌, ℕ, ◌+◌, ◌<◌, ◌≤◌,
 ghost use Rattle.cmwq_rt.specs.Running.{breaks_off};
 ghost use Rattle.cmwq_model.specs.declared.id.WorkerId as ids;
 ghost use Rattle.cmwq_model.specs.declared.id.Who.TheVariants as whos;
-ghost use Rattle.cmwq_model.specs.Scripted.{IsScripted};
+ghost use Rattle.cmwq_model.specs.Prelude.{IsScripted};
 ghost use Rattle.cmwq_monitor.specs.Participants.{newcomer};
 ghost use Rattle.cmwq_rt.specs.Places.{first_worker, worker_at};
 ghost use Rattle.cmwq_rt_scripts.specs.Ended.{AreNewcomers, FailsAs, FollowedAt, WorkedFrom, caller_at, is_silent};

@@ -1,7 +1,7 @@
 //! Whether calls may be scripts.
 ghost use Rattle.std.specs.Prelude.{◌≡◌, ◌<◌, ◌≤◌, ◌^◌, length, true, All, IsTrue, nat_le, ◌&&◌};
 ghost use Rattle.std.specs.List.{list_all};
-ghost use Rattle.cmwq_model.specs.Scripted.{IsScripted};
+ghost use Rattle.cmwq_model.specs.Prelude.{IsScripted};
 ghost use Rattle.cmwq_rt_scripts.specs.Tested.{is_scripted, is_script, are_scripts};
 
 use cmwq_model::{Call, Shape};

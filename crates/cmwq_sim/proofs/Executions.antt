@@ -7,12 +7,11 @@ use Rattle.std.proofs.lemmas.Bool.{lt-ltb, eq-eqb, eqb-true, ne_eqb}
 use Rattle.cmwq_model.specs.declared.id.Who.{Who}
 use Rattle.cmwq_model.specs.declared.id.Who.TheVariants.{Worker}
 use Rattle.cmwq_model.specs.declared.call.Call.{Call}
-use Rattle.cmwq_model.specs.declared.call.Call.TheVariants as call
 use Rattle.cmwq_model.specs.declared.entry.Entry.{Entry}
-use Rattle.cmwq_model.specs.Layout.{fits, is_workers, has_numbers}
-use Rattle.cmwq_model.specs.Room.{has_time, has_room}
-use Rattle.cmwq_model.specs.Legal.{entry_for}
-use Rattle.cmwq_model.specs.Queueings.{has_number}
+use Rattle.cmwq_model.specs.declared.record.Queueing.{Queueing}
+use Rattle.cmwq_model.specs.declared.id.WorkerId.{WorkerId}
+use Rattle.cmwq_model.specs.Prelude.{fits, is_workers, has_numbers, has_time, has_room, entry_for, has_number, run, needed}
+use Rattle.cmwq_model.specs.declared.call.Call.TheVariants as call
 use Rattle.cmwq_theory_steps.proofs.Pools.{runs_are_in_pools}
 use Rattle.cmwq_theory_steps.proofs.Growing.{one_more_is_newest}
 use Rattle.cmwq_core.specs.History.{History, past_in, next_entry, takes, with_entry}
@@ -23,9 +22,6 @@ use Rattle.cmwq_sim.specs.declared.execution.Execution.{Execution}
 use Rattle.cmwq_sim.specs.Plan.{Plan, ms_of, queue_of, is_of, max_active, event_of, no_item}
 use Rattle.cmwq_sim.specs.Limits.{IsItem, IsWithinLimits}
 use Rattle.cmwq_sim.specs.Lines.{Moment, Job, Sleeper, job_with, job_of, wake, millisecond, burn, burn_first, queue_item, queued, empty, starting, start, tell_starts, make_ready, tell, after_burn, serve, is_due, is_not, after_sleep, wake_sleeper, wake_item}
-use Rattle.cmwq_model.specs.declared.record.Queueing.{Queueing}
-use Rattle.cmwq_model.specs.declared.id.WorkerId.{WorkerId}
-use Rattle.cmwq_model.specs.Runs.{run}
 use Rattle.cmwq_sim.specs.Shows.{layout_for, worker, Shows, moment_of, queueing_for, IsRunAt, is_job}
 use Rattle.cmwq_sim.specs.Rooms.{IsRoomy}
 use Rattle.cmwq_sim.specs.Standing.{job_seen, sleeper_seen, moment_in, slot_in, Stands, StandsAt, started_one, starts_lines, LessFirst}
@@ -40,7 +36,6 @@ use Rattle.cmwq_sim.proofs.FinishShown.{job_run}
 use Rattle.std.proofs.lemmas.List.Sums.{fold-append}
 use Rattle.cmwq_sim.proofs.Queued.{range_more}
 use Rattle.cmwq_sim.specs.Rooms.{parts_left, parts_of_job}
-use Rattle.cmwq_model.specs.Room.{needed}
 use Rattle.cmwq_sim.proofs.Phases.{other_lines, taken, takes_on, starts_on, start_is}
 use Rattle.cmwq_sim.proofs.Queued.{ShowsQueued, queue_call, caller, queue_shown, all_shown, nothing_shown}
 use Rattle.cmwq_sim.proofs.RoomKept.{queue_roomy}

@@ -8,13 +8,8 @@ use Rattle.std.proofs.lemmas.Option.{same_Some}
 use Rattle.cmwq_model.specs.declared.reply.Reply.TheVariants as reply
 use Rattle.cmwq_model.specs.declared.entry.Entry.{Entry}
 use Rattle.cmwq_model.specs.declared.record.Queueing.{Queueing}
-use Rattle.cmwq_model.specs.Layout.{Layout, first_width}
-use Rattle.cmwq_model.specs.Calls.{item_of}
-use Rattle.cmwq_model.specs.Fate.{number_finished, number_cancelled}
-use Rattle.cmwq_model.specs.Queueings.{queueings, still_open, is_live, opening, opens, queued_at, place_wanted}
-use Rattle.cmwq_model.specs.Widths.{width}
-use Rattle.cmwq_model.specs.Active.{is_active, is_ahead, is_below_max_active, newly_active}
-use Rattle.cmwq_model.specs.Legal.{IsLegal}
+use Rattle.cmwq_model.specs.Prelude.{Layout, first_width, item_of, number_finished, number_cancelled, queueings, still_open, is_live, opening, opens, queued_at, place_wanted}
+use Rattle.cmwq_model.specs.Prelude.{width, is_active, is_ahead, is_below_max_active, newly_active, IsLegal}
 use Rattle.cmwq_theory_steps.specs.Endings.{is_ended, ending, number_replaced}
 use Rattle.cmwq_theory_steps.specs.Places.{is_on, open_on}
 use Rattle.cmwq_theory_laws.specs.FirstWidths.{HasFirstWidths}

@@ -9,17 +9,13 @@ use mathlib.Core.Bool.{beq}
 use Rattle.std.proofs.Math.ListN.{get_or-map}
 use Rattle.cmwq_model.specs.declared.id.WorkerId.{WorkerId}
 use Rattle.cmwq_model.specs.declared.id.Who.TheVariants.{Worker}
-use Rattle.cmwq_model.specs.declared.call.Call.TheVariants as call
-use Rattle.cmwq_model.specs.declared.reply.Reply.TheVariants as reply
 use Rattle.cmwq_model.specs.declared.entry.Entry.{Entry}
 use Rattle.cmwq_model.specs.declared.record.Queueing.{Queueing}
 use Rattle.cmwq_model.specs.declared.shape.QueueShape.{QueueShape}
-use Rattle.cmwq_model.specs.Calls.{item_of, is_by, is_at, is_of_item}
-use Rattle.cmwq_model.specs.Fate.{number_finished, number_cancelled, number_started, replaces, is_started}
-use Rattle.cmwq_model.specs.Queueings.{queueings, still_open, is_live, opens, queued_at, place_wanted}
-use Rattle.cmwq_model.specs.Active.{is_active, is_newly_active, newly_active, worklist}
-use Rattle.cmwq_model.specs.Answer.{answer}
-use Rattle.cmwq_model.specs.Legal.{IsLegal, entry_for}
+use Rattle.cmwq_model.specs.Prelude.{item_of, is_by, is_at, is_of_item, number_finished, number_cancelled, number_started, replaces, is_started, queueings, still_open, is_live}
+use Rattle.cmwq_model.specs.Prelude.{opens, queued_at, place_wanted, is_active, is_newly_active, newly_active, worklist, answer, IsLegal, entry_for, run, is_retired}
+use Rattle.cmwq_model.specs.declared.call.Call.TheVariants as call
+use Rattle.cmwq_model.specs.declared.reply.Reply.TheVariants as reply
 use Rattle.cmwq_theory_steps.specs.Endings.{survives}
 use Rattle.cmwq_theory_steps.specs.Activations.{waits, is_left, is_in}
 use Rattle.cmwq_theory_active.specs.Looks.{keeps_widths}
@@ -40,8 +36,6 @@ use Rattle.cmwq_refinement.proofs.PoolNext.{runner_there}
 use Rattle.cmwq_theory_steps.proofs.RunSteps.{workers_run_on}
 use Rattle.cmwq_theory_steps.proofs.OwedSteps.{by_itself}
 use Rattle.cmwq_theory_steps.specs.RunSteps.{run_after}
-use Rattle.cmwq_model.specs.Runs.{run}
-use Rattle.cmwq_model.specs.Workers.{is_retired}
 use Rattle.cmwq_sim.proofs.Steps.{count-append, other_slot}
 use Rattle.cmwq_sim.proofs.Finish.{finish_makes_ready}
 

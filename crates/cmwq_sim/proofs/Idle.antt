@@ -9,14 +9,10 @@ use Rattle.cmwq_model.specs.declared.id.WorkerId.{WorkerId}
 use Rattle.cmwq_model.specs.declared.id.Who.{Who}
 use Rattle.cmwq_model.specs.declared.id.Who.TheVariants.{Worker}
 use Rattle.cmwq_model.specs.declared.reply.Reply.{Reply}
-use Rattle.cmwq_model.specs.declared.reply.Reply.TheVariants as reply
 use Rattle.cmwq_model.specs.declared.entry.Entry.{Entry}
-use Rattle.cmwq_model.specs.Layout.{Layout, indices}
-use Rattle.cmwq_model.specs.Calls.{is_at, is_by, same_who, same_pool}
-use Rattle.cmwq_model.specs.Fate.{number_started}
-use Rattle.cmwq_model.specs.Runs.{run, has_run, last_start}
-use Rattle.cmwq_model.specs.Workers.{worker_at, index_enlisted, is_in_pool, enlists, is_retired, is_enlisted, is_idle, is_other_idle, is_reserve, enlisted_by}
-use Rattle.cmwq_model.specs.Legal.{IsLegal}
+use Rattle.cmwq_model.specs.Prelude.{Layout, indices, is_at, is_by, same_who, same_pool, number_started, run, has_run, last_start, worker_at, index_enlisted, is_in_pool}
+use Rattle.cmwq_model.specs.Prelude.{enlists, is_retired, is_enlisted, is_idle, is_other_idle, is_reserve, enlisted_by, IsLegal}
+use Rattle.cmwq_model.specs.declared.reply.Reply.TheVariants as reply
 use Rattle.cmwq_theory_steps.specs.RunSteps.{run_after}
 use Rattle.cmwq_theory_steps.proofs.Starts.{starts_next}
 use Rattle.cmwq_theory_steps.proofs.ItemRuns.{same_worker-true}

@@ -6,9 +6,9 @@ use Rattle.std.proofs.lemmas.List.{map-append}
 use Rattle.std.proofs.lemmas.Bool.{eqb-true, eq-eqb, and_parts}
 use Rattle.std.proofs.lemmas.Option.{same_Some}
 use Rattle.cmwq_model.specs.declared.id.Who.TheVariants.{Worker}
-use Rattle.cmwq_model.specs.declared.call.Call.TheVariants as call
 use Rattle.cmwq_model.specs.declared.entry.Entry.{Entry}
-use Rattle.cmwq_model.specs.Legal.{entry_for}
+use Rattle.cmwq_model.specs.Prelude.{entry_for}
+use Rattle.cmwq_model.specs.declared.call.Call.TheVariants as call
 use Rattle.cmwq_theory_active.proofs.Lists.{All_each}
 use Rattle.cmwq_theory_steps.proofs.Filters.{count_none}
 use Rattle.cmwq_sim.specs.declared.scenario.LineKind.TheVariants as kind

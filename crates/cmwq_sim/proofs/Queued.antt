@@ -11,25 +11,20 @@ use Rattle.cmwq_model.specs.declared.id.WorkerId.{WorkerId}
 use Rattle.cmwq_model.specs.declared.id.Who.{Who}
 use Rattle.cmwq_model.specs.declared.id.Who.TheVariants.{Caller, Worker}
 use Rattle.cmwq_model.specs.declared.call.Call.{Call}
-use Rattle.cmwq_model.specs.declared.call.Call.TheVariants as call
 use Rattle.cmwq_model.specs.declared.reply.Reply.{Reply}
-use Rattle.cmwq_model.specs.declared.reply.Reply.TheVariants as reply
 use Rattle.cmwq_model.specs.declared.entry.Entry.{Entry}
 use Rattle.cmwq_model.specs.declared.record.Queueing.{Queueing}
 use Rattle.cmwq_model.specs.declared.record.Start.{Start}
 use Rattle.cmwq_model.specs.declared.shape.QueueShape.{QueueShape}
+use Rattle.cmwq_model.specs.Prelude.{is_at, is_by, is_of_item, worker_of, item_at, number_started, number_finished, number_cancelled, replaces, is_started, is_finished}
+use Rattle.cmwq_model.specs.Prelude.{is_cancelled, is_open, booking, due_in, settles, last_start, run, start_in, item_start, item_run, gives_ticket, ticket_for, ends_destroy}
+use Rattle.cmwq_model.specs.Prelude.{tickets, is_unended, is_cancelling, is_done, is_gone, is_cancel_sync_of, is_drain_of, is_active, is_newly_active, newly_active, activated}
+use Rattle.cmwq_model.specs.Prelude.{worklist, is_retired, queue_answer, answer, is_shut, IsLegal, entry_for}
+use Rattle.cmwq_model.specs.declared.call.Call.TheVariants as call
+use Rattle.cmwq_model.specs.declared.reply.Reply.TheVariants as reply
 use Rattle.cmwq_model.specs.Layout.{first_width, no_queue as no_shape}
-use Rattle.cmwq_model.specs.Calls.{is_at, is_by, is_of_item, worker_of, item_at}
-use Rattle.cmwq_model.specs.Fate.{number_started, number_finished, number_cancelled, replaces, is_started, is_finished, is_cancelled, is_open}
-use Rattle.cmwq_model.specs.Bookings.{booking, due_in, settles}
-use Rattle.cmwq_model.specs.Runs.{last_start, run, start_in, item_start, item_run}
-use Rattle.cmwq_model.specs.Tickets.{gives_ticket, ticket_for, ends_destroy, tickets, is_unended, is_cancelling, is_done, is_gone, is_cancel_sync_of, is_drain_of}
 use Rattle.cmwq_model.specs.Queueings.{queue_of as queue_run, opens, opening, queueings, is_live, still_open, is_unstarted, unstarted, is_pending, runs_elsewhere, cpu_for}
 use Rattle.cmwq_model.specs.Widths.{width, is_frozen, max_active as width_kept}
-use Rattle.cmwq_model.specs.Active.{is_active, is_newly_active, newly_active, activated, worklist}
-use Rattle.cmwq_model.specs.Workers.{is_retired}
-use Rattle.cmwq_model.specs.Answer.{queue_answer, answer, is_shut}
-use Rattle.cmwq_model.specs.Legal.{IsLegal, entry_for}
 use Rattle.cmwq_theory_steps.specs.Endings.{survives, is_ended, ending}
 use Rattle.cmwq_theory_laws.specs.FirstWidths.{HasFirstWidths}
 use Rattle.cmwq_theory_steps.specs.Activations.{waits, is_left, is_in, is_of_same_pwq, behind_width, is_below_max_active_at_once}

@@ -9,13 +9,11 @@ use Rattle.std.specs.Cmp.Derive.{both_true}
 use Rattle.cmwq_model.specs.declared.id.Who.{Who}
 use Rattle.cmwq_model.specs.declared.id.Who.TheVariants.{Worker}
 use Rattle.cmwq_model.specs.declared.call.Call.{Call}
-use Rattle.cmwq_model.specs.declared.call.Call.TheVariants as call
 use Rattle.cmwq_model.specs.declared.reply.Reply.{Reply}
-use Rattle.cmwq_model.specs.declared.reply.Reply.TheVariants as reply
 use Rattle.cmwq_model.specs.declared.entry.Entry.{Entry}
-use Rattle.cmwq_model.specs.Fate.{number_started}
-use Rattle.cmwq_model.specs.Room.{has_time, needed, has_room}
-use Rattle.cmwq_model.specs.Legal.{IsLegal, entry_for}
+use Rattle.cmwq_model.specs.Prelude.{number_started, has_time, needed, has_room, IsLegal, entry_for}
+use Rattle.cmwq_model.specs.declared.call.Call.TheVariants as call
+use Rattle.cmwq_model.specs.declared.reply.Reply.TheVariants as reply
 use Rattle.cmwq_theory_steps.specs.RoomSteps.{is_promised}
 use Rattle.cmwq_theory_steps.proofs.Promised.{promised_need_no_more}
 use Rattle.cmwq_sim.specs.Plan.{Plan, queue_of, ms_of}

@@ -5,16 +5,8 @@ use Rattle.std.proofs.lemmas.Bool.{eq-eqb}
 use Rattle.std.proofs.lemmas.List.Sums.{sum_by-cons, sum_by_push, sum_by-append}
 use Rattle.cmwq_model.specs.declared.reply.Reply.TheVariants as reply
 use Rattle.cmwq_model.specs.declared.entry.Entry.{Entry}
-use Rattle.cmwq_model.specs.Layout.{Layout}
-use Rattle.cmwq_model.specs.Calls.{item_of}
-use Rattle.cmwq_model.specs.Fate.{number_started, number_finished}
-use Rattle.cmwq_model.specs.Bookings.{booking, booking_of, booked_by, due_in}
-use Rattle.cmwq_model.specs.Runs.{last_start, is_asleep}
-use Rattle.cmwq_model.specs.Queueings.{queueings, opens, opening, queued_at, place_wanted}
-use Rattle.cmwq_model.specs.Tickets.{tickets, gives_ticket}
-use Rattle.cmwq_model.specs.Widths.{is_frozen}
-use Rattle.cmwq_model.specs.Room.{owed, needed}
-use Rattle.cmwq_model.specs.Legal.{IsLegal}
+use Rattle.cmwq_model.specs.Prelude.{Layout, item_of, number_started, number_finished, booking, booking_of, booked_by, due_in, last_start, is_asleep, queueings, opens, opening}
+use Rattle.cmwq_model.specs.Prelude.{queued_at, place_wanted, tickets, gives_ticket, is_frozen, owed, needed, IsLegal}
 use Rattle.cmwq_theory_steps.specs.Histories.{one}
 use Rattle.cmwq_theory_steps.specs.RoomSteps.{is_slept, is_frozen_now}
 use Rattle.cmwq_theory_steps.proofs.OwedFrozen.{frozen_counted}

@@ -8,20 +8,14 @@ use Rattle.std.proofs.lemmas.Option.{same_Some}
 use Rattle.cmwq_model.specs.declared.id.PoolId.{PoolId}
 use Rattle.cmwq_model.specs.declared.id.WorkerId.{WorkerId}
 use Rattle.cmwq_model.specs.declared.id.Who.TheVariants.{Worker}
-use Rattle.cmwq_model.specs.declared.call.Call.TheVariants as call
 use Rattle.cmwq_model.specs.declared.reply.Reply.{Reply}
-use Rattle.cmwq_model.specs.declared.reply.Reply.TheVariants as reply
 use Rattle.cmwq_model.specs.declared.entry.Entry.{Entry}
 use Rattle.cmwq_model.specs.declared.record.Queueing.{Queueing}
-use Rattle.cmwq_model.specs.Layout.{Layout, fits}
-use Rattle.cmwq_model.specs.Calls.{item_of, is_at, is_by, is_of_item, same_who}
-use Rattle.cmwq_model.specs.Fate.{number_started, number_finished, number_cancelled, replaces, starts, is_started}
-use Rattle.cmwq_model.specs.Runs.{run, is_asleep, asleep_after}
-use Rattle.cmwq_model.specs.Queueings.{opens, opening, queued_at, place_wanted, queueings, still_open, is_live}
-use Rattle.cmwq_model.specs.Active.{is_active, is_newly_active, newly_active, worklist}
-use Rattle.cmwq_model.specs.Workers.{is_retired}
-use Rattle.cmwq_model.specs.Answer.{answer}
-use Rattle.cmwq_model.specs.Legal.{IsLegal, entry_for}
+use Rattle.cmwq_model.specs.Prelude.{Layout, fits, item_of, is_at, is_by, is_of_item, same_who, number_started, number_finished, number_cancelled, replaces, starts, is_started}
+use Rattle.cmwq_model.specs.Prelude.{run, is_asleep, asleep_after, opens, opening, queued_at, place_wanted, queueings, still_open, is_live, is_active, is_newly_active}
+use Rattle.cmwq_model.specs.Prelude.{newly_active, worklist, is_retired, answer, IsLegal, entry_for}
+use Rattle.cmwq_model.specs.declared.call.Call.TheVariants as call
+use Rattle.cmwq_model.specs.declared.reply.Reply.TheVariants as reply
 use Rattle.cmwq_theory_steps.specs.RunSteps.{run_after}
 use Rattle.cmwq_theory_steps.specs.Endings.{survives, is_ended, ending}
 use Rattle.cmwq_theory_steps.specs.Activations.{waits, is_left, is_in, behind_width, is_below_max_active_at_once}

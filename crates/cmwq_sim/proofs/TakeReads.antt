@@ -9,21 +9,17 @@ use Rattle.std.proofs.lemmas.Bool.Decides.{nat_tests}
 use Rattle.std.proofs.lemmas.Option.{same_Some}
 use Rattle.cmwq_model.specs.declared.id.WorkerId.{WorkerId}
 use Rattle.cmwq_model.specs.declared.id.Who.TheVariants.{Worker}
-use Rattle.cmwq_model.specs.declared.call.Call.TheVariants as call
 use Rattle.cmwq_model.specs.declared.reply.Reply.{Reply}
-use Rattle.cmwq_model.specs.declared.reply.Reply.TheVariants as reply
 use Rattle.cmwq_model.specs.declared.entry.Entry.{Entry}
 use Rattle.cmwq_model.specs.declared.record.Queueing.{Queueing}
 use Rattle.cmwq_model.specs.declared.record.Start.{Start}
 use Rattle.cmwq_model.specs.declared.shape.QueueShape.{QueueShape}
+use Rattle.cmwq_model.specs.Prelude.{indices, is_intensive, number_started, run, has_run, is_asleep, item_run, next, is_startable, is_enlisted, is_idle, is_holding, runnable}
+use Rattle.cmwq_model.specs.Prelude.{enlisted_by, answer, take_answer, finish_answer, start_of, started}
+use Rattle.cmwq_model.specs.declared.call.Call.TheVariants as call
+use Rattle.cmwq_model.specs.declared.reply.Reply.TheVariants as reply
 use Rattle.std.proofs.Math.ListN.{get_or-map}
-use Rattle.cmwq_model.specs.Layout.{indices, is_intensive}
-use Rattle.cmwq_model.specs.Fate.{number_started}
-use Rattle.cmwq_model.specs.Runs.{run, has_run, is_asleep, item_run}
 use Rattle.cmwq_model.specs.Queueings.{queueing_at, has_number, queue_of as queue_of_number, run_queue}
-use Rattle.cmwq_model.specs.Active.{next, is_startable}
-use Rattle.cmwq_model.specs.Workers.{is_enlisted, is_idle, is_holding, runnable, enlisted_by}
-use Rattle.cmwq_model.specs.Answer.{answer, take_answer, finish_answer, start_of, started}
 use Rattle.cmwq_theory_active.proofs.Lists.{count_by-cons}
 use Rattle.cmwq_theory_steps.proofs.RunsActive.{found_known}
 use Rattle.cmwq_theory_steps.proofs.Pools.{runs_are_in_pools}

@@ -3,7 +3,7 @@ use Rattle.std.proofs.Common.{◌≡◌, ℕ, Bool, true, false, List, [], ◌�
 use Rattle.std.specs.Prelude.{if◌then◌else◌}
 use Rattle.std.specs.List.{list_any}
 use Rattle.cmwq_model.specs.declared.entry.Entry.{Entry}
-use Rattle.cmwq_model.specs.Workers.{is_idle}
+use Rattle.cmwq_model.specs.Prelude.{is_idle}
 use Rattle.cmwq_sim.specs.Plan.{Plan}
 use Rattle.cmwq_sim.specs.Lines.{Moment, Job, is_held_by, job_of, starting}
 use Rattle.cmwq_sim.specs.Shows.{layout_for, pool, Shows, to_start, next_of}

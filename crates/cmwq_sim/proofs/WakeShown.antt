@@ -5,16 +5,10 @@ use Rattle.std.specs.List.{AllByRecursion, list_any}
 use Rattle.cmwq_refinement.proofs.PoolNext.{runner_there}
 use Rattle.std.proofs.lemmas.Bool.{lt-ltb, eqb-true, eq-eqb, ne_eqb, or_cases}
 use Rattle.cmwq_model.specs.declared.id.Who.TheVariants.{Worker}
+use Rattle.cmwq_model.specs.declared.entry.Entry.{Entry}
+use Rattle.cmwq_model.specs.Prelude.{is_at, number_started, starts, is_asleep, asleep_after, queueings, worklist, answer, IsLegal, entry_for}
 use Rattle.cmwq_model.specs.declared.call.Call.TheVariants as call
 use Rattle.cmwq_model.specs.declared.reply.Reply.TheVariants as reply
-use Rattle.cmwq_model.specs.declared.entry.Entry.{Entry}
-use Rattle.cmwq_model.specs.Calls.{is_at}
-use Rattle.cmwq_model.specs.Fate.{number_started, starts}
-use Rattle.cmwq_model.specs.Runs.{is_asleep, asleep_after}
-use Rattle.cmwq_model.specs.Queueings.{queueings}
-use Rattle.cmwq_model.specs.Active.{worklist}
-use Rattle.cmwq_model.specs.Answer.{answer}
-use Rattle.cmwq_model.specs.Legal.{IsLegal, entry_for}
 use Rattle.cmwq_theory_steps.specs.RunSteps.{run_after}
 use Rattle.cmwq_theory_active.proofs.Lists.{All_map, All_both, All_each, All_append, All_filter, count_by-cons}
 use Rattle.cmwq_theory_steps.proofs.Filters.{count_none}

@@ -2,7 +2,7 @@
 use Rattle.std.proofs.Common.{◌≡◌, ◌<◌, ◌≤◌, ℕ, zero, suc, List, [], ◌∷◌, length, map, get_or, arith, refl, ap₂, ◌&&◌, true}
 use Rattle.std.specs.List.{list_all}
 use Rattle.std.proofs.lemmas.Bool.{le-leb}
-use Rattle.cmwq_model.specs.Layout.{is_between, is_queue, are_queues}
+use Rattle.cmwq_model.specs.Prelude.{is_between, is_queue, are_queues}
 use Rattle.cmwq_sim.specs.declared.scenario.SimQueue.{SimQueue}
 use Rattle.cmwq_sim.specs.Shows.{queue_shape}
 use Rattle.std.specs.List.{AllByRecursion}

@@ -1,7 +1,7 @@
 -- The room that a replay still needs.
 use Rattle.std.specs.Prelude.{ℕ, ◌+◌, ◌*◌, ◌≤◌, List, length, sum_by}
 use Rattle.cmwq_model.specs.declared.entry.Entry.{Entry}
-use Rattle.cmwq_model.specs.Room.{needed}
+use Rattle.cmwq_model.specs.Prelude.{needed}
 use Rattle.cmwq_sim.specs.Plan.{Plan, ms_of}
 use Rattle.cmwq_sim.specs.Lines.{Moment, Job, Sleeper}
 use Rattle.cmwq_sim.specs.Shows.{layout_for}

@@ -6,13 +6,7 @@ use Rattle.cmwq_model.specs.declared.id.WorkerId.{WorkerId}
 use Rattle.cmwq_model.specs.declared.entry.Entry.{Entry}
 use Rattle.cmwq_model.specs.declared.record.Queueing.{Queueing}
 use Rattle.cmwq_model.specs.declared.shape.QueueShape.{QueueShape}
-use Rattle.cmwq_model.specs.Layout.{Layout, first_width}
-use Rattle.cmwq_model.specs.Runs.{run, is_asleep}
-use Rattle.cmwq_model.specs.Queueings.{queueings, still_open}
-use Rattle.cmwq_model.specs.Active.{worklist}
-use Rattle.cmwq_model.specs.Widths.{width}
-use Rattle.cmwq_model.specs.Workers.{worker_at, is_retired}
-use Rattle.cmwq_model.specs.Legal.{IsLegal}
+use Rattle.cmwq_model.specs.Prelude.{Layout, first_width, run, is_asleep, queueings, still_open, worklist, width, worker_at, is_retired, IsLegal}
 use Rattle.cmwq_theory_steps.specs.Activations.{waits}
 use Rattle.cmwq_theory_laws.specs.FirstWidths.{HasFirstWidths}
 use Rattle.cmwq_sim.specs.declared.scenario.SimQueue.{SimQueue}

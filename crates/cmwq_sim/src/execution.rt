@@ -3,8 +3,7 @@
 ghost use Rattle.std.specs.Prelude.{◌≡◌, ℕ, drop, MatchOption, ◌≤◌, ◌<◌, ◌+◌, ◌++◌, ◌∷◌, [], ◌==◌, ◌&&◌, not, map, find, filter, option_map, length, IsTrue, IfOk, OnOk, IfSome, IsNone};
 ghost use Rattle.std.specs.List.{AllByRecursion};
 ghost use Rattle.cmwq_model.specs.declared.id.Who.TheVariants as who;
-ghost use Rattle.cmwq_model.specs.Layout.{fits};
-ghost use Rattle.cmwq_model.specs.Fate.{number_started};
+ghost use Rattle.cmwq_model.specs.Prelude.{fits, number_started};
 ghost use Rattle.cmwq_core.specs.History.{takes, next_entry, with_entry, past_in};
 ghost use Rattle.cmwq_sim.specs.Plan.{plan_of, event_of};
 ghost use Rattle.cmwq_sim.specs.Limits.{IsWithinLimits};

@@ -1,13 +1,10 @@
 -- A book that is told of an effect is one further on.
 use Rattle.std.proofs.Common.{◌≡◌, ℕ, ◌+◌, ◌^◌, ◌<◌, ◌≤◌, true, List, [], ◌∷◌, ◌++◌, length, ap, arith, length-append}
 use Rattle.cmwq_model.specs.declared.entry.Entry.{Entry}
-use Rattle.cmwq_model.specs.Layout.{Layout, fits}
-use Rattle.std.proofs.lemmas.Bool.{leb-true}
 use Rattle.cmwq_model.specs.declared.call.Call.{Call}
+use Rattle.cmwq_model.specs.Prelude.{Layout, fits, serial_of, ticks_told, now, has_time, most_time, IsLegal, past_of}
+use Rattle.std.proofs.lemmas.Bool.{leb-true}
 use Rattle.cmwq_model.specs.declared.call.Call.TheVariants as call
-use Rattle.cmwq_model.specs.Calls.{serial_of, ticks_told, now}
-use Rattle.cmwq_model.specs.Room.{has_time, most_time}
-use Rattle.cmwq_model.specs.Legal.{IsLegal, past_of}
 use Rattle.cmwq_state.specs.Tables.{IsThere}
 use Rattle.cmwq_state.specs.State.{Parts, IsState}
 use Rattle.cmwq_state.specs.Effects.{IsEffect}

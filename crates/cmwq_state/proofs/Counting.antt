@@ -5,11 +5,7 @@ use Rattle.std.proofs.lemmas.List.Sums.{length-filter}
 use Rattle.cmwq_model.specs.declared.entry.Entry.{Entry}
 use Rattle.cmwq_model.specs.declared.record.Queueing.{Queueing}
 use Rattle.cmwq_model.specs.declared.record.Start.{Start}
-use Rattle.cmwq_model.specs.Layout.{Layout}
-use Rattle.cmwq_model.specs.Runs.{item_run, item_runs}
-use Rattle.cmwq_model.specs.Queueings.{still_open}
-use Rattle.cmwq_model.specs.Legal.{IsLegal}
-use Rattle.cmwq_model.specs.Active.{is_active}
+use Rattle.cmwq_model.specs.Prelude.{Layout, item_run, item_runs, still_open, IsLegal, is_active}
 use Rattle.cmwq_theory_steps.specs.Activations.{waits}
 use Rattle.cmwq_theory_steps.specs.Waiting.{waiting}
 use Rattle.cmwq_refinement.specs.Flights.{flight_of}

@@ -6,18 +6,14 @@ use Rattle.std.proofs.lemmas.List.{get_or_default}
 use Rattle.cmwq_model.specs.declared.id.QueueId.{QueueId}
 use Rattle.cmwq_model.specs.declared.id.ItemId.{ItemId}
 use Rattle.cmwq_model.specs.declared.call.Call.{Call}
-use Rattle.cmwq_model.specs.declared.call.Call.TheVariants as call
 use Rattle.cmwq_model.specs.declared.entry.Entry.{Entry}
 use Rattle.cmwq_model.specs.declared.record.Queueing.{Queueing}
 use Rattle.cmwq_model.specs.declared.record.Start.{Start}
-use Rattle.cmwq_model.specs.Layout.{Layout}
-use Rattle.cmwq_model.specs.Tickets.{unended, ticket_of, is_ticket}
 use Rattle.cmwq_model.specs.declared.id.Who.{Who}
+use Rattle.cmwq_model.specs.declared.record.Ticket.{Ticket}
+use Rattle.cmwq_model.specs.Prelude.{Layout, unended, ticket_of, is_ticket, waits_for, item_run, queueing_at, still_open, IsLegal}
+use Rattle.cmwq_model.specs.declared.call.Call.TheVariants as call
 use Rattle.cmwq_refinement.proofs.Members.{found, in_contained}
-use Rattle.cmwq_model.specs.Waits.{waits_for}
-use Rattle.cmwq_model.specs.Runs.{item_run}
-use Rattle.cmwq_model.specs.Queueings.{queueing_at, still_open}
-use Rattle.cmwq_model.specs.Legal.{IsLegal}
 use Rattle.cmwq_theory_steps.proofs.EndsAsTold.{runs_are_queueings}
 use Rattle.cmwq_theory_steps.proofs.RunsActive.{found_number}
 use Rattle.cmwq_state.specs.Flights.{run_open}
@@ -28,7 +24,6 @@ use Rattle.cmwq_refinement.specs.BarrierBooks.{wait_by, wait_for, barriers_of}
 use Rattle.cmwq_refinement.proofs.BarrierEnds.{unended_waits_stand}
 use Rattle.cmwq_refinement.proofs.BarrierReads.{barriers_wait_for_least}
 use Rattle.cmwq_flush.specs.BarrierBook.{BarrierBook, tickets_in, waits_for as book_waits_for}
-use Rattle.cmwq_model.specs.declared.record.Ticket.{Ticket}
 use Rattle.std.specs.Prelude.{is_some}
 use Rattle.cmwq_state.specs.Tables.{AreBooks, book_in, no_book}
 

@@ -1,10 +1,8 @@
 -- The parts of a new book are those of no entries.
 use Rattle.std.proofs.Common.{◌≡◌, ℕ, Bool, ◌*◌, ◌≤◌, true, false, List, [], length, replicate, refl, sym, ◌∙◌, arith, None, subst}
 use Rattle.std.proofs.lemmas.List.{get_or-replicate, length-replicate}
-use Rattle.cmwq_model.specs.Layout.{Layout, is_layout, most_room}
-use Rattle.cmwq_model.specs.Calls.{now}
-use Rattle.cmwq_model.specs.Legal.{IsLegal}
-use Rattle.cmwq_model.specs.Room.{owed}
+use Rattle.cmwq_model.specs.declared.record.Ticket.{Ticket}
+use Rattle.cmwq_model.specs.Prelude.{Layout, is_layout, most_room, now, IsLegal, owed, queueings, tickets, is_gone}
 use Rattle.cmwq_theory_laws.proofs.WithinRoom.{steps_within_room}
 use Rattle.cmwq_pool.specs.PoolState.{PoolState, new_pool_state}
 use Rattle.cmwq_flush.specs.FlushBook.{FlushBook, new_book}
@@ -15,11 +13,8 @@ use Rattle.cmwq_refinement.proofs.FlushSteps.{flushes_at_first}
 use Rattle.cmwq_refinement.proofs.BarrierSteps.{barriers_at_first}
 use Rattle.cmwq_refinement.proofs.TimerSteps.{no_timers_at_first}
 use Rattle.cmwq_state.specs.Tables.{pool_place, no_pool, no_book, who_place}
-use Rattle.cmwq_model.specs.Queueings.{queueings}
 use Rattle.cmwq_theory_steps.specs.Places.{active_count}
 use Rattle.cmwq_timer.specs.Rows.{Rows}
-use Rattle.cmwq_model.specs.Tickets.{tickets, is_gone}
-use Rattle.cmwq_model.specs.declared.record.Ticket.{Ticket}
 use Rattle.cmwq_refinement.proofs.TicketsRefine.{no_tickets_at_first}
 use Rattle.cmwq_inflight.specs.Flights.{Flight, no_flight}
 use Rattle.cmwq_refinement.proofs.FlightRefine.{no_flights_at_first}

@@ -4,12 +4,10 @@ use Rattle.std.specs.Option.{option_map_or}
 use Rattle.std.specs.Prelude.{if◌then◌else◌}
 use Rattle.std.proofs.lemmas.Bool.{ltb-true}
 use Rattle.cmwq_model.specs.declared.call.Call.{Call}
-use Rattle.cmwq_model.specs.declared.call.Call.TheVariants as call
 use Rattle.cmwq_model.specs.declared.entry.Entry.{Entry}
 use Rattle.cmwq_model.specs.declared.record.Ticket.{Ticket}
-use Rattle.cmwq_model.specs.Layout.{Layout, has_numbers}
-use Rattle.cmwq_model.specs.Tickets.{is_destroy_of, is_gone, is_done, ends_destroy}
-use Rattle.cmwq_model.specs.Legal.{IsLegal}
+use Rattle.cmwq_model.specs.Prelude.{Layout, has_numbers, is_destroy_of, is_gone, is_done, ends_destroy, IsLegal}
+use Rattle.cmwq_model.specs.declared.call.Call.TheVariants as call
 use Rattle.cmwq_theory_steps.specs.TicketSteps.{ticket_asked, ticket_ended}
 use Rattle.cmwq_refinement.proofs.FlushEnds.{ended_ready}
 use Rattle.cmwq_refinement.proofs.PlacesFit.{unended_fit}

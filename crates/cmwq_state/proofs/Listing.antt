@@ -4,7 +4,7 @@ use Rattle.std.proofs.lemmas.List.{drop_more}
 use Rattle.cmwq_model.specs.declared.id.PoolId.{PoolId}
 use Rattle.cmwq_model.specs.declared.record.Queueing.{Queueing}
 use Rattle.cmwq_model.specs.declared.shape.QueueShape.{QueueShape}
-use Rattle.cmwq_model.specs.Layout.{Layout, pool_at}
+use Rattle.cmwq_model.specs.Prelude.{Layout, pool_at}
 use Rattle.cmwq_theory_steps.specs.Activations.{is_in}
 use Rattle.cmwq_pool.specs.PoolState.{PoolState, may_add, added}
 use Rattle.cmwq_refinement.specs.Pools.{MayAllBeAdded, task_for}

@@ -11,11 +11,7 @@ use Rattle.std.proofs.lemmas.List.Sums.{length-filter, count_by-le-length}
 use Rattle.std.proofs.lemmas.List.{length-set}
 use Rattle.cmwq_model.specs.declared.entry.Entry.{Entry}
 use Rattle.cmwq_model.specs.declared.record.Queueing.{Queueing}
-use Rattle.cmwq_model.specs.Layout.{Layout}
-use Rattle.cmwq_model.specs.Widths.{width}
-use Rattle.cmwq_model.specs.Queueings.{still_open, opening, has_number}
-use Rattle.cmwq_model.specs.Active.{is_below_max_active, is_active, newly_active}
-use Rattle.cmwq_model.specs.Legal.{IsLegal}
+use Rattle.cmwq_model.specs.Prelude.{Layout, width, still_open, opening, has_number, is_below_max_active, is_active, newly_active, IsLegal}
 use Rattle.cmwq_theory_active.proofs.Lists.{All_map, All_filter}
 use Rattle.cmwq_theory_steps.specs.Histories.{one}
 use Rattle.cmwq_theory_steps.specs.Places.{is_on, active_count}

@@ -9,12 +9,8 @@ use Rattle.cmwq_model.specs.declared.entry.Entry.{Entry}
 use Rattle.cmwq_model.specs.declared.record.Queueing.{Queueing}
 use Rattle.cmwq_model.specs.declared.record.Booking.{Booking}
 use Rattle.cmwq_model.specs.declared.record.Start.{Start}
-use Rattle.cmwq_model.specs.Layout.{Layout}
-use Rattle.cmwq_model.specs.Calls.{is_at, item_at}
-use Rattle.cmwq_model.specs.Bookings.{booking}
-use Rattle.cmwq_model.specs.Runs.{run, item_run}
-use Rattle.cmwq_model.specs.Queueings.{unstarted, queueing_at, queue_of, runs_elsewhere, still_open, is_item_open, is_of}
-use Rattle.cmwq_model.specs.Legal.{IsLegal}
+use Rattle.cmwq_model.specs.Prelude.{Layout, is_at, item_at, booking, run, item_run, unstarted, queueing_at, queue_of, runs_elsewhere, still_open, is_item_open, is_of, IsLegal}
+use Rattle.cmwq_model.specs.Prelude.{is_draining, queueings, is_live, has_number, unended, ticket_of, is_ticket, is_crowded, is_held_by}
 use Rattle.cmwq_theory_steps.specs.ItemQueueings.{queueing_run}
 use Rattle.cmwq_theory_steps.proofs.EndsAsTold.{runs_are_queueings}
 use Rattle.cmwq_timer.specs.declared.timer.Timer.{Timer}
@@ -23,14 +19,11 @@ use Rattle.cmwq_refinement.specs.Timers.{row_of, timer_for}
 use Rattle.std.proofs.Common.{zero, suc, filter, ◌++◌, option_to_list, get_or, IsTrue, ◌↔◌}
 use Rattle.std.proofs.lemmas.Bool.{lt-ltb, le-ltb}
 use Rattle.std.proofs.lemmas.List.{get_or_default}
-use Rattle.cmwq_model.specs.Tickets.{is_draining}
 use Rattle.cmwq_flush.specs.FlushBook.{FlushBook}
 use Rattle.cmwq_refinement.proofs.FlushReads.{draining_while_drains_stand}
 use Rattle.cmwq_state.specs.Tables.{AreBooks, book_in, no_book}
 use Rattle.std.proofs.lemmas.Option.{same_Some}
 use Rattle.std.specs.List.{AllByRecursion}
-use Rattle.cmwq_model.specs.Queueings.{queueings, is_live, has_number}
-use Rattle.cmwq_model.specs.Tickets.{unended, ticket_of, is_ticket, is_crowded, is_held_by}
 use Rattle.cmwq_theory_active.proofs.Lists.{count_by-none}
 use Rattle.cmwq_theory_steps.proofs.Filters.{none_found}
 use Rattle.cmwq_theory_steps.proofs.RunsActive.{found_known, found_number}

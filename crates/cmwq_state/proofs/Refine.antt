@@ -7,8 +7,7 @@ use Rattle.cmwq_model.specs.declared.id.PoolId.{PoolId}
 use Rattle.cmwq_model.specs.declared.id.Who.{Who}
 use Rattle.cmwq_model.specs.declared.id.Who.TheVariants.{Caller, Worker}
 use Rattle.cmwq_model.specs.declared.entry.Entry.{Entry}
-use Rattle.cmwq_model.specs.Layout.{Layout}
-use Rattle.cmwq_model.specs.Calls.{same_who, serial_of}
+use Rattle.cmwq_model.specs.Prelude.{Layout, same_who, serial_of}
 use Rattle.cmwq_pool.specs.PoolState.{PoolState}
 use Rattle.cmwq_theory_steps.proofs.StateSteps.{serials_go_on}
 use Rattle.cmwq_theory_steps.proofs.ItemRuns.{same_worker-true}

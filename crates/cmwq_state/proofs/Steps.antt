@@ -7,9 +7,7 @@ use Rattle.cmwq_model.specs.declared.id.Who.{Who}
 use Rattle.cmwq_model.specs.declared.id.Who.TheVariants.{Caller, Worker}
 use Rattle.cmwq_model.specs.declared.call.Call.{Call}
 use Rattle.cmwq_model.specs.declared.entry.Entry.{Entry}
-use Rattle.cmwq_model.specs.Layout.{Layout, is_layout, fits}
-use Rattle.cmwq_model.specs.Calls.{is_by, serial_of}
-use Rattle.cmwq_model.specs.Legal.{IsLegal, past_of, entry_for}
+use Rattle.cmwq_model.specs.Prelude.{Layout, is_layout, fits, is_by, serial_of, IsLegal, past_of, entry_for}
 use Rattle.cmwq_pool.specs.PoolState.{PoolState}
 use Rattle.cmwq_refinement.proofs.PoolMay.{workers_may_be_told}
 use Rattle.cmwq_state.specs.Tables.{IsThere, ArePools, MayTellWorker}

@@ -5,11 +5,11 @@ use Rattle.cmwq_model.specs.declared.id.PoolId.{PoolId}
 use Rattle.cmwq_model.specs.declared.entry.Entry.{Entry}
 use Rattle.cmwq_model.specs.declared.record.Queueing.{Queueing}
 use Rattle.cmwq_model.specs.declared.record.Booking.{Booking}
-use Rattle.cmwq_model.specs.Layout.{Layout, is_layout, pool_at}
-use Rattle.cmwq_model.specs.Calls.{item_of, serial_of, ticks_told}
-use Rattle.cmwq_model.specs.Bookings.{settles, due_in, booking_of}
-use Rattle.cmwq_model.specs.Queueings.{still_open, opening}
-use Rattle.cmwq_model.specs.Legal.{IsLegal}
+use Rattle.cmwq_model.specs.declared.shape.QueueShape.{QueueShape}
+use Rattle.cmwq_model.specs.declared.call.Call.{Call}
+use Rattle.cmwq_model.specs.declared.record.Ticket.{Ticket}
+use Rattle.cmwq_model.specs.Prelude.{Layout, is_layout, pool_at, item_of, serial_of, ticks_told, settles, due_in, booking_of, still_open, opening, IsLegal, newly_active}
+use Rattle.cmwq_model.specs.Prelude.{frozen_after, is_below_max_active, has_numbers, number_finished}
 use Rattle.cmwq_pool.specs.PoolState.{PoolState}
 use Rattle.cmwq_flush.specs.FlushBook.{FlushBook}
 use Rattle.cmwq_timer.specs.Rows.{Rows}
@@ -31,27 +31,20 @@ use Rattle.cmwq_refinement.proofs.PlacesFit.{opened_are_there, open_are_there}
 use Rattle.cmwq_refinement.proofs.Members.{In, all_in, in_filter, found, in_contained}
 use Rattle.cmwq_refinement.proofs.BarrierMay.{barriers_may_be_told}
 use Rattle.std.proofs.lemmas.Bool.{eq-eqb}
-use Rattle.cmwq_model.specs.Active.{newly_active}
-use Rattle.cmwq_model.specs.Widths.{frozen_after}
 use Rattle.cmwq_theory_steps.specs.Activations.{is_in}
 use Rattle.cmwq_flush.specs.BarrierBook as barriers_book
 use Rattle.cmwq_refinement.specs.Pools.{MayAllBeAdded}
 use Rattle.cmwq_refinement.proofs.PoolAdds.{active_may_be_added}
-use Rattle.cmwq_model.specs.declared.shape.QueueShape.{QueueShape}
 use Rattle.cmwq_pwq.specs.Pwqs.{PwqState, IsPassed, AreBehind, IsPlacedIf, is_waiting, ArePlaced, width_by}
 use Rattle.std.proofs.lemmas.Bool.{and_parts, ltb-true, eqb-true, false_from_ne_true, cases_lt}
 use Rattle.std.proofs.lemmas.List.Elements.{All-from_recursion}
 use mathlib.Core.Bool.{beq}
-use Rattle.cmwq_model.specs.Active.{is_below_max_active}
 use Rattle.cmwq_theory_steps.specs.Activations.{waits}
 use Rattle.cmwq_theory_steps.specs.Waiting.{candidates}
 use Rattle.cmwq_theory_steps.proofs.Waiting.{newly_are}
 use Rattle.cmwq_theory_steps.proofs.Filters.{filter_none}
 use Rattle.cmwq_refinement.proofs.PlacesFit.{open_there as open_in_there}
-use Rattle.cmwq_model.specs.declared.call.Call.{Call}
 use Rattle.cmwq_model.specs.declared.call.Call.TheVariants as call
-use Rattle.cmwq_model.specs.declared.record.Ticket.{Ticket}
-use Rattle.cmwq_model.specs.Layout.{has_numbers}
 use Rattle.cmwq_model.specs.Tickets.{flushes as flushes_queue, drains as drains_queue}
 use Rattle.cmwq_theory_steps.specs.TicketSteps.{ticket_ended}
 use Rattle.cmwq_refinement.proofs.FlushEnds.{ended_ready}
@@ -67,7 +60,6 @@ use Rattle.cmwq_refinement.proofs.FlightRefine.{flights_refine, flights_may_be_t
 use Rattle.cmwq_state.proofs.GoneSteps.{gone_refine, may_tell_gone}
 use Rattle.cmwq_pwq.specs.Pwqs as lines
 use Rattle.cmwq_state.specs.Lines.{ArePwqsOf}
-use Rattle.cmwq_model.specs.Fate.{number_finished}
 use Rattle.cmwq_theory_active.specs.Looks.{keeps_widths}
 use Rattle.cmwq_state.proofs.PwqsBehind.{all_behind, finished_waits_not, ended_placed, opened_placed}
 use Rattle.cmwq_state.specs.Widths.{AreWidths, TellWidth, MayTellWidth}

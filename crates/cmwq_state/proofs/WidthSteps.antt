@@ -5,8 +5,7 @@ use Rattle.std.specs.Option.{option_map_or}
 use Rattle.std.proofs.lemmas.List.{length-map, get_or-map}
 use Rattle.cmwq_model.specs.declared.entry.Entry.{Entry}
 use Rattle.cmwq_model.specs.declared.shape.QueueShape.{QueueShape}
-use Rattle.cmwq_model.specs.Layout.{Layout, no_queue, queue_at}
-use Rattle.cmwq_model.specs.Widths.{max_active, is_frozen, frozen_after, width, width_set}
+use Rattle.cmwq_model.specs.Prelude.{Layout, no_queue, queue_at, max_active, is_frozen, frozen_after, width, width_set}
 use Rattle.cmwq_pwq.specs.Pwqs.{width_by}
 use Rattle.cmwq_state.specs.Widths.{AreWidths, TellWidth}
 

@@ -2,12 +2,7 @@
 use Rattle.std.specs.Prelude.{◌≡◌, ℕ, if◌then◌else◌, List, ◌∷◌, length, Option, Some, None}
 use Rattle.cmwq_model.specs.declared.id.ItemId.{ItemId}
 use Rattle.cmwq_model.specs.declared.entry.Entry.{Entry}
-use Rattle.cmwq_model.specs.Layout.{Layout}
-use Rattle.cmwq_model.specs.Calls.{item_of}
-use Rattle.cmwq_model.specs.Bookings.{settles, booking_of}
-use Rattle.cmwq_model.specs.Queueings.{opening}
-use Rattle.cmwq_model.specs.Legal.{IsLegal}
-use Rattle.cmwq_model.specs.Room.{owed}
+use Rattle.cmwq_model.specs.Prelude.{Layout, item_of, settles, booking_of, opening, IsLegal, owed}
 use Rattle.cmwq_theory_steps.specs.Endings.{ending}
 use Rattle.cmwq_theory_steps.specs.TicketSteps.{ticket_ended}
 use Rattle.cmwq_refinement.specs.Told.{ticket_given}

@@ -2,11 +2,10 @@
 use Rattle.std.specs.Prelude.{◌≡◌, ℕ, ◌<◌, Bool, false, ◌||◌, List, length, Option, Some, None, slice_index_or}
 use Rattle.std.specs.Option.{option_map_or}
 use Rattle.cmwq_model.specs.declared.call.Call.{Call}
-use Rattle.cmwq_model.specs.declared.call.Call.TheVariants as call
 use Rattle.cmwq_model.specs.declared.entry.Entry.{Entry}
 use Rattle.cmwq_model.specs.declared.record.Ticket.{Ticket}
-use Rattle.cmwq_model.specs.Layout.{Layout}
-use Rattle.cmwq_model.specs.Tickets.{is_destroy_of, is_gone}
+use Rattle.cmwq_model.specs.Prelude.{Layout, is_destroy_of, is_gone}
+use Rattle.cmwq_model.specs.declared.call.Call.TheVariants as call
 
 abbrev pub is_gone_at : List Bool → ℕ → Bool
 is_gone_at gone q = slice_index_or gone q false

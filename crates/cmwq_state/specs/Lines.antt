@@ -1,7 +1,7 @@
 -- What waits, and how many are active, refine a history.
 use Rattle.std.specs.Prelude.{◌≡◌, ℕ, ◌*◌, ◌<◌, List, length}
 use Rattle.cmwq_model.specs.declared.entry.Entry.{Entry}
-use Rattle.cmwq_model.specs.Layout.{Layout}
+use Rattle.cmwq_model.specs.Prelude.{Layout}
 use Rattle.cmwq_theory_steps.specs.Places.{active_count}
 use Rattle.cmwq_theory_steps.specs.Waiting.{waiting}
 use Rattle.cmwq_pwq.specs.Pwqs.{PwqState, count_at}

@@ -1,15 +1,12 @@
 -- What the parts of a state are of the past.
 use Rattle.std.specs.Prelude.{◌≡◌, ℕ, ◌+◌, ◌≤◌, true, Bool, List, length}
 use Rattle.cmwq_model.specs.declared.entry.Entry.{Entry}
-use Rattle.cmwq_model.specs.Layout.{Layout, is_layout, most_room}
-use Rattle.cmwq_model.specs.Calls.{now}
-use Rattle.cmwq_model.specs.Legal.{IsLegal, past_of}
-use Rattle.cmwq_model.specs.Room.{owed, most_time}
+use Rattle.cmwq_model.specs.declared.record.Ticket.{Ticket}
+use Rattle.cmwq_model.specs.Prelude.{Layout, is_layout, most_room, now, IsLegal, past_of, owed, most_time}
 use Rattle.cmwq_pool.specs.PoolState.{PoolState}
 use Rattle.cmwq_flush.specs.FlushBook.{FlushBook}
 use Rattle.cmwq_flush.specs.BarrierBook.{BarrierBook}
 use Rattle.cmwq_timer.specs.Rows.{Rows}
-use Rattle.cmwq_model.specs.declared.record.Ticket.{Ticket}
 use Rattle.cmwq_refinement.specs.BarrierBooks.{barriers_of}
 use Rattle.cmwq_refinement.specs.Timers.{timers_of}
 use Rattle.cmwq_pwq.specs.Pwqs.{PwqState}

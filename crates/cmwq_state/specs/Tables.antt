@@ -9,9 +9,8 @@ use Rattle.cmwq_model.specs.declared.record.Queueing.{Queueing}
 use Rattle.cmwq_model.specs.declared.shape.QueueShape.{QueueShape}
 use Rattle.cmwq_model.specs.declared.record.Ticket.{Ticket}
 use Rattle.cmwq_model.specs.declared.call.Call.{Call}
+use Rattle.cmwq_model.specs.Prelude.{Layout, pool_at, serial_of, same_pool}
 use Rattle.cmwq_model.specs.declared.call.Call.TheVariants as call
-use Rattle.cmwq_model.specs.Layout.{Layout, pool_at}
-use Rattle.cmwq_model.specs.Calls.{serial_of, same_pool}
 use Rattle.cmwq_pool.specs.PoolState.{PoolState, removed, added, may_add}
 use Rattle.cmwq_flush.specs.FlushBook.{FlushBook, new_book, flush_tickets, IsReady, CanOpen, CanBegin, CanDrain}
 use Rattle.cmwq_refinement.specs.Pools.{pool_of, task_for, MayBeTold, told_worker, told_cancelled, told_active}

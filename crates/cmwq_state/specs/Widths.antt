@@ -2,11 +2,10 @@
 use Rattle.std.specs.Prelude.{◌≡◌, ℕ, ◌<◌, Bool, if◌then◌else◌, List, length, None, slice_index}
 use Rattle.std.specs.Option.{option_map_or}
 use Rattle.cmwq_model.specs.declared.call.Call.{Call}
-use Rattle.cmwq_model.specs.declared.call.Call.TheVariants as call
 use Rattle.cmwq_model.specs.declared.reply.Reply.{Reply}
 use Rattle.cmwq_model.specs.declared.entry.Entry.{Entry}
-use Rattle.cmwq_model.specs.Layout.{Layout}
-use Rattle.cmwq_model.specs.Widths.{max_active, is_frozen, sets_max, width_told}
+use Rattle.cmwq_model.specs.Prelude.{Layout, max_active, is_frozen, sets_max, width_told}
+use Rattle.cmwq_model.specs.declared.call.Call.TheVariants as call
 
 pub record AreWidths (s : Layout) (past : List Entry) (most : List ℕ) (stopped : Bool) : Type 0 where
   pub many : length most ≡ length s.queues

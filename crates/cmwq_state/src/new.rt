@@ -1,7 +1,7 @@
 //! The parts of a new state.
 
 ghost use Rattle.std.specs.Prelude.{◌≡◌, ◌*◌, ◌<◌, ◌≤◌, [], None, false, IfOk, IsTrue, length, map, replicate, vec_capacity};
-ghost use Rattle.cmwq_model.specs.Layout.{is_between};
+ghost use Rattle.cmwq_model.specs.Prelude.{is_between};
 ghost use Rattle.cmwq_pool.specs.PoolState.{new_pool_state};
 ghost use Rattle.cmwq_flush.specs.FlushBook.{new_book};
 ghost use Rattle.cmwq_flush.specs.BarrierBook.{new_barriers};

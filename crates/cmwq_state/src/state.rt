@@ -1,12 +1,8 @@
 //! The state, the reads of workers and counts, and the entry that is appended.
 
 ghost use Rattle.std.specs.Prelude.{◌≡◌, ◌<◌, ◌≤◌, ◌+◌, ◌^◌, ◌&&◌, [], true, length, count_by, nat_le, IfOk};
-ghost use Rattle.cmwq_model.specs.Layout.{is_layout, layout_of, most_room};
+ghost use Rattle.cmwq_model.specs.Prelude.{is_layout, layout_of, most_room, past_of, IsLegal, still_open, needed, owed, has_time, most_time, is_active};
 ghost use Rattle.cmwq_model.specs.Calls as calls;
-ghost use Rattle.cmwq_model.specs.Legal.{past_of, IsLegal};
-ghost use Rattle.cmwq_model.specs.Queueings.{still_open};
-ghost use Rattle.cmwq_model.specs.Room.{needed, owed, has_time, most_time};
-ghost use Rattle.cmwq_model.specs.Active.{is_active};
 ghost use Rattle.cmwq_state.specs.Tables as tables;
 ghost use Rattle.cmwq_state.specs.Effects.{IsEffect};
 ghost use Rattle.cmwq_state.specs.History.{past_in, with_entry};
@@ -61,7 +57,7 @@ pub struct State {
 }
 
 impl Model for State {
-    ghost use Rattle.cmwq_model.specs.Layout.{layout_of};
+    ghost use Rattle.cmwq_model.specs.Prelude.{layout_of};
     ghost use Rattle.cmwq_state.specs.History.{History};
     ghost use Rattle.cmwq_state.specs.State.{IsState};
 

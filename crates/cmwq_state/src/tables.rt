@@ -4,11 +4,10 @@ ghost use Rattle.std.specs.Prelude.{◌≡◌, ◌*◌, ◌<◌, length, is_some
 ghost use Rattle.cmwq_model.specs.declared.call.Call.{Call};
 ghost use Rattle.cmwq_model.specs.declared.id.Who.{Who};
 ghost use Rattle.cmwq_model.specs.declared.id.PoolId.{PoolId};
-ghost use Rattle.cmwq_refinement.specs.Pools.{MayAllBeAdded, MayBeTold, told_reply};
-ghost use Rattle.cmwq_model.specs.Layout.{Layout, fits, pool_at};
-ghost use Rattle.cmwq_model.specs.Fate.{finishes, number_finished};
-ghost use Rattle.cmwq_refinement.specs.BarrierBooks as barriers;
 ghost use Rattle.cmwq_model.specs.declared.entry.Entry.{Entry};
+ghost use Rattle.cmwq_model.specs.Prelude.{Layout, fits, pool_at, finishes, number_finished, frozen_after};
+ghost use Rattle.cmwq_refinement.specs.Pools.{MayAllBeAdded, MayBeTold, told_reply};
+ghost use Rattle.cmwq_refinement.specs.BarrierBooks as barriers;
 ghost use Rattle.cmwq_refinement.specs.Timers as timed;
 ghost use Rattle.cmwq_state.specs.Effects as effects;
 ghost use Rattle.cmwq_state.specs.Tables as tables;
@@ -17,7 +16,6 @@ ghost use Rattle.cmwq_refinement.specs.Tickets as held;
 ghost use Rattle.cmwq_state.specs.Gone as lost;
 ghost use Rattle.cmwq_pwq.specs.Pwqs as lines;
 ghost use Rattle.cmwq_state.specs.Widths as widths;
-ghost use Rattle.cmwq_model.specs.Widths.{frozen_after};
 ghost use Rattle.cmwq_theory_active.specs.Looks.{keeps_widths};
 
 use cmwq_flush::{Barriers, Flushes};

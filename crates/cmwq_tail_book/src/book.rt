@@ -1,12 +1,9 @@
 //! An execution, and the tail of its entries.
 ghost use Rattle.std.specs.Prelude.{◌≡◌, ◌≤◌, ◌<◌, ◌+◌, [], length, count_by, None, Some, IfOk, IfErr, OnErr, IsTrue, true};
 ghost use Rattle.std.specs.Vec.{vec_capacity};
-ghost use Rattle.cmwq_model.specs.Layout.{fits, most_room};
+ghost use Rattle.cmwq_model.specs.Prelude.{fits, most_room, IsLegal, still_open, is_active};
 ghost use Rattle.cmwq_model.specs.Calls as calls;
 ghost use Rattle.cmwq_model.specs.Legal as legal;
-ghost use Rattle.cmwq_model.specs.Legal.{IsLegal};
-ghost use Rattle.cmwq_model.specs.Queueings.{still_open};
-ghost use Rattle.cmwq_model.specs.Active.{is_active};
 ghost use Rattle.cmwq_state.specs.Tables as tables;
 ghost use Rattle.cmwq_core.specs.History.{next_entry, past_in, is_ready};
 ghost use Rattle.cmwq_core.specs.Plans.{IsPlan};

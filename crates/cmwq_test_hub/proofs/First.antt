@@ -7,15 +7,8 @@ use Rattle.cmwq_model.specs.declared.call.Call.TheVariants.{Queue}
 use Rattle.cmwq_model.specs.declared.reply.Reply.TheVariants.{Yes}
 use Rattle.cmwq_model.specs.declared.entry.Entry.{Entry}
 use Rattle.cmwq_model.specs.declared.entry.Mark.{Mark}
-use Rattle.cmwq_model.specs.Layout.{Layout, fits}
-use Rattle.cmwq_model.specs.Calls.{now}
-use Rattle.cmwq_model.specs.Bookings.{booking}
-use Rattle.cmwq_model.specs.Fate.{is_cancelled}
-use Rattle.cmwq_model.specs.Runs.{item_start, last_start}
-use Rattle.cmwq_model.specs.Queueings.{queueings}
-use Rattle.cmwq_model.specs.Tickets.{tickets, is_gone}
-use Rattle.cmwq_model.specs.Answer.{queue_answer, answer}
-use Rattle.cmwq_model.specs.Legal.{IsLegal, entry_for, bits}
+use Rattle.cmwq_model.specs.Prelude.{Layout, fits, now, booking, is_cancelled, item_start, last_start, queueings, tickets, is_gone, queue_answer, answer, IsLegal, entry_for}
+use Rattle.cmwq_model.specs.Prelude.{bits}
 use Rattle.cmwq_publish.specs.Next.{IsNext, names}
 
 abbrev pub caller : Who

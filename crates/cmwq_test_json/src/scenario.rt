@@ -2,6 +2,7 @@ use crate::lists::numbered;
 use crate::same::{is_spelled, same};
 use cmwq_input::{Part, Refused};
 use cmwq_json::*;
+use cmwq_json_scenario::*;
 use cmwq_sim::{replay, spell_lines};
 use serde_json::Value;
 use std::process::Abort;

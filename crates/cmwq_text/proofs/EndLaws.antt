@@ -6,7 +6,7 @@ use Rattle.std.proofs.lemmas.Option.{same_Some}
 use Rattle.cmwq_model.specs.declared.id.Who.{Who}
 use Rattle.cmwq_model.specs.declared.id.Who.TheVariants.{Caller, Worker}
 use Rattle.cmwq_model.specs.declared.entry.Entry.{Entry}
-use Rattle.cmwq_model.specs.Ranges.{IsEntry}
+use Rattle.cmwq_model.specs.Prelude.{IsEntry}
 use Rattle.cmwq_text.specs.Numbers.{greatest_number}
 use Rattle.cmwq_text.specs.Words.{◌>>=◌, words_of, joined, is_end, after, wide_in}
 use Rattle.cmwq_text.specs.IdText.{who_text}

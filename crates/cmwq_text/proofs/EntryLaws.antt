@@ -8,14 +8,13 @@ use Rattle.cmwq_model.specs.declared.id.Who.{Who}
 use Rattle.cmwq_model.specs.declared.call.Call.{Call}
 use Rattle.cmwq_model.specs.declared.reply.Reply.{Reply}
 use Rattle.cmwq_model.specs.declared.entry.Entry.{Entry}
-use Rattle.cmwq_model.specs.Layout.{may_make, has_numbers, fits, entry_fits, reply_fits}
+use Rattle.cmwq_model.specs.Prelude.{may_make, has_numbers, fits, entry_fits, reply_fits, IsWho, IsCall, IsEntry}
 use Rattle.cmwq_text.specs.Words.{◌>>=◌, words_of, joined, is_end, after, wide_in}
 use Rattle.cmwq_text.specs.IdText.{who_text, who_in}
 use Rattle.cmwq_text.specs.CallText.{call_words, call_text, call_in, may_say, call_of}
 use Rattle.cmwq_text.specs.ReplyText.{reply_words, reply_in}
 use Rattle.cmwq_text.specs.EntryText.{entry_words, entry_text, entry_of}
 use Rattle.cmwq_text.specs.Numbers.{greatest_number}
-use Rattle.cmwq_model.specs.Ranges.{IsWho, IsCall, IsEntry}
 use Rattle.cmwq_text.specs.Laws.{CallsReadAgain, EntriesReadAgain, CallsSpelledSo, EntriesSpelledSo, EntriesStandApart}
 use Rattle.cmwq_text.proofs.Steps.{bind_some, chosen, both}
 use Rattle.cmwq_text.proofs.WordLaws.{is_plain, are_plain, and_true, are_plain-append, is_plain-decimal, after_takes}

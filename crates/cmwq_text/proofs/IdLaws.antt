@@ -16,11 +16,10 @@ use Rattle.cmwq_model.specs.declared.id.QueueId.{QueueId}
 use Rattle.cmwq_model.specs.declared.id.CpuId.{CpuId}
 use Rattle.cmwq_model.specs.declared.id.Who.{Who}
 use Rattle.cmwq_model.specs.declared.id.Who.TheVariants.{Caller, Worker}
+use Rattle.cmwq_model.specs.Prelude.{greatest, greatest_long, greatest_byte, greatest_short, IsWho}
 use Rattle.cmwq_text.specs.Numbers.{number_of, byte_of, short_of, greatest_number}
-use Rattle.cmwq_model.specs.Ranges.{greatest, greatest_long, greatest_byte, greatest_short}
 use Rattle.cmwq_text.specs.Words.{◌>>=◌, one, byte_in, short_in, number_in, wide_in, long_in}
 use Rattle.cmwq_text.specs.IdText.{item, queue, cpu, caller, worker, item_in, queue_in, cpu_in, pool_letter, is_pool_letter, who_text, caller_of, worker_of, who_of, who_in}
-use Rattle.cmwq_model.specs.Ranges.{IsWho}
 use Rattle.cmwq_text.proofs.Steps.{bind_some}
 use Rattle.cmwq_text.proofs.NumberLaws.{own, number_again, number_takes, byte_again, byte_takes, short_again, short_takes}
 use Rattle.cmwq_text.proofs.WordLaws.{word_takes, is_plain, is_plain-append, is_plain-decimal}

@@ -6,11 +6,11 @@ use Rattle.std.proofs.lemmas.List.{same_from_push}
 use Rattle.cmwq_model.specs.declared.id.Who.{Who}
 use Rattle.cmwq_model.specs.declared.id.Who.TheVariants.{Caller, Worker}
 use Rattle.cmwq_model.specs.declared.call.Call.{Call}
-use Rattle.cmwq_model.specs.declared.call.Call.TheVariants as call
 use Rattle.cmwq_model.specs.declared.reply.Reply.{Reply}
+use Rattle.cmwq_model.specs.Prelude.{Layout, is_layout, most_room, are_counts, are_queues, is_between, may_make, has_numbers, has_place, is_callers, is_workers, reply_fits}
+use Rattle.cmwq_model.specs.Prelude.{greatest_byte, greatest_short}
+use Rattle.cmwq_model.specs.declared.call.Call.TheVariants as call
 use Rattle.cmwq_model.specs.declared.reply.Reply.TheVariants as reply
-use Rattle.cmwq_model.specs.Layout.{Layout, is_layout, most_room, are_counts, are_queues, is_between, may_make, has_numbers, has_place, is_callers, is_workers, reply_fits}
-use Rattle.cmwq_model.specs.Ranges.{greatest_byte, greatest_short}
 use Rattle.cmwq_text.specs.Words.{words_of, joined, line_text, is_end}
 use Rattle.cmwq_text.specs.Laws.{IsLineOf}
 use Rattle.cmwq_text.proofs.Steps.{both}

@@ -7,7 +7,7 @@ use Rattle.std.proofs.lemmas.Option.{cond_some, same_Some}
 use Rattle.std.proofs.lemmas.Fmt.{decimal_digit, decimal_nonempty, first_decimal, digits_decimal, digits_value-decimal, decimal-digits_value}
 use Rattle.std.proofs.lemmas.Str.Parse.{IsNumeralModel, numerals_by_fold}
 use Rattle.cmwq_text.specs.Numbers.{value_from, digits_from, is_begun, number_of, byte_of, short_of, held_at_most}
-use Rattle.cmwq_model.specs.Ranges.{greatest, greatest_byte, greatest_short}
+use Rattle.cmwq_model.specs.Prelude.{greatest, greatest_byte, greatest_short}
 use Rattle.cmwq_text.proofs.Steps.{chosen, both}
 
 pub own : IsNumeralModel (λ ds. all_ascii_digits ds ≡ true) (value_from 0)

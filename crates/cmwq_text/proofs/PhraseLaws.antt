@@ -6,7 +6,7 @@ use Rattle.std.proofs.lemmas.List.{length-append}
 use Rattle.std.proofs.lemmas.Fmt.{length-decimal-le}
 use Rattle.cmwq_text.specs.declared.keyword.Keyword.{Keyword}
 use Rattle.cmwq_text.specs.Numbers.{greatest_number}
-use Rattle.cmwq_model.specs.Ranges.{greatest, greatest_long, greatest_byte, greatest_short}
+use Rattle.cmwq_model.specs.Prelude.{greatest, greatest_long, greatest_byte, greatest_short}
 use Rattle.cmwq_text.specs.Words.{joined, line_text}
 use Rattle.cmwq_text.specs.Keywords.{text}
 use Rattle.cmwq_text.specs.CallText.{phrase}

@@ -2,16 +2,15 @@
 use Rattle.std.proofs.Common.{◌≡◌, ℕ, ◌<◌, ◌≤◌, true, List, [], ◌∷◌, ◌++◌, Some, refl, ap, ◌∙◌, arith}
 use Rattle.std.specs.Fmt.{decimal}
 use Rattle.cmwq_model.specs.declared.reply.Reply.{Reply}
+use Rattle.cmwq_model.specs.Prelude.{greatest_byte, greatest_short, IsReply}
 use Rattle.cmwq_model.specs.declared.reply.Reply.TheVariants as reply
 use Rattle.cmwq_text.specs.declared.keyword.Keyword.{Keyword}
 use Rattle.cmwq_text.specs.declared.keyword.Keyword.TheVariants as word
 use Rattle.cmwq_text.specs.Numbers.{greatest_number}
-use Rattle.cmwq_model.specs.Ranges.{greatest_byte, greatest_short}
 use Rattle.cmwq_text.specs.Words.{wide_in}
 use Rattle.cmwq_text.specs.Keywords.{text, keyword_in}
 use Rattle.cmwq_text.specs.CallText.{phrase}
 use Rattle.cmwq_text.specs.ReplyText.{reply_words, ticket_with, ticket_after, started_with, started_after, reply_after, reply_in}
-use Rattle.cmwq_model.specs.Ranges.{IsReply}
 use Rattle.cmwq_text.proofs.Steps.{bind_some}
 use Rattle.cmwq_text.proofs.WordLaws.{are_plain, are_plain-append}
 use Rattle.cmwq_text.proofs.KeywordLaws.{keyword_again, keyword_takes}

@@ -5,7 +5,7 @@ use Rattle.std.proofs.lemmas.Option.{same_Some}
 use Rattle.cmwq_model.specs.declared.id.ItemId.{ItemId}
 use Rattle.cmwq_model.specs.declared.id.QueueId.{QueueId}
 use Rattle.cmwq_model.specs.declared.id.CpuId.{CpuId}
-use Rattle.cmwq_model.specs.Ranges.{greatest_byte, greatest_short}
+use Rattle.cmwq_model.specs.Prelude.{greatest_byte, greatest_short}
 use Rattle.cmwq_text.specs.Words.{◌>>=◌, none, one, two, three, four, byte_in, number_in, wide_in, long_in}
 use Rattle.cmwq_text.specs.IdText.{item_in, queue_in, cpu_in}
 use Rattle.cmwq_text.proofs.Steps.{bind_some}

@@ -13,7 +13,7 @@ use Rattle.cmwq_model.specs.declared.call.Call.{Call}
 use Rattle.cmwq_model.specs.declared.entry.Entry.{Entry}
 use Rattle.cmwq_model.specs.declared.shape.Counts.{Counts}
 use Rattle.cmwq_model.specs.declared.shape.QueueShape.{QueueShape}
-use Rattle.cmwq_model.specs.Layout.{are_counts, is_between, is_queue}
+use Rattle.cmwq_model.specs.Prelude.{are_counts, is_between, is_queue, IsWho, IsCall, IsEntry}
 use Rattle.cmwq_text.specs.declared.shape.Flags.{Flags}
 use Rattle.cmwq_text.specs.declared.shape.QueueLine.{QueueLine}
 use Rattle.cmwq_text.specs.Words.{◌>>=◌, words_of, line_text, is_end, after, word_in, byte_in, short_in, number_in, wide_in}
@@ -23,7 +23,6 @@ use Rattle.cmwq_text.specs.ReplyText.{reply_words}
 use Rattle.cmwq_text.specs.EntryText.{entry_words, entry_text}
 use Rattle.cmwq_text.specs.ShapeText.{counts_words, counts_text, counts_of, flags, flags_in, flags_text, all_flags, flags_of, queue_words, queue_text, queue_line_of, queue_with, width_taken, queue_of_calls, queue_of_history}
 use Rattle.cmwq_text.specs.Numbers.{greatest_number}
-use Rattle.cmwq_model.specs.Ranges.{IsWho, IsCall, IsEntry}
 use Rattle.cmwq_text.specs.Laws.{IsLineOf, CountsReadAgain, QueuesReadAgain, CountsSpelledSo, QueuesSpelledSo, LinesAreShort}
 use Rattle.cmwq_text.proofs.Steps.{bind_some, chosen, both}
 use Rattle.cmwq_text.proofs.NumberLaws.{short_again}

@@ -11,11 +11,11 @@ use Rattle.std.proofs.lemmas.List.{length-append}
 use Rattle.cmwq_model.specs.declared.id.Who.{Who}
 use Rattle.cmwq_model.specs.declared.id.Who.TheVariants.{Caller, Worker}
 use Rattle.cmwq_model.specs.declared.call.Call.{Call}
-use Rattle.cmwq_model.specs.declared.call.Call.TheVariants as call
 use Rattle.cmwq_model.specs.declared.entry.Entry.{Entry}
 use Rattle.cmwq_model.specs.declared.shape.Counts.{Counts}
 use Rattle.cmwq_model.specs.declared.shape.QueueShape.{QueueShape}
-use Rattle.cmwq_model.specs.Layout.{Layout, are_counts, is_queue, is_callers, is_workers, fits, may_make, has_numbers}
+use Rattle.cmwq_model.specs.Prelude.{Layout, are_counts, is_queue, is_callers, is_workers, fits, may_make, has_numbers, IsWho, IsCall, IsEntry}
+use Rattle.cmwq_model.specs.declared.call.Call.TheVariants as call
 use Rattle.cmwq_text.specs.Words.{words_of, joined, line_text, spaced}
 use Rattle.cmwq_text.specs.IdText.{who_text, pool_letter, who_of}
 use Rattle.cmwq_text.specs.CallText.{call_words, call_text, is_of_kind, sets_some, may_say}
@@ -26,7 +26,6 @@ use Rattle.cmwq_text.specs.HistoryText.{version_text, calls_version_text}
 use Rattle.cmwq_text.specs.Formats.{calls_name, counts_of_format, entry_of_format}
 use Rattle.cmwq_text.specs.ShapeText.{counts_words, counts_text, counts_of, queue_words, queue_text, begins_queue}
 use Rattle.cmwq_text.specs.Numbers.{greatest_number}
-use Rattle.cmwq_model.specs.Ranges.{IsWho, IsCall, IsEntry}
 use Rattle.cmwq_text.specs.Laws.{IsLineOf}
 use Rattle.cmwq_text.proofs.Steps.{both}
 use Rattle.cmwq_text.proofs.NumberLaws.{own}

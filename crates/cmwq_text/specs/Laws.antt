@@ -5,13 +5,12 @@ use Rattle.cmwq_model.specs.declared.call.Call.{Call}
 use Rattle.cmwq_model.specs.declared.entry.Entry.{Entry}
 use Rattle.cmwq_model.specs.declared.shape.Counts.{Counts}
 use Rattle.cmwq_model.specs.declared.shape.QueueShape.{QueueShape}
-use Rattle.cmwq_model.specs.Layout.{Layout, are_counts, is_queue, is_layout, fits, entry_fits}
+use Rattle.cmwq_model.specs.Prelude.{Layout, are_counts, is_queue, is_layout, fits, entry_fits, IsWho, IsCall, IsEntry}
 use Rattle.cmwq_text.specs.CallText.{call_text, call_of, may_say}
 use Rattle.cmwq_text.specs.EntryText.{entry_text, entry_of}
 use Rattle.cmwq_text.specs.EndText.{end_text, end_of}
 use Rattle.cmwq_text.specs.ShapeText.{counts_text, counts_of, queue_text, queue_of_calls, queue_of_history}
 use Rattle.cmwq_text.specs.Numbers.{greatest_number}
-use Rattle.cmwq_model.specs.Ranges.{IsWho, IsCall, IsEntry}
 
 -- the line, with a line feed, is this text
 abbrev pub IsLineOf : List ℕ → List ℕ → Type 0

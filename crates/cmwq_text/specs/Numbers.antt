@@ -2,7 +2,7 @@
 use Rattle.std.specs.Prelude.{ℕ, ◌+◌, ◌-◌, ◌*◌, Bool, false, not, ◌&&◌, ◌||◌, ◌==◌, if◌then◌else◌, List, [], ◌∷◌, length, Option, Some, None, nat_le, min}
 use Rattle.std.specs.Str.{all_ascii_digits}
 use Rattle.std.specs.Char.{is_ascii_digit}
-use Rattle.cmwq_model.specs.Ranges.{greatest_byte, greatest_short, greatest}
+use Rattle.cmwq_model.specs.Prelude.{greatest_byte, greatest_short, greatest}
 
 -- the greatest number of an entry that a text of any format has: its 19 digits keep each line within 120 bytes
 abbrev pub greatest_number : ℕ

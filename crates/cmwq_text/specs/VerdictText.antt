@@ -1,8 +1,8 @@
 -- The line of a verdict: `legal <entries>`, `illegal at <position>: serial <serial>` or `illegal at <position>: reply <reply>`.
 use Rattle.std.specs.Prelude.{ℕ, List, [], ◌∷◌, ◌++◌, codes, decimal}
 use Rattle.cmwq_model.specs.declared.verdict.Wanted.{Wanted}
-use Rattle.cmwq_model.specs.declared.verdict.Wanted.TheVariants as wanted
 use Rattle.cmwq_model.specs.declared.verdict.Illegal.{Illegal}
+use Rattle.cmwq_model.specs.declared.verdict.Wanted.TheVariants as wanted
 use Rattle.cmwq_text.specs.Words.{spaced}
 use Rattle.cmwq_text.specs.ReplyText.{reply_words}
 

@@ -5,7 +5,7 @@ use Rattle.std.specs.Option.{option_map}
 use Rattle.std.specs.Str.{bytes_eq}
 use denote.Ref.{Bor}
 use Rattle.cmwq_text.specs.Numbers.{number_of, byte_of, short_of, greatest_number}
-use Rattle.cmwq_model.specs.Ranges.{greatest, greatest_long}
+use Rattle.cmwq_model.specs.Prelude.{greatest, greatest_long}
 
 infixl 10 ◌>>=◌
 abbrev pub ◌>>=◌ : {A B : Type 0} → Option A → (A → Option B) → Option B

@@ -1,6 +1,6 @@
 //! Entries in a text.
 ghost use Rattle.std.specs.Prelude.{◌≡◌};
-ghost use Rattle.cmwq_model.specs.Layout.{entry_fits};
+ghost use Rattle.cmwq_model.specs.Prelude.{entry_fits};
 ghost use Rattle.cmwq_text.specs.EntryText.{entry_of};
 
 use crate::call::{call_in, may_say};

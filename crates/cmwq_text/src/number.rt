@@ -1,7 +1,7 @@
 //! Numbers in a text.
 ghost use Rattle.std.specs.Prelude.{◌≡◌, ◌≤◌, IfSome};
 ghost use Rattle.cmwq_text.specs.Numbers.{with_digit, digits_from, is_begun, number_of, byte_of, short_of, greatest_number};
-ghost use Rattle.cmwq_model.specs.Ranges.{greatest, greatest_long};
+ghost use Rattle.cmwq_model.specs.Prelude.{greatest, greatest_long};
 
 /// The greatest number of an entry.
 const GREATEST_NUMBER: u64 = 9_223_372_036_854_775_807;

@@ -1,6 +1,6 @@
 //! Replies in a text.
 ghost use Rattle.std.specs.Prelude.{◌≡◌, true};
-ghost use Rattle.cmwq_model.specs.Layout.{reply_fits};
+ghost use Rattle.cmwq_model.specs.Prelude.{reply_fits};
 ghost use Rattle.cmwq_text.specs.Words.{with_left};
 ghost use Rattle.cmwq_text.specs.ReplyText.{has_number, has_time, ticket_with, ticket_after, started_with, started_after, reply_after, reply_in};
 

@@ -4,8 +4,7 @@ use Rattle.std.specs.List.{AllByRecursion}
 use Rattle.std.proofs.lemmas.Bool.Decides.{nat_tests}
 use Rattle.cmwq_model.specs.declared.entry.Entry.{Entry}
 use Rattle.cmwq_model.specs.declared.record.Queueing.{Queueing}
-use Rattle.cmwq_model.specs.Queueings.{queueings, opening, is_live, still_open}
-use Rattle.cmwq_model.specs.Active.{is_ahead}
+use Rattle.cmwq_model.specs.Prelude.{queueings, opening, is_live, still_open, is_ahead}
 use Rattle.cmwq_theory_active.proofs.Lists.{All_map, count_by-head}
 use Rattle.cmwq_theory_active.proofs.Rising.{IsBelow, queueings_below, opening_number}
 use Rattle.cmwq_theory_active.proofs.Opens.{open_before}

@@ -4,9 +4,7 @@ use Rattle.std.proofs.lemmas.Bool.{ltb-true}
 use Rattle.cmwq_model.specs.declared.id.PoolId.{PoolId}
 use Rattle.cmwq_model.specs.declared.entry.Entry.{Entry}
 use Rattle.cmwq_model.specs.declared.record.Queueing.{Queueing}
-use Rattle.cmwq_model.specs.Layout.{Layout}
-use Rattle.cmwq_model.specs.Queueings.{is_live}
-use Rattle.cmwq_model.specs.Active.{is_below_max_active, is_active, is_listed}
+use Rattle.cmwq_model.specs.Prelude.{Layout, is_live, is_below_max_active, is_active, is_listed}
 
 pub active_go_on : (s : Layout) (past : List Entry) (e : Entry) (x : Queueing) → is_active s (e ∷ past) x ≡ (is_live (e ∷ past) x && (is_active s past x || is_below_max_active s (e ∷ past) x))
 unfolding is_active

@@ -4,10 +4,7 @@ use Rattle.std.proofs.lemmas.Bool.{ltb-true, lt-ltb}
 use Rattle.std.proofs.lemmas.Bool.Decides.{nat_tests}
 use Rattle.cmwq_model.specs.declared.entry.Entry.{Entry}
 use Rattle.cmwq_model.specs.declared.record.Queueing.{Queueing}
-use Rattle.cmwq_model.specs.Layout.{Layout}
-use Rattle.cmwq_model.specs.Widths.{width}
-use Rattle.cmwq_model.specs.Queueings.{is_live, still_open}
-use Rattle.cmwq_model.specs.Active.{is_ahead, is_below_max_active, is_active}
+use Rattle.cmwq_model.specs.Prelude.{Layout, width, is_live, still_open, is_ahead, is_below_max_active, is_active}
 use Rattle.cmwq_theory_active.specs.Looks.{was_below_max_active, keeps_widths}
 use Rattle.cmwq_theory_active.proofs.Opens.{open_before}
 use Rattle.cmwq_theory_active.proofs.Joined.{active_go_on, not_live}

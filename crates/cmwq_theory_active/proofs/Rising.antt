@@ -5,8 +5,7 @@ use Rattle.std.specs.Prelude.{option_map, option_and_then, if◌then◌else◌}
 use Rattle.cmwq_model.specs.declared.entry.Entry.{Entry}
 use Rattle.cmwq_model.specs.declared.record.Place.{Place}
 use Rattle.cmwq_model.specs.declared.record.Queueing.{Queueing}
-use Rattle.cmwq_model.specs.Calls.{item_of}
-use Rattle.cmwq_model.specs.Queueings.{queueings, opening, opens, is_live, queued_at, place_wanted, still_open}
+use Rattle.cmwq_model.specs.Prelude.{item_of, queueings, opening, opens, is_live, queued_at, place_wanted, still_open}
 use Rattle.cmwq_theory_active.specs.Rising.{IsRising}
 use Rattle.cmwq_theory_active.proofs.Lists.{All_map, All_append, All_filter}
 

@@ -3,9 +3,8 @@ use Rattle.std.proofs.Common.{◌≡◌, ℕ, Bool, true, false, ◌&&◌, List,
 use Rattle.std.specs.Prelude.{if◌then◌else◌}
 use Rattle.cmwq_model.specs.declared.entry.Entry.{Entry}
 use Rattle.cmwq_model.specs.declared.reply.Reply.{Reply}
+use Rattle.cmwq_model.specs.Prelude.{Layout, is_freezable, width, max_active, is_frozen, frozen_after, sets_max, width_told}
 use Rattle.cmwq_model.specs.declared.reply.Reply.TheVariants as reply
-use Rattle.cmwq_model.specs.Layout.{Layout, is_freezable}
-use Rattle.cmwq_model.specs.Widths.{width, max_active, is_frozen, frozen_after, sets_max, width_told}
 use Rattle.std.specs.Option.{option_map_or}
 use Rattle.cmwq_theory_active.specs.Looks.{keeps_widths}
 

@@ -9,25 +9,19 @@ use Rattle.cmwq_model.specs.declared.id.PoolId.{PoolId}
 use Rattle.cmwq_model.specs.declared.id.Who.{Who}
 use Rattle.cmwq_model.specs.declared.id.Who.TheVariants.{Caller, Worker}
 use Rattle.cmwq_model.specs.declared.call.Call.{Call}
-use Rattle.cmwq_model.specs.declared.call.Call.TheVariants as call
 use Rattle.cmwq_model.specs.declared.reply.Reply.{Reply}
-use Rattle.cmwq_model.specs.declared.reply.Reply.TheVariants as reply
 use Rattle.cmwq_model.specs.declared.entry.Entry.{Entry}
 use Rattle.cmwq_model.specs.declared.record.Queueing.{Queueing}
-use Rattle.cmwq_model.specs.Layout.{Layout, first_width, is_freezable, pool_at}
-use Rattle.cmwq_model.specs.Calls.{same_pool, serial_of, now}
-use Rattle.cmwq_model.specs.Fate.{is_started}
-use Rattle.cmwq_model.specs.Widths.{width, max_active, is_frozen, frozen_after, sets_max, width_told}
-use Rattle.cmwq_model.specs.Runs.{has_run}
-use Rattle.cmwq_model.specs.Queueings.{queueings, is_live, still_open, is_pending, runs_elsewhere}
-use Rattle.cmwq_model.specs.Active.{is_ahead, is_below_max_active, is_active, is_newly_active, is_listed, activated, worklist, next, is_startable}
-use Rattle.cmwq_model.specs.Workers.{is_enlisted}
 use Rattle.cmwq_model.specs.declared.record.Ticket.{Ticket}
-use Rattle.cmwq_model.specs.Tickets.{gives_ticket, ticket_for, ticket_in, tickets, is_done, is_unended, unended, destroys, is_destroy_of, is_cancelling, is_crowded, is_ticket, ticket_of, ends_destroy, is_gone}
+use Rattle.cmwq_model.specs.Prelude.{Layout, first_width, is_freezable, pool_at, same_pool, serial_of, now, is_started, width, max_active, is_frozen, frozen_after, sets_max}
+use Rattle.cmwq_model.specs.Prelude.{width_told, has_run, queueings, is_live, still_open, is_pending, runs_elsewhere, is_ahead, is_below_max_active, is_active, is_newly_active}
+use Rattle.cmwq_model.specs.Prelude.{is_listed, activated, worklist, next, is_startable, is_enlisted, gives_ticket, ticket_for, ticket_in, tickets, is_done, is_unended, unended}
+use Rattle.cmwq_model.specs.Prelude.{destroys, is_destroy_of, is_cancelling, is_crowded, is_ticket, ticket_of, ends_destroy, is_gone, may_call, is_shut, queue_answer}
+use Rattle.cmwq_model.specs.Prelude.{modify_answer, wait_answer, answer, take_answer, start_of, IsLegal, entry_for}
+use Rattle.cmwq_model.specs.declared.call.Call.TheVariants as call
+use Rattle.cmwq_model.specs.declared.reply.Reply.TheVariants as reply
 use Rattle.cmwq_theory_steps.proofs.Activated.{find_holds}
 use Rattle.cmwq_theory_active.proofs.Lists.{All_map, All_append, All_filter}
-use Rattle.cmwq_model.specs.Answer.{may_call, is_shut, queue_answer, modify_answer, wait_answer, answer, take_answer, start_of}
-use Rattle.cmwq_model.specs.Legal.{IsLegal, entry_for}
 use Rattle.cmwq_theory_laws.specs.FirstWidths.{queue_before, modify_before, wait_before, is_first, is_newly_first, ever_first, is_listed_before, next_before, HasFirstWidths, is_old, take_before, answer_before, entry_before, IsLegalBefore}
 use Rattle.cmwq_theory_active.proofs.Lists.{All_each}
 use Rattle.cmwq_theory_steps.proofs.Filters.{filter_same}

@@ -1,16 +1,10 @@
 -- Illegal histories that break the laws of legal ones, by computation.
 use Rattle.std.proofs.Common.{◌≡◌, ◌≤◌, true, false, [], ◌∷◌, refl, ap, arith}
 use Rattle.cmwq_model.specs.declared.id.WorkerId.{WorkerId}
-use Rattle.cmwq_model.specs.Bookings.{booking}
-use Rattle.cmwq_model.specs.Fate.{is_cancelled}
-use Rattle.cmwq_model.specs.Runs.{last_start, item_start}
-use Rattle.cmwq_model.specs.Queueings.{queueings}
-use Rattle.cmwq_model.specs.Active.{is_active, activated}
-use Rattle.cmwq_model.specs.Widths.{width, max_active}
+use Rattle.cmwq_model.specs.Prelude.{booking, is_cancelled, last_start, item_start, queueings, is_active, activated, width, max_active, is_gone, tickets}
 use Rattle.cmwq_theory_laws.specs.Illegal.{worker, GoneButOpen, worker, RunInTwoWorkers, StartedTwice, StartedUnqueued, RunBeyondMaxActive, EndedEarly, Unsettled}
 use Rattle.cmwq_theory_steps.specs.Places.{active_count}
 use Rattle.std.specs.List.{IsDistinct}
-use Rattle.cmwq_model.specs.Tickets.{is_gone, tickets}
 
 false_is_true : false ≡ true → ⊥
 false_is_true h = cc

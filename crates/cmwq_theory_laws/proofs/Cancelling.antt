@@ -10,18 +10,14 @@ use Rattle.std.proofs.lemmas.List.Elements.{filter-append}
 use Rattle.cmwq_model.specs.declared.id.Who.{Who}
 use Rattle.cmwq_model.specs.declared.id.Who.TheVariants.{Caller, Worker}
 use Rattle.cmwq_model.specs.declared.call.Call.{Call}
-use Rattle.cmwq_model.specs.declared.call.Call.TheVariants as call
 use Rattle.cmwq_model.specs.declared.reply.Reply.{Reply}
 use Rattle.cmwq_model.specs.declared.entry.Entry.{Entry}
 use Rattle.cmwq_model.specs.declared.record.Queueing.{Queueing}
 use Rattle.cmwq_model.specs.declared.record.Ticket.{Ticket}
-use Rattle.cmwq_model.specs.Layout.{Layout}
-use Rattle.cmwq_model.specs.Calls.{is_at, item_called, item_fired, item_of, is_of_item}
-use Rattle.cmwq_model.specs.Bookings.{settles, due_in, is_booked, booked_by}
-use Rattle.cmwq_model.specs.Fate.{number_cancelled, takes_back}
-use Rattle.cmwq_model.specs.Queueings.{opens, opening, queued_at, place_wanted, still_open, is_unstarted, unstarted, is_pending}
-use Rattle.cmwq_model.specs.Tickets.{tickets, is_unended, ticket_in, ticket_for, gives_ticket, cancels_sync, is_cancel_sync_of, is_cancelling}
-use Rattle.cmwq_model.specs.Legal.{IsLegal}
+use Rattle.cmwq_model.specs.Prelude.{Layout, is_at, item_called, item_fired, item_of, is_of_item, settles, due_in, is_booked, booked_by, number_cancelled, takes_back, opens}
+use Rattle.cmwq_model.specs.Prelude.{opening, queued_at, place_wanted, still_open, is_unstarted, unstarted, is_pending, tickets, is_unended, ticket_in, ticket_for, gives_ticket}
+use Rattle.cmwq_model.specs.Prelude.{cancels_sync, is_cancel_sync_of, is_cancelling, IsLegal}
+use Rattle.cmwq_model.specs.declared.call.Call.TheVariants as call
 use Rattle.cmwq_theory_active.proofs.Lists.{count_by-none, count_by-filter}
 use Rattle.cmwq_theory_steps.proofs.Filters.{count_none, none_found}
 use Rattle.cmwq_theory_steps.proofs.Causes.{Cause, IsFree, cause_of}

@@ -5,10 +5,7 @@ use Rattle.std.proofs.Math.Bool.{and-false}
 use Rattle.std.proofs.lemmas.Bool.{or_right}
 use Rattle.cmwq_model.specs.declared.entry.Entry.{Entry}
 use Rattle.cmwq_model.specs.declared.record.Queueing.{Queueing}
-use Rattle.cmwq_model.specs.Layout.{Layout}
-use Rattle.cmwq_model.specs.Fate.{starts, finishes, number_started, number_finished, is_started, is_finished, is_cancelled, is_open}
-use Rattle.cmwq_model.specs.Queueings.{queueings, opening}
-use Rattle.cmwq_model.specs.Legal.{IsLegal}
+use Rattle.cmwq_model.specs.Prelude.{Layout, starts, finishes, number_started, number_finished, is_started, is_finished, is_cancelled, is_open, queueings, opening, IsLegal}
 use Rattle.cmwq_theory_laws.specs.Sanity.{is_ended_twice, is_started_cancelled}
 use Rattle.cmwq_theory_active.proofs.Lists.{All_map, All_both, All_append}
 use Rattle.cmwq_theory_active.proofs.Rising.{opening_number}

@@ -5,11 +5,9 @@ use Rattle.std.proofs.lemmas.Bool.{ltb-true}
 use Rattle.std.proofs.lemmas.Bool.Decides.{nat_tests}
 use Rattle.cmwq_model.specs.declared.entry.Entry.{Entry}
 use Rattle.cmwq_model.specs.declared.verdict.Wanted.{Wanted}
-use Rattle.cmwq_model.specs.declared.verdict.Wanted.TheVariants as wanted
 use Rattle.cmwq_model.specs.declared.verdict.Illegal.{Illegal}
-use Rattle.cmwq_model.specs.Layout.{Layout}
-use Rattle.cmwq_model.specs.Legal.{IsLegal, past_of, entry_for}
-use Rattle.cmwq_model.specs.Verdict.{Wants, IsFirstWrong}
+use Rattle.cmwq_model.specs.Prelude.{Layout, IsLegal, past_of, entry_for, Wants, IsFirstWrong}
+use Rattle.cmwq_model.specs.declared.verdict.Wanted.TheVariants as wanted
 use Rattle.cmwq_theory_steps.proofs.Growing.{older_are_legal}
 
 -- ---- a first wrong entry is of no legal history

@@ -11,22 +11,18 @@ use Rattle.std.proofs.lemmas.List.Elements.{filter-append}
 use Rattle.cmwq_model.specs.declared.id.Who.{Who}
 use Rattle.cmwq_model.specs.declared.id.Who.TheVariants.{Caller, Worker}
 use Rattle.cmwq_model.specs.declared.call.Call.{Call}
-use Rattle.cmwq_model.specs.declared.call.Call.TheVariants as call
 use Rattle.cmwq_model.specs.declared.reply.Reply.{Reply}
-use Rattle.cmwq_model.specs.declared.reply.Reply.TheVariants as reply
 use Rattle.cmwq_model.specs.declared.entry.Entry.{Entry}
 use Rattle.cmwq_model.specs.declared.record.Booking.{Booking}
 use Rattle.cmwq_model.specs.declared.record.Place.{Place}
 use Rattle.cmwq_model.specs.declared.record.Queueing.{Queueing}
 use Rattle.cmwq_model.specs.declared.record.Ticket.{Ticket}
-use Rattle.cmwq_model.specs.Layout.{Layout}
-use Rattle.cmwq_model.specs.Calls.{is_at, item_called, item_fired, item_of, is_of_item}
-use Rattle.cmwq_model.specs.Bookings.{settles, due_in, booking, booking_of, booked_by, bookings, standing, stands, number_booked}
-use Rattle.cmwq_model.specs.Queueings.{opens, opening, queued_at, place_wanted, still_open}
-use Rattle.cmwq_model.specs.Tickets.{tickets, is_unended, unended, ticket_in, ticket_for, gives_ticket, drains, destroys, is_drain_of, is_destroy_of, is_draining, is_being_destroyed, is_done, ends_destroy, is_gone}
-use Rattle.cmwq_model.specs.Waits.{holds_up, waits_for}
-use Rattle.cmwq_model.specs.Answer.{runs_on, is_booked_on}
-use Rattle.cmwq_model.specs.Legal.{IsLegal}
+use Rattle.cmwq_model.specs.Prelude.{Layout, is_at, item_called, item_fired, item_of, is_of_item, settles, due_in, booking, booking_of, booked_by, bookings, standing, stands}
+use Rattle.cmwq_model.specs.Prelude.{number_booked, opens, opening, queued_at, place_wanted, still_open, tickets, is_unended, unended, ticket_in, ticket_for, gives_ticket}
+use Rattle.cmwq_model.specs.Prelude.{drains, destroys, is_drain_of, is_destroy_of, is_draining, is_being_destroyed, is_done, ends_destroy, is_gone, holds_up, waits_for, runs_on}
+use Rattle.cmwq_model.specs.Prelude.{is_booked_on, IsLegal}
+use Rattle.cmwq_model.specs.declared.call.Call.TheVariants as call
+use Rattle.cmwq_model.specs.declared.reply.Reply.TheVariants as reply
 use Rattle.cmwq_theory_steps.specs.Endings.{survives}
 use Rattle.cmwq_theory_laws.specs.Gone.{NoneBooked, NoneOpen}
 use Rattle.cmwq_theory_active.proofs.Lists.{All_map, All_append, All_filter, All_unfilter, find_none}

@@ -8,23 +8,15 @@ use Rattle.std.proofs.lemmas.List.Elements.{All-from_recursion, recursion_from_A
 use Rattle.cmwq_model.specs.declared.id.WorkerId.{WorkerId}
 use Rattle.cmwq_model.specs.declared.id.Who.{Who}
 use Rattle.cmwq_model.specs.declared.call.Call.{Call}
-use Rattle.cmwq_model.specs.declared.call.Call.TheVariants as call
 use Rattle.cmwq_model.specs.declared.reply.Reply.{Reply}
 use Rattle.cmwq_model.specs.declared.entry.Entry.{Entry}
 use Rattle.cmwq_model.specs.declared.record.Booking.{Booking}
 use Rattle.cmwq_model.specs.declared.record.Queueing.{Queueing}
 use Rattle.cmwq_model.specs.declared.record.Start.{Start}
-use Rattle.cmwq_model.specs.Layout.{Layout, is_layout, indices, has_numbers, reply_fits, entry_fits}
-use Rattle.cmwq_model.specs.Ranges.{IsWho, IsCall, IsReply, IsEntry, greatest}
-use Rattle.cmwq_model.specs.Calls.{is_by, is_of_item, serial_of, ticks_told, now}
-use Rattle.cmwq_model.specs.Bookings.{settles, due_in, booking, booking_of, booked_by}
-use Rattle.cmwq_model.specs.Runs.{run, item_run}
-use Rattle.cmwq_model.specs.Queueings.{still_open, unstarted}
-use Rattle.cmwq_model.specs.Active.{next}
-use Rattle.cmwq_model.specs.Waits.{holds_up, least_waited, waits_for}
-use Rattle.cmwq_model.specs.Workers.{enlisted_by, is_other_idle, is_reserve}
-use Rattle.cmwq_model.specs.Legal.{IsLegal, past_of}
-use Rattle.cmwq_model.specs.Room.{most_time, has_time}
+use Rattle.cmwq_model.specs.Prelude.{Layout, is_layout, indices, has_numbers, reply_fits, entry_fits, IsWho, IsCall, IsReply, IsEntry, greatest, is_by, is_of_item, serial_of}
+use Rattle.cmwq_model.specs.Prelude.{ticks_told, now, settles, due_in, booking, booking_of, booked_by, run, item_run, still_open, unstarted, next, holds_up, least_waited}
+use Rattle.cmwq_model.specs.Prelude.{waits_for, enlisted_by, is_other_idle, is_reserve, IsLegal, past_of, most_time, has_time}
+use Rattle.cmwq_model.specs.declared.call.Call.TheVariants as call
 use Rattle.cmwq_theory_active.proofs.Lists.{All_append}
 use Rattle.cmwq_theory_steps.proofs.Activated.{find_holds, next_holds}
 use Rattle.cmwq_theory_steps.proofs.Entries.{IsKnown, known_more, queueings_known}

@@ -9,10 +9,7 @@ use Rattle.cmwq_model.specs.declared.id.Who.{Who}
 use Rattle.cmwq_model.specs.declared.id.Who.TheVariants.{Caller, Worker}
 use Rattle.cmwq_model.specs.declared.call.Call.{Call}
 use Rattle.cmwq_model.specs.declared.entry.Entry.{Entry}
-use Rattle.cmwq_model.specs.Layout.{Layout, fits}
-use Rattle.cmwq_model.specs.Calls.{same_who, is_by, serial_of}
-use Rattle.cmwq_model.specs.Legal.{IsLegal, entry_for}
-use Rattle.cmwq_model.specs.Room.{Steps, has_room, step, none, steps}
+use Rattle.cmwq_model.specs.Prelude.{Layout, fits, same_who, is_by, serial_of, IsLegal, entry_for, Steps, has_room, step, none, steps}
 use Rattle.cmwq_theory_laws.specs.Sanity.{HasOneEntry, serials, serial_told}
 use Rattle.cmwq_theory_active.proofs.Lists.{count_by-cons}
 use Rattle.cmwq_theory_steps.proofs.ItemRuns.{same_worker-true}

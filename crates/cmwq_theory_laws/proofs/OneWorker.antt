@@ -3,10 +3,7 @@ use Rattle.std.proofs.Common.{◌≡◌, ℕ, true, List, Option, Some, None, re
 use Rattle.std.specs.Prelude.{option_and_then}
 use Rattle.cmwq_model.specs.declared.id.WorkerId.{WorkerId}
 use Rattle.cmwq_model.specs.declared.entry.Entry.{Entry}
-use Rattle.cmwq_model.specs.Layout.{Layout}
-use Rattle.cmwq_model.specs.Calls.{is_at, item_at}
-use Rattle.cmwq_model.specs.Runs.{run}
-use Rattle.cmwq_model.specs.Legal.{IsLegal}
+use Rattle.cmwq_model.specs.Prelude.{Layout, is_at, item_at, run, IsLegal}
 use Rattle.cmwq_theory_laws.specs.Headline.{RunsInOneWorker}
 use Rattle.cmwq_theory_steps.proofs.ItemRuns.{one_worker}
 use Rattle.cmwq_theory_steps.proofs.Entries.{is_at-true}

@@ -6,15 +6,8 @@ use Rattle.std.proofs.lemmas.Bool.{or_right, eq-eqb}
 use Rattle.cmwq_model.specs.declared.call.Call.TheVariants as call
 use Rattle.cmwq_model.specs.declared.entry.Entry.{Entry}
 use Rattle.cmwq_model.specs.declared.record.Start.{Start}
-use Rattle.cmwq_model.specs.Layout.{Layout}
-use Rattle.cmwq_model.specs.Calls.{entry_at, is_of_item}
-use Rattle.cmwq_model.specs.Bookings.{settles}
-use Rattle.cmwq_model.specs.Fate.{number_started}
-use Rattle.cmwq_model.specs.Runs.{item_run, item_runs, starts_item, start_in}
-use Rattle.cmwq_model.specs.Queueings.{is_pending}
-use Rattle.cmwq_model.specs.Tickets.{unended, is_ticket, is_cancelling, cancels_sync, is_cancel_sync_of}
-use Rattle.cmwq_model.specs.Waits.{waits_for}
-use Rattle.cmwq_model.specs.Legal.{IsLegal}
+use Rattle.cmwq_model.specs.Prelude.{Layout, entry_at, is_of_item, settles, number_started, item_run, item_runs, starts_item, start_in, is_pending, unended, is_ticket}
+use Rattle.cmwq_model.specs.Prelude.{is_cancelling, cancels_sync, is_cancel_sync_of, waits_for, IsLegal}
 use Rattle.cmwq_theory_steps.specs.TicketSteps.{IsDone}
 use Rattle.cmwq_theory_laws.specs.Headline.{CancelsSettle}
 use Rattle.cmwq_theory_steps.specs.RunSteps.{ends_run}

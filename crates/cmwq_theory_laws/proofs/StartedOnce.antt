@@ -4,9 +4,7 @@ use Rattle.std.specs.Prelude.{is_some}
 use Rattle.std.specs.List.{AllByRecursion}
 use Rattle.std.proofs.lemmas.Bool.{or_parts}
 use Rattle.cmwq_model.specs.declared.entry.Entry.{Entry}
-use Rattle.cmwq_model.specs.Layout.{Layout}
-use Rattle.cmwq_model.specs.Fate.{starts, is_started}
-use Rattle.cmwq_model.specs.Legal.{IsLegal}
+use Rattle.cmwq_model.specs.Prelude.{Layout, starts, is_started, IsLegal}
 use Rattle.cmwq_theory_laws.specs.Headline.{StartedOnce, StartsEarlier}
 use Rattle.cmwq_theory_active.proofs.Lists.{count_by-cons, count_by-none}
 use Rattle.cmwq_theory_steps.proofs.StartsListed.{starts_listed, starts_anew}

@@ -1,8 +1,7 @@
 -- Only active queueings are started.
 use Rattle.std.proofs.Common.{List, [], ◌∷◌}
 use Rattle.cmwq_model.specs.declared.entry.Entry.{Entry}
-use Rattle.cmwq_model.specs.Layout.{Layout}
-use Rattle.cmwq_model.specs.Legal.{IsLegal}
+use Rattle.cmwq_model.specs.Prelude.{Layout, IsLegal}
 use Rattle.cmwq_theory_laws.specs.Headline.{StartsActive}
 use Rattle.cmwq_theory_steps.proofs.WorklistSteps.{starts_only_active}
 

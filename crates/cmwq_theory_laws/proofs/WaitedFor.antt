@@ -5,13 +5,10 @@ use Rattle.std.specs.Option.{option_or}
 use Rattle.std.specs.List.{AllByRecursion}
 use Rattle.std.proofs.lemmas.Bool.Decides.{nat_tests}
 use Rattle.cmwq_model.specs.declared.call.Call.{Call}
-use Rattle.cmwq_model.specs.declared.call.Call.TheVariants as call
 use Rattle.cmwq_model.specs.declared.entry.Entry.{Entry}
 use Rattle.cmwq_model.specs.declared.record.Queueing.{Queueing}
-use Rattle.cmwq_model.specs.Layout.{Layout}
-use Rattle.cmwq_model.specs.Queueings.{queueings, is_live, still_open}
-use Rattle.cmwq_model.specs.Waits.{served, is_served_after, is_within, holds_up, waits_for, least_waited}
-use Rattle.cmwq_model.specs.Legal.{IsLegal}
+use Rattle.cmwq_model.specs.Prelude.{Layout, queueings, is_live, still_open, served, is_served_after, is_within, holds_up, waits_for, least_waited, IsLegal}
+use Rattle.cmwq_model.specs.declared.call.Call.TheVariants as call
 use Rattle.cmwq_theory_laws.specs.Headline.{is_waited_for, has_ended, WaitsEndAfter}
 use Rattle.cmwq_theory_active.proofs.Lists.{All_both, All_each, find_none, All_unfilter}
 use Rattle.cmwq_theory_active.proofs.Rising.{IsBelow, queueings_below}

@@ -12,12 +12,8 @@ use Rattle.std.proofs.lemmas.Map.Made.{length-le_from_is_member}
 use Rattle.cmwq_model.specs.declared.id.WorkerId.{WorkerId}
 use Rattle.cmwq_model.specs.declared.entry.Entry.{Entry}
 use Rattle.cmwq_model.specs.declared.record.Queueing.{Queueing}
-use Rattle.cmwq_model.specs.Layout.{Layout, pool_at}
-use Rattle.cmwq_model.specs.Calls.{is_at, same_pool, same_worker, item_at}
-use Rattle.cmwq_model.specs.Runs.{run}
-use Rattle.cmwq_model.specs.Queueings.{queueings, queueing_at, queue_of, run_queue, has_number, is_live, still_open}
-use Rattle.cmwq_model.specs.Active.{is_active}
-use Rattle.cmwq_model.specs.Legal.{IsLegal}
+use Rattle.cmwq_model.specs.Prelude.{Layout, pool_at, is_at, same_pool, same_worker, item_at, run, queueings, queueing_at, queue_of, run_queue, has_number, is_live, still_open}
+use Rattle.cmwq_model.specs.Prelude.{is_active, IsLegal}
 use Rattle.cmwq_theory_steps.specs.Places.{is_on, open_on, active_count}
 use Rattle.cmwq_theory_laws.specs.Headline.{runs_queue_on, RunsWithinActive}
 use Rattle.cmwq_theory_active.proofs.Lists.{All_both}

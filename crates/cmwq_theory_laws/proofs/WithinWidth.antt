@@ -4,10 +4,7 @@ use Rattle.std.proofs.lemmas.Bool.Decides.{nat_tests}
 use Rattle.std.specs.List.{AllByRecursion}
 use Rattle.cmwq_model.specs.declared.entry.Entry.{Entry}
 use Rattle.cmwq_model.specs.declared.record.Queueing.{Queueing}
-use Rattle.cmwq_model.specs.Layout.{Layout}
-use Rattle.cmwq_model.specs.Widths.{width}
-use Rattle.cmwq_model.specs.Queueings.{queueings, is_live, still_open}
-use Rattle.cmwq_model.specs.Active.{is_active, is_below_max_active, is_newly_active}
+use Rattle.cmwq_model.specs.Prelude.{Layout, width, queueings, is_live, still_open, is_active, is_below_max_active, is_newly_active}
 use Rattle.cmwq_theory_steps.specs.Places.{is_on, open_on}
 use Rattle.cmwq_theory_steps.specs.Histories.{OfEachEntry}
 use Rattle.cmwq_theory_laws.specs.Headline.{WithinWidthAfter}

@@ -3,14 +3,8 @@ use Rattle.std.specs.Prelude.{◌≡◌, ℕ, ◌≤◌, true, List, ◌∷◌, 
 use Rattle.std.specs.List.{AllByRecursion}
 use Rattle.cmwq_model.specs.declared.call.Call.{Call}
 use Rattle.cmwq_model.specs.declared.entry.Entry.{Entry}
-use Rattle.cmwq_model.specs.Layout.{Layout}
-use Rattle.cmwq_model.specs.Queueings.{queueings, still_open}
-use Rattle.cmwq_model.specs.Active.{is_active}
-use Rattle.cmwq_model.specs.Waits.{holds_up, waits_for}
-use Rattle.cmwq_model.specs.Calls.{item_at}
-use Rattle.cmwq_model.specs.Runs.{run, item_run}
 use Rattle.cmwq_model.specs.declared.id.WorkerId.{WorkerId}
-use Rattle.cmwq_model.specs.Legal.{IsLegal}
+use Rattle.cmwq_model.specs.Prelude.{Layout, queueings, still_open, is_active, holds_up, waits_for, item_at, run, item_run, IsLegal}
 use Rattle.cmwq_theory_steps.specs.Reasons.{number_given}
 use Rattle.cmwq_theory_active.specs.Rising.{IsRising}
 use Rattle.cmwq_theory_steps.specs.Places.{open_on, active_count}

@@ -7,22 +7,14 @@ use Rattle.cmwq_model.specs.declared.id.WorkerId.{WorkerId}
 use Rattle.cmwq_model.specs.declared.id.Who.{Who}
 use Rattle.cmwq_model.specs.declared.id.Who.TheVariants.{Worker}
 use Rattle.cmwq_model.specs.declared.call.Call.{Call}
-use Rattle.cmwq_model.specs.declared.call.Call.TheVariants as call
 use Rattle.cmwq_model.specs.declared.reply.Reply.{Reply}
-use Rattle.cmwq_model.specs.declared.reply.Reply.TheVariants as reply
 use Rattle.cmwq_model.specs.declared.entry.Entry.{Entry}
 use Rattle.cmwq_model.specs.declared.record.Queueing.{Queueing}
-use Rattle.cmwq_model.specs.Layout.{Layout, first_width, pool_at, fits}
-use Rattle.cmwq_model.specs.Widths.{width}
-use Rattle.cmwq_model.specs.Calls.{same_pool, serial_of, now}
-use Rattle.cmwq_model.specs.Fate.{is_started}
-use Rattle.cmwq_model.specs.Runs.{has_run}
-use Rattle.cmwq_model.specs.Queueings.{queueings, still_open, is_live, is_pending, runs_elsewhere}
-use Rattle.cmwq_model.specs.Active.{is_ahead, is_active, activated, is_startable}
-use Rattle.cmwq_model.specs.Workers.{is_enlisted}
-use Rattle.cmwq_model.specs.Tickets.{is_cancelling, is_crowded, destroys, is_gone}
-use Rattle.cmwq_model.specs.Answer.{answer, start_of, may_call, is_shut}
-use Rattle.cmwq_model.specs.Legal.{IsLegal}
+use Rattle.cmwq_model.specs.Prelude.{Layout, first_width, pool_at, fits, width, same_pool, serial_of, now, is_started, has_run, queueings, still_open, is_live, is_pending}
+use Rattle.cmwq_model.specs.Prelude.{runs_elsewhere, is_ahead, is_active, activated, is_startable, is_enlisted, is_cancelling, is_crowded, destroys, is_gone, answer, start_of}
+use Rattle.cmwq_model.specs.Prelude.{may_call, is_shut, IsLegal}
+use Rattle.cmwq_model.specs.declared.call.Call.TheVariants as call
+use Rattle.cmwq_model.specs.declared.reply.Reply.TheVariants as reply
 
 -- as it was: active is what is open with fewer older open ones on its queue and CPU than the layout says
 abbrev pub is_first : Layout → List Entry → Queueing → Bool

@@ -2,11 +2,7 @@
 use Rattle.std.specs.Prelude.{◌≡◌, ℕ, ◌≤◌, true, List, length, IsTrue}
 use Rattle.std.specs.List.{All}
 use Rattle.cmwq_model.specs.declared.entry.Entry.{Entry}
-use Rattle.cmwq_model.specs.Layout.{Layout, is_layout, entry_fits}
-use Rattle.cmwq_model.specs.Ranges.{IsWho, IsCall, IsEntry}
-use Rattle.cmwq_model.specs.Calls.{now}
-use Rattle.cmwq_model.specs.Legal.{IsLegal, past_of}
-use Rattle.cmwq_model.specs.Room.{most_time}
+use Rattle.cmwq_model.specs.Prelude.{Layout, is_layout, entry_fits, IsWho, IsCall, IsEntry, now, IsLegal, past_of, most_time}
 use Rattle.cmwq_theory_steps.specs.Histories.{OfEntries}
 
 -- the call of each entry fits, and the items and workers that its reply names are of the layout

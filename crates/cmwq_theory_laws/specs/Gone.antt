@@ -3,9 +3,7 @@ use Rattle.std.specs.Prelude.{◌≡◌, ℕ, true, false, ◌==◌, List, Some,
 use Rattle.std.specs.List.{AllByRecursion}
 use Rattle.cmwq_model.specs.declared.entry.Entry.{Entry}
 use Rattle.cmwq_model.specs.declared.record.Booking.{Booking}
-use Rattle.cmwq_model.specs.Bookings.{booking}
-use Rattle.cmwq_model.specs.Queueings.{still_open}
-use Rattle.cmwq_model.specs.Tickets.{is_gone}
+use Rattle.cmwq_model.specs.Prelude.{booking, still_open, is_gone}
 use Rattle.cmwq_theory_steps.specs.Histories.{OfLegal}
 
 -- no item is booked on the queue, and nothing of it is open

@@ -3,18 +3,12 @@ use Rattle.std.specs.Prelude.{◌≡◌, ℕ, ◌≤◌, Bool, true, false, ◌&
 use Rattle.std.specs.List.{AllByRecursion, IsDistinct}
 use Rattle.cmwq_model.specs.declared.id.WorkerId.{WorkerId}
 use Rattle.cmwq_model.specs.declared.call.Call.{Call}
-use Rattle.cmwq_model.specs.declared.call.Call.TheVariants as call
 use Rattle.cmwq_model.specs.declared.entry.Entry.{Entry}
 use Rattle.cmwq_model.specs.declared.record.Queueing.{Queueing}
-use Rattle.cmwq_model.specs.Layout.{Layout}
-use Rattle.cmwq_model.specs.Widths.{width}
-use Rattle.cmwq_model.specs.Active.{is_active, newly_active}
+use Rattle.cmwq_model.specs.Prelude.{Layout, width, is_active, newly_active, is_at, same_worker, entry_at, item_at, starts, is_finished, is_cancelled, run, item_runs, queueings}
+use Rattle.cmwq_model.specs.Prelude.{queueing_at, run_queue, is_pending, is_cancelling}
+use Rattle.cmwq_model.specs.declared.call.Call.TheVariants as call
 use Rattle.cmwq_theory_steps.specs.Places.{open_on, active_count}
-use Rattle.cmwq_model.specs.Calls.{is_at, same_worker, entry_at, item_at}
-use Rattle.cmwq_model.specs.Fate.{starts, is_finished, is_cancelled}
-use Rattle.cmwq_model.specs.Runs.{run, item_runs}
-use Rattle.cmwq_model.specs.Queueings.{queueings, queueing_at, run_queue, is_pending}
-use Rattle.cmwq_model.specs.Tickets.{is_cancelling}
 use Rattle.cmwq_theory_steps.specs.Histories.{OfLegal, OfEachEntry}
 use Rattle.cmwq_theory_steps.specs.TicketSteps.{IsDone}
 

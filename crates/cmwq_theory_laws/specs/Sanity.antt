@@ -6,12 +6,7 @@ use Rattle.cmwq_model.specs.declared.id.Who.{Who}
 use Rattle.cmwq_model.specs.declared.call.Call.{Call}
 use Rattle.cmwq_model.specs.declared.entry.Entry.{Entry}
 use Rattle.cmwq_model.specs.declared.record.Queueing.{Queueing}
-use Rattle.cmwq_model.specs.Layout.{Layout, fits}
-use Rattle.cmwq_model.specs.Calls.{is_by, serial_of}
-use Rattle.cmwq_model.specs.Fate.{is_started, is_finished, is_cancelled}
-use Rattle.cmwq_model.specs.Queueings.{queueings, still_open}
-use Rattle.cmwq_model.specs.Legal.{IsLegal}
-use Rattle.cmwq_model.specs.Room.{steps}
+use Rattle.cmwq_model.specs.Prelude.{Layout, fits, is_by, serial_of, is_started, is_finished, is_cancelled, queueings, still_open, IsLegal, steps}
 use Rattle.cmwq_theory_steps.specs.Histories.{OfLegal}
 use Rattle.cmwq_theory_steps.specs.Pending.{is_run_of}
 

@@ -2,9 +2,7 @@
 use Rattle.std.specs.Prelude.{◌≡◌, List}
 use Rattle.cmwq_model.specs.declared.entry.Entry.{Entry}
 use Rattle.cmwq_model.specs.declared.verdict.Illegal.{Illegal}
-use Rattle.cmwq_model.specs.Layout.{Layout}
-use Rattle.cmwq_model.specs.Legal.{IsLegal, past_of}
-use Rattle.cmwq_model.specs.Verdict.{IsFirstWrong}
+use Rattle.cmwq_model.specs.Prelude.{Layout, IsLegal, past_of, IsFirstWrong}
 
 -- a history that has a first wrong entry is not legal
 abbrev pub WrongAreIllegal : Type 0

@@ -5,9 +5,7 @@ use Rattle.std.specs.List.{AllByRecursion}
 use Rattle.cmwq_model.specs.declared.id.PoolId.{PoolId}
 use Rattle.cmwq_model.specs.declared.entry.Entry.{Entry}
 use Rattle.cmwq_model.specs.declared.record.Queueing.{Queueing}
-use Rattle.cmwq_model.specs.Layout.{Layout}
-use Rattle.cmwq_model.specs.Queueings.{queueings}
-use Rattle.cmwq_model.specs.Active.{activated, newly_active, is_newly_active, worklist, is_listed, next, is_startable}
+use Rattle.cmwq_model.specs.Prelude.{Layout, queueings, activated, newly_active, is_newly_active, worklist, is_listed, next, is_startable}
 use Rattle.cmwq_theory_active.proofs.Lists.{All_map, All_append, All_filter}
 
 pub activated_all : (s : Layout) (P : List Entry → Queueing → Type 0) → ((e : Entry) (past : List Entry) (x : Queueing) → P past x → P (e ∷ past) x)

@@ -7,10 +7,7 @@ use Rattle.std.proofs.lemmas.List.Elements.{filter-append}
 use Rattle.std.specs.List.{AllByRecursion}
 use Rattle.cmwq_model.specs.declared.entry.Entry.{Entry}
 use Rattle.cmwq_model.specs.declared.record.Queueing.{Queueing}
-use Rattle.cmwq_model.specs.Layout.{Layout}
-use Rattle.cmwq_model.specs.Widths.{width}
-use Rattle.cmwq_model.specs.Queueings.{queueings, opening, is_live, still_open}
-use Rattle.cmwq_model.specs.Active.{is_active, is_ahead, is_below_max_active}
+use Rattle.cmwq_model.specs.Prelude.{Layout, width, queueings, opening, is_live, still_open, is_active, is_ahead, is_below_max_active}
 use Rattle.cmwq_theory_steps.specs.Places.{is_on, open_on, active_ended, active_count}
 use Rattle.cmwq_theory_active.proofs.Lists.{All_map, All_each, All_filter, count_by-filter, count_by-none, count_by-cons}
 use Rattle.cmwq_theory_steps.proofs.Filters.{filter_twice, filter_same, count_by-same}

@@ -7,26 +7,19 @@ use Rattle.cmwq_model.specs.declared.id.WorkerId.{WorkerId}
 use Rattle.cmwq_model.specs.declared.id.Who.{Who}
 use Rattle.cmwq_model.specs.declared.id.Who.TheVariants.{Caller, Worker}
 use Rattle.cmwq_model.specs.declared.call.Call.{Call}
-use Rattle.cmwq_model.specs.declared.call.Call.TheVariants as call
 use Rattle.cmwq_model.specs.declared.reply.Reply.{Reply}
-use Rattle.cmwq_model.specs.declared.reply.Reply.TheVariants as reply
 use Rattle.cmwq_model.specs.declared.entry.Entry.{Entry}
 use Rattle.cmwq_model.specs.declared.record.Booking.{Booking}
 use Rattle.cmwq_model.specs.declared.record.Queueing.{Queueing}
 use Rattle.cmwq_model.specs.declared.record.Ticket.{Ticket}
-use Rattle.cmwq_model.specs.Layout.{Layout}
-use Rattle.cmwq_model.specs.Calls.{now}
-use Rattle.cmwq_model.specs.Bookings.{is_booked, standing}
-use Rattle.cmwq_model.specs.Runs.{run, has_run, runs_awake, runs_asleep}
-use Rattle.cmwq_model.specs.Queueings.{unstarted, is_pending, is_item_open, runs_elsewhere}
-use Rattle.cmwq_model.specs.Active.{next}
-use Rattle.cmwq_model.specs.Workers.{is_enlisted, runnable, enlisted_by, may_retire}
-use Rattle.cmwq_model.specs.Tickets.{is_cancelling, is_being_destroyed, is_gone, is_crowded, ticket_of}
-use Rattle.cmwq_model.specs.Widths.{is_frozen}
+use Rattle.cmwq_model.specs.Prelude.{Layout, now, is_booked, standing, run, has_run, runs_awake, runs_asleep, unstarted, is_pending, is_item_open, runs_elsewhere, next}
+use Rattle.cmwq_model.specs.Prelude.{is_enlisted, runnable, enlisted_by, may_retire, is_cancelling, is_being_destroyed, is_gone, is_crowded, ticket_of, is_frozen, waits_for}
+use Rattle.cmwq_model.specs.Prelude.{answer, wait_answer, destroy_answer, set_max_answer, is_booked_on, may_call, is_shut, cancel_answer, taken_back, first_due, fired}
+use Rattle.cmwq_model.specs.Prelude.{flush_item_answer, is_held_back, flush_delayed_answer, cancel_sync_answer, taken_back_for, end_of_ticket, waiting_for, started, finished}
+use Rattle.cmwq_model.specs.Prelude.{finish_answer, retire_answer, IsLegal}
+use Rattle.cmwq_model.specs.declared.call.Call.TheVariants as call
+use Rattle.cmwq_model.specs.declared.reply.Reply.TheVariants as reply
 use Rattle.std.specs.List.{list_any}
-use Rattle.cmwq_model.specs.Waits.{waits_for}
-use Rattle.cmwq_model.specs.Answer.{answer, wait_answer, destroy_answer, set_max_answer, is_booked_on, may_call, is_shut, cancel_answer, taken_back, first_due, fired, flush_item_answer, is_held_back, flush_delayed_answer, cancel_sync_answer, taken_back_for, end_of_ticket, waiting_for, started, finished, finish_answer, retire_answer}
-use Rattle.cmwq_model.specs.Legal.{IsLegal}
 use Rattle.cmwq_theory_steps.proofs.Inversions.{answer_is}
 use Rattle.cmwq_theory_steps.proofs.QueueCases as queue
 use Rattle.cmwq_theory_steps.proofs.ModifyCases as modify

@@ -1,16 +1,12 @@
 -- The ticket that an entry ends stands, and waits for nothing.
 use Rattle.std.proofs.Common.{◌≡◌, ℕ, List, ◌∷◌, Some, None, sym, ap, ◌∙◌, subst}
 use Rattle.cmwq_model.specs.declared.call.Call.{Call}
-use Rattle.cmwq_model.specs.declared.call.Call.TheVariants as call
 use Rattle.cmwq_model.specs.declared.reply.Reply.{Reply}
-use Rattle.cmwq_model.specs.declared.reply.Reply.TheVariants as reply
 use Rattle.cmwq_model.specs.declared.entry.Entry.{Entry}
 use Rattle.cmwq_model.specs.declared.record.Ticket.{Ticket}
-use Rattle.cmwq_model.specs.Layout.{Layout}
-use Rattle.cmwq_model.specs.Calls.{entry_at}
-use Rattle.cmwq_model.specs.Tickets.{ticket_of}
-use Rattle.cmwq_model.specs.Waits.{waits_for}
-use Rattle.cmwq_model.specs.Legal.{IsLegal}
+use Rattle.cmwq_model.specs.Prelude.{Layout, entry_at, ticket_of, waits_for, IsLegal}
+use Rattle.cmwq_model.specs.declared.call.Call.TheVariants as call
+use Rattle.cmwq_model.specs.declared.reply.Reply.TheVariants as reply
 use Rattle.cmwq_theory_steps.specs.TicketSteps.{IsDone}
 use Rattle.cmwq_theory_steps.proofs.Causes.{Cause, cause_of}
 use Rattle.cmwq_theory_steps.proofs.Causes as cause

@@ -5,14 +5,11 @@ use Rattle.std.specs.Option.{option_or}
 use Rattle.std.specs.List.{AllByRecursion}
 use Rattle.std.proofs.lemmas.Bool.Decides.{nat_tests}
 use Rattle.cmwq_model.specs.declared.reply.Reply.{Reply}
-use Rattle.cmwq_model.specs.declared.reply.Reply.TheVariants as reply
 use Rattle.cmwq_model.specs.declared.entry.Entry.{Entry}
 use Rattle.cmwq_model.specs.declared.record.Queueing.{Queueing}
-use Rattle.cmwq_model.specs.Layout.{Layout}
-use Rattle.cmwq_model.specs.Calls.{is_at, item_of, is_of_item}
-use Rattle.cmwq_model.specs.Fate.{number_finished, number_cancelled, replaces, is_started}
-use Rattle.cmwq_model.specs.Queueings.{queueings, queueing_at, has_number, is_live, still_open, is_unstarted, unstarted}
-use Rattle.cmwq_model.specs.Legal.{IsLegal}
+use Rattle.cmwq_model.specs.Prelude.{Layout, is_at, item_of, is_of_item, number_finished, number_cancelled, replaces, is_started, queueings, queueing_at, has_number, is_live}
+use Rattle.cmwq_model.specs.Prelude.{still_open, is_unstarted, unstarted, IsLegal}
+use Rattle.cmwq_model.specs.declared.reply.Reply.TheVariants as reply
 use Rattle.cmwq_theory_active.specs.Rising.{IsRising}
 use Rattle.cmwq_theory_steps.specs.Endings.{is_ended, ending, number_ended}
 use Rattle.cmwq_theory_active.proofs.Lists.{All_each, All_map, All_filter, count_by-cons, count_by-none}

@@ -4,11 +4,8 @@ use Rattle.std.proofs.lemmas.Bool.{lt-ltb}
 use Rattle.std.proofs.lemmas.List.Elements.{filter-append}
 use Rattle.cmwq_model.specs.declared.entry.Entry.{Entry}
 use Rattle.cmwq_model.specs.declared.record.Queueing.{Queueing}
-use Rattle.cmwq_model.specs.Layout.{Layout}
-use Rattle.cmwq_model.specs.Calls.{is_of_item}
-use Rattle.cmwq_model.specs.Fate.{finishes, takes_back, replaces, is_started, is_finished, is_cancelled, is_open}
-use Rattle.cmwq_model.specs.Queueings.{queueings, is_live, still_open, opening}
-use Rattle.cmwq_model.specs.Legal.{IsLegal}
+use Rattle.cmwq_model.specs.Prelude.{Layout, is_of_item, finishes, takes_back, replaces, is_started, is_finished, is_cancelled, is_open, queueings, is_live, still_open, opening}
+use Rattle.cmwq_model.specs.Prelude.{IsLegal}
 use Rattle.cmwq_theory_steps.specs.Endings.{survives}
 use Rattle.cmwq_theory_active.proofs.Lists.{All_map}
 use Rattle.cmwq_theory_steps.proofs.Filters.{filter_twice, filter_same}

@@ -7,16 +7,12 @@ use Rattle.cmwq_model.specs.declared.id.Who.{Who}
 use Rattle.cmwq_model.specs.declared.id.Who.TheVariants.{Caller, Worker}
 use Rattle.cmwq_model.specs.declared.call.Call.{Call}
 use Rattle.cmwq_model.specs.declared.reply.Reply.{Reply}
-use Rattle.cmwq_model.specs.declared.reply.Reply.TheVariants as reply
 use Rattle.cmwq_model.specs.declared.entry.Entry.{Entry}
 use Rattle.cmwq_model.specs.declared.record.Queueing.{Queueing}
 use Rattle.cmwq_model.specs.declared.record.Start.{Start}
-use Rattle.cmwq_model.specs.Layout.{Layout}
-use Rattle.cmwq_model.specs.Calls.{item_called, item_fired, item_of, item_at}
-use Rattle.cmwq_model.specs.Fate.{number_finished, number_cancelled, replaces}
-use Rattle.cmwq_model.specs.Runs.{run, item_run}
-use Rattle.cmwq_model.specs.Queueings.{queueings, queueing_at, is_live, still_open, is_unstarted, unstarted}
-use Rattle.cmwq_model.specs.Legal.{IsLegal}
+use Rattle.cmwq_model.specs.Prelude.{Layout, item_called, item_fired, item_of, item_at, number_finished, number_cancelled, replaces, run, item_run, queueings, queueing_at}
+use Rattle.cmwq_model.specs.Prelude.{is_live, still_open, is_unstarted, unstarted, IsLegal}
+use Rattle.cmwq_model.specs.declared.reply.Reply.TheVariants as reply
 use Rattle.cmwq_theory_steps.specs.Endings.{is_ended, ending}
 use Rattle.cmwq_theory_steps.specs.Reasons.{FinishesRun, TakesBack}
 use Rattle.cmwq_theory_steps.specs.ItemQueueings.{IsRunOf, queueing_run, ended_by}

@@ -6,11 +6,9 @@ use Rattle.std.proofs.lemmas.Bool.Decides.{nat_tests}
 use Rattle.cmwq_model.specs.declared.entry.Entry.{Entry}
 use Rattle.cmwq_model.specs.declared.record.Place.{Place}
 use Rattle.cmwq_model.specs.declared.record.Queueing.{Queueing}
-use Rattle.cmwq_model.specs.Calls.{item_of, entry_at, item_at}
-use Rattle.cmwq_model.specs.Queueings.{queueings, opening, opens, queued_at, place_wanted}
+use Rattle.cmwq_model.specs.Prelude.{item_of, entry_at, item_at, queueings, opening, opens, queued_at, place_wanted, is_at}
 use Rattle.cmwq_theory_active.proofs.Lists.{All_map, All_append}
 use Rattle.cmwq_theory_active.proofs.Rising.{opening_number}
-use Rattle.cmwq_model.specs.Calls.{is_at}
 use Rattle.std.proofs.lemmas.Bool.{eqb-true}
 
 pub entry_at-older : (e : Entry) (past : List Entry) (n : ℕ) → n < length past → entry_at (e ∷ past) n ≡ entry_at past n

@@ -5,11 +5,8 @@ use Rattle.std.proofs.lemmas.Bool.Decides.{nat_tests}
 use Rattle.std.specs.List.{AllByRecursion}
 use Rattle.cmwq_model.specs.declared.entry.Entry.{Entry}
 use Rattle.cmwq_model.specs.declared.record.Queueing.{Queueing}
-use Rattle.cmwq_model.specs.Layout.{Layout}
-use Rattle.cmwq_model.specs.Calls.{is_at}
-use Rattle.cmwq_model.specs.Fate.{number_started, number_finished, number_cancelled, is_started, is_finished, is_cancelled, is_open}
-use Rattle.cmwq_model.specs.Queueings.{queueings, is_live, still_open, unstarted, is_unstarted}
-use Rattle.cmwq_model.specs.Legal.{IsLegal}
+use Rattle.cmwq_model.specs.Prelude.{Layout, is_at, number_started, number_finished, number_cancelled, is_started, is_finished, is_cancelled, is_open, queueings, is_live}
+use Rattle.cmwq_model.specs.Prelude.{still_open, unstarted, is_unstarted, IsLegal}
 use Rattle.cmwq_theory_active.proofs.Lists.{All_map, All_filter}
 use Rattle.cmwq_theory_steps.proofs.Entries.{IsKnown, queueings_known}
 use Rattle.cmwq_theory_steps.proofs.Activated.{find_holds}

@@ -7,8 +7,7 @@ use Rattle.cmwq_model.specs.declared.id.Who.{Who}
 use Rattle.cmwq_model.specs.declared.id.Who.TheVariants.{Caller, Worker}
 use Rattle.cmwq_model.specs.declared.entry.Entry.{Entry}
 use Rattle.cmwq_model.specs.declared.record.Ticket.{Ticket}
-use Rattle.cmwq_model.specs.Calls.{entry_at}
-use Rattle.cmwq_model.specs.Tickets.{tickets, unended, is_unended, ticket_in, ticket_for, gives_ticket, ticket_of, is_ticket}
+use Rattle.cmwq_model.specs.Prelude.{entry_at, tickets, unended, is_unended, ticket_in, ticket_for, gives_ticket, ticket_of, is_ticket}
 use Rattle.cmwq_theory_active.proofs.Lists.{All_map, All_append, All_filter}
 use Rattle.cmwq_theory_steps.proofs.Activated.{find_holds}
 use Rattle.cmwq_theory_steps.proofs.Entries.{entry_at-older, entry_at-newest}

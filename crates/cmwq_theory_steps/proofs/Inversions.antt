@@ -1,9 +1,7 @@
 -- A legal entry's reply is the answer to its call.
 use Rattle.std.proofs.Common.{◌≡◌, List, ap, ◌∷◌}
 use Rattle.cmwq_model.specs.declared.entry.Entry.{Entry}
-use Rattle.cmwq_model.specs.Layout.{Layout}
-use Rattle.cmwq_model.specs.Answer.{answer}
-use Rattle.cmwq_model.specs.Legal.{IsLegal}
+use Rattle.cmwq_model.specs.Prelude.{Layout, answer, IsLegal}
 
 pub answer_is : (s : Layout) (past : List Entry) (e : Entry) → IsLegal s (e ∷ past) → e.reply ≡ answer s past e.who e.call
 unfolding IsLegal

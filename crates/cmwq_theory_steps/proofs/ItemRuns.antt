@@ -11,11 +11,8 @@ use Rattle.cmwq_model.specs.declared.id.Who.{Who}
 use Rattle.cmwq_model.specs.declared.id.Who.TheVariants.{Worker}
 use Rattle.cmwq_model.specs.declared.entry.Entry.{Entry}
 use Rattle.cmwq_model.specs.declared.record.Start.{Start}
-use Rattle.cmwq_model.specs.Layout.{Layout}
-use Rattle.cmwq_model.specs.Calls.{is_at, is_by, same_worker, same_who, item_at, worker_of}
-use Rattle.cmwq_model.specs.Fate.{number_started, is_open}
-use Rattle.cmwq_model.specs.Runs.{is_number_open, last_start, run, item_start, item_run, item_runs, start_in, starts_item}
-use Rattle.cmwq_model.specs.Legal.{IsLegal}
+use Rattle.cmwq_model.specs.Prelude.{Layout, is_at, is_by, same_worker, same_who, item_at, worker_of, number_started, is_open, is_number_open, last_start, run, item_start}
+use Rattle.cmwq_model.specs.Prelude.{item_run, item_runs, start_in, starts_item, IsLegal}
 use Rattle.cmwq_theory_steps.proofs.Entries.{IsKnown, known_more, queueings_known, item_at-older}
 use Rattle.cmwq_theory_active.proofs.Opens.{open_before}
 use Rattle.cmwq_theory_steps.proofs.Activated.{next_holds}

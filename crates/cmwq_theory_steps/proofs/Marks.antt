@@ -6,17 +6,13 @@ use Rattle.std.specs.List.{AllByRecursion}
 use Rattle.std.proofs.lemmas.Bool.{eqb-true, eq-eqb}
 use Rattle.std.proofs.lemmas.List.Elements.{filter-append}
 use Rattle.cmwq_model.specs.declared.reply.Reply.{Reply}
-use Rattle.cmwq_model.specs.declared.reply.Reply.TheVariants as reply
 use Rattle.cmwq_model.specs.declared.entry.Entry.{Entry}
 use Rattle.cmwq_model.specs.declared.record.Queueing.{Queueing}
 use Rattle.cmwq_model.specs.declared.record.Start.{Start}
-use Rattle.cmwq_model.specs.Layout.{Layout}
-use Rattle.cmwq_model.specs.Calls.{is_at, item_called, item_fired, item_of, item_at, is_of_item}
-use Rattle.cmwq_model.specs.Bookings.{settles, is_booked}
-use Rattle.cmwq_model.specs.Fate.{number_started, number_finished, number_cancelled, starts, finishes, takes_back, replaces, is_started}
-use Rattle.cmwq_model.specs.Runs.{item_run, item_runs, start_in, starts_item}
-use Rattle.cmwq_model.specs.Queueings.{still_open, opening, is_unstarted, unstarted}
-use Rattle.cmwq_model.specs.Legal.{IsLegal, bits}
+use Rattle.cmwq_model.specs.Prelude.{Layout, is_at, item_called, item_fired, item_of, item_at, is_of_item, settles, is_booked, number_started, number_finished, number_cancelled}
+use Rattle.cmwq_model.specs.Prelude.{starts, finishes, takes_back, replaces, is_started, item_run, item_runs, start_in, starts_item, still_open, opening, is_unstarted}
+use Rattle.cmwq_model.specs.Prelude.{unstarted, IsLegal, bits}
+use Rattle.cmwq_model.specs.declared.reply.Reply.TheVariants as reply
 use Rattle.cmwq_theory_steps.specs.Endings.{survives}
 use Rattle.cmwq_theory_steps.specs.RunSteps.{ends_run}
 use Rattle.cmwq_theory_steps.specs.Marks.{item_marked}

@@ -2,12 +2,9 @@
 use Rattle.std.proofs.Common.{◌≡◌, ◌+◌, ◌==◌, ℕ, Bool, true, false, not, if◌then◌else◌, List, length, refl}
 use Rattle.cmwq_model.specs.declared.id.Who.{Who}
 use Rattle.cmwq_model.specs.declared.reply.Reply.{Reply}
-use Rattle.cmwq_model.specs.declared.reply.Reply.TheVariants as reply
 use Rattle.cmwq_model.specs.declared.entry.Entry.{Entry}
-use Rattle.cmwq_model.specs.Calls.{now}
-use Rattle.cmwq_model.specs.Queueings.{is_pending, runs_elsewhere}
-use Rattle.cmwq_model.specs.Tickets.{is_cancelling, is_gone}
-use Rattle.cmwq_model.specs.Answer.{may_call, is_shut, modify_answer}
+use Rattle.cmwq_model.specs.Prelude.{now, is_pending, runs_elsewhere, is_cancelling, is_gone, may_call, is_shut, modify_answer}
+use Rattle.cmwq_model.specs.declared.reply.Reply.TheVariants as reply
 
 pub data ModifyCase (past : List Entry) (who : Who) (i q t : ℕ) : Reply → Type 0 where
   idle_worker : may_call past who ≡ false → ModifyCase past who i q t reply.Misuse

@@ -10,14 +10,9 @@ use Rattle.std.proofs.lemmas.List.Filters.{sum_by-filter_both}
 use Rattle.cmwq_model.specs.declared.entry.Entry.{Entry}
 use Rattle.cmwq_model.specs.declared.record.Queueing.{Queueing}
 use Rattle.cmwq_model.specs.declared.reply.Reply.{Reply}
+use Rattle.cmwq_model.specs.Prelude.{Layout, is_at, is_of_item, number_finished, number_cancelled, replaces, is_started, width, queueings, opens, opening, is_live, still_open}
+use Rattle.cmwq_model.specs.Prelude.{is_ahead, is_below_max_active, is_active, newly_active, IsLegal}
 use Rattle.cmwq_model.specs.declared.reply.Reply.TheVariants as reply
-use Rattle.cmwq_model.specs.Layout.{Layout}
-use Rattle.cmwq_model.specs.Calls.{is_at, is_of_item}
-use Rattle.cmwq_model.specs.Fate.{number_finished, number_cancelled, replaces, is_started}
-use Rattle.cmwq_model.specs.Widths.{width}
-use Rattle.cmwq_model.specs.Queueings.{queueings, opens, opening, is_live, still_open}
-use Rattle.cmwq_model.specs.Active.{is_ahead, is_below_max_active, is_active, newly_active}
-use Rattle.cmwq_model.specs.Legal.{IsLegal}
 use Rattle.cmwq_theory_steps.specs.Endings.{survives, is_ended, ending}
 use Rattle.cmwq_theory_steps.specs.Activations.{waits, is_of_same_pwq, beside, behind_width, is_below_max_active_at_once}
 use Rattle.cmwq_theory_active.specs.Looks.{keeps_widths}

@@ -6,12 +6,7 @@ use Rattle.std.proofs.lemmas.Bool.{false_from_ne_true, eqb-true, eq-eqb, cases_l
 use Rattle.cmwq_model.specs.declared.entry.Entry.{Entry}
 use Rattle.cmwq_model.specs.declared.record.Queueing.{Queueing}
 use Rattle.cmwq_model.specs.declared.record.Start.{Start}
-use Rattle.cmwq_model.specs.Layout.{Layout}
-use Rattle.cmwq_model.specs.Calls.{item_at}
-use Rattle.cmwq_model.specs.Fate.{starts, number_started, is_started, is_open}
-use Rattle.cmwq_model.specs.Runs.{item_run}
-use Rattle.cmwq_model.specs.Queueings.{queueings, still_open, is_live, has_number}
-use Rattle.cmwq_model.specs.Legal.{IsLegal}
+use Rattle.cmwq_model.specs.Prelude.{Layout, item_at, starts, number_started, is_started, is_open, item_run, queueings, still_open, is_live, has_number, IsLegal}
 use Rattle.cmwq_theory_steps.specs.Pending.{is_run_of}
 use Rattle.cmwq_theory_active.proofs.Lists.{All_map, All_filter, count_by-none}
 use Rattle.cmwq_theory_steps.proofs.Filters.{count_by-wider}

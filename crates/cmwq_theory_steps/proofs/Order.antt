@@ -5,9 +5,7 @@ use Rattle.std.specs.List.{AllByRecursion}
 use Rattle.std.specs.Option.{option_or}
 use Rattle.cmwq_model.specs.declared.entry.Entry.{Entry}
 use Rattle.cmwq_model.specs.declared.record.Queueing.{Queueing}
-use Rattle.cmwq_model.specs.Layout.{Layout}
-use Rattle.cmwq_model.specs.Queueings.{queueings, is_live}
-use Rattle.cmwq_model.specs.Active.{is_active, is_newly_active, newly_active, activated}
+use Rattle.cmwq_model.specs.Prelude.{Layout, queueings, is_live, is_active, is_newly_active, newly_active, activated}
 use Rattle.cmwq_theory_active.specs.Rising.{IsRising}
 use Rattle.cmwq_theory_steps.specs.Order.{since, IsSooner, AreInOrder}
 use Rattle.cmwq_theory_active.proofs.Lists.{All_map, All_both, All_append, All_each, All_filter}

@@ -8,16 +8,13 @@ use Rattle.std.proofs.lemmas.Bool.Decides.{nat_tests}
 use Rattle.std.proofs.lemmas.List.Filters.{length-filter_both}
 use Rattle.cmwq_model.specs.declared.id.Who.{Who}
 use Rattle.cmwq_model.specs.declared.call.Call.{Call}
-use Rattle.cmwq_model.specs.declared.call.Call.TheVariants as call
 use Rattle.cmwq_model.specs.declared.reply.Reply.{Reply}
 use Rattle.cmwq_model.specs.declared.entry.Entry.{Entry}
 use Rattle.cmwq_model.specs.declared.record.Booking.{Booking}
 use Rattle.cmwq_model.specs.declared.record.Ticket.{Ticket}
-use Rattle.cmwq_model.specs.Layout.{Layout, fits, may_make, has_numbers}
-use Rattle.cmwq_model.specs.Calls.{is_at, item_called, item_fired, item_of, is_of_item}
-use Rattle.cmwq_model.specs.Bookings.{settles, due_in, booking, booking_of, booked_by, is_booked}
-use Rattle.cmwq_model.specs.Tickets.{gives_ticket, is_done, ticket_in, ticket_for, unended}
-use Rattle.cmwq_model.specs.Legal.{IsLegal}
+use Rattle.cmwq_model.specs.Prelude.{Layout, fits, may_make, has_numbers, is_at, item_called, item_fired, item_of, is_of_item, settles, due_in, booking, booking_of, booked_by}
+use Rattle.cmwq_model.specs.Prelude.{is_booked, gives_ticket, is_done, ticket_in, ticket_for, unended, IsLegal}
+use Rattle.cmwq_model.specs.declared.call.Call.TheVariants as call
 use Rattle.cmwq_theory_steps.specs.TicketSteps.{is_kept, is_ended_by, ticket_asked, ticket_ended}
 use Rattle.cmwq_theory_steps.specs.Histories.{one}
 use Rattle.cmwq_theory_steps.specs.RoomSteps.{booked_count, settles_booked}

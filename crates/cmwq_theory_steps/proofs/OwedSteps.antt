@@ -9,12 +9,8 @@ use Rattle.cmwq_model.specs.declared.id.Who.TheVariants.{Caller, Worker}
 use Rattle.cmwq_model.specs.declared.call.Call.{Call}
 use Rattle.cmwq_model.specs.declared.reply.Reply.{Reply}
 use Rattle.cmwq_model.specs.declared.entry.Entry.{Entry}
-use Rattle.cmwq_model.specs.Layout.{Layout, fits, is_workers, has_numbers}
-use Rattle.cmwq_model.specs.Calls.{is_by, same_who, same_worker}
-use Rattle.cmwq_model.specs.Fate.{number_started, number_finished}
-use Rattle.cmwq_model.specs.Runs.{run, has_run, asleep_after, is_asleep, runs_awake, runs_asleep}
-use Rattle.cmwq_model.specs.Room.{workers}
-use Rattle.cmwq_model.specs.Legal.{IsLegal}
+use Rattle.cmwq_model.specs.Prelude.{Layout, fits, is_workers, has_numbers, is_by, same_who, same_worker, number_started, number_finished, run, has_run, asleep_after, is_asleep}
+use Rattle.cmwq_model.specs.Prelude.{runs_awake, runs_asleep, workers, IsLegal}
 use Rattle.cmwq_theory_steps.specs.RunSteps.{run_after}
 use Rattle.cmwq_theory_steps.specs.Histories.{one}
 use Rattle.cmwq_theory_steps.specs.RoomSteps.{is_slept, is_woke, run_count, sleeper_count}

@@ -9,12 +9,7 @@ use Rattle.std.proofs.lemmas.List.Filters.{sum_by-filter_both}
 use Rattle.std.proofs.lemmas.List.Sums.{sum_by-append}
 use Rattle.cmwq_model.specs.declared.entry.Entry.{Entry}
 use Rattle.cmwq_model.specs.declared.record.Queueing.{Queueing}
-use Rattle.cmwq_model.specs.Layout.{Layout}
-use Rattle.cmwq_model.specs.Calls.{is_at, is_of_item}
-use Rattle.cmwq_model.specs.Fate.{number_started, starts, is_started}
-use Rattle.cmwq_model.specs.Queueings.{still_open, opening, has_number}
-use Rattle.cmwq_model.specs.Room.{has_not_started}
-use Rattle.cmwq_model.specs.Legal.{IsLegal}
+use Rattle.cmwq_model.specs.Prelude.{Layout, is_at, is_of_item, number_started, starts, is_started, still_open, opening, has_number, has_not_started, IsLegal}
 use Rattle.cmwq_theory_steps.specs.Endings.{survives, is_ended, ending}
 use Rattle.cmwq_theory_steps.specs.Histories.{one}
 use Rattle.cmwq_theory_steps.specs.RoomSteps.{waiting_count, ends_unstarted}

@@ -2,14 +2,7 @@
 use Rattle.std.proofs.Common.{◌≡◌, ◌+◌, List, [], ◌∷◌, count_by, refl, arith}
 use Rattle.std.specs.List.{range_with_len}
 use Rattle.cmwq_model.specs.declared.entry.Entry.{Entry}
-use Rattle.cmwq_model.specs.Layout.{Layout}
-use Rattle.cmwq_model.specs.Bookings.{booking, is_booked}
-use Rattle.cmwq_model.specs.Runs.{last_start, has_run, runs_asleep}
-use Rattle.cmwq_model.specs.Queueings.{queueings}
-use Rattle.cmwq_model.specs.Tickets.{tickets}
-use Rattle.cmwq_model.specs.Widths.{is_frozen}
-use Rattle.cmwq_model.specs.Room.{workers, owed}
-use Rattle.cmwq_model.specs.Legal.{IsLegal}
+use Rattle.cmwq_model.specs.Prelude.{Layout, booking, is_booked, last_start, has_run, runs_asleep, queueings, tickets, is_frozen, workers, owed, IsLegal}
 use Rattle.cmwq_theory_steps.specs.RoomSteps.{paid, taken_on}
 use Rattle.cmwq_theory_active.proofs.Lists.{All_each, count_by-none}
 use Rattle.cmwq_theory_steps.proofs.OwedSteps.{runs_counted, sleepers_counted}

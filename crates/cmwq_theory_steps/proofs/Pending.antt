@@ -9,16 +9,12 @@ use Rattle.std.proofs.lemmas.List.Sums.{sum_by-append}
 use Rattle.cmwq_model.specs.declared.id.Who.{Who}
 use Rattle.cmwq_model.specs.declared.call.Call.{Call}
 use Rattle.cmwq_model.specs.declared.reply.Reply.{Reply}
-use Rattle.cmwq_model.specs.declared.reply.Reply.TheVariants as reply
 use Rattle.cmwq_model.specs.declared.entry.Entry.{Entry}
 use Rattle.cmwq_model.specs.declared.record.Booking.{Booking}
 use Rattle.cmwq_model.specs.declared.record.Queueing.{Queueing}
-use Rattle.cmwq_model.specs.Layout.{Layout}
-use Rattle.cmwq_model.specs.Calls.{is_at, item_of, item_called, item_fired, is_of_item}
-use Rattle.cmwq_model.specs.Bookings.{settles, due_in, booking, booking_of, booked_by, is_booked}
-use Rattle.cmwq_model.specs.Fate.{replaces}
-use Rattle.cmwq_model.specs.Queueings.{still_open, opening, opens, queued_at, place_wanted, queueings, is_unstarted, unstarted, is_pending}
-use Rattle.cmwq_model.specs.Legal.{IsLegal}
+use Rattle.cmwq_model.specs.Prelude.{Layout, is_at, item_of, item_called, item_fired, is_of_item, settles, due_in, booking, booking_of, booked_by, is_booked, replaces}
+use Rattle.cmwq_model.specs.Prelude.{still_open, opening, opens, queued_at, place_wanted, queueings, is_unstarted, unstarted, is_pending, IsLegal}
+use Rattle.cmwq_model.specs.declared.reply.Reply.TheVariants as reply
 use Rattle.cmwq_theory_steps.specs.Endings.{survives}
 use Rattle.cmwq_theory_active.proofs.Lists.{All_each, count_by-cons, count_by-none, count_by-filter, find_none}
 use Rattle.cmwq_theory_steps.proofs.Filters.{count_by-wider, count_none, none_found, filter_one}

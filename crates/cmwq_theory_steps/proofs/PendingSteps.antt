@@ -4,17 +4,13 @@ use Rattle.std.specs.Prelude.{option_map, option_and_then, is_some, if◌then◌
 use Rattle.std.specs.Option.{option_or, option_map_or}
 use Rattle.std.proofs.lemmas.Bool.{eq-eqb, eqb-true}
 use Rattle.cmwq_model.specs.declared.reply.Reply.{Reply}
-use Rattle.cmwq_model.specs.declared.reply.Reply.TheVariants as reply
 use Rattle.cmwq_model.specs.declared.entry.Entry.{Entry}
 use Rattle.cmwq_model.specs.declared.record.Queueing.{Queueing}
 use Rattle.cmwq_model.specs.declared.record.Start.{Start}
-use Rattle.cmwq_model.specs.Layout.{Layout}
-use Rattle.cmwq_model.specs.Calls.{is_at, item_fired, item_of, item_at, is_of_item}
-use Rattle.cmwq_model.specs.Bookings.{settles, due_in, booking_of, booked_by, is_booked}
-use Rattle.cmwq_model.specs.Fate.{number_started, number_finished, number_cancelled, starts, finishes, takes_back, replaces, is_started}
-use Rattle.cmwq_model.specs.Runs.{start_in, starts_item, item_run, item_runs}
-use Rattle.cmwq_model.specs.Queueings.{opens, opening, unstarted, is_pending, queued_at, place_wanted}
-use Rattle.cmwq_model.specs.Legal.{IsLegal, bits}
+use Rattle.cmwq_model.specs.Prelude.{Layout, is_at, item_fired, item_of, item_at, is_of_item, settles, due_in, booking_of, booked_by, is_booked, number_started, number_finished}
+use Rattle.cmwq_model.specs.Prelude.{number_cancelled, starts, finishes, takes_back, replaces, is_started, start_in, starts_item, item_run, item_runs, opens, opening, unstarted}
+use Rattle.cmwq_model.specs.Prelude.{is_pending, queued_at, place_wanted, IsLegal, bits, worker_of}
+use Rattle.cmwq_model.specs.declared.reply.Reply.TheVariants as reply
 use Rattle.cmwq_theory_steps.specs.Reasons.{TakesBack, unbooks}
 use Rattle.cmwq_theory_steps.specs.RunSteps.{ends_run}
 use Rattle.cmwq_theory_steps.specs.Activations.{is_left}
@@ -33,7 +29,6 @@ use Rattle.cmwq_theory_steps.proofs.Pools.{started_was}
 use Rattle.cmwq_theory_steps.proofs.StateSteps.{opens_as_asked, books_as_asked}
 use Rattle.cmwq_theory_steps.proofs.Unstarted.{unstarted_goes_on}
 use Rattle.cmwq_theory_steps.proofs.EndsAsTold.{same_by_number, unstarted_found}
-use Rattle.cmwq_model.specs.Calls.{worker_of}
 use Rattle.cmwq_theory_steps.proofs.Entries.{is_at-true}
 use Rattle.cmwq_theory_steps.proofs.Starts.{starts_next}
 use Rattle.cmwq_theory_steps.proofs.Truth.{or_true, differ}

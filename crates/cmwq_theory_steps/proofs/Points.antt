@@ -8,10 +8,7 @@ use Rattle.std.proofs.lemmas.List.Sums.{sum_by-append}
 use mathlib.Core.Bool.{beq}
 use Rattle.cmwq_model.specs.declared.id.PoolId.{PoolId}
 use Rattle.cmwq_model.specs.declared.id.WorkerId.{WorkerId}
-use Rattle.cmwq_model.specs.Layout.{Layout, indices}
-use Rattle.cmwq_model.specs.Calls.{same_pool, same_worker}
-use Rattle.cmwq_model.specs.Workers.{worker_at}
-use Rattle.cmwq_model.specs.Room.{pool_workers, cpu_workers, workers}
+use Rattle.cmwq_model.specs.Prelude.{Layout, indices, same_pool, same_worker, worker_at, pool_workers, cpu_workers, workers}
 use Rattle.cmwq_theory_active.proofs.Lists.{count_by-cons}
 
 -- ---- two tests that agree but for one element

@@ -10,19 +10,15 @@ use Rattle.cmwq_model.specs.declared.id.WorkerId.{WorkerId}
 use Rattle.cmwq_model.specs.declared.id.Who.{Who}
 use Rattle.cmwq_model.specs.declared.call.Call.{Call}
 use Rattle.cmwq_model.specs.declared.reply.Reply.{Reply}
-use Rattle.cmwq_model.specs.declared.reply.Reply.TheVariants as reply
 use Rattle.cmwq_model.specs.declared.entry.Entry.{Entry}
 use Rattle.cmwq_model.specs.declared.record.Booking.{Booking}
 use Rattle.cmwq_model.specs.declared.record.Place.{Place}
 use Rattle.cmwq_model.specs.declared.record.Queueing.{Queueing}
 use Rattle.cmwq_model.specs.declared.record.Start.{Start}
-use Rattle.cmwq_model.specs.Layout.{Layout, pool_at, queue_at}
-use Rattle.cmwq_model.specs.Calls.{is_at, same_pool, item_called, item_fired, is_of_item, item_at}
-use Rattle.cmwq_model.specs.Bookings.{settles, due_in, booked_by, booking}
-use Rattle.cmwq_model.specs.Fate.{number_started, starts, is_started}
-use Rattle.cmwq_model.specs.Runs.{run, item_start, item_run, start_in, starts_item}
-use Rattle.cmwq_model.specs.Queueings.{queueings, queueing_at, queue_of, has_number, is_live, still_open, opening, opens, queued_at, place_wanted, cpu_for, is_unstarted, unstarted, runs_elsewhere}
-use Rattle.cmwq_model.specs.Legal.{IsLegal}
+use Rattle.cmwq_model.specs.Prelude.{Layout, pool_at, queue_at, is_at, same_pool, item_called, item_fired, is_of_item, item_at, settles, due_in, booked_by, booking}
+use Rattle.cmwq_model.specs.Prelude.{number_started, starts, is_started, run, item_start, item_run, start_in, starts_item, queueings, queueing_at, queue_of, has_number, is_live}
+use Rattle.cmwq_model.specs.Prelude.{still_open, opening, opens, queued_at, place_wanted, cpu_for, is_unstarted, unstarted, runs_elsewhere, IsLegal}
+use Rattle.cmwq_model.specs.declared.reply.Reply.TheVariants as reply
 use Rattle.cmwq_theory_steps.specs.Endings.{survives}
 use Rattle.cmwq_theory_steps.specs.RunSteps.{ends_run}
 use Rattle.cmwq_theory_steps.specs.Pools.{IsRunIn}

@@ -5,17 +5,11 @@ use Rattle.std.specs.Option.{option_or, option_map_or}
 use Rattle.cmwq_model.specs.declared.id.Who.{Who}
 use Rattle.cmwq_model.specs.declared.call.Call.{Call}
 use Rattle.cmwq_model.specs.declared.reply.Reply.{Reply}
-use Rattle.cmwq_model.specs.declared.reply.Reply.TheVariants as reply
 use Rattle.cmwq_model.specs.declared.entry.Entry.{Entry}
 use Rattle.cmwq_model.specs.declared.record.Queueing.{Queueing}
-use Rattle.cmwq_model.specs.Layout.{Layout}
-use Rattle.cmwq_model.specs.Calls.{item_called, item_fired}
-use Rattle.cmwq_model.specs.Bookings.{settles, due_in, booking_of, booked_by, is_booked}
-use Rattle.cmwq_model.specs.Fate.{number_started, number_finished, number_cancelled, is_started}
-use Rattle.cmwq_model.specs.Queueings.{opens, opening}
-use Rattle.cmwq_model.specs.Tickets.{gives_ticket, is_done}
-use Rattle.cmwq_model.specs.Legal.{IsLegal}
-use Rattle.cmwq_model.specs.Room.{has_not_started, owed, needed, none}
+use Rattle.cmwq_model.specs.Prelude.{Layout, item_called, item_fired, settles, due_in, booking_of, booked_by, is_booked, number_started, number_finished, number_cancelled}
+use Rattle.cmwq_model.specs.Prelude.{is_started, opens, opening, gives_ticket, is_done, IsLegal, has_not_started, owed, needed, none}
+use Rattle.cmwq_model.specs.declared.reply.Reply.TheVariants as reply
 use Rattle.cmwq_theory_steps.specs.Endings.{ending, number_replaced}
 use Rattle.cmwq_theory_steps.specs.Histories.{one}
 use Rattle.cmwq_theory_steps.specs.RoomSteps.{ends_unstarted, settles_booked, is_slept, is_woke, is_frozen_now, is_thawed_now, is_promised}

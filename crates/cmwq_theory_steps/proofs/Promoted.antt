@@ -3,10 +3,7 @@ use Rattle.std.proofs.Common.{◌≡◌, ◌-◌, ◌+◌, ℕ, suc, Bool, true,
 use Rattle.std.specs.List.{AllByRecursion}
 use Rattle.cmwq_model.specs.declared.entry.Entry.{Entry}
 use Rattle.cmwq_model.specs.declared.record.Queueing.{Queueing}
-use Rattle.cmwq_model.specs.Layout.{Layout}
-use Rattle.cmwq_model.specs.Widths.{width}
-use Rattle.cmwq_model.specs.Queueings.{queueings, is_live, still_open}
-use Rattle.cmwq_model.specs.Active.{is_active, is_below_max_active, is_newly_active, newly_active}
+use Rattle.cmwq_model.specs.Prelude.{Layout, width, queueings, is_live, still_open, is_active, is_below_max_active, is_newly_active, newly_active}
 use Rattle.cmwq_theory_steps.specs.Places.{is_on, open_on}
 use Rattle.cmwq_theory_steps.specs.Activations.{waits, stay_count}
 use Rattle.cmwq_theory_active.proofs.Lists.{All_map, All_each, count_by-cons, count_by-none}

@@ -9,22 +9,14 @@ use Rattle.cmwq_model.specs.declared.id.WorkerId.{WorkerId}
 use Rattle.cmwq_model.specs.declared.id.Who.{Who}
 use Rattle.cmwq_model.specs.declared.id.Who.TheVariants.{Caller, Worker}
 use Rattle.cmwq_model.specs.declared.call.Call.{Call}
-use Rattle.cmwq_model.specs.declared.call.Call.TheVariants as call
 use Rattle.cmwq_model.specs.declared.reply.Reply.{Reply}
-use Rattle.cmwq_model.specs.declared.reply.Reply.TheVariants as reply
 use Rattle.cmwq_model.specs.declared.entry.Entry.{Entry}
-use Rattle.cmwq_model.specs.Layout.{Layout, fits}
-use Rattle.cmwq_model.specs.Calls.{item_called, now}
-use Rattle.cmwq_model.specs.Bookings.{is_booked}
-use Rattle.cmwq_model.specs.Fate.{number_started, number_finished, number_cancelled}
-use Rattle.cmwq_model.specs.Runs.{has_run, runs_awake, runs_asleep}
 use Rattle.cmwq_model.specs.declared.id.QueueId.{QueueId}
 use Rattle.cmwq_model.specs.declared.record.Place.{Place}
-use Rattle.cmwq_model.specs.Queueings.{place_called, unstarted, is_pending}
-use Rattle.cmwq_model.specs.Workers.{is_enlisted, may_retire}
-use Rattle.cmwq_model.specs.Tickets.{gives_ticket, is_crowded}
-use Rattle.cmwq_model.specs.Answer.{is_shut, is_held_back}
-use Rattle.cmwq_model.specs.Legal.{IsLegal}
+use Rattle.cmwq_model.specs.Prelude.{Layout, fits, item_called, now, is_booked, number_started, number_finished, number_cancelled, has_run, runs_awake, runs_asleep}
+use Rattle.cmwq_model.specs.Prelude.{place_called, unstarted, is_pending, is_enlisted, may_retire, gives_ticket, is_crowded, is_shut, is_held_back, IsLegal}
+use Rattle.cmwq_model.specs.declared.call.Call.TheVariants as call
+use Rattle.cmwq_model.specs.declared.reply.Reply.TheVariants as reply
 use Rattle.cmwq_theory_steps.specs.Reasons.{number_given, StartsNext, FinishesRun, TakesBack, ticks_asked, IsGranted, IsBookedIn, EndsWait, unbooks}
 use Rattle.cmwq_theory_steps.proofs.Causes.{Cause, IsFree}
 use Rattle.cmwq_theory_steps.proofs.Causes as cause

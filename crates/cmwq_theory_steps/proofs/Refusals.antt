@@ -9,26 +9,18 @@ use Rattle.cmwq_model.specs.declared.id.WorkerId.{WorkerId}
 use Rattle.cmwq_model.specs.declared.id.Who.{Who}
 use Rattle.cmwq_model.specs.declared.id.Who.TheVariants.{Caller, Worker}
 use Rattle.cmwq_model.specs.declared.call.Call.{Call}
-use Rattle.cmwq_model.specs.declared.call.Call.TheVariants as call
 use Rattle.cmwq_model.specs.declared.reply.Reply.{Reply}
-use Rattle.cmwq_model.specs.declared.reply.Reply.TheVariants as reply
 use Rattle.cmwq_model.specs.declared.entry.Entry.{Entry}
 use Rattle.cmwq_model.specs.declared.record.Queueing.{Queueing}
 use Rattle.cmwq_model.specs.declared.record.Start.{Start}
 use Rattle.cmwq_model.specs.declared.record.Ticket.{Ticket}
-use Rattle.cmwq_model.specs.Layout.{Layout}
-use Rattle.cmwq_model.specs.Calls.{is_at, is_by, is_of_item, item_of, ticks_told, now}
-use Rattle.cmwq_model.specs.Bookings.{settles, due_in, booking, booked_by}
-use Rattle.cmwq_model.specs.Fate.{number_started, number_finished, number_cancelled, replaces, is_started}
-use Rattle.cmwq_model.specs.Runs.{run, item_run, is_asleep, asleep_after, start_in}
-use Rattle.cmwq_model.specs.Queueings.{queueings, is_of, opens, opening, is_live, still_open, is_unstarted, unstarted, queued_at, place_wanted, run_queue}
-use Rattle.cmwq_model.specs.Widths.{is_frozen}
-use Rattle.cmwq_model.specs.Active.{is_ahead, is_below_max_active, is_active, newly_active, worklist, next, is_startable}
-use Rattle.cmwq_model.specs.Workers.{is_enlisted, index_enlisted, is_in_pool, is_retired}
-use Rattle.cmwq_model.specs.Tickets.{unended, gives_ticket, ticket_for, ticket_in, is_end_of, is_done, is_gone, ends_destroy}
-use Rattle.cmwq_model.specs.Legal.{IsLegal, bits}
-use Rattle.cmwq_model.specs.Room.{owed}
-use Rattle.cmwq_model.specs.Answer.{answer}
+use Rattle.cmwq_model.specs.Prelude.{Layout, is_at, is_by, is_of_item, item_of, ticks_told, now, settles, due_in, booking, booked_by, number_started, number_finished}
+use Rattle.cmwq_model.specs.Prelude.{number_cancelled, replaces, is_started, run, item_run, is_asleep, asleep_after, start_in, queueings, is_of, opens, opening, is_live}
+use Rattle.cmwq_model.specs.Prelude.{still_open, is_unstarted, unstarted, queued_at, place_wanted, run_queue, is_frozen, is_ahead, is_below_max_active, is_active, newly_active}
+use Rattle.cmwq_model.specs.Prelude.{worklist, next, is_startable, is_enlisted, index_enlisted, is_in_pool, is_retired, unended, gives_ticket, ticket_for, ticket_in, is_end_of}
+use Rattle.cmwq_model.specs.Prelude.{is_done, is_gone, ends_destroy, IsLegal, bits, owed, answer}
+use Rattle.cmwq_model.specs.declared.call.Call.TheVariants as call
+use Rattle.cmwq_model.specs.declared.reply.Reply.TheVariants as reply
 use Rattle.cmwq_theory_active.specs.Looks.{keeps_widths}
 use Rattle.cmwq_theory_steps.specs.Histories.{one}
 use Rattle.cmwq_theory_steps.specs.Places.{is_on, active_count}

@@ -8,13 +8,8 @@ use Rattle.cmwq_model.specs.declared.id.Who.{Who}
 use Rattle.cmwq_model.specs.declared.id.Who.TheVariants.{Worker}
 use Rattle.cmwq_model.specs.declared.entry.Entry.{Entry}
 use Rattle.cmwq_model.specs.declared.record.Queueing.{Queueing}
-use Rattle.cmwq_model.specs.Layout.{Layout, pool_at}
-use Rattle.cmwq_model.specs.Calls.{is_at, is_by, same_pool, same_who, item_at}
-use Rattle.cmwq_model.specs.Fate.{starts, number_started, is_open}
-use Rattle.cmwq_model.specs.Runs.{run, is_number_open, last_start}
-use Rattle.cmwq_model.specs.Queueings.{queueings, queueing_at, has_number, is_live}
-use Rattle.cmwq_model.specs.Active.{is_active, is_listed}
-use Rattle.cmwq_model.specs.Legal.{IsLegal}
+use Rattle.cmwq_model.specs.Prelude.{Layout, pool_at, is_at, is_by, same_pool, same_who, item_at, starts, number_started, is_open, run, is_number_open, last_start, queueings}
+use Rattle.cmwq_model.specs.Prelude.{queueing_at, has_number, is_live, is_active, is_listed, IsLegal}
 use Rattle.cmwq_theory_steps.proofs.Entries.{IsKnown, queueings_known, item_at-older}
 use Rattle.cmwq_theory_active.proofs.Opens.{open_before}
 use Rattle.cmwq_theory_steps.proofs.Activated.{find_holds}

@@ -7,15 +7,13 @@ use Rattle.std.proofs.lemmas.Bool.{eq-eqb, eqb-true}
 use Rattle.cmwq_model.specs.declared.id.ItemId.{ItemId}
 use Rattle.cmwq_model.specs.declared.id.Who.{Who}
 use Rattle.cmwq_model.specs.declared.call.Call.{Call}
-use Rattle.cmwq_model.specs.declared.call.Call.TheVariants as call
 use Rattle.cmwq_model.specs.declared.reply.Reply.{Reply}
-use Rattle.cmwq_model.specs.declared.reply.Reply.TheVariants as reply
 use Rattle.cmwq_model.specs.declared.entry.Entry.{Entry}
 use Rattle.cmwq_model.specs.declared.record.Booking.{Booking}
-use Rattle.cmwq_model.specs.Layout.{Layout}
-use Rattle.cmwq_model.specs.Calls.{is_at, item_called, item_fired, is_of_item}
-use Rattle.cmwq_model.specs.Bookings.{settles, due_in, booking, booking_of, booked_by, bookings, standing, stands, number_booked}
-use Rattle.cmwq_model.specs.Answer.{first_due, may_fire, is_soonest}
+use Rattle.cmwq_model.specs.Prelude.{Layout, is_at, item_called, item_fired, is_of_item, settles, due_in, booking, booking_of, booked_by, bookings, standing, stands}
+use Rattle.cmwq_model.specs.Prelude.{number_booked, first_due, may_fire, is_soonest}
+use Rattle.cmwq_model.specs.declared.call.Call.TheVariants as call
+use Rattle.cmwq_model.specs.declared.reply.Reply.TheVariants as reply
 use Rattle.cmwq_theory_steps.specs.Reasons.{FiresBooking}
 use Rattle.cmwq_theory_active.proofs.Lists.{All_map, All_append, All_filter}
 use Rattle.cmwq_theory_steps.proofs.Activated.{find_holds}

@@ -1,9 +1,7 @@
 -- Only a take starts a queueing, by an idle worker, and then the next of its pool.
 use Rattle.std.proofs.Common.{◌≡◌, ℕ, List, ◌∷◌, Some}
 use Rattle.cmwq_model.specs.declared.entry.Entry.{Entry}
-use Rattle.cmwq_model.specs.Layout.{Layout}
-use Rattle.cmwq_model.specs.Fate.{number_started}
-use Rattle.cmwq_model.specs.Legal.{IsLegal}
+use Rattle.cmwq_model.specs.Prelude.{Layout, number_started, IsLegal}
 use Rattle.cmwq_theory_steps.specs.Reasons.{StartsNext}
 use Rattle.cmwq_theory_steps.proofs.Causes.{cause_of}
 use Rattle.cmwq_theory_steps.proofs.Reasons.{start_reason}

@@ -10,11 +10,7 @@ use Rattle.cmwq_model.specs.declared.id.WorkerId.{WorkerId}
 use Rattle.cmwq_model.specs.declared.id.Who.TheVariants.{Worker}
 use Rattle.cmwq_model.specs.declared.entry.Entry.{Entry}
 use Rattle.cmwq_model.specs.declared.record.Queueing.{Queueing}
-use Rattle.cmwq_model.specs.Layout.{Layout}
-use Rattle.cmwq_model.specs.Fate.{starts, number_started, is_started}
-use Rattle.cmwq_model.specs.Queueings.{queueings, queueing_at, opening, has_number}
-use Rattle.cmwq_model.specs.Active.{is_listed}
-use Rattle.cmwq_model.specs.Legal.{IsLegal}
+use Rattle.cmwq_model.specs.Prelude.{Layout, starts, number_started, is_started, queueings, queueing_at, opening, has_number, is_listed, IsLegal}
 use Rattle.cmwq_theory_active.specs.Rising.{IsRising}
 use Rattle.cmwq_theory_active.proofs.Lists.{All_both}
 use Rattle.cmwq_theory_active.proofs.Rising.{queueings_rise}

@@ -10,13 +10,8 @@ use Rattle.cmwq_model.specs.declared.reply.Reply.{Reply}
 use Rattle.cmwq_model.specs.declared.entry.Entry.{Entry}
 use Rattle.cmwq_model.specs.declared.record.Booking.{Booking}
 use Rattle.cmwq_model.specs.declared.record.Place.{Place}
-use Rattle.cmwq_model.specs.Layout.{Layout}
-use Rattle.cmwq_model.specs.Calls.{item_called, item_fired, is_by, now}
-use Rattle.cmwq_model.specs.Bookings.{due_in, booking, is_booked}
-use Rattle.cmwq_model.specs.Runs.{is_asleep}
-use Rattle.cmwq_model.specs.Workers.{is_enlisted}
-use Rattle.cmwq_model.specs.Queueings.{opens, place_called, place_wanted, queued_at}
-use Rattle.cmwq_model.specs.Legal.{IsLegal}
+use Rattle.cmwq_model.specs.Prelude.{Layout, item_called, item_fired, is_by, now, due_in, booking, is_booked, is_asleep, is_enlisted, opens, place_called, place_wanted}
+use Rattle.cmwq_model.specs.Prelude.{queued_at, IsLegal, same_who, serial_of}
 use Rattle.cmwq_theory_steps.specs.StateSteps.{SleepersGoOn, EnlistedGoOn, BookingsGoOn, TimeGoesOn, SerialsGoOn, SerialsRise, BooksAsAsked, OpensAsAsked}
 use Rattle.cmwq_theory_active.proofs.Lists.{count_by-cons}
 use Rattle.cmwq_theory_steps.proofs.Standing.{due_own}
@@ -24,7 +19,6 @@ use Rattle.cmwq_theory_steps.proofs.Pools.{opening_of, booking_in}
 use Rattle.cmwq_theory_steps.proofs.Causes.{Cause, cause_of}
 use Rattle.cmwq_theory_steps.proofs.Causes as cause
 use Rattle.std.proofs.lemmas.Bool.{eq-eqb}
-use Rattle.cmwq_model.specs.Calls.{same_who, is_by, serial_of}
 use Rattle.cmwq_theory_steps.specs.Histories.{one}
 use Rattle.cmwq_theory_steps.proofs.ItemRuns.{same_worker_itself}
 

@@ -2,14 +2,10 @@
 use Rattle.std.proofs.Common.{◌≡◌, Bool, true, false, not, if◌then◌else◌, ◌||◌, List, Option, Some, None, nat_lt, refl}
 use Rattle.cmwq_model.specs.declared.id.WorkerId.{WorkerId}
 use Rattle.cmwq_model.specs.declared.reply.Reply.{Reply}
-use Rattle.cmwq_model.specs.declared.reply.Reply.TheVariants as reply
 use Rattle.cmwq_model.specs.declared.entry.Entry.{Entry}
 use Rattle.cmwq_model.specs.declared.record.Queueing.{Queueing}
-use Rattle.cmwq_model.specs.Layout.{Layout}
-use Rattle.cmwq_model.specs.Runs.{has_run}
-use Rattle.cmwq_model.specs.Active.{next}
-use Rattle.cmwq_model.specs.Workers.{is_enlisted, runnable, enlisted_by}
-use Rattle.cmwq_model.specs.Answer.{started, start_of, take_answer}
+use Rattle.cmwq_model.specs.Prelude.{Layout, has_run, next, is_enlisted, runnable, enlisted_by, started, start_of, take_answer}
+use Rattle.cmwq_model.specs.declared.reply.Reply.TheVariants as reply
 
 pub data TakeCase (s : Layout) (past : List Entry) (w : WorkerId) : Reply → Type 0 where
   not_enlisted : is_enlisted past w ≡ false → TakeCase s past w reply.Misuse

@@ -11,16 +11,13 @@ use Rattle.std.proofs.lemmas.List.Filters.{sum_by-filter_both}
 use Rattle.cmwq_model.specs.declared.id.Who.{Who}
 use Rattle.cmwq_model.specs.declared.id.Who.TheVariants.{Caller, Worker}
 use Rattle.cmwq_model.specs.declared.call.Call.{Call}
-use Rattle.cmwq_model.specs.declared.call.Call.TheVariants as call
 use Rattle.cmwq_model.specs.declared.reply.Reply.{Reply}
-use Rattle.cmwq_model.specs.declared.reply.Reply.TheVariants as reply
 use Rattle.cmwq_model.specs.declared.entry.Entry.{Entry}
 use Rattle.cmwq_model.specs.declared.record.Ticket.{Ticket}
-use Rattle.cmwq_model.specs.Layout.{Layout}
-use Rattle.cmwq_model.specs.Calls.{same_who, is_by}
-use Rattle.cmwq_model.specs.Tickets.{gives_ticket, ticket_for, ticket_in, tickets, is_end_of, is_done, ends, is_unended, unended, is_flush_of, is_held_by, is_ticket}
-use Rattle.cmwq_model.specs.Waits.{is_older_flush, is_served_after, served}
-use Rattle.cmwq_model.specs.Legal.{IsLegal}
+use Rattle.cmwq_model.specs.Prelude.{Layout, same_who, is_by, gives_ticket, ticket_for, ticket_in, tickets, is_end_of, is_done, ends, is_unended, unended, is_flush_of}
+use Rattle.cmwq_model.specs.Prelude.{is_held_by, is_ticket, is_older_flush, is_served_after, served, IsLegal}
+use Rattle.cmwq_model.specs.declared.call.Call.TheVariants as call
+use Rattle.cmwq_model.specs.declared.reply.Reply.TheVariants as reply
 use Rattle.cmwq_theory_steps.specs.Histories.{one}
 use Rattle.cmwq_theory_steps.specs.TicketSteps.{passes, is_kept, ticket_asked, ticket_ended, is_ended_by, moves_up, is_moving}
 use Rattle.cmwq_theory_active.proofs.Lists.{All_map, All_each, count_by-cons, count_by-none, count_by-filter, find_none}

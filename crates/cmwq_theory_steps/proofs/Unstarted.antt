@@ -4,11 +4,9 @@ use Rattle.std.specs.List.{AllByRecursion}
 use Rattle.std.proofs.lemmas.List.Elements.{filter-append}
 use Rattle.cmwq_model.specs.declared.entry.Entry.{Entry}
 use Rattle.cmwq_model.specs.declared.record.Queueing.{Queueing}
-use Rattle.cmwq_model.specs.Layout.{Layout}
-use Rattle.cmwq_model.specs.Queueings.{queueings, still_open, is_live, opening, is_unstarted, unstarted}
-use Rattle.cmwq_model.specs.Fate.{starts, is_started}
+use Rattle.cmwq_model.specs.declared.id.PoolId.{PoolId}
+use Rattle.cmwq_model.specs.Prelude.{Layout, queueings, still_open, is_live, opening, is_unstarted, unstarted, starts, is_started, IsLegal, has_number, next}
 use Rattle.std.specs.Option.{option_or}
-use Rattle.cmwq_model.specs.Legal.{IsLegal}
 use Rattle.cmwq_theory_steps.specs.Endings.{survives}
 use Rattle.cmwq_theory_active.proofs.Lists.{All_each}
 use Rattle.cmwq_theory_steps.proofs.Filters.{filter_twice, filter_same}
@@ -17,9 +15,6 @@ use Rattle.cmwq_theory_steps.proofs.Pending.{one_unstarted}
 use Rattle.cmwq_theory_steps.proofs.WorklistSteps.{opening_inert}
 use Rattle.cmwq_theory_steps.specs.ItemQueueings.{still_unstarted, of_item}
 use Rattle.std.proofs.lemmas.Bool.{eq-eqb}
-use Rattle.cmwq_model.specs.declared.id.PoolId.{PoolId}
-use Rattle.cmwq_model.specs.Queueings.{has_number}
-use Rattle.cmwq_model.specs.Active.{next}
 use Rattle.cmwq_theory_active.proofs.Lists.{All_unfilter}
 use Rattle.cmwq_theory_active.proofs.Joined.{listed_live}
 use Rattle.cmwq_theory_steps.proofs.Activated.{find_holds, next_holds}

@@ -4,10 +4,7 @@ use Rattle.std.specs.List.{AllByRecursion}
 use Rattle.std.proofs.lemmas.List.Elements.{filter-append}
 use Rattle.cmwq_model.specs.declared.entry.Entry.{Entry}
 use Rattle.cmwq_model.specs.declared.record.Queueing.{Queueing}
-use Rattle.cmwq_model.specs.Layout.{Layout}
-use Rattle.cmwq_model.specs.Queueings.{queueings, still_open, is_live, opening}
-use Rattle.cmwq_model.specs.Active.{is_below_max_active, is_active, is_newly_active, newly_active}
-use Rattle.cmwq_model.specs.Legal.{IsLegal}
+use Rattle.cmwq_model.specs.Prelude.{Layout, queueings, still_open, is_live, opening, is_below_max_active, is_active, is_newly_active, newly_active, IsLegal}
 use Rattle.cmwq_theory_steps.specs.Endings.{survives}
 use Rattle.cmwq_theory_steps.specs.Activations.{waits}
 use Rattle.cmwq_theory_active.proofs.Lists.{All_each, All_filter, All_map}

@@ -6,9 +6,7 @@ use Rattle.std.proofs.lemmas.List.Elements.{Contains-append_left, Contains-appen
 use Rattle.cmwq_model.specs.declared.id.PoolId.{PoolId}
 use Rattle.cmwq_model.specs.declared.entry.Entry.{Entry}
 use Rattle.cmwq_model.specs.declared.record.Queueing.{Queueing}
-use Rattle.cmwq_model.specs.Layout.{Layout}
-use Rattle.cmwq_model.specs.Queueings.{queueings, opening}
-use Rattle.cmwq_model.specs.Active.{is_active, is_newly_active, newly_active, activated, is_listed, worklist}
+use Rattle.cmwq_model.specs.Prelude.{Layout, queueings, opening, is_active, is_newly_active, newly_active, activated, is_listed, worklist}
 use Rattle.cmwq_theory_steps.specs.Order.{IsWorklist}
 use Rattle.cmwq_theory_active.proofs.Lists.{All_map, All_both, All_append, All_filter}
 use Rattle.cmwq_theory_active.proofs.Rising.{opening_number}

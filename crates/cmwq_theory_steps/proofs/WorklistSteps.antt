@@ -5,11 +5,8 @@ use Rattle.std.proofs.lemmas.List.Elements.{filter-append}
 use Rattle.cmwq_model.specs.declared.id.PoolId.{PoolId}
 use Rattle.cmwq_model.specs.declared.entry.Entry.{Entry}
 use Rattle.cmwq_model.specs.declared.record.Queueing.{Queueing}
-use Rattle.cmwq_model.specs.Layout.{Layout}
-use Rattle.cmwq_model.specs.Fate.{number_started, starts, is_started}
-use Rattle.cmwq_model.specs.Queueings.{queueings, queueing_at, opening, is_live}
-use Rattle.cmwq_model.specs.Active.{is_active, is_newly_active, newly_active, activated, is_listed, worklist}
-use Rattle.cmwq_model.specs.Legal.{IsLegal}
+use Rattle.cmwq_model.specs.Prelude.{Layout, number_started, starts, is_started, queueings, queueing_at, opening, is_live, is_active, is_newly_active, newly_active, activated}
+use Rattle.cmwq_model.specs.Prelude.{is_listed, worklist, IsLegal}
 use Rattle.cmwq_theory_steps.specs.Endings.{survives}
 use Rattle.cmwq_theory_steps.specs.Activations.{is_left, is_in}
 use Rattle.cmwq_theory_active.proofs.Lists.{All_map, All_both, All_append, All_each, All_filter}

@@ -4,13 +4,8 @@ use Rattle.std.specs.List.{AllByRecursion}
 use Rattle.cmwq_model.specs.declared.id.PoolId.{PoolId}
 use Rattle.cmwq_model.specs.declared.entry.Entry.{Entry}
 use Rattle.cmwq_model.specs.declared.record.Queueing.{Queueing}
-use Rattle.cmwq_model.specs.Layout.{Layout, pool_at}
-use Rattle.cmwq_model.specs.Widths.{width}
-use Rattle.cmwq_model.specs.Calls.{same_pool}
-use Rattle.cmwq_model.specs.Fate.{starts, is_started}
-use Rattle.cmwq_model.specs.Queueings.{queueings, is_live, still_open, opening}
-use Rattle.cmwq_model.specs.Active.{same_place, is_below_max_active, is_active, newly_active, worklist}
-use Rattle.cmwq_model.specs.Legal.{IsLegal}
+use Rattle.cmwq_model.specs.Prelude.{Layout, pool_at, width, same_pool, starts, is_started, queueings, is_live, still_open, opening, same_place, is_below_max_active, is_active}
+use Rattle.cmwq_model.specs.Prelude.{newly_active, worklist, IsLegal}
 use Rattle.cmwq_theory_steps.specs.Places.{is_on, open_on}
 use Rattle.cmwq_theory_steps.specs.Endings.{survives, ending}
 use Rattle.cmwq_theory_active.specs.Looks.{keeps_widths}

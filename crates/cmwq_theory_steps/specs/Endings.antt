@@ -3,11 +3,8 @@ use Rattle.std.specs.Prelude.{◌≡◌, ℕ, ◌<◌, Bool, ◌&&◌, not, if�
 use Rattle.std.specs.Option.{option_or}
 use Rattle.cmwq_model.specs.declared.entry.Entry.{Entry}
 use Rattle.cmwq_model.specs.declared.record.Queueing.{Queueing}
-use Rattle.cmwq_model.specs.Layout.{Layout}
-use Rattle.cmwq_model.specs.Calls.{item_of, is_of_item}
-use Rattle.cmwq_model.specs.Fate.{number_finished, number_cancelled, finishes, takes_back, replaces, is_started}
-use Rattle.cmwq_model.specs.Queueings.{is_live, still_open, opening, unstarted}
-use Rattle.cmwq_model.specs.Legal.{IsLegal}
+use Rattle.cmwq_model.specs.Prelude.{Layout, item_of, is_of_item, number_finished, number_cancelled, finishes, takes_back, replaces, is_started, is_live, still_open, opening}
+use Rattle.cmwq_model.specs.Prelude.{unstarted, IsLegal}
 
 -- the entry puts something new in the place of this queueing, which hasn't started
 abbrev pub is_replaced : List Entry → Entry → Queueing → Bool

@@ -1,8 +1,7 @@
 -- Histories that grow: what is older of a legal one is legal, and a longer one begins with it.
 use Rattle.std.specs.Prelude.{◌≡◌, List, [], ◌∷◌, ◌++◌}
 use Rattle.cmwq_model.specs.declared.entry.Entry.{Entry}
-use Rattle.cmwq_model.specs.Layout.{Layout}
-use Rattle.cmwq_model.specs.Legal.{IsLegal, past_of}
+use Rattle.cmwq_model.specs.Prelude.{Layout, IsLegal, past_of}
 
 -- a front of a legal history is legal
 abbrev pub FrontsAreLegal : Type 0

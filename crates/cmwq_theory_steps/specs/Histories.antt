@@ -1,8 +1,6 @@
 -- What a law of histories ranges over.
-use Rattle.cmwq_model.specs.Layout.{Layout}
-use Rattle.cmwq_model.specs.Layout.{Layout}
-use Rattle.cmwq_model.specs.Legal.{IsLegal}
 use Rattle.cmwq_model.specs.declared.entry.Entry.{Entry}
+use Rattle.cmwq_model.specs.Prelude.{Layout, IsLegal}
 use Rattle.std.specs.Prelude.{ℕ, Bool, if◌then◌else◌, List, ◌∷◌}
 use Rattle.std.specs.Prelude.{ℕ, Bool, List, [], ◌∷◌}
 

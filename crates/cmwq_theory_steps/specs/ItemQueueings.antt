@@ -5,15 +5,11 @@ use Rattle.cmwq_model.specs.declared.id.PoolId.{PoolId}
 use Rattle.cmwq_model.specs.declared.id.Who.{Who}
 use Rattle.cmwq_model.specs.declared.id.Who.TheVariants.{Caller, Worker}
 use Rattle.cmwq_model.specs.declared.reply.Reply.{Reply}
-use Rattle.cmwq_model.specs.declared.reply.Reply.TheVariants as reply
 use Rattle.cmwq_model.specs.declared.entry.Entry.{Entry}
 use Rattle.cmwq_model.specs.declared.record.Queueing.{Queueing}
 use Rattle.cmwq_model.specs.declared.record.Start.{Start}
-use Rattle.cmwq_model.specs.Layout.{Layout, pool_at}
-use Rattle.cmwq_model.specs.Calls.{item_of}
-use Rattle.cmwq_model.specs.Runs.{run, item_run}
-use Rattle.cmwq_model.specs.Queueings.{opening, unstarted, queueing_at, is_live}
-use Rattle.cmwq_model.specs.Active.{next}
+use Rattle.cmwq_model.specs.Prelude.{Layout, pool_at, item_of, run, item_run, opening, unstarted, queueing_at, is_live, next}
+use Rattle.cmwq_model.specs.declared.reply.Reply.TheVariants as reply
 use Rattle.cmwq_theory_steps.specs.Histories.{OfLegal, OfEntries}
 use Rattle.cmwq_theory_steps.specs.Endings.{ending}
 use Rattle.cmwq_theory_steps.specs.Activations.{is_left}

@@ -3,8 +3,7 @@ use Rattle.std.specs.Prelude.{List, [], ◌∷◌}
 use Rattle.std.specs.Coded.{Unit-prop}
 use Rattle.std.proofs.Props.{props}
 use Rattle.cmwq_model.specs.declared.entry.Entry.{Entry}
-use Rattle.cmwq_model.specs.Layout.{Layout}
-use Rattle.cmwq_model.specs.Legal.{IsLegal}
+use Rattle.cmwq_model.specs.Prelude.{Layout, IsLegal}
 
 entry-set : IsSet Entry
 entry-set = hlevel props

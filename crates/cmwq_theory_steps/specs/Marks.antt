@@ -2,10 +2,7 @@
 use Rattle.std.specs.Prelude.{◌≡◌, ℕ, false, List, ◌∷◌, Option, option_and_then}
 use Rattle.std.specs.Option.{option_or}
 use Rattle.cmwq_model.specs.declared.entry.Entry.{Entry}
-use Rattle.cmwq_model.specs.Layout.{Layout}
-use Rattle.cmwq_model.specs.Calls.{is_at, item_of, item_at}
-use Rattle.cmwq_model.specs.Fate.{number_started, number_finished}
-use Rattle.cmwq_model.specs.Legal.{IsLegal, bits}
+use Rattle.cmwq_model.specs.Prelude.{Layout, is_at, item_of, item_at, number_started, number_finished, IsLegal, bits}
 
 -- the item of an entry, or that of the queueing that the entry starts or finishes
 abbrev pub item_marked : List Entry → Entry → Option ℕ

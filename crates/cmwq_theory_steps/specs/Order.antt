@@ -5,9 +5,7 @@ use Rattle.std.specs.Option.{option_or}
 use Rattle.cmwq_model.specs.declared.id.PoolId.{PoolId}
 use Rattle.cmwq_model.specs.declared.entry.Entry.{Entry}
 use Rattle.cmwq_model.specs.declared.record.Queueing.{Queueing}
-use Rattle.cmwq_model.specs.Layout.{Layout}
-use Rattle.cmwq_model.specs.Queueings.{queueings}
-use Rattle.cmwq_model.specs.Active.{is_active, is_listed, worklist}
+use Rattle.cmwq_model.specs.Prelude.{Layout, queueings, is_active, is_listed, worklist}
 
 -- the length of the first prefix of the history in which the queueing is active
 unfoldable pub since : Layout → List Entry → Queueing → Option ℕ

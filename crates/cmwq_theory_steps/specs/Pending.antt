@@ -1,12 +1,8 @@
 -- What an item has that is pending: one unstarted queueing at most, and none while it is booked.
 use Rattle.std.specs.Prelude.{◌≡◌, ◌==◌, ◌&&◌, ℕ, Bool, true, List, filter, None, option_to_list}
 use Rattle.cmwq_model.specs.declared.entry.Entry.{Entry}
-use Rattle.cmwq_model.specs.Layout.{Layout}
-use Rattle.cmwq_model.specs.Bookings.{is_booked}
-use Rattle.cmwq_model.specs.Queueings.{still_open, is_unstarted, unstarted}
-use Rattle.cmwq_model.specs.Legal.{IsLegal}
 use Rattle.cmwq_model.specs.declared.record.Queueing.{Queueing}
-use Rattle.cmwq_model.specs.Fate.{is_started}
+use Rattle.cmwq_model.specs.Prelude.{Layout, is_booked, still_open, is_unstarted, unstarted, IsLegal, is_started}
 
 -- of an item's open queueings one at most hasn't started
 abbrev pub OneUnstarted : Type 0

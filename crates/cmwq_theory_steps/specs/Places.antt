@@ -2,10 +2,7 @@
 use Rattle.std.specs.Prelude.{ℕ, ◌-◌, min, max, Bool, ◌&&◌, not, ◌==◌, List, [], ◌∷◌, length, filter, count_by}
 use Rattle.cmwq_model.specs.declared.entry.Entry.{Entry}
 use Rattle.cmwq_model.specs.declared.record.Queueing.{Queueing}
-use Rattle.cmwq_model.specs.Layout.{Layout}
-use Rattle.cmwq_model.specs.Widths.{width}
-use Rattle.cmwq_model.specs.Queueings.{is_live, still_open}
-use Rattle.cmwq_model.specs.Active.{is_active}
+use Rattle.cmwq_model.specs.Prelude.{Layout, width, is_live, still_open, is_active}
 
 -- the open queueings of a queue on a CPU
 abbrev pub is_on : ℕ → ℕ → Queueing → Bool

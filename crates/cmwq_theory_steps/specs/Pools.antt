@@ -5,11 +5,7 @@ use Rattle.cmwq_model.specs.declared.entry.Entry.{Entry}
 use Rattle.cmwq_model.specs.declared.record.Booking.{Booking}
 use Rattle.cmwq_model.specs.declared.record.Queueing.{Queueing}
 use Rattle.cmwq_model.specs.declared.record.Start.{Start}
-use Rattle.cmwq_model.specs.Layout.{Layout, pool_at}
-use Rattle.cmwq_model.specs.Bookings.{booking}
-use Rattle.cmwq_model.specs.Runs.{run, item_run}
-use Rattle.cmwq_model.specs.Queueings.{is_live, unstarted, queueing_at, queue_of}
-use Rattle.cmwq_model.specs.Legal.{IsLegal}
+use Rattle.cmwq_model.specs.Prelude.{Layout, pool_at, booking, run, item_run, is_live, unstarted, queueing_at, queue_of, IsLegal}
 
 -- what a worker runs is an open queueing of its pool
 pub record IsRunIn (s : Layout) (past : List Entry) (w : WorkerId) (n : ℕ) : Type 0 where

@@ -4,15 +4,11 @@ use Rattle.std.specs.Option.{option_or}
 use Rattle.cmwq_model.specs.declared.id.WorkerId.{WorkerId}
 use Rattle.cmwq_model.specs.declared.id.Who.TheVariants.{Worker}
 use Rattle.cmwq_model.specs.declared.reply.Reply.{Reply}
-use Rattle.cmwq_model.specs.declared.reply.Reply.TheVariants as reply
 use Rattle.cmwq_model.specs.declared.entry.Entry.{Entry}
 use Rattle.cmwq_model.specs.declared.record.Queueing.{Queueing}
-use Rattle.cmwq_model.specs.Calls.{is_by, is_of_item}
-use Rattle.cmwq_model.specs.Bookings.{settles, due_in}
-use Rattle.cmwq_model.specs.Fate.{number_cancelled}
-use Rattle.cmwq_model.specs.Runs.{starts_item, item_run, item_runs}
-use Rattle.cmwq_model.specs.Queueings.{opens, opening, is_pending, queueing_at, queue_of, run_queue}
-use Rattle.cmwq_model.specs.Legal.{bits}
+use Rattle.cmwq_model.specs.Prelude.{is_by, is_of_item, settles, due_in, number_cancelled, starts_item, item_run, item_runs, opens, opening, is_pending, queueing_at, queue_of}
+use Rattle.cmwq_model.specs.Prelude.{run_queue, bits}
+use Rattle.cmwq_model.specs.declared.reply.Reply.TheVariants as reply
 use Rattle.cmwq_theory_steps.specs.Histories.{OfEntries}
 use Rattle.cmwq_theory_steps.specs.RunSteps.{ends_run}
 

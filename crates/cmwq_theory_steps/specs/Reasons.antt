@@ -6,26 +6,17 @@ use Rattle.cmwq_model.specs.declared.id.WorkerId.{WorkerId}
 use Rattle.cmwq_model.specs.declared.id.Who.{Who}
 use Rattle.cmwq_model.specs.declared.id.Who.TheVariants.{Caller, Worker}
 use Rattle.cmwq_model.specs.declared.call.Call.{Call}
-use Rattle.cmwq_model.specs.declared.call.Call.TheVariants as call
 use Rattle.cmwq_model.specs.declared.reply.Reply.{Reply}
-use Rattle.cmwq_model.specs.declared.reply.Reply.TheVariants as reply
 use Rattle.cmwq_model.specs.declared.entry.Entry.{Entry}
 use Rattle.cmwq_model.specs.declared.record.Booking.{Booking}
 use Rattle.cmwq_model.specs.declared.record.Place.{Place}
 use Rattle.cmwq_model.specs.declared.record.Queueing.{Queueing}
 use Rattle.cmwq_model.specs.declared.record.Ticket.{Ticket}
-use Rattle.cmwq_model.specs.Layout.{Layout}
-use Rattle.cmwq_model.specs.Calls.{item_called, now}
-use Rattle.cmwq_model.specs.Bookings.{booking, is_booked}
-use Rattle.cmwq_model.specs.Fate.{number_started, number_finished, number_cancelled}
-use Rattle.cmwq_model.specs.Runs.{run, has_run, runs_awake, runs_asleep}
-use Rattle.cmwq_model.specs.Queueings.{place_called, is_pending, unstarted, runs_elsewhere}
-use Rattle.cmwq_model.specs.Active.{next}
-use Rattle.cmwq_model.specs.Workers.{is_enlisted, index_enlisted, runnable, enlisted_by, may_retire}
-use Rattle.cmwq_model.specs.Tickets.{gives_ticket, is_cancelling, is_crowded, ticket_of}
-use Rattle.cmwq_model.specs.Waits.{waits_for}
-use Rattle.cmwq_model.specs.Answer.{may_call, is_shut, first_due, is_held_back}
-use Rattle.cmwq_model.specs.Legal.{IsLegal}
+use Rattle.cmwq_model.specs.Prelude.{Layout, item_called, now, booking, is_booked, number_started, number_finished, number_cancelled, run, has_run, runs_awake, runs_asleep}
+use Rattle.cmwq_model.specs.Prelude.{place_called, is_pending, unstarted, runs_elsewhere, next, is_enlisted, index_enlisted, runnable, enlisted_by, may_retire, gives_ticket}
+use Rattle.cmwq_model.specs.Prelude.{is_cancelling, is_crowded, ticket_of, waits_for, may_call, is_shut, first_due, is_held_back, IsLegal}
+use Rattle.cmwq_model.specs.declared.call.Call.TheVariants as call
+use Rattle.cmwq_model.specs.declared.reply.Reply.TheVariants as reply
 
 -- the number that a reply gives to what it opens
 abbrev pub number_given : Reply → Option ℕ

@@ -3,20 +3,11 @@ use Rattle.std.specs.Prelude.{◌≡◌, ℕ, ◌<◌, Bool, true, false, List, 
 use Rattle.cmwq_model.specs.declared.id.PoolId.{PoolId}
 use Rattle.cmwq_model.specs.declared.id.WorkerId.{WorkerId}
 use Rattle.cmwq_model.specs.declared.reply.Reply.{Reply}
-use Rattle.cmwq_model.specs.declared.reply.Reply.TheVariants as reply
 use Rattle.cmwq_model.specs.declared.entry.Entry.{Entry}
 use Rattle.cmwq_model.specs.declared.record.Queueing.{Queueing}
-use Rattle.cmwq_model.specs.Layout.{Layout}
-use Rattle.cmwq_model.specs.Calls.{now}
-use Rattle.cmwq_model.specs.Bookings.{booking, booking_of}
-use Rattle.cmwq_model.specs.Runs.{run, item_run, is_asleep}
-use Rattle.cmwq_model.specs.Queueings.{queueings, opening, still_open, unstarted, run_queue}
-use Rattle.cmwq_model.specs.Widths.{is_frozen, max_active, width}
-use Rattle.cmwq_model.specs.Active.{is_active, newly_active, worklist, next}
-use Rattle.cmwq_model.specs.Workers.{is_enlisted}
-use Rattle.cmwq_model.specs.Tickets.{unended, ticket_in, is_gone}
-use Rattle.cmwq_model.specs.Legal.{bits}
-use Rattle.cmwq_model.specs.Room.{owed}
+use Rattle.cmwq_model.specs.Prelude.{Layout, now, booking, booking_of, run, item_run, is_asleep, queueings, opening, still_open, unstarted, run_queue, is_frozen, max_active}
+use Rattle.cmwq_model.specs.Prelude.{width, is_active, newly_active, worklist, next, is_enlisted, unended, ticket_in, is_gone, bits, owed}
+use Rattle.cmwq_model.specs.declared.reply.Reply.TheVariants as reply
 use Rattle.cmwq_theory_steps.specs.Histories.{OfEntries}
 use Rattle.cmwq_theory_steps.specs.Places.{active_count}
 use Rattle.cmwq_theory_steps.specs.Endings.{ending}

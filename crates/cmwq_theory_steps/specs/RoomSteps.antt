@@ -3,17 +3,10 @@ use Rattle.std.specs.Prelude.{◌≡◌, ℕ, ◌+◌, ◌*◌, [], ◌≤◌, B
 use Rattle.std.specs.List.{range_with_len}
 use Rattle.std.specs.Option.{option_map_or}
 use Rattle.cmwq_model.specs.declared.reply.Reply.{Reply}
-use Rattle.cmwq_model.specs.declared.reply.Reply.TheVariants as reply
 use Rattle.cmwq_model.specs.declared.entry.Entry.{Entry}
-use Rattle.cmwq_model.specs.Layout.{Layout}
-use Rattle.cmwq_model.specs.Calls.{item_of}
-use Rattle.cmwq_model.specs.Bookings.{settles, booking_of, is_booked}
-use Rattle.cmwq_model.specs.Fate.{number_started, number_finished}
-use Rattle.cmwq_model.specs.Runs.{has_run, runs_asleep}
-use Rattle.cmwq_model.specs.Queueings.{still_open, opening}
-use Rattle.cmwq_model.specs.Tickets.{gives_ticket, is_done, unended}
-use Rattle.cmwq_model.specs.Widths.{is_frozen}
-use Rattle.cmwq_model.specs.Room.{owed, workers, has_not_started, needed}
+use Rattle.cmwq_model.specs.Prelude.{Layout, item_of, settles, booking_of, is_booked, number_started, number_finished, has_run, runs_asleep, still_open, opening, gives_ticket}
+use Rattle.cmwq_model.specs.Prelude.{is_done, unended, is_frozen, owed, workers, has_not_started, needed}
+use Rattle.cmwq_model.specs.declared.reply.Reply.TheVariants as reply
 use Rattle.cmwq_theory_steps.specs.Endings.{ending}
 use Rattle.cmwq_theory_steps.specs.Histories.{one, OfEntries}
 

@@ -4,14 +4,10 @@ use Rattle.std.specs.Option.{option_map_or}
 use Rattle.cmwq_model.specs.declared.id.WorkerId.{WorkerId}
 use Rattle.cmwq_model.specs.declared.id.Who.TheVariants.{Worker}
 use Rattle.cmwq_model.specs.declared.reply.Reply.{Reply}
-use Rattle.cmwq_model.specs.declared.reply.Reply.TheVariants as reply
 use Rattle.cmwq_model.specs.declared.entry.Entry.{Entry}
 use Rattle.cmwq_model.specs.declared.record.Start.{Start}
-use Rattle.cmwq_model.specs.Layout.{Layout}
-use Rattle.cmwq_model.specs.Calls.{is_by, item_at}
-use Rattle.cmwq_model.specs.Fate.{finishes}
-use Rattle.cmwq_model.specs.Runs.{run, start_in, starts_item, item_run}
-use Rattle.cmwq_model.specs.Legal.{IsLegal}
+use Rattle.cmwq_model.specs.Prelude.{Layout, is_by, item_at, finishes, run, start_in, starts_item, item_run, IsLegal}
+use Rattle.cmwq_model.specs.declared.reply.Reply.TheVariants as reply
 
 -- what a worker runs after an entry of its own
 abbrev pub run_after : Reply → Option ℕ → Option ℕ

@@ -6,13 +6,8 @@ use Rattle.cmwq_model.specs.declared.id.Who.{Who}
 use Rattle.cmwq_model.specs.declared.id.Who.TheVariants.{Worker}
 use Rattle.cmwq_model.specs.declared.entry.Entry.{Entry}
 use Rattle.cmwq_model.specs.declared.record.Place.{Place}
-use Rattle.cmwq_model.specs.Layout.{Layout}
-use Rattle.cmwq_model.specs.Calls.{same_who, is_by, is_of_item, item_called, item_of, serial_of, ticks_told, now}
-use Rattle.cmwq_model.specs.Bookings.{settles, due_in, booking, booking_of}
-use Rattle.cmwq_model.specs.Runs.{asleep_after, is_asleep}
-use Rattle.cmwq_model.specs.Queueings.{opens, opening, place_called, place_wanted, queued_at}
-use Rattle.cmwq_model.specs.Workers.{enlists, is_retired, is_enlisted}
-use Rattle.cmwq_model.specs.Legal.{IsLegal}
+use Rattle.cmwq_model.specs.Prelude.{Layout, same_who, is_by, is_of_item, item_called, item_of, serial_of, ticks_told, now, settles, due_in, booking, booking_of, asleep_after}
+use Rattle.cmwq_model.specs.Prelude.{is_asleep, opens, opening, place_called, place_wanted, queued_at, enlists, is_retired, is_enlisted, IsLegal}
 use Rattle.cmwq_theory_steps.specs.Histories.{one}
 
 -- a worker sleeps as its own last entry left it

@@ -3,10 +3,7 @@ use Rattle.std.specs.Prelude.{◌≡◌, ℕ, ◌+◌, ◌-◌, ◌&&◌, not, B
 use Rattle.std.specs.Option.{option_map_or}
 use Rattle.cmwq_model.specs.declared.entry.Entry.{Entry}
 use Rattle.cmwq_model.specs.declared.record.Queueing.{Queueing}
-use Rattle.cmwq_model.specs.Layout.{Layout}
-use Rattle.cmwq_model.specs.Widths.{width}
-use Rattle.cmwq_model.specs.Queueings.{still_open, opening}
-use Rattle.cmwq_model.specs.Active.{is_below_max_active, is_active, newly_active}
+use Rattle.cmwq_model.specs.Prelude.{Layout, width, still_open, opening, is_below_max_active, is_active, newly_active}
 use Rattle.cmwq_theory_steps.specs.Histories.{one, OfEntries}
 use Rattle.cmwq_theory_steps.specs.Places.{is_on, open_on, active_count}
 use Rattle.cmwq_theory_steps.specs.Endings.{survives, ending}

@@ -9,9 +9,9 @@ use Rattle.std.proofs.lemmas.List.Elements.{All-set, All-replicate}
 use Rattle.std.proofs.lemmas.List.Folds.{sum_by-replicate}
 use Rattle.std.proofs.lemmas.List.Sums.{sum_by-set, sum_by-cons, sum_by-le}
 use Rattle.cmwq_model.specs.declared.call.Call.{Call}
-use Rattle.cmwq_model.specs.declared.call.Call.TheVariants as call
 use Rattle.cmwq_model.specs.declared.record.Ticket.{Ticket}
-use Rattle.cmwq_model.specs.Tickets.{cancels_sync, drains, destroys, is_cancel_sync_of, is_destroy_of, is_drain_of}
+use Rattle.cmwq_model.specs.Prelude.{cancels_sync, drains, destroys, is_cancel_sync_of, is_destroy_of, is_drain_of}
+use Rattle.cmwq_model.specs.declared.call.Call.TheVariants as call
 use Rattle.cmwq_ticket.specs.declared.counts.Counts.{Counts}
 use Rattle.cmwq_ticket.specs.Counts.{AreExact, AreSized, HasCount, HaveRoom, is_counted, raised, lowered, no_counts, IsExact}
 use Rattle.cmwq_ticket.specs.Rows.{Rows, row_of, given, ended, ticket_of, is_crowded, is_numbered, is_other, comes_before, may_give, count, IsOlder, IsRow}

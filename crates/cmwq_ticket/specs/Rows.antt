@@ -2,7 +2,7 @@
 use Rattle.std.specs.Prelude.{ℕ, ◌≤◌, ◌<◌, Bool, ◌&&◌, not, ◌==◌, List, [], ◌∷◌, ◌++◌, length, filter, find, flat_map, Option, AllPairs, sum_by, nat_le, nat_lt, slice_index_or, slice_set}
 use Rattle.std.specs.List.{list_any, list_all}
 use Rattle.cmwq_model.specs.declared.record.Ticket.{Ticket}
-use Rattle.cmwq_model.specs.Tickets.{is_cancel_sync_of, is_destroy_of, is_drain_of}
+use Rattle.cmwq_model.specs.Prelude.{is_cancel_sync_of, is_destroy_of, is_drain_of}
 use Rattle.cmwq_ticket.specs.Counts.{is_counted}
 
 abbrev pub Rows : Type 0

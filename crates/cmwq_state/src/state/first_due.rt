@@ -2,7 +2,7 @@
 
 ghost use Rattle.std.specs.Prelude.{◌≡◌, ℕ, ◌==◌, ◌<◌, ◌≤◌, length, nat_lt};
 ghost use Rattle.std.specs.Int.{bit_at};
-ghost use Rattle.cmwq_model.specs.Legal.{past_of};
+ghost use Rattle.cmwq_model.specs.Prelude.{past_of};
 ghost use Rattle.cmwq_state.specs.Tables.{book_in};
 ghost use Rattle.cmwq_refinement.specs.Timers.{item_due};
 

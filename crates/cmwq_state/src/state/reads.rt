@@ -2,13 +2,12 @@
 
 ghost use Rattle.std.specs.Prelude.{◌≡◌, ◌<◌, find, length};
 ghost use Rattle.cmwq_model.specs.declared.id.Who.TheVariants.{Worker};
+ghost use Rattle.cmwq_model.specs.Prelude.{IsLegal, past_of, is_booked_on, is_shut, may_call, runs_on};
 ghost use Rattle.cmwq_model.specs.Bookings as bookings;
-ghost use Rattle.cmwq_model.specs.Legal.{IsLegal, past_of};
 ghost use Rattle.cmwq_model.specs.Queueings as queueings;
 ghost use Rattle.cmwq_model.specs.Runs as runs;
 ghost use Rattle.cmwq_model.specs.Tickets as waits;
 ghost use Rattle.cmwq_model.specs.Widths as widths;
-ghost use Rattle.cmwq_model.specs.Answer.{is_booked_on, is_shut, may_call, runs_on};
 ghost use Rattle.std.specs.List.{list_any};
 ghost use Rattle.cmwq_theory_steps.specs.ItemQueueings.{queueing_run};
 ghost use Rattle.cmwq_refinement.specs.Timers.{row_of};

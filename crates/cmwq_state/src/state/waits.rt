@@ -2,10 +2,7 @@
 
 ghost use Rattle.std.specs.Prelude.{◌≡◌, ◌<◌, Contains, length, true};
 ghost use Rattle.cmwq_model.specs.declared.call.Call.TheVariants as call;
-ghost use Rattle.cmwq_model.specs.Layout.{has_numbers};
-ghost use Rattle.cmwq_model.specs.Legal.{IsLegal, past_of};
-ghost use Rattle.cmwq_model.specs.Tickets.{is_flush_of, unended};
-ghost use Rattle.cmwq_model.specs.Waits.{waits_for};
+ghost use Rattle.cmwq_model.specs.Prelude.{has_numbers, IsLegal, past_of, is_flush_of, unended, waits_for};
 ghost use Rattle.cmwq_refinement.specs.FlushBooks.{AreFlushes};
 
 use crate::state::State;

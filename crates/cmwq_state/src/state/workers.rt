@@ -2,10 +2,10 @@
 
 ghost use Rattle.std.specs.Prelude.{◌≡◌, ◌<◌, ◌&&◌, option_map};
 ghost use Rattle.cmwq_model.specs.declared.id.Who.TheVariants.{Worker};
+ghost use Rattle.cmwq_model.specs.Prelude.{past_of, IsLegal};
 ghost use Rattle.cmwq_model.specs.Runs as runs;
 ghost use Rattle.cmwq_model.specs.Workers as workers;
 ghost use Rattle.cmwq_model.specs.Active as active;
-ghost use Rattle.cmwq_model.specs.Legal.{past_of, IsLegal};
 ghost use Rattle.cmwq_refinement.specs.Pools.{IsSlotOf, pool_of, run_task};
 ghost use Rattle.cmwq_refinement.specs.Told.{number_of_queueing};
 ghost use Rattle.cmwq_state.specs.Tables as tables;

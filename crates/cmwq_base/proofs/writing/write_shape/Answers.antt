@@ -1,7 +1,7 @@
 use Rattle.std.proofs.Common.{◌∙◌, ap}
 use Rattle.std.proofs.lemmas.Result.{err_from_is_err_and}
 use Rattle.std.specs.Prelude.{flat_map}
-use Rattle.cmwq_model.specs.Layout.{Layout}
+use Rattle.cmwq_model.specs.Prelude.{Layout}
 use Rattle.cmwq_io.proofs.KnownBytes.{Appends-trans}
 use Rattle.cmwq_text.specs.HistoryText.{counts_in, shape_text}
 use Rattle.cmwq_text.specs.ShapeText.{counts_text, queue_text}

@@ -1,6 +1,6 @@
 use Rattle.std.proofs.Common.{◌∙◌, refl, ap, sym}
 use Rattle.std.proofs.lemmas.Result.{err_from_is_err_and}
-use Rattle.cmwq_model.specs.Room.{Steps}
+use Rattle.cmwq_model.specs.Prelude.{Steps}
 use Rattle.cmwq_base.specs.Kinds.{call_file_of}
 use Rattle.cmwq_base.specs.Stages.{contents_of}
 use Rattle.cmwq_cmd_history.specs.Live.{Stepped}

@@ -1,7 +1,5 @@
 use Rattle.std.proofs.Common.{ap, ◌∙◌}
-use Rattle.cmwq_model.specs.Bookings.{booking_of}
-use Rattle.cmwq_model.specs.Legal.{past_of}
-use Rattle.cmwq_model.specs.Tickets.{ticket_in}
+use Rattle.cmwq_model.specs.Prelude.{booking_of, past_of, ticket_in}
 use Rattle.cmwq_core.proofs.Effecting.{entry_inside, legal_there}
 use Rattle.cmwq_core.proofs.effects.effect_of.Goals as goal
 

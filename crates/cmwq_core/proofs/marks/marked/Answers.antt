@@ -1,5 +1,5 @@
 use Rattle.std.proofs.Common.{Some, None}
-use Rattle.cmwq_model.specs.Legal.{past_of}
+use Rattle.cmwq_model.specs.Prelude.{past_of}
 use Rattle.cmwq_core.proofs.Marked.{item_there, queueing_there, marked_as}
 use Rattle.cmwq_core.proofs.marks.marked.Goals as goal
 

@@ -1,6 +1,6 @@
 use Rattle.std.proofs.Common.{◌≡◌}
 use Rattle.cmwq_look.specs.Past.{upto}
-use Rattle.cmwq_model.specs.Bookings.{booking}
+use Rattle.cmwq_model.specs.Prelude.{booking}
 use Rattle.cmwq_look.proofs.bookings.booking.Given as goal
 
 abbrev pub invariant-loop-k : goal.invariant-loop-k

@@ -1,6 +1,6 @@
 use Rattle.std.proofs.Common.{◌≡◌}
 use Rattle.cmwq_look.specs.Past.{upto}
-use Rattle.cmwq_model.specs.Fate.{is_cancelled, is_started}
+use Rattle.cmwq_model.specs.Prelude.{is_cancelled, is_started}
 use Rattle.cmwq_look.proofs.fate.is_cancelled.Given as goal
 
 abbrev pub invariant-loop-k : goal.invariant-loop-k

@@ -1,6 +1,6 @@
 use Rattle.std.proofs.Common.{◌≡◌}
 use Rattle.cmwq_look.specs.Past.{upto}
-use Rattle.cmwq_model.specs.Fate.{is_finished}
+use Rattle.cmwq_model.specs.Prelude.{is_finished}
 use Rattle.cmwq_look.proofs.fate.is_finished.Given as goal
 
 abbrev pub invariant-loop-k : goal.invariant-loop-k

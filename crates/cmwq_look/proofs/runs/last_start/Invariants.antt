@@ -1,6 +1,6 @@
 use Rattle.std.proofs.Common.{◌≡◌}
 use Rattle.cmwq_look.specs.Past.{upto}
-use Rattle.cmwq_model.specs.Runs.{last_start}
+use Rattle.cmwq_model.specs.Prelude.{last_start}
 use Rattle.cmwq_look.proofs.runs.last_start.Given as goal
 
 abbrev pub invariant-loop-k : goal.invariant-loop-k

@@ -1,6 +1,6 @@
 use Rattle.std.proofs.Common.{◌≡◌, ◌≤◌}
 use Rattle.cmwq_look.specs.Past.{upto}
-use Rattle.cmwq_model.specs.Calls.{serial_of}
+use Rattle.cmwq_model.specs.Prelude.{serial_of}
 use Rattle.cmwq_look.proofs.tally.serial_of.Given as goal
 
 abbrev pub invariant-loop-number : goal.invariant-loop-number

@@ -1,6 +1,6 @@
 use Rattle.std.proofs.Common.{◌≡◌, ◌≤◌, count_by}
 use Rattle.cmwq_look.specs.Past.{unended_upto}
-use Rattle.cmwq_model.specs.Tickets.{is_held_by}
+use Rattle.cmwq_model.specs.Prelude.{is_held_by}
 use Rattle.cmwq_look.proofs.tickets.is_crowded.Given as goal
 
 abbrev pub invariant-loop-k : goal.invariant-loop-k

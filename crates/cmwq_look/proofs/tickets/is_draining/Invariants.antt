@@ -1,6 +1,6 @@
 use Rattle.std.proofs.Common.{◌≡◌}
 use Rattle.cmwq_look.specs.Past.{unended_upto}
-use Rattle.cmwq_model.specs.Tickets.{is_drain_of}
+use Rattle.cmwq_model.specs.Prelude.{is_drain_of}
 use Rattle.std.specs.List.{list_any}
 use Rattle.cmwq_look.proofs.tickets.is_draining.Given as goal
 

@@ -1,6 +1,6 @@
 use Rattle.std.proofs.Common.{◌≡◌}
 use Rattle.cmwq_look.specs.Past.{upto}
-use Rattle.cmwq_model.specs.Tickets.{is_gone}
+use Rattle.cmwq_model.specs.Prelude.{is_gone}
 use Rattle.cmwq_look.proofs.tickets.is_gone.Given as goal
 
 abbrev pub invariant-loop-k : goal.invariant-loop-k

@@ -1,6 +1,6 @@
 use Rattle.std.proofs.Common.{◌≡◌}
 use Rattle.cmwq_look.specs.Past.{upto}
-use Rattle.cmwq_model.specs.Tickets.{ends}
+use Rattle.cmwq_model.specs.Prelude.{ends}
 use Rattle.std.specs.List.{list_any}
 use Rattle.cmwq_look.proofs.tickets.is_unended.Given as goal
 

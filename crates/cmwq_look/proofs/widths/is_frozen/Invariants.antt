@@ -1,6 +1,6 @@
 use Rattle.std.proofs.Common.{◌≡◌}
 use Rattle.cmwq_look.specs.Past.{upto}
-use Rattle.cmwq_model.specs.Widths.{is_frozen}
+use Rattle.cmwq_model.specs.Prelude.{is_frozen}
 use Rattle.cmwq_look.proofs.widths.is_frozen.Given as goal
 
 abbrev pub invariant-loop-k : goal.invariant-loop-k

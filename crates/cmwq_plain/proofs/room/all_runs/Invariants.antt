@@ -1,5 +1,5 @@
 use Rattle.std.proofs.Common.{◌≡◌, ◌*◌, ◌≤◌}
-use Rattle.cmwq_model.specs.Room.{cpu_workers}
+use Rattle.cmwq_model.specs.Prelude.{cpu_workers}
 use Rattle.cmwq_plain.specs.Partial.{owed_by_runs}
 use Rattle.std.specs.List.{flat_map, range_with_len}
 use Rattle.cmwq_plain.proofs.room.all_runs.Given as goal

@@ -1,5 +1,5 @@
 use Rattle.std.proofs.Common.{◌≡◌, ◌*◌, ◌≤◌, map}
-use Rattle.cmwq_model.specs.Workers.{worker_at}
+use Rattle.cmwq_model.specs.Prelude.{worker_at}
 use Rattle.cmwq_plain.specs.Partial.{owed_by_runs}
 use Rattle.std.specs.List.{range_with_len}
 use Rattle.cmwq_plain.proofs.room.pool_runs.Given as goal

@@ -1,6 +1,6 @@
 use Rattle.std.proofs.Common.{◌≡◌}
 use Rattle.cmwq_look.specs.Past.{upto}
-use Rattle.cmwq_model.specs.Waits.{served}
+use Rattle.cmwq_model.specs.Prelude.{served}
 use Rattle.cmwq_plain.proofs.wait.served.Given as goal
 
 abbrev pub invariant-loop-k : goal.invariant-loop-k

@@ -1,5 +1,5 @@
 use Rattle.std.proofs.Common.{◌≡◌, ◌∙◌, sym, ap}
-use Rattle.cmwq_model.specs.Layout.{Layout, fits}
+use Rattle.cmwq_model.specs.Prelude.{Layout, fits}
 use Rattle.cmwq_test_hub.proofs.First.{caller, call, first_is_next}
 use Rattle.cmwq_test_hub.proofs.versions.a_shown_entry_is_read.Goals as goal
 

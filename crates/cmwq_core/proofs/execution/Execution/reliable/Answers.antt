@@ -1,4 +1,4 @@
-use Rattle.cmwq_model.specs.Legal.{past_of}
+use Rattle.cmwq_model.specs.Prelude.{past_of}
 use Rattle.cmwq_core.proofs.Relied.{reliable}
 use Rattle.cmwq_core.proofs.execution.Execution.reliable.Goals as goal
 

@@ -2,8 +2,7 @@ use Rattle.std.proofs.Common.{◌≡◌, ◌+◌, ◌++◌, ◌∷◌, [], refl,
 use Rattle.std.specs.Prelude.{List}
 use mathlib.Core.List.{IsPrefix}
 use Rattle.cmwq_model.specs.declared.entry.Entry.{Entry}
-use Rattle.cmwq_model.specs.Calls.{serial_of}
-use Rattle.cmwq_model.specs.Legal.{past_of, IsLegal}
+use Rattle.cmwq_model.specs.Prelude.{serial_of, past_of, IsLegal}
 use Rattle.cmwq_core.specs.History.{History}
 use Rattle.cmwq_monitor.specs.Held.{Held}
 use Rattle.cmwq_monitor.specs.Calls.{own_entry}

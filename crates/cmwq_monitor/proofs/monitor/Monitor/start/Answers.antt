@@ -1,12 +1,11 @@
 use Rattle.std.proofs.Common.{◌≡◌, ◌≤◌, ◌<◌, subst, ap, sym, ◌∙◌, refl, arith, false, List}
 use Rattle.cmwq_model.specs.declared.call.Call.TheVariants as calls
-use Rattle.cmwq_model.specs.Legal.{past_of, IsLegal}
-use Rattle.cmwq_model.specs.Room.{needed, has_room}
+use Rattle.cmwq_model.specs.declared.id.ItemId.{ItemId}
+use Rattle.cmwq_model.specs.declared.entry.Entry.{Entry}
+use Rattle.cmwq_model.specs.Prelude.{past_of, IsLegal, needed, has_room}
 use Rattle.cmwq_monitor.specs.Held.{Held}
 use Rattle.cmwq_monitor.proofs.Entering.{room_is}
 use Rattle.std.proofs.lemmas.Option.{same_Some}
-use Rattle.cmwq_model.specs.declared.id.ItemId.{ItemId}
-use Rattle.cmwq_model.specs.declared.entry.Entry.{Entry}
 use Rattle.cmwq_monitor.specs.Calls.{own_entry}
 use Rattle.cmwq_monitor.specs.Starts.{StartsItem}
 use Rattle.cmwq_monitor.proofs.Fitting.{worker_fits}

@@ -1,8 +1,7 @@
 use Rattle.std.proofs.Common.{◌≡◌, ◌≤◌, ◌∙◌, [], length, ap, sym, subst, arith}
 use Rattle.cmwq_model.specs.declared.id.Who.{Who}
+use Rattle.cmwq_model.specs.Prelude.{serial_of, past_of}
 use Rattle.cmwq_model.specs.declared.id.Who.TheVariants as whos
-use Rattle.cmwq_model.specs.Calls.{serial_of}
-use Rattle.cmwq_model.specs.Legal.{past_of}
 use Rattle.cmwq_core.specs.History.{IsThere}
 use Rattle.cmwq_monitor.specs.Participants.{View, Gains}
 use Rattle.cmwq_monitor.specs.Steps.{InStep}

@@ -1,5 +1,5 @@
 use Rattle.std.proofs.Common.{◌∙◌, subst, IsTrue}
-use Rattle.cmwq_model.specs.Layout.{Layout, is_layout}
+use Rattle.cmwq_model.specs.Prelude.{Layout, is_layout}
 use Rattle.cmwq_rt.proofs.Placing.{counts_are}
 use Rattle.cmwq_rt.proofs.hub.Hub.open.Goals as goal
 

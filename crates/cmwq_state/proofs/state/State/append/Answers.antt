@@ -1,8 +1,6 @@
 use Rattle.std.proofs.Common.{◌≡◌, ◌+◌, ◌<◌, ◌^◌, refl, ap, sym, ◌∙◌, arith, length}
 use Rattle.std.proofs.lemmas.List.{length-reverse}
-use Rattle.cmwq_model.specs.Layout.{layout_of}
-use Rattle.cmwq_model.specs.Calls.{ticks_told}
-use Rattle.cmwq_model.specs.Legal.{past_of}
+use Rattle.cmwq_model.specs.Prelude.{layout_of, ticks_told, past_of}
 use Rattle.std.proofs.Common.{ap₂}
 use Rattle.std.proofs.Math.ListN.{set}
 use Rattle.cmwq_pwq.specs.Pwqs.{width_by}

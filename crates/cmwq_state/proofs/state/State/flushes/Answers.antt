@@ -1,5 +1,4 @@
-use Rattle.cmwq_model.specs.Layout.{layout_of}
-use Rattle.cmwq_model.specs.Legal.{past_of}
+use Rattle.cmwq_model.specs.Prelude.{layout_of, past_of}
 use Rattle.cmwq_state.proofs.Ends.{flushes_found}
 use Rattle.cmwq_state.proofs.state.State.flushes.Goals as goal
 

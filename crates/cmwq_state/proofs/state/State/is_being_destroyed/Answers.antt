@@ -1,6 +1,5 @@
 use Rattle.std.proofs.Common.{◌∙◌, ap}
-use Rattle.cmwq_model.specs.Layout.{layout_of}
-use Rattle.cmwq_model.specs.Legal.{past_of}
+use Rattle.cmwq_model.specs.Prelude.{layout_of, past_of}
 use Rattle.cmwq_ticket.specs.Rows.{Rows, is_being_destroyed}
 use Rattle.cmwq_refinement.proofs.TicketsRefine.{destroyed_alike}
 use Rattle.cmwq_state.proofs.state.State.is_being_destroyed.Goals as goal

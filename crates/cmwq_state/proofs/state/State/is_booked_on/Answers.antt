@@ -1,6 +1,5 @@
 use Rattle.std.proofs.Common.{◌∙◌, ap}
-use Rattle.cmwq_model.specs.Layout.{layout_of}
-use Rattle.cmwq_model.specs.Legal.{past_of}
+use Rattle.cmwq_model.specs.Prelude.{layout_of, past_of}
 use Rattle.cmwq_timer.specs.Rows.{Rows, is_booked_on}
 use Rattle.cmwq_refinement.proofs.BookedOn.{timers_stand_on_queues}
 use Rattle.cmwq_state.proofs.state.State.is_booked_on.Goals as goal

@@ -1,5 +1,4 @@
-use Rattle.cmwq_model.specs.Legal.{past_of}
-use Rattle.cmwq_model.specs.Layout.{layout_of}
+use Rattle.cmwq_model.specs.Prelude.{past_of, layout_of}
 use Rattle.cmwq_state.proofs.Readings.{draining_read}
 use Rattle.cmwq_state.proofs.state.State.is_draining.Goals as goal
 

@@ -1,6 +1,5 @@
 use Rattle.std.proofs.Common.{◌≡◌, ◌∙◌, ◌||◌, ap, sym, is_some}
-use Rattle.cmwq_model.specs.Legal.{past_of}
-use Rattle.cmwq_model.specs.Queueings.{unstarted}
+use Rattle.cmwq_model.specs.Prelude.{past_of, unstarted}
 use Rattle.cmwq_state.specs.Flights.{run_open}
 use Rattle.cmwq_state.proofs.Readings.{open_as}
 use Rattle.cmwq_state.proofs.state.State.is_item_open.Goals as goal

@@ -1,5 +1,5 @@
 use Rattle.std.proofs.Common.{◌∙◌, ap, is_some}
-use Rattle.cmwq_model.specs.Legal.{past_of}
+use Rattle.cmwq_model.specs.Prelude.{past_of}
 use Rattle.cmwq_state.proofs.Counting.{running}
 use Rattle.cmwq_state.proofs.state.State.is_running.Goals as goal
 

@@ -1,5 +1,5 @@
 use Rattle.std.proofs.Common.{◌∙◌, ap}
-use Rattle.cmwq_model.specs.Legal.{past_of}
+use Rattle.cmwq_model.specs.Prelude.{past_of}
 use Rattle.cmwq_pool.specs.PoolState.{next}
 use Rattle.cmwq_refinement.proofs.PoolNext.{nexts_are_next}
 use Rattle.cmwq_state.proofs.state.State.next.Goals as goal

@@ -1,6 +1,5 @@
 use Rattle.std.proofs.Common.{◌∙◌, ap}
-use Rattle.cmwq_model.specs.Layout.{layout_of}
-use Rattle.cmwq_model.specs.Legal.{past_of}
+use Rattle.cmwq_model.specs.Prelude.{layout_of, past_of}
 use Rattle.cmwq_inflight.specs.Flights.{open_count}
 use Rattle.cmwq_refinement.proofs.FlightReads.{open_are_in_flight}
 use Rattle.cmwq_state.proofs.state.State.open_count.Goals as goal

@@ -1,5 +1,4 @@
-use Rattle.cmwq_model.specs.Layout.{layout_of}
-use Rattle.cmwq_model.specs.Legal.{past_of}
+use Rattle.cmwq_model.specs.Prelude.{layout_of, past_of}
 use Rattle.cmwq_state.proofs.Refine.{pool_found}
 use Rattle.cmwq_state.proofs.state.State.pool.Goals as goal
 

@@ -1,5 +1,5 @@
 use Rattle.std.proofs.Common.{◌∙◌, ap}
-use Rattle.cmwq_model.specs.Legal.{past_of}
+use Rattle.cmwq_model.specs.Prelude.{past_of}
 use Rattle.cmwq_pool.specs.PoolState.{PoolState}
 use Rattle.cmwq_pool.specs.Slots.{runnable}
 use Rattle.cmwq_refinement.proofs.PoolReads.{runnables_are_runnable}

@@ -1,5 +1,5 @@
 use Rattle.std.proofs.Common.{sym, ◌∙◌}
-use Rattle.cmwq_model.specs.Legal.{past_of}
+use Rattle.cmwq_model.specs.Prelude.{past_of}
 use Rattle.cmwq_state.proofs.Readings.{elsewhere_none}
 use Rattle.cmwq_state.proofs.state.State.runs_elsewhere.Goals as goal
 

@@ -1,5 +1,5 @@
 use Rattle.std.proofs.Common.{◌∙◌, ap}
-use Rattle.cmwq_model.specs.Legal.{past_of}
+use Rattle.cmwq_model.specs.Prelude.{past_of}
 use Rattle.cmwq_pool.specs.PoolState.{PoolState}
 use Rattle.cmwq_pool.specs.Slots.{slot_at}
 use Rattle.cmwq_pool.specs.declared.slot.Slot.{Slot}

@@ -1,4 +1,4 @@
-use Rattle.cmwq_model.specs.Layout.{layout_of}
+use Rattle.cmwq_model.specs.Prelude.{layout_of}
 use Rattle.cmwq_state.proofs.First.{book_made}
 use Rattle.cmwq_state.proofs.state.State.start.Goals as goal
 

@@ -1,6 +1,5 @@
 use Rattle.std.proofs.Common.{◌∙◌, ap}
-use Rattle.cmwq_model.specs.Layout.{layout_of}
-use Rattle.cmwq_model.specs.Legal.{past_of}
+use Rattle.cmwq_model.specs.Prelude.{layout_of, past_of}
 use Rattle.cmwq_ticket.specs.Rows.{Rows, any_ticket}
 use Rattle.cmwq_refinement.proofs.TicketsRefine.{tickets_of_any_caller}
 use Rattle.cmwq_state.proofs.state.State.ticket.Goals as goal

@@ -1,6 +1,5 @@
 use Rattle.std.proofs.Common.{◌∙◌, ap}
-use Rattle.cmwq_model.specs.Layout.{layout_of}
-use Rattle.cmwq_model.specs.Legal.{past_of}
+use Rattle.cmwq_model.specs.Prelude.{layout_of, past_of}
 use Rattle.cmwq_ticket.specs.Rows.{Rows, ticket_of}
 use Rattle.cmwq_refinement.proofs.TicketsRefine.{rows_for_callers, tickets_found_alike}
 use Rattle.cmwq_state.proofs.Readings.{no_ticket}

@@ -1,6 +1,5 @@
 use Rattle.std.proofs.Common.{◌∙◌, ap}
-use Rattle.cmwq_model.specs.Layout.{layout_of}
-use Rattle.cmwq_model.specs.Legal.{past_of}
+use Rattle.cmwq_model.specs.Prelude.{layout_of, past_of}
 use Rattle.cmwq_timer.specs.Rows.{Rows, timer_of}
 use Rattle.cmwq_refinement.proofs.TimerSteps.{row_at, rows_for_items}
 use Rattle.cmwq_state.proofs.state.State.timer.Goals as goal

@@ -3,9 +3,10 @@ use Rattle.std.proofs.lemmas.List.{length-map}
 use Rattle.cmwq_sim.specs.Plan.{item_of}
 use Rattle.serde_json.specs.View.{items_view}
 use Rattle.cmwq_json.specs.Members.{named_of}
-use Rattle.cmwq_json.specs.Readings.{items_of, told}
-use Rattle.cmwq_json.proofs.Limited.{within_limits, names_few, some_left}
-use Rattle.cmwq_json.proofs.scenario.read_lists.Goals as goal
+use Rattle.cmwq_json.specs.Readings.{told}
+use Rattle.cmwq_json_scenario.specs.Readings.{items_of}
+use Rattle.cmwq_json_scenario.proofs.Limited.{within_limits, names_few, some_left}
+use Rattle.cmwq_json_scenario.proofs.scenario.read_lists.Goals as goal
 
 pub read_items-requires : goal.read_items-requires
 read_items-requires c =

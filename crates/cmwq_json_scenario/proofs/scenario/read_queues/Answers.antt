@@ -3,9 +3,9 @@ use Rattle.serde_json.specs.View.{items_view}
 use Rattle.cmwq_json.specs.InTurn.{in_turn}
 use Rattle.cmwq_json.specs.Names.{nobody}
 use Rattle.cmwq_json.specs.Members.{named_of}
-use Rattle.cmwq_json.specs.Scenarios.{add_queue}
+use Rattle.cmwq_json_scenario.specs.Scenarios.{add_queue}
 use Rattle.cmwq_json.proofs.Turns.{went_on, stopped, done}
-use Rattle.cmwq_json.proofs.scenario.read_queues.Goals as goal
+use Rattle.cmwq_json_scenario.proofs.scenario.read_queues.Goals as goal
 
 pub loop-index-init : goal.loop-index-init
 loop-index-init c = ap (λ m. in_turn add_queue 0 m (items_view c.args.values.now)) (sym c.new-queues.ensures)

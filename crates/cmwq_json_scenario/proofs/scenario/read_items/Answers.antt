@@ -3,10 +3,10 @@ use Rattle.serde_json.specs.View.{items_view}
 use Rattle.cmwq_json.specs.InTurn.{in_turn}
 use Rattle.cmwq_json.specs.Names.{nobody, map_named}
 use Rattle.cmwq_sim.specs.Plan.{item_of}
-use Rattle.cmwq_json.specs.Readings.{items_of}
-use Rattle.cmwq_json.specs.Scenarios.{add_item}
+use Rattle.cmwq_json_scenario.specs.Readings.{items_of}
+use Rattle.cmwq_json_scenario.specs.Scenarios.{add_item}
 use Rattle.cmwq_json.proofs.Turns.{went_on, stopped, done}
-use Rattle.cmwq_json.proofs.scenario.read_items.Goals as goal
+use Rattle.cmwq_json_scenario.proofs.scenario.read_items.Goals as goal
 
 pub loop-index-init : goal.loop-index-init
 loop-index-init c = ap (λ m. in_turn (add_item (map string_bytes c.args.queue_names.now.keys)) 0 m (items_view c.args.values.now)) (sym (ap (map_named item_of) c.new-items.ensures))

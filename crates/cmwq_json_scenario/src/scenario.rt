@@ -7,14 +7,12 @@ ghost use Rattle.cmwq_sim.specs.Plan.{item_of};
 ghost use Rattle.cmwq_json.specs.InTurn.{in_turn};
 ghost use Rattle.cmwq_json.specs.Names.{nobody};
 ghost use Rattle.cmwq_json.specs.Members.{named_of};
-ghost use Rattle.cmwq_json.specs.Scenarios as spec;
-ghost use Rattle.cmwq_json.specs.Readings.{items_of, with_names_of, told, HasLimits};
+ghost use Rattle.cmwq_json.specs.Readings.{told};
+ghost use Rattle.cmwq_json_scenario.specs.Scenarios as spec;
+ghost use Rattle.cmwq_json_scenario.specs.Readings.{items_of, with_names_of, HasLimits};
 
-use crate::keys::{array_at, has_keys};
-use crate::names::{Members, in_order, number_of, read_name};
-use crate::numbers::read_number;
-use crate::queues::read_parts;
 use cmwq_input::{Part, Refused};
+use cmwq_json::{Members, array_at, has_keys, in_order, number_of, read_name, read_number, read_parts};
 use cmwq_sim::{Scenario, SimItem, SimQueue};
 use indexmap::IndexSet;
 use serde_json::Value;
