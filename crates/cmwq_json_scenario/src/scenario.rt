@@ -12,7 +12,9 @@ ghost use Rattle.cmwq_json_scenario.specs.Scenarios as spec;
 ghost use Rattle.cmwq_json_scenario.specs.Readings.{items_of, with_names_of, HasLimits};
 
 use cmwq_input::{Part, Refused};
-use cmwq_json::{Members, array_at, has_keys, in_order, number_of, read_name, read_number, read_parts};
+use cmwq_json::{
+    Members, array_at, has_keys, in_order, number_of, read_name, read_number, read_parts,
+};
 use cmwq_sim::{Scenario, SimItem, SimQueue};
 use indexmap::IndexSet;
 use serde_json::Value;

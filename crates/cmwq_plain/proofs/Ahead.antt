@@ -5,9 +5,9 @@ use Rattle.std.proofs.lemmas.List.Sums.{sum_by-append}
 use Rattle.cmwq_model.specs.declared.entry.Entry.{Entry}
 use Rattle.cmwq_model.specs.declared.record.Queueing.{Queueing}
 use Rattle.cmwq_model.specs.Prelude.{queueings, opening, still_open, is_live, is_ahead}
-use Rattle.cmwq_look.specs.Past.{upto, open_upto}
-use Rattle.cmwq_look.proofs.Parts.{upto-grows}
-use Rattle.cmwq_look.proofs.Steps.{queueings_step, open_none, open_all}
+use Rattle.cmwq_plain.specs.Past.{upto, open_upto}
+use Rattle.cmwq_plain.proofs.Parts.{upto-grows}
+use Rattle.cmwq_plain.proofs.PastSteps.{queueings_step, open_none, open_all}
 use Rattle.cmwq_plain.specs.Partial.{ahead_upto}
 
 pub and_false : (b : Bool) → (b && false) ≡ false

@@ -12,9 +12,9 @@ use Rattle.cmwq_model.specs.declared.record.Queueing.{Queueing}
 use Rattle.cmwq_model.specs.Prelude.{Layout, item_of, queueings, opening, opens, queued_at, place_wanted, is_active, is_newly_active, newly_active, is_listed, is_startable}
 use Rattle.cmwq_model.specs.Prelude.{activated, worklist, next, is_live}
 use Rattle.cmwq_theory_active.proofs.Joined.{not_live}
-use Rattle.cmwq_look.specs.Past.{upto}
-use Rattle.cmwq_look.proofs.Parts.{upto-none, upto-all, upto-grows, length-upto}
-use Rattle.cmwq_look.proofs.Steps.{queueings_step}
+use Rattle.cmwq_plain.specs.Past.{upto}
+use Rattle.cmwq_plain.proofs.Parts.{upto-none, upto-all, upto-grows, length-upto}
+use Rattle.cmwq_plain.proofs.PastSteps.{queueings_step}
 use Rattle.cmwq_plain.specs.declared.active.Candidate.{Candidate}
 use Rattle.cmwq_plain.specs.Earliest.{may_start, since, earlier, better, best_upto, queueing_of}
 

@@ -8,8 +8,8 @@ use Rattle.cmwq_model.specs.declared.id.ItemId.{ItemId}
 use Rattle.cmwq_model.specs.declared.call.Call.{Call}
 use Rattle.cmwq_model.specs.declared.call.Call.TheVariants.{CancelSync}
 use Rattle.cmwq_model.specs.Prelude.{is_by, bookings, booking_of, stands, standing, is_enlisted, enlists, is_retired, served, is_served_after, least_waited, waits_for, may_fire}
-use Rattle.cmwq_look.specs.Past.{upto}
-use Rattle.cmwq_look.proofs.Parts.{upto-none, upto-all, length-upto, upto-grows}
+use Rattle.cmwq_plain.specs.Past.{upto}
+use Rattle.cmwq_plain.proofs.Parts.{upto-none, upto-all, length-upto, upto-grows}
 use Rattle.cmwq_plain.specs.Partial.{fireable, fireable_upto, standing_upto}
 
 pub enlisted_none : (w : WorkerId) → is_enlisted [] w ≡ (w.index == 0)

@@ -5,7 +5,7 @@ use Rattle.cmwq_model.specs.declared.id.PoolId.{PoolId}
 use Rattle.cmwq_model.specs.declared.entry.Entry.{Entry}
 use Rattle.cmwq_model.specs.declared.record.Queueing.{Queueing}
 use Rattle.cmwq_model.specs.Prelude.{Layout, queueings, is_active, is_listed, is_startable}
-use Rattle.cmwq_look.specs.Past.{upto}
+use Rattle.cmwq_plain.specs.Past.{upto}
 use Rattle.cmwq_plain.specs.declared.active.Candidate.{Candidate}
 
 -- on the pool's worklist, and its item has no run

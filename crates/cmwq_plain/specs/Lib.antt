@@ -1,2 +1,3 @@
+pub mod Past
 pub mod Earliest
 pub mod Partial

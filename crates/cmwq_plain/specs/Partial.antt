@@ -7,7 +7,7 @@ use Rattle.cmwq_model.specs.declared.record.Booking.{Booking}
 use Rattle.cmwq_model.specs.declared.record.Queueing.{Queueing}
 use Rattle.cmwq_model.specs.Prelude.{bookings, standing, stands, has_run, runs_asleep, may_fire, served, is_ahead}
 use Rattle.cmwq_model.specs.declared.call.Call.TheVariants as call
-use Rattle.cmwq_look.specs.Past.{upto, open_upto}
+use Rattle.cmwq_plain.specs.Past.{upto, open_upto}
 
 -- the bookings that may fire, and those of them that the first k entries made
 abbrev pub fireable : List Entry → List Booking

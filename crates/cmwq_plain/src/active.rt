@@ -1,13 +1,17 @@
 ghost use Rattle.cmwq_model.specs.Prelude.{is_live, same_place, is_ahead, is_active, is_listed, next, is_below_max_active};
 ghost use Rattle.std.specs.Prelude.{◌≡◌, ◌&&◌, ◌<◌, ◌+◌, length, if◌then◌else◌, option_map};
-ghost use Rattle.cmwq_look.specs.Past.{upto};
+ghost use Rattle.cmwq_plain.specs.Past.{upto};
 ghost use Rattle.cmwq_theory_active.specs.Looks.{keeps_widths, was_below_max_active};
 ghost use Rattle.cmwq_plain.specs.Partial.{ahead_upto};
 ghost use Rattle.cmwq_plain.specs.Earliest.{may_start, since, earlier, better, best_upto, queueing_of};
 
+use crate::entries::is_same_pool;
+use crate::fate::is_started;
 use crate::layout::pool_at;
+use crate::past::Past;
+use crate::queueings::{is_live, opening_at};
+use crate::runs::item_runs;
 use crate::width::width;
-use cmwq_look::{Past, is_live, is_same_pool, is_started, item_runs, opening_at};
 use cmwq_model::{Number, Place, PoolId, Queueing, Reply, Shape};
 
 /// A queueing that a pool may start, and the entry that made it active.
@@ -31,7 +35,7 @@ fn is_ahead(queueing: &Queueing, other: &Queueing) -> bool
 }
 
 /// Whether the entry with this number opened one that is still open and ahead of this.
-#[tactic(auto, using(cmwq_look::proofs::Lists::filter_push, cmwq_look::proofs::Lists::count_push), unfolding(crate::specs::Partial::ahead_upto, cmwq_look::specs::Past::open_upto))]
+#[tactic(auto, using(crate::proofs::Lists::filter_push, crate::proofs::Lists::count_push), unfolding(crate::specs::Partial::ahead_upto, crate::specs::Past::open_upto))]
 fn is_ahead_at(past: &Past<'_>, queueing: &Queueing, number: usize) -> bool
     requires { number < length past.now }
     ensures { ahead_upto past.now queueing.now (number + 1)
@@ -72,7 +76,7 @@ fn is_open_below_max_active(shape: &Shape, past: &Past<'_>, queueing: &Queueing)
 }
 
 /// Whether the queueing was below max_active just before an entry that changed a width.
-#[tactic(auto, using(cmwq_look::proofs::Parts::ends, crate::proofs::Widths::had_steps))]
+#[tactic(auto, using(crate::proofs::Parts::ends, crate::proofs::Widths::had_steps))]
 fn was_below_max_active(shape: &Shape, past: &Past<'_>, queueing: &Queueing) -> bool
     ensures { result ≡ was_below_max_active shape.now past.now queueing.now }
 {
@@ -118,7 +122,7 @@ fn may_start(shape: &Shape, past: &Past<'_>, pool: PoolId, queueing: &Queueing) 
 }
 
 /// The number of the entry that made the queueing active.
-#[tactic(auto, using(cmwq_look::proofs::Parts::ends, crate::proofs::Earliest::since_steps))]
+#[tactic(auto, using(crate::proofs::Parts::ends, crate::proofs::Earliest::since_steps))]
 fn since(shape: &Shape, past: &Past<'_>, queueing: &Queueing) -> Option<Number>
     ensures { result ≡ since shape.now past.now queueing.now }
 {

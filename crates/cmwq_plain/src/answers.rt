@@ -4,14 +4,18 @@ ghost use Rattle.cmwq_model.specs.Prelude.{fired, flush_item_answer, is_held_bac
 ghost use Rattle.cmwq_model.specs.Prelude.{start_of, take_answer, finished, finish_answer, retire_answer, worker_answer, own_answer, answer};
 
 use crate::active::next;
+use crate::bookings::{booking, is_booked};
 use crate::fire::{first_due, has_timers};
-use crate::wait::waits_for;
-use crate::worker::{enlisted_by, is_enlisted, may_retire, runnable};
-use cmwq_look::{
-    Past, booking, has_run, is_being_destroyed, is_booked, is_cancelling, is_crowded, is_draining,
-    is_frozen, is_gone, is_item_open, is_pending, now, run, run_queue, runs_asleep, runs_awake,
-    runs_elsewhere, ticket_of, unstarted,
+use crate::past::Past;
+use crate::queueings::{is_item_open, is_pending, run_queue, runs_elsewhere, unstarted};
+use crate::runs::{has_run, run, runs_asleep, runs_awake};
+use crate::tally::now;
+use crate::tickets::{
+    is_being_destroyed, is_cancelling, is_crowded, is_draining, is_gone, ticket_of,
 };
+use crate::wait::waits_for;
+use crate::widths::is_frozen;
+use crate::worker::{enlisted_by, is_enlisted, may_retire, runnable};
 use cmwq_model::{Booking, Call, Number, Queueing, Reply, Shape, Ticket, Who, WorkerId};
 
 /// A worker may call only from a run that is awake.

@@ -1,10 +1,14 @@
 ghost use Rattle.std.specs.Prelude.{◌≡◌, ◌<◌, ◌+◌, ◌++◌, length, option_to_list};
 ghost use Rattle.std.specs.List.{list_any};
 ghost use Rattle.cmwq_model.specs.Prelude.{standing, may_fire, is_soonest, first_due, is_booked_on};
-ghost use Rattle.cmwq_look.specs.Past.{upto};
+ghost use Rattle.cmwq_plain.specs.Past.{upto};
 ghost use Rattle.cmwq_plain.specs.Partial.{fireable, fireable_upto, standing_upto};
 
-use cmwq_look::{Past, booking_of, is_draining, now, stands};
+use crate::bookings::stands;
+use crate::entries::booking_of;
+use crate::past::Past;
+use crate::tally::now;
+use crate::tickets::is_draining;
 use cmwq_model::Booking;
 
 fn may_fire(past: &Past<'_>, made: &Booking) -> bool
@@ -14,7 +18,7 @@ fn may_fire(past: &Past<'_>, made: &Booking) -> bool
 }
 
 /// The booking that the entry with this number made, if it may fire.
-#[tactic(auto, using(cmwq_look::proofs::Parts::ends, cmwq_look::proofs::Lists::filter_push, crate::proofs::Steps::bookings_step), unfolding(crate::specs::Partial::fireable_upto))]
+#[tactic(auto, using(crate::proofs::Parts::ends, crate::proofs::Lists::filter_push, crate::proofs::Steps::bookings_step), unfolding(crate::specs::Partial::fireable_upto))]
 fn fireable_at(past: &Past<'_>, number: usize) -> Option<Booking>
     requires { number < length past.now }
     ensures { fireable_upto past.now (number + 1)
@@ -33,7 +37,7 @@ fn fireable_at(past: &Past<'_>, number: usize) -> Option<Booking>
 }
 
 /// Whether nothing that may fire is due before this booking.
-#[tactic(auto, using(cmwq_look::proofs::Lists::any_push, crate::proofs::Steps::fireable_ends))]
+#[tactic(auto, using(crate::proofs::Lists::any_push, crate::proofs::Steps::fireable_ends))]
 fn is_soonest(past: &Past<'_>, made: &Booking) -> bool
     ensures { result ≡ is_soonest (fireable past.now) made.now }
 {
@@ -49,7 +53,7 @@ fn is_soonest(past: &Past<'_>, made: &Booking) -> bool
 }
 
 /// The booking that fires first.
-#[tactic(auto, using(cmwq_look::proofs::Lists::find_push, crate::proofs::Steps::fireable_ends), unfolding(cmwq_model::specs::Answer::first_due))]
+#[tactic(auto, using(crate::proofs::Lists::find_push, crate::proofs::Steps::fireable_ends), unfolding(cmwq_model::specs::Answer::first_due))]
 pub fn first_due(past: &Past<'_>) -> Option<Booking>
     ensures { result ≡ first_due past.now }
 {
@@ -65,7 +69,7 @@ pub fn first_due(past: &Past<'_>) -> Option<Booking>
 }
 
 /// The booking that the entry with this number made, if it stands.
-#[tactic(auto, using(cmwq_look::proofs::Parts::ends, cmwq_look::proofs::Lists::filter_push, crate::proofs::Steps::bookings_step), unfolding(crate::specs::Partial::standing_upto))]
+#[tactic(auto, using(crate::proofs::Parts::ends, crate::proofs::Lists::filter_push, crate::proofs::Steps::bookings_step), unfolding(crate::specs::Partial::standing_upto))]
 fn standing_at(past: &Past<'_>, number: usize) -> Option<Booking>
     requires { number < length past.now }
     ensures { standing_upto past.now (number + 1)
@@ -84,7 +88,7 @@ fn standing_at(past: &Past<'_>, number: usize) -> Option<Booking>
 }
 
 /// Whether an item is delayed on the queue.
-#[tactic(auto, using(cmwq_look::proofs::Lists::any_push, crate::proofs::Steps::standing_ends))]
+#[tactic(auto, using(crate::proofs::Lists::any_push, crate::proofs::Steps::standing_ends))]
 pub fn has_timers(past: &Past<'_>, queue: u8) -> bool
     ensures { result ≡ list_any (is_booked_on queue) (standing past.now) }
 {

@@ -6,12 +6,21 @@
 
 mod active;
 mod answers;
+mod bookings;
+mod entries;
+mod fate;
 mod fire;
 mod layout;
+mod past;
+mod queueings;
 mod room;
+mod runs;
+mod tally;
+mod tickets;
 mod verdict;
 mod wait;
 mod width;
+mod widths;
 mod worker;
 
 ghost use Rattle.std.specs.Prelude.{◌≡◌, ◌≤◌, length};
@@ -19,10 +28,23 @@ ghost use Rattle.cmwq_model.specs.Calls as calls;
 ghost use Rattle.cmwq_model.specs.Prelude.{answer, past_of};
 ghost use Rattle.cmwq_model.specs.Room as room;
 
-use cmwq_look::Past;
-use cmwq_model::{Call, Entry, Reply, Shape, Who};
+pub use bookings::{booking, is_booked, stands};
 pub use cmwq_model::{Illegal, Wanted};
+use cmwq_model::{Call, Entry, Reply, Shape, Who};
+pub use entries::{booking_of, is_by, is_same_pool};
+pub use fate::is_started;
+pub use past::Past;
+pub use queueings::{
+    is_item_open, is_live, is_pending, open_at, opening_at, run_queue, runs_elsewhere, unstarted,
+};
+pub use runs::{has_run, item_run, item_runs, run, runs_asleep, runs_awake};
+pub use tally::now;
+pub use tickets::{
+    flushes, is_being_destroyed, is_cancelling, is_crowded, is_draining, is_gone, ticket_of,
+    unended_at,
+};
 pub use verdict::{all_fit, check};
+pub use widths::{is_frozen, width_set};
 
 /// The one right answer to the call after this history.
 pub fn reply_of(shape: &Shape, entries: &[Entry], who: Who, call: Call) -> Reply
@@ -37,7 +59,7 @@ pub fn serial_of(entries: &[Entry], who: Who) -> u64
     requires { length entries.now ≤ 1000000 }
     ensures { result ≡ calls.serial_of (past_of entries.now) who }
 {
-    cmwq_look::serial_of(&Past::new(entries), who)
+    tally::serial_of(&Past::new(entries), who)
 }
 
 /// Whether the history with the call's entry, and what it then still owes, is within the shape's room, and its time within 2^62 ticks. A call without

@@ -3,17 +3,22 @@ ghost use Rattle.std.specs.List.{range_with_len};
 ghost use Rattle.cmwq_model.specs.Prelude.{is_booked, still_open, unended, pool_workers, cpu_workers, workers, has_not_started, owed, needed, has_time};
 ghost use Rattle.cmwq_plain.specs.Partial.{owed_by_runs};
 
+use crate::bookings::is_booked;
+use crate::fate::is_started;
 use crate::layout::{cpus, items, workers};
-use cmwq_look::{
-    Past, has_run, is_booked, is_frozen, is_started, now, open_at, runs_asleep, unended_at,
-};
+use crate::past::Past;
+use crate::queueings::open_at;
+use crate::runs::{has_run, runs_asleep};
+use crate::tally::now;
+use crate::tickets::unended_at;
+use crate::widths::is_frozen;
 use cmwq_model::{Call, CpuId, PoolId, Shape, WorkerId};
 
 /// The time that a history may come to.
 const MOST_TIME: u64 = 4_611_686_018_427_387_904;
 
 /// How many open queueings haven't started.
-#[tactic(auto, using(cmwq_look::proofs::Lists::count_push, cmwq_look::proofs::Steps::open_ends))]
+#[tactic(auto, using(crate::proofs::Lists::count_push, crate::proofs::PastSteps::open_ends))]
 fn count_unstarted(past: &Past<'_>) -> usize
     ensures count { result ≡ count_by (has_not_started past.now) (still_open past.now) }
     ensures small { result ≤ 1000001 }
@@ -30,7 +35,7 @@ fn count_unstarted(past: &Past<'_>) -> usize
 }
 
 /// How many tickets are unended.
-#[tactic(auto, using(cmwq_look::proofs::Lists::length_push, cmwq_look::proofs::Steps::unended_ends))]
+#[tactic(auto, using(crate::proofs::Lists::length_push, crate::proofs::PastSteps::unended_ends))]
 fn count_unended(past: &Past<'_>) -> usize
     ensures count { result ≡ length (unended past.now) }
     ensures small { result ≤ 1000001 }

@@ -2,11 +2,14 @@ ghost use Rattle.std.specs.Prelude.{◌≡◌, Option};
 ghost use Rattle.cmwq_model.specs.Prelude.{is_served_after, served, is_within, holds_up, least_waited, waits_for};
 ghost use Rattle.cmwq_plain.specs.Partial.{served_by};
 
-use cmwq_look::{Past, flushes, item_run, open_at, unended_at};
+use crate::past::Past;
+use crate::queueings::open_at;
+use crate::runs::item_run;
+use crate::tickets::{flushes, unended_at};
 use cmwq_model::{Call, Number, Queueing};
 
 /// Whether fewer than 15 older flushes of the queue are unended.
-#[tactic(auto, using(cmwq_look::proofs::Lists::count_push, cmwq_look::proofs::Steps::unended_ends))]
+#[tactic(auto, using(crate::proofs::Lists::count_push, crate::proofs::PastSteps::unended_ends))]
 fn is_served_after(past: &Past<'_>, queue: u8, number: Number) -> bool
     ensures { result ≡ is_served_after past.now queue number }
 {
@@ -22,7 +25,7 @@ fn is_served_after(past: &Past<'_>, queue: u8, number: Number) -> bool
 }
 
 /// The position from which the flush with this number is served.
-#[tactic(auto, using(cmwq_look::proofs::Parts::ends, crate::proofs::Steps::served_steps))]
+#[tactic(auto, using(crate::proofs::Parts::ends, crate::proofs::Steps::served_steps))]
 fn served(past: &Past<'_>, queue: u8, number: Number) -> Option<Number>
     ensures { result ≡ served past.now queue number }
 {
@@ -80,7 +83,7 @@ fn holds_up(
 }
 
 /// The least queueing that the ticket waits for.
-#[tactic(auto, using(cmwq_look::proofs::Lists::find_push, cmwq_look::proofs::Steps::open_ends))]
+#[tactic(auto, using(crate::proofs::Lists::find_push, crate::proofs::PastSteps::open_ends))]
 fn least_waited(past: &Past<'_>, number: Number, call: Call) -> Option<Number>
     ensures { result ≡ least_waited past.now number call }
 {

@@ -2,11 +2,12 @@ ghost use Rattle.std.specs.Prelude.{◌≡◌};
 ghost use Rattle.cmwq_model.specs.Prelude.{max_active, width};
 
 use crate::layout::{first_width, is_freezable};
-use cmwq_look::{Past, is_frozen, width_set};
+use crate::past::Past;
+use crate::widths::{is_frozen, width_set};
 use cmwq_model::Shape;
 
 /// Max_active of the queue: what it was set to last.
-#[tactic(auto, using(cmwq_look::proofs::Parts::ends, crate::proofs::Widths::max_steps))]
+#[tactic(auto, using(crate::proofs::Parts::ends, crate::proofs::Widths::max_steps))]
 fn max_active(shape: &Shape, past: &Past<'_>, queue: u8) -> u32
     ensures { result ≡ max_active shape.now past.now queue }
 {

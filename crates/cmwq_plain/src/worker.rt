@@ -4,8 +4,11 @@ ghost use Rattle.std.specs.Option.{option_map_or};
 ghost use Rattle.cmwq_model.specs.Prelude.{indices, is_intensive, run_queue, worker_at, index_enlisted, is_in_pool, enlists, is_retired, is_enlisted, is_occupied, is_idle};
 ghost use Rattle.cmwq_model.specs.Prelude.{is_reserve, is_holding, runnable, is_other_idle, enlisted_by, has_spare, may_retire};
 
+use crate::entries::{is_by, is_same_pool};
 use crate::layout::{is_intensive, workers};
-use cmwq_look::{Past, has_run, is_by, is_same_pool, run_queue, runs_awake};
+use crate::past::Past;
+use crate::queueings::run_queue;
+use crate::runs::{has_run, runs_awake};
 use cmwq_model::{Entry, PoolId, Reply, Shape, Who, WorkerId};
 
 fn worker_at(pool: PoolId, index: u8) -> WorkerId
@@ -32,7 +35,7 @@ fn enlists(entry: &Entry, worker: WorkerId) -> bool
 }
 
 /// Whether the worker is enlisted: worker 0 is at first.
-#[tactic(auto, using(cmwq_look::proofs::Parts::ends, crate::proofs::Steps::enlisted_steps))]
+#[tactic(auto, using(crate::proofs::Parts::ends, crate::proofs::Steps::enlisted_steps))]
 pub fn is_enlisted(past: &Past<'_>, worker: WorkerId) -> bool
     ensures { result ≡ is_enlisted past.now worker }
 {

@@ -1,8 +1,8 @@
 use crate::fixture::{
     CALLER, FIRST, FLUSH, POOL, WORKER, entry, finished, first_run, queue, queued, started,
 };
-use cmwq_look::*;
 use cmwq_model::{Call, Entry, ItemId, QueueId, Reply};
+use cmwq_plain::*;
 use std::process::Abort;
 use std::test::Fail;
 
@@ -17,10 +17,9 @@ fn parts_of_a_history(rt: HostRuntime) {
 
 #[test]
 fn each_counts_its_own(rt: HostRuntime) {
-    let entries = [queued(), started()];
-    let past = Past::with(&entries, finished());
+    let entries = [queued(), started(), finished()];
     assert_eq!(rt;
-        (serial_of(&past, CALLER), serial_of(&past, WORKER)),
+        (serial_of(&entries, CALLER), serial_of(&entries, WORKER)),
         (1, 2)
     );
     assert!(rt; is_same_pool(POOL, POOL));

@@ -1,5 +1,5 @@
 use Rattle.std.proofs.Common.{◌≡◌}
-use Rattle.cmwq_look.specs.Past.{upto}
+use Rattle.cmwq_plain.specs.Past.{upto}
 use Rattle.cmwq_plain.specs.Earliest.{since}
 use Rattle.cmwq_plain.proofs.active.since.Given as goal
 

@@ -1,5 +1,5 @@
 use Rattle.std.proofs.Common.{◌≡◌, ◌≤◌, length}
-use Rattle.cmwq_look.specs.Past.{unended_upto}
+use Rattle.cmwq_plain.specs.Past.{unended_upto}
 use Rattle.cmwq_plain.proofs.room.count_unended.Given as goal
 
 abbrev pub invariant-loop-k : goal.invariant-loop-k

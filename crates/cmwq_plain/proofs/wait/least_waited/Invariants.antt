@@ -1,5 +1,5 @@
 use Rattle.std.proofs.Common.{◌≡◌, find}
-use Rattle.cmwq_look.specs.Past.{open_upto}
+use Rattle.cmwq_plain.specs.Past.{open_upto}
 use Rattle.cmwq_model.specs.Prelude.{holds_up}
 use Rattle.cmwq_plain.proofs.wait.least_waited.Given as goal
 

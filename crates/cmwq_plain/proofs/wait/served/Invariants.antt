@@ -1,5 +1,5 @@
 use Rattle.std.proofs.Common.{◌≡◌}
-use Rattle.cmwq_look.specs.Past.{upto}
+use Rattle.cmwq_plain.specs.Past.{upto}
 use Rattle.cmwq_model.specs.Prelude.{served}
 use Rattle.cmwq_plain.proofs.wait.served.Given as goal
 

@@ -1,7 +1,0 @@
-use Rattle.std.proofs.Common.{◌≡◌}
-use Rattle.cmwq_look.specs.Past.{upto}
-use Rattle.cmwq_model.specs.Prelude.{booking}
-use Rattle.cmwq_look.proofs.bookings.booking.Given as goal
-
-abbrev pub invariant-loop-k : goal.invariant-loop-k
-invariant-loop-k l = l.standing ≡ booking (upto l.past l.k) l.item

@@ -1,7 +1,0 @@
-use Rattle.std.proofs.Common.{◌≡◌, find}
-use Rattle.cmwq_look.specs.Past.{open_upto}
-use Rattle.cmwq_model.specs.Prelude.{is_unstarted}
-use Rattle.cmwq_look.proofs.queueings.unstarted.Given as goal
-
-abbrev pub invariant-loop-k : goal.invariant-loop-k
-invariant-loop-k l = l.found ≡ find (is_unstarted l.past l.item) (open_upto l.past l.k)

@@ -1,7 +1,0 @@
-use Rattle.std.proofs.Common.{◌≡◌}
-use Rattle.cmwq_look.specs.Past.{upto}
-use Rattle.cmwq_model.specs.Prelude.{is_asleep}
-use Rattle.cmwq_look.proofs.runs.is_asleep.Given as goal
-
-abbrev pub invariant-loop-k : goal.invariant-loop-k
-invariant-loop-k l = l.asleep ≡ is_asleep (upto l.past l.k) l.worker

@@ -1,7 +1,0 @@
-use Rattle.std.proofs.Common.{◌≡◌, ◌≤◌}
-use Rattle.cmwq_look.specs.Past.{upto}
-use Rattle.cmwq_model.specs.Prelude.{serial_of}
-use Rattle.cmwq_look.proofs.tally.serial_of.Given as goal
-
-abbrev pub invariant-loop-number : goal.invariant-loop-number
-invariant-loop-number l = (l.serial ≡ serial_of (upto l.past l.number) l.who) × (l.serial ≤ l.number)

@@ -1,8 +1,0 @@
-use Rattle.std.proofs.Common.{◌≡◌}
-use Rattle.cmwq_look.specs.Past.{unended_upto}
-use Rattle.cmwq_model.specs.Prelude.{is_destroy_of}
-use Rattle.std.specs.List.{list_any}
-use Rattle.cmwq_look.proofs.tickets.is_being_destroyed.Given as goal
-
-abbrev pub invariant-loop-k : goal.invariant-loop-k
-invariant-loop-k l = l.destroying ≡ list_any (is_destroy_of l.queue) (unended_upto l.past l.k)

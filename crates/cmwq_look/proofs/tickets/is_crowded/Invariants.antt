@@ -1,7 +1,0 @@
-use Rattle.std.proofs.Common.{◌≡◌, ◌≤◌, count_by}
-use Rattle.cmwq_look.specs.Past.{unended_upto}
-use Rattle.cmwq_model.specs.Prelude.{is_held_by}
-use Rattle.cmwq_look.proofs.tickets.is_crowded.Given as goal
-
-abbrev pub invariant-loop-k : goal.invariant-loop-k
-invariant-loop-k l = (l.count ≡ count_by (is_held_by l.who) (unended_upto l.past l.k)) × (l.count ≤ l.k)

@@ -1,7 +1,0 @@
-use Rattle.std.proofs.Common.{◌≡◌}
-use Rattle.cmwq_look.specs.Past.{upto}
-use Rattle.cmwq_model.specs.Prelude.{is_gone}
-use Rattle.cmwq_look.proofs.tickets.is_gone.Given as goal
-
-abbrev pub invariant-loop-k : goal.invariant-loop-k
-invariant-loop-k l = l.gone ≡ is_gone (upto l.past l.k) l.queue

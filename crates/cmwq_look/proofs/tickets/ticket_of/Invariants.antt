@@ -1,7 +1,0 @@
-use Rattle.std.proofs.Common.{◌≡◌, find}
-use Rattle.cmwq_look.specs.Past.{unended_upto}
-use Rattle.cmwq_model.specs.Prelude.{is_ticket}
-use Rattle.cmwq_look.proofs.tickets.ticket_of.Given as goal
-
-abbrev pub invariant-loop-k : goal.invariant-loop-k
-invariant-loop-k l = l.found ≡ find (is_ticket l.who l.number) (unended_upto l.past l.k)

@@ -1,7 +1,0 @@
-use Rattle.std.proofs.Common.{◌≡◌}
-use Rattle.cmwq_look.specs.Past.{upto}
-use Rattle.cmwq_model.specs.Prelude.{is_frozen}
-use Rattle.cmwq_look.proofs.widths.is_frozen.Given as goal
-
-abbrev pub invariant-loop-k : goal.invariant-loop-k
-invariant-loop-k l = l.frozen ≡ is_frozen (upto l.past l.k)
