@@ -11,7 +11,7 @@ use Rattle.cmwq_model.specs.declared.call.Call.{Call}
 use Rattle.cmwq_model.specs.declared.entry.Entry.{Entry}
 use Rattle.cmwq_model.specs.declared.shape.QueueShape.{QueueShape}
 use Rattle.cmwq_model.specs.declared.verdict.Illegal.{Illegal}
-use Rattle.cmwq_model.specs.Prelude.{Layout, most_room, is_layout, fits, IsWho, IsCall, IsEntry, greatest, IsLegal, past_of, now, most_time}
+use Rattle.cmwq_model.specs.Prelude.{Layout, most_room, is_layout, fits, IsWho, IsCall, greatest, IsLegal, past_of, now, most_time}
 use Rattle.cmwq_theory_laws.proofs.FirstWrong.{wrong_are_illegal}
 use Rattle.cmwq_theory_laws.proofs.InRange.{legal_histories_fit}
 use Rattle.cmwq_theory_laws.proofs.WithinRoom.{steps_within_room}

@@ -1,6 +1,6 @@
 -- No entry of a legal history tells a later time than that at its end.
-use Rattle.std.proofs.Common.{◌≡◌, ◌≤◌, ◌+◌, ◌<◌, ◌-◌, ℕ, true, List, [], ◌∷◌, length, subst, sym, arith, refl}
-use Rattle.std.specs.Prelude.{reverse, IsTrue}
+use Rattle.std.proofs.Common.{◌≡◌, ◌≤◌, ◌+◌, ◌<◌, ◌-◌, ℕ, true, List, [], ◌∷◌, subst, arith, refl}
+use Rattle.std.specs.Prelude.{IsTrue}
 use Rattle.std.specs.List.{All, AllByRecursion}
 use Rattle.std.proofs.lemmas.Bool.{le-leb}
 use Rattle.std.proofs.lemmas.List.{reverse-reverse}

@@ -5,7 +5,6 @@ use Rattle.cmwq_io.specs.Moves.{AppendsFront}
 use Rattle.cmwq_model.specs.declared.entry.Entry.{Entry}
 use Rattle.cmwq_model.specs.Prelude.{IsLegal, past_of}
 use Rattle.cmwq_text.specs.HistoryText.{text_of_format}
-use Rattle.cmwq_input.specs.declared.fault.Fault.{Fault}
 use Rattle.cmwq_input.specs.declared.fault.Fault.TheVariants as fault
 use Rattle.cmwq_input.specs.Inputs.{Says, IsNoJson, IsLong}
 use Rattle.cmwq_input.specs.Statuses.{fault_status}

@@ -1,11 +1,10 @@
 -- How calls go on behind others.
 use Rattle.std.proofs.Common.{◌≡◌, ℕ, ◌+◌, ◌≤◌, List, [], ◌∷◌, ◌++◌, Option, Some, None, refl, sym, ap, ◌∙◌, append_assoc, append-nil, inl, inr, zero, suc, arith}
-use Rattle.std.proofs.lemmas.List.{replicate_more}
 use Rattle.std.proofs.lemmas.List.Elements.{All-append}
 use Rattle.std.proofs.lemmas.Grind.{flat_map-append}
 use Rattle.std.specs.Prelude.{All}
 use Rattle.cmwq_io.specs.declared.trouble.Trouble.{Trouble}
-use Rattle.cmwq_io.specs.declared.trouble.Trouble.TheVariants.{Interrupted, Failed}
+use Rattle.cmwq_io.specs.declared.trouble.Trouble.TheVariants.{Failed}
 use Rattle.cmwq_io.specs.Outcomes.{interruptions, made_after, IsAllMade, IsGivenUp, EndsGivenUp, GoesOnBy}
 
 abbrev Calls : Type 0
@@ -13,9 +12,6 @@ Calls = List (Option Trouble)
 
 parts : (a b c : Calls) (xs ys : Calls) → b ≡ a ++ xs → c ≡ b ++ ys → c ≡ a ++ (xs ++ ys)
 parts a b c xs ys p q = q ∙ ap (λ l. l ++ ys) p ∙ append_assoc a xs ys
-
-pub once_more : (a b c : Calls) (n : ℕ) → b ≡ a ++ interruptions n → c ≡ b ++ Some Interrupted ∷ [] → c ≡ a ++ interruptions (n + 1)
-once_more a b c n p q = parts a b c _ _ p q ∙ ap (λ l. a ++ l) (replicate_more n (Some Interrupted))
 
 only : (n : ℕ) → n ≤ 1000 → All (λ m. m ≤ 1000) (n ∷ [])
 only n few zero d inside = few

@@ -1,22 +1,21 @@
 -- What a value names keeps to the limits.
-use Rattle.std.proofs.Common.{◌≡◌, ℕ, zero, suc, ◌<◌, ◌≤◌, ◌&&◌, Bool, true, false, not, nat_lt, nat_le, ◌==◌, map, List, [], ◌∷◌, ◌++◌, length, cond, Option, Some, None, Result, Ok, Err, refl, sym, ap, subst, ◌∙◌, arith, if◌then◌else◌, length-append}
-use Rattle.std.specs.Prelude.{option_map, option_and_then, codes, IfSome, min, position}
+use Rattle.std.proofs.Common.{◌≡◌, ℕ, ◌<◌, ◌≤◌, ◌&&◌, Bool, true, false, ◌==◌, map, List, [], ◌∷◌, ◌++◌, length, Option, Some, None, Result, Ok, Err, refl, sym, subst, ◌∙◌, arith, if◌then◌else◌}
+use Rattle.std.specs.Prelude.{option_map, option_and_then, codes, IfSome}
 use Rattle.std.specs.Str.{bytes_eq}
-use Rattle.std.specs.List.{AllByRecursion, position_or_len}
-use Rattle.std.proofs.lemmas.Bool.{and_parts, eq-eqb, ne_eqb}
+use Rattle.std.specs.List.{AllByRecursion}
+use Rattle.std.proofs.lemmas.Bool.{eq-eqb}
 use Rattle.std.proofs.lemmas.List.{length-map}
-use Rattle.std.proofs.lemmas.Bool.Decides.{nat_tests}
 use Rattle.std.proofs.lemmas.Option.{same_Some}
 use Rattle.serde_json.specs.Data.{Data, Items}
-use Rattle.serde_json.specs.Find.{get, as_bool, as_str, as_array, as_number, as_u64}
+use Rattle.serde_json.specs.Find.{get, as_str, as_array}
 use Rattle.cmwq_sim.specs.declared.scenario.SimQueue.{SimQueue}
 use Rattle.cmwq_sim.specs.Plan.{Item}
 use Rattle.cmwq_sim.specs.Limits.{IsBetween, IsQueue, IsItem, IsWithinLimits}
 use Rattle.cmwq_json.specs.InTurn.{in_turn}
 use Rattle.cmwq_json.specs.Keys.{has_keys}
-use Rattle.cmwq_json.specs.Names.{Named, nobody, add_named, is_between, is_taken, name_said, number_of}
-use Rattle.cmwq_json.specs.Numbers.{number_between, width_for, width_said}
-use Rattle.cmwq_json.specs.Queues.{with_parts, parts_said}
+use Rattle.cmwq_json.specs.Names.{Named, nobody, add_named, is_between, name_said, number_of}
+use Rattle.cmwq_json.specs.Numbers.{number_between}
+use Rattle.cmwq_json.specs.Queues.{parts_said}
 use Rattle.cmwq_json_scenario.specs.Scenarios.{queue_said, add_queue, add_part, if_few, ms_said, queue_number, item_with, item_said, add_item}
 use Rattle.cmwq_json.proofs.Turns.{kept}
 use Rattle.cmwq_json.proofs.Limited.{AreKept, added, all_pushed, between, number_limits, parts_limits, placed, then_said}

@@ -12,7 +12,7 @@ use Rattle.cmwq_monitor.specs.Participants.{View, made_by}
 use Rattle.cmwq_monitor.specs.Calls.{Extends, own_entry}
 use Rattle.cmwq_monitor.specs.declared.fault.RunFault.{RunFault}
 use Rattle.cmwq_monitor.specs.declared.fault.RunFault.TheVariants.{NoMemory}
-use Rattle.cmwq_monitor.specs.Whole.{Completes, BrokeOff, Behind, Fires, EndsOwn, EndsFiring, EndsWhole, EndsTicket, Stops, is_tick, is_drain, ticket_given, ticket_left}
+use Rattle.cmwq_monitor.specs.Whole.{Completes, BrokeOff, Behind, Fires, EndsOwn, EndsFiring, EndsTicket, Stops, is_tick, is_drain, ticket_given, ticket_left}
 use Rattle.cmwq_monitor.specs.Steps.{HasFired, HasFiredSome, HasEnded, HasEndedSome, still_unended}
 use Rattle.cmwq_monitor.proofs.Entries.{gains_none, gains_more}
 use Rattle.cmwq_monitor.proofs.Firing.{ends_extended}
@@ -44,19 +44,6 @@ tick_completes s v m w c r is x fired =
       counts = fired.counts;
       ends = rw is (subst (λ who. EndsFiring s who w.seen) same fired.ends);
       legal = fired.legal;
-    }
-
--- a call of one entry
-pub alone_completes : (s : Layout) (v w : View) (c : Call) (r : Reply) → is_tick c ≡ false → ticket_given r ≡ None → Extends s v c r w → Completes s v c r w
-alone_completes s v w c r is none x =
-    let e = own_entry s x.before v c in record {
-      entries = e ∷ [];
-      gains = x.gains;
-      makes = record { first = e; rest = []; all = refl; is = (refl, sym x.reply); behind = rw (is, none) refl };
-      serials = ap (λ n. n ∷ []) x.serial;
-      counts = x.counts;
-      ends = rw is (ends_own s v.who w.seen (is_drain c) (ends_extended s v w c r x));
-      legal = x.legal;
     }
 
 left_more : (e : Entry) (es : List Entry) → ticket_given e.reply ≡ None → ticket_left (e ∷ es) ≡ None

@@ -18,7 +18,7 @@ use Rattle.cmwq_theory_steps.proofs.TicketSteps.{unended_go_on}
 use Rattle.cmwq_theory_steps.proofs.Truth.{and_true, and_false}
 use Rattle.cmwq_ticket.specs.Counts.{is_counted}
 use Rattle.cmwq_ticket.specs.Rows as row
-use Rattle.cmwq_ticket.specs.Rows.{Rows, row_of, is_numbered, is_other, comes_before, any_ticket, may_give, count}
+use Rattle.cmwq_ticket.specs.Rows.{row_of, is_numbered, is_other, comes_before, any_ticket, may_give, count}
 use Rattle.cmwq_refinement.specs.Told.{number_of_ticket, ticket_given}
 use Rattle.cmwq_refinement.specs.Tickets.{the_caller, tickets_held, rows_of, tickets_of, told_ended, told_given, told, MayEnd, MayGive, MayBeTold}
 use Rattle.cmwq_refinement.proofs.Members.{In, of_in, all_in, in_right, option_in, filter_in}

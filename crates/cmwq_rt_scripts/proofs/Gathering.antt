@@ -3,20 +3,16 @@ use Rattle.std.proofs.Common.{◌≡◌, ◌⊎◌, ℕ, zero, suc, ◌+◌, ◌
 use Rattle.std.proofs.lemmas.Bool.{ltb-true, ltb-false}
 use Rattle.std.specs.Prelude.{Some, None, nat_lt, slice_get}
 use mathlib.Core.List.{IsPrefix}
-use Rattle.cmwq_model.specs.declared.id.Who.{Who}
-use Rattle.cmwq_model.specs.declared.id.Who.TheVariants.{Worker}
 use Rattle.cmwq_model.specs.declared.id.WorkerId.{WorkerId}
 use Rattle.cmwq_model.specs.declared.call.Call.{Call}
 use Rattle.cmwq_model.specs.declared.entry.Entry.{Entry}
 use Rattle.cmwq_model.specs.Prelude.{Layout, serial_of, past_of}
 use Rattle.cmwq_monitor.specs.Participants.{View, made_by, newcomer}
 use Rattle.cmwq_monitor.specs.Settled.{Settles}
-use Rattle.cmwq_monitor.proofs.Beginnings.{prefix_trans}
 use Rattle.cmwq_monitor.proofs.Entries.{made_length, made_same}
 use Rattle.cmwq_rt.specs.Places.{worker_at, next_after}
-use Rattle.cmwq_rt.specs.Running.{Behavior}
 use Rattle.cmwq_rt.specs.Scripts.{Follows}
-use Rattle.cmwq_rt_scripts.specs.Ended.{caller_at, FollowedAt, FollowsIn, AllFollow, WorkedFrom, WorkedIn}
+use Rattle.cmwq_rt_scripts.specs.Ended.{caller_at, FollowedAt, FollowsIn, AllFollow}
 use Rattle.cmwq_rt.proofs.Following.{follows_later}
 
 pushed : {X : Type 0} (xs : List X) (e x : X) (k : ℕ) → slice_get (xs ++ e ∷ []) k ≡ Some x → (slice_get xs k ≡ Some x) ⊎ ((k ≡ length xs) × (e ≡ x))
@@ -69,16 +65,6 @@ worker_within s n k x none is = test (nat_lt k n) refl
         let sum : n + (k - n) ≡ k = omega (arith, le) in
         absurd (cc (sym is ∙ ap (worker_at s) (sym sum) ∙ none_behind s n (k - n) none))
 
--- a worker that has worked, in the whole history
-pub worked_in : (s : Layout) (does : Behavior) (x : WorkerId) (h : List Entry) (v w : View) → WorkedFrom s does (newcomer (Worker x)) v → Settles h v w → WorkedIn s does x h
-worked_in s does x h v w (same, (n, last, runs, settles)) settled = record {
-  runs = n;
-  last = last;
-  in_turn = runs;
-  older = prefix_trans last.seen v.seen h settles.1 settled.1;
-  own = subst (λ who. serial_of (past_of h) who ≡ last.serial) same (settled.2 ∙ ap (λ (u : View). u.serial) settles.0);
-}
-
 none_made : (xs : List Entry) → length xs ≡ 0 → xs ≡ []
 none_made [] is = refl
 none_made (x ∷ xs) is = absurd (cc is)
@@ -104,9 +90,3 @@ pub gathered : {V : Type 0} (f : V → List Call) (s : Layout) (h : List Entry) 
 gathered f s h [] k place n full lt one rest = absurd (omega arith)
 gathered f s h (v ∷ vs) zero place n full lt one rest = (n, full, one v refl, rest, refl)
 gathered f s h (v ∷ vs) (suc k) place n full lt one rest = gathered f s h vs k place n full (omega arith) one rest
-
-pub gathered_none : {V : Type 0} (f : V → List Call) (s : Layout) (h : List Entry) (vs : List V) (k place : ℕ) → length vs ≤ k → AllFollow s place (drop k (map f vs)) 0 h
-gathered_none f s h [] zero place le = refl
-gathered_none f s h [] (suc k) place le = refl
-gathered_none f s h (v ∷ vs) zero place le = absurd (omega arith)
-gathered_none f s h (v ∷ vs) (suc k) place le = gathered_none f s h vs k place (omega arith)

@@ -3,14 +3,14 @@ use Rattle.std.proofs.Common.{◌≡◌, ◌==◌, ◌<◌, ◌≤◌, ◌+◌, 
 use Rattle.std.specs.Prelude.{option_map, sum_by, if◌then◌else◌}
 use Rattle.std.specs.List.{AllByRecursion, range_with_len, list_any}
 use Rattle.std.proofs.lemmas.List.{map-append, get_or-set_same, get_or-set_other, length-set}
-use Rattle.std.proofs.lemmas.Bool.{lt-ltb, eq-eqb, eqb-true, ne_eqb}
+use Rattle.std.proofs.lemmas.Bool.{lt-ltb, eq-eqb, eqb-true}
 use Rattle.cmwq_model.specs.declared.id.Who.{Who}
 use Rattle.cmwq_model.specs.declared.id.Who.TheVariants.{Worker}
 use Rattle.cmwq_model.specs.declared.call.Call.{Call}
 use Rattle.cmwq_model.specs.declared.entry.Entry.{Entry}
 use Rattle.cmwq_model.specs.declared.record.Queueing.{Queueing}
 use Rattle.cmwq_model.specs.declared.id.WorkerId.{WorkerId}
-use Rattle.cmwq_model.specs.Prelude.{fits, is_workers, has_numbers, has_time, has_room, entry_for, has_number, run, needed}
+use Rattle.cmwq_model.specs.Prelude.{fits, has_time, has_room, entry_for, has_number, run, needed}
 use Rattle.cmwq_model.specs.declared.call.Call.TheVariants as call
 use Rattle.cmwq_theory_steps.proofs.Pools.{runs_are_in_pools}
 use Rattle.cmwq_theory_steps.proofs.Growing.{one_more_is_newest}
@@ -43,7 +43,7 @@ use Rattle.cmwq_sim.specs.Shows.{queue_shape}
 use Rattle.std.proofs.lemmas.List.{length-map}
 use Rattle.cmwq_sim.proofs.Roomy.{needs_nothing_at_first}
 use Rattle.cmwq_sim.proofs.Determined.{determined}
-use Rattle.cmwq_sim.proofs.Phases.{serve_is, serve_burns, serve_idle, serve_sleeps, serve_ends, wake_nobody, wake_burns, wake_ends, may_start, due_item, found_passes, asleep_there}
+use Rattle.cmwq_sim.proofs.Phases.{serve_is, serve_sleeps, serve_ends, wake_nobody, wake_burns, wake_ends, may_start, due_item, found_passes, asleep_there}
 use Rattle.cmwq_sim.proofs.RoomKept.{has_room_then, sleep_roomy, end_roomy, start_roomy, wake_roomy, wake_burns_roomy, wake_ends_roomy}
 use Rattle.cmwq_sim.proofs.WakeShown.{sleeper_run}
 
@@ -80,15 +80,6 @@ past_after s h h2 who c layout is = ap past_in is ∙ one_more_is_newest h.entri
 
 pub room_for : (s : Plan) (h : History) (who : Who) (c : Call) (m : Moment) → h.layout ≡ layout_for s → h.room ≡ 1000 → has_time (past_in h) c ≡ true → IsRoomy s (entry_for (layout_for s) (past_in h) who c ∷ past_in h) m → takes h who c ≡ true
 room_for s h who c m layout room time roomy = ap₂ (λ l n. has_room l n (past_in h) who c) layout room ∙ has_room_then s (past_in h) who c m time roomy
-
-pub worker_fits : (s : Plan) (h : History) (x : ℕ) (c : Call) → h.layout ≡ layout_for s → x < 8 → is_workers c ≡ true → has_numbers (layout_for s) c ≡ true → fits h.layout (Worker (worker x)) c ≡ true
-worker_fits s h x c layout less works numbers = ap (λ l. fits l (Worker (worker x)) c) layout ∙ ap₂ (λ a b. (a && b) && has_numbers (layout_for s) c) (lt-ltb x 8 less) works ∙ numbers
-
--- each slot is a worker's
-pub slot_below : (slots : List ℕ) (i : ℕ) → AllByRecursion (λ x. x < 8) slots → slot_in slots i < 8
-slot_below [] i all = omega arith
-slot_below (x ∷ slots) zero all = all.0
-slot_below (x ∷ slots) (suc i) all = slot_below slots i all.1
 
 -- an execution goes on to where another call leads
 pub goes_on : (s : Plan) (r r2 : Execution) (who : Who) (c : Call) (m : Moment) → Stands s r → r2.book ≡ with_entry r.book (next_entry r.book who c) → r2.slots ≡ r.slots
@@ -154,9 +145,6 @@ module _ (s : Plan) (t : ℕ) (r : Execution) (job : Running) (js : List Running
 
   pub has_room_to_end : drop job.next (ms_of s job.item) ≡ [] → takes r.book (Worker (worker (slot_in r.slots job.item))) call.Finish ≡ true
   has_room_to_end parts = room_for s r.book (Worker (worker (slot_in r.slots job.item))) call.Finish (serve s t (moment_in s r)) h.layout h.room refl (ends_roomy parts)
-
-pub unserved : (s : Plan) (t : ℕ) (r : Execution) (job : Running) (js : List Running) → Stands s r → r.cpu.items ≡ job ∷ js → 0 < job.burn → StandsAt s r (serve s t (moment_in s r))
-unserved s t r job js h is burns = record { stands = h; moment = sym (serve_burns s t (moment_in s r) (job_seen s job) (map (job_seen s) js) (ap (map (job_seen s)) is) (ne_eqb job.burn 0 (λ none. absurd (omega arith)))) }
 
 -- ---- who runs has a number below 8
 

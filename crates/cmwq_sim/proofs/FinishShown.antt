@@ -44,10 +44,6 @@ abbrev pub is_kept : Option ℕ → ℕ → Bool
 is_kept None k = true
 is_kept (Some z) k = is_other z k
 
-and_true : (b : Bool) → (b && true) ≡ b
-and_true true = refl
-and_true false = refl
-
 and_twice : (b : Bool) → (b && true && true) ≡ b
 and_twice true = refl
 and_twice false = refl

@@ -78,10 +78,6 @@ either : {X : Type 0} {x : X} (b : Bool) → (if b then x else x) ≡ x
 either true = refl
 either false = refl
 
-never_started : (past : List Entry) (n : ℕ) → AllByRecursion IsQueued past → is_started past n ≡ false
-never_started [] n all = refl
-never_started (e ∷ past) n all = ap₂ (λ o b. is_at o n || b) (says e.reply all.0.says).starts (never_started past n all.1)
-
 never_finished : (past : List Entry) (n : ℕ) → AllByRecursion IsQueued past → is_finished past n ≡ false
 never_finished [] n all = refl
 never_finished (e ∷ past) n all = ap₂ (λ o b. is_at o n || b) (says e.reply all.0.says).finishes (never_finished past n all.1)

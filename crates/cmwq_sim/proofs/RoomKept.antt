@@ -28,7 +28,7 @@ use Rattle.cmwq_sim.proofs.WakeShown.{sleeper_run, wake_shown}
 use Rattle.cmwq_sim.proofs.FinishShown.{job_run}
 use Rattle.cmwq_sim.proofs.Steps.{any-append}
 use Rattle.cmwq_sim.proofs.TakersAre.{taker_starts}
-use Rattle.cmwq_sim.proofs.Phases.{serve_sleeps, serve_ends, wake_burns, wake_ends, asleep_there, taken, may_start, takes_on, take_goes}
+use Rattle.cmwq_sim.proofs.Phases.{serve_sleeps, serve_ends, wake_burns, wake_ends, asleep_there, may_start}
 use Rattle.cmwq_sim.proofs.Queued.{ShowsQueued, queue_call, caller, queue_shown, answered}
 use Rattle.cmwq_sim.proofs.Roomy.{needs_two, needs_three, sleep_takes_one, end_takes_none, wake_takes_none, start_parts, queued_parts}
 

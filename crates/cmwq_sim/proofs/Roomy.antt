@@ -1,8 +1,8 @@
 -- No call of a replay is refused for want of room: a queueing needs three entries, a sleep two, and there are few of both.
-use Rattle.std.proofs.Common.{◌≡◌, ◌==◌, ◌<◌, ◌≤◌, ◌+◌, ℕ, Bool, true, false, not, List, [], ◌∷◌, ◌++◌, length, drop, map, filter, find, count_by, Option, Some, None, refl, sym, ap, ◌∙◌, subst, arith, nat_lt}
+use Rattle.std.proofs.Common.{◌≡◌, ◌==◌, ◌<◌, ◌≤◌, ◌+◌, ℕ, Bool, true, false, not, List, [], ◌∷◌, ◌++◌, length, filter, find, count_by, Option, Some, None, refl, sym, ap, ◌∙◌, subst, arith, nat_lt}
 use Rattle.std.specs.Prelude.{if◌then◌else◌, sum_by, option_and_then, option_map, is_some}
 use Rattle.std.proofs.lemmas.Bool.{eq-eqb}
-use Rattle.std.proofs.lemmas.List.Sums.{sum_by-cons, sum_by_push, sum_by-append}
+use Rattle.std.proofs.lemmas.List.Sums.{sum_by-cons, sum_by_push}
 use Rattle.cmwq_model.specs.declared.reply.Reply.TheVariants as reply
 use Rattle.cmwq_model.specs.declared.entry.Entry.{Entry}
 use Rattle.cmwq_model.specs.Prelude.{Layout, item_of, number_started, number_finished, booking, booking_of, booked_by, due_in, last_start, is_asleep, queueings, opens, opening}
@@ -14,13 +14,13 @@ use Rattle.cmwq_theory_steps.proofs.OwedItems.{tickets_counted, booked_counted}
 use Rattle.cmwq_theory_steps.proofs.OwedSteps.{runs_counted, sleepers_counted}
 use Rattle.cmwq_theory_steps.proofs.OwedWaiting.{waiting_counted}
 use Rattle.cmwq_sim.specs.declared.scenario.LineKind.TheVariants as kind
-use Rattle.cmwq_sim.specs.Plan.{Plan, queue_of, ms_of, is_of, max_active, no_item}
+use Rattle.cmwq_sim.specs.Plan.{Plan, queue_of, is_of, max_active, no_item}
 use Rattle.cmwq_sim.specs.Rooms.{parts_at, parts_of_job, parts_of_sleeper, parts_left}
-use Rattle.cmwq_sim.specs.Lines.{queue_item, Moment, Job, Sleeper, is_other, make_ready, end, after_burn, after_sleep, serve, is_due, is_not, wake_sleeper, wake_item, tell, job_with, job_of}
+use Rattle.cmwq_sim.specs.Lines.{queue_item, Moment, Job, Sleeper, is_other, make_ready, end, after_burn, after_sleep, serve, is_due, is_not, wake_sleeper, wake_item, tell, job_with}
 use Rattle.cmwq_sim.specs.Shows.{layout_for}
 use Rattle.cmwq_sim.specs.Limits.{IsItem, IsWithinLimits}
 use Rattle.cmwq_sim.proofs.Progress.{all_at, found_apart}
-use Rattle.cmwq_sim.proofs.Phases.{serve_is, taken}
+use Rattle.cmwq_sim.proofs.Phases.{serve_is}
 
 -- ---- what an entry adds to what is needed
 
@@ -118,15 +118,6 @@ wake_takes_none s t i m = at (find (is_due t i) m.sleeping) refl
 pub start_parts : (i : ℕ) (ms : List ℕ) → length (job_with i ms).left ≤ length ms
 start_parts i [] = omega arith
 start_parts i (b ∷ ms) = omega arith
-
-starts_parts : (s : Plan) (is : List ℕ) → sum_by parts_of_job (map (job_of s) is) ≤ sum_by (parts_at s) is
-starts_parts s [] = omega arith
-starts_parts s (i ∷ is) =
-    let a = sum_by-cons parts_of_job (job_of s i) (map (job_of s) is) in
-    let b = sum_by-cons (parts_at s) i is in
-    let c = start_parts i (ms_of s i) in
-    let d = starts_parts s is in
-    omega arith
 
 pub queued_parts : (s : Plan) (m : Moment) (i : ℕ) → IsWithinLimits s → i < length s.items → parts_left s (queue_item s m i) ≤ parts_left s m + 8
 queued_parts s m i fine less = at (nat_lt (count_by (is_of s (queue_of s i)) (m.ready ++ m.behind)) (max_active s (queue_of s i)))

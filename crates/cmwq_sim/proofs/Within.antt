@@ -8,17 +8,13 @@ use Rattle.cmwq_sim.specs.Shows.{queue_shape}
 use Rattle.std.specs.List.{AllByRecursion}
 use Rattle.std.proofs.lemmas.List.{length-map}
 use Rattle.cmwq_sim.specs.declared.scenario.SimItem.{SimItem}
-use Rattle.cmwq_sim.specs.declared.scenario.Scenario.{Scenario}
-use Rattle.cmwq_sim.specs.Plan.{Plan, item_of, plan_of}
+use Rattle.cmwq_sim.specs.Plan.{Plan, item_of}
 use Rattle.cmwq_sim.specs.Limits.{IsBetween, IsQueue, IsItem, IsWithinLimits}
 
 pub each_item : (n : ℕ) (xs : List SimItem) (i : ℕ) (d : SimItem) → AllByRecursion (IsItem n) (map item_of xs) → i < length xs → IsItem n (item_of (get_or xs i d))
 each_item n [] i d all less = absurd (omega arith)
 each_item n (x ∷ xs) zero d all less = all.0
 each_item n (x ∷ xs) (suc i) d all less = each_item n xs i d all.1 (omega arith)
-
-pub few_items : (s : Scenario) → IsWithinLimits (plan_of s) → length s.items.items ≤ 8
-few_items s h = let k = h.few_items in let e = length-map s.items.items item_of in omega arith
 
 between : (low high n : ℕ) → IsBetween low high n → is_between low high n ≡ true
 between low high n h = ap₂ (λ a b. a && b) (le-leb low n h.0) (le-leb n high h.1)

@@ -349,13 +349,6 @@ short_reply reply.Thawed h is = h
 short_reply reply.Gone h is = h
 short_reply reply.Timers h is = h
 
--- what is short is so, and the other way round
-pub short_entry : (e : Entry) → (IsEntry greatest_number) e → is_short_entry e ≡ true → (IsEntry greatest) e
-short_entry e h is =
-    let outer = both (is_short e.serial && is_short_call e.call) (is_short_reply e.reply) is in
-    let inner = both (is_short e.serial) (is_short_call e.call) outer.0 in
-    record { who = h.who; serial = leb-true e.serial greatest inner.0; call = short_call e.call h.call inner.1; reply = short_reply e.reply h.reply outer.1 }
-
 is_short_as : (n : ℕ) → n ≤ greatest → is_short n ≡ true
 is_short_as n h = le-leb n greatest h
 

@@ -108,9 +108,6 @@ who_begins_no_queue who words h = ap begins_queue (joined_spaced (who_text who) 
 pub entry_begins : (e : Entry) → (IsEntry greatest_number) e → begins_queue (joined (entry_words e)) ≡ false
 entry_begins e h = who_begins_no_queue e.who (decimal e.serial ∷ (call_words e.call ++ codes "=" ∷ reply_words e.reply)) h.who
 
-pub end_begins : (n : ℕ) → begins_queue (joined (end_words n)) ≡ false
-end_begins n = refl
-
 -- ---- the last line is no shape line and no line of an entry
 
 end_words_of : (n : ℕ) → n ≤ greatest_number → words_of (joined (end_words n)) ≡ end_words n

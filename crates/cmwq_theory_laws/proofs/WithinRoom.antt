@@ -7,7 +7,7 @@ use Rattle.std.proofs.lemmas.Bool.{and_parts, leb-true, le-leb}
 use Rattle.cmwq_model.specs.declared.id.Who.{Who}
 use Rattle.cmwq_model.specs.declared.call.Call.{Call}
 use Rattle.cmwq_model.specs.declared.entry.Entry.{Entry}
-use Rattle.cmwq_model.specs.Prelude.{Layout, fits, answer, now, ticks_told, IsWho, IsCall, IsLegal, entry_for, Steps, needed, has_room, has_time, most_time, step, steps, none}
+use Rattle.cmwq_model.specs.Prelude.{Layout, fits, answer, now, IsWho, IsCall, IsLegal, entry_for, Steps, needed, has_room, has_time, most_time, step, steps, none}
 use Rattle.cmwq_model.specs.declared.call.Call.TheVariants as call
 use Rattle.cmwq_theory_steps.specs.RoomSteps.{is_promised}
 use Rattle.cmwq_theory_laws.proofs.InRange.{short_has_time}

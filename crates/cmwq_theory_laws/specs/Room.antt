@@ -4,7 +4,7 @@ use Rattle.std.specs.List.{AllByRecursion}
 use Rattle.cmwq_model.specs.declared.id.Who.{Who}
 use Rattle.cmwq_model.specs.declared.call.Call.{Call}
 use Rattle.cmwq_model.specs.declared.entry.Entry.{Entry}
-use Rattle.cmwq_model.specs.Prelude.{Layout, fits, now, entry_for, IsWho, IsCall, answer, needed, has_room, has_time, most_time, steps}
+use Rattle.cmwq_model.specs.Prelude.{Layout, fits, now, entry_for, IsWho, IsCall, answer, needed, has_room, most_time, steps}
 use Rattle.cmwq_theory_steps.specs.RoomSteps.{is_promised}
 
 -- a history that is made by steps is within its room

@@ -24,8 +24,6 @@ use Rattle.cmwq_theory_steps.proofs.Active.{count_ahead, open_ranked, not_active
 use Rattle.cmwq_theory_active.proofs.Joined.{active_go_on}
 use Rattle.cmwq_theory_steps.proofs.Promoted.{newly_is, newly_of_open}
 use Rattle.cmwq_theory_steps.proofs.Pending.{opening_opens}
-use Rattle.cmwq_theory_steps.proofs.Activated.{find_holds}
-use Rattle.cmwq_theory_steps.proofs.Fresh.{IsOpenOne, open_known}
 use Rattle.cmwq_theory_steps.proofs.Endings.{opened_live, open_go_on}
 use Rattle.cmwq_theory_steps.proofs.Ended.{one_ends}
 use Rattle.cmwq_theory_active.proofs.Widths.{width_same}

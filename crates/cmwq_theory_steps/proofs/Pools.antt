@@ -34,7 +34,7 @@ use Rattle.cmwq_theory_steps.proofs.Endings.{open_go_on}
 use Rattle.cmwq_theory_steps.proofs.ItemSteps.{StartsOf, starts_of, items_run_on, left_run, runs_its_item}
 use Rattle.cmwq_theory_steps.proofs.Standing.{booking_after}
 use Rattle.cmwq_theory_steps.proofs.Pending.{one_unstarted, booked_or_unstarted, opening_opens}
-use Rattle.cmwq_theory_steps.proofs.Causes.{Cause, cause_of, IsFree}
+use Rattle.cmwq_theory_steps.proofs.Causes.{Cause, cause_of}
 use Rattle.cmwq_theory_steps.proofs.Causes as cause
 
 -- ---- a run is in the pool of its worker

@@ -1,10 +1,9 @@
 -- Which of two minima comes first, and the minima of rows of which one is set.
 use Rattle.std.proofs.Common.{inl, inr, ◌==◌, ◌≡◌, ◌≢◌, ℕ, ◌+◌, ◌*◌, ◌<◌, ◌≤◌, Bool, true, false, List, length, Option, Some, None, cond, min, sym, refl, ◌∙◌, arith, ◌⊎◌, ⊎_elim}
-use Rattle.std.specs.Prelude.{slice_set, slice_index_or}
+use Rattle.std.specs.Prelude.{slice_index_or}
 use Rattle.std.proofs.lemmas.Bool.Decides.{nat_tests}
-use Rattle.std.proofs.lemmas.Bool.{false≢true, cases_lt, eqb-true, eq-eqb}
-use Rattle.std.proofs.lemmas.Grind.{get_or-set_at}
-use Rattle.std.proofs.lemmas.List.{get_or-set_other, get_or_past, length-set}
+use Rattle.std.proofs.lemmas.Bool.{cases_lt}
+use Rattle.std.proofs.lemmas.List.{get_or_past}
 use Rattle.cmwq_timer.specs.declared.timer.Timer.{Timer}
 use Rattle.cmwq_timer.specs.declared.minima.Candidate.{Candidate}
 use Rattle.cmwq_timer.specs.Due.{may_fire, is_sooner}
@@ -75,14 +74,6 @@ one_led rows k t at = record {
 
 pub one_unled : (rows : Rows) (k : ℕ) → ((t : Timer) → timer_of rows k ≡ Some t → ⊥) → IsLead rows k (k + 1) None
 one_unled rows k none = λ i t is. let a = is.from in let b = is.below in let here : i ≡ k = omega arith in none t (rw here at is.booked)
-
--- rows that are alike there
-pub lead_same : (rows new : Rows) (lo hi : ℕ) (o : Option Candidate) → ((i : ℕ) → lo ≤ i → i < hi → timer_of new i ≡ timer_of rows i) → IsLead rows lo hi o → IsLead new lo hi o
-lead_same rows new lo hi None same lead = λ i t is. lead i t (record { from = is.from; below = is.below; booked = sym (same i is.from is.below) ∙ is.booked })
-lead_same rows new lo hi (Some c) same lead = record {
-  is_booked = record { from = lead.is_booked.from; below = lead.is_booked.below; booked = same c.item.0 lead.is_booked.from lead.is_booked.below ∙ lead.is_booked.booked };
-  none_sooner = λ i t is. lead.none_sooner i t (record { from = is.from; below = is.below; booked = sym (same i is.from is.below) ∙ is.booked });
-}
 
 -- ---- the first to fire
 

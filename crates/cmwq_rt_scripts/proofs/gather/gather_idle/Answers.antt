@@ -1,6 +1,6 @@
-use Rattle.std.proofs.Common.{◌≡◌, ◌≤◌, ℕ, ◌+◌, ◌++◌, ◌∷◌, [], length, length-append, arith, ap, sym, ◌∙◌, subst, rules}
+use Rattle.std.proofs.Common.{◌≡◌, ◌≤◌, ℕ, ◌+◌, ◌++◌, ◌∷◌, [], length, length-append, arith, ap, sym, ◌∙◌, subst}
 use Rattle.std.specs.Prelude.{slice_get, Some}
-use Rattle.cmwq_monitor.specs.Participants.{View, newcomer, made_by}
+use Rattle.cmwq_monitor.specs.Participants.{View, made_by}
 use Rattle.cmwq_rt_scripts.specs.Ended.{caller_at}
 use Rattle.cmwq_rt_scripts.proofs.Gathering.{last_at, kept_at, one_before, silent_in}
 use Rattle.cmwq_rt_scripts.proofs.gather.gather_idle.Goals as goal

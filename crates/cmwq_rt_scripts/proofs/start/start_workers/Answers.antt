@@ -1,9 +1,9 @@
 use Rattle.std.proofs.Common.{◌≡◌, ℕ, suc, ◌+◌, ◌++◌, ◌∷◌, [], length, length-append, arith, ap, sym, ◌∙◌, subst}
-use Rattle.std.specs.Prelude.{MatchOption, Option, slice_get, Some}
+use Rattle.std.specs.Prelude.{slice_get, Some}
 use Rattle.cmwq_model.specs.declared.id.WorkerId.{WorkerId}
 use Rattle.cmwq_model.specs.declared.id.Who.TheVariants.{Worker}
 use Rattle.cmwq_monitor.specs.Participants.{newcomer}
-use Rattle.cmwq_rt.specs.Places.{Places, worker_at, next_after}
+use Rattle.cmwq_rt.specs.Places.{worker_at, next_after}
 use Rattle.cmwq_rt_scripts.proofs.Gathering.{all_push}
 use Rattle.cmwq_rt_scripts.proofs.Starting.{worker_given}
 use Rattle.cmwq_rt_scripts.proofs.start.start_workers.Goals as goal

@@ -1,5 +1,4 @@
-use Rattle.std.proofs.Common.{◌≡◌, Ok, Err}
-use Rattle.std.specs.Prelude.{IfOk}
+use Rattle.std.proofs.Common.{◌≡◌}
 use Rattle.cmwq_cmd_run.proofs.Interpreting.{slept_if}
 use Rattle.cmwq_cmd_run.proofs.interpreter.Interpreter.sleep_at.Goals as goal
 

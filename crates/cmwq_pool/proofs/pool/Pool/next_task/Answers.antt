@@ -1,4 +1,4 @@
-use Rattle.std.proofs.Common.{sym, ◌∙◌}
+use Rattle.std.proofs.Common.{◌∙◌}
 use Rattle.cmwq_pool.proofs.Marks.{next_by_marks}
 use Rattle.cmwq_pool.proofs.pool.Pool.next_task.Goals as goal
 

@@ -1,5 +1,5 @@
 use Rattle.std.proofs.Common.{◌≡◌, ◌<◌, ◌∙◌, rules, sym, subst}
-use Rattle.std.specs.Prelude.{IfOk, None, Some, MatchOption}
+use Rattle.std.specs.Prelude.{IfOk, Some, MatchOption}
 use Rattle.cmwq_monitor.specs.Participants.{View}
 use Rattle.cmwq_monitor.specs.Held.{active_in}
 use Rattle.cmwq_monitor.specs.Settled.{Settles}
