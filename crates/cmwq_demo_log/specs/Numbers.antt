@@ -1,6 +1,6 @@
 -- What the service asks of the shape of its hub.
 use Rattle.std.specs.Prelude.{◌<◌, length}
-use Rattle.cmwq_model.specs.Prelude.{Layout}
+use Rattle.cmwq_rt.specs.Prelude.{Layout}
 
 -- both items, both queues and the CPU are there
 abbrev pub HasNumbers : Layout → Type 0

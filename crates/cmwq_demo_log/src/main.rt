@@ -9,10 +9,10 @@ ghost use Rattle.std.specs.Prelude.{◌≡◌};
 ghost use Rattle.cmwq_demo_log.specs.Numbers.{HasNumbers};
 
 use anyhow::{Context, Result, ensure};
-use cmwq_core::check;
-use cmwq_model::{Call, Counts, CpuId, Entry, ItemId, QueueId, QueueShape, Shape};
-use cmwq_plain::all_fit;
-use cmwq_rt::{Caller, Hub, HubName, HubParts, Participants, RunCtx, RunFault, Work};
+use cmwq_rt::{
+    Call, Caller, Counts, CpuId, Entry, Hub, HubName, HubParts, ItemId, Participants, QueueId,
+    QueueShape, RunCtx, RunFault, Shape, Work, all_fit, check,
+};
 use std::marker::Brand;
 use std::sync::Wait;
 use std::sync::atomic::{AtomicU32, Ordering};

@@ -18,4 +18,4 @@ pub use id::{CallerId, CpuId, ItemId, Number, PoolId, QueueId, Who, WorkerId};
 pub use record::{Booking, Place, Queueing, Start, Ticket};
 pub use reply::Reply;
 pub use shape::{Counts, QueueShape, Shape};
-pub use verdict::{Illegal, Wanted};
+pub use verdict::{Illegal, Wanted, all_fit};

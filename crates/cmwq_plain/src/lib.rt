@@ -29,7 +29,7 @@ ghost use Rattle.cmwq_model.specs.Prelude.{answer, past_of};
 ghost use Rattle.cmwq_model.specs.Room as room;
 
 pub use bookings::{booking, is_booked, stands};
-pub use cmwq_model::{Illegal, Wanted};
+pub use cmwq_model::{Illegal, Wanted, all_fit};
 use cmwq_model::{Call, Entry, Reply, Shape, Who};
 pub use entries::{booking_of, is_by, is_same_pool};
 pub use fate::is_started;
@@ -43,7 +43,7 @@ pub use tickets::{
     flushes, is_being_destroyed, is_cancelling, is_crowded, is_draining, is_gone, ticket_of,
     unended_at,
 };
-pub use verdict::{all_fit, check};
+pub use verdict::check;
 pub use widths::{is_frozen, width_set};
 
 /// The one right answer to the call after this history.

@@ -1,6 +1,6 @@
 //! The verdict of a history.
 
-ghost use Rattle.std.specs.Prelude.{◌≡◌, ◌≤◌, length, None, IfSome, OnOk, IfErr, IsTrue};
+ghost use Rattle.std.specs.Prelude.{◌≡◌, ◌≤◌, length, None, IfSome, OnOk, IfErr};
 ghost use Rattle.cmwq_model.specs.Prelude.{IsLegal, past_of, entry_for, AllFit, Wants, IsFirstWrong};
 
 use crate::{reply_of, serial_of};
@@ -25,16 +25,6 @@ pub fn check(shape: &Shape, entries: &[Entry]) -> Result<(), Illegal>
         }
     }
     Ok(())
-}
-
-/// Whether each entry's who and call fit the shape, as those of a history that was read do.
-pub fn all_fit(shape: &Shape, entries: &[Entry]) -> bool
-    ensures fitting { IsTrue result → AllFit shape.now entries.now }
-    ensures other { AllFit shape.now entries.now → IsTrue result }
-{
-    entries
-        .iter()
-        .all(|entry| shape.fits(entry.who, entry.call))
 }
 
 /// What should stand in the entry that follows these, where something else stands.

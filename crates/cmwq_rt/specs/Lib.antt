@@ -4,3 +4,4 @@ pub mod Scripts
 pub mod Ending
 pub mod Starting
 pub mod Running
+pub mod Prelude

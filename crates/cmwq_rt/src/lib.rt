@@ -1,4 +1,7 @@
 //! A hub: the Book shared by threads. Callers make calls, workers run what is queued, and all of it stands in one history.
+//!
+//! Whoever uses a hub needs this crate alone: it passes on the types of calls, entries and shapes, and `check` with its test `all_fit`. The
+//! words that the contracts cite are in `specs::Prelude`.
 #![tactic(auto)]
 
 mod caller;
@@ -12,6 +15,11 @@ mod work;
 mod worker;
 
 pub use caller::Caller;
+pub use cmwq_core::check;
+pub use cmwq_model::{
+    Call, CallerId, Counts, CpuId, Entry, Illegal, ItemId, NoMemory, Number, PoolId, QueueId,
+    QueueShape, Reply, Shape, Wanted, Who, WorkerId, all_fit,
+};
 pub use cmwq_monitor::{Journal, Rest, RunFault};
 pub use cmwq_publish::HubName;
 pub use gates::{Gate, Gates};
