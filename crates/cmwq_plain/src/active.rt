@@ -76,7 +76,7 @@ fn is_open_below_max_active(shape: &Shape, past: &Past<'_>, queueing: &Queueing)
 }
 
 /// Whether the queueing was below max_active just before an entry that changed a width.
-#[tactic(auto, using(crate::proofs::Parts::ends, crate::proofs::Widths::had_steps))]
+#[tactic(auto, using(crate::proofs::Parts::ends, crate::proofs::WidthChanges::had_steps))]
 fn was_below_max_active(shape: &Shape, past: &Past<'_>, queueing: &Queueing) -> bool
     ensures { result ≡ was_below_max_active shape.now past.now queueing.now }
 {

@@ -7,7 +7,7 @@ use crate::widths::{is_frozen, width_set};
 use cmwq_model::Shape;
 
 /// Max_active of the queue: what it was set to last.
-#[tactic(auto, using(crate::proofs::Parts::ends, crate::proofs::Widths::max_steps))]
+#[tactic(auto, using(crate::proofs::Parts::ends, crate::proofs::WidthChanges::max_steps))]
 fn max_active(shape: &Shape, past: &Past<'_>, queue: u8) -> u32
     ensures { result ≡ max_active shape.now past.now queue }
 {

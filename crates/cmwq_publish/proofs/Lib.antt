@@ -1,5 +1,5 @@
 pub mod Beginnings
 mod Adding
 pub mod Legally
-mod Seats
+mod Places
 mod Marking

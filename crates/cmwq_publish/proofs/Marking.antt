@@ -21,7 +21,7 @@ use Rattle.cmwq_publish.specs.Marked.{marked, counted, put_at, caller_of}
 use Rattle.cmwq_publish.specs.Next.{IsNext}
 use Rattle.cmwq_publish.specs.Published.{Holds, IsVersion, IsMadeBy, IsOf, Follows, Sees}
 use Rattle.cmwq_publish.proofs.Legally.{newest_is_first, none_is_legal, none_leave_no_bits, next_serial, own_serial}
-use Rattle.cmwq_publish.proofs.Seats.{turns}
+use Rattle.cmwq_publish.proofs.Places.{turns}
 
 -- what the two copies have in common, and what a mark does to it
 abbrev pub State : Type 0
@@ -39,8 +39,8 @@ made_by x y op ops one all =
     record { shape = ap (λ (s : State). s.0) is; bits = ap (λ (s : State). s.1) is; serials = ap (λ (s : State). s.2) is; len = ap (λ (s : State). s.3) is; seen = ap (λ (s : State). s.4) is }
 
 -- the publish of a mark that follows keeps the rule
-pub turns_by : (seat : ℕ) (v : Option Known) (x y : Versions) (op : Publish) → Follows x op → IsMadeBy x op y → TurnsAt Holds seat v x y Sees
-turns_by seat v x y op follows made = turns seat v x y (follows.1 y made) made.shape (ap (λ s. s.book) made.seen ∙ follows.0)
+pub turns_by : (place : ℕ) (v : Option Known) (x y : Versions) (op : Publish) → Follows x op → IsMadeBy x op y → TurnsAt Holds place v x y Sees
+turns_by place v x y op follows made = turns place v x y (follows.1 y made) made.shape (ap (λ s. s.book) made.seen ∙ follows.0)
 
 length_put : (xs : List ℕ) (place : Option ℕ) (b : ℕ) → length (put_at xs place b) ≡ length xs
 length_put xs None b = refl

@@ -26,17 +26,17 @@ pub record IsVersion (x : Versions) : Type 0 where
 abbrev pub IsOf : Layout → Book → Versions → Type 0
 IsOf layout book x = (x.shape ≡ layout) × (x.seen.book ≡ book)
 
--- the seat knows that it is of this hub
+-- the place knows that it is of this hub
 abbrev pub IsOurs : Layout → Book → Option Known → Type 0
 IsOurs layout book v = MatchOption v ⊥ (λ k. (k.shape ≡ layout) × (k.token.book ≡ book))
 
--- the hub that the seat knows, if any, is the version's
+-- the hub that the place knows, if any, is the version's
 abbrev pub Fits : Versions → Option Known → Type 0
 Fits x v = (layout : Layout) (book : Book) → IsOurs layout book v → IsOf layout book x
 
--- the rule: the version is right, and of the hub that the seats know
+-- the rule: the version is right, and of the hub that the places know
 abbrev pub Holds : Versions → List (Option Known) → Type 0
-Holds x views = IsVersion x × ((seat : ℕ) (v : Option Known) → get_elem? views seat ≡ some v → Fits x v)
+Holds x views = IsVersion x × ((place : ℕ) (v : Option Known) → get_elem? views place ≡ some v → Fits x v)
 
 abbrev pub newcomer : Option Known
 newcomer = None
@@ -44,7 +44,7 @@ newcomer = None
 abbrev pub knows : Versions → Option Known
 knows x = Some (record { shape = x.shape; token = x.seen })
 
--- the seat now knows the hub of the published version, which is right and of the hub that it knew
+-- the place now knows the hub of the published version, which is right and of the hub that it knew
 abbrev pub Sees : Option Known → Versions → Versions → Option Known → Type 0
 Sees v x y w = IsVersion y × (w ≡ knows y) × Fits y v
 
@@ -60,7 +60,7 @@ pub record IsMadeBy (x : Versions) (op : Publish) (y : Versions) : Type 0 where
 abbrev pub Follows : Versions → Publish → Type 0
 Follows x op = (op.seen.book ≡ x.seen.book) × ((y : Versions) → IsMadeBy x op y → IsVersion x → IsVersion y)
 
--- it has made it, and the writer's seat knows the hub
+-- it has made it, and the writer's place knows the hub
 abbrev pub Shows : Versions → Publish → Versions → Option Known → Type 0
 Shows x op y w = IsMadeBy x op y × (w ≡ knows y)
 

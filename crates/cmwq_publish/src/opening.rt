@@ -34,7 +34,7 @@ fn empty(alloc: Global, shape: &Shape, seen: Token) -> Result<Versions, NoMemory
     })
 }
 
-// The writer of the history without entries, whose seat knows which hub it is. It publishes a mark that changes nothing, so that
+// The writer of the history without entries, whose place knows which hub it is. It publishes a mark that changes nothing, so that
 // its list of marks has its room from then on.
 fn opened_writer<R: Wait>(
     rt: &R,

@@ -88,13 +88,13 @@ impl Versions {
     }
 }
 
-/// Which hub a seat at the versions is of: its shape, and a token of its log. No value of it is made.
+/// Which hub a place at the versions is of: its shape, and a token of its log. No value of it is made.
 pub struct Known {
     pub shape: Shape,
     pub token: Token,
 }
 
-/// The rule over the versions. A seat that knows no hub yet is a newcomer.
+/// The rule over the versions. A place that knows no hub yet is a newcomer.
 pub struct Published;
 
 impl Protocol<Versions, Option<Known>> for Published {
@@ -105,7 +105,7 @@ impl Protocol<Versions, Option<Known>> for Published {
     ghost first = { newcomer };
 }
 
-/// What a publish and an enter tell: the seat knows the hub of the published version, which is right.
+/// What a publish and an enter tell: the place knows the hub of the published version, which is right.
 pub struct Look;
 
 impl Outcome<Versions, Option<Known>> for Look {

@@ -22,7 +22,7 @@ use cmwq_publish::HubName;
 use std::sync::{Condvar, CondvarTimeouts, Mutex, MutexGuard, Wait};
 use std::time::{Clock, Duration};
 
-/// A Book that threads share. Its callers and workers carry its name, so that none of them is taken for another hub's.
+/// The runtime that threads share. Its callers and workers carry its name, so that none of them is taken for another hub's.
 pub struct Hub<N: HubName> {
     monitor: Mutex<Monitor<N>>,
     condvars: Condvars,

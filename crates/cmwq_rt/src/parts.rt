@@ -118,7 +118,7 @@ impl HubParts {
         })
     }
 
-    /// The same of a hub that drops its oldest entries where there is no space for more, for who wants no history: no journal is to be
+    /// The same of a hub that drops all that it keeps where there is no space for more, for who wants no history: no journal is to be
     /// kept of it.
     ///
     /// # Errors

@@ -1,4 +1,4 @@
--- A book that is told of an effect is one further on.
+-- A state to which an effect was applied is one entry further on.
 use Rattle.std.proofs.Common.{◌≡◌, ℕ, ◌+◌, ◌^◌, ◌<◌, ◌≤◌, true, List, [], ◌∷◌, ◌++◌, length, ap, arith, length-append}
 use Rattle.cmwq_model.specs.declared.entry.Entry.{Entry}
 use Rattle.cmwq_model.specs.declared.call.Call.{Call}
@@ -6,11 +6,11 @@ use Rattle.cmwq_model.specs.Prelude.{Layout, fits, serial_of, ticks_told, now, h
 use Rattle.std.proofs.lemmas.Bool.{leb-true}
 use Rattle.cmwq_model.specs.declared.call.Call.TheVariants as call
 use Rattle.cmwq_state.specs.Tables.{IsThere}
-use Rattle.cmwq_state.specs.State.{Parts, IsState}
-use Rattle.cmwq_state.specs.Effects.{IsEffect}
+use Rattle.std.proofs.lemmas.List.{length-reverse}
+use Rattle.cmwq_state.specs.State.{Parts, AreParts, IsState}
+use Rattle.cmwq_state.specs.Effects.{IsEffect, IsNextEffect}
 use Rattle.cmwq_state.specs.declared.effect.Effect.{Effect}
-use Rattle.cmwq_state.proofs.Steps.{past_more, small, fits_there}
-use Rattle.cmwq_state.proofs.Told.{Told, told_parts}
+use Rattle.cmwq_state.proofs.Steps.{past_more, fits_there}
 
 pub effect_fits : (s : Layout) (past : List Entry) (f : Effect) → IsEffect s past f → fits s f.entry.who f.entry.call ≡ true
 unfolding IsLegal
@@ -28,17 +28,22 @@ time_within : (past : List Entry) (c : Call) (time : ℕ) → time ≡ now past 
 time_within past (call.Tick t) time is within h = let fits = leb-true (now past + t) most_time h in omega arith
 time_within past c time is within h = omega arith
 
-pub told_book : (s : Layout) (room : ℕ) (entries : List Entry) (old new : Parts) (f : Effect) → IsState s room entries old → IsEffect s (past_of entries) f → Told s (past_of entries) f old new →
-    has_time (past_of entries) f.entry.call ≡ true → length entries + 1 + f.owing ≤ room → IsState s room (entries ++ f.entry ∷ []) new
-told_book s room entries old new f b is told ticks within =
-    let past = past_of entries in
-    let time = told.time in let is_now = b.parts_are.time in
+-- the effect of an entry for which there is room is that of the next entry
+pub next_effect : (s : Layout) (room : ℕ) (entries : List Entry) (parts : Parts) (f : Effect) → IsState s room entries parts → IsEffect s (past_of entries) f → IsNextEffect s (past_of entries) f
+next_effect s room entries parts f b is =
+    let len : length (past_of entries) ≡ length entries = length-reverse entries in
+    let few = b.few in let within = b.within in
+    record { inside = b.inside; before = b.legal; few = omega arith; effect = is }
+
+pub appended : (s : Layout) (room : ℕ) (entries : List Entry) (old new : Parts) (f : Effect) → IsState s room entries old → IsEffect s (past_of entries) f → AreParts s (f.entry ∷ past_of entries) new →
+    new.time ≡ old.time + ticks_told f.entry.call → new.owing ≡ f.owing → has_time (past_of entries) f.entry.call ≡ true → length entries + 1 + f.owing ≤ room → IsState s room (entries ++ f.entry ∷ []) new
+appended s room entries old new f b is are time owing ticks within =
     let one_more : length (entries ++ f.entry ∷ []) ≡ length entries + 1 = length-append entries (f.entry ∷ []) in
     record {
       inside = b.inside;
       few = b.few;
       legal = rw (past_more entries f.entry) is.legal;
-      parts_are = rw (past_more entries f.entry) (told_parts s past f old new is (small s b.inside) (effect_there s past f is) b.legal b.parts_are told);
-      within = rw (one_more, told.owing) within;
-      soon = rw told.time (time_within past f.entry.call old.time b.parts_are.time b.soon ticks);
+      parts_are = rw (past_more entries f.entry) are;
+      within = rw (one_more, owing) within;
+      soon = rw time (time_within (past_of entries) f.entry.call old.time b.parts_are.time b.soon ticks);
     }

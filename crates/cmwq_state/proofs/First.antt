@@ -21,7 +21,7 @@ use Rattle.cmwq_refinement.proofs.FlightRefine.{no_flights_at_first}
 use Rattle.cmwq_state.specs.Gone.{AreGone}
 use Rattle.cmwq_pwq.specs.Pwqs.{PwqState, new_pwq_state, place_of}
 use Rattle.cmwq_pwq.proofs.Passes.{place_inside}
-use Rattle.cmwq_state.specs.Lines.{ArePwqsOf}
+use Rattle.cmwq_state.specs.Pwqs.{ArePwqsOf}
 use Rattle.cmwq_state.proofs.WidthSteps.{first_most, widths_at_first}
 use Rattle.cmwq_state.specs.State.{Parts, AreParts, IsState}
 use Rattle.cmwq_state.proofs.Refine.{IsSmall, pool_place_inside, who_below}

@@ -26,7 +26,7 @@ use Rattle.cmwq_refinement.proofs.Members.{In, all_in, found, in_filter, filter_
 use Rattle.cmwq_refinement.proofs.PlacesFit.{open_there, opened_are_there}
 use Rattle.cmwq_pwq.specs.Pwqs.{PwqState, count_of_same_pwq, is_waiting, AreBehind, IsBehind, IsPlacedIf}
 use Rattle.cmwq_pwq.proofs.Passes.{on_itself, place_inside}
-use Rattle.cmwq_state.specs.Lines.{ArePwqsOf}
+use Rattle.cmwq_state.specs.Pwqs.{ArePwqsOf}
 use Rattle.cmwq_theory_steps.specs.ItemQueueings.{ended_by}
 use Rattle.cmwq_theory_steps.proofs.EndsAsTold.{ends_as_told}
 use Rattle.cmwq_state.proofs.PwqsSteps.{waits_by_number}

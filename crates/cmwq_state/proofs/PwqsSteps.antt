@@ -31,7 +31,7 @@ use Rattle.cmwq_refinement.proofs.Rising.{rises_unique}
 use Rattle.cmwq_refinement.proofs.QueueingSteps.{QueueingStep, ends_one, ends_none, queueing_step, open_numbers_rise}
 use Rattle.cmwq_pwq.specs.Pwqs.{PwqState, count_at, count_of_same_pwq, place_of, is_waiting, is_other, ended, told_ended, told_opened, MayEnd, MayOpen, AreBelowMaxActive, Passes, IsPlaced, ArePlaced}
 use Rattle.cmwq_pwq.proofs.Passes.{count_set, place_inside, on_itself, on_parts}
-use Rattle.cmwq_state.specs.Lines.{ArePwqsOf}
+use Rattle.cmwq_state.specs.Pwqs.{ArePwqsOf}
 
 -- ---- lists
 
@@ -68,7 +68,7 @@ waits_by_number s past x here = by (waits s past x) refl
     by true stays = any_in (has_number x.number) (waiting s past) x (filter_in (waits s past) (still_open past) x here stays) (eq-eqb x.number x.number refl)
     by false fails = list_any_none (has_number x.number) (waiting s past) (All-from_recursion (λ y. has_number x.number y ≡ false) (waiting s past) (all_in (λ y. has_number x.number y ≡ false) (waiting s past) (λ y there. other_number s past x y here fails there)))
 
--- ---- after the end: what waited and is survivors, and the counts of those that stay
+-- ---- after the end: what waited and survives, and the counts of those that stay
 
 pub record IsMid (s : Layout) (past : List Entry) (e : Entry) (l : PwqState) : Type 0 where
   pub room : l.room ≡ 2 * s.items

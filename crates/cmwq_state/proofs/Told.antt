@@ -1,6 +1,6 @@
 -- The parts that are told of an effect are those of the longer history, and may be told of it.
 use Rattle.std.proofs.Common.{◌≡◌, ℕ, ◌+◌, ◌*◌, ◌<◌, ◌≤◌, Bool, true, false, ◌&&◌, ◌==◌, ⊎_elim, List, [], ◌∷◌, length, filter, Option, Some, None, refl, sym, ap, ap₂, ◌∙◌, subst, arith, IsTrue, nat_lt, nat_le}
-use Rattle.std.specs.Prelude.{slice_set, if◌then◌else◌, is_some, IfSome}
+use Rattle.std.specs.Prelude.{if◌then◌else◌, is_some, IfSome}
 use Rattle.cmwq_model.specs.declared.id.PoolId.{PoolId}
 use Rattle.cmwq_model.specs.declared.entry.Entry.{Entry}
 use Rattle.cmwq_model.specs.declared.record.Queueing.{Queueing}
@@ -8,15 +8,14 @@ use Rattle.cmwq_model.specs.declared.record.Booking.{Booking}
 use Rattle.cmwq_model.specs.declared.shape.QueueShape.{QueueShape}
 use Rattle.cmwq_model.specs.declared.call.Call.{Call}
 use Rattle.cmwq_model.specs.declared.record.Ticket.{Ticket}
-use Rattle.cmwq_model.specs.Prelude.{Layout, is_layout, pool_at, item_of, serial_of, ticks_told, settles, due_in, booking_of, still_open, opening, IsLegal, newly_active}
-use Rattle.cmwq_model.specs.Prelude.{frozen_after, is_below_max_active, has_numbers, number_finished}
+use Rattle.cmwq_model.specs.Prelude.{Layout, is_layout, pool_at, item_of, settles, due_in, booking_of, still_open, opening, IsLegal, newly_active}
+use Rattle.cmwq_model.specs.Prelude.{is_below_max_active, has_numbers, number_finished}
 use Rattle.cmwq_pool.specs.PoolState.{PoolState}
 use Rattle.cmwq_flush.specs.FlushBook.{FlushBook}
 use Rattle.cmwq_timer.specs.Rows.{Rows}
 use Rattle.cmwq_theory_steps.specs.Endings.{ending, is_ended}
 use Rattle.cmwq_theory_steps.proofs.Standing.{due_settles}
 use Rattle.cmwq_theory_active.proofs.Rising.{opening_number}
-use Rattle.cmwq_theory_steps.proofs.StateSteps.{time_goes_on}
 use Rattle.cmwq_refinement.specs.Places as places
 use Rattle.cmwq_refinement.specs.Pools as pools
 use Rattle.cmwq_refinement.specs.FlushBooks as flushes
@@ -35,7 +34,7 @@ use Rattle.cmwq_theory_steps.specs.Activations.{is_in}
 use Rattle.cmwq_flush.specs.BarrierBook as barriers_book
 use Rattle.cmwq_refinement.specs.Pools.{MayAllBeAdded}
 use Rattle.cmwq_refinement.proofs.PoolAdds.{active_may_be_added}
-use Rattle.cmwq_pwq.specs.Pwqs.{PwqState, IsPassed, AreBehind, IsPlacedIf, is_waiting, ArePlaced, width_by}
+use Rattle.cmwq_pwq.specs.Pwqs.{PwqState, IsPassed, IsPlacedIf, is_waiting, ArePlaced, width_by}
 use Rattle.std.proofs.lemmas.Bool.{and_parts, ltb-true, eqb-true, false_from_ne_true, cases_lt}
 use Rattle.std.proofs.lemmas.List.Elements.{All-from_recursion}
 use mathlib.Core.Bool.{beq}
@@ -55,22 +54,20 @@ use Rattle.cmwq_inflight.specs.Flights.{Flight}
 use Rattle.cmwq_refinement.specs.Flights as flights
 use Rattle.cmwq_refinement.specs.Tickets as tickets
 use Rattle.cmwq_refinement.proofs.TicketsRefine.{tickets_refine, tickets_may_be_told}
-use Rattle.cmwq_state.specs.Gone.{AreGone, MayTellGone, TellGone}
+use Rattle.cmwq_state.specs.Gone.{AreGone, MayTellGone}
 use Rattle.cmwq_refinement.proofs.FlightRefine.{flights_refine, flights_may_be_told}
-use Rattle.cmwq_state.proofs.GoneSteps.{gone_refine, may_tell_gone}
+use Rattle.cmwq_state.proofs.GoneSteps.{may_tell_gone}
 use Rattle.cmwq_pwq.specs.Pwqs as lines
-use Rattle.cmwq_state.specs.Lines.{ArePwqsOf}
-use Rattle.cmwq_theory_active.specs.Looks.{keeps_widths}
-use Rattle.cmwq_state.proofs.PwqsBehind.{all_behind, finished_waits_not, ended_placed, opened_placed}
-use Rattle.cmwq_state.specs.Widths.{AreWidths, TellWidth, MayTellWidth}
-use Rattle.cmwq_state.proofs.WidthSteps.{told_widths, widths_are}
+use Rattle.cmwq_state.specs.Pwqs.{ArePwqsOf}
+use Rattle.cmwq_state.proofs.PwqsBehind.{finished_waits_not, ended_placed, opened_placed}
+use Rattle.cmwq_state.specs.Widths.{AreWidths, MayTellWidth}
+use Rattle.cmwq_state.proofs.WidthSteps.{widths_are}
 use Rattle.cmwq_state.proofs.Listing.{may_all_same}
 use Rattle.cmwq_state.proofs.PwqsSteps.{ArePassed, IsReadyToPass, are_placed, pwqs_ended, pwqs_opened, pwqs_passed}
-use Rattle.cmwq_state.specs.Tables.{IsThere, who_place, pool_in, book_in, only, those_in, ArePools, AreBooks, AreSerials, TellWorker, TellCancelled, TellEnded, TellOpened, TellDone, TellBegun, ListAll, IsListable, MayBeListed, MayTellEnded, MayTellOpened, MayTellCancelled, MayTellDone, MayTellBegun, MayEndWait, MayBeginWait}
-use Rattle.cmwq_state.specs.State.{Parts, AreParts}
+use Rattle.cmwq_state.specs.Tables.{IsThere, pool_in, book_in, only, those_in, ArePools, AreBooks, TellWorker, TellCancelled, TellEnded, TellOpened, TellDone, TellBegun, ListAll, IsListable, MayBeListed, MayTellEnded, MayTellOpened, MayTellCancelled, MayTellDone, MayTellBegun, MayEndWait, MayBeginWait}
 use Rattle.cmwq_state.specs.Effects.{IsEffect, item_number}
 use Rattle.cmwq_state.specs.declared.effect.Effect.{Effect}
-use Rattle.cmwq_state.proofs.Refine.{IsSmall, serials_told}
+use Rattle.cmwq_state.proofs.Refine.{IsSmall}
 
 -- ---- pools
 
@@ -177,33 +174,7 @@ tickets_told f rows = tickets.told_given f.begun (tickets.told_ended f.done rows
 pub told_tickets : (s : Layout) (past : List Entry) (f : Effect) → IsEffect s past f → tickets_told f (tickets.tickets_of s past) ≡ tickets.tickets_of s (f.entry ∷ past)
 told_tickets s past f is = rw (is.done, is.begun) (tickets_refine s past f.entry is.legal)
 
--- ---- all of them
-
-pub record Told (s : Layout) (past : List Entry) (f : Effect) (old new : Parts) : Type 0 where
-  pub pools_mid : List PoolState
-  pub pools_late : List PoolState
-  pub books_mid : List FlushBook
-  pub books_late : List FlushBook
-  pub books_end : List FlushBook
-  pub pwqs_wide : ℕ → ℕ
-  pub worker : TellWorker f.entry.who f.entry.reply old.pools pools_mid
-  pub cancelled : TellCancelled s f.entry f.ended pools_mid pools_late
-  pub listed : ListAll s.queues new.pwqs.activated pools_late new.pools
-  pub ended : TellEnded f.ended old.books books_mid
-  pub opened : TellOpened f.opened books_mid books_late
-  pub done : TellDone f.done books_late books_end
-  pub begun : TellBegun f.begun books_end new.books
-  pub barrier : new.barriers ≡ barriers_told f old.barriers
-  pub timer : new.timers ≡ timers.told_settled (item_number f.settled) f.booked old.timers
-  pub time : new.time ≡ old.time + ticks_told f.entry.call
-  pub serials : new.serials ≡ slice_set old.serials (who_place f.entry.who) (serial_of past f.entry.who + 1)
-  pub flights : new.flights ≡ flights_told f old.flights
-  pub tickets : new.tickets ≡ tickets_told f old.tickets
-  pub gone : TellGone f.done old.gone new.gone
-  pub pwqs : ArePassed s past f.entry (lines.told_opened f.opened (lines.told_ended f.ended old.pwqs)) new.pwqs pwqs_wide
-  pub widths : TellWidth f.entry.call f.entry.reply old.most new.most
-  pub frozen : new.frozen ≡ frozen_after f.entry.reply old.frozen
-  pub owing : new.owing ≡ f.owing
+-- ---- pool workqueues
 
 pub pwqs_told : (s : Layout) (past : List Entry) (f : Effect) (l new : PwqState) (wide : ℕ → ℕ) → IsEffect s past f → IsSmall s → IsLegal s past → ArePwqsOf s past l →
     ArePassed s past f.entry (lines.told_opened f.opened (lines.told_ended f.ended l)) new wide → ArePwqsOf s (f.entry ∷ past) new × (new.activated ≡ newly_active s past f.entry)
@@ -212,24 +183,6 @@ pwqs_told s past f l new wide is small before are passed =
     let ready = (pwqs_opened s past f.entry is.legal small.cpus (lines.told_ended (ending past f.entry) l) mid).0 in
     let same : lines.told_opened f.opened (lines.told_ended f.ended l) ≡ lines.told_opened (opening past f.entry) (lines.told_ended (ending past f.entry) l) = ap₂ (λ o x. lines.told_opened o (lines.told_ended x l)) is.opened is.ended in
     pwqs_passed s past f.entry is.legal small.cpus (lines.told_opened (opening past f.entry) (lines.told_ended (ending past f.entry) l)) new wide ready (subst (λ m. ArePassed s past f.entry m new wide) same passed)
-
-pub told_parts : (s : Layout) (past : List Entry) (f : Effect) (old new : Parts) → IsEffect s past f → IsSmall s → IsThere s f.entry.who → IsLegal s past → AreParts s past old → Told s past f old new → AreParts s (f.entry ∷ past) new
-told_parts s past f old new is small there before are told =
-    let pwqs = pwqs_told s past f old.pwqs new.pwqs told.pwqs_wide is small before are.pwqs told.pwqs in
-    record {
-      pools = told_pools s past f old.pools told.pools_mid told.pools_late new.pools new.pwqs.activated is are.pools told.worker told.cancelled pwqs.1 told.listed;
-      books = told_books s past f old.books told.books_mid told.books_late told.books_end new.books is are.books told.ended told.opened told.done told.begun;
-      barriers = told.barrier ∙ (ap (barriers_told f) are.barriers ∙ told_barriers s past f is);
-      timers = told.timer ∙ (ap (λ rows. timers.told_settled (item_number f.settled) f.booked rows) are.timers ∙ told_timers s past f is);
-      time = told.time ∙ (ap (λ n. n + ticks_told f.entry.call) are.time ∙ sym (time_goes_on past f.entry));
-      serials = subst (AreSerials s (f.entry ∷ past)) (sym told.serials) (serials_told s f.entry past old.serials small there are.serials);
-      flights = told.flights ∙ (ap (flights_told f) are.flights ∙ told_flights s past f is);
-      tickets = told.tickets ∙ (ap (tickets_told f) are.tickets ∙ told_tickets s past f is);
-      gone = gone_refine s past f.entry old.gone new.gone are.gone (subst (λ o. TellGone o old.gone new.gone) is.done told.gone);
-      pwqs = pwqs.0;
-      widths = subst (AreWidths s (f.entry ∷ past) new.most) (sym told.frozen) (told_widths s past f.entry old.most new.most old.frozen are.widths told.widths);
-      owing = told.owing ∙ is.owing;
-    }
 
 -- ---- and each may be told
 
@@ -373,39 +326,18 @@ may_tell_width s past f most is many = by f.entry.call (numbers_fit s past f.ent
 
 -- ---- the pass, as it is called
 
-pub record PassMade (s : Layout) (past : List Entry) (f : Effect) (l : PwqState) (old most : List ℕ) (stopped frozen : Bool) (new : PwqState) : Type 0 where
-  pub queues : List QueueShape
-  pub widths : List ℕ
-  pub queues_are : queues ≡ s.queues
-  pub widths_are_most : widths ≡ most
-  pub width : TellWidth f.entry.call f.entry.reply old most
-  pub frozen_is : frozen ≡ frozen_after f.entry.reply stopped
-  pub passed : IsPassed (width_by queues widths frozen) (lines.told_opened f.opened (lines.told_ended f.ended l)) new
-
-pub pass_made : (s : Layout) (past : List Entry) (f : Effect) (l : PwqState) (old most : List ℕ) (stopped frozen : Bool) (new : PwqState) → AreWidths s past old stopped → PassMade s past f l old most stopped frozen new →
-    ArePassed s past f.entry (lines.told_opened f.opened (lines.told_ended f.ended l)) new (width_by s.queues most frozen)
-pass_made s past f l old most stopped frozen new are made = record {
-  passes = λ way have. made.passed.passes way (rw (made.queues_are, made.widths_are_most) have);
-  room = made.passed.room;
-  widths = widths_are s (f.entry ∷ past) most frozen (subst (AreWidths s (f.entry ∷ past) most) (sym made.frozen_is) (told_widths s past f.entry old most stopped are made.width));
+pub passed_by : (s : Layout) (past : List Entry) (f : Effect) (l : PwqState) (queues : List QueueShape) (most : List ℕ) (frozen : Bool) (new : PwqState) → queues ≡ s.queues → AreWidths s (f.entry ∷ past) most frozen
+    → IsPassed (width_by queues most frozen) (lines.told_opened f.opened (lines.told_ended f.ended l)) new → ArePassed s past f.entry (lines.told_opened f.opened (lines.told_ended f.ended l)) new (width_by s.queues most frozen)
+passed_by s past f l queues most frozen new those are passed = record {
+  passes = λ way have. passed.passes way (rw those have);
+  room = passed.room;
+  widths = widths_are s (f.entry ∷ past) most frozen are;
 }
-
-pub activated_newly : (s : Layout) (past : List Entry) (f : Effect) (l : PwqState) (old most : List ℕ) (stopped frozen : Bool) (new : PwqState) → IsEffect s past f → IsSmall s → IsLegal s past → ArePwqsOf s past l → AreWidths s past old stopped →
-    PassMade s past f l old most stopped frozen new → new.activated ≡ newly_active s past f.entry
-activated_newly s past f l old most stopped frozen new is small before pwqs are made =
-    (pwqs_told s past f l new (width_by s.queues most frozen) is small before pwqs (pass_made s past f l old most stopped frozen new are made)).1
 
 pub may_pass : (s : Layout) (past : List Entry) (f : Effect) (l : PwqState) (queues : List QueueShape) → IsEffect s past f → IsSmall s → IsLegal s past → ArePwqsOf s past l → queues ≡ s.queues →
     ArePlaced (length queues) (lines.told_opened f.opened (lines.told_ended f.ended l)).waiting
 may_pass s past f l queues is small before pwqs those = rw those
     (are_placed s past f.entry is.legal small.cpus (lines.told_opened f.opened (lines.told_ended f.ended l)) (pwqs_ready s past f l is small before pwqs).0)
-
--- what waits is behind the widths, as the pool workqueues are told of them
-pub may_be_behind : (s : Layout) (past : List Entry) (f : Effect) (l : PwqState) (old most : List ℕ) (stopped frozen : Bool) (queues : List QueueShape) (widths : List ℕ) → IsSmall s → IsLegal s past → ArePwqsOf s past l → AreWidths s past old stopped →
-    queues ≡ s.queues → widths ≡ most → TellWidth f.entry.call f.entry.reply old most → frozen ≡ frozen_after f.entry.reply stopped → keeps_widths f.entry.reply ≡ true → AreBehind (width_by queues widths frozen) l.counts l.waiting
-may_be_behind s past f l old most stopped frozen queues widths small before pwqs are those same width is keeps = rw (those, same)
-    (all_behind s past f.entry l (width_by s.queues most frozen) before small.cpus pwqs keeps
-    (widths_are s (f.entry ∷ past) most frozen (subst (AreWidths s (f.entry ∷ past) most) (sym is) (told_widths s past f.entry old most stopped are width))))
 
 pub may_have_run : (s : Layout) (past : List Entry) (f : Effect) (l : PwqState) → IsEffect s past f → IsLegal s past → ArePwqsOf s past l → is_some (number_finished f.entry.reply) ≡ true → IfSome f.ended (λ x. is_waiting l x ≡ false)
 may_have_run s past f l is before pwqs h = rw is.ended (finished_waits_not s past f.entry l is.legal before pwqs h)

@@ -1,8 +1,8 @@
 -- What an entry does, as the parts are told of it.
-use Rattle.std.specs.Prelude.{◌≡◌, ℕ, if◌then◌else◌, List, ◌∷◌, length, Option, Some, None}
+use Rattle.std.specs.Prelude.{◌≡◌, ℕ, ◌<◌, true, if◌then◌else◌, List, ◌∷◌, length, Option, Some, None}
 use Rattle.cmwq_model.specs.declared.id.ItemId.{ItemId}
 use Rattle.cmwq_model.specs.declared.entry.Entry.{Entry}
-use Rattle.cmwq_model.specs.Prelude.{Layout, item_of, settles, booking_of, opening, IsLegal, owed}
+use Rattle.cmwq_model.specs.Prelude.{Layout, is_layout, item_of, settles, booking_of, opening, IsLegal, owed}
 use Rattle.cmwq_theory_steps.specs.Endings.{ending}
 use Rattle.cmwq_theory_steps.specs.TicketSteps.{ticket_ended}
 use Rattle.cmwq_refinement.specs.Told.{ticket_given}
@@ -26,3 +26,10 @@ pub record IsEffect (s : Layout) (past : List Entry) (f : Effect) : Type 0 where
   pub settled : item_number f.settled ≡ settled_by f.entry
   pub booked : f.booked ≡ booking_of f.entry (length past)
   pub owing : f.owing ≡ owed s (f.entry ∷ past)
+
+-- the effect is that of the next entry after a legal past, in a layout inside the limits
+pub record IsNextEffect (s : Layout) (past : List Entry) (f : Effect) : Type 0 where
+  pub inside : is_layout s ≡ true
+  pub before : IsLegal s past
+  pub few : length past < 9223372036854775808
+  pub effect : IsEffect s past f

@@ -1,7 +1,7 @@
 pub mod Tables
 pub mod Flights
 pub mod Gone
-pub mod Lines
+pub mod Pwqs
 pub mod Widths
 pub mod History
 pub mod Effects

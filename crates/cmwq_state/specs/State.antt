@@ -14,7 +14,7 @@ use Rattle.cmwq_inflight.specs.Flights.{Flight}
 use Rattle.cmwq_refinement.specs.Flights.{flights_of}
 use Rattle.cmwq_refinement.specs.Tickets.{tickets_of}
 use Rattle.cmwq_state.specs.Gone.{AreGone}
-use Rattle.cmwq_state.specs.Lines.{ArePwqsOf}
+use Rattle.cmwq_state.specs.Pwqs.{ArePwqsOf}
 use Rattle.cmwq_state.specs.Widths.{AreWidths}
 use Rattle.cmwq_state.specs.Tables.{ArePools, AreBooks, AreSerials}
 

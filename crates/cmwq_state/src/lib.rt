@@ -1,6 +1,7 @@
 //! The state of a work queue runtime: its history, and the parts that answer without looking back.
 #![tactic(auto)]
 
+mod apply;
 mod effect;
 mod new;
 mod state;

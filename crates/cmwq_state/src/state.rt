@@ -12,13 +12,13 @@ mod reads;
 mod waits;
 mod workers;
 
+use crate::apply::{
+    apply_barriers, apply_books, apply_flights, apply_gone, apply_pools, apply_pwqs, apply_serials,
+    apply_tickets, apply_timers, apply_widths,
+};
 use crate::effect::Effect;
 use crate::new::{new_flush_parts, new_item_parts, new_queue_parts};
-use crate::tables::{
-    frozen_after, list_active, tell_barrier_begun, tell_barrier_done, tell_barriers, tell_begun,
-    tell_cancelled, tell_done, tell_ended, tell_flights, tell_gone, tell_opened, tell_pwqs,
-    tell_tickets, tell_timers, tell_width, tell_worker, who_place,
-};
+use crate::tables::who_place;
 use cmwq_flush::{Barriers, Flushes};
 use cmwq_inflight::Flights;
 use cmwq_model::{Call, Counts, Entry, NoMemory, QueueShape, Shape, Who};
@@ -172,49 +172,37 @@ impl State {
         self.has_time(call) && owing < self.room - self.entries.len()
     }
 
-    /// Appends an entry for which there is room and time, and tells each part what it does.
+    /// Appends an entry for which there is room and time: it is applied to each part.
     pub fn append(&mut self, effect: Effect)
         requires is { IsEffect self.old.layout (past_of self.old.entries) effect }
         requires room { length self.old.entries + 1 + effect.owing ≤ self.old.room }
         requires time { has_time (past_of self.old.entries) effect.entry.call ≡ true }
         ensures { self.new ≡ with_entry self.old effect.entry }
     {
-        let entry = effect.entry;
-        tell_worker(&mut self.pools, entry.who, entry.reply);
-        tell_cancelled(&self.queues, &mut self.pools, entry.reply, effect.ended);
-        tell_width(&mut self.most, entry.call, entry.reply);
-        self.frozen = frozen_after(entry.reply, self.frozen);
-        tell_pwqs(
+        self.frozen = apply_widths(&mut self.most, self.frozen, &effect);
+        apply_pwqs(
             &mut self.pwqs,
             &self.queues,
             &self.most,
             self.frozen,
-            entry.reply,
-            effect.ended,
-            effect.opened,
+            &effect,
         );
-        list_active(&self.queues, &mut self.pools, self.pwqs.activated());
-        tell_ended(&mut self.books, effect.ended);
-        tell_opened(&mut self.books, effect.opened);
-        tell_done(&mut self.books, effect.done);
-        tell_begun(&mut self.books, effect.begun);
-        tell_barriers(&mut self.barriers, effect.ended, effect.opened);
-        tell_barrier_done(&mut self.barriers, effect.done);
-        tell_barrier_begun(&mut self.barriers, effect.begun);
-        tell_flights(
-            &mut self.flights,
-            entry.reply,
-            effect.ended,
-            effect.started,
-            effect.opened,
+        apply_pools(
+            &mut self.pools,
+            &self.queues,
+            self.pwqs.activated(),
+            &effect,
         );
-        tell_tickets(&mut self.tickets, effect.done, effect.begun);
-        tell_gone(&mut self.gone, effect.done);
-        tell_timers(&mut self.timers, effect.settled, effect.booked);
-        self.time += u64::from(ticks_of(entry.call));
-        self.serials[who_place(entry.who)] = entry.serial + 1;
+        apply_books(&mut self.books, &effect);
+        apply_barriers(&mut self.barriers, &effect);
+        apply_flights(&mut self.flights, &effect);
+        apply_tickets(&mut self.tickets, &effect);
+        apply_gone(&mut self.gone, &effect);
+        apply_timers(&mut self.timers, &effect);
+        apply_serials(&mut self.serials, &effect);
+        self.time += u64::from(ticks_of(effect.entry.call));
         self.owing = effect.owing;
-        self.entries.push(&entry);
+        self.entries.push(&effect.entry);
     }
 
     /// How many queueings are open.

@@ -17,11 +17,11 @@ survives past e x = not (finishes x.number e) && not (takes_back x.number e) && 
 abbrev pub is_ended : List Entry → Entry → Queueing → Bool
 is_ended past e x = not (survives past e x)
 
--- a queueing is open after the entry where it was open before and is survivors
+-- a queueing is open after the entry where it was open before and survives
 abbrev pub SurvivorsStayOpen : Type 0
 SurvivorsStayOpen = (past : List Entry) (e : Entry) (x : Queueing) → x.number < length past → is_live (e ∷ past) x ≡ (is_live past x && survives past e x)
 
--- what is open after the entry: what was open and is survivors, then what the entry opens
+-- what is open after the entry: what was open and survives, then what the entry opens
 abbrev pub OpenGoOn : Type 0
 OpenGoOn = (s : Layout) (past : List Entry) (e : Entry) → IsLegal s (e ∷ past) → still_open (e ∷ past) ≡ filter (survives past e) (still_open past) ++ option_to_list (opening past e)
 

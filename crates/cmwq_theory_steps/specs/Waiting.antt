@@ -14,7 +14,7 @@ use Rattle.cmwq_theory_steps.specs.Activations.{waits, stay_count}
 abbrev pub waiting : Layout → List Entry → List Queueing
 waiting s past = filter (waits s past) (still_open past)
 
--- what an entry may make active: what waited and is open after it, and so, what waited and is survivors, then what is opened
+-- what an entry may make active: what waited and is open after it, and so, what waited and survives, then what is opened
 abbrev pub candidates : Layout → List Entry → Entry → List Queueing
 candidates s past e = filter (waits s past) (still_open (e ∷ past))
 

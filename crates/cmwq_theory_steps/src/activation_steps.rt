@@ -12,8 +12,8 @@ pub fn started_are_active()
     ensures { StartedAreActive }
 {}
 
-/// What an entry makes active: the first behind the width where an active queueing ends, and what it opens where
-/// there is way.
+/// What an entry makes active: the first behind the width where an active queueing ends, and what it opens where it
+/// is below max_active.
 pub fn newly_active_are()
     ensures { NewlyActiveAre }
 {}

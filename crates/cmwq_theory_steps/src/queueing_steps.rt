@@ -4,12 +4,12 @@ ghost use Rattle.cmwq_theory_steps.specs.Endings.{SurvivorsStayOpen, OpenGoOn, O
 ghost use Rattle.cmwq_theory_steps.specs.Pending.{OneUnstarted, BookedOrUnstarted};
 ghost use Rattle.cmwq_theory_steps.specs.Limits.{OpenAreCounted, TwoOfAnItem, TwoForEachItem};
 
-/// A queueing is open after an entry where it was open before and is survivors.
+/// A queueing is open after an entry where it was open before and survives.
 pub fn survivors_stay_open()
     ensures { SurvivorsStayOpen }
 {}
 
-/// What is open after an entry: what was open and is survivors, then what the entry opens.
+/// What is open after an entry: what was open and survives, then what the entry opens.
 pub fn open_go_on()
     ensures { OpenGoOn }
 {}

@@ -2,7 +2,7 @@
 
 ghost use Rattle.cmwq_theory_steps.specs.Waiting.{CandidatesAre, CandidatesBelowMaxActive, WaitingGoesOn, WayByPicked, WaitingOnGoesOn, ActiveAreCounted, ActiveCountsGoOn, StaysAreCounted};
 
-/// What an entry may make active: what waited and is survivors, then what it opens.
+/// What an entry may make active: what waited and survives, then what it opens.
 pub fn candidates_are()
     ensures { CandidatesAre }
 {}

@@ -52,13 +52,13 @@ not_sooner now held rows i k t u may e other =
     let same : u ≡ t = one_timer (timer_of rows k) t u may.0 (rw e at other).0 in
     rw same (sooner_self t)
 
--- a row that may fire takes the lead where it is sooner
-takes_lead : (now held : ℕ) (rows : Rows) (k : ℕ) (c : Candidate) (t : Timer) (s : Bool) → is_sooner t c.timer ≡ s → MayFire now held rows k t → MinimaBelow now held rows k c → MinimaBelow now held rows (k + 1) (cond s (record { item = record { 0 = k }; timer = t }) c)
-takes_lead now held rows k c t true is may below = record {
+-- a row that may fire takes the minimum where it is sooner
+takes_minimum : (now held : ℕ) (rows : Rows) (k : ℕ) (c : Candidate) (t : Timer) (s : Bool) → is_sooner t c.timer ≡ s → MayFire now held rows k t → MinimaBelow now held rows k c → MinimaBelow now held rows (k + 1) (cond s (record { item = record { 0 = k }; timer = t }) c)
+takes_minimum now held rows k c t true is may below = record {
   may_fire = may;
   none_sooner = λ i u lt other. ⊎_elim (λ l. sooner_chain u c.timer t (below.none_sooner i u l other) is) (λ e. not_sooner now held rows i k t u may e other) (is_last i k lt);
 }
-takes_lead now held rows k c t false is may below = record {
+takes_minimum now held rows k c t false is may below = record {
   may_fire = below.may_fire;
   none_sooner = λ i u lt other. ⊎_elim (λ l. below.none_sooner i u l other) (λ e. rw (one_timer (timer_of rows k) t u may.0 (rw e at other).0) is) (is_last i k lt);
 }
@@ -68,4 +68,4 @@ FirstBelow-next now held rows k None t may below = record {
   may_fire = may;
   none_sooner = λ i u lt other. ⊎_elim (λ l. absurd (below i u l other)) (λ e. not_sooner now held rows i k t u may e other) (is_last i k lt);
 }
-FirstBelow-next now held rows k (Some c) t may below = takes_lead now held rows k c t (is_sooner t c.timer) refl may below
+FirstBelow-next now held rows k (Some c) t may below = takes_minimum now held rows k c t (is_sooner t c.timer) refl may below

@@ -1,2 +1,2 @@
 mod Below
-mod Leading
+mod BlockMinima

@@ -16,11 +16,11 @@ pub record MinimaIn (rows : Rows) (lo hi : ℕ) (c : Candidate) : Type 0 where
   pub is_booked : IsBookedIn rows lo hi c.item.0 c.timer
   pub none_sooner : (i : ℕ) (t : Timer) → IsBookedIn rows lo hi i t → is_sooner t c.timer ≡ false
 
--- the lead of these, if one is booked
-abbrev pub IsLead : Rows → ℕ → ℕ → Option Candidate → Type 0
-IsLead rows lo hi None = (i : ℕ) (t : Timer) → ¬ (IsBookedIn rows lo hi i t)
-IsLead rows lo hi (Some c) = MinimaIn rows lo hi c
+-- the minimum of these, if one is booked
+abbrev pub IsMinimum : Rows → ℕ → ℕ → Option Candidate → Type 0
+IsMinimum rows lo hi None = (i : ℕ) (t : Timer) → ¬ (IsBookedIn rows lo hi i t)
+IsMinimum rows lo hi (Some c) = MinimaIn rows lo hi c
 
 pub record AreMinima (rows : Rows) (minima : List (Option Candidate)) : Type 0 where
   pub many : length rows ≤ 16 * length minima
-  pub each : (b : ℕ) → b < length minima → IsLead rows (16 * b) (16 * b + 16) (slice_index_or minima b None)
+  pub each : (b : ℕ) → b < length minima → IsMinimum rows (16 * b) (16 * b + 16) (slice_index_or minima b None)

@@ -2,7 +2,7 @@
 
 ghost use Rattle.std.specs.Prelude.{◌≡◌, ◌+◌, ◌*◌, ◌^◌, ◌<◌, ◌≤◌, length};
 ghost use Rattle.cmwq_timer.specs.Candidates.{sooner};
-ghost use Rattle.cmwq_timer.specs.Minima.{AreMinima, IsLead};
+ghost use Rattle.cmwq_timer.specs.Minima.{AreMinima, IsMinimum};
 ghost use Rattle.cmwq_timer.specs.Rows.{Rows};
 
 use crate::timer::Timer;
@@ -37,10 +37,10 @@ pub(crate) fn block_of(item: ItemId) -> usize
 }
 
 /// The item of a block whose timer comes first.
-pub(crate) fn lead_of(rows: &[Option<Timer>], block: usize) -> Option<Candidate>
+pub(crate) fn minimum_of(rows: &[Option<Timer>], block: usize) -> Option<Candidate>
     requires few { length rows.now < 2 ^ 16 }
     requires block { 16 * block ≤ length rows.now }
-    ensures { IsLead rows.now (16 * block) (16 * block + 16) result }
+    ensures { IsMinimum rows.now (16 * block) (16 * block + 16) result }
 {
     let mut first = None;
     let start = block * BLOCK;
@@ -54,12 +54,12 @@ pub(crate) fn lead_of(rows: &[Option<Timer>], block: usize) -> Option<Candidate>
 }
 
 /// The item of all blocks whose timer comes first.
-pub(crate) fn first_lead(minima: &[Option<Candidate>]) -> Option<Candidate>
-    ensures { (rows : Rows) → AreMinima rows minima.now → IsLead rows 0 (16 * length minima.now) result }
+pub(crate) fn first_minimum(minima: &[Option<Candidate>]) -> Option<Candidate>
+    ensures { (rows : Rows) → AreMinima rows minima.now → IsMinimum rows 0 (16 * length minima.now) result }
 {
     let mut first = None;
-    for lead in minima {
-        if let Some(next) = lead {
+    for minimum in minima {
+        if let Some(next) = minimum {
             first = Some(sooner(first, *next));
         }
     }

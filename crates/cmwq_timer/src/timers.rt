@@ -1,7 +1,7 @@
 ghost use Rattle.std.specs.Prelude.{◌≡◌, ℕ, ◌^◌, ◌<◌, Some, None, IfOk, IfSome, IfNone, length, replicate, slice_set};
 ghost use Rattle.cmwq_timer.specs.Rows.{timer_of, due_of, is_booked_on, HaveBits, NoneMayFire, IsFirstToFire};
 
-use crate::minima::{BLOCK, Candidate, block_of, first_lead, lead_of, sooner};
+use crate::minima::{BLOCK, Candidate, block_of, first_minimum, minimum_of, sooner};
 use crate::timer::Timer;
 use cmwq_model::{ItemId, NoMemory, Number, Place, QueueId};
 use std::alloc::Global;
@@ -57,7 +57,7 @@ impl Timers {
             due,
             number: at,
         });
-        self.minima[block_of(item)] = lead_of(&self.rows, block_of(item));
+        self.minima[block_of(item)] = minimum_of(&self.rows, block_of(item));
     }
 
     /// Takes an item's booking back, if it has one (`del_timer`).
@@ -66,7 +66,7 @@ impl Timers {
         ensures { self.new ≡ slice_set self.old item.0 None }
     {
         self.rows[usize::from(item.0)] = None;
-        self.minima[block_of(item)] = lead_of(&self.rows, block_of(item));
+        self.minima[block_of(item)] = minimum_of(&self.rows, block_of(item));
     }
 
     /// The timer that is set for an item, if it is booked: where it is to be queued, when, and by which entry.
@@ -100,12 +100,12 @@ impl Timers {
         ensures found { IfSome result (λ item. IsFirstToFire now held self.now item.0) }
         ensures none { IfNone result (NoneMayFire now held self.now) }
     {
-        match first_lead(&self.minima) {
+        match first_minimum(&self.minima) {
             None => None,
-            Some(lead) => {
-                if lead.timer.may_fire(now, held) {
-                    Some(lead.item)
-                } else if now < lead.timer.due {
+            Some(minimum) => {
+                if minimum.timer.may_fire(now, held) {
+                    Some(minimum.item)
+                } else if now < minimum.timer.due {
                     None
                 } else {
                     self.first_of_all(now, held)

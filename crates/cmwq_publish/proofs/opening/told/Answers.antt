@@ -1,4 +1,4 @@
-use Rattle.cmwq_publish.proofs.Seats.{admits, forks, merges}
+use Rattle.cmwq_publish.proofs.Places.{admits, forks, merges}
 use Rattle.cmwq_publish.proofs.opening.told.Goals as goal
 
 pub reader-requires : goal.reader-requires

@@ -1,4 +1,4 @@
-use Rattle.cmwq_publish.proofs.Seats.{looks}
+use Rattle.cmwq_publish.proofs.Places.{looks}
 use Rattle.cmwq_publish.proofs.reader.read.Goals as goal
 
 pub enter_as-requires : goal.enter_as-requires

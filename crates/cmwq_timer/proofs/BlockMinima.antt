@@ -8,7 +8,7 @@ use Rattle.cmwq_timer.specs.declared.timer.Timer.{Timer}
 use Rattle.cmwq_timer.specs.declared.minima.Candidate.{Candidate}
 use Rattle.cmwq_timer.specs.Due.{may_fire, is_sooner}
 use Rattle.cmwq_timer.specs.Candidates.{sooner}
-use Rattle.cmwq_timer.specs.Minima.{IsBookedIn, MinimaIn, IsLead, AreMinima}
+use Rattle.cmwq_timer.specs.Minima.{IsBookedIn, MinimaIn, IsMinimum, AreMinima}
 use Rattle.cmwq_timer.specs.Rows.{Rows, timer_of, MayFire, NoneMayFire, IsFirstToFire}
 
 sooner_chain : (a b c : Timer) → is_sooner a b ≡ false → is_sooner c b ≡ true → is_sooner a c ≡ false
@@ -21,7 +21,7 @@ sooner_self a = grind (arith, nat_tests)
 sooner_on : (a b c : Timer) → is_sooner a c ≡ false → is_sooner c b ≡ false → is_sooner a b ≡ false
 sooner_on a b c = grind (arith, nat_tests)
 
--- the lead of two ranges that follow one another
+-- the minimum of two ranges that follow one another
 abbrev pub led : Option Candidate → Option Candidate → Option Candidate
 led first None = first
 led first (Some next) = Some (sooner first next)
@@ -36,17 +36,17 @@ module _ (rows : Rows) (lo mid hi : ℕ) (up : lo ≤ mid) (on : mid ≤ hi) whe
   wider_right : (i : ℕ) (t : Timer) → IsBookedIn rows mid hi i t → IsBookedIn rows lo hi i t
   wider_right i t is = let f = is.from in record { from = omega arith; below = is.below; booked = is.booked }
 
-  pub lead_of_both : (first next : Option Candidate) → IsLead rows lo mid first → IsLead rows mid hi next → IsLead rows lo hi (led first next)
-  lead_of_both None None a b = λ i t is. ⊎_elim (λ l. a i t l) (λ r. b i t r) (parted i t is)
-  lead_of_both (Some c) None a b = record {
+  pub minimum_of_both : (first next : Option Candidate) → IsMinimum rows lo mid first → IsMinimum rows mid hi next → IsMinimum rows lo hi (led first next)
+  minimum_of_both None None a b = λ i t is. ⊎_elim (λ l. a i t l) (λ r. b i t r) (parted i t is)
+  minimum_of_both (Some c) None a b = record {
     is_booked = wider_left c.item.0 c.timer a.is_booked;
     none_sooner = λ i t is. ⊎_elim (λ l. a.none_sooner i t l) (λ r. absurd (b i t r)) (parted i t is);
   }
-  lead_of_both None (Some d) a b = record {
+  minimum_of_both None (Some d) a b = record {
     is_booked = wider_right d.item.0 d.timer b.is_booked;
     none_sooner = λ i t is. ⊎_elim (λ l. absurd (a i t l)) (λ r. b.none_sooner i t r) (parted i t is);
   }
-  lead_of_both (Some c) (Some d) a b = by (is_sooner d.timer c.timer) refl
+  minimum_of_both (Some c) (Some d) a b = by (is_sooner d.timer c.timer) refl
     where
       by : (s : Bool) → is_sooner d.timer c.timer ≡ s → MinimaIn rows lo hi (cond s d c)
       by true is = record {
@@ -62,7 +62,7 @@ one_timer : (o : Option Timer) (t u : Timer) → o ≡ Some t → o ≡ Some u �
 one_timer o t u p q = cc
 
 -- one row alone
-pub one_led : (rows : Rows) (k : ℕ) (t : Timer) → timer_of rows k ≡ Some t → IsLead rows k (k + 1) (Some (record { item = record { 0 = k }; timer = t }))
+pub one_led : (rows : Rows) (k : ℕ) (t : Timer) → timer_of rows k ≡ Some t → IsMinimum rows k (k + 1) (Some (record { item = record { 0 = k }; timer = t }))
 one_led rows k t at = record {
   is_booked = record { from = omega arith; below = omega arith; booked = at };
   none_sooner = λ i u is.
@@ -72,7 +72,7 @@ one_led rows k t at = record {
       rw same (sooner_self t);
 }
 
-pub one_unled : (rows : Rows) (k : ℕ) → ((t : Timer) → timer_of rows k ≡ Some t → ⊥) → IsLead rows k (k + 1) None
+pub one_unled : (rows : Rows) (k : ℕ) → ((t : Timer) → timer_of rows k ≡ Some t → ⊥) → IsMinimum rows k (k + 1) None
 one_unled rows k none = λ i t is. let a = is.from in let b = is.below in let here : i ≡ k = omega arith in none t (rw here at is.booked)
 
 -- ---- the first to fire
@@ -84,30 +84,30 @@ module _ (rows : Rows) (all : ℕ) (whole : length rows ≤ all) (now held : ℕ
   inside : (i : ℕ) (t : Timer) → MayFire now held rows i t → IsBookedIn rows 0 all i t
   inside i t may = let l = none_past rows i t may.0 in record { from = omega arith; below = omega arith; booked = may.0 }
 
-  pub lead_fires : (c : Candidate) → IsLead rows 0 all (Some c) → may_fire now held c.timer ≡ true → IsFirstToFire now held rows c.item.0
-  lead_fires c lead may = record {
+  pub minimum_fires : (c : Candidate) → IsMinimum rows 0 all (Some c) → may_fire now held c.timer ≡ true → IsFirstToFire now held rows c.item.0
+  minimum_fires c minimum may = record {
     timer = c.timer;
-    may_fire = (lead.is_booked.booked, may);
-    none_sooner = λ j other may. lead.none_sooner j other (inside j other may);
+    may_fire = (minimum.is_booked.booked, may);
+    none_sooner = λ j other may. minimum.none_sooner j other (inside j other may);
   }
 
-  pub none_fires : IsLead rows 0 all None → NoneMayFire now held rows
-  none_fires lead = λ i t may. lead i t (inside i t may)
+  pub none_fires : IsMinimum rows 0 all None → NoneMayFire now held rows
+  none_fires minimum = λ i t may. minimum i t (inside i t may)
 
   later : (t c : Timer) → is_sooner t c ≡ false → now < c.due → may_fire now held t ≡ true → ⊥
   later t c = grind (arith, nat_tests)
 
-  pub none_is_due : (c : Candidate) → IsLead rows 0 all (Some c) → now < c.timer.due → NoneMayFire now held rows
-  none_is_due c lead less = λ i t may. later t c.timer (lead.none_sooner i t (inside i t may)) less may.1
+  pub none_is_due : (c : Candidate) → IsMinimum rows 0 all (Some c) → now < c.timer.due → NoneMayFire now held rows
+  none_is_due c minimum less = λ i t may. later t c.timer (minimum.none_sooner i t (inside i t may)) less may.1
 
 -- what has been looked at is all that there is of a block
-pub lead_whole : (rows : Rows) (lo k hi : ℕ) (o : Option Candidate) → lo ≤ k → k ≤ hi → min (length rows) hi ≤ k → IsLead rows lo k o → IsLead rows lo hi o
-lead_whole rows lo k hi o up on past lead = lead_of_both rows lo k hi up on o None lead (λ i t is. let a = is.from in let b = is.below in let l = none_past rows i t is.booked in omega arith)
+pub minimum_whole : (rows : Rows) (lo k hi : ℕ) (o : Option Candidate) → lo ≤ k → k ≤ hi → min (length rows) hi ≤ k → IsMinimum rows lo k o → IsMinimum rows lo hi o
+minimum_whole rows lo k hi o up on past minimum = minimum_of_both rows lo k hi up on o None minimum (λ i t is. let a = is.from in let b = is.below in let l = none_past rows i t is.booked in omega arith)
 
-pub all_led : (rows : Rows) (minima : List (Option Candidate)) (k : ℕ) (first : Option Candidate) (lead : Option Candidate) → AreMinima rows minima → k < length minima → slice_index_or minima k None ≡ lead → IsLead rows 0 (16 * k) first → IsLead rows 0 (16 * (k + 1)) (led first lead)
-all_led rows minima k first lead are inside is so_far =
+pub all_led : (rows : Rows) (minima : List (Option Candidate)) (k : ℕ) (first : Option Candidate) (minimum : Option Candidate) → AreMinima rows minima → k < length minima → slice_index_or minima k None ≡ minimum → IsMinimum rows 0 (16 * k) first → IsMinimum rows 0 (16 * (k + 1)) (led first minimum)
+all_led rows minima k first minimum are inside is so_far =
     let more : 16 * (k + 1) ≡ 16 * k + 16 = omega arith in
-    rw more (lead_of_both rows 0 (16 * k) (16 * k + 16) (omega arith) (omega arith) first lead so_far (rw (← is) (are.each k inside)))
+    rw more (minimum_of_both rows 0 (16 * k) (16 * k + 16) (omega arith) (omega arith) first minimum so_far (rw (← is) (are.each k inside)))
 
 pub is_none : {X : Type 0} (o : Option X) → ((x : X) → o ≡ Some x → ⊥) → o ≡ None
 is_none None not = refl

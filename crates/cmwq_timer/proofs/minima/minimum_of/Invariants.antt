@@ -1,10 +1,10 @@
 use Rattle.std.proofs.Common.{◌+◌, ◌*◌, ◌≤◌}
-use Rattle.cmwq_timer.specs.Minima.{IsLead}
-use Rattle.cmwq_timer.proofs.minima.lead_of.Given as goal
+use Rattle.cmwq_timer.specs.Minima.{IsMinimum}
+use Rattle.cmwq_timer.proofs.minima.minimum_of.Given as goal
 
 abbrev pub invariant-loop-index : goal.invariant-loop-index
 invariant-loop-index l = record {
-  led : IsLead l.rows (16 * l.block) l.index l.first;
+  led : IsMinimum l.rows (16 * l.block) l.index l.first;
   from : 16 * l.block ≤ l.index;
   below : l.index ≤ 16 * l.block + 16;
 }

@@ -1,0 +1,30 @@
+use Rattle.std.proofs.Common.{◌+◌, ◌∷◌, ap₂, arith, subst, sym}
+use Rattle.std.proofs.Math.ListN.{set}
+use Rattle.cmwq_state.specs.Tables.{AreSerials}
+use Rattle.cmwq_state.proofs.Appended.{effect_there, effect_serial}
+use Rattle.cmwq_state.proofs.Refine.{who_below, serials_told}
+use Rattle.cmwq_state.proofs.Steps.{small, serial_most}
+use Rattle.cmwq_state.proofs.apply.apply_serials.Goals as goal
+
+pub overflow_add-entry : goal.overflow_add-entry
+overflow_add-entry c =
+    let past = c.requires.1 in
+    let f = c.args.effect.now in
+    let serial = effect_serial c.requires.0 past f c.requires.2.effect in
+    let most = serial_most past f.entry.who in
+    let few = c.requires.2.few in
+    omega arith
+
+pub index_mut-requires : goal.index_mut-requires
+index_mut-requires c =
+    let s = c.requires.0 in let f = c.args.effect.now in
+    let few = small s c.requires.2.inside in
+    let below = who_below s f.entry.who (effect_there s c.requires.1 f c.requires.2.effect) few.cpus few.workers few.callers in
+    let many = c.requires.3.many in
+    rw c.who_place.ensures (omega (arith, c.args.serials.now.ok.0))
+
+pub returns : goal.returns
+returns c s past next are =
+    let f = c.args.effect.now in
+    subst (AreSerials s (f.entry ∷ past)) (sym (ap₂ (λ p n. set c.args.serials.now.items p (n + 1)) c.who_place.ensures (effect_serial s past f next.effect)))
+    (serials_told s f.entry past c.args.serials.now.items (small s next.inside) (effect_there s past f next.effect) are)

@@ -1,0 +1,148 @@
+//! How an entry is applied to each part: one that is that of a past is then that of the longer past.
+
+ghost use Rattle.std.specs.Prelude.{◌≡◌, ◌∷◌, List};
+ghost use Rattle.cmwq_model.specs.declared.entry.Entry as entries;
+ghost use Rattle.cmwq_model.specs.Prelude.{Layout, newly_active};
+ghost use Rattle.cmwq_refinement.specs.BarrierBooks.{barriers_of};
+ghost use Rattle.cmwq_refinement.specs.Flights.{flights_of};
+ghost use Rattle.cmwq_refinement.specs.Tickets.{tickets_of};
+ghost use Rattle.cmwq_refinement.specs.Timers.{timers_of};
+ghost use Rattle.cmwq_state.specs.Effects.{IsNextEffect};
+ghost use Rattle.cmwq_state.specs.Gone.{AreGone};
+ghost use Rattle.cmwq_state.specs.Pwqs.{ArePwqsOf};
+ghost use Rattle.cmwq_state.specs.Tables.{ArePools, AreBooks, AreSerials};
+ghost use Rattle.cmwq_state.specs.Widths.{AreWidths};
+
+use crate::effect::Effect;
+use crate::tables::{
+    frozen_after, list_active, tell_barrier_begun, tell_barrier_done, tell_barriers, tell_begun,
+    tell_cancelled, tell_done, tell_ended, tell_flights, tell_gone, tell_opened, tell_pwqs,
+    tell_tickets, tell_timers, tell_width, tell_worker, who_place,
+};
+use cmwq_flush::{Barriers, Flushes};
+use cmwq_inflight::Flights;
+use cmwq_model::{QueueShape, Queueing};
+use cmwq_pool::Pool;
+use cmwq_pwq::Pwqs;
+use cmwq_ticket::Tickets;
+use cmwq_timer::Timers;
+
+/// Each queue's max_active, and whether the freezable queues are frozen, which is answered.
+pub(crate) fn apply_widths(most: &mut Vec<u32>, frozen: bool, effect: &Effect) -> bool
+    requires { (s : Layout) × (past : List entries.Entry) × IsNextEffect s past effect.now × AreWidths s past most.old.items frozen }
+    ensures { (s : Layout) (past : List entries.Entry) → IsNextEffect s past effect.now → AreWidths s past most.old.items frozen → AreWidths s (effect.now.entry ∷ past) most.new.items result }
+{
+    let entry = effect.entry;
+    tell_width(most, entry.call, entry.reply);
+    frozen_after(entry.reply, frozen)
+}
+
+/// The pool workqueues, by the widths after the entry. What became active is found on the way.
+pub(crate) fn apply_pwqs(
+    pwqs: &mut Pwqs,
+    queues: &[QueueShape],
+    most: &[u32],
+    frozen: bool,
+    effect: &Effect,
+)
+    requires { (s : Layout) × (past : List entries.Entry) × IsNextEffect s past effect.now × (queues.now ≡ s.queues)
+        × AreWidths s (effect.now.entry ∷ past) most.now frozen × ArePwqsOf s past pwqs.old }
+    ensures { (s : Layout) (past : List entries.Entry) → IsNextEffect s past effect.now → queues.now ≡ s.queues → AreWidths s (effect.now.entry ∷ past) most.now frozen → ArePwqsOf s past pwqs.old
+        → ArePwqsOf s (effect.now.entry ∷ past) pwqs.new × (pwqs.new.activated ≡ newly_active s past effect.now.entry) }
+{
+    tell_pwqs(
+        pwqs,
+        queues,
+        most,
+        frozen,
+        effect.entry.reply,
+        effect.ended,
+        effect.opened,
+    );
+}
+
+/// The pools, with what became active.
+pub(crate) fn apply_pools(
+    pools: &mut Vec<Pool>,
+    queues: &[QueueShape],
+    activated: &[Queueing],
+    effect: &Effect,
+)
+    requires { (s : Layout) × (past : List entries.Entry) × IsNextEffect s past effect.now × (queues.now ≡ s.queues)
+        × (activated.now ≡ newly_active s past effect.now.entry) × ArePools s past pools.old.items }
+    ensures { (s : Layout) (past : List entries.Entry) → IsNextEffect s past effect.now → queues.now ≡ s.queues → activated.now ≡ newly_active s past effect.now.entry → ArePools s past pools.old.items
+        → ArePools s (effect.now.entry ∷ past) pools.new.items }
+{
+    let entry = effect.entry;
+    tell_worker(pools, entry.who, entry.reply);
+    tell_cancelled(queues, pools, entry.reply, effect.ended);
+    list_active(queues, pools, activated);
+}
+
+/// The flush book of each queue.
+pub(crate) fn apply_books(books: &mut Vec<Flushes>, effect: &Effect)
+    requires { (s : Layout) × (past : List entries.Entry) × IsNextEffect s past effect.now × AreBooks s past books.old.items }
+    ensures { (s : Layout) (past : List entries.Entry) → IsNextEffect s past effect.now → AreBooks s past books.old.items → AreBooks s (effect.now.entry ∷ past) books.new.items }
+{
+    tell_ended(books, effect.ended);
+    tell_opened(books, effect.opened);
+    tell_done(books, effect.done);
+    tell_begun(books, effect.begun);
+}
+
+/// The barriers of items.
+pub(crate) fn apply_barriers(barriers: &mut Barriers, effect: &Effect)
+    requires { (s : Layout) × (past : List entries.Entry) × IsNextEffect s past effect.now × (barriers.old ≡ barriers_of s past) }
+    ensures { (s : Layout) (past : List entries.Entry) → IsNextEffect s past effect.now → barriers.old ≡ barriers_of s past → barriers.new ≡ barriers_of s (effect.now.entry ∷ past) }
+{
+    tell_barriers(barriers, effect.ended, effect.opened);
+    tell_barrier_done(barriers, effect.done);
+    tell_barrier_begun(barriers, effect.begun);
+}
+
+/// The queueings in flight.
+pub(crate) fn apply_flights(flights: &mut Flights, effect: &Effect)
+    requires { (s : Layout) × (past : List entries.Entry) × IsNextEffect s past effect.now × (flights.old ≡ flights_of s past) }
+    ensures { (s : Layout) (past : List entries.Entry) → IsNextEffect s past effect.now → flights.old ≡ flights_of s past → flights.new ≡ flights_of s (effect.now.entry ∷ past) }
+{
+    tell_flights(
+        flights,
+        effect.entry.reply,
+        effect.ended,
+        effect.started,
+        effect.opened,
+    );
+}
+
+/// The unended tickets.
+pub(crate) fn apply_tickets(tickets: &mut Tickets, effect: &Effect)
+    requires { (s : Layout) × (past : List entries.Entry) × IsNextEffect s past effect.now × (tickets.old ≡ tickets_of s past) }
+    ensures { (s : Layout) (past : List entries.Entry) → IsNextEffect s past effect.now → tickets.old ≡ tickets_of s past → tickets.new ≡ tickets_of s (effect.now.entry ∷ past) }
+{
+    tell_tickets(tickets, effect.done, effect.begun);
+}
+
+/// Which queues are gone.
+pub(crate) fn apply_gone(gone: &mut Vec<bool>, effect: &Effect)
+    requires { (s : Layout) × (past : List entries.Entry) × IsNextEffect s past effect.now × AreGone s past gone.old.items }
+    ensures { (s : Layout) (past : List entries.Entry) → IsNextEffect s past effect.now → AreGone s past gone.old.items → AreGone s (effect.now.entry ∷ past) gone.new.items }
+{
+    tell_gone(gone, effect.done);
+}
+
+/// The bookings.
+pub(crate) fn apply_timers(timers: &mut Timers, effect: &Effect)
+    requires { (s : Layout) × (past : List entries.Entry) × IsNextEffect s past effect.now × (timers.old ≡ timers_of s past) }
+    ensures { (s : Layout) (past : List entries.Entry) → IsNextEffect s past effect.now → timers.old ≡ timers_of s past → timers.new ≡ timers_of s (effect.now.entry ∷ past) }
+{
+    tell_timers(timers, effect.settled, effect.booked);
+}
+
+/// How many entries each caller and each worker has.
+pub(crate) fn apply_serials(serials: &mut Vec<u64>, effect: &Effect)
+    requires { (s : Layout) × (past : List entries.Entry) × IsNextEffect s past effect.now × AreSerials s past serials.old.items }
+    ensures { (s : Layout) (past : List entries.Entry) → IsNextEffect s past effect.now → AreSerials s past serials.old.items → AreSerials s (effect.now.entry ∷ past) serials.new.items }
+{
+    let entry = effect.entry;
+    serials[who_place(entry.who)] = entry.serial + 1;
+}
