@@ -1,6 +1,6 @@
 /* Refuses the allocation with the number REFUSE_AT, counted from 1, of the program into which it is loaded (LD_PRELOAD), and where REFUSE_REST is
  * set all that follow. A thread is counted as an allocation too, since its stack is one: where it is refused pthread_create answers EAGAIN. For each
- * refusal a byte goes to the file descriptor REFUSE_MARKS. Used by examples/refuse. */
+ * refusal a byte goes to the file descriptor REFUSE_MARKS. Used by tools/memory/refuse. */
 #define _GNU_SOURCE
 #include <dlfcn.h>
 #include <errno.h>
