@@ -5,7 +5,7 @@ ghost use Rattle.serde_json.specs.Find.{get, as_array};
 ghost use Rattle.serde_json.specs.View.{view, items_view};
 ghost use Rattle.cmwq_sim.specs.Plan.{item_of};
 ghost use Rattle.cmwq_json.specs.InTurn.{in_turn};
-ghost use Rattle.cmwq_json.specs.Names.{nobody};
+ghost use Rattle.cmwq_json.specs.Names.{name_said, nobody};
 ghost use Rattle.cmwq_json.specs.Members.{named_of};
 ghost use Rattle.cmwq_json.specs.Readings.{told};
 ghost use Rattle.cmwq_json_scenario.specs.Scenarios as spec;
@@ -71,6 +71,13 @@ fn read_ms(alloc: Global, value: &Value) -> Result<Option<Vec<u16>>, AllocError>
     Ok(if_few(ms))
 }
 
+/// The name that a value has.
+fn name_of(value: &Value) -> Option<&str>
+    ensures { option_map (λ name. name.now) result ≡ option_and_then name_said (get (codes "name") (view value.now)) }
+{
+    read_name(value.get("name")?)
+}
+
 /// The number of the queue that a value names.
 fn read_queue_number(names: &IndexSet<String>, value: &Value) -> Option<u8>
     requires { length names.now.keys ≤ 8 }
@@ -94,7 +101,7 @@ fn read_item<'v>(
         return Ok(None);
     }
     let (Some(name), Some(queue), Some(ms)) = (
-        value.get("name").and_then(read_name),
+        name_of(value),
         read_queue_number(queue_names, value),
         value.get("ms"),
     ) else {
