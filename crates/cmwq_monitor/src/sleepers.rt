@@ -1,4 +1,4 @@
-//! Who sleeps and what for, and who is to be woken. No contract speaks of that: a condvar that never wakes meets them all.
+//! Who sleeps and what for, and who is to be woken. No contract speaks of that: a condvar that is never notified meets them all.
 ghost use Rattle.std.specs.Prelude.{◌≡◌, ◌<◌};
 ghost use Rattle.cmwq_monitor.specs.Places.{place};
 

@@ -163,7 +163,7 @@ module _ (wide : ℕ → ℕ) (counts : List ℕ) (x : Queueing) (cpu : x.place.
         last : Passes way ((first.before ++ y ∷ []) ++ first.after) C counts (first.before ++ first.after) (y ∷ [])
         last = keeps_behind way wide C xs have (first.before ++ y ∷ []) first.after [] counts first.before (y ∷ []) (whole ∙ ap (λ ys. (first.before ++ y ∷ []) ++ ys) (sym (append-nil first.after))) (sym less_many) (later first.before (y ∷ first.after) all).1 again
 
--- ---- the same of a pwqs
+-- ---- the same of all that waits
 
 length_split : (before : List Queueing) (y : Queueing) (after : List Queueing) → length (before ++ after) + 1 ≡ length (before ++ y ∷ after)
 length_split before y after = let a = length-append before after in let b = length-append before (y ∷ after) in omega arith

@@ -44,7 +44,7 @@ impl Condvars {
         })
     }
 
-    /// Sleeps until its condvar wakes, with the lock let go meanwhile.
+    /// Sleeps until its condvar is notified, with the lock let go meanwhile.
     pub fn wait<'a, R: Wait, T>(
         &self,
         rt: &R,

@@ -88,7 +88,7 @@ impl<N: HubName> Hub<N> {
         }
     }
 
-    /// Sleeps until its condvar wakes, with the lock let go meanwhile.
+    /// Sleeps until its condvar is notified, with the lock let go meanwhile.
     fn sleep<'a, R: Wait>(
         &self,
         rt: &R,

@@ -1,4 +1,4 @@
--- What an entry does, as the parts are told of it.
+-- What an entry does, as it is applied to the parts.
 use Rattle.std.specs.Prelude.{◌≡◌, ℕ, ◌<◌, true, if◌then◌else◌, List, ◌∷◌, length, Option, Some, None}
 use Rattle.cmwq_model.specs.declared.id.ItemId.{ItemId}
 use Rattle.cmwq_model.specs.declared.entry.Entry.{Entry}

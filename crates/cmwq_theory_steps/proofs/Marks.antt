@@ -95,7 +95,7 @@ bookings_stay past e i other = ap is_some (booking_after past e i false (quiet (
     quiet true h = apart _ (is_at (item_marked past e) i) other (marks_own past e i h)
     quiet false h = ap (λ b. settles e.reply && b) h ∙ and_false (settles e.reply)
 
--- an open queueing of item i survives and not started
+-- an open queueing of item i survives and has not started
 left_alone : (s : Layout) (past : List Entry) (e : Entry) (i : ℕ) (x : Queueing) → IsLegal s (e ∷ past) → is_at (item_marked past e) i ≡ false → IsKnown past x → (survives past e x && is_unstarted (e ∷ past) i x) ≡ is_unstarted past i x
 left_alone s past e i x legal other known = at (x.item.0 == i) refl
   where
