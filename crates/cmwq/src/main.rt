@@ -1,13 +1,15 @@
-//! `cmwq`: answers calls of a workqueue runtime, judges its histories, replays scenarios and runs scripts on threads, on standard input
+//! `cmwq`: answers calls of a workqueue runtime, judges and draws its histories, replays scenarios and runs scripts on threads, on standard input
 //! and output.
 #![tactic(auto)]
 
 use clap::error::ErrorKind;
 use cmwq_base::{BufferedSink, FromStd};
 use cmwq_cli::{Word, word_of};
+use cmwq_cmd_chart::{Window, run_chart};
 use cmwq_cmd_history::{run_check, run_front_check, run_step, run_step_live, run_upgrade};
 use cmwq_cmd_replay::run_replay;
 use cmwq_cmd_run::run_run;
+use cmwq_cmd_summary::run_summary;
 use std::alloc::{AllocError, Global};
 use std::io;
 use std::process::ExitCode;
@@ -20,6 +22,12 @@ const WRONG_USE: u8 = 2;
 
 /// The exit status where memory runs out.
 const OUT_OF_MEMORY: u8 = 4;
+
+/// A window that shows a whole history.
+const WHOLE: Window = Window {
+    from: 0,
+    to: u64::MAX,
+};
 
 /// Tells that memory ran out. A failing standard error changes no status.
 fn no_memory(rt: &impl Eprint) -> u8 {
@@ -59,6 +67,8 @@ fn run<T: Threads + Wait + Clock + Sync>(rt: &HostRuntime, word: Word, threads: 
         Word::Check { front: false } => run_check(alloc, &mut input, &mut output, &mut errors),
         Word::Check { front: true } => run_front_check(alloc, &mut input, &mut output, &mut errors),
         Word::Upgrade => run_upgrade(alloc, &mut input, &mut output, &mut errors),
+        Word::Summary => run_summary(alloc, &mut input, &mut output, &mut errors),
+        Word::Chart => run_chart(alloc, &mut input, &mut output, &mut errors, WHOLE),
         Word::Replay => run_replay(alloc, &mut input, &mut output, &mut errors),
         Word::Run => run_run(threads, alloc, &mut input, &mut output, &mut errors),
     }

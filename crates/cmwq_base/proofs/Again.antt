@@ -1,34 +1,7 @@
 -- The text of a file that is spelled is read again as itself.
-use Rattle.std.proofs.Common.{◌≡◌, inl, inr, ◌+◌, ◌≤◌, ◌==◌, ℕ, Bool, true, false, ◌&&◌, not, List, [], ◌∷◌, ◌++◌, length, Ok, Err, leb, Option, Some, None, refl, sym, ap, ◌∙◌, append_assoc, append-nil, arith, subst, length-append, get_or}
-use Rattle.std.specs.Prelude.{if◌then◌else◌, codes, IsTrue, flat_map}
-use Rattle.std.specs.List.{All, list_all}
-use Rattle.std.proofs.lemmas.Bool.{lt-leb, le-ltb, le-leb, leb-true, eqb-true, eq-eqb}
-use Rattle.std.proofs.lemmas.Bool.Decides.{nat_tests}
-use Rattle.std.proofs.lemmas.List.Elements.{All-head, All-tail}
-use Rattle.std.proofs.lemmas.List.Splits.{slice_split_at}
-use Rattle.cmwq_io.specs.Feeds.{is_feed}
-use Rattle.cmwq_model.specs.declared.id.Who.{Who}
-use Rattle.cmwq_model.specs.declared.call.Call.{Call}
-use Rattle.cmwq_model.specs.declared.entry.Entry.{Entry}
-use Rattle.cmwq_model.specs.declared.shape.Counts.{Counts}
-use Rattle.cmwq_model.specs.declared.shape.QueueShape.{QueueShape}
-use Rattle.cmwq_model.specs.Prelude.{Layout, layout_of, is_layout, are_counts, are_queues, is_queue, is_between, fits, entry_fits, reply_fits, IsWho, IsCall, IsEntry, greatest}
-use Rattle.cmwq_text.specs.Words.{joined}
+use Rattle.cmwq_base.specs.Common.{◌≡◌, inl, inr, ◌+◌, ◌≤◌, ◌==◌, ℕ, Bool, true, false, ◌&&◌, not, List, [], ◌∷◌, ◌++◌, length, Ok, Err, leb, Option, Some, None, refl, sym, ap, ◌∙◌, append_assoc, append-nil, arith, subst, length-append, get_or, if◌then◌else◌, codes, IsTrue, flat_map, All, list_all, lt-leb, le-ltb, le-leb, leb-true, eqb-true, eq-eqb, nat_tests, All-head, All-tail, slice_split_at, is_feed, Who, Call, Entry, Counts, QueueShape, Layout, layout_of, is_layout, are_counts, are_queues, is_queue, is_between, fits, entry_fits, reply_fits, IsWho, IsCall, IsEntry, greatest, join_words, call_words, call_text, entry_words, entry_text, end_words, end_text, end_of, counts_words, counts_text, queue_words, queue_text, begins_queue, greatest_number, version_name, old_lines, most_lines, line_limit, room_limit, needs_end, allows_queue, allows_entry, counts_of_format, queue_of_format, entry_of_format, calls_name, number_limit, call_of_format, counts_in, version_text, shape_text, last_text, text_of_format, calls_version_text, calls_text, wide_entry, short_entry_is, allowed_call, wide_call_of, calls_read_again, entries_read_again, ends_read_again, entry_ends_none, counts_read_again, queues_read_again, IsWholeLine, whole_version, whole_long_version, whole_calls_version, whole_counts, whole_queue, whole_call, whole_entry, whole_end, who_begins_no_queue, entry_begins, fits_line, and_parts}
 use Rattle.cmwq_text.specs.IdText.{who_text}
-use Rattle.cmwq_text.specs.CallText.{call_words, call_text}
-use Rattle.cmwq_text.specs.EntryText.{entry_words, entry_text}
-use Rattle.cmwq_text.specs.EndText.{end_words, end_text, end_of}
-use Rattle.cmwq_text.specs.ShapeText.{counts_words, counts_text, queue_words, queue_text, begins_queue}
-use Rattle.cmwq_text.specs.Numbers.{greatest_number}
-use Rattle.cmwq_text.specs.Formats.{version_name, old_lines, most_lines, line_limit, room_limit, needs_end, allows_queue, allows_entry, counts_of_format, queue_of_format, entry_of_format, calls_name, number_limit, call_of_format}
-use Rattle.cmwq_text.specs.HistoryText.{counts_in, version_text, shape_text, last_text, text_of_format, calls_version_text, calls_text}
 use Rattle.cmwq_text.specs.Laws.{IsLineOf}
-use Rattle.cmwq_text.proofs.ReadRanges.{wide_entry, short_entry_is, allowed_call, wide_call_of}
-use Rattle.cmwq_text.proofs.Steps.{both}
-use Rattle.cmwq_text.proofs.EntryLaws.{calls_read_again, entries_read_again}
-use Rattle.cmwq_text.proofs.EndLaws.{ends_read_again, entry_ends_none}
-use Rattle.cmwq_text.proofs.ShapeLaws.{counts_read_again, queues_read_again}
-use Rattle.cmwq_text.proofs.WholeLines.{IsWholeLine, whole_version, whole_long_version, whole_calls_version, whole_counts, whole_queue, whole_call, whole_entry, whole_end, who_begins_no_queue, entry_begins, fits_line}
 use Rattle.cmwq_base.specs.Pieces.{pieces}
 use Rattle.cmwq_base.specs.Files.{File, IsSound, Stage, Kind, begin, opened, head, body, ended, shape_made, and_then, begun, queue_line, item_line, end_in, or_ended, body_line, first_item, after_head, after_line, at_end, without_end, without_items, after_pieces, after_text, file_of}
 use Rattle.cmwq_base.specs.Kinds.{calls_kind, call_file_of, history_kind, history_file_of}
@@ -68,11 +41,11 @@ module _ {X : Type 0} (k : Kind X) where
       ∙ after_first_piece k n stage line (pieces rest) some.0 some.1 some.2 (le-ltb 120 (length line) w.short)
       ∙ ap (and_then (λ next. after_text k (n + 1) next rest)) h
 
-counts_again : (v : ℕ) (c : Counts) → IsTrue (are_counts c.cpus c.workers c.callers c.items c.room) → c.room ≤ room_limit v → counts_of_format v (joined (counts_words c)) ≡ Some c
+counts_again : (v : ℕ) (c : Counts) → IsTrue (are_counts c.cpus c.workers c.callers c.items c.room) → c.room ≤ room_limit v → counts_of_format v (join_words (counts_words c)) ≡ Some c
 unfolding counts_of_format
-counts_again v c inside room = rw (counts_read_again c (joined (counts_words c)) inside (whole_counts c inside).is, le-leb c.room (room_limit v) room) refl
+counts_again v c inside room = rw (counts_read_again c (join_words (counts_words c)) inside (whole_counts c inside).is, le-leb c.room (room_limit v) room) refl
 
-begun_goes : {X : Type 0} (n v : ℕ) (c : Counts) → IsTrue (are_counts c.cpus c.workers c.callers c.items c.room) → c.room ≤ room_limit v → begun {X = X} n v (counts_of_format v (joined (counts_words c))) ≡ Ok (head v c [])
+begun_goes : {X : Type 0} (n v : ℕ) (c : Counts) → IsTrue (are_counts c.cpus c.workers c.callers c.items c.room) → c.room ≤ room_limit v → begun {X = X} n v (counts_of_format v (join_words (counts_words c))) ≡ Ok (head v c [])
 begun_goes n v c inside room = ap (begun n v) (counts_again v c inside room)
 
 module _ {X : Type 0} (k : Kind X) (v : ℕ) (text : X → List ℕ) (last : ℕ → List ℕ) (ends : Ends k v last) where
@@ -107,19 +80,19 @@ module _ {X : Type 0} (k : Kind X) (v : ℕ) (text : X → List ℕ) (last : ℕ
 
   -- ---- lines of queues
 
-  queue_goes : (n : ℕ) (c : Counts) (qs : List QueueShape) (q : QueueShape) → ReadsQueue k v q → IsTrue (is_queue q) → length qs + 1 ≤ 64 → after_line k n (head v c qs) (joined (queue_words q)) ≡ Ok (head v c (qs ++ q ∷ []))
+  queue_goes : (n : ℕ) (c : Counts) (qs : List QueueShape) (q : QueueShape) → ReadsQueue k v q → IsTrue (is_queue q) → length qs + 1 ≤ 64 → after_line k n (head v c qs) (join_words (queue_words q)) ≡ Ok (head v c (qs ++ q ∷ []))
   unfolding after_line after_head
-  queue_goes n c qs q reads inside room = rw (lt-leb 64 (length qs) (omega arith), reads (joined (queue_words q)) inside (whole_queue q inside).is) refl
+  queue_goes n c qs q reads inside room = rw (lt-leb 64 (length qs) (omega arith), reads (join_words (queue_words q)) inside (whole_queue q inside).is) refl
 
   -- what is read of the rest behind all queues is read of it with their lines before it
   queues_go : (n : ℕ) (c : Counts) (before qs : List QueueShape) (rest : List ℕ) (f : File X) → All (ReadsQueue k v) qs → list_all is_queue qs ≡ true → length before + length qs ≤ 64
       → ((m : ℕ) → after_text k m (head v c (before ++ qs)) rest ≡ Ok f) → after_text k n (head v c before) (flat_map queue_text qs ++ rest) ≡ Ok f
   queues_go n c before [] rest f reads inside room goes = ap (λ qs. after_text k n (head v c qs) rest) (sym (append-nil before)) ∙ goes n
   queues_go n c before (q ∷ qs) rest f reads inside room goes =
-      let parts = both (is_queue q) (list_all is_queue qs) inside in
+      let parts = and_parts (is_queue q) (list_all is_queue qs) inside in
       let more = length-append before (q ∷ []) in
       ap (after_text k n (head v c before)) (append_assoc (queue_text q) (flat_map queue_text qs) rest)
-      ∙ line_goes k n (head v c before) (head v c (before ++ q ∷ [])) (queue_text q) (joined (queue_words q)) (flat_map queue_text qs ++ rest) (whole_queue q parts.0) (queue_goes n c before q (All-head (ReadsQueue k v) q qs reads) parts.0 (omega arith))
+      ∙ line_goes k n (head v c before) (head v c (before ++ q ∷ [])) (queue_text q) (join_words (queue_words q)) (flat_map queue_text qs ++ rest) (whole_queue q parts.0) (queue_goes n c before q (All-head (ReadsQueue k v) q qs reads) parts.0 (omega arith))
       ∙ queues_go (n + 1) c (before ++ q ∷ []) qs rest f (All-tail (ReadsQueue k v) q qs reads) parts.1 (omega arith) (λ m. ap (λ all. after_text k m (head v c all) rest) (append_assoc before (q ∷ []) qs) ∙ goes m)
 
   -- ---- the first line that is none of a queue, or the end
@@ -145,22 +118,22 @@ module _ {X : Type 0} (k : Kind X) (v : ℕ) (text : X → List ℕ) (last : ℕ
   -- ---- the whole
 
   -- from the shape line on
-  shape_read_again : (n : ℕ) (stage : Stage X) (f : File X) → f.version ≡ v → ((c : Counts) → IsTrue (are_counts c.cpus c.workers c.callers c.items c.room) → c.room ≤ room_limit v → after_line k n stage (joined (counts_words c)) ≡ Ok (head v c []))
+  shape_read_again : (n : ℕ) (stage : Stage X) (f : File X) → f.version ≡ v → ((c : Counts) → IsTrue (are_counts c.cpus c.workers c.callers c.items c.room) → c.room ≤ room_limit v → after_line k n stage (join_words (counts_words c)) ≡ Ok (head v c []))
       → All (ReadsQueue k v) f.layout.queues → is_layout f.layout ≡ true → IsSound k f → All (IsAgain k v text f.layout) f.items
       → after_text k n stage (shape_text f.layout ++ (flat_map text f.items ++ last (length f.items))) ≡ Ok f
   shape_read_again n stage f is_version begins reads inside sound each =
       let s : Layout = f.layout in
       let c : Counts = counts_in s in
       let rest : List ℕ = flat_map text f.items ++ last (length f.items) in
-      let parts = both (are_counts s.cpus s.workers s.callers s.items s.room) (are_queues s.queues) inside in
-      let queues = both (is_between 1 64 (length s.queues)) (list_all is_queue s.queues) parts.1 in
-      let few : length s.queues ≤ 64 = leb-true (length s.queues) 64 (both (leb 1 (length s.queues)) (leb (length s.queues) 64) queues.0).1 in
+      let parts = and_parts (are_counts s.cpus s.workers s.callers s.items s.room) (are_queues s.queues) inside in
+      let queues = and_parts (is_between 1 64 (length s.queues)) (list_all is_queue s.queues) parts.1 in
+      let few : length s.queues ≤ 64 = leb-true (length s.queues) 64 (and_parts (leb 1 (length s.queues)) (leb (length s.queues) 64) queues.0).1 in
       let rooms : s.room ≤ room_limit v = subst (λ w. s.room ≤ room_limit w) is_version sound.room in
       let room : length f.items ≤ line_limit v = subst (λ w. length f.items ≤ line_limit w) is_version sound.few in
       let made : File X = record { version = v; layout = s; items = f.items } in
       let same : made ≡ f = ap (λ w. record { version = w; layout = s; items = f.items }) (sym is_version) in
       ap (after_text k n stage) (append_assoc (counts_text c) (flat_map queue_text s.queues) rest)
-      ∙ line_goes k n stage (head v c []) (counts_text c) (joined (counts_words c)) (flat_map queue_text s.queues ++ rest) (whole_counts c parts.0) (begins c parts.0 rooms)
+      ∙ line_goes k n stage (head v c []) (counts_text c) (join_words (counts_words c)) (flat_map queue_text s.queues ++ rest) (whole_counts c parts.0) (begins c parts.0 rooms)
       ∙ queues_go (n + 1) c [] s.queues rest made reads queues.1 (omega (arith, few)) (λ m. head_ends m c s.queues f.items inside room each)
       ∙ ap Ok same
 
@@ -176,9 +149,9 @@ none_in v line none = by_need (needs_end v) (end_of line) none
 entry_again : (v : ℕ) (s : Layout) (e : Entry) → (IsEntry greatest_number) e → entry_fits s e ≡ true → allows_entry v e ≡ true → IsAgain history_kind v entry_text s e
 unfolding entry_of_format
 entry_again v s e h inside allowed =
-    let line : List ℕ = joined (entry_words e) in
+    let line : List ℕ = join_words (entry_words e) in
     let whole = whole_entry e h in
-    let said = fits_line s e.who e.call (both (fits s e.who e.call) (reply_fits s e.reply) inside).0 in
+    let said = fits_line s e.who e.call (and_parts (fits s e.who e.call) (reply_fits s e.reply) inside).0 in
     record { line = line; whole = whole; read = rw (entries_read_again e line h said whole.is, allowed) refl; other = entry_begins e h; no_end = none_in v line (entry_ends_none e h); inside = inside }
 
 queue_again : (v : ℕ) (q : QueueShape) → allows_queue v q ≡ true → ReadsQueue history_kind v q
@@ -186,10 +159,10 @@ unfolding queue_of_format
 queue_again v q allowed line is spelled = rw ((queues_read_again q line is spelled).1, allowed) refl
 
 -- the shape line is none that says a format
-shape_says_none : (c : Counts) → (history_kind.says_format 2 (joined (counts_words c)) ≡ false) × (history_kind.says_format 3 (joined (counts_words c)) ≡ false)
+shape_says_none : (c : Counts) → (history_kind.says_format 2 (join_words (counts_words c)) ≡ false) × (history_kind.says_format 3 (join_words (counts_words c)) ≡ false)
 shape_says_none c = (refl, refl)
 
-old_begins : (c : Counts) → IsTrue (are_counts c.cpus c.workers c.callers c.items c.room) → c.room ≤ room_limit 1 → after_line history_kind 1 begin (joined (counts_words c)) ≡ Ok (head 1 c [])
+old_begins : (c : Counts) → IsTrue (are_counts c.cpus c.workers c.callers c.items c.room) → c.room ≤ room_limit 1 → after_line history_kind 1 begin (join_words (counts_words c)) ≡ Ok (head 1 c [])
 unfolding after_line
 old_begins c inside room = rw ((shape_says_none c).0, (shape_says_none c).1) (begun_goes 1 1 c inside room)
 
@@ -211,21 +184,21 @@ ended_is_all : (n v : ℕ) (s : Layout) (xs : List Entry) → after_text history
 unfolding after_pieces at_end
 ended_is_all n v s xs = refl
 
-end_read : (v n : ℕ) → n ≤ greatest_number → needs_end v ≡ true → end_in history_kind v (joined (end_words n)) ≡ Some n
-end_read v n le needed = ap (λ b. if b then end_of (joined (end_words n)) else None) needed ∙ ends_read_again n (joined (end_words n)) le (whole_end n le).is
+end_read : (v n : ℕ) → n ≤ greatest_number → needs_end v ≡ true → end_in history_kind v (join_words (end_words n)) ≡ Some n
+end_read v n le needed = ap (λ b. if b then end_of (join_words (end_words n)) else None) needed ∙ ends_read_again n (join_words (end_words n)) le (whole_end n le).is
 
-pub body_ends : (n v : ℕ) (s : Layout) (xs : List Entry) → length xs ≤ greatest_number → needs_end v ≡ true → body_line history_kind n v s xs (joined (end_words (length xs))) ≡ Ok (ended v s xs)
+pub body_ends : (n v : ℕ) (s : Layout) (xs : List Entry) → length xs ≤ greatest_number → needs_end v ≡ true → body_line history_kind n v s xs (join_words (end_words (length xs))) ≡ Ok (ended v s xs)
 unfolding body_line
-body_ends n v s xs le needed = ap (or_ended history_kind n v s xs (joined (end_words (length xs)))) (end_read v (length xs) le needed) ∙ ap (λ b. if b then Ok (ended v s xs) else Err (refusal.BadLine n)) (eq-eqb (length xs) (length xs) refl)
+body_ends n v s xs le needed = ap (or_ended history_kind n v s xs (join_words (end_words (length xs)))) (end_read v (length xs) le needed) ∙ ap (λ b. if b then Ok (ended v s xs) else Err (refusal.BadLine n)) (eq-eqb (length xs) (length xs) refl)
 
-pub body_goes_over : (n v : ℕ) (s : Layout) (xs : List Entry) → length xs ≤ greatest_number → needs_end v ≡ true → after_line history_kind n (body v s xs) (joined (end_words (length xs))) ≡ Ok (ended v s xs)
+pub body_goes_over : (n v : ℕ) (s : Layout) (xs : List Entry) → length xs ≤ greatest_number → needs_end v ≡ true → after_line history_kind n (body v s xs) (join_words (end_words (length xs))) ≡ Ok (ended v s xs)
 unfolding after_line
 body_goes_over n v s xs le needed = body_ends n v s xs le needed
 
-pub head_goes_over : (n v : ℕ) (c : Counts) (qs : List QueueShape) → needs_end v ≡ true → is_layout (layout_of c qs) ≡ true → after_line history_kind n (head v c qs) (joined (end_words 0)) ≡ Ok (ended v (layout_of c qs) [])
+pub head_goes_over : (n v : ℕ) (c : Counts) (qs : List QueueShape) → needs_end v ≡ true → is_layout (layout_of c qs) ≡ true → after_line history_kind n (head v c qs) (join_words (end_words 0)) ≡ Ok (ended v (layout_of c qs) [])
 unfolding after_line after_head
 head_goes_over n v c qs needed inside =
-    ap (λ b. first_item history_kind n v (if b then Some (layout_of c qs) else None) (joined (end_words 0))) inside
+    ap (λ b. first_item history_kind n v (if b then Some (layout_of c qs) else None) (join_words (end_words 0))) inside
     ∙ body_ends n v (layout_of c qs) [] (omega arith) needed
 
 -- what stands behind the entries of a history, in any format
@@ -239,11 +212,11 @@ history_ends v = by_need (needs_end v) refl
           let most : line_limit v ≤ most_lines = none_passes old_lines most_lines v (omega arith) in
           let le : length xs ≤ greatest_number = omega (arith, few, most) in
           ap (after_text history_kind n (body v s xs)) (sym (append-nil (end_text (length xs))))
-          ∙ line_goes history_kind n (body v s xs) (ended v s xs) (end_text (length xs)) (joined (end_words (length xs))) [] (whole_end (length xs) le) (body_goes_over n v s xs le needed)
+          ∙ line_goes history_kind n (body v s xs) (ended v s xs) (end_text (length xs)) (join_words (end_words (length xs))) [] (whole_end (length xs) le) (body_goes_over n v s xs le needed)
           ∙ ended_is_all (n + 1) v s xs;
       alone = λ n c qs inside.
           ap (after_text history_kind n (head v c qs)) (sym (append-nil (end_text 0)))
-          ∙ line_goes history_kind n (head v c qs) (ended v (layout_of c qs) []) (end_text 0) (joined (end_words 0)) [] (whole_end 0 (omega arith)) (head_goes_over n v c qs needed inside)
+          ∙ line_goes history_kind n (head v c qs) (ended v (layout_of c qs) []) (end_text 0) (join_words (end_words 0)) [] (whole_end 0 (omega arith)) (head_goes_over n v c qs needed inside)
           ∙ ended_is_all (n + 1) v (layout_of c qs) [];
     }
 
@@ -255,7 +228,7 @@ old_histories_read_again f is_version of_format inside sound each =
     ∙ shape_read_again history_kind 1 entry_text (last_text 1) (history_ends 1) 1 begin f is_version old_begins (λ i d lt. queue_again 1 _ (old.0 i d lt)) inside sound
     (λ i d lt. entry_again 1 f.layout _ (wide_entry _ (each i d lt)) (sound.fitting i d lt) (old.1 i d lt))
 
-begins : (v : ℕ) (c : Counts) → IsTrue (are_counts c.cpus c.workers c.callers c.items c.room) → c.room ≤ room_limit v → after_line history_kind 2 (opened v) (joined (counts_words c)) ≡ Ok (head v c [])
+begins : (v : ℕ) (c : Counts) → IsTrue (are_counts c.cpus c.workers c.callers c.items c.room) → c.room ≤ room_limit v → after_line history_kind 2 (opened v) (join_words (counts_words c)) ≡ Ok (head v c [])
 unfolding after_line
 begins v c inside room = begun_goes 2 v c inside room
 
@@ -310,20 +283,20 @@ call_line x = call_text x.0 x.1
 call_again : (v : ℕ) (s : Layout) (x : Who × Call) → IsWho x.0 → (IsCall (number_limit v)) x.1 → fits s x.0 x.1 ≡ true → IsAgain calls_kind v call_line s x
 unfolding call_of_format
 call_again v s x h k inside =
-    let line : List ℕ = joined (who_text x.0 ∷ call_words x.1) in
+    let line : List ℕ = join_words (who_text x.0 ∷ call_words x.1) in
     let wide = wide_call_of v x.1 k in
     let whole = whole_call x.0 x.1 h wide in
     record { line = line; whole = whole; read = rw (calls_read_again x.0 x.1 line h wide (fits_line s x.0 x.1 inside) whole.is, allowed_call v x.1 k) refl; other = who_begins_no_queue x.0 (call_words x.1) h; no_end = refl; inside = inside }
 
 -- the shape line is none that says a format
-shape_says_no_calls : (c : Counts) → calls_kind.says_format 3 (joined (counts_words c)) ≡ false
+shape_says_no_calls : (c : Counts) → calls_kind.says_format 3 (join_words (counts_words c)) ≡ false
 shape_says_no_calls c = refl
 
-old_calls_begin : (c : Counts) → IsTrue (are_counts c.cpus c.workers c.callers c.items c.room) → c.room ≤ room_limit 1 → after_line calls_kind 1 begin (joined (counts_words c)) ≡ Ok (head 1 c [])
+old_calls_begin : (c : Counts) → IsTrue (are_counts c.cpus c.workers c.callers c.items c.room) → c.room ≤ room_limit 1 → after_line calls_kind 1 begin (join_words (counts_words c)) ≡ Ok (head 1 c [])
 unfolding after_line
 old_calls_begin c inside room = rw (shape_says_no_calls c) (begun_goes 1 1 c inside room)
 
-calls_begin : (v : ℕ) (c : Counts) → IsTrue (are_counts c.cpus c.workers c.callers c.items c.room) → c.room ≤ room_limit v → after_line calls_kind 2 (opened v) (joined (counts_words c)) ≡ Ok (head v c [])
+calls_begin : (v : ℕ) (c : Counts) → IsTrue (are_counts c.cpus c.workers c.callers c.items c.room) → c.room ≤ room_limit v → after_line calls_kind 2 (opened v) (join_words (counts_words c)) ≡ Ok (head v c [])
 unfolding after_line
 calls_begin v c inside room = begun_goes 2 v c inside room
 
@@ -341,7 +314,7 @@ calls_end v = record {
 module _ (f : File (Who × Call)) (inside : IsTrue (is_layout f.layout)) (sound : IsSound calls_kind f) (each : All (λ x. IsWho x.0 × (IsCall (number_limit f.version)) x.1) f.items) where
   -- from the shape line on
   calls_again : (v n : ℕ) (stage : Stage (Who × Call)) → f.version ≡ v
-      → ((c : Counts) → IsTrue (are_counts c.cpus c.workers c.callers c.items c.room) → c.room ≤ room_limit v → after_line calls_kind n stage (joined (counts_words c)) ≡ Ok (head v c []))
+      → ((c : Counts) → IsTrue (are_counts c.cpus c.workers c.callers c.items c.room) → c.room ≤ room_limit v → after_line calls_kind n stage (join_words (counts_words c)) ≡ Ok (head v c []))
       → after_text calls_kind n stage (shape_text f.layout ++ flat_map call_line f.items) ≡ Ok f
   calls_again v n stage is begins =
       let numbers = subst (λ v. All (λ x. IsWho x.0 × (IsCall (number_limit v)) x.1) f.items) is each in

@@ -1,30 +1,12 @@
 -- What is read of a file of calls is spelled so, but for max_active.
-use Rattle.std.proofs.Common.{◌≡◌, ◌+◌, ℕ, Bool, true, false, List, [], ◌∷◌, ◌++◌, length, Result, Ok, Err, nat_le, Option, Some, None, refl, sym, ap, ◌∙◌, append_assoc, append-nil, subst}
-use Rattle.std.specs.Prelude.{if◌then◌else◌, IsTrue, flat_map, map}
-use Rattle.std.specs.List.{join_with_byte}
-use Rattle.std.specs.Str.{bytes_eq}
-use Rattle.std.proofs.lemmas.List.{flat_map_more, map_push}
-use Rattle.std.proofs.lemmas.Slice.Eq.{bytes_eq-Decides}
-use Rattle.std.proofs.lemmas.List.Splits.{join_with_byte-slice_split}
-use Rattle.cmwq_model.specs.declared.id.Who.{Who}
-use Rattle.cmwq_model.specs.declared.call.Call.{Call}
-use Rattle.cmwq_model.specs.declared.shape.Counts.{Counts}
-use Rattle.cmwq_model.specs.declared.shape.QueueShape.{QueueShape}
-use Rattle.cmwq_model.specs.Prelude.{Layout, layout_of, is_layout, fits}
-use Rattle.cmwq_text.specs.CallText.{call_text, call_of}
-use Rattle.cmwq_text.specs.ShapeText.{counts_text, queue_text, queue_with, queue_of_calls, begins_queue}
-use Rattle.cmwq_text.specs.Formats.{calls_name, line_limit, counts_of_format, allows_call, call_of_format}
-use Rattle.cmwq_text.specs.HistoryText.{counts_in, shape_text, calls_version_text, calls_text}
-use Rattle.cmwq_text.proofs.Steps.{bind_some, chosen}
-use Rattle.cmwq_text.proofs.EntryLaws.{calls_spelled_so}
-use Rattle.cmwq_text.proofs.ShapeLaws.{counts_spelled_so, queues_of_calls_spelled_so}
+use Rattle.cmwq_base.specs.Common.{◌≡◌, ◌+◌, ℕ, Bool, true, false, List, [], ◌∷◌, ◌++◌, length, Result, Ok, Err, nat_le, Option, Some, None, refl, sym, ap, ◌∙◌, append_assoc, append-nil, subst, if◌then◌else◌, IsTrue, flat_map, map, join_with_byte, bytes_eq, flat_map_more, map_push, bytes_eq-Decides, join_with_byte-slice_split, Who, Call, Counts, QueueShape, Layout, layout_of, is_layout, fits, call_text, call_read, counts_text, queue_text, queue_with, queue_of_calls, begins_queue, calls_name, line_limit, counts_of_format, allows_call, call_of_format, counts_in, shape_text, calls_version_text, calls_text, bind_some, chosen, calls_spelled_so, counts_spelled_so, queues_of_calls_spelled_so}
 use Rattle.cmwq_base.specs.declared.refusal.Refusal.{Refusal}
 use Rattle.cmwq_base.specs.declared.refusal.Refusal.TheVariants as refusal
 use Rattle.cmwq_base.specs.Pieces.{pieces}
 use Rattle.cmwq_base.specs.Files.{File, Stage, begin, opened, head, body, ended, is_long, shape_made, and_then, begun, with_queue, queue_line, with_item, item_line, body_line, first_item, after_head, after_line, at_end, without_items, after_last, after_pieces, file_of}
 use Rattle.cmwq_base.specs.Kinds.{calls_kind}
 use Rattle.cmwq_base.specs.FileLaws.{queue_taken, IsTextOfCalls, CallFilesSpelledSo}
-use Rattle.cmwq_base.proofs.Progress.{counts_read}
+use Rattle.cmwq_base.proofs.Progress.{counts_are_read}
 use Rattle.cmwq_base.proofs.Sound.{no_cut, short_goes, next_goes}
 
 abbrev CallStage : Type 0
@@ -53,10 +35,10 @@ record IsFront (stage : CallStage) (front : List ℕ) : Type 0 where
   taken : AreTaken queues stage
 
 -- a call of a format is read as any call is
-call_read : (v : ℕ) (line : List ℕ) (x : Who × Call) → call_of_format v line ≡ Some x → call_of line ≡ Some x
+call_is_read : (v : ℕ) (line : List ℕ) (x : Who × Call) → call_of_format v line ≡ Some x → call_read line ≡ Some x
 unfolding call_of_format
-call_read v line x h =
-    let read = bind_some (call_of line) (λ (x : Who × Call). if allows_call v x.1 then Some x else None) x h in
+call_is_read v line x h =
+    let read = bind_some (call_read line) (λ (x : Who × Call). if allows_call v x.1 then Some x else None) x h in
     read.1 ∙ (chosen (allows_call v read.0.1) (Some read.0) x read.2).1
 
 -- one text more behind a front that has this before the rest of it
@@ -74,7 +56,7 @@ module _ (n v : ℕ) (front line : List ℕ) where
   begun_goes None next before is h = cc
   begun_goes (Some c) next before is h =
       let same : head v c [] ≡ next = cc in
-      let text = ap (λ t. t ++ (line ++ 10 ∷ [])) before ∙ ap (λ t. calls_version_text v ++ t) (sym (counts_spelled_so c line (counts_read v line c is).0) ∙ sym (append-nil (counts_text c))) in
+      let text = ap (λ t. t ++ (line ++ 10 ∷ [])) before ∙ ap (λ t. calls_version_text v ++ t) (sym (counts_spelled_so c line (counts_are_read v line c is).0) ∙ sym (append-nil (counts_text c))) in
       subst (λ st. IsFront st longer) same (record { queues = []; text = text; taken = refl })
 
   queue_goes : (c : Counts) (taken : List QueueShape) (o : Option QueueShape) (next : CallStage) → IsFront (head v c taken) front → queue_of_calls line ≡ o → with_queue n v c taken o ≡ Ok next → IsFront next longer
@@ -99,7 +81,7 @@ module _ (n v : ℕ) (front line : List ℕ) where
   item_goes s xs x next true before is fitting h =
       let same : body v s (xs ++ x ∷ []) ≡ next = cc in
       let shape : Layout = layout_of (counts_in s) before.queues in
-      let spelled = calls_spelled_so s x.0 x.1 line before.taken.0 fitting (call_read v line x is) in
+      let spelled = calls_spelled_so s x.0 x.1 line before.taken.0 fitting (call_is_read v line x is) in
       let calls : List ℕ = shape_text shape ++ flat_map (λ (x : Who × Call). call_text x.0 x.1) xs in
       let more_text = ap (λ t. calls ++ t) (sym spelled) ∙ flat_map_more (λ (x : Who × Call). call_text x.0 x.1) (shape_text shape) xs x in
       let text = behind (calls_version_text v) calls (line ++ 10 ∷ []) front before.text ∙ ap (λ t. calls_version_text v ++ t) more_text in

@@ -1,13 +1,9 @@
 -- A front of one text after the whole of another is a front of both together.
-use Rattle.std.proofs.Common.{◌≡◌, ◌+◌, ◌≤◌, ℕ, List, [], ◌∷◌, ◌++◌, length, take, drop, Option, None, Some, refl, sym, ap, ◌∙◌, subst, arith, min, get_or, add-one, drop-cons, append-nil, ◌<◌, take-append-drop}
+use Rattle.cmwq_base.specs.Common.{◌≡◌, ◌+◌, ◌≤◌, ℕ, List, [], ◌∷◌, ◌++◌, length, take, drop, Option, None, Some, refl, sym, ap, ◌∙◌, subst, arith, min, get_or, add-one, drop-cons, append-nil, ◌<◌, take-append-drop, take-append-le, take_min, flat_map, Appends, Keeps, Appends-trans}
 use Rattle.std.proofs.Math.Seq.{take-append-add, take-length}
-use Rattle.std.proofs.lemmas.List.{take-append-le, take_min}
 use Rattle.std.proofs.lemmas.List.Concat.{flat_map-cons}
 use Rattle.std.proofs.lemmas.Grind.{flat_map-append}
-use Rattle.std.specs.Prelude.{flat_map}
-use Rattle.std.specs.Io.KnownBytes.{Appends, Keeps}
 use Rattle.cmwq_io.specs.Moves.{AppendsFront}
-use Rattle.cmwq_io.proofs.KnownBytes.{Appends-trans}
 
 take_behind : (xs ys zs : List ℕ) (n : ℕ) → take (length xs + min n (length ys)) (xs ++ (ys ++ zs)) ≡ xs ++ take n ys
 take_behind xs ys zs n =

@@ -1,9 +1,5 @@
 -- The limits of formats.
-use Rattle.std.proofs.Common.{◌≡◌, ◌≤◌, ℕ, Bool, true, false, nat_le, refl, arith}
-use Rattle.std.specs.Prelude.{if◌then◌else◌}
-use Rattle.std.proofs.lemmas.Bool.{lt-leb, le-leb}
-use Rattle.std.proofs.lemmas.Bool.Decides.{nat_tests}
-use Rattle.cmwq_text.specs.Formats.{by_age}
+use Rattle.cmwq_base.specs.Common.{◌≡◌, ◌≤◌, ℕ, Bool, true, false, nat_le, refl, arith, if◌then◌else◌, lt-leb, le-leb, nat_tests, by_age}
 
 pub older_has : (old new v : ℕ) → v ≤ 2 → by_age old new v ≡ old
 unfolding by_age

@@ -1,26 +1,11 @@
 -- How a reader's progress goes on from line to line.
-use Rattle.std.proofs.Common.{◌≡◌, inl, inr, ◌+◌, ◌<◌, ◌≤◌, ℕ, ◌==◌, Bool, true, false, ◌&&◌, not, List, [], ◌∷◌, ◌++◌, length, Result, Ok, Err, nat_le, Option, Some, None, refl, sym, ap, ◌∙◌, arith, subst, length-append}
-use Rattle.std.specs.Prelude.{if◌then◌else◌, IfSome, IfOk, IsTrue}
-use Rattle.std.proofs.lemmas.List.Elements.{All-nil, All-push}
-use Rattle.std.proofs.lemmas.Bool.Decides.{nat_tests}
-use Rattle.std.proofs.lemmas.Bool.{leb-true}
-use Rattle.std.proofs.lemmas.Option.{same_Some}
-use Rattle.std.specs.Io.KnownBytes.{prepend_known}
+use Rattle.cmwq_base.specs.Common.{◌≡◌, inl, inr, ◌+◌, ◌<◌, ◌≤◌, ℕ, ◌==◌, Bool, true, false, ◌&&◌, not, List, [], ◌∷◌, ◌++◌, length, Result, Ok, Err, nat_le, Option, Some, None, refl, sym, ap, ◌∙◌, arith, subst, length-append, if◌then◌else◌, IfSome, IfOk, IsTrue, All-nil, All-push, nat_tests, leb-true, same_Some, prepend_known, Whole, Cut, Long, End, TakesKnownLine, Counts, QueueShape, Layout, layout_of, is_layout, counts_read, begins_queue, end_of, old_lines, most_lines, line_limit, room_limit, allows_counts, counts_of_format, bind_some, chosen}
 use Rattle.cmwq_io.specs.declared.lines.Found.{Found}
-use Rattle.cmwq_io.specs.declared.lines.Found.TheVariants.{Whole, Cut, Long, End}
-use Rattle.cmwq_io.specs.FirstLine.{TakesKnownLine}
-use Rattle.cmwq_model.specs.declared.shape.Counts.{Counts}
-use Rattle.cmwq_model.specs.declared.shape.QueueShape.{QueueShape}
-use Rattle.cmwq_model.specs.Prelude.{Layout, layout_of, is_layout}
-use Rattle.cmwq_text.specs.ShapeText.{counts_of, begins_queue}
-use Rattle.cmwq_text.specs.EndText.{end_of}
-use Rattle.cmwq_text.specs.Formats.{old_lines, most_lines, line_limit, room_limit, allows_counts, counts_of_format}
-use Rattle.cmwq_text.proofs.Steps.{bind_some, chosen}
 use Rattle.cmwq_base.specs.declared.refusal.Refusal.{Refusal}
 use Rattle.cmwq_base.specs.declared.refusal.Refusal.TheVariants as refusal
-use Rattle.cmwq_base.specs.Files.{File, IsVersion, IsSound, Stage, begin, opened, head, body, ended, Kind, as_front, shape_made, and_then, begun, with_queue, queue_line, with_item, item_line, end_in, or_ended, body_line, first_item, after_head, after_line, after_cut, is_ended, at_end, at_cut, without_end, without_items, after_text, file_of}
-use Rattle.cmwq_base.specs.Gives.{Refuses, Makes, Fails, Gives}
-use Rattle.cmwq_base.specs.Stages.{lines_in, IsSaid, IsWithin}
+use Rattle.cmwq_base.specs.Files.{File, IsVersionOf, IsSound, Stage, begin, opened, head, body, ended, Kind, as_front, shape_made, and_then, begun, with_queue, queue_line, with_item, item_line, end_in, or_ended, body_line, first_item, after_head, after_line, after_cut, is_ended, at_end, at_cut, without_end, without_items, after_text, file_of}
+use Rattle.cmwq_base.specs.Gives.{Refuses, GivesAs, Fails, Gives}
+use Rattle.cmwq_base.specs.Stages.{lines_taken, IsSaid, IsStageWithin}
 use Rattle.cmwq_base.proofs.Limits.{none_passes}
 use Rattle.cmwq_base.proofs.Texts.{text_whole, text_long, text_cut, text_end}
 
@@ -32,32 +17,32 @@ SameRead k (Some text) (Some rest) n stage = file_of k text ≡ after_text k n s
 
 pub record Progress {X : Type 0} (k : Kind X) (old now : Option (List ℕ)) (n : ℕ) (stage : Stage X) : Type 0 where
   pub same : SameRead k old now n stage
-  pub count : n ≤ lines_in stage + 1
-  pub within : IsWithin k stage
+  pub count : n ≤ lines_taken stage + 1
+  pub within : IsStageWithin k stage
 
 pub found_so : (before after : Option (List ℕ)) (line : List ℕ) (how so : Found) → how ≡ so → TakesKnownLine before after how line → TakesKnownLine before after so line
 found_so before after line how so is t = subst (λ h. TakesKnownLine before after h line) is t
 
 -- the counts that a format allows are read as those of a shape line
-pub counts_read : (v : ℕ) (line : List ℕ) (c : Counts) → counts_of_format v line ≡ Some c → (counts_of line ≡ Some c) × IsTrue (allows_counts v c)
+pub counts_are_read : (v : ℕ) (line : List ℕ) (c : Counts) → counts_of_format v line ≡ Some c → (counts_read line ≡ Some c) × IsTrue (allows_counts v c)
 unfolding counts_of_format
-counts_read v line c h =
-    let read = bind_some (counts_of line) (λ (c : Counts). if allows_counts v c then Some c else None) c h in
+counts_are_read v line c h =
+    let read = bind_some (counts_read line) (λ (c : Counts). if allows_counts v c then Some c else None) c h in
     let found = chosen (allows_counts v read.0) (Some read.0) c read.2 in
     (read.1 ∙ found.1, subst (λ x. IsTrue (allows_counts v x)) (same_Some read.0 c found.1) found.0)
 
 -- ---- one line more
 
 pub record Grows {X : Type 0} (k : Kind X) (old new : Stage X) : Type 0 where
-  pub count : lines_in old + 1 ≤ lines_in new
-  pub within : IsWithin k old → IsWithin k new
+  pub count : lines_taken old + 1 ≤ lines_taken new
+  pub within : IsStageWithin k old → IsStageWithin k new
 
 module _ {X : Type 0} (k : Kind X) (n : ℕ) where
-  begun_grows : (v : ℕ) (stage : Stage X) (line : List ℕ) (o : Option Counts) (next : Stage X) → counts_of_format v line ≡ o → lines_in stage + 1 ≤ 2 → (IsWithin k stage → IsVersion k v) → begun n v o ≡ Ok next → Grows k stage next
+  begun_grows : (v : ℕ) (stage : Stage X) (line : List ℕ) (o : Option Counts) (next : Stage X) → counts_of_format v line ≡ o → lines_taken stage + 1 ≤ 2 → (IsStageWithin k stage → IsVersionOf k v) → begun n v o ≡ Ok next → Grows k stage next
   begun_grows v stage line None next read lines is_version h = cc
   begun_grows v stage line (Some c) next read lines is_version h =
       let is : head v c [] ≡ next = cc in
-      let room : c.room ≤ room_limit v = leb-true c.room (room_limit v) (counts_read v line c read).1 in
+      let room : c.room ≤ room_limit v = leb-true c.room (room_limit v) (counts_are_read v line c read).1 in
       subst (Grows k stage) is (record { count = omega (arith, lines); within = λ w. (is_version w, omega arith, room) })
 
   opened_grows : (v : ℕ) (line : List ℕ) (next : Stage X) → 2 ≤ v → v ≤ 3 → k.says_format v line ≡ true → opened v ≡ next → Grows k begin next
@@ -139,7 +124,7 @@ module _ {X : Type 0} (k : Kind X) (n : ℕ) where
   line_grows (ended v s xs) next line h = cc
 
 -- no stage has so many lines
-pub too_many : {X : Type 0} (k : Kind X) (n : ℕ) (stage : Stage X) → 4611686018427377973 ≤ n → n ≤ lines_in stage + 1 → IsWithin k stage → ⊥
+pub too_many : {X : Type 0} (k : Kind X) (n : ℕ) (stage : Stage X) → 4611686018427377973 ≤ n → n ≤ lines_taken stage + 1 → IsStageWithin k stage → ⊥
 too_many k n begin many count w = omega (arith, many, count)
 too_many k n (opened v) many count w = omega (arith, many, count)
 too_many k n (head v c qs) many count w = let few = w.1 in omega (arith, many, count, few)
@@ -216,26 +201,26 @@ module _ {X : Type 0} (k : Kind X) (n : ℕ) (stage : Stage X) where
   refuses_fails (refusal.BadShape m) r h = h
   refuses_fails (refusal.NoSuchId m) r h = h
 
-  makes_gives : {Y Z : Type 0} (view : Y → Z) (r : Result Y Refusal) (read : Result Z Refusal) → Makes view r read → Gives view r read
+  makes_gives : {Y Z : Type 0} (view : Y → Z) (r : Result Y Refusal) (read : Result Z Refusal) → GivesAs view r read → Gives view r read
   makes_gives view (Ok y) read h = h
   makes_gives view (Err e) read h = refuses_fails e read h
 
-  pub end_gives : {Y : Type 0} (view : Y → File X) (r : Result Y Refusal) (old before after : Option (List ℕ)) (line : List ℕ) → SameRead k old before n stage → TakesKnownLine before after End line → Makes view r (at_end k n stage)
+  pub end_gives : {Y : Type 0} (view : Y → File X) (r : Result Y Refusal) (old before after : Option (List ℕ)) (line : List ℕ) → SameRead k old before n stage → TakesKnownLine before after End line → GivesAs view r (at_end k n stage)
       → IfSome old (λ text. Gives view r (file_of k text))
   end_gives view r None before after line h t g = tt
   end_gives view r (Some text) None after line h t g = absurd h
   end_gives view r (Some text) (Some b) None line h t g = absurd t
-  end_gives view r (Some text) (Some b) (Some a) line h t g = makes_gives view r (file_of k text) (subst (Makes view r) (sym (h ∙ text_end k n stage b a line t)) g)
+  end_gives view r (Some text) (Some b) (Some a) line h t g = makes_gives view r (file_of k text) (subst (GivesAs view r) (sym (h ∙ text_end k n stage b a line t)) g)
 
 module _ {X : Type 0} (k : Kind X) (n : ℕ) (stage : Stage X) where
   pub cut_gives : {Y : Type 0} (view : Y → File X) (r : Result Y Refusal) (old before after : Option (List ℕ)) (line : List ℕ) → (k.is_front && not (is_ended stage)) ≡ true → SameRead k old before n stage → TakesKnownLine before after Cut line
-      → Makes view r (at_end k n stage) → IfSome old (λ text. Gives view r (file_of k text))
+      → GivesAs view r (at_end k n stage) → IfSome old (λ text. Gives view r (file_of k text))
   cut_gives view r None before after line left h t g = tt
   cut_gives view r (Some text) None after line left h t g = absurd h
   cut_gives view r (Some text) (Some b) None line left h t g = absurd t
   cut_gives view r (Some text) (Some b) (Some a) line left h t g =
       let over : at_cut k n stage ≡ at_end k n stage = ap (λ leaves. if leaves then at_end k n stage else Err (after_cut n stage)) left in
-      makes_gives k n stage view r (file_of k text) (subst (Makes view r) (sym (h ∙ text_cut k n stage b a line t ∙ over)) g)
+      makes_gives k n stage view r (file_of k text) (subst (GivesAs view r) (sym (h ∙ text_cut k n stage b a line t ∙ over)) g)
 
 -- whole lines are read alike
 pub line_alike : {X : Type 0} (front : Bool) (k : Kind X) (n : ℕ) (stage : Stage X) (line : List ℕ) → after_line (as_front front k) n stage line ≡ after_line k n stage line
@@ -283,7 +268,7 @@ no_fault e f r none fault is other =
 pub cut_no_fault : {X Z : Type 0} (n : ℕ) (stage : Stage X) (e f : Refusal) (r : Result Z Refusal) → e ≡ after_cut n stage → is_fault f ≡ true → r ≡ Err e → r ≡ Err f → ⊥
 cut_no_fault n stage e f r is fault made other = no_fault e f r (ap is_fault is ∙ cut_is_no_fault n stage) fault made other
 
-pub makes_no_fault : {Y Z : Type 0} (view : Y → Z) (r : Result Y Refusal) (read : Result Z Refusal) (f : Refusal) → Makes view r read → is_fault f ≡ true → r ≡ Err f → ⊥
+pub makes_no_fault : {Y Z : Type 0} (view : Y → Z) (r : Result Y Refusal) (read : Result Z Refusal) (f : Refusal) → GivesAs view r read → is_fault f ≡ true → r ≡ Err f → ⊥
 makes_no_fault view (Ok y) read f h fault is = cc
 makes_no_fault view (Err e) read f h fault is = no_fault e f (Err e) (refuses_no_fault e read h) fault refl is
 
@@ -295,24 +280,24 @@ ends_with k n f g h = by_lack (k.needs_end f.version && not k.is_front) h
     by_lack true h = cc
     by_lack false h = cc
 
-sound_without : {X : Type 0} (k : Kind X) (n v : ℕ) (c : Counts) (qs : List QueueShape) (b : Bool) (f : File X) → IsVersion k v → c.room ≤ room_limit v
-    → without_items k n v (if b then Some (layout_of c qs) else None) ≡ Ok f → IsVersion k f.version × IsSound k f
+sound_without : {X : Type 0} (k : Kind X) (n v : ℕ) (c : Counts) (qs : List QueueShape) (b : Bool) (f : File X) → IsVersionOf k v → c.room ≤ room_limit v
+    → without_items k n v (if b then Some (layout_of c qs) else None) ≡ Ok f → IsVersionOf k f.version × IsSound k f
 sound_without k n v c qs false f w room h = cc
 sound_without k n v c qs true f w room h =
     let is : record { version = v; layout = layout_of c qs; items = [] } ≡ f = ends_with k n (record { version = v; layout = layout_of c qs; items = [] }) f h in
-    subst (λ f. IsVersion k f.version × IsSound k f) is (w, record { room = room; few = omega arith; fitting = All-nil (λ x. IsTrue (k.fits_in (layout_of c qs) x)) })
+    subst (λ f. IsVersionOf k f.version × IsSound k f) is (w, record { room = room; few = omega arith; fitting = All-nil (λ x. IsTrue (k.fits_in (layout_of c qs) x)) })
 
-pub end_sound : {X : Type 0} (k : Kind X) (n : ℕ) (stage : Stage X) (f : File X) → IsWithin k stage → at_end k n stage ≡ Ok f → IsVersion k f.version × IsSound k f
+pub end_sound : {X : Type 0} (k : Kind X) (n : ℕ) (stage : Stage X) (f : File X) → IsStageWithin k stage → at_end k n stage ≡ Ok f → IsVersionOf k f.version × IsSound k f
 unfolding at_end
 end_sound k n begin f w h = cc
 end_sound k n (opened v) f w h = cc
 end_sound k n (head v c qs) f w h = sound_without k n v c qs (is_layout (layout_of c qs)) f w.0 w.2 h
 end_sound k n (body v s xs) f w h =
     let is : record { version = v; layout = s; items = xs } ≡ f = ends_with k n (record { version = v; layout = s; items = xs }) f h in
-    subst (λ f. IsVersion k f.version × IsSound k f) is (w.0, record { room = w.2; few = w.3; fitting = w.4 })
+    subst (λ f. IsVersionOf k f.version × IsSound k f) is (w.0, record { room = w.2; few = w.3; fitting = w.4 })
 end_sound k n (ended v s xs) f w h =
     let is : record { version = v; layout = s; items = xs } ≡ f = cc in
-    subst (λ f. IsVersion k f.version × IsSound k f) is (w.1.0, record { room = w.1.2; few = w.1.3; fitting = w.1.4 })
+    subst (λ f. IsVersionOf k f.version × IsSound k f) is (w.1.0, record { room = w.1.2; few = w.1.3; fitting = w.1.4 })
 
 -- at the beginning nothing has been read
 pub starts : {X : Type 0} (k : Kind X) (text : Option (List ℕ)) (ahead : List ℕ) → ahead ≡ [] → SameRead k text (prepend_known ahead text) 1 begin
@@ -320,13 +305,13 @@ unfolding file_of
 starts k None ahead none = tt
 starts k (Some text) ahead none = ap (λ bytes. after_text k 1 begin (bytes ++ text)) (sym none)
 
-pub makes_sound : {X Y : Type 0} (front : Bool) (k : Kind X) (view : Y → File X) (r : Result Y Refusal) (n : ℕ) (stage : Stage X) → IsWithin (as_front front k) stage → Makes view r (at_end (as_front front k) n stage)
+pub makes_sound : {X Y : Type 0} (front : Bool) (k : Kind X) (view : Y → File X) (r : Result Y Refusal) (n : ℕ) (stage : Stage X) → IsStageWithin (as_front front k) stage → GivesAs view r (at_end (as_front front k) n stage)
     → IfOk r (λ y. IsSound k (view y))
 makes_sound front k view (Ok y) n stage w h =
     let sound = (end_sound (as_front front k) n stage (view y) w h).1 in
     record { room = sound.room; few = sound.few; fitting = sound.fitting }
 makes_sound front k view (Err e) n stage w h = tt
 
-pub makes_version : {X Y : Type 0} (k : Kind X) (view : Y → File X) (r : Result Y Refusal) (n : ℕ) (stage : Stage X) → IsWithin k stage → Makes view r (at_end k n stage) → IfOk r (λ y. IsVersion k (view y).version)
+pub makes_version : {X Y : Type 0} (k : Kind X) (view : Y → File X) (r : Result Y Refusal) (n : ℕ) (stage : Stage X) → IsStageWithin k stage → GivesAs view r (at_end k n stage) → IfOk r (λ y. IsVersionOf k (view y).version)
 makes_version k view (Ok y) n stage w h = (end_sound k n stage (view y) w h).0
 makes_version k view (Err e) n stage w h = tt

@@ -1,28 +1,12 @@
 -- What is read of a whole text is sound: its shape is inside the limits, it has no more lines than a file may have, each of them fits the
 -- shape, and has what each line of its kind has.
-use Rattle.std.proofs.Common.{◌≡◌, ◌⊎◌, inl, inr, ◌+◌, ℕ, ◌==◌, Bool, true, false, ◌&&◌, not, List, [], ◌∷◌, ◌++◌, length, Result, Ok, Err, nat_le, Option, Some, None, refl, subst}
-use Rattle.std.specs.Prelude.{if◌then◌else◌, IsTrue}
-use Rattle.std.specs.List.{All}
-use Rattle.std.specs.Str.{bytes_eq}
-use Rattle.std.proofs.lemmas.Bool.{eqb-true}
-use Rattle.std.proofs.lemmas.List.Elements.{All-nil, All-push}
-use Rattle.cmwq_model.specs.declared.id.Who.{Who}
-use Rattle.cmwq_model.specs.declared.call.Call.{Call}
-use Rattle.cmwq_model.specs.declared.entry.Entry.{Entry}
-use Rattle.cmwq_model.specs.declared.shape.Counts.{Counts}
-use Rattle.cmwq_model.specs.declared.shape.QueueShape.{QueueShape}
-use Rattle.cmwq_model.specs.Prelude.{Layout, layout_of, is_layout, IsWho, IsCall, IsEntry}
-use Rattle.cmwq_text.specs.Numbers.{greatest_number}
-use Rattle.cmwq_text.specs.ShapeText.{begins_queue}
-use Rattle.cmwq_text.specs.Formats.{calls_name, is_calls_line, line_limit, number_limit, counts_of_format}
-use Rattle.cmwq_text.proofs.Steps.{both}
-use Rattle.cmwq_text.proofs.ReadRanges.{call_of_format_inside, entry_of_format_inside}
+use Rattle.cmwq_base.specs.Common.{◌≡◌, ◌⊎◌, inl, inr, ◌+◌, ℕ, ◌==◌, Bool, true, false, ◌&&◌, not, List, [], ◌∷◌, ◌++◌, length, Result, Ok, Err, nat_le, Option, Some, None, refl, subst, if◌then◌else◌, IsTrue, All, bytes_eq, eqb-true, All-nil, All-push, Who, Call, Entry, Counts, QueueShape, Layout, layout_of, is_layout, IsWho, IsCall, IsEntry, greatest_number, begins_queue, calls_name, is_calls_line, line_limit, number_limit, counts_of_format, call_of_format_inside, entry_of_format_inside, and_parts}
 use Rattle.cmwq_base.specs.declared.refusal.Refusal.{Refusal}
 use Rattle.cmwq_base.specs.declared.refusal.Refusal.TheVariants as refusal
 use Rattle.cmwq_base.specs.Pieces.{pieces}
-use Rattle.cmwq_base.specs.Files.{File, IsVersion, IsSound, Kind, as_front, Stage, begin, opened, head, body, ended, is_long, shape_made, and_then, begun, with_queue, queue_line, with_item, item_line, end_in, or_ended, body_line, first_item, after_head, after_line, after_cut, is_ended, at_end, without_items, after_last, after_pieces, file_of}
+use Rattle.cmwq_base.specs.Files.{File, IsVersionOf, IsSound, Kind, as_front, Stage, begin, opened, head, body, ended, is_long, shape_made, and_then, begun, with_queue, queue_line, with_item, item_line, end_in, or_ended, body_line, first_item, after_head, after_line, after_cut, is_ended, at_end, without_items, after_last, after_pieces, file_of}
 use Rattle.cmwq_base.specs.Kinds.{calls_kind, call_file_of, history_kind, history_file_of, front_file_of}
-use Rattle.cmwq_base.specs.Stages.{IsWithin}
+use Rattle.cmwq_base.specs.Stages.{IsStageWithin}
 use Rattle.cmwq_base.proofs.Progress.{line_grows, ends_with, end_sound}
 
 -- ---- what must have been where a file was read
@@ -78,7 +62,7 @@ module _ {X : Type 0} (k : Kind X) (Holds : Stage X → Type 0)
 
 -- what is read of a text of the kind
 pub record IsReadOf {X : Type 0} (k : Kind X) (P : ℕ → X → Type 0) (f : File X) : Type 0 where
-  pub version : IsVersion k f.version
+  pub version : IsVersionOf k f.version
   pub shape : IsTrue (is_layout f.layout)
   pub sound : IsSound k f
   pub each : All (P f.version) f.items
@@ -188,7 +172,7 @@ module _ {X : Type 0} (k : Kind X) (P : ℕ → X → Type 0) (reads : (v : ℕ)
       subst HasEach is has
 
   abbrev Stands : Stage X → Type 0
-  Stands stage = IsWithin k stage × Has stage
+  Stands stage = IsStageWithin k stage × Has stage
 
   line_stands : (n : ℕ) (stage next : Stage X) (line : List ℕ) → Stands stage → after_line k n stage line ≡ Ok next → Stands next
   line_stands n stage next line stands h = ((line_grows k n stage next line h).within stands.0, line_has n stage next line stands.1 h)
@@ -206,12 +190,12 @@ abbrev pub IsCallInside : ℕ → Who × Call → Type 0
 IsCallInside v x = IsWho x.0 × (IsCall (number_limit v)) x.1
 
 -- the first line of a file of calls says no other format than 3
-pub one_or_three : (v : ℕ) → IsVersion calls_kind v → (v ≡ 1) ⊎ (v ≡ 3)
+pub one_or_three : (v : ℕ) → IsVersionOf calls_kind v → (v ≡ 1) ⊎ (v ≡ 3)
 one_or_three v is = from is.2
   where
     from : (v ≡ 1) ⊎ ((line : List ℕ) × (is_calls_line v line ≡ true)) → (v ≡ 1) ⊎ (v ≡ 3)
     from (inl one) = inl one
-    from (inr said) = inr (eqb-true v 3 (both (v == 3) (bytes_eq said.0 calls_name) said.1).0)
+    from (inr said) = inr (eqb-true v 3 (and_parts (v == 3) (bytes_eq said.0 calls_name) said.1).0)
 
 pub calls_are_read : (text : List ℕ) (f : File (Who × Call)) → call_file_of text ≡ Ok f → IsReadOf calls_kind IsCallInside f
 calls_are_read = file_is_read calls_kind IsCallInside call_of_format_inside

@@ -1,32 +1,11 @@
 -- What is read of the file of a history is spelled so.
-use Rattle.std.proofs.Common.{◌≡◌, ◌+◌, ◌==◌, ℕ, Bool, true, false, ◌&&◌, List, [], ◌∷◌, ◌++◌, length, Result, Ok, Err, nat_le, Option, Some, None, refl, sym, ap, ◌∙◌, append_assoc, append-nil, subst}
-use Rattle.std.specs.Prelude.{if◌then◌else◌, IsTrue, flat_map}
-use Rattle.std.specs.List.{All, join_with_byte}
-use Rattle.std.proofs.lemmas.Bool.{eqb-true}
-use Rattle.std.proofs.lemmas.List.{flat_map_more}
-use Rattle.std.proofs.lemmas.List.Elements.{All-nil, All-push}
-use Rattle.std.proofs.lemmas.Option.{same_Some}
-use Rattle.std.proofs.lemmas.Slice.Eq.{bytes_eq-Decides}
-use Rattle.std.proofs.lemmas.List.Splits.{join_with_byte-slice_split}
-use Rattle.cmwq_model.specs.declared.entry.Entry.{Entry}
-use Rattle.cmwq_model.specs.declared.shape.Counts.{Counts}
-use Rattle.cmwq_model.specs.declared.shape.QueueShape.{QueueShape}
-use Rattle.cmwq_model.specs.Prelude.{Layout, layout_of, is_layout, entry_fits}
-use Rattle.cmwq_text.specs.EntryText.{entry_text, entry_of}
-use Rattle.cmwq_text.specs.ShapeText.{counts_text, queue_text, queue_of_history, begins_queue}
-use Rattle.cmwq_text.specs.EndText.{end_text, end_of}
-use Rattle.cmwq_text.specs.Formats.{version_name, is_version_line, needs_end, line_limit, allows_queue, allows_entry, counts_of_format, queue_of_format, entry_of_format}
-use Rattle.cmwq_text.specs.HistoryText.{version_text, head_text, body_text, last_text, text_of_format}
-use Rattle.cmwq_text.proofs.Steps.{bind_some, chosen}
-use Rattle.cmwq_text.proofs.EntryLaws.{entries_spelled_so}
-use Rattle.cmwq_text.proofs.EndLaws.{ends_spelled_so}
-use Rattle.cmwq_text.proofs.ShapeLaws.{counts_spelled_so, queues_spelled_so}
+use Rattle.cmwq_base.specs.Common.{◌≡◌, ◌+◌, ◌==◌, ℕ, Bool, true, false, ◌&&◌, List, [], ◌∷◌, ◌++◌, length, Result, Ok, Err, nat_le, Option, Some, None, refl, sym, ap, ◌∙◌, append_assoc, append-nil, subst, if◌then◌else◌, IsTrue, flat_map, All, join_with_byte, eqb-true, flat_map_more, All-nil, All-push, same_Some, bytes_eq-Decides, join_with_byte-slice_split, Entry, Counts, QueueShape, Layout, layout_of, is_layout, entry_fits, entry_text, entry_of, counts_text, queue_text, queue_of_history, begins_queue, end_text, end_of, version_name, is_version_line, needs_end, line_limit, allows_queue, allows_entry, counts_of_format, queue_of_format, entry_of_format, version_text, head_text, body_text, last_text, text_of_format, bind_some, chosen, entries_spelled_so, ends_spelled_so, counts_spelled_so, queues_spelled_so}
 use Rattle.cmwq_base.specs.declared.refusal.Refusal.{Refusal}
 use Rattle.cmwq_base.specs.declared.refusal.Refusal.TheVariants as refusal
 use Rattle.cmwq_base.specs.Pieces.{pieces}
 use Rattle.cmwq_base.specs.Files.{File, Stage, begin, opened, head, body, ended, is_long, shape_made, and_then, begun, with_queue, queue_line, with_item, item_line, end_in, or_ended, body_line, first_item, after_head, after_line, at_end, without_end, without_items, after_last, after_pieces, file_of}
 use Rattle.cmwq_base.specs.Kinds.{history_kind, history_file_of}
-use Rattle.cmwq_base.proofs.Progress.{counts_read}
+use Rattle.cmwq_base.proofs.Progress.{counts_are_read}
 use Rattle.cmwq_base.proofs.Sound.{no_cut, short_goes, next_goes}
 use Rattle.cmwq_base.specs.FileLaws.{IsOfFormat, HistoriesHaveOneText, HistoriesAreOfTheirFormat}
 
@@ -79,7 +58,7 @@ module _ (n v : ℕ) where
   begun_spells stage line None next before is h = cc
   begun_spells stage line (Some c) next before is h =
       let same : head v c [] ≡ next = cc in
-      let text = ap (λ t. t ++ (line ++ 10 ∷ [])) before ∙ ap (λ t. version_text v ++ t) (sym (counts_spelled_so c line (counts_read v line c is).0) ∙ sym (append-nil (counts_text c))) in
+      let text = ap (λ t. t ++ (line ++ 10 ∷ [])) before ∙ ap (λ t. version_text v ++ t) (sym (counts_spelled_so c line (counts_are_read v line c is).0) ∙ sym (append-nil (counts_text c))) in
       subst (λ st. Spells stage st line) same (record { text = text; inside = All-nil (λ q. IsTrue (allows_queue v q)) })
 
   queue_spells : (c : Counts) (qs : List QueueShape) (line : List ℕ) (o : Option QueueShape) (next : Stage Entry) → AreQueuesOf v qs → queue_of_format v line ≡ o → with_queue n v c qs o ≡ Ok next → Spells (head v c qs) next line

@@ -1,15 +1,6 @@
 -- What a text gives, by how its first line is found.
-use Rattle.std.proofs.Common.{◌≡◌, ◌+◌, ◌≤◌, ◌==◌, ℕ, suc, Bool, true, false, cond, List, [], ◌∷◌, length, Err, nat_lt, Some, None, refl, sym, ap, ◌∙◌, arith, subst}
-use Rattle.std.specs.Prelude.{if◌then◌else◌, is_some}
-use Rattle.std.specs.List.{position_or_len}
-use Rattle.std.proofs.lemmas.Bool.{ltb-true, eqb-true}
-use Rattle.std.proofs.lemmas.Bool.Decides.{nat_tests}
-use Rattle.std.proofs.lemmas.List.{take_all}
-use Rattle.std.proofs.lemmas.List.Splits.{slice_split_first, slice_split_none}
-use Rattle.std.proofs.lemmas.List.Sums.{fails_before_first}
-use Rattle.cmwq_io.specs.Feeds.{is_feed, has_feed}
-use Rattle.cmwq_io.specs.declared.lines.Found.TheVariants.{Whole, Cut, Long, End}
-use Rattle.cmwq_io.specs.FirstLine.{first_line, after_line as rest_of, is_long as is_text_long, TakesLine}
+use Rattle.cmwq_base.specs.Common.{◌≡◌, ◌+◌, ◌≤◌, ◌==◌, ℕ, suc, Bool, true, false, cond, List, [], ◌∷◌, length, Err, nat_lt, Some, None, refl, sym, ap, ◌∙◌, arith, subst, if◌then◌else◌, is_some, position_or_len, ltb-true, eqb-true, nat_tests, take_all, slice_split_first, slice_split_none, fails_before_first, is_feed, has_feed, Whole, Cut, Long, End, first_line, TakesLine}
+use Rattle.cmwq_io.specs.FirstLine.{after_line as rest_of, is_line_long as is_text_long}
 use Rattle.cmwq_base.specs.declared.refusal.Refusal.TheVariants as refusal
 use Rattle.cmwq_base.specs.Pieces.{pieces}
 use Rattle.cmwq_base.specs.Files.{Stage, Kind, is_long, and_then, after_line, at_end, at_cut, after_last, after_pieces, after_text}

@@ -1,30 +1,12 @@
 -- A front is read as its whole lines are, with the last line that they lack.
-use Rattle.std.proofs.Common.{◌≡◌, ◌⊎◌, inl, inr, ◌+◌, ◌==◌, ◌<◌, ◌≤◌, ℕ, zero, suc, Bool, true, false, ◌&&◌, not, List, [], ◌∷◌, ◌++◌, length, Result, Ok, Err, Option, Some, None, nat_le, refl, sym, ap, ◌∙◌, append_assoc, append-nil, arith, subst}
-use Rattle.std.specs.Prelude.{if◌then◌else◌}
-use Rattle.std.specs.List.{All, position_or_len}
-use Rattle.std.proofs.lemmas.Bool.{ltb-true, le-ltb}
-use Rattle.std.proofs.lemmas.List.{get_or-take, length-drop, length-take}
-use Rattle.std.proofs.lemmas.List.Splits.{slice_split_at}
-use Rattle.std.proofs.lemmas.List.Sums.{fails_before_first}
-use Rattle.cmwq_io.specs.Feeds.{is_feed, has_feed}
-use Rattle.cmwq_io.specs.FirstLine.{first_line, after_line as rest_of}
-use Rattle.cmwq_model.specs.declared.entry.Entry.{Entry}
-use Rattle.cmwq_model.specs.declared.shape.Counts.{Counts}
-use Rattle.cmwq_model.specs.declared.shape.QueueShape.{QueueShape}
-use Rattle.cmwq_model.specs.Prelude.{Layout, layout_of, is_layout}
-use Rattle.cmwq_text.specs.Numbers.{greatest_number}
-use Rattle.cmwq_text.specs.Words.{joined}
-use Rattle.cmwq_text.specs.EndText.{end_words, end_text, end_of}
-use Rattle.cmwq_text.specs.Formats.{old_lines, most_lines, line_limit, needs_end, counts_of_format}
-use Rattle.cmwq_text.specs.HistoryText.{last_text}
-use Rattle.cmwq_text.proofs.EndLaws.{ends_read_again}
-use Rattle.cmwq_text.proofs.WholeLines.{whole_end, end_is_no_shape, end_is_no_entry}
+use Rattle.cmwq_base.specs.Common.{◌≡◌, ◌⊎◌, inl, inr, ◌+◌, ◌==◌, ◌<◌, ◌≤◌, ℕ, zero, suc, Bool, true, false, ◌&&◌, not, List, [], ◌∷◌, ◌++◌, length, Result, Ok, Err, Option, Some, None, nat_le, refl, sym, ap, ◌∙◌, append_assoc, append-nil, arith, subst, if◌then◌else◌, All, position_or_len, ltb-true, le-ltb, get_or-take, length-drop, length-take, slice_split_at, fails_before_first, is_feed, has_feed, first_line, Entry, Counts, QueueShape, Layout, layout_of, is_layout, greatest_number, join_words, end_words, end_text, end_of, old_lines, most_lines, line_limit, needs_end, counts_of_format, last_text, ends_read_again, whole_end, end_is_no_shape, end_is_no_entry}
+use Rattle.cmwq_io.specs.FirstLine.{after_line as rest_of}
 use Rattle.cmwq_base.specs.declared.refusal.Refusal.{Refusal}
 use Rattle.cmwq_base.specs.declared.refusal.Refusal.TheVariants as refusal
 use Rattle.cmwq_base.specs.Pieces.{pieces, lines_in, last_in, whole_lines, cut_line}
 use Rattle.cmwq_base.specs.Files.{File, Stage, Kind, begin, opened, head, body, ended, as_front, is_long, shape_made, and_then, begun, with_item, item_line, or_ended, body_line, first_item, after_head, after_line, after_cut, is_ended, at_end, at_cut, without_end, without_items, after_last, after_pieces, after_text, file_of}
 use Rattle.cmwq_base.specs.Kinds.{history_kind, front_file_of}
-use Rattle.cmwq_base.specs.Stages.{IsWithin}
+use Rattle.cmwq_base.specs.Stages.{IsStageWithin}
 use Rattle.cmwq_base.specs.FileLaws.{IsFrontOf, FrontsAreWholeLines}
 use Rattle.cmwq_base.proofs.Limits.{none_passes}
 use Rattle.cmwq_base.proofs.Texts.{has_feed_is, pieces_fed, pieces_last, pieces_some, last_piece, long_piece, after_first_piece}
@@ -229,7 +211,7 @@ module _ (f : File Entry) (few : length f.items ≤ line_limit f.version) where
   -- ---- a text whose whole lines are the history, but for its last line, is read as a front
 
   abbrev last_line : List ℕ
-  last_line = joined (end_words (length f.items))
+  last_line = join_words (end_words (length f.items))
 
   never : (e : Refusal) (r : Result (File Entry) Refusal) → r ≡ Ok f → r ≡ Err e → ⊥
   never e r is other = let both : Ok f ≡ Err e = sym is ∙ other in cc
@@ -284,7 +266,7 @@ module _ (f : File Entry) (few : length f.items ≤ line_limit f.version) where
   line_lacks n (body v s xs) next taken h = (refl, without n (record { version = v; layout = s; items = xs }) ∙ ap Ok (body_is n v s xs next taken h))
   line_lacks n (ended v s xs) next taken h = cc
 
-  older_lacks : (n : ℕ) (stage : Stage Entry) → needs_end f.version ≡ false → IsWithin history_kind stage → at_end history_kind n stage ≡ Ok f → is_ended stage ≡ false
+  older_lacks : (n : ℕ) (stage : Stage Entry) → needs_end f.version ≡ false → IsStageWithin history_kind stage → at_end history_kind n stage ≡ Ok f → is_ended stage ≡ false
   unfolding at_end
   older_lacks n begin none w h = refl
   older_lacks n (opened v) none w h = refl
@@ -295,7 +277,7 @@ module _ (f : File Entry) (few : length f.items ≤ line_limit f.version) where
       let both : true ≡ false = sym w.0 ∙ ap (λ (g : File Entry). needs_end g.version) is ∙ none in
       cc
 
-  text_lacks : (n : ℕ) (stage : Stage Entry) → IsWithin history_kind stage → after_text history_kind n stage closing ≡ Ok f → Lacks n stage
+  text_lacks : (n : ℕ) (stage : Stage Entry) → IsStageWithin history_kind stage → after_text history_kind n stage closing ≡ Ok f → Lacks n stage
   text_lacks n stage w h = by_need (needs_end f.version) refl h
     where
       by_need : (b : Bool) → needs_end f.version ≡ b → after_text history_kind n stage (if b then end_text (length f.items) else []) ≡ Ok f → Lacks n stage
@@ -332,7 +314,7 @@ module _ (f : File Entry) (few : length f.items ≤ line_limit f.version) where
       ap (after_pieces front_kind n stage) (pieces_fed text fed) ∙ after_first_piece front_kind n stage (first_line text) (pieces rest) some.0 some.1 some.2 short
       ∙ ap (and_then front_goes) (line_alike true history_kind n stage (first_line text) ∙ step.1) ∙ on step.0 step.1 step.2
 
-  lacking_goes : (fuel n : ℕ) (stage : Stage Entry) (text : List ℕ) (b : Bool) → has_feed text ≡ b → length text ≤ fuel → IsWithin history_kind stage → is_long (cut_line text) ≡ false → Closes n stage text → after_text front_kind n stage text ≡ Ok f
+  lacking_goes : (fuel n : ℕ) (stage : Stage Entry) (text : List ℕ) (b : Bool) → has_feed text ≡ b → length text ≤ fuel → IsStageWithin history_kind stage → is_long (cut_line text) ≡ false → Closes n stage text → after_text front_kind n stage text ≡ Ok f
   lacking_goes fuel n stage text false fed enough w short h =
       let alone = last_alone text fed in
       last_piece front_kind n stage text fed

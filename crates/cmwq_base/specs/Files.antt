@@ -1,14 +1,7 @@
 -- Files of calls and histories: what is read of a whole text, or the first refusal. Both are a shape line, the queues' lines, and then lines
 -- of one kind, which differ in how a queue and such a line is read, and in what has to be inside the shape. Before the shape line a line may say
 -- that the format is 2 or 3. A format may have a last line, which says how many lines of the kind stand before it.
-use Rattle.std.specs.Prelude.{◌≡◌, ◌⊎◌, ℕ, ◌+◌, ◌≤◌, Bool, true, false, not, ◌&&◌, ◌==◌, IsTrue, if◌then◌else◌, List, [], ◌∷◌, ◌++◌, length, Option, Some, None, Result, Ok, Err, nat_lt, nat_le}
-use Rattle.std.specs.List.{All}
-use Rattle.cmwq_model.specs.declared.shape.Counts.{Counts}
-use Rattle.cmwq_model.specs.declared.shape.QueueShape.{QueueShape}
-use Rattle.cmwq_model.specs.Prelude.{Layout, layout_of, is_layout}
-use Rattle.cmwq_text.specs.ShapeText.{begins_queue}
-use Rattle.cmwq_text.specs.EndText.{end_of}
-use Rattle.cmwq_text.specs.Formats.{line_limit, room_limit, counts_of_format}
+use Rattle.cmwq_base.specs.Common.{◌≡◌, ◌⊎◌, ℕ, ◌+◌, ◌≤◌, Bool, true, false, not, ◌&&◌, ◌==◌, IsTrue, if◌then◌else◌, List, [], ◌∷◌, ◌++◌, length, Option, Some, None, Result, Ok, Err, nat_lt, nat_le, All, Counts, QueueShape, Layout, layout_of, is_layout, begins_queue, end_of, line_limit, room_limit, counts_of_format}
 use Rattle.cmwq_base.specs.declared.refusal.Refusal.{Refusal}
 use Rattle.cmwq_base.specs.declared.refusal.Refusal.TheVariants as refusal
 use Rattle.cmwq_base.specs.Pieces.{pieces}
@@ -44,8 +37,8 @@ abbrev pub as_front : {X : Type 0} → Bool → Kind X → Kind X
 as_front front k = record { says_format = k.says_format; queue_of = k.queue_of; item_of = k.item_of; fits_in = k.fits_in; needs_end = k.needs_end; is_front = front }
 
 -- 1 to 3: 1, or what a first line says
-abbrev pub IsVersion : {X : Type 0} → Kind X → ℕ → Type 0
-IsVersion k v = (1 ≤ v) × (v ≤ 3) × ((v ≡ 1) ⊎ ((line : List ℕ) × (k.says_format v line ≡ true)))
+abbrev pub IsVersionOf : {X : Type 0} → Kind X → ℕ → Type 0
+IsVersionOf k v = (1 ≤ v) × (v ≤ 3) × ((v ≡ 1) ⊎ ((line : List ℕ) × (k.says_format v line ≡ true)))
 
 -- no more room and no more lines of the kind than the format allows, each of which fits the shape
 pub record IsSound {X : Type 0} (k : Kind X) (f : File X) : Type 0 where

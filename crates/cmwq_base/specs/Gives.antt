@@ -13,9 +13,9 @@ Refuses (refusal.BadLine n) read = read ≡ Err (refusal.BadLine n)
 Refuses (refusal.BadShape n) read = read ≡ Err (refusal.BadShape n)
 Refuses (refusal.NoSuchId n) read = read ≡ Err (refusal.NoSuchId n)
 
-abbrev pub Makes : {X Y : Type 0} → (X → Y) → Result X Refusal → Result Y Refusal → Type 0
-Makes view (Ok x) read = read ≡ Ok (view x)
-Makes view (Err e) read = Refuses e read
+abbrev pub GivesAs : {X Y : Type 0} → (X → Y) → Result X Refusal → Result Y Refusal → Type 0
+GivesAs view (Ok x) read = read ≡ Ok (view x)
+GivesAs view (Err e) read = Refuses e read
 
 -- the same, unless the source failed
 abbrev pub Fails : {Y : Type 0} → Refusal → Result Y Refusal → Type 0

@@ -1,11 +1,5 @@
 -- The two kinds of files: calls and histories.
-use Rattle.std.specs.Prelude.{ℕ, Bool, false, List, Result}
-use Rattle.cmwq_model.specs.declared.id.Who.{Who}
-use Rattle.cmwq_model.specs.declared.call.Call.{Call}
-use Rattle.cmwq_model.specs.declared.entry.Entry.{Entry}
-use Rattle.cmwq_model.specs.Prelude.{fits, entry_fits}
-use Rattle.cmwq_text.specs.ShapeText.{queue_of_calls}
-use Rattle.cmwq_text.specs.Formats.{is_version_line, needs_end, queue_of_format, entry_of_format, is_calls_line, call_of_format}
+use Rattle.cmwq_base.specs.Common.{ℕ, Bool, false, List, Result, Who, Call, Entry, fits, entry_fits, queue_of_calls, is_version_line, needs_end, queue_of_format, entry_of_format, is_calls_line, call_of_format}
 use Rattle.cmwq_base.specs.declared.refusal.Refusal.{Refusal}
 use Rattle.cmwq_base.specs.Files.{File, Kind, as_front, file_of}
 

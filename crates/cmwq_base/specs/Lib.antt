@@ -1,3 +1,4 @@
+pub mod Common
 pub use Rattle.cmwq_model.specs.Layout
 pub use Rattle.cmwq_model.specs.Calls
 pub use Rattle.cmwq_model.specs.Bookings

@@ -1,6 +1,5 @@
 -- What the next line of a file may say.
-use Rattle.std.specs.Prelude.{◌≡◌, ℕ, ◌<◌, List, Some}
-use Rattle.cmwq_text.specs.Formats.{line_limit}
+use Rattle.cmwq_base.specs.Common.{◌≡◌, ℕ, ◌<◌, List, Some, line_limit}
 use Rattle.cmwq_base.specs.Files.{Kind}
 
 -- a line says it in a format that allows one more behind the first n

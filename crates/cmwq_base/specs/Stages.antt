@@ -1,12 +1,9 @@
 -- A stage of the reader as the definitions see it. What gathers the items is seen as a shape and a list.
-use Rattle.std.specs.Prelude.{◌≡◌, ℕ, ◌+◌, ◌≤◌, true, List, length, IsTrue}
-use Rattle.std.specs.List.{All}
-use Rattle.cmwq_model.specs.Prelude.{Layout}
-use Rattle.cmwq_text.specs.Formats.{line_limit, room_limit}
+use Rattle.cmwq_base.specs.Common.{◌≡◌, ℕ, ◌+◌, ◌≤◌, true, List, length, IsTrue, All, Layout, line_limit, room_limit}
 use Rattle.cmwq_base.specs.declared.stage.Stage.{Stage as ReaderStage}
 use Rattle.cmwq_base.specs.declared.stage.Stage.TheVariants as reader
 use Rattle.cmwq_base.specs.declared.stage.Contents.{Contents}
-use Rattle.cmwq_base.specs.Files.{File, IsVersion, Kind, Stage, begin, opened, head, body, ended}
+use Rattle.cmwq_base.specs.Files.{File, IsVersionOf, Kind, Stage, begin, opened, head, body, ended}
 
 abbrev pub stage_of : {G X : Type 0} → (G → Layout) → (G → List X) → ReaderStage G → Stage X
 stage_of layout items reader.Begin = begin
@@ -20,12 +17,12 @@ contents_of layout items c = record { version = c.version; layout = layout c.all
 
 -- at least as many lines as it has taken (a format may be said before the shape line), that these are no more than a file may have, that the
 -- format was said, that a file with a last line is of a format that has one, and that each item fits the shape
-abbrev pub lines_in : {X : Type 0} → Stage X → ℕ
-lines_in begin = 0
-lines_in (opened v) = 1
-lines_in (head v counts queues) = 2 + length queues
-lines_in (body v s items) = 2 + length s.queues + length items
-lines_in (ended v s items) = 3 + length s.queues + length items
+abbrev pub lines_taken : {X : Type 0} → Stage X → ℕ
+lines_taken begin = 0
+lines_taken (opened v) = 1
+lines_taken (head v counts queues) = 2 + length queues
+lines_taken (body v s items) = 2 + length s.queues + length items
+lines_taken (ended v s items) = 3 + length s.queues + length items
 
 -- a first line says this format
 pub record IsSaid {X : Type 0} (k : Kind X) (v : ℕ) : Type 0 where
@@ -35,11 +32,11 @@ pub record IsSaid {X : Type 0} (k : Kind X) (v : ℕ) : Type 0 where
   pub says : k.says_format v line ≡ true
 
 abbrev pub IsWhole : {X : Type 0} → Kind X → ℕ → Layout → List X → Type 0
-IsWhole k v s items = IsVersion k v × (length s.queues ≤ 64) × (s.room ≤ room_limit v) × (length items ≤ line_limit v) × All (λ x. IsTrue (k.fits_in s x)) items
+IsWhole k v s items = IsVersionOf k v × (length s.queues ≤ 64) × (s.room ≤ room_limit v) × (length items ≤ line_limit v) × All (λ x. IsTrue (k.fits_in s x)) items
 
-abbrev pub IsWithin : {X : Type 0} → Kind X → Stage X → Type 0
-IsWithin k begin = Unit {0}
-IsWithin k (opened v) = IsSaid k v
-IsWithin k (head v counts queues) = IsVersion k v × (length queues ≤ 64) × (counts.room ≤ room_limit v)
-IsWithin k (body v s items) = IsWhole k v s items
-IsWithin k (ended v s items) = IsTrue (k.needs_end v) × IsWhole k v s items
+abbrev pub IsStageWithin : {X : Type 0} → Kind X → Stage X → Type 0
+IsStageWithin k begin = Unit {0}
+IsStageWithin k (opened v) = IsSaid k v
+IsStageWithin k (head v counts queues) = IsVersionOf k v × (length queues ≤ 64) × (counts.room ≤ room_limit v)
+IsStageWithin k (body v s items) = IsWhole k v s items
+IsStageWithin k (ended v s items) = IsTrue (k.needs_end v) × IsWhole k v s items

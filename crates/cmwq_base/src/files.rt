@@ -87,7 +87,7 @@ pub struct HistoryFile {
     pub version: u8,
 }
 
-ghost use Rattle.cmwq_base.specs.Views.{calls_in, history_in};
+ghost use Rattle.cmwq_base.specs.Views.{calls_in, file_of_history};
 
 /// Reads a file of calls to the end of the source. One whose first line is `calls 3` has the limits of format 3. After an error nothing is kept, and the source has been read up to a
 /// place that isn't said.
@@ -117,7 +117,7 @@ pub fn read_calls<S: Source>(alloc: Global, source: &mut S) -> Result<CallFile, 
 /// # Errors
 /// As those of `read_calls`.
 pub fn read_history<S: Source>(alloc: Global, source: &mut S) -> Result<HistoryFile, Refusal>
-    ensures exact { IfSome (S.left source.old) (λ text. Gives history_in result (history_file_of text)) }
+    ensures exact { IfSome (S.left source.old) (λ text. Gives file_of_history result (history_file_of text)) }
     ensures version { IfOk result (λ file. (1 ≤ file.version) × (file.version ≤ 3)) }
     ensures room { IfOk result (λ file. file.shape.room ≤ room_limit file.version) }
     ensures few { IfOk result (λ file. length file.entries.items ≤ line_limit file.version) }

@@ -2,7 +2,7 @@
 
 ghost use Rattle.std.specs.Prelude.{◌≡◌, IfSome, IfOk, IsErrOf};
 ghost use Rattle.cmwq_io.specs.Counts.{Rises};
-ghost use Rattle.cmwq_base.specs.Files.{as_front, file_of, IsVersion, IsSound};
+ghost use Rattle.cmwq_base.specs.Files.{as_front, file_of, IsVersionOf, IsSound};
 ghost use Rattle.cmwq_base.specs.Gives.{Gives};
 ghost use Rattle.cmwq_base.specs.Stages.{contents_of};
 
@@ -25,7 +25,7 @@ pub fn read_file<G: Gather + Drop, S: Source>(
     is_front: bool,
 ) -> Result<Contents<G>, Refusal>
     ensures exact { IfSome (S.left source.old) (λ text. Gives (contents_of G.layout G.items) result (file_of (as_front is_front G.Item.kind) text)) }
-    ensures version { IfOk result (λ file. IsVersion G.Item.kind file.version) }
+    ensures version { IfOk result (λ file. IsVersionOf G.Item.kind file.version) }
     ensures sound { IfOk result (λ file. IsSound G.Item.kind (contents_of G.layout G.items file)) }
     ensures fault { IsErrOf result Refusal.ReadFault → Rises (S.troubles source.old) (S.troubles source.new) }
     ensures nothing_written { IsErrOf result Refusal.WriteFault → ⊥ }

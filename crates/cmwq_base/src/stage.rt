@@ -71,13 +71,13 @@ pub enum Stage<G> {
 
 impl<G: Gather + Drop> Stage<G> {
     ghost use Rattle.cmwq_base.specs.Files.{as_front, after_line, after_cut, is_ended, at_end};
-    ghost use Rattle.cmwq_base.specs.Gives.{Makes};
+    ghost use Rattle.cmwq_base.specs.Gives.{GivesAs};
     ghost use Rattle.cmwq_base.specs.Stages.{stage_of, contents_of};
 
     /// Takes one whole line, without its line feed, the `number`-th of the file.
     #[tactic(auto, unfolding(crate::specs::Files::after_line))]
     pub fn take(self, alloc: Global, number: u64, line: &[u8]) -> Result<Stage<G>, Refusal>
-        ensures { Makes (stage_of G.layout G.items) result (after_line G.Item.kind number (stage_of G.layout G.items self) line.now) }
+        ensures { GivesAs (stage_of G.layout G.items) result (after_line G.Item.kind number (stage_of G.layout G.items self) line.now) }
     {
         match self {
             Stage::Begin => first_line(alloc, number, line),
@@ -113,7 +113,7 @@ impl<G: Gather + Drop> Stage<G> {
     /// The end of the file, where its `number`-th line would be. A last line that is missing is refused there, but in a front.
     #[tactic(auto, unfolding(crate::specs::Files::at_end))]
     pub fn finish(self, alloc: Global, number: u64, is_front: bool) -> Result<Contents<G>, Refusal>
-        ensures { Makes (contents_of G.layout G.items) result (at_end (as_front is_front G.Item.kind) number (stage_of G.layout G.items self)) }
+        ensures { GivesAs (contents_of G.layout G.items) result (at_end (as_front is_front G.Item.kind) number (stage_of G.layout G.items self)) }
     {
         match self {
             Stage::Begin | Stage::Opened { .. } => Err(Refusal::BadShape(number)),
@@ -148,11 +148,11 @@ pub struct Contents<G> {
     pub all: G,
 }
 
-ghost use Rattle.cmwq_base.specs.Gives.{Makes};
+ghost use Rattle.cmwq_base.specs.Gives.{GivesAs};
 ghost use Rattle.cmwq_base.specs.Stages.{stage_of};
 
 fn first_line<G: Gather>(alloc: Global, number: u64, line: &[u8]) -> Result<Stage<G>, Refusal>
-    ensures { Makes (stage_of G.layout G.items) result (first_line_by G.Item.kind number line.now) }
+    ensures { GivesAs (stage_of G.layout G.items) result (first_line_by G.Item.kind number line.now) }
 {
     if G::Item::says_format(2, line) {
         Ok(Stage::Opened { version: 2 })
@@ -169,7 +169,7 @@ fn begun<G: Gather>(
     version: u8,
     line: &[u8],
 ) -> Result<Stage<G>, Refusal>
-    ensures { Makes (stage_of G.layout G.items) result (begun_by number version (counts_of_format version line.now)) }
+    ensures { GivesAs (stage_of G.layout G.items) result (begun_by number version (counts_of_format version line.now)) }
 {
     match read_counts_of_format(version, line) {
         Some(counts) => Ok(Stage::Head {
@@ -188,7 +188,7 @@ fn with_queue<G: Gather>(
     mut queues: Vec<QueueShape>,
     line: &[u8],
 ) -> Result<Stage<G>, Refusal>
-    ensures { Makes (stage_of G.layout G.items) result (queue_line G.Item.kind number version counts queues.items line.now) }
+    ensures { GivesAs (stage_of G.layout G.items) result (queue_line G.Item.kind number version counts queues.items line.now) }
 {
     if queues.len() >= QUEUE_LIMIT {
         return Err(Refusal::BadShape(number));
@@ -213,7 +213,7 @@ fn with_item<G: Gather + Drop>(
     mut all: G,
     line: &[u8],
 ) -> Result<Stage<G>, Refusal>
-    ensures { Makes (stage_of G.layout G.items) result (item_line G.Item.kind number version (G.layout all) (G.items all) line.now) }
+    ensures { GivesAs (stage_of G.layout G.items) result (item_line G.Item.kind number version (G.layout all) (G.items all) line.now) }
 {
     if all.len() >= line_limit(version) {
         return Err(Refusal::TooLong);
@@ -253,7 +253,7 @@ fn with_line<G: Gather + Drop>(
     all: G,
     line: &[u8],
 ) -> Result<Stage<G>, Refusal>
-    ensures { Makes (stage_of G.layout G.items) result (body_line G.Item.kind number version (G.layout all) (G.items all) line.now) }
+    ensures { GivesAs (stage_of G.layout G.items) result (body_line G.Item.kind number version (G.layout all) (G.items all) line.now) }
 {
     match end_in::<G::Item>(version, line) {
         Some(entries) if entries == all.len() => Ok(Stage::Ended { version, all }),
@@ -270,7 +270,7 @@ fn first_item<G: Gather + Drop>(
     queues: Vec<QueueShape>,
     line: &[u8],
 ) -> Result<Stage<G>, Refusal>
-    ensures { Makes (stage_of G.layout G.items) result (first_item_by G.Item.kind number version (shape_made counts queues.items) line.now) }
+    ensures { GivesAs (stage_of G.layout G.items) result (first_item_by G.Item.kind number version (shape_made counts queues.items) line.now) }
 {
     match shape_of(counts, queues) {
         Some(shape) => with_line(number, version, G::begin(alloc, shape)?, line),
@@ -294,7 +294,7 @@ fn after_head<G: Gather + Drop>(
     queues: Vec<QueueShape>,
     line: &[u8],
 ) -> Result<Stage<G>, Refusal>
-    ensures { Makes (stage_of G.layout G.items) result (after_head_by G.Item.kind number version counts queues.items line.now) }
+    ensures { GivesAs (stage_of G.layout G.items) result (after_head_by G.Item.kind number version counts queues.items line.now) }
 {
     if begins_queue(line) {
         with_queue(number, version, counts, queues, line)

@@ -1,16 +1,8 @@
 -- The machine values of a `Held`. Assumes `Logic`.
-use Rattle.std.proofs.Common.{◌≡◌, List, [], ◌∷◌, ◌++◌, refl, ap, ◌∙◌, T}
-use seplogic.Ra.Ura.{Ura}
-use mir.Syntax.{ty_ptr, ty_struct, tcons, tnil}
-use mir.Val.{Val, vstruct, vcons, vnil, of_list, has_ty, WT}
-use base.Logic.{ent, emp}
-use types.Logic.{Logic, sem}
-use denote.RattleType.{RattleType}
+use Rattle.cmwq_c.specs.Common.{◌++◌, refl, ap, ◌∙◌, Ura, ty_ptr, ty_struct, tcons, tnil, Val, vstruct, vcons, vnil, of_list, has_ty, WT, ent, emp, Logic, sem, RattleType, Ptr, block_ptr, null_ptr, ptr_val, Struct, shape}
+use Rattle.std.proofs.Common.{T, ◌≡◌, List, [], ◌∷◌}
 use denote.Laws.{Is}
-use denote.RawPtr.{Ptr, block_ptr, null_ptr, ptr_val}
 use denote.Shadow.{makes_shadow}
-use denote.Struct.Struct.{Struct}
-use denote.Struct.Owning.{shape}
 use Rattle.cmwq_c.specs.contracts.held.Held as held
 
 abbrev pub held_of : Ptr → Val

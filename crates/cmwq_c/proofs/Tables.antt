@@ -1,17 +1,14 @@
 -- The numbers of calls and replies are read again as themselves.
-use Rattle.std.proofs.Common.{◌≡◌, true, false, ◌==◌, if◌then◌else◌, Some, refl, sym, ap, ◌∙◌}
-use Rattle.cmwq_model.specs.declared.id.Who.{Who}
-use Rattle.cmwq_model.specs.declared.id.Who.TheVariants.{Caller, Worker}
-use Rattle.cmwq_model.specs.declared.call.Call.{Call}
-use Rattle.cmwq_model.specs.declared.reply.Reply.{Reply}
+use Rattle.cmwq_c.specs.Common.{refl, sym, ap, ◌∙◌, Who, Caller, Worker, Call, Reply}
+use Rattle.std.proofs.Common.{◌≡◌, true, false, ◌==◌, if◌then◌else◌, Some}
 use Rattle.cmwq_model.specs.declared.call.Call.TheVariants as call
 use Rattle.cmwq_model.specs.declared.reply.Reply.TheVariants as reply
 use Rattle.cmwq_c.specs.declared.numbers.WhoNumbers.{WhoNumbers}
 use Rattle.cmwq_c.specs.declared.numbers.ReplyNumbers.{ReplyNumbers}
-use Rattle.cmwq_c.specs.Numbers.{who_of, call_of, who_numbers, call_numbers, reply_numbers, CallsReadAgain, RepliesStandApart}
+use Rattle.cmwq_c.specs.Numbers.{who_of_numbers, call_of_numbers, who_numbers, call_numbers, reply_numbers, CallNumbersReadAgain, RepliesStandApart}
 
-call_again : (w : WhoNumbers) (c : Call) → call_of (call_numbers w c) ≡ Some c
-unfolding call_of call_numbers
+call_again : (w : WhoNumbers) (c : Call) → call_of_numbers (call_numbers w c) ≡ Some c
+unfolding call_of_numbers call_numbers
 call_again w (call.Queue i q c) = refl
 call_again w (call.Delay i q c t) = refl
 call_again w (call.Modify i q c t) = refl
@@ -58,16 +55,16 @@ who_stays w call.Freeze = refl
 who_stays w call.Thaw = refl
 who_stays w (call.Destroy q) = refl
 
-who_again : (who : Who) → who_of (who_numbers who) ≡ Some who
+who_again : (who : Who) → who_of_numbers (who_numbers who) ≡ Some who
 who_again (Caller c) = refl
 who_again (Worker w) = by_pool w.pool.high refl
   where
-    by_pool : (high : _) → w.pool.high ≡ high → who_of (who_numbers (Worker w)) ≡ Some (Worker w)
+    by_pool : (high : _) → w.pool.high ≡ high → who_of_numbers (who_numbers (Worker w)) ≡ Some (Worker w)
     by_pool true h = rw h refl
     by_pool false h = rw h refl
 
-pub calls_read_again : CallsReadAgain
-unfolding call_of
+pub calls_read_again : CallNumbersReadAgain
+unfolding call_of_numbers
 calls_read_again who c = rw (who_stays (who_numbers who) c) (rw (who_again who) (rw (call_again (who_numbers who) c) refl))
 
 -- the reply of some numbers

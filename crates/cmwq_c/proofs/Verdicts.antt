@@ -1,10 +1,8 @@
 -- How a run of `check` ended, from its status.
-use Rattle.std.proofs.Common.{◌≡◌, ℕ, List, [], Option, None, Some, Result, Ok, Err, arith}
-use Rattle.cmwq_model.specs.declared.verdict.Illegal.{Illegal}
+use Rattle.cmwq_c.specs.Common.{Result, Err, arith, Illegal, history_file_of, CheckEnds, check_status}
+use Rattle.std.proofs.Common.{◌≡◌, ℕ, List, [], Option, None, Some, Ok}
 use Rattle.cmwq_base.specs.declared.refusal.Refusal.{Refusal}
 use Rattle.cmwq_base.specs.declared.refusal.Refusal.TheVariants as refusal
-use Rattle.cmwq_base.specs.Kinds.{history_file_of}
-use Rattle.cmwq_cmd_history.specs.Check.{CheckEnds, check_status}
 use Rattle.cmwq_c.specs.Verdicts.{Judges}
 
 pub legal_end : (text line : List ℕ) (ended : Result (Option Illegal) Refusal) → CheckEnds text (Some []) (Some line) ended → 0 ≡ check_status ended → Judges text None line

@@ -1,12 +1,8 @@
 -- Which calls of C are refused, and which callers and workers there are.
-use Rattle.std.specs.Prelude.{Bool, ◌&&◌, if◌then◌else◌, Option, Some, option_map, nat_lt}
-use Rattle.cmwq_model.specs.declared.id.Who.{Who}
-use Rattle.cmwq_model.specs.declared.id.Who.TheVariants.{Caller, Worker}
-use Rattle.cmwq_model.specs.declared.call.Call.{Call}
-use Rattle.cmwq_model.specs.Prelude.{Layout, fits}
+use Rattle.cmwq_c.specs.Common.{option_map, nat_lt, Who, Caller, Worker, Call, Layout, fits, Lasting, unmade_by}
+use Rattle.std.specs.Prelude.{Bool, ◌&&◌, if◌then◌else◌, Option, Some}
 use Rattle.cmwq_tail_book.specs.declared.book.Unmade.{Unmade}
 use Rattle.cmwq_tail_book.specs.declared.book.Unmade.TheVariants as unmade
-use Rattle.cmwq_tail_book.specs.Lasting.{Lasting, unmade_by}
 use Rattle.cmwq_c.specs.declared.session.Refusal.{Refusal}
 use Rattle.cmwq_c.specs.declared.session.Refusal.TheVariants.{Unfit, Crowded, Full}
 

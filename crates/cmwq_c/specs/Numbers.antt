@@ -1,16 +1,11 @@
 -- What the numbers that cross to C mean: each field of a call and of a reply, and the kinds by their numbers. cmwq.h has the same tables.
-use Rattle.std.specs.Prelude.{◌≡◌, ℕ, Bool, true, false, not, ◌==◌, if◌then◌else◌, List, map, Option, None, Some}
+use Rattle.cmwq_c.specs.Common.{not, Who, Caller, Worker, Call, Reply, Entry, Layout, layout_of}
+use Rattle.std.specs.Prelude.{◌≡◌, ℕ, Bool, true, false, ◌==◌, if◌then◌else◌, List, map, Option, None, Some}
 use Rattle.cmwq_model.specs.declared.id.CpuId.{CpuId}
 use Rattle.cmwq_model.specs.declared.id.ItemId.{ItemId}
 use Rattle.cmwq_model.specs.declared.id.QueueId.{QueueId}
-use Rattle.cmwq_model.specs.declared.id.Who.{Who}
-use Rattle.cmwq_model.specs.declared.id.Who.TheVariants.{Caller, Worker}
-use Rattle.cmwq_model.specs.declared.call.Call.{Call}
-use Rattle.cmwq_model.specs.declared.reply.Reply.{Reply}
-use Rattle.cmwq_model.specs.declared.entry.Entry.{Entry}
 use Rattle.cmwq_model.specs.declared.shape.Counts.{Counts}
 use Rattle.cmwq_model.specs.declared.shape.QueueShape.{QueueShape}
-use Rattle.cmwq_model.specs.Prelude.{Layout, layout_of}
 use Rattle.cmwq_model.specs.declared.call.Call.TheVariants as call
 use Rattle.cmwq_model.specs.declared.reply.Reply.TheVariants as reply
 use Rattle.cmwq_c.specs.declared.numbers.ShapeNumbers.{ShapeNumbers}
@@ -21,21 +16,21 @@ use Rattle.cmwq_c.specs.declared.numbers.ReplyNumbers.{ReplyNumbers}
 use Rattle.cmwq_c.specs.declared.numbers.EntryNumbers.{EntryNumbers}
 
 -- a flag is set where it isn't 0
-abbrev pub queue_of : QueueNumbers → QueueShape
-queue_of n = record { max_active = n.max_active; high = not (n.high == 0); intensive = not (n.intensive == 0); freezable = not (n.freezable == 0) }
+abbrev pub queue_of_numbers : QueueNumbers → QueueShape
+queue_of_numbers n = record { max_active = n.max_active; high = not (n.high == 0); intensive = not (n.intensive == 0); freezable = not (n.freezable == 0) }
 
-abbrev pub counts_of : ShapeNumbers → Counts
-counts_of n = record { cpus = n.cpus; workers = n.workers; callers = n.callers; items = n.items; room = n.room }
+abbrev pub counts_of_numbers : ShapeNumbers → Counts
+counts_of_numbers n = record { cpus = n.cpus; workers = n.workers; callers = n.callers; items = n.items; room = n.room }
 
 abbrev pub shape_of : ShapeNumbers → List QueueNumbers → Layout
-shape_of n queues = layout_of (counts_of n) (map queue_of queues)
+shape_of n queues = layout_of (counts_of_numbers n) (map queue_of_numbers queues)
 
 -- 0 a caller, 1 a worker of a CPU's normal pool, 2 one of its high pool
-abbrev pub worker_of : Bool → WhoNumbers → Who
-worker_of high n = Worker (record { pool = record { cpu = record { 0 = n.cpu }; high = high }; index = n.index })
+abbrev pub worker_of_numbers : Bool → WhoNumbers → Who
+worker_of_numbers high n = Worker (record { pool = record { cpu = record { 0 = n.cpu }; high = high }; index = n.index })
 
-abbrev pub who_of : WhoNumbers → Option Who
-who_of n = if n.kind == 0 then Some (Caller (record { 0 = n.index })) else (if n.kind == 1 then Some (worker_of false n) else (if n.kind == 2 then Some (worker_of true n) else None))
+abbrev pub who_of_numbers : WhoNumbers → Option Who
+who_of_numbers n = if n.kind == 0 then Some (Caller (record { 0 = n.index })) else (if n.kind == 1 then Some (worker_of_numbers false n) else (if n.kind == 2 then Some (worker_of_numbers true n) else None))
 
 abbrev item_in : CallNumbers → ItemId
 item_in n = record { 0 = n.item }
@@ -47,8 +42,8 @@ abbrev cpu_in : CallNumbers → CpuId
 cpu_in n = record { 0 = n.cpu }
 
 -- the call of each kind
-unfoldable pub call_of : CallNumbers → Option Call
-call_of n =
+unfoldable pub call_of_numbers : CallNumbers → Option Call
+call_of_numbers n =
     if n.kind == 0 then Some (call.Queue (item_in n) (queue_in n) (cpu_in n)) else (
     if n.kind == 1 then Some (call.Delay (item_in n) (queue_in n) (cpu_in n) n.number) else (
     if n.kind == 2 then Some (call.Modify (item_in n) (queue_in n) (cpu_in n) n.number) else (
@@ -78,7 +73,7 @@ both (Some who) (Some call) = Some (who, call)
 both who call = None
 
 abbrev pub asked_of : CallNumbers → Option (Who × Call)
-asked_of n = both (who_of n.who) (call_of n)
+asked_of n = both (who_of_numbers n.who) (call_of_numbers n)
 
 -- the numbers of each reply: k and n are its number and other, a tick and a max_active its number; what it doesn't have is 0
 abbrev pub plain : ℕ → ReplyNumbers
@@ -135,8 +130,8 @@ who_numbers (Worker w) = record { kind = if w.pool.high then 2 else 1; index = w
 abbrev pub bare : WhoNumbers → ℕ → CallNumbers
 bare who kind = record { ticket = 0; number = 0; item = 0; kind = kind; queue = 0; cpu = 0; who = who }
 
-abbrev pub of_item : WhoNumbers → ℕ → ItemId → CallNumbers
-of_item who kind i = record (bare who kind) { item = i.0 }
+abbrev pub numbers_of_item : WhoNumbers → ℕ → ItemId → CallNumbers
+numbers_of_item who kind i = record (bare who kind) { item = i.0 }
 
 abbrev pub of_queue : WhoNumbers → ℕ → QueueId → CallNumbers
 of_queue who kind q = record (bare who kind) { queue = q.0 }
@@ -148,14 +143,14 @@ unfoldable pub call_numbers : WhoNumbers → Call → CallNumbers
 call_numbers who (call.Queue i q c) = of_place who 0 i q c 0
 call_numbers who (call.Delay i q c t) = of_place who 1 i q c t
 call_numbers who (call.Modify i q c t) = of_place who 2 i q c t
-call_numbers who (call.Cancel i) = of_item who 3 i
+call_numbers who (call.Cancel i) = numbers_of_item who 3 i
 call_numbers who (call.Tick t) = record (bare who 4) { number = t }
 call_numbers who call.Fire = bare who 5
 call_numbers who (call.Flush q) = of_queue who 6 q
 call_numbers who (call.Drain q) = of_queue who 7 q
-call_numbers who (call.FlushItem i) = of_item who 8 i
-call_numbers who (call.FlushDelayed i) = of_item who 9 i
-call_numbers who (call.CancelSync i) = of_item who 10 i
+call_numbers who (call.FlushItem i) = numbers_of_item who 8 i
+call_numbers who (call.FlushDelayed i) = numbers_of_item who 9 i
+call_numbers who (call.CancelSync i) = numbers_of_item who 10 i
 call_numbers who (call.End k) = record (bare who 11) { ticket = k }
 call_numbers who call.Take = bare who 12
 call_numbers who call.Finish = bare who 13
@@ -171,8 +166,8 @@ abbrev pub entry_numbers : Entry → EntryNumbers
 entry_numbers e = record { serial = e.serial; call = call_numbers (who_numbers e.who) e.call; reply = reply_numbers e.reply }
 
 -- The numbers of a call are read again as it, so no two calls have the same.
-abbrev pub CallsReadAgain : Type 0
-CallsReadAgain = (who : Who) (c : Call) → asked_of (call_numbers (who_numbers who) c) ≡ Some (who, c)
+abbrev pub CallNumbersReadAgain : Type 0
+CallNumbersReadAgain = (who : Who) (c : Call) → asked_of (call_numbers (who_numbers who) c) ≡ Some (who, c)
 
 -- No two replies have the same numbers.
 abbrev pub RepliesStandApart : Type 0

@@ -1,10 +1,8 @@
 -- Where the fields of a struct lie in memory, in bytes from its start, by the kit's own definition of what lies where.
-use Rattle.std.specs.Prelude.{◌≡◌, ◌+◌, ℕ, List, [], ◌∷◌}
+use Rattle.cmwq_c.specs.Common.{◌+◌, Ty, RattleType, layout}
+use Rattle.std.specs.Prelude.{◌≡◌, ℕ, List, [], ◌∷◌}
 use mathlib.Core.Option.{Option, none, some}
-use mir.Syntax.{Ty}
 use prog.Memory.{field_of}
-use denote.RattleType.{RattleType}
-use denote.Param.{layout}
 
 abbrev LiesAt : Option (Ty × ℕ) → ℕ → Type 0
 LiesAt none offset = ⊥

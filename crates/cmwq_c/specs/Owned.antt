@@ -1,10 +1,7 @@
 -- What a handle owns.
+use Rattle.cmwq_c.specs.Common.{Fml, ftrue, Ptr, Ty, box_owns}
 use Rattle.std.specs.Prelude.{Bool, true, false}
-use base.Fml.{Fml, ftrue}
-use denote.RawPtr.{Ptr}
-use mir.Syntax.{Ty}
 use Rattle.std_heap.specs.contracts.GlobalAllocator.TheImpl.{ghosts}
-use Rattle.std_alloc.specs.Box.Ownership.{box_owns}
 use Rattle.cmwq_c.specs.contracts.session.Session.{the_row}
 
 -- what the heap wants to free a block, by whichever handle to it

@@ -1,14 +1,10 @@
 -- What each call of C answers.
-use Rattle.std.specs.Prelude.{◌≡◌, ℕ, ◌==◌, Bool, if◌then◌else◌, List, length, take, drop, Option, None, Some, nat_lt}
-use Rattle.cmwq_model.specs.declared.id.Who.{Who}
-use Rattle.cmwq_model.specs.declared.call.Call.{Call}
-use Rattle.cmwq_model.specs.declared.entry.Entry.{Entry}
-use Rattle.cmwq_model.specs.Prelude.{Layout}
+use Rattle.cmwq_c.specs.Common.{nat_lt, Who, Call, Entry, Layout, Lasting}
+use Rattle.std.specs.Prelude.{drop, ◌≡◌, ℕ, ◌==◌, Bool, if◌then◌else◌, List, length, take, Option, None, Some}
 use Rattle.cmwq_core.specs.History.{next_entry}
 use Rattle.cmwq_text.specs.EntryText.{entry_text}
 use Rattle.cmwq_c.specs.declared.session.Refusal.{Refusal}
 use Rattle.cmwq_c.specs.declared.session.Refusal.TheVariants.{Unfit, Crowded, Full}
-use Rattle.cmwq_tail_book.specs.Lasting.{Lasting}
 use Rattle.cmwq_c.specs.Books.{is_inside, refusal_of}
 
 -- 0 done, 1 refused, 3 full, 6 crowded

@@ -1,6 +1,6 @@
 //! What the numbers of calls and replies can be relied on for.
 ghost use Rattle.std.specs.Prelude.{[], ◌∷◌};
-ghost use Rattle.cmwq_c.specs.Numbers.{CallsReadAgain, RepliesStandApart};
+ghost use Rattle.cmwq_c.specs.Numbers.{CallNumbersReadAgain, RepliesStandApart};
 ghost use Rattle.cmwq_c.specs.Offsets.{FieldsLieAt};
 ghost use Rattle.cmwq_c.specs.contracts.handle.Handle.{the_row as Handle};
 ghost use Rattle.cmwq_c.specs.contracts.held.Held.{the_row as Held};
@@ -14,7 +14,7 @@ ghost use Rattle.cmwq_c.specs.contracts.numbers.EntryNumbers.{the_row as EntryNu
 /// The numbers of each call are read again as it.
 #[tactic(auto, using(crate::proofs::Tables::calls_read_again))]
 pub fn calls_read_again()
-    ensures { CallsReadAgain }
+    ensures { CallNumbersReadAgain }
 {}
 
 /// No two replies have the same numbers.

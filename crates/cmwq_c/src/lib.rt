@@ -6,12 +6,12 @@ ghost use Rattle.cmwq_model.specs.declared.verdict.Illegal.{Illegal};
 ghost use Rattle.cmwq_model.specs.Prelude.{is_layout, still_open, is_active};
 ghost use Rattle.cmwq_model.specs.Calls as calls;
 ghost use Rattle.cmwq_model.specs.Legal as legal;
-ghost use Rattle.cmwq_text.specs.CallText.{call_of};
+ghost use Rattle.cmwq_text.specs.CallText.{call_read};
 ghost use Rattle.cmwq_text.specs.EntryText.{entry_text};
 ghost use Rattle.cmwq_core.specs.History.{next_entry, past_in, is_ready};
-ghost use Rattle.cmwq_tail_book.specs.Lasting.{opened, with_made, with_none_kept, entry_at};
+ghost use Rattle.cmwq_tail_book.specs.Lasting.{lasting_at_first, with_made, with_none_kept, lasting_entry};
 ghost use Rattle.cmwq_c.specs.Books.{is_inside};
-ghost use Rattle.cmwq_c.specs.Numbers.{shape_of, who_of, asked_of, reply_numbers, entry_numbers};
+ghost use Rattle.cmwq_c.specs.Numbers.{shape_of, who_of_numbers, asked_of, reply_numbers, entry_numbers};
 ghost use Rattle.cmwq_base.specs.declared.refusal.Refusal.{Refusal};
 ghost use Rattle.cmwq_base.specs.Kinds.{history_file_of};
 ghost use Rattle.cmwq_c.specs.Verdicts.{Judges};
@@ -49,7 +49,7 @@ pub extern "C" fn cmwq_open(
     queues: &[QueueNumbers],
 ) -> u32
     ensures live { result ≡ 0 → book.new.live ≡ true }
-    ensures book { result ≡ 0 → book.new.held.book ≡ opened (shape_of shape.now queues.now) shape.now.keep }
+    ensures book { result ≡ 0 → book.new.held.book ≡ lasting_at_first (shape_of shape.now queues.now) shape.now.keep }
     ensures inside { result ≡ 0 → is_layout (shape_of shape.now queues.now) ≡ true }
     ensures status { (result ≡ 0) ⊎ ((result ≡ 1) × (is_layout (shape_of shape.now queues.now) ≡ false)) ⊎ (result ≡ 4) }
     ensures kept { result ≢ 0 → book.new ≡ book.old }
@@ -108,10 +108,10 @@ pub extern "C" fn cmwq_step_line(
     out: &mut [u8],
     written: &mut usize,
 ) -> u32
-    ensures status { result ≡ if_live book.old.live (line_status book.old.held.book (call_of line.now) (length out.old)) }
+    ensures status { result ≡ if_live book.old.live (line_status book.old.held.book (call_read line.now) (length out.old)) }
     ensures live { book.new.live ≡ book.old.live }
-    ensures made { result ≡ 0 → IfSome (call_of line.now) (λ a. book.new.held.book ≡ with_made book.old.held.book (next_entry book.old.held.book.history a.0 a.1)) }
-    ensures text { result ≡ 0 → IfSome (call_of line.now) (λ a. IsWritten (entry_text (next_entry book.old.held.book.history a.0 a.1)) written.new out.old out.new) }
+    ensures made { result ≡ 0 → IfSome (call_read line.now) (λ a. book.new.held.book ≡ with_made book.old.held.book (next_entry book.old.held.book.history a.0 a.1)) }
+    ensures text { result ≡ 0 → IfSome (call_read line.now) (λ a. IsWritten (entry_text (next_entry book.old.held.book.history a.0 a.1)) written.new out.old out.new) }
     ensures kept { result ≢ 0 → (out.new ≡ out.old) × (written.new ≡ written.old) }
     ensures same { result ≢ 0 → book.old.live ≡ true → book.new.held.book ≡ book.old.held.book }
 {
@@ -201,10 +201,10 @@ pub extern "C" fn cmwq_serial(
     who: &WhoNumbers,
     serial: &mut u64,
 ) -> u32
-    ensures status { result ≡ if_live book.old.live (serial_status book.old.held.book.history.layout (who_of who.now)) }
+    ensures status { result ≡ if_live book.old.live (serial_status book.old.held.book.history.layout (who_of_numbers who.now)) }
     ensures live { book.new.live ≡ book.old.live }
     ensures same { book.old.live ≡ true → book.new.held.book ≡ book.old.held.book }
-    ensures serial { result ≡ 0 → IfSome (who_of who.now) (λ w. serial.new ≡ calls.serial_of (past_in book.old.held.book.history) w) }
+    ensures serial { result ≡ 0 → IfSome (who_of_numbers who.now) (λ w. serial.new ≡ calls.serial_of (past_in book.old.held.book.history) w) }
     ensures kept { result ≢ 0 → serial.new ≡ serial.old }
 {
     match mem::replace(book, Handle::none()).into_box(alloc) {
@@ -315,10 +315,10 @@ pub extern "C" fn cmwq_entry(
     number: u64,
     entry: &mut EntryNumbers,
 ) -> u32
-    ensures status { result ≡ if_live book.old.live (entry_status (entry_at book.old.held.book number)) }
+    ensures status { result ≡ if_live book.old.live (entry_status (lasting_entry book.old.held.book number)) }
     ensures live { book.new.live ≡ book.old.live }
     ensures same { book.old.live ≡ true → book.new.held.book ≡ book.old.held.book }
-    ensures entry { result ≡ 0 → IfSome (entry_at book.old.held.book number) (λ e. entry.new ≡ entry_numbers e) }
+    ensures entry { result ≡ 0 → IfSome (lasting_entry book.old.held.book number) (λ e. entry.new ≡ entry_numbers e) }
     ensures kept { result ≢ 0 → entry.new ≡ entry.old }
 {
     match mem::replace(book, Handle::none()).into_box(alloc) {
@@ -340,10 +340,10 @@ pub extern "C" fn cmwq_entry_line(
     out: &mut [u8],
     written: &mut usize,
 ) -> u32
-    ensures status { result ≡ if_live book.old.live (entry_line_status (entry_at book.old.held.book number) (length out.old)) }
+    ensures status { result ≡ if_live book.old.live (entry_line_status (lasting_entry book.old.held.book number) (length out.old)) }
     ensures live { book.new.live ≡ book.old.live }
     ensures same { book.old.live ≡ true → book.new.held.book ≡ book.old.held.book }
-    ensures text { result ≡ 0 → IfSome (entry_at book.old.held.book number) (λ e. IsWritten (entry_text e) written.new out.old out.new) }
+    ensures text { result ≡ 0 → IfSome (lasting_entry book.old.held.book number) (λ e. IsWritten (entry_text e) written.new out.old out.new) }
     ensures kept { result ≢ 0 → (out.new ≡ out.old) × (written.new ≡ written.old) }
 {
     match mem::replace(book, Handle::none()).into_box(alloc) {

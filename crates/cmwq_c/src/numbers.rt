@@ -1,6 +1,6 @@
 //! Shapes, callers, calls, replies and entries as C writes them.
 ghost use Rattle.std.specs.Prelude.{◌≡◌, map, IfOk};
-ghost use Rattle.cmwq_c.specs.Numbers.{counts_of, queue_of, worker_of, who_of, call_of, asked_of};
+ghost use Rattle.cmwq_c.specs.Numbers.{counts_of_numbers, queue_of_numbers, worker_of_numbers, who_of_numbers, call_of_numbers, asked_of};
 
 use cmwq_model::{
     Call, CallerId, Counts, CpuId, ItemId, NoMemory, PoolId, QueueId, QueueShape, Who, WorkerId,
@@ -86,7 +86,7 @@ const _: () = prove!(size_of::<EntryNumbers>() == 56);
 
 impl QueueNumbers {
     fn shape(&self) -> QueueShape
-        ensures { result ≡ queue_of self.now }
+        ensures { result ≡ queue_of_numbers self.now }
     {
         QueueShape {
             max_active: self.max_active,
@@ -99,7 +99,7 @@ impl QueueNumbers {
 
 /// The queues of these numbers. The error says that memory ran out.
 pub fn queues_of(alloc: Global, queues: &[QueueNumbers]) -> Result<Vec<QueueShape>, NoMemory>
-    ensures { IfOk result (λ made. made.items ≡ map queue_of queues.now) }
+    ensures { IfOk result (λ made. made.items ≡ map queue_of_numbers queues.now) }
 {
     let mut made = Vec::with_capacity(alloc, queues.len())?;
     for queue in queues {
@@ -111,7 +111,7 @@ pub fn queues_of(alloc: Global, queues: &[QueueNumbers]) -> Result<Vec<QueueShap
 impl ShapeNumbers {
     /// The counts of a shape.
     pub fn counts(&self) -> Counts
-        ensures { result ≡ counts_of self.now }
+        ensures { result ≡ counts_of_numbers self.now }
     {
         Counts {
             cpus: self.cpus,
@@ -125,7 +125,7 @@ impl ShapeNumbers {
 
 impl WhoNumbers {
     fn worker(&self, high: bool) -> Who
-        ensures { result ≡ worker_of high self.now }
+        ensures { result ≡ worker_of_numbers high self.now }
     {
         let cpu = CpuId(self.cpu);
         let pool = PoolId { cpu, high };
@@ -137,7 +137,7 @@ impl WhoNumbers {
 
     /// Who these numbers mean, if they mean one.
     pub fn who(&self) -> Option<Who>
-        ensures { result ≡ who_of self.now }
+        ensures { result ≡ who_of_numbers self.now }
     {
         match self.kind {
             0 => Some(Who::Caller(CallerId(self.index))),
@@ -150,9 +150,9 @@ impl WhoNumbers {
 
 impl CallNumbers {
     /// Which call these numbers mean, if they mean one.
-    #[tactic(auto, unfolding(crate::specs::Numbers::call_of))]
+    #[tactic(auto, unfolding(crate::specs::Numbers::call_of_numbers))]
     pub fn call(&self) -> Option<Call>
-        ensures { result ≡ call_of self.now }
+        ensures { result ≡ call_of_numbers self.now }
     {
         let item = ItemId(self.item);
         let queue = QueueId(self.queue);

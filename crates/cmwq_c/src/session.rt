@@ -4,7 +4,7 @@ ghost use Rattle.cmwq_model.specs.Prelude.{fits, is_layout, serial_of, still_ope
 ghost use Rattle.cmwq_model.specs.Legal as legal;
 ghost use Rattle.cmwq_core.specs.History.{next_entry, past_in, is_ready};
 ghost use Rattle.cmwq_core.specs.Plans.{IsPlan};
-ghost use Rattle.cmwq_tail_book.specs.Lasting.{opened, with_made, with_none_kept, has_space, entry_at};
+ghost use Rattle.cmwq_tail_book.specs.Lasting.{lasting_at_first, with_made, with_none_kept, has_space, lasting_entry};
 ghost use Rattle.cmwq_c.specs.Books.{is_inside, refusal_of, refused_by};
 
 use cmwq_core::Plan;
@@ -54,7 +54,7 @@ impl Model for Session {
 impl Session {
     /// No entries. The error says that memory ran out.
     pub fn new(alloc: Global, shape: Shape, keep: u32) -> Result<Session, NoMemory>
-        ensures { IfOk result (λ s. s ≡ opened shape keep) }
+        ensures { IfOk result (λ s. s ≡ lasting_at_first shape keep) }
     {
         let book = TailBook::new(alloc, &shape, keep)?;
         Ok(Session { shape, book })
@@ -126,7 +126,7 @@ impl Session {
 
     /// The entry with this number, if it is kept.
     pub fn entry(&self, number: Number) -> Option<Entry>
-        ensures { result ≡ entry_at self.now number }
+        ensures { result ≡ lasting_entry self.now number }
     {
         self.book.entry(number)
     }

@@ -2,12 +2,12 @@
 ghost use Rattle.std.specs.Prelude.{◌≡◌, ◌≢◌, ◌⊎◌, ◌≤◌, true, false, [], length, map, take, IfSome, IfNone, IfOk, IfErr, None, Some, ◌<◌};
 ghost use Rattle.cmwq_model.specs.Prelude.{is_layout};
 ghost use Rattle.cmwq_model.specs.Calls as calls;
-ghost use Rattle.cmwq_text.specs.CallText.{call_of};
+ghost use Rattle.cmwq_text.specs.CallText.{call_read};
 ghost use Rattle.cmwq_text.specs.EntryText.{entry_text};
 ghost use Rattle.cmwq_core.specs.History.{next_entry, past_in};
 ghost use Rattle.cmwq_core.specs.Plans.{IsPlan};
-ghost use Rattle.cmwq_tail_book.specs.Lasting.{opened, with_made, entry_at, has_space};
-ghost use Rattle.cmwq_c.specs.Numbers.{shape_of, who_of, asked_of, reply_numbers, entry_numbers};
+ghost use Rattle.cmwq_tail_book.specs.Lasting.{lasting_at_first, with_made, lasting_entry, has_space};
+ghost use Rattle.cmwq_c.specs.Numbers.{shape_of, who_of_numbers, asked_of, reply_numbers, entry_numbers};
 ghost use Rattle.cmwq_c.specs.Statuses.{call_status, line_status, space_status, entry_status, entry_line_status, serial_status, IsWritten};
 
 use crate::numbers::{
@@ -27,7 +27,7 @@ pub fn book_of(
     shape: &ShapeNumbers,
     queues: &[QueueNumbers],
 ) -> Result<Box<Session, Global>, u32>
-    ensures made { IfOk result (λ b. b.value ≡ opened (shape_of shape.now queues.now) shape.now.keep) }
+    ensures made { IfOk result (λ b. b.value ≡ lasting_at_first (shape_of shape.now queues.now) shape.now.keep) }
     ensures inside { IfOk result (λ b. is_layout (shape_of shape.now queues.now) ≡ true) }
     ensures status { IfErr result (λ s. ((s ≡ 1) × (is_layout (shape_of shape.now queues.now) ≡ false)) ⊎ (s ≡ 4)) }
 {
@@ -100,9 +100,9 @@ pub fn put(text: &[u8], out: &mut [u8]) -> Option<usize>
 
 /// Makes the call of this line, and writes the line of its entry.
 pub fn line_step(session: &mut Session, line: &[u8], out: &mut [u8], written: &mut usize) -> u32
-    ensures status { result ≡ line_status session.old (call_of line.now) (length out.old) }
-    ensures made { result ≡ 0 → IfSome (call_of line.now) (λ a. session.new ≡ with_made session.old (next_entry session.old.history a.0 a.1)) }
-    ensures text { result ≡ 0 → IfSome (call_of line.now) (λ a. IsWritten (entry_text (next_entry session.old.history a.0 a.1)) written.new out.old out.new) }
+    ensures status { result ≡ line_status session.old (call_read line.now) (length out.old) }
+    ensures made { result ≡ 0 → IfSome (call_read line.now) (λ a. session.new ≡ with_made session.old (next_entry session.old.history a.0 a.1)) }
+    ensures text { result ≡ 0 → IfSome (call_read line.now) (λ a. IsWritten (entry_text (next_entry session.old.history a.0 a.1)) written.new out.old out.new) }
     ensures kept { result ≢ 0 → (session.new ≡ session.old) × (out.new ≡ out.old) × (written.new ≡ written.old) }
 {
     let Some((who, call)) = read_call(line) else {
@@ -135,8 +135,8 @@ fn planned_step(session: &mut Session, plan: &Plan, out: &mut [u8], written: &mu
 
 /// Writes the entry with this number as numbers.
 pub fn entry_of(session: &Session, number: Number, entry: &mut EntryNumbers) -> u32
-    ensures status { result ≡ entry_status (entry_at session.now number) }
-    ensures entry { result ≡ 0 → IfSome (entry_at session.now number) (λ e. entry.new ≡ entry_numbers e) }
+    ensures status { result ≡ entry_status (lasting_entry session.now number) }
+    ensures entry { result ≡ 0 → IfSome (lasting_entry session.now number) (λ e. entry.new ≡ entry_numbers e) }
     ensures kept { result ≢ 0 → entry.new ≡ entry.old }
 {
     match session.entry(number) {
@@ -150,8 +150,8 @@ pub fn entry_of(session: &Session, number: Number, entry: &mut EntryNumbers) -> 
 
 /// Writes the line of the entry with this number.
 pub fn line_of(session: &Session, number: Number, out: &mut [u8], written: &mut usize) -> u32
-    ensures status { result ≡ entry_line_status (entry_at session.now number) (length out.old) }
-    ensures text { result ≡ 0 → IfSome (entry_at session.now number) (λ e. IsWritten (entry_text e) written.new out.old out.new) }
+    ensures status { result ≡ entry_line_status (lasting_entry session.now number) (length out.old) }
+    ensures text { result ≡ 0 → IfSome (lasting_entry session.now number) (λ e. IsWritten (entry_text e) written.new out.old out.new) }
     ensures kept { result ≢ 0 → (out.new ≡ out.old) × (written.new ≡ written.old) }
 {
     let Some(entry) = session.entry(number) else {
@@ -168,8 +168,8 @@ pub fn line_of(session: &Session, number: Number, out: &mut [u8], written: &mut 
 
 /// Says how many entries this caller or worker has.
 pub fn serial_of(session: &Session, who: &WhoNumbers, serial: &mut u64) -> u32
-    ensures status { result ≡ serial_status session.now.history.layout (who_of who.now) }
-    ensures serial { result ≡ 0 → IfSome (who_of who.now) (λ w. serial.new ≡ calls.serial_of (past_in session.now.history) w) }
+    ensures status { result ≡ serial_status session.now.history.layout (who_of_numbers who.now) }
+    ensures serial { result ≡ 0 → IfSome (who_of_numbers who.now) (λ w. serial.new ≡ calls.serial_of (past_in session.now.history) w) }
     ensures kept { result ≢ 0 → serial.new ≡ serial.old }
 {
     let Some(who) = who.who() else {

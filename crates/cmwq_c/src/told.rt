@@ -1,6 +1,6 @@
 //! Replies, calls and entries, written for C.
 ghost use Rattle.std.specs.Prelude.{◌≡◌};
-ghost use Rattle.cmwq_c.specs.Numbers.{plain, with_number, with_two, reply_numbers, who_numbers, bare, of_item, of_queue, of_place, call_numbers, entry_numbers, CallsReadAgain};
+ghost use Rattle.cmwq_c.specs.Numbers.{plain, with_number, with_two, reply_numbers, who_numbers, bare, numbers_of_item, of_queue, of_place, call_numbers, entry_numbers, CallNumbersReadAgain};
 
 use crate::numbers::{CallNumbers, EntryNumbers, ReplyNumbers, WhoNumbers};
 use cmwq_model::{Call, CpuId, Entry, ItemId, QueueId, Reply, Who};
@@ -108,7 +108,7 @@ fn bare(who: WhoNumbers, kind: u8) -> CallNumbers
 }
 
 fn of_item(who: WhoNumbers, kind: u8, item: ItemId) -> CallNumbers
-    ensures { result ≡ of_item who kind item }
+    ensures { result ≡ numbers_of_item who kind item }
 {
     CallNumbers {
         item: item.0,

@@ -18,6 +18,8 @@ word_found found =
     if bytes_eq found.0 (codes "step") then Some (word.Step (has_flag (codes "live") found.1))
     else if bytes_eq found.0 (codes "check") then Some (word.Check (has_flag (codes "front") found.1))
     else if bytes_eq found.0 (codes "upgrade") then Some word.Upgrade
+    else if bytes_eq found.0 (codes "summary") then Some word.Summary
+    else if bytes_eq found.0 (codes "chart") then Some word.Chart
     else if bytes_eq found.0 (codes "replay") then Some word.Replay
     else if bytes_eq found.0 (codes "run") then Some word.Run
     else None
@@ -41,7 +43,7 @@ with_flagged a name flag_name = with_subcommand a (with_rule (new_app name) (fla
 
 -- the words whose inputs are lines, of which `step` has `--live` and `check` has `--front`, and then those whose inputs are JSON
 abbrev pub with_lines : App
-with_lines = with_word (with_flagged (with_flagged without_words (codes "step") (codes "live")) (codes "check") (codes "front")) (codes "upgrade")
+with_lines = with_word (with_word (with_word (with_flagged (with_flagged without_words (codes "step") (codes "live")) (codes "check") (codes "front")) (codes "upgrade")) (codes "summary")) (codes "chart")
 
 abbrev pub app : App
 app = with_word (with_word with_lines (codes "replay")) (codes "run")
@@ -51,8 +53,8 @@ abbrev pub texts : List (Bor Text) → List Text
 texts words = map (λ s. s.now) words
 
 -- clap takes the command line: its parse fails only for want of memory
-unfoldable pub is_taken : List Text → Bool
-is_taken words = takes app words
+unfoldable pub is_word_taken : List Text → Bool
+is_word_taken words = takes app words
 
 -- the word that clap's matches of a command line hold
 unfoldable pub word_matched : List Text → Option Word

@@ -1,6 +1,6 @@
 ghost use Rattle.std.specs.Prelude.{◌≡◌, true, false, IfOk, IfErr, IsSome, Some, map};
 ghost use Rattle.clap.specs.Words.{kind_of, app_of, found_of, rows_of, with_subcommand};
-ghost use Rattle.cmwq_cli.specs.Word.{without_words, with_word, with_flagged, with_lines, app, has_flag, word_found, texts, is_taken, word_matched};
+ghost use Rattle.cmwq_cli.specs.Word.{without_words, with_word, with_flagged, with_lines, app, has_flag, word_found, texts, is_word_taken, word_matched};
 
 use clap::error::ErrorKind;
 use clap::{Arg, ArgAction, ArgMatches, Command, Error};
@@ -21,6 +21,10 @@ pub enum Word {
     },
     /// Writes a legal history in the newest format.
     Upgrade,
+    /// Writes the figures of a legal history.
+    Summary,
+    /// Writes the picture of a legal history.
+    Chart,
     /// Writes the table of a scenario.
     Replay,
     /// Runs a script on threads and writes its history.
@@ -76,6 +80,36 @@ const FORMER_HELP: &str = r"A history of format 1 has no line for its format:
 
 is written with the line `history 2` before it; one of format 2 or 3 as it is. Of an illegal history nothing is
 written, and the verdict goes to standard error.";
+
+/// What the help of `summary` shows below its usage.
+const FIGURES_HELP: &str =
+    r"The input is a legal history of any format. Its figures are told line by line, and a line that has nothing to tell is left out:
+
+  entries 3, ticks 0
+  call queue: 1                      how many calls of each kind
+  reply yes: 1                       and replies, by their first word
+  queue 0 on CPU 0: queueings 1, starts 1, cancelled 0, width 1
+  worker w0n0: runs 1, awake 1 entries and 0 ticks, asleep 0 entries and 0 ticks
+  item 0: runs 1, cancels 0
+  caller c0: calls 1, tickets 0
+
+The width is that at the end. A queueing is cancelled that ends before it starts. How long a worker's runs were awake or asleep is
+counted in the entries that came meanwhile, and in the ticks that these let go by. Of an illegal history nothing is written, and the
+verdict goes to standard error.";
+
+/// What the help of `chart` shows below its usage.
+const PICTURE_HELP: &str = r"A history of any format, as `step` and `run` write it:
+
+  history 2
+  shape 1 2 1 3 100
+  wq 1 -
+  c0 0 queue 0 0 0 = yes 0
+  w0n0 0 take = started 0 enlist 1
+  w0n0 1 finish = finished 0
+
+gives an SVG, which a browser shows: a row for each worker, and in it a bar for each of its runs, from the entry that started it to
+the one that finished it. Long histories go on in further bands down the page. Of an illegal history nothing is written, and the
+verdict goes to standard error.";
 
 /// What the help of `replay` shows below its usage.
 const SCENARIO_HELP: &str =
@@ -135,6 +169,8 @@ fn word_found(name: &str, matches: &ArgMatches) -> Option<Word>
             front: has_flag(matches, "front"),
         }),
         "upgrade" => Some(Word::Upgrade),
+        "summary" => Some(Word::Summary),
+        "chart" => Some(Word::Chart),
         "replay" => Some(Word::Replay),
         "run" => Some(Word::Run),
         _ => None,
@@ -212,7 +248,11 @@ fn with_lines<'a>(alloc: Global) -> Result<Command<'a>, AllocError>
     let command = with_flagged(alloc, command, "check", about, HISTORY_HELP, front)?;
     let about =
         "Reads a history from standard input and writes it, if it is legal: one of format 1 in format 2, and others as they are";
-    with_word(alloc, command, "upgrade", about, FORMER_HELP)
+    let command = with_word(alloc, command, "upgrade", about, FORMER_HELP)?;
+    let about = "Reads a history from standard input and writes its figures, if it is legal";
+    let command = with_word(alloc, command, "summary", about, FIGURES_HELP)?;
+    let about = "Reads a history from standard input and writes its picture as SVG, if it is legal";
+    with_word(alloc, command, "chart", about, PICTURE_HELP)
 }
 
 /// The program's command line, as `--help` shows it.
@@ -228,10 +268,10 @@ fn command<'a>(alloc: Global) -> Result<Command<'a>, AllocError>
 }
 
 /// The word that clap's matches of the command line hold.
-#[tactic(auto, unfolding(crate::specs::Word::is_taken, crate::specs::Word::word_matched))]
+#[tactic(auto, unfolding(crate::specs::Word::is_word_taken, crate::specs::Word::word_matched))]
 fn word_in<'a>(alloc: Global, words: &'a [&'a str]) -> Result<Option<Word>, Error>
     ensures ok { IfOk result (λ word. word ≡ word_matched (texts words.entry.now)) }
-    ensures err { IfErr result (λ e. is_taken (texts words.entry.now) ≡ true → kind_of e ≡ ErrorKind.OutOfMemory) }
+    ensures err { IfErr result (λ e. is_word_taken (texts words.entry.now) ≡ true → kind_of e ≡ ErrorKind.OutOfMemory) }
 {
     let matches = command(alloc)?.try_get_matches_from(words)?;
     match matches.subcommand() {
@@ -244,7 +284,7 @@ fn word_in<'a>(alloc: Global, words: &'a [&'a str]) -> Result<Option<Word>, Erro
 /// help and the version that were asked for, a wrong use, or want of memory.
 pub fn word_of<'a>(alloc: Global, words: &'a [&'a str]) -> Result<Word, Error>
     ensures ok { IfOk result (λ word. word_matched (texts words.entry.now) ≡ Some word) }
-    ensures err { IfErr result (λ e. is_taken (texts words.entry.now) ≡ true
+    ensures err { IfErr result (λ e. is_word_taken (texts words.entry.now) ≡ true
         → IsSome (word_matched (texts words.entry.now)) → kind_of e ≡ ErrorKind.OutOfMemory) }
 {
     match word_in(alloc, words)? {

@@ -1,24 +1,13 @@
 -- How a run ends, from what its parts promise.
-use Rattle.std.proofs.Common.{◌≡◌, ℕ, List, Option, None, Some, Result, Ok, Err, sym, ap, ◌∙◌, subst}
-use Rattle.std.proofs.lemmas.List.{reverse-reverse}
-use Rattle.std.specs.Prelude.{IfSome, reverse}
-use Rattle.std.specs.Io.KnownBytes.{Appends}
-use Rattle.cmwq_io.specs.Moves.{AppendsFront}
-use Rattle.cmwq_model.specs.declared.entry.Entry.{Entry}
-use Rattle.cmwq_model.specs.declared.id.Who.{Who}
-use Rattle.cmwq_model.specs.declared.call.Call.{Call}
-use Rattle.cmwq_model.specs.Prelude.{past_of, Steps}
-use Rattle.cmwq_text.specs.HistoryText.{text_of_format}
-use Rattle.cmwq_base.specs.declared.refusal.Refusal.{Refusal}
+use Rattle.cmwq_cmd_history.specs.Common.{◌≡◌, ℕ, List, Option, None, Some, Result, Ok, Err, sym, ap, ◌∙◌, subst, reverse-reverse, IfSome, reverse, Appends, AppendsFront, Entry, Who, Call, past_of, Steps, text_of_format, Refusal, File}
 use Rattle.cmwq_base.specs.declared.refusal.Refusal.TheVariants as refusal
-use Rattle.cmwq_base.specs.Files.{File}
 use Rattle.cmwq_cmd_history.specs.Ends.{Word, RunEnds, written_version}
-use Rattle.cmwq_cmd_history.specs.Live.{lived}
+use Rattle.cmwq_cmd_history.specs.Live.{live_steps}
 use Rattle.cmwq_cmd_history.proofs.Lived.{lived_steps}
 use Rattle.cmwq_cmd_history.specs.Step.{answer_text}
 
 -- the text of the entries is that of the steps
-pub answer_is : (f : File (Who × Call)) (entries : List Entry) → past_of entries ≡ (lived f.layout f.items).steps.past → text_of_format (written_version f.version) f.layout entries ≡ answer_text f
+pub answer_is : (f : File (Who × Call)) (entries : List Entry) → past_of entries ≡ (live_steps f.layout f.items).steps.past → text_of_format (written_version f.version) f.layout entries ≡ answer_text f
 answer_is f entries h = ap (text_of_format (written_version f.version) f.layout) (sym (reverse-reverse entries) ∙ ap reverse (h ∙ ap (λ (t : Steps). t.past) (lived_steps f.layout f.items)))
 
 module _ {X R : Type 0} (w : Word X R) (file_of : List ℕ → Result X Refusal) (left old new : Option (List ℕ)) (x : X) (r : R) where

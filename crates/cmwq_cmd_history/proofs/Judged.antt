@@ -1,8 +1,5 @@
 -- The first wrong entry of a history stays that when more is read behind it.
-use Rattle.std.proofs.Common.{◌≡◌, List, [], ◌∷◌, ◌++◌, length, refl, ap, ◌∙◌, append_assoc}
-use Rattle.cmwq_model.specs.declared.entry.Entry.{Entry}
-use Rattle.cmwq_model.specs.declared.verdict.Illegal.{Illegal}
-use Rattle.cmwq_model.specs.Prelude.{Layout, IsLegal, past_of, Wants, IsFirstWrong}
+use Rattle.cmwq_cmd_history.specs.Common.{◌≡◌, List, [], ◌∷◌, ◌++◌, length, refl, ap, ◌∙◌, append_assoc, Entry, Illegal, Layout, IsLegal, past_of, Wants, IsFirstWrong}
 
 pub wrong_stays : (s : Layout) (entries : List Entry) (x : Entry) (i : Illegal) → IsFirstWrong s entries i → IsFirstWrong s (entries ++ x ∷ []) i
 wrong_stays s entries x i w = record {

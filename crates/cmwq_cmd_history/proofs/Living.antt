@@ -1,36 +1,15 @@
 -- What a live run keeps from line to line, and how it ends at each.
-use Rattle.std.proofs.Common.{◌≡◌, inl, inr, ◌+◌, ◌≤◌, ◌==◌, ℕ, Bool, true, false, List, [], ◌∷◌, ◌++◌, length, take, Result, Ok, Err, Option, Some, None, nat_le, refl, sym, ap, ◌∙◌, arith, subst, append_assoc, append-nil}
-use Rattle.std.specs.Prelude.{if◌then◌else◌, reverse, IfSome}
-use Rattle.std.specs.Io.KnownBytes.{Appends, prepend_known}
+use Rattle.cmwq_cmd_history.specs.Common.{◌≡◌, inl, inr, ◌+◌, ◌≤◌, ◌==◌, ℕ, Bool, true, false, List, [], ◌∷◌, ◌++◌, length, take, Result, Ok, Err, Option, Some, None, nat_le, refl, sym, ap, ◌∙◌, arith, subst, append_assoc, append-nil, if◌then◌else◌, reverse, IfSome, Appends, prepend_known, nat_tests, length-append, length-reverse, Appends-trans, AppendsFront, has_feed, Whole, Cut, Long, End, TakesLine, TakesKnownLine, Who, Call, Counts, QueueShape, Layout, layout_of, is_layout, Steps, steps, line_limit, head_text, last_text, Refusal, pieces, File, Stage, Kind, begin, opened, head, body, ended, is_long, without_items, after_line, after_cut, at_end, calls_kind, call_file_of, pieces_fed, pieces_some, whole_found, front_after, Progress, starts, line_grows, whole_goes}
 use Rattle.std.proofs.Math.Seq.{take-append-add}
-use Rattle.std.proofs.lemmas.Bool.Decides.{nat_tests}
-use Rattle.std.proofs.lemmas.List.{length-append, length-reverse}
-use Rattle.cmwq_io.proofs.KnownBytes.{Appends-trans}
-use Rattle.cmwq_io.specs.Moves.{AppendsFront}
-use Rattle.cmwq_io.specs.Feeds.{has_feed}
-use Rattle.cmwq_io.specs.declared.lines.Found.TheVariants.{Whole, Cut, Long, End}
-use Rattle.cmwq_io.specs.FirstLine.{first_line as line_of, after_line as rest_of, is_long as is_text_long, TakesLine, TakesKnownLine}
-use Rattle.cmwq_model.specs.declared.id.Who.{Who}
-use Rattle.cmwq_model.specs.declared.call.Call.{Call}
-use Rattle.cmwq_model.specs.declared.shape.Counts.{Counts}
-use Rattle.cmwq_model.specs.declared.shape.QueueShape.{QueueShape}
-use Rattle.cmwq_model.specs.Prelude.{Layout, layout_of, is_layout, Steps, steps}
-use Rattle.cmwq_text.specs.Formats.{line_limit}
-use Rattle.cmwq_text.specs.HistoryText.{head_text, last_text}
-use Rattle.cmwq_base.specs.declared.refusal.Refusal.{Refusal}
+use Rattle.cmwq_io.specs.FirstLine.{first_line as line_of, after_line as rest_of, is_line_long as is_text_long}
 use Rattle.cmwq_base.specs.declared.refusal.Refusal.TheVariants as refusal
 use Rattle.cmwq_base.specs.Gives.{Refuses, Fails}
-use Rattle.cmwq_base.specs.Pieces.{pieces}
-use Rattle.cmwq_base.specs.Files.{File, Stage, Kind, begin, opened, head, body, ended, is_long, without_items, after_line, after_cut, at_end}
-use Rattle.cmwq_base.specs.Kinds.{calls_kind, call_file_of}
-use Rattle.cmwq_base.proofs.Texts.{pieces_fed, pieces_some, whole_found}
-use Rattle.cmwq_base.proofs.Fronts.{front_after}
-use Rattle.cmwq_base.proofs.Progress.{Progress, starts, line_grows, whole_goes}
 use Rattle.cmwq_cmd_history.specs.Ends.{written_version}
 use Rattle.cmwq_cmd_history.specs.Step.{steps_in, answer_text}
-use Rattle.cmwq_cmd_history.specs.Live.{or_stay, reached, stage_after, last_stage, live_text, left_out_by, LiveEnds, lived, new_of, rest_text}
+use Rattle.cmwq_cmd_history.specs.Live.{or_stay, stage_reached, stage_after, last_stage, live_text, left_out_by, LiveEnds, live_steps, new_of, rest_text}
 use Rattle.cmwq_cmd_history.proofs.Lived.{lived_steps}
 use Rattle.cmwq_cmd_history.proofs.Reached.{Calls, IsBegun, line_wrote, first_reached, reached_stays, reached_long, reached_cut, reached_end}
+use Rattle.std.proofs.KnownBytes.{Appends-nil}
 
 -- ---- the lines that were taken
 
@@ -53,18 +32,18 @@ module _ {X : Type 0} (k : Kind X) where
   some_follow (l ∷ lines) p ps = (l, lines ++ p ∷ ps, refl)
 
   -- so far is what begins with them read
-  leads_on : (lines : List (List ℕ)) (n m : ℕ) (stage last : Stage X) (p : List ℕ) (ps : List (List ℕ)) → Leads n stage lines last → n + length lines ≡ m → reached k n stage (lines ++ p ∷ ps) ≡ reached k m last (p ∷ ps)
+  leads_on : (lines : List (List ℕ)) (n m : ℕ) (stage last : Stage X) (p : List ℕ) (ps : List (List ℕ)) → Leads n stage lines last → n + length lines ≡ m → stage_reached k n stage (lines ++ p ∷ ps) ≡ stage_reached k m last (p ∷ ps)
   leads_on [] n m stage last p ps leads count =
       let here : n ≡ m = omega (arith, count) in
-      ap (λ st. reached k n st (p ∷ ps)) leads ∙ ap (λ j. reached k j last (p ∷ ps)) here
+      ap (λ st. stage_reached k n st (p ∷ ps)) leads ∙ ap (λ j. stage_reached k j last (p ∷ ps)) here
   leads_on (l ∷ lines) n m stage last p ps leads count =
       let some = some_follow lines p ps in
       first_reached k n stage l (lines ++ p ∷ ps) some.0 some.1 some.2 leads.1
-      ∙ ap (or_stay stage (λ next. reached k (n + 1) next (lines ++ p ∷ ps))) leads.2
+      ∙ ap (or_stay stage (λ next. stage_reached k (n + 1) next (lines ++ p ∷ ps))) leads.2
       ∙ leads_on lines (n + 1) m leads.0 last p ps leads.3 (omega (arith, count))
 
-one_piece : {X : Type 0} (k : Kind X) (n : ℕ) (stage : Stage X) (p : List ℕ) → reached k n stage (p ∷ []) ≡ stage
-unfolding reached
+one_piece : {X : Type 0} (k : Kind X) (n : ℕ) (stage : Stage X) (p : List ℕ) → stage_reached k n stage (p ∷ []) ≡ stage
+unfolding stage_reached
 one_piece k n stage p = refl
 
 -- a whole line is the first piece of the text
@@ -89,13 +68,13 @@ module _ (text rest : List ℕ) (n : ℕ) (stage : Calls) (at : IsAt text rest n
       let size : m + 1 ≡ length at.lines + 1 = omega (arith, is, at.count) in
       let pieces_are : pieces text ≡ at.lines ++ some.0 ∷ some.1 = at.split ∙ ap (λ ps. at.lines ++ ps) some.2 in
       let front : take (m + 1) (pieces text) ≡ at.lines ++ some.0 ∷ [] = ap (λ j. take j (pieces text)) size ∙ ap (take (length at.lines + 1)) pieces_are ∙ take-append-add at.lines (some.0 ∷ some.1) 1 in
-      ap (reached calls_kind 1 begin) front ∙ leads_on calls_kind at.lines 1 n begin stage some.0 [] at.leads at.count ∙ one_piece calls_kind n stage some.0
+      ap (stage_reached calls_kind 1 begin) front ∙ leads_on calls_kind at.lines 1 n begin stage some.0 [] at.leads at.count ∙ one_piece calls_kind n stage some.0
 
-  is_last : last_stage text ≡ reached calls_kind n stage (pieces rest)
+  is_last : last_stage text ≡ stage_reached calls_kind n stage (pieces rest)
   is_last =
       let some = pieces_some rest in
       let pieces_are : pieces text ≡ at.lines ++ some.0 ∷ some.1 = at.split ∙ ap (λ ps. at.lines ++ ps) some.2 in
-      ap (reached calls_kind 1 begin) pieces_are ∙ leads_on calls_kind at.lines 1 n begin stage some.0 some.1 at.leads at.count ∙ ap (reached calls_kind n stage) (sym some.2)
+      ap (stage_reached calls_kind 1 begin) pieces_are ∙ leads_on calls_kind at.lines 1 n begin stage some.0 some.1 at.leads at.count ∙ ap (stage_reached calls_kind n stage) (sym some.2)
 
   is_at_next : (new line : List ℕ) (next : Calls) → TakesLine rest new Whole line → after_line calls_kind n stage line ≡ Ok next → IsAt text new (n + 1) next
   is_at_next new line next t h =
@@ -128,10 +107,6 @@ pub record Living (old now : Option (List ℕ)) (n : ℕ) (stage : Calls) (a b :
 abbrev stopped : Refusal → Result (Unit {0}) Refusal
 stopped e = Err e
 
-appends_none : (a : Option (List ℕ)) → Appends a a []
-appends_none None = tt
-appends_none (Some x) = sym (append-nil x)
-
 begins_at : (text : Option (List ℕ)) (ahead : List ℕ) → ahead ≡ [] → IsKnownAt text (prepend_known ahead text) 1 begin
 begins_at None ahead none = tt
 begins_at (Some text) ahead none = record { lines = []; split = ap (λ bytes. pieces (bytes ++ text)) (sym none); count = omega arith; leads = refl }
@@ -140,7 +115,7 @@ pub lives : (text : Option (List ℕ)) (ahead : List ℕ) (a : Option (List ℕ)
 lives text ahead a none = record {
   progress = record { same = starts calls_kind text ahead none; count = omega arith; within = tt };
   known = begins_at text ahead none;
-  written = appends_none a;
+  written = Appends-nil a;
   begun = tt;
   room = refl;
 }
@@ -286,7 +261,7 @@ module _ (old now : Option (List ℕ)) (n : ℕ) (stage : Calls) (a b : Option (
 
 -- ---- the end of a file
 
-last_of : (s : Layout) (calls : List (Who × Call)) (v : ℕ) → last_text v (length (lived s calls).steps.past) ≡ last_text v (length (reverse (steps s s.room calls).past))
+last_of : (s : Layout) (calls : List (Who × Call)) (v : ℕ) → last_text v (length (live_steps s calls).steps.past) ≡ last_text v (length (reverse (steps s s.room calls).past))
 last_of s calls v = ap (last_text v) (ap (λ (t : Steps). length t.past) (lived_steps s calls) ∙ sym (length-reverse (steps s s.room calls).past))
 
 -- what stands behind what has been written
@@ -303,7 +278,7 @@ body_finishes v s calls some =
     let w : ℕ = written_version v in
     let none : (if length calls == 0 then head_text w s else []) ≡ [] = ap (λ b. if b then head_text w s else []) (some_calls (length calls) (length calls == 0) refl some) in
     record {
-      text = ap (λ t. live_text (body v s calls) ++ (t ++ last_text w (length (lived s calls).steps.past))) none ∙ ap (λ t. live_text (body v s calls) ++ t) (last_of s calls w);
+      text = ap (λ t. live_text (body v s calls) ++ (t ++ last_text w (length (live_steps s calls).steps.past))) none ∙ ap (λ t. live_text (body v s calls) ++ t) (last_of s calls w);
       left_out = refl;
     }
 

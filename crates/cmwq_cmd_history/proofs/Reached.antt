@@ -1,77 +1,56 @@
 -- How a live run goes on from line to line: how far its text is read, and what it has written.
-use Rattle.std.proofs.Common.{◌≡◌, ◌+◌, ◌≤◌, ◌==◌, ℕ, Bool, true, false, List, [], ◌∷◌, ◌++◌, length, Ok, Err, Option, Some, None, nat_le, refl, sym, ap, ◌∙◌, arith, subst, append_assoc, length-append}
-use Rattle.std.specs.Prelude.{if◌then◌else◌, reverse}
+use Rattle.cmwq_cmd_history.specs.Common.{◌≡◌, ◌+◌, ◌≤◌, ◌==◌, ℕ, Bool, true, false, List, [], ◌∷◌, ◌++◌, length, Ok, Err, Option, Some, None, nat_le, refl, sym, ap, ◌∙◌, arith, subst, append_assoc, length-append, if◌then◌else◌, reverse, fold-append, nat_tests, has_feed, Whole, Cut, Long, End, TakesLine, Who, Call, Counts, QueueShape, Layout, layout_of, is_layout, Steps, none, step, steps, has_room, calls_name, line_limit, counts_of_format, entries_text, head_text, Refusal, pieces, Stage, Kind, begin, opened, head, body, ended, is_long, shape_made, begun, with_queue, queue_line, with_item, item_line, body_line, first_item, after_head, after_line, calls_kind, pieces_fed, pieces_last, pieces_some, whole_found, cut_found, end_found, long_found}
 use Rattle.std.specs.Str.{bytes_eq}
-use Rattle.std.proofs.lemmas.List.Sums.{fold-append}
-use Rattle.std.proofs.lemmas.Bool.Decides.{nat_tests}
-use Rattle.cmwq_io.specs.Feeds.{has_feed}
-use Rattle.cmwq_io.specs.declared.lines.Found.TheVariants.{Whole, Cut, Long, End}
-use Rattle.cmwq_io.specs.FirstLine.{first_line as line_of, after_line as rest_of, is_long as is_text_long, TakesLine}
-use Rattle.cmwq_model.specs.declared.id.Who.{Who}
-use Rattle.cmwq_model.specs.declared.call.Call.{Call}
-use Rattle.cmwq_model.specs.declared.shape.Counts.{Counts}
-use Rattle.cmwq_model.specs.declared.shape.QueueShape.{QueueShape}
-use Rattle.cmwq_model.specs.Prelude.{Layout, layout_of, is_layout, Steps, none, step, steps, has_room}
+use Rattle.cmwq_io.specs.FirstLine.{first_line as line_of, after_line as rest_of, is_line_long as is_text_long}
 use Rattle.cmwq_text.specs.ShapeText.{begins_queue}
-use Rattle.cmwq_text.specs.Formats.{calls_name, line_limit, counts_of_format}
-use Rattle.cmwq_text.specs.HistoryText.{entries_text, head_text}
-use Rattle.cmwq_base.specs.declared.refusal.Refusal.{Refusal}
 use Rattle.cmwq_base.specs.declared.refusal.Refusal.TheVariants as refusal
-use Rattle.cmwq_base.specs.Pieces.{pieces}
-use Rattle.cmwq_base.specs.Files.{Stage, Kind, begin, opened, head, body, ended, is_long, shape_made, begun, with_queue, queue_line, with_item, item_line, body_line, first_item, after_head, after_line}
-use Rattle.cmwq_base.specs.Kinds.{calls_kind}
-use Rattle.cmwq_base.proofs.Texts.{pieces_fed, pieces_last, pieces_some, whole_found, cut_found, end_found, long_found}
 use Rattle.cmwq_cmd_history.specs.Ends.{written_version}
-use Rattle.cmwq_cmd_history.specs.Live.{or_stay, reached, live_text, left_out_by, lived, made_text, first_text, new_of}
+use Rattle.cmwq_cmd_history.specs.Live.{or_stay, stage_reached, live_text, left_out_by, live_steps, made_text, first_text, new_of}
 use Rattle.cmwq_cmd_history.proofs.Lived.{lived_steps, lived_text}
 
 module _ {X : Type 0} (k : Kind X) (n : ℕ) (stage : Stage X) where
   pub first_reached : (line : List ℕ) (rest : List (List ℕ)) (p : List ℕ) (ps : List (List ℕ)) → rest ≡ p ∷ ps → is_long line ≡ false
-      → reached k n stage (line ∷ rest) ≡ or_stay stage (λ next. reached k (n + 1) next rest) (after_line k n stage line)
-  unfolding reached
-  first_reached line rest p ps h short = rw h (ap (λ b. if b then stage else or_stay stage (λ next. reached k (n + 1) next (p ∷ ps)) (after_line k n stage line)) short)
+      → stage_reached k n stage (line ∷ rest) ≡ or_stay stage (λ next. stage_reached k (n + 1) next rest) (after_line k n stage line)
+  unfolding stage_reached
+  first_reached line rest p ps h short = rw h (ap (λ b. if b then stage else or_stay stage (λ next. stage_reached k (n + 1) next (p ∷ ps)) (after_line k n stage line)) short)
 
-  whole_reached : (old new line : List ℕ) → TakesLine old new Whole line → reached k n stage (pieces old) ≡ or_stay stage (λ next. reached k (n + 1) next (pieces new)) (after_line k n stage line)
+  whole_reached : (old new line : List ℕ) → TakesLine old new Whole line → stage_reached k n stage (pieces old) ≡ or_stay stage (λ next. stage_reached k (n + 1) next (pieces new)) (after_line k n stage line)
   whole_reached old new line t =
       let f = whole_found (is_text_long old) (has_feed old) (length old == 0) t.kind in
       let is_line : line ≡ line_of old = t.bytes ∙ ap (λ b. if b then [] else line_of old) f.0 in
       let is_rest : new ≡ rest_of old = t.rest ∙ ap (λ b. if b then old else rest_of old) f.0 in
       let some = pieces_some (rest_of old) in
-      ap (reached k n stage) (pieces_fed old f.1) ∙ first_reached (line_of old) (pieces (rest_of old)) some.0 some.1 some.2 f.0
-      ∙ ap (λ l. or_stay stage (λ next. reached k (n + 1) next (pieces (rest_of old))) (after_line k n stage l)) (sym is_line)
-      ∙ ap (λ r. or_stay stage (λ next. reached k (n + 1) next (pieces r)) (after_line k n stage line)) (sym is_rest)
+      ap (stage_reached k n stage) (pieces_fed old f.1) ∙ first_reached (line_of old) (pieces (rest_of old)) some.0 some.1 some.2 f.0
+      ∙ ap (λ l. or_stay stage (λ next. stage_reached k (n + 1) next (pieces (rest_of old))) (after_line k n stage l)) (sym is_line)
+      ∙ ap (λ r. or_stay stage (λ next. stage_reached k (n + 1) next (pieces r)) (after_line k n stage line)) (sym is_rest)
 
-  -- a line that is taken leaves how far the text is read, and one that is refused ends it
-  pub reached_goes : (old new line : List ℕ) (next : Stage X) → TakesLine old new Whole line → after_line k n stage line ≡ Ok next → reached k n stage (pieces old) ≡ reached k (n + 1) next (pieces new)
-  reached_goes old new line next t is = whole_reached old new line t ∙ ap (or_stay stage (λ next. reached k (n + 1) next (pieces new))) is
-
-  pub reached_stays : (old new line : List ℕ) (e : Refusal) → TakesLine old new Whole line → after_line k n stage line ≡ Err e → reached k n stage (pieces old) ≡ stage
-  reached_stays old new line e t is = whole_reached old new line t ∙ ap (or_stay stage (λ next. reached k (n + 1) next (pieces new))) is
+  pub reached_stays : (old new line : List ℕ) (e : Refusal) → TakesLine old new Whole line → after_line k n stage line ≡ Err e → stage_reached k n stage (pieces old) ≡ stage
+  reached_stays old new line e t is = whole_reached old new line t ∙ ap (or_stay stage (λ next. stage_reached k (n + 1) next (pieces new))) is
 
   -- where no whole line follows, it is read that far
-  one_reached : (text : List ℕ) → has_feed text ≡ false → reached k n stage (pieces text) ≡ stage
-  unfolding reached
-  one_reached text h = ap (reached k n stage) (pieces_last text h)
+  one_reached : (text : List ℕ) → has_feed text ≡ false → stage_reached k n stage (pieces text) ≡ stage
+  unfolding stage_reached
+  one_reached text h = ap (stage_reached k n stage) (pieces_last text h)
 
-  long_reached : (line : List ℕ) (rest : List (List ℕ)) → is_long line ≡ true → reached k n stage (line ∷ rest) ≡ stage
-  unfolding reached
+  long_reached : (line : List ℕ) (rest : List (List ℕ)) → is_long line ≡ true → stage_reached k n stage (line ∷ rest) ≡ stage
+  unfolding stage_reached
   long_reached line [] h = refl
-  long_reached line (p ∷ ps) h = ap (λ b. if b then stage else or_stay stage (λ next. reached k (n + 1) next (p ∷ ps)) (after_line k n stage line)) h
+  long_reached line (p ∷ ps) h = ap (λ b. if b then stage else or_stay stage (λ next. stage_reached k (n + 1) next (p ∷ ps)) (after_line k n stage line)) h
 
-  pub reached_long : (old new line : List ℕ) → TakesLine old new Long line → reached k n stage (pieces old) ≡ stage
+  pub reached_long : (old new line : List ℕ) → TakesLine old new Long line → stage_reached k n stage (pieces old) ≡ stage
   reached_long old new line t = by_feed (has_feed old) refl
     where
       long : is_long (line_of old) ≡ true
       long = long_found (is_text_long old) (has_feed old) (length old == 0) t.kind
 
-      by_feed : (b : Bool) → has_feed old ≡ b → reached k n stage (pieces old) ≡ stage
-      by_feed true h = ap (reached k n stage) (pieces_fed old h) ∙ long_reached (line_of old) (pieces (rest_of old)) long
+      by_feed : (b : Bool) → has_feed old ≡ b → stage_reached k n stage (pieces old) ≡ stage
+      by_feed true h = ap (stage_reached k n stage) (pieces_fed old h) ∙ long_reached (line_of old) (pieces (rest_of old)) long
       by_feed false h = one_reached old h
 
-  pub reached_cut : (old new line : List ℕ) → TakesLine old new Cut line → reached k n stage (pieces old) ≡ stage
+  pub reached_cut : (old new line : List ℕ) → TakesLine old new Cut line → stage_reached k n stage (pieces old) ≡ stage
   reached_cut old new line t = one_reached old (cut_found (is_text_long old) (has_feed old) (length old == 0) t.kind).1
 
-  pub reached_end : (old new line : List ℕ) → TakesLine old new End line → reached k n stage (pieces old) ≡ stage
+  pub reached_end : (old new line : List ℕ) → TakesLine old new End line → stage_reached k n stage (pieces old) ≡ stage
   reached_end old new line t = one_reached old (end_found (is_text_long old) (has_feed old) (length old == 0) t.kind).0
 
 -- ---- what is written
@@ -91,7 +70,7 @@ pub record Wrote (stage next : Calls) : Type 0 where
   pub begun : IsBegun next
   pub left_out : left_out_by next ≤ left_out_by stage + 1
 
-entries_are : (s : Layout) (calls : List (Who × Call)) → entries_text (reverse (steps s s.room calls).past) ≡ entries_text (reverse (lived s calls).steps.past)
+entries_are : (s : Layout) (calls : List (Who × Call)) → entries_text (reverse (steps s s.room calls).past) ≡ entries_text (reverse (live_steps s calls).steps.past)
 entries_are s calls = ap (λ (t : Steps). entries_text (reverse t.past)) (sym (lived_steps s calls))
 
 -- one call more leaves out one more at most
@@ -119,7 +98,7 @@ next_wrote : (v : ℕ) (s : Layout) (calls : List (Who × Call)) (c : Who × Cal
 next_wrote v s calls c some =
     let size = length-append calls (c ∷ []) in
     let none : first_text (written_version v) s (calls ++ c ∷ []) ≡ [] = ap (λ b. if b then head_text (written_version v) s else []) (not_one (length (calls ++ c ∷ [])) (length (calls ++ c ∷ []) == 1) refl (omega (arith, some, size))) in
-    let made : List ℕ = made_text (lived s (calls ++ c ∷ [])).made in
+    let made : List ℕ = made_text (live_steps s (calls ++ c ∷ [])).made in
     let entries = entries_are s (calls ++ c ∷ []) ∙ lived_text s calls c ∙ ap (λ t. t ++ made) (sym (entries_are s calls)) in
     record {
       text =

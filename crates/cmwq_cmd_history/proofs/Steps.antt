@@ -1,9 +1,5 @@
 -- The steps of one call more, from what became of the book.
-use Rattle.std.proofs.Common.{◌≡◌, ℕ, ◌+◌, true, false, ◌∷◌, refl, sym}
-use Rattle.cmwq_model.specs.declared.id.Who.{Who}
-use Rattle.cmwq_model.specs.declared.call.Call.{Call}
-use Rattle.cmwq_model.specs.Prelude.{Layout, Steps, step}
-use Rattle.cmwq_core.specs.History.{History, past_in, takes, next_entry}
+use Rattle.cmwq_cmd_history.specs.Common.{◌≡◌, ℕ, ◌+◌, true, false, ◌∷◌, refl, sym, Who, Call, Layout, Steps, step, History, past_in, takes, next_entry}
 
 module _ (s : Layout) (room : ℕ) (h : History) (layout_is : h.layout ≡ s) (room_is : h.room ≡ room) where
   -- a call that a book takes is the newest entry of the steps

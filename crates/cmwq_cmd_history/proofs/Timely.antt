@@ -1,19 +1,9 @@
 -- A history that is read has time for each entry that is right.
-use Rattle.std.proofs.Common.{◌≡◌, ◌+◌, ◌*◌, ◌^◌, ◌<◌, ◌≤◌, ◌∙◌, ℕ, Bool, true, false, List, [], ◌∷◌, ◌++◌, length, length-append, Some, None, nat_le, refl, ap, subst, arith}
-use Rattle.std.specs.Prelude.{if◌then◌else◌}
-use Rattle.std.proofs.lemmas.Bool.{le-leb}
-use Rattle.std.proofs.lemmas.List.{reverse-append}
-use Rattle.std.proofs.lemmas.Option.{same_Some}
-use Rattle.cmwq_model.specs.declared.call.Call.{Call}
+use Rattle.cmwq_cmd_history.specs.Common.{◌≡◌, ◌+◌, ◌*◌, ◌^◌, ◌<◌, ◌≤◌, ◌∙◌, ℕ, Bool, true, false, List, [], ◌∷◌, ◌++◌, length, length-append, Some, None, nat_le, refl, ap, subst, arith, if◌then◌else◌, le-leb, reverse-append, same_Some, Call, Entry, Layout, now, ticks_told, answer, past_of, entry_for, has_time, most_time, entry_of, allows_entry, is_timely, entry_of_format, old_lines, most_lines, by_age, history_kind}
 use Rattle.cmwq_model.specs.declared.reply.Reply.{Reply}
-use Rattle.cmwq_model.specs.declared.entry.Entry.{Entry}
-use Rattle.cmwq_model.specs.Prelude.{Layout, now, ticks_told, answer, past_of, entry_for, has_time, most_time}
 use Rattle.cmwq_model.specs.declared.call.Call.TheVariants as call
 use Rattle.cmwq_model.specs.declared.reply.Reply.TheVariants as reply
-use Rattle.cmwq_text.specs.EntryText.{entry_of}
-use Rattle.cmwq_text.specs.Formats.{allows_entry, is_timely, entry_of_format, old_lines, most_lines, by_age}
 use Rattle.cmwq_text.proofs.Steps.{bind_some, chosen}
-use Rattle.cmwq_base.specs.Kinds.{history_kind}
 use Rattle.cmwq_base.specs.Lines.{IsNextLine}
 
 -- with an entry more the time is still short

@@ -1,11 +1,6 @@
 -- What a run of `check` reads, writes and answers.
-use Rattle.std.specs.Prelude.{ℕ, Bool, List, length, Result, Ok, Err, Option, None, Some}
-use Rattle.cmwq_model.specs.declared.entry.Entry.{Entry}
-use Rattle.cmwq_model.specs.declared.verdict.Illegal.{Illegal}
+use Rattle.cmwq_cmd_history.specs.Common.{ℕ, Bool, List, length, Result, Ok, Err, Option, None, Some, Entry, Illegal, Refusal, File, history_file_of, front_file_of}
 use Rattle.cmwq_text.specs.VerdictText.{legal_text, illegal_text}
-use Rattle.cmwq_base.specs.declared.refusal.Refusal.{Refusal}
-use Rattle.cmwq_base.specs.Files.{File}
-use Rattle.cmwq_base.specs.Kinds.{history_file_of, front_file_of}
 use Rattle.cmwq_cmd_history.specs.Judging.{IsVerdictOf}
 use Rattle.cmwq_cmd_history.specs.Ends.{Word, RunEnds, refusal_status}
 

@@ -1,8 +1,5 @@
 -- What callers see of a history that is judged while it is read: its shape, and all entries that came, of which none is kept.
-use Rattle.std.specs.Prelude.{◌≡◌, ◌≤◌, ◌*◌, ◌^◌, List, length, Option, None, Some}
-use Rattle.cmwq_model.specs.declared.entry.Entry.{Entry}
-use Rattle.cmwq_model.specs.declared.verdict.Illegal.{Illegal}
-use Rattle.cmwq_model.specs.Prelude.{Layout, now, IsLegal, past_of, IsFirstWrong}
+use Rattle.cmwq_cmd_history.specs.Common.{◌≡◌, ◌≤◌, ◌*◌, ◌^◌, List, length, Option, None, Some, Entry, Illegal, Layout, now, IsLegal, past_of, IsFirstWrong}
 use Rattle.cmwq_core.specs.Judged.{Judged}
 
 pub record Seen : Type 0 where

@@ -1,19 +1,6 @@
 -- What a live run of `step` reads, writes and answers: each call is answered before the next line is read.
-use Rattle.std.specs.Prelude.{◌≡◌, ◌⊎◌, ℕ, ◌+◌, ◌≤◌, ◌==◌, if◌then◌else◌, List, [], ◌∷◌, ◌++◌, length, take, fold, reverse, Result, Ok, Err, Option, None, Some}
-use Rattle.std.specs.Io.KnownBytes.{Appends}
-use Rattle.cmwq_io.specs.Moves.{AppendsFront}
-use Rattle.cmwq_model.specs.declared.id.Who.{Who}
-use Rattle.cmwq_model.specs.declared.call.Call.{Call}
-use Rattle.cmwq_model.specs.declared.entry.Entry.{Entry}
-use Rattle.cmwq_model.specs.Prelude.{Layout, entry_for, past_of, Steps, step, steps, none, has_room}
-use Rattle.cmwq_core.specs.History.{History, past_in}
-use Rattle.cmwq_text.specs.EntryText.{entry_text}
-use Rattle.cmwq_text.specs.HistoryText.{head_text, body_text, last_text}
-use Rattle.cmwq_base.specs.declared.refusal.Refusal.{Refusal}
+use Rattle.cmwq_cmd_history.specs.Common.{◌≡◌, ◌⊎◌, ℕ, ◌+◌, ◌≤◌, ◌==◌, if◌then◌else◌, List, [], ◌∷◌, ◌++◌, length, take, fold, reverse, Result, Ok, Err, Option, None, Some, Appends, AppendsFront, Who, Call, Entry, Layout, entry_for, past_of, Steps, step, steps, none, has_room, History, past_in, entry_text, head_text, body_text, last_text, Refusal, pieces, Kind, Stage, begin, opened, head, body, ended, is_long, after_line, calls_kind, call_file_of}
 use Rattle.cmwq_base.specs.declared.refusal.Refusal.TheVariants as refusal
-use Rattle.cmwq_base.specs.Pieces.{pieces}
-use Rattle.cmwq_base.specs.Files.{Kind, Stage, begin, opened, head, body, ended, is_long, after_line}
-use Rattle.cmwq_base.specs.Kinds.{calls_kind, call_file_of}
 use Rattle.cmwq_cmd_history.specs.Ends.{written_version, refusal_status}
 use Rattle.cmwq_cmd_history.specs.Step.{StepEnds}
 
@@ -23,17 +10,17 @@ or_stay stage f (Ok next) = f next
 or_stay stage f (Err e) = stage
 
 -- the stage behind all whole lines, or behind those before the first that is refused
-unfoldable pub reached : {X : Type 0} → Kind X → ℕ → Stage X → List (List ℕ) → Stage X
-reached k n stage [] = stage
-reached k n stage (last ∷ []) = stage
-reached k n stage (line ∷ more ∷ rest) = if is_long line then stage else or_stay stage (λ next. reached k (n + 1) next (more ∷ rest)) (after_line k n stage line)
+unfoldable pub stage_reached : {X : Type 0} → Kind X → ℕ → Stage X → List (List ℕ) → Stage X
+stage_reached k n stage [] = stage
+stage_reached k n stage (last ∷ []) = stage
+stage_reached k n stage (line ∷ more ∷ rest) = if is_long line then stage else or_stay stage (λ next. stage_reached k (n + 1) next (more ∷ rest)) (after_line k n stage line)
 
 -- that of the first m lines, and of all
 abbrev pub stage_after : ℕ → List ℕ → Stage (Who × Call)
-stage_after m text = reached calls_kind 1 begin (take (m + 1) (pieces text))
+stage_after m text = stage_reached calls_kind 1 begin (take (m + 1) (pieces text))
 
 abbrev pub last_stage : List ℕ → Stage (Who × Call)
-last_stage text = reached calls_kind 1 begin (pieces text)
+last_stage text = stage_reached calls_kind 1 begin (pieces text)
 
 -- what has been written by then: before the first call nothing, since more queues may come, and then the history of the calls so far, but for the
 -- last line of its format (a file of calls has none, so that none of them ends there)
@@ -84,14 +71,14 @@ pub record Lived : Type 0 where
   pub steps : Steps
   pub made : Option Entry
 
-abbrev pub made_by : Layout → ℕ → Steps → Who × Call → Option Entry
-made_by s room t c = if has_room s room t.past c.0 c.1 then Some (entry_for s t.past c.0 c.1) else None
+abbrev pub entry_made_by : Layout → ℕ → Steps → Who × Call → Option Entry
+entry_made_by s room t c = if has_room s room t.past c.0 c.1 then Some (entry_for s t.past c.0 c.1) else None
 
 abbrev pub lived_step : Layout → ℕ → Lived → Who × Call → Lived
-lived_step s room l c = record { steps = step s room l.steps c; made = made_by s room l.steps c }
+lived_step s room l c = record { steps = step s room l.steps c; made = entry_made_by s room l.steps c }
 
-abbrev pub lived : Layout → List (Who × Call) → Lived
-lived s calls = fold (lived_step s s.room) (record { steps = none; made = None }) calls
+abbrev pub live_steps : Layout → List (Who × Call) → Lived
+live_steps s calls = fold (lived_step s s.room) (record { steps = none; made = None }) calls
 
 -- what the last call has written in a format: its entry, and before the first one the head
 abbrev pub made_text : Option Entry → List ℕ
@@ -102,7 +89,7 @@ abbrev pub first_text : ℕ → Layout → List (Who × Call) → List ℕ
 first_text v s calls = if length calls == 1 then head_text v s else []
 
 abbrev pub new_text : ℕ → Layout → List (Who × Call) → List ℕ
-new_text v s calls = first_text v s calls ++ made_text (lived s calls).made
+new_text v s calls = first_text v s calls ++ made_text (live_steps s calls).made
 
 -- what the last line has written
 abbrev pub new_of : Stage (Who × Call) → List ℕ
@@ -117,7 +104,7 @@ abbrev pub missing_head : ℕ → Layout → List (Who × Call) → List ℕ
 missing_head v s calls = if length calls == 0 then head_text v s else []
 
 abbrev pub rest_text : ℕ → Layout → List (Who × Call) → List ℕ
-rest_text v s calls = missing_head v s calls ++ last_text v (length (lived s calls).steps.past)
+rest_text v s calls = missing_head v s calls ++ last_text v (length (live_steps s calls).steps.past)
 
 -- what callers see of the steps while the calls are read
 pub record Stepped : Type 0 where
@@ -127,11 +114,11 @@ pub record Stepped : Type 0 where
 pub record IsStepping (s : Layout) (calls : List (Who × Call)) (h : History) (n : ℕ) (last : Option Entry) : Type 0 where
   pub layout : h.layout ≡ s
   pub room : h.room ≡ s.room
-  pub past : past_in h ≡ (lived s calls).steps.past
-  pub left_out : n ≡ (lived s calls).steps.left_out
-  pub made : last ≡ (lived s calls).made
+  pub past : past_in h ≡ (live_steps s calls).steps.past
+  pub left_out : n ≡ (live_steps s calls).steps.left_out
+  pub made : last ≡ (live_steps s calls).made
   pub few : n ≤ length calls
 
 -- the entries of the calls that had room are kept
-pub record IsRecorded (t : Stepped) (entries : List Entry) : Type 0 where
-  pub past : past_of entries ≡ (lived t.layout t.calls).steps.past
+pub record AreRecorded (t : Stepped) (entries : List Entry) : Type 0 where
+  pub past : past_of entries ≡ (live_steps t.layout t.calls).steps.past

@@ -1,12 +1,5 @@
 -- What a run of `step` reads, writes and answers.
-use Rattle.std.specs.Prelude.{◌≡◌, ℕ, zero, suc, List, Result, Ok, Err, Option, reverse}
-use Rattle.cmwq_model.specs.declared.id.Who.{Who}
-use Rattle.cmwq_model.specs.declared.call.Call.{Call}
-use Rattle.cmwq_model.specs.Prelude.{Steps, steps}
-use Rattle.cmwq_text.specs.HistoryText.{text_of_format}
-use Rattle.cmwq_base.specs.declared.refusal.Refusal.{Refusal}
-use Rattle.cmwq_base.specs.Files.{File}
-use Rattle.cmwq_base.specs.Kinds.{call_file_of}
+use Rattle.cmwq_cmd_history.specs.Common.{◌≡◌, ℕ, zero, suc, List, Result, Ok, Err, Option, reverse, Who, Call, Steps, steps, text_of_format, Refusal, File, call_file_of}
 use Rattle.cmwq_cmd_history.specs.Ends.{Word, RunEnds, written_version, refusal_status}
 
 abbrev pub steps_in : File (Who × Call) → Steps

@@ -1,11 +1,5 @@
 -- What a run of `upgrade` reads, writes and answers.
-use Rattle.std.specs.Prelude.{◌≡◌, ◌≤◌, ℕ, List, [], Result, Ok, Option, None, Some}
-use Rattle.cmwq_model.specs.declared.entry.Entry.{Entry}
-use Rattle.cmwq_model.specs.declared.verdict.Illegal.{Illegal}
-use Rattle.cmwq_text.specs.HistoryText.{text_of_format}
-use Rattle.cmwq_base.specs.declared.refusal.Refusal.{Refusal}
-use Rattle.cmwq_base.specs.Files.{File}
-use Rattle.cmwq_base.specs.Kinds.{history_file_of}
+use Rattle.cmwq_cmd_history.specs.Common.{◌≡◌, ◌≤◌, ℕ, List, [], Result, Ok, Option, None, Some, Entry, Illegal, text_of_format, Refusal, File, history_file_of}
 use Rattle.cmwq_cmd_history.specs.Ends.{Word, RunEnds, written_version}
 use Rattle.cmwq_cmd_history.specs.Check.{IsVerdict}
 

@@ -55,7 +55,7 @@ pub fn run_check<S: Source, O: Sink, E: Sink>(
     if let Err(refusal) = ended {
         tell(errors, refusal);
     }
-    status(&ended)
+    check_status(&ended)
 }
 
 /// As `run_check`, but of a history of which a front was written, as a process leaves it that died while it wrote: a rest of at most 120 bytes
@@ -83,11 +83,11 @@ pub fn run_front_check<S: Source, O: Sink, E: Sink>(
     if let Err(refusal) = ended {
         tell(errors, refusal);
     }
-    status(&ended)
+    check_status(&ended)
 }
 
 /// The exit status of a run that ended so.
-pub(crate) fn status(ended: &Result<Option<Illegal>, Refusal>) -> u8
+pub fn check_status(ended: &Result<Option<Illegal>, Refusal>) -> u8
     ensures { result ≡ check_status ended.now }
 {
     match ended {

@@ -2,7 +2,7 @@
 
 ghost use Rattle.std.specs.Prelude.{◌≡◌};
 ghost use Rattle.cmwq_model.specs.Prelude.{past_of};
-ghost use Rattle.cmwq_cmd_history.specs.Live.{lived};
+ghost use Rattle.cmwq_cmd_history.specs.Live.{live_steps};
 
 use crate::stepping::Stepping;
 use cmwq_base::{Call, Entry, Gather, NoMemory, Shape, Who};
@@ -21,26 +21,26 @@ pub struct Recording {
 }
 
 impl Model for Recording {
-    ghost use Rattle.cmwq_cmd_history.specs.Live.{Stepped, IsRecorded};
+    ghost use Rattle.cmwq_cmd_history.specs.Live.{Stepped, AreRecorded};
 
     ghost Value = { Stepped };
 
     ghost view = { λ r. r.stepping.value };
 
-    ghost invariant = { λ r. IsRecorded r.stepping.value r.history.items };
+    ghost invariant = { λ r. AreRecorded r.stepping.value r.history.items };
 }
 
 impl Recording {
     /// The history of the calls that had room.
     pub fn history(&self) -> &[Entry]
-        ensures { past_of result.now ≡ (lived self.now.layout self.now.calls).steps.past }
+        ensures { past_of result.now ≡ (live_steps self.now.layout self.now.calls).steps.past }
     {
         &self.history
     }
 
     /// How many calls had none.
     pub fn left_out(&self) -> u64
-        ensures { result ≡ (lived self.now.layout self.now.calls).steps.left_out }
+        ensures { result ≡ (live_steps self.now.layout self.now.calls).steps.left_out }
     {
         self.stepping.left_out()
     }

@@ -5,7 +5,7 @@ ghost use Rattle.cmwq_model.specs.Prelude.{fits};
 ghost use Rattle.cmwq_text.specs.Formats.{most_lines};
 ghost use Rattle.cmwq_base.specs.Kinds.{calls_kind};
 ghost use Rattle.cmwq_base.specs.Lines.{IsNextLine};
-ghost use Rattle.cmwq_cmd_history.specs.Live.{lived};
+ghost use Rattle.cmwq_cmd_history.specs.Live.{live_steps};
 
 use cmwq_base::{Call, Entry, Gather, NoMemory, Shape, Who};
 use cmwq_core::{Execution, Full};
@@ -37,21 +37,21 @@ impl Model for Stepping {
 impl Stepping {
     /// The entry of the last call, if it had room.
     pub fn made(&self) -> Option<Entry>
-        ensures { result ≡ (lived self.now.layout self.now.calls).made }
+        ensures { result ≡ (live_steps self.now.layout self.now.calls).made }
     {
         self.made
     }
 
     /// How many entries the calls made.
     pub fn entries(&self) -> u64
-        ensures { result ≡ length (lived self.now.layout self.now.calls).steps.past }
+        ensures { result ≡ length (live_steps self.now.layout self.now.calls).steps.past }
     {
         self.execution.len()
     }
 
     /// How many calls had no room.
     pub fn left_out(&self) -> u64
-        ensures { result ≡ (lived self.now.layout self.now.calls).steps.left_out }
+        ensures { result ≡ (live_steps self.now.layout self.now.calls).steps.left_out }
     {
         self.left_out
     }

@@ -7,7 +7,7 @@ ghost use Rattle.cmwq_base.specs.declared.refusal.Refusal.{Refusal as TheRefusal
 ghost use Rattle.cmwq_cmd_history.specs.Check.{check_status};
 ghost use Rattle.cmwq_cmd_history.specs.Upgrade.{UpgradeEnds, IsFlushed, NewestStay};
 
-use crate::judge::status;
+use crate::judge::check_status;
 use crate::output::write_history;
 use crate::told::tell_illegal;
 use cmwq_base::{Illegal, Refusal, Sink, Source, read_history, tell};
@@ -62,7 +62,7 @@ pub fn run_upgrade<S: Source, O: Sink, E: Sink>(
         Ok(Some(illegal)) => tell_illegal(errors, illegal),
         Err(refusal) => tell(errors, refusal),
     }
-    status(&ended)
+    check_status(&ended)
 }
 
 /// So a legal history of format 2 or 3 comes out as it was, byte for byte.

@@ -1,46 +1,27 @@
 -- What `step` and `upgrade` write is read again, and is legal: so `check` finds nothing wrong in it.
-use Rattle.std.proofs.Common.{◌≡◌, ◌⊎◌, inl, inr, ◌≤◌, ◌==◌, nat_le, Bool, true, false, ℕ, List, Result, Ok, Err, None, Some, length, refl, sym, ◌∙◌, subst, arith, get_or}
-use Rattle.std.specs.Prelude.{reverse, IsTrue}
-use Rattle.std.specs.List.{All, AllByRecursion}
-use Rattle.std.proofs.lemmas.Bool.{eqb-true, le-leb, leb-true}
+use Rattle.cmwq_cmd_history_laws.specs.Common.{◌≡◌, ◌⊎◌, inl, inr, ◌≤◌, ◌==◌, nat_le, Bool, true, false, ℕ, List, Result, Ok, Err, None, Some, length, refl, sym, ◌∙◌, subst, arith, get_or, reverse, IsTrue, All, AllByRecursion, eqb-true, le-leb, leb-true, reverse-reverse, length-reverse, All-from_recursion, recursion_from_All, Who, Call, Entry, Illegal, Layout, most_room, is_layout, fits, IsWho, IsCall, greatest, IsLegal, past_of, now, most_time, Refusal, File, calls_kind, history_file_of, greatest_number, by_age, old_lines, old_room, most_lines, line_limit, room_limit, number_limit, allows_queue, allows_entry, text_of_format, IsVerdict, written_version, steps_in, answer_text}
 use Rattle.std.proofs.lemmas.Bool.Decides.{nat_tests}
-use Rattle.std.proofs.lemmas.List.{reverse-reverse, length-reverse}
-use Rattle.std.proofs.lemmas.List.Elements.{All-from_recursion, recursion_from_All}
-use Rattle.cmwq_model.specs.declared.id.Who.{Who}
-use Rattle.cmwq_model.specs.declared.call.Call.{Call}
-use Rattle.cmwq_model.specs.declared.entry.Entry.{Entry}
 use Rattle.cmwq_model.specs.declared.shape.QueueShape.{QueueShape}
-use Rattle.cmwq_model.specs.declared.verdict.Illegal.{Illegal}
-use Rattle.cmwq_model.specs.Prelude.{Layout, most_room, is_layout, fits, IsWho, IsCall, greatest, IsLegal, past_of, now, most_time}
 use Rattle.cmwq_theory_laws.proofs.FirstWrong.{wrong_are_illegal}
 use Rattle.cmwq_theory_laws.proofs.InRange.{legal_histories_fit}
 use Rattle.cmwq_theory_laws.proofs.WithinRoom.{steps_within_room}
 use Rattle.cmwq_theory_laws.proofs.OneEntry.{steps_are_legal}
-use Rattle.cmwq_base.specs.declared.refusal.Refusal.{Refusal}
 use Rattle.cmwq_base.specs.declared.refusal.Refusal.TheVariants as refusal
-use Rattle.cmwq_base.specs.Files.{File}
-use Rattle.cmwq_base.specs.Kinds.{calls_kind, history_file_of}
 use Rattle.cmwq_base.specs.FileLaws.{IsOfFormat}
-use Rattle.cmwq_text.specs.Numbers.{greatest_number}
-use Rattle.cmwq_text.specs.Formats.{by_age, old_lines, old_room, most_lines, line_limit, room_limit, number_limit, allows_queue, allows_entry}
-use Rattle.cmwq_text.specs.HistoryText.{text_of_format}
-use Rattle.cmwq_text.proofs.Steps.{both}
 use Rattle.cmwq_text.proofs.ReadRanges.{wide_entry, allowed_short}
 use Rattle.cmwq_base.proofs.Limits.{oldest_has, older_has, newest_has, none_falls}
 use Rattle.cmwq_base.proofs.Again.{histories_read_again, new_allows}
 use Rattle.cmwq_base.proofs.Spelled.{histories_are_of_their_format}
 use Rattle.cmwq_base.proofs.Sound.{IsReadOf, calls_are_read, history_is_read, IsCallInside, one_or_three}
-use Rattle.cmwq_cmd_history.specs.Check.{IsVerdict}
-use Rattle.cmwq_cmd_history.specs.Ends.{written_version}
-use Rattle.cmwq_cmd_history.specs.Step.{steps_in, answer_text}
 use Rattle.cmwq_cmd_history_laws.specs.Checks.{history_in, IsLegalText, LegalHistoriesAreChecked, StepIsChecked, UpgradeIsChecked, PassesCheck, StepsPassCheck, UpgradesPassCheck}
 use Rattle.cmwq_cmd_history_laws.proofs.Stepped.{steps_are_few, steps_are_of, all_reversed}
 use Rattle.cmwq_cmd_history_laws.proofs.Timely.{legal_histories_are_timely}
+use Rattle.std.proofs.lemmas.Bool.{and_parts}
 
 -- ---- format 3
 
 room_is_within : (s : Layout) → IsTrue (is_layout s) → s.room ≤ most_room
-room_is_within s inside = leb-true s.room most_room (both _ (nat_le s.room most_room) (both _ _ inside).0).1
+room_is_within s inside = leb-true s.room most_room (and_parts _ (nat_le s.room most_room) (and_parts _ _ inside).0).1
 
 pub legal_histories_are_checked : LegalHistoriesAreChecked
 legal_histories_are_checked s entries shape legal few soon all =
@@ -145,7 +126,7 @@ same_file : (r : Result (File Entry) Refusal) (f g : File Entry) → r ≡ Ok f 
 same_file r f g p q = cc
 
 read_or_refused : (r : Result (File Entry) Refusal) (f : File Entry) (e : Refusal) → r ≡ Ok f → r ≡ Err e → ⊥
-read_or_refused r f e p q = let both : Ok f ≡ Err e = sym p ∙ q in cc
+read_or_refused r f e p q = let and_parts : Ok f ≡ Err e = sym p ∙ q in cc
 
 legal_passes : (text : List ℕ) (f : File Entry) → IsLegalText text f → PassesCheck text
 legal_passes text f legal old new (Ok None) ends = inl refl

@@ -1,12 +1,5 @@
 -- The entries that steps make are of their calls, and no more than these.
-use Rattle.std.proofs.Common.{◌≤◌, ◌<◌, ◌+◌, ◌-◌, ℕ, Bool, true, false, List, [], ◌∷◌, length, subst, sym, arith}
-use Rattle.std.specs.Prelude.{fold, if◌then◌else◌, reverse}
-use Rattle.std.specs.List.{All, AllByRecursion}
-use Rattle.std.proofs.lemmas.List.{get_or-reverse, length-reverse}
-use Rattle.cmwq_model.specs.declared.id.Who.{Who}
-use Rattle.cmwq_model.specs.declared.call.Call.{Call}
-use Rattle.cmwq_model.specs.declared.entry.Entry.{Entry}
-use Rattle.cmwq_model.specs.Prelude.{Layout, entry_for, Steps, has_room, step, steps, none}
+use Rattle.cmwq_cmd_history_laws.specs.Common.{◌≤◌, ◌<◌, ◌+◌, ◌-◌, ℕ, Bool, true, false, List, [], ◌∷◌, length, subst, sym, arith, fold, if◌then◌else◌, reverse, All, AllByRecursion, get_or-reverse, length-reverse, Who, Call, Entry, Layout, entry_for, Steps, has_room, step, steps, none}
 
 module _ (s : Layout) (room : ℕ) where
   -- one step, by whether the call has room

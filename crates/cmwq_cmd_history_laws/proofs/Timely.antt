@@ -1,16 +1,6 @@
 -- No entry of a legal history tells a later time than that at its end.
-use Rattle.std.proofs.Common.{◌≡◌, ◌≤◌, ◌+◌, ◌<◌, ◌-◌, ℕ, true, List, [], ◌∷◌, subst, arith, refl}
-use Rattle.std.specs.Prelude.{IsTrue}
-use Rattle.std.specs.List.{All, AllByRecursion}
-use Rattle.std.proofs.lemmas.Bool.{le-leb}
-use Rattle.std.proofs.lemmas.List.{reverse-reverse}
-use Rattle.std.proofs.lemmas.List.Elements.{All-from_recursion}
-use Rattle.cmwq_model.specs.declared.id.Who.{Who}
-use Rattle.cmwq_model.specs.declared.call.Call.{Call}
+use Rattle.cmwq_cmd_history_laws.specs.Common.{◌≡◌, ◌≤◌, ◌+◌, ◌<◌, ◌-◌, ℕ, true, List, [], ◌∷◌, subst, arith, refl, IsTrue, All, AllByRecursion, le-leb, reverse-reverse, All-from_recursion, Who, Call, Entry, Layout, ticks_told, now, IsLegal, past_of, most_time, is_timely}
 use Rattle.cmwq_model.specs.declared.reply.Reply.{Reply}
-use Rattle.cmwq_model.specs.declared.entry.Entry.{Entry}
-use Rattle.cmwq_model.specs.Prelude.{Layout, ticks_told, now, IsLegal, past_of, most_time}
-use Rattle.cmwq_text.specs.Formats.{is_timely}
 use Rattle.cmwq_theory_steps.proofs.Causes.{Cause, cause_of}
 use Rattle.cmwq_theory_steps.proofs.Causes as cause
 use Rattle.cmwq_cmd_history_laws.proofs.Stepped.{all_reversed}

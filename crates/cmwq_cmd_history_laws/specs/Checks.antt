@@ -1,20 +1,5 @@
 -- What `step`, `upgrade` and a journal write, and `check` on that.
-use Rattle.std.specs.Prelude.{◌≡◌, ◌⊎◌, ◌≤◌, ℕ, List, [], Result, Ok, Option, None, Some, IsTrue, length, reverse}
-use Rattle.std.specs.List.{All}
-use Rattle.cmwq_model.specs.declared.id.Who.{Who}
-use Rattle.cmwq_model.specs.declared.call.Call.{Call}
-use Rattle.cmwq_model.specs.declared.entry.Entry.{Entry}
-use Rattle.cmwq_model.specs.declared.verdict.Illegal.{Illegal}
-use Rattle.cmwq_model.specs.Prelude.{Layout, is_layout, now, IsLegal, past_of, IsWho, IsCall, most_time}
-use Rattle.cmwq_text.specs.Numbers.{greatest_number}
-use Rattle.cmwq_text.specs.Formats.{most_lines}
-use Rattle.cmwq_text.specs.HistoryText.{text_of_format}
-use Rattle.cmwq_base.specs.declared.refusal.Refusal.{Refusal}
-use Rattle.cmwq_base.specs.Files.{File}
-use Rattle.cmwq_base.specs.Kinds.{call_file_of, history_file_of}
-use Rattle.cmwq_cmd_history.specs.Ends.{written_version}
-use Rattle.cmwq_cmd_history.specs.Check.{IsVerdict, CheckEnds, check_status}
-use Rattle.cmwq_cmd_history.specs.Step.{steps_in, answer_text, StepEnds}
+use Rattle.cmwq_cmd_history_laws.specs.Common.{◌≡◌, ◌⊎◌, ◌≤◌, ℕ, List, [], Result, Ok, Option, None, Some, IsTrue, length, reverse, All, Who, Call, Entry, Illegal, Layout, is_layout, now, IsLegal, past_of, IsWho, IsCall, most_time, greatest_number, most_lines, text_of_format, Refusal, File, call_file_of, history_file_of, written_version, IsVerdict, CheckEnds, check_status, steps_in, answer_text, StepEnds}
 use Rattle.cmwq_cmd_history.specs.Upgrade.{upgraded_text, UpgradeEnds}
 
 -- the history that the calls of a file make, with their shape: of format 3 where the file is, and else of format 2

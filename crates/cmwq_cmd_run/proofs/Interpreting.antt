@@ -1,18 +1,9 @@
 -- Actions, one after another.
-use Rattle.std.proofs.Common.{◌≡◌, ◌∙◌, ℕ, ◌+◌, ◌<◌, List, [], ◌∷◌, ◌++◌, length, take, get_or, refl, sym, subst, inl, inr, Result, Ok, Err}
-use Rattle.std.specs.Prelude.{IfOk, IfErr, Option, None}
+use Rattle.cmwq_cmd_run.specs.Common.{◌≡◌, ◌∙◌, ℕ, ◌+◌, ◌<◌, List, [], ◌∷◌, ◌++◌, length, take, get_or, refl, sym, subst, inl, inr, Result, Ok, Err, IfOk, IfErr, Option, None, Call, Layout, View, Refused, RunFault, Full, fault_after, Action}
 use Rattle.std.proofs.lemmas.List.{take_more}
-use Rattle.cmwq_model.specs.declared.call.Call.{Call}
 use Rattle.cmwq_model.specs.declared.reply.Reply.{Reply}
-use Rattle.cmwq_model.specs.Prelude.{Layout}
 use Rattle.cmwq_model.specs.declared.call.Call.TheVariants as call
-use Rattle.cmwq_monitor.specs.Participants.{View}
 use Rattle.cmwq_monitor.specs.Calls.{Extends}
-use Rattle.cmwq_monitor.specs.Faults.{Refused}
-use Rattle.cmwq_monitor.specs.declared.fault.RunFault.{RunFault}
-use Rattle.cmwq_monitor.specs.declared.fault.RunFault.TheVariants.{Full}
-use Rattle.cmwq_rt.specs.Running.{fault_after}
-use Rattle.cmwq_json_script.specs.declared.action.Action.{Action}
 use Rattle.cmwq_cmd_run.specs.Interpreted.{Acts, ActInTurn, MakesIfRoom, SleepsOnce}
 
 -- one action more

@@ -1,15 +1,7 @@
 -- What a run of an item makes: what its actions make, in their order.
-use Rattle.std.specs.Prelude.{◌≡◌, ◌⊎◌, ◌&&◌, List, [], ◌∷◌, MatchBool, MatchOption, slice_get}
-use Rattle.cmwq_model.specs.declared.call.Call.{Call}
-use Rattle.cmwq_model.specs.Prelude.{Layout, has_numbers}
+use Rattle.cmwq_cmd_run.specs.Common.{◌≡◌, ◌⊎◌, ◌&&◌, List, [], ◌∷◌, MatchBool, MatchOption, slice_get, Call, Layout, has_numbers, View, Refused, Full, Behavior, MakesOne, Action, is_own}
 use Rattle.cmwq_model.specs.declared.call.Call.TheVariants as call
-use Rattle.cmwq_monitor.specs.Participants.{View}
-use Rattle.cmwq_monitor.specs.Faults.{Refused}
-use Rattle.cmwq_monitor.specs.declared.fault.RunFault.TheVariants.{Full}
-use Rattle.cmwq_rt.specs.Running.{Behavior, MakesOne}
-use Rattle.cmwq_json_script.specs.declared.action.Action.{Action}
 use Rattle.cmwq_json_script.specs.declared.action.Action.TheVariants as action
-use Rattle.cmwq_json_script.specs.Scripts.{is_own}
 
 -- one entry was made by the call, or there was no room for it
 abbrev pub MakesIfRoom : Layout → View → Call → View → Type 0

@@ -1,25 +1,20 @@
 -- What `run` reads, writes and answers.
-use Rattle.std.specs.Prelude.{◌≡◌, ◌⊎◌, ℕ, zero, suc, List, Result, Ok, Err, Option, Some, slice_get, MatchOption}
-use Rattle.std.specs.Io.KnownBytes.{Keeps, Appends}
+use Rattle.cmwq_cmd_run.specs.Common.{◌≡◌, ◌⊎◌, ℕ, zero, suc, List, Result, Ok, Err, Option, Some, slice_get, MatchOption, Keeps, Appends, IsLegal, past_of, Says, IsNoJson, IsLong, RunFault, Run, run_said}
 use Rattle.cmwq_io.specs.Moves.{AppendsFront}
 use Rattle.cmwq_model.specs.declared.entry.Entry.{Entry}
-use Rattle.cmwq_model.specs.Prelude.{IsLegal, past_of}
 use Rattle.cmwq_text.specs.HistoryText.{text_of_format}
 use Rattle.cmwq_input.specs.declared.fault.Fault.TheVariants as fault
-use Rattle.cmwq_input.specs.Inputs.{Says, IsNoJson, IsLong}
 use Rattle.cmwq_input.specs.Statuses.{fault_status}
-use Rattle.cmwq_monitor.specs.declared.fault.RunFault.{RunFault}
 use Rattle.cmwq_monitor.specs.declared.fault.RunFault.TheVariants as run_fault
 use Rattle.cmwq_rt_scripts.specs.Ended.{FailsAs, IsLeft}
-use Rattle.cmwq_json_script.specs.Runs.{Run, run_said}
 use Rattle.cmwq_cmd_run.specs.Interpreted.{plays}
 use Rattle.cmwq_cmd_run.specs.declared.failure.Failure.{Failure}
 use Rattle.cmwq_cmd_run.specs.declared.failure.Failure.TheVariants as failure
 
 -- A history that the run may leave: it is legal, each caller's entries follow its script but for so many calls in all that had no room, each worker's
 -- are runs in which items did their actions, nobody else has any, and nothing active is left behind.
-abbrev pub Leaves : Run → ℕ → List Entry → Type 0
-Leaves r full history = IsLeft r.layout (plays r.does r.layout) r.callers full history
+abbrev pub RunLeaves : Run → ℕ → List Entry → Type 0
+RunLeaves r full history = IsLeft r.layout (plays r.does r.layout) r.callers full history
 
 -- its text, in the format of the run
 abbrev pub text_of : Run → List Entry → List ℕ
@@ -29,15 +24,15 @@ text_of r history = text_of_format r.version r.layout history
 
 -- such a history, whole
 abbrev pub Writes : Run → ℕ → Option (List ℕ) → Option (List ℕ) → Type 0
-Writes r full old new = (history : List Entry) × Leaves r full history × Appends old new (text_of r history)
+Writes r full old new = (history : List Entry) × RunLeaves r full history × Appends old new (text_of r history)
 
 -- a front of it
-abbrev pub WritesFront : Run → Option (List ℕ) → Option (List ℕ) → Type 0
-WritesFront r old new = (full : ℕ) × (history : List Entry) × Leaves r full history × AppendsFront old new (text_of r history)
+abbrev pub RunWritesFront : Run → Option (List ℕ) → Option (List ℕ) → Type 0
+RunWritesFront r old new = (full : ℕ) × (history : List Entry) × RunLeaves r full history × AppendsFront old new (text_of r history)
 
 -- Where it breaks off: nothing; but with a journal, which writes as it goes, a front of a legal history, which it need not leave.
-abbrev pub BreaksOff : Run → Option (List ℕ) → Option (List ℕ) → Type 0
-BreaksOff r old new = MatchOption r.journal (Keeps old new) (λ kept. (history : List Entry) × IsLegal r.layout (past_of history) × AppendsFront old new (text_of r history))
+abbrev pub RunBreaksOff : Run → Option (List ℕ) → Option (List ℕ) → Type 0
+RunBreaksOff r old new = MatchOption r.journal (Keeps old new) (λ kept. (history : List Entry) × IsLegal r.layout (past_of history) × AppendsFront old new (text_of r history))
 
 -- ---- what is told of a run
 
@@ -69,22 +64,22 @@ FailsOn r (failure.Gate name) = IsNamed r.gates name.bytes
 -- How the run of a script ends: it writes a history, or a failure stopped it. A gate is told of a run that came to its end, whose history a journal has written.
 abbrev pub ScriptEnds : Run → Option (List ℕ) → Option (List ℕ) → Result ℕ Failure → Type 0
 ScriptEnds r old new (Ok full) = Writes r full old new
-ScriptEnds r old new (Err (failure.Input fault.WriteFault)) = MatchOption r.journal (WritesFront r old new) (λ kept. BreaksOff r old new)
+ScriptEnds r old new (Err (failure.Input fault.WriteFault)) = MatchOption r.journal (RunWritesFront r old new) (λ kept. RunBreaksOff r old new)
 ScriptEnds r old new (Err (failure.Gate name)) = FailsOn r (failure.Gate name) × MatchOption r.journal (Keeps old new) (λ kept. (full : ℕ) × Writes r full old new)
-ScriptEnds r old new (Err f) = FailsOn r f × BreaksOff r old new
+ScriptEnds r old new (Err f) = FailsOn r f × RunBreaksOff r old new
 
 -- the text says a script, whose run ends so
 abbrev pub Runs : List ℕ → Option (List ℕ) → Option (List ℕ) → Result ℕ Failure → Type 0
 Runs text old new ended = (r : Run) × Says run_said text (Ok r) × ScriptEnds r old new ended
 
 -- Nothing is written but by the run of a script.
-abbrev pub RunEnds : List ℕ → Option (List ℕ) → Option (List ℕ) → Result ℕ Failure → Type 0
-RunEnds text old new (Err (failure.Input (fault.Member r))) = Says run_said text (Err r) × Keeps old new
-RunEnds text old new (Err (failure.Input fault.NotJson)) = IsNoJson text × Keeps old new
-RunEnds text old new (Err (failure.Input fault.TooLong)) = IsLong text × Keeps old new
-RunEnds text old new (Err (failure.Input fault.ReadFault)) = Keeps old new
-RunEnds text old new (Err (failure.Input fault.NoMemory)) = Keeps old new ⊎ Runs text old new (Err (failure.Input fault.NoMemory))
-RunEnds text old new ended = Runs text old new ended
+abbrev pub InputEnds : List ℕ → Option (List ℕ) → Option (List ℕ) → Result ℕ Failure → Type 0
+InputEnds text old new (Err (failure.Input (fault.Member r))) = Says run_said text (Err r) × Keeps old new
+InputEnds text old new (Err (failure.Input fault.NotJson)) = IsNoJson text × Keeps old new
+InputEnds text old new (Err (failure.Input fault.TooLong)) = IsLong text × Keeps old new
+InputEnds text old new (Err (failure.Input fault.ReadFault)) = Keeps old new
+InputEnds text old new (Err (failure.Input fault.NoMemory)) = Keeps old new ⊎ Runs text old new (Err (failure.Input fault.NoMemory))
+InputEnds text old new ended = Runs text old new ended
 
 -- the exit status: 0 done, 1 refused input or a gate that was not opened, 4 no memory or calls that had no room, 5 a fault of reading, writing or running
 abbrev pub failure_status : Failure → ℕ

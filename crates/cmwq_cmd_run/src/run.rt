@@ -3,7 +3,7 @@ ghost use Rattle.std.specs.Prelude.{◌≡◌, ◌≤◌, ℕ, Result, None, Som
 ghost use Rattle.cmwq_io.specs.Counts.{Rises};
 ghost use Rattle.cmwq_cmd_run.specs.declared.failure.Failure.{Failure as TheFailure};
 ghost use Rattle.cmwq_cmd_run.specs.declared.failure.Failure.TheVariants as failure;
-ghost use Rattle.cmwq_cmd_run.specs.Run.{RunEnds, ScriptEnds, Leaves, FailsOn, IsNamed, run_status};
+ghost use Rattle.cmwq_cmd_run.specs.Run.{InputEnds, ScriptEnds, RunLeaves, FailsOn, IsNamed, run_status};
 ghost use Rattle.cmwq_input.specs.declared.fault.Fault.TheVariants as fault;
 ghost use Rattle.cmwq_json_script.specs.Scripts.{run_of, MayRun};
 
@@ -39,7 +39,7 @@ fn run_script<R: Threads + Wait + Sync>(
     script: &Script,
 ) -> Result<Report, Failure>
     requires { MayRun script.now }
-    ensures leaves { IfOk result (λ r. Leaves (run_of script.now) r.full r.history.items) }
+    ensures leaves { IfOk result (λ r. RunLeaves (run_of script.now) r.full r.history.items) }
     ensures failed { IfErr result (λ f. FailsOn (run_of script.now) f) }
 {
     let interpreter = Interpreter::new(&script.does);
@@ -139,7 +139,7 @@ fn run<S: Source, O: Sink, R: Threads + Wait + Clock + Sync>(
     input: &mut S,
     output: &mut O,
 ) -> Result<u64, Failure>
-    ensures ends { IfSome (S.left input.old) (λ text. RunEnds text (O.written output.old) (O.written output.new) result) }
+    ensures ends { IfSome (S.left input.old) (λ text. InputEnds text (O.written output.old) (O.written output.new) result) }
     ensures flushed { OnOk result (O.held output.new ≡ 0) }
     ensures read_fault { IsErrOf result (failure.Input fault.ReadFault) → Rises (S.troubles input.old) (S.troubles input.new) }
     ensures write_fault { IsErrOf result (failure.Input fault.WriteFault) → Rises (O.troubles output.old) (O.troubles output.new) }
@@ -166,7 +166,7 @@ pub fn run_run<S: Source, O: Sink, E: Sink, R: Threads + Wait + Clock + Sync>(
 ) -> u8
     ensures ends { (ended : Result ℕ TheFailure)
         × (result ≡ run_status ended)
-        × IfSome (S.left input.old) (λ text. RunEnds text (O.written output.old) (O.written output.new) ended)
+        × IfSome (S.left input.old) (λ text. InputEnds text (O.written output.old) (O.written output.new) ended)
         × OnOk ended (O.held output.new ≡ 0)
         × (IsErrOf ended (failure.Input fault.ReadFault) → Rises (S.troubles input.old) (S.troubles input.new))
         × (IsErrOf ended (failure.Input fault.WriteFault) → Rises (O.troubles output.old) (O.troubles output.new)) }

@@ -1,47 +1,19 @@
 -- What an entry does, read off the book.
-use Rattle.std.proofs.Common.{◌≡◌, ℕ, List, ◌∷◌, length, Option, Some, None, refl, sym, ap, ◌∙◌}
-use Rattle.std.specs.Prelude.{option_and_then}
-use Rattle.std.specs.Option.{option_map_or}
-use Rattle.std.proofs.lemmas.Option.{same_Some}
-use Rattle.cmwq_model.specs.declared.id.CpuId.{CpuId}
-use Rattle.cmwq_model.specs.declared.id.PoolId.{PoolId}
-use Rattle.cmwq_model.specs.declared.id.Who.{Who}
-use Rattle.cmwq_model.specs.declared.id.Who.TheVariants.{Caller, Worker}
-use Rattle.cmwq_model.specs.declared.reply.Reply.{Reply}
-use Rattle.cmwq_model.specs.declared.entry.Entry.{Entry}
-use Rattle.cmwq_model.specs.declared.record.Queueing.{Queueing}
+use Rattle.cmwq_core.specs.Common.{◌≡◌, ℕ, List, ◌∷◌, length, Option, Some, None, refl, sym, ap, ◌∙◌, option_and_then, option_map_or, same_Some, CpuId, PoolId, Who, Caller, Worker, Reply, Entry, Queueing, Call, Booking, Layout, item_of, number_started, item_run, unstarted_queueing, queueing_at, cpu_for, is_unstarted, still_open, IsLegal, fits, may_make, has_numbers, booking_of, is_started, opening, owed, has_not_started, run, ending, queueing_run, ended_by, ends_as_told, runs_are_queueings, unstarted_found, next_unstarted, found, ◌-◌, ◌≤◌, ◌+◌, ◌*◌, ◌==◌, Bool, true, false, not, is_some, arith, nat_lt, nat_le, and_parts, ltb-true, fits_there, one, ends_unstarted, settles_booked, found_number, starting, starts_next}
 use Rattle.cmwq_model.specs.declared.record.Start.{Start}
-use Rattle.cmwq_model.specs.declared.call.Call.{Call}
-use Rattle.cmwq_model.specs.declared.record.Booking.{Booking}
-use Rattle.cmwq_model.specs.Prelude.{Layout, item_of, number_started, item_run, unstarted, queueing_at, cpu_for, is_unstarted, still_open, IsLegal, fits, may_make, has_numbers}
-use Rattle.cmwq_model.specs.Prelude.{booking_of, is_started, opening, owed, has_not_started, run}
 use Rattle.cmwq_model.specs.declared.reply.Reply.TheVariants as reply
-use Rattle.cmwq_theory_steps.specs.Endings.{ending}
-use Rattle.cmwq_theory_steps.specs.ItemQueueings.{queueing_run, ended_by}
-use Rattle.cmwq_theory_steps.proofs.EndsAsTold.{ends_as_told, runs_are_queueings, unstarted_found}
-use Rattle.cmwq_theory_steps.proofs.Unstarted.{next_unstarted}
-use Rattle.cmwq_refinement.proofs.Members.{found}
-use Rattle.std.proofs.Common.{◌-◌, ◌≤◌, ◌+◌, ◌*◌, ◌==◌, Bool, true, false, not, is_some, arith}
-use Rattle.std.proofs.Common.{nat_lt, nat_le}
-use Rattle.std.proofs.lemmas.Bool.{and_parts, ltb-true}
 use Rattle.cmwq_model.specs.declared.call.Call.TheVariants as call
-use Rattle.cmwq_refinement.proofs.FirstDue.{timers_may_be_told}
+use Rattle.cmwq_refinement.proofs.FirstDue.{entries_apply_to_timers}
 use Rattle.cmwq_refinement.proofs.Settled.{place_fits}
 use Rattle.cmwq_core.specs.Book.{IsCallInside}
 use Rattle.cmwq_state.specs.Tables.{IsThere}
-use Rattle.cmwq_state.proofs.Steps.{fits_there}
-use Rattle.cmwq_theory_steps.specs.Histories.{one}
-use Rattle.cmwq_theory_steps.specs.RoomSteps.{ends_unstarted, settles_booked}
 use Rattle.cmwq_theory_steps.proofs.Owing.{owed_goes_on}
 use Rattle.cmwq_theory_steps.proofs.RunSteps.{last_started}
-use Rattle.cmwq_theory_steps.proofs.RunsActive.{found_number}
 use Rattle.cmwq_core.specs.Effects.{ended_from, IsInside, started_from, next_for, ends_early, paid_alone, taken_alone}
-use Rattle.cmwq_refinement.specs.Flights.{starting}
-use Rattle.cmwq_theory_steps.proofs.Starts.{starts_next}
 use Rattle.cmwq_theory_steps.proofs.ItemRuns.{run_is}
 use Rattle.cmwq_state.specs.Flights.{run_open}
 
-from_reply : (past : List Entry) (who : Who) (i : Option ℕ) (r : Reply) → ended_by past who i r ≡ ended_from r (queueing_run past who) (option_and_then (unstarted past) i)
+from_reply : (past : List Entry) (who : Who) (i : Option ℕ) (r : Reply) → ended_by past who i r ≡ ended_from r (queueing_run past who) (option_and_then (unstarted_queueing past) i)
 from_reply past who i (reply.Finished n) = refl
 from_reply past who i (reply.Cancelled n) = refl
 from_reply past who i (reply.TicketCancelled k n) = refl
@@ -49,7 +21,7 @@ from_reply past who i (reply.Again k) = refl
 from_reply past who i (reply.Rebooked d) = refl
 from_reply past who i r = refl
 
-pub ends_from : (s : Layout) (past : List Entry) (e : Entry) → IsLegal s (e ∷ past) → ended_from e.reply (queueing_run past e.who) (option_and_then (unstarted past) (item_of e)) ≡ ending past e
+pub ends_from : (s : Layout) (past : List Entry) (e : Entry) → IsLegal s (e ∷ past) → ended_from e.reply (queueing_run past e.who) (option_and_then (unstarted_queueing past) (item_of e)) ≡ ending past e
 ends_from s past e legal = sym (ends_as_told s past e legal ∙ from_reply past e.who (item_of e) e.reply)
 
 -- ---- what starts
@@ -100,30 +72,30 @@ not_early s past (Worker w) x legal h = by (run past w) refl h
         let at : queueing_at past n ≡ Some x = sym (ap (option_and_then (queueing_at past)) is) ∙ k in
         ap (λ m. not (is_started past m)) (found_number past n x at) ∙ ap not (last_started past w n (run_is past w n is).last)
 
-early : (past : List Entry) (i : Option ℕ) (x : Queueing) → option_and_then (unstarted past) i ≡ Some x → has_not_started past x ≡ true
+early : (past : List Entry) (i : Option ℕ) (x : Queueing) → option_and_then (unstarted_queueing past) i ≡ Some x → has_not_started past x ≡ true
 early past None x h = cc
 early past (Some i) x h = (and_parts (x.item.0 == i) (not (is_started past x.number)) (found (is_unstarted past i) (still_open past) x h).1).1
 
 pub ends_early_is : (s : Layout) (past : List Entry) (e : Entry) → IsLegal s (e ∷ past) → IsLegal s past → ends_early e.reply (ending past e) ≡ ends_unstarted past e
 ends_early_is s past e legal before = ap (ends_early e.reply) (sym from) ∙ (by e.reply ∙ ap (λ o. option_map_or (has_not_started past) o false) from)
   where
-    from : ended_from e.reply (queueing_run past e.who) (option_and_then (unstarted past) (item_of e)) ≡ ending past e
+    from : ended_from e.reply (queueing_run past e.who) (option_and_then (unstarted_queueing past) (item_of e)) ≡ ending past e
     from = ends_from s past e legal
 
     ran : (o : Option Queueing) → queueing_run past e.who ≡ o → false ≡ option_map_or (has_not_started past) o false
     ran None h = refl
     ran (Some x) h = sym (not_early s past e.who x before h)
 
-    waited : (o : Option Queueing) → option_and_then (unstarted past) (item_of e) ≡ o → is_some o ≡ option_map_or (has_not_started past) o false
+    waited : (o : Option Queueing) → option_and_then (unstarted_queueing past) (item_of e) ≡ o → is_some o ≡ option_map_or (has_not_started past) o false
     waited None h = refl
     waited (Some x) h = sym (early past (item_of e) x h)
 
-    by : (r : Reply) → ends_early r (ended_from r (queueing_run past e.who) (option_and_then (unstarted past) (item_of e))) ≡ option_map_or (has_not_started past) (ended_from r (queueing_run past e.who) (option_and_then (unstarted past) (item_of e))) false
+    by : (r : Reply) → ends_early r (ended_from r (queueing_run past e.who) (option_and_then (unstarted_queueing past) (item_of e))) ≡ option_map_or (has_not_started past) (ended_from r (queueing_run past e.who) (option_and_then (unstarted_queueing past) (item_of e))) false
     by (reply.Finished n) = ran (queueing_run past e.who) refl
-    by (reply.Cancelled n) = waited (option_and_then (unstarted past) (item_of e)) refl
-    by (reply.TicketCancelled k n) = waited (option_and_then (unstarted past) (item_of e)) refl
-    by (reply.Again k) = waited (option_and_then (unstarted past) (item_of e)) refl
-    by (reply.Rebooked d) = waited (option_and_then (unstarted past) (item_of e)) refl
+    by (reply.Cancelled n) = waited (option_and_then (unstarted_queueing past) (item_of e)) refl
+    by (reply.TicketCancelled k n) = waited (option_and_then (unstarted_queueing past) (item_of e)) refl
+    by (reply.Again k) = waited (option_and_then (unstarted_queueing past) (item_of e)) refl
+    by (reply.Rebooked d) = waited (option_and_then (unstarted_queueing past) (item_of e)) refl
     by r = refl
 
 pub owes_with : (s : Layout) (past : List Entry) (e : Entry) (ended opened : Option Queueing) (booked : Option Booking) (unbooked : Bool) → IsLegal s (e ∷ past) → IsLegal s past → ended ≡ ending past e → opened ≡ opening past e → booked ≡ booking_of e (length past) →
@@ -145,7 +117,7 @@ owing_sum owing old new t o b p e u t1 o1 b1 p1 e1 u1 law was ht ho hb hp he hu 
 -- ---- the item of an entry, and the numbers of a call that fits
 
 pub entry_inside : (s : Layout) (past : List Entry) (e : Entry) → IsLegal s (e ∷ past) → IsInside s e
-entry_inside s past e legal = (timers_may_be_told s past e legal).item
+entry_inside s past e legal = (entries_apply_to_timers s past e legal).item
 
 pub call_inside : (s : Layout) (who : Who) (c : Call) → fits s who c ≡ true → IsCallInside s c
 call_inside s who c fit = by c (and_parts (may_make s who c) (has_numbers s c) fit).1

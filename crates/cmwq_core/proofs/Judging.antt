@@ -1,13 +1,8 @@
 -- A history that is judged from its first entry on.
-use Rattle.std.proofs.Common.{◌≡◌, ◌+◌, ◌*◌, ◌^◌, ◌<◌, ◌≤◌, ℕ, true, refl, List, [], ◌∷◌, length, take, drop, get_or, reverse, sym, ap, ap₂, ◌∙◌, subst, arith, add-one}
+use Rattle.cmwq_core.specs.Common.{◌≡◌, ◌+◌, ◌*◌, ◌^◌, ◌<◌, ◌≤◌, ℕ, true, refl, List, [], ◌∷◌, length, take, drop, get_or, reverse, sym, ap, ap₂, ◌∙◌, subst, arith, add-one, take_more, reverse-append, length-take-le, Entry, Call, Layout, now, ticks_told, has_time, most_time, IsLegal, past_of, entry_for, AllFit, Wants, IsFirstWrong, le-leb}
 use Rattle.std.proofs.Math.Seq.{split_at}
-use Rattle.std.proofs.lemmas.List.{take_more, reverse-append, length-take-le}
-use Rattle.cmwq_model.specs.declared.entry.Entry.{Entry}
 use Rattle.cmwq_model.specs.declared.verdict.Wanted.{Wanted}
-use Rattle.cmwq_model.specs.declared.call.Call.{Call}
-use Rattle.cmwq_model.specs.Prelude.{Layout, now, ticks_told, has_time, most_time, IsLegal, past_of, entry_for, AllFit, Wants, IsFirstWrong}
 use Rattle.cmwq_model.specs.declared.call.Call.TheVariants as call
-use Rattle.std.proofs.lemmas.Bool.{le-leb}
 use Rattle.cmwq_core.specs.History.{History, next_entry, with_entry}
 
 -- the book beside the entries, when so many are judged

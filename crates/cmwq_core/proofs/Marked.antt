@@ -1,68 +1,45 @@
 -- The bits of an item, and the mark of an entry.
-use Rattle.std.proofs.Common.{◌≡◌, ℕ, ◌+◌, ◌<◌, find, ◌==◌, ◌||◌, ◌&&◌, Bool, true, false, List, ◌∷◌, length, Option, Some, None, is_some, refl, sym, ap, ap₂, ◌∙◌, subst}
-use Rattle.std.specs.Prelude.{Contains, if◌then◌else◌, option_and_then, option_map}
-use Rattle.std.specs.Option.{option_or}
-use Rattle.std.proofs.lemmas.Bool.{eqb-true}
-use Rattle.std.proofs.lemmas.Option.{same_Some}
-use Rattle.cmwq_model.specs.declared.id.ItemId.{ItemId}
-use Rattle.cmwq_model.specs.declared.reply.Reply.{Reply}
-use Rattle.cmwq_model.specs.declared.entry.Entry.{Entry}
-use Rattle.cmwq_model.specs.declared.record.Queueing.{Queueing}
-use Rattle.cmwq_model.specs.declared.record.Ticket.{Ticket}
-use Rattle.cmwq_model.specs.Prelude.{Layout, unended, is_at, is_of_item, item_of, item_at, item_called, item_fired, settles, booking, booking_of, is_booked, number_started}
-use Rattle.cmwq_model.specs.Prelude.{number_finished, queueing_at, unstarted, is_pending, opening, IsLegal, bits}
+use Rattle.cmwq_core.specs.Common.{◌≡◌, ℕ, ◌+◌, ◌<◌, find, ◌==◌, ◌||◌, ◌&&◌, Bool, true, false, List, ◌∷◌, length, Option, Some, None, is_some, refl, sym, ap, ap₂, ◌∙◌, subst, Contains, if◌then◌else◌, option_and_then, option_map, option_or, eqb-true, same_Some, ItemId, Reply, Entry, Queueing, Ticket, Layout, unended_tickets, is_at, is_of_item, item_of, item_at, item_called, item_fired, settles, booking, booking_of, is_booked, number_started, number_finished, queueing_at, unstarted_queueing, is_pending, opening, IsLegal, bits, found, in_contained, item_marked, ending, queueing_run, found_known, found_number, run_is_active, IsEffect, item_number, Flight, with_started, with_unstarted, without_run, flight_of, starting, unstarted_found, starts_next, next_unstarted, legal_before}
 use Rattle.cmwq_model.specs.declared.reply.Reply.TheVariants as reply
-use Rattle.cmwq_refinement.proofs.Members.{found, in_contained}
-use Rattle.cmwq_state.proofs.Told.{open_there}
-use Rattle.cmwq_theory_steps.specs.Marks.{item_marked}
-use Rattle.cmwq_theory_steps.specs.Endings.{ending}
-use Rattle.cmwq_theory_steps.specs.ItemQueueings.{queueing_run}
-use Rattle.cmwq_theory_steps.proofs.Marks.{others_stay}
+use Rattle.cmwq_state.proofs.Applied.{open_there}
+use Rattle.cmwq_theory_steps.proofs.Marks.{others_stay, no_item}
 use Rattle.cmwq_theory_steps.proofs.Standing.{booking_after}
 use Rattle.cmwq_theory_steps.proofs.Fresh.{finishes_run}
-use Rattle.cmwq_theory_steps.proofs.RunsActive.{found_known, found_number, run_is_active}
-use Rattle.cmwq_state.specs.Effects.{IsEffect, item_number}
 use Rattle.cmwq_core.specs.Effects.{ended_from}
-use Rattle.cmwq_inflight.specs.Flights.{Flight, with_started, with_unstarted, without_run}
-use Rattle.cmwq_refinement.specs.Flights.{flight_of, starting}
 use Rattle.cmwq_refinement.proofs.FlightSteps as rows
 use Rattle.cmwq_refinement.proofs.FlightRefine.{opened_row, starting_there}
-use Rattle.cmwq_theory_steps.proofs.EndsAsTold.{unstarted_found}
-use Rattle.cmwq_theory_steps.proofs.Starts.{starts_next}
-use Rattle.cmwq_theory_steps.proofs.Unstarted.{next_unstarted}
-use Rattle.cmwq_core.specs.Flights.{standing, ended_at, started_at, opened_at}
-use Rattle.cmwq_core.specs.History.{History, past_in, next_entry, IsMark, has_number}
+use Rattle.cmwq_core.specs.Flights.{flight_standing, ended_at, started_at, opened_at}
+use Rattle.cmwq_core.specs.History.{History, past_in, next_entry, IsMark, ticket_has_number}
 use Rattle.cmwq_state.specs.declared.effect.Effect.{Effect}
-use Rattle.cmwq_refinement.proofs.FlightKinds.{legal_before}
 use Rattle.cmwq_core.proofs.Effecting.{ends_from, entry_inside}
 use Rattle.cmwq_state.proofs.Counting.{running}
 
 -- whether the item runs and waits, after an effect
-with_ended : (r : Reply) (o : Option Queueing) (i : ℕ) (f : Flight) → standing (rows.row_ended r o i f) ≡ ended_at r o i (standing f)
+with_ended : (r : Reply) (o : Option Queueing) (i : ℕ) (f : Flight) → flight_standing (rows.row_ended r o i f) ≡ ended_at r o i (flight_standing f)
 unfolding rows.row_ended
 with_ended r None i f = refl
 with_ended r (Some x) i f = by (x.item.0 == i) (is_some (number_finished r))
   where
-    by : (b c : Bool) → standing (if b then (if c then without_run f else with_unstarted None f) else f) ≡ (if b then (if c then record { runs = false; waits = is_some f.unstarted } else record { runs = is_some f.run; waits = false }) else standing f)
+    by : (b c : Bool) → flight_standing (if b then (if c then without_run f else with_unstarted None f) else f) ≡ (if b then (if c then record { runs = false; waits = is_some f.unstarted } else record { runs = is_some f.run; waits = false }) else flight_standing f)
     by true true = refl
     by true false = refl
     by false c = refl
 
-with_started_at : (o : Option Queueing) (i : ℕ) (f : Flight) → standing (rows.row_started o i f) ≡ started_at o i (standing f)
+with_started_at : (o : Option Queueing) (i : ℕ) (f : Flight) → flight_standing (rows.row_started o i f) ≡ started_at o i (flight_standing f)
 unfolding rows.row_started
 with_started_at None i f = refl
 with_started_at (Some x) i f = by (x.item.0 == i)
   where
-    by : (b : Bool) → standing (if b then with_started f else f) ≡ (if b then record { runs = is_some f.unstarted; waits = false } else standing f)
+    by : (b : Bool) → flight_standing (if b then with_started f else f) ≡ (if b then record { runs = is_some f.unstarted; waits = false } else flight_standing f)
     by true = refl
     by false = refl
 
-with_opened : (o : Option Queueing) (i : ℕ) (f : Flight) → standing (rows.row_opened o i f) ≡ opened_at o i (standing f)
+with_opened : (o : Option Queueing) (i : ℕ) (f : Flight) → flight_standing (rows.row_opened o i f) ≡ opened_at o i (flight_standing f)
 unfolding rows.row_opened
 with_opened None i f = refl
 with_opened (Some x) i f = by (x.item.0 == i)
   where
-    by : (b : Bool) → standing (if b then with_unstarted (Some x) f else f) ≡ (if b then record { runs = is_some f.run; waits = true } else standing f)
+    by : (b : Bool) → flight_standing (if b then with_unstarted (Some x) f else f) ≡ (if b then record { runs = is_some f.run; waits = true } else flight_standing f)
     by true = refl
     by false = refl
 
@@ -73,13 +50,13 @@ row_after s past f i is =
     ∙ opened_row s past f.entry is.legal i (opening past f.entry) refl
 
 pub standing_after : (s : Layout) (past : List Entry) (f : Effect) (i : ℕ) → IsEffect s past f
-    → opened_at f.opened i (started_at f.started i (ended_at f.entry.reply f.ended i (standing (flight_of past i)))) ≡ standing (flight_of (f.entry ∷ past) i)
+    → opened_at f.opened i (started_at f.started i (ended_at f.entry.reply f.ended i (flight_standing (flight_of past i)))) ≡ flight_standing (flight_of (f.entry ∷ past) i)
 standing_after s past f i is =
     let first = rows.row_ended f.entry.reply f.ended i (flight_of past i) in
     ap (λ a. opened_at f.opened i (started_at f.started i a)) (sym (with_ended f.entry.reply f.ended i (flight_of past i)))
     ∙ ap (opened_at f.opened i) (sym (with_started_at f.started i first))
     ∙ sym (with_opened f.opened i (rows.row_started f.started i first))
-    ∙ ap standing (row_after s past f i is)
+    ∙ ap flight_standing (row_after s past f i is)
 
 some_if : {X : Type 0} (c : Bool) (a b : Option X) → (if c then is_some a else is_some b) ≡ is_some (if c then a else b)
 some_if true a b = refl
@@ -118,7 +95,7 @@ pub marks_other : (s : Layout) (past : List Entry) (e : Entry) → IsLegal s (e 
 marks_other s past e legal before none = by (number_started e.reply) refl ∙ sym (ap (λ o. option_or o (option_and_then (item_at past) (option_or (number_started e.reply) (number_finished e.reply)))) none)
   where
     from : ending past e ≡ ended_from e.reply (queueing_run past e.who) None
-    from = sym (ends_from s past e legal) ∙ ap (λ o. ended_from e.reply (queueing_run past e.who) (option_and_then (unstarted past) o)) none
+    from = sym (ends_from s past e legal) ∙ ap (λ o. ended_from e.reply (queueing_run past e.who) (option_and_then (unstarted_queueing past) o)) none
 
     ends_none : (r : Reply) (o : Option Queueing) → number_finished r ≡ None → ended_from r o None ≡ None
     ends_none (reply.Finished n) o h = cc
@@ -153,10 +130,6 @@ same_next : (h : History) (e : Entry) → IsLegal h.layout (e ∷ past_in h) →
 unfolding IsLegal
 same_next h e legal = legal.1
 
-no_fire : (r : Reply) (n : ℕ) → number_started r ≡ Some n → item_fired r ≡ None
-no_fire (reply.Fired i k) n h = cc
-no_fire r n h = refl
-
 -- what an entry starts is known, and the entry marks its item
 pub record StartIsMarked (past : List Entry) (e : Entry) (n : ℕ) : Type 0 where
   pub queueing : Queueing
@@ -166,7 +139,7 @@ pub record StartIsMarked (past : List Entry) (e : Entry) (n : ℕ) : Type 0 wher
 start_marked : (s : Layout) (past : List Entry) (e : Entry) (n : ℕ) → IsLegal s (e ∷ past) → number_started e.reply ≡ Some n → StartIsMarked past e n
 start_marked s past e n legal h =
     let k = start_found s past e n legal (legal_before s past e legal) h in
-    let none : item_of e ≡ None = ap₂ option_or (ap item_called (starts_next s past e n legal h).is_take) (no_fire e.reply n h) in
+    let none : item_of e ≡ None = ap₂ option_or (ap item_called (starts_next s past e n legal h).is_take) (no_item e.reply n h) in
     record {
       queueing = k.0;
       is_known = k.1;
@@ -216,5 +189,5 @@ marked_as s past f o i m is number none or h =
 
 -- ---- the ticket with a number is unended
 
-pub numbered_unended : (past : List Entry) (n : ℕ) (t : Ticket) → find (has_number n) (unended past) ≡ Some t → Contains (unended past) t
-numbered_unended past n t h = in_contained (unended past) t (found (has_number n) (unended past) t h).0
+pub numbered_unended : (past : List Entry) (n : ℕ) (t : Ticket) → find (ticket_has_number n) (unended_tickets past) ≡ Some t → Contains (unended_tickets past) t
+numbered_unended past n t h = in_contained (unended_tickets past) t (found (ticket_has_number n) (unended_tickets past) t h).0

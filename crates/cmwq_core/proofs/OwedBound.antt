@@ -1,16 +1,9 @@
 -- What a legal history owes is never more than 10,000 entries, where the layout is inside the limits.
-use Rattle.std.proofs.Common.{◌≡◌, ◌≤◌, ℕ, Bool, true, false, List, [], ◌∷◌, length, length-append, ap, ◌∙◌, arith}
-use Rattle.std.specs.Prelude.{◌*◌, IsTrue, if◌then◌else◌, flat_map}
+use Rattle.cmwq_core.specs.Common.{◌≡◌, ◌≤◌, ℕ, Bool, true, false, List, [], ◌∷◌, length, length-append, ap, ◌∙◌, arith, ◌*◌, IsTrue, if◌then◌else◌, flat_map, and_parts, leb-true, length-map, PoolId, Entry, Layout, is_layout, indices, is_booked, has_run, runs_asleep, still_open, is_frozen, worker_at, IsLegal, owed, workers, cpu_workers, pool_workers, has_not_started}
 use Rattle.std.specs.List.{range_with_len}
-use Rattle.std.proofs.lemmas.Bool.{and_parts, leb-true}
-use Rattle.std.proofs.lemmas.List.{length-map}
 use Rattle.std.proofs.lemmas.List.Concat.{flat_map-cons}
 use Rattle.std.proofs.lemmas.List.FromFn.{length-range_with_len}
 use Rattle.std.proofs.lemmas.List.Sums.{count_by-le-length}
-use Rattle.cmwq_model.specs.declared.id.PoolId.{PoolId}
-use Rattle.cmwq_model.specs.declared.entry.Entry.{Entry}
-use Rattle.cmwq_model.specs.Prelude.{Layout, is_layout, indices, is_booked, has_run, runs_asleep, still_open, is_frozen, worker_at, IsLegal, owed, workers, cpu_workers}
-use Rattle.cmwq_model.specs.Prelude.{pool_workers, has_not_started}
 use Rattle.cmwq_theory_steps.proofs.Limits.{two_for_each_item}
 use Rattle.cmwq_refinement.proofs.LayoutLimits.{items_few}
 use Rattle.cmwq_refinement.proofs.TicketLimits.{unended_few}

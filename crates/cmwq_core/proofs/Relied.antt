@@ -1,7 +1,5 @@
 -- What a user relies on holds of every legal history.
-use Rattle.std.proofs.Common.{List}
-use Rattle.cmwq_model.specs.declared.entry.Entry.{Entry}
-use Rattle.cmwq_model.specs.Prelude.{Layout, IsLegal}
+use Rattle.cmwq_core.specs.Common.{List, Entry, Layout, IsLegal}
 use Rattle.cmwq_theory_laws.proofs.OneWorker.{runs_in_one_worker}
 use Rattle.cmwq_theory_laws.proofs.StartedOnce.{started_once, starts_earlier}
 use Rattle.cmwq_theory_laws.proofs.WithinWidth.{within_width}

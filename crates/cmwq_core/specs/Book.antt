@@ -1,7 +1,5 @@
 -- Which calls a book may be asked to answer.
-use Rattle.std.specs.Prelude.{◌<◌, length}
-use Rattle.cmwq_model.specs.declared.call.Call.{Call}
-use Rattle.cmwq_model.specs.Prelude.{Layout}
+use Rattle.cmwq_core.specs.Common.{◌<◌, length, Call, Layout}
 use Rattle.cmwq_model.specs.declared.call.Call.TheVariants as call
 
 -- the numbers of the call are inside the layout

@@ -1,14 +1,6 @@
 -- What an entry does, in the pieces in which it is found.
-use Rattle.std.specs.Prelude.{◌≡◌, ℕ, ◌+◌, ◌*◌, ◌<◌, Bool, false, is_some, List, Option, Some, None}
-use Rattle.cmwq_model.specs.declared.id.Who.{Who}
-use Rattle.cmwq_model.specs.declared.id.Who.TheVariants.{Caller, Worker}
-use Rattle.cmwq_model.specs.declared.reply.Reply.{Reply}
-use Rattle.cmwq_model.specs.declared.record.Queueing.{Queueing}
-use Rattle.cmwq_model.specs.declared.entry.Entry.{Entry}
-use Rattle.cmwq_model.specs.Prelude.{next, number_started, number_finished, gives_ticket, is_done, Layout, item_of}
+use Rattle.cmwq_core.specs.Common.{◌≡◌, ℕ, ◌+◌, ◌*◌, ◌<◌, Bool, false, is_some, List, Option, Some, None, Who, Caller, Worker, Reply, Queueing, Entry, next, number_started, number_finished, gives_ticket, is_done, Layout, item_of, one, is_slept, is_woke, is_frozen_now, is_thawed_now}
 use Rattle.cmwq_model.specs.declared.reply.Reply.TheVariants as reply
-use Rattle.cmwq_theory_steps.specs.Histories.{one}
-use Rattle.cmwq_theory_steps.specs.RoomSteps.{is_slept, is_woke, is_frozen_now, is_thawed_now}
 
 -- of what the caller runs and the item's unstarted queueing, the one that the reply ends
 abbrev pub ended_from : Reply → Option Queueing → Option Queueing → Option Queueing

@@ -1,13 +1,9 @@
 -- What becomes of whether an item runs and waits.
-use Rattle.std.specs.Prelude.{ℕ, ◌==◌, true, false, if◌then◌else◌, Option, Some, None, is_some}
-use Rattle.cmwq_model.specs.declared.record.Queueing.{Queueing}
-use Rattle.cmwq_model.specs.declared.reply.Reply.{Reply}
-use Rattle.cmwq_model.specs.Prelude.{number_finished}
-use Rattle.cmwq_inflight.specs.Flights.{Flight}
+use Rattle.cmwq_core.specs.Common.{ℕ, ◌==◌, true, false, if◌then◌else◌, Option, Some, None, is_some, Queueing, Reply, number_finished, Flight}
 use Rattle.cmwq_core.specs.declared.marks.Standing.{Standing}
 
-abbrev pub standing : Flight → Standing
-standing f = record { runs = is_some f.run; waits = is_some f.unstarted }
+abbrev pub flight_standing : Flight → Standing
+flight_standing f = record { runs = is_some f.run; waits = is_some f.unstarted }
 
 -- by a queueing that ends, one that starts, and one that is opened
 abbrev pub ended_at : Reply → Option Queueing → ℕ → Standing → Standing

@@ -1,16 +1,7 @@
 -- What callers see of a book: its history with the shape and the room, and what one more call makes of it.
-use Rattle.std.specs.Prelude.{◌≡◌, ℕ, Bool, false, not, if◌then◌else◌, List, ◌∷◌, find, Option, Some, option_map, is_some}
-use Rattle.std.specs.Option.{option_map_or}
-use Rattle.cmwq_model.specs.declared.id.ItemId.{ItemId}
-use Rattle.cmwq_model.specs.declared.id.Who.{Who}
-use Rattle.cmwq_model.specs.declared.call.Call.{Call}
-use Rattle.cmwq_model.specs.declared.entry.Entry.{Entry}
+use Rattle.cmwq_core.specs.Common.{◌≡◌, ℕ, Bool, false, not, if◌then◌else◌, List, ◌∷◌, find, Option, Some, option_map, is_some, option_map_or, ItemId, Who, Call, Entry, Queueing, Ticket, is_at, number_started, queueing_at, unended_tickets, waits_for, entry_for, bits, has_room, item_marked}
 use Rattle.cmwq_model.specs.declared.entry.Mark.{Mark}
-use Rattle.cmwq_model.specs.declared.record.Queueing.{Queueing}
-use Rattle.cmwq_model.specs.declared.record.Ticket.{Ticket}
-use Rattle.cmwq_model.specs.Prelude.{is_at, number_started, queueing_at, unended, waits_for, entry_for, bits, has_room}
-use Rattle.cmwq_theory_steps.specs.Marks.{item_marked}
-pub use Rattle.cmwq_state.specs.History.{History, past_in, with_entry, has_number}
+pub use Rattle.cmwq_state.specs.History.{History, past_in, with_entry, ticket_has_number}
 pub use Rattle.cmwq_state.specs.Tables.{IsThere}
 
 -- the entry that a call gets, and whether there is room for it
@@ -31,11 +22,11 @@ pub record IsItemOf (past : List Entry) (n : ℕ) (item : Option ItemId) : Type 
   pub is_its : item ≡ Some queueing.item
 
 -- It says the bits of each item after its entry: of the item that it names those that stand there, of each other item the old ones.
-abbrev pub names : Mark → ℕ → Bool
-names m i = is_at (item_named m) i
+abbrev pub mark_names : Mark → ℕ → Bool
+mark_names m i = is_at (item_named m) i
 
 abbrev pub bits_after : Mark → List Entry → ℕ → ℕ
-bits_after m past i = if names m i then m.bits else bits past i
+bits_after m past i = if mark_names m i then m.bits else bits past i
 
 pub record IsMark (h : History) (who : Who) (call : Call) (m : Mark) : Type 0 where
   pub is_next : m.entry ≡ next_entry h who call
@@ -48,4 +39,4 @@ abbrev pub is_done_waiting : List Entry → Ticket → Bool
 is_done_waiting past t = not (is_some (waits_for past t.number t.call))
 
 abbrev pub is_ready : List Entry → ℕ → Bool
-is_ready past n = option_map_or (is_done_waiting past) (find (has_number n) (unended past)) false
+is_ready past n = option_map_or (is_done_waiting past) (find (ticket_has_number n) (unended_tickets past)) false

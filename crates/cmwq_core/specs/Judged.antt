@@ -1,7 +1,5 @@
 -- What callers see of a judge: the entries that were right so far.
-use Rattle.std.specs.Prelude.{List, [], ◌∷◌, ◌++◌}
-use Rattle.cmwq_model.specs.declared.entry.Entry.{Entry}
-use Rattle.cmwq_model.specs.Prelude.{Layout}
+use Rattle.cmwq_core.specs.Common.{List, [], ◌∷◌, ◌++◌, Entry, Layout}
 
 -- the entries stand with the oldest first
 pub record Judged : Type 0 where

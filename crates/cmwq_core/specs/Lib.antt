@@ -1,3 +1,4 @@
+pub mod Common
 pub mod Flights
 pub mod History
 pub mod Plans

@@ -1,9 +1,5 @@
 -- What a book would make next.
-use Rattle.std.specs.Prelude.{◌≡◌, ◌+◌, ◌≤◌, true, length}
-use Rattle.cmwq_model.specs.declared.id.Who.{Who}
-use Rattle.cmwq_model.specs.declared.call.Call.{Call}
-use Rattle.cmwq_model.specs.Prelude.{has_time}
-use Rattle.cmwq_state.specs.Effects.{IsEffect}
+use Rattle.cmwq_core.specs.Common.{◌≡◌, ◌+◌, ◌≤◌, true, length, Who, Call, has_time, IsEffect}
 use Rattle.cmwq_core.specs.declared.plan.Plan.{Plan}
 use Rattle.cmwq_core.specs.History.{History, past_in, IsMark}
 

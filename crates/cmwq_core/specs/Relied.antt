@@ -1,8 +1,5 @@
 -- What a user relies on, of the history of every book.
-use Rattle.std.specs.Prelude.{◌≡◌, ℕ, true, List}
-use Rattle.cmwq_model.specs.declared.entry.Entry.{Entry}
-use Rattle.cmwq_model.specs.Prelude.{Layout, is_gone, IsLegal}
-use Rattle.cmwq_theory_steps.specs.Histories.{OfEachEntry}
+use Rattle.cmwq_core.specs.Common.{◌≡◌, ℕ, true, List, Entry, Layout, is_gone, IsLegal, OfEachEntry}
 use Rattle.cmwq_theory_laws.specs.Headline.{RunsInOneWorker, StartedOnce, StartsEarlier, WithinWidthAfter, StartsActive, RunsWithinActive, WaitsEndAfter, CancelsSettle}
 use Rattle.cmwq_theory_laws.specs.Gone.{NoneOpen, NoneBooked}
 

@@ -1,17 +1,17 @@
 //! The one answer to each call, read off a state.
 
 ghost use Rattle.std.specs.Prelude.{◌≡◌, ◌<◌, length, true};
-ghost use Rattle.cmwq_model.specs.Prelude.{past_of, ticket_of, answer, cancel_answer, cancel_sync_answer, destroy_answer, end_of_ticket, fired, first_due, flush_delayed_answer};
-ghost use Rattle.cmwq_model.specs.Prelude.{flush_item_answer, is_held_back, modify_answer, queue_answer, set_max_answer, taken_back, taken_back_for, wait_answer, waiting_for};
+ghost use Rattle.cmwq_model.specs.Prelude.{past_of, ticket_of, answer, cancel_answer, cancel_sync_answer, destroy_answer, end_of_ticket, fired_answer, first_due, flush_delayed_answer};
+ghost use Rattle.cmwq_model.specs.Prelude.{flush_item_answer, is_held_back, modify_answer, queue_answer, set_max_answer, taken_back_answer, taken_back_for, wait_answer, waiting_for};
 ghost use Rattle.cmwq_state.specs.Tables as tables;
 ghost use Rattle.cmwq_core.specs.Book.{IsCallInside};
 
 use crate::workers::own_answer;
-use cmwq_model::{Call, ItemId, Number, QueueId, Queueing, Reply, Who};
+use cmwq_model::{Call, ItemId, MOST_ACTIVE, Number, QueueId, Queueing, Reply, Who};
 use cmwq_state::State;
 
 fn taken_back(queueing: Option<Queueing>, is_booked: bool) -> Reply
-    ensures { result ≡ taken_back queueing is_booked }
+    ensures { result ≡ taken_back_answer queueing is_booked }
 {
     match queueing {
         Some(queueing) => Reply::Cancelled(queueing.number),
@@ -157,7 +157,7 @@ fn set_max_answer(state: &State, queue: QueueId, max_active: u32) -> Reply
     if state.is_gone(queue) {
         Reply::Gone
     } else {
-        Reply::Width(max_active.min(512))
+        Reply::Width(max_active.min(u32::from(MOST_ACTIVE)))
     }
 }
 
@@ -220,7 +220,7 @@ fn cancel_sync_answer(state: &State, who: Who, item: ItemId) -> Reply
 
 #[tactic(auto, unfolding(cmwq_model::specs::Answer::first_due))]
 fn fire_answer(state: &State) -> Reply
-    ensures { result ≡ fired (first_due (past_of state.now.entries)) (length (past_of state.now.entries)) }
+    ensures { result ≡ fired_answer (first_due (past_of state.now.entries)) (length (past_of state.now.entries)) }
 {
     match state.first_due() {
         Some(item) => Reply::Fired(item, state.number()),

@@ -1,5 +1,5 @@
 ghost use Rattle.std.specs.Prelude.{◌≡◌, ◌<◌, ◌≤◌, [], length, count_by, is_ok, IfOk, OnErr, IsTrue};
-ghost use Rattle.cmwq_model.specs.Prelude.{fits, IsLegal, still_open, needed, is_active};
+ghost use Rattle.cmwq_model.specs.Prelude.{fits, IsLegal, still_open, room_needed, is_active};
 ghost use Rattle.cmwq_model.specs.Calls as calls;
 ghost use Rattle.cmwq_model.specs.Legal as legal;
 ghost use Rattle.cmwq_state.specs.Tables as tables;
@@ -48,7 +48,7 @@ impl Book {
     pub fn len(&self) -> u64
         ensures len { result ≡ length self.now.entries }
         ensures within { length self.now.entries ≤ self.now.room }
-        ensures needed { needed self.now.layout (past_in self.now) ≤ self.now.room }
+        ensures needed { room_needed self.now.layout (past_in self.now) ≤ self.now.room }
         ensures few { self.now.room ≤ 1010000 }
         ensures legal { IsLegal self.now.layout (past_in self.now) }
     {

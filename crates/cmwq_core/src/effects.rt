@@ -2,13 +2,13 @@
 
 ghost use Rattle.std.specs.Prelude.{◌≡◌, ◌<◌, ◌≤◌, ◌∷◌, false, length, true};
 ghost use Rattle.std.specs.Option.{option_map_or};
-ghost use Rattle.cmwq_model.specs.Prelude.{fits, owed, booked_by, booking_of, is_booked, settles, item_of, IsLegal, past_of, opening, opens, place_called, place_wanted};
-ghost use Rattle.cmwq_model.specs.Prelude.{queued_at, unstarted, gives_ticket, ticket_in};
+ghost use Rattle.cmwq_model.specs.Prelude.{fits, owed, booking_of, is_booked, item_number, item_of, IsLegal, past_of, opening, place_wanted};
+ghost use Rattle.cmwq_model.specs.Prelude.{queued_at, unstarted_queueing};
 ghost use Rattle.cmwq_theory_steps.specs.Endings.{ending};
 ghost use Rattle.cmwq_theory_steps.specs.Histories.{one};
 ghost use Rattle.cmwq_theory_steps.specs.RoomSteps.{settles_booked};
 ghost use Rattle.cmwq_theory_steps.specs.TicketSteps.{ticket_asked, ticket_ended};
-ghost use Rattle.cmwq_state.specs.Effects.{IsEffect, item_number, settled_by};
+ghost use Rattle.cmwq_state.specs.Effects.{IsEffect, settled_by};
 ghost use Rattle.cmwq_core.specs.Effects.{IsInside, ended_from, ends_early, paid_alone, taken_alone, next_for, started_from};
 ghost use Rattle.cmwq_core.specs.History.{next_entry};
 ghost use Rattle.std.specs.Prelude.{option_and_then};
@@ -20,135 +20,14 @@ use crate::answers::answer;
 use cmwq_model::{Booking, Call, Entry, ItemId, Number, Place, Queueing, Reply, Ticket, Who};
 use cmwq_state::{Effect, State};
 
-/// The item of an entry.
-pub(crate) fn item_of(entry: Entry) -> Option<ItemId>
-    ensures { item_number result ≡ item_of entry }
-{
-    match entry.call {
-        Call::Queue { item, .. }
-        | Call::Delay { item, .. }
-        | Call::Modify { item, .. }
-        | Call::Cancel { item }
-        | Call::FlushItem { item }
-        | Call::FlushDelayed { item }
-        | Call::CancelSync { item } => Some(item),
-        _ => match entry.reply {
-            Reply::Fired(item, _) => Some(item),
-            _ => None,
-        },
-    }
-}
-
-fn settles(reply: Reply) -> bool
-    ensures { result ≡ settles reply }
-{
-    matches!(
-        reply,
-        Reply::Yes(_)
-            | Reply::Booked(_)
-            | Reply::Again(_)
-            | Reply::Rebooked(_)
-            | Reply::Unbooked
-            | Reply::Fired(_, _)
-            | Reply::TicketQueued(_)
-            | Reply::TicketUnbooked(_)
-    )
-}
-
-fn opens(reply: Reply) -> bool
-    ensures { result ≡ opens reply }
-{
-    matches!(
-        reply,
-        Reply::Yes(_) | Reply::Again(_) | Reply::Fired(_, _) | Reply::TicketQueued(_)
-    )
-}
-
-fn gives_ticket(reply: Reply) -> bool
-    ensures { result ≡ gives_ticket reply }
-{
-    matches!(
-        reply,
-        Reply::Ticket(_)
-            | Reply::TicketQueued(_)
-            | Reply::TicketCancelled(_, _)
-            | Reply::TicketUnbooked(_)
-            | Reply::TicketNo(_)
-    )
-}
-
 /// The item that is booked anew, or no more.
 fn settled_by(entry: Entry) -> Option<ItemId>
     ensures { item_number result ≡ settled_by entry }
 {
-    if settles(entry.reply) {
-        item_of(entry)
+    if entry.reply.settles() {
+        entry.item()
     } else {
         None
-    }
-}
-
-/// The booking that a call makes for a tick.
-fn booked_for(call: Call, number: Number, due: u64) -> Option<Booking>
-    ensures { result ≡ booked_by call number due }
-{
-    match call {
-        Call::Delay {
-            item,
-            queue,
-            cpu,
-            ..
-        }
-        | Call::Modify {
-            item,
-            queue,
-            cpu,
-            ..
-        } => Some(Booking {
-            item,
-            place: Place { queue, cpu },
-            due,
-            number,
-        }),
-        _ => None,
-    }
-}
-
-/// The booking that an entry makes.
-fn booked_by(entry: Entry, number: Number) -> Option<Booking>
-    ensures { result ≡ booking_of entry number }
-{
-    match entry.reply {
-        Reply::Booked(due) | Reply::Rebooked(due) => booked_for(entry.call, number, due),
-        _ => None,
-    }
-}
-
-/// The ticket that an entry gives.
-fn ticket_in(entry: Entry, number: Number) -> Option<Ticket>
-    ensures { result ≡ ticket_in entry number }
-{
-    if !gives_ticket(entry.reply) {
-        return None;
-    }
-    match entry.who {
-        Who::Caller(caller) => Some(Ticket {
-            caller,
-            call: entry.call,
-            number,
-        }),
-        Who::Worker(_) => None,
-    }
-}
-
-fn place_called(call: Call) -> Option<Place>
-    ensures { result ≡ place_called call }
-{
-    match call {
-        Call::Queue { queue, cpu, .. }
-        | Call::Delay { queue, cpu, .. }
-        | Call::Modify { queue, cpu, .. } => Some(Place { queue, cpu }),
-        _ => None,
     }
 }
 
@@ -185,7 +64,7 @@ fn taken_alone(reply: Reply) -> u64
     ensures taken { result ≡ taken_alone reply }
     ensures few { result ≤ 1 }
 {
-    if gives_ticket(reply) {
+    if reply.gives_ticket() {
         return 1;
     }
     match reply {
@@ -228,9 +107,9 @@ fn run_of(state: &State, who: Who) -> Option<Queueing>
 /// The unstarted queueing of the entry's item.
 fn unstarted_of(state: &State, entry: Entry) -> Option<Queueing>
     requires { IsInside state.now.layout entry }
-    ensures { result ≡ option_and_then (unstarted (past_of state.now.entries)) (item_of entry) }
+    ensures { result ≡ option_and_then (unstarted_queueing (past_of state.now.entries)) (item_of entry) }
 {
-    match item_of(entry) {
+    match entry.item() {
         Some(item) => state.unstarted(item),
         None => None,
     }
@@ -274,7 +153,7 @@ fn place_wanted(state: &State, entry: Entry, item: ItemId) -> Option<Place>
     requires { item.0 < state.now.layout.items }
     ensures { result ≡ place_wanted (past_of state.now.entries) entry.call item.0 }
 {
-    match place_called(entry.call) {
+    match entry.call.place_called() {
         Some(place) => Some(place),
         None => state.timer(item).map(|timer| timer.place),
     }
@@ -304,10 +183,10 @@ fn opened_by(state: &State, entry: Entry) -> Option<Queueing>
     requires { IsInside state.now.layout entry }
     ensures { result ≡ opening (past_of state.now.entries) entry }
 {
-    if !opens(entry.reply) {
+    if !entry.reply.opens() {
         return None;
     }
-    match item_of(entry) {
+    match entry.item() {
         None => None,
         Some(item) => match place_wanted(state, entry, item) {
             Some(place) => Some(queued_at(state, item, place)),
@@ -321,7 +200,7 @@ fn is_item_booked(state: &State, entry: Entry) -> bool
     requires { IsInside state.now.layout entry }
     ensures { result ≡ option_map_or (is_booked (past_of state.now.entries)) (item_of entry) false }
 {
-    match item_of(entry) {
+    match entry.item() {
         Some(item) => state.is_booked(item),
         None => false,
     }
@@ -332,7 +211,7 @@ fn settles_booked(state: &State, entry: Entry) -> bool
     requires { IsInside state.now.layout entry }
     ensures { result ≡ settles_booked (past_of state.now.entries) entry }
 {
-    settles(entry.reply) && is_item_booked(state, entry)
+    entry.reply.settles() && is_item_booked(state, entry)
 }
 
 /// The ticket that an entry ends.
@@ -405,7 +284,7 @@ fn effect_of(state: &State, entry: Entry) -> Effect
     let ended = ended_by(state, entry);
     let started = started_by(state, entry);
     let opened = opened_by(state, entry);
-    let booked = booked_by(entry, number);
+    let booked = entry.booking(number);
     let owing = owed_with(state, entry, ended, opened, booked);
     Effect {
         entry,
@@ -413,7 +292,7 @@ fn effect_of(state: &State, entry: Entry) -> Effect
         started,
         opened,
         done: done_by(state, entry),
-        begun: ticket_in(entry, number),
+        begun: entry.ticket(number),
         settled: settled_by(entry),
         booked,
         owing,

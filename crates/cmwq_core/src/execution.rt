@@ -1,7 +1,9 @@
 ghost use Rattle.std.specs.Prelude.{◌≡◌, ◌<◌, ◌≤◌, [], length, count_by, is_ok, IfOk, OnErr, IsTrue};
-ghost use Rattle.cmwq_model.specs.Prelude.{fits, most_room, IsLegal, still_open, needed, is_active};
+ghost use Rattle.cmwq_model.specs.Prelude.{fits, most_room, IsLegal, still_open, room_needed, is_active};
 ghost use Rattle.cmwq_model.specs.Calls as calls;
 ghost use Rattle.cmwq_model.specs.Legal as legal;
+ghost use Rattle.cmwq_model.specs.Widths as widths;
+ghost use Rattle.cmwq_state.specs.Pwqs.{AreActiveCounts};
 ghost use Rattle.cmwq_state.specs.Tables as tables;
 ghost use Rattle.cmwq_core.specs.History.{past_in, next_entry, takes, with_entry, IsMark, is_ready};
 ghost use Rattle.cmwq_core.specs.Plans.{IsPlan};
@@ -10,7 +12,7 @@ ghost use Rattle.cmwq_core.specs.Relied.{IsReliable};
 use crate::effects::{effect, next_entry as predicted};
 use crate::marks::{bits_of, mark};
 use crate::plan::Plan;
-use cmwq_model::{Call, Entry, ItemId, Mark, NoMemory, Number, Reply, Shape, Who};
+use cmwq_model::{Call, Entry, ItemId, Mark, NoMemory, Number, QueueId, Reply, Shape, Who};
 use cmwq_state::State;
 use std::alloc::Global;
 use std::marker::Model;
@@ -48,7 +50,7 @@ impl Execution {
     pub fn len(&self) -> u64
         ensures len { result ≡ length self.now.entries }
         ensures within { length self.now.entries ≤ self.now.room }
-        ensures needed { needed self.now.layout (past_in self.now) ≤ self.now.room }
+        ensures needed { room_needed self.now.layout (past_in self.now) ≤ self.now.room }
         ensures few { self.now.room ≤ most_room }
         ensures legal { IsLegal self.now.layout (past_in self.now) }
     {
@@ -165,6 +167,21 @@ impl Execution {
         ensures { result ≡ count_by (is_active self.now.layout (past_in self.now)) (still_open (past_in self.now)) }
     {
         self.state.active_count()
+    }
+
+    /// How many queueings of each queue are active on each CPU: four numbers a queue.
+    pub fn active_counts(&self) -> &[u32]
+        ensures { AreActiveCounts self.now.layout (past_in self.now) result.now }
+    {
+        self.state.active_counts()
+    }
+
+    /// How wide a queue is.
+    pub fn width(&self, queue: QueueId) -> u32
+        requires { queue.0 < length self.now.layout.queues }
+        ensures { result ≡ widths.width self.now.layout (past_in self.now) queue.0 }
+    {
+        self.state.width(queue)
     }
 
     /// What a user relies on holds of the history. Nothing runs but a look at its length.

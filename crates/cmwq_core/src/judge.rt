@@ -7,7 +7,7 @@ ghost use Rattle.cmwq_core.specs.Judged.{seen_too};
 
 use crate::effects::{effect, next_entry};
 use cmwq_model::{Call, Entry, Illegal, NoMemory, Shape, Wanted};
-use cmwq_state::{State, ticks_of};
+use cmwq_state::State;
 use std::alloc::Global;
 use std::marker::Model;
 
@@ -136,7 +136,7 @@ fn verdict(state: &mut State, entries: &[Entry]) -> Result<(), Illegal>
     for at in 0..entries.len() {
         let entry = entries[at];
         // it shows that they are few, on which the time rests
-        let _ticks = ticks_of(entry.call);
+        let _ticks = entry.call.ticks();
         if let Some(wanted) = judged(state, entry) {
             return Err(Illegal {
                 at: at as u64,

@@ -3,12 +3,12 @@
 ghost use Rattle.std.specs.Prelude.{◌≡◌, ℕ, ◌+◌, ◌<◌, ◌∷◌, Some, if◌then◌else◌, is_some, length};
 ghost use Rattle.cmwq_model.specs.Prelude.{is_booked, is_at, bits, past_of};
 ghost use Rattle.cmwq_theory_steps.specs.Marks.{item_marked};
-ghost use Rattle.cmwq_state.specs.Effects.{IsEffect, item_number};
+ghost use Rattle.cmwq_state.specs.Effects.{IsEffect};
+ghost use Rattle.cmwq_model.specs.Prelude.{item_number};
 ghost use Rattle.cmwq_refinement.specs.Flights.{flight_of};
-ghost use Rattle.cmwq_core.specs.Flights.{ended_at, opened_at, standing, started_at};
+ghost use Rattle.cmwq_core.specs.Flights.{ended_at, opened_at, flight_standing, started_at};
 ghost use Rattle.cmwq_core.specs.History.{IsMark};
 
-use crate::effects::item_of;
 use cmwq_model::{ItemId, Mark, Queueing, Reply};
 use cmwq_state::{Effect, State};
 
@@ -85,7 +85,7 @@ fn booked_after(effect: Effect, item: ItemId, is_booked: bool) -> bool
 
 fn item_standing(state: &State, item: ItemId) -> Standing
     requires { item.0 < state.now.layout.items }
-    ensures { result ≡ standing (flight_of (past_of state.now.entries) item.0) }
+    ensures { result ≡ flight_standing (flight_of (past_of state.now.entries) item.0) }
 {
     Standing {
         runs: state.item_run(item).is_some(),
@@ -97,7 +97,7 @@ fn item_standing(state: &State, item: ItemId) -> Standing
 fn standing_after(state: &State, effect: Effect, item: ItemId) -> Standing
     requires there { item.0 < state.now.layout.items }
     requires is { IsEffect state.now.layout (past_of state.now.entries) effect }
-    ensures { result ≡ standing (flight_of (effect.entry ∷ past_of state.now.entries) item.0) }
+    ensures { result ≡ flight_standing (flight_of (effect.entry ∷ past_of state.now.entries) item.0) }
 {
     let ended = ended_at(
         effect.entry.reply,
@@ -134,7 +134,7 @@ fn marked(state: &State, effect: Effect) -> Option<ItemId>
     ensures is { item_number result ≡ item_marked (past_of state.now.entries) effect.entry }
     ensures there { (item : ItemId) → result ≡ Some item → item.0 < state.now.layout.items }
 {
-    match item_of(effect.entry) {
+    match effect.entry.item() {
         Some(item) => Some(item),
         None => match effect.started.or(effect.ended) {
             Some(queueing) => Some(queueing.item),

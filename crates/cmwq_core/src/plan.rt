@@ -20,6 +20,20 @@ impl Plan {
         self.effect.ended
     }
 
+    /// The queueing that it starts.
+    pub fn started(&self) -> Option<Queueing>
+        ensures { result ≡ self.now.effect.started }
+    {
+        self.effect.started
+    }
+
+    /// The queueing that it opens.
+    pub fn opened(&self) -> Option<Queueing>
+        ensures { result ≡ self.now.effect.opened }
+    {
+        self.effect.opened
+    }
+
     /// The ticket that it ends.
     pub fn done(&self) -> Option<Ticket>
         ensures { result ≡ self.now.effect.done }

@@ -4,7 +4,7 @@ ghost use Rattle.std.specs.Prelude.{◌≡◌, option_map};
 ghost use Rattle.cmwq_model.specs.declared.id.Who.TheVariants.{Worker};
 ghost use Rattle.cmwq_model.specs.Prelude.{own_answer, worker_answer, retire_answer, take_answer, start_of, finish_answer, past_of};
 ghost use Rattle.cmwq_model.specs.Active as active;
-ghost use Rattle.cmwq_refinement.specs.Told.{number_of_queueing};
+ghost use Rattle.cmwq_refinement.specs.ByNumber.{number_of_queueing};
 ghost use Rattle.cmwq_state.specs.Tables as tables;
 
 use cmwq_model::{Call, Number, Reply, Who, WorkerId};

@@ -1,15 +1,10 @@
 -- The open numbers of items, and what a wait for an item finds among them.
-use Rattle.std.proofs.Common.{◌≡◌, ℕ, ◌<◌, ◌≤◌, Bool, true, false, not, cond, List, [], ◌∷◌, length, get_or, set, replicate, zero, suc, Option, Some, None, IfSome, is_some, sym, ap, refl, ◌∙◌, arith, ⊎_elim}
-use Rattle.std.specs.Prelude.{map, find, All, AllPairs, Contains, ◌↔◌}
-use Rattle.std.proofs.lemmas.Bool.{cases_lt, false≢true}
-use Rattle.std.proofs.lemmas.Bool.Decides.{nat_tests}
-use Rattle.std.proofs.lemmas.List.{get_or-map, get_or_past, length-map, map-set}
-use Rattle.std.proofs.lemmas.List.Elements.{All-cons}
+use Rattle.cmwq_flush.specs.Common.{◌≡◌, ℕ, ◌<◌, ◌≤◌, Bool, true, false, not, cond, List, [], ◌∷◌, length, get_or, set, replicate, zero, suc, Option, Some, None, IfSome, is_some, sym, ap, refl, ◌∙◌, arith, ⊎_elim, map, find, All, AllPairs, Contains, ◌↔◌, cases_lt, false≢true, nat_tests, get_or-map, get_or_past, length-map, map-set, All-cons}
 use Rattle.cmwq_flush.specs.declared.barrier.Barrier.{Barrier}
 use Rattle.cmwq_flush.specs.declared.barrier.Open.{Open}
-use Rattle.cmwq_flush.specs.Numbers.{IsRising}
-use Rattle.cmwq_flush.specs.Waits.{numbers_in, IsOlder, HasTicketAt}
-use Rattle.cmwq_flush.specs.BarrierBook.{BarrierBook, ticket_in, numbers_before, is_up_to}
+use Rattle.cmwq_flush.specs.Numbers.{AreRising}
+use Rattle.cmwq_flush.specs.Waits.{numbers_in, IsOlderBarrier, BarriersHaveTicketAt}
+use Rattle.cmwq_flush.specs.BarrierBook.{BarrierBook, ticket_of_barrier, numbers_before, is_up_to}
 use Rattle.cmwq_flush.proofs.Search.{find_at_key, find_none}
 
 pub map-replicate : {X Y : Type 0} (f : X → Y) (n : ℕ) (x : X) → map f (replicate n x) ≡ replicate n (f x)
@@ -33,21 +28,21 @@ pub row_written : (items : List Open) (j i : ℕ) (o : Open) (ns : List ℕ) →
 row_written items j i o ns here e = rw (here, ← e) (map-set numbers_in items i o)
 
 -- what a wait is for
-pub numbers_before-at : (b : BarrierBook) (items : List Open) (t place : ℕ) (w : Barrier) (o : Open) → b.opened ≡ map numbers_in items → AllPairs IsOlder b.barriers → HasTicketAt b.barriers t place → w ≡ get_or b.barriers place w → w.item.0 < length items → o ≡ get_or items w.item.0 o → numbers_before b t ≡ numbers_in o
+pub numbers_before-at : (b : BarrierBook) (items : List Open) (t place : ℕ) (w : Barrier) (o : Open) → b.opened ≡ map numbers_in items → AllPairs IsOlderBarrier b.barriers → BarriersHaveTicketAt b.barriers t place → w ≡ get_or b.barriers place w → w.item.0 < length items → o ≡ get_or items w.item.0 o → numbers_before b t ≡ numbers_in o
 numbers_before-at b items t place w o opened rise at is_w lt is_o =
-    rw (find_at_key ticket_in b.barriers t rise w place at, ← is_w, opened) (numbers_at items w.item.0 o lt is_o)
+    rw (find_at_key ticket_of_barrier b.barriers t rise w place at, ← is_w, opened) (numbers_at items w.item.0 o lt is_o)
 
-all_above : (n x : ℕ) (ns : List ℕ) → IsRising (x ∷ ns) → n ≤ x → All (λ m. n ≤ m) (x ∷ ns)
+all_above : (n x : ℕ) (ns : List ℕ) → AreRising (x ∷ ns) → n ≤ x → All (λ m. n ≤ m) (x ∷ ns)
 all_above n x ns rise le k d lt = ⊎_elim (λ (later : 0 < k). let above = rise 0 k d later lt in omega arith) (λ (first : k ≤ 0). let here : k ≡ 0 = omega arith in rw here le) (cases_lt 0 k)
 
 -- the first number up to t is the least
-least_by : (first : Bool) (t x : ℕ) (ns : List ℕ) → is_up_to t x ≡ first → IsRising (x ∷ ns) → IfSome (cond first (Some x) (find (is_up_to t) ns)) (λ n. All (λ m. n ≤ m) (x ∷ ns))
+least_by : (first : Bool) (t x : ℕ) (ns : List ℕ) → is_up_to t x ≡ first → AreRising (x ∷ ns) → IfSome (cond first (Some x) (find (is_up_to t) ns)) (λ n. All (λ m. n ≤ m) (x ∷ ns))
 least_by true t x ns is rise = all_above x x ns rise (omega arith)
 least_by false t x ns is rise =
     let above : All (λ m. is_up_to t m ≡ false) ns = λ k d lt. let more = rise 0 (suc k) d (omega arith) (omega arith) in grind (arith, nat_tests) in
     rw (find_none (is_up_to t) ns above) tt
 
-pub first_is_least : (t : ℕ) (ns : List ℕ) (o : Option ℕ) → o ≡ find (is_up_to t) ns → IsRising ns → IfSome o (λ n. All (λ m. n ≤ m) ns)
+pub first_is_least : (t : ℕ) (ns : List ℕ) (o : Option ℕ) → o ≡ find (is_up_to t) ns → AreRising ns → IfSome o (λ n. All (λ m. n ≤ m) ns)
 first_is_least t [] o e rise = rw e tt
 first_is_least t (x ∷ ns) o e rise = rw e (least_by (is_up_to t x) t x ns refl rise)
 

@@ -1,21 +1,11 @@
 -- What each call keeps of the order of a flush book.
-use Rattle.std.proofs.Common.{◌≡◌, ℕ, ◌+◌, ◌-◌, ◌<◌, ◌≤◌, Bool, List, [], ◌∷◌, ◌++◌, length, suc, ⊎_elim, refl, ◌∙◌, arith}
-use Rattle.std.specs.Prelude.{All, AllPairs, map, filter}
-use Rattle.std.specs.List.{remove}
-use Rattle.std.specs.List.Sorted.{IsNonDecreasingBy}
-use Rattle.std.proofs.lemmas.List.{append_assoc, map_push, map-append, take-map, drop-map, length-map, length-append, get_or_append_left, get_or-append-add, get_or-map}
-use Rattle.std.proofs.lemmas.List.Elements.{All-push, All-weaker, All-filter, All-take, All-drop, All-append}
-use Rattle.std.proofs.lemmas.List.Edits.{length-remove, remove-append_left}
-use Rattle.std.proofs.lemmas.List.Quantifiers.{all_pairs_push, all_pairs_remove}
+use Rattle.cmwq_flush.specs.Common.{◌≡◌, ℕ, ◌+◌, ◌-◌, ◌<◌, ◌≤◌, Bool, List, [], ◌∷◌, ◌++◌, length, suc, ⊎_elim, refl, ◌∙◌, arith, All, AllPairs, map, filter, remove, IsNonDecreasingBy, append_assoc, map_push, map-append, take-map, drop-map, length-map, length-append, get_or_append_left, get_or-append-add, get_or-map, All-push, All-weaker, All-filter, All-take, All-drop, All-append, length-remove, remove-append_left, all_pairs_push, all_pairs_remove, length-filter, count_by-le-length, cases_lt, IsNonDecreasingBy-push}
 use Rattle.std.proofs.lemmas.List.Kept.{AllPairs-filter, AllPairs-cons}
-use Rattle.std.proofs.lemmas.List.Sums.{length-filter, count_by-le-length}
-use Rattle.std.proofs.lemmas.Bool.{cases_lt}
-use Rattle.std.proofs.lemmas.List.Sorted.{IsNonDecreasingBy-push}
 use Rattle.cmwq_flush.specs.declared.served.Served.{Served}
 use Rattle.cmwq_flush.specs.declared.tally.Row.{Row}
-use Rattle.cmwq_flush.specs.Numbers.{IsBelow, IsRising, is_other, without}
+use Rattle.cmwq_flush.specs.Numbers.{IsBelowNumber, AreRising, is_other_number, without}
 use Rattle.cmwq_flush.specs.Rows.{is_other_row, without_row}
-use Rattle.cmwq_flush.specs.Served.{ticket_of, bound_of, IsOlder}
+use Rattle.cmwq_flush.specs.Served.{ticket_of_served, bound_of, IsOlderServed}
 use Rattle.cmwq_flush.specs.FlushBook.{FlushBook, flush_from, flush_tickets, HasRoom}
 use Rattle.cmwq_flush.specs.Colouring.{IsOrderly}
 
@@ -55,7 +45,7 @@ orderly_overflow b rows t later has_room is = record {
   older = is.older;
   bounds_rise = is.bounds_rise;
   bounds = is.bounds;
-  tickets_rise = rw (← append_assoc (map ticket_of b.served) b.overflow (t ∷ [])) (all_pairs_push IsBelow (flush_tickets b) t is.tickets_rise later);
+  tickets_rise = rw (← append_assoc (map ticket_of_served b.served) b.overflow (t ∷ [])) (all_pairs_push IsBelowNumber (flush_tickets b) t is.tickets_rise later);
   drains_rise = is.drains_rise;
   few = is.few;
   room = let longer = length-append b.overflow (t ∷ []) in omega arith;
@@ -85,12 +75,12 @@ pub All_right : {X : Type 0} (P : X → Type 0) (xs ys : List X) → All P (xs +
 All_right P xs ys all k d lt = rw (← get_or-append-add xs ys k d) (all (length xs + k) d (rw length-append (omega arith)))
 
 -- what rises still does where the second part is filtered
-rising_filter : (p : ℕ → Bool) (xs ys : List ℕ) → IsRising (xs ++ ys) → IsRising (xs ++ filter p ys)
-rising_filter p [] ys rise = AllPairs-filter IsBelow p ys rise
+rising_filter : (p : ℕ → Bool) (xs ys : List ℕ) → AreRising (xs ++ ys) → AreRising (xs ++ filter p ys)
+rising_filter p [] ys rise = AllPairs-filter IsBelowNumber p ys rise
 rising_filter p (x ∷ xs) ys rise =
-    let above : All (IsBelow x) (xs ++ ys) = λ k d lt. rise 0 (suc k) d (omega arith) (omega arith) in
-    let tail : IsRising (xs ++ ys) = λ i j d lt within. rise (suc i) (suc j) d (omega arith) (omega arith) in
-    AllPairs-cons IsBelow x (xs ++ filter p ys) (All-append (IsBelow x) xs (filter p ys) (All_left (IsBelow x) xs ys above) (All-filter p (IsBelow x) ys (All_right (IsBelow x) xs ys above))) (rising_filter p xs ys tail)
+    let above : All (IsBelowNumber x) (xs ++ ys) = λ k d lt. rise 0 (suc k) d (omega arith) (omega arith) in
+    let tail : AreRising (xs ++ ys) = λ i j d lt within. rise (suc i) (suc j) d (omega arith) (omega arith) in
+    AllPairs-cons IsBelowNumber x (xs ++ filter p ys) (All-append (IsBelowNumber x) xs (filter p ys) (All_left (IsBelowNumber x) xs ys above) (All-filter p (IsBelowNumber x) ys (All_right (IsBelowNumber x) xs ys above))) (rising_filter p xs ys tail)
 
 pub length_filter_le : (p : ℕ → Bool) (xs : List ℕ) → length (filter p xs) ≤ length xs
 length_filter_le p xs = rw length-filter (count_by-le-length p xs)
@@ -105,9 +95,9 @@ orderly_removed b rows i lt is = record {
   bounds_rise = non_decreasing_remove b.served i lt is.bounds_rise;
   bounds = All-append (IsBounded b.next) _ _ (All-take (IsBounded b.next) i b.served is.bounds) (All-drop (IsBounded b.next) (suc i) b.served is.bounds);
   tickets_rise =
-      let within : i < length (map ticket_of b.served) = rw length-map lt in
+      let within : i < length (map ticket_of_served b.served) = rw length-map lt in
       let whole : i < length (flush_tickets b) = rw length-append (omega arith) in
-      rw (map-remove ticket_of b.served i, ← remove-append_left (map ticket_of b.served) b.overflow i within) (all_pairs_remove IsBelow (flush_tickets b) i whole is.tickets_rise);
+      rw (map-remove ticket_of_served b.served i, ← remove-append_left (map ticket_of_served b.served) b.overflow i within) (all_pairs_remove IsBelowNumber (flush_tickets b) i whole is.tickets_rise);
   drains_rise = is.drains_rise;
   few = let shorter = length-remove b.served i lt in let before = is.few in omega arith;
   room = let shorter = length-remove b.served i lt in let before = is.room in omega arith;
@@ -119,10 +109,10 @@ orderly_left b rows t is = record {
   older = is.older;
   bounds_rise = is.bounds_rise;
   bounds = is.bounds;
-  tickets_rise = rising_filter (is_other t) (map ticket_of b.served) b.overflow is.tickets_rise;
+  tickets_rise = rising_filter (is_other_number t) (map ticket_of_served b.served) b.overflow is.tickets_rise;
   drains_rise = is.drains_rise;
   few = is.few;
-  room = let shorter = length_filter_le (is_other t) b.overflow in let before = is.room in omega arith;
+  room = let shorter = length_filter_le (is_other_number t) b.overflow in let before = is.room in omega arith;
 }
 
 -- a drain begins, and ends
@@ -132,20 +122,20 @@ orderly_drain_ended b rows t is = record {
   bounds_rise = is.bounds_rise;
   bounds = is.bounds;
   tickets_rise = is.tickets_rise;
-  drains_rise = AllPairs-filter IsBelow (is_other t) b.drains is.drains_rise;
+  drains_rise = AllPairs-filter IsBelowNumber (is_other_number t) b.drains is.drains_rise;
   few = is.few;
-  room = let shorter = length_filter_le (is_other t) b.drains in let before = is.room in omega arith;
+  room = let shorter = length_filter_le (is_other_number t) b.drains in let before = is.room in omega arith;
 }
 
 -- the tickets of each kind rise by themselves
-pub rising_served : (served : List Served) (overflow : List ℕ) → IsRising (map ticket_of served ++ overflow) → AllPairs IsOlder served
+pub rising_served : (served : List Served) (overflow : List ℕ) → AreRising (map ticket_of_served served ++ overflow) → AllPairs IsOlderServed served
 rising_served served overflow rise i j d lt within =
     let whole = rise i j d.ticket lt (rw (length-append, length-map) (omega arith)) in
-    let at_i = get_or_append_left (map ticket_of served) overflow d.ticket i (rw length-map (omega arith)) ∙ get_or-map ticket_of served i d d.ticket (omega arith) in
-    let at_j = get_or_append_left (map ticket_of served) overflow d.ticket j (rw length-map within) ∙ get_or-map ticket_of served j d d.ticket within in
+    let at_i = get_or_append_left (map ticket_of_served served) overflow d.ticket i (rw length-map (omega arith)) ∙ get_or-map ticket_of_served served i d d.ticket (omega arith) in
+    let at_j = get_or_append_left (map ticket_of_served served) overflow d.ticket j (rw length-map within) ∙ get_or-map ticket_of_served served j d d.ticket within in
     omega arith
 
-pub rising_overflow : (xs ys : List ℕ) → IsRising (xs ++ ys) → IsRising ys
+pub rising_overflow : (xs ys : List ℕ) → AreRising (xs ++ ys) → AreRising ys
 rising_overflow xs ys rise i j d lt within =
     let whole = rise (length xs + i) (length xs + j) d (omega arith) (rw length-append (omega arith)) in
     let at_i = get_or-append-add xs ys i d in

@@ -1,21 +1,11 @@
 -- What each call keeps of the colouring, and what the counts of colours say of a flush.
-use Rattle.std.proofs.Common.{◌≡◌, ◌≢◌, ℕ, ◌+◌, ◌<◌, ◌≤◌, true, false, cond, List, [], ◌∷◌, ◌++◌, length, get_or, take, suc, sym, ap, ◌∙◌, arith, ⊎_elim}
-use Rattle.std.specs.Prelude.{All, AllPairs}
-use Rattle.std.specs.List.{remove}
-use Rattle.std.specs.List.Sorted.{IsNonDecreasingBy}
-use Rattle.std.proofs.lemmas.Bool.{cases_lt}
-use Rattle.std.proofs.lemmas.Bool.Decides.{nat_tests}
-use Rattle.std.proofs.lemmas.List.{get_or-take, length-take-le, get_or_append_left, get_or_default, length-append}
-use Rattle.std.proofs.lemmas.List.Elements.{All-push, All-filter, All-take, All-drop, All-append}
-use Rattle.std.proofs.lemmas.List.Edits.{length-remove, get_or-remove_below, get_or-remove_above}
-use Rattle.std.proofs.lemmas.List.Quantifiers.{all_pairs_push, all_pairs_remove}
-use Rattle.std.proofs.lemmas.List.Sums.{get_or-le-sum_by, sum_by-le}
+use Rattle.cmwq_flush.specs.Common.{◌≡◌, ◌≢◌, ℕ, ◌+◌, ◌<◌, ◌≤◌, true, false, cond, List, [], ◌∷◌, ◌++◌, length, get_or, take, suc, sym, ap, ◌∙◌, arith, ⊎_elim, All, AllPairs, remove, IsNonDecreasingBy, cases_lt, nat_tests, get_or-take, length-take-le, get_or_append_left, get_or_default, length-append, All-push, All-filter, All-take, All-drop, All-append, length-remove, get_or-remove_below, get_or-remove_above, all_pairs_push, all_pairs_remove, get_or-le-sum_by, sum_by-le}
 use Rattle.cmwq_flush.specs.declared.served.Served.{Served}
 use Rattle.cmwq_flush.specs.declared.tally.Row.{Row}
 use Rattle.cmwq_flush.specs.Rows.{has_colour, is_unused, without_row, is_other_row}
 use Rattle.cmwq_flush.specs.Served.{bound_of, first_waiting}
 use Rattle.cmwq_flush.specs.FlushBook.{flush_from}
-use Rattle.cmwq_flush.specs.Colouring.{Differs, HasRightColour, IsColouring, AreUnused, WaitsForNothing}
+use Rattle.cmwq_flush.specs.Colouring.{DiffersInColour, HasRightColour, IsColouring, AreUnused, WaitsForNothing}
 use Rattle.cmwq_flush.proofs.Waiting.{first_waiting-push, first_waiting-none, first_waiting-remove, first_waiting-le, first_waiting_at_most, first_waiting_after}
 
 -- a queueing is opened after all were served, with the current colour
@@ -53,7 +43,7 @@ module _ (colours : List ℕ) (served : List Served) (rows : List Row) (i : ℕ)
       let shorter = length-remove colours i (omega arith) in
       get_or_append_left (remove colours i) (get_or colours i 0 ∷ []) 0 k (omega arith) ∙ get_or-remove_above colours i 0 k after (omega arith)
 
-  freed_differs : (k d : ℕ) → AllPairs Differs colours → k < length (remove colours i) → Differs (get_or (remove colours i) k d) (get_or colours i 0)
+  freed_differs : (k d : ℕ) → AllPairs DiffersInColour colours → k < length (remove colours i) → DiffersInColour (get_or (remove colours i) k d) (get_or colours i 0)
   freed_differs k d distinct within =
       let shorter = length-remove colours i (omega arith) in
       rw (get_or_default (remove colours i) k d 0 within) (⊎_elim (λ (before : k < i). rw (get_or-remove_below colours i 0 k before (omega arith)) (distinct k i 0 before (omega arith))) (λ (after : i ≤ k). rw (get_or-remove_above colours i 0 k after (omega arith)) (λ same. distinct i (k + 1) 0 (omega arith) (omega arith) (sym same))) (cases_lt k i))
@@ -61,7 +51,7 @@ module _ (colours : List ℕ) (served : List Served) (rows : List Row) (i : ℕ)
   pub colouring_removed : IsNonDecreasingBy bound_of served → ((d : Served) → All (λ r. (get_or served i d).bound ≤ r.number) rows) → IsColouring colours served rows → IsColouring (remove colours i ++ get_or colours i 0 ∷ []) (remove served i) rows
   colouring_removed rise ready is = record {
     sixteen = let shorter = length-remove colours i (omega arith) in rw length-append (omega arith);
-    distinct = all_pairs_push Differs (remove colours i) (get_or colours i 0) (all_pairs_remove Differs colours i (omega arith) is.distinct) (λ k d within. freed_differs k d is.distinct within);
+    distinct = all_pairs_push DiffersInColour (remove colours i) (get_or colours i 0) (all_pairs_remove DiffersInColour colours i (omega arith) is.distinct) (λ k d within. freed_differs k d is.distinct within);
     below =
         let IsBelow : ℕ → Type 0 = λ c. c < 16 in
         All-push IsBelow (remove colours i) (get_or colours i 0) (All-append IsBelow _ _ (All-take IsBelow i colours is.below) (All-drop IsBelow (suc i) colours is.below)) (is.below i 0 (omega arith));

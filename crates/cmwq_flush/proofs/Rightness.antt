@@ -1,28 +1,22 @@
 -- Each call keeps a flush book right.
-use Rattle.std.proofs.Common.{◌≡◌, ℕ, ◌+◌, ◌<◌, ◌≤◌, Bool, true, false, cond, List, [], ◌∷◌, ◌++◌, length, get_or, take, Some, None, ap, refl, arith, ⊎_elim}
-use Rattle.std.specs.Prelude.{All, AllPairs, Contains, map, ◌↔◌, Option, IfSome, slice_get}
-use Rattle.std.specs.List.{remove, range_with_len}
+use Rattle.cmwq_flush.specs.Common.{◌≡◌, ℕ, ◌+◌, ◌<◌, ◌≤◌, Bool, true, false, cond, List, [], ◌∷◌, ◌++◌, length, get_or, take, Some, None, ap, refl, arith, ⊎_elim, All, AllPairs, Contains, map, ◌↔◌, Option, IfSome, slice_get, remove, range_with_len, cases_lt, get_or-map, get_or_default, length-map, length-append, All-map, All-append, Contains-append_cases, length-remove}
 use Rattle.std.proofs.lemmas.List.FromFn.{get_or-range_with_len}
-use Rattle.std.proofs.lemmas.Bool.{cases_lt}
-use Rattle.std.proofs.lemmas.List.{get_or-map, get_or_default, length-map, length-append}
-use Rattle.std.proofs.lemmas.List.Elements.{All-map, All-append, Contains-append_cases}
-use Rattle.std.proofs.lemmas.List.Edits.{length-remove}
 use Rattle.cmwq_flush.specs.declared.served.Served.{Served}
 use Rattle.cmwq_flush.specs.declared.tally.Row.{Row}
-use Rattle.cmwq_flush.specs.Numbers.{IsRising, is_other, without}
-use Rattle.cmwq_flush.specs.Rows.{number_of, numbers_of, without_row, is_other_row, ComesBefore}
-use Rattle.cmwq_flush.specs.Served.{ticket_of, tickets_of, IsOlder, HasTicketAt, LacksTicket}
-use Rattle.cmwq_flush.specs.FlushBook.{FlushBook, new_book, flush_from, flush_tickets, served_of, IsReady, HasRoom, served_with_oldest, without_oldest, serve_oldest, after_end}
+use Rattle.cmwq_flush.specs.Numbers.{AreRising, is_other_number, without}
+use Rattle.cmwq_flush.specs.Rows.{row_number, row_numbers, without_row, is_other_row, ComesBefore}
+use Rattle.cmwq_flush.specs.Served.{ticket_of_served, tickets_of_served, IsOlderServed, HasTicketAt, LacksTicket}
+use Rattle.cmwq_flush.specs.FlushBook.{FlushBook, new_book, flush_from, flush_tickets, served_of, IsReady, HasRoom, served_with_oldest, without_oldest, serve_oldest, flushes_without_wait}
 use Rattle.cmwq_flush.specs.Colouring.{IsOrderly, IsColouring, IsRight, IsToldByColours, AreUnused}
 use Rattle.cmwq_flush.proofs.Search.{find_at_key, find_absent, absent_is_none, remove_at}
 use Rattle.cmwq_flush.proofs.Orderly.{orderly_opened, orderly_ended, orderly_overflow, orderly_served, orderly_removed, orderly_left, orderly_drain_ended, rising_served, rising_overflow, length_filter_le, All_left, All_right}
 use Rattle.cmwq_flush.proofs.Recolouring.{colouring_opened, colouring_ended, colouring_served, colouring_removed}
 
-split : (t : Bool) (r : Row) (rows : List Row) (ns : List ℕ) → numbers_of rows ≡ ns → numbers_of (cond t (r ∷ rows) rows) ≡ cond t (number_of r ∷ ns) ns
-split true r rows ns e = ap (λ ms. number_of r ∷ ms) e
+split : (t : Bool) (r : Row) (rows : List Row) (ns : List ℕ) → row_numbers rows ≡ ns → row_numbers (cond t (r ∷ rows) rows) ≡ cond t (row_number r ∷ ns) ns
+split true r rows ns e = ap (λ ms. row_number r ∷ ms) e
 split false r rows ns e = e
 
-pub numbers_of-without : (n : ℕ) (rows : List Row) → numbers_of (without_row n rows) ≡ without n (numbers_of rows)
+pub numbers_of-without : (n : ℕ) (rows : List Row) → row_numbers (without_row n rows) ≡ without n (row_numbers rows)
 numbers_of-without n [] = refl
 numbers_of-without n (r ∷ rows) = split (is_other_row n r) r _ _ (numbers_of-without n rows)
 
@@ -89,7 +83,7 @@ right_end b rows colours i lt ready is =
 pub right_left : (b : FlushBook) (rows : List Row) (colours : List ℕ) (t : ℕ) → IsRight b rows colours → IsRight (record b { overflow = without t b.overflow }) rows colours
 right_left b rows colours t is = record {
   orderly = orderly_left b rows t is.orderly;
-  serving = λ some. is.serving (let shorter = length_filter_le (is_other t) b.overflow in omega arith);
+  serving = λ some. is.serving (let shorter = length_filter_le (is_other_number t) b.overflow in omega arith);
   colouring = is.colouring;
 }
 
@@ -115,18 +109,18 @@ right_new callers = record {
 }
 
 -- what is ready, over numbers and over rows
-pub rows_from_numbers : (n : ℕ) (rows : List Row) → All (λ m. n ≤ m) (numbers_of rows) → All (λ r. n ≤ r.number) rows
-rows_from_numbers n rows all k d lt = rw (← get_or-map number_of rows k d 0 lt) (all k 0 (rw length-map lt))
+pub rows_from_numbers : (n : ℕ) (rows : List Row) → All (λ m. n ≤ m) (row_numbers rows) → All (λ r. n ≤ r.number) rows
+rows_from_numbers n rows all k d lt = rw (← get_or-map row_number rows k d 0 lt) (all k 0 (rw length-map lt))
 
-pub numbers_from_rows : (n : ℕ) (rows : List Row) → All (λ r. n ≤ r.number) rows → All (λ m. n ≤ m) (numbers_of rows)
-numbers_from_rows n rows all = All-map (λ m. n ≤ m) number_of rows all
+pub numbers_from_rows : (n : ℕ) (rows : List Row) → All (λ r. n ≤ r.number) rows → All (λ m. n ≤ m) (row_numbers rows)
+numbers_from_rows n rows all = All-map (λ m. n ≤ m) row_number rows all
 
-pub no_rows : (rows : List Row) → numbers_of rows ≡ [] → rows ≡ []
+pub no_rows : (rows : List Row) → row_numbers rows ≡ [] → rows ≡ []
 no_rows [] e = refl
 no_rows (r ∷ rows) e = cc
 
 -- the first of the rows has the least number
-pub first_is_least : (rows : List Row) (o : Option ℕ) → o ≡ slice_get (numbers_of rows) 0 → AllPairs ComesBefore rows → IfSome o (λ n. All (λ m. n ≤ m) (numbers_of rows))
+pub first_is_least : (rows : List Row) (o : Option ℕ) → o ≡ slice_get (row_numbers rows) 0 → AllPairs ComesBefore rows → IfSome o (λ n. All (λ m. n ≤ m) (row_numbers rows))
 first_is_least [] o e rise = rw e tt
 first_is_least (r ∷ rows) o e rise =
     rw e (numbers_from_rows r.number (r ∷ rows) (λ k d lt. ⊎_elim (λ (later : 0 < k). let above = rise 0 k d later lt in omega arith) (λ (first : k ≤ 0). let here : k ≡ 0 = omega arith in rw here (omega arith)) (cases_lt 0 k)))
@@ -139,31 +133,31 @@ right_drain_ended b rows colours t is = record {
 }
 
 module _ (b : FlushBook) (rows : List Row) (colours : List ℕ) (t : ℕ) (is : IsRight b rows colours) where
-  pub served_rise : AllPairs IsOlder b.served
+  pub served_rise : AllPairs IsOlderServed b.served
   served_rise = rising_served b.served b.overflow is.orderly.tickets_rise
 
-  pub overflow_rises : IsRising b.overflow
-  overflow_rises = rising_overflow (map ticket_of b.served) b.overflow is.orderly.tickets_rise
+  pub overflow_rises : AreRising b.overflow
+  overflow_rises = rising_overflow (map ticket_of_served b.served) b.overflow is.orderly.tickets_rise
 
   pub served_at : (i : ℕ) → HasTicketAt b.served t i → served_of b t ≡ Some (get_or b.served i (flush_from 0 0))
-  served_at i at = find_at_key ticket_of b.served t served_rise (flush_from 0 0) i at
+  served_at i at = find_at_key ticket_of_served b.served t served_rise (flush_from 0 0) i at
 
   pub not_served : LacksTicket b.served t → served_of b t ≡ None
-  not_served absent = find_absent ticket_of b.served t absent
+  not_served absent = find_absent ticket_of_served b.served t absent
 
-  pub not_in_overflow : (Contains (tickets_of b.served) t → ⊥) → Contains (flush_tickets b) t → Contains b.overflow t
-  not_in_overflow absent stands = ⊎_elim (λ (found : Contains (tickets_of b.served) t). absurd (absent found)) (λ (found : Contains b.overflow t). found) (Contains-append_cases (tickets_of b.served) b.overflow t stands)
+  pub not_in_overflow : (Contains (tickets_of_served b.served) t → ⊥) → Contains (flush_tickets b) t → Contains b.overflow t
+  not_in_overflow absent stands = ⊎_elim (λ (found : Contains (tickets_of_served b.served) t). absurd (absent found)) (λ (found : Contains b.overflow t). found) (Contains-append_cases (tickets_of_served b.served) b.overflow t stands)
 
   pub in_overflow : LacksTicket b.served t → Contains (flush_tickets b) t → Contains b.overflow t
-  in_overflow absent stands = not_in_overflow (absent_is_none ticket_of b.served t (flush_from 0 0) absent) stands
+  in_overflow absent stands = not_in_overflow (absent_is_none ticket_of_served b.served t (flush_from 0 0) absent) stands
 
   -- what a served flush that is ready waited for has ended
-  pub ready_rows : (i : ℕ) → b.opened ≡ numbers_of rows → HasTicketAt b.served t i → IsReady b t → (d : Served) → All (λ r. (get_or b.served i d).bound ≤ r.number) rows
+  pub ready_rows : (i : ℕ) → b.opened ≡ row_numbers rows → HasTicketAt b.served t i → IsReady b t → (d : Served) → All (λ r. (get_or b.served i d).bound ≤ r.number) rows
   ready_rows i opened at ready d =
       let found = rw (served_at i at, opened) at ready in
       rw (get_or_default b.served i d (flush_from 0 0) at.0) (rows_from_numbers (get_or b.served i (flush_from 0 0)).bound rows found)
 
-  pub rows_ready : (i : ℕ) → b.opened ≡ numbers_of rows → HasTicketAt b.served t i → ((d : Served) → All (λ r. (get_or b.served i d).bound ≤ r.number) rows) → IsReady b t
+  pub rows_ready : (i : ℕ) → b.opened ≡ row_numbers rows → HasTicketAt b.served t i → ((d : Served) → All (λ r. (get_or b.served i d).bound ≤ r.number) rows) → IsReady b t
   rows_ready i opened at ready = rw (served_at i at, opened) (numbers_from_rows (get_or b.served i (flush_from 0 0)).bound rows (ready (flush_from 0 0)))
 
   -- it has one place
@@ -173,7 +167,7 @@ module _ (b : FlushBook) (rows : List Row) (colours : List ℕ) (t : ℕ) (is : 
       ⊎_elim (λ (before : i < j). absurd (let rise = served_rise i j d before at_j.0 in omega arith)) (λ (after : j ≤ i).
       ⊎_elim (λ (before : j < i). absurd (let rise = served_rise j i d before at_i.0 in omega arith)) (λ (same : i ≤ j). omega arith) (cases_lt j i)) (cases_lt i j)
 
-  pub told_at : (i : ℕ) (told : Bool) → b.opened ≡ numbers_of rows → HasTicketAt b.served t i → (told ≡ true) ↔ AreUnused rows (take (i + 1) colours) → IsToldByColours b t told
+  pub told_at : (i : ℕ) (told : Bool) → b.opened ≡ row_numbers rows → HasTicketAt b.served t i → (told ≡ true) ↔ AreUnused rows (take (i + 1) colours) → IsToldByColours b t told
   told_at i told opened at clear = record {
     rows = rows;
     colours = colours;
@@ -182,7 +176,7 @@ module _ (b : FlushBook) (rows : List Row) (colours : List ℕ) (t : ℕ) (is : 
     told = λ j at_j. rw (one_place j i at_j at) clear;
   }
 
-  pub told_in_overflow : (told : Bool) → b.opened ≡ numbers_of rows → LacksTicket b.served t → IsToldByColours b t told
+  pub told_in_overflow : (told : Bool) → b.opened ≡ row_numbers rows → LacksTicket b.served t → IsToldByColours b t told
   told_in_overflow told opened absent = record {
     rows = rows;
     colours = colours;
@@ -191,24 +185,24 @@ module _ (b : FlushBook) (rows : List Row) (colours : List ℕ) (t : ℕ) (is : 
     told = λ j at_j. absurd (let d = flush_from 0 0 in absent j d at_j.0 (at_j.1 d));
   }
 
-  pub empty_is_ready : b.opened ≡ numbers_of rows → LacksTicket b.served t → (rows ≡ []) ↔ IsReady b t
+  pub empty_is_ready : b.opened ≡ row_numbers rows → LacksTicket b.served t → (rows ≡ []) ↔ IsReady b t
   empty_is_ready opened absent = (λ none. rw (not_served absent, opened, none) refl, λ ready. no_rows rows (rw (not_served absent, opened) at ready))
 
   -- what the end of a flush leaves, by its place
-  pub after_end-served : (i : ℕ) → HasTicketAt b.served t i → after_end b t ≡ serve_oldest b (remove b.served i)
-  after_end-served i at = rw (served_at i at, remove_at ticket_of b.served t served_rise i at) refl
+  pub after_end-served : (i : ℕ) → HasTicketAt b.served t i → flushes_without_wait b t ≡ serve_oldest b (remove b.served i)
+  after_end-served i at = rw (served_at i at, remove_at ticket_of_served b.served t served_rise i at) refl
 
-  pub after_end-overflow : LacksTicket b.served t → after_end b t ≡ record b { overflow = without t b.overflow }
+  pub after_end-overflow : LacksTicket b.served t → flushes_without_wait b t ≡ record b { overflow = without t b.overflow }
   after_end-overflow absent = rw (not_served absent) refl
 
 -- a ticket comes after all flushes where it comes after those that are served and those in overflow
-pub after_all : (served : List Served) (overflow : List ℕ) (t : ℕ) → All (λ s. s.ticket < t) served → All (λ u. u < t) overflow → All (λ u. u < t) (tickets_of served ++ overflow)
-after_all served overflow t first second = let IsEarlier : ℕ → Type 0 = λ u. u < t in All-append IsEarlier (tickets_of served) overflow (All-map IsEarlier ticket_of served first) second
+pub after_all : (served : List Served) (overflow : List ℕ) (t : ℕ) → All (λ s. s.ticket < t) served → All (λ u. u < t) overflow → All (λ u. u < t) (tickets_of_served served ++ overflow)
+after_all served overflow t first second = let IsEarlier : ℕ → Type 0 = λ u. u < t in All-append IsEarlier (tickets_of_served served) overflow (All-map IsEarlier ticket_of_served served first) second
 
-pub after_served : (served : List Served) (overflow : List ℕ) (t : ℕ) → All (λ u. u < t) (tickets_of served ++ overflow) → All (λ s. s.ticket < t) served
+pub after_served : (served : List Served) (overflow : List ℕ) (t : ℕ) → All (λ u. u < t) (tickets_of_served served ++ overflow) → All (λ s. s.ticket < t) served
 after_served served overflow t all k d lt =
     let IsEarlier : ℕ → Type 0 = λ u. u < t in
-    rw (← get_or-map ticket_of served k d 0 lt) (All_left IsEarlier (tickets_of served) overflow all k 0 (rw length-map lt))
+    rw (← get_or-map ticket_of_served served k d 0 lt) (All_left IsEarlier (tickets_of_served served) overflow all k 0 (rw length-map lt))
 
-pub after_overflow : (served : List Served) (overflow : List ℕ) (t : ℕ) → All (λ u. u < t) (tickets_of served ++ overflow) → All (λ u. u < t) overflow
-after_overflow served overflow t all = let IsEarlier : ℕ → Type 0 = λ u. u < t in All_right IsEarlier (tickets_of served) overflow all
+pub after_overflow : (served : List Served) (overflow : List ℕ) (t : ℕ) → All (λ u. u < t) (tickets_of_served served ++ overflow) → All (λ u. u < t) overflow
+after_overflow served overflow t all = let IsEarlier : ℕ → Type 0 = λ u. u < t in All_right IsEarlier (tickets_of_served served) overflow all

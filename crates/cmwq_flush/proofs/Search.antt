@@ -1,15 +1,8 @@
 -- What a binary search finds among elements whose keys rise, and what is left when the one it found is removed.
-use Rattle.std.proofs.Common.{◌≡◌, ◌≢◌, ℕ, ◌-◌, ◌<◌, ◌≤◌, Bool, true, false, not, eqb, ltb, List, [], ◌∷◌, length, get_or, zero, suc, Option, Some, None, Result, Ok, Err, IfSome, IfNone, IsSome, sym, ap, refl, ◌∙◌, arith, ⊎_elim}
-use Rattle.std.specs.Prelude.{map, filter, find, All, AllPairs, Contains, ◌↔◌}
+use Rattle.cmwq_flush.specs.Common.{◌≡◌, ◌≢◌, ℕ, ◌-◌, ◌<◌, ◌≤◌, Bool, true, false, not, eqb, ltb, List, [], ◌∷◌, length, get_or, zero, suc, Option, Some, None, Result, Ok, Err, IfSome, IfNone, IsSome, sym, ap, refl, ◌∙◌, arith, ⊎_elim, map, filter, find, All, AllPairs, Contains, ◌↔◌, HoldsAt, remove, IsSearchInRange, IsBinarySearchResult, IsNonDecreasingBy, cases_lt, nat_tests, get_or-map, length-map, All-tail, All-head}
 use Rattle.std.specs.Result.{result_ok}
-use Rattle.std.specs.List.{HoldsAt, remove}
-use Rattle.std.specs.List.Sorted.{IsSearchInRange, IsBinarySearchResult, IsNonDecreasingBy}
 use Rattle.std.specs.Ordering.{nat_cmp, ordering_index}
 use Rattle.std.proofs.lemmas.Cmp.{ranked}
-use Rattle.std.proofs.lemmas.Bool.{cases_lt}
-use Rattle.std.proofs.lemmas.Bool.Decides.{nat_tests}
-use Rattle.std.proofs.lemmas.List.{get_or-map, length-map}
-use Rattle.std.proofs.lemmas.List.Elements.{All-tail, All-head}
 
 -- a filter that all pass keeps the list
 pub filter_all : {X : Type 0} (p : X → Bool) (xs : List X) → All (λ x. p x ≡ true) xs → filter p xs ≡ xs

@@ -1,16 +1,14 @@
 -- What holds of a flush book and its colours at every moment.
-use Rattle.std.specs.Prelude.{◌≡◌, ◌≢◌, ◌↔◌, ℕ, ◌+◌, ◌*◌, ◌<◌, ◌≤◌, Bool, List, length, take, All, AllPairs, IsTrue, slice_index}
-use Rattle.std.specs.List.{HoldsAt}
-use Rattle.std.specs.List.Sorted.{IsNonDecreasingBy}
+use Rattle.cmwq_flush.specs.Common.{◌≡◌, ◌≢◌, ◌↔◌, ℕ, ◌+◌, ◌*◌, ◌<◌, ◌≤◌, Bool, List, length, take, All, AllPairs, IsTrue, slice_index, HoldsAt, IsNonDecreasingBy}
 use Rattle.cmwq_flush.specs.declared.served.Served.{Served}
 use Rattle.cmwq_flush.specs.declared.tally.Row.{Row}
-use Rattle.cmwq_flush.specs.Numbers.{IsRising}
-use Rattle.cmwq_flush.specs.Rows.{numbers_of, is_unused}
+use Rattle.cmwq_flush.specs.Numbers.{AreRising}
+use Rattle.cmwq_flush.specs.Rows.{row_numbers, is_unused}
 use Rattle.cmwq_flush.specs.Served.{bound_of, first_waiting, HasTicketAt}
-use Rattle.cmwq_flush.specs.FlushBook.{FlushBook, flush_tickets, standing}
+use Rattle.cmwq_flush.specs.FlushBook.{FlushBook, flush_tickets, standing_count}
 
-abbrev pub Differs : ℕ → ℕ → Type 0
-Differs c d = c ≢ d
+abbrev pub DiffersInColour : ℕ → ℕ → Type 0
+DiffersInColour c d = c ≢ d
 
 -- The i-th of the served flushes has the i-th colour, and the next one is the current one. An open queueing has the
 -- colour of the first flush that was served after it was opened, or the current one.
@@ -22,7 +20,7 @@ HasRightColour colours served r = r.colour ≡ right_colour colours served r.num
 
 pub record IsColouring (colours : List ℕ) (served : List Served) (rows : List Row) : Type 0 where
   pub sixteen : length colours ≡ 16
-  pub distinct : AllPairs Differs colours
+  pub distinct : AllPairs DiffersInColour colours
   pub below : All (λ c. c < 16) colours
   pub right : All (HasRightColour colours served) rows
 
@@ -39,7 +37,7 @@ WaitsForNothing rows served i = HoldsAt (λ s. All (λ r. s.bound ≤ r.number) 
 pub record IsToldByColours (b : FlushBook) (t : ℕ) (ready : Bool) : Type 0 where
   pub rows : List Row
   pub colours : List ℕ
-  pub opened : b.opened ≡ numbers_of rows
+  pub opened : b.opened ≡ row_numbers rows
   pub colouring : IsColouring colours b.served rows
   pub told : (i : ℕ) → HasTicketAt b.served t i → IsTrue ready ↔ AreUnused rows (take (i + 1) colours)
 
@@ -48,10 +46,10 @@ pub record IsOrderly (b : FlushBook) (rows : List Row) : Type 0 where
   pub older : All (λ r. r.number < b.next) rows
   pub bounds_rise : IsNonDecreasingBy bound_of b.served
   pub bounds : All (λ s. s.bound ≤ b.next) b.served
-  pub tickets_rise : IsRising (flush_tickets b)
-  pub drains_rise : IsRising b.drains
+  pub tickets_rise : AreRising (flush_tickets b)
+  pub drains_rise : AreRising b.drains
   pub few : length b.served ≤ 15
-  pub room : standing b ≤ 64 * b.callers
+  pub room : standing_count b ≤ 64 * b.callers
 
 -- where some are in overflow, as many are served as may be
 abbrev pub IsServing : FlushBook → Type 0
@@ -63,4 +61,4 @@ pub record IsRight (b : FlushBook) (rows : List Row) (colours : List ℕ) : Type
   pub colouring : IsColouring colours b.served rows
 
 abbrev pub book_of : ℕ → ℕ → List Row → List Served → List ℕ → List ℕ → FlushBook
-book_of callers next rows served overflow drains = record { callers = callers; next = next; opened = numbers_of rows; served = served; overflow = overflow; drains = drains }
+book_of callers next rows served overflow drains = record { callers = callers; next = next; opened = row_numbers rows; served = served; overflow = overflow; drains = drains }

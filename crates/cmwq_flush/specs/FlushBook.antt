@@ -2,7 +2,7 @@
 use Rattle.std.specs.Prelude.{◌≡◌, ℕ, ◌+◌, ◌*◌, ◌<◌, ◌≤◌, if◌then◌else◌, List, [], ◌∷◌, ◌++◌, length, filter, find, All, Option, MatchOption, is_some, nat_lt}
 use Rattle.cmwq_flush.specs.declared.served.Served.{Served}
 use Rattle.cmwq_flush.specs.Numbers.{without}
-use Rattle.cmwq_flush.specs.Served.{tickets_of, has_ticket, is_other_flush}
+use Rattle.cmwq_flush.specs.Served.{tickets_of_served, has_ticket, is_other_flush}
 
 -- next is one more than the number that was opened last, opened the open numbers, which rise; the flushes that are
 -- served, the tickets in overflow and those of drains stand by age
@@ -19,13 +19,13 @@ new_book callers = record { callers = callers; next = 0; opened = []; served = [
 
 -- the tickets of flushes by age, and how many tickets stand in all
 abbrev pub flush_tickets : FlushBook → List ℕ
-flush_tickets b = tickets_of b.served ++ b.overflow
+flush_tickets b = tickets_of_served b.served ++ b.overflow
 
-abbrev pub standing : FlushBook → ℕ
-standing b = length b.served + length b.overflow + length b.drains
+abbrev pub standing_count : FlushBook → ℕ
+standing_count b = length b.served + length b.overflow + length b.drains
 
 abbrev pub HasRoom : FlushBook → Type 0
-HasRoom b = standing b < 64 * b.callers
+HasRoom b = standing_count b < 64 * b.callers
 
 abbrev pub CanOpen : FlushBook → ℕ → Type 0
 CanOpen b n = (b.next ≤ n) × (length b.opened < 512)
@@ -44,18 +44,18 @@ served_of b t = find (has_ticket t) b.served
 abbrev pub IsReady : FlushBook → ℕ → Type 0
 IsReady b t = MatchOption (served_of b t) (b.opened ≡ []) (λ s. All (λ n. s.bound ≤ n) b.opened)
 
-abbrev pub after_opened : FlushBook → ℕ → FlushBook
-after_opened b n = record b { next = n + 1; opened = b.opened ++ n ∷ [] }
+abbrev pub flushes_with_open : FlushBook → ℕ → FlushBook
+flushes_with_open b n = record b { next = n + 1; opened = b.opened ++ n ∷ [] }
 
-abbrev pub after_ended : FlushBook → ℕ → FlushBook
-after_ended b n = record b { opened = without n b.opened }
+abbrev pub flushes_without_open : FlushBook → ℕ → FlushBook
+flushes_without_open b n = record b { opened = without n b.opened }
 
 -- a flush is served at once where fewer than 15 are, and else in overflow
 abbrev pub flush_from : ℕ → ℕ → Served
 flush_from t bound = record { ticket = t; bound = bound }
 
-abbrev pub after_begin : FlushBook → ℕ → FlushBook
-after_begin b t = if nat_lt (length b.served) 15 then record b { served = b.served ++ flush_from t b.next ∷ [] } else record b { overflow = b.overflow ++ t ∷ [] }
+abbrev pub flushes_with_wait : FlushBook → ℕ → FlushBook
+flushes_with_wait b t = if nat_lt (length b.served) 15 then record b { served = b.served ++ flush_from t b.next ∷ [] } else record b { overflow = b.overflow ++ t ∷ [] }
 
 -- the end of one that is served serves the oldest of the overflow from that moment on
 abbrev pub served_with_oldest : List Served → List ℕ → ℕ → List Served
@@ -69,8 +69,8 @@ without_oldest (t ∷ overflow) = overflow
 abbrev pub serve_oldest : FlushBook → List Served → FlushBook
 serve_oldest b served = record b { served = served_with_oldest served b.overflow b.next; overflow = without_oldest b.overflow }
 
-abbrev pub after_end : FlushBook → ℕ → FlushBook
-after_end b t = if is_some (served_of b t) then serve_oldest b (filter (is_other_flush t) b.served) else record b { overflow = without t b.overflow }
+abbrev pub flushes_without_wait : FlushBook → ℕ → FlushBook
+flushes_without_wait b t = if is_some (served_of b t) then serve_oldest b (filter (is_other_flush t) b.served) else record b { overflow = without t b.overflow }
 
 abbrev pub after_drain_begin : FlushBook → ℕ → FlushBook
 after_drain_begin b t = record b { drains = b.drains ++ t ∷ [] }

@@ -1,12 +1,11 @@
 -- Lists of numbers that rise: of open queueings, and of tickets by age.
-use Rattle.std.specs.Prelude.{◌≡◌, ◌≢◌, ℕ, ◌<◌, Bool, not, ◌==◌, List, length, All, AllPairs, filter}
-use Rattle.std.specs.List.{HoldsAt}
+use Rattle.cmwq_flush.specs.Common.{◌≡◌, ◌≢◌, ℕ, ◌<◌, Bool, not, ◌==◌, List, length, All, AllPairs, filter, HoldsAt}
 
-abbrev pub IsBelow : ℕ → ℕ → Type 0
-IsBelow n m = n < m
+abbrev pub IsBelowNumber : ℕ → ℕ → Type 0
+IsBelowNumber n m = n < m
 
-abbrev pub IsRising : List ℕ → Type 0
-IsRising ns = AllPairs IsBelow ns
+abbrev pub AreRising : List ℕ → Type 0
+AreRising ns = AllPairs IsBelowNumber ns
 
 abbrev pub IsNumberAt : List ℕ → ℕ → ℕ → Type 0
 IsNumberAt ns n i = (i < length ns) × HoldsAt (λ m. m ≡ n) ns i
@@ -15,8 +14,8 @@ abbrev pub LacksNumber : List ℕ → ℕ → Type 0
 LacksNumber ns n = All (λ m. m ≢ n) ns
 
 -- the list without this number
-abbrev pub is_other : ℕ → ℕ → Bool
-is_other n m = not (m == n)
+abbrev pub is_other_number : ℕ → ℕ → Bool
+is_other_number n m = not (m == n)
 
 abbrev pub without : ℕ → List ℕ → List ℕ
-without n ns = filter (is_other n) ns
+without n ns = filter (is_other_number n) ns

@@ -1,7 +1,7 @@
 ghost use Rattle.std.specs.Prelude.{◌≡◌, ◌<◌, ◌≤◌, ◌↔◌, ◌++◌, ◌∷◌, [], All, AllPairs, Contains, IfSome, IfNone, IsTrue, find, length};
-ghost use Rattle.cmwq_flush.specs.Numbers.{IsRising, without};
+ghost use Rattle.cmwq_flush.specs.Numbers.{AreRising, without};
 ghost use Rattle.cmwq_flush.specs.BarrierBook.{is_up_to, tickets_in};
-ghost use Rattle.cmwq_flush.specs.Waits.{HasTicketAt, IsOlder, LacksTicket, numbers_in};
+ghost use Rattle.cmwq_flush.specs.Waits.{BarriersHaveTicketAt, IsOlderBarrier, BarriersLackTicket, numbers_in};
 
 use cmwq_model::{ItemId, Number};
 
@@ -35,7 +35,7 @@ impl Open {
 
     /// One has ended.
     pub(crate) fn without(self, number: Number) -> Open
-        requires rising { IsRising (numbers_in self) }
+        requires rising { AreRising (numbers_in self) }
         requires open { Contains (numbers_in self) number }
         ensures { numbers_in result ≡ without number (numbers_in self) }
     {
@@ -60,7 +60,7 @@ impl Open {
 
     /// Whether one more with this number may be open.
     pub(crate) fn takes(self, number: Number) -> bool
-        requires { IsRising (numbers_in self) }
+        requires { AreRising (numbers_in self) }
         ensures value { IsTrue result ↔ (All (λ n. n < number) (numbers_in self) × (length (numbers_in self) < 2)) }
     {
         match self {
@@ -84,9 +84,9 @@ impl Open {
 
 /// The place of the wait with this ticket, if it stands.
 fn find_barrier(barriers: &[Barrier], ticket: Number) -> Option<usize>
-    requires { AllPairs IsOlder barriers.now }
-    ensures found { IfSome result (HasTicketAt barriers.now ticket) }
-    ensures absent { IfNone result (LacksTicket barriers.now ticket) }
+    requires { AllPairs IsOlderBarrier barriers.now }
+    ensures found { IfSome result (BarriersHaveTicketAt barriers.now ticket) }
+    ensures absent { IfNone result (BarriersLackTicket barriers.now ticket) }
 {
     barriers
         .binary_search_by_key(&ticket, |barrier| barrier.ticket)
@@ -95,7 +95,7 @@ fn find_barrier(barriers: &[Barrier], ticket: Number) -> Option<usize>
 
 /// Whether a wait with this ticket stands.
 pub(crate) fn has_barrier(barriers: &[Barrier], ticket: Number) -> bool
-    requires { AllPairs IsOlder barriers.now }
+    requires { AllPairs IsOlderBarrier barriers.now }
     ensures { IsTrue result ↔ Contains (tickets_in barriers.now) ticket }
 {
     find_barrier(barriers, ticket).is_some()
@@ -103,16 +103,16 @@ pub(crate) fn has_barrier(barriers: &[Barrier], ticket: Number) -> bool
 
 /// The place of the wait with this ticket.
 pub(crate) fn barrier_place(barriers: &[Barrier], ticket: Number) -> usize
-    requires rising { AllPairs IsOlder barriers.now }
+    requires rising { AllPairs IsOlderBarrier barriers.now }
     requires stands { Contains (tickets_in barriers.now) ticket }
-    ensures { HasTicketAt barriers.now ticket result }
+    ensures { BarriersHaveTicketAt barriers.now ticket result }
 {
     find_barrier(barriers, ticket).unwrap()
 }
 
 /// Whether this ticket comes after those of all of these waits.
 pub(crate) fn is_latest_barrier(barriers: &[Barrier], ticket: Number) -> bool
-    requires { AllPairs IsOlder barriers.now }
+    requires { AllPairs IsOlderBarrier barriers.now }
     ensures { IsTrue result ↔ All (λ w. w.ticket < ticket) barriers.now }
 {
     match barriers.last() {

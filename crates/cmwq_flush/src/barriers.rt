@@ -1,5 +1,5 @@
 ghost use Rattle.std.specs.Prelude.{◌≡◌, ◌≤◌, ◌↔◌, All, Contains, IfOk, IfSome, IsTrue};
-ghost use Rattle.cmwq_flush.specs.BarrierBook.{CanBegin, CanOpen, IsReady, after_begin, after_end, after_ended, after_opened, new_barriers, numbers_before, numbers_open, tickets_in, waits_for};
+ghost use Rattle.cmwq_flush.specs.BarrierBook.{CanBeginBarrier, CanOpenForItem, IsReadyBarrier, barriers_with_wait, barriers_without_wait, barriers_without_open, barriers_with_open, new_barriers, numbers_before, numbers_open, tickets_in, barrier_waits_for};
 
 use crate::barrier::{Barrier, Open, barrier_place, has_barrier, is_latest_barrier};
 use crate::limits::TICKETS_OF_CALLER;
@@ -44,8 +44,8 @@ impl Barriers {
 
     /// A queueing of the item was opened.
     pub fn opened(&mut self, item: ItemId, number: Number)
-        requires { CanOpen self.old item.0 number }
-        ensures { self.new ≡ after_opened self.old item.0 number }
+        requires { CanOpenForItem self.old item.0 number }
+        ensures { self.new ≡ barriers_with_open self.old item.0 number }
     {
         let place = usize::from(item.0);
         self.items[place] = self.items[place].with(number);
@@ -54,7 +54,7 @@ impl Barriers {
     /// An open queueing of the item has ended.
     pub fn ended(&mut self, item: ItemId, number: Number)
         requires { Contains (numbers_open self.old item.0) number }
-        ensures { self.new ≡ after_ended self.old item.0 number }
+        ensures { self.new ≡ barriers_without_open self.old item.0 number }
     {
         let place = usize::from(item.0);
         self.items[place] = self.items[place].without(number);
@@ -62,8 +62,8 @@ impl Barriers {
 
     /// A wait for the item begins (`insert_wq_barrier`).
     pub fn begin(&mut self, item: ItemId, ticket: Number)
-        requires { CanBegin self.old item.0 ticket }
-        ensures { self.new ≡ after_begin self.old item.0 ticket }
+        requires { CanBeginBarrier self.old item.0 ticket }
+        ensures { self.new ≡ barriers_with_wait self.old item.0 ticket }
     {
         self.barriers.push_reserved(Barrier { ticket, item });
     }
@@ -71,7 +71,7 @@ impl Barriers {
     /// Whether a wait may end: nothing of its item is open up to its ticket.
     pub fn ready(&self, ticket: Number) -> bool
         requires { Contains (tickets_in self.now.barriers) ticket }
-        ensures { IsTrue result ↔ IsReady self.now ticket }
+        ensures { IsTrue result ↔ IsReadyBarrier self.now ticket }
     {
         self.waits_for(ticket).is_none()
     }
@@ -79,7 +79,7 @@ impl Barriers {
     /// The least open number that a wait is for.
     pub fn waits_for(&self, ticket: Number) -> Option<Number>
         requires { Contains (tickets_in self.now.barriers) ticket }
-        ensures value { result ≡ waits_for self.now ticket }
+        ensures value { result ≡ barrier_waits_for self.now ticket }
         ensures least { IfSome result (λ n. All (λ m. n ≤ m) (numbers_before self.now ticket)) }
     {
         let place = barrier_place(&self.barriers, ticket);
@@ -90,8 +90,8 @@ impl Barriers {
     /// A wait that is ready ends.
     pub fn end(&mut self, ticket: Number)
         requires stands { Contains (tickets_in self.old.barriers) ticket }
-        requires is_ready { IsReady self.old ticket }
-        ensures { self.new ≡ after_end self.old ticket }
+        requires is_ready { IsReadyBarrier self.old ticket }
+        ensures { self.new ≡ barriers_without_wait self.old ticket }
     {
         let place = barrier_place(&self.barriers, ticket);
         self.barriers.remove(place);
@@ -100,7 +100,7 @@ impl Barriers {
     /// Whether a queueing of this number may be opened: the item is one of these and has at most one open, whose
     /// number is less.
     pub fn may_open(&self, item: ItemId, number: Number) -> bool
-        ensures { IsTrue result ↔ CanOpen self.now item.0 number }
+        ensures { IsTrue result ↔ CanOpenForItem self.now item.0 number }
     {
         match self.items.get(usize::from(item.0)) {
             Some(open) => open.takes(number),
@@ -121,7 +121,7 @@ impl Barriers {
     /// Whether a wait for the item may begin with this ticket: the item is one of these, the ticket comes after those
     /// of all waits that stand, and there is room.
     pub fn may_begin(&self, item: ItemId, ticket: Number) -> bool
-        ensures { IsTrue result ↔ CanBegin self.now item.0 ticket }
+        ensures { IsTrue result ↔ CanBeginBarrier self.now item.0 ticket }
     {
         let room = TICKETS_OF_CALLER * usize::from(self.callers);
         usize::from(item.0) < self.items.len()

@@ -1,7 +1,7 @@
 ghost use Rattle.std.specs.Prelude.{◌≡◌, ◌∷◌, ◌++◌, [], ◌+◌, ◌<◌, ◌≤◌, ◌↔◌, All, Contains, IfOk, IfSome, IsTrue, length, slice_get, slice_index, take, vec_capacity, vec_len};
 ghost use Rattle.std.specs.List.{remove};
 ghost use Rattle.std.specs.List.Sorted.{IsNonDecreasingBy};
-ghost use Rattle.cmwq_flush.specs.FlushBook.{CanBegin, CanDrain, CanOpen, HasRoom, IsReady, after_begin, after_drain_begin, after_drain_end, after_end, after_ended, after_opened, flush_tickets, new_book, served_with_oldest, without_oldest};
+ghost use Rattle.cmwq_flush.specs.FlushBook.{CanBegin, CanDrain, CanOpen, HasRoom, IsReady, flushes_with_wait, after_drain_begin, after_drain_end, flushes_without_wait, flushes_without_open, flushes_with_open, flush_tickets, new_book, served_with_oldest, without_oldest};
 ghost use Rattle.cmwq_flush.specs.Colouring.{IsColouring, IsToldByColours, AreUnused, WaitsForNothing};
 ghost use Rattle.cmwq_flush.specs.Served.{bound_of};
 
@@ -65,7 +65,7 @@ impl Flushes {
     pub fn opened(&mut self, number: Number)
         requires can { CanOpen self.old number }
         requires few { number < 9223372036854775808 }
-        ensures { self.new ≡ after_opened self.old number }
+        ensures { self.new ≡ flushes_with_open self.old number }
     {
         self.tally.open(number, self.colours[self.served.len()]);
         self.next = number + 1;
@@ -74,7 +74,7 @@ impl Flushes {
     /// An open queueing has ended (`pwq_dec_nr_in_flight`).
     pub fn ended(&mut self, number: Number)
         requires { Contains self.old.opened number }
-        ensures { self.new ≡ after_ended self.old number }
+        ensures { self.new ≡ flushes_without_open self.old number }
     {
         self.tally.close(number);
     }
@@ -82,7 +82,7 @@ impl Flushes {
     /// A flush begins (`__flush_workqueue` up to its wait): it is served, or in overflow.
     pub fn begin(&mut self, ticket: Number)
         requires { CanBegin self.old ticket }
-        ensures { self.new ≡ after_begin self.old ticket }
+        ensures { self.new ≡ flushes_with_wait self.old ticket }
     {
         if self.served.len() < MOST_SERVED {
             self.served.push_reserved(Served {
@@ -112,7 +112,7 @@ impl Flushes {
     pub fn end(&mut self, ticket: Number)
         requires stands { Contains (flush_tickets self.old) ticket }
         requires is_ready { IsReady self.old ticket }
-        ensures { self.new ≡ after_end self.old ticket }
+        ensures { self.new ≡ flushes_without_wait self.old ticket }
     {
         match find_served(&self.served, ticket) {
             Some(place) => {

@@ -1,5 +1,5 @@
 ghost use Rattle.std.specs.Prelude.{◌≡◌, ◌<◌, ◌↔◌, All, AllPairs, Contains, IfSome, IfNone, IsTrue};
-ghost use Rattle.cmwq_flush.specs.Served.{IsOlder, LacksTicket, HasTicketAt, tickets_of};
+ghost use Rattle.cmwq_flush.specs.Served.{IsOlderServed, LacksTicket, HasTicketAt, tickets_of_served};
 
 use cmwq_model::Number;
 
@@ -13,7 +13,7 @@ pub struct Served {
 
 /// The place of the flush with this ticket, if it is served.
 pub(crate) fn find_served(served: &[Served], ticket: Number) -> Option<usize>
-    requires { AllPairs IsOlder served.now }
+    requires { AllPairs IsOlderServed served.now }
     ensures found { IfSome result (HasTicketAt served.now ticket) }
     ensures absent { IfNone result (LacksTicket served.now ticket) }
 {
@@ -24,7 +24,7 @@ pub(crate) fn find_served(served: &[Served], ticket: Number) -> Option<usize>
 
 /// Whether this ticket comes after those of all of these flushes.
 pub(crate) fn is_latest_served(served: &[Served], ticket: Number) -> bool
-    requires { AllPairs IsOlder served.now }
+    requires { AllPairs IsOlderServed served.now }
     ensures { IsTrue result ↔ All (λ s. s.ticket < ticket) served.now }
 {
     match served.last() {
@@ -35,8 +35,8 @@ pub(crate) fn is_latest_served(served: &[Served], ticket: Number) -> bool
 
 /// Whether the flush with this ticket is among these.
 pub(crate) fn is_served(served: &[Served], ticket: Number) -> bool
-    requires { AllPairs IsOlder served.now }
-    ensures { IsTrue result ↔ Contains (tickets_of served.now) ticket }
+    requires { AllPairs IsOlderServed served.now }
+    ensures { IsTrue result ↔ Contains (tickets_of_served served.now) ticket }
 {
     find_served(served, ticket).is_some()
 }

@@ -1,6 +1,6 @@
 ghost use Rattle.std.specs.Prelude.{◌≡◌, ◌<◌, ◌≤◌, ◌↔◌, ◌++◌, ◌∷◌, [], All, AllPairs, Contains, IfOk, IfSome, IfNone, IsTrue, length, slice_get};
 ghost use Rattle.std.specs.List.{list_all};
-ghost use Rattle.cmwq_flush.specs.Rows.{ComesBefore, HasNumberAt, LacksNumber, is_unused, numbers_of, without_row};
+ghost use Rattle.cmwq_flush.specs.Rows.{ComesBefore, HasNumberAt, RowsLackNumber, is_unused, row_numbers, without_row};
 
 use crate::limits::{COLOURS, MOST_OPEN};
 use cmwq_model::Number;
@@ -59,7 +59,7 @@ impl Tally {
     }
 
     pub(crate) fn close(&mut self, number: Number)
-        requires { Contains (numbers_of self.old) number }
+        requires { Contains (row_numbers self.old) number }
         ensures { self.new ≡ without_row number self.old }
     {
         let place = place_of(&self.rows, number);
@@ -85,7 +85,7 @@ impl Tally {
 
     /// The least number.
     pub(crate) fn first(&self) -> Option<Number>
-        ensures first { result ≡ slice_get (numbers_of self.now) 0 }
+        ensures first { result ≡ slice_get (row_numbers self.now) 0 }
         ensures rising { AllPairs ComesBefore self.now }
     {
         self.rows.first().map(|row| row.number)
@@ -104,7 +104,7 @@ impl Tally {
     }
 
     pub(crate) fn contains(&self, number: Number) -> bool
-        ensures { IsTrue result ↔ Contains (numbers_of self.now) number }
+        ensures { IsTrue result ↔ Contains (row_numbers self.now) number }
     {
         find_row(&self.rows, number).is_some()
     }
@@ -113,7 +113,7 @@ impl Tally {
 /// The place of the row with this number.
 fn place_of(rows: &[Row], number: Number) -> usize
     requires rising { AllPairs ComesBefore rows.now }
-    requires open { Contains (numbers_of rows.now) number }
+    requires open { Contains (row_numbers rows.now) number }
     ensures { HasNumberAt rows.now number result }
 {
     find_row(rows, number).unwrap()
@@ -123,7 +123,7 @@ fn place_of(rows: &[Row], number: Number) -> usize
 fn find_row(rows: &[Row], number: Number) -> Option<usize>
     requires { AllPairs ComesBefore rows.now }
     ensures found { IfSome result (HasNumberAt rows.now number) }
-    ensures absent { IfNone result (LacksNumber rows.now number) }
+    ensures absent { IfNone result (RowsLackNumber rows.now number) }
 {
     rows.binary_search_by_key(&number, |row| row.number).ok()
 }

@@ -1,11 +1,11 @@
 ghost use Rattle.std.specs.Prelude.{◌≡◌, ◌<◌, ◌↔◌, All, Contains, IfSome, IfNone, IsTrue, vec_capacity};
-ghost use Rattle.cmwq_flush.specs.Numbers.{IsRising, IsNumberAt, LacksNumber, without};
+ghost use Rattle.cmwq_flush.specs.Numbers.{AreRising, IsNumberAt, LacksNumber, without};
 
 use cmwq_model::Number;
 
 /// The place of a ticket, if it is there.
 fn find_ticket(tickets: &[Number], ticket: Number) -> Option<usize>
-    requires { IsRising tickets.now }
+    requires { AreRising tickets.now }
     ensures found { IfSome result (IsNumberAt tickets.now ticket) }
     ensures absent { IfNone result (LacksNumber tickets.now ticket) }
 {
@@ -14,7 +14,7 @@ fn find_ticket(tickets: &[Number], ticket: Number) -> Option<usize>
 
 /// Whether this ticket comes after all of these.
 pub(crate) fn is_latest(tickets: &[Number], ticket: Number) -> bool
-    requires { IsRising tickets.now }
+    requires { AreRising tickets.now }
     ensures { IsTrue result ↔ All (λ t. t < ticket) tickets.now }
 {
     tickets.last().is_none_or(|&latest| latest < ticket)
@@ -22,7 +22,7 @@ pub(crate) fn is_latest(tickets: &[Number], ticket: Number) -> bool
 
 /// Whether this ticket is among these.
 pub(crate) fn has_ticket(tickets: &[Number], ticket: Number) -> bool
-    requires { IsRising tickets.now }
+    requires { AreRising tickets.now }
     ensures { IsTrue result ↔ Contains tickets.now ticket }
 {
     find_ticket(tickets, ticket).is_some()
@@ -30,7 +30,7 @@ pub(crate) fn has_ticket(tickets: &[Number], ticket: Number) -> bool
 
 /// Takes a ticket out.
 pub(crate) fn remove_ticket(tickets: &mut Vec<Number>, ticket: Number)
-    requires rising { IsRising tickets.old.items }
+    requires rising { AreRising tickets.old.items }
     requires stands { Contains tickets.old.items ticket }
     ensures items { tickets.new.items ≡ without ticket tickets.old.items }
     ensures capacity { vec_capacity tickets.new ≡ vec_capacity tickets.old }

@@ -8,8 +8,8 @@ use Rattle.std.proofs.lemmas.List.Sums.{sum_by-cons, sum_by-set, count_by-le-len
 use Rattle.slab.specs.Slab.{Slab, slab_len}
 use Rattle.cmwq_model.specs.declared.record.Queueing.{Queueing}
 use Rattle.cmwq_inflight.specs.declared.flights.Keys.{Keys}
-use Rattle.cmwq_inflight.specs.Flights.{Flight, has_run, has_unstarted, open_count, with_flight}
-use Rattle.cmwq_inflight.specs.Keeping.{no_keys, keys_at, flight_by, flights_by, AreKeysOf, IsKept, has_run_key, has_unstarted_key, key_count}
+use Rattle.cmwq_inflight.specs.Flights.{Flight, flight_has_run, has_unstarted, open_count, with_flight}
+use Rattle.cmwq_inflight.specs.Keeping.{no_keys, keys_at, flight_by, flights_by, AreKeysOf, AreFlightsKept, has_run_key, has_unstarted_key, key_count}
 use Rattle.cmwq_inflight.proofs.Rows.{set_agree, FindsRow, same_some, flight_at_row, AreKeysOf-kept, flight_alike}
 
 -- ---- counts
@@ -25,7 +25,7 @@ key_count-set rows i keys within =
     omega (arith, runs, others)
 
 -- where an item has no unstarted one there is room for it
-pub room_for_one : (slab : Slab Queueing) (rows : List Keys) (i : ℕ) → IsKept slab rows → i < length rows → (keys_at rows i).unstarted ≡ None
+pub room_for_one : (slab : Slab Queueing) (rows : List Keys) (i : ℕ) → AreFlightsKept slab rows → i < length rows → (keys_at rows i).unstarted ≡ None
     → slab_len slab + 1 ≤ slab.capacity
 room_for_one slab rows i kept within none =
     let keys : Keys = record { run = None; unstarted = Some 0 } in
@@ -45,9 +45,9 @@ count_alike p r slab (x ∷ xs) h =
     ∙ sym (sum_by-cons (λ y. cond (r y) 1 0) x xs)
 
 -- as many are open as the slab holds
-pub open_are_held : (slab : Slab Queueing) (rows : List Keys) → IsKept slab rows → slab_len slab ≡ open_count (flights_by slab rows)
+pub open_are_held : (slab : Slab Queueing) (rows : List Keys) → AreFlightsKept slab rows → slab_len slab ≡ open_count (flights_by slab rows)
 open_are_held slab rows kept =
-    let runs = count_alike has_run has_run_key slab rows (λ i. same_some slab i (keys_at rows i).run (kept.keys i).run) in
+    let runs = count_alike flight_has_run has_run_key slab rows (λ i. same_some slab i (keys_at rows i).run (kept.keys i).run) in
     let others = count_alike has_unstarted has_unstarted_key slab rows (λ i. same_some slab i (keys_at rows i).unstarted (kept.keys i).unstarted) in
     kept.counted ∙ ap₂ (λ m n. m + n) (sym runs) (sym others)
 
@@ -60,8 +60,8 @@ pub record IsStep (old new : Slab Queueing) (rows : List Keys) (i : ℕ) (keys :
   pub own : AreKeysOf new i keys
   pub counted : slab_len new + keys_in (keys_at rows i) ≡ slab_len old + keys_in keys
 
-pub IsKept-step : (old new : Slab Queueing) (rows : List Keys) (i : ℕ) (keys : Keys) → IsStep old new rows i keys → IsKept old rows
-    → IsKept new (set rows i keys)
+pub IsKept-step : (old new : Slab Queueing) (rows : List Keys) (i : ℕ) (keys : Keys) → IsStep old new rows i keys → AreFlightsKept old rows
+    → AreFlightsKept new (set rows i keys)
 IsKept-step old new rows i keys step kept = record {
   few = rw length-set kept.few;
   room = rw (length-set, step.capacity) kept.room;

@@ -12,15 +12,15 @@ no_flight = record { run = None; unstarted = None }
 abbrev pub flight_at : List Flight → ℕ → Flight
 flight_at flights i = slice_index_or flights i no_flight
 
-abbrev pub has_run : Flight → Bool
-has_run f = is_some f.run
+abbrev pub flight_has_run : Flight → Bool
+flight_has_run f = is_some f.run
 
 abbrev pub has_unstarted : Flight → Bool
 has_unstarted f = is_some f.unstarted
 
 -- how many queueings are open: those that run, and those that haven't started
 abbrev pub open_count : List Flight → ℕ
-open_count flights = count_by has_run flights + count_by has_unstarted flights
+open_count flights = count_by flight_has_run flights + count_by has_unstarted flights
 
 -- what becomes of an item's row: its next queueing is opened, cancelled, starts; its run finishes
 abbrev pub with_unstarted : Option Queueing → Flight → Flight
@@ -36,14 +36,14 @@ without_run f = record f { run = None }
 abbrev pub with_flight : (Flight → Flight) → ℕ → List Flight → List Flight
 with_flight change i flights = slice_set flights i (change (flight_at flights i))
 
-abbrev pub opened : List Flight → Queueing → List Flight
-opened flights q = with_flight (with_unstarted (Some q)) q.item.0 flights
+abbrev pub flights_with_open : List Flight → Queueing → List Flight
+flights_with_open flights q = with_flight (with_unstarted (Some q)) q.item.0 flights
 
-abbrev pub taken_back : List Flight → ℕ → List Flight
-taken_back flights i = with_flight (with_unstarted None) i flights
+abbrev pub flights_without_open : List Flight → ℕ → List Flight
+flights_without_open flights i = with_flight (with_unstarted None) i flights
 
-abbrev pub started : List Flight → ℕ → List Flight
-started flights i = with_flight with_started i flights
+abbrev pub flights_with_run : List Flight → ℕ → List Flight
+flights_with_run flights i = with_flight with_started i flights
 
-abbrev pub finished : List Flight → ℕ → List Flight
-finished flights i = with_flight without_run i flights
+abbrev pub flights_without_run : List Flight → ℕ → List Flight
+flights_without_run flights i = with_flight without_run i flights

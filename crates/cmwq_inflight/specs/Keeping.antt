@@ -38,7 +38,7 @@ abbrev pub key_count : List Keys → ℕ
 key_count rows = count_by has_run_key rows + count_by has_unstarted_key rows
 
 -- each key names a queueing of its row's item, no two the same one, and as many are held as there are keys, so nothing else is
-pub record IsKept (slab : Slab Queueing) (rows : List Keys) : Type 0 where
+pub record AreFlightsKept (slab : Slab Queueing) (rows : List Keys) : Type 0 where
   pub few : length rows < 2 ^ 16
   pub room : 2 * length rows ≤ slab.capacity
   pub keys : (i : ℕ) → AreKeysOf slab i (keys_at rows i)

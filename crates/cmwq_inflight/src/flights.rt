@@ -1,5 +1,5 @@
 ghost use Rattle.std.specs.Prelude.{◌≡◌, ◌<◌, Some, None, IfOk, IfSome, IsSome, length, replicate, slice_set};
-ghost use Rattle.cmwq_inflight.specs.Flights.{no_flight, flight_at, open_count, opened, taken_back, started, finished};
+ghost use Rattle.cmwq_inflight.specs.Flights.{no_flight, flight_at, open_count, flights_with_open, flights_without_open, flights_with_run, flights_without_run};
 
 use cmwq_model::{ItemId, NoMemory, Queueing};
 use slab::Slab;
@@ -32,13 +32,13 @@ pub struct Flights {
 impl Model for Flights {
     ghost use Rattle.std.specs.Prelude.{List};
     ghost use Rattle.cmwq_inflight.specs.Flights.{Flight};
-    ghost use Rattle.cmwq_inflight.specs.Keeping.{flights_by, IsKept};
+    ghost use Rattle.cmwq_inflight.specs.Keeping.{flights_by, AreFlightsKept};
 
     ghost Value = { List Flight };
 
     ghost view = { λ f. flights_by f.queueings f.rows.items };
 
-    ghost invariant = { λ f. IsKept f.queueings f.rows.items };
+    ghost invariant = { λ f. AreFlightsKept f.queueings f.rows.items };
 }
 
 impl Flights {
@@ -90,7 +90,7 @@ impl Flights {
     pub fn open(&mut self, queueing: Queueing)
         requires known { queueing.item.0 < length self.old }
         requires none { (flight_at self.old queueing.item.0).unstarted ≡ None }
-        ensures { self.new ≡ opened self.old queueing }
+        ensures { self.new ≡ flights_with_open self.old queueing }
     {
         let key = self.queueings.insert_reserved(queueing);
         self.rows[usize::from(queueing.item.0)].unstarted = Some(key);
@@ -99,7 +99,7 @@ impl Flights {
     /// An item's unstarted queueing is cancelled or replaced, if it has one (the kernel's `try_to_grab_pending`).
     pub fn take_back(&mut self, item: ItemId)
         requires { item.0 < length self.old }
-        ensures { self.new ≡ taken_back self.old item.0 }
+        ensures { self.new ≡ flights_without_open self.old item.0 }
     {
         if let Some(key) = self.rows[usize::from(item.0)].unstarted.take() {
             self.queueings.remove(key);
@@ -110,7 +110,7 @@ impl Flights {
     pub fn start(&mut self, item: ItemId)
         requires free { (flight_at self.old item.0).run ≡ None }
         requires unstarted { IsSome (flight_at self.old item.0).unstarted }
-        ensures { self.new ≡ started self.old item.0 }
+        ensures { self.new ≡ flights_with_run self.old item.0 }
     {
         let row = &mut self.rows[usize::from(item.0)];
         row.run = row.unstarted.take();
@@ -119,7 +119,7 @@ impl Flights {
     /// An item's run ends.
     pub fn finish(&mut self, item: ItemId)
         requires { IsSome (flight_at self.old item.0).run }
-        ensures { self.new ≡ finished self.old item.0 }
+        ensures { self.new ≡ flights_without_run self.old item.0 }
     {
         let run = self.rows[usize::from(item.0)].run.take().unwrap();
         self.queueings.remove(run);

@@ -1,8 +1,7 @@
 -- How calls go on behind others.
-use Rattle.std.proofs.Common.{◌≡◌, ℕ, ◌+◌, ◌≤◌, List, [], ◌∷◌, ◌++◌, Option, Some, None, refl, sym, ap, ◌∙◌, append_assoc, append-nil, inl, inr, zero, suc, arith}
+use Rattle.cmwq_io.specs.Common.{◌≡◌, ℕ, ◌+◌, ◌≤◌, List, [], ◌∷◌, ◌++◌, Option, Some, None, refl, sym, ap, ◌∙◌, append_assoc, append-nil, inl, inr, zero, suc, arith, All}
 use Rattle.std.proofs.lemmas.List.Elements.{All-append}
 use Rattle.std.proofs.lemmas.Grind.{flat_map-append}
-use Rattle.std.specs.Prelude.{All}
 use Rattle.cmwq_io.specs.declared.trouble.Trouble.{Trouble}
 use Rattle.cmwq_io.specs.declared.trouble.Trouble.TheVariants.{Failed}
 use Rattle.cmwq_io.specs.Outcomes.{interruptions, made_after, IsAllMade, IsGivenUp, EndsGivenUp, GoesOnBy}

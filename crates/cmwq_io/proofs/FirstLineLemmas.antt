@@ -1,13 +1,11 @@
 -- The first line, found in the bytes read ahead, is that of the whole text.
-use Rattle.std.proofs.Common.{◌≡◌, ℕ, ◌+◌, ◌<◌, ◌≤◌, Bool, true, false, cond, not, ◌&&◌, eqb, ltb, leb, List, [], ◌++◌, length, take, drop, Option, Some, None, refl, sym, ap, ◌∙◌, arith, append_assoc, length-append, length-take, take-append-drop, is_some}
-use Rattle.std.specs.List.{position, position_or_len}
+use Rattle.cmwq_io.specs.Common.{◌≡◌, ℕ, ◌+◌, ◌<◌, ◌≤◌, Bool, true, false, cond, not, ◌&&◌, eqb, ltb, leb, List, [], ◌++◌, length, take, drop, Option, Some, None, refl, sym, ap, ◌∙◌, arith, append_assoc, length-append, length-take, take-append-drop, is_some, position, position_or_len, take_all, take-append-le, drop-append-le, length-take-le}
 use Rattle.std.proofs.lemmas.Bool.Decides.{nat_tests}
-use Rattle.std.proofs.lemmas.List.{take_all, take-append-le, drop-append-le, length-take-le}
 use Rattle.std.proofs.lemmas.List.Sums.{prefix_len-le-length}
 use Rattle.std.proofs.lemmas.List.Folds.{prefix_len-append}
 use Rattle.cmwq_io.specs.declared.lines.Found.TheVariants.{Whole, Long}
 use Rattle.cmwq_io.specs.Feeds.{is_feed, has_feed, near_feed}
-use Rattle.cmwq_io.specs.FirstLine.{is_short, is_long, first_line, TakesLine}
+use Rattle.cmwq_io.specs.FirstLine.{is_line_short, is_line_long, first_line, TakesLine}
 
 -- where the first line of a text ends
 abbrev stop : List ℕ → ℕ
@@ -54,10 +52,10 @@ stop-far ahead more far =
 length-first_line : (text : List ℕ) → length (first_line text) ≡ stop text
 length-first_line text = length-take-le (stop text) text (stop-within text)
 
-short_line : (text : List ℕ) → stop text ≤ 120 → is_long text ≡ false
+short_line : (text : List ℕ) → stop text ≤ 120 → is_line_long text ≡ false
 short_line text h = grind (arith, nat_tests, length-first_line text)
 
-long_line : (text : List ℕ) → 120 < stop text → is_long text ≡ true
+long_line : (text : List ℕ) → 120 < stop text → is_line_long text ≡ true
 long_line text h = grind (arith, nat_tests, length-first_line text)
 
 feed_there : (text : List ℕ) → stop text < length text → has_feed text ≡ true
@@ -81,18 +79,18 @@ takes_whole ahead more at near =
     }
 
 -- few bytes without a line feed near their front are short
-few_are_short : (ahead : List ℕ) → length ahead ≤ 120 → near_feed ahead ≡ None → is_short ahead ≡ true
+few_are_short : (ahead : List ℕ) → length ahead ≤ 120 → near_feed ahead ≡ None → is_line_short ahead ≡ true
 few_are_short ahead few far =
     let whole : take 121 ahead ≡ ahead = take_all 121 ahead (omega arith) in
     let past = no_place (stop ahead) (length ahead) (ap (position is_feed) (sym whole) ∙ far) in
     let none = no_feed ahead past in
     grind (arith, nat_tests)
 
-many : (ahead : List ℕ) (b : Bool) → leb (length ahead) 120 ≡ b → near_feed ahead ≡ None → is_short ahead ≡ false → 120 < length ahead
+many : (ahead : List ℕ) (b : Bool) → leb (length ahead) 120 ≡ b → near_feed ahead ≡ None → is_line_short ahead ≡ false → 120 < length ahead
 many ahead true few far open_end = let short = few_are_short ahead (grind (arith, nat_tests)) far in cc
 many ahead false few far open_end = grind (arith, nat_tests)
 
-pub takes_long : (ahead more : List ℕ) → near_feed ahead ≡ None → is_short ahead ≡ false → TakesLine (ahead ++ more) (ahead ++ more) Long []
+pub takes_long : (ahead more : List ℕ) → near_feed ahead ≡ None → is_line_short ahead ≡ false → TakesLine (ahead ++ more) (ahead ++ more) Long []
 takes_long ahead more far open_end =
     let text = ahead ++ more in
     let past = stop-far ahead more far in
@@ -109,7 +107,7 @@ few_tested : (few feed b : Bool) → few ≡ true → feed ≡ not b → b ≡ f
 few_tested few feed true p q = cc
 few_tested few feed false p q = cc
 
-pub short_by_near : (ahead : List ℕ) (near : Option ℕ) (none : Bool) → length ahead ≤ 120 → near ≡ near_feed ahead → is_some near ≡ not none → none ≡ is_short ahead
+pub short_by_near : (ahead : List ℕ) (near : Option ℕ) (none : Bool) → length ahead ≤ 120 → near ≡ near_feed ahead → is_some near ≡ not none → none ≡ is_line_short ahead
 short_by_near ahead near none few at b =
     let whole : take 121 ahead ≡ ahead = take_all 121 ahead (omega arith) in
     let feed = ap is_some (sym (at ∙ ap (position is_feed) whole)) ∙ b in

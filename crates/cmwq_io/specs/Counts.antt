@@ -17,11 +17,11 @@ pub record Rises (old new : ℕ) : Type 0 where
   pub more : old < 2 ^ 64 - 1 → old < new
 
 -- at most so many calls failed
-pub record IsWithin (most old new : ℕ) : Type 0 where
+pub record IsCountWithin (most old new : ℕ) : Type 0 where
   pub grown : old ≤ new
   pub within : new ≤ old + most
 
 -- a call that is made again where it was interrupted, at most a thousand times: one or more calls failed at Err
 abbrev pub Tries : {T E : Type 0} → ℕ → ℕ → Result T E → Type 0
-Tries old new (Ok x) = IsWithin 1000 old new
-Tries old new (Err e) = IsWithin 1001 old new × Rises old new
+Tries old new (Ok x) = IsCountWithin 1000 old new
+Tries old new (Err e) = IsCountWithin 1001 old new × Rises old new

@@ -4,17 +4,17 @@ use Rattle.cmwq_io.specs.declared.trouble.Trouble.{Trouble}
 use Rattle.cmwq_io.specs.declared.fails_at.Plan.{Plan}
 use Rattle.cmwq_io.specs.declared.fails_at.FailsAt.{FailsAt}
 
-abbrev pub inner_of : {T : Type 0} → FailsAt T → T
-inner_of f = f.inner
+abbrev pub failing_inner : {T : Type 0} → FailsAt T → T
+failing_inner f = f.inner
 
-abbrev pub plan_of : {T : Type 0} → FailsAt T → Plan
-plan_of f = f.plan
+abbrev pub failing_plan : {T : Type 0} → FailsAt T → Plan
+failing_plan f = f.plan
 
-abbrev pub troubles_of : {T : Type 0} → FailsAt T → ℕ
-troubles_of f = f.troubles
+abbrev pub failing_troubles : {T : Type 0} → FailsAt T → ℕ
+failing_troubles f = f.troubles
 
-abbrev pub outcomes_of : {T : Type 0} → FailsAt T → List (Option Trouble)
-outcomes_of f = f.outcomes
+abbrev pub failing_outcomes : {T : Type 0} → FailsAt T → List (Option Trouble)
+failing_outcomes f = f.outcomes
 
 -- the trouble that the next call answers
 abbrev pub trouble_due : Plan → Option Trouble

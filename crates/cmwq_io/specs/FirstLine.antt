@@ -1,6 +1,5 @@
 -- The first line of a text, and what stands after it. A line ends at a line feed, which isn't part of it, or at the end of the text.
-use Rattle.std.specs.Prelude.{◌≡◌, ℕ, Bool, ◌==◌, ◌&&◌, not, nat_le, if◌then◌else◌, List, [], length, nat_lt, Option, Some, None, ⊤}
-use Rattle.std.specs.List.{before_first, after_first}
+use Rattle.cmwq_io.specs.Common.{◌≡◌, ℕ, Bool, ◌==◌, ◌&&◌, not, nat_le, if◌then◌else◌, List, [], length, nat_lt, Option, Some, None, ⊤, before_first, after_first}
 use Rattle.cmwq_io.specs.Feeds.{is_feed, has_feed}
 use Rattle.cmwq_io.specs.declared.lines.Found.{Found}
 use Rattle.cmwq_io.specs.declared.lines.Found.TheVariants.{Whole, Cut, Long, End}
@@ -13,31 +12,31 @@ first_line text = before_first is_feed text
 abbrev pub after_line : List ℕ → List ℕ
 after_line text = after_first is_feed text
 
-abbrev pub is_long : List ℕ → Bool
-is_long text = nat_lt 120 (length (first_line text))
+abbrev pub is_line_long : List ℕ → Bool
+is_line_long text = nat_lt 120 (length (first_line text))
 
-abbrev pub found : List ℕ → Found
-found text =
-    if is_long text then Long
+abbrev pub line_found : List ℕ → Found
+line_found text =
+    if is_line_long text then Long
     else if has_feed text then Whole
     else if length text == 0 then End
     else Cut
 
 -- bytes after which it is still open how the line that they begin ends
-abbrev pub is_short : List ℕ → Bool
-is_short bytes = nat_le (length bytes) 120 && not (has_feed bytes)
+abbrev pub is_line_short : List ℕ → Bool
+is_line_short bytes = nat_le (length bytes) 120 && not (has_feed bytes)
 
 -- what is given out of the text, and what is left of it: a long line stays where it stands
-abbrev pub given : List ℕ → List ℕ
-given text = if is_long text then [] else first_line text
+abbrev pub rest_given : List ℕ → List ℕ
+rest_given text = if is_line_long text then [] else first_line text
 
 abbrev pub left_over : List ℕ → List ℕ
-left_over text = if is_long text then text else after_line text
+left_over text = if is_line_long text then text else after_line text
 
 -- the first line of the old text was taken, and the new text is what is left
 pub record TakesLine (old new : List ℕ) (how : Found) (line : List ℕ) : Type 0 where
-  pub kind : how ≡ found old
-  pub bytes : line ≡ given old
+  pub kind : how ≡ line_found old
+  pub bytes : line ≡ rest_given old
   pub rest : new ≡ left_over old
 
 -- the same where the text is known

@@ -11,11 +11,11 @@ abbrev pub trouble_of : ErrorKind → Trouble
 trouble_of kind.Interrupted = Interrupted
 trouble_of k = Failed
 
-abbrev pub inner_of : {T : Type 0} → FromStd T → T
-inner_of s = s.inner
+abbrev pub std_inner : {T : Type 0} → FromStd T → T
+std_inner s = s.inner
 
-abbrev pub troubles_of : {T : Type 0} → FromStd T → ℕ
-troubles_of s = s.troubles
+abbrev pub std_troubles : {T : Type 0} → FromStd T → ℕ
+std_troubles s = s.troubles
 
-abbrev pub outcomes_of : {T : Type 0} → FromStd T → List (Option Trouble)
-outcomes_of s = s.outcomes
+abbrev pub std_outcomes : {T : Type 0} → FromStd T → List (Option Trouble)
+std_outcomes s = s.outcomes

@@ -6,8 +6,8 @@ use Rattle.cmwq_io.specs.declared.memory.Memory.{Memory}
 abbrev pub bytes_of : {T : Type 0} → Memory T → T
 bytes_of m = m.bytes
 
-abbrev pub troubles_of : {T : Type 0} → Memory T → ℕ
-troubles_of m = m.troubles
+abbrev pub memory_troubles : {T : Type 0} → Memory T → ℕ
+memory_troubles m = m.troubles
 
-abbrev pub outcomes_of : {T : Type 0} → Memory T → List (Option Trouble)
-outcomes_of m = m.outcomes
+abbrev pub memory_outcomes : {T : Type 0} → Memory T → List (Option Trouble)
+memory_outcomes m = m.outcomes

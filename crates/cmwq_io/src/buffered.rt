@@ -24,14 +24,14 @@ pub struct BufferedSink<W> {
 }
 
 impl<W> BufferedSink<W> {
-    ghost use Rattle.cmwq_io.specs.Buffered.{inner_of, gathered};
+    ghost use Rattle.cmwq_io.specs.Buffered.{buffered_inner, buffered_bytes};
 
     /// Writes to `inner`. Takes 65,536 bytes, and fails where memory runs out.
     pub fn new(alloc: Global, inner: W) -> Result<BufferedSink<W>, AllocError>
     where
         W: Drop,
-        ensures inner { IfOk result (λ s. inner_of s ≡ inner) }
-        ensures empty { IfOk result (λ s. gathered s ≡ []) }
+        ensures inner { IfOk result (λ s. buffered_inner s ≡ inner) }
+        ensures empty { IfOk result (λ s. buffered_bytes s ≡ []) }
     {
         let buffer = Vec::with_capacity(alloc, BUFFER)?;
         Ok(BufferedSink {
@@ -43,14 +43,14 @@ impl<W> BufferedSink<W> {
 
     /// What it writes to.
     pub fn inner(&self) -> &W
-        ensures { result.now ≡ inner_of self.now }
+        ensures { result.now ≡ buffered_inner self.now }
     {
         &self.inner
     }
 }
 
 impl<W: Sink> BufferedSink<W> {
-    ghost use Rattle.cmwq_io.specs.Buffered.{inner_of, gathered, all_written};
+    ghost use Rattle.cmwq_io.specs.Buffered.{buffered_inner, buffered_bytes, all_written};
 
     /// Hands on some of what is gathered, in one write.
     fn hand_on(&mut self) -> Result<(), Trouble>
@@ -95,7 +95,7 @@ impl<W: Sink> BufferedSink<W> {
     /// Hands on all that is gathered, and has the inner sink hand on all.
     fn hand_all_on(&mut self) -> Result<(), Trouble>
         ensures bytes { Keeps (all_written W.written self.old) (all_written W.written self.new) }
-        ensures empty { OnOk result (length (gathered self.new) + W.held self.new.inner ≡ 0) }
+        ensures empty { OnOk result (length (buffered_bytes self.new) + W.held self.new.inner ≡ 0) }
         ensures count { CountsTrouble (W.troubles self.old.inner) (W.troubles self.new.inner) result }
         ensures outcomes { self.new.outcomes ≡ self.old.outcomes }
     {

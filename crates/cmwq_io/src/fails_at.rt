@@ -52,15 +52,15 @@ pub struct FailsAt<T> {
 }
 
 impl<T> FailsAt<T> {
-    ghost use Rattle.cmwq_io.specs.FailsAt.{inner_of, plan_of, troubles_of, outcomes_of};
+    ghost use Rattle.cmwq_io.specs.FailsAt.{failing_inner, failing_plan, failing_troubles, failing_outcomes};
 
     /// The call with this number, counted from 1, answers `Failed`, and all others are passed on.
     pub fn new(inner: T, call: u64) -> FailsAt<T>
         requires { 0 < call }
-        ensures inner { inner_of result ≡ inner }
-        ensures plan { plan_of result ≡ record { before = call - 1; times = 1; trouble = Trouble.Failed } }
-        ensures troubles { troubles_of result ≡ 0 }
-        ensures outcomes { outcomes_of result ≡ [] }
+        ensures inner { failing_inner result ≡ inner }
+        ensures plan { failing_plan result ≡ record { before = call - 1; times = 1; trouble = Trouble.Failed } }
+        ensures troubles { failing_troubles result ≡ 0 }
+        ensures outcomes { failing_outcomes result ≡ [] }
     {
         let plan = Plan {
             before: call - 1,
@@ -79,10 +79,10 @@ impl<T> FailsAt<T> {
     /// are passed on.
     pub fn interrupted(inner: T, call: u64, times: u64) -> FailsAt<T>
         requires { 0 < call }
-        ensures inner { inner_of result ≡ inner }
-        ensures plan { plan_of result ≡ record { before = call - 1; times = times; trouble = Trouble.Interrupted } }
-        ensures troubles { troubles_of result ≡ 0 }
-        ensures outcomes { outcomes_of result ≡ [] }
+        ensures inner { failing_inner result ≡ inner }
+        ensures plan { failing_plan result ≡ record { before = call - 1; times = times; trouble = Trouble.Interrupted } }
+        ensures troubles { failing_troubles result ≡ 0 }
+        ensures outcomes { failing_outcomes result ≡ [] }
     {
         let plan = Plan {
             before: call - 1,
@@ -99,7 +99,7 @@ impl<T> FailsAt<T> {
 
     /// What the calls are passed on to.
     pub fn inner(&self) -> &T
-        ensures { result.now ≡ inner_of self.now }
+        ensures { result.now ≡ failing_inner self.now }
     {
         &self.inner
     }

@@ -20,13 +20,13 @@ pub struct FromStd<T> {
 }
 
 impl<T> FromStd<T> {
-    ghost use Rattle.cmwq_io.specs.FromStd.{inner_of, troubles_of, outcomes_of};
+    ghost use Rattle.cmwq_io.specs.FromStd.{std_inner, std_troubles, std_outcomes};
 
     /// Reads from `inner`, or writes to it. No call has failed yet.
     pub fn new(inner: T) -> FromStd<T>
-        ensures inner { inner_of result ≡ inner }
-        ensures troubles { troubles_of result ≡ 0 }
-        ensures outcomes { outcomes_of result ≡ [] }
+        ensures inner { std_inner result ≡ inner }
+        ensures troubles { std_troubles result ≡ 0 }
+        ensures outcomes { std_outcomes result ≡ [] }
     {
         FromStd {
             inner,

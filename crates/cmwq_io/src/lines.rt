@@ -101,7 +101,7 @@ impl Model for Lines {
 }
 
 impl Lines {
-    ghost use Rattle.cmwq_io.specs.FirstLine.{is_short, TakesLine, TakesKnownLine};
+    ghost use Rattle.cmwq_io.specs.FirstLine.{is_line_short, TakesLine, TakesKnownLine};
 
     /// Has read nothing yet. Takes 65,536 bytes, and fails where memory runs out.
     pub fn new(alloc: Global) -> Result<Lines, AllocError>
@@ -159,7 +159,7 @@ impl Lines {
     /// Whether the bytes read ahead leave open how the next line ends: there is no line feed among them, and
     /// they are no more than a line may have.
     fn is_short(&self) -> bool
-        ensures { result ≡ is_short self.now }
+        ensures { result ≡ is_line_short self.now }
     {
         let ahead = self.ahead();
         ahead.len() <= LINE_LIMIT && feed_in(ahead).is_none()
@@ -186,7 +186,7 @@ impl Lines {
 
     /// Takes the first line off the bytes read ahead, whatever stands behind them.
     fn take_first(&mut self, line: &mut Line) -> Found
-        requires { is_short self.old ≡ false }
+        requires { is_line_short self.old ≡ false }
         ensures { (more : List ℕ) → TakesLine (self.old ++ more) (self.new ++ more) result line.new }
     {
         let ahead = self.ahead();
@@ -205,7 +205,7 @@ impl Lines {
 
     /// Takes the bytes read ahead as the last line, behind which nothing stands.
     fn take_last(&mut self, line: &mut Line) -> Found
-        requires { is_short self.old ≡ true }
+        requires { is_line_short self.old ≡ true }
         ensures taken { TakesLine self.old [] result line.new }
         ensures rest { self.new ≡ [] }
     {

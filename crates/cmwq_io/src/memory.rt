@@ -18,13 +18,13 @@ pub struct Memory<T> {
 }
 
 impl<T> Memory<T> {
-    ghost use Rattle.cmwq_io.specs.Memory.{bytes_of, troubles_of, outcomes_of};
+    ghost use Rattle.cmwq_io.specs.Memory.{bytes_of, memory_troubles, memory_outcomes};
 
     /// Over these bytes. No call yet.
     fn over(bytes: T) -> Memory<T>
         ensures bytes { bytes_of result ≡ bytes }
-        ensures troubles { troubles_of result ≡ 0 }
-        ensures outcomes { outcomes_of result ≡ [] }
+        ensures troubles { memory_troubles result ≡ 0 }
+        ensures outcomes { memory_outcomes result ≡ [] }
     {
         Memory {
             bytes,
@@ -35,27 +35,27 @@ impl<T> Memory<T> {
 }
 
 impl<'a> Memory<&'a [u8]> {
-    ghost use Rattle.cmwq_io.specs.Memory.{bytes_of, troubles_of, outcomes_of};
+    ghost use Rattle.cmwq_io.specs.Memory.{bytes_of, memory_troubles, memory_outcomes};
 
     /// Reads these bytes.
     pub fn reader(bytes: &'a [u8]) -> Memory<&'a [u8]>
         ensures bytes { (bytes_of result).now ≡ bytes.entry.now }
-        ensures troubles { troubles_of result ≡ 0 }
-        ensures outcomes { outcomes_of result ≡ [] }
+        ensures troubles { memory_troubles result ≡ 0 }
+        ensures outcomes { memory_outcomes result ≡ [] }
     {
         Memory::over(bytes)
     }
 }
 
 impl Memory<Vec<u8>> {
-    ghost use Rattle.cmwq_io.specs.Memory.{bytes_of, troubles_of, outcomes_of};
+    ghost use Rattle.cmwq_io.specs.Memory.{bytes_of, memory_troubles, memory_outcomes};
 
     /// Takes `room` bytes. Fails where memory runs out.
     pub fn writer(alloc: Global, room: usize) -> Result<Memory<Vec<u8>>, AllocError>
         ensures bytes { IfOk result (λ m. (bytes_of m).items ≡ []) }
         ensures room { IfOk result (λ m. vec_capacity (bytes_of m) ≡ room) }
-        ensures troubles { IfOk result (λ m. troubles_of m ≡ 0) }
-        ensures outcomes { IfOk result (λ m. outcomes_of m ≡ []) }
+        ensures troubles { IfOk result (λ m. memory_troubles m ≡ 0) }
+        ensures outcomes { IfOk result (λ m. memory_outcomes m ≡ []) }
     {
         let bytes = Vec::with_capacity(alloc, room)?;
         Ok(Memory::over(bytes))

@@ -1,11 +1,5 @@
 -- A member added under a name.
-use Rattle.std.proofs.Common.{◌≡◌, ◌<◌, ℕ, ◌&&◌, Bool, true, false, not, List, [], ◌∷◌, ◌++◌, length, map, Option, Some, None, refl, sym, ap, ap₂, nat_lt, ◌∙◌, string_bytes, if◌then◌else◌}
-use Rattle.std.specs.Prelude.{String}
-use Rattle.std.specs.declared.alloc.Global.{Global}
-use Rattle.std.specs.Str.{bytes_eq}
-use Rattle.std.specs.List.{list_any}
-use Rattle.std.proofs.lemmas.Bool.{lt-ltb}
-use Rattle.std.proofs.lemmas.List.{length-map, map-append}
+use Rattle.cmwq_json.specs.Common.{◌≡◌, ◌<◌, ℕ, ◌&&◌, Bool, true, false, not, List, [], ◌∷◌, ◌++◌, length, map, Option, Some, None, refl, sym, ap, ap₂, nat_lt, ◌∙◌, string_bytes, if◌then◌else◌, String, Global, bytes_eq, list_any, lt-ltb, length-map, map-append}
 use Rattle.indexmap.specs.IndexSet.{insert_key}
 use Rattle.cmwq_json.specs.Names.{Named, add_named, is_taken}
 use Rattle.cmwq_json.proofs.Arrays.{list_any-map}

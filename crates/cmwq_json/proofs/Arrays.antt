@@ -1,14 +1,6 @@
 -- Lists seen through a view of each element.
-use Rattle.std.proofs.Common.{◌≡◌, ℕ, suc, ◌||◌, ◌&&◌, ◌+◌, ◌==◌, nat_eq, Bor, Bool, true, false, cond, not, List, [], ◌∷◌, length, map, position, Option, Some, None, refl, ap, ap₂, nat_lt, ◌∙◌, sym}
-use Rattle.std.proofs.lemmas.List.{length-map}
-use Rattle.std.specs.List.{list_any, list_all, prefix_len}
-use Rattle.std.specs.Prelude.{String, option_map}
-use Rattle.std.specs.Option.{option_map_or, option_eq}
+use Rattle.cmwq_json.specs.Common.{◌≡◌, ℕ, suc, ◌||◌, ◌&&◌, ◌+◌, ◌==◌, nat_eq, Bor, Bool, true, false, cond, not, List, [], ◌∷◌, length, map, position, Option, Some, None, refl, ap, ap₂, nat_lt, ◌∙◌, sym, length-map, list_any, list_all, prefix_len, String, option_map, option_map_or, option_eq, Members, Global, Value, members_view}
 use Rattle.std.proofs.lemmas.List.Folds.{list_all-map}
-use Rattle.serde_json.specs.Data.{Members}
-use Rattle.std.specs.declared.alloc.Global.{Global}
-use Rattle.serde_json.specs.declared.value.Value.{Value}
-use Rattle.serde_json.specs.View.{members_view}
 use Rattle.cmwq_json.specs.Keys.{count_of}
 
 pub count_of-members_view : (ms : List (String Global × Value)) → count_of (members_view ms) ≡ length ms

@@ -1,21 +1,13 @@
 -- Numbers, widths and members keep to their limits.
-use Rattle.std.proofs.Common.{◌≡◌, ℕ, zero, suc, ◌<◌, ◌≤◌, ◌&&◌, Bool, true, false, not, nat_lt, nat_le, ◌==◌, List, [], ◌∷◌, ◌++◌, length, cond, Option, Some, None, refl, sym, ap, subst, ◌∙◌, arith, if◌then◌else◌, length-append}
-use Rattle.std.specs.Prelude.{option_map, option_and_then, codes, IfSome, min, position}
-use Rattle.std.specs.List.{AllByRecursion, position_or_len}
-use Rattle.std.proofs.lemmas.Bool.{and_parts, ne_eqb}
+use Rattle.cmwq_json.specs.Common.{◌≡◌, ℕ, zero, suc, ◌<◌, ◌≤◌, ◌&&◌, Bool, true, false, not, nat_lt, nat_le, ◌==◌, List, [], ◌∷◌, ◌++◌, length, cond, Option, Some, None, refl, sym, ap, subst, ◌∙◌, arith, if◌then◌else◌, length-append, option_map, option_and_then, codes, IfSome, min, position, AllByRecursion, position_or_len, and_parts, ne_eqb, Data, get, as_bool, as_number, as_u64}
 use Rattle.std.proofs.lemmas.Bool.Decides.{nat_tests}
 use Rattle.std.proofs.lemmas.Option.{same_Some}
-use Rattle.serde_json.specs.Data.{Data}
-use Rattle.serde_json.specs.Find.{get, as_bool, as_number, as_u64}
-use Rattle.cmwq_json.specs.Names.{Named, add_named, is_between, is_taken, name_said}
+use Rattle.cmwq_json.specs.Names.{Named, add_named, is_in_range, is_taken, name_said}
 use Rattle.cmwq_json.specs.Numbers.{number_between, width_for, width_said}
 use Rattle.cmwq_json.specs.Queues.{with_parts, parts_said}
+use Rattle.cmwq_lemmas.proofs.Lists.{All_push}
 
 -- ---- lists with one more
-
-pub all_pushed : {X : Type 0} (P : X → Type 0) (xs : List X) (x : X) → AllByRecursion P xs → P x → AllByRecursion P (xs ++ x ∷ [])
-all_pushed P [] x all one = (one, tt)
-all_pushed P (y ∷ xs) x all one = (all.0, all_pushed P xs x all.1 one)
 
 -- members that each have a name, no more than so many
 pub record AreKept {X : Type 0} (most : ℕ) (P : X → Type 0) (m : Named X) : Type 0 where
@@ -32,7 +24,7 @@ added {X} most P before after x k one is = at (nat_lt (length before.names) most
         let same = k.same in
         let a = length-append before.names (x.0 ∷ []) in
         let b = length-append before.values (x.1 ∷ []) in
-        subst (AreKept most P) (same_Some _ after h) (record { same = omega arith; few = omega arith; values = all_pushed P before.values x.1 k.values one })
+        subst (AreKept most P) (same_Some _ after h) (record { same = omega arith; few = omega arith; values = All_push P before.values x.1 k.values one })
     at true room true h = cc
     at false room t h = cc
 
@@ -41,7 +33,7 @@ added {X} most P before after x k one is = at (nat_lt (length before.names) most
 abbrev pub AreBetween : ℕ → ℕ → ℕ → Type 0
 AreBetween low high n = (low ≤ n) × (n ≤ high)
 
-pub between : (low high n : ℕ) → is_between low high n ≡ true → AreBetween low high n
+pub between : (low high n : ℕ) → is_in_range low high n ≡ true → AreBetween low high n
 between low high n h =
     let p = and_parts (nat_le low n) (nat_le n high) h in
     let a : low ≤ n = grind (arith, nat_tests) in
@@ -51,13 +43,13 @@ between low high n h =
 pub number_limits : (low high : ℕ) (d : Data) → IfSome (number_between low high d) (AreBetween low high)
 number_limits low high d = at (option_and_then as_u64 (as_number d))
   where
-    pick : (n : ℕ) (b : Bool) → is_between low high n ≡ b → IfSome (if b then Some n else None) (AreBetween low high)
+    pick : (n : ℕ) (b : Bool) → is_in_range low high n ≡ b → IfSome (if b then Some n else None) (AreBetween low high)
     pick n true h = between low high n h
     pick n false h = tt
 
-    at : (o : Option ℕ) → IfSome (option_and_then (λ n. if is_between low high n then Some n else None) o) (AreBetween low high)
+    at : (o : Option ℕ) → IfSome (option_and_then (λ n. if is_in_range low high n then Some n else None) o) (AreBetween low high)
     at None = tt
-    at (Some n) = pick n (is_between low high n) refl
+    at (Some n) = pick n (is_in_range low high n) refl
 
 pub width_limits : (d : Data) → IfSome (width_said d) (AreBetween 1 512)
 width_limits d = at (number_between 0 4294967295 d)

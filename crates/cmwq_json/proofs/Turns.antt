@@ -1,12 +1,5 @@
 -- What is left of an array that is taken in turn.
-use Rattle.std.proofs.Common.{◌≡◌, ℕ, zero, suc, ◌+◌, ◌<◌, ◌≤◌, List, [], ◌∷◌, drop, length, get_or, Option, Some, None, Result, Ok, Err, refl, sym, ap, subst, ◌∙◌, add-one, drop-cons, arith}
-use Rattle.std.specs.Prelude.{option_and_then}
-use Rattle.std.specs.Option.{option_map_or}
-use Rattle.serde_json.specs.Find.{as_array}
-use Rattle.std.specs.Result.{result_unwrap_or}
-use Rattle.serde_json.specs.Data.{Data, Items, no_items, item}
-use Rattle.serde_json.specs.declared.value.Value.{Value}
-use Rattle.serde_json.specs.View.{view, items_view}
+use Rattle.cmwq_json.specs.Common.{◌≡◌, ℕ, zero, suc, ◌+◌, ◌<◌, ◌≤◌, List, [], ◌∷◌, drop, length, get_or, Option, Some, None, Result, Ok, Err, refl, sym, ap, subst, ◌∙◌, add-one, drop-cons, arith, option_and_then, option_map_or, as_array, result_unwrap_or, Data, Items, no_items, item, Value, view, items_view}
 use Rattle.cmwq_json.specs.InTurn.{in_turn}
 
 pub drop_end : (i : ℕ) (all : List Value) → length all ≤ i → drop i all ≡ []

@@ -1,7 +1,5 @@
 -- The items of an array taken in turn.
-use Rattle.std.specs.Prelude.{ℕ, ◌+◌, Option, Result, Ok, Err}
-use Rattle.std.specs.Option.{option_map_or}
-use Rattle.serde_json.specs.Data.{Data, Items, no_items, item}
+use Rattle.cmwq_json.specs.Common.{ℕ, ◌+◌, Option, Result, Ok, Err, option_map_or, Data, Items, no_items, item}
 
 -- Each item adds to what those before it said. The first that can't gives its place, counted on from n.
 abbrev pub in_turn : {S : Type 0} → (S → Data → Option S) → ℕ → S → Items → Result S ℕ

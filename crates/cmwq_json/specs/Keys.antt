@@ -1,9 +1,5 @@
 -- The keys of an object.
-use Rattle.std.specs.Prelude.{ℕ, suc, Bool, false, ◌&&◌, ◌==◌, List, length, is_some}
-use Rattle.std.specs.Option.{option_map_or}
-use Rattle.std.specs.List.{list_all}
-use Rattle.serde_json.specs.Data.{Data, Members, no_members, member}
-use Rattle.serde_json.specs.Find.{get, as_object}
+use Rattle.cmwq_json.specs.Common.{ℕ, suc, Bool, false, ◌&&◌, ◌==◌, List, length, is_some, option_map_or, list_all, Data, Members, no_members, member, get, as_object}
 
 abbrev pub count_of : Members → ℕ
 count_of no_members = 0

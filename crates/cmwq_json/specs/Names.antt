@@ -1,19 +1,15 @@
 -- Names, and members that each have one of their own.
-use Rattle.std.specs.Prelude.{ℕ, Bool, ◌&&◌, ◌||◌, not, ◌==◌, if◌then◌else◌, List, [], ◌∷◌, ◌++◌, length, map, position, Option, Some, None, option_and_then, nat_le, nat_lt}
-use Rattle.std.specs.Str.{bytes_eq}
-use Rattle.std.specs.List.{list_any, list_all}
-use Rattle.serde_json.specs.Data.{Data}
-use Rattle.serde_json.specs.Find.{as_str}
+use Rattle.cmwq_json.specs.Common.{ℕ, Bool, ◌&&◌, ◌||◌, not, ◌==◌, if◌then◌else◌, List, [], ◌∷◌, ◌++◌, length, map, position, Option, Some, None, option_and_then, nat_le, nat_lt, bytes_eq, list_any, list_all, Data, as_str}
 
-abbrev pub is_between : ℕ → ℕ → ℕ → Bool
-is_between low high n = nat_le low n && nat_le n high
+abbrev pub is_in_range : ℕ → ℕ → ℕ → Bool
+is_in_range low high n = nat_le low n && nat_le n high
 
 -- A to Z, a to z, 0 to 9, and _
 abbrev pub is_name_byte : ℕ → Bool
-is_name_byte b = is_between 65 90 b || is_between 97 122 b || is_between 48 57 b || b == 95
+is_name_byte b = is_in_range 65 90 b || is_in_range 97 122 b || is_in_range 48 57 b || b == 95
 
 abbrev pub is_name : List ℕ → Bool
-is_name name = is_between 1 16 (length name) && list_all is_name_byte name
+is_name name = is_in_range 1 16 (length name) && list_all is_name_byte name
 
 abbrev pub name_said : Data → Option (List ℕ)
 name_said d = option_and_then (λ name. if is_name name then Some name else None) (as_str d)
@@ -30,8 +26,8 @@ abbrev pub is_taken : List (List ℕ) → List ℕ → Bool
 is_taken names name = list_any (bytes_eq name) names
 
 -- the number of a name is its place
-abbrev pub number_of : List (List ℕ) → List ℕ → Option ℕ
-number_of names name = position (bytes_eq name) names
+abbrev pub number_of_name : List (List ℕ) → List ℕ → Option ℕ
+number_of_name names name = position (bytes_eq name) names
 
 -- one more, where there is room for it among so many and nobody before has its name
 abbrev pub add_named : {X : Type 0} → ℕ → Named X → List ℕ × X → Option (Named X)

@@ -1,12 +1,10 @@
 -- Numbers, widths and flags.
-use Rattle.std.specs.Prelude.{ℕ, if◌then◌else◌, Option, Some, None, option_map, option_and_then, min, ◌==◌}
-use Rattle.serde_json.specs.Data.{Data}
-use Rattle.serde_json.specs.Find.{as_number, as_u64}
-use Rattle.cmwq_json.specs.Names.{is_between}
+use Rattle.cmwq_json.specs.Common.{ℕ, if◌then◌else◌, Option, Some, None, option_map, option_and_then, min, ◌==◌, Data, as_number, as_u64}
+use Rattle.cmwq_json.specs.Names.{is_in_range}
 
 -- a whole number from low to high
 abbrev pub number_between : ℕ → ℕ → Data → Option ℕ
-number_between low high d = option_and_then (λ n. if is_between low high n then Some n else None) (option_and_then as_u64 (as_number d))
+number_between low high d = option_and_then (λ n. if is_in_range low high n then Some n else None) (option_and_then as_u64 (as_number d))
 
 -- max_active, where 0 stands for 256, and more than 512 for 512
 abbrev pub width_for : ℕ → ℕ

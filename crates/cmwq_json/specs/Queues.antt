@@ -1,7 +1,5 @@
 -- What every reader of queues takes from a queue: its name, its max_active, and whether it is CPU intensive.
-use Rattle.std.specs.Prelude.{ℕ, Bool, List, Option, Some, None, option_and_then, codes}
-use Rattle.serde_json.specs.Data.{Data}
-use Rattle.serde_json.specs.Find.{get, as_bool}
+use Rattle.cmwq_json.specs.Common.{ℕ, Bool, List, Option, Some, None, option_and_then, codes, Data, get, as_bool}
 use Rattle.cmwq_json.specs.Names.{name_said}
 use Rattle.cmwq_json.specs.Numbers.{width_said}
 

@@ -39,7 +39,7 @@ pub fn read_name(value: &Value) -> Option<&str>
 
 /// The number of a name: its place in the order in which names were added.
 pub fn number_of(names: &IndexSet<String>, name: &str) -> Option<usize>
-    ensures number { result ≡ spec.number_of (map string_bytes names.now.keys) name.now }
+    ensures number { result ≡ spec.number_of_name (map string_bytes names.now.keys) name.now }
     ensures within { IfSome result (λ number. number < length names.now.keys) }
 {
     names.get_index_of(name)

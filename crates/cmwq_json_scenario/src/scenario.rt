@@ -3,13 +3,13 @@
 ghost use Rattle.std.specs.Prelude.{◌≡◌, ◌≤◌, length, IfOk, Ok, Some, None, option_map, option_and_then, if◌then◌else◌, map, string_bytes, codes};
 ghost use Rattle.serde_json.specs.Find.{get, as_array};
 ghost use Rattle.serde_json.specs.View.{view, items_view};
-ghost use Rattle.cmwq_sim.specs.Plan.{item_of};
+ghost use Rattle.cmwq_sim.specs.Plan.{plan_item};
 ghost use Rattle.cmwq_json.specs.InTurn.{in_turn};
 ghost use Rattle.cmwq_json.specs.Names.{name_said, nobody};
 ghost use Rattle.cmwq_json.specs.Members.{named_of};
-ghost use Rattle.cmwq_json.specs.Readings.{told};
+ghost use Rattle.cmwq_json.specs.Readings.{map_ok};
 ghost use Rattle.cmwq_json_scenario.specs.Scenarios as spec;
-ghost use Rattle.cmwq_json_scenario.specs.Readings.{items_of, with_names_of, HasLimits};
+ghost use Rattle.cmwq_json_scenario.specs.Readings.{named_items, with_names_of, HasLimits};
 
 use cmwq_input::{Part, Refused};
 use cmwq_json::{
@@ -29,7 +29,7 @@ pub struct ScenarioWithNames {
 
 /// A queue: an object with a name, a max_active, and whether it is CPU intensive.
 fn read_queue(value: &Value) -> Option<(&str, SimQueue)>
-    ensures { option_map (λ r. (r.0.now, r.1)) result ≡ spec.queue_said (view value.now) }
+    ensures { option_map (λ r. (r.0.now, r.1)) result ≡ spec.sim_queue_said (view value.now) }
 {
     if !has_keys(value, &["intensive", "max_active", "name"]) {
         return None;
@@ -94,8 +94,8 @@ fn read_item<'v>(
     value: &'v Value,
 ) -> Result<Option<(&'v str, SimItem)>, AllocError>
     requires { length queue_names.now.keys ≤ 8 }
-    ensures { IfOk result (λ r. option_map (λ x. (x.0.now, item_of x.1)) r
-        ≡ spec.item_said (map string_bytes queue_names.now.keys) (view value.now)) }
+    ensures { IfOk result (λ r. option_map (λ x. (x.0.now, plan_item x.1)) r
+        ≡ spec.sim_item_said (map string_bytes queue_names.now.keys) (view value.now)) }
 {
     if !has_keys(value, &["ms", "name", "queue"]) {
         return Ok(None);
@@ -118,7 +118,7 @@ fn add_queue(
     queues: &mut Members<SimQueue>,
     value: &Value,
 ) -> Result<bool, AllocError>
-    ensures { IfOk result (λ added. spec.add_queue (named_of queues.old) (view value.now) ≡ (if added then Some (named_of queues.new) else None)) }
+    ensures { IfOk result (λ added. spec.add_sim_queue (named_of queues.old) (view value.now) ≡ (if added then Some (named_of queues.new) else None)) }
 {
     match read_queue(value) {
         Some((name, queue)) => queues.add(alloc, 8, name, queue),
@@ -133,8 +133,8 @@ fn add_item(
     value: &Value,
 ) -> Result<bool, AllocError>
     requires { length queue_names.now.keys ≤ 8 }
-    ensures { IfOk result (λ added. spec.add_item (map string_bytes queue_names.now.keys) (items_of items.old) (view value.now)
-        ≡ (if added then Some (items_of items.new) else None)) }
+    ensures { IfOk result (λ added. spec.add_sim_item (map string_bytes queue_names.now.keys) (named_items items.old) (view value.now)
+        ≡ (if added then Some (named_items items.new) else None)) }
 {
     match read_item(alloc, queue_names, value)? {
         Some((name, item)) => items.add(alloc, 8, name, item),
@@ -147,7 +147,7 @@ fn read_queues(
     alloc: Global,
     values: &[Value],
 ) -> Result<Result<Members<SimQueue>, usize>, AllocError>
-    ensures { IfOk result (λ r. told named_of r ≡ in_turn spec.add_queue 0 nobody (items_view values.now)) }
+    ensures { IfOk result (λ r. map_ok named_of r ≡ in_turn spec.add_sim_queue 0 nobody (items_view values.now)) }
 {
     let mut queues = Members::new(alloc);
     for (index, value) in values.iter().enumerate() {
@@ -165,7 +165,7 @@ fn read_items(
     values: &[Value],
 ) -> Result<Result<Members<SimItem>, usize>, AllocError>
     requires { length queue_names.now.keys ≤ 8 }
-    ensures { IfOk result (λ r. told items_of r ≡ in_turn (spec.add_item (map string_bytes queue_names.now.keys)) 0 nobody (items_view values.now)) }
+    ensures { IfOk result (λ r. map_ok named_items r ≡ in_turn (spec.add_sim_item (map string_bytes queue_names.now.keys)) 0 nobody (items_view values.now)) }
 {
     let mut items = Members::new(alloc);
     for (index, value) in values.iter().enumerate() {
@@ -181,8 +181,8 @@ fn read_lists(
     queues: &[Value],
     items: &[Value],
 ) -> Result<Result<ScenarioWithNames, Refused>, AllocError>
-    ensures says { IfOk result (λ r. told with_names_of r
-        ≡ spec.items_then (items_view items.now) (in_turn spec.add_queue 0 nobody (items_view queues.now))) }
+    ensures says { IfOk result (λ r. map_ok with_names_of r
+        ≡ spec.items_then (items_view items.now) (in_turn spec.add_sim_queue 0 nobody (items_view queues.now))) }
     ensures within_limits { IfOk result (λ r. IfOk r HasLimits) }
 {
     let queues = match read_queues(alloc, queues)? {
@@ -221,7 +221,7 @@ pub fn read_scenario(
     alloc: Global,
     value: &Value,
 ) -> Result<Result<ScenarioWithNames, Refused>, AllocError>
-    ensures says { IfOk result (λ r. told with_names_of r ≡ spec.scenario_of (view value.now)) }
+    ensures says { IfOk result (λ r. map_ok with_names_of r ≡ spec.scenario_of (view value.now)) }
     ensures within_limits { IfOk result (λ r. IfOk r HasLimits) }
 {
     const TOP: Refused = Refused {

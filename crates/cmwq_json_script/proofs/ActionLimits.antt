@@ -1,19 +1,10 @@
 -- Actions that are read have numbers inside the layout, and gates that there are.
-use Rattle.std.proofs.Common.{◌≡◌, ℕ, ◌≤◌, ◌<◌, Bool, true, false, nat_lt, List, [], ◌∷◌, ◌++◌, length, Option, Some, None, refl, arith, if◌then◌else◌, length-append}
-use Rattle.std.specs.Prelude.{option_and_then, IfSome}
-use Rattle.std.specs.Str.{bytes_eq}
-use Rattle.std.specs.List.{AllByRecursion}
-use Rattle.std.proofs.lemmas.Bool.Decides.{nat_tests}
-use Rattle.serde_json.specs.Data.{Data, Items}
-use Rattle.serde_json.specs.Find.{as_array}
-use Rattle.cmwq_model.specs.Prelude.{Layout}
-use Rattle.cmwq_json.specs.Names.{name_said, number_of}
-use Rattle.cmwq_json.proofs.Limited.{placed, all_pushed}
+use Rattle.cmwq_json_script.specs.Common.{◌≡◌, ℕ, ◌≤◌, ◌<◌, Bool, true, false, nat_lt, List, [], ◌∷◌, ◌++◌, length, Option, Some, None, refl, arith, if◌then◌else◌, length-append, option_and_then, IfSome, bytes_eq, AllByRecursion, nat_tests, Data, Items, as_array, Layout, name_said, number_of_name, placed, All_push}
 use Rattle.cmwq_json_script.specs.declared.word.Word.{Word}
 use Rattle.cmwq_json_script.specs.declared.word.Word.TheVariants as word
 use Rattle.cmwq_json_script.specs.declared.action.Action.{Action}
 use Rattle.cmwq_json_script.specs.declared.action.Action.TheVariants as action
-use Rattle.cmwq_json_script.specs.Lists.{word_in, whole, first_in}
+use Rattle.cmwq_json_script.specs.Lists.{word_of_items, whole, first_item}
 use Rattle.cmwq_json_script.specs.Known.{Known}
 use Rattle.cmwq_json_script.specs.Calls.{own_call_after}
 use Rattle.cmwq_json_script.specs.Gates.{with_gate, gate_said}
@@ -31,7 +22,7 @@ same_gates : (gates : List (List ℕ)) → Grows gates gates
 same_gates gates = record { more = omega arith; few = λ h. h }
 
 gate_in : (gates : List (List ℕ)) (d : Data) → IfSome (gate_said gates d) (λ r. (r.0 < length r.1) × Grows gates r.1)
-gate_in gates d = then_holds (λ _. Unit {0}) (λ r. (r.0 < length r.1) × Grows gates r.1) (λ name. with_gate gates name (number_of gates name)) (name_said d) (any_read (name_said d)) (λ name _. at name (number_of gates name) (placed (bytes_eq name) gates))
+gate_in gates d = then_holds (λ _. Unit {0}) (λ r. (r.0 < length r.1) × Grows gates r.1) (λ name. with_gate gates name (number_of_name gates name)) (name_said d) (any_read (name_said d)) (λ name _. at name (number_of_name gates name) (placed (bytes_eq name) gates))
   where
     room : (name : List ℕ) (b : Bool) → nat_lt (length gates) 16 ≡ b → IfSome {T = ℕ × List (List ℕ)} (if b then Some (length gates, gates ++ name ∷ []) else None) (λ r. (r.0 < length r.1) × Grows gates r.1)
     room name true h =
@@ -64,7 +55,7 @@ module _ (known : Known) (s : Layout) (are : AreIn known s) where
   at_gate : (make : ℕ → Action) → ((gate n : ℕ) → gate < n → IsAction s n (make gate)) → (gates : List (List ℕ)) (ds : Items) → IfSome (gate_after make gates ds) (IsNext gates)
   at_gate make is gates ds =
       then_holds (λ r. (r.0 < length r.1) × Grows gates r.1) (IsNext gates) (λ gate. Some (make gate.0, gate.1)) (only_gate gates ds)
-      (then_holds (λ _. Unit {0}) (λ r. (r.0 < length r.1) × Grows gates r.1) (gate_said gates) (whole (first_in ds)) (any_read (whole (first_in ds))) (λ d _. gate_in gates d)) (λ r h. (is r.0 (length r.1) h.0, h.1))
+      (then_holds (λ _. Unit {0}) (λ r. (r.0 < length r.1) × Grows gates r.1) (gate_said gates) (whole (first_item ds)) (any_read (whole (first_item ds))) (λ d _. gate_in gates d)) (λ r h. (is r.0 (length r.1) h.0, h.1))
 
   of_call : (w : Word) (gates : List (List ℕ)) (ds : Items) → IfSome (call_action_after known w gates ds) (IsNext gates)
   of_call w gates ds = then_holds (IsOwn s) (IsNext gates) (λ call. Some (action.Call call, gates)) (whole (own_call_after known w ds)) (whole_holds (IsOwn s) (own_call_after known w ds) (own_call_in known s are w ds)) (λ c h. ((h.own, h.numbers), same_gates gates))
@@ -90,8 +81,8 @@ module _ (known : Known) (s : Layout) (are : AreIn known s) where
 
   action_in : (gates : List (List ℕ)) (d : Data) → IfSome (action_said known gates d) (IsNext gates)
   action_in gates d =
-      then_holds (λ _. Unit {0}) (IsNext gates) (λ ds. option_and_then (λ w. action_after known w.0 gates w.1) (word_in ds)) (as_array d) (any_read (as_array d))
-      (λ ds _. then_holds (λ _. Unit {0}) (IsNext gates) (λ w. action_after known w.0 gates w.1) (word_in ds) (any_read (word_in ds)) (λ w _. next_in w.0 gates w.1))
+      then_holds (λ _. Unit {0}) (IsNext gates) (λ ds. option_and_then (λ w. action_after known w.0 gates w.1) (word_of_items ds)) (as_array d) (any_read (as_array d))
+      (λ ds _. then_holds (λ _. Unit {0}) (IsNext gates) (λ w. action_after known w.0 gates w.1) (word_of_items ds) (any_read (word_of_items ds)) (λ w _. next_in w.0 gates w.1))
 
   one_more : (before : List (List ℕ)) (m : Does) → AreActions s before m → (x : Action × List (List ℕ)) → IsNext m.gates x → IfSome (with_action m x) (AreActions s before)
   one_more before m k x h = at (nat_lt (length m.actions) 64)
@@ -100,7 +91,7 @@ module _ (known : Known) (s : Layout) (are : AreIn known s) where
       at true =
           let a = k.gates.more in
           let b = h.1.more in
-          record { each = all_pushed (IsAction s (length x.1)) m.actions x.0 (actions_grow s (length m.gates) (length x.1) b m.actions k.each) h.0; gates = record { more = omega arith; few = λ few. h.1.few (k.gates.few few) } }
+          record { each = All_push (IsAction s (length x.1)) m.actions x.0 (actions_grow s (length m.gates) (length x.1) b m.actions k.each) h.0; gates = record { more = omega arith; few = λ few. h.1.few (k.gates.few few) } }
       at false = tt
 
   pub does_in : (gates : List (List ℕ)) (d : Data) → IfSome (does_said known gates d) (AreActions s gates)

@@ -1,14 +1,5 @@
 -- Gates that are named first.
-use Rattle.std.proofs.Common.{◌≡◌, ◌<◌, ◌≤◌, ◌+◌, suc, ℕ, ◌||◌, Bool, true, false, not, cond, List, [], ◌∷◌, ◌++◌, length, map, position, Some, None, refl, sym, ap, ap₂, nat_lt, ◌∙◌, string_bytes, if◌then◌else◌, arith}
-use Rattle.std.specs.Prelude.{String}
-use Rattle.std.specs.Str.{bytes_eq}
-use Rattle.std.specs.List.{list_any, prefix_len}
-use Rattle.std.specs.declared.alloc.Global.{Global}
-use Rattle.std.proofs.lemmas.Bool.{lt-ltb, ltb-false}
-use Rattle.std.proofs.lemmas.List.{length-map, map-append}
-use Rattle.indexmap.specs.IndexSet.{insert_key}
-use Rattle.cmwq_json.specs.Names.{number_of}
-use Rattle.cmwq_json.proofs.Adding.{same, taken}
+use Rattle.cmwq_json_script.specs.Common.{◌≡◌, ◌<◌, ◌≤◌, ◌+◌, suc, ℕ, ◌||◌, Bool, true, false, not, cond, List, [], ◌∷◌, ◌++◌, length, map, position, Some, None, refl, sym, ap, ap₂, nat_lt, ◌∙◌, string_bytes, if◌then◌else◌, arith, String, bytes_eq, list_any, prefix_len, Global, lt-ltb, ltb-false, length-map, map-append, insert_key, number_of_name, same, taken}
 use Rattle.cmwq_json_script.specs.Gates.{with_gate}
 
 none_before_end : {X : Type 0} (p : X → Bool) (xs : List X) → length xs ≤ prefix_len (λ x. not (p x)) xs → list_any p xs ≡ false
@@ -27,7 +18,7 @@ not_placed p xs h = none_before_end p xs (ltb-false _ _ (at (nat_lt (prefix_len 
     at false h = refl
 
 pub gate_made : (gates after : List (String Global)) (s : String Global) (name : List ℕ) (n : ℕ) → string_bytes s ≡ name → n ≡ length gates → length gates < 16 → after ≡ insert_key same gates s
-    → None ≡ number_of (map string_bytes gates) name → Some (n, map string_bytes after) ≡ with_gate (map string_bytes gates) name (number_of (map string_bytes gates) name)
+    → None ≡ number_of_name (map string_bytes gates) name → Some (n, map string_bytes after) ≡ with_gate (map string_bytes gates) name (number_of_name (map string_bytes gates) name)
 gate_made gates after s name n is last room keys new =
     let free : list_any (same s) gates ≡ false = sym (taken gates s name is) ∙ not_placed (bytes_eq name) (map string_bytes gates) new in
     let more : map string_bytes after ≡ map string_bytes gates ++ name ∷ [] = ap (map string_bytes) (keys ∙ ap (λ t. if t then gates else gates ++ s ∷ []) free) ∙ map-append string_bytes gates (s ∷ []) ∙ ap (λ x. map string_bytes gates ++ x ∷ []) is in

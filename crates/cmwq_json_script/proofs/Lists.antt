@@ -1,10 +1,7 @@
 -- Lists as the values that they are seen as.
-use Rattle.std.proofs.Common.{◌≡◌, suc, ◌==◌, List, [], ◌∷◌, length, refl, arith}
-use Rattle.std.proofs.lemmas.Bool.{ne_eqb}
-use Rattle.serde_json.specs.declared.value.Value.{Value}
-use Rattle.serde_json.specs.View.{items_view}
-use Rattle.cmwq_json_script.specs.Lists.{is_end}
+use Rattle.cmwq_json_script.specs.Common.{◌≡◌, suc, ◌==◌, List, [], ◌∷◌, length, refl, arith, ne_eqb, Value, items_view}
+use Rattle.cmwq_json_script.specs.Lists.{has_no_item}
 
-pub ends_where_empty : (vs : List Value) → (length vs == 0) ≡ is_end (items_view vs)
+pub ends_where_empty : (vs : List Value) → (length vs == 0) ≡ has_no_item (items_view vs)
 ends_where_empty [] = refl
 ends_where_empty (v ∷ vs) = ne_eqb (suc (length vs)) 0 (λ same. absurd (omega arith))

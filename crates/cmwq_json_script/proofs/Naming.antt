@@ -1,18 +1,5 @@
 -- The names of items, each once.
-use Rattle.std.proofs.Common.{◌≡◌, ◌<◌, ◌≤◌, ◌+◌, ℕ, ◌&&◌, Bool, true, false, not, List, [], ◌∷◌, ◌++◌, length, map, get_or, drop, Option, Some, None, refl, sym, ap, ap₂, nat_lt, ◌∙◌, add-one, drop-cons, string_bytes, if◌then◌else◌, arith, length-append}
-use Rattle.std.specs.Prelude.{String}
-use Rattle.std.specs.List.{list_any}
-use Rattle.std.specs.declared.alloc.Global.{Global}
-use Rattle.std.proofs.lemmas.Bool.{lt-ltb}
-use Rattle.std.proofs.lemmas.Bool.Decides.{nat_tests}
-use Rattle.std.proofs.lemmas.List.{length-map, map-append}
-use Rattle.indexmap.specs.IndexSet.{insert_key}
-use Rattle.serde_json.specs.Data.{item}
-use Rattle.serde_json.specs.declared.value.Value.{Value}
-use Rattle.serde_json.specs.View.{view, items_view}
-use Rattle.cmwq_json.specs.Names.{is_taken}
-use Rattle.cmwq_json.proofs.Adding.{same, taken}
-use Rattle.cmwq_json.proofs.Turns.{drop_end}
+use Rattle.cmwq_json_script.specs.Common.{◌≡◌, ◌<◌, ◌≤◌, ◌+◌, ℕ, ◌&&◌, Bool, true, false, not, List, [], ◌∷◌, ◌++◌, length, map, get_or, drop, Option, Some, None, refl, sym, ap, ap₂, nat_lt, ◌∙◌, add-one, drop-cons, string_bytes, if◌then◌else◌, arith, length-append, String, list_any, Global, lt-ltb, nat_tests, length-map, map-append, insert_key, item, Value, view, items_view, is_taken, same, taken, drop_end}
 use Rattle.cmwq_json_script.specs.Known.{name_in, with_name, names_after}
 
 -- a name is added where none of them is the same

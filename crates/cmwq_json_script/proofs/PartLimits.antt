@@ -1,22 +1,5 @@
 -- Queues, items and callers that are read keep to the limits.
-use Rattle.std.proofs.Common.{◌≡◌, ℕ, ◌+◌, ◌≤◌, ◌<◌, ◌&&◌, not, Bool, true, false, nat_lt, List, [], ◌∷◌, ◌++◌, length, Option, Some, None, Ok, Err, refl, ap, ◌∙◌, arith, if◌then◌else◌, length-append}
-use Rattle.std.specs.Prelude.{option_and_then, IfSome, codes}
-use Rattle.std.specs.Option.{option_map_or}
-use Rattle.std.specs.List.{AllByRecursion}
-use Rattle.std.specs.Result.{result_unwrap_or}
-use Rattle.std.proofs.lemmas.Bool.Decides.{nat_tests}
-use Rattle.std.proofs.lemmas.Option.{same_Some}
-use Rattle.serde_json.specs.Data.{Data, Items, no_items, item}
-use Rattle.serde_json.specs.Find.{get, as_bool, as_array}
-use Rattle.cmwq_model.specs.declared.call.Call.{Call}
-use Rattle.cmwq_model.specs.declared.shape.QueueShape.{QueueShape}
-use Rattle.cmwq_model.specs.Prelude.{Layout, IsScripted}
-use Rattle.cmwq_json.specs.InTurn.{in_turn}
-use Rattle.cmwq_json.specs.Keys.{has_keys}
-use Rattle.cmwq_json.specs.Names.{Named, nobody, add_named, is_taken}
-use Rattle.cmwq_json.specs.Queues.{parts_said}
-use Rattle.cmwq_json.proofs.Limited.{AreKept, added, all_pushed, parts_limits}
-use Rattle.cmwq_json.proofs.Turns.{kept}
+use Rattle.cmwq_json_script.specs.Common.{◌≡◌, ℕ, ◌+◌, ◌≤◌, ◌<◌, ◌&&◌, not, Bool, true, false, nat_lt, List, [], ◌∷◌, ◌++◌, length, Option, Some, None, Ok, Err, refl, ap, ◌∙◌, arith, if◌then◌else◌, length-append, option_and_then, IfSome, codes, option_map_or, AllByRecursion, result_unwrap_or, nat_tests, same_Some, Data, Items, no_items, item, get, as_bool, as_array, Call, QueueShape, Layout, IsScripted, in_turn, has_keys, Named, nobody, add_named, is_taken, parts_said, AreKept, added, parts_limits, kept, All_push}
 use Rattle.cmwq_json_script.specs.Known.{Known, name_in, with_name, names_after}
 use Rattle.cmwq_json_script.specs.Actions.{Does, does_said}
 use Rattle.cmwq_json_script.specs.Items.{item_said, Work, no_work, add_item}
@@ -147,7 +130,7 @@ few_more {X} most P before x all one = at (nat_lt (length before) most) refl
     at true h =
         let less : length before < most = grind (arith, nat_tests) in
         let more = length-append before (x ∷ []) in
-        (all_pushed P before x all one, omega arith)
+        (All_push P before x all one, omega arith)
     at false h = tt
 
 module _ (known : Known) (s : Layout) (are : AreIn known s) where

@@ -1,31 +1,20 @@
 -- A run that is read keeps to its limits.
-use Rattle.std.proofs.Common.{◌≡◌, ℕ, ◌≤◌, ◌<◌, ◌^◌, ◌&&◌, Bool, true, false, nat_lt, nat_le, List, [], ◌∷◌, length, map, Result, Ok, Err, refl, sym, ap, subst, ◌∙◌, arith, if◌then◌else◌, string_bytes}
-use Rattle.std.specs.Prelude.{All, String}
-use Rattle.std.specs.List.{AllByRecursion, list_all}
-use Rattle.std.specs.declared.alloc.Global.{Global}
-use Rattle.std.specs.declared.vec.Vec.{Vec}
-use Rattle.std.proofs.lemmas.Bool.Decides.{nat_tests}
-use Rattle.std.proofs.lemmas.List.{length-map}
+use Rattle.cmwq_json_script.specs.Common.{◌≡◌, ℕ, ◌≤◌, ◌<◌, ◌^◌, ◌&&◌, Bool, true, false, nat_lt, nat_le, List, [], ◌∷◌, length, map, Result, Ok, Err, refl, sym, ap, subst, ◌∙◌, arith, if◌then◌else◌, string_bytes, All, String, AllByRecursion, list_all, Global, Vec, nat_tests, length-map, Call, QueueShape, most_room, Layout, layout_of, is_queue, IsScripted, Refused, in_turn, Named, nobody}
 use Rattle.std.proofs.lemmas.List.Elements.{All-from_recursion}
-use Rattle.cmwq_model.specs.declared.call.Call.{Call}
-use Rattle.cmwq_model.specs.declared.shape.QueueShape.{QueueShape}
-use Rattle.cmwq_model.specs.Prelude.{most_room, Layout, layout_of, is_queue, IsScripted}
-use Rattle.cmwq_input.specs.declared.refused.Refused.{Refused}
-use Rattle.cmwq_json.specs.InTurn.{in_turn}
-use Rattle.cmwq_json.specs.Names.{Named, nobody}
 use Rattle.cmwq_json.specs.Parts as refused
 use Rattle.cmwq_json_script.specs.declared.item.Items.{Items}
 use Rattle.cmwq_json_script.specs.declared.script.Script.{Script}
 use Rattle.cmwq_json_script.specs.Items.{Work, no_work, add_item}
 use Rattle.cmwq_json_script.specs.Queues.{add_queue}
 use Rattle.cmwq_json_script.specs.Callers.{add_caller}
-use Rattle.cmwq_json_script.specs.Tops.{Top, IsRecorded}
+use Rattle.cmwq_json_script.specs.Tops.{Top, AreJournalSettings}
 use Rattle.cmwq_json_script.specs.Runs.{some_of, queues_said, items_said, callers_said, known_in, layout_in, run_in}
-use Rattle.cmwq_json_script.specs.Scripts.{run_of, IsAction, AreCalls, IsWithin, MayRun}
+use Rattle.cmwq_json_script.specs.Scripts.{run_of, IsAction, AreCalls, IsRunWithin, MayRun}
 use Rattle.cmwq_json_script.specs.Views.{work_of, calls_of}
 use Rattle.cmwq_json_script.proofs.Readings.{all_weaker, all_unmapped}
 use Rattle.cmwq_json_script.proofs.CallLimits.{AreIn}
 use Rattle.cmwq_json_script.proofs.PartLimits.{IsWide, queues_kept, items_kept, items_named, names_are_known, callers_kept}
+use Rattle.std.proofs.lemmas.Bool.{and_from}
 
 -- a part has at least one member, and none is refused
 pub some_read : {S : Type 0} (refused : ℕ → Refused) (count : S → ℕ) (r : Result S ℕ) (s : S) → some_of refused count r ≡ Ok s → (r ≡ Ok s) × (0 < count s)
@@ -41,25 +30,20 @@ some_read {S} refused count (Ok t) s is =
         (h, some)
     at false less r h = cc
 
-both : (a b : Bool) → a ≡ true → b ≡ true → (a && b) ≡ true
-both true true ha hb = refl
-both true false ha hb = cc
-both false b ha hb = cc
-
 within : (low high n : ℕ) → low ≤ n → n ≤ high → (nat_le low n && nat_le n high) ≡ true
-within low high n a b = both (nat_le low n) (nat_le n high) (grind (arith, nat_tests)) (grind (arith, nat_tests))
+within low high n a b = and_from (nat_le low n) (nat_le n high) (grind (arith, nat_tests)) (grind (arith, nat_tests))
 
 at_most : (n high : ℕ) → n ≤ high → nat_le n high ≡ true
 at_most n high h = grind (arith, nat_tests)
 
 queues_allowed : (qs : List QueueShape) → AllByRecursion IsWide qs → list_all is_queue qs ≡ true
 queues_allowed [] all = refl
-queues_allowed (q ∷ qs) all = both (is_queue q) (list_all is_queue qs) (within 1 512 q.max_active all.0.0 all.0.1) (queues_allowed qs all.1)
+queues_allowed (q ∷ qs) all = and_from (is_queue q) (list_all is_queue qs) (within 1 512 q.max_active all.0.0 all.0.1) (queues_allowed qs all.1)
 
 -- what is read is inside the limits
 module _ (t : Top) (qs : Named QueueShape) (w : Work) (cs : List (List Call)) (queues_read : queues_said t ≡ Ok qs) (items_read : items_said (known_in t qs) t ≡ Ok w)
     (callers_read : callers_said (known_in t qs) t ≡ Ok cs) where
-  pub is_within : (1 ≤ t.cpus) × (t.cpus ≤ 4) × (1 ≤ t.workers) × (t.workers ≤ 8) × (t.room ≤ most_room) → IsRecorded t.version t.journal → IsWithin (run_in t qs.values w cs)
+  pub is_within : (1 ≤ t.cpus) × (t.cpus ≤ 4) × (1 ≤ t.workers) × (t.workers ≤ 8) × (t.room ≤ most_room) → AreJournalSettings t.version t.journal → IsRunWithin (run_in t qs.values w cs)
   is_within limits recorded =
       let s = layout_in t qs.values w cs in
       let known = known_in t qs in
@@ -82,8 +66,8 @@ module _ (t : Top) (qs : Named QueueShape) (w : Work) (cs : List (List Call)) (q
       let callers_few = callers.1 in
       record {
         allowed =
-            both _ _ (both _ _ (both _ _ (both _ _ (both _ _ (within 1 4 t.cpus limits.0 limits.1) (within 1 8 t.workers limits.2 limits.3)) (within 1 64 (length cs) (omega arith) (omega arith))) (within 1 256 (length w.items.values) (omega arith) (omega arith))) (at_most t.room most_room limits.4))
-            (both _ _ (within 1 64 (length qs.values) (omega arith) (omega arith)) (queues_allowed qs.values wide.values));
+            and_from _ _ (and_from _ _ (and_from _ _ (and_from _ _ (and_from _ _ (within 1 4 t.cpus limits.0 limits.1) (within 1 8 t.workers limits.2 limits.3)) (within 1 64 (length cs) (omega arith) (omega arith))) (within 1 256 (length w.items.values) (omega arith) (omega arith))) (at_most t.room most_room limits.4))
+            (and_from _ _ (within 1 64 (length qs.values) (omega arith) (omega arith)) (queues_allowed qs.values wide.values));
         few_callers = callers_few;
         callers = refl;
         calls = callers.0;
@@ -109,7 +93,7 @@ layout_counted t qs w cs callers items callers_are items_are =
     ap (λ n. layout_of (record { cpus = t.cpus; workers = t.workers; callers = n; items = items; room = t.room }) qs) callers_are
     ∙ ap (λ n. layout_of (record { cpus = t.cpus; workers = t.workers; callers = length cs; items = n; room = t.room }) qs) items_are
 
-pub may_run : (script : Script) → IsWithin (run_of script) → MayRun script
+pub may_run : (script : Script) → IsRunWithin (run_of script) → MayRun script
 may_run script r =
     let callers = length-map script.callers.items (λ calls. calls.items) in
     let does = length-map script.does.items (λ actions. actions.items) in
@@ -136,9 +120,9 @@ may_run script r =
 
 -- so may the script that is made of parts inside the limits
 pub made_may_run : (t : Top) (qs : List QueueShape) (items : Items) (callers : Vec (Vec Call Global) Global) (s : Layout) (gates : Vec (String Global) Global) → s ≡ layout_in t qs (work_of items) (calls_of callers)
-    → map string_bytes gates.items ≡ items.gates → IsWithin (run_in t qs (work_of items) (calls_of callers)) → MayRun (record { shape = s; does = items.members.values; gates = gates; callers = callers; version = t.version; journal = t.journal })
+    → map string_bytes gates.items ≡ items.gates → IsRunWithin (run_in t qs (work_of items) (calls_of callers)) → MayRun (record { shape = s; does = items.members.values; gates = gates; callers = callers; version = t.version; journal = t.journal })
 made_may_run t qs items callers s gates shape_is gates_are run =
     let does = (work_of items).items.values in
     may_run (record { shape = s; does = items.members.values; gates = gates; callers = callers; version = t.version; journal = t.journal })
-    (subst (λ (l : Layout). IsWithin (record { layout = l; does = does; gates = map string_bytes gates.items; callers = calls_of callers; version = t.version; journal = t.journal })) (sym shape_is)
-    (subst (λ (g : List (List ℕ)). IsWithin (record { layout = layout_in t qs (work_of items) (calls_of callers); does = does; gates = g; callers = calls_of callers; version = t.version; journal = t.journal })) (sym gates_are) run))
+    (subst (λ (l : Layout). IsRunWithin (record { layout = l; does = does; gates = map string_bytes gates.items; callers = calls_of callers; version = t.version; journal = t.journal })) (sym shape_is)
+    (subst (λ (g : List (List ℕ)). IsRunWithin (record { layout = layout_in t qs (work_of items) (calls_of callers); does = does; gates = g; callers = calls_of callers; version = t.version; journal = t.journal })) (sym gates_are) run))

@@ -1,15 +1,11 @@
 -- What an item does: at most 64 actions, in turn. Each is a call, or opens a gate, or sleeps at one.
-use Rattle.std.specs.Prelude.{ℕ, if◌then◌else◌, List, [], ◌∷◌, ◌++◌, length, Option, Some, None, nat_lt}
-use Rattle.std.specs.Result.{result_ok}
-use Rattle.serde_json.specs.Data.{Data, Items}
-use Rattle.serde_json.specs.Find.{as_array}
-use Rattle.cmwq_json.specs.InTurn.{in_turn}
+use Rattle.cmwq_json_script.specs.Common.{ℕ, if◌then◌else◌, List, [], ◌∷◌, ◌++◌, length, Option, Some, None, nat_lt, result_ok, Data, Items, as_array, in_turn}
 use Rattle.cmwq_json_script.specs.declared.word.Word.{Word}
 use Rattle.cmwq_json_script.specs.declared.word.Word.TheVariants as word
 use Rattle.cmwq_json_script.specs.declared.action.Action.{Action}
 use Rattle.cmwq_json_script.specs.declared.action.Action.TheVariants as action
 use Rattle.cmwq_json_script.specs.Then.{◌>>=◌}
-use Rattle.cmwq_json_script.specs.Lists.{whole, first_in, word_in}
+use Rattle.cmwq_json_script.specs.Lists.{whole, first_item, word_of_items}
 use Rattle.cmwq_json_script.specs.Known.{Known}
 use Rattle.cmwq_json_script.specs.Calls.{own_call_after}
 use Rattle.cmwq_json_script.specs.Gates.{gate_said}
@@ -17,7 +13,7 @@ use Rattle.cmwq_json_script.specs.Gates.{gate_said}
 -- the gate that the only part of a list names
 abbrev pub only_gate : List (List ℕ) → Items → Option (ℕ × List (List ℕ))
 only_gate gates ds = do
-  d ← whole (first_in ds)
+  d ← whole (first_item ds)
   gate_said gates d
 
 abbrev pub gate_after : (ℕ → Action) → List (List ℕ) → Items → Option (Action × List (List ℕ))
@@ -39,7 +35,7 @@ action_after known w = call_action_after known w
 abbrev pub action_said : Known → List (List ℕ) → Data → Option (Action × List (List ℕ))
 action_said known gates d = do
   ds ← as_array d
-  word ← word_in ds
+  word ← word_of_items ds
   action_after known word.0 gates word.1
 
 -- the actions so far, and the gates

@@ -1,10 +1,5 @@
 -- Callers: at most 64, each with a list of at most 1,000 calls.
-use Rattle.std.specs.Prelude.{ℕ, if◌then◌else◌, List, [], ◌∷◌, ◌++◌, length, Option, Some, None, nat_lt}
-use Rattle.std.specs.Result.{result_ok}
-use Rattle.serde_json.specs.Data.{Data}
-use Rattle.serde_json.specs.Find.{as_array}
-use Rattle.cmwq_model.specs.declared.call.Call.{Call}
-use Rattle.cmwq_json.specs.InTurn.{in_turn}
+use Rattle.cmwq_json_script.specs.Common.{ℕ, if◌then◌else◌, List, [], ◌∷◌, ◌++◌, length, Option, Some, None, nat_lt, result_ok, Data, as_array, Call, in_turn}
 use Rattle.cmwq_json_script.specs.Then.{◌>>=◌}
 use Rattle.cmwq_json_script.specs.Known.{Known}
 use Rattle.cmwq_json_script.specs.Calls.{call_said}

@@ -1,45 +1,41 @@
 -- Calls: a list of a word and what it is about.
-use Rattle.std.specs.Prelude.{ℕ, Option, None}
-use Rattle.serde_json.specs.Data.{Data, Items}
-use Rattle.serde_json.specs.Find.{as_array}
-use Rattle.cmwq_model.specs.declared.call.Call.{Call}
+use Rattle.cmwq_json_script.specs.Common.{ℕ, Option, None, Data, Items, as_array, Call, number_between}
 use Rattle.cmwq_model.specs.declared.call.Call.TheVariants as call
-use Rattle.cmwq_json.specs.Numbers.{number_between}
 use Rattle.cmwq_json_script.specs.declared.word.Word.{Word}
 use Rattle.cmwq_json_script.specs.declared.word.Word.TheVariants as word
 use Rattle.cmwq_json_script.specs.Then.{◌>>=◌}
-use Rattle.cmwq_json_script.specs.Lists.{whole, word_in, none, one, two, three, four}
-use Rattle.cmwq_json_script.specs.Known.{Known, item_said, queue_said, cpu_said}
+use Rattle.cmwq_json_script.specs.Lists.{whole, word_of_items, items_none, items_one, items_two, items_three, items_four}
+use Rattle.cmwq_json_script.specs.Known.{Known, item_known, queue_known, cpu_said}
 
 abbrev pub ticks_said : Data → Option ℕ
 ticks_said = number_between 0 4294967295
 
-abbrev pub width_said : Data → Option ℕ
-width_said = number_between 1 4294967295
+abbrev pub width_in_call : Data → Option ℕ
+width_in_call = number_between 1 4294967295
 
 -- the calls that items make too
 unfoldable pub own_call_after : Known → Word → Items → Option (Call × Items)
-own_call_after known word.Queue = three (item_said known) (queue_said known) (cpu_said known) call.Queue
-own_call_after known word.Delay = four (item_said known) (queue_said known) (cpu_said known) ticks_said call.Delay
-own_call_after known word.Modify = four (item_said known) (queue_said known) (cpu_said known) ticks_said call.Modify
-own_call_after known word.Cancel = one (item_said known) call.Cancel
+own_call_after known word.Queue = items_three (item_known known) (queue_known known) (cpu_said known) call.Queue
+own_call_after known word.Delay = items_four (item_known known) (queue_known known) (cpu_said known) ticks_said call.Delay
+own_call_after known word.Modify = items_four (item_known known) (queue_known known) (cpu_said known) ticks_said call.Modify
+own_call_after known word.Cancel = items_one (item_known known) call.Cancel
 own_call_after known w = λ ds. None
 
-unfoldable pub call_after : Known → Word → Items → Option (Call × Items)
-call_after known word.Tick = one ticks_said call.Tick
-call_after known word.Flush = one (queue_said known) call.Flush
-call_after known word.FlushItem = one (item_said known) call.FlushItem
-call_after known word.FlushDelayed = one (item_said known) call.FlushDelayed
-call_after known word.CancelSync = one (item_said known) call.CancelSync
-call_after known word.Drain = one (queue_said known) call.Drain
-call_after known word.SetMax = two (queue_said known) width_said call.SetMax
-call_after known word.Freeze = none call.Freeze
-call_after known word.Thaw = none call.Thaw
-call_after known word.Destroy = one (queue_said known) call.Destroy
-call_after known w = own_call_after known w
+unfoldable pub call_with_members : Known → Word → Items → Option (Call × Items)
+call_with_members known word.Tick = items_one ticks_said call.Tick
+call_with_members known word.Flush = items_one (queue_known known) call.Flush
+call_with_members known word.FlushItem = items_one (item_known known) call.FlushItem
+call_with_members known word.FlushDelayed = items_one (item_known known) call.FlushDelayed
+call_with_members known word.CancelSync = items_one (item_known known) call.CancelSync
+call_with_members known word.Drain = items_one (queue_known known) call.Drain
+call_with_members known word.SetMax = items_two (queue_known known) width_in_call call.SetMax
+call_with_members known word.Freeze = items_none call.Freeze
+call_with_members known word.Thaw = items_none call.Thaw
+call_with_members known word.Destroy = items_one (queue_known known) call.Destroy
+call_with_members known w = own_call_after known w
 
 abbrev pub call_said : Known → Data → Option Call
 call_said known d = do
   ds ← as_array d
-  word ← word_in ds
-  whole (call_after known word.0 word.1)
+  word ← word_of_items ds
+  whole (call_with_members known word.0 word.1)

@@ -1,7 +1,5 @@
 -- Gates, numbered in the order in which they are named first. There are at most 16.
-use Rattle.std.specs.Prelude.{ℕ, if◌then◌else◌, List, [], ◌∷◌, ◌++◌, length, Option, Some, None, nat_lt}
-use Rattle.serde_json.specs.Data.{Data}
-use Rattle.cmwq_json.specs.Names.{name_said, number_of}
+use Rattle.cmwq_json_script.specs.Common.{ℕ, if◌then◌else◌, List, [], ◌∷◌, ◌++◌, length, Option, Some, None, nat_lt, Data, name_said, number_of_name}
 use Rattle.cmwq_json_script.specs.Then.{◌>>=◌}
 
 abbrev pub with_gate : List (List ℕ) → List ℕ → Option ℕ → Option (ℕ × List (List ℕ))
@@ -12,4 +10,4 @@ with_gate gates name None = if nat_lt (length gates) 16 then Some (length gates,
 abbrev pub gate_said : List (List ℕ) → Data → Option (ℕ × List (List ℕ))
 gate_said gates d = do
   name ← name_said d
-  with_gate gates name (number_of gates name)
+  with_gate gates name (number_of_name gates name)

@@ -1,11 +1,5 @@
 -- What calls may name: items and queues by their names, and CPUs by their numbers.
-use Rattle.std.specs.Prelude.{ℕ, ◌&&◌, not, if◌then◌else◌, List, [], ◌∷◌, ◌++◌, length, Option, Some, None, codes, nat_lt}
-use Rattle.serde_json.specs.Data.{Data, Items, no_items, item}
-use Rattle.serde_json.specs.Find.{get, as_str, as_number, as_u64}
-use Rattle.cmwq_model.specs.declared.id.ItemId.{ItemId}
-use Rattle.cmwq_model.specs.declared.id.QueueId.{QueueId}
-use Rattle.cmwq_model.specs.declared.id.CpuId.{CpuId}
-use Rattle.cmwq_json.specs.Names.{is_taken, name_said, number_of}
+use Rattle.cmwq_json_script.specs.Common.{ℕ, ◌&&◌, not, if◌then◌else◌, List, [], ◌∷◌, ◌++◌, length, Option, Some, None, codes, nat_lt, Data, Items, no_items, item, get, as_str, as_number, as_u64, ItemId, QueueId, CpuId, is_taken, name_said, number_of_name}
 use Rattle.cmwq_json_script.specs.Then.{◌>>=◌}
 
 pub record Known : Type 0 where
@@ -30,16 +24,16 @@ names_after before (item d ds) = names_after (with_name before (name_in d)) ds
 
 -- ---- what a part of a call names
 
-abbrev pub item_said : Known → Data → Option ItemId
-item_said known d = do
+abbrev pub item_known : Known → Data → Option ItemId
+item_known known d = do
   name ← as_str d
-  n ← number_of known.items name
+  n ← number_of_name known.items name
   Some (record { 0 = n })
 
-abbrev pub queue_said : Known → Data → Option QueueId
-queue_said known d = do
+abbrev pub queue_known : Known → Data → Option QueueId
+queue_known known d = do
   name ← as_str d
-  n ← number_of known.queues name
+  n ← number_of_name known.queues name
   Some (record { 0 = n })
 
 abbrev pub cpu_said : Known → Data → Option CpuId

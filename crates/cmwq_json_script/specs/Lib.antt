@@ -1,3 +1,4 @@
+pub mod Common
 pub mod Then
 pub mod Words
 pub mod Lists

@@ -1,12 +1,5 @@
 -- Queues: each has a name of its own, its max_active and its flags. A freezable that is left out is false.
-use Rattle.std.specs.Prelude.{ℕ, Bool, false, ◌||◌, if◌then◌else◌, List, [], ◌∷◌, Option, Some, None, codes}
-use Rattle.std.specs.Option.{option_map_or}
-use Rattle.serde_json.specs.Data.{Data}
-use Rattle.serde_json.specs.Find.{get, as_bool}
-use Rattle.cmwq_model.specs.declared.shape.QueueShape.{QueueShape}
-use Rattle.cmwq_json.specs.Keys.{has_keys}
-use Rattle.cmwq_json.specs.Names.{Named, add_named}
-use Rattle.cmwq_json.specs.Queues.{parts_said}
+use Rattle.cmwq_json_script.specs.Common.{ℕ, Bool, false, ◌||◌, if◌then◌else◌, List, [], ◌∷◌, Option, Some, None, codes, option_map_or, Data, get, as_bool, QueueShape, has_keys, Named, add_named, parts_said}
 use Rattle.cmwq_json_script.specs.Then.{◌>>=◌}
 
 abbrev pub has_queue_keys : Data → Bool

@@ -1,13 +1,5 @@
 -- What a JSON value says of a run, or which member of it is refused first.
-use Rattle.std.specs.Prelude.{ℕ, if◌then◌else◌, List, [], length, Option, Result, Ok, Err, nat_lt}
-use Rattle.std.specs.Option.{option_map_or}
-use Rattle.serde_json.specs.Data.{Data}
-use Rattle.cmwq_model.specs.declared.call.Call.{Call}
-use Rattle.cmwq_model.specs.declared.shape.QueueShape.{QueueShape}
-use Rattle.cmwq_model.specs.Prelude.{Layout}
-use Rattle.cmwq_input.specs.declared.refused.Refused.{Refused}
-use Rattle.cmwq_json.specs.InTurn.{in_turn}
-use Rattle.cmwq_json.specs.Names.{Named, nobody}
+use Rattle.cmwq_json_script.specs.Common.{ℕ, if◌then◌else◌, List, [], length, Option, Result, Ok, Err, nat_lt, option_map_or, Data, Call, QueueShape, Layout, Refused, in_turn, Named, nobody}
 use Rattle.cmwq_json.specs.Parts.{top, queues, items, callers}
 use Rattle.cmwq_json_script.specs.declared.action.Action.{Action}
 use Rattle.cmwq_json_script.specs.Tops.{Top, top_said}

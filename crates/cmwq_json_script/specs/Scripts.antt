@@ -1,13 +1,10 @@
 -- What the reader's scripts are as plain values, and what they keep to.
-use Rattle.std.specs.Prelude.{◌≡◌, ℕ, ◌<◌, ◌≤◌, ◌^◌, Bool, true, false, length, List, map, string_bytes, All}
-use Rattle.std.specs.List.{AllByRecursion}
-use Rattle.cmwq_model.specs.declared.call.Call.{Call}
-use Rattle.cmwq_model.specs.Prelude.{Layout, is_layout, has_numbers, IsScripted}
+use Rattle.cmwq_json_script.specs.Common.{◌≡◌, ℕ, ◌<◌, ◌≤◌, ◌^◌, Bool, true, false, length, List, map, string_bytes, All, AllByRecursion, Call, Layout, is_layout, has_numbers, IsScripted}
 use Rattle.cmwq_model.specs.declared.call.Call.TheVariants as call
 use Rattle.cmwq_json_script.specs.declared.action.Action.{Action}
 use Rattle.cmwq_json_script.specs.declared.action.Action.TheVariants as action
 use Rattle.cmwq_json_script.specs.declared.script.Script.{Script}
-use Rattle.cmwq_json_script.specs.Tops.{IsRecorded}
+use Rattle.cmwq_json_script.specs.Tops.{AreJournalSettings}
 use Rattle.cmwq_json_script.specs.Runs.{Run}
 use Rattle.cmwq_json_script.specs.Views.{calls_of}
 
@@ -33,7 +30,7 @@ abbrev pub AreCalls : Layout → List Call → Type 0
 AreCalls layout calls = AllByRecursion (IsScripted layout) calls × (length calls ≤ 1000)
 
 -- a run inside the limits: what has to hold of the parts that are read, so that a script can be made of them
-pub record IsWithin (run : Run) : Type 0 where
+pub record IsRunWithin (run : Run) : Type 0 where
   pub allowed : is_layout run.layout ≡ true
   pub few_callers : length run.callers ≤ 64
   pub callers : length run.callers ≡ run.layout.callers
@@ -42,7 +39,7 @@ pub record IsWithin (run : Run) : Type 0 where
   pub items : length run.does ≡ run.layout.items
   pub does : AllByRecursion (AllByRecursion (IsAction run.layout (length run.gates))) run.does
   pub few_gates : length run.gates ≤ 16
-  pub recorded : IsRecorded run.version run.journal
+  pub recorded : AreJournalSettings run.version run.journal
 
 -- what a runner of the script needs
 pub record MayRun (s : Script) : Type 0 where
@@ -52,4 +49,4 @@ pub record MayRun (s : Script) : Type 0 where
   pub items : length s.does.items ≡ s.shape.items
   pub does : All (λ actions. All (IsAction s.shape (length s.gates.items)) actions.items) s.does.items
   pub few_gates : length s.gates.items ≤ 16
-  pub recorded : IsRecorded s.version s.journal
+  pub recorded : AreJournalSettings s.version s.journal

@@ -1,11 +1,5 @@
 -- The top of a script: its keys, its numbers and its lists.
-use Rattle.std.specs.Prelude.{ℕ, ◌≤◌, Bool, ◌==◌, ◌||◌, if◌then◌else◌, List, [], ◌∷◌, Option, Some, None, option_map, codes}
-use Rattle.std.specs.Option.{option_map_or}
-use Rattle.serde_json.specs.Data.{Data, Items}
-use Rattle.serde_json.specs.Find.{get, as_array}
-use Rattle.cmwq_model.specs.Prelude.{most_room}
-use Rattle.cmwq_json.specs.Keys.{has_keys}
-use Rattle.cmwq_json.specs.Numbers.{number_between}
+use Rattle.cmwq_json_script.specs.Common.{ℕ, ◌≤◌, Bool, ◌==◌, ◌||◌, if◌then◌else◌, List, [], ◌∷◌, Option, Some, None, option_map, codes, option_map_or, Data, Items, get, as_array, most_room, has_keys, number_between}
 use Rattle.cmwq_json_script.specs.Then.{◌>>=◌}
 
 -- The history is written in the format of this version. With a journal it is written as it is made, and so many entries are kept at a time.
@@ -41,7 +35,7 @@ least_version None = 2
 least_version (Some kept) = 3
 
 -- a format of histories that `run` writes, with a journal or without
-pub record IsRecorded (version : ℕ) (journal : Option ℕ) : Type 0 where
+pub record AreJournalSettings (version : ℕ) (journal : Option ℕ) : Type 0 where
   pub new : 2 ≤ version
   pub least : least_version journal ≤ version
   pub most : version ≤ 3

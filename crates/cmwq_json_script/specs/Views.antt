@@ -1,12 +1,5 @@
 -- What the reader's parts are as plain values.
-use Rattle.std.specs.Prelude.{List, map}
-use Rattle.std.specs.declared.alloc.Global.{Global}
-use Rattle.std.specs.declared.vec.Vec.{Vec}
-use Rattle.serde_json.specs.View.{items_view}
-use Rattle.cmwq_model.specs.declared.call.Call.{Call}
-use Rattle.cmwq_model.specs.declared.shape.QueueShape.{QueueShape}
-use Rattle.cmwq_json.specs.Names.{Named, map_named}
-use Rattle.cmwq_json.specs.Members.{named_of}
+use Rattle.cmwq_json_script.specs.Common.{List, map, Global, Vec, items_view, Call, QueueShape, Named, map_named, named_of}
 use Rattle.cmwq_json_script.specs.declared.item.Items.{Items}
 use Rattle.cmwq_json_script.specs.declared.top.Top as declared
 use Rattle.cmwq_json_script.specs.Known.{Known}

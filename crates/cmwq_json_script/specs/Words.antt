@@ -1,30 +1,29 @@
 -- The words that calls and actions begin with: the text of each, and which one a text is.
-use Rattle.std.specs.Prelude.{ℕ, Bool, List, find, Option, codes}
-use Rattle.std.specs.Str.{bytes_eq}
+use Rattle.cmwq_json_script.specs.Common.{ℕ, Bool, List, find, Option, codes, bytes_eq}
 use Rattle.cmwq_json_script.specs.declared.word.Word.{Word}
 use Rattle.cmwq_json_script.specs.declared.word.Word.TheVariants as word
 use Rattle.cmwq_json_script.specs.declared.word.TheConstants.{WORDS}
 
-unfoldable pub text : Word → List ℕ
-text word.Queue = codes "queue"
-text word.Delay = codes "delay"
-text word.Modify = codes "modify"
-text word.Cancel = codes "cancel"
-text word.Tick = codes "tick"
-text word.Flush = codes "flush"
-text word.FlushItem = codes "flush_item"
-text word.FlushDelayed = codes "flush_delayed"
-text word.CancelSync = codes "cancel_sync"
-text word.Drain = codes "drain"
-text word.SetMax = codes "set_max"
-text word.Freeze = codes "freeze"
-text word.Thaw = codes "thaw"
-text word.Destroy = codes "destroy"
-text word.Open = codes "open"
-text word.SleepAt = codes "sleep_at"
+unfoldable pub word_text : Word → List ℕ
+word_text word.Queue = codes "queue"
+word_text word.Delay = codes "delay"
+word_text word.Modify = codes "modify"
+word_text word.Cancel = codes "cancel"
+word_text word.Tick = codes "tick"
+word_text word.Flush = codes "flush"
+word_text word.FlushItem = codes "flush_item"
+word_text word.FlushDelayed = codes "flush_delayed"
+word_text word.CancelSync = codes "cancel_sync"
+word_text word.Drain = codes "drain"
+word_text word.SetMax = codes "set_max"
+word_text word.Freeze = codes "freeze"
+word_text word.Thaw = codes "thaw"
+word_text word.Destroy = codes "destroy"
+word_text word.Open = codes "open"
+word_text word.SleepAt = codes "sleep_at"
 
-abbrev pub is_text : List ℕ → Word → Bool
-is_text bytes word = bytes_eq (text word) bytes
+abbrev pub is_word_text : List ℕ → Word → Bool
+is_word_text bytes word = bytes_eq (word_text word) bytes
 
 unfoldable pub word_of : List ℕ → Option Word
-word_of bytes = find (is_text bytes) WORDS
+word_of bytes = find (is_word_text bytes) WORDS

@@ -2,7 +2,7 @@
 
 ghost use Rattle.std.specs.Prelude.{◌≡◌, IfOk, option_map, map, if◌then◌else◌, Some, None};
 ghost use Rattle.serde_json.specs.View.{view, items_view};
-ghost use Rattle.cmwq_json_script.specs.Lists.{whole, first_in};
+ghost use Rattle.cmwq_json_script.specs.Lists.{whole, first_item};
 ghost use Rattle.cmwq_json_script.specs.Gates.{gate_said};
 ghost use Rattle.cmwq_json_script.specs.Calls as calls;
 ghost use Rattle.cmwq_json_script.specs.Actions as spec;
@@ -32,7 +32,7 @@ const MOST_ACTIONS: usize = 64;
 
 /// The only part.
 fn only(parts: &[Value]) -> Option<&Value>
-    ensures { option_map (λ v. view v.now) result ≡ whole (first_in (items_view parts.now)) }
+    ensures { option_map (λ v. view v.now) result ≡ whole (first_item (items_view parts.now)) }
 {
     let (first, rest) = first_in(parts)?;
     if is_end(rest) { Some(first) } else { None }

@@ -14,14 +14,14 @@ use cmwq_model::{Call, CpuId, ItemId, QueueId};
 use serde_json::Value;
 
 fn item_in<'v>(names: &Names, parts: &'v [Value]) -> Option<(ItemId, &'v [Value])>
-    ensures { option_map (λ r. (r.0, items_view r.1.now)) result ≡ part_in (known.item_said names.now) (items_view parts.now) }
+    ensures { option_map (λ r. (r.0, items_view r.1.now)) result ≡ part_in (known.item_known names.now) (items_view parts.now) }
 {
     let (part, parts) = first_in(parts)?;
     Some((names.item(part)?, parts))
 }
 
 fn queue_in<'v>(names: &Names, parts: &'v [Value]) -> Option<(QueueId, &'v [Value])>
-    ensures { option_map (λ r. (r.0, items_view r.1.now)) result ≡ part_in (known.queue_said names.now) (items_view parts.now) }
+    ensures { option_map (λ r. (r.0, items_view r.1.now)) result ≡ part_in (known.queue_known names.now) (items_view parts.now) }
 {
     let (part, parts) = first_in(parts)?;
     Some((names.queue(part)?, parts))
@@ -43,7 +43,7 @@ fn ticks_in(parts: &[Value]) -> Option<(u32, &[Value])>
 }
 
 fn width_in(parts: &[Value]) -> Option<(u32, &[Value])>
-    ensures { option_map (λ r. (r.0, items_view r.1.now)) result ≡ part_in spec.width_said (items_view parts.now) }
+    ensures { option_map (λ r. (r.0, items_view r.1.now)) result ≡ part_in spec.width_in_call (items_view parts.now) }
 {
     let (part, parts) = first_in(parts)?;
     let width = read_number(part, 1, 4_294_967_295)?;
@@ -105,9 +105,9 @@ pub fn own_call_after<'v>(
 }
 
 /// The call after its word.
-#[tactic(auto, unfolding(crate::specs::Calls::call_after))]
+#[tactic(auto, unfolding(crate::specs::Calls::call_with_members))]
 fn call_after<'v>(names: &Names, word: Word, parts: &'v [Value]) -> Option<(Call, &'v [Value])>
-    ensures { option_map (λ r. (r.0, items_view r.1.now)) result ≡ spec.call_after names.now word (items_view parts.now) }
+    ensures { option_map (λ r. (r.0, items_view r.1.now)) result ≡ spec.call_with_members names.now word (items_view parts.now) }
 {
     match word {
         Word::Tick => {

@@ -4,7 +4,7 @@ ghost use Rattle.std.specs.Prelude.{◌≡◌, IfOk, Some, None, [], option_map,
 ghost use Rattle.serde_json.specs.View.{view, items_view};
 ghost use Rattle.cmwq_json.specs.InTurn.{in_turn};
 ghost use Rattle.cmwq_json.specs.Parts as refused;
-ghost use Rattle.cmwq_json.specs.Readings.{told};
+ghost use Rattle.cmwq_json.specs.Readings.{map_ok};
 ghost use Rattle.cmwq_json_script.specs.Callers as spec;
 ghost use Rattle.cmwq_json_script.specs.Runs.{some_of};
 ghost use Rattle.cmwq_json_script.specs.Views.{calls_of};
@@ -72,7 +72,7 @@ fn read_in_turn(
     names: &Names,
     values: &[Value],
 ) -> Result<Result<Vec<Vec<Call>>, usize>, AllocError>
-    ensures { IfOk result (λ r. told calls_of r ≡ in_turn (spec.add_caller names.now) 0 [] (items_view values.now)) }
+    ensures { IfOk result (λ r. map_ok calls_of r ≡ in_turn (spec.add_caller names.now) 0 [] (items_view values.now)) }
 {
     let mut callers = Vec::new(alloc);
     for (index, value) in values.iter().enumerate() {
@@ -89,7 +89,7 @@ pub fn read_callers(
     names: &Names,
     values: &[Value],
 ) -> Result<Result<Vec<Vec<Call>>, Refused>, AllocError>
-    ensures { IfOk result (λ r. told calls_of r ≡ some_of refused.callers length (in_turn (spec.add_caller names.now) 0 [] (items_view values.now))) }
+    ensures { IfOk result (λ r. map_ok calls_of r ≡ some_of refused.callers length (in_turn (spec.add_caller names.now) 0 [] (items_view values.now))) }
 {
     let refuse = |index| Refused {
         part: Part::Callers,

@@ -3,7 +3,7 @@
 ghost use Rattle.std.specs.Prelude.{◌≡◌, [], IfOk, option_map, map, string_bytes, ◌≤◌, length};
 ghost use Rattle.serde_json.specs.View.{view};
 ghost use Rattle.cmwq_json_script.specs.Gates.{with_gate, gate_said};
-ghost use Rattle.cmwq_json.specs.Names.{number_of as number_in};
+ghost use Rattle.cmwq_json.specs.Names.{number_of_name as number_in};
 
 use cmwq_json::{in_order, number_of, read_name};
 use indexmap::IndexSet;

@@ -4,7 +4,7 @@ ghost use Rattle.std.specs.Prelude.{◌≡◌, IfOk, Some, None, option_map, if�
 ghost use Rattle.serde_json.specs.View.{view, items_view};
 ghost use Rattle.cmwq_json.specs.InTurn.{in_turn};
 ghost use Rattle.cmwq_json.specs.Parts as refused;
-ghost use Rattle.cmwq_json.specs.Readings.{told};
+ghost use Rattle.cmwq_json.specs.Readings.{map_ok};
 ghost use Rattle.cmwq_json_script.specs.Items as spec;
 ghost use Rattle.cmwq_json_script.specs.Runs.{some_of};
 ghost use Rattle.cmwq_json_script.specs.Views.{work_of};
@@ -67,7 +67,7 @@ fn read_in_turn(
     names: &Names,
     values: &[Value],
 ) -> Result<Result<Items, usize>, AllocError>
-    ensures { IfOk result (λ r. told work_of r ≡ in_turn (spec.add_item names.now) 0 spec.no_work (items_view values.now)) }
+    ensures { IfOk result (λ r. map_ok work_of r ≡ in_turn (spec.add_item names.now) 0 spec.no_work (items_view values.now)) }
 {
     let mut items = Items {
         members: Members::new(alloc),
@@ -87,7 +87,7 @@ pub fn read_items(
     names: &Names,
     values: &[Value],
 ) -> Result<Result<Items, Refused>, AllocError>
-    ensures { IfOk result (λ r. told work_of r ≡ some_of refused.items (λ w. length w.items.values) (in_turn (spec.add_item names.now) 0 spec.no_work (items_view values.now))) }
+    ensures { IfOk result (λ r. map_ok work_of r ≡ some_of refused.items (λ w. length w.items.values) (in_turn (spec.add_item names.now) 0 spec.no_work (items_view values.now))) }
 {
     let refuse = |index| Refused {
         part: Part::Items,

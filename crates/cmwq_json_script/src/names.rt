@@ -65,7 +65,7 @@ impl Model for Names {
 }
 
 impl Names {
-    ghost use Rattle.cmwq_json_script.specs.Known.{item_said, queue_said, cpu_said};
+    ghost use Rattle.cmwq_json_script.specs.Known.{item_known, queue_known, cpu_said};
 
     /// The names of these items, and of these queues.
     pub fn new(
@@ -87,7 +87,7 @@ impl Names {
 
     /// The item that a value names.
     pub fn item(&self, value: &Value) -> Option<ItemId>
-        ensures { result ≡ item_said self.now (view value.now) }
+        ensures { result ≡ item_known self.now (view value.now) }
     {
         let number = number_of(&self.items, value.as_str()?)?;
         Some(ItemId(number as u16))
@@ -95,7 +95,7 @@ impl Names {
 
     /// The queue that a value names.
     pub fn queue(&self, value: &Value) -> Option<QueueId>
-        ensures { result ≡ queue_said self.now (view value.now) }
+        ensures { result ≡ queue_known self.now (view value.now) }
     {
         let number = number_of(&self.queues, value.as_str()?)?;
         Some(QueueId(number as u8))

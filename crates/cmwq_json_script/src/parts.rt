@@ -15,21 +15,21 @@ fn read_word(value: &Value) -> Option<Word>
 
 /// Whether no part is left.
 pub fn is_end(parts: &[Value]) -> bool
-    ensures { result ≡ spec.is_end (items_view parts.now) }
+    ensures { result ≡ spec.has_no_item (items_view parts.now) }
 {
     parts.is_empty()
 }
 
 /// The first part, and those after it.
 pub fn first_in(parts: &[Value]) -> Option<(&Value, &[Value])>
-    ensures { option_map (λ r. (view r.0.now, items_view r.1.now)) result ≡ spec.first_in (items_view parts.now) }
+    ensures { option_map (λ r. (view r.0.now, items_view r.1.now)) result ≡ spec.first_item (items_view parts.now) }
 {
     parts.split_first()
 }
 
 /// The word that the first part is, and the parts after it.
 pub fn word_in(parts: &[Value]) -> Option<(Word, &[Value])>
-    ensures { option_map (λ r. (r.0, items_view r.1.now)) result ≡ spec.word_in (items_view parts.now) }
+    ensures { option_map (λ r. (r.0, items_view r.1.now)) result ≡ spec.word_of_items (items_view parts.now) }
 {
     let (part, parts) = first_in(parts)?;
     Some((read_word(part)?, parts))

@@ -6,7 +6,7 @@ ghost use Rattle.cmwq_json.specs.InTurn.{in_turn};
 ghost use Rattle.cmwq_json.specs.Names.{nobody};
 ghost use Rattle.cmwq_json.specs.Members.{named_of};
 ghost use Rattle.cmwq_json.specs.Parts as refused;
-ghost use Rattle.cmwq_json.specs.Readings.{told};
+ghost use Rattle.cmwq_json.specs.Readings.{map_ok};
 ghost use Rattle.cmwq_json_script.specs.Queues as spec;
 ghost use Rattle.cmwq_json_script.specs.Runs.{some_of};
 
@@ -77,7 +77,7 @@ fn read_in_turn(
     alloc: Global,
     values: &[Value],
 ) -> Result<Result<Members<QueueShape>, usize>, AllocError>
-    ensures { IfOk result (λ r. told named_of r ≡ in_turn spec.add_queue 0 nobody (items_view values.now)) }
+    ensures { IfOk result (λ r. map_ok named_of r ≡ in_turn spec.add_queue 0 nobody (items_view values.now)) }
 {
     let mut queues = Members::new(alloc);
     for (index, value) in values.iter().enumerate() {
@@ -93,7 +93,7 @@ pub fn read_queues(
     alloc: Global,
     values: &[Value],
 ) -> Result<Result<Members<QueueShape>, Refused>, AllocError>
-    ensures { IfOk result (λ r. told named_of r ≡ some_of refused.queues (λ qs. length qs.values) (in_turn spec.add_queue 0 nobody (items_view values.now))) }
+    ensures { IfOk result (λ r. map_ok named_of r ≡ some_of refused.queues (λ qs. length qs.values) (in_turn spec.add_queue 0 nobody (items_view values.now))) }
 {
     let refuse = |index| Refused {
         part: Part::Queues,

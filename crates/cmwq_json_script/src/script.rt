@@ -3,9 +3,9 @@
 ghost use Rattle.std.specs.Prelude.{◌≡◌, IfOk, Ok};
 ghost use Rattle.serde_json.specs.View.{view};
 ghost use Rattle.cmwq_json.specs.Members.{named_of};
-ghost use Rattle.cmwq_json.specs.Readings.{told};
+ghost use Rattle.cmwq_json.specs.Readings.{map_ok};
 ghost use Rattle.cmwq_json_script.specs.Runs as spec;
-ghost use Rattle.cmwq_json_script.specs.Scripts.{run_of, IsWithin, MayRun};
+ghost use Rattle.cmwq_json_script.specs.Scripts.{run_of, IsRunWithin, MayRun};
 ghost use Rattle.cmwq_json_script.specs.Views.{top_of, queues_of, work_of, calls_of};
 
 use crate::action::Action;
@@ -45,7 +45,7 @@ fn script_of(
     items: Items,
     callers: Vec<Vec<Call>>,
 ) -> Result<Script, AllocError>
-    requires { IsWithin (spec.run_in (top_of top.now) queues.items (work_of items) (calls_of callers)) }
+    requires { IsRunWithin (spec.run_in (top_of top.now) queues.items (work_of items) (calls_of callers)) }
     ensures says { IfOk result (λ script. run_of script ≡ spec.run_in (top_of top.now) queues.items (work_of items) (calls_of callers)) }
     ensures within { IfOk result MayRun }
 {
@@ -81,7 +81,7 @@ fn with_items(
     requires known { names.now ≡ spec.known_in (top_of top.now) (queues_of names.now queues) }
     requires queues { spec.queues_said (top_of top.now) ≡ Ok (queues_of names.now queues) }
     requires items { spec.items_said names.now (top_of top.now) ≡ Ok (work_of items) }
-    ensures says { IfOk result (λ r. told run_of r ≡ spec.with_callers (top_of top.now) (queues_of names.now queues) (work_of items) (spec.callers_said names.now (top_of top.now))) }
+    ensures says { IfOk result (λ r. map_ok run_of r ≡ spec.with_callers (top_of top.now) (queues_of names.now queues) (work_of items) (spec.callers_said names.now (top_of top.now))) }
     ensures within { IfOk result (λ r. IfOk r MayRun) }
 {
     match read_callers(alloc, names, top.callers)? {
@@ -99,7 +99,7 @@ fn with_names(
 ) -> Result<Result<Script, Refused>, AllocError>
     requires known { names.now ≡ spec.known_in (top_of top.now) (queues_of names.now queues) }
     requires queues { spec.queues_said (top_of top.now) ≡ Ok (queues_of names.now queues) }
-    ensures says { IfOk result (λ r. told run_of r ≡ spec.with_queues (top_of top.now) (Ok (queues_of names.now queues))) }
+    ensures says { IfOk result (λ r. map_ok run_of r ≡ spec.with_queues (top_of top.now) (Ok (queues_of names.now queues))) }
     ensures within { IfOk result (λ r. IfOk r MayRun) }
 {
     match read_items(alloc, names, top.items)? {
@@ -115,7 +115,7 @@ fn with_queues(
     queues: Members<QueueShape>,
 ) -> Result<Result<Script, Refused>, AllocError>
     requires { spec.queues_said (top_of top.now) ≡ Ok (named_of queues) }
-    ensures says { IfOk result (λ r. told run_of r ≡ spec.with_queues (top_of top.now) (Ok (named_of queues))) }
+    ensures says { IfOk result (λ r. map_ok run_of r ≡ spec.with_queues (top_of top.now) (Ok (named_of queues))) }
     ensures within { IfOk result (λ r. IfOk r MayRun) }
 {
     let Members { names, values } = queues;
@@ -125,7 +125,7 @@ fn with_queues(
 
 /// The script of the lists of a top.
 fn read_lists(alloc: Global, top: &Top<'_>) -> Result<Result<Script, Refused>, AllocError>
-    ensures says { IfOk result (λ r. told run_of r ≡ spec.with_queues (top_of top.now) (spec.queues_said (top_of top.now))) }
+    ensures says { IfOk result (λ r. map_ok run_of r ≡ spec.with_queues (top_of top.now) (spec.queues_said (top_of top.now))) }
     ensures within { IfOk result (λ r. IfOk r MayRun) }
 {
     match read_queues(alloc, top.queues)? {
@@ -137,7 +137,7 @@ fn read_lists(alloc: Global, top: &Top<'_>) -> Result<Result<Script, Refused>, A
 /// The script of a run that a value names, or the first member that is refused: first the keys, their types and the numbers of the top,
 /// then the queues in order, then the items, then the callers. An Err is want of memory.
 pub fn read_script(alloc: Global, value: &Value) -> Result<Result<Script, Refused>, AllocError>
-    ensures says { IfOk result (λ r. told run_of r ≡ spec.run_said (view value.now)) }
+    ensures says { IfOk result (λ r. map_ok run_of r ≡ spec.run_said (view value.now)) }
     ensures within { IfOk result (λ r. IfOk r MayRun) }
 {
     match Top::read(value) {

@@ -4,7 +4,7 @@ ghost use Rattle.std.specs.Prelude.{◌≡◌, ◌≤◌, IfSome, option_map};
 ghost use Rattle.serde_json.specs.View.{view};
 ghost use Rattle.cmwq_model.specs.Prelude.{most_room};
 ghost use Rattle.cmwq_json_script.specs.Tops as spec;
-ghost use Rattle.cmwq_json_script.specs.Tops.{IsRecorded};
+ghost use Rattle.cmwq_json_script.specs.Tops.{AreJournalSettings};
 
 use cmwq_json::{array_at, has_keys, read_number};
 use serde_json::Value;
@@ -23,7 +23,7 @@ pub struct Top<'v> {
     pub items: &'v [Value],
     pub callers: &'v [Value],
     ghost limits: { (1 ≤ cpus) × (cpus ≤ 4) × (1 ≤ workers) × (workers ≤ 8) × (room ≤ most_room) },
-    ghost recorded: { IsRecorded version journal },
+    ghost recorded: { AreJournalSettings version journal },
 }
 
 /// The greatest room where a history is written in format 2.
@@ -72,7 +72,7 @@ fn read_journal(value: &Value) -> Option<Option<u32>>
 /// What a journal writes is of format 3.
 fn least_version(journal: Option<u32>) -> u8
     ensures least { result ≡ spec.least_version journal }
-    ensures recorded { IsRecorded result journal }
+    ensures recorded { AreJournalSettings result journal }
 {
     match journal {
         Some(_) => 3,
@@ -82,7 +82,7 @@ fn least_version(journal: Option<u32>) -> u8
 
 fn read_version(value: &Value, journal: Option<u32>) -> Option<u8>
     ensures said { result ≡ spec.version_said journal (view value.now) }
-    ensures recorded { IfSome result (λ version. IsRecorded version journal) }
+    ensures recorded { IfSome result (λ version. AreJournalSettings version journal) }
 {
     let least = least_version(journal);
     match value.get("format") {

@@ -1,7 +1,7 @@
 //! The words that calls and actions begin with.
 
 ghost use Rattle.std.specs.Prelude.{◌≡◌, find};
-ghost use Rattle.cmwq_json_script.specs.Words.{text, is_text, word_of};
+ghost use Rattle.cmwq_json_script.specs.Words.{word_text, is_word_text, word_of};
 
 /// A word that names a call or an action.
 #[derive(Clone, Copy)]
@@ -46,9 +46,9 @@ const WORDS: [Word; 16] = [
 
 impl Word {
     /// How it is written.
-    #[tactic(auto, unfolding(crate::specs::Words::text))]
+    #[tactic(auto, unfolding(crate::specs::Words::word_text))]
     fn text(self) -> &'static str
-        ensures { result.now ≡ text self }
+        ensures { result.now ≡ word_text self }
     {
         match self {
             Word::Queue => "queue",
@@ -72,7 +72,7 @@ impl Word {
 }
 
 fn word_among(words: &[Word], text: &[u8]) -> Option<Word>
-    ensures { result ≡ find (is_text text.now) words.now }
+    ensures { result ≡ find (is_word_text text.now) words.now }
 {
     words
         .iter()

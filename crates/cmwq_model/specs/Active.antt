@@ -35,16 +35,16 @@ abbrev pub newly_active : Layout → List Entry → Entry → List Queueing
 newly_active s past e = filter (is_newly_active s past e) (queueings (e ∷ past))
 
 -- all that ever became active, by the event that made them so, and those of one event by number
-unfoldable pub activated : Layout → List Entry → List Queueing
-activated s [] = []
-activated s (e ∷ past) = activated s past ++ newly_active s past e
+unfoldable pub became_active : Layout → List Entry → List Queueing
+became_active s [] = []
+became_active s (e ∷ past) = became_active s past ++ newly_active s past e
 
 -- a pool's worklist: its active queueings that haven't started, in that order
 abbrev pub is_listed : Layout → List Entry → PoolId → Queueing → Bool
 is_listed s past p x = is_active s past x && not (is_started past x.number) && same_pool (pool_at s x.place) p
 
 unfoldable pub worklist : Layout → List Entry → PoolId → List Queueing
-worklist s past p = filter (is_listed s past p) (activated s past)
+worklist s past p = filter (is_listed s past p) (became_active s past)
 
 -- the next to start: the first whose item has no run
 abbrev pub is_startable : List Entry → Queueing → Bool

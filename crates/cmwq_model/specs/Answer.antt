@@ -13,11 +13,11 @@ use Rattle.cmwq_model.specs.declared.entry.Entry.{Entry}
 use Rattle.cmwq_model.specs.declared.record.Booking.{Booking}
 use Rattle.cmwq_model.specs.declared.record.Queueing.{Queueing}
 use Rattle.cmwq_model.specs.declared.record.Ticket.{Ticket}
-use Rattle.cmwq_model.specs.Layout.{Layout}
+use Rattle.cmwq_model.specs.Layout.{Layout, most_active}
 use Rattle.cmwq_model.specs.Calls.{is_at, now}
 use Rattle.cmwq_model.specs.Bookings.{booking, is_booked, standing}
 use Rattle.cmwq_model.specs.Runs.{run, has_run, runs_awake, runs_asleep}
-use Rattle.cmwq_model.specs.Queueings.{unstarted, is_pending, is_item_open, run_queue, runs_elsewhere}
+use Rattle.cmwq_model.specs.Queueings.{unstarted_queueing, is_pending, is_item_open, run_queue, runs_elsewhere}
 use Rattle.cmwq_model.specs.Widths.{is_frozen}
 use Rattle.cmwq_model.specs.Active.{next}
 use Rattle.cmwq_model.specs.Workers.{is_enlisted, runnable, enlisted_by, may_retire}
@@ -60,15 +60,15 @@ modify_answer past who i q ticks =
     else if ticks == 0 then reply.Yes (length past)
     else reply.Booked (now past + ticks)
 
-abbrev pub taken_back : Option Queueing → Bool → Reply
-taken_back (Some x) booked = reply.Cancelled x.number
-taken_back None true = reply.Unbooked
-taken_back None false = reply.No
+abbrev pub taken_back_answer : Option Queueing → Bool → Reply
+taken_back_answer (Some x) booked = reply.Cancelled x.number
+taken_back_answer None true = reply.Unbooked
+taken_back_answer None false = reply.No
 
 unfoldable pub cancel_answer : List Entry → Who → ℕ → Reply
 cancel_answer past who i =
     if not (may_call past who) then reply.Misuse
-    else taken_back (unstarted past i) (is_booked past i)
+    else taken_back_answer (unstarted_queueing past i) (is_booked past i)
 
 -- the first that is due on a queue that isn't draining: by due, and then by the number of the booking
 abbrev pub may_fire : List Entry → Booking → Bool
@@ -86,9 +86,9 @@ soonest bs = find (is_soonest bs) bs
 unfoldable pub first_due : List Entry → Option Booking
 first_due past = soonest (filter (may_fire past) (standing past))
 
-abbrev pub fired : Option Booking → ℕ → Reply
-fired None k = reply.Nothing
-fired (Some b) k = reply.Fired b.item k
+abbrev pub fired_answer : Option Booking → ℕ → Reply
+fired_answer None k = reply.Nothing
+fired_answer (Some b) k = reply.Fired b.item k
 
 -- flush and drain
 unfoldable pub wait_answer : List Entry → Who → ℕ → Reply
@@ -109,7 +109,7 @@ destroy_answer past who q =
     else reply.Ticket (length past)
 
 unfoldable pub set_max_answer : List Entry → ℕ → ℕ → Reply
-set_max_answer past q n = if is_gone past q then reply.Gone else reply.Width (min n 512)
+set_max_answer past q n = if is_gone past q then reply.Gone else reply.Width (min n most_active)
 
 unfoldable pub flush_item_answer : List Entry → Who → ℕ → Reply
 flush_item_answer past who i =
@@ -136,7 +136,7 @@ taken_back_for k None false = reply.TicketNo k
 unfoldable pub cancel_sync_answer : List Entry → Who → ℕ → Reply
 cancel_sync_answer past who i =
     if is_crowded past who then reply.Crowded
-    else taken_back_for (length past) (unstarted past i) (is_booked past i)
+    else taken_back_for (length past) (unstarted_queueing past i) (is_booked past i)
 
 abbrev pub waiting_for : Option ℕ → Reply
 waiting_for None = reply.Done
@@ -146,25 +146,25 @@ abbrev pub end_of_ticket : List Entry → Option Ticket → Reply
 end_of_ticket past None = reply.Misuse
 end_of_ticket past (Some t) = waiting_for (waits_for past t.number t.call)
 
-abbrev pub started : ℕ → Option ℕ → Reply
-started n None = reply.Started n
-started n (Some x) = reply.StartedEnlist n x
+abbrev pub started_answer : ℕ → Option ℕ → Reply
+started_answer n None = reply.Started n
+started_answer n (Some x) = reply.StartedEnlist n x
 
 abbrev pub start_of : Layout → List Entry → WorkerId → Option Queueing → Reply
 start_of s past w None = reply.Nothing
-start_of s past w (Some x) = if nat_lt 0 (runnable s past w.pool) then reply.Held else started x.number (enlisted_by s past w)
+start_of s past w (Some x) = if nat_lt 0 (runnable s past w.pool) then reply.Held else started_answer x.number (enlisted_by s past w)
 
 unfoldable pub take_answer : Layout → List Entry → WorkerId → Reply
 take_answer s past w =
     if not (is_enlisted past w) || has_run past w then reply.Misuse
     else start_of s past w (next s past w.pool)
 
-abbrev pub finished : Option ℕ → Reply
-finished None = reply.Misuse
-finished (Some n) = reply.Finished n
+abbrev pub finished_answer : Option ℕ → Reply
+finished_answer None = reply.Misuse
+finished_answer (Some n) = reply.Finished n
 
 unfoldable pub finish_answer : List Entry → WorkerId → Reply
-finish_answer past w = if runs_awake past w then finished (run past w) else reply.Misuse
+finish_answer past w = if runs_awake past w then finished_answer (run past w) else reply.Misuse
 
 unfoldable pub retire_answer : Layout → List Entry → WorkerId → Reply
 retire_answer s past w =
@@ -191,7 +191,7 @@ answer s past who (call.Delay i q c ticks) = queue_answer past who i.0 q.0 ticks
 answer s past who (call.Modify i q c ticks) = modify_answer past who i.0 q.0 ticks
 answer s past who (call.Cancel i) = cancel_answer past who i.0
 answer s past who (call.Tick ticks) = reply.Now (now past + ticks)
-answer s past who call.Fire = fired (first_due past) (length past)
+answer s past who call.Fire = fired_answer (first_due past) (length past)
 answer s past who (call.Flush q) = wait_answer past who q.0
 answer s past who (call.Drain q) = wait_answer past who q.0
 answer s past who (call.FlushItem i) = flush_item_answer past who i.0

@@ -3,6 +3,7 @@
 use Rattle.std.specs.Prelude.{ℕ, suc, ◌+◌, ◌-◌, Bool, false, ◌&&◌, ◌==◌, if◌then◌else◌, List, [], ◌∷◌, length, slice_get, count_by, Option, Some, None, option_and_then, nat_lt}
 use Rattle.std.specs.Option.{option_or}
 use mathlib.Core.Bool.{beq}
+use Rattle.cmwq_model.specs.declared.id.ItemId.{ItemId}
 use Rattle.cmwq_model.specs.declared.id.PoolId.{PoolId}
 use Rattle.cmwq_model.specs.declared.id.WorkerId.{WorkerId}
 use Rattle.cmwq_model.specs.declared.id.Who.{Who}
@@ -54,6 +55,11 @@ item_fired r = None
 
 abbrev pub item_of : Entry → Option ℕ
 item_of e = option_or (item_called e.call) (item_fired e.reply)
+
+-- the number of an item, if there is one
+abbrev pub item_number : Option ItemId → Option ℕ
+item_number None = None
+item_number (Some i) = Some i.0
 
 abbrev pub is_of_item : ℕ → Entry → Bool
 is_of_item i e = is_at (item_of e) i

@@ -25,7 +25,26 @@ pub record Layout : Type 0 where
 abbrev pub layout_of : Counts → List QueueShape → Layout
 layout_of n queues = record { cpus = n.cpus; workers = n.workers; callers = n.callers; items = n.items; room = n.room; queues = queues }
 
--- the limits of every shape: a room is 2 ^ 62 at most
+-- the limits of every shape: how many CPUs, workers of a pool, callers, items and queues it may have, and how great a queue's max_active and
+-- the room, which is 2 ^ 62 at most
+abbrev pub most_cpus : ℕ
+most_cpus = 4
+
+abbrev pub most_workers : ℕ
+most_workers = 8
+
+abbrev pub most_callers : ℕ
+most_callers = 64
+
+abbrev pub most_items : ℕ
+most_items = 256
+
+abbrev pub most_queues : ℕ
+most_queues = 64
+
+abbrev pub most_active : ℕ
+most_active = 512
+
 abbrev pub most_room : ℕ
 most_room = 4611686018427387904
 
@@ -33,13 +52,13 @@ abbrev pub is_between : ℕ → ℕ → ℕ → Bool
 is_between low high n = nat_le low n && nat_le n high
 
 abbrev pub are_counts : ℕ → ℕ → ℕ → ℕ → ℕ → Bool
-are_counts cpus workers callers items room = is_between 1 4 cpus && is_between 1 8 workers && is_between 1 64 callers && is_between 1 256 items && nat_le room most_room
+are_counts cpus workers callers items room = is_between 1 most_cpus cpus && is_between 1 most_workers workers && is_between 1 most_callers callers && is_between 1 most_items items && nat_le room most_room
 
 abbrev pub is_queue : QueueShape → Bool
-is_queue q = is_between 1 512 q.max_active
+is_queue q = is_between 1 most_active q.max_active
 
 abbrev pub are_queues : List QueueShape → Bool
-are_queues queues = is_between 1 64 (length queues) && list_all is_queue queues
+are_queues queues = is_between 1 most_queues (length queues) && list_all is_queue queues
 
 abbrev pub is_layout : Layout → Bool
 is_layout s = are_counts s.cpus s.workers s.callers s.items s.room && are_queues s.queues

@@ -64,11 +64,11 @@ still_open past = filter (is_live past) (queueings past)
 abbrev pub is_unstarted : List Entry → ℕ → Queueing → Bool
 is_unstarted past i x = (x.item.0 == i) && not (is_started past x.number)
 
-abbrev pub unstarted : List Entry → ℕ → Option Queueing
-unstarted past i = find (is_unstarted past i) (still_open past)
+abbrev pub unstarted_queueing : List Entry → ℕ → Option Queueing
+unstarted_queueing past i = find (is_unstarted past i) (still_open past)
 
 abbrev pub is_pending : List Entry → ℕ → Bool
-is_pending past i = is_booked past i || is_some (unstarted past i)
+is_pending past i = is_booked past i || is_some (unstarted_queueing past i)
 
 -- the queueing with this number, and the queue of what a worker or an item runs
 abbrev pub has_number : ℕ → Queueing → Bool

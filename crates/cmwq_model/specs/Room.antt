@@ -14,7 +14,7 @@ use Rattle.cmwq_model.specs.Bookings.{is_booked}
 use Rattle.cmwq_model.specs.Fate.{is_started}
 use Rattle.cmwq_model.specs.Runs.{has_run, runs_asleep}
 use Rattle.cmwq_model.specs.Queueings.{still_open}
-use Rattle.cmwq_model.specs.Tickets.{unended}
+use Rattle.cmwq_model.specs.Tickets.{unended_tickets}
 use Rattle.cmwq_model.specs.Widths.{is_frozen}
 use Rattle.cmwq_model.specs.Workers.{worker_at}
 use Rattle.cmwq_model.specs.Legal.{entry_for}
@@ -37,10 +37,10 @@ has_not_started past x = not (is_started past x.number)
 unfoldable pub owed : Layout → List Entry → ℕ
 owed s past =
     2 * count_by (has_not_started past) (still_open past) + count_by (has_run past) (workers s) + count_by (runs_asleep past) (workers s)
-    + 3 * count_by (is_booked past) (range_with_len 0 s.items) + length (unended past) + (if is_frozen past then 1 else 0)
+    + 3 * count_by (is_booked past) (range_with_len 0 s.items) + length (unended_tickets past) + (if is_frozen past then 1 else 0)
 
-abbrev pub needed : Layout → List Entry → ℕ
-needed s past = length past + owed s past
+abbrev pub room_needed : Layout → List Entry → ℕ
+room_needed s past = length past + owed s past
 
 -- the time has a room of its own, 2 ^ 62 ticks: a tick that would go beyond it has none
 abbrev pub most_time : ℕ
@@ -52,7 +52,7 @@ has_time past c = true
 
 -- a call has room where the history with its entry, and what that owes, is within the room; the program's is that of the layout
 abbrev pub has_room : Layout → ℕ → List Entry → Who → Call → Bool
-has_room s room past who call = has_time past call && nat_le (needed s (entry_for s past who call ∷ past)) room
+has_room s room past who call = has_time past call && nat_le (room_needed s (entry_for s past who call ∷ past)) room
 
 -- the steps of a list of calls: the entry of each that has room, and how many were left out
 pub record Steps : Type 0 where

@@ -48,8 +48,8 @@ ends t e = is_by (Caller t.caller) e && is_end_of t.number e.call && is_done e.r
 abbrev pub is_unended : List Entry → Ticket → Bool
 is_unended past t = not (list_any (ends t) past)
 
-abbrev pub unended : List Entry → List Ticket
-unended past = filter (is_unended past) (tickets past)
+abbrev pub unended_tickets : List Entry → List Ticket
+unended_tickets past = filter (is_unended past) (tickets past)
 
 -- while a cancel_sync of an item is unended the item is being cancelled, and likewise a queue is draining, by a drain or a destroy
 abbrev pub cancels_sync : ℕ → Call → Bool
@@ -82,28 +82,31 @@ abbrev pub is_flush_of : ℕ → Ticket → Bool
 is_flush_of q t = flushes q t.call
 
 abbrev pub is_cancelling : List Entry → ℕ → Bool
-is_cancelling past i = list_any (is_cancel_sync_of i) (unended past)
+is_cancelling past i = list_any (is_cancel_sync_of i) (unended_tickets past)
 
 abbrev pub is_draining : List Entry → ℕ → Bool
-is_draining past q = list_any (is_drain_of q) (unended past)
+is_draining past q = list_any (is_drain_of q) (unended_tickets past)
 
 abbrev pub is_being_destroyed : List Entry → ℕ → Bool
-is_being_destroyed past q = list_any (is_destroy_of q) (unended past)
+is_being_destroyed past q = list_any (is_destroy_of q) (unended_tickets past)
 
--- a caller has at most 64 unended tickets
+-- how many unended tickets a caller may have
+abbrev pub most_tickets : ℕ
+most_tickets = 64
+
 abbrev pub is_held_by : Who → Ticket → Bool
 is_held_by (Caller c) t = t.caller.0 == c.0
 is_held_by (Worker w) t = false
 
 abbrev pub is_crowded : List Entry → Who → Bool
-is_crowded past who = nat_le 64 (count_by (is_held_by who) (unended past))
+is_crowded past who = nat_le most_tickets (count_by (is_held_by who) (unended_tickets past))
 
 -- this caller's unended ticket with this number
 abbrev pub is_ticket : Who → ℕ → Ticket → Bool
 is_ticket who n t = (t.number == n) && is_held_by who t
 
 abbrev pub ticket_of : List Entry → Who → ℕ → Option Ticket
-ticket_of past who n = find (is_ticket who n) (unended past)
+ticket_of past who n = find (is_ticket who n) (unended_tickets past)
 
 -- a queue is gone once the end of a destroy of it was answered done
 abbrev pub ends_destroy : List Entry → ℕ → Who → Call → Bool

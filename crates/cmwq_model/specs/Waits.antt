@@ -9,7 +9,7 @@ use Rattle.cmwq_model.specs.declared.record.Start.{Start}
 use Rattle.cmwq_model.specs.declared.record.Ticket.{Ticket}
 use Rattle.cmwq_model.specs.Runs.{item_run}
 use Rattle.cmwq_model.specs.Queueings.{still_open}
-use Rattle.cmwq_model.specs.Tickets.{unended, is_flush_of}
+use Rattle.cmwq_model.specs.Tickets.{unended_tickets, is_flush_of}
 
 -- At most 15 flushes of a queue are served at once. A flush is served from its own position, or from the first later
 -- one after whose event fewer than 15 older flushes of the queue are unended; until then it is in overflow.
@@ -17,11 +17,11 @@ abbrev pub is_older_flush : ℕ → ℕ → Ticket → Bool
 is_older_flush q n t = is_flush_of q t && nat_lt t.number n
 
 abbrev pub is_served_after : List Entry → ℕ → ℕ → Bool
-is_served_after past q n = nat_lt (count_by (is_older_flush q n) (unended past)) 15
+is_served_after past q n = nat_lt (count_by (is_older_flush q n) (unended_tickets past)) 15
 
-unfoldable pub served : List Entry → ℕ → ℕ → Option ℕ
-served [] q n = None
-served (e ∷ past) q n = option_or (served past q n) (if nat_le n (length past) && is_served_after (e ∷ past) q n then Some (length past) else None)
+unfoldable pub serving_from : List Entry → ℕ → ℕ → Option ℕ
+serving_from [] q n = None
+serving_from (e ∷ past) q n = option_or (serving_from past q n) (if nat_le n (length past) && is_served_after (e ∷ past) q n then Some (length past) else None)
 
 -- A served flush waits for the queueings of its queue up to the position from which it is served, one in overflow for
 -- all of them, a flush of an item for the item's queueings up to its own position, a drain and a destroy for all of its queue.
@@ -29,7 +29,7 @@ abbrev pub is_within : Option ℕ → ℕ → Bool
 is_within bound n = option_map_or (nat_le n) bound true
 
 abbrev pub holds_up : List Entry → ℕ → Call → Queueing → Bool
-holds_up past n (call.Flush q) x = (x.place.queue.0 == q.0) && is_within (served past q.0 n) x.number
+holds_up past n (call.Flush q) x = (x.place.queue.0 == q.0) && is_within (serving_from past q.0 n) x.number
 holds_up past n (call.Drain q) x = x.place.queue.0 == q.0
 holds_up past n (call.Destroy q) x = x.place.queue.0 == q.0
 holds_up past n (call.FlushItem i) x = (x.item.0 == i.0) && nat_le x.number n

@@ -1,6 +1,7 @@
-ghost use Rattle.std.specs.Prelude.{◌≡◌};
+ghost use Rattle.std.specs.Prelude.{◌≡◌, ◌<◌, ◌^◌};
 
 use crate::id::{CpuId, ItemId, Number, QueueId};
+use crate::record::{Booking, Place};
 
 /// What a caller or a worker asks of the runtime. Ticks are the unit of time, which callers hand in.
 #[derive(Clone, Copy, Debug)]
@@ -87,6 +88,74 @@ pub enum Call {
 impl Call {
     ghost use Rattle.cmwq_model.specs.Layout.{is_callers, is_workers};
     ghost use Rattle.cmwq_model.specs.Scripted.{is_whole};
+    ghost use Rattle.cmwq_model.specs.Calls.{item_called, item_number, ticks_told};
+    ghost use Rattle.cmwq_model.specs.Queueings.{place_called};
+    ghost use Rattle.cmwq_model.specs.Bookings.{booked_by};
+
+    /// The item that stands in it.
+    pub fn item(self) -> Option<ItemId>
+        ensures { item_number result ≡ item_called self }
+    {
+        match self {
+            Call::Queue { item, .. }
+            | Call::Delay { item, .. }
+            | Call::Modify { item, .. }
+            | Call::Cancel { item }
+            | Call::FlushItem { item }
+            | Call::FlushDelayed { item }
+            | Call::CancelSync { item } => Some(item),
+            _ => None,
+        }
+    }
+
+    /// The queue and the CPU that stand in it, of a call that queues or delays.
+    pub fn place_called(self) -> Option<Place>
+        ensures { result ≡ place_called self }
+    {
+        match self {
+            Call::Queue { queue, cpu, .. }
+            | Call::Delay { queue, cpu, .. }
+            | Call::Modify { queue, cpu, .. } => Some(Place { queue, cpu }),
+            _ => None,
+        }
+    }
+
+    /// The ticks that it lets go by.
+    pub fn ticks(self) -> u32
+        ensures ticks { result ≡ ticks_told self }
+        ensures small { ticks_told self < 2 ^ 32 }
+    {
+        match self {
+            Call::Tick { ticks } => ticks,
+            _ => 0,
+        }
+    }
+
+    /// The booking that it makes for this tick, as the entry of this number.
+    pub fn booked_by(self, number: Number, due: u64) -> Option<Booking>
+        ensures { result ≡ booked_by self number due }
+    {
+        match self {
+            Call::Delay {
+                item,
+                queue,
+                cpu,
+                ..
+            }
+            | Call::Modify {
+                item,
+                queue,
+                cpu,
+                ..
+            } => Some(Booking {
+                item,
+                place: Place { queue, cpu },
+                due,
+                number,
+            }),
+            _ => None,
+        }
+    }
 
     /// Whether a script may hold such a call: callers make it, and it neither ends a wait nor fires a timer, which a whole call does itself.
     pub fn is_whole(&self) -> bool

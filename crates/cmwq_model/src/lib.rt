@@ -17,5 +17,8 @@ pub use error::NoMemory;
 pub use id::{CallerId, CpuId, ItemId, Number, PoolId, QueueId, Who, WorkerId};
 pub use record::{Booking, Place, Queueing, Start, Ticket};
 pub use reply::Reply;
-pub use shape::{Counts, QueueShape, Shape};
+pub use shape::{
+    Counts, MOST_ACTIVE, MOST_CALLERS, MOST_CPUS, MOST_ITEMS, MOST_QUEUES, MOST_ROOM, MOST_WORKERS,
+    QueueShape, Shape,
+};
 pub use verdict::{Illegal, Wanted, all_fit};

@@ -1,4 +1,4 @@
-ghost use Rattle.std.specs.Prelude.{◌≡◌, IsTrue};
+ghost use Rattle.std.specs.Prelude.{◌≡◌, IsTrue, is_some};
 
 use crate::call::Call;
 use crate::id::{ItemId, Number};
@@ -79,7 +79,69 @@ pub enum Reply {
 }
 
 impl Reply {
+    ghost use Rattle.cmwq_model.specs.Bookings.{settles};
+    ghost use Rattle.cmwq_model.specs.Queueings.{opens};
+    ghost use Rattle.cmwq_model.specs.Tickets.{gives_ticket};
+    ghost use Rattle.cmwq_model.specs.Fate.{number_started, number_finished};
     ghost use Rattle.cmwq_model.specs.Kernel.{queue_returns, modify_returns, cancel_returns, cancel_sync_returns, flush_item_returns, kernel_returns};
+
+    /// Whether the entry's item is booked anew, or no more, after it.
+    pub fn settles(self) -> bool
+        ensures { result ≡ settles self }
+    {
+        matches!(
+            self,
+            Reply::Yes(_)
+                | Reply::Booked(_)
+                | Reply::Again(_)
+                | Reply::Rebooked(_)
+                | Reply::Unbooked
+                | Reply::Fired(_, _)
+                | Reply::TicketQueued(_)
+                | Reply::TicketUnbooked(_)
+        )
+    }
+
+    /// Whether the entry opens a queueing.
+    pub fn opens(self) -> bool
+        ensures { result ≡ opens self }
+    {
+        matches!(
+            self,
+            Reply::Yes(_) | Reply::Again(_) | Reply::Fired(_, _) | Reply::TicketQueued(_)
+        )
+    }
+
+    /// Whether the entry gives a ticket.
+    pub fn gives_ticket(self) -> bool
+        ensures { result ≡ gives_ticket self }
+    {
+        matches!(
+            self,
+            Reply::Ticket(_)
+                | Reply::TicketQueued(_)
+                | Reply::TicketCancelled(_, _)
+                | Reply::TicketUnbooked(_)
+                | Reply::TicketNo(_)
+        )
+    }
+
+    /// The queueing that starts.
+    pub fn number_started(self) -> Option<Number>
+        ensures { result ≡ number_started self }
+    {
+        match self {
+            Reply::Started(number) | Reply::StartedEnlist(number, _) => Some(number),
+            _ => None,
+        }
+    }
+
+    /// Whether the entry finishes a queueing.
+    pub fn is_finish(self) -> bool
+        ensures { result ≡ is_some (number_finished self) }
+    {
+        matches!(self, Reply::Finished(_))
+    }
 
     /// What the kernel's function returns where this is the reply to the call: for queue and delay whether the item was
     /// not pending, for modify, cancel and cancel_sync whether it was, for flush_item and flush_delayed whether there was

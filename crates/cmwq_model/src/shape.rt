@@ -8,6 +8,27 @@ use crate::id::{CpuId, ItemId, QueueId, Who};
 use std::alloc::Global;
 use std::marker::Model;
 
+/// How many CPUs a shape may have.
+pub const MOST_CPUS: u8 = 4;
+
+/// How many workers each of its pools may have.
+pub const MOST_WORKERS: u8 = 8;
+
+/// How many callers a shape may have.
+pub const MOST_CALLERS: u8 = 64;
+
+/// How many items a shape may have.
+pub const MOST_ITEMS: u16 = 256;
+
+/// How many queues a shape may have.
+pub const MOST_QUEUES: usize = 64;
+
+/// How great a queue's max_active may be (`WQ_MAX_ACTIVE`).
+pub const MOST_ACTIVE: u16 = 512;
+
+/// How great the room of a shape may be, in entries: 2^62.
+pub const MOST_ROOM: u64 = 4_611_686_018_427_387_904;
+
 /// The settings of one queue (the arguments of `alloc_workqueue`).
 #[derive(Clone, Copy, Debug, PartialEq, Eq)]
 pub struct QueueShape {
@@ -32,33 +53,32 @@ pub struct Counts {
 }
 
 impl Counts {
-    /// Whether each number is inside its limits: 1 to 4 CPUs, 1 to 8 workers, 1 to 64 callers, 1 to 256 items,
-    /// and a room of at most 2^62 entries.
+    /// Whether there is one CPU, worker, caller and item at least, and each number is inside its limit, the room too.
     pub fn are_allowed(&self) -> bool
         ensures { result ≡ are_counts self.now.cpus self.now.workers self.now.callers self.now.items self.now.room }
     {
-        (1..=4).contains(&self.cpus)
-            && (1..=8).contains(&self.workers)
-            && (1..=64).contains(&self.callers)
-            && (1..=256).contains(&self.items)
-            && self.room <= 4_611_686_018_427_387_904
+        (1..=MOST_CPUS).contains(&self.cpus)
+            && (1..=MOST_WORKERS).contains(&self.workers)
+            && (1..=MOST_CALLERS).contains(&self.callers)
+            && (1..=MOST_ITEMS).contains(&self.items)
+            && self.room <= MOST_ROOM
     }
 }
 
 impl QueueShape {
-    /// Whether max_active is 1 to 512.
+    /// Whether max_active is 1 to `MOST_ACTIVE`.
     pub fn is_allowed(&self) -> bool
         ensures { result ≡ is_queue self.now }
     {
-        (1..=512).contains(&self.max_active)
+        (1..=MOST_ACTIVE).contains(&self.max_active)
     }
 }
 
-/// Whether there are 1 to 64 queues, each inside its limits.
+/// Whether there is one queue at least and `MOST_QUEUES` at most, each inside its limits.
 fn are_allowed(queues: &[QueueShape]) -> bool
     ensures { result ≡ are_queues queues.now }
 {
-    (1..=64).contains(&queues.len()) && are_queues_allowed(queues)
+    (1..=MOST_QUEUES).contains(&queues.len()) && are_queues_allowed(queues)
 }
 
 fn are_queues_allowed(queues: &[QueueShape]) -> bool
@@ -88,7 +108,7 @@ impl Model for Shape {
 impl Shape {
     ghost use Rattle.cmwq_model.specs.Layout.{layout_of};
 
-    /// The shape of these counts and queues, if they are inside the limits: the counts', 1 to 64 queues, and each
+    /// The shape of these counts and queues, if they are inside the limits: the counts', 1 to `MOST_QUEUES` queues, and each
     /// queue's.
     pub fn new(counts: Counts, queues: Vec<QueueShape>) -> Option<Shape>
         ensures allowed { is_some result ≡ is_layout (layout_of counts queues.items) }

@@ -1,6 +1,5 @@
 -- Beginnings of one list.
-use Rattle.std.proofs.Common.{List, [], ◌++◌, refl, ap, sym, ◌∙◌, append_assoc, append-nil}
-use mathlib.Core.List.{IsPrefix}
+use Rattle.cmwq_monitor.specs.Common.{List, [], ◌++◌, refl, ap, sym, ◌∙◌, append_assoc, append-nil, IsPrefix}
 
 pub prefix_self : {A : Type 0} (xs : List A) → IsPrefix xs xs
 prefix_self xs = ([], append-nil xs)

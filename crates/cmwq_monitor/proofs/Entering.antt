@@ -1,15 +1,6 @@
 -- What a call of one entry leaves.
-use Rattle.std.proofs.Common.{◌≡◌, ◌+◌, ◌≤◌, List, [], ◌∷◌, ◌++◌, refl, ap, sym, ◌∙◌, subst, arith, append-nil, IsTrue, Bool}
-use Rattle.std.proofs.lemmas.List.Elements.{filter-append}
-use mathlib.Core.List.{IsPrefix}
-use Rattle.cmwq_model.specs.declared.id.Who.{Who}
-use Rattle.cmwq_model.specs.declared.call.Call.{Call}
-use Rattle.cmwq_model.specs.declared.entry.Entry.{Entry}
-use Rattle.cmwq_model.specs.declared.entry.Mark.{Mark}
-use Rattle.cmwq_model.specs.Prelude.{Layout, fits, serial_of, is_by, IsLegal, past_of, has_room}
-use Rattle.cmwq_core.specs.History.{History, IsMark, takes}
-use Rattle.cmwq_publish.specs.Next.{IsNext}
-use Rattle.cmwq_theory_steps.proofs.StateSteps.{serials_rise}
+use Rattle.cmwq_monitor.specs.Common.{◌≡◌, ◌+◌, ◌≤◌, List, [], ◌∷◌, ◌++◌, refl, ap, sym, ◌∙◌, subst, arith, append-nil, IsTrue, Bool, filter-append, IsPrefix, Who, Call, Entry, Mark, Layout, fits, serial_of, is_by, IsLegal, past_of, has_room, History, IsMark, takes, serials_rise}
+use Rattle.cmwq_publish.specs.Next.{IsNextMark}
 use Rattle.cmwq_monitor.specs.Participants.{View, Gains, made_by}
 use Rattle.cmwq_monitor.specs.Calls.{Extends, own_entry}
 use Rattle.cmwq_monitor.specs.Steps.{InStep}
@@ -19,7 +10,7 @@ use Rattle.cmwq_publish.proofs.Legally.{newest_is_first}
 use Rattle.cmwq_monitor.proofs.Entries.{made_length, made_same, made_own}
 
 -- the entry of a mark may be published next
-pub next_of_mark : (h : History) (who : Who) (call : Call) (m : Mark) → IsTrue (fits h.layout who call) → IsLegal h.layout (past_of h.entries) → IsMark h who call m → IsNext h.layout h.entries m
+pub next_of_mark : (h : History) (who : Who) (call : Call) (m : Mark) → IsTrue (fits h.layout who call) → IsLegal h.layout (past_of h.entries) → IsMark h who call m → IsNextMark h.layout h.entries m
 unfolding IsLegal
 next_of_mark h who call m fit legal is = record {
   legal = subst (λ (e : Entry). IsLegal h.layout (e ∷ past_of h.entries)) (sym is.is_next) (fit, refl, legal);

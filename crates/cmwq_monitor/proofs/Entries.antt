@@ -1,23 +1,15 @@
 -- The entries of one who.
-use Rattle.std.proofs.Common.{◌≡◌, ℕ, ◌≤◌, List, [], ◌∷◌, ◌++◌, length, reverse, Bool, true, false, cond, refl, ap, sym, ◌∙◌, subst, arith, length-append, append-nil, append_assoc}
-use Rattle.std.specs.List.{count_by}
-use Rattle.std.proofs.lemmas.List.{reverse-append, nil_from_length}
-use Rattle.std.proofs.lemmas.List.Elements.{filter-append}
+use Rattle.cmwq_monitor.specs.Common.{◌≡◌, ℕ, ◌≤◌, List, [], ◌∷◌, ◌++◌, length, reverse, Bool, true, false, cond, refl, ap, sym, ◌∙◌, subst, arith, length-append, append-nil, append_assoc, count_by, reverse-append, nil_from_length, filter-append, Who, Entry, is_by, serial_of, past_of, serials_rise, IsPrefix}
 use Rattle.std.proofs.lemmas.List.Sums.{length-filter}
-use Rattle.cmwq_theory_active.proofs.Lists.{count_by-cons}
-use Rattle.cmwq_pwq.proofs.Passes.{count_by-one, count_by-append}
-use Rattle.cmwq_model.specs.declared.id.Who.{Who}
-use Rattle.cmwq_model.specs.declared.entry.Entry.{Entry}
-use Rattle.cmwq_model.specs.Prelude.{is_by, serial_of, past_of}
-use Rattle.cmwq_theory_steps.proofs.StateSteps.{serials_rise}
+use Rattle.cmwq_lemmas.proofs.Lists.{count_by-cons, count_append}
+use Rattle.cmwq_pwq.proofs.Passes.{count_by-one}
 use Rattle.cmwq_monitor.specs.Participants.{View, Gains, made_by}
 use Rattle.cmwq_monitor.proofs.Beginnings.{prefix_self, prefix_trans}
-use mathlib.Core.List.{IsPrefix}
 
 count_reverse : {X : Type 0} (p : X → Bool) (xs : List X) → count_by p (reverse xs) ≡ count_by p xs
 count_reverse p [] = refl
 count_reverse p (x ∷ xs) =
-    ap (count_by p) (reverse-append (x ∷ []) xs) ∙ count_by-append p (reverse xs) (x ∷ [])
+    ap (count_by p) (reverse-append (x ∷ []) xs) ∙ count_append p (reverse xs) (x ∷ [])
     ∙ (let r = count_reverse p xs in let c = count_by-cons p x xs in let o = count_by-one p x in omega arith)
 
 pub made_length : (who : Who) (xs : List Entry) → length (made_by who xs) ≡ serial_of (past_of xs) who

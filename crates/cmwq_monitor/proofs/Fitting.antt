@@ -1,11 +1,5 @@
 -- Calls of callers and workers that are inside the layout fit it.
-use Rattle.std.proofs.Common.{◌≡◌, true, false, true≢false, ◌&&◌, nat_lt, ap, sym, ◌∙◌, IsTrue}
-use Rattle.std.proofs.lemmas.Bool.{lt-ltb}
-use Rattle.cmwq_model.specs.declared.id.Who.{Who}
-use Rattle.cmwq_model.specs.declared.id.Who.TheVariants.{Caller, Worker}
-use Rattle.cmwq_model.specs.declared.call.Call.{Call}
-use Rattle.cmwq_model.specs.Prelude.{Layout, fits, is_callers, is_workers, has_numbers}
-use Rattle.cmwq_core.specs.History.{IsThere}
+use Rattle.cmwq_monitor.specs.Common.{◌≡◌, true, false, true≢false, ◌&&◌, nat_lt, ap, sym, ◌∙◌, IsTrue, lt-ltb, Who, Caller, Worker, Call, Layout, fits, is_callers, is_workers, has_numbers, IsThere}
 use Rattle.cmwq_monitor.specs.Participants.{is_caller}
 
 pub caller_fits : (s : Layout) (who : Who) (c : Call) → is_caller who ≡ true → IsThere s who → is_callers c ≡ true → has_numbers s c ≡ true → IsTrue (fits s who c)

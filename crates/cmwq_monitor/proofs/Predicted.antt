@@ -1,19 +1,7 @@
 -- What an entry that would not be made says, and what one that starts a queueing names.
-use Rattle.std.proofs.Common.{◌≡◌, ◌≤◌, ◌<◌, ℕ, Bool, true, false, true≢false, List, [], ◌∷◌, ◌++◌, Some, refl, ap, sym, ◌∙◌, subst, arith, IsTrue}
+use Rattle.cmwq_monitor.specs.Common.{◌≡◌, ◌≤◌, ◌<◌, ℕ, Bool, true, false, true≢false, List, [], ◌∷◌, ◌++◌, Some, refl, ap, sym, ◌∙◌, subst, arith, IsTrue, le-leb, reverse-append, same_Some, ItemId, Who, Call, Reply, Entry, Mark, Queueing, Layout, fits, number_started, still_open, is_unstarted, unstarted_queueing, queueing_at, is_done, IsLegal, past_of, entry_for, room_needed, has_room, History, IsMark, IsThere}
 use Rattle.std.specs.Cmp.Derive.{both_true}
-use Rattle.std.proofs.lemmas.Bool.{le-leb}
-use Rattle.std.proofs.lemmas.List.{reverse-append}
-use Rattle.std.proofs.lemmas.Option.{same_Some}
-use Rattle.cmwq_model.specs.declared.id.ItemId.{ItemId}
-use Rattle.cmwq_model.specs.declared.id.Who.{Who}
-use Rattle.cmwq_model.specs.declared.call.Call.{Call}
-use Rattle.cmwq_model.specs.declared.reply.Reply.{Reply}
-use Rattle.cmwq_model.specs.declared.entry.Entry.{Entry}
-use Rattle.cmwq_model.specs.declared.entry.Mark.{Mark}
-use Rattle.cmwq_model.specs.declared.record.Queueing.{Queueing}
-use Rattle.cmwq_model.specs.Prelude.{Layout, fits, number_started, still_open, is_unstarted, unstarted, queueing_at, is_done, IsLegal, past_of, entry_for, needed, has_room}
 use Rattle.cmwq_model.specs.declared.reply.Reply.TheVariants as reply
-use Rattle.cmwq_core.specs.History.{History, IsMark}
 use Rattle.cmwq_theory_steps.specs.RoomSteps.{is_promised}
 use Rattle.cmwq_theory_laws.proofs.WithinRoom.{promised_have_time}
 use Rattle.cmwq_theory_steps.proofs.Promised.{promised_need_no_more}
@@ -21,10 +9,9 @@ use Rattle.cmwq_theory_steps.proofs.Starts.{starts_next}
 use Rattle.cmwq_theory_steps.proofs.Unstarted.{next_unstarted}
 use Rattle.cmwq_theory_steps.proofs.StartsListed.{IsFound}
 use Rattle.cmwq_theory_steps.proofs.EndsAsTold.{open_found}
-use Rattle.cmwq_refinement.proofs.Members.{found, of_in}
+use Rattle.cmwq_lemmas.proofs.Members.{found, of_in}
 use Rattle.cmwq_refinement.proofs.PlacesFit.{open_there}
 use Rattle.cmwq_model.specs.declared.call.Call.TheVariants as call
-use Rattle.cmwq_core.specs.History.{IsThere}
 use Rattle.cmwq_monitor.specs.Participants.{View, is_caller}
 use Rattle.cmwq_monitor.specs.Calls.{Extends, own_entry}
 use Rattle.cmwq_monitor.specs.Steps.{is_start}
@@ -34,14 +21,14 @@ use Rattle.cmwq_monitor.proofs.Fitting.{worker_fits}
 
 -- ---- a promised reply has room, so a call for which there is none would not get it
 
-unpromised : (s : Layout) (past : List Entry) (who : Who) (call : Call) (b : Bool) → IsTrue (fits s who call) → IsLegal s past → needed s past ≤ s.room
+unpromised : (s : Layout) (past : List Entry) (who : Who) (call : Call) (b : Bool) → IsTrue (fits s who call) → IsLegal s past → room_needed s past ≤ s.room
     → has_room s s.room past who call ≡ false → is_promised (entry_for s past who call).reply ≡ b → b ≡ false
 unfolding IsLegal
 unpromised s past who call false fit legal within full is = refl
 unpromised s past who call true fit legal within full is =
     let e = entry_for s past who call in
-    let more : needed s (e ∷ past) ≤ needed s past = promised_need_no_more s past e (fit, refl, legal) is in
-    let taken : has_room s s.room past who call ≡ true = both_true (promised_have_time s past who call is) (le-leb (needed s (e ∷ past)) s.room (omega arith)) in
+    let more : room_needed s (e ∷ past) ≤ room_needed s past = promised_need_no_more s past e (fit, refl, legal) is in
+    let taken : has_room s s.room past who call ≡ true = both_true (promised_have_time s past who call is) (le-leb (room_needed s (e ∷ past)) s.room (omega arith)) in
     absurd (true≢false (sym taken ∙ full))
 
 starts_promised : (r : Reply) → is_promised r ≡ false → is_start r ≡ false
@@ -53,11 +40,11 @@ done_promised : (r : Reply) → is_promised r ≡ false → is_done r ≡ false
 done_promised reply.Done h = absurd (true≢false h)
 done_promised r h = refl
 
-pub full_starts_none : (s : Layout) (past : List Entry) (who : Who) (call : Call) → IsTrue (fits s who call) → IsLegal s past → needed s past ≤ s.room
+pub full_starts_none : (s : Layout) (past : List Entry) (who : Who) (call : Call) → IsTrue (fits s who call) → IsLegal s past → room_needed s past ≤ s.room
     → has_room s s.room past who call ≡ false → is_start (entry_for s past who call).reply ≡ false
 full_starts_none s past who call fit legal within full = starts_promised (entry_for s past who call).reply (unpromised s past who call (is_promised (entry_for s past who call).reply) fit legal within full refl)
 
-pub full_ends_none : (s : Layout) (past : List Entry) (who : Who) (call : Call) → IsTrue (fits s who call) → IsLegal s past → needed s past ≤ s.room
+pub full_ends_none : (s : Layout) (past : List Entry) (who : Who) (call : Call) → IsTrue (fits s who call) → IsLegal s past → room_needed s past ≤ s.room
     → has_room s s.room past who call ≡ false → is_done (entry_for s past who call).reply ≡ false
 full_ends_none s past who call fit legal within full = done_promised (entry_for s past who call).reply (unpromised s past who call (is_promised (entry_for s past who call).reply) fit legal within full refl)
 
@@ -77,7 +64,7 @@ start_names h who call m legal is starts =
     let n = number_of_start m.entry.reply starts in
     let st = starts_next s past m.entry n.0 legal n.1 in
     let x = st.queueing in
-    let un : unstarted past x.item.0 ≡ Some x = next_unstarted s past legal.2 st.worker.pool x st.is_next in
+    let un : unstarted_queueing past x.item.0 ≡ Some x = next_unstarted s past legal.2 st.worker.pool x st.is_next in
     let stands = (found (is_unstarted past x.item.0) (still_open past) x un).0 in
     let there = open_there s past x legal.2 stands in
     let known : queueing_at past n.0 ≡ Some x = subst (λ k. queueing_at past k ≡ Some x) st.number (of_in (IsFound past) (still_open past) x (open_found past) stands) in

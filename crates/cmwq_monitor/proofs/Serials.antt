@@ -1,11 +1,7 @@
 -- The serials of new entries.
-use Rattle.std.proofs.Common.{◌≡◌, ℕ, zero, suc, ◌+◌, List, [], ◌∷◌, ◌++◌, length, map, drop, ap, sym, ◌∙◌, subst, arith, length-append}
-use Rattle.std.specs.List.{range_with_len, filter}
-use Rattle.std.proofs.lemmas.List.{reverse-reverse, map-append, length-map}
+use Rattle.cmwq_monitor.specs.Common.{◌≡◌, ℕ, zero, suc, ◌+◌, List, [], ◌∷◌, ◌++◌, length, map, drop, ap, sym, ◌∙◌, subst, arith, length-append, range_with_len, filter, reverse-reverse, map-append, length-map, Entry, serial_of, is_by, Layout, IsLegal, past_of}
 use Rattle.std.proofs.lemmas.List.FromFn.{length-range_with_len}
 use Rattle.std.proofs.Math.Seq.{drop-append_seam}
-use Rattle.cmwq_model.specs.declared.entry.Entry.{Entry}
-use Rattle.cmwq_model.specs.Prelude.{serial_of, is_by, Layout, IsLegal, past_of}
 use Rattle.cmwq_theory_laws.specs.Sanity.{serial_told}
 use Rattle.cmwq_theory_laws.proofs.OneEntry.{serials_count}
 use Rattle.cmwq_monitor.specs.Participants.{View, Gains, made_by}

@@ -1,18 +1,12 @@
 -- Whole calls, put together of their steps.
-use Rattle.std.proofs.Common.{◌≡◌, ℕ, List, [], ◌∷◌, ◌++◌, Bool, true, false, ◌||◌, true≢false, refl, ap, sym, ◌∙◌, subst, inl, inr, None, Some}
-use Rattle.std.specs.Prelude.{MatchBool}
-use Rattle.cmwq_model.specs.declared.id.Who.{Who}
-use Rattle.cmwq_model.specs.declared.call.Call.{Call}
-use Rattle.cmwq_model.specs.declared.reply.Reply.{Reply}
-use Rattle.cmwq_model.specs.declared.entry.Entry.{Entry}
-use Rattle.cmwq_model.specs.Prelude.{Layout, answer, past_of}
+use Rattle.cmwq_monitor.specs.Common.{◌≡◌, ℕ, List, [], ◌∷◌, ◌++◌, Bool, true, false, true≢false, refl, ap, sym, ◌∙◌, subst, inl, inr, None, Some, MatchBool, Who, Call, Reply, Entry, Layout, answer, past_of}
 use Rattle.cmwq_model.specs.declared.call.Call.TheVariants as call
 use Rattle.cmwq_model.specs.declared.reply.Reply.TheVariants as reply
 use Rattle.cmwq_monitor.specs.Participants.{View, made_by}
 use Rattle.cmwq_monitor.specs.Calls.{Extends, own_entry}
 use Rattle.cmwq_monitor.specs.declared.fault.RunFault.{RunFault}
 use Rattle.cmwq_monitor.specs.declared.fault.RunFault.TheVariants.{NoMemory}
-use Rattle.cmwq_monitor.specs.Whole.{Completes, BrokeOff, Behind, Fires, EndsOwn, EndsFiring, EndsTicket, Stops, is_tick, is_drain, ticket_given, ticket_left}
+use Rattle.cmwq_monitor.specs.Whole.{Completes, BrokeOff, Behind, Fires, EndsOwn, EndsFiring, EndsTicket, Stops, is_tick, is_drain, ticket_in_reply, ticket_left}
 use Rattle.cmwq_monitor.specs.Steps.{HasFired, HasFiredSome, HasEnded, HasEndedSome, still_unended}
 use Rattle.cmwq_monitor.proofs.Entries.{gains_none, gains_more}
 use Rattle.cmwq_monitor.proofs.Firing.{ends_extended}
@@ -20,10 +14,6 @@ use Rattle.cmwq_monitor.proofs.Serials.{stand_next}
 
 behind_tick : (s : Layout) (who : Who) (history made es : List Entry) (c : Call) (r : Reply) → is_tick c ≡ true → Fires s who history s.items made es → Behind s who history made c r es
 behind_tick s who history made es c r is fires = rw is fires
-
-ends_own : (s : Layout) (who : Who) (seen : List Entry) (b : Bool) → EndsOwn who seen → MatchBool b (EndsFiring s who seen) (EndsOwn who seen)
-ends_own s who seen true own = inl own
-ends_own s who seen false own = own
 
 pub tick_completes : (s : Layout) (v m w : View) (c : Call) (r : Reply) → is_tick c ≡ true → Extends s v c r m → HasFired s m w → Completes s v c r w
 tick_completes s v m w c r is x fired =
@@ -46,17 +36,17 @@ tick_completes s v m w c r is x fired =
       legal = fired.legal;
     }
 
-left_more : (e : Entry) (es : List Entry) → ticket_given e.reply ≡ None → ticket_left (e ∷ es) ≡ None
+left_more : (e : Entry) (es : List Entry) → ticket_in_reply e.reply ≡ None → ticket_left (e ∷ es) ≡ None
 left_more e [] none = none
 left_more e (f ∷ es) none = refl
 
-pub tick_broke : (s : Layout) (v m w : View) (c : Call) (r : Reply) (f : RunFault) → is_tick c ≡ true → ticket_given r ≡ None → f ≡ NoMemory None → Extends s v c r m → HasFiredSome m w → BrokeOff s v c f w
+pub tick_broke : (s : Layout) (v m w : View) (c : Call) (r : Reply) (f : RunFault) → is_tick c ≡ true → ticket_in_reply r ≡ None → f ≡ NoMemory None → Extends s v c r m → HasFiredSome m w → BrokeOff s v c f w
 tick_broke s v m w c r f is none told x some =
     let e = own_entry s x.before v c in
-    let left : ticket_left (e ∷ some.0) ≡ None = left_more e some.0 (ap ticket_given (sym x.reply) ∙ none) in
+    let left : ticket_left (e ∷ some.0) ≡ None = left_more e some.0 (ap ticket_in_reply (sym x.reply) ∙ none) in
     inr (e, some.0, gains_more v m w (e ∷ []) some.0 x.gains some.1, (refl, rw is some.2), inl (told ∙ ap NoMemory (sym left)))
 
-pub ended_completes : (s : Layout) (v m w : View) (c : Call) (r : Reply) (k : ℕ) → is_tick c ≡ false → ticket_given r ≡ Some k → Extends s v c r m → HasEnded s m c k w → Completes s v c r w
+pub ended_completes : (s : Layout) (v m w : View) (c : Call) (r : Reply) (k : ℕ) → is_tick c ≡ false → ticket_in_reply r ≡ Some k → Extends s v c r m → HasEnded s m c k w → Completes s v c r w
 ended_completes s v m w c r k is given x ended =
     let e = own_entry s x.before v c in
     let same = x.gains.same in
@@ -71,14 +61,14 @@ ended_completes s v m w c r k is given x ended =
       legal = ended.legal;
     }
 
-left_ended : (e : Entry) (es : List Entry) (k : ℕ) → ticket_given e.reply ≡ Some k → still_unended k es ≡ ticket_left (e ∷ es)
+left_ended : (e : Entry) (es : List Entry) (k : ℕ) → ticket_in_reply e.reply ≡ Some k → still_unended k es ≡ ticket_left (e ∷ es)
 left_ended e [] k given = sym given
 left_ended e (f ∷ es) k given = refl
 
-pub ended_broke : (s : Layout) (v m w : View) (c : Call) (r : Reply) (k : ℕ) (f : RunFault) → is_tick c ≡ false → ticket_given r ≡ Some k → Extends s v c r m → HasEndedSome s m c k f w → BrokeOff s v c f w
+pub ended_broke : (s : Layout) (v m w : View) (c : Call) (r : Reply) (k : ℕ) (f : RunFault) → is_tick c ≡ false → ticket_in_reply r ≡ Some k → Extends s v c r m → HasEndedSome s m c k f w → BrokeOff s v c f w
 ended_broke s v m w c r k f is given x some =
     let e = own_entry s x.before v c in
-    let from : ticket_given e.reply ≡ Some k = ap ticket_given (sym x.reply) ∙ given in
+    let from : ticket_in_reply e.reply ≡ Some k = ap ticket_in_reply (sym x.reply) ∙ given in
     inr (e, some.0, gains_more v m w (e ∷ []) some.0 x.gains some.1, (refl, rw (is, from) some.2), subst (λ t. Stops w t f) (left_ended e some.0 k from) some.3)
 
 -- the end of a ticket, by itself and behind a drain
@@ -123,9 +113,9 @@ pub when_true : {A : Type 0} (B : Type 0) (b : Bool) → b ≡ true → MatchBoo
 when_true B true e m = m
 when_true B false e m = absurd (true≢false (sym e))
 
-tick_gives_none : (s : Layout) (past : List Entry) (who : Who) (t : ℕ) → ticket_given (answer s past who (call.Tick t)) ≡ None
+tick_gives_none : (s : Layout) (past : List Entry) (who : Who) (t : ℕ) → ticket_in_reply (answer s past who (call.Tick t)) ≡ None
 unfolding answer
 tick_gives_none s past who t = refl
 
-pub ticks_give_none : (s : Layout) (v w : View) (t : ℕ) (r : Reply) → Extends s v (call.Tick t) r w → ticket_given r ≡ None
-ticks_give_none s v w t r x = ap ticket_given x.reply ∙ tick_gives_none s (past_of x.before) v.who t
+pub ticks_give_none : (s : Layout) (v w : View) (t : ℕ) (r : Reply) → Extends s v (call.Tick t) r w → ticket_in_reply r ≡ None
+ticks_give_none s v w t r x = ap ticket_in_reply x.reply ∙ tick_gives_none s (past_of x.before) v.who t

@@ -1,11 +1,5 @@
 -- What a call of one entry promises.
-use Rattle.std.specs.Prelude.{◌≡◌, ℕ, List, [], ◌∷◌, ◌++◌, length, map}
-use Rattle.std.specs.List.{range_with_len}
-use mathlib.Core.List.{IsPrefix}
-use Rattle.cmwq_model.specs.declared.call.Call.{Call}
-use Rattle.cmwq_model.specs.declared.reply.Reply.{Reply}
-use Rattle.cmwq_model.specs.declared.entry.Entry.{Entry}
-use Rattle.cmwq_model.specs.Prelude.{Layout, serial_of, IsLegal, past_of, entry_for}
+use Rattle.cmwq_monitor.specs.Common.{◌≡◌, ℕ, List, [], ◌∷◌, ◌++◌, length, map, range_with_len, IsPrefix, Call, Reply, Entry, Layout, serial_of, IsLegal, past_of, entry_for}
 use Rattle.cmwq_monitor.specs.Participants.{View, Gains}
 
 abbrev pub own_entry : Layout → List Entry → View → Call → Entry

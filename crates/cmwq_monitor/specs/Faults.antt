@@ -1,7 +1,5 @@
 -- What a fault says: a call that answers one has made no entry, or it had begun and tells its ticket.
-use Rattle.std.specs.Prelude.{◌≡◌, ◌≢◌, ◌⊎◌, ℕ, ◌<◌, Bool, true, false, [], length, None}
-use Rattle.cmwq_model.specs.declared.call.Call.{Call}
-use Rattle.cmwq_model.specs.Prelude.{Layout, past_of, has_room}
+use Rattle.cmwq_monitor.specs.Common.{◌≡◌, ◌≢◌, ◌⊎◌, ℕ, ◌<◌, Bool, true, false, [], length, None, Call, Layout, past_of, has_room}
 use Rattle.cmwq_monitor.specs.Participants.{View, Gains, is_caller}
 use Rattle.cmwq_monitor.specs.declared.fault.RunFault.{RunFault}
 use Rattle.cmwq_monitor.specs.declared.fault.RunFault.TheVariants.{NoMemory, Full, Unfinished, NoPlace, Closed, Stranger, NoThread}
@@ -15,14 +13,14 @@ IsStranger w f = (own : ℕ) × (book : ℕ) × (f ≡ Stranger own book) × Dif
 
 -- There was no room for the call behind all that it now sees; or the hub isn't its own; or it is closed, which is told to callers alone. A
 -- call of one entry begins no ticket, and answers no other fault.
-abbrev pub Says : Layout → View → Call → RunFault → Type 0
-Says s w call (NoMemory ticket) = ticket ≡ None
-Says s w call Full = has_room s s.room (past_of w.seen) w.who call ≡ false
-Says s w call Unfinished = ⊥
-Says s w call NoPlace = ⊥
-Says s w call Closed = is_caller w.who ≡ true
-Says s w call (Stranger own book) = Differs w own book
-Says s w call NoThread = ⊥
+abbrev pub SaysFault : Layout → View → Call → RunFault → Type 0
+SaysFault s w call (NoMemory ticket) = ticket ≡ None
+SaysFault s w call Full = has_room s s.room (past_of w.seen) w.who call ≡ false
+SaysFault s w call Unfinished = ⊥
+SaysFault s w call NoPlace = ⊥
+SaysFault s w call Closed = is_caller w.who ≡ true
+SaysFault s w call (Stranger own book) = Differs w own book
+SaysFault s w call NoThread = ⊥
 
 abbrev pub is_full : RunFault → Bool
 is_full Full = true
@@ -30,4 +28,4 @@ is_full f = false
 
 -- a call of one entry that answered this fault: it made none
 abbrev pub Refused : Layout → View → Call → RunFault → View → Type 0
-Refused s v call f w = Gains v [] w × Says s w call f
+Refused s v call f w = Gains v [] w × SaysFault s w call f

@@ -1,8 +1,5 @@
 -- What contracts see of what a hub keeps under its lock.
-use Rattle.std.specs.Prelude.{◌≡◌, ℕ, Bool, true, false, ◌&&◌, ◌||◌, ◌==◌, List, [], count_by}
-use Rattle.cmwq_model.specs.declared.id.Who.{Who}
-use Rattle.cmwq_model.specs.declared.entry.Entry.{Entry}
-use Rattle.cmwq_model.specs.Prelude.{Layout, past_of, still_open, is_active}
+use Rattle.cmwq_monitor.specs.Common.{◌≡◌, ℕ, Bool, true, false, ◌&&◌, ◌||◌, ◌==◌, List, [], count_by, Who, Entry, Layout, past_of, still_open, is_active}
 use Rattle.cmwq_monitor.specs.Participants.{is_caller}
 use Rattle.cmwq_monitor.specs.declared.fault.RunFault.{RunFault}
 use Rattle.cmwq_monitor.specs.declared.fault.RunFault.TheVariants.{NoMemory, Closed}
@@ -13,8 +10,8 @@ pub record Held : Type 0 where
   pub closed : Bool
   pub failed : Bool
 
-abbrev pub opened : Held
-opened = record { history = []; closed = false; failed = false }
+abbrev pub held_at_first : Held
+held_at_first = record { history = []; closed = false; failed = false }
 
 -- it takes the calls of this one
 abbrev pub IsOpenTo : Held → Who → Type 0
@@ -32,7 +29,7 @@ abbrev pub GoesOn : Held → Held → Type 0
 GoesOn old new = (new.closed ≡ old.closed) × (new.failed ≡ old.failed)
 
 -- What a fault leaves: want of memory a hub that has failed, any other one as it was. Only a closed one answers that it is closed.
-abbrev pub Leaves : Held → RunFault → Held → Type 0
-Leaves old (NoMemory ticket) new = (new.closed ≡ old.closed) × (new.failed ≡ true)
-Leaves old Closed new = (new ≡ old) × (old.closed ≡ true)
-Leaves old f new = new ≡ old
+abbrev pub LeavesHeld : Held → RunFault → Held → Type 0
+LeavesHeld old (NoMemory ticket) new = (new.closed ≡ old.closed) × (new.failed ≡ true)
+LeavesHeld old Closed new = (new ≡ old) × (old.closed ≡ true)
+LeavesHeld old f new = new ≡ old

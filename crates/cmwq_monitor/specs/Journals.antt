@@ -1,6 +1,5 @@
 -- What was handed over to who writes a hub's history down.
-use Rattle.std.specs.Prelude.{List}
-use Rattle.cmwq_model.specs.declared.entry.Entry.{Entry}
+use Rattle.cmwq_monitor.specs.Common.{List, Entry}
 
 pub record Journaled : Type 0 where
   pub seen : List Entry

@@ -1,3 +1,4 @@
+pub mod Common
 pub mod Participants
 pub mod Held
 pub mod Calls

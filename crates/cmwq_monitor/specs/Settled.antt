@@ -1,8 +1,5 @@
 -- What a hub's end leaves to those who were handed in.
-use Rattle.std.specs.Prelude.{◌≡◌, ℕ, List, Some, slice_get}
-use mathlib.Core.List.{IsPrefix}
-use Rattle.cmwq_model.specs.declared.entry.Entry.{Entry}
-use Rattle.cmwq_model.specs.Prelude.{serial_of, past_of}
+use Rattle.cmwq_monitor.specs.Common.{◌≡◌, ℕ, List, Some, slice_get, IsPrefix, Entry, serial_of, past_of}
 use Rattle.cmwq_monitor.specs.Participants.{View}
 
 -- it sees all of the history, which begins with what it had seen and has as many entries of it as its serial says

@@ -1,10 +1,5 @@
 -- What a worker starts.
-use Rattle.std.specs.Prelude.{◌≡◌, ℕ, List, Some}
-use Rattle.cmwq_model.specs.declared.id.ItemId.{ItemId}
-use Rattle.cmwq_model.specs.declared.reply.Reply.{Reply}
-use Rattle.cmwq_model.specs.declared.entry.Entry.{Entry}
-use Rattle.cmwq_model.specs.declared.record.Queueing.{Queueing}
-use Rattle.cmwq_model.specs.Prelude.{Layout, number_started, queueing_at, past_of}
+use Rattle.cmwq_monitor.specs.Common.{◌≡◌, ℕ, List, Some, ItemId, Reply, Entry, Queueing, Layout, number_started, queueing_at, past_of}
 use Rattle.cmwq_model.specs.declared.call.Call.TheVariants as call
 use Rattle.cmwq_monitor.specs.Participants.{View}
 use Rattle.cmwq_monitor.specs.Calls.{Extends, own_entry}

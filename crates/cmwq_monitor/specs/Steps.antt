@@ -1,9 +1,5 @@
 -- What one step under the lock leaves.
-use Rattle.std.specs.Prelude.{◌≡◌, ◌⊎◌, ◌&&◌, ℕ, ◌≤◌, Bool, true, false, List, [], ◌∷◌, length, All, Option, Some, None, MatchBool}
-use Rattle.cmwq_model.specs.declared.call.Call.{Call}
-use Rattle.cmwq_model.specs.declared.reply.Reply.{Reply}
-use Rattle.cmwq_model.specs.declared.entry.Entry.{Entry}
-use Rattle.cmwq_model.specs.Prelude.{Layout, serial_of, IsLegal, past_of, has_room}
+use Rattle.cmwq_monitor.specs.Common.{◌≡◌, ◌⊎◌, ◌&&◌, ℕ, ◌≤◌, Bool, true, false, List, [], ◌∷◌, length, All, Option, Some, None, MatchBool, Call, Reply, Entry, Layout, serial_of, IsLegal, past_of, has_room}
 use Rattle.cmwq_model.specs.declared.call.Call.TheVariants as call
 use Rattle.cmwq_model.specs.declared.reply.Reply.TheVariants as reply
 use Rattle.cmwq_monitor.specs.Participants.{View, Gains, is_caller, made_by}
@@ -61,13 +57,13 @@ abbrev pub WouldNot : (Reply → Bool) → Layout → List Entry → View → Ca
 WouldNot is s history v call = is (own_entry s history v call).reply ≡ false
 
 -- a worker that is sent to the reserve
-abbrev pub is_retired : Reply → Bool
-is_retired reply.Retired = true
-is_retired r = false
+abbrev pub is_retire_reply : Reply → Bool
+is_retire_reply reply.Retired = true
+is_retire_reply r = false
 
 -- it isn't, or there is no room for that
-abbrev pub IsKept : Layout → List Entry → View → Type 0
-IsKept s history v = WouldNot is_retired s history v call.Retire ⊎ (has_room s s.room (past_of history) v.who call.Retire ≡ false)
+abbrev pub IsViewKept : Layout → List Entry → View → Type 0
+IsViewKept s history v = WouldNot is_retire_reply s history v call.Retire ⊎ (has_room s s.room (past_of history) v.who call.Retire ≡ false)
 
 -- A wait ended: its ticket's end was done, and what a drain fires was fired.
 pub record HasEnded (s : Layout) (v : View) (c : Call) (k : ℕ) (w : View) : Type 0 where

@@ -1,11 +1,5 @@
 -- What a whole call does, which may make several entries: a tick fires what is due, and a call that waits ends its ticket.
-use Rattle.std.specs.Prelude.{◌≡◌, ◌≢◌, ◌⊎◌, ◌||◌, ℕ, zero, suc, Bool, true, false, if◌then◌else◌, List, [], ◌∷◌, ◌++◌, All, Option, None, MatchOption, MatchBool}
-use mathlib.Core.List.{IsPrefix}
-use Rattle.cmwq_model.specs.declared.id.Who.{Who}
-use Rattle.cmwq_model.specs.declared.call.Call.{Call}
-use Rattle.cmwq_model.specs.declared.reply.Reply.{Reply}
-use Rattle.cmwq_model.specs.declared.entry.Entry.{Entry}
-use Rattle.cmwq_model.specs.Prelude.{Layout, is_by, serial_of, IsLegal, past_of, has_room, gives_ticket}
+use Rattle.cmwq_monitor.specs.Common.{◌≡◌, ◌≢◌, ◌⊎◌, ◌||◌, ℕ, zero, suc, Bool, true, false, if◌then◌else◌, List, [], ◌∷◌, ◌++◌, All, Option, None, MatchOption, MatchBool, IsPrefix, Who, Call, Reply, Entry, Layout, is_by, serial_of, IsLegal, past_of, has_room, gives_ticket}
 use Rattle.cmwq_model.specs.declared.call.Call.TheVariants as call
 use Rattle.cmwq_model.specs.declared.reply.Reply.TheVariants as reply
 use Rattle.cmwq_theory_steps.specs.Reasons.{number_given}
@@ -16,8 +10,8 @@ use Rattle.cmwq_monitor.specs.declared.fault.RunFault.{RunFault}
 use Rattle.cmwq_monitor.specs.declared.fault.RunFault.TheVariants.{NoMemory}
 
 -- the ticket that a reply gives
-abbrev pub ticket_given : Reply → Option ℕ
-ticket_given r = if gives_ticket r then number_given r else None
+abbrev pub ticket_in_reply : Reply → Option ℕ
+ticket_in_reply r = if gives_ticket r then number_given r else None
 
 abbrev pub Is : Call → Reply → Entry → Type 0
 Is c r e = (e.call ≡ c) × (e.reply ≡ r)
@@ -49,10 +43,10 @@ EndsTicket s who history made c k es =
 
 -- Behind the first entry of a call stand: after a tick, fires; after a call that gave a ticket, the end of that; after any other, nothing.
 abbrev pub Behind : Layout → Who → List Entry → List Entry → Call → Reply → List Entry → Type 0
-Behind s who history made c r es = MatchBool (is_tick c) (Fires s who history s.items made es) (MatchOption (ticket_given r) (es ≡ []) (λ k. EndsTicket s who history made c k es))
+Behind s who history made c r es = MatchBool (is_tick c) (Fires s who history s.items made es) (MatchOption (ticket_in_reply r) (es ≡ []) (λ k. EndsTicket s who history made c k es))
 
 -- The entries that a call with this reply leaves in a history, in which its caller had made those before it.
-pub record Makes (s : Layout) (who : Who) (history made : List Entry) (c : Call) (r : Reply) (es : List Entry) : Type 0 where
+pub record MakesEntries (s : Layout) (who : Who) (history made : List Entry) (c : Call) (r : Reply) (es : List Entry) : Type 0 where
   pub first : Entry
   pub rest : List Entry
   pub all : es ≡ first ∷ rest
@@ -76,7 +70,7 @@ EndsWhole s who seen c = MatchBool (is_tick c || is_drain c) (EndsFiring s who s
 pub record Completes (s : Layout) (v : View) (c : Call) (r : Reply) (w : View) : Type 0 where
   pub entries : List Entry
   pub gains : Gains v entries w
-  pub makes : Makes s v.who w.seen (made_by v.who v.seen) c r entries
+  pub makes : MakesEntries s v.who w.seen (made_by v.who v.seen) c r entries
   pub serials : StandFrom v.serial entries
   pub counts : serial_of (past_of w.seen) w.who ≡ w.serial
   pub ends : EndsWhole s v.who w.seen c
@@ -90,7 +84,7 @@ abbrev pub PartEnd : Call → ℕ → List Entry → Type 0
 PartEnd c k es = (es ≡ []) ⊎ ((e : Entry) × (rest : List Entry) × (es ≡ e ∷ rest) × Is (call.End k) reply.Done e × MatchBool (is_drain c) (All IsFire rest) (rest ≡ []))
 
 abbrev pub PartBehind : Call → Reply → List Entry → Type 0
-PartBehind c r es = MatchBool (is_tick c) (All IsFire es) (MatchOption (ticket_given r) (es ≡ []) (λ k. PartEnd c k es))
+PartBehind c r es = MatchBool (is_tick c) (All IsFire es) (MatchOption (ticket_in_reply r) (es ≡ []) (λ k. PartEnd c k es))
 
 abbrev pub IsPart : Call → List Entry → Type 0
 IsPart c [] = Unit {0}
@@ -98,7 +92,7 @@ IsPart c (e ∷ es) = (e.call ≡ c) × PartBehind c e.reply es
 
 -- the ticket that such entries leave unended
 abbrev pub ticket_left : List Entry → Option ℕ
-ticket_left (e ∷ []) = ticket_given e.reply
+ticket_left (e ∷ []) = ticket_in_reply e.reply
 ticket_left es = None
 
 -- What may stop a call in the middle: want of memory, with the ticket that is unended then, or a hub that turns out to be another's.

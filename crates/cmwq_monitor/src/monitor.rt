@@ -8,11 +8,11 @@ ghost use Rattle.cmwq_model.specs.declared.reply.Reply.TheVariants as replies;
 ghost use Rattle.cmwq_core.specs.History.{takes};
 ghost use Rattle.cmwq_core.specs.Plans.{IsPlan};
 ghost use Rattle.cmwq_monitor.specs.Participants.{View, Gains, is_caller};
-ghost use Rattle.cmwq_monitor.specs.Held.{Held, opened, IsOpenTo, GoesOn, Leaves, is_over, active_in};
+ghost use Rattle.cmwq_monitor.specs.Held.{Held, held_at_first, IsOpenTo, GoesOn, LeavesHeld, is_over, active_in};
 ghost use Rattle.cmwq_monitor.specs.Calls.{Extends, own_entry};
-ghost use Rattle.cmwq_monitor.specs.Faults.{Says, Refused, IsStranger, is_full};
+ghost use Rattle.cmwq_monitor.specs.Faults.{SaysFault, Refused, IsStranger, is_full};
 ghost use Rattle.cmwq_monitor.specs.Whole.{Completes, BrokeOff, Stops, EndsOwn, is_drain};
-ghost use Rattle.cmwq_monitor.specs.Steps.{InStep, TellsFirst, Lacks, HasFired, HasFiredSome, HasEnded, HasEndedSome, WouldNot, IsKept, is_start, is_retired, is_nothing};
+ghost use Rattle.cmwq_monitor.specs.Steps.{InStep, TellsFirst, Lacks, HasFired, HasFiredSome, HasEnded, HasEndedSome, WouldNot, IsViewKept, is_start, is_retire_reply, is_nothing};
 ghost use Rattle.cmwq_monitor.specs.Starts.{StartsOne};
 ghost use Rattle.cmwq_monitor.specs.Settled.{Settles};
 ghost use Rattle.cmwq_monitor.specs.declared.fault.RunFault.TheVariants as faults;
@@ -70,7 +70,7 @@ impl<N: HubName> Monitor<N> {
         requires tail { tail.all ≡ [] }
         requires publisher { publisher ≡ [] }
         requires entries { entries.total ≡ 0 }
-        ensures { result ≡ opened }
+        ensures { result ≡ held_at_first }
     {
         Monitor {
             shape,
@@ -188,9 +188,9 @@ impl<N: HubName> Monitor<N> {
     fn admits(&self, participant: &Participant<N>) -> Result<(), RunFault>
         ensures open { IfOk result (λ _. IsOpenTo self.now participant.now.who) }
         ensures step { IfOk result (λ _. InStep self.now.history participant.now) }
-        ensures says { IfErr result (λ f. (call : Call) → Says N.layout participant.now call f) }
+        ensures says { IfErr result (λ f. (call : Call) → SaysFault N.layout participant.now call f) }
         ensures first { IfErr result (λ f. TellsFirst self.now participant.now f) }
-        ensures leaves { IfErr result (λ f. Leaves self.now f self.now) }
+        ensures leaves { IfErr result (λ f. LeavesHeld self.now f self.now) }
     {
         if self.closed && matches!(participant.who(), Who::Caller(_)) {
             return Err(RunFault::Closed);
@@ -213,7 +213,7 @@ impl<N: HubName> Monitor<N> {
         ensures open { IfOk result (λ _. IsOpenTo self.old participant.old.who × GoesOn self.old self.new) }
         ensures refused { IfErr result (λ f. Refused N.layout participant.old call f participant.new) }
         ensures first { IfErr result (λ f. TellsFirst self.old participant.old f) }
-        ensures leaves { IfErr result (λ f. Leaves self.old f self.new) }
+        ensures leaves { IfErr result (λ f. LeavesHeld self.old f self.new) }
     {
         match self.admits(participant) {
             Ok(()) => {}
@@ -240,7 +240,7 @@ impl<N: HubName> Monitor<N> {
         ensures fired { IfOk result (λ _. HasFired N.layout participant.old participant.new) }
         ensures goes_on { IfOk result (λ _. GoesOn self.old self.new) }
         ensures short { IfErr result (λ f. (f ≡ faults.NoMemory None) × HasFiredSome participant.old participant.new) }
-        ensures leaves { IfErr result (λ f. Leaves self.old f self.new) }
+        ensures leaves { IfErr result (λ f. LeavesHeld self.old f self.new) }
     {
         let _legal = participant.seen();
         for _ in 0..self.shape.counts().items {
@@ -272,7 +272,7 @@ impl<N: HubName> Monitor<N> {
         ensures done { IfOk result (λ reply. Completes N.layout participant.old (calls.Tick ticks) reply participant.new) }
         ensures open { IfOk result (λ _. IsOpenTo self.old participant.old.who × GoesOn self.old self.new) }
         ensures broke { IfErr result (λ f. BrokeOff N.layout participant.old (calls.Tick ticks) f participant.new) }
-        ensures leaves { IfErr result (λ f. Leaves self.old f self.new) }
+        ensures leaves { IfErr result (λ f. LeavesHeld self.old f self.new) }
     {
         let _who = participant.who();
         let reply = self.call(rt, participant, Call::Tick { ticks })?;
@@ -294,7 +294,7 @@ impl<N: HubName> Monitor<N> {
         ensures waits { IfOk result (λ b. MatchBool b (GoesOn self.old self.new) ((self.new ≡ self.old) × WouldNot is_done N.layout self.old.history participant.old (calls.End ticket))) }
         ensures open { IfOk result (λ _. self.old.failed ≡ false) }
         ensures stopped { IfErr result (λ f. (participant.new ≡ participant.old) × Stops participant.old (Some ticket) f) }
-        ensures leaves { IfErr result (λ f. Leaves self.old f self.new) }
+        ensures leaves { IfErr result (λ f. LeavesHeld self.old f self.new) }
     {
         if self.failed {
             return Err(RunFault::NoMemory {
@@ -331,7 +331,7 @@ impl<N: HubName> Monitor<N> {
         ensures waits { IfOk result (λ b. MatchBool b (GoesOn self.old self.new) ((self.new ≡ self.old) × WouldNot is_done N.layout self.old.history participant.old (calls.End ticket))) }
         ensures open { IfOk result (λ _. self.old.failed ≡ false) }
         ensures stopped { IfErr result (λ f. HasEndedSome N.layout participant.old call ticket f participant.new) }
-        ensures leaves { IfErr result (λ f. Leaves self.old f self.new) }
+        ensures leaves { IfErr result (λ f. LeavesHeld self.old f self.new) }
     {
         match self.end_ticket(rt, participant, ticket) {
             Ok(true) => {}
@@ -360,7 +360,7 @@ impl<N: HubName> Monitor<N> {
         ensures refused { IfErr result (λ f. Refused N.layout participant.old calls.Take f participant.new) }
         ensures room { IfErr result (λ f. is_full f ≡ false) }
         ensures first { IfErr result (λ f. TellsFirst self.old participant.old f) }
-        ensures leaves { IfErr result (λ f. Leaves self.old f self.new) }
+        ensures leaves { IfErr result (λ f. LeavesHeld self.old f self.new) }
     {
         let who = participant.who();
         if self.failed {
@@ -391,12 +391,12 @@ impl<N: HubName> Monitor<N> {
     ) -> Result<bool, RunFault>
         requires { is_caller participant.old.who ≡ false }
         ensures retired { IfOk result (λ b. MatchBool b (Extends N.layout participant.old calls.Retire replies.Retired participant.new) (participant.new ≡ participant.old)) }
-        ensures kept { IfOk result (λ b. MatchBool b (GoesOn self.old self.new) ((self.new ≡ self.old) × IsKept N.layout self.old.history participant.old)) }
+        ensures kept { IfOk result (λ b. MatchBool b (GoesOn self.old self.new) ((self.new ≡ self.old) × IsViewKept N.layout self.old.history participant.old)) }
         ensures open { IfOk result (λ _. self.old.failed ≡ false) }
         ensures refused { IfErr result (λ f. Refused N.layout participant.old calls.Retire f participant.new) }
         ensures room { IfErr result (λ f. is_full f ≡ false) }
         ensures first { IfErr result (λ f. TellsFirst self.old participant.old f) }
-        ensures leaves { IfErr result (λ f. Leaves self.old f self.new) }
+        ensures leaves { IfErr result (λ f. LeavesHeld self.old f self.new) }
     {
         let who = participant.who();
         if self.failed {
@@ -599,7 +599,7 @@ fn is_done(reply: Reply) -> bool
 }
 
 fn is_retired(reply: Reply) -> bool
-    ensures { result ≡ is_retired reply }
+    ensures { result ≡ is_retire_reply reply }
 {
     matches!(reply, Reply::Retired)
 }

@@ -1,18 +1,9 @@
 -- How many stand ahead of a queueing, as its history is gone through.
-use Rattle.std.proofs.Common.{◌≡◌, ℕ, ◌+◌, ◌<◌, ◌≤◌, Bool, true, false, ◌&&◌, List, ◌∷◌, ◌++◌, length, filter, count_by, option_to_list, if◌then◌else◌, refl, ap, arith}
-use Rattle.std.proofs.lemmas.List.Elements.{filter-append}
-use Rattle.std.proofs.lemmas.List.Sums.{sum_by-append}
-use Rattle.cmwq_model.specs.declared.entry.Entry.{Entry}
-use Rattle.cmwq_model.specs.declared.record.Queueing.{Queueing}
-use Rattle.cmwq_model.specs.Prelude.{queueings, opening, still_open, is_live, is_ahead}
+use Rattle.cmwq_plain.specs.Common.{◌≡◌, ℕ, ◌+◌, ◌<◌, ◌≤◌, Bool, true, false, ◌&&◌, List, ◌∷◌, ◌++◌, length, filter, count_by, option_to_list, if◌then◌else◌, refl, ap, arith, filter-append, sum_by-append, Entry, Queueing, queueings, opening, still_open, is_live, is_ahead}
 use Rattle.cmwq_plain.specs.Past.{upto, open_upto}
 use Rattle.cmwq_plain.proofs.Parts.{upto-grows}
 use Rattle.cmwq_plain.proofs.PastSteps.{queueings_step, open_none, open_all}
 use Rattle.cmwq_plain.specs.Partial.{ahead_upto}
-
-pub and_false : (b : Bool) → (b && false) ≡ false
-and_false true = refl
-and_false false = refl
 
 -- the count ahead
 pub ahead_none : (past : List Entry) (x : Queueing) → ahead_upto past x 0 ≡ 0

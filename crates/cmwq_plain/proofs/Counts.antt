@@ -1,17 +1,8 @@
 -- Counts over the workers of pools and CPUs, one more at a time.
-use Rattle.std.proofs.Common.{◌≡◌, ℕ, suc, ◌+◌, Bool, List, [], ◌∷◌, ◌++◌, map, count_by, if◌then◌else◌, refl, ap, ◌∙◌, arith, add-one, zero, zero-add}
-use Rattle.std.specs.Prelude.{flat_map}
-use Rattle.std.specs.List.{range_with_len}
-use Rattle.std.proofs.lemmas.List.{append-nil}
+use Rattle.cmwq_plain.specs.Common.{◌≡◌, ℕ, suc, ◌+◌, Bool, List, [], ◌∷◌, ◌++◌, map, count_by, if◌then◌else◌, refl, ap, ◌∙◌, arith, add-one, zero, zero-add, flat_map, range_with_len, append-nil, sum_by-append, PoolId, WorkerId, Layout, worker_at, cpu_workers}
 use Rattle.std.proofs.lemmas.List.Concat.{flat_map-append}
-use Rattle.std.proofs.lemmas.List.Sums.{sum_by-append}
 use Rattle.std.proofs.lemmas.List.FromFn.{sum_by-map-range_with_len_more}
-use Rattle.cmwq_model.specs.declared.id.PoolId.{PoolId}
-use Rattle.cmwq_model.specs.declared.id.WorkerId.{WorkerId}
-use Rattle.cmwq_model.specs.Prelude.{Layout, worker_at, cpu_workers}
-
-pub count_append : {X : Type 0} (p : X → Bool) (xs ys : List X) → count_by p (xs ++ ys) ≡ count_by p xs + count_by p ys
-count_append p xs ys = sum_by-append (λ x. if p x then 1 else 0) xs ys
+use Rattle.cmwq_lemmas.proofs.Lists.{range_more, count_append}
 
 pub pool_none : (q : WorkerId → Bool) (p : PoolId) → count_by q (map (worker_at p) (range_with_len 0 0)) ≡ 0
 pool_none q p = refl
@@ -21,16 +12,12 @@ pool_step q p k = sum_by-map-range_with_len_more (λ w. if q w then 1 else 0) (w
 
 pub ruleset pool_steps = (pool_none, pool_step)
 
-range_step : (a n : ℕ) → range_with_len a (suc n) ≡ range_with_len a n ++ (a + n) ∷ []
-range_step a zero = ap (λ m. m ∷ []) (omega arith)
-range_step a (suc n) = ap (λ xs. a ∷ xs) (range_step (a + 1) n) ∙ ap (λ m. (a ∷ range_with_len (a + 1) n) ++ m ∷ []) (omega arith)
-
 pub cpu_none : (q : WorkerId → Bool) (s : Layout) → count_by q (flat_map (cpu_workers s) (range_with_len 0 0)) ≡ 0
 cpu_none q s = refl
 
 pub cpu_step : (q : WorkerId → Bool) (s : Layout) (c : ℕ) → count_by q (flat_map (cpu_workers s) (range_with_len 0 (c + 1))) ≡ count_by q (flat_map (cpu_workers s) (range_with_len 0 c)) + count_by q (cpu_workers s c)
 cpu_step q s c =
-    let longer : range_with_len 0 (c + 1) ≡ range_with_len 0 c ++ c ∷ [] = ap (range_with_len 0) (add-one c) ∙ range_step 0 c ∙ ap (λ m. range_with_len 0 c ++ m ∷ []) (zero-add c) in
+    let longer : range_with_len 0 (c + 1) ≡ range_with_len 0 c ++ c ∷ [] = ap (range_with_len 0) (add-one c) ∙ range_more 0 c ∙ ap (λ m. range_with_len 0 c ++ m ∷ []) (zero-add c) in
     let more : flat_map (cpu_workers s) (range_with_len 0 (c + 1)) ≡ flat_map (cpu_workers s) (range_with_len 0 c) ++ cpu_workers s c =
     ap (flat_map (cpu_workers s)) longer ∙ flat_map-append (cpu_workers s) (range_with_len 0 c) (c ∷ []) ∙ ap (λ l. flat_map (cpu_workers s) (range_with_len 0 c) ++ l) (append-nil (cpu_workers s c)) in
     ap (count_by q) more ∙ count_append q (flat_map (cpu_workers s) (range_with_len 0 c)) (cpu_workers s c)

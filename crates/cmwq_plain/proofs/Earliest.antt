@@ -1,37 +1,27 @@
 -- The first of a pool's worklist that it may start is the earliest one that became active.
-use Rattle.std.proofs.Common.{◌≡◌, ℕ, suc, ◌+◌, ◌<◌, ◌≤◌, Bool, true, false, ◌&&◌, not, List, [], ◌∷◌, ◌++◌, length, filter, find, fold, Option, Some, None, option_map, option_and_then, option_to_list, nat_lt, cond, if◌then◌else◌, refl, ap, ◌∙◌, sym, arith}
-use Rattle.std.specs.Option.{option_or}
-use Rattle.std.specs.Prelude.{IfSome}
-use Rattle.std.proofs.lemmas.List.{append-nil}
-use Rattle.std.proofs.lemmas.List.Folds.{find-append}
-use Rattle.std.proofs.lemmas.Bool.{lt-ltb, le-ltb}
-use Rattle.cmwq_model.specs.declared.id.PoolId.{PoolId}
-use Rattle.cmwq_model.specs.declared.entry.Entry.{Entry}
+use Rattle.cmwq_plain.specs.Common.{◌≡◌, ℕ, suc, ◌+◌, ◌<◌, ◌≤◌, Bool, true, false, ◌&&◌, not, List, [], ◌∷◌, ◌++◌, length, filter, find, fold, Option, Some, None, option_map, option_and_then, option_to_list, nat_lt, cond, if◌then◌else◌, refl, ap, ◌∙◌, sym, arith, option_or, IfSome, append-nil, find-append, lt-ltb, le-ltb, PoolId, Entry, Queueing, Layout, item_of, queueings, opening, opens, queued_at, place_wanted, is_active, is_newly_active, newly_active, is_listed, is_startable, became_active, worklist, next, is_live}
 use Rattle.cmwq_model.specs.declared.record.Place.{Place}
-use Rattle.cmwq_model.specs.declared.record.Queueing.{Queueing}
-use Rattle.cmwq_model.specs.Prelude.{Layout, item_of, queueings, opening, opens, queued_at, place_wanted, is_active, is_newly_active, newly_active, is_listed, is_startable}
-use Rattle.cmwq_model.specs.Prelude.{activated, worklist, next, is_live}
 use Rattle.cmwq_theory_active.proofs.Joined.{not_live}
 use Rattle.cmwq_plain.specs.Past.{upto}
 use Rattle.cmwq_plain.proofs.Parts.{upto-none, upto-all, upto-grows, length-upto}
 use Rattle.cmwq_plain.proofs.PastSteps.{queueings_step}
 use Rattle.cmwq_plain.specs.declared.active.Candidate.{Candidate}
-use Rattle.cmwq_plain.specs.Earliest.{may_start, since, earlier, better, best_upto, queueing_of}
+use Rattle.cmwq_plain.specs.Earliest.{may_start, earliest_since, earlier, better, best_upto, queueing_of}
 
 -- Since when.
 
-pub since_none : (s : Layout) (x : Queueing) → since s [] x ≡ None
-unfolding since
+pub since_none : (s : Layout) (x : Queueing) → earliest_since s [] x ≡ None
+unfolding earliest_since
 since_none s x = refl
 
-since_step : (s : Layout) (e : Entry) (past : List Entry) (x : Queueing) → since s (e ∷ past) x ≡ option_or (since s past x) (if is_active s (e ∷ past) x then Some (length past) else None)
-unfolding since
+since_step : (s : Layout) (e : Entry) (past : List Entry) (x : Queueing) → earliest_since s (e ∷ past) x ≡ option_or (earliest_since s past x) (if is_active s (e ∷ past) x then Some (length past) else None)
+unfolding earliest_since
 since_step s e past x = refl
 
-since_step_of : (s : Layout) (past rest : List Entry) (k : ℕ) (x : Queueing) → length past ≡ k → (e : Entry) × (rest ≡ e ∷ past) → since s rest x ≡ option_or (since s past x) (if is_active s rest x then Some k else None)
+since_step_of : (s : Layout) (past rest : List Entry) (k : ℕ) (x : Queueing) → length past ≡ k → (e : Entry) × (rest ≡ e ∷ past) → earliest_since s rest x ≡ option_or (earliest_since s past x) (if is_active s rest x then Some k else None)
 since_step_of s past rest k x h (e, is) = rw (is, ← h) (since_step s e past x)
 
-pub since_more : (s : Layout) (past : List Entry) (k : ℕ) (x : Queueing) → k < length past → since s (upto past (k + 1)) x ≡ option_or (since s (upto past k) x) (if is_active s (upto past (k + 1)) x then Some k else None)
+pub since_more : (s : Layout) (past : List Entry) (k : ℕ) (x : Queueing) → k < length past → earliest_since s (upto past (k + 1)) x ≡ option_or (earliest_since s (upto past k) x) (if is_active s (upto past (k + 1)) x then Some k else None)
 since_more s past k x h = since_step_of s (upto past k) (upto past (k + 1)) k x (length-upto past k (omega arith)) (upto-grows past k h)
 
 pub ruleset since_steps = (since_none, since_more)
@@ -40,8 +30,8 @@ pub ruleset since_steps = (since_none, since_more)
 inactive : (s : Layout) (past : List Entry) (x : Queueing) → length past ≤ x.number → is_active s past x ≡ false
 inactive s past x h = let e : nat_lt x.number (length past) ≡ false = le-ltb x.number (length past) h in not_live s past x (let dead : is_live past x ≡ false = grind arith in dead)
 
-since_unopened : (s : Layout) (past : List Entry) (x : Queueing) → length past ≤ x.number → since s past x ≡ None
-unfolding since
+since_unopened : (s : Layout) (past : List Entry) (x : Queueing) → length past ≤ x.number → earliest_since s past x ≡ None
+unfolding earliest_since
 since_unopened s [] x h = refl
 since_unopened s (e ∷ past) x h = rw (since_unopened s past x (omega arith), inactive s (e ∷ past) x h)
 
@@ -50,9 +40,9 @@ or_none None true n h = cc
 or_none None false n h = refl
 or_none (Some m) b n h = cc
 
-active_since : (s : Layout) (past : List Entry) (x : Queueing) → since s past x ≡ None → is_active s past x ≡ false
+active_since : (s : Layout) (past : List Entry) (x : Queueing) → earliest_since s past x ≡ None → is_active s past x ≡ false
 active_since s [] x h = inactive s [] x (omega arith)
-active_since s (e ∷ past) x h = or_none (since s past x) (is_active s (e ∷ past) x) (length past) (sym (since_step s e past x) ∙ h)
+active_since s (e ∷ past) x h = or_none (earliest_since s past x) (is_active s (e ∷ past) x) (length past) (sym (since_step s e past x) ∙ h)
 
 abbrev IsNumberBelow : ℕ → Option ℕ → Type 0
 IsNumberBelow n None = Unit {0}
@@ -63,10 +53,10 @@ below_or None true n h = omega arith
 below_or None false n h = tt
 below_or (Some m) b n h = omega arith
 
-since_below : (s : Layout) (past : List Entry) (x : Queueing) → IsNumberBelow (length past) (since s past x)
-unfolding since
+since_below : (s : Layout) (past : List Entry) (x : Queueing) → IsNumberBelow (length past) (earliest_since s past x)
+unfolding earliest_since
 since_below s [] x = tt
-since_below s (e ∷ past) x = below_or (since s past x) (is_active s (e ∷ past) x) (length past) (since_below s past x)
+since_below s (e ∷ past) x = below_or (earliest_since s past x) (is_active s (e ∷ past) x) (length past) (since_below s past x)
 
 -- One entry more: what was active before it stays earlier than what it made active.
 
@@ -126,14 +116,14 @@ or_nothing (Some y) = refl
 better_step : (s : Layout) (e : Entry) (past : List Entry) (test : Queueing → Bool) (x : Queueing) (a : Option Candidate) (b : Option Queueing) → IsBelow (length past) a
     → better s (e ∷ past) test (option_or a (tagged (length past) b)) x ≡ option_or (better s past test a x) (tagged (length past) (option_or b (if test x && is_newly_active s past e x then Some x else None)))
 better_step s e past test x a b h =
-    rw (since_step s e past x) (step_law (length past) x (test x) (is_active s (e ∷ past) x) (is_active s past x) (since s past x) a b h (since_below s past x) (active_since s past x))
+    rw (since_step s e past x) (step_law (length past) x (test x) (is_active s (e ∷ past) x) (is_active s past x) (earliest_since s past x) a b h (since_below s past x) (active_since s past x))
 
 fold_law : (s : Layout) (e : Entry) (past : List Entry) (test : Queueing → Bool) (xs : List Queueing) (a : Option Candidate) (b : Option Queueing) → IsBelow (length past) a
     → fold (better s (e ∷ past) test) (option_or a (tagged (length past) b)) xs ≡ option_or (fold (better s past test) a xs) (tagged (length past) (option_or b (find test (filter (is_newly_active s past e) xs))))
 fold_law s e past test [] a b h = ap (λ c. option_or a (tagged (length past) c)) (sym (or_nothing b))
 fold_law s e past test (x ∷ xs) a b h =
     ap (λ c. fold (better s (e ∷ past) test) c xs) (better_step s e past test x a b h)
-    ∙ fold_law s e past test xs (better s past test a x) (option_or b (if test x && is_newly_active s past e x then Some x else None)) (step_below (length past) x (test x) (since s past x) a h (since_below s past x))
+    ∙ fold_law s e past test xs (better s past test a x) (option_or b (if test x && is_newly_active s past e x then Some x else None)) (step_below (length past) x (test x) (earliest_since s past x) a h (since_below s past x))
     ∙ ap (λ c. option_or (fold (better s past test) (better s past test a x) xs) (tagged (length past) c)) (sym (find_more test (is_newly_active s past e) b x xs))
 
 -- What is opened at the end wasn't active before.
@@ -178,11 +168,11 @@ best_more s e past test =
     fold_law s e past test (queueings (e ∷ past)) None None tt
     ∙ ap (λ a. option_or a (tagged (length past) (find test (newly_active s past e)))) (ap (fold (better s past test) None) (queueings_step e past) ∙ fold_opened s past test (queueings past) (opening past e) (opening_number past e))
 
-best_law : (s : Layout) (test : Queueing → Bool) (past : List Entry) → find test (activated s past) ≡ option_map queueing_of (fold (better s past test) None (queueings past))
-unfolding activated queueings
+best_law : (s : Layout) (test : Queueing → Bool) (past : List Entry) → find test (became_active s past) ≡ option_map queueing_of (fold (better s past test) None (queueings past))
+unfolding became_active queueings
 best_law s test [] = refl
 best_law s test (e ∷ past) =
-    find-append test (activated s past) (newly_active s past e)
+    find-append test (became_active s past) (newly_active s past e)
     ∙ ap (λ o. option_or o (find test (newly_active s past e))) (best_law s test past)
     ∙ map_or (length past) (fold (better s past test) None (queueings past)) (find test (newly_active s past e))
     ∙ ap (option_map queueing_of) (sym (best_more s e past test))
@@ -197,7 +187,7 @@ find_filter p q (x ∷ xs) = find_cond p (q x) x (filter q xs) ∙ both_cond (q 
 
 next_best : (s : Layout) (past : List Entry) (p : PoolId) → next s past p ≡ option_map queueing_of (fold (better s past (may_start s past p)) None (queueings past))
 unfolding next worklist
-next_best s past p = find_filter (is_startable past) (is_listed s past p) (activated s past) ∙ best_law s (may_start s past p) past
+next_best s past p = find_filter (is_startable past) (is_listed s past p) (became_active s past) ∙ best_law s (may_start s past p) past
 
 pub best_none : (s : Layout) (past : List Entry) (p : PoolId) → best_upto s past p 0 ≡ None
 unfolding best_upto queueings

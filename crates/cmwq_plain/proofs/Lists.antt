@@ -1,11 +1,6 @@
 -- A list, and one element more where there is one.
-use Rattle.std.proofs.Common.{◌≡◌, ◌+◌, Bool, true, false, List, [], ◌∷◌, ◌++◌, Some, None, filter, find, count_by, ◌||◌, if◌then◌else◌, refl, ap, ◌∙◌, zero-add, length, length-append}
-use Rattle.std.specs.Option.{option_or}
-use Rattle.std.specs.List.{list_any}
-use Rattle.std.proofs.lemmas.List.{append-nil}
-use Rattle.std.proofs.lemmas.List.Elements.{filter-append}
-use Rattle.std.proofs.lemmas.List.Folds.{find-append, list_any-append}
-use Rattle.std.proofs.lemmas.List.Sums.{sum_by-append}
+use Rattle.cmwq_plain.specs.Common.{◌≡◌, ◌+◌, Bool, true, false, List, [], ◌∷◌, ◌++◌, Some, None, filter, find, count_by, ◌||◌, if◌then◌else◌, refl, ap, ◌∙◌, zero-add, length, length-append, option_or, list_any, append-nil, filter-append, find-append, list_any-append, sum_by-append}
+use Rattle.cmwq_lemmas.proofs.Truth.{or_false}
 
 pub filter_push_none : {X : Type 0} (p : X → Bool) (xs : List X) → filter p (xs ++ []) ≡ filter p xs ++ []
 filter_push_none p xs = filter-append p xs []
@@ -22,10 +17,6 @@ pub find_push_some : {X : Type 0} (p : X → Bool) (xs : List X) (x : X) → fin
 find_push_some p xs x = find-append p xs (x ∷ [])
 
 pub ruleset find_push = (find_push_none, find_push_some)
-
-or_false : (b : Bool) → (b || false) ≡ b
-or_false true = refl
-or_false false = refl
 
 pub any_push_none : {X : Type 0} (p : X → Bool) (xs : List X) → list_any p (xs ++ []) ≡ list_any p xs
 any_push_none p xs = ap (list_any p) (append-nil xs)

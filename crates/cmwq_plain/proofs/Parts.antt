@@ -1,10 +1,5 @@
 -- The first k entries of a history, as it grows by one entry and from a list that is kept oldest first.
-use Rattle.std.proofs.Common.{◌≡◌, ℕ, zero, suc, true, nat_lt, slice_get, ◌+◌, ◌-◌, ◌<◌, ◌≤◌, List, [], ◌∷◌, ◌++◌, length, get_or, take, drop, reverse, Option, Some, None, refl, sym, ap, ◌∙◌, arith, add-one, length-drop}
-use Rattle.std.proofs.lemmas.List.{take-append-drop, reverse-append, drop_all, length-reverse}
-use Rattle.std.proofs.Math.Seq.{take-suc, drop-append_seam}
-use Rattle.cmwq_model.specs.declared.entry.Entry.{Entry}
-use Rattle.cmwq_model.specs.Prelude.{entry_at, past_of}
-use Rattle.std.proofs.lemmas.Bool.{lt-ltb}
+use Rattle.cmwq_plain.specs.Common.{◌≡◌, ℕ, zero, suc, true, nat_lt, slice_get, ◌+◌, ◌-◌, ◌<◌, ◌≤◌, List, [], ◌∷◌, ◌++◌, length, get_or, take, drop, reverse, Option, Some, None, refl, sym, ap, ◌∙◌, arith, add-one, length-drop, take-append-drop, reverse-append, drop_all, length-reverse, take-suc, drop-append_seam, Entry, entry_at, past_of, lt-ltb}
 use Rattle.cmwq_plain.specs.Past.{upto, then}
 
 pub upto-none : (past : List Entry) → upto past 0 ≡ []

@@ -1,13 +1,6 @@
 -- What one entry more does to each word.
-use Rattle.std.proofs.Common.{◌≡◌, ℕ, ◌+◌, ◌≤◌, false, ◌&&◌, ◌||◌, not, nat_lt, List, [], ◌∷◌, ◌++◌, length, filter, None, is_some, option_to_list, if◌then◌else◌, refl, ap}
-use Rattle.std.proofs.lemmas.List.Sums.{sum_by-cons}
+use Rattle.cmwq_plain.specs.Common.{◌≡◌, ℕ, ◌+◌, ◌≤◌, false, ◌&&◌, ◌||◌, not, nat_lt, List, [], ◌∷◌, ◌++◌, length, filter, None, is_some, option_to_list, if◌then◌else◌, refl, ap, sum_by-cons, Worker, WorkerId, Entry, is_by, is_of_item, ticks_told, now, serial_of, settles, booking, booking_of, is_started, is_cancelled, takes_back, replaces, number_started, last_start, is_asleep, asleep_after, item_start, starts_item, start_in, queueings, opening, still_open, is_live, is_done, ends_destroy, is_gone, tickets, ticket_in, unended_tickets, is_unended, frozen_after, is_frozen}
 use Rattle.cmwq_model.specs.declared.id.Who.{Who}
-use Rattle.cmwq_model.specs.declared.id.Who.TheVariants.{Worker}
-use Rattle.cmwq_model.specs.declared.id.WorkerId.{WorkerId}
-use Rattle.cmwq_model.specs.declared.entry.Entry.{Entry}
-use Rattle.cmwq_model.specs.Prelude.{is_by, is_of_item, ticks_told, now, serial_of, settles, booking, booking_of, is_started, is_cancelled, takes_back, replaces, number_started}
-use Rattle.cmwq_model.specs.Prelude.{last_start, is_asleep, asleep_after, item_start, starts_item, start_in, queueings, opening, still_open, is_live, is_done, ends_destroy}
-use Rattle.cmwq_model.specs.Prelude.{is_gone, tickets, ticket_in, unended, is_unended, frozen_after, is_frozen}
 use Rattle.cmwq_plain.specs.Past.{open_upto, unended_upto}
 use Rattle.cmwq_plain.proofs.Parts.{upto-none, upto-all}
 
@@ -94,7 +87,7 @@ pub unended_none : (past : List Entry) → unended_upto past 0 ≡ []
 unfolding unended_upto tickets
 unended_none past = ap (λ p. filter (is_unended past) (tickets p)) (upto-none past)
 
-pub unended_all : (past : List Entry) (k : ℕ) → length past ≤ k → unended_upto past k ≡ unended past
+pub unended_all : (past : List Entry) (k : ℕ) → length past ≤ k → unended_upto past k ≡ unended_tickets past
 unfolding unended_upto
 unended_all past k h = ap (λ p. filter (is_unended past) (tickets p)) (upto-all past k h)
 

@@ -1,13 +1,7 @@
 -- What one entry more does to each word.
-use Rattle.std.proofs.Common.{◌≡◌, ℕ, ◌+◌, ◌<◌, ◌≤◌, ◌&&◌, ◌||◌, not, ◌==◌, nat_le, List, [], ◌∷◌, ◌++◌, length, filter, Some, None, option_to_list, if◌then◌else◌, refl, ap, arith}
-use Rattle.std.specs.Option.{option_or}
-use Rattle.cmwq_model.specs.declared.id.Who.TheVariants.{Worker}
-use Rattle.cmwq_model.specs.declared.id.WorkerId.{WorkerId}
-use Rattle.cmwq_model.specs.declared.entry.Entry.{Entry}
+use Rattle.cmwq_plain.specs.Common.{◌≡◌, ℕ, ◌+◌, ◌<◌, ◌≤◌, ◌&&◌, ◌||◌, not, ◌==◌, nat_le, List, [], ◌∷◌, ◌++◌, length, filter, Some, None, option_to_list, if◌then◌else◌, refl, ap, arith, option_or, Worker, WorkerId, Entry, Call, is_by, bookings, booking_of, stands, standing, is_enlisted, enlists, is_retired, serving_from, is_served_after, least_waited, waits_for, may_fire}
 use Rattle.cmwq_model.specs.declared.id.ItemId.{ItemId}
-use Rattle.cmwq_model.specs.declared.call.Call.{Call}
 use Rattle.cmwq_model.specs.declared.call.Call.TheVariants.{CancelSync}
-use Rattle.cmwq_model.specs.Prelude.{is_by, bookings, booking_of, stands, standing, is_enlisted, enlists, is_retired, served, is_served_after, least_waited, waits_for, may_fire}
 use Rattle.cmwq_plain.specs.Past.{upto}
 use Rattle.cmwq_plain.proofs.Parts.{upto-none, upto-all, length-upto, upto-grows}
 use Rattle.cmwq_plain.specs.Partial.{fireable, fireable_upto, standing_upto}
@@ -46,19 +40,19 @@ standing_all past k h = ap (λ p. filter (stands past) (bookings p)) (upto-all p
 
 pub ruleset standing_ends = (standing_none, standing_all)
 
-pub served_none : (q n : ℕ) → served [] q n ≡ None
-unfolding served
+pub served_none : (q n : ℕ) → serving_from [] q n ≡ None
+unfolding serving_from
 served_none q n = refl
 
-pub served_step : (e : Entry) (past : List Entry) (q n : ℕ) → served (e ∷ past) q n ≡ option_or (served past q n) (if nat_le n (length past) && is_served_after (e ∷ past) q n then Some (length past) else None)
-unfolding served
+pub served_step : (e : Entry) (past : List Entry) (q n : ℕ) → serving_from (e ∷ past) q n ≡ option_or (serving_from past q n) (if nat_le n (length past) && is_served_after (e ∷ past) q n then Some (length past) else None)
+unfolding serving_from
 served_step e past q n = refl
 
-served_step_of : (past whole : List Entry) (k q n : ℕ) → length past ≡ k → (e : Entry) × (whole ≡ e ∷ past) → served whole q n ≡ option_or (served past q n) (if nat_le n k && is_served_after whole q n then Some k else None)
+served_step_of : (past whole : List Entry) (k q n : ℕ) → length past ≡ k → (e : Entry) × (whole ≡ e ∷ past) → serving_from whole q n ≡ option_or (serving_from past q n) (if nat_le n k && is_served_after whole q n then Some k else None)
 served_step_of past whole k q n h (e, is) = rw (is, ← h) (served_step e past q n)
 
 -- the same where the entry isn't named
-pub served_more : (past : List Entry) (k q n : ℕ) → k < length past → served (upto past (k + 1)) q n ≡ option_or (served (upto past k) q n) (if nat_le n k && is_served_after (upto past (k + 1)) q n then Some k else None)
+pub served_more : (past : List Entry) (k q n : ℕ) → k < length past → serving_from (upto past (k + 1)) q n ≡ option_or (serving_from (upto past k) q n) (if nat_le n k && is_served_after (upto past (k + 1)) q n then Some k else None)
 served_more past k q n h = served_step_of (upto past k) (upto past (k + 1)) k q n (length-upto past k (omega arith)) (upto-grows past k h)
 
 pub ruleset served_steps = (served_none, served_more)

@@ -1,11 +1,6 @@
 -- Judging a history from its first entry on.
-use Rattle.std.proofs.Common.{◌≡◌, ◌+◌, ◌<◌, ℕ, List, [], ◌∷◌, length, take, drop, get_or, reverse, sym, ap, ◌∙◌, subst, arith}
-use Rattle.std.proofs.Math.Seq.{split_at}
-use Rattle.std.proofs.lemmas.List.{take_more, reverse-append, length-take-le}
-use Rattle.std.proofs.Common.{add-one}
-use Rattle.cmwq_model.specs.declared.entry.Entry.{Entry}
+use Rattle.cmwq_plain.specs.Common.{◌≡◌, ◌+◌, ◌<◌, ℕ, List, [], ◌∷◌, length, take, drop, get_or, reverse, sym, ap, ◌∙◌, subst, arith, split_at, take_more, reverse-append, length-take-le, add-one, Entry, Layout, IsLegal, past_of, entry_for, AllFit, Wants, IsFirstWrong}
 use Rattle.cmwq_model.specs.declared.verdict.Wanted.{Wanted}
-use Rattle.cmwq_model.specs.Prelude.{Layout, IsLegal, past_of, entry_for, AllFit, Wants, IsFirstWrong}
 
 module _ (s : Layout) (entries : List Entry) (k : ℕ) (d : Entry) where
   past_more : k < length entries → past_of (take (k + 1) entries) ≡ get_or entries k d ∷ past_of (take k entries)

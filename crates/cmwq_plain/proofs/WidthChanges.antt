@@ -1,10 +1,5 @@
 -- Widths, and what was below max_active before they changed, as a history is gone through.
-use Rattle.std.proofs.Common.{◌≡◌, ℕ, false, not, ◌&&◌, ◌||◌, List, [], ◌∷◌, refl}
-use Rattle.std.specs.Option.{option_map_or}
-use Rattle.cmwq_model.specs.declared.entry.Entry.{Entry}
-use Rattle.cmwq_model.specs.declared.record.Queueing.{Queueing}
-use Rattle.cmwq_model.specs.Prelude.{Layout, first_width, max_active, width_set, is_live, is_below_max_active}
-use Rattle.cmwq_theory_active.specs.Looks.{keeps_widths, was_below_max_active}
+use Rattle.cmwq_plain.specs.Common.{◌≡◌, ℕ, false, not, ◌&&◌, ◌||◌, List, [], ◌∷◌, refl, option_map_or, Entry, Queueing, Layout, first_width, max_active, width_set, is_live, is_below_max_active, keeps_widths, was_below_max_active}
 
 pub max_none : (s : Layout) (q : ℕ) → max_active s [] q ≡ first_width s q
 unfolding max_active

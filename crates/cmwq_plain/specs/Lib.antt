@@ -1,3 +1,4 @@
+pub mod Common
 pub mod Past
 pub mod Earliest
 pub mod Partial

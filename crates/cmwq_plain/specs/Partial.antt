@@ -1,11 +1,6 @@
 -- What the first k entries made of it.
-use Rattle.std.specs.Prelude.{ℕ, ◌+◌, List, filter, count_by, Option, None}
-use Rattle.cmwq_model.specs.declared.id.WorkerId.{WorkerId}
-use Rattle.cmwq_model.specs.declared.call.Call.{Call}
-use Rattle.cmwq_model.specs.declared.entry.Entry.{Entry}
+use Rattle.cmwq_plain.specs.Common.{ℕ, ◌+◌, List, filter, count_by, Option, None, WorkerId, Call, Entry, Queueing, bookings, standing, stands, has_run, runs_asleep, may_fire, serving_from, is_ahead}
 use Rattle.cmwq_model.specs.declared.record.Booking.{Booking}
-use Rattle.cmwq_model.specs.declared.record.Queueing.{Queueing}
-use Rattle.cmwq_model.specs.Prelude.{bookings, standing, stands, has_run, runs_asleep, may_fire, served, is_ahead}
 use Rattle.cmwq_model.specs.declared.call.Call.TheVariants as call
 use Rattle.cmwq_plain.specs.Past.{upto, open_upto}
 
@@ -22,7 +17,7 @@ standing_upto past k = filter (stands past) (bookings (upto past k))
 
 -- the position from which a flush is served, if it is; no other wait has one
 abbrev pub served_by : List Entry → ℕ → Call → Option ℕ
-served_by past n (call.Flush q) = served past q.0 n
+served_by past n (call.Flush q) = serving_from past q.0 n
 served_by past n c = None
 
 -- how many of what the first k entries opened are open and ahead of the queueing

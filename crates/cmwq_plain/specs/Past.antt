@@ -1,9 +1,6 @@
 -- Parts of a history that is seen with the newest entry first.
-use Rattle.std.specs.Prelude.{ℕ, ◌-◌, List, ◌∷◌, length, drop, filter, Option, Some, None}
-use Rattle.cmwq_model.specs.declared.entry.Entry.{Entry}
-use Rattle.cmwq_model.specs.declared.record.Queueing.{Queueing}
+use Rattle.cmwq_plain.specs.Common.{ℕ, ◌-◌, List, ◌∷◌, length, drop, filter, Option, Some, None, Entry, Queueing, queueings, is_live, tickets, is_unended}
 use Rattle.cmwq_model.specs.declared.record.Ticket.{Ticket}
-use Rattle.cmwq_model.specs.Prelude.{queueings, is_live, tickets, is_unended}
 
 -- the first k entries
 unfoldable pub upto : List Entry → ℕ → List Entry

@@ -3,7 +3,7 @@ ghost use Rattle.std.specs.Prelude.{◌≡◌, ◌&&◌, ◌<◌, ◌+◌, lengt
 ghost use Rattle.cmwq_plain.specs.Past.{upto};
 ghost use Rattle.cmwq_theory_active.specs.Looks.{keeps_widths, was_below_max_active};
 ghost use Rattle.cmwq_plain.specs.Partial.{ahead_upto};
-ghost use Rattle.cmwq_plain.specs.Earliest.{may_start, since, earlier, better, best_upto, queueing_of};
+ghost use Rattle.cmwq_plain.specs.Earliest.{may_start, earliest_since, earlier, better, best_upto, queueing_of};
 
 use crate::entries::is_same_pool;
 use crate::fate::is_started;
@@ -101,7 +101,7 @@ fn is_active(shape: &Shape, past: &Past<'_>, queueing: &Queueing) -> bool
 }
 
 /// Whether the queueing is on the pool's worklist.
-#[tactic(auto, using(crate::proofs::Ahead::and_false))]
+#[tactic(auto, using(cmwq_lemmas::proofs::Truth::and_false))]
 fn is_listed(shape: &Shape, past: &Past<'_>, pool: PoolId, queueing: &Queueing) -> bool
     ensures { result ≡ is_listed shape.now past.now pool queueing.now }
 {
@@ -124,7 +124,7 @@ fn may_start(shape: &Shape, past: &Past<'_>, pool: PoolId, queueing: &Queueing) 
 /// The number of the entry that made the queueing active.
 #[tactic(auto, using(crate::proofs::Parts::ends, crate::proofs::Earliest::since_steps))]
 fn since(shape: &Shape, past: &Past<'_>, queueing: &Queueing) -> Option<Number>
-    ensures { result ≡ since shape.now past.now queueing.now }
+    ensures { result ≡ earliest_since shape.now past.now queueing.now }
 {
     let mut found = None;
     for k in 0..past.len() {

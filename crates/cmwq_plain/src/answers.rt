@@ -1,7 +1,7 @@
 ghost use Rattle.std.specs.Prelude.{◌≡◌};
-ghost use Rattle.cmwq_model.specs.Prelude.{may_call, runs_on, is_shut, queue_answer, modify_answer, taken_back, cancel_answer, wait_answer, destroy_answer, set_max_answer};
-ghost use Rattle.cmwq_model.specs.Prelude.{fired, flush_item_answer, is_held_back, flush_delayed_answer, taken_back_for, cancel_sync_answer, waiting_for, end_of_ticket, started};
-ghost use Rattle.cmwq_model.specs.Prelude.{start_of, take_answer, finished, finish_answer, retire_answer, worker_answer, own_answer, answer};
+ghost use Rattle.cmwq_model.specs.Prelude.{may_call, runs_on, is_shut, queue_answer, modify_answer, taken_back_answer, cancel_answer, wait_answer, destroy_answer, set_max_answer};
+ghost use Rattle.cmwq_model.specs.Prelude.{fired_answer, flush_item_answer, is_held_back, flush_delayed_answer, taken_back_for, cancel_sync_answer, waiting_for, end_of_ticket, started_answer};
+ghost use Rattle.cmwq_model.specs.Prelude.{start_of, take_answer, finished_answer, finish_answer, retire_answer, worker_answer, own_answer, answer};
 
 use crate::active::next;
 use crate::bookings::{booking, is_booked};
@@ -16,7 +16,9 @@ use crate::tickets::{
 use crate::wait::waits_for;
 use crate::widths::is_frozen;
 use crate::worker::{enlisted_by, is_enlisted, may_retire, runnable};
-use cmwq_model::{Booking, Call, Number, Queueing, Reply, Shape, Ticket, Who, WorkerId};
+use cmwq_model::{
+    Booking, Call, MOST_ACTIVE, Number, Queueing, Reply, Shape, Ticket, Who, WorkerId,
+};
 
 /// A worker may call only from a run that is awake.
 fn may_call(past: &Past<'_>, who: Who) -> bool
@@ -96,7 +98,7 @@ fn modify_answer(past: &Past<'_>, who: Who, item: u16, queue: u8, ticks: u32) ->
 }
 
 fn taken_back(queueing: Option<Queueing>, is_booked: bool) -> Reply
-    ensures { result ≡ taken_back queueing is_booked }
+    ensures { result ≡ taken_back_answer queueing is_booked }
 {
     match queueing {
         Some(queueing) => Reply::Cancelled(queueing.number),
@@ -121,7 +123,7 @@ fn cancel_answer(past: &Past<'_>, who: Who, item: u16) -> Reply
 }
 
 fn fired(made: Option<Booking>, number: Number) -> Reply
-    ensures { result ≡ fired made number }
+    ensures { result ≡ fired_answer made number }
 {
     match made {
         Some(made) => Reply::Fired(made.item, number),
@@ -236,7 +238,7 @@ fn set_max_answer(past: &Past<'_>, queue: u8, max_active: u32) -> Reply
     if is_gone(past, queue) {
         Reply::Gone
     } else {
-        Reply::Width(max_active.min(512))
+        Reply::Width(max_active.min(u32::from(MOST_ACTIVE)))
     }
 }
 
@@ -280,7 +282,7 @@ fn take_answer(shape: &Shape, past: &Past<'_>, worker: WorkerId) -> Reply
 }
 
 fn finished(number: Option<Number>) -> Reply
-    ensures { result ≡ finished number }
+    ensures { result ≡ finished_answer number }
 {
     match number {
         None => Reply::Misuse,

@@ -1,7 +1,7 @@
 ghost use Rattle.std.specs.Prelude.{◌≡◌};
 ghost use Rattle.cmwq_model.specs.Prelude.{booking, is_booked, stands};
 
-use crate::entries::{booking_of, is_of_item, settles};
+use crate::entries::is_of_item;
 use crate::past::Past;
 use cmwq_model::Booking;
 
@@ -13,8 +13,8 @@ pub fn booking(past: &Past<'_>, item: u16) -> Option<Booking>
     let mut standing = None;
     for k in 0..past.len() {
         let entry = past.at(k);
-        if settles(entry.reply) && is_of_item(item, &entry) {
-            standing = booking_of(&entry, k as u64);
+        if entry.reply.settles() && is_of_item(item, &entry) {
+            standing = entry.booking(k as u64);
         }
     }
     standing

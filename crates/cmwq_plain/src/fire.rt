@@ -5,7 +5,6 @@ ghost use Rattle.cmwq_plain.specs.Past.{upto};
 ghost use Rattle.cmwq_plain.specs.Partial.{fireable, fireable_upto, standing_upto};
 
 use crate::bookings::stands;
-use crate::entries::booking_of;
 use crate::past::Past;
 use crate::tally::now;
 use crate::tickets::is_draining;
@@ -24,7 +23,7 @@ fn fireable_at(past: &Past<'_>, number: usize) -> Option<Booking>
     ensures { fireable_upto past.now (number + 1)
         ≡ fireable_upto past.now number ++ option_to_list result }
 {
-    match booking_of(&past.at(number), number as u64) {
+    match past.at(number).booking(number as u64) {
         None => None,
         Some(made) => {
             if stands(past, &made) && may_fire(past, &made) {
@@ -75,7 +74,7 @@ fn standing_at(past: &Past<'_>, number: usize) -> Option<Booking>
     ensures { standing_upto past.now (number + 1)
         ≡ standing_upto past.now number ++ option_to_list result }
 {
-    match booking_of(&past.at(number), number as u64) {
+    match past.at(number).booking(number as u64) {
         None => None,
         Some(made) => {
             if stands(past, &made) {

@@ -31,7 +31,7 @@ ghost use Rattle.cmwq_model.specs.Room as room;
 pub use bookings::{booking, is_booked, stands};
 pub use cmwq_model::{Illegal, Wanted, all_fit};
 use cmwq_model::{Call, Entry, Reply, Shape, Who};
-pub use entries::{booking_of, is_by, is_same_pool};
+pub use entries::{is_by, is_same_pool};
 pub use fate::is_started;
 pub use past::Past;
 pub use queueings::{

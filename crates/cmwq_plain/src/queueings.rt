@@ -1,5 +1,5 @@
 ghost use Rattle.std.specs.Prelude.{◌≡◌, ◌<◌, ◌+◌, ◌++◌, length, option_to_list};
-ghost use Rattle.cmwq_model.specs.Prelude.{opens, place_called, place_wanted, cpu_for, queued_at, opening, queueings, is_live, unstarted, is_unstarted, is_pending, queueing_at};
+ghost use Rattle.cmwq_model.specs.Prelude.{opens, place_called, place_wanted, cpu_for, queued_at, opening, queueings, is_live, unstarted_queueing, is_unstarted, is_pending, queueing_at};
 ghost use Rattle.cmwq_model.specs.Prelude.{queue_of, run_queue, runs_elsewhere, is_item_open};
 ghost use Rattle.cmwq_plain.specs.Past.{upto, open_upto};
 
@@ -10,32 +10,11 @@ use crate::past::Past;
 use crate::runs::{item_run, run};
 use cmwq_model::{Call, CpuId, Entry, ItemId, Number, Place, Queueing, Reply, WorkerId};
 
-/// Whether the answer opens a queueing.
-fn opens(reply: Reply) -> bool
-    ensures { result ≡ opens reply }
-{
-    matches!(
-        reply,
-        Reply::Yes(_) | Reply::Again(_) | Reply::Fired(_, _) | Reply::TicketQueued(_)
-    )
-}
-
-fn place_called(call: Call) -> Option<Place>
-    ensures { result ≡ place_called call }
-{
-    match call {
-        Call::Queue { queue, cpu, .. }
-        | Call::Delay { queue, cpu, .. }
-        | Call::Modify { queue, cpu, .. } => Some(Place { queue, cpu }),
-        _ => None,
-    }
-}
-
 /// The place that is asked for: it stands in the call, or in the item's booking.
 fn place_wanted(past: &Past<'_>, call: Call, item: u16) -> Option<Place>
     ensures { result ≡ place_wanted past.now call item }
 {
-    match place_called(call) {
+    match call.place_called() {
         Some(place) => Some(place),
         None => Some(booking(past, item)?.place),
     }
@@ -68,7 +47,7 @@ fn queued_at(past: &Past<'_>, item: u16, place: Place) -> Queueing
 pub fn opening(past: &Past<'_>, entry: &Entry) -> Option<Queueing>
     ensures { result ≡ opening past.now entry.now }
 {
-    if !opens(entry.reply) {
+    if !entry.reply.opens() {
         return None;
     }
     let item = item_of(entry)?;
@@ -121,7 +100,7 @@ fn is_unstarted(past: &Past<'_>, item: u16, queueing: &Queueing) -> bool
 /// The item's open queueing that hasn't started.
 #[tactic(auto, using(crate::proofs::Lists::find_push, crate::proofs::PastSteps::open_ends))]
 pub fn unstarted(past: &Past<'_>, item: u16) -> Option<Queueing>
-    ensures { result ≡ unstarted past.now item }
+    ensures { result ≡ unstarted_queueing past.now item }
 {
     let mut found = None;
     for k in 0..past.len() {

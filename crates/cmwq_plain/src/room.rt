@@ -1,6 +1,6 @@
 ghost use Rattle.std.specs.Prelude.{◌≡◌, ◌≤◌, count_by, length};
 ghost use Rattle.std.specs.List.{range_with_len};
-ghost use Rattle.cmwq_model.specs.Prelude.{is_booked, still_open, unended, pool_workers, cpu_workers, workers, has_not_started, owed, needed, has_time};
+ghost use Rattle.cmwq_model.specs.Prelude.{is_booked, still_open, unended_tickets, pool_workers, cpu_workers, workers, has_not_started, owed, room_needed, has_time};
 ghost use Rattle.cmwq_plain.specs.Partial.{owed_by_runs};
 
 use crate::bookings::is_booked;
@@ -37,7 +37,7 @@ fn count_unstarted(past: &Past<'_>) -> usize
 /// How many tickets are unended.
 #[tactic(auto, using(crate::proofs::Lists::length_push, crate::proofs::PastSteps::unended_ends))]
 fn count_unended(past: &Past<'_>) -> usize
-    ensures count { result ≡ length (unended past.now) }
+    ensures count { result ≡ length (unended_tickets past.now) }
     ensures small { result ≤ 1000001 }
 {
     let mut count: usize = 0;
@@ -79,7 +79,7 @@ fn pool_runs(shape: &Shape, past: &Past<'_>, pool: PoolId) -> usize
 }
 
 /// What the runs of a CPU's workers owe.
-#[tactic(auto, using(crate::proofs::Counts::count_append))]
+#[tactic(auto, using(cmwq_lemmas::proofs::Lists::count_append))]
 fn cpu_runs(shape: &Shape, past: &Past<'_>, cpu: u8) -> usize
     ensures count { result ≡ owed_by_runs past.now (cpu_workers shape.now cpu) }
     ensures small { result ≤ 1024 }
@@ -117,7 +117,7 @@ fn owed(shape: &Shape, past: &Past<'_>) -> usize
 
 /// How many entries there are, and how many they owe.
 pub fn needed(shape: &Shape, past: &Past<'_>) -> usize
-    ensures { result ≡ needed shape.now past.now }
+    ensures { result ≡ room_needed shape.now past.now }
 {
     past.len() + owed(shape, past)
 }

@@ -2,7 +2,7 @@ ghost use Rattle.std.specs.Prelude.{◌≡◌, length};
 ghost use Rattle.cmwq_model.specs.Prelude.{entry_at, item_at, is_number_open, last_start, run, has_run, asleep_after, is_asleep, runs_awake, runs_asleep, start_in, starts_item};
 ghost use Rattle.cmwq_model.specs.Prelude.{item_start, item_run, item_runs};
 
-use crate::entries::{is_by, item_of, number_started};
+use crate::entries::{is_by, item_of};
 use crate::fate::is_open;
 use crate::past::Past;
 use cmwq_model::{Entry, Number, Reply, Start, Who, WorkerId};
@@ -40,7 +40,7 @@ fn last_start(past: &Past<'_>, worker: WorkerId) -> Option<Number>
     let mut last = None;
     for k in 0..past.len() {
         let entry = past.at(k);
-        let number = number_started(entry.reply);
+        let number = entry.reply.number_started();
         if is_by(Who::Worker(worker), &entry) && number.is_some() {
             last = number;
         }
@@ -112,7 +112,7 @@ fn start_in(entry: &Entry) -> Option<Start>
     match entry.who {
         Who::Caller(_) => None,
         Who::Worker(worker) => {
-            let number = number_started(entry.reply)?;
+            let number = entry.reply.number_started()?;
             Some(Start { worker, number })
         }
     }

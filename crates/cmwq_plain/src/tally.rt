@@ -1,7 +1,7 @@
 ghost use Rattle.std.specs.Prelude.{◌≡◌, ◌<◌, ◌^◌};
 ghost use Rattle.cmwq_model.specs.Prelude.{now, serial_of};
 
-use crate::entries::{is_by, ticks_told};
+use crate::entries::is_by;
 use crate::past::Past;
 use cmwq_model::Who;
 
@@ -27,7 +27,7 @@ pub fn now(past: &Past<'_>) -> u64
 {
     let mut total = 0;
     for number in 0..past.len() {
-        total += u64::from(ticks_told(past.at(number).call));
+        total += u64::from(past.at(number).call.ticks());
     }
     total
 }

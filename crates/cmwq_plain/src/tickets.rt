@@ -7,36 +7,6 @@ use crate::entries::is_by;
 use crate::past::Past;
 use cmwq_model::{Call, Entry, Number, Reply, Ticket, Who};
 
-fn gives_ticket(reply: Reply) -> bool
-    ensures { result ≡ gives_ticket reply }
-{
-    matches!(
-        reply,
-        Reply::Ticket(_)
-            | Reply::TicketQueued(_)
-            | Reply::TicketCancelled(_, _)
-            | Reply::TicketUnbooked(_)
-            | Reply::TicketNo(_)
-    )
-}
-
-/// The ticket that the entry of this number gives.
-pub fn ticket_in(entry: &Entry, number: Number) -> Option<Ticket>
-    ensures { result ≡ ticket_in entry.now number }
-{
-    if !gives_ticket(entry.reply) {
-        return None;
-    }
-    match entry.who {
-        Who::Caller(caller) => Some(Ticket {
-            caller,
-            call: entry.call,
-            number,
-        }),
-        Who::Worker(_) => None,
-    }
-}
-
 /// Whether the entry ends the ticket.
 fn ends(ticket: &Ticket, entry: &Entry) -> bool
     ensures { result ≡ ends ticket.now entry.now }
@@ -65,7 +35,7 @@ fn ticket_at(past: &Past<'_>, number: usize) -> Option<Ticket>
     ensures { tickets (upto past.now (number + 1))
         ≡ tickets (upto past.now number) ++ option_to_list result }
 {
-    ticket_in(&past.at(number), number as u64)
+    past.at(number).ticket(number as u64)
 }
 
 /// The ticket that the entry with this number gave, if it is unended.

@@ -1,5 +1,5 @@
 ghost use Rattle.std.specs.Prelude.{◌≡◌, Option};
-ghost use Rattle.cmwq_model.specs.Prelude.{is_served_after, served, is_within, holds_up, least_waited, waits_for};
+ghost use Rattle.cmwq_model.specs.Prelude.{is_served_after, serving_from, is_within, holds_up, least_waited, waits_for};
 ghost use Rattle.cmwq_plain.specs.Partial.{served_by};
 
 use crate::past::Past;
@@ -27,7 +27,7 @@ fn is_served_after(past: &Past<'_>, queue: u8, number: Number) -> bool
 /// The position from which the flush with this number is served.
 #[tactic(auto, using(crate::proofs::Parts::ends, crate::proofs::Steps::served_steps))]
 fn served(past: &Past<'_>, queue: u8, number: Number) -> Option<Number>
-    ensures { result ≡ served past.now queue number }
+    ensures { result ≡ serving_from past.now queue number }
 {
     let mut found = None;
     for k in 0..past.len() {

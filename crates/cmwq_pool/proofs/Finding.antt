@@ -1,24 +1,14 @@
 -- What `find` and `position` give, and how `remove` at a place is a filter.
-use Rattle.std.proofs.Common.{◌≡◌, ℕ, ◌<◌, Bool, true, false, cond, ltb, List, [], ◌∷◌, length, get_or, Option, Some, None, refl, sym, ap, ap₂, ◌∙◌, arith}
-use Rattle.std.specs.Prelude.{find, position, is_some}
-use Rattle.std.specs.List.{AllByRecursion, position_or_len}
+use Rattle.cmwq_pool.specs.Common.{◌≡◌, ℕ, ◌<◌, Bool, true, false, cond, ltb, List, [], ◌∷◌, length, get_or, Option, Some, None, refl, sym, ap, ap₂, ◌∙◌, arith, find, position, is_some, AllByRecursion, position_or_len, nat_tests}
 use Rattle.std.proofs.lemmas.List.Folds.{find_at}
-use Rattle.std.proofs.lemmas.Option.{slice_get-get_or, slice_get_past}
-use Rattle.std.proofs.lemmas.Bool.Decides.{nat_tests}
-
-chosen : {X : Type 0} (b : Bool) (a k : X) → cond b (Some a) None ≡ Some k → (b ≡ true) × (a ≡ k)
-chosen true a k h = (refl, cc)
-chosen false a k h = cc
-
-not_chosen : {X : Type 0} (b : Bool) (a : X) → cond b (Some a) None ≡ None → b ≡ false
-not_chosen true a h = cc
-not_chosen false a h = refl
+use Rattle.std.proofs.lemmas.Option.{slice_get-get_or, slice_get_past, cond_some}
+use Rattle.cmwq_lemmas.proofs.Truth.{not_chosen}
 
 module _ {X : Type 0} (p : X → Bool) where
   -- where a place is found, what stands there is found
   pub find-position : (xs : List X) (k : ℕ) (d : X) → position p xs ≡ Some k → (k < length xs) × (find p xs ≡ Some (get_or xs k d))
   find-position xs k d h =
-      let c = chosen (ltb (position_or_len p xs) (length xs)) (position_or_len p xs) k h in
+      let c = cond_some (ltb (position_or_len p xs) (length xs)) (position_or_len p xs) k h in
       let below : position_or_len p xs < length xs = grind (arith, nat_tests) in
       (rw (← c.1) below, find_at p xs ∙ slice_get-get_or xs (position_or_len p xs) d below ∙ ap (λ (j : ℕ). Some (get_or xs j d)) c.1)
 

@@ -1,3 +1,4 @@
+pub mod Common
 pub mod Slots
 pub mod PoolState
 pub mod Upkeep

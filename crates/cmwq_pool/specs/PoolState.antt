@@ -1,9 +1,8 @@
 -- A pool as one plain value: how many items there are, what is listed to start, and the slots of its workers.
-use Rattle.std.specs.Prelude.{ℕ, Bool, ◌&&◌, ◌||◌, not, ◌==◌, List, [], ◌∷◌, ◌++◌, map, filter, find, Option, option_map, nat_lt}
-use Rattle.std.specs.List.{range_with_len, list_any}
+use Rattle.cmwq_pool.specs.Common.{ℕ, Bool, ◌&&◌, ◌||◌, not, ◌==◌, List, [], ◌∷◌, ◌++◌, map, filter, find, Option, option_map, nat_lt, range_with_len, list_any}
 use Rattle.cmwq_pool.specs.declared.task.Task.{Task}
 use Rattle.cmwq_pool.specs.declared.slot.Slot.{Slot}
-use Rattle.cmwq_pool.specs.Slots.{new_slot, runs_item, with_slot, slots_started}
+use Rattle.cmwq_pool.specs.Slots.{new_slot, slots_run_item, with_slot, slots_started}
 
 pub record PoolState : Type 0 where
   pub items : ℕ
@@ -24,29 +23,29 @@ is_like n i t = (t.number == n) || (t.item.0 == i)
 abbrev pub may_add : PoolState → ℕ → ℕ → Bool
 may_add p n i = nat_lt i p.items && not (list_any (is_like n i) p.listed)
 
-abbrev pub added : PoolState → Task → PoolState
-added p t = record p { listed = p.listed ++ t ∷ [] }
+abbrev pub pool_with_task : PoolState → Task → PoolState
+pool_with_task p t = record p { listed = p.listed ++ t ∷ [] }
 
 -- all but the one with this number
-abbrev pub is_not : ℕ → Task → Bool
-is_not n t = not (t.number == n)
+abbrev pub is_other_task : ℕ → Task → Bool
+is_other_task n t = not (t.number == n)
 
-abbrev pub removed : PoolState → ℕ → PoolState
-removed p n = record p { listed = filter (is_not n) p.listed }
+abbrev pub pool_without_task : PoolState → ℕ → PoolState
+pool_without_task p n = record p { listed = filter (is_other_task n) p.listed }
 
 -- the next to start: the first whose item has no run
-abbrev pub is_startable : List Slot → Task → Bool
-is_startable slots t = not (runs_item slots t.item.0)
+abbrev pub is_task_startable : List Slot → Task → Bool
+is_task_startable slots t = not (slots_run_item slots t.item.0)
 
 abbrev pub next_task : PoolState → Option Task
-next_task p = find (is_startable p.slots) p.listed
+next_task p = find (is_task_startable p.slots) p.listed
 
-abbrev pub next : PoolState → Option ℕ
-next p = option_map (λ (t : Task). t.number) (next_task p)
+abbrev pub next_number : PoolState → Option ℕ
+next_number p = option_map (λ (t : Task). t.number) (next_task p)
 
 -- it leaves the list, and its worker runs it and enlists whom the rule says
-abbrev pub started : PoolState → ℕ → Task → PoolState
-started p w t = record p { listed = filter (is_not t.number) p.listed; slots = slots_started p.slots w t }
+abbrev pub pool_with_run : PoolState → ℕ → Task → PoolState
+pool_with_run p w t = record p { listed = filter (is_other_task t.number) p.listed; slots = slots_started p.slots w t }
 
 -- the slot of one worker changes, and nothing else
 abbrev pub with_slot_again : (Slot → Slot) → PoolState → ℕ → PoolState

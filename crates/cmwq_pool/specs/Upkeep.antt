@@ -1,30 +1,29 @@
 -- What a pool keeps true of its parts: the list, the room for it, the slots, and for each item whether it runs.
-use Rattle.std.specs.Prelude.{◌≡◌, ℕ, ◌<◌, ◌≤◌, Bool, false, not, nat_eq, if◌then◌else◌, List, length, map, count_by, slice_index_or, All}
-use Rattle.std.specs.List.{IsDistinct}
+use Rattle.cmwq_pool.specs.Common.{◌≡◌, ℕ, ◌<◌, ◌≤◌, Bool, false, not, nat_eq, if◌then◌else◌, List, length, map, count_by, slice_index_or, All, IsDistinct}
 use Rattle.cmwq_pool.specs.declared.task.Task.{Task}
 use Rattle.cmwq_pool.specs.declared.slot.Slot.{Slot}
-use Rattle.cmwq_pool.specs.Slots.{is_run_of}
+use Rattle.cmwq_pool.specs.Slots.{slot_runs}
 
-abbrev pub numbers_of : List Task → List ℕ
-numbers_of listed = map (λ (t : Task). t.number) listed
+abbrev pub task_numbers : List Task → List ℕ
+task_numbers listed = map (λ (t : Task). t.number) listed
 
-abbrev pub items_of : List Task → List ℕ
-items_of listed = map (λ (t : Task). t.item.0) listed
+abbrev pub task_items : List Task → List ℕ
+task_items listed = map (λ (t : Task). t.item.0) listed
 
 -- each number and each item is listed once at most, and the items are below the room
-pub record IsWorklist (room : ℕ) (listed : List Task) : Type 0 where
-  pub numbers : IsDistinct nat_eq (numbers_of listed)
-  pub items : IsDistinct nat_eq (items_of listed)
+pub record IsTaskList (room : ℕ) (listed : List Task) : Type 0 where
+  pub numbers : IsDistinct nat_eq (task_numbers listed)
+  pub items : IsDistinct nat_eq (task_items listed)
   pub in_range : All (λ t. t.item.0 < room) listed
 
 -- an item is marked as running exactly if one slot runs it, and no item has two runs
 pub record AreMarked (running : List Bool) (slots : List Slot) : Type 0 where
   pub few : length slots ≤ 8
-  pub runs : (i : ℕ) → count_by (is_run_of i) slots ≡ (if slice_index_or running i false then 1 else 0)
+  pub runs : (i : ℕ) → count_by (slot_runs i) slots ≡ (if slice_index_or running i false then 1 else 0)
 
-pub record IsKept (capacity : ℕ) (listed : List Task) (running : List Bool) (slots : List Slot) : Type 0 where
+pub record IsPoolKept (capacity : ℕ) (listed : List Task) (running : List Bool) (slots : List Slot) : Type 0 where
   pub room : length running ≤ capacity
-  pub worklist : IsWorklist (length running) listed
+  pub worklist : IsTaskList (length running) listed
   pub marks : AreMarked running slots
 
 -- by the marks, the item has no run

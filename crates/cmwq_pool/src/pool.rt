@@ -1,7 +1,7 @@
 ghost use Rattle.std.specs.Prelude.{◌≡◌, ◌<◌, length, IsTrue, IsSome, IfSome, IfOk, Some};
-ghost use Rattle.cmwq_model.specs.Prelude.{is_between};
-ghost use Rattle.cmwq_pool.specs.Slots.{slot_at, is_idle, runs_awake, runs_asleep, run_number, runnable, enlisted_by, may_retire, slot_asleep, slot_awake, slot_free, slot_retired};
-ghost use Rattle.cmwq_pool.specs.PoolState.{new_pool_state, task, may_add, added, removed, next_task, next, started, with_slot_again};
+ghost use Rattle.cmwq_model.specs.Prelude.{is_between, most_items};
+ghost use Rattle.cmwq_pool.specs.Slots.{slot_at, slot_is_idle, slot_runs_awake, slot_runs_asleep, run_number, slots_runnable, slots_enlisted_by, slot_may_retire, slot_asleep, slot_awake, slot_free, slot_retired};
+ghost use Rattle.cmwq_pool.specs.PoolState.{new_pool_state, task, may_add, pool_with_task, pool_without_task, next_task, next_number, pool_with_run, with_slot_again};
 
 use crate::slot::Slot;
 use crate::slots::{count_holding, enlisted_by, have_spare, new_slots, start_task, take_run};
@@ -25,20 +25,20 @@ pub struct Pool {
 impl Model for Pool {
     ghost use Rattle.std.specs.Prelude.{length, vec_capacity};
     ghost use Rattle.cmwq_pool.specs.PoolState.{PoolState};
-    ghost use Rattle.cmwq_pool.specs.Upkeep.{IsKept};
+    ghost use Rattle.cmwq_pool.specs.Upkeep.{IsPoolKept};
 
     ghost Value = { PoolState };
 
     ghost view = { λ a. record { items = length a.running.items; listed = a.listed.items; slots = a.slots.items } };
 
-    ghost invariant = { λ a. IsKept (vec_capacity a.listed) a.listed.items a.running.items a.slots.items };
+    ghost invariant = { λ a. IsPoolKept (vec_capacity a.listed) a.listed.items a.running.items a.slots.items };
 }
 
 impl Pool {
     /// A pool with nothing listed and worker 0 enlisted, for 1 to 256 items and 1 to 8 workers. The error says that
     /// memory ran out.
     pub fn new(alloc: Global, items: u16, workers: u8) -> Result<Pool, NoMemory>
-        requires items { IsTrue (is_between 1 256 items) }
+        requires items { IsTrue (is_between 1 most_items items) }
         requires workers { IsTrue (is_between 1 8 workers) }
         ensures { IfOk result (λ pool. pool ≡ new_pool_state items workers) }
     {
@@ -63,7 +63,7 @@ impl Pool {
     /// Lists a queueing that became active, behind all others (the kernel's `insert_work`).
     pub fn add(&mut self, number: Number, item: ItemId, intensive: bool)
         requires { IsTrue (may_add self.old number item.0) }
-        ensures { self.new ≡ added self.old (task number item.0 intensive) }
+        ensures { self.new ≡ pool_with_task self.old (task number item.0 intensive) }
     {
         self.listed.push_reserved(Task {
             number,
@@ -74,7 +74,7 @@ impl Pool {
 
     /// Takes a queueing that was cancelled from the list, if it stands there.
     pub fn remove(&mut self, number: Number)
-        ensures { self.new ≡ removed self.old number }
+        ensures { self.new ≡ pool_without_task self.old number }
     {
         take_number(&mut self.listed, number);
     }
@@ -88,14 +88,14 @@ impl Pool {
 
     /// The number of the next queueing to start: the first of the list whose item has no run.
     pub fn next(&self) -> Option<Number>
-        ensures { result ≡ next self.now }
+        ensures { result ≡ next_number self.now }
     {
         self.next_task().map(|task| task.number)
     }
 
     /// How many runs are awake and not CPU intensive (the kernel's `nr_running`). While there is one, nothing may start.
     pub fn runnable(&self) -> u32
-        ensures { result ≡ runnable self.now.slots }
+        ensures { result ≡ slots_runnable self.now.slots }
     {
         count_holding(&self.slots)
     }
@@ -143,7 +143,7 @@ impl Pool {
 
     /// The worker that a start of this one would enlist: where no other is idle, the first of the reserve.
     pub fn would_enlist(&self, worker: u8) -> Option<u8>
-        ensures { result ≡ enlisted_by self.now.slots worker }
+        ensures { result ≡ slots_enlisted_by self.now.slots worker }
     {
         enlisted_by(&self.slots, worker)
     }
@@ -151,11 +151,11 @@ impl Pool {
     /// An idle worker starts the next queueing, which no run holds back. Answers the worker that this enlists: where
     /// no other idle one is left, the first of the reserve.
     pub fn start(&mut self, worker: u8) -> Option<u8>
-        requires idle { IsTrue (is_idle (slot_at self.old.slots worker)) }
-        requires next { IsSome (next self.old) }
-        requires free { runnable self.old.slots ≡ 0 }
-        ensures started { IfSome (next_task self.old) (λ t. self.new ≡ started self.old worker t) }
-        ensures enlisted { result ≡ enlisted_by self.old.slots worker }
+        requires idle { IsTrue (slot_is_idle (slot_at self.old.slots worker)) }
+        requires next { IsSome (next_number self.old) }
+        requires free { slots_runnable self.old.slots ≡ 0 }
+        ensures started { IfSome (next_task self.old) (λ t. self.new ≡ pool_with_run self.old worker t) }
+        ensures enlisted { result ≡ slots_enlisted_by self.old.slots worker }
     {
         let task = take_next(&mut self.listed, &self.running);
         self.running[usize::from(task.item.0)] = true;
@@ -164,7 +164,7 @@ impl Pool {
 
     /// A worker's run goes to sleep (the kernel's `wq_worker_sleeping`).
     pub fn sleep(&mut self, worker: u8)
-        requires { IsTrue (runs_awake (slot_at self.old.slots worker)) }
+        requires { IsTrue (slot_runs_awake (slot_at self.old.slots worker)) }
         ensures { self.new ≡ with_slot_again slot_asleep self.old worker }
     {
         self.slots[usize::from(worker)].asleep = true;
@@ -172,7 +172,7 @@ impl Pool {
 
     /// A worker's run wakes up (the kernel's `wq_worker_running`).
     pub fn wake(&mut self, worker: u8)
-        requires { IsTrue (runs_asleep (slot_at self.old.slots worker)) }
+        requires { IsTrue (slot_runs_asleep (slot_at self.old.slots worker)) }
         ensures { self.new ≡ with_slot_again slot_awake self.old worker }
     {
         self.slots[usize::from(worker)].asleep = false;
@@ -180,7 +180,7 @@ impl Pool {
 
     /// A worker ends its run, which is awake. Answers the number of that.
     pub fn finish(&mut self, worker: u8) -> Number
-        requires { IsTrue (runs_awake (slot_at self.old.slots worker)) }
+        requires { IsTrue (slot_runs_awake (slot_at self.old.slots worker)) }
         ensures free { self.new ≡ with_slot_again slot_free self.old worker }
         ensures number { run_number (slot_at self.old.slots worker) ≡ Some result }
     {
@@ -193,14 +193,14 @@ impl Pool {
     /// quarter of the enlisted workers with a run, or more (the kernel's `too_many_workers`).
     pub fn may_retire(&self, worker: u8) -> bool
         requires { worker < length self.now.slots }
-        ensures { result ≡ may_retire self.now.slots worker }
+        ensures { result ≡ slot_may_retire self.now.slots worker }
     {
         self.slot(worker).is_idle() && have_spare(&self.slots)
     }
 
     /// An idle worker that may retire goes back to the reserve.
     pub fn retire(&mut self, worker: u8)
-        requires { IsTrue (may_retire self.old.slots worker) }
+        requires { IsTrue (slot_may_retire self.old.slots worker) }
         ensures { self.new ≡ with_slot_again slot_retired self.old worker }
     {
         self.slots[usize::from(worker)].enlisted = false;

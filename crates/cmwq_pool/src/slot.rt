@@ -1,5 +1,5 @@
 ghost use Rattle.std.specs.Prelude.{◌≡◌};
-ghost use Rattle.cmwq_pool.specs.Slots.{new_slot, runs_awake, runs_asleep, is_idle, is_occupied, is_holding};
+ghost use Rattle.cmwq_pool.specs.Slots.{new_slot, slot_runs_awake, slot_runs_asleep, slot_is_idle, slot_is_occupied, slot_is_holding};
 
 use crate::task::Task;
 
@@ -28,35 +28,35 @@ impl Slot {
 
     /// Whether the worker is enlisted and has no run, so that it may start a queueing.
     pub fn is_idle(&self) -> bool
-        ensures { result ≡ is_idle self.now }
+        ensures { result ≡ slot_is_idle self.now }
     {
         self.enlisted && self.run.is_none()
     }
 
     /// Whether the worker has a run that is awake, which may sleep and end.
     pub fn runs_awake(&self) -> bool
-        ensures { result ≡ runs_awake self.now }
+        ensures { result ≡ slot_runs_awake self.now }
     {
         self.run.is_some() && !self.asleep
     }
 
     /// Whether the worker has a run that sleeps, which may only wake up.
     pub fn runs_asleep(&self) -> bool
-        ensures { result ≡ runs_asleep self.now }
+        ensures { result ≡ slot_runs_asleep self.now }
     {
         self.run.is_some() && self.asleep
     }
 
     /// Whether the worker is enlisted and has a run.
     pub(crate) fn is_occupied(&self) -> bool
-        ensures { result ≡ is_occupied self.now }
+        ensures { result ≡ slot_is_occupied self.now }
     {
         self.enlisted && self.run.is_some()
     }
 
     /// Whether its run is awake and not CPU intensive, so that it keeps others from starting.
     pub(crate) fn is_holding(&self) -> bool
-        ensures { result ≡ is_holding self.now }
+        ensures { result ≡ slot_is_holding self.now }
     {
         !self.asleep && self.run.is_some_and(|task| !task.intensive)
     }

@@ -1,7 +1,7 @@
 ghost use Rattle.std.specs.Prelude.{◌≡◌, ◌<◌, ◌≤◌, length, map, count_by, find, IsSome, IfSome, IfOk, Some};
 ghost use Rattle.std.specs.List.{range_with_len, list_any};
 ghost use Rattle.cmwq_model.specs.Prelude.{has_spare};
-ghost use Rattle.cmwq_pool.specs.Slots.{new_slot, slot_at, is_idle, is_occupied, runnable, indices, is_other_idle, is_reserve_at, enlisted_by, slot_running, slot_free, with_slot, with_enlisted, slots_started};
+ghost use Rattle.cmwq_pool.specs.Slots.{new_slot, slot_at, slot_is_idle, slot_is_occupied, slots_runnable, slot_indices, slot_is_other_idle, is_reserve_at, slots_enlisted_by, slot_running, slot_free, with_slot, with_enlisted, slots_started};
 
 use crate::slot::Slot;
 use crate::task::Task;
@@ -17,19 +17,19 @@ pub(crate) fn new_slots(alloc: Global, workers: u8) -> Result<Vec<Slot>, AllocEr
 /// How many slots hold the pool.
 pub(crate) fn count_holding(slots: &[Slot]) -> u32
     requires { length slots.now ≤ 8 }
-    ensures { result ≡ runnable slots.now }
+    ensures { result ≡ slots_runnable slots.now }
 {
     slots.iter().filter(|slot| slot.is_holding()).count() as u32
 }
 
 fn count_idle(slots: &[Slot]) -> usize
-    ensures { result ≡ count_by is_idle slots.now }
+    ensures { result ≡ count_by slot_is_idle slots.now }
 {
     slots.iter().filter(|slot| slot.is_idle()).count()
 }
 
 fn count_occupied(slots: &[Slot]) -> usize
-    ensures { result ≡ count_by is_occupied slots.now }
+    ensures { result ≡ count_by slot_is_occupied slots.now }
 {
     slots.iter().filter(|slot| slot.is_occupied()).count()
 }
@@ -37,7 +37,7 @@ fn count_occupied(slots: &[Slot]) -> usize
 /// Whether more than two are idle, and those past two are a quarter of the occupied ones or more.
 pub(crate) fn have_spare(slots: &[Slot]) -> bool
     requires { length slots.now ≤ 8 }
-    ensures { result ≡ has_spare (count_by is_idle slots.now) (count_by is_occupied slots.now) }
+    ensures { result ≡ has_spare (count_by slot_is_idle slots.now) (count_by slot_is_occupied slots.now) }
 {
     let idle = count_idle(slots);
     idle > 2 && count_occupied(slots) <= (idle - 2) * 4
@@ -46,7 +46,7 @@ pub(crate) fn have_spare(slots: &[Slot]) -> bool
 /// Whether a worker other than this one is idle.
 fn has_other_idle(slots: &[Slot], worker: u8) -> bool
     requires { length slots.now ≤ 8 }
-    ensures { result ≡ list_any (is_other_idle slots.now worker) (indices slots.now) }
+    ensures { result ≡ list_any (slot_is_other_idle slots.now worker) (slot_indices slots.now) }
 {
     (0..slots.len() as u8).any(|index| index != worker && slots[usize::from(index)].is_idle())
 }
@@ -54,7 +54,7 @@ fn has_other_idle(slots: &[Slot], worker: u8) -> bool
 /// The first worker of the reserve.
 fn first_reserve(slots: &[Slot]) -> Option<u8>
     requires { length slots.now ≤ 8 }
-    ensures { result ≡ find (is_reserve_at slots.now) (indices slots.now) }
+    ensures { result ≡ find (is_reserve_at slots.now) (slot_indices slots.now) }
 {
     (0..slots.len() as u8).find(|index| !slots[usize::from(*index)].enlisted)
 }
@@ -62,7 +62,7 @@ fn first_reserve(slots: &[Slot]) -> Option<u8>
 /// Whom a worker enlists as it starts: where no other is idle, the first of the reserve.
 pub(crate) fn enlisted_by(slots: &[Slot], worker: u8) -> Option<u8>
     requires { length slots.now ≤ 8 }
-    ensures { result ≡ enlisted_by slots.now worker }
+    ensures { result ≡ slots_enlisted_by slots.now worker }
 {
     if has_other_idle(slots, worker) {
         None
@@ -96,7 +96,7 @@ pub(crate) fn start_task(slots: &mut [Slot], worker: u8, task: Task) -> Option<u
     requires few { length slots.old ≤ 8 }
     requires worker { worker < length slots.old }
     ensures started { slots.new ≡ slots_started slots.old worker task }
-    ensures enlisted { result ≡ enlisted_by slots.old worker }
+    ensures enlisted { result ≡ slots_enlisted_by slots.old worker }
 {
     let enlisted = enlisted_by(slots, worker);
     slot_task(slots, worker, task);

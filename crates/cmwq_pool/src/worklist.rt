@@ -1,7 +1,7 @@
 ghost use Rattle.std.specs.Prelude.{◌≡◌, ◌<◌, length, find, position, filter, nat_eq, IsSome, IfOk, Some, replicate, false, vec_capacity, All};
 ghost use Rattle.std.specs.List.{IsDistinct, list_any};
-ghost use Rattle.cmwq_pool.specs.PoolState.{is_like, is_not};
-ghost use Rattle.cmwq_pool.specs.Upkeep.{numbers_of, is_free};
+ghost use Rattle.cmwq_pool.specs.PoolState.{is_like, is_other_task};
+ghost use Rattle.cmwq_pool.specs.Upkeep.{task_numbers, is_free};
 
 use crate::task::Task;
 use cmwq_model::{ItemId, Number};
@@ -45,10 +45,10 @@ pub(crate) fn next_free(listed: &[Task], running: &[bool]) -> Option<Task>
 /// Takes the first task of an item that has no run from the list.
 pub(crate) fn take_next(listed: &mut Vec<Task>, running: &[bool]) -> Task
     requires in_range { All (λ t. t.item.0 < length running.now) listed.old.items }
-    requires numbers { IsDistinct nat_eq (numbers_of listed.old.items) }
+    requires numbers { IsDistinct nat_eq (task_numbers listed.old.items) }
     requires next { IsSome (find (is_free running.now) listed.old.items) }
     ensures first { find (is_free running.now) listed.old.items ≡ Some result }
-    ensures rest { listed.new.items ≡ filter (is_not result.number) listed.old.items }
+    ensures rest { listed.new.items ≡ filter (is_other_task result.number) listed.old.items }
     ensures room { vec_capacity listed.new ≡ vec_capacity listed.old }
 {
     let index = first_free(listed, running).unwrap();
@@ -57,7 +57,7 @@ pub(crate) fn take_next(listed: &mut Vec<Task>, running: &[bool]) -> Task
 
 /// Takes the task with this number from the list, if it stands there.
 pub(crate) fn take_number(listed: &mut Vec<Task>, number: Number)
-    ensures rest { listed.new.items ≡ filter (is_not number) listed.old.items }
+    ensures rest { listed.new.items ≡ filter (is_other_task number) listed.old.items }
     ensures room { vec_capacity listed.new ≡ vec_capacity listed.old }
 {
     listed.retain(|task| task.number != number);

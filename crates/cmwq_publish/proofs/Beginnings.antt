@@ -1,6 +1,5 @@
 -- Beginnings of one list.
-use Rattle.std.proofs.Common.{◌≡◌, ◌≤◌, List, [], ◌∷◌, length, refl, arith}
-use mathlib.Core.List.{IsPrefix}
+use Rattle.cmwq_publish.specs.Common.{◌≡◌, ◌≤◌, List, [], ◌∷◌, length, refl, arith, IsPrefix}
 
 -- of two beginnings of one list the shorter begins the longer
 pub shorter_begins : {A : Type 0} (xs ys zs : List A) → IsPrefix xs zs → IsPrefix ys zs → length xs ≤ length ys → IsPrefix xs ys

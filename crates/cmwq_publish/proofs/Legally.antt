@@ -1,15 +1,8 @@
 -- Histories as they grow at their end.
-use Rattle.std.proofs.Common.{◌≡◌, ℕ, ◌+◌, ◌≤◌, ◌==◌, List, [], ◌∷◌, ◌++◌, length, Bool, true, false, cond, refl, ap, sym, ◌∙◌, subst, arith}
-use Rattle.std.specs.Prelude.{if◌then◌else◌, option_map}
+use Rattle.cmwq_publish.specs.Common.{◌≡◌, ℕ, ◌+◌, ◌≤◌, ◌==◌, List, [], ◌∷◌, ◌++◌, length, Bool, true, false, cond, refl, ap, sym, ◌∙◌, subst, arith, if◌then◌else◌, option_map, reverse-append, length-reverse, CallerId, Who, Caller, Worker, Entry, is_at, is_by, same_who, serial_of, Layout, booking, item_start, queueings, IsLegal, past_of, bits}
 use Rattle.std.proofs.lemmas.Bool.{eqb-true}
-use Rattle.std.proofs.lemmas.List.{reverse-append, length-reverse}
 use Rattle.std.proofs.lemmas.List.Sums.{count_by-le-length, sum_by-cons}
-use Rattle.cmwq_model.specs.declared.id.CallerId.{CallerId}
-use Rattle.cmwq_model.specs.declared.id.Who.{Who}
-use Rattle.cmwq_model.specs.declared.id.Who.TheVariants.{Caller, Worker}
-use Rattle.cmwq_model.specs.declared.entry.Entry.{Entry}
-use Rattle.cmwq_model.specs.Prelude.{is_at, is_by, same_who, serial_of, Layout, booking, item_start, queueings, IsLegal, past_of, bits}
-use Rattle.cmwq_publish.specs.Marked.{caller_of}
+use Rattle.cmwq_publish.specs.Marked.{caller_number_of}
 
 pub newest_is_first : (log : List Entry) (e : Entry) → past_of (log ++ e ∷ []) ≡ e ∷ past_of log
 newest_is_first log e = reverse-append log (e ∷ [])
@@ -54,7 +47,7 @@ of_caller past e d c false other is own = omega arith
 
 -- how many entries a caller has after one more
 pub next_serial : (past : List Entry) (e : Entry) (who : Who) (c : ℕ) → e.who ≡ who → e.serial ≡ serial_of past e.who
-    → serial_of (e ∷ past) (caller c) ≡ (if is_at (option_map (λ (t : CallerId). t.0) (caller_of who)) c then e.serial + 1 else serial_of past (caller c))
+    → serial_of (e ∷ past) (caller c) ≡ (if is_at (option_map (λ (t : CallerId). t.0) (caller_number_of who)) c then e.serial + 1 else serial_of past (caller c))
 next_serial past e (Caller d) c is own =
     counted_one past e (caller c) ∙ ap (λ w. cond (same_who w (caller c)) 1 0 + serial_of past (caller c)) is ∙ of_caller past e d c (d.0 == c) refl is own
 next_serial past e (Worker w) c is own =

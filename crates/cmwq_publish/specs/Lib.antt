@@ -1,3 +1,4 @@
+pub mod Common
 pub mod Unnamed
 pub mod Log
 pub mod Next

@@ -1,11 +1,9 @@
 -- The history as a log that only grows.
-use Rattle.std.specs.Prelude.{ℕ, ◌≡◌, ◌==◌, true, List, [], ◌∷◌, ◌++◌, length, MatchBool}
-use Rattle.logbook.specs.Pages.{Cell, Step, View, Book, Named}
-use Rattle.cmwq_model.specs.declared.entry.Entry.{Entry}
+use Rattle.cmwq_publish.specs.Common.{ℕ, ◌≡◌, ◌==◌, true, List, [], ◌∷◌, ◌++◌, length, MatchBool, Cell, Step, View, Book, Named, Entry}
 
 -- the first word is the length of the log. A book has two words, of which this one leaves the second at 0
-abbrev pub IsKept : List Cell → List Entry → Type 0
-IsKept cells log = cells ≡ (length log, true) ∷ (0, true) ∷ []
+abbrev pub IsLogKept : List Cell → List Entry → Type 0
+IsLogKept cells log = cells ≡ (length log, true) ∷ (0, true) ∷ []
 
 abbrev pub head_of : Book → Named
 head_of b = record { tracked = true; key = 0; book = b }

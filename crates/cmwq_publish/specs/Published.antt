@@ -1,20 +1,12 @@
 -- What readers read, and the rule over it.
-use Rattle.std.specs.Prelude.{◌≡◌, ℕ, ◌<◌, List, [], length, slice_index, Option, Some, None, MatchOption}
-use mathlib.Core.Option.{some}
-use lib.ListN.{get_elem?}
-use Rattle.logbook.specs.Pages.{Book}
-use Rattle.cmwq_model.specs.declared.entry.Entry.{Entry}
-use Rattle.cmwq_model.specs.declared.id.CallerId.{CallerId}
-use Rattle.cmwq_model.specs.declared.id.ItemId.{ItemId}
-use Rattle.cmwq_model.specs.declared.id.Who.TheVariants.{Caller}
-use Rattle.cmwq_model.specs.Prelude.{serial_of, Layout, IsLegal, past_of, bits}
+use Rattle.cmwq_publish.specs.Common.{◌≡◌, ℕ, ◌<◌, List, [], length, slice_index, Option, Some, None, MatchOption, some, get_elem?, Book, Entry, CallerId, ItemId, Caller, serial_of, Layout, IsLegal, past_of, bits}
 use Rattle.cmwq_publish.specs.declared.versions.Versions.{Versions}
 use Rattle.cmwq_publish.specs.declared.versions.Known.{Known}
 use Rattle.cmwq_publish.specs.declared.versions.Publish.{Publish}
-use Rattle.cmwq_publish.specs.Marked.{marked, counted}
+use Rattle.cmwq_publish.specs.Marked.{bits_with_mark, counts_with_entry}
 
 -- the entries are a legal history of this shape, and these are their number, the bits of all items after them, and how many each caller has
-pub record IsVersion (x : Versions) : Type 0 where
+pub record AreVersions (x : Versions) : Type 0 where
   pub legal : IsLegal x.shape (past_of x.seen.log)
   pub len_is : x.len ≡ length x.seen.log
   pub items : length x.bits.items ≡ x.shape.items
@@ -23,8 +15,8 @@ pub record IsVersion (x : Versions) : Type 0 where
   pub serials_are : (c : ℕ) → c < x.shape.callers → slice_index x.serials.items c ≡ serial_of (past_of x.seen.log) (Caller (record { 0 = c }))
 
 -- the version is of this hub
-abbrev pub IsOf : Layout → Book → Versions → Type 0
-IsOf layout book x = (x.shape ≡ layout) × (x.seen.book ≡ book)
+abbrev pub AreVersionsOf : Layout → Book → Versions → Type 0
+AreVersionsOf layout book x = (x.shape ≡ layout) × (x.seen.book ≡ book)
 
 -- the place knows that it is of this hub
 abbrev pub IsOurs : Layout → Book → Option Known → Type 0
@@ -32,41 +24,41 @@ IsOurs layout book v = MatchOption v ⊥ (λ k. (k.shape ≡ layout) × (k.token
 
 -- the hub that the place knows, if any, is the version's
 abbrev pub Fits : Versions → Option Known → Type 0
-Fits x v = (layout : Layout) (book : Book) → IsOurs layout book v → IsOf layout book x
+Fits x v = (layout : Layout) (book : Book) → IsOurs layout book v → AreVersionsOf layout book x
 
 -- the rule: the version is right, and of the hub that the places know
-abbrev pub Holds : Versions → List (Option Known) → Type 0
-Holds x views = IsVersion x × ((place : ℕ) (v : Option Known) → get_elem? views place ≡ some v → Fits x v)
+abbrev pub HoldVersions : Versions → List (Option Known) → Type 0
+HoldVersions x views = AreVersions x × ((place : ℕ) (v : Option Known) → get_elem? views place ≡ some v → Fits x v)
 
-abbrev pub newcomer : Option Known
-newcomer = None
+abbrev pub no_version : Option Known
+no_version = None
 
 abbrev pub knows : Versions → Option Known
 knows x = Some (record { shape = x.shape; token = x.seen })
 
 -- the place now knows the hub of the published version, which is right and of the hub that it knew
 abbrev pub Sees : Option Known → Versions → Versions → Option Known → Type 0
-Sees v x y w = IsVersion y × (w ≡ knows y) × Fits y v
+Sees v x y w = AreVersions y × (w ≡ knows y) × Fits y v
 
 -- the version that the mark makes
 pub record IsMadeBy (x : Versions) (op : Publish) (y : Versions) : Type 0 where
   pub shape : y.shape ≡ x.shape
-  pub bits : y.bits.items ≡ marked x.bits.items op.item op.bits
-  pub serials : y.serials.items ≡ counted x.serials.items op.caller op.serial
+  pub bits : y.bits.items ≡ bits_with_mark x.bits.items op.item op.bits
+  pub serials : y.serials.items ≡ counts_with_entry x.serials.items op.caller op.serial
   pub len : y.len ≡ op.len
   pub seen : y.seen ≡ op.seen
 
 -- the mark makes a right version of the same hub
-abbrev pub Follows : Versions → Publish → Type 0
-Follows x op = (op.seen.book ≡ x.seen.book) × ((y : Versions) → IsMadeBy x op y → IsVersion x → IsVersion y)
+abbrev pub FollowsVersions : Versions → Publish → Type 0
+FollowsVersions x op = (op.seen.book ≡ x.seen.book) × ((y : Versions) → IsMadeBy x op y → AreVersions x → AreVersions y)
 
 -- it has made it, and the writer's place knows the hub
-abbrev pub Shows : Versions → Publish → Versions → Option Known → Type 0
-Shows x op y w = IsMadeBy x op y × (w ≡ knows y)
+abbrev pub ShowsVersion : Versions → Publish → Versions → Option Known → Type 0
+ShowsVersion x op y w = IsMadeBy x op y × (w ≡ knows y)
 
 -- the version shows these entries of this hub, and no mark waits
 abbrev pub IsOut : Layout → Book → List Entry → Versions → List Publish → Type 0
-IsOut layout book log x waiting = IsOf layout book x × (x.seen.log ≡ log) × (waiting ≡ [])
+IsOut layout book log x waiting = AreVersionsOf layout book x × (x.seen.log ≡ log) × (waiting ≡ [])
 
 -- the bits of an item after these entries, and how many of them a caller has made
 abbrev pub IsReading : Layout → ItemId → CallerId → List Entry → ℕ → ℕ → Type 0

@@ -1,7 +1,5 @@
 -- A published history that has no name yet: which hub it will be, and how many readers it has.
-use Rattle.std.specs.Prelude.{ℕ, []}
-use Rattle.logbook.specs.Pages.{Book}
-use Rattle.cmwq_model.specs.Prelude.{Layout}
+use Rattle.cmwq_publish.specs.Common.{ℕ, [], Book, Layout}
 
 pub record Unnamed : Type 0 where
   pub layout : Layout
@@ -12,5 +10,5 @@ pub record Unnamed : Type 0 where
 abbrev pub no_layout : Layout
 no_layout = record { cpus = 0; workers = 0; callers = 0; items = 0; room = 0; queues = [] }
 
-abbrev pub no_book : Book
-no_book = record { number = 0; log_name = 0; cells_name = 0 }
+abbrev pub unnamed_book : Book
+unnamed_book = record { number = 0; log_name = 0; cells_name = 0 }

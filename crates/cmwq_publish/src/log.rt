@@ -13,9 +13,9 @@ pub struct Law;
 impl Rule<Entry, u64> for Law {
     ghost use Rattle.std.specs.Prelude.{[]};
     ghost use base.Fml.{ftrue};
-    ghost use Rattle.cmwq_publish.specs.Log.{IsKept};
+    ghost use Rattle.cmwq_publish.specs.Log.{IsLogKept};
 
-    ghost holds = { λ cells log. IsKept cells log };
+    ghost holds = { λ cells log. IsLogKept cells log };
 
     ghost first = { [] };
 

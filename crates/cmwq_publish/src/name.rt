@@ -12,9 +12,9 @@ pub trait HubName: Ledger {
 }
 
 impl HubName for Brand {
-    ghost use Rattle.cmwq_publish.specs.Unnamed.{no_book, no_layout};
+    ghost use Rattle.cmwq_publish.specs.Unnamed.{unnamed_book, no_layout};
 
-    ghost book = { no_book };
+    ghost book = { unnamed_book };
 
     ghost layout = { no_layout };
 }

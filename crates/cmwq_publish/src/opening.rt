@@ -1,6 +1,6 @@
 ghost use Rattle.std.specs.Prelude.{◌≡◌, [], length, drop, replicate, All, IfOk, MatchResult};
 ghost use Rattle.left_right.specs.Sides.{view};
-ghost use Rattle.cmwq_publish.specs.Published.{IsVersion, IsOf, IsOut, IsOurs};
+ghost use Rattle.cmwq_publish.specs.Published.{AreVersions, AreVersionsOf, IsOut, IsOurs};
 
 use crate::log::{Head, Length, Log, Token};
 use crate::name::HubName;
@@ -21,7 +21,7 @@ const MOST_READERS: usize = 0xffff_ffff;
 // No entry, no item that is pending or runs, and no caller that has made one.
 fn empty(alloc: Global, shape: &Shape, seen: Token) -> Result<Versions, NoMemory>
     requires { seen.log ≡ [] }
-    ensures { IfOk result (λ x. IsVersion x × (x.shape ≡ shape.now) × (x.seen ≡ seen) × (x.len ≡ 0) × (x.bits.items ≡ replicate shape.now.items 0) × (x.serials.items ≡ replicate shape.now.callers 0)) }
+    ensures { IfOk result (λ x. AreVersions x × (x.shape ≡ shape.now) × (x.seen ≡ seen) × (x.len ≡ 0) × (x.bits.items ≡ replicate shape.now.items 0) × (x.serials.items ≡ replicate shape.now.callers 0)) }
 {
     let bits = Vec::from_elem(alloc, 0u8, usize::from(shape.counts().items))?;
     let serials = Vec::from_elem(alloc, 0u64, usize::from(shape.counts().callers))?;

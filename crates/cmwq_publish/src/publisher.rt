@@ -1,8 +1,8 @@
 ghost use Rattle.std.specs.Prelude.{◌≡◌, ◌<◌, ◌^◌, ◌++◌, ◌∷◌, [], length, drop, MatchResult};
 ghost use Rattle.left_right.specs.Sides.{view};
-ghost use Rattle.cmwq_publish.specs.Marked.{caller_of};
-ghost use Rattle.cmwq_publish.specs.Next.{IsNext};
-ghost use Rattle.cmwq_publish.specs.Published.{Follows, Shows, IsOut};
+ghost use Rattle.cmwq_publish.specs.Marked.{caller_number_of};
+ghost use Rattle.cmwq_publish.specs.Next.{IsNextMark};
+ghost use Rattle.cmwq_publish.specs.Published.{FollowsVersions, ShowsVersion, IsOut};
 
 use crate::log::Head;
 use crate::name::HubName;
@@ -35,7 +35,7 @@ impl<N: HubName> Model for Publisher<N> {
 
 // The caller, where it is one.
 fn caller_of(who: Who) -> Option<CallerId>
-    ensures { result ≡ caller_of who }
+    ensures { result ≡ caller_number_of who }
 {
     match who {
         Who::Caller(caller) => Some(caller),
@@ -59,7 +59,7 @@ impl<N: HubName> Publisher<N> {
     /// Publishes one more entry, with the bits that its mark leaves. It waits for readers that still read the version
     /// before the last. After `NoMemory` nothing more is published, and each later call answers `NoMemory` too.
     pub fn publish<R: Wait>(&mut self, rt: &R, mark: Mark) -> Result<(), NoMemory>
-        requires next { IsNext N.layout self.old mark }
+        requires next { IsNextMark N.layout self.old mark }
         requires few { length self.old < 2 ^ 62 }
         ensures { MatchResult result (λ _. self.new ≡ self.old ++ mark.entry ∷ []) (λ _. self.new ≡ self.old) }
     {
@@ -78,8 +78,8 @@ impl<N: HubName> Publisher<N> {
             &mut self.writer,
             publish,
             |writer, publish| -> (BitsWriter, Result<(), NoMemory>)
-                requires { (drop writer.behind writer.log.items ≡ []) × Follows writer.desk.shown.value publish }
-                ensures { (drop result.0.behind result.0.log.items ≡ []) × MatchResult result.1 (λ _. Shows writer.desk.shown.value publish result.0.desk.shown.value (view result.0.desk.place)) (λ _. result.0.desk.shown.value ≡ writer.desk.shown.value) }
+                requires { (drop writer.behind writer.log.items ≡ []) × FollowsVersions writer.desk.shown.value publish }
+                ensures { (drop result.0.behind result.0.log.items ≡ []) × MatchResult result.1 (λ _. ShowsVersion writer.desk.shown.value publish result.0.desk.shown.value (view result.0.desk.place)) (λ _. result.0.desk.shown.value ≡ writer.desk.shown.value) }
             { put_out(rt, writer, publish) },
         )?;
         self.prefix = prefix;

@@ -1,7 +1,7 @@
 //! One mark is published.
 ghost use Rattle.std.specs.Prelude.{◌≡◌, [], drop, MatchResult};
 ghost use Rattle.left_right.specs.Sides.{view};
-ghost use Rattle.cmwq_publish.specs.Published.{Follows, Shows};
+ghost use Rattle.cmwq_publish.specs.Published.{FollowsVersions, ShowsVersion};
 
 use crate::versions::{BitsWriter, Look, Publish};
 use cmwq_model::NoMemory;
@@ -14,9 +14,9 @@ pub(crate) fn put_out<R: Wait>(
     mark: Publish,
 ) -> (BitsWriter, Result<(), NoMemory>)
     requires idle { drop writer.behind writer.log.items ≡ [] }
-    requires follows { Follows writer.desk.shown.value mark }
+    requires follows { FollowsVersions writer.desk.shown.value mark }
     ensures idle { drop result.0.behind result.0.log.items ≡ [] }
-    ensures shown { MatchResult result.1 (λ _. Shows writer.desk.shown.value mark result.0.desk.shown.value (view result.0.desk.place)) (λ _. result.0.desk.shown.value ≡ writer.desk.shown.value) }
+    ensures shown { MatchResult result.1 (λ _. ShowsVersion writer.desk.shown.value mark result.0.desk.shown.value (view result.0.desk.place)) (λ _. result.0.desk.shown.value ≡ writer.desk.shown.value) }
 {
     let Ok(()) = writer.append(mark) else {
         return (writer, Err(NoMemory));

@@ -1,5 +1,5 @@
 //! What readers read: the bits of all items after some beginning of the history.
-ghost use Rattle.cmwq_publish.specs.Published.{IsVersion, IsOf, IsReading};
+ghost use Rattle.cmwq_publish.specs.Published.{AreVersions, AreVersionsOf, IsReading};
 
 use crate::log::Token;
 use crate::name::HubName;
@@ -34,13 +34,13 @@ pub struct Publish {
 }
 
 impl Absorb<Publish> for Versions {
-    ghost use Rattle.cmwq_publish.specs.Marked.{marked, counted};
+    ghost use Rattle.cmwq_publish.specs.Marked.{bits_with_mark, counts_with_entry};
 
     type State = (Shape, [u8; 0], [u64; 0], u64, Token);
 
     ghost state = { λ v. (v.shape, v.bits.items, v.serials.items, v.len, v.seen) };
 
-    ghost applied = { λ s op. (s.0, marked s.1 op.item op.bits, counted s.2 op.caller op.serial, op.len, op.seen) };
+    ghost applied = { λ s op. (s.0, bits_with_mark s.1 op.item op.bits, counts_with_entry s.2 op.caller op.serial, op.len, op.seen) };
 
     ghost never_fails = { Unit {0} };
 
@@ -74,8 +74,8 @@ pub struct Reading<N: HubName> {
 impl Versions {
     /// The entries that made the version, the bits of an item after them, and how many are this caller's.
     pub fn read<N: HubName>(&self, item: ItemId, caller: CallerId) -> Reading<N>
-        requires version { IsVersion self.now }
-        requires ours { IsOf N.layout N.book self.now }
+        requires version { AreVersions self.now }
+        requires ours { AreVersionsOf N.layout N.book self.now }
         ensures { IsReading N.layout item caller result.prefix result.bits result.serial }
     {
         let bits = self.bits.get(usize::from(item.0)).copied();
@@ -98,11 +98,11 @@ pub struct Known {
 pub struct Published;
 
 impl Protocol<Versions, Option<Known>> for Published {
-    ghost use Rattle.cmwq_publish.specs.Published.{Holds, newcomer};
+    ghost use Rattle.cmwq_publish.specs.Published.{HoldVersions, no_version};
 
-    ghost holds = { Holds };
+    ghost holds = { HoldVersions };
 
-    ghost first = { newcomer };
+    ghost first = { no_version };
 }
 
 /// What a publish and an enter tell: the place knows the hub of the published version, which is right.
@@ -124,11 +124,11 @@ impl Split<Option<Known>> for Notes {
 }
 
 impl Join<Option<Known>> for Notes {
-    ghost use Rattle.cmwq_publish.specs.Published.{newcomer};
+    ghost use Rattle.cmwq_publish.specs.Published.{no_version};
 
     ghost both = { λ v w. w };
 
-    ghost spent = { newcomer };
+    ghost spent = { no_version };
 }
 
 /// What reads a hub's published versions.

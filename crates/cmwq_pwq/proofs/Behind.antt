@@ -1,13 +1,6 @@
 -- What becomes active after an entry that changes no width.
-use Rattle.std.proofs.Common.{append-nil, ◌≡◌, ℕ, ◌+◌, ◌-◌, ◌<◌, ◌≤◌, Bool, true, false, ◌&&◌, ◌==◌, List, [], ◌∷◌, ◌++◌, length, filter, cond, count_by, nat_lt, refl, sym, ap, ap₂, ◌∙◌, subst, arith, length-append}
-use Rattle.std.specs.Prelude.{slice_set, if◌then◌else◌}
-use Rattle.std.specs.List.{AllByRecursion}
-use Rattle.std.proofs.lemmas.Bool.{lt-ltb, le-ltb}
-use Rattle.std.proofs.lemmas.List.{append_assoc, length-set}
-use Rattle.cmwq_model.specs.declared.record.Queueing.{Queueing}
-use Rattle.cmwq_theory_steps.specs.Places.{is_on}
-use Rattle.cmwq_theory_active.proofs.Lists.{All_map, All_both, All_filter}
-use Rattle.cmwq_pwq.specs.Pwqs.{PwqState, place_of, count_at, count_of_same_pwq, is_waiting, is_other, ended, opened, AreBelowMaxActive, Passes, IsPassed, IsBehind, AreBehind, IsFirstTaken}
+use Rattle.cmwq_pwq.specs.Common.{append-nil, ◌≡◌, ℕ, ◌+◌, ◌-◌, ◌<◌, ◌≤◌, Bool, true, false, ◌&&◌, ◌==◌, List, [], ◌∷◌, ◌++◌, length, filter, cond, count_by, nat_lt, refl, sym, ap, ap₂, ◌∙◌, subst, arith, length-append, slice_set, if◌then◌else◌, AllByRecursion, lt-ltb, le-ltb, append_assoc, length-set, Queueing, is_on, All_map, All_both, All_filter}
+use Rattle.cmwq_pwq.specs.Pwqs.{PwqState, place_of, count_at, count_of_same_pwq, is_waiting, is_other_waiting, pwqs_without_open, pwqs_with_open, AreBelowMaxActive, Passes, IsPassed, IsBehind, AreBehind, IsFirstTaken}
 use Rattle.cmwq_pwq.proofs.Passes.{count_set, on_parts, on_itself, passes_kept, passes_activated, way_now}
 
 -- ---- the pass over a list of which nothing is below max_active
@@ -170,10 +163,10 @@ length_split before y after = let a = length-append before after in let b = leng
 
 module _ (wide : ℕ → ℕ) (l : PwqState) (x : Queueing) (cpu : x.place.cpu.0 < 4) (at : place_of x.place.queue.0 x.place.cpu.0 < length l.counts) where
   module _ (active : is_waiting l x ≡ false) (some : 0 < count_of_same_pwq l.counts x) (behind : AreBehind wide l.counts l.waiting) where
-    as_active : (new : PwqState) → IsPassed wide (record l { counts = one_less l.counts x }) new → IsPassed wide (ended l x) new
-    as_active new p = subst (λ b. IsPassed wide (if b then record l { waiting = filter (is_other x.number) l.waiting } else record l { counts = one_less l.counts x }) new) (sym active) p
+    as_active : (new : PwqState) → IsPassed wide (record l { counts = one_less l.counts x }) new → IsPassed wide (pwqs_without_open l x) new
+    as_active new p = subst (λ b. IsPassed wide (if b then record l { waiting = filter (is_other_waiting x.number) l.waiting } else record l { counts = one_less l.counts x }) new) (sym active) p
 
-    pub ended_makes_way : (rest : List Queueing) (y : Queueing) → count_of_same_pwq l.counts x ≤ wide x.place.queue.0 → IsFirstTaken x.place.queue.0 x.place.cpu.0 l.waiting rest y → IsPassed wide (ended l x) (record { room = l.room; counts = l.counts; waiting = rest; activated = y ∷ [] })
+    pub ended_makes_way : (rest : List Queueing) (y : Queueing) → count_of_same_pwq l.counts x ≤ wide x.place.queue.0 → IsFirstTaken x.place.queue.0 x.place.cpu.0 l.waiting rest y → IsPassed wide (pwqs_without_open l x) (record { room = l.room; counts = l.counts; waiting = rest; activated = y ∷ [] })
     ended_makes_way rest y full first = as_active (record { room = l.room; counts = l.counts; waiting = rest; activated = y ∷ [] }) (record {
       passes = λ way have. first_takes wide l.counts x cpu at some way l.waiting have behind rest y full first;
       many = sym (less_many wide l.counts x cpu at some);
@@ -181,7 +174,7 @@ module _ (wide : ℕ → ℕ) (l : PwqState) (x : Queueing) (cpu : x.place.cpu.0
       sorted = ap (λ ys. length ys + 1) first.left ∙ (length_split first.before y first.after ∙ ap (λ ys. length ys) (sym first.stood));
     })
 
-    ended_passed : ((way : Queueing → Bool) → AreBelowMaxActive way wide (one_less l.counts x) l.waiting → Passes way l.waiting (one_less l.counts x) (one_less l.counts x) l.waiting []) → IsPassed wide (ended l x) (record { room = l.room; counts = one_less l.counts x; waiting = l.waiting; activated = [] })
+    ended_passed : ((way : Queueing → Bool) → AreBelowMaxActive way wide (one_less l.counts x) l.waiting → Passes way l.waiting (one_less l.counts x) (one_less l.counts x) l.waiting []) → IsPassed wide (pwqs_without_open l x) (record { room = l.room; counts = one_less l.counts x; waiting = l.waiting; activated = [] })
     ended_passed passes = as_active (record { room = l.room; counts = one_less l.counts x; waiting = l.waiting; activated = [] }) (record {
       passes = passes;
       many = refl;
@@ -189,10 +182,10 @@ module _ (wide : ℕ → ℕ) (l : PwqState) (x : Queueing) (cpu : x.place.cpu.0
       sorted = (let zero : length {A = Queueing} [] ≡ 0 = refl in omega arith);
     })
 
-    pub ended_over_width : wide x.place.queue.0 < count_of_same_pwq l.counts x → IsPassed wide (ended l x) (record { room = l.room; counts = one_less l.counts x; waiting = l.waiting; activated = [] })
+    pub ended_over_width : wide x.place.queue.0 < count_of_same_pwq l.counts x → IsPassed wide (pwqs_without_open l x) (record { room = l.room; counts = one_less l.counts x; waiting = l.waiting; activated = [] })
     ended_over_width more = ended_passed (λ way have. none_takes wide l.counts x cpu at some way l.waiting have behind more)
 
-    pub ended_alone : AllByRecursion (λ y. is_on x.place.queue.0 x.place.cpu.0 y ≡ false) l.waiting → IsPassed wide (ended l x) (record { room = l.room; counts = one_less l.counts x; waiting = l.waiting; activated = [] })
+    pub ended_alone : AllByRecursion (λ y. is_on x.place.queue.0 x.place.cpu.0 y ≡ false) l.waiting → IsPassed wide (pwqs_without_open l x) (record { room = l.room; counts = one_less l.counts x; waiting = l.waiting; activated = [] })
     ended_alone none = ended_passed (λ way have. none_there wide l.counts x cpu at some way l.waiting have behind none)
 
   -- ---- one is opened
@@ -207,7 +200,7 @@ module _ (wide : ℕ → ℕ) (l : PwqState) (x : Queueing) (cpu : x.place.cpu.0
     way_last : (way : Queueing → Bool) → AreBelowMaxActive way wide before.counts (before.waiting ++ x ∷ []) → way x ≡ nat_lt (count_of_same_pwq l.counts x) (wide x.place.queue.0)
     way_last way have = way_now way before.counts before.waiting x wide (before.waiting ++ x ∷ []) [] l.counts l.waiting l.activated have refl (passed.passes way (shorter way have)) cpu there
 
-    pub opened_active : count_of_same_pwq l.counts x < wide x.place.queue.0 → IsPassed wide (opened before x) (record { room = l.room; counts = slice_set l.counts (place_of x.place.queue.0 x.place.cpu.0) (count_of_same_pwq l.counts x + 1); waiting = l.waiting; activated = l.activated ++ x ∷ [] })
+    pub opened_active : count_of_same_pwq l.counts x < wide x.place.queue.0 → IsPassed wide (pwqs_with_open before x) (record { room = l.room; counts = slice_set l.counts (place_of x.place.queue.0 x.place.cpu.0) (count_of_same_pwq l.counts x + 1); waiting = l.waiting; activated = l.activated ++ x ∷ [] })
     opened_active free = record {
       passes = λ way have. passes_activated way before.counts before.waiting x l.counts l.waiting l.activated (passed.passes way (shorter way have)) (way_last way have ∙ lt-ltb (count_of_same_pwq l.counts x) (wide x.place.queue.0) free) cpu there;
       many = length-set l.counts (place_of x.place.queue.0 x.place.cpu.0) (count_of_same_pwq l.counts x + 1) ∙ passed.many;
@@ -215,7 +208,7 @@ module _ (wide : ℕ → ℕ) (l : PwqState) (x : Queueing) (cpu : x.place.cpu.0
       sorted = let a = length-append l.activated (x ∷ []) in let b = length-append before.waiting (x ∷ []) in let c = passed.sorted in omega arith;
     }
 
-    pub opened_waits : wide x.place.queue.0 ≤ count_of_same_pwq l.counts x → IsPassed wide (opened before x) (record { room = l.room; counts = l.counts; waiting = l.waiting ++ x ∷ []; activated = l.activated })
+    pub opened_waits : wide x.place.queue.0 ≤ count_of_same_pwq l.counts x → IsPassed wide (pwqs_with_open before x) (record { room = l.room; counts = l.counts; waiting = l.waiting ++ x ∷ []; activated = l.activated })
     opened_waits full = record {
       passes = λ way have. passes_kept way before.counts before.waiting x l.counts l.waiting l.activated (passed.passes way (shorter way have)) (way_last way have ∙ le-ltb (count_of_same_pwq l.counts x) (wide x.place.queue.0) full);
       many = passed.many;
@@ -232,14 +225,14 @@ nothing_ended wide l behind = record {
   sorted = (let zero : length {A = Queueing} [] ≡ 0 = refl in omega arith);
 }
 
-pub waiting_ended : (wide : ℕ → ℕ) (l : PwqState) (x : Queueing) → is_waiting l x ≡ true → AreBehind wide l.counts l.waiting → IsPassed wide (ended l x) (record { room = l.room; counts = l.counts; waiting = filter (is_other x.number) l.waiting; activated = [] })
+pub waiting_ended : (wide : ℕ → ℕ) (l : PwqState) (x : Queueing) → is_waiting l x ≡ true → AreBehind wide l.counts l.waiting → IsPassed wide (pwqs_without_open l x) (record { room = l.room; counts = l.counts; waiting = filter (is_other_waiting x.number) l.waiting; activated = [] })
 waiting_ended wide l x waits behind =
-    subst (λ b. IsPassed wide (if b then record l { waiting = filter (is_other x.number) l.waiting } else record l { counts = one_less l.counts x }) (record { room = l.room; counts = l.counts; waiting = filter (is_other x.number) l.waiting; activated = [] })) (sym waits) (nothing_ended wide (record l { waiting = filter (is_other x.number) l.waiting }) (All_filter (IsBehind wide l.counts) (is_other x.number) l.waiting (All_map _ _ l.waiting (λ y is passes. is) behind)))
+    subst (λ b. IsPassed wide (if b then record l { waiting = filter (is_other_waiting x.number) l.waiting } else record l { counts = one_less l.counts x }) (record { room = l.room; counts = l.counts; waiting = filter (is_other_waiting x.number) l.waiting; activated = [] })) (sym waits) (nothing_ended wide (record l { waiting = filter (is_other_waiting x.number) l.waiting }) (All_filter (IsBehind wide l.counts) (is_other_waiting x.number) l.waiting (All_map _ _ l.waiting (λ y is passes. is) behind)))
 
 -- what the last pass made active doesn't matter
-pub ended_as : (wide : ℕ → ℕ) (l : PwqState) (x : Queueing) (taken : List Queueing) (new : PwqState) → IsPassed wide (ended (record l { activated = taken }) x) new → IsPassed wide (ended l x) new
+pub ended_as : (wide : ℕ → ℕ) (l : PwqState) (x : Queueing) (taken : List Queueing) (new : PwqState) → IsPassed wide (pwqs_without_open (record l { activated = taken }) x) new → IsPassed wide (pwqs_without_open l x) new
 ended_as wide l x taken new p = by (is_waiting l x) p
   where
-    by : (b : Bool) → IsPassed wide (if b then record l { waiting = filter (is_other x.number) l.waiting; activated = taken } else record l { counts = one_less l.counts x; activated = taken }) new → IsPassed wide (if b then record l { waiting = filter (is_other x.number) l.waiting } else record l { counts = one_less l.counts x }) new
+    by : (b : Bool) → IsPassed wide (if b then record l { waiting = filter (is_other_waiting x.number) l.waiting; activated = taken } else record l { counts = one_less l.counts x; activated = taken }) new → IsPassed wide (if b then record l { waiting = filter (is_other_waiting x.number) l.waiting } else record l { counts = one_less l.counts x }) new
     by true p = record { passes = p.passes; many = p.many; room = p.room; sorted = p.sorted }
     by false p = record { passes = p.passes; many = p.many; room = p.room; sorted = p.sorted }

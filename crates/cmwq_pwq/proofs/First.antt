@@ -1,14 +1,8 @@
 -- What stands before the first that passes, and that none passes where none is found.
-use Rattle.std.proofs.Common.{◌≡◌, ℕ, ◌+◌, ◌<◌, ◌≤◌, cond, ltb, subst, Bool, true, false, zero, suc, List, [], ◌∷◌, ◌++◌, length, get_or, take, drop, Some, None, refl, sym, ap, ◌∙◌, arith}
-use Rattle.std.specs.Prelude.{position}
-use Rattle.std.specs.List.{AllByRecursion, position_or_len}
-use Rattle.std.proofs.lemmas.Bool.{ltb-false}
-use Rattle.std.proofs.lemmas.List.{drop_more, take-append-drop, take_all}
-use Rattle.std.proofs.lemmas.List.Sums.{fails_before_first}
+use Rattle.cmwq_pwq.specs.Common.{◌≡◌, ℕ, ◌+◌, ◌<◌, ◌≤◌, cond, ltb, subst, Bool, true, false, zero, suc, List, [], ◌∷◌, ◌++◌, length, get_or, take, drop, Some, None, refl, sym, ap, ◌∙◌, arith, position, AllByRecursion, position_or_len, ltb-false, drop_more, take-append-drop, take_all, fails_before_first, Queueing, is_on}
 use Rattle.std.proofs.lemmas.List.Quantifiers.{position-Some}
-use Rattle.cmwq_model.specs.declared.record.Queueing.{Queueing}
-use Rattle.cmwq_theory_steps.specs.Places.{is_on}
 use Rattle.cmwq_pwq.specs.Pwqs.{IsFirstTaken}
+use Rattle.cmwq_lemmas.proofs.Truth.{not_chosen}
 
 module _ {X : Type 0} (p : X → Bool) where
   before_first : (xs : List X) (i : ℕ) (d : X) → i ≤ length xs → ((k : ℕ) → k < i → p (get_or xs k d) ≡ false) → AllByRecursion (λ x. p x ≡ false) (take i xs)
@@ -16,10 +10,6 @@ module _ {X : Type 0} (p : X → Bool) where
   before_first [] (suc i) d inside before = absurd (omega arith)
   before_first (x ∷ xs) zero d inside before = tt
   before_first (x ∷ xs) (suc i) d inside before = (before 0 (omega arith), before_first xs i d (omega arith) (λ k less. before (suc k) (omega arith)))
-
-not_chosen : {X : Type 0} (b : Bool) (a : X) → cond b (Some a) None ≡ None → b ≡ false
-not_chosen true a h = cc
-not_chosen false a h = refl
 
 pub none_first : {X : Type 0} (p : X → Bool) (xs : List X) → position p xs ≡ None → AllByRecursion (λ x. p x ≡ false) xs
 none_first {X} p [] h = tt

@@ -1,18 +1,8 @@
 -- One step of the pass over what waits.
-use Rattle.std.proofs.Common.{append-nil, ◌≡◌, ◌≢◌, ℕ, ◌+◌, ◌*◌, ◌<◌, ◌≤◌, Bool, true, false, not, ◌&&◌, ◌==◌, List, [], ◌∷◌, ◌++◌, length, filter, take, drop, cond, get_or, count_by, nat_lt, refl, sym, ap, ap₂, ◌∙◌, subst, arith}
-use Rattle.std.specs.Prelude.{slice_set}
-use Rattle.std.proofs.lemmas.Bool.{eqb-true, eq-eqb, lt-ltb, le-ltb, and_parts}
+use Rattle.cmwq_pwq.specs.Common.{append-nil, ◌≡◌, ◌≢◌, ℕ, ◌+◌, ◌*◌, ◌<◌, ◌≤◌, Bool, true, false, not, ◌&&◌, ◌==◌, List, [], ◌∷◌, ◌++◌, length, filter, take, drop, cond, get_or, count_by, nat_lt, refl, sym, ap, ap₂, ◌∙◌, subst, arith, slice_set, eqb-true, eq-eqb, lt-ltb, le-ltb, and_parts, get_or-set_other, take_more, drop_more, take-append-drop, take_all, get_or_default, length-set, filter-append, sum_by-append, Queueing, is_on, count_by-cons}
 use Rattle.std.proofs.lemmas.Grind.{get_or-set_at}
-use Rattle.std.proofs.lemmas.List.{get_or-set_other, take_more, drop_more, take-append-drop, take_all, get_or_default, length-set}
-use Rattle.std.proofs.lemmas.List.Elements.{filter-append}
-use Rattle.std.proofs.lemmas.List.Sums.{sum_by-append}
-use Rattle.cmwq_model.specs.declared.record.Queueing.{Queueing}
-use Rattle.cmwq_theory_steps.specs.Places.{is_on}
-use Rattle.cmwq_theory_active.proofs.Lists.{count_by-cons}
 use Rattle.cmwq_pwq.specs.Pwqs.{place_of, count_at, count_of_same_pwq, AreBelowMaxActive, Passes}
-
-pub count_by-append : {X : Type 0} (p : X → Bool) (xs ys : List X) → count_by p (xs ++ ys) ≡ count_by p xs + count_by p ys
-count_by-append p xs ys = sum_by-append (λ x. cond (p x) 1 0) xs ys
+use Rattle.cmwq_lemmas.proofs.Lists.{count_append}
 
 pub count_by-one : {X : Type 0} (p : X → Bool) (x : X) → count_by p (x ∷ []) ≡ cond (p x) 1 0
 count_by-one p x = let e = count_by-cons p x [] in e ∙ (let zero : cond (p x) 1 0 + count_by p [] ≡ cond (p x) 1 0 = omega arith in zero)
@@ -65,7 +55,7 @@ module _ (way : Queueing → Bool) (old : List ℕ) (done : List Queueing) (x : 
         activated = ap (λ ys. ys ++ x ∷ []) p.activated ∙ sym more;
         many = length-set new (place_of x.place.queue.0 x.place.cpu.0) (count_of_same_pwq new x + 1) ∙ p.many;
         counts = λ q c less here.
-            let one_more : count_by (is_on q c) (filter way (done ++ x ∷ [])) ≡ count_by (is_on q c) (filter way done) + cond (is_on q c x) 1 0 = ap (count_by (is_on q c)) more ∙ (count_by-append (is_on q c) (filter way done) (x ∷ []) ∙ ap (λ n. count_by (is_on q c) (filter way done) + n) (count_by-one (is_on q c) x)) in
+            let one_more : count_by (is_on q c) (filter way (done ++ x ∷ [])) ≡ count_by (is_on q c) (filter way done) + cond (is_on q c x) 1 0 = ap (count_by (is_on q c)) more ∙ (count_append (is_on q c) (filter way done) (x ∷ []) ∙ ap (λ n. count_by (is_on q c) (filter way done) + n) (count_by-one (is_on q c) x)) in
             count_set new x (count_of_same_pwq new x + 1) q c few less there_new ∙ by q c less here (is_on q c x) refl ∙ ap (λ n. count_at old q c + n) (sym one_more);
       }
     where

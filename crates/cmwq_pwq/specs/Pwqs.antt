@@ -1,10 +1,6 @@
 -- What waits to become active, and how many are active of each queue on each CPU.
-use Rattle.std.specs.Prelude.{◌≡◌, ℕ, ◌+◌, ◌*◌, ◌-◌, ◌<◌, ◌≤◌, Bool, true, false, Option, Some, None, ◌&&◌, not, ◌==◌, if◌then◌else◌, List, [], ◌∷◌, ◌++◌, length, filter, count_by, replicate, nat_lt, slice_index, slice_set, slice_index_or, All}
-use Rattle.std.specs.List.{AllByRecursion, list_any}
-use Rattle.cmwq_model.specs.declared.record.Queueing.{Queueing}
+use Rattle.cmwq_pwq.specs.Common.{◌≡◌, ℕ, ◌+◌, ◌*◌, ◌-◌, ◌<◌, ◌≤◌, Bool, true, false, Option, Some, None, ◌&&◌, not, ◌==◌, if◌then◌else◌, List, [], ◌∷◌, ◌++◌, length, filter, count_by, replicate, nat_lt, slice_index, slice_set, slice_index_or, All, AllByRecursion, list_any, Queueing, no_queue, has_number, is_on}
 use Rattle.cmwq_model.specs.declared.shape.QueueShape.{QueueShape}
-use Rattle.cmwq_model.specs.Prelude.{no_queue, has_number}
-use Rattle.cmwq_theory_steps.specs.Places.{is_on}
 
 -- what waits, and what the last pass made active, both in their order; room is how many may wait
 pub record PwqState : Type 0 where
@@ -27,44 +23,44 @@ abbrev pub new_pwq_state : ℕ → ℕ → PwqState
 new_pwq_state queues room = record { room = room; counts = replicate (4 * queues) 0; waiting = []; activated = [] }
 
 -- a queueing that is opened waits
-abbrev pub opened : PwqState → Queueing → PwqState
-opened l x = record l { waiting = l.waiting ++ x ∷ [] }
+abbrev pub pwqs_with_open : PwqState → Queueing → PwqState
+pwqs_with_open l x = record l { waiting = l.waiting ++ x ∷ [] }
 
 -- one that ends waits no more, and where it didn't wait it was active
 abbrev pub is_waiting : PwqState → Queueing → Bool
 is_waiting l x = list_any (has_number x.number) l.waiting
 
-abbrev pub is_other : ℕ → Queueing → Bool
-is_other n x = not (x.number == n)
+abbrev pub is_other_waiting : ℕ → Queueing → Bool
+is_other_waiting n x = not (x.number == n)
 
-abbrev pub ended : PwqState → Queueing → PwqState
-ended l x =
-    if is_waiting l x then record l { waiting = filter (is_other x.number) l.waiting }
+abbrev pub pwqs_without_open : PwqState → Queueing → PwqState
+pwqs_without_open l x =
+    if is_waiting l x then record l { waiting = filter (is_other_waiting x.number) l.waiting }
     else record l { counts = slice_set l.counts (place_of x.place.queue.0 x.place.cpu.0) (count_of_same_pwq l.counts x - 1) }
 
--- it is told of a queueing that ended, and of one that was opened, where there was one
-abbrev pub told_ended : Option Queueing → PwqState → PwqState
-told_ended None l = l
-told_ended (Some x) l = ended l x
+-- after a queueing ended, and after one was opened, where there was one
+abbrev pub pwqs_after_end : Option Queueing → PwqState → PwqState
+pwqs_after_end None l = l
+pwqs_after_end (Some x) l = pwqs_without_open l x
 
-abbrev pub told_opened : Option Queueing → PwqState → PwqState
-told_opened None l = l
-told_opened (Some x) l = opened l x
+abbrev pub pwqs_after_opening : Option Queueing → PwqState → PwqState
+pwqs_after_opening None l = l
+pwqs_after_opening (Some x) l = pwqs_with_open l x
 
--- each may be told
-abbrev pub MayEnd : Option Queueing → PwqState → Type 0
-MayEnd None l = Unit {0}
-MayEnd (Some x) l = (place_of x.place.queue.0 x.place.cpu.0 < length l.counts) × (is_waiting l x ≡ false → 0 < count_of_same_pwq l.counts x)
+-- each call may be made
+abbrev pub MayEndInPwqs : Option Queueing → PwqState → Type 0
+MayEndInPwqs None l = Unit {0}
+MayEndInPwqs (Some x) l = (place_of x.place.queue.0 x.place.cpu.0 < length l.counts) × (is_waiting l x ≡ false → 0 < count_of_same_pwq l.counts x)
 
-abbrev pub MayOpen : Option Queueing → PwqState → Type 0
-MayOpen None l = Unit {0}
-MayOpen (Some x) l = length l.waiting < l.room
+abbrev pub MayOpenInPwqs : Option Queueing → PwqState → Type 0
+MayOpenInPwqs None l = Unit {0}
+MayOpenInPwqs (Some x) l = length l.waiting < l.room
 
 -- how wide queue q is, by max_active of each queue and whether the freezable ones are frozen
 abbrev pub width_by : List QueueShape → List ℕ → Bool → ℕ → ℕ
 width_by queues most frozen q = if (slice_index_or queues q no_queue).freezable && frozen then 0 else slice_index most q
 
--- What is below max_active, told by what is counted: a queueing of the list is below max_active where fewer than the width are active on its pool workqueue, with those before it
+-- What is below max_active, by what is counted: a queueing of the list is below max_active where fewer than the width are active on its pool workqueue, with those before it
 -- in the list that are below max_active.
 abbrev pub AreBelowMaxActive : (Queueing → Bool) → (ℕ → ℕ) → List ℕ → List Queueing → Type 0
 AreBelowMaxActive way wide counts xs = (done : List Queueing) (x : Queueing) (rest : List Queueing) → xs ≡ done ++ x ∷ rest

@@ -5,4 +5,5 @@ mod pass;
 mod pwqs;
 mod waiting;
 
+pub use pass::width_by;
 pub use pwqs::Pwqs;

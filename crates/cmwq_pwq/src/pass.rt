@@ -14,7 +14,7 @@ pub(crate) fn place_of(place: Place) -> usize
 }
 
 /// How wide a queue is: its max_active, and 0 while it is frozen.
-pub(crate) fn width_by(queues: &[QueueShape], most: &[u32], frozen: bool, queue: QueueId) -> u32
+pub fn width_by(queues: &[QueueShape], most: &[u32], frozen: bool, queue: QueueId) -> u32
     requires queue { queue.0 < length queues.now }
     requires most { queue.0 < length most.now }
     ensures { result ≡ width_by queues.now most.now frozen queue.0 }

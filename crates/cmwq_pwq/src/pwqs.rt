@@ -1,5 +1,5 @@
 ghost use Rattle.std.specs.Prelude.{◌≡◌, ℕ, Bool, ◌+◌, ◌*◌, ◌<◌, true, false, [], length, IfOk, IfSome};
-ghost use Rattle.cmwq_pwq.specs.Pwqs.{AreBehind, ArePlaced, IsPassed, IsPlacedIf, PwqState, MayEnd, MayOpen, count_of_same_pwq, ended, is_waiting, new_pwq_state, opened, place_of, told_ended, told_opened, width_by};
+ghost use Rattle.cmwq_pwq.specs.Pwqs.{AreBehind, ArePlaced, IsPassed, IsPlacedIf, PwqState, MayEndInPwqs, MayOpenInPwqs, count_of_same_pwq, pwqs_without_open, is_waiting, new_pwq_state, pwqs_with_open, place_of, pwqs_after_end, pwqs_after_opening, width_by};
 
 use crate::pass::{pass, place_of, width_by};
 use crate::waiting::{has_number, take_first, take_number};
@@ -54,7 +54,7 @@ impl Pwqs {
     /// A queueing is opened, and waits behind the others.
     pub fn open(&mut self, queueing: Queueing)
         requires { length self.old.waiting < self.old.room }
-        ensures { self.new ≡ opened self.old queueing }
+        ensures { self.new ≡ pwqs_with_open self.old queueing }
     {
         self.waiting.push_reserved(queueing);
     }
@@ -63,7 +63,7 @@ impl Pwqs {
     pub fn end(&mut self, queueing: Queueing)
         requires place { place_of queueing.place.queue.0 queueing.place.cpu.0 < length self.old.counts }
         requires counted { is_waiting self.old queueing ≡ false → 0 < count_of_same_pwq self.old.counts queueing }
-        ensures { self.new ≡ ended self.old queueing }
+        ensures { self.new ≡ pwqs_without_open self.old queueing }
     {
         if has_number(&self.waiting, queueing.number) {
             take_number(&mut self.waiting, queueing.number);
@@ -79,7 +79,7 @@ impl Pwqs {
         requires active { is_waiting self.old queueing ≡ false }
         requires counted { 0 < count_of_same_pwq self.old.counts queueing }
         requires none { self.old.activated ≡ [] }
-        ensures { (wide : ℕ → ℕ) → wide queueing.place.queue.0 ≡ width → AreBehind wide self.old.counts self.old.waiting → IsPassed wide (ended self.old queueing) self.new }
+        ensures { (wide : ℕ → ℕ) → wide queueing.place.queue.0 ≡ width → AreBehind wide self.old.counts self.old.waiting → IsPassed wide (pwqs_without_open self.old queueing) self.new }
     {
         let at = place_of(queueing.place);
         if self.counts[at] <= width {
@@ -101,7 +101,7 @@ impl Pwqs {
         requires counted { is_waiting self.old queueing ≡ false → 0 < count_of_same_pwq self.old.counts queueing }
         requires ran { has_run ≡ true → is_waiting self.old queueing ≡ false }
         requires none { self.old.activated ≡ [] }
-        ensures { (wide : ℕ → ℕ) → wide queueing.place.queue.0 ≡ width → AreBehind wide self.old.counts self.old.waiting → IsPassed wide (ended self.old queueing) self.new }
+        ensures { (wide : ℕ → ℕ) → wide queueing.place.queue.0 ≡ width → AreBehind wide self.old.counts self.old.waiting → IsPassed wide (pwqs_without_open self.old queueing) self.new }
     {
         if !has_run && has_number(&self.waiting, queueing.number) {
             take_number(&mut self.waiting, queueing.number);
@@ -115,7 +115,7 @@ impl Pwqs {
         requires cpu { queueing.place.cpu.0 < 4 }
         requires place { place_of queueing.place.queue.0 queueing.place.cpu.0 < length self.old.counts }
         requires room { length self.old.waiting + length self.old.activated < self.old.room }
-        ensures { (wide : ℕ → ℕ) (before : PwqState) → wide queueing.place.queue.0 ≡ width → length before.counts ≡ length self.old.counts → IsPassed wide before self.old → IsPassed wide (opened before queueing) self.new }
+        ensures { (wide : ℕ → ℕ) (before : PwqState) → wide queueing.place.queue.0 ≡ width → length before.counts ≡ length self.old.counts → IsPassed wide before self.old → IsPassed wide (pwqs_with_open before queueing) self.new }
     {
         let at = place_of(queueing.place);
         if self.counts[at] < width {
@@ -136,11 +136,11 @@ impl Pwqs {
         has_run: bool,
     )
         requires most { length most.now ≡ length queues.now }
-        requires ended { MayEnd ended self.old }
+        requires ended { MayEndInPwqs ended self.old }
         requires placed { IsPlacedIf (length queues.now) ended }
         requires ran { has_run ≡ true → IfSome ended (λ x. is_waiting self.old x ≡ false) }
         requires behind { AreBehind (width_by queues.now most.now frozen) self.old.counts self.old.waiting }
-        ensures { IsPassed (width_by queues.now most.now frozen) (told_ended ended self.old) self.new }
+        ensures { IsPassed (width_by queues.now most.now frozen) (pwqs_after_end ended self.old) self.new }
     {
         self.activated.clear();
         match ended {
@@ -165,13 +165,13 @@ impl Pwqs {
     )
         requires most { length most.now ≡ length queues.now }
         requires counts { length self.old.counts ≡ 4 * length queues.now }
-        requires ended { MayEnd ended self.old }
+        requires ended { MayEndInPwqs ended self.old }
         requires ended_placed { IsPlacedIf (length queues.now) ended }
         requires ran { has_run ≡ true → IfSome ended (λ x. is_waiting self.old x ≡ false) }
-        requires opened { MayOpen opened (told_ended ended self.old) }
+        requires opened { MayOpenInPwqs opened (pwqs_after_end ended self.old) }
         requires opened_placed { IsPlacedIf (length queues.now) opened }
         requires behind { AreBehind (width_by queues.now most.now frozen) self.old.counts self.old.waiting }
-        ensures { IsPassed (width_by queues.now most.now frozen) (told_opened opened (told_ended ended self.old)) self.new }
+        ensures { IsPassed (width_by queues.now most.now frozen) (pwqs_after_opening opened (pwqs_after_end ended self.old)) self.new }
     {
         self.end_some(queues, most, frozen, ended, has_run);
         match opened {
@@ -209,6 +209,13 @@ impl Pwqs {
         ensures { result ≡ length self.now.waiting }
     {
         self.waiting.len()
+    }
+
+    /// How many are active of each queue on each CPU: four numbers a queue.
+    pub fn counts(&self) -> &[u32]
+        ensures { result.now ≡ self.now.counts }
+    {
+        &self.counts
     }
 
     /// What the last pass made active.

@@ -4,7 +4,7 @@ ghost use Rattle.std.specs.Prelude.{◌≡◌, ◌+◌, ◌≤◌, false, filter
 ghost use Rattle.std.specs.List.{AllByRecursion, list_any};
 ghost use Rattle.cmwq_model.specs.Prelude.{has_number};
 ghost use Rattle.cmwq_theory_steps.specs.Places.{is_on};
-ghost use Rattle.cmwq_pwq.specs.Pwqs.{is_other, IsFirstTaken};
+ghost use Rattle.cmwq_pwq.specs.Pwqs.{is_other_waiting, IsFirstTaken};
 
 use cmwq_model::{Number, Place, Queueing};
 
@@ -15,7 +15,7 @@ pub(crate) fn has_number(waiting: &[Queueing], number: Number) -> bool
 }
 
 pub(crate) fn take_number(waiting: &mut Vec<Queueing>, number: Number)
-    ensures rest { waiting.new.items ≡ filter (is_other number) waiting.old.items }
+    ensures rest { waiting.new.items ≡ filter (is_other_waiting number) waiting.old.items }
     ensures fewer { vec_len waiting.new ≤ vec_len waiting.old }
     ensures room { vec_capacity waiting.new ≡ vec_capacity waiting.old }
 {

@@ -1,23 +1,11 @@
 -- What the barriers answer is what the definitions say.
-use Rattle.std.proofs.Common.{◌≡◌, ◌<◌, ◌↔◌, ℕ, true, false, cond, ◌&&◌, List, [], ◌∷◌, find, Option, Some, None, nat_le, refl, sym, ap, ◌∙◌, arith, ⊎_elim}
-use Rattle.std.specs.Prelude.{is_some, option_map, Contains, All}
-use Rattle.std.specs.List.{filter_map}
-use Rattle.std.specs.Option.{option_map_or}
-use Rattle.std.proofs.lemmas.Bool.{eq-eqb, ne_eqb, ltb-true, lt-leb, leb-false}
-use Rattle.std.proofs.lemmas.List.Elements.{recursion_from_All, All-from_recursion}
-use Rattle.cmwq_model.specs.declared.call.Call.{Call}
-use Rattle.cmwq_model.specs.declared.entry.Entry.{Entry}
-use Rattle.cmwq_model.specs.declared.record.Ticket.{Ticket}
-use Rattle.cmwq_model.specs.Prelude.{Layout, has_numbers, still_open, is_of, unended, waits_for, IsLegal}
+use Rattle.cmwq_refinement.specs.Common.{◌≡◌, ◌<◌, ◌↔◌, ℕ, true, false, cond, ◌&&◌, List, [], ◌∷◌, find, Option, Some, None, nat_le, refl, sym, ap, ◌∙◌, arith, ⊎_elim, is_some, option_map, Contains, All, filter_map, option_map_or, eq-eqb, ne_eqb, ltb-true, lt-leb, leb-false, recursion_from_All, All-from_recursion, Call, Entry, Ticket, Layout, has_numbers, still_open, is_of, unended_tickets, waits_for, IsLegal, All_map, find_none, none_found, Barrier, numbers_open, numbers_before, is_up_to, IsReadyBarrier}
 use Rattle.cmwq_model.specs.declared.call.Call.TheVariants as call
-use Rattle.cmwq_theory_active.proofs.Lists.{All_map, find_none}
-use Rattle.cmwq_theory_steps.proofs.Filters.{none_found}
-use Rattle.cmwq_flush.specs.declared.barrier.Barrier.{Barrier}
-use Rattle.cmwq_flush.specs.BarrierBook.{numbers_open, numbers_before, has_ticket, is_up_to, IsReady, waits_for as book_waits_for}
-use Rattle.cmwq_refinement.specs.Told.{number_of_queueing, number_of_ticket}
+use Rattle.cmwq_flush.specs.BarrierBook.{barrier_has_ticket, barrier_waits_for as book_waits_for}
+use Rattle.cmwq_refinement.specs.ByNumber.{number_of_queueing, number_of_ticket}
 use Rattle.cmwq_refinement.specs.BarrierBooks.{item_numbers, wait_by, wait_for, barriers_of}
-use Rattle.cmwq_refinement.proofs.Members.{In, of_in, contained_in}
-use Rattle.cmwq_refinement.proofs.Rising.{RisesBy}
+use Rattle.cmwq_lemmas.proofs.Members.{In, of_in, contained_in}
+use Rattle.cmwq_lemmas.proofs.Rising.{RisesBy}
 use Rattle.cmwq_refinement.proofs.Numbers.{find_number}
 use Rattle.cmwq_refinement.proofs.PlacesFit.{unended_fit}
 use Rattle.cmwq_refinement.proofs.TicketSteps.{unended_rise}
@@ -35,35 +23,35 @@ wait_there s t w fits h = by t.call fits h
 
 -- ---- a ticket's wait is found by its number
 
-find_wait : (t : Ticket) (w : Barrier) (ts : List Ticket) → RisesBy number_of_ticket ts → In t ts → wait_for t ≡ Some w → find (has_ticket t.number) (filter_map wait_for ts) ≡ Some w
+find_wait : (t : Ticket) (w : Barrier) (ts : List Ticket) → RisesBy number_of_ticket ts → In t ts → wait_for t ≡ Some w → find (barrier_has_ticket t.number) (filter_map wait_for ts) ≡ Some w
 find_wait t w [] rise here is = absurd here
 find_wait t w (u ∷ us) rise here is = ⊎_elim first (λ i. later i (find_wait t w us rise.1 i is)) here
   where
-    first : u ≡ t → find (has_ticket t.number) (cons_wait (wait_for u) (filter_map wait_for us)) ≡ Some w
+    first : u ≡ t → find (barrier_has_ticket t.number) (cons_wait (wait_for u) (filter_map wait_for us)) ≡ Some w
     first same =
-        let has : has_ticket t.number w ≡ true = eq-eqb w.ticket t.number (wait_number t w is) in
-        ap (λ o. find (has_ticket t.number) (cons_wait o (filter_map wait_for us))) (ap wait_for same ∙ is) ∙ ap (λ b. cond b (Some w) (find (has_ticket t.number) (filter_map wait_for us))) has
+        let has : barrier_has_ticket t.number w ≡ true = eq-eqb w.ticket t.number (wait_number t w is) in
+        ap (λ o. find (barrier_has_ticket t.number) (cons_wait o (filter_map wait_for us))) (ap wait_for same ∙ is) ∙ ap (λ b. cond b (Some w) (find (barrier_has_ticket t.number) (filter_map wait_for us))) has
 
-    later : In t us → find (has_ticket t.number) (filter_map wait_for us) ≡ Some w → find (has_ticket t.number) (cons_wait (wait_for u) (filter_map wait_for us)) ≡ Some w
+    later : In t us → find (barrier_has_ticket t.number) (filter_map wait_for us) ≡ Some w → find (barrier_has_ticket t.number) (cons_wait (wait_for u) (filter_map wait_for us)) ≡ Some w
     later i found = skip (wait_for u) (λ v k. wait_number u v k)
       where
         less : u.number < t.number
         less = of_in (λ v. u.number < v.number) us t rise.0 i
 
-        skip : (o : Option Barrier) → ((v : Barrier) → o ≡ Some v → v.ticket ≡ u.number) → find (has_ticket t.number) (cons_wait o (filter_map wait_for us)) ≡ Some w
+        skip : (o : Option Barrier) → ((v : Barrier) → o ≡ Some v → v.ticket ≡ u.number) → find (barrier_has_ticket t.number) (cons_wait o (filter_map wait_for us)) ≡ Some w
         skip None number = found
         skip (Some v) number =
             let at = number v refl in
             let before = less in
-            let other : has_ticket t.number v ≡ false = ne_eqb v.ticket t.number (λ same. absurd (omega arith)) in
-            ap (λ b. cond b (Some v) (find (has_ticket t.number) (filter_map wait_for us))) other ∙ found
+            let other : barrier_has_ticket t.number v ≡ false = ne_eqb v.ticket t.number (λ same. absurd (omega arith)) in
+            ap (λ b. cond b (Some v) (find (barrier_has_ticket t.number) (filter_map wait_for us))) other ∙ found
 
 -- ---- what it waits for
 
 -- the numbers that are looked at are those of the item's open queueings
-before_are : (s : Layout) (past : List Entry) (t : Ticket) (w : Barrier) → IsLegal s past → In t (unended past) → wait_for t ≡ Some w → numbers_before (barriers_of s past) t.number ≡ item_numbers past w.item.0
+before_are : (s : Layout) (past : List Entry) (t : Ticket) (w : Barrier) → IsLegal s past → In t (unended_tickets past) → wait_for t ≡ Some w → numbers_before (barriers_of s past) t.number ≡ item_numbers past w.item.0
 before_are s past t w legal i is =
-    ap (λ o. option_map_or (λ (v : Barrier). numbers_open (barriers_of s past) v.item.0) o []) (find_wait t w (unended past) (unended_rise past) i is)
+    ap (λ o. option_map_or (λ (v : Barrier). numbers_open (barriers_of s past) v.item.0) o []) (find_wait t w (unended_tickets past) (unended_rise past) i is)
     ∙ item_row s past w.item.0 (wait_there s t w (unended_fit s past t legal i) is)
 
 held_by_item : (past : List Entry) (t : Ticket) (w : Barrier) → wait_for t ≡ Some w → waits_for past t.number t.call ≡ find (is_up_to t.number) (item_numbers past w.item.0)
@@ -77,12 +65,12 @@ held_by_item past t w h = by t.call h
     by (call.FlushDelayed i) k = let same : i.0 ≡ w.item.0 = cc in of_item i.0 ∙ ap (λ j. find (is_up_to t.number) (item_numbers past j)) same
     by c k = cc
 
-waits_as : (s : Layout) (past : List Entry) (t : Ticket) (o : Option Barrier) → IsLegal s past → In t (unended past) → wait_for t ≡ o → is_some o ≡ true → book_waits_for (barriers_of s past) t.number ≡ waits_for past t.number t.call
+waits_as : (s : Layout) (past : List Entry) (t : Ticket) (o : Option Barrier) → IsLegal s past → In t (unended_tickets past) → wait_for t ≡ o → is_some o ≡ true → book_waits_for (barriers_of s past) t.number ≡ waits_for past t.number t.call
 waits_as s past t None legal i is some = cc
 waits_as s past t (Some w) legal i is some = ap (find (is_up_to t.number)) (before_are s past t w legal i is) ∙ sym (held_by_item past t w is)
 
-pub barriers_wait_for_least : (s : Layout) (past : List Entry) (t : Ticket) → IsLegal s past → Contains (unended past) t → is_some (wait_for t) ≡ true → book_waits_for (barriers_of s past) t.number ≡ waits_for past t.number t.call
-barriers_wait_for_least s past t legal here some = waits_as s past t (wait_for t) legal (contained_in (unended past) t here) refl some
+pub barriers_wait_for_least : (s : Layout) (past : List Entry) (t : Ticket) → IsLegal s past → Contains (unended_tickets past) t → is_some (wait_for t) ≡ true → book_waits_for (barriers_of s past) t.number ≡ waits_for past t.number t.call
+barriers_wait_for_least s past t legal here some = waits_as s past t (wait_for t) legal (contained_in (unended_tickets past) t here) refl some
 
 ready_numbers : (t : ℕ) (ns : List ℕ) → (All (λ n. t < n) ns) ↔ (find (is_up_to t) ns ≡ None)
 ready_numbers t ns = (
@@ -90,7 +78,7 @@ ready_numbers t ns = (
   (λ none. All-from_recursion (λ n. t < n) ns (All_map (λ n. is_up_to t n ≡ false) (λ n. t < n) ns (λ n h. leb-false n t h) (find_none (is_up_to t) ns none))),
 )
 
-pub ready_barriers_wait_for_nothing : (s : Layout) (past : List Entry) (t : Ticket) → IsLegal s past → Contains (unended past) t → is_some (wait_for t) ≡ true → IsReady (barriers_of s past) t.number ↔ (waits_for past t.number t.call ≡ None)
+pub ready_barriers_wait_for_nothing : (s : Layout) (past : List Entry) (t : Ticket) → IsLegal s past → Contains (unended_tickets past) t → is_some (wait_for t) ≡ true → IsReadyBarrier (barriers_of s past) t.number ↔ (waits_for past t.number t.call ≡ None)
 ready_barriers_wait_for_nothing s past t legal here some =
     let both = ready_numbers t.number (numbers_before (barriers_of s past) t.number) in
     let same = barriers_wait_for_least s past t legal here some in

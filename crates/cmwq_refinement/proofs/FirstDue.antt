@@ -1,23 +1,9 @@
 -- The timer that fires first is that of the booking that is due first.
-use Rattle.std.proofs.Common.{◌≡◌, ◌<◌, ◌≤◌, ℕ, suc, Bool, true, false, not, ◌&&◌, ◌||◌, List, [], ◌∷◌, ◌++◌, length, filter, Option, Some, None, option_to_list, nat_lt, nat_le, refl, sym, ap, ap₂, ◌∙◌, subst, arith, append-nil, inl, inr}
-use Rattle.std.specs.Prelude.{option_map, if◌then◌else◌}
-use Rattle.std.specs.List.{AllByRecursion, list_any}
-use Rattle.std.proofs.lemmas.Bool.{eqb-true, eq-eqb, not-true, cases_lt, or_parts}
-use Rattle.std.proofs.lemmas.Bool.Decides.{nat_tests}
-use Rattle.std.proofs.lemmas.Option.{same_Some}
-use Rattle.cmwq_model.specs.declared.id.ItemId.{ItemId}
-use Rattle.cmwq_model.specs.declared.entry.Entry.{Entry}
-use Rattle.cmwq_model.specs.declared.record.Booking.{Booking}
-use Rattle.cmwq_model.specs.Prelude.{Layout, is_at, is_of_item, now, settles, booking, booking_of, bookings, number_booked, stands, standing, may_fire, is_due_before}
-use Rattle.cmwq_model.specs.Prelude.{is_soonest, soonest, first_due, IsLegal}
-use Rattle.cmwq_timer.specs.declared.timer.Timer.{Timer}
-use Rattle.cmwq_timer.specs.Due.{is_sooner, may_fire as timer_may_fire}
-use Rattle.cmwq_timer.specs.Rows.{MayFire, NoneMayFire, IsFirstToFire, timer_of}
-use Rattle.cmwq_theory_active.proofs.Lists.{All_map, All_append}
-use Rattle.cmwq_theory_steps.proofs.Entries.{is_at-true}
-use Rattle.cmwq_refinement.specs.Timers.{timer_for, timers_of, HoldsDraining, item_due, MayBeTold}
-use Rattle.cmwq_refinement.proofs.Members.{In, of_in, all_in, in_left, in_right, option_in, in_option, in_filter, filter_in, none_in, found}
-use Rattle.cmwq_refinement.proofs.Rising.{RisesBy, rises_filter, rises_snoc, rises_unique, find_is}
+use Rattle.cmwq_refinement.specs.Common.{◌≡◌, ◌<◌, ◌≤◌, ℕ, suc, Bool, true, false, not, ◌&&◌, ◌||◌, List, [], ◌∷◌, ◌++◌, length, filter, Option, Some, None, option_to_list, nat_lt, nat_le, refl, sym, ap, ap₂, ◌∙◌, subst, arith, append-nil, inl, inr, option_map, if◌then◌else◌, AllByRecursion, list_any, eqb-true, eq-eqb, not-true, cases_lt, or_parts, nat_tests, same_Some, ItemId, Entry, Booking, Layout, is_at, is_of_item, now, settles, booking, booking_of, bookings, number_booked, stands, standing, may_fire, is_due_before, is_soonest, soonest, first_due, IsLegal, Timer, MayFire, NoneMayFire, IsFirstToFire, timer_of, All_map, All_append, is_at-true}
+use Rattle.cmwq_timer.specs.Due.{is_sooner, timer_may_fire}
+use Rattle.cmwq_refinement.specs.Timers.{timer_for, timers_of, HoldsDraining, item_due, MayApplyToTimers}
+use Rattle.cmwq_lemmas.proofs.Members.{In, of_in, all_in, in_left, in_right, option_in, in_option, in_filter, filter_in, none_in, found}
+use Rattle.cmwq_lemmas.proofs.Rising.{RisesBy, rises_filter, rises_snoc, rises_unique, find_is}
 use Rattle.cmwq_refinement.proofs.TimerSteps.{booking_books, row_at, row_past}
 use Rattle.cmwq_refinement.proofs.Settled.{Fits, bookings_fit, settled_of_an_item, item_there, booking_fits}
 
@@ -174,15 +160,15 @@ no_timer_is_none_due s past held legal holds none =
     let empty : fireable past ≡ [] = none_in (fireable past) (λ b i. none b.item.0 (timer_for b) (fires_as_timer s past held b legal holds i)) in
     ap (λ bs. option_map (λ (b : Booking). b.item) (soonest bs)) empty
 
--- ---- what the timers are told
+-- ---- what is applied to the timers
 
 first_due_fits : (s : Layout) (past : List Entry) (b : Booking) → IsLegal s past → first_due past ≡ Some b → Fits s b
 unfolding first_due
 first_due_fits s past b legal h = standing_fits s past b legal (in_filter (may_fire past) (standing past) b (found (is_soonest (fireable past)) (fireable past) b h).0).0
 
-pub timers_may_be_told : (s : Layout) (past : List Entry) (e : Entry) → IsLegal s (e ∷ past) → MayBeTold s past e
+pub entries_apply_to_timers : (s : Layout) (past : List Entry) (e : Entry) → IsLegal s (e ∷ past) → MayApplyToTimers s past e
 unfolding IsLegal
-timers_may_be_told s past e legal = record {
+entries_apply_to_timers s past e legal = record {
   of_an_item = settled_of_an_item s past e legal;
   item = λ i. item_there s past e i legal (λ b. first_due_fits s past b legal.2);
   queue = λ b is. (booking_fits s past e b legal is).queue;

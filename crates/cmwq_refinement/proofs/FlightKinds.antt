@@ -1,23 +1,6 @@
 -- What an entry ends is a run or an unstarted queueing of its item, and what it starts is an unstarted one of an item without a run.
-use Rattle.std.proofs.Common.{◌≡◌, ℕ, true, false, List, ◌∷◌, Option, Some, None, refl, sym, ap, ◌∙◌}
-use Rattle.std.specs.Prelude.{option_and_then, is_some}
-use Rattle.cmwq_model.specs.declared.id.WorkerId.{WorkerId}
-use Rattle.cmwq_model.specs.declared.id.Who.{Who}
-use Rattle.cmwq_model.specs.declared.id.Who.TheVariants.{Worker}
-use Rattle.cmwq_model.specs.declared.reply.Reply.{Reply}
-use Rattle.cmwq_model.specs.declared.entry.Entry.{Entry}
-use Rattle.cmwq_model.specs.declared.record.Queueing.{Queueing}
-use Rattle.cmwq_model.specs.declared.record.Start.{Start}
-use Rattle.cmwq_model.specs.Prelude.{Layout, item_of, item_at, number_started, number_finished, is_started, run, item_run, item_runs, unstarted, queueing_at, IsLegal}
+use Rattle.cmwq_refinement.specs.Common.{◌≡◌, ℕ, true, false, List, ◌∷◌, Option, Some, None, refl, sym, ap, ◌∙◌, option_and_then, is_some, WorkerId, Who, Worker, Reply, Entry, Queueing, Start, Layout, item_of, item_at, number_started, number_finished, is_started, run, item_run, item_runs, unstarted_queueing, queueing_at, IsLegal, ending, queueing_run, ended_by, ends_as_told, unstarted_found, unstarted_is, finishes_run, runs_are_items, item_run_started, starts_known, start_is, started_was, runs_are_in_pools, found_known, found_number}
 use Rattle.cmwq_model.specs.declared.reply.Reply.TheVariants as reply
-use Rattle.cmwq_theory_steps.specs.Endings.{ending}
-use Rattle.cmwq_theory_steps.specs.ItemQueueings.{queueing_run, ended_by}
-use Rattle.cmwq_theory_steps.proofs.EndsAsTold.{ends_as_told, unstarted_found}
-use Rattle.cmwq_theory_steps.proofs.Fresh.{unstarted_is, finishes_run}
-use Rattle.cmwq_theory_steps.proofs.ItemRuns.{runs_are_items, item_run_started, starts_known}
-use Rattle.cmwq_theory_steps.proofs.ItemSteps.{start_is}
-use Rattle.cmwq_theory_steps.proofs.Pools.{started_was, runs_are_in_pools}
-use Rattle.cmwq_theory_steps.proofs.RunsActive.{found_known, found_number}
 use Rattle.cmwq_refinement.specs.Flights.{starting}
 
 -- the run of an item is this queueing
@@ -43,17 +26,17 @@ worker_runs s past w n x legal runs at =
 pub data EndKind (past : List Entry) (e : Entry) : Type 0 where
   none_ends : ending past e ≡ None → number_finished e.reply ≡ None → EndKind past e
   run_ends : (x : Queueing) → ending past e ≡ Some x → number_finished e.reply ≡ Some x.number → IsRun past x → EndKind past e
-  unstarted_ends : (x : Queueing) → ending past e ≡ Some x → number_finished e.reply ≡ None → unstarted past x.item.0 ≡ Some x → EndKind past e
+  unstarted_ends : (x : Queueing) → ending past e ≡ Some x → number_finished e.reply ≡ None → unstarted_queueing past x.item.0 ≡ Some x → EndKind past e
 
 module _ (s : Layout) (past : List Entry) (e : Entry) (legal : IsLegal s (e ∷ past)) where
   pub legal_before : IsLegal s past
   unfolding IsLegal
   legal_before = legal.2
 
-  its_own : (i : ℕ) (x : Queueing) → unstarted past i ≡ Some x → unstarted past x.item.0 ≡ Some x
-  its_own i x is = ap (unstarted past) (unstarted_is past i x is).item ∙ is
+  its_own : (i : ℕ) (x : Queueing) → unstarted_queueing past i ≡ Some x → unstarted_queueing past x.item.0 ≡ Some x
+  its_own i x is = ap (unstarted_queueing past) (unstarted_is past i x is).item ∙ is
 
-  of_item_ends : (o : Option ℕ) (p : Option Queueing) → ending past e ≡ option_and_then (unstarted past) o → option_and_then (unstarted past) o ≡ p
+  of_item_ends : (o : Option ℕ) (p : Option Queueing) → ending past e ≡ option_and_then (unstarted_queueing past) o → option_and_then (unstarted_queueing past) o ≡ p
       → number_finished e.reply ≡ None → EndKind past e
   of_item_ends None p is same unfinished = none_ends is unfinished
   of_item_ends (Some i) None is same unfinished = none_ends (is ∙ same) unfinished
@@ -69,10 +52,10 @@ module _ (s : Layout) (past : List Entry) (e : Entry) (legal : IsLegal s (e ∷ 
 
   ends_by : (r : Reply) → e.reply ≡ r → ending past e ≡ ended_by past e.who (item_of e) r → EndKind past e
   ends_by (reply.Finished n) h is = finish_ends n (ap number_finished h) is
-  ends_by (reply.Cancelled n) h is = of_item_ends (item_of e) (option_and_then (unstarted past) (item_of e)) is refl (ap number_finished h)
-  ends_by (reply.TicketCancelled k n) h is = of_item_ends (item_of e) (option_and_then (unstarted past) (item_of e)) is refl (ap number_finished h)
-  ends_by (reply.Again k) h is = of_item_ends (item_of e) (option_and_then (unstarted past) (item_of e)) is refl (ap number_finished h)
-  ends_by (reply.Rebooked d) h is = of_item_ends (item_of e) (option_and_then (unstarted past) (item_of e)) is refl (ap number_finished h)
+  ends_by (reply.Cancelled n) h is = of_item_ends (item_of e) (option_and_then (unstarted_queueing past) (item_of e)) is refl (ap number_finished h)
+  ends_by (reply.TicketCancelled k n) h is = of_item_ends (item_of e) (option_and_then (unstarted_queueing past) (item_of e)) is refl (ap number_finished h)
+  ends_by (reply.Again k) h is = of_item_ends (item_of e) (option_and_then (unstarted_queueing past) (item_of e)) is refl (ap number_finished h)
+  ends_by (reply.Rebooked d) h is = of_item_ends (item_of e) (option_and_then (unstarted_queueing past) (item_of e)) is refl (ap number_finished h)
   ends_by r h is = none_ends is (ap number_finished h)
 
   pub end_kind : EndKind past e
@@ -85,7 +68,7 @@ pub record Starting (past : List Entry) (e : Entry) (x : Queueing) : Type 0 wher
   pub by_worker : e.who ≡ Worker worker
   pub number : number_started e.reply ≡ Some x.number
   pub found : queueing_at past x.number ≡ Some x
-  pub waits : unstarted past x.item.0 ≡ Some x
+  pub waits : unstarted_queueing past x.item.0 ≡ Some x
   pub has_none : item_run past x.item.0 ≡ None
   pub ends_none : ending past e ≡ None
 
@@ -118,7 +101,7 @@ start_kind s past e legal = by (number_started e.reply) refl
           by_worker = k.by_worker;
           number = h ∙ ap Some (sym was.2);
           found = found;
-          waits = ap (unstarted past) waits.item ∙ was.1;
+          waits = ap (unstarted_queueing past) waits.item ∙ was.1;
           has_none = no_run (item_run past x.item.0) (ap (item_runs past) waits.item ∙ k.has_none);
           ends_none = ends_as_told s past e legal ∙ start_ends_none past e.who (item_of e) e.reply n h;
         })

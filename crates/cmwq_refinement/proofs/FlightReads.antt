@@ -1,23 +1,9 @@
 -- What the flights answer is what the definitions say.
-use Rattle.std.proofs.Common.{◌≡◌, ◌+◌, ◌<◌, ◌≤◌, ◌==◌, ℕ, zero, suc, Bool, true, List, [], ◌∷◌, length, map, filter, cond, Option, Some, None, option_to_list, refl, sym, ap, ap₂, ◌∙◌, subst, arith, ⊎_elim}
-use Rattle.std.specs.Prelude.{is_some, option_map, count_by}
-use Rattle.std.specs.List.{AllByRecursion, range_with_len, sum_by}
-use Rattle.std.proofs.lemmas.Bool.{eq-eqb, ne_eqb, cases_eq}
-use Rattle.std.proofs.lemmas.Option.{same_Some}
-use Rattle.std.proofs.lemmas.List.{length-map, length-append}
-use Rattle.std.proofs.lemmas.List.Sums.{sum_by-cons, length-filter}
-use Rattle.cmwq_model.specs.declared.id.WorkerId.{WorkerId}
-use Rattle.cmwq_model.specs.declared.entry.Entry.{Entry}
-use Rattle.cmwq_model.specs.declared.record.Queueing.{Queueing}
-use Rattle.cmwq_model.specs.declared.record.Start.{Start}
-use Rattle.cmwq_model.specs.Prelude.{Layout, run, item_run, queueings, has_number, is_live, still_open, is_of, unstarted, queueing_at, IsLegal}
-use Rattle.cmwq_theory_steps.proofs.EndsAsTold.{runs_are_queueings}
-use Rattle.cmwq_theory_steps.proofs.Pools.{runs_are_in_pools}
-use Rattle.cmwq_theory_steps.proofs.RunsActive.{found_number}
-use Rattle.cmwq_inflight.specs.Flights.{Flight, flight_at, has_run, has_unstarted, open_count}
-use Rattle.cmwq_refinement.specs.Told.{number_of_queueing}
+use Rattle.cmwq_refinement.specs.Common.{◌≡◌, ◌+◌, ◌<◌, ◌≤◌, ◌==◌, ℕ, zero, suc, Bool, true, List, [], ◌∷◌, length, map, filter, cond, Option, Some, None, option_to_list, refl, sym, ap, ap₂, ◌∙◌, subst, arith, ⊎_elim, is_some, option_map, count_by, AllByRecursion, range_with_len, sum_by, eq-eqb, ne_eqb, cases_eq, same_Some, length-map, length-append, sum_by-cons, length-filter, WorkerId, Entry, Queueing, Start, Layout, run, item_run, queueings, has_number, is_live, still_open, is_of, unstarted_queueing, queueing_at, IsLegal, runs_are_queueings, runs_are_in_pools, found_number, Flight, flight_at, has_unstarted, open_count}
+use Rattle.cmwq_inflight.specs.Flights.{flight_has_run}
+use Rattle.cmwq_refinement.specs.ByNumber.{number_of_queueing}
 use Rattle.cmwq_refinement.specs.Flights.{queueing_started, flight_of, flights_of, starting, IsFlightOf}
-use Rattle.cmwq_refinement.proofs.Members.{all_in, found, filter_in}
+use Rattle.cmwq_lemmas.proofs.Members.{all_in, found, filter_in}
 use Rattle.cmwq_refinement.proofs.PlacesFit.{open_there}
 use Rattle.cmwq_refinement.proofs.ItemNumbers.{run_then_unstarted}
 use Rattle.cmwq_refinement.proofs.FlightKinds.{worker_runs}
@@ -84,13 +70,13 @@ start_number start = start.number
 
 -- of one item
 item_count : (s : Layout) (past : List Entry) (i : ℕ) → IsLegal s past
-    → one (is_some (queueing_started past (item_run past i))) + one (is_some (unstarted past i)) ≡ count_by (is_of i) (still_open past)
+    → one (is_some (queueing_started past (item_run past i))) + one (is_some (unstarted_queueing past i)) ≡ count_by (is_of i) (still_open past)
 item_count s past i legal =
     let runs = ap one ((run_started s past i (item_run past i) legal refl).some ∙ sym (some_mapped start_number (item_run past i)))
     ∙ sym (size_of (option_map start_number (item_run past i))) in
-    let waits = ap one (sym (some_mapped number_of_queueing (unstarted past i))) ∙ sym (size_of (option_map number_of_queueing (unstarted past i))) in
+    let waits = ap one (sym (some_mapped number_of_queueing (unstarted_queueing past i))) ∙ sym (size_of (option_map number_of_queueing (unstarted_queueing past i))) in
     ap₂ (λ m n. m + n) runs waits
-    ∙ sym (length-append (option_to_list (option_map start_number (item_run past i))) (option_to_list (option_map number_of_queueing (unstarted past i))))
+    ∙ sym (length-append (option_to_list (option_map start_number (item_run past i))) (option_to_list (option_map number_of_queueing (unstarted_queueing past i))))
     ∙ sym (ap length (run_then_unstarted s past i legal))
     ∙ length-map (filter (is_of i) (still_open past)) number_of_queueing ∙ length-filter (is_of i) (still_open past)
 
@@ -100,7 +86,7 @@ rows_count : (s : Layout) (past : List Entry) (is : List ℕ) → IsLegal s past
 unfolding one
 rows_count s past [] legal = refl
 rows_count s past (i ∷ is) legal =
-    let runs = sum_by-cons (λ f. cond (has_run f) 1 0) (flight_of past i) (map (flight_of past) is) in
+    let runs = sum_by-cons (λ f. cond (flight_has_run f) 1 0) (flight_of past i) (map (flight_of past) is) in
     let waits = sum_by-cons (λ f. cond (has_unstarted f) 1 0) (flight_of past i) (map (flight_of past) is) in
     let all = sum_by-cons (λ j. count_by (is_of j) (still_open past)) i is in
     let here = item_count s past i legal in

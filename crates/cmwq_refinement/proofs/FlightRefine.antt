@@ -1,25 +1,8 @@
--- The flights refine a legal history, and the calls that tell them of an entry may be made.
-use Rattle.std.proofs.Common.{◌≡◌, ◌<◌, ◌==◌, ℕ, Bool, true, false, List, [], ◌∷◌, length, map, replicate, Option, Some, None, option_to_list, refl, sym, ap, ap₂, ◌∙◌, subst, arith}
-use Rattle.std.specs.Prelude.{is_some, if◌then◌else◌}
-use Rattle.std.specs.Option.{option_or}
-use Rattle.std.specs.List.{range_with_len}
-use Rattle.std.proofs.lemmas.Bool.{eqb-true}
-use Rattle.std.proofs.lemmas.Option.{same_Some}
-use Rattle.std.proofs.lemmas.List.FromFn.{length-range_with_len, length-map-range_with_len, get_or-map-range_with_len}
-use Rattle.cmwq_model.specs.declared.entry.Entry.{Entry}
-use Rattle.cmwq_model.specs.declared.record.Queueing.{Queueing}
-use Rattle.cmwq_model.specs.Prelude.{Layout, is_started, item_start, queueings, still_open, is_unstarted, unstarted, opening, IsLegal}
-use Rattle.cmwq_theory_active.proofs.Rising.{opening_number}
-use Rattle.cmwq_theory_steps.specs.Endings.{is_ended, ending}
-use Rattle.cmwq_theory_steps.specs.Activations.{is_left}
-use Rattle.cmwq_theory_steps.specs.ItemQueueings.{still_unstarted, of_item}
-use Rattle.cmwq_theory_steps.proofs.Endings.{open_go_on}
-use Rattle.cmwq_theory_steps.proofs.Fresh.{unstarted_is}
-use Rattle.cmwq_theory_steps.proofs.WorklistSteps.{opening_inert}
+-- The flights refine a legal history, and the calls that apply an entry to them may be made.
+use Rattle.cmwq_refinement.specs.Common.{◌≡◌, ◌<◌, ◌==◌, ℕ, Bool, true, false, List, [], ◌∷◌, length, map, replicate, Option, Some, None, option_to_list, refl, sym, ap, ap₂, ◌∙◌, subst, arith, is_some, if◌then◌else◌, option_or, range_with_len, eqb-true, same_Some, length-range_with_len, length-map-range_with_len, get_or-map-range_with_len, Entry, Queueing, Layout, is_started, item_start, queueings, still_open, is_unstarted, unstarted_queueing, opening, IsLegal, opening_number, is_ended, ending, is_left, still_unstarted, of_item, open_go_on, unstarted_is, opening_inert, Flight, no_flight, flight_at, with_unstarted}
 use Rattle.cmwq_theory_steps.proofs.Unstarted.{unstarted_goes_on}
-use Rattle.cmwq_inflight.specs.Flights.{Flight, no_flight, flight_at, with_unstarted}
-use Rattle.cmwq_refinement.specs.Flights.{queueing_started, flight_of, flights_of, starting, told_ended, told_started, told_opened, told_moved, told, MayEnd, MayStart, MayStartOf, MayOpen, MayBeTold}
-use Rattle.cmwq_refinement.proofs.Members.{In, of_in, in_right, option_in, found}
+use Rattle.cmwq_refinement.specs.Flights.{queueing_started, flight_of, flights_of, starting, flights_after_end, flights_after_start, flights_after_opening, flights_after_moves, flights_after, MayEndInFlight, MayStartInFlight, MayStartOf, MayOpenInFlight, MayApplyToFlights}
+use Rattle.cmwq_lemmas.proofs.Members.{In, of_in, in_right, option_in, found}
 use Rattle.cmwq_refinement.proofs.TimerSteps.{same_rows}
 use Rattle.cmwq_refinement.proofs.PlacesFit.{open_there, opened_are_there}
 use Rattle.cmwq_refinement.proofs.FlightKinds.{EndKind, none_ends, run_ends, unstarted_ends, end_kind, legal_before, Starting, StartKind, none_starts, one_starts, start_kind}
@@ -41,15 +24,12 @@ pub no_flights_at_first : (s : Layout) → flights_of s [] ≡ replicate s.items
 no_flights_at_first s = none_rows (range_with_len 0 s.items) ∙ ap (λ n. replicate n no_flight) (length-range_with_len 0 s.items)
 
 module _ (s : Layout) (past : List Entry) (e : Entry) (legal : IsLegal s (e ∷ past)) where
-  before : IsLegal s past
-  before = legal_before s past e legal
-
-  waits_there : (i : ℕ) (x : Queueing) → unstarted past i ≡ Some x → x.item.0 < s.items
-  waits_there i x is = (open_there s past x before (found (is_unstarted past i) (still_open past) x is).0).item
+  waits_there : (i : ℕ) (x : Queueing) → unstarted_queueing past i ≡ Some x → x.item.0 < s.items
+  waits_there i x is = (open_there s past x (legal_before s past e legal) (found (is_unstarted past i) (still_open past) x is).0).item
 
   -- what an entry ends, starts and opens is of an item that there is
   ending_there : (x : Queueing) → ending past e ≡ Some x → x.item.0 < s.items
-  ending_there x is = (open_there s past x before (found (is_ended past e) (still_open past) x is).0).item
+  ending_there x is = (open_there s past x (legal_before s past e legal) (found (is_ended past e) (still_open past) x is).0).item
 
   pub starting_is : (x : Queueing) → starting past e ≡ Some x → Starting past e x
   starting_is x is = by (start_kind s past e legal)
@@ -64,19 +44,19 @@ module _ (s : Layout) (past : List Entry) (e : Entry) (legal : IsLegal s (e ∷ 
   opening_there : (x : Queueing) → opening past e ≡ Some x → x.item.0 < s.items
   opening_there x is = (opened_are_there s past e x legal is).item
 
-  -- what is told of what ends and starts, as rows
-  ended_flights : told_ended e.reply (ending past e) (flights_of s past) ≡ map (λ j. row_ended e.reply (ending past e) j (flight_of past j)) (range_with_len 0 s.items)
+  -- the flights after what ends and starts, as rows
+  ended_flights : flights_after_end e.reply (ending past e) (flights_of s past) ≡ map (λ j. row_ended e.reply (ending past e) j (flight_of past j)) (range_with_len 0 s.items)
   ended_flights = ended_rows (flight_of past) s.items e.reply (ending past e) ending_there
 
-  moved_flights : told_moved past e (flights_of s past) ≡ map (moved s past e legal) (range_with_len 0 s.items)
+  moved_flights : flights_after_moves past e (flights_of s past) ≡ map (moved s past e legal) (range_with_len 0 s.items)
   unfolding moved
-  moved_flights = ap (told_started (starting past e)) ended_flights
+  moved_flights = ap (flights_after_start (starting past e)) ended_flights
       ∙ started_rows (λ j. row_ended e.reply (ending past e) j (flight_of past j)) s.items (starting past e) starting_there
 
   -- where an entry opens a queueing, no older one of the item is left unstarted
-  none_left : (x u : Queueing) → opening past e ≡ Some x → unstarted past x.item.0 ≡ Some u → still_unstarted past e (Some u) ≡ Some u → ⊥
+  none_left : (x u : Queueing) → opening past e ≡ Some x → unstarted_queueing past x.item.0 ≡ Some u → still_unstarted past e (Some u) ≡ Some u → ⊥
   none_left x u opens was still =
-      let goes : unstarted (e ∷ past) x.item.0 ≡ Some u =
+      let goes : unstarted_queueing (e ∷ past) x.item.0 ≡ Some u =
       unstarted_goes_on s past e x.item.0 legal ∙ ap (λ o. option_or (still_unstarted past e o) (of_item x.item.0 (opening past e))) was
       ∙ ap (λ o. option_or o (of_item x.item.0 (opening past e))) still in
       let opened_here : In x (still_open (e ∷ past)) = subst (In x) (sym (open_go_on s past e legal)) (in_right _ _ x (option_in (opening past e) x opens)) in
@@ -90,14 +70,14 @@ module _ (s : Layout) (past : List Entry) (e : Entry) (legal : IsLegal s (e ∷ 
       let one : u.number ≡ x.number = ap (λ (y : Queueing). y.number) same in
       absurd (omega arith)
 
-  still_none : (x : Queueing) → opening past e ≡ Some x → still_unstarted past e (unstarted past x.item.0) ≡ None
-  still_none x opens = by (unstarted past x.item.0) refl
+  still_none : (x : Queueing) → opening past e ≡ Some x → still_unstarted past e (unstarted_queueing past x.item.0) ≡ None
+  still_none x opens = by (unstarted_queueing past x.item.0) refl
     where
-      left : (u : Queueing) → unstarted past x.item.0 ≡ Some u → (b : Bool) → is_left past e u ≡ b → (if b then Some u else None) ≡ None
+      left : (u : Queueing) → unstarted_queueing past x.item.0 ≡ Some u → (b : Bool) → is_left past e u ≡ b → (if b then Some u else None) ≡ None
       left u was true is = absurd (none_left x u opens was (ap (λ b. if b then Some u else None) is))
       left u was false is = refl
 
-      by : (o : Option Queueing) → unstarted past x.item.0 ≡ o → still_unstarted past e o ≡ None
+      by : (o : Option Queueing) → unstarted_queueing past x.item.0 ≡ o → still_unstarted past e o ≡ None
       by None was = refl
       by (Some u) was = left u was (is_left past e u) refl
 
@@ -108,15 +88,15 @@ module _ (s : Layout) (past : List Entry) (e : Entry) (legal : IsLegal s (e ∷ 
       flight : Option Queueing → Option Queueing → Flight
       flight r u = record { run = r; unstarted = u }
 
-  waits_on : (i : ℕ) (o : Option Queueing) → opening past e ≡ o → unstarted (e ∷ past) i ≡ option_or (still_unstarted past e (unstarted past i)) (of_item i o)
-  waits_on i o opens = unstarted_goes_on s past e i legal ∙ ap (λ p. option_or (still_unstarted past e (unstarted past i)) (of_item i p)) opens
+  waits_on : (i : ℕ) (o : Option Queueing) → opening past e ≡ o → unstarted_queueing (e ∷ past) i ≡ option_or (still_unstarted past e (unstarted_queueing past i)) (of_item i o)
+  waits_on i o opens = unstarted_goes_on s past e i legal ∙ ap (λ p. option_or (still_unstarted past e (unstarted_queueing past i)) (of_item i p)) opens
 
   or_none : (o : Option Queueing) → o ≡ option_or o None
   or_none None = refl
   or_none (Some u) = refl
 
-  moved_waits : (i : ℕ) → (moved s past e legal i).unstarted ≡ option_or (still_unstarted past e (unstarted past i)) None
-  moved_waits i = moved_unstarted s past e legal i ∙ or_none (still_unstarted past e (unstarted past i))
+  moved_waits : (i : ℕ) → (moved s past e legal i).unstarted ≡ option_or (still_unstarted past e (unstarted_queueing past i)) None
+  moved_waits i = moved_unstarted s past e legal i ∙ or_none (still_unstarted past e (unstarted_queueing past i))
 
   pub opened_row : (i : ℕ) (o : Option Queueing) → opening past e ≡ o → row_opened o i (moved s past e legal i) ≡ flight_of (e ∷ past) i
   unfolding row_opened
@@ -133,40 +113,40 @@ module _ (s : Layout) (past : List Entry) (e : Entry) (legal : IsLegal s (e ∷ 
       run true = refl
       run false = refl
 
-      waits : (a : Bool) → (x.item.0 == i) ≡ a → (with_opened a).unstarted ≡ option_or (still_unstarted past e (unstarted past i)) (if a then Some x else None)
+      waits : (a : Bool) → (x.item.0 == i) ≡ a → (with_opened a).unstarted ≡ option_or (still_unstarted past e (unstarted_queueing past i)) (if a then Some x else None)
       waits true same =
-          let gone = ap (λ k. still_unstarted past e (unstarted past k)) (sym (eqb-true x.item.0 i same)) ∙ still_none x opens in
+          let gone = ap (λ k. still_unstarted past e (unstarted_queueing past k)) (sym (eqb-true x.item.0 i same)) ∙ still_none x opens in
           sym (ap (λ o. option_or o (Some x)) gone)
       waits false other = moved_waits i
 
-  pub flights_refine : flights_of s (e ∷ past) ≡ told past e (flights_of s past)
+  pub flights_refine : flights_of s (e ∷ past) ≡ flights_after past e (flights_of s past)
   flights_refine =
       same_rows (λ j. row_opened (opening past e) j (moved s past e legal j)) (flight_of (e ∷ past)) (range_with_len 0 s.items) (λ j. sym (opened_row j (opening past e) refl))
-      ∙ sym (ap (told_opened (opening past e)) moved_flights ∙ opened_rows (moved s past e legal) s.items (opening past e) opening_there)
+      ∙ sym (ap (flights_after_opening (opening past e)) moved_flights ∙ opened_rows (moved s past e legal) s.items (opening past e) opening_there)
 
   -- ---- each call may be made
 
-  may_end : EndKind past e → MayEnd e.reply (ending past e) (flights_of s past)
-  may_end (none_ends none unfinished) = subst (λ o. MayEnd e.reply o (flights_of s past)) (sym none) tt
-  may_end (run_ends x one fin run) = subst (λ o. MayEnd e.reply o (flights_of s past)) (sym one) (record {
+  may_end : EndKind past e → MayEndInFlight e.reply (ending past e) (flights_of s past)
+  may_end (none_ends none unfinished) = subst (λ o. MayEndInFlight e.reply o (flights_of s past)) (sym none) tt
+  may_end (run_ends x one fin run) = subst (λ o. MayEndInFlight e.reply o (flights_of s past)) (sym one) (record {
     known = rw (flights_for_items s past) (ending_there x one);
     runs = λ h. ap (λ (f : Flight). is_some f.run) (row_of s past x.item.0 (ending_there x one))
         ∙ ap is_some (ap (queueing_started past) run.is_run ∙ run.found);
   })
-  may_end (unstarted_ends x one unfinished waits) = subst (λ o. MayEnd e.reply o (flights_of s past)) (sym one) (record {
+  may_end (unstarted_ends x one unfinished waits) = subst (λ o. MayEndInFlight e.reply o (flights_of s past)) (sym one) (record {
     known = rw (flights_for_items s past) (ending_there x one);
     runs = λ h. let bad : true ≡ false = sym h ∙ ap is_some unfinished in cc;
   })
 
-  may_start : StartKind past e → MayStart (starting past e) (told_ended e.reply (ending past e) (flights_of s past))
-  may_start (none_starts none unstarting) = subst (λ o. MayStart o (told_ended e.reply (ending past e) (flights_of s past))) (sym none) tt
-  may_start (one_starts x one st) = subst (λ o. MayStart o (told_ended e.reply (ending past e) (flights_of s past))) (sym one)
-      (subst (λ o. MayStartOf x (told_ended e.reply o (flights_of s past))) (sym st.ends_none) (record {
+  may_start : StartKind past e → MayStartInFlight (starting past e) (flights_after_end e.reply (ending past e) (flights_of s past))
+  may_start (none_starts none unstarting) = subst (λ o. MayStartInFlight o (flights_after_end e.reply (ending past e) (flights_of s past))) (sym none) tt
+  may_start (one_starts x one st) = subst (λ o. MayStartInFlight o (flights_after_end e.reply (ending past e) (flights_of s past))) (sym one)
+      (subst (λ o. MayStartOf x (flights_after_end e.reply o (flights_of s past))) (sym st.ends_none) (record {
         free = ap (λ (f : Flight). f.run) (row_of s past x.item.0 (starting_there x one)) ∙ ap (queueing_started past) st.has_none;
         unstarted = ap (λ (f : Flight). is_some f.unstarted) (row_of s past x.item.0 (starting_there x one)) ∙ ap is_some st.waits;
       }))
 
-  may_open : (o : Option Queueing) → opening past e ≡ o → MayOpen o (told_moved past e (flights_of s past))
+  may_open : (o : Option Queueing) → opening past e ≡ o → MayOpenInFlight o (flights_after_moves past e (flights_of s past))
   may_open None opens = tt
   may_open (Some x) opens = record {
     known = rw (moved_flights, length-map-range_with_len) (opening_there x opens);
@@ -175,5 +155,5 @@ module _ (s : Layout) (past : List Entry) (e : Entry) (legal : IsLegal s (e ∷ 
         ∙ moved_unstarted s past e legal x.item.0 ∙ still_none x opens;
   }
 
-  pub flights_may_be_told : MayBeTold past e (flights_of s past)
-  flights_may_be_told = record { ended = may_end (end_kind s past e legal); started = may_start (start_kind s past e legal); opened = may_open (opening past e) refl }
+  pub entries_apply_to_flights : MayApplyToFlights past e (flights_of s past)
+  entries_apply_to_flights = record { ended = may_end (end_kind s past e legal); started = may_start (start_kind s past e legal); opened = may_open (opening past e) refl }

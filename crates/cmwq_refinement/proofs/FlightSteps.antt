@@ -1,30 +1,10 @@
 -- The flights refine a history, row by row.
-use Rattle.std.proofs.Common.{◌≡◌, ◌≢◌, ◌<◌, ◌==◌, ℕ, Bool, true, false, not, ◌&&◌, List, ◌∷◌, map, Option, Some, None, refl, sym, ap, ◌∙◌, arith}
-use Rattle.std.specs.Prelude.{is_some, if◌then◌else◌}
-use Rattle.std.specs.List.{range_with_len}
-use Rattle.std.proofs.lemmas.Bool.{eqb-true, eq-eqb, ne_eqb}
-use Rattle.std.proofs.lemmas.Option.{same_Some}
-use Rattle.std.proofs.lemmas.List.FromFn.{get_or-map-range_with_len}
-use Rattle.cmwq_model.specs.declared.entry.Entry.{Entry}
-use Rattle.cmwq_model.specs.declared.reply.Reply.{Reply}
-use Rattle.cmwq_model.specs.declared.record.Queueing.{Queueing}
-use Rattle.cmwq_model.specs.declared.record.Start.{Start}
-use Rattle.cmwq_model.specs.Prelude.{Layout, is_at, number_finished, starts, is_started, item_run, start_in, starts_item, still_open, is_unstarted, unstarted, queueing_at}
-use Rattle.cmwq_model.specs.Prelude.{IsLegal}
-use Rattle.cmwq_theory_steps.specs.RunSteps.{ends_run}
-use Rattle.cmwq_theory_steps.specs.Endings.{survives, ending}
-use Rattle.cmwq_theory_steps.specs.ItemQueueings.{still_unstarted}
-use Rattle.cmwq_theory_steps.proofs.EndsAsTold.{runs_are_queueings}
-use Rattle.cmwq_theory_steps.proofs.Fresh.{unstarted_is}
-use Rattle.cmwq_theory_steps.proofs.ItemRuns.{start_of_worker, starts_its_item, starts_no_item, no_start}
-use Rattle.cmwq_theory_steps.proofs.ItemSteps.{items_run_on}
-use Rattle.cmwq_theory_steps.proofs.RunsActive.{found_known}
-use Rattle.cmwq_theory_steps.proofs.StartsListed.{queueing_at-older}
-use Rattle.cmwq_inflight.specs.Flights.{Flight, no_flight, flight_at, with_unstarted, with_started, without_run, with_flight, taken_back, finished}
-use Rattle.cmwq_refinement.specs.Told.{number_of_queueing}
-use Rattle.cmwq_refinement.specs.Flights.{queueing_started, flight_of, starting, told_ended, told_started, told_opened}
-use Rattle.cmwq_refinement.proofs.Members.{In, of_in, found}
-use Rattle.cmwq_refinement.proofs.Rising.{rises_unique}
+use Rattle.cmwq_refinement.specs.Common.{◌≡◌, ◌≢◌, ◌<◌, ◌==◌, ℕ, Bool, true, false, not, ◌&&◌, List, ◌∷◌, map, Option, Some, None, refl, sym, ap, ◌∙◌, arith, is_some, if◌then◌else◌, range_with_len, eqb-true, eq-eqb, ne_eqb, same_Some, get_or-map-range_with_len, Entry, Reply, Queueing, Start, Layout, is_at, number_finished, starts, is_started, item_run, start_in, starts_item, still_open, is_unstarted, unstarted_queueing, queueing_at, IsLegal, ends_run, survives, ending, still_unstarted, runs_are_queueings, unstarted_is, start_of_worker, starts_its_item, starts_no_item, no_start, items_run_on, found_known, queueing_at-older, Flight, no_flight, flight_at, with_unstarted, with_started, without_run, with_flight, flights_without_open}
+use Rattle.cmwq_inflight.specs.Flights.{flights_without_run}
+use Rattle.cmwq_refinement.specs.ByNumber.{number_of_queueing}
+use Rattle.cmwq_refinement.specs.Flights.{queueing_started, flight_of, starting, flights_after_end, flights_after_start, flights_after_opening}
+use Rattle.cmwq_lemmas.proofs.Members.{In, of_in, found}
+use Rattle.cmwq_lemmas.proofs.Rising.{rises_unique}
 use Rattle.cmwq_refinement.proofs.TimerSteps.{set_row}
 use Rattle.cmwq_refinement.proofs.QueueingSteps.{QueueingStep, queueing_step, open_numbers_rise}
 use Rattle.cmwq_refinement.proofs.QueueingSteps as queueing
@@ -51,24 +31,24 @@ one_row g n i change there = sym (set_row g (λ j. if i == j then change (g j) e
     (λ j differs. ap (λ b. if b then change (g j) else g j) (ne_eqb i j (λ same. differs (sym same)))))
 
 pub ended_rows : (g : ℕ → Flight) (n : ℕ) (r : Reply) (o : Option Queueing) → ((x : Queueing) → o ≡ Some x → x.item.0 < n)
-    → told_ended r o (map g (range_with_len 0 n)) ≡ map (λ j. row_ended r o j (g j)) (range_with_len 0 n)
+    → flights_after_end r o (map g (range_with_len 0 n)) ≡ map (λ j. row_ended r o j (g j)) (range_with_len 0 n)
 unfolding row_ended
 ended_rows g n r None there = refl
 ended_rows g n r (Some x) there = by (is_some (number_finished r))
   where
-    by : (b : Bool) → (if b then finished (map g (range_with_len 0 n)) x.item.0 else taken_back (map g (range_with_len 0 n)) x.item.0)
+    by : (b : Bool) → (if b then flights_without_run (map g (range_with_len 0 n)) x.item.0 else flights_without_open (map g (range_with_len 0 n)) x.item.0)
         ≡ map (λ j. if x.item.0 == j then (if b then without_run (g j) else with_unstarted None (g j)) else g j) (range_with_len 0 n)
     by true = one_row g n x.item.0 without_run (there x refl)
     by false = one_row g n x.item.0 (with_unstarted None) (there x refl)
 
 pub started_rows : (g : ℕ → Flight) (n : ℕ) (o : Option Queueing) → ((x : Queueing) → o ≡ Some x → x.item.0 < n)
-    → told_started o (map g (range_with_len 0 n)) ≡ map (λ j. row_started o j (g j)) (range_with_len 0 n)
+    → flights_after_start o (map g (range_with_len 0 n)) ≡ map (λ j. row_started o j (g j)) (range_with_len 0 n)
 unfolding row_started
 started_rows g n None there = refl
 started_rows g n (Some x) there = one_row g n x.item.0 with_started (there x refl)
 
 pub opened_rows : (g : ℕ → Flight) (n : ℕ) (o : Option Queueing) → ((x : Queueing) → o ≡ Some x → x.item.0 < n)
-    → told_opened o (map g (range_with_len 0 n)) ≡ map (λ j. row_opened o j (g j)) (range_with_len 0 n)
+    → flights_after_opening o (map g (range_with_len 0 n)) ≡ map (λ j. row_opened o j (g j)) (range_with_len 0 n)
 unfolding row_opened
 opened_rows g n None there = refl
 opened_rows g n (Some x) there = one_row g n x.item.0 (with_unstarted (Some x)) (there x refl)
@@ -76,27 +56,24 @@ opened_rows g n (Some x) there = one_row g n x.item.0 (with_unstarted (Some x)) 
 -- ---- what an item's unstarted queueing is after what ends and starts
 
 module _ (s : Layout) (past : List Entry) (e : Entry) (legal : IsLegal s (e ∷ past)) where
-  before : IsLegal s past
-  before = legal_before s past e legal
-
   -- two open queueings with one number are one
-  waiting_here : (i : ℕ) (x : Queueing) → unstarted past i ≡ Some x → In x (still_open past)
+  waiting_here : (i : ℕ) (x : Queueing) → unstarted_queueing past i ≡ Some x → In x (still_open past)
   waiting_here i x is = (found (is_unstarted past i) (still_open past) x is).0
 
-  apart : (i j : ℕ) (x u : Queueing) → unstarted past j ≡ Some x → unstarted past i ≡ Some u → j ≢ i → (u.number == x.number) ≡ false
+  apart : (i j : ℕ) (x u : Queueing) → unstarted_queueing past j ≡ Some x → unstarted_queueing past i ≡ Some u → j ≢ i → (u.number == x.number) ≡ false
   apart i j x u hx hu differs = ne_eqb u.number x.number (λ same.
       let one = rises_unique number_of_queueing (still_open past) u x (open_numbers_rise past) (waiting_here i u hu) (waiting_here j x hx) same in
       differs (sym (unstarted_is past j x hx).item ∙ ap (λ (y : Queueing). y.item.0) (sym one) ∙ (unstarted_is past i u hu).item))
 
   -- whether the entry spares it
-  survives_if_none : (i : ℕ) (u : Queueing) → unstarted past i ≡ Some u → ending past e ≡ None → survives past e u ≡ true
+  survives_if_none : (i : ℕ) (u : Queueing) → unstarted_queueing past i ≡ Some u → ending past e ≡ None → survives past e u ≡ true
   survives_if_none i u hu none = by (queueing_step s past e legal)
     where
       by : QueueingStep past e → survives past e u ≡ true
       by (queueing.ends_none is all) = of_in (λ y. survives past e y ≡ true) (still_open past) u all (waiting_here i u hu)
       by (queueing.ends_one x is here all) = let bad : None ≡ Some x = sym none ∙ is in cc
 
-  survives_if_one : (i : ℕ) (u x : Queueing) → unstarted past i ≡ Some u → ending past e ≡ Some x → survives past e u ≡ not (u.number == x.number)
+  survives_if_one : (i : ℕ) (u x : Queueing) → unstarted_queueing past i ≡ Some u → ending past e ≡ Some x → survives past e u ≡ not (u.number == x.number)
   survives_if_one i u x hu one = by (queueing_step s past e legal)
     where
       by : QueueingStep past e → survives past e u ≡ not (u.number == x.number)
@@ -114,7 +91,7 @@ module _ (s : Layout) (past : List Entry) (e : Entry) (legal : IsLegal s (e ∷ 
       by true false = refl
       by false b = none
 
-  left_or_not : (f : Flight) (u : Queueing) (i : ℕ) → unstarted past i ≡ Some u → f.unstarted ≡ Some u
+  left_or_not : (f : Flight) (u : Queueing) (i : ℕ) → unstarted_queueing past i ≡ Some u → f.unstarted ≡ Some u
       → (row_ended e.reply (ending past e) i f).unstarted ≡ (if survives past e u then Some u else None)
   unfolding row_ended
   left_or_not f u i hu is = by (end_kind s past e legal)
@@ -142,12 +119,12 @@ module _ (s : Layout) (past : List Entry) (e : Entry) (legal : IsLegal s (e ∷ 
           either : (a : Bool) → (x.item.0 == i) ≡ a
               → (if a then with_unstarted None f else f).unstarted ≡ (if not (u.number == x.number) then Some u else None)
           either true same =
-              let one_of : x ≡ u = same_Some x u (sym waits ∙ ap (unstarted past) (eqb-true x.item.0 i same) ∙ hu) in
+              let one_of : x ≡ u = same_Some x u (sym waits ∙ ap (unstarted_queueing past) (eqb-true x.item.0 i same) ∙ hu) in
               sym (ap (λ b. if not b then Some u else None) (eq-eqb u.number x.number (ap number_of_queueing (sym one_of))))
           either false other =
               is ∙ sym (ap (λ b. if not b then Some u else None) (apart i x.item.0 x u waits hu (λ same. let bad : true ≡ false = sym (eq-eqb x.item.0 i same) ∙ other in cc)))
 
-  gone_or_not : (f : Flight) (u : Queueing) (i : ℕ) → unstarted past i ≡ Some u
+  gone_or_not : (f : Flight) (u : Queueing) (i : ℕ) → unstarted_queueing past i ≡ Some u
       → (row_started (starting past e) i f).unstarted ≡ (if starts u.number e then None else f.unstarted)
   unfolding row_started
   gone_or_not f u i hu = by (start_kind s past e legal)
@@ -160,7 +137,7 @@ module _ (s : Layout) (past : List Entry) (e : Entry) (legal : IsLegal s (e ∷ 
         where
           either : (a : Bool) → (y.item.0 == i) ≡ a → (if a then with_started f else f).unstarted ≡ (if y.number == u.number then None else f.unstarted)
           either true same =
-              let one_of : y ≡ u = same_Some y u (sym st.waits ∙ ap (unstarted past) (eqb-true y.item.0 i same) ∙ hu) in
+              let one_of : y ≡ u = same_Some y u (sym st.waits ∙ ap (unstarted_queueing past) (eqb-true y.item.0 i same) ∙ hu) in
               sym (ap (λ b. if b then None else f.unstarted) (eq-eqb y.number u.number (ap number_of_queueing one_of)))
           either false other =
               sym (ap (λ b. if b then None else f.unstarted) (apart y.item.0 i u y hu st.waits (λ same. let bad : true ≡ false = sym (eq-eqb y.item.0 i (sym same)) ∙ other in cc)))
@@ -177,9 +154,9 @@ module _ (s : Layout) (past : List Entry) (e : Entry) (legal : IsLegal s (e ∷ 
   unfoldable pub moved : ℕ → Flight
   moved i = row_started (starting past e) i (row_ended e.reply (ending past e) i (flight_of past i))
 
-  pub moved_unstarted : (i : ℕ) → (moved i).unstarted ≡ still_unstarted past e (unstarted past i)
+  pub moved_unstarted : (i : ℕ) → (moved i).unstarted ≡ still_unstarted past e (unstarted_queueing past i)
   unfolding moved
-  moved_unstarted i = by (unstarted past i) refl
+  moved_unstarted i = by (unstarted_queueing past i) refl
     where
       two : (u : Queueing) (b c : Bool) → (if c then None else if b then Some u else None) ≡ (if b && not c then Some u else None)
       two u true true = refl
@@ -187,7 +164,7 @@ module _ (s : Layout) (past : List Entry) (e : Entry) (legal : IsLegal s (e ∷ 
       two u false true = refl
       two u false false = refl
 
-      by : (o : Option Queueing) → unstarted past i ≡ o
+      by : (o : Option Queueing) → unstarted_queueing past i ≡ o
           → (row_started (starting past e) i (row_ended e.reply (ending past e) i (flight_of past i))).unstarted ≡ still_unstarted past e o
       by None h = none_gone (row_ended e.reply (ending past e) i (flight_of past i)) (starting past e) i (none_left (flight_of past i) e.reply (ending past e) i h)
       by (Some u) h =
@@ -200,7 +177,7 @@ module _ (s : Layout) (past : List Entry) (e : Entry) (legal : IsLegal s (e ∷ 
   run_kept : (i : ℕ) (o : Option Start) → item_run past i ≡ o → queueing_started (e ∷ past) o ≡ queueing_started past o
   run_kept i None is = refl
   run_kept i (Some start) is =
-      let r = runs_are_queueings s past before i start is in
+      let r = runs_are_queueings s past (legal_before s past e legal) i start is in
       queueing_at-older e past start.number r.queueing r.found ∙ sym r.found
 
   -- the run is left, unless the entry finishes it
@@ -227,7 +204,7 @@ module _ (s : Layout) (past : List Entry) (e : Entry) (legal : IsLegal s (e ∷ 
           sym (ap (λ b. queueing_started (e ∷ past) (if b then None else Some start)) ends)
       ended x false None other is fin run = ap (queueing_started past) is
       ended x false (Some start) other is fin run =
-          let r = runs_are_queueings s past before i start is in
+          let r = runs_are_queueings s past (legal_before s past e legal) i start is in
           let survivors : is_at (number_finished e.reply) start.number ≡ false = ap (λ o. is_at o start.number) fin ∙ ne_eqb x.number start.number (λ same.
           let one : x ≡ r.queueing = same_Some x r.queueing (sym run.found ∙ ap (queueing_at past) (run.number ∙ same) ∙ r.found) in
           let bad : true ≡ false = sym (eq-eqb x.item.0 i (ap (λ (y : Queueing). y.item.0) one ∙ r.item)) ∙ other in
@@ -276,6 +253,6 @@ module _ (s : Layout) (past : List Entry) (e : Entry) (legal : IsLegal s (e ∷ 
           either true same =
               let start : Start = record { worker = st.worker; number = y.number } in
               let starts_it : start_in e ≡ Some start = start_of_worker e st.worker y.number st.by_worker st.number in
-              ap (λ o. (row_ended e.reply o i (flight_of past i)).unstarted) st.ends_none ∙ ap (unstarted past) (sym (eqb-true y.item.0 i same)) ∙ st.waits
+              ap (λ o. (row_ended e.reply o i (flight_of past i)).unstarted) st.ends_none ∙ ap (unstarted_queueing past) (sym (eqb-true y.item.0 i same)) ∙ st.waits
               ∙ sym (queueing_at-older e past y.number y st.found) ∙ sym (ap (queueing_started (e ∷ past)) starts_it)
           either false other = left_run i

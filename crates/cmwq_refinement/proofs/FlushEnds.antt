@@ -1,24 +1,11 @@
 -- A flush whose end is answered done stands in the book and is ready.
-use Rattle.std.proofs.Common.{◌≡◌, ℕ, true, List, ◌∷◌, Option, Some, None, refl, sym, ap, ◌∙◌, subst}
-use Rattle.std.specs.Prelude.{Contains, if◌then◌else◌, option_map, option_and_then}
-use Rattle.std.specs.Option.{option_or}
-use Rattle.std.proofs.lemmas.Bool.{eqb-true}
-use Rattle.std.proofs.lemmas.Option.{same_Some}
-use Rattle.cmwq_model.specs.declared.call.Call.{Call}
-use Rattle.cmwq_model.specs.declared.entry.Entry.{Entry}
-use Rattle.cmwq_model.specs.declared.record.Queueing.{Queueing}
-use Rattle.cmwq_model.specs.declared.record.Ticket.{Ticket}
-use Rattle.cmwq_model.specs.Prelude.{Layout, item_of, number_finished, number_cancelled, replaces, opens, opening, place_wanted, queued_at, unstarted, flushes, is_flush_of}
-use Rattle.cmwq_model.specs.Prelude.{ticket_of, unended, is_done, waits_for, IsLegal}
+use Rattle.cmwq_refinement.specs.Common.{◌≡◌, ℕ, true, List, ◌∷◌, Option, Some, None, refl, sym, ap, ◌∙◌, subst, Contains, if◌then◌else◌, option_map, option_and_then, option_or, eqb-true, same_Some, Call, Entry, Queueing, Ticket, Layout, item_of, number_finished, number_cancelled, replaces, opens, opening, place_wanted, queued_at, unstarted_queueing, flushes, is_flush_of, ticket_of, unended_tickets, is_done, waits_for, IsLegal, ending, ticket_ended, ticket_asked, ends_which, FlushBook, flush_tickets}
 use Rattle.cmwq_model.specs.declared.call.Call.TheVariants as call
 use Rattle.cmwq_model.specs.declared.reply.Reply.TheVariants as reply
-use Rattle.cmwq_theory_steps.specs.Endings.{ending}
-use Rattle.cmwq_theory_steps.specs.TicketSteps.{ticket_ended, ticket_asked}
-use Rattle.cmwq_theory_steps.proofs.Ended.{ends_which}
 use Rattle.cmwq_theory_steps.proofs.Done.{ends_ticket}
-use Rattle.cmwq_flush.specs.FlushBook.{FlushBook, flush_tickets, IsReady}
+use Rattle.cmwq_flush.specs.FlushBook.{IsReady}
 use Rattle.cmwq_refinement.specs.FlushBooks.{AreFlushes}
-use Rattle.cmwq_refinement.proofs.Members.{In, in_contained}
+use Rattle.cmwq_lemmas.proofs.Members.{In, in_contained}
 use Rattle.cmwq_refinement.proofs.TicketSteps.{TicketStep, ticket_step, ends_one, ends_none, ends_it}
 use Rattle.cmwq_refinement.proofs.FlushReads.{unended_flushes_stand, ready_flushes_wait_for_nothing}
 
@@ -30,7 +17,7 @@ done_ends : (s : Layout) (past : List Entry) (e : Entry) → IsLegal s (e ∷ pa
 done_ends s past e legal done = by (ending past e) (ends_which s past e legal ∙ ap (λ r. option_or (number_finished r) (option_or (number_cancelled r) (if replaces r then replaced else None))) done)
   where
     replaced : Option ℕ
-    replaced = option_and_then (λ i. option_map (λ (x : Queueing). x.number) (unstarted past i)) (item_of e)
+    replaced = option_and_then (λ i. option_map (λ (x : Queueing). x.number) (unstarted_queueing past i)) (item_of e)
 
     by : (o : Option Queueing) → option_map (λ (x : Queueing). x.number) o ≡ None → o ≡ None
     by None h = refl
@@ -38,7 +25,7 @@ done_ends s past e legal done = by (ending past e) (ends_which s past e legal �
 
 -- the ticket that is ended stands, and waits for nothing
 pub record IsEnded (past : List Entry) (e : Entry) (t : Ticket) : Type 0 where
-  pub stands : In t (unended past)
+  pub stands : In t (unended_tickets past)
   pub ready : waits_for past t.number t.call ≡ None
   pub ends_none : ending past e ≡ None
   pub opens_none : opening past e ≡ None
@@ -55,7 +42,7 @@ ended_ready s past e t legal h = which (ticket_step past e)
         let asked : ticket_ended past e ≡ ticket_of past e.who u.number = ap (λ r. if is_done r then ticket_asked past e.who e.call else None) end.reply ∙ ap (ticket_asked past e.who) end.call in
         let one : done.ticket ≡ t = same_Some done.ticket t (sym done.found ∙ sym asked ∙ h) in
         record {
-          stands = subst (λ v. In v (unended past)) same here;
+          stands = subst (λ v. In v (unended_tickets past)) same here;
           ready = subst (λ (v : Ticket). waits_for past v.number v.call ≡ None) one done.ready;
           ends_none = done_ends s past e legal end.reply;
           opens_none = done_opens past e end.reply;
@@ -69,7 +56,7 @@ done_flushes_may_end s past e q b t legal is h flush = (stands, by t.call flush 
     k = ended_ready s past e t legal h
 
     stands : Contains (flush_tickets b) t.number
-    stands = (unended_flushes_stand s past q b t is (in_contained (unended past) t k.stands)).0 flush
+    stands = (unended_flushes_stand s past q b t is (in_contained (unended_tickets past) t k.stands)).0 flush
 
     by : (c : Call) → flushes q c ≡ true → waits_for past t.number c ≡ None → IsReady b t.number
     by (call.Flush r) same ready = (ready_flushes_wait_for_nothing s past r b t.number (subst (λ j. AreFlushes s past j b) (sym (eqb-true r.0 q same)) is) stands).1 ready

@@ -1,39 +1,26 @@
 -- What a flush book answers is what the definitions say.
-use Rattle.std.proofs.Common.{◌≡◌, ◌<◌, ◌≤◌, ◌↔◌, ℕ, suc, Bool, true, false, cond, ◌||◌, List, [], ◌∷◌, length, map, filter, find, count_by, Option, Some, None, nat_lt, nat_le, refl, sym, ap, ◌∙◌, subst, arith, ⊎_elim}
-use Rattle.std.specs.Prelude.{option_map, slice_get, Contains, All, MatchOption}
-use Rattle.std.specs.List.{AllByRecursion, list_any}
-use Rattle.std.proofs.lemmas.Bool.{eqb-true, eq-eqb, lt-ltb, ltb-false, le-ltb, leb-true, le-leb, false≢true}
-use Rattle.std.proofs.lemmas.List.Elements.{recursion_from_All, All-from_recursion}
-use Rattle.cmwq_model.specs.declared.id.QueueId.{QueueId}
-use Rattle.cmwq_model.specs.declared.entry.Entry.{Entry}
-use Rattle.cmwq_model.specs.declared.record.Queueing.{Queueing}
-use Rattle.cmwq_model.specs.declared.record.Ticket.{Ticket}
-use Rattle.cmwq_model.specs.Prelude.{Layout, still_open, unended, is_flush_of, is_drain_of, is_draining, served, is_within, is_older_flush, waits_for}
+use Rattle.cmwq_refinement.specs.Common.{◌≡◌, ◌<◌, ◌≤◌, ◌↔◌, ℕ, suc, Bool, true, false, cond, ◌||◌, List, [], ◌∷◌, length, map, filter, find, count_by, Option, Some, None, nat_lt, nat_le, refl, sym, ap, ◌∙◌, subst, arith, ⊎_elim, option_map, slice_get, Contains, All, MatchOption, AllByRecursion, list_any, eqb-true, eq-eqb, lt-ltb, ltb-false, le-ltb, leb-true, le-leb, false≢true, recursion_from_All, All-from_recursion, QueueId, Entry, Queueing, Ticket, Layout, still_open, unended_tickets, is_flush_of, is_drain_of, is_draining, serving_from, is_within, is_older_flush, waits_for, Served, tickets_of_served, has_ticket, FlushBook, flush_tickets, served_of, All_map, find_none, none_found}
 use Rattle.cmwq_model.specs.declared.call.Call.TheVariants as call
-use Rattle.cmwq_flush.specs.declared.served.Served.{Served}
-use Rattle.cmwq_flush.specs.Served.{tickets_of, has_ticket}
-use Rattle.cmwq_flush.specs.FlushBook.{FlushBook, flush_tickets, served_of, IsReady}
-use Rattle.cmwq_theory_active.proofs.Lists.{All_map, find_none}
-use Rattle.cmwq_theory_steps.proofs.Filters.{none_found}
-use Rattle.cmwq_refinement.specs.Told.{number_of_queueing, number_of_ticket}
+use Rattle.cmwq_flush.specs.FlushBook.{IsReady}
+use Rattle.cmwq_refinement.specs.ByNumber.{number_of_queueing, number_of_ticket}
 use Rattle.cmwq_refinement.specs.FlushBooks.{is_on_queue, open_numbers, IsServedFrom, AreFlushes}
-use Rattle.cmwq_refinement.proofs.Members.{In, of_in, filter_in, in_append, found, contained_in, in_contained}
-use Rattle.cmwq_refinement.proofs.Rising.{RisesBy, rises_filter}
+use Rattle.cmwq_lemmas.proofs.Members.{In, of_in, filter_in, in_append, found, contained_in, in_contained}
+use Rattle.cmwq_lemmas.proofs.Rising.{RisesBy, rises_filter}
 use Rattle.cmwq_refinement.proofs.Numbers.{itself, numbers_rise, numbers_have, find_number, find_agree}
 use Rattle.cmwq_refinement.proofs.QueueingSteps.{open_numbers_rise}
 use Rattle.cmwq_refinement.proofs.FlushSteps.{few_are_older, many_are_older}
 
 -- what a flush waits for, read off the open numbers
-waits_by_number : (past : List Entry) (q : QueueId) (b : FlushBook) (t : ℕ) → b.opened ≡ open_numbers past q.0 → waits_for past t (call.Flush q) ≡ find (is_within (served past q.0 t)) b.opened
-waits_by_number past q b t opened = find_number number_of_queueing (is_on_queue q.0) (is_within (served past q.0 t)) (still_open past) ∙ ap (find (is_within (served past q.0 t))) (sym opened)
+waits_by_number : (past : List Entry) (q : QueueId) (b : FlushBook) (t : ℕ) → b.opened ≡ open_numbers past q.0 → waits_for past t (call.Flush q) ≡ find (is_within (serving_from past q.0 t)) b.opened
+waits_by_number past q b t opened = find_number number_of_queueing (is_on_queue q.0) (is_within (serving_from past q.0 t)) (still_open past) ∙ ap (find (is_within (serving_from past q.0 t))) (sym opened)
 
 waits_of_served : (past : List Entry) (q : QueueId) (b : FlushBook) (t : ℕ) (f : Served) → b.opened ≡ open_numbers past q.0 → f.ticket ≡ t → IsServedFrom past q.0 b.opened f
     → waits_for past t (call.Flush q) ≡ find (λ n. nat_lt n f.bound) b.opened
 waits_of_served past q b t f opened ticket h =
-    waits_by_number past q b t opened ∙ ap (λ o. find (is_within o) b.opened) (ap (served past q.0) (sym ticket) ∙ h.is_served)
+    waits_by_number past q b t opened ∙ ap (λ o. find (is_within o) b.opened) (ap (serving_from past q.0) (sym ticket) ∙ h.is_served)
     ∙ sym (find_agree (λ n. nat_lt n f.bound) (λ n. nat_le n h.position) b.opened h.same)
 
-waits_in_overflow : (past : List Entry) (q : QueueId) (b : FlushBook) (t : ℕ) → b.opened ≡ open_numbers past q.0 → served past q.0 t ≡ None → waits_for past t (call.Flush q) ≡ find (λ n. true) b.opened
+waits_in_overflow : (past : List Entry) (q : QueueId) (b : FlushBook) (t : ℕ) → b.opened ≡ open_numbers past q.0 → serving_from past q.0 t ≡ None → waits_for past t (call.Flush q) ≡ find (λ n. true) b.opened
 waits_in_overflow past q b t opened unserved = waits_by_number past q b t opened ∙ ap (λ o. find (is_within o) b.opened) unserved
 
 empty_waits : (ns : List ℕ) → (ns ≡ []) ↔ (find (λ n. true) ns ≡ None)
@@ -50,9 +37,9 @@ bounded_waits bound ns = (
 )
 
 in_overflow : (b : FlushBook) (t : ℕ) → served_of b t ≡ None → In t (flush_tickets b) → In t b.overflow
-in_overflow b t none here = ⊎_elim (λ i. absurd (not_served b.served (find_none (has_ticket t) b.served none) i)) (λ o. o) (in_append (tickets_of b.served) b.overflow t here)
+in_overflow b t none here = ⊎_elim (λ i. absurd (not_served b.served (find_none (has_ticket t) b.served none) i)) (λ o. o) (in_append (tickets_of_served b.served) b.overflow t here)
   where
-    not_served : (fs : List Served) → AllByRecursion (λ f. has_ticket t f ≡ false) fs → In t (tickets_of fs) → ⊥
+    not_served : (fs : List Served) → AllByRecursion (λ f. has_ticket t f ≡ false) fs → In t (tickets_of_served fs) → ⊥
     not_served [] h i = i
     not_served (f ∷ fs) h i = ⊎_elim (λ e. let has : has_ticket t f ≡ true = eq-eqb f.ticket t e in let not_so = h.0 in absurd (false≢true (sym not_so ∙ has))) (λ k. not_served fs h.1 k) i
 
@@ -62,7 +49,7 @@ ready_flushes_wait_for_nothing s past q b t is here = by (served_of b t) refl
     by : (o : Option Served) → served_of b t ≡ o → MatchOption o (b.opened ≡ []) (λ f. All (λ n. f.bound ≤ n) b.opened) ↔ (waits_for past t (call.Flush q) ≡ None)
     by None none =
         let over = in_overflow b t none (contained_in (flush_tickets b) t here) in
-        both_ways (b.opened ≡ []) (waits_for past t (call.Flush q)) (find (λ n. true) b.opened) (waits_in_overflow past q b t is.opened (of_in (λ u. served past q.0 u ≡ None) b.overflow t is.overflowed over)) (empty_waits b.opened)
+        both_ways (b.opened ≡ []) (waits_for past t (call.Flush q)) (find (λ n. true) b.opened) (waits_in_overflow past q b t is.opened (of_in (λ u. serving_from past q.0 u ≡ None) b.overflow t is.overflowed over)) (empty_waits b.opened)
     by (Some f) some =
         let k = found (has_ticket t) b.served f some in
         both_ways (All (λ n. f.bound ≤ n) b.opened) (waits_for past t (call.Flush q)) (find (λ n. nat_lt n f.bound) b.opened)
@@ -70,21 +57,21 @@ ready_flushes_wait_for_nothing s past q b t is here = by (served_of b t) refl
 
 -- ---- what stands
 
-stand : (p : Ticket → Bool) (past : List Entry) (ns : List ℕ) (t : Ticket) → ns ≡ map number_of_ticket (filter p (unended past)) → Contains (unended past) t → p t ≡ true → Contains ns t.number
+stand : (p : Ticket → Bool) (past : List Entry) (ns : List ℕ) (t : Ticket) → ns ≡ map number_of_ticket (filter p (unended_tickets past)) → Contains (unended_tickets past) t → p t ≡ true → Contains ns t.number
 stand p past ns t are here passes =
-    in_contained ns t.number (subst (In t.number) (sym are) (numbers_have number_of_ticket (filter p (unended past)) t (filter_in p (unended past) t (contained_in (unended past) t here) passes)))
+    in_contained ns t.number (subst (In t.number) (sym are) (numbers_have number_of_ticket (filter p (unended_tickets past)) t (filter_in p (unended_tickets past) t (contained_in (unended_tickets past) t here) passes)))
 
-pub unended_flushes_stand : (s : Layout) (past : List Entry) (q : ℕ) (b : FlushBook) (t : Ticket) → AreFlushes s past q b → Contains (unended past) t
+pub unended_flushes_stand : (s : Layout) (past : List Entry) (q : ℕ) (b : FlushBook) (t : Ticket) → AreFlushes s past q b → Contains (unended_tickets past) t
     → (is_flush_of q t ≡ true → Contains (flush_tickets b) t.number) × (is_drain_of q t ≡ true → Contains b.drains t.number)
 unended_flushes_stand s past q b t is here = ((λ flush. stand (is_flush_of q) past (flush_tickets b) t is.flushes here flush), (λ drain. stand (is_drain_of q) past b.drains t is.drains here drain))
 
 -- ---- who is in overflow
 
-pub overflowed_are_behind_fifteen : (s : Layout) (past : List Entry) (q : ℕ) (b : FlushBook) (t : ℕ) → AreFlushes s past q b → Contains (flush_tickets b) t → Contains b.overflow t ↔ (15 ≤ count_by (is_older_flush q t) (unended past))
+pub overflowed_are_behind_fifteen : (s : Layout) (past : List Entry) (q : ℕ) (b : FlushBook) (t : ℕ) → AreFlushes s past q b → Contains (flush_tickets b) t → Contains b.overflow t ↔ (15 ≤ count_by (is_older_flush q t) (unended_tickets past))
 overflowed_are_behind_fifteen s past q b t is here = (
   (λ over. many_are_older past q t b is.flushes is.serving (contained_in b.overflow t over)),
   (λ many. in_contained b.overflow t (⊎_elim
-      (λ i. let few = few_are_older past q t b is.flushes is.few i in absurd (omega arith)) (λ o. o) (in_append (tickets_of b.served) b.overflow t (contained_in (flush_tickets b) t here)))),
+      (λ i. let few = few_are_older past q t b is.flushes is.few i in absurd (omega arith)) (λ o. o) (in_append (tickets_of_served b.served) b.overflow t (contained_in (flush_tickets b) t here)))),
 )
 
 -- ---- the least
@@ -109,7 +96,7 @@ opened_rise past q = numbers_rise number_of_queueing (filter (is_on_queue q) (st
 
 pub flushes_wait_for_least_open : (s : Layout) (past : List Entry) (q : QueueId) (b : FlushBook) (t n : ℕ) → AreFlushes s past q.0 b → Contains (flush_tickets b) t → waits_for past t (call.Flush q) ≡ Some n → slice_get b.opened 0 ≡ Some n
 flushes_wait_for_least_open s past q b t n is here waits =
-    least_first (served past q.0 t) b.opened n (subst (RisesBy itself) (sym is.opened) (opened_rise past q.0)) (sym (waits_by_number past q b t is.opened) ∙ waits)
+    least_first (serving_from past q.0 t) b.opened n (subst (RisesBy itself) (sym is.opened) (opened_rise past q.0)) (sym (waits_by_number past q b t is.opened) ∙ waits)
 
 -- ---- drains
 
@@ -138,4 +125,4 @@ some_drain p (t ∷ ts) = here (p t) (some_drain p ts)
     here false later = later
 
 pub draining_while_drains_stand : (s : Layout) (past : List Entry) (q : ℕ) (b : FlushBook) → AreFlushes s past q b → is_draining past q ≡ nat_lt 0 (length b.drains)
-draining_while_drains_stand s past q b is = some_drain (is_drain_of q) (unended past) ∙ ap (λ ns. nat_lt 0 (length ns)) (sym is.drains)
+draining_while_drains_stand s past q b is = some_drain (is_drain_of q) (unended_tickets past) ∙ ap (λ ns. nat_lt 0 (length ns)) (sym is.drains)

@@ -1,50 +1,28 @@
 -- A flush book refines a history, entry by entry.
-use Rattle.std.proofs.Common.{◌≡◌, ◌==◌, ◌<◌, ◌≤◌, ◌+◌, ℕ, suc, Bool, true, false, cond, not, ◌&&◌, List, [], ◌∷◌, ◌++◌, length, map, filter, count_by, Option, Some, None, option_to_list, nat_lt, nat_le, refl, sym, ap, ap₂, ◌∙◌, subst, arith, append-nil, ◌⊎◌, inl, inr, ⊎_elim}
-use Rattle.std.specs.Prelude.{is_some, if◌then◌else◌}
-use Rattle.std.specs.Option.{option_or}
-use Rattle.std.proofs.lemmas.Option.{same_Some}
-use Rattle.std.specs.List.{AllByRecursion}
-use Rattle.std.proofs.lemmas.Bool.{lt-ltb, le-ltb, le-leb, lt-leb}
-use Rattle.std.proofs.lemmas.List.{map-append, length-map}
-use Rattle.std.proofs.lemmas.List.Elements.{filter-append}
-use Rattle.cmwq_model.specs.declared.call.Call.{Call}
-use Rattle.cmwq_model.specs.declared.entry.Entry.{Entry}
-use Rattle.cmwq_model.specs.declared.record.Queueing.{Queueing}
-use Rattle.cmwq_model.specs.declared.record.Ticket.{Ticket}
-use Rattle.cmwq_model.specs.Prelude.{Layout, still_open, opening, queueings, unended, tickets, flushes, drains, is_flush_of, is_drain_of, served, is_served_after}
-use Rattle.cmwq_model.specs.Prelude.{is_older_flush, IsLegal}
+use Rattle.cmwq_refinement.specs.Common.{◌≡◌, ◌==◌, ◌<◌, ◌≤◌, ◌+◌, ℕ, suc, Bool, true, false, cond, not, ◌&&◌, List, [], ◌∷◌, ◌++◌, length, map, filter, count_by, Option, Some, None, option_to_list, nat_lt, nat_le, refl, sym, ap, ap₂, ◌∙◌, subst, arith, append-nil, ◌⊎◌, inl, inr, ⊎_elim, is_some, if◌then◌else◌, option_or, same_Some, AllByRecursion, lt-ltb, le-ltb, le-leb, lt-leb, map-append, length-map, filter-append, Call, Entry, Queueing, Ticket, Layout, still_open, opening, queueings, unended_tickets, tickets, flushes, drains, is_flush_of, is_drain_of, serving_from, is_served_after, is_older_flush, IsLegal, Served, is_other_number, without, tickets_of_served, FlushBook, new_book, flush_tickets, served_of, flushes_with_open, flushes_without_open, flushes_with_wait, flushes_without_wait, after_drain_begin, after_drain_end, IsServing, survives, ending, All_map, All_append, All_filter, count_by-filter, opening_number, open_go_on, is_kept, ticket_ended, unended_go_on, served_stay}
+use Rattle.cmwq_flush.specs.Served.{ticket_of_served}
 use Rattle.cmwq_model.specs.declared.call.Call.TheVariants as call
-use Rattle.cmwq_flush.specs.declared.served.Served.{Served}
-use Rattle.cmwq_flush.specs.Numbers.{is_other, without}
-use Rattle.cmwq_flush.specs.Served.{ticket_of, tickets_of}
-use Rattle.cmwq_flush.specs.FlushBook.{FlushBook, new_book, flush_tickets, served_of, after_opened, after_ended, after_begin, after_end, after_drain_begin, after_drain_end}
-use Rattle.cmwq_flush.specs.Colouring.{IsServing}
-use Rattle.cmwq_theory_steps.specs.Endings.{survives, ending}
-use Rattle.cmwq_theory_active.proofs.Lists.{All_map, All_append, All_filter, count_by-filter}
-use Rattle.cmwq_theory_active.proofs.Rising.{opening_number}
-use Rattle.cmwq_theory_steps.proofs.Endings.{open_go_on}
-use Rattle.cmwq_theory_steps.specs.TicketSteps.{is_kept, ticket_ended}
-use Rattle.cmwq_theory_steps.proofs.TicketSteps.{unended_go_on, served_stay}
-use Rattle.cmwq_refinement.specs.Told.{number_of_queueing, number_of_ticket, ticket_given}
-use Rattle.cmwq_refinement.specs.FlushBooks.{is_on_queue, open_numbers, flush_numbers, drain_numbers, IsServedFrom, AreFlushes, told_ended, told_opened, told_done, told_begun, told_queueings, told_tickets}
-use Rattle.cmwq_refinement.proofs.Members.{In, of_in, all_in, in_left}
-use Rattle.cmwq_refinement.proofs.Rising.{RisesBy, rises_filter}
+use Rattle.cmwq_refinement.specs.ByNumber.{number_of_queueing, number_of_ticket, ticket_given}
+use Rattle.cmwq_refinement.specs.FlushBooks.{is_on_queue, open_numbers, flush_numbers, drain_numbers, IsServedFrom, AreFlushes, flushes_after_end, flushes_after_opening, flushes_after_done, flushes_after_begun, flushes_after_queueings, flushes_after_tickets}
+use Rattle.cmwq_lemmas.proofs.Members.{In, of_in, all_in, in_left}
+use Rattle.cmwq_lemmas.proofs.Rising.{RisesBy, rises_filter}
 use Rattle.cmwq_refinement.proofs.Numbers.{itself, numbers_rise, numbers_all, numbers_have, numbers_without, numbers_lack, filter_goes_on, count_numbers, is_less, fewer_before, all_before}
 use Rattle.cmwq_refinement.proofs.TicketSteps.{unended_rise, unended_below, TicketStep, ticket_step, ends_one, ends_none, ends_only, ticket_in_is}
 use Rattle.cmwq_refinement.proofs.QueueingSteps.{QueueingStep, queueing_step, open_numbers_rise}
 use Rattle.cmwq_refinement.proofs.QueueingSteps as queueing
 use Rattle.cmwq_refinement.proofs.FlushCalls.{ServedSoon, already, just_now, Stands, stands_begin, stands_end, stands_drain_begin, stands_drain_end}
+use Rattle.cmwq_theory_steps.proofs.TicketSteps.{not_served_yet}
 
 -- ---- from which position a flush is served
 
-served_at_once : (e : Entry) (past : List Entry) (q t : ℕ) → served past q t ≡ None → t ≤ length past → is_served_after (e ∷ past) q t ≡ true → served (e ∷ past) q t ≡ Some (length past)
-unfolding served
+served_at_once : (e : Entry) (past : List Entry) (q t : ℕ) → serving_from past q t ≡ None → t ≤ length past → is_served_after (e ∷ past) q t ≡ true → serving_from (e ∷ past) q t ≡ Some (length past)
+unfolding serving_from
 served_at_once e past q t none le after =
     let within : nat_le t (length past) ≡ true = le-leb t (length past) le in
     ap (λ o. option_or o (if nat_le t (length past) && is_served_after (e ∷ past) q t then Some (length past) else None)) none ∙ ap₂ (λ a b. if a && b then Some (length past) else None) within after
 
-not_yet : (e : Entry) (past : List Entry) (q t : ℕ) → served past q t ≡ None → is_served_after (e ∷ past) q t ≡ false → served (e ∷ past) q t ≡ None
-unfolding served
+not_yet : (e : Entry) (past : List Entry) (q t : ℕ) → serving_from past q t ≡ None → is_served_after (e ∷ past) q t ≡ false → serving_from (e ∷ past) q t ≡ None
+unfolding serving_from
 not_yet e past q t none after =
     ap (λ o. option_or o (if nat_le t (length past) && is_served_after (e ∷ past) q t then Some (length past) else None)) none ∙ ap (λ b. if nat_le t (length past) && b then Some (length past) else None) after ∙ neither (nat_le t (length past))
   where
@@ -52,40 +30,33 @@ not_yet e past q t none after =
     neither true = refl
     neither false = refl
 
-pub unserved_before : (past : List Entry) (q t : ℕ) → length past ≤ t → served past q t ≡ None
-unfolding served
-unserved_before [] q t h = refl
-unserved_before (e ∷ past) q t h =
-    let early : nat_le t (length past) ≡ false = lt-leb t (length past) (omega arith) in
-    ap₂ (λ o b. option_or o (if b && is_served_after (e ∷ past) q t then Some (length past) else None)) (unserved_before past q t (omega arith)) early
-
-served_before : (past : List Entry) (q t p : ℕ) → served past q t ≡ Some p → p < length past
-unfolding served
+served_before : (past : List Entry) (q t p : ℕ) → serving_from past q t ≡ Some p → p < length past
+unfolding serving_from
 served_before [] q t p h = cc
-served_before (e ∷ past) q t p h = with (served past q t) refl h (served_before past q t p)
+served_before (e ∷ past) q t p h = with (serving_from past q t) refl h (served_before past q t p)
   where
     here : (b : Bool) → (if b then Some (length past) else None) ≡ Some p → p < length (e ∷ past)
     here true is = let at : length past ≡ p = same_Some (length past) p is in omega arith
     here false is = cc
 
-    with : (o : Option ℕ) → served past q t ≡ o → option_or o (if nat_le t (length past) && is_served_after (e ∷ past) q t then Some (length past) else None) ≡ Some p
-        → (served past q t ≡ Some p → p < length past) → p < length (e ∷ past)
+    with : (o : Option ℕ) → serving_from past q t ≡ o → option_or o (if nat_le t (length past) && is_served_after (e ∷ past) q t then Some (length past) else None) ≡ Some p
+        → (serving_from past q t ≡ Some p → p < length past) → p < length (e ∷ past)
     with None is k earlier = here (nat_le t (length past) && is_served_after (e ∷ past) q t) k
     with (Some m) is k earlier = let less = earlier (is ∙ k) in omega arith
 
 -- ---- how many older flushes are unended
 
-older_flushes : (past : List Entry) (q t : ℕ) → count_by (is_older_flush q t) (unended past) ≡ count_by (is_less t) (flush_numbers q (unended past))
-older_flushes past q t = count_by-filter (is_older_flush q t) (is_flush_of q) (λ u. is_less t u.number) (unended past) (λ u. refl) ∙ count_numbers number_of_ticket (is_less t) (filter (is_flush_of q) (unended past))
+older_flushes : (past : List Entry) (q t : ℕ) → count_by (is_older_flush q t) (unended_tickets past) ≡ count_by (is_less t) (flush_numbers q (unended_tickets past))
+older_flushes past q t = count_by-filter (is_older_flush q t) (is_flush_of q) (λ u. is_less t u.number) (unended_tickets past) (λ u. refl) ∙ count_numbers number_of_ticket (is_less t) (filter (is_flush_of q) (unended_tickets past))
 
-pub flush_numbers_rise : (past : List Entry) (q : ℕ) → RisesBy itself (flush_numbers q (unended past))
-flush_numbers_rise past q = numbers_rise number_of_ticket (filter (is_flush_of q) (unended past)) (rises_filter number_of_ticket (is_flush_of q) (unended past) (unended_rise past))
+pub flush_numbers_rise : (past : List Entry) (q : ℕ) → RisesBy itself (flush_numbers q (unended_tickets past))
+flush_numbers_rise past q = numbers_rise number_of_ticket (filter (is_flush_of q) (unended_tickets past)) (rises_filter number_of_ticket (is_flush_of q) (unended_tickets past) (unended_rise past))
 
-flush_numbers_below : (past : List Entry) (q : ℕ) → AllByRecursion (λ n. n < length past) (flush_numbers q (unended past))
-flush_numbers_below past q = numbers_all number_of_ticket (λ n. n < length past) (filter (is_flush_of q) (unended past))
-    (All_filter (λ t. t.number < length past) (is_flush_of q) (unended past) (All_map (λ t. t.number < length past) (λ t. is_flush_of q t ≡ true → t.number < length past) (unended past) (λ t less is. less) (unended_below past)))
+flush_numbers_below : (past : List Entry) (q : ℕ) → AllByRecursion (λ n. n < length past) (flush_numbers q (unended_tickets past))
+flush_numbers_below past q = numbers_all number_of_ticket (λ n. n < length past) (filter (is_flush_of q) (unended_tickets past))
+    (All_filter (λ t. t.number < length past) (is_flush_of q) (unended_tickets past) (All_map (λ t. t.number < length past) (λ t. is_flush_of q t ≡ true → t.number < length past) (unended_tickets past) (λ t less is. less) (unended_below past)))
 
--- ---- what the book is told of queueings
+-- ---- queueings are applied to the book
 
 -- where only the open numbers and what comes next may differ
 pub record SameTickets (old b : FlushBook) : Type 0 where
@@ -108,28 +79,28 @@ pub record OpensOn (n : ℕ) (old b : FlushBook) : Type 0 where
   pub later : old.next ≤ b.next
   pub from : AllByRecursion (IsOldOr n old) b.opened
 
-told_ended_is : (past : List Entry) (e : Entry) (q : ℕ) (b : FlushBook) → QueueingStep past e → b.opened ≡ open_numbers past q
-    → (told_ended (ending past e) q b).opened ≡ map number_of_queueing (filter (is_on_queue q) (filter (survives past e) (still_open past)))
-told_ended_is past e q b (queueing.ends_none is all) opened =
-    ap (λ o. (told_ended o q b).opened) is ∙ opened ∙ sym (ap (λ xs. map number_of_queueing (filter (is_on_queue q) xs)) (filter_goes_on number_of_queueing (survives past e) (still_open past) all))
-told_ended_is past e q b (queueing.ends_one x is here all) opened = ap (λ o. (told_ended o q b).opened) is ∙ on (is_on_queue q x) refl ∙ sym left
+end_is : (past : List Entry) (e : Entry) (q : ℕ) (b : FlushBook) → QueueingStep past e → b.opened ≡ open_numbers past q
+    → (flushes_after_end (ending past e) q b).opened ≡ map number_of_queueing (filter (is_on_queue q) (filter (survives past e) (still_open past)))
+end_is past e q b (queueing.ends_none is all) opened =
+    ap (λ o. (flushes_after_end o q b).opened) is ∙ opened ∙ sym (ap (λ xs. map number_of_queueing (filter (is_on_queue q) xs)) (filter_goes_on number_of_queueing (survives past e) (still_open past) all))
+end_is past e q b (queueing.ends_one x is here all) opened = ap (λ o. (flushes_after_end o q b).opened) is ∙ on (is_on_queue q x) refl ∙ sym left
   where
     left : map number_of_queueing (filter (is_on_queue q) (filter (survives past e) (still_open past))) ≡ without x.number (open_numbers past q)
     left = numbers_without number_of_queueing (is_on_queue q) (survives past e) x.number (still_open past) all
 
-    on : (c : Bool) → is_on_queue q x ≡ c → (if c then after_ended b x.number else b).opened ≡ without x.number (open_numbers past q)
+    on : (c : Bool) → is_on_queue q x ≡ c → (if c then flushes_without_open b x.number else b).opened ≡ without x.number (open_numbers past q)
     on true is = ap (without x.number) opened
     on false off = opened ∙ sym (numbers_lack number_of_queueing (is_on_queue q) x (still_open past) (open_numbers_rise past) here off)
 
 without_all : (P : ℕ → Type 0) (n : ℕ) (ns : List ℕ) → AllByRecursion P ns → AllByRecursion P (without n ns)
-without_all P n ns h = All_filter P (is_other n) ns (All_map P (λ m. is_other n m ≡ true → P m) ns (λ m k other. k) h)
+without_all P n ns h = All_filter P (is_other_number n) ns (All_map P (λ m. is_other_number n m ≡ true → P m) ns (λ m k other. k) h)
 
-ended_on : (o : Option Queueing) (q n : ℕ) (b : FlushBook) → AllByRecursion (λ m. m < b.next) b.opened → b.next ≤ n → OpensOn n b (told_ended o q b)
+ended_on : (o : Option Queueing) (q n : ℕ) (b : FlushBook) → AllByRecursion (λ m. m < b.next) b.opened → b.next ≤ n → OpensOn n b (flushes_after_end o q b)
 ended_on None q n b older next =
     record { tickets = record { callers = refl; served = refl; overflow = refl; drains = refl }; older = older; next = omega arith; later = omega arith; from = old_all n b }
 ended_on (Some x) q n b older next = here (is_on_queue q x)
   where
-    here : (c : Bool) → OpensOn n b (if c then after_ended b x.number else b)
+    here : (c : Bool) → OpensOn n b (if c then flushes_without_open b x.number else b)
     here true = record {
       tickets = record { callers = refl; served = refl; overflow = refl; drains = refl };
       older = without_all (λ m. m < b.next) x.number b.opened older;
@@ -139,12 +110,12 @@ ended_on (Some x) q n b older next = here (is_on_queue q x)
     }
     here false = record { tickets = record { callers = refl; served = refl; overflow = refl; drains = refl }; older = older; next = omega arith; later = omega arith; from = old_all n b }
 
-opened_on : (o : Option Queueing) (q n : ℕ) (b : FlushBook) → ((x : Queueing) → o ≡ Some x → x.number ≡ n) → AllByRecursion (λ m. m < b.next) b.opened → b.next ≤ n → OpensOn n b (told_opened o q b)
+opened_on : (o : Option Queueing) (q n : ℕ) (b : FlushBook) → ((x : Queueing) → o ≡ Some x → x.number ≡ n) → AllByRecursion (λ m. m < b.next) b.opened → b.next ≤ n → OpensOn n b (flushes_after_opening o q b)
 opened_on None q n b number older next =
     record { tickets = record { callers = refl; served = refl; overflow = refl; drains = refl }; older = older; next = omega arith; later = omega arith; from = old_all n b }
 opened_on (Some x) q n b number older next = here (is_on_queue q x)
   where
-    here : (c : Bool) → OpensOn n b (if c then after_opened b x.number else b)
+    here : (c : Bool) → OpensOn n b (if c then flushes_with_open b x.number else b)
     here true =
         let is : x.number ≡ n = number x refl in
         record {
@@ -156,19 +127,19 @@ opened_on (Some x) q n b number older next = here (is_on_queue q x)
         }
     here false = record { tickets = record { callers = refl; served = refl; overflow = refl; drains = refl }; older = older; next = omega arith; later = omega arith; from = old_all n b }
 
-pub opened_numbers : (o : Option Queueing) (q : ℕ) (b : FlushBook) → (told_opened o q b).opened ≡ b.opened ++ map number_of_queueing (filter (is_on_queue q) (option_to_list o))
+pub opened_numbers : (o : Option Queueing) (q : ℕ) (b : FlushBook) → (flushes_after_opening o q b).opened ≡ b.opened ++ map number_of_queueing (filter (is_on_queue q) (option_to_list o))
 opened_numbers None q b = sym (append-nil b.opened)
 opened_numbers (Some x) q b = here (is_on_queue q x)
   where
-    here : (c : Bool) → (if c then after_opened b x.number else b).opened ≡ b.opened ++ map number_of_queueing (cond c (x ∷ []) [])
+    here : (c : Bool) → (if c then flushes_with_open b x.number else b).opened ≡ b.opened ++ map number_of_queueing (cond c (x ∷ []) [])
     here true = refl
     here false = sym (append-nil b.opened)
 
-pub told_opens : (s : Layout) (past : List Entry) (e : Entry) (q : ℕ) (b : FlushBook) → IsLegal s (e ∷ past) → b.opened ≡ open_numbers past q → (told_queueings past e q b).opened ≡ open_numbers (e ∷ past) q
+pub opened_is : (s : Layout) (past : List Entry) (e : Entry) (q : ℕ) (b : FlushBook) → IsLegal s (e ∷ past) → b.opened ≡ open_numbers past q → (flushes_after_queueings past e q b).opened ≡ open_numbers (e ∷ past) q
 unfolding IsLegal
-told_opens s past e q b legal opened =
-    opened_numbers (opening past e) q (told_ended (ending past e) q b)
-    ∙ ap (λ ns. ns ++ map number_of_queueing (filter (is_on_queue q) (option_to_list (opening past e)))) (told_ended_is past e q b (queueing_step s past e legal) opened)
+opened_is s past e q b legal opened =
+    opened_numbers (opening past e) q (flushes_after_end (ending past e) q b)
+    ∙ ap (λ ns. ns ++ map number_of_queueing (filter (is_on_queue q) (option_to_list (opening past e)))) (end_is past e q b (queueing_step s past e legal) opened)
     ∙ sym (map-append number_of_queueing (filter (is_on_queue q) (filter (survives past e) (still_open past))) (filter (is_on_queue q) (option_to_list (opening past e))))
     ∙ sym (ap (map number_of_queueing) (ap (filter (is_on_queue q)) (open_go_on s past e legal) ∙ filter-append (is_on_queue q) (filter (survives past e) (still_open past)) (option_to_list (opening past e))))
 
@@ -189,32 +160,32 @@ opens_twice n a b c h le k =
       from = All_map (IsOldOr n b) (IsOldOr n a) c.opened (λ m o. ⊎_elim (λ i. of_in (IsOldOr n a) b.opened m h.from i) (λ e. inr e) o) k.from;
     }
 
-pub ended_next : (o : Option Queueing) (q : ℕ) (b : FlushBook) → (told_ended o q b).next ≡ b.next
+pub ended_next : (o : Option Queueing) (q : ℕ) (b : FlushBook) → (flushes_after_end o q b).next ≡ b.next
 ended_next None q b = refl
 ended_next (Some x) q b = here (is_on_queue q x)
   where
-    here : (c : Bool) → (if c then after_ended b x.number else b).next ≡ b.next
+    here : (c : Bool) → (if c then flushes_without_open b x.number else b).next ≡ b.next
     here true = refl
     here false = refl
 
-pub told_on : (past : List Entry) (e : Entry) (q : ℕ) (b : FlushBook) → AllByRecursion (λ m. m < b.next) b.opened → b.next ≤ length past → OpensOn (length past) b (told_queueings past e q b)
-told_on past e q b older next =
+pub applied_on : (past : List Entry) (e : Entry) (q : ℕ) (b : FlushBook) → AllByRecursion (λ m. m < b.next) b.opened → b.next ≤ length past → OpensOn (length past) b (flushes_after_queueings past e q b)
+applied_on past e q b older next =
     let first = ended_on (ending past e) q (length past) b older next in
-    let is : (told_ended (ending past e) q b).next ≡ b.next = ended_next (ending past e) q b in
-    opens_twice (length past) b (told_ended (ending past e) q b) (told_queueings past e q b) first (omega arith)
-    (opened_on (opening past e) q (length past) (told_ended (ending past e) q b) (opening_number past e) first.older (omega arith))
+    let is : (flushes_after_end (ending past e) q b).next ≡ b.next = ended_next (ending past e) q b in
+    opens_twice (length past) b (flushes_after_end (ending past e) q b) (flushes_after_queueings past e q b) first (omega arith)
+    (opened_on (opening past e) q (length past) (flushes_after_end (ending past e) q b) (opening_number past e) first.older (omega arith))
 
 -- a flush that is served stays so
-pub soon_after : (s : Layout) (past : List Entry) (q : ℕ) (old b : FlushBook) → AreFlushes s past q old → OpensOn (length past) old b → Stands past q (flush_numbers q (unended past)) (drain_numbers q (unended past)) b
+pub soon_after : (s : Layout) (past : List Entry) (q : ℕ) (old b : FlushBook) → AreFlushes s past q old → OpensOn (length past) old b → Stands past q (flush_numbers q (unended_tickets past)) (drain_numbers q (unended_tickets past)) b
 soon_after s past q old b is on = record {
-  flushes_are = ap₂ (λ fs os. tickets_of fs ++ os) on.tickets.served on.tickets.overflow ∙ is.flushes;
+  flushes_are = ap₂ (λ fs os. tickets_of_served fs ++ os) on.tickets.served on.tickets.overflow ∙ is.flushes;
   drains_are = on.tickets.drains ∙ is.drains;
   few = subst (λ fs. length fs ≤ 15) (sym on.tickets.served) is.few;
   serving = λ some. ap length on.tickets.served ∙ is.serving (subst (λ os. 0 < length os) on.tickets.overflow some);
   bounds = subst (AllByRecursion (λ f. f.bound ≤ b.next)) (sym on.tickets.served) (All_map (λ f. f.bound ≤ old.next) (λ f. f.bound ≤ b.next) old.served (λ f le. let later = on.later in omega arith) is.bounds);
   soon = subst (AllByRecursion (ServedSoon past q b.next b.opened)) (sym on.tickets.served) (all_in (ServedSoon past q b.next b.opened) old.served
       (λ f i. already (more f (of_in (IsServedFrom past q old.opened) old.served f is.served_from i) (of_in (λ f. f.bound ≤ old.next) old.served f is.bounds i))));
-  overflowed = subst (AllByRecursion (λ t. served past q t ≡ None)) (sym on.tickets.overflow) is.overflowed;
+  overflowed = subst (AllByRecursion (λ t. serving_from past q t ≡ None)) (sym on.tickets.overflow) is.overflowed;
 }
   where
     more : (f : Served) → IsServedFrom past q old.opened f → f.bound ≤ old.next → IsServedFrom past q b.opened f
@@ -231,7 +202,7 @@ soon_after s past q old b is on = record {
             let before = served_before past q f.ticket h.position h.is_served in
             le-ltb (length past) f.bound (omega arith) ∙ sym (lt-leb (length past) h.position before)
 
--- ---- what the book is told of tickets
+-- ---- tickets are applied to the book
 
 pub flush_no_drain : (q : ℕ) (c : Call) → flushes q c ≡ true → drains q c ≡ false
 flush_no_drain q (call.Flush r) h = refl
@@ -243,30 +214,30 @@ StandsAs past q ts b = Stands past q (flush_numbers q ts) (drain_numbers q ts) b
 same_stands : (past : List Entry) (q : ℕ) (fs gs ds es : List ℕ) (b : FlushBook) → fs ≡ gs → ds ≡ es → Stands past q fs ds b → Stands past q gs es b
 same_stands past q fs gs ds es b hf hd is = subst (λ xs. Stands past q gs xs b) hd (subst (λ xs. Stands past q xs ds b) hf is)
 
-pub stands_done : (past : List Entry) (e : Entry) (q : ℕ) (b : FlushBook) → TicketStep past e → StandsAs past q (unended past) b → StandsAs past q (filter (is_kept e) (unended past)) (told_done (ticket_ended past e) q b)
+pub stands_done : (past : List Entry) (e : Entry) (q : ℕ) (b : FlushBook) → TicketStep past e → StandsAs past q (unended_tickets past) b → StandsAs past q (filter (is_kept e) (unended_tickets past)) (flushes_after_done (ticket_ended past e) q b)
 stands_done past e q b (ends_none is all) stands =
-    subst (λ o. StandsAs past q (filter (is_kept e) (unended past)) (told_done o q b)) (sym is) (subst (λ ts. StandsAs past q ts b) (sym (filter_goes_on number_of_ticket (is_kept e) (unended past) all)) stands)
-stands_done past e q b (ends_one u is here it) stands = subst (λ o. StandsAs past q (filter (is_kept e) (unended past)) (told_done o q b)) (sym is) (kind (is_flush_of q u) (is_drain_of q u) refl refl)
+    subst (λ o. StandsAs past q (filter (is_kept e) (unended_tickets past)) (flushes_after_done o q b)) (sym is) (subst (λ ts. StandsAs past q ts b) (sym (filter_goes_on number_of_ticket (is_kept e) (unended_tickets past) all)) stands)
+stands_done past e q b (ends_one u is here it) stands = subst (λ o. StandsAs past q (filter (is_kept e) (unended_tickets past)) (flushes_after_done o q b)) (sym is) (kind (is_flush_of q u) (is_drain_of q u) refl refl)
   where
-    left : (p : Ticket → Bool) → map number_of_ticket (filter p (filter (is_kept e) (unended past))) ≡ without u.number (map number_of_ticket (filter p (unended past)))
-    left p = numbers_without number_of_ticket p (is_kept e) u.number (unended past) (all_in (λ t. is_kept e t ≡ not (t.number == u.number)) (unended past) (ends_only past e u here it))
+    left : (p : Ticket → Bool) → map number_of_ticket (filter p (filter (is_kept e) (unended_tickets past))) ≡ without u.number (map number_of_ticket (filter p (unended_tickets past)))
+    left p = numbers_without number_of_ticket p (is_kept e) u.number (unended_tickets past) (all_in (λ t. is_kept e t ≡ not (t.number == u.number)) (unended_tickets past) (ends_only past e u here it))
 
-    lacks : (p : Ticket → Bool) → p u ≡ false → map number_of_ticket (filter p (unended past)) ≡ map number_of_ticket (filter p (filter (is_kept e) (unended past)))
-    lacks p fails = sym (left p ∙ numbers_lack number_of_ticket p u (unended past) (unended_rise past) here fails)
+    lacks : (p : Ticket → Bool) → p u ≡ false → map number_of_ticket (filter p (unended_tickets past)) ≡ map number_of_ticket (filter p (filter (is_kept e) (unended_tickets past)))
+    lacks p fails = sym (left p ∙ numbers_lack number_of_ticket p u (unended_tickets past) (unended_rise past) here fails)
 
-    kind : (f d : Bool) → is_flush_of q u ≡ f → is_drain_of q u ≡ d → StandsAs past q (filter (is_kept e) (unended past)) (if f then after_end b u.number else if d then after_drain_end b u.number else b)
-    kind true d hf hd = same_stands past q (without u.number (flush_numbers q (unended past))) _ (drain_numbers q (unended past)) _ (after_end b u.number)
+    kind : (f d : Bool) → is_flush_of q u ≡ f → is_drain_of q u ≡ d → StandsAs past q (filter (is_kept e) (unended_tickets past)) (if f then flushes_without_wait b u.number else if d then after_drain_end b u.number else b)
+    kind true d hf hd = same_stands past q (without u.number (flush_numbers q (unended_tickets past))) _ (drain_numbers q (unended_tickets past)) _ (flushes_without_wait b u.number)
         (sym (left (is_flush_of q))) (lacks (is_drain_of q) (flush_no_drain q u.call hf))
-        (stands_end past q u.number (flush_numbers q (unended past)) (drain_numbers q (unended past)) b (flush_numbers_rise past q) stands)
-    kind false true hf hd = same_stands past q (flush_numbers q (unended past)) _ (without u.number (drain_numbers q (unended past))) _ (after_drain_end b u.number)
+        (stands_end past q u.number (flush_numbers q (unended_tickets past)) (drain_numbers q (unended_tickets past)) b (flush_numbers_rise past q) stands)
+    kind false true hf hd = same_stands past q (flush_numbers q (unended_tickets past)) _ (without u.number (drain_numbers q (unended_tickets past))) _ (after_drain_end b u.number)
         (lacks (is_flush_of q) hf) (sym (left (is_drain_of q)))
-        (stands_drain_end past q u.number (flush_numbers q (unended past)) (drain_numbers q (unended past)) b stands)
-    kind false false hf hd = same_stands past q (flush_numbers q (unended past)) _ (drain_numbers q (unended past)) _ b (lacks (is_flush_of q) hf) (lacks (is_drain_of q) hd) stands
+        (stands_drain_end past q u.number (flush_numbers q (unended_tickets past)) (drain_numbers q (unended_tickets past)) b stands)
+    kind false false hf hd = same_stands past q (flush_numbers q (unended_tickets past)) _ (drain_numbers q (unended_tickets past)) _ b (lacks (is_flush_of q) hf) (lacks (is_drain_of q) hd) stands
 
 numbers_more : (p : Ticket → Bool) (ts us : List Ticket) → map number_of_ticket (filter p (ts ++ us)) ≡ map number_of_ticket (filter p ts) ++ map number_of_ticket (filter p us)
 numbers_more p ts us = ap (map number_of_ticket) (filter-append p ts us) ∙ map-append number_of_ticket (filter p ts) (filter p us)
 
-stands_begun : (past : List Entry) (q : ℕ) (ts : List Ticket) (o : Option Ticket) (b : FlushBook) → ((t : Ticket) → o ≡ Some t → length past ≤ t.number) → StandsAs past q ts b → StandsAs past q (ts ++ option_to_list o) (told_begun o q b)
+stands_begun : (past : List Entry) (q : ℕ) (ts : List Ticket) (o : Option Ticket) (b : FlushBook) → ((t : Ticket) → o ≡ Some t → length past ≤ t.number) → StandsAs past q ts b → StandsAs past q (ts ++ option_to_list o) (flushes_after_begun o q b)
 stands_begun past q ts None b number stands = subst (λ xs. StandsAs past q xs b) (sym (append-nil ts)) stands
 stands_begun past q ts (Some t) b number stands = kind (is_flush_of q t) (is_drain_of q t) refl refl
   where
@@ -276,18 +247,18 @@ stands_begun past q ts (Some t) b number stands = kind (is_flush_of q t) (is_dra
     same : (p : Ticket → Bool) → p t ≡ false → map number_of_ticket (filter p ts) ≡ map number_of_ticket (filter p (ts ++ t ∷ []))
     same p fails = sym (numbers_more p ts (t ∷ []) ∙ ap (λ b. map number_of_ticket (filter p ts) ++ map number_of_ticket (cond b (t ∷ []) [])) fails ∙ append-nil (map number_of_ticket (filter p ts)))
 
-    kind : (f d : Bool) → is_flush_of q t ≡ f → is_drain_of q t ≡ d → StandsAs past q (ts ++ t ∷ []) (if f then after_begin b t.number else if d then after_drain_begin b t.number else b)
-    kind true d hf hd = same_stands past q (flush_numbers q ts ++ t.number ∷ []) _ (drain_numbers q ts) _ (after_begin b t.number)
+    kind : (f d : Bool) → is_flush_of q t ≡ f → is_drain_of q t ≡ d → StandsAs past q (ts ++ t ∷ []) (if f then flushes_with_wait b t.number else if d then after_drain_begin b t.number else b)
+    kind true d hf hd = same_stands past q (flush_numbers q ts ++ t.number ∷ []) _ (drain_numbers q ts) _ (flushes_with_wait b t.number)
         (newest (is_flush_of q) hf) (same (is_drain_of q) (flush_no_drain q t.call hf))
-        (stands_begin past q t.number (flush_numbers q ts) (drain_numbers q ts) b (unserved_before past q t.number (number t refl)) stands)
+        (stands_begin past q t.number (flush_numbers q ts) (drain_numbers q ts) b (not_served_yet past q t.number (number t refl)) stands)
     kind false true hf hd = same_stands past q (flush_numbers q ts) _ (drain_numbers q ts ++ t.number ∷ []) _ (after_drain_begin b t.number) (same (is_flush_of q) hf) (newest (is_drain_of q) hd)
         (stands_drain_begin past q t.number (flush_numbers q ts) (drain_numbers q ts) b stands)
     kind false false hf hd = same_stands past q (flush_numbers q ts) _ (drain_numbers q ts) _ b (same (is_flush_of q) hf) (same (is_drain_of q) hd) stands
 
-stands_after : (s : Layout) (past : List Entry) (e : Entry) (q : ℕ) (b : FlushBook) → IsLegal s (e ∷ past) → StandsAs past q (unended past) b → StandsAs past q (unended (e ∷ past)) (told_tickets past e q b)
+stands_after : (s : Layout) (past : List Entry) (e : Entry) (q : ℕ) (b : FlushBook) → IsLegal s (e ∷ past) → StandsAs past q (unended_tickets past) b → StandsAs past q (unended_tickets (e ∷ past)) (flushes_after_tickets past e q b)
 stands_after s past e q b legal is =
-    subst (λ ts. StandsAs past q ts (told_tickets past e q b)) (sym (unended_go_on s past e legal))
-    (stands_begun past q (filter (is_kept e) (unended past)) (ticket_given past e) (told_done (ticket_ended past e) q b) (λ t h. let number = (ticket_in_is e (length past) t h).number in omega arith)
+    subst (λ ts. StandsAs past q ts (flushes_after_tickets past e q b)) (sym (unended_go_on s past e legal))
+    (stands_begun past q (filter (is_kept e) (unended_tickets past)) (ticket_given past e) (flushes_after_done (ticket_ended past e) q b) (λ t h. let number = (ticket_in_is e (length past) t h).number in omega arith)
     (stands_done past e q b (ticket_step past e) is))
 
 -- they change nothing that is open
@@ -303,39 +274,39 @@ open_if : (c : Bool) (old a b : FlushBook) → SameOpen old a → SameOpen old b
 open_if true old a b h k = h
 open_if false old a b h k = k
 
-pub done_open : (o : Option Ticket) (q : ℕ) (b : FlushBook) → SameOpen b (told_done o q b)
+pub done_open : (o : Option Ticket) (q : ℕ) (b : FlushBook) → SameOpen b (flushes_after_done o q b)
 done_open None q b = same_open b
-done_open (Some t) q b = open_if (is_flush_of q t) b (after_end b t.number) _ (open_if (is_some (served_of b t.number)) b _ _ (record { callers = refl; opened = refl; next = refl }) (record { callers = refl; opened = refl; next = refl }))
+done_open (Some t) q b = open_if (is_flush_of q t) b (flushes_without_wait b t.number) _ (open_if (is_some (served_of b t.number)) b _ _ (record { callers = refl; opened = refl; next = refl }) (record { callers = refl; opened = refl; next = refl }))
     (open_if (is_drain_of q t) b (after_drain_end b t.number) b (record { callers = refl; opened = refl; next = refl }) (same_open b))
 
-begun_open : (o : Option Ticket) (q : ℕ) (b : FlushBook) → SameOpen b (told_begun o q b)
+begun_open : (o : Option Ticket) (q : ℕ) (b : FlushBook) → SameOpen b (flushes_after_begun o q b)
 begun_open None q b = same_open b
-begun_open (Some t) q b = open_if (is_flush_of q t) b (after_begin b t.number) _ (open_if (nat_lt (length b.served) 15) b _ _ (record { callers = refl; opened = refl; next = refl }) (record { callers = refl; opened = refl; next = refl }))
+begun_open (Some t) q b = open_if (is_flush_of q t) b (flushes_with_wait b t.number) _ (open_if (nat_lt (length b.served) 15) b _ _ (record { callers = refl; opened = refl; next = refl }) (record { callers = refl; opened = refl; next = refl }))
     (open_if (is_drain_of q t) b (after_drain_begin b t.number) b (record { callers = refl; opened = refl; next = refl }) (same_open b))
 
-tickets_open : (past : List Entry) (e : Entry) (q : ℕ) (b : FlushBook) → SameOpen b (told_tickets past e q b)
+tickets_open : (past : List Entry) (e : Entry) (q : ℕ) (b : FlushBook) → SameOpen b (flushes_after_tickets past e q b)
 tickets_open past e q b =
     let first = done_open (ticket_ended past e) q b in
-    let second = begun_open (ticket_given past e) q (told_done (ticket_ended past e) q b) in
+    let second = begun_open (ticket_given past e) q (flushes_after_done (ticket_ended past e) q b) in
     record { callers = second.callers ∙ first.callers; opened = second.opened ∙ first.opened; next = second.next ∙ first.next }
 
 -- ---- what stands is served as the history says
 
 -- fewer than 15 older ones are unended of one that is served, and 15 or more of one in overflow
-pub few_are_older : (past : List Entry) (q t : ℕ) (b : FlushBook) → flush_tickets b ≡ flush_numbers q (unended past) → length b.served ≤ 15 → In t (tickets_of b.served) → count_by (is_older_flush q t) (unended past) < 15
+pub few_are_older : (past : List Entry) (q t : ℕ) (b : FlushBook) → flush_tickets b ≡ flush_numbers q (unended_tickets past) → length b.served ≤ 15 → In t (tickets_of_served b.served) → count_by (is_older_flush q t) (unended_tickets past) < 15
 few_are_older past q t b are few here =
     let rise = subst (RisesBy itself) (sym are) (flush_numbers_rise past q) in
-    let fewer = fewer_before (tickets_of b.served) b.overflow t rise here in
-    let size = length-map b.served ticket_of in
+    let fewer = fewer_before (tickets_of_served b.served) b.overflow t rise here in
+    let size = length-map b.served ticket_of_served in
     let count = older_flushes past q t ∙ ap (count_by (is_less t)) (sym are) in
     omega arith
 
-pub many_are_older : (past : List Entry) (q t : ℕ) (b : FlushBook) → flush_tickets b ≡ flush_numbers q (unended past) → IsServing b → In t b.overflow → 15 ≤ count_by (is_older_flush q t) (unended past)
+pub many_are_older : (past : List Entry) (q t : ℕ) (b : FlushBook) → flush_tickets b ≡ flush_numbers q (unended_tickets past) → IsServing b → In t b.overflow → 15 ≤ count_by (is_older_flush q t) (unended_tickets past)
 many_are_older past q t b are serving here =
     let rise = subst (RisesBy itself) (sym are) (flush_numbers_rise past q) in
-    let all = all_before (tickets_of b.served) b.overflow t rise here in
+    let all = all_before (tickets_of_served b.served) b.overflow t rise here in
     let full = serving (some b.overflow here) in
-    let size = length-map b.served ticket_of in
+    let size = length-map b.served ticket_of_served in
     let count = older_flushes past q t ∙ ap (count_by (is_less t)) (sym are) in
     omega arith
   where
@@ -343,37 +314,37 @@ many_are_older past q t b are serving here =
     some [] h = absurd h
     some (n ∷ ns) h = omega arith
 
-served_after : (e : Entry) (past : List Entry) (q t : ℕ) (b : FlushBook) → StandsAs past q (unended (e ∷ past)) b → In t (tickets_of b.served) → is_served_after (e ∷ past) q t ≡ true
-served_after e past q t b is here = lt-ltb (count_by (is_older_flush q t) (unended (e ∷ past))) 15 (few_are_older (e ∷ past) q t b is.flushes_are is.few here)
+served_after : (e : Entry) (past : List Entry) (q t : ℕ) (b : FlushBook) → StandsAs past q (unended_tickets (e ∷ past)) b → In t (tickets_of_served b.served) → is_served_after (e ∷ past) q t ≡ true
+served_after e past q t b is here = lt-ltb (count_by (is_older_flush q t) (unended_tickets (e ∷ past))) 15 (few_are_older (e ∷ past) q t b is.flushes_are is.few here)
 
-not_served_after : (e : Entry) (past : List Entry) (q t : ℕ) (b : FlushBook) → StandsAs past q (unended (e ∷ past)) b → In t b.overflow → is_served_after (e ∷ past) q t ≡ false
-not_served_after e past q t b is here = le-ltb (count_by (is_older_flush q t) (unended (e ∷ past))) 15 (many_are_older (e ∷ past) q t b is.flushes_are is.serving here)
+not_served_after : (e : Entry) (past : List Entry) (q t : ℕ) (b : FlushBook) → StandsAs past q (unended_tickets (e ∷ past)) b → In t b.overflow → is_served_after (e ∷ past) q t ≡ false
+not_served_after e past q t b is here = le-ltb (count_by (is_older_flush q t) (unended_tickets (e ∷ past))) 15 (many_are_older (e ∷ past) q t b is.flushes_are is.serving here)
 
-served_now : (e : Entry) (past : List Entry) (q : ℕ) (b : FlushBook) (f : Served) → StandsAs past q (unended (e ∷ past)) b → AllByRecursion (λ n. n < b.next) b.opened → b.next ≤ suc (length past) → In f b.served
+served_now : (e : Entry) (past : List Entry) (q : ℕ) (b : FlushBook) (f : Served) → StandsAs past q (unended_tickets (e ∷ past)) b → AllByRecursion (λ n. n < b.next) b.opened → b.next ≤ suc (length past) → In f b.served
     → ServedSoon past q b.next b.opened f → IsServedFrom (e ∷ past) q b.opened f
 served_now e past q b f is older next here (already h) = record { position = h.position; is_served = served_stay past e q f.ticket h.position h.is_served; same = h.same }
 served_now e past q b f is older next here (just_now unserved bound) =
-    let ticket = numbers_have ticket_of b.served f here in
-    let below : f.ticket < length (e ∷ past) = of_in (λ n. n < length (e ∷ past)) (flush_numbers q (unended (e ∷ past))) f.ticket (flush_numbers_below (e ∷ past) q) (subst (In f.ticket) is.flushes_are (in_left (tickets_of b.served) b.overflow f.ticket ticket)) in
+    let ticket = numbers_have ticket_of_served b.served f here in
+    let below : f.ticket < length (e ∷ past) = of_in (λ n. n < length (e ∷ past)) (flush_numbers q (unended_tickets (e ∷ past))) f.ticket (flush_numbers_below (e ∷ past) q) (subst (In f.ticket) is.flushes_are (in_left (tickets_of_served b.served) b.overflow f.ticket ticket)) in
     record {
       position = length past;
       is_served = served_at_once e past q f.ticket unserved (omega arith) (served_after e past q f.ticket b is ticket);
       same = All_map (λ n. n < b.next) (λ n. nat_lt n f.bound ≡ nat_le n (length past)) b.opened (λ n less. lt-ltb n f.bound (omega arith) ∙ sym (le-leb n (length past) (omega arith))) older;
     }
 
-pub flushes_refine : (s : Layout) (past : List Entry) (e : Entry) (q : ℕ) (b : FlushBook) → IsLegal s (e ∷ past) → AreFlushes s past q b → AreFlushes s (e ∷ past) q (told_tickets past e q (told_queueings past e q b))
-flushes_refine s past e q b legal is = after (told_tickets past e q (told_queueings past e q b)) (tickets_open past e q (told_queueings past e q b)) stands
+pub flushes_refine : (s : Layout) (past : List Entry) (e : Entry) (q : ℕ) (b : FlushBook) → IsLegal s (e ∷ past) → AreFlushes s past q b → AreFlushes s (e ∷ past) q (flushes_after_tickets past e q (flushes_after_queueings past e q b))
+flushes_refine s past e q b legal is = after (flushes_after_tickets past e q (flushes_after_queueings past e q b)) (tickets_open past e q (flushes_after_queueings past e q b)) stands
   where
-    on : OpensOn (length past) b (told_queueings past e q b)
-    on = told_on past e q b is.older is.next
+    on : OpensOn (length past) b (flushes_after_queueings past e q b)
+    on = applied_on past e q b is.older is.next
 
-    stands : StandsAs past q (unended (e ∷ past)) (told_tickets past e q (told_queueings past e q b))
-    stands = stands_after s past e q (told_queueings past e q b) legal (soon_after s past q b (told_queueings past e q b) is on)
+    stands : StandsAs past q (unended_tickets (e ∷ past)) (flushes_after_tickets past e q (flushes_after_queueings past e q b))
+    stands = stands_after s past e q (flushes_after_queueings past e q b) legal (soon_after s past q b (flushes_after_queueings past e q b) is on)
 
-    after : (c : FlushBook) → SameOpen (told_queueings past e q b) c → StandsAs past q (unended (e ∷ past)) c → AreFlushes s (e ∷ past) q c
+    after : (c : FlushBook) → SameOpen (flushes_after_queueings past e q b) c → StandsAs past q (unended_tickets (e ∷ past)) c → AreFlushes s (e ∷ past) q c
     after c same k = record {
       callers = same.callers ∙ on.tickets.callers ∙ is.callers;
-      opened = same.opened ∙ told_opens s past e q b legal is.opened;
+      opened = same.opened ∙ opened_is s past e q b legal is.opened;
       older = older;
       next = next;
       flushes = k.flushes_are;
@@ -381,12 +352,12 @@ flushes_refine s past e q b legal is = after (told_tickets past e q (told_queuei
       serving = k.serving;
       bounds = k.bounds;
       served_from = all_in (IsServedFrom (e ∷ past) q c.opened) c.served (λ f i. served_now e past q c f k older next i (of_in (ServedSoon past q c.next c.opened) c.served f k.soon i));
-      overflowed = all_in (λ t. served (e ∷ past) q t ≡ None) c.overflow (λ t i. not_yet e past q t (of_in (λ u. served past q u ≡ None) c.overflow t k.overflowed i) (not_served_after e past q t c k i));
+      overflowed = all_in (λ t. serving_from (e ∷ past) q t ≡ None) c.overflow (λ t i. not_yet e past q t (of_in (λ u. serving_from past q u ≡ None) c.overflow t k.overflowed i) (not_served_after e past q t c k i));
       drains = k.drains_are;
     }
       where
         older : AllByRecursion (λ n. n < c.next) c.opened
-        older = subst (AllByRecursion (λ n. n < c.next)) (sym same.opened) (subst (λ m. AllByRecursion (λ n. n < m) (told_queueings past e q b).opened) (sym same.next) on.older)
+        older = subst (AllByRecursion (λ n. n < c.next)) (sym same.opened) (subst (λ m. AllByRecursion (λ n. n < m) (flushes_after_queueings past e q b).opened) (sym same.next) on.older)
 
         next : c.next ≤ suc (length past)
         next = let le = on.next in let at = same.next in omega arith

@@ -1,30 +1,12 @@
 -- An item has two open queueings at most: its run, and after that one which hasn't started.
-use Rattle.std.proofs.Common.{◌≡◌, ◌==◌, ◌<◌, ℕ, Bool, true, false, not, ◌&&◌, ◌||◌, List, [], ◌∷◌, ◌++◌, length, map, filter, Option, Some, None, option_to_list, refl, sym, ap, ap₂, ◌∙◌, subst, arith, inl, inr, ◌⊎◌, ⊎_elim}
-use Rattle.std.specs.Prelude.{option_map}
-use Rattle.std.proofs.lemmas.Bool.{eqb-true, eq-eqb, and_parts, not-true, false≢true, false_from_ne_true}
-use Rattle.std.proofs.lemmas.Option.{same_Some}
-use Rattle.cmwq_model.specs.declared.entry.Entry.{Entry}
-use Rattle.cmwq_model.specs.declared.record.Queueing.{Queueing}
-use Rattle.cmwq_model.specs.declared.record.Start.{Start}
-use Rattle.cmwq_model.specs.Prelude.{Layout, item_at, starts, is_started, is_open, item_run, queueings, has_number, is_live, still_open, opening, is_of, is_unstarted, unstarted}
-use Rattle.cmwq_model.specs.Prelude.{IsLegal}
-use Rattle.cmwq_theory_steps.specs.Endings.{survives}
-use Rattle.cmwq_theory_active.proofs.Rising.{opening_number, queueings_below}
-use Rattle.cmwq_theory_steps.proofs.Entries.{IsKnown, queueings_known}
-use Rattle.cmwq_theory_steps.proofs.Endings.{open_go_on}
-use Rattle.cmwq_theory_steps.proofs.Fresh.{not_started_yet}
+use Rattle.cmwq_refinement.specs.Common.{◌≡◌, ◌==◌, ◌<◌, ℕ, Bool, true, false, not, ◌&&◌, ◌||◌, List, [], ◌∷◌, ◌++◌, length, map, filter, Option, Some, None, option_to_list, refl, sym, ap, ap₂, ◌∙◌, subst, arith, inl, inr, ◌⊎◌, ⊎_elim, option_map, eqb-true, eq-eqb, and_parts, not-true, false≢true, false_from_ne_true, same_Some, Entry, Queueing, Start, Layout, item_at, starts, is_started, is_open, item_run, queueings, has_number, is_live, still_open, opening, is_of, is_unstarted, unstarted_queueing, IsLegal, survives, opening_number, queueings_below, IsKnown, queueings_known, open_go_on, not_started_yet, items_are_run, last_started, run_is, found_known, found_number, starts_listed, runs_are_in_pools, unstarted_alone}
 use Rattle.cmwq_theory_steps.proofs.OneRun.{started_runs}
-use Rattle.cmwq_theory_steps.proofs.ItemSteps.{items_are_run}
-use Rattle.cmwq_theory_steps.proofs.RunSteps.{last_started}
-use Rattle.cmwq_theory_steps.proofs.ItemRuns.{run_is}
-use Rattle.cmwq_theory_steps.proofs.RunsActive.{found_known, found_number}
-use Rattle.cmwq_theory_steps.proofs.StartsListed.{starts_listed}
-use Rattle.cmwq_theory_steps.proofs.Pools.{runs_are_in_pools, unstarted_alone}
-use Rattle.cmwq_refinement.specs.Told.{number_of_queueing}
+use Rattle.cmwq_refinement.specs.ByNumber.{number_of_queueing}
 use Rattle.cmwq_refinement.specs.BarrierBooks.{item_numbers}
-use Rattle.cmwq_refinement.proofs.Members.{In, of_in, in_append, in_filter, filter_in, in_option, found}
-use Rattle.cmwq_refinement.proofs.Rising.{RisesBy, rises_filter}
+use Rattle.cmwq_lemmas.proofs.Members.{In, of_in, in_append, in_filter, filter_in, in_option, found}
+use Rattle.cmwq_lemmas.proofs.Rising.{RisesBy, rises_filter}
 use Rattle.cmwq_refinement.proofs.QueueingSteps.{open_numbers_rise}
+use Rattle.std.proofs.lemmas.Bool.{true_from_ne_false}
 
 -- ---- of two open queueings of an item the older has started
 
@@ -41,14 +23,10 @@ opened_unstarted s past e legal = ap₂ (λ a b. a || b) not_now (not_started_ye
         absurd (omega arith))
 
 pub one_of : (s : Layout) (past : List Entry) (x y : Queueing) → IsLegal s past → In x (still_open past) → In y (still_open past) → x.item.0 ≡ y.item.0 → is_started past x.number ≡ false → is_started past y.number ≡ false → x ≡ y
-one_of s past x y legal hx hy item ux uy = same_Some x y (sym (listed x hx refl ux) ∙ ap (unstarted past) item ∙ listed y hy refl uy)
+one_of s past x y legal hx hy item ux uy = same_Some x y (sym (listed x hx refl ux) ∙ ap (unstarted_queueing past) item ∙ listed y hy refl uy)
   where
-    listed : (z : Queueing) → In z (still_open past) → z.item.0 ≡ z.item.0 → is_started past z.number ≡ false → unstarted past z.item.0 ≡ Some z
-    listed z h same idle = of_in (λ w. is_unstarted past z.item.0 w ≡ true → unstarted past z.item.0 ≡ Some w) (still_open past) z (unstarted_alone s past z.item.0 legal) h (ap₂ (λ a b. a && not b) (eq-eqb z.item.0 z.item.0 refl) idle)
-
-not_false : (b : Bool) → (b ≡ false → ⊥) → b ≡ true
-not_false true h = refl
-not_false false h = absurd (h refl)
+    listed : (z : Queueing) → In z (still_open past) → z.item.0 ≡ z.item.0 → is_started past z.number ≡ false → unstarted_queueing past z.item.0 ≡ Some z
+    listed z h same idle = of_in (λ w. is_unstarted past z.item.0 w ≡ true → unstarted_queueing past z.item.0 ≡ Some w) (still_open past) z (unstarted_alone s past z.item.0 legal) h (ap₂ (λ a b. a && not b) (eq-eqb z.item.0 z.item.0 refl) idle)
 
 open_older : (past : List Entry) (x : Queueing) → In x (still_open past) → x.number < length past
 open_older past x i = of_in (λ y. y.number < length past) (queueings past) x (queueings_below past) (in_filter (is_live past) (queueings past) x i).0
@@ -69,7 +47,7 @@ older_started s (e ∷ past) x y legal hx hy item less = which (in_append (filte
         either : (b : Bool) → (b || true) ≡ true
         either true = refl
         either false = refl
-    which (inr i) before = not_false (is_started (e ∷ past) x.number) (λ idle.
+    which (inr i) before = true_from_ne_false (is_started (e ∷ past) x.number) (λ idle.
         let number = opening_number past e y (in_option (opening past e) y i) in
         let new : is_started (e ∷ past) y.number ≡ false = ap (is_started (e ∷ past)) number ∙ opened_unstarted s past e legal in
         let same : x.number ≡ y.number = ap number_of_queueing (one_of s (e ∷ past) x y legal hx hy item idle new) in
@@ -143,7 +121,7 @@ its_queueing s past i n legal h = by (item_run past i) refl h
         let open_here = filter_in (is_live past) (queueings past) r.queueing made r.live in
         (r.queueing, filter_in (is_of i) (still_open past) r.queueing open_here (eq-eqb r.queueing.item.0 i (same_Some r.queueing.item.0 i item)), at ∙ number, ap (is_started past) (sym number) ∙ last_started past start.worker start.number (run_is past start.worker start.number runs.0).last)
 
-are_items : (s : Layout) (past : List Entry) (i : ℕ) → IsLegal s past → AreItems past (run_number (item_run past i)) (unstarted past i) (filter (is_of i) (still_open past))
+are_items : (s : Layout) (past : List Entry) (i : ℕ) → IsLegal s past → AreItems past (run_number (item_run past i)) (unstarted_queueing past i) (filter (is_of i) (still_open past))
 are_items s past i legal = record {
   rise = rises_filter number_of_queueing (is_of i) (still_open past) (open_numbers_rise past);
   started_run = started_run;
@@ -163,16 +141,16 @@ are_items s past i legal = record {
         let known : item_at past x.number ≡ Some i = (of_in (IsKnown past) (queueings past) x (queueings_known past) live.0).item ∙ ap Some k.1 in
         started_runs s past i x.number legal known started (ap (λ j. is_open past j x.number) (sym k.1) ∙ live.1)
 
-    unstarted_new : (x : Queueing) → In x (filter (is_of i) (still_open past)) → is_started past x.number ≡ false → unstarted past i ≡ Some x
+    unstarted_new : (x : Queueing) → In x (filter (is_of i) (still_open past)) → is_started past x.number ≡ false → unstarted_queueing past i ≡ Some x
     unstarted_new x h idle =
         let k = its x h in
-        of_in (λ w. is_unstarted past i w ≡ true → unstarted past i ≡ Some w) (still_open past) x (unstarted_alone s past i legal) k.0 (ap₂ (λ a b. a && not b) (eq-eqb x.item.0 i k.1) idle)
+        of_in (λ w. is_unstarted past i w ≡ true → unstarted_queueing past i ≡ Some w) (still_open past) x (unstarted_alone s past i legal) k.0 (ap₂ (λ a b. a && not b) (eq-eqb x.item.0 i k.1) idle)
 
-    new_open : (x : Queueing) → unstarted past i ≡ Some x → In x (filter (is_of i) (still_open past)) × (is_started past x.number ≡ false)
+    new_open : (x : Queueing) → unstarted_queueing past i ≡ Some x → In x (filter (is_of i) (still_open past)) × (is_started past x.number ≡ false)
     new_open x h =
         let k = found (is_unstarted past i) (still_open past) x h in
         let both = and_parts (x.item.0 == i) (not (is_started past x.number)) k.1 in
         (filter_in (is_of i) (still_open past) x k.0 both.0, not-true (is_started past x.number) both.1)
 
-pub run_then_unstarted : (s : Layout) (past : List Entry) (i : ℕ) → IsLegal s past → item_numbers past i ≡ option_to_list (run_number (item_run past i)) ++ option_to_list (option_map number_of_queueing (unstarted past i))
-run_then_unstarted s past i legal = two_at_most past (run_number (item_run past i)) (unstarted past i) (filter (is_of i) (still_open past)) (are_items s past i legal)
+pub run_then_unstarted : (s : Layout) (past : List Entry) (i : ℕ) → IsLegal s past → item_numbers past i ≡ option_to_list (run_number (item_run past i)) ++ option_to_list (option_map number_of_queueing (unstarted_queueing past i))
+run_then_unstarted s past i legal = two_at_most past (run_number (item_run past i)) (unstarted_queueing past i) (filter (is_of i) (still_open past)) (are_items s past i legal)

@@ -1,5 +1,3 @@
-pub mod Members
-pub mod Rising
 pub mod TimerSteps
 pub mod Settled
 pub mod FirstDue

@@ -1,13 +1,7 @@
 -- Lists of what has a number, and of the numbers.
-use Rattle.std.proofs.Common.{◌≡◌, ◌==◌, ◌<◌, ◌≤◌, ◌+◌, ℕ, suc, Bool, true, false, cond, not, ◌&&◌, List, [], ◌∷◌, ◌++◌, length, map, filter, find, count_by, Some, nat_lt, refl, sym, ap, ap₂, ◌∙◌, subst, arith, inl, inr, ⊎_elim}
-use Rattle.std.specs.Prelude.{option_map}
-use Rattle.std.specs.List.{AllByRecursion}
-use Rattle.std.proofs.lemmas.Bool.{eqb-true, ne_eqb, false_from_ne_true}
-use Rattle.std.proofs.lemmas.Bool.Decides.{nat_tests}
-use Rattle.cmwq_flush.specs.Numbers.{without}
-use Rattle.cmwq_theory_active.proofs.Lists.{All_map, count_by-cons}
-use Rattle.cmwq_refinement.proofs.Members.{In, of_in, all_in, in_filter}
-use Rattle.cmwq_refinement.proofs.Rising.{RisesBy, rises_unique}
+use Rattle.cmwq_refinement.specs.Common.{◌≡◌, ◌==◌, ◌<◌, ◌≤◌, ◌+◌, ℕ, suc, Bool, true, false, cond, not, ◌&&◌, List, [], ◌∷◌, ◌++◌, length, map, filter, find, count_by, Some, nat_lt, refl, sym, ap, ap₂, ◌∙◌, subst, arith, inl, inr, ⊎_elim, option_map, AllByRecursion, eqb-true, ne_eqb, false_from_ne_true, nat_tests, without, All_map, count_by-cons}
+use Rattle.cmwq_lemmas.proofs.Members.{In, of_in, all_in, in_filter}
+use Rattle.cmwq_lemmas.proofs.Rising.{RisesBy, rises_unique}
 
 abbrev pub itself : ℕ → ℕ
 itself n = n

@@ -1,30 +1,14 @@
 -- What is opened and what is waited for is of items, queues and CPUs that the layout has.
-use Rattle.std.proofs.Common.{◌≡◌, ◌<◌, ℕ, true, List, [], ◌∷◌, length, Option, Some, None, option_to_list, refl, sym, ap, ◌∙◌, subst}
-use Rattle.std.specs.Prelude.{option_map, Contains}
-use Rattle.std.specs.Option.{option_or, option_map_or}
-use Rattle.std.specs.List.{AllByRecursion}
-use Rattle.std.proofs.lemmas.Option.{same_Some}
+use Rattle.cmwq_refinement.specs.Common.{◌≡◌, ◌<◌, ℕ, true, List, [], ◌∷◌, length, Option, Some, None, option_to_list, refl, sym, ap, ◌∙◌, subst, option_map, Contains, option_or, option_map_or, AllByRecursion, same_Some, Call, Entry, Booking, Queueing, Start, Ticket, Layout, has_numbers, booking, item_run, queueings, has_number, is_live, still_open, opening, place_called, place_booked, place_wanted, cpu_for, queued_at, tickets, unended_tickets, is_unended, ticket_in, IsLegal, All_append, opening_item, items_are_run, runs_are_in_pools}
 use Rattle.cmwq_model.specs.declared.id.CpuId.{CpuId}
-use Rattle.cmwq_model.specs.declared.call.Call.{Call}
-use Rattle.cmwq_model.specs.declared.entry.Entry.{Entry}
-use Rattle.cmwq_model.specs.declared.record.Booking.{Booking}
 use Rattle.cmwq_model.specs.declared.record.Place.{Place}
-use Rattle.cmwq_model.specs.declared.record.Queueing.{Queueing}
-use Rattle.cmwq_model.specs.declared.record.Start.{Start}
-use Rattle.cmwq_model.specs.declared.record.Ticket.{Ticket}
-use Rattle.cmwq_model.specs.Prelude.{Layout, has_numbers, booking, item_run, queueings, has_number, is_live, still_open, opening, place_called, place_booked, place_wanted}
-use Rattle.cmwq_model.specs.Prelude.{cpu_for, queued_at, tickets, unended, is_unended, ticket_in, IsLegal}
 use Rattle.cmwq_model.specs.declared.call.Call.TheVariants as call
-use Rattle.cmwq_theory_active.proofs.Lists.{All_append}
-use Rattle.cmwq_theory_steps.proofs.Entries.{opening_item}
 use Rattle.cmwq_theory_steps.proofs.Pending.{opening_opens}
 use Rattle.cmwq_theory_steps.proofs.StateSteps.{opens_as_asked}
-use Rattle.cmwq_theory_steps.proofs.ItemSteps.{items_are_run}
-use Rattle.cmwq_theory_steps.proofs.Pools.{runs_are_in_pools}
-use Rattle.cmwq_refinement.specs.Places.{IsThere}
-use Rattle.cmwq_refinement.proofs.Members.{In, of_in, all_in, in_option, in_filter, found, contained_in}
+use Rattle.cmwq_refinement.specs.Places.{IsQueueingThere}
+use Rattle.cmwq_lemmas.proofs.Members.{In, of_in, all_in, in_option, in_filter, found, contained_in}
 use Rattle.cmwq_refinement.proofs.Settled.{numbers_fit, place_fits}
-use Rattle.cmwq_refinement.proofs.FirstDue.{in_standing, standing_fits, timers_may_be_told}
+use Rattle.cmwq_refinement.proofs.FirstDue.{in_standing, standing_fits, entries_apply_to_timers}
 use Rattle.cmwq_refinement.proofs.TicketSteps.{ticket_in_is}
 
 record IsPlaceOf (s : Layout) (p : Place) : Type 0 where
@@ -58,7 +42,7 @@ wanted_there s past c i p legal fits h = by (place_called c) refl h
 -- ---- the CPU where the item runs, or the one that is asked for
 
 abbrev AllThere : Layout → List Entry → Type 0
-AllThere s past = AllByRecursion (IsThere s) (queueings past)
+AllThere s past = AllByRecursion (IsQueueingThere s) (queueings past)
 
 cpu_there : (s : Layout) (past : List Entry) (i : ℕ) (c : CpuId) → IsLegal s past → AllThere s past → c.0 < s.cpus → (cpu_for past i c).0 < s.cpus
 cpu_there s past i c legal there less = by (item_run past i) refl
@@ -69,16 +53,16 @@ cpu_there s past i c legal there less = by (item_run past i) refl
         let runs = items_are_run s past i start legal is in
         let r = runs_are_in_pools s past start.worker start.number legal runs.0 in
         let made = (found (has_number start.number) (queueings past) r.queueing r.found).0 in
-        subst (λ p. p.cpu.0 < s.cpus) r.pool (of_in (IsThere s) (queueings past) r.queueing there made).cpu
+        subst (λ p. p.cpu.0 < s.cpus) r.pool (of_in (IsQueueingThere s) (queueings past) r.queueing there made).cpu
 
-opened_fits : (s : Layout) (past : List Entry) (e : Entry) (x : Queueing) → IsLegal s (e ∷ past) → AllThere s past → opening past e ≡ Some x → IsThere s x
+opened_fits : (s : Layout) (past : List Entry) (e : Entry) (x : Queueing) → IsLegal s (e ∷ past) → AllThere s past → opening past e ≡ Some x → IsQueueingThere s x
 unfolding IsLegal
 opened_fits s past e x legal there h =
     let k = opens_as_asked s past e legal (opening_opens past e x h) in
     let same : queued_at past k.item k.place ≡ x = same_Some (queued_at past k.item k.place) x (sym k.opened ∙ h) in
     let place = wanted_there s past e.call k.item k.place legal.2 (numbers_fit s past e legal) k.is_place in
     record {
-      item = (timers_may_be_told s past e legal).item x.item.0 (opening_item e past x h);
+      item = (entries_apply_to_timers s past e legal).item x.item.0 (opening_item e past x h);
       queue = subst (λ (y : Queueing). y.place.queue.0 < length s.queues) same place.queue;
       cpu = subst (λ (y : Queueing). y.place.cpu.0 < s.cpus) same (cpu_there s past k.item k.place.cpu legal.2 there place.cpu);
     }
@@ -86,17 +70,17 @@ opened_fits s past e x legal there h =
 queueings_fit : (s : Layout) (past : List Entry) → IsLegal s past → AllThere s past
 unfolding queueings IsLegal
 queueings_fit s [] legal = tt
-queueings_fit s (e ∷ past) legal = All_append (IsThere s) (queueings past) (option_to_list (opening past e)) (queueings_fit s past legal.2)
-    (all_in (IsThere s) (option_to_list (opening past e)) (λ x i. opened_fits s past e x legal (queueings_fit s past legal.2) (in_option (opening past e) x i)))
+queueings_fit s (e ∷ past) legal = All_append (IsQueueingThere s) (queueings past) (option_to_list (opening past e)) (queueings_fit s past legal.2)
+    (all_in (IsQueueingThere s) (option_to_list (opening past e)) (λ x i. opened_fits s past e x legal (queueings_fit s past legal.2) (in_option (opening past e) x i)))
 
-pub opened_are_there : (s : Layout) (past : List Entry) (e : Entry) (x : Queueing) → IsLegal s (e ∷ past) → opening past e ≡ Some x → IsThere s x
+pub opened_are_there : (s : Layout) (past : List Entry) (e : Entry) (x : Queueing) → IsLegal s (e ∷ past) → opening past e ≡ Some x → IsQueueingThere s x
 unfolding IsLegal
 opened_are_there s past e x legal h = opened_fits s past e x legal (queueings_fit s past legal.2) h
 
-pub open_there : (s : Layout) (past : List Entry) (x : Queueing) → IsLegal s past → In x (still_open past) → IsThere s x
-open_there s past x legal i = of_in (IsThere s) (queueings past) x (queueings_fit s past legal) (in_filter (is_live past) (queueings past) x i).0
+pub open_there : (s : Layout) (past : List Entry) (x : Queueing) → IsLegal s past → In x (still_open past) → IsQueueingThere s x
+open_there s past x legal i = of_in (IsQueueingThere s) (queueings past) x (queueings_fit s past legal) (in_filter (is_live past) (queueings past) x i).0
 
-pub open_are_there : (s : Layout) (past : List Entry) (x : Queueing) → IsLegal s past → Contains (still_open past) x → IsThere s x
+pub open_are_there : (s : Layout) (past : List Entry) (x : Queueing) → IsLegal s past → Contains (still_open past) x → IsQueueingThere s x
 open_are_there s past x legal here = open_there s past x legal (contained_in (still_open past) x here)
 
 -- ---- each ticket is of a call that fits
@@ -108,8 +92,8 @@ tickets_fit s (e ∷ past) legal = All_append (λ t. has_numbers s t.call ≡ tr
     (all_in (λ t. has_numbers s t.call ≡ true) (option_to_list (ticket_in e (length past)))
     (λ t i. ap (has_numbers s) (ticket_in_is e (length past) t (in_option (ticket_in e (length past)) t i)).call ∙ numbers_fit s past e legal))
 
-pub unended_fit : (s : Layout) (past : List Entry) (t : Ticket) → IsLegal s past → In t (unended past) → has_numbers s t.call ≡ true
+pub unended_fit : (s : Layout) (past : List Entry) (t : Ticket) → IsLegal s past → In t (unended_tickets past) → has_numbers s t.call ≡ true
 unended_fit s past t legal i = of_in (λ u. has_numbers s u.call ≡ true) (tickets past) t (tickets_fit s past legal) (in_filter (is_unended past) (tickets past) t i).0
 
-pub unended_tickets_fit : (s : Layout) (past : List Entry) (t : Ticket) → IsLegal s past → Contains (unended past) t → has_numbers s t.call ≡ true
-unended_tickets_fit s past t legal here = unended_fit s past t legal (contained_in (unended past) t here)
+pub unended_tickets_fit : (s : Layout) (past : List Entry) (t : Ticket) → IsLegal s past → Contains (unended_tickets past) t → has_numbers s t.call ≡ true
+unended_tickets_fit s past t legal here = unended_fit s past t legal (contained_in (unended_tickets past) t here)

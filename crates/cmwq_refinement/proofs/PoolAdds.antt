@@ -1,25 +1,11 @@
 -- What became active may be added to its pool: no two that are listed have a number or an item in common.
-use Rattle.std.proofs.Common.{◌≡◌, ◌==◌, ◌<◌, false, not, ◌&&◌, ◌||◌, List, [], ◌∷◌, ◌++◌, map, filter, refl, sym, ap, ap₂, ◌∙◌, subst, arith, inl, ⊎_elim}
-use Rattle.std.specs.List.{AllByRecursion}
-use Rattle.std.proofs.lemmas.Bool.{eqb-true, false_from_ne_true, lt-ltb}
-use Rattle.std.proofs.lemmas.Option.{same_Some}
-use Rattle.std.proofs.lemmas.List.{append_assoc}
+use Rattle.cmwq_refinement.specs.Common.{◌≡◌, ◌==◌, ◌<◌, false, not, ◌&&◌, ◌||◌, List, [], ◌∷◌, ◌++◌, map, filter, refl, sym, ap, ap₂, ◌∙◌, subst, arith, inl, ⊎_elim, AllByRecursion, eqb-true, false_from_ne_true, lt-ltb, same_Some, append_assoc, All-from_recursion, PoolId, Entry, Queueing, Layout, still_open, worklist, IsLegal, is_left, worklist_is, worklists_go_on, Task, PoolState, is_like, pool_with_task}
 use Rattle.std.proofs.lemmas.List.Folds.{list_any_none}
-use Rattle.std.proofs.lemmas.List.Elements.{All-from_recursion}
-use Rattle.cmwq_model.specs.declared.id.PoolId.{PoolId}
-use Rattle.cmwq_model.specs.declared.entry.Entry.{Entry}
-use Rattle.cmwq_model.specs.declared.record.Queueing.{Queueing}
-use Rattle.cmwq_model.specs.Prelude.{Layout, still_open, worklist, IsLegal}
-use Rattle.cmwq_theory_steps.specs.Activations.{is_left}
 use Rattle.cmwq_theory_steps.specs.Order.{since, IsSooner, AreInOrder}
-use Rattle.cmwq_theory_steps.proofs.Worklist.{worklist_is}
-use Rattle.cmwq_theory_steps.proofs.WorklistSteps.{worklists_go_on}
-use Rattle.cmwq_pool.specs.declared.task.Task.{Task}
-use Rattle.cmwq_pool.specs.PoolState.{PoolState, is_like, added}
-use Rattle.cmwq_refinement.specs.Told.{number_of_queueing}
-use Rattle.cmwq_refinement.specs.Pools.{task_for, pool_of, made_active, told_first, MayAllBeAdded}
-use Rattle.cmwq_refinement.proofs.Members.{In, of_in, all_in, in_right}
-use Rattle.cmwq_refinement.proofs.Rising.{rises_unique}
+use Rattle.cmwq_refinement.specs.ByNumber.{number_of_queueing}
+use Rattle.cmwq_refinement.specs.Pools.{task_for, pool_of, made_active, pool_before_activation, MayAllBeAdded}
+use Rattle.cmwq_lemmas.proofs.Members.{In, of_in, all_in, in_right}
+use Rattle.cmwq_lemmas.proofs.Rising.{rises_unique}
 use Rattle.cmwq_refinement.proofs.QueueingSteps.{open_numbers_rise}
 use Rattle.cmwq_refinement.proofs.ItemNumbers.{one_of}
 use Rattle.cmwq_refinement.proofs.PlacesFit.{open_there}
@@ -40,7 +26,7 @@ apart_may_be_added : (s : Layout) (xs : List Queueing) (l : PoolState) → AllBy
 apart_may_be_added s [] l there apart = tt
 apart_may_be_added s (x ∷ xs) l there apart = (
   ap₂ (λ a b. a && not b) (lt-ltb x.item.0 l.items there.0) (list_any_none (is_like x.number x.item.0) l.listed (All-from_recursion (λ t. is_like x.number x.item.0 t ≡ false) l.listed (apart_from l.listed (map (task_for s) xs) (task_for s x) apart))),
-  apart_may_be_added s xs (added l (task_for s x)) there.1 (subst AreApart (sym (append_assoc l.listed (task_for s x ∷ []) (map (task_for s) xs))) apart),
+  apart_may_be_added s xs (pool_with_task l (task_for s x)) there.1 (subst AreApart (sym (append_assoc l.listed (task_for s x ∷ []) (map (task_for s) xs))) apart),
 )
 
 -- ---- those of a worklist
@@ -72,8 +58,8 @@ active_there s past e p legal = all_in (λ x. x.item.0 < s.items) (made_active s
     let listed = subst (In x) (sym (worklists_go_on s past e p legal)) (in_right (filter (is_left past e) (worklist s past p)) (made_active s past p e) x i) in
     (open_there s (e ∷ past) x legal (of_in (IsOnList s (e ∷ past) p) (worklist s (e ∷ past) p) x (worklist_has s (e ∷ past) p) listed).stands).item)
 
-pub active_may_be_added : (s : Layout) (past : List Entry) (e : Entry) (p : PoolId) → IsLegal s (e ∷ past) → MayAllBeAdded s (made_active s past p e) (told_first s past p e (pool_of s past p))
+pub active_may_be_added : (s : Layout) (past : List Entry) (e : Entry) (p : PoolId) → IsLegal s (e ∷ past) → MayAllBeAdded s (made_active s past p e) (pool_before_activation s past p e (pool_of s past p))
 active_may_be_added s past e p legal =
-    apart_may_be_added s (made_active s past p e) (told_first s past p e (pool_of s past p))
+    apart_may_be_added s (made_active s past p e) (pool_before_activation s past p e (pool_of s past p))
     (subst (λ n. AllByRecursion (λ x. x.item.0 < n) (made_active s past p e)) (sym (first_items s past e p)) (active_there s past e p legal))
     (subst AreApart (first_listed s past e p legal) (worklist_apart s (e ∷ past) p legal))

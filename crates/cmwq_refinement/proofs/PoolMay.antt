@@ -1,22 +1,11 @@
--- What a pool's worker is answered in a legal history may be told to the pool.
-use Rattle.std.proofs.Common.{◌≡◌, ◌<◌, ℕ, true, false, not, ◌&&◌, List, ◌∷◌, Some, refl, sym, ap, ap₂, ◌∙◌}
-use Rattle.std.specs.Prelude.{option_map, is_some}
-use Rattle.cmwq_model.specs.declared.id.WorkerId.{WorkerId}
-use Rattle.cmwq_model.specs.declared.id.Who.TheVariants.{Worker}
-use Rattle.cmwq_model.specs.declared.reply.Reply.{Reply}
-use Rattle.cmwq_model.specs.declared.entry.Entry.{Entry}
-use Rattle.cmwq_model.specs.Prelude.{Layout, number_started, number_finished, has_run, is_asleep, runs_awake, runs_asleep, next, is_enlisted, may_retire, runnable, IsLegal}
+-- What a worker is answered in a legal history may be applied to its pool.
+use Rattle.cmwq_refinement.specs.Common.{◌≡◌, ◌<◌, ℕ, true, false, not, ◌&&◌, List, ◌∷◌, Some, refl, sym, ap, ap₂, ◌∙◌, option_map, is_some, WorkerId, Worker, Reply, Entry, Layout, number_started, number_finished, has_run, is_asleep, runs_awake, runs_asleep, next, is_enlisted, may_retire, runnable, IsLegal, starts_next, finishes_run, cause_of, sleep_reason, wake_reason, retire_reason, slot_at, by_itself, same_starter}
 use Rattle.cmwq_model.specs.declared.reply.Reply.TheVariants as reply
-use Rattle.cmwq_theory_steps.proofs.Starts.{starts_next}
-use Rattle.cmwq_theory_steps.proofs.Fresh.{finishes_run}
-use Rattle.cmwq_theory_steps.proofs.Causes.{cause_of}
-use Rattle.cmwq_theory_steps.proofs.Reasons.{sleep_reason, wake_reason, retire_reason}
-use Rattle.cmwq_pool.specs.Slots.{slot_at, is_idle as is_idle_slot, runs_awake as slot_awake_runs, runs_asleep as slot_asleep_runs}
-use Rattle.cmwq_refinement.specs.Told.{number_of_queueing}
-use Rattle.cmwq_refinement.specs.Pools.{pool_of, MayStart, MayBeTold}
+use Rattle.cmwq_pool.specs.Slots.{slot_is_idle as is_idle_slot, slot_runs_awake as slot_awake_runs, slot_runs_asleep as slot_asleep_runs}
+use Rattle.cmwq_refinement.specs.ByNumber.{number_of_queueing}
+use Rattle.cmwq_refinement.specs.Pools.{pool_of, MayStartInPool, MayReplyInPool}
 use Rattle.cmwq_refinement.proofs.PoolReads.{slot_is, some_run, idle_slot, runnables_are_runnable, idle_retire_alike}
 use Rattle.cmwq_refinement.proofs.PoolNext.{worker_fits, nexts_are_next}
-use Rattle.cmwq_theory_steps.proofs.OwedSteps.{by_itself, same_starter}
 
 module _ (s : Layout) (past : List Entry) (e : Entry) (w : WorkerId) (legal : IsLegal s (e ∷ past)) (who : e.who ≡ Worker w) where
   before : IsLegal s past
@@ -32,7 +21,7 @@ module _ (s : Layout) (past : List Entry) (e : Entry) (w : WorkerId) (legal : Is
   asleep_slot : runs_asleep past w ≡ true → slot_asleep_runs (slot_at (pool_of s past w.pool).slots w.index) ≡ true
   asleep_slot h = ap slot_asleep_runs (slot_is s past w.pool w.index there) ∙ ap (λ b. b && is_asleep past w) (some_run s past w before) ∙ h
 
-  may_start : (n : ℕ) → number_started e.reply ≡ Some n → MayStart (pool_of s past w.pool) w.index
+  may_start : (n : ℕ) → number_started e.reply ≡ Some n → MayStartInPool (pool_of s past w.pool) w.index
   may_start n h =
       let st = starts_next s past e n legal h in
       let same = same_starter st.worker w (sym st.by_worker ∙ who) in
@@ -45,26 +34,26 @@ module _ (s : Layout) (past : List Entry) (e : Entry) (w : WorkerId) (legal : Is
         free = runnables_are_runnable s past w.pool before ∙ ap (λ (v : WorkerId). runnable s past v.pool) (sym same) ∙ st.is_clear;
       }
 
-  may_be_told : (r : Reply) → e.reply ≡ r → MayBeTold r (pool_of s past w.pool) w.index
-  may_be_told (reply.Started n) is = may_start n (ap number_started is)
-  may_be_told (reply.StartedEnlist n y) is = may_start n (ap number_started is)
-  may_be_told (reply.Finished n) is =
+  may_reply : (r : Reply) → e.reply ≡ r → MayReplyInPool r (pool_of s past w.pool) w.index
+  may_reply (reply.Started n) is = may_start n (ap number_started is)
+  may_reply (reply.StartedEnlist n y) is = may_start n (ap number_started is)
+  may_reply (reply.Finished n) is =
       let f = finishes_run s past e n legal (ap number_finished is) in
       awake_slot (ap (runs_awake past) (sym (same_starter f.worker w (sym f.by_worker ∙ who))) ∙ f.awake)
-  may_be_told reply.Slept is =
+  may_reply reply.Slept is =
       let k = sleep_reason s past e.who e.call e.reply (cause_of s past e legal) is in
       awake_slot (ap (runs_awake past) (sym (same_starter k.0 w (sym k.1 ∙ who))) ∙ k.3)
-  may_be_told reply.Woke is =
+  may_reply reply.Woke is =
       let k = wake_reason s past e.who e.call e.reply (cause_of s past e legal) is in
       asleep_slot (ap (runs_asleep past) (sym (same_starter k.0 w (sym k.1 ∙ who))) ∙ k.3)
-  may_be_told reply.Retired is =
+  may_reply reply.Retired is =
       let k = retire_reason s past e.who e.call e.reply (cause_of s past e legal) is in
       let same = same_starter k.0 w (sym k.1 ∙ who) in
       let enlisted : is_enlisted past w ≡ true = ap (is_enlisted past) (sym same) ∙ k.3 in
       let none : has_run past w ≡ false = ap (has_run past) (sym same) ∙ k.4 in
       let may : may_retire s past w.pool ≡ true = ap (λ (v : WorkerId). may_retire s past v.pool) (sym same) ∙ k.5 in
       idle_retire_alike s past w.pool w.index before there ∙ ap₂ (λ a b. a && b) (ap₂ (λ a b. a && not b) enlisted none) may
-  may_be_told r is = tt
+  may_reply r is = tt
 
-pub workers_may_be_told : (s : Layout) (past : List Entry) (e : Entry) (w : WorkerId) → IsLegal s (e ∷ past) → e.who ≡ Worker w → MayBeTold e.reply (pool_of s past w.pool) w.index
-workers_may_be_told s past e w legal who = may_be_told s past e w legal who e.reply refl
+pub replies_apply_to_pools : (s : Layout) (past : List Entry) (e : Entry) (w : WorkerId) → IsLegal s (e ∷ past) → e.who ≡ Worker w → MayReplyInPool e.reply (pool_of s past w.pool) w.index
+replies_apply_to_pools s past e w legal who = may_reply s past e w legal who e.reply refl

@@ -1,31 +1,13 @@
 -- The next queueing of a pool, by the runs of its own workers alone.
-use Rattle.std.proofs.Common.{◌≡◌, ◌==◌, ◌<◌, ◌≤◌, ◌+◌, ℕ, zero, suc, Bool, true, false, cond, not, ◌&&◌, ◌||◌, List, [], ◌∷◌, map, find, Option, Some, None, nat_lt, refl, sym, ap, ap₂, ◌∙◌, arith, inl, inr, ⊎_elim}
-use Rattle.std.specs.Prelude.{option_map, is_some}
-use Rattle.std.specs.Option.{option_map_or}
-use Rattle.std.specs.List.{AllByRecursion, list_any, range_with_len}
-use Rattle.std.proofs.lemmas.Bool.{eqb-true, eq-eqb, and_parts, or_cases, ltb-true, cases_eq}
-use Rattle.std.proofs.lemmas.Option.{same_Some}
-use Rattle.cmwq_model.specs.declared.id.PoolId.{PoolId}
-use Rattle.cmwq_model.specs.declared.id.WorkerId.{WorkerId}
-use Rattle.cmwq_model.specs.declared.id.Who.{Who}
-use Rattle.cmwq_model.specs.declared.id.Who.TheVariants.{Caller, Worker}
-use Rattle.cmwq_model.specs.declared.entry.Entry.{Entry}
-use Rattle.cmwq_model.specs.declared.record.Queueing.{Queueing}
-use Rattle.cmwq_model.specs.declared.record.Start.{Start}
-use Rattle.cmwq_model.specs.Prelude.{Layout, is_workers, indices, may_make, has_numbers, is_by, same_who, item_at, run, last_start, item_run, item_runs, is_unstarted, unstarted}
-use Rattle.cmwq_model.specs.Prelude.{still_open, worklist, next, is_startable, worker_at, IsLegal}
-use Rattle.cmwq_theory_steps.proofs.RunsActive.{found_known}
-use Rattle.cmwq_theory_steps.proofs.ItemSteps.{items_are_run}
-use Rattle.cmwq_theory_steps.proofs.ItemRuns.{runs_are_items, run_is, last_start_cases, now, before, same_worker-true}
-use Rattle.cmwq_theory_steps.proofs.Pools.{unstarted_alone, queued_where_it_runs}
-use Rattle.cmwq_pool.specs.declared.task.Task.{Task}
-use Rattle.cmwq_pool.specs.declared.slot.Slot.{Slot}
-use Rattle.cmwq_pool.specs.Slots.{is_of, is_run_of, runs_item}
-use Rattle.cmwq_pool.specs.PoolState.{is_startable as is_startable_task, next_task, next as pool_state_next}
-use Rattle.cmwq_refinement.specs.Told.{number_of_queueing}
+use Rattle.cmwq_refinement.specs.Common.{◌≡◌, ◌==◌, ◌<◌, ◌≤◌, ◌+◌, ℕ, zero, suc, Bool, true, false, cond, not, ◌&&◌, ◌||◌, List, [], ◌∷◌, map, find, Option, Some, None, nat_lt, refl, sym, ap, ap₂, ◌∙◌, arith, inl, inr, ⊎_elim, option_map, is_some, option_map_or, AllByRecursion, list_any, range_with_len, eqb-true, eq-eqb, and_parts, or_cases, ltb-true, cases_eq, same_Some, PoolId, WorkerId, Who, Caller, Worker, Entry, Queueing, Start, Layout, is_workers, indices, may_make, has_numbers, is_by, same_who, item_at, run, last_start, item_run, item_runs, is_unstarted, unstarted_queueing, still_open, worklist, next, is_startable, worker_at, IsLegal, found_known, items_are_run, runs_are_items, run_is, last_start_cases, before, same_worker-true, unstarted_alone, queued_where_it_runs, Task, Slot, slot_runs, slots_run_item, next_task}
+use Rattle.cmwq_pool.specs.Slots.{is_task_of}
+use Rattle.cmwq_theory_steps.proofs.ItemRuns.{now}
+use Rattle.cmwq_pool.specs.PoolState.{is_task_startable as is_startable_task, next_number as pool_state_next}
+use Rattle.cmwq_refinement.specs.ByNumber.{number_of_queueing}
 use Rattle.cmwq_refinement.specs.Pools.{task_for, run_task, slot_of, pool_of}
-use Rattle.cmwq_refinement.proofs.Members.{In, of_in, all_in}
+use Rattle.cmwq_lemmas.proofs.Members.{In, of_in, all_in}
 use Rattle.cmwq_refinement.proofs.PoolReads.{RunOf, idle, busy, run_of, run_task_of, run_task_none, IsOnList, worklist_has}
+use Rattle.cmwq_lemmas.proofs.Truth.{same_bools}
 
 -- ---- a worker that runs is one that there is
 
@@ -73,48 +55,42 @@ in_range : (a n x : ℕ) → a ≤ x → x < a + n → In x (range_with_len a n)
 in_range a zero x le less = absurd (omega arith)
 in_range a (suc n) x le less = ⊎_elim (λ e. inl e) (λ differs. inr (in_range (a + 1) n x (grind arith) (omega arith))) (cases_eq a x)
 
-same_flags : (a b : Bool) → (a ≡ true → b ≡ true) → (b ≡ true → a ≡ true) → a ≡ b
-same_flags true true f g = refl
-same_flags true false f g = let bad : false ≡ true = f refl in cc
-same_flags false true f g = let bad : false ≡ true = g refl in cc
-same_flags false false f g = refl
-
 -- a slot's run of an item is the item's run
-slot_runs : (s : Layout) (past : List Entry) (p : PoolId) (i x : ℕ) → IsLegal s past → is_run_of i (slot_of s past p x) ≡ true → item_runs past i ≡ true
-slot_runs s past p i x legal h = which (run_of s past (worker_at p x) legal)
+slot_runs_it : (s : Layout) (past : List Entry) (p : PoolId) (i x : ℕ) → IsLegal s past → slot_runs i (slot_of s past p x) ≡ true → item_runs past i ≡ true
+slot_runs_it s past p i x legal h = which (run_of s past (worker_at p x) legal)
   where
     which : RunOf s past (worker_at p x) → item_runs past i ≡ true
-    which (idle none) = let no : is_run_of i (slot_of s past p x) ≡ false = ap (λ o. option_map_or (is_of i) o false) (run_task_none s past (worker_at p x) none) in cc
+    which (idle none) = let no : slot_runs i (slot_of s past p x) ≡ false = ap (λ o. option_map_or (is_task_of i) o false) (run_task_none s past (worker_at p x) none) in cc
     which (busy y is found pool) =
-        let its : (y.item.0 == i) ≡ true = sym (ap (λ o. option_map_or (is_of i) o false) (run_task_of s past (worker_at p x) y is found)) ∙ h in
+        let its : (y.item.0 == i) ≡ true = sym (ap (λ o. option_map_or (is_task_of i) o false) (run_task_of s past (worker_at p x) y is found)) ∙ h in
         let known : item_at past y.number ≡ Some i = (found_known past y.number y found).item ∙ ap Some (eqb-true y.item.0 i its) in
         ap is_some (runs_are_items s past (worker_at p x) y.number i legal is known)
 
 -- and the run of an item that is listed is a slot's of that pool
-run_is_slot : (s : Layout) (past : List Entry) (p : PoolId) (x : Queueing) (start : Start) → IsLegal s past → IsOnList s past p x → item_run past x.item.0 ≡ Some start → runs_item (pool_of s past p).slots x.item.0 ≡ true
+run_is_slot : (s : Layout) (past : List Entry) (p : PoolId) (x : Queueing) (start : Start) → IsLegal s past → IsOnList s past p x → item_run past x.item.0 ≡ Some start → slots_run_item (pool_of s past p).slots x.item.0 ≡ true
 run_is_slot s past p x start legal on is =
-    let unstarted_is : unstarted past x.item.0 ≡ Some x = of_in (λ y. is_unstarted past x.item.0 y ≡ true → unstarted past x.item.0 ≡ Some y) (still_open past) x (unstarted_alone s past x.item.0 legal) on.stands
+    let unstarted_is : unstarted_queueing past x.item.0 ≡ Some x = of_in (λ y. is_unstarted past x.item.0 y ≡ true → unstarted_queueing past x.item.0 ≡ Some y) (still_open past) x (unstarted_alone s past x.item.0 legal) on.stands
     (ap₂ (λ a b. a && not b) (eq-eqb x.item.0 x.item.0 refl) on.not_started) in
     let pool : start.worker.pool ≡ p = sym (queued_where_it_runs s past x.item.0 start x legal is unstarted_is) ∙ on.pool in
     let runs = items_are_run s past x.item.0 start legal is in
     let same : start.worker ≡ worker_at p start.worker.index = ap (λ q. worker_at q start.worker.index) pool in
     let by_slot : run past (worker_at p start.worker.index) ≡ Some start.number = ap (run past) (sym same) ∙ runs.0 in
-    any_in (is_run_of x.item.0) (slot_of s past p) (indices s) start.worker.index (in_range 0 s.workers start.worker.index (omega arith) (let less = runner_there s past start.worker start.number legal runs.0 in omega arith))
+    any_in (slot_runs x.item.0) (slot_of s past p) (indices s) start.worker.index (in_range 0 s.workers start.worker.index (omega arith) (let less = runner_there s past start.worker start.number legal runs.0 in omega arith))
     (which (worker_at p start.worker.index) by_slot runs.1 (run_of s past (worker_at p start.worker.index) legal))
   where
-    which : (w : WorkerId) → run past w ≡ Some start.number → item_at past start.number ≡ Some x.item.0 → RunOf s past w → option_map_or (is_of x.item.0) (run_task s past w) false ≡ true
+    which : (w : WorkerId) → run past w ≡ Some start.number → item_at past start.number ≡ Some x.item.0 → RunOf s past w → option_map_or (is_task_of x.item.0) (run_task s past w) false ≡ true
     which w is item (idle none) = let bad : None ≡ Some start.number = sym none ∙ is in cc
     which w is item (busy y runs found pool) =
         let number : y.number ≡ start.number = same_Some y.number start.number (sym runs ∙ is) in
         let its : Some y.item.0 ≡ Some x.item.0 = sym (found_known past y.number y found).item ∙ ap (item_at past) number ∙ item in
-        ap (λ o. option_map_or (is_of x.item.0) o false) (run_task_of s past w y runs found) ∙ eq-eqb y.item.0 x.item.0 (same_Some y.item.0 x.item.0 its)
+        ap (λ o. option_map_or (is_task_of x.item.0) o false) (run_task_of s past w y runs found) ∙ eq-eqb y.item.0 x.item.0 (same_Some y.item.0 x.item.0 its)
 
-listed_runs : (s : Layout) (past : List Entry) (p : PoolId) (x : Queueing) → IsLegal s past → IsOnList s past p x → runs_item (pool_of s past p).slots x.item.0 ≡ item_runs past x.item.0
-listed_runs s past p x legal on = same_flags (runs_item (pool_of s past p).slots x.item.0) (item_runs past x.item.0)
-    (λ h. let k = any_found (is_run_of x.item.0) (slot_of s past p) (indices s) h in slot_runs s past p x.item.0 k.place legal k.passes)
+listed_runs : (s : Layout) (past : List Entry) (p : PoolId) (x : Queueing) → IsLegal s past → IsOnList s past p x → slots_run_item (pool_of s past p).slots x.item.0 ≡ item_runs past x.item.0
+listed_runs s past p x legal on = same_bools (slots_run_item (pool_of s past p).slots x.item.0) (item_runs past x.item.0)
+    (λ h. let k = any_found (slot_runs x.item.0) (slot_of s past p) (indices s) h in slot_runs_it s past p x.item.0 k.place legal k.passes)
     (λ h. of_run (item_run past x.item.0) refl h)
   where
-    of_run : (o : Option Start) → item_run past x.item.0 ≡ o → is_some o ≡ true → runs_item (pool_of s past p).slots x.item.0 ≡ true
+    of_run : (o : Option Start) → item_run past x.item.0 ≡ o → is_some o ≡ true → slots_run_item (pool_of s past p).slots x.item.0 ≡ true
     of_run None is h = cc
     of_run (Some start) is h = run_is_slot s past p x start legal on is
 

@@ -1,27 +1,11 @@
 -- What a pool answers is what the definitions say.
-use Rattle.std.proofs.Common.{◌≡◌, ◌==◌, ◌<◌, ◌+◌, ℕ, zero, suc, Bool, true, false, cond, not, ◌&&◌, ◌||◌, List, [], ◌∷◌, length, map, find, count_by, Option, Some, None, refl, sym, ap, ap₂, ◌∙◌, subst, arith}
-use Rattle.std.specs.Prelude.{option_map, option_and_then, is_some, if◌then◌else◌}
-use Rattle.std.specs.Option.{option_map_or}
-use Rattle.std.specs.List.{AllByRecursion, list_any, range_with_len}
-use Rattle.std.proofs.lemmas.List.FromFn.{length-map-range_with_len, get_or-map-range_with_len}
-use Rattle.cmwq_model.specs.declared.id.PoolId.{PoolId}
-use Rattle.cmwq_model.specs.declared.id.WorkerId.{WorkerId}
-use Rattle.cmwq_model.specs.declared.entry.Entry.{Entry}
-use Rattle.cmwq_model.specs.declared.record.Queueing.{Queueing}
-use Rattle.cmwq_model.specs.Prelude.{Layout, indices, is_intensive, pool_at, same_pool, is_started, run, has_run, is_asleep, queueings, still_open, is_live, queueing_at}
-use Rattle.cmwq_model.specs.Prelude.{queue_of, run_queue, is_active, worklist, is_listed, worker_at, is_enlisted, is_holding, is_idle, is_occupied, is_reserve, is_other_idle}
-use Rattle.cmwq_model.specs.Prelude.{runnable, enlisted_by, has_spare, may_retire, IsLegal}
+use Rattle.cmwq_refinement.specs.Common.{◌≡◌, ◌==◌, ◌<◌, ◌+◌, ℕ, zero, suc, Bool, true, false, cond, not, ◌&&◌, ◌||◌, List, [], ◌∷◌, length, map, find, count_by, Option, Some, None, refl, sym, ap, ap₂, ◌∙◌, subst, arith, option_map, option_and_then, is_some, if◌then◌else◌, option_map_or, AllByRecursion, list_any, range_with_len, length-map-range_with_len, get_or-map-range_with_len, PoolId, WorkerId, Entry, Queueing, Layout, indices, is_intensive, pool_at, same_pool, is_started, run, has_run, is_asleep, queueings, still_open, is_live, queueing_at, queue_of, run_queue, is_active, worklist, is_listed, worker_at, is_enlisted, is_holding, is_idle, is_occupied, is_reserve, is_other_idle, runnable, enlisted_by, has_spare, may_retire, IsLegal, All_map, count_by-cons, found_number, runs_are_in_pools, same_pool-true, worklist_is, Task, Slot, no_slot, slot_at, is_reserve_at}
 use Rattle.cmwq_theory_active.proofs.Joined.{active_live}
-use Rattle.cmwq_theory_active.proofs.Lists.{All_map, count_by-cons}
-use Rattle.cmwq_theory_steps.proofs.RunsActive.{found_number}
-use Rattle.cmwq_theory_steps.proofs.Pools.{runs_are_in_pools, same_pool-true}
-use Rattle.cmwq_theory_steps.proofs.Worklist.{worklist_is}
-use Rattle.cmwq_pool.specs.declared.task.Task.{Task}
-use Rattle.cmwq_pool.specs.declared.slot.Slot.{Slot}
-use Rattle.cmwq_pool.specs.Slots.{no_slot, slot_at, is_holding as slot_holds, is_idle as slot_is_idle, is_occupied as slot_is_occupied, is_reserve as slot_is_reserve, is_reserve_at, is_other_idle as is_other_slot, runnable as slots_runnable, enlisted_by as slots_enlisted_by, may_retire as slot_may_retire, indices as slot_indices}
+use Rattle.cmwq_pool.specs.Slots.{slot_is_holding as slot_holds, slot_is_idle, slot_is_occupied, slot_is_reserve, slot_is_other_idle as is_other_slot, slots_runnable, slots_enlisted_by, slot_may_retire, slot_indices}
 use Rattle.cmwq_refinement.specs.Pools.{task_for, run_task, slot_of, pool_of, IsSlotOf}
 use Rattle.cmwq_refinement.proofs.Numbers.{find_agree}
-use Rattle.cmwq_refinement.proofs.Members.{In, filter_in, contained_in}
+use Rattle.cmwq_lemmas.proofs.Members.{In, filter_in, contained_in}
+use Rattle.cmwq_lemmas.proofs.Lists.{range_below}
 
 -- ---- what a worker runs
 
@@ -92,10 +76,6 @@ runnables_are_runnable s past p legal = count_map slot_holds (is_holding s past 
 
 pub slot_is : (s : Layout) (past : List Entry) (p : PoolId) (x : ℕ) → x < s.workers → slot_at (pool_of s past p).slots x ≡ slot_of s past p x
 slot_is s past p x less = get_or-map-range_with_len (slot_of s past p) 0 s.workers x x no_slot less (omega arith)
-
-pub range_below : (a n : ℕ) → AllByRecursion (λ x. x < a + n) (range_with_len a n)
-range_below a zero = tt
-range_below a (suc n) = (omega arith, All_map (λ x. x < (a + 1) + n) (λ x. x < a + suc n) (range_with_len (a + 1) n) (λ x less. omega arith) (range_below (a + 1) n))
 
 indices_below : (s : Layout) → AllByRecursion (λ x. x < s.workers) (indices s)
 indices_below s = All_map (λ x. x < 0 + s.workers) (λ x. x < s.workers) (indices s) (λ x less. omega arith) (range_below 0 s.workers)

@@ -1,37 +1,15 @@
 -- The slots of a pool, entry by entry.
-use Rattle.std.proofs.Common.{◌≡◌, ◌≢◌, ◌==◌, ◌<◌, ◌+◌, ℕ, Bool, true, false, not, ◌&&◌, ◌||◌, List, ◌∷◌, map, find, set, Option, Some, None, refl, sym, ap, ap₂, ◌∙◌, subst, arith, ⊎_elim}
-use Rattle.std.specs.Prelude.{option_map, option_and_then, if◌then◌else◌}
-use Rattle.std.specs.List.{list_any}
-use Rattle.std.proofs.lemmas.Bool.{eq-eqb, ne_eqb, cases_eq, and_parts}
-use Rattle.std.proofs.lemmas.List.FromFn.{get_or-map-range_with_len}
-use Rattle.cmwq_model.specs.declared.id.PoolId.{PoolId}
-use Rattle.cmwq_model.specs.declared.id.WorkerId.{WorkerId}
-use Rattle.cmwq_model.specs.declared.id.Who.{Who}
-use Rattle.cmwq_model.specs.declared.id.Who.TheVariants.{Caller, Worker}
-use Rattle.cmwq_model.specs.declared.reply.Reply.{Reply}
-use Rattle.cmwq_model.specs.declared.entry.Entry.{Entry}
-use Rattle.cmwq_model.specs.declared.record.Queueing.{Queueing}
-use Rattle.cmwq_model.specs.Prelude.{Layout, indices, is_at, is_by, same_pool, same_who, number_started, run, is_asleep, asleep_after, queueing_at, next, worker_at}
-use Rattle.cmwq_model.specs.Prelude.{index_enlisted, is_in_pool, enlists, is_retired, is_enlisted, is_other_idle, is_reserve, enlisted_by, IsLegal}
+use Rattle.cmwq_refinement.specs.Common.{◌≡◌, ◌≢◌, ◌==◌, ◌<◌, ◌+◌, ℕ, Bool, true, false, not, ◌&&◌, ◌||◌, List, ◌∷◌, map, find, set, Option, Some, None, refl, sym, ap, ap₂, ◌∙◌, subst, arith, ⊎_elim, option_map, option_and_then, if◌then◌else◌, list_any, eq-eqb, ne_eqb, cases_eq, and_parts, get_or-map-range_with_len, PoolId, WorkerId, Who, Caller, Worker, Reply, Entry, Queueing, Layout, indices, is_at, is_by, same_pool, same_who, number_started, run, is_asleep, asleep_after, queueing_at, next, worker_at, index_enlisted, is_in_pool, enlists, is_retired, is_enlisted, is_other_idle, is_reserve, enlisted_by, IsLegal, run_after, starts_next, IsFound, queueings_found, queueing_at-older, workers_run_on, same_worker_itself, by_itself, same_starter, same_pool-true, Task, Slot, no_slot, slot_at, with_slot, with_enlisted, slot_running, slot_enlisted, slot_asleep, slot_awake, slot_free, slot_retired, next_task, with_slot_again}
 use Rattle.cmwq_model.specs.declared.reply.Reply.TheVariants as reply
-use Rattle.cmwq_model.specs.Answer.{started as started_reply}
-use Rattle.cmwq_theory_steps.specs.RunSteps.{run_after}
-use Rattle.cmwq_theory_steps.proofs.Starts.{starts_next}
-use Rattle.cmwq_theory_steps.proofs.StartsListed.{IsFound, queueings_found, queueing_at-older}
+use Rattle.cmwq_model.specs.Answer.{started_answer as started_reply}
 use Rattle.cmwq_theory_steps.proofs.Activated.{next_holds}
-use Rattle.cmwq_theory_steps.proofs.RunSteps.{workers_run_on}
-use Rattle.cmwq_theory_steps.proofs.ItemRuns.{same_worker_itself}
-use Rattle.cmwq_theory_steps.proofs.OwedSteps.{by_itself, same_starter}
-use Rattle.cmwq_theory_steps.proofs.Pools.{same_pool-true}
-use Rattle.cmwq_pool.specs.declared.task.Task.{Task}
-use Rattle.cmwq_pool.specs.declared.slot.Slot.{Slot}
-use Rattle.cmwq_pool.specs.Slots.{no_slot, slot_at, with_slot, with_enlisted, slot_running, slot_enlisted, slot_asleep, slot_awake, slot_free, slot_retired, enlisted_by as slots_enlisted_by}
-use Rattle.cmwq_pool.specs.PoolState.{next_task, with_slot_again}
-use Rattle.cmwq_refinement.specs.Pools.{task_for, run_task, slot_of, pool_of, start_next, told_reply, told_worker}
-use Rattle.cmwq_refinement.proofs.Members.{of_in, found}
+use Rattle.cmwq_pool.specs.Slots.{slots_enlisted_by}
+use Rattle.cmwq_refinement.specs.Pools.{task_for, run_task, slot_of, pool_of, start_next, pool_after_reply, pool_after_worker}
+use Rattle.cmwq_lemmas.proofs.Members.{of_in, found}
 use Rattle.cmwq_refinement.proofs.TimerSteps.{set_row, same_rows}
-use Rattle.cmwq_refinement.proofs.PoolReads.{RunOf, idle, busy, run_of, run_task_none, slot_is, range_below, starts_enlist_alike}
+use Rattle.cmwq_refinement.proofs.PoolReads.{RunOf, idle, busy, run_of, run_task_none, slot_is, starts_enlist_alike}
 use Rattle.cmwq_refinement.proofs.PoolNext.{worker_fits, next_task_is}
+use Rattle.cmwq_lemmas.proofs.Lists.{range_below}
 
 -- ---- a run that goes on
 
@@ -246,7 +224,7 @@ own_refines : (s : Layout) (past : List Entry) (e : Entry) (w : WorkerId) (r : R
     → own_after s past w r o ≡ change (slot_of s past w.pool w.index) → map (slot_of s (e ∷ past) w.pool) (indices s) ≡ (with_slot_again change (pool_of s past w.pool) w.index).slots
 own_refines s past e w r change o legal who is none runs own = own_changes s past e w r change legal who is none (own_slot s past e w r legal who is ∙ ap (own_after s past w r) runs ∙ own)
 
-reply_refines : (s : Layout) (past : List Entry) (e : Entry) (w : WorkerId) (r : Reply) → IsLegal s (e ∷ past) → e.who ≡ Worker w → e.reply ≡ r → map (slot_of s (e ∷ past) w.pool) (indices s) ≡ (told_reply r w.index (pool_of s past w.pool)).slots
+reply_refines : (s : Layout) (past : List Entry) (e : Entry) (w : WorkerId) (r : Reply) → IsLegal s (e ∷ past) → e.who ≡ Worker w → e.reply ≡ r → map (slot_of s (e ∷ past) w.pool) (indices s) ≡ (pool_after_reply r w.index (pool_of s past w.pool)).slots
 unfolding own_after
 reply_refines s past e w (reply.Started n) legal who is = start_refines s past e w n legal who is
 reply_refines s past e w (reply.StartedEnlist n y) legal who is = enlist_refines s past e w n y legal who is
@@ -270,13 +248,13 @@ elsewhere s past e p legal out = same_rows (slot_of s past p) (slot_of s (e ∷ 
     not_here x (Caller c) h = refl
     not_here x (Worker v) h = ap (λ b. b && (v.index == x)) h
 
-pub slots_refine : (s : Layout) (past : List Entry) (e : Entry) (p : PoolId) → IsLegal s (e ∷ past) → map (slot_of s (e ∷ past) p) (indices s) ≡ (told_worker p e.who e.reply (pool_of s past p)).slots
+pub slots_refine : (s : Layout) (past : List Entry) (e : Entry) (p : PoolId) → IsLegal s (e ∷ past) → map (slot_of s (e ∷ past) p) (indices s) ≡ (pool_after_worker p e.who e.reply (pool_of s past p)).slots
 slots_refine s past e p legal = by e.who refl
   where
-    by : (who : Who) → e.who ≡ who → map (slot_of s (e ∷ past) p) (indices s) ≡ (told_worker p who e.reply (pool_of s past p)).slots
+    by : (who : Who) → e.who ≡ who → map (slot_of s (e ∷ past) p) (indices s) ≡ (pool_after_worker p who e.reply (pool_of s past p)).slots
     by (Caller c) is = elsewhere s past e p legal (ap (is_in_pool p) is)
     by (Worker w) is = here (same_pool w.pool p) refl
       where
-        here : (b : Bool) → same_pool w.pool p ≡ b → map (slot_of s (e ∷ past) p) (indices s) ≡ (if b then told_reply e.reply w.index (pool_of s past p) else pool_of s past p).slots
-        here true same = subst (λ q. map (slot_of s (e ∷ past) q) (indices s) ≡ (told_reply e.reply w.index (pool_of s past q)).slots) (same_pool-true w.pool p same) (reply_refines s past e w e.reply legal is refl)
+        here : (b : Bool) → same_pool w.pool p ≡ b → map (slot_of s (e ∷ past) p) (indices s) ≡ (if b then pool_after_reply e.reply w.index (pool_of s past p) else pool_of s past p).slots
+        here true same = subst (λ q. map (slot_of s (e ∷ past) q) (indices s) ≡ (pool_after_reply e.reply w.index (pool_of s past q)).slots) (same_pool-true w.pool p same) (reply_refines s past e w e.reply legal is refl)
         here false other = elsewhere s past e p legal (ap (is_in_pool p) is ∙ other)

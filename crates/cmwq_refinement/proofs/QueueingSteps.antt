@@ -1,19 +1,9 @@
 -- The one open queueing that an entry ends, and those that it spares.
-use Rattle.std.proofs.Common.{◌≡◌, ◌==◌, Bool, true, false, not, List, [], ◌∷◌, Option, Some, None, sym, ap, ◌∙◌, refl, subst}
-use Rattle.std.specs.List.{AllByRecursion}
-use Rattle.std.proofs.lemmas.Bool.{eqb-true, eq-eqb, not-false}
-use Rattle.std.proofs.lemmas.Option.{same_Some}
-use Rattle.cmwq_model.specs.declared.entry.Entry.{Entry}
-use Rattle.cmwq_model.specs.declared.record.Queueing.{Queueing}
-use Rattle.cmwq_model.specs.Prelude.{Layout, still_open, IsLegal}
-use Rattle.cmwq_theory_steps.specs.Endings.{survives, is_ended, ending}
+use Rattle.cmwq_refinement.specs.Common.{◌≡◌, ◌==◌, Bool, true, false, not, List, [], ◌∷◌, Option, Some, None, sym, ap, ◌∙◌, refl, subst, AllByRecursion, eqb-true, eq-eqb, not-false, same_Some, Entry, Queueing, Layout, still_open, IsLegal, survives, is_ended, ending, All_map, find_none, open_rise, one_ends}
 use Rattle.cmwq_theory_active.specs.Rising.{IsRising}
-use Rattle.cmwq_theory_active.proofs.Lists.{All_map, find_none}
-use Rattle.cmwq_theory_active.proofs.Rising.{open_rise}
-use Rattle.cmwq_theory_steps.proofs.Ended.{one_ends}
-use Rattle.cmwq_refinement.specs.Told.{number_of_queueing}
-use Rattle.cmwq_refinement.proofs.Members.{In, all_in, found, filter_in, in_option}
-use Rattle.cmwq_refinement.proofs.Rising.{RisesBy, rises_unique}
+use Rattle.cmwq_refinement.specs.ByNumber.{number_of_queueing}
+use Rattle.cmwq_lemmas.proofs.Members.{In, all_in, found, filter_in, in_option}
+use Rattle.cmwq_lemmas.proofs.Rising.{RisesBy, rises_unique}
 
 rises_by_number : (xs : List Queueing) → IsRising xs → RisesBy number_of_queueing xs
 rises_by_number [] h = tt

@@ -1,26 +1,8 @@
 -- In a legal history what settles is of an item that there is, and what books is for a queue that there is.
-use Rattle.std.proofs.Common.{◌≡◌, ◌<◌, ℕ, Bool, true, false, List, [], ◌∷◌, length, Option, Some, None, option_to_list, refl, sym, ap, ◌∙◌, arith}
-use Rattle.std.specs.Prelude.{min, is_some, option_and_then, if◌then◌else◌}
-use Rattle.std.specs.Option.{option_or}
-use Rattle.std.specs.List.{AllByRecursion}
-use Rattle.std.proofs.lemmas.Bool.{and_parts, ltb-true}
-use Rattle.std.proofs.lemmas.Option.{same_Some}
-use Rattle.cmwq_model.specs.declared.id.WorkerId.{WorkerId}
-use Rattle.cmwq_model.specs.declared.id.Who.{Who}
-use Rattle.cmwq_model.specs.declared.id.Who.TheVariants.{Caller, Worker}
-use Rattle.cmwq_model.specs.declared.call.Call.{Call}
-use Rattle.cmwq_model.specs.declared.reply.Reply.{Reply}
-use Rattle.cmwq_model.specs.declared.entry.Entry.{Entry}
-use Rattle.cmwq_model.specs.declared.record.Booking.{Booking}
-use Rattle.cmwq_model.specs.declared.record.Queueing.{Queueing}
-use Rattle.cmwq_model.specs.declared.record.Ticket.{Ticket}
-use Rattle.cmwq_model.specs.Prelude.{Layout, may_make, has_place, has_numbers, item_called, item_fired, item_of, settles, due_in, booked_by, booking_of, bookings, runs_awake}
-use Rattle.cmwq_model.specs.Prelude.{runs_asleep, run, next, enlisted_by, is_gone, is_crowded, ticket_of, is_frozen, waits_for, answer, wait_answer, destroy_answer}
-use Rattle.cmwq_model.specs.Prelude.{set_max_answer, fired, first_due, end_of_ticket, waiting_for, take_answer, start_of, started, finish_answer, finished, retire_answer}
-use Rattle.cmwq_model.specs.Prelude.{IsLegal}
+use Rattle.cmwq_refinement.specs.Common.{◌≡◌, ◌<◌, ℕ, Bool, true, false, List, [], ◌∷◌, length, Option, Some, None, option_to_list, refl, sym, ap, ◌∙◌, arith, min, is_some, option_and_then, if◌then◌else◌, option_or, AllByRecursion, and_parts, ltb-true, same_Some, WorkerId, Who, Caller, Worker, Call, Reply, Entry, Booking, Queueing, Ticket, Layout, may_make, has_place, has_numbers, item_called, item_fired, item_of, settles, due_in, booked_by, booking_of, bookings, runs_awake, runs_asleep, run, next, enlisted_by, is_gone, is_crowded, ticket_of, is_frozen, waits_for, answer, wait_answer, destroy_answer, set_max_answer, fired_answer, first_due, end_of_ticket, waiting_for, take_answer, start_of, finish_answer, finished_answer, retire_answer, IsLegal, All_append}
+use Rattle.cmwq_model.specs.Prelude.{started_answer}
 use Rattle.cmwq_model.specs.declared.call.Call.TheVariants as call
 use Rattle.cmwq_model.specs.declared.reply.Reply.TheVariants as reply
-use Rattle.cmwq_theory_active.proofs.Lists.{All_append}
 use Rattle.cmwq_theory_steps.proofs.Inversions.{answer_is}
 
 -- ---- replies that neither settle an item nor name one
@@ -47,15 +29,15 @@ end_quiet : (past : List Entry) (o : Option Ticket) → IsQuiet (end_of_ticket p
 end_quiet past None = misuse
 end_quiet past (Some t) = waiting_quiet (waits_for past t.number t.call)
 
-started_quiet : (n : ℕ) (o : Option ℕ) → IsQuiet (started n o)
+started_quiet : (n : ℕ) (o : Option ℕ) → IsQuiet (started_answer n o)
 started_quiet n None = is_quiet (reply.Started n) refl refl
 started_quiet n (Some x) = is_quiet (reply.StartedEnlist n x) refl refl
 
 start_quiet : (s : Layout) (past : List Entry) (w : WorkerId) (o : Option Queueing) → IsQuiet (start_of s past w o)
 start_quiet s past w None = is_quiet reply.Nothing refl refl
-start_quiet s past w (Some x) = quiet_if _ reply.Held (started x.number (enlisted_by s past w)) (is_quiet reply.Held refl refl) (started_quiet x.number (enlisted_by s past w))
+start_quiet s past w (Some x) = quiet_if _ reply.Held (started_answer x.number (enlisted_by s past w)) (is_quiet reply.Held refl refl) (started_quiet x.number (enlisted_by s past w))
 
-finished_quiet : (o : Option ℕ) → IsQuiet (finished o)
+finished_quiet : (o : Option ℕ) → IsQuiet (finished_answer o)
 finished_quiet None = misuse
 finished_quiet (Some n) = is_quiet (reply.Finished n) refl refl
 
@@ -65,7 +47,7 @@ take_quiet s past w = quiet_if _ reply.Misuse (start_of s past w (next s past w.
 
 finish_quiet : (past : List Entry) (w : WorkerId) → IsQuiet (finish_answer past w)
 unfolding finish_answer
-finish_quiet past w = quiet_if _ (finished (run past w)) reply.Misuse (finished_quiet (run past w)) misuse
+finish_quiet past w = quiet_if _ (finished_answer (run past w)) reply.Misuse (finished_quiet (run past w)) misuse
 
 retire_quiet : (s : Layout) (past : List Entry) (w : WorkerId) → IsQuiet (retire_answer s past w)
 unfolding retire_answer
@@ -90,7 +72,7 @@ set_max_quiet past q n = quiet_if (is_gone past q) reply.Gone (reply.Width (min 
 
 data ItemCase (s : Layout) (past : List Entry) (c : Call) (r : Reply) : Type 0 where
   called : (i : ℕ) → item_called c ≡ Some i → (has_numbers s c ≡ true → i < s.items) → ItemCase s past c r
-  fires : item_called c ≡ None → r ≡ fired (first_due past) (length past) → ItemCase s past c r
+  fires : item_called c ≡ None → r ≡ fired_answer (first_due past) (length past) → ItemCase s past c r
   none : item_called c ≡ None → IsQuiet r → ItemCase s past c r
 
 place_item : (s : Layout) (i q c : ℕ) → has_place s i q c ≡ true → i < s.items
@@ -127,7 +109,7 @@ item_case s past who (call.Destroy q) = none refl (destroy_quiet past who q.0)
 
 -- ---- what settles is of an item
 
-settled_fire : (o : Option Booking) (n : ℕ) → settles (fired o n) ≡ true → is_some (item_fired (fired o n)) ≡ true
+settled_fire : (o : Option Booking) (n : ℕ) → settles (fired_answer o n) ≡ true → is_some (item_fired (fired_answer o n)) ≡ true
 settled_fire None n h = cc
 settled_fire (Some b) n h = refl
 
@@ -186,7 +168,7 @@ bookings_fit s (e ∷ past) legal = All_append (Fits s) (bookings past) (option_
 
 -- ---- the item is one that there is
 
-fired_fits : (s : Layout) (past : List Entry) (n i : ℕ) (o : Option Booking) → ((b : Booking) → o ≡ Some b → Fits s b) → item_fired (fired o n) ≡ Some i → i < s.items
+fired_fits : (s : Layout) (past : List Entry) (n i : ℕ) (o : Option Booking) → ((b : Booking) → o ≡ Some b → Fits s b) → item_fired (fired_answer o n) ≡ Some i → i < s.items
 fired_fits s past n i None h is = cc
 fired_fits s past n i (Some b) h is = let same : b.item.0 ≡ i = same_Some b.item.0 i is in let fits = (h b refl).item in omega arith
 

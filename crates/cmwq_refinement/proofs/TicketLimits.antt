@@ -1,19 +1,8 @@
 -- No more tickets are unended than 64 for each caller.
-use Rattle.std.proofs.Common.{◌≡◌, ◌==◌, ◌<◌, ◌≤◌, ◌+◌, ℕ, Bool, true, false, List, [], ◌∷◌, length, count_by, Option, Some, None, option_to_list, refl, sym, ap, ◌∙◌, subst, arith}
-use Rattle.std.specs.Prelude.{◌*◌}
-use Rattle.std.specs.List.{AllByRecursion}
-use Rattle.std.proofs.lemmas.Bool.{and_parts, eqb-true, ltb-true, leb-false}
-use Rattle.cmwq_model.specs.declared.entry.Entry.{Entry}
-use Rattle.cmwq_model.specs.declared.record.Ticket.{Ticket}
-use Rattle.cmwq_model.specs.Prelude.{Layout, is_callers, may_make, has_numbers, tickets, unended, is_unended, ticket_in, is_crowded, IsLegal}
+use Rattle.cmwq_refinement.specs.Common.{◌≡◌, ◌==◌, ◌<◌, ◌≤◌, ◌+◌, ℕ, Bool, true, false, List, [], ◌∷◌, length, count_by, Option, Some, None, option_to_list, refl, sym, ap, ◌∙◌, subst, arith, ◌*◌, AllByRecursion, and_parts, eqb-true, ltb-true, leb-false, Entry, Ticket, Layout, is_callers, may_make, has_numbers, tickets, unended_tickets, is_unended, ticket_in, is_crowded, IsLegal, passes, ticket_ended, All_map, All_append, All_filter, cause_of, legal_fits, ticket_reason, tickets_go_on}
 use Rattle.cmwq_theory_steps.specs.Histories.{one}
-use Rattle.cmwq_theory_steps.specs.TicketSteps.{passes, ticket_ended}
-use Rattle.cmwq_theory_active.proofs.Lists.{All_map, All_append, All_filter}
 use Rattle.cmwq_theory_steps.proofs.OfEachKind.{no_longer}
-use Rattle.cmwq_theory_steps.proofs.Causes.{cause_of}
-use Rattle.cmwq_theory_steps.proofs.Reasons.{legal_fits, ticket_reason}
-use Rattle.cmwq_theory_steps.proofs.TicketSteps.{tickets_go_on}
-use Rattle.cmwq_refinement.proofs.Members.{all_in, in_option}
+use Rattle.cmwq_lemmas.proofs.Members.{all_in, in_option}
 use Rattle.cmwq_refinement.proofs.TicketSteps.{ticket_in_is}
 
 -- ---- of each caller
@@ -22,28 +11,28 @@ abbrev is_of_caller : ℕ → Ticket → Bool
 is_of_caller c t = t.caller.0 == c
 
 -- who is given a ticket isn't crowded
-pub given_free : (s : Layout) (past : List Entry) (e : Entry) (t : Ticket) → IsLegal s (e ∷ past) → ticket_in e (length past) ≡ Some t → count_by (is_of_caller t.caller.0) (unended past) < 64
+pub given_free : (s : Layout) (past : List Entry) (e : Entry) (t : Ticket) → IsLegal s (e ∷ past) → ticket_in e (length past) ≡ Some t → count_by (is_of_caller t.caller.0) (unended_tickets past) < 64
 given_free s past e t legal h =
     let is = ticket_in_is e (length past) t h in
     let free = (ticket_reason s past e.who e.call e.reply (legal_fits s past e legal) (cause_of s past e legal) is.gives).2 in
-    leb-false 64 (count_by (is_of_caller t.caller.0) (unended past)) (sym (ap (is_crowded past) is.caller) ∙ free)
+    leb-false 64 (count_by (is_of_caller t.caller.0) (unended_tickets past)) (sym (ap (is_crowded past) is.caller) ∙ free)
 
-few_of_caller : (s : Layout) (past : List Entry) → IsLegal s past → (c : ℕ) → count_by (is_of_caller c) (unended past) ≤ 64
+few_of_caller : (s : Layout) (past : List Entry) → IsLegal s past → (c : ℕ) → count_by (is_of_caller c) (unended_tickets past) ≤ 64
 unfolding tickets IsLegal
 few_of_caller s [] legal c = omega arith
 few_of_caller s (e ∷ past) legal c = by (ticket_in e (length past)) refl (few_of_caller s past legal.2 c) (tickets_go_on s past e (is_of_caller c) legal)
   where
-    by : (o : Option Ticket) → ticket_in e (length past) ≡ o → count_by (is_of_caller c) (unended past) ≤ 64
-        → count_by (is_of_caller c) (unended (e ∷ past)) + one (passes (is_of_caller c) (ticket_ended past e)) ≡ count_by (is_of_caller c) (unended past) + one (passes (is_of_caller c) (ticket_in e (length past))) → count_by (is_of_caller c) (unended (e ∷ past)) ≤ 64
+    by : (o : Option Ticket) → ticket_in e (length past) ≡ o → count_by (is_of_caller c) (unended_tickets past) ≤ 64
+        → count_by (is_of_caller c) (unended_tickets (e ∷ past)) + one (passes (is_of_caller c) (ticket_ended past e)) ≡ count_by (is_of_caller c) (unended_tickets past) + one (passes (is_of_caller c) (ticket_in e (length past))) → count_by (is_of_caller c) (unended_tickets (e ∷ past)) ≤ 64
     by None none before count = let zero : one (passes (is_of_caller c) (ticket_in e (length past))) ≡ 0 = ap (λ o. one (passes (is_of_caller c) o)) none in omega arith
     by (Some t) given before count = which (is_of_caller c t) refl
       where
         is_one : (b : Bool) → is_of_caller c t ≡ b → one (passes (is_of_caller c) (ticket_in e (length past))) ≡ one b
         is_one b same = ap (λ o. one (passes (is_of_caller c) o)) given ∙ ap one same
 
-        which : (b : Bool) → is_of_caller c t ≡ b → count_by (is_of_caller c) (unended (e ∷ past)) ≤ 64
+        which : (b : Bool) → is_of_caller c t ≡ b → count_by (is_of_caller c) (unended_tickets (e ∷ past)) ≤ 64
         which true same =
-            let free = subst (λ m. count_by (is_of_caller m) (unended past) < 64) (eqb-true t.caller.0 c same) (given_free s past e t legal given) in
+            let free = subst (λ m. count_by (is_of_caller m) (unended_tickets past) < 64) (eqb-true t.caller.0 c same) (given_free s past e t legal given) in
             let more = is_one true same in
             omega arith
         which false same = let more = is_one false same in omega arith
@@ -62,7 +51,7 @@ callers_there s (e ∷ past) legal = All_append (λ t. t.caller.0 < s.callers) (
         let caller = sym (ap (λ who. may_make s who e.call) (ticket_in_is e (length past) t h).caller) ∙ makes in
         ltb-true t.caller.0 s.callers (and_parts _ (is_callers e.call) caller).0
 
-pub unended_few : (s : Layout) (past : List Entry) → IsLegal s past → length (unended past) ≤ 64 * s.callers
-unended_few s past legal = no_longer (λ (t : Ticket). t.caller.0) 64 s.callers (unended past)
+pub unended_few : (s : Layout) (past : List Entry) → IsLegal s past → length (unended_tickets past) ≤ 64 * s.callers
+unended_few s past legal = no_longer (λ (t : Ticket). t.caller.0) 64 s.callers (unended_tickets past)
     (All_filter (λ t. t.caller.0 < s.callers) (is_unended past) (tickets past) (All_map (λ t. t.caller.0 < s.callers) (λ t. is_unended past t ≡ true → t.caller.0 < s.callers) (tickets past) (λ t less stands. less) (callers_there s past legal)))
     (few_of_caller s past legal)

@@ -1,25 +1,14 @@
 -- The rows that a list of tickets makes, as tickets come and go, and what is found in them.
-use Rattle.std.proofs.Common.{◌≡◌, ◌≢◌, ◌==◌, ◌<◌, ◌+◌, ℕ, zero, suc, Bool, true, false, not, cond, ◌&&◌, ◌||◌, List, [], ◌∷◌, ◌++◌, length, map, filter, find, count_by, Option, Some, None, option_to_list, add-one, append-nil, refl, sym, ap, ap₂, ◌∙◌, subst, arith, inl, inr, ⊎_elim}
-use Rattle.std.specs.Prelude.{nat_lt, flat_map}
-use Rattle.std.specs.List.{range_with_len, list_any, AllByRecursion}
-use Rattle.std.proofs.lemmas.Bool.{eqb-true, eq-eqb, ne_eqb}
-use Rattle.std.proofs.lemmas.Bool.Decides.{nat_tests}
-use Rattle.std.proofs.lemmas.List.Elements.{filter-append}
-use Rattle.std.proofs.lemmas.List.FromFn.{get_or-map-range_with_len, sum_by-map-range_with_len_more}
-use Rattle.std.proofs.lemmas.List.Sums.{length-filter}
-use Rattle.cmwq_model.specs.declared.record.Ticket.{Ticket}
-use Rattle.cmwq_model.specs.Prelude.{is_held_by}
-use Rattle.cmwq_theory_active.proofs.Lists.{count_by-cons, find_none}
-use Rattle.cmwq_theory_steps.proofs.Filters.{filter_twice, filter_same, none_found}
-use Rattle.cmwq_theory_steps.proofs.Truth.{flip, or_true}
-use Rattle.cmwq_ticket.specs.Rows.{Rows, row_of, is_numbered, is_other, given, ended, count}
-use Rattle.cmwq_refinement.specs.Told.{number_of_ticket}
-use Rattle.cmwq_refinement.specs.Tickets.{the_caller, tickets_held, rows_of, told_given}
-use Rattle.cmwq_refinement.proofs.Members.{In, of_in, all_in, in_left, in_right, in_append, in_filter, filter_in, found}
-use Rattle.cmwq_refinement.proofs.Rising.{RisesBy, rises_unique}
+use Rattle.cmwq_refinement.specs.Common.{◌≡◌, ◌≢◌, ◌==◌, ◌<◌, ◌+◌, ℕ, zero, suc, Bool, true, false, not, cond, ◌&&◌, ◌||◌, List, [], ◌∷◌, ◌++◌, length, map, filter, find, count_by, Option, Some, None, option_to_list, add-one, append-nil, refl, sym, ap, ap₂, ◌∙◌, subst, arith, inl, inr, ⊎_elim, nat_lt, flat_map, range_with_len, list_any, AllByRecursion, eqb-true, eq-eqb, ne_eqb, nat_tests, filter-append, get_or-map-range_with_len, sum_by-map-range_with_len_more, length-filter, Ticket, is_held_by, count_by-cons, find_none, filter_twice, filter_same, none_found, flip, or_true, TicketRows, tickets_of_caller, is_numbered, rows_with, rows_without, count}
+use Rattle.cmwq_ticket.specs.Rows.{is_other_ticket}
+use Rattle.cmwq_refinement.specs.ByNumber.{number_of_ticket}
+use Rattle.cmwq_refinement.specs.Tickets.{the_caller, tickets_held, rows_of, tickets_after_giving}
+use Rattle.cmwq_lemmas.proofs.Members.{In, of_in, all_in, in_left, in_right, in_append, in_filter, filter_in, found}
+use Rattle.cmwq_lemmas.proofs.Rising.{RisesBy, rises_unique}
 use Rattle.cmwq_refinement.proofs.TimerSteps.{set_row}
+use Rattle.cmwq_lemmas.proofs.Truth.{same_bools}
 
-pub row_is : (n : ℕ) (ts : List Ticket) (c : ℕ) → c < n → row_of (rows_of n ts) c ≡ tickets_held ts c
+pub row_is : (n : ℕ) (ts : List Ticket) (c : ℕ) → c < n → tickets_of_caller (rows_of n ts) c ≡ tickets_held ts c
 row_is n ts c less = get_or-map-range_with_len (tickets_held ts) 0 n c c [] less (omega arith)
 
 -- ---- a ticket is given
@@ -27,29 +16,29 @@ row_is n ts c less = get_or-map-range_with_len (tickets_held ts) 0 n c c [] less
 held_itself : (t : Ticket) → is_held_by (the_caller t.caller.0) t ≡ true
 held_itself t = eq-eqb t.caller.0 t.caller.0 refl
 
-rows_given : (n : ℕ) (ts : List Ticket) (t : Ticket) → t.caller.0 < n → given (rows_of n ts) t ≡ rows_of n (ts ++ t ∷ [])
-rows_given n ts t less = sym (set_row (tickets_held ts) (tickets_held (ts ++ t ∷ [])) n t.caller.0 (row_of (rows_of n ts) t.caller.0 ++ t ∷ []) here others)
+rows_given : (n : ℕ) (ts : List Ticket) (t : Ticket) → t.caller.0 < n → rows_with (rows_of n ts) t ≡ rows_of n (ts ++ t ∷ [])
+rows_given n ts t less = sym (set_row (tickets_held ts) (tickets_held (ts ++ t ∷ [])) n t.caller.0 (tickets_of_caller (rows_of n ts) t.caller.0 ++ t ∷ []) here others)
   where
-    here : tickets_held (ts ++ t ∷ []) t.caller.0 ≡ row_of (rows_of n ts) t.caller.0 ++ t ∷ []
+    here : tickets_held (ts ++ t ∷ []) t.caller.0 ≡ tickets_of_caller (rows_of n ts) t.caller.0 ++ t ∷ []
     here = filter-append (is_held_by (the_caller t.caller.0)) ts (t ∷ []) ∙ ap₂ (λ xs b. xs ++ cond b (t ∷ []) []) (sym (row_is n ts t.caller.0 less)) (held_itself t)
 
     others : (c : ℕ) → c ≢ t.caller.0 → tickets_held (ts ++ t ∷ []) c ≡ tickets_held ts c
     others c differs = filter-append (is_held_by (the_caller c)) ts (t ∷ []) ∙ ap (λ b. tickets_held ts c ++ cond b (t ∷ []) []) (ne_eqb t.caller.0 c (λ same. differs (sym same))) ∙ append-nil (tickets_held ts c)
 
-pub rows_told : (n : ℕ) (ts : List Ticket) (o : Option Ticket) → ((t : Ticket) → o ≡ Some t → t.caller.0 < n) → told_given o (rows_of n ts) ≡ rows_of n (ts ++ option_to_list o)
-rows_told n ts None there = ap (rows_of n) (sym (append-nil ts))
-rows_told n ts (Some t) there = rows_given n ts t (there t refl)
+pub rows_after : (n : ℕ) (ts : List Ticket) (o : Option Ticket) → ((t : Ticket) → o ≡ Some t → t.caller.0 < n) → tickets_after_giving o (rows_of n ts) ≡ rows_of n (ts ++ option_to_list o)
+rows_after n ts None there = ap (rows_of n) (sym (append-nil ts))
+rows_after n ts (Some t) there = rows_given n ts t (there t refl)
 
 -- ---- a ticket is ended
 
-pub rows_ended : (n : ℕ) (ts : List Ticket) (u : Ticket) → RisesBy number_of_ticket ts → In u ts → u.caller.0 < n → ended (rows_of n ts) u.caller.0 u.number ≡ rows_of n (filter (is_other u.number) ts)
-rows_ended n ts u rise there less = sym (set_row (tickets_held ts) (tickets_held (filter (is_other u.number) ts)) n u.caller.0 (filter (is_other u.number) (row_of (rows_of n ts) u.caller.0)) here others)
+pub rows_ended : (n : ℕ) (ts : List Ticket) (u : Ticket) → RisesBy number_of_ticket ts → In u ts → u.caller.0 < n → rows_without (rows_of n ts) u.caller.0 u.number ≡ rows_of n (filter (is_other_ticket u.number) ts)
+rows_ended n ts u rise there less = sym (set_row (tickets_held ts) (tickets_held (filter (is_other_ticket u.number) ts)) n u.caller.0 (filter (is_other_ticket u.number) (tickets_of_caller (rows_of n ts) u.caller.0)) here others)
   where
-    here : tickets_held (filter (is_other u.number) ts) u.caller.0 ≡ filter (is_other u.number) (row_of (rows_of n ts) u.caller.0)
-    here = filter_twice (is_held_by (the_caller u.caller.0)) (is_other u.number) ts
-        ∙ filter_same (λ t. is_other u.number t && is_held_by (the_caller u.caller.0) t) (λ t. is_held_by (the_caller u.caller.0) t && is_other u.number t) ts (all_in _ ts (λ t i. flip (is_other u.number t) (is_held_by (the_caller u.caller.0) t)))
-        ∙ sym (filter_twice (is_other u.number) (is_held_by (the_caller u.caller.0)) ts)
-        ∙ ap (filter (is_other u.number)) (sym (row_is n ts u.caller.0 less))
+    here : tickets_held (filter (is_other_ticket u.number) ts) u.caller.0 ≡ filter (is_other_ticket u.number) (tickets_of_caller (rows_of n ts) u.caller.0)
+    here = filter_twice (is_held_by (the_caller u.caller.0)) (is_other_ticket u.number) ts
+        ∙ filter_same (λ t. is_other_ticket u.number t && is_held_by (the_caller u.caller.0) t) (λ t. is_held_by (the_caller u.caller.0) t && is_other_ticket u.number t) ts (all_in _ ts (λ t i. flip (is_other_ticket u.number t) (is_held_by (the_caller u.caller.0) t)))
+        ∙ sym (filter_twice (is_other_ticket u.number) (is_held_by (the_caller u.caller.0)) ts)
+        ∙ ap (filter (is_other_ticket u.number)) (sym (row_is n ts u.caller.0 less))
 
     -- a ticket of another caller has another number
     apart : (c : ℕ) → c ≢ u.caller.0 → (t : Ticket) → In t ts → (a b : Bool) → is_numbered u.number t ≡ a → is_held_by (the_caller c) t ≡ b → (not a && b) ≡ b
@@ -59,9 +48,9 @@ rows_ended n ts u rise there less = sym (set_row (tickets_held ts) (tickets_held
         let same : t ≡ u = rises_unique number_of_ticket ts t u rise i there (eqb-true t.number u.number number) in
         absurd (differs (sym (eqb-true t.caller.0 c held) ∙ ap (λ (x : Ticket). x.caller.0) same))
 
-    others : (c : ℕ) → c ≢ u.caller.0 → tickets_held (filter (is_other u.number) ts) c ≡ tickets_held ts c
-    others c differs = filter_twice (is_held_by (the_caller c)) (is_other u.number) ts
-        ∙ filter_same (λ t. is_other u.number t && is_held_by (the_caller c) t) (is_held_by (the_caller c)) ts (all_in _ ts (λ t i. apart c differs t i (is_numbered u.number t) (is_held_by (the_caller c) t) refl refl))
+    others : (c : ℕ) → c ≢ u.caller.0 → tickets_held (filter (is_other_ticket u.number) ts) c ≡ tickets_held ts c
+    others c differs = filter_twice (is_held_by (the_caller c)) (is_other_ticket u.number) ts
+        ∙ filter_same (λ t. is_other_ticket u.number t && is_held_by (the_caller c) t) (is_held_by (the_caller c)) ts (all_in _ ts (λ t i. apart c differs t i (is_numbered u.number t) (is_held_by (the_caller c) t) refl refl))
 
 -- ---- what stands in the rows is what stands in the list
 
@@ -106,14 +95,8 @@ module _ {X : Type 0} (p : X → Bool) where
       here true is later = ap Some (only y (inl refl) is)
       here false is later = ⊎_elim (λ e. let same : p y ≡ p x = ap p e in cc) later i
 
-same_bools : (a b : Bool) → (a ≡ true → b ≡ true) → (b ≡ true → a ≡ true) → a ≡ b
-same_bools true true f g = refl
-same_bools true false f g = let bad : false ≡ true = f refl in cc
-same_bools false true f g = let bad : false ≡ true = g refl in cc
-same_bools false false f g = refl
-
 -- some ticket of some row passes
-any_of_rows : (p : Ticket → Bool) (rows : Rows) → list_any (list_any p) rows ≡ list_any p (flat_map (λ (r : List Ticket). r) rows)
+any_of_rows : (p : Ticket → Bool) (rows : TicketRows) → list_any (list_any p) rows ≡ list_any p (flat_map (λ (r : List Ticket). r) rows)
 any_of_rows p [] = refl
 any_of_rows p (r ∷ rows) = ap (λ b. list_any p r || b) (any_of_rows p rows) ∙ sym (of_append r (flat_map (λ (x : List Ticket). x) rows))
   where

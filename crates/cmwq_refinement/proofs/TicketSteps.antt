@@ -1,24 +1,11 @@
 -- The unended tickets by their numbers, and the one that an entry ends.
-use Rattle.std.proofs.Common.{◌≡◌, ◌==◌, ◌<◌, ℕ, Bool, true, false, not, ◌&&◌, List, [], ◌∷◌, ◌++◌, length, Option, Some, None, option_to_list, refl, sym, ap, ◌∙◌, subst, append-nil}
-use Rattle.std.specs.Prelude.{if◌then◌else◌}
-use Rattle.std.specs.List.{AllByRecursion}
-use Rattle.std.proofs.lemmas.Bool.{and_parts, eqb-true, eq-eqb, false_from_ne_true}
-use Rattle.std.proofs.lemmas.Option.{same_Some}
-use Rattle.cmwq_model.specs.declared.id.Who.{Who}
-use Rattle.cmwq_model.specs.declared.id.Who.TheVariants.{Caller, Worker}
-use Rattle.cmwq_model.specs.declared.call.Call.{Call}
-use Rattle.cmwq_model.specs.declared.entry.Entry.{Entry}
-use Rattle.cmwq_model.specs.declared.record.Ticket.{Ticket}
-use Rattle.cmwq_model.specs.Prelude.{is_by, gives_ticket, ticket_for, ticket_in, tickets, is_end_of, is_done, ends, is_unended, unended}
+use Rattle.cmwq_refinement.specs.Common.{◌≡◌, ◌==◌, ◌<◌, ℕ, Bool, true, false, not, ◌&&◌, List, [], ◌∷◌, ◌++◌, length, Option, Some, None, option_to_list, refl, sym, ap, ◌∙◌, subst, append-nil, if◌then◌else◌, AllByRecursion, and_parts, eqb-true, eq-eqb, false_from_ne_true, same_Some, Who, Caller, Worker, Call, Entry, Ticket, is_by, gives_ticket, ticket_for, ticket_in, tickets, is_end_of, is_done, ends, is_unended, unended_tickets, All_map, is_kept, is_ended_by, ticket_ended, is_done_reply, one_ticket_ends}
 use Rattle.cmwq_model.specs.declared.call.Call.TheVariants as call
 use Rattle.cmwq_model.specs.declared.reply.Reply.TheVariants as reply
-use Rattle.cmwq_theory_active.proofs.Lists.{All_map}
 use Rattle.cmwq_theory_steps.proofs.Given.{IsGiven, tickets_given, unended_given}
-use Rattle.cmwq_theory_steps.specs.TicketSteps.{is_kept, is_ended_by, ticket_ended}
-use Rattle.cmwq_theory_steps.proofs.TicketSteps.{is_done_reply, one_ticket_ends}
-use Rattle.cmwq_refinement.specs.Told.{number_of_ticket}
-use Rattle.cmwq_refinement.proofs.Members.{In, all_in, in_filter, filter_in, option_in}
-use Rattle.cmwq_refinement.proofs.Rising.{RisesBy, rises_filter, rises_snoc, rises_unique}
+use Rattle.cmwq_refinement.specs.ByNumber.{number_of_ticket}
+use Rattle.cmwq_lemmas.proofs.Members.{In, all_in, in_filter, filter_in, option_in}
+use Rattle.cmwq_lemmas.proofs.Rising.{RisesBy, rises_filter, rises_snoc, rises_unique}
 
 -- ---- by their numbers
 
@@ -51,11 +38,11 @@ unfolding tickets
 tickets_rise [] = tt
 tickets_rise (e ∷ past) = rises_more (length past) (tickets past) (ticket_in e (length past)) (tickets_rise past) (tickets_below past) (λ t h. (ticket_in_is e (length past) t h).number)
 
-pub unended_rise : (past : List Entry) → RisesBy number_of_ticket (unended past)
+pub unended_rise : (past : List Entry) → RisesBy number_of_ticket (unended_tickets past)
 unended_rise past = rises_filter number_of_ticket (is_unended past) (tickets past) (tickets_rise past)
 
-pub unended_below : (past : List Entry) → AllByRecursion (λ t. t.number < length past) (unended past)
-unended_below past = All_map (IsGiven past) (λ t. t.number < length past) (unended past) (λ t h. h.older) (unended_given past)
+pub unended_below : (past : List Entry) → AllByRecursion (λ t. t.number < length past) (unended_tickets past)
+unended_below past = All_map (IsGiven past) (λ t. t.number < length past) (unended_tickets past) (λ t h. h.older) (unended_given past)
 
 -- ---- the end of a ticket
 
@@ -78,7 +65,7 @@ ends_it e t h =
 -- ---- an entry ends one ticket at most
 
 -- of the unended tickets the entry ends the one with the number of this, and no other
-pub ends_only : (past : List Entry) (e : Entry) (u : Ticket) → In u (unended past) → ends u e ≡ true → (t : Ticket) → In t (unended past) → is_kept e t ≡ not (t.number == u.number)
+pub ends_only : (past : List Entry) (e : Entry) (u : Ticket) → In u (unended_tickets past) → ends u e ≡ true → (t : Ticket) → In t (unended_tickets past) → is_kept e t ≡ not (t.number == u.number)
 ends_only past e u here it t there = ap not (agree (ends t e) (t.number == u.number) forth back)
   where
     agree : (a b : Bool) → (a ≡ true → b ≡ true) → (b ≡ true → a ≡ true) → a ≡ b
@@ -94,18 +81,18 @@ ends_only past e u here it t there = ap not (agree (ends t e) (t.number == u.num
         end_same k = cc
 
     back : (t.number == u.number) ≡ true → ends t e ≡ true
-    back h = let same = rises_unique number_of_ticket (unended past) t u (unended_rise past) there here (eqb-true t.number u.number h) in ap (λ x. ends x e) same ∙ it
+    back h = let same = rises_unique number_of_ticket (unended_tickets past) t u (unended_rise past) there here (eqb-true t.number u.number h) in ap (λ x. ends x e) same ∙ it
 
 pub data TicketStep (past : List Entry) (e : Entry) : Type 0 where
-  ends_one : (u : Ticket) → ticket_ended past e ≡ Some u → In u (unended past) → ends u e ≡ true → TicketStep past e
-  ends_none : ticket_ended past e ≡ None → AllByRecursion (λ t. is_kept e t ≡ true) (unended past) → TicketStep past e
+  ends_one : (u : Ticket) → ticket_ended past e ≡ Some u → In u (unended_tickets past) → ends u e ≡ true → TicketStep past e
+  ends_none : ticket_ended past e ≡ None → AllByRecursion (λ t. is_kept e t ≡ true) (unended_tickets past) → TicketStep past e
 
 pub ticket_step : (past : List Entry) (e : Entry) → TicketStep past e
 ticket_step past e = which (ticket_ended past e) refl
   where
     which : (o : Option Ticket) → ticket_ended past e ≡ o → TicketStep past e
-    which None is = ends_none is (all_in (λ t. is_kept e t ≡ true) (unended past) (λ t i. ap not (false_from_ne_true (ends t e) (λ h.
-        subst (λ o. In t (option_to_list o)) is (subst (In t) (one_ticket_ends past e) (filter_in (is_ended_by e) (unended past) t i h))))))
+    which None is = ends_none is (all_in (λ t. is_kept e t ≡ true) (unended_tickets past) (λ t i. ap not (false_from_ne_true (ends t e) (λ h.
+        subst (λ o. In t (option_to_list o)) is (subst (In t) (one_ticket_ends past e) (filter_in (is_ended_by e) (unended_tickets past) t i h))))))
     which (Some u) is =
-        let k = in_filter (is_ended_by e) (unended past) u (subst (In u) (sym (one_ticket_ends past e)) (option_in (ticket_ended past e) u is)) in
+        let k = in_filter (is_ended_by e) (unended_tickets past) u (subst (In u) (sym (one_ticket_ends past e)) (option_in (ticket_ended past e) u is)) in
         ends_one u is k.0 k.1

@@ -1,22 +1,9 @@
 -- The rows of timers, entry by entry.
-use Rattle.std.proofs.Common.{◌≡◌, ◌≢◌, ◌<◌, ◌≤◌, ℕ, Bool, true, false, ◌&&◌, List, [], ◌∷◌, length, map, replicate, set, get_or, Option, Some, None, refl, sym, ap, ap₂, ◌∙◌, arith, ⊎_elim}
-use Rattle.std.specs.Prelude.{option_map, option_and_then, if◌then◌else◌}
-use Rattle.std.specs.List.{range_with_len}
-use Rattle.std.proofs.lemmas.List.{length-set, get_or-set_same, get_or-set_other, get_or_past}
-use Rattle.std.proofs.lemmas.List.FromFn.{fill_by_all, length-range_with_len, length-map-range_with_len, get_or-map-range_with_len}
-use Rattle.std.specs.Option.{option_or}
-use Rattle.std.proofs.lemmas.Option.{same_Some}
-use Rattle.std.proofs.lemmas.Bool.{cases_eq, eq-eqb, ne_eqb}
-use Rattle.cmwq_model.specs.declared.call.Call.{Call}
-use Rattle.cmwq_model.specs.declared.reply.Reply.{Reply}
-use Rattle.cmwq_model.specs.declared.entry.Entry.{Entry}
-use Rattle.cmwq_model.specs.declared.record.Booking.{Booking}
-use Rattle.cmwq_model.specs.Prelude.{Layout, item_called, item_fired, item_of, is_of_item, is_at, settles, due_in, booked_by, booking_of, booking}
+use Rattle.cmwq_refinement.specs.Common.{◌≡◌, ◌≢◌, ◌<◌, ◌≤◌, ℕ, Bool, true, false, ◌&&◌, List, [], ◌∷◌, length, map, replicate, set, get_or, Option, Some, None, refl, sym, ap, ap₂, ◌∙◌, arith, ⊎_elim, option_map, option_and_then, if◌then◌else◌, range_with_len, length-set, get_or-set_same, get_or-set_other, get_or_past, fill_by_all, length-range_with_len, length-map-range_with_len, get_or-map-range_with_len, option_or, same_Some, cases_eq, eq-eqb, ne_eqb, Call, Reply, Entry, Booking, Layout, item_called, item_fired, item_of, is_of_item, is_at, settles, due_in, booked_by, booking_of, booking, Timer, due_of, timer_of}
 use Rattle.cmwq_model.specs.declared.call.Call.TheVariants as call
 use Rattle.cmwq_model.specs.declared.reply.Reply.TheVariants as reply
-use Rattle.cmwq_timer.specs.declared.timer.Timer.{Timer}
-use Rattle.cmwq_timer.specs.Rows.{due_of, timer_of}
-use Rattle.cmwq_refinement.specs.Timers.{timer_for, row_of, timers_of, due_in_bookings}
+use Rattle.cmwq_refinement.specs.Timers.{timer_for, timer_row, timers_of, due_in_bookings}
+use Rattle.cmwq_theory_steps.proofs.Standing.{due_settles}
 
 module _ {X : Type 0} where
   -- one place of a table that a function makes
@@ -71,11 +58,6 @@ booked_by_call (call.Modify i q k t) n due b h =
     record { item = ap (λ (x : Booking). Some x.item.0) same; number = ap (λ (x : Booking). x.number) (sym same) }
 booked_by_call c n due b h = cc
 
-due_settles : (r : Reply) (due : ℕ) → due_in r ≡ Some due → settles r ≡ true
-due_settles (reply.Booked d) due h = refl
-due_settles (reply.Rebooked d) due h = refl
-due_settles r due h = cc
-
 pub record Books (e : Entry) (n : ℕ) (b : Booking) : Type 0 where
   pub settled : settles e.reply ≡ true
   pub item : item_of e ≡ Some b.item.0
@@ -101,7 +83,7 @@ is_no_other e i j h differs = ap (λ o. is_at o j) h ∙ ne_eqb i j (λ same. di
 -- where an entry settles an item, its row is what the entry books
 row_settled : (s : Layout) (past : List Entry) (e : Entry) (i : ℕ) (o : Option Booking) → settles e.reply ≡ true → item_of e ≡ Some i → booking_of e (length past) ≡ o
     → timers_of s (e ∷ past) ≡ set (timers_of s past) i (option_map timer_for o)
-row_settled s past e i o settled item is = set_row (row_of past) (row_of (e ∷ past)) s.items i (option_map timer_for o)
+row_settled s past e i o settled item is = set_row (timer_row past) (timer_row (e ∷ past)) s.items i (option_map timer_for o)
     (ap (option_map timer_for) (booking_settled past e i settled (is_its_item e i item) ∙ is))
     (λ j differs. ap (option_map timer_for) (booking_of_other past e j (is_no_other e i j item differs)))
 
@@ -113,25 +95,25 @@ pub settled_timers_are_taken_back : (s : Layout) (past : List Entry) (e : Entry)
 settled_timers_are_taken_back s past e i settled none item = row_settled s past e i None settled item none
 
 pub others_keep_timers : (s : Layout) (past : List Entry) (e : Entry) → settles e.reply ≡ false → timers_of s (e ∷ past) ≡ timers_of s past
-others_keep_timers s past e h = same_rows (row_of past) (row_of (e ∷ past)) (range_with_len 0 s.items) (λ j. ap (option_map timer_for) (booking_kept past e j h))
+others_keep_timers s past e h = same_rows (timer_row past) (timer_row (e ∷ past)) (range_with_len 0 s.items) (λ j. ap (option_map timer_for) (booking_kept past e j h))
 
-none_rows : (xs : List ℕ) → map (row_of []) xs ≡ replicate (length xs) None
+none_rows : (xs : List ℕ) → map (timer_row []) xs ≡ replicate (length xs) None
 unfolding booking
 none_rows [] = refl
 none_rows (x ∷ xs) = ap (λ ys. None ∷ ys) (none_rows xs)
 
 pub rows_for_items : (s : Layout) (past : List Entry) → length (timers_of s past) ≡ s.items
-rows_for_items s past = length-map-range_with_len (row_of past) 0 s.items
+rows_for_items s past = length-map-range_with_len (timer_row past) 0 s.items
 
 pub no_timers_at_first : (s : Layout) → timers_of s [] ≡ replicate s.items None
 no_timers_at_first s = none_rows (range_with_len 0 s.items) ∙ ap (λ n. replicate n None) (length-range_with_len 0 s.items)
 
-pub row_at : (s : Layout) (past : List Entry) (i : ℕ) → i < s.items → timer_of (timers_of s past) i ≡ row_of past i
-row_at s past i less = get_or-map-range_with_len (row_of past) 0 s.items i i None less (omega arith)
+pub row_at : (s : Layout) (past : List Entry) (i : ℕ) → i < s.items → timer_of (timers_of s past) i ≡ timer_row past i
+row_at s past i less = get_or-map-range_with_len (timer_row past) 0 s.items i i None less (omega arith)
 
 pub row_past : (s : Layout) (past : List Entry) (i : ℕ) → s.items ≤ i → timer_of (timers_of s past) i ≡ None
 row_past s past i more =
-    let length_is : length (timers_of s past) ≡ s.items = length-map-range_with_len (row_of past) 0 s.items in
+    let length_is : length (timers_of s past) ≡ s.items = length-map-range_with_len (timer_row past) 0 s.items in
     get_or_past (timers_of s past) i None (rw length_is more)
 
 due_of_row : (o : Option Booking) → option_map (λ (t : Timer). t.due) (option_map timer_for o) ≡ option_map (λ (b : Booking). b.due) o

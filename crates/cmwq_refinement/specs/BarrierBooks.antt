@@ -1,18 +1,8 @@
 -- The barriers refine the open queueings of items, and the unended waits for them.
-use Rattle.std.specs.Prelude.{◌≡◌, ℕ, true, ◌↔◌, if◌then◌else◌, List, [], ◌∷◌, map, filter, Contains, ◌++◌, Option, Some, None, is_some, option_map, option_to_list}
-use Rattle.std.specs.List.{filter_map, range_with_len}
-use Rattle.cmwq_model.specs.declared.call.Call.{Call}
-use Rattle.cmwq_model.specs.declared.entry.Entry.{Entry}
-use Rattle.cmwq_model.specs.declared.record.Queueing.{Queueing}
-use Rattle.cmwq_model.specs.declared.record.Ticket.{Ticket}
-use Rattle.cmwq_model.specs.declared.record.Start.{Start}
-use Rattle.cmwq_model.specs.Prelude.{Layout, still_open, opening, is_of, unstarted, item_run, unended, waits_for, IsLegal}
+use Rattle.cmwq_refinement.specs.Common.{◌≡◌, ℕ, true, ◌↔◌, if◌then◌else◌, List, [], ◌∷◌, map, filter, Contains, ◌++◌, Option, Some, None, is_some, option_map, option_to_list, filter_map, range_with_len, Call, Entry, Queueing, Ticket, Start, Layout, still_open, opening, is_of, unstarted_queueing, item_run, unended_tickets, waits_for, IsLegal, ending, ticket_ended, Barrier, BarrierBook, new_barriers, numbers_open, tickets_in, CanBeginBarrier, IsReadyBarrier}
 use Rattle.cmwq_model.specs.declared.call.Call.TheVariants as call
-use Rattle.cmwq_theory_steps.specs.Endings.{ending}
-use Rattle.cmwq_theory_steps.specs.TicketSteps.{ticket_ended}
-use Rattle.cmwq_flush.specs.declared.barrier.Barrier.{Barrier}
-use Rattle.cmwq_flush.specs.BarrierBook.{BarrierBook, new_barriers, numbers_open, tickets_in, CanOpen, CanBegin, IsReady, after_opened, after_ended, after_begin, after_end, waits_for as book_waits_for}
-use Rattle.cmwq_refinement.specs.Told.{number_of_queueing, ticket_given}
+use Rattle.cmwq_flush.specs.BarrierBook.{CanOpenForItem, barriers_with_open, barriers_without_open, barriers_with_wait, barriers_without_wait, barrier_waits_for as book_waits_for}
+use Rattle.cmwq_refinement.specs.ByNumber.{number_of_queueing, ticket_given}
 
 -- the numbers of an item's open queueings
 abbrev pub item_numbers : List Entry → ℕ → List ℕ
@@ -29,92 +19,92 @@ wait_for t = wait_by t.call t.number
 
 -- the barriers of a history
 abbrev pub barriers_of : Layout → List Entry → BarrierBook
-barriers_of s past = record { callers = s.callers; opened = map (item_numbers past) (range_with_len 0 s.items); barriers = filter_map wait_for (unended past) }
+barriers_of s past = record { callers = s.callers; opened = map (item_numbers past) (range_with_len 0 s.items); barriers = filter_map wait_for (unended_tickets past) }
 
--- what the barriers are told: of a queueing that ended, and of one that was opened
-abbrev pub told_ended : Option Queueing → BarrierBook → BarrierBook
-told_ended None b = b
-told_ended (Some x) b = after_ended b x.item.0 x.number
+-- the barriers after a queueing ended, and after one was opened
+abbrev pub barriers_after_end : Option Queueing → BarrierBook → BarrierBook
+barriers_after_end None b = b
+barriers_after_end (Some x) b = barriers_without_open b x.item.0 x.number
 
-abbrev pub told_opened : Option Queueing → BarrierBook → BarrierBook
-told_opened None b = b
-told_opened (Some x) b = after_opened b x.item.0 x.number
+abbrev pub barriers_after_opening : Option Queueing → BarrierBook → BarrierBook
+barriers_after_opening None b = b
+barriers_after_opening (Some x) b = barriers_with_open b x.item.0 x.number
 
--- of a wait for an item that ended, and of one that began
-abbrev pub told_done : Option Ticket → BarrierBook → BarrierBook
-told_done None b = b
-told_done (Some t) b = if is_some (wait_for t) then after_end b t.number else b
+-- after a wait for an item ended, and after one began
+abbrev pub barriers_after_done : Option Ticket → BarrierBook → BarrierBook
+barriers_after_done None b = b
+barriers_after_done (Some t) b = if is_some (wait_for t) then barriers_without_wait b t.number else b
 
-abbrev pub begun : Option Barrier → BarrierBook → BarrierBook
-begun None b = b
-begun (Some w) b = after_begin b w.item.0 w.ticket
+abbrev pub barriers_after_wait : Option Barrier → BarrierBook → BarrierBook
+barriers_after_wait None b = b
+barriers_after_wait (Some w) b = barriers_with_wait b w.item.0 w.ticket
 
-abbrev pub told_begun : Option Ticket → BarrierBook → BarrierBook
-told_begun None b = b
-told_begun (Some t) b = begun (wait_for t) b
+abbrev pub barriers_after_begun : Option Ticket → BarrierBook → BarrierBook
+barriers_after_begun None b = b
+barriers_after_begun (Some t) b = barriers_after_wait (wait_for t) b
 
-abbrev pub told_queueings : List Entry → Entry → BarrierBook → BarrierBook
-told_queueings past e b = told_opened (opening past e) (told_ended (ending past e) b)
+abbrev pub barriers_after_queueings : List Entry → Entry → BarrierBook → BarrierBook
+barriers_after_queueings past e b = barriers_after_opening (opening past e) (barriers_after_end (ending past e) b)
 
-abbrev pub told : List Entry → Entry → BarrierBook → BarrierBook
-told past e b = told_begun (ticket_given past e) (told_done (ticket_ended past e) (told_queueings past e b))
+abbrev pub barriers_after : List Entry → Entry → BarrierBook → BarrierBook
+barriers_after past e b = barriers_after_begun (ticket_given past e) (barriers_after_done (ticket_ended past e) (barriers_after_queueings past e b))
 
 -- at first the barriers are new ones, and each entry's calls make them those of the longer history
 abbrev pub BarriersAtFirst : Type 0
 BarriersAtFirst = (s : Layout) → barriers_of s [] ≡ new_barriers s.items s.callers
 
 abbrev pub BarriersRefine : Type 0
-BarriersRefine = (s : Layout) (past : List Entry) (e : Entry) → IsLegal s (e ∷ past) → barriers_of s (e ∷ past) ≡ told past e (barriers_of s past)
+BarriersRefine = (s : Layout) (past : List Entry) (e : Entry) → IsLegal s (e ∷ past) → barriers_of s (e ∷ past) ≡ barriers_after past e (barriers_of s past)
 
 -- what the barriers answer is what the definitions say
 abbrev pub BarriersWaitForLeast : Type 0
-BarriersWaitForLeast = (s : Layout) (past : List Entry) (t : Ticket) → IsLegal s past → Contains (unended past) t → is_some (wait_for t) ≡ true → book_waits_for (barriers_of s past) t.number ≡ waits_for past t.number t.call
+BarriersWaitForLeast = (s : Layout) (past : List Entry) (t : Ticket) → IsLegal s past → Contains (unended_tickets past) t → is_some (wait_for t) ≡ true → book_waits_for (barriers_of s past) t.number ≡ waits_for past t.number t.call
 
 abbrev pub ReadyBarriersWaitForNothing : Type 0
-ReadyBarriersWaitForNothing = (s : Layout) (past : List Entry) (t : Ticket) → IsLegal s past → Contains (unended past) t → is_some (wait_for t) ≡ true
-    → IsReady (barriers_of s past) t.number ↔ (waits_for past t.number t.call ≡ None)
+ReadyBarriersWaitForNothing = (s : Layout) (past : List Entry) (t : Ticket) → IsLegal s past → Contains (unended_tickets past) t → is_some (wait_for t) ≡ true
+    → IsReadyBarrier (barriers_of s past) t.number ↔ (waits_for past t.number t.call ≡ None)
 
 -- an item has two open queueings at most: its run, and after that one which hasn't started
 abbrev pub RunThenUnstarted : Type 0
 RunThenUnstarted = (s : Layout) (past : List Entry) (i : ℕ) → IsLegal s past
-    → item_numbers past i ≡ option_to_list (option_map (λ (start : Start). start.number) (item_run past i)) ++ option_to_list (option_map number_of_queueing (unstarted past i))
+    → item_numbers past i ≡ option_to_list (option_map (λ (start : Start). start.number) (item_run past i)) ++ option_to_list (option_map number_of_queueing (unstarted_queueing past i))
 
 -- an unended wait for an item stands, so that the barriers may be asked for it
 abbrev pub UnendedWaitsStand : Type 0
-UnendedWaitsStand = (s : Layout) (past : List Entry) (t : Ticket) → Contains (unended past) t → is_some (wait_for t) ≡ true → Contains (tickets_in (barriers_of s past).barriers) t.number
+UnendedWaitsStand = (s : Layout) (past : List Entry) (t : Ticket) → Contains (unended_tickets past) t → is_some (wait_for t) ≡ true → Contains (tickets_in (barriers_of s past).barriers) t.number
 
 -- a wait for an item whose end is answered done in a legal history stands and is ready, so that the call may be made
 abbrev pub DoneBarriersMayEnd : Type 0
 DoneBarriersMayEnd = (s : Layout) (past : List Entry) (e : Entry) (t : Ticket) → IsLegal s (e ∷ past) → ticket_ended past e ≡ Some t → is_some (wait_for t) ≡ true
-    → Contains (tickets_in (barriers_of s past).barriers) t.number × IsReady (barriers_of s past) t.number
+    → Contains (tickets_in (barriers_of s past).barriers) t.number × IsReadyBarrier (barriers_of s past) t.number
 
--- each call that tells the barriers of an entry may be made where it is made: what the call requires holds
-abbrev pub MayEnd : Option Queueing → BarrierBook → Type 0
-MayEnd None b = Unit {0}
-MayEnd (Some x) b = Contains (numbers_open b x.item.0) x.number
+-- each call that applies an entry to the barriers may be made where it is made: what the call requires holds
+abbrev pub MayEndInBarriers : Option Queueing → BarrierBook → Type 0
+MayEndInBarriers None b = Unit {0}
+MayEndInBarriers (Some x) b = Contains (numbers_open b x.item.0) x.number
 
-abbrev pub MayOpen : Option Queueing → BarrierBook → Type 0
-MayOpen None b = Unit {0}
-MayOpen (Some x) b = CanOpen b x.item.0 x.number
+abbrev pub MayOpenInBarriers : Option Queueing → BarrierBook → Type 0
+MayOpenInBarriers None b = Unit {0}
+MayOpenInBarriers (Some x) b = CanOpenForItem b x.item.0 x.number
 
-abbrev pub MayBeDone : Option Ticket → BarrierBook → Type 0
-MayBeDone None b = Unit {0}
-MayBeDone (Some t) b = is_some (wait_for t) ≡ true → Contains (tickets_in b.barriers) t.number × IsReady b t.number
+abbrev pub MayBeDoneInBarriers : Option Ticket → BarrierBook → Type 0
+MayBeDoneInBarriers None b = Unit {0}
+MayBeDoneInBarriers (Some t) b = is_some (wait_for t) ≡ true → Contains (tickets_in b.barriers) t.number × IsReadyBarrier b t.number
 
-abbrev pub MayWait : Option Barrier → BarrierBook → Type 0
-MayWait None b = Unit {0}
-MayWait (Some w) b = CanBegin b w.item.0 w.ticket
+abbrev pub MayWaitInBarriers : Option Barrier → BarrierBook → Type 0
+MayWaitInBarriers None b = Unit {0}
+MayWaitInBarriers (Some w) b = CanBeginBarrier b w.item.0 w.ticket
 
-abbrev pub MayBegin : Option Ticket → BarrierBook → Type 0
-MayBegin None b = Unit {0}
-MayBegin (Some t) b = MayWait (wait_for t) b
+abbrev pub MayBeginInBarriers : Option Ticket → BarrierBook → Type 0
+MayBeginInBarriers None b = Unit {0}
+MayBeginInBarriers (Some t) b = MayWaitInBarriers (wait_for t) b
 
-pub record MayBeTold (past : List Entry) (e : Entry) (b : BarrierBook) : Type 0 where
-  pub ended : MayEnd (ending past e) b
-  pub opened : MayOpen (opening past e) (told_ended (ending past e) b)
-  pub done : MayBeDone (ticket_ended past e) (told_queueings past e b)
-  pub begun : MayBegin (ticket_given past e) (told_done (ticket_ended past e) (told_queueings past e b))
+pub record MayApplyToBarriers (past : List Entry) (e : Entry) (b : BarrierBook) : Type 0 where
+  pub ended : MayEndInBarriers (ending past e) b
+  pub opened : MayOpenInBarriers (opening past e) (barriers_after_end (ending past e) b)
+  pub done : MayBeDoneInBarriers (ticket_ended past e) (barriers_after_queueings past e b)
+  pub begun : MayBeginInBarriers (ticket_given past e) (barriers_after_done (ticket_ended past e) (barriers_after_queueings past e b))
 
 -- so it is in a legal history
-abbrev pub BarriersMayBeTold : Type 0
-BarriersMayBeTold = (s : Layout) (past : List Entry) (e : Entry) → IsLegal s (e ∷ past) → MayBeTold past e (barriers_of s past)
+abbrev pub EntriesApplyToBarriers : Type 0
+EntriesApplyToBarriers = (s : Layout) (past : List Entry) (e : Entry) → IsLegal s (e ∷ past) → MayApplyToBarriers past e (barriers_of s past)

@@ -1,5 +1,6 @@
+pub mod Common
 pub mod Timers
-pub mod Told
+pub mod ByNumber
 pub mod FlushBooks
 pub mod BarrierBooks
 pub mod Pools

@@ -1,22 +1,9 @@
 -- A pool refines its worklist, and the runs and the enlisting of its workers.
-use Rattle.std.specs.Prelude.{◌≡◌, ℕ, ◌<◌, ◌&&◌, not, if◌then◌else◌, List, [], ◌∷◌, length, map, filter, fold, Option, Some, None, option_map, option_and_then, IsTrue, IsSome}
-use Rattle.cmwq_model.specs.declared.id.PoolId.{PoolId}
-use Rattle.cmwq_model.specs.declared.id.WorkerId.{WorkerId}
-use Rattle.cmwq_model.specs.declared.id.Who.{Who}
-use Rattle.cmwq_model.specs.declared.id.Who.TheVariants.{Caller, Worker}
-use Rattle.cmwq_model.specs.declared.reply.Reply.{Reply}
-use Rattle.cmwq_model.specs.declared.entry.Entry.{Entry}
-use Rattle.cmwq_model.specs.declared.record.Queueing.{Queueing}
-use Rattle.cmwq_model.specs.Prelude.{Layout, indices, is_intensive, same_pool, finishes, run, is_asleep, queueing_at, newly_active, worklist, next, worker_at, is_enlisted}
-use Rattle.cmwq_model.specs.Prelude.{runnable, enlisted_by, is_idle, may_retire, IsLegal}
+use Rattle.cmwq_refinement.specs.Common.{◌≡◌, ℕ, ◌<◌, ◌&&◌, not, if◌then◌else◌, List, [], ◌∷◌, length, map, filter, fold, Option, Some, None, option_map, option_and_then, IsTrue, IsSome, PoolId, WorkerId, Who, Caller, Worker, Reply, Entry, Queueing, Layout, indices, is_intensive, same_pool, finishes, run, is_asleep, queueing_at, newly_active, worklist, next, worker_at, is_enlisted, runnable, enlisted_by, is_idle, may_retire, IsLegal, ending, is_in, Task, Slot, slot_at, run_number, slot_asleep, slot_awake, slot_free, slot_retired, PoolState, new_pool_state, may_add, pool_with_task, pool_without_task, next_task, with_slot_again}
 use Rattle.cmwq_model.specs.declared.reply.Reply.TheVariants as reply
-use Rattle.cmwq_theory_steps.specs.Endings.{ending}
-use Rattle.cmwq_theory_steps.specs.Activations.{is_in}
-use Rattle.cmwq_pool.specs.declared.task.Task.{Task}
-use Rattle.cmwq_pool.specs.declared.slot.Slot.{Slot}
-use Rattle.cmwq_pool.specs.Slots.{slot_at, is_idle as is_idle_slot, runs_awake, runs_asleep, run_number, slot_asleep, slot_awake, slot_free, slot_retired, runnable as slots_runnable, enlisted_by as slots_enlisted_by, may_retire as slot_may_retire}
-use Rattle.cmwq_pool.specs.PoolState.{PoolState, new_pool_state, may_add, added, removed, next_task, started, with_slot_again, next as pool_state_next}
-use Rattle.cmwq_refinement.specs.Told.{number_of_queueing}
+use Rattle.cmwq_pool.specs.Slots.{slot_is_idle as is_idle_slot, slots_runnable, slots_enlisted_by, slot_may_retire, slot_runs_awake, slot_runs_asleep}
+use Rattle.cmwq_pool.specs.PoolState.{pool_with_run, next_number as pool_state_next}
+use Rattle.cmwq_refinement.specs.ByNumber.{number_of_queueing}
 
 -- a queueing as its pool sees it, and what a worker runs
 abbrev pub task_for : Layout → Queueing → Task
@@ -32,47 +19,47 @@ slot_of s past p x = record { enlisted = is_enlisted past (worker_at p x); run =
 abbrev pub pool_of : Layout → List Entry → PoolId → PoolState
 pool_of s past p = record { items = s.items; listed = map (task_for s) (worklist s past p); slots = map (slot_of s past p) (indices s) }
 
--- what a pool is told of a reply to its worker with this index: it started the next, finished, slept, woke or retired
+-- the pool after a reply to its worker with this index: it started the next, finished, slept, woke or retired
 abbrev pub start_next : ℕ → Option Task → PoolState → PoolState
 start_next x None l = l
-start_next x (Some t) l = started l x t
+start_next x (Some t) l = pool_with_run l x t
 
-abbrev pub told_reply : Reply → ℕ → PoolState → PoolState
-told_reply (reply.Started n) x l = start_next x (next_task l) l
-told_reply (reply.StartedEnlist n y) x l = start_next x (next_task l) l
-told_reply (reply.Finished n) x l = with_slot_again slot_free l x
-told_reply reply.Slept x l = with_slot_again slot_asleep l x
-told_reply reply.Woke x l = with_slot_again slot_awake l x
-told_reply reply.Retired x l = with_slot_again slot_retired l x
-told_reply r x l = l
+abbrev pub pool_after_reply : Reply → ℕ → PoolState → PoolState
+pool_after_reply (reply.Started n) x l = start_next x (next_task l) l
+pool_after_reply (reply.StartedEnlist n y) x l = start_next x (next_task l) l
+pool_after_reply (reply.Finished n) x l = with_slot_again slot_free l x
+pool_after_reply reply.Slept x l = with_slot_again slot_asleep l x
+pool_after_reply reply.Woke x l = with_slot_again slot_awake l x
+pool_after_reply reply.Retired x l = with_slot_again slot_retired l x
+pool_after_reply r x l = l
 
-abbrev pub told_worker : PoolId → Who → Reply → PoolState → PoolState
-told_worker p (Caller c) r l = l
-told_worker p (Worker w) r l = if same_pool w.pool p then told_reply r w.index l else l
+abbrev pub pool_after_worker : PoolId → Who → Reply → PoolState → PoolState
+pool_after_worker p (Caller c) r l = l
+pool_after_worker p (Worker w) r l = if same_pool w.pool p then pool_after_reply r w.index l else l
 
--- of a queueing of its own that was cancelled or replaced, and of those that became active, in their order
-abbrev pub told_cancelled : Layout → PoolId → Entry → Option Queueing → PoolState → PoolState
-told_cancelled s p e None l = l
-told_cancelled s p e (Some x) l = if is_in s p x && not (finishes x.number e) then removed l x.number else l
+-- after a queueing of its own was cancelled or replaced, and after some became active, in their order
+abbrev pub pool_after_cancel : Layout → PoolId → Entry → Option Queueing → PoolState → PoolState
+pool_after_cancel s p e None l = l
+pool_after_cancel s p e (Some x) l = if is_in s p x && not (finishes x.number e) then pool_without_task l x.number else l
 
-abbrev pub told_active : Layout → List Queueing → PoolState → PoolState
-told_active s xs l = fold (λ (m : PoolState) (x : Queueing). added m (task_for s x)) l xs
+abbrev pub pool_after_activation : Layout → List Queueing → PoolState → PoolState
+pool_after_activation s xs l = fold (λ (m : PoolState) (x : Queueing). pool_with_task m (task_for s x)) l xs
 
-abbrev pub told_first : Layout → List Entry → PoolId → Entry → PoolState → PoolState
-told_first s past p e l = told_cancelled s p e (ending past e) (told_worker p e.who e.reply l)
+abbrev pub pool_before_activation : Layout → List Entry → PoolId → Entry → PoolState → PoolState
+pool_before_activation s past p e l = pool_after_cancel s p e (ending past e) (pool_after_worker p e.who e.reply l)
 
 abbrev pub made_active : Layout → List Entry → PoolId → Entry → List Queueing
 made_active s past p e = filter (is_in s p) (newly_active s past e)
 
-abbrev pub told : Layout → List Entry → PoolId → Entry → PoolState → PoolState
-told s past p e l = told_active s (made_active s past p e) (told_first s past p e l)
+abbrev pub pool_after : Layout → List Entry → PoolId → Entry → PoolState → PoolState
+pool_after s past p e l = pool_after_activation s (made_active s past p e) (pool_before_activation s past p e l)
 
 -- at first the pool is a new one, and each entry's calls make it that of the longer history
 abbrev pub PoolsAtFirst : Type 0
 PoolsAtFirst = (s : Layout) (p : PoolId) → pool_of s [] p ≡ new_pool_state s.items s.workers
 
 abbrev pub PoolsRefine : Type 0
-PoolsRefine = (s : Layout) (past : List Entry) (e : Entry) (p : PoolId) → IsLegal s (e ∷ past) → pool_of s (e ∷ past) p ≡ told s past p e (pool_of s past p)
+PoolsRefine = (s : Layout) (past : List Entry) (e : Entry) (p : PoolId) → IsLegal s (e ∷ past) → pool_of s (e ∷ past) p ≡ pool_after s past p e (pool_of s past p)
 
 -- what the pool answers is what the definitions say: the next to start, how many runs hold it, whom a start enlists, who may retire
 abbrev pub NextsAreNext : Type 0
@@ -100,28 +87,28 @@ SlotsAreWorkers = (s : Layout) (past : List Entry) (p : PoolId) (x : ℕ) → Is
 abbrev pub SlotsForWorkers : Type 0
 SlotsForWorkers = (s : Layout) (past : List Entry) (p : PoolId) → length (pool_of s past p).slots ≡ s.workers
 
--- what a pool's worker is answered in a legal history may be told: what each of these calls requires holds before it
-pub record MayStart (l : PoolState) (x : ℕ) : Type 0 where
+-- what a pool's worker is answered in a legal history may be applied to the pool: what each of these calls requires holds before it
+pub record MayStartInPool (l : PoolState) (x : ℕ) : Type 0 where
   pub idle : IsTrue (is_idle_slot (slot_at l.slots x))
   pub next : IsSome (pool_state_next l)
   pub free : slots_runnable l.slots ≡ 0
 
-abbrev pub MayBeTold : Reply → PoolState → ℕ → Type 0
-MayBeTold (reply.Started n) l x = MayStart l x
-MayBeTold (reply.StartedEnlist n y) l x = MayStart l x
-MayBeTold (reply.Finished n) l x = IsTrue (runs_awake (slot_at l.slots x))
-MayBeTold reply.Slept l x = IsTrue (runs_awake (slot_at l.slots x))
-MayBeTold reply.Woke l x = IsTrue (runs_asleep (slot_at l.slots x))
-MayBeTold reply.Retired l x = IsTrue (slot_may_retire l.slots x)
-MayBeTold r l x = Unit {0}
+abbrev pub MayReplyInPool : Reply → PoolState → ℕ → Type 0
+MayReplyInPool (reply.Started n) l x = MayStartInPool l x
+MayReplyInPool (reply.StartedEnlist n y) l x = MayStartInPool l x
+MayReplyInPool (reply.Finished n) l x = IsTrue (slot_runs_awake (slot_at l.slots x))
+MayReplyInPool reply.Slept l x = IsTrue (slot_runs_awake (slot_at l.slots x))
+MayReplyInPool reply.Woke l x = IsTrue (slot_runs_asleep (slot_at l.slots x))
+MayReplyInPool reply.Retired l x = IsTrue (slot_may_retire l.slots x)
+MayReplyInPool r l x = Unit {0}
 
-abbrev pub WorkersMayBeTold : Type 0
-WorkersMayBeTold = (s : Layout) (past : List Entry) (e : Entry) (w : WorkerId) → IsLegal s (e ∷ past) → e.who ≡ Worker w → MayBeTold e.reply (pool_of s past w.pool) w.index
+abbrev pub RepliesApplyToPools : Type 0
+RepliesApplyToPools = (s : Layout) (past : List Entry) (e : Entry) (w : WorkerId) → IsLegal s (e ∷ past) → e.who ≡ Worker w → MayReplyInPool e.reply (pool_of s past w.pool) w.index
 
--- each queueing that became active may be added to its pool, after those that are told before it
+-- each queueing that became active may be added to its pool, after those that are added before it
 abbrev pub MayAllBeAdded : Layout → List Queueing → PoolState → Type 0
 MayAllBeAdded s [] l = Unit {0}
-MayAllBeAdded s (x ∷ xs) l = IsTrue (may_add l x.number x.item.0) × MayAllBeAdded s xs (added l (task_for s x))
+MayAllBeAdded s (x ∷ xs) l = IsTrue (may_add l x.number x.item.0) × MayAllBeAdded s xs (pool_with_task l (task_for s x))
 
 abbrev pub ActiveMayBeAdded : Type 0
-ActiveMayBeAdded = (s : Layout) (past : List Entry) (e : Entry) (p : PoolId) → IsLegal s (e ∷ past) → MayAllBeAdded s (made_active s past p e) (told_first s past p e (pool_of s past p))
+ActiveMayBeAdded = (s : Layout) (past : List Entry) (e : Entry) (p : PoolId) → IsLegal s (e ∷ past) → MayAllBeAdded s (made_active s past p e) (pool_before_activation s past p e (pool_of s past p))

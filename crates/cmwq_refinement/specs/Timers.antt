@@ -1,24 +1,18 @@
 -- The timers refine the bookings that are read off a history.
-use Rattle.std.specs.Prelude.{◌≡◌, ℕ, ◌<◌, true, false, ◌==◌, if◌then◌else◌, List, [], ◌∷◌, length, map, replicate, slice_set, Option, Some, None, option_map, is_some, IsTrue}
-use Rattle.std.specs.List.{range_with_len, list_any}
+use Rattle.cmwq_refinement.specs.Common.{◌≡◌, ℕ, ◌<◌, true, false, ◌==◌, if◌then◌else◌, List, [], ◌∷◌, length, map, replicate, slice_set, Option, Some, None, option_map, is_some, IsTrue, range_with_len, list_any, ItemId, Entry, Booking, Layout, is_layout, item_of, now, settles, booking, booking_of, standing, is_draining, is_booked_on, first_due, IsLegal, Timer, due_of, NoneMayFire, IsFirstToFire}
 use Rattle.std.specs.Int.{bit_at}
-use Rattle.cmwq_model.specs.declared.id.ItemId.{ItemId}
-use Rattle.cmwq_model.specs.declared.entry.Entry.{Entry}
-use Rattle.cmwq_model.specs.declared.record.Booking.{Booking}
-use Rattle.cmwq_model.specs.Prelude.{Layout, is_layout, item_of, now, settles, booking, booking_of, standing, is_draining, is_booked_on, first_due, IsLegal}
-use Rattle.cmwq_timer.specs.declared.timer.Timer.{Timer}
-use Rattle.cmwq_timer.specs.Rows.{Rows, due_of, is_booked_on as booked_in_rows, NoneMayFire, IsFirstToFire}
+use Rattle.cmwq_timer.specs.Rows.{TimerRows, any_timer_on as booked_in_rows}
 
 -- the timer that is set for a booking
 abbrev pub timer_for : Booking → Timer
 timer_for b = record { place = b.place; due = b.due; number = b.number }
 
 -- the timers of a history: a row for each item, with the timer of its booking
-abbrev pub row_of : List Entry → ℕ → Option Timer
-row_of past i = option_map timer_for (booking past i)
+abbrev pub timer_row : List Entry → ℕ → Option Timer
+timer_row past i = option_map timer_for (booking past i)
 
-abbrev pub timers_of : Layout → List Entry → Rows
-timers_of s past = map (row_of past) (range_with_len 0 s.items)
+abbrev pub timers_of : Layout → List Entry → TimerRows
+timers_of s past = map (timer_row past) (range_with_len 0 s.items)
 
 -- at first no item is booked
 abbrev pub NoTimersAtFirst : Type 0
@@ -39,43 +33,43 @@ TimersAreDueAsBooked = (s : Layout) (past : List Entry) (i : ℕ) → i < s.item
 abbrev pub TimersStandOnQueues : Type 0
 TimersStandOnQueues = (s : Layout) (past : List Entry) (q : ℕ) → IsLegal s past → booked_in_rows (timers_of s past) q ≡ list_any (is_booked_on q) (standing past)
 
--- an entry that books an item is told by Timers::book
+-- an entry that books an item is applied by Timers::book
 abbrev pub BookingsSetTimers : Type 0
 BookingsSetTimers = (s : Layout) (past : List Entry) (e : Entry) (b : Booking) → booking_of e (length past) ≡ Some b
     → timers_of s (e ∷ past) ≡ slice_set (timers_of s past) b.item.0 (Some (timer_for b))
 
--- an entry that settles an item and doesn't book it is told by Timers::unbook
+-- an entry that settles an item and doesn't book it is applied by Timers::unbook
 abbrev pub SettledTimersAreTakenBack : Type 0
 SettledTimersAreTakenBack = (s : Layout) (past : List Entry) (e : Entry) (i : ℕ) → settles e.reply ≡ true → booking_of e (length past) ≡ None → item_of e ≡ Some i
     → timers_of s (e ∷ past) ≡ slice_set (timers_of s past) i None
 
--- of any other entry the timers are told nothing
+-- any other entry changes no timer
 abbrev pub OthersKeepTimers : Type 0
 OthersKeepTimers = (s : Layout) (past : List Entry) (e : Entry) → settles e.reply ≡ false → timers_of s (e ∷ past) ≡ timers_of s past
 
--- so the timers of the longer history are those that are told of the entry: what it books is booked, and else what it settles is unbooked
-abbrev pub told_settled : Option ℕ → Option Booking → Rows → Rows
-told_settled o (Some b) rows = slice_set rows b.item.0 (Some (timer_for b))
-told_settled (Some i) None rows = slice_set rows i None
-told_settled None None rows = rows
+-- so the timers of the longer history are those to which the entry is applied: what it books is booked, and else what it settles is unbooked
+abbrev pub timers_after_settling : Option ℕ → Option Booking → TimerRows → TimerRows
+timers_after_settling o (Some b) rows = slice_set rows b.item.0 (Some (timer_for b))
+timers_after_settling (Some i) None rows = slice_set rows i None
+timers_after_settling None None rows = rows
 
-abbrev pub told : List Entry → Entry → Rows → Rows
-told past e rows = if settles e.reply then told_settled (item_of e) (booking_of e (length past)) rows else rows
+abbrev pub timers_after : List Entry → Entry → TimerRows → TimerRows
+timers_after past e rows = if settles e.reply then timers_after_settling (item_of e) (booking_of e (length past)) rows else rows
 
 abbrev pub TimersRefine : Type 0
-TimersRefine = (s : Layout) (past : List Entry) (e : Entry) → IsLegal s (e ∷ past) → timers_of s (e ∷ past) ≡ told past e (timers_of s past)
+TimersRefine = (s : Layout) (past : List Entry) (e : Entry) → IsLegal s (e ∷ past) → timers_of s (e ∷ past) ≡ timers_after past e (timers_of s past)
 
 -- in a legal history what settles is of an item that there is, and what books is for a queue that there is: so the calls may be made
-pub record MayBeTold (s : Layout) (past : List Entry) (e : Entry) : Type 0 where
+pub record MayApplyToTimers (s : Layout) (past : List Entry) (e : Entry) : Type 0 where
   pub of_an_item : settles e.reply ≡ true → is_some (item_of e) ≡ true
   pub item : (i : ℕ) → item_of e ≡ Some i → i < s.items
   pub queue : (b : Booking) → booking_of e (length past) ≡ Some b → b.place.queue.0 < length s.queues
 
-abbrev pub TimersMayBeTold : Type 0
-TimersMayBeTold = (s : Layout) (past : List Entry) (e : Entry) → IsLegal s (e ∷ past) → MayBeTold s past e
+abbrev pub EntriesApplyToTimers : Type 0
+EntriesApplyToTimers = (s : Layout) (past : List Entry) (e : Entry) → IsLegal s (e ∷ past) → MayApplyToTimers s past e
 
 -- where the layout is inside the limits these calls may be made: what each requires holds
-abbrev pub MayBeSet : Option ℕ → Option Booking → Rows → Type 0
+abbrev pub MayBeSet : Option ℕ → Option Booking → TimerRows → Type 0
 MayBeSet o (Some b) rows = (b.item.0 < length rows) × (b.place.queue.0 < 64)
 MayBeSet (Some i) None rows = i < length rows
 MayBeSet None None rows = Unit {0}

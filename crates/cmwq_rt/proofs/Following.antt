@@ -1,21 +1,7 @@
 -- A caller follows a script, one call after another.
-use Rattle.std.proofs.Common.{◌≡◌, ℕ, zero, suc, ◌+◌, ◌<◌, List, [], ◌∷◌, ◌++◌, Bool, true, false, length, refl, sym, ap, ◌∙◌, subst, inl, inr, append-nil, append_assoc, Some, None, take, get_or, drop}
-use Rattle.std.proofs.lemmas.List.{take_more}
+use Rattle.cmwq_rt.specs.Common.{◌≡◌, ℕ, zero, suc, ◌+◌, ◌<◌, List, [], ◌∷◌, ◌++◌, Bool, true, false, length, refl, sym, ap, ◌∙◌, subst, inl, inr, append-nil, append_assoc, Some, None, take, get_or, drop, take_more, MatchBool, MatchOption, Option, IsPrefix, Who, Call, Reply, Entry, Layout, past_of, has_room, View, Gains, made_by, Refused, is_full, RunFault, NoMemory, Full, Unfinished, NoPlace, Closed, Stranger, NoThread, Completes, BrokeOff, MakesEntries, Behind, EndsTicket, Fires, HadNoRoom, is_tick, is_drain, ticket_in_reply, prefix_self, prefix_trans}
 use Rattle.std.proofs.Math.Seq.{split_at}
-use Rattle.std.specs.Prelude.{MatchBool, MatchOption, Option}
-use mathlib.Core.List.{IsPrefix}
-use Rattle.cmwq_model.specs.declared.id.Who.{Who}
-use Rattle.cmwq_model.specs.declared.call.Call.{Call}
-use Rattle.cmwq_model.specs.declared.reply.Reply.{Reply}
-use Rattle.cmwq_model.specs.declared.entry.Entry.{Entry}
-use Rattle.cmwq_model.specs.Prelude.{Layout, past_of, has_room}
 use Rattle.cmwq_model.specs.declared.call.Call.TheVariants as call
-use Rattle.cmwq_monitor.specs.Participants.{View, Gains, made_by}
-use Rattle.cmwq_monitor.specs.Faults.{Refused, is_full}
-use Rattle.cmwq_monitor.specs.declared.fault.RunFault.{RunFault}
-use Rattle.cmwq_monitor.specs.declared.fault.RunFault.TheVariants.{NoMemory, Full, Unfinished, NoPlace, Closed, Stranger, NoThread}
-use Rattle.cmwq_monitor.specs.Whole.{Completes, BrokeOff, Makes, Behind, EndsTicket, Fires, HadNoRoom, is_tick, is_drain, ticket_given}
-use Rattle.cmwq_monitor.proofs.Beginnings.{prefix_self, prefix_trans}
 use Rattle.cmwq_monitor.proofs.Entries.{gains_none, gains_more}
 use Rattle.cmwq_rt.specs.Scripts.{Follows, HasFollowed, HasStopped}
 
@@ -44,12 +30,12 @@ module _ (s : Layout) (who : Who) (old new : List Entry) (more : IsPrefix old ne
       ended None none = none
       ended (Some k) end = end_later made c k es end
 
-      ticked : (b : Bool) → MatchBool b (Fires s who old s.items made es) (MatchOption (ticket_given r) (es ≡ []) (λ k. EndsTicket s who old made c k es))
-          → MatchBool b (Fires s who new s.items made es) (MatchOption (ticket_given r) (es ≡ []) (λ k. EndsTicket s who new made c k es))
+      ticked : (b : Bool) → MatchBool b (Fires s who old s.items made es) (MatchOption (ticket_in_reply r) (es ≡ []) (λ k. EndsTicket s who old made c k es))
+          → MatchBool b (Fires s who new s.items made es) (MatchOption (ticket_in_reply r) (es ≡ []) (λ k. EndsTicket s who new made c k es))
       ticked true f = fires_later s.items made es f
-      ticked false e = ended (ticket_given r) e
+      ticked false e = ended (ticket_in_reply r) e
 
-  makes_later : (made : List Entry) (c : Call) (r : Reply) (es : List Entry) → Makes s who old made c r es → Makes s who new made c r es
+  makes_later : (made : List Entry) (c : Call) (r : Reply) (es : List Entry) → MakesEntries s who old made c r es → MakesEntries s who new made c r es
   makes_later made c r es m = record { first = m.first; rest = m.rest; all = m.all; is = m.is; behind = behind_later (made ++ m.first ∷ []) c r m.rest m.behind }
 
   pub follows_later : (script : List Call) (made all : List Entry) (full : ℕ) → Follows s who old made script all full → Follows s who new made script all full
@@ -59,9 +45,9 @@ module _ (s : Layout) (who : Who) (old new : List Entry) (more : IsPrefix old ne
 
 -- one more call of the script
 follows_one : (s : Layout) (who : Who) (h : List Entry) (script : List Call) (c : Call) (made mid all : List Entry) (full : ℕ) (r : Reply) (es : List Entry)
-    → Follows s who h made script mid full → Makes s who h mid c r es → all ≡ mid ++ es → Follows s who h made (script ++ c ∷ []) all full
+    → Follows s who h made script mid full → MakesEntries s who h mid c r es → all ≡ mid ++ es → Follows s who h made (script ++ c ∷ []) all full
 follows_one s who h [] c made mid all full r es (same, none) m is =
-    inl (r, es, subst (λ xs. Makes s who h xs c r es) same m, (is ∙ ap (λ xs. xs ++ es) same, none))
+    inl (r, es, subst (λ xs. MakesEntries s who h xs c r es) same m, (is ∙ ap (λ xs. xs ++ es) same, none))
 follows_one s who h (d ∷ ds) c made mid all full r es (inl (q, fs, n, f)) m is = inl (q, fs, n, follows_one s who h ds c (made ++ fs) mid all full r es f m is)
 follows_one s who h (d ∷ ds) c made mid all full r es (inr (n, is_n, room, f)) m is = inr (n, is_n, room, follows_one s who h ds c made mid all n r es f m is)
 
@@ -78,8 +64,8 @@ pub followed_more : (s : Layout) (script : List Call) (c : Call) (full : ℕ) (v
 followed_more s script c full v m w r has x =
     let mine = made_by v.who v.seen in
     let old = follows_later s v.who m.seen w.seen x.gains.older script mine (mine ++ has.entries) full has.follows in
-    let makes : Makes s v.who w.seen (mine ++ has.entries) c r x.entries =
-    subst (λ made. Makes s v.who w.seen made c r x.entries) has.gains.made (subst (λ who. Makes s who w.seen (made_by who m.seen) c r x.entries) has.gains.same x.makes) in
+    let makes : MakesEntries s v.who w.seen (mine ++ has.entries) c r x.entries =
+    subst (λ made. MakesEntries s v.who w.seen made c r x.entries) has.gains.made (subst (λ who. MakesEntries s who w.seen (made_by who m.seen) c r x.entries) has.gains.same x.makes) in
     record {
       entries = has.entries ++ x.entries;
       gains = gains_more v m w has.entries x.entries has.gains x.gains;

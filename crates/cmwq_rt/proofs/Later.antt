@@ -1,17 +1,7 @@
 -- What a worker's calls leave, one after another.
-use Rattle.std.proofs.Common.{◌≡◌, List, [], refl, sym, ◌∙◌, arith, subst, Bool, true, false, Result, Ok, Err}
-use Rattle.std.specs.Prelude.{IfOk, IfErr, MatchBool}
-use Rattle.cmwq_model.specs.declared.call.Call.{Call}
-use Rattle.cmwq_model.specs.declared.reply.Reply.{Reply}
-use Rattle.cmwq_model.specs.declared.entry.Entry.{Entry}
-use Rattle.cmwq_model.specs.Prelude.{Layout}
+use Rattle.cmwq_rt.specs.Common.{◌≡◌, List, [], refl, sym, ◌∙◌, arith, subst, Bool, true, false, Result, Ok, Err, IfOk, IfErr, MatchBool, Call, Reply, Entry, Layout, View, Gains, Extends, Refused, RunFault, prefix_trans}
 use Rattle.cmwq_model.specs.declared.call.Call.TheVariants as call
 use Rattle.cmwq_model.specs.declared.reply.Reply.TheVariants as reply
-use Rattle.cmwq_monitor.specs.Participants.{View, Gains}
-use Rattle.cmwq_monitor.specs.Calls.{Extends}
-use Rattle.cmwq_monitor.specs.Faults.{Refused}
-use Rattle.cmwq_monitor.specs.declared.fault.RunFault.{RunFault}
-use Rattle.cmwq_monitor.proofs.Beginnings.{prefix_trans}
 use Rattle.cmwq_rt.specs.Later.{Later}
 
 pub later_self : (v : View) → Later v v

@@ -1,28 +1,19 @@
 -- The places of callers and workers.
-use Rattle.std.proofs.Common.{◌≡◌, ℕ, ◌+◌, ◌<◌, ◌≤◌, List, Bool, true, false, true≢false, ◌&&◌, not, refl, sym, ap, arith}
-use Rattle.std.specs.Prelude.{Option, Some, None, nat_lt, if◌then◌else◌}
-use Rattle.std.proofs.lemmas.Bool.{leb-true, ltb-true}
-use Rattle.cmwq_model.specs.declared.id.WorkerId.{WorkerId}
-use Rattle.cmwq_model.specs.declared.shape.Counts.{Counts}
+use Rattle.cmwq_rt.specs.Common.{◌≡◌, ℕ, ◌+◌, ◌<◌, ◌≤◌, List, Bool, true, false, true≢false, ◌&&◌, not, refl, sym, ap, arith, Option, Some, None, nat_lt, if◌then◌else◌, WorkerId, Counts, Layout, layout_of, is_layout, place, lane}
+use Rattle.std.proofs.lemmas.Bool.{leb-true, ltb-true, and_parts}
 use Rattle.cmwq_model.specs.declared.shape.QueueShape.{QueueShape}
-use Rattle.cmwq_model.specs.Prelude.{Layout, layout_of, is_layout}
-use Rattle.cmwq_monitor.specs.Places.{place, lane}
 use Rattle.cmwq_rt.specs.Places.{AreCounts, IsNextPlace, after_worker}
-
-and_both : (a b : Bool) → (a && b) ≡ true → (a ≡ true) × (b ≡ true)
-and_both true b e = (refl, e)
-and_both false b e = absurd (true≢false (sym e))
 
 pub counts_are : (s : Layout) (n : Counts) (queues : List QueueShape) → layout_of n queues ≡ s → is_layout s ≡ true → AreCounts s n
 counts_are s n queues is limits =
-    let all = and_both _ _ limits in
-    let most = and_both _ _ all.0 in
-    let more = and_both _ _ most.0 in
-    let three = and_both _ _ more.0 in
-    let two = and_both _ _ three.0 in
-    let cpus = and_both _ _ two.0 in
-    let workers = and_both _ _ two.1 in
-    let callers = and_both _ _ three.1 in
+    let all = and_parts _ _ limits in
+    let most = and_parts _ _ all.0 in
+    let more = and_parts _ _ most.0 in
+    let three = and_parts _ _ more.0 in
+    let two = and_parts _ _ three.0 in
+    let cpus = and_parts _ _ two.0 in
+    let workers = and_parts _ _ two.1 in
+    let callers = and_parts _ _ three.1 in
     record {
       cpus = ap (λ (l : Layout). l.cpus) is;
       workers = ap (λ (l : Layout). l.workers) is;

@@ -1,14 +1,5 @@
 -- A worker's runs, one after another.
-use Rattle.std.proofs.Common.{◌≡◌, refl, ap, sym, subst, List, false, true, inl, inr}
-use Rattle.cmwq_model.specs.declared.entry.Entry.{Entry}
-use Rattle.cmwq_model.specs.declared.call.Call.{Call}
-use Rattle.cmwq_model.specs.Prelude.{Layout}
-use Rattle.cmwq_monitor.specs.Participants.{View}
-use Rattle.cmwq_monitor.specs.Settled.{Settles}
-use Rattle.cmwq_monitor.specs.Faults.{Refused, IsStranger, is_full}
-use Rattle.cmwq_monitor.specs.Whole.{BrokeOff}
-use Rattle.cmwq_monitor.specs.declared.fault.RunFault.{RunFault}
-use Rattle.cmwq_monitor.specs.declared.fault.RunFault.TheVariants.{NoMemory, Full, Unfinished, NoPlace, Closed, Stranger, NoThread}
+use Rattle.cmwq_rt.specs.Common.{◌≡◌, refl, ap, sym, subst, List, false, true, inl, inr, Entry, Call, Layout, View, Settles, Refused, IsStranger, is_full, BrokeOff, RunFault, NoMemory, Full, Unfinished, NoPlace, Closed, Stranger, NoThread}
 use Rattle.cmwq_rt.specs.Running.{breaks_off}
 
 -- who settles on a history sees it

@@ -1,11 +1,5 @@
 -- What is left of a hub's history at its end.
-use Rattle.std.specs.Prelude.{◌≡◌, ◌≤◌, ℕ, List, drop, length, slice_get, Some}
-use Rattle.cmwq_model.specs.declared.entry.Entry.{Entry}
-use Rattle.cmwq_model.specs.Prelude.{Layout, IsLegal, past_of}
-use Rattle.cmwq_monitor.specs.Participants.{View}
-use Rattle.cmwq_monitor.specs.Faults.{IsStranger}
-use Rattle.cmwq_monitor.specs.Settled.{AllSettle}
-use Rattle.cmwq_monitor.specs.declared.fault.RunFault.{RunFault}
+use Rattle.cmwq_rt.specs.Common.{◌≡◌, ◌≤◌, ℕ, List, drop, length, slice_get, Some, Entry, Layout, IsLegal, past_of, View, IsStranger, AllSettle, RunFault}
 
 -- there is a legal history that all callers and workers see, and these are its entries behind the first so many
 pub record EndsAs (s : Layout) (c c' w w' : List View) (first : ℕ) (rest : List Entry) : Type 0 where

@@ -1,3 +1,4 @@
+pub mod Common
 pub mod Later
 pub mod Places
 pub mod Scripts

@@ -1,9 +1,6 @@
 -- Which callers and workers of a hub are given out.
-use Rattle.std.specs.Prelude.{◌≡◌, ℕ, zero, suc, ◌+◌, ◌<◌, ◌≤◌, true, false, not, if◌then◌else◌, Option, Some, None, nat_lt, MatchOption}
-use Rattle.cmwq_model.specs.declared.id.WorkerId.{WorkerId}
-use Rattle.cmwq_model.specs.declared.shape.Counts.{Counts}
-use Rattle.cmwq_model.specs.Prelude.{Layout}
-use Rattle.cmwq_monitor.specs.Places.{place}
+use Rattle.cmwq_rt.specs.Common.{◌≡◌, ℕ, zero, suc, ◌+◌, ◌<◌, ◌≤◌, true, false, not, if◌then◌else◌, Option, Some, None, nat_lt, MatchOption, WorkerId, Counts, Layout, place}
+use Rattle.cmwq_model.specs.Prelude.{most_callers, most_cpus, most_workers}
 
 -- the callers are given out by number: so many are; the workers in their order: the next one, if one is left, and how many are
 pub record Places : Type 0 where
@@ -26,21 +23,25 @@ next_after s None = None
 next_after s (Some w) = after_worker s w
 
 -- the workers by their numbers in that order
-abbrev pub worker_at : Layout → ℕ → Option WorkerId
-worker_at s zero = Some first_worker
-worker_at s (suc k) = next_after s (worker_at s k)
+abbrev pub worker_by_number : Layout → ℕ → Option WorkerId
+worker_by_number s zero = Some first_worker
+worker_by_number s (suc k) = next_after s (worker_by_number s k)
 
 abbrev pub all_free : Places
 all_free = record { callers = 0; next = Some first_worker; workers = 0 }
+
+-- how many shares the ledger of a hub has: one for each caller and each worker that a shape may have
+abbrev pub shares : ℕ
+shares = 128
 
 -- the counts are those of the layout, and inside their limits
 pub record AreCounts (s : Layout) (n : Counts) : Type 0 where
   pub cpus : n.cpus ≡ s.cpus
   pub workers : n.workers ≡ s.workers
   pub callers : n.callers ≡ s.callers
-  pub few_cpus : (0 < s.cpus) × (s.cpus ≤ 4)
-  pub few_workers : (0 < s.workers) × (s.workers ≤ 8)
-  pub few_callers : (0 < s.callers) × (s.callers ≤ 64)
+  pub few_cpus : (0 < s.cpus) × (s.cpus ≤ most_cpus)
+  pub few_workers : (0 < s.workers) × (s.workers ≤ most_workers)
+  pub few_callers : (0 < s.callers) × (s.callers ≤ most_callers)
 
 -- the next worker is inside the layout, and no more were given out than stand before it, so never more than 64
 abbrev pub IsNextPlace : Layout → Option WorkerId → ℕ → Type 0

@@ -5,16 +5,16 @@ unfoldable pub use Rattle.cmwq_model.specs.Legal.{IsLegal}
 pub use Rattle.cmwq_model.specs.Scripted.{IsScripted}
 pub use Rattle.cmwq_model.specs.Verdict.{AllFit, IsFirstWrong}
 pub use Rattle.cmwq_monitor.specs.Calls.{own_entry, Extends, StandFrom}
-pub use Rattle.cmwq_monitor.specs.Faults.{IsStranger, Refused, Says, is_full}
+pub use Rattle.cmwq_monitor.specs.Faults.{IsStranger, Refused, SaysFault, is_full}
 pub use Rattle.cmwq_monitor.specs.Held.{active_in}
 pub use Rattle.cmwq_monitor.specs.Participants.{View, newcomer, made_by, Agree, Gains, is_caller}
 pub use Rattle.cmwq_monitor.specs.Settled.{Settles, AllSettle}
 pub use Rattle.cmwq_monitor.specs.Starts.{StartsOne}
 pub use Rattle.cmwq_monitor.specs.Steps.{HasEnded, HasEndedSome}
-pub use Rattle.cmwq_monitor.specs.Whole.{HadNoRoom, Makes, EndsWhole, Completes, BrokeOff, Stops, is_tick, ticket_given}
+pub use Rattle.cmwq_monitor.specs.Whole.{HadNoRoom, MakesEntries, EndsWhole, Completes, BrokeOff, Stops, is_tick, ticket_in_reply}
 pub use Rattle.cmwq_rt.specs.Later.{Later}
-pub use Rattle.cmwq_rt.specs.Places.{Places, first_worker, after_worker, next_after, worker_at, all_free, AreCounts, IsNextPlace}
+pub use Rattle.cmwq_rt.specs.Places.{Places, first_worker, after_worker, next_after, worker_by_number, all_free, AreCounts, IsNextPlace}
 pub use Rattle.cmwq_rt.specs.Scripts.{Follows, HasFollowed, HasStopped}
 pub use Rattle.cmwq_rt.specs.Ending.{EndsAs, OneIsStranger}
 pub use Rattle.cmwq_rt.specs.Starting.{HasStarted}
-pub use Rattle.cmwq_rt.specs.Running.{Running, fault_after, breaks_off, MakesOne, Behavior, RunsItem, EndsRun, RunsInTurn, HasWorked, IsNext}
+pub use Rattle.cmwq_rt.specs.Running.{Running, fault_after, breaks_off, MakesOne, Behavior, RunsItem, EndsRun, RunsInTurn, HasWorked, IsNextStart}

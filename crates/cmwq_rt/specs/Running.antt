@@ -1,18 +1,7 @@
 -- What a worker's loop leaves: one run after another.
-use Rattle.std.specs.Prelude.{◌≡◌, ◌⊎◌, ◌<◌, ℕ, zero, suc, Bool, true, false, Option, Some, Result, Ok, Err, MatchOption}
-use Rattle.cmwq_model.specs.declared.id.ItemId.{ItemId}
-use Rattle.cmwq_model.specs.declared.call.Call.{Call}
-use Rattle.cmwq_model.specs.declared.reply.Reply.{Reply}
-use Rattle.cmwq_model.specs.Prelude.{Layout}
+use Rattle.cmwq_rt.specs.Common.{◌≡◌, ◌⊎◌, ◌<◌, ℕ, zero, suc, Bool, true, false, Option, Some, Result, Ok, Err, MatchOption, ItemId, Call, Reply, Layout, View, active_in, Extends, Settles, StartsOne, RunFault, NoMemory, Full, Closed, Stranger}
 use Rattle.cmwq_model.specs.declared.call.Call.TheVariants as call
 use Rattle.cmwq_model.specs.declared.reply.Reply.TheVariants as reply
-use Rattle.cmwq_monitor.specs.Participants.{View}
-use Rattle.cmwq_monitor.specs.Held.{active_in}
-use Rattle.cmwq_monitor.specs.Calls.{Extends}
-use Rattle.cmwq_monitor.specs.Settled.{Settles}
-use Rattle.cmwq_monitor.specs.Starts.{StartsOne}
-use Rattle.cmwq_monitor.specs.declared.fault.RunFault.{RunFault}
-use Rattle.cmwq_monitor.specs.declared.fault.RunFault.TheVariants.{NoMemory, Full, Closed, Stranger}
 
 -- a worker that runs an item, and the fault that one of its calls has answered since the run began, want of room aside
 pub record Running : Type 0 where
@@ -60,5 +49,5 @@ abbrev pub HasWorked : Layout → Behavior → View → View → Type 0
 HasWorked s does v w = (n : ℕ) × (last : View) × RunsInTurn s does n v last × Settles w.seen last w
 
 -- what a worker does next: it starts a queueing of this item, or it sees that nothing active is open
-abbrev pub IsNext : Layout → View → Option ItemId → View → Type 0
-IsNext s v next w = MatchOption next ((active_in s w.seen ≡ 0) × Settles w.seen v w) (λ item. (item.0 < s.items) × StartsOne s v item w)
+abbrev pub IsNextStart : Layout → View → Option ItemId → View → Type 0
+IsNextStart s v next w = MatchOption next ((active_in s w.seen ≡ 0) × Settles w.seen v w) (λ item. (item.0 < s.items) × StartsOne s v item w)

@@ -1,21 +1,12 @@
 -- What a caller that follows a script leaves in a history.
-use Rattle.std.specs.Prelude.{◌≡◌, ◌⊎◌, ℕ, false, ◌+◌, List, [], ◌∷◌, ◌++◌}
-use Rattle.cmwq_model.specs.declared.id.Who.{Who}
-use Rattle.cmwq_model.specs.declared.call.Call.{Call}
-use Rattle.cmwq_model.specs.declared.reply.Reply.{Reply}
-use Rattle.cmwq_model.specs.declared.entry.Entry.{Entry}
-use Rattle.cmwq_model.specs.Prelude.{Layout}
-use Rattle.cmwq_monitor.specs.Participants.{View, Gains, made_by}
-use Rattle.cmwq_monitor.specs.Faults.{is_full}
-use Rattle.cmwq_monitor.specs.Whole.{Makes, HadNoRoom, BrokeOff}
-use Rattle.cmwq_monitor.specs.declared.fault.RunFault.{RunFault}
+use Rattle.cmwq_rt.specs.Common.{◌≡◌, ◌⊎◌, ℕ, false, ◌+◌, List, [], ◌∷◌, ◌++◌, Who, Call, Reply, Entry, Layout, View, Gains, made_by, is_full, MakesEntries, HadNoRoom, BrokeOff, RunFault}
 
 -- The caller's entries in a history are these, and then for each call of the script, in order, those that it makes; or none where there was
 -- no room for the call, so many times in all.
 abbrev pub Follows : Layout → Who → List Entry → List Entry → List Call → List Entry → ℕ → Type 0
 Follows s who history made [] all full = (all ≡ made) × (full ≡ 0)
 Follows s who history made (c ∷ cs) all full =
-    ((r : Reply) × (es : List Entry) × Makes s who history made c r es × Follows s who history (made ++ es) cs all full)
+    ((r : Reply) × (es : List Entry) × MakesEntries s who history made c r es × Follows s who history (made ++ es) cs all full)
     ⊎ ((n : ℕ) × (full ≡ n + 1) × HadNoRoom s who history made c × Follows s who history made cs all n)
 
 -- a caller has followed a script, and has made no other entries since

@@ -6,7 +6,7 @@ ghost use Rattle.cmwq_model.specs.declared.call.Call.TheVariants as calls;
 ghost use Rattle.cmwq_monitor.specs.Participants.{Agree, Gains, is_caller};
 ghost use Rattle.cmwq_monitor.specs.Calls.{Extends};
 ghost use Rattle.cmwq_monitor.specs.Faults.{Refused, IsStranger};
-ghost use Rattle.cmwq_monitor.specs.Whole.{Completes, BrokeOff, is_tick, ticket_given};
+ghost use Rattle.cmwq_monitor.specs.Whole.{Completes, BrokeOff, is_tick, ticket_in_reply};
 ghost use Rattle.cmwq_monitor.specs.Settled.{Settles};
 
 use crate::hub::Hub;
@@ -37,7 +37,7 @@ impl<N: HubName> Model for Caller<N> {
 }
 
 fn ticket_in(reply: Reply) -> Option<Number>
-    ensures { result ≡ ticket_given reply }
+    ensures { result ≡ ticket_in_reply reply }
 {
     match reply {
         Reply::Ticket(ticket)
@@ -60,11 +60,7 @@ impl<N: HubName> Caller<N> {
         }
     }
 
-    /// Sees the whole history that lay under the lock of a hub that is no more.
-    ///
-    /// # Errors
-    /// `Stranger` where that was another hub's.
-    pub fn settle(&mut self, monitor: &Monitor<N>) -> Result<(), RunFault>
+    pub(crate) fn settle(&mut self, monitor: &Monitor<N>) -> Result<(), RunFault>
         ensures settled { IfOk result (λ _. Settles monitor.now.history self.old self.new) }
         ensures stranger { IfErr result (λ f. (self.new ≡ self.old) × IsStranger self.old f) }
     {
@@ -92,8 +88,7 @@ impl<N: HubName> Caller<N> {
         self.participant.agrees(worker.participant());
     }
 
-    /// What the hub's ledger has of it: as many entries as its serial says.
-    pub fn into_share(self) -> Share<N>
+    pub(crate) fn into_share(self) -> Share<N>
         ensures { (result.parts ≡ 1) × (result.amount ≡ self.serial) }
     {
         let Caller {

@@ -9,7 +9,7 @@ ghost use Rattle.cmwq_monitor.specs.Calls.{Extends};
 ghost use Rattle.cmwq_monitor.specs.Faults.{Refused};
 ghost use Rattle.cmwq_monitor.specs.Steps.{HasEnded, HasEndedSome};
 ghost use Rattle.cmwq_rt.specs.Later.{Later};
-ghost use Rattle.cmwq_rt.specs.Running.{IsNext, breaks_off};
+ghost use Rattle.cmwq_rt.specs.Running.{IsNextStart, breaks_off};
 ghost use Rattle.cmwq_monitor.specs.Settled.{AllSettle};
 ghost use Rattle.cmwq_rt.specs.Ending.{EndsAs, OneIsStranger};
 
@@ -275,7 +275,7 @@ impl<N: HubName> Hub<N> {
     ) -> Result<Option<ItemId>, RunFault>
         requires { is_caller participant.old.who ≡ false }
         ensures fault { IfErr result (λ f. breaks_off f ≡ true) }
-        ensures next { IfOk result (λ o. IsNext N.layout participant.old o participant.new) }
+        ensures next { IfOk result (λ o. IsNextStart N.layout participant.old o participant.new) }
         ensures later { Later participant.old participant.new }
     {
         let mut monitor = monitor;
@@ -329,8 +329,7 @@ impl<N: HubName> Hub<N> {
         }
     }
 
-    /// What lay under the lock, for a layer above that settles its callers and workers itself.
-    pub fn into_monitor(self) -> Monitor<N> {
+    pub(crate) fn into_monitor(self) -> Monitor<N> {
         let Hub {
             monitor,
             condvars: _condvars,

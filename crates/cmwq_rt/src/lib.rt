@@ -6,6 +6,7 @@
 
 mod caller;
 mod condvars;
+pub mod ending;
 mod follow;
 mod gates;
 mod hub;

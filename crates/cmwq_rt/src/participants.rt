@@ -5,7 +5,7 @@ ghost use Rattle.cmwq_model.specs.Prelude.{Layout};
 ghost use Rattle.cmwq_core.specs.History.{IsThere};
 ghost use Rattle.cmwq_monitor.specs.Participants.{newcomer};
 ghost use Rattle.cmwq_monitor.specs.declared.fault.RunFault.TheVariants.{NoPlace};
-ghost use Rattle.cmwq_rt.specs.Places.{Places, after_worker, all_free, AreCounts};
+ghost use Rattle.cmwq_rt.specs.Places.{Places, after_worker, all_free, AreCounts, shares};
 
 use crate::caller::Caller;
 use crate::worker::Worker;
@@ -30,13 +30,13 @@ pub struct Participants<N: HubName> {
 
 impl<N: HubName> Model for Participants<N> {
     ghost use Rattle.std.specs.Prelude.{◌≡◌, ◌+◌, []};
-    ghost use Rattle.cmwq_rt.specs.Places.{Places, AreCounts, IsNextPlace};
+    ghost use Rattle.cmwq_rt.specs.Places.{Places, AreCounts, IsNextPlace, shares};
 
     ghost Value = { Places };
 
     ghost view = { λ s. record { callers = s.callers; next = s.next; workers = s.workers } };
 
-    ghost invariant = { λ s. AreCounts N.layout s.counts × (s.start ≡ []) × (s.readers + s.callers ≡ N.layout.callers) × (s.rest.parts + s.callers + s.workers ≡ 128) × (s.rest.amount ≡ 0) × IsNextPlace N.layout s.next s.workers };
+    ghost invariant = { λ s. AreCounts N.layout s.counts × (s.start ≡ []) × (s.readers + s.callers ≡ N.layout.callers) × (s.rest.parts + s.callers + s.workers ≡ shares) × (s.rest.amount ≡ 0) × IsNextPlace N.layout s.next s.workers };
 }
 
 impl<N: HubName> Participants<N> {
@@ -49,7 +49,7 @@ impl<N: HubName> Participants<N> {
         requires counts { AreCounts N.layout counts }
         requires readers { readers ≡ N.layout.callers }
         requires start { start ≡ [] }
-        requires rest { (rest.parts ≡ 128) × (rest.amount ≡ 0) }
+        requires rest { (rest.parts ≡ shares) × (rest.amount ≡ 0) }
         ensures { result ≡ all_free }
     {
         let pool = PoolId {
@@ -103,7 +103,7 @@ impl<N: HubName> Participants<N> {
 
     /// What nobody got of the ledger.
     pub fn into_rest(self) -> Share<N>
-        ensures { (result.parts + self.callers + self.workers ≡ 128) × (result.amount ≡ 0) }
+        ensures { (result.parts + self.callers + self.workers ≡ shares) × (result.amount ≡ 0) }
     {
         let Participants {
             counts: _,

@@ -1,7 +1,7 @@
 //! The parts of a hub that has no name yet.
 ghost use Rattle.std.specs.Prelude.{◌≡◌, [], IfOk, IfErr, None};
 ghost use Rattle.cmwq_monitor.specs.declared.fault.RunFault.TheVariants as faults;
-ghost use Rattle.cmwq_rt.specs.Places.{all_free};
+ghost use Rattle.cmwq_rt.specs.Places.{all_free, shares};
 
 use crate::condvars::Condvars;
 use crate::hub::Hub;
@@ -33,7 +33,7 @@ pub struct HubParts {
     ghost execution_is: { execution ≡ record { layout = shape; room = shape.room; entries = [] } },
     ghost tail_is: { tail.all ≡ [] },
     ghost opening_is: { (opening.layout ≡ shape) × (opening.readers ≡ shape.callers) },
-    ghost shares: { blank.parts ≡ 128 },
+    ghost shares: { blank.parts ≡ shares },
 }
 
 /// What is made beside the published history.

@@ -6,7 +6,7 @@ ghost use Rattle.cmwq_monitor.specs.Participants.{Agree, View, is_caller};
 ghost use Rattle.cmwq_monitor.specs.Held.{active_in};
 ghost use Rattle.cmwq_monitor.specs.Faults.{IsStranger};
 ghost use Rattle.cmwq_rt.specs.Later.{Later};
-ghost use Rattle.cmwq_rt.specs.Running.{EndsRun, HasWorked, IsNext, breaks_off};
+ghost use Rattle.cmwq_rt.specs.Running.{EndsRun, HasWorked, IsNextStart, breaks_off};
 ghost use Rattle.cmwq_monitor.specs.Settled.{Settles};
 
 use crate::hub::Hub;
@@ -43,11 +43,7 @@ impl<N: HubName> Worker<N> {
         Worker { participant }
     }
 
-    /// Sees the whole history that lay under the lock of a hub that is no more.
-    ///
-    /// # Errors
-    /// `Stranger` where that was another hub's.
-    pub fn settle(&mut self, monitor: &Monitor<N>) -> Result<(), RunFault>
+    pub(crate) fn settle(&mut self, monitor: &Monitor<N>) -> Result<(), RunFault>
         ensures settled { IfOk result (λ _. Settles monitor.now.history self.old self.new) }
         ensures stranger { IfErr result (λ f. (self.new ≡ self.old) × IsStranger self.old f) }
     {
@@ -74,8 +70,7 @@ impl<N: HubName> Worker<N> {
         self.participant.agrees(&other.participant);
     }
 
-    /// What the hub's ledger has of it: as many entries as its serial says.
-    pub fn into_share(self) -> Share<N>
+    pub(crate) fn into_share(self) -> Share<N>
         ensures { (result.parts ≡ 1) × (result.amount ≡ self.serial) }
     {
         self.participant.into_share()
@@ -149,7 +144,7 @@ impl<N: HubName> Hub<N> {
     ) -> Result<Option<ItemId>, RunFault>
         requires { is_caller participant.old.who ≡ false }
         ensures fault { IfErr result (λ f. breaks_off f ≡ true) }
-        ensures next { IfOk result (λ o. (ended : View) × EndsRun N.layout participant.old ended × IsNext N.layout ended o participant.new) }
+        ensures next { IfOk result (λ o. (ended : View) × EndsRun N.layout participant.old ended × IsNextStart N.layout ended o participant.new) }
         ensures later { Later participant.old participant.new }
     {
         let mut monitor = self.spacious(rt, self.lock(rt), participant.who(), 1);

@@ -1,16 +1,8 @@
 -- The text of more entries.
-use Rattle.std.proofs.Common.{◌≡◌, ◌+◌, ℕ, List, ◌++◌, length, take, Option, sym, ap, ◌∙◌, subst, arith, append_assoc}
+use Rattle.cmwq_rt_journal.specs.Common.{◌≡◌, ◌+◌, ℕ, List, ◌++◌, length, take, Option, sym, ap, ◌∙◌, subst, arith, append_assoc, Appends, AppendsFront, Appends-trans, front_after, Entry, Layout, entry_text, head_text, body_text, entries_text}
 use Rattle.std.proofs.Math.Seq.{take-length}
 use Rattle.std.proofs.lemmas.List.{take-append-le, length-append}
 use Rattle.std.proofs.lemmas.Grind.{flat_map-append}
-use Rattle.std.specs.Io.KnownBytes.{Appends}
-use Rattle.cmwq_io.specs.Moves.{AppendsFront}
-use Rattle.cmwq_io.proofs.KnownBytes.{Appends-trans}
-use Rattle.cmwq_base.proofs.Fronts.{front_after}
-use Rattle.cmwq_model.specs.declared.entry.Entry.{Entry}
-use Rattle.cmwq_model.specs.Prelude.{Layout}
-use Rattle.cmwq_text.specs.EntryText.{entry_text}
-use Rattle.cmwq_text.specs.HistoryText.{head_text, body_text, entries_text}
 use Rattle.cmwq_rt_journal.specs.Breaking.{BreaksOff}
 
 pub body_more : (s : Layout) (xs ys : List Entry) → body_text 3 s (xs ++ ys) ≡ body_text 3 s xs ++ entries_text ys

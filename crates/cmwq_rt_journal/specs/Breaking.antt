@@ -1,10 +1,5 @@
 -- What is written where a journal breaks off.
-use Rattle.std.specs.Prelude.{ℕ, ◌<◌, ◌≤◌, ◌++◌, List, Option, length, take}
-use Rattle.std.specs.Io.KnownBytes.{Appends}
-use Rattle.cmwq_io.specs.Moves.{AppendsFront}
-use Rattle.cmwq_model.specs.declared.entry.Entry.{Entry}
-use Rattle.cmwq_model.specs.Prelude.{Layout}
-use Rattle.cmwq_text.specs.HistoryText.{body_text}
+use Rattle.cmwq_rt_journal.specs.Common.{ℕ, ◌<◌, ◌≤◌, ◌++◌, List, Option, length, take, Appends, AppendsFront, Entry, Layout, body_text}
 
 -- a front of the text of these entries, in which the lines of the first n stand whole, if n is not 0
 pub record BreaksOff (s : Layout) (entries : List Entry) (n : ℕ) (a b : Option (List ℕ)) : Type 0 where

@@ -1,10 +1,5 @@
 -- What the fault of a journal says.
-use Rattle.std.specs.Prelude.{◌≡◌, ◌≢◌, ◌⊎◌, ◌+◌, ◌^◌, ◌<◌, ◌≤◌, ◌++◌, ℕ, List, [], Bool, true, false, Option, length}
-use Rattle.std.specs.Io.KnownBytes.{Appends}
-use Rattle.cmwq_io.specs.Moves.{AppendsFront}
-use Rattle.cmwq_model.specs.declared.entry.Entry.{Entry}
-use Rattle.cmwq_model.specs.Prelude.{Layout}
-use Rattle.cmwq_text.specs.HistoryText.{body_text, entries_text, last_text}
+use Rattle.cmwq_rt_journal.specs.Common.{◌≡◌, ◌≢◌, ◌⊎◌, ◌+◌, ◌^◌, ◌<◌, ◌≤◌, ◌++◌, ℕ, List, [], Bool, true, false, Option, length, Appends, AppendsFront, Entry, Layout, body_text, entries_text, last_text}
 use Rattle.cmwq_monitor.specs.declared.fault.RunFault.TheVariants.{Stranger}
 use Rattle.cmwq_rt_journal.specs.declared.fault.JournalFault.{JournalFault}
 use Rattle.cmwq_rt_journal.specs.declared.fault.JournalFault.TheVariants.{Late, Write, Hub}

@@ -1,17 +1,8 @@
 -- What the threads gave back, put together.
-use Rattle.std.proofs.Common.{◌≡◌, ◌⊎◌, ℕ, zero, suc, ◌+◌, ◌<◌, ◌≤◌, Bool, true, false, List, [], ◌∷◌, ◌++◌, length, map, drop, refl, sym, ap, ◌∙◌, subst, inl, inr, ⊎_elim, arith, ◌-◌}
+use Rattle.cmwq_rt_scripts.specs.Common.{◌≡◌, ◌⊎◌, ℕ, zero, suc, ◌+◌, ◌<◌, ◌≤◌, Bool, true, false, List, [], ◌∷◌, ◌++◌, length, map, drop, refl, sym, ap, ◌∙◌, subst, inl, inr, ⊎_elim, arith, ◌-◌, Some, None, nat_lt, slice_get, IsPrefix, WorkerId, Call, Entry, Layout, serial_of, past_of, View, made_by, newcomer, worker_by_number, next_after, Follows}
 use Rattle.std.proofs.lemmas.Bool.{ltb-true, ltb-false}
-use Rattle.std.specs.Prelude.{Some, None, nat_lt, slice_get}
-use mathlib.Core.List.{IsPrefix}
-use Rattle.cmwq_model.specs.declared.id.WorkerId.{WorkerId}
-use Rattle.cmwq_model.specs.declared.call.Call.{Call}
-use Rattle.cmwq_model.specs.declared.entry.Entry.{Entry}
-use Rattle.cmwq_model.specs.Prelude.{Layout, serial_of, past_of}
-use Rattle.cmwq_monitor.specs.Participants.{View, made_by, newcomer}
 use Rattle.cmwq_monitor.specs.Settled.{Settles}
 use Rattle.cmwq_monitor.proofs.Entries.{made_length, made_same}
-use Rattle.cmwq_rt.specs.Places.{worker_at, next_after}
-use Rattle.cmwq_rt.specs.Scripts.{Follows}
 use Rattle.cmwq_rt_scripts.specs.Ended.{caller_at, FollowedAt, FollowsIn, AllFollow}
 use Rattle.cmwq_rt.proofs.Following.{follows_later}
 
@@ -47,15 +38,15 @@ one_before P n m one rest k le lt = test (nat_lt n k) refl
         subst P same one
 
 -- behind the last worker there is none
-none_behind : (s : Layout) (n d : ℕ) → worker_at s n ≡ None → worker_at s (n + d) ≡ None
+none_behind : (s : Layout) (n d : ℕ) → worker_by_number s n ≡ None → worker_by_number s (n + d) ≡ None
 none_behind s n zero none =
     let same : n ≡ n + 0 = omega arith in
-    subst (λ m. worker_at s m ≡ None) same none
+    subst (λ m. worker_by_number s m ≡ None) same none
 none_behind s n (suc d) none =
     let next : suc (n + d) ≡ n + suc d = omega arith in
-    subst (λ m. worker_at s m ≡ None) next (ap (next_after s) (none_behind s n d none))
+    subst (λ m. worker_by_number s m ≡ None) next (ap (next_after s) (none_behind s n d none))
 
-pub worker_within : (s : Layout) (n k : ℕ) (x : WorkerId) → worker_at s n ≡ None → worker_at s k ≡ Some x → k < n
+pub worker_within : (s : Layout) (n k : ℕ) (x : WorkerId) → worker_by_number s n ≡ None → worker_by_number s k ≡ Some x → k < n
 worker_within s n k x none is = test (nat_lt k n) refl
   where
     test : (b : Bool) → nat_lt k n ≡ b → k < n
@@ -63,7 +54,7 @@ worker_within s n k x none is = test (nat_lt k n) refl
     test false more =
         let le = ltb-false k n more in
         let sum : n + (k - n) ≡ k = omega (arith, le) in
-        absurd (cc (sym is ∙ ap (worker_at s) (sym sum) ∙ none_behind s n (k - n) none))
+        absurd (cc (sym is ∙ ap (worker_by_number s) (sym sum) ∙ none_behind s n (k - n) none))
 
 none_made : (xs : List Entry) → length xs ≡ 0 → xs ≡ []
 none_made [] is = refl

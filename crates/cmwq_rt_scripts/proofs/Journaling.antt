@@ -1,30 +1,15 @@
 -- The texts that a journal leaves.
-use Rattle.std.proofs.Common.{◌≡◌, ◌+◌, ℕ, List, [], length, Option, None, Some, Result, Ok, Err, refl, sym, ap, ◌∙◌, subst, arith, append-nil}
-use Rattle.std.specs.Prelude.{OnOk, IfErr}
-use Rattle.std.specs.Io.KnownBytes.{Appends, Keeps}
-use Rattle.cmwq_io.specs.Moves.{AppendsFront}
+use Rattle.cmwq_rt_scripts.specs.Common.{◌≡◌, ◌+◌, ℕ, List, [], length, Option, None, Some, Result, Ok, Err, refl, sym, ap, ◌∙◌, subst, arith, append-nil, OnOk, IfErr, Appends, Keeps, AppendsFront, Call, Entry, Layout, IsLegal, past_of, body_text, last_text, text_of_format, JournalFault}
 use Rattle.cmwq_base.proofs.Fronts.{front_before, front_after, front_whole}
-use Rattle.cmwq_model.specs.declared.call.Call.{Call}
-use Rattle.cmwq_model.specs.declared.entry.Entry.{Entry}
-use Rattle.cmwq_model.specs.Prelude.{Layout, IsLegal, past_of}
-use Rattle.cmwq_text.specs.HistoryText.{body_text, last_text, text_of_format}
 use Rattle.cmwq_rt_journal.specs.Faults.{Broke, EndBroke, ending_text}
-use Rattle.cmwq_rt_journal.specs.declared.fault.JournalFault.{JournalFault}
 use Rattle.cmwq_rt_journal.specs.declared.fault.JournalFault.TheVariants.{Late, Write, Hub}
 use Rattle.cmwq_rt_scripts.specs.declared.journal.Unwritten.{Unwritten}
 use Rattle.cmwq_rt_scripts.specs.Journaled.{HasKept, TellsOf, WritesFront}
-
-keeps_refl : (a : Option (List ℕ)) → Keeps a a
-keeps_refl None = tt
-keeps_refl (Some x) = refl
-
-appends_nothing : (a : Option (List ℕ)) → Appends a a []
-appends_nothing None = tt
-appends_nothing (Some x) = sym (append-nil x)
+use Rattle.std.proofs.KnownBytes.{Keeps-refl, Appends-nil}
 
 -- nothing is a front of any text
 nothing_is_front : (a b : Option (List ℕ)) (text : List ℕ) → b ≡ a → AppendsFront a b text
-nothing_is_front a b text same = subst (λ c. AppendsFront a c text) (sym same) (0, appends_nothing a)
+nothing_is_front a b text same = subst (λ c. AppendsFront a c text) (sym same) (0, Appends-nil a)
 
 no_entry_is_legal : (s : Layout) → IsLegal s (past_of [])
 unfolding IsLegal
@@ -41,10 +26,10 @@ body_is_front s seen a b c body same = front_before a c (body_text 3 s seen) (la
 pub broke_is_front : (s : Layout) (old seen : List Entry) (a b : Option (List ℕ)) (f : JournalFault) → Broke s old seen a b f → AppendsFront a b (text_of_format 3 s seen)
 broke_is_front s old seen a b (Late n) x = nothing_is_front a b (text_of_format 3 s seen) (x.3)
 broke_is_front s old seen a b (Write n) x = front_before a b (body_text 3 s seen) (last_text 3 (length seen)) (x.1.front)
-broke_is_front s old seen a b (Hub f n) x = body_is_front s seen a b b (x.2) (keeps_refl b)
+broke_is_front s old seen a b (Hub f n) x = body_is_front s seen a b b (x.2) (Keeps-refl b)
 
 pub has_kept : (s : Layout) (seen : List Entry) (a b : Option (List ℕ)) (kept : Result (Unit {0}) JournalFault) → HasKept s seen a b kept → AppendsFront a b (text_of_format 3 s seen)
-has_kept s seen a b (Ok u) x = body_is_front s seen a b b x (keeps_refl b)
+has_kept s seen a b (Ok u) x = body_is_front s seen a b b x (Keeps-refl b)
 has_kept s seen a b (Err f) x = x
 
 -- a journal at its end
@@ -68,4 +53,4 @@ ending_is_last seen rest none = ap (ending_text seen) none ∙ ap (last_text 3) 
 pub end_is_front : (s : Layout) (seen rest : List Entry) (first : ℕ) (a b c : Option (List ℕ)) (f : JournalFault) → rest ≡ [] → Appends a b (body_text 3 s seen) → EndBroke seen first rest b c f → AppendsFront a c (text_of_format 3 s seen)
 end_is_front s seen rest first a b c (Late n) none body x = absurd x
 end_is_front s seen rest first a b c (Write n) none body x = front_after a b c (body_text 3 s seen) (last_text 3 (length seen)) body (subst (AppendsFront b c) (ending_is_last seen rest none) (x.1))
-end_is_front s seen rest first a b c (Hub f n) none body x = subst (λ d. AppendsFront a d (text_of_format 3 s seen)) (sym (x.3)) (body_is_front s seen a b b body (keeps_refl b))
+end_is_front s seen rest first a b c (Hub f n) none body x = subst (λ d. AppendsFront a d (text_of_format 3 s seen)) (sym (x.3)) (body_is_front s seen a b b body (Keeps-refl b))

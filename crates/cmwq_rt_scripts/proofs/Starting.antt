@@ -1,11 +1,5 @@
 -- Participants given out for threads.
-use Rattle.std.proofs.Common.{◌≡◌, ◌+◌, ap, sym, ◌∙◌, refl}
-use Rattle.std.specs.Prelude.{MatchOption, Option, Some, None}
-use Rattle.cmwq_model.specs.declared.id.WorkerId.{WorkerId}
-use Rattle.cmwq_model.specs.declared.id.Who.TheVariants.{Worker}
-use Rattle.cmwq_model.specs.Prelude.{Layout}
-use Rattle.cmwq_monitor.specs.Participants.{View, newcomer}
-use Rattle.cmwq_rt.specs.Places.{Places, after_worker, next_after}
+use Rattle.cmwq_rt_scripts.specs.Common.{◌≡◌, ◌+◌, ap, sym, ◌∙◌, refl, MatchOption, Option, Some, None, WorkerId, Worker, Layout, View, newcomer, Places, after_worker, next_after}
 
 -- the worker that was given out was the next one
 pub worker_given : (s : Layout) (old new : Places) (w : View)

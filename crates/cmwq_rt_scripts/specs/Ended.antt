@@ -1,24 +1,13 @@
 -- What the threads of callers and workers gave back, and what they leave in one history.
-use Rattle.std.specs.Prelude.{◌≡◌, ℕ, suc, ◌+◌, ◌<◌, ◌≤◌, List, [], ◌∷◌, length, map, slice_get, Some, None, Bool, true, false, Result, Ok, Err, IfOk, IfErr}
-use Rattle.std.specs.declared.vec.Vec.{Vec}
-use Rattle.std.specs.declared.alloc.Global.{Global}
+use Rattle.cmwq_rt.specs.Places.{shares}
+use Rattle.cmwq_rt_scripts.specs.Common.{◌≡◌, ℕ, suc, ◌+◌, ◌<◌, ◌≤◌, List, [], ◌∷◌, length, map, slice_get, Some, None, Bool, true, false, Result, Ok, Err, IfOk, IfErr, Vec, Global, Caller, Worker, WorkerId, Call, Entry, Layout, serial_of, past_of, IsLegal, View, newcomer, made_by, worker_by_number, Behavior, HasWorked, RunsInTurn, breaks_off, Follows, HasFollowed, IsPrefix}
 use Rattle.cmwq_model.specs.declared.id.Who.{Who}
-use Rattle.cmwq_model.specs.declared.id.Who.TheVariants.{Caller, Worker}
-use Rattle.cmwq_model.specs.declared.id.WorkerId.{WorkerId}
-use Rattle.cmwq_model.specs.declared.call.Call.{Call}
-use Rattle.cmwq_model.specs.declared.entry.Entry.{Entry}
-use Rattle.cmwq_model.specs.Prelude.{Layout, serial_of, past_of, IsLegal}
-use Rattle.cmwq_monitor.specs.Participants.{View, newcomer, made_by}
 use Rattle.cmwq_monitor.specs.Held.{active_in}
 use Rattle.cmwq_monitor.specs.declared.fault.RunFault.{RunFault}
 use Rattle.cmwq_monitor.specs.declared.fault.RunFault.TheVariants.{Full, Unfinished, NoPlace}
-use Rattle.cmwq_rt.specs.Places.{worker_at}
-use Rattle.cmwq_rt.specs.Running.{Behavior, HasWorked, RunsInTurn, breaks_off}
-use Rattle.cmwq_rt.specs.Scripts.{Follows, HasFollowed}
 use Rattle.cmwq_rt_scripts.specs.declared.ends.CallerEnd.{CallerEnd}
 use Rattle.cmwq_rt_scripts.specs.declared.ends.WorkerEnd.{WorkerEnd}
 use Rattle.cmwq_rt_scripts.specs.declared.gather.Ends.{Ends}
-use mathlib.Core.List.{IsPrefix}
 
 abbrev pub caller_at : ℕ → Who
 caller_at k = Caller (record { 0 = k })
@@ -57,9 +46,9 @@ WorkedFrom s does v w = (w.who ≡ v.who) × HasWorked s does v w
 
 -- one end for each worker of the shape, in order: who gave no fault has worked
 pub record HaveWorked {N : Type 0} (s : Layout) (does : Behavior) (ends : List (WorkerEnd N)) : Type 0 where
-  pub all : worker_at s (length ends) ≡ None
+  pub all : worker_by_number s (length ends) ≡ None
   pub faults : (k : ℕ) (e : WorkerEnd N) → slice_get ends k ≡ Some e → IfErr e.outcome (λ f. breaks_off f ≡ true)
-  pub worked : (k : ℕ) (e : WorkerEnd N) → slice_get ends k ≡ Some e → (x : WorkerId) → worker_at s k ≡ Some x
+  pub worked : (k : ℕ) (e : WorkerEnd N) → slice_get ends k ≡ Some e → (x : WorkerId) → worker_by_number s k ≡ Some x
       → IfOk e.outcome (λ _. WorkedFrom s does (newcomer (Worker x)) e.worker)
 
 -- a worker's runs in a history are so many, each does what its item does, and it has no other entries there
@@ -72,7 +61,7 @@ pub record WorkedIn (s : Layout) (does : Behavior) (x : WorkerId) (history : Lis
 
 -- so have all workers
 pub record AllWorked (s : Layout) (does : Behavior) (history : List Entry) : Type 0 where
-  pub each : (k : ℕ) (x : WorkerId) → worker_at s k ≡ Some x → WorkedIn s does x history
+  pub each : (k : ℕ) (x : WorkerId) → worker_by_number s k ≡ Some x → WorkedIn s does x history
 
 -- all callers followed their scripts, and yet an active queueing is open in the history
 abbrev pub IsUnfinished : Layout → List (List Call) → List Entry → Type 0
@@ -97,7 +86,7 @@ pub record HaveRun {N : Type 0} (s : Layout) (does : Behavior) (scripts : List (
   pub callers : HaveEnded s scripts ends.callers.items
   pub workers : HaveWorked s does ends.workers.items
   pub idle : AreNewcomers s (length scripts) ends.idle.items
-  pub parts : ends.rest.parts + (length ends.callers.items + length ends.workers.items + length ends.idle.items) ≡ 128
+  pub parts : ends.rest.parts + (length ends.callers.items + length ends.workers.items + length ends.idle.items) ≡ shares
   pub amount : ends.rest.amount ≡ 0
 
 abbrev pub EndsAll : {N : Type 0} → Layout → Behavior → List (Vec Call Global) → Result (Ends N) RunFault → Type 0

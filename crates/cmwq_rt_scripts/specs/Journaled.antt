@@ -1,13 +1,5 @@
 -- What is written of a run whose history is written as it is made.
-use Rattle.std.specs.Prelude.{◌≡◌, ℕ, List, length, Option, Result, Ok, Err}
-use Rattle.std.specs.Io.KnownBytes.{Appends}
-use Rattle.cmwq_io.specs.Moves.{AppendsFront}
-use Rattle.cmwq_model.specs.declared.call.Call.{Call}
-use Rattle.cmwq_model.specs.declared.entry.Entry.{Entry}
-use Rattle.cmwq_model.specs.Prelude.{Layout, IsLegal, past_of}
-use Rattle.cmwq_text.specs.HistoryText.{body_text, text_of_format}
-use Rattle.cmwq_rt.specs.Running.{Behavior}
-use Rattle.cmwq_rt_journal.specs.declared.fault.JournalFault.{JournalFault}
+use Rattle.cmwq_rt_scripts.specs.Common.{◌≡◌, ℕ, List, length, Option, Result, Ok, Err, Appends, AppendsFront, Call, Entry, Layout, IsLegal, past_of, body_text, text_of_format, Behavior, JournalFault}
 use Rattle.cmwq_rt_scripts.specs.Ended.{FailsAs, IsLeft}
 use Rattle.cmwq_rt_scripts.specs.declared.journal.Unwritten.{Unwritten}
 use Rattle.cmwq_rt_scripts.specs.declared.journal.Unwritten.TheVariants as unwritten

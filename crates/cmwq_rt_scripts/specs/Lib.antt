@@ -1,3 +1,4 @@
+pub mod Common
 pub mod Ended
 pub mod Journaled
 pub mod Tested

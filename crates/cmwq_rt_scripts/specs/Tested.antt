@@ -1,10 +1,7 @@
 -- Whether calls may be scripts, as a test.
-use Rattle.std.specs.Prelude.{Bool, ◌&&◌, ◌^◌, List, length, nat_le, nat_lt}
-use Rattle.std.specs.declared.vec.Vec.{Vec}
-use Rattle.std.specs.declared.alloc.Global.{Global}
+use Rattle.cmwq_model.specs.Prelude.{most_callers}
+use Rattle.cmwq_rt_scripts.specs.Common.{Bool, ◌&&◌, ◌^◌, List, length, nat_le, nat_lt, Vec, Global, Call, Layout, has_numbers, is_whole}
 use Rattle.std.specs.List.{list_all}
-use Rattle.cmwq_model.specs.declared.call.Call.{Call}
-use Rattle.cmwq_model.specs.Prelude.{Layout, has_numbers, is_whole}
 
 abbrev pub is_scripted : Layout → Call → Bool
 is_scripted s c = is_whole c && has_numbers s c
@@ -13,4 +10,4 @@ abbrev pub is_script : Layout → List Call → Bool
 is_script s calls = nat_lt (length calls) (2 ^ 32) && list_all (is_scripted s) calls
 
 abbrev pub are_scripts : Layout → List (Vec Call Global) → Bool
-are_scripts s scripts = nat_le (length scripts) 64 && list_all (λ x. is_script s x.items) scripts
+are_scripts s scripts = nat_le (length scripts) most_callers && list_all (λ x. is_script s x.items) scripts

@@ -1,7 +1,7 @@
 //! Runs all threads beside the journal that writes their history.
 ghost use Rattle.std.specs.Prelude.{◌≡◌, ◌<◌, ◌≤◌, ◌^◌, length, true, All, IfOk, IfErr, OnOk};
 ghost use Rattle.cmwq_io.specs.Counts.{Rises};
-ghost use Rattle.cmwq_model.specs.Prelude.{past_of, IsLegal, IsScripted};
+ghost use Rattle.cmwq_model.specs.Prelude.{past_of, IsLegal, IsScripted, most_callers};
 ghost use Rattle.cmwq_rt.specs.Places.{all_free};
 ghost use Rattle.cmwq_rt_journal.specs.Faults.{is_of_sink};
 ghost use Rattle.cmwq_rt_scripts.specs.Ended.{EndsAll, is_silent};
@@ -59,7 +59,7 @@ fn conduct<'x, N: HubName + Send + Sync, W: Work + Sync, R: Threads + Wait + Syn
     work: &'x W,
 ) -> Result<Ends<N>, RunFault>
     requires fresh { participants ≡ all_free }
-    requires few { length scripts.now.items ≤ 64 }
+    requires few { length scripts.now.items ≤ most_callers }
     requires calls { All (λ s. All (IsScripted N.layout) s.items × (length s.items < 2 ^ 32)) scripts.now.items }
     ensures { EndsAll N.layout (W.does work.now N.layout) scripts.now.items result }
 {
@@ -79,7 +79,7 @@ fn start<'s, E, N: HubName + Send + Sync + 's, W: Work + Sync, R: Threads + Wait
     work: &'s W,
 ) -> Result<Conductor<N, W>, RunFault>
     requires fresh { participants ≡ all_free }
-    requires few { length scripts.now.items ≤ 64 }
+    requires few { length scripts.now.items ≤ most_callers }
     requires calls { All (λ s. All (IsScripted N.layout) s.items × (length s.items < 2 ^ 32)) scripts.now.items }
     ensures thread { IfOk result (λ h. (h.promise.scripts.value ≡ scripts.now) × (h.promise.work.value ≡ work.now)) }
     ensures fault { IfErr result (λ f. is_silent f ≡ true) }
@@ -92,7 +92,7 @@ fn start<'s, E, N: HubName + Send + Sync + 's, W: Work + Sync, R: Threads + Wait
     let started = scope.spawn_with(
         promise,
         move || -> Result<Ends<N>, RunFault>
-            requires { (participants ≡ all_free) × (length scripts.now.items ≤ 64) × All (λ s. All (IsScripted N.layout) s.items × (length s.items < 2 ^ 32)) scripts.now.items }
+            requires { (participants ≡ all_free) × (length scripts.now.items ≤ most_callers) × All (λ s. All (IsScripted N.layout) s.items × (length s.items < 2 ^ 32)) scripts.now.items }
             ensures { EndsAll N.layout (W.does work.entry.now N.layout) scripts.entry.now.items result }
         { conduct(rt, hub, alloc, participants, scripts, work) },
     );
@@ -122,7 +122,7 @@ fn keep<
     output: &mut O,
 ) -> Result<Beside<N>, RunFault>
     requires fresh { participants ≡ all_free }
-    requires few { length scripts.now.items ≤ 64 }
+    requires few { length scripts.now.items ≤ most_callers }
     requires calls { All (λ s. All (IsScripted N.layout) s.items × (length s.items < 2 ^ 32)) scripts.now.items }
     ensures ends { IfOk result (λ b. EndsAll N.layout (W.does work.now N.layout) scripts.now.items b.ends) }
     ensures legal { IfOk result (λ b. IsLegal N.layout (past_of b.journal.seen)) }
@@ -170,7 +170,7 @@ pub(crate) fn run_beside<
     output: &mut O,
 ) -> Result<Beside<N>, RunFault>
     requires fresh { participants ≡ all_free }
-    requires few { length scripts.now.items ≤ 64 }
+    requires few { length scripts.now.items ≤ most_callers }
     requires calls { All (λ s. All (IsScripted N.layout) s.items × (length s.items < 2 ^ 32)) scripts.now.items }
     ensures ends { IfOk result (λ b. EndsAll N.layout (W.does work.now N.layout) scripts.now.items b.ends) }
     ensures legal { IfOk result (λ b. IsLegal N.layout (past_of b.journal.seen)) }
@@ -183,7 +183,7 @@ pub(crate) fn run_beside<
         thread::scope_env(),
         rt,
         move |scope| -> (Result<Beside<N>, RunFault>, &mut O)
-            requires { (participants ≡ all_free) × (length scripts.now.items ≤ 64) × All (λ s. All (IsScripted N.layout) s.items × (length s.items < 2 ^ 32)) scripts.now.items }
+            requires { (participants ≡ all_free) × (length scripts.now.items ≤ most_callers) × All (λ s. All (IsScripted N.layout) s.items × (length s.items < 2 ^ 32)) scripts.now.items }
             ensures { (result.1.ghost_name ≡ output.entry.ghost_name)
                 × IfOk result.0 (λ b. EndsAll N.layout (W.does work.entry.now N.layout) scripts.entry.now.items b.ends
                 × IsLegal N.layout (past_of b.journal.seen)

@@ -5,7 +5,7 @@ ghost use Rattle.cmwq_model.specs.declared.id.WorkerId as ids;
 ghost use Rattle.cmwq_model.specs.declared.id.Who.TheVariants as whos;
 ghost use Rattle.cmwq_monitor.specs.Participants.{newcomer};
 ghost use Rattle.cmwq_monitor.specs.Held.{active_in};
-ghost use Rattle.cmwq_rt.specs.Places.{worker_at};
+ghost use Rattle.cmwq_rt.specs.Places.{worker_by_number, shares};
 ghost use Rattle.cmwq_monitor.specs.declared.fault.RunFault.TheVariants.{Unfinished};
 ghost use Rattle.cmwq_rt.specs.Running.{breaks_off};
 ghost use Rattle.cmwq_rt_scripts.specs.Ended.{AllFollow, AllWorked, AreNewcomers, AreSilent, FollowedAt, FollowsIn, HaveEnded, HaveWorked, IsUnfinished, WorkedFrom, WorkedIn, is_silent};
@@ -13,6 +13,7 @@ ghost use Rattle.cmwq_rt_scripts.specs.Ended.{AllFollow, AllWorked, AreNewcomers
 use crate::ends::{CallerEnd, WorkerEnd};
 use cmwq_model::Call;
 use cmwq_monitor::Monitor;
+use cmwq_rt::ending::{settle_caller, settle_worker, share_of_caller, share_of_worker};
 use cmwq_rt::{Caller, HubName, RunFault, Work};
 use std::sync::ledger::Share;
 
@@ -50,9 +51,9 @@ fn gather_caller<N: HubName>(
     let mut caller = caller;
     match outcome {
         Ok((_, full)) => {
-            caller.settle(monitor)?;
+            settle_caller(&mut caller, monitor)?;
             let made = caller.serial();
-            all.merge(caller.into_share());
+            all.merge(share_of_caller(caller));
             Ok((u64::from(made), u64::from(full)))
         }
         Err(fault) => Err(fault),
@@ -102,9 +103,9 @@ fn gather_worker<N: HubName, W: Work>(
     let mut worker = worker;
     match outcome {
         Ok(_) => {
-            worker.settle(monitor)?;
+            settle_worker(&mut worker, monitor)?;
             let made = worker.serial();
-            all.merge(worker.into_share());
+            all.merge(share_of_worker(worker));
             Ok(made)
         }
         Err(fault) => Err(fault),
@@ -154,8 +155,8 @@ fn gather_idle<N: HubName>(
             unreachable!()
         };
         let mut caller = caller;
-        caller.settle(monitor)?;
-        all.merge(caller.into_share());
+        settle_caller(&mut caller, monitor)?;
+        all.merge(share_of_caller(caller));
     }
     Ok(())
 }
@@ -167,11 +168,11 @@ pub(crate) fn gather<N: HubName, W: Work>(
     scripts: &[Vec<Call>],
     work: &W,
 ) -> Result<(u64, u64), RunFault>
-    requires parts { N.parts ≡ 128 }
+    requires parts { N.parts ≡ shares }
     requires each { HaveEnded N.layout scripts.now ends.callers.items }
     requires worked { HaveWorked N.layout (W.does work.now N.layout) ends.workers.items }
     requires idle { AreNewcomers N.layout (length scripts.now) ends.idle.items }
-    requires rest { (ends.rest.parts + (length ends.callers.items + length ends.workers.items + length ends.idle.items) ≡ 128) × (ends.rest.amount ≡ 0) }
+    requires rest { (ends.rest.parts + (length ends.callers.items + length ends.workers.items + length ends.idle.items) ≡ shares) × (ends.rest.amount ≡ 0) }
     ensures same { monitor.new ≡ monitor.old }
     ensures counted { IfOk result (λ t. t.0 ≡ length monitor.old.history) }
     ensures follow { IfOk result (λ t. AllFollow N.layout 0 (map (λ s. s.items) scripts.now) t.1 monitor.old.history) }

@@ -1,10 +1,11 @@
 //! Scripts, each followed by a thread of its own, whose history is written as it is made.
+ghost use Rattle.cmwq_rt.specs.Places.{shares};
 ghost use Rattle.std.specs.Prelude.{◌≡◌, ℕ, List, Option, ◌<◌, ◌≤◌, ◌^◌, [], length, map, true, All, IfOk, IfErr, OnOk, OnErr, IsErrOf};
 ghost use Rattle.std.specs.Io.KnownBytes.{Appends};
 ghost use Rattle.cmwq_io.specs.Counts.{Rises};
 ghost use Rattle.cmwq_io.specs.Moves.{AppendsFront};
 ghost use Rattle.cmwq_model.specs.declared.call.Call as calls;
-ghost use Rattle.cmwq_model.specs.Prelude.{Layout, past_of, IsLegal, IsScripted};
+ghost use Rattle.cmwq_model.specs.Prelude.{Layout, past_of, IsLegal, IsScripted, most_callers};
 ghost use Rattle.cmwq_text.specs.HistoryText.{body_text, text_of_format};
 ghost use Rattle.cmwq_rt_journal.specs.Faults.{is_of_sink};
 ghost use Rattle.cmwq_rt_scripts.specs.Ended.{EndsAll, FailsAs, HaveRun, IsLeft, is_silent};
@@ -16,6 +17,7 @@ use crate::gather::{Ends, gather};
 use cmwq_io::Sink;
 use cmwq_model::{Call, Entry, Shape};
 use cmwq_monitor::Monitor;
+use cmwq_rt::ending::into_monitor;
 use cmwq_rt::{Hub, HubName, HubParts, RunFault, Work};
 use cmwq_rt_journal::{Journal, JournalFault, Rest, end_journal};
 use std::alloc::Global;
@@ -99,7 +101,7 @@ fn count<N: HubName, W: Work, R: Wait>(
     scripts: &Vec<Vec<Call>>,
     work: &W,
 ) -> Result<Counted, RunFault>
-    requires parts { N.parts ≡ 128 }
+    requires parts { N.parts ≡ shares }
     requires ends { HaveRun N.layout (W.does work.now N.layout) scripts.now.items ends }
     ensures left { IfOk result (λ c. IsLeft N.layout (W.does work.now N.layout) (map (λ s. s.items) scripts.now.items) c.written.full journal.old.seen) }
     ensures counted { IfOk result (λ c. c.written.answered ≡ length journal.old.seen) }
@@ -107,7 +109,7 @@ fn count<N: HubName, W: Work, R: Wait>(
     ensures rest { IfOk result (λ c. c.rest.entries.items ≡ []) }
     ensures fails { IfErr result (λ f. FailsAs N.layout (map (λ s. s.items) scripts.now.items) f) }
 {
-    let mut monitor = hub.into_monitor();
+    let mut monitor = into_monitor(hub);
     let gathered = gather(&mut monitor, ends, scripts.as_slice(), work);
     let journaled = has_all(&mut monitor, journal);
     let rest = monitor.end(rt);
@@ -157,7 +159,7 @@ fn end_run<N: HubName, W: Work, R: Wait, O: Sink>(
     work: &W,
     output: &mut O,
 ) -> Result<Written, Unwritten>
-    requires parts { N.parts ≡ 128 }
+    requires parts { N.parts ≡ shares }
     requires ends { EndsAll N.layout (W.does work.now N.layout) scripts.now.items beside.ends }
     requires legal { IsLegal N.layout (past_of beside.journal.seen) }
     ensures whole { IfOk result (λ w. (start : Option (List ℕ)) → HasKept N.layout beside.journal.seen start (O.written output.old) beside.kept → WritesAll N.layout (W.does work.now N.layout) (map (λ s. s.items) scripts.now.items) w.answered w.full start (O.written output.new)) }
@@ -172,13 +174,13 @@ fn end_run<N: HubName, W: Work, R: Wait, O: Sink>(
         kept,
     } = beside;
     if let Err(fault) = kept {
-        hub.into_monitor().end(rt);
+        into_monitor(hub).end(rt);
         return Err(told(fault));
     }
     let ends = match ends {
         Ok(ends) => ends,
         Err(fault) => {
-            hub.into_monitor().end(rt);
+            into_monitor(hub).end(rt);
             return Err(Unwritten::Run(fault));
         }
     };
@@ -208,7 +210,7 @@ fn run_parts<
     requires layout { parts.shape ≡ N.layout }
     requires book { parts.opening.book ≡ N.book }
     requires ledger { (parts.blank.name ≡ N.name) × (parts.blank.parts ≡ N.parts) }
-    requires few { length scripts.now.items ≤ 64 }
+    requires few { length scripts.now.items ≤ most_callers }
     requires calls { All (λ s. All (IsScripted N.layout) s.items × (length s.items < 2 ^ 32)) scripts.now.items }
     requires spare { spare.items ≡ [] }
     ensures whole { IfOk result (λ w. WritesAll N.layout (W.does work.now N.layout) (map (λ s. s.items) scripts.now.items) w.answered w.full (O.written output.old) (O.written output.new)) }
@@ -231,7 +233,7 @@ fn run_parts<
     ) {
         Ok(beside) => end_run(rt, hub, beside, scripts, work, output),
         Err(fault) => {
-            hub.into_monitor().end(rt);
+            into_monitor(hub).end(rt);
             Err(Unwritten::Run(fault))
         }
     }
@@ -253,7 +255,7 @@ pub fn run_scripts_with_journal<'x, W: Work + Sync, R: Threads + Wait + Clock + 
     kept: u32,
     output: &mut O,
 ) -> Result<Written, Unwritten>
-    requires few { length scripts.now.items ≤ 64 }
+    requires few { length scripts.now.items ≤ most_callers }
     requires calls { All (λ s. All (IsScripted shape.now) s.items × (length s.items < 2 ^ 32)) scripts.now.items }
     ensures whole { IfOk result (λ w. WritesAll shape.now (W.does work.now shape.now) (map (λ s. s.items) scripts.now.items) w.answered w.full (O.written output.old) (O.written output.new)) }
     ensures flushed { OnOk result (O.held output.new ≡ 0) }

@@ -1,14 +1,15 @@
 //! Scripts, each followed by a thread of its own, beside a thread for each worker.
 ghost use Rattle.std.specs.Prelude.{◌≡◌, ◌+◌, ◌<◌, ◌≤◌, ◌^◌, length, map, All, IfOk, IfErr};
-ghost use Rattle.cmwq_model.specs.Prelude.{past_of, IsLegal, IsScripted};
+ghost use Rattle.cmwq_model.specs.Prelude.{past_of, IsLegal, IsScripted, most_callers};
 ghost use Rattle.cmwq_monitor.specs.Held.{active_in};
-ghost use Rattle.cmwq_rt.specs.Places.{all_free};
+ghost use Rattle.cmwq_rt.specs.Places.{all_free, shares};
 ghost use Rattle.cmwq_rt_scripts.specs.Ended.{AllFollow, AllWorked, AreNewcomers, AreSilent, FailsAs, HaveEnded, HaveWorked};
 
 use crate::gather::{Ends, gather};
 use crate::start::{idle_callers, start_callers, start_workers};
 use cmwq_model::{Call, Entry, Shape};
 use cmwq_monitor::Rest;
+use cmwq_rt::ending::into_monitor;
 use cmwq_rt::{Hub, HubName, HubParts, Participants, RunFault, Work};
 use std::alloc::Global;
 use std::marker::Brand;
@@ -36,12 +37,12 @@ fn run_all<'s, E, N: HubName + Send + Sync + 's, W: Work + Sync, R: Threads + Wa
     work: &'s W,
 ) -> Result<Ends<N>, RunFault>
     requires fresh { participants ≡ all_free }
-    requires few { length scripts.now ≤ 64 }
+    requires few { length scripts.now ≤ most_callers }
     requires calls { All (λ s. All (IsScripted N.layout) s.items × (length s.items < 2 ^ 32)) scripts.now }
     ensures each { IfOk result (λ r. HaveEnded N.layout scripts.now r.callers.items) }
     ensures worked { IfOk result (λ r. HaveWorked N.layout (W.does work.now N.layout) r.workers.items) }
     ensures idle { IfOk result (λ r. AreNewcomers N.layout (length scripts.now) r.idle.items) }
-    ensures rest { IfOk result (λ r. (r.rest.parts + (length r.callers.items + length r.workers.items + length r.idle.items) ≡ 128) × (r.rest.amount ≡ 0)) }
+    ensures rest { IfOk result (λ r. (r.rest.parts + (length r.callers.items + length r.workers.items + length r.idle.items) ≡ shares) × (r.rest.amount ≡ 0)) }
     ensures fails { IfErr result (λ f. FailsAs N.layout (map (λ s. s.items) scripts.now) f) }
 {
     let mut participants = participants;
@@ -85,11 +86,11 @@ fn make_report<N: HubName, W: Work, R: Wait>(
     scripts: &[Vec<Call>],
     work: &W,
 ) -> Result<Report, RunFault>
-    requires parts { N.parts ≡ 128 }
+    requires parts { N.parts ≡ shares }
     requires each { HaveEnded N.layout scripts.now ends.callers.items }
     requires worked { HaveWorked N.layout (W.does work.now N.layout) ends.workers.items }
     requires idle { AreNewcomers N.layout (length scripts.now) ends.idle.items }
-    requires rest { (ends.rest.parts + (length ends.callers.items + length ends.workers.items + length ends.idle.items) ≡ 128) × (ends.rest.amount ≡ 0) }
+    requires rest { (ends.rest.parts + (length ends.callers.items + length ends.workers.items + length ends.idle.items) ≡ shares) × (ends.rest.amount ≡ 0) }
     ensures legal { IfOk result (λ r. IsLegal N.layout (past_of r.history.items)) }
     ensures counted { IfOk result (λ r. r.answered ≡ length r.history.items) }
     ensures follow { IfOk result (λ r. AllFollow N.layout 0 (map (λ s. s.items) scripts.now) r.full r.history.items) }
@@ -98,7 +99,7 @@ fn make_report<N: HubName, W: Work, R: Wait>(
     ensures finished { IfOk result (λ r. active_in N.layout r.history.items ≡ 0) }
     ensures fails { IfErr result (λ f. FailsAs N.layout (map (λ s. s.items) scripts.now) f) }
 {
-    let mut monitor = hub.into_monitor();
+    let mut monitor = into_monitor(hub);
     let gathered = gather(&mut monitor, ends, scripts, work);
     let Rest { first, entries } = monitor.end(rt);
     // no journal took any
@@ -128,22 +129,22 @@ pub(crate) fn run_threads<'x, N: HubName + Send + Sync, W: Work + Sync, R: Threa
     work: &'x W,
 ) -> Result<Ends<N>, RunFault>
     requires fresh { participants ≡ all_free }
-    requires few { length scripts.now ≤ 64 }
+    requires few { length scripts.now ≤ most_callers }
     requires calls { All (λ s. All (IsScripted N.layout) s.items × (length s.items < 2 ^ 32)) scripts.now }
     ensures each { IfOk result (λ r. HaveEnded N.layout scripts.now r.callers.items) }
     ensures worked { IfOk result (λ r. HaveWorked N.layout (W.does work.now N.layout) r.workers.items) }
     ensures idle { IfOk result (λ r. AreNewcomers N.layout (length scripts.now) r.idle.items) }
-    ensures rest { IfOk result (λ r. (r.rest.parts + (length r.callers.items + length r.workers.items + length r.idle.items) ≡ 128) × (r.rest.amount ≡ 0)) }
+    ensures rest { IfOk result (λ r. (r.rest.parts + (length r.callers.items + length r.workers.items + length r.idle.items) ≡ shares) × (r.rest.amount ≡ 0)) }
     ensures fails { IfErr result (λ f. FailsAs N.layout (map (λ s. s.items) scripts.now) f) }
 {
     thread::scope(
         thread::scope_env(),
         rt,
         |scope| -> Result<Ends<N>, RunFault>
-            requires { (participants ≡ all_free) × (length scripts.now ≤ 64) × All (λ s. All (IsScripted N.layout) s.items × (length s.items < 2 ^ 32)) scripts.now }
+            requires { (participants ≡ all_free) × (length scripts.now ≤ most_callers) × All (λ s. All (IsScripted N.layout) s.items × (length s.items < 2 ^ 32)) scripts.now }
             ensures { IfOk result (λ r. HaveEnded N.layout scripts.entry.now r.callers.items × HaveWorked N.layout (W.does work.entry.now N.layout) r.workers.items
                 × AreNewcomers N.layout (length scripts.entry.now) r.idle.items
-                × (r.rest.parts + (length r.callers.items + length r.workers.items + length r.idle.items) ≡ 128) × (r.rest.amount ≡ 0)) × IfErr result (λ f. FailsAs N.layout (map (λ s. s.items) scripts.entry.now) f) }
+                × (r.rest.parts + (length r.callers.items + length r.workers.items + length r.idle.items) ≡ shares) × (r.rest.amount ≡ 0)) × IfErr result (λ f. FailsAs N.layout (map (λ s. s.items) scripts.entry.now) f) }
         { run_all(scope, rt, hub, alloc, participants, scripts, work) },
     )
 }
@@ -159,7 +160,7 @@ fn run_parts<'x, N: HubName + Send + Sync + 'static, W: Work + Sync, R: Threads 
     requires layout { parts.shape ≡ N.layout }
     requires book { parts.opening.book ≡ N.book }
     requires ledger { (parts.blank.name ≡ N.name) × (parts.blank.parts ≡ N.parts) }
-    requires few { length scripts.now ≤ 64 }
+    requires few { length scripts.now ≤ most_callers }
     requires calls { All (λ s. All (IsScripted N.layout) s.items × (length s.items < 2 ^ 32)) scripts.now }
     ensures legal { IfOk result (λ r. IsLegal N.layout (past_of r.history.items)) }
     ensures counted { IfOk result (λ r. r.answered ≡ length r.history.items) }
@@ -174,7 +175,7 @@ fn run_parts<'x, N: HubName + Send + Sync + 'static, W: Work + Sync, R: Threads 
     match ends {
         Ok(ends) => make_report(rt, hub, ends, scripts, work),
         Err(fault) => {
-            hub.into_monitor().end(rt);
+            into_monitor(hub).end(rt);
             Err(fault)
         }
     }
@@ -193,7 +194,7 @@ pub fn run_scripts<'x, W: Work + Sync, R: Threads + Wait + Sync>(
     scripts: &'x [Vec<Call>],
     work: &'x W,
 ) -> Result<Report, RunFault>
-    requires few { length scripts.now ≤ 64 }
+    requires few { length scripts.now ≤ most_callers }
     requires calls { All (λ s. All (IsScripted shape.now) s.items × (length s.items < 2 ^ 32)) scripts.now }
     ensures legal { IfOk result (λ r. IsLegal shape.now (past_of r.history.items)) }
     ensures counted { IfOk result (λ r. r.answered ≡ length r.history.items) }

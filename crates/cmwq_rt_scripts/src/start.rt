@@ -3,9 +3,9 @@ ghost use Rattle.std.specs.Prelude.{◌≡◌, ℕ, ◌+◌, ◌<◌, ◌≤◌,
 ghost use Rattle.cmwq_rt.specs.Running.{breaks_off};
 ghost use Rattle.cmwq_model.specs.declared.id.WorkerId as ids;
 ghost use Rattle.cmwq_model.specs.declared.id.Who.TheVariants as whos;
-ghost use Rattle.cmwq_model.specs.Prelude.{IsScripted};
+ghost use Rattle.cmwq_model.specs.Prelude.{IsScripted, most_callers};
 ghost use Rattle.cmwq_monitor.specs.Participants.{newcomer};
-ghost use Rattle.cmwq_rt.specs.Places.{first_worker, worker_at};
+ghost use Rattle.cmwq_rt.specs.Places.{first_worker, worker_by_number};
 ghost use Rattle.cmwq_rt_scripts.specs.Ended.{AreNewcomers, FailsAs, FollowedAt, WorkedFrom, caller_at, is_silent};
 
 use crate::ends::{CallerEnd, FollowsScript, RunsWork, WorkerEnd, follow_all, work_all};
@@ -64,7 +64,7 @@ pub(crate) fn start_callers<'s, E, N: HubName + Send + Sync + 's, R: Wait + Sync
     scripts: &'s [Vec<Call>],
 ) -> Result<Vec<CallerThread<N>>, RunFault>
     requires fresh { participants.old.callers ≡ 0 }
-    requires few { length scripts.now ≤ 64 }
+    requires few { length scripts.now ≤ most_callers }
     requires calls { All (λ s. All (IsScripted N.layout) s.items × (length s.items < 2 ^ 32)) scripts.now }
     ensures all { IfOk result (λ hs. (participants.new ≡ record participants.old { callers = length hs.items }) × (length hs.items ≡ length scripts.now)) }
     ensures fails { IfErr result (λ f. FailsAs N.layout (map (λ s. s.items) scripts.now) f) }
@@ -128,8 +128,8 @@ pub(crate) fn start_workers<'s, E, N: HubName + Send + Sync + 's, W: Work + Sync
 ) -> Result<Vec<WorkerThread<N, W>>, RunFault>
     requires fresh { participants.old.next ≡ Some first_worker }
     ensures fault { IfErr result (λ f. is_silent f ≡ true) }
-    ensures all { IfOk result (λ hs. (worker_at N.layout (length hs.items) ≡ None) × (participants.new.workers ≡ participants.old.workers + length hs.items) × (participants.new.callers ≡ participants.old.callers)) }
-    ensures each { IfOk result (λ hs. (k : ℕ) (h : _) → slice_get hs.items k ≡ Some h → (x : ids.WorkerId) → worker_at N.layout k ≡ Some x → (h.promise.worker.value ≡ newcomer (whos.Worker x)) × (h.promise.work.value ≡ work.now)) }
+    ensures all { IfOk result (λ hs. (worker_by_number N.layout (length hs.items) ≡ None) × (participants.new.workers ≡ participants.old.workers + length hs.items) × (participants.new.callers ≡ participants.old.callers)) }
+    ensures each { IfOk result (λ hs. (k : ℕ) (h : _) → slice_get hs.items k ≡ Some h → (x : ids.WorkerId) → worker_by_number N.layout k ≡ Some x → (h.promise.worker.value ≡ newcomer (whos.Worker x)) × (h.promise.work.value ≡ work.now)) }
 {
     let mut threads = Vec::new(alloc);
     for _ in 0..=most_workers(hub.shape()) {

@@ -1,10 +1,10 @@
 //! Whether calls may be scripts.
 ghost use Rattle.std.specs.Prelude.{◌≡◌, ◌<◌, ◌≤◌, ◌^◌, length, true, All, IsTrue, nat_le, ◌&&◌};
 ghost use Rattle.std.specs.List.{list_all};
-ghost use Rattle.cmwq_model.specs.Prelude.{IsScripted};
+ghost use Rattle.cmwq_model.specs.Prelude.{IsScripted, most_callers};
 ghost use Rattle.cmwq_rt_scripts.specs.Tested.{is_scripted, is_script, are_scripts};
 
-use cmwq_model::{Call, Shape};
+use cmwq_model::{Call, MOST_CALLERS, Shape};
 
 fn is_scripted(shape: &Shape, call: Call) -> bool
     ensures { result ≡ is_scripted shape.now call }
@@ -34,8 +34,8 @@ fn are_all_scripts(shape: &Shape, scripts: &[Vec<Call>]) -> bool
 /// 4,294,967,296 calls, and each call is one that a script may hold, with numbers inside the shape.
 pub fn are_scripts(shape: &Shape, scripts: &[Vec<Call>]) -> bool
     ensures exact { result ≡ are_scripts shape.now scripts.now }
-    ensures few { IsTrue result → length scripts.now ≤ 64 }
+    ensures few { IsTrue result → length scripts.now ≤ most_callers }
     ensures calls { IsTrue result → All (λ s. All (IsScripted shape.now) s.items × (length s.items < 2 ^ 32)) scripts.now }
 {
-    scripts.len() <= 64 && are_all_scripts(shape, scripts)
+    scripts.len() <= usize::from(MOST_CALLERS) && are_all_scripts(shape, scripts)
 }

@@ -1,31 +1,17 @@
 -- The steps of an execution, as those of the moments that it shows.
-use Rattle.std.proofs.Common.{◌≡◌, ◌==◌, ◌<◌, ◌≤◌, ◌+◌, ◌-◌, ◌*◌, ◌&&◌, ℕ, zero, suc, Bool, true, false, cond, not, ◌||◌, ◌≢◌, set, get_or, List, [], ◌∷◌, ◌++◌, length, drop, map, filter, count_by, nat_lt, find, fold, add-one, append-nil, Option, Some, None, refl, sym, ap, ap₂, ◌∙◌, subst, arith}
-use Rattle.std.specs.Prelude.{option_map, sum_by, if◌then◌else◌}
-use Rattle.std.specs.List.{AllByRecursion, range_with_len, list_any}
-use Rattle.std.proofs.lemmas.List.{map-append, get_or-set_same, get_or-set_other, length-set}
-use Rattle.std.proofs.lemmas.Bool.{lt-ltb, eq-eqb, eqb-true}
-use Rattle.cmwq_model.specs.declared.id.Who.{Who}
-use Rattle.cmwq_model.specs.declared.id.Who.TheVariants.{Worker}
-use Rattle.cmwq_model.specs.declared.call.Call.{Call}
-use Rattle.cmwq_model.specs.declared.entry.Entry.{Entry}
-use Rattle.cmwq_model.specs.declared.record.Queueing.{Queueing}
-use Rattle.cmwq_model.specs.declared.id.WorkerId.{WorkerId}
-use Rattle.cmwq_model.specs.Prelude.{fits, has_time, has_room, entry_for, has_number, run, needed}
+use Rattle.cmwq_sim.specs.Common.{◌≡◌, ◌==◌, ◌<◌, ◌≤◌, ◌+◌, ◌-◌, ◌*◌, ◌&&◌, ℕ, zero, suc, Bool, true, false, cond, not, ◌||◌, ◌≢◌, set, get_or, List, [], ◌∷◌, ◌++◌, length, drop, map, filter, count_by, nat_lt, find, fold, add-one, append-nil, Option, Some, None, refl, sym, ap, ap₂, ◌∙◌, subst, arith, option_map, sum_by, if◌then◌else◌, AllByRecursion, range_with_len, list_any, map-append, get_or-set_same, get_or-set_other, length-set, eq-eqb, eqb-true, Who, Worker, Call, Entry, Queueing, WorkerId, has_time, has_room, entry_for, has_number, run, room_needed, runs_are_in_pools, History, past_in, next_entry, takes, with_entry, All_map, fold-append}
 use Rattle.cmwq_model.specs.declared.call.Call.TheVariants as call
-use Rattle.cmwq_theory_steps.proofs.Pools.{runs_are_in_pools}
 use Rattle.cmwq_theory_steps.proofs.Growing.{one_more_is_newest}
-use Rattle.cmwq_core.specs.History.{History, past_in, next_entry, takes, with_entry}
 use Rattle.cmwq_sim.specs.declared.scenario.LineKind.TheVariants as kind
 use Rattle.cmwq_sim.specs.declared.execution.Running.{Running}
 use Rattle.cmwq_sim.specs.declared.execution.Asleep.{Asleep}
 use Rattle.cmwq_sim.specs.declared.execution.Execution.{Execution}
-use Rattle.cmwq_sim.specs.Plan.{Plan, ms_of, queue_of, is_of, max_active, event_of, no_item}
+use Rattle.cmwq_sim.specs.Plan.{Plan, ms_of, plan_queue, is_of_plan_queue, plan_width, event_of, no_item}
 use Rattle.cmwq_sim.specs.Limits.{IsItem, IsWithinLimits}
-use Rattle.cmwq_sim.specs.Lines.{Moment, Job, Sleeper, job_with, job_of, wake, millisecond, burn, burn_first, queue_item, queued, empty, starting, start, tell_starts, make_ready, tell, after_burn, serve, is_due, is_not, after_sleep, wake_sleeper, wake_item}
-use Rattle.cmwq_sim.specs.Shows.{layout_for, worker, Shows, moment_of, queueing_for, IsRunAt, is_job}
+use Rattle.cmwq_sim.specs.Lines.{Moment, Job, Sleeper, job_with, job_of, wake_sleepers, millisecond, burn, burn_first, queue_item, queued_at_first, empty, starting_items, start, tell_starts, make_ready, tell, after_burn, serve, is_due, is_other_sleeper, after_sleep, wake_sleeper, wake_item}
+use Rattle.cmwq_sim.specs.Shows.{layout_for, plan_worker, Shows, moment_of, queueing_for, IsRunAt, is_job}
 use Rattle.cmwq_sim.specs.Rooms.{IsRoomy}
 use Rattle.cmwq_sim.specs.Standing.{job_seen, sleeper_seen, moment_in, slot_in, Stands, StandsAt, started_one, starts_lines, LessFirst}
-use Rattle.cmwq_theory_active.proofs.Lists.{All_map}
 use Rattle.cmwq_sim.specs.Takers.{IsTaker, NoTaker, taken_by}
 use Rattle.cmwq_sim.proofs.Progress.{all_at, last_any, rest, IsRunning, Begins, served, awake, started, passes}
 use Rattle.cmwq_sim.proofs.Outset.{begins}
@@ -33,19 +19,17 @@ use Rattle.cmwq_sim.specs.Ends.{moment_after}
 use Rattle.cmwq_sim.proofs.TakersAre.{taker_starts}
 use Rattle.cmwq_sim.proofs.TakeShown.{slot_with, take_shown, job_item}
 use Rattle.cmwq_sim.proofs.FinishShown.{job_run}
-use Rattle.std.proofs.lemmas.List.Sums.{fold-append}
-use Rattle.cmwq_sim.proofs.Queued.{range_more}
 use Rattle.cmwq_sim.specs.Rooms.{parts_left, parts_of_job}
 use Rattle.cmwq_sim.proofs.Phases.{other_lines, taken, takes_on, starts_on, start_is}
 use Rattle.cmwq_sim.proofs.Queued.{ShowsQueued, queue_call, caller, queue_shown, all_shown, nothing_shown}
 use Rattle.cmwq_sim.proofs.RoomKept.{queue_roomy}
-use Rattle.cmwq_sim.specs.Shows.{queue_shape}
-use Rattle.std.proofs.lemmas.List.{length-map}
 use Rattle.cmwq_sim.proofs.Roomy.{needs_nothing_at_first}
 use Rattle.cmwq_sim.proofs.Determined.{determined}
-use Rattle.cmwq_sim.proofs.Phases.{serve_is, serve_sleeps, serve_ends, wake_nobody, wake_burns, wake_ends, may_start, due_item, found_passes, asleep_there}
+use Rattle.cmwq_sim.proofs.Phases.{serve_is, serve_sleeps, serve_ends, wake_nobody, wake_burns, wake_ends, may_start, due_item, asleep_there}
+use Rattle.cmwq_lemmas.proofs.Lists.{found_passes}
 use Rattle.cmwq_sim.proofs.RoomKept.{has_room_then, sleep_roomy, end_roomy, start_roomy, wake_roomy, wake_burns_roomy, wake_ends_roomy}
 use Rattle.cmwq_sim.proofs.WakeShown.{sleeper_run}
+use Rattle.cmwq_lemmas.proofs.Lists.{range_more}
 
 -- the lists of a moment
 pub record Lists (s : Plan) (r : Execution) (m : Moment) : Type 0 where
@@ -103,48 +87,48 @@ module _ (s : Plan) (t : ℕ) (r : Execution) (job : Running) (js : List Running
   burnt : ((job_seen s job).burn == 0) ≡ true
   burnt = eq-eqb job.burn 0 done
 
-  pub sleeps_showing : (pause : ℕ) (left : List ℕ) → drop job.next (ms_of s job.item) ≡ pause ∷ left → Shows s (entry_for (layout_for s) (past_in r.book) (Worker (worker (slot_in r.slots job.item))) call.Sleep ∷ past_in r.book) (serve s t (moment_in s r)) (slot_in r.slots)
+  pub sleeps_showing : (pause : ℕ) (left : List ℕ) → drop job.next (ms_of s job.item) ≡ pause ∷ left → Shows s (entry_for (layout_for s) (past_in r.book) (Worker (plan_worker (slot_in r.slots job.item))) call.Sleep ∷ past_in r.book) (serve s t (moment_in s r)) (slot_in r.slots)
   sleeps_showing pause left parts = serve_sleeps s t (past_in r.book) (moment_in s r) (slot_in r.slots) (job_seen s job) (map (job_seen s) js) pause left h.shows first burnt parts
 
-  pub sleeps_roomy : (pause : ℕ) (left : List ℕ) → drop job.next (ms_of s job.item) ≡ pause ∷ left → IsRoomy s (entry_for (layout_for s) (past_in r.book) (Worker (worker (slot_in r.slots job.item))) call.Sleep ∷ past_in r.book) (serve s t (moment_in s r))
+  pub sleeps_roomy : (pause : ℕ) (left : List ℕ) → drop job.next (ms_of s job.item) ≡ pause ∷ left → IsRoomy s (entry_for (layout_for s) (past_in r.book) (Worker (plan_worker (slot_in r.slots job.item))) call.Sleep ∷ past_in r.book) (serve s t (moment_in s r))
   sleeps_roomy pause left parts = sleep_roomy s t (past_in r.book) (moment_in s r) (slot_in r.slots) (job_seen s job) (map (job_seen s) js) pause left h.shows h.roomy first burnt parts
 
-  pub ends_showing : drop job.next (ms_of s job.item) ≡ [] → Shows s (entry_for (layout_for s) (past_in r.book) (Worker (worker (slot_in r.slots job.item))) call.Finish ∷ past_in r.book) (serve s t (moment_in s r)) (slot_in r.slots)
+  pub ends_showing : drop job.next (ms_of s job.item) ≡ [] → Shows s (entry_for (layout_for s) (past_in r.book) (Worker (plan_worker (slot_in r.slots job.item))) call.Finish ∷ past_in r.book) (serve s t (moment_in s r)) (slot_in r.slots)
   ends_showing parts = serve_ends s t (past_in r.book) (moment_in s r) (slot_in r.slots) (job_seen s job) (map (job_seen s) js) h.shows first burnt parts
 
-  pub ends_roomy : drop job.next (ms_of s job.item) ≡ [] → IsRoomy s (entry_for (layout_for s) (past_in r.book) (Worker (worker (slot_in r.slots job.item))) call.Finish ∷ past_in r.book) (serve s t (moment_in s r))
+  pub ends_roomy : drop job.next (ms_of s job.item) ≡ [] → IsRoomy s (entry_for (layout_for s) (past_in r.book) (Worker (plan_worker (slot_in r.slots job.item))) call.Finish ∷ past_in r.book) (serve s t (moment_in s r))
   ends_roomy parts = end_roomy s t (past_in r.book) (moment_in s r) (slot_in r.slots) (job_seen s job) (map (job_seen s) js) h.shows h.roomy first burnt parts
 
   became : (left : List ℕ) → drop job.next (ms_of s job.item) ≡ left → serve s t (moment_in s r) ≡ after_burn s t (record (moment_in s r) { cpu = map (job_seen s) js }) job.item left
   became left parts = serve_is s t (moment_in s r) (job_seen s job) (map (job_seen s) js) first burnt ∙ ap (after_burn s t (record (moment_in s r) { cpu = map (job_seen s) js }) job.item) parts
 
   pub sleeps : (r2 : Execution) (pause : ℕ) → drop job.next (ms_of s job.item) ≡ pause ∷ drop (job.next + 1) (ms_of s job.item)
-      → r2.book ≡ with_entry r.book (next_entry r.book (Worker (worker (slot_in r.slots job.item))) call.Sleep) → r2.slots ≡ r.slots → r2.cpu.items ≡ js
+      → r2.book ≡ with_entry r.book (next_entry r.book (Worker (plan_worker (slot_in r.slots job.item))) call.Sleep) → r2.slots ≡ r.slots → r2.cpu.items ≡ js
       → r2.sleeping.items ≡ r.sleeping.items ++ record { item = job.item; until = t + pause; next = job.next + 1 } ∷ []
       → map event_of r2.lines.items ≡ map event_of r.lines.items ++ record { at = t; kind = kind.Sleeps; items = job.item ∷ [] } ∷ [] → StandsAt s r2 (serve s t (moment_in s r))
   sleeps r2 pause parts book slots cpu sleeping lines =
-      goes_on s r r2 (Worker (worker (slot_in r.slots job.item))) call.Sleep (serve s t (moment_in s r)) h book slots (sleeps_showing pause (drop (job.next + 1) (ms_of s job.item)) parts) (sleeps_roomy pause (drop (job.next + 1) (ms_of s job.item)) parts)
+      goes_on s r r2 (Worker (plan_worker (slot_in r.slots job.item))) call.Sleep (serve s t (moment_in s r)) h book slots (sleeps_showing pause (drop (job.next + 1) (ms_of s job.item)) parts) (sleeps_roomy pause (drop (job.next + 1) (ms_of s job.item)) parts)
       (subst (Lists s r2) (sym (became (pause ∷ drop (job.next + 1) (ms_of s job.item)) parts)) (record {
         cpu = ap (map (job_seen s)) cpu;
         sleeping = ap (map (sleeper_seen s)) sleeping ∙ map-append (sleeper_seen s) r.sleeping.items (record { item = job.item; until = t + pause; next = job.next + 1 } ∷ []);
         lines = lines;
       }))
 
-  pub ends : (r2 : Execution) → drop job.next (ms_of s job.item) ≡ [] → r2.book ≡ with_entry r.book (next_entry r.book (Worker (worker (slot_in r.slots job.item))) call.Finish) → r2.slots ≡ r.slots → r2.cpu.items ≡ js
+  pub ends : (r2 : Execution) → drop job.next (ms_of s job.item) ≡ [] → r2.book ≡ with_entry r.book (next_entry r.book (Worker (plan_worker (slot_in r.slots job.item))) call.Finish) → r2.slots ≡ r.slots → r2.cpu.items ≡ js
       → r2.sleeping.items ≡ r.sleeping.items → map event_of r2.lines.items ≡ map event_of r.lines.items ++ record { at = t; kind = kind.Ends; items = job.item ∷ [] } ∷ [] → StandsAt s r2 (serve s t (moment_in s r))
   ends r2 parts book slots cpu sleeping lines =
-      goes_on s r r2 (Worker (worker (slot_in r.slots job.item))) call.Finish (serve s t (moment_in s r)) h book slots (ends_showing parts) (ends_roomy parts)
-      (subst (Lists s r2) (sym (became [] parts)) (ready_keeps s r2 (tell t kind.Ends (job.item ∷ []) (record (moment_in s r) { cpu = map (job_seen s) js })) (find (is_of s (queue_of s job.item)) (moment_in s r).behind) (record {
+      goes_on s r r2 (Worker (plan_worker (slot_in r.slots job.item))) call.Finish (serve s t (moment_in s r)) h book slots (ends_showing parts) (ends_roomy parts)
+      (subst (Lists s r2) (sym (became [] parts)) (ready_keeps s r2 (tell t kind.Ends (job.item ∷ []) (record (moment_in s r) { cpu = map (job_seen s) js })) (find (is_of_plan_queue s (plan_queue s job.item)) (moment_in s r).behind) (record {
         cpu = ap (map (job_seen s)) cpu;
         sleeping = ap (map (sleeper_seen s)) sleeping;
         lines = lines;
       })))
 
-  pub has_room_to_sleep : (pause : ℕ) (left : List ℕ) → drop job.next (ms_of s job.item) ≡ pause ∷ left → takes r.book (Worker (worker (slot_in r.slots job.item))) call.Sleep ≡ true
-  has_room_to_sleep pause left parts = room_for s r.book (Worker (worker (slot_in r.slots job.item))) call.Sleep (serve s t (moment_in s r)) h.layout h.room refl (sleeps_roomy pause left parts)
+  pub has_room_to_sleep : (pause : ℕ) (left : List ℕ) → drop job.next (ms_of s job.item) ≡ pause ∷ left → takes r.book (Worker (plan_worker (slot_in r.slots job.item))) call.Sleep ≡ true
+  has_room_to_sleep pause left parts = room_for s r.book (Worker (plan_worker (slot_in r.slots job.item))) call.Sleep (serve s t (moment_in s r)) h.layout h.room refl (sleeps_roomy pause left parts)
 
-  pub has_room_to_end : drop job.next (ms_of s job.item) ≡ [] → takes r.book (Worker (worker (slot_in r.slots job.item))) call.Finish ≡ true
-  has_room_to_end parts = room_for s r.book (Worker (worker (slot_in r.slots job.item))) call.Finish (serve s t (moment_in s r)) h.layout h.room refl (ends_roomy parts)
+  pub has_room_to_end : drop job.next (ms_of s job.item) ≡ [] → takes r.book (Worker (plan_worker (slot_in r.slots job.item))) call.Finish ≡ true
+  has_room_to_end parts = room_for s r.book (Worker (plan_worker (slot_in r.slots job.item))) call.Finish (serve s t (moment_in s r)) h.layout h.room refl (ends_roomy parts)
 
 -- ---- who runs has a number below 8
 
@@ -171,7 +155,7 @@ runs_below s r w n h is =
 pub first_below : (s : Plan) (r : Execution) (job : Running) (js : List Running) → Stands s r → r.cpu.items ≡ job ∷ js → job.item < 8
 first_below s r job js h is =
     let run = subst (AllByRecursion (λ k. IsRunAt (past_in r.book) (slot_in r.slots k.item) k.item false)) (ap (map (job_seen s)) is) h.shows.cpu in
-    runs_below s r (worker (slot_in r.slots job.item)) job.item h run.0.runs
+    runs_below s r (plan_worker (slot_in r.slots job.item)) job.item h run.0.runs
 
 -- ---- (2) a sleeper
 
@@ -187,12 +171,12 @@ seen_due s t i xs o is = over xs ∙ ap (option_map (sleeper_seen s)) (sym is)
         at true h = refl
         at false h = h
 
-seen_others : (s : Plan) (i : ℕ) (xs : List Asleep) → map (sleeper_seen s) (filter (λ (x : Asleep). not (x.item == i)) xs) ≡ filter (is_not i) (map (sleeper_seen s) xs)
+seen_others : (s : Plan) (i : ℕ) (xs : List Asleep) → map (sleeper_seen s) (filter (λ (x : Asleep). not (x.item == i)) xs) ≡ filter (is_other_sleeper i) (map (sleeper_seen s) xs)
 seen_others s i [] = refl
 seen_others s i (x ∷ xs) = at (x.item == i) (seen_others s i xs)
   where
-    at : (b : Bool) → map (sleeper_seen s) (filter (λ (y : Asleep). not (y.item == i)) xs) ≡ filter (is_not i) (map (sleeper_seen s) xs)
-        → map (sleeper_seen s) (cond (not b) (x ∷ filter (λ (y : Asleep). not (y.item == i)) xs) (filter (λ (y : Asleep). not (y.item == i)) xs)) ≡ cond (not b) (sleeper_seen s x ∷ filter (is_not i) (map (sleeper_seen s) xs)) (filter (is_not i) (map (sleeper_seen s) xs))
+    at : (b : Bool) → map (sleeper_seen s) (filter (λ (y : Asleep). not (y.item == i)) xs) ≡ filter (is_other_sleeper i) (map (sleeper_seen s) xs)
+        → map (sleeper_seen s) (cond (not b) (x ∷ filter (λ (y : Asleep). not (y.item == i)) xs) (filter (λ (y : Asleep). not (y.item == i)) xs)) ≡ cond (not b) (sleeper_seen s x ∷ filter (is_other_sleeper i) (map (sleeper_seen s) xs)) (filter (is_other_sleeper i) (map (sleeper_seen s) xs))
     at true h = h
     at false h = ap (λ ys. sleeper_seen s x ∷ ys) h
 
@@ -207,30 +191,30 @@ module _ (s : Plan) (t i : ℕ) (r : Execution) (x : Asleep) (o : Option Asleep)
   its = due_item t i (sleeper_seen s x) (found_passes (is_due t i) (moment_in s r).sleeping (sleeper_seen s x) due)
 
   woke : Entry
-  woke = entry_for (layout_for s) (past_in r.book) (Worker (worker (slot_in r.slots i))) call.Wake
+  woke = entry_for (layout_for s) (past_in r.book) (Worker (plan_worker (slot_in r.slots i))) call.Wake
 
   run_is : IsRunAt (past_in r.book) (slot_in r.slots i) i true
   run_is = sleeper_run (past_in r.book) (slot_in r.slots) i (moment_in s r).sleeping h.shows.sleeping (asleep_there t i (moment_in s r) (sleeper_seen s x) due)
 
   pub sleeper_below : i < 8
-  sleeper_below = runs_below s r (worker (slot_in r.slots i)) i h run_is.runs
+  sleeper_below = runs_below s r (plan_worker (slot_in r.slots i)) i h run_is.runs
 
   parts_of : (left : List ℕ) → drop x.next (ms_of s i) ≡ left → (sleeper_seen s x).left ≡ left
   parts_of left parts = ap (λ k. drop x.next (ms_of s k)) its ∙ parts
 
-  woken_is : (left : List ℕ) → drop x.next (ms_of s i) ≡ left → wake_item s t (moment_in s r) i ≡ after_sleep s t (record (moment_in s r) { sleeping = filter (is_not i) (moment_in s r).sleeping }) i left
+  woken_is : (left : List ℕ) → drop x.next (ms_of s i) ≡ left → wake_item s t (moment_in s r) i ≡ after_sleep s t (record (moment_in s r) { sleeping = filter (is_other_sleeper i) (moment_in s r).sleeping }) i left
   woken_is left parts = ap (wake_sleeper s t (moment_in s r)) due
-      ∙ ap₂ (λ k ms. after_sleep s t (record (moment_in s r) { sleeping = filter (is_not k) (moment_in s r).sleeping }) k ms) its (parts_of left parts)
+      ∙ ap₂ (λ k ms. after_sleep s t (record (moment_in s r) { sleeping = filter (is_other_sleeper k) (moment_in s r).sleeping }) k ms) its (parts_of left parts)
 
-  burns_roomy : (b : ℕ) (left : List ℕ) → drop x.next (ms_of s i) ≡ b ∷ left → IsRoomy s (entry_for (layout_for s) (past_in r.book) (Worker (worker (slot_in r.slots i))) call.Wake ∷ past_in r.book) (wake_item s t (moment_in s r) i)
+  burns_roomy : (b : ℕ) (left : List ℕ) → drop x.next (ms_of s i) ≡ b ∷ left → IsRoomy s (entry_for (layout_for s) (past_in r.book) (Worker (plan_worker (slot_in r.slots i))) call.Wake ∷ past_in r.book) (wake_item s t (moment_in s r) i)
   burns_roomy b left parts = wake_burns_roomy s t i (past_in r.book) (moment_in s r) (slot_in r.slots) (sleeper_seen s x) h.shows h.roomy due b left (parts_of (b ∷ left) parts)
 
   pub wakes : (r2 : Execution) (b : ℕ) → drop x.next (ms_of s i) ≡ b ∷ drop (x.next + 1) (ms_of s i)
-      → r2.book ≡ with_entry r.book (next_entry r.book (Worker (worker (slot_in r.slots i))) call.Wake) → r2.slots ≡ r.slots → r2.cpu.items ≡ r.cpu.items ++ record { item = i; burn = b; next = x.next + 1 } ∷ []
+      → r2.book ≡ with_entry r.book (next_entry r.book (Worker (plan_worker (slot_in r.slots i))) call.Wake) → r2.slots ≡ r.slots → r2.cpu.items ≡ r.cpu.items ++ record { item = i; burn = b; next = x.next + 1 } ∷ []
       → r2.sleeping.items ≡ filter (λ (y : Asleep). not (y.item == i)) r.sleeping.items
       → map event_of r2.lines.items ≡ map event_of r.lines.items ++ record { at = t; kind = kind.WakesBurns; items = i ∷ [] } ∷ [] → StandsAt s r2 (wake_item s t (moment_in s r) i)
   wakes r2 b parts book slots cpu sleeping lines =
-      goes_on s r r2 (Worker (worker (slot_in r.slots i))) call.Wake (wake_item s t (moment_in s r) i) h book slots
+      goes_on s r r2 (Worker (plan_worker (slot_in r.slots i))) call.Wake (wake_item s t (moment_in s r) i) h book slots
       (wake_burns s t i (past_in r.book) (moment_in s r) (slot_in r.slots) (sleeper_seen s x) h.shows due b (drop (x.next + 1) (ms_of s i)) (parts_of (b ∷ drop (x.next + 1) (ms_of s i)) parts))
       (burns_roomy b (drop (x.next + 1) (ms_of s i)) parts)
       (subst (Lists s r2) (sym (woken_is (b ∷ drop (x.next + 1) (ms_of s i)) parts)) (record {
@@ -239,37 +223,37 @@ module _ (s : Plan) (t i : ℕ) (r : Execution) (x : Asleep) (o : Option Asleep)
         lines = lines;
       }))
 
-  pub has_room_to_wake : takes r.book (Worker (worker (slot_in r.slots i))) call.Wake ≡ true
-  has_room_to_wake = room_for s r.book (Worker (worker (slot_in r.slots i))) call.Wake (moment_in s r) h.layout h.room refl (wake_roomy s t i (past_in r.book) (moment_in s r) (slot_in r.slots) (sleeper_seen s x) h.shows h.roomy due)
+  pub has_room_to_wake : takes r.book (Worker (plan_worker (slot_in r.slots i))) call.Wake ≡ true
+  has_room_to_wake = room_for s r.book (Worker (plan_worker (slot_in r.slots i))) call.Wake (moment_in s r) h.layout h.room refl (wake_roomy s t i (past_in r.book) (moment_in s r) (slot_in r.slots) (sleeper_seen s x) h.shows h.roomy due)
 
   -- awake, and then at its end
-  module _ (b : History) (book : b ≡ with_entry r.book (next_entry r.book (Worker (worker (slot_in r.slots i))) call.Wake)) (parts : drop x.next (ms_of s i) ≡ []) where
+  module _ (b : History) (book : b ≡ with_entry r.book (next_entry r.book (Worker (plan_worker (slot_in r.slots i))) call.Wake)) (parts : drop x.next (ms_of s i) ≡ []) where
     awake_layout : b.layout ≡ layout_for s
     awake_layout = ap (λ (k : History). k.layout) book ∙ h.layout
 
-    awake_past : past_in b ≡ entry_for (layout_for s) (past_in r.book) (Worker (worker (slot_in r.slots i))) call.Wake ∷ past_in r.book
-    awake_past = past_after s r.book b (Worker (worker (slot_in r.slots i))) call.Wake h.layout book
+    awake_past : past_in b ≡ entry_for (layout_for s) (past_in r.book) (Worker (plan_worker (slot_in r.slots i))) call.Wake ∷ past_in r.book
+    awake_past = past_after s r.book b (Worker (plan_worker (slot_in r.slots i))) call.Wake h.layout book
 
-    ended_roomy : IsRoomy s (entry_for (layout_for s) (past_in b) (Worker (worker (slot_in r.slots i))) call.Finish ∷ past_in b) (wake_item s t (moment_in s r) i)
-    ended_roomy = subst (λ ps. IsRoomy s (entry_for (layout_for s) ps (Worker (worker (slot_in r.slots i))) call.Finish ∷ ps) (wake_item s t (moment_in s r) i)) (sym awake_past)
+    ended_roomy : IsRoomy s (entry_for (layout_for s) (past_in b) (Worker (plan_worker (slot_in r.slots i))) call.Finish ∷ past_in b) (wake_item s t (moment_in s r) i)
+    ended_roomy = subst (λ ps. IsRoomy s (entry_for (layout_for s) ps (Worker (plan_worker (slot_in r.slots i))) call.Finish ∷ ps) (wake_item s t (moment_in s r) i)) (sym awake_past)
         (wake_ends_roomy s t i (past_in r.book) (moment_in s r) (slot_in r.slots) (sleeper_seen s x) h.shows h.roomy due (parts_of [] parts))
 
-    ended_shown : Shows s (entry_for (layout_for s) (past_in b) (Worker (worker (slot_in r.slots i))) call.Finish ∷ past_in b) (wake_item s t (moment_in s r) i) (slot_in r.slots)
-    ended_shown = subst (λ ps. Shows s (entry_for (layout_for s) ps (Worker (worker (slot_in r.slots i))) call.Finish ∷ ps) (wake_item s t (moment_in s r) i) (slot_in r.slots)) (sym awake_past)
+    ended_shown : Shows s (entry_for (layout_for s) (past_in b) (Worker (plan_worker (slot_in r.slots i))) call.Finish ∷ past_in b) (wake_item s t (moment_in s r) i) (slot_in r.slots)
+    ended_shown = subst (λ ps. Shows s (entry_for (layout_for s) ps (Worker (plan_worker (slot_in r.slots i))) call.Finish ∷ ps) (wake_item s t (moment_in s r) i) (slot_in r.slots)) (sym awake_past)
         (wake_ends s t i (past_in r.book) (moment_in s r) (slot_in r.slots) (sleeper_seen s x) h.shows due (parts_of [] parts))
 
-    pub has_room_to_finish : takes b (Worker (worker (slot_in r.slots i))) call.Finish ≡ true
-    has_room_to_finish = room_for s b (Worker (worker (slot_in r.slots i))) call.Finish (wake_item s t (moment_in s r) i) awake_layout (ap (λ (k : History). k.room) book ∙ h.room) refl ended_roomy
+    pub has_room_to_finish : takes b (Worker (plan_worker (slot_in r.slots i))) call.Finish ≡ true
+    has_room_to_finish = room_for s b (Worker (plan_worker (slot_in r.slots i))) call.Finish (wake_item s t (moment_in s r) i) awake_layout (ap (λ (k : History). k.room) book ∙ h.room) refl ended_roomy
 
-    pub wakes_to_end : (r2 : Execution) → r2.book ≡ with_entry b (next_entry b (Worker (worker (slot_in r.slots i))) call.Finish) → r2.slots ≡ r.slots → r2.cpu.items ≡ r.cpu.items
+    pub wakes_to_end : (r2 : Execution) → r2.book ≡ with_entry b (next_entry b (Worker (plan_worker (slot_in r.slots i))) call.Finish) → r2.slots ≡ r.slots → r2.cpu.items ≡ r.cpu.items
         → r2.sleeping.items ≡ filter (λ (y : Asleep). not (y.item == i)) r.sleeping.items
         → map event_of r2.lines.items ≡ map event_of r.lines.items ++ record { at = t; kind = kind.WakesEnds; items = i ∷ [] } ∷ [] → StandsAt s r2 (wake_item s t (moment_in s r) i)
     wakes_to_end r2 book2 slots cpu sleeping lines =
-        let past2 = past_after s b r2.book (Worker (worker (slot_in r.slots i))) call.Finish awake_layout book2 in
+        let past2 = past_after s b r2.book (Worker (plan_worker (slot_in r.slots i))) call.Finish awake_layout book2 in
         stands_at s r2 (wake_item s t (moment_in s r) i) h.limits (ap (λ (k : History). k.layout) book2 ∙ awake_layout) (ap (λ (k : History). k.room) book2 ∙ ap (λ (k : History). k.room) book ∙ h.room)
-        (subst (λ ps. Shows s ps (wake_item s t (moment_in s r) i) (slot_in r2.slots)) (sym past2) (subst (λ ss. Shows s (entry_for (layout_for s) (past_in b) (Worker (worker (slot_in r.slots i))) call.Finish ∷ past_in b) (wake_item s t (moment_in s r) i) (slot_in ss)) (sym slots) ended_shown))
+        (subst (λ ps. Shows s ps (wake_item s t (moment_in s r) i) (slot_in r2.slots)) (sym past2) (subst (λ ss. Shows s (entry_for (layout_for s) (past_in b) (Worker (plan_worker (slot_in r.slots i))) call.Finish ∷ past_in b) (wake_item s t (moment_in s r) i) (slot_in ss)) (sym slots) ended_shown))
         (subst (λ ps. IsRoomy s ps (wake_item s t (moment_in s r) i)) (sym past2) ended_roomy) (ap length slots ∙ h.slots) (subst (AllByRecursion (λ k. k < 8)) (sym slots) h.seated)
-        (subst (Lists s r2) (sym (woken_is [] parts)) (ready_keeps s r2 (tell t kind.WakesEnds (i ∷ []) (record (moment_in s r) { sleeping = filter (is_not i) (moment_in s r).sleeping })) (find (is_of s (queue_of s i)) (moment_in s r).behind) (record {
+        (subst (Lists s r2) (sym (woken_is [] parts)) (ready_keeps s r2 (tell t kind.WakesEnds (i ∷ []) (record (moment_in s r) { sleeping = filter (is_other_sleeper i) (moment_in s r).sleeping })) (find (is_of_plan_queue s (plan_queue s i)) (moment_in s r).behind) (record {
           cpu = ap (map (job_seen s)) cpu;
           sleeping = ap (map (sleeper_seen s)) sleeping ∙ seen_others s i r.sleeping.items;
           lines = lines;
@@ -286,7 +270,7 @@ other_slots s past m slot seat2 same h = record {
   behind = h.behind;
   cpu = All_map (λ (j : Job). IsRunAt past (slot j.item) j.item false) (λ (j : Job). IsRunAt past (seat2 j.item) j.item false) m.cpu (λ j k. subst (λ x. IsRunAt past x j.item false) (same j.item) k) h.cpu;
   sleeping = All_map (λ (j : Sleeper). IsRunAt past (slot j.item) j.item true) (λ (j : Sleeper). IsRunAt past (seat2 j.item) j.item true) m.sleeping (λ j k. subst (λ x. IsRunAt past x j.item true) (same j.item) k) h.sleeping;
-  no_others = λ w n is. let k = h.no_others w n is in (k.0 ∙ ap worker (same n), k.1);
+  no_others = λ w n is. let k = h.no_others w n is in (k.0 ∙ ap plan_worker (same n), k.1);
   once = h.once;
   widths = h.widths;
   wide = h.wide;
@@ -312,7 +296,7 @@ module _ (s : Plan) (r : Execution) (x n : ℕ) (h : Stands s r) (t : IsTaker r.
   pub taker_is : IsTaker (layout_for s) (past_in r.book) x n
   taker_is = subst (λ l. IsTaker l (past_in r.book) x n) h.layout t
 
-  start_shown : Shows s (entry_for (layout_for s) (past_in r.book) (Worker (worker x)) call.Take ∷ past_in r.book) (started_one s (moment_in s r) n) (slot_with (slot_in r.slots) n x)
+  start_shown : Shows s (entry_for (layout_for s) (past_in r.book) (Worker (plan_worker x)) call.Take ∷ past_in r.book) (started_one s (moment_in s r) n) (slot_with (slot_in r.slots) n x)
   start_shown =
       let k = taker_starts s (past_in r.book) (moment_in s r) (slot_in r.slots) x n h.shows taker_is in
       let may = may_start s (moment_in s r) n k.1 in
@@ -321,9 +305,9 @@ module _ (s : Plan) (r : Execution) (x n : ℕ) (h : Stands s r) (t : IsTaker r.
   pub starts_there : n < length s.items
   starts_there =
       let k = start_shown in
-      let run = job_run (entry_for (layout_for s) (past_in r.book) (Worker (worker x)) call.Take ∷ past_in r.book) (slot_with (slot_in r.slots) n x) n ((moment_in s r).cpu ++ job_of s n ∷ []) k.cpu
+      let run = job_run (entry_for (layout_for s) (past_in r.book) (Worker (plan_worker x)) call.Take ∷ past_in r.book) (slot_with (slot_in r.slots) n x) n ((moment_in s r).cpu ++ job_of s n ∷ []) k.cpu
       (last_any (is_job n) (moment_in s r).cpu (job_of s n) true (eq-eqb (job_of s n).item n (job_item n (ms_of s n))) ∙ either (list_any (is_job n) (moment_in s r).cpu)) in
-      runs_there s (entry_for (layout_for s) (past_in r.book) (Worker (worker x)) call.Take ∷ past_in r.book) (started_one s (moment_in s r) n) (slot_with (slot_in r.slots) n x) (worker (slot_with (slot_in r.slots) n x n)) n k run.runs
+      runs_there s (entry_for (layout_for s) (past_in r.book) (Worker (plan_worker x)) call.Take ∷ past_in r.book) (started_one s (moment_in s r) n) (slot_with (slot_in r.slots) n x) (plan_worker (slot_with (slot_in r.slots) n x n)) n k run.runs
     where
       either : (b : Bool) → (b || true) ≡ true
       either true = refl
@@ -332,11 +316,11 @@ module _ (s : Plan) (r : Execution) (x n : ℕ) (h : Stands s r) (t : IsTaker r.
   pub starts_below : n < 8
   starts_below = let a = starts_there in let b = h.limits.few_items in omega arith
 
-  one_roomy : IsRoomy s (entry_for (layout_for s) (past_in r.book) (Worker (worker x)) call.Take ∷ past_in r.book) (started_one s (moment_in s r) n)
+  one_roomy : IsRoomy s (entry_for (layout_for s) (past_in r.book) (Worker (plan_worker x)) call.Take ∷ past_in r.book) (started_one s (moment_in s r) n)
   one_roomy = start_roomy s (past_in r.book) (moment_in s r) (slot_in r.slots) x n h.shows h.roomy taker_is
 
-  pub has_room_to_take : takes r.book (Worker (worker x)) call.Take ≡ true
-  has_room_to_take = room_for s r.book (Worker (worker x)) call.Take (started_one s (moment_in s r) n) h.layout h.room refl one_roomy
+  pub has_room_to_take : takes r.book (Worker (plan_worker x)) call.Take ≡ true
+  has_room_to_take = room_for s r.book (Worker (plan_worker x)) call.Take (started_one s (moment_in s r) n) h.layout h.room refl one_roomy
 
   pub some_part : drop 0 (ms_of s n) ≡ [] → ⊥
   some_part none =
@@ -345,16 +329,16 @@ module _ (s : Plan) (r : Execution) (x n : ℕ) (h : Stands s r) (t : IsTaker r.
       let e = ap length none in
       omega arith
 
-  pub starts : (r2 : Execution) (b : ℕ) → drop 0 (ms_of s n) ≡ b ∷ drop 1 (ms_of s n) → r2.book ≡ with_entry r.book (next_entry r.book (Worker (worker x)) call.Take) → r2.slots ≡ set r.slots n x
+  pub starts : (r2 : Execution) (b : ℕ) → drop 0 (ms_of s n) ≡ b ∷ drop 1 (ms_of s n) → r2.book ≡ with_entry r.book (next_entry r.book (Worker (plan_worker x)) call.Take) → r2.slots ≡ set r.slots n x
       → r2.cpu.items ≡ r.cpu.items ++ record { item = n; burn = b; next = 1 } ∷ [] → r2.sleeping.items ≡ r.sleeping.items → map event_of r2.lines.items ≡ map event_of r.lines.items
       → StandsAt s r2 (started_one s (moment_in s r) n)
   starts r2 b parts book slots cpu sleeping lines =
-      let past = past_after s r.book r2.book (Worker (worker x)) call.Take h.layout book in
+      let past = past_after s r.book r2.book (Worker (plan_worker x)) call.Take h.layout book in
       let below = starts_below in
       let eight = h.slots in
       stands_at s r2 (started_one s (moment_in s r) n) h.limits (ap (λ (k : History). k.layout) book ∙ h.layout) (ap (λ (k : History). k.room) book ∙ h.room)
       (subst (λ ps. Shows s ps (started_one s (moment_in s r) n) (slot_in r2.slots)) (sym past)
-      (other_slots s (entry_for (layout_for s) (past_in r.book) (Worker (worker x)) call.Take ∷ past_in r.book) (started_one s (moment_in s r) n) (slot_with (slot_in r.slots) n x) (slot_in r2.slots)
+      (other_slots s (entry_for (layout_for s) (past_in r.book) (Worker (plan_worker x)) call.Take ∷ past_in r.book) (started_one s (moment_in s r) n) (slot_with (slot_in r.slots) n x) (slot_in r2.slots)
       (λ i. slots_set r.slots n x (omega arith) i ∙ ap (λ ss. slot_in ss i) (sym slots)) start_shown))
       (subst (λ ps. IsRoomy s ps (started_one s (moment_in s r) n)) (sym past) one_roomy)
       (ap length slots ∙ length-set r.slots n x ∙ h.slots) (subst (AllByRecursion (λ k. k < 8)) (sym slots) (seated_set r.slots n x t.below h.seated))
@@ -370,7 +354,7 @@ pub one_more : (f : Moment → ℕ → Moment) (m : Moment) (k : ℕ) → fold f
 one_more f m k = ap (λ n. fold f m (range_with_len 0 n)) (add-one k) ∙ ap (fold f m) (range_more 0 k) ∙ fold-append f m (range_with_len 0 k) ((0 + k) ∷ []) ∙ ap (f (fold f m (range_with_len 0 k))) (omega arith)
 
 -- a take for which there is no room starts nothing
-pub none_taken : (s : Plan) (r : Execution) (x : ℕ) → Stands s r → x < 8 → takes r.book (Worker (worker x)) call.Take ≡ false → taken_by r.book.layout (past_in r.book) x ≡ None
+pub none_taken : (s : Plan) (r : Execution) (x : ℕ) → Stands s r → x < 8 → takes r.book (Worker (plan_worker x)) call.Take ≡ false → taken_by r.book.layout (past_in r.book) x ≡ None
 none_taken s r x h less full = at (taken_by r.book.layout (past_in r.book) x) refl
   where
     no : true ≡ false → ⊥
@@ -383,7 +367,7 @@ none_taken s r x h less full = at (taken_by r.book.layout (past_in r.book) x) re
 -- these have started, and with what would start then they are all that starts
 pub record HaveStarted (s : Plan) (m : Moment) (r : Execution) (is : List ℕ) : Type 0 where
   pub at : StandsAt s r (taken s m is)
-  pub all : starting s m.cpu m.ready ≡ is ++ starting s (taken s m is).cpu (taken s m is).ready
+  pub all : starting_items s m.cpu m.ready ≡ is ++ starting_items s (taken s m is).cpu (taken s m is).ready
   pub lines : map event_of r.lines.items ≡ m.lines
 
 pub started_on : (s : Plan) (m : Moment) (r r2 : Execution) (is : List ℕ) (x n : ℕ) → HaveStarted s m r is → IsTaker r.book.layout (past_in r.book) x n → StandsAt s r2 (started_one s (moment_in s r) n) → HaveStarted s m r2 (is ++ n ∷ [])
@@ -412,22 +396,16 @@ pub record QueuedSoFar (s : Plan) (b : History) (k : ℕ) : Type 0 where
   pub layout : b.layout ≡ layout_for s
   pub room : b.room ≡ 1000
   pub shows : ShowsQueued s k (past_in b) (fold (queue_item s) empty (range_with_len 0 k))
-  pub roomy : needed (layout_for s) (past_in b) + 2 * parts_left s (fold (queue_item s) empty (range_with_len 0 k)) ≤ 19 * k
-
-pub queued_fits : (s : Plan) (b : History) (k : ℕ) → QueuedSoFar s b k → k < 8 → queue_of s k < length s.queues → fits b.layout caller (queue_call s k) ≡ true
-queued_fits s b k h less there = ap (λ l. fits l caller (queue_call s k)) h.layout ∙ ap₂ (λ x y. x && y && true) (lt-ltb k 8 less) (lt-ltb (queue_of s k) (length (map queue_shape s.queues)) (subst (λ n. queue_of s k < n) (sym (length-map s.queues queue_shape)) there))
+  pub roomy : room_needed (layout_for s) (past_in b) + 2 * parts_left s (fold (queue_item s) empty (range_with_len 0 k)) ≤ 19 * k
 
 module _ (s : Plan) (b : History) (k : ℕ) (limits : IsWithinLimits s) (h : QueuedSoFar s b k) (less : k < length s.items) where
   few : k < 8
   few = let a = limits.few_items in omega arith
 
-  pub queue_there : queue_of s k < length s.queues
+  pub queue_there : plan_queue s k < length s.queues
   queue_there = (all_at (IsItem (length s.queues)) s.items k no_item limits.items less).queue
 
-  pub queueing_fits : fits b.layout caller (queue_call s k) ≡ true
-  queueing_fits = queued_fits s b k h few queue_there
-
-  next_roomy : needed (layout_for s) (entry_for (layout_for s) (past_in b) caller (queue_call s k) ∷ past_in b) + 2 * parts_left s (queue_item s (fold (queue_item s) empty (range_with_len 0 k)) k) ≤ 19 * (k + 1)
+  next_roomy : room_needed (layout_for s) (entry_for (layout_for s) (past_in b) caller (queue_call s k) ∷ past_in b) + 2 * parts_left s (queue_item s (fold (queue_item s) empty (range_with_len 0 k)) k) ≤ 19 * (k + 1)
   next_roomy = queue_roomy s k (past_in b) (fold (queue_item s) empty (range_with_len 0 k)) h.shows limits less few queue_there h.roomy
 
   pub has_room_to_queue : takes b caller (queue_call s k) ≡ true
@@ -441,8 +419,8 @@ module _ (s : Plan) (b : History) (k : ℕ) (limits : IsWithinLimits s) (h : Que
         room = ap (λ (x : History). x.room) is ∙ h.room;
         shows = subst (λ m. ShowsQueued s (k + 1) (past_in b2) m) (sym (one_more (queue_item s) empty k)) (subst (λ n. ShowsQueued s n (past_in b2) (queue_item s (fold (queue_item s) empty (range_with_len 0 k)) k)) (sym (add-one k))
             (subst (λ ps. ShowsQueued s (suc k) ps (queue_item s (fold (queue_item s) empty (range_with_len 0 k)) k)) (sym past) (queue_shown s k (past_in b) (fold (queue_item s) empty (range_with_len 0 k)) h.shows few queue_there)));
-        roomy = subst (λ m. needed (layout_for s) (past_in b2) + 2 * parts_left s m ≤ 19 * (k + 1)) (sym (one_more (queue_item s) empty k))
-            (subst (λ ps. needed (layout_for s) ps + 2 * parts_left s (queue_item s (fold (queue_item s) empty (range_with_len 0 k)) k) ≤ 19 * (k + 1)) (sym past) next_roomy);
+        roomy = subst (λ m. room_needed (layout_for s) (past_in b2) + 2 * parts_left s m ≤ 19 * (k + 1)) (sym (one_more (queue_item s) empty k))
+            (subst (λ ps. room_needed (layout_for s) ps + 2 * parts_left s (queue_item s (fold (queue_item s) empty (range_with_len 0 k)) k) ≤ 19 * (k + 1)) (sym past) next_roomy);
       }
 
 pub none_yet : (s : Plan) (b : History) → b ≡ record { layout = layout_for s; room = 1000; entries = [] } → QueuedSoFar s b 0
@@ -453,8 +431,8 @@ none_yet s b is = subst (λ x. QueuedSoFar s x 0) (sym is) (record {
   roomy = let a = needs_nothing_at_first s in omega arith;
 })
 
-pub queued_shown : (s : Plan) (b : History) → IsWithinLimits s → QueuedSoFar s b (length s.items) → (slot : ℕ → ℕ) → Shows s (past_in b) (queued s) slot
-queued_shown s b limits h slot = all_shown s (past_in b) (queued s) slot limits.few_items h.shows
+pub queued_shown : (s : Plan) (b : History) → IsWithinLimits s → QueuedSoFar s b (length s.items) → (slot : ℕ → ℕ) → Shows s (past_in b) (queued_at_first s) slot
+queued_shown s b limits h slot = all_shown s (past_in b) (queued_at_first s) slot limits.few_items h.shows
 
 told : (s : Plan) (t : ℕ) (past : List Entry) (m : Moment) (slot : ℕ → ℕ) (is : List ℕ) → Shows s past m slot → Shows s past (tell_starts t is m) slot
 told s t past m slot [] h = h
@@ -527,9 +505,9 @@ burns s r r2 h book sleeping slots lines less =
 
 queue_keeps : (s : Plan) (m : Moment) (is : List ℕ) → ((fold (queue_item s) m is).cpu ≡ m.cpu) × ((fold (queue_item s) m is).sleeping ≡ m.sleeping) × ((fold (queue_item s) m is).lines ≡ m.lines)
 queue_keeps s m [] = (refl, refl, refl)
-queue_keeps s m (i ∷ is) = let k = queue_keeps s (queue_item s m i) is in at (nat_lt (count_by (is_of s (queue_of s i)) (m.ready ++ m.behind)) (max_active s (queue_of s i))) refl k
+queue_keeps s m (i ∷ is) = let k = queue_keeps s (queue_item s m i) is in at (nat_lt (count_by (is_of_plan_queue s (plan_queue s i)) (m.ready ++ m.behind)) (plan_width s (plan_queue s i))) refl k
   where
-    at : (b : Bool) → nat_lt (count_by (is_of s (queue_of s i)) (m.ready ++ m.behind)) (max_active s (queue_of s i)) ≡ b
+    at : (b : Bool) → nat_lt (count_by (is_of_plan_queue s (plan_queue s i)) (m.ready ++ m.behind)) (plan_width s (plan_queue s i)) ≡ b
         → ((fold (queue_item s) (queue_item s m i) is).cpu ≡ (queue_item s m i).cpu) × ((fold (queue_item s) (queue_item s m i) is).sleeping ≡ (queue_item s m i).sleeping) × ((fold (queue_item s) (queue_item s m i) is).lines ≡ (queue_item s m i).lines)
         → ((fold (queue_item s) (queue_item s m i) is).cpu ≡ m.cpu) × ((fold (queue_item s) (queue_item s m i) is).sleeping ≡ m.sleeping) × ((fold (queue_item s) (queue_item s m i) is).lines ≡ m.lines)
     at b is k =
@@ -541,11 +519,11 @@ queue_keeps s m (i ∷ is) = let k = queue_keeps s (queue_item s m i) is in at (
         one true = (refl, refl, refl)
         one false = (refl, refl, refl)
 
-pub outset : (s : Plan) (r : Execution) → IsWithinLimits s → r.book.layout ≡ layout_for s → r.book.room ≡ 1000 → Shows s (past_in r.book) (queued s) (slot_in r.slots) → IsRoomy s (past_in r.book) (queued s)
-    → r.slots ≡ 0 ∷ 0 ∷ 0 ∷ 0 ∷ 0 ∷ 0 ∷ 0 ∷ 0 ∷ [] → r.cpu.items ≡ [] → r.sleeping.items ≡ [] → r.lines.items ≡ [] → StandsAt s r (queued s)
+pub outset : (s : Plan) (r : Execution) → IsWithinLimits s → r.book.layout ≡ layout_for s → r.book.room ≡ 1000 → Shows s (past_in r.book) (queued_at_first s) (slot_in r.slots) → IsRoomy s (past_in r.book) (queued_at_first s)
+    → r.slots ≡ 0 ∷ 0 ∷ 0 ∷ 0 ∷ 0 ∷ 0 ∷ 0 ∷ 0 ∷ [] → r.cpu.items ≡ [] → r.sleeping.items ≡ [] → r.lines.items ≡ [] → StandsAt s r (queued_at_first s)
 outset s r limits layout room shows roomy slots cpu sleeping lines =
     let k = queue_keeps s empty (range_with_len 0 (length s.items)) in
-    stands_at s r (queued s) limits layout room shows roomy (ap length slots) (subst (AllByRecursion (λ x. x < 8)) (sym slots) (omega arith, (omega arith, (omega arith, (omega arith, (omega arith, (omega arith, (omega arith, (omega arith, tt)))))))))
+    stands_at s r (queued_at_first s) limits layout room shows roomy (ap length slots) (subst (AllByRecursion (λ x. x < 8)) (sym slots) (omega arith, (omega arith, (omega arith, (omega arith, (omega arith, (omega arith, (omega arith, (omega arith, tt)))))))))
     (record { cpu = ap (map (job_seen s)) cpu ∙ sym k.0; sleeping = ap (map (sleeper_seen s)) sleeping ∙ sym k.1; lines = ap (map event_of) lines ∙ sym k.2 })
 
 -- ---- a millisecond
@@ -554,25 +532,25 @@ pub begins_after : (s : Plan) → IsWithinLimits s → (n : ℕ) → Begins s n 
 begins_after s fine zero = begins s fine
 begins_after s fine (suc n) =
     let k = passes s n (moment_after s n) fine (begins_after s fine n) in
-    subst (λ j. Begins s j (moment_after s j)) (add-one n) (subst (Begins s (n + 1)) (sym (one_more (millisecond s) (queued s) n)) k.0)
+    subst (λ j. Begins s j (moment_after s j)) (add-one n) (subst (Begins s (n + 1)) (sym (one_more (millisecond s) (queued_at_first s) n)) k.0)
 
 burning : (s : Plan) (xs : List Running) → AllByRecursion (IsRunning s) (map (job_seen s) xs) → AllByRecursion (λ (j : Running). 1 ≤ j.burn) xs
 burning s [] all = tt
 burning s (x ∷ xs) all = (all.0.burns, burning s xs all.1)
 
-pub still_burning : (s : Plan) (t : ℕ) (r : Execution) (m : Moment) → IsWithinLimits s → m ≡ moment_after s t → StandsAt s r (start s t (wake s t (serve s t m))) → AllByRecursion (λ (j : Running). 1 ≤ j.burn) r.cpu.items
+pub still_burning : (s : Plan) (t : ℕ) (r : Execution) (m : Moment) → IsWithinLimits s → m ≡ moment_after s t → StandsAt s r (start s t (wake_sleepers s t (serve s t m))) → AllByRecursion (λ (j : Running). 1 ≤ j.burn) r.cpu.items
 still_burning s t r m fine is h =
     let b = subst (Begins s t) (sym is) (begins_after s fine t) in
-    let k = started s t (rest s t m) (wake s t (serve s t m)) fine (awake s t (rest s t m) (serve s t m) (served s t m b.sound b.first)) in
+    let k = started s t (rest s t m) (wake_sleepers s t (serve s t m)) fine (awake s t (rest s t m) (serve s t m) (served s t m b.sound b.first)) in
     burning s r.cpu.items (subst (λ (m2 : Moment). AllByRecursion (IsRunning s) m2.cpu) (sym h.moment) k.awake.goes.cpu)
 
-pub all_phases : (s : Plan) (t : ℕ) (r0 r1 r2 r3 r4 : Execution) → moment_in s r0 ≡ moment_after s t → StandsAt s r1 (serve s t (moment_in s r0)) → StandsAt s r2 (wake s t (moment_in s r1)) → StandsAt s r3 (start s t (moment_in s r2)) → StandsAt s r4 (burn (moment_in s r3))
+pub all_phases : (s : Plan) (t : ℕ) (r0 r1 r2 r3 r4 : Execution) → moment_in s r0 ≡ moment_after s t → StandsAt s r1 (serve s t (moment_in s r0)) → StandsAt s r2 (wake_sleepers s t (moment_in s r1)) → StandsAt s r3 (start s t (moment_in s r2)) → StandsAt s r4 (burn (moment_in s r3))
     → StandsAt s r4 (moment_after s (t + 1))
 all_phases s t r0 r1 r2 r3 r4 is a b c d =
-    subst (StandsAt s r4) (ap burn (c.moment ∙ ap (start s t) (b.moment ∙ ap (wake s t) a.moment)) ∙ ap (λ m. millisecond s m t) is ∙ sym (one_more (millisecond s) (queued s) t)) d
+    subst (StandsAt s r4) (ap burn (c.moment ∙ ap (start s t) (b.moment ∙ ap (wake_sleepers s t) a.moment)) ∙ ap (λ m. millisecond s m t) is ∙ sym (one_more (millisecond s) (queued_at_first s) t)) d
 
-pub after_start : (s : Plan) (t : ℕ) (r0 r1 r2 r3 : Execution) → StandsAt s r1 (serve s t (moment_in s r0)) → StandsAt s r2 (wake s t (moment_in s r1)) → StandsAt s r3 (start s t (moment_in s r2)) → StandsAt s r3 (start s t (wake s t (serve s t (moment_in s r0))))
-after_start s t r0 r1 r2 r3 a b c = subst (StandsAt s r3) (ap (start s t) (b.moment ∙ ap (wake s t) a.moment)) c
+pub after_start : (s : Plan) (t : ℕ) (r0 r1 r2 r3 : Execution) → StandsAt s r1 (serve s t (moment_in s r0)) → StandsAt s r2 (wake_sleepers s t (moment_in s r1)) → StandsAt s r3 (start s t (moment_in s r2)) → StandsAt s r3 (start s t (wake_sleepers s t (serve s t (moment_in s r0))))
+after_start s t r0 r1 r2 r3 a b c = subst (StandsAt s r3) (ap (start s t) (b.moment ∙ ap (wake_sleepers s t) a.moment)) c
 
 pub as_many : (xs ys : List Running) → LessFirst xs ys → length ys ≡ length xs
 as_many [] ys h = ap length h

@@ -1,32 +1,14 @@
 -- What the end of a run makes ready.
-use Rattle.std.proofs.Common.{◌≡◌, ◌==◌, ◌≤◌, ◌-◌, ℕ, zero, suc, Bool, true, false, cond, not, ◌&&◌, List, [], ◌∷◌, ◌++◌, map, filter, find, count_by, Option, Some, None, nat_lt, refl, sym, ap, ap₂, ◌∙◌, subst, arith, ⊎_elim, option_to_list, append-nil}
-use Rattle.std.specs.Prelude.{option_map, option_and_then, if◌then◌else◌, slice_get}
-use Rattle.std.specs.Option.{option_or}
-use Rattle.std.specs.List.{AllByRecursion}
-use Rattle.std.proofs.lemmas.Bool.Decides.{nat_tests}
-use Rattle.std.proofs.lemmas.Option.{same_Some}
+use Rattle.cmwq_sim.specs.Common.{◌≡◌, ◌==◌, ◌≤◌, ◌-◌, ℕ, zero, suc, Bool, true, false, cond, not, ◌&&◌, List, [], ◌∷◌, ◌++◌, map, filter, find, count_by, Option, Some, None, nat_lt, refl, sym, ap, ap₂, ◌∙◌, subst, arith, ⊎_elim, option_to_list, append-nil, option_map, option_and_then, if◌then◌else◌, slice_get, option_or, AllByRecursion, nat_tests, same_Some, Entry, Queueing, Layout, first_width, item_of, number_finished, number_cancelled, queueings, still_open, is_live, opening, opens, queued_at, place_wanted, width, is_active, is_ahead, is_below_max_active, newly_active, IsLegal, is_ended, ending, number_replaced, HasFirstWidths, keeps_widths, waits, behind_width, is_below_max_active_at_once, All_each, All_both, active_live, run_is_active, newly_active_are, In, found, in_filter}
 use Rattle.cmwq_model.specs.declared.reply.Reply.TheVariants as reply
-use Rattle.cmwq_model.specs.declared.entry.Entry.{Entry}
-use Rattle.cmwq_model.specs.declared.record.Queueing.{Queueing}
-use Rattle.cmwq_model.specs.Prelude.{Layout, first_width, item_of, number_finished, number_cancelled, queueings, still_open, is_live, opening, opens, queued_at, place_wanted}
-use Rattle.cmwq_model.specs.Prelude.{width, is_active, is_ahead, is_below_max_active, newly_active, IsLegal}
-use Rattle.cmwq_theory_steps.specs.Endings.{is_ended, ending, number_replaced}
 use Rattle.cmwq_theory_steps.specs.Places.{is_on, open_on}
-use Rattle.cmwq_theory_laws.specs.FirstWidths.{HasFirstWidths}
-use Rattle.cmwq_theory_active.specs.Looks.{keeps_widths}
-use Rattle.cmwq_theory_steps.specs.Activations.{waits, behind_width, is_below_max_active_at_once}
-use Rattle.cmwq_theory_active.proofs.Lists.{All_each, All_both}
 use Rattle.cmwq_theory_steps.proofs.Ranks.{is_below, Ranked}
 use Rattle.cmwq_theory_steps.proofs.Active.{ways, open_ranked, on_each}
-use Rattle.cmwq_theory_active.proofs.Joined.{active_live}
 use Rattle.cmwq_theory_laws.proofs.AsBefore.{active_as_before}
 use Rattle.cmwq_theory_steps.proofs.Ended.{ends_which}
-use Rattle.cmwq_theory_steps.proofs.RunsActive.{run_is_active}
-use Rattle.cmwq_theory_steps.proofs.NewlyActive.{newly_active_are}
-use Rattle.cmwq_refinement.proofs.Members.{In, found, in_filter}
-use Rattle.cmwq_sim.specs.Plan.{Plan, queue_of, is_of}
-use Rattle.cmwq_sim.specs.Lines.{Moment, items_of}
-use Rattle.cmwq_sim.specs.Shows.{layout_for, worker, queueing_for, IsRunAt, Shows}
+use Rattle.cmwq_sim.specs.Plan.{Plan, plan_queue, is_of_plan_queue}
+use Rattle.cmwq_sim.specs.Lines.{Moment, plan_items}
+use Rattle.cmwq_sim.specs.Shows.{layout_for, plan_worker, queueing_for, IsRunAt, Shows}
 use Rattle.cmwq_sim.proofs.TakeReads.{run_found}
 
 -- of a list whose first w pass, the one just behind them is the first that doesn't
@@ -62,7 +44,7 @@ active_way : (s : Layout) (past : List Entry) (x : Queueing) → HasFirstWidths 
 active_way s past x old wide live = active_as_before s past x old ∙ ap₂ (λ l w. l && nat_lt (count_by (is_ahead x) (still_open past)) w) live (sym (wide x.place.queue.0))
 
 first_waiting : (s : Plan) (past : List Entry) (i : ℕ) → HasFirstWidths (layout_for s) past → ((q : ℕ) → width (layout_for s) past q ≡ first_width (layout_for s) q) → is_below_max_active (layout_for s) past (queueing_for s i) ≡ true
-    → filter (waits (layout_for s) past) (option_to_list (behind_width (layout_for s) past (Some (queueing_for s i)))) ≡ option_to_list (find (is_on (queue_of s i) 0) (filter (waits (layout_for s) past) (still_open past)))
+    → filter (waits (layout_for s) past) (option_to_list (behind_width (layout_for s) past (Some (queueing_for s i)))) ≡ option_to_list (find (is_on (plan_queue s i) 0) (filter (waits (layout_for s) past) (still_open past)))
 first_waiting s past i old wide way =
     ap (λ b. filter (waits (layout_for s) past) (option_to_list (if b then slice_get (open_on past q 0) w else None))) way
     ∙ ap (λ n. filter (waits (layout_for s) past) (option_to_list (slice_get (open_on past q 0) n))) (sym none)
@@ -70,18 +52,18 @@ first_waiting s past i old wide way =
     ∙ ap option_to_list (find_turned (waits (layout_for s) past) (is_on q 0) (still_open past))
   where
     q : ℕ
-    q = queue_of s i
+    q = plan_queue s i
 
     w : ℕ
-    w = width (layout_for s) past (queue_of s i)
+    w = width (layout_for s) past (plan_queue s i)
 
-    none : width (layout_for s) past (queue_of s i) - 0 ≡ width (layout_for s) past (queue_of s i)
+    none : width (layout_for s) past (plan_queue s i) - 0 ≡ width (layout_for s) past (plan_queue s i)
     none = omega arith
 
-    each : AllByRecursion (λ x. is_active (layout_for s) past x ≡ nat_lt (count_by (is_below x) (open_on past (queue_of s i) 0)) (width (layout_for s) past (queue_of s i))) (open_on past (queue_of s i) 0)
-    each = All_both (λ x. is_active (layout_for s) past x ≡ is_below_max_active (layout_for s) past x) (λ x. is_below_max_active (layout_for s) past x ≡ nat_lt (count_by (is_below x) (open_on past (queue_of s i) 0)) (width (layout_for s) past (queue_of s i))) _ (open_on past (queue_of s i) 0) (λ x a b. a ∙ b)
-        (on_each (λ x. is_active (layout_for s) past x ≡ is_below_max_active (layout_for s) past x) past (queue_of s i) 0 (All_each _ (queueings past) (λ x live on. active_way (layout_for s) past x old wide live)))
-        (ways (layout_for s) past (queue_of s i) 0)
+    each : AllByRecursion (λ x. is_active (layout_for s) past x ≡ nat_lt (count_by (is_below x) (open_on past (plan_queue s i) 0)) (width (layout_for s) past (plan_queue s i))) (open_on past (plan_queue s i) 0)
+    each = All_both (λ x. is_active (layout_for s) past x ≡ is_below_max_active (layout_for s) past x) (λ x. is_below_max_active (layout_for s) past x ≡ nat_lt (count_by (is_below x) (open_on past (plan_queue s i) 0)) (width (layout_for s) past (plan_queue s i))) _ (open_on past (plan_queue s i) 0) (λ x a b. a ∙ b)
+        (on_each (λ x. is_active (layout_for s) past x ≡ is_below_max_active (layout_for s) past x) past (plan_queue s i) 0 (All_each _ (queueings past) (λ x live on. active_way (layout_for s) past x old wide live)))
+        (ways (layout_for s) past (plan_queue s i) 0)
 
 -- ---- what a finish makes ready is the first of the queue that is behind
 
@@ -101,30 +83,30 @@ ends_run s past m slot e i h legal is = at (ending past e) refl
     at (Some y) some number =
         let there = in_filter (is_live past) (queueings past) y (found (is_ended past e) (still_open past) y some).0 in
         let n : y.number ≡ i = same_Some y.number i (sym (ap (option_map (λ (x : Queueing). x.number)) some) ∙ number) in
-        some ∙ ap Some (mapped s y (items_of s) (subst (In y) h.queued there.0) ∙ ap (queueing_for s) n)
+        some ∙ ap Some (mapped s y (plan_items s) (subst (In y) h.queued there.0) ∙ ap (queueing_for s) n)
 
-find_mapped : (s : Plan) (q : ℕ) (xs : List ℕ) → find (is_on q 0) (map (queueing_for s) xs) ≡ option_map (queueing_for s) (find (is_of s q) xs)
+find_mapped : (s : Plan) (q : ℕ) (xs : List ℕ) → find (is_on q 0) (map (queueing_for s) xs) ≡ option_map (queueing_for s) (find (is_of_plan_queue s q) xs)
 find_mapped s q [] = refl
-find_mapped s q (x ∷ xs) = at (queue_of s x == q) (find_mapped s q xs)
+find_mapped s q (x ∷ xs) = at (plan_queue s x == q) (find_mapped s q xs)
   where
-    at : (b : Bool) → find (is_on q 0) (map (queueing_for s) xs) ≡ option_map (queueing_for s) (find (is_of s q) xs) → cond (b && true) (Some (queueing_for s x)) (find (is_on q 0) (map (queueing_for s) xs)) ≡ option_map (queueing_for s) (cond b (Some x) (find (is_of s q) xs))
+    at : (b : Bool) → find (is_on q 0) (map (queueing_for s) xs) ≡ option_map (queueing_for s) (find (is_of_plan_queue s q) xs) → cond (b && true) (Some (queueing_for s x)) (find (is_on q 0) (map (queueing_for s) xs)) ≡ option_map (queueing_for s) (cond b (Some x) (find (is_of_plan_queue s q) xs))
     at true h = refl
     at false h = h
 
 pub finish_makes_ready : (s : Plan) (past : List Entry) (m : Moment) (slot : ℕ → ℕ) (e : Entry) (x i : ℕ) → Shows s past m slot → HasFirstWidths (layout_for s) past → ((q : ℕ) → width (layout_for s) past q ≡ first_width (layout_for s) q)
     → IsLegal (layout_for s) (e ∷ past) → e.reply ≡ reply.Finished i → IsRunAt past x i false
-    → newly_active (layout_for s) past e ≡ option_to_list (option_map (queueing_for s) (find (is_of s (queue_of s i)) m.behind))
+    → newly_active (layout_for s) past e ≡ option_to_list (option_map (queueing_for s) (find (is_of_plan_queue s (plan_queue s i)) m.behind))
 finish_makes_ready s past m slot e x i h old wide legal is r =
     newly_active_are (layout_for s) past e legal (ap keeps_widths is)
     ∙ ap₂ (λ a b. filter (waits (layout_for s) past) (option_to_list (behind_width (layout_for s) past a)) ++ filter (is_below_max_active_at_once (layout_for s) past e) (option_to_list b)) (ends_run s past m slot e i h legal is) opened
-    ∙ append-nil _ ∙ first_waiting s past i old wide way ∙ ap (λ xs. option_to_list (find (is_on (queue_of s i) 0) xs)) h.behind ∙ ap option_to_list (find_mapped s (queue_of s i) m.behind)
+    ∙ append-nil _ ∙ first_waiting s past i old wide way ∙ ap (λ xs. option_to_list (find (is_on (plan_queue s i) 0) xs)) h.behind ∙ ap option_to_list (find_mapped s (plan_queue s i) m.behind)
   where
     opened : opening past e ≡ None
     opened = ap (λ r. if opens r then option_and_then (λ j. option_map (queued_at past j) (place_wanted past e.call j)) (item_of e) else None) is
 
     way : is_below_max_active (layout_for s) past (queueing_for s i) ≡ true
     way =
-        let k = run_is_active (layout_for s) past (worker x) i h.legal r.runs in
-        let same : k.queueing ≡ queueing_for s i = same_Some k.queueing (queueing_for s i) (sym k.found ∙ run_found s past m slot (worker x) i h r.runs) in
+        let k = run_is_active (layout_for s) past (plan_worker x) i h.legal r.runs in
+        let same : k.queueing ≡ queueing_for s i = same_Some k.queueing (queueing_for s i) (sym k.found ∙ run_found s past m slot (plan_worker x) i h r.runs) in
         let active : is_active (layout_for s) past (queueing_for s i) ≡ true = subst (λ y. is_active (layout_for s) past y ≡ true) same k.active in
         sym (active_way (layout_for s) past (queueing_for s i) old wide (active_live (layout_for s) past (queueing_for s i) active)) ∙ active

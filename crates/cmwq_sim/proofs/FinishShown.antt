@@ -1,48 +1,22 @@
 -- The end of a run carries the relation.
-use Rattle.std.proofs.Common.{◌≡◌, ◌==◌, ◌≤◌, ◌+◌, ℕ, suc, Bool, true, false, cond, not, ◌&&◌, ◌||◌, List, [], ◌∷◌, ◌++◌, length, map, filter, find, count_by, Option, Some, None, refl, sym, ap, ap₂, ◌∙◌, subst, arith, inl, inr, ⊎_elim, option_to_list, append-nil, length-append}
-use Rattle.std.specs.Prelude.{option_map, option_and_then, if◌then◌else◌}
-use Rattle.std.specs.List.{AllByRecursion, list_any}
-use Rattle.std.proofs.lemmas.List.{map-append}
-use Rattle.std.proofs.lemmas.Bool.{lt-ltb, eqb-true, eq-eqb, ne_eqb, or_cases}
-use Rattle.std.proofs.lemmas.Option.{same_Some}
+use Rattle.cmwq_sim.specs.Common.{◌≡◌, ◌==◌, ◌≤◌, ◌+◌, ℕ, suc, Bool, true, false, cond, not, ◌&&◌, ◌||◌, List, [], ◌∷◌, ◌++◌, length, map, filter, find, count_by, Option, Some, None, refl, sym, ap, ap₂, ◌∙◌, subst, arith, inl, inr, ⊎_elim, option_to_list, append-nil, length-append, option_map, option_and_then, if◌then◌else◌, AllByRecursion, list_any, map-append, lt-ltb, eqb-true, eq-eqb, ne_eqb, or_cases, same_Some, get_or-map, WorkerId, Worker, Entry, Queueing, QueueShape, item_of, is_by, is_at, is_of_item, number_finished, number_cancelled, number_started, replaces, is_started, queueings, still_open, is_live, opens, queued_at, place_wanted, is_active, is_newly_active, newly_active, worklist, answer, IsLegal, entry_for, run, is_retired, survives, waits, is_left, is_in, keeps_widths, All_each, All_map, All_filter, All_both, count_by-cons, filter_same, filter_twice, count_none, stays_active, open_go_on, newly_of_open, width_same, worklists_go_on, In, found, of_in, all_in, in_filter, filter_in, in_option, runner_there, workers_run_on, by_itself, run_after}
 use mathlib.Core.Bool.{beq}
-use Rattle.std.proofs.Math.ListN.{get_or-map}
-use Rattle.cmwq_model.specs.declared.id.WorkerId.{WorkerId}
-use Rattle.cmwq_model.specs.declared.id.Who.TheVariants.{Worker}
-use Rattle.cmwq_model.specs.declared.entry.Entry.{Entry}
-use Rattle.cmwq_model.specs.declared.record.Queueing.{Queueing}
-use Rattle.cmwq_model.specs.declared.shape.QueueShape.{QueueShape}
-use Rattle.cmwq_model.specs.Prelude.{item_of, is_by, is_at, is_of_item, number_finished, number_cancelled, number_started, replaces, is_started, queueings, still_open, is_live}
-use Rattle.cmwq_model.specs.Prelude.{opens, queued_at, place_wanted, is_active, is_newly_active, newly_active, worklist, answer, IsLegal, entry_for, run, is_retired}
 use Rattle.cmwq_model.specs.declared.call.Call.TheVariants as call
 use Rattle.cmwq_model.specs.declared.reply.Reply.TheVariants as reply
-use Rattle.cmwq_theory_steps.specs.Endings.{survives}
-use Rattle.cmwq_theory_steps.specs.Activations.{waits, is_left, is_in}
-use Rattle.cmwq_theory_active.specs.Looks.{keeps_widths}
-use Rattle.cmwq_theory_active.proofs.Lists.{All_each, All_map, All_filter, All_both, count_by-cons}
-use Rattle.cmwq_theory_steps.proofs.Filters.{filter_same, filter_twice, count_none}
-use Rattle.cmwq_theory_active.proofs.Joined.{stays_active}
-use Rattle.cmwq_theory_steps.proofs.Endings.{open_go_on}
-use Rattle.cmwq_theory_steps.proofs.Promoted.{newly_of_open}
-use Rattle.cmwq_theory_active.proofs.Widths.{width_same}
-use Rattle.cmwq_theory_steps.proofs.WorklistSteps.{worklists_go_on}
-use Rattle.cmwq_refinement.proofs.Members.{In, found, of_in, all_in, in_filter, filter_in, in_option}
-use Rattle.cmwq_sim.specs.Plan.{Plan, queue_of, is_of, no_queue}
-use Rattle.cmwq_sim.specs.Lines.{Moment, Job, is_other}
-use Rattle.cmwq_sim.specs.Shows.{layout_for, queue_shape, pool, worker, queueing_for, IsRunAt, is_job, is_sleeper, runs_in, Shows}
+use Rattle.cmwq_sim.specs.Plan.{Plan, plan_queue, is_of_plan_queue, no_sim_queue}
+use Rattle.cmwq_sim.specs.Lines.{Moment, Job, is_other_item}
+use Rattle.cmwq_sim.specs.Shows.{layout_for, queue_shape, pool, plan_worker, queueing_for, IsRunAt, is_job, is_sleeper, runs_in, Shows}
 use Rattle.cmwq_sim.proofs.TakeReads.{any_counted, one_fewer, finish_answered}
 use Rattle.cmwq_sim.proofs.TakeShown.{goes_by}
-use Rattle.cmwq_refinement.proofs.PoolNext.{runner_there}
-use Rattle.cmwq_theory_steps.proofs.RunSteps.{workers_run_on}
-use Rattle.cmwq_theory_steps.proofs.OwedSteps.{by_itself}
-use Rattle.cmwq_theory_steps.specs.RunSteps.{run_after}
-use Rattle.cmwq_sim.proofs.Steps.{count-append, other_slot}
+use Rattle.cmwq_sim.proofs.Steps.{other_slot}
 use Rattle.cmwq_sim.proofs.Finish.{finish_makes_ready}
+use Rattle.cmwq_lemmas.proofs.Lists.{filter_shorter, count_append}
+use Rattle.cmwq_theory_steps.proofs.Promoted.{turn_filters}
 
 -- what stays behind
 abbrev pub is_kept : Option ℕ → ℕ → Bool
 is_kept None k = true
-is_kept (Some z) k = is_other z k
+is_kept (Some z) k = is_other_item z k
 
 and_twice : (b : Bool) → (b && true && true) ≡ b
 and_twice true = refl
@@ -60,18 +34,9 @@ filter_mapped s p r (x ∷ xs) h = ap₂ (λ b ys. cond b (queueing_for s x ∷ 
     here true = refl
     here false = refl
 
-turned : (p q : Queueing → Bool) (xs : List Queueing) → filter p (filter q xs) ≡ filter q (filter p xs)
-turned p q xs = filter_twice p q xs ∙ filter_same _ _ xs (All_each _ xs (λ x. both (q x) (p x))) ∙ sym (filter_twice q p xs)
-  where
-    both : (a b : Bool) → (a && b) ≡ (b && a)
-    both true true = refl
-    both true false = refl
-    both false true = refl
-    both false false = refl
-
 -- every queue's pool is that of normal priority
 pub in_pool : (s : Plan) (k : ℕ) → is_in (layout_for s) pool (queueing_for s k) ≡ true
-in_pool s k = ap (λ b. beq b false) (ap (λ (x : QueueShape). x.high) (get_or-map queue_shape s.queues (queue_of s k) no_queue))
+in_pool s k = ap (λ b. beq b false) (ap (λ (x : QueueShape). x.high) (get_or-map queue_shape s.queues (plan_queue s k) no_sim_queue))
 
 module _ (s : Plan) (past : List Entry) (m : Moment) (slot : ℕ → ℕ) (e : Entry) (i : ℕ) (h : Shows s past m slot) (legal : IsLegal (layout_for s) (e ∷ past)) (is : e.reply ≡ reply.Finished i) (on : list_any (is_job i) m.cpu ≡ true)
     (o : Option ℕ) (makes : newly_active (layout_for s) past e ≡ option_to_list (option_map (queueing_for s) o)) where
@@ -152,7 +117,7 @@ module _ (s : Plan) (past : List Entry) (m : Moment) (slot : ℕ → ℕ) (e : E
       filter_same _ _ (still_open (e ∷ past)) (All_filter (λ x. not (is_active (layout_for s) (e ∷ past) x) ≡ (waits (layout_for s) past x && not (is_newly_active (layout_for s) past e x))) (is_live (e ∷ past)) (queueings (e ∷ past)) (All_each _ (queueings (e ∷ past)) same))
       ∙ sym (filter_twice (λ x. not (is_newly_active (layout_for s) past e x)) (waits (layout_for s) past) (still_open (e ∷ past)))
       ∙ ap (λ xs. filter (λ x. not (is_newly_active (layout_for s) past e x)) (filter (waits (layout_for s) past) xs)) open_after
-      ∙ ap (filter (λ x. not (is_newly_active (layout_for s) past e x))) (turned (waits (layout_for s) past) (survives past e) (still_open past) ∙ ap (filter (survives past e)) h.behind ∙ spare_behind m.behind behind_others)
+      ∙ ap (filter (λ x. not (is_newly_active (layout_for s) past e x))) (turn_filters (waits (layout_for s) past) (survives past e) (still_open past) ∙ ap (filter (survives past e)) h.behind ∙ spare_behind m.behind behind_others)
       ∙ filter_mapped s (λ x. not (is_newly_active (layout_for s) past e x)) (is_kept o) m.behind (all_in _ m.behind (λ k there. newly_passes k (behind_open k there) (is_newly_active (layout_for s) past e (queueing_for s k)) refl o makes))
 
 -- ---- the lists
@@ -169,14 +134,6 @@ fewer_filtered p q (x ∷ xs) = at (q x) (fewer_filtered p q xs)
     at true h = let a = count_by-cons p x (filter q xs) in let b = count_by-cons p x xs in omega arith
     at false h = let b = count_by-cons p x xs in omega arith
 
-pub shorter_filtered : {X : Type 0} (q : X → Bool) (xs : List X) → length (filter q xs) ≤ length xs
-shorter_filtered q [] = omega arith
-shorter_filtered q (x ∷ xs) = at (q x) (shorter_filtered q xs)
-  where
-    at : (b : Bool) → length (filter q xs) ≤ length xs → length (cond b (x ∷ filter q xs) (filter q xs)) ≤ suc (length xs)
-    at true h = omega arith
-    at false h = omega arith
-
 in_any : (z : ℕ) (xs : List ℕ) → In z xs → list_any (λ y. y == z) xs ≡ true
 in_any z [] h = absurd h
 in_any z (x ∷ xs) h = ⊎_elim (λ e. ap (λ b. b || list_any (λ y. y == z) xs) (eq-eqb x z e)) (λ l. ap (λ b. (x == z) || b) (in_any z xs l) ∙ any_or (x == z)) h
@@ -185,32 +142,32 @@ in_any z (x ∷ xs) h = ⊎_elim (λ e. ap (λ b. b || list_any (λ y. y == z) x
     any_or true = refl
     any_or false = refl
 
-none_left : (z : ℕ) (xs : List ℕ) → count_by (λ j. j == z) (filter (is_other z) xs) ≡ 0
+none_left : (z : ℕ) (xs : List ℕ) → count_by (λ j. j == z) (filter (is_other_item z) xs) ≡ 0
 none_left z [] = refl
 none_left z (x ∷ xs) = at (x == z) refl (none_left z xs)
   where
-    at : (b : Bool) → (x == z) ≡ b → count_by (λ j. j == z) (filter (is_other z) xs) ≡ 0 → count_by (λ j. j == z) (cond (not b) (x ∷ filter (is_other z) xs) (filter (is_other z) xs)) ≡ 0
+    at : (b : Bool) → (x == z) ≡ b → count_by (λ j. j == z) (filter (is_other_item z) xs) ≡ 0 → count_by (λ j. j == z) (cond (not b) (x ∷ filter (is_other_item z) xs) (filter (is_other_item z) xs)) ≡ 0
     at true same h = h
-    at false same h = count_by-cons (λ j. j == z) x (filter (is_other z) xs) ∙ ap₂ (λ b n. cond b 1 0 + n) same h
+    at false same h = count_by-cons (λ j. j == z) x (filter (is_other_item z) xs) ∙ ap₂ (λ b n. cond b 1 0 + n) same h
 
 moved_counts : (k : ℕ) (p : ℕ → Bool) (o : Option ℕ) (xs : List ℕ) → find p xs ≡ o → count_by (λ j. j == k) (filter (is_kept o) xs) + count_by (λ j. j == k) (option_to_list o) ≤ count_by (λ j. j == k) xs
 moved_counts k p None xs h = let f = fewer_filtered (λ j. j == k) (is_kept None) xs in omega arith
 moved_counts k p (Some z) xs h = at (z == k) refl
   where
-    at : (b : Bool) → (z == k) ≡ b → count_by (λ j. j == k) (filter (is_other z) xs) + count_by (λ j. j == k) (z ∷ []) ≤ count_by (λ j. j == k) xs
+    at : (b : Bool) → (z == k) ≡ b → count_by (λ j. j == k) (filter (is_other_item z) xs) + count_by (λ j. j == k) (z ∷ []) ≤ count_by (λ j. j == k) xs
     at true is =
         let same : z ≡ k = eqb-true z k is in
-        let none : count_by (λ j. j == k) (filter (is_other z) xs) ≡ 0 = ap (λ y. count_by (λ j. j == k) (filter (is_other y) xs)) same ∙ none_left k xs in
+        let none : count_by (λ j. j == k) (filter (is_other_item z) xs) ≡ 0 = ap (λ y. count_by (λ j. j == k) (filter (is_other_item y) xs)) same ∙ none_left k xs in
         let one : count_by (λ j. j == k) (z ∷ []) ≡ 1 = count_by-cons (λ j. j == k) z [] ∙ ap (λ b. cond b 1 0 + 0) is in
         let some = any_counted (λ j. j == k) xs (subst (λ y. list_any (λ j. j == y) xs ≡ true) same (in_any z xs (found p xs z h).0)) in
         omega arith
     at false is =
         let none : count_by (λ j. j == k) (z ∷ []) ≡ 0 = count_by-cons (λ j. j == k) z [] ∙ ap (λ b. cond b 1 0 + 0) is in
-        let f = fewer_filtered (λ j. j == k) (is_other z) xs in
+        let f = fewer_filtered (λ j. j == k) (is_other_item z) xs in
         omega arith
 
 moved_length : (p : ℕ → Bool) (o : Option ℕ) (xs : List ℕ) → find p xs ≡ o → length (filter (is_kept o) xs) + length (option_to_list o) ≤ length xs
-moved_length p None xs h = let f = shorter_filtered (is_kept None) xs in omega arith
+moved_length p None xs h = let f = filter_shorter (is_kept None) xs in omega arith
 moved_length p (Some z) xs h = one_fewer z xs (in_any z xs (found p xs z h).0)
 
 any_kept : (n i : ℕ) (xs : List Job) → (n == i) ≡ false → list_any (is_job n) (filter (λ k. not (is_job i k)) xs) ≡ list_any (is_job n) xs
@@ -231,8 +188,8 @@ any_kept n i (x ∷ xs) h = at (is_job i x) refl (any_kept n i xs h)
 abbrev pub ended_with : Moment → ℕ → Option ℕ → Moment
 ended_with m i o = record m { ready = m.ready ++ option_to_list o; behind = filter (is_kept o) m.behind; cpu = filter (λ k. not (is_job i k)) m.cpu }
 
-pub finish_shown : (s : Plan) (past : List Entry) (m : Moment) (slot : ℕ → ℕ) (i : ℕ) (o : Option ℕ) → Shows s past m slot → list_any (is_job i) m.cpu ≡ true → find (is_of s (queue_of s i)) m.behind ≡ o
-    → Shows s (entry_for (layout_for s) past (Worker (worker (slot i))) call.Finish ∷ past) (ended_with m i o) slot
+pub finish_shown : (s : Plan) (past : List Entry) (m : Moment) (slot : ℕ → ℕ) (i : ℕ) (o : Option ℕ) → Shows s past m slot → list_any (is_job i) m.cpu ≡ true → find (is_of_plan_queue s (plan_queue s i)) m.behind ≡ o
+    → Shows s (entry_for (layout_for s) past (Worker (plan_worker (slot i))) call.Finish ∷ past) (ended_with m i o) slot
 unfolding IsLegal queueings
 finish_shown s past m slot i o h on first = record {
   legal = legal;
@@ -247,29 +204,29 @@ finish_shown s past m slot i o h on first = record {
   no_others = λ w n runs. at w n (is_by (Worker w) e) refl (sym (workers_run_on (layout_for s) past e w legal) ∙ runs);
   once = λ k.
       let t = h.once k in
-      let a = count-append (λ j. j == k) m.ready (option_to_list o) in
-      let b = moved_counts k (is_of s (queue_of s i)) o m.behind first in
+      let a = count_append (λ j. j == k) m.ready (option_to_list o) in
+      let b = moved_counts k (is_of_plan_queue s (plan_queue s i)) o m.behind first in
       let c = fewer_filtered (is_job k) (λ j. not (is_job i j)) m.cpu in
       omega arith;
   few =
       let f = h.few in
       let a = length-append m.ready (option_to_list o) in
-      let b = moved_length (is_of s (queue_of s i)) o m.behind first in
-      let c = shorter_filtered (λ j. not (is_job i j)) m.cpu in
+      let b = moved_length (is_of_plan_queue s (plan_queue s i)) o m.behind first in
+      let c = filter_shorter (λ j. not (is_job i j)) m.cpu in
       omega arith;
 }
   where
     e : Entry
-    e = entry_for (layout_for s) past (Worker (worker (slot i))) call.Finish
+    e = entry_for (layout_for s) past (Worker (plan_worker (slot i))) call.Finish
 
     run_at : IsRunAt past (slot i) i false
     run_at = job_run past slot i m.cpu h.cpu on
 
-    is : answer (layout_for s) past (Worker (worker (slot i))) call.Finish ≡ reply.Finished i
+    is : answer (layout_for s) past (Worker (plan_worker (slot i))) call.Finish ≡ reply.Finished i
     is = finish_answered s past (slot i) i run_at
 
     legal : IsLegal (layout_for s) (e ∷ past)
-    legal = (ap (λ b. (b && true) && true) (lt-ltb (slot i) 8 (runner_there (layout_for s) past (worker (slot i)) i h.legal run_at.runs)), refl, h.legal)
+    legal = (ap (λ b. (b && true) && true) (lt-ltb (slot i) 8 (runner_there (layout_for s) past (plan_worker (slot i)) i h.legal run_at.runs)), refl, h.legal)
 
     makes : newly_active (layout_for s) past e ≡ option_to_list (option_map (queueing_for s) o)
     makes = finish_makes_ready s past m slot e (slot i) i h h.widths h.wide legal is run_at ∙ ap (λ p. option_to_list (option_map (queueing_for s) p)) first
@@ -281,14 +238,14 @@ finish_shown s past m slot i o h on first = record {
     other : (k : ℕ) (b : Bool) → IsRunAt past (slot k) k b → (k == i) ≡ false → IsRunAt (e ∷ past) (slot k) k b
     other k b r differs = goes_by (layout_for s) past e (slot i) (slot k) k b legal refl (other_slot past slot i k false b run_at r differs) r
 
-    at : (w : WorkerId) (n : ℕ) (b : Bool) → is_by (Worker w) e ≡ b → (if is_by (Worker w) e then run_after e.reply (run past w) else run past w) ≡ Some n → (w ≡ worker (slot n)) × (runs_in (ended_with m i o) n ≡ true)
+    at : (w : WorkerId) (n : ℕ) (b : Bool) → is_by (Worker w) e ≡ b → (if is_by (Worker w) e then run_after e.reply (run past w) else run past w) ≡ Some n → (w ≡ plan_worker (slot n)) × (runs_in (ended_with m i o) n ≡ true)
     at w n true by runs = absurd (none_some (sym (ap (λ r. run_after r (run past w)) is) ∙ sym (ap (λ c. if c then run_after e.reply (run past w) else run past w) by) ∙ runs))
       where
         none_some : None ≡ Some n → ⊥
         none_some h = cc
     at w n false by runs =
         let k = h.no_others w n (sym (ap (λ c. if c then run_after e.reply (run past w) else run past w) by) ∙ runs) in
-        let differs : (n == i) ≡ false = ne_eqb n i (λ same. apart (is_by (Worker w) e) by (by_itself e w (ap Worker (sym (k.0 ∙ ap (λ j. worker (slot j)) same))))) in
+        let differs : (n == i) ≡ false = ne_eqb n i (λ same. apart (is_by (Worker w) e) by (by_itself e w (ap Worker (sym (k.0 ∙ ap (λ j. plan_worker (slot j)) same))))) in
         (k.0, ap (λ b. b || list_any (is_sleeper n) m.sleeping) (any_kept n i m.cpu differs) ∙ k.1)
       where
         apart : (b : Bool) → b ≡ false → b ≡ true → ⊥

@@ -1,25 +1,10 @@
 -- Of each pool's workers one is always enlisted and idle, or all are enlisted.
-use Rattle.std.proofs.Common.{◌≡◌, ◌≢◌, ◌==◌, ◌<◌, ◌≤◌, ◌+◌, ℕ, zero, suc, Bool, true, false, cond, not, ◌&&◌, ◌||◌, List, [], ◌∷◌, find, Option, Some, None, refl, sym, ap, ap₂, ◌∙◌, subst, arith, ⊎_elim}
-use Rattle.std.specs.Prelude.{is_some, if◌then◌else◌}
-use Rattle.std.specs.List.{AllByRecursion, list_any, range_with_len}
-use Rattle.std.proofs.lemmas.Bool.{eq-eqb, ne_eqb, and_parts, cases_eq}
-use Rattle.std.proofs.lemmas.Option.{same_Some}
-use Rattle.cmwq_model.specs.declared.id.PoolId.{PoolId}
-use Rattle.cmwq_model.specs.declared.id.WorkerId.{WorkerId}
-use Rattle.cmwq_model.specs.declared.id.Who.{Who}
-use Rattle.cmwq_model.specs.declared.id.Who.TheVariants.{Worker}
-use Rattle.cmwq_model.specs.declared.reply.Reply.{Reply}
-use Rattle.cmwq_model.specs.declared.entry.Entry.{Entry}
-use Rattle.cmwq_model.specs.Prelude.{Layout, indices, is_at, is_by, same_who, same_pool, number_started, run, has_run, last_start, worker_at, index_enlisted, is_in_pool}
-use Rattle.cmwq_model.specs.Prelude.{enlists, is_retired, is_enlisted, is_idle, is_other_idle, is_reserve, enlisted_by, IsLegal}
+use Rattle.cmwq_sim.specs.Common.{◌≡◌, ◌≢◌, ◌==◌, ◌<◌, ◌≤◌, ◌+◌, ℕ, zero, suc, Bool, true, false, cond, not, ◌&&◌, ◌||◌, List, [], ◌∷◌, find, Option, Some, None, refl, sym, ap, ap₂, ◌∙◌, subst, arith, ⊎_elim, is_some, if◌then◌else◌, AllByRecursion, list_any, range_with_len, eq-eqb, ne_eqb, and_parts, cases_eq, same_Some, PoolId, WorkerId, Who, Worker, Reply, Entry, Layout, indices, is_at, is_by, same_who, same_pool, number_started, run, has_run, last_start, worker_at, index_enlisted, is_in_pool, enlists, is_retired, is_enlisted, is_idle, is_other_idle, is_reserve, enlisted_by, IsLegal, run_after, same_worker-true, workers_run_on, same_worker_itself}
 use Rattle.cmwq_model.specs.declared.reply.Reply.TheVariants as reply
-use Rattle.cmwq_theory_steps.specs.RunSteps.{run_after}
 use Rattle.cmwq_theory_steps.proofs.Starts.{starts_next}
-use Rattle.cmwq_theory_steps.proofs.ItemRuns.{same_worker-true}
-use Rattle.cmwq_theory_steps.proofs.RunSteps.{workers_run_on}
-use Rattle.cmwq_theory_steps.proofs.ItemRuns.{same_worker_itself}
 use Rattle.cmwq_theory_steps.proofs.Reasons.{retire_reason}
 use Rattle.cmwq_theory_steps.proofs.Causes.{cause_of}
+use Rattle.cmwq_lemmas.proofs.Truth.{and_false}
 
 -- whose entry it is
 by_whom : (e : Entry) (v w : WorkerId) → e.who ≡ Worker v → is_by (Worker w) e ≡ true → v ≡ w
@@ -136,10 +121,6 @@ others_idle s past e p x legal by is =
     is_idle_from (e ∷ past) p x (enlisted_go_on past e (worker_at p x) (ap (λ a. a && is_retired e.reply) by) k.0)
     (workers_run_on s past e (worker_at p x) legal ∙ ap (λ b. if b then run_after e.reply (run past (worker_at p x)) else run past (worker_at p x)) by ∙ k.1)
 
-any_and_false : (a : Bool) → (a && false) ≡ false
-any_and_false true = refl
-any_and_false false = refl
-
 -- where one starts and leaves no other idle one, the reserve is enlisted, or there is none
 after_start : (s : Layout) (past : List Entry) (e : Entry) (p : PoolId) (x n : ℕ) → IsLegal s (e ∷ past) → is_retired e.reply ≡ false → e.who ≡ Worker (worker_at p x) → is_idle past p x ≡ true → index_enlisted e.reply ≡ enlisted_by s past (worker_at p x) → IdleOrAll s (e ∷ past) p
 unfolding IsLegal is_enlisted enlisted_by
@@ -157,7 +138,7 @@ after_start s past e p x n legal kept who is enlists_it = elim (any_below (is_ot
     differ false h k = cc
 
     which : (o : Option ℕ) → find (is_reserve past p) (indices s) ≡ o → index_enlisted e.reply ≡ find (is_reserve past p) (indices s) → IdleOrAll s (e ∷ past) p
-    which None nobody told = all (λ y less. enlisted_go_on past e (worker_at p y) (ap (λ r. is_by (Worker (worker_at p y)) e && r) kept ∙ any_and_false (is_by (Worker (worker_at p y)) e)) (enlisted (is_enlisted past (worker_at p y)) (none_in (is_reserve past p) 0 s.workers nobody y (omega arith) (omega arith))))
+    which None nobody told = all (λ y less. enlisted_go_on past e (worker_at p y) (ap (λ r. is_by (Worker (worker_at p y)) e && r) kept ∙ and_false (is_by (Worker (worker_at p y)) e)) (enlisted (is_enlisted past (worker_at p y)) (none_in (is_reserve past p) 0 s.workers nobody y (omega arith) (omega arith))))
       where
         enlisted : (b : Bool) → not b ≡ false → b ≡ true
         enlisted true h = refl
@@ -184,7 +165,7 @@ pub idle_or_all : (s : Layout) (past : List Entry) (p : PoolId) → IsLegal s pa
 unfolding IsLegal is_enlisted last_start
 idle_or_all s [] p legal kept some = idle 0 some refl
 idle_or_all s (e ∷ past) p legal kept some = elim (idle_or_all s past p legal.2 kept.1 some) [
-  | all f ↦ all (λ x less. enlisted_go_on past e (worker_at p x) (ap (λ r. is_by (Worker (worker_at p x)) e && r) kept.0 ∙ any_and_false (is_by (Worker (worker_at p x)) e)) (f x less))
+  | all f ↦ all (λ x less. enlisted_go_on past e (worker_at p x) (ap (λ r. is_by (Worker (worker_at p x)) e && r) kept.0 ∙ and_false (is_by (Worker (worker_at p x)) e)) (f x less))
   | idle x less is ↦ at x less is (is_by (Worker (worker_at p x)) e) refl (number_started e.reply) refl
 ]
   where

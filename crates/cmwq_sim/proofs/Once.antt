@@ -1,36 +1,27 @@
 -- Each item stands in one place at a time, until a line tells its end.
-use Rattle.std.proofs.Common.{◌≡◌, ◌==◌, ◌<◌, ◌≤◌, ◌+◌, ◌-◌, ℕ, zero, suc, Bool, true, false, cond, not, ◌&&◌, ◌||◌, List, [], ◌∷◌, ◌++◌, length, drop, map, filter, find, count_by, Option, Some, None, nat_lt, refl, sym, ap, ap₂, ◌∙◌, subst, arith}
-use Rattle.std.specs.Prelude.{if◌then◌else◌, fold}
-use Rattle.std.specs.List.{list_any, range_with_len}
-use Rattle.std.proofs.lemmas.Bool.{eq-eqb, eqb-true, and_parts}
-use Rattle.cmwq_theory_active.proofs.Lists.{count_by-cons}
+use Rattle.cmwq_sim.specs.Common.{◌≡◌, ◌==◌, ◌<◌, ◌≤◌, ◌+◌, ◌-◌, ℕ, zero, suc, Bool, true, false, cond, not, ◌&&◌, ◌||◌, List, [], ◌∷◌, ◌++◌, length, drop, map, filter, find, count_by, Option, Some, None, nat_lt, refl, sym, ap, ap₂, ◌∙◌, subst, arith, if◌then◌else◌, fold, list_any, range_with_len, eq-eqb, eqb-true, and_parts, count_by-cons, same_Some, nat_tests}
 use Rattle.cmwq_sim.specs.declared.scenario.LineKind.{LineKind}
 use Rattle.cmwq_sim.specs.declared.scenario.LineKind.TheVariants as kind
-use Rattle.cmwq_sim.specs.Plan.{Plan, Event, queue_of, ms_of, max_active, is_of, whole_time}
-use Rattle.cmwq_sim.specs.Lines.{Moment, Job, Sleeper, make_ready, end, after_burn, after_sleep, serve_first, serve, is_due, is_not, wake_sleeper, wake_item, wake, job_of, starting, tell, tell_starts, start_these, start, burn_first, burn, millisecond, queue_item, queued, empty, scenario_lines}
+use Rattle.cmwq_sim.specs.Plan.{Plan, Event, plan_queue, ms_of, plan_width, is_of_plan_queue, whole_time}
+use Rattle.cmwq_sim.specs.Lines.{Moment, Job, Sleeper, make_ready, end_job, after_burn, after_sleep, serve_first, serve, is_due, is_other_sleeper, wake_sleeper, wake_item, wake_sleepers, job_of, starting_items, tell, tell_starts, start_these, start, burn_first, burn, millisecond, queue_item, queued_at_first, empty, scenario_lines}
 use Rattle.cmwq_sim.specs.Shows.{is_job, is_sleeper, times}
-use Rattle.cmwq_sim.specs.Ends.{is_end, tells_end, EachEndsOnce}
-use Rattle.cmwq_sim.proofs.Steps.{count-append}
+use Rattle.cmwq_sim.specs.Ends.{is_end_line, tells_end, EachEndsOnce}
 use Rattle.cmwq_sim.proofs.TakeReads.{any_counted}
 use Rattle.cmwq_sim.proofs.TakeShown.{job_item}
-use Rattle.cmwq_sim.proofs.Phases.{found_any, found_passes}
+use Rattle.cmwq_sim.proofs.Phases.{found_any}
 use Rattle.cmwq_sim.proofs.Progress.{starting_first}
-use Rattle.std.proofs.lemmas.Option.{same_Some}
-use Rattle.std.proofs.lemmas.Bool.Decides.{nat_tests}
 use Rattle.cmwq_sim.proofs.Queued.{none_later, once_among}
 use Rattle.cmwq_sim.proofs.Outset.{all_items_end}
+use Rattle.cmwq_lemmas.proofs.Truth.{or_false}
+use Rattle.cmwq_lemmas.proofs.Lists.{found_passes, count_append}
 
 -- how often it stands in a list or has ended
 abbrev pub seen : ℕ → Moment → ℕ
 seen i m = times m i + count_by (tells_end i) m.lines
 
 -- one more line, and whether it tells the end
-told : (i t : ℕ) (k : LineKind) (is : List ℕ) (ls : List Event) → count_by (tells_end i) (ls ++ record { at = t; kind = k; items = is } ∷ []) ≡ count_by (tells_end i) ls + cond (is_end k && list_any (λ j. j == i) is) 1 0
-told i t k is ls = let a = count-append (tells_end i) ls (record { at = t; kind = k; items = is } ∷ []) in let b = count_by-cons (tells_end i) (record { at = t; kind = k; items = is }) [] in omega arith
-
-nothing : (b : Bool) → (b || false) ≡ b
-nothing true = refl
-nothing false = refl
+told : (i t : ℕ) (k : LineKind) (is : List ℕ) (ls : List Event) → count_by (tells_end i) (ls ++ record { at = t; kind = k; items = is } ∷ []) ≡ count_by (tells_end i) ls + cond (is_end_line k && list_any (λ j. j == i) is) 1 0
+told i t k is ls = let a = count_append (tells_end i) ls (record { at = t; kind = k; items = is } ∷ []) in let b = count_by-cons (tells_end i) (record { at = t; kind = k; items = is }) [] in omega arith
 
 -- what is taken out stood there once
 none_left : {X : Type 0} (item : X → ℕ) (z : ℕ) (xs : List X) → count_by (λ x. item x == z) (filter (λ x. not (item x == z)) xs) ≡ 0
@@ -74,28 +65,28 @@ abbrev pub Once : Moment → Type 0
 Once m = (z : ℕ) → seen z m ≤ 1
 
 -- an item stands in one place, in the moment or in another with fewer places
-ends_seen : (s : Plan) (i k : ℕ) (m : Moment) → ((z : ℕ) → times m z ≤ 1) → seen i (end s k m) ≡ seen i m
-ends_seen s i k m once = at (find (is_of s (queue_of s k)) m.behind) refl
+ends_seen : (s : Plan) (i k : ℕ) (m : Moment) → ((z : ℕ) → times m z ≤ 1) → seen i (end_job s k m) ≡ seen i m
+ends_seen s i k m once = at (find (is_of_plan_queue s (plan_queue s k)) m.behind) refl
   where
-    at : (o : Option ℕ) → find (is_of s (queue_of s k)) m.behind ≡ o → seen i (make_ready m o) ≡ seen i m
+    at : (o : Option ℕ) → find (is_of_plan_queue s (plan_queue s k)) m.behind ≡ o → seen i (make_ready m o) ≡ seen i m
     at None none = refl
     at (Some z) some =
         let there = any_counted (λ j. j == z) m.behind (found_any (λ j. j == z) (λ j. j == z) (λ j h. h) m.behind z (found_itself m.behind some)) in
         let o = once z in
         let a = taken_out (λ (j : ℕ). j) i z m.behind (omega arith) in
-        let b = count-append (λ j. j == i) m.ready (z ∷ []) in
+        let b = count_append (λ j. j == i) m.ready (z ∷ []) in
         let c = count_by-cons (λ j. j == i) z [] in
         omega arith
       where
-        found_itself : (xs : List ℕ) → find (is_of s (queue_of s k)) xs ≡ Some z → find (λ j. j == z) xs ≡ Some z
+        found_itself : (xs : List ℕ) → find (is_of_plan_queue s (plan_queue s k)) xs ≡ Some z → find (λ j. j == z) xs ≡ Some z
         found_itself [] h = cc
-        found_itself (x ∷ xs) h = here (is_of s (queue_of s k) x) h (λ l. found_itself xs l)
+        found_itself (x ∷ xs) h = here (is_of_plan_queue s (plan_queue s k) x) h (λ l. found_itself xs l)
           where
             either : (b : Bool) → (x == z) ≡ b → find (λ j. j == z) xs ≡ Some z → cond b (Some x) (find (λ j. j == z) xs) ≡ Some z
             either true is l = ap Some (eqb-true x z is)
             either false is l = l
 
-            here : (b : Bool) → cond b (Some x) (find (is_of s (queue_of s k)) xs) ≡ Some z → (find (is_of s (queue_of s k)) xs ≡ Some z → find (λ j. j == z) xs ≡ Some z) → cond (x == z) (Some x) (find (λ j. j == z) xs) ≡ Some z
+            here : (b : Bool) → cond b (Some x) (find (is_of_plan_queue s (plan_queue s k)) xs) ≡ Some z → (find (is_of_plan_queue s (plan_queue s k)) xs ≡ Some z → find (λ j. j == z) xs ≡ Some z) → cond (x == z) (Some x) (find (λ j. j == z) xs) ≡ Some z
             here true l later = ap (λ b. cond b (Some x) (find (λ j. j == z) xs)) (eq-eqb x z (same_Some x z l)) ∙ l
             here false l later = either (x == z) refl (later l)
 
@@ -116,11 +107,11 @@ served_seen s t i m once = at m.cpu refl
         over false left = refl
         over true [] =
             let a = ends_seen s i j.item (tell t kind.Ends (j.item ∷ []) (record m { cpu = js })) (fewer (m.lines ++ record { at = t; kind = kind.Ends; items = j.item ∷ [] } ∷ [])) in
-            let b = told i t kind.Ends (j.item ∷ []) m.lines ∙ ap (λ c. count_by (tells_end i) m.lines + cond c 1 0) (nothing (j.item == i)) in
+            let b = told i t kind.Ends (j.item ∷ []) m.lines ∙ ap (λ c. count_by (tells_end i) m.lines + cond c 1 0) (or_false (j.item == i)) in
             let f = first i in
             omega arith
         over true (pause ∷ left) =
-            let a = count-append (is_sleeper i) m.sleeping (record { item = j.item; until = t + pause; left = left } ∷ []) in
+            let a = count_append (is_sleeper i) m.sleeping (record { item = j.item; until = t + pause; left = left } ∷ []) in
             let b = count_by-cons (is_sleeper i) (record { item = j.item; until = t + pause; left = left }) [] in
             let c = told i t kind.Sleeps (j.item ∷ []) m.lines in
             let f = first i in
@@ -142,20 +133,20 @@ woken_seen s t i k m once = at (find (is_due t k) m.sleeping) refl
             let o = once x.item in
             omega arith
 
-        out : (z : ℕ) → count_by (is_sleeper z) (filter (is_not x.item) m.sleeping) + cond {A = ℕ} (x.item == z) 1 0 ≡ count_by (is_sleeper z) m.sleeping
+        out : (z : ℕ) → count_by (is_sleeper z) (filter (is_other_sleeper x.item) m.sleeping) + cond {A = ℕ} (x.item == z) 1 0 ≡ count_by (is_sleeper z) m.sleeping
         out z = taken_out (λ (y : Sleeper). y.item) z x.item m.sleeping there
 
-        fewer : (ls : List Event) (z : ℕ) → times (record m { sleeping = filter (is_not x.item) m.sleeping; lines = ls }) z ≤ 1
+        fewer : (ls : List Event) (z : ℕ) → times (record m { sleeping = filter (is_other_sleeper x.item) m.sleeping; lines = ls }) z ≤ 1
         fewer ls z = let o = once z in let f = out z in omega arith
 
-        after : (left : List ℕ) → seen i (after_sleep s t (record m { sleeping = filter (is_not x.item) m.sleeping }) x.item left) ≡ seen i m
+        after : (left : List ℕ) → seen i (after_sleep s t (record m { sleeping = filter (is_other_sleeper x.item) m.sleeping }) x.item left) ≡ seen i m
         after [] =
-            let a = ends_seen s i x.item (tell t kind.WakesEnds (x.item ∷ []) (record m { sleeping = filter (is_not x.item) m.sleeping })) (fewer (m.lines ++ record { at = t; kind = kind.WakesEnds; items = x.item ∷ [] } ∷ [])) in
-            let b = told i t kind.WakesEnds (x.item ∷ []) m.lines ∙ ap (λ c. count_by (tells_end i) m.lines + cond c 1 0) (nothing (x.item == i)) in
+            let a = ends_seen s i x.item (tell t kind.WakesEnds (x.item ∷ []) (record m { sleeping = filter (is_other_sleeper x.item) m.sleeping })) (fewer (m.lines ++ record { at = t; kind = kind.WakesEnds; items = x.item ∷ [] } ∷ [])) in
+            let b = told i t kind.WakesEnds (x.item ∷ []) m.lines ∙ ap (λ c. count_by (tells_end i) m.lines + cond c 1 0) (or_false (x.item == i)) in
             let f = out i in
             omega arith
         after (b ∷ left) =
-            let a = count-append (is_job i) m.cpu (record { item = x.item; burn = b; left = left } ∷ []) in
+            let a = count_append (is_job i) m.cpu (record { item = x.item; burn = b; left = left } ∷ []) in
             let d = count_by-cons (is_job i) (record { item = x.item; burn = b; left = left }) [] in
             let c = told i t kind.WakesBurns (x.item ∷ []) m.lines in
             let f = out i in
@@ -173,15 +164,15 @@ started_count s i [] = refl
 started_count s i (k ∷ is) = count_by-cons (is_job i) (job_of s k) (map (job_of s) is) ∙ ap₂ (λ n c. cond (n == i) 1 0 + c) (job_item k (ms_of s k)) (started_count s i is) ∙ sym (count_by-cons (λ j. j == i) k is)
 
 started_seen : (s : Plan) (t i : ℕ) (m : Moment) → seen i (start s t m) ≡ seen i m
-started_seen s t i m = at (starting s m.cpu m.ready) (starting_first s m.cpu m.ready)
+started_seen s t i m = at (starting_items s m.cpu m.ready) (starting_first s m.cpu m.ready)
   where
     at : (is : List ℕ) → is ++ drop (length is) m.ready ≡ m.ready → seen i (start_these s t m is) ≡ seen i m
     at is split = with_lines is
       where
         moved : times (record m { ready = drop (length is) m.ready; cpu = m.cpu ++ map (job_of s) is }) i ≡ times m i
         moved =
-            let a = sym (count-append (λ j. j == i) is (drop (length is) m.ready)) ∙ ap (count_by (λ j. j == i)) split in
-            let b = count-append (is_job i) m.cpu (map (job_of s) is) in
+            let a = sym (count_append (λ j. j == i) is (drop (length is) m.ready)) ∙ ap (count_by (λ j. j == i)) split in
+            let b = count_append (is_job i) m.cpu (map (job_of s) is) in
             let c = started_count s i is in
             omega arith
 
@@ -201,7 +192,7 @@ burnt_seen i m = at m.cpu refl
 
 millisecond_seen : (s : Plan) (t i : ℕ) (m : Moment) → Once m → seen i (millisecond s m t) ≡ seen i m
 millisecond_seen s t i m once =
-    burnt_seen i (start s t (wake s t (serve s t m))) ∙ started_seen s t i (wake s t (serve s t m))
+    burnt_seen i (start s t (wake_sleepers s t (serve s t m))) ∙ started_seen s t i (wake_sleepers s t (serve s t m))
     ∙ all_woken_seen s t i (length s.items) 0 (serve s t m) (keeps_once m (serve s t m) once (λ z. served_seen s t z m once)) ∙ served_seen s t i m once
 
 all_seen : (s : Plan) (i k t : ℕ) (m : Moment) → Once m → seen i (fold (millisecond s) m (range_with_len t k)) ≡ seen i m
@@ -211,11 +202,11 @@ all_seen s i (suc k) t m once = all_seen s i k (t + 1) (millisecond s m t) (keep
 -- ---- at the outset each is seen once
 
 queued_seen : (s : Plan) (i k : ℕ) (m : Moment) → seen i (queue_item s m k) ≡ seen i m + cond (k == i) 1 0
-queued_seen s i k m = at (nat_lt (count_by (is_of s (queue_of s k)) (m.ready ++ m.behind)) (max_active s (queue_of s k)))
+queued_seen s i k m = at (nat_lt (count_by (is_of_plan_queue s (plan_queue s k)) (m.ready ++ m.behind)) (plan_width s (plan_queue s k)))
   where
     at : (b : Bool) → seen i (if b then record m { ready = m.ready ++ k ∷ [] } else record m { behind = m.behind ++ k ∷ [] }) ≡ seen i m + cond (k == i) 1 0
-    at true = let a = count-append (λ j. j == i) m.ready (k ∷ []) in let b = count_by-cons (λ j. j == i) k [] in omega arith
-    at false = let a = count-append (λ j. j == i) m.behind (k ∷ []) in let b = count_by-cons (λ j. j == i) k [] in omega arith
+    at true = let a = count_append (λ j. j == i) m.ready (k ∷ []) in let b = count_by-cons (λ j. j == i) k [] in omega arith
+    at false = let a = count_append (λ j. j == i) m.behind (k ∷ []) in let b = count_by-cons (λ j. j == i) k [] in omega arith
 
 all_queued_seen : (s : Plan) (i len k : ℕ) (m : Moment) → seen i (fold (queue_item s) m (range_with_len k len)) ≡ seen i m + count_by (λ j. j == i) (range_with_len k len)
 all_queued_seen s i zero k m = omega arith
@@ -243,7 +234,7 @@ there_once i a (suc k) low high = at (a == i) refl (λ more. there_once i (a + 1
 pub each_ends_once : EachEndsOnce
 unfolding scenario_lines
 each_ends_once s i fine less =
-    let a = all_seen s i (suc (whole_time s)) 0 (queued s) (λ z. let q = all_queued_seen s z (length s.items) 0 empty in let o = once_among 0 (length s.items) z in omega arith) in
+    let a = all_seen s i (suc (whole_time s)) 0 (queued_at_first s) (λ z. let q = all_queued_seen s z (length s.items) 0 empty in let o = once_among 0 (length s.items) z in omega arith) in
     let q = all_queued_seen s i (length s.items) 0 empty in
     let o = there_once i 0 (length s.items) (omega arith) (omega arith) in
     let none = all_items_end s fine in

@@ -1,17 +1,12 @@
 -- At the outset as much is left to do as the items have in all.
-use Rattle.std.proofs.Common.{◌≡◌, ◌<◌, ◌≤◌, ◌+◌, ℕ, zero, suc, Bool, true, false, cond, ◌||◌, List, [], ◌∷◌, ◌++◌, length, drop, map, count_by, nat_lt, refl, sym, ap, ◌∙◌, subst, arith, inl, add-one, drop-cons}
-use Rattle.std.specs.Prelude.{if◌then◌else◌, slice_index_or, sum, sum_by, fold}
-use Rattle.std.specs.List.{AllByRecursion, list_any, range_with_len}
-use Rattle.std.proofs.lemmas.Bool.{eqb-true}
-use Rattle.std.proofs.lemmas.Bool.Decides.{nat_tests}
-use Rattle.std.proofs.lemmas.List.Sums.{sum_by-cons, sum_by_push}
-use Rattle.cmwq_theory_active.proofs.Lists.{count_by-cons}
-use Rattle.cmwq_sim.specs.Plan.{Plan, Item, queue_of, max_active, is_of, time_of, whole_time, no_item, no_queue}
+use Rattle.cmwq_sim.specs.Common.{◌≡◌, ◌<◌, ◌≤◌, ◌+◌, ℕ, zero, suc, Bool, true, false, cond, ◌||◌, List, [], ◌∷◌, ◌++◌, length, drop, map, count_by, nat_lt, refl, sym, ap, ◌∙◌, subst, arith, inl, add-one, drop-cons, if◌then◌else◌, slice_index_or, sum, sum_by, fold, AllByRecursion, list_any, range_with_len, eqb-true, nat_tests, sum_by-cons, sum_by_push, count_by-cons}
+use Rattle.cmwq_sim.specs.Plan.{Plan, Item, plan_queue, plan_width, is_of_plan_queue, time_of, whole_time, no_item, no_sim_queue}
 use Rattle.cmwq_sim.specs.Limits.{IsQueue, IsItem, IsWithinLimits}
-use Rattle.cmwq_sim.specs.Lines.{Moment, queue_item, queued, empty}
+use Rattle.cmwq_sim.specs.Lines.{Moment, queue_item, queued_at_first, empty}
 use Rattle.cmwq_sim.specs.Ends.{AllItemsEnd}
 use Rattle.cmwq_sim.proofs.Steps.{any-append}
-use Rattle.cmwq_sim.proofs.Progress.{all_at, all_one, last_any, time_at, rest, of_job, of_sleeper, IsSleeper, FirstMayBeDone, Begins, all_pass}
+use Rattle.cmwq_sim.proofs.Progress.{all_at, last_any, time_at, rest, of_job, of_sleeper, IsSleeper, FirstMayBeDone, Begins, all_pass}
+use Rattle.cmwq_lemmas.proofs.Lists.{All_push}
 
 -- while the items are queued
 pub record Queues (s : Plan) (m : Moment) : Type 0 where
@@ -19,7 +14,7 @@ pub record Queues (s : Plan) (m : Moment) : Type 0 where
   pub behind : AllByRecursion (λ i. i < length s.items) m.behind
   pub cpu : m.cpu ≡ []
   pub sleeping : m.sleeping ≡ []
-  pub held : (q : ℕ) → list_any (is_of s q) m.behind ≡ true → list_any (is_of s q) m.ready ≡ true
+  pub held : (q : ℕ) → list_any (is_of_plan_queue s q) m.behind ≡ true → list_any (is_of_plan_queue s q) m.ready ≡ true
 
 any_of_count : {X : Type 0} (p : X → Bool) (xs : List X) → 1 ≤ count_by p xs → list_any p xs ≡ true
 any_of_count p [] h = absurd (omega arith)
@@ -29,41 +24,41 @@ any_of_count p (x ∷ xs) h = at (p x) refl (λ k. any_of_count p xs k)
     at true is later = ap (λ b. b || list_any p xs) is
     at false is later = ap (λ b. b || list_any p xs) is ∙ later (let c = count_by-cons p x xs ∙ ap (λ b. cond b 1 0 + count_by p xs) is in omega arith)
 
-some_width : (s : Plan) (i : ℕ) → IsWithinLimits s → i < length s.items → 1 ≤ max_active s (queue_of s i)
-some_width s i fine less = (all_at IsQueue s.queues (queue_of s i) no_queue fine.queues (all_at (IsItem (length s.queues)) s.items i no_item fine.items less).queue).0
+some_width : (s : Plan) (i : ℕ) → IsWithinLimits s → i < length s.items → 1 ≤ plan_width s (plan_queue s i)
+some_width s i fine less = (all_at IsQueue s.queues (plan_queue s i) no_sim_queue fine.queues (all_at (IsItem (length s.queues)) s.items i no_item fine.items less).queue).0
 
 pub queues : (s : Plan) (m : Moment) (i : ℕ) → IsWithinLimits s → i < length s.items → Queues s m → Queues s (queue_item s m i)
-queues s m i fine less h = at (nat_lt (count_by (is_of s (queue_of s i)) (m.ready ++ m.behind)) (max_active s (queue_of s i))) refl
+queues s m i fine less h = at (nat_lt (count_by (is_of_plan_queue s (plan_queue s i)) (m.ready ++ m.behind)) (plan_width s (plan_queue s i))) refl
   where
-    at : (b : Bool) → nat_lt (count_by (is_of s (queue_of s i)) (m.ready ++ m.behind)) (max_active s (queue_of s i)) ≡ b
+    at : (b : Bool) → nat_lt (count_by (is_of_plan_queue s (plan_queue s i)) (m.ready ++ m.behind)) (plan_width s (plan_queue s i)) ≡ b
         → Queues s (if b then record m { ready = m.ready ++ i ∷ [] } else record m { behind = m.behind ++ i ∷ [] })
     at true room = record {
-      ready = all_one (λ k. k < length s.items) m.ready i h.ready less;
+      ready = All_push (λ k. k < length s.items) m.ready i h.ready less;
       behind = h.behind;
       cpu = h.cpu;
       sleeping = h.sleeping;
-      held = λ q some. any-append (is_of s q) m.ready (i ∷ []) ∙ ap (λ b. b || list_any (is_of s q) (i ∷ [])) (h.held q some);
+      held = λ q some. any-append (is_of_plan_queue s q) m.ready (i ∷ []) ∙ ap (λ b. b || list_any (is_of_plan_queue s q) (i ∷ [])) (h.held q some);
     }
     at false full = record {
       ready = h.ready;
-      behind = all_one (λ k. k < length s.items) m.behind i h.behind less;
+      behind = All_push (λ k. k < length s.items) m.behind i h.behind less;
       cpu = h.cpu;
       sleeping = h.sleeping;
-      held = λ q some. either q (is_of s q i) refl (sym (last_any (is_of s q) m.behind i (is_of s q i) refl) ∙ some);
+      held = λ q some. either q (is_of_plan_queue s q i) refl (sym (last_any (is_of_plan_queue s q) m.behind i (is_of_plan_queue s q i) refl) ∙ some);
     }
       where
-        old : (q : ℕ) (a b : Bool) → list_any (is_of s q) m.ready ≡ a → list_any (is_of s q) m.behind ≡ b → (a || b) ≡ true → a ≡ true
+        old : (q : ℕ) (a b : Bool) → list_any (is_of_plan_queue s q) m.ready ≡ a → list_any (is_of_plan_queue s q) m.behind ≡ b → (a || b) ≡ true → a ≡ true
         old q true b l k h2 = refl
         old q false true l k h2 = sym l ∙ h.held q k
         old q false false l k h2 = h2
 
-        either : (q : ℕ) (b : Bool) → is_of s q i ≡ b → (list_any (is_of s q) m.behind || is_of s q i) ≡ true → list_any (is_of s q) m.ready ≡ true
+        either : (q : ℕ) (b : Bool) → is_of_plan_queue s q i ≡ b → (list_any (is_of_plan_queue s q) m.behind || is_of_plan_queue s q i) ≡ true → list_any (is_of_plan_queue s q) m.ready ≡ true
         either q true is some =
             let wide = some_width s i fine less in
-            let many : 1 ≤ count_by (is_of s (queue_of s i)) (m.ready ++ m.behind) = grind (arith, nat_tests) in
-            let any : list_any (is_of s q) (m.ready ++ m.behind) ≡ true = subst (λ k. list_any (is_of s k) (m.ready ++ m.behind) ≡ true) (eqb-true (queue_of s i) q is) (any_of_count (is_of s (queue_of s i)) (m.ready ++ m.behind) many) in
-            old q (list_any (is_of s q) m.ready) (list_any (is_of s q) m.behind) refl refl (sym (any-append (is_of s q) m.ready m.behind) ∙ any)
-        either q false is some = h.held q (sym (nothing (list_any (is_of s q) m.behind)) ∙ ap (λ b. list_any (is_of s q) m.behind || b) (sym is) ∙ some)
+            let many : 1 ≤ count_by (is_of_plan_queue s (plan_queue s i)) (m.ready ++ m.behind) = grind (arith, nat_tests) in
+            let any : list_any (is_of_plan_queue s q) (m.ready ++ m.behind) ≡ true = subst (λ k. list_any (is_of_plan_queue s k) (m.ready ++ m.behind) ≡ true) (eqb-true (plan_queue s i) q is) (any_of_count (is_of_plan_queue s (plan_queue s i)) (m.ready ++ m.behind) many) in
+            old q (list_any (is_of_plan_queue s q) m.ready) (list_any (is_of_plan_queue s q) m.behind) refl refl (sym (any-append (is_of_plan_queue s q) m.ready m.behind) ∙ any)
+        either q false is some = h.held q (sym (nothing (list_any (is_of_plan_queue s q) m.behind)) ∙ ap (λ b. list_any (is_of_plan_queue s q) m.behind || b) (sym is) ∙ some)
           where
             nothing : (b : Bool) → (b || false) ≡ b
             nothing true = refl
@@ -76,7 +71,7 @@ all_queue s (suc len) k m fine less h = all_queue s len (k + 1) (queue_item s m 
 -- ---- what is left to do
 
 one_more : (s : Plan) (m : Moment) (i : ℕ) → rest s 0 (queue_item s m i) ≡ rest s 0 m + time_at s i
-one_more s m i = at (nat_lt (count_by (is_of s (queue_of s i)) (m.ready ++ m.behind)) (max_active s (queue_of s i)))
+one_more s m i = at (nat_lt (count_by (is_of_plan_queue s (plan_queue s i)) (m.ready ++ m.behind)) (plan_width s (plan_queue s i)))
   where
     at : (b : Bool) → rest s 0 (if b then record m { ready = m.ready ++ i ∷ [] } else record m { behind = m.behind ++ i ∷ [] }) ≡ rest s 0 m + time_at s i
     at true = let a = sum_by_push (time_at s) m.ready i in omega arith
@@ -106,13 +101,13 @@ sum_of_map : (f : Item → ℕ) (xs : List Item) → sum_by f xs ≡ sum (map f 
 sum_of_map f [] = refl
 sum_of_map f (x ∷ xs) = sum_by-cons f x xs ∙ ap (λ n. f x + n) (sum_of_map f xs) ∙ sym (sum_by-cons (λ n. n) (f x) (map f xs))
 
-pub whole_at_outset : (s : Plan) → rest s 0 (queued s) ≡ whole_time s
+pub whole_at_outset : (s : Plan) → rest s 0 (queued_at_first s) ≡ whole_time s
 whole_at_outset s = all_times s (length s.items) 0 empty ∙ ap (λ n. 0 + n) (each_time s (length s.items) 0 (omega arith) ∙ sum_of_map time_of s.items) ∙ omega arith
 
-pub begins : (s : Plan) → IsWithinLimits s → Begins s 0 (queued s)
+pub begins : (s : Plan) → IsWithinLimits s → Begins s 0 (queued_at_first s)
 begins s fine =
     let k = all_queue s (length s.items) 0 empty fine (omega arith) (record { ready = tt; behind = tt; cpu = refl; sleeping = refl; held = λ q some. some }) in
-    from (queued s) k
+    from (queued_at_first s) k
   where
     from : (m : Moment) → Queues s m → Begins s 0 m
     from m k = record {
@@ -128,4 +123,4 @@ begins s fine =
 pub all_items_end : AllItemsEnd
 all_items_end s fine =
     let w = whole_at_outset s in
-    all_pass s (suc (whole_time s)) 0 (queued s) fine (begins s fine) (inl (omega arith))
+    all_pass s (suc (whole_time s)) 0 (queued_at_first s) fine (begins s fine) (inl (omega arith))

@@ -1,27 +1,18 @@
 -- The phases of a millisecond, as the calls that make them.
-use Rattle.std.proofs.Common.{◌≡◌, ◌==◌, ◌+◌, ℕ, zero, suc, Bool, true, false, cond, not, ◌||◌, List, [], ◌∷◌, ◌++◌, length, drop, map, filter, find, Option, Some, None, refl, sym, ap, ap₂, ◌∙◌, subst, arith, option_to_list, append-nil, append_assoc, length-append, add-one}
-use Rattle.std.specs.Prelude.{if◌then◌else◌}
-use Rattle.std.specs.List.{AllByRecursion, list_any}
-use Rattle.std.proofs.lemmas.List.{map-append}
-use Rattle.std.proofs.lemmas.Bool.{eqb-true, eq-eqb, and_parts}
-use Rattle.std.proofs.lemmas.Option.{same_Some}
-use Rattle.cmwq_model.specs.declared.id.Who.TheVariants.{Worker}
-use Rattle.cmwq_model.specs.declared.entry.Entry.{Entry}
-use Rattle.cmwq_model.specs.Prelude.{entry_for}
+use Rattle.cmwq_sim.specs.Common.{◌≡◌, ◌==◌, ◌+◌, ℕ, zero, suc, Bool, true, false, cond, not, ◌||◌, List, [], ◌∷◌, ◌++◌, length, drop, map, filter, find, Option, Some, None, refl, sym, ap, ap₂, ◌∙◌, subst, arith, option_to_list, append-nil, append_assoc, length-append, add-one, if◌then◌else◌, AllByRecursion, list_any, map-append, eqb-true, eq-eqb, and_parts, same_Some, Worker, Entry, entry_for, All_each, count_none}
 use Rattle.cmwq_model.specs.declared.call.Call.TheVariants as call
-use Rattle.cmwq_theory_active.proofs.Lists.{All_each}
-use Rattle.cmwq_theory_steps.proofs.Filters.{count_none}
 use Rattle.cmwq_sim.specs.declared.scenario.LineKind.TheVariants as kind
-use Rattle.cmwq_sim.specs.Plan.{Plan, Event, queue_of, is_of}
-use Rattle.cmwq_sim.specs.Lines.{Moment, Job, Sleeper, make_ready, after_burn, after_sleep, serve_first, serve, is_due, is_not, wake_sleeper, wake_item, is_held_by, job_of, starting, tell_starts, start_these, start}
-use Rattle.cmwq_sim.specs.Shows.{layout_for, worker, is_job, is_sleeper, Shows, to_start, next_of}
+use Rattle.cmwq_sim.specs.Plan.{Plan, Event, plan_queue, is_of_plan_queue}
+use Rattle.cmwq_sim.specs.Lines.{Moment, Job, Sleeper, make_ready, after_burn, after_sleep, serve_first, serve, is_due, is_other_sleeper, wake_sleeper, wake_item, is_job_held, job_of, starting_items, tell_starts, start_these, start}
+use Rattle.cmwq_sim.specs.Shows.{layout_for, plan_worker, is_job, is_sleeper, Shows, to_start, next_of}
 use Rattle.cmwq_sim.specs.Takers.{IsTaker, NoTaker}
 use Rattle.cmwq_sim.proofs.TakeReads.{any_counted}
-use Rattle.cmwq_sim.proofs.Steps.{all_kept, any-append, alone, asleep_with, sleep_shown}
-use Rattle.cmwq_sim.proofs.TakeShown.{slot_with, started_with, take_shown}
+use Rattle.cmwq_sim.proofs.Steps.{any-append, alone, asleep_with, sleep_shown}
+use Rattle.cmwq_sim.proofs.TakeShown.{started_with}
 use Rattle.cmwq_sim.proofs.FinishShown.{is_kept, ended_with, finish_shown}
 use Rattle.cmwq_sim.proofs.WakeShown.{awake_with, wake_shown}
 use Rattle.cmwq_sim.proofs.TakersAre.{taker_starts, no_taker, starting_goes, starting_stops}
+use Rattle.cmwq_lemmas.proofs.Lists.{filter_all, found_passes}
 
 -- a history doesn't show the lines
 pub other_lines : (s : Plan) (past : List Entry) (m : Moment) (slot : ℕ → ℕ) (ls : List Event) → Shows s past m slot → Shows s past (record m { lines = ls }) slot
@@ -46,47 +37,41 @@ ready_made : (s : Plan) (past : List Entry) (m : Moment) (slot : ℕ → ℕ) (j
     → Shows s past (make_ready (record m { cpu = js; lines = ls }) o) slot
 ready_made s past m slot js ls None h =
     subst (λ xs. Shows s past (record m { ready = xs; cpu = js; lines = ls }) slot) (append-nil m.ready)
-    (subst (λ xs. Shows s past (record m { ready = m.ready ++ []; behind = xs; cpu = js; lines = ls }) slot) (all_kept (is_kept None) m.behind (All_each _ m.behind (λ k. refl))) h)
+    (subst (λ xs. Shows s past (record m { ready = m.ready ++ []; behind = xs; cpu = js; lines = ls }) slot) (filter_all (is_kept None) m.behind (All_each _ m.behind (λ k. refl))) h)
 ready_made s past m slot js ls (Some z) h = h
 
 pub end_shown : (s : Plan) (past : List Entry) (m : Moment) (slot : ℕ → ℕ) (i : ℕ) (js : List Job) (ls : List Event) → Shows s past m slot → list_any (is_job i) m.cpu ≡ true → filter (λ k. not (is_job i k)) m.cpu ≡ js
-    → Shows s (entry_for (layout_for s) past (Worker (worker (slot i))) call.Finish ∷ past) (make_ready (record m { cpu = js; lines = ls }) (find (is_of s (queue_of s i)) m.behind)) slot
+    → Shows s (entry_for (layout_for s) past (Worker (plan_worker (slot i))) call.Finish ∷ past) (make_ready (record m { cpu = js; lines = ls }) (find (is_of_plan_queue s (plan_queue s i)) m.behind)) slot
 end_shown s past m slot i js ls h on left =
     ready_made s (e ∷ past) m slot js ls o
     (subst (λ xs. Shows s (e ∷ past) (record m { ready = m.ready ++ option_to_list o; behind = filter (is_kept o) m.behind; cpu = xs; lines = ls }) slot) left
     (other_lines s (e ∷ past) (ended_with m i o) slot ls (finish_shown s past m slot i o h on refl)))
   where
     o : Option ℕ
-    o = find (is_of s (queue_of s i)) m.behind
+    o = find (is_of_plan_queue s (plan_queue s i)) m.behind
 
     e : Entry
-    e = entry_for (layout_for s) past (Worker (worker (slot i))) call.Finish
+    e = entry_for (layout_for s) past (Worker (plan_worker (slot i))) call.Finish
 
 -- ---- (1) the first of the CPU's list sleeps or ends
 
 pub serve_is : (s : Plan) (t : ℕ) (m : Moment) (j : Job) (js : List Job) → m.cpu ≡ j ∷ js → (j.burn == 0) ≡ true → serve s t m ≡ after_burn s t (record m { cpu = js }) j.item j.left
 serve_is s t m j js is done = ap (serve_first s t m) is ∙ ap (λ b. if b then after_burn s t (record m { cpu = js }) j.item j.left else m) done
 
-pub serve_burns : (s : Plan) (t : ℕ) (m : Moment) (j : Job) (js : List Job) → m.cpu ≡ j ∷ js → (j.burn == 0) ≡ false → serve s t m ≡ m
-serve_burns s t m j js is burns = ap (serve_first s t m) is ∙ ap (λ b. if b then after_burn s t (record m { cpu = js }) j.item j.left else m) burns
-
-pub serve_idle : (s : Plan) (t : ℕ) (m : Moment) → m.cpu ≡ [] → serve s t m ≡ m
-serve_idle s t m is = ap (serve_first s t m) is
-
 pub serve_sleeps : (s : Plan) (t : ℕ) (past : List Entry) (m : Moment) (slot : ℕ → ℕ) (j : Job) (js : List Job) (pause : ℕ) (left : List ℕ) → Shows s past m slot → m.cpu ≡ j ∷ js → (j.burn == 0) ≡ true → j.left ≡ pause ∷ left
-    → Shows s (entry_for (layout_for s) past (Worker (worker (slot j.item))) call.Sleep ∷ past) (serve s t m) slot
+    → Shows s (entry_for (layout_for s) past (Worker (plan_worker (slot j.item))) call.Sleep ∷ past) (serve s t m) slot
 serve_sleeps s t past m slot j js pause left h is done parts =
-    subst (λ n. Shows s (entry_for (layout_for s) past (Worker (worker (slot j.item))) call.Sleep ∷ past) n slot) (sym (serve_is s t m j js is done ∙ ap (after_burn s t (record m { cpu = js }) j.item) parts))
-    (other_lines s (entry_for (layout_for s) past (Worker (worker (slot j.item))) call.Sleep ∷ past) (asleep_with m j js (t + pause) left) slot (m.lines ++ record { at = t; kind = kind.Sleeps; items = j.item ∷ [] } ∷ []) (sleep_shown s past m slot j js (t + pause) left h is))
+    subst (λ n. Shows s (entry_for (layout_for s) past (Worker (plan_worker (slot j.item))) call.Sleep ∷ past) n slot) (sym (serve_is s t m j js is done ∙ ap (after_burn s t (record m { cpu = js }) j.item) parts))
+    (other_lines s (entry_for (layout_for s) past (Worker (plan_worker (slot j.item))) call.Sleep ∷ past) (asleep_with m j js (t + pause) left) slot (m.lines ++ record { at = t; kind = kind.Sleeps; items = j.item ∷ [] } ∷ []) (sleep_shown s past m slot j js (t + pause) left h is))
 
 pub serve_ends : (s : Plan) (t : ℕ) (past : List Entry) (m : Moment) (slot : ℕ → ℕ) (j : Job) (js : List Job) → Shows s past m slot → m.cpu ≡ j ∷ js → (j.burn == 0) ≡ true → j.left ≡ []
-    → Shows s (entry_for (layout_for s) past (Worker (worker (slot j.item))) call.Finish ∷ past) (serve s t m) slot
+    → Shows s (entry_for (layout_for s) past (Worker (plan_worker (slot j.item))) call.Finish ∷ past) (serve s t m) slot
 serve_ends s t past m slot j js h is done parts =
-    subst (λ n. Shows s (entry_for (layout_for s) past (Worker (worker (slot j.item))) call.Finish ∷ past) n slot) (sym (serve_is s t m j js is done ∙ ap (after_burn s t (record m { cpu = js }) j.item) parts))
+    subst (λ n. Shows s (entry_for (layout_for s) past (Worker (plan_worker (slot j.item))) call.Finish ∷ past) n slot) (sym (serve_is s t m j js is done ∙ ap (after_burn s t (record m { cpu = js }) j.item) parts))
     (end_shown s past m slot j.item js (m.lines ++ record { at = t; kind = kind.Ends; items = j.item ∷ [] } ∷ []) h
     (ap (list_any (is_job j.item)) is ∙ ap (λ b. b || list_any (is_job j.item) js) (eq-eqb j.item j.item refl))
     (ap (filter (λ k. not (is_job j.item k))) is ∙ ap (λ b. cond (not b) (j ∷ filter (λ k. not (is_job j.item k)) js) (filter (λ k. not (is_job j.item k)) js)) (eq-eqb j.item j.item refl)
-    ∙ all_kept (λ k. not (is_job j.item k)) js (turned js (alone m j js is (h.once j.item)).0)))
+    ∙ filter_all (λ k. not (is_job j.item k)) js (turned js (alone m j js is (h.once j.item)).0)))
   where
     turned : (ks : List Job) → AllByRecursion (λ k. is_job j.item k ≡ false) ks → AllByRecursion (λ k. not (is_job j.item k) ≡ true) ks
     turned [] all = tt
@@ -106,14 +91,6 @@ found_any p q more (x ∷ xs) z is = at (p x) refl is (λ k. found_any p q more 
     at true h k later = ap (λ b. b || list_any q xs) (more x h)
     at false h k later = ap (λ b. q x || b) (later k) ∙ either (q x)
 
-pub found_passes : {X : Type 0} (p : X → Bool) (xs : List X) (z : X) → find p xs ≡ Some z → p z ≡ true
-found_passes p [] z is = cc
-found_passes p (x ∷ xs) z is = at (p x) refl is (λ k. found_passes p xs z k)
-  where
-    at : (b : Bool) → p x ≡ b → cond b (Some x) (find p xs) ≡ Some z → (find p xs ≡ Some z → p z ≡ true) → p z ≡ true
-    at true h k later = sym (ap p (same_Some x z k)) ∙ h
-    at false h k later = later k
-
 pub due_item : (t i : ℕ) (x : Sleeper) → is_due t i x ≡ true → x.item ≡ i
 due_item t i x h = eqb-true x.item i (and_parts (x.item == i) (x.until == t) h).0
 
@@ -130,17 +107,17 @@ module _ (s : Plan) (t i : ℕ) (past : List Entry) (m : Moment) (slot : ℕ →
   asleep : list_any (is_sleeper x.item) m.sleeping ≡ true
   asleep = subst (λ k. list_any (is_sleeper k) m.sleeping ≡ true) (sym its) (asleep_there t i m x due)
 
-  wake_is : (left : List ℕ) → x.left ≡ left → wake_item s t m i ≡ after_sleep s t (record m { sleeping = filter (is_not x.item) m.sleeping }) x.item left
-  wake_is left parts = ap (wake_sleeper s t m) due ∙ ap (after_sleep s t (record m { sleeping = filter (is_not x.item) m.sleeping }) x.item) parts
+  wake_is : (left : List ℕ) → x.left ≡ left → wake_item s t m i ≡ after_sleep s t (record m { sleeping = filter (is_other_sleeper x.item) m.sleeping }) x.item left
+  wake_is left parts = ap (wake_sleeper s t m) due ∙ ap (after_sleep s t (record m { sleeping = filter (is_other_sleeper x.item) m.sleeping }) x.item) parts
 
   woken : List Entry
-  woken = entry_for (layout_for s) past (Worker (worker (slot i))) call.Wake ∷ past
+  woken = entry_for (layout_for s) past (Worker (plan_worker (slot i))) call.Wake ∷ past
 
-  pub wake_burns : (b : ℕ) (left : List ℕ) → x.left ≡ b ∷ left → Shows s (entry_for (layout_for s) past (Worker (worker (slot i))) call.Wake ∷ past) (wake_item s t m i) slot
+  pub wake_burns : (b : ℕ) (left : List ℕ) → x.left ≡ b ∷ left → Shows s (entry_for (layout_for s) past (Worker (plan_worker (slot i))) call.Wake ∷ past) (wake_item s t m i) slot
   wake_burns b left parts =
-      subst (λ k. Shows s (entry_for (layout_for s) past (Worker (worker (slot k))) call.Wake ∷ past) (wake_item s t m i) slot) its
-      (subst (λ n. Shows s (entry_for (layout_for s) past (Worker (worker (slot x.item))) call.Wake ∷ past) n slot) (sym (wake_is (b ∷ left) parts))
-      (other_lines s (entry_for (layout_for s) past (Worker (worker (slot x.item))) call.Wake ∷ past) (awake_with m x.item b left) slot (m.lines ++ record { at = t; kind = kind.WakesBurns; items = x.item ∷ [] } ∷ []) (wake_shown s past m slot x.item b left h asleep)))
+      subst (λ k. Shows s (entry_for (layout_for s) past (Worker (plan_worker (slot k))) call.Wake ∷ past) (wake_item s t m i) slot) its
+      (subst (λ n. Shows s (entry_for (layout_for s) past (Worker (plan_worker (slot x.item))) call.Wake ∷ past) n slot) (sym (wake_is (b ∷ left) parts))
+      (other_lines s (entry_for (layout_for s) past (Worker (plan_worker (slot x.item))) call.Wake ∷ past) (awake_with m x.item b left) slot (m.lines ++ record { at = t; kind = kind.WakesBurns; items = x.item ∷ [] } ∷ []) (wake_shown s past m slot x.item b left h asleep)))
 
   joined : list_any (is_job x.item) (m.cpu ++ record { item = x.item; burn = 0; left = [] } ∷ []) ≡ true
   joined = any-append (is_job x.item) m.cpu (record { item = x.item; burn = 0; left = [] } ∷ []) ∙ ap (λ b. list_any (is_job x.item) m.cpu || (b || false)) (eq-eqb x.item x.item refl) ∙ either (list_any (is_job x.item) m.cpu)
@@ -156,11 +133,11 @@ module _ (s : Plan) (t i : ℕ) (past : List Entry) (m : Moment) (slot : ℕ →
       over [] all = ap (λ b. cond (not b) (record { item = x.item; burn = 0; left = [] } ∷ []) []) (eq-eqb x.item x.item refl)
       over (j ∷ js) all = ap₂ (λ b ys. cond (not b) (j ∷ ys) ys) all.0 (over js all.1)
 
-  pub wake_ends : x.left ≡ [] → Shows s (entry_for (layout_for s) (entry_for (layout_for s) past (Worker (worker (slot i))) call.Wake ∷ past) (Worker (worker (slot i))) call.Finish ∷ entry_for (layout_for s) past (Worker (worker (slot i))) call.Wake ∷ past) (wake_item s t m i) slot
+  pub wake_ends : x.left ≡ [] → Shows s (entry_for (layout_for s) (entry_for (layout_for s) past (Worker (plan_worker (slot i))) call.Wake ∷ past) (Worker (plan_worker (slot i))) call.Finish ∷ entry_for (layout_for s) past (Worker (plan_worker (slot i))) call.Wake ∷ past) (wake_item s t m i) slot
   wake_ends parts =
-      subst (λ k. Shows s (entry_for (layout_for s) (entry_for (layout_for s) past (Worker (worker (slot k))) call.Wake ∷ past) (Worker (worker (slot k))) call.Finish ∷ entry_for (layout_for s) past (Worker (worker (slot k))) call.Wake ∷ past) (wake_item s t m i) slot) its
-      (subst (λ n. Shows s (entry_for (layout_for s) (entry_for (layout_for s) past (Worker (worker (slot x.item))) call.Wake ∷ past) (Worker (worker (slot x.item))) call.Finish ∷ entry_for (layout_for s) past (Worker (worker (slot x.item))) call.Wake ∷ past) n slot) (sym (wake_is [] parts))
-      (end_shown s (entry_for (layout_for s) past (Worker (worker (slot x.item))) call.Wake ∷ past) (awake_with m x.item 0 []) slot x.item m.cpu (m.lines ++ record { at = t; kind = kind.WakesEnds; items = x.item ∷ [] } ∷ []) (wake_shown s past m slot x.item 0 [] h asleep) joined others))
+      subst (λ k. Shows s (entry_for (layout_for s) (entry_for (layout_for s) past (Worker (plan_worker (slot k))) call.Wake ∷ past) (Worker (plan_worker (slot k))) call.Finish ∷ entry_for (layout_for s) past (Worker (plan_worker (slot k))) call.Wake ∷ past) (wake_item s t m i) slot) its
+      (subst (λ n. Shows s (entry_for (layout_for s) (entry_for (layout_for s) past (Worker (plan_worker (slot x.item))) call.Wake ∷ past) (Worker (plan_worker (slot x.item))) call.Finish ∷ entry_for (layout_for s) past (Worker (plan_worker (slot x.item))) call.Wake ∷ past) n slot) (sym (wake_is [] parts))
+      (end_shown s (entry_for (layout_for s) past (Worker (plan_worker (slot x.item))) call.Wake ∷ past) (awake_with m x.item 0 []) slot x.item m.cpu (m.lines ++ record { at = t; kind = kind.WakesEnds; items = x.item ∷ [] } ∷ []) (wake_shown s past m slot x.item 0 [] h asleep) joined others))
 
 -- ---- (3) starts, one take after the other
 
@@ -175,12 +152,12 @@ first_is (x ∷ xs) n h = ap (λ k. k ∷ xs) (same_Some x n h)
 -- what would start is the first of the ready ones, and nothing holds it
 pub record MayStart (s : Plan) (m : Moment) (n : ℕ) : Type 0 where
   pub first : m.ready ≡ n ∷ drop 1 m.ready
-  pub clear : list_any (is_held_by s) m.cpu ≡ false
+  pub clear : list_any (is_job_held s) m.cpu ≡ false
 
 pub may_start : (s : Plan) (m : Moment) (n : ℕ) → to_start s m ≡ Some n → MayStart s m n
-may_start s m n h = at (list_any (is_held_by s) m.cpu) refl h
+may_start s m n h = at (list_any (is_job_held s) m.cpu) refl h
   where
-    at : (b : Bool) → list_any (is_held_by s) m.cpu ≡ b → (if b then None else next_of m.ready) ≡ Some n → MayStart s m n
+    at : (b : Bool) → list_any (is_job_held s) m.cpu ≡ b → (if b then None else next_of m.ready) ≡ Some n → MayStart s m n
     at true is k = cc
     at false is k = record { first = first_is m.ready n k; clear = is }
 
@@ -194,25 +171,17 @@ takes_on s m is n = ap₂ (λ rs js. record m { ready = rs; cpu = js })
     (drop_next (length is) m.ready ∙ ap (λ k. drop k m.ready) (sym (length-append is (n ∷ []) ∙ add-one (length is))))
     (append_assoc m.cpu (map (job_of s) is) (job_of s n ∷ []) ∙ ap (λ js. m.cpu ++ js) (sym (map-append (job_of s) is (n ∷ []))))
 
-pub take_goes : (s : Plan) (past : List Entry) (m : Moment) (slot : ℕ → ℕ) (is : List ℕ) (x n : ℕ) → Shows s past (taken s m is) slot → IsTaker (layout_for s) past x n
-    → Shows s (entry_for (layout_for s) past (Worker (worker x)) call.Take ∷ past) (taken s m (is ++ n ∷ [])) (slot_with slot n x)
-take_goes s past m slot is x n h t =
-    let k = taker_starts s past (taken s m is) slot x n h t in
-    let may = may_start s (taken s m is) n k.1 in
-    subst (λ m2. Shows s (entry_for (layout_for s) past (Worker (worker x)) call.Take ∷ past) m2 (slot_with slot n x)) (takes_on s m is n)
-    (take_shown s past (taken s m is) slot x n (drop 1 (taken s m is).ready) h t.below k.0 may.first may.clear)
-
 -- what has started, and what would start then, is what starts in all
 pub starts_on : (s : Plan) (past : List Entry) (m : Moment) (slot : ℕ → ℕ) (is : List ℕ) (x n : ℕ) → Shows s past (taken s m is) slot → IsTaker (layout_for s) past x n
-    → is ++ starting s (taken s m is).cpu (taken s m is).ready ≡ (is ++ n ∷ []) ++ starting s (taken s m (is ++ n ∷ [])).cpu (taken s m (is ++ n ∷ [])).ready
+    → is ++ starting_items s (taken s m is).cpu (taken s m is).ready ≡ (is ++ n ∷ []) ++ starting_items s (taken s m (is ++ n ∷ [])).cpu (taken s m (is ++ n ∷ [])).ready
 starts_on s past m slot is x n h t =
     let k = taker_starts s past (taken s m is) slot x n h t in
     let may = may_start s (taken s m is) n k.1 in
-    ap (λ rs. is ++ starting s (taken s m is).cpu rs) may.first ∙ ap (λ ks. is ++ ks) (starting_goes s (taken s m is).cpu n (drop 1 (taken s m is).ready) may.clear)
-    ∙ sym (append_assoc is (n ∷ []) (starting s ((taken s m is).cpu ++ job_of s n ∷ []) (drop 1 (taken s m is).ready)))
-    ∙ ap (λ (m2 : Moment). (is ++ n ∷ []) ++ starting s m2.cpu m2.ready) (takes_on s m is n)
+    ap (λ rs. is ++ starting_items s (taken s m is).cpu rs) may.first ∙ ap (λ ks. is ++ ks) (starting_goes s (taken s m is).cpu n (drop 1 (taken s m is).ready) may.clear)
+    ∙ sym (append_assoc is (n ∷ []) (starting_items s ((taken s m is).cpu ++ job_of s n ∷ []) (drop 1 (taken s m is).ready)))
+    ∙ ap (λ (m2 : Moment). (is ++ n ∷ []) ++ starting_items s m2.cpu m2.ready) (takes_on s m is n)
 
-pub start_is : (s : Plan) (t : ℕ) (past : List Entry) (m : Moment) (slot : ℕ → ℕ) (is : List ℕ) → Shows s past (taken s m is) slot → NoTaker (layout_for s) past 8 → starting s m.cpu m.ready ≡ is ++ starting s (taken s m is).cpu (taken s m is).ready
+pub start_is : (s : Plan) (t : ℕ) (past : List Entry) (m : Moment) (slot : ℕ → ℕ) (is : List ℕ) → Shows s past (taken s m is) slot → NoTaker (layout_for s) past 8 → starting_items s m.cpu m.ready ≡ is ++ starting_items s (taken s m is).cpu (taken s m is).ready
     → start s t m ≡ tell_starts t is (taken s m is)
 start_is s t past m slot is h nobody so =
     ap (start_these s t m) (so ∙ ap (λ ks. is ++ ks) (starting_stops s (taken s m is) (no_taker s past (taken s m is) slot h nobody)) ∙ append-nil is)

@@ -1,18 +1,14 @@
 -- Each millisecond takes one off what is left to do, until nobody is left.
-use Rattle.std.proofs.Common.{◌≡◌, ◌==◌, ◌<◌, ◌≤◌, ◌+◌, ◌-◌, ℕ, zero, suc, Bool, true, false, cond, not, ◌&&◌, ◌||◌, List, [], ◌∷◌, ◌++◌, length, drop, map, filter, find, Option, Some, None, refl, sym, ap, ap₂, ◌∙◌, subst, arith, ◌⊎◌, inl, inr, ⊎_elim}
-use Rattle.std.specs.Prelude.{if◌then◌else◌, slice_index_or, sum, sum_by, fold}
-use Rattle.std.specs.List.{AllByRecursion, list_any, range_with_len}
-use Rattle.std.proofs.lemmas.Bool.{eqb-true, eq-eqb, and_parts}
-use Rattle.std.proofs.lemmas.Bool.Decides.{nat_tests}
-use Rattle.std.proofs.lemmas.List.Sums.{sum_by-cons, sum_by-append, sum_by_push}
-use Rattle.std.proofs.lemmas.Option.{same_Some}
-use Rattle.cmwq_theory_active.proofs.Lists.{All_map, All_both, All_append, All_filter, All_each}
+use Rattle.cmwq_sim.specs.Common.{◌≡◌, ◌==◌, ◌<◌, ◌≤◌, ◌+◌, ◌-◌, ℕ, zero, suc, Bool, true, false, cond, not, ◌&&◌, ◌||◌, List, [], ◌∷◌, ◌++◌, length, drop, map, filter, find, Option, Some, None, refl, sym, ap, ap₂, ◌∙◌, subst, arith, ◌⊎◌, inl, inr, ⊎_elim, if◌then◌else◌, slice_index_or, sum, sum_by, fold, AllByRecursion, list_any, range_with_len, eqb-true, eq-eqb, and_parts, nat_tests, sum_by-cons, sum_by-append, sum_by_push, same_Some, All_map, All_both, All_append, All_filter, All_each}
 use Rattle.cmwq_sim.specs.declared.scenario.LineKind.TheVariants as kind
-use Rattle.cmwq_sim.specs.Plan.{Plan, Event, queue_of, ms_of, is_of, no_item}
+use Rattle.cmwq_sim.specs.Plan.{Plan, Event, plan_queue, ms_of, is_of_plan_queue, no_item}
 use Rattle.cmwq_sim.specs.Limits.{IsBetween, IsItem, IsWithinLimits}
-use Rattle.cmwq_sim.specs.Lines.{Moment, Job, Sleeper, is_other, make_ready, end, after_burn, after_sleep, serve_first, serve, is_due, is_not, wake_sleeper, wake_item, wake, is_held_by, job_with, job_of, starting, tell, tell_starts, start_these, start, burn_first, burn, millisecond}
+use Rattle.cmwq_sim.specs.Lines.{Moment, Job, Sleeper, is_other_item, make_ready, end_job, after_burn, after_sleep, serve_first, serve, is_due, is_other_sleeper, wake_sleeper, wake_item, wake_sleepers, is_job_held, job_with, job_of, starting_items, tell, tell_starts, start_these, start, burn_first, burn, millisecond}
 use Rattle.cmwq_sim.specs.Ends.{NobodyIsLeft}
 use Rattle.cmwq_sim.proofs.Steps.{any-append}
+use Rattle.std.proofs.lemmas.Bool.{not-true}
+use Rattle.cmwq_lemmas.proofs.Lists.{All_push}
+use Rattle.cmwq_sim.proofs.TakeShown.{job_item}
 
 -- ---- lists
 
@@ -20,9 +16,6 @@ pub all_at : {X : Type 0} (P : X → Type 0) (xs : List X) (i : ℕ) (d : X) →
 all_at P [] i d all less = absurd (omega arith)
 all_at P (x ∷ xs) zero d all less = all.0
 all_at P (x ∷ xs) (suc i) d all less = all_at P xs i d all.1 (omega arith)
-
-pub all_one : {X : Type 0} (P : X → Type 0) (xs : List X) (x : X) → AllByRecursion P xs → P x → AllByRecursion P (xs ++ x ∷ [])
-all_one P xs x all one = All_append P xs (x ∷ []) all (one, tt)
 
 all_split : {X : Type 0} (P : X → Type 0) (xs ys : List X) → AllByRecursion P (xs ++ ys) → AllByRecursion P xs × AllByRecursion P ys
 all_split P [] ys all = (tt, all)
@@ -134,21 +127,21 @@ pub record IsSleeper (s : Plan) (t : ℕ) (x : Sleeper) : Type 0 where
   pub left : Lasting x.left
 
 abbrev pub of_job : Plan → ℕ → Job → Bool
-of_job s q j = is_of s q j.item
+of_job s q j = is_of_plan_queue s q j.item
 
 abbrev pub of_sleeper : Plan → ℕ → Sleeper → Bool
-of_sleeper s q x = is_of s q x.item
+of_sleeper s q x = is_of_plan_queue s q x.item
 
 -- an item of this queue is active
 abbrev pub active : Plan → ℕ → Moment → Bool
-active s q m = (list_any (is_of s q) m.ready || list_any (of_job s q) m.cpu) || list_any (of_sleeper s q) m.sleeping
+active s q m = (list_any (is_of_plan_queue s q) m.ready || list_any (of_job s q) m.cpu) || list_any (of_sleeper s q) m.sleeping
 
 -- those behind wait for one of their queue
 pub record Sound (s : Plan) (t : ℕ) (m : Moment) : Type 0 where
   pub ready : AllByRecursion (λ i. i < length s.items) m.ready
   pub behind : AllByRecursion (λ i. i < length s.items) m.behind
   pub sleeping : AllByRecursion (IsSleeper s t) m.sleeping
-  pub held : (q : ℕ) → list_any (is_of s q) m.behind ≡ true → active s q m ≡ true
+  pub held : (q : ℕ) → list_any (is_of_plan_queue s q) m.behind ≡ true → active s q m ≡ true
 
 -- the same, where one more item is in hand
 pub record Loose (s : Plan) (t i : ℕ) (m : Moment) : Type 0 where
@@ -156,7 +149,7 @@ pub record Loose (s : Plan) (t i : ℕ) (m : Moment) : Type 0 where
   pub ready : AllByRecursion (λ k. k < length s.items) m.ready
   pub behind : AllByRecursion (λ k. k < length s.items) m.behind
   pub sleeping : AllByRecursion (IsSleeper s t) m.sleeping
-  pub held : (q : ℕ) → list_any (is_of s q) m.behind ≡ true → (active s q m || is_of s q i) ≡ true
+  pub held : (q : ℕ) → list_any (is_of_plan_queue s q) m.behind ≡ true → (active s q m || is_of_plan_queue s q i) ≡ true
 
 -- ---- the item in hand sleeps, runs, or ends
 
@@ -172,9 +165,9 @@ pub to_sleep : (s : Plan) (t i pause : ℕ) (left : List ℕ) (m : Moment) (ls :
 to_sleep s t i pause left m ls h more lasting = record {
   ready = h.ready;
   behind = h.behind;
-  sleeping = all_one (IsSleeper s t) m.sleeping (record { item = i; until = t + pause; left = left }) h.sleeping (record { there = h.there; later = omega arith; left = lasting });
-  held = λ q some. ap (λ b. (list_any (is_of s q) m.ready || list_any (of_job s q) m.cpu) || b) (last_any (of_sleeper s q) m.sleeping (record { item = i; until = t + pause; left = left }) (is_of s q i) refl)
-      ∙ moved (list_any (is_of s q) m.ready || list_any (of_job s q) m.cpu) (list_any (of_sleeper s q) m.sleeping) (is_of s q i) (h.held q some);
+  sleeping = All_push (IsSleeper s t) m.sleeping (record { item = i; until = t + pause; left = left }) h.sleeping (record { there = h.there; later = omega arith; left = lasting });
+  held = λ q some. ap (λ b. (list_any (is_of_plan_queue s q) m.ready || list_any (of_job s q) m.cpu) || b) (last_any (of_sleeper s q) m.sleeping (record { item = i; until = t + pause; left = left }) (is_of_plan_queue s q i) refl)
+      ∙ moved (list_any (is_of_plan_queue s q) m.ready || list_any (of_job s q) m.cpu) (list_any (of_sleeper s q) m.sleeping) (is_of_plan_queue s q i) (h.held q some);
 }
   where
     moved : (a b c : Bool) → ((a || b) || c) ≡ true → (a || (b || c)) ≡ true
@@ -186,8 +179,8 @@ to_cpu s t i b left m ls h = record {
   ready = h.ready;
   behind = h.behind;
   sleeping = h.sleeping;
-  held = λ q some. ap (λ c. (list_any (is_of s q) m.ready || c) || list_any (of_sleeper s q) m.sleeping) (last_any (of_job s q) m.cpu (record { item = i; burn = b; left = left }) (is_of s q i) refl)
-      ∙ moved (list_any (is_of s q) m.ready) (list_any (of_job s q) m.cpu) (list_any (of_sleeper s q) m.sleeping) (is_of s q i) (h.held q some);
+  held = λ q some. ap (λ c. (list_any (is_of_plan_queue s q) m.ready || c) || list_any (of_sleeper s q) m.sleeping) (last_any (of_job s q) m.cpu (record { item = i; burn = b; left = left }) (is_of_plan_queue s q i) refl)
+      ∙ moved (list_any (is_of_plan_queue s q) m.ready) (list_any (of_job s q) m.cpu) (list_any (of_sleeper s q) m.sleeping) (is_of_plan_queue s q i) (h.held q some);
 }
   where
     moved : (a b c d : Bool) → (((a || b) || c) || d) ≡ true → ((a || (b || d)) || c) ≡ true
@@ -201,20 +194,20 @@ to_cpu s t i b left m ls h = record {
         turned true h = refl
         turned false h = h
 
-pub ends : (s : Plan) (t i : ℕ) (m : Moment) → Loose s t i m → Sound s t (end s i m)
-ends s t i m h = at (find (is_of s (queue_of s i)) m.behind) refl
+pub ends : (s : Plan) (t i : ℕ) (m : Moment) → Loose s t i m → Sound s t (end_job s i m)
+ends s t i m h = at (find (is_of_plan_queue s (plan_queue s i)) m.behind) refl
   where
-    at : (o : Option ℕ) → find (is_of s (queue_of s i)) m.behind ≡ o → Sound s t (make_ready m o)
+    at : (o : Option ℕ) → find (is_of_plan_queue s (plan_queue s i)) m.behind ≡ o → Sound s t (make_ready m o)
     at None none = record {
       ready = h.ready;
       behind = h.behind;
       sleeping = h.sleeping;
-      held = λ q some. other q (is_of s q i) refl (h.held q some) some;
+      held = λ q some. other q (is_of_plan_queue s q i) refl (h.held q some) some;
     }
       where
-        other : (q : ℕ) (b : Bool) → is_of s q i ≡ b → (active s q m || is_of s q i) ≡ true → list_any (is_of s q) m.behind ≡ true → active s q m ≡ true
+        other : (q : ℕ) (b : Bool) → is_of_plan_queue s q i ≡ b → (active s q m || is_of_plan_queue s q i) ≡ true → list_any (is_of_plan_queue s q) m.behind ≡ true → active s q m ≡ true
         other q true is held some =
-            let bad : true ≡ false = sym some ∙ ap (λ k. list_any (is_of s k) m.behind) (sym (eqb-true (queue_of s i) q is)) ∙ none_found_any (is_of s (queue_of s i)) m.behind none in
+            let bad : true ≡ false = sym some ∙ ap (λ k. list_any (is_of_plan_queue s k) m.behind) (sym (eqb-true (plan_queue s i) q is)) ∙ none_found_any (is_of_plan_queue s (plan_queue s i)) m.behind none in
             cc
         other q false is held some = sym (nothing (active s q m)) ∙ ap (λ b. active s q m || b) (sym is) ∙ held
           where
@@ -222,14 +215,14 @@ ends s t i m h = at (find (is_of s (queue_of s i)) m.behind) refl
             nothing true = refl
             nothing false = refl
     at (Some z) some_z =
-        let z_is = all_found (λ k. k < length s.items) (is_of s (queue_of s i)) m.behind z h.behind some_z in
+        let z_is = all_found (λ k. k < length s.items) (is_of_plan_queue s (plan_queue s i)) m.behind z h.behind some_z in
         record {
-          ready = all_one (λ k. k < length s.items) m.ready z h.ready z_is.0;
-          behind = all_kept (λ k. k < length s.items) (is_other z) m.behind h.behind;
+          ready = All_push (λ k. k < length s.items) m.ready z h.ready z_is.0;
+          behind = all_kept (λ k. k < length s.items) (is_other_item z) m.behind h.behind;
           sleeping = h.sleeping;
           held = λ q some. ap (λ b. (b || list_any (of_job s q) m.cpu) || list_any (of_sleeper s q) m.sleeping)
-              (last_any (is_of s q) m.ready z (is_of s q i) (ap (λ k. k == q) (eqb-true (queue_of s z) (queue_of s i) z_is.1)))
-              ∙ moved (list_any (is_of s q) m.ready) (list_any (of_job s q) m.cpu) (list_any (of_sleeper s q) m.sleeping) (is_of s q i) (h.held q (any_still (is_of s q) (is_other z) m.behind some));
+              (last_any (is_of_plan_queue s q) m.ready z (is_of_plan_queue s q i) (ap (λ k. k == q) (eqb-true (plan_queue s z) (plan_queue s i) z_is.1)))
+              ∙ moved (list_any (is_of_plan_queue s q) m.ready) (list_any (of_job s q) m.cpu) (list_any (of_sleeper s q) m.sleeping) (is_of_plan_queue s q i) (h.held q (any_still (is_of_plan_queue s q) (is_other_item z) m.behind some));
         }
       where
         moved : (a b c d : Bool) → (((a || b) || c) || d) ≡ true → (((a || d) || b) || c) ≡ true
@@ -239,14 +232,14 @@ ends s t i m h = at (find (is_of s (queue_of s i)) m.behind) refl
         moved false false true false h = refl
         moved false false false false h = h
 
-pub ends_less : (s : Plan) (t i : ℕ) (m : Moment) → rest s t (end s i m) ≤ rest s t m
-ends_less s t i m = at (find (is_of s (queue_of s i)) m.behind) refl
+pub ends_less : (s : Plan) (t i : ℕ) (m : Moment) → rest s t (end_job s i m) ≤ rest s t m
+ends_less s t i m = at (find (is_of_plan_queue s (plan_queue s i)) m.behind) refl
   where
-    at : (o : Option ℕ) → find (is_of s (queue_of s i)) m.behind ≡ o → rest s t (make_ready m o) ≤ rest s t m
+    at : (o : Option ℕ) → find (is_of_plan_queue s (plan_queue s i)) m.behind ≡ o → rest s t (make_ready m o) ≤ rest s t m
     at None none = omega arith
     at (Some z) some =
-        let out : is_other z z ≡ false = ap not (eq-eqb z z refl) in
-        let a = found_apart (time_at s) (is_of s (queue_of s i)) (is_other z) m.behind z some out in
+        let out : is_other_item z z ≡ false = ap not (eq-eqb z z refl) in
+        let a = found_apart (time_at s) (is_of_plan_queue s (plan_queue s i)) (is_other_item z) m.behind z some out in
         let b = sum_by_push (time_at s) m.ready z in
         omega arith
 
@@ -278,7 +271,7 @@ served s t m h first = at m.cpu refl first
           ready = h.ready;
           behind = h.behind;
           sleeping = h.sleeping;
-          held = λ q some. moved (list_any (is_of s q) m.ready) (of_job s q j) (list_any (of_job s q) js) (list_any (of_sleeper s q) m.sleeping) (sym (ap (λ xs. (list_any (is_of s q) m.ready || list_any (of_job s q) xs) || list_any (of_sleeper s q) m.sleeping) is) ∙ h.held q some);
+          held = λ q some. moved (list_any (is_of_plan_queue s q) m.ready) (of_job s q j) (list_any (of_job s q) js) (list_any (of_sleeper s q) m.sleeping) (sym (ap (λ xs. (list_any (is_of_plan_queue s q) m.ready || list_any (of_job s q) xs) || list_any (of_sleeper s q) m.sleeping) is) ∙ h.held q some);
         }
           where
             moved : (a d b c : Bool) → ((a || (d || b)) || c) ≡ true → (((a || b) || c) || d) ≡ true
@@ -304,7 +297,7 @@ served s t m h first = at m.cpu refl first
             more = grind (arith, nat_tests)
         over true done [] l = record {
           sound = ends s t j.item (tell t kind.Ends (j.item ∷ []) (record m { cpu = js })) (record { there = loose.there; ready = loose.ready; behind = loose.behind; sleeping = loose.sleeping; held = loose.held });
-          cpu = subst (AllByRecursion (IsRunning s)) (sym (same_cpu (find (is_of s (queue_of s j.item)) m.behind))) k.1;
+          cpu = subst (AllByRecursion (IsRunning s)) (sym (same_cpu (find (is_of_plan_queue s (plan_queue s j.item)) m.behind))) k.1;
           less = let a = ends_less s t j.item (tell t kind.Ends (j.item ∷ []) (record m { cpu = js })) in let w = without in omega arith;
         }
           where
@@ -329,10 +322,6 @@ served s t m h first = at m.cpu refl first
 pub record Woken (s : Plan) (t k r : ℕ) (m : Moment) : Type 0 where
   pub goes : Goes s t r m
   pub passed : AllByRecursion (λ (x : Sleeper). x.item < k → t + 1 ≤ x.until) m.sleeping
-
-not_true : (b : Bool) → not b ≡ true → b ≡ false
-not_true true h = cc
-not_true false h = refl
 
 not_false : (b : Bool) → not b ≡ false → b ≡ true
 not_false true h = refl
@@ -364,55 +353,55 @@ woke s t k r m h = at (find (is_due t k) m.sleeping) refl
         its = eqb-true x.item k (and_parts (x.item == k) (x.until == t) found.1).0
 
         m1 : Moment
-        m1 = record m { sleeping = filter (is_not x.item) m.sleeping }
+        m1 = record m { sleeping = filter (is_other_sleeper x.item) m.sleeping }
 
-        loose : Loose s t x.item (record m { sleeping = filter (is_not x.item) m.sleeping })
+        loose : Loose s t x.item (record m { sleeping = filter (is_other_sleeper x.item) m.sleeping })
         loose = record {
           there = found.0.there;
           ready = h.goes.sound.ready;
           behind = h.goes.sound.behind;
-          sleeping = all_kept (IsSleeper s t) (is_not x.item) m.sleeping h.goes.sound.sleeping;
-          held = λ q any. moved (list_any (is_of s q) m.ready || list_any (of_job s q) m.cpu) (list_any (of_sleeper s q) m.sleeping) (list_any (of_sleeper s q) (filter (is_not x.item) m.sleeping)) (is_of s q x.item) (h.goes.sound.held q any)
-              (λ c. any_removed (of_sleeper s q) (is_not x.item) (is_of s q x.item) (λ y out. ap (is_of s q) (eqb-true y.item x.item (not_false (y.item == x.item) out))) m.sleeping c);
+          sleeping = all_kept (IsSleeper s t) (is_other_sleeper x.item) m.sleeping h.goes.sound.sleeping;
+          held = λ q any. moved (list_any (is_of_plan_queue s q) m.ready || list_any (of_job s q) m.cpu) (list_any (of_sleeper s q) m.sleeping) (list_any (of_sleeper s q) (filter (is_other_sleeper x.item) m.sleeping)) (is_of_plan_queue s q x.item) (h.goes.sound.held q any)
+              (λ c. any_removed (of_sleeper s q) (is_other_sleeper x.item) (is_of_plan_queue s q x.item) (λ y out. ap (is_of_plan_queue s q) (eqb-true y.item x.item (not_false (y.item == x.item) out))) m.sleeping c);
         }
           where
             moved : (a c e d : Bool) → (a || c) ≡ true → (c ≡ true → (e || d) ≡ true) → ((a || e) || d) ≡ true
             moved true c e d h k = refl
             moved false c e d h k = k h
 
-        apart : sum_by (sleeper_rest t) (filter (is_not x.item) m.sleeping) + sleeper_rest t x ≤ sum_by (sleeper_rest t) m.sleeping
-        apart = found_apart (sleeper_rest t) (is_due t k) (is_not x.item) m.sleeping x some (ap not (eq-eqb x.item x.item refl))
+        apart : sum_by (sleeper_rest t) (filter (is_other_sleeper x.item) m.sleeping) + sleeper_rest t x ≤ sum_by (sleeper_rest t) m.sleeping
+        apart = found_apart (sleeper_rest t) (is_due t k) (is_other_sleeper x.item) m.sleeping x some (ap not (eq-eqb x.item x.item refl))
 
-        passed : AllByRecursion (λ (y : Sleeper). y.item < k + 1 → t + 1 ≤ y.until) (filter (is_not x.item) m.sleeping)
-        passed = All_filter (λ (y : Sleeper). y.item < k + 1 → t + 1 ≤ y.until) (is_not x.item) m.sleeping (All_map (λ (y : Sleeper). y.item < k → t + 1 ≤ y.until) (λ (y : Sleeper). is_not x.item y ≡ true → y.item < k + 1 → t + 1 ≤ y.until) m.sleeping (λ y before kept less. before (under y (not_true (y.item == x.item) kept) less)) h.passed)
+        passed : AllByRecursion (λ (y : Sleeper). y.item < k + 1 → t + 1 ≤ y.until) (filter (is_other_sleeper x.item) m.sleeping)
+        passed = All_filter (λ (y : Sleeper). y.item < k + 1 → t + 1 ≤ y.until) (is_other_sleeper x.item) m.sleeping (All_map (λ (y : Sleeper). y.item < k → t + 1 ≤ y.until) (λ (y : Sleeper). is_other_sleeper x.item y ≡ true → y.item < k + 1 → t + 1 ≤ y.until) m.sleeping (λ y before kept less. before (under y (not-true (y.item == x.item) kept) less)) h.passed)
           where
             under : (y : Sleeper) → (y.item == x.item) ≡ false → y.item < k + 1 → y.item < k
             under y differs less = let e = its in grind (arith, nat_tests)
 
-        after : (left : List ℕ) → x.left ≡ left → Woken s t (k + 1) r (after_sleep s t (record m { sleeping = filter (is_not x.item) m.sleeping }) x.item left)
+        after : (left : List ℕ) → x.left ≡ left → Woken s t (k + 1) r (after_sleep s t (record m { sleeping = filter (is_other_sleeper x.item) m.sleeping }) x.item left)
         after [] l = record {
           goes = record {
             sound = ends s t x.item told (record { there = loose.there; ready = loose.ready; behind = loose.behind; sleeping = loose.sleeping; held = loose.held });
-            cpu = subst (AllByRecursion (IsRunning s)) (sym (same_cpu (find (is_of s (queue_of s x.item)) m.behind))) h.goes.cpu;
+            cpu = subst (AllByRecursion (IsRunning s)) (sym (same_cpu (find (is_of_plan_queue s (plan_queue s x.item)) m.behind))) h.goes.cpu;
             less = let a = ends_less s t x.item told in let b = apart in let c = h.goes.less in omega arith;
           };
-          passed = subst (AllByRecursion (λ (y : Sleeper). y.item < k + 1 → t + 1 ≤ y.until)) (sym (same_sleeping (find (is_of s (queue_of s x.item)) m.behind))) passed;
+          passed = subst (AllByRecursion (λ (y : Sleeper). y.item < k + 1 → t + 1 ≤ y.until)) (sym (same_sleeping (find (is_of_plan_queue s (plan_queue s x.item)) m.behind))) passed;
         }
           where
             told : Moment
-            told = tell t kind.WakesEnds (x.item ∷ []) (record m { sleeping = filter (is_not x.item) m.sleeping })
+            told = tell t kind.WakesEnds (x.item ∷ []) (record m { sleeping = filter (is_other_sleeper x.item) m.sleeping })
 
-            same_cpu : (o : Option ℕ) → (make_ready (tell t kind.WakesEnds (x.item ∷ []) (record m { sleeping = filter (is_not x.item) m.sleeping })) o).cpu ≡ m.cpu
+            same_cpu : (o : Option ℕ) → (make_ready (tell t kind.WakesEnds (x.item ∷ []) (record m { sleeping = filter (is_other_sleeper x.item) m.sleeping })) o).cpu ≡ m.cpu
             same_cpu None = refl
             same_cpu (Some z) = refl
 
-            same_sleeping : (o : Option ℕ) → (make_ready (tell t kind.WakesEnds (x.item ∷ []) (record m { sleeping = filter (is_not x.item) m.sleeping })) o).sleeping ≡ filter (is_not x.item) m.sleeping
+            same_sleeping : (o : Option ℕ) → (make_ready (tell t kind.WakesEnds (x.item ∷ []) (record m { sleeping = filter (is_other_sleeper x.item) m.sleeping })) o).sleeping ≡ filter (is_other_sleeper x.item) m.sleeping
             same_sleeping None = refl
             same_sleeping (Some z) = refl
         after (b ∷ left) l = record {
           goes = record {
-            sound = to_cpu s t x.item b left (record m { sleeping = filter (is_not x.item) m.sleeping }) (m.lines ++ record { at = t; kind = kind.WakesBurns; items = x.item ∷ [] } ∷ []) loose;
-            cpu = all_one (IsRunning s) m.cpu (record { item = x.item; burn = b; left = left }) h.goes.cpu (record { job = record { there = found.0.there; left = lasting.1 }; burns = lasting.0 });
+            sound = to_cpu s t x.item b left (record m { sleeping = filter (is_other_sleeper x.item) m.sleeping }) (m.lines ++ record { at = t; kind = kind.WakesBurns; items = x.item ∷ [] } ∷ []) loose;
+            cpu = All_push (IsRunning s) m.cpu (record { item = x.item; burn = b; left = left }) h.goes.cpu (record { job = record { there = found.0.there; left = lasting.1 }; burns = lasting.0 });
             less =
                 let a = apart in
                 let c = sum_by_push job_rest m.cpu (record { item = x.item; burn = b; left = left }) in
@@ -426,43 +415,39 @@ woke s t k r m h = at (find (is_due t k) m.sleeping) refl
             lasting : (1 ≤ b) × Lasting left
             lasting = subst Lasting l found.0.left
 
-all_woke : (s : Plan) (t len k end r : ℕ) (m : Moment) → k + len ≡ end → Woken s t k r m → Woken s t end r (fold (wake_item s t) m (range_with_len k len))
-all_woke s t zero k end r m is h = subst (λ e. Woken s t e r m) (omega arith) h
-all_woke s t (suc len) k end r m is h = all_woke s t len (k + 1) end r (wake_item s t m k) (omega arith) (woke s t k r m h)
+all_woke : (s : Plan) (t len k end_job r : ℕ) (m : Moment) → k + len ≡ end_job → Woken s t k r m → Woken s t end_job r (fold (wake_item s t) m (range_with_len k len))
+all_woke s t zero k end_job r m is h = subst (λ e. Woken s t e r m) (omega arith) h
+all_woke s t (suc len) k end_job r m is h = all_woke s t len (k + 1) end_job r (wake_item s t m k) (omega arith) (woke s t k r m h)
 
 pub record Awake (s : Plan) (t r : ℕ) (m : Moment) : Type 0 where
   pub goes : Goes s t r m
   pub later : AllByRecursion (λ (x : Sleeper). t + 1 ≤ x.until) m.sleeping
 
-pub awake : (s : Plan) (t r : ℕ) (m : Moment) → Goes s t r m → Awake s t r (wake s t m)
+pub awake : (s : Plan) (t r : ℕ) (m : Moment) → Goes s t r m → Awake s t r (wake_sleepers s t m)
 awake s t r m h =
     let k = all_woke s t (length s.items) 0 (length s.items) r m (omega arith) (record { goes = h; passed = All_each (λ (x : Sleeper). x.item < 0 → t + 1 ≤ x.until) m.sleeping (λ x no. absurd (omega arith)) }) in
-    record { goes = k.goes; later = All_both (λ (x : Sleeper). x.item < length s.items → t + 1 ≤ x.until) (IsSleeper s t) (λ (x : Sleeper). t + 1 ≤ x.until) (wake s t m).sleeping (λ x a b. a b.there) k.passed k.goes.sound.sleeping }
+    record { goes = k.goes; later = All_both (λ (x : Sleeper). x.item < length s.items → t + 1 ≤ x.until) (IsSleeper s t) (λ (x : Sleeper). t + 1 ≤ x.until) (wake_sleepers s t m).sleeping (λ x a b. a b.there) k.passed k.goes.sound.sleeping }
 
 -- ---- (3) starts
-
-item_with : (i : ℕ) (ms : List ℕ) → (job_with i ms).item ≡ i
-item_with i [] = refl
-item_with i (b ∷ ms) = refl
 
 rest_with : (i : ℕ) (ms : List ℕ) → job_rest (job_with i ms) ≡ sum ms
 rest_with i [] = omega arith
 rest_with i (b ∷ ms) = sym (sum_by-cons (λ x. x) b ms)
 
 -- what starts stands first among the ready ones
-pub starting_first : (s : Plan) (cpu : List Job) (xs : List ℕ) → starting s cpu xs ++ drop (length (starting s cpu xs)) xs ≡ xs
-unfolding starting
+pub starting_first : (s : Plan) (cpu : List Job) (xs : List ℕ) → starting_items s cpu xs ++ drop (length (starting_items s cpu xs)) xs ≡ xs
+unfolding starting_items
 starting_first s cpu [] = refl
-starting_first s cpu (i ∷ xs) = at (list_any (is_held_by s) cpu) (starting_first s (cpu ++ job_of s i ∷ []) xs)
+starting_first s cpu (i ∷ xs) = at (list_any (is_job_held s) cpu) (starting_first s (cpu ++ job_of s i ∷ []) xs)
   where
-    at : (b : Bool) → starting s (cpu ++ job_of s i ∷ []) xs ++ drop (length (starting s (cpu ++ job_of s i ∷ []) xs)) xs ≡ xs
-        → (if b then [] else i ∷ starting s (cpu ++ job_of s i ∷ []) xs) ++ drop (length (if b then [] else i ∷ starting s (cpu ++ job_of s i ∷ []) xs)) (i ∷ xs) ≡ i ∷ xs
+    at : (b : Bool) → starting_items s (cpu ++ job_of s i ∷ []) xs ++ drop (length (starting_items s (cpu ++ job_of s i ∷ []) xs)) xs ≡ xs
+        → (if b then [] else i ∷ starting_items s (cpu ++ job_of s i ∷ []) xs) ++ drop (length (if b then [] else i ∷ starting_items s (cpu ++ job_of s i ∷ []) xs)) (i ∷ xs) ≡ i ∷ xs
     at true h = refl
     at false h = ap (λ ys. i ∷ ys) h
 
 -- nothing holds the first one where the CPU's list is empty
-starting_some : (s : Plan) (xs : List ℕ) → starting s [] xs ≡ [] → xs ≡ []
-unfolding starting
+starting_some : (s : Plan) (xs : List ℕ) → starting_items s [] xs ≡ [] → xs ≡ []
+unfolding starting_items
 starting_some s [] h = refl
 starting_some s (i ∷ xs) h = cc
 
@@ -484,9 +469,9 @@ all_start : (s : Plan) (is : List ℕ) → IsWithinLimits s → AllByRecursion (
 all_start s [] fine all = tt
 all_start s (i ∷ is) fine all = (starts_running s i fine all.0, all_start s is fine all.1)
 
-same_any : (s : Plan) (q : ℕ) (is : List ℕ) → list_any (of_job s q) (map (job_of s) is) ≡ list_any (is_of s q) is
+same_any : (s : Plan) (q : ℕ) (is : List ℕ) → list_any (of_job s q) (map (job_of s) is) ≡ list_any (is_of_plan_queue s q) is
 same_any s q [] = refl
-same_any s q (i ∷ is) = ap₂ (λ a b. a || b) (ap (is_of s q) (item_with i (ms_of s i))) (same_any s q is)
+same_any s q (i ∷ is) = ap₂ (λ a b. a || b) (ap (is_of_plan_queue s q) (job_item i (ms_of s i))) (same_any s q is)
 
 same_rest : (s : Plan) (is : List ℕ) → sum_by job_rest (map (job_of s) is) ≡ sum_by (time_at s) is
 same_rest s [] = refl
@@ -504,9 +489,9 @@ moved_lines s t r m ls h = record {
 }
 
 pub started : (s : Plan) (t r : ℕ) (m : Moment) → IsWithinLimits s → Awake s t r m → Started s t r (start s t m)
-started s t r m fine h = at (starting s m.cpu m.ready) refl
+started s t r m fine h = at (starting_items s m.cpu m.ready) refl
   where
-    at : (is : List ℕ) → starting s m.cpu m.ready ≡ is → Started s t r (start_these s t m is)
+    at : (is : List ℕ) → starting_items s m.cpu m.ready ≡ is → Started s t r (start_these s t m is)
     at is which = told is lists
       where
         split : is ++ drop (length is) m.ready ≡ m.ready
@@ -545,7 +530,7 @@ started s t r m fine h = at (starting s m.cpu m.ready) refl
         none empty_cpu =
             let k = emptied m.cpu (map (job_of s) is) empty_cpu in
             let no_starts : is ≡ [] = nobody is k.1 in
-            let all_ready : m.ready ≡ [] = starting_some s m.ready (sym (ap (λ cpu. starting s cpu m.ready) k.0) ∙ which ∙ no_starts) in
+            let all_ready : m.ready ≡ [] = starting_some s m.ready (sym (ap (λ cpu. starting_items s cpu m.ready) k.0) ∙ which ∙ no_starts) in
             ap (λ ks. drop (length ks) m.ready) no_starts ∙ all_ready
 
         lists : Started s t r (record m { ready = drop (length is) m.ready; cpu = m.cpu ++ map (job_of s) is })
@@ -556,9 +541,9 @@ started s t r m fine h = at (starting s m.cpu m.ready) refl
                 ready = parts.1;
                 behind = h.goes.sound.behind;
                 sleeping = h.goes.sound.sleeping;
-                held = λ q some. ap (λ b. (list_any (is_of s q) (drop (length is) m.ready) || b) || list_any (of_sleeper s q) m.sleeping) (any-append (of_job s q) m.cpu (map (job_of s) is) ∙ ap (λ b. list_any (of_job s q) m.cpu || b) (same_any s q is))
-                    ∙ moved (list_any (is_of s q) m.ready) (list_any (is_of s q) is) (list_any (is_of s q) (drop (length is) m.ready)) (list_any (of_job s q) m.cpu) (list_any (of_sleeper s q) m.sleeping)
-                    (sym (ap (list_any (is_of s q)) split) ∙ any-append (is_of s q) is (drop (length is) m.ready)) (h.goes.sound.held q some);
+                held = λ q some. ap (λ b. (list_any (is_of_plan_queue s q) (drop (length is) m.ready) || b) || list_any (of_sleeper s q) m.sleeping) (any-append (of_job s q) m.cpu (map (job_of s) is) ∙ ap (λ b. list_any (of_job s q) m.cpu || b) (same_any s q is))
+                    ∙ moved (list_any (is_of_plan_queue s q) m.ready) (list_any (is_of_plan_queue s q) is) (list_any (is_of_plan_queue s q) (drop (length is) m.ready)) (list_any (of_job s q) m.cpu) (list_any (of_sleeper s q) m.sleeping)
+                    (sym (ap (list_any (is_of_plan_queue s q)) split) ∙ any-append (is_of_plan_queue s q) is (drop (length is) m.ready)) (h.goes.sound.held q some);
               };
               cpu = All_append (IsRunning s) m.cpu (map (job_of s) is) h.goes.cpu (all_start s is fine parts.0);
               less = let a = sum_by-append job_rest m.cpu (map (job_of s) is) in let b = same_rest s is in let c = sums in let d = h.goes.less in omega arith;
@@ -607,7 +592,7 @@ burnt s t r m h = at m.cpu refl
           ready = sound.ready;
           behind = sound.behind;
           sleeping = slept_on s t m.sleeping sound.sleeping h.awake.later;
-          held = λ q some. ap (λ xs. (list_any (is_of s q) m.ready || list_any (of_job s q) xs) || list_any (of_sleeper s q) m.sleeping) (sym is) ∙ sound.held q some;
+          held = λ q some. ap (λ xs. (list_any (is_of_plan_queue s q) m.ready || list_any (of_job s q) xs) || list_any (of_sleeper s q) m.sleeping) (sym is) ∙ sound.held q some;
         };
         first = (record { there = runs.0.job.there; left = runs.0.job.left }, runs.1);
       },
@@ -628,7 +613,7 @@ burnt s t r m h = at m.cpu refl
           ready = sound.ready;
           behind = sound.behind;
           sleeping = slept_on s t m.sleeping sound.sleeping h.awake.later;
-          held = λ q some. ap (λ xs. (list_any (is_of s q) m.ready || list_any (of_job s q) xs) || list_any (of_sleeper s q) m.sleeping) (sym is) ∙ sound.held q some;
+          held = λ q some. ap (λ xs. (list_any (is_of_plan_queue s q) m.ready || list_any (of_job s q) xs) || list_any (of_sleeper s q) m.sleeping) (sym is) ∙ sound.held q some;
         };
         first = tt;
       },
@@ -638,10 +623,10 @@ burnt s t r m h = at m.cpu refl
         nobody_behind : (ks : List ℕ) → m.behind ≡ ks → m.sleeping ≡ [] → ks ≡ []
         nobody_behind [] k none = refl
         nobody_behind (k ∷ ks) are none =
-            let q : ℕ = queue_of s k in
-            let some = ap (list_any (is_of s (queue_of s k))) are ∙ still_any (is_of s (queue_of s k)) k ks (eq-eqb (queue_of s k) (queue_of s k) refl) in
-            let bad : false ≡ true = sym (ap₂ (λ a b. (list_any (is_of s (queue_of s k)) a || list_any (of_job s (queue_of s k)) b) || list_any (of_sleeper s (queue_of s k)) []) (h.free is) is)
-            ∙ sym (ap (λ c. (list_any (is_of s (queue_of s k)) m.ready || list_any (of_job s (queue_of s k)) m.cpu) || list_any (of_sleeper s (queue_of s k)) c) none) ∙ sound.held (queue_of s k) some in
+            let q : ℕ = plan_queue s k in
+            let some = ap (list_any (is_of_plan_queue s (plan_queue s k))) are ∙ still_any (is_of_plan_queue s (plan_queue s k)) k ks (eq-eqb (plan_queue s k) (plan_queue s k) refl) in
+            let bad : false ≡ true = sym (ap₂ (λ a b. (list_any (is_of_plan_queue s (plan_queue s k)) a || list_any (of_job s (plan_queue s k)) b) || list_any (of_sleeper s (plan_queue s k)) []) (h.free is) is)
+            ∙ sym (ap (λ c. (list_any (is_of_plan_queue s (plan_queue s k)) m.ready || list_any (of_job s (plan_queue s k)) m.cpu) || list_any (of_sleeper s (plan_queue s k)) c) none) ∙ sound.held (plan_queue s k) some in
             cc
 
         asleep : (xs : List Sleeper) → m.sleeping ≡ xs → (rest s (t + 1) (record m { cpu = [] }) + 1 ≤ r) ⊎ NobodyIsLeft (record m { cpu = [] })
@@ -657,7 +642,7 @@ burnt s t r m h = at m.cpu refl
 
 pub passes : (s : Plan) (t : ℕ) (m : Moment) → IsWithinLimits s → Begins s t m → Begins s (t + 1) (millisecond s m t) × ((rest s (t + 1) (millisecond s m t) + 1 ≤ rest s t m) ⊎ NobodyIsLeft (millisecond s m t))
 passes s t m fine h =
-    burnt s t (rest s t m) (start s t (wake s t (serve s t m))) (started s t (rest s t m) (wake s t (serve s t m)) fine (awake s t (rest s t m) (serve s t m) (served s t m h.sound h.first)))
+    burnt s t (rest s t m) (start s t (wake_sleepers s t (serve s t m))) (started s t (rest s t m) (wake_sleepers s t (serve s t m)) fine (awake s t (rest s t m) (serve s t m) (served s t m h.sound h.first)))
 
 nothing_left : (s : Plan) (t : ℕ) (m : Moment) → NobodyIsLeft m → rest s t m ≡ 0
 nothing_left s t m h = ap₂ (λ a b. sum_by (time_at s) a + sum_by (time_at s) b + sum_by job_rest m.cpu + sum_by (sleeper_rest t) m.sleeping) h.ready h.behind ∙ ap₂ (λ a b. 0 + 0 + sum_by job_rest a + sum_by (sleeper_rest t) b) h.cpu h.sleeping ∙ omega arith

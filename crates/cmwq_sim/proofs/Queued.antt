@@ -1,49 +1,19 @@
 -- Items are queued one after the other, before any worker is asked.
-use Rattle.std.proofs.Common.{◌≡◌, ◌==◌, ◌<◌, ◌≤◌, ◌+◌, ℕ, zero, suc, Bool, true, false, cond, not, ◌&&◌, ◌||◌, List, [], ◌∷◌, ◌++◌, length, map, filter, count_by, Some, None, nat_lt, refl, sym, ap, ap₂, ◌∙◌, subst, arith, option_to_list, append-nil, length-append}
-use Rattle.std.specs.Prelude.{if◌then◌else◌, slice_index_or, option_and_then, is_some}
-use Rattle.std.specs.Option.{option_map_or}
-use Rattle.std.specs.List.{AllByRecursion, list_any, range_with_len}
-use Rattle.std.proofs.lemmas.List.{map-append, length-map}
+use Rattle.cmwq_sim.specs.Common.{◌≡◌, ◌==◌, ◌<◌, ◌≤◌, ◌+◌, ℕ, zero, suc, Bool, true, false, cond, not, ◌&&◌, ◌||◌, List, [], ◌∷◌, ◌++◌, length, map, filter, count_by, Some, None, nat_lt, refl, sym, ap, ap₂, ◌∙◌, subst, arith, option_to_list, append-nil, length-append, if◌then◌else◌, slice_index_or, option_and_then, is_some, option_map_or, AllByRecursion, list_any, range_with_len, map-append, length-map, lt-ltb, eqb-true, ne_eqb, get_or-map, WorkerId, Who, Caller, Worker, Call, Reply, Entry, Queueing, Start, QueueShape, is_at, is_by, is_of_item, worker_of, item_at, number_started, number_finished, number_cancelled, replaces, is_started, is_finished, is_cancelled, is_open, booking, due_in, settles, last_start, run, start_in, item_start, item_run, gives_ticket, ticket_for, ends_destroy, tickets, is_unended, is_cancelling, is_done, is_gone, is_cancel_sync_of, is_drain_of, is_active, is_newly_active, newly_active, became_active, worklist, is_retired, queue_answer, answer, is_shut, IsLegal, entry_for, opens, opening, queueings, is_live, still_open, is_unstarted, unstarted_queueing, is_pending, runs_elsewhere, cpu_for, survives, is_ended, ending, HasFirstWidths, waits, is_left, is_in, is_of_same_pwq, behind_width, is_below_max_active_at_once, keeps_widths, All_each, All_both, count_by-cons, filter_same, none_found, stays_active, open_go_on, newly_active_are, opened_are_below_max_active, width_same, newly_of_open, worklists_go_on}
 use Rattle.std.proofs.lemmas.List.Elements.{filter-append}
-use Rattle.std.proofs.lemmas.Bool.{lt-ltb, eqb-true, ne_eqb}
-use Rattle.std.proofs.Math.ListN.{get_or-map}
-use Rattle.cmwq_model.specs.declared.id.WorkerId.{WorkerId}
-use Rattle.cmwq_model.specs.declared.id.Who.{Who}
-use Rattle.cmwq_model.specs.declared.id.Who.TheVariants.{Caller, Worker}
-use Rattle.cmwq_model.specs.declared.call.Call.{Call}
-use Rattle.cmwq_model.specs.declared.reply.Reply.{Reply}
-use Rattle.cmwq_model.specs.declared.entry.Entry.{Entry}
-use Rattle.cmwq_model.specs.declared.record.Queueing.{Queueing}
-use Rattle.cmwq_model.specs.declared.record.Start.{Start}
-use Rattle.cmwq_model.specs.declared.shape.QueueShape.{QueueShape}
-use Rattle.cmwq_model.specs.Prelude.{is_at, is_by, is_of_item, worker_of, item_at, number_started, number_finished, number_cancelled, replaces, is_started, is_finished}
-use Rattle.cmwq_model.specs.Prelude.{is_cancelled, is_open, booking, due_in, settles, last_start, run, start_in, item_start, item_run, gives_ticket, ticket_for, ends_destroy}
-use Rattle.cmwq_model.specs.Prelude.{tickets, is_unended, is_cancelling, is_done, is_gone, is_cancel_sync_of, is_drain_of, is_active, is_newly_active, newly_active, activated}
-use Rattle.cmwq_model.specs.Prelude.{worklist, is_retired, queue_answer, answer, is_shut, IsLegal, entry_for}
 use Rattle.cmwq_model.specs.declared.call.Call.TheVariants as call
 use Rattle.cmwq_model.specs.declared.reply.Reply.TheVariants as reply
 use Rattle.cmwq_model.specs.Layout.{first_width, no_queue as no_shape}
-use Rattle.cmwq_model.specs.Queueings.{queue_of as queue_run, opens, opening, queueings, is_live, still_open, is_unstarted, unstarted, is_pending, runs_elsewhere, cpu_for}
+use Rattle.cmwq_model.specs.Queueings.{queue_of as queue_run}
 use Rattle.cmwq_model.specs.Widths.{width, is_frozen, max_active as width_kept}
-use Rattle.cmwq_theory_steps.specs.Endings.{survives, is_ended, ending}
-use Rattle.cmwq_theory_laws.specs.FirstWidths.{HasFirstWidths}
-use Rattle.cmwq_theory_steps.specs.Activations.{waits, is_left, is_in, is_of_same_pwq, behind_width, is_below_max_active_at_once}
-use Rattle.cmwq_theory_active.specs.Looks.{keeps_widths}
-use Rattle.cmwq_theory_active.proofs.Lists.{All_each, All_both, count_by-cons}
-use Rattle.cmwq_theory_steps.proofs.Filters.{filter_same, none_found}
-use Rattle.cmwq_theory_active.proofs.Joined.{stays_active}
-use Rattle.cmwq_theory_steps.proofs.Endings.{open_go_on}
-use Rattle.cmwq_theory_steps.proofs.NewlyActive.{newly_active_are, opened_are_below_max_active}
-use Rattle.cmwq_theory_active.proofs.Widths.{width_same}
-use Rattle.cmwq_theory_steps.proofs.Promoted.{newly_of_open}
 use Rattle.std.proofs.lemmas.List.FromFn.{length-range_with_len}
-use Rattle.cmwq_theory_steps.proofs.WorklistSteps.{worklists_go_on}
 use Rattle.cmwq_sim.specs.declared.scenario.SimQueue.{SimQueue}
-use Rattle.cmwq_sim.specs.Plan.{Plan, queue_of, is_of, max_active, no_queue}
+use Rattle.cmwq_sim.specs.Plan.{Plan, plan_queue, is_of_plan_queue, plan_width, no_sim_queue}
 use Rattle.cmwq_sim.specs.Lines.{Moment, Job, Sleeper, queue_item, empty}
 use Rattle.cmwq_sim.specs.Shows.{layout_for, queue_shape, pool, queueing_for, is_job, is_sleeper, IsRunAt, Shows}
-use Rattle.cmwq_sim.proofs.Steps.{all_kept, none_kept, count-append}
+use Rattle.cmwq_sim.proofs.Steps.{none_kept}
 use Rattle.cmwq_sim.proofs.FinishShown.{in_pool}
+use Rattle.cmwq_lemmas.proofs.Lists.{filter_all, range_more, count_append, range_below}
 
 -- ---- answers yes
 
@@ -152,18 +122,10 @@ pub record ShowsQueued (s : Plan) (k : ℕ) (past : List Entry) (m : Moment) : T
   pub wide : (q : ℕ) → width (layout_for s) past q ≡ first_width (layout_for s) q
 
 abbrev pub queue_call : Plan → ℕ → Call
-queue_call s i = call.Queue (record { 0 = i }) (record { 0 = queue_of s i }) (record { 0 = 0 })
+queue_call s i = call.Queue (record { 0 = i }) (record { 0 = plan_queue s i }) (record { 0 = 0 })
 
 abbrev pub caller : Who
 caller = Caller (record { 0 = 0 })
-
-pub range_more : (a k : ℕ) → range_with_len a (suc k) ≡ range_with_len a k ++ (a + k) ∷ []
-range_more a zero = ap (λ n. n ∷ []) (omega arith)
-range_more a (suc k) = ap (λ xs. a ∷ xs) (range_more (a + 1) k ∙ ap (λ n. range_with_len (a + 1) k ++ n ∷ []) (omega arith))
-
-below : (a k : ℕ) → AllByRecursion (λ i. i < a + k) (range_with_len a k)
-below a zero = tt
-below a (suc k) = (omega arith, subst (λ n. AllByRecursion (λ i. i < n) (range_with_len (a + 1) k)) (omega arith) (below (a + 1) k))
 
 all_mapped : (s : Plan) (P : Queueing → Type 0) (is : List ℕ) → AllByRecursion (λ i. P (queueing_for s i)) is → AllByRecursion P (map (queueing_for s) is)
 all_mapped s P [] all = tt
@@ -175,10 +137,10 @@ each P Q (i ∷ is) f all = (f i all.0, each P Q is f all.1)
 
 module _ (s : Plan) (k : ℕ) (past : List Entry) (m : Moment) (h : ShowsQueued s k past m) where
   numbered : AllByRecursion (λ (x : Queueing). x.number < k) (queueings past)
-  numbered = subst (AllByRecursion (λ (x : Queueing). x.number < k)) (sym h.queued) (all_mapped s (λ (x : Queueing). x.number < k) (range_with_len 0 k) (each (λ i. i < 0 + k) (λ i. i < k) (range_with_len 0 k) (λ i less. omega arith) (below 0 k)))
+  numbered = subst (AllByRecursion (λ (x : Queueing). x.number < k)) (sym h.queued) (all_mapped s (λ (x : Queueing). x.number < k) (range_with_len 0 k) (each (λ i. i < 0 + k) (λ i. i < k) (range_with_len 0 k) (λ i less. omega arith) (range_below 0 k)))
 
   all_open : still_open past ≡ queueings past
-  all_open = all_kept (is_live past) (queueings past) (over (queueings past) numbered)
+  all_open = filter_all (is_live past) (queueings past) (over (queueings past) numbered)
     where
       over : (xs : List Queueing) → AllByRecursion (λ (x : Queueing). x.number < k) xs → AllByRecursion (λ x. is_live past x ≡ true) xs
       over [] all = tt
@@ -187,16 +149,16 @@ module _ (s : Plan) (k : ℕ) (past : List Entry) (m : Moment) (h : ShowsQueued 
   open_are : still_open past ≡ map (queueing_for s) (range_with_len 0 k)
   open_are = all_open ∙ h.queued
 
-  free : unstarted past k ≡ None
+  free : unstarted_queueing past k ≡ None
   free = none_found (is_unstarted past k) (still_open past) (subst (AllByRecursion (λ x. is_unstarted past k x ≡ false)) (sym open_are)
-      (all_mapped s (λ x. is_unstarted past k x ≡ false) (range_with_len 0 k) (each (λ i. i < 0 + k) (λ i. is_unstarted past k (queueing_for s i) ≡ false) (range_with_len 0 k) (λ i less. ap (λ b. b && not (is_started past i)) (ne_eqb i k (λ same. absurd (omega arith)))) (below 0 k))))
+      (all_mapped s (λ x. is_unstarted past k x ≡ false) (range_with_len 0 k) (each (λ i. i < 0 + k) (λ i. is_unstarted past k (queueing_for s i) ≡ false) (range_with_len 0 k) (λ i less. ap (λ b. b && not (is_started past i)) (ne_eqb i k (λ same. absurd (omega arith)))) (range_below 0 k))))
 
   pub answered : answer (layout_for s) past caller (queue_call s k) ≡ reply.Yes k
   unfolding answer queue_answer
-  answered = at (is_gone past (queue_of s k)) (is_cancelling past k) (is_pending past k) (runs_elsewhere past k (queue_of s k)) (is_shut past caller (queue_of s k) 0)
-      (never_gone past (queue_of s k) h.all) (ap (λ ts. list_any (is_cancel_sync_of k) (filter (is_unended past) ts)) (no_tickets past h.all)) (ap₂ (λ a b. is_some a || is_some b) (no_booking past k h.all) free)
-      (ap (λ o. option_map_or (λ (start : Start). not (is_at (queue_run past start.number) (queue_of s k))) o false) (no_item_run past k h.all))
-      (ap (λ ts. list_any (is_drain_of (queue_of s k)) (filter (is_unended past) ts) && true) (no_tickets past h.all))
+  answered = at (is_gone past (plan_queue s k)) (is_cancelling past k) (is_pending past k) (runs_elsewhere past k (plan_queue s k)) (is_shut past caller (plan_queue s k) 0)
+      (never_gone past (plan_queue s k) h.all) (ap (λ ts. list_any (is_cancel_sync_of k) (filter (is_unended past) ts)) (no_tickets past h.all)) (ap₂ (λ a b. is_some a || is_some b) (no_booking past k h.all) free)
+      (ap (λ o. option_map_or (λ (start : Start). not (is_at (queue_run past start.number) (plan_queue s k))) o false) (no_item_run past k h.all))
+      (ap (λ ts. list_any (is_drain_of (plan_queue s k)) (filter (is_unended past) ts) && true) (no_tickets past h.all))
       ∙ ap reply.Yes h.many
     where
       at : (gone cancelling pending elsewhere shut : Bool) → gone ≡ false → cancelling ≡ false → pending ≡ false → elsewhere ≡ false → shut ≡ false
@@ -211,16 +173,16 @@ module _ (s : Plan) (k : ℕ) (past : List Entry) (m : Moment) (h : ShowsQueued 
   entry : Entry
   entry = entry_for (layout_for s) past caller (queue_call s k)
 
-  legal : k < 8 → queue_of s k < length s.queues → IsLegal (layout_for s) (entry_for (layout_for s) past caller (queue_call s k) ∷ past)
+  legal : k < 8 → plan_queue s k < length s.queues → IsLegal (layout_for s) (entry_for (layout_for s) past caller (queue_call s k) ∷ past)
   unfolding IsLegal
-  legal few there = (ap₂ (λ a b. a && b && true) (lt-ltb k 8 few) (lt-ltb (queue_of s k) (length (map queue_shape s.queues)) (subst (λ n. queue_of s k < n) (sym (length-map s.queues queue_shape)) there)), refl, h.legal)
+  legal few there = (ap₂ (λ a b. a && b && true) (lt-ltb k 8 few) (lt-ltb (plan_queue s k) (length (map queue_shape s.queues)) (subst (λ n. plan_queue s k < n) (sym (length-map s.queues queue_shape)) there)), refl, h.legal)
 
   said : Says (answer (layout_for s) past caller (queue_call s k))
   said = subst Says (sym answered) (says (reply.Yes k) refl)
 
   opened : opening past (entry_for (layout_for s) past caller (queue_call s k)) ≡ Some (queueing_for s k)
-  opened = ap (λ r. if opens r then Some (record { item = record { 0 = k }; place = record { queue = record { 0 = queue_of s k }; cpu = cpu_for past k (record { 0 = 0 }) }; number = length past }) else None) answered
-      ∙ ap₂ (λ o n. Some (record { item = record { 0 = k }; place = record { queue = record { 0 = queue_of s k }; cpu = option_map_or (λ (start : Start). start.worker.pool.cpu) o (record { 0 = 0 }) }; number = n })) (no_item_run past k h.all) h.many
+  opened = ap (λ r. if opens r then Some (record { item = record { 0 = k }; place = record { queue = record { 0 = plan_queue s k }; cpu = cpu_for past k (record { 0 = 0 }) }; number = length past }) else None) answered
+      ∙ ap₂ (λ o n. Some (record { item = record { 0 = k }; place = record { queue = record { 0 = plan_queue s k }; cpu = option_map_or (λ (start : Start). start.worker.pool.cpu) o (record { 0 = 0 }) }; number = n })) (no_item_run past k h.all) h.many
 
   spares : (x : Queueing) → survives past (entry_for (layout_for s) past caller (queue_call s k)) x ≡ true
   spares x =
@@ -228,30 +190,30 @@ module _ (s : Plan) (k : ℕ) (past : List Entry) (m : Moment) (h : ShowsQueued 
       ∙ ap (λ b. not (b && is_of_item x.item.0 (entry_for (layout_for s) past caller (queue_call s k)) && not (is_started past x.number))) said.replaces
 
   survivors_are_all : (xs : List Queueing) → filter (survives past (entry_for (layout_for s) past caller (queue_call s k))) xs ≡ xs
-  survivors_are_all xs = all_kept (survives past (entry_for (layout_for s) past caller (queue_call s k))) xs (All_each _ xs spares)
+  survivors_are_all xs = filter_all (survives past (entry_for (layout_for s) past caller (queue_call s k))) xs (All_each _ xs spares)
 
   none_ends : ending past (entry_for (layout_for s) past caller (queue_call s k)) ≡ None
   none_ends = none_found (is_ended past (entry_for (layout_for s) past caller (queue_call s k))) (still_open past) (All_each _ (still_open past) (λ x. ap not (spares x)))
 
-  counted : (is : List ℕ) → count_by (is_of_same_pwq (queueing_for s k)) (map (queueing_for s) is) ≡ count_by (is_of s (queue_of s k)) is
+  counted : (is : List ℕ) → count_by (is_of_same_pwq (queueing_for s k)) (map (queueing_for s) is) ≡ count_by (is_of_plan_queue s (plan_queue s k)) is
   counted [] = refl
-  counted (i ∷ is) = count_by-cons (is_of_same_pwq (queueing_for s k)) (queueing_for s i) (map (queueing_for s) is) ∙ ap₂ (λ b n. cond b 1 0 + n) (nothing (queue_of s i == queue_of s k)) (counted is) ∙ sym (count_by-cons (is_of s (queue_of s k)) i is)
+  counted (i ∷ is) = count_by-cons (is_of_same_pwq (queueing_for s k)) (queueing_for s i) (map (queueing_for s) is) ∙ ap₂ (λ b n. cond b 1 0 + n) (nothing (plan_queue s i == plan_queue s k)) (counted is) ∙ sym (count_by-cons (is_of_plan_queue s (plan_queue s k)) i is)
     where
       nothing : (b : Bool) → (b && true) ≡ b
       nothing true = refl
       nothing false = refl
 
   -- it is active at once where fewer than max_active of its queue stand before it
-  is_below_max_active : is_below_max_active_at_once (layout_for s) past (entry_for (layout_for s) past caller (queue_call s k)) (queueing_for s k) ≡ nat_lt (count_by (is_of s (queue_of s k)) (m.ready ++ m.behind)) (max_active s (queue_of s k))
-  is_below_max_active = ap₂ nat_lt (ap (count_by (is_of_same_pwq (queueing_for s k))) (survivors_are_all (still_open past) ∙ open_are) ∙ counted (range_with_len 0 k) ∙ sym (h.counts (is_of s (queue_of s k))))
-      (h.wide (queue_of s k) ∙ ap (λ (q : QueueShape). q.max_active) (get_or-map queue_shape s.queues (queue_of s k) no_queue))
+  is_below_max_active : is_below_max_active_at_once (layout_for s) past (entry_for (layout_for s) past caller (queue_call s k)) (queueing_for s k) ≡ nat_lt (count_by (is_of_plan_queue s (plan_queue s k)) (m.ready ++ m.behind)) (plan_width s (plan_queue s k))
+  is_below_max_active = ap₂ nat_lt (ap (count_by (is_of_same_pwq (queueing_for s k))) (survivors_are_all (still_open past) ∙ open_are) ∙ counted (range_with_len 0 k) ∙ sym (h.counts (is_of_plan_queue s (plan_queue s k))))
+      (h.wide (plan_queue s k) ∙ ap (λ (q : QueueShape). q.max_active) (get_or-map queue_shape s.queues (plan_queue s k) no_sim_queue))
 
-  newly : (few : k < 8) (there : queue_of s k < length s.queues) → newly_active (layout_for s) past (entry_for (layout_for s) past caller (queue_call s k)) ≡ (if nat_lt (count_by (is_of s (queue_of s k)) (m.ready ++ m.behind)) (max_active s (queue_of s k)) then queueing_for s k ∷ [] else [])
+  newly : (few : k < 8) (there : plan_queue s k < length s.queues) → newly_active (layout_for s) past (entry_for (layout_for s) past caller (queue_call s k)) ≡ (if nat_lt (count_by (is_of_plan_queue s (plan_queue s k)) (m.ready ++ m.behind)) (plan_width s (plan_queue s k)) then queueing_for s k ∷ [] else [])
   newly few there = newly_active_are (layout_for s) past (entry_for (layout_for s) past caller (queue_call s k)) (legal few there) said.widths
       ∙ ap₂ (λ a b. filter (waits (layout_for s) past) (option_to_list (behind_width (layout_for s) past a)) ++ filter (is_below_max_active_at_once (layout_for s) past (entry_for (layout_for s) past caller (queue_call s k))) (option_to_list b)) none_ends opened
       ∙ ap (λ b. cond b (queueing_for s k ∷ []) []) is_below_max_active
 
-  open_after : (few : k < 8) (there : queue_of s k < length s.queues) → still_open (entry_for (layout_for s) past caller (queue_call s k) ∷ past) ≡ still_open past ++ queueing_for s k ∷ []
+  open_after : (few : k < 8) (there : plan_queue s k < length s.queues) → still_open (entry_for (layout_for s) past caller (queue_call s k) ∷ past) ≡ still_open past ++ queueing_for s k ∷ []
   open_after few there = open_go_on (layout_for s) past (entry_for (layout_for s) past caller (queue_call s k)) (legal few there) ∙ ap₂ (λ xs o. xs ++ option_to_list o) (survivors_are_all (still_open past)) opened
 
   all_queued : AllByRecursion IsQueued ((entry_for (layout_for s) past caller (queue_call s k)) ∷ past)
@@ -266,12 +228,12 @@ module _ (s : Plan) (k : ℕ) (past : List Entry) (m : Moment) (h : ShowsQueued 
   started_in true = ap (λ b. cond b (queueing_for s k ∷ []) []) (in_pool s k)
   started_in false = refl
 
-  ready_after : (few : k < 8) (there : queue_of s k < length s.queues) → worklist (layout_for s) ((entry_for (layout_for s) past caller (queue_call s k)) ∷ past) pool ≡ map (queueing_for s) (m.ready ++ (if nat_lt (count_by (is_of s (queue_of s k)) (m.ready ++ m.behind)) (max_active s (queue_of s k)) then k ∷ [] else []))
+  ready_after : (few : k < 8) (there : plan_queue s k < length s.queues) → worklist (layout_for s) ((entry_for (layout_for s) past caller (queue_call s k)) ∷ past) pool ≡ map (queueing_for s) (m.ready ++ (if nat_lt (count_by (is_of_plan_queue s (plan_queue s k)) (m.ready ++ m.behind)) (plan_width s (plan_queue s k)) then k ∷ [] else []))
   ready_after few there =
       worklists_go_on (layout_for s) past (entry_for (layout_for s) past caller (queue_call s k)) pool (legal few there)
-      ∙ ap₂ (λ xs ys. xs ++ filter (is_in (layout_for s) pool) ys) (all_kept (is_left past (entry_for (layout_for s) past caller (queue_call s k))) (worklist (layout_for s) past pool) (All_each _ (worklist (layout_for s) past pool) left) ∙ h.ready) (newly few there)
-      ∙ ap (λ ys. map (queueing_for s) m.ready ++ ys) (started_in (nat_lt (count_by (is_of s (queue_of s k)) (m.ready ++ m.behind)) (max_active s (queue_of s k))))
-      ∙ sym (map-append (queueing_for s) m.ready (if nat_lt (count_by (is_of s (queue_of s k)) (m.ready ++ m.behind)) (max_active s (queue_of s k)) then k ∷ [] else []))
+      ∙ ap₂ (λ xs ys. xs ++ filter (is_in (layout_for s) pool) ys) (filter_all (is_left past (entry_for (layout_for s) past caller (queue_call s k))) (worklist (layout_for s) past pool) (All_each _ (worklist (layout_for s) past pool) left) ∙ h.ready) (newly few there)
+      ∙ ap (λ ys. map (queueing_for s) m.ready ++ ys) (started_in (nat_lt (count_by (is_of_plan_queue s (plan_queue s k)) (m.ready ++ m.behind)) (plan_width s (plan_queue s k))))
+      ∙ sym (map-append (queueing_for s) m.ready (if nat_lt (count_by (is_of_plan_queue s (plan_queue s k)) (m.ready ++ m.behind)) (plan_width s (plan_queue s k)) then k ∷ [] else []))
 
   -- ---- and what is behind
 
@@ -298,17 +260,17 @@ module _ (s : Plan) (k : ℕ) (past : List Entry) (m : Moment) (h : ShowsQueued 
   old_ones : AllByRecursion (λ (x : Queueing). x.number < k) (still_open past)
   old_ones = subst (AllByRecursion (λ (x : Queueing). x.number < k)) (sym all_open) numbered
 
-  none_newly : (few : k < 8) (there : queue_of s k < length s.queues) → AllByRecursion (λ x. is_newly_active (layout_for s) past (entry_for (layout_for s) past caller (queue_call s k)) x ≡ false) (still_open past)
+  none_newly : (few : k < 8) (there : plan_queue s k < length s.queues) → AllByRecursion (λ x. is_newly_active (layout_for s) past (entry_for (layout_for s) past caller (queue_call s k)) x ≡ false) (still_open past)
   none_newly few there =
       none_kept (is_newly_active (layout_for s) past (entry_for (layout_for s) past caller (queue_call s k))) (still_open past)
       (none_both (filter (is_newly_active (layout_for s) past (entry_for (layout_for s) past caller (queue_call s k))) (still_open past))
       (front (filter (is_newly_active (layout_for s) past (entry_for (layout_for s) past caller (queue_call s k))) (still_open past)) (filter (is_newly_active (layout_for s) past (entry_for (layout_for s) past caller (queue_call s k))) (queueing_for s k ∷ []))
       (subst (AllByRecursion (λ (x : Queueing). x.number ≡ k))
       (sym (newly few there) ∙ newly_of_open (layout_for s) past (entry_for (layout_for s) past caller (queue_call s k)) ∙ ap (filter (is_newly_active (layout_for s) past (entry_for (layout_for s) past caller (queue_call s k)))) (open_after few there) ∙ filter-append (is_newly_active (layout_for s) past (entry_for (layout_for s) past caller (queue_call s k))) (still_open past) (queueing_for s k ∷ []))
-      (newly_last (nat_lt (count_by (is_of s (queue_of s k)) (m.ready ++ m.behind)) (max_active s (queue_of s k))))))
+      (newly_last (nat_lt (count_by (is_of_plan_queue s (plan_queue s k)) (m.ready ++ m.behind)) (plan_width s (plan_queue s k))))))
       (keep (is_newly_active (layout_for s) past (entry_for (layout_for s) past caller (queue_call s k))) (still_open past) old_ones))
 
-  as_before : (few : k < 8) (there : queue_of s k < length s.queues) (x : Queueing) → x.number < k → is_newly_active (layout_for s) past (entry_for (layout_for s) past caller (queue_call s k)) x ≡ false → waits (layout_for s) ((entry_for (layout_for s) past caller (queue_call s k)) ∷ past) x ≡ waits (layout_for s) past x
+  as_before : (few : k < 8) (there : plan_queue s k < length s.queues) (x : Queueing) → x.number < k → is_newly_active (layout_for s) past (entry_for (layout_for s) past caller (queue_call s k)) x ≡ false → waits (layout_for s) ((entry_for (layout_for s) past caller (queue_call s k)) ∷ past) x ≡ waits (layout_for s) past x
   as_before few there x less none = at (is_active (layout_for s) past x) refl
     where
       live : is_live ((entry_for (layout_for s) past caller (queue_call s k)) ∷ past) x ≡ true
@@ -322,45 +284,45 @@ module _ (s : Plan) (k : ℕ) (past : List Entry) (m : Moment) (h : ShowsQueued 
       at true was = ap not (stays_active (layout_for s) past (entry_for (layout_for s) past caller (queue_call s k)) x was live)
       at false was = ap not (simple (is_active (layout_for s) ((entry_for (layout_for s) past caller (queue_call s k)) ∷ past) x) (sym (ap (λ b. is_active (layout_for s) ((entry_for (layout_for s) past caller (queue_call s k)) ∷ past) x && not b) was) ∙ none))
 
-  last_waits : (few : k < 8) (there : queue_of s k < length s.queues) → waits (layout_for s) ((entry_for (layout_for s) past caller (queue_call s k)) ∷ past) (queueing_for s k) ≡ not (nat_lt (count_by (is_of s (queue_of s k)) (m.ready ++ m.behind)) (max_active s (queue_of s k)))
+  last_waits : (few : k < 8) (there : plan_queue s k < length s.queues) → waits (layout_for s) ((entry_for (layout_for s) past caller (queue_call s k)) ∷ past) (queueing_for s k) ≡ not (nat_lt (count_by (is_of_plan_queue s (plan_queue s k)) (m.ready ++ m.behind)) (plan_width s (plan_queue s k)))
   last_waits few there = ap not (opened_are_below_max_active (layout_for s) past (entry_for (layout_for s) past caller (queue_call s k)) (queueing_for s k) (legal few there) opened ∙ is_below_max_active)
 
   put : (b : Bool) → cond (not b) (queueing_for s k ∷ []) [] ≡ map (queueing_for s) (if b then [] else k ∷ [])
   put true = refl
   put false = refl
 
-  behind_after : (few : k < 8) (there : queue_of s k < length s.queues) → filter (waits (layout_for s) ((entry_for (layout_for s) past caller (queue_call s k)) ∷ past)) (still_open ((entry_for (layout_for s) past caller (queue_call s k)) ∷ past)) ≡ map (queueing_for s) (m.behind ++ (if nat_lt (count_by (is_of s (queue_of s k)) (m.ready ++ m.behind)) (max_active s (queue_of s k)) then [] else k ∷ []))
+  behind_after : (few : k < 8) (there : plan_queue s k < length s.queues) → filter (waits (layout_for s) ((entry_for (layout_for s) past caller (queue_call s k)) ∷ past)) (still_open ((entry_for (layout_for s) past caller (queue_call s k)) ∷ past)) ≡ map (queueing_for s) (m.behind ++ (if nat_lt (count_by (is_of_plan_queue s (plan_queue s k)) (m.ready ++ m.behind)) (plan_width s (plan_queue s k)) then [] else k ∷ []))
   behind_after few there =
       ap (filter (waits (layout_for s) ((entry_for (layout_for s) past caller (queue_call s k)) ∷ past))) (open_after few there)
       ∙ filter-append (waits (layout_for s) ((entry_for (layout_for s) past caller (queue_call s k)) ∷ past)) (still_open past) (queueing_for s k ∷ [])
       ∙ ap₂ (λ xs ys. xs ++ ys)
       (filter_same (waits (layout_for s) ((entry_for (layout_for s) past caller (queue_call s k)) ∷ past)) (waits (layout_for s) past) (still_open past)
       (All_both (λ (x : Queueing). x.number < k) (λ x. is_newly_active (layout_for s) past (entry_for (layout_for s) past caller (queue_call s k)) x ≡ false) _ (still_open past) (λ x less none. as_before few there x less none) old_ones (none_newly few there)) ∙ h.behind)
-      (ap (λ b. cond b (queueing_for s k ∷ []) []) (last_waits few there) ∙ put (nat_lt (count_by (is_of s (queue_of s k)) (m.ready ++ m.behind)) (max_active s (queue_of s k))))
-      ∙ sym (map-append (queueing_for s) m.behind (if nat_lt (count_by (is_of s (queue_of s k)) (m.ready ++ m.behind)) (max_active s (queue_of s k)) then [] else k ∷ []))
+      (ap (λ b. cond b (queueing_for s k ∷ []) []) (last_waits few there) ∙ put (nat_lt (count_by (is_of_plan_queue s (plan_queue s k)) (m.ready ++ m.behind)) (plan_width s (plan_queue s k))))
+      ∙ sym (map-append (queueing_for s) m.behind (if nat_lt (count_by (is_of_plan_queue s (plan_queue s k)) (m.ready ++ m.behind)) (plan_width s (plan_queue s k)) then [] else k ∷ []))
 
   -- ---- together
 
-  pub queue_shown : (few : k < 8) (there : queue_of s k < length s.queues) → ShowsQueued s (suc k) ((entry_for (layout_for s) past caller (queue_call s k)) ∷ past) (queue_item s m k)
+  pub queue_shown : (few : k < 8) (there : plan_queue s k < length s.queues) → ShowsQueued s (suc k) ((entry_for (layout_for s) past caller (queue_call s k)) ∷ past) (queue_item s m k)
   unfolding queueings
-  queue_shown few there = at (nat_lt (count_by (is_of s (queue_of s k)) (m.ready ++ m.behind)) (max_active s (queue_of s k))) refl
+  queue_shown few there = at (nat_lt (count_by (is_of_plan_queue s (plan_queue s k)) (m.ready ++ m.behind)) (plan_width s (plan_queue s k))) refl
     where
       counts_ready : (p : ℕ → Bool) → count_by p ((m.ready ++ k ∷ []) ++ m.behind) ≡ count_by p (range_with_len 0 (suc k))
       counts_ready p =
-          let a = count-append p (m.ready ++ k ∷ []) m.behind in
-          let b = count-append p m.ready (k ∷ []) in
+          let a = count_append p (m.ready ++ k ∷ []) m.behind in
+          let b = count_append p m.ready (k ∷ []) in
           let c = h.counts p in
-          let d = count-append p m.ready m.behind in
-          let e = ap (count_by p) (range_more 0 k ∙ ap (λ n. range_with_len 0 k ++ n ∷ []) (omega arith)) ∙ count-append p (range_with_len 0 k) (k ∷ []) in
+          let d = count_append p m.ready m.behind in
+          let e = ap (count_by p) (range_more 0 k ∙ ap (λ n. range_with_len 0 k ++ n ∷ []) (omega arith)) ∙ count_append p (range_with_len 0 k) (k ∷ []) in
           omega arith
 
       counts_behind : (p : ℕ → Bool) → count_by p (m.ready ++ (m.behind ++ k ∷ [])) ≡ count_by p (range_with_len 0 (suc k))
       counts_behind p =
-          let a = count-append p m.ready (m.behind ++ k ∷ []) in
-          let b = count-append p m.behind (k ∷ []) in
+          let a = count_append p m.ready (m.behind ++ k ∷ []) in
+          let b = count_append p m.behind (k ∷ []) in
           let c = h.counts p in
-          let d = count-append p m.ready m.behind in
-          let e = ap (count_by p) (range_more 0 k ∙ ap (λ n. range_with_len 0 k ++ n ∷ []) (omega arith)) ∙ count-append p (range_with_len 0 k) (k ∷ []) in
+          let d = count_append p m.ready m.behind in
+          let e = ap (count_by p) (range_more 0 k ∙ ap (λ n. range_with_len 0 k ++ n ∷ []) (omega arith)) ∙ count_append p (range_with_len 0 k) (k ∷ []) in
           omega arith
 
       still_wide : (q : ℕ) → width (layout_for s) ((entry_for (layout_for s) past caller (queue_call s k)) ∷ past) q ≡ first_width (layout_for s) q
@@ -369,7 +331,7 @@ module _ (s : Plan) (k : ℕ) (past : List Entry) (m : Moment) (h : ShowsQueued 
       all_listed : queueings ((entry_for (layout_for s) past caller (queue_call s k)) ∷ past) ≡ map (queueing_for s) (range_with_len 0 (suc k))
       all_listed = ap₂ (λ xs o. xs ++ option_to_list o) h.queued opened ∙ sym (map-append (queueing_for s) (range_with_len 0 k) (k ∷ [])) ∙ ap (map (queueing_for s)) (sym (range_more 0 k ∙ ap (λ n. range_with_len 0 k ++ n ∷ []) (omega arith)))
 
-      at : (b : Bool) → nat_lt (count_by (is_of s (queue_of s k)) (m.ready ++ m.behind)) (max_active s (queue_of s k)) ≡ b → ShowsQueued s (suc k) ((entry_for (layout_for s) past caller (queue_call s k)) ∷ past) (if b then record m { ready = m.ready ++ k ∷ [] } else record m { behind = m.behind ++ k ∷ [] })
+      at : (b : Bool) → nat_lt (count_by (is_of_plan_queue s (plan_queue s k)) (m.ready ++ m.behind)) (plan_width s (plan_queue s k)) ≡ b → ShowsQueued s (suc k) ((entry_for (layout_for s) past caller (queue_call s k)) ∷ past) (if b then record m { ready = m.ready ++ k ∷ [] } else record m { behind = m.behind ++ k ∷ [] })
       at true is = record {
         legal = legal few there;
         all = all_queued;
@@ -405,7 +367,7 @@ never_freezable (x ∷ qs) zero = refl
 never_freezable (x ∷ qs) (suc q) = never_freezable qs q
 
 pub nothing_shown : (s : Plan) → ShowsQueued s 0 [] empty
-unfolding IsLegal queueings worklist activated width width_kept is_frozen
+unfolding IsLegal queueings worklist became_active width width_kept is_frozen
 nothing_shown s = record {
   legal = tt;
   all = tt;
@@ -458,7 +420,7 @@ all_shown s past m slot few h = record {
   no_others = λ w n runs. absurd (none_some (sym (nobody_runs past w h.all) ∙ runs));
   once = λ i.
       let a = ap₂ (λ (js : List Job) (xs : List Sleeper). count_by (is_job i) js + count_by (is_sleeper i) xs) h.cpu h.sleeping in
-      let b = count-append (λ j. j == i) m.ready m.behind in
+      let b = count_append (λ j. j == i) m.ready m.behind in
       let c = h.counts (λ j. j == i) in
       let d = once_among 0 (length s.items) i in
       omega arith;

@@ -1,26 +1,14 @@
 -- Each call of a replay keeps room for those to come.
-use Rattle.std.proofs.Common.{◌≡◌, ◌==◌, ◌<◌, ◌≤◌, ◌+◌, ◌*◌, ◌||◌, ℕ, Bool, true, false, List, [], ◌∷◌, ◌++◌, length, drop, find, Some, refl, ap, ◌∙◌, subst, arith}
-use Rattle.std.specs.Prelude.{nat_le, sum_by}
-use Rattle.std.specs.List.{AllByRecursion, list_any}
-use Rattle.std.proofs.lemmas.Bool.Decides.{nat_tests}
-use Rattle.std.proofs.lemmas.Bool.{eq-eqb}
-use Rattle.std.proofs.lemmas.List.Sums.{sum_by-cons, sum_by_push}
+use Rattle.cmwq_sim.specs.Common.{◌≡◌, ◌==◌, ◌<◌, ◌≤◌, ◌+◌, ◌*◌, ◌||◌, ℕ, Bool, true, false, List, [], ◌∷◌, ◌++◌, length, drop, find, Some, refl, ap, ◌∙◌, subst, arith, nat_le, sum_by, AllByRecursion, list_any, nat_tests, eq-eqb, sum_by-cons, sum_by_push, Who, Worker, Call, Reply, Entry, number_started, has_time, room_needed, has_room, IsLegal, entry_for, is_promised}
 use Rattle.std.specs.Cmp.Derive.{both_true}
-use Rattle.cmwq_model.specs.declared.id.Who.{Who}
-use Rattle.cmwq_model.specs.declared.id.Who.TheVariants.{Worker}
-use Rattle.cmwq_model.specs.declared.call.Call.{Call}
-use Rattle.cmwq_model.specs.declared.reply.Reply.{Reply}
-use Rattle.cmwq_model.specs.declared.entry.Entry.{Entry}
-use Rattle.cmwq_model.specs.Prelude.{number_started, has_time, needed, has_room, IsLegal, entry_for}
 use Rattle.cmwq_model.specs.declared.call.Call.TheVariants as call
 use Rattle.cmwq_model.specs.declared.reply.Reply.TheVariants as reply
-use Rattle.cmwq_theory_steps.specs.RoomSteps.{is_promised}
 use Rattle.cmwq_theory_steps.proofs.Promised.{promised_need_no_more}
-use Rattle.cmwq_sim.specs.Plan.{Plan, queue_of, ms_of}
+use Rattle.cmwq_sim.specs.Plan.{Plan, plan_queue, ms_of}
 use Rattle.cmwq_sim.specs.Limits.{IsWithinLimits}
 use Rattle.cmwq_sim.specs.Rooms.{parts_at, parts_of_job, parts_left, IsRoomy}
 use Rattle.cmwq_sim.specs.Lines.{Moment, Job, Sleeper, serve, is_due, wake_item, job_of, queue_item}
-use Rattle.cmwq_sim.specs.Shows.{layout_for, worker, IsRunAt, is_job, Shows}
+use Rattle.cmwq_sim.specs.Shows.{layout_for, plan_worker, IsRunAt, is_job, Shows}
 use Rattle.cmwq_sim.specs.Takers.{IsTaker}
 use Rattle.cmwq_sim.proofs.TakeReads.{sleep_answered, finish_answered, wake_answered}
 use Rattle.cmwq_sim.proofs.TakeShown.{started_with, take_shown}
@@ -34,60 +22,60 @@ use Rattle.cmwq_sim.proofs.Roomy.{needs_two, needs_three, sleep_takes_one, end_t
 
 -- so there is room for what would be appended
 pub has_room_then : (s : Plan) (past : List Entry) (who : Who) (c : Call) (m : Moment) → has_time past c ≡ true → IsRoomy s (entry_for (layout_for s) past who c ∷ past) m → has_room (layout_for s) 1000 past who c ≡ true
-has_room_then s past who c m time h = both_true time (at (needed (layout_for s) (entry_for (layout_for s) past who c ∷ past)) (omega arith))
+has_room_then s past who c m time h = both_true time (at (room_needed (layout_for s) (entry_for (layout_for s) past who c ∷ past)) (omega arith))
   where
     at : (n : ℕ) → n ≤ 152 → nat_le n 1000 ≡ true
     at n less = grind (arith, nat_tests)
 
 pub sleep_roomy : (s : Plan) (t : ℕ) (past : List Entry) (m : Moment) (slot : ℕ → ℕ) (j : Job) (js : List Job) (pause : ℕ) (left : List ℕ) → Shows s past m slot → IsRoomy s past m → m.cpu ≡ j ∷ js → (j.burn == 0) ≡ true → j.left ≡ pause ∷ left
-    → IsRoomy s (entry_for (layout_for s) past (Worker (worker (slot j.item))) call.Sleep ∷ past) (serve s t m)
+    → IsRoomy s (entry_for (layout_for s) past (Worker (plan_worker (slot j.item))) call.Sleep ∷ past) (serve s t m)
 sleep_roomy s t past m slot j js pause left h roomy is done parts =
     let run = subst (AllByRecursion (λ k. IsRunAt past (slot k.item) k.item false)) is h.cpu in
-    let a = needs_two (layout_for s) past (entry_for (layout_for s) past (Worker (worker (slot j.item))) call.Sleep) (serve_sleeps s t past m slot j js pause left h is done parts).legal (sleep_answered s past (slot j.item) j.item run.0) in
+    let a = needs_two (layout_for s) past (entry_for (layout_for s) past (Worker (plan_worker (slot j.item))) call.Sleep) (serve_sleeps s t past m slot j js pause left h is done parts).legal (sleep_answered s past (slot j.item) j.item run.0) in
     let b = sleep_takes_one s t m j js pause left is done parts in
     omega arith
 
 pub end_roomy : (s : Plan) (t : ℕ) (past : List Entry) (m : Moment) (slot : ℕ → ℕ) (j : Job) (js : List Job) → Shows s past m slot → IsRoomy s past m → m.cpu ≡ j ∷ js → (j.burn == 0) ≡ true → j.left ≡ []
-    → IsRoomy s (entry_for (layout_for s) past (Worker (worker (slot j.item))) call.Finish ∷ past) (serve s t m)
+    → IsRoomy s (entry_for (layout_for s) past (Worker (plan_worker (slot j.item))) call.Finish ∷ past) (serve s t m)
 end_roomy s t past m slot j js h roomy is done parts =
     let run = subst (AllByRecursion (λ k. IsRunAt past (slot k.item) k.item false)) is h.cpu in
-    let a = promised_need_no_more (layout_for s) past (entry_for (layout_for s) past (Worker (worker (slot j.item))) call.Finish) (serve_ends s t past m slot j js h is done parts).legal (ap is_promised (finish_answered s past (slot j.item) j.item run.0)) in
+    let a = promised_need_no_more (layout_for s) past (entry_for (layout_for s) past (Worker (plan_worker (slot j.item))) call.Finish) (serve_ends s t past m slot j js h is done parts).legal (ap is_promised (finish_answered s past (slot j.item) j.item run.0)) in
     let b = end_takes_none s t m j js is done parts in
     omega arith
 
 module _ (s : Plan) (t i : ℕ) (past : List Entry) (m : Moment) (slot : ℕ → ℕ) (x : Sleeper) (h : Shows s past m slot) (roomy : IsRoomy s past m) (due : find (is_due t i) m.sleeping ≡ Some x) where
-  woke : is_promised (entry_for (layout_for s) past (Worker (worker (slot i))) call.Wake).reply ≡ true
+  woke : is_promised (entry_for (layout_for s) past (Worker (plan_worker (slot i))) call.Wake).reply ≡ true
   woke = ap is_promised (wake_answered s past (slot i) i (sleeper_run past slot i m.sleeping h.sleeping (asleep_there t i m x due)))
 
-  pub wake_burns_roomy : (b : ℕ) (left : List ℕ) → x.left ≡ b ∷ left → IsRoomy s (entry_for (layout_for s) past (Worker (worker (slot i))) call.Wake ∷ past) (wake_item s t m i)
+  pub wake_burns_roomy : (b : ℕ) (left : List ℕ) → x.left ≡ b ∷ left → IsRoomy s (entry_for (layout_for s) past (Worker (plan_worker (slot i))) call.Wake ∷ past) (wake_item s t m i)
   wake_burns_roomy b left parts =
-      let a = promised_need_no_more (layout_for s) past (entry_for (layout_for s) past (Worker (worker (slot i))) call.Wake) (wake_burns s t i past m slot x h due b left parts).legal woke in
+      let a = promised_need_no_more (layout_for s) past (entry_for (layout_for s) past (Worker (plan_worker (slot i))) call.Wake) (wake_burns s t i past m slot x h due b left parts).legal woke in
       let c = wake_takes_none s t i m in
       omega arith
 
-  pub wake_roomy : IsRoomy s (entry_for (layout_for s) past (Worker (worker (slot i))) call.Wake ∷ past) m
+  pub wake_roomy : IsRoomy s (entry_for (layout_for s) past (Worker (plan_worker (slot i))) call.Wake ∷ past) m
   wake_roomy =
-      let a = promised_need_no_more (layout_for s) past (entry_for (layout_for s) past (Worker (worker (slot i))) call.Wake) (wake_shown s past m slot i 0 [] h (asleep_there t i m x due)).legal woke in
+      let a = promised_need_no_more (layout_for s) past (entry_for (layout_for s) past (Worker (plan_worker (slot i))) call.Wake) (wake_shown s past m slot i 0 [] h (asleep_there t i m x due)).legal woke in
       omega arith
 
   -- awake, and with nothing left
-  woken_run : IsRunAt (entry_for (layout_for s) past (Worker (worker (slot i))) call.Wake ∷ past) (slot i) i false
+  woken_run : IsRunAt (entry_for (layout_for s) past (Worker (plan_worker (slot i))) call.Wake ∷ past) (slot i) i false
   woken_run =
       let k = wake_shown s past m slot i 0 [] h (asleep_there t i m x due) in
-      job_run (entry_for (layout_for s) past (Worker (worker (slot i))) call.Wake ∷ past) slot i (m.cpu ++ record { item = i; burn = 0; left = [] } ∷ []) k.cpu
+      job_run (entry_for (layout_for s) past (Worker (plan_worker (slot i))) call.Wake ∷ past) slot i (m.cpu ++ record { item = i; burn = 0; left = [] } ∷ []) k.cpu
       (any-append (is_job i) m.cpu (record { item = i; burn = 0; left = [] } ∷ []) ∙ ap (λ b. list_any (is_job i) m.cpu || (b || false)) (eq-eqb i i refl) ∙ either (list_any (is_job i) m.cpu))
     where
       either : (b : Bool) → (b || true) ≡ true
       either true = refl
       either false = refl
 
-  pub wake_ends_roomy : x.left ≡ [] → IsRoomy s (entry_for (layout_for s) (entry_for (layout_for s) past (Worker (worker (slot i))) call.Wake ∷ past) (Worker (worker (slot i))) call.Finish ∷ entry_for (layout_for s) past (Worker (worker (slot i))) call.Wake ∷ past) (wake_item s t m i)
+  pub wake_ends_roomy : x.left ≡ [] → IsRoomy s (entry_for (layout_for s) (entry_for (layout_for s) past (Worker (plan_worker (slot i))) call.Wake ∷ past) (Worker (plan_worker (slot i))) call.Finish ∷ entry_for (layout_for s) past (Worker (plan_worker (slot i))) call.Wake ∷ past) (wake_item s t m i)
   unfolding IsLegal
   wake_ends_roomy parts =
       let legal = (wake_ends s t i past m slot x h due parts).legal in
-      let a = promised_need_no_more (layout_for s) past (entry_for (layout_for s) past (Worker (worker (slot i))) call.Wake) legal.2 woke in
-      let b = promised_need_no_more (layout_for s) (entry_for (layout_for s) past (Worker (worker (slot i))) call.Wake ∷ past) (entry_for (layout_for s) (entry_for (layout_for s) past (Worker (worker (slot i))) call.Wake ∷ past) (Worker (worker (slot i))) call.Finish) legal
-      (ap is_promised (finish_answered s (entry_for (layout_for s) past (Worker (worker (slot i))) call.Wake ∷ past) (slot i) i woken_run)) in
+      let a = promised_need_no_more (layout_for s) past (entry_for (layout_for s) past (Worker (plan_worker (slot i))) call.Wake) legal.2 woke in
+      let b = promised_need_no_more (layout_for s) (entry_for (layout_for s) past (Worker (plan_worker (slot i))) call.Wake ∷ past) (entry_for (layout_for s) (entry_for (layout_for s) past (Worker (plan_worker (slot i))) call.Wake ∷ past) (Worker (plan_worker (slot i))) call.Finish) legal
+      (ap is_promised (finish_answered s (entry_for (layout_for s) past (Worker (plan_worker (slot i))) call.Wake ∷ past) (slot i) i woken_run)) in
       let c = wake_takes_none s t i m in
       omega arith
 
@@ -106,18 +94,18 @@ start_takes_none s m n rest is =
     omega arith
 
 pub start_roomy : (s : Plan) (past : List Entry) (m : Moment) (slot : ℕ → ℕ) (x n : ℕ) → Shows s past m slot → IsRoomy s past m → IsTaker (layout_for s) past x n
-    → IsRoomy s (entry_for (layout_for s) past (Worker (worker x)) call.Take ∷ past) (started_with s m n (drop 1 m.ready))
+    → IsRoomy s (entry_for (layout_for s) past (Worker (plan_worker x)) call.Take ∷ past) (started_with s m n (drop 1 m.ready))
 start_roomy s past m slot x n h roomy t =
     let k = taker_starts s past m slot x n h t in
     let may = may_start s m n k.1 in
-    let a = promised_need_no_more (layout_for s) past (entry_for (layout_for s) past (Worker (worker x)) call.Take) (take_shown s past m slot x n (drop 1 m.ready) h t.below k.0 may.first may.clear).legal (started_promised _ n t.starts) in
+    let a = promised_need_no_more (layout_for s) past (entry_for (layout_for s) past (Worker (plan_worker x)) call.Take) (take_shown s past m slot x n (drop 1 m.ready) h t.below k.0 may.first may.clear).legal (started_promised _ n t.starts) in
     let b = start_takes_none s m n (drop 1 m.ready) may.first in
     omega arith
 
 -- ---- queueing: three entries for it, and two for each of eight parts
 
-pub queue_roomy : (s : Plan) (k : ℕ) (past : List Entry) (m : Moment) (h : ShowsQueued s k past m) → IsWithinLimits s → k < length s.items → k < 8 → queue_of s k < length s.queues → needed (layout_for s) past + 2 * parts_left s m ≤ 19 * k
-    → needed (layout_for s) (entry_for (layout_for s) past caller (queue_call s k) ∷ past) + 2 * parts_left s (queue_item s m k) ≤ 19 * (k + 1)
+pub queue_roomy : (s : Plan) (k : ℕ) (past : List Entry) (m : Moment) (h : ShowsQueued s k past m) → IsWithinLimits s → k < length s.items → k < 8 → plan_queue s k < length s.queues → room_needed (layout_for s) past + 2 * parts_left s m ≤ 19 * k
+    → room_needed (layout_for s) (entry_for (layout_for s) past caller (queue_call s k) ∷ past) + 2 * parts_left s (queue_item s m k) ≤ 19 * (k + 1)
 queue_roomy s k past m h fine less few there roomy =
     let a = needs_three (layout_for s) past (entry_for (layout_for s) past caller (queue_call s k)) k (queue_shown s k past m h few there).legal (answered s k past m h) in
     let b = queued_parts s m k fine less in

@@ -1,22 +1,14 @@
 -- No call of a replay is refused for want of room: a queueing needs three entries, a sleep two, and there are few of both.
-use Rattle.std.proofs.Common.{◌≡◌, ◌==◌, ◌<◌, ◌≤◌, ◌+◌, ℕ, Bool, true, false, not, List, [], ◌∷◌, ◌++◌, length, filter, find, count_by, Option, Some, None, refl, sym, ap, ◌∙◌, subst, arith, nat_lt}
-use Rattle.std.specs.Prelude.{if◌then◌else◌, sum_by, option_and_then, option_map, is_some}
-use Rattle.std.proofs.lemmas.Bool.{eq-eqb}
-use Rattle.std.proofs.lemmas.List.Sums.{sum_by-cons, sum_by_push}
+use Rattle.cmwq_sim.specs.Common.{◌≡◌, ◌==◌, ◌<◌, ◌≤◌, ◌+◌, ℕ, Bool, true, false, not, List, [], ◌∷◌, ◌++◌, length, filter, find, count_by, Option, Some, None, refl, sym, ap, ◌∙◌, subst, arith, nat_lt, if◌then◌else◌, sum_by, option_and_then, option_map, is_some, eq-eqb, sum_by-cons, sum_by_push, Entry, Layout, item_of, number_started, number_finished, booking, booking_of, booked_by, due_in, last_start, is_asleep, queueings, opens, opening, queued_at, place_wanted, tickets, gives_ticket, is_frozen, owed, room_needed, IsLegal, is_slept, is_frozen_now, runs_counted, sleepers_counted}
 use Rattle.cmwq_model.specs.declared.reply.Reply.TheVariants as reply
-use Rattle.cmwq_model.specs.declared.entry.Entry.{Entry}
-use Rattle.cmwq_model.specs.Prelude.{Layout, item_of, number_started, number_finished, booking, booking_of, booked_by, due_in, last_start, is_asleep, queueings, opens, opening}
-use Rattle.cmwq_model.specs.Prelude.{queued_at, place_wanted, tickets, gives_ticket, is_frozen, owed, needed, IsLegal}
 use Rattle.cmwq_theory_steps.specs.Histories.{one}
-use Rattle.cmwq_theory_steps.specs.RoomSteps.{is_slept, is_frozen_now}
 use Rattle.cmwq_theory_steps.proofs.OwedFrozen.{frozen_counted}
 use Rattle.cmwq_theory_steps.proofs.OwedItems.{tickets_counted, booked_counted}
-use Rattle.cmwq_theory_steps.proofs.OwedSteps.{runs_counted, sleepers_counted}
 use Rattle.cmwq_theory_steps.proofs.OwedWaiting.{waiting_counted}
 use Rattle.cmwq_sim.specs.declared.scenario.LineKind.TheVariants as kind
-use Rattle.cmwq_sim.specs.Plan.{Plan, queue_of, is_of, max_active, no_item}
+use Rattle.cmwq_sim.specs.Plan.{Plan, plan_queue, is_of_plan_queue, plan_width, no_item}
 use Rattle.cmwq_sim.specs.Rooms.{parts_at, parts_of_job, parts_of_sleeper, parts_left}
-use Rattle.cmwq_sim.specs.Lines.{queue_item, Moment, Job, Sleeper, is_other, make_ready, end, after_burn, after_sleep, serve, is_due, is_not, wake_sleeper, wake_item, tell, job_with}
+use Rattle.cmwq_sim.specs.Lines.{queue_item, Moment, Job, Sleeper, is_other_item, make_ready, end_job, after_burn, after_sleep, serve, is_due, is_other_sleeper, wake_sleeper, wake_item, tell, job_with}
 use Rattle.cmwq_sim.specs.Shows.{layout_for}
 use Rattle.cmwq_sim.specs.Limits.{IsItem, IsWithinLimits}
 use Rattle.cmwq_sim.proofs.Progress.{all_at, found_apart}
@@ -24,7 +16,7 @@ use Rattle.cmwq_sim.proofs.Phases.{serve_is}
 
 -- ---- what an entry adds to what is needed
 
-pub needs_three : (s : Layout) (past : List Entry) (e : Entry) (n : ℕ) → IsLegal s (e ∷ past) → e.reply ≡ reply.Yes n → needed s (e ∷ past) ≤ needed s past + 3
+pub needs_three : (s : Layout) (past : List Entry) (e : Entry) (n : ℕ) → IsLegal s (e ∷ past) → e.reply ≡ reply.Yes n → room_needed s (e ∷ past) ≤ room_needed s past + 3
 unfolding owed
 needs_three s past e n legal is =
     let a = waiting_counted s past e legal in
@@ -46,7 +38,7 @@ needs_three s past e n legal is =
     at_most_one true = omega arith
     at_most_one false = omega arith
 
-pub needs_two : (s : Layout) (past : List Entry) (e : Entry) → IsLegal s (e ∷ past) → e.reply ≡ reply.Slept → needed s (e ∷ past) ≤ needed s past + 2
+pub needs_two : (s : Layout) (past : List Entry) (e : Entry) → IsLegal s (e ∷ past) → e.reply ≡ reply.Slept → room_needed s (e ∷ past) ≤ room_needed s past + 2
 unfolding owed
 needs_two s past e legal is =
     let a = waiting_counted s past e legal in
@@ -64,19 +56,19 @@ needs_two s past e legal is =
     let g1 : one (is_frozen_now e.reply) ≡ 0 = ap (λ r. one (is_frozen_now r)) is in
     omega arith
 
-pub needs_nothing_at_first : (s : Plan) → needed (layout_for s) [] ≡ 0
+pub needs_nothing_at_first : (s : Plan) → room_needed (layout_for s) [] ≡ 0
 unfolding owed queueings last_start is_asleep booking tickets is_frozen
 needs_nothing_at_first s = refl
 
 -- ---- how many parts are left: each sleep takes one
 
-end_parts : (s : Plan) (i : ℕ) (m : Moment) → parts_left s (end s i m) ≤ parts_left s m
-end_parts s i m = at (find (is_of s (queue_of s i)) m.behind) refl
+end_parts : (s : Plan) (i : ℕ) (m : Moment) → parts_left s (end_job s i m) ≤ parts_left s m
+end_parts s i m = at (find (is_of_plan_queue s (plan_queue s i)) m.behind) refl
   where
-    at : (o : Option ℕ) → find (is_of s (queue_of s i)) m.behind ≡ o → parts_left s (make_ready m o) ≤ parts_left s m
+    at : (o : Option ℕ) → find (is_of_plan_queue s (plan_queue s i)) m.behind ≡ o → parts_left s (make_ready m o) ≤ parts_left s m
     at None none = omega arith
     at (Some z) some =
-        let a = found_apart (parts_at s) (is_of s (queue_of s i)) (is_other z) m.behind z some (ap not (eq-eqb z z refl)) in
+        let a = found_apart (parts_at s) (is_of_plan_queue s (plan_queue s i)) (is_other_item z) m.behind z some (ap not (eq-eqb z z refl)) in
         let b = sum_by_push (parts_at s) m.ready z in
         omega arith
 
@@ -100,13 +92,13 @@ wake_takes_none s t i m = at (find (is_due t i) m.sleeping) refl
     at None none = omega arith
     at (Some x) some = after x.left refl
       where
-        apart : sum_by parts_of_sleeper (filter (is_not x.item) m.sleeping) + length x.left ≤ sum_by parts_of_sleeper m.sleeping
-        apart = found_apart parts_of_sleeper (is_due t i) (is_not x.item) m.sleeping x some (ap not (eq-eqb x.item x.item refl))
+        apart : sum_by parts_of_sleeper (filter (is_other_sleeper x.item) m.sleeping) + length x.left ≤ sum_by parts_of_sleeper m.sleeping
+        apart = found_apart parts_of_sleeper (is_due t i) (is_other_sleeper x.item) m.sleeping x some (ap not (eq-eqb x.item x.item refl))
 
-        after : (left : List ℕ) → x.left ≡ left → parts_left s (after_sleep s t (record m { sleeping = filter (is_not x.item) m.sleeping }) x.item left) ≤ parts_left s m
+        after : (left : List ℕ) → x.left ≡ left → parts_left s (after_sleep s t (record m { sleeping = filter (is_other_sleeper x.item) m.sleeping }) x.item left) ≤ parts_left s m
         after [] l =
             let a = apart in
-            let b = end_parts s x.item (tell t kind.WakesEnds (x.item ∷ []) (record m { sleeping = filter (is_not x.item) m.sleeping })) in
+            let b = end_parts s x.item (tell t kind.WakesEnds (x.item ∷ []) (record m { sleeping = filter (is_other_sleeper x.item) m.sleeping })) in
             omega arith
         after (b ∷ left) l =
             let a = apart in
@@ -120,7 +112,7 @@ start_parts i [] = omega arith
 start_parts i (b ∷ ms) = omega arith
 
 pub queued_parts : (s : Plan) (m : Moment) (i : ℕ) → IsWithinLimits s → i < length s.items → parts_left s (queue_item s m i) ≤ parts_left s m + 8
-queued_parts s m i fine less = at (nat_lt (count_by (is_of s (queue_of s i)) (m.ready ++ m.behind)) (max_active s (queue_of s i)))
+queued_parts s m i fine less = at (nat_lt (count_by (is_of_plan_queue s (plan_queue s i)) (m.ready ++ m.behind)) (plan_width s (plan_queue s i)))
   where
     few : parts_at s i ≤ 8
     few = (all_at (IsItem (length s.queues)) s.items i no_item fine.items less).parts.1

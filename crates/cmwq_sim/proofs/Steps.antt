@@ -1,39 +1,12 @@
 -- What one more entry does to what a history shows.
-use Rattle.std.proofs.Common.{◌≡◌, ◌≢◌, ◌==◌, ◌<◌, ◌≤◌, ◌+◌, ℕ, Bool, true, false, cond, not, ◌&&◌, ◌||◌, List, [], ◌∷◌, ◌++◌, length, filter, count_by, Option, None, refl, sym, ap, ap₂, ◌∙◌, subst, arith, option_to_list, append-nil, length-append}
-use Rattle.std.specs.Prelude.{option_map, option_and_then, if◌then◌else◌, IsTrue}
-use Rattle.std.specs.List.{AllByRecursion, list_any}
-use Rattle.cmwq_refinement.proofs.PoolNext.{runner_there}
-use Rattle.std.proofs.lemmas.Bool.{lt-ltb, eq-eqb, ne_eqb}
-use Rattle.std.proofs.lemmas.Option.{same_Some}
-use Rattle.cmwq_model.specs.declared.id.PoolId.{PoolId}
-use Rattle.cmwq_model.specs.declared.id.WorkerId.{WorkerId}
-use Rattle.cmwq_model.specs.declared.id.Who.TheVariants.{Worker}
-use Rattle.cmwq_model.specs.declared.reply.Reply.{Reply}
-use Rattle.cmwq_model.specs.declared.entry.Entry.{Entry}
-use Rattle.cmwq_model.specs.declared.record.Queueing.{Queueing}
-use Rattle.cmwq_model.specs.Prelude.{Layout, fits, item_of, is_at, is_by, is_of_item, same_who, number_started, number_finished, number_cancelled, replaces, starts, is_started}
-use Rattle.cmwq_model.specs.Prelude.{run, is_asleep, asleep_after, opens, opening, queued_at, place_wanted, queueings, still_open, is_live, is_active, is_newly_active}
-use Rattle.cmwq_model.specs.Prelude.{newly_active, worklist, is_retired, answer, IsLegal, entry_for}
+use Rattle.cmwq_sim.specs.Common.{◌≡◌, ◌≢◌, ◌==◌, ◌<◌, ◌≤◌, ◌+◌, ℕ, Bool, true, false, cond, not, ◌&&◌, ◌||◌, List, [], ◌∷◌, ◌++◌, length, filter, count_by, Option, None, refl, sym, ap, ap₂, ◌∙◌, subst, arith, option_to_list, append-nil, length-append, option_map, option_and_then, if◌then◌else◌, IsTrue, AllByRecursion, list_any, runner_there, lt-ltb, eq-eqb, ne_eqb, same_Some, PoolId, WorkerId, Worker, Reply, Entry, Queueing, Layout, fits, item_of, is_at, is_by, is_of_item, same_who, number_started, number_finished, number_cancelled, replaces, starts, is_started, run, is_asleep, asleep_after, opens, opening, queued_at, place_wanted, queueings, still_open, is_live, is_active, is_newly_active, newly_active, worklist, is_retired, answer, IsLegal, entry_for, run_after, survives, is_ended, ending, waits, is_left, is_in, behind_width, is_below_max_active_at_once, keeps_widths, All_both, All_each, All_append, All_filter, count_by-cons, filter_same, none_found, count_none, stays_active, open_go_on, newly_of_open, newly_active_are, width_same, worklists_go_on, workers_run_on, by_itself}
 use Rattle.cmwq_model.specs.declared.call.Call.TheVariants as call
 use Rattle.cmwq_model.specs.declared.reply.Reply.TheVariants as reply
-use Rattle.cmwq_theory_steps.specs.RunSteps.{run_after}
-use Rattle.cmwq_theory_steps.specs.Endings.{survives, is_ended, ending}
-use Rattle.cmwq_theory_steps.specs.Activations.{waits, is_left, is_in, behind_width, is_below_max_active_at_once}
-use Rattle.cmwq_theory_active.specs.Looks.{keeps_widths}
-use Rattle.cmwq_theory_active.proofs.Lists.{All_both, All_each, All_append, All_filter, count_by-cons}
-use Rattle.cmwq_theory_steps.proofs.Filters.{filter_same, none_found, count_none}
-use Rattle.cmwq_theory_active.proofs.Joined.{stays_active}
-use Rattle.cmwq_theory_steps.proofs.Endings.{open_go_on}
-use Rattle.cmwq_theory_steps.proofs.Promoted.{newly_of_open}
-use Rattle.cmwq_theory_steps.proofs.NewlyActive.{newly_active_are}
-use Rattle.cmwq_theory_active.proofs.Widths.{width_same}
-use Rattle.cmwq_theory_steps.proofs.WorklistSteps.{worklists_go_on}
-use Rattle.cmwq_theory_steps.proofs.RunSteps.{workers_run_on}
-use Rattle.cmwq_theory_steps.proofs.OwedSteps.{by_itself}
 use Rattle.cmwq_sim.specs.Plan.{Plan}
 use Rattle.cmwq_sim.specs.Lines.{Moment, Job}
-use Rattle.cmwq_sim.specs.Shows.{layout_for, pool, worker, IsRunAt, is_job, is_sleeper, runs_in, times, Shows}
+use Rattle.cmwq_sim.specs.Shows.{layout_for, pool, plan_worker, IsRunAt, is_job, is_sleeper, runs_in, times, Shows}
 use Rattle.cmwq_sim.proofs.TakeReads.{sleep_answered}
+use Rattle.cmwq_lemmas.proofs.Lists.{filter_all, count_append}
 
 -- ---- an entry that opens and ends nothing
 
@@ -44,10 +17,6 @@ pub record IsQuiet (r : Reply) : Type 0 where
   pub replaces : replaces r ≡ false
   pub widths : keeps_widths r ≡ true
   pub stays : is_retired r ≡ false
-
-pub all_kept : {X : Type 0} (p : X → Bool) (xs : List X) → AllByRecursion (λ x. p x ≡ true) xs → filter p xs ≡ xs
-all_kept p [] h = refl
-all_kept p (x ∷ xs) h = ap₂ (λ b ys. cond b (x ∷ ys) ys) h.0 (all_kept p xs h.1)
 
 pub none_kept : {X : Type 0} (p : X → Bool) (xs : List X) → filter p xs ≡ [] → AllByRecursion (λ x. p x ≡ false) xs
 none_kept p [] h = tt
@@ -70,7 +39,7 @@ none_opens past e q = ap (λ b. if b then option_and_then (λ i. option_map (que
 
 pub open_as_before : (s : Layout) (past : List Entry) (e : Entry) → IsLegal s (e ∷ past) → IsQuiet e.reply → still_open (e ∷ past) ≡ still_open past
 open_as_before s past e legal q = open_go_on s past e legal
-    ∙ ap₂ (λ xs o. xs ++ option_to_list o) (all_kept (survives past e) (still_open past) (All_each _ (still_open past) (λ x. spares past e x q))) (none_opens past e q) ∙ append-nil (still_open past)
+    ∙ ap₂ (λ xs o. xs ++ option_to_list o) (filter_all (survives past e) (still_open past) (All_each _ (still_open past) (λ x. spares past e x q))) (none_opens past e q) ∙ append-nil (still_open past)
 
 none_newly : (s : Layout) (past : List Entry) (e : Entry) → IsLegal s (e ∷ past) → IsQuiet e.reply → newly_active s past e ≡ []
 none_newly s past e legal q = newly_active_are s past e legal q.widths
@@ -107,7 +76,7 @@ waiting_as_before s past e legal q =
 
 -- ---- sleep
 
-fits_sleep : (s : Plan) (x : ℕ) → x < 8 → IsTrue (fits (layout_for s) (Worker (worker x)) call.Sleep)
+fits_sleep : (s : Plan) (x : ℕ) → x < 8 → IsTrue (fits (layout_for s) (Worker (plan_worker x)) call.Sleep)
 fits_sleep s x less = ap (λ b. (b && true) && true) (lt-ltb x 8 less)
 
 pub any-append : {X : Type 0} (p : X → Bool) (xs ys : List X) → list_any p (xs ++ ys) ≡ (list_any p xs || list_any p ys)
@@ -131,28 +100,20 @@ same_runs s past e w legal h = workers_run_on s past e w legal ∙ ap (λ o. if 
 -- the worker of another item is another one
 pub other_slot : (past : List Entry) (slot : ℕ → ℕ) (i k : ℕ) (a b : Bool) → IsRunAt past (slot i) i a → IsRunAt past (slot k) k b → (k == i) ≡ false → slot i ≢ slot k
 other_slot past slot i k a b h g differs same =
-    let one : k ≡ i = same_Some k i (sym g.runs ∙ ap (λ x. run past (worker x)) (sym same) ∙ h.runs) in
+    let one : k ≡ i = same_Some k i (sym g.runs ∙ ap (λ x. run past (plan_worker x)) (sym same) ∙ h.runs) in
     let t : (k == i) ≡ true = eq-eqb k i one in
     cc
 
-pub not_by : (e : Entry) (x y : ℕ) → e.who ≡ Worker (worker x) → x ≢ y → is_by (Worker (worker y)) e ≡ false
-not_by e x y who differs = ap (λ w. same_who w (Worker (worker y))) who ∙ ne_eqb x y differs
+pub not_by : (e : Entry) (x y : ℕ) → e.who ≡ Worker (plan_worker x) → x ≢ y → is_by (Worker (plan_worker y)) e ≡ false
+not_by e x y who differs = ap (λ w. same_who w (Worker (plan_worker y))) who ∙ ne_eqb x y differs
 
 -- a run of another item goes on as it is
-goes_on : (s : Layout) (past : List Entry) (e : Entry) (x y i : ℕ) (b : Bool) → IsLegal s (e ∷ past) → ((o : Option ℕ) → run_after e.reply o ≡ o) → e.who ≡ Worker (worker x) → x ≢ y → IsRunAt past y i b → IsRunAt (e ∷ past) y i b
+goes_on : (s : Layout) (past : List Entry) (e : Entry) (x y i : ℕ) (b : Bool) → IsLegal s (e ∷ past) → ((o : Option ℕ) → run_after e.reply o ≡ o) → e.who ≡ Worker (plan_worker x) → x ≢ y → IsRunAt past y i b → IsRunAt (e ∷ past) y i b
 unfolding is_asleep
 goes_on s past e x y i b legal after who differs r = record {
-  runs = same_runs s past e (worker y) legal after ∙ r.runs;
-  sleeps = ap (λ c. if c then asleep_after e.reply (is_asleep past (worker y)) else is_asleep past (worker y)) (not_by e x y who differs) ∙ r.sleeps;
+  runs = same_runs s past e (plan_worker y) legal after ∙ r.runs;
+  sleeps = ap (λ c. if c then asleep_after e.reply (is_asleep past (plan_worker y)) else is_asleep past (plan_worker y)) (not_by e x y who differs) ∙ r.sleeps;
 }
-
-pub count-append : {X : Type 0} (p : X → Bool) (xs ys : List X) → count_by p (xs ++ ys) ≡ count_by p xs + count_by p ys
-count-append p [] ys = omega arith
-count-append p (x ∷ xs) ys =
-    let a = count_by-cons p x (xs ++ ys) in
-    let b = count_by-cons p x xs in
-    let c = count-append p xs ys in
-    omega arith
 
 -- an item stands once among those that run
 pub alone : (m : Moment) (j : Job) (rest : List Job) → m.cpu ≡ j ∷ rest → times m j.item ≤ 1 → (AllByRecursion (λ k. is_job j.item k ≡ false) rest) × (AllByRecursion (λ x. is_sleeper j.item x ≡ false) m.sleeping)
@@ -164,7 +125,7 @@ abbrev pub asleep_with : Moment → Job → List Job → ℕ → List ℕ → Mo
 asleep_with m j rest until left = record m { cpu = rest; sleeping = m.sleeping ++ record { item = j.item; until = until; left = left } ∷ [] }
 
 pub sleep_shown : (s : Plan) (past : List Entry) (m : Moment) (slot : ℕ → ℕ) (j : Job) (rest : List Job) (until : ℕ) (left : List ℕ) → Shows s past m slot → m.cpu ≡ j ∷ rest
-    → Shows s (entry_for (layout_for s) past (Worker (worker (slot j.item))) call.Sleep ∷ past) (asleep_with m j rest until left) slot
+    → Shows s (entry_for (layout_for s) past (Worker (plan_worker (slot j.item))) call.Sleep ∷ past) (asleep_with m j rest until left) slot
 unfolding IsLegal queueings is_asleep
 sleep_shown s past m slot j rest until left h is = record {
   legal = legal;
@@ -172,17 +133,17 @@ sleep_shown s past m slot j rest until left h is = record {
   wide = λ q. width_same (layout_for s) past e q quiet.widths ∙ h.wide q;
   kept = (quiet.stays, h.kept);
   queued = ap (λ o. queueings past ++ option_to_list o) (none_opens past e quiet) ∙ append-nil (queueings past) ∙ h.queued;
-  ready = worklist_as_before (layout_for s) past e pool legal quiet ∙ all_kept (λ x. not (starts x.number e)) (worklist (layout_for s) past pool) (All_each _ (worklist (layout_for s) past pool) (λ x. ap (λ r. not (is_at (number_started r) x.number)) slept)) ∙ h.ready;
+  ready = worklist_as_before (layout_for s) past e pool legal quiet ∙ filter_all (λ x. not (starts x.number e)) (worklist (layout_for s) past pool) (All_each _ (worklist (layout_for s) past pool) (λ x. ap (λ r. not (is_at (number_started r) x.number)) slept)) ∙ h.ready;
   behind = waiting_as_before (layout_for s) past e legal quiet ∙ h.behind;
   cpu = All_both (λ k. IsRunAt past (slot k.item) k.item false) (λ k. is_job j.item k ≡ false) _ rest (λ k r differs. other k.item false r differs) jobs.1 apart.0;
   sleeping = All_append _ m.sleeping (record { item = j.item; until = until; left = left } ∷ [])
       (All_both (λ x. IsRunAt past (slot x.item) x.item true) (λ x. is_sleeper j.item x ≡ false) _ m.sleeping (λ x r differs. other x.item true r differs) h.sleeping apart.1)
-      (record { runs = same_runs (layout_for s) past e (worker (slot j.item)) legal after ∙ jobs.0.runs; sleeps = ap₂ (λ c r. if c then asleep_after r (is_asleep past (worker (slot j.item))) else is_asleep past (worker (slot j.item))) (by_itself e (worker (slot j.item)) refl) slept }, tt);
+      (record { runs = same_runs (layout_for s) past e (plan_worker (slot j.item)) legal after ∙ jobs.0.runs; sleeps = ap₂ (λ c r. if c then asleep_after r (is_asleep past (plan_worker (slot j.item))) else is_asleep past (plan_worker (slot j.item))) (by_itself e (plan_worker (slot j.item)) refl) slept }, tt);
   no_others = λ w n runs. let k = h.no_others w n (sym (same_runs (layout_for s) past e w legal after) ∙ runs) in (k.0, moved n k.1);
   once = λ i.
       let o = h.once i in
       let c = ap (count_by (is_job i)) is ∙ count_by-cons (is_job i) j rest in
-      let d = count-append (is_sleeper i) m.sleeping (record { item = j.item; until = until; left = left } ∷ []) ∙ ap (λ n. count_by (is_sleeper i) m.sleeping + n) (count_by-cons (is_sleeper i) (record { item = j.item; until = until; left = left }) []) in
+      let d = count_append (is_sleeper i) m.sleeping (record { item = j.item; until = until; left = left } ∷ []) ∙ ap (λ n. count_by (is_sleeper i) m.sleeping + n) (count_by-cons (is_sleeper i) (record { item = j.item; until = until; left = left }) []) in
       omega arith;
   few =
       let f = h.few in
@@ -192,21 +153,21 @@ sleep_shown s past m slot j rest until left h is = record {
 }
   where
     e : Entry
-    e = entry_for (layout_for s) past (Worker (worker (slot j.item))) call.Sleep
+    e = entry_for (layout_for s) past (Worker (plan_worker (slot j.item))) call.Sleep
 
     jobs : AllByRecursion (λ k. IsRunAt past (slot k.item) k.item false) (j ∷ rest)
     jobs = subst (AllByRecursion (λ k. IsRunAt past (slot k.item) k.item false)) is h.cpu
 
-    slept : answer (layout_for s) past (Worker (worker (slot j.item))) call.Sleep ≡ reply.Slept
+    slept : answer (layout_for s) past (Worker (plan_worker (slot j.item))) call.Sleep ≡ reply.Slept
     slept = sleep_answered s past (slot j.item) j.item jobs.0
 
-    quiet : IsQuiet (answer (layout_for s) past (Worker (worker (slot j.item))) call.Sleep)
+    quiet : IsQuiet (answer (layout_for s) past (Worker (plan_worker (slot j.item))) call.Sleep)
     quiet = subst IsQuiet (sym slept) sleeps
 
     legal : IsLegal (layout_for s) (e ∷ past)
-    legal = (fits_sleep s (slot j.item) (runner_there (layout_for s) past (worker (slot j.item)) j.item h.legal jobs.0.runs), refl, h.legal)
+    legal = (fits_sleep s (slot j.item) (runner_there (layout_for s) past (plan_worker (slot j.item)) j.item h.legal jobs.0.runs), refl, h.legal)
 
-    after : (o : Option ℕ) → run_after (answer (layout_for s) past (Worker (worker (slot j.item))) call.Sleep) o ≡ o
+    after : (o : Option ℕ) → run_after (answer (layout_for s) past (Worker (plan_worker (slot j.item))) call.Sleep) o ≡ o
     after o = ap (λ r. run_after r o) slept
 
     apart : (AllByRecursion (λ k. is_job j.item k ≡ false) rest) × (AllByRecursion (λ x. is_sleeper j.item x ≡ false) m.sleeping)

@@ -1,43 +1,22 @@
 -- A take starts what the lists say, and some worker may take it.
-use Rattle.std.proofs.Common.{◌≡◌, ◌≢◌, ◌==◌, ◌<◌, ◌≤◌, ◌+◌, ℕ, zero, suc, Bool, true, false, cond, not, ◌&&◌, ◌||◌, List, [], ◌∷◌, ◌++◌, length, map, filter, find, count_by, Option, Some, None, nat_lt, refl, sym, ap, ap₂, ◌∙◌, subst, arith, ◌⊎◌, ⊎_elim, length-append}
-use Rattle.std.proofs.lemmas.List.{length-map}
-use Rattle.std.specs.Prelude.{option_map, option_and_then, is_some, if◌then◌else◌}
-use Rattle.std.specs.Option.{option_map_or}
-use Rattle.std.specs.List.{AllByRecursion, list_any, range_with_len}
-use Rattle.std.proofs.lemmas.Bool.{eqb-true, eq-eqb, or_cases, cases_eq}
-use Rattle.std.proofs.lemmas.Bool.Decides.{nat_tests}
-use Rattle.std.proofs.lemmas.Option.{same_Some}
-use Rattle.cmwq_model.specs.declared.id.WorkerId.{WorkerId}
-use Rattle.cmwq_model.specs.declared.id.Who.TheVariants.{Worker}
-use Rattle.cmwq_model.specs.declared.reply.Reply.{Reply}
-use Rattle.cmwq_model.specs.declared.entry.Entry.{Entry}
-use Rattle.cmwq_model.specs.declared.record.Queueing.{Queueing}
-use Rattle.cmwq_model.specs.declared.record.Start.{Start}
-use Rattle.cmwq_model.specs.declared.shape.QueueShape.{QueueShape}
-use Rattle.cmwq_model.specs.Prelude.{indices, is_intensive, number_started, run, has_run, is_asleep, item_run, next, is_startable, is_enlisted, is_idle, is_holding, runnable}
-use Rattle.cmwq_model.specs.Prelude.{enlisted_by, answer, take_answer, finish_answer, start_of, started}
+use Rattle.cmwq_sim.specs.Common.{◌≡◌, ◌≢◌, ◌==◌, ◌<◌, ◌≤◌, ◌+◌, ℕ, zero, suc, Bool, true, false, cond, not, ◌&&◌, ◌||◌, List, [], ◌∷◌, ◌++◌, length, map, filter, find, count_by, Option, Some, None, nat_lt, refl, sym, ap, ap₂, ◌∙◌, subst, arith, ◌⊎◌, ⊎_elim, length-append, length-map, option_map, option_and_then, is_some, if◌then◌else◌, option_map_or, AllByRecursion, list_any, range_with_len, eqb-true, eq-eqb, or_cases, cases_eq, nat_tests, same_Some, WorkerId, Worker, Reply, Entry, Queueing, Start, QueueShape, indices, is_intensive, number_started, run, has_run, is_asleep, item_run, next, is_startable, is_enlisted, is_idle, is_holding, runnable, enlisted_by, answer, take_answer, finish_answer, start_of, started_answer, get_or-map, queueing_at, has_number, run_queue, count_by-cons, found_known, runs_are_in_pools, runner_there}
 use Rattle.cmwq_model.specs.declared.call.Call.TheVariants as call
 use Rattle.cmwq_model.specs.declared.reply.Reply.TheVariants as reply
-use Rattle.std.proofs.Math.ListN.{get_or-map}
-use Rattle.cmwq_model.specs.Queueings.{queueing_at, has_number, queue_of as queue_of_number, run_queue}
-use Rattle.cmwq_theory_active.proofs.Lists.{count_by-cons}
-use Rattle.cmwq_theory_steps.proofs.RunsActive.{found_known}
-use Rattle.cmwq_theory_steps.proofs.Pools.{runs_are_in_pools}
+use Rattle.cmwq_model.specs.Queueings.{queue_of as queue_of_number}
 use Rattle.cmwq_theory_steps.proofs.ItemSteps.{items_are_run}
-use Rattle.cmwq_refinement.proofs.PoolNext.{runner_there}
-use Rattle.cmwq_sim.specs.Plan.{Plan, queue_of, no_queue}
+use Rattle.cmwq_sim.specs.Plan.{Plan, plan_queue, no_sim_queue}
 use Rattle.cmwq_sim.specs.Plan as plan
-use Rattle.cmwq_sim.specs.Lines.{Moment, Job, Sleeper, items_of, is_held_by}
-use Rattle.cmwq_sim.specs.Shows.{layout_for, queue_shape, pool, worker, queueing_for, IsRunAt, is_job, is_sleeper, runs_in, Shows, next_of, to_start}
+use Rattle.cmwq_sim.specs.Lines.{Moment, Job, Sleeper, plan_items, is_job_held}
+use Rattle.cmwq_sim.specs.Shows.{layout_for, queue_shape, pool, plan_worker, queueing_for, IsRunAt, is_job, is_sleeper, runs_in, Shows, next_of, to_start}
 use Rattle.cmwq_sim.proofs.Idle.{one, none, any_below, idle, all, idle_or_all}
 
 -- ---- the three calls of a run
 
-pub sleep_answered : (s : Plan) (past : List Entry) (x i : ℕ) → IsRunAt past x i false → answer (layout_for s) past (Worker (worker x)) call.Sleep ≡ reply.Slept
+pub sleep_answered : (s : Plan) (past : List Entry) (x i : ℕ) → IsRunAt past x i false → answer (layout_for s) past (Worker (plan_worker x)) call.Sleep ≡ reply.Slept
 unfolding answer
 sleep_answered s past x i r = ap₂ (λ o b. if is_some o && not b then reply.Slept else reply.Misuse) r.runs r.sleeps
 
-pub finish_answered : (s : Plan) (past : List Entry) (x i : ℕ) → IsRunAt past x i false → answer (layout_for s) past (Worker (worker x)) call.Finish ≡ reply.Finished i
+pub finish_answered : (s : Plan) (past : List Entry) (x i : ℕ) → IsRunAt past x i false → answer (layout_for s) past (Worker (plan_worker x)) call.Finish ≡ reply.Finished i
 unfolding answer finish_answer
 finish_answered s past x i r = ap₂ (λ o b. if is_some o && not b then at o else reply.Misuse) r.runs r.sleeps
   where
@@ -45,7 +24,7 @@ finish_answered s past x i r = ap₂ (λ o b. if is_some o && not b then at o el
     at None = reply.Misuse
     at (Some n) = reply.Finished n
 
-pub wake_answered : (s : Plan) (past : List Entry) (x i : ℕ) → IsRunAt past x i true → answer (layout_for s) past (Worker (worker x)) call.Wake ≡ reply.Woke
+pub wake_answered : (s : Plan) (past : List Entry) (x i : ℕ) → IsRunAt past x i true → answer (layout_for s) past (Worker (plan_worker x)) call.Wake ≡ reply.Woke
 unfolding answer
 wake_answered s past x i r = ap₂ (λ o b. if is_some o && b then reply.Woke else reply.Misuse) r.runs r.sleeps
 
@@ -93,7 +72,7 @@ found_mapped s n x (i ∷ xs) h = at (i == n) refl h (λ k. found_mapped s n x x
 pub run_found : (s : Plan) (past : List Entry) (m : Moment) (slot : ℕ → ℕ) (w : WorkerId) (n : ℕ) → Shows s past m slot → run past w ≡ Some n → queueing_at past n ≡ Some (queueing_for s n)
 run_found s past m slot w n h is =
     let r = runs_are_in_pools (layout_for s) past w n h.legal is in
-    r.found ∙ ap Some (found_mapped s n r.queueing (items_of s) (sym (ap (find (has_number n)) h.queued) ∙ r.found))
+    r.found ∙ ap Some (found_mapped s n r.queueing (plan_items s) (sym (ap (find (has_number n)) h.queued) ∙ r.found))
 
 -- ---- the next of the worklist is the first that is ready
 
@@ -126,37 +105,37 @@ next_is s past m slot h = ap (find (is_startable past)) h.ready ∙ at m.ready r
 
 -- ---- the pool is held where an item on the CPU's list holds it
 
-queue_mapped : (s : Plan) (q : ℕ) → is_intensive (layout_for s) q ≡ plan.is_intensive s q
-queue_mapped s q = ap (λ (x : QueueShape). x.intensive) (get_or-map queue_shape s.queues q no_queue)
+queue_mapped : (s : Plan) (q : ℕ) → is_intensive (layout_for s) q ≡ plan.is_plan_intensive s q
+queue_mapped s q = ap (λ (x : QueueShape). x.intensive) (get_or-map queue_shape s.queues q no_sim_queue)
 
 -- a worker with a run that is awake holds the pool where the item's queue isn't CPU intensive
-holds_by_item : (s : Plan) (past : List Entry) (m : Moment) (slot : ℕ → ℕ) (x n : ℕ) → Shows s past m slot → run past (worker x) ≡ Some n → is_asleep past (worker x) ≡ false
-    → is_holding (layout_for s) past pool x ≡ not (plan.is_intensive s (queue_of s n))
+holds_by_item : (s : Plan) (past : List Entry) (m : Moment) (slot : ℕ → ℕ) (x n : ℕ) → Shows s past m slot → run past (plan_worker x) ≡ Some n → is_asleep past (plan_worker x) ≡ false
+    → is_holding (layout_for s) past pool x ≡ not (plan.is_plan_intensive s (plan_queue s n))
 holds_by_item s past m slot x n h runs awake =
     ap₂ (λ o b. (is_some o && not b) && not (option_map_or (is_intensive (layout_for s)) (option_and_then (queue_of_number past) o) false)) runs awake
-    ∙ ap (λ o. not (option_map_or (is_intensive (layout_for s)) (option_map (λ (y : Queueing). y.place.queue.0) o) false)) (run_found s past m slot (worker x) n h runs)
-    ∙ ap not (queue_mapped s (queue_of s n))
+    ∙ ap (λ o. not (option_map_or (is_intensive (layout_for s)) (option_map (λ (y : Queueing). y.place.queue.0) o) false)) (run_found s past m slot (plan_worker x) n h runs)
+    ∙ ap not (queue_mapped s (plan_queue s n))
 
 -- an element of the CPU's list that passes
 record Held (s : Plan) (past : List Entry) (slot : ℕ → ℕ) : Type 0 where
   job : Job
-  held : is_held_by s job ≡ true
+  held : is_job_held s job ≡ true
   run_at : IsRunAt past (slot job.item) job.item false
 
-held_one : (s : Plan) (past : List Entry) (slot : ℕ → ℕ) (cpu : List Job) → AllByRecursion (λ j. IsRunAt past (slot j.item) j.item false) cpu → list_any (is_held_by s) cpu ≡ true → Held s past slot
+held_one : (s : Plan) (past : List Entry) (slot : ℕ → ℕ) (cpu : List Job) → AllByRecursion (λ j. IsRunAt past (slot j.item) j.item false) cpu → list_any (is_job_held s) cpu ≡ true → Held s past slot
 held_one s past slot [] each h = cc
-held_one s past slot (j ∷ cpu) each h = at (is_held_by s j) refl h (λ k. held_one s past slot cpu each.1 k)
+held_one s past slot (j ∷ cpu) each h = at (is_job_held s j) refl h (λ k. held_one s past slot cpu each.1 k)
   where
-    at : (b : Bool) → is_held_by s j ≡ b → (b || list_any (is_held_by s) cpu) ≡ true → (list_any (is_held_by s) cpu ≡ true → Held s past slot) → Held s past slot
+    at : (b : Bool) → is_job_held s j ≡ b → (b || list_any (is_job_held s) cpu) ≡ true → (list_any (is_job_held s) cpu ≡ true → Held s past slot) → Held s past slot
     at true is k later = record { job = j; held = is; run_at = each.0 }
     at false is k later = later k
 
 -- where none holds, each item on the list is of a CPU-intensive queue
-none_held : (s : Plan) (n : ℕ) (cpu : List Job) → list_any (is_held_by s) cpu ≡ false → list_any (is_job n) cpu ≡ true → not (plan.is_intensive s (queue_of s n)) ≡ false
+none_held : (s : Plan) (n : ℕ) (cpu : List Job) → list_any (is_job_held s) cpu ≡ false → list_any (is_job n) cpu ≡ true → not (plan.is_plan_intensive s (plan_queue s n)) ≡ false
 none_held s n [] h k = cc
 none_held s n (j ∷ cpu) h k = ⊎_elim
-    (λ here. ap (λ i. not (plan.is_intensive s (queue_of s i))) (sym (eqb-true j.item n here)) ∙ (neither (is_held_by s j) (list_any (is_held_by s) cpu) h).0)
-    (λ later. none_held s n cpu (neither (is_held_by s j) (list_any (is_held_by s) cpu) h).1 later)
+    (λ here. ap (λ i. not (plan.is_plan_intensive s (plan_queue s i))) (sym (eqb-true j.item n here)) ∙ (neither (is_job_held s j) (list_any (is_job_held s) cpu) h).0)
+    (λ later. none_held s n cpu (neither (is_job_held s j) (list_any (is_job_held s) cpu) h).1 later)
     (or_cases (is_job n j) (list_any (is_job n) cpu) k)
   where
     neither : (a b : Bool) → (a || b) ≡ false → (a ≡ false) × (b ≡ false)
@@ -164,40 +143,40 @@ none_held s n (j ∷ cpu) h k = ⊎_elim
     neither false b h = (refl, h)
 
 -- and a sleeper's run sleeps
-asleep_one : (past : List Entry) (slot : ℕ → ℕ) (n : ℕ) (xs : List Sleeper) → AllByRecursion (λ x. IsRunAt past (slot x.item) x.item true) xs → list_any (is_sleeper n) xs ≡ true → is_asleep past (worker (slot n)) ≡ true
+asleep_one : (past : List Entry) (slot : ℕ → ℕ) (n : ℕ) (xs : List Sleeper) → AllByRecursion (λ x. IsRunAt past (slot x.item) x.item true) xs → list_any (is_sleeper n) xs ≡ true → is_asleep past (plan_worker (slot n)) ≡ true
 asleep_one past slot n [] each h = cc
 asleep_one past slot n (x ∷ xs) each h = ⊎_elim
-    (λ here. ap (λ i. is_asleep past (worker (slot i))) (sym (eqb-true x.item n here)) ∙ each.0.sleeps)
+    (λ here. ap (λ i. is_asleep past (plan_worker (slot i))) (sym (eqb-true x.item n here)) ∙ each.0.sleeps)
     (λ later. asleep_one past slot n xs each.1 later)
     (or_cases (is_sleeper n x) (list_any (is_sleeper n) xs) h)
 
-not_holding : (s : Plan) (past : List Entry) (m : Moment) (slot : ℕ → ℕ) (x : ℕ) → Shows s past m slot → list_any (is_held_by s) m.cpu ≡ false → is_holding (layout_for s) past pool x ≡ false
-not_holding s past m slot x h clear = at (run past (worker x)) refl (is_asleep past (worker x)) refl
+not_holding : (s : Plan) (past : List Entry) (m : Moment) (slot : ℕ → ℕ) (x : ℕ) → Shows s past m slot → list_any (is_job_held s) m.cpu ≡ false → is_holding (layout_for s) past pool x ≡ false
+not_holding s past m slot x h clear = at (run past (plan_worker x)) refl (is_asleep past (plan_worker x)) refl
   where
     rest : Bool
-    rest = not (option_map_or (is_intensive (layout_for s)) (run_queue past (worker x)) false)
+    rest = not (option_map_or (is_intensive (layout_for s)) (run_queue past (plan_worker x)) false)
 
-    at : (o : Option ℕ) → run past (worker x) ≡ o → (b : Bool) → is_asleep past (worker x) ≡ b → is_holding (layout_for s) past pool x ≡ false
-    at None runs b sleeps = ap (λ o. (is_some o && not (is_asleep past (worker x))) && rest) runs
+    at : (o : Option ℕ) → run past (plan_worker x) ≡ o → (b : Bool) → is_asleep past (plan_worker x) ≡ b → is_holding (layout_for s) past pool x ≡ false
+    at None runs b sleeps = ap (λ o. (is_some o && not (is_asleep past (plan_worker x))) && rest) runs
     at (Some n) runs true sleeps = ap₂ (λ o b. (is_some o && not b) && rest) runs sleeps
     at (Some n) runs false sleeps =
-        let k = h.no_others (worker x) n runs in
+        let k = h.no_others (plan_worker x) n runs in
         holds_by_item s past m slot x n h runs sleeps ∙ ⊎_elim
         (λ job. none_held s n m.cpu clear job)
         (λ sleeper. differ (sym sleeps ∙ ap (is_asleep past) k.0 ∙ asleep_one past slot n m.sleeping h.sleeping sleeper))
         (or_cases (list_any (is_job n) m.cpu) (list_any (is_sleeper n) m.sleeping) k.1)
       where
-        differ : false ≡ true → not (plan.is_intensive s (queue_of s n)) ≡ false
+        differ : false ≡ true → not (plan.is_plan_intensive s (plan_queue s n)) ≡ false
         differ e = cc
 
-pub runnable_is : (s : Plan) (past : List Entry) (m : Moment) (slot : ℕ → ℕ) → Shows s past m slot → nat_lt 0 (runnable (layout_for s) past pool) ≡ list_any (is_held_by s) m.cpu
+pub runnable_is : (s : Plan) (past : List Entry) (m : Moment) (slot : ℕ → ℕ) → Shows s past m slot → nat_lt 0 (runnable (layout_for s) past pool) ≡ list_any (is_job_held s) m.cpu
 unfolding runnable
-runnable_is s past m slot h = at (list_any (is_held_by s) m.cpu) refl
+runnable_is s past m slot h = at (list_any (is_job_held s) m.cpu) refl
   where
-    at : (b : Bool) → list_any (is_held_by s) m.cpu ≡ b → nat_lt 0 (count_by (is_holding (layout_for s) past pool) (indices (layout_for s))) ≡ b
+    at : (b : Bool) → list_any (is_job_held s) m.cpu ≡ b → nat_lt 0 (count_by (is_holding (layout_for s) past pool) (indices (layout_for s))) ≡ b
     at true is =
         let k = held_one s past slot m.cpu h.cpu is in
-        let below : slot k.job.item < 8 = runner_there (layout_for s) past (worker (slot k.job.item)) k.job.item h.legal k.run_at.runs in
+        let below : slot k.job.item < 8 = runner_there (layout_for s) past (plan_worker (slot k.job.item)) k.job.item h.legal k.run_at.runs in
         let c = one_counted (is_holding (layout_for s) past pool) 0 8 (slot k.job.item) (omega arith) (omega arith) (holds_by_item s past m slot (slot k.job.item) k.job.item h k.run_at.runs k.run_at.sleeps ∙ k.held) in
         positive (count_by (is_holding (layout_for s) past pool) (indices (layout_for s))) c
       where
@@ -208,18 +187,18 @@ runnable_is s past m slot h = at (list_any (is_held_by s) m.cpu) refl
 -- ---- what a take is answered
 
 pub take_answered : (s : Plan) (past : List Entry) (m : Moment) (slot : ℕ → ℕ) (x : ℕ) → Shows s past m slot
-    → number_started (answer (layout_for s) past (Worker (worker x)) call.Take) ≡ (if is_idle past pool x then to_start s m else None)
+    → number_started (answer (layout_for s) past (Worker (plan_worker x)) call.Take) ≡ (if is_idle past pool x then to_start s m else None)
 unfolding answer take_answer
 take_answered s past m slot x h =
-    ap (λ o. number_started (if not (is_enlisted past (worker x)) || has_run past (worker x) then reply.Misuse else start_of (layout_for s) past (worker x) o)) (next_is s past m slot h)
-    ∙ at m.ready (is_enlisted past (worker x)) (has_run past (worker x)) (nat_lt 0 (runnable (layout_for s) past pool)) (enlisted_by (layout_for s) past (worker x))
+    ap (λ o. number_started (if not (is_enlisted past (plan_worker x)) || has_run past (plan_worker x) then reply.Misuse else start_of (layout_for s) past (plan_worker x) o)) (next_is s past m slot h)
+    ∙ at m.ready (is_enlisted past (plan_worker x)) (has_run past (plan_worker x)) (nat_lt 0 (runnable (layout_for s) past pool)) (enlisted_by (layout_for s) past (plan_worker x))
     ∙ ap (λ b. if is_idle past pool x then (if b then None else next_of m.ready) else None) (runnable_is s past m slot h)
   where
     start : Bool → Option ℕ → Option Queueing → Reply
     start held o None = reply.Nothing
-    start held o (Some y) = if held then reply.Held else started y.number o
+    start held o (Some y) = if held then reply.Held else started_answer y.number o
 
-    told : (o : Option ℕ) (i : ℕ) → number_started (started i o) ≡ Some i
+    told : (o : Option ℕ) (i : ℕ) → number_started (started_answer i o) ≡ Some i
     told None i = refl
     told (Some y) i = refl
 
@@ -300,16 +279,16 @@ sleeper_slot slot n x (y ∷ ys) xs same h = ap (λ b. (y == x) || b) (sleeper_s
     any_or false = refl
 
 -- where all workers run, eight items do
-all_run : (s : Plan) (past : List Entry) (m : Moment) (slot : ℕ → ℕ) → Shows s past m slot → ((x : ℕ) → x < 8 → has_run past (worker x) ≡ true) → 8 ≤ length m.cpu + length m.sleeping
+all_run : (s : Plan) (past : List Entry) (m : Moment) (slot : ℕ → ℕ) → Shows s past m slot → ((x : ℕ) → x < 8 → has_run past (plan_worker x) ≡ true) → 8 ≤ length m.cpu + length m.sleeping
 all_run s past m slot h each =
-    let c : 8 ≤ length (map (λ (j : Job). slot j.item) m.cpu ++ map (λ (x : Sleeper). slot x.item) m.sleeping) = covered 8 _ (λ x less. at x (run past (worker x)) refl (each x less)) in
+    let c : 8 ≤ length (map (λ (j : Job). slot j.item) m.cpu ++ map (λ (x : Sleeper). slot x.item) m.sleeping) = covered 8 _ (λ x less. at x (run past (plan_worker x)) refl (each x less)) in
     let d = simp (length-append, length-map) at c in
     omega arith
   where
-    at : (x : ℕ) (o : Option ℕ) → run past (worker x) ≡ o → is_some (run past (worker x)) ≡ true → list_any (λ y. y == x) (map (λ (j : Job). slot j.item) m.cpu ++ map (λ (x : Sleeper). slot x.item) m.sleeping) ≡ true
+    at : (x : ℕ) (o : Option ℕ) → run past (plan_worker x) ≡ o → is_some (run past (plan_worker x)) ≡ true → list_any (λ y. y == x) (map (λ (j : Job). slot j.item) m.cpu ++ map (λ (x : Sleeper). slot x.item) m.sleeping) ≡ true
     at x None is some = cc
     at x (Some n) is some =
-        let k = h.no_others (worker x) n is in
+        let k = h.no_others (plan_worker x) n is in
         let same : x ≡ slot n = ap (λ (w : WorkerId). w.index) k.0 in
         ⊎_elim (λ j. job_slot slot n x m.cpu (map (λ (z : Sleeper). slot z.item) m.sleeping) same j) (λ z. sleeper_slot slot n x (map (λ (j : Job). slot j.item) m.cpu) m.sleeping same z) (or_cases (list_any (is_job n) m.cpu) (list_any (is_sleeper n) m.sleeping) k.1)
 
@@ -319,7 +298,7 @@ some_idle s past m slot i h first = elim (idle_or_all (layout_for s) past pool h
   | all enlisted ↦ elim (any_below (is_idle past pool) 8) [
     | one x less is ↦ (x, less, is)
     | none nobody ↦
-        let full = all_run s past m slot h (λ x less. runs (is_enlisted past (worker x)) (has_run past (worker x)) (enlisted x less) (nobody x less)) in
+        let full = all_run s past m slot h (λ x less. runs (is_enlisted past (plan_worker x)) (has_run past (plan_worker x)) (enlisted x less) (nobody x less)) in
         let f = h.few in
         let r = first_long m.ready first in
         absurd (omega arith)

@@ -1,30 +1,14 @@
 -- A take that starts carries the relation.
-use Rattle.std.proofs.Common.{◌≡◌, ◌≢◌, ◌==◌, ◌<◌, ◌+◌, ℕ, Bool, true, false, cond, not, ◌&&◌, ◌||◌, List, [], ◌∷◌, ◌++◌, length, map, filter, count_by, Option, Some, None, refl, sym, ap, ap₂, ◌∙◌, subst, arith, option_to_list, append-nil, length-append}
-use Rattle.std.specs.Prelude.{if◌then◌else◌}
-use Rattle.std.specs.List.{AllByRecursion, list_any}
-use Rattle.std.proofs.lemmas.Bool.{lt-ltb, eq-eqb, ne_eqb}
-use Rattle.std.proofs.lemmas.Option.{same_Some}
-use Rattle.cmwq_model.specs.declared.id.WorkerId.{WorkerId}
-use Rattle.cmwq_model.specs.declared.id.Who.TheVariants.{Worker}
-use Rattle.cmwq_model.specs.declared.reply.Reply.{Reply}
-use Rattle.cmwq_model.specs.declared.entry.Entry.{Entry}
-use Rattle.cmwq_model.specs.declared.record.Queueing.{Queueing}
-use Rattle.cmwq_model.specs.Prelude.{Layout, is_at, is_by, number_started, run, is_asleep, asleep_after, queueings, is_idle, answer, IsLegal, entry_for}
+use Rattle.cmwq_sim.specs.Common.{◌≡◌, ◌≢◌, ◌==◌, ◌<◌, ◌+◌, ℕ, Bool, true, false, cond, not, ◌&&◌, ◌||◌, List, [], ◌∷◌, ◌++◌, length, map, filter, count_by, Option, Some, None, refl, sym, ap, ap₂, ◌∙◌, subst, arith, option_to_list, append-nil, length-append, if◌then◌else◌, AllByRecursion, list_any, lt-ltb, eq-eqb, ne_eqb, same_Some, WorkerId, Worker, Reply, Entry, Queueing, Layout, is_at, is_by, number_started, run, is_asleep, asleep_after, queueings, is_idle, answer, IsLegal, entry_for, run_after, All_both, All_append, count_by-cons, count_none, width_same, workers_run_on, run_begun, same_worker-true, by_itself}
 use Rattle.cmwq_model.specs.declared.call.Call.TheVariants as call
 use Rattle.cmwq_model.specs.declared.reply.Reply.TheVariants as reply
-use Rattle.cmwq_theory_steps.specs.RunSteps.{run_after}
-use Rattle.cmwq_theory_active.proofs.Lists.{All_both, All_append, count_by-cons}
-use Rattle.cmwq_theory_steps.proofs.Filters.{count_none}
-use Rattle.cmwq_theory_active.proofs.Widths.{width_same}
-use Rattle.cmwq_theory_steps.proofs.RunSteps.{workers_run_on, run_begun}
-use Rattle.cmwq_theory_steps.proofs.ItemRuns.{same_worker-true}
-use Rattle.cmwq_theory_steps.proofs.OwedSteps.{by_itself}
 use Rattle.cmwq_sim.specs.Plan.{Plan, ms_of}
-use Rattle.cmwq_sim.specs.Lines.{Moment, is_held_by, job_of, job_with}
-use Rattle.cmwq_sim.specs.Shows.{layout_for, pool, worker, queueing_for, IsRunAt, is_job, is_sleeper, runs_in, Shows, to_start, next_of}
+use Rattle.cmwq_sim.specs.Lines.{Moment, is_job_held, job_of, job_with}
+use Rattle.cmwq_sim.specs.Shows.{layout_for, pool, plan_worker, queueing_for, IsRunAt, is_job, is_sleeper, runs_in, Shows, to_start, next_of}
 use Rattle.cmwq_sim.proofs.Idle.{idle_parts}
 use Rattle.cmwq_sim.proofs.TakeReads.{take_answered, runs_counted}
-use Rattle.cmwq_sim.proofs.Steps.{IsQuiet, none_opens, worklist_as_before, waiting_as_before, not_by, count-append, any-append}
+use Rattle.cmwq_sim.proofs.Steps.{IsQuiet, none_opens, worklist_as_before, waiting_as_before, not_by, any-append}
+use Rattle.cmwq_lemmas.proofs.Lists.{count_append}
 
 quiet_start : (r : Reply) (n : ℕ) → number_started r ≡ Some n → IsQuiet r
 quiet_start (reply.Started m) n h = record { opens = refl; finishes = refl; cancels = refl; replaces = refl; widths = refl; stays = refl }
@@ -42,11 +26,11 @@ started_after (reply.StartedEnlist m x) n o h = h
 started_after r n o h = cc
 
 -- a run of another worker goes on
-pub goes_by : (s : Layout) (past : List Entry) (e : Entry) (x y i : ℕ) (b : Bool) → IsLegal s (e ∷ past) → e.who ≡ Worker (worker x) → x ≢ y → IsRunAt past y i b → IsRunAt (e ∷ past) y i b
+pub goes_by : (s : Layout) (past : List Entry) (e : Entry) (x y i : ℕ) (b : Bool) → IsLegal s (e ∷ past) → e.who ≡ Worker (plan_worker x) → x ≢ y → IsRunAt past y i b → IsRunAt (e ∷ past) y i b
 unfolding is_asleep
 goes_by s past e x y i b legal who differs r = record {
-  runs = workers_run_on s past e (worker y) legal ∙ ap (λ c. if c then run_after e.reply (run past (worker y)) else run past (worker y)) (not_by e x y who differs) ∙ r.runs;
-  sleeps = ap (λ c. if c then asleep_after e.reply (is_asleep past (worker y)) else is_asleep past (worker y)) (not_by e x y who differs) ∙ r.sleeps;
+  runs = workers_run_on s past e (plan_worker y) legal ∙ ap (λ c. if c then run_after e.reply (run past (plan_worker y)) else run past (plan_worker y)) (not_by e x y who differs) ∙ r.runs;
+  sleeps = ap (λ c. if c then asleep_after e.reply (is_asleep past (plan_worker y)) else is_asleep past (plan_worker y)) (not_by e x y who differs) ∙ r.sleeps;
 }
 
 pub job_item : (i : ℕ) (ms : List ℕ) → (job_with i ms).item ≡ i
@@ -67,8 +51,8 @@ slot_with slot i x k = if k == i then x else slot k
 abbrev pub started_with : Plan → Moment → ℕ → List ℕ → Moment
 started_with s m i rest = record m { ready = rest; cpu = m.cpu ++ job_of s i ∷ [] }
 
-pub take_shown : (s : Plan) (past : List Entry) (m : Moment) (slot : ℕ → ℕ) (x i : ℕ) (rest : List ℕ) → Shows s past m slot → x < 8 → is_idle past pool x ≡ true → m.ready ≡ i ∷ rest → list_any (is_held_by s) m.cpu ≡ false
-    → Shows s (entry_for (layout_for s) past (Worker (worker x)) call.Take ∷ past) (started_with s m i rest) (slot_with slot i x)
+pub take_shown : (s : Plan) (past : List Entry) (m : Moment) (slot : ℕ → ℕ) (x i : ℕ) (rest : List ℕ) → Shows s past m slot → x < 8 → is_idle past pool x ≡ true → m.ready ≡ i ∷ rest → list_any (is_job_held s) m.cpu ≡ false
+    → Shows s (entry_for (layout_for s) past (Worker (plan_worker x)) call.Take ∷ past) (started_with s m i rest) (slot_with slot i x)
 unfolding IsLegal queueings is_asleep
 take_shown s past m slot x i rest h less free is clear = record {
   legal = legal;
@@ -86,7 +70,7 @@ take_shown s past m slot x i rest h less free is clear = record {
   once = λ k.
       let o = h.once k in
       let a = ap (count_by (λ j. j == k)) is ∙ count_by-cons (λ j. j == k) i rest in
-      let b = count-append (is_job k) m.cpu (job_of s i ∷ []) ∙ ap (λ n. count_by (is_job k) m.cpu + n) (count_by-cons (is_job k) (job_of s i) [] ∙ ap (λ j. cond (j == k) 1 0 + 0) (job_item i (ms_of s i))) in
+      let b = count_append (is_job k) m.cpu (job_of s i ∷ []) ∙ ap (λ n. count_by (is_job k) m.cpu + n) (count_by-cons (is_job k) (job_of s i) [] ∙ ap (λ j. cond (j == k) 1 0 + 0) (job_item i (ms_of s i))) in
       omega arith;
   few =
       let f = h.few in
@@ -96,13 +80,13 @@ take_shown s past m slot x i rest h less free is clear = record {
 }
   where
     e : Entry
-    e = entry_for (layout_for s) past (Worker (worker x)) call.Take
+    e = entry_for (layout_for s) past (Worker (plan_worker x)) call.Take
 
-    started : number_started (answer (layout_for s) past (Worker (worker x)) call.Take) ≡ Some i
+    started : number_started (answer (layout_for s) past (Worker (plan_worker x)) call.Take) ≡ Some i
     started = take_answered s past m slot x h ∙ ap (λ b. if b then to_start s m else None) free ∙ ap (λ b. if b then None else next_of m.ready) clear ∙ ap next_of is
 
-    quiet : IsQuiet (answer (layout_for s) past (Worker (worker x)) call.Take)
-    quiet = quiet_start (answer (layout_for s) past (Worker (worker x)) call.Take) i started
+    quiet : IsQuiet (answer (layout_for s) past (Worker (plan_worker x)) call.Take)
+    quiet = quiet_start (answer (layout_for s) past (Worker (plan_worker x)) call.Take) i started
 
     legal : IsLegal (layout_for s) (e ∷ past)
     legal = (ap (λ b. (b && true) && true) (lt-ltb x 8 less), refl, h.legal)
@@ -110,7 +94,7 @@ take_shown s past m slot x i rest h less free is clear = record {
     counts : count_by (λ j. j == i) m.ready ≡ 1 + count_by (λ j. j == i) rest
     counts = ap (count_by (λ j. j == i)) is ∙ count_by-cons (λ j. j == i) i rest ∙ ap (λ b. cond b 1 0 + count_by (λ j. j == i) rest) (eq-eqb i i refl)
 
-    idle_run : run past (worker x) ≡ None
+    idle_run : run past (plan_worker x) ≡ None
     idle_run = (idle_parts past pool x free).1
 
     slot_is : (k : ℕ) → (k == i) ≡ false → slot_with slot i x k ≡ slot k
@@ -120,24 +104,24 @@ take_shown s past m slot x i rest h less free is clear = record {
     slot_own = ap (λ b. if b then x else slot i) (eq-eqb i i refl)
 
     other : (k : ℕ) (b : Bool) → IsRunAt past (slot k) k b → (k == i) ≡ false → IsRunAt (e ∷ past) (slot_with slot i x k) k b
-    other k b r differs = subst (λ y. IsRunAt (e ∷ past) y k b) (sym (slot_is k differs)) (goes_by (layout_for s) past e x (slot k) k b legal refl (λ same. none_some (sym idle_run ∙ ap (λ y. run past (worker y)) same ∙ r.runs)) r)
+    other k b r differs = subst (λ y. IsRunAt (e ∷ past) y k b) (sym (slot_is k differs)) (goes_by (layout_for s) past e x (slot k) k b legal refl (λ same. none_some (sym idle_run ∙ ap (λ y. run past (plan_worker y)) same ∙ r.runs)) r)
       where
         none_some : {n : ℕ} → None ≡ Some n → ⊥
         none_some {n} h = cc
 
     own : IsRunAt (e ∷ past) (slot_with slot i x i) i false
     own = subst (λ y. IsRunAt (e ∷ past) y i false) (sym slot_own) (record {
-      runs = run_begun (layout_for s) past e (worker x) i legal (by_itself e (worker x) refl) started;
-      sleeps = ap (λ c. if c then asleep_after e.reply (is_asleep past (worker x)) else is_asleep past (worker x)) (by_itself e (worker x) refl) ∙ awake_start (answer (layout_for s) past (Worker (worker x)) call.Take) i (is_asleep past (worker x)) started;
+      runs = run_begun (layout_for s) past e (plan_worker x) i legal (by_itself e (plan_worker x) refl) started;
+      sleeps = ap (λ c. if c then asleep_after e.reply (is_asleep past (plan_worker x)) else is_asleep past (plan_worker x)) (by_itself e (plan_worker x) refl) ∙ awake_start (answer (layout_for s) past (Worker (plan_worker x)) call.Take) i (is_asleep past (plan_worker x)) started;
     })
 
     joined : (n : ℕ) → list_any (is_job n) (m.cpu ++ job_of s i ∷ []) ≡ (list_any (is_job n) m.cpu || ((i == n) || false))
     joined n = any-append (is_job n) m.cpu (job_of s i ∷ []) ∙ ap (λ j. list_any (is_job n) m.cpu || ((j == n) || false)) (job_item i (ms_of s i))
 
-    at : (w : WorkerId) (n : ℕ) (b : Bool) → is_by (Worker w) e ≡ b → (if is_by (Worker w) e then run_after e.reply (run past w) else run past w) ≡ Some n → (w ≡ worker (slot_with slot i x n)) × (runs_in (started_with s m i rest) n ≡ true)
+    at : (w : WorkerId) (n : ℕ) (b : Bool) → is_by (Worker w) e ≡ b → (if is_by (Worker w) e then run_after e.reply (run past w) else run past w) ≡ Some n → (w ≡ plan_worker (slot_with slot i x n)) × (runs_in (started_with s m i rest) n ≡ true)
     at w n true by runs =
-        let same : i ≡ n = same_Some i n (sym (started_after (answer (layout_for s) past (Worker (worker x)) call.Take) i (run past w) started) ∙ sym (ap (λ c. if c then run_after e.reply (run past w) else run past w) by) ∙ runs) in (
-          sym (same_worker-true (worker x) w by) ∙ ap worker (sym slot_own ∙ ap (slot_with slot i x) same),
+        let same : i ≡ n = same_Some i n (sym (started_after (answer (layout_for s) past (Worker (plan_worker x)) call.Take) i (run past w) started) ∙ sym (ap (λ c. if c then run_after e.reply (run past w) else run past w) by) ∙ runs) in (
+          sym (same_worker-true (plan_worker x) w by) ∙ ap plan_worker (sym slot_own ∙ ap (slot_with slot i x) same),
           ap (λ b. b || list_any (is_sleeper n) m.sleeping) (joined n ∙ ap (λ b. list_any (is_job n) m.cpu || (b || false)) (eq-eqb i n same)) ∙ last (list_any (is_job n) m.cpu),
         )
       where
@@ -151,7 +135,7 @@ take_shown s past m slot x i rest h less free is clear = record {
         let o = h.once i in
         let p = counts in
         absurd (omega arith)) in
-        (k.0 ∙ ap worker (sym (slot_is n differs)), ap (λ b. b || list_any (is_sleeper n) m.sleeping) (joined n) ∙ more (list_any (is_job n) m.cpu) (list_any (is_sleeper n) m.sleeping) (i == n) k.1)
+        (k.0 ∙ ap plan_worker (sym (slot_is n differs)), ap (λ b. b || list_any (is_sleeper n) m.sleeping) (joined n) ∙ more (list_any (is_job n) m.cpu) (list_any (is_sleeper n) m.sleeping) (i == n) k.1)
       where
         more : (a b c : Bool) → (a || b) ≡ true → ((a || (c || false)) || b) ≡ true
         more true b c h = refl

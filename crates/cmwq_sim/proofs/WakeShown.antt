@@ -1,26 +1,15 @@
 -- A wake carries the relation.
-use Rattle.std.proofs.Common.{◌≡◌, ◌==◌, ◌≤◌, ◌+◌, ℕ, suc, Bool, true, false, cond, not, ◌&&◌, ◌||◌, List, [], ◌∷◌, ◌++◌, length, filter, count_by, Option, refl, sym, ap, ap₂, ◌∙◌, subst, arith, ⊎_elim, option_to_list, append-nil, length-append}
-use Rattle.std.specs.Prelude.{if◌then◌else◌}
-use Rattle.std.specs.List.{AllByRecursion, list_any}
-use Rattle.cmwq_refinement.proofs.PoolNext.{runner_there}
-use Rattle.std.proofs.lemmas.Bool.{lt-ltb, eqb-true, eq-eqb, ne_eqb, or_cases}
-use Rattle.cmwq_model.specs.declared.id.Who.TheVariants.{Worker}
-use Rattle.cmwq_model.specs.declared.entry.Entry.{Entry}
-use Rattle.cmwq_model.specs.Prelude.{is_at, number_started, starts, is_asleep, asleep_after, queueings, worklist, answer, IsLegal, entry_for}
+use Rattle.cmwq_sim.specs.Common.{◌≡◌, ◌==◌, ◌≤◌, ◌+◌, ℕ, suc, Bool, true, false, cond, not, ◌&&◌, ◌||◌, List, [], ◌∷◌, ◌++◌, length, filter, count_by, Option, refl, sym, ap, ap₂, ◌∙◌, subst, arith, ⊎_elim, option_to_list, append-nil, length-append, if◌then◌else◌, AllByRecursion, list_any, runner_there, lt-ltb, eqb-true, eq-eqb, ne_eqb, or_cases, Worker, Entry, is_at, number_started, starts, is_asleep, asleep_after, queueings, worklist, answer, IsLegal, entry_for, run_after, All_map, All_both, All_each, All_append, All_filter, count_by-cons, count_none, width_same, by_itself}
 use Rattle.cmwq_model.specs.declared.call.Call.TheVariants as call
 use Rattle.cmwq_model.specs.declared.reply.Reply.TheVariants as reply
-use Rattle.cmwq_theory_steps.specs.RunSteps.{run_after}
-use Rattle.cmwq_theory_active.proofs.Lists.{All_map, All_both, All_each, All_append, All_filter, count_by-cons}
-use Rattle.cmwq_theory_steps.proofs.Filters.{count_none}
-use Rattle.cmwq_theory_active.proofs.Widths.{width_same}
-use Rattle.cmwq_theory_steps.proofs.OwedSteps.{by_itself}
 use Rattle.cmwq_sim.specs.Plan.{Plan}
 use Rattle.cmwq_sim.specs.Lines.{Moment, Sleeper}
-use Rattle.cmwq_sim.specs.Shows.{layout_for, pool, worker, IsRunAt, is_job, is_sleeper, runs_in, Shows}
+use Rattle.cmwq_sim.specs.Shows.{layout_for, pool, plan_worker, IsRunAt, is_job, is_sleeper, runs_in, Shows}
 use Rattle.cmwq_sim.proofs.TakeReads.{wake_answered, any_counted}
-use Rattle.cmwq_sim.proofs.Steps.{IsQuiet, all_kept, none_opens, worklist_as_before, waiting_as_before, same_runs, other_slot, count-append, any-append}
+use Rattle.cmwq_sim.proofs.Steps.{IsQuiet, none_opens, worklist_as_before, waiting_as_before, same_runs, other_slot, any-append}
 use Rattle.cmwq_sim.proofs.TakeShown.{goes_by}
-use Rattle.cmwq_sim.proofs.FinishShown.{fewer_filtered, shorter_filtered}
+use Rattle.cmwq_sim.proofs.FinishShown.{fewer_filtered}
+use Rattle.cmwq_lemmas.proofs.Lists.{filter_all, filter_shorter, count_append}
 
 wakes : IsQuiet reply.Woke
 wakes = record { opens = refl; finishes = refl; cancels = refl; replaces = refl; widths = refl; stays = refl }
@@ -54,7 +43,7 @@ none_left i (x ∷ xs) = at (is_sleeper i x) refl (none_left i xs)
 
 one_shorter : (i : ℕ) (xs : List Sleeper) → list_any (is_sleeper i) xs ≡ true → length (filter (λ k. not (is_sleeper i k)) xs) + 1 ≤ length xs
 one_shorter i [] h = cc
-one_shorter i (x ∷ xs) h = at (is_sleeper i x) h (shorter_filtered (λ k. not (is_sleeper i k)) xs) (λ l. one_shorter i xs l)
+one_shorter i (x ∷ xs) h = at (is_sleeper i x) h (filter_shorter (λ k. not (is_sleeper i k)) xs) (λ l. one_shorter i xs l)
   where
     at : (b : Bool) → (b || list_any (is_sleeper i) xs) ≡ true → length (filter (λ k. not (is_sleeper i k)) xs) ≤ length xs → (list_any (is_sleeper i) xs ≡ true → length (filter (λ k. not (is_sleeper i k)) xs) + 1 ≤ length xs) → length (cond (not b) (x ∷ filter (λ k. not (is_sleeper i k)) xs) (filter (λ k. not (is_sleeper i k)) xs)) + 1 ≤ suc (length xs)
     at true h few later = omega arith
@@ -64,7 +53,7 @@ abbrev pub awake_with : Moment → ℕ → ℕ → List ℕ → Moment
 awake_with m i burn left = record m { cpu = m.cpu ++ record { item = i; burn = burn; left = left } ∷ []; sleeping = filter (λ k. not (is_sleeper i k)) m.sleeping }
 
 pub wake_shown : (s : Plan) (past : List Entry) (m : Moment) (slot : ℕ → ℕ) (i burn : ℕ) (left : List ℕ) → Shows s past m slot → list_any (is_sleeper i) m.sleeping ≡ true
-    → Shows s (entry_for (layout_for s) past (Worker (worker (slot i))) call.Wake ∷ past) (awake_with m i burn left) slot
+    → Shows s (entry_for (layout_for s) past (Worker (plan_worker (slot i))) call.Wake ∷ past) (awake_with m i burn left) slot
 unfolding IsLegal queueings is_asleep
 wake_shown s past m slot i burn left h on = record {
   legal = legal;
@@ -72,16 +61,16 @@ wake_shown s past m slot i burn left h on = record {
   wide = λ q. width_same (layout_for s) past e q quiet.widths ∙ h.wide q;
   kept = (quiet.stays, h.kept);
   queued = ap (λ o. queueings past ++ option_to_list o) (none_opens past e quiet) ∙ append-nil (queueings past) ∙ h.queued;
-  ready = worklist_as_before (layout_for s) past e pool legal quiet ∙ all_kept (λ x. not (starts x.number e)) (worklist (layout_for s) past pool) (All_each _ (worklist (layout_for s) past pool) (λ x. ap (λ r. not (is_at (number_started r) x.number)) woke)) ∙ h.ready;
+  ready = worklist_as_before (layout_for s) past e pool legal quiet ∙ filter_all (λ x. not (starts x.number e)) (worklist (layout_for s) past pool) (All_each _ (worklist (layout_for s) past pool) (λ x. ap (λ r. not (is_at (number_started r) x.number)) woke)) ∙ h.ready;
   behind = waiting_as_before (layout_for s) past e legal quiet ∙ h.behind;
   cpu = All_append _ m.cpu (record { item = i; burn = burn; left = left } ∷ [])
       (All_both (λ k. IsRunAt past (slot k.item) k.item false) (λ k. is_job i k ≡ false) _ m.cpu (λ k r differs. other k.item false r differs) h.cpu (count_none (is_job i) m.cpu (omega (arith, some, h.once i))))
-      (record { runs = same_runs (layout_for s) past e (worker (slot i)) legal after ∙ run_at.runs; sleeps = ap₂ (λ c r. if c then asleep_after r (is_asleep past (worker (slot i))) else is_asleep past (worker (slot i))) (by_itself e (worker (slot i)) refl) woke }, tt);
+      (record { runs = same_runs (layout_for s) past e (plan_worker (slot i)) legal after ∙ run_at.runs; sleeps = ap₂ (λ c r. if c then asleep_after r (is_asleep past (plan_worker (slot i))) else is_asleep past (plan_worker (slot i))) (by_itself e (plan_worker (slot i)) refl) woke }, tt);
   sleeping = All_filter (λ k. IsRunAt (e ∷ past) (slot k.item) k.item true) (λ k. not (is_sleeper i k)) m.sleeping (All_map (λ k. IsRunAt past (slot k.item) k.item true) _ m.sleeping (λ k r kept. other k.item true r (not_true (is_sleeper i k) kept)) h.sleeping);
   no_others = λ w n runs. let k = h.no_others w n (sym (same_runs (layout_for s) past e w legal after) ∙ runs) in (k.0, moved n (n == i) refl k.1);
   once = λ k.
       let o = h.once k in
-      let a = count-append (is_job k) m.cpu (record { item = i; burn = burn; left = left } ∷ []) ∙ ap (λ n. count_by (is_job k) m.cpu + n) (count_by-cons (is_job k) (record { item = i; burn = burn; left = left }) []) in
+      let a = count_append (is_job k) m.cpu (record { item = i; burn = burn; left = left } ∷ []) ∙ ap (λ n. count_by (is_job k) m.cpu + n) (count_by-cons (is_job k) (record { item = i; burn = burn; left = left }) []) in
       let b = moved_count k (i == k) refl in
       omega arith;
   few =
@@ -92,7 +81,7 @@ wake_shown s past m slot i burn left h on = record {
 }
   where
     e : Entry
-    e = entry_for (layout_for s) past (Worker (worker (slot i))) call.Wake
+    e = entry_for (layout_for s) past (Worker (plan_worker (slot i))) call.Wake
 
     some : 1 ≤ count_by (is_sleeper i) m.sleeping
     some = any_counted (is_sleeper i) m.sleeping on
@@ -100,16 +89,16 @@ wake_shown s past m slot i burn left h on = record {
     run_at : IsRunAt past (slot i) i true
     run_at = sleeper_run past slot i m.sleeping h.sleeping on
 
-    woke : answer (layout_for s) past (Worker (worker (slot i))) call.Wake ≡ reply.Woke
+    woke : answer (layout_for s) past (Worker (plan_worker (slot i))) call.Wake ≡ reply.Woke
     woke = wake_answered s past (slot i) i run_at
 
-    quiet : IsQuiet (answer (layout_for s) past (Worker (worker (slot i))) call.Wake)
+    quiet : IsQuiet (answer (layout_for s) past (Worker (plan_worker (slot i))) call.Wake)
     quiet = subst IsQuiet (sym woke) wakes
 
     legal : IsLegal (layout_for s) (e ∷ past)
-    legal = (ap (λ b. (b && true) && true) (lt-ltb (slot i) 8 (runner_there (layout_for s) past (worker (slot i)) i h.legal run_at.runs)), refl, h.legal)
+    legal = (ap (λ b. (b && true) && true) (lt-ltb (slot i) 8 (runner_there (layout_for s) past (plan_worker (slot i)) i h.legal run_at.runs)), refl, h.legal)
 
-    after : (o : Option ℕ) → run_after (answer (layout_for s) past (Worker (worker (slot i))) call.Wake) o ≡ o
+    after : (o : Option ℕ) → run_after (answer (layout_for s) past (Worker (plan_worker (slot i))) call.Wake) o ≡ o
     after o = ap (λ r. run_after r o) woke
 
     not_true : (b : Bool) → not b ≡ true → b ≡ false

@@ -1,17 +1,12 @@
 -- The limits of a plan, at the scenario that it is of.
-use Rattle.std.proofs.Common.{◌≡◌, ◌<◌, ◌≤◌, ℕ, zero, suc, List, [], ◌∷◌, length, map, get_or, arith, refl, ap₂, ◌&&◌, true}
-use Rattle.std.specs.List.{list_all}
-use Rattle.std.proofs.lemmas.Bool.{le-leb}
-use Rattle.cmwq_model.specs.Prelude.{is_between, is_queue, are_queues}
+use Rattle.cmwq_sim.specs.Common.{◌≡◌, ◌<◌, ◌≤◌, ℕ, zero, suc, List, [], ◌∷◌, length, map, get_or, arith, refl, ap₂, ◌&&◌, true, list_all, le-leb, is_between, is_queue, are_queues, AllByRecursion, length-map}
 use Rattle.cmwq_sim.specs.declared.scenario.SimQueue.{SimQueue}
 use Rattle.cmwq_sim.specs.Shows.{queue_shape}
-use Rattle.std.specs.List.{AllByRecursion}
-use Rattle.std.proofs.lemmas.List.{length-map}
 use Rattle.cmwq_sim.specs.declared.scenario.SimItem.{SimItem}
-use Rattle.cmwq_sim.specs.Plan.{Plan, item_of}
+use Rattle.cmwq_sim.specs.Plan.{Plan, plan_item}
 use Rattle.cmwq_sim.specs.Limits.{IsBetween, IsQueue, IsItem, IsWithinLimits}
 
-pub each_item : (n : ℕ) (xs : List SimItem) (i : ℕ) (d : SimItem) → AllByRecursion (IsItem n) (map item_of xs) → i < length xs → IsItem n (item_of (get_or xs i d))
+pub each_item : (n : ℕ) (xs : List SimItem) (i : ℕ) (d : SimItem) → AllByRecursion (IsItem n) (map plan_item xs) → i < length xs → IsItem n (plan_item (get_or xs i d))
 each_item n [] i d all less = absurd (omega arith)
 each_item n (x ∷ xs) zero d all less = all.0
 each_item n (x ∷ xs) (suc i) d all less = each_item n xs i d all.1 (omega arith)

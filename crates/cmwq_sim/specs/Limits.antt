@@ -1,6 +1,5 @@
 -- What a plan keeps to.
-use Rattle.std.specs.Prelude.{ℕ, ◌<◌, ◌≤◌, length}
-use Rattle.std.specs.List.{AllByRecursion}
+use Rattle.cmwq_sim.specs.Common.{ℕ, ◌<◌, ◌≤◌, length, AllByRecursion}
 use Rattle.cmwq_sim.specs.declared.scenario.SimQueue.{SimQueue}
 use Rattle.cmwq_sim.specs.Plan.{Plan, Item}
 

@@ -15,11 +15,11 @@ pub record Plan : Type 0 where
   pub queues : List SimQueue
   pub items : List Item
 
-abbrev pub item_of : SimItem → Item
-item_of x = record { queue = x.queue; ms = x.ms.items }
+abbrev pub plan_item : SimItem → Item
+plan_item x = record { queue = x.queue; ms = x.ms.items }
 
 abbrev pub plan_of : Scenario → Plan
-plan_of s = record { queues = s.queues.items; items = map item_of s.items.items }
+plan_of s = record { queues = s.queues.items; items = map plan_item s.items.items }
 
 -- a line tells at what time what befell which items
 pub record Event : Type 0 where
@@ -31,27 +31,27 @@ abbrev pub event_of : Line → Event
 event_of l = record { at = l.at; kind = l.kind; items = l.items.items }
 
 -- what stands for what the plan doesn't have
-abbrev pub no_queue : SimQueue
-no_queue = record { max_active = 0; intensive = false }
+abbrev pub no_sim_queue : SimQueue
+no_sim_queue = record { max_active = 0; intensive = false }
 
 abbrev pub no_item : Item
 no_item = record { queue = 0; ms = [] }
 
 -- an item's queue and its parts, and what that queue is
-abbrev pub queue_of : Plan → ℕ → ℕ
-queue_of s i = (slice_index_or s.items i no_item).queue
+abbrev pub plan_queue : Plan → ℕ → ℕ
+plan_queue s i = (slice_index_or s.items i no_item).queue
 
 abbrev pub ms_of : Plan → ℕ → List ℕ
 ms_of s i = (slice_index_or s.items i no_item).ms
 
-abbrev pub max_active : Plan → ℕ → ℕ
-max_active s q = (slice_index_or s.queues q no_queue).max_active
+abbrev pub plan_width : Plan → ℕ → ℕ
+plan_width s q = (slice_index_or s.queues q no_sim_queue).max_active
 
-abbrev pub is_intensive : Plan → ℕ → Bool
-is_intensive s q = (slice_index_or s.queues q no_queue).intensive
+abbrev pub is_plan_intensive : Plan → ℕ → Bool
+is_plan_intensive s q = (slice_index_or s.queues q no_sim_queue).intensive
 
-abbrev pub is_of : Plan → ℕ → ℕ → Bool
-is_of s q i = queue_of s i == q
+abbrev pub is_of_plan_queue : Plan → ℕ → ℕ → Bool
+is_of_plan_queue s q i = plan_queue s i == q
 
 -- all of its time
 abbrev pub time_of : Item → ℕ

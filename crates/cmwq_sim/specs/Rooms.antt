@@ -1,7 +1,5 @@
 -- The room that a replay still needs.
-use Rattle.std.specs.Prelude.{ℕ, ◌+◌, ◌*◌, ◌≤◌, List, length, sum_by}
-use Rattle.cmwq_model.specs.declared.entry.Entry.{Entry}
-use Rattle.cmwq_model.specs.Prelude.{needed}
+use Rattle.cmwq_sim.specs.Common.{ℕ, ◌+◌, ◌*◌, ◌≤◌, List, length, sum_by, Entry, room_needed}
 use Rattle.cmwq_sim.specs.Plan.{Plan, ms_of}
 use Rattle.cmwq_sim.specs.Lines.{Moment, Job, Sleeper}
 use Rattle.cmwq_sim.specs.Shows.{layout_for}
@@ -21,4 +19,4 @@ parts_left s m = sum_by (parts_at s) m.ready + sum_by (parts_at s) m.behind + su
 
 -- with what the parts that are left may still need, eight items of eight parts need no more than this
 abbrev pub IsRoomy : Plan → List Entry → Moment → Type 0
-IsRoomy s past m = needed (layout_for s) past + 2 * parts_left s m ≤ 152
+IsRoomy s past m = room_needed (layout_for s) past + 2 * parts_left s m ≤ 152

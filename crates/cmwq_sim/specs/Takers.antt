@@ -1,14 +1,11 @@
 -- Which worker's take would start an item.
-use Rattle.std.specs.Prelude.{◌≡◌, ℕ, ◌<◌, List, Option, Some, None}
-use Rattle.cmwq_model.specs.declared.entry.Entry.{Entry}
-use Rattle.cmwq_model.specs.declared.id.Who.TheVariants.{Worker}
-use Rattle.cmwq_model.specs.Prelude.{Layout, number_started, answer}
+use Rattle.cmwq_sim.specs.Common.{◌≡◌, ℕ, ◌<◌, List, Option, Some, None, Entry, Worker, Layout, number_started, answer}
 use Rattle.cmwq_model.specs.declared.call.Call.TheVariants as call
-use Rattle.cmwq_sim.specs.Shows.{worker}
+use Rattle.cmwq_sim.specs.Shows.{plan_worker}
 
 -- what a take of the worker with this index would start
 abbrev pub taken_by : Layout → List Entry → ℕ → Option ℕ
-taken_by s past x = number_started (answer s past (Worker (worker x)) call.Take)
+taken_by s past x = number_started (answer s past (Worker (plan_worker x)) call.Take)
 
 pub record IsTaker (s : Layout) (past : List Entry) (x n : ℕ) : Type 0 where
   pub below : x < 8

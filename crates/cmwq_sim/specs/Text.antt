@@ -1,6 +1,5 @@
 -- The text of lines: a heading, and then for each line its time, a tab, and what befell whom.
-use Rattle.std.specs.Prelude.{ℕ, Bool, true, false, List, [], ◌∷◌, ◌++◌, length, slice_index_or, nat_lt, codes, decimal}
-use Rattle.std.specs.List.{flat_map}
+use Rattle.cmwq_sim.specs.Common.{ℕ, Bool, true, false, List, [], ◌∷◌, ◌++◌, length, slice_index_or, nat_lt, codes, decimal, flat_map}
 use Rattle.cmwq_sim.specs.declared.scenario.LineKind.{LineKind}
 use Rattle.cmwq_sim.specs.declared.scenario.LineKind.TheVariants as kind
 use Rattle.cmwq_sim.specs.Plan.{Event}
@@ -26,11 +25,11 @@ deed_text kind.WakesEnds many = codes " wakes up and finishes"
 deed_text kind.Ends many = codes " finishes"
 
 -- 9 is the tab and 10 the line feed
-abbrev pub line_text : List (List ℕ) → Event → List ℕ
-line_text names e = decimal e.at ++ 9 ∷ [] ++ names_text names e.items ++ deed_text e.kind (nat_lt 1 (length e.items)) ++ 10 ∷ []
+abbrev pub event_text : List (List ℕ) → Event → List ℕ
+event_text names e = decimal e.at ++ 9 ∷ [] ++ names_text names e.items ++ deed_text e.kind (nat_lt 1 (length e.items)) ++ 10 ∷ []
 
 abbrev pub heading : List ℕ
 heading = codes "TIME IN MSECS" ++ 9 ∷ [] ++ codes "EVENT" ++ 10 ∷ []
 
 abbrev pub lines_text : List (List ℕ) → List Event → List ℕ
-lines_text names es = heading ++ flat_map (line_text names) es
+lines_text names es = heading ++ flat_map (event_text names) es

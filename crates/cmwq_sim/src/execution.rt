@@ -56,7 +56,7 @@ const POOL: PoolId = PoolId {
 };
 
 fn worker(index: u8) -> Who
-    ensures { result ≡ who.Worker (shows.worker index) }
+    ensures { result ≡ who.Worker (shows.plan_worker index) }
 {
     Who::Worker(WorkerId { pool: POOL, index })
 }
@@ -203,8 +203,8 @@ fn queue_all(book: &mut Book, scenario: &Scenario)
     requires fresh { book.old ≡ record { layout = shows.layout_for (plan_of scenario.now); room = 1000; entries = [] } }
     ensures layout { book.new.layout ≡ shows.layout_for (plan_of scenario.now) }
     ensures room { book.new.room ≡ 1000 }
-    ensures shows { (slot : ℕ → ℕ) → shows.Shows (plan_of scenario.now) (past_in book.new) (lines.queued (plan_of scenario.now)) slot }
-    ensures roomy { IsRoomy (plan_of scenario.now) (past_in book.new) (lines.queued (plan_of scenario.now)) }
+    ensures shows { (slot : ℕ → ℕ) → shows.Shows (plan_of scenario.now) (past_in book.new) (lines.queued_at_first (plan_of scenario.now)) slot }
+    ensures roomy { IsRoomy (plan_of scenario.now) (past_in book.new) (lines.queued_at_first (plan_of scenario.now)) }
 {
     for item in 0..item_count(scenario) {
         let queue = queue_of(scenario, item);
@@ -220,7 +220,7 @@ fn queue_all(book: &mut Book, scenario: &Scenario)
 impl Execution {
     fn new(alloc: Global, scenario: &Scenario) -> Result<Execution, NoMemory>
         requires { IsWithinLimits (plan_of scenario.now) }
-        ensures { IfOk result (λ execution. StandsAt (plan_of scenario.now) execution (lines.queued (plan_of scenario.now))) }
+        ensures { IfOk result (λ execution. StandsAt (plan_of scenario.now) execution (lines.queued_at_first (plan_of scenario.now))) }
     {
         let shape = shape_of(alloc, scenario)?;
         let mut book = Book::new(alloc, &shape, 1000)?;
@@ -306,7 +306,7 @@ impl Execution {
     fn wake(&mut self, alloc: Global, scenario: &Scenario, at: u32) -> Result<(), AllocError>
         requires stands { Stands (plan_of scenario.now) self.old }
         requires early { at ≤ 64000 }
-        ensures { OnOk result (StandsAt (plan_of scenario.now) self.new (lines.wake (plan_of scenario.now) at (moment_in (plan_of scenario.now) self.old))) }
+        ensures { OnOk result (StandsAt (plan_of scenario.now) self.new (lines.wake_sleepers (plan_of scenario.now) at (moment_in (plan_of scenario.now) self.old))) }
     {
         for item in 0..item_count(scenario) {
             self.wake_item(alloc, scenario, at, item)?;
@@ -388,7 +388,7 @@ impl Execution {
 
     /// Each millisecond, until all items have ended. The lines are handed out.
     fn run(&mut self, alloc: Global, scenario: &Scenario) -> Result<Vec<Line>, NoMemory>
-        requires { StandsAt (plan_of scenario.now) self.old (lines.queued (plan_of scenario.now)) }
+        requires { StandsAt (plan_of scenario.now) self.old (lines.queued_at_first (plan_of scenario.now)) }
         ensures { IfOk result (λ told. map event_of told.items ≡ lines.scenario_lines (plan_of scenario.now)) }
     {
         for at in 0..whole_time(scenario) + 1 {

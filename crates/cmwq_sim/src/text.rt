@@ -52,7 +52,7 @@ fn deed_text(kind: LineKind, many: bool) -> &'static str
 }
 
 fn push_line(text: &mut String, names: &[String], line: &Line) -> Result<(), AllocError>
-    ensures { OnOk result (string_bytes text.new ≡ string_bytes text.old ++ spec.line_text (map string_bytes names.now) (event_of line.now)) }
+    ensures { OnOk result (string_bytes text.new ≡ string_bytes text.old ++ spec.event_text (map string_bytes names.now) (event_of line.now)) }
 {
     text.push_str(Buffer::new().format(line.at))?;
     text.push_str("\t")?;

@@ -2,7 +2,7 @@
 
 ghost use Rattle.std.specs.Prelude.{◌≡◌, ◌+◌, ◌*◌, ◌≤◌, ◌<◌, ◌^◌, ◌∷◌, [], length, sum, drop, MatchOption, IfSome};
 ghost use Rattle.std.specs.List.{AllByRecursion};
-ghost use Rattle.cmwq_sim.specs.Plan.{plan_of, ms_of, queue_of, whole_time};
+ghost use Rattle.cmwq_sim.specs.Plan.{plan_of, ms_of, plan_queue, whole_time};
 ghost use Rattle.cmwq_sim.specs.Limits.{IsBetween, IsWithinLimits};
 
 use crate::scenario::Scenario;
@@ -53,7 +53,7 @@ pub(crate) fn item_count(scenario: &Scenario) -> u8
 /// The queue of an item.
 pub(crate) fn queue_of(scenario: &Scenario, item: u8) -> u8
     requires { item < length (plan_of scenario.now).items }
-    ensures { result ≡ queue_of (plan_of scenario.now) item }
+    ensures { result ≡ plan_queue (plan_of scenario.now) item }
 {
     scenario.items[usize::from(item)].queue
 }

@@ -1,16 +1,12 @@
 -- A state to which an effect was applied is one entry further on.
-use Rattle.std.proofs.Common.{◌≡◌, ℕ, ◌+◌, ◌^◌, ◌<◌, ◌≤◌, true, List, [], ◌∷◌, ◌++◌, length, ap, arith, length-append}
-use Rattle.cmwq_model.specs.declared.entry.Entry.{Entry}
-use Rattle.cmwq_model.specs.declared.call.Call.{Call}
-use Rattle.cmwq_model.specs.Prelude.{Layout, fits, serial_of, ticks_told, now, has_time, most_time, IsLegal, past_of}
-use Rattle.std.proofs.lemmas.Bool.{leb-true}
+use Rattle.cmwq_state.specs.Common.{◌≡◌, ℕ, ◌+◌, ◌^◌, ◌<◌, ◌≤◌, true, List, [], ◌∷◌, ◌++◌, length, ap, arith, length-append, Entry, Call, Layout, fits, serial_of, ticks_told, now, has_time, most_time, IsLegal, past_of, leb-true, length-reverse}
 use Rattle.cmwq_model.specs.declared.call.Call.TheVariants as call
 use Rattle.cmwq_state.specs.Tables.{IsThere}
-use Rattle.std.proofs.lemmas.List.{length-reverse}
 use Rattle.cmwq_state.specs.State.{Parts, AreParts, IsState}
 use Rattle.cmwq_state.specs.Effects.{IsEffect, IsNextEffect}
 use Rattle.cmwq_state.specs.declared.effect.Effect.{Effect}
-use Rattle.cmwq_state.proofs.Steps.{past_more, fits_there}
+use Rattle.cmwq_state.proofs.Steps.{fits_there}
+use Rattle.cmwq_theory_steps.proofs.Growing.{one_more_is_newest}
 
 pub effect_fits : (s : Layout) (past : List Entry) (f : Effect) → IsEffect s past f → fits s f.entry.who f.entry.call ≡ true
 unfolding IsLegal
@@ -42,8 +38,8 @@ appended s room entries old new f b is are time owing ticks within =
     record {
       inside = b.inside;
       few = b.few;
-      legal = rw (past_more entries f.entry) is.legal;
-      parts_are = rw (past_more entries f.entry) are;
+      legal = rw (one_more_is_newest entries f.entry) is.legal;
+      parts_are = rw (one_more_is_newest entries f.entry) are;
       within = rw (one_more, owing) within;
       soon = rw time (time_within (past_of entries) f.entry.call old.time b.parts_are.time b.soon ticks);
     }

@@ -1,14 +1,6 @@
 -- How many are active, and whether an item runs.
-use Rattle.std.proofs.Common.{◌≡◌, ℕ, ◌+◌, ◌-◌, ◌≤◌, List, length, filter, count_by, arith, is_some, refl, ◌∙◌}
+use Rattle.cmwq_state.specs.Common.{◌≡◌, ℕ, ◌+◌, ◌-◌, ◌≤◌, List, length, filter, count_by, arith, is_some, refl, ◌∙◌, length-filter, Entry, Queueing, Start, Layout, item_run, item_runs, still_open, IsLegal, is_active, waits, waiting, flight_of}
 use Rattle.std.proofs.lemmas.List.Filters.{length-filter_both}
-use Rattle.std.proofs.lemmas.List.Sums.{length-filter}
-use Rattle.cmwq_model.specs.declared.entry.Entry.{Entry}
-use Rattle.cmwq_model.specs.declared.record.Queueing.{Queueing}
-use Rattle.cmwq_model.specs.declared.record.Start.{Start}
-use Rattle.cmwq_model.specs.Prelude.{Layout, item_run, item_runs, still_open, IsLegal, is_active}
-use Rattle.cmwq_theory_steps.specs.Activations.{waits}
-use Rattle.cmwq_theory_steps.specs.Waiting.{waiting}
-use Rattle.cmwq_refinement.specs.Flights.{flight_of}
 use Rattle.cmwq_state.proofs.Readings.{run_some, some_mapped}
 
 pub running : (s : Layout) (past : List Entry) (i : ℕ) → IsLegal s past → is_some (flight_of past i).run ≡ item_runs past i

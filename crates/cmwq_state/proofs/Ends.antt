@@ -1,30 +1,11 @@
 -- What a ticket still waits for, and which booking fires first, read off the parts.
-use Rattle.std.proofs.Common.{◌≡◌, ℕ, ◌<◌, Bool, true, false, List, [], ◌∷◌, find, length, get_or, Option, Some, None, refl, sym, ap, ◌∙◌, subst, IsTrue, ◌↔◌}
-use Rattle.std.specs.Prelude.{Contains, slice_get, option_map, option_and_then}
-use Rattle.std.proofs.Common.{◌⊎◌, inl, inr}
-use Rattle.std.proofs.lemmas.List.{get_or_default}
+use Rattle.cmwq_state.specs.Common.{◌≡◌, ℕ, ◌<◌, Bool, true, false, List, [], ◌∷◌, find, length, get_or, Option, Some, None, refl, sym, ap, ◌∙◌, subst, IsTrue, ◌↔◌, Contains, slice_get, option_map, option_and_then, ◌⊎◌, inl, inr, get_or_default, ItemId, Call, Entry, Queueing, Start, Who, Ticket, Layout, unended_tickets, ticket_of, is_ticket, waits_for, item_run, queueing_at, still_open, IsLegal, found, in_contained, runs_are_queueings, found_number, FlushBook, flush_tickets, IsReady, AreFlushes, ready_flushes_wait_for_nothing, flushes_wait_for_least_open, drains_wait_for_least_open, wait_by, wait_for, barriers_of, BarrierBook, tickets_in, is_some}
 use Rattle.cmwq_model.specs.declared.id.QueueId.{QueueId}
-use Rattle.cmwq_model.specs.declared.id.ItemId.{ItemId}
-use Rattle.cmwq_model.specs.declared.call.Call.{Call}
-use Rattle.cmwq_model.specs.declared.entry.Entry.{Entry}
-use Rattle.cmwq_model.specs.declared.record.Queueing.{Queueing}
-use Rattle.cmwq_model.specs.declared.record.Start.{Start}
-use Rattle.cmwq_model.specs.declared.id.Who.{Who}
-use Rattle.cmwq_model.specs.declared.record.Ticket.{Ticket}
-use Rattle.cmwq_model.specs.Prelude.{Layout, unended, ticket_of, is_ticket, waits_for, item_run, queueing_at, still_open, IsLegal}
 use Rattle.cmwq_model.specs.declared.call.Call.TheVariants as call
-use Rattle.cmwq_refinement.proofs.Members.{found, in_contained}
-use Rattle.cmwq_theory_steps.proofs.EndsAsTold.{runs_are_queueings}
-use Rattle.cmwq_theory_steps.proofs.RunsActive.{found_number}
 use Rattle.cmwq_state.specs.Flights.{run_open}
-use Rattle.cmwq_flush.specs.FlushBook.{FlushBook, flush_tickets, IsReady}
-use Rattle.cmwq_refinement.specs.FlushBooks.{AreFlushes}
-use Rattle.cmwq_refinement.proofs.FlushReads.{ready_flushes_wait_for_nothing, flushes_wait_for_least_open, drains_wait_for_least_open}
-use Rattle.cmwq_refinement.specs.BarrierBooks.{wait_by, wait_for, barriers_of}
 use Rattle.cmwq_refinement.proofs.BarrierEnds.{unended_waits_stand}
 use Rattle.cmwq_refinement.proofs.BarrierReads.{barriers_wait_for_least}
-use Rattle.cmwq_flush.specs.BarrierBook.{BarrierBook, tickets_in, waits_for as book_waits_for}
-use Rattle.std.specs.Prelude.{is_some}
+use Rattle.cmwq_flush.specs.BarrierBook.{barrier_waits_for as book_waits_for}
 use Rattle.cmwq_state.specs.Tables.{AreBooks, book_in, no_book}
 
 pub flushes_found : (s : Layout) (past : List Entry) (books : List FlushBook) (q i : ℕ) (v : FlushBook) → AreBooks s past books → q < length s.queues → i ≡ q → v ≡ get_or books i v → AreFlushes s past q v
@@ -81,17 +62,17 @@ waits_item : (t : Ticket) → IsItemFlush t.call → is_some (wait_for t) ≡ tr
 waits_item t (inl f) = ap (λ c. is_some (wait_by c t.number)) f.1
 waits_item t (inr f) = ap (λ c. is_some (wait_by c t.number)) f.1
 
-pub barrier_stands : (s : Layout) (past : List Entry) (t : Ticket) (b : BarrierBook) → b ≡ barriers_of s past → Contains (unended past) t → IsItemFlush t.call → Contains (tickets_in b.barriers) t.number
+pub barrier_stands : (s : Layout) (past : List Entry) (t : Ticket) (b : BarrierBook) → b ≡ barriers_of s past → Contains (unended_tickets past) t → IsItemFlush t.call → Contains (tickets_in b.barriers) t.number
 barrier_stands s past t b is here item =
     let P : BarrierBook → Type 0 = λ v. Contains (tickets_in v.barriers) t.number in
     subst P (sym is) (unended_waits_stand s past t here (waits_item t item))
 
-pub barrier_waits : (s : Layout) (past : List Entry) (t : Ticket) (b : BarrierBook) → b ≡ barriers_of s past → IsLegal s past → Contains (unended past) t → IsItemFlush t.call → book_waits_for b t.number ≡ waits_for past t.number t.call
+pub barrier_waits : (s : Layout) (past : List Entry) (t : Ticket) (b : BarrierBook) → b ≡ barriers_of s past → IsLegal s past → Contains (unended_tickets past) t → IsItemFlush t.call → book_waits_for b t.number ≡ waits_for past t.number t.call
 barrier_waits s past t b is legal here item = ap (λ v. book_waits_for v t.number) is ∙ barriers_wait_for_least s past t legal here (waits_item t item)
 
 pub drain_waits : (s : Layout) (past : List Entry) (q : QueueId) (t : Ticket) (b : FlushBook) → AreFlushes s past q.0 b → (t.call ≡ call.Drain q) ⊎ (t.call ≡ call.Destroy q) → slice_get b.opened 0 ≡ waits_for past t.number t.call
 drain_waits s past q t b is (inl e) = sym (ap (waits_for past t.number) e ∙ (drains_wait_for_least_open s past q b t.number is).0)
 drain_waits s past q t b is (inr e) = sym (ap (waits_for past t.number) e ∙ (drains_wait_for_least_open s past q b t.number is).1)
 
-pub found_unended : (past : List Entry) (who : Who) (n : ℕ) (t : Ticket) → ticket_of past who n ≡ Some t → Contains (unended past) t
-found_unended past who n t h = in_contained (unended past) t (found (is_ticket who n) (unended past) t h).0
+pub found_unended : (past : List Entry) (who : Who) (n : ℕ) (t : Ticket) → ticket_of past who n ≡ Some t → Contains (unended_tickets past) t
+found_unended past who n t h = in_contained (unended_tickets past) t (found (is_ticket who n) (unended_tickets past) t h).0

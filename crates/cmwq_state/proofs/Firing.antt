@@ -1,17 +1,6 @@
 -- The word of the queues that drain, and what fires next.
-use Rattle.std.proofs.Common.{◌≡◌, ◌≢◌, ℕ, ◌+◌, ◌<◌, Bool, true, false, ◌==◌, ◌&&◌, List, length, Option, Some, None, refl, sym, ap, ◌∙◌, arith, nat_lt}
-use Rattle.std.specs.Int.{bit_at}
-use Rattle.std.specs.Prelude.{IfSome, IfNone}
-use Rattle.std.proofs.lemmas.Bool.{eqb-true, eq-eqb, lt-ltb, le-ltb}
+use Rattle.cmwq_state.specs.Common.{◌≡◌, ◌≢◌, ℕ, ◌+◌, ◌<◌, Bool, true, false, ◌==◌, ◌&&◌, List, length, Option, Some, None, refl, sym, ap, ◌∙◌, arith, nat_lt, bit_at, IfSome, IfNone, eqb-true, eq-eqb, lt-ltb, le-ltb, ItemId, Entry, Layout, now, IsLegal, IsFirstToFire, NoneMayFire, FlushBook, HoldsDraining, item_due, timers_of, first_timer_is_first_due, no_timer_is_none_due, draining_while_drains_stand}
 use Rattle.std.proofs.lemmas.Bool.Decides.{nat_tests}
-use Rattle.cmwq_model.specs.declared.id.ItemId.{ItemId}
-use Rattle.cmwq_model.specs.declared.entry.Entry.{Entry}
-use Rattle.cmwq_model.specs.Prelude.{Layout, now, IsLegal}
-use Rattle.cmwq_timer.specs.Rows.{IsFirstToFire, NoneMayFire}
-use Rattle.cmwq_flush.specs.FlushBook.{FlushBook}
-use Rattle.cmwq_refinement.specs.Timers.{HoldsDraining, item_due, timers_of}
-use Rattle.cmwq_refinement.proofs.FirstDue.{first_timer_is_first_due, no_timer_is_none_due}
-use Rattle.cmwq_refinement.proofs.FlushReads.{draining_while_drains_stand}
 use Rattle.cmwq_state.specs.Tables.{AreBooks, book_in}
 
 abbrev pub AreHeldTo : List FlushBook → ℕ → ℕ → Type 0

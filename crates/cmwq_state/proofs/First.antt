@@ -1,31 +1,14 @@
 -- The parts of a new book are those of no entries.
-use Rattle.std.proofs.Common.{◌≡◌, ℕ, Bool, ◌*◌, ◌≤◌, true, false, List, [], length, replicate, refl, sym, ◌∙◌, arith, None, subst}
-use Rattle.std.proofs.lemmas.List.{get_or-replicate, length-replicate}
-use Rattle.cmwq_model.specs.declared.record.Ticket.{Ticket}
-use Rattle.cmwq_model.specs.Prelude.{Layout, is_layout, most_room, now, IsLegal, owed, queueings, tickets, is_gone}
+use Rattle.cmwq_state.specs.Common.{◌≡◌, ℕ, Bool, ◌*◌, ◌≤◌, true, false, List, [], length, replicate, refl, sym, ◌∙◌, arith, None, subst, get_or-replicate, length-replicate, Ticket, Layout, is_layout, most_room, now, IsLegal, owed, queueings, tickets, is_gone, PoolState, new_pool_state, FlushBook, new_book, BarrierBook, new_barriers, AreFlushes, pools_at_first, flushes_at_first, barriers_at_first, no_timers_at_first, active_count, TimerRows, no_tickets_at_first, Flight, no_flight, no_flights_at_first, PwqState, new_pwq_state, place_of, place_inside}
 use Rattle.cmwq_theory_laws.proofs.WithinRoom.{steps_within_room}
-use Rattle.cmwq_pool.specs.PoolState.{PoolState, new_pool_state}
-use Rattle.cmwq_flush.specs.FlushBook.{FlushBook, new_book}
-use Rattle.cmwq_flush.specs.BarrierBook.{BarrierBook, new_barriers}
-use Rattle.cmwq_refinement.specs.FlushBooks.{AreFlushes}
-use Rattle.cmwq_refinement.proofs.PoolSteps.{pools_at_first}
-use Rattle.cmwq_refinement.proofs.FlushSteps.{flushes_at_first}
-use Rattle.cmwq_refinement.proofs.BarrierSteps.{barriers_at_first}
-use Rattle.cmwq_refinement.proofs.TimerSteps.{no_timers_at_first}
 use Rattle.cmwq_state.specs.Tables.{pool_place, no_pool, no_book, who_place}
-use Rattle.cmwq_theory_steps.specs.Places.{active_count}
-use Rattle.cmwq_timer.specs.Rows.{Rows}
-use Rattle.cmwq_refinement.proofs.TicketsRefine.{no_tickets_at_first}
-use Rattle.cmwq_inflight.specs.Flights.{Flight, no_flight}
-use Rattle.cmwq_refinement.proofs.FlightRefine.{no_flights_at_first}
 use Rattle.cmwq_state.specs.Gone.{AreGone}
-use Rattle.cmwq_pwq.specs.Pwqs.{PwqState, new_pwq_state, place_of}
-use Rattle.cmwq_pwq.proofs.Passes.{place_inside}
 use Rattle.cmwq_state.specs.Pwqs.{ArePwqsOf}
 use Rattle.cmwq_state.proofs.WidthSteps.{first_most, widths_at_first}
 use Rattle.cmwq_state.specs.State.{Parts, AreParts, IsState}
 use Rattle.cmwq_state.proofs.Refine.{IsSmall, pool_place_inside, who_below}
 use Rattle.cmwq_state.proofs.Steps.{small}
+use Rattle.cmwq_theory_steps.proofs.Owing.{nothing_owed}
 
 abbrev pub first_parts : Layout → Parts
 first_parts s = record {
@@ -43,10 +26,6 @@ first_parts s = record {
   frozen = false;
   owing = 0;
 }
-
-nothing_owed : (s : Layout) → owed s [] ≡ 0
-unfolding owed
-nothing_owed s = let within = (steps_within_room s 0 []).0 in omega arith
 
 first_time : 0 ≡ now []
 unfolding now
@@ -105,7 +84,7 @@ book_at_first s room inside few = record {
 }
 
 -- so the parts that are made are those of a book
-pub book_made : (s : Layout) (room : ℕ) (pools : List PoolState) (books : List FlushBook) (barriers : BarrierBook) (timers : Rows) (serials : List ℕ) (flights : List Flight) (tickets : List (List Ticket)) (gone : List Bool) (pwqs : PwqState) (most : List ℕ) → is_layout s ≡ true → room ≤ most_room →
+pub book_made : (s : Layout) (room : ℕ) (pools : List PoolState) (books : List FlushBook) (barriers : BarrierBook) (timers : TimerRows) (serials : List ℕ) (flights : List Flight) (tickets : List (List Ticket)) (gone : List Bool) (pwqs : PwqState) (most : List ℕ) → is_layout s ≡ true → room ≤ most_room →
     pools ≡ replicate (2 * s.cpus) (new_pool_state s.items s.workers) → books ≡ replicate (length s.queues) (new_book s.callers) → barriers ≡ new_barriers s.items s.callers → timers ≡ replicate s.items None → serials ≡ replicate 128 0 →
     flights ≡ replicate s.items no_flight → tickets ≡ replicate s.callers [] → gone ≡ replicate (length s.queues) false → pwqs ≡ new_pwq_state (length s.queues) (2 * s.items) → most ≡ first_most s.queues →
     IsState s room [] (record { pools = pools; books = books; barriers = barriers; timers = timers; time = 0; serials = serials; flights = flights; tickets = tickets; gone = gone; pwqs = pwqs; most = most; frozen = false; owing = 0 })

@@ -1,17 +1,7 @@
--- Which queues are gone, told of an entry, is what it is by the longer history.
-use Rattle.std.proofs.Common.{◌≡◌, ℕ, Bool, true, false, ◌&&◌, ◌||◌, List, ◌∷◌, length, Option, Some, None, refl, sym, ap, ◌∙◌}
-use Rattle.std.specs.Option.{option_map_or}
-use Rattle.std.specs.Prelude.{if◌then◌else◌}
-use Rattle.std.proofs.lemmas.Bool.{ltb-true}
-use Rattle.cmwq_model.specs.declared.call.Call.{Call}
-use Rattle.cmwq_model.specs.declared.entry.Entry.{Entry}
-use Rattle.cmwq_model.specs.declared.record.Ticket.{Ticket}
-use Rattle.cmwq_model.specs.Prelude.{Layout, has_numbers, is_destroy_of, is_gone, is_done, ends_destroy, IsLegal}
+-- Which queues are gone after an entry is what it is by the longer history.
+use Rattle.cmwq_state.specs.Common.{◌≡◌, ℕ, Bool, true, false, ◌&&◌, ◌||◌, List, ◌∷◌, length, Option, Some, None, refl, sym, ap, ◌∙◌, option_map_or, if◌then◌else◌, ltb-true, Call, Entry, Ticket, Layout, has_numbers, is_destroy_of, is_gone, is_done, ends_destroy, IsLegal, ticket_asked, ticket_ended, ended_ready, unended_fit}
 use Rattle.cmwq_model.specs.declared.call.Call.TheVariants as call
-use Rattle.cmwq_theory_steps.specs.TicketSteps.{ticket_asked, ticket_ended}
-use Rattle.cmwq_refinement.proofs.FlushEnds.{ended_ready}
-use Rattle.cmwq_refinement.proofs.PlacesFit.{unended_fit}
-use Rattle.cmwq_state.specs.Gone.{AreGone, MayLose, MayTellGone, TellGone}
+use Rattle.cmwq_state.specs.Gone.{AreGone, MayLose, MayLoseQueue, LosesQueue}
 
 -- a queue goes by the end of a destroy
 gone_by : (past : List Entry) (e : Entry) (q : ℕ) (b : Bool) (c : Call) → (b && ends_destroy past q e.who c) ≡ option_map_or (is_destroy_of q) (if b then ticket_asked past e.who c else None) false
@@ -23,19 +13,19 @@ gone_after : (past : List Entry) (e : Entry) (q : ℕ) → is_gone (e ∷ past) 
 unfolding is_gone
 gone_after past e q = ap (λ b. is_gone past q || b) (gone_by past e q (is_done e.reply) e.call)
 
-pub gone_refine : (s : Layout) (past : List Entry) (e : Entry) (old new : List Bool) → AreGone s past old → TellGone (ticket_ended past e) old new → AreGone s (e ∷ past) new
-gone_refine s past e old new are told = record {
-  many = told.many ∙ are.many;
-  each = λ q here. told.each q ∙ (ap (λ b. b || option_map_or (is_destroy_of q) (ticket_ended past e) false) (are.each q here) ∙ sym (gone_after past e q));
+pub gone_refine : (s : Layout) (past : List Entry) (e : Entry) (old new : List Bool) → AreGone s past old → LosesQueue (ticket_ended past e) old new → AreGone s (e ∷ past) new
+gone_refine s past e old new are applied = record {
+  many = applied.many ∙ are.many;
+  each = λ q here. applied.each q ∙ (ap (λ b. b || option_map_or (is_destroy_of q) (ticket_ended past e) false) (are.each q here) ∙ sym (gone_after past e q));
 }
 
 may_lose : (s : Layout) (c : Call) (gone : List Bool) → length gone ≡ length s.queues → has_numbers s c ≡ true → MayLose c gone
 may_lose s (call.Destroy q) gone many fit = rw many (ltb-true q.0 (length s.queues) fit)
 may_lose s c gone many fit = tt
 
-pub may_tell_gone : (s : Layout) (past : List Entry) (e : Entry) (gone : List Bool) → IsLegal s (e ∷ past) → IsLegal s past → AreGone s past gone → MayTellGone (ticket_ended past e) gone
-may_tell_gone s past e gone legal before are = by (ticket_ended past e) refl
+pub may_lose_destroyed : (s : Layout) (past : List Entry) (e : Entry) (gone : List Bool) → IsLegal s (e ∷ past) → IsLegal s past → AreGone s past gone → MayLoseQueue (ticket_ended past e) gone
+may_lose_destroyed s past e gone legal before are = by (ticket_ended past e) refl
   where
-    by : (o : Option Ticket) → ticket_ended past e ≡ o → MayTellGone o gone
+    by : (o : Option Ticket) → ticket_ended past e ≡ o → MayLoseQueue o gone
     by None h = tt
     by (Some t) h = may_lose s t.call gone are.many (unended_fit s past t before (ended_ready s past e t legal h).stands)

@@ -11,5 +11,5 @@ pub mod Counting
 pub mod Nexts
 pub mod Ends
 pub mod Firing
-pub mod Told
+pub mod Applied
 pub mod Appended

@@ -1,13 +1,5 @@
 -- What became active is listed one after the other.
-use Rattle.std.proofs.Common.{◌≡◌, ℕ, ◌+◌, ◌<◌, true, List, [], ◌∷◌, length, filter, drop, cond, get_or, subst, IsTrue}
-use Rattle.std.proofs.lemmas.List.{drop_more}
-use Rattle.cmwq_model.specs.declared.id.PoolId.{PoolId}
-use Rattle.cmwq_model.specs.declared.record.Queueing.{Queueing}
-use Rattle.cmwq_model.specs.declared.shape.QueueShape.{QueueShape}
-use Rattle.cmwq_model.specs.Prelude.{Layout, pool_at}
-use Rattle.cmwq_theory_steps.specs.Activations.{is_in}
-use Rattle.cmwq_pool.specs.PoolState.{PoolState, may_add, added}
-use Rattle.cmwq_refinement.specs.Pools.{MayAllBeAdded, task_for}
+use Rattle.cmwq_state.specs.Common.{◌≡◌, ℕ, ◌+◌, ◌<◌, true, List, [], ◌∷◌, length, filter, drop, cond, get_or, subst, IsTrue, drop_more, PoolId, Queueing, QueueShape, Layout, pool_at, is_in, PoolState, may_add, pool_with_task, MayAllBeAdded, task_for}
 use Rattle.cmwq_refinement.proofs.PoolSlots.{pool_itself}
 use Rattle.cmwq_state.specs.Tables.{only, those_in, pool_in, MayListOne, IsListable}
 
@@ -26,4 +18,4 @@ may_list queues pools xs i d inside there may =
 -- what may be listed is the same for a layout and for its queues alone
 pub may_all_same : (s : Layout) (xs : List Queueing) (l : PoolState) → MayAllBeAdded s xs l → MayAllBeAdded (only s.queues) xs l
 may_all_same s [] l may = tt
-may_all_same s (x ∷ xs) l may = (may.0, may_all_same s xs (added l (task_for s x)) may.1)
+may_all_same s (x ∷ xs) l may = (may.0, may_all_same s xs (pool_with_task l (task_for s x)) may.1)

@@ -1,22 +1,10 @@
 -- What a pool starts next is an item's unstarted queueing.
-use Rattle.std.proofs.Common.{◌≡◌, ◌<◌, List, Option, Some, None, refl, sym, ap, ◌∙◌, subst}
-use Rattle.std.specs.Prelude.{option_map}
-use Rattle.std.proofs.lemmas.Option.{same_Some}
-use Rattle.cmwq_model.specs.declared.id.PoolId.{PoolId}
-use Rattle.cmwq_model.specs.declared.entry.Entry.{Entry}
-use Rattle.cmwq_model.specs.declared.record.Queueing.{Queueing}
-use Rattle.cmwq_model.specs.Prelude.{Layout, unstarted, is_unstarted, still_open, next, IsLegal}
+use Rattle.cmwq_state.specs.Common.{◌≡◌, ◌<◌, List, Option, Some, None, refl, sym, ap, ◌∙◌, subst, option_map, same_Some, PoolId, Entry, Queueing, Layout, unstarted_queueing, is_unstarted, still_open, next, IsLegal, Task, next_task, task_for, pool_of, found, open_there, next_task_is}
 use Rattle.cmwq_theory_steps.proofs.Unstarted.{next_unstarted}
-use Rattle.cmwq_pool.specs.declared.task.Task.{Task}
-use Rattle.cmwq_pool.specs.PoolState.{next_task}
-use Rattle.cmwq_refinement.specs.Pools.{task_for, pool_of}
-use Rattle.cmwq_refinement.proofs.Members.{found}
-use Rattle.cmwq_refinement.proofs.PlacesFit.{open_there}
-use Rattle.cmwq_refinement.proofs.PoolNext.{next_task_is}
 
 pub record NextOpen (s : Layout) (past : List Entry) (p : PoolId) (t : Task) : Type 0 where
   pub item : t.item.0 < s.items
-  pub is : unstarted past t.item.0 ≡ next s past p
+  pub is : unstarted_queueing past t.item.0 ≡ next s past p
 
 pub next_open : (s : Layout) (past : List Entry) (p : PoolId) (t : Task) → IsLegal s past → next_task (pool_of s past p) ≡ Some t → NextOpen s past p t
 next_open s past p t legal h = by (next s past p) refl (sym (next_task_is s past p legal) ∙ h)
@@ -30,7 +18,7 @@ next_open s past p t legal h = by (next s past p) refl (sym (next_task_is s past
         let stands = (found (is_unstarted past x.item.0) (still_open past) x un).0 in
         record {
           item = subst (λ i. i < s.items) of_task (open_there s past x legal stands).item;
-          is = ap (unstarted past) (sym of_task) ∙ (un ∙ sym is);
+          is = ap (unstarted_queueing past) (sym of_task) ∙ (un ∙ sym is);
         }
 
 pub next_none : (s : Layout) (past : List Entry) (p : PoolId) → IsLegal s past → next_task (pool_of s past p) ≡ None → None ≡ next s past p

@@ -1,34 +1,11 @@
 -- What waits is behind the width, and what finishes doesn't wait.
-use Rattle.std.proofs.Common.{◌≡◌, ℕ, ◌+◌, ◌<◌, ◌≤◌, Bool, true, false, not, List, [], ◌∷◌, length, count_by, cond, max, min, Option, Some, None, is_some, refl, sym, ap, ◌∙◌, subst, arith, ⊎_elim}
-use Rattle.std.specs.Prelude.{IfSome, option_and_then}
-use Rattle.std.specs.List.{list_any}
-use Rattle.std.proofs.lemmas.Option.{same_Some}
-use Rattle.std.proofs.lemmas.Bool.{not-true}
-use Rattle.std.proofs.lemmas.List.Sums.{count_by-le-length}
-use Rattle.cmwq_model.specs.declared.id.Who.{Who}
-use Rattle.cmwq_model.specs.declared.reply.Reply.{Reply}
-use Rattle.cmwq_model.specs.declared.entry.Entry.{Entry}
-use Rattle.cmwq_model.specs.declared.record.Queueing.{Queueing}
-use Rattle.cmwq_model.specs.Prelude.{Layout, width, item_of, number_finished, queueings, still_open, opening, queueing_at, has_number, is_active, IsLegal}
+use Rattle.cmwq_state.specs.Common.{◌≡◌, ℕ, ◌+◌, ◌<◌, ◌≤◌, Bool, true, false, not, List, [], ◌∷◌, length, count_by, cond, max, min, Option, Some, None, is_some, refl, sym, ap, ◌∙◌, subst, arith, ⊎_elim, IfSome, option_and_then, list_any, same_Some, not-true, count_by-le-length, Who, Reply, Entry, Queueing, Layout, width, item_of, number_finished, queueings, still_open, opening, queueing_at, has_number, is_active, IsLegal, count_by-cons, queueing_run, ending, is_ended, is_on, open_on, active_count, waits, waiting, run_is_active, In, all_in, found, in_filter, filter_in, open_there, opened_are_there, PwqState, count_of_same_pwq, is_waiting, AreBehind, IsBehind, IsPlacedIf, on_itself, place_inside, ended_by, ends_as_told}
 use Rattle.cmwq_model.specs.declared.reply.Reply.TheVariants as reply
 use Rattle.cmwq_theory_active.specs.Looks.{keeps_widths}
-use Rattle.cmwq_theory_active.proofs.Lists.{count_by-cons}
 use Rattle.cmwq_theory_active.proofs.Widths.{width_same}
-use Rattle.cmwq_theory_steps.specs.ItemQueueings.{queueing_run}
-use Rattle.cmwq_theory_steps.specs.Endings.{ending, is_ended}
-use Rattle.cmwq_theory_steps.specs.Places.{is_on, open_on, active_count}
-use Rattle.cmwq_theory_steps.specs.Activations.{waits}
-use Rattle.cmwq_theory_steps.specs.Waiting.{waiting}
 use Rattle.cmwq_theory_steps.proofs.Active.{active_counted}
 use Rattle.cmwq_theory_steps.proofs.Fresh.{finishes_run}
-use Rattle.cmwq_theory_steps.proofs.RunsActive.{run_is_active}
-use Rattle.cmwq_refinement.proofs.Members.{In, all_in, found, in_filter, filter_in}
-use Rattle.cmwq_refinement.proofs.PlacesFit.{open_there, opened_are_there}
-use Rattle.cmwq_pwq.specs.Pwqs.{PwqState, count_of_same_pwq, is_waiting, AreBehind, IsBehind, IsPlacedIf}
-use Rattle.cmwq_pwq.proofs.Passes.{on_itself, place_inside}
 use Rattle.cmwq_state.specs.Pwqs.{ArePwqsOf}
-use Rattle.cmwq_theory_steps.specs.ItemQueueings.{ended_by}
-use Rattle.cmwq_theory_steps.proofs.EndsAsTold.{ends_as_told}
 use Rattle.cmwq_state.proofs.PwqsSteps.{waits_by_number}
 
 -- where one fails, fewer pass than there are
@@ -97,10 +74,10 @@ pub finished_waits_not : (s : Layout) (past : List Entry) (e : Entry) (l : PwqSt
 finished_waits_not s past e l legal before pwqs h = by (ending past e) refl (number_finished e.reply) refl h
   where
     by : (o : Option Queueing) → ending past e ≡ o → (m : Option ℕ) → number_finished e.reply ≡ m → is_some m ≡ true → IfSome o (λ x. is_waiting l x ≡ false)
-    by None is m told some = tt
-    by (Some x) is None told some = cc
-    by (Some x) is (Some n) told some =
-        ap (list_any (has_number x.number)) pwqs.waiting ∙ (waits_by_number s past x (ended_open s past e x is) ∙ ap not (finished_active s past e n x legal before told is))
+    by None is m finished some = tt
+    by (Some x) is None finished some = cc
+    by (Some x) is (Some n) finished some =
+        ap (list_any (has_number x.number)) pwqs.waiting ∙ (waits_by_number s past x (ended_open s past e x is) ∙ ap not (finished_active s past e n x legal before finished is))
 
 pub ended_placed : (s : Layout) (past : List Entry) (e : Entry) (o : Option Queueing) → IsLegal s past → s.cpus ≤ 4 → ending past e ≡ o → IsPlacedIf (length s.queues) o
 ended_placed s past e None before few is = tt

@@ -1,37 +1,15 @@
--- The pool workqueues that are told of an entry are those of the longer history.
-use Rattle.std.proofs.Common.{◌≡◌, ℕ, ◌+◌, ◌*◌, ◌-◌, ◌<◌, ◌≤◌, Bool, true, false, not, ◌&&◌, ◌||◌, ◌==◌, append-nil, ⊎_elim, inl, List, [], ◌∷◌, ◌++◌, length, filter, count_by, cond, Option, Some, None, option_to_list, refl, sym, ap, ap₂, ◌∙◌, subst, arith, nat_lt, length-append}
-use Rattle.std.specs.List.{AllByRecursion, list_any}
-use Rattle.std.specs.Prelude.{slice_set, if◌then◌else◌}
-use Rattle.std.proofs.lemmas.Bool.{eq-eqb, eqb-true, false_from_ne_true, not-true, not-false}
-use Rattle.std.proofs.lemmas.Option.{same_Some}
-use Rattle.std.specs.Option.{option_map_or}
-use Rattle.std.proofs.lemmas.List.Elements.{All-from_recursion}
+-- The pool workqueues to which an entry is applied are those of the longer history.
+use Rattle.cmwq_state.specs.Common.{◌≡◌, ℕ, ◌+◌, ◌*◌, ◌-◌, ◌<◌, ◌≤◌, Bool, true, false, not, ◌&&◌, ◌||◌, ◌==◌, append-nil, ⊎_elim, inl, List, [], ◌∷◌, ◌++◌, length, filter, count_by, cond, Option, Some, None, option_to_list, refl, sym, ap, ap₂, ◌∙◌, subst, arith, nat_lt, length-append, AllByRecursion, list_any, slice_set, if◌then◌else◌, eq-eqb, eqb-true, false_from_ne_true, not-true, not-false, same_Some, option_map_or, All-from_recursion, length-filter, count_by-le-length, length-set, Entry, Queueing, Layout, width, still_open, opening, has_number, is_below_max_active, is_active, newly_active, IsLegal, All_map, All_filter, one, is_on, active_count, survives, ending, waits, stay_count, waiting, candidates, has_none, ends_active_on, filter_same, candidates_are, newly_are, waiting_goes_on, number_of_queueing, open_there, In, of_in, all_in, in_right, in_filter, filter_in, PwqState, count_at, count_of_same_pwq, place_of, is_waiting, is_other_waiting, pwqs_without_open, pwqs_after_end, pwqs_after_opening, MayEndInPwqs, MayOpenInPwqs, AreBelowMaxActive, Passes, IsPlaced, ArePlaced, count_set, place_inside, on_itself, on_parts}
 use Rattle.std.proofs.lemmas.List.Folds.{list_any_none}
-use Rattle.std.proofs.lemmas.List.Sums.{length-filter, count_by-le-length}
-use Rattle.std.proofs.lemmas.List.{length-set}
-use Rattle.cmwq_model.specs.declared.entry.Entry.{Entry}
-use Rattle.cmwq_model.specs.declared.record.Queueing.{Queueing}
-use Rattle.cmwq_model.specs.Prelude.{Layout, width, still_open, opening, has_number, is_below_max_active, is_active, newly_active, IsLegal}
-use Rattle.cmwq_theory_active.proofs.Lists.{All_map, All_filter}
-use Rattle.cmwq_theory_steps.specs.Histories.{one}
-use Rattle.cmwq_theory_steps.specs.Places.{is_on, active_count}
-use Rattle.cmwq_theory_steps.specs.Endings.{survives, ending}
-use Rattle.cmwq_theory_steps.specs.Activations.{waits, stay_count}
-use Rattle.cmwq_theory_steps.specs.Waiting.{waiting, candidates, has_none, ends_active_on}
-use Rattle.cmwq_theory_steps.proofs.Filters.{filter_same}
-use Rattle.cmwq_theory_steps.proofs.Waiting.{candidates_are, newly_are, waiting_goes_on}
 use Rattle.cmwq_theory_steps.proofs.Way.{way_by_picked}
 use Rattle.cmwq_theory_steps.proofs.ActiveCounts.{stays_counted, active_count_goes_on}
 use Rattle.cmwq_theory_steps.proofs.Limits.{two_for_each_item}
-use Rattle.cmwq_refinement.specs.Told.{number_of_queueing}
 use Rattle.cmwq_refinement.specs.Places as places
-use Rattle.cmwq_refinement.proofs.PlacesFit.{open_there}
-use Rattle.cmwq_refinement.proofs.Members.{In, of_in, all_in, in_right, in_filter, filter_in}
-use Rattle.cmwq_refinement.proofs.Rising.{rises_unique}
+use Rattle.cmwq_lemmas.proofs.Rising.{rises_unique}
 use Rattle.cmwq_refinement.proofs.QueueingSteps.{QueueingStep, ends_one, ends_none, queueing_step, open_numbers_rise}
-use Rattle.cmwq_pwq.specs.Pwqs.{PwqState, count_at, count_of_same_pwq, place_of, is_waiting, is_other, ended, told_ended, told_opened, MayEnd, MayOpen, AreBelowMaxActive, Passes, IsPlaced, ArePlaced}
-use Rattle.cmwq_pwq.proofs.Passes.{count_set, place_inside, on_itself, on_parts}
 use Rattle.cmwq_state.specs.Pwqs.{ArePwqsOf}
+use Rattle.std.proofs.lemmas.Bool.{false≢true}
+use Rattle.cmwq_lemmas.proofs.Lists.{filter_all, filter_shorter}
 
 -- ---- lists
 
@@ -43,23 +21,13 @@ any_in p (y ∷ ys) x h k = ⊎_elim (λ e. ap (λ b. b || list_any p ys) (subst
     or_true true b h = refl
     or_true false b h = h
 
-filter_all : {X : Type 0} (p : X → Bool) (xs : List X) → AllByRecursion (λ x. p x ≡ true) xs → filter p xs ≡ xs
-filter_all p [] h = refl
-filter_all p (x ∷ xs) h = ap₂ (λ b ys. cond b (x ∷ ys) ys) h.0 (filter_all p xs h.1)
-
-fewer : {X : Type 0} (p : X → Bool) (xs : List X) → length (filter p xs) ≤ length xs
-fewer p xs = let h = length-filter p xs in let k = count_by-le-length p xs in omega arith
-
-differ : false ≡ true → ⊥
-differ h = cc
-
 -- ---- what waits has this number where it is this one
 
 other_number : (s : Layout) (past : List Entry) (x y : Queueing) → In x (still_open past) → waits s past x ≡ false → In y (waiting s past) → (y.number == x.number) ≡ false
 other_number s past x y here fails there = false_from_ne_true (y.number == x.number) (λ same.
     let k = in_filter (waits s past) (still_open past) y there in
     let is = rises_unique number_of_queueing (still_open past) y x (open_numbers_rise past) k.0 here (eqb-true y.number x.number same) in
-    differ (sym fails ∙ (sym (ap (waits s past) is) ∙ k.1)))
+    false≢true (sym fails ∙ (sym (ap (waits s past) is) ∙ k.1)))
 
 pub waits_by_number : (s : Layout) (past : List Entry) (x : Queueing) → In x (still_open past) → list_any (has_number x.number) (waiting s past) ≡ waits s past x
 waits_by_number s past x here = by (waits s past x) refl
@@ -103,11 +71,11 @@ module _ (s : Layout) (past : List Entry) (e : Entry) (legal : IsLegal s (e ∷ 
   stays_one q c x is = ap (λ o. stay_count s past e q c + one (option_map_or (λ (y : Queueing). is_on q c y && is_active s past y) o false)) (sym is) ∙ stays_counted s past e legal q c
 
   ended_waiting : (l : PwqState) (x : Queueing) → ArePwqsOf s past l → ending past e ≡ Some x → AllByRecursion (λ y. survives past e y ≡ not (y.number == x.number)) (still_open past) → waits s past x ≡ true →
-      IsMid s past e (record l { waiting = filter (is_other x.number) l.waiting })
+      IsMid s past e (record l { waiting = filter (is_other_waiting x.number) l.waiting })
   ended_waiting l x are is survivors stays = record {
     room = are.room;
     many = are.many;
-    waiting = ap (filter (is_other x.number)) are.waiting ∙ filter_same (is_other x.number) (survives past e) (waiting s past) (among_waiting (λ y. is_other x.number y ≡ survives past e y) s past (All_map _ _ (still_open past) (λ y h. sym h) survivors));
+    waiting = ap (filter (is_other_waiting x.number)) are.waiting ∙ filter_same (is_other_waiting x.number) (survives past e) (waiting s past) (among_waiting (λ y. is_other_waiting x.number y ≡ survives past e y) s past (All_map _ _ (still_open past) (λ y h. sym h) survivors));
     counts = λ q c here less.
         let counted = stays_one q c x is in
         let inactive : is_active s past x ≡ false = not-true (is_active s past x) stays in
@@ -120,7 +88,7 @@ module _ (s : Layout) (past : List Entry) (e : Entry) (legal : IsLegal s (e ∷ 
       none true = refl
       none false = refl
 
-  ended_active : (l : PwqState) (x : Queueing) → ArePwqsOf s past l → ending past e ≡ Some x → In x (still_open past) → places.IsThere s x → AllByRecursion (λ y. survives past e y ≡ not (y.number == x.number)) (still_open past) → waits s past x ≡ false →
+  ended_active : (l : PwqState) (x : Queueing) → ArePwqsOf s past l → ending past e ≡ Some x → In x (still_open past) → places.IsQueueingThere s x → AllByRecursion (λ y. survives past e y ≡ not (y.number == x.number)) (still_open past) → waits s past x ≡ false →
       IsMid s past e (record l { counts = slice_set l.counts (place_of x.place.queue.0 x.place.cpu.0) (count_of_same_pwq l.counts x - 1) })
   ended_active l x are is here there survivors fails = record {
     room = are.room;
@@ -153,7 +121,7 @@ module _ (s : Layout) (past : List Entry) (e : Entry) (legal : IsLegal s (e ∷ 
           let was = are.counts q c inside less in let step = counted q c true on in omega arith
       by q c inside less false on = let was = are.counts q c inside less in let step = counted q c false on in omega arith
 
-  pwqs_ended_as : (l : PwqState) → ArePwqsOf s past l → IsLegal s past → QueueingStep past e → (o : Option Queueing) → ending past e ≡ o → IsMid s past e (told_ended o l) × MayEnd o l
+  pwqs_ended_as : (l : PwqState) → ArePwqsOf s past l → IsLegal s past → QueueingStep past e → (o : Option Queueing) → ending past e ≡ o → IsMid s past e (pwqs_after_end o l) × MayEndInPwqs o l
   pwqs_ended_as l are before (ends_none is survivors) None same = (
     record {
       room = are.room;
@@ -169,7 +137,7 @@ module _ (s : Layout) (past : List Entry) (e : Entry) (legal : IsLegal s (e ∷ 
       let it : y ≡ x = same_Some y x (sym is ∙ same) in
       found x same (subst (λ z. In z (still_open past)) it here) (subst (λ z. AllByRecursion (λ v. survives past e v ≡ not (v.number == z.number)) (still_open past)) it survivors)
     where
-      found : (x : Queueing) → ending past e ≡ Some x → In x (still_open past) → AllByRecursion (λ v. survives past e v ≡ not (v.number == x.number)) (still_open past) → IsMid s past e (ended l x) × MayEnd (Some x) l
+      found : (x : Queueing) → ending past e ≡ Some x → In x (still_open past) → AllByRecursion (λ v. survives past e v ≡ not (v.number == x.number)) (still_open past) → IsMid s past e (pwqs_without_open l x) × MayEndInPwqs (Some x) l
       found x is here survivors =
           let there = open_there s past x before here in
           let cpu : x.place.cpu.0 < 4 = let h = there.cpu in omega arith in
@@ -177,11 +145,11 @@ module _ (s : Layout) (past : List Entry) (e : Entry) (legal : IsLegal s (e ∷ 
           let at = place_inside x.place.queue.0 x.place.cpu.0 (length s.queues) (length l.counts) there.queue cpu are.many in
           (by (waits s past x) refl there waits_as, (at, λ fails. positive there cpu (sym waits_as ∙ fails)))
         where
-          by : (b : Bool) → waits s past x ≡ b → places.IsThere s x → is_waiting l x ≡ waits s past x → IsMid s past e (ended l x)
-          by true stays there waits_as = subst (λ b. IsMid s past e (if b then record l { waiting = filter (is_other x.number) l.waiting } else record l { counts = slice_set l.counts (place_of x.place.queue.0 x.place.cpu.0) (count_of_same_pwq l.counts x - 1) })) (sym (waits_as ∙ stays)) (ended_waiting l x are is survivors stays)
-          by false fails there waits_as = subst (λ b. IsMid s past e (if b then record l { waiting = filter (is_other x.number) l.waiting } else record l { counts = slice_set l.counts (place_of x.place.queue.0 x.place.cpu.0) (count_of_same_pwq l.counts x - 1) })) (sym (waits_as ∙ fails)) (ended_active l x are is here there survivors fails)
+          by : (b : Bool) → waits s past x ≡ b → places.IsQueueingThere s x → is_waiting l x ≡ waits s past x → IsMid s past e (pwqs_without_open l x)
+          by true stays there waits_as = subst (λ b. IsMid s past e (if b then record l { waiting = filter (is_other_waiting x.number) l.waiting } else record l { counts = slice_set l.counts (place_of x.place.queue.0 x.place.cpu.0) (count_of_same_pwq l.counts x - 1) })) (sym (waits_as ∙ stays)) (ended_waiting l x are is survivors stays)
+          by false fails there waits_as = subst (λ b. IsMid s past e (if b then record l { waiting = filter (is_other_waiting x.number) l.waiting } else record l { counts = slice_set l.counts (place_of x.place.queue.0 x.place.cpu.0) (count_of_same_pwq l.counts x - 1) })) (sym (waits_as ∙ fails)) (ended_active l x are is here there survivors fails)
 
-          positive : places.IsThere s x → x.place.cpu.0 < 4 → waits s past x ≡ false → 0 < count_of_same_pwq l.counts x
+          positive : places.IsQueueingThere s x → x.place.cpu.0 < 4 → waits s past x ≡ false → 0 < count_of_same_pwq l.counts x
           positive there cpu fails =
               let active : is_active s past x ≡ true = not-false (is_active s past x) fails in
               let on = on_itself x.place.queue.0 x.place.cpu.0 x refl refl in
@@ -190,12 +158,12 @@ module _ (s : Layout) (past : List Entry) (e : Entry) (legal : IsLegal s (e ∷ 
               let was = are.counts x.place.queue.0 x.place.cpu.0 there.queue cpu in
               omega arith
 
-  pub pwqs_ended : (l : PwqState) → ArePwqsOf s past l → IsLegal s past → IsMid s past e (told_ended (ending past e) l) × MayEnd (ending past e) l
+  pub pwqs_ended : (l : PwqState) → ArePwqsOf s past l → IsLegal s past → IsMid s past e (pwqs_after_end (ending past e) l) × MayEndInPwqs (ending past e) l
   pwqs_ended l are before = pwqs_ended_as l are before (queueing_step s past e legal) (ending past e) refl
 
   -- ---- after what is opened: the candidates
 
-  pwqs_opened_as : (l : PwqState) → IsMid s past e l → (o : Option Queueing) → opening past e ≡ o → IsReadyToPass s past e (told_opened o l) × MayOpen o l
+  pwqs_opened_as : (l : PwqState) → IsMid s past e l → (o : Option Queueing) → opening past e ≡ o → IsReadyToPass s past e (pwqs_after_opening o l) × MayOpenInPwqs o l
   pwqs_opened_as l mid None is = (
     record {
       room = mid.room;
@@ -210,18 +178,18 @@ module _ (s : Layout) (past : List Entry) (e : Entry) (legal : IsLegal s (e ∷ 
         record { room = mid.room; many = mid.many; waiting = all; counts = mid.counts },
         (let more : length (l.waiting ++ x ∷ []) ≡ length l.waiting + 1 = length-append l.waiting (x ∷ []) in
             let same : length (l.waiting ++ x ∷ []) ≡ length (candidates s past e) = ap length all in
-            let fewer_open = fewer (waits s past) (still_open (e ∷ past)) in
+            let fewer_open = filter_shorter (waits s past) (still_open (e ∷ past)) in
             let two = two_for_each_item s (e ∷ past) legal in
             let room = mid.room in
             omega arith),
       )
 
-  pub pwqs_opened : (l : PwqState) → IsMid s past e l → IsReadyToPass s past e (told_opened (opening past e) l) × MayOpen (opening past e) l
+  pub pwqs_opened : (l : PwqState) → IsMid s past e l → IsReadyToPass s past e (pwqs_after_opening (opening past e) l) × MayOpenInPwqs (opening past e) l
   pwqs_opened l mid = pwqs_opened_as l mid (opening past e) refl
 
   -- ---- after the pass: the pwqs of the longer history
 
-  candidate_there : (x : Queueing) → In x (candidates s past e) → places.IsThere s x
+  candidate_there : (x : Queueing) → In x (candidates s past e) → places.IsQueueingThere s x
   candidate_there x h = open_there s (e ∷ past) x legal (in_filter (waits s past) (still_open (e ∷ past)) x h).0
 
   candidate_placed : (x : Queueing) → In x (candidates s past e) → IsPlaced (length s.queues) x

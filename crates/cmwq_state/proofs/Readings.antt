@@ -1,43 +1,12 @@
 -- What a book reads off its parts is what the definitions say.
-use Rattle.std.proofs.Common.{◌≡◌, ℕ, ◌<◌, ◌≤◌, Bool, true, false, not, ◌&&◌, ◌||◌, ◌==◌, List, [], ◌∷◌, length, map, find, cond, Option, Some, None, is_some, refl, sym, ap, ap₂, ◌∙◌, subst, arith, nat_lt, nat_le}
-use Rattle.std.specs.Option.{option_map_or}
-use Rattle.std.specs.Prelude.{option_and_then, option_map}
+use Rattle.cmwq_state.specs.Common.{◌≡◌, ℕ, ◌<◌, ◌≤◌, Bool, true, false, not, ◌&&◌, ◌||◌, ◌==◌, List, [], ◌∷◌, length, map, find, cond, Option, Some, None, is_some, refl, sym, ap, ap₂, ◌∙◌, subst, arith, nat_lt, nat_le, option_map_or, option_and_then, option_map, Who, Worker, Entry, Queueing, Booking, Start, Layout, is_at, item_at, booking, run, item_run, unstarted_queueing, queueing_at, queue_of, runs_elsewhere, still_open, is_item_open, is_of, IsLegal, is_draining, queueings, is_live, has_number, unended_tickets, ticket_of, is_ticket, is_crowded, is_held_by, queueing_run, runs_are_queueings, in_standing, standing_fits, timer_row, timer_for, zero, suc, filter, ◌++◌, option_to_list, get_or, IsTrue, ◌↔◌, lt-ltb, le-ltb, get_or_default, FlushBook, draining_while_drains_stand, same_Some, AllByRecursion, count_by-none, none_found, found_known, found_number, runs_are_items, Task, number_of_queueing, task_for, run_task, found, filter_in, open_there, Flight, flight_at, flight_of, flights_of, flights_for_items}
 use Rattle.cmwq_model.specs.declared.id.WorkerId.{WorkerId}
-use Rattle.cmwq_model.specs.declared.id.Who.{Who}
-use Rattle.cmwq_model.specs.declared.id.Who.TheVariants.{Worker}
-use Rattle.cmwq_model.specs.declared.entry.Entry.{Entry}
-use Rattle.cmwq_model.specs.declared.record.Queueing.{Queueing}
-use Rattle.cmwq_model.specs.declared.record.Booking.{Booking}
-use Rattle.cmwq_model.specs.declared.record.Start.{Start}
-use Rattle.cmwq_model.specs.Prelude.{Layout, is_at, item_at, booking, run, item_run, unstarted, queueing_at, queue_of, runs_elsewhere, still_open, is_item_open, is_of, IsLegal}
-use Rattle.cmwq_model.specs.Prelude.{is_draining, queueings, is_live, has_number, unended, ticket_of, is_ticket, is_crowded, is_held_by}
-use Rattle.cmwq_theory_steps.specs.ItemQueueings.{queueing_run}
-use Rattle.cmwq_theory_steps.proofs.EndsAsTold.{runs_are_queueings}
 use Rattle.cmwq_timer.specs.declared.timer.Timer.{Timer}
-use Rattle.cmwq_refinement.proofs.FirstDue.{in_standing, standing_fits}
-use Rattle.cmwq_refinement.specs.Timers.{row_of, timer_for}
-use Rattle.std.proofs.Common.{zero, suc, filter, ◌++◌, option_to_list, get_or, IsTrue, ◌↔◌}
-use Rattle.std.proofs.lemmas.Bool.{lt-ltb, le-ltb}
-use Rattle.std.proofs.lemmas.List.{get_or_default}
-use Rattle.cmwq_flush.specs.FlushBook.{FlushBook}
-use Rattle.cmwq_refinement.proofs.FlushReads.{draining_while_drains_stand}
 use Rattle.cmwq_state.specs.Tables.{AreBooks, book_in, no_book}
-use Rattle.std.proofs.lemmas.Option.{same_Some}
-use Rattle.std.specs.List.{AllByRecursion}
-use Rattle.cmwq_theory_active.proofs.Lists.{count_by-none}
-use Rattle.cmwq_theory_steps.proofs.Filters.{none_found}
-use Rattle.cmwq_theory_steps.proofs.RunsActive.{found_known, found_number}
-use Rattle.cmwq_theory_steps.proofs.ItemRuns.{runs_are_items}
-use Rattle.cmwq_pool.specs.declared.task.Task.{Task}
-use Rattle.cmwq_refinement.specs.Told.{number_of_queueing}
-use Rattle.cmwq_refinement.specs.Pools.{task_for, run_task}
 use Rattle.cmwq_refinement.proofs.ItemNumbers.{run_then_unstarted}
-use Rattle.cmwq_refinement.proofs.Members.{found, filter_in}
-use Rattle.cmwq_refinement.proofs.PlacesFit.{open_there}
-use Rattle.cmwq_inflight.specs.Flights.{Flight, flight_at}
-use Rattle.cmwq_refinement.specs.Flights.{flight_of, flights_of}
-use Rattle.cmwq_refinement.proofs.FlightRefine.{flights_for_items, row_of as flight_row}
+use Rattle.cmwq_refinement.proofs.FlightRefine.{row_of as flight_row}
 use Rattle.cmwq_state.specs.Flights.{run_open}
+use Rattle.cmwq_lemmas.proofs.Truth.{and_false}
 
 pub some_mapped : {X Y : Type 0} (f : X → Y) (o : Option X) → is_some (option_map f o) ≡ is_some o
 some_mapped f None = refl
@@ -68,15 +37,11 @@ never : {X : Type 0} (p : X → Bool) (xs : List X) → ((x : X) → p x ≡ fal
 never p [] h = tt
 never p (x ∷ xs) h = (h x, never p xs h)
 
-and_false : (b : Bool) → (b && false) ≡ false
-and_false true = refl
-and_false false = refl
-
 pub no_ticket : (past : List Entry) {who : Who} {w : WorkerId} (n : ℕ) → who ≡ Worker w → None ≡ ticket_of past who n
-no_ticket past {who} {w} n h = rw h (sym (none_found (is_ticket (Worker w) n) (unended past) (never (is_ticket (Worker w) n) (unended past) (λ t. and_false (t.number == n)))))
+no_ticket past {who} {w} n h = rw h (sym (none_found (is_ticket (Worker w) n) (unended_tickets past) (never (is_ticket (Worker w) n) (unended_tickets past) (λ t. and_false (t.number == n)))))
 
 pub not_crowded : (past : List Entry) {who : Who} {w : WorkerId} → who ≡ Worker w → false ≡ is_crowded past who
-not_crowded past {who} {w} h = rw h (sym (ap (nat_le 64) (count_by-none (is_held_by (Worker w)) (unended past) (never (is_held_by (Worker w)) (unended past) (λ t. refl)))))
+not_crowded past {who} {w} h = rw h (sym (ap (nat_le 64) (count_by-none (is_held_by (Worker w)) (unended_tickets past) (never (is_held_by (Worker w)) (unended_tickets past) (λ t. refl)))))
 
 -- ---- an item is open where it runs or has an unstarted queueing
 
@@ -104,10 +69,10 @@ run_some s past i legal = by (item_run past i) refl
     by None h = refl
     by (Some t) h = let r = runs_are_queueings s past legal i t h in ap is_some r.found
 
-pub open_as : (s : Layout) (past : List Entry) (i : ℕ) → IsLegal s past → (is_some (run_open past i) || is_some (unstarted past i)) ≡ is_item_open past i
+pub open_as : (s : Layout) (past : List Entry) (i : ℕ) → IsLegal s past → (is_some (run_open past i) || is_some (unstarted_queueing past i)) ≡ is_item_open past i
 open_as s past i legal =
-    ap₂ (λ a b. a || b) (run_some s past i legal) (sym (some_mapped number_of_queueing (unstarted past i)))
-    ∙ (sym (either_any (option_map (λ (t : Start). t.number) (item_run past i)) (option_map number_of_queueing (unstarted past i))) ∙ (ap has_any (sym (run_then_unstarted s past i legal)) ∙ sym (found_any (is_of i) (still_open past))))
+    ap₂ (λ a b. a || b) (run_some s past i legal) (sym (some_mapped number_of_queueing (unstarted_queueing past i)))
+    ∙ (sym (either_any (option_map (λ (t : Start). t.number) (item_run past i)) (option_map number_of_queueing (unstarted_queueing past i))) ∙ (ap has_any (sym (run_then_unstarted s past i legal)) ∙ sym (found_any (is_of i) (still_open past))))
 
 -- ---- what a worker's slot runs
 
@@ -158,7 +123,7 @@ draining_read s past books q i v r are here at found test =
 
 -- ---- bookings
 
-pub timer_there : (s : Layout) (past : List Entry) (i : ℕ) (t : Timer) → IsLegal s past → row_of past i ≡ Some t → t.place.queue.0 < length s.queues
+pub timer_there : (s : Layout) (past : List Entry) (i : ℕ) (t : Timer) → IsLegal s past → timer_row past i ≡ Some t → t.place.queue.0 < length s.queues
 timer_there s past i t legal h = by (booking past i) refl h
   where
     by : (o : Option Booking) → booking past i ≡ o → option_map timer_for o ≡ Some t → t.place.queue.0 < length s.queues

@@ -1,27 +1,11 @@
--- The parts that are told of one more entry are those of the longer history.
-use Rattle.std.proofs.Common.{◌≡◌, ◌≢◌, ℕ, ◌+◌, ◌*◌, ◌<◌, ◌≤◌, Bool, true, false, List, ◌∷◌, length, refl, sym, ap, ◌∙◌, arith, get_or}
-use Rattle.std.specs.Prelude.{slice_set, slice_index_or, if◌then◌else◌}
-use Rattle.std.proofs.lemmas.List.{get_or-set_other, get_or_default, length-set}
+-- The parts to which one more entry is applied are those of the longer history.
+use Rattle.cmwq_state.specs.Common.{◌≡◌, ◌≢◌, ℕ, ◌+◌, ◌*◌, ◌<◌, ◌≤◌, Bool, true, false, List, ◌∷◌, length, refl, sym, ap, ◌∙◌, arith, get_or, slice_set, slice_index_or, if◌then◌else◌, get_or-set_other, get_or_default, length-set, PoolId, Who, Caller, Worker, Entry, Layout, same_who, serial_of, PoolState, serials_go_on, same_worker-true, one}
 use Rattle.std.proofs.lemmas.Grind.{common_steps, get_or-set_at}
-use Rattle.cmwq_model.specs.declared.id.PoolId.{PoolId}
-use Rattle.cmwq_model.specs.declared.id.Who.{Who}
-use Rattle.cmwq_model.specs.declared.id.Who.TheVariants.{Caller, Worker}
-use Rattle.cmwq_model.specs.declared.entry.Entry.{Entry}
-use Rattle.cmwq_model.specs.Prelude.{Layout, same_who, serial_of}
-use Rattle.cmwq_pool.specs.PoolState.{PoolState}
-use Rattle.cmwq_theory_steps.proofs.StateSteps.{serials_go_on}
-use Rattle.cmwq_theory_steps.proofs.ItemRuns.{same_worker-true}
-use Rattle.cmwq_theory_steps.specs.Histories.{one}
 use Rattle.cmwq_refinement.specs.Pools as pools
 use Rattle.cmwq_state.specs.Tables.{IsThere, who_place, pool_place, no_pool, ArePools, AreSerials}
+use Rattle.cmwq_theory_laws.proofs.OneEntry.{same_who-true}
 
 -- ---- serials
-
-pub same_who_is : (a b : Who) → same_who a b ≡ true → a ≡ b
-same_who_is (Caller c) (Caller d) h = grind (arith, common_steps, h)
-same_who_is (Caller c) (Worker v) h = cc
-same_who_is (Worker w) (Caller d) h = cc
-same_who_is (Worker w) (Worker v) h = ap Worker (same_worker-true w v h)
 
 pub who_below : (s : Layout) (a : Who) → IsThere s a → s.cpus ≤ 4 → s.workers ≤ 8 → s.callers ≤ 64 → who_place a < 128
 who_below s (Caller c) f h k m = omega arith
@@ -46,11 +30,11 @@ pub record IsSmall (s : Layout) : Type 0 where
   pub workers : s.workers ≤ 8
   pub callers : s.callers ≤ 64
 
-pub serials_told : (s : Layout) (e : Entry) (past : List Entry) (serials : List ℕ) → IsSmall s → IsThere s e.who → AreSerials s past serials →
+pub serials_applied : (s : Layout) (e : Entry) (past : List Entry) (serials : List ℕ) → IsSmall s → IsThere s e.who → AreSerials s past serials →
     AreSerials s (e ∷ past) (slice_set serials (who_place e.who) (serial_of past e.who + 1))
-serials_told s e past serials small fit are = record { many = length-set serials _ _ ∙ are.many; each = λ who fits. by_who who fits (same_who e.who who) refl } where
+serials_applied s e past serials small fit are = record { many = length-set serials _ _ ∙ are.many; each = λ who fits. by_who who fits (same_who e.who who) refl } where
   by_who : (who : Who) → IsThere s who → (b : Bool) → same_who e.who who ≡ b → slice_index_or (slice_set serials (who_place e.who) (serial_of past e.who + 1)) (who_place who) 0 ≡ serial_of (e ∷ past) who
-  by_who who fits true h = let same : e.who ≡ who = same_who_is e.who who h in
+  by_who who fits true h = let same : e.who ≡ who = same_who-true e.who who h in
       let inside : who_place e.who < length serials = let below = who_below s e.who fit small.cpus small.workers small.callers in rw are.many below in
       let more : serial_of (e ∷ past) who ≡ one true + serial_of past who = serials_go_on past e who ∙ ap (λ b. one b + serial_of past who) h in
       get_or-set_at serials (who_place e.who) (who_place who) (serial_of past e.who + 1) 0 (ap who_place (sym same)) inside ∙ (ap (λ x. serial_of past x + 1) same ∙ (let flip : serial_of past who + 1 ≡ 1 + serial_of past who = omega arith in flip ∙ sym more))

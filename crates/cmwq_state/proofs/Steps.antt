@@ -1,20 +1,8 @@
 -- A book, one entry further on.
-use Rattle.std.proofs.Common.{◌≡◌, ◌≤◌, true, List, [], ◌∷◌, ◌++◌, length, refl}
-use Rattle.std.proofs.lemmas.List.{reverse-append}
-use Rattle.std.proofs.lemmas.List.Sums.{count_by-le-length}
-use Rattle.std.proofs.lemmas.Bool.{and_parts, leb-true, ltb-true}
-use Rattle.cmwq_model.specs.declared.id.Who.{Who}
-use Rattle.cmwq_model.specs.declared.id.Who.TheVariants.{Caller, Worker}
-use Rattle.cmwq_model.specs.declared.call.Call.{Call}
-use Rattle.cmwq_model.specs.declared.entry.Entry.{Entry}
-use Rattle.cmwq_model.specs.Prelude.{Layout, is_layout, fits, is_by, serial_of, IsLegal, past_of, entry_for}
-use Rattle.cmwq_pool.specs.PoolState.{PoolState}
-use Rattle.cmwq_refinement.proofs.PoolMay.{workers_may_be_told}
-use Rattle.cmwq_state.specs.Tables.{IsThere, ArePools, MayTellWorker}
+use Rattle.cmwq_state.specs.Common.{◌≡◌, ◌≤◌, true, List, [], ◌∷◌, ◌++◌, length, refl, reverse-append, count_by-le-length, and_parts, leb-true, ltb-true, Who, Caller, Worker, Call, Entry, Layout, is_layout, fits, is_by, serial_of, IsLegal, past_of, entry_for, PoolState}
+use Rattle.cmwq_refinement.proofs.PoolMay.{replies_apply_to_pools}
+use Rattle.cmwq_state.specs.Tables.{IsThere, ArePools, MayReplyToWorker}
 use Rattle.cmwq_state.proofs.Refine.{IsSmall, pool_place_inside}
-
-pub past_more : (entries : List Entry) (e : Entry) → past_of (entries ++ e ∷ []) ≡ e ∷ past_of entries
-past_more entries e = reverse-append entries (e ∷ [])
 
 pub small : (s : Layout) → is_layout s ≡ true → IsSmall s
 small s h =
@@ -39,15 +27,12 @@ pub next_legal : (s : Layout) (past : List Entry) (who : Who) (c : Call) → IsL
 unfolding IsLegal
 next_legal s past who c legal fit = (fit, refl, legal)
 
-pub serial_most : (past : List Entry) (who : Who) → serial_of past who ≤ length past
-serial_most past who = count_by-le-length (is_by who) past
-
--- what the pools are told may be told
-pub may_tell : (s : Layout) (past : List Entry) (e : Entry) (pools : List PoolState) → IsLegal s (e ∷ past) → IsThere s e.who → ArePools s past pools → MayTellWorker e.who e.reply pools
-may_tell s past e pools legal there are = by e.who refl there where
-  by : (who : Who) → e.who ≡ who → IsThere s who → MayTellWorker who e.reply pools
+-- what a reply applies to the pools may be applied
+pub may_apply : (s : Layout) (past : List Entry) (e : Entry) (pools : List PoolState) → IsLegal s (e ∷ past) → IsThere s e.who → ArePools s past pools → MayReplyToWorker e.who e.reply pools
+may_apply s past e pools legal there are = by e.who refl there where
+  by : (who : Who) → e.who ≡ who → IsThere s who → MayReplyToWorker who e.reply pools
   by (Caller c) is here = tt
   by (Worker w) is here = (
     pool_place_inside w.pool s.cpus (length pools) are.many here.0,
-    rw (are.each w.pool here.0) (workers_may_be_told s past e w legal is),
+    rw (are.each w.pool here.0) (replies_apply_to_pools s past e w legal is),
   )

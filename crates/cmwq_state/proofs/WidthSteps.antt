@@ -1,19 +1,12 @@
--- The widths that are told of an entry are those of the longer history.
-use Rattle.std.proofs.Common.{◌≡◌, ℕ, ◌<◌, Bool, List, [], ◌∷◌, length, map, false, refl, ap, ap₂, ◌∙◌}
-use Rattle.std.specs.Prelude.{if◌then◌else◌, ◌&&◌}
-use Rattle.std.specs.Option.{option_map_or}
-use Rattle.std.proofs.lemmas.List.{length-map, get_or-map}
-use Rattle.cmwq_model.specs.declared.entry.Entry.{Entry}
-use Rattle.cmwq_model.specs.declared.shape.QueueShape.{QueueShape}
-use Rattle.cmwq_model.specs.Prelude.{Layout, no_queue, queue_at, max_active, is_frozen, frozen_after, width, width_set}
-use Rattle.cmwq_pwq.specs.Pwqs.{width_by}
-use Rattle.cmwq_state.specs.Widths.{AreWidths, TellWidth}
+-- The widths to which an entry is applied are those of the longer history.
+use Rattle.cmwq_state.specs.Common.{◌≡◌, ℕ, ◌<◌, Bool, List, [], ◌∷◌, length, map, false, refl, ap, ap₂, ◌∙◌, if◌then◌else◌, ◌&&◌, option_map_or, length-map, get_or-map, Entry, QueueShape, Layout, no_queue, queue_at, max_active, is_frozen, frozen_after, width, width_set, width_by}
+use Rattle.cmwq_state.specs.Widths.{AreWidths, SetsWidth}
 
-pub told_widths : (s : Layout) (past : List Entry) (e : Entry) (old new : List ℕ) (frozen : Bool) → AreWidths s past old frozen → TellWidth e.call e.reply old new → AreWidths s (e ∷ past) new (frozen_after e.reply frozen)
+pub widths_applied : (s : Layout) (past : List Entry) (e : Entry) (old new : List ℕ) (frozen : Bool) → AreWidths s past old frozen → SetsWidth e.call e.reply old new → AreWidths s (e ∷ past) new (frozen_after e.reply frozen)
 unfolding max_active is_frozen
-told_widths s past e old new frozen are told = record {
-  many = told.many ∙ are.many;
-  each = λ q here. told.each q ∙ ap (option_map_or (λ (n : ℕ). n) (width_set e q)) (are.each q here);
+widths_applied s past e old new frozen are applied = record {
+  many = applied.many ∙ are.many;
+  each = λ q here. applied.each q ∙ ap (option_map_or (λ (n : ℕ). n) (width_set e q)) (are.each q here);
   frozen = ap (frozen_after e.reply) are.frozen;
 }
 

@@ -1,17 +1,6 @@
 -- What an entry does, as it is applied to the parts.
-use Rattle.std.specs.Prelude.{◌≡◌, ℕ, ◌<◌, true, if◌then◌else◌, List, ◌∷◌, length, Option, Some, None}
-use Rattle.cmwq_model.specs.declared.id.ItemId.{ItemId}
-use Rattle.cmwq_model.specs.declared.entry.Entry.{Entry}
-use Rattle.cmwq_model.specs.Prelude.{Layout, is_layout, item_of, settles, booking_of, opening, IsLegal, owed}
-use Rattle.cmwq_theory_steps.specs.Endings.{ending}
-use Rattle.cmwq_theory_steps.specs.TicketSteps.{ticket_ended}
-use Rattle.cmwq_refinement.specs.Told.{ticket_given}
-use Rattle.cmwq_refinement.specs.Flights.{starting}
+use Rattle.cmwq_state.specs.Common.{◌≡◌, ℕ, ◌<◌, true, if◌then◌else◌, List, ◌∷◌, length, Option, None, Entry, Layout, is_layout, item_of, item_number, settles, booking_of, opening, IsLegal, owed, ending, ticket_ended, ticket_given, starting}
 use Rattle.cmwq_state.specs.declared.effect.Effect.{Effect}
-
-abbrev pub item_number : Option ItemId → Option ℕ
-item_number None = None
-item_number (Some i) = Some i.0
 
 abbrev pub settled_by : Entry → Option ℕ
 settled_by e = if settles e.reply then item_of e else None

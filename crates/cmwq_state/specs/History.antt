@@ -1,8 +1,5 @@
 -- What callers see of a state: its history, with the shape and the room.
-use Rattle.std.specs.Prelude.{ℕ, Bool, ◌==◌, List, [], ◌∷◌, ◌++◌}
-use Rattle.cmwq_model.specs.declared.entry.Entry.{Entry}
-use Rattle.cmwq_model.specs.declared.record.Ticket.{Ticket}
-use Rattle.cmwq_model.specs.Prelude.{Layout, past_of}
+use Rattle.cmwq_state.specs.Common.{ℕ, Bool, ◌==◌, List, [], ◌∷◌, ◌++◌, Entry, Ticket, Layout, past_of}
 
 -- the entries stand with the oldest first
 pub record History : Type 0 where
@@ -17,5 +14,5 @@ abbrev pub with_entry : History → Entry → History
 with_entry h e = record h { entries = h.entries ++ e ∷ [] }
 
 -- a ticket has this number
-abbrev pub has_number : ℕ → Ticket → Bool
-has_number n t = t.number == n
+abbrev pub ticket_has_number : ℕ → Ticket → Bool
+ticket_has_number n t = t.number == n

@@ -1,17 +1,5 @@
 -- What the parts of a state are of the past.
-use Rattle.std.specs.Prelude.{◌≡◌, ℕ, ◌+◌, ◌≤◌, true, Bool, List, length}
-use Rattle.cmwq_model.specs.declared.entry.Entry.{Entry}
-use Rattle.cmwq_model.specs.declared.record.Ticket.{Ticket}
-use Rattle.cmwq_model.specs.Prelude.{Layout, is_layout, most_room, now, IsLegal, past_of, owed, most_time}
-use Rattle.cmwq_pool.specs.PoolState.{PoolState}
-use Rattle.cmwq_flush.specs.FlushBook.{FlushBook}
-use Rattle.cmwq_flush.specs.BarrierBook.{BarrierBook}
-use Rattle.cmwq_timer.specs.Rows.{Rows}
-use Rattle.cmwq_refinement.specs.BarrierBooks.{barriers_of}
-use Rattle.cmwq_refinement.specs.Timers.{timers_of}
-use Rattle.cmwq_pwq.specs.Pwqs.{PwqState}
-use Rattle.cmwq_inflight.specs.Flights.{Flight}
-use Rattle.cmwq_refinement.specs.Flights.{flights_of}
+use Rattle.cmwq_state.specs.Common.{◌≡◌, ℕ, ◌+◌, ◌≤◌, true, Bool, List, length, Entry, Ticket, Layout, is_layout, most_room, now, IsLegal, past_of, owed, most_time, PoolState, FlushBook, BarrierBook, TimerRows, barriers_of, timers_of, PwqState, Flight, flights_of}
 use Rattle.cmwq_refinement.specs.Tickets.{tickets_of}
 use Rattle.cmwq_state.specs.Gone.{AreGone}
 use Rattle.cmwq_state.specs.Pwqs.{ArePwqsOf}
@@ -23,7 +11,7 @@ pub record Parts : Type 0 where
   pub pools : List PoolState
   pub books : List FlushBook
   pub barriers : BarrierBook
-  pub timers : Rows
+  pub timers : TimerRows
   pub time : ℕ
   pub serials : List ℕ
   pub flights : List Flight

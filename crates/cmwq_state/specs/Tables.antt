@@ -1,21 +1,6 @@
--- The tables of a book: where each pool, each flush book and each serial stands, and what they are told.
-use Rattle.std.specs.Prelude.{◌≡◌, ℕ, ◌+◌, ◌*◌, ◌<◌, if◌then◌else◌, List, [], length, filter, Option, Some, None, slice_index_or, Contains, IsTrue, All}
-use Rattle.cmwq_model.specs.declared.id.PoolId.{PoolId}
-use Rattle.cmwq_model.specs.declared.id.Who.{Who}
-use Rattle.cmwq_model.specs.declared.id.Who.TheVariants.{Caller, Worker}
-use Rattle.cmwq_model.specs.declared.reply.Reply.{Reply}
-use Rattle.cmwq_model.specs.declared.entry.Entry.{Entry}
-use Rattle.cmwq_model.specs.declared.record.Queueing.{Queueing}
-use Rattle.cmwq_model.specs.declared.shape.QueueShape.{QueueShape}
-use Rattle.cmwq_model.specs.declared.record.Ticket.{Ticket}
-use Rattle.cmwq_model.specs.declared.call.Call.{Call}
-use Rattle.cmwq_model.specs.Prelude.{Layout, pool_at, serial_of, same_pool}
+-- The tables of a book: where each pool, each flush book and each serial stands, and what may be applied to them.
+use Rattle.cmwq_state.specs.Common.{◌≡◌, ℕ, ◌+◌, ◌*◌, ◌<◌, if◌then◌else◌, List, [], length, filter, Option, Some, None, slice_index_or, Contains, IsTrue, All, PoolId, Who, Caller, Worker, Reply, Entry, Queueing, QueueShape, Ticket, Call, Layout, pool_at, serial_of, same_pool, PoolState, pool_without_task, pool_with_task, may_add, FlushBook, new_book, flush_tickets, IsReady, CanOpen, CanBegin, CanDrain, pool_of, task_for, MayReplyInPool, AreFlushes, is_in}
 use Rattle.cmwq_model.specs.declared.call.Call.TheVariants as call
-use Rattle.cmwq_pool.specs.PoolState.{PoolState, removed, added, may_add}
-use Rattle.cmwq_flush.specs.FlushBook.{FlushBook, new_book, flush_tickets, IsReady, CanOpen, CanBegin, CanDrain}
-use Rattle.cmwq_refinement.specs.Pools.{pool_of, task_for, MayBeTold, told_worker, told_cancelled, told_active}
-use Rattle.cmwq_refinement.specs.FlushBooks.{AreFlushes, told_ended, told_opened, told_done, told_begun}
-use Rattle.cmwq_theory_steps.specs.Activations.{is_in}
 
 -- the who is inside the layout
 abbrev pub IsThere : Layout → Who → Type 0
@@ -35,6 +20,15 @@ abbrev pub who_place : Who → ℕ
 who_place (Caller c) = c.0
 who_place (Worker w) = 64 + (w.pool.cpu.0 * 16 + (if w.pool.high then 8 else 0) + w.index)
 
+-- each pool is what `after` makes of the one that stood at its place
+pub record EachPool (after : PoolId → PoolState → PoolState) (old new : List PoolState) : Type 0 where
+  pub many : length new ≡ length old
+  pub each : (p : PoolId) → pool_in new p ≡ after p (pool_in old p)
+
+-- one pool lists a number no more
+abbrev pub pool_without : PoolId → ℕ → PoolId → PoolState → PoolState
+pool_without at number p l = if same_pool at p then pool_without_task l number else l
+
 -- each pool is that of the past
 pub record ArePools (s : Layout) (past : List Entry) (pools : List PoolState) : Type 0 where
   pub many : length pools ≡ 2 * s.cpus
@@ -47,6 +41,11 @@ no_book = new_book 0
 abbrev pub book_in : List FlushBook → ℕ → FlushBook
 book_in books q = slice_index_or books q no_book
 
+-- each flush book is what `after` makes of the one that stood at its place
+pub record EachBook (after : ℕ → FlushBook → FlushBook) (old new : List FlushBook) : Type 0 where
+  pub many : length new ≡ length old
+  pub each : (q : ℕ) → book_in new q ≡ after q (book_in old q)
+
 pub record AreBooks (s : Layout) (past : List Entry) (books : List FlushBook) : Type 0 where
   pub many : length books ≡ length s.queues
   pub each : (q : ℕ) → q < length s.queues → AreFlushes s past q (book_in books q)
@@ -55,60 +54,35 @@ pub record AreSerials (s : Layout) (past : List Entry) (serials : List ℕ) : Ty
   pub many : length serials ≡ 128
   pub each : (who : Who) → IsThere s who → slice_index_or serials (who_place who) 0 ≡ serial_of past who
 
--- what the pools are told
-abbrev pub MayTellWorker : Who → Reply → List PoolState → Type 0
-MayTellWorker (Caller c) r pools = Unit {0}
-MayTellWorker (Worker w) r pools = (pool_place w.pool < length pools) × MayBeTold r (pool_in pools w.pool) w.index
+-- what each call of a pool that a reply applies requires
+abbrev pub MayReplyToWorker : Who → Reply → List PoolState → Type 0
+MayReplyToWorker (Caller c) r pools = Unit {0}
+MayReplyToWorker (Worker w) r pools = (pool_place w.pool < length pools) × MayReplyInPool r (pool_in pools w.pool) w.index
 
-pub record TellWorker (who : Who) (r : Reply) (old new : List PoolState) : Type 0 where
-  pub many : length new ≡ length old
-  pub each : (p : PoolId) → pool_in new p ≡ told_worker p who r (pool_in old p)
+-- what the calls of flush books require for a queueing that ended, and for one that was opened
+abbrev pub MayEndInBooks : Option Queueing → List FlushBook → Type 0
+MayEndInBooks None books = Unit {0}
+MayEndInBooks (Some x) books = (x.place.queue.0 < length books) × Contains (book_in books x.place.queue.0).opened x.number
 
--- one pool lists this number no more
-pub record RemovedFrom (at : PoolId) (number : ℕ) (old new : List PoolState) : Type 0 where
-  pub many : length new ≡ length old
-  pub each : (p : PoolId) → pool_in new p ≡ (if same_pool at p then removed (pool_in old p) number else pool_in old p)
+abbrev pub MayOpenInBooks : Option Queueing → List FlushBook → Type 0
+MayOpenInBooks None books = Unit {0}
+MayOpenInBooks (Some x) books = (x.place.queue.0 < length books) × CanOpen (book_in books x.place.queue.0) x.number × (x.number < 9223372036854775808)
 
--- what the flush books are told of a queueing that ended, and of one that was opened
-abbrev pub MayTellEnded : Option Queueing → List FlushBook → Type 0
-MayTellEnded None books = Unit {0}
-MayTellEnded (Some x) books = (x.place.queue.0 < length books) × Contains (book_in books x.place.queue.0).opened x.number
+-- for a queueing that ended otherwise than by a finish
+abbrev pub MayCancelInPools : Option Queueing → List QueueShape → List PoolState → Type 0
+MayCancelInPools None queues pools = Unit {0}
+MayCancelInPools (Some x) queues pools = (x.place.queue.0 < length queues) × (2 * x.place.cpu.0 + 1 < length pools)
 
-pub record TellEnded (ended : Option Queueing) (old new : List FlushBook) : Type 0 where
-  pub many : length new ≡ length old
-  pub each : (q : ℕ) → book_in new q ≡ told_ended ended q (book_in old q)
-
-abbrev pub MayTellOpened : Option Queueing → List FlushBook → Type 0
-MayTellOpened None books = Unit {0}
-MayTellOpened (Some x) books = (x.place.queue.0 < length books) × CanOpen (book_in books x.place.queue.0) x.number × (x.number < 9223372036854775808)
-
-pub record TellOpened (opened : Option Queueing) (old new : List FlushBook) : Type 0 where
-  pub many : length new ≡ length old
-  pub each : (q : ℕ) → book_in new q ≡ told_opened opened q (book_in old q)
-
--- what the pools are told of a queueing that ended otherwise than by a finish
-abbrev pub MayTellCancelled : Option Queueing → List QueueShape → List PoolState → Type 0
-MayTellCancelled None queues pools = Unit {0}
-MayTellCancelled (Some x) queues pools = (x.place.queue.0 < length queues) × (2 * x.place.cpu.0 + 1 < length pools)
-
-pub record TellCancelled (s : Layout) (e : Entry) (ended : Option Queueing) (old new : List PoolState) : Type 0 where
-  pub many : length new ≡ length old
-  pub each : (p : PoolId) → pool_in new p ≡ told_cancelled s p e ended (pool_in old p)
-
--- what the flush books are told of a wait that ended, and of one that began
+-- for a wait that ended, and for one that began
 abbrev pub MayEndWait : Call → ℕ → List FlushBook → Type 0
 MayEndWait (call.Flush q) t books = (q.0 < length books) × Contains (flush_tickets (book_in books q.0)) t × IsReady (book_in books q.0) t
 MayEndWait (call.Drain q) t books = (q.0 < length books) × Contains (book_in books q.0).drains t
 MayEndWait (call.Destroy q) t books = (q.0 < length books) × Contains (book_in books q.0).drains t
 MayEndWait c t books = Unit {0}
 
-abbrev pub MayTellDone : Option Ticket → List FlushBook → Type 0
-MayTellDone None books = Unit {0}
-MayTellDone (Some t) books = MayEndWait t.call t.number books
-
-pub record TellDone (done : Option Ticket) (old new : List FlushBook) : Type 0 where
-  pub many : length new ≡ length old
-  pub each : (q : ℕ) → book_in new q ≡ told_done done q (book_in old q)
+abbrev pub MayBeDoneInBooks : Option Ticket → List FlushBook → Type 0
+MayBeDoneInBooks None books = Unit {0}
+MayBeDoneInBooks (Some t) books = MayEndWait t.call t.number books
 
 abbrev pub MayBeginWait : Call → ℕ → List FlushBook → Type 0
 MayBeginWait (call.Flush q) t books = (q.0 < length books) × CanBegin (book_in books q.0) t
@@ -116,17 +90,16 @@ MayBeginWait (call.Drain q) t books = (q.0 < length books) × CanDrain (book_in 
 MayBeginWait (call.Destroy q) t books = (q.0 < length books) × CanDrain (book_in books q.0) t
 MayBeginWait c t books = Unit {0}
 
-abbrev pub MayTellBegun : Option Ticket → List FlushBook → Type 0
-MayTellBegun None books = Unit {0}
-MayTellBegun (Some t) books = MayBeginWait t.call t.number books
+abbrev pub MayBeginInBooks : Option Ticket → List FlushBook → Type 0
+MayBeginInBooks None books = Unit {0}
+MayBeginInBooks (Some t) books = MayBeginWait t.call t.number books
 
-pub record TellBegun (begun : Option Ticket) (old new : List FlushBook) : Type 0 where
-  pub many : length new ≡ length old
-  pub each : (q : ℕ) → book_in new q ≡ told_begun begun q (book_in old q)
-
--- what the pools are told of what became active, where of a layout the queues alone are known
+-- for what became active, where of a layout the queues alone are known
 abbrev pub only : List QueueShape → Layout
 only queues = record { cpus = 0; workers = 0; callers = 0; items = 0; room = 0; queues = queues }
+
+abbrev pub pool_with : List QueueShape → Queueing → PoolId → PoolState → PoolState
+pool_with queues x p l = if is_in (only queues) p x then pool_with_task l (task_for (only queues) x) else l
 
 abbrev pub those_in : List QueueShape → PoolId → List Queueing → List Queueing
 those_in queues p xs = filter (is_in (only queues) p) xs
@@ -138,13 +111,5 @@ pub record MayListOne (queues : List QueueShape) (x : Queueing) (pools : List Po
   pub there : IsListable queues pools x
   pub may : IsTrue (may_add (pool_in pools (pool_at (only queues) x.place)) x.number x.item.0)
 
-pub record ListOne (queues : List QueueShape) (x : Queueing) (old new : List PoolState) : Type 0 where
-  pub many : length new ≡ length old
-  pub each : (p : PoolId) → pool_in new p ≡ (if is_in (only queues) p x then added (pool_in old p) (task_for (only queues) x) else pool_in old p)
-
 abbrev pub MayBeListed : List QueueShape → List Queueing → List PoolState → Type 0
 MayBeListed queues xs pools = All (IsListable queues pools) xs
-
-pub record ListAll (queues : List QueueShape) (xs : List Queueing) (old new : List PoolState) : Type 0 where
-  pub many : length new ≡ length old
-  pub each : (p : PoolId) → pool_in new p ≡ told_active (only queues) (those_in queues p xs) (pool_in old p)

@@ -1,10 +1,5 @@
 -- The widths of a book refine a history: max_active of each queue, and whether the freezable ones are frozen.
-use Rattle.std.specs.Prelude.{◌≡◌, ℕ, ◌<◌, Bool, if◌then◌else◌, List, length, None, slice_index}
-use Rattle.std.specs.Option.{option_map_or}
-use Rattle.cmwq_model.specs.declared.call.Call.{Call}
-use Rattle.cmwq_model.specs.declared.reply.Reply.{Reply}
-use Rattle.cmwq_model.specs.declared.entry.Entry.{Entry}
-use Rattle.cmwq_model.specs.Prelude.{Layout, max_active, is_frozen, sets_max, width_told}
+use Rattle.cmwq_state.specs.Common.{◌≡◌, ℕ, ◌<◌, Bool, if◌then◌else◌, List, length, None, slice_index, option_map_or, Call, Reply, Entry, Layout, max_active, is_frozen, sets_max, width_told}
 use Rattle.cmwq_model.specs.declared.call.Call.TheVariants as call
 
 pub record AreWidths (s : Layout) (past : List Entry) (most : List ℕ) (stopped : Bool) : Type 0 where
@@ -12,11 +7,11 @@ pub record AreWidths (s : Layout) (past : List Entry) (most : List ℕ) (stopped
   pub each : (q : ℕ) → q < length s.queues → slice_index most q ≡ max_active s past q
   pub frozen : stopped ≡ is_frozen past
 
--- they are told of a call and its reply
-abbrev pub MayTellWidth : Call → List ℕ → Type 0
-MayTellWidth (call.SetMax q n) most = q.0 < length most
-MayTellWidth c most = Unit {0}
+-- what a call and its reply set
+abbrev pub MaySetWidth : Call → List ℕ → Type 0
+MaySetWidth (call.SetMax q n) most = q.0 < length most
+MaySetWidth c most = Unit {0}
 
-pub record TellWidth (c : Call) (r : Reply) (old new : List ℕ) : Type 0 where
+pub record SetsWidth (c : Call) (r : Reply) (old new : List ℕ) : Type 0 where
   pub many : length new ≡ length old
   pub each : (q : ℕ) → slice_index new q ≡ option_map_or (λ n. n) (if sets_max c q then width_told r else None) (slice_index old q)

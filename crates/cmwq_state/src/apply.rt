@@ -15,9 +15,9 @@ ghost use Rattle.cmwq_state.specs.Widths.{AreWidths};
 
 use crate::effect::Effect;
 use crate::tables::{
-    frozen_after, list_active, tell_barrier_begun, tell_barrier_done, tell_barriers, tell_begun,
-    tell_cancelled, tell_done, tell_ended, tell_flights, tell_gone, tell_opened, tell_pwqs,
-    tell_tickets, tell_timers, tell_width, tell_worker, who_place,
+    begin_in_barriers, begin_in_books, cancel_in_pools, done_in_barriers, done_in_books,
+    end_in_books, frozen_after, list_active, lose_queue, move_barriers, move_flights, move_pwqs,
+    move_tickets, open_in_books, reply_in_pools, set_timers, set_width, who_place,
 };
 use cmwq_flush::{Barriers, Flushes};
 use cmwq_inflight::Flights;
@@ -33,7 +33,7 @@ pub(crate) fn apply_widths(most: &mut Vec<u32>, frozen: bool, effect: &Effect) -
     ensures { (s : Layout) (past : List entries.Entry) → IsNextEffect s past effect.now → AreWidths s past most.old.items frozen → AreWidths s (effect.now.entry ∷ past) most.new.items result }
 {
     let entry = effect.entry;
-    tell_width(most, entry.call, entry.reply);
+    set_width(most, entry.call, entry.reply);
     frozen_after(entry.reply, frozen)
 }
 
@@ -50,7 +50,7 @@ pub(crate) fn apply_pwqs(
     ensures { (s : Layout) (past : List entries.Entry) → IsNextEffect s past effect.now → queues.now ≡ s.queues → AreWidths s (effect.now.entry ∷ past) most.now frozen → ArePwqsOf s past pwqs.old
         → ArePwqsOf s (effect.now.entry ∷ past) pwqs.new × (pwqs.new.activated ≡ newly_active s past effect.now.entry) }
 {
-    tell_pwqs(
+    move_pwqs(
         pwqs,
         queues,
         most,
@@ -74,8 +74,8 @@ pub(crate) fn apply_pools(
         → ArePools s (effect.now.entry ∷ past) pools.new.items }
 {
     let entry = effect.entry;
-    tell_worker(pools, entry.who, entry.reply);
-    tell_cancelled(queues, pools, entry.reply, effect.ended);
+    reply_in_pools(pools, entry.who, entry.reply);
+    cancel_in_pools(queues, pools, entry.reply, effect.ended);
     list_active(queues, pools, activated);
 }
 
@@ -84,10 +84,10 @@ pub(crate) fn apply_books(books: &mut Vec<Flushes>, effect: &Effect)
     requires { (s : Layout) × (past : List entries.Entry) × IsNextEffect s past effect.now × AreBooks s past books.old.items }
     ensures { (s : Layout) (past : List entries.Entry) → IsNextEffect s past effect.now → AreBooks s past books.old.items → AreBooks s (effect.now.entry ∷ past) books.new.items }
 {
-    tell_ended(books, effect.ended);
-    tell_opened(books, effect.opened);
-    tell_done(books, effect.done);
-    tell_begun(books, effect.begun);
+    end_in_books(books, effect.ended);
+    open_in_books(books, effect.opened);
+    done_in_books(books, effect.done);
+    begin_in_books(books, effect.begun);
 }
 
 /// The barriers of items.
@@ -95,9 +95,9 @@ pub(crate) fn apply_barriers(barriers: &mut Barriers, effect: &Effect)
     requires { (s : Layout) × (past : List entries.Entry) × IsNextEffect s past effect.now × (barriers.old ≡ barriers_of s past) }
     ensures { (s : Layout) (past : List entries.Entry) → IsNextEffect s past effect.now → barriers.old ≡ barriers_of s past → barriers.new ≡ barriers_of s (effect.now.entry ∷ past) }
 {
-    tell_barriers(barriers, effect.ended, effect.opened);
-    tell_barrier_done(barriers, effect.done);
-    tell_barrier_begun(barriers, effect.begun);
+    move_barriers(barriers, effect.ended, effect.opened);
+    done_in_barriers(barriers, effect.done);
+    begin_in_barriers(barriers, effect.begun);
 }
 
 /// The queueings in flight.
@@ -105,7 +105,7 @@ pub(crate) fn apply_flights(flights: &mut Flights, effect: &Effect)
     requires { (s : Layout) × (past : List entries.Entry) × IsNextEffect s past effect.now × (flights.old ≡ flights_of s past) }
     ensures { (s : Layout) (past : List entries.Entry) → IsNextEffect s past effect.now → flights.old ≡ flights_of s past → flights.new ≡ flights_of s (effect.now.entry ∷ past) }
 {
-    tell_flights(
+    move_flights(
         flights,
         effect.entry.reply,
         effect.ended,
@@ -119,7 +119,7 @@ pub(crate) fn apply_tickets(tickets: &mut Tickets, effect: &Effect)
     requires { (s : Layout) × (past : List entries.Entry) × IsNextEffect s past effect.now × (tickets.old ≡ tickets_of s past) }
     ensures { (s : Layout) (past : List entries.Entry) → IsNextEffect s past effect.now → tickets.old ≡ tickets_of s past → tickets.new ≡ tickets_of s (effect.now.entry ∷ past) }
 {
-    tell_tickets(tickets, effect.done, effect.begun);
+    move_tickets(tickets, effect.done, effect.begun);
 }
 
 /// Which queues are gone.
@@ -127,7 +127,7 @@ pub(crate) fn apply_gone(gone: &mut Vec<bool>, effect: &Effect)
     requires { (s : Layout) × (past : List entries.Entry) × IsNextEffect s past effect.now × AreGone s past gone.old.items }
     ensures { (s : Layout) (past : List entries.Entry) → IsNextEffect s past effect.now → AreGone s past gone.old.items → AreGone s (effect.now.entry ∷ past) gone.new.items }
 {
-    tell_gone(gone, effect.done);
+    lose_queue(gone, effect.done);
 }
 
 /// The bookings.
@@ -135,7 +135,7 @@ pub(crate) fn apply_timers(timers: &mut Timers, effect: &Effect)
     requires { (s : Layout) × (past : List entries.Entry) × IsNextEffect s past effect.now × (timers.old ≡ timers_of s past) }
     ensures { (s : Layout) (past : List entries.Entry) → IsNextEffect s past effect.now → timers.old ≡ timers_of s past → timers.new ≡ timers_of s (effect.now.entry ∷ past) }
 {
-    tell_timers(timers, effect.settled, effect.booked);
+    set_timers(timers, effect.settled, effect.booked);
 }
 
 /// How many entries each caller and each worker has.

@@ -8,5 +8,5 @@ mod state;
 mod tables;
 
 pub use effect::Effect;
-pub use state::{State, ticks_of};
+pub use state::State;
 pub use tables::those_who_fit_are_there;

@@ -1,7 +1,7 @@
 //! The parts of a new state.
 
 ghost use Rattle.std.specs.Prelude.{◌≡◌, ◌*◌, ◌<◌, ◌≤◌, [], None, false, IfOk, IsTrue, length, map, replicate, vec_capacity};
-ghost use Rattle.cmwq_model.specs.Prelude.{is_between};
+ghost use Rattle.cmwq_model.specs.Prelude.{is_between, most_items};
 ghost use Rattle.cmwq_pool.specs.PoolState.{new_pool_state};
 ghost use Rattle.cmwq_flush.specs.FlushBook.{new_book};
 ghost use Rattle.cmwq_flush.specs.BarrierBook.{new_barriers};
@@ -45,7 +45,7 @@ pub(crate) struct QueueParts {
 
 /// What is kept of callers, workers and items before the first entry.
 pub(crate) fn new_item_parts(alloc: Global, counts: Counts) -> Result<ItemParts, NoMemory>
-    requires items { IsTrue (is_between 1 256 counts.items) }
+    requires items { IsTrue (is_between 1 most_items counts.items) }
     requires workers { IsTrue (is_between 1 8 counts.workers) }
     ensures serials { IfOk result (λ parts. parts.serials.items ≡ replicate 128 0) }
     ensures pools { IfOk result (λ parts. parts.pools.items ≡ replicate (2 * counts.cpus) (new_pool_state counts.items counts.workers)) }
@@ -109,7 +109,7 @@ pub(crate) fn new_queue_parts(
 
 /// Two new pools for each CPU.
 fn new_pools(alloc: Global, cpus: u8, items: u16, workers: u8) -> Result<Vec<Pool>, NoMemory>
-    requires items { IsTrue (is_between 1 256 items) }
+    requires items { IsTrue (is_between 1 most_items items) }
     requires workers { IsTrue (is_between 1 8 workers) }
     ensures { IfOk result (λ pools. pools.items ≡ replicate (2 * cpus) (new_pool_state items workers)) }
 {

@@ -1,7 +1,7 @@
 //! The state, the reads of workers and counts, and the entry that is appended.
 
 ghost use Rattle.std.specs.Prelude.{◌≡◌, ◌<◌, ◌≤◌, ◌+◌, ◌^◌, ◌&&◌, [], true, length, count_by, nat_le, IfOk};
-ghost use Rattle.cmwq_model.specs.Prelude.{is_layout, layout_of, most_room, past_of, IsLegal, still_open, needed, owed, has_time, most_time, is_active};
+ghost use Rattle.cmwq_model.specs.Prelude.{is_layout, layout_of, most_room, past_of, IsLegal, still_open, room_needed, owed, has_time, most_time, is_active};
 ghost use Rattle.cmwq_model.specs.Calls as calls;
 ghost use Rattle.cmwq_state.specs.Tables as tables;
 ghost use Rattle.cmwq_state.specs.Effects.{IsEffect};
@@ -69,17 +69,6 @@ impl Model for State {
         (record { pools = s.pools.items; books = s.books.items; barriers = s.barriers; timers = s.timers; time = s.time; serials = s.serials.items; flights = s.flights; tickets = s.tickets; gone = s.gone.items; pwqs = s.pwqs; most = s.most.items; frozen = s.frozen; owing = s.owing }) };
 }
 
-/// The ticks that a call lets go by.
-pub fn ticks_of(call: Call) -> u32
-    ensures ticks { result ≡ calls.ticks_told call }
-    ensures small { calls.ticks_told call < 2 ^ 32 }
-{
-    match call {
-        Call::Tick { ticks } => ticks,
-        _ => 0,
-    }
-}
-
 impl State {
     /// A state with no entries, and room for so many. No later call takes memory.
     ///
@@ -131,7 +120,7 @@ impl State {
     pub fn len(&self) -> u64
         ensures len { result ≡ length self.now.entries }
         ensures within { length self.now.entries ≤ self.now.room }
-        ensures needed { needed self.now.layout (past_in self.now) ≤ self.now.room }
+        ensures needed { room_needed self.now.layout (past_in self.now) ≤ self.now.room }
         ensures few { self.now.room ≤ most_room }
         ensures legal { IsLegal self.now.layout (past_in self.now) }
     {
@@ -200,7 +189,7 @@ impl State {
         apply_gone(&mut self.gone, &effect);
         apply_timers(&mut self.timers, &effect);
         apply_serials(&mut self.serials, &effect);
-        self.time += u64::from(ticks_of(effect.entry.call));
+        self.time += u64::from(effect.entry.call.ticks());
         self.owing = effect.owing;
         self.entries.push(&effect.entry);
     }

@@ -1,21 +1,22 @@
-//! Where each pool, flush book and serial stands, and what they are told of an entry.
+//! Where each pool, flush book and serial stands, and how one thing that an entry did is applied to them.
 
 ghost use Rattle.std.specs.Prelude.{◌≡◌, ◌*◌, ◌<◌, length, is_some, true, false, IfSome, Some};
 ghost use Rattle.cmwq_model.specs.declared.call.Call.{Call};
 ghost use Rattle.cmwq_model.specs.declared.id.Who.{Who};
 ghost use Rattle.cmwq_model.specs.declared.id.PoolId.{PoolId};
 ghost use Rattle.cmwq_model.specs.declared.entry.Entry.{Entry};
-ghost use Rattle.cmwq_model.specs.Prelude.{Layout, fits, pool_at, finishes, number_finished, frozen_after};
-ghost use Rattle.cmwq_refinement.specs.Pools.{MayAllBeAdded, MayBeTold, told_reply};
-ghost use Rattle.cmwq_refinement.specs.BarrierBooks as barriers;
-ghost use Rattle.cmwq_refinement.specs.Timers as timed;
-ghost use Rattle.cmwq_state.specs.Effects as effects;
+ghost use Rattle.cmwq_model.specs.Prelude.{Layout, fits, pool_at, finishes, frozen_after, item_number, number_finished};
+ghost use Rattle.cmwq_refinement.specs.Pools.{MayAllBeAdded, MayReplyInPool, pool_after_activation, pool_after_cancel, pool_after_reply, pool_after_worker};
+ghost use Rattle.cmwq_refinement.specs.FlushBooks.{flushes_after_begun, flushes_after_done, flushes_after_end, flushes_after_opening};
+ghost use Rattle.cmwq_refinement.specs.BarrierBooks.{MayBeDoneInBarriers, MayBeginInBarriers, MayEndInBarriers, MayOpenInBarriers, barriers_after_begun, barriers_after_done, barriers_after_end, barriers_after_opening};
+ghost use Rattle.cmwq_refinement.specs.Timers.{MayBeSet, timers_after_settling};
 ghost use Rattle.cmwq_state.specs.Tables as tables;
-ghost use Rattle.cmwq_refinement.specs.Flights as rows;
-ghost use Rattle.cmwq_refinement.specs.Tickets as held;
-ghost use Rattle.cmwq_state.specs.Gone as lost;
-ghost use Rattle.cmwq_pwq.specs.Pwqs as lines;
-ghost use Rattle.cmwq_state.specs.Widths as widths;
+ghost use Rattle.cmwq_state.specs.Tables.{EachBook, EachPool, IsThere, MayBeDoneInBooks, MayBeListed, MayBeginInBooks, MayCancelInPools, MayEndInBooks, MayListOne, MayOpenInBooks, MayReplyToWorker, only, pool_in, pool_with, pool_without, those_in};
+ghost use Rattle.cmwq_refinement.specs.Flights.{MayEndInFlight, MayEndOf, MayOpenInFlight, MayStartInFlight, flights_after_end, flights_after_opening, flights_after_start};
+ghost use Rattle.cmwq_refinement.specs.Tickets.{MayEndTicket, MayGiveTicket, tickets_after_end, tickets_after_giving};
+ghost use Rattle.cmwq_state.specs.Gone.{LosesQueue, MayLoseQueue};
+ghost use Rattle.cmwq_pwq.specs.Pwqs.{AreBehind, ArePlaced, IsPassed, IsPlacedIf, MayEndInPwqs, MayOpenInPwqs, is_waiting, pwqs_after_end, pwqs_after_opening, width_by};
+ghost use Rattle.cmwq_state.specs.Widths.{MaySetWidth, SetsWidth};
 ghost use Rattle.cmwq_theory_active.specs.Looks.{keeps_widths};
 
 use cmwq_flush::{Barriers, Flushes};
@@ -30,7 +31,7 @@ use cmwq_timer::Timers;
 
 /// Whoever makes a call that fits a layout is there: so `fits` of a shape shows of whom the serial may be asked.
 pub fn those_who_fit_are_there()
-    ensures { (s : Layout) (who : Who) (c : Call) → fits s who c ≡ true → tables.IsThere s who }
+    ensures { (s : Layout) (who : Who) (c : Call) → fits s who c ≡ true → IsThere s who }
 {}
 
 pub(crate) fn pool_place(pool: PoolId) -> usize
@@ -52,10 +53,10 @@ pub(crate) fn who_place(who: Who) -> usize
     }
 }
 
-/// Tells a pool what its worker was answered.
-fn tell_reply(pool: &mut Pool, worker: u8, reply: Reply)
-    requires { MayBeTold reply pool.old worker }
-    ensures { pool.new ≡ told_reply reply worker pool.old }
+/// Applies a reply to the pool of its worker.
+fn reply_in_pool(pool: &mut Pool, worker: u8, reply: Reply)
+    requires { MayReplyInPool reply pool.old worker }
+    ensures { pool.new ≡ pool_after_reply reply worker pool.old }
 {
     match reply {
         Reply::Started(_) | Reply::StartedEnlist(_, _) => {
@@ -71,41 +72,41 @@ fn tell_reply(pool: &mut Pool, worker: u8, reply: Reply)
     }
 }
 
-/// Tells the pools what a worker was answered.
-pub(crate) fn tell_worker(pools: &mut Vec<Pool>, who: Who, reply: Reply)
-    requires { tables.MayTellWorker who reply pools.old.items }
-    ensures { tables.TellWorker who reply pools.old.items pools.new.items }
+/// Applies a worker's reply to its pool.
+pub(crate) fn reply_in_pools(pools: &mut Vec<Pool>, who: Who, reply: Reply)
+    requires { MayReplyToWorker who reply pools.old.items }
+    ensures { EachPool (λ p. pool_after_worker p who reply) pools.old.items pools.new.items }
 {
     if let Who::Worker(worker) = who {
-        tell_reply(&mut pools[pool_place(worker.pool)], worker.index, reply);
+        reply_in_pool(&mut pools[pool_place(worker.pool)], worker.index, reply);
     }
 }
 
-/// Tells the flush books of a queueing that ended.
-pub(crate) fn tell_ended(books: &mut Vec<Flushes>, ended: Option<Queueing>)
-    requires { tables.MayTellEnded ended books.old.items }
-    ensures { tables.TellEnded ended books.old.items books.new.items }
+/// Ends a queueing in the flush book of its queue.
+pub(crate) fn end_in_books(books: &mut Vec<Flushes>, ended: Option<Queueing>)
+    requires { MayEndInBooks ended books.old.items }
+    ensures { EachBook (flushes_after_end ended) books.old.items books.new.items }
 {
     if let Some(queueing) = ended {
         books[usize::from(queueing.place.queue.0)].ended(queueing.number);
     }
 }
 
-/// Tells the flush books of a queueing that was opened.
-pub(crate) fn tell_opened(books: &mut Vec<Flushes>, opened: Option<Queueing>)
-    requires { tables.MayTellOpened opened books.old.items }
-    ensures { tables.TellOpened opened books.old.items books.new.items }
+/// Opens a queueing in the flush book of its queue.
+pub(crate) fn open_in_books(books: &mut Vec<Flushes>, opened: Option<Queueing>)
+    requires { MayOpenInBooks opened books.old.items }
+    ensures { EachBook (flushes_after_opening opened) books.old.items books.new.items }
 {
     if let Some(queueing) = opened {
         books[usize::from(queueing.place.queue.0)].opened(queueing.number);
     }
 }
 
-/// Tells the barriers of a queueing that ended, and of one that was opened.
-pub(crate) fn tell_barriers(book: &mut Barriers, ended: Option<Queueing>, opened: Option<Queueing>)
-    requires ended { barriers.MayEnd ended book.old }
-    requires opened { barriers.MayOpen opened (barriers.told_ended ended book.old) }
-    ensures { book.new ≡ barriers.told_opened opened (barriers.told_ended ended book.old) }
+/// Ends a queueing and opens one in the barriers.
+pub(crate) fn move_barriers(book: &mut Barriers, ended: Option<Queueing>, opened: Option<Queueing>)
+    requires ended { MayEndInBarriers ended book.old }
+    requires opened { MayOpenInBarriers opened (barriers_after_end ended book.old) }
+    ensures { book.new ≡ barriers_after_opening opened (barriers_after_end ended book.old) }
 {
     if let Some(queueing) = ended {
         book.ended(queueing.item, queueing.number);
@@ -116,9 +117,9 @@ pub(crate) fn tell_barriers(book: &mut Barriers, ended: Option<Queueing>, opened
 }
 
 /// Takes a queueing that was cancelled or replaced from its pool.
-pub(crate) fn tell_removed(pools: &mut Vec<Pool>, pool: PoolId, number: Number)
+pub(crate) fn remove_from_pool(pools: &mut Vec<Pool>, pool: PoolId, number: Number)
     requires { tables.pool_place pool < length pools.old.items }
-    ensures { tables.RemovedFrom pool number pools.old.items pools.new.items }
+    ensures { EachPool (pool_without pool number) pools.old.items pools.new.items }
 {
     pools[pool_place(pool)].remove(number);
 }
@@ -143,27 +144,27 @@ fn is_finish_of(reply: Reply, number: Number) -> bool
     }
 }
 
-/// Tells the pools of a queueing that ended: where it didn't finish, its pool lists it no more.
-pub(crate) fn tell_cancelled(
+/// Applies the end of a queueing to its pool: where it didn't finish, it is listed no more.
+pub(crate) fn cancel_in_pools(
     queues: &[QueueShape],
     pools: &mut Vec<Pool>,
     reply: Reply,
     ended: Option<Queueing>,
 )
-    requires { tables.MayTellCancelled ended queues.now pools.old.items }
-    ensures { (s : Layout) (e : Entry) → s.queues ≡ queues.now → e.reply ≡ reply → tables.TellCancelled s e ended pools.old.items pools.new.items }
+    requires { MayCancelInPools ended queues.now pools.old.items }
+    ensures { (s : Layout) (e : Entry) → s.queues ≡ queues.now → e.reply ≡ reply → EachPool (λ p. pool_after_cancel s p e ended) pools.old.items pools.new.items }
 {
     if let Some(queueing) = ended {
         if !is_finish_of(reply, queueing.number) {
-            tell_removed(pools, place_pool(queues, queueing.place), queueing.number);
+            remove_from_pool(pools, place_pool(queues, queueing.place), queueing.number);
         }
     }
 }
 
-/// Tells the timers what is booked, or else whose booking is settled.
-pub(crate) fn tell_timers(timers: &mut Timers, settled: Option<ItemId>, booked: Option<Booking>)
-    requires { timed.MayBeSet (effects.item_number settled) booked timers.old }
-    ensures { timers.new ≡ timed.told_settled (effects.item_number settled) booked timers.old }
+/// Sets the timer of what is booked, or else clears that of the item whose booking is settled.
+pub(crate) fn set_timers(timers: &mut Timers, settled: Option<ItemId>, booked: Option<Booking>)
+    requires { MayBeSet (item_number settled) booked timers.old }
+    ensures { timers.new ≡ timers_after_settling (item_number settled) booked timers.old }
 {
     match booked {
         Some(made) => timers.book(made.item, made.place, made.due, made.number),
@@ -175,10 +176,10 @@ pub(crate) fn tell_timers(timers: &mut Timers, settled: Option<ItemId>, booked: 
     }
 }
 
-/// Tells the flush books of a wait that ended.
-pub(crate) fn tell_done(books: &mut Vec<Flushes>, done: Option<Ticket>)
-    requires { tables.MayTellDone done books.old.items }
-    ensures { tables.TellDone done books.old.items books.new.items }
+/// Ends a wait in the flush book of its queue.
+pub(crate) fn done_in_books(books: &mut Vec<Flushes>, done: Option<Ticket>)
+    requires { MayBeDoneInBooks done books.old.items }
+    ensures { EachBook (flushes_after_done done) books.old.items books.new.items }
 {
     if let Some(ticket) = done {
         match ticket.call {
@@ -191,10 +192,10 @@ pub(crate) fn tell_done(books: &mut Vec<Flushes>, done: Option<Ticket>)
     }
 }
 
-/// Tells the flush books of a wait that began.
-pub(crate) fn tell_begun(books: &mut Vec<Flushes>, begun: Option<Ticket>)
-    requires { tables.MayTellBegun begun books.old.items }
-    ensures { tables.TellBegun begun books.old.items books.new.items }
+/// Begins a wait in the flush book of its queue.
+pub(crate) fn begin_in_books(books: &mut Vec<Flushes>, begun: Option<Ticket>)
+    requires { MayBeginInBooks begun books.old.items }
+    ensures { EachBook (flushes_after_begun begun) books.old.items books.new.items }
 {
     if let Some(ticket) = begun {
         match ticket.call {
@@ -207,10 +208,10 @@ pub(crate) fn tell_begun(books: &mut Vec<Flushes>, begun: Option<Ticket>)
     }
 }
 
-/// Tells the barriers of a wait for an item that ended.
-pub(crate) fn tell_barrier_done(book: &mut Barriers, done: Option<Ticket>)
-    requires { barriers.MayBeDone done book.old }
-    ensures { book.new ≡ barriers.told_done done book.old }
+/// Ends a wait for an item in the barriers.
+pub(crate) fn done_in_barriers(book: &mut Barriers, done: Option<Ticket>)
+    requires { MayBeDoneInBarriers done book.old }
+    ensures { book.new ≡ barriers_after_done done book.old }
 {
     if let Some(ticket) = done {
         match ticket.call {
@@ -220,10 +221,10 @@ pub(crate) fn tell_barrier_done(book: &mut Barriers, done: Option<Ticket>)
     }
 }
 
-/// Tells the barriers of a wait for an item that began.
-pub(crate) fn tell_barrier_begun(book: &mut Barriers, begun: Option<Ticket>)
-    requires { barriers.MayBegin begun book.old }
-    ensures { book.new ≡ barriers.told_begun begun book.old }
+/// Begins a wait for an item in the barriers.
+pub(crate) fn begin_in_barriers(book: &mut Barriers, begun: Option<Ticket>)
+    requires { MayBeginInBarriers begun book.old }
+    ensures { book.new ≡ barriers_after_begun begun book.old }
 {
     if let Some(ticket) = begun {
         match ticket.call {
@@ -238,8 +239,8 @@ pub(crate) fn tell_barrier_begun(book: &mut Barriers, begun: Option<Ticket>)
 
 /// Lists a queueing that became active in its pool.
 fn list_one(queues: &[QueueShape], pools: &mut Vec<Pool>, queueing: Queueing)
-    requires { tables.MayListOne queues.now queueing pools.old.items }
-    ensures { tables.ListOne queues.now queueing pools.old.items pools.new.items }
+    requires { MayListOne queues.now queueing pools.old.items }
+    ensures { EachPool (pool_with queues.now queueing) pools.old.items pools.new.items }
 {
     let queue = queues[usize::from(queueing.place.queue.0)];
     let pool = PoolId {
@@ -251,19 +252,19 @@ fn list_one(queues: &[QueueShape], pools: &mut Vec<Pool>, queueing: Queueing)
 
 /// Lists what became active in its pools.
 pub(crate) fn list_active(queues: &[QueueShape], pools: &mut Vec<Pool>, activated: &[Queueing])
-    requires there { tables.MayBeListed queues.now activated.now pools.old.items }
-    requires may { (p : PoolId) → MayAllBeAdded (tables.only queues.now) (tables.those_in queues.now p activated.now) (tables.pool_in pools.old.items p) }
-    ensures { tables.ListAll queues.now activated.now pools.old.items pools.new.items }
+    requires there { MayBeListed queues.now activated.now pools.old.items }
+    requires may { (p : PoolId) → MayAllBeAdded (only queues.now) (those_in queues.now p activated.now) (pool_in pools.old.items p) }
+    ensures { EachPool (λ p. pool_after_activation (only queues.now) (those_in queues.now p activated.now)) pools.old.items pools.new.items }
 {
     for queueing in activated {
         list_one(queues, pools, *queueing);
     }
 }
 
-/// Tells the queues' max_active of what a set_max was answered.
-pub(crate) fn tell_width(most: &mut Vec<u32>, call: Call, reply: Reply)
-    requires { widths.MayTellWidth call most.old.items }
-    ensures { widths.TellWidth call reply most.old.items most.new.items }
+/// Sets a queue's max_active to what a set_max was answered.
+pub(crate) fn set_width(most: &mut Vec<u32>, call: Call, reply: Reply)
+    requires { MaySetWidth call most.old.items }
+    ensures { SetsWidth call reply most.old.items most.new.items }
 {
     if let Call::SetMax { queue, .. } = call {
         if let Reply::Width(width) = reply {
@@ -290,11 +291,11 @@ fn keeps_widths(reply: Reply) -> bool
     !matches!(reply, Reply::Width(_) | Reply::Frozen | Reply::Thawed)
 }
 
-/// Tells what waits of a queueing that ended, and of one that was opened.
-fn tell_waiting(pwqs: &mut Pwqs, ended: Option<Queueing>, opened: Option<Queueing>)
-    requires ended { lines.MayEnd ended pwqs.old }
-    requires opened { lines.MayOpen opened (lines.told_ended ended pwqs.old) }
-    ensures { pwqs.new ≡ lines.told_opened opened (lines.told_ended ended pwqs.old) }
+/// Ends a queueing and opens one in what waits.
+fn move_waiting(pwqs: &mut Pwqs, ended: Option<Queueing>, opened: Option<Queueing>)
+    requires ended { MayEndInPwqs ended pwqs.old }
+    requires opened { MayOpenInPwqs opened (pwqs_after_end ended pwqs.old) }
+    ensures { pwqs.new ≡ pwqs_after_opening opened (pwqs_after_end ended pwqs.old) }
 {
     if let Some(queueing) = ended {
         pwqs.end(queueing);
@@ -304,9 +305,9 @@ fn tell_waiting(pwqs: &mut Pwqs, ended: Option<Queueing>, opened: Option<Queuein
     }
 }
 
-/// Tells what waits of a queueing that ended, and of one that was opened; what is below max_active then becomes active. All that wait are
+/// Ends a queueing and opens one in what waits; what is below max_active then becomes active. All that wait are
 /// looked at only where the widths may have changed.
-pub(crate) fn tell_pwqs(
+pub(crate) fn move_pwqs(
     pwqs: &mut Pwqs,
     queues: &[QueueShape],
     most: &[u32],
@@ -317,56 +318,50 @@ pub(crate) fn tell_pwqs(
 )
     requires most { length most.now ≡ length queues.now }
     requires counts { length pwqs.old.counts ≡ 4 * length queues.now }
-    requires ended { lines.MayEnd ended pwqs.old }
-    requires ended_placed { lines.IsPlacedIf (length queues.now) ended }
-    requires ran { is_some (number_finished reply) ≡ true → IfSome ended (λ x. lines.is_waiting pwqs.old x ≡ false) }
-    requires opened { lines.MayOpen opened (lines.told_ended ended pwqs.old) }
-    requires opened_placed { lines.IsPlacedIf (length queues.now) opened }
-    requires behind { keeps_widths reply ≡ true → lines.AreBehind (lines.width_by queues.now most.now frozen) pwqs.old.counts pwqs.old.waiting }
-    requires placed { lines.ArePlaced (length queues.now) (lines.told_opened opened (lines.told_ended ended pwqs.old)).waiting }
-    ensures { lines.IsPassed (lines.width_by queues.now most.now frozen) (lines.told_opened opened (lines.told_ended ended pwqs.old)) pwqs.new }
+    requires ended { MayEndInPwqs ended pwqs.old }
+    requires ended_placed { IsPlacedIf (length queues.now) ended }
+    requires ran { is_some (number_finished reply) ≡ true → IfSome ended (λ x. is_waiting pwqs.old x ≡ false) }
+    requires opened { MayOpenInPwqs opened (pwqs_after_end ended pwqs.old) }
+    requires opened_placed { IsPlacedIf (length queues.now) opened }
+    requires behind { keeps_widths reply ≡ true → AreBehind (width_by queues.now most.now frozen) pwqs.old.counts pwqs.old.waiting }
+    requires placed { ArePlaced (length queues.now) (pwqs_after_opening opened (pwqs_after_end ended pwqs.old)).waiting }
+    ensures { IsPassed (width_by queues.now most.now frozen) (pwqs_after_opening opened (pwqs_after_end ended pwqs.old)) pwqs.new }
 {
     if keeps_widths(reply) {
-        pwqs.go_on(queues, most, frozen, ended, is_finish(reply), opened);
+        pwqs.go_on(queues, most, frozen, ended, reply.is_finish(), opened);
     } else {
-        tell_waiting(pwqs, ended, opened);
+        move_waiting(pwqs, ended, opened);
         pwqs.pass(queues, most, frozen);
     }
 }
 
-pub(crate) fn is_finish(reply: Reply) -> bool
-    ensures { result ≡ is_some (number_finished reply) }
+/// Ends a queueing in flight: the run of its item where it finished, or else the unstarted one.
+fn end_flight(flights: &mut Flights, reply: Reply, queueing: Queueing)
+    requires { MayEndOf reply queueing flights.old }
+    ensures { flights.new ≡ flights_after_end reply (Some queueing) flights.old }
 {
-    matches!(reply, Reply::Finished(_))
-}
-
-/// Tells the flights of a queueing that ended: the run of its item where it finished, or else the unstarted one.
-fn tell_flight_end(flights: &mut Flights, reply: Reply, queueing: Queueing)
-    requires { rows.MayEndOf reply queueing flights.old }
-    ensures { flights.new ≡ rows.told_ended reply (Some queueing) flights.old }
-{
-    if is_finish(reply) {
+    if reply.is_finish() {
         flights.finish(queueing.item);
     } else {
         flights.take_back(queueing.item);
     }
 }
 
-/// Tells the flights of a queueing that ended, of one that started, and of one that was opened.
-pub(crate) fn tell_flights(
+/// Ends a queueing in flight, starts one, and opens one.
+pub(crate) fn move_flights(
     flights: &mut Flights,
     reply: Reply,
     ended: Option<Queueing>,
     started: Option<Queueing>,
     opened: Option<Queueing>,
 )
-    requires ended { rows.MayEnd reply ended flights.old }
-    requires started { rows.MayStart started (rows.told_ended reply ended flights.old) }
-    requires opened { rows.MayOpen opened (rows.told_started started (rows.told_ended reply ended flights.old)) }
-    ensures { flights.new ≡ rows.told_opened opened (rows.told_started started (rows.told_ended reply ended flights.old)) }
+    requires ended { MayEndInFlight reply ended flights.old }
+    requires started { MayStartInFlight started (flights_after_end reply ended flights.old) }
+    requires opened { MayOpenInFlight opened (flights_after_start started (flights_after_end reply ended flights.old)) }
+    ensures { flights.new ≡ flights_after_opening opened (flights_after_start started (flights_after_end reply ended flights.old)) }
 {
     if let Some(queueing) = ended {
-        tell_flight_end(flights, reply, queueing);
+        end_flight(flights, reply, queueing);
     }
     if let Some(queueing) = started {
         flights.start(queueing.item);
@@ -376,11 +371,11 @@ pub(crate) fn tell_flights(
     }
 }
 
-/// Tells the tickets of a wait that ended, and of one that began.
-pub(crate) fn tell_tickets(tickets: &mut Tickets, done: Option<Ticket>, begun: Option<Ticket>)
-    requires ended { held.MayEnd done tickets.old }
-    requires given { held.MayGive begun (held.told_ended done tickets.old) }
-    ensures { tickets.new ≡ held.told_given begun (held.told_ended done tickets.old) }
+/// Ends a ticket, and gives one.
+pub(crate) fn move_tickets(tickets: &mut Tickets, done: Option<Ticket>, begun: Option<Ticket>)
+    requires ended { MayEndTicket done tickets.old }
+    requires given { MayGiveTicket begun (tickets_after_end done tickets.old) }
+    ensures { tickets.new ≡ tickets_after_giving begun (tickets_after_end done tickets.old) }
 {
     if let Some(ticket) = done {
         tickets.end(ticket.caller, ticket.number);
@@ -390,10 +385,10 @@ pub(crate) fn tell_tickets(tickets: &mut Tickets, done: Option<Ticket>, begun: O
     }
 }
 
-/// Tells which queues are gone of a wait that ended: a queue is gone once its destroy ends.
-pub(crate) fn tell_gone(gone: &mut Vec<bool>, done: Option<Ticket>)
-    requires { lost.MayTellGone done gone.old.items }
-    ensures { lost.TellGone done gone.old.items gone.new.items }
+/// Marks a queue as gone once its destroy ends.
+pub(crate) fn lose_queue(gone: &mut Vec<bool>, done: Option<Ticket>)
+    requires { MayLoseQueue done gone.old.items }
+    ensures { LosesQueue done gone.old.items gone.new.items }
 {
     if let Some(ticket) = done {
         if let Call::Destroy { queue } = ticket.call {

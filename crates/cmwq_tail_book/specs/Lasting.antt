@@ -15,15 +15,15 @@ pub record Lasting : Type 0 where
   pub keep : ℕ
 
 -- with no entries yet
-abbrev pub opened : Layout → ℕ → Lasting
-opened s keep = record { history = record { layout = s; room = s.room; entries = [] }; given = 0; keep = keep }
+abbrev pub lasting_at_first : Layout → ℕ → Lasting
+lasting_at_first s keep = record { history = record { layout = s; room = s.room; entries = [] }; given = 0; keep = keep }
 
 abbrev pub with_made : Lasting → Entry → Lasting
 with_made l e = record l { history = with_entry l.history e }
 
 -- the history without what was given away
-abbrev pub kept_of : Lasting → List Entry
-kept_of l = drop l.given l.history.entries
+abbrev pub lasting_kept : Lasting → List Entry
+lasting_kept l = drop l.given l.history.entries
 
 -- all that is kept is given away
 abbrev pub with_none_kept : Lasting → Lasting
@@ -33,8 +33,8 @@ abbrev pub has_space : Lasting → Bool
 has_space l = nat_lt (length l.history.entries) (l.keep + l.given)
 
 -- the entry with number n, if it is kept
-abbrev pub entry_at : Lasting → ℕ → Option Entry
-entry_at l n = if nat_lt n l.given then None else slice_get l.history.entries n
+abbrev pub lasting_entry : Lasting → ℕ → Option Entry
+lasting_entry l n = if nat_lt n l.given then None else slice_get l.history.entries n
 
 -- why a call isn't made: no entry more can be kept, or else there is no room
 abbrev pub unmade_by : Lasting → Who → Call → Option Unmade

@@ -8,7 +8,7 @@ ghost use Rattle.cmwq_state.specs.Tables as tables;
 ghost use Rattle.cmwq_core.specs.History.{next_entry, past_in, is_ready};
 ghost use Rattle.cmwq_core.specs.Plans.{IsPlan};
 ghost use Rattle.cmwq_core.specs.Relied.{IsReliable};
-ghost use Rattle.cmwq_tail_book.specs.Lasting.{opened, with_made, with_none_kept, has_space, kept_of, entry_at, unmade_by};
+ghost use Rattle.cmwq_tail_book.specs.Lasting.{lasting_at_first, with_made, with_none_kept, has_space, lasting_kept, lasting_entry, unmade_by};
 
 use cmwq_core::{Execution, Full, Plan};
 use cmwq_model::{Call, Entry, ItemId, NoMemory, Number, Reply, Shape, Who};
@@ -48,7 +48,7 @@ impl TailBook {
     /// A book with no entries, and the room of its shape, which keeps so many entries at a time. No later call takes memory; the error
     /// says that it ran out.
     pub fn new(alloc: Global, shape: &Shape, keep: u32) -> Result<TailBook, NoMemory>
-        ensures { IfOk result (λ book. book ≡ opened shape.now keep) }
+        ensures { IfOk result (λ book. book ≡ lasting_at_first shape.now keep) }
     {
         Ok(TailBook {
             execution: Execution::new(alloc, shape, shape.counts().room)?,
@@ -83,7 +83,7 @@ impl TailBook {
 
     /// The history without what was given away, the oldest entry first. What a user relies on holds of the whole.
     pub fn kept(&self) -> &[Entry]
-        ensures kept { result.now ≡ kept_of self.now }
+        ensures kept { result.now ≡ lasting_kept self.now }
         ensures few { length result.now ≤ self.now.keep }
         ensures reliable { IsReliable self.now.history.layout (past_in self.now.history) }
     {
@@ -93,7 +93,7 @@ impl TailBook {
 
     /// The entry with this number, if it is kept.
     pub fn entry(&self, number: Number) -> Option<Entry>
-        ensures { result ≡ entry_at self.now number }
+        ensures { result ≡ lasting_entry self.now number }
     {
         let first = self.tail.first();
         if number < first {
@@ -166,7 +166,7 @@ impl TailBook {
     pub fn give(&mut self, out: &mut Vec<Entry>)
         requires empty { out.old.items ≡ [] }
         requires large { self.old.keep ≤ vec_capacity out.old }
-        ensures given { out.new.items ≡ kept_of self.old }
+        ensures given { out.new.items ≡ lasting_kept self.old }
         ensures large { self.old.keep ≤ vec_capacity out.new }
         ensures book { self.new ≡ with_none_kept self.old }
     {

@@ -7,6 +7,8 @@ mod book;
 #[cfg(test)]
 mod generator;
 #[cfg(test)]
+mod summary;
+#[cfg(test)]
 mod tail_book;
 #[cfg(test)]
 mod words;

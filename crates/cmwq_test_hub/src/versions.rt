@@ -1,5 +1,5 @@
 ghost use Rattle.std.specs.Prelude.{◌≡◌, []};
-ghost use Rattle.cmwq_publish.specs.Next.{IsNext};
+ghost use Rattle.cmwq_publish.specs.Next.{IsNextMark};
 
 use cmwq_model::{
     Call, CallerId, Counts, CpuId, Entry, ItemId, Mark, NoMemory, QueueId, QueueShape, Reply,
@@ -55,7 +55,7 @@ fn shown_and_read<N: HubName, R: Wait>(
 ) -> (Read, Read, Read, Read)
     requires layout { opening.layout ≡ N.layout }
     requires book { opening.book ≡ N.book }
-    requires next { IsNext opening.layout [] mark }
+    requires next { IsNextMark opening.layout [] mark }
 {
     let (mut publisher, mut readers) = opening.named::<N>();
     let mut reader = readers.next();

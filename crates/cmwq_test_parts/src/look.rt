@@ -91,7 +91,7 @@ fn item_is_booked(rt: &impl Abort, past: &Past<'_>) -> Result<(), Fail> {
     assert_eq!(rt; now(past), 4);
     assert!(rt; is_booked(past, 0));
     assert_eq!(rt; booking(past, 0).ok_or("not booked")?.due, 5);
-    let made = booking_of(&delayed(), 0).ok_or("no booking")?;
+    let made = delayed().booking(0).ok_or("no booking")?;
     assert!(rt; stands(past, &made));
     Ok(())
 }

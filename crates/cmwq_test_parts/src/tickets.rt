@@ -1,5 +1,5 @@
 ghost use Rattle.std.specs.Prelude.{◌≡◌};
-ghost use Rattle.cmwq_ticket.specs.Rows.{ticket_of};
+ghost use Rattle.cmwq_ticket.specs.Rows.{ticket_of_caller};
 
 use cmwq_model::{Call, CallerId, ItemId, Number, QueueId, Ticket};
 use cmwq_ticket::*;
@@ -20,7 +20,7 @@ fn give(rt: &impl Abort, tickets: &mut Tickets, ticket: Ticket) {
 }
 
 fn find(rt: &impl Abort, tickets: &Tickets, caller: u8, number: Number) -> Option<Ticket>
-    ensures { result ≡ ticket_of tickets.now caller number }
+    ensures { result ≡ ticket_of_caller tickets.now caller number }
 {
     assert!(rt; caller < tickets.callers(), "caller {caller} is there");
     tickets.find(CallerId(caller), number)

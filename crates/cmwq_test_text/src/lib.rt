@@ -5,6 +5,8 @@
 #[cfg(test)]
 mod base;
 #[cfg(test)]
+mod chart;
+#[cfg(test)]
 mod engine;
 #[cfg(test)]
 mod live;

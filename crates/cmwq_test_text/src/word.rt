@@ -8,6 +8,7 @@ fn reads_each_word(rt: HostRuntime) -> Result<(), Fail> {
         ("step", Word::Step { live: false }),
         ("check", Word::Check { front: false }),
         ("upgrade", Word::Upgrade),
+        ("chart", Word::Chart),
         ("replay", Word::Replay),
         ("run", Word::Run),
     ] {
@@ -32,10 +33,10 @@ fn reads_the_flag_of_step(rt: HostRuntime) -> Result<(), Fail> {
 
 #[test]
 fn refuses_the_flags_elsewhere(rt: HostRuntime) {
-    for name in ["step", "upgrade", "replay", "run"] {
+    for name in ["step", "upgrade", "chart", "replay", "run"] {
         assert!(rt; word_of(rt.alloc(), &["cmwq", name, "--front"]).is_err());
     }
-    for name in ["check", "upgrade", "replay", "run"] {
+    for name in ["check", "upgrade", "chart", "replay", "run"] {
         assert!(rt; word_of(rt.alloc(), &["cmwq", name, "--live"]).is_err());
     }
     assert!(rt; word_of(rt.alloc(), &["cmwq", "--front", "check"]).is_err());

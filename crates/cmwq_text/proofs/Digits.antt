@@ -1,12 +1,8 @@
 -- Digits that are read one after the other.
-use Rattle.std.proofs.Common.{◌≡◌, ℕ, ◌+◌, ◌-◌, ◌*◌, ◌<◌, ◌≤◌, Bool, true, false, ◌&&◌, List, [], ◌∷◌, length, drop, get_or, leb, Option, Some, None, refl, ap, sym, ◌∙◌, arith, cond, subst, add-one, drop-cons}
-use Rattle.std.specs.Str.{all_ascii_digits}
-use Rattle.std.specs.Char.{is_ascii_digit}
-use Rattle.std.proofs.lemmas.Bool.{leb-true, leb-false, lt-leb, le-leb}
-use Rattle.std.proofs.lemmas.List.{drop_all}
-use Rattle.std.proofs.lemmas.Option.{cond_some}
+use Rattle.cmwq_text.specs.Common.{◌≡◌, ℕ, ◌+◌, ◌-◌, ◌*◌, ◌<◌, ◌≤◌, Bool, true, false, ◌&&◌, List, [], ◌∷◌, length, drop, get_or, leb, Option, Some, None, refl, ap, sym, ◌∙◌, arith, cond, subst, add-one, drop-cons, all_ascii_digits, is_ascii_digit, leb-true, leb-false, lt-leb, le-leb, drop_all, cond_some}
 use Rattle.cmwq_text.specs.Numbers.{value_from, with_digit, digits_from}
-use Rattle.cmwq_text.proofs.Steps.{not_chosen, both}
+use Rattle.std.proofs.lemmas.Bool.{and_parts}
+use Rattle.cmwq_lemmas.proofs.Truth.{not_chosen}
 
 value_from-grows : (n : ℕ) (ds : List ℕ) → n ≤ value_from n ds
 value_from-grows n [] = omega arith
@@ -25,7 +21,7 @@ one_more : (limit n d m : ℕ) (ds : List ℕ) → with_digit limit n d ≡ Some
 unfolding digits_from
 one_more limit n d m ds e =
     let found = cond_some (is_ascii_digit d && leb (n * 10 + (d - 48)) limit) (n * 10 + (d - 48)) m e in
-    drop_true (is_ascii_digit d) (all_ascii_digits ds) (leb (value_from (n * 10 + (d - 48)) ds) limit) (value_from (n * 10 + (d - 48)) ds) (both (is_ascii_digit d) (leb (n * 10 + (d - 48)) limit) found.0).0
+    drop_true (is_ascii_digit d) (all_ascii_digits ds) (leb (value_from (n * 10 + (d - 48)) ds) limit) (value_from (n * 10 + (d - 48)) ds) (and_parts (is_ascii_digit d) (leb (n * 10 + (d - 48)) limit) found.0).0
     ∙ ap (λ (k : ℕ). digits_from limit k ds) found.1
 
 no_more : (limit n d : ℕ) (ds : List ℕ) → with_digit limit n d ≡ None → digits_from limit n (d ∷ ds) ≡ None
@@ -39,7 +35,7 @@ no_more limit n d ds e =
 pub within : (limit n d m : ℕ) → with_digit limit n d ≡ Some m → m ≤ limit
 within limit n d m e =
     let found = cond_some (is_ascii_digit d && leb (n * 10 + (d - 48)) limit) (n * 10 + (d - 48)) m e in
-    let next : n * 10 + (d - 48) ≤ limit = leb-true _ _ (both (is_ascii_digit d) (leb (n * 10 + (d - 48)) limit) found.0).1 in
+    let next : n * 10 + (d - 48) ≤ limit = leb-true _ _ (and_parts (is_ascii_digit d) (leb (n * 10 + (d - 48)) limit) found.0).1 in
     subst (λ (k : ℕ). k ≤ limit) found.1 next
 
 -- of the digits from index i on, the first is read: on, or not

@@ -1,14 +1,7 @@
 -- The last line of a history: what is spelled is read again, what is read is spelled so, and no other line is one.
-use Rattle.std.proofs.Common.{◌≡◌, ℕ, ◌≤◌, true, List, [], ◌∷◌, ◌++◌, length, Option, Some, None, cond, refl, ap, ◌∙◌, arith}
-use Rattle.std.specs.Prelude.{codes}
-use Rattle.std.specs.Fmt.{decimal}
-use Rattle.std.proofs.lemmas.Option.{same_Some}
-use Rattle.cmwq_model.specs.declared.id.Who.{Who}
-use Rattle.cmwq_model.specs.declared.id.Who.TheVariants.{Caller, Worker}
-use Rattle.cmwq_model.specs.declared.entry.Entry.{Entry}
-use Rattle.cmwq_model.specs.Prelude.{IsEntry}
+use Rattle.cmwq_text.specs.Common.{◌≡◌, ℕ, ◌≤◌, true, List, [], ◌∷◌, ◌++◌, length, Option, Some, None, cond, refl, ap, ◌∙◌, arith, codes, decimal, same_Some, Who, Caller, Worker, Entry, IsEntry}
 use Rattle.cmwq_text.specs.Numbers.{greatest_number}
-use Rattle.cmwq_text.specs.Words.{◌>>=◌, words_of, joined, is_end, after, wide_in}
+use Rattle.cmwq_text.specs.Words.{◌>>=◌, words_of, join_words, has_no_word, after, wide_in}
 use Rattle.cmwq_text.specs.IdText.{who_text}
 use Rattle.cmwq_text.specs.CallText.{call_words}
 use Rattle.cmwq_text.specs.ReplyText.{reply_words}
@@ -23,7 +16,7 @@ use Rattle.cmwq_text.proofs.LineLaws.{line_words, line_is, no_more}
 use Rattle.cmwq_text.proofs.EntryLaws.{entry_is_plain}
 
 abbrev end_tested : ℕ × List (List ℕ) → Option ℕ
-end_tested n = cond (is_end n.1) (Some n.0) None
+end_tested n = cond (has_no_word n.1) (Some n.0) None
 
 abbrev end_from : List (List ℕ) → Option ℕ
 end_from ws = after (codes "end") ws >>= λ rest. wide_in rest >>= end_tested
@@ -49,7 +42,7 @@ unfolding end_text end_of
 ends_spelled_so n line is =
     let first = bind_some (after (codes "end") (words_of line)) (λ (rest : List (List ℕ)). wide_in rest >>= end_tested) n is in
     let number = bind_some (wide_in first.0) end_tested n first.2 in
-    let found = chosen (is_end number.0.1) (Some number.0.0) n number.2 in
+    let found = chosen (has_no_word number.0.1) (Some number.0.0) n number.2 in
     let words : words_of line ≡ end_words number.0.0 = end_pieces (words_of line) first.0 number.0.1 number.0.0
     (after_takes (codes "end") (words_of line) first.0 first.1)
     (wide_in_takes first.0 number.0 number.1)
@@ -63,7 +56,7 @@ who_ends_none (Caller c) ws = refl
 who_ends_none (Worker w) ws = refl
 
 -- a line of an entry is no last line
-pub entry_ends_none : (e : Entry) → (IsEntry greatest_number) e → end_of (joined (entry_words e)) ≡ None
+pub entry_ends_none : (e : Entry) → (IsEntry greatest_number) e → end_of (join_words (entry_words e)) ≡ None
 unfolding end_of
 entry_ends_none e h =
     let rest : List (List ℕ) = decimal e.serial ∷ (call_words e.call ++ codes "=" ∷ reply_words e.reply) in

@@ -1,25 +1,10 @@
 -- Ids that are spelled are read again, and what is read as an id is spelled so, unless it is the greatest of its type.
-use Rattle.std.proofs.Common.{◌≡◌, ℕ, suc, ◌+◌, ◌<◌, ◌≤◌, ◌^◌, Bool, true, false, ◌||◌, List, [], ◌∷◌, ◌++◌, length, get_or, take, drop, eqb, Option, Some, None, refl, ap, sym, ◌∙◌, arith, cond, subst, add-one, append_assoc, ◌⊎◌, inl, inr}
-use Rattle.std.specs.Prelude.{position}
-use Rattle.std.specs.Fmt.{decimal}
-use Rattle.std.specs.List.{position_or_len}
+use Rattle.cmwq_text.specs.Common.{◌≡◌, ℕ, suc, ◌+◌, ◌<◌, ◌≤◌, ◌^◌, Bool, true, false, ◌||◌, List, [], ◌∷◌, ◌++◌, length, get_or, take, drop, eqb, Option, Some, None, refl, ap, sym, ◌∙◌, arith, cond, subst, add-one, append_assoc, ◌⊎◌, inl, inr, position, decimal, position_or_len, eqb-true, lt-ltb, ne_eqb, same_Some, length-append, get_or_append_left, take_at, drop_at, position_or_len_is, digits_decimal, not_in_digits, ItemId, QueueId, CpuId, Who, Caller, Worker, greatest, greatest_long, greatest_byte, greatest_short, IsWho}
 use Rattle.std.proofs.Math.Seq.{split_at, get_or-append_seam}
-use Rattle.std.proofs.lemmas.Bool.{eqb-true, lt-ltb, ne_eqb}
-use Rattle.std.proofs.lemmas.Option.{same_Some}
-use Rattle.std.proofs.lemmas.List.{length-append, get_or_append_left, take_at, drop_at}
 use Rattle.std.proofs.lemmas.List.Quantifiers.{position-Some}
-use Rattle.std.proofs.lemmas.List.Sums.{position_or_len_is}
-use Rattle.std.proofs.lemmas.Fmt.{digits_decimal}
-use Rattle.std.proofs.lemmas.Str.Parse.{not_in_digits}
-use Rattle.cmwq_model.specs.declared.id.ItemId.{ItemId}
-use Rattle.cmwq_model.specs.declared.id.QueueId.{QueueId}
-use Rattle.cmwq_model.specs.declared.id.CpuId.{CpuId}
-use Rattle.cmwq_model.specs.declared.id.Who.{Who}
-use Rattle.cmwq_model.specs.declared.id.Who.TheVariants.{Caller, Worker}
-use Rattle.cmwq_model.specs.Prelude.{greatest, greatest_long, greatest_byte, greatest_short, IsWho}
-use Rattle.cmwq_text.specs.Numbers.{number_of, byte_of, short_of, greatest_number}
-use Rattle.cmwq_text.specs.Words.{◌>>=◌, one, byte_in, short_in, number_in, wide_in, long_in}
-use Rattle.cmwq_text.specs.IdText.{item, queue, cpu, caller, worker, item_in, queue_in, cpu_in, pool_letter, is_pool_letter, who_text, caller_of, worker_of, who_of, who_in}
+use Rattle.cmwq_text.specs.Numbers.{number_read, byte_of, short_of, greatest_number}
+use Rattle.cmwq_text.specs.Words.{◌>>=◌, take_one, byte_in, short_in, number_in, wide_in, long_in}
+use Rattle.cmwq_text.specs.IdText.{item, queue_numbered, cpu, caller_numbered, worker_numbered, item_in, queue_in, cpu_in, pool_letter, is_pool_letter, who_text, caller_read, worker_read, who_read, who_in}
 use Rattle.cmwq_text.proofs.Steps.{bind_some}
 use Rattle.cmwq_text.proofs.NumberLaws.{own, number_again, number_takes, byte_again, byte_takes, short_again, short_takes}
 use Rattle.cmwq_text.proofs.WordLaws.{word_takes, is_plain, is_plain-append, is_plain-decimal}
@@ -49,17 +34,17 @@ cpu_again c ws le = rw (byte_again c.0 le) refl
 
 pub number_in_takes : (ws : List (List ℕ)) (x : ℕ × List (List ℕ)) → number_in ws ≡ Some x → ws ≡ decimal x.0 ∷ x.1
 number_in_takes ws x e =
-    let read = word_takes (number_of greatest) ws x e in
+    let read = word_takes (number_read greatest) ws x e in
     read.1 ∙ ap (λ (w : List ℕ). w ∷ x.1) (number_takes greatest x.0 read.0 (omega arith) read.2).0
 
 pub wide_in_takes : (ws : List (List ℕ)) (x : ℕ × List (List ℕ)) → wide_in ws ≡ Some x → ws ≡ decimal x.0 ∷ x.1
 wide_in_takes ws x e =
-    let read = word_takes (number_of greatest_number) ws x e in
+    let read = word_takes (number_read greatest_number) ws x e in
     read.1 ∙ ap (λ (w : List ℕ). w ∷ x.1) (number_takes greatest_number x.0 read.0 (omega arith) read.2).0
 
 pub long_in_takes : (ws : List (List ℕ)) (x : ℕ × List (List ℕ)) → long_in ws ≡ Some x → ws ≡ decimal x.0 ∷ x.1
 long_in_takes ws x e =
-    let read = word_takes (number_of greatest_long) ws x e in
+    let read = word_takes (number_read greatest_long) ws x e in
     read.1 ∙ ap (λ (w : List ℕ). w ∷ x.1) (number_takes greatest_long x.0 read.0 (omega arith) read.2).0
 
 pub byte_in_takes : (ws : List (List ℕ)) (x : ℕ × List (List ℕ)) → byte_in ws ≡ Some x → x.0 < greatest_byte → ws ≡ decimal x.0 ∷ x.1
@@ -73,7 +58,7 @@ short_in_takes ws x e lt =
     read.1 ∙ ap (λ (w : List ℕ). w ∷ x.1) (short_takes x.0 read.0 read.2 lt)
 
 -- an id is the number of its word
-made : {A : Type 0} (read : List (List ℕ) → Option (ℕ × List (List ℕ))) (make : ℕ → A) (ws : List (List ℕ)) (x : A × List (List ℕ)) → one read make ws ≡ Some x → (n : ℕ × List (List ℕ)) × (read ws ≡ Some n) × ((make n.0, n.1) ≡ x)
+made : {A : Type 0} (read : List (List ℕ) → Option (ℕ × List (List ℕ))) (make : ℕ → A) (ws : List (List ℕ)) (x : A × List (List ℕ)) → take_one read make ws ≡ Some x → (n : ℕ × List (List ℕ)) × (read ws ≡ Some n) × ((make n.0, n.1) ≡ x)
 made {A} read make ws x e =
     let n = bind_some (read ws) (λ (n : ℕ × List (List ℕ)). Some (make n.0, n.1)) x e in
     (n.0, n.1, same_Some _ _ n.2)
@@ -85,7 +70,7 @@ item_takes ws x e =
 
 pub queue_takes : (ws : List (List ℕ)) (x : QueueId × List (List ℕ)) → queue_in ws ≡ Some x → x.0.0 < greatest_byte → ws ≡ decimal x.0.0 ∷ x.1
 queue_takes ws x e =
-    let n = made byte_in queue ws x e in
+    let n = made byte_in queue_numbered ws x e in
     subst (λ (y : QueueId × List (List ℕ)). y.0.0 < greatest_byte → ws ≡ decimal y.0.0 ∷ y.1) n.2 (byte_in_takes ws n.0 n.1)
 
 pub cpu_takes : (ws : List (List ℕ)) (x : CpuId × List (List ℕ)) → cpu_in ws ≡ Some x → x.0.0 < greatest_byte → ws ≡ decimal x.0.0 ∷ x.1
@@ -140,13 +125,13 @@ abbrev pub read_at : List ℕ → ℕ → Option Who
 read_at name l = do
   c ← byte_of (take l name)
   x ← byte_of (drop (l + 1) name)
-  Some (worker c (eqb (get_or name l 0) 104) x)
+  Some (worker_numbered c (eqb (get_or name l 0) 104) x)
 
-read_is : (name a b : List ℕ) (l c x : ℕ) (high : Bool) → take l name ≡ a → drop (l + 1) name ≡ b → eqb (get_or name l 0) 104 ≡ high → byte_of a ≡ Some c → byte_of b ≡ Some x → read_at name l ≡ Some (worker c high x)
+read_is : (name a b : List ℕ) (l c x : ℕ) (high : Bool) → take l name ≡ a → drop (l + 1) name ≡ b → eqb (get_or name l 0) 104 ≡ high → byte_of a ≡ Some c → byte_of b ≡ Some x → read_at name l ≡ Some (worker_numbered c high x)
 read_is name a b l c x high before behind says first second = rw (before, behind, says, first, second) refl
 
-worker_again : (c x : ℕ) (high : Bool) → c ≤ greatest_byte → x ≤ greatest_byte → worker_of (decimal c ++ pool_letter high ∷ decimal x) ≡ Some (worker c high x)
-unfolding worker_of
+worker_again : (c x : ℕ) (high : Bool) → c ≤ greatest_byte → x ≤ greatest_byte → worker_read (decimal c ++ pool_letter high ∷ decimal x) ≡ Some (worker_numbered c high x)
+unfolding worker_read
 worker_again c x high small_c small_x =
     let k : ℕ = length (decimal c) in
     let letter : ℕ = pool_letter high in
@@ -157,8 +142,8 @@ worker_again c x high small_c small_x =
     ap (λ (o : Option ℕ). o >>= read_at name) (letter_at c letter (decimal x) (omega arith) (letter_is high))
     ∙ read_is name (decimal c) (decimal x) k c x high (take_at (decimal c) (letter ∷ decimal x) k refl) behind says (byte_again c small_c) (byte_again x small_x)
 
-pub who_again : (who : Who) → IsWho who → who_of (who_text who) ≡ Some who
-unfolding who_of
+pub who_again : (who : Who) → IsWho who → who_read (who_text who) ≡ Some who
+unfolding who_read
 who_again (Caller c) h = rw (byte_again c.0 h) refl
 who_again (Worker w) h = worker_again w.pool.cpu.0 w.index w.pool.high h.0 h.1
 
@@ -167,12 +152,12 @@ abbrev pub IsKnownWho : Who → Type 0
 IsKnownWho (Caller c) = c.0 < greatest_byte
 IsKnownWho (Worker w) = (w.pool.cpu.0 < greatest_byte) × (w.index < greatest_byte)
 
-worker_is : (name : List ℕ) (who : Who) → worker_of name ≡ Some who → IsKnownWho who → 119 ∷ name ≡ who_text who
-unfolding worker_of
+worker_is : (name : List ℕ) (who : Who) → worker_read name ≡ Some who → IsKnownWho who → 119 ∷ name ≡ who_text who
+unfolding worker_read
 worker_is name who e =
     let l = bind_some (position is_pool_letter name) (read_at name) who e in
-    let c = bind_some (byte_of (take l.0 name)) (λ (c : ℕ). byte_of (drop (l.0 + 1) name) >>= λ (x : ℕ). Some (worker c (eqb (get_or name l.0 0) 104) x)) who l.2 in
-    let x = bind_some (byte_of (drop (l.0 + 1) name)) (λ (x : ℕ). Some (worker c.0 (eqb (get_or name l.0 0) 104) x)) who c.2 in
+    let c = bind_some (byte_of (take l.0 name)) (λ (c : ℕ). byte_of (drop (l.0 + 1) name) >>= λ (x : ℕ). Some (worker_numbered c (eqb (get_or name l.0 0) 104) x)) who l.2 in
+    let x = bind_some (byte_of (drop (l.0 + 1) name)) (λ (x : ℕ). Some (worker_numbered c.0 (eqb (get_or name l.0 0) 104) x)) who c.2 in
     let at = position-Some is_pool_letter name l.0 0 l.1 in
     let cut : name ≡ take l.0 name ++ get_or name l.0 0 ∷ drop (l.0 + 1) name = rw add-one (split_at name l.0 0 at.0) in
     subst (λ (w : Who). IsKnownWho w → 119 ∷ name ≡ who_text w) (same_Some _ _ x.2)
@@ -182,9 +167,9 @@ worker_is name who e =
     pieces : (name a b c x : List ℕ) (letter : ℕ) → name ≡ a ++ letter ∷ b → a ≡ c → b ≡ x → is_pool_letter letter ≡ true → name ≡ c ++ pool_letter (eqb letter 104) ∷ x
     pieces name a b c x letter cut first second is = cut ∙ rw (first, second) (ap (λ (k : ℕ). c ++ k ∷ x) (letter_back letter is))
 
-caller_is : (name : List ℕ) (who : Who) → caller_of name ≡ Some who → IsKnownWho who → 99 ∷ name ≡ who_text who
+caller_is : (name : List ℕ) (who : Who) → caller_read name ≡ Some who → IsKnownWho who → 99 ∷ name ≡ who_text who
 caller_is name who e =
-    let n = bind_some (byte_of name) (λ (n : ℕ). Some (caller n)) who e in
+    let n = bind_some (byte_of name) (λ (n : ℕ). Some (caller_numbered n)) who e in
     subst (λ (w : Who). IsKnownWho w → 99 ∷ name ≡ who_text w) (same_Some _ _ n.2)
     (λ (known : n.0 < greatest_byte). ap (λ (t : List ℕ). 99 ∷ t) (byte_takes n.0 name n.1 known))
 
@@ -194,18 +179,18 @@ first_says true w a b who e = inl (refl, e)
 first_says false true a b who e = inr (refl, e)
 first_says false false a b who e = absurd cc
 
-pub who_is : (w : List ℕ) (who : Who) → who_of w ≡ Some who → IsKnownWho who → w ≡ who_text who
-unfolding who_of
+pub who_is : (w : List ℕ) (who : Who) → who_read w ≡ Some who → IsKnownWho who → w ≡ who_text who
+unfolding who_read
 who_is [] who e known = absurd cc
 who_is (first ∷ name) who e known =
-    elim (first_says (eqb first 99) (eqb first 119) (caller_of name) (worker_of name) who e) [
+    elim (first_says (eqb first 99) (eqb first 119) (caller_read name) (worker_read name) who e) [
       | inl c ↦ rw (eqb-true first 99 c.0) (caller_is name who c.1 known)
       | inr w ↦ rw (eqb-true first 119 w.0) (worker_is name who w.1 known)
     ]
 
 pub who_takes : (ws : List (List ℕ)) (x : Who × List (List ℕ)) → who_in ws ≡ Some x → IsKnownWho x.0 → ws ≡ who_text x.0 ∷ x.1
 who_takes ws x e known =
-    let read = word_takes who_of ws x e in
+    let read = word_takes who_read ws x e in
     read.1 ∙ ap (λ (w : List ℕ). w ∷ x.1) (who_is read.0 x.0 read.2 known)
 
 pub is_plain-who : (who : Who) → IsWho who → is_plain (who_text who) ≡ true

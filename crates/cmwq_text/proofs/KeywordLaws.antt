@@ -1,21 +1,19 @@
 -- A keyword that is spelled is read again, and what is read as a keyword is spelled so.
-use Rattle.std.proofs.Common.{◌≡◌, ℕ, Bool, true, false, List, [], ◌∷◌, Option, Some, refl, ap, sym, ◌∙◌, cond, subst, ◌⊎◌, inl, inr}
-use Rattle.std.specs.List.{find}
-use Rattle.std.proofs.lemmas.Option.{same_Some}
-use Rattle.std.proofs.lemmas.Slice.Eq.{bytes_eq-Decides}
+use Rattle.cmwq_text.specs.Common.{◌≡◌, ℕ, Bool, true, false, List, [], ◌∷◌, Option, Some, refl, ap, sym, ◌∙◌, cond, subst, ◌⊎◌, inl, inr, find, same_Some, bytes_eq-Decides}
 use Rattle.cmwq_text.specs.declared.keyword.Keyword.{Keyword}
 use Rattle.cmwq_text.specs.declared.keyword.Keyword.TheVariants as word
 use Rattle.cmwq_text.specs.declared.keyword.TheConstants.{KEYWORDS}
-use Rattle.cmwq_text.specs.Keywords.{text, is_text, keyword_of, keyword_in}
+use Rattle.cmwq_text.specs.Keywords.{keyword_text, is_keyword_text, keyword_of, keyword_in}
 use Rattle.cmwq_text.proofs.WordLaws.{is_plain, word_takes}
+use Rattle.cmwq_lemmas.proofs.Lists.{found_passes}
 
-pub is_plain-text : (k : Keyword) → is_plain (text k) ≡ true
-unfolding text
+pub is_plain-text : (k : Keyword) → is_plain (keyword_text k) ≡ true
+unfolding keyword_text
 is_plain-text word.Queue = refl
 is_plain-text k = refl
 
-pub keyword_again : (k : Keyword) → keyword_of (text k) ≡ Some k
-unfolding keyword_of text
+pub keyword_again : (k : Keyword) → keyword_of (keyword_text k) ≡ Some k
+unfolding keyword_of keyword_text
 keyword_again word.Queue = refl
 keyword_again k = refl
 
@@ -23,19 +21,11 @@ first_or : {A : Type 0} (b : Bool) (x y : A) (o : Option A) → cond b (Some x) 
 first_or true x y o e = inl (refl, same_Some x y e)
 first_or false x y o e = inr e
 
-pub found_passes : {A : Type 0} (p : A → Bool) (xs : List A) (y : A) → find p xs ≡ Some y → p y ≡ true
-found_passes p [] y e = absurd cc
-found_passes p (x ∷ xs) y e =
-    elim (first_or (p x) x y (find p xs) e) [
-      | inl here ↦ subst (λ z. p z ≡ true) here.1 here.0
-      | inr later ↦ found_passes p xs y later
-    ]
-
-pub keyword_is : (k : Keyword) (w : List ℕ) → keyword_of w ≡ Some k → w ≡ text k
+pub keyword_is : (k : Keyword) (w : List ℕ) → keyword_of w ≡ Some k → w ≡ keyword_text k
 unfolding keyword_of
-keyword_is k w e = sym ((bytes_eq-Decides (text k) w).0 (found_passes (is_text w) KEYWORDS k e))
+keyword_is k w e = sym ((bytes_eq-Decides (keyword_text k) w).0 (found_passes (is_keyword_text w) KEYWORDS k e))
 
-pub keyword_takes : (ws : List (List ℕ)) (x : Keyword × List (List ℕ)) → keyword_in ws ≡ Some x → ws ≡ text x.0 ∷ x.1
+pub keyword_takes : (ws : List (List ℕ)) (x : Keyword × List (List ℕ)) → keyword_in ws ≡ Some x → ws ≡ keyword_text x.0 ∷ x.1
 keyword_takes ws x e =
     let read = word_takes keyword_of ws x e in
     read.1 ∙ ap (λ (w : List ℕ). w ∷ x.1) (keyword_is x.0 read.0 read.2)

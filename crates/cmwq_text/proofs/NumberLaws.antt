@@ -1,14 +1,8 @@
 -- A number that is spelled is read again, and what is read as a number is spelled so.
-use Rattle.std.proofs.Common.{◌≡◌, ℕ, zero, suc, ◌<◌, ◌≤◌, ◌^◌, true, false, ◌&&◌, List, [], ◌∷◌, length, get_or, leb, eqb, min, Option, Some, None, refl, ap, sym, ◌∙◌, arith, subst, rules, ◌⊎◌, inl, inr}
-use Rattle.std.specs.Fmt.{decimal}
-use Rattle.std.specs.Str.{all_ascii_digits}
-use Rattle.std.proofs.lemmas.Bool.{eqb-true, leb-true, le-leb, ne_eqb}
-use Rattle.std.proofs.lemmas.Option.{cond_some, same_Some}
-use Rattle.std.proofs.lemmas.Fmt.{decimal_digit, decimal_nonempty, first_decimal, digits_decimal, digits_value-decimal, decimal-digits_value}
-use Rattle.std.proofs.lemmas.Str.Parse.{IsNumeralModel, numerals_by_fold}
-use Rattle.cmwq_text.specs.Numbers.{value_from, digits_from, is_begun, number_of, byte_of, short_of, held_at_most}
-use Rattle.cmwq_model.specs.Prelude.{greatest, greatest_byte, greatest_short}
-use Rattle.cmwq_text.proofs.Steps.{chosen, both}
+use Rattle.cmwq_text.specs.Common.{◌≡◌, ℕ, zero, suc, ◌<◌, ◌≤◌, ◌^◌, true, false, ◌&&◌, List, [], ◌∷◌, length, get_or, leb, eqb, min, Option, Some, None, refl, ap, sym, ◌∙◌, arith, subst, rules, ◌⊎◌, inl, inr, decimal, all_ascii_digits, eqb-true, leb-true, le-leb, ne_eqb, cond_some, same_Some, decimal_digit, decimal_nonempty, first_decimal, digits_decimal, digits_value-decimal, decimal-digits_value, IsNumeralModel, numerals_by_fold, greatest, greatest_byte, greatest_short}
+use Rattle.cmwq_text.specs.Numbers.{value_from, digits_from, is_begun, number_read, byte_of, short_of, held_at_most}
+use Rattle.cmwq_text.proofs.Steps.{chosen}
+use Rattle.std.proofs.lemmas.Bool.{and_parts}
 
 pub own : IsNumeralModel (λ ds. all_ascii_digits ds ≡ true) (value_from 0)
 own = numerals_by_fold _ (search rules) value_from (search rules)
@@ -30,8 +24,8 @@ begun-decimal n lt =
       | inr above ↦ begun (decimal n) (decimal_nonempty n lt) (first_decimal n above lt)
     ]
 
-pub number_again : (limit n : ℕ) → n ≤ limit → n < 2 ^ 64 → number_of limit (decimal n) ≡ Some n
-unfolding number_of digits_from
+pub number_again : (limit n : ℕ) → n ≤ limit → n < 2 ^ 64 → number_read limit (decimal n) ≡ Some n
+unfolding number_read digits_from
 number_again limit n le lt =
     rw (begun-decimal n lt, digits_decimal own n lt, digits_value-decimal own n lt, le-leb n limit le) refl
 
@@ -49,11 +43,11 @@ digits_take : (limit n : ℕ) (word : List ℕ) → digits_from limit 0 word ≡
 unfolding digits_from
 digits_take limit n word e =
     let found = cond_some (all_ascii_digits word && leb (value_from 0 word) limit) (value_from 0 word) n e in
-    let parts = both (all_ascii_digits word) (leb (value_from 0 word) limit) found.0 in
+    let parts = and_parts (all_ascii_digits word) (leb (value_from 0 word) limit) found.0 in
     (parts.0, found.1, subst (λ (k : ℕ). k ≤ limit) found.1 (leb-true _ _ parts.1))
 
-pub number_takes : (limit n : ℕ) (word : List ℕ) → limit < 2 ^ 64 → number_of limit word ≡ Some n → (word ≡ decimal n) × (n ≤ limit)
-unfolding number_of
+pub number_takes : (limit n : ℕ) (word : List ℕ) → limit < 2 ^ 64 → number_read limit word ≡ Some n → (word ≡ decimal n) × (n ≤ limit)
+unfolding number_read
 number_takes limit n word lt e =
     let begins = chosen (is_begun word) (digits_from limit 0 word) n e in
     let digits = digits_take limit n word begins.1 in
@@ -81,7 +75,7 @@ held_is most n (Some m) e lt =
     ap (λ (k : ℕ). Some k) (omega arith)
 
 pub byte_takes : (n : ℕ) (word : List ℕ) → byte_of word ≡ Some n → n < greatest_byte → word ≡ decimal n
-byte_takes n word e lt = (number_takes greatest n word (omega arith) (held_is greatest_byte n (number_of greatest word) e lt)).0
+byte_takes n word e lt = (number_takes greatest n word (omega arith) (held_is greatest_byte n (number_read greatest word) e lt)).0
 
 pub short_takes : (n : ℕ) (word : List ℕ) → short_of word ≡ Some n → n < greatest_short → word ≡ decimal n
-short_takes n word e lt = (number_takes greatest n word (omega arith) (held_is greatest_short n (number_of greatest word) e lt)).0
+short_takes n word e lt = (number_takes greatest n word (omega arith) (held_is greatest_short n (number_read greatest word) e lt)).0

@@ -1,24 +1,20 @@
 -- A keyword and numbers: that each word is plain, and how long the words are.
-use Rattle.std.proofs.Common.{◌≡◌, ℕ, ◌+◌, ◌<◌, ◌≤◌, ◌^◌, true, List, [], ◌∷◌, ◌++◌, length, map, refl, arith}
-use Rattle.std.specs.Fmt.{decimal}
-use Rattle.std.specs.List.{AllByRecursion}
-use Rattle.std.proofs.lemmas.List.{length-append}
-use Rattle.std.proofs.lemmas.Fmt.{length-decimal-le}
+use Rattle.cmwq_text.specs.Common.{◌≡◌, ℕ, ◌+◌, ◌<◌, ◌≤◌, ◌^◌, true, List, [], ◌∷◌, ◌++◌, length, map, refl, arith, decimal, AllByRecursion, length-append, length-decimal-le, greatest, greatest_long, greatest_byte, greatest_short}
 use Rattle.cmwq_text.specs.declared.keyword.Keyword.{Keyword}
 use Rattle.cmwq_text.specs.Numbers.{greatest_number}
-use Rattle.cmwq_model.specs.Prelude.{greatest, greatest_long, greatest_byte, greatest_short}
-use Rattle.cmwq_text.specs.Words.{joined, line_text}
-use Rattle.cmwq_text.specs.Keywords.{text}
+use Rattle.cmwq_text.specs.Words.{join_words, line_text}
+use Rattle.cmwq_text.specs.Keywords.{keyword_text}
 use Rattle.cmwq_text.specs.CallText.{phrase}
-use Rattle.cmwq_text.proofs.WordLaws.{is_plain, are_plain, and_true, is_plain-decimal}
+use Rattle.cmwq_text.proofs.WordLaws.{is_plain, are_plain, is_plain-decimal}
 use Rattle.cmwq_text.proofs.KeywordLaws.{is_plain-text}
+use Rattle.std.proofs.lemmas.Bool.{and_from}
 
 pub numbers_are_plain : (ns : List ℕ) → AllByRecursion (λ n. n < 2 ^ 64) ns → are_plain (map decimal ns) ≡ true
 numbers_are_plain [] h = refl
-numbers_are_plain (n ∷ ns) h = and_true (is_plain (decimal n)) (are_plain (map decimal ns)) (is_plain-decimal n h.0) (numbers_are_plain ns h.1)
+numbers_are_plain (n ∷ ns) h = and_from (is_plain (decimal n)) (are_plain (map decimal ns)) (is_plain-decimal n h.0) (numbers_are_plain ns h.1)
 
 pub phrase_is_plain : (k : Keyword) (ns : List ℕ) → AllByRecursion (λ n. n < 2 ^ 64) ns → are_plain (phrase k ns) ≡ true
-phrase_is_plain k ns h = and_true (is_plain (text k)) (are_plain (map decimal ns)) (is_plain-text k) (numbers_are_plain ns h)
+phrase_is_plain k ns h = and_from (is_plain (keyword_text k)) (are_plain (map decimal ns)) (is_plain-text k) (numbers_are_plain ns h)
 
 -- ---- lengths
 
@@ -49,5 +45,5 @@ size-append (w ∷ ws) b = omega (arith, size-append ws b)
 pub line_len : (w : List ℕ) (ws : List (List ℕ)) → length (line_text (w ∷ ws)) ≡ size (w ∷ ws)
 line_len w [] = omega (arith, length-append w (10 ∷ []))
 line_len w (v ∷ ws) =
-    let rest : length (joined (v ∷ ws) ++ 10 ∷ []) ≡ size (v ∷ ws) = line_len v ws in
-    omega (arith, rest, length-append (joined (v ∷ ws)) (10 ∷ []), length-append (w ++ 32 ∷ joined (v ∷ ws)) (10 ∷ []), length-append w (32 ∷ joined (v ∷ ws)))
+    let rest : length (join_words (v ∷ ws) ++ 10 ∷ []) ≡ size (v ∷ ws) = line_len v ws in
+    omega (arith, rest, length-append (join_words (v ∷ ws)) (10 ∷ []), length-append (w ++ 32 ∷ join_words (v ∷ ws)) (10 ∷ []), length-append w (32 ∷ join_words (v ∷ ws)))

@@ -1,36 +1,26 @@
 -- What is read of a line is inside the ranges of its types: a number above its limit is refused, and an id above its type's greatest number is
 -- read as that number.
-use Rattle.std.proofs.Common.{◌≡◌, ℕ, zero, suc, ◌≤◌, ◌+◌, Bool, true, false, leb, nat_le, refl, ◌&&◌, ◌||◌, List, [], ◌∷◌, eqb, get_or, take, drop, Option, Some, None, arith, subst, cond, ◌∙◌, inl, inr, min}
-use Rattle.std.specs.Prelude.{if◌then◌else◌, codes, position}
+use Rattle.cmwq_text.specs.Common.{◌≡◌, ℕ, zero, suc, ◌≤◌, ◌+◌, Bool, true, false, nat_le, refl, ◌&&◌, ◌||◌, List, [], ◌∷◌, eqb, get_or, take, drop, Option, Some, None, arith, subst, cond, ◌∙◌, inl, inr, min, if◌then◌else◌, codes, position, leb-true, le-leb, same_Some, ItemId, QueueId, CpuId, Who, Call, Reply, Entry, greatest, greatest_long, greatest_byte, greatest_short, IsWho, IsCall, IsReply, IsEntry}
 use Rattle.std.specs.Cmp.Derive.{both_true}
-use Rattle.std.proofs.lemmas.Bool.{leb-true, le-leb}
-use Rattle.std.proofs.lemmas.Option.{same_Some}
-use Rattle.cmwq_model.specs.declared.id.ItemId.{ItemId}
-use Rattle.cmwq_model.specs.declared.id.QueueId.{QueueId}
-use Rattle.cmwq_model.specs.declared.id.CpuId.{CpuId}
-use Rattle.cmwq_model.specs.declared.id.Who.{Who}
-use Rattle.cmwq_model.specs.declared.call.Call.{Call}
-use Rattle.cmwq_model.specs.declared.reply.Reply.{Reply}
-use Rattle.cmwq_model.specs.declared.entry.Entry.{Entry}
-use Rattle.cmwq_model.specs.Prelude.{greatest, greatest_long, greatest_byte, greatest_short, IsWho, IsCall, IsReply, IsEntry}
 use Rattle.cmwq_model.specs.declared.call.Call.TheVariants as call
 use Rattle.cmwq_model.specs.declared.reply.Reply.TheVariants as reply
 use Rattle.cmwq_text.specs.Numbers.{greatest_number}
 use Rattle.cmwq_text.specs.declared.keyword.Keyword.{Keyword}
 use Rattle.cmwq_text.specs.declared.keyword.Keyword.TheVariants as word
-use Rattle.cmwq_text.specs.Numbers.{number_of, held_at_most, byte_of, short_of}
-use Rattle.cmwq_text.specs.Words.{◌>>=◌, words_of, is_end, after, byte_in, short_in, number_in, wide_in, long_in, none, one, two, three, four}
+use Rattle.cmwq_text.specs.Numbers.{number_read, held_at_most, byte_of, short_of}
+use Rattle.cmwq_text.specs.Words.{◌>>=◌, words_of, has_no_word, after, byte_in, short_in, number_in, wide_in, long_in, take_none, take_one, take_two, take_three, take_four}
 use Rattle.cmwq_text.specs.Keywords.{keyword_in}
-use Rattle.cmwq_text.specs.IdText.{item, queue, cpu, caller, worker, item_in, queue_in, cpu_in, is_pool_letter, caller_of, worker_of, who_of, who_in}
-use Rattle.cmwq_text.specs.CallText.{call_after, call_in, may_say, call_of}
+use Rattle.cmwq_text.specs.IdText.{item, queue_numbered, cpu, caller_numbered, worker_numbered, item_in, queue_in, cpu_in, is_pool_letter, caller_read, worker_read, who_read, who_in}
+use Rattle.cmwq_text.specs.CallText.{call_read_after, call_in, may_say, call_read}
 use Rattle.cmwq_text.specs.ReplyText.{ticket_with, ticket_after, started_with, started_after, reply_after, reply_in}
 use Rattle.cmwq_text.specs.EntryText.{entry_of}
 use Rattle.cmwq_text.specs.Formats.{is_short, is_short_call, is_short_reply, is_short_entry, number_limit, by_age, allows_call, call_of_format, allows_entry, entry_of_format}
-use Rattle.cmwq_text.proofs.Steps.{bind_some, chosen, both}
+use Rattle.cmwq_text.proofs.Steps.{bind_some, chosen}
 use Rattle.cmwq_text.proofs.NumberLaws.{number_takes}
 use Rattle.cmwq_text.proofs.WordLaws.{word_takes}
 use Rattle.cmwq_text.proofs.IdLaws.{read_at, first_says}
 use Rattle.cmwq_text.proofs.EntryLaws.{entry_at_end, entry_after_equals, entry_after_call, entry_after_serial, entry_after_who}
+use Rattle.std.proofs.lemmas.Bool.{and_parts}
 
 -- ---- numbers and ids
 
@@ -39,10 +29,10 @@ held_inside most n None e = absurd cc
 held_inside most n (Some m) e = let same : min m most ≡ n = same_Some _ _ e in omega arith
 
 byte_inside : (word : List ℕ) (n : ℕ) → byte_of word ≡ Some n → n ≤ greatest_byte
-byte_inside word n e = held_inside greatest_byte n (number_of greatest word) e
+byte_inside word n e = held_inside greatest_byte n (number_read greatest word) e
 
 short_inside : (word : List ℕ) (n : ℕ) → short_of word ≡ Some n → n ≤ greatest_short
-short_inside word n e = held_inside greatest_short n (number_of greatest word) e
+short_inside word n e = held_inside greatest_short n (number_read greatest word) e
 
 -- a reader of one word, and the range of its values
 record Reader (A : Type 0) : Type 1 where
@@ -51,13 +41,13 @@ record Reader (A : Type 0) : Type 1 where
   inside : (ws : List (List ℕ)) (x : A × List (List ℕ)) → read ws ≡ Some x → IsInside x.0
 
 number_inside : (ws : List (List ℕ)) (x : ℕ × List (List ℕ)) → number_in ws ≡ Some x → x.0 ≤ greatest
-number_inside ws x e = let read = word_takes (number_of greatest) ws x e in (number_takes greatest x.0 read.0 (omega arith) read.2).1
+number_inside ws x e = let read = word_takes (number_read greatest) ws x e in (number_takes greatest x.0 read.0 (omega arith) read.2).1
 
 wide_inside : (ws : List (List ℕ)) (x : ℕ × List (List ℕ)) → wide_in ws ≡ Some x → x.0 ≤ greatest_number
-wide_inside ws x e = let read = word_takes (number_of greatest_number) ws x e in (number_takes greatest_number x.0 read.0 (omega arith) read.2).1
+wide_inside ws x e = let read = word_takes (number_read greatest_number) ws x e in (number_takes greatest_number x.0 read.0 (omega arith) read.2).1
 
 long_inside : (ws : List (List ℕ)) (x : ℕ × List (List ℕ)) → long_in ws ≡ Some x → x.0 ≤ greatest_long
-long_inside ws x e = let read = word_takes (number_of greatest_long) ws x e in (number_takes greatest_long x.0 read.0 (omega arith) read.2).1
+long_inside ws x e = let read = word_takes (number_read greatest_long) ws x e in (number_takes greatest_long x.0 read.0 (omega arith) read.2).1
 
 byte_in_inside : (ws : List (List ℕ)) (x : ℕ × List (List ℕ)) → byte_in ws ≡ Some x → x.0 ≤ greatest_byte
 byte_in_inside ws x e = let read = word_takes byte_of ws x e in byte_inside read.0 x.0 read.2
@@ -82,34 +72,34 @@ short_reader = record { read = short_in; IsInside = λ n. n ≤ greatest_short; 
 
 -- ---- values that stand behind one another
 
-none_inside : {Y : Type 0} (y : Y) (Q : Y → Type 0) → Q y → (ws : List (List ℕ)) (x : Y × List (List ℕ)) → none y ws ≡ Some x → Q x.0
+none_inside : {Y : Type 0} (y : Y) (Q : Y → Type 0) → Q y → (ws : List (List ℕ)) (x : Y × List (List ℕ)) → take_none y ws ≡ Some x → Q x.0
 none_inside {Y} y Q holds ws x e = subst (λ (z : Y × List (List ℕ)). Q z.0) (same_Some (y, ws) x e) holds
 
 one_inside : {A Y : Type 0} (t : Reader A) (make : A → Y) (Q : Y → Type 0) → ((a : A) → t.IsInside a → Q (make a))
-    → (ws : List (List ℕ)) (x : Y × List (List ℕ)) → one t.read make ws ≡ Some x → Q x.0
+    → (ws : List (List ℕ)) (x : Y × List (List ℕ)) → take_one t.read make ws ≡ Some x → Q x.0
 one_inside {A} {Y} t make Q holds ws x e =
     let a = bind_some (t.read ws) (λ (a : A × List (List ℕ)). Some (make a.0, a.1)) x e in
     subst (λ (z : Y × List (List ℕ)). Q z.0) (same_Some (make a.0.0, a.0.1) x a.2) (holds a.0.0 (t.inside ws a.0 a.1))
 
 two_inside : {A B Y : Type 0} (t : Reader A) (u : Reader B) (make : A → B → Y) (Q : Y → Type 0)
     → ((a : A) (b : B) → t.IsInside a × u.IsInside b → Q (make a b))
-    → (ws : List (List ℕ)) (x : Y × List (List ℕ)) → two t.read u.read make ws ≡ Some x → Q x.0
+    → (ws : List (List ℕ)) (x : Y × List (List ℕ)) → take_two t.read u.read make ws ≡ Some x → Q x.0
 two_inside {A} {B} {Y} t u make Q holds ws x e =
-    let a = bind_some (t.read ws) (λ (a : A × List (List ℕ)). one u.read (make a.0) a.1) x e in
+    let a = bind_some (t.read ws) (λ (a : A × List (List ℕ)). take_one u.read (make a.0) a.1) x e in
     one_inside u (make a.0.0) Q (λ b small. holds a.0.0 b (t.inside ws a.0 a.1, small)) a.0.1 x a.2
 
 three_inside : {A B C Y : Type 0} (t : Reader A) (u : Reader B) (v : Reader C) (make : A → B → C → Y) (Q : Y → Type 0)
     → ((a : A) (b : B) (c : C) → t.IsInside a × u.IsInside b × v.IsInside c → Q (make a b c))
-    → (ws : List (List ℕ)) (x : Y × List (List ℕ)) → three t.read u.read v.read make ws ≡ Some x → Q x.0
+    → (ws : List (List ℕ)) (x : Y × List (List ℕ)) → take_three t.read u.read v.read make ws ≡ Some x → Q x.0
 three_inside {A} {B} {C} {Y} t u v make Q holds ws x e =
-    let a = bind_some (t.read ws) (λ (a : A × List (List ℕ)). two u.read v.read (make a.0) a.1) x e in
+    let a = bind_some (t.read ws) (λ (a : A × List (List ℕ)). take_two u.read v.read (make a.0) a.1) x e in
     two_inside u v (make a.0.0) Q (λ b c small. holds a.0.0 b c (t.inside ws a.0 a.1, small.0, small.1)) a.0.1 x a.2
 
 four_inside : {A B C D Y : Type 0} (t : Reader A) (u : Reader B) (v : Reader C) (w : Reader D) (make : A → B → C → D → Y) (Q : Y → Type 0)
     → ((a : A) (b : B) (c : C) (d : D) → t.IsInside a × u.IsInside b × v.IsInside c × w.IsInside d → Q (make a b c d))
-    → (ws : List (List ℕ)) (x : Y × List (List ℕ)) → four t.read u.read v.read w.read make ws ≡ Some x → Q x.0
+    → (ws : List (List ℕ)) (x : Y × List (List ℕ)) → take_four t.read u.read v.read w.read make ws ≡ Some x → Q x.0
 four_inside {A} {B} {C} {D} {Y} t u v w make Q holds ws x e =
-    let a = bind_some (t.read ws) (λ (a : A × List (List ℕ)). three u.read v.read w.read (make a.0) a.1) x e in
+    let a = bind_some (t.read ws) (λ (a : A × List (List ℕ)). take_three u.read v.read w.read (make a.0) a.1) x e in
     three_inside u v w (make a.0.0) Q (λ b c d small. holds a.0.0 b c d (t.inside ws a.0 a.1, small.0, small.1, small.2)) a.0.1 x a.2
 
 -- ---- items, queues and CPUs
@@ -118,42 +108,42 @@ abbrev item_reader : Reader ItemId
 item_reader = record { read = item_in; IsInside = λ i. i.0 ≤ greatest_short; inside = one_inside short_reader item (λ i. i.0 ≤ greatest_short) (λ n small. small) }
 
 abbrev queue_reader : Reader QueueId
-queue_reader = record { read = queue_in; IsInside = λ q. q.0 ≤ greatest_byte; inside = one_inside byte_reader queue (λ q. q.0 ≤ greatest_byte) (λ n small. small) }
+queue_reader = record { read = queue_in; IsInside = λ q. q.0 ≤ greatest_byte; inside = one_inside byte_reader queue_numbered (λ q. q.0 ≤ greatest_byte) (λ n small. small) }
 
 abbrev cpu_reader : Reader CpuId
 cpu_reader = record { read = cpu_in; IsInside = λ c. c.0 ≤ greatest_byte; inside = one_inside byte_reader cpu (λ c. c.0 ≤ greatest_byte) (λ n small. small) }
 
 -- ---- callers and workers
 
-caller_inside : (name : List ℕ) (who : Who) → caller_of name ≡ Some who → IsWho who
+caller_inside : (name : List ℕ) (who : Who) → caller_read name ≡ Some who → IsWho who
 caller_inside name who e =
-    let n = bind_some (byte_of name) (λ (n : ℕ). Some (caller n)) who e in
+    let n = bind_some (byte_of name) (λ (n : ℕ). Some (caller_numbered n)) who e in
     subst IsWho (same_Some _ _ n.2) (byte_inside name n.0 n.1)
 
-worker_inside : (name : List ℕ) (who : Who) → worker_of name ≡ Some who → IsWho who
-unfolding worker_of
+worker_inside : (name : List ℕ) (who : Who) → worker_read name ≡ Some who → IsWho who
+unfolding worker_read
 worker_inside name who e =
     let l = bind_some (position is_pool_letter name) (read_at name) who e in
-    let c = bind_some (byte_of (take l.0 name)) (λ (c : ℕ). byte_of (drop (l.0 + 1) name) >>= λ (x : ℕ). Some (worker c (eqb (get_or name l.0 0) 104) x)) who l.2 in
-    let x = bind_some (byte_of (drop (l.0 + 1) name)) (λ (x : ℕ). Some (worker c.0 (eqb (get_or name l.0 0) 104) x)) who c.2 in
+    let c = bind_some (byte_of (take l.0 name)) (λ (c : ℕ). byte_of (drop (l.0 + 1) name) >>= λ (x : ℕ). Some (worker_numbered c (eqb (get_or name l.0 0) 104) x)) who l.2 in
+    let x = bind_some (byte_of (drop (l.0 + 1) name)) (λ (x : ℕ). Some (worker_numbered c.0 (eqb (get_or name l.0 0) 104) x)) who c.2 in
     subst IsWho (same_Some _ _ x.2) (byte_inside _ c.0 c.1, byte_inside _ x.0 x.1)
 
-who_of_inside : (w : List ℕ) (who : Who) → who_of w ≡ Some who → IsWho who
-unfolding who_of
+who_of_inside : (w : List ℕ) (who : Who) → who_read w ≡ Some who → IsWho who
+unfolding who_read
 who_of_inside [] who e = absurd cc
 who_of_inside (first ∷ name) who e =
-    elim (first_says (eqb first 99) (eqb first 119) (caller_of name) (worker_of name) who e) [
+    elim (first_says (eqb first 99) (eqb first 119) (caller_read name) (worker_read name) who e) [
       | inl c ↦ caller_inside name who c.1
       | inr w ↦ worker_inside name who w.1
     ]
 
 pub who_inside : (ws : List (List ℕ)) (x : Who × List (List ℕ)) → who_in ws ≡ Some x → IsWho x.0
-who_inside ws x e = let read = word_takes who_of ws x e in who_of_inside read.0 x.0 read.2
+who_inside ws x e = let read = word_takes who_read ws x e in who_of_inside read.0 x.0 read.2
 
 -- ---- calls
 
-call_after_inside : (k : Keyword) (ws : List (List ℕ)) (x : Call × List (List ℕ)) → call_after k ws ≡ Some x → (IsCall greatest_number) x.0
-unfolding call_after
+call_after_inside : (k : Keyword) (ws : List (List ℕ)) (x : Call × List (List ℕ)) → call_read_after k ws ≡ Some x → (IsCall greatest_number) x.0
+unfolding call_read_after
 call_after_inside word.Queue ws x e = three_inside item_reader queue_reader cpu_reader call.Queue (IsCall greatest_number) (λ i q c small. (small.0, small.1, small.2)) ws x e
 call_after_inside word.Delay ws x e = four_inside item_reader queue_reader cpu_reader number_reader call.Delay (IsCall greatest_number) (λ i q c n small. ((small.0, small.1, small.2), small.3)) ws x e
 call_after_inside word.Modify ws x e = four_inside item_reader queue_reader cpu_reader number_reader call.Modify (IsCall greatest_number) (λ i q c n small. ((small.0, small.1, small.2), small.3)) ws x e
@@ -179,7 +169,7 @@ call_after_inside k ws x e = absurd cc
 
 pub call_inside : (ws : List (List ℕ)) (x : Call × List (List ℕ)) → call_in ws ≡ Some x → (IsCall greatest_number) x.0
 call_inside ws x e =
-    let k = bind_some (keyword_in ws) (λ (k : Keyword × List (List ℕ)). call_after k.0 k.1) x e in
+    let k = bind_some (keyword_in ws) (λ (k : Keyword × List (List ℕ)). call_read_after k.0 k.1) x e in
     call_after_inside k.0.0 k.0.1 x k.2
 
 -- ---- replies
@@ -257,14 +247,14 @@ reply_inside ws x e =
 -- ---- whole lines
 
 abbrev call_at_end : Who → Call × List (List ℕ) → Option (Who × Call)
-call_at_end who c = cond (is_end c.1 && may_say who c.0) (Some (who, c.0)) None
+call_at_end who c = cond (has_no_word c.1 && may_say who c.0) (Some (who, c.0)) None
 
-pub call_line_inside : (line : List ℕ) (x : Who × Call) → call_of line ≡ Some x → IsWho x.0 × (IsCall greatest_number) x.1
-unfolding call_of
+pub call_line_inside : (line : List ℕ) (x : Who × Call) → call_read line ≡ Some x → IsWho x.0 × (IsCall greatest_number) x.1
+unfolding call_read
 call_line_inside line x e =
     let who = bind_some (who_in (words_of line)) (λ (w : Who × List (List ℕ)). call_in w.1 >>= λ (c : Call × List (List ℕ)). call_at_end w.0 c) x e in
     let c = bind_some (call_in who.0.1) (call_at_end who.0.0) x who.2 in
-    let found = chosen (is_end c.0.1 && may_say who.0.0 c.0.0) (Some (who.0.0, c.0.0)) x c.2 in
+    let found = chosen (has_no_word c.0.1 && may_say who.0.0 c.0.0) (Some (who.0.0, c.0.0)) x c.2 in
     subst (λ (y : Who × Call). IsWho y.0 × (IsCall greatest_number) y.1) (same_Some _ _ found.1) (who_inside _ who.0 who.1, call_inside _ c.0 c.1)
 
 pub entry_inside : (line : List ℕ) (e : Entry) → entry_of line ≡ Some e → (IsEntry greatest_number) e
@@ -276,7 +266,7 @@ entry_inside line e is =
     let answer = bind_some (after (codes "=") c.0.1) (entry_after_equals who.0.0 serial.0.0 c.0.0) e c.2 in
     let r = bind_some (reply_in answer.0) (entry_at_end who.0.0 serial.0.0 c.0.0) e answer.2 in
     let made : Entry = record { who = who.0.0; serial = serial.0.0; call = c.0.0; reply = r.0.0 } in
-    let found = chosen (is_end r.0.1 && may_say who.0.0 c.0.0) (Some made) e r.2 in
+    let found = chosen (has_no_word r.0.1 && may_say who.0.0 c.0.0) (Some made) e r.2 in
     subst (IsEntry greatest_number) (same_Some _ _ found.1)
     (record { who = who_inside _ who.0 who.1; serial = wide_inside _ serial.0 serial.1; call = call_inside _ c.0 c.1; reply = reply_inside _ r.0 r.1 })
 
@@ -311,43 +301,6 @@ short_call (call.SetMax q n) h is = h
 short_call call.Freeze h is = h
 short_call call.Thaw h is = h
 short_call (call.Destroy q) h is = h
-
-short_reply : (r : Reply) → (IsReply greatest_number) r → is_short_reply r ≡ true → (IsReply greatest) r
-short_reply (reply.Yes n) h is = leb-true n greatest is
-short_reply (reply.Again n) h is = leb-true n greatest is
-short_reply (reply.Cancelled n) h is = leb-true n greatest is
-short_reply (reply.Ticket n) h is = leb-true n greatest is
-short_reply (reply.TicketQueued n) h is = leb-true n greatest is
-short_reply (reply.TicketUnbooked n) h is = leb-true n greatest is
-short_reply (reply.TicketNo n) h is = leb-true n greatest is
-short_reply (reply.Waiting n) h is = leb-true n greatest is
-short_reply (reply.Started n) h is = leb-true n greatest is
-short_reply (reply.Finished n) h is = leb-true n greatest is
-short_reply (reply.Fired i n) h is = (h.0, leb-true n greatest is)
-short_reply (reply.TicketCancelled n m) h is = let parts = both (leb n greatest) (leb m greatest) is in (leb-true n greatest parts.0, leb-true m greatest parts.1)
-short_reply (reply.StartedEnlist n x) h is = (leb-true n greatest is, h.1)
-short_reply (reply.Booked t) h is = h
-short_reply (reply.Rebooked t) h is = h
-short_reply reply.No h is = h
-short_reply reply.Foreign h is = h
-short_reply reply.Draining h is = h
-short_reply reply.Misuse h is = h
-short_reply reply.Unbooked h is = h
-short_reply (reply.Now t) h is = h
-short_reply reply.Nothing h is = h
-short_reply reply.Idle h is = h
-short_reply reply.Crowded h is = h
-short_reply reply.Done h is = h
-short_reply reply.Held h is = h
-short_reply reply.Slept h is = h
-short_reply reply.Woke h is = h
-short_reply reply.Retired h is = h
-short_reply reply.Kept h is = h
-short_reply (reply.Width n) h is = h
-short_reply reply.Frozen h is = h
-short_reply reply.Thawed h is = h
-short_reply reply.Gone h is = h
-short_reply reply.Timers h is = h
 
 is_short_as : (n : ℕ) → n ≤ greatest → is_short n ≡ true
 is_short_as n h = le-leb n greatest h
@@ -438,14 +391,11 @@ wide_reply reply.Timers h = h
 pub wide_entry : (e : Entry) → (IsEntry greatest) e → (IsEntry greatest_number) e
 wide_entry e h = record { who = h.who; serial = let most = h.serial in omega arith; call = wide_call e.call h.call; reply = wide_reply e.reply h.reply }
 
-pub wide_calls : (c : Call) → (IsCall greatest) c → (IsCall greatest_number) c
-wide_calls c h = wide_call c h
-
 -- so what a history of format 1 or 2 says has short numbers, and what a file of calls says
 pub allowed_short : (v : ℕ) (e : Entry) → v ≤ 2 → allows_entry v e ≡ true → is_short_entry e ≡ true
-allowed_short zero e h is = (both (is_short_entry e) _ is).0
-allowed_short (suc zero) e h is = (both (is_short_entry e) _ is).0
-allowed_short (suc (suc zero)) e h is = (both (is_short_entry e) _ is).0
+allowed_short zero e h is = (and_parts (is_short_entry e) _ is).0
+allowed_short (suc zero) e h is = (and_parts (is_short_entry e) _ is).0
+allowed_short (suc (suc zero)) e h is = (and_parts (is_short_entry e) _ is).0
 allowed_short (suc (suc (suc n))) e h is = absurd (omega arith)
 
 -- a call that a file of calls of a format says has the numbers of that format, and one with these is of the format
@@ -460,12 +410,12 @@ module _ (v : ℕ) where
 
   limited_wide : (b : Bool) (c : Call) → (IsCall (if b then greatest_number else greatest)) c → (IsCall greatest_number) c
   limited_wide true c h = h
-  limited_wide false c h = wide_calls c h
+  limited_wide false c h = wide_call c h
 
   pub call_of_format_inside : (line : List ℕ) (x : Who × Call) → call_of_format v line ≡ Some x → IsWho x.0 × (IsCall (number_limit v)) x.1
   unfolding call_of_format by_age
   call_of_format_inside line x is =
-      let read = bind_some (call_of line) (λ (y : Who × Call). cond (allows_call v y.1) (Some y) None) x is in
+      let read = bind_some (call_read line) (λ (y : Who × Call). cond (allows_call v y.1) (Some y) None) x is in
       let found = chosen (allows_call v read.0.1) (Some read.0) x read.2 in
       let inside = call_line_inside line read.0 read.1 in
       subst (λ (y : Who × Call). IsWho y.0 × (IsCall (number_limit v)) y.1) (same_Some read.0 x found.1) (inside.0, limited_call (nat_le 3 v) read.0.1 inside.1 found.0)

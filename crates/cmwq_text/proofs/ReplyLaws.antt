@@ -1,14 +1,11 @@
 -- Replies that are spelled are read again, and what is read as a reply is spelled so.
-use Rattle.std.proofs.Common.{◌≡◌, ℕ, ◌<◌, ◌≤◌, true, List, [], ◌∷◌, ◌++◌, Some, refl, ap, ◌∙◌, arith}
-use Rattle.std.specs.Fmt.{decimal}
-use Rattle.cmwq_model.specs.declared.reply.Reply.{Reply}
-use Rattle.cmwq_model.specs.Prelude.{greatest_byte, greatest_short, IsReply}
+use Rattle.cmwq_text.specs.Common.{◌≡◌, ℕ, ◌<◌, ◌≤◌, true, List, [], ◌∷◌, ◌++◌, Some, refl, ap, ◌∙◌, arith, decimal, Reply, greatest_byte, greatest_short, IsReply}
 use Rattle.cmwq_model.specs.declared.reply.Reply.TheVariants as reply
 use Rattle.cmwq_text.specs.declared.keyword.Keyword.{Keyword}
 use Rattle.cmwq_text.specs.declared.keyword.Keyword.TheVariants as word
 use Rattle.cmwq_text.specs.Numbers.{greatest_number}
 use Rattle.cmwq_text.specs.Words.{wide_in}
-use Rattle.cmwq_text.specs.Keywords.{text, keyword_in}
+use Rattle.cmwq_text.specs.Keywords.{keyword_text, keyword_in}
 use Rattle.cmwq_text.specs.CallText.{phrase}
 use Rattle.cmwq_text.specs.ReplyText.{reply_words, ticket_with, ticket_after, started_with, started_after, reply_after, reply_in}
 use Rattle.cmwq_text.proofs.Steps.{bind_some}
@@ -35,16 +32,16 @@ reply_again (reply.Now t) h = rw (keyword_again word.Now, long_in_again t [] h) 
 reply_again (reply.Fired i n) h = rw (keyword_again word.Fired, item_again i (decimal n ∷ []) h.0, wide_in_again n [] h.1) refl
 reply_again reply.Nothing h = rw (keyword_again word.Nothing) refl
 reply_again (reply.Ticket n) h = rw (keyword_again word.Ticket, wide_in_again n [] h) refl
-reply_again (reply.TicketQueued n) h = rw (keyword_again word.Ticket, wide_in_again n (text word.Queued ∷ []) h, keyword_again word.Queued) refl
-reply_again (reply.TicketCancelled n m) h = rw (keyword_again word.Ticket, wide_in_again n (text word.Cancelled ∷ decimal m ∷ []) h.0, keyword_again word.Cancelled, wide_in_again m [] h.1) refl
-reply_again (reply.TicketUnbooked n) h = rw (keyword_again word.Ticket, wide_in_again n (text word.Unbooked ∷ []) h, keyword_again word.Unbooked) refl
-reply_again (reply.TicketNo n) h = rw (keyword_again word.Ticket, wide_in_again n (text word.No ∷ []) h, keyword_again word.No) refl
+reply_again (reply.TicketQueued n) h = rw (keyword_again word.Ticket, wide_in_again n (keyword_text word.Queued ∷ []) h, keyword_again word.Queued) refl
+reply_again (reply.TicketCancelled n m) h = rw (keyword_again word.Ticket, wide_in_again n (keyword_text word.Cancelled ∷ decimal m ∷ []) h.0, keyword_again word.Cancelled, wide_in_again m [] h.1) refl
+reply_again (reply.TicketUnbooked n) h = rw (keyword_again word.Ticket, wide_in_again n (keyword_text word.Unbooked ∷ []) h, keyword_again word.Unbooked) refl
+reply_again (reply.TicketNo n) h = rw (keyword_again word.Ticket, wide_in_again n (keyword_text word.No ∷ []) h, keyword_again word.No) refl
 reply_again reply.Idle h = rw (keyword_again word.Idle) refl
 reply_again reply.Crowded h = rw (keyword_again word.Crowded) refl
 reply_again reply.Done h = rw (keyword_again word.Done) refl
 reply_again (reply.Waiting n) h = rw (keyword_again word.Waiting, wide_in_again n [] h) refl
 reply_again (reply.Started n) h = rw (keyword_again word.Started, wide_in_again n [] h) refl
-reply_again (reply.StartedEnlist n x) h = rw (keyword_again word.Started, wide_in_again n (text word.Enlist ∷ decimal x ∷ []) h.0, keyword_again word.Enlist, byte_in_again x [] h.1) refl
+reply_again (reply.StartedEnlist n x) h = rw (keyword_again word.Started, wide_in_again n (keyword_text word.Enlist ∷ decimal x ∷ []) h.0, keyword_again word.Enlist, byte_in_again x [] h.1) refl
 reply_again reply.Held h = rw (keyword_again word.Held) refl
 reply_again (reply.Finished n) h = rw (keyword_again word.Finished, wide_in_again n [] h) refl
 reply_again reply.Slept h = rw (keyword_again word.Slept) refl
@@ -63,12 +60,12 @@ IsKnownReply (reply.Fired i n) = i.0 < greatest_short
 IsKnownReply (reply.StartedEnlist n x) = x < greatest_byte
 IsKnownReply r = Unit {0}
 
-ticket_with_is : (n : ℕ) (k : Keyword) (ws : List (List ℕ)) (x : Reply × List (List ℕ)) → ticket_with n k ws ≡ Some x → IsKnownReply x.0 → phrase word.Ticket (n ∷ []) ++ text k ∷ ws ≡ reply_words x.0 ++ x.1
+ticket_with_is : (n : ℕ) (k : Keyword) (ws : List (List ℕ)) (x : Reply × List (List ℕ)) → ticket_with n k ws ≡ Some x → IsKnownReply x.0 → phrase word.Ticket (n ∷ []) ++ keyword_text k ∷ ws ≡ reply_words x.0 ++ x.1
 unfolding reply_words ticket_with
-ticket_with_is n word.Queued ws x e h = none_takes (reply.TicketQueued n) (phrase word.Ticket (n ∷ []) ++ text word.Queued ∷ []) reply_words refl ws x e
-ticket_with_is n word.Cancelled ws x e h = one_takes a_wide (reply.TicketCancelled n) (phrase word.Ticket (n ∷ []) ++ text word.Cancelled ∷ []) IsKnownReply reply_words (λ m. refl) (λ m h. tt) ws x e h
-ticket_with_is n word.Unbooked ws x e h = none_takes (reply.TicketUnbooked n) (phrase word.Ticket (n ∷ []) ++ text word.Unbooked ∷ []) reply_words refl ws x e
-ticket_with_is n word.No ws x e h = none_takes (reply.TicketNo n) (phrase word.Ticket (n ∷ []) ++ text word.No ∷ []) reply_words refl ws x e
+ticket_with_is n word.Queued ws x e h = none_takes (reply.TicketQueued n) (phrase word.Ticket (n ∷ []) ++ keyword_text word.Queued ∷ []) reply_words refl ws x e
+ticket_with_is n word.Cancelled ws x e h = one_takes a_wide (reply.TicketCancelled n) (phrase word.Ticket (n ∷ []) ++ keyword_text word.Cancelled ∷ []) IsKnownReply reply_words (λ m. refl) (λ m h. tt) ws x e h
+ticket_with_is n word.Unbooked ws x e h = none_takes (reply.TicketUnbooked n) (phrase word.Ticket (n ∷ []) ++ keyword_text word.Unbooked ∷ []) reply_words refl ws x e
+ticket_with_is n word.No ws x e h = none_takes (reply.TicketNo n) (phrase word.Ticket (n ∷ []) ++ keyword_text word.No ∷ []) reply_words refl ws x e
 ticket_with_is n k ws x e h = absurd cc
 
 ticket_after_is : (n : ℕ) (ws : List (List ℕ)) (x : Reply × List (List ℕ)) → ticket_after n ws ≡ Some x → IsKnownReply x.0 → phrase word.Ticket (n ∷ []) ++ ws ≡ reply_words x.0 ++ x.1
@@ -78,9 +75,9 @@ ticket_after_is n (w ∷ ws) x e h =
     let k = bind_some (keyword_in (w ∷ ws)) (λ (k : Keyword × List (List ℕ)). ticket_with n k.0 k.1) x e in
     ap (λ (t : List (List ℕ)). phrase word.Ticket (n ∷ []) ++ t) (keyword_takes (w ∷ ws) k.0 k.1) ∙ ticket_with_is n k.0.0 k.0.1 x k.2 h
 
-started_with_is : (n : ℕ) (k : Keyword) (ws : List (List ℕ)) (x : Reply × List (List ℕ)) → started_with n k ws ≡ Some x → IsKnownReply x.0 → phrase word.Started (n ∷ []) ++ text k ∷ ws ≡ reply_words x.0 ++ x.1
+started_with_is : (n : ℕ) (k : Keyword) (ws : List (List ℕ)) (x : Reply × List (List ℕ)) → started_with n k ws ≡ Some x → IsKnownReply x.0 → phrase word.Started (n ∷ []) ++ keyword_text k ∷ ws ≡ reply_words x.0 ++ x.1
 unfolding reply_words started_with
-started_with_is n word.Enlist ws x e h = one_takes an_index (reply.StartedEnlist n) (phrase word.Started (n ∷ []) ++ text word.Enlist ∷ []) IsKnownReply reply_words (λ x. refl) (λ x h. h) ws x e h
+started_with_is n word.Enlist ws x e h = one_takes an_index (reply.StartedEnlist n) (phrase word.Started (n ∷ []) ++ keyword_text word.Enlist ∷ []) IsKnownReply reply_words (λ x. refl) (λ x h. h) ws x e h
 started_with_is n k ws x e h = absurd cc
 
 started_after_is : (n : ℕ) (ws : List (List ℕ)) (x : Reply × List (List ℕ)) → started_after n ws ≡ Some x → IsKnownReply x.0 → phrase word.Started (n ∷ []) ++ ws ≡ reply_words x.0 ++ x.1
@@ -90,42 +87,42 @@ started_after_is n (w ∷ ws) x e h =
     let k = bind_some (keyword_in (w ∷ ws)) (λ (k : Keyword × List (List ℕ)). started_with n k.0 k.1) x e in
     ap (λ (t : List (List ℕ)). phrase word.Started (n ∷ []) ++ t) (keyword_takes (w ∷ ws) k.0 k.1) ∙ started_with_is n k.0.0 k.0.1 x k.2 h
 
-reply_after_is : (k : Keyword) (ws : List (List ℕ)) (x : Reply × List (List ℕ)) → reply_after k ws ≡ Some x → IsKnownReply x.0 → text k ∷ ws ≡ reply_words x.0 ++ x.1
+reply_after_is : (k : Keyword) (ws : List (List ℕ)) (x : Reply × List (List ℕ)) → reply_after k ws ≡ Some x → IsKnownReply x.0 → keyword_text k ∷ ws ≡ reply_words x.0 ++ x.1
 unfolding reply_words reply_after
-reply_after_is word.Yes ws x e h = one_takes a_wide reply.Yes (text word.Yes ∷ []) IsKnownReply reply_words (λ n. refl) (λ n h. tt) ws x e h
-reply_after_is word.Booked ws x e h = one_takes a_long reply.Booked (text word.Booked ∷ []) IsKnownReply reply_words (λ t. refl) (λ t h. tt) ws x e h
-reply_after_is word.Again ws x e h = one_takes a_wide reply.Again (text word.Again ∷ []) IsKnownReply reply_words (λ n. refl) (λ n h. tt) ws x e h
-reply_after_is word.Rebooked ws x e h = one_takes a_long reply.Rebooked (text word.Rebooked ∷ []) IsKnownReply reply_words (λ t. refl) (λ t h. tt) ws x e h
-reply_after_is word.No ws x e h = none_takes reply.No (text word.No ∷ []) reply_words refl ws x e
-reply_after_is word.Foreign ws x e h = none_takes reply.Foreign (text word.Foreign ∷ []) reply_words refl ws x e
-reply_after_is word.Draining ws x e h = none_takes reply.Draining (text word.Draining ∷ []) reply_words refl ws x e
-reply_after_is word.Misuse ws x e h = none_takes reply.Misuse (text word.Misuse ∷ []) reply_words refl ws x e
-reply_after_is word.Cancelled ws x e h = one_takes a_wide reply.Cancelled (text word.Cancelled ∷ []) IsKnownReply reply_words (λ n. refl) (λ n h. tt) ws x e h
-reply_after_is word.Unbooked ws x e h = none_takes reply.Unbooked (text word.Unbooked ∷ []) reply_words refl ws x e
-reply_after_is word.Now ws x e h = one_takes a_long reply.Now (text word.Now ∷ []) IsKnownReply reply_words (λ t. refl) (λ t h. tt) ws x e h
-reply_after_is word.Fired ws x e h = two_takes an_item a_wide reply.Fired (text word.Fired ∷ []) IsKnownReply reply_words (λ i n. refl) (λ i n h. (h, tt)) ws x e h
-reply_after_is word.Nothing ws x e h = none_takes reply.Nothing (text word.Nothing ∷ []) reply_words refl ws x e
+reply_after_is word.Yes ws x e h = one_takes a_wide reply.Yes (keyword_text word.Yes ∷ []) IsKnownReply reply_words (λ n. refl) (λ n h. tt) ws x e h
+reply_after_is word.Booked ws x e h = one_takes a_long reply.Booked (keyword_text word.Booked ∷ []) IsKnownReply reply_words (λ t. refl) (λ t h. tt) ws x e h
+reply_after_is word.Again ws x e h = one_takes a_wide reply.Again (keyword_text word.Again ∷ []) IsKnownReply reply_words (λ n. refl) (λ n h. tt) ws x e h
+reply_after_is word.Rebooked ws x e h = one_takes a_long reply.Rebooked (keyword_text word.Rebooked ∷ []) IsKnownReply reply_words (λ t. refl) (λ t h. tt) ws x e h
+reply_after_is word.No ws x e h = none_takes reply.No (keyword_text word.No ∷ []) reply_words refl ws x e
+reply_after_is word.Foreign ws x e h = none_takes reply.Foreign (keyword_text word.Foreign ∷ []) reply_words refl ws x e
+reply_after_is word.Draining ws x e h = none_takes reply.Draining (keyword_text word.Draining ∷ []) reply_words refl ws x e
+reply_after_is word.Misuse ws x e h = none_takes reply.Misuse (keyword_text word.Misuse ∷ []) reply_words refl ws x e
+reply_after_is word.Cancelled ws x e h = one_takes a_wide reply.Cancelled (keyword_text word.Cancelled ∷ []) IsKnownReply reply_words (λ n. refl) (λ n h. tt) ws x e h
+reply_after_is word.Unbooked ws x e h = none_takes reply.Unbooked (keyword_text word.Unbooked ∷ []) reply_words refl ws x e
+reply_after_is word.Now ws x e h = one_takes a_long reply.Now (keyword_text word.Now ∷ []) IsKnownReply reply_words (λ t. refl) (λ t h. tt) ws x e h
+reply_after_is word.Fired ws x e h = two_takes an_item a_wide reply.Fired (keyword_text word.Fired ∷ []) IsKnownReply reply_words (λ i n. refl) (λ i n h. (h, tt)) ws x e h
+reply_after_is word.Nothing ws x e h = none_takes reply.Nothing (keyword_text word.Nothing ∷ []) reply_words refl ws x e
 reply_after_is word.Ticket ws x e h =
     let n = bind_some (wide_in ws) (λ (n : ℕ × List (List ℕ)). ticket_after n.0 n.1) x e in
-    ap (λ (t : List (List ℕ)). text word.Ticket ∷ t) (wide_in_takes ws n.0 n.1) ∙ ticket_after_is n.0.0 n.0.1 x n.2 h
-reply_after_is word.Idle ws x e h = none_takes reply.Idle (text word.Idle ∷ []) reply_words refl ws x e
-reply_after_is word.Crowded ws x e h = none_takes reply.Crowded (text word.Crowded ∷ []) reply_words refl ws x e
-reply_after_is word.Done ws x e h = none_takes reply.Done (text word.Done ∷ []) reply_words refl ws x e
-reply_after_is word.Waiting ws x e h = one_takes a_wide reply.Waiting (text word.Waiting ∷ []) IsKnownReply reply_words (λ n. refl) (λ n h. tt) ws x e h
+    ap (λ (t : List (List ℕ)). keyword_text word.Ticket ∷ t) (wide_in_takes ws n.0 n.1) ∙ ticket_after_is n.0.0 n.0.1 x n.2 h
+reply_after_is word.Idle ws x e h = none_takes reply.Idle (keyword_text word.Idle ∷ []) reply_words refl ws x e
+reply_after_is word.Crowded ws x e h = none_takes reply.Crowded (keyword_text word.Crowded ∷ []) reply_words refl ws x e
+reply_after_is word.Done ws x e h = none_takes reply.Done (keyword_text word.Done ∷ []) reply_words refl ws x e
+reply_after_is word.Waiting ws x e h = one_takes a_wide reply.Waiting (keyword_text word.Waiting ∷ []) IsKnownReply reply_words (λ n. refl) (λ n h. tt) ws x e h
 reply_after_is word.Started ws x e h =
     let n = bind_some (wide_in ws) (λ (n : ℕ × List (List ℕ)). started_after n.0 n.1) x e in
-    ap (λ (t : List (List ℕ)). text word.Started ∷ t) (wide_in_takes ws n.0 n.1) ∙ started_after_is n.0.0 n.0.1 x n.2 h
-reply_after_is word.Held ws x e h = none_takes reply.Held (text word.Held ∷ []) reply_words refl ws x e
-reply_after_is word.Finished ws x e h = one_takes a_wide reply.Finished (text word.Finished ∷ []) IsKnownReply reply_words (λ n. refl) (λ n h. tt) ws x e h
-reply_after_is word.Slept ws x e h = none_takes reply.Slept (text word.Slept ∷ []) reply_words refl ws x e
-reply_after_is word.Woke ws x e h = none_takes reply.Woke (text word.Woke ∷ []) reply_words refl ws x e
-reply_after_is word.Retired ws x e h = none_takes reply.Retired (text word.Retired ∷ []) reply_words refl ws x e
-reply_after_is word.Kept ws x e h = none_takes reply.Kept (text word.Kept ∷ []) reply_words refl ws x e
-reply_after_is word.Width ws x e h = one_takes a_number reply.Width (text word.Width ∷ []) IsKnownReply reply_words (λ n. refl) (λ n h. tt) ws x e h
-reply_after_is word.Frozen ws x e h = none_takes reply.Frozen (text word.Frozen ∷ []) reply_words refl ws x e
-reply_after_is word.Thawed ws x e h = none_takes reply.Thawed (text word.Thawed ∷ []) reply_words refl ws x e
-reply_after_is word.Gone ws x e h = none_takes reply.Gone (text word.Gone ∷ []) reply_words refl ws x e
-reply_after_is word.Timers ws x e h = none_takes reply.Timers (text word.Timers ∷ []) reply_words refl ws x e
+    ap (λ (t : List (List ℕ)). keyword_text word.Started ∷ t) (wide_in_takes ws n.0 n.1) ∙ started_after_is n.0.0 n.0.1 x n.2 h
+reply_after_is word.Held ws x e h = none_takes reply.Held (keyword_text word.Held ∷ []) reply_words refl ws x e
+reply_after_is word.Finished ws x e h = one_takes a_wide reply.Finished (keyword_text word.Finished ∷ []) IsKnownReply reply_words (λ n. refl) (λ n h. tt) ws x e h
+reply_after_is word.Slept ws x e h = none_takes reply.Slept (keyword_text word.Slept ∷ []) reply_words refl ws x e
+reply_after_is word.Woke ws x e h = none_takes reply.Woke (keyword_text word.Woke ∷ []) reply_words refl ws x e
+reply_after_is word.Retired ws x e h = none_takes reply.Retired (keyword_text word.Retired ∷ []) reply_words refl ws x e
+reply_after_is word.Kept ws x e h = none_takes reply.Kept (keyword_text word.Kept ∷ []) reply_words refl ws x e
+reply_after_is word.Width ws x e h = one_takes a_number reply.Width (keyword_text word.Width ∷ []) IsKnownReply reply_words (λ n. refl) (λ n h. tt) ws x e h
+reply_after_is word.Frozen ws x e h = none_takes reply.Frozen (keyword_text word.Frozen ∷ []) reply_words refl ws x e
+reply_after_is word.Thawed ws x e h = none_takes reply.Thawed (keyword_text word.Thawed ∷ []) reply_words refl ws x e
+reply_after_is word.Gone ws x e h = none_takes reply.Gone (keyword_text word.Gone ∷ []) reply_words refl ws x e
+reply_after_is word.Timers ws x e h = none_takes reply.Timers (keyword_text word.Timers ∷ []) reply_words refl ws x e
 reply_after_is k ws x e h = absurd cc
 
 pub reply_takes : (ws : List (List ℕ)) (x : Reply × List (List ℕ)) → reply_in ws ≡ Some x → IsKnownReply x.0 → ws ≡ reply_words x.0 ++ x.1
@@ -172,7 +169,7 @@ reply_is_plain reply.Gone h = phrase_is_plain word.Gone [] tt
 reply_is_plain reply.Timers h = phrase_is_plain word.Timers [] tt
 
 pub reply_is_short : (r : Reply) → (IsReply greatest_number) r → size (reply_words r) ≤ 57
-unfolding reply_words text
+unfolding reply_words keyword_text
 reply_is_short (reply.Yes n) h = omega (arith, wide_len n h)
 reply_is_short (reply.Booked t) h = omega (arith, long_len t h)
 reply_is_short (reply.Again n) h = omega (arith, wide_len n h)

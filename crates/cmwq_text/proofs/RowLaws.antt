@@ -1,12 +1,6 @@
 -- Values that stand behind one another are spelled as they were read.
-use Rattle.std.proofs.Common.{◌≡◌, ℕ, ◌<◌, List, [], ◌∷◌, ◌++◌, Option, Some, ap, sym, ◌∙◌, subst, append_assoc}
-use Rattle.std.specs.Fmt.{decimal}
-use Rattle.std.proofs.lemmas.Option.{same_Some}
-use Rattle.cmwq_model.specs.declared.id.ItemId.{ItemId}
-use Rattle.cmwq_model.specs.declared.id.QueueId.{QueueId}
-use Rattle.cmwq_model.specs.declared.id.CpuId.{CpuId}
-use Rattle.cmwq_model.specs.Prelude.{greatest_byte, greatest_short}
-use Rattle.cmwq_text.specs.Words.{◌>>=◌, none, one, two, three, four, byte_in, number_in, wide_in, long_in}
+use Rattle.cmwq_text.specs.Common.{◌≡◌, ℕ, ◌<◌, List, [], ◌∷◌, ◌++◌, Option, Some, ap, sym, ◌∙◌, subst, append_assoc, decimal, same_Some, ItemId, QueueId, CpuId, greatest_byte, greatest_short}
+use Rattle.cmwq_text.specs.Words.{◌>>=◌, take_none, take_one, take_two, take_three, take_four, byte_in, number_in, wide_in, long_in}
 use Rattle.cmwq_text.specs.IdText.{item_in, queue_in, cpu_in}
 use Rattle.cmwq_text.proofs.Steps.{bind_some}
 use Rattle.cmwq_text.proofs.IdLaws.{item_takes, queue_takes, cpu_takes, number_in_takes, wide_in_takes, long_in_takes, byte_in_takes}
@@ -39,7 +33,7 @@ a_long = record { read = long_in; spell = decimal; IsKnown = λ _. Unit {0}; tak
 abbrev pub an_index : Token ℕ
 an_index = record { read = byte_in; spell = decimal; IsKnown = λ n. n < greatest_byte; takes = byte_in_takes }
 
-pub none_takes : {Y : Type 0} (y : Y) (front : List (List ℕ)) (spell : Y → List (List ℕ)) → spell y ≡ front → (ws : List (List ℕ)) (x : Y × List (List ℕ)) → none y ws ≡ Some x → front ++ ws ≡ spell x.0 ++ x.1
+pub none_takes : {Y : Type 0} (y : Y) (front : List (List ℕ)) (spell : Y → List (List ℕ)) → spell y ≡ front → (ws : List (List ℕ)) (x : Y × List (List ℕ)) → take_none y ws ≡ Some x → front ++ ws ≡ spell x.0 ++ x.1
 none_takes {Y} y front spell same ws x e =
     subst (λ (z : Y × List (List ℕ)). front ++ ws ≡ spell z.0 ++ z.1) (same_Some (y, ws) x e) (ap (λ (t : List (List ℕ)). t ++ ws) (sym same))
 
@@ -49,7 +43,7 @@ more front ws rest w e = ap (λ (t : List (List ℕ)). front ++ t) e ∙ sym (ap
 
 pub one_takes : {A Y : Type 0} (t : Token A) (make : A → Y) (front : List (List ℕ)) (IsKnown : Y → Type 0) (spell : Y → List (List ℕ))
     → ((a : A) → spell (make a) ≡ front ++ t.spell a ∷ []) → ((a : A) → IsKnown (make a) → t.IsKnown a)
-    → (ws : List (List ℕ)) (x : Y × List (List ℕ)) → one t.read make ws ≡ Some x → IsKnown x.0 → front ++ ws ≡ spell x.0 ++ x.1
+    → (ws : List (List ℕ)) (x : Y × List (List ℕ)) → take_one t.read make ws ≡ Some x → IsKnown x.0 → front ++ ws ≡ spell x.0 ++ x.1
 one_takes {A} {Y} t make front IsKnown spell same parts ws x e =
     let a = bind_some (t.read ws) (λ (a : A × List (List ℕ)). Some (make a.0, a.1)) x e in
     subst (λ (z : Y × List (List ℕ)). IsKnown z.0 → front ++ ws ≡ spell z.0 ++ z.1) (same_Some (make a.0.0, a.0.1) x a.2)
@@ -57,7 +51,7 @@ one_takes {A} {Y} t make front IsKnown spell same parts ws x e =
 
 pub two_takes : {A B Y : Type 0} (t : Token A) (u : Token B) (make : A → B → Y) (front : List (List ℕ)) (IsKnown : Y → Type 0) (spell : Y → List (List ℕ))
     → ((a : A) (b : B) → spell (make a b) ≡ front ++ t.spell a ∷ u.spell b ∷ []) → ((a : A) (b : B) → IsKnown (make a b) → t.IsKnown a × u.IsKnown b)
-    → (ws : List (List ℕ)) (x : Y × List (List ℕ)) → two t.read u.read make ws ≡ Some x → IsKnown x.0 → front ++ ws ≡ spell x.0 ++ x.1
+    → (ws : List (List ℕ)) (x : Y × List (List ℕ)) → take_two t.read u.read make ws ≡ Some x → IsKnown x.0 → front ++ ws ≡ spell x.0 ++ x.1
 two_takes {A} {B} {Y} t u make front IsKnown spell same parts ws x e =
     let a = bind_some (t.read ws) (λ (a : A × List (List ℕ)). u.read a.1 >>= λ (b : B × List (List ℕ)). Some (make a.0 b.0, b.1)) x e in
     let b = bind_some (u.read a.0.1) (λ (b : B × List (List ℕ)). Some (make a.0.0 b.0, b.1)) x a.2 in
@@ -70,7 +64,7 @@ two_takes {A} {B} {Y} t u make front IsKnown spell same parts ws x e =
 
 pub three_takes : {A B C Y : Type 0} (t : Token A) (u : Token B) (v : Token C) (make : A → B → C → Y) (front : List (List ℕ)) (IsKnown : Y → Type 0) (spell : Y → List (List ℕ))
     → ((a : A) (b : B) (c : C) → spell (make a b c) ≡ front ++ t.spell a ∷ u.spell b ∷ v.spell c ∷ []) → ((a : A) (b : B) (c : C) → IsKnown (make a b c) → t.IsKnown a × u.IsKnown b × v.IsKnown c)
-    → (ws : List (List ℕ)) (x : Y × List (List ℕ)) → three t.read u.read v.read make ws ≡ Some x → IsKnown x.0 → front ++ ws ≡ spell x.0 ++ x.1
+    → (ws : List (List ℕ)) (x : Y × List (List ℕ)) → take_three t.read u.read v.read make ws ≡ Some x → IsKnown x.0 → front ++ ws ≡ spell x.0 ++ x.1
 three_takes {A} {B} {C} {Y} t u v make front IsKnown spell same parts ws x e =
     let a = bind_some (t.read ws) (λ (a : A × List (List ℕ)). u.read a.1 >>= λ (b : B × List (List ℕ)). v.read b.1 >>= λ (c : C × List (List ℕ)). Some (make a.0 b.0 c.0, c.1)) x e in
     let b = bind_some (u.read a.0.1) (λ (b : B × List (List ℕ)). v.read b.1 >>= λ (c : C × List (List ℕ)). Some (make a.0.0 b.0 c.0, c.1)) x a.2 in
@@ -85,7 +79,7 @@ three_takes {A} {B} {C} {Y} t u v make front IsKnown spell same parts ws x e =
 
 pub four_takes : {A B C D Y : Type 0} (t : Token A) (u : Token B) (v : Token C) (w : Token D) (make : A → B → C → D → Y) (front : List (List ℕ)) (IsKnown : Y → Type 0) (spell : Y → List (List ℕ))
     → ((a : A) (b : B) (c : C) (d : D) → spell (make a b c d) ≡ front ++ t.spell a ∷ u.spell b ∷ v.spell c ∷ w.spell d ∷ []) → ((a : A) (b : B) (c : C) (d : D) → IsKnown (make a b c d) → t.IsKnown a × u.IsKnown b × v.IsKnown c × w.IsKnown d)
-    → (ws : List (List ℕ)) (x : Y × List (List ℕ)) → four t.read u.read v.read w.read make ws ≡ Some x → IsKnown x.0 → front ++ ws ≡ spell x.0 ++ x.1
+    → (ws : List (List ℕ)) (x : Y × List (List ℕ)) → take_four t.read u.read v.read w.read make ws ≡ Some x → IsKnown x.0 → front ++ ws ≡ spell x.0 ++ x.1
 four_takes {A} {B} {C} {D} {Y} t u v w make front IsKnown spell same parts ws x e =
     let a = bind_some (t.read ws) (λ (a : A × List (List ℕ)). u.read a.1 >>= λ (b : B × List (List ℕ)). v.read b.1 >>= λ (c : C × List (List ℕ)). w.read c.1 >>= λ (d : D × List (List ℕ)). Some (make a.0 b.0 c.0 d.0, d.1)) x e in
     let b = bind_some (u.read a.0.1) (λ (b : B × List (List ℕ)). v.read b.1 >>= λ (c : C × List (List ℕ)). w.read c.1 >>= λ (d : D × List (List ℕ)). Some (make a.0.0 b.0 c.0 d.0, d.1)) x a.2 in

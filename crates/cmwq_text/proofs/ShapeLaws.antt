@@ -1,45 +1,32 @@
 -- Shape lines and lines of queues, and how long lines are.
-use Rattle.std.proofs.Common.{◌≡◌, ℕ, ◌≤◌, Bool, true, false, ◌&&◌, List, [], ◌∷◌, ◌++◌, length, eqb, leb, min, Option, Some, None, refl, ap, ◌∙◌, arith, cond, subst}
-use Rattle.std.specs.Prelude.{codes, IsTrue}
-use Rattle.std.specs.Fmt.{decimal}
-use Rattle.std.specs.Str.{bytes_eq}
-use Rattle.std.proofs.lemmas.Bool.{leb-true, ne_eqb}
-use Rattle.std.proofs.lemmas.Option.{same_Some}
-use Rattle.std.proofs.lemmas.Slice.Eq.{bytes_eq-Decides}
-use Rattle.std.proofs.lemmas.List.{length-append}
-use Rattle.cmwq_model.specs.declared.id.Who.{Who}
-use Rattle.cmwq_model.specs.declared.id.Who.TheVariants.{Caller, Worker}
-use Rattle.cmwq_model.specs.declared.call.Call.{Call}
-use Rattle.cmwq_model.specs.declared.entry.Entry.{Entry}
-use Rattle.cmwq_model.specs.declared.shape.Counts.{Counts}
-use Rattle.cmwq_model.specs.declared.shape.QueueShape.{QueueShape}
-use Rattle.cmwq_model.specs.Prelude.{are_counts, is_between, is_queue, IsWho, IsCall, IsEntry}
+use Rattle.cmwq_text.specs.Common.{◌≡◌, ℕ, ◌≤◌, Bool, true, false, ◌&&◌, List, [], ◌∷◌, ◌++◌, length, eqb, leb, min, Option, Some, None, refl, ap, ◌∙◌, arith, cond, subst, codes, IsTrue, decimal, bytes_eq, leb-true, ne_eqb, same_Some, bytes_eq-Decides, length-append, Who, Caller, Worker, Call, Entry, Counts, QueueShape, are_counts, is_between, is_queue, IsWho, IsCall, IsEntry}
 use Rattle.cmwq_text.specs.declared.shape.Flags.{Flags}
 use Rattle.cmwq_text.specs.declared.shape.QueueLine.{QueueLine}
-use Rattle.cmwq_text.specs.Words.{◌>>=◌, words_of, line_text, is_end, after, word_in, byte_in, short_in, number_in, wide_in}
+use Rattle.cmwq_text.specs.Words.{◌>>=◌, words_of, line_text, has_no_word, after, word_read, byte_in, short_in, number_in, wide_in}
 use Rattle.cmwq_text.specs.IdText.{who_text, pool_letter}
 use Rattle.cmwq_text.specs.CallText.{call_words, call_text}
 use Rattle.cmwq_text.specs.ReplyText.{reply_words}
 use Rattle.cmwq_text.specs.EntryText.{entry_words, entry_text}
-use Rattle.cmwq_text.specs.ShapeText.{counts_words, counts_text, counts_of, flags, flags_in, flags_text, all_flags, flags_of, queue_words, queue_text, queue_line_of, queue_with, width_taken, queue_of_calls, queue_of_history}
+use Rattle.cmwq_text.specs.ShapeText.{counts_words, counts_text, counts_read, flags, flags_in, flags_text, all_flags, flags_of, queue_words, queue_text, queue_line_of, queue_with, width_taken, queue_of_calls, queue_of_history}
 use Rattle.cmwq_text.specs.Numbers.{greatest_number}
 use Rattle.cmwq_text.specs.Laws.{IsLineOf, CountsReadAgain, QueuesReadAgain, CountsSpelledSo, QueuesSpelledSo, LinesAreShort}
-use Rattle.cmwq_text.proofs.Steps.{bind_some, chosen, both}
+use Rattle.cmwq_text.proofs.Steps.{bind_some, chosen}
 use Rattle.cmwq_text.proofs.NumberLaws.{short_again}
-use Rattle.cmwq_text.proofs.KeywordLaws.{found_passes}
-use Rattle.cmwq_text.proofs.WordLaws.{is_plain, are_plain, and_true, is_plain-decimal, after_takes, word_takes}
+use Rattle.cmwq_text.proofs.WordLaws.{is_plain, are_plain, is_plain-decimal, after_takes, word_takes}
 use Rattle.cmwq_text.proofs.IdLaws.{byte_in_again, number_in_again, wide_in_again, byte_in_takes, short_in_takes, number_in_takes, wide_in_takes}
 use Rattle.cmwq_text.proofs.CallLaws.{call_is_short}
 use Rattle.cmwq_text.proofs.ReplyLaws.{reply_is_short}
 use Rattle.cmwq_text.proofs.PhraseLaws.{numbers_are_plain, size, size-append, line_len, byte_len, number_len, wide_len}
 use Rattle.cmwq_text.proofs.LineLaws.{line_words, line_is, no_more, counts_are_small}
 use Rattle.cmwq_text.proofs.EndLaws.{end_is_short}
+use Rattle.std.proofs.lemmas.Bool.{and_from, and_parts}
+use Rattle.cmwq_lemmas.proofs.Lists.{found_passes}
 
 short_in_again : (n : ℕ) (ws : List (List ℕ)) → n ≤ 65535 → short_in (decimal n ∷ ws) ≡ Some (n, ws)
 short_in_again n ws le = rw (short_again n le) refl
 
 abbrev counts_tested : Counts → List (List ℕ) → Option Counts
-counts_tested n ws = cond (is_end ws && are_counts n.cpus n.workers n.callers n.items n.room) (Some n) None
+counts_tested n ws = cond (has_no_word ws && are_counts n.cpus n.workers n.callers n.items n.room) (Some n) None
 
 abbrev counts_after_items : ℕ → ℕ → ℕ → ℕ × List (List ℕ) → Option Counts
 counts_after_items cpus workers callers i = wide_in i.1 >>= λ room. counts_tested (record { cpus = cpus; workers = workers; callers = callers; items = i.0; room = room.0 }) room.1
@@ -63,7 +50,7 @@ counts_are_plain n inside =
     numbers_are_plain numbers (omega arith, (omega arith, (omega arith, (omega arith, (omega arith, tt)))))
 
 pub counts_read_again : CountsReadAgain
-unfolding counts_text counts_of
+unfolding counts_text counts_read
 counts_read_again n line inside is =
     let small = counts_are_small n.cpus n.workers n.callers n.items n.room inside in
     let words : words_of line ≡ counts_words n = line_words (codes "shape") (decimal n.cpus ∷ decimal n.workers ∷ decimal n.callers ∷ decimal n.items ∷ decimal n.room ∷ []) line (counts_are_plain n inside) is in
@@ -81,7 +68,7 @@ counts_pieces : (ws a b c d e rest : List (List ℕ)) (n : Counts) → ws ≡ co
 counts_pieces ws a b c d e rest n first cpus workers callers items room ended = rw (first, cpus, workers, callers, items, room, ended) refl
 
 pub counts_spelled_so : CountsSpelledSo
-unfolding counts_text counts_of
+unfolding counts_text counts_read
 counts_spelled_so n line is =
     let first = bind_some (after (codes "shape") (words_of line)) (λ (rest : List (List ℕ)). byte_in rest >>= counts_after_cpus) n is in
     let cpus = bind_some (byte_in first.0) counts_after_cpus n first.2 in
@@ -90,8 +77,8 @@ counts_spelled_so n line is =
     let items = bind_some (short_in callers.0.1) (counts_after_items cpus.0.0 workers.0.0 callers.0.0) n callers.2 in
     let room = bind_some (wide_in items.0.1) (λ (r : ℕ × List (List ℕ)). counts_tested (record { cpus = cpus.0.0; workers = workers.0.0; callers = callers.0.0; items = items.0.0; room = r.0 }) r.1) n items.2 in
     let made : Counts = record { cpus = cpus.0.0; workers = workers.0.0; callers = callers.0.0; items = items.0.0; room = room.0.0 } in
-    let found = chosen (is_end room.0.1 && are_counts made.cpus made.workers made.callers made.items made.room) (Some made) n room.2 in
-    let tests = both (is_end room.0.1) (are_counts made.cpus made.workers made.callers made.items made.room) found.0 in
+    let found = chosen (has_no_word room.0.1 && are_counts made.cpus made.workers made.callers made.items made.room) (Some made) n room.2 in
+    let tests = and_parts (has_no_word room.0.1) (are_counts made.cpus made.workers made.callers made.items made.room) found.0 in
     let small = counts_are_small made.cpus made.workers made.callers made.items made.room tests.1 in
     let words : words_of line ≡ counts_words made = counts_pieces (words_of line) first.0 cpus.0.1 workers.0.1 callers.0.1 items.0.1 room.0.1 made
     (after_takes (codes "shape") (words_of line) first.0 first.1)
@@ -129,10 +116,10 @@ flags_takes : (w : List ℕ) (f : Flags) → flags_of w ≡ Some f → w ≡ fla
 flags_takes w f e = (bytes_eq-Decides w (flags_text f)).0 (found_passes (λ g. bytes_eq w (flags_text g)) all_flags f e)
 
 abbrev queue_line_tested : ℕ → Flags × List (List ℕ) → Option QueueLine
-queue_line_tested width f = cond (is_end f.1) (Some (record { max_active = width; flags = f.0 })) None
+queue_line_tested width f = cond (has_no_word f.1) (Some (record { max_active = width; flags = f.0 })) None
 
 abbrev queue_line_after : ℕ × List (List ℕ) → Option QueueLine
-queue_line_after width = word_in flags_of width.1 >>= queue_line_tested width.0
+queue_line_after width = word_read flags_of width.1 >>= queue_line_tested width.0
 
 abbrev queue_line_from : List (List ℕ) → Option QueueLine
 queue_line_from ws = after (codes "wq") ws >>= λ rest. number_in rest >>= queue_line_after
@@ -140,7 +127,7 @@ queue_line_from ws = after (codes "wq") ws >>= λ rest. number_in rest >>= queue
 pub queue_is_plain : (q : QueueShape) → q.max_active ≤ 512 → are_plain (queue_words q) ≡ true
 queue_is_plain q small =
     let f : List ℕ = flags_text (flags_in q) in
-    and_true (is_plain (decimal q.max_active)) (are_plain (f ∷ [])) (is_plain-decimal q.max_active (omega arith)) (and_true (is_plain f) true (flags_are_plain q.high q.intensive q.freezable) refl)
+    and_from (is_plain (decimal q.max_active)) (are_plain (f ∷ [])) (is_plain-decimal q.max_active (omega arith)) (and_from (is_plain f) true (flags_are_plain q.high q.intensive q.freezable) refl)
 
 queue_line_again : (q : QueueShape) (line : List ℕ) → q.max_active ≤ 512 → IsLineOf (queue_text q) line → queue_line_of line ≡ Some (record { max_active = q.max_active; flags = flags_in q })
 unfolding queue_text queue_line_of
@@ -158,7 +145,7 @@ width_kept n some small =
 pub queues_read_again : QueuesReadAgain
 unfolding queue_of_calls queue_of_history
 queues_read_again q line inside is =
-    let limits = both (leb 1 q.max_active) (leb q.max_active 512) inside in
+    let limits = and_parts (leb 1 q.max_active) (leb q.max_active 512) inside in
     let some : 1 ≤ q.max_active = leb-true 1 q.max_active limits.0 in
     let small : q.max_active ≤ 512 = leb-true q.max_active 512 limits.1 in
     let read = queue_line_again q line small is in
@@ -172,9 +159,9 @@ unfolding queue_line_of
 queue_line_takes line l e =
     let first = bind_some (after (codes "wq") (words_of line)) (λ (rest : List (List ℕ)). number_in rest >>= queue_line_after) l e in
     let width = bind_some (number_in first.0) queue_line_after l first.2 in
-    let f = bind_some (word_in flags_of width.0.1) (queue_line_tested width.0.0) l width.2 in
+    let f = bind_some (word_read flags_of width.0.1) (queue_line_tested width.0.0) l width.2 in
     let made : QueueLine = record { max_active = width.0.0; flags = f.0.0 } in
-    let found = chosen (is_end f.0.1) (Some made) l f.2 in
+    let found = chosen (has_no_word f.0.1) (Some made) l f.2 in
     let word = word_takes flags_of width.0.1 f.0 f.1 in
     let words = queue_pieces (words_of line) first.0 width.0.1 f.0.1 made word.0
     (after_takes (codes "wq") (words_of line) first.0 first.1)
@@ -236,7 +223,7 @@ flags_are_short false false false = omega arith
 pub queue_line_is_short : (q : QueueShape) → IsTrue (is_queue q) → length (queue_text q) ≤ 121
 unfolding queue_text
 queue_line_is_short q inside =
-    let small : q.max_active ≤ 512 = leb-true q.max_active 512 (both (leb 1 q.max_active) (leb q.max_active 512) inside).1 in
+    let small : q.max_active ≤ 512 = leb-true q.max_active 512 (and_parts (leb 1 q.max_active) (leb q.max_active 512) inside).1 in
     let f : List ℕ = flags_text (flags_in q) in
     let len : length (line_text (queue_words q)) ≡ size (queue_words q) = line_len (codes "wq") (decimal q.max_active ∷ f ∷ []) in
     omega (arith, len, number_len q.max_active (omega arith), flags_are_short q.high q.intensive q.freezable)

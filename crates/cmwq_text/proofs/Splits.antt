@@ -1,25 +1,19 @@
 -- A line as its words: where the first ends, and that the words, joined again, are the line.
-use Rattle.std.proofs.Common.{◌≡◌, ℕ, ◌+◌, ◌-◌, ◌≤◌, Bool, true, false, List, [], ◌∷◌, length, take, drop, ltb, Some, None, refl, arith, cond, subst}
-use Rattle.std.specs.Prelude.{position}
-use Rattle.std.specs.List.{onto_first, position_or_len}
-use Rattle.std.proofs.lemmas.Bool.{ltb-true, ltb-false}
-use Rattle.std.proofs.lemmas.List.Splits.{slice_split_none, slice_split_first}
-use Rattle.std.proofs.lemmas.List.Sums.{fails_before_first}
+use Rattle.cmwq_text.specs.Common.{◌≡◌, ℕ, ◌+◌, ◌-◌, ◌≤◌, Bool, true, false, List, [], ◌∷◌, length, take, drop, ltb, Some, None, refl, arith, cond, subst, position, onto_first, position_or_len, ltb-true, ltb-false, slice_split_none, slice_split_first, fails_before_first, cond_some}
 use Rattle.std.proofs.lemmas.Grind.{common_steps}
-use Rattle.std.proofs.lemmas.Option.{cond_some}
-use Rattle.cmwq_text.specs.Words.{is_space, words_of, is_end}
-use Rattle.cmwq_text.proofs.Steps.{not_chosen}
+use Rattle.cmwq_text.specs.Words.{is_space, words_of, has_no_word}
+use Rattle.cmwq_lemmas.proofs.Truth.{not_chosen}
 
-onto_first-has_first : (x : ℕ) (parts : List (List ℕ)) → is_end (onto_first x parts) ≡ false
+onto_first-has_first : (x : ℕ) (parts : List (List ℕ)) → has_no_word (onto_first x parts) ≡ false
 onto_first-has_first x [] = refl
 onto_first-has_first x (part ∷ parts) = refl
 
-cond_end : (b : Bool) (x y : List (List ℕ)) → is_end x ≡ false → is_end y ≡ false → is_end (cond b x y) ≡ false
+cond_end : (b : Bool) (x y : List (List ℕ)) → has_no_word x ≡ false → has_no_word y ≡ false → has_no_word (cond b x y) ≡ false
 cond_end true x y p q = p
 cond_end false x y p q = q
 
 -- a line has a first word
-pub split_has_first : (line : List ℕ) → is_end (words_of line) ≡ false
+pub split_has_first : (line : List ℕ) → has_no_word (words_of line) ≡ false
 split_has_first [] = refl
 split_has_first (x ∷ xs) = cond_end (is_space x) ([] ∷ words_of xs) (onto_first x (words_of xs)) refl (onto_first-has_first x (words_of xs))
 

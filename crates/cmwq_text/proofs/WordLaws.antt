@@ -1,17 +1,9 @@
 -- Words that are joined are found again, if no space and no line feed stands inside them; and a line is its words, joined.
-use Rattle.std.proofs.Common.{◌≡◌, ℕ, zero, suc, ◌<◌, ◌≤◌, ◌^◌, Bool, true, false, ◌&&◌, List, [], ◌∷◌, ◌++◌, length, get_or, leb, ltb, Option, Some, refl, ap, ◌∙◌, arith}
-use Rattle.std.specs.Fmt.{decimal}
-use Rattle.std.specs.Char.{is_ascii_digit}
-use Rattle.std.specs.Str.{all_ascii_digits, bytes_eq}
-use Rattle.std.specs.List.{list_all}
-use Rattle.std.proofs.lemmas.Bool.{leb-true, ltb-true, lt-ltb, ne_eqb}
-use Rattle.std.proofs.lemmas.Option.{same_Some}
-use Rattle.std.proofs.lemmas.List.Splits.{slice_split_none, slice_split_at, join_with_byte-slice_split}
-use Rattle.std.proofs.lemmas.Slice.Eq.{bytes_eq-Decides}
-use Rattle.std.proofs.lemmas.Fmt.{digits_decimal}
-use Rattle.cmwq_text.specs.Words.{is_space, words_of, joined, after, word_in}
-use Rattle.cmwq_text.proofs.Steps.{bind_some, chosen, both}
+use Rattle.cmwq_text.specs.Common.{◌≡◌, ℕ, zero, suc, ◌<◌, ◌≤◌, ◌^◌, Bool, true, false, ◌&&◌, List, [], ◌∷◌, ◌++◌, length, get_or, leb, ltb, Option, Some, refl, ap, ◌∙◌, arith, decimal, is_ascii_digit, all_ascii_digits, bytes_eq, list_all, leb-true, ltb-true, lt-ltb, ne_eqb, same_Some, slice_split_none, slice_split_at, join_with_byte-slice_split, bytes_eq-Decides, digits_decimal}
+use Rattle.cmwq_text.specs.Words.{is_space, words_of, join_words, after, word_read}
+use Rattle.cmwq_text.proofs.Steps.{bind_some, chosen}
 use Rattle.cmwq_text.proofs.NumberLaws.{own}
+use Rattle.std.proofs.lemmas.Bool.{and_from, and_parts}
 
 -- ---- plain words: each byte is above the space
 
@@ -24,57 +16,53 @@ is_plain w = list_all is_above_space w
 abbrev pub are_plain : List (List ℕ) → Bool
 are_plain ws = list_all is_plain ws
 
-pub and_true : (a b : Bool) → a ≡ true → b ≡ true → (a && b) ≡ true
-and_true true b p q = q
-and_true false b p q = absurd cc
-
 pub is_plain-append : (a b : List ℕ) → is_plain a ≡ true → is_plain b ≡ true → is_plain (a ++ b) ≡ true
 is_plain-append [] b p q = q
 is_plain-append (x ∷ xs) b p q =
-    let parts = both (is_above_space x) (is_plain xs) p in
-    and_true (is_above_space x) (is_plain (xs ++ b)) parts.0 (is_plain-append xs b parts.1 q)
+    let parts = and_parts (is_above_space x) (is_plain xs) p in
+    and_from (is_above_space x) (is_plain (xs ++ b)) parts.0 (is_plain-append xs b parts.1 q)
 
 pub are_plain-append : (a b : List (List ℕ)) → are_plain a ≡ true → are_plain b ≡ true → are_plain (a ++ b) ≡ true
 are_plain-append [] b p q = q
 are_plain-append (w ∷ ws) b p q =
-    let parts = both (is_plain w) (are_plain ws) p in
-    and_true (is_plain w) (are_plain (ws ++ b)) parts.0 (are_plain-append ws b parts.1 q)
+    let parts = and_parts (is_plain w) (are_plain ws) p in
+    and_from (is_plain w) (are_plain (ws ++ b)) parts.0 (are_plain-append ws b parts.1 q)
 
 digit_is_above : (d : ℕ) → is_ascii_digit d ≡ true → is_above_space d ≡ true
-digit_is_above d e = let from : 48 ≤ d = leb-true 48 d (both (leb 48 d) (leb d 57) e).0 in lt-ltb 32 d (omega (arith, from))
+digit_is_above d e = let from : 48 ≤ d = leb-true 48 d (and_parts (leb 48 d) (leb d 57) e).0 in lt-ltb 32 d (omega (arith, from))
 
 is_plain-digits : (ds : List ℕ) → all_ascii_digits ds ≡ true → is_plain ds ≡ true
 is_plain-digits [] e = refl
 is_plain-digits (d ∷ ds) e =
-    let parts = both (is_ascii_digit d) (all_ascii_digits ds) e in
-    and_true (is_above_space d) (is_plain ds) (digit_is_above d parts.0) (is_plain-digits ds parts.1)
+    let parts = and_parts (is_ascii_digit d) (all_ascii_digits ds) e in
+    and_from (is_above_space d) (is_plain ds) (digit_is_above d parts.0) (is_plain-digits ds parts.1)
 
 pub is_plain-decimal : (n : ℕ) → n < 2 ^ 64 → is_plain (decimal n) ≡ true
 is_plain-decimal n lt = is_plain-digits (decimal n) (digits_decimal own n lt)
 
 plain_at : (w : List ℕ) (i d : ℕ) → is_plain w ≡ true → i < length w → 32 < get_or w i d
 plain_at [] i d p lt = absurd (omega arith)
-plain_at (x ∷ xs) zero d p lt = ltb-true 32 x (both (is_above_space x) (is_plain xs) p).0
-plain_at (x ∷ xs) (suc i) d p lt = plain_at xs i d (both (is_above_space x) (is_plain xs) p).1 (omega arith)
+plain_at (x ∷ xs) zero d p lt = ltb-true 32 x (and_parts (is_above_space x) (is_plain xs) p).0
+plain_at (x ∷ xs) (suc i) d p lt = plain_at xs i d (and_parts (is_above_space x) (is_plain xs) p).1 (omega arith)
 
 no_space : (w : List ℕ) (i d : ℕ) → is_plain w ≡ true → i < length w → is_space (get_or w i d) ≡ false
 no_space w i d p lt = let above : 32 < get_or w i d = plain_at w i d p lt in ne_eqb (get_or w i d) 32 (λ same. absurd (omega (arith, same, above)))
 
 -- ---- a line and its words
 
-pub words_again : (w : List ℕ) (ws : List (List ℕ)) → are_plain (w ∷ ws) ≡ true → words_of (joined (w ∷ ws)) ≡ w ∷ ws
-words_again w [] p = slice_split_none is_space w (λ i d lt. no_space w i d (both (is_plain w) true p).0 lt)
+pub words_again : (w : List ℕ) (ws : List (List ℕ)) → are_plain (w ∷ ws) ≡ true → words_of (join_words (w ∷ ws)) ≡ w ∷ ws
+words_again w [] p = slice_split_none is_space w (λ i d lt. no_space w i d (and_parts (is_plain w) true p).0 lt)
 words_again w (v ∷ ws) p =
-    let parts = both (is_plain w) (are_plain (v ∷ ws)) p in
-    slice_split_at is_space w 32 (joined (v ∷ ws)) (λ i d lt. no_space w i d parts.0 lt) refl
+    let parts = and_parts (is_plain w) (are_plain (v ∷ ws)) p in
+    slice_split_at is_space w 32 (join_words (v ∷ ws)) (λ i d lt. no_space w i d parts.0 lt) refl
     ∙ ap (λ (rest : List (List ℕ)). w ∷ rest) (words_again v ws parts.1)
 
-pub joined_words : (line : List ℕ) → joined (words_of line) ≡ line
+pub joined_words : (line : List ℕ) → join_words (words_of line) ≡ line
 joined_words line = join_with_byte-slice_split 32 line
 
 -- ---- single words
 
-pub word_takes : {A : Type 0} (f : List ℕ → Option A) (ws : List (List ℕ)) (x : A × List (List ℕ)) → word_in f ws ≡ Some x → (w : List ℕ) × (ws ≡ w ∷ x.1) × (f w ≡ Some x.0)
+pub word_takes : {A : Type 0} (f : List ℕ → Option A) (ws : List (List ℕ)) (x : A × List (List ℕ)) → word_read f ws ≡ Some x → (w : List ℕ) × (ws ≡ w ∷ x.1) × (f w ≡ Some x.0)
 word_takes {A} f [] x e = absurd cc
 word_takes {A} f (w ∷ ws) x e =
     let read = bind_some (f w) (λ (v : A). Some (v, ws)) x e in

@@ -1,19 +1,15 @@
 -- Calls in a text: how each is spelled, and how each is read.
-use Rattle.std.specs.Prelude.{ℕ, Bool, true, false, ◌&&◌, nat_le, if◌then◌else◌, List, [], ◌∷◌, map, Option, Some, None, decimal}
-use Rattle.cmwq_model.specs.declared.id.Who.{Who}
-use Rattle.cmwq_model.specs.declared.id.Who.TheVariants.{Caller, Worker}
-use Rattle.cmwq_model.specs.declared.call.Call.{Call}
-use Rattle.cmwq_model.specs.Prelude.{is_callers, is_workers}
+use Rattle.cmwq_text.specs.Common.{ℕ, Bool, true, false, ◌&&◌, nat_le, if◌then◌else◌, List, [], ◌∷◌, map, Option, Some, None, decimal, Who, Caller, Worker, Call, is_callers, is_workers}
 use Rattle.cmwq_model.specs.declared.call.Call.TheVariants as call
 use Rattle.cmwq_text.specs.declared.keyword.Keyword.{Keyword}
 use Rattle.cmwq_text.specs.declared.keyword.Keyword.TheVariants as word
-use Rattle.cmwq_text.specs.Words.{◌>>=◌, words_of, line_text, is_end, number_in, wide_in, none, one, two, three, four}
-use Rattle.cmwq_text.specs.Keywords.{text, keyword_in}
+use Rattle.cmwq_text.specs.Words.{◌>>=◌, words_of, line_text, has_no_word, number_in, wide_in, take_none, take_one, take_two, take_three, take_four}
+use Rattle.cmwq_text.specs.Keywords.{keyword_text, keyword_in}
 use Rattle.cmwq_text.specs.IdText.{who_text, item_in, queue_in, cpu_in, who_in}
 
 -- a keyword and the numbers after it
 abbrev pub phrase : Keyword → List ℕ → List (List ℕ)
-phrase keyword numbers = text keyword ∷ map decimal numbers
+phrase keyword numbers = keyword_text keyword ∷ map decimal numbers
 
 unfoldable pub call_words : Call → List (List ℕ)
 call_words (call.Queue i q c) = phrase word.Queue (i.0 ∷ q.0 ∷ c.0 ∷ [])
@@ -43,29 +39,29 @@ unfoldable pub call_text : Who → Call → List ℕ
 call_text who call = line_text (who_text who ∷ call_words call)
 
 -- the call after its keyword
-unfoldable pub call_after : Keyword → List (List ℕ) → Option (Call × List (List ℕ))
-call_after word.Queue = three item_in queue_in cpu_in call.Queue
-call_after word.Delay = four item_in queue_in cpu_in number_in call.Delay
-call_after word.Modify = four item_in queue_in cpu_in number_in call.Modify
-call_after word.Cancel = one item_in call.Cancel
-call_after word.Tick = one number_in call.Tick
-call_after word.Fire = none call.Fire
-call_after word.Flush = one queue_in call.Flush
-call_after word.Drain = one queue_in call.Drain
-call_after word.FlushItem = one item_in call.FlushItem
-call_after word.FlushDelayed = one item_in call.FlushDelayed
-call_after word.CancelSync = one item_in call.CancelSync
-call_after word.End = one wide_in call.End
-call_after word.Take = none call.Take
-call_after word.Finish = none call.Finish
-call_after word.Sleep = none call.Sleep
-call_after word.Wake = none call.Wake
-call_after word.Retire = none call.Retire
-call_after word.SetMax = two queue_in number_in call.SetMax
-call_after word.Freeze = none call.Freeze
-call_after word.Thaw = none call.Thaw
-call_after word.Destroy = one queue_in call.Destroy
-call_after keyword = λ words. None
+unfoldable pub call_read_after : Keyword → List (List ℕ) → Option (Call × List (List ℕ))
+call_read_after word.Queue = take_three item_in queue_in cpu_in call.Queue
+call_read_after word.Delay = take_four item_in queue_in cpu_in number_in call.Delay
+call_read_after word.Modify = take_four item_in queue_in cpu_in number_in call.Modify
+call_read_after word.Cancel = take_one item_in call.Cancel
+call_read_after word.Tick = take_one number_in call.Tick
+call_read_after word.Fire = take_none call.Fire
+call_read_after word.Flush = take_one queue_in call.Flush
+call_read_after word.Drain = take_one queue_in call.Drain
+call_read_after word.FlushItem = take_one item_in call.FlushItem
+call_read_after word.FlushDelayed = take_one item_in call.FlushDelayed
+call_read_after word.CancelSync = take_one item_in call.CancelSync
+call_read_after word.End = take_one wide_in call.End
+call_read_after word.Take = take_none call.Take
+call_read_after word.Finish = take_none call.Finish
+call_read_after word.Sleep = take_none call.Sleep
+call_read_after word.Wake = take_none call.Wake
+call_read_after word.Retire = take_none call.Retire
+call_read_after word.SetMax = take_two queue_in number_in call.SetMax
+call_read_after word.Freeze = take_none call.Freeze
+call_read_after word.Thaw = take_none call.Thaw
+call_read_after word.Destroy = take_one queue_in call.Destroy
+call_read_after keyword = λ words. None
 
 -- whether the call of a keyword queues an item
 abbrev pub is_queueing : Keyword → Bool
@@ -93,7 +89,7 @@ has_queue keyword = false
 abbrev pub call_in : List (List ℕ) → Option (Call × List (List ℕ))
 call_in words = do
   keyword ← keyword_in words
-  call_after keyword.0 keyword.1
+  call_read_after keyword.0 keyword.1
 
 -- whether such a who makes such calls
 abbrev pub is_of_kind : Who → Call → Bool
@@ -109,8 +105,8 @@ abbrev pub may_say : Who → Call → Bool
 may_say who call = is_of_kind who call && sets_some call
 
 -- the call of a line of calls
-unfoldable pub call_of : List ℕ → Option (Who × Call)
-call_of line = do
+unfoldable pub call_read : List ℕ → Option (Who × Call)
+call_read line = do
   who ← who_in (words_of line)
   call ← call_in who.1
-  if is_end call.1 && may_say who.0 call.0 then Some (who.0, call.0) else None
+  if has_no_word call.1 && may_say who.0 call.0 then Some (who.0, call.0) else None

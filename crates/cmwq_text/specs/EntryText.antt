@@ -1,7 +1,6 @@
 -- Entries in a text: `<who> <serial> <call> = <reply>`.
-use Rattle.std.specs.Prelude.{ℕ, ◌&&◌, if◌then◌else◌, List, ◌∷◌, ◌++◌, Option, Some, None, codes, decimal}
-use Rattle.cmwq_model.specs.declared.entry.Entry.{Entry}
-use Rattle.cmwq_text.specs.Words.{◌>>=◌, words_of, line_text, is_end, after, wide_in}
+use Rattle.cmwq_text.specs.Common.{ℕ, ◌&&◌, if◌then◌else◌, List, ◌∷◌, ◌++◌, Option, Some, None, codes, decimal, Entry}
+use Rattle.cmwq_text.specs.Words.{◌>>=◌, words_of, line_text, has_no_word, after, wide_in}
 use Rattle.cmwq_text.specs.IdText.{who_text, who_in}
 use Rattle.cmwq_text.specs.CallText.{call_words, call_in, may_say}
 use Rattle.cmwq_text.specs.ReplyText.{reply_words, reply_in}
@@ -21,6 +20,6 @@ entry_of line = do
   call ← call_in serial.1
   answer ← after (codes "=") call.1
   reply ← reply_in answer
-  if is_end reply.1 && may_say who.0 call.0
+  if has_no_word reply.1 && may_say who.0 call.0
       then Some (record { who = who.0; serial = serial.0; call = call.0; reply = reply.0 })
       else None

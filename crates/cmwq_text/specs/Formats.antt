@@ -3,21 +3,13 @@
 -- line `history 3`, and is as one of format 2 but for its limits, those of its lines, its room and its numbers, and for its last line, which says how
 -- many entries stand before it. A file of calls has no line of a format and the limits of the older ones, or begins with the line `calls 3` and has
 -- those of format 3.
-use Rattle.std.specs.Prelude.{ℕ, Bool, true, false, not, ◌&&◌, ◌||◌, ◌==◌, if◌then◌else◌, List, Option, Some, None, codes, nat_le}
-use Rattle.std.specs.Str.{bytes_eq}
-use Rattle.cmwq_model.specs.declared.call.Call.{Call}
-use Rattle.cmwq_model.specs.declared.reply.Reply.{Reply}
-use Rattle.cmwq_model.specs.declared.entry.Entry.{Entry}
-use Rattle.cmwq_model.specs.declared.id.Who.{Who}
-use Rattle.cmwq_model.specs.declared.shape.Counts.{Counts}
-use Rattle.cmwq_model.specs.declared.shape.QueueShape.{QueueShape}
-use Rattle.cmwq_model.specs.Prelude.{most_room, greatest, most_time}
+use Rattle.cmwq_text.specs.Common.{ℕ, Bool, true, false, not, ◌&&◌, ◌||◌, ◌==◌, if◌then◌else◌, List, Option, Some, None, codes, nat_le, bytes_eq, Call, Reply, Entry, Who, Counts, QueueShape, most_room, greatest, most_time}
 use Rattle.cmwq_model.specs.declared.call.Call.TheVariants as call
 use Rattle.cmwq_model.specs.declared.reply.Reply.TheVariants as reply
-use Rattle.cmwq_text.specs.CallText.{call_of}
+use Rattle.cmwq_text.specs.CallText.{call_read}
 use Rattle.cmwq_text.specs.Numbers.{greatest_number}
 use Rattle.cmwq_text.specs.Words.{◌>>=◌}
-use Rattle.cmwq_text.specs.ShapeText.{counts_of, queue_of_history}
+use Rattle.cmwq_text.specs.ShapeText.{counts_read, queue_of_history}
 use Rattle.cmwq_text.specs.EntryText.{entry_of}
 
 -- the first line of a history of format 2 or 3, without its line feed
@@ -119,7 +111,7 @@ allows_counts version c = nat_le c.room (room_limit version)
 -- the counts, the queue and the entry of a line of such a history
 unfoldable pub counts_of_format : ℕ → List ℕ → Option Counts
 counts_of_format version line = do
-  c ← counts_of line
+  c ← counts_read line
   if allows_counts version c then Some c else None
 
 unfoldable pub queue_of_format : ℕ → List ℕ → Option QueueShape
@@ -142,5 +134,5 @@ allows_call version c = nat_le 3 version || is_short_call c
 
 unfoldable pub call_of_format : ℕ → List ℕ → Option (Who × Call)
 call_of_format version line = do
-  x ← call_of line
+  x ← call_read line
   if allows_call version x.1 then Some x else None

@@ -1,37 +1,32 @@
 -- Items, queues, CPUs, callers and workers in a text. A caller is `c<number>`, a worker `w<cpu>n<index>` in a pool of
 -- normal priority and `w<cpu>h<index>` in one of high priority.
-use Rattle.std.specs.Prelude.{ℕ, ◌+◌, Bool, ◌||◌, ◌==◌, if◌then◌else◌, List, [], ◌∷◌, ◌++◌, take, drop, slice_index, position, Option, Some, None, decimal}
-use Rattle.cmwq_model.specs.declared.id.ItemId.{ItemId}
-use Rattle.cmwq_model.specs.declared.id.QueueId.{QueueId}
-use Rattle.cmwq_model.specs.declared.id.CpuId.{CpuId}
-use Rattle.cmwq_model.specs.declared.id.Who.{Who}
-use Rattle.cmwq_model.specs.declared.id.Who.TheVariants.{Caller, Worker}
+use Rattle.cmwq_text.specs.Common.{ℕ, ◌+◌, Bool, ◌||◌, ◌==◌, if◌then◌else◌, List, [], ◌∷◌, ◌++◌, take, drop, slice_index, position, Option, Some, None, decimal, ItemId, QueueId, CpuId, Who, Caller, Worker}
 use Rattle.cmwq_text.specs.Numbers.{byte_of}
-use Rattle.cmwq_text.specs.Words.{◌>>=◌, one, word_in, short_in, byte_in}
+use Rattle.cmwq_text.specs.Words.{◌>>=◌, take_one, word_read, short_in, byte_in}
 
 abbrev pub item : ℕ → ItemId
 item n = record { 0 = n }
 
-abbrev pub queue : ℕ → QueueId
-queue n = record { 0 = n }
+abbrev pub queue_numbered : ℕ → QueueId
+queue_numbered n = record { 0 = n }
 
 abbrev pub cpu : ℕ → CpuId
 cpu n = record { 0 = n }
 
-abbrev pub caller : ℕ → Who
-caller n = Caller (record { 0 = n })
+abbrev pub caller_numbered : ℕ → Who
+caller_numbered n = Caller (record { 0 = n })
 
-abbrev pub worker : ℕ → Bool → ℕ → Who
-worker c high x = Worker (record { pool = record { cpu = cpu c; high = high }; index = x })
+abbrev pub worker_numbered : ℕ → Bool → ℕ → Who
+worker_numbered c high x = Worker (record { pool = record { cpu = cpu c; high = high }; index = x })
 
 abbrev pub item_in : List (List ℕ) → Option (ItemId × List (List ℕ))
-item_in words = one short_in item words
+item_in words = take_one short_in item words
 
 abbrev pub queue_in : List (List ℕ) → Option (QueueId × List (List ℕ))
-queue_in words = one byte_in queue words
+queue_in words = take_one byte_in queue_numbered words
 
 abbrev pub cpu_in : List (List ℕ) → Option (CpuId × List (List ℕ))
-cpu_in words = one byte_in cpu words
+cpu_in words = take_one byte_in cpu words
 
 -- 110 is `n` and 104 is `h`
 abbrev pub pool_letter : Bool → ℕ
@@ -45,22 +40,22 @@ abbrev pub who_text : Who → List ℕ
 who_text (Caller c) = 99 ∷ decimal c.0
 who_text (Worker w) = 119 ∷ decimal w.pool.cpu.0 ++ pool_letter w.pool.high ∷ decimal w.index
 
-abbrev pub caller_of : List ℕ → Option Who
-caller_of name = do
+abbrev pub caller_read : List ℕ → Option Who
+caller_read name = do
   n ← byte_of name
-  Some (caller n)
+  Some (caller_numbered n)
 
 -- the numbers before and after the first letter of a pool
-unfoldable pub worker_of : List ℕ → Option Who
-worker_of name = do
+unfoldable pub worker_read : List ℕ → Option Who
+worker_read name = do
   letter ← position is_pool_letter name
   c ← byte_of (take letter name)
   x ← byte_of (drop (letter + 1) name)
-  Some (worker c (slice_index name letter == 104) x)
+  Some (worker_numbered c (slice_index name letter == 104) x)
 
-unfoldable pub who_of : List ℕ → Option Who
-who_of [] = None
-who_of (first ∷ name) = if first == 99 then caller_of name else if first == 119 then worker_of name else None
+unfoldable pub who_read : List ℕ → Option Who
+who_read [] = None
+who_read (first ∷ name) = if first == 99 then caller_read name else if first == 119 then worker_read name else None
 
 abbrev pub who_in : List (List ℕ) → Option (Who × List (List ℕ))
-who_in words = word_in who_of words
+who_in words = word_read who_read words

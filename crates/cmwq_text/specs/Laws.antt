@@ -1,15 +1,9 @@
 -- What the texts of lines keep. A line is meant without its line feed where it is read, and with it where it is spelled.
-use Rattle.std.specs.Prelude.{◌≡◌, ℕ, ◌≤◌, List, [], ◌∷◌, ◌++◌, length, Some, IsTrue}
-use Rattle.cmwq_model.specs.declared.id.Who.{Who}
-use Rattle.cmwq_model.specs.declared.call.Call.{Call}
-use Rattle.cmwq_model.specs.declared.entry.Entry.{Entry}
-use Rattle.cmwq_model.specs.declared.shape.Counts.{Counts}
-use Rattle.cmwq_model.specs.declared.shape.QueueShape.{QueueShape}
-use Rattle.cmwq_model.specs.Prelude.{Layout, are_counts, is_queue, is_layout, fits, entry_fits, IsWho, IsCall, IsEntry}
-use Rattle.cmwq_text.specs.CallText.{call_text, call_of, may_say}
+use Rattle.cmwq_text.specs.Common.{◌≡◌, ℕ, ◌≤◌, List, [], ◌∷◌, ◌++◌, length, Some, IsTrue, Who, Call, Entry, Counts, QueueShape, Layout, are_counts, is_queue, is_layout, fits, entry_fits, IsWho, IsCall, IsEntry}
+use Rattle.cmwq_text.specs.CallText.{call_text, call_read, may_say}
 use Rattle.cmwq_text.specs.EntryText.{entry_text, entry_of}
 use Rattle.cmwq_text.specs.EndText.{end_text, end_of}
-use Rattle.cmwq_text.specs.ShapeText.{counts_text, counts_of, queue_text, queue_of_calls, queue_of_history}
+use Rattle.cmwq_text.specs.ShapeText.{counts_text, counts_read, queue_text, queue_of_calls, queue_of_history}
 use Rattle.cmwq_text.specs.Numbers.{greatest_number}
 
 -- the line, with a line feed, is this text
@@ -18,26 +12,26 @@ IsLineOf text line = text ≡ line ++ 10 ∷ []
 
 -- what is spelled is read again
 abbrev pub CallsReadAgain : Type 0
-CallsReadAgain = (who : Who) (call : Call) (line : List ℕ) → IsWho who → (IsCall greatest_number) call → IsTrue (may_say who call) → IsLineOf (call_text who call) line → call_of line ≡ Some (who, call)
+CallsReadAgain = (who : Who) (call : Call) (line : List ℕ) → IsWho who → (IsCall greatest_number) call → IsTrue (may_say who call) → IsLineOf (call_text who call) line → call_read line ≡ Some (who, call)
 
 abbrev pub EntriesReadAgain : Type 0
 EntriesReadAgain = (e : Entry) (line : List ℕ) → (IsEntry greatest_number) e → IsTrue (may_say e.who e.call) → IsLineOf (entry_text e) line → entry_of line ≡ Some e
 
 abbrev pub CountsReadAgain : Type 0
-CountsReadAgain = (n : Counts) (line : List ℕ) → IsTrue (are_counts n.cpus n.workers n.callers n.items n.room) → IsLineOf (counts_text n) line → counts_of line ≡ Some n
+CountsReadAgain = (n : Counts) (line : List ℕ) → IsTrue (are_counts n.cpus n.workers n.callers n.items n.room) → IsLineOf (counts_text n) line → counts_read line ≡ Some n
 
 abbrev pub QueuesReadAgain : Type 0
 QueuesReadAgain = (q : QueueShape) (line : List ℕ) → IsTrue (is_queue q) → IsLineOf (queue_text q) line → (queue_of_calls line ≡ Some q) × (queue_of_history line ≡ Some q)
 
 -- what is read is spelled so, if its ids are inside some shape
 abbrev pub CallsSpelledSo : Type 0
-CallsSpelledSo = (s : Layout) (who : Who) (call : Call) (line : List ℕ) → IsTrue (is_layout s) → IsTrue (fits s who call) → call_of line ≡ Some (who, call) → IsLineOf (call_text who call) line
+CallsSpelledSo = (s : Layout) (who : Who) (call : Call) (line : List ℕ) → IsTrue (is_layout s) → IsTrue (fits s who call) → call_read line ≡ Some (who, call) → IsLineOf (call_text who call) line
 
 abbrev pub EntriesSpelledSo : Type 0
 EntriesSpelledSo = (s : Layout) (e : Entry) (line : List ℕ) → IsTrue (is_layout s) → IsTrue (entry_fits s e) → entry_of line ≡ Some e → IsLineOf (entry_text e) line
 
 abbrev pub CountsSpelledSo : Type 0
-CountsSpelledSo = (n : Counts) (line : List ℕ) → counts_of line ≡ Some n → IsLineOf (counts_text n) line
+CountsSpelledSo = (n : Counts) (line : List ℕ) → counts_read line ≡ Some n → IsLineOf (counts_text n) line
 
 abbrev pub QueuesSpelledSo : Type 0
 QueuesSpelledSo = (q : QueueShape) (line : List ℕ) → queue_of_history line ≡ Some q → IsLineOf (queue_text q) line

@@ -1,8 +1,5 @@
 -- Numbers in a text: `0`, or a digit 1 to 9 and digits after it. How a number is spelled is std's decimal.
-use Rattle.std.specs.Prelude.{ℕ, ◌+◌, ◌-◌, ◌*◌, Bool, false, not, ◌&&◌, ◌||◌, ◌==◌, if◌then◌else◌, List, [], ◌∷◌, length, Option, Some, None, nat_le, min}
-use Rattle.std.specs.Str.{all_ascii_digits}
-use Rattle.std.specs.Char.{is_ascii_digit}
-use Rattle.cmwq_model.specs.Prelude.{greatest_byte, greatest_short, greatest}
+use Rattle.cmwq_text.specs.Common.{ℕ, ◌+◌, ◌-◌, ◌*◌, Bool, false, not, ◌&&◌, ◌||◌, ◌==◌, if◌then◌else◌, List, [], ◌∷◌, length, Option, Some, None, nat_le, min, all_ascii_digits, is_ascii_digit, greatest_byte, greatest_short, greatest}
 
 -- the greatest number of an entry that a text of any format has: its 19 digits keep each line within 120 bytes
 abbrev pub greatest_number : ℕ
@@ -27,8 +24,8 @@ is_begun [] = false
 is_begun (first ∷ others) = not (first == 48) || length others == 0
 
 -- the number that a word spells, if it is at most the limit
-unfoldable pub number_of : ℕ → List ℕ → Option ℕ
-number_of limit word = if is_begun word then digits_from limit 0 word else None
+unfoldable pub number_read : ℕ → List ℕ → Option ℕ
+number_read limit word = if is_begun word then digits_from limit 0 word else None
 
 -- an id above the greatest number of its type is read as the greatest, and no shape has that one
 abbrev pub held_at_most : ℕ → Option ℕ → Option ℕ
@@ -36,7 +33,7 @@ held_at_most most None = None
 held_at_most most (Some n) = Some (min n most)
 
 abbrev pub byte_of : List ℕ → Option ℕ
-byte_of word = held_at_most greatest_byte (number_of greatest word)
+byte_of word = held_at_most greatest_byte (number_read greatest word)
 
 abbrev pub short_of : List ℕ → Option ℕ
-short_of word = held_at_most greatest_short (number_of greatest word)
+short_of word = held_at_most greatest_short (number_read greatest word)

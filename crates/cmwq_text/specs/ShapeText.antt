@@ -1,13 +1,8 @@
 -- Shapes in a text: `shape <cpus> <workers> <callers> <items> <room>`, and `wq <max_active> <flags>` for each queue.
-use Rattle.std.specs.Prelude.{ℕ, Bool, true, false, ◌&&◌, ◌==◌, if◌then◌else◌, List, [], ◌∷◌, ◌++◌, find, Option, Some, None, codes, decimal, min, nat_eq}
-use Rattle.std.specs.List.{starts_with}
-use Rattle.std.specs.Str.{bytes_eq}
-use Rattle.cmwq_model.specs.declared.shape.Counts.{Counts}
-use Rattle.cmwq_model.specs.declared.shape.QueueShape.{QueueShape}
-use Rattle.cmwq_model.specs.Prelude.{are_counts, is_between}
+use Rattle.cmwq_text.specs.Common.{ℕ, Bool, true, false, ◌&&◌, ◌==◌, if◌then◌else◌, List, [], ◌∷◌, ◌++◌, find, Option, Some, None, codes, decimal, min, nat_eq, starts_with, bytes_eq, Counts, QueueShape, are_counts, is_between}
 use Rattle.cmwq_text.specs.declared.shape.Flags.{Flags}
 use Rattle.cmwq_text.specs.declared.shape.QueueLine.{QueueLine}
-use Rattle.cmwq_text.specs.Words.{◌>>=◌, words_of, line_text, is_end, after, word_in, byte_in, short_in, number_in, wide_in}
+use Rattle.cmwq_text.specs.Words.{◌>>=◌, words_of, line_text, has_no_word, after, word_read, byte_in, short_in, number_in, wide_in}
 
 abbrev pub counts_words : Counts → List (List ℕ)
 counts_words n = codes "shape" ∷ decimal n.cpus ∷ decimal n.workers ∷ decimal n.callers ∷ decimal n.items ∷ decimal n.room ∷ []
@@ -16,15 +11,15 @@ unfoldable pub counts_text : Counts → List ℕ
 counts_text n = line_text (counts_words n)
 
 -- the counts of a shape line, inside their limits
-unfoldable pub counts_of : List ℕ → Option Counts
-counts_of line = do
+unfoldable pub counts_read : List ℕ → Option Counts
+counts_read line = do
   words ← after (codes "shape") (words_of line)
   cpus ← byte_in words
   workers ← byte_in cpus.1
   callers ← byte_in workers.1
   items ← short_in callers.1
   room ← wide_in items.1
-  if is_end room.1 && are_counts cpus.0 workers.0 callers.0 items.0 room.0
+  if has_no_word room.1 && are_counts cpus.0 workers.0 callers.0 items.0 room.0
       then Some (record { cpus = cpus.0; workers = workers.0; callers = callers.0; items = items.0; room = room.0 })
       else None
 
@@ -68,8 +63,8 @@ unfoldable pub queue_line_of : List ℕ → Option QueueLine
 queue_line_of line = do
   words ← after (codes "wq") (words_of line)
   width ← number_in words
-  f ← word_in flags_of width.1
-  if is_end f.1 then Some (record { max_active = width.0; flags = f.0 }) else None
+  f ← word_read flags_of width.1
+  if has_no_word f.1 then Some (record { max_active = width.0; flags = f.0 }) else None
 
 abbrev pub queue_with : ℕ → Flags → QueueShape
 queue_with max_active f = record { max_active = max_active; high = f.high; intensive = f.intensive; freezable = f.freezable }

@@ -3,7 +3,7 @@ use Rattle.std.specs.Prelude.{ℕ, List, [], ◌∷◌, ◌++◌, codes, decimal
 use Rattle.cmwq_model.specs.declared.verdict.Wanted.{Wanted}
 use Rattle.cmwq_model.specs.declared.verdict.Illegal.{Illegal}
 use Rattle.cmwq_model.specs.declared.verdict.Wanted.TheVariants as wanted
-use Rattle.cmwq_text.specs.Words.{spaced}
+use Rattle.cmwq_text.specs.Words.{space_words}
 use Rattle.cmwq_text.specs.ReplyText.{reply_words}
 
 -- of a legal history, with how many entries it has
@@ -12,7 +12,7 @@ legal_text n = codes "legal " ++ decimal n ++ 10 ∷ []
 
 abbrev pub wanted_text : Wanted → List ℕ
 wanted_text (wanted.Serial n) = codes ": serial " ++ decimal n
-wanted_text (wanted.Reply r) = codes ": reply" ++ spaced (reply_words r)
+wanted_text (wanted.Reply r) = codes ": reply" ++ space_words (reply_words r)
 
 abbrev pub illegal_text : Illegal → List ℕ
 illegal_text i = codes "illegal at " ++ decimal i.at ++ wanted_text i.wanted ++ 10 ∷ []

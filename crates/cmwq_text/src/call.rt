@@ -1,7 +1,7 @@
 //! Calls in a text.
 ghost use Rattle.std.specs.Prelude.{◌≡◌, true};
 ghost use Rattle.cmwq_text.specs.Words.{with_left};
-ghost use Rattle.cmwq_text.specs.CallText.{is_queueing, has_item, has_queue, call_after, call_in, is_of_kind, may_say, call_of};
+ghost use Rattle.cmwq_text.specs.CallText.{is_queueing, has_item, has_queue, call_read_after, call_in, is_of_kind, may_say, call_read};
 
 use crate::id::{cpu_in, item_in, queue_in, who_in};
 use crate::keyword::{Keyword, keyword_in};
@@ -9,10 +9,10 @@ use crate::word::{Words, number_in, wide_in};
 use cmwq_model::{Call, Who};
 
 /// The call after a keyword that queues an item.
-#[tactic(auto, unfolding(crate::specs::CallText::call_after))]
+#[tactic(auto, unfolding(crate::specs::CallText::call_read_after))]
 fn queueing_after(keyword: Keyword, words: &mut Words<'_>) -> Option<Call>
     requires { is_queueing keyword ≡ true }
-    ensures { with_left result words.new ≡ call_after keyword words.old }
+    ensures { with_left result words.new ≡ call_read_after keyword words.old }
 {
     let item = item_in(words)?;
     let queue = queue_in(words)?;
@@ -42,10 +42,10 @@ fn queueing_after(keyword: Keyword, words: &mut Words<'_>) -> Option<Call>
 }
 
 /// The call after a keyword that an item follows, and nothing else.
-#[tactic(auto, unfolding(crate::specs::CallText::call_after))]
+#[tactic(auto, unfolding(crate::specs::CallText::call_read_after))]
 fn item_call_after(keyword: Keyword, words: &mut Words<'_>) -> Option<Call>
     requires { has_item keyword ≡ true }
-    ensures { with_left result words.new ≡ call_after keyword words.old }
+    ensures { with_left result words.new ≡ call_read_after keyword words.old }
 {
     let item = item_in(words)?;
     match keyword {
@@ -58,10 +58,10 @@ fn item_call_after(keyword: Keyword, words: &mut Words<'_>) -> Option<Call>
 }
 
 /// The call after a keyword that a queue follows.
-#[tactic(auto, unfolding(crate::specs::CallText::call_after))]
+#[tactic(auto, unfolding(crate::specs::CallText::call_read_after))]
 fn queue_call_after(keyword: Keyword, words: &mut Words<'_>) -> Option<Call>
     requires { has_queue keyword ≡ true }
-    ensures { with_left result words.new ≡ call_after keyword words.old }
+    ensures { with_left result words.new ≡ call_read_after keyword words.old }
 {
     let queue = queue_in(words)?;
     match keyword {
@@ -77,9 +77,9 @@ fn queue_call_after(keyword: Keyword, words: &mut Words<'_>) -> Option<Call>
 }
 
 /// The call after its keyword.
-#[tactic(auto, unfolding(crate::specs::CallText::call_after))]
+#[tactic(auto, unfolding(crate::specs::CallText::call_read_after))]
 fn call_after(keyword: Keyword, words: &mut Words<'_>) -> Option<Call>
-    ensures { with_left result words.new ≡ call_after keyword words.old }
+    ensures { with_left result words.new ≡ call_read_after keyword words.old }
 {
     match keyword {
         Keyword::Queue | Keyword::Delay | Keyword::Modify => queueing_after(keyword, words),
@@ -137,9 +137,9 @@ pub fn may_say(who: Who, call: Call) -> bool
 /// The who and the call of a line of calls, without its line feed. None: it is no such line, the who isn't of the
 /// kind that makes this call, or a max_active is set to 0. An id that its type can't hold is read as the greatest of
 /// the type, which no shape has.
-#[tactic(auto, unfolding(crate::specs::CallText::call_of))]
+#[tactic(auto, unfolding(crate::specs::CallText::call_read))]
 pub fn read_call(line: &[u8]) -> Option<(Who, Call)>
-    ensures { result ≡ call_of line.now }
+    ensures { result ≡ call_read line.now }
 {
     let mut words = Words::of(line);
     let who = who_in(&mut words)?;

@@ -1,7 +1,7 @@
 //! Items, queues, CPUs, callers and workers in a text.
 ghost use Rattle.std.specs.Prelude.{◌≡◌, position};
 ghost use Rattle.cmwq_text.specs.Words.{with_left};
-ghost use Rattle.cmwq_text.specs.IdText.{is_pool_letter, item_in, queue_in, cpu_in, caller_of, worker_of, who_of, who_in};
+ghost use Rattle.cmwq_text.specs.IdText.{is_pool_letter, item_in, queue_in, cpu_in, caller_read, worker_read, who_read, who_in};
 
 use crate::number::byte_of;
 use crate::word::{Words, byte_in, short_in};
@@ -29,7 +29,7 @@ pub fn cpu_in(words: &mut Words<'_>) -> Option<CpuId>
 }
 
 fn caller_of(name: &[u8]) -> Option<Who>
-    ensures { result ≡ caller_of name.now }
+    ensures { result ≡ caller_read name.now }
 {
     Some(Who::Caller(CallerId(byte_of(name)?)))
 }
@@ -40,9 +40,9 @@ fn pool_letter(name: &[u8]) -> Option<usize>
     name.iter().position(|byte| matches!(*byte, b'n' | b'h'))
 }
 
-#[tactic(auto, unfolding(crate::specs::IdText::worker_of), using(std::proofs::lemmas::List::take_rest))]
+#[tactic(auto, unfolding(crate::specs::IdText::worker_read), using(std::proofs::lemmas::List::take_rest))]
 fn worker_of(name: &[u8]) -> Option<Who>
-    ensures { result ≡ worker_of name.now }
+    ensures { result ≡ worker_read name.now }
 {
     let letter = pool_letter(name)?;
     let cpu = CpuId(byte_of(&name[..letter])?);
@@ -55,9 +55,9 @@ fn worker_of(name: &[u8]) -> Option<Who>
 }
 
 /// The caller or the worker that a word names.
-#[tactic(auto, unfolding(crate::specs::IdText::who_of))]
+#[tactic(auto, unfolding(crate::specs::IdText::who_read))]
 fn who_of(word: &[u8]) -> Option<Who>
-    ensures { result ≡ who_of word.now }
+    ensures { result ≡ who_read word.now }
 {
     match word {
         [b'c', name @ ..] => caller_of(name),

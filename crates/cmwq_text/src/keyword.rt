@@ -1,6 +1,6 @@
 ghost use Rattle.std.specs.Prelude.{◌≡◌, ◌≤◌, length, find};
 ghost use Rattle.cmwq_text.specs.Words.{with_left};
-ghost use Rattle.cmwq_text.specs.Keywords.{text, is_text, keyword_of, keyword_in};
+ghost use Rattle.cmwq_text.specs.Keywords.{keyword_text, is_keyword_text, keyword_of, keyword_in};
 
 use crate::word::Words;
 
@@ -121,9 +121,9 @@ const KEYWORDS: [Keyword; 53] = [
 
 impl Keyword {
     /// How it is written.
-    #[tactic(auto, unfolding(crate::specs::Keywords::text))]
+    #[tactic(auto, unfolding(crate::specs::Keywords::keyword_text))]
     pub fn text(self) -> &'static str
-        ensures exact { result.now ≡ text self }
+        ensures exact { result.now ≡ keyword_text self }
         ensures short { length result.now ≤ 13 }
     {
         match self {
@@ -185,7 +185,7 @@ impl Keyword {
 }
 
 fn keyword_among(keywords: &[Keyword], word: &[u8]) -> Option<Keyword>
-    ensures { result ≡ find (is_text word.now) keywords.now }
+    ensures { result ≡ find (is_keyword_text word.now) keywords.now }
 {
     keywords
         .iter()

@@ -1,6 +1,6 @@
 //! Lines that are spelled, in a buffer of their own.
 ghost use Rattle.std.specs.Prelude.{◌≡◌, ◌+◌, ◌*◌, ◌≤◌, [], ◌∷◌, ◌++◌, length, map, decimal};
-ghost use Rattle.cmwq_text.specs.Words.{spaced};
+ghost use Rattle.cmwq_text.specs.Words.{space_words};
 ghost use Rattle.cmwq_text.specs.CallText.{phrase};
 
 use crate::keyword::Keyword;
@@ -58,7 +58,7 @@ impl Line {
     /// Spells numbers, each after a space.
     pub(crate) fn push_numbers(&mut self, numbers: &[u64])
         requires { length self.old + 21 * length numbers.now ≤ 256 }
-        ensures exact { self.new ≡ self.old ++ spaced (map decimal numbers.now) }
+        ensures exact { self.new ≡ self.old ++ space_words (map decimal numbers.now) }
         ensures short { length self.new ≤ length self.old + 21 * length numbers.now }
     {
         for number in numbers {
@@ -68,10 +68,10 @@ impl Line {
     }
 
     /// Spells a keyword and numbers, each after a space.
-    #[tactic(auto, unfolding(crate::specs::Words::spaced))]
+    #[tactic(auto, unfolding(crate::specs::Words::space_words))]
     pub(crate) fn push_phrase(&mut self, keyword: Keyword, numbers: &[u64])
         requires { length self.old + 14 + 21 * length numbers.now ≤ 256 }
-        ensures exact { self.new ≡ self.old ++ spaced (phrase keyword numbers.now) }
+        ensures exact { self.new ≡ self.old ++ space_words (phrase keyword numbers.now) }
         ensures short { length self.new ≤ length self.old + 14 + 21 * length numbers.now }
     {
         self.push(" ");
@@ -88,7 +88,7 @@ impl Line {
         numbers: &[u64],
     )
         requires { length self.old + 49 + 21 * length numbers.now ≤ 256 }
-        ensures exact { self.new ≡ self.old ++ spaced (phrase first (number ∷ []) ++ phrase second numbers.now) }
+        ensures exact { self.new ≡ self.old ++ space_words (phrase first (number ∷ []) ++ phrase second numbers.now) }
         ensures short { length self.new ≤ length self.old + 49 + 21 * length numbers.now }
     {
         self.push_phrase(first, &[number]);

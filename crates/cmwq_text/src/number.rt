@@ -1,6 +1,6 @@
 //! Numbers in a text.
 ghost use Rattle.std.specs.Prelude.{◌≡◌, ◌≤◌, IfSome};
-ghost use Rattle.cmwq_text.specs.Numbers.{with_digit, digits_from, is_begun, number_of, byte_of, short_of, greatest_number};
+ghost use Rattle.cmwq_text.specs.Numbers.{with_digit, digits_from, is_begun, number_read, byte_of, short_of, greatest_number};
 ghost use Rattle.cmwq_model.specs.Prelude.{greatest, greatest_long};
 
 /// The greatest number of an entry.
@@ -40,9 +40,9 @@ fn is_begun(word: &[u8]) -> bool
 }
 
 /// The number that a word spells, if it is at most the limit: `0`, or a digit 1 to 9 and digits after it.
-#[tactic(auto, unfolding(crate::specs::Numbers::number_of))]
+#[tactic(auto, unfolding(crate::specs::Numbers::number_read))]
 fn limited(limit: u64, word: &[u8]) -> Option<u64>
-    ensures exact { result ≡ number_of limit word.now }
+    ensures exact { result ≡ number_read limit word.now }
     ensures within { IfSome result (λ n. n ≤ limit) }
 {
     if is_begun(word) {
@@ -54,21 +54,21 @@ fn limited(limit: u64, word: &[u8]) -> Option<u64>
 
 /// The number of at most 18,446,744,073,709,551,615 that a word spells.
 pub fn long_of(word: &[u8]) -> Option<u64>
-    ensures { result ≡ number_of greatest_long word.now }
+    ensures { result ≡ number_read greatest_long word.now }
 {
     limited(u64::MAX, word)
 }
 
 /// The number of at most 4,294,967,295 that a word spells.
 pub fn number_of(word: &[u8]) -> Option<u32>
-    ensures { result ≡ number_of greatest word.now }
+    ensures { result ≡ number_read greatest word.now }
 {
     u32::try_from(limited(u64::from(u32::MAX), word)?).ok()
 }
 
 /// The number of at most 9,223,372,036,854,775,807 that a word spells.
 pub fn wide_of(word: &[u8]) -> Option<u64>
-    ensures { result ≡ number_of greatest_number word.now }
+    ensures { result ≡ number_read greatest_number word.now }
 {
     limited(GREATEST_NUMBER, word)
 }

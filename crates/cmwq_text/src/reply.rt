@@ -2,7 +2,7 @@
 ghost use Rattle.std.specs.Prelude.{◌≡◌, true};
 ghost use Rattle.cmwq_model.specs.Prelude.{reply_fits};
 ghost use Rattle.cmwq_text.specs.Words.{with_left};
-ghost use Rattle.cmwq_text.specs.ReplyText.{has_number, has_time, ticket_with, ticket_after, started_with, started_after, reply_after, reply_in};
+ghost use Rattle.cmwq_text.specs.ReplyText.{keyword_has_number, keyword_has_time, ticket_with, ticket_after, started_with, started_after, reply_after, reply_in};
 
 use crate::id::item_in;
 use crate::keyword::{Keyword, keyword_in};
@@ -59,7 +59,7 @@ fn started_after(n: Number, words: &mut Words<'_>) -> Option<Reply>
 /// The reply after a keyword that a number follows.
 #[tactic(auto, unfolding(crate::specs::ReplyText::reply_after))]
 fn number_reply_after(keyword: Keyword, words: &mut Words<'_>) -> Option<Reply>
-    requires { has_number keyword ≡ true }
+    requires { keyword_has_number keyword ≡ true }
     ensures { with_left result words.new ≡ reply_after keyword words.old }
 {
     let n = wide_in(words)?;
@@ -78,7 +78,7 @@ fn number_reply_after(keyword: Keyword, words: &mut Words<'_>) -> Option<Reply>
 /// The reply after a keyword that a time follows.
 #[tactic(auto, unfolding(crate::specs::ReplyText::reply_after))]
 fn time_reply_after(keyword: Keyword, words: &mut Words<'_>) -> Option<Reply>
-    requires { has_time keyword ≡ true }
+    requires { keyword_has_time keyword ≡ true }
     ensures { with_left result words.new ≡ reply_after keyword words.old }
 {
     let time = long_in(words)?;

@@ -1,6 +1,6 @@
 //! Shapes in a text.
 ghost use Rattle.std.specs.Prelude.{◌≡◌};
-ghost use Rattle.cmwq_text.specs.ShapeText.{counts_of, begins_queue, flags_of, queue_line_of, queue_of_calls, queue_of_history, width_taken};
+ghost use Rattle.cmwq_text.specs.ShapeText.{counts_read, begins_queue, flags_of, queue_line_of, queue_of_calls, queue_of_history, width_taken};
 
 use crate::word::{Words, byte_in, number_in, short_in, wide_in};
 use cmwq_model::{Counts, QueueShape};
@@ -21,9 +21,9 @@ pub struct QueueLine {
 }
 
 /// The counts of a shape line, without its line feed. None: it is no such line, or a number is outside its limits.
-#[tactic(auto, unfolding(crate::specs::ShapeText::counts_of))]
+#[tactic(auto, unfolding(crate::specs::ShapeText::counts_read))]
 pub fn read_counts(line: &[u8]) -> Option<Counts>
-    ensures { result ≡ counts_of line.now }
+    ensures { result ≡ counts_read line.now }
 {
     let mut words = Words::of(line);
     words.after(b"shape")?;

@@ -1,7 +1,7 @@
 //! How shapes, queues, calls and entries are spelled.
 ghost use Rattle.std.specs.Prelude.{◌≡◌, ◌+◌, ◌≤◌, ◌++◌, length, Some, slice_get};
-ghost use Rattle.cmwq_text.specs.Words.{spaced};
-ghost use Rattle.cmwq_text.specs.Keywords.{text};
+ghost use Rattle.cmwq_text.specs.Words.{space_words};
+ghost use Rattle.cmwq_text.specs.Keywords.{keyword_text};
 ghost use Rattle.cmwq_text.specs.IdText.{who_text};
 ghost use Rattle.cmwq_text.specs.CallText.{call_words};
 ghost use Rattle.cmwq_text.specs.ReplyText.{reply_words};
@@ -35,7 +35,7 @@ fn push_who(line: &mut Line, who: Who)
 /// The keyword that a call begins with.
 #[tactic(auto, unfolding(crate::specs::CallText::call_words))]
 fn call_keyword(call: Call) -> Keyword
-    ensures { slice_get (call_words call) 0 ≡ Some (text result) }
+    ensures { slice_get (call_words call) 0 ≡ Some (keyword_text result) }
 {
     match call {
         Call::Queue { .. } => Keyword::Queue,
@@ -66,7 +66,7 @@ fn call_keyword(call: Call) -> Keyword
 #[tactic(auto, unfolding(crate::specs::CallText::call_words))]
 fn push_call(line: &mut Line, call: Call)
     requires { length line.old + 98 ≤ 256 }
-    ensures exact { line.new ≡ line.old ++ spaced (call_words call) }
+    ensures exact { line.new ≡ line.old ++ space_words (call_words call) }
     ensures short { length line.new ≤ length line.old + 98 }
 {
     let keyword = call_keyword(call);
@@ -110,7 +110,7 @@ fn push_call(line: &mut Line, call: Call)
 /// The keyword that a reply begins with.
 #[tactic(auto, unfolding(crate::specs::ReplyText::reply_words))]
 fn reply_keyword(reply: Reply) -> Keyword
-    ensures { slice_get (reply_words reply) 0 ≡ Some (text result) }
+    ensures { slice_get (reply_words reply) 0 ≡ Some (keyword_text result) }
 {
     match reply {
         Reply::Yes(_) => Keyword::Yes,
@@ -154,7 +154,7 @@ fn reply_keyword(reply: Reply) -> Keyword
 #[tactic(auto, unfolding(crate::specs::ReplyText::reply_words))]
 pub(crate) fn push_reply(line: &mut Line, reply: Reply)
     requires { length line.old + 70 ≤ 256 }
-    ensures exact { line.new ≡ line.old ++ spaced (reply_words reply) }
+    ensures exact { line.new ≡ line.old ++ space_words (reply_words reply) }
     ensures short { length line.new ≤ length line.old + 70 }
 {
     let keyword = reply_keyword(reply);

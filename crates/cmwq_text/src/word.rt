@@ -28,7 +28,7 @@ impl<'a> Model for Words<'a> {
 
 impl<'a> Words<'a> {
     ghost use Rattle.std.specs.Option.{option_map};
-    ghost use Rattle.cmwq_text.specs.Words.{words_of, is_end, first_in, after};
+    ghost use Rattle.cmwq_text.specs.Words.{words_of, has_no_word, first_word, after};
 
     /// The words of a line.
     pub fn of(line: &'a [u8]) -> Words<'a>
@@ -40,7 +40,7 @@ impl<'a> Words<'a> {
     /// Whether no word is left.
     #[tactic(auto, using(crate::proofs::Splits::split_has_first))]
     pub fn is_end(&self) -> bool
-        ensures { result ≡ is_end self.now }
+        ensures { result ≡ has_no_word self.now }
     {
         self.bytes.is_none()
     }
@@ -48,7 +48,7 @@ impl<'a> Words<'a> {
     /// Takes the first word.
     #[tactic(auto, using(crate::proofs::Splits::split_without_space, crate::proofs::Splits::split_at_space))]
     pub fn first(&mut self) -> Option<&'a [u8]>
-        ensures { option_map (λ word. (word.now, self.new)) result ≡ first_in self.old }
+        ensures { option_map (λ word. (word.now, self.new)) result ≡ first_word self.old }
     {
         let bytes = self.bytes?;
         match first_space(bytes) {

@@ -1,11 +1,6 @@
 -- An entry puts nothing ahead of an older queueing.
-use Rattle.std.proofs.Common.{◌≡◌, ◌<◌, ◌≤◌, ◌+◌, ℕ, Bool, true, false, cond, ◌&&◌, List, [], ◌∷◌, ◌++◌, length, filter, count_by, Option, Some, None, option_to_list, refl, ap, ◌∙◌, arith}
-use Rattle.std.specs.List.{AllByRecursion}
-use Rattle.std.proofs.lemmas.Bool.Decides.{nat_tests}
-use Rattle.cmwq_model.specs.declared.entry.Entry.{Entry}
-use Rattle.cmwq_model.specs.declared.record.Queueing.{Queueing}
-use Rattle.cmwq_model.specs.Prelude.{queueings, opening, is_live, still_open, is_ahead}
-use Rattle.cmwq_theory_active.proofs.Lists.{All_map, count_by-head}
+use Rattle.cmwq_theory_active.specs.Common.{◌≡◌, ◌<◌, ◌≤◌, ◌+◌, ℕ, Bool, true, false, cond, ◌&&◌, List, [], ◌∷◌, ◌++◌, length, filter, count_by, Option, Some, None, option_to_list, refl, ap, ◌∙◌, arith, AllByRecursion, nat_tests, Entry, Queueing, queueings, opening, is_live, still_open, is_ahead}
+use Rattle.cmwq_lemmas.proofs.Lists.{All_map, count_by-head}
 use Rattle.cmwq_theory_active.proofs.Rising.{IsBelow, queueings_below, opening_number}
 use Rattle.cmwq_theory_active.proofs.Opens.{open_before}
 

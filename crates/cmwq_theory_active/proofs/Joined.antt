@@ -1,10 +1,6 @@
 -- What is active after an entry, and that it stays so while it is open.
-use Rattle.std.proofs.Common.{◌≡◌, ◌<◌, true, false, ◌&&◌, ◌||◌, List, [], ◌∷◌, length, refl, ap, ap₂, ◌∙◌, arith}
-use Rattle.std.proofs.lemmas.Bool.{ltb-true}
+use Rattle.cmwq_theory_active.specs.Common.{◌≡◌, ◌<◌, true, false, ◌&&◌, ◌||◌, List, [], ◌∷◌, length, refl, ap, ap₂, ◌∙◌, arith, ltb-true, Entry, Queueing, Layout, is_live, is_below_max_active, is_active, is_listed}
 use Rattle.cmwq_model.specs.declared.id.PoolId.{PoolId}
-use Rattle.cmwq_model.specs.declared.entry.Entry.{Entry}
-use Rattle.cmwq_model.specs.declared.record.Queueing.{Queueing}
-use Rattle.cmwq_model.specs.Prelude.{Layout, is_live, is_below_max_active, is_active, is_listed}
 
 pub active_go_on : (s : Layout) (past : List Entry) (e : Entry) (x : Queueing) → is_active s (e ∷ past) x ≡ (is_live (e ∷ past) x && (is_active s past x || is_below_max_active s (e ∷ past) x))
 unfolding is_active

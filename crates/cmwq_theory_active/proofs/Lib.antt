@@ -1,6 +1,5 @@
 pub mod Ahead
 pub mod Joined
-pub mod Lists
 pub mod Looks
 pub mod Opens
 pub mod Rising

@@ -1,10 +1,5 @@
 -- What is active, told by few looks: whether it was below max_active before each entry that changed a width, or is now.
-use Rattle.std.proofs.Common.{◌≡◌, ◌<◌, Bool, true, false, not, ◌&&◌, ◌||◌, List, [], ◌∷◌, length, nat_lt, count_by, refl, sym, ap, ◌∙◌, arith}
-use Rattle.std.proofs.lemmas.Bool.{ltb-true, lt-ltb}
-use Rattle.std.proofs.lemmas.Bool.Decides.{nat_tests}
-use Rattle.cmwq_model.specs.declared.entry.Entry.{Entry}
-use Rattle.cmwq_model.specs.declared.record.Queueing.{Queueing}
-use Rattle.cmwq_model.specs.Prelude.{Layout, width, is_live, still_open, is_ahead, is_below_max_active, is_active}
+use Rattle.cmwq_theory_active.specs.Common.{◌≡◌, ◌<◌, Bool, true, false, not, ◌&&◌, ◌||◌, List, [], ◌∷◌, length, nat_lt, count_by, refl, sym, ap, ◌∙◌, arith, ltb-true, lt-ltb, nat_tests, Entry, Queueing, Layout, width, is_live, still_open, is_ahead, is_below_max_active, is_active}
 use Rattle.cmwq_theory_active.specs.Looks.{was_below_max_active, keeps_widths}
 use Rattle.cmwq_theory_active.proofs.Opens.{open_before}
 use Rattle.cmwq_theory_active.proofs.Joined.{active_go_on, not_live}

@@ -1,13 +1,8 @@
 -- Queueings stand by their numbers.
-use Rattle.std.proofs.Common.{◌≡◌, ◌<◌, ◌≤◌, ℕ, suc, Bool, true, false, cond, List, [], ◌∷◌, ◌++◌, length, append-nil, filter, find, Option, Some, None, option_to_list, refl, sym, ap, arith, subst}
-use Rattle.std.specs.List.{AllByRecursion}
-use Rattle.std.specs.Prelude.{option_map, option_and_then, if◌then◌else◌}
-use Rattle.cmwq_model.specs.declared.entry.Entry.{Entry}
+use Rattle.cmwq_theory_active.specs.Common.{◌≡◌, ◌<◌, ◌≤◌, ℕ, suc, Bool, true, false, cond, List, [], ◌∷◌, ◌++◌, length, append-nil, filter, find, Option, Some, None, option_to_list, refl, sym, ap, arith, subst, AllByRecursion, option_map, option_and_then, if◌then◌else◌, Entry, Queueing, item_of, queueings, opening, opens, is_live, queued_at, place_wanted, still_open}
 use Rattle.cmwq_model.specs.declared.record.Place.{Place}
-use Rattle.cmwq_model.specs.declared.record.Queueing.{Queueing}
-use Rattle.cmwq_model.specs.Prelude.{item_of, queueings, opening, opens, is_live, queued_at, place_wanted, still_open}
 use Rattle.cmwq_theory_active.specs.Rising.{IsRising}
-use Rattle.cmwq_theory_active.proofs.Lists.{All_map, All_append, All_filter}
+use Rattle.cmwq_lemmas.proofs.Lists.{All_map, All_append, All_filter}
 
 abbrev pub IsBelow : ℕ → Queueing → Type 0
 IsBelow n x = x.number < n

@@ -1,9 +1,5 @@
 -- What is active, told by few looks.
-use Rattle.std.specs.Prelude.{◌≡◌, Bool, true, false, ◌&&◌, ◌||◌, not, List, [], ◌∷◌}
-use Rattle.cmwq_model.specs.declared.entry.Entry.{Entry}
-use Rattle.cmwq_model.specs.declared.record.Queueing.{Queueing}
-use Rattle.cmwq_model.specs.declared.reply.Reply.{Reply}
-use Rattle.cmwq_model.specs.Prelude.{Layout, is_live, is_below_max_active, is_active}
+use Rattle.cmwq_theory_active.specs.Common.{◌≡◌, Bool, true, false, ◌&&◌, ◌||◌, not, List, [], ◌∷◌, Entry, Queueing, Reply, Layout, is_live, is_below_max_active, is_active}
 use Rattle.cmwq_model.specs.declared.reply.Reply.TheVariants as reply
 
 -- a reply of an entry that changes no width

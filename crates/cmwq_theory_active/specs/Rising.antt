@@ -1,7 +1,5 @@
 -- Queueings that stand by their numbers.
-use Rattle.std.specs.Prelude.{◌<◌, List, [], ◌∷◌}
-use Rattle.std.specs.List.{AllByRecursion}
-use Rattle.cmwq_model.specs.declared.record.Queueing.{Queueing}
+use Rattle.cmwq_theory_active.specs.Common.{◌<◌, List, [], ◌∷◌, AllByRecursion, Queueing}
 
 -- each queueing has a lesser number than all after it
 abbrev pub IsRising : List Queueing → Type 0

@@ -1,32 +1,8 @@
 -- Where widths don't change, what is active is what was active before widths could change.
-use Rattle.std.proofs.Common.{◌≡◌, ◌<◌, ℕ, Bool, true, false, not, ◌&&◌, ◌||◌, List, [], ◌∷◌, ◌++◌, length, filter, find, count_by, Option, Some, None, option_to_list, nat_lt, refl, sym, ap, ap₂, ◌∙◌, arith, subst}
-use Rattle.std.specs.Prelude.{◌+◌, ◌==◌, if◌then◌else◌}
-use Rattle.std.specs.Option.{option_map_or}
-use Rattle.std.specs.List.{AllByRecursion}
-use Rattle.std.proofs.lemmas.Bool.{ltb-true, lt-ltb}
-use Rattle.std.proofs.lemmas.Bool.Decides.{nat_tests}
-use Rattle.cmwq_model.specs.declared.id.PoolId.{PoolId}
-use Rattle.cmwq_model.specs.declared.id.Who.{Who}
-use Rattle.cmwq_model.specs.declared.id.Who.TheVariants.{Caller, Worker}
-use Rattle.cmwq_model.specs.declared.call.Call.{Call}
-use Rattle.cmwq_model.specs.declared.reply.Reply.{Reply}
-use Rattle.cmwq_model.specs.declared.entry.Entry.{Entry}
-use Rattle.cmwq_model.specs.declared.record.Queueing.{Queueing}
-use Rattle.cmwq_model.specs.declared.record.Ticket.{Ticket}
-use Rattle.cmwq_model.specs.Prelude.{Layout, first_width, is_freezable, pool_at, same_pool, serial_of, now, is_started, width, max_active, is_frozen, frozen_after, sets_max}
-use Rattle.cmwq_model.specs.Prelude.{width_told, has_run, queueings, is_live, still_open, is_pending, runs_elsewhere, is_ahead, is_below_max_active, is_active, is_newly_active}
-use Rattle.cmwq_model.specs.Prelude.{is_listed, activated, worklist, next, is_startable, is_enlisted, gives_ticket, ticket_for, ticket_in, tickets, is_done, is_unended, unended}
-use Rattle.cmwq_model.specs.Prelude.{destroys, is_destroy_of, is_cancelling, is_crowded, is_ticket, ticket_of, ends_destroy, is_gone, may_call, is_shut, queue_answer}
-use Rattle.cmwq_model.specs.Prelude.{modify_answer, wait_answer, answer, take_answer, start_of, IsLegal, entry_for}
+use Rattle.cmwq_theory_laws.specs.Common.{◌≡◌, ◌<◌, ℕ, Bool, true, false, not, ◌&&◌, ◌||◌, List, [], ◌∷◌, ◌++◌, length, filter, find, count_by, Option, Some, None, option_to_list, nat_lt, refl, sym, ap, ap₂, ◌∙◌, arith, subst, ◌+◌, ◌==◌, if◌then◌else◌, option_map_or, AllByRecursion, ltb-true, lt-ltb, nat_tests, PoolId, Who, Caller, Worker, Call, Reply, Entry, Queueing, Ticket, Layout, first_width, is_freezable, pool_at, same_pool, serial_of, now, is_started, width, max_active, is_frozen, frozen_after, sets_max, width_told, has_run, queueings, is_live, still_open, is_pending, runs_elsewhere, is_ahead, is_below_max_active, is_active, is_newly_active, is_listed, became_active, worklist, next, is_startable, is_enlisted, gives_ticket, ticket_for, ticket_in, tickets, is_done, is_unended, unended_tickets, destroys, is_destroy_of, is_cancelling, is_crowded, is_ticket, ticket_of, ends_destroy, is_gone, may_call, is_shut, queue_answer, modify_answer, wait_answer, answer, take_answer, start_of, IsLegal, entry_for, find_holds, All_map, All_append, All_filter, All_each, filter_same, active_go_on, Cause, causes}
 use Rattle.cmwq_model.specs.declared.call.Call.TheVariants as call
 use Rattle.cmwq_model.specs.declared.reply.Reply.TheVariants as reply
-use Rattle.cmwq_theory_steps.proofs.Activated.{find_holds}
-use Rattle.cmwq_theory_active.proofs.Lists.{All_map, All_append, All_filter}
 use Rattle.cmwq_theory_laws.specs.FirstWidths.{queue_before, modify_before, wait_before, is_first, is_newly_first, ever_first, is_listed_before, next_before, HasFirstWidths, is_old, take_before, answer_before, entry_before, IsLegalBefore}
-use Rattle.cmwq_theory_active.proofs.Lists.{All_each}
-use Rattle.cmwq_theory_steps.proofs.Filters.{filter_same}
-use Rattle.cmwq_theory_active.proofs.Joined.{active_go_on}
-use Rattle.cmwq_theory_steps.proofs.Causes.{Cause, causes}
 use Rattle.cmwq_theory_steps.proofs.Causes as cause
 use Rattle.cmwq_theory_steps.proofs.Inversions.{answer_is}
 use Rattle.cmwq_theory_active.proofs.Ahead.{fewer_ahead}
@@ -66,13 +42,13 @@ active_as_before s [] x wide = none_first s x
 active_as_before s (e ∷ past) x wide = goes_on_as_before s past e x (wide.0 x.place.queue.0) (active_as_before s past x wide.1) (active_go_on s past e x)
 
 -- the lists of what became active, too
-pub activated_as_before : (s : Layout) (past : List Entry) → HasFirstWidths s past → activated s past ≡ ever_first s past
-unfolding activated ever_first
+pub activated_as_before : (s : Layout) (past : List Entry) → HasFirstWidths s past → became_active s past ≡ ever_first s past
+unfolding became_active ever_first
 activated_as_before s [] wide = refl
 activated_as_before s (e ∷ past) wide = ap₂ (λ xs ys. xs ++ ys) (activated_as_before s past wide.1)
     (filter_same (is_newly_active s past e) (is_newly_first s past e) (queueings (e ∷ past)) (All_each _ (queueings (e ∷ past)) (λ x. ap₂ (λ a b. a && not b) (active_as_before s (e ∷ past) x wide) (active_as_before s past x wide.1))))
 
-pub all_as_before : (s : Layout) (past : List Entry) → HasFirstWidths s past → ((x : Queueing) → is_active s past x ≡ is_first s past x) × (activated s past ≡ ever_first s past)
+pub all_as_before : (s : Layout) (past : List Entry) → HasFirstWidths s past → ((x : Queueing) → is_active s past x ≡ is_first s past x) × (became_active s past ≡ ever_first s past)
 all_as_before s past wide = ((λ x. active_as_before s past x wide), activated_as_before s past wide)
 
 -- ---- histories without the new calls
@@ -124,10 +100,10 @@ widths_kept s (e ∷ past) old kept = ((λ q. width_kept s (e ∷ past) q old ke
 next_as_before : (s : Layout) (past : List Entry) (p : PoolId) → HasFirstWidths s past → next s past p ≡ next_before s past p
 unfolding next worklist next_before
 next_as_before s past p wide =
-    ap (find (is_startable past)) (filter_same (is_listed s past p) (is_listed_before s past p) (activated s past) listed ∙ ap (filter (is_listed_before s past p)) (activated_as_before s past wide))
+    ap (find (is_startable past)) (filter_same (is_listed s past p) (is_listed_before s past p) (became_active s past) listed ∙ ap (filter (is_listed_before s past p)) (activated_as_before s past wide))
   where
-    listed : AllByRecursion (λ x. is_listed s past p x ≡ is_listed_before s past p x) (activated s past)
-    listed = All_each _ (activated s past) (λ x. ap (λ b. b && not (is_started past x.number) && same_pool (pool_at s x.place) p) (active_as_before s past x wide))
+    listed : AllByRecursion (λ x. is_listed s past p x ≡ is_listed_before s past p x) (became_active s past)
+    listed = All_each _ (became_active s past) (λ x. ap (λ b. b && not (is_started past x.number) && same_pool (pool_at s x.place) p) (active_as_before s past x wide))
 
 -- ---- no queue is gone
 
@@ -149,7 +125,7 @@ no_end past q who (call.End n) all = at (ticket_of past who n) refl
   where
     at : (o : Option Ticket) → ticket_of past who n ≡ o → option_map_or (is_destroy_of q) o false ≡ false
     at None h = refl
-    at (Some t) h = (find_holds (λ u. is_destroy_of q u ≡ false) (is_ticket who n) (unended past) t
+    at (Some t) h = (find_holds (λ u. is_destroy_of q u ≡ false) (is_ticket who n) (unended_tickets past) t
         (All_filter (λ u. is_destroy_of q u ≡ false) (is_unended past) (tickets past) (All_map (λ u. is_destroy_of q u ≡ false) _ (tickets past) (λ u is stands. is) all)) h).holds
 no_end past q who c all = refl
 

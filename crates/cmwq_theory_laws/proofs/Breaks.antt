@@ -1,22 +1,13 @@
 -- Illegal histories that break the laws of legal ones, by computation.
-use Rattle.std.proofs.Common.{◌≡◌, ◌≤◌, true, false, [], ◌∷◌, refl, ap, arith}
-use Rattle.cmwq_model.specs.declared.id.WorkerId.{WorkerId}
-use Rattle.cmwq_model.specs.Prelude.{booking, is_cancelled, last_start, item_start, queueings, is_active, activated, width, max_active, is_gone, tickets}
-use Rattle.cmwq_theory_laws.specs.Illegal.{worker, GoneButOpen, worker, RunInTwoWorkers, StartedTwice, StartedUnqueued, RunBeyondMaxActive, EndedEarly, Unsettled}
-use Rattle.cmwq_theory_steps.specs.Places.{active_count}
-use Rattle.std.specs.List.{IsDistinct}
-
-false_is_true : false ≡ true → ⊥
-false_is_true h = cc
-
-true_is_false : true ≡ false → ⊥
-true_is_false h = cc
+use Rattle.cmwq_theory_laws.specs.Common.{◌≡◌, ◌≤◌, true, false, [], ◌∷◌, refl, ap, arith, WorkerId, booking, is_cancelled, last_start, item_start, queueings, is_active, became_active, width, max_active, is_gone, tickets, active_count, IsDistinct}
+use Rattle.cmwq_theory_laws.specs.Illegal.{worker_of_pool_zero, GoneButOpen, worker_of_pool_zero, RunInTwoWorkers, StartedTwice, StartedUnqueued, RunBeyondMaxActive, EndedEarly, Unsettled}
+use Rattle.std.proofs.lemmas.Bool.{false≢true, true≢false}
 
 pub run_in_two_workers : RunInTwoWorkers
 unfolding last_start is_cancelled
 run_in_two_workers law =
-    let same : worker 0 ≡ worker 1 = law 0 (worker 0) (worker 1) refl refl in
-    let index : (worker 0).index ≡ (worker 1).index = ap (λ (w : WorkerId). w.index) same in
+    let same : worker_of_pool_zero 0 ≡ worker_of_pool_zero 1 = law 0 (worker_of_pool_zero 0) (worker_of_pool_zero 1) refl refl in
+    let index : (worker_of_pool_zero 0).index ≡ (worker_of_pool_zero 1).index = ap (λ (w : WorkerId). w.index) same in
     absurd (omega arith)
 
 pub started_twice : StartedTwice
@@ -24,29 +15,29 @@ started_twice law = let twice : 2 ≤ 1 = law 0 in absurd (omega arith)
 
 pub started_unqueued : StartedUnqueued
 unfolding queueings
-started_unqueued law = false_is_true (law.0 0 refl)
+started_unqueued law = false≢true (law.0 0 refl)
 
 pub run_beyond_max_active : RunBeyondMaxActive
-unfolding last_start is_cancelled queueings item_start activated is_active width max_active active_count IsDistinct
+unfolding last_start is_cancelled queueings item_start became_active is_active width max_active active_count IsDistinct
 run_beyond_max_active = (
-  (λ law. false_is_true (law.0 1 _ refl refl)),
-  (λ law. let two_of_one : 2 ≤ 1 = law 0 0 (worker 0 ∷ worker 1 ∷ []) ((refl, tt), (tt, tt)) (refl, (refl, tt)) in absurd (omega arith)),
+  (λ law. false≢true (law.0 1 _ refl refl)),
+  (λ law. let two_of_one : 2 ≤ 1 = law 0 0 (worker_of_pool_zero 0 ∷ worker_of_pool_zero 1 ∷ []) ((refl, tt), (tt, tt)) (refl, (refl, tt)) in absurd (omega arith)),
 )
 
 pub ended_early : EndedEarly
 unfolding queueings is_cancelled item_start
 ended_early = (
-  (λ law. false_is_true ((law.0 1 _ (refl, refl) refl).0 refl)),
-  (λ law. false_is_true ((law.0 1 _ (refl, refl) refl).0 refl)),
-  (λ law. false_is_true ((law.0 1 _ (refl, refl) refl).0 refl)),
-  (λ law. false_is_true ((law.0 1 _ (refl, refl) refl).0 refl)),
-  (λ law. false_is_true ((law.0 1 _ (refl, refl) refl).0 refl)),
+  (λ law. false≢true ((law.0 1 _ (refl, refl) refl).0 refl)),
+  (λ law. false≢true ((law.0 1 _ (refl, refl) refl).0 refl)),
+  (λ law. false≢true ((law.0 1 _ (refl, refl) refl).0 refl)),
+  (λ law. false≢true ((law.0 1 _ (refl, refl) refl).0 refl)),
+  (λ law. false≢true ((law.0 1 _ (refl, refl) refl).0 refl)),
 )
 
 pub unsettled : Unsettled
 unfolding queueings is_cancelled item_start booking
-unsettled = ((λ law. true_is_false (law.0 1 0 _ (refl, refl) refl refl).0), (λ law. true_is_false (law.0 2 0 _ (refl, refl) refl refl).1))
+unsettled = ((λ law. true≢false (law.0 1 0 _ (refl, refl) refl refl).0), (λ law. true≢false (law.0 2 0 _ (refl, refl) refl refl).1))
 
 pub gone_but_open : GoneButOpen
 unfolding queueings is_cancelled item_start is_gone tickets
-gone_but_open law = true_is_false (law 0 refl).0.0
+gone_but_open law = true≢false (law 0 refl).0.0

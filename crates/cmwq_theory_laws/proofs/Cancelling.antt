@@ -1,34 +1,13 @@
 -- While a cancel_sync of an item is unended, the item is not pending.
-use Rattle.std.proofs.Common.{◌≡◌, ◌≤◌, ◌+◌, ◌==◌, ℕ, Bool, true, false, cond, ◌&&◌, ◌||◌, List, [], ◌∷◌, length, filter, count_by, Some, None, option_to_list, refl, sym, ap, ap₂, ◌∙◌, arith}
-use Rattle.std.specs.Prelude.{is_some, if◌then◌else◌, option_and_then, option_map}
-use Rattle.std.specs.Option.{option_or}
-use Rattle.std.specs.List.{list_any}
-use Rattle.std.proofs.Math.Bool.{or-false}
-use Rattle.std.proofs.lemmas.Bool.{or_parts, or_right, eq-eqb}
-use Rattle.std.proofs.lemmas.List.Folds.{list_any-append}
-use Rattle.std.proofs.lemmas.List.Elements.{filter-append}
-use Rattle.cmwq_model.specs.declared.id.Who.{Who}
-use Rattle.cmwq_model.specs.declared.id.Who.TheVariants.{Caller, Worker}
-use Rattle.cmwq_model.specs.declared.call.Call.{Call}
-use Rattle.cmwq_model.specs.declared.reply.Reply.{Reply}
-use Rattle.cmwq_model.specs.declared.entry.Entry.{Entry}
-use Rattle.cmwq_model.specs.declared.record.Queueing.{Queueing}
-use Rattle.cmwq_model.specs.declared.record.Ticket.{Ticket}
-use Rattle.cmwq_model.specs.Prelude.{Layout, is_at, item_called, item_fired, item_of, is_of_item, settles, due_in, is_booked, booked_by, number_cancelled, takes_back, opens}
-use Rattle.cmwq_model.specs.Prelude.{opening, queued_at, place_wanted, still_open, is_unstarted, unstarted, is_pending, tickets, is_unended, ticket_in, ticket_for, gives_ticket}
-use Rattle.cmwq_model.specs.Prelude.{cancels_sync, is_cancel_sync_of, is_cancelling, IsLegal}
+use Rattle.cmwq_theory_laws.specs.Common.{◌≡◌, ◌≤◌, ◌+◌, ◌==◌, ℕ, Bool, true, false, cond, ◌&&◌, ◌||◌, List, [], ◌∷◌, length, filter, count_by, Some, None, option_to_list, refl, sym, ap, ap₂, ◌∙◌, arith, is_some, if◌then◌else◌, option_and_then, option_map, option_or, list_any, or-false, or_parts, or_right, eq-eqb, list_any-append, filter-append, Who, Caller, Worker, Call, Reply, Entry, Queueing, Ticket, Layout, is_at, item_called, item_fired, item_of, is_of_item, settles, due_in, is_booked, booked_by, number_cancelled, takes_back, opens, opening, queued_at, place_wanted, still_open, is_unstarted, unstarted_queueing, is_pending, tickets, is_unended, ticket_in, ticket_for, gives_ticket, cancels_sync, is_cancel_sync_of, is_cancelling, IsLegal, count_by-none, count_by-filter, count_none, none_found, Cause, IsFree, cause_of, booking_after, due_own, pending_count, no_more_pending, waiting_now, unstarted_count, waiting_was, none_unstarted, not_idle, of_item, booked_or_unstarted, one_unstarted}
 use Rattle.cmwq_model.specs.declared.call.Call.TheVariants as call
-use Rattle.cmwq_theory_active.proofs.Lists.{count_by-none, count_by-filter}
-use Rattle.cmwq_theory_steps.proofs.Filters.{count_none, none_found}
-use Rattle.cmwq_theory_steps.proofs.Causes.{Cause, IsFree, cause_of}
 use Rattle.cmwq_theory_steps.proofs.Causes as cause
-use Rattle.cmwq_theory_steps.proofs.Standing.{booking_after, due_own}
-use Rattle.cmwq_theory_steps.proofs.Pending.{pending_count, no_more_pending, waiting_now, unstarted_count, waiting_was, none_unstarted, not_idle, of_item, booked_or_unstarted, one_unstarted}
+use Rattle.cmwq_theory_steps.proofs.PendingSteps.{none_opened}
 
 -- ---- not pending, as a count
 
 not_booked : (past : List Entry) (i : ℕ) → is_pending past i ≡ false → is_booked past i ≡ false
-not_booked past i h = (or_parts (is_booked past i) (is_some (unstarted past i)) h).0
+not_booked past i h = (or_parts (is_booked past i) (is_some (unstarted_queueing past i)) h).0
 
 none_pending : (past : List Entry) (i : ℕ) → is_pending past i ≡ false → pending_count past i ≡ 0
 none_pending past i h =
@@ -87,32 +66,29 @@ idle_goes_on s past e i legal held idle = stays_idle s past e i legal (here (set
 -- ---- a cancel_sync leaves its item idle
 
 data SyncBegins (past : List Entry) (r : Reply) (i : ℕ) : Type 0 where
-  took_back : (x : Queueing) → unstarted past i ≡ Some x → number_cancelled r ≡ Some x.number → settles r ≡ false → opens r ≡ false → SyncBegins past r i
-  unbooked : unstarted past i ≡ None → settles r ≡ true → due_in r ≡ None → opens r ≡ false → SyncBegins past r i
+  took_back : (x : Queueing) → unstarted_queueing past i ≡ Some x → number_cancelled r ≡ Some x.number → settles r ≡ false → opens r ≡ false → SyncBegins past r i
+  unbooked : unstarted_queueing past i ≡ None → settles r ≡ true → due_in r ≡ None → opens r ≡ false → SyncBegins past r i
   was_idle : is_pending past i ≡ false → settles r ≡ false → SyncBegins past r i
 
 sync_begins : (s : Layout) (past : List Entry) (who : Who) (c : Call) (r : Reply) (i : ℕ) → Cause s past who c r → cancels_sync i c ≡ true → gives_ticket r ≡ true → SyncBegins past r i
-sync_begins s past who c r i (cause.sync_cancelled w j x free found) h k = took_back x (of_item (λ m. unstarted past m ≡ Some x) i j.0 h found) refl refl refl
-sync_begins s past who c r i (cause.sync_unbooked w j free none was) h k = unbooked (of_item (λ m. unstarted past m ≡ None) i j.0 h none) refl refl refl
+sync_begins s past who c r i (cause.sync_cancelled w j x free found) h k = took_back x (of_item (λ m. unstarted_queueing past m ≡ Some x) i j.0 h found) refl refl refl
+sync_begins s past who c r i (cause.sync_unbooked w j free none was) h k = unbooked (of_item (λ m. unstarted_queueing past m ≡ None) i j.0 h none) refl refl refl
 sync_begins s past who c r i (cause.sync_waits w j free none was) h k = was_idle (of_item (λ m. is_pending past m ≡ false) i j.0 h (ap₂ (λ b o. b || is_some o) was none)) refl
 sync_begins s past who c r i other h k = cc
 
 not_settled : (e : Entry) (i : ℕ) → settles e.reply ≡ false → (settles e.reply && is_of_item i e) ≡ false
 not_settled e i h = ap (λ b. b && is_of_item i e) h
 
-opening_none : (past : List Entry) (e : Entry) → opens e.reply ≡ false → opening past e ≡ None
-opening_none past e h = ap (λ b. if b then option_and_then (λ i. option_map (queued_at past i) (place_wanted past e.call i)) (item_of e) else None) h
-
 -- none is unstarted that was, none is opened, and the item isn't booked
 none_after : (s : Layout) (past : List Entry) (e : Entry) (i : ℕ) → IsLegal s (e ∷ past) → count_by (waiting_now past e i) (still_open past) ≡ 0 → opens e.reply ≡ false → is_booked (e ∷ past) i ≡ false → is_pending (e ∷ past) i ≡ false
 none_after s past e i legal zero quiet free =
-    let none : count_by (is_unstarted (e ∷ past) i) (option_to_list (opening past e)) ≡ 0 = ap (λ o. count_by (is_unstarted (e ∷ past) i) (option_to_list o)) (opening_none past e quiet) in
+    let none : count_by (is_unstarted (e ∷ past) i) (option_to_list (opening past e)) ≡ 0 = ap (λ o. count_by (is_unstarted (e ∷ past) i) (option_to_list o)) (none_opened past e quiet) in
     let count = unstarted_count s past e i legal in
     let books : pending_count (e ∷ past) i ≡ count_by (is_unstarted (e ∷ past) i) (still_open (e ∷ past)) + 0 = ap (λ b. count_by (is_unstarted (e ∷ past) i) (still_open (e ∷ past)) + cond b 1 0) free in
     pending_none (e ∷ past) i (omega arith)
 
 -- the only one that was unstarted is cancelled
-none_left : (s : Layout) (past : List Entry) (e : Entry) (i : ℕ) (x : Queueing) → IsLegal s past → unstarted past i ≡ Some x → takes_back x.number e ≡ true → count_by (waiting_now past e i) (still_open past) ≡ 0
+none_left : (s : Layout) (past : List Entry) (e : Entry) (i : ℕ) (x : Queueing) → IsLegal s past → unstarted_queueing past i ≡ Some x → takes_back x.number e ≡ true → count_by (waiting_now past e i) (still_open past) ≡ 0
 none_left s past e i x legal found taken =
     count_by-filter (waiting_now past e i) (is_unstarted past i) (waiting_now past e i) (still_open past) both
     ∙ ap (count_by (waiting_now past e i)) (one_unstarted s past i legal ∙ ap option_to_list found)
@@ -121,7 +97,7 @@ none_left s past e i x legal found taken =
     both : (y : Queueing) → waiting_now past e i y ≡ (is_unstarted past i y && waiting_now past e i y)
     both y = grind arith
 
-taken_back_idle : (s : Layout) (past : List Entry) (e : Entry) (i : ℕ) (x : Queueing) → IsLegal s (e ∷ past) → IsLegal s past → unstarted past i ≡ Some x → number_cancelled e.reply ≡ Some x.number → settles e.reply ≡ false → opens e.reply ≡ false → is_pending (e ∷ past) i ≡ false
+taken_back_idle : (s : Layout) (past : List Entry) (e : Entry) (i : ℕ) (x : Queueing) → IsLegal s (e ∷ past) → IsLegal s past → unstarted_queueing past i ≡ Some x → number_cancelled e.reply ≡ Some x.number → settles e.reply ≡ false → opens e.reply ≡ false → is_pending (e ∷ past) i ≡ false
 taken_back_idle s past e i x legal before found number quiet shut = none_after s past e i legal (none_left s past e i x before found taken) shut (ap is_some (booking_after past e i false (not_settled e i quiet)) ∙ was (is_booked past i) refl)
   where
     taken : takes_back x.number e ≡ true
@@ -131,7 +107,7 @@ taken_back_idle s past e i x legal before found number quiet shut = none_after s
     was true h = let bad : Some x ≡ None = sym found ∙ booked_or_unstarted s past i before h in cc
     was false h = h
 
-unbooked_idle : (s : Layout) (past : List Entry) (e : Entry) (i : ℕ) → IsLegal s (e ∷ past) → is_of_item i e ≡ true → unstarted past i ≡ None → settles e.reply ≡ true → due_in e.reply ≡ None → opens e.reply ≡ false → is_pending (e ∷ past) i ≡ false
+unbooked_idle : (s : Layout) (past : List Entry) (e : Entry) (i : ℕ) → IsLegal s (e ∷ past) → is_of_item i e ≡ true → unstarted_queueing past i ≡ None → settles e.reply ≡ true → due_in e.reply ≡ None → opens e.reply ≡ false → is_pending (e ∷ past) i ≡ false
 unbooked_idle s past e i legal of none settled undue shut =
     let was = waiting_was past e i in
     let zero = none_unstarted past i none in

@@ -1,17 +1,6 @@
 -- What was cancelled was never started, and what is finished was started.
-use Rattle.std.proofs.Common.{◌≡◌, ℕ, Bool, true, false, ◌&&◌, ◌||◌, List, [], ◌∷◌, length, Option, Some, None, option_to_list, refl, sym, ap, ap₂, ◌∙◌, arith}
-use Rattle.std.specs.List.{AllByRecursion}
-use Rattle.std.proofs.Math.Bool.{and-false}
-use Rattle.std.proofs.lemmas.Bool.{or_right}
-use Rattle.cmwq_model.specs.declared.entry.Entry.{Entry}
-use Rattle.cmwq_model.specs.declared.record.Queueing.{Queueing}
-use Rattle.cmwq_model.specs.Prelude.{Layout, starts, finishes, number_started, number_finished, is_started, is_finished, is_cancelled, is_open, queueings, opening, IsLegal}
+use Rattle.cmwq_theory_laws.specs.Common.{◌≡◌, ℕ, Bool, true, false, ◌&&◌, ◌||◌, List, [], ◌∷◌, length, Option, Some, None, option_to_list, refl, sym, ap, ap₂, ◌∙◌, arith, AllByRecursion, and-false, or_right, Entry, Queueing, Layout, starts, finishes, number_started, number_finished, is_started, is_finished, is_cancelled, is_open, queueings, opening, IsLegal, All_map, All_both, All_append, opening_number, IsKnown, queueings_known, is_at-true, run_is, finishes_run, open_at_once}
 use Rattle.cmwq_theory_laws.specs.Sanity.{is_ended_twice, is_started_cancelled}
-use Rattle.cmwq_theory_active.proofs.Lists.{All_map, All_both, All_append}
-use Rattle.cmwq_theory_active.proofs.Rising.{opening_number}
-use Rattle.cmwq_theory_steps.proofs.Entries.{IsKnown, queueings_known, is_at-true}
-use Rattle.cmwq_theory_steps.proofs.ItemRuns.{run_is}
-use Rattle.cmwq_theory_steps.proofs.Fresh.{finishes_run, open_at_once}
 use Rattle.cmwq_theory_steps.proofs.RunSteps.{started_not_cancelled, started_open, last_started}
 
 open_uncancelled : (past : List Entry) (i n : ℕ) → is_open past i n ≡ true → is_cancelled past i n ≡ false

@@ -1,12 +1,6 @@
 -- The first wrong entry of a history.
-use Rattle.std.proofs.Common.{◌≡◌, ◌<◌, Bool, true, false, nat_lt, List, [], ◌∷◌, ◌++◌, length, reverse, refl, sym, ap, ap₂, ◌∙◌, subst, append_assoc, arith}
-use Rattle.std.proofs.lemmas.List.{reverse-append}
-use Rattle.std.proofs.lemmas.Bool.{ltb-true}
-use Rattle.std.proofs.lemmas.Bool.Decides.{nat_tests}
-use Rattle.cmwq_model.specs.declared.entry.Entry.{Entry}
+use Rattle.cmwq_theory_laws.specs.Common.{◌≡◌, ◌<◌, Bool, true, false, nat_lt, List, [], ◌∷◌, ◌++◌, length, reverse, refl, sym, ap, ap₂, ◌∙◌, subst, append_assoc, arith, reverse-append, ltb-true, nat_tests, Entry, Illegal, Layout, IsLegal, past_of, entry_for, Wants, IsFirstWrong}
 use Rattle.cmwq_model.specs.declared.verdict.Wanted.{Wanted}
-use Rattle.cmwq_model.specs.declared.verdict.Illegal.{Illegal}
-use Rattle.cmwq_model.specs.Prelude.{Layout, IsLegal, past_of, entry_for, Wants, IsFirstWrong}
 use Rattle.cmwq_model.specs.declared.verdict.Wanted.TheVariants as wanted
 use Rattle.cmwq_theory_steps.proofs.Growing.{older_are_legal}
 

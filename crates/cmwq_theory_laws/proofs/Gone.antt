@@ -1,37 +1,15 @@
 -- A queue that is gone has nothing open and nothing booked on it; one that is being destroyed has nothing booked on it.
-use Rattle.std.proofs.Common.{◌≡◌, ◌==◌, ℕ, Bool, true, false, cond, not, ◌&&◌, ◌||◌, List, [], ◌∷◌, ◌++◌, length, filter, find, Option, Some, None, option_to_list, nat_lt, refl, sym, ap, ap₂, ◌∙◌, subst, arith}
-use Rattle.std.specs.Prelude.{if◌then◌else◌, option_and_then, option_map}
-use Rattle.std.specs.Option.{option_or, option_map_or}
-use Rattle.std.specs.List.{AllByRecursion, list_any}
-use Rattle.std.proofs.Math.Bool.{or-false}
-use Rattle.std.proofs.lemmas.Bool.{or_parts, eq-eqb, eqb-true}
-use Rattle.std.proofs.lemmas.Bool.Decides.{nat_tests}
-use Rattle.std.proofs.lemmas.List.Folds.{list_any-append}
-use Rattle.std.proofs.lemmas.List.Elements.{filter-append}
-use Rattle.cmwq_model.specs.declared.id.Who.{Who}
-use Rattle.cmwq_model.specs.declared.id.Who.TheVariants.{Caller, Worker}
-use Rattle.cmwq_model.specs.declared.call.Call.{Call}
-use Rattle.cmwq_model.specs.declared.reply.Reply.{Reply}
-use Rattle.cmwq_model.specs.declared.entry.Entry.{Entry}
-use Rattle.cmwq_model.specs.declared.record.Booking.{Booking}
+use Rattle.cmwq_theory_laws.specs.Common.{◌≡◌, ◌==◌, ℕ, Bool, true, false, cond, not, ◌&&◌, ◌||◌, List, [], ◌∷◌, ◌++◌, length, filter, find, Option, Some, None, option_to_list, nat_lt, refl, sym, ap, ap₂, ◌∙◌, subst, arith, if◌then◌else◌, option_and_then, option_map, option_or, option_map_or, AllByRecursion, list_any, or-false, or_parts, eq-eqb, eqb-true, nat_tests, list_any-append, filter-append, Who, Caller, Worker, Call, Reply, Entry, Booking, Queueing, Ticket, Layout, is_at, item_called, item_fired, item_of, is_of_item, settles, due_in, booking, booking_of, booked_by, bookings, standing, stands, number_booked, opens, opening, queued_at, place_wanted, still_open, tickets, is_unended, unended_tickets, ticket_in, ticket_for, gives_ticket, drains, destroys, is_drain_of, is_destroy_of, is_draining, is_being_destroyed, is_done, ends_destroy, is_gone, holds_up, waits_for, runs_on, is_booked_on, IsLegal, All_map, All_append, All_filter, All_unfilter, find_none, Cause, IsFree, cause_of, booking_after, opening_opens}
 use Rattle.cmwq_model.specs.declared.record.Place.{Place}
-use Rattle.cmwq_model.specs.declared.record.Queueing.{Queueing}
-use Rattle.cmwq_model.specs.declared.record.Ticket.{Ticket}
-use Rattle.cmwq_model.specs.Prelude.{Layout, is_at, item_called, item_fired, item_of, is_of_item, settles, due_in, booking, booking_of, booked_by, bookings, standing, stands}
-use Rattle.cmwq_model.specs.Prelude.{number_booked, opens, opening, queued_at, place_wanted, still_open, tickets, is_unended, unended, ticket_in, ticket_for, gives_ticket}
-use Rattle.cmwq_model.specs.Prelude.{drains, destroys, is_drain_of, is_destroy_of, is_draining, is_being_destroyed, is_done, ends_destroy, is_gone, holds_up, waits_for, runs_on}
-use Rattle.cmwq_model.specs.Prelude.{is_booked_on, IsLegal}
 use Rattle.cmwq_model.specs.declared.call.Call.TheVariants as call
 use Rattle.cmwq_model.specs.declared.reply.Reply.TheVariants as reply
 use Rattle.cmwq_theory_steps.specs.Endings.{survives}
 use Rattle.cmwq_theory_laws.specs.Gone.{NoneBooked, NoneOpen}
-use Rattle.cmwq_theory_active.proofs.Lists.{All_map, All_append, All_filter, All_unfilter, find_none}
-use Rattle.cmwq_theory_steps.proofs.Causes.{Cause, IsFree, cause_of}
 use Rattle.cmwq_theory_steps.proofs.Causes as cause
-use Rattle.cmwq_theory_steps.proofs.Standing.{booking_after}
 use Rattle.cmwq_theory_laws.proofs.Cancelling.{any_wider, unended_before}
-use Rattle.cmwq_theory_steps.proofs.Pending.{opening_opens}
 use Rattle.cmwq_theory_steps.proofs.Endings.{open_go_on}
+use Rattle.std.proofs.lemmas.Bool.{or_left, or_right}
+use Rattle.cmwq_theory_steps.proofs.Refusals.{none_mapped}
 
 abbrev on_queue : ℕ → Place → Bool
 on_queue q p = p.queue.0 == q
@@ -143,7 +121,7 @@ any_more p r (x ∷ xs) more h = at (p x) refl h (any_more p r xs more)
     at false is h rest = grind arith
 
 destroyed_drains : (past : List Entry) (q : ℕ) → is_being_destroyed past q ≡ true → is_draining past q ≡ true
-destroyed_drains past q h = any_more (is_destroy_of q) (is_drain_of q) (unended past) (λ t is. destroy_drains q t.call is) h
+destroyed_drains past q h = any_more (is_destroy_of q) (is_drain_of q) (unended_tickets past) (λ t is. destroy_drains q t.call is) h
 
 data Destroying (past : List Entry) (e : Entry) (q : ℕ) : Type 0 where
   was : is_being_destroyed past q ≡ true → Destroying past e q
@@ -234,16 +212,9 @@ begun_none s past who c r q other h given = cc
 left_none : (past : List Entry) (e : Entry) (q : ℕ) → settles e.reply ≡ false → NoneBooked past q → NoneBooked (e ∷ past) q
 left_none past e q quiet none i b h = none i b (sym (booking_after past e i false (ap (λ a. a && is_of_item i e) quiet)) ∙ h)
 
-either_true : (a b : Bool) → a ≡ true → (a || b) ≡ true
-either_true a b h = ap (λ c. c || b) h
-
-or_second : (a b : Bool) → b ≡ true → (a || b) ≡ true
-or_second true b h = refl
-or_second false b h = h
-
 destroying_step : (s : Layout) (past : List Entry) (e : Entry) (q : ℕ) → IsLegal s (e ∷ past) → IsEmptied past q → is_being_destroyed (e ∷ past) q ≡ true → NoneBooked (e ∷ past) q
 destroying_step s past e q legal before h = elim (destroying_cases e past q h) [
-  | was held ↦ none_more_booked s past e q legal (either_true (is_draining past q) (is_gone past q) (destroyed_drains past q held)) (before.destroying held)
+  | was held ↦ none_more_booked s past e q legal (or_left (is_draining past q) (is_gone past q) (destroyed_drains past q held)) (before.destroying held)
   | begins destroying given ↦ let k = begun_none s past e.who e.call e.reply q (cause_of s past e legal) destroying given in left_none past e q k.1 k.0
 ]
 
@@ -258,20 +229,16 @@ found_any p r t (u ∷ xs) found passes = at (p u) found (found_any p r t xs)
   where
     at : (b : Bool) → cond b (Some u) (find p xs) ≡ Some t → (find p xs ≡ Some t → r t ≡ true → list_any r xs ≡ true) → (r u || list_any r xs) ≡ true
     at true is rest = let same : u ≡ t = cc in ap (λ v. r v || list_any r xs) same ∙ ap (λ b. b || list_any r xs) passes
-    at false is rest = or_second (r u) (list_any r xs) (rest is passes)
-
-none_found_open : (o : Option Queueing) → option_map (λ (x : Queueing). x.number) o ≡ None → o ≡ None
-none_found_open None h = refl
-none_found_open (Some x) h = cc
+    at false is rest = or_right (r u) (list_any r xs) (rest is passes)
 
 waits_none : (past : List Entry) (n q : ℕ) (c : Call) → destroys q c ≡ true → waits_for past n c ≡ None → NoneOpen past q
-waits_none past n q (call.Destroy k) h ready = subst (λ m. NoneOpen past m) (eqb-true k.0 q h) (find_none (holds_up past n (call.Destroy k)) (still_open past) (none_found_open _ ready))
+waits_none past n q (call.Destroy k) h ready = subst (λ m. NoneOpen past m) (eqb-true k.0 q h) (find_none (holds_up past n (call.Destroy k)) (still_open past) (none_mapped _ ready))
 waits_none past n q c h ready = cc
 
 ends_which : (s : Layout) (past : List Entry) (who : Who) (c : Call) (r : Reply) (q : ℕ) → Cause s past who c r → is_done r ≡ true → ends_destroy past q who c ≡ true → EndsDestroy past q
 ends_which s past who c r q (cause.ended w n t found ready) done h =
     let is : destroys q t.call ≡ true = sym (ap (λ o. option_map_or (is_destroy_of q) o false) found) ∙ h in
-    record { held = found_any _ (is_destroy_of q) t (unended past) found is; empty = waits_none past t.number q t.call is ready }
+    record { held = found_any _ (is_destroy_of q) t (unended_tickets past) found is; empty = waits_none past t.number q t.call is ready }
 ends_which s past who c r q other done h = cc
 
 -- a done settles nothing, and opens nothing
@@ -292,7 +259,7 @@ gone_step s past e q legal before h = at (is_gone past q) (is_done e.reply) refl
     at : (a b : Bool) → is_gone past q ≡ a → is_done e.reply ≡ b → (a || (b && ends_destroy past q e.who e.call)) ≡ true → NoneOpen (e ∷ past) q × NoneBooked (e ∷ past) q
     at true b ha hb h =
         let was = before.gone ha in
-        (none_more_open s past e q legal ha was.1 was.0, none_more_booked s past e q legal (or_second (is_draining past q) (is_gone past q) ha) was.1)
+        (none_more_open s past e q legal ha was.1 was.0, none_more_booked s past e q legal (or_right (is_draining past q) (is_gone past q) ha) was.1)
     at false true ha hb h =
         let ends = ends_which s past e.who e.call e.reply q (cause_of s past e legal) hb h in
         let quiet = done_quiet e.reply hb in
@@ -311,4 +278,4 @@ gone_stay_empty s past legal q h = (emptied s past q legal).gone h
 
 pub gone_stay_gone : (past : List Entry) (e : Entry) (q : ℕ) → is_gone past q ≡ true → is_gone (e ∷ past) q ≡ true
 unfolding is_gone
-gone_stay_gone past e q h = either_true (is_gone past q) (is_done e.reply && ends_destroy past q e.who e.call) h
+gone_stay_gone past e q h = or_left (is_gone past q) (is_done e.reply && ends_destroy past q e.who e.call) h

@@ -1,32 +1,7 @@
 -- The replies of a legal history fit its layout, and its numbers are inside their ranges.
-use Rattle.std.proofs.Common.{◌≡◌, ◌<◌, ◌≤◌, ◌+◌, ◌*◌, ℕ, zero, suc, Bool, true, false, ◌&&◌, List, [], ◌∷◌, length, find, Option, Some, None, nat_lt, refl, sym, ap, ap₂, subst, arith}
-use Rattle.std.specs.Prelude.{option_map, option_and_then, if◌then◌else◌, IsTrue, reverse}
-use Rattle.std.specs.List.{All, AllByRecursion, range_with_len, list_any}
-use Rattle.std.proofs.lemmas.Bool.{and_parts, leb-true, le-leb, ltb-true, lt-ltb}
-use Rattle.std.proofs.lemmas.List.{reverse-append, reverse-reverse, length-reverse}
-use Rattle.std.proofs.lemmas.List.Elements.{All-from_recursion, recursion_from_All}
-use Rattle.cmwq_model.specs.declared.id.WorkerId.{WorkerId}
-use Rattle.cmwq_model.specs.declared.id.Who.{Who}
-use Rattle.cmwq_model.specs.declared.call.Call.{Call}
-use Rattle.cmwq_model.specs.declared.reply.Reply.{Reply}
-use Rattle.cmwq_model.specs.declared.entry.Entry.{Entry}
-use Rattle.cmwq_model.specs.declared.record.Booking.{Booking}
-use Rattle.cmwq_model.specs.declared.record.Queueing.{Queueing}
-use Rattle.cmwq_model.specs.declared.record.Start.{Start}
-use Rattle.cmwq_model.specs.Prelude.{Layout, is_layout, indices, has_numbers, reply_fits, entry_fits, IsWho, IsCall, IsReply, IsEntry, greatest, is_by, is_of_item, serial_of}
-use Rattle.cmwq_model.specs.Prelude.{ticks_told, now, settles, due_in, booking, booking_of, booked_by, run, item_run, still_open, unstarted, next, holds_up, least_waited}
-use Rattle.cmwq_model.specs.Prelude.{waits_for, enlisted_by, is_other_idle, is_reserve, IsLegal, past_of, most_time, has_time}
+use Rattle.cmwq_theory_laws.specs.Common.{◌≡◌, ◌<◌, ◌≤◌, ◌+◌, ◌*◌, ℕ, zero, suc, Bool, true, false, ◌&&◌, List, [], ◌∷◌, length, find, Option, Some, None, nat_lt, refl, sym, ap, ap₂, subst, arith, option_map, option_and_then, if◌then◌else◌, IsTrue, reverse, All, AllByRecursion, range_with_len, list_any, and_parts, leb-true, le-leb, ltb-true, lt-ltb, reverse-append, reverse-reverse, length-reverse, All-from_recursion, recursion_from_All, WorkerId, Who, Call, Reply, Entry, Booking, Queueing, Start, Layout, is_layout, indices, has_numbers, reply_fits, entry_fits, IsWho, IsCall, IsReply, IsEntry, greatest, is_by, is_of_item, serial_of, ticks_told, now, settles, due_in, booking, booking_of, booked_by, run, item_run, still_open, unstarted_queueing, next, holds_up, least_waited, waits_for, enlisted_by, is_other_idle, is_reserve, IsLegal, past_of, most_time, has_time, All_append, find_holds, next_holds, IsKnown, known_more, queueings_known, IsOpenOne, open_known, unstarted_is, started_older, run_is, items_are_run, due_own, Cause, cause_of, legal_fits}
 use Rattle.cmwq_model.specs.declared.call.Call.TheVariants as call
-use Rattle.cmwq_theory_active.proofs.Lists.{All_append}
-use Rattle.cmwq_theory_steps.proofs.Activated.{find_holds, next_holds}
-use Rattle.cmwq_theory_steps.proofs.Entries.{IsKnown, known_more, queueings_known}
-use Rattle.cmwq_theory_steps.proofs.Fresh.{IsOpenOne, open_known, unstarted_is}
-use Rattle.cmwq_theory_steps.proofs.ItemRuns.{started_older, run_is}
-use Rattle.cmwq_theory_steps.proofs.ItemSteps.{items_are_run}
-use Rattle.cmwq_theory_steps.proofs.Standing.{due_own}
-use Rattle.cmwq_theory_steps.proofs.Causes.{Cause, cause_of}
 use Rattle.cmwq_theory_steps.proofs.Causes as cause
-use Rattle.cmwq_theory_steps.proofs.Reasons.{legal_fits}
 use Rattle.std.proofs.lemmas.List.Sums.{count_by-le-length}
 
 -- ---- numbers of queueings are those of older entries
@@ -37,7 +12,7 @@ next_older s past w x h = (next_holds s IsKnown known_more queueings_known past 
 run_older : (s : Layout) (past : List Entry) (w : WorkerId) (n : ℕ) → IsLegal s past → run past w ≡ Some n → n < length past
 run_older s past w n legal h = started_older s past w n legal (run_is past w n h).last
 
-unstarted_older : (past : List Entry) (i : ℕ) (x : Queueing) → unstarted past i ≡ Some x → x.number < length past
+unstarted_older : (past : List Entry) (i : ℕ) (x : Queueing) → unstarted_queueing past i ≡ Some x → x.number < length past
 unstarted_older past i x h = (unstarted_is past i x h).known.older
 
 least_older : (past : List Entry) (k n : ℕ) (c : Call) → least_waited past k c ≡ Some n → n < length past
@@ -160,7 +135,7 @@ pub entries_fit : (s : Layout) (past : List Entry) (e : Entry) → IsLegal s (e 
 unfolding IsLegal
 entries_fit s past e legal = ap₂ (λ a b. a && b) (legal_fits s past e legal) (replies_fit s past e.who e.call e.reply legal.2 (cause_of s past e legal))
 
-serial_most : (past : List Entry) (who : Who) → serial_of past who ≤ length past
+pub serial_most : (past : List Entry) (who : Who) → serial_of past who ≤ length past
 serial_most past who = count_by-le-length (is_by who) past
 
 asked_most : (m : ℕ) (c : Call) → IsCall m c → ticks_asked c ≤ greatest

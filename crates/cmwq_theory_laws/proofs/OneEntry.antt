@@ -1,18 +1,6 @@
 -- A call has one legal entry, steps are legal, and serials count up.
-use Rattle.std.proofs.Common.{◌≡◌, ◌+◌, ℕ, zero, suc, Bool, true, false, cond, List, [], ◌∷◌, ◌++◌, map, filter, refl, sym, ap, ap₂, ◌∙◌, arith, append-nil}
-use Rattle.std.specs.Prelude.{fold, if◌then◌else◌, reverse}
-use Rattle.std.specs.List.{AllByRecursion, range_with_len}
-use Rattle.std.proofs.lemmas.Bool.{eqb-true}
-use Rattle.std.proofs.lemmas.List.{reverse-append, map-append}
-use Rattle.std.proofs.lemmas.List.Elements.{filter-append}
-use Rattle.cmwq_model.specs.declared.id.Who.{Who}
-use Rattle.cmwq_model.specs.declared.id.Who.TheVariants.{Caller, Worker}
-use Rattle.cmwq_model.specs.declared.call.Call.{Call}
-use Rattle.cmwq_model.specs.declared.entry.Entry.{Entry}
-use Rattle.cmwq_model.specs.Prelude.{Layout, fits, same_who, is_by, serial_of, IsLegal, entry_for, Steps, has_room, step, none, steps}
+use Rattle.cmwq_theory_laws.specs.Common.{◌≡◌, ◌+◌, ℕ, zero, suc, Bool, true, false, cond, List, [], ◌∷◌, ◌++◌, map, filter, refl, sym, ap, ap₂, ◌∙◌, arith, append-nil, fold, if◌then◌else◌, reverse, AllByRecursion, range_with_len, eqb-true, reverse-append, map-append, filter-append, Who, Caller, Worker, Call, Entry, Layout, fits, same_who, is_by, serial_of, IsLegal, entry_for, Steps, has_room, step, none, steps, count_by-cons, same_worker-true}
 use Rattle.cmwq_theory_laws.specs.Sanity.{HasOneEntry, serials, serial_told}
-use Rattle.cmwq_theory_active.proofs.Lists.{count_by-cons}
-use Rattle.cmwq_theory_steps.proofs.ItemRuns.{same_worker-true}
 
 -- ---- one entry
 

@@ -1,12 +1,6 @@
 -- No two workers have runs of one item.
-use Rattle.std.proofs.Common.{◌≡◌, ℕ, true, List, Option, Some, None, refl}
-use Rattle.std.specs.Prelude.{option_and_then}
-use Rattle.cmwq_model.specs.declared.id.WorkerId.{WorkerId}
-use Rattle.cmwq_model.specs.declared.entry.Entry.{Entry}
-use Rattle.cmwq_model.specs.Prelude.{Layout, is_at, item_at, run, IsLegal}
+use Rattle.cmwq_theory_laws.specs.Common.{◌≡◌, ℕ, true, List, Option, Some, None, refl, option_and_then, WorkerId, Entry, Layout, is_at, item_at, run, IsLegal, one_worker, is_at-true}
 use Rattle.cmwq_theory_laws.specs.Headline.{RunsInOneWorker}
-use Rattle.cmwq_theory_steps.proofs.ItemRuns.{one_worker}
-use Rattle.cmwq_theory_steps.proofs.Entries.{is_at-true}
 
 record RunsItem (past : List Entry) (i : ℕ) (w : WorkerId) : Type 0 where
   number : ℕ

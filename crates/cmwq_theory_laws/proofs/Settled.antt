@@ -1,20 +1,9 @@
 -- Where the end of a cancel_sync is answered done, its item neither is pending nor runs after that.
-use Rattle.std.proofs.Common.{◌≡◌, ℕ, Bool, true, false, cond, ◌&&◌, ◌||◌, List, [], ◌∷◌, find, Option, Some, None, refl, ap, ◌∙◌, sym}
-use Rattle.std.specs.Prelude.{option_map, is_some, if◌then◌else◌}
-use Rattle.std.specs.List.{list_any}
-use Rattle.std.proofs.lemmas.Bool.{or_right, eq-eqb}
+use Rattle.cmwq_theory_laws.specs.Common.{◌≡◌, ℕ, Bool, true, false, cond, ◌&&◌, ◌||◌, List, [], ◌∷◌, find, Option, Some, None, refl, ap, ◌∙◌, sym, option_map, is_some, if◌then◌else◌, list_any, or_right, eq-eqb, Entry, Start, Layout, entry_at, is_of_item, settles, number_started, item_run, item_runs, starts_item, start_in, is_pending, unended_tickets, is_ticket, is_cancelling, cancels_sync, is_cancel_sync_of, waits_for, IsLegal, IsDone, no_start, starts_no_item, items_run_on, ends_ticket, ready_call, ended_call}
 use Rattle.cmwq_model.specs.declared.call.Call.TheVariants as call
-use Rattle.cmwq_model.specs.declared.entry.Entry.{Entry}
-use Rattle.cmwq_model.specs.declared.record.Start.{Start}
-use Rattle.cmwq_model.specs.Prelude.{Layout, entry_at, is_of_item, settles, number_started, item_run, item_runs, starts_item, start_in, is_pending, unended, is_ticket}
-use Rattle.cmwq_model.specs.Prelude.{is_cancelling, cancels_sync, is_cancel_sync_of, waits_for, IsLegal}
-use Rattle.cmwq_theory_steps.specs.TicketSteps.{IsDone}
 use Rattle.cmwq_theory_laws.specs.Headline.{CancelsSettle}
 use Rattle.cmwq_theory_steps.specs.RunSteps.{ends_run}
-use Rattle.cmwq_theory_steps.proofs.ItemRuns.{no_start, starts_no_item}
-use Rattle.cmwq_theory_steps.proofs.ItemSteps.{items_run_on}
 use Rattle.cmwq_theory_laws.proofs.Cancelling.{cancelling_idle, stays_idle}
-use Rattle.cmwq_theory_steps.proofs.Done.{ends_ticket, ready_call, ended_call}
 
 module _ {X : Type 0} where
   any_here : (p q : X → Bool) (x y : X) (xs : List X) (b : Bool) → cond b (Some y) (find p xs) ≡ Some x → q x ≡ true → (find p xs ≡ Some x → list_any q xs ≡ true) → (q y || list_any q xs) ≡ true
@@ -31,7 +20,7 @@ was_cancelling : (s : Layout) (past : List Entry) (e : Entry) (t i : ℕ) (begun
 was_cancelling s past e t i begun legal done at cancels =
     let ends = ends_ticket s past e t legal done in
     let is = ended_call s past e t begun legal done at ∙ cancels in
-    any_found (is_ticket e.who t) (is_cancel_sync_of i) ends.ticket (unended past) ends.found (ap (cancels_sync i) is ∙ eq-eqb i i refl)
+    any_found (is_ticket e.who t) (is_cancel_sync_of i) ends.ticket (unended_tickets past) ends.found (ap (cancels_sync i) is ∙ eq-eqb i i refl)
 
 no_run : (o : Option Start) → option_map (λ (start : Start). start.number) o ≡ None → o ≡ None
 no_run None h = refl

@@ -1,12 +1,6 @@
 -- A number is started at most once, and only where an earlier entry opened a queueing under it.
-use Rattle.std.proofs.Common.{◌≡◌, ◌+◌, ◌≤◌, ℕ, Bool, true, false, cond, List, [], ◌∷◌, count_by, refl, ap, arith}
-use Rattle.std.specs.Prelude.{is_some}
-use Rattle.std.specs.List.{AllByRecursion}
-use Rattle.std.proofs.lemmas.Bool.{or_parts}
-use Rattle.cmwq_model.specs.declared.entry.Entry.{Entry}
-use Rattle.cmwq_model.specs.Prelude.{Layout, starts, is_started, IsLegal}
+use Rattle.cmwq_theory_laws.specs.Common.{◌≡◌, ◌+◌, ◌≤◌, ℕ, Bool, true, false, cond, List, [], ◌∷◌, count_by, refl, ap, arith, is_some, AllByRecursion, or_parts, Entry, Layout, starts, is_started, IsLegal, count_by-cons, count_by-none}
 use Rattle.cmwq_theory_laws.specs.Headline.{StartedOnce, StartsEarlier}
-use Rattle.cmwq_theory_active.proofs.Lists.{count_by-cons, count_by-none}
 use Rattle.cmwq_theory_steps.proofs.StartsListed.{starts_listed, starts_anew}
 
 none_started : (n : ℕ) (past : List Entry) → is_started past n ≡ false → AllByRecursion (λ e. starts n e ≡ false) past

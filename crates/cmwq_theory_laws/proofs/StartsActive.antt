@@ -1,7 +1,5 @@
 -- Only active queueings are started.
-use Rattle.std.proofs.Common.{List, [], ◌∷◌}
-use Rattle.cmwq_model.specs.declared.entry.Entry.{Entry}
-use Rattle.cmwq_model.specs.Prelude.{Layout, IsLegal}
+use Rattle.cmwq_theory_laws.specs.Common.{List, [], ◌∷◌, Entry, Layout, IsLegal}
 use Rattle.cmwq_theory_laws.specs.Headline.{StartsActive}
 use Rattle.cmwq_theory_steps.proofs.WorklistSteps.{starts_only_active}
 

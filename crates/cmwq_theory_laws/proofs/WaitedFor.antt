@@ -1,45 +1,35 @@
 -- Where the end of a ticket is answered done, all that it waits for has ended.
-use Rattle.std.proofs.Common.{◌≡◌, ◌≤◌, ◌<◌, ◌==◌, ℕ, Bool, true, false, ◌&&◌, List, [], ◌∷◌, length, Option, Some, None, nat_lt, nat_le, refl, sym, ◌∙◌, arith}
-use Rattle.std.specs.Prelude.{option_map, if◌then◌else◌}
-use Rattle.std.specs.Option.{option_or}
-use Rattle.std.specs.List.{AllByRecursion}
-use Rattle.std.proofs.lemmas.Bool.Decides.{nat_tests}
-use Rattle.cmwq_model.specs.declared.call.Call.{Call}
-use Rattle.cmwq_model.specs.declared.entry.Entry.{Entry}
-use Rattle.cmwq_model.specs.declared.record.Queueing.{Queueing}
-use Rattle.cmwq_model.specs.Prelude.{Layout, queueings, is_live, still_open, served, is_served_after, is_within, holds_up, waits_for, least_waited, IsLegal}
+use Rattle.cmwq_theory_laws.specs.Common.{◌≡◌, ◌≤◌, ◌<◌, ◌==◌, ℕ, Bool, true, false, ◌&&◌, List, [], ◌∷◌, length, Option, Some, None, nat_lt, nat_le, refl, sym, ◌∙◌, arith, option_map, if◌then◌else◌, option_or, AllByRecursion, nat_tests, Call, Entry, Queueing, Layout, queueings, is_live, still_open, serving_from, is_served_after, is_within, holds_up, waits_for, least_waited, IsLegal, All_both, All_each, find_none, All_unfilter, IsBelow, queueings_below, ready_call}
 use Rattle.cmwq_model.specs.declared.call.Call.TheVariants as call
 use Rattle.cmwq_theory_laws.specs.Headline.{is_waited_for, has_ended, WaitsEndAfter}
-use Rattle.cmwq_theory_active.proofs.Lists.{All_both, All_each, find_none, All_unfilter}
-use Rattle.cmwq_theory_active.proofs.Rising.{IsBelow, queueings_below}
-use Rattle.cmwq_theory_steps.proofs.Done.{ready_call}
+use Rattle.cmwq_theory_steps.proofs.Refusals.{none_mapped}
 
 -- ---- a flush is served from its own number on
 
-served_from : (past : List Entry) (q n b : ℕ) → served past q n ≡ Some b → n ≤ b
-unfolding served
-served_from [] q n b h = cc
-served_from (e ∷ past) q n b h = from (served past q n) refl h (served_from past q n b)
+served_from_own : (past : List Entry) (q n b : ℕ) → serving_from past q n ≡ Some b → n ≤ b
+unfolding serving_from
+served_from_own [] q n b h = cc
+served_from_own (e ∷ past) q n b h = from (serving_from past q n) refl h (served_from_own past q n b)
   where
     here : (a c : Bool) → nat_le n (length past) ≡ a → (if a && c then Some (length past) else None) ≡ Some b → n ≤ b
     here true true is h = let at : length past ≡ b = cc in grind (arith, nat_tests)
     here true false is h = cc
     here false c is h = cc
 
-    from : (o : Option ℕ) → served past q n ≡ o → option_or o (if nat_le n (length past) && is_served_after (e ∷ past) q n then Some (length past) else None) ≡ Some b → (served past q n ≡ Some b → n ≤ b) → n ≤ b
+    from : (o : Option ℕ) → serving_from past q n ≡ o → option_or o (if nat_le n (length past) && is_served_after (e ∷ past) q n then Some (length past) else None) ≡ Some b → (serving_from past q n ≡ Some b → n ≤ b) → n ≤ b
     from (Some m) is h earlier = earlier (is ∙ h)
     from None is h earlier = here (nat_le n (length past)) (is_served_after (e ∷ past) q n) refl h
 
-within_served : (past : List Entry) (q t n : ℕ) (o : Option ℕ) → served past q t ≡ o → n < t → is_within o n ≡ true
+within_served : (past : List Entry) (q t n : ℕ) (o : Option ℕ) → serving_from past q t ≡ o → n < t → is_within o n ≡ true
 within_served past q t n None is less = refl
-within_served past q t n (Some b) is less = let from = served_from past q t b is in grind (arith, nat_tests)
+within_served past q t n (Some b) is less = let from = served_from_own past q t b is in grind (arith, nat_tests)
 
 -- ---- what is waited for has ended
 
-flush_waits : (past : List Entry) (q t : ℕ) (x : Queueing) → ((x.place.queue.0 == q) && nat_lt x.number t) ≡ true → ((x.place.queue.0 == q) && is_within (served past q t) x.number) ≡ true
+flush_waits : (past : List Entry) (q t : ℕ) (x : Queueing) → ((x.place.queue.0 == q) && nat_lt x.number t) ≡ true → ((x.place.queue.0 == q) && is_within (serving_from past q t) x.number) ≡ true
 flush_waits past q t x h =
     let less : x.number < t = grind (arith, nat_tests) in
-    let within = within_served past q t x.number (served past q t) refl less in
+    let within = within_served past q t x.number (serving_from past q t) refl less in
     grind arith
 
 held_up : (past : List Entry) (t : ℕ) (c : Call) (x : Queueing) → is_waited_for c t x ≡ true → holds_up past t c x ≡ true
@@ -50,17 +40,13 @@ held_up past t (call.Drain q) x h = h
 held_up past t (call.Destroy q) x h = h
 held_up past t c x h = cc
 
-none_of : (o : Option Queueing) → option_map (λ (x : Queueing). x.number) o ≡ None → o ≡ None
-none_of None h = refl
-none_of (Some x) h = cc
-
 ended_of : (past : List Entry) (x : Queueing) → x.number < length past → is_live past x ≡ false → has_ended past x ≡ true
 ended_of past x less h = grind (arith, nat_tests)
 
 waited_ended : (past : List Entry) (t : ℕ) (c : Call) → least_waited past t c ≡ None → AllByRecursion (λ x. is_waited_for c t x ≡ true → has_ended past x ≡ true) (queueings past)
 waited_ended past t c ready =
     All_both (IsBelow (length past)) (λ x. is_live past x ≡ true → holds_up past t c x ≡ false) (λ x. is_waited_for c t x ≡ true → has_ended past x ≡ true) (queueings past) ended
-    (queueings_below past) (All_unfilter (λ x. holds_up past t c x ≡ false) (is_live past) (queueings past) (find_none (holds_up past t c) (still_open past) (none_of _ ready)))
+    (queueings_below past) (All_unfilter (λ x. holds_up past t c x ≡ false) (is_live past) (queueings past) (find_none (holds_up past t c) (still_open past) (none_mapped _ ready)))
   where
     ended : (x : Queueing) → x.number < length past → (is_live past x ≡ true → holds_up past t c x ≡ false) → is_waited_for c t x ≡ true → has_ended past x ≡ true
     ended x less free waited = at (is_live past x) refl

@@ -1,14 +1,6 @@
 -- What a ticket waits for is the least of what holds it up.
-use Rattle.std.proofs.Common.{◌≡◌, ◌≤◌, ℕ, true, List, find, Option, Some, None, refl, subst}
-use Rattle.std.specs.Prelude.{option_map}
-use Rattle.std.specs.List.{AllByRecursion}
-use Rattle.cmwq_model.specs.declared.call.Call.{Call}
-use Rattle.cmwq_model.specs.declared.entry.Entry.{Entry}
-use Rattle.cmwq_model.specs.declared.record.Queueing.{Queueing}
-use Rattle.cmwq_model.specs.Prelude.{still_open, holds_up, waits_for, least_waited}
+use Rattle.cmwq_theory_laws.specs.Common.{◌≡◌, ◌≤◌, ℕ, true, List, find, Option, Some, None, refl, subst, option_map, AllByRecursion, Call, Entry, Queueing, still_open, holds_up, waits_for, least_waited, All_each, open_rise, find_least}
 use Rattle.cmwq_model.specs.declared.call.Call.TheVariants as call
-use Rattle.cmwq_theory_active.proofs.Lists.{All_each}
-use Rattle.cmwq_theory_active.proofs.Rising.{open_rise, find_least}
 
 found_least : (past : List Entry) (n m : ℕ) (c : Call) (o : Option Queueing) → find (holds_up past n c) (still_open past) ≡ o → option_map (λ (x : Queueing). x.number) o ≡ Some m
     → AllByRecursion (λ x. holds_up past n c x ≡ true → m ≤ x.number) (still_open past)

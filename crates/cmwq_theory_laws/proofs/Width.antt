@@ -1,29 +1,10 @@
 -- No more workers of a CPU have runs of a queue than are active there: their runs are different numbers of active queueings.
-use Rattle.std.proofs.Common.{◌≡◌, ◌≤◌, ◌==◌, ℕ, Bool, true, false, cond, ◌||◌, List, [], ◌∷◌, length, map, take, filter, find, Option, Some, None, refl, sym, ap, ◌∙◌, subst, arith}
-use Rattle.std.specs.Prelude.{option_and_then, option_map}
-use Rattle.std.specs.Option.{option_map_or}
-use Rattle.std.specs.List.{AllByRecursion, IsDistinct, list_any}
+use Rattle.cmwq_theory_laws.specs.Common.{◌≡◌, ◌≤◌, ◌==◌, ℕ, Bool, true, false, cond, ◌||◌, List, [], ◌∷◌, length, map, take, filter, find, Option, Some, None, refl, sym, ap, ◌∙◌, subst, arith, option_and_then, option_map, option_map_or, AllByRecursion, IsDistinct, list_any, or_right, eqb-true, eq-eqb, nat_tests, length-take, length-map, WorkerId, Entry, Queueing, Layout, pool_at, is_at, same_pool, same_worker, item_at, run, queueings, queueing_at, queue_of, run_queue, has_number, is_live, still_open, is_active, IsLegal, is_on, open_on, active_count, All_both, active_are_first, active_live, one_worker, is_at-true, find-filter, same_worker_itself}
 use Rattle.std.specs.Set.{is_member}
-use Rattle.std.proofs.lemmas.Bool.{or_right, eqb-true, eq-eqb}
-use Rattle.std.proofs.lemmas.Bool.Decides.{nat_tests}
 use Rattle.std.proofs.lemmas.Cmp.{nat_eq_equiv}
-use Rattle.std.proofs.lemmas.List.{length-take, length-map}
 use Rattle.std.proofs.lemmas.Map.Made.{length-le_from_is_member}
-use Rattle.cmwq_model.specs.declared.id.WorkerId.{WorkerId}
-use Rattle.cmwq_model.specs.declared.entry.Entry.{Entry}
-use Rattle.cmwq_model.specs.declared.record.Queueing.{Queueing}
-use Rattle.cmwq_model.specs.Prelude.{Layout, pool_at, is_at, same_pool, same_worker, item_at, run, queueings, queueing_at, queue_of, run_queue, has_number, is_live, still_open}
-use Rattle.cmwq_model.specs.Prelude.{is_active, IsLegal}
-use Rattle.cmwq_theory_steps.specs.Places.{is_on, open_on, active_count}
 use Rattle.cmwq_theory_laws.specs.Headline.{runs_queue_on, RunsWithinActive}
-use Rattle.cmwq_theory_active.proofs.Lists.{All_both}
-use Rattle.cmwq_theory_steps.proofs.Active.{active_are_first}
-use Rattle.cmwq_theory_active.proofs.Joined.{active_live}
-use Rattle.cmwq_theory_steps.proofs.ItemRuns.{one_worker}
-use Rattle.cmwq_theory_steps.proofs.Entries.{is_at-true}
 use Rattle.cmwq_theory_steps.proofs.RunsActive.{found_known, found_number, run_is_active}
-use Rattle.cmwq_theory_steps.proofs.Filters.{find-filter}
-use Rattle.cmwq_theory_steps.proofs.ItemRuns.{same_worker_itself}
 
 -- ---- numbers
 

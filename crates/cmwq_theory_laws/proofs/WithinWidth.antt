@@ -1,18 +1,7 @@
 -- Where an entry makes a queueing active, no more than the width are active there after it.
-use Rattle.std.proofs.Common.{◌≡◌, ◌≤◌, ℕ, min, max, Bool, true, false, not, ◌&&◌, ◌||◌, List, [], ◌∷◌, count_by, refl, sym, ap, ◌∙◌, arith}
-use Rattle.std.proofs.lemmas.Bool.Decides.{nat_tests}
-use Rattle.std.specs.List.{AllByRecursion}
-use Rattle.cmwq_model.specs.declared.entry.Entry.{Entry}
-use Rattle.cmwq_model.specs.declared.record.Queueing.{Queueing}
-use Rattle.cmwq_model.specs.Prelude.{Layout, width, queueings, is_live, still_open, is_active, is_below_max_active, is_newly_active}
-use Rattle.cmwq_theory_steps.specs.Places.{is_on, open_on}
-use Rattle.cmwq_theory_steps.specs.Histories.{OfEachEntry}
+use Rattle.cmwq_theory_laws.specs.Common.{◌≡◌, ◌≤◌, ℕ, min, max, Bool, true, false, not, ◌&&◌, ◌||◌, List, [], ◌∷◌, count_by, refl, sym, ap, ◌∙◌, arith, nat_tests, AllByRecursion, Entry, Queueing, Layout, width, queueings, is_live, still_open, is_active, is_below_max_active, is_newly_active, is_on, open_on, OfEachEntry, All_map, All_filter, All_unfilter, count_by-same, active_go_on, kept_front, fronts_below_max_active, ways_counted, active_on, first_active}
 use Rattle.cmwq_theory_laws.specs.Headline.{WithinWidthAfter}
-use Rattle.cmwq_theory_active.proofs.Lists.{All_map, All_filter, All_unfilter}
-use Rattle.cmwq_theory_steps.proofs.Filters.{count_by-same}
 use Rattle.cmwq_theory_steps.proofs.Fronts.{front_less, count_or}
-use Rattle.cmwq_theory_active.proofs.Joined.{active_go_on}
-use Rattle.cmwq_theory_steps.proofs.Active.{kept_front, fronts_below_max_active, ways_counted, active_on, first_active}
 
 all_for : {A X : Type 0} (P : A → X → Type 0) (xs : List X) → ((a : A) → AllByRecursion (P a) xs) → AllByRecursion (λ x. (a : A) → P a x) xs
 all_for P [] h = tt

@@ -1,13 +1,7 @@
 -- Laws that tie the definitions of cmwq_model to the words in which the field speaks of them.
-use Rattle.std.specs.Prelude.{◌≡◌, ℕ, ◌≤◌, true, List, ◌∷◌, length, filter, take, Some}
-use Rattle.std.specs.List.{AllByRecursion}
-use Rattle.cmwq_model.specs.declared.call.Call.{Call}
-use Rattle.cmwq_model.specs.declared.entry.Entry.{Entry}
-use Rattle.cmwq_model.specs.declared.id.WorkerId.{WorkerId}
-use Rattle.cmwq_model.specs.Prelude.{Layout, queueings, still_open, is_active, holds_up, waits_for, item_at, run, item_run, IsLegal}
+use Rattle.cmwq_theory_laws.specs.Common.{◌≡◌, ℕ, ◌≤◌, true, List, ◌∷◌, length, filter, take, Some, AllByRecursion, Call, Entry, WorkerId, Layout, queueings, still_open, is_active, holds_up, waits_for, item_at, run, item_run, IsLegal, open_on, active_count}
 use Rattle.cmwq_theory_steps.specs.Reasons.{number_given}
 use Rattle.cmwq_theory_active.specs.Rising.{IsRising}
-use Rattle.cmwq_theory_steps.specs.Places.{open_on, active_count}
 
 -- a reply that opens a queueing or gives a ticket names its own entry
 abbrev pub NamesItself : Type 0

@@ -1,18 +1,6 @@
 -- Where widths don't change and no queue is destroyed, the active queueings are the first open ones, and a history is legal exactly where it was
 -- before they could.
-use Rattle.std.specs.Prelude.{◌≡◌, ◌==◌, ◌+◌, ℕ, length, Bool, true, false, ◌&&◌, ◌||◌, not, if◌then◌else◌, List, [], ◌∷◌, ◌++◌, filter, find, count_by, Option, IsTrue, nat_lt}
-use Rattle.std.specs.List.{AllByRecursion}
-use Rattle.cmwq_model.specs.declared.id.PoolId.{PoolId}
-use Rattle.cmwq_model.specs.declared.id.WorkerId.{WorkerId}
-use Rattle.cmwq_model.specs.declared.id.Who.{Who}
-use Rattle.cmwq_model.specs.declared.id.Who.TheVariants.{Worker}
-use Rattle.cmwq_model.specs.declared.call.Call.{Call}
-use Rattle.cmwq_model.specs.declared.reply.Reply.{Reply}
-use Rattle.cmwq_model.specs.declared.entry.Entry.{Entry}
-use Rattle.cmwq_model.specs.declared.record.Queueing.{Queueing}
-use Rattle.cmwq_model.specs.Prelude.{Layout, first_width, pool_at, fits, width, same_pool, serial_of, now, is_started, has_run, queueings, still_open, is_live, is_pending}
-use Rattle.cmwq_model.specs.Prelude.{runs_elsewhere, is_ahead, is_active, activated, is_startable, is_enlisted, is_cancelling, is_crowded, destroys, is_gone, answer, start_of}
-use Rattle.cmwq_model.specs.Prelude.{may_call, is_shut, IsLegal}
+use Rattle.cmwq_theory_laws.specs.Common.{◌≡◌, ◌==◌, ◌+◌, ℕ, length, Bool, true, false, ◌&&◌, ◌||◌, not, if◌then◌else◌, List, [], ◌∷◌, ◌++◌, filter, find, count_by, Option, IsTrue, nat_lt, AllByRecursion, PoolId, WorkerId, Who, Worker, Call, Reply, Entry, Queueing, Layout, first_width, pool_at, fits, width, same_pool, serial_of, now, is_started, has_run, queueings, still_open, is_live, is_pending, runs_elsewhere, is_ahead, is_active, became_active, is_startable, is_enlisted, is_cancelling, is_crowded, destroys, is_gone, answer, start_of, may_call, is_shut, IsLegal}
 use Rattle.cmwq_model.specs.declared.call.Call.TheVariants as call
 use Rattle.cmwq_model.specs.declared.reply.Reply.TheVariants as reply
 
@@ -39,7 +27,7 @@ HasFirstWidths s [] = Unit {0}
 HasFirstWidths s (e ∷ past) = ((q : ℕ) → width s (e ∷ past) q ≡ first_width s q) × HasFirstWidths s past
 
 abbrev pub ActiveAsBefore : Type 0
-ActiveAsBefore = (s : Layout) (past : List Entry) → HasFirstWidths s past → ((x : Queueing) → is_active s past x ≡ is_first s past x) × (activated s past ≡ ever_first s past)
+ActiveAsBefore = (s : Layout) (past : List Entry) → HasFirstWidths s past → ((x : Queueing) → is_active s past x ≡ is_first s past x) × (became_active s past ≡ ever_first s past)
 
 -- no call that there wasn't before
 abbrev pub is_old : Call → Bool

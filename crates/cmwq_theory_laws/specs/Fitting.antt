@@ -1,9 +1,5 @@
 -- What a legal history says is inside its layout, and its numbers are inside the ranges of their types: so it can be written, and read again.
-use Rattle.std.specs.Prelude.{◌≡◌, ℕ, ◌≤◌, true, List, length, IsTrue}
-use Rattle.std.specs.List.{All}
-use Rattle.cmwq_model.specs.declared.entry.Entry.{Entry}
-use Rattle.cmwq_model.specs.Prelude.{Layout, is_layout, entry_fits, IsWho, IsCall, IsEntry, now, IsLegal, past_of, most_time}
-use Rattle.cmwq_theory_steps.specs.Histories.{OfEntries}
+use Rattle.cmwq_theory_laws.specs.Common.{◌≡◌, ℕ, ◌≤◌, true, List, length, IsTrue, All, Entry, Layout, is_layout, entry_fits, IsWho, IsCall, IsEntry, now, IsLegal, past_of, most_time, OfEntries}
 
 -- the call of each entry fits, and the items and workers that its reply names are of the layout
 abbrev pub EntriesFit : Type 0

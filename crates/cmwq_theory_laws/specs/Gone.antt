@@ -1,10 +1,5 @@
 -- What becomes of a queue that is destroyed.
-use Rattle.std.specs.Prelude.{◌≡◌, ℕ, true, false, ◌==◌, List, Some, ◌∷◌}
-use Rattle.std.specs.List.{AllByRecursion}
-use Rattle.cmwq_model.specs.declared.entry.Entry.{Entry}
-use Rattle.cmwq_model.specs.declared.record.Booking.{Booking}
-use Rattle.cmwq_model.specs.Prelude.{booking, still_open, is_gone}
-use Rattle.cmwq_theory_steps.specs.Histories.{OfLegal}
+use Rattle.cmwq_theory_laws.specs.Common.{◌≡◌, ℕ, true, false, ◌==◌, List, Some, ◌∷◌, AllByRecursion, Entry, Booking, booking, still_open, is_gone, OfLegal}
 
 -- no item is booked on the queue, and nothing of it is open
 abbrev pub NoneBooked : List Entry → ℕ → Type 0

@@ -1,24 +1,14 @@
 -- What a user of the runtime relies on, as laws of every legal history.
-use Rattle.std.specs.Prelude.{◌≡◌, ℕ, ◌≤◌, Bool, true, false, ◌&&◌, ◌||◌, ◌==◌, List, ◌∷◌, length, count_by, Some, option_and_then, is_some, nat_lt, nat_le}
-use Rattle.std.specs.List.{AllByRecursion, IsDistinct}
-use Rattle.cmwq_model.specs.declared.id.WorkerId.{WorkerId}
-use Rattle.cmwq_model.specs.declared.call.Call.{Call}
-use Rattle.cmwq_model.specs.declared.entry.Entry.{Entry}
-use Rattle.cmwq_model.specs.declared.record.Queueing.{Queueing}
-use Rattle.cmwq_model.specs.Prelude.{Layout, width, is_active, newly_active, is_at, same_worker, entry_at, item_at, starts, is_finished, is_cancelled, run, item_runs, queueings}
-use Rattle.cmwq_model.specs.Prelude.{queueing_at, run_queue, is_pending, is_cancelling}
+use Rattle.cmwq_theory_laws.specs.Common.{◌≡◌, ℕ, ◌≤◌, Bool, true, false, ◌&&◌, ◌||◌, ◌==◌, List, ◌∷◌, length, count_by, Some, option_and_then, is_some, nat_lt, nat_le, AllByRecursion, IsDistinct, WorkerId, Call, Entry, Queueing, Layout, width, is_active, newly_active, is_at, same_worker, entry_at, item_at, starts, is_finished, is_cancelled, run, item_runs, queueings, queueing_at, run_queue, is_pending, is_cancelling, open_on, active_count, OfLegal, OfEachEntry, IsDone}
 use Rattle.cmwq_model.specs.declared.call.Call.TheVariants as call
-use Rattle.cmwq_theory_steps.specs.Places.{open_on, active_count}
-use Rattle.cmwq_theory_steps.specs.Histories.{OfLegal, OfEachEntry}
-use Rattle.cmwq_theory_steps.specs.TicketSteps.{IsDone}
 
 -- ---- no two workers have runs of one item
 
-abbrev pub runs_item : List Entry → ℕ → WorkerId → Bool
-runs_item past i w = is_at (option_and_then (item_at past) (run past w)) i
+abbrev pub worker_runs_item : List Entry → ℕ → WorkerId → Bool
+worker_runs_item past i w = is_at (option_and_then (item_at past) (run past w)) i
 
 abbrev pub RunsInOneWorker : List Entry → Type 0
-RunsInOneWorker past = (i : ℕ) (v w : WorkerId) → runs_item past i v ≡ true → runs_item past i w ≡ true → v ≡ w
+RunsInOneWorker past = (i : ℕ) (v w : WorkerId) → worker_runs_item past i v ≡ true → worker_runs_item past i w ≡ true → v ≡ w
 
 abbrev pub ItemsRunInOneWorker : Type 0
 ItemsRunInOneWorker = OfLegal (λ s. RunsInOneWorker)

@@ -1,11 +1,5 @@
 -- Why the laws are said of legal histories: small illegal ones that break each.
-use Rattle.std.specs.Prelude.{ℕ, false, List, [], ◌∷◌}
-use Rattle.cmwq_model.specs.declared.id.WorkerId.{WorkerId}
-use Rattle.cmwq_model.specs.declared.id.Who.TheVariants.{Caller, Worker}
-use Rattle.cmwq_model.specs.declared.call.Call.{Call}
-use Rattle.cmwq_model.specs.declared.reply.Reply.{Reply}
-use Rattle.cmwq_model.specs.declared.entry.Entry.{Entry}
-use Rattle.cmwq_model.specs.Prelude.{Layout, past_of}
+use Rattle.cmwq_theory_laws.specs.Common.{ℕ, false, List, [], ◌∷◌, WorkerId, Caller, Worker, Call, Reply, Entry, Layout, past_of}
 use Rattle.cmwq_model.specs.declared.call.Call.TheVariants as call
 use Rattle.cmwq_model.specs.declared.reply.Reply.TheVariants as reply
 use Rattle.cmwq_theory_laws.specs.Headline.{RunsInOneWorker, StartedOnce, StartsEarlier, StartsActive, RunsWithinActive, WaitsEndAfter, CancelsSettle}
@@ -15,26 +9,26 @@ use Rattle.cmwq_theory_laws.specs.Gone.{GoneAreEmpty}
 abbrev pub by_caller : ℕ → Call → Reply → Entry
 by_caller serial call reply = record { who = Caller (record { 0 = 0 }); serial = serial; call = call; reply = reply }
 
-abbrev pub worker : ℕ → WorkerId
-worker x = record { pool = record { cpu = record { 0 = 0 }; high = false }; index = x }
+abbrev pub worker_of_pool_zero : ℕ → WorkerId
+worker_of_pool_zero x = record { pool = record { cpu = record { 0 = 0 }; high = false }; index = x }
 
 abbrev pub by_worker : ℕ → ℕ → Call → Reply → Entry
-by_worker x serial call reply = record { who = Worker (worker x); serial = serial; call = call; reply = reply }
+by_worker x serial call reply = record { who = Worker (worker_of_pool_zero x); serial = serial; call = call; reply = reply }
 
 -- a call to queue the item on the only queue and CPU
-abbrev pub queue : ℕ → Call
-queue i = call.Queue (record { 0 = i }) (record { 0 = 0 }) (record { 0 = 0 })
+abbrev pub queue_zero : ℕ → Call
+queue_zero i = call.Queue (record { 0 = i }) (record { 0 = 0 }) (record { 0 = 0 })
 
 -- its max_active is 1
-abbrev pub narrow : Layout
-narrow = record { cpus = 1; workers = 2; callers = 1; items = 2; room = 100; queues = record { max_active = 1; high = false; intensive = false; freezable = false } ∷ [] }
+abbrev pub narrow_layout : Layout
+narrow_layout = record { cpus = 1; workers = 2; callers = 1; items = 2; room = 100; queues = record { max_active = 1; high = false; intensive = false; freezable = false } ∷ [] }
 
 -- an item that is queued again while it runs is started by a second worker at once
 abbrev pub started_beside_its_run : List Entry
 started_beside_its_run = past_of (
-    by_caller 0 (queue 0) (reply.Yes 0) ∷
+    by_caller 0 (queue_zero 0) (reply.Yes 0) ∷
     by_worker 0 0 call.Take (reply.StartedEnlist 0 1) ∷
-    by_caller 1 (queue 0) (reply.Yes 2) ∷
+    by_caller 1 (queue_zero 0) (reply.Yes 2) ∷
     by_worker 1 0 call.Take (reply.Started 2) ∷
     [])
 
@@ -44,7 +38,7 @@ RunInTwoWorkers = RunsInOneWorker started_beside_its_run → ⊥
 -- a worker takes again what it has begun
 abbrev pub started_again : List Entry
 started_again = past_of (
-    by_caller 0 (queue 0) (reply.Yes 0) ∷
+    by_caller 0 (queue_zero 0) (reply.Yes 0) ∷
     by_worker 0 0 call.Take (reply.StartedEnlist 0 1) ∷
     by_worker 0 1 call.Take (reply.Started 0) ∷
     [])
@@ -62,19 +56,19 @@ StartedUnqueued = StartsEarlier started_unqueued → ⊥
 -- a second worker starts what isn't active yet
 abbrev pub started_inactive : List Entry
 started_inactive = past_of (
-    by_caller 0 (queue 0) (reply.Yes 0) ∷
-    by_caller 1 (queue 1) (reply.Yes 1) ∷
+    by_caller 0 (queue_zero 0) (reply.Yes 0) ∷
+    by_caller 1 (queue_zero 1) (reply.Yes 1) ∷
     by_worker 0 0 call.Take (reply.StartedEnlist 0 1) ∷
     by_worker 1 0 call.Take (reply.Started 1) ∷
     [])
 
 abbrev pub RunBeyondMaxActive : Type 0
-RunBeyondMaxActive = (StartsActive narrow started_inactive → ⊥) × (RunsWithinActive narrow started_inactive → ⊥)
+RunBeyondMaxActive = (StartsActive narrow_layout started_inactive → ⊥) × (RunsWithinActive narrow_layout started_inactive → ⊥)
 
 -- a wait that begins after an item was queued ends before the item was started
 abbrev pub ended_early : Call → List Entry
 ended_early wait = past_of (
-    by_caller 0 (queue 0) (reply.Yes 0) ∷
+    by_caller 0 (queue_zero 0) (reply.Yes 0) ∷
     by_caller 1 wait (reply.Ticket 1) ∷
     by_caller 2 (call.End 1) reply.Done ∷
     [])
@@ -88,14 +82,14 @@ EndedEarly =
 -- a cancel_sync is done while the item is pending, and while it runs
 abbrev pub done_while_pending : List Entry
 done_while_pending = past_of (
-    by_caller 0 (queue 0) (reply.Yes 0) ∷
+    by_caller 0 (queue_zero 0) (reply.Yes 0) ∷
     by_caller 1 (call.CancelSync (record { 0 = 0 })) (reply.TicketNo 1) ∷
     by_caller 2 (call.End 1) reply.Done ∷
     [])
 
 abbrev pub done_while_it_runs : List Entry
 done_while_it_runs = past_of (
-    by_caller 0 (queue 0) (reply.Yes 0) ∷
+    by_caller 0 (queue_zero 0) (reply.Yes 0) ∷
     by_worker 0 0 call.Take (reply.StartedEnlist 0 1) ∷
     by_caller 1 (call.CancelSync (record { 0 = 0 })) (reply.TicketNo 2) ∷
     by_caller 2 (call.End 2) reply.Done ∷

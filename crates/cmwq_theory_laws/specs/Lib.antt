@@ -1,3 +1,4 @@
+pub mod Common
 pub mod Fidelity
 pub mod FirstWidths
 pub mod Fitting

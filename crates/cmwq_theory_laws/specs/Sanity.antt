@@ -1,25 +1,18 @@
 -- Laws that show that the definitions say neither too much nor too little: each call has its one entry, and no item or
 -- queueing is two things at once.
-use Rattle.std.specs.Prelude.{◌≡◌, ℕ, ◌≤◌, Bool, true, false, ◌&&◌, List, ◌∷◌, map, filter, count_by, reverse}
-use Rattle.std.specs.List.{AllByRecursion, range_with_len}
-use Rattle.cmwq_model.specs.declared.id.Who.{Who}
-use Rattle.cmwq_model.specs.declared.call.Call.{Call}
-use Rattle.cmwq_model.specs.declared.entry.Entry.{Entry}
-use Rattle.cmwq_model.specs.declared.record.Queueing.{Queueing}
-use Rattle.cmwq_model.specs.Prelude.{Layout, fits, is_by, serial_of, is_started, is_finished, is_cancelled, queueings, still_open, IsLegal, steps}
-use Rattle.cmwq_theory_steps.specs.Histories.{OfLegal}
+use Rattle.cmwq_theory_laws.specs.Common.{◌≡◌, ℕ, ◌≤◌, Bool, true, false, ◌&&◌, List, ◌∷◌, map, filter, count_by, reverse, AllByRecursion, range_with_len, Who, Call, Entry, Queueing, Layout, fits, is_by, serial_of, is_started, is_finished, is_cancelled, queueings, still_open, IsLegal, steps, OfLegal}
 use Rattle.cmwq_theory_steps.specs.Pending.{is_run_of}
 
 -- ---- a call that fits has exactly one legal entry after a legal history
 
-abbrev pub IsOf : Who → Call → Entry → Type 0
-IsOf who call e = (e.who ≡ who) × (e.call ≡ call)
+abbrev pub IsEntryOf : Who → Call → Entry → Type 0
+IsEntryOf who call e = (e.who ≡ who) × (e.call ≡ call)
 
 pub record HasOneEntry (s : Layout) (past : List Entry) (who : Who) (call : Call) : Type 0 where
   pub entry : Entry
-  pub is_of : IsOf who call entry
+  pub is_of : IsEntryOf who call entry
   pub is_legal : IsLegal s (entry ∷ past)
-  pub no_other : (e : Entry) → IsOf who call e → IsLegal s (e ∷ past) → e ≡ entry
+  pub no_other : (e : Entry) → IsEntryOf who call e → IsLegal s (e ∷ past) → e ≡ entry
 
 abbrev pub CallsHaveOneEntry : Type 0
 CallsHaveOneEntry = OfLegal (λ s past. (who : Who) (call : Call) → fits s who call ≡ true → HasOneEntry s past who call)

@@ -1,8 +1,5 @@
 -- The verdict of a history is one: it is legal, or has one first wrong entry, and never both.
-use Rattle.std.specs.Prelude.{◌≡◌, List}
-use Rattle.cmwq_model.specs.declared.entry.Entry.{Entry}
-use Rattle.cmwq_model.specs.declared.verdict.Illegal.{Illegal}
-use Rattle.cmwq_model.specs.Prelude.{Layout, IsLegal, past_of, IsFirstWrong}
+use Rattle.cmwq_theory_laws.specs.Common.{◌≡◌, List, Entry, Illegal, Layout, IsLegal, past_of, IsFirstWrong}
 
 -- a history that has a first wrong entry is not legal
 abbrev pub WrongAreIllegal : Type 0

@@ -1,19 +1,12 @@
 -- What holds of all queueings of a history, and goes on to hold as it grows, holds of all that ever became active.
-use Rattle.std.proofs.Common.{◌≡◌, Bool, true, false, cond, List, [], ◌∷◌, Some, refl}
-use Rattle.std.specs.Prelude.{find}
-use Rattle.std.specs.List.{AllByRecursion}
-use Rattle.cmwq_model.specs.declared.id.PoolId.{PoolId}
-use Rattle.cmwq_model.specs.declared.entry.Entry.{Entry}
-use Rattle.cmwq_model.specs.declared.record.Queueing.{Queueing}
-use Rattle.cmwq_model.specs.Prelude.{Layout, queueings, activated, newly_active, is_newly_active, worklist, is_listed, next, is_startable}
-use Rattle.cmwq_theory_active.proofs.Lists.{All_map, All_append, All_filter}
+use Rattle.cmwq_theory_steps.specs.Common.{◌≡◌, Bool, true, false, cond, List, [], ◌∷◌, Some, refl, find, AllByRecursion, PoolId, Entry, Queueing, Layout, queueings, became_active, newly_active, is_newly_active, worklist, is_listed, next, is_startable, All_map, All_append, All_filter}
 
 pub activated_all : (s : Layout) (P : List Entry → Queueing → Type 0) → ((e : Entry) (past : List Entry) (x : Queueing) → P past x → P (e ∷ past) x)
-    → ((past : List Entry) → AllByRecursion (P past) (queueings past)) → (past : List Entry) → AllByRecursion (P past) (activated s past)
-unfolding activated
+    → ((past : List Entry) → AllByRecursion (P past) (queueings past)) → (past : List Entry) → AllByRecursion (P past) (became_active s past)
+unfolding became_active
 activated_all s P more all [] = tt
 activated_all s P more all (e ∷ past) =
-    All_append (P (e ∷ past)) (activated s past) (newly_active s past e) (All_map (P past) (P (e ∷ past)) (activated s past) (more e past) (activated_all s P more all past))
+    All_append (P (e ∷ past)) (became_active s past) (newly_active s past e) (All_map (P past) (P (e ∷ past)) (became_active s past) (more e past) (activated_all s P more all past))
     (All_filter (P (e ∷ past)) (is_newly_active s past e) (queueings (e ∷ past)) (All_map (P (e ∷ past)) (λ x. is_newly_active s past e x ≡ true → P (e ∷ past) x) (queueings (e ∷ past)) (λ x h passes. h) (all (e ∷ past))))
 
 -- what is found passes, and has what all have
@@ -40,6 +33,6 @@ pub next_holds : (s : Layout) (P : List Entry → Queueing → Type 0) → ((e :
 unfolding next worklist
 next_holds s P more all past p x found =
     let Listed : Queueing → Type 0 = λ y. Found (P past) (is_listed s past p) y in
-    let listed = All_filter Listed (is_listed s past p) (activated s past) (All_map (P past) (λ y. is_listed s past p y ≡ true → Listed y) (activated s past) (λ y h passes. record { passes = passes; holds = h }) (activated_all s P more all past)) in
+    let listed = All_filter Listed (is_listed s past p) (became_active s past) (All_map (P past) (λ y. is_listed s past p y ≡ true → Listed y) (became_active s past) (λ y h passes. record { passes = passes; holds = h }) (activated_all s P more all past)) in
     let f = find_holds Listed (is_startable past) (worklist s past p) x listed found in
     record { startable = f.passes; listed = f.holds.passes; holds = f.holds.holds }

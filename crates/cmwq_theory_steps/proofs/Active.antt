@@ -1,21 +1,9 @@
 -- The active queueings are the first of the open ones, as many as there were and are, or as are within the width.
-use Rattle.std.proofs.Common.{◌≡◌, ◌<◌, ◌≤◌, ◌-◌, ◌+◌, ℕ, suc, min, max, Bool, true, false, cond, ◌&&◌, ◌||◌, List, [], ◌∷◌, ◌++◌, length, filter, count_by, take, nat_lt, Option, Some, None, option_to_list, refl, sym, ap, ap₂, ◌∙◌, arith, zero-add, subst}
-use Rattle.std.proofs.lemmas.Bool.{ltb-true, le-ltb}
-use Rattle.std.proofs.lemmas.Bool.Decides.{nat_tests}
-use Rattle.std.proofs.lemmas.List.{length-take}
-use Rattle.std.proofs.lemmas.List.Elements.{filter-append}
-use Rattle.std.specs.List.{AllByRecursion}
-use Rattle.cmwq_model.specs.declared.entry.Entry.{Entry}
-use Rattle.cmwq_model.specs.declared.record.Queueing.{Queueing}
-use Rattle.cmwq_model.specs.Prelude.{Layout, width, queueings, opening, is_live, still_open, is_active, is_ahead, is_below_max_active}
+use Rattle.cmwq_theory_steps.specs.Common.{◌≡◌, ◌<◌, ◌≤◌, ◌-◌, ◌+◌, ℕ, suc, min, max, Bool, true, false, cond, ◌&&◌, ◌||◌, List, [], ◌∷◌, ◌++◌, length, filter, count_by, take, nat_lt, Option, Some, None, option_to_list, refl, sym, ap, ap₂, ◌∙◌, arith, zero-add, subst, ltb-true, le-ltb, nat_tests, length-take, filter-append, AllByRecursion, Entry, Queueing, Layout, width, queueings, opening, is_live, still_open, is_active, is_ahead, is_below_max_active, All_map, All_each, All_filter, count_by-filter, count_by-none, count_by-cons, IsBelow, queueings_below, open_rise, rising_filter, opening_number, open_before, active_go_on, not_live}
 use Rattle.cmwq_theory_steps.specs.Places.{is_on, open_on, active_ended, active_count}
-use Rattle.cmwq_theory_active.proofs.Lists.{All_map, All_each, All_filter, count_by-filter, count_by-none, count_by-cons}
-use Rattle.cmwq_theory_steps.proofs.Filters.{filter_twice, filter_same, count_by-same}
+use Rattle.cmwq_lemmas.proofs.Filters.{filter_twice, filter_same, count_by-same}
 use Rattle.cmwq_theory_steps.proofs.Fronts.{IsFront, front_filter, front_append, front_same, front_or, front_taken, count_or, count_split}
 use Rattle.cmwq_theory_steps.proofs.Ranks.{is_below, Ranked, ranked_of}
-use Rattle.cmwq_theory_active.proofs.Rising.{IsBelow, queueings_below, open_rise, rising_filter, opening_number}
-use Rattle.cmwq_theory_active.proofs.Opens.{open_before}
-use Rattle.cmwq_theory_active.proofs.Joined.{active_go_on, not_live}
 
 -- ---- what is below max_active is a front, as long as the queue is wide
 

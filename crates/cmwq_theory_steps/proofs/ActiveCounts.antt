@@ -1,21 +1,11 @@
 -- How many are active on a queue and CPU after an entry, and what waits there.
-use Rattle.std.proofs.Common.{◌≡◌, ◌+◌, ◌-◌, ℕ, zero, suc, Bool, true, false, cond, not, ◌&&◌, List, [], ◌∷◌, ◌++◌, filter, count_by, take, drop, Option, Some, None, option_to_list, refl, sym, ap, ap₂, ◌∙◌, arith}
-use Rattle.std.specs.Option.{option_map_or}
-use Rattle.std.specs.List.{AllByRecursion}
-use Rattle.std.proofs.lemmas.List.Sums.{sum_by-append}
-use Rattle.std.proofs.lemmas.List.Filters.{sum_by-filter_both}
-use Rattle.cmwq_model.specs.declared.entry.Entry.{Entry}
-use Rattle.cmwq_model.specs.declared.record.Queueing.{Queueing}
-use Rattle.cmwq_model.specs.Prelude.{Layout, width, queueings, opening, is_live, still_open, is_below_max_active, is_active, is_newly_active, newly_active, IsLegal}
+use Rattle.cmwq_theory_steps.specs.Common.{◌≡◌, ◌+◌, ◌-◌, ℕ, zero, suc, Bool, true, false, cond, not, ◌&&◌, List, [], ◌∷◌, ◌++◌, filter, count_by, take, drop, Option, Some, None, option_to_list, refl, sym, ap, ap₂, ◌∙◌, arith, option_map_or, AllByRecursion, sum_by-append, sum_by-filter_both, Entry, Queueing, Layout, width, queueings, opening, is_live, still_open, is_below_max_active, is_active, is_newly_active, newly_active, IsLegal, All_each, count_by-cons, count_by-none, count_by-filter, opening_number, stays_active}
 use Rattle.cmwq_theory_steps.specs.Histories.{one}
 use Rattle.cmwq_theory_steps.specs.Places.{is_on, open_on, active_count}
 use Rattle.cmwq_theory_steps.specs.Endings.{survives, is_ended, ending}
 use Rattle.cmwq_theory_steps.specs.Activations.{waits, stay_count}
 use Rattle.cmwq_theory_steps.specs.Waiting.{candidates, has_none, waiting_on, is_active_on, ends_active_on}
-use Rattle.cmwq_theory_active.proofs.Lists.{All_each, count_by-cons, count_by-none, count_by-filter}
-use Rattle.cmwq_theory_active.proofs.Rising.{opening_number}
-use Rattle.cmwq_theory_active.proofs.Joined.{stays_active}
-use Rattle.cmwq_theory_steps.proofs.Filters.{filter_none, count_by-same}
+use Rattle.cmwq_lemmas.proofs.Filters.{filter_none, count_by-same}
 use Rattle.cmwq_theory_steps.proofs.Fronts.{IsFront, front_filter, count_split}
 use Rattle.cmwq_theory_steps.proofs.Active.{on_each, fronts_below_max_active, not_active_yet, active_counted}
 use Rattle.cmwq_theory_steps.proofs.Promoted.{newly_of_open, newly_active_on}
@@ -23,7 +13,7 @@ use Rattle.cmwq_theory_steps.proofs.Endings.{open_go_on}
 use Rattle.cmwq_theory_steps.proofs.Ended.{one_ends}
 use Rattle.cmwq_theory_steps.proofs.Waiting.{newly_are, waiting_goes_on}
 use Rattle.cmwq_theory_steps.proofs.Promoted.{turn_filters}
-use Rattle.cmwq_theory_steps.proofs.Truth.{flip, and_false}
+use Rattle.cmwq_lemmas.proofs.Truth.{flip, and_false}
 
 -- ---- where the first so many pass, the rest fail
 

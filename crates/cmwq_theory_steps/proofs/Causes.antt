@@ -1,25 +1,7 @@
 -- Why a call is answered as it is: each answer that changes anything, with what holds before it.
-use Rattle.std.proofs.Common.{◌≡◌, ◌+◌, ◌==◌, ℕ, Bool, true, false, not, ◌||◌, if◌then◌else◌, List, ◌∷◌, length, Option, Some, None, nat_lt, min, refl, sym, subst}
-use Rattle.cmwq_model.specs.declared.id.CpuId.{CpuId}
-use Rattle.cmwq_model.specs.declared.id.ItemId.{ItemId}
-use Rattle.cmwq_model.specs.declared.id.QueueId.{QueueId}
-use Rattle.cmwq_model.specs.declared.id.WorkerId.{WorkerId}
-use Rattle.cmwq_model.specs.declared.id.Who.{Who}
-use Rattle.cmwq_model.specs.declared.id.Who.TheVariants.{Caller, Worker}
-use Rattle.cmwq_model.specs.declared.call.Call.{Call}
-use Rattle.cmwq_model.specs.declared.reply.Reply.{Reply}
-use Rattle.cmwq_model.specs.declared.entry.Entry.{Entry}
-use Rattle.cmwq_model.specs.declared.record.Booking.{Booking}
-use Rattle.cmwq_model.specs.declared.record.Queueing.{Queueing}
-use Rattle.cmwq_model.specs.declared.record.Ticket.{Ticket}
-use Rattle.cmwq_model.specs.Prelude.{Layout, now, is_booked, standing, run, has_run, runs_awake, runs_asleep, unstarted, is_pending, is_item_open, runs_elsewhere, next}
-use Rattle.cmwq_model.specs.Prelude.{is_enlisted, runnable, enlisted_by, may_retire, is_cancelling, is_being_destroyed, is_gone, is_crowded, ticket_of, is_frozen, waits_for}
-use Rattle.cmwq_model.specs.Prelude.{answer, wait_answer, destroy_answer, set_max_answer, is_booked_on, may_call, is_shut, cancel_answer, taken_back, first_due, fired}
-use Rattle.cmwq_model.specs.Prelude.{flush_item_answer, is_held_back, flush_delayed_answer, cancel_sync_answer, taken_back_for, end_of_ticket, waiting_for, started, finished}
-use Rattle.cmwq_model.specs.Prelude.{finish_answer, retire_answer, IsLegal}
+use Rattle.cmwq_theory_steps.specs.Common.{◌≡◌, ◌+◌, ◌==◌, ℕ, Bool, true, false, not, ◌||◌, if◌then◌else◌, List, ◌∷◌, length, Option, Some, None, nat_lt, min, refl, sym, subst, CpuId, ItemId, QueueId, WorkerId, Who, Caller, Worker, Call, Reply, Entry, Booking, Queueing, Ticket, Layout, now, is_booked, standing, run, has_run, runs_awake, runs_asleep, unstarted_queueing, is_pending, is_item_open, runs_elsewhere, next, is_enlisted, runnable, enlisted_by, may_retire, is_cancelling, is_being_destroyed, is_gone, is_crowded, ticket_of, is_frozen, waits_for, answer, wait_answer, destroy_answer, set_max_answer, is_booked_on, may_call, is_shut, cancel_answer, taken_back_answer, first_due, fired_answer, flush_item_answer, is_held_back, flush_delayed_answer, cancel_sync_answer, taken_back_for, end_of_ticket, waiting_for, started_answer, finished_answer, finish_answer, retire_answer, IsLegal, list_any}
 use Rattle.cmwq_model.specs.declared.call.Call.TheVariants as call
 use Rattle.cmwq_model.specs.declared.reply.Reply.TheVariants as reply
-use Rattle.std.specs.List.{list_any}
 use Rattle.cmwq_theory_steps.proofs.Inversions.{answer_is}
 use Rattle.cmwq_theory_steps.proofs.QueueCases as queue
 use Rattle.cmwq_theory_steps.proofs.ModifyCases as modify
@@ -53,8 +35,8 @@ pub data Cause (s : Layout) (past : List Entry) : Who → Call → Reply → Typ
   modified_again : (who : Who) (i : ItemId) (q : QueueId) (c : CpuId) (t : ℕ) → (t == 0) ≡ true → IsFree past who i.0 q.0 t → is_pending past i.0 ≡ true → Cause s past who (call.Modify i q c t) (reply.Again (length past))
   modified_booked : (who : Who) (i : ItemId) (q : QueueId) (c : CpuId) (t : ℕ) → (t == 0) ≡ false → IsFree past who i.0 q.0 t → is_pending past i.0 ≡ false → Cause s past who (call.Modify i q c t) (reply.Booked (now past + t))
   modified_rebooked : (who : Who) (i : ItemId) (q : QueueId) (c : CpuId) (t : ℕ) → (t == 0) ≡ false → IsFree past who i.0 q.0 t → is_pending past i.0 ≡ true → Cause s past who (call.Modify i q c t) (reply.Rebooked (now past + t))
-  cancelled : (who : Who) (i : ItemId) (x : Queueing) → unstarted past i.0 ≡ Some x → Cause s past who (call.Cancel i) (reply.Cancelled x.number)
-  unbooked : (who : Who) (i : ItemId) → unstarted past i.0 ≡ None → is_booked past i.0 ≡ true → Cause s past who (call.Cancel i) reply.Unbooked
+  cancelled : (who : Who) (i : ItemId) (x : Queueing) → unstarted_queueing past i.0 ≡ Some x → Cause s past who (call.Cancel i) (reply.Cancelled x.number)
+  unbooked : (who : Who) (i : ItemId) → unstarted_queueing past i.0 ≡ None → is_booked past i.0 ≡ true → Cause s past who (call.Cancel i) reply.Unbooked
   told : (who : Who) (t : ℕ) → Cause s past who (call.Tick t) (reply.Now (now past + t))
   fires : (who : Who) (b : Booking) → first_due past ≡ Some b → Cause s past who call.Fire (reply.Fired b.item (length past))
   flushed : (who : Who) (q : QueueId) → is_crowded past who ≡ false → is_gone past q.0 ≡ false → Cause s past who (call.Flush q) (reply.Ticket (length past))
@@ -66,9 +48,9 @@ pub data Cause (s : Layout) (past : List Entry) : Who → Call → Reply → Typ
   item_flushed : (who : Who) (i : ItemId) → is_crowded past who ≡ false → is_item_open past i.0 ≡ true → Cause s past who (call.FlushItem i) (reply.Ticket (length past))
   delayed_queued : (who : Who) (i : ItemId) → is_crowded past who ≡ false → is_held_back past i.0 ≡ false → is_booked past i.0 ≡ true → Cause s past who (call.FlushDelayed i) (reply.TicketQueued (length past))
   delayed_flushed : (who : Who) (i : ItemId) → is_crowded past who ≡ false → is_booked past i.0 ≡ false → is_item_open past i.0 ≡ true → Cause s past who (call.FlushDelayed i) (reply.Ticket (length past))
-  sync_cancelled : (who : Who) (i : ItemId) (x : Queueing) → is_crowded past who ≡ false → unstarted past i.0 ≡ Some x → Cause s past who (call.CancelSync i) (reply.TicketCancelled (length past) x.number)
-  sync_unbooked : (who : Who) (i : ItemId) → is_crowded past who ≡ false → unstarted past i.0 ≡ None → is_booked past i.0 ≡ true → Cause s past who (call.CancelSync i) (reply.TicketUnbooked (length past))
-  sync_waits : (who : Who) (i : ItemId) → is_crowded past who ≡ false → unstarted past i.0 ≡ None → is_booked past i.0 ≡ false → Cause s past who (call.CancelSync i) (reply.TicketNo (length past))
+  sync_cancelled : (who : Who) (i : ItemId) (x : Queueing) → is_crowded past who ≡ false → unstarted_queueing past i.0 ≡ Some x → Cause s past who (call.CancelSync i) (reply.TicketCancelled (length past) x.number)
+  sync_unbooked : (who : Who) (i : ItemId) → is_crowded past who ≡ false → unstarted_queueing past i.0 ≡ None → is_booked past i.0 ≡ true → Cause s past who (call.CancelSync i) (reply.TicketUnbooked (length past))
+  sync_waits : (who : Who) (i : ItemId) → is_crowded past who ≡ false → unstarted_queueing past i.0 ≡ None → is_booked past i.0 ≡ false → Cause s past who (call.CancelSync i) (reply.TicketNo (length past))
   ended : (who : Who) (n : ℕ) (t : Ticket) → ticket_of past who n ≡ Some t → waits_for past t.number t.call ≡ None → Cause s past who (call.End n) reply.Done
   starts : (w : WorkerId) (x : Queueing) → is_enlisted past w ≡ true → has_run past w ≡ false → next s past w.pool ≡ Some x → nat_lt 0 (runnable s past w.pool) ≡ false → enlisted_by s past w ≡ None
       → Cause s past (Worker w) call.Take (reply.Started x.number)
@@ -114,14 +96,14 @@ modify_cause s past who i q c t r (modify.booked a g b d e p f) = modified_booke
 
 -- ---- cancel, fire, and the calls that give tickets
 
-cancel_cause : (s : Layout) (past : List Entry) (who : Who) (i : ItemId) (m : Bool) (o : Option Queueing) (b : Bool) → unstarted past i.0 ≡ o → is_booked past i.0 ≡ b
-    → Cause s past who (call.Cancel i) (if not m then reply.Misuse else taken_back o b)
+cancel_cause : (s : Layout) (past : List Entry) (who : Who) (i : ItemId) (m : Bool) (o : Option Queueing) (b : Bool) → unstarted_queueing past i.0 ≡ o → is_booked past i.0 ≡ b
+    → Cause s past who (call.Cancel i) (if not m then reply.Misuse else taken_back_answer o b)
 cancel_cause s past who i false o b ho hb = misuse who _
 cancel_cause s past who i true (Some x) b ho hb = cancelled who i x ho
 cancel_cause s past who i true None true ho hb = unbooked who i ho hb
 cancel_cause s past who i true None false ho hb = no who _
 
-fire_cause : (s : Layout) (past : List Entry) (who : Who) (o : Option Booking) → first_due past ≡ o → Cause s past who call.Fire (fired o (length past))
+fire_cause : (s : Layout) (past : List Entry) (who : Who) (o : Option Booking) → first_due past ≡ o → Cause s past who call.Fire (fired_answer o (length past))
 fire_cause s past who None h = nothing who _
 fire_cause s past who (Some b) h = fires who b h
 
@@ -171,7 +153,7 @@ flush_delayed_cause s past who i false false true d ha hb hc hd = delayed_queued
 flush_delayed_cause s past who i false false false true ha hb hc hd = delayed_flushed who i ha hc hd
 flush_delayed_cause s past who i false false false false ha hb hc hd = idle who _
 
-cancel_sync_cause : (s : Layout) (past : List Entry) (who : Who) (i : ItemId) (a : Bool) (o : Option Queueing) (b : Bool) → is_crowded past who ≡ a → unstarted past i.0 ≡ o → is_booked past i.0 ≡ b
+cancel_sync_cause : (s : Layout) (past : List Entry) (who : Who) (i : ItemId) (a : Bool) (o : Option Queueing) (b : Bool) → is_crowded past who ≡ a → unstarted_queueing past i.0 ≡ o → is_booked past i.0 ≡ b
     → Cause s past who (call.CancelSync i) (if a then reply.Crowded else taken_back_for (length past) o b)
 cancel_sync_cause s past who i true o b ha ho hb = crowded who _
 cancel_sync_cause s past who i false (Some x) b ha ho hb = sync_cancelled who i x ha ho
@@ -191,7 +173,7 @@ end_cause s past who n (Some t) h = wait_cause s past who n t (waits_for past t.
 -- ---- a worker's own calls
 
 start_cause : (s : Layout) (past : List Entry) (w : WorkerId) (x : Queueing) (o : Option ℕ) → is_enlisted past w ≡ true → has_run past w ≡ false → next s past w.pool ≡ Some x → nat_lt 0 (runnable s past w.pool) ≡ false → enlisted_by s past w ≡ o
-    → Cause s past (Worker w) call.Take (started x.number o)
+    → Cause s past (Worker w) call.Take (started_answer x.number o)
 start_cause s past w x None enlisted none found clear h = starts w x enlisted none found clear h
 start_cause s past w x (Some y) enlisted none found clear h = enlists w x y enlisted none found clear h
 
@@ -202,7 +184,7 @@ take_cause s past w r (take.nothing a) = nothing (Worker w) _
 take_cause s past w r (take.held x a b) = held (Worker w) _
 take_cause s past w r (take.starting x enlisted none found clear) = start_cause s past w x (enlisted_by s past w) enlisted none found clear refl
 
-finish_cause : (s : Layout) (past : List Entry) (w : WorkerId) (a : Bool) (o : Option ℕ) → runs_awake past w ≡ a → run past w ≡ o → Cause s past (Worker w) call.Finish (if a then finished o else reply.Misuse)
+finish_cause : (s : Layout) (past : List Entry) (w : WorkerId) (a : Bool) (o : Option ℕ) → runs_awake past w ≡ a → run past w ≡ o → Cause s past (Worker w) call.Finish (if a then finished_answer o else reply.Misuse)
 finish_cause s past w false o ha ho = misuse (Worker w) _
 finish_cause s past w true None ha ho = misuse (Worker w) _
 finish_cause s past w true (Some n) ha ho = finishes w n ha ho
@@ -229,14 +211,14 @@ unfolding answer wait_answer destroy_answer set_max_answer cancel_answer flush_i
 causes s past who (call.Queue i q c) = queue_cause s past who i q c _ (queue.queue_cases past who i.0 q.0 0)
 causes s past who (call.Delay i q c t) = delay_cause s past who i q c t _ (queue.queue_cases past who i.0 q.0 t)
 causes s past who (call.Modify i q c t) = modify_cause s past who i q c t _ (modify.modify_cases past who i.0 q.0 t)
-causes s past who (call.Cancel i) = cancel_cause s past who i (may_call past who) (unstarted past i.0) (is_booked past i.0) refl refl
+causes s past who (call.Cancel i) = cancel_cause s past who i (may_call past who) (unstarted_queueing past i.0) (is_booked past i.0) refl refl
 causes s past who (call.Tick t) = told who t
 causes s past who call.Fire = fire_cause s past who (first_due past) refl
 causes s past who (call.Flush q) = flush_cause s past who q (is_gone past q.0) (is_crowded past who) refl refl
 causes s past who (call.Drain q) = drain_cause s past who q (is_gone past q.0) (is_crowded past who) refl refl
 causes s past who (call.FlushItem i) = flush_item_cause s past who i (is_crowded past who) (is_item_open past i.0) refl refl
 causes s past who (call.FlushDelayed i) = flush_delayed_cause s past who i (is_crowded past who) (is_held_back past i.0) (is_booked past i.0) (is_item_open past i.0) refl refl refl refl
-causes s past who (call.CancelSync i) = cancel_sync_cause s past who i (is_crowded past who) (unstarted past i.0) (is_booked past i.0) refl refl refl
+causes s past who (call.CancelSync i) = cancel_sync_cause s past who i (is_crowded past who) (unstarted_queueing past i.0) (is_booked past i.0) refl refl refl
 causes s past who (call.End n) = end_cause s past who n (ticket_of past who n) refl
 causes s past (Caller c) call.Take = misuse (Caller c) _
 causes s past (Worker w) call.Take = take_cause s past w _ (take.take_cases s past w)

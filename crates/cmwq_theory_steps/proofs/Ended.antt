@@ -1,21 +1,8 @@
 -- What an entry ends is one queueing at most, and which.
-use Rattle.std.proofs.Common.{◌≡◌, ◌<◌, ◌≤◌, ◌+◌, ◌==◌, ℕ, Bool, true, false, cond, not, ◌&&◌, List, [], ◌∷◌, filter, find, count_by, Option, Some, None, option_to_list, refl, sym, ap, ap₂, ◌∙◌, subst, arith}
-use Rattle.std.specs.Prelude.{option_map, option_and_then, if◌then◌else◌}
-use Rattle.std.specs.Option.{option_or}
-use Rattle.std.specs.List.{AllByRecursion}
-use Rattle.std.proofs.lemmas.Bool.Decides.{nat_tests}
-use Rattle.cmwq_model.specs.declared.reply.Reply.{Reply}
-use Rattle.cmwq_model.specs.declared.entry.Entry.{Entry}
-use Rattle.cmwq_model.specs.declared.record.Queueing.{Queueing}
-use Rattle.cmwq_model.specs.Prelude.{Layout, is_at, item_of, is_of_item, number_finished, number_cancelled, replaces, is_started, queueings, queueing_at, has_number, is_live}
-use Rattle.cmwq_model.specs.Prelude.{still_open, is_unstarted, unstarted, IsLegal}
+use Rattle.cmwq_theory_steps.specs.Common.{◌≡◌, ◌<◌, ◌≤◌, ◌+◌, ◌==◌, ℕ, Bool, true, false, cond, not, ◌&&◌, List, [], ◌∷◌, filter, find, count_by, Option, Some, None, option_to_list, refl, sym, ap, ap₂, ◌∙◌, subst, arith, option_map, option_and_then, if◌then◌else◌, option_or, AllByRecursion, nat_tests, Reply, Entry, Queueing, Layout, is_at, item_of, is_of_item, number_finished, number_cancelled, replaces, is_started, queueings, queueing_at, has_number, is_live, still_open, is_unstarted, unstarted_queueing, IsLegal, IsRising, All_each, All_map, All_filter, count_by-cons, count_by-none, open_rise, active_live}
 use Rattle.cmwq_model.specs.declared.reply.Reply.TheVariants as reply
-use Rattle.cmwq_theory_active.specs.Rising.{IsRising}
 use Rattle.cmwq_theory_steps.specs.Endings.{is_ended, ending, number_ended}
-use Rattle.cmwq_theory_active.proofs.Lists.{All_each, All_map, All_filter, count_by-cons, count_by-none}
-use Rattle.cmwq_theory_steps.proofs.Filters.{find_same, count_by-wider, none_found, filter_one, find-filter}
-use Rattle.cmwq_theory_active.proofs.Rising.{open_rise}
-use Rattle.cmwq_theory_active.proofs.Joined.{active_live}
+use Rattle.cmwq_lemmas.proofs.Filters.{find_same, count_by-wider, none_found, filter_one, find-filter}
 use Rattle.cmwq_theory_steps.proofs.Activated.{find_holds}
 use Rattle.cmwq_theory_steps.proofs.StartsListed.{IsFound, queueings_found}
 use Rattle.cmwq_theory_steps.proofs.RunsActive.{found_number, run_is_active}
@@ -71,7 +58,7 @@ ended_is : (past : List Entry) (e : Entry) (x : Queueing) (f c : Option ℕ) (r 
 ended_is past e x f c r hf hc hr = word_of _ f _ c _ r (is_of_item x.item.0 e) (is_started past x.number) x.number hf hc hr
 
 abbrev ended_number : List Entry → Option ℕ → Option ℕ → Bool → Option ℕ → Option ℕ
-ended_number past f c r o = option_or f (option_or c (if r then option_and_then (λ i. option_map (λ (x : Queueing). x.number) (unstarted past i)) o else None))
+ended_number past f c r o = option_or f (option_or c (if r then option_and_then (λ i. option_map (λ (x : Queueing). x.number) (unstarted_queueing past i)) o else None))
 
 number_is : (past : List Entry) (e : Entry) (f c o : Option ℕ) (r : Bool) → number_finished e.reply ≡ f → number_cancelled e.reply ≡ c → replaces e.reply ≡ r → item_of e ≡ o → number_ended past e ≡ ended_number past f c r o
 number_is past e f c o r hf hc hr ho = ap₂ (λ x y. ended_number past x y (replaces e.reply) (item_of e)) hf hc ∙ ap₂ (λ x y. ended_number past f c x y) hr ho
@@ -80,7 +67,7 @@ number_is past e f c o r hf hc hr ho = ap₂ (λ x y. ended_number past x y (rep
 pub open_found : (past : List Entry) (n : ℕ) (x : Queueing) → queueing_at past n ≡ Some x → is_live past x ≡ true → option_map (λ (y : Queueing). y.number) (find (has_number n) (still_open past)) ≡ Some n
 open_found past n x found live = ap (option_map (λ (y : Queueing). y.number)) (find-filter (has_number n) (is_live past) x (queueings past) found live) ∙ ap Some (found_number past n x found)
 
-number_same : (m n : ℕ) → (m == n) ≡ (n == m)
+pub number_same : (m n : ℕ) → (m == n) ≡ (n == m)
 number_same m n = grind (arith, nat_tests)
 
 ended_finished : (s : Layout) (past : List Entry) (e : Entry) (m : ℕ) → IsLegal s (e ∷ past) → number_finished e.reply ≡ Some m → number_cancelled e.reply ≡ None → replaces e.reply ≡ false → EndTest past e
@@ -100,7 +87,7 @@ ended_finished s past e m legal hf hc hr =
     flip true = refl
     flip false = refl
 
-unstarted_found : (past : List Entry) (i : ℕ) (x : Queueing) → unstarted past i ≡ Some x → queueing_at past x.number ≡ Some x
+unstarted_found : (past : List Entry) (i : ℕ) (x : Queueing) → unstarted_queueing past i ≡ Some x → queueing_at past x.number ≡ Some x
 unstarted_found past i x h = (find_holds (IsFound past) (is_unstarted past i) (still_open past) x (All_filter (IsFound past) (is_live past) (queueings past) (All_map (IsFound past) (λ y. is_live past y ≡ true → IsFound past y) (queueings past) (λ y found live. found) (queueings_found past))) h).holds
 
 ended_cancelled : (s : Layout) (past : List Entry) (e : Entry) (m : ℕ) → IsLegal s (e ∷ past) → number_finished e.reply ≡ None → number_cancelled e.reply ≡ Some m → replaces e.reply ≡ false → EndTest past e

@@ -1,15 +1,7 @@
 -- What is open after one more entry.
-use Rattle.std.proofs.Common.{◌≡◌, ◌<◌, ℕ, Bool, true, false, cond, ◌&&◌, ◌||◌, not, List, [], ◌∷◌, ◌++◌, length, filter, Option, Some, None, option_to_list, nat_lt, refl, sym, ap, ap₂, ◌∙◌, arith}
-use Rattle.std.proofs.lemmas.Bool.{lt-ltb}
-use Rattle.std.proofs.lemmas.List.Elements.{filter-append}
-use Rattle.cmwq_model.specs.declared.entry.Entry.{Entry}
-use Rattle.cmwq_model.specs.declared.record.Queueing.{Queueing}
-use Rattle.cmwq_model.specs.Prelude.{Layout, is_of_item, finishes, takes_back, replaces, is_started, is_finished, is_cancelled, is_open, queueings, is_live, still_open, opening}
-use Rattle.cmwq_model.specs.Prelude.{IsLegal}
+use Rattle.cmwq_theory_steps.specs.Common.{◌≡◌, ◌<◌, ℕ, Bool, true, false, cond, ◌&&◌, ◌||◌, not, List, [], ◌∷◌, ◌++◌, length, filter, Option, Some, None, option_to_list, nat_lt, refl, sym, ap, ap₂, ◌∙◌, arith, lt-ltb, filter-append, Entry, Queueing, Layout, is_of_item, finishes, takes_back, replaces, is_started, is_finished, is_cancelled, is_open, queueings, is_live, still_open, opening, IsLegal, All_map, IsBelow, queueings_below, opening_number}
 use Rattle.cmwq_theory_steps.specs.Endings.{survives}
-use Rattle.cmwq_theory_active.proofs.Lists.{All_map}
-use Rattle.cmwq_theory_steps.proofs.Filters.{filter_twice, filter_same}
-use Rattle.cmwq_theory_active.proofs.Rising.{IsBelow, queueings_below, opening_number}
+use Rattle.cmwq_lemmas.proofs.Filters.{filter_twice, filter_same}
 use Rattle.cmwq_theory_steps.proofs.Fresh.{open_at_once}
 
 live_ended : (f a b t r : Bool) → (not (f || a) && not (b || t || r)) ≡ (not a && not b && (not f && not t && not r))

@@ -1,22 +1,9 @@
 -- The queueing that an entry ends, read off its reply, and an item's run as a queueing.
-use Rattle.std.proofs.Common.{◌≡◌, ℕ, List, ◌∷◌, Option, Some, None, refl, sym, ap, ◌∙◌}
-use Rattle.std.specs.Prelude.{option_map, option_and_then, if◌then◌else◌}
-use Rattle.std.specs.Option.{option_or}
-use Rattle.std.specs.List.{AllByRecursion}
-use Rattle.cmwq_model.specs.declared.id.Who.{Who}
-use Rattle.cmwq_model.specs.declared.id.Who.TheVariants.{Caller, Worker}
-use Rattle.cmwq_model.specs.declared.call.Call.{Call}
-use Rattle.cmwq_model.specs.declared.reply.Reply.{Reply}
-use Rattle.cmwq_model.specs.declared.entry.Entry.{Entry}
-use Rattle.cmwq_model.specs.declared.record.Queueing.{Queueing}
-use Rattle.cmwq_model.specs.declared.record.Start.{Start}
-use Rattle.cmwq_model.specs.Prelude.{Layout, item_called, item_fired, item_of, item_at, number_finished, number_cancelled, replaces, run, item_run, queueings, queueing_at}
-use Rattle.cmwq_model.specs.Prelude.{is_live, still_open, is_unstarted, unstarted, IsLegal}
+use Rattle.cmwq_theory_steps.specs.Common.{◌≡◌, ℕ, List, ◌∷◌, Option, Some, None, refl, sym, ap, ◌∙◌, option_map, option_and_then, if◌then◌else◌, option_or, AllByRecursion, Who, Caller, Worker, Call, Reply, Entry, Queueing, Start, Layout, item_called, item_fired, item_of, item_at, number_finished, number_cancelled, replaces, run, item_run, queueings, queueing_at, is_live, still_open, is_unstarted, unstarted_queueing, IsLegal, All_map, All_filter}
 use Rattle.cmwq_model.specs.declared.reply.Reply.TheVariants as reply
 use Rattle.cmwq_theory_steps.specs.Endings.{is_ended, ending}
 use Rattle.cmwq_theory_steps.specs.Reasons.{FinishesRun, TakesBack}
 use Rattle.cmwq_theory_steps.specs.ItemQueueings.{IsRunOf, queueing_run, ended_by}
-use Rattle.cmwq_theory_active.proofs.Lists.{All_map, All_filter}
 use Rattle.cmwq_theory_steps.proofs.Activated.{find_holds}
 use Rattle.cmwq_theory_steps.proofs.StartsListed.{IsFound, queueings_found}
 use Rattle.cmwq_theory_steps.proofs.RunsActive.{found_known, found_number}
@@ -57,12 +44,12 @@ same_found past (Some x) (Some y) ha hb h = ap Some (same_by_number past x y (ha
 ending_found : (past : List Entry) (e : Entry) (x : Queueing) → ending past e ≡ Some x → IsFound past x
 ending_found past e x h = (find_holds (IsFound past) (is_ended past e) (still_open past) x (open_found past) h).holds
 
-pub unstarted_found : (past : List Entry) (i : ℕ) (x : Queueing) → unstarted past i ≡ Some x → IsFound past x
+pub unstarted_found : (past : List Entry) (i : ℕ) (x : Queueing) → unstarted_queueing past i ≡ Some x → IsFound past x
 unstarted_found past i x h = (find_holds (IsFound past) (is_unstarted past i) (still_open past) x (open_found past) h).holds
 
 -- ---- what the reply tells is found
 
-of_item_found : (past : List Entry) (o : Option ℕ) (x : Queueing) → option_and_then (unstarted past) o ≡ Some x → IsFound past x
+of_item_found : (past : List Entry) (o : Option ℕ) (x : Queueing) → option_and_then (unstarted_queueing past) o ≡ Some x → IsFound past x
 of_item_found past None x h = cc
 of_item_found past (Some i) x h = unstarted_found past i x h
 
@@ -85,7 +72,7 @@ told_found past who item r x h = cc
 -- ---- and has the number that the entry ends
 
 abbrev replaced : List Entry → Option ℕ → Option ℕ
-replaced past item = option_and_then (λ i. option_map number_of (unstarted past i)) item
+replaced past item = option_and_then (λ i. option_map number_of (unstarted_queueing past i)) item
 
 abbrev number_by : List Entry → Option ℕ → Reply → Option ℕ
 number_by past item r = option_or (number_finished r) (option_or (number_cancelled r) (if replaces r then replaced past item else None))
@@ -96,11 +83,11 @@ run_number s past who c n legal f =
     ap (λ w. option_map number_of (queueing_run past w)) f.by_worker ∙ ap (λ o. option_map number_of (option_and_then (queueing_at past) o)) f.is_run
     ∙ ap (option_map number_of) r.found ∙ ap Some (found_number past n r.queueing r.found)
 
-back_number : (past : List Entry) (c : Call) (r : Reply) (n : ℕ) → TakesBack past c n → option_map number_of (option_and_then (unstarted past) (option_or (item_called c) (item_fired r))) ≡ Some n
+back_number : (past : List Entry) (c : Call) (r : Reply) (n : ℕ) → TakesBack past c n → option_map number_of (option_and_then (unstarted_queueing past) (option_or (item_called c) (item_fired r))) ≡ Some n
 back_number past c r n t =
-    ap (λ o. option_map number_of (option_and_then (unstarted past) (option_or o (item_fired r)))) t.is_item ∙ ap (option_map number_of) t.is_unstarted ∙ ap Some t.number
+    ap (λ o. option_map number_of (option_and_then (unstarted_queueing past) (option_or o (item_fired r)))) t.is_item ∙ ap (option_map number_of) t.is_unstarted ∙ ap Some t.number
 
-anew_number : (past : List Entry) (o : Option ℕ) → option_map number_of (option_and_then (unstarted past) o) ≡ replaced past o
+anew_number : (past : List Entry) (o : Option ℕ) → option_map number_of (option_and_then (unstarted_queueing past) o) ≡ replaced past o
 anew_number past None = refl
 anew_number past (Some i) = refl
 

@@ -1,15 +1,5 @@
 -- Entries and queueings by their numbers, as a history grows.
-use Rattle.std.proofs.Common.{◌≡◌, ◌-◌, ◌<◌, ℕ, suc, Bool, true, false, List, [], ◌∷◌, length, Option, Some, None, option_to_list, nat_lt, refl, sym, ap, ◌∙◌, arith}
-use Rattle.std.specs.Prelude.{option_map, option_and_then, if◌then◌else◌}
-use Rattle.std.specs.List.{AllByRecursion}
-use Rattle.std.proofs.lemmas.Bool.Decides.{nat_tests}
-use Rattle.cmwq_model.specs.declared.entry.Entry.{Entry}
-use Rattle.cmwq_model.specs.declared.record.Place.{Place}
-use Rattle.cmwq_model.specs.declared.record.Queueing.{Queueing}
-use Rattle.cmwq_model.specs.Prelude.{item_of, entry_at, item_at, queueings, opening, opens, queued_at, place_wanted, is_at}
-use Rattle.cmwq_theory_active.proofs.Lists.{All_map, All_append}
-use Rattle.cmwq_theory_active.proofs.Rising.{opening_number}
-use Rattle.std.proofs.lemmas.Bool.{eqb-true}
+use Rattle.cmwq_theory_steps.specs.Common.{◌≡◌, ◌-◌, ◌<◌, ℕ, suc, Bool, true, false, List, [], ◌∷◌, length, Option, Some, None, option_to_list, nat_lt, refl, sym, ap, ◌∙◌, arith, option_map, option_and_then, if◌then◌else◌, AllByRecursion, nat_tests, Entry, Place, Queueing, item_of, entry_at, item_at, queueings, opening, opens, queued_at, place_wanted, is_at, All_map, All_append, opening_number, eqb-true}
 
 pub entry_at-older : (e : Entry) (past : List Entry) (n : ℕ) → n < length past → entry_at (e ∷ past) n ≡ entry_at past n
 entry_at-older e past n less =

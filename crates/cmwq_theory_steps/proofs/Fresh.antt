@@ -1,13 +1,5 @@
 -- Numbers that replies speak of are those of older entries, so of a number that is still to come nothing was told.
-use Rattle.std.proofs.Common.{◌≡◌, ◌<◌, ◌≤◌, ℕ, true, false, ◌||◌, List, [], ◌∷◌, length, Option, Some, None, nat_lt, refl, ap₂, subst, arith}
-use Rattle.std.proofs.lemmas.Bool.{lt-ltb, le-ltb, eqb-true}
-use Rattle.std.proofs.lemmas.Bool.Decides.{nat_tests}
-use Rattle.std.specs.List.{AllByRecursion}
-use Rattle.cmwq_model.specs.declared.entry.Entry.{Entry}
-use Rattle.cmwq_model.specs.declared.record.Queueing.{Queueing}
-use Rattle.cmwq_model.specs.Prelude.{Layout, is_at, number_started, number_finished, number_cancelled, is_started, is_finished, is_cancelled, is_open, queueings, is_live}
-use Rattle.cmwq_model.specs.Prelude.{still_open, unstarted, is_unstarted, IsLegal}
-use Rattle.cmwq_theory_active.proofs.Lists.{All_map, All_filter}
+use Rattle.cmwq_theory_steps.specs.Common.{◌≡◌, ◌<◌, ◌≤◌, ℕ, true, false, ◌||◌, List, [], ◌∷◌, length, Option, Some, None, nat_lt, refl, ap₂, subst, arith, lt-ltb, le-ltb, eqb-true, nat_tests, AllByRecursion, Entry, Queueing, Layout, is_at, number_started, number_finished, number_cancelled, is_started, is_finished, is_cancelled, is_open, queueings, is_live, still_open, unstarted_queueing, is_unstarted, IsLegal, All_map, All_filter}
 use Rattle.cmwq_theory_steps.proofs.Entries.{IsKnown, queueings_known}
 use Rattle.cmwq_theory_steps.proofs.Activated.{find_holds}
 use Rattle.cmwq_theory_steps.proofs.ItemRuns.{run_is, started_older, starts_known}
@@ -35,7 +27,7 @@ pub record IsOpenOne (past : List Entry) (x : Queueing) : Type 0 where
 pub open_known : (past : List Entry) → AllByRecursion (λ x. IsOpenOne past x) (still_open past)
 open_known past = All_filter (λ x. IsOpenOne past x) (is_live past) (queueings past) (All_map (IsKnown past) (λ x. is_live past x ≡ true → IsOpenOne past x) (queueings past) (λ x known live. record { known = known; live = live }) (queueings_known past))
 
-pub unstarted_is : (past : List Entry) (i : ℕ) (x : Queueing) → unstarted past i ≡ Some x → IsWaiting past i x
+pub unstarted_is : (past : List Entry) (i : ℕ) (x : Queueing) → unstarted_queueing past i ≡ Some x → IsWaiting past i x
 unstarted_is past i x found =
     let f = find_holds (IsOpenOne past) (is_unstarted past i) (still_open past) x (open_known past) found in
     record { known = f.holds.known; live = f.holds.live; item = eqb-true x.item.0 i (grind arith); not_started = grind arith }

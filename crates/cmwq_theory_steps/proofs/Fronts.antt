@@ -1,12 +1,7 @@
 -- Tests that a list passes up to a place and fails from there on.
-use Rattle.std.proofs.Common.{◌≡◌, ◌≤◌, ◌+◌, ℕ, suc, max, Bool, true, false, cond, not, ◌&&◌, ◌||◌, List, [], ◌∷◌, ◌++◌, filter, count_by, take, refl, sym, ap, ap₂, ◌∙◌, arith}
-use Rattle.std.specs.List.{AllByRecursion}
-use Rattle.cmwq_theory_active.proofs.Lists.{All_map, All_append, All_filter, count_by-cons, count_by-none}
-use Rattle.cmwq_theory_steps.proofs.Filters.{filter_none, count_by-same}
-
-or_false : (a b : Bool) → (a || b) ≡ false → (a ≡ false) × (b ≡ false)
-or_false true b h = let bad : true ≡ false = h in cc
-or_false false b h = (refl, h)
+use Rattle.cmwq_theory_steps.specs.Common.{◌≡◌, ◌≤◌, ◌+◌, ℕ, suc, max, Bool, true, false, cond, not, ◌&&◌, ◌||◌, List, [], ◌∷◌, ◌++◌, filter, count_by, take, refl, sym, ap, ap₂, ◌∙◌, arith, AllByRecursion, All_map, All_append, All_filter, count_by-cons, count_by-none}
+use Rattle.cmwq_lemmas.proofs.Filters.{filter_none, count_by-same}
+use Rattle.std.proofs.lemmas.Bool.{or_parts}
 
 more_here : (a b : Bool) (m n k : ℕ) → k ≡ max m n → (a ≡ false → (m ≡ 0) × (k ≡ n)) → (b ≡ false → (n ≡ 0) × (k ≡ m)) → cond (a || b) 1 0 + k ≡ max (cond a 1 0 + m) (cond b 1 0 + n)
 more_here true true m n k is h l = grind arith
@@ -51,7 +46,7 @@ module _ {X : Type 0} where
 
   pub front_or : (f g : X → Bool) (xs : List X) → IsFront f xs → IsFront g xs → IsFront (λ x. f x || g x) xs
   front_or f g [] h k = tt
-  front_or f g (x ∷ xs) h k = ((λ none. let both = or_false (f x) (g x) none in neither xs (h.0 both.0) (k.0 both.1)), front_or f g xs h.1 k.1)
+  front_or f g (x ∷ xs) h k = ((λ none. let both = or_parts (f x) (g x) none in neither xs (h.0 both.0) (k.0 both.1)), front_or f g xs h.1 k.1)
     where
       neither : (ys : List X) → AllByRecursion (λ y. f y ≡ false) ys → AllByRecursion (λ y. g y ≡ false) ys → AllByRecursion (λ y. (f y || g y) ≡ false) ys
       neither [] h k = tt

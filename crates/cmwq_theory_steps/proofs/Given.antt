@@ -1,14 +1,5 @@
 -- Tickets by their numbers: each was given by the entry with its number.
-use Rattle.std.proofs.Common.{◌≡◌, ◌<◌, ℕ, Bool, true, false, List, [], ◌∷◌, length, Option, Some, None, option_to_list, refl, sym, ap, ◌∙◌, arith}
-use Rattle.std.specs.Prelude.{if◌then◌else◌}
-use Rattle.std.specs.List.{AllByRecursion}
-use Rattle.std.proofs.lemmas.Bool.{eqb-true}
-use Rattle.cmwq_model.specs.declared.id.Who.{Who}
-use Rattle.cmwq_model.specs.declared.id.Who.TheVariants.{Caller, Worker}
-use Rattle.cmwq_model.specs.declared.entry.Entry.{Entry}
-use Rattle.cmwq_model.specs.declared.record.Ticket.{Ticket}
-use Rattle.cmwq_model.specs.Prelude.{entry_at, tickets, unended, is_unended, ticket_in, ticket_for, gives_ticket, ticket_of, is_ticket}
-use Rattle.cmwq_theory_active.proofs.Lists.{All_map, All_append, All_filter}
+use Rattle.cmwq_theory_steps.specs.Common.{◌≡◌, ◌<◌, ℕ, Bool, true, false, List, [], ◌∷◌, length, Option, Some, None, option_to_list, refl, sym, ap, ◌∙◌, arith, if◌then◌else◌, AllByRecursion, eqb-true, Who, Caller, Worker, Entry, Ticket, entry_at, tickets, unended_tickets, is_unended, ticket_in, ticket_for, gives_ticket, ticket_of, is_ticket, All_map, All_append, All_filter}
 use Rattle.cmwq_theory_steps.proofs.Activated.{find_holds}
 use Rattle.cmwq_theory_steps.proofs.Entries.{entry_at-older, entry_at-newest}
 
@@ -41,7 +32,7 @@ tickets_given (e ∷ past) =
     All_append (IsGiven (e ∷ past)) (tickets past) (option_to_list (ticket_in e (length past))) (All_map (IsGiven past) (IsGiven (e ∷ past)) (tickets past) (given_more e past) (tickets_given past))
     (given_last e past (ticket_in e (length past)) (λ t h. given_now e past t (gives_ticket e.reply) e.who h))
 
-pub unended_given : (past : List Entry) → AllByRecursion (IsGiven past) (unended past)
+pub unended_given : (past : List Entry) → AllByRecursion (IsGiven past) (unended_tickets past)
 unended_given past = All_filter (IsGiven past) (is_unended past) (tickets past) (All_map (IsGiven past) (λ t. is_unended past t ≡ true → IsGiven past t) (tickets past) (λ t h stands. h) (tickets_given past))
 
 -- the ticket that a caller has under a number is that of the entry with this number
@@ -51,5 +42,5 @@ pub record IsTicketOf (past : List Entry) (n : ℕ) (t : Ticket) : Type 0 where
 
 pub ticket_is : (past : List Entry) (who : Who) (n : ℕ) (t : Ticket) → ticket_of past who n ≡ Some t → IsTicketOf past n t
 ticket_is past who n t h =
-    let found = find_holds (IsGiven past) (is_ticket who n) (unended past) t (unended_given past) h in
+    let found = find_holds (IsGiven past) (is_ticket who n) (unended_tickets past) t (unended_given past) h in
     record { number = eqb-true t.number n (grind arith); given = found.holds }

@@ -1,9 +1,5 @@
 -- Histories that grow.
-use Rattle.std.proofs.Common.{◌≡◌, List, [], ◌∷◌, ◌++◌, sym, ap, ◌∙◌, subst}
-use Rattle.std.specs.Prelude.{reverse}
-use Rattle.std.proofs.lemmas.List.{reverse-append, reverse-reverse}
-use Rattle.cmwq_model.specs.declared.entry.Entry.{Entry}
-use Rattle.cmwq_model.specs.Prelude.{Layout, IsLegal, past_of}
+use Rattle.cmwq_theory_steps.specs.Common.{◌≡◌, List, [], ◌∷◌, ◌++◌, sym, ap, ◌∙◌, subst, reverse, reverse-append, reverse-reverse, Entry, Layout, IsLegal, past_of}
 
 pub older_are_legal : (s : Layout) (newer past : List Entry) → IsLegal s (newer ++ past) → IsLegal s past
 unfolding IsLegal

@@ -1,7 +1,5 @@
 -- A legal entry's reply is the answer to its call.
-use Rattle.std.proofs.Common.{◌≡◌, List, ap, ◌∷◌}
-use Rattle.cmwq_model.specs.declared.entry.Entry.{Entry}
-use Rattle.cmwq_model.specs.Prelude.{Layout, answer, IsLegal}
+use Rattle.cmwq_theory_steps.specs.Common.{◌≡◌, List, ap, ◌∷◌, Entry, Layout, answer, IsLegal}
 
 pub answer_is : (s : Layout) (past : List Entry) (e : Entry) → IsLegal s (e ∷ past) → e.reply ≡ answer s past e.who e.call
 unfolding IsLegal

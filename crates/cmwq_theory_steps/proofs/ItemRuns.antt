@@ -1,20 +1,6 @@
 -- On a legal history the run of a worker is the run of its item.
-use Rattle.std.proofs.Common.{◌≡◌, ◌==◌, ◌<◌, ℕ, Bool, true, false, not, ◌&&◌, List, [], ◌∷◌, length, Option, Some, None, refl, sym, ap, ap₂, ◌∙◌, subst, arith}
-use Rattle.std.specs.Prelude.{option_map, option_and_then, is_some, if◌then◌else◌}
-use Rattle.std.specs.Option.{option_map_or}
-use Rattle.std.proofs.lemmas.Bool.{eqb-true, eq-eqb}
-use Rattle.std.proofs.Common.{inl, inr}
-use Rattle.std.proofs.lemmas.Bool.Decides.{eqb_tells}
-use mathlib.Core.Bool.{beq}
-use Rattle.cmwq_model.specs.declared.id.WorkerId.{WorkerId}
-use Rattle.cmwq_model.specs.declared.id.Who.{Who}
-use Rattle.cmwq_model.specs.declared.id.Who.TheVariants.{Worker}
-use Rattle.cmwq_model.specs.declared.entry.Entry.{Entry}
-use Rattle.cmwq_model.specs.declared.record.Start.{Start}
-use Rattle.cmwq_model.specs.Prelude.{Layout, is_at, is_by, same_worker, same_who, item_at, worker_of, number_started, is_open, is_number_open, last_start, run, item_start}
-use Rattle.cmwq_model.specs.Prelude.{item_run, item_runs, start_in, starts_item, IsLegal}
+use Rattle.cmwq_theory_steps.specs.Common.{◌≡◌, ◌==◌, ◌<◌, ℕ, Bool, true, false, not, ◌&&◌, List, [], ◌∷◌, length, Option, Some, None, refl, sym, ap, ap₂, ◌∙◌, subst, arith, option_map, option_and_then, is_some, if◌then◌else◌, option_map_or, eqb-true, eq-eqb, inl, inr, eqb_tells, beq, WorkerId, Who, Worker, Entry, Start, Layout, is_at, is_by, same_worker, same_who, item_at, worker_of, number_started, is_open, is_number_open, last_start, run, item_start, item_run, item_runs, start_in, starts_item, IsLegal, open_before}
 use Rattle.cmwq_theory_steps.proofs.Entries.{IsKnown, known_more, queueings_known, item_at-older}
-use Rattle.cmwq_theory_active.proofs.Opens.{open_before}
 use Rattle.cmwq_theory_steps.proofs.Activated.{next_holds}
 use Rattle.cmwq_theory_steps.proofs.Starts.{starts_next}
 

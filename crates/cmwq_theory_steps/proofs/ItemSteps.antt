@@ -1,16 +1,5 @@
 -- The run of an item after one more entry, and whose run it is.
-use Rattle.std.proofs.Common.{◌≡◌, ◌<◌, ℕ, Bool, true, false, not, ◌&&◌, List, [], ◌∷◌, length, Option, Some, None, refl, sym, ap, ◌∙◌, subst, arith}
-use Rattle.std.specs.Prelude.{option_map, option_and_then, is_some, if◌then◌else◌}
-use Rattle.std.specs.Option.{option_map_or}
-use Rattle.std.proofs.lemmas.Bool.{eq-eqb}
-use Rattle.cmwq_model.specs.declared.id.WorkerId.{WorkerId}
-use Rattle.cmwq_model.specs.declared.id.Who.{Who}
-use Rattle.cmwq_model.specs.declared.id.Who.TheVariants.{Caller, Worker}
-use Rattle.cmwq_model.specs.declared.reply.Reply.{Reply}
-use Rattle.cmwq_model.specs.declared.entry.Entry.{Entry}
-use Rattle.cmwq_model.specs.declared.record.Start.{Start}
-use Rattle.cmwq_model.specs.Prelude.{Layout, is_at, is_by, same_who, item_at, worker_of, number_started, number_finished, finishes, starts, is_started, is_open, run, has_run}
-use Rattle.cmwq_model.specs.Prelude.{item_start, item_run, start_in, starts_item, IsLegal}
+use Rattle.cmwq_theory_steps.specs.Common.{◌≡◌, ◌<◌, ℕ, Bool, true, false, not, ◌&&◌, List, [], ◌∷◌, length, Option, Some, None, refl, sym, ap, ◌∙◌, subst, arith, option_map, option_and_then, is_some, if◌then◌else◌, option_map_or, eq-eqb, WorkerId, Who, Caller, Worker, Reply, Entry, Start, Layout, is_at, is_by, same_who, item_at, worker_of, number_started, number_finished, finishes, starts, is_started, is_open, run, has_run, item_start, item_run, start_in, starts_item, IsLegal}
 use Rattle.cmwq_model.specs.declared.reply.Reply.TheVariants as reply
 use Rattle.cmwq_theory_steps.specs.RunSteps.{run_after, ends_run}
 use Rattle.cmwq_theory_steps.proofs.Entries.{item_at-older, is_at-true}

@@ -7,7 +7,6 @@ pub mod Ended
 pub mod Endings
 pub mod EndsAsTold
 pub mod Entries
-pub mod Filters
 pub mod Fresh
 pub mod Fronts
 pub mod Given
@@ -46,7 +45,6 @@ pub mod StartsListed
 pub mod StateSteps
 pub mod TakeCases
 pub mod TicketSteps
-pub mod Truth
 pub mod Unstarted
 pub mod Waiting
 pub mod Way

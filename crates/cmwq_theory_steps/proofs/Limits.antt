@@ -1,15 +1,8 @@
 -- How many queueings are open at once.
-use Rattle.std.proofs.Common.{◌≡◌, ◌≤◌, ◌<◌, ◌+◌, ℕ, Bool, true, false, cond, ◌&&◌, List, [], ◌∷◌, length, length-append, filter, count_by, Option, Some, None, option_to_list, refl, sym, ap, ◌∙◌, subst, arith}
-use Rattle.std.specs.Prelude.{◌*◌, is_some}
-use Rattle.std.specs.List.{AllByRecursion}
-use Rattle.std.proofs.lemmas.List.Filters.{length-filter_both, sum_by-filter_both}
-use Rattle.cmwq_model.specs.declared.entry.Entry.{Entry}
-use Rattle.cmwq_model.specs.declared.record.Queueing.{Queueing}
-use Rattle.cmwq_model.specs.Prelude.{Layout, is_started, queueings, still_open, opening, is_live, is_of, is_unstarted, has_not_started, IsLegal}
+use Rattle.cmwq_theory_steps.specs.Common.{◌≡◌, ◌≤◌, ◌<◌, ◌+◌, ℕ, Bool, true, false, cond, ◌&&◌, List, [], ◌∷◌, length, length-append, filter, count_by, Option, Some, None, option_to_list, refl, sym, ap, ◌∙◌, subst, arith, ◌*◌, is_some, AllByRecursion, length-filter_both, sum_by-filter_both, Entry, Queueing, Layout, is_started, queueings, still_open, opening, is_live, is_of, is_unstarted, has_not_started, IsLegal, All_map, All_append, All_filter, count_by-filter}
 use Rattle.cmwq_theory_steps.specs.Endings.{survives, is_ended, ending}
 use Rattle.cmwq_theory_steps.specs.Histories.{one}
 use Rattle.cmwq_theory_steps.specs.Pending.{is_run_of}
-use Rattle.cmwq_theory_active.proofs.Lists.{All_map, All_append, All_filter, count_by-filter}
 use Rattle.cmwq_theory_steps.proofs.OfEachKind.{no_longer}
 use Rattle.cmwq_theory_steps.proofs.Entries.{opening_item}
 use Rattle.cmwq_theory_steps.proofs.Endings.{open_go_on}

@@ -1,23 +1,10 @@
 -- The bits of items that an entry doesn't mark stay.
-use Rattle.std.proofs.Common.{◌≡◌, ◌+◌, ◌==◌, ℕ, Bool, true, false, not, ◌&&◌, ◌||◌, List, ◌∷◌, ◌++◌, append-nil, filter, Option, Some, None, option_to_list, refl, sym, ap, ap₂, ◌∙◌}
-use Rattle.std.specs.Prelude.{option_and_then, is_some, if◌then◌else◌}
-use Rattle.std.specs.Option.{option_or}
-use Rattle.std.specs.List.{AllByRecursion}
-use Rattle.std.proofs.lemmas.Bool.{eqb-true, eq-eqb}
-use Rattle.std.proofs.lemmas.List.Elements.{filter-append}
-use Rattle.cmwq_model.specs.declared.reply.Reply.{Reply}
-use Rattle.cmwq_model.specs.declared.entry.Entry.{Entry}
-use Rattle.cmwq_model.specs.declared.record.Queueing.{Queueing}
-use Rattle.cmwq_model.specs.declared.record.Start.{Start}
-use Rattle.cmwq_model.specs.Prelude.{Layout, is_at, item_called, item_fired, item_of, item_at, is_of_item, settles, is_booked, number_started, number_finished, number_cancelled}
-use Rattle.cmwq_model.specs.Prelude.{starts, finishes, takes_back, replaces, is_started, item_run, item_runs, start_in, starts_item, still_open, opening, is_unstarted}
-use Rattle.cmwq_model.specs.Prelude.{unstarted, IsLegal, bits}
+use Rattle.cmwq_theory_steps.specs.Common.{◌≡◌, ◌+◌, ◌==◌, ℕ, Bool, true, false, not, ◌&&◌, ◌||◌, List, ◌∷◌, ◌++◌, append-nil, filter, Option, Some, None, option_to_list, refl, sym, ap, ap₂, ◌∙◌, option_and_then, is_some, if◌then◌else◌, option_or, AllByRecursion, eqb-true, eq-eqb, filter-append, Reply, Entry, Queueing, Start, Layout, is_at, item_called, item_fired, item_of, item_at, is_of_item, settles, is_booked, number_started, number_finished, number_cancelled, starts, finishes, takes_back, replaces, is_started, item_run, item_runs, start_in, starts_item, still_open, opening, is_unstarted, unstarted_queueing, IsLegal, bits, All_map}
 use Rattle.cmwq_model.specs.declared.reply.Reply.TheVariants as reply
 use Rattle.cmwq_theory_steps.specs.Endings.{survives}
 use Rattle.cmwq_theory_steps.specs.RunSteps.{ends_run}
 use Rattle.cmwq_theory_steps.specs.Marks.{item_marked}
-use Rattle.cmwq_theory_active.proofs.Lists.{All_map}
-use Rattle.cmwq_theory_steps.proofs.Filters.{filter_twice, filter_same, filter_none}
+use Rattle.cmwq_lemmas.proofs.Filters.{filter_twice, filter_same, filter_none}
 use Rattle.cmwq_theory_steps.proofs.Entries.{IsKnown, opening_item, is_at-true}
 use Rattle.cmwq_theory_steps.proofs.Starts.{starts_next}
 use Rattle.cmwq_theory_steps.proofs.ItemRuns.{item_run_started}
@@ -32,7 +19,7 @@ use Rattle.cmwq_theory_steps.proofs.ItemSteps.{starts_some, starts_of, start_is,
 marks_own : (past : List Entry) (e : Entry) (i : ℕ) → is_of_item i e ≡ true → is_at (item_marked past e) i ≡ true
 marks_own past e i h = ap (λ o. is_at (option_or o (option_and_then (item_at past) (option_or (number_started e.reply) (number_finished e.reply)))) i) (is_at-true (item_of e) i h) ∙ eq-eqb i i refl
 
-no_item : (r : Reply) (n : ℕ) → number_started r ≡ Some n → item_fired r ≡ None
+pub no_item : (r : Reply) (n : ℕ) → number_started r ≡ Some n → item_fired r ≡ None
 no_item (reply.Fired i k) n h = cc
 no_item r n h = refl
 
@@ -157,9 +144,9 @@ opened_apart past e i (Some x) other h = (at (x.item.0 == i) refl, tt)
     at true k = apart _ (is_at (item_marked past e) i) other (marks_own past e i (ap (λ o. is_at o i) (opening_item e past x h) ∙ k))
     at false k = refl
 
-unstarted_stay : (s : Layout) (past : List Entry) (e : Entry) (i : ℕ) → IsLegal s (e ∷ past) → is_at (item_marked past e) i ≡ false → is_some (unstarted (e ∷ past) i) ≡ is_some (unstarted past i)
+unstarted_stay : (s : Layout) (past : List Entry) (e : Entry) (i : ℕ) → IsLegal s (e ∷ past) → is_at (item_marked past e) i ≡ false → is_some (unstarted_queueing (e ∷ past) i) ≡ is_some (unstarted_queueing past i)
 unfolding IsLegal
-unstarted_stay s past e i legal other = same (unstarted (e ∷ past) i) (unstarted past i) (sym (one_unstarted s (e ∷ past) i legal) ∙ lists ∙ one_unstarted s past i legal.2)
+unstarted_stay s past e i legal other = same (unstarted_queueing (e ∷ past) i) (unstarted_queueing past i) (sym (one_unstarted s (e ∷ past) i legal) ∙ lists ∙ one_unstarted s past i legal.2)
   where
     same : (a b : Option Queueing) → option_to_list a ≡ option_to_list b → is_some a ≡ is_some b
     same None None h = refl

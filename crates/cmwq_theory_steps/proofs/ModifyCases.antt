@@ -1,9 +1,5 @@
 -- The cases of the answer to modify, each with what holds in it.
-use Rattle.std.proofs.Common.{◌≡◌, ◌+◌, ◌==◌, ℕ, Bool, true, false, not, if◌then◌else◌, List, length, refl}
-use Rattle.cmwq_model.specs.declared.id.Who.{Who}
-use Rattle.cmwq_model.specs.declared.reply.Reply.{Reply}
-use Rattle.cmwq_model.specs.declared.entry.Entry.{Entry}
-use Rattle.cmwq_model.specs.Prelude.{now, is_pending, runs_elsewhere, is_cancelling, is_gone, may_call, is_shut, modify_answer}
+use Rattle.cmwq_theory_steps.specs.Common.{◌≡◌, ◌+◌, ◌==◌, ℕ, Bool, true, false, not, if◌then◌else◌, List, length, refl, Who, Reply, Entry, now, is_pending, runs_elsewhere, is_cancelling, is_gone, may_call, is_shut, modify_answer}
 use Rattle.cmwq_model.specs.declared.reply.Reply.TheVariants as reply
 
 pub data ModifyCase (past : List Entry) (who : Who) (i q t : ℕ) : Reply → Type 0 where

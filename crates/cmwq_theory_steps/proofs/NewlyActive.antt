@@ -1,33 +1,15 @@
 -- What one more entry makes active: the first behind the width where an active one ends, and what it opens where it is below max_active.
-use Rattle.std.proofs.Common.{◌≡◌, ◌<◌, ◌≤◌, ◌+◌, ◌==◌, ℕ, Bool, true, false, cond, not, ◌&&◌, ◌||◌, List, [], ◌∷◌, ◌++◌, length, filter, count_by, Option, Some, None, option_to_list, append-nil, nat_lt, refl, sym, ap, ap₂, ◌∙◌, subst, arith}
-use Rattle.std.specs.Prelude.{slice_get, if◌then◌else◌}
-use Rattle.std.specs.List.{AllByRecursion}
-use Rattle.std.proofs.lemmas.Bool.{ltb-true, ltb-false, eqb-true, le-ltb, or_right}
-use Rattle.std.proofs.lemmas.Bool.Decides.{nat_tests}
-use Rattle.std.proofs.lemmas.List.Elements.{filter-append}
-use Rattle.std.proofs.lemmas.List.Sums.{sum_by-append}
-use Rattle.std.proofs.lemmas.List.Filters.{sum_by-filter_both}
-use Rattle.cmwq_model.specs.declared.entry.Entry.{Entry}
-use Rattle.cmwq_model.specs.declared.record.Queueing.{Queueing}
-use Rattle.cmwq_model.specs.declared.reply.Reply.{Reply}
-use Rattle.cmwq_model.specs.Prelude.{Layout, is_at, is_of_item, number_finished, number_cancelled, replaces, is_started, width, queueings, opens, opening, is_live, still_open}
-use Rattle.cmwq_model.specs.Prelude.{is_ahead, is_below_max_active, is_active, newly_active, IsLegal}
+use Rattle.cmwq_theory_steps.specs.Common.{◌≡◌, ◌<◌, ◌≤◌, ◌+◌, ◌==◌, ℕ, Bool, true, false, cond, not, ◌&&◌, ◌||◌, List, [], ◌∷◌, ◌++◌, length, filter, count_by, Option, Some, None, option_to_list, append-nil, nat_lt, refl, sym, ap, ap₂, ◌∙◌, subst, arith, slice_get, if◌then◌else◌, AllByRecursion, ltb-true, ltb-false, eqb-true, le-ltb, or_right, nat_tests, filter-append, sum_by-append, sum_by-filter_both, Entry, Queueing, Reply, Layout, is_at, is_of_item, number_finished, number_cancelled, replaces, is_started, width, queueings, opens, opening, is_live, still_open, is_ahead, is_below_max_active, is_active, newly_active, IsLegal, keeps_widths, All_map, All_both, All_each, All_filter, All_unfilter, count_by-cons, opening_number, active_go_on, width_same, open_below}
 use Rattle.cmwq_model.specs.declared.reply.Reply.TheVariants as reply
 use Rattle.cmwq_theory_steps.specs.Endings.{survives, is_ended, ending}
 use Rattle.cmwq_theory_steps.specs.Activations.{waits, is_of_same_pwq, beside, behind_width, is_below_max_active_at_once}
-use Rattle.cmwq_theory_active.specs.Looks.{keeps_widths}
-use Rattle.cmwq_theory_active.proofs.Lists.{All_map, All_both, All_each, All_filter, All_unfilter, count_by-cons}
-use Rattle.cmwq_theory_steps.proofs.Filters.{filter_twice, filter_same, filter_none, count_by-same, count_by-wider}
-use Rattle.cmwq_theory_active.proofs.Rising.{opening_number}
+use Rattle.cmwq_lemmas.proofs.Filters.{filter_twice, filter_same, filter_none, count_by-same, count_by-wider}
 use Rattle.cmwq_theory_steps.proofs.Ranks.{is_below, one_ranked}
 use Rattle.cmwq_theory_steps.proofs.Active.{count_ahead, open_ranked, not_active_yet}
-use Rattle.cmwq_theory_active.proofs.Joined.{active_go_on}
 use Rattle.cmwq_theory_steps.proofs.Promoted.{newly_is, newly_of_open}
 use Rattle.cmwq_theory_steps.proofs.Pending.{opening_opens}
 use Rattle.cmwq_theory_steps.proofs.Endings.{opened_live, open_go_on}
 use Rattle.cmwq_theory_steps.proofs.Ended.{one_ends}
-use Rattle.cmwq_theory_active.proofs.Widths.{width_same}
-use Rattle.cmwq_theory_active.proofs.Rising.{open_below}
 
 -- ---- small things
 

@@ -1,13 +1,6 @@
 -- Lists of which each element is of one of some kinds.
-use Rattle.std.proofs.Common.{◌≡◌, ◌==◌, ◌<◌, ◌≤◌, ◌+◌, ℕ, zero, suc, Bool, true, not, ◌&&◌, List, [], ◌∷◌, length, filter, count_by, refl, arith}
-use Rattle.std.specs.Prelude.{◌*◌}
-use Rattle.std.specs.List.{AllByRecursion}
-use Rattle.std.proofs.lemmas.Bool.{and_parts}
-use Rattle.std.proofs.lemmas.Bool.Decides.{nat_tests}
-use Rattle.std.proofs.lemmas.List.Filters.{length-filter_both}
-use Rattle.std.proofs.lemmas.List.Sums.{length-filter}
-use Rattle.cmwq_theory_active.proofs.Lists.{All_map, All_each, All_filter, count_by-filter}
-use Rattle.cmwq_theory_steps.proofs.Filters.{count_by-wider}
+use Rattle.cmwq_theory_steps.specs.Common.{◌≡◌, ◌==◌, ◌<◌, ◌≤◌, ◌+◌, ℕ, zero, suc, Bool, true, not, ◌&&◌, List, [], ◌∷◌, length, filter, count_by, refl, arith, ◌*◌, AllByRecursion, and_parts, nat_tests, length-filter_both, length-filter, All_map, All_each, All_filter, count_by-filter}
+use Rattle.cmwq_lemmas.proofs.Filters.{count_by-wider}
 
 -- a list with at most k of each of n kinds is no longer than k times n
 module _ {X : Type 0} (kind : X → ℕ) (k : ℕ) where

@@ -1,18 +1,8 @@
 -- An open queueing that has started is the run of its item, so an item has one run at most.
-use Rattle.std.proofs.Common.{◌≡◌, ◌<◌, ◌≤◌, inl, inr, ℕ, Bool, true, false, ◌||◌, List, [], ◌∷◌, length, count_by, Option, Some, None, refl, sym, ap, ◌∙◌, arith}
-use Rattle.std.specs.Prelude.{option_map, is_some}
-use Rattle.std.specs.List.{AllByRecursion}
-use Rattle.std.proofs.lemmas.Bool.{false_from_ne_true, eqb-true, eq-eqb, cases_lt}
-use Rattle.cmwq_model.specs.declared.entry.Entry.{Entry}
-use Rattle.cmwq_model.specs.declared.record.Queueing.{Queueing}
-use Rattle.cmwq_model.specs.declared.record.Start.{Start}
-use Rattle.cmwq_model.specs.Prelude.{Layout, item_at, starts, number_started, is_started, is_open, item_run, queueings, still_open, is_live, has_number, IsLegal}
+use Rattle.cmwq_theory_steps.specs.Common.{◌≡◌, ◌<◌, ◌≤◌, inl, inr, ℕ, Bool, true, false, ◌||◌, List, [], ◌∷◌, length, count_by, Option, Some, None, refl, sym, ap, ◌∙◌, arith, option_map, is_some, AllByRecursion, false_from_ne_true, eqb-true, eq-eqb, cases_lt, Entry, Queueing, Start, Layout, item_at, starts, number_started, is_started, is_open, item_run, queueings, still_open, is_live, has_number, IsLegal, All_map, All_filter, count_by-none, open_rise, open_before}
 use Rattle.cmwq_theory_steps.specs.Pending.{is_run_of}
-use Rattle.cmwq_theory_active.proofs.Lists.{All_map, All_filter, count_by-none}
-use Rattle.cmwq_theory_steps.proofs.Filters.{count_by-wider}
-use Rattle.cmwq_theory_active.proofs.Rising.{open_rise}
+use Rattle.cmwq_lemmas.proofs.Filters.{count_by-wider}
 use Rattle.cmwq_theory_steps.proofs.Entries.{IsKnown, queueings_known, item_at-older, is_at-true}
-use Rattle.cmwq_theory_active.proofs.Opens.{open_before}
 use Rattle.cmwq_theory_steps.proofs.ItemRuns.{item_run_is, item_run_started, item_stays, starts_known, start_of_worker, starts_its_item, unmoved}
 use Rattle.cmwq_theory_steps.proofs.ItemSteps.{item_begun}
 use Rattle.cmwq_theory_steps.proofs.Fresh.{not_started_yet}

@@ -1,17 +1,6 @@
 -- A pool's worklist stands in the order in which its queueings became active.
-use Rattle.std.proofs.Common.{◌≡◌, ◌<◌, ◌≤◌, ℕ, Bool, true, false, cond, List, [], ◌∷◌, ◌++◌, length, filter, Option, Some, None, refl, ap, ◌∙◌, arith, inl, inr}
-use Rattle.std.specs.Prelude.{if◌then◌else◌}
-use Rattle.std.specs.List.{AllByRecursion}
-use Rattle.std.specs.Option.{option_or}
-use Rattle.cmwq_model.specs.declared.entry.Entry.{Entry}
-use Rattle.cmwq_model.specs.declared.record.Queueing.{Queueing}
-use Rattle.cmwq_model.specs.Prelude.{Layout, queueings, is_live, is_active, is_newly_active, newly_active, activated}
-use Rattle.cmwq_theory_active.specs.Rising.{IsRising}
+use Rattle.cmwq_theory_steps.specs.Common.{◌≡◌, ◌<◌, ◌≤◌, ℕ, Bool, true, false, cond, List, [], ◌∷◌, ◌++◌, length, filter, Option, Some, None, refl, ap, ◌∙◌, arith, inl, inr, if◌then◌else◌, AllByRecursion, option_or, Entry, Queueing, Layout, queueings, is_live, is_active, is_newly_active, newly_active, became_active, IsRising, All_map, All_both, All_append, All_each, All_filter, queueings_rise, rising_filter, open_before, stays_active, active_older, active_live}
 use Rattle.cmwq_theory_steps.specs.Order.{since, IsSooner, AreInOrder}
-use Rattle.cmwq_theory_active.proofs.Lists.{All_map, All_both, All_append, All_each, All_filter}
-use Rattle.cmwq_theory_active.proofs.Rising.{queueings_rise, rising_filter}
-use Rattle.cmwq_theory_active.proofs.Opens.{open_before}
-use Rattle.cmwq_theory_active.proofs.Joined.{stays_active, active_older, active_live}
 
 -- ---- since when a queueing is active
 
@@ -75,12 +64,12 @@ pub record HasSince (s : Layout) (past : List Entry) (x : Queueing) : Type 0 whe
   pub is : since s past x ≡ Some at
   pub within : at ≤ length past
 
-pub activated_since : (s : Layout) (past : List Entry) → AllByRecursion (HasSince s past) (activated s past)
-unfolding activated
+pub activated_since : (s : Layout) (past : List Entry) → AllByRecursion (HasSince s past) (became_active s past)
+unfolding became_active
 activated_since s [] = tt
 activated_since s (e ∷ past) =
-    All_append (HasSince s (e ∷ past)) (activated s past) (newly_active s past e)
-    (All_map (HasSince s past) (HasSince s (e ∷ past)) (activated s past) (λ x h. let within = h.within in record { at = h.at; is = since_keeps s e past x h.at h.is; within = omega arith }) (activated_since s past))
+    All_append (HasSince s (e ∷ past)) (became_active s past) (newly_active s past e)
+    (All_map (HasSince s past) (HasSince s (e ∷ past)) (became_active s past) (λ x h. let within = h.within in record { at = h.at; is = since_keeps s e past x h.at h.is; within = omega arith }) (activated_since s past))
     (All_filter (HasSince s (e ∷ past)) (is_newly_active s past e) (queueings (e ∷ past))
     (All_each (λ x. is_newly_active s past e x ≡ true → HasSince s (e ∷ past) x) (queueings (e ∷ past)) (λ x newly. record { at = length (e ∷ past); is = newly_since s past e x newly; within = omega arith })))
 
@@ -115,14 +104,14 @@ newly_all_since : (s : Layout) (past : List Entry) (e : Entry) → AllByRecursio
 newly_all_since s past e = All_filter (λ x. since s (e ∷ past) x ≡ Some (length (e ∷ past))) (is_newly_active s past e) (queueings (e ∷ past))
     (All_each (λ x. is_newly_active s past e x ≡ true → since s (e ∷ past) x ≡ Some (length (e ∷ past))) (queueings (e ∷ past)) (newly_since s past e))
 
-pub activated_in_order : (s : Layout) (past : List Entry) → AreInOrder s past (activated s past)
-unfolding activated
+pub activated_in_order : (s : Layout) (past : List Entry) → AreInOrder s past (became_active s past)
+unfolding became_active
 activated_in_order s [] = tt
 activated_in_order s (e ∷ past) =
-    in_order_append s (e ∷ past) (activated s past) (newly_active s past e)
-    (in_order_keeps s past e (activated s past) (activated_in_order s past))
+    in_order_append s (e ∷ past) (became_active s past) (newly_active s past e)
+    (in_order_keeps s past e (became_active s past) (activated_in_order s past))
     (one_moment s (e ∷ past) (length (e ∷ past)) (newly_active s past e) (rising_filter (is_newly_active s past e) (queueings (e ∷ past)) (queueings_rise (e ∷ past))) (newly_all_since s past e))
-    (All_map (HasSince s past) (λ x. AllByRecursion (IsSooner s (e ∷ past) x) (newly_active s past e)) (activated s past) before (activated_since s past))
+    (All_map (HasSince s past) (λ x. AllByRecursion (IsSooner s (e ∷ past) x) (newly_active s past e)) (became_active s past) before (activated_since s past))
   where
     before : (x : Queueing) → HasSince s past x → AllByRecursion (IsSooner s (e ∷ past) x) (newly_active s past e)
     before x h = All_map (λ y. since s (e ∷ past) y ≡ Some (length (e ∷ past))) (IsSooner s (e ∷ past) x) (newly_active s past e)

@@ -1,10 +1,5 @@
 -- What is owed while a history is frozen, after one more entry.
-use Rattle.std.proofs.Common.{◌≡◌, ◌+◌, List, ◌∷◌, refl, sym, ap}
-use Rattle.cmwq_model.specs.declared.id.Who.{Who}
-use Rattle.cmwq_model.specs.declared.call.Call.{Call}
-use Rattle.cmwq_model.specs.declared.reply.Reply.{Reply}
-use Rattle.cmwq_model.specs.declared.entry.Entry.{Entry}
-use Rattle.cmwq_model.specs.Prelude.{Layout, frozen_after, is_frozen, IsLegal}
+use Rattle.cmwq_theory_steps.specs.Common.{◌≡◌, ◌+◌, List, ◌∷◌, refl, sym, ap, Who, Call, Reply, Entry, Layout, frozen_after, is_frozen, IsLegal}
 use Rattle.cmwq_theory_steps.specs.Histories.{one}
 use Rattle.cmwq_theory_steps.specs.RoomSteps.{is_frozen_now, is_thawed_now}
 use Rattle.cmwq_theory_steps.proofs.Causes.{Cause, cause_of}

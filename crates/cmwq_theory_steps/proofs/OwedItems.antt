@@ -1,25 +1,10 @@
 -- What a history owes after one more entry: tickets, bookings and what waits to start.
-use Rattle.std.proofs.Common.{◌≡◌, ◌<◌, ◌+◌, ◌==◌, ℕ, Bool, true, false, ◌&&◌, not, List, [], ◌∷◌, length, length-append, filter, Option, Some, None, option_to_list, nat_lt, refl, sym, ap, ap₂, ◌∙◌, subst, arith}
-use Rattle.std.specs.Prelude.{option_and_then, is_some, if◌then◌else◌, IsTrue}
-use Rattle.std.specs.List.{range_with_len}
-use Rattle.std.specs.Option.{option_or, option_map_or}
-use Rattle.std.proofs.lemmas.Bool.{ltb-true, eqb-true, eq-eqb}
-use Rattle.std.proofs.lemmas.Bool.Decides.{nat_tests}
-use Rattle.std.proofs.lemmas.List.Filters.{length-filter_both}
-use Rattle.cmwq_model.specs.declared.id.Who.{Who}
-use Rattle.cmwq_model.specs.declared.call.Call.{Call}
-use Rattle.cmwq_model.specs.declared.reply.Reply.{Reply}
-use Rattle.cmwq_model.specs.declared.entry.Entry.{Entry}
-use Rattle.cmwq_model.specs.declared.record.Booking.{Booking}
-use Rattle.cmwq_model.specs.declared.record.Ticket.{Ticket}
-use Rattle.cmwq_model.specs.Prelude.{Layout, fits, may_make, has_numbers, is_at, item_called, item_fired, item_of, is_of_item, settles, due_in, booking, booking_of, booked_by}
-use Rattle.cmwq_model.specs.Prelude.{is_booked, gives_ticket, is_done, ticket_in, ticket_for, unended, IsLegal}
+use Rattle.cmwq_theory_steps.specs.Common.{◌≡◌, ◌<◌, ◌+◌, ◌==◌, ℕ, Bool, true, false, ◌&&◌, not, List, [], ◌∷◌, length, length-append, filter, Option, Some, None, option_to_list, nat_lt, refl, sym, ap, ap₂, ◌∙◌, subst, arith, option_and_then, is_some, if◌then◌else◌, IsTrue, range_with_len, option_or, option_map_or, ltb-true, eqb-true, eq-eqb, nat_tests, length-filter_both, Who, Call, Reply, Entry, Booking, Ticket, Layout, fits, may_make, has_numbers, is_at, item_called, item_fired, item_of, is_of_item, settles, due_in, booking, booking_of, booked_by, is_booked, gives_ticket, is_done, ticket_in, ticket_for, unended_tickets, IsLegal, All_each}
 use Rattle.cmwq_model.specs.declared.call.Call.TheVariants as call
 use Rattle.cmwq_theory_steps.specs.TicketSteps.{is_kept, is_ended_by, ticket_asked, ticket_ended}
 use Rattle.cmwq_theory_steps.specs.Histories.{one}
 use Rattle.cmwq_theory_steps.specs.RoomSteps.{booked_count, settles_booked}
-use Rattle.cmwq_theory_active.proofs.Lists.{All_each}
-use Rattle.cmwq_theory_steps.proofs.Filters.{count_by-same}
+use Rattle.cmwq_lemmas.proofs.Filters.{count_by-same}
 use Rattle.cmwq_theory_steps.proofs.Points.{count_point, is_number, number_once}
 use Rattle.cmwq_theory_steps.proofs.Standing.{booking_after, due_own, due_settles, made_for}
 use Rattle.cmwq_theory_steps.proofs.Causes.{Cause, cause_of}
@@ -46,12 +31,12 @@ given_length s past e legal = at (gives_ticket e.reply) refl
     at true h = let caller = ticket_reason s past e.who e.call e.reply (legal_fits s past e legal) (cause_of s past e legal) h in ap (λ (w : Who). length (option_to_list (ticket_for w e.call (length past)))) caller.1
     at false h = refl
 
-pub tickets_counted : (s : Layout) (past : List Entry) (e : Entry) → IsLegal s (e ∷ past) → length (unended (e ∷ past)) + one (is_done e.reply) ≡ length (unended past) + one (gives_ticket e.reply)
+pub tickets_counted : (s : Layout) (past : List Entry) (e : Entry) → IsLegal s (e ∷ past) → length (unended_tickets (e ∷ past)) + one (is_done e.reply) ≡ length (unended_tickets past) + one (gives_ticket e.reply)
 tickets_counted s past e legal =
-    let after : length (unended (e ∷ past)) ≡ length (filter (is_kept e) (unended past)) + length (option_to_list (ticket_in e (length past)))
-    = ap length (unended_go_on s past e legal) ∙ length-append (filter (is_kept e) (unended past)) (option_to_list (ticket_in e (length past))) in
-    let both = length-filter_both (is_kept e) (is_ended_by e) (λ t. twice (is_ended_by e t)) (unended past) in
-    let ended : length (filter (is_ended_by e) (unended past)) ≡ one (is_done e.reply) = ap length (one_ticket_ends past e) ∙ ended_length s past e legal in
+    let after : length (unended_tickets (e ∷ past)) ≡ length (filter (is_kept e) (unended_tickets past)) + length (option_to_list (ticket_in e (length past)))
+    = ap length (unended_go_on s past e legal) ∙ length-append (filter (is_kept e) (unended_tickets past)) (option_to_list (ticket_in e (length past))) in
+    let both = length-filter_both (is_kept e) (is_ended_by e) (λ t. twice (is_ended_by e t)) (unended_tickets past) in
+    let ended : length (filter (is_ended_by e) (unended_tickets past)) ≡ one (is_done e.reply) = ap length (one_ticket_ends past e) ∙ ended_length s past e legal in
     let given = given_length s past e legal in
     omega arith
   where

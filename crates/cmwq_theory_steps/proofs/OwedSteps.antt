@@ -1,27 +1,16 @@
 -- What a history owes after one more entry: runs, sleepers, bookings, tickets and what waits.
-use Rattle.std.proofs.Common.{◌≡◌, ◌<◌, ◌+◌, ℕ, Bool, true, false, ◌&&◌, not, List, ◌∷◌, count_by, Option, Some, None, nat_lt, refl, sym, ap, ap₂, ◌∙◌, subst, arith}
-use Rattle.std.specs.Prelude.{is_some, if◌then◌else◌, IsTrue}
-use Rattle.std.proofs.lemmas.Bool.{ltb-true}
-use Rattle.cmwq_model.specs.declared.id.CallerId.{CallerId}
-use Rattle.cmwq_model.specs.declared.id.WorkerId.{WorkerId}
-use Rattle.cmwq_model.specs.declared.id.Who.{Who}
-use Rattle.cmwq_model.specs.declared.id.Who.TheVariants.{Caller, Worker}
-use Rattle.cmwq_model.specs.declared.call.Call.{Call}
-use Rattle.cmwq_model.specs.declared.reply.Reply.{Reply}
-use Rattle.cmwq_model.specs.declared.entry.Entry.{Entry}
-use Rattle.cmwq_model.specs.Prelude.{Layout, fits, is_workers, has_numbers, is_by, same_who, same_worker, number_started, number_finished, run, has_run, asleep_after, is_asleep}
-use Rattle.cmwq_model.specs.Prelude.{runs_awake, runs_asleep, workers, IsLegal}
+use Rattle.cmwq_theory_steps.specs.Common.{◌≡◌, ◌<◌, ◌+◌, ℕ, Bool, true, false, ◌&&◌, not, List, ◌∷◌, count_by, Option, Some, None, nat_lt, refl, sym, ap, ap₂, ◌∙◌, subst, arith, is_some, if◌then◌else◌, IsTrue, ltb-true, CallerId, WorkerId, Who, Caller, Worker, Call, Reply, Entry, Layout, fits, is_workers, has_numbers, is_by, same_who, same_worker, number_started, number_finished, run, has_run, asleep_after, is_asleep, runs_awake, runs_asleep, workers, IsLegal, All_each}
 use Rattle.cmwq_theory_steps.specs.RunSteps.{run_after}
 use Rattle.cmwq_theory_steps.specs.Histories.{one}
 use Rattle.cmwq_theory_steps.specs.RoomSteps.{is_slept, is_woke, run_count, sleeper_count}
-use Rattle.cmwq_theory_active.proofs.Lists.{All_each}
-use Rattle.cmwq_theory_steps.proofs.Filters.{count_by-same}
+use Rattle.cmwq_lemmas.proofs.Filters.{count_by-same}
 use Rattle.cmwq_theory_steps.proofs.Points.{count_point, is_worker, worker_once}
 use Rattle.cmwq_theory_steps.proofs.ItemRuns.{same_worker-true, same_worker_itself}
 use Rattle.cmwq_theory_steps.proofs.RunSteps.{workers_run_on}
 use Rattle.cmwq_theory_steps.proofs.Causes.{Cause, cause_of}
 use Rattle.cmwq_theory_steps.proofs.Causes as cause
 use Rattle.cmwq_theory_steps.proofs.Reasons.{legal_fits}
+use Rattle.std.proofs.lemmas.Bool.{and_parts}
 
 -- ---- the worker of an entry is one of the layout's
 
@@ -138,11 +127,6 @@ awake_parts true false h = (refl, refl)
 awake_parts true true h = cc
 awake_parts false b h = cc
 
-asleep_parts : (a b : Bool) → (a && b) ≡ true → (a ≡ true) × (b ≡ true)
-asleep_parts true true h = (refl, refl)
-asleep_parts true false h = cc
-asleep_parts false b h = cc
-
 sleepers_balance : (s : Layout) (past : List Entry) (who : Who) (c : Call) (r : Reply) (w : WorkerId) → Cause s past who c r → who ≡ Worker w → one (sleeps_after past w r) + one (is_woke r) ≡ one (runs_asleep past w) + one (is_slept r)
 sleepers_balance s past who c r w (cause.starts v x enlisted idle found clear none) is =
     let none : has_run past w ≡ false = subst (λ u. has_run past u ≡ false) (same_starter v w is) idle in
@@ -157,7 +141,7 @@ sleepers_balance s past who c r w (cause.sleeps v awake) is =
     let parts = awake_parts (has_run past w) (is_asleep past w) (subst (λ u. runs_awake past u ≡ true) (same_starter v w is) awake) in
     ap (λ a. one (a && true) + 0) parts.0 ∙ ap₂ (λ a b. one (a && b) + 1) (sym parts.0) (sym parts.1)
 sleepers_balance s past who c r w (cause.wakes v asleep) is =
-    let parts = asleep_parts (has_run past w) (is_asleep past w) (subst (λ u. runs_asleep past u ≡ true) (same_starter v w is) asleep) in
+    let parts = and_parts (has_run past w) (is_asleep past w) (subst (λ u. runs_asleep past u ≡ true) (same_starter v w is) asleep) in
     ap (λ a. one (a && false) + 1) parts.0 ∙ ap₂ (λ a b. one (a && b) + 0) (sym parts.0) (sym parts.1)
 sleepers_balance s past who c r w other is = refl
 

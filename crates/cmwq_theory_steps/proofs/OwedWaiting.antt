@@ -1,23 +1,10 @@
 -- How many open queueings wait to start after one more entry.
-use Rattle.std.proofs.Common.{◌≡◌, ◌≤◌, ◌+◌, ◌==◌, ℕ, Bool, true, false, cond, ◌&&◌, ◌||◌, not, List, [], ◌∷◌, filter, find, count_by, Option, Some, None, option_to_list, refl, sym, ap, ap₂, ◌∙◌, arith}
-use Rattle.std.specs.Prelude.{option_map, is_some}
-use Rattle.std.specs.List.{AllByRecursion}
-use Rattle.std.specs.Option.{option_map_or}
-use Rattle.std.proofs.lemmas.Bool.{eqb-true, eq-eqb}
-use Rattle.std.proofs.lemmas.Bool.Decides.{nat_tests}
-use Rattle.std.proofs.lemmas.List.Filters.{sum_by-filter_both}
-use Rattle.std.proofs.lemmas.List.Sums.{sum_by-append}
-use Rattle.cmwq_model.specs.declared.entry.Entry.{Entry}
-use Rattle.cmwq_model.specs.declared.record.Queueing.{Queueing}
-use Rattle.cmwq_model.specs.Prelude.{Layout, is_at, is_of_item, number_started, starts, is_started, still_open, opening, has_number, has_not_started, IsLegal}
+use Rattle.cmwq_theory_steps.specs.Common.{◌≡◌, ◌≤◌, ◌+◌, ◌==◌, ℕ, Bool, true, false, cond, ◌&&◌, ◌||◌, not, List, [], ◌∷◌, filter, find, count_by, Option, Some, None, option_to_list, refl, sym, ap, ap₂, ◌∙◌, arith, option_map, is_some, AllByRecursion, option_map_or, eqb-true, eq-eqb, nat_tests, sum_by-filter_both, sum_by-append, Entry, Queueing, Layout, is_at, is_of_item, number_started, starts, is_started, still_open, opening, has_number, has_not_started, IsLegal, listed_live, All_each, count_by-cons, count_by-filter, open_rise}
 use Rattle.cmwq_theory_steps.specs.Endings.{survives, is_ended, ending}
 use Rattle.cmwq_theory_steps.specs.Histories.{one}
 use Rattle.cmwq_theory_steps.specs.RoomSteps.{waiting_count, ends_unstarted}
-use Rattle.cmwq_theory_active.proofs.Joined.{listed_live}
-use Rattle.cmwq_theory_active.proofs.Lists.{All_each, count_by-cons, count_by-filter}
-use Rattle.cmwq_theory_steps.proofs.Filters.{count_by-same, count_none, none_found}
+use Rattle.cmwq_lemmas.proofs.Filters.{count_by-same, count_none, none_found}
 use Rattle.cmwq_theory_steps.proofs.Points.{count_point}
-use Rattle.cmwq_theory_active.proofs.Rising.{open_rise}
 use Rattle.cmwq_theory_steps.proofs.StartsListed.{StartsListed, starts_listed, starts_anew}
 use Rattle.cmwq_theory_steps.proofs.Endings.{open_go_on}
 use Rattle.cmwq_theory_steps.proofs.RunSteps.{no_end}

@@ -1,10 +1,6 @@
 -- What is owed: nothing at first, and what after one more entry.
-use Rattle.std.proofs.Common.{◌≡◌, ◌+◌, List, [], ◌∷◌, count_by, refl, arith}
-use Rattle.std.specs.List.{range_with_len}
-use Rattle.cmwq_model.specs.declared.entry.Entry.{Entry}
-use Rattle.cmwq_model.specs.Prelude.{Layout, booking, is_booked, last_start, has_run, runs_asleep, queueings, tickets, is_frozen, workers, owed, IsLegal}
+use Rattle.cmwq_theory_steps.specs.Common.{◌≡◌, ◌+◌, List, [], ◌∷◌, count_by, refl, arith, range_with_len, Entry, Layout, booking, is_booked, last_start, has_run, runs_asleep, queueings, tickets, is_frozen, workers, owed, IsLegal, All_each, count_by-none}
 use Rattle.cmwq_theory_steps.specs.RoomSteps.{paid, taken_on}
-use Rattle.cmwq_theory_active.proofs.Lists.{All_each, count_by-none}
 use Rattle.cmwq_theory_steps.proofs.OwedSteps.{runs_counted, sleepers_counted}
 use Rattle.cmwq_theory_steps.proofs.OwedItems.{tickets_counted, booked_counted}
 use Rattle.cmwq_theory_steps.proofs.OwedWaiting.{waiting_counted}

@@ -1,23 +1,8 @@
 -- An item has one unstarted queueing at most, and none while it is booked.
-use Rattle.std.proofs.Common.{◌≡◌, ◌==◌, ◌≤◌, ◌+◌, ℕ, Bool, true, false, cond, ◌&&◌, ◌||◌, List, [], ◌∷◌, length, filter, count_by, Option, Some, None, option_to_list, refl, sym, ap, ap₂, ◌∙◌, subst, arith}
-use Rattle.std.specs.Prelude.{option_and_then, option_map, is_some, if◌then◌else◌}
-use Rattle.std.specs.Option.{option_or}
-use Rattle.std.proofs.lemmas.Bool.{eqb-true}
-use Rattle.std.proofs.Common.{inl, inr}
-use Rattle.std.proofs.lemmas.Bool.Decides.{eqb_tells}
-use Rattle.std.proofs.lemmas.List.Sums.{sum_by-append}
-use Rattle.cmwq_model.specs.declared.id.Who.{Who}
-use Rattle.cmwq_model.specs.declared.call.Call.{Call}
-use Rattle.cmwq_model.specs.declared.reply.Reply.{Reply}
-use Rattle.cmwq_model.specs.declared.entry.Entry.{Entry}
-use Rattle.cmwq_model.specs.declared.record.Booking.{Booking}
-use Rattle.cmwq_model.specs.declared.record.Queueing.{Queueing}
-use Rattle.cmwq_model.specs.Prelude.{Layout, is_at, item_of, item_called, item_fired, is_of_item, settles, due_in, booking, booking_of, booked_by, is_booked, replaces}
-use Rattle.cmwq_model.specs.Prelude.{still_open, opening, opens, queued_at, place_wanted, queueings, is_unstarted, unstarted, is_pending, IsLegal}
+use Rattle.cmwq_theory_steps.specs.Common.{◌≡◌, ◌==◌, ◌≤◌, ◌+◌, ℕ, Bool, true, false, cond, ◌&&◌, ◌||◌, List, [], ◌∷◌, length, filter, count_by, Option, Some, None, option_to_list, refl, sym, ap, ap₂, ◌∙◌, subst, arith, option_and_then, option_map, is_some, if◌then◌else◌, option_or, eqb-true, inl, inr, eqb_tells, sum_by-append, Who, Call, Reply, Entry, Booking, Queueing, Layout, is_at, item_of, item_called, item_fired, is_of_item, settles, due_in, booking, booking_of, booked_by, is_booked, replaces, still_open, opening, opens, queued_at, place_wanted, queueings, is_unstarted, unstarted_queueing, is_pending, IsLegal, All_each, count_by-cons, count_by-none, count_by-filter, find_none}
 use Rattle.cmwq_model.specs.declared.reply.Reply.TheVariants as reply
 use Rattle.cmwq_theory_steps.specs.Endings.{survives}
-use Rattle.cmwq_theory_active.proofs.Lists.{All_each, count_by-cons, count_by-none, count_by-filter, find_none}
-use Rattle.cmwq_theory_steps.proofs.Filters.{count_by-wider, count_none, none_found, filter_one}
+use Rattle.cmwq_lemmas.proofs.Filters.{count_by-wider, count_none, none_found, filter_one}
 use Rattle.cmwq_theory_steps.proofs.Entries.{opening_item}
 use Rattle.cmwq_theory_steps.proofs.Endings.{open_go_on}
 use Rattle.cmwq_theory_steps.proofs.Standing.{booking_after, due_own}
@@ -84,7 +69,7 @@ unstarted_count s past e i legal =
 pub waiting_was : (past : List Entry) (e : Entry) (i : ℕ) → count_by (waiting_now past e i) (still_open past) ≤ count_by (is_unstarted past i) (still_open past)
 waiting_was past e i = count_by-wider (waiting_now past e i) (is_unstarted past i) (still_open past) (All_each _ (still_open past) (λ x h. grind arith))
 
-pub none_unstarted : (past : List Entry) (i : ℕ) → unstarted past i ≡ None → count_by (is_unstarted past i) (still_open past) ≡ 0
+pub none_unstarted : (past : List Entry) (i : ℕ) → unstarted_queueing past i ≡ None → count_by (is_unstarted past i) (still_open past) ≡ 0
 none_unstarted past i h = count_by-none (is_unstarted past i) (still_open past) (find_none (is_unstarted past i) (still_open past) h)
 
 none_anew : (past : List Entry) (e : Entry) (i : ℕ) → replaces e.reply ≡ true → is_of_item i e ≡ true → count_by (waiting_now past e i) (still_open past) ≡ 0
@@ -96,8 +81,8 @@ none_anew past e i replacing is = count_by-none (waiting_now past e i) (still_op
       | inr other ↦ let its : (x.item.0 == i) ≡ false = other.0 in grind arith
     ]
 
-pub not_idle : (past : List Entry) (i : ℕ) → is_pending past i ≡ false → unstarted past i ≡ None
-not_idle past i h = here (is_booked past i) (unstarted past i) h
+pub not_idle : (past : List Entry) (i : ℕ) → is_pending past i ≡ false → unstarted_queueing past i ≡ None
+not_idle past i h = here (is_booked past i) (unstarted_queueing past i) h
   where
     here : (b : Bool) (o : Option Queueing) → (b || is_some o) ≡ false → o ≡ None
     here true o k = cc
@@ -178,11 +163,11 @@ unfolding IsLegal booking queueings
 few_pending s [] i legal = omega arith
 few_pending s (e ∷ past) i legal = few_more s past e i (settles e.reply) (is_of_item i e) legal refl refl (few_pending s past i legal.2)
 
-pub booked_or_unstarted : (s : Layout) (past : List Entry) (i : ℕ) → IsLegal s past → is_booked past i ≡ true → unstarted past i ≡ None
+pub booked_or_unstarted : (s : Layout) (past : List Entry) (i : ℕ) → IsLegal s past → is_booked past i ≡ true → unstarted_queueing past i ≡ None
 booked_or_unstarted s past i legal was =
     let few = few_pending s past i legal in
     let one : pending_count past i ≡ count_by (is_unstarted past i) (still_open past) + 1 = ap (λ b. count_by (is_unstarted past i) (still_open past) + cond b 1 0) was in
     none_found (is_unstarted past i) (still_open past) (count_none (is_unstarted past i) (still_open past) (omega arith))
 
-pub one_unstarted : (s : Layout) (past : List Entry) (i : ℕ) → IsLegal s past → filter (is_unstarted past i) (still_open past) ≡ option_to_list (unstarted past i)
+pub one_unstarted : (s : Layout) (past : List Entry) (i : ℕ) → IsLegal s past → filter (is_unstarted past i) (still_open past) ≡ option_to_list (unstarted_queueing past i)
 one_unstarted s past i legal = filter_one (is_unstarted past i) (still_open past) (let few = few_pending s past i legal in omega arith)

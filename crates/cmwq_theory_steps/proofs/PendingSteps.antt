@@ -1,15 +1,5 @@
 -- Which items are pending, and which run, after one more entry.
-use Rattle.std.proofs.Common.{◌≡◌, ◌+◌, ◌==◌, ℕ, Bool, true, false, cond, not, ◌&&◌, ◌||◌, List, ◌∷◌, length, Option, Some, None, refl, sym, ap, ap₂, ◌∙◌, subst}
-use Rattle.std.specs.Prelude.{option_map, option_and_then, is_some, if◌then◌else◌}
-use Rattle.std.specs.Option.{option_or, option_map_or}
-use Rattle.std.proofs.lemmas.Bool.{eq-eqb, eqb-true}
-use Rattle.cmwq_model.specs.declared.reply.Reply.{Reply}
-use Rattle.cmwq_model.specs.declared.entry.Entry.{Entry}
-use Rattle.cmwq_model.specs.declared.record.Queueing.{Queueing}
-use Rattle.cmwq_model.specs.declared.record.Start.{Start}
-use Rattle.cmwq_model.specs.Prelude.{Layout, is_at, item_fired, item_of, item_at, is_of_item, settles, due_in, booking_of, booked_by, is_booked, number_started, number_finished}
-use Rattle.cmwq_model.specs.Prelude.{number_cancelled, starts, finishes, takes_back, replaces, is_started, start_in, starts_item, item_run, item_runs, opens, opening, unstarted}
-use Rattle.cmwq_model.specs.Prelude.{is_pending, queued_at, place_wanted, IsLegal, bits, worker_of}
+use Rattle.cmwq_theory_steps.specs.Common.{◌≡◌, ◌+◌, ◌==◌, ℕ, Bool, true, false, cond, not, ◌&&◌, ◌||◌, List, ◌∷◌, length, Option, Some, None, refl, sym, ap, ap₂, ◌∙◌, subst, option_map, option_and_then, is_some, if◌then◌else◌, option_or, option_map_or, eq-eqb, eqb-true, Reply, Entry, Queueing, Start, Layout, is_at, item_fired, item_of, item_at, is_of_item, settles, due_in, booking_of, booked_by, is_booked, number_started, number_finished, number_cancelled, starts, finishes, takes_back, replaces, is_started, start_in, starts_item, item_run, item_runs, opens, opening, unstarted_queueing, is_pending, queued_at, place_wanted, IsLegal, bits, worker_of}
 use Rattle.cmwq_model.specs.declared.reply.Reply.TheVariants as reply
 use Rattle.cmwq_theory_steps.specs.Reasons.{TakesBack, unbooks}
 use Rattle.cmwq_theory_steps.specs.RunSteps.{ends_run}
@@ -31,7 +21,8 @@ use Rattle.cmwq_theory_steps.proofs.Unstarted.{unstarted_goes_on}
 use Rattle.cmwq_theory_steps.proofs.EndsAsTold.{same_by_number, unstarted_found}
 use Rattle.cmwq_theory_steps.proofs.Entries.{is_at-true}
 use Rattle.cmwq_theory_steps.proofs.Starts.{starts_next}
-use Rattle.cmwq_theory_steps.proofs.Truth.{or_true, differ}
+use Rattle.cmwq_lemmas.proofs.Truth.{or_true}
+use Rattle.std.proofs.lemmas.Bool.{true≢false}
 
 -- the test of a number is true where the numbers are the same, and false where that can't be
 told_apart : (n m : ℕ) (b : Bool) → (b ≡ true → n ≡ m) → (n ≡ m → b ≡ true) → (n == m) ≡ b
@@ -67,7 +58,7 @@ some_or : (a b : Option Queueing) → is_some b ≡ true → is_some (option_or 
 some_or None b h = h
 some_or (Some x) b h = refl
 
-none_opened : (past : List Entry) (e : Entry) → opens e.reply ≡ false → opening past e ≡ None
+pub none_opened : (past : List Entry) (e : Entry) → opens e.reply ≡ false → opening past e ≡ None
 none_opened past e h = ap (λ b. if b then option_and_then (λ i. option_map (queued_at past i) (place_wanted past e.call i)) (item_of e) else None) h
 
 settled_pending : (s : Layout) (past : List Entry) (e : Entry) (i : ℕ) → IsLegal s (e ∷ past) → settles e.reply ≡ true → is_of_item i e ≡ true → is_pending (e ∷ past) i ≡ makes_pending e.reply
@@ -77,13 +68,13 @@ settled_pending s past e i legal settled own = ap₂ (λ a b. a || b) booked (ap
     booked = ap is_some (booking_after past e i true (ap₂ (λ a b. a && b) settled own))
 
     at : (o : Bool) (d : Option ℕ) → opens e.reply ≡ o → due_in e.reply ≡ d
-        → (is_some (booking_of e (length past)) || is_some (option_or (still_unstarted past e (unstarted past i)) (of_item i (opening past e)))) ≡ (o || is_some d)
-    at true d ho hd = ap (λ b. is_some (booking_of e (length past)) || b) (some_or (still_unstarted past e (unstarted past i)) (of_item i (opening past e)) (opened_own s past e i legal ho own)) ∙ or_true (is_some (booking_of e (length past)))
-    at false (Some d) ho hd = let b = books_as_asked s past e d legal hd in ap (λ o. is_some o || is_some (option_or (still_unstarted past e (unstarted past i)) (of_item i (opening past e)))) b.books
+        → (is_some (booking_of e (length past)) || is_some (option_or (still_unstarted past e (unstarted_queueing past i)) (of_item i (opening past e)))) ≡ (o || is_some d)
+    at true d ho hd = ap (λ b. is_some (booking_of e (length past)) || b) (some_or (still_unstarted past e (unstarted_queueing past i)) (of_item i (opening past e)) (opened_own s past e i legal ho own)) ∙ or_true (is_some (booking_of e (length past)))
+    at false (Some d) ho hd = let b = books_as_asked s past e d legal hd in ap (λ o. is_some o || is_some (option_or (still_unstarted past e (unstarted_queueing past i)) (of_item i (opening past e)))) b.books
     at false None ho hd =
         let u = unbook_reason s past e.who e.call e.reply (cause_of s past e legal) (unbooked_else e.reply settled ho hd) in
         let mine : u.0 ≡ i = own_item i u.0 e (ap (λ o. option_or o (item_fired e.reply)) u.1) own in
-        let none : unstarted past i ≡ None = subst (λ j. unstarted past j ≡ None) mine u.3 in
+        let none : unstarted_queueing past i ≡ None = subst (λ j. unstarted_queueing past j ≡ None) mine u.3 in
         ap₂ (λ a b. is_some a || b) (ap (option_and_then (booked_by e.call (length past))) hd)
         (ap₂ (λ a b. is_some (option_or (still_unstarted past e a) (of_item i b))) none (none_opened past e ho))
 
@@ -97,15 +88,15 @@ opened_other past e i (Some x) other h =
     let no : (x.item.0 == i) ≡ false = sym (ap₂ (λ a b. a && b) settled item) ∙ other in
     ap (λ b. cond b (Some x) None) no
 
-not_finished : (s : Layout) (past : List Entry) (e : Entry) (n : ℕ) → IsLegal s (e ∷ past) → is_started past n ≡ false → finishes n e ≡ false
+pub not_finished : (s : Layout) (past : List Entry) (e : Entry) (n : ℕ) → IsLegal s (e ∷ past) → is_started past n ≡ false → finishes n e ≡ false
 not_finished s past e n legal new = at (number_finished e.reply) refl
   where
     at : (o : Option ℕ) → number_finished e.reply ≡ o → is_at o n ≡ false
     at None h = refl
-    at (Some m) h = told_apart m n false (λ k. absurd (differ (sym k))) (λ same.
+    at (Some m) h = told_apart m n false (λ k. absurd (true≢false (sym k))) (λ same.
         let f = finishes_run s past e m legal h in
         let begun : is_started past m ≡ true = last_started past f.worker m (run_is past f.worker m f.is_run).last in
-        absurd (differ (sym (subst (λ k. is_started past k ≡ true) same begun) ∙ new)))
+        absurd (true≢false (sym (subst (λ k. is_started past k ≡ true) same begun) ∙ new)))
 
 replacing_settles : (r : Reply) → replaces r ≡ true → settles r ≡ true
 replacing_settles (reply.Again k) h = refl
@@ -120,7 +111,7 @@ not_replaced e i u other = at (replaces e.reply) (is_of_item i e) refl refl
     at true false ha hb = refl
     at false b ha hb = refl
 
-taken_back_is : (s : Layout) (past : List Entry) (e : Entry) (i : ℕ) (x : Queueing) → IsLegal s (e ∷ past) → unstarted past i ≡ Some x → takes_back x.number e ≡ is_taken_back e i
+taken_back_is : (s : Layout) (past : List Entry) (e : Entry) (i : ℕ) (x : Queueing) → IsLegal s (e ∷ past) → unstarted_queueing past i ≡ Some x → takes_back x.number e ≡ is_taken_back e i
 taken_back_is s past e i x legal u = at (number_cancelled e.reply) refl
   where
     at : (o : Option ℕ) → number_cancelled e.reply ≡ o → is_at o x.number ≡ (is_some o && is_of_item i e)
@@ -136,7 +127,7 @@ taken_back_is s past e i x legal u = at (number_cancelled e.reply) refl
         same : is_of_item i e ≡ true → n ≡ x.number
         same own =
             let mine = own_item i t.item e item own in
-            let one : t.queueing ≡ x = some_same t.queueing x (sym t.is_unstarted ∙ ap (unstarted past) mine ∙ u) in
+            let one : t.queueing ≡ x = some_same t.queueing x (sym t.is_unstarted ∙ ap (unstarted_queueing past) mine ∙ u) in
             sym t.number ∙ ap (λ (y : Queueing). y.number) one
           where
             some_same : (a b : Queueing) → Some a ≡ Some b → a ≡ b
@@ -148,7 +139,7 @@ taken_back_is s past e i x legal u = at (number_cancelled e.reply) refl
             let mine : t.item ≡ i = sym (unstarted_is past t.item t.queueing t.is_unstarted).item ∙ ap (λ (y : Queueing). y.item.0) one ∙ (unstarted_is past i x u).item in
             ap (λ o. is_at o i) item ∙ eq-eqb t.item i mine
 
-starts_is : (s : Layout) (past : List Entry) (e : Entry) (i : ℕ) (x : Queueing) → IsLegal s (e ∷ past) → unstarted past i ≡ Some x → starts x.number e ≡ starts_item past e i
+starts_is : (s : Layout) (past : List Entry) (e : Entry) (i : ℕ) (x : Queueing) → IsLegal s (e ∷ past) → unstarted_queueing past i ≡ Some x → starts x.number e ≡ starts_item past e i
 starts_is s past e i x legal u = at (number_started e.reply) refl
   where
     at : (o : Option ℕ) → number_started e.reply ≡ o → is_at o x.number ≡ option_map_or (λ (start : Start). is_at (item_at past start.number) i) (option_and_then (λ w. option_map (λ n. record { worker = w; number = n }) o) (worker_of e.who)) false
@@ -183,21 +174,21 @@ left_is f t r st ti tb hf hr ht hs = ap₂ (λ x y. (not x && not t && not y) &&
 other_pending : (s : Layout) (past : List Entry) (e : Entry) (i : ℕ) → IsLegal s (e ∷ past) → is_settled e i ≡ false → is_pending (e ∷ past) i ≡ (is_pending past i && not (starts_item past e i) && not (is_taken_back e i))
 unfolding IsLegal
 other_pending s past e i legal other =
-    ap₂ (λ a b. a || b) (ap is_some (booking_after past e i false other)) (ap is_some (unstarted_goes_on s past e i legal ∙ ap (option_or (still_unstarted past e (unstarted past i))) (opened_other past e i (opening past e) other refl)))
-    ∙ at (unstarted past i) refl
+    ap₂ (λ a b. a || b) (ap is_some (booking_after past e i false other)) (ap is_some (unstarted_goes_on s past e i legal ∙ ap (option_or (still_unstarted past e (unstarted_queueing past i))) (opened_other past e i (opening past e) other refl)))
+    ∙ at (unstarted_queueing past i) refl
   where
     either : (b : Bool) (x : Queueing) → is_some (option_or (cond b (Some x) None) None) ≡ b
     either true x = refl
     either false x = refl
 
-    not_booked : (x : Queueing) → unstarted past i ≡ Some x → is_booked past i ≡ false
+    not_booked : (x : Queueing) → unstarted_queueing past i ≡ Some x → is_booked past i ≡ false
     not_booked x u = by (is_booked past i) refl
       where
         by : (b : Bool) → is_booked past i ≡ b → b ≡ false
         by false h = refl
         by true h = let none = booked_or_unstarted s past i legal.2 h in cc
 
-    not_begun : unstarted past i ≡ None → starts_item past e i ≡ false
+    not_begun : unstarted_queueing past i ≡ None → starts_item past e i ≡ false
     not_begun u = by (starts_item past e i) refl
       where
         by : (b : Bool) → starts_item past e i ≡ b → b ≡ false
@@ -208,7 +199,7 @@ other_pending s past e i legal other =
             let was = started_was s past e i start.0.number legal st.number st.item in
             let some = was.1 in cc
 
-    not_back : unstarted past i ≡ None → is_taken_back e i ≡ false
+    not_back : unstarted_queueing past i ≡ None → is_taken_back e i ≡ false
     not_back u = by (number_cancelled e.reply) (is_of_item i e) refl refl
       where
         by : (o : Option ℕ) (b : Bool) → number_cancelled e.reply ≡ o → is_of_item i e ≡ b → (is_some o && b) ≡ false
@@ -217,13 +208,13 @@ other_pending s past e i legal other =
         by (Some n) true h own =
             let t = takes_back_unstarted s past e n legal h in
             let mine = own_item i t.item e (ap (λ o. option_or o (item_fired e.reply)) t.is_item) own in
-            let some : unstarted past i ≡ Some t.queueing = ap (unstarted past) (sym mine) ∙ t.is_unstarted in cc
+            let some : unstarted_queueing past i ≡ Some t.queueing = ap (unstarted_queueing past) (sym mine) ∙ t.is_unstarted in cc
 
     keeps : (b : Bool) → (b || false) ≡ ((b || false) && not false && not false)
     keeps true = refl
     keeps false = refl
 
-    at : (o : Option Queueing) → unstarted past i ≡ o → (is_booked past i || is_some (option_or (still_unstarted past e o) None)) ≡ ((is_booked past i || is_some o) && not (starts_item past e i) && not (is_taken_back e i))
+    at : (o : Option Queueing) → unstarted_queueing past i ≡ o → (is_booked past i || is_some (option_or (still_unstarted past e o) None)) ≡ ((is_booked past i || is_some o) && not (starts_item past e i) && not (is_taken_back e i))
     at None u = keeps (is_booked past i) ∙ sym (ap₂ (λ a b. (is_booked past i || false) && not a && not b) (not_begun u) (not_back u))
     at (Some x) u =
         let w = unstarted_is past i x u in

@@ -1,15 +1,5 @@
 -- Counts that differ at one element, and that element among numbers and among a layout's workers.
-use Rattle.std.proofs.Common.{◌≡◌, ◌<◌, ◌≤◌, ◌+◌, ◌==◌, ℕ, zero, suc, Bool, true, false, cond, ◌&&◌, List, [], ◌∷◌, map, count_by, refl, sym, ap, ap₂, ◌∙◌, arith}
-use Rattle.std.specs.Prelude.{flat_map}
-use Rattle.std.specs.List.{range_with_len}
-use Rattle.std.proofs.lemmas.Bool.{eqb-true}
-use Rattle.std.proofs.lemmas.Bool.Decides.{nat_tests}
-use Rattle.std.proofs.lemmas.List.Sums.{sum_by-append}
-use mathlib.Core.Bool.{beq}
-use Rattle.cmwq_model.specs.declared.id.PoolId.{PoolId}
-use Rattle.cmwq_model.specs.declared.id.WorkerId.{WorkerId}
-use Rattle.cmwq_model.specs.Prelude.{Layout, indices, same_pool, same_worker, worker_at, pool_workers, cpu_workers, workers}
-use Rattle.cmwq_theory_active.proofs.Lists.{count_by-cons}
+use Rattle.cmwq_theory_steps.specs.Common.{◌≡◌, ◌<◌, ◌≤◌, ◌+◌, ◌==◌, ℕ, zero, suc, Bool, true, false, cond, ◌&&◌, List, [], ◌∷◌, map, count_by, refl, sym, ap, ap₂, ◌∙◌, arith, flat_map, range_with_len, eqb-true, nat_tests, sum_by-append, beq, PoolId, WorkerId, Layout, indices, same_pool, same_worker, worker_at, pool_workers, cpu_workers, workers, count_by-cons}
 
 -- ---- two tests that agree but for one element
 

@@ -1,29 +1,9 @@
 -- Runs, queueings and bookings of one item keep together: on one queue, and in one pool.
-use Rattle.std.proofs.Common.{◌≡◌, ◌==◌, ℕ, Bool, true, false, not, ◌&&◌, List, [], ◌∷◌, ◌++◌, length, filter, Option, Some, None, option_to_list, refl, sym, ap, ap₂, ◌∙◌, subst, arith}
-use Rattle.std.specs.Prelude.{option_map, option_and_then, is_some, if◌then◌else◌}
-use Rattle.std.specs.Option.{option_or, option_map_or}
-use Rattle.std.specs.List.{AllByRecursion}
-use Rattle.std.proofs.lemmas.Bool.{eq-eqb, eqb-true}
-use Rattle.cmwq_model.specs.declared.id.CpuId.{CpuId}
-use Rattle.cmwq_model.specs.declared.id.PoolId.{PoolId}
-use Rattle.cmwq_model.specs.declared.id.WorkerId.{WorkerId}
-use Rattle.cmwq_model.specs.declared.id.Who.{Who}
-use Rattle.cmwq_model.specs.declared.call.Call.{Call}
-use Rattle.cmwq_model.specs.declared.reply.Reply.{Reply}
-use Rattle.cmwq_model.specs.declared.entry.Entry.{Entry}
-use Rattle.cmwq_model.specs.declared.record.Booking.{Booking}
-use Rattle.cmwq_model.specs.declared.record.Place.{Place}
-use Rattle.cmwq_model.specs.declared.record.Queueing.{Queueing}
-use Rattle.cmwq_model.specs.declared.record.Start.{Start}
-use Rattle.cmwq_model.specs.Prelude.{Layout, pool_at, queue_at, is_at, same_pool, item_called, item_fired, is_of_item, item_at, settles, due_in, booked_by, booking}
-use Rattle.cmwq_model.specs.Prelude.{number_started, starts, is_started, run, item_start, item_run, start_in, starts_item, queueings, queueing_at, queue_of, has_number, is_live}
-use Rattle.cmwq_model.specs.Prelude.{still_open, opening, opens, queued_at, place_wanted, cpu_for, is_unstarted, unstarted, runs_elsewhere, IsLegal}
+use Rattle.cmwq_theory_steps.specs.Common.{◌≡◌, ◌==◌, ℕ, Bool, true, false, not, ◌&&◌, List, [], ◌∷◌, ◌++◌, length, filter, Option, Some, None, option_to_list, refl, sym, ap, ap₂, ◌∙◌, subst, arith, option_map, option_and_then, is_some, if◌then◌else◌, option_or, option_map_or, AllByRecursion, eq-eqb, eqb-true, CpuId, PoolId, WorkerId, Who, Call, Reply, Entry, Booking, Place, Queueing, Start, Layout, pool_at, queue_at, is_at, same_pool, item_called, item_fired, is_of_item, item_at, settles, due_in, booked_by, booking, number_started, starts, is_started, run, item_start, item_run, start_in, starts_item, queueings, queueing_at, queue_of, has_number, is_live, still_open, opening, opens, queued_at, place_wanted, cpu_for, is_unstarted, unstarted_queueing, runs_elsewhere, IsLegal, All_map, All_unfilter, All_append, All_filter, active_live, listed_live}
 use Rattle.cmwq_model.specs.declared.reply.Reply.TheVariants as reply
 use Rattle.cmwq_theory_steps.specs.Endings.{survives}
 use Rattle.cmwq_theory_steps.specs.RunSteps.{ends_run}
 use Rattle.cmwq_theory_steps.specs.Pools.{IsRunIn}
-use Rattle.cmwq_theory_active.proofs.Lists.{All_map, All_unfilter, All_append, All_filter}
-use Rattle.cmwq_theory_active.proofs.Joined.{active_live, listed_live}
 use Rattle.cmwq_theory_steps.proofs.RunsActive.{run_is_active, found_known}
 use Rattle.cmwq_theory_steps.proofs.Activated.{find_holds}
 use Rattle.cmwq_theory_steps.proofs.Entries.{is_at-true}
@@ -52,8 +32,8 @@ runs_are_in_pools s past w n legal runs =
 
 -- ---- what is open and not started is the item's unstarted queueing
 
-pub unstarted_alone : (s : Layout) (past : List Entry) (i : ℕ) → IsLegal s past → AllByRecursion (λ x. is_unstarted past i x ≡ true → unstarted past i ≡ Some x) (still_open past)
-unstarted_alone s past i legal = All_unfilter (λ x. unstarted past i ≡ Some x) (is_unstarted past i) (still_open past) (subst (AllByRecursion (λ x. unstarted past i ≡ Some x)) (sym (one_unstarted s past i legal)) (each (unstarted past i)))
+pub unstarted_alone : (s : Layout) (past : List Entry) (i : ℕ) → IsLegal s past → AllByRecursion (λ x. is_unstarted past i x ≡ true → unstarted_queueing past i ≡ Some x) (still_open past)
+unstarted_alone s past i legal = All_unfilter (λ x. unstarted_queueing past i ≡ Some x) (is_unstarted past i) (still_open past) (subst (AllByRecursion (λ x. unstarted_queueing past i ≡ Some x)) (sym (one_unstarted s past i legal)) (each (unstarted_queueing past i)))
   where
     each : (o : Option Queueing) → AllByRecursion (λ x. o ≡ Some x) (option_to_list o)
     each None = tt
@@ -111,14 +91,14 @@ booked_at s past who c r i n b other is h = cc
 -- ---- what is unstarted after an entry was so before, or is opened by it
 
 data Came (past : List Entry) (e : Entry) (i : ℕ) (x : Queueing) : Type 0 where
-  earlier : unstarted past i ≡ Some x → Came past e i x
+  earlier : unstarted_queueing past i ≡ Some x → Came past e i x
   at_once : opening past e ≡ Some x → Came past e i x
 
 came_here : (past : List Entry) (e : Entry) (i : ℕ) (o : Option Queueing) → opening past e ≡ o → AllByRecursion (Came past e i) (option_to_list o)
 came_here past e i None h = tt
 came_here past e i (Some x) h = (at_once h, tt)
 
-unstarted_came : (s : Layout) (past : List Entry) (e : Entry) (i : ℕ) (x : Queueing) → IsLegal s (e ∷ past) → unstarted (e ∷ past) i ≡ Some x → Came past e i x
+unstarted_came : (s : Layout) (past : List Entry) (e : Entry) (i : ℕ) (x : Queueing) → IsLegal s (e ∷ past) → unstarted_queueing (e ∷ past) i ≡ Some x → Came past e i x
 unfolding IsLegal
 unstarted_came s past e i x legal h =
     let f = find_holds (λ y. is_unstarted (e ∷ past) i y ≡ true → Came past e i y) (is_unstarted (e ∷ past) i) (still_open (e ∷ past)) x (subst (AllByRecursion (λ y. is_unstarted (e ∷ past) i y ≡ true → Came past e i y)) (sym (open_go_on s past e legal)) all) h in
@@ -129,14 +109,14 @@ unstarted_came s past e i x legal h =
 
     all : AllByRecursion (λ y. is_unstarted (e ∷ past) i y ≡ true → Came past e i y) (filter (survives past e) (still_open past) ++ option_to_list (opening past e))
     all = All_append _ (filter (survives past e) (still_open past)) (option_to_list (opening past e))
-        (All_filter _ (survives past e) (still_open past) (All_map (λ y. is_unstarted past i y ≡ true → unstarted past i ≡ Some y) _ (still_open past) (λ y alone survivors new. earlier (alone (was y new))) (unstarted_alone s past i legal.2)))
+        (All_filter _ (survives past e) (still_open past) (All_map (λ y. is_unstarted past i y ≡ true → unstarted_queueing past i ≡ Some y) _ (still_open past) (λ y alone survivors new. earlier (alone (was y new))) (unstarted_alone s past i legal.2)))
         (All_map (Came past e i) _ (option_to_list (opening past e)) (λ y came new. came) (came_here past e i (opening past e) refl))
 
 -- ---- where an item runs, it is queued and booked
 
 record KeepsTogether (past : List Entry) (i : ℕ) (start : Start) : Type 0 where
   booked : (b : Booking) → booking past i ≡ Some b → queue_of past start.number ≡ Some b.place.queue.0
-  queued : (x : Queueing) → unstarted past i ≡ Some x → (queue_of past start.number ≡ Some x.place.queue.0) × (x.place.cpu ≡ start.worker.pool.cpu)
+  queued : (x : Queueing) → unstarted_queueing past i ≡ Some x → (queue_of past start.number ≡ Some x.place.queue.0) × (x.place.cpu ≡ start.worker.pool.cpu)
 
 not_elsewhere : (past : List Entry) (i q : ℕ) (start : Start) → item_run past i ≡ Some start → runs_elsewhere past i q ≡ false → queue_of past start.number ≡ Some q
 not_elsewhere past i q start runs h = is_at-true (queue_of past start.number) q (flip _ (sym (ap (λ (o : Option Start). option_map_or (λ (st : Start). not (is_at (queue_of past st.number) q)) o false) runs) ∙ h))
@@ -158,7 +138,7 @@ starting_quiet (reply.Started m) n h = (refl, refl)
 starting_quiet (reply.StartedEnlist m x) n h = (refl, refl)
 starting_quiet r n h = cc
 
-pub started_was : (s : Layout) (past : List Entry) (e : Entry) (i n : ℕ) → IsLegal s (e ∷ past) → number_started e.reply ≡ Some n → item_at past n ≡ Some i → (y : Queueing) × (unstarted past i ≡ Some y) × (y.number ≡ n)
+pub started_was : (s : Layout) (past : List Entry) (e : Entry) (i n : ℕ) → IsLegal s (e ∷ past) → number_started e.reply ≡ Some n → item_at past n ≡ Some i → (y : Queueing) × (unstarted_queueing past i ≡ Some y) × (y.number ≡ n)
 unfolding IsLegal
 started_was s past e i n legal h item =
     let st = starts_listed s past e n legal (ap (λ o. is_at o n) h ∙ eq-eqb n n refl) in
@@ -167,7 +147,7 @@ started_was s past e i n legal h item =
     let live = listed_live s past st.worker.pool st.queueing st.listed in
     let new : is_started past st.queueing.number ≡ false = grind arith in
     let waits : is_unstarted past i st.queueing ≡ true = ap₂ (λ a b. a && not b) (eq-eqb st.queueing.item.0 i same) new in
-    let found = find_holds (λ x. is_live past x ≡ true → is_unstarted past i x ≡ true → unstarted past i ≡ Some x) (has_number n) (queueings past) st.queueing (All_unfilter _ (is_live past) (queueings past) (unstarted_alone s past i legal.2)) st.found in
+    let found = find_holds (λ x. is_live past x ≡ true → is_unstarted past i x ≡ true → unstarted_queueing past i ≡ Some x) (has_number n) (queueings past) st.queueing (All_unfilter _ (is_live past) (queueings past) (unstarted_alone s past i legal.2)) st.found in
     (st.queueing, found.holds live waits, st.number)
   where
     some_same : (a b : ℕ) → Some a ≡ Some b → a ≡ b
@@ -186,13 +166,13 @@ begun_together s past e i start legal is h = record {
     quiet : (settles e.reply ≡ false) × (opens e.reply ≡ false)
     quiet = starting_quiet e.reply start.number st.number
 
-    was : (y : Queueing) × (unstarted past i ≡ Some y) × (y.number ≡ start.number)
+    was : (y : Queueing) × (unstarted_queueing past i ≡ Some y) × (y.number ≡ start.number)
     was = started_was s past e i start.number legal st.number st.item
 
     not_booked : (b : Booking) → booking past i ≡ Some b → ⊥
     not_booked b booked = let none = booked_or_unstarted s past i legal.2 (ap is_some booked) in let some = was.1 in cc
 
-    not_queued : (x : Queueing) → unstarted (e ∷ past) i ≡ Some x → Came past e i x → ⊥
+    not_queued : (x : Queueing) → unstarted_queueing (e ∷ past) i ≡ Some x → Came past e i x → ⊥
     not_queued x queued (earlier before) =
         let new : is_started (e ∷ past) x.number ≡ false = (unstarted_is (e ∷ past) i x queued).not_started in
         let number : x.number ≡ start.number = ap (λ (y : Queueing). y.number) (let same : x ≡ was.0 = let some = was.1 in cc in same) ∙ was.2 in
@@ -218,7 +198,7 @@ left_together s past e i start legal runs kept = record {
     from_queue x (of_run free) = not_elsewhere past i x.place.queue.0 start runs free
     from_queue x (of_booking b booked same) = kept.booked b booked ∙ ap Some same
 
-    queues : (x : Queueing) → unstarted (e ∷ past) i ≡ Some x → Came past e i x → (queue_of past start.number ≡ Some x.place.queue.0) × (x.place.cpu ≡ start.worker.pool.cpu)
+    queues : (x : Queueing) → unstarted_queueing (e ∷ past) i ≡ Some x → Came past e i x → (queue_of past start.number ≡ Some x.place.queue.0) × (x.place.cpu ≡ start.worker.pool.cpu)
     queues x h (earlier before) = kept.queued x before
     queues x h (at_once opened) =
         let item = (unstarted_is (e ∷ past) i x h).item in
@@ -239,7 +219,7 @@ together s (e ∷ past) i start legal h = at (starts_item past e i) refl (sym (i
 pub booked_where_it_runs : (s : Layout) (past : List Entry) (i : ℕ) (start : Start) (b : Booking) → IsLegal s past → item_run past i ≡ Some start → booking past i ≡ Some b → queue_of past start.number ≡ Some b.place.queue.0
 booked_where_it_runs s past i start b legal runs h = (together s past i start legal runs).booked b h
 
-pub queued_where_it_runs : (s : Layout) (past : List Entry) (i : ℕ) (start : Start) (x : Queueing) → IsLegal s past → item_run past i ≡ Some start → unstarted past i ≡ Some x → pool_at s x.place ≡ start.worker.pool
+pub queued_where_it_runs : (s : Layout) (past : List Entry) (i : ℕ) (start : Start) (x : Queueing) → IsLegal s past → item_run past i ≡ Some start → unstarted_queueing past i ≡ Some x → pool_at s x.place ≡ start.worker.pool
 queued_where_it_runs s past i start x legal runs h =
     let q = (together s past i start legal runs).queued x h in
     let r = runs_are_in_pools s past start.worker start.number legal (runs_its_item s past i start legal runs) in

@@ -1,14 +1,5 @@
 -- Room: the replies that are promised need no more than the history did before, so they are never refused.
-use Rattle.std.proofs.Common.{◌≡◌, ◌≤◌, ◌+◌, ℕ, Bool, true, false, not, ◌&&◌, List, ◌∷◌, length, Option, Some, None, refl, ap, ap₂, ◌∙◌, subst, arith}
-use Rattle.std.specs.Prelude.{◌*◌, option_map, option_and_then, is_some}
-use Rattle.std.specs.Option.{option_or, option_map_or}
-use Rattle.cmwq_model.specs.declared.id.Who.{Who}
-use Rattle.cmwq_model.specs.declared.call.Call.{Call}
-use Rattle.cmwq_model.specs.declared.reply.Reply.{Reply}
-use Rattle.cmwq_model.specs.declared.entry.Entry.{Entry}
-use Rattle.cmwq_model.specs.declared.record.Queueing.{Queueing}
-use Rattle.cmwq_model.specs.Prelude.{Layout, item_called, item_fired, settles, due_in, booking_of, booked_by, is_booked, number_started, number_finished, number_cancelled}
-use Rattle.cmwq_model.specs.Prelude.{is_started, opens, opening, gives_ticket, is_done, IsLegal, has_not_started, owed, needed, none}
+use Rattle.cmwq_theory_steps.specs.Common.{◌≡◌, ◌≤◌, ◌+◌, ℕ, Bool, true, false, not, ◌&&◌, List, ◌∷◌, length, Option, Some, None, refl, ap, ap₂, ◌∙◌, subst, arith, ◌*◌, option_map, option_and_then, is_some, option_or, option_map_or, Who, Call, Reply, Entry, Queueing, Layout, item_called, item_fired, settles, due_in, booking_of, booked_by, is_booked, number_started, number_finished, number_cancelled, is_started, opens, opening, gives_ticket, is_done, IsLegal, has_not_started, owed, room_needed, none}
 use Rattle.cmwq_model.specs.declared.reply.Reply.TheVariants as reply
 use Rattle.cmwq_theory_steps.specs.Endings.{ending, number_replaced}
 use Rattle.cmwq_theory_steps.specs.Histories.{one}
@@ -92,7 +83,7 @@ was_booked s past who c r other h k = cc
 settled_pays : (s : Layout) (past : List Entry) (e : Entry) → IsLegal s (e ∷ past) → is_promised e.reply ≡ true → settles e.reply ≡ true → one (settles_booked past e) ≡ 1
 settled_pays s past e legal h k = ap₂ (λ a b. one (a && b)) k (was_booked s past e.who e.call e.reply (cause_of s past e legal) h k)
 
-pub promised_need_no_more : (s : Layout) (past : List Entry) (e : Entry) → IsLegal s (e ∷ past) → is_promised e.reply ≡ true → needed s (e ∷ past) ≤ needed s past
+pub promised_need_no_more : (s : Layout) (past : List Entry) (e : Entry) → IsLegal s (e ∷ past) → is_promised e.reply ≡ true → room_needed s (e ∷ past) ≤ room_needed s past
 unfolding owed
 promised_need_no_more s past e legal h =
     let pays = weight e.reply (one (is_some (opening past e))) (one (is_some (booking_of e (length past)))) (one (ends_unstarted past e)) (one (settles_booked past e))

@@ -1,16 +1,10 @@
 -- What an entry makes active on a queue and CPU.
-use Rattle.std.proofs.Common.{◌≡◌, ◌-◌, ◌+◌, ℕ, suc, Bool, true, false, cond, not, ◌&&◌, ◌||◌, List, [], ◌∷◌, filter, count_by, take, nat_lt, refl, sym, ap, ap₂, ◌∙◌, arith}
-use Rattle.std.specs.List.{AllByRecursion}
-use Rattle.cmwq_model.specs.declared.entry.Entry.{Entry}
-use Rattle.cmwq_model.specs.declared.record.Queueing.{Queueing}
-use Rattle.cmwq_model.specs.Prelude.{Layout, width, queueings, is_live, still_open, is_active, is_below_max_active, is_newly_active, newly_active}
+use Rattle.cmwq_theory_steps.specs.Common.{◌≡◌, ◌-◌, ◌+◌, ℕ, suc, Bool, true, false, cond, not, ◌&&◌, ◌||◌, List, [], ◌∷◌, filter, count_by, take, nat_lt, refl, sym, ap, ap₂, ◌∙◌, arith, AllByRecursion, Entry, Queueing, Layout, width, queueings, is_live, still_open, is_active, is_below_max_active, is_newly_active, newly_active, All_map, All_each, count_by-cons, count_by-none, active_go_on, not_live}
 use Rattle.cmwq_theory_steps.specs.Places.{is_on, open_on}
 use Rattle.cmwq_theory_steps.specs.Activations.{waits, stay_count}
-use Rattle.cmwq_theory_active.proofs.Lists.{All_map, All_each, count_by-cons, count_by-none}
-use Rattle.cmwq_theory_steps.proofs.Filters.{filter_twice, filter_same}
+use Rattle.cmwq_lemmas.proofs.Filters.{filter_twice, filter_same}
 use Rattle.cmwq_theory_steps.proofs.Fronts.{IsFront}
 use Rattle.cmwq_theory_steps.proofs.Ranks.{is_below, Ranked}
-use Rattle.cmwq_theory_active.proofs.Joined.{active_go_on, not_live}
 use Rattle.cmwq_theory_steps.proofs.Active.{filter-ranked, on_each, ways, first_active, kept_front, open_ranked}
 
 -- of a list whose front passes f, those that fail f and have a rank below w are the first of those that fail

@@ -1,22 +1,11 @@
 -- Queueings by number, and the queues of runs, after one more entry.
-use Rattle.std.proofs.Common.{◌≡◌, ◌==◌, ℕ, Bool, true, false, cond, List, ◌∷◌, length, find, Option, Some, None, option_to_list, refl, sym, ap, ◌∙◌}
-use Rattle.std.specs.Prelude.{option_map, option_and_then, if◌then◌else◌}
-use Rattle.std.specs.Option.{option_or}
-use Rattle.std.proofs.lemmas.Bool.{eq-eqb}
-use Rattle.cmwq_model.specs.declared.id.WorkerId.{WorkerId}
-use Rattle.cmwq_model.specs.declared.id.Who.TheVariants.{Worker}
-use Rattle.cmwq_model.specs.declared.reply.Reply.{Reply}
-use Rattle.cmwq_model.specs.declared.entry.Entry.{Entry}
-use Rattle.cmwq_model.specs.declared.record.Queueing.{Queueing}
-use Rattle.cmwq_model.specs.Prelude.{Layout, is_at, is_by, number_started, run, queueings, opening, has_number, queueing_at, queue_of, run_queue, IsLegal}
+use Rattle.cmwq_theory_steps.specs.Common.{◌≡◌, ◌==◌, ℕ, Bool, true, false, cond, List, ◌∷◌, length, find, Option, Some, None, option_to_list, refl, sym, ap, ◌∙◌, option_map, option_and_then, if◌then◌else◌, option_or, eq-eqb, WorkerId, Worker, Reply, Entry, Queueing, Layout, is_at, is_by, number_started, run, queueings, opening, has_number, queueing_at, queue_of, run_queue, IsLegal, opening_number, find-append}
 use Rattle.cmwq_model.specs.declared.reply.Reply.TheVariants as reply
 use Rattle.cmwq_theory_steps.specs.RunSteps.{run_after}
 use Rattle.cmwq_theory_steps.specs.Queued.{opening_at, run_queue_after}
-use Rattle.cmwq_theory_active.proofs.Rising.{opening_number}
 use Rattle.cmwq_theory_steps.proofs.StartsListed.{queueing_at-older, starts_listed}
 use Rattle.cmwq_theory_steps.proofs.RunsActive.{run_is_active}
 use Rattle.cmwq_theory_steps.proofs.RunSteps.{workers_run_on}
-use Rattle.std.proofs.lemmas.List.Folds.{find-append}
 
 opened_at : (past : List Entry) (e : Entry) (n : ℕ) (o : Option Queueing) → opening past e ≡ o → find (has_number n) (option_to_list o) ≡ (if length past == n then o else None)
 opened_at past e n None h = either (length past == n) None

@@ -1,11 +1,5 @@
 -- The places of queueings in a rising list: as many stand before one as are below it.
-use Rattle.std.proofs.Common.{◌≡◌, ◌<◌, ◌+◌, ◌==◌, ℕ, zero, suc, Bool, true, false, cond, List, [], ◌∷◌, filter, count_by, option_to_list, nat_lt, refl, ap, ap₂, ◌∙◌, arith, add-zero}
-use Rattle.std.specs.Prelude.{slice_get}
-use Rattle.std.proofs.lemmas.Bool.Decides.{nat_tests}
-use Rattle.std.specs.List.{AllByRecursion}
-use Rattle.cmwq_model.specs.declared.record.Queueing.{Queueing}
-use Rattle.cmwq_theory_active.specs.Rising.{IsRising}
-use Rattle.cmwq_theory_active.proofs.Lists.{All_map, All_both, count_by-cons, count_by-none}
+use Rattle.cmwq_theory_steps.specs.Common.{◌≡◌, ◌<◌, ◌+◌, ◌==◌, ℕ, zero, suc, Bool, true, false, cond, List, [], ◌∷◌, filter, count_by, option_to_list, nat_lt, refl, ap, ap₂, ◌∙◌, arith, add-zero, slice_get, nat_tests, AllByRecursion, Queueing, IsRising, All_map, All_both, count_by-cons, count_by-none}
 
 abbrev pub is_below : Queueing → Queueing → Bool
 is_below x y = nat_lt y.number x.number

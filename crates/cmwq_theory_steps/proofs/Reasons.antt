@@ -1,20 +1,5 @@
 -- Why a legal entry's reply is what it is, read off its cause.
-use Rattle.std.proofs.Common.{◌≡◌, ◌+◌, ◌<◌, ◌==◌, ℕ, Bool, true, false, ◌&&◌, List, ◌∷◌, length, Some, None, nat_lt, refl, sym, ap, ◌∙◌, subst, arith}
-use Rattle.std.specs.Prelude.{IsTrue}
-use Rattle.std.proofs.lemmas.Bool.{ltb-false, eqb-true}
-use Rattle.std.proofs.lemmas.Bool.Decides.{nat_tests}
-use Rattle.cmwq_model.specs.declared.id.CallerId.{CallerId}
-use Rattle.cmwq_model.specs.declared.id.ItemId.{ItemId}
-use Rattle.cmwq_model.specs.declared.id.WorkerId.{WorkerId}
-use Rattle.cmwq_model.specs.declared.id.Who.{Who}
-use Rattle.cmwq_model.specs.declared.id.Who.TheVariants.{Caller, Worker}
-use Rattle.cmwq_model.specs.declared.call.Call.{Call}
-use Rattle.cmwq_model.specs.declared.reply.Reply.{Reply}
-use Rattle.cmwq_model.specs.declared.entry.Entry.{Entry}
-use Rattle.cmwq_model.specs.declared.id.QueueId.{QueueId}
-use Rattle.cmwq_model.specs.declared.record.Place.{Place}
-use Rattle.cmwq_model.specs.Prelude.{Layout, fits, item_called, now, is_booked, number_started, number_finished, number_cancelled, has_run, runs_awake, runs_asleep}
-use Rattle.cmwq_model.specs.Prelude.{place_called, unstarted, is_pending, is_enlisted, may_retire, gives_ticket, is_crowded, is_shut, is_held_back, IsLegal}
+use Rattle.cmwq_theory_steps.specs.Common.{◌≡◌, ◌+◌, ◌<◌, ◌==◌, ℕ, Bool, true, false, ◌&&◌, List, ◌∷◌, length, Some, None, nat_lt, refl, sym, ap, ◌∙◌, subst, arith, IsTrue, ltb-false, eqb-true, nat_tests, CallerId, ItemId, WorkerId, Who, Caller, Worker, Call, Reply, Entry, QueueId, Place, Layout, fits, item_called, now, is_booked, number_started, number_finished, number_cancelled, has_run, runs_awake, runs_asleep, place_called, unstarted_queueing, is_pending, is_enlisted, may_retire, gives_ticket, is_crowded, is_shut, is_held_back, IsLegal}
 use Rattle.cmwq_model.specs.declared.call.Call.TheVariants as call
 use Rattle.cmwq_model.specs.declared.reply.Reply.TheVariants as reply
 use Rattle.cmwq_theory_steps.specs.Reasons.{number_given, StartsNext, FinishesRun, TakesBack, ticks_asked, IsGranted, IsBookedIn, EndsWait, unbooks}
@@ -121,7 +106,7 @@ cancel_reason s past who c r n (cause.cancelled w i x found) h = record { item =
 cancel_reason s past who c r n (cause.sync_cancelled w i x free found) h = record { item = i.0; queueing = x; is_item = refl; is_unstarted = found; number = let same : x.number ≡ n = cc in same }
 cancel_reason s past who c r n other h = cc
 
-pub unbook_reason : (s : Layout) (past : List Entry) (who : Who) (c : Call) (r : Reply) → Cause s past who c r → unbooks r ≡ true → (i : ℕ) × (item_called c ≡ Some i) × (is_booked past i ≡ true) × (unstarted past i ≡ None)
+pub unbook_reason : (s : Layout) (past : List Entry) (who : Who) (c : Call) (r : Reply) → Cause s past who c r → unbooks r ≡ true → (i : ℕ) × (item_called c ≡ Some i) × (is_booked past i ≡ true) × (unstarted_queueing past i ≡ None)
 unbook_reason s past who c r (cause.unbooked w i none was) h = (i.0, refl, was, none)
 unbook_reason s past who c r (cause.sync_unbooked w i free none was) h = (i.0, refl, was, none)
 unbook_reason s past who c r other h = cc

@@ -1,27 +1,7 @@
 -- Entries that are refused change nothing.
-use Rattle.std.proofs.Common.{◌≡◌, ◌<◌, ◌+◌, ℕ, Bool, true, false, cond, not, ◌&&◌, ◌||◌, List, [], ◌∷◌, ◌++◌, length, filter, find, count_by, Option, Some, None, option_to_list, append-nil, nat_lt, refl, sym, ap, ap₂, ◌∙◌, subst, arith}
-use Rattle.std.specs.Prelude.{option_map, option_and_then, is_some, if◌then◌else◌}
-use Rattle.std.specs.Option.{option_map_or}
-use Rattle.std.specs.List.{AllByRecursion}
-use Rattle.std.proofs.lemmas.Bool.Decides.{nat_tests}
-use Rattle.cmwq_model.specs.declared.id.PoolId.{PoolId}
-use Rattle.cmwq_model.specs.declared.id.WorkerId.{WorkerId}
-use Rattle.cmwq_model.specs.declared.id.Who.{Who}
-use Rattle.cmwq_model.specs.declared.id.Who.TheVariants.{Caller, Worker}
-use Rattle.cmwq_model.specs.declared.call.Call.{Call}
-use Rattle.cmwq_model.specs.declared.reply.Reply.{Reply}
-use Rattle.cmwq_model.specs.declared.entry.Entry.{Entry}
-use Rattle.cmwq_model.specs.declared.record.Queueing.{Queueing}
-use Rattle.cmwq_model.specs.declared.record.Start.{Start}
-use Rattle.cmwq_model.specs.declared.record.Ticket.{Ticket}
-use Rattle.cmwq_model.specs.Prelude.{Layout, is_at, is_by, is_of_item, item_of, ticks_told, now, settles, due_in, booking, booked_by, number_started, number_finished}
-use Rattle.cmwq_model.specs.Prelude.{number_cancelled, replaces, is_started, run, item_run, is_asleep, asleep_after, start_in, queueings, is_of, opens, opening, is_live}
-use Rattle.cmwq_model.specs.Prelude.{still_open, is_unstarted, unstarted, queued_at, place_wanted, run_queue, is_frozen, is_ahead, is_below_max_active, is_active, newly_active}
-use Rattle.cmwq_model.specs.Prelude.{worklist, next, is_startable, is_enlisted, index_enlisted, is_in_pool, is_retired, unended, gives_ticket, ticket_for, ticket_in, is_end_of}
-use Rattle.cmwq_model.specs.Prelude.{is_done, is_gone, ends_destroy, IsLegal, bits, owed, answer}
+use Rattle.cmwq_theory_steps.specs.Common.{◌≡◌, ◌<◌, ◌+◌, ℕ, Bool, true, false, cond, not, ◌&&◌, ◌||◌, List, [], ◌∷◌, ◌++◌, length, filter, find, count_by, Option, Some, None, option_to_list, append-nil, nat_lt, refl, sym, ap, ap₂, ◌∙◌, subst, arith, option_map, option_and_then, is_some, if◌then◌else◌, option_map_or, AllByRecursion, nat_tests, PoolId, WorkerId, Who, Caller, Worker, Call, Reply, Entry, Queueing, Start, Ticket, Layout, is_at, is_by, is_of_item, item_of, ticks_told, now, settles, due_in, booking, booked_by, number_started, number_finished, number_cancelled, replaces, is_started, run, item_run, is_asleep, asleep_after, start_in, queueings, is_of, opens, opening, is_live, still_open, is_unstarted, unstarted_queueing, queued_at, place_wanted, run_queue, is_frozen, is_ahead, is_below_max_active, is_active, newly_active, worklist, next, is_startable, is_enlisted, index_enlisted, is_in_pool, is_retired, unended_tickets, gives_ticket, ticket_for, ticket_in, is_end_of, is_done, is_gone, ends_destroy, IsLegal, bits, owed, answer, keeps_widths, All_map, All_each, active_go_on, active_live, frozen_same, max_same, width_same, open_below}
 use Rattle.cmwq_model.specs.declared.call.Call.TheVariants as call
 use Rattle.cmwq_model.specs.declared.reply.Reply.TheVariants as reply
-use Rattle.cmwq_theory_active.specs.Looks.{keeps_widths}
 use Rattle.cmwq_theory_steps.specs.Histories.{one}
 use Rattle.cmwq_theory_steps.specs.Places.{is_on, active_count}
 use Rattle.cmwq_theory_steps.specs.Endings.{survives, ending, number_ended}
@@ -32,10 +12,7 @@ use Rattle.cmwq_theory_steps.specs.RunSteps.{run_after, ends_run}
 use Rattle.cmwq_theory_steps.specs.Waiting.{waiting, is_active_on, ends_active_on}
 use Rattle.cmwq_theory_steps.specs.Queued.{run_queue_after}
 use Rattle.cmwq_theory_steps.specs.Refusals.{is_refusal, DoesNothing, ChangesNothing}
-use Rattle.cmwq_theory_active.proofs.Lists.{All_map, All_each}
-use Rattle.cmwq_theory_active.proofs.Joined.{active_go_on, active_live}
-use Rattle.cmwq_theory_active.proofs.Widths.{frozen_same, max_same, width_same}
-use Rattle.cmwq_theory_steps.proofs.Filters.{filter_same, find_same}
+use Rattle.cmwq_lemmas.proofs.Filters.{filter_same, find_same}
 use Rattle.cmwq_theory_steps.proofs.Inversions.{answer_is}
 use Rattle.cmwq_theory_steps.proofs.Standing.{booking_after}
 use Rattle.cmwq_theory_steps.proofs.Endings.{live_goes_on, open_go_on}
@@ -48,8 +25,8 @@ use Rattle.cmwq_theory_steps.proofs.ItemSteps.{none_started, items_run_on}
 use Rattle.cmwq_theory_steps.proofs.Queued.{run_queues_go_on}
 use Rattle.cmwq_theory_steps.proofs.TicketSteps.{unended_go_on}
 use Rattle.cmwq_theory_steps.proofs.Owing.{owed_goes_on}
-use Rattle.cmwq_theory_steps.proofs.Truth.{differ, and_true, or_true, or_false}
-use Rattle.cmwq_theory_active.proofs.Rising.{open_below}
+use Rattle.cmwq_lemmas.proofs.Truth.{and_true, or_true, or_false}
+use Rattle.std.proofs.lemmas.Bool.{true≢false}
 
 -- ---- what such a reply doesn't say
 
@@ -87,11 +64,11 @@ says_nothing reply.Held h = record { opens_none = refl; settles_none = refl; due
 says_nothing reply.Kept h = record { opens_none = refl; settles_none = refl; due = refl; replaces_none = refl; started = refl; finished = refl; cancelled = refl; gives = refl; done = refl; widths = refl; frozen = refl; thawed = refl; slept = refl; woke = refl; enlisted = refl; retired = refl; asleep = λ b. refl; runs = λ o. refl; queues = λ past o. refl }
 says_nothing reply.Gone h = record { opens_none = refl; settles_none = refl; due = refl; replaces_none = refl; started = refl; finished = refl; cancelled = refl; gives = refl; done = refl; widths = refl; frozen = refl; thawed = refl; slept = refl; woke = refl; enlisted = refl; retired = refl; asleep = λ b. refl; runs = λ o. refl; queues = λ past o. refl }
 says_nothing reply.Timers h = record { opens_none = refl; settles_none = refl; due = refl; replaces_none = refl; started = refl; finished = refl; cancelled = refl; gives = refl; done = refl; widths = refl; frozen = refl; thawed = refl; slept = refl; woke = refl; enlisted = refl; retired = refl; asleep = λ b. refl; runs = λ o. refl; queues = λ past o. refl }
-says_nothing r h = absurd (differ (sym h))
+says_nothing r h = absurd (true≢false (sym h))
 
 -- ---- so the entry does nothing
 
-none_mapped : (o : Option Queueing) → option_map (λ (x : Queueing). x.number) o ≡ None → o ≡ None
+pub none_mapped : (o : Option Queueing) → option_map (λ (x : Queueing). x.number) o ≡ None → o ≡ None
 none_mapped None h = refl
 none_mapped (Some x) h = cc
 
@@ -175,7 +152,7 @@ same_count s past e a c legal d =
 same_worklist : (s : Layout) (past : List Entry) (e : Entry) (p : PoolId) → IsLegal s (e ∷ past) → SaysNothing e.reply → newly_active s past e ≡ [] → worklist s (e ∷ past) p ≡ worklist s past p
 same_worklist s past e p legal q none = worklists_go_on s past e p legal ∙ nothing_more (is_left past e) (worklist s past p) (filter (is_in s p) (newly_active s past e)) (left past e q) (ap (filter (is_in s p)) none)
 
-same_unstarted : (s : Layout) (past : List Entry) (e : Entry) (i : ℕ) → IsLegal s (e ∷ past) → SaysNothing e.reply → opening past e ≡ None → unstarted (e ∷ past) i ≡ unstarted past i
+same_unstarted : (s : Layout) (past : List Entry) (e : Entry) (i : ℕ) → IsLegal s (e ∷ past) → SaysNothing e.reply → opening past e ≡ None → unstarted_queueing (e ∷ past) i ≡ unstarted_queueing past i
 same_unstarted s past e i legal q none = ap (find (is_unstarted (e ∷ past) i)) (same_open s past e legal q none)
     ∙ find_same (is_unstarted (e ∷ past) i) (is_unstarted past i) (still_open past) (All_each _ (still_open past) (λ x. ap (λ o. (is_of i x) && not (is_at o x.number || is_started past x.number)) q.started))
 
@@ -227,8 +204,8 @@ same_bits : (s : Layout) (past : List Entry) (e : Entry) (i : ℕ) → IsLegal s
 same_bits s past e i legal q none = ap₂ (λ a b. (if a then 1 else 0) + (if b then 2 else 0))
     (ap₂ (λ a b. is_some a || is_some b) (same_booking past e i q) (same_unstarted s past e i legal q none)) (ap is_some (same_item_run s past e i legal q))
 
-same_unended : (s : Layout) (past : List Entry) (e : Entry) → IsLegal s (e ∷ past) → SaysNothing e.reply → ticket_in e (length past) ≡ None → unended (e ∷ past) ≡ unended past
-same_unended s past e legal q none = unended_go_on s past e legal ∙ nothing_more (is_kept e) (unended past) (option_to_list (ticket_in e (length past))) kept (ap option_to_list none)
+same_unended : (s : Layout) (past : List Entry) (e : Entry) → IsLegal s (e ∷ past) → SaysNothing e.reply → ticket_in e (length past) ≡ None → unended_tickets (e ∷ past) ≡ unended_tickets past
+same_unended s past e legal q none = unended_go_on s past e legal ∙ nothing_more (is_kept e) (unended_tickets past) (option_to_list (ticket_in e (length past))) kept (ap option_to_list none)
   where
     at : (a b : Bool) → not (a && b && false) ≡ true
     at true true = refl
@@ -249,7 +226,7 @@ same_frozen past e q = frozen_same e.reply (is_frozen past) q.widths
 -- a tick is never refused
 no_ticks : (s : Layout) (past : List Entry) (who : Who) (c : Call) → is_refusal (answer s past who c) ≡ true → ticks_told c ≡ 0
 unfolding answer
-no_ticks s past who (call.Tick t) h = absurd (differ (sym h))
+no_ticks s past who (call.Tick t) h = absurd (true≢false (sym h))
 no_ticks s past who c h = refl
 
 same_time : (s : Layout) (past : List Entry) (e : Entry) → IsLegal s (e ∷ past) → is_refusal e.reply ≡ true → now (e ∷ past) ≡ now past

@@ -1,18 +1,7 @@
 -- What workers and items run after one more entry.
-use Rattle.std.proofs.Common.{◌≡◌, ◌<◌, ◌==◌, ℕ, Bool, true, false, not, ◌&&◌, ◌||◌, List, [], ◌∷◌, length, Option, Some, None, refl, sym, ap, ap₂, ◌∙◌, subst}
-use Rattle.std.specs.Prelude.{option_and_then, is_some, if◌then◌else◌}
-use Rattle.std.specs.Option.{option_map_or}
-use Rattle.std.proofs.lemmas.Bool.{eq-eqb, eqb-true}
-use Rattle.cmwq_model.specs.declared.id.WorkerId.{WorkerId}
-use Rattle.cmwq_model.specs.declared.id.Who.{Who}
-use Rattle.cmwq_model.specs.declared.id.Who.TheVariants.{Worker}
-use Rattle.cmwq_model.specs.declared.reply.Reply.{Reply}
-use Rattle.cmwq_model.specs.declared.entry.Entry.{Entry}
-use Rattle.cmwq_model.specs.Prelude.{Layout, is_at, is_by, same_who, item_at, is_of_item, number_started, number_finished, number_cancelled, starts, finishes, takes_back}
-use Rattle.cmwq_model.specs.Prelude.{replaces, is_started, is_open, is_number_open, last_start, run, IsLegal}
+use Rattle.cmwq_theory_steps.specs.Common.{◌≡◌, ◌<◌, ◌==◌, ℕ, Bool, true, false, not, ◌&&◌, ◌||◌, List, [], ◌∷◌, length, Option, Some, None, refl, sym, ap, ap₂, ◌∙◌, subst, option_and_then, is_some, if◌then◌else◌, option_map_or, eq-eqb, eqb-true, WorkerId, Who, Worker, Reply, Entry, Layout, is_at, is_by, same_who, item_at, is_of_item, number_started, number_finished, number_cancelled, starts, finishes, takes_back, replaces, is_started, is_open, is_number_open, last_start, run, IsLegal, listed_live}
 use Rattle.cmwq_model.specs.declared.reply.Reply.TheVariants as reply
 use Rattle.cmwq_theory_steps.specs.RunSteps.{run_after}
-use Rattle.cmwq_theory_active.proofs.Joined.{listed_live}
 use Rattle.cmwq_theory_steps.proofs.Entries.{item_at-older, is_at-true}
 use Rattle.cmwq_theory_steps.proofs.Endings.{open_step}
 use Rattle.cmwq_theory_steps.proofs.ItemRuns.{same_worker-true, last_start_cases, now, before, run_is, is_run, open_of_item, started_older, starts_known, one_worker, same_worker_itself}

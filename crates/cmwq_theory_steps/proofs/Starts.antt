@@ -1,7 +1,5 @@
 -- Only a take starts a queueing, by an idle worker, and then the next of its pool.
-use Rattle.std.proofs.Common.{◌≡◌, ℕ, List, ◌∷◌, Some}
-use Rattle.cmwq_model.specs.declared.entry.Entry.{Entry}
-use Rattle.cmwq_model.specs.Prelude.{Layout, number_started, IsLegal}
+use Rattle.cmwq_theory_steps.specs.Common.{◌≡◌, ℕ, List, ◌∷◌, Some, Entry, Layout, number_started, IsLegal}
 use Rattle.cmwq_theory_steps.specs.Reasons.{StartsNext}
 use Rattle.cmwq_theory_steps.proofs.Causes.{cause_of}
 use Rattle.cmwq_theory_steps.proofs.Reasons.{start_reason}

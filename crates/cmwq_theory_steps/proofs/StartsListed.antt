@@ -1,19 +1,5 @@
 -- What a legal entry starts stands in its pool's worklist: a queueing, active and not started before.
-use Rattle.std.proofs.Common.{◌≡◌, ◌<◌, ℕ, true, false, cond, List, [], ◌∷◌, find, Some, option_to_list, refl, ap, ◌∙◌, subst, arith}
-use Rattle.std.specs.Option.{option_or}
-use Rattle.std.specs.List.{AllByRecursion}
-use Rattle.std.proofs.lemmas.Bool.Decides.{nat_tests}
-use Rattle.std.proofs.lemmas.Bool.{eq-eqb}
-use Rattle.std.proofs.lemmas.List.Folds.{find-append}
-use Rattle.cmwq_model.specs.declared.id.PoolId.{PoolId}
-use Rattle.cmwq_model.specs.declared.id.WorkerId.{WorkerId}
-use Rattle.cmwq_model.specs.declared.id.Who.TheVariants.{Worker}
-use Rattle.cmwq_model.specs.declared.entry.Entry.{Entry}
-use Rattle.cmwq_model.specs.declared.record.Queueing.{Queueing}
-use Rattle.cmwq_model.specs.Prelude.{Layout, starts, number_started, is_started, queueings, queueing_at, opening, has_number, is_listed, IsLegal}
-use Rattle.cmwq_theory_active.specs.Rising.{IsRising}
-use Rattle.cmwq_theory_active.proofs.Lists.{All_both}
-use Rattle.cmwq_theory_active.proofs.Rising.{queueings_rise}
+use Rattle.cmwq_theory_steps.specs.Common.{◌≡◌, ◌<◌, ℕ, true, false, cond, List, [], ◌∷◌, find, Some, option_to_list, refl, ap, ◌∙◌, subst, arith, option_or, AllByRecursion, nat_tests, eq-eqb, find-append, PoolId, WorkerId, Worker, Entry, Queueing, Layout, starts, number_started, is_started, queueings, queueing_at, opening, has_number, is_listed, IsLegal, IsRising, All_both, queueings_rise}
 use Rattle.cmwq_theory_steps.proofs.Activated.{next_holds}
 use Rattle.cmwq_theory_steps.proofs.Starts.{starts_next}
 use Rattle.cmwq_theory_steps.proofs.Entries.{is_at-true}

@@ -1,24 +1,10 @@
 -- What is kept of workers, items, time and serials after one more entry.
-use Rattle.std.proofs.Common.{◌≡◌, ◌+◌, ℕ, true, false, List, ◌∷◌, length, Option, Some, None, refl, ap, ap₂, ◌∙◌, arith}
-use Rattle.std.specs.Prelude.{option_map, option_and_then, is_some, if◌then◌else◌}
-use Rattle.std.specs.Option.{option_or}
-use Rattle.cmwq_model.specs.declared.id.ItemId.{ItemId}
-use Rattle.cmwq_model.specs.declared.id.Who.{Who}
-use Rattle.cmwq_model.specs.declared.id.Who.TheVariants.{Caller, Worker}
-use Rattle.cmwq_model.specs.declared.call.Call.{Call}
-use Rattle.cmwq_model.specs.declared.reply.Reply.{Reply}
-use Rattle.cmwq_model.specs.declared.entry.Entry.{Entry}
-use Rattle.cmwq_model.specs.declared.record.Booking.{Booking}
-use Rattle.cmwq_model.specs.declared.record.Place.{Place}
-use Rattle.cmwq_model.specs.Prelude.{Layout, item_called, item_fired, is_by, now, due_in, booking, is_booked, is_asleep, is_enlisted, opens, place_called, place_wanted}
-use Rattle.cmwq_model.specs.Prelude.{queued_at, IsLegal, same_who, serial_of}
+use Rattle.cmwq_theory_steps.specs.Common.{◌≡◌, ◌+◌, ℕ, true, false, List, ◌∷◌, length, Option, Some, None, refl, ap, ap₂, ◌∙◌, arith, option_map, option_and_then, is_some, if◌then◌else◌, option_or, ItemId, Who, Caller, Worker, Call, Reply, Entry, Booking, Place, Layout, item_called, item_fired, is_by, now, due_in, booking, is_booked, is_asleep, is_enlisted, opens, place_called, place_wanted, queued_at, IsLegal, same_who, serial_of, count_by-cons, eq-eqb}
 use Rattle.cmwq_theory_steps.specs.StateSteps.{SleepersGoOn, EnlistedGoOn, BookingsGoOn, TimeGoesOn, SerialsGoOn, SerialsRise, BooksAsAsked, OpensAsAsked}
-use Rattle.cmwq_theory_active.proofs.Lists.{count_by-cons}
 use Rattle.cmwq_theory_steps.proofs.Standing.{due_own}
 use Rattle.cmwq_theory_steps.proofs.Pools.{opening_of, booking_in}
 use Rattle.cmwq_theory_steps.proofs.Causes.{Cause, cause_of}
 use Rattle.cmwq_theory_steps.proofs.Causes as cause
-use Rattle.std.proofs.lemmas.Bool.{eq-eqb}
 use Rattle.cmwq_theory_steps.specs.Histories.{one}
 use Rattle.cmwq_theory_steps.proofs.ItemRuns.{same_worker_itself}
 

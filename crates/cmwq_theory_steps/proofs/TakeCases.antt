@@ -1,10 +1,5 @@
 -- The cases of the answer to take, each with what holds in it.
-use Rattle.std.proofs.Common.{◌≡◌, Bool, true, false, not, if◌then◌else◌, ◌||◌, List, Option, Some, None, nat_lt, refl}
-use Rattle.cmwq_model.specs.declared.id.WorkerId.{WorkerId}
-use Rattle.cmwq_model.specs.declared.reply.Reply.{Reply}
-use Rattle.cmwq_model.specs.declared.entry.Entry.{Entry}
-use Rattle.cmwq_model.specs.declared.record.Queueing.{Queueing}
-use Rattle.cmwq_model.specs.Prelude.{Layout, has_run, next, is_enlisted, runnable, enlisted_by, started, start_of, take_answer}
+use Rattle.cmwq_theory_steps.specs.Common.{◌≡◌, Bool, true, false, not, if◌then◌else◌, ◌||◌, List, Option, Some, None, nat_lt, refl, WorkerId, Reply, Entry, Queueing, Layout, has_run, next, is_enlisted, runnable, enlisted_by, started_answer, start_of, take_answer}
 use Rattle.cmwq_model.specs.declared.reply.Reply.TheVariants as reply
 
 pub data TakeCase (s : Layout) (past : List Entry) (w : WorkerId) : Reply → Type 0 where
@@ -13,7 +8,7 @@ pub data TakeCase (s : Layout) (past : List Entry) (w : WorkerId) : Reply → Ty
   nothing : next s past w.pool ≡ None → TakeCase s past w reply.Nothing
   held : (x : Queueing) → next s past w.pool ≡ Some x → nat_lt 0 (runnable s past w.pool) ≡ true → TakeCase s past w reply.Held
   starting : (x : Queueing) → is_enlisted past w ≡ true → has_run past w ≡ false → next s past w.pool ≡ Some x → nat_lt 0 (runnable s past w.pool) ≡ false
-      → TakeCase s past w (started x.number (enlisted_by s past w))
+      → TakeCase s past w (started_answer x.number (enlisted_by s past w))
 
 start_case : (s : Layout) (past : List Entry) (w : WorkerId) (o : Option Queueing) (h : Bool) → is_enlisted past w ≡ true → has_run past w ≡ false → next s past w.pool ≡ o → nat_lt 0 (runnable s past w.pool) ≡ h
     → TakeCase s past w (start_of s past w o)

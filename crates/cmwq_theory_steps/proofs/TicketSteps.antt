@@ -1,31 +1,15 @@
 -- The unended tickets after one more entry, and which flushes it serves.
-use Rattle.std.proofs.Common.{◌≡◌, ◌<◌, ◌≤◌, ◌+◌, ◌==◌, ℕ, Bool, true, false, cond, ◌&&◌, ◌||◌, not, List, [], ◌∷◌, ◌++◌, length, filter, find, count_by, Option, Some, None, option_to_list, nat_lt, nat_le, add-zero, refl, sym, ap, ap₂, ◌∙◌, subst, arith}
-use Rattle.std.specs.Prelude.{if◌then◌else◌}
-use Rattle.std.specs.Option.{option_or, option_map_or}
-use Rattle.std.specs.List.{AllByRecursion, list_any}
-use Rattle.std.proofs.lemmas.Bool.{lt-ltb, le-ltb, ltb-true, ltb-false, eqb-true, eq-eqb}
-use Rattle.std.proofs.lemmas.Bool.Decides.{nat_tests}
-use Rattle.std.proofs.lemmas.List.Elements.{filter-append}
-use Rattle.std.proofs.lemmas.List.Sums.{sum_by-append}
-use Rattle.std.proofs.lemmas.List.Filters.{sum_by-filter_both}
-use Rattle.cmwq_model.specs.declared.id.Who.{Who}
-use Rattle.cmwq_model.specs.declared.id.Who.TheVariants.{Caller, Worker}
-use Rattle.cmwq_model.specs.declared.call.Call.{Call}
-use Rattle.cmwq_model.specs.declared.reply.Reply.{Reply}
-use Rattle.cmwq_model.specs.declared.entry.Entry.{Entry}
-use Rattle.cmwq_model.specs.declared.record.Ticket.{Ticket}
-use Rattle.cmwq_model.specs.Prelude.{Layout, same_who, is_by, gives_ticket, ticket_for, ticket_in, tickets, is_end_of, is_done, ends, is_unended, unended, is_flush_of}
-use Rattle.cmwq_model.specs.Prelude.{is_held_by, is_ticket, is_older_flush, is_served_after, served, IsLegal}
+use Rattle.cmwq_theory_steps.specs.Common.{◌≡◌, ◌<◌, ◌≤◌, ◌+◌, ◌==◌, ℕ, Bool, true, false, cond, ◌&&◌, ◌||◌, not, List, [], ◌∷◌, ◌++◌, length, filter, find, count_by, Option, Some, None, option_to_list, nat_lt, nat_le, add-zero, refl, sym, ap, ap₂, ◌∙◌, subst, arith, if◌then◌else◌, option_or, option_map_or, AllByRecursion, list_any, lt-ltb, le-ltb, ltb-true, ltb-false, eqb-true, eq-eqb, nat_tests, filter-append, sum_by-append, sum_by-filter_both, Who, Caller, Worker, Call, Reply, Entry, Ticket, Layout, same_who, is_by, gives_ticket, ticket_for, ticket_in, tickets, is_end_of, is_done, ends, is_unended, unended_tickets, is_flush_of, is_held_by, is_ticket, is_older_flush, is_served_after, serving_from, IsLegal, All_map, All_each, count_by-cons, count_by-none, count_by-filter, find_none}
 use Rattle.cmwq_model.specs.declared.call.Call.TheVariants as call
 use Rattle.cmwq_model.specs.declared.reply.Reply.TheVariants as reply
 use Rattle.cmwq_theory_steps.specs.Histories.{one}
 use Rattle.cmwq_theory_steps.specs.TicketSteps.{passes, is_kept, ticket_asked, ticket_ended, is_ended_by, moves_up, is_moving}
-use Rattle.cmwq_theory_active.proofs.Lists.{All_map, All_each, count_by-cons, count_by-none, count_by-filter, find_none}
-use Rattle.cmwq_theory_steps.proofs.Filters.{filter_twice, filter_same, filter_one, filter_none, count_by-same, count_by-wider, count_by-fewer}
+use Rattle.cmwq_lemmas.proofs.Filters.{filter_twice, filter_same, filter_one, filter_none, count_by-same, count_by-wider, count_by-fewer}
 use Rattle.cmwq_theory_steps.proofs.Activated.{find_holds}
 use Rattle.cmwq_theory_steps.proofs.Given.{IsGiven, tickets_given, unended_given, ticket_is}
 use Rattle.cmwq_theory_steps.proofs.Causes.{cause_of}
 use Rattle.cmwq_theory_steps.proofs.Reasons.{done_reason}
+use Rattle.cmwq_lemmas.proofs.Truth.{and_false}
 
 -- ---- what is given is not ended yet
 
@@ -92,7 +76,7 @@ given_unended s past e (Some t) legal h =
     let none = ap₂ (λ a b. a || b) (ends_older s past e t legal (omega arith)) (not_ended_yet s past t legal.2 (omega arith)) in
     ap (λ b. cond (not b) (t ∷ []) []) none
 
-pub unended_go_on : (s : Layout) (past : List Entry) (e : Entry) → IsLegal s (e ∷ past) → unended (e ∷ past) ≡ filter (is_kept e) (unended past) ++ option_to_list (ticket_in e (length past))
+pub unended_go_on : (s : Layout) (past : List Entry) (e : Entry) → IsLegal s (e ∷ past) → unended_tickets (e ∷ past) ≡ filter (is_kept e) (unended_tickets past) ++ option_to_list (ticket_in e (length past))
 unfolding tickets
 unended_go_on s past e legal =
     filter-append (is_unended (e ∷ past)) (tickets past) (option_to_list (ticket_in e (length past)))
@@ -134,10 +118,10 @@ few_numbered (e ∷ past) n = at (nat_lt n (length past)) refl (few_numbered pas
         let all = sum in
         omega arith
 
-few_unended : (past : List Entry) (n : ℕ) → count_by (has_number n) (unended past) ≤ 1
+few_unended : (past : List Entry) (n : ℕ) → count_by (has_number n) (unended_tickets past) ≤ 1
 few_unended past n =
     let both : Ticket → Bool = λ t. is_unended past t && has_number n t in
-    let count : count_by both (tickets past) ≡ count_by (has_number n) (unended past) = count_by-filter both (is_unended past) (has_number n) (tickets past) (λ t. refl) in
+    let count : count_by both (tickets past) ≡ count_by (has_number n) (unended_tickets past) = count_by-filter both (is_unended past) (has_number n) (tickets past) (λ t. refl) in
     let wider : count_by both (tickets past) ≤ count_by (has_number n) (tickets past) = count_by-wider both (has_number n) (tickets past) (All_each _ (tickets past) (λ t h. right (is_unended past t) (has_number n t) h)) in
     let few : count_by (has_number n) (tickets past) ≤ 1 = few_numbered past n in
     omega arith
@@ -146,25 +130,21 @@ few_unended past n =
     right true b h = h
     right false b h = cc
 
-one_asked : (past : List Entry) (who : Who) (n : ℕ) → count_by (is_ticket who n) (unended past) ≤ 1
+one_asked : (past : List Entry) (who : Who) (n : ℕ) → count_by (is_ticket who n) (unended_tickets past) ≤ 1
 one_asked past who n =
-    let wider : count_by (is_ticket who n) (unended past) ≤ count_by (has_number n) (unended past) = count_by-wider (is_ticket who n) (has_number n) (unended past) (All_each _ (unended past) (λ t h. left (has_number n t) (is_held_by who t) h)) in
-    let few : count_by (has_number n) (unended past) ≤ 1 = few_unended past n in
+    let wider : count_by (is_ticket who n) (unended_tickets past) ≤ count_by (has_number n) (unended_tickets past) = count_by-wider (is_ticket who n) (has_number n) (unended_tickets past) (All_each _ (unended_tickets past) (λ t h. left (has_number n t) (is_held_by who t) h)) in
+    let few : count_by (has_number n) (unended_tickets past) ≤ 1 = few_unended past n in
     omega arith
   where
     left : (a b : Bool) → (a && b) ≡ true → a ≡ true
     left true b h = refl
     left false b h = cc
 
-and_false : (b : Bool) → (b && false) ≡ false
-and_false true = refl
-and_false false = refl
-
 abbrev is_asked : Who → Call → Ticket → Bool
 is_asked who c t = same_who who (Caller t.caller) && is_end_of t.number c
 
-asked_is : (past : List Entry) (who : Who) (c : Call) → filter (is_asked who c) (unended past) ≡ option_to_list (ticket_asked past who c)
-asked_is past who (call.End n) = filter_same (is_asked who (call.End n)) (is_ticket who n) (unended past) (All_each _ (unended past) (same who)) ∙ filter_one (is_ticket who n) (unended past) (one_asked past who n)
+asked_is : (past : List Entry) (who : Who) (c : Call) → filter (is_asked who c) (unended_tickets past) ≡ option_to_list (ticket_asked past who c)
+asked_is past who (call.End n) = filter_same (is_asked who (call.End n)) (is_ticket who n) (unended_tickets past) (All_each _ (unended_tickets past) (same who)) ∙ filter_one (is_ticket who n) (unended_tickets past) (one_asked past who n)
   where
     swap : (a b m k : ℕ) → ((a == b) && (m == k)) ≡ ((k == m) && (b == a))
     swap a b m k = grind (arith, nat_tests)
@@ -172,30 +152,30 @@ asked_is past who (call.End n) = filter_same (is_asked who (call.End n)) (is_tic
     same : (w : Who) (t : Ticket) → is_asked w (call.End n) t ≡ is_ticket w n t
     same (Caller d) t = swap d.0 t.caller.0 n t.number
     same (Worker v) t = sym (and_false (t.number == n))
-asked_is past who c = filter_none (is_asked who c) (unended past) (All_each _ (unended past) (λ t. and_false (same_who who (Caller t.caller))))
+asked_is past who c = filter_none (is_asked who c) (unended_tickets past) (All_each _ (unended_tickets past) (λ t. and_false (same_who who (Caller t.caller))))
 
-pub one_ticket_ends : (past : List Entry) (e : Entry) → filter (is_ended_by e) (unended past) ≡ option_to_list (ticket_ended past e)
+pub one_ticket_ends : (past : List Entry) (e : Entry) → filter (is_ended_by e) (unended_tickets past) ≡ option_to_list (ticket_ended past e)
 one_ticket_ends past e = at (is_done e.reply) refl
   where
     and_true : (b : Bool) → (b && true) ≡ b
     and_true true = refl
     and_true false = refl
 
-    at : (b : Bool) → is_done e.reply ≡ b → filter (is_ended_by e) (unended past) ≡ option_to_list (if b then ticket_asked past e.who e.call else None)
-    at true h = filter_same (is_ended_by e) (is_asked e.who e.call) (unended past) (All_each _ (unended past) (λ t. ap (λ b. is_asked e.who e.call t && b) h ∙ and_true (is_asked e.who e.call t))) ∙ asked_is past e.who e.call
-    at false h = filter_none (is_ended_by e) (unended past) (All_each _ (unended past) (λ t. ap (λ b. is_asked e.who e.call t && b) h ∙ and_false (is_asked e.who e.call t)))
+    at : (b : Bool) → is_done e.reply ≡ b → filter (is_ended_by e) (unended_tickets past) ≡ option_to_list (if b then ticket_asked past e.who e.call else None)
+    at true h = filter_same (is_ended_by e) (is_asked e.who e.call) (unended_tickets past) (All_each _ (unended_tickets past) (λ t. ap (λ b. is_asked e.who e.call t && b) h ∙ and_true (is_asked e.who e.call t))) ∙ asked_is past e.who e.call
+    at false h = filter_none (is_ended_by e) (unended_tickets past) (All_each _ (unended_tickets past) (λ t. ap (λ b. is_asked e.who e.call t && b) h ∙ and_false (is_asked e.who e.call t)))
 
 -- ---- counts of tickets
 
 pub tickets_go_on : (s : Layout) (past : List Entry) (e : Entry) (p : Ticket → Bool) → IsLegal s (e ∷ past)
-    → count_by p (unended (e ∷ past)) + one (passes p (ticket_ended past e)) ≡ count_by p (unended past) + one (passes p (ticket_in e (length past)))
+    → count_by p (unended_tickets (e ∷ past)) + one (passes p (ticket_ended past e)) ≡ count_by p (unended_tickets past) + one (passes p (ticket_in e (length past)))
 tickets_go_on s past e p legal =
-    let split : count_by p (filter (is_kept e) (unended past) ++ option_to_list (ticket_in e (length past))) ≡ count_by p (filter (is_kept e) (unended past)) + count_by p (option_to_list (ticket_in e (length past)))
-    = sum_by-append (λ t. cond (p t) 1 0) (filter (is_kept e) (unended past)) (option_to_list (ticket_in e (length past))) in
-    let after : count_by p (unended (e ∷ past)) ≡ count_by p (filter (is_kept e) (unended past) ++ option_to_list (ticket_in e (length past))) = ap (count_by p) (unended_go_on s past e legal) in
-    let both : count_by p (filter (is_kept e) (unended past)) + count_by p (filter (is_ended_by e) (unended past)) ≡ count_by p (unended past)
-    = sum_by-filter_both (is_kept e) (is_ended_by e) (λ t. twice (ends t e)) (λ t. cond (p t) 1 0) (unended past) in
-    let ended : count_by p (filter (is_ended_by e) (unended past)) ≡ one (passes p (ticket_ended past e)) = ap (count_by p) (one_ticket_ends past e) ∙ single (ticket_ended past e) in
+    let split : count_by p (filter (is_kept e) (unended_tickets past) ++ option_to_list (ticket_in e (length past))) ≡ count_by p (filter (is_kept e) (unended_tickets past)) + count_by p (option_to_list (ticket_in e (length past)))
+    = sum_by-append (λ t. cond (p t) 1 0) (filter (is_kept e) (unended_tickets past)) (option_to_list (ticket_in e (length past))) in
+    let after : count_by p (unended_tickets (e ∷ past)) ≡ count_by p (filter (is_kept e) (unended_tickets past) ++ option_to_list (ticket_in e (length past))) = ap (count_by p) (unended_go_on s past e legal) in
+    let both : count_by p (filter (is_kept e) (unended_tickets past)) + count_by p (filter (is_ended_by e) (unended_tickets past)) ≡ count_by p (unended_tickets past)
+    = sum_by-filter_both (is_kept e) (is_ended_by e) (λ t. twice (ends t e)) (λ t. cond (p t) 1 0) (unended_tickets past) in
+    let ended : count_by p (filter (is_ended_by e) (unended_tickets past)) ≡ one (passes p (ticket_ended past e)) = ap (count_by p) (one_ticket_ends past e) ∙ single (ticket_ended past e) in
     let given : count_by p (option_to_list (ticket_in e (length past))) ≡ one (passes p (ticket_in e (length past))) = single (ticket_in e (length past)) in
     omega arith
   where
@@ -209,13 +189,13 @@ tickets_go_on s past e p legal =
 
 -- ---- flushes that are served
 
-pub served_stay : (past : List Entry) (e : Entry) (q n b : ℕ) → served past q n ≡ Some b → served (e ∷ past) q n ≡ Some b
-unfolding served
+pub served_stay : (past : List Entry) (e : Entry) (q n b : ℕ) → serving_from past q n ≡ Some b → serving_from (e ∷ past) q n ≡ Some b
+unfolding serving_from
 served_stay past e q n b h = ap (λ o. option_or o (if nat_le n (length past) && is_served_after (e ∷ past) q n then Some (length past) else None)) h
 
 -- of the tickets after the entry those older than n are those that were and aren't ended
 older_after : (s : Layout) (past : List Entry) (e : Entry) (q n : ℕ) → IsLegal s (e ∷ past) → n ≤ length past
-    → count_by (is_older_flush q n) (unended (e ∷ past)) + cond (option_map_or (is_older_flush q n) (ticket_ended past e) false) 1 0 ≡ count_by (is_older_flush q n) (unended past)
+    → count_by (is_older_flush q n) (unended_tickets (e ∷ past)) + cond (option_map_or (is_older_flush q n) (ticket_ended past e) false) 1 0 ≡ count_by (is_older_flush q n) (unended_tickets past)
 older_after s past e q n legal less =
     let count = tickets_go_on s past e (is_older_flush q n) legal in
     let none = new (ticket_in e (length past)) refl in
@@ -231,24 +211,24 @@ older_after s past e q n legal less =
         omega arith
 
 -- what isn't served though it stands has 15 older ones
-overflowed : (past : List Entry) (q n : ℕ) → n < length past → served past q n ≡ None → 15 ≤ count_by (is_older_flush q n) (unended past)
-unfolding served
+overflowed : (past : List Entry) (q n : ℕ) → n < length past → serving_from past q n ≡ None → 15 ≤ count_by (is_older_flush q n) (unended_tickets past)
+unfolding serving_from
 overflowed [] q n less h = absurd (omega arith)
-overflowed (e ∷ past) q n less h = at (served past q n) h
+overflowed (e ∷ past) q n less h = at (serving_from past q n) h
   where
     within : nat_le n (length past) ≡ true
     within = grind (arith, nat_tests)
 
-    beyond : (b : Bool) → is_served_after (e ∷ past) q n ≡ b → (if b then Some (length past) else None) ≡ None → 15 ≤ count_by (is_older_flush q n) (unended (e ∷ past))
+    beyond : (b : Bool) → is_served_after (e ∷ past) q n ≡ b → (if b then Some (length past) else None) ≡ None → 15 ≤ count_by (is_older_flush q n) (unended_tickets (e ∷ past))
     beyond true h k = cc
     beyond false h k = ltb-false _ 15 h
 
-    at : (o : Option ℕ) → option_or o (if nat_le n (length past) && is_served_after (e ∷ past) q n then Some (length past) else None) ≡ None → 15 ≤ count_by (is_older_flush q n) (unended (e ∷ past))
+    at : (o : Option ℕ) → option_or o (if nat_le n (length past) && is_served_after (e ∷ past) q n then Some (length past) else None) ≡ None → 15 ≤ count_by (is_older_flush q n) (unended_tickets (e ∷ past))
     at (Some b) k = cc
     at None k = beyond (is_served_after (e ∷ past) q n) refl (sym (ap (λ b. if b && is_served_after (e ∷ past) q n then Some (length past) else None) within) ∙ k)
 
-pub overflowed_move_up : (s : Layout) (past : List Entry) (e : Entry) (q n : ℕ) → IsLegal s (e ∷ past) → n < length past → served past q n ≡ None → served (e ∷ past) q n ≡ (if moves_up past e q n then Some (length past) else None)
-unfolding served
+pub overflowed_move_up : (s : Layout) (past : List Entry) (e : Entry) (q n : ℕ) → IsLegal s (e ∷ past) → n < length past → serving_from past q n ≡ None → serving_from (e ∷ past) q n ≡ (if moves_up past e q n then Some (length past) else None)
+unfolding serving_from
 overflowed_move_up s past e q n legal less h =
     ap (λ o. option_or o (if nat_le n (length past) && is_served_after (e ∷ past) q n then Some (length past) else None)) h
     ∙ ap₂ (λ a b. if a && b then Some (length past) else None) within moved
@@ -261,11 +241,11 @@ overflowed_move_up s past e q n legal less h =
     counted false m k sum many = le-ltb k 15 (omega arith)
 
     moved : is_served_after (e ∷ past) q n ≡ moves_up past e q n
-    moved = counted (option_map_or (is_older_flush q n) (ticket_ended past e) false) (count_by (is_older_flush q n) (unended past)) (count_by (is_older_flush q n) (unended (e ∷ past))) (older_after s past e q n legal (omega arith)) (overflowed past q n less h)
+    moved = counted (option_map_or (is_older_flush q n) (ticket_ended past e) false) (count_by (is_older_flush q n) (unended_tickets past)) (count_by (is_older_flush q n) (unended_tickets (e ∷ past))) (older_after s past e q n legal (omega arith)) (overflowed past q n less h)
 
 -- what is still to come isn't served
-not_served_yet : (past : List Entry) (q n : ℕ) → length past ≤ n → served past q n ≡ None
-unfolding served
+pub not_served_yet : (past : List Entry) (q n : ℕ) → length past ≤ n → serving_from past q n ≡ None
+unfolding serving_from
 not_served_yet [] q n less = refl
 not_served_yet (e ∷ past) q n less =
     ap₂ (λ o b. option_or o (if b && is_served_after (e ∷ past) q n then Some (length past) else None)) (not_served_yet past q n (omega arith)) (let young : nat_le n (length past) ≡ false = grind (arith, nat_tests) in young)
@@ -278,10 +258,10 @@ gives_no_end past e h = ap (λ b. if b then ticket_asked past e.who e.call else 
     open_wait r h = refl
 
 pub begun_are_served : (s : Layout) (past : List Entry) (e : Entry) (q : ℕ) (t : Ticket) → IsLegal s (e ∷ past) → ticket_in e (length past) ≡ Some t
-    → served (e ∷ past) q t.number ≡ (if nat_lt (count_by (is_flush_of q) (unended past)) 15 then Some (length past) else None)
-unfolding served
+    → serving_from (e ∷ past) q t.number ≡ (if nat_lt (count_by (is_flush_of q) (unended_tickets past)) 15 then Some (length past) else None)
+unfolding serving_from
 begun_are_served s past e q t legal h =
-    ap (served (e ∷ past) q) (ticket_number e (length past) t h)
+    ap (serving_from (e ∷ past) q) (ticket_number e (length past) t h)
     ∙ ap₂ (λ o b. option_or o (if b && is_served_after (e ∷ past) q (length past) then Some (length past) else None)) (not_served_yet past q (length past) (omega arith)) (let within : nat_le (length past) (length past) ≡ true = grind (arith, nat_tests) in within)
     ∙ ap (λ n. if nat_lt n 15 then Some (length past) else None) (count (none (ticket_ended past e) (gives_no_end past e (given_number e.who e.call (gives_ticket e.reply) (length past) t h).1)))
   where
@@ -296,23 +276,23 @@ begun_are_served s past e q t legal h =
     none None h = omega arith
     none (Some u) h = cc
 
-    count : cond (option_map_or (is_older_flush q (length past)) (ticket_ended past e) false) 1 0 ≤ 0 → count_by (is_older_flush q (length past)) (unended (e ∷ past)) ≡ count_by (is_flush_of q) (unended past)
+    count : cond (option_map_or (is_older_flush q (length past)) (ticket_ended past e) false) 1 0 ≤ 0 → count_by (is_older_flush q (length past)) (unended_tickets (e ∷ past)) ≡ count_by (is_flush_of q) (unended_tickets past)
     count zero =
-        let all : count_by (is_older_flush q (length past)) (unended past) ≡ count_by (is_flush_of q) (unended past)
-        = count_by-same (is_older_flush q (length past)) (is_flush_of q) (unended past) (All_map (IsGiven past) _ (unended past) (λ u given. older u given.older) (unended_given past)) in
+        let all : count_by (is_older_flush q (length past)) (unended_tickets past) ≡ count_by (is_flush_of q) (unended_tickets past)
+        = count_by-same (is_older_flush q (length past)) (is_flush_of q) (unended_tickets past) (All_map (IsGiven past) _ (unended_tickets past) (λ u given. older u given.older) (unended_given past)) in
         let sum = older_after s past e q (length past) legal (omega arith) in
         omega arith
 
 -- ---- one flush moves up at most
 
 abbrev IsFewer : List Entry → ℕ → Ticket → Type 0
-IsFewer past q t = (n : ℕ) → is_flush_of q t ≡ true → t.number < n → count_by (is_older_flush q t.number) (unended past) < count_by (is_older_flush q n) (unended past)
+IsFewer past q t = (n : ℕ) → is_flush_of q t ≡ true → t.number < n → count_by (is_older_flush q t.number) (unended_tickets past) < count_by (is_older_flush q n) (unended_tickets past)
 
 older_flush_true : (q n : ℕ) (t : Ticket) → is_flush_of q t ≡ true → t.number < n → is_older_flush q n t ≡ true
 older_flush_true q n t flush less = ap₂ (λ a b. a && b) flush (lt-ltb t.number n less)
 
-all_fewer : (past : List Entry) (q : ℕ) → AllByRecursion (IsFewer past q) (unended past)
-all_fewer past q = All_map _ (IsFewer past q) (unended past) (λ t fewer n flush less. let more = fewer (is_older_flush q t.number) (is_older_flush q n) (λ u h. older t u n less h) (not_self t) (older_flush_true q n t flush less) in omega arith) (count_by-fewer (unended past))
+all_fewer : (past : List Entry) (q : ℕ) → AllByRecursion (IsFewer past q) (unended_tickets past)
+all_fewer past q = All_map _ (IsFewer past q) (unended_tickets past) (λ t fewer n flush less. let more = fewer (is_older_flush q t.number) (is_older_flush q n) (λ u h. older t u n less h) (not_self t) (older_flush_true q n t flush less) in omega arith) (count_by-fewer (unended_tickets past))
   where
     older : (t u : Ticket) (n : ℕ) → t.number < n → is_older_flush q t.number u ≡ true → is_older_flush q n u ≡ true
     older t u n less h = let parts = both (is_flush_of q u) (nat_lt u.number t.number) h in let below : u.number < t.number = ltb-true u.number t.number parts.1 in older_flush_true q n u parts.0 (omega arith)
@@ -326,10 +306,10 @@ all_fewer past q = All_map _ (IsFewer past q) (unended past) (λ t fewer n flush
     not_self t = ap (λ b. is_flush_of q t && b) (le-ltb t.number t.number (omega arith)) ∙ and_false (is_flush_of q t)
 
 -- what moves up is a flush with 15 older ones
-moving_counts : (past : List Entry) (e : Entry) (q : ℕ) (t : Ticket) → is_moving past e q t ≡ true → (is_flush_of q t ≡ true) × (count_by (is_older_flush q t.number) (unended past) ≡ 15)
-moving_counts past e q t h = parts (is_flush_of q t) (option_map_or (is_older_flush q t.number) (ticket_ended past e) false) (count_by (is_older_flush q t.number) (unended past) == 15) refl h
+moving_counts : (past : List Entry) (e : Entry) (q : ℕ) (t : Ticket) → is_moving past e q t ≡ true → (is_flush_of q t ≡ true) × (count_by (is_older_flush q t.number) (unended_tickets past) ≡ 15)
+moving_counts past e q t h = parts (is_flush_of q t) (option_map_or (is_older_flush q t.number) (ticket_ended past e) false) (count_by (is_older_flush q t.number) (unended_tickets past) == 15) refl h
   where
-    parts : (a b c : Bool) → (count_by (is_older_flush q t.number) (unended past) == 15) ≡ c → (a && (b && c)) ≡ true → (a ≡ true) × (count_by (is_older_flush q t.number) (unended past) ≡ 15)
+    parts : (a b c : Bool) → (count_by (is_older_flush q t.number) (unended_tickets past) == 15) ≡ c → (a && (b && c)) ≡ true → (a ≡ true) × (count_by (is_older_flush q t.number) (unended_tickets past) ≡ 15)
     parts true true true is h = (refl, eqb-true _ 15 is)
     parts true true false is h = cc
     parts true false c is h = cc
@@ -338,10 +318,10 @@ moving_counts past e q t h = parts (is_flush_of q t) (option_map_or (is_older_fl
 moving_same : (past : List Entry) (e : Entry) (q : ℕ) (t u : Ticket) → IsFewer past q t → IsFewer past q u → is_moving past e q t ≡ true → is_moving past e q u ≡ true → t.number ≡ u.number
 moving_same past e q t u ft fu ht hu = at (nat_lt t.number u.number) (nat_lt u.number t.number) refl refl
   where
-    mt : (is_flush_of q t ≡ true) × (count_by (is_older_flush q t.number) (unended past) ≡ 15)
+    mt : (is_flush_of q t ≡ true) × (count_by (is_older_flush q t.number) (unended_tickets past) ≡ 15)
     mt = moving_counts past e q t ht
 
-    mu : (is_flush_of q u ≡ true) × (count_by (is_older_flush q u.number) (unended past) ≡ 15)
+    mu : (is_flush_of q u ≡ true) × (count_by (is_older_flush q u.number) (unended_tickets past) ≡ 15)
     mu = moving_counts past e q u hu
 
     at : (a b : Bool) → nat_lt t.number u.number ≡ a → nat_lt u.number t.number ≡ b → t.number ≡ u.number
@@ -349,14 +329,14 @@ moving_same past e q t u ft fu ht hu = at (nat_lt t.number u.number) (nat_lt u.n
     at false true ha hb = let fewer = fu t.number mu.0 (ltb-true u.number t.number hb) in let one = mt.1 in let other = mu.1 in absurd (omega arith)
     at false false ha hb = let above = ltb-false t.number u.number ha in let below = ltb-false u.number t.number hb in omega arith
 
-pub one_moves_up : (past : List Entry) (e : Entry) (q : ℕ) → count_by (is_moving past e q) (unended past) ≤ 1
-one_moves_up past e q = at (find (is_moving past e q) (unended past)) refl
+pub one_moves_up : (past : List Entry) (e : Entry) (q : ℕ) → count_by (is_moving past e q) (unended_tickets past) ≤ 1
+one_moves_up past e q = at (find (is_moving past e q) (unended_tickets past)) refl
   where
-    at : (o : Option Ticket) → find (is_moving past e q) (unended past) ≡ o → count_by (is_moving past e q) (unended past) ≤ 1
-    at None h = let none = count_by-none (is_moving past e q) (unended past) (find_none (is_moving past e q) (unended past) h) in omega arith
+    at : (o : Option Ticket) → find (is_moving past e q) (unended_tickets past) ≡ o → count_by (is_moving past e q) (unended_tickets past) ≤ 1
+    at None h = let none = count_by-none (is_moving past e q) (unended_tickets past) (find_none (is_moving past e q) (unended_tickets past) h) in omega arith
     at (Some t) h =
-        let f = find_holds (IsFewer past q) (is_moving past e q) (unended past) t (all_fewer past q) h in
-        let wider : count_by (is_moving past e q) (unended past) ≤ count_by (has_number t.number) (unended past)
-        = count_by-wider (is_moving past e q) (has_number t.number) (unended past) (All_map (IsFewer past q) _ (unended past) (λ u fu hu. eq-eqb u.number t.number (moving_same past e q u t fu f.holds hu f.passes)) (all_fewer past q)) in
+        let f = find_holds (IsFewer past q) (is_moving past e q) (unended_tickets past) t (all_fewer past q) h in
+        let wider : count_by (is_moving past e q) (unended_tickets past) ≤ count_by (has_number t.number) (unended_tickets past)
+        = count_by-wider (is_moving past e q) (has_number t.number) (unended_tickets past) (All_map (IsFewer past q) _ (unended_tickets past) (λ u fu hu. eq-eqb u.number t.number (moving_same past e q u t fu f.holds hu f.passes)) (all_fewer past q)) in
         let few = few_unended past t.number in
         omega arith

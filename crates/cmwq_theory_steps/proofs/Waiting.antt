@@ -1,20 +1,13 @@
 -- What waits, and what becomes active, after one more entry.
-use Rattle.std.proofs.Common.{◌≡◌, Bool, true, false, not, ◌&&◌, ◌||◌, List, [], ◌∷◌, ◌++◌, filter, Option, Some, None, option_to_list, cond, arith, refl, sym, ap, ap₂, ◌∙◌}
-use Rattle.std.specs.List.{AllByRecursion}
-use Rattle.std.proofs.lemmas.List.Elements.{filter-append}
-use Rattle.cmwq_model.specs.declared.entry.Entry.{Entry}
-use Rattle.cmwq_model.specs.declared.record.Queueing.{Queueing}
-use Rattle.cmwq_model.specs.Prelude.{Layout, queueings, still_open, is_live, opening, is_below_max_active, is_active, is_newly_active, newly_active, IsLegal}
+use Rattle.cmwq_theory_steps.specs.Common.{◌≡◌, Bool, true, false, not, ◌&&◌, ◌||◌, List, [], ◌∷◌, ◌++◌, filter, Option, Some, None, option_to_list, cond, arith, refl, sym, ap, ap₂, ◌∙◌, AllByRecursion, filter-append, Entry, Queueing, Layout, queueings, still_open, is_live, opening, is_below_max_active, is_active, is_newly_active, newly_active, IsLegal, All_each, All_filter, All_map, opening_number}
 use Rattle.cmwq_theory_steps.specs.Endings.{survives}
 use Rattle.cmwq_theory_steps.specs.Activations.{waits}
-use Rattle.cmwq_theory_active.proofs.Lists.{All_each, All_filter, All_map}
-use Rattle.cmwq_theory_steps.proofs.Filters.{filter_twice, filter_same}
+use Rattle.cmwq_lemmas.proofs.Filters.{filter_twice, filter_same}
 use Rattle.cmwq_theory_steps.proofs.Active.{not_active_yet}
-use Rattle.cmwq_theory_active.proofs.Rising.{opening_number}
 use Rattle.cmwq_theory_steps.proofs.Endings.{open_go_on}
 use Rattle.cmwq_theory_steps.proofs.Promoted.{turn_filters, newly_is, newly_of_open}
 use Rattle.cmwq_theory_steps.specs.Waiting.{waiting, candidates, has_none}
-use Rattle.cmwq_theory_steps.proofs.Truth.{flip}
+use Rattle.cmwq_lemmas.proofs.Truth.{flip}
 
 pub all_live : (past : List Entry) → AllByRecursion (λ x. is_live past x ≡ true) (still_open past)
 all_live past = All_filter (λ x. is_live past x ≡ true) (is_live past) (queueings past) (All_each _ (queueings past) (λ x h. h))

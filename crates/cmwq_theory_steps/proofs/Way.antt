@@ -1,18 +1,8 @@
 -- What is below max_active, told by what became active so far: so one pass over what waits finds what becomes active.
-use Rattle.std.proofs.Common.{◌≡◌, ℕ, zero, suc, ◌+◌, ◌-◌, ◌<◌, Bool, true, false, ◌&&◌, List, [], ◌∷◌, ◌++◌, length, filter, take, count_by, cond, nat_lt, refl, sym, ap, ap₂, ◌∙◌, subst, arith}
-use Rattle.std.specs.List.{AllByRecursion}
-use Rattle.std.proofs.lemmas.List.Elements.{filter-append}
-use Rattle.std.proofs.lemmas.Bool.{eq-eqb}
-use Rattle.std.proofs.lemmas.Bool.Decides.{nat_tests}
-use Rattle.cmwq_model.specs.declared.entry.Entry.{Entry}
-use Rattle.cmwq_model.specs.declared.record.Queueing.{Queueing}
-use Rattle.cmwq_model.specs.Prelude.{Layout, still_open, width, is_below_max_active}
-use Rattle.cmwq_theory_active.specs.Rising.{IsRising}
+use Rattle.cmwq_theory_steps.specs.Common.{◌≡◌, ℕ, zero, suc, ◌+◌, ◌-◌, ◌<◌, Bool, true, false, ◌&&◌, List, [], ◌∷◌, ◌++◌, length, filter, take, count_by, cond, nat_lt, refl, sym, ap, ap₂, ◌∙◌, subst, arith, AllByRecursion, filter-append, eq-eqb, nat_tests, Entry, Queueing, Layout, still_open, width, is_below_max_active, IsRising, All_filter, All_map, rising_filter, open_rise}
 use Rattle.cmwq_theory_steps.specs.Places.{is_on, open_on}
 use Rattle.cmwq_theory_steps.specs.Activations.{waits, stay_count}
-use Rattle.cmwq_theory_active.proofs.Lists.{All_filter, All_map}
 use Rattle.cmwq_theory_steps.proofs.Active.{length-count}
-use Rattle.cmwq_theory_active.proofs.Rising.{rising_filter, open_rise}
 use Rattle.cmwq_theory_steps.proofs.Promoted.{newly_active_on}
 use Rattle.cmwq_theory_steps.specs.Waiting.{candidates}
 use Rattle.cmwq_theory_steps.proofs.Waiting.{newly_are}

@@ -1,18 +1,8 @@
 -- A pool's worklist has all that belongs there, and nothing else.
-use Rattle.std.proofs.Common.{◌≡◌, Bool, true, false, cond, List, [], ◌∷◌, ◌++◌, length, filter, Option, Some, None, option_to_list, refl, subst, arith}
-use Rattle.std.specs.Prelude.{Contains}
-use Rattle.std.specs.List.{AllByRecursion}
-use Rattle.std.proofs.lemmas.List.Elements.{Contains-append_left, Contains-append_right, All-from_recursion}
-use Rattle.cmwq_model.specs.declared.id.PoolId.{PoolId}
-use Rattle.cmwq_model.specs.declared.entry.Entry.{Entry}
-use Rattle.cmwq_model.specs.declared.record.Queueing.{Queueing}
-use Rattle.cmwq_model.specs.Prelude.{Layout, queueings, opening, is_active, is_newly_active, newly_active, activated, is_listed, worklist}
+use Rattle.cmwq_theory_steps.specs.Common.{◌≡◌, Bool, true, false, cond, List, [], ◌∷◌, ◌++◌, length, filter, Option, Some, None, option_to_list, refl, subst, arith, Contains, AllByRecursion, Contains-append_left, Contains-append_right, All-from_recursion, PoolId, Entry, Queueing, Layout, queueings, opening, is_active, is_newly_active, newly_active, became_active, is_listed, worklist, All_map, All_both, All_append, All_filter, opening_number, active_older}
 use Rattle.cmwq_theory_steps.specs.Order.{IsWorklist}
-use Rattle.cmwq_theory_active.proofs.Lists.{All_map, All_both, All_append, All_filter}
-use Rattle.cmwq_theory_active.proofs.Rising.{opening_number}
 use Rattle.cmwq_theory_steps.proofs.Activated.{activated_all}
 use Rattle.cmwq_theory_steps.proofs.Order.{activated_in_order, in_order_filter}
-use Rattle.cmwq_theory_active.proofs.Joined.{active_older}
 
 module _ {X : Type 0} where
   contains_head : (x : X) (xs : List X) → Contains (x ∷ xs) x
@@ -44,23 +34,23 @@ module _ {X : Type 0} where
 
 -- ---- what is active became active
 
-opening_inactive : (s : Layout) (past : List Entry) (o : Option Queueing) → ((x : Queueing) → o ≡ Some x → x.number ≡ length past) → AllByRecursion (λ x. is_active s past x ≡ true → Contains (activated s past) x) (option_to_list o)
+opening_inactive : (s : Layout) (past : List Entry) (o : Option Queueing) → ((x : Queueing) → o ≡ Some x → x.number ≡ length past) → AllByRecursion (λ x. is_active s past x ≡ true → Contains (became_active s past) x) (option_to_list o)
 opening_inactive s past None h = tt
 opening_inactive s past (Some x) h = ((λ active. let less = active_older s past x active in let number = h x refl in absurd (omega arith)), tt)
 
-active_here : (s : Layout) (past : List Entry) (e : Entry) (x : Queueing) (b : Bool) → is_active s past x ≡ b → (is_active s past x ≡ true → Contains (activated s past) x)
-    → (is_newly_active s past e x ≡ true → Contains (newly_active s past e) x) → is_active s (e ∷ past) x ≡ true → Contains (activated s past ++ newly_active s past e) x
-active_here s past e x true h was newly active = Contains-append_left (activated s past) (newly_active s past e) x (was h)
-active_here s past e x false h was newly active = Contains-append_right (activated s past) (newly_active s past e) x (newly (grind arith))
+active_here : (s : Layout) (past : List Entry) (e : Entry) (x : Queueing) (b : Bool) → is_active s past x ≡ b → (is_active s past x ≡ true → Contains (became_active s past) x)
+    → (is_newly_active s past e x ≡ true → Contains (newly_active s past e) x) → is_active s (e ∷ past) x ≡ true → Contains (became_active s past ++ newly_active s past e) x
+active_here s past e x true h was newly active = Contains-append_left (became_active s past) (newly_active s past e) x (was h)
+active_here s past e x false h was newly active = Contains-append_right (became_active s past) (newly_active s past e) x (newly (grind arith))
 
-activated_has : (s : Layout) (past : List Entry) → AllByRecursion (λ x. is_active s past x ≡ true → Contains (activated s past) x) (queueings past)
-unfolding activated queueings
+activated_has : (s : Layout) (past : List Entry) → AllByRecursion (λ x. is_active s past x ≡ true → Contains (became_active s past) x) (queueings past)
+unfolding became_active queueings
 activated_has s [] = tt
 activated_has s (e ∷ past) =
-    All_both (λ x. is_active s past x ≡ true → Contains (activated s past) x) (λ x. is_newly_active s past e x ≡ true → Contains (newly_active s past e) x)
-    (λ x. is_active s (e ∷ past) x ≡ true → Contains (activated s (e ∷ past)) x) (queueings (e ∷ past))
+    All_both (λ x. is_active s past x ≡ true → Contains (became_active s past) x) (λ x. is_newly_active s past e x ≡ true → Contains (newly_active s past e) x)
+    (λ x. is_active s (e ∷ past) x ≡ true → Contains (became_active s (e ∷ past)) x) (queueings (e ∷ past))
     (λ x was newly active. active_here s past e x (is_active s past x) refl was newly active)
-    (All_append (λ x. is_active s past x ≡ true → Contains (activated s past) x) (queueings past) (option_to_list (opening past e)) (activated_has s past) (opening_inactive s past (opening past e) (opening_number past e)))
+    (All_append (λ x. is_active s past x ≡ true → Contains (became_active s past) x) (queueings past) (option_to_list (opening past e)) (activated_has s past) (opening_inactive s past (opening past e) (opening_number past e)))
     (filter_contains (is_newly_active s past e) (queueings (e ∷ past)))
 
 -- ---- the worklist
@@ -72,12 +62,12 @@ contained_more e past x h = Contains-append_left (queueings past) (option_to_lis
 pub worklist_is : (s : Layout) (past : List Entry) (p : PoolId) → IsWorklist s past p (worklist s past p)
 unfolding worklist
 worklist_is s past p = record {
-  all_stand = All_map (λ x. is_active s past x ≡ true → Contains (activated s past) x) (λ x. is_listed s past p x ≡ true → Contains (worklist s past p) x) (queueings past)
-      (λ x h listed. of_contained (λ y. is_listed s past p y ≡ true → Contains (filter (is_listed s past p) (activated s past)) y) (activated s past) x
-      (filter_contains (is_listed s past p) (activated s past)) (h (grind arith)) listed)
+  all_stand = All_map (λ x. is_active s past x ≡ true → Contains (became_active s past) x) (λ x. is_listed s past p x ≡ true → Contains (worklist s past p) x) (queueings past)
+      (λ x h listed. of_contained (λ y. is_listed s past p y ≡ true → Contains (filter (is_listed s past p) (became_active s past)) y) (became_active s past) x
+      (filter_contains (is_listed s past p) (became_active s past)) (h (grind arith)) listed)
       (activated_has s past);
-  no_others = All_filter (λ x. Contains (queueings past) x × (is_listed s past p x ≡ true)) (is_listed s past p) (activated s past)
-      (All_map (Contains (queueings past)) (λ x. is_listed s past p x ≡ true → Contains (queueings past) x × (is_listed s past p x ≡ true)) (activated s past) (λ x h listed. (h, listed))
+  no_others = All_filter (λ x. Contains (queueings past) x × (is_listed s past p x ≡ true)) (is_listed s past p) (became_active s past)
+      (All_map (Contains (queueings past)) (λ x. is_listed s past p x ≡ true → Contains (queueings past) x × (is_listed s past p x ≡ true)) (became_active s past) (λ x h listed. (h, listed))
       (activated_all s (λ h. Contains (queueings h)) contained_more (λ h. all_contained (queueings h)) past));
-  in_order = in_order_filter s past (is_listed s past p) (activated s past) (activated_in_order s past);
+  in_order = in_order_filter s past (is_listed s past p) (became_active s past) (activated_in_order s past);
 }

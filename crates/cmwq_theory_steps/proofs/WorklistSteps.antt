@@ -1,20 +1,9 @@
 -- A pool's worklist after one more entry.
-use Rattle.std.proofs.Common.{◌≡◌, ◌<◌, ℕ, Bool, true, false, not, ◌&&◌, ◌||◌, List, [], ◌∷◌, ◌++◌, length, filter, Option, Some, None, option_to_list, refl, sym, ap, ap₂, ◌∙◌, subst, arith}
-use Rattle.std.specs.List.{AllByRecursion}
-use Rattle.std.proofs.lemmas.List.Elements.{filter-append}
-use Rattle.cmwq_model.specs.declared.id.PoolId.{PoolId}
-use Rattle.cmwq_model.specs.declared.entry.Entry.{Entry}
-use Rattle.cmwq_model.specs.declared.record.Queueing.{Queueing}
-use Rattle.cmwq_model.specs.Prelude.{Layout, number_started, starts, is_started, queueings, queueing_at, opening, is_live, is_active, is_newly_active, newly_active, activated}
-use Rattle.cmwq_model.specs.Prelude.{is_listed, worklist, IsLegal}
+use Rattle.cmwq_theory_steps.specs.Common.{◌≡◌, ◌<◌, ℕ, Bool, true, false, not, ◌&&◌, ◌||◌, List, [], ◌∷◌, ◌++◌, length, filter, Option, Some, None, option_to_list, refl, sym, ap, ap₂, ◌∙◌, subst, arith, AllByRecursion, filter-append, PoolId, Entry, Queueing, Layout, number_started, starts, is_started, queueings, queueing_at, opening, is_live, is_active, is_newly_active, newly_active, became_active, is_listed, worklist, IsLegal, All_map, All_both, All_append, All_each, All_filter, IsBelow, queueings_below, opening_number, open_before, stays_active, active_live, not_live}
 use Rattle.cmwq_theory_steps.specs.Endings.{survives}
 use Rattle.cmwq_theory_steps.specs.Activations.{is_left, is_in}
-use Rattle.cmwq_theory_active.proofs.Lists.{All_map, All_both, All_append, All_each, All_filter}
-use Rattle.cmwq_theory_steps.proofs.Filters.{filter_twice, filter_same}
-use Rattle.cmwq_theory_active.proofs.Rising.{IsBelow, queueings_below, opening_number}
-use Rattle.cmwq_theory_active.proofs.Opens.{open_before}
+use Rattle.cmwq_lemmas.proofs.Filters.{filter_twice, filter_same}
 use Rattle.cmwq_theory_steps.proofs.Order.{still_active, HasSince, activated_since}
-use Rattle.cmwq_theory_active.proofs.Joined.{stays_active, active_live, not_live}
 use Rattle.cmwq_theory_steps.proofs.Activated.{activated_all}
 use Rattle.cmwq_theory_steps.proofs.Entries.{IsKnown, known_more, queueings_known}
 use Rattle.cmwq_theory_steps.proofs.ItemRuns.{starts_known}
@@ -131,14 +120,14 @@ listed_step s past e p x less since = ap (λ b. b && not (is_started (e ∷ past
 
 pub worklists_go_on : (s : Layout) (past : List Entry) (e : Entry) (p : PoolId) → IsLegal s (e ∷ past)
     → worklist s (e ∷ past) p ≡ filter (is_left past e) (worklist s past p) ++ filter (is_in s p) (newly_active s past e)
-unfolding worklist activated
+unfolding worklist became_active
 worklists_go_on s past e p legal =
-    filter-append (is_listed s (e ∷ past) p) (activated s past) (newly_active s past e)
+    filter-append (is_listed s (e ∷ past) p) (became_active s past) (newly_active s past e)
     ∙ ap₂ (λ xs ys. xs ++ ys)
-    (filter_same (is_listed s (e ∷ past) p) (λ x. is_listed s past p x && is_left past e x) (activated s past)
-    (All_both (IsKnown past) (HasSince s past) (λ x. is_listed s (e ∷ past) p x ≡ (is_listed s past p x && is_left past e x)) (activated s past) (λ x known since. listed_step s past e p x known.older since)
+    (filter_same (is_listed s (e ∷ past) p) (λ x. is_listed s past p x && is_left past e x) (became_active s past)
+    (All_both (IsKnown past) (HasSince s past) (λ x. is_listed s (e ∷ past) p x ≡ (is_listed s past p x && is_left past e x)) (became_active s past) (λ x known since. listed_step s past e p x known.older since)
     (activated_all s IsKnown known_more queueings_known past) (activated_since s past))
-    ∙ sym (filter_twice (is_left past e) (is_listed s past p) (activated s past)))
+    ∙ sym (filter_twice (is_left past e) (is_listed s past p) (became_active s past)))
     (filter_same (is_listed s (e ∷ past) p) (is_in s p) (newly_active s past e)
     (All_both (λ x. is_active s (e ∷ past) x ≡ true) (λ x. is_started (e ∷ past) x.number ≡ false) (λ x. is_listed s (e ∷ past) p x ≡ is_in s p x) (newly_active s past e)
     (λ x active none. ap₂ (λ a b. a && not b && is_in s p x) active none) all_active (newly_unstarted s past e legal)))

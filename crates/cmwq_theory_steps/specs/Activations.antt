@@ -1,14 +1,7 @@
 -- What one more entry makes active, and what it does to the worklists.
-use Rattle.std.specs.Prelude.{◌≡◌, ℕ, ◌-◌, take, Bool, true, false, ◌&&◌, ◌||◌, not, if◌then◌else◌, List, ◌∷◌, ◌++◌, filter, slice_get, count_by, Option, Some, None, option_to_list, nat_lt}
-use Rattle.std.specs.List.{AllByRecursion}
-use Rattle.cmwq_model.specs.declared.id.PoolId.{PoolId}
-use Rattle.cmwq_model.specs.declared.entry.Entry.{Entry}
-use Rattle.cmwq_model.specs.declared.record.Queueing.{Queueing}
-use Rattle.cmwq_model.specs.Prelude.{Layout, pool_at, width, same_pool, starts, is_started, queueings, is_live, still_open, opening, same_place, is_below_max_active, is_active}
-use Rattle.cmwq_model.specs.Prelude.{newly_active, worklist, IsLegal}
+use Rattle.cmwq_theory_steps.specs.Common.{◌≡◌, ℕ, ◌-◌, take, Bool, true, false, ◌&&◌, ◌||◌, not, if◌then◌else◌, List, ◌∷◌, ◌++◌, filter, slice_get, count_by, Option, Some, None, option_to_list, nat_lt, AllByRecursion, PoolId, Entry, Queueing, Layout, pool_at, width, same_pool, starts, is_started, queueings, is_live, still_open, opening, same_place, is_below_max_active, is_active, newly_active, worklist, IsLegal, keeps_widths}
 use Rattle.cmwq_theory_steps.specs.Places.{is_on, open_on}
 use Rattle.cmwq_theory_steps.specs.Endings.{survives, ending}
-use Rattle.cmwq_theory_active.specs.Looks.{keeps_widths}
 
 -- after an entry a queueing is active where it is open and was active, or is below max_active now
 abbrev pub ActiveGoOn : Type 0

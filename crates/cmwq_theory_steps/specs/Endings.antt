@@ -1,10 +1,5 @@
 -- What one more entry ends and opens, and so what is open after it.
-use Rattle.std.specs.Prelude.{◌≡◌, ℕ, ◌<◌, Bool, ◌&&◌, not, if◌then◌else◌, List, ◌∷◌, ◌++◌, length, filter, find, Option, None, option_map, option_and_then, option_to_list}
-use Rattle.std.specs.Option.{option_or}
-use Rattle.cmwq_model.specs.declared.entry.Entry.{Entry}
-use Rattle.cmwq_model.specs.declared.record.Queueing.{Queueing}
-use Rattle.cmwq_model.specs.Prelude.{Layout, item_of, is_of_item, number_finished, number_cancelled, finishes, takes_back, replaces, is_started, is_live, still_open, opening}
-use Rattle.cmwq_model.specs.Prelude.{unstarted, IsLegal}
+use Rattle.cmwq_theory_steps.specs.Common.{◌≡◌, ℕ, ◌<◌, Bool, ◌&&◌, not, if◌then◌else◌, List, ◌∷◌, ◌++◌, length, filter, find, Option, None, option_map, option_and_then, option_to_list, option_or, Entry, Queueing, Layout, item_of, is_of_item, number_finished, number_cancelled, finishes, takes_back, replaces, is_started, is_live, still_open, opening, unstarted_queueing, IsLegal}
 
 -- the entry puts something new in the place of this queueing, which hasn't started
 abbrev pub is_replaced : List Entry → Entry → Queueing → Bool
@@ -34,7 +29,7 @@ OneEnds = (s : Layout) (past : List Entry) (e : Entry) → IsLegal s (e ∷ past
 
 -- it is the one that the reply says finished or cancelled, or the unstarted one of the item that is queued or booked anew
 abbrev pub number_replaced : List Entry → Entry → Option ℕ
-number_replaced past e = if replaces e.reply then option_and_then (λ i. option_map (λ (x : Queueing). x.number) (unstarted past i)) (item_of e) else None
+number_replaced past e = if replaces e.reply then option_and_then (λ i. option_map (λ (x : Queueing). x.number) (unstarted_queueing past i)) (item_of e) else None
 
 abbrev pub number_ended : List Entry → Entry → Option ℕ
 number_ended past e = option_or (number_finished e.reply) (option_or (number_cancelled e.reply) (number_replaced past e))

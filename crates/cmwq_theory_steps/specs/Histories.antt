@@ -1,8 +1,5 @@
 -- What a law of histories ranges over.
-use Rattle.cmwq_model.specs.declared.entry.Entry.{Entry}
-use Rattle.cmwq_model.specs.Prelude.{Layout, IsLegal}
-use Rattle.std.specs.Prelude.{ℕ, Bool, if◌then◌else◌, List, ◌∷◌}
-use Rattle.std.specs.Prelude.{ℕ, Bool, List, [], ◌∷◌}
+use Rattle.cmwq_theory_steps.specs.Common.{Entry, Layout, IsLegal, ℕ, Bool, if◌then◌else◌, List, ◌∷◌, []}
 
 -- a law of every legal history of every shape
 abbrev pub OfLegal : (Layout → List Entry → Type 0) → Type 0

@@ -1,14 +1,5 @@
 -- An item's unstarted queueing and its run, as queueings, and the queueing that an entry ends, read off its reply.
-use Rattle.std.specs.Prelude.{◌≡◌, ℕ, ◌==◌, true, List, ◌∷◌, Option, Some, None, if◌then◌else◌, option_and_then}
-use Rattle.std.specs.Option.{option_or}
-use Rattle.cmwq_model.specs.declared.id.PoolId.{PoolId}
-use Rattle.cmwq_model.specs.declared.id.Who.{Who}
-use Rattle.cmwq_model.specs.declared.id.Who.TheVariants.{Caller, Worker}
-use Rattle.cmwq_model.specs.declared.reply.Reply.{Reply}
-use Rattle.cmwq_model.specs.declared.entry.Entry.{Entry}
-use Rattle.cmwq_model.specs.declared.record.Queueing.{Queueing}
-use Rattle.cmwq_model.specs.declared.record.Start.{Start}
-use Rattle.cmwq_model.specs.Prelude.{Layout, pool_at, item_of, run, item_run, opening, unstarted, queueing_at, is_live, next}
+use Rattle.cmwq_theory_steps.specs.Common.{◌≡◌, ℕ, ◌==◌, true, List, ◌∷◌, Option, Some, None, if◌then◌else◌, option_and_then, option_or, PoolId, Who, Caller, Worker, Reply, Entry, Queueing, Start, Layout, pool_at, item_of, run, item_run, opening, unstarted_queueing, queueing_at, is_live, next}
 use Rattle.cmwq_model.specs.declared.reply.Reply.TheVariants as reply
 use Rattle.cmwq_theory_steps.specs.Histories.{OfLegal, OfEntries}
 use Rattle.cmwq_theory_steps.specs.Endings.{ending}
@@ -25,11 +16,11 @@ of_item i None = None
 of_item i (Some x) = if x.item.0 == i then Some x else None
 
 abbrev pub UnstartedGoesOn : Type 0
-UnstartedGoesOn = OfEntries (λ s past e. (i : ℕ) → unstarted (e ∷ past) i ≡ option_or (still_unstarted past e (unstarted past i)) (of_item i (opening past e)))
+UnstartedGoesOn = OfEntries (λ s past e. (i : ℕ) → unstarted_queueing (e ∷ past) i ≡ option_or (still_unstarted past e (unstarted_queueing past i)) (of_item i (opening past e)))
 
 -- what a pool starts next is its item's unstarted queueing
 abbrev pub NextAreUnstarted : Type 0
-NextAreUnstarted = OfLegal (λ s past. (p : PoolId) (x : Queueing) → next s past p ≡ Some x → unstarted past x.item.0 ≡ Some x)
+NextAreUnstarted = OfLegal (λ s past. (p : PoolId) (x : Queueing) → next s past p ≡ Some x → unstarted_queueing past x.item.0 ≡ Some x)
 
 -- ---- an item's run is an open queueing of the item, in the pool of its worker
 
@@ -51,10 +42,10 @@ queueing_run past (Caller c) = None
 
 abbrev pub ended_by : List Entry → Who → Option ℕ → Reply → Option Queueing
 ended_by past who item (reply.Finished n) = queueing_run past who
-ended_by past who item (reply.Cancelled n) = option_and_then (unstarted past) item
-ended_by past who item (reply.TicketCancelled k n) = option_and_then (unstarted past) item
-ended_by past who item (reply.Again k) = option_and_then (unstarted past) item
-ended_by past who item (reply.Rebooked d) = option_and_then (unstarted past) item
+ended_by past who item (reply.Cancelled n) = option_and_then (unstarted_queueing past) item
+ended_by past who item (reply.TicketCancelled k n) = option_and_then (unstarted_queueing past) item
+ended_by past who item (reply.Again k) = option_and_then (unstarted_queueing past) item
+ended_by past who item (reply.Rebooked d) = option_and_then (unstarted_queueing past) item
 ended_by past who item r = None
 
 abbrev pub EndsAsTold : Type 0

@@ -1,9 +1,9 @@
+pub mod Common
 pub mod Activations
 pub mod Endings
 pub mod Growing
 pub mod Histories
 pub mod ItemQueueings
-pub mod Legality
 pub mod Limits
 pub mod Marks
 pub mod Order

@@ -1,6 +1,5 @@
 -- How many queueings are open at once.
-use Rattle.std.specs.Prelude.{◌≡◌, ℕ, ◌+◌, ◌*◌, ◌≤◌, ◌∷◌, length, count_by, is_some}
-use Rattle.cmwq_model.specs.Prelude.{still_open, opening, is_of}
+use Rattle.cmwq_theory_steps.specs.Common.{◌≡◌, ℕ, ◌+◌, ◌*◌, ◌≤◌, ◌∷◌, length, count_by, is_some, still_open, opening, is_of}
 use Rattle.cmwq_theory_steps.specs.Endings.{ending}
 use Rattle.cmwq_theory_steps.specs.Histories.{OfLegal, one, OfEntries}
 

@@ -1,11 +1,5 @@
 -- The order of a pool's worklist.
-use Rattle.std.specs.Prelude.{◌≡◌, ℕ, ◌<◌, ◌⊎◌, true, if◌then◌else◌, List, [], ◌∷◌, length, Option, Some, None, Contains}
-use Rattle.std.specs.List.{AllByRecursion}
-use Rattle.std.specs.Option.{option_or}
-use Rattle.cmwq_model.specs.declared.id.PoolId.{PoolId}
-use Rattle.cmwq_model.specs.declared.entry.Entry.{Entry}
-use Rattle.cmwq_model.specs.declared.record.Queueing.{Queueing}
-use Rattle.cmwq_model.specs.Prelude.{Layout, queueings, is_active, is_listed, worklist}
+use Rattle.cmwq_theory_steps.specs.Common.{◌≡◌, ℕ, ◌<◌, ◌⊎◌, true, if◌then◌else◌, List, [], ◌∷◌, length, Option, Some, None, Contains, AllByRecursion, option_or, PoolId, Entry, Queueing, Layout, queueings, is_active, is_listed, worklist}
 
 -- the length of the first prefix of the history in which the queueing is active
 unfoldable pub since : Layout → List Entry → Queueing → Option ℕ

@@ -1,11 +1,5 @@
 -- Runs, queueings and bookings of one item keep together: on one queue, and in one pool.
-use Rattle.std.specs.Prelude.{◌≡◌, ℕ, true, List, Some}
-use Rattle.cmwq_model.specs.declared.id.WorkerId.{WorkerId}
-use Rattle.cmwq_model.specs.declared.entry.Entry.{Entry}
-use Rattle.cmwq_model.specs.declared.record.Booking.{Booking}
-use Rattle.cmwq_model.specs.declared.record.Queueing.{Queueing}
-use Rattle.cmwq_model.specs.declared.record.Start.{Start}
-use Rattle.cmwq_model.specs.Prelude.{Layout, pool_at, booking, run, item_run, is_live, unstarted, queueing_at, queue_of, IsLegal}
+use Rattle.cmwq_theory_steps.specs.Common.{◌≡◌, ℕ, true, List, Some, WorkerId, Entry, Booking, Queueing, Start, Layout, pool_at, booking, run, item_run, is_live, unstarted_queueing, queueing_at, queue_of, IsLegal}
 
 -- what a worker runs is an open queueing of its pool
 pub record IsRunIn (s : Layout) (past : List Entry) (w : WorkerId) (n : ℕ) : Type 0 where
@@ -19,7 +13,7 @@ RunsAreInPools = (s : Layout) (past : List Entry) (w : WorkerId) (n : ℕ) → I
 
 -- an item that runs is queued again in the pool where it runs
 abbrev pub QueuedWhereItRuns : Type 0
-QueuedWhereItRuns = (s : Layout) (past : List Entry) (i : ℕ) (start : Start) (x : Queueing) → IsLegal s past → item_run past i ≡ Some start → unstarted past i ≡ Some x → pool_at s x.place ≡ start.worker.pool
+QueuedWhereItRuns = (s : Layout) (past : List Entry) (i : ℕ) (start : Start) (x : Queueing) → IsLegal s past → item_run past i ≡ Some start → unstarted_queueing past i ≡ Some x → pool_at s x.place ≡ start.worker.pool
 
 -- and is booked on the queue of its run
 abbrev pub BookedWhereItRuns : Type 0

@@ -1,20 +1,5 @@
 -- Why a legal entry's reply is what it is: what held before it, read off the reply.
-use Rattle.std.specs.Prelude.{◌≡◌, ℕ, ◌+◌, ◌<◌, Bool, true, false, List, ◌∷◌, length, Option, Some, None}
-use Rattle.cmwq_model.specs.declared.id.CallerId.{CallerId}
-use Rattle.cmwq_model.specs.declared.id.ItemId.{ItemId}
-use Rattle.cmwq_model.specs.declared.id.WorkerId.{WorkerId}
-use Rattle.cmwq_model.specs.declared.id.Who.{Who}
-use Rattle.cmwq_model.specs.declared.id.Who.TheVariants.{Caller, Worker}
-use Rattle.cmwq_model.specs.declared.call.Call.{Call}
-use Rattle.cmwq_model.specs.declared.reply.Reply.{Reply}
-use Rattle.cmwq_model.specs.declared.entry.Entry.{Entry}
-use Rattle.cmwq_model.specs.declared.record.Booking.{Booking}
-use Rattle.cmwq_model.specs.declared.record.Place.{Place}
-use Rattle.cmwq_model.specs.declared.record.Queueing.{Queueing}
-use Rattle.cmwq_model.specs.declared.record.Ticket.{Ticket}
-use Rattle.cmwq_model.specs.Prelude.{Layout, item_called, now, booking, is_booked, number_started, number_finished, number_cancelled, run, has_run, runs_awake, runs_asleep}
-use Rattle.cmwq_model.specs.Prelude.{place_called, is_pending, unstarted, runs_elsewhere, next, is_enlisted, index_enlisted, runnable, enlisted_by, may_retire, gives_ticket}
-use Rattle.cmwq_model.specs.Prelude.{is_cancelling, is_crowded, ticket_of, waits_for, may_call, is_shut, first_due, is_held_back, IsLegal}
+use Rattle.cmwq_theory_steps.specs.Common.{◌≡◌, ℕ, ◌+◌, ◌<◌, Bool, true, false, List, ◌∷◌, length, Option, Some, None, CallerId, ItemId, WorkerId, Who, Caller, Worker, Call, Reply, Entry, Booking, Place, Queueing, Ticket, Layout, item_called, now, booking, is_booked, number_started, number_finished, number_cancelled, run, has_run, runs_awake, runs_asleep, place_called, is_pending, unstarted_queueing, runs_elsewhere, next, is_enlisted, index_enlisted, runnable, enlisted_by, may_retire, gives_ticket, is_cancelling, is_crowded, ticket_of, waits_for, may_call, is_shut, first_due, is_held_back, IsLegal}
 use Rattle.cmwq_model.specs.declared.call.Call.TheVariants as call
 use Rattle.cmwq_model.specs.declared.reply.Reply.TheVariants as reply
 
@@ -135,7 +120,7 @@ pub record TakesBack (past : List Entry) (c : Call) (n : ℕ) : Type 0 where
   pub item : ℕ
   pub queueing : Queueing
   pub is_item : item_called c ≡ Some item
-  pub is_unstarted : unstarted past item ≡ Some queueing
+  pub is_unstarted : unstarted_queueing past item ≡ Some queueing
   pub number : queueing.number ≡ n
 
 abbrev pub CancelledWereUnstarted : Type 0
@@ -148,7 +133,7 @@ unbooks (reply.TicketUnbooked k) = true
 unbooks r = false
 
 abbrev pub UnbookedWereBooked : Type 0
-UnbookedWereBooked = OfReplies (λ s past who c r. unbooks r ≡ true → (i : ℕ) × (item_called c ≡ Some i) × (is_booked past i ≡ true) × (unstarted past i ≡ None))
+UnbookedWereBooked = OfReplies (λ s past who c r. unbooks r ≡ true → (i : ℕ) × (item_called c ≡ Some i) × (is_booked past i ≡ true) × (unstarted_queueing past i ≡ None))
 
 -- ---- tickets and time
 

@@ -1,12 +1,5 @@
 -- Entries that change nothing: what a call is refused with, and misuse among it.
-use Rattle.std.specs.Prelude.{◌≡◌, ℕ, ◌<◌, Bool, true, false, List, [], ◌∷◌, length, None}
-use Rattle.cmwq_model.specs.declared.id.PoolId.{PoolId}
-use Rattle.cmwq_model.specs.declared.id.WorkerId.{WorkerId}
-use Rattle.cmwq_model.specs.declared.reply.Reply.{Reply}
-use Rattle.cmwq_model.specs.declared.entry.Entry.{Entry}
-use Rattle.cmwq_model.specs.declared.record.Queueing.{Queueing}
-use Rattle.cmwq_model.specs.Prelude.{Layout, now, booking, booking_of, run, item_run, is_asleep, queueings, opening, still_open, unstarted, run_queue, is_frozen, max_active}
-use Rattle.cmwq_model.specs.Prelude.{width, is_active, newly_active, worklist, next, is_enlisted, unended, ticket_in, is_gone, bits, owed}
+use Rattle.cmwq_theory_steps.specs.Common.{◌≡◌, ℕ, ◌<◌, Bool, true, false, List, [], ◌∷◌, length, None, PoolId, WorkerId, Reply, Entry, Queueing, Layout, now, booking, booking_of, run, item_run, is_asleep, queueings, opening, still_open, unstarted_queueing, run_queue, is_frozen, max_active, width, is_active, newly_active, worklist, next, is_enlisted, unended_tickets, ticket_in, is_gone, bits, owed}
 use Rattle.cmwq_model.specs.declared.reply.Reply.TheVariants as reply
 use Rattle.cmwq_theory_steps.specs.Histories.{OfEntries}
 use Rattle.cmwq_theory_steps.specs.Places.{active_count}
@@ -47,7 +40,7 @@ pub record ChangesNothing (s : Layout) (past : List Entry) (e : Entry) : Type 0 
   pub waiting : waiting s (e ∷ past) ≡ waiting s past
   pub worklists : (p : PoolId) → worklist s (e ∷ past) p ≡ worklist s past p
   pub next : (p : PoolId) → next s (e ∷ past) p ≡ next s past p
-  pub unstarted : (i : ℕ) → unstarted (e ∷ past) i ≡ unstarted past i
+  pub unstarted : (i : ℕ) → unstarted_queueing (e ∷ past) i ≡ unstarted_queueing past i
   pub booking : (i : ℕ) → booking (e ∷ past) i ≡ booking past i
   pub bits : (i : ℕ) → bits (e ∷ past) i ≡ bits past i
   pub item_run : (i : ℕ) → item_run (e ∷ past) i ≡ item_run past i
@@ -55,7 +48,7 @@ pub record ChangesNothing (s : Layout) (past : List Entry) (e : Entry) : Type 0 
   pub run_queue : (w : WorkerId) → run_queue (e ∷ past) w ≡ run_queue past w
   pub asleep : (w : WorkerId) → is_asleep (e ∷ past) w ≡ is_asleep past w
   pub enlisted : (w : WorkerId) → is_enlisted (e ∷ past) w ≡ is_enlisted past w
-  pub unended : unended (e ∷ past) ≡ unended past
+  pub unended : unended_tickets (e ∷ past) ≡ unended_tickets past
   pub gone : (q : ℕ) → is_gone (e ∷ past) q ≡ is_gone past q
   pub frozen : is_frozen (e ∷ past) ≡ is_frozen past
   pub max_active : (q : ℕ) → max_active s (e ∷ past) q ≡ max_active s past q

@@ -1,11 +1,5 @@
 -- What a history owes after one more entry, and so which replies are never refused for want of room.
-use Rattle.std.specs.Prelude.{◌≡◌, ℕ, ◌+◌, ◌*◌, [], ◌≤◌, Bool, true, false, ◌&&◌, List, ◌∷◌, length, count_by, is_some}
-use Rattle.std.specs.List.{range_with_len}
-use Rattle.std.specs.Option.{option_map_or}
-use Rattle.cmwq_model.specs.declared.reply.Reply.{Reply}
-use Rattle.cmwq_model.specs.declared.entry.Entry.{Entry}
-use Rattle.cmwq_model.specs.Prelude.{Layout, item_of, settles, booking_of, is_booked, number_started, number_finished, has_run, runs_asleep, still_open, opening, gives_ticket}
-use Rattle.cmwq_model.specs.Prelude.{is_done, unended, is_frozen, owed, workers, has_not_started, needed}
+use Rattle.cmwq_theory_steps.specs.Common.{◌≡◌, ℕ, ◌+◌, ◌*◌, [], ◌≤◌, Bool, true, false, ◌&&◌, List, ◌∷◌, length, count_by, is_some, range_with_len, option_map_or, Reply, Entry, Layout, item_of, settles, booking_of, is_booked, number_started, number_finished, has_run, runs_asleep, still_open, opening, gives_ticket, is_done, unended_tickets, is_frozen, owed, workers, has_not_started, room_needed}
 use Rattle.cmwq_model.specs.declared.reply.Reply.TheVariants as reply
 use Rattle.cmwq_theory_steps.specs.Endings.{ending}
 use Rattle.cmwq_theory_steps.specs.Histories.{one, OfEntries}
@@ -55,7 +49,7 @@ abbrev pub BookedAreCounted : Type 0
 BookedAreCounted = OfEntries (λ s past e. booked_count s (e ∷ past) + one (settles_booked past e) ≡ booked_count s past + one (is_some (booking_of e (length past))))
 
 abbrev pub TicketsAreCounted : Type 0
-TicketsAreCounted = OfEntries (λ s past e. length (unended (e ∷ past)) + one (is_done e.reply) ≡ length (unended past) + one (gives_ticket e.reply))
+TicketsAreCounted = OfEntries (λ s past e. length (unended_tickets (e ∷ past)) + one (is_done e.reply) ≡ length (unended_tickets past) + one (gives_ticket e.reply))
 
 -- one more while it is frozen
 abbrev pub is_frozen_now : Reply → Bool
@@ -107,4 +101,4 @@ is_promised r = false
 
 -- they need no more room than the history did before
 abbrev pub PromisedNeedNoMore : Type 0
-PromisedNeedNoMore = OfEntries (λ s past e. is_promised e.reply ≡ true → needed s (e ∷ past) ≤ needed s past)
+PromisedNeedNoMore = OfEntries (λ s past e. is_promised e.reply ≡ true → room_needed s (e ∷ past) ≤ room_needed s past)

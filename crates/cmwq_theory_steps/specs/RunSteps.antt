@@ -1,12 +1,5 @@
 -- What workers and items run after one more entry.
-use Rattle.std.specs.Prelude.{◌≡◌, ℕ, Bool, false, if◌then◌else◌, List, ◌∷◌, Option, Some, None}
-use Rattle.std.specs.Option.{option_map_or}
-use Rattle.cmwq_model.specs.declared.id.WorkerId.{WorkerId}
-use Rattle.cmwq_model.specs.declared.id.Who.TheVariants.{Worker}
-use Rattle.cmwq_model.specs.declared.reply.Reply.{Reply}
-use Rattle.cmwq_model.specs.declared.entry.Entry.{Entry}
-use Rattle.cmwq_model.specs.declared.record.Start.{Start}
-use Rattle.cmwq_model.specs.Prelude.{Layout, is_by, item_at, finishes, run, start_in, starts_item, item_run, IsLegal}
+use Rattle.cmwq_theory_steps.specs.Common.{◌≡◌, ℕ, Bool, false, if◌then◌else◌, List, ◌∷◌, Option, Some, None, option_map_or, WorkerId, Worker, Reply, Entry, Start, Layout, is_by, item_at, finishes, run, start_in, starts_item, item_run, IsLegal}
 use Rattle.cmwq_model.specs.declared.reply.Reply.TheVariants as reply
 
 -- what a worker runs after an entry of its own

@@ -1,13 +1,5 @@
 -- What is kept of workers, items, time and serials after one more entry.
-use Rattle.std.specs.Prelude.{◌≡◌, ℕ, ◌+◌, true, false, ◌&&◌, ◌||◌, not, if◌then◌else◌, List, ◌∷◌, length, Some}
-use Rattle.cmwq_model.specs.declared.id.ItemId.{ItemId}
-use Rattle.cmwq_model.specs.declared.id.WorkerId.{WorkerId}
-use Rattle.cmwq_model.specs.declared.id.Who.{Who}
-use Rattle.cmwq_model.specs.declared.id.Who.TheVariants.{Worker}
-use Rattle.cmwq_model.specs.declared.entry.Entry.{Entry}
-use Rattle.cmwq_model.specs.declared.record.Place.{Place}
-use Rattle.cmwq_model.specs.Prelude.{Layout, same_who, is_by, is_of_item, item_called, item_of, serial_of, ticks_told, now, settles, due_in, booking, booking_of, asleep_after}
-use Rattle.cmwq_model.specs.Prelude.{is_asleep, opens, opening, place_called, place_wanted, queued_at, enlists, is_retired, is_enlisted, IsLegal}
+use Rattle.cmwq_theory_steps.specs.Common.{◌≡◌, ℕ, ◌+◌, true, false, ◌&&◌, ◌||◌, not, if◌then◌else◌, List, ◌∷◌, length, Some, ItemId, WorkerId, Who, Worker, Entry, Place, Layout, same_who, is_by, is_of_item, item_called, item_of, serial_of, ticks_told, now, settles, due_in, booking, booking_of, asleep_after, is_asleep, opens, opening, place_called, place_wanted, queued_at, enlists, is_retired, is_enlisted, IsLegal}
 use Rattle.cmwq_theory_steps.specs.Histories.{one}
 
 -- a worker sleeps as its own last entry left it

@@ -1,29 +1,22 @@
 -- What is counted over all rows, as tickets come and go.
-use Rattle.std.proofs.Common.{◌≡◌, ℕ, ◌+◌, ◌-◌, ◌<◌, ◌≤◌, Bool, true, false, cond, ◌==◌, List, [], ◌∷◌, ◌++◌, length, get_or, count_by, All, AllPairs, filter, Some, refl, ap, ◌∙◌, arith, ⊎_elim}
-use Rattle.std.specs.Prelude.{slice_index, nat_lt}
-use Rattle.std.specs.List.{list_any}
-use Rattle.std.proofs.lemmas.Bool.{cases_eq, cases_lt}
-use Rattle.std.proofs.lemmas.Bool.Decides.{nat_tests}
-use Rattle.std.proofs.lemmas.List.{get_or-set_same, get_or-set_other, get_or_default, get_or_past}
-use Rattle.std.proofs.lemmas.List.Sums.{sum_by-set, sum_by_push, sum_by-cons, sum_by-le, count_by-le-length}
-use Rattle.cmwq_model.specs.declared.record.Ticket.{Ticket}
-use Rattle.cmwq_ticket.specs.Counts.{count_all, IsExact, IsBelow, more_at, less_at}
-use Rattle.cmwq_ticket.specs.Rows.{Rows, row_of, given, ended, ticket_of, is_other, IsOlder, IsRow}
+use Rattle.cmwq_ticket.specs.Common.{◌≡◌, ℕ, ◌+◌, ◌-◌, ◌<◌, ◌≤◌, Bool, true, false, cond, ◌==◌, List, [], ◌∷◌, ◌++◌, length, get_or, count_by, All, AllPairs, filter, Some, refl, ap, ◌∙◌, arith, ⊎_elim, slice_index, nat_lt, list_any, cases_eq, cases_lt, nat_tests, get_or-set_same, get_or-set_other, get_or_default, get_or_past, sum_by-set, sum_by_push, sum_by-cons, sum_by-le, count_by-le-length, Ticket}
+use Rattle.cmwq_ticket.specs.Counts.{count_all, IsExact, IsBelowLimit, more_at, less_at}
+use Rattle.cmwq_ticket.specs.Rows.{TicketRows, tickets_of_caller, rows_with, rows_without, ticket_of_caller, is_other_ticket, IsOlderTicket, IsRow}
 use Rattle.cmwq_ticket.proofs.RowSteps.{count_by-other}
 
 -- ---- one more, one less
 
-count_all-given : (p : Ticket → Bool) (rows : Rows) (t : Ticket) → t.caller.0 < length rows → count_all p (given rows t) ≡ count_all p rows + cond (p t) 1 0
+count_all-given : (p : Ticket → Bool) (rows : TicketRows) (t : Ticket) → t.caller.0 < length rows → count_all p (rows_with rows t) ≡ count_all p rows + cond (p t) 1 0
 count_all-given p rows t there =
-    let row = row_of rows t.caller.0 in
+    let row = tickets_of_caller rows t.caller.0 in
     let changed = sum_by-set (count_by p) rows t.caller.0 (row ++ t ∷ []) [] there in
     let more = sum_by_push (λ (u : Ticket). cond (p u) 1 0) row t in
     omega arith
 
-count_all-ended : (p : Ticket → Bool) (rows : Rows) (c n : ℕ) (t : Ticket) → c < length rows → AllPairs IsOlder (row_of rows c) → ticket_of rows c n ≡ Some t → count_all p (ended rows c n) + cond (p t) 1 0 ≡ count_all p rows
+count_all-ended : (p : Ticket → Bool) (rows : TicketRows) (c n : ℕ) (t : Ticket) → c < length rows → AllPairs IsOlderTicket (tickets_of_caller rows c) → ticket_of_caller rows c n ≡ Some t → count_all p (rows_without rows c n) + cond (p t) 1 0 ≡ count_all p rows
 count_all-ended p rows c n t there rise found =
-    let changed = sum_by-set (count_by p) rows c (filter (is_other n) (row_of rows c)) [] there in
-    let less = count_by-other p n t (row_of rows c) rise found in
+    let changed = sum_by-set (count_by p) rows c (filter (is_other_ticket n) (tickets_of_caller rows c)) [] there in
+    let less = count_by-other p n t (tickets_of_caller rows c) rise found in
     omega arith
 
 -- a count at each place, after one more and one less at a place
@@ -61,7 +54,7 @@ any_of_row p (x ∷ row) = which (p x) refl (any_of_row p row)
         let one = rw is at (sum_by-cons (λ (u : Ticket). cond (p u) 1 0) x row) in
         rw (is, one) (ap (nat_lt 0) (let same : 0 + count_by p row ≡ count_by p row = omega arith in same) ∙ rest)
 
-any_of_rows : (p : Ticket → Bool) (rows : Rows) → nat_lt 0 (count_all p rows) ≡ list_any (list_any p) rows
+any_of_rows : (p : Ticket → Bool) (rows : TicketRows) → nat_lt 0 (count_all p rows) ≡ list_any (list_any p) rows
 any_of_rows p [] = refl
 any_of_rows p (row ∷ rows) =
     let all = sum_by-cons (count_by p) row rows in
@@ -69,36 +62,36 @@ any_of_rows p (row ∷ rows) =
 
 -- ---- the counts beside the rows
 
-module _ (p : ℕ → Ticket → Bool) (counts : List ℕ) (rows : Rows) (exact : IsExact p counts rows) where
+module _ (p : ℕ → Ticket → Bool) (counts : List ℕ) (rows : TicketRows) (exact : IsExact p counts rows) where
   -- a ticket that isn't counted here comes or goes
-  pub given_uncounted : (t : Ticket) → t.caller.0 < length rows → ((i : ℕ) → p i t ≡ false) → IsExact p counts (given rows t)
+  pub given_uncounted : (t : Ticket) → t.caller.0 < length rows → ((i : ℕ) → p i t ≡ false) → IsExact p counts (rows_with rows t)
   given_uncounted t there none i =
       let more = rw (none i) at (count_all-given (p i) rows t there) in
       let was = exact i in
       omega arith
 
-  pub ended_uncounted : (c n : ℕ) (t : Ticket) → c < length rows → AllPairs IsOlder (row_of rows c) → ticket_of rows c n ≡ Some t → ((i : ℕ) → p i t ≡ false) → IsExact p counts (ended rows c n)
+  pub ended_uncounted : (c n : ℕ) (t : Ticket) → c < length rows → AllPairs IsOlderTicket (tickets_of_caller rows c) → ticket_of_caller rows c n ≡ Some t → ((i : ℕ) → p i t ≡ false) → IsExact p counts (rows_without rows c n)
   ended_uncounted c n t there rise found none i =
       let less = rw (none i) at (count_all-ended (p i) rows c n t there rise found) in
       let was = exact i in
       omega arith
 
   -- one that is counted at place k does
-  pub given_counted : (t : Ticket) (k : ℕ) → t.caller.0 < length rows → ((i : ℕ) → p i t ≡ (k == i)) → k < length counts → IsExact p (more_at k counts) (given rows t)
+  pub given_counted : (t : Ticket) (k : ℕ) → t.caller.0 < length rows → ((i : ℕ) → p i t ≡ (k == i)) → k < length counts → IsExact p (more_at k counts) (rows_with rows t)
   given_counted t k there is lt i =
       let more = rw (is i) at (count_all-given (p i) rows t there) in
       let was = exact i in
       let now = more_at-at counts k i lt in
       omega arith
 
-  pub counted_some : (c n : ℕ) (t : Ticket) (k : ℕ) → c < length rows → AllPairs IsOlder (row_of rows c) → ticket_of rows c n ≡ Some t → ((i : ℕ) → p i t ≡ (k == i)) → 0 < slice_index counts k
+  pub counted_some : (c n : ℕ) (t : Ticket) (k : ℕ) → c < length rows → AllPairs IsOlderTicket (tickets_of_caller rows c) → ticket_of_caller rows c n ≡ Some t → ((i : ℕ) → p i t ≡ (k == i)) → 0 < slice_index counts k
   counted_some c n t k there rise found is =
       let hit : p k t ≡ true = is k ∙ (let e : (k == k) ≡ true = grind (arith, nat_tests) in e) in
       let less = rw hit at (count_all-ended (p k) rows c n t there rise found) in
       let was = exact k in
       omega arith
 
-  pub ended_counted : (c n : ℕ) (t : Ticket) (k : ℕ) → c < length rows → AllPairs IsOlder (row_of rows c) → ticket_of rows c n ≡ Some t → ((i : ℕ) → p i t ≡ (k == i)) → IsExact p (less_at k counts) (ended rows c n)
+  pub ended_counted : (c n : ℕ) (t : Ticket) (k : ℕ) → c < length rows → AllPairs IsOlderTicket (tickets_of_caller rows c) → ticket_of_caller rows c n ≡ Some t → ((i : ℕ) → p i t ≡ (k == i)) → IsExact p (less_at k counts) (rows_without rows c n)
   ended_counted c n t k there rise found is i =
       let less = rw (is i) at (count_all-ended (p i) rows c n t there rise found) in
       let was = exact i in
@@ -106,7 +99,7 @@ module _ (p : ℕ → Ticket → Bool) (counts : List ℕ) (rows : Rows) (exact 
       omega arith
 
   -- no count is out of range
-  pub counts_below : length rows < 256 → All IsRow rows → All IsBelow counts
+  pub counts_below : length rows < 256 → All IsRow rows → All IsBelowLimit counts
   counts_below few are k d lt =
       let IsShort : List Ticket → Type 0 = λ row. count_by (p k) row ≤ 64 in
       let short : All IsShort rows = λ j e less. let le = count_by-le-length (p k) (get_or rows j e) in let fits = (are j e less).few in omega arith in

@@ -1,20 +1,10 @@
 -- What is kept true of the rows and the counts, as tickets come and go.
-use Rattle.std.proofs.Common.{◌≡◌, ℕ, ◌+◌, ◌-◌, ◌<◌, ◌≤◌, Bool, true, not, List, [], ◌∷◌, ◌++◌, length, get_or, filter, find, count_by, All, AllPairs, IsTrue, Option, Some, None, is_some, refl, sym, ap, ◌∙◌, arith, ⊎_elim, replicate, sum_by, zero, suc, mul-zero}
-use Rattle.std.specs.Prelude.{nat_lt, slice_set, slice_index}
-use Rattle.std.specs.List.{list_all}
-use Rattle.std.proofs.lemmas.Bool.{and_parts, ltb-true, cases_lt}
-use Rattle.std.proofs.lemmas.Bool.Decides.{nat_tests}
-use Rattle.std.proofs.lemmas.List.{length-append, length-set, length-replicate, get_or_past, get_or_read_under}
+use Rattle.cmwq_ticket.specs.Common.{◌≡◌, ℕ, ◌+◌, ◌-◌, ◌<◌, ◌≤◌, Bool, true, not, List, [], ◌∷◌, ◌++◌, length, get_or, filter, find, count_by, All, AllPairs, IsTrue, Option, Some, None, is_some, refl, sym, ap, ◌∙◌, arith, ⊎_elim, replicate, sum_by, zero, suc, mul-zero, nat_lt, slice_set, slice_index, list_all, and_parts, ltb-true, cases_lt, nat_tests, length-append, length-set, length-replicate, get_or_past, get_or_read_under, sum_by-replicate, sum_by-set, sum_by-cons, sum_by-le, Call, Ticket, cancels_sync, drains, destroys, is_cancel_sync_of, is_destroy_of, is_drain_of}
 use Rattle.std.proofs.lemmas.List.Elements.{All-set, All-replicate}
-use Rattle.std.proofs.lemmas.List.Folds.{sum_by-replicate}
-use Rattle.std.proofs.lemmas.List.Sums.{sum_by-set, sum_by-cons, sum_by-le}
-use Rattle.cmwq_model.specs.declared.call.Call.{Call}
-use Rattle.cmwq_model.specs.declared.record.Ticket.{Ticket}
-use Rattle.cmwq_model.specs.Prelude.{cancels_sync, drains, destroys, is_cancel_sync_of, is_destroy_of, is_drain_of}
 use Rattle.cmwq_model.specs.declared.call.Call.TheVariants as call
 use Rattle.cmwq_ticket.specs.declared.counts.Counts.{Counts}
-use Rattle.cmwq_ticket.specs.Counts.{AreExact, AreSized, HasCount, HaveRoom, is_counted, raised, lowered, no_counts, IsExact}
-use Rattle.cmwq_ticket.specs.Rows.{Rows, row_of, given, ended, ticket_of, is_crowded, is_numbered, is_other, comes_before, may_give, count, IsOlder, IsRow}
+use Rattle.cmwq_ticket.specs.Counts.{AreExact, AreSized, HasCount, HaveRoom, is_counted, counts_with, counts_without, no_counts, IsExact}
+use Rattle.cmwq_ticket.specs.Rows.{TicketRows, tickets_of_caller, rows_with, rows_without, ticket_of_caller, is_row_crowded, is_numbered, is_other_ticket, comes_before, may_give, count, IsOlderTicket, IsRow}
 use Rattle.cmwq_ticket.specs.Upkeep.{AreKept}
 use Rattle.cmwq_ticket.proofs.RowSteps.{IsRow-push, IsRow-filter, count_by-other}
 use Rattle.cmwq_ticket.proofs.Counting.{given_uncounted, ended_uncounted, given_counted, counted_some, ended_counted, counts_below}
@@ -24,13 +14,13 @@ use Rattle.cmwq_ticket.proofs.Counting.{given_uncounted, ended_uncounted, given_
 set_size : (counts : List ℕ) (k x n : ℕ) → length counts ≡ n → length (slice_set counts k x) ≡ n
 set_size counts k x n size = length-set counts k x ∙ size
 
-AreSized-raised : (c : Call) (a : Counts) → AreSized a → AreSized (raised c a)
+AreSized-raised : (c : Call) (a : Counts) → AreSized a → AreSized (counts_with c a)
 AreSized-raised (call.CancelSync j) a is = record { cancels = set_size a.cancels j.0 _ 256 is.cancels; destroys = is.destroys; drains = is.drains }
 AreSized-raised (call.Drain q) a is = record { cancels = is.cancels; destroys = is.destroys; drains = set_size a.drains q.0 _ 64 is.drains }
 AreSized-raised (call.Destroy q) a is = record { cancels = is.cancels; destroys = set_size a.destroys q.0 _ 64 is.destroys; drains = set_size a.drains q.0 _ 64 is.drains }
 AreSized-raised c a is = is
 
-AreSized-lowered : (c : Call) (a : Counts) → AreSized a → AreSized (lowered c a)
+AreSized-lowered : (c : Call) (a : Counts) → AreSized a → AreSized (counts_without c a)
 AreSized-lowered (call.CancelSync j) a is = record { cancels = set_size a.cancels j.0 _ 256 is.cancels; destroys = is.destroys; drains = is.drains }
 AreSized-lowered (call.Drain q) a is = record { cancels = is.cancels; destroys = is.destroys; drains = set_size a.drains q.0 _ 64 is.drains }
 AreSized-lowered (call.Destroy q) a is = record { cancels = is.cancels; destroys = set_size a.destroys q.0 _ 64 is.destroys; drains = set_size a.drains q.0 _ 64 is.drains }
@@ -38,8 +28,8 @@ AreSized-lowered c a is = is
 
 -- ---- a ticket is given
 
-module _ (a : Counts) (rows : Rows) (exact : AreExact a rows) (sized : AreSized a) where
-  pub AreExact-given : (t : Ticket) (c : Call) → t.call ≡ c → t.caller.0 < length rows → is_counted c ≡ true → AreExact (raised c a) (given rows t)
+module _ (a : Counts) (rows : TicketRows) (exact : AreExact a rows) (sized : AreSized a) where
+  pub AreExact-given : (t : Ticket) (c : Call) → t.call ≡ c → t.caller.0 < length rows → is_counted c ≡ true → AreExact (counts_with c a) (rows_with rows t)
   AreExact-given t (call.CancelSync j) is there counted = record {
     cancels = given_counted is_cancel_sync_of a.cancels rows exact.cancels t j.0 there (λ i. ap (cancels_sync i) is) (let lt = ltb-true j.0 256 counted in let size = sized.cancels in omega arith);
     destroys = given_uncounted is_destroy_of a.destroys rows exact.destroys t there (λ i. ap (destroys i) is);
@@ -61,7 +51,7 @@ module _ (a : Counts) (rows : Rows) (exact : AreExact a rows) (sized : AreSized 
     drains = given_uncounted is_drain_of a.drains rows exact.drains t there (λ i. ap (drains i) is);
   }
 
-pub HaveRoom-few : (a : Counts) (rows : Rows) → AreExact a rows → length rows < 256 → All IsRow rows → HaveRoom a
+pub HaveRoom-few : (a : Counts) (rows : TicketRows) → AreExact a rows → length rows < 256 → All IsRow rows → HaveRoom a
 HaveRoom-few a rows exact few are = record {
   cancels = counts_below is_cancel_sync_of a.cancels rows exact.cancels few are;
   destroys = counts_below is_destroy_of a.destroys rows exact.destroys few are;
@@ -70,7 +60,7 @@ HaveRoom-few a rows exact few are = record {
 
 -- ---- a ticket is ended
 
-module _ (a : Counts) (rows : Rows) (exact : AreExact a rows) (c n : ℕ) (t : Ticket) (there : c < length rows) (rise : AllPairs IsOlder (row_of rows c)) (found : ticket_of rows c n ≡ Some t) where
+module _ (a : Counts) (rows : TicketRows) (exact : AreExact a rows) (c n : ℕ) (t : Ticket) (there : c < length rows) (rise : AllPairs IsOlderTicket (tickets_of_caller rows c)) (found : ticket_of_caller rows c n ≡ Some t) where
   pub HasCount-found : (k : Call) → t.call ≡ k → HasCount k a
   HasCount-found (call.CancelSync j) is = counted_some is_cancel_sync_of a.cancels rows exact.cancels c n t j.0 there rise found (λ i. ap (cancels_sync i) is)
   HasCount-found (call.Drain q) is = counted_some is_drain_of a.drains rows exact.drains c n t q.0 there rise found (λ i. ap (drains i) is)
@@ -80,7 +70,7 @@ module _ (a : Counts) (rows : Rows) (exact : AreExact a rows) (c n : ℕ) (t : T
   )
   HasCount-found k is = tt
 
-  pub AreExact-ended : (k : Call) → t.call ≡ k → AreExact (lowered k a) (ended rows c n)
+  pub AreExact-ended : (k : Call) → t.call ≡ k → AreExact (counts_without k a) (rows_without rows c n)
   AreExact-ended (call.CancelSync j) is = record {
     cancels = ended_counted is_cancel_sync_of a.cancels rows exact.cancels c n t j.0 there rise found (λ i. ap (cancels_sync i) is);
     destroys = ended_uncounted is_destroy_of a.destroys rows exact.destroys c n t there rise found (λ i. ap (destroys i) is);
@@ -104,17 +94,17 @@ module _ (a : Counts) (rows : Rows) (exact : AreExact a rows) (c n : ℕ) (t : T
 
 -- ---- all of it
 
-count_given : (rows : Rows) (t : Ticket) → t.caller.0 < length rows → count (given rows t) ≡ count rows + 1
+count_given : (rows : TicketRows) (t : Ticket) → t.caller.0 < length rows → count (rows_with rows t) ≡ count rows + 1
 count_given rows t there =
-    let row = row_of rows t.caller.0 in
+    let row = tickets_of_caller rows t.caller.0 in
     let changed = sum_by-set length rows t.caller.0 (row ++ t ∷ []) [] there in
     let more = length-append row (t ∷ []) in
     omega arith
 
-pub count_ended : (rows : Rows) (c n : ℕ) (t : Ticket) → c < length rows → AllPairs IsOlder (row_of rows c) → ticket_of rows c n ≡ Some t → count (ended rows c n) + 1 ≡ count rows
+pub count_ended : (rows : TicketRows) (c n : ℕ) (t : Ticket) → c < length rows → AllPairs IsOlderTicket (tickets_of_caller rows c) → ticket_of_caller rows c n ≡ Some t → count (rows_without rows c n) + 1 ≡ count rows
 count_ended rows c n t there rise found =
-    let row = row_of rows c in
-    let rest = filter (is_other n) row in
+    let row = tickets_of_caller rows c in
+    let rest = filter (is_other_ticket n) row in
     let changed = sum_by-set length rows c rest [] there in
     let IsAny : Ticket → Bool = λ u. true in
     let less = count_by-other IsAny n t row rise found in
@@ -127,39 +117,39 @@ count_ended rows c n t there rise found =
     all_count (x ∷ xs) = let one = sum_by-cons (λ (u : Ticket). 1) x xs in let rest = all_count xs in omega arith
 
 -- a caller that has a ticket is there
-caller_there : (rows : Rows) (c n : ℕ) → IsTrue (is_some (ticket_of rows c n)) → c < length rows
+caller_there : (rows : TicketRows) (c n : ℕ) → IsTrue (is_some (ticket_of_caller rows c n)) → c < length rows
 caller_there rows c n some = ⊎_elim (λ (lt : c < length rows). lt) (λ (past : length rows ≤ c).
-    let none : ticket_of rows c n ≡ None = ap (find (is_numbered n)) (get_or_past rows c [] past) in
+    let none : ticket_of_caller rows c n ≡ None = ap (find (is_numbered n)) (get_or_past rows c [] past) in
     let empty = rw none at some in
     cc) (cases_lt c (length rows))
 
 -- the ticket that was found is that of the caller
-pub record IsFound (rows : Rows) (c n : ℕ) (row : List Ticket) (t : Ticket) : Type 0 where
+pub record IsFound (rows : TicketRows) (c n : ℕ) (row : List Ticket) (t : Ticket) : Type 0 where
   pub there : c < length rows
-  pub row_is : row ≡ row_of rows c
-  pub found : ticket_of rows c n ≡ Some t
+  pub row_is : row ≡ tickets_of_caller rows c
+  pub found : ticket_of_caller rows c n ≡ Some t
 
-pub found_in_row : (rows : Rows) (c n : ℕ) (place : ℕ) (row : List Ticket) (r : Option Ticket) (t : Ticket) → IsTrue (is_some (ticket_of rows c n)) → place ≡ c → row ≡ get_or rows place row → r ≡ find (is_numbered n) row → r ≡ Some t → IsFound rows c n row t
+pub found_in_row : (rows : TicketRows) (c n : ℕ) (place : ℕ) (row : List Ticket) (r : Option Ticket) (t : Ticket) → IsTrue (is_some (ticket_of_caller rows c n)) → place ≡ c → row ≡ get_or rows place row → r ≡ find (is_numbered n) row → r ≡ Some t → IsFound rows c n row t
 found_in_row rows c n place row r t some at is by gives =
     let there = caller_there rows c n some in
     let row_is = get_or_read_under rows c (length rows) row [] (rw at at is) there refl in
     record { there = there; row_is = row_is; found = ap (find (is_numbered n)) (sym row_is) ∙ sym by ∙ gives }
 
-pub few_of_all : (rows : Rows) → length rows < 256 → All IsRow rows → count rows < 65535
+pub few_of_all : (rows : TicketRows) → length rows < 256 → All IsRow rows → count rows < 65535
 few_of_all rows few are = let all = sum_by-le length 64 rows (λ j e less. (are j e less).few) in omega arith
 
 -- may_give, part by part
-pub record MayBeGiven (rows : Rows) (t : Ticket) : Type 0 where
+pub record MayBeGiven (rows : TicketRows) (t : Ticket) : Type 0 where
   pub there : t.caller.0 < length rows
-  pub room : length (row_of rows t.caller.0) < 64
-  pub before : list_all (comes_before t) (row_of rows t.caller.0) ≡ true
+  pub room : length (tickets_of_caller rows t.caller.0) < 64
+  pub before : list_all (comes_before t) (tickets_of_caller rows t.caller.0) ≡ true
   pub counted : is_counted t.call ≡ true
 
-pub may_give_parts : (rows : Rows) (t : Ticket) → may_give rows t ≡ true → MayBeGiven rows t
+pub may_give_parts : (rows : TicketRows) (t : Ticket) → may_give rows t ≡ true → MayBeGiven rows t
 may_give_parts rows t may =
     let outer = and_parts _ (is_counted t.call) may in
-    let middle = and_parts _ (list_all (comes_before t) (row_of rows t.caller.0)) outer.0 in
-    let inner = and_parts (nat_lt t.caller.0 (length rows)) (not (is_crowded rows t.caller.0)) middle.0 in
+    let middle = and_parts _ (list_all (comes_before t) (tickets_of_caller rows t.caller.0)) outer.0 in
+    let inner = and_parts (nat_lt t.caller.0 (length rows)) (not (is_row_crowded rows t.caller.0)) middle.0 in
     record {
       there = ltb-true t.caller.0 (length rows) inner.0;
       room = let free = inner.1 in grind (arith, nat_tests);
@@ -167,23 +157,23 @@ may_give_parts rows t may =
       counted = outer.1;
     }
 
-pub AreKept-given : (a : Counts) (rows : Rows) (len : ℕ) (t : Ticket) (place : ℕ) (row : List Ticket) (b : Counts) → AreKept rows a len → may_give rows t ≡ true → place ≡ t.caller.0 → row ≡ row_of rows t.caller.0 ++ t ∷ [] → b ≡ raised t.call a → AreKept (slice_set rows place row) b (len + 1)
+pub AreKept-given : (a : Counts) (rows : TicketRows) (len : ℕ) (t : Ticket) (place : ℕ) (row : List Ticket) (b : Counts) → AreKept rows a len → may_give rows t ≡ true → place ≡ t.caller.0 → row ≡ tickets_of_caller rows t.caller.0 ++ t ∷ [] → b ≡ counts_with t.call a → AreKept (slice_set rows place row) b (len + 1)
 AreKept-given a rows len t place row b kept may at is now =
     let parts = may_give_parts rows t may in
     rw (at, is, now) (record {
-      few = let same = length-set rows t.caller.0 (row_of rows t.caller.0 ++ t ∷ []) in let few = kept.few in omega arith;
-      in_order = All-set IsRow rows t.caller.0 _ (IsRow-push (row_of rows t.caller.0) t parts.before parts.room (kept.in_order t.caller.0 [] parts.there)) kept.in_order;
+      few = let same = length-set rows t.caller.0 (tickets_of_caller rows t.caller.0 ++ t ∷ []) in let few = kept.few in omega arith;
+      in_order = All-set IsRow rows t.caller.0 _ (IsRow-push (tickets_of_caller rows t.caller.0) t parts.before parts.room (kept.in_order t.caller.0 [] parts.there)) kept.in_order;
       sized = AreSized-raised t.call a kept.sized;
       exact = AreExact-given a rows kept.exact kept.sized t t.call refl parts.there parts.counted;
       all = let more = count_given rows t parts.there in let was = kept.all in omega arith;
     })
 
-pub AreKept-ended : (a : Counts) (rows : Rows) (len c n : ℕ) (t : Ticket) (place : ℕ) (row : List Ticket) (b : Counts) → AreKept rows a len → c < length rows → ticket_of rows c n ≡ Some t → place ≡ c → row ≡ filter (is_other n) (row_of rows c) → b ≡ lowered t.call a → AreKept (slice_set rows place row) b (len - 1)
+pub AreKept-ended : (a : Counts) (rows : TicketRows) (len c n : ℕ) (t : Ticket) (place : ℕ) (row : List Ticket) (b : Counts) → AreKept rows a len → c < length rows → ticket_of_caller rows c n ≡ Some t → place ≡ c → row ≡ filter (is_other_ticket n) (tickets_of_caller rows c) → b ≡ counts_without t.call a → AreKept (slice_set rows place row) b (len - 1)
 AreKept-ended a rows len c n t place row b kept there found at is now =
     let rise = (kept.in_order c [] there).rising in
     rw (at, is, now) (record {
-      few = let same = length-set rows c (filter (is_other n) (row_of rows c)) in let few = kept.few in omega arith;
-      in_order = All-set IsRow rows c _ (IsRow-filter (is_other n) (row_of rows c) (kept.in_order c [] there)) kept.in_order;
+      few = let same = length-set rows c (filter (is_other_ticket n) (tickets_of_caller rows c)) in let few = kept.few in omega arith;
+      in_order = All-set IsRow rows c _ (IsRow-filter (is_other_ticket n) (tickets_of_caller rows c) (kept.in_order c [] there)) kept.in_order;
       sized = AreSized-lowered t.call a kept.sized;
       exact = AreExact-ended a rows kept.exact c n t there rise found t.call refl;
       all = let less = count_ended rows c n t there rise found in let was = kept.all in omega arith;
@@ -202,7 +192,7 @@ zero_counts (suc n) (suc i) = zero_counts n i
 zero_exact : (p : ℕ → Ticket → Bool) (n callers : ℕ) → IsExact p (replicate n 0) (replicate callers [])
 zero_exact p n callers i = zero_counts n i ∙ sym (zero_rows (count_by (p i)) refl callers)
 
-pub AreKept-new : (callers : ℕ) (rows : Rows) (a : Counts) → callers < 256 → rows ≡ replicate callers [] → a ≡ no_counts → AreKept rows a 0
+pub AreKept-new : (callers : ℕ) (rows : TicketRows) (a : Counts) → callers < 256 → rows ≡ replicate callers [] → a ≡ no_counts → AreKept rows a 0
 AreKept-new callers rows a few is none = rw (is, none) (record {
   few = let size : length (replicate {A = List Ticket} callers []) ≡ callers = length-replicate callers [] in omega arith;
   in_order = All-replicate IsRow callers [] (record { rising = λ i j e before less. absurd (omega arith); few = omega arith });

@@ -1,8 +1,5 @@
 -- How many unended tickets there are of each kind that is asked for: by item, and by queue.
-use Rattle.std.specs.Prelude.{◌≡◌, ℕ, ◌+◌, ◌-◌, ◌<◌, Bool, true, List, length, All, count_by, sum_by, nat_lt, slice_index, slice_set, replicate}
-use Rattle.cmwq_model.specs.declared.call.Call.{Call}
-use Rattle.cmwq_model.specs.declared.record.Ticket.{Ticket}
-use Rattle.cmwq_model.specs.Prelude.{is_cancel_sync_of, is_destroy_of, is_drain_of}
+use Rattle.cmwq_ticket.specs.Common.{◌≡◌, ℕ, ◌+◌, ◌-◌, ◌<◌, Bool, true, List, length, All, count_by, sum_by, nat_lt, slice_index, slice_set, replicate, Call, Ticket, is_cancel_sync_of, is_destroy_of, is_drain_of}
 use Rattle.cmwq_model.specs.declared.call.Call.TheVariants as call
 use Rattle.cmwq_ticket.specs.declared.counts.TheConstants.{ITEMS, QUEUES}
 use Rattle.cmwq_ticket.specs.declared.counts.Counts.{Counts}
@@ -24,17 +21,17 @@ more_at k counts = slice_set counts k (slice_index counts k + 1)
 abbrev pub less_at : ℕ → List ℕ → List ℕ
 less_at k counts = slice_set counts k (slice_index counts k - 1)
 
-abbrev pub raised : Call → Counts → Counts
-raised (call.CancelSync i) a = record a { cancels = more_at i.0 a.cancels }
-raised (call.Drain q) a = record a { drains = more_at q.0 a.drains }
-raised (call.Destroy q) a = record a { destroys = more_at q.0 a.destroys; drains = more_at q.0 a.drains }
-raised c a = a
+abbrev pub counts_with : Call → Counts → Counts
+counts_with (call.CancelSync i) a = record a { cancels = more_at i.0 a.cancels }
+counts_with (call.Drain q) a = record a { drains = more_at q.0 a.drains }
+counts_with (call.Destroy q) a = record a { destroys = more_at q.0 a.destroys; drains = more_at q.0 a.drains }
+counts_with c a = a
 
-abbrev pub lowered : Call → Counts → Counts
-lowered (call.CancelSync i) a = record a { cancels = less_at i.0 a.cancels }
-lowered (call.Drain q) a = record a { drains = less_at q.0 a.drains }
-lowered (call.Destroy q) a = record a { destroys = less_at q.0 a.destroys; drains = less_at q.0 a.drains }
-lowered c a = a
+abbrev pub counts_without : Call → Counts → Counts
+counts_without (call.CancelSync i) a = record a { cancels = less_at i.0 a.cancels }
+counts_without (call.Drain q) a = record a { drains = less_at q.0 a.drains }
+counts_without (call.Destroy q) a = record a { destroys = less_at q.0 a.destroys; drains = less_at q.0 a.drains }
+counts_without c a = a
 
 -- where there is something to take away
 abbrev pub HasSome : ℕ → List ℕ → Type 0
@@ -47,13 +44,13 @@ HasCount (call.Destroy q) a = HasSome q.0 a.destroys × HasSome q.0 a.drains
 HasCount c a = Unit {0}
 
 -- each count may rise by one
-abbrev pub IsBelow : ℕ → Type 0
-IsBelow n = n < 65535
+abbrev pub IsBelowLimit : ℕ → Type 0
+IsBelowLimit n = n < 65535
 
 pub record HaveRoom (a : Counts) : Type 0 where
-  pub cancels : All IsBelow a.cancels
-  pub destroys : All IsBelow a.destroys
-  pub drains : All IsBelow a.drains
+  pub cancels : All IsBelowLimit a.cancels
+  pub destroys : All IsBelowLimit a.destroys
+  pub drains : All IsBelowLimit a.drains
 
 -- the tickets that pass a test, of all callers
 abbrev pub count_all : (Ticket → Bool) → List (List Ticket) → ℕ

@@ -1,6 +1,5 @@
 -- What the tickets of all callers keep true of their parts: the rows, the counts beside them, and how many there are.
-use Rattle.std.specs.Prelude.{◌≡◌, ℕ, ◌<◌, List, length, All}
-use Rattle.cmwq_model.specs.declared.record.Ticket.{Ticket}
+use Rattle.cmwq_ticket.specs.Common.{◌≡◌, ℕ, ◌<◌, List, length, All, Ticket}
 use Rattle.cmwq_ticket.specs.declared.counts.Counts.{Counts}
 use Rattle.cmwq_ticket.specs.Counts.{AreExact, AreSized}
 use Rattle.cmwq_ticket.specs.Rows.{IsRow, count}

@@ -1,5 +1,5 @@
 ghost use Rattle.std.specs.Prelude.{◌≡◌, ◌+◌, ◌-◌, ◌<◌, length, nat_lt, slice_index, IsTrue};
-ghost use Rattle.cmwq_ticket.specs.Counts.{is_counted, no_counts, more_at, less_at, raised, lowered, HasCount, HaveRoom};
+ghost use Rattle.cmwq_ticket.specs.Counts.{is_counted, no_counts, more_at, less_at, counts_with, counts_without, HasCount, HaveRoom};
 
 use cmwq_model::Call;
 
@@ -33,7 +33,7 @@ impl Counts {
     pub(crate) fn raise(&mut self, call: Call)
         requires counted { IsTrue (is_counted call) }
         requires room { HaveRoom self.old }
-        ensures { self.new ≡ raised call self.old }
+        ensures { self.new ≡ counts_with call self.old }
     {
         match call {
             Call::CancelSync { item } => raise(&mut self.cancels, usize::from(item.0)),
@@ -49,7 +49,7 @@ impl Counts {
     /// A ticket of this call was ended.
     pub(crate) fn lower(&mut self, call: Call)
         requires { HasCount call self.old }
-        ensures { self.new ≡ lowered call self.old }
+        ensures { self.new ≡ counts_without call self.old }
     {
         match call {
             Call::CancelSync { item } => lower(&mut self.cancels, usize::from(item.0)),

@@ -1,6 +1,6 @@
 ghost use Rattle.std.specs.Prelude.{◌≡◌, ◌++◌, ◌∷◌, [], ◌<◌, length, filter, find, vec_capacity, IfOk};
 ghost use Rattle.std.specs.List.{list_all};
-ghost use Rattle.cmwq_ticket.specs.Rows.{is_numbered, is_other, comes_before};
+ghost use Rattle.cmwq_ticket.specs.Rows.{is_numbered, is_other_ticket, comes_before};
 
 use cmwq_model::{Number, Ticket};
 use std::alloc::{AllocError, Global};
@@ -72,7 +72,7 @@ impl Row {
 
     /// Takes out the ticket with this number.
     pub(crate) fn remove(&mut self, number: Number)
-        ensures { self.new ≡ filter (is_other number) self.old }
+        ensures { self.new ≡ filter (is_other_ticket number) self.old }
     {
         remove_ticket(&mut self.tickets, number);
     }
@@ -80,7 +80,7 @@ impl Row {
 
 /// Takes out the ticket with this number.
 fn remove_ticket(tickets: &mut Vec<Ticket>, number: Number)
-    ensures rest { tickets.new.items ≡ filter (is_other number) tickets.old.items }
+    ensures rest { tickets.new.items ≡ filter (is_other_ticket number) tickets.old.items }
     ensures room { vec_capacity tickets.new ≡ vec_capacity tickets.old }
 {
     tickets.retain(|ticket| ticket.number != number);

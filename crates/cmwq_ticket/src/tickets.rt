@@ -1,5 +1,5 @@
 ghost use Rattle.std.specs.Prelude.{◌≡◌, ◌<◌, ◌↔◌, [], IfOk, IsSome, IsTrue, length, replicate};
-ghost use Rattle.cmwq_ticket.specs.Rows.{any_ticket, count, ended, given, is_being_destroyed, is_cancelling, is_crowded, is_draining, may_give, ticket_of};
+ghost use Rattle.cmwq_ticket.specs.Rows.{any_ticket, count, rows_without, rows_with, any_destroys, any_cancels, is_row_crowded, any_drains, may_give, ticket_of_caller};
 
 use crate::counts::{Counts, has_some, is_counted};
 use crate::row::{Row, TICKETS_OF_CALLER};
@@ -17,10 +17,10 @@ pub struct Tickets {
 }
 
 impl Model for Tickets {
-    ghost use Rattle.cmwq_ticket.specs.Rows.{Rows};
+    ghost use Rattle.cmwq_ticket.specs.Rows.{TicketRows};
     ghost use Rattle.cmwq_ticket.specs.Upkeep.{AreKept};
 
-    ghost Value = { Rows };
+    ghost Value = { TicketRows };
 
     ghost view = { λ t. t.rows.items };
 
@@ -49,7 +49,7 @@ impl Tickets {
     /// Whether a caller has 64 unended tickets, so that it can be given no more.
     pub fn is_crowded(&self, caller: CallerId) -> bool
         requires { caller.0 < length self.now }
-        ensures { result ≡ is_crowded self.now caller.0 }
+        ensures { result ≡ is_row_crowded self.now caller.0 }
     {
         let row = &self.rows[usize::from(caller.0)];
         row.len() >= TICKETS_OF_CALLER
@@ -58,7 +58,7 @@ impl Tickets {
     /// A caller's unended ticket with this number.
     pub fn find(&self, caller: CallerId, number: Number) -> Option<Ticket>
         requires { caller.0 < length self.now }
-        ensures { result ≡ ticket_of self.now caller.0 number }
+        ensures { result ≡ ticket_of_caller self.now caller.0 number }
     {
         let row = &self.rows[usize::from(caller.0)];
         row.find(number)
@@ -79,21 +79,21 @@ impl Tickets {
 
     /// Whether a cancel_sync of the item is unended (`cancel_work_sync` before its return).
     pub fn is_cancelling(&self, item: ItemId) -> bool
-        ensures { result ≡ is_cancelling self.now item.0 }
+        ensures { result ≡ any_cancels self.now item.0 }
     {
         has_some(&self.counts.cancels, usize::from(item.0))
     }
 
     /// Whether a destroy of the queue is unended (`__WQ_DESTROYING`).
     pub fn is_being_destroyed(&self, queue: QueueId) -> bool
-        ensures { result ≡ is_being_destroyed self.now queue.0 }
+        ensures { result ≡ any_destroys self.now queue.0 }
     {
         has_some(&self.counts.destroys, usize::from(queue.0))
     }
 
     /// Whether a drain or a destroy of the queue is unended (`__WQ_DRAINING`).
     pub fn is_draining(&self, queue: QueueId) -> bool
-        ensures { result ≡ is_draining self.now queue.0 }
+        ensures { result ≡ any_drains self.now queue.0 }
     {
         has_some(&self.counts.drains, usize::from(queue.0))
     }
@@ -128,7 +128,7 @@ impl Tickets {
     /// Gives a ticket to its caller, which begins to wait (`flush_workqueue`, `cancel_work_sync` and the like, up to their wait).
     pub fn give(&mut self, ticket: Ticket)
         requires { IsTrue (may_give self.old ticket) }
-        ensures { self.new ≡ given self.old ticket }
+        ensures { self.new ≡ rows_with self.old ticket }
     {
         let row = &mut self.rows[usize::from(ticket.caller.0)];
         row.push(ticket);
@@ -138,8 +138,8 @@ impl Tickets {
 
     /// Ends a caller's unended ticket with this number (the return of the call that waits).
     pub fn end(&mut self, caller: CallerId, number: Number)
-        requires { IsSome (ticket_of self.old caller.0 number) }
-        ensures { self.new ≡ ended self.old caller.0 number }
+        requires { IsSome (ticket_of_caller self.old caller.0 number) }
+        ensures { self.new ≡ rows_without self.old caller.0 number }
     {
         let row = &mut self.rows[usize::from(caller.0)];
         let ticket = row.find(number).unwrap();

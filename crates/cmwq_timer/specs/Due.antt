@@ -8,8 +8,8 @@ abbrev pub is_held : ℕ → Timer → Bool
 is_held held t = bit_at held t.place.queue.0 == 1
 
 -- due, on a queue that isn't held back
-abbrev pub may_fire : ℕ → ℕ → Timer → Bool
-may_fire now held t = nat_le t.due now && not (is_held held t)
+abbrev pub timer_may_fire : ℕ → ℕ → Timer → Bool
+timer_may_fire now held t = nat_le t.due now && not (is_held held t)
 
 -- by due, and then by the number of the booking
 abbrev pub is_sooner : Timer → Timer → Bool

@@ -3,7 +3,7 @@
 ghost use Rattle.std.specs.Prelude.{◌≡◌, ◌+◌, ◌*◌, ◌^◌, ◌<◌, ◌≤◌, length};
 ghost use Rattle.cmwq_timer.specs.Candidates.{sooner};
 ghost use Rattle.cmwq_timer.specs.Minima.{AreMinima, IsMinimum};
-ghost use Rattle.cmwq_timer.specs.Rows.{Rows};
+ghost use Rattle.cmwq_timer.specs.Rows.{TimerRows};
 
 use crate::timer::Timer;
 use cmwq_model::ItemId;
@@ -55,7 +55,7 @@ pub(crate) fn minimum_of(rows: &[Option<Timer>], block: usize) -> Option<Candida
 
 /// The item of all blocks whose timer comes first.
 pub(crate) fn first_minimum(minima: &[Option<Candidate>]) -> Option<Candidate>
-    ensures { (rows : Rows) → AreMinima rows minima.now → IsMinimum rows 0 (16 * length minima.now) result }
+    ensures { (rows : TimerRows) → AreMinima rows minima.now → IsMinimum rows 0 (16 * length minima.now) result }
 {
     let mut first = None;
     for minimum in minima {

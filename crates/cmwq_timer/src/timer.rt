@@ -1,5 +1,5 @@
 ghost use Rattle.std.specs.Prelude.{◌≡◌, ◌<◌};
-ghost use Rattle.cmwq_timer.specs.Due.{may_fire, is_sooner};
+ghost use Rattle.cmwq_timer.specs.Due.{timer_may_fire, is_sooner};
 
 use cmwq_model::{Number, Place};
 
@@ -18,7 +18,7 @@ impl Timer {
     /// Whether it may fire at the tick `now`: it is due, and its queue has no bit in `held`.
     pub fn may_fire(&self, now: u64, held: u64) -> bool
         requires { self.now.place.queue.0 < 64 }
-        ensures { result ≡ may_fire now held self.now }
+        ensures { result ≡ timer_may_fire now held self.now }
     {
         self.due <= now && (held >> self.place.queue.0) & 1 != 1
     }

@@ -1,5 +1,5 @@
 ghost use Rattle.std.specs.Prelude.{◌≡◌, ℕ, ◌^◌, ◌<◌, Some, None, IfOk, IfSome, IfNone, length, replicate, slice_set};
-ghost use Rattle.cmwq_timer.specs.Rows.{timer_of, due_of, is_booked_on, HaveBits, NoneMayFire, IsFirstToFire};
+ghost use Rattle.cmwq_timer.specs.Rows.{timer_of, due_of, any_timer_on, HaveBits, NoneMayFire, IsFirstToFire};
 
 use crate::minima::{BLOCK, Candidate, block_of, first_minimum, minimum_of, sooner};
 use crate::timer::Timer;
@@ -16,11 +16,11 @@ pub struct Timers {
 }
 
 impl Model for Timers {
-    ghost use Rattle.cmwq_timer.specs.Rows.{Rows, HaveBits};
+    ghost use Rattle.cmwq_timer.specs.Rows.{TimerRows, HaveBits};
     ghost use Rattle.cmwq_timer.specs.Minima.{AreMinima};
     ghost use Rattle.std.specs.Prelude.{◌^◌, ◌<◌, vec_len};
 
-    ghost Value = { Rows };
+    ghost Value = { TimerRows };
 
     ghost view = { λ t. t.rows.items };
 
@@ -80,7 +80,7 @@ impl Timers {
 
     /// Whether any item is booked on a queue.
     pub fn is_booked_on(&self, queue: QueueId) -> bool
-        ensures { result ≡ is_booked_on self.now queue.0 }
+        ensures { result ≡ any_timer_on self.now queue.0 }
     {
         self.rows.iter().any(|row| row.is_some_and(|timer| timer.place.queue.0 == queue.0))
     }

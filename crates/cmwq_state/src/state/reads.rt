@@ -10,13 +10,15 @@ ghost use Rattle.cmwq_model.specs.Tickets as waits;
 ghost use Rattle.cmwq_model.specs.Widths as widths;
 ghost use Rattle.std.specs.List.{list_any};
 ghost use Rattle.cmwq_theory_steps.specs.ItemQueueings.{queueing_run};
-ghost use Rattle.cmwq_refinement.specs.Timers.{row_of};
+ghost use Rattle.cmwq_refinement.specs.Timers.{timer_row};
 ghost use Rattle.cmwq_state.specs.Flights.{run_open};
-ghost use Rattle.cmwq_state.specs.History.{has_number};
+ghost use Rattle.cmwq_state.specs.History.{ticket_has_number};
+ghost use Rattle.cmwq_state.specs.Pwqs.{AreActiveCounts};
 ghost use Rattle.cmwq_state.specs.Tables as tables;
 
 use crate::state::State;
 use cmwq_model::{ItemId, Number, QueueId, Queueing, Ticket, Who, WorkerId};
+use cmwq_pwq::width_by;
 use cmwq_timer::Timer;
 
 impl State {
@@ -34,6 +36,21 @@ impl State {
         self.frozen
     }
 
+    /// How wide a queue is.
+    pub fn width(&self, queue: QueueId) -> u32
+        requires { queue.0 < length self.now.layout.queues }
+        ensures { result ≡ widths.width self.now.layout (past_of self.now.entries) queue.0 }
+    {
+        width_by(&self.queues, &self.most, self.frozen, queue)
+    }
+
+    /// How many queueings of each queue are active on each CPU: four numbers a queue.
+    pub fn active_counts(&self) -> &[u32]
+        ensures { AreActiveCounts self.now.layout (past_of self.now.entries) result.now }
+    {
+        self.pwqs.counts()
+    }
+
     /// What an item runs.
     pub fn item_run(&self, item: ItemId) -> Option<Queueing>
         requires { item.0 < self.now.layout.items }
@@ -46,7 +63,7 @@ impl State {
     /// The queueing of an item that hasn't started.
     pub fn unstarted(&self, item: ItemId) -> Option<Queueing>
         requires { item.0 < self.now.layout.items }
-        ensures { result ≡ queueings.unstarted (past_of self.now.entries) item.0 }
+        ensures { result ≡ queueings.unstarted_queueing (past_of self.now.entries) item.0 }
     {
         self.flights.unstarted(item)
     }
@@ -54,7 +71,7 @@ impl State {
     /// The timer of an item's booking.
     pub fn timer(&self, item: ItemId) -> Option<Timer>
         requires { item.0 < self.now.layout.items }
-        ensures is { result ≡ row_of (past_of self.now.entries) item.0 }
+        ensures is { result ≡ timer_row (past_of self.now.entries) item.0 }
         ensures legal { IsLegal self.now.layout (past_of self.now.entries) }
     {
         self.timers.timer(item)
@@ -163,7 +180,7 @@ impl State {
 
     /// The unended ticket with this number.
     pub fn ticket(&self, number: Number) -> Option<Ticket>
-        ensures is { result ≡ find (has_number number) (waits.unended (past_of self.now.entries)) }
+        ensures is { result ≡ find (ticket_has_number number) (waits.unended_tickets (past_of self.now.entries)) }
         ensures legal { IsLegal self.now.layout (past_of self.now.entries) }
     {
         self.tickets.any(number)

@@ -2,7 +2,7 @@
 
 ghost use Rattle.std.specs.Prelude.{◌≡◌, ◌<◌, Contains, length, true};
 ghost use Rattle.cmwq_model.specs.declared.call.Call.TheVariants as call;
-ghost use Rattle.cmwq_model.specs.Prelude.{has_numbers, IsLegal, past_of, is_flush_of, unended, waits_for};
+ghost use Rattle.cmwq_model.specs.Prelude.{has_numbers, IsLegal, past_of, is_flush_of, unended_tickets, waits_for};
 ghost use Rattle.cmwq_refinement.specs.FlushBooks.{AreFlushes};
 
 use crate::state::State;
@@ -22,7 +22,7 @@ impl State {
     fn flush_waits_for(&self, queue: QueueId, ticket: Ticket) -> Option<Number>
         requires queue { queue.0 < length self.now.layout.queues }
         requires flush { is_flush_of queue.0 ticket ≡ true }
-        requires unended { Contains (unended (past_of self.now.entries)) ticket }
+        requires unended { Contains (unended_tickets (past_of self.now.entries)) ticket }
         ensures { result ≡ waits_for (past_of self.now.entries) ticket.number (call.Flush queue) }
     {
         let flushes = self.flushes(queue);
@@ -47,7 +47,7 @@ impl State {
     /// What an unended ticket still waits for.
     pub fn waits_for(&self, ticket: Ticket) -> Option<Number>
         requires there { has_numbers self.now.layout ticket.call ≡ true }
-        requires unended { Contains (unended (past_of self.now.entries)) ticket }
+        requires unended { Contains (unended_tickets (past_of self.now.entries)) ticket }
         ensures { result ≡ waits_for (past_of self.now.entries) ticket.number ticket.call }
     {
         match ticket.call {

@@ -7,7 +7,7 @@ ghost use Rattle.cmwq_model.specs.Runs as runs;
 ghost use Rattle.cmwq_model.specs.Workers as workers;
 ghost use Rattle.cmwq_model.specs.Active as active;
 ghost use Rattle.cmwq_refinement.specs.Pools.{IsSlotOf, pool_of, run_task};
-ghost use Rattle.cmwq_refinement.specs.Told.{number_of_queueing};
+ghost use Rattle.cmwq_refinement.specs.ByNumber.{number_of_queueing};
 ghost use Rattle.cmwq_state.specs.Tables as tables;
 
 use crate::state::State;

@@ -1,6 +1,4 @@
-use Rattle.std.proofs.Common.{◌∙◌, refl, sym, arith, subst}
-use Rattle.std.proofs.lemmas.Result.{err_from_is_err_and}
-use Rattle.cmwq_io.specs.declared.lines.Found.TheVariants.{Whole, Cut, Long, End}
+use Rattle.cmwq_base.specs.Common.{◌∙◌, refl, sym, arith, subst, err_from_is_err_and, Whole, Cut, Long, End}
 use Rattle.cmwq_base.specs.declared.refusal.Refusal.TheVariants.{ReadFault, WriteFault}
 use Rattle.cmwq_base.specs.Files.{as_front}
 use Rattle.cmwq_base.specs.Gives.{Refuses}

@@ -1,5 +1,4 @@
-use Rattle.std.proofs.Common.{◌≤◌}
-use Rattle.std.specs.Io.KnownBytes.{prepend_known}
+use Rattle.cmwq_base.specs.Common.{◌≤◌, prepend_known}
 use Rattle.cmwq_base.specs.Files.{as_front}
 use Rattle.cmwq_base.specs.Stages.{stage_of}
 use Rattle.cmwq_base.proofs.Progress.{Progress}

@@ -1,6 +1,4 @@
-use Rattle.std.proofs.Common.{◌∙◌, arith}
-use Rattle.std.proofs.lemmas.Result.{err_from_is_err_and}
-use Rattle.cmwq_text.specs.ShapeText.{queue_text}
+use Rattle.cmwq_base.specs.Common.{◌∙◌, arith, err_from_is_err_and, queue_text}
 use Rattle.cmwq_base.proofs.Fronts.{front_at}
 use Rattle.cmwq_base.proofs.writing.write_queues.Goals as goal
 

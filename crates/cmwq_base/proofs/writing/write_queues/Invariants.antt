@@ -1,7 +1,4 @@
-use Rattle.std.proofs.Common.{◌≤◌, take}
-use Rattle.std.specs.Prelude.{flat_map}
-use Rattle.std.specs.Io.KnownBytes.{Appends}
-use Rattle.cmwq_text.specs.ShapeText.{queue_text}
+use Rattle.cmwq_base.specs.Common.{◌≤◌, take, flat_map, Appends, queue_text}
 use Rattle.cmwq_base.proofs.writing.write_queues.Given as goal
 
 abbrev pub invariant-loop-queue : goal.invariant-loop-queue

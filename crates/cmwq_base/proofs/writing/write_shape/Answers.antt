@@ -1,10 +1,4 @@
-use Rattle.std.proofs.Common.{◌∙◌, ap}
-use Rattle.std.proofs.lemmas.Result.{err_from_is_err_and}
-use Rattle.std.specs.Prelude.{flat_map}
-use Rattle.cmwq_model.specs.Prelude.{Layout}
-use Rattle.cmwq_io.proofs.KnownBytes.{Appends-trans}
-use Rattle.cmwq_text.specs.HistoryText.{counts_in, shape_text}
-use Rattle.cmwq_text.specs.ShapeText.{counts_text, queue_text}
+use Rattle.cmwq_base.specs.Common.{◌∙◌, ap, err_from_is_err_and, flat_map, Layout, Appends-trans, counts_in, shape_text, counts_text, queue_text}
 use Rattle.cmwq_base.proofs.Fronts.{front_before, front_after}
 use Rattle.cmwq_base.proofs.writing.write_shape.Goals as goal
 

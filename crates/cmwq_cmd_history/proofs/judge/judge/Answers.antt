@@ -1,8 +1,4 @@
-use Rattle.std.proofs.Common.{◌∙◌}
-use Rattle.std.proofs.lemmas.Result.{err_from_is_err_and}
-use Rattle.cmwq_model.specs.declared.entry.Entry.{Entry}
-use Rattle.cmwq_base.specs.Files.{File}
-use Rattle.cmwq_base.specs.Kinds.{front_file_of}
+use Rattle.cmwq_cmd_history.specs.Common.{◌∙◌, err_from_is_err_and, Entry, File, front_file_of}
 use Rattle.cmwq_cmd_history.specs.Check.{check_word}
 use Rattle.cmwq_cmd_history.proofs.Ends.{ends_done, ends_cut}
 use Rattle.cmwq_cmd_history.proofs.judge.judge.Goals as goal

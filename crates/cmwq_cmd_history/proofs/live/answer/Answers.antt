@@ -1,5 +1,4 @@
-use Rattle.std.proofs.Common.{◌∙◌, ap, arith}
-use Rattle.cmwq_model.specs.Prelude.{Steps}
+use Rattle.cmwq_cmd_history.specs.Common.{◌∙◌, ap, arith, Steps}
 use Rattle.cmwq_cmd_history.proofs.Lived.{lived_steps}
 use Rattle.cmwq_cmd_history.proofs.live.answer.Goals as goal
 

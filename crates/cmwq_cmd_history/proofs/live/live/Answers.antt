@@ -1,14 +1,6 @@
-use Rattle.std.proofs.Common.{◌≡◌, ◌⊎◌, inl, inr, ap, ◌≤◌, ◌<◌, ◌∙◌, ◌^◌, ◌-◌, Bool, true, false, Ok, Err, nat_lt, refl, arith, ℕ}
-use Rattle.std.specs.Prelude.{MatchBool}
-use Rattle.std.proofs.lemmas.Bool.{ltb-true}
-use Rattle.std.proofs.lemmas.Bool.Decides.{nat_tests}
-use Rattle.std.proofs.lemmas.Result.{err_from_is_err_and}
+use Rattle.cmwq_cmd_history.specs.Common.{◌≡◌, ◌⊎◌, inl, inr, ap, ◌≤◌, ◌<◌, ◌∙◌, ◌^◌, ◌-◌, Bool, true, false, Ok, Err, nat_lt, refl, arith, ℕ, MatchBool, ltb-true, nat_tests, err_from_is_err_and, Whole, Cut, Long, End, calls_kind, stage_of, contents_of, found_so, whole_fails, long_fails, cut_fails, cut_no_fault, end_gives, too_many}
 use Rattle.cmwq_io.specs.Counts.{Rises}
-use Rattle.cmwq_io.specs.declared.lines.Found.TheVariants.{Whole, Cut, Long, End}
 use Rattle.cmwq_base.specs.declared.refusal.Refusal.TheVariants.{ReadFault, WriteFault}
-use Rattle.cmwq_base.specs.Kinds.{calls_kind}
-use Rattle.cmwq_base.specs.Stages.{stage_of, contents_of}
-use Rattle.cmwq_base.proofs.Progress.{found_so, whole_fails, long_fails, cut_fails, cut_no_fault, end_gives, too_many}
 use Rattle.cmwq_cmd_history.specs.Live.{Stepped}
 use Rattle.cmwq_cmd_history.proofs.Living.{lives, lives_on, ends_for_memory, ends_at_read_fault, ends_refused, ends_too_long, ends_without_shape, ends_cut_short, ends_full, ends_written_in_part, ends_whole, ends_whole_in_part}
 use Rattle.cmwq_cmd_history.proofs.live.live.Goals as goal

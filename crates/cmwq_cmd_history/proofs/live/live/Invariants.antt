@@ -1,6 +1,4 @@
-use Rattle.std.proofs.Common.{◌≡◌, ◌⊎◌, ◌≤◌}
-use Rattle.std.specs.Io.KnownBytes.{prepend_known}
-use Rattle.cmwq_base.specs.Stages.{stage_of}
+use Rattle.cmwq_cmd_history.specs.Common.{◌≡◌, ◌⊎◌, ◌≤◌, prepend_known, stage_of}
 use Rattle.cmwq_cmd_history.proofs.Living.{Living}
 use Rattle.cmwq_cmd_history.proofs.live.live.Given as goal
 

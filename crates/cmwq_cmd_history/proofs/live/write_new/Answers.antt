@@ -1,13 +1,11 @@
-use Rattle.std.proofs.lemmas.Result.{err_from_is_err_and}
-use Rattle.cmwq_io.proofs.KnownBytes.{Appends-trans}
-use Rattle.cmwq_base.proofs.Fronts.{front_before, front_after, front_whole}
-use Rattle.cmwq_cmd_history.specs.Live.{made_text, lived}
+use Rattle.cmwq_cmd_history.specs.Common.{err_from_is_err_and, Appends-trans, front_before, front_after, front_whole}
+use Rattle.cmwq_cmd_history.specs.Live.{made_text, live_steps}
 use Rattle.cmwq_cmd_history.proofs.live.write_new.Goals as goal
 
 pub returns-in_err-write_first-clause-err : goal.returns-in_err-write_first-clause-err
 returns-in_err-write_first-clause-err g c =
     let p = err_from_is_err_and c.from_residual.result c.from_residual.ensures.1 in
-    rw (p.1) (front_before _ _ _ (made_text (lived c.args.calls.now.layout c.args.calls.now.calls).made) c.in_err-write_first.ensures.err)
+    rw (p.1) (front_before _ _ _ (made_text (live_steps c.args.calls.now.layout c.args.calls.now.calls).made) c.in_err-write_first.ensures.err)
 
 pub returns-in_err-write_made-clause-err : goal.returns-in_err-write_made-clause-err
 returns-in_err-write_made-clause-err g c =

@@ -1,15 +1,11 @@
-use Rattle.std.proofs.lemmas.Result.{err_from_is_err_and}
-use Rattle.cmwq_io.proofs.KnownBytes.{Appends-trans}
-use Rattle.cmwq_base.proofs.Fronts.{front_before, front_after, front_whole}
-use Rattle.cmwq_text.specs.HistoryText.{last_text}
-use Rattle.cmwq_cmd_history.specs.Live.{lived}
-use Rattle.std.proofs.Common.{length}
+use Rattle.cmwq_cmd_history.specs.Common.{err_from_is_err_and, Appends-trans, front_before, front_after, front_whole, last_text, length}
+use Rattle.cmwq_cmd_history.specs.Live.{live_steps}
 use Rattle.cmwq_cmd_history.proofs.live.write_rest.Goals as goal
 
 pub returns-in_err-write_missing_head-clause-err : goal.returns-in_err-write_missing_head-clause-err
 returns-in_err-write_missing_head-clause-err g c =
     let p = err_from_is_err_and c.from_residual.result c.from_residual.ensures.1 in
-    rw (p.1) (front_before _ _ _ (last_text c.args.version (length (lived c.args.calls.now.layout c.args.calls.now.calls).steps.past)) c.in_err-write_missing_head.ensures.err)
+    rw (p.1) (front_before _ _ _ (last_text c.args.version (length (live_steps c.args.calls.now.layout c.args.calls.now.calls).steps.past)) c.in_err-write_missing_head.ensures.err)
 
 pub returns-in_err-write_end-clause-err : goal.returns-in_err-write_end-clause-err
 returns-in_err-write_end-clause-err g c =

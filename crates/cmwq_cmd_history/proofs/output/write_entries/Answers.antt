@@ -1,7 +1,4 @@
-use Rattle.std.proofs.Common.{arith}
-use Rattle.std.proofs.lemmas.Result.{err_from_is_err_and}
-use Rattle.cmwq_text.specs.EntryText.{entry_text}
-use Rattle.cmwq_base.proofs.Fronts.{front_at}
+use Rattle.cmwq_cmd_history.specs.Common.{arith, err_from_is_err_and, entry_text, front_at}
 use Rattle.cmwq_cmd_history.proofs.output.write_entries.Goals as goal
 
 pub returns-in_err-write_entry-clause-err : goal.returns-in_err-write_entry-clause-err

@@ -1,5 +1,4 @@
-use Rattle.std.proofs.lemmas.Result.{err_from_is_err_and}
-use Rattle.cmwq_base.proofs.Fronts.{front_whole}
+use Rattle.cmwq_cmd_history.specs.Common.{err_from_is_err_and, front_whole}
 use Rattle.cmwq_cmd_history.proofs.output.write_verdict.Goals as goal
 
 pub returns-in_err-flush_all-clause-err : goal.returns-in_err-flush_all-clause-err

@@ -1,8 +1,4 @@
-use Rattle.std.proofs.Common.{◌∙◌, refl, ap, sym}
-use Rattle.std.proofs.lemmas.Result.{err_from_is_err_and}
-use Rattle.cmwq_model.specs.Prelude.{Steps}
-use Rattle.cmwq_base.specs.Kinds.{call_file_of}
-use Rattle.cmwq_base.specs.Stages.{contents_of}
+use Rattle.cmwq_cmd_history.specs.Common.{◌∙◌, refl, ap, sym, err_from_is_err_and, Steps, call_file_of, contents_of}
 use Rattle.cmwq_cmd_history.specs.Live.{Stepped}
 use Rattle.cmwq_cmd_history.specs.Step.{step_word}
 use Rattle.cmwq_cmd_history.proofs.Ends.{answer_is, ends_done, ends_cut}

@@ -1,5 +1,4 @@
-use Rattle.std.proofs.Common.{◌≡◌, ◌≤◌, ℕ, max, sym, ap, ◌∙◌, arith}
-use Rattle.cmwq_text.specs.HistoryText.{text_of_format}
+use Rattle.cmwq_cmd_history.specs.Common.{◌≡◌, ◌≤◌, ℕ, max, sym, ap, ◌∙◌, arith, text_of_format}
 use Rattle.cmwq_base.proofs.Spelled.{histories_have_one_text}
 use Rattle.cmwq_cmd_history.proofs.upgrade.newest_stay.Goals as goal
 

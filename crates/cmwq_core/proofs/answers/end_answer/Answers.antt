@@ -1,6 +1,4 @@
-use Rattle.std.proofs.Common.{◌∙◌, sym}
-use Rattle.cmwq_model.specs.Prelude.{past_of}
-use Rattle.cmwq_refinement.proofs.PlacesFit.{unended_tickets_fit}
+use Rattle.cmwq_core.specs.Common.{◌∙◌, sym, past_of, unended_tickets_fit}
 use Rattle.cmwq_state.proofs.Ends.{found_unended}
 use Rattle.cmwq_core.proofs.answers.end_answer.Goals as goal
 

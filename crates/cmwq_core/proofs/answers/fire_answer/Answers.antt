@@ -1,5 +1,4 @@
-use Rattle.std.proofs.Common.{sym, ◌∙◌}
-use Rattle.cmwq_model.specs.Prelude.{past_of}
+use Rattle.cmwq_core.specs.Common.{sym, ◌∙◌, past_of}
 use Rattle.cmwq_core.proofs.Firing.{fires, fires_none}
 use Rattle.cmwq_core.proofs.answers.fire_answer.Goals as goal
 

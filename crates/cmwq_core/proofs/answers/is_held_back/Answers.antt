@@ -1,5 +1,4 @@
-use Rattle.std.proofs.Common.{◌∙◌, sym}
-use Rattle.cmwq_model.specs.Prelude.{past_of}
+use Rattle.cmwq_core.specs.Common.{◌∙◌, sym, past_of}
 use Rattle.cmwq_state.proofs.Readings.{timer_there}
 use Rattle.cmwq_core.proofs.answers.is_held_back.Goals as goal
 

@@ -1,5 +1,4 @@
-use Rattle.std.proofs.Common.{ap, ◌∙◌}
-use Rattle.cmwq_model.specs.Prelude.{booking_of, past_of, ticket_in}
+use Rattle.cmwq_core.specs.Common.{ap, ◌∙◌, booking_of, past_of, ticket_in}
 use Rattle.cmwq_core.proofs.Effecting.{entry_inside, legal_there}
 use Rattle.cmwq_core.proofs.effects.effect_of.Goals as goal
 
@@ -22,7 +21,7 @@ pub owed_with-owing-requires-clause-inside : goal.owed_with-owing-requires-claus
 owed_with-owing-requires-clause-inside c = let b = c.args.state.now in entry_inside b.layout (past_of b.entries) c.args.entry c.requires.legal
 
 pub owed_with-owing-requires-clause-booked : goal.owed_with-owing-requires-clause-booked
-owed_with-owing-requires-clause-booked c = c.booked_by-booked.ensures ∙ ap (booking_of c.args.entry) c.number-number.ensures
+owed_with-owing-requires-clause-booked c = c.booking-booked.ensures ∙ ap (booking_of c.args.entry) c.number-number.ensures
 
 pub returns-clause-is : goal.returns-clause-is
 returns-clause-is c =
@@ -33,8 +32,8 @@ returns-clause-is c =
       started = c.started_by-started.ensures;
       opened = c.opened_by-opened.ensures;
       done = c.done_by.ensures;
-      begun = c.ticket_in.ensures ∙ ap (ticket_in c.args.entry) c.number-number.ensures;
+      begun = c.ticket.ensures ∙ ap (ticket_in c.args.entry) c.number-number.ensures;
       settled = c.settled_by.ensures;
-      booked = c.booked_by-booked.ensures ∙ ap (booking_of c.args.entry) c.number-number.ensures;
+      booked = c.booking-booked.ensures ∙ ap (booking_of c.args.entry) c.number-number.ensures;
       owing = c.owed_with-owing.ensures;
     }

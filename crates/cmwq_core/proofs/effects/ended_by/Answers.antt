@@ -1,5 +1,4 @@
-use Rattle.std.proofs.Common.{◌∙◌, ap₂}
-use Rattle.cmwq_model.specs.Prelude.{past_of}
+use Rattle.cmwq_core.specs.Common.{◌∙◌, ap₂, past_of}
 use Rattle.cmwq_core.specs.Effects.{ended_from}
 use Rattle.cmwq_core.proofs.Effecting.{ends_from}
 use Rattle.cmwq_core.proofs.effects.ended_by.Goals as goal

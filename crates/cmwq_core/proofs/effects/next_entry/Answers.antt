@@ -1,9 +1,4 @@
-use Rattle.std.proofs.Common.{◌≡◌, ◌∷◌, ap₂, sym, subst}
-use Rattle.cmwq_model.specs.declared.entry.Entry.{Entry}
-use Rattle.cmwq_model.specs.declared.reply.Reply.{Reply}
-use Rattle.cmwq_model.specs.Prelude.{past_of, entry_for, IsLegal}
-use Rattle.std.proofs.Common.{ℕ}
-use Rattle.cmwq_state.proofs.Steps.{next_legal, fits_there}
+use Rattle.cmwq_core.specs.Common.{◌≡◌, ◌∷◌, ap₂, sym, subst, Entry, Reply, past_of, entry_for, IsLegal, ℕ, next_legal, fits_there}
 use Rattle.cmwq_core.proofs.Effecting.{call_inside}
 use Rattle.cmwq_core.proofs.effects.next_entry.Goals as goal
 

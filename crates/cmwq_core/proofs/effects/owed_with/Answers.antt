@@ -1,6 +1,4 @@
-use Rattle.std.proofs.Common.{ap, ◌∙◌}
-use Rattle.cmwq_model.specs.Prelude.{past_of}
-use Rattle.cmwq_theory_steps.specs.Histories.{one}
+use Rattle.cmwq_core.specs.Common.{ap, ◌∙◌, past_of, one}
 use Rattle.cmwq_core.proofs.Effecting.{owes_with, owing_sum}
 use Rattle.cmwq_core.proofs.effects.owed_with.Goals as goal
 

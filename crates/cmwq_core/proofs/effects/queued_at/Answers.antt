@@ -1,7 +1,4 @@
-use Rattle.std.proofs.Common.{◌≡◌, ℕ, ◌∙◌, ap₂, sym}
-use Rattle.cmwq_model.specs.declared.id.CpuId.{CpuId}
-use Rattle.cmwq_model.specs.declared.record.Queueing.{Queueing}
-use Rattle.cmwq_model.specs.Prelude.{past_of, cpu_for}
+use Rattle.cmwq_core.specs.Common.{◌≡◌, ℕ, ◌∙◌, ap₂, sym, CpuId, Queueing, past_of, cpu_for}
 use Rattle.cmwq_core.proofs.Effecting.{cpu_of_run, cpu_of_none}
 use Rattle.cmwq_core.proofs.effects.queued_at.Goals as goal
 use Rattle.cmwq_core.proofs.effects.queued_at.Goals.{in-Some, in-None}

@@ -1,7 +1,5 @@
-use Rattle.std.proofs.Common.{◌∙◌, ap}
-use Rattle.cmwq_model.specs.Prelude.{past_of}
+use Rattle.cmwq_core.specs.Common.{◌∙◌, ap, past_of, legal_before}
 use Rattle.cmwq_core.specs.Effects.{started_from}
-use Rattle.cmwq_refinement.proofs.FlightKinds.{legal_before}
 use Rattle.cmwq_core.proofs.Effecting.{starts_from}
 use Rattle.cmwq_core.proofs.effects.started_by.Goals as goal
 

@@ -1,6 +1,4 @@
-use Rattle.std.proofs.Common.{◌≡◌, ◌∷◌, true, sym, subst, arith}
-use Rattle.cmwq_model.specs.declared.entry.Entry.{Entry}
-use Rattle.cmwq_model.specs.Prelude.{has_time, past_of}
+use Rattle.cmwq_core.specs.Common.{◌≡◌, ◌∷◌, true, sym, subst, arith, Entry, has_time, past_of}
 use Rattle.cmwq_core.proofs.OwedBound.{owed_few}
 use Rattle.cmwq_core.proofs.judge.judged.Goals as goal
 

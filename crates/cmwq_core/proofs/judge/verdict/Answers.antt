@@ -8,7 +8,7 @@ loop-at-init c = judged_none c.args.entries.now c.args.state.now c.requires.room
 pub loop-at-preserved : goal.loop-at-preserved
 loop-at-preserved c =
     rw (c.in_default.ensures.appended refl)
-    (judged_more c.args.state.now.layout c.args.entries.now c.loop-at.at _ c.loop-at.state c.loop-at-test.true c.requires.fitting c.loop-at.invariant (c.in_default.ensures.right refl) c.ticks_of-ticks.ensures.small)
+    (judged_more c.args.state.now.layout c.args.entries.now c.loop-at.at _ c.loop-at.state c.loop-at-test.true c.requires.fitting c.loop-at.invariant (c.in_default.ensures.right refl) c.ticks-ticks.ensures.small)
 
 pub returns-in-Some-clause-illegal : goal.returns-in-Some-clause-illegal
 returns-in-Some-clause-illegal c =
@@ -17,4 +17,4 @@ returns-in-Some-clause-illegal c =
 
 pub judged-requires-clause-time : goal.judged-requires-clause-time
 judged-requires-clause-time c =
-    rw c.loop-at.invariant.book (time_for _ _ c.loop-at.at c.loop-at.invariant.soon (omega arith) c.ticks_of-ticks.ensures.small)
+    rw c.loop-at.invariant.book (time_for _ _ c.loop-at.at c.loop-at.invariant.soon (omega arith) c.ticks-ticks.ensures.small)

@@ -1,6 +1,4 @@
-use Rattle.std.proofs.Common.{◌∙◌, ◌∷◌, ◌||◌, ap, ap₂}
-use Rattle.std.specs.Prelude.{if◌then◌else◌, ◌+◌}
-use Rattle.cmwq_model.specs.Prelude.{past_of}
+use Rattle.cmwq_core.specs.Common.{◌∙◌, ◌∷◌, ◌||◌, ap, ap₂, if◌then◌else◌, ◌+◌, past_of}
 use Rattle.cmwq_core.specs.declared.marks.Standing.{Standing}
 use Rattle.cmwq_core.proofs.Marked.{bits_read}
 use Rattle.cmwq_core.proofs.marks.bits_after.Goals as goal

@@ -1,7 +1,4 @@
-use Rattle.std.proofs.Common.{◌∙◌, ap, is_some}
-use Rattle.std.specs.Prelude.{if◌then◌else◌}
-use Rattle.cmwq_model.specs.Prelude.{is_at, past_of}
-use Rattle.cmwq_state.specs.Effects.{item_number}
+use Rattle.cmwq_core.specs.Common.{◌∙◌, ap, is_some, if◌then◌else◌, is_at, past_of, item_number}
 use Rattle.cmwq_core.proofs.Marked.{booked_after}
 use Rattle.cmwq_core.proofs.marks.is_booked_after.Goals as goal
 

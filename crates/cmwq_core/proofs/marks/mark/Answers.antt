@@ -1,5 +1,4 @@
-use Rattle.std.proofs.Common.{◌∙◌, sym, ap}
-use Rattle.cmwq_state.specs.Effects.{item_number}
+use Rattle.cmwq_core.specs.Common.{◌∙◌, sym, ap, item_number}
 use Rattle.cmwq_core.proofs.Marked.{marks_nothing, marks_one}
 use Rattle.cmwq_core.proofs.marks.mark.Goals as goal
 

@@ -1,5 +1,4 @@
-use Rattle.std.proofs.Common.{◌∙◌, ap}
-use Rattle.cmwq_model.specs.Prelude.{past_of}
+use Rattle.cmwq_core.specs.Common.{◌∙◌, ap, past_of}
 use Rattle.cmwq_core.specs.Flights.{ended_at, started_at, opened_at}
 use Rattle.cmwq_core.proofs.Marked.{standing_after}
 use Rattle.cmwq_core.proofs.marks.standing_after.Goals as goal

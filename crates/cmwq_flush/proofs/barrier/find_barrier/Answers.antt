@@ -1,12 +1,11 @@
-use Rattle.std.proofs.Common.{rules}
-use Rattle.std.proofs.lemmas.List.Sorted.{answers_always}
-use Rattle.cmwq_flush.specs.BarrierBook.{ticket_in}
+use Rattle.cmwq_flush.specs.Common.{rules, answers_always}
+use Rattle.cmwq_flush.specs.BarrierBook.{ticket_of_barrier}
 use Rattle.cmwq_flush.proofs.Search.{searched}
 use Rattle.cmwq_flush.proofs.barrier.find_barrier.Goals as goal
 
 pub returns : goal.returns
 returns c =
     let facts = c.binary_search_by_key.ensures in
-    let by_key = facts.position ticket_in (answers_always _ _ _ (λ f a r g called. search rules)) in
-    let found = searched ticket_in c.args.barriers.now c.args.ticket c.requires c.binary_search_by_key.result facts.bound by_key in
+    let by_key = facts.position ticket_of_barrier (answers_always _ _ _ (λ f a r g called. search rules)) in
+    let found = searched ticket_of_barrier c.args.barriers.now c.args.ticket c.requires c.binary_search_by_key.result facts.bound by_key in
     rw c.ok.ensures.value (record { found = found.0; absent = found.1 })

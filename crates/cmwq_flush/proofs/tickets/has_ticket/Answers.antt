@@ -1,5 +1,4 @@
-use Rattle.std.proofs.Common.{ℕ}
-use Rattle.std.proofs.lemmas.List.{map-id}
+use Rattle.cmwq_flush.specs.Common.{ℕ, map-id}
 use Rattle.cmwq_flush.proofs.Search.{some_from_found, found_from_some}
 use Rattle.cmwq_flush.proofs.tickets.has_ticket.Goals as goal
 

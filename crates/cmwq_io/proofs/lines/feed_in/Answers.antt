@@ -1,6 +1,4 @@
-use Rattle.std.proofs.Common.{take, ap, ◌∙◌}
-use Rattle.std.specs.List.{position}
-use Rattle.std.proofs.lemmas.List.{take_min}
+use Rattle.cmwq_io.specs.Common.{take, ap, ◌∙◌, position, take_min}
 use Rattle.cmwq_io.specs.Feeds.{is_feed}
 use Rattle.cmwq_io.proofs.lines.feed_in.Goals as goal
 

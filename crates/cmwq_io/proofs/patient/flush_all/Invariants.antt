@@ -1,5 +1,4 @@
-use Rattle.std.specs.Io.KnownBytes.{Keeps}
-use Rattle.std.proofs.Common.{◌≡◌, ◌++◌}
+use Rattle.cmwq_io.specs.Common.{Keeps, ◌≡◌, ◌++◌}
 use Rattle.cmwq_io.specs.Outcomes.{interruptions}
 use Rattle.cmwq_io.proofs.Trying.{HasTried}
 use Rattle.cmwq_io.proofs.patient.flush_all.Given as goal

@@ -1,6 +1,4 @@
-use Rattle.std.proofs.Common.{ℕ, ◌+◌, ◌-◌, ◌≤◌, List, length, take, drop, length-drop, arith}
-use Rattle.std.proofs.lemmas.List.{take_rest}
-use Rattle.std.proofs.lemmas.Result.{err_from_is_err_and}
+use Rattle.cmwq_io.specs.Common.{ℕ, ◌+◌, ◌-◌, ◌≤◌, List, length, take, drop, length-drop, arith, take_rest, err_from_is_err_and}
 use Rattle.cmwq_io.proofs.Calls.{made_on, given_up_on}
 use Rattle.cmwq_io.proofs.KnownBytes.{Appends-more}
 use Rattle.cmwq_io.proofs.patient.write_all.Goals as goal

@@ -1,5 +1,4 @@
-use Rattle.std.proofs.Common.{◌-◌, ◌≤◌, length, take}
-use Rattle.std.specs.Io.KnownBytes.{Appends}
+use Rattle.cmwq_io.specs.Common.{◌-◌, ◌≤◌, length, take, Appends}
 use Rattle.cmwq_io.specs.Outcomes.{IsAllMade, GoesOnBy}
 use Rattle.cmwq_io.proofs.patient.write_all.Given as goal
 

@@ -1,6 +1,4 @@
-use Rattle.std.specs.Prelude.{is_some}
-use Rattle.serde_json.specs.Find.{get, as_object}
-use Rattle.serde_json.specs.View.{view}
+use Rattle.cmwq_json.specs.Common.{is_some, get, as_object, view}
 use Rattle.cmwq_json.proofs.Arrays.{keys_counted}
 use Rattle.cmwq_json.proofs.keys.has_keys.Goals as goal
 

@@ -1,5 +1,4 @@
-use Rattle.std.proofs.Common.{sym, ap, ◌∙◌, Some}
-use Rattle.std.specs.Prelude.{option_map}
+use Rattle.cmwq_json.specs.Common.{sym, ap, ◌∙◌, Some, option_map}
 use Rattle.cmwq_json.specs.Keys as spec
 use Rattle.cmwq_json.proofs.Arrays.{count_of-members_view}
 use Rattle.cmwq_json.proofs.keys.len.Goals as goal

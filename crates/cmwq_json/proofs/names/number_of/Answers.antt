@@ -1,5 +1,4 @@
-use Rattle.std.proofs.Common.{sym, ◌∙◌, string_bytes}
-use Rattle.std.specs.Str.{bytes_eq}
+use Rattle.cmwq_json.specs.Common.{sym, ◌∙◌, string_bytes, bytes_eq}
 use Rattle.cmwq_json.proofs.Arrays.{position-map}
 use Rattle.cmwq_json.proofs.names.number_of.Goals as goal
 

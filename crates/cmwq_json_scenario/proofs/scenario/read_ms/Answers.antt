@@ -1,9 +1,5 @@
-use Rattle.std.proofs.Common.{◌∙◌, ◌++◌, [], ◌∷◌, ℕ, Some, sym, ap, arith}
-use Rattle.std.specs.Prelude.{option_map}
-use Rattle.serde_json.specs.View.{view, items_view}
-use Rattle.cmwq_json.specs.InTurn.{in_turn}
+use Rattle.cmwq_json_scenario.specs.Common.{◌∙◌, ◌++◌, [], ◌∷◌, ℕ, Some, sym, ap, arith, option_map, view, items_view, in_turn, went_on, stopped, done, array_said}
 use Rattle.cmwq_json_scenario.specs.Scenarios.{add_part, if_few}
-use Rattle.cmwq_json.proofs.Turns.{went_on, stopped, done, array_said}
 use Rattle.cmwq_json_scenario.proofs.scenario.read_ms.Goals as goal
 
 pub returns-in_default-read_number : goal.returns-in_default-read_number

@@ -1,6 +1,4 @@
-use Rattle.std.proofs.Common.{◌≡◌, [], drop}
-use Rattle.serde_json.specs.View.{items_view}
-use Rattle.cmwq_json.specs.InTurn.{in_turn}
+use Rattle.cmwq_json_scenario.specs.Common.{◌≡◌, [], drop, items_view, in_turn}
 use Rattle.cmwq_json_scenario.specs.Scenarios.{add_part}
 use Rattle.cmwq_json_scenario.proofs.scenario.read_ms.Given as goal
 

@@ -1,6 +1,4 @@
-use Rattle.std.proofs.Common.{◌≡◌, [], drop}
-use Rattle.serde_json.specs.View.{items_view}
-use Rattle.cmwq_json.specs.InTurn.{in_turn}
+use Rattle.cmwq_json_script.specs.Common.{◌≡◌, [], drop, items_view, in_turn}
 use Rattle.cmwq_json_script.specs.Actions.{add_action}
 use Rattle.cmwq_json_script.proofs.action.read_actions.Given as goal
 

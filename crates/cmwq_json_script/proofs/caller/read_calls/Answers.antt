@@ -1,8 +1,4 @@
-use Rattle.std.proofs.Common.{◌∙◌, [], Some, None, sym, ap, arith, if◌then◌else◌}
-use Rattle.std.specs.Result.{result_ok}
-use Rattle.serde_json.specs.View.{view, items_view}
-use Rattle.cmwq_json.specs.InTurn.{in_turn}
-use Rattle.cmwq_json.proofs.Turns.{went_on, stopped, done, array_said}
+use Rattle.cmwq_json_script.specs.Common.{◌∙◌, [], Some, None, sym, ap, arith, if◌then◌else◌, result_ok, view, items_view, in_turn, went_on, stopped, done, array_said}
 use Rattle.cmwq_json_script.specs.Callers.{add_call}
 use Rattle.cmwq_json_script.proofs.caller.read_calls.Goals as goal
 

@@ -1,9 +1,6 @@
-use Rattle.std.proofs.Common.{◌∙◌, Some, None, sym, ap, arith, if◌then◌else◌, [], map}
-use Rattle.serde_json.specs.View.{items_view}
-use Rattle.cmwq_json.specs.InTurn.{in_turn}
+use Rattle.cmwq_json_script.specs.Common.{◌∙◌, Some, None, sym, ap, arith, if◌then◌else◌, [], map, items_view, in_turn, went_on, stopped, done}
 use Rattle.cmwq_json_script.specs.Callers.{add_caller}
 use Rattle.cmwq_json_script.specs.Views.{calls_of}
-use Rattle.cmwq_json.proofs.Turns.{went_on, stopped, done}
 use Rattle.cmwq_json_script.proofs.caller.read_in_turn.Goals as goal
 
 pub loop-index-init : goal.loop-index-init

@@ -1,10 +1,6 @@
-use Rattle.std.proofs.Common.{◌∙◌, Some, None, sym, ap, ap₂, arith, if◌then◌else◌}
-use Rattle.serde_json.specs.View.{items_view}
-use Rattle.cmwq_json.specs.InTurn.{in_turn}
-use Rattle.cmwq_json.specs.Names.{map_named}
+use Rattle.cmwq_json_script.specs.Common.{◌∙◌, Some, None, sym, ap, ap₂, arith, if◌then◌else◌, items_view, in_turn, map_named, went_on, stopped, done}
 use Rattle.cmwq_json_script.specs.Items.{no_work, add_item}
 use Rattle.cmwq_json_script.specs.Views.{work_of}
-use Rattle.cmwq_json.proofs.Turns.{went_on, stopped, done}
 use Rattle.cmwq_json_script.proofs.item.read_in_turn.Goals as goal
 
 pub loop-index-init : goal.loop-index-init

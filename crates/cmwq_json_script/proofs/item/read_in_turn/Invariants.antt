@@ -1,6 +1,4 @@
-use Rattle.std.proofs.Common.{◌≡◌, drop}
-use Rattle.serde_json.specs.View.{items_view}
-use Rattle.cmwq_json.specs.InTurn.{in_turn}
+use Rattle.cmwq_json_script.specs.Common.{◌≡◌, drop, items_view, in_turn}
 use Rattle.cmwq_json_script.specs.Items.{no_work, add_item}
 use Rattle.cmwq_json_script.specs.Views.{work_of}
 use Rattle.cmwq_json_script.proofs.item.read_in_turn.Given as goal

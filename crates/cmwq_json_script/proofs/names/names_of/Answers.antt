@@ -1,5 +1,4 @@
-use Rattle.std.proofs.Common.{[], map, string_bytes, sym, arith}
-use Rattle.serde_json.specs.View.{items_view}
+use Rattle.cmwq_json_script.specs.Common.{[], map, string_bytes, sym, arith, items_view}
 use Rattle.cmwq_json_script.specs.Known.{names_after}
 use Rattle.cmwq_json_script.proofs.Naming.{few_names_kept, next_name, names_done}
 use Rattle.cmwq_json_script.proofs.names.names_of.Goals as goal

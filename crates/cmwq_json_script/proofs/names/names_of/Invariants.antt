@@ -1,5 +1,4 @@
-use Rattle.std.proofs.Common.{◌≡◌, ◌≤◌, [], drop, length, map, string_bytes}
-use Rattle.serde_json.specs.View.{items_view}
+use Rattle.cmwq_json_script.specs.Common.{◌≡◌, ◌≤◌, [], drop, length, map, string_bytes, items_view}
 use Rattle.cmwq_json_script.specs.Known.{names_after}
 use Rattle.cmwq_json_script.proofs.names.names_of.Given as goal
 

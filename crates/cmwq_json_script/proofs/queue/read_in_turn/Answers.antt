@@ -1,10 +1,5 @@
-use Rattle.std.proofs.Common.{◌∙◌, Some, None, sym, ap, arith, if◌then◌else◌}
-use Rattle.serde_json.specs.View.{items_view}
-use Rattle.cmwq_json.specs.InTurn.{in_turn}
-use Rattle.cmwq_json.specs.Names.{nobody}
-use Rattle.cmwq_json.specs.Members.{named_of}
+use Rattle.cmwq_json_script.specs.Common.{◌∙◌, Some, None, sym, ap, arith, if◌then◌else◌, items_view, in_turn, nobody, named_of, went_on, stopped, done}
 use Rattle.cmwq_json_script.specs.Queues.{add_queue}
-use Rattle.cmwq_json.proofs.Turns.{went_on, stopped, done}
 use Rattle.cmwq_json_script.proofs.queue.read_in_turn.Goals as goal
 
 pub loop-index-init : goal.loop-index-init

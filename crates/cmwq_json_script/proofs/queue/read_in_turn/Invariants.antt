@@ -1,8 +1,4 @@
-use Rattle.std.proofs.Common.{◌≡◌, drop}
-use Rattle.serde_json.specs.View.{items_view}
-use Rattle.cmwq_json.specs.InTurn.{in_turn}
-use Rattle.cmwq_json.specs.Names.{nobody}
-use Rattle.cmwq_json.specs.Members.{named_of}
+use Rattle.cmwq_json_script.specs.Common.{◌≡◌, drop, items_view, in_turn, nobody, named_of}
 use Rattle.cmwq_json_script.specs.Queues.{add_queue}
 use Rattle.cmwq_json_script.proofs.queue.read_in_turn.Given as goal
 

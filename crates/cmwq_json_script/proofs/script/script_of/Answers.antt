@@ -1,7 +1,5 @@
-use Rattle.std.proofs.Common.{◌≡◌, ◌∙◌, sym, ap, arith}
-use Rattle.std.proofs.lemmas.List.{length-map}
+use Rattle.cmwq_json_script.specs.Common.{◌≡◌, ◌∙◌, sym, ap, arith, length-map, Layout, layout_of, is_layout}
 use Rattle.cmwq_model.specs.declared.shape.Counts.{Counts}
-use Rattle.cmwq_model.specs.Prelude.{Layout, layout_of, is_layout}
 use Rattle.cmwq_json_script.specs.Views.{top_of, work_of, calls_of}
 use Rattle.cmwq_json_script.proofs.Readings.{when_read}
 use Rattle.cmwq_json_script.proofs.Within.{layout_counted, made_may_run}

@@ -1,5 +1,5 @@
 use Rattle.std.proofs.Common.{◌∙◌, sym, ap}
-use Rattle.cmwq_json.specs.Readings.{told}
+use Rattle.cmwq_json.specs.Readings.{map_ok}
 use Rattle.cmwq_json_script.specs.Known.{Known}
 use Rattle.cmwq_json_script.specs.Runs.{items_said, callers_said}
 use Rattle.cmwq_json_script.specs.Views.{top_of, queues_of, work_of, calls_of}
@@ -12,5 +12,5 @@ script_of-requires c =
     let known = sym c.requires.known in
     is_within t (queues_of c.args.names.now c.args.queues) (work_of c.args.items) (calls_of c.in-Ok.callers) c.requires.queues
     (ap (λ (k : Known). items_said k t) known ∙ c.requires.items)
-    (ap (λ (k : Known). callers_said k t) known ∙ sym c.in_ok-callers.ensures ∙ ap (told calls_of) c.in-Ok.is)
+    (ap (λ (k : Known). callers_said k t) known ∙ sym c.in_ok-callers.ensures ∙ ap (map_ok calls_of) c.in-Ok.is)
     c.args.top.now.limits c.args.top.now.recorded

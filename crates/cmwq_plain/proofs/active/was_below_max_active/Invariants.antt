@@ -1,6 +1,5 @@
-use Rattle.std.proofs.Common.{◌≡◌}
+use Rattle.cmwq_plain.specs.Common.{◌≡◌, was_below_max_active}
 use Rattle.cmwq_plain.specs.Past.{upto}
-use Rattle.cmwq_theory_active.specs.Looks.{was_below_max_active}
 use Rattle.cmwq_plain.proofs.active.was_below_max_active.Given as goal
 
 abbrev pub invariant-loop-k : goal.invariant-loop-k

@@ -1,6 +1,5 @@
-use Rattle.std.proofs.Common.{◌≡◌}
+use Rattle.cmwq_plain.specs.Common.{◌≡◌, booking}
 use Rattle.cmwq_plain.specs.Past.{upto}
-use Rattle.cmwq_model.specs.Prelude.{booking}
 use Rattle.cmwq_plain.proofs.bookings.booking.Given as goal
 
 abbrev pub invariant-loop-k : goal.invariant-loop-k

@@ -1,6 +1,5 @@
-use Rattle.std.proofs.Common.{◌≡◌}
+use Rattle.cmwq_plain.specs.Common.{◌≡◌, is_cancelled, is_started}
 use Rattle.cmwq_plain.specs.Past.{upto}
-use Rattle.cmwq_model.specs.Prelude.{is_cancelled, is_started}
 use Rattle.cmwq_plain.proofs.fate.is_cancelled.Given as goal
 
 abbrev pub invariant-loop-k : goal.invariant-loop-k

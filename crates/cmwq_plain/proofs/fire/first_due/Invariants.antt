@@ -1,5 +1,4 @@
-use Rattle.std.proofs.Common.{◌≡◌, find}
-use Rattle.cmwq_model.specs.Prelude.{is_soonest}
+use Rattle.cmwq_plain.specs.Common.{◌≡◌, find, is_soonest}
 use Rattle.cmwq_plain.specs.Partial.{fireable, fireable_upto}
 use Rattle.cmwq_plain.proofs.fire.first_due.Given as goal
 

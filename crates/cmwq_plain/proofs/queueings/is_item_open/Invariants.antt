@@ -1,6 +1,5 @@
-use Rattle.std.proofs.Common.{◌≡◌, find}
+use Rattle.cmwq_plain.specs.Common.{◌≡◌, find, is_of}
 use Rattle.cmwq_plain.specs.Past.{open_upto}
-use Rattle.cmwq_model.specs.Prelude.{is_of}
 use Rattle.cmwq_plain.proofs.queueings.is_item_open.Given as goal
 
 abbrev pub invariant-loop-k : goal.invariant-loop-k

@@ -1,6 +1,5 @@
-use Rattle.std.proofs.Common.{◌≡◌, find}
+use Rattle.cmwq_plain.specs.Common.{◌≡◌, find, is_unstarted}
 use Rattle.cmwq_plain.specs.Past.{open_upto}
-use Rattle.cmwq_model.specs.Prelude.{is_unstarted}
 use Rattle.cmwq_plain.proofs.queueings.unstarted.Given as goal
 
 abbrev pub invariant-loop-k : goal.invariant-loop-k

@@ -1,7 +1,5 @@
-use Rattle.std.proofs.Common.{◌≡◌, ◌*◌, ◌≤◌}
-use Rattle.cmwq_model.specs.Prelude.{cpu_workers}
+use Rattle.cmwq_plain.specs.Common.{◌≡◌, ◌*◌, ◌≤◌, cpu_workers, flat_map, range_with_len}
 use Rattle.cmwq_plain.specs.Partial.{owed_by_runs}
-use Rattle.std.specs.List.{flat_map, range_with_len}
 use Rattle.cmwq_plain.proofs.room.all_runs.Given as goal
 
 abbrev pub invariant-loop-cpu : goal.invariant-loop-cpu

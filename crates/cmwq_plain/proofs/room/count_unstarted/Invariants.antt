@@ -1,6 +1,5 @@
-use Rattle.std.proofs.Common.{◌≡◌, ◌≤◌, count_by}
+use Rattle.cmwq_plain.specs.Common.{◌≡◌, ◌≤◌, count_by, has_not_started}
 use Rattle.cmwq_plain.specs.Past.{open_upto}
-use Rattle.cmwq_model.specs.Prelude.{has_not_started}
 use Rattle.cmwq_plain.proofs.room.count_unstarted.Given as goal
 
 abbrev pub invariant-loop-k : goal.invariant-loop-k

@@ -1,7 +1,5 @@
-use Rattle.std.proofs.Common.{◌≡◌, ◌*◌, ◌≤◌, map}
-use Rattle.cmwq_model.specs.Prelude.{worker_at}
+use Rattle.cmwq_plain.specs.Common.{◌≡◌, ◌*◌, ◌≤◌, map, worker_at, range_with_len}
 use Rattle.cmwq_plain.specs.Partial.{owed_by_runs}
-use Rattle.std.specs.List.{range_with_len}
 use Rattle.cmwq_plain.proofs.room.pool_runs.Given as goal
 
 abbrev pub invariant-loop-index : goal.invariant-loop-index

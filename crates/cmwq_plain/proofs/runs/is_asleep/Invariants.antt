@@ -1,6 +1,5 @@
-use Rattle.std.proofs.Common.{◌≡◌}
+use Rattle.cmwq_plain.specs.Common.{◌≡◌, is_asleep}
 use Rattle.cmwq_plain.specs.Past.{upto}
-use Rattle.cmwq_model.specs.Prelude.{is_asleep}
 use Rattle.cmwq_plain.proofs.runs.is_asleep.Given as goal
 
 abbrev pub invariant-loop-k : goal.invariant-loop-k

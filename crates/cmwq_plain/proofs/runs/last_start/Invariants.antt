@@ -1,6 +1,5 @@
-use Rattle.std.proofs.Common.{◌≡◌}
+use Rattle.cmwq_plain.specs.Common.{◌≡◌, last_start}
 use Rattle.cmwq_plain.specs.Past.{upto}
-use Rattle.cmwq_model.specs.Prelude.{last_start}
 use Rattle.cmwq_plain.proofs.runs.last_start.Given as goal
 
 abbrev pub invariant-loop-k : goal.invariant-loop-k

@@ -1,6 +1,5 @@
-use Rattle.std.proofs.Common.{◌≡◌, ◌*◌, ◌≤◌}
+use Rattle.cmwq_plain.specs.Common.{◌≡◌, ◌*◌, ◌≤◌, now}
 use Rattle.cmwq_plain.specs.Past.{upto}
-use Rattle.cmwq_model.specs.Prelude.{now}
 use Rattle.cmwq_plain.proofs.tally.now.Given as goal
 
 abbrev pub invariant-loop-number : goal.invariant-loop-number

@@ -1,6 +1,5 @@
-use Rattle.std.proofs.Common.{◌≡◌, ◌≤◌}
+use Rattle.cmwq_plain.specs.Common.{◌≡◌, ◌≤◌, serial_of}
 use Rattle.cmwq_plain.specs.Past.{upto}
-use Rattle.cmwq_model.specs.Prelude.{serial_of}
 use Rattle.cmwq_plain.proofs.tally.serial_of.Given as goal
 
 abbrev pub invariant-loop-number : goal.invariant-loop-number

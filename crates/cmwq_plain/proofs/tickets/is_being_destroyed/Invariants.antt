@@ -1,7 +1,5 @@
-use Rattle.std.proofs.Common.{◌≡◌}
+use Rattle.cmwq_plain.specs.Common.{◌≡◌, is_destroy_of, list_any}
 use Rattle.cmwq_plain.specs.Past.{unended_upto}
-use Rattle.cmwq_model.specs.Prelude.{is_destroy_of}
-use Rattle.std.specs.List.{list_any}
 use Rattle.cmwq_plain.proofs.tickets.is_being_destroyed.Given as goal
 
 abbrev pub invariant-loop-k : goal.invariant-loop-k

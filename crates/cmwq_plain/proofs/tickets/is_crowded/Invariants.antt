@@ -1,6 +1,5 @@
-use Rattle.std.proofs.Common.{◌≡◌, ◌≤◌, count_by}
+use Rattle.cmwq_plain.specs.Common.{◌≡◌, ◌≤◌, count_by, is_held_by}
 use Rattle.cmwq_plain.specs.Past.{unended_upto}
-use Rattle.cmwq_model.specs.Prelude.{is_held_by}
 use Rattle.cmwq_plain.proofs.tickets.is_crowded.Given as goal
 
 abbrev pub invariant-loop-k : goal.invariant-loop-k

@@ -1,7 +1,5 @@
-use Rattle.std.proofs.Common.{◌≡◌}
+use Rattle.cmwq_plain.specs.Common.{◌≡◌, ends, list_any}
 use Rattle.cmwq_plain.specs.Past.{upto}
-use Rattle.cmwq_model.specs.Prelude.{ends}
-use Rattle.std.specs.List.{list_any}
 use Rattle.cmwq_plain.proofs.tickets.is_unended.Given as goal
 
 abbrev pub invariant-loop-k : goal.invariant-loop-k

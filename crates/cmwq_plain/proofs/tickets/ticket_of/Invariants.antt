@@ -1,6 +1,5 @@
-use Rattle.std.proofs.Common.{◌≡◌, find}
+use Rattle.cmwq_plain.specs.Common.{◌≡◌, find, is_ticket}
 use Rattle.cmwq_plain.specs.Past.{unended_upto}
-use Rattle.cmwq_model.specs.Prelude.{is_ticket}
 use Rattle.cmwq_plain.proofs.tickets.ticket_of.Given as goal
 
 abbrev pub invariant-loop-k : goal.invariant-loop-k

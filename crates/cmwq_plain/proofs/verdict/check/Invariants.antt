@@ -1,5 +1,4 @@
-use Rattle.std.proofs.Common.{take}
-use Rattle.cmwq_model.specs.Prelude.{IsLegal, past_of}
+use Rattle.cmwq_plain.specs.Common.{take, IsLegal, past_of}
 use Rattle.cmwq_plain.proofs.verdict.check.Given as goal
 
 -- the entries judged so far are a legal history

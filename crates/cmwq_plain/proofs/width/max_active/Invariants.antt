@@ -1,6 +1,5 @@
-use Rattle.std.proofs.Common.{◌≡◌}
+use Rattle.cmwq_plain.specs.Common.{◌≡◌, max_active}
 use Rattle.cmwq_plain.specs.Past.{upto}
-use Rattle.cmwq_model.specs.Prelude.{max_active}
 use Rattle.cmwq_plain.proofs.width.max_active.Given as goal
 
 abbrev pub invariant-loop-k : goal.invariant-loop-k

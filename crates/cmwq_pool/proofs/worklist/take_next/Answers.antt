@@ -1,8 +1,7 @@
-use Rattle.std.proofs.Common.{ap, sym, ◌∙◌, Some}
+use Rattle.cmwq_pool.specs.Common.{ap, sym, ◌∙◌, Some, filter}
 use Rattle.cmwq_pool.specs.declared.task.Task.{Task}
-use Rattle.cmwq_pool.specs.PoolState.{is_not}
+use Rattle.cmwq_pool.specs.PoolState.{is_other_task}
 use Rattle.cmwq_pool.specs.Upkeep.{is_free}
-use Rattle.std.proofs.Common.{filter}
 use Rattle.cmwq_pool.proofs.Finding.{find-position, is_some-position}
 use Rattle.cmwq_pool.proofs.Worklists.{remove_is_filter}
 use Rattle.cmwq_pool.proofs.worklist.take_next.Goals as goal
@@ -21,4 +20,4 @@ returns-clause-rest c =
     let place = rw c.deref.ensures.value at (sym c.first_free.ensures ∙ c.unwrap-index.ensures) in
     let found = find-position (is_free c.args.running.now) c.args.listed.now.items c.unwrap-index.result c.remove.result place in
     c.remove.ensures.items ∙ remove_is_filter c.args.listed.now.items c.unwrap-index.result c.remove.result found.0 c.requires.numbers
-    ∙ ap (λ (t : Task). filter (is_not t.number) c.args.listed.now.items) (sym c.remove.ensures.value)
+    ∙ ap (λ (t : Task). filter (is_other_task t.number) c.args.listed.now.items) (sym c.remove.ensures.value)

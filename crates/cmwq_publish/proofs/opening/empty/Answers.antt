@@ -1,5 +1,4 @@
-use Rattle.std.proofs.Common.{◌≡◌, ◌∙◌, ap, sym, refl, replicate}
-use Rattle.cmwq_model.specs.Prelude.{Layout}
+use Rattle.cmwq_publish.specs.Common.{◌≡◌, ◌∙◌, ap, sym, refl, replicate, Layout}
 use Rattle.cmwq_publish.specs.declared.versions.Versions.{Versions}
 use Rattle.cmwq_publish.proofs.Marking.{none_is_version}
 use Rattle.cmwq_publish.proofs.opening.empty.Goals as goal

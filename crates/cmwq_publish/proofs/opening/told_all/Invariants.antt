@@ -1,5 +1,4 @@
-use Rattle.std.proofs.Common.{◌≡◌, length}
-use Rattle.std.specs.Prelude.{All}
+use Rattle.cmwq_publish.specs.Common.{◌≡◌, length, All}
 use Rattle.left_right.specs.Sides.{view}
 use Rattle.cmwq_publish.proofs.opening.told_all.Given as goal
 

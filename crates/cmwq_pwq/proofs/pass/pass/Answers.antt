@@ -1,6 +1,4 @@
-use Rattle.std.proofs.Common.{rules, ◌≡◌, ◌<◌, length, get_or, sym, ◌∙◌}
-use Rattle.std.proofs.lemmas.List.Elements.{All-get_or}
-use Rattle.cmwq_model.specs.declared.record.Queueing.{Queueing}
+use Rattle.cmwq_pwq.specs.Common.{rules, ◌≡◌, ◌<◌, length, get_or, sym, ◌∙◌, All-get_or, Queueing}
 use Rattle.cmwq_pwq.specs.Pwqs.{IsPlaced, place_of, count_of_same_pwq, width_by}
 use Rattle.cmwq_pwq.proofs.Passes.{pass_kept, pass_activated, pass_all, read_count, place_inside}
 use Rattle.cmwq_pwq.proofs.pass.pass.Goals as goal

@@ -1,6 +1,5 @@
-use Rattle.std.proofs.Common.{◌≡◌, ◌+◌, Bool, take, vec_len}
+use Rattle.cmwq_pwq.specs.Common.{◌≡◌, ◌+◌, Bool, take, vec_len, Queueing}
 use Rattle.std.specs.Vec.{vec_capacity}
-use Rattle.cmwq_model.specs.declared.record.Queueing.{Queueing}
 use Rattle.cmwq_pwq.specs.Pwqs.{AreBelowMaxActive, Passes, width_by}
 use Rattle.cmwq_pwq.proofs.pass.pass.Given as goal
 

@@ -1,6 +1,4 @@
-use Rattle.std.proofs.Common.{sym, ◌∙◌, ap}
-use Rattle.std.specs.Prelude.{position}
-use Rattle.cmwq_theory_steps.specs.Places.{is_on}
+use Rattle.cmwq_pwq.specs.Common.{sym, ◌∙◌, ap, position, is_on}
 use Rattle.cmwq_pwq.proofs.First.{first_taken, none_first}
 use Rattle.cmwq_pwq.proofs.waiting.take_first.Goals as goal
 

@@ -1,5 +1,4 @@
-use Rattle.std.proofs.Common.{arith, get_or}
-use Rattle.std.proofs.lemmas.Option.{slice_get-get_or}
+use Rattle.cmwq_rt.specs.Common.{arith, get_or, slice_get-get_or}
 use Rattle.cmwq_rt.proofs.Settling.{done_more, left_more, done_all}
 use Rattle.cmwq_rt.proofs.hub.settle_workers.Goals as goal
 

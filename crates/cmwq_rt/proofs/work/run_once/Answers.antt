@@ -1,5 +1,4 @@
-use Rattle.std.proofs.Common.{ap, sym, subst}
-use Rattle.cmwq_monitor.specs.Participants.{View}
+use Rattle.cmwq_rt.specs.Common.{ap, sym, subst, View}
 use Rattle.cmwq_rt.specs.Later.{Later}
 use Rattle.cmwq_rt.specs.Running.{Running}
 use Rattle.cmwq_rt.proofs.Later.{later_trans}

@@ -1,6 +1,4 @@
-use Rattle.std.proofs.Common.{sym, subst}
-use Rattle.cmwq_io.specs.Moves.{AppendsFront}
-use Rattle.cmwq_text.specs.HistoryText.{entries_text}
+use Rattle.cmwq_rt_journal.specs.Common.{sym, subst, AppendsFront, entries_text}
 use Rattle.cmwq_rt_journal.specs.Breaking.{BreaksOff}
 use Rattle.cmwq_rt_journal.proofs.Texts.{batch_breaks}
 use Rattle.cmwq_rt_journal.proofs.keep.keep_from_start.Goals as goal

@@ -1,6 +1,4 @@
-use Rattle.std.proofs.Common.{◌≤◌}
-use Rattle.std.specs.Io.KnownBytes.{Appends}
-use Rattle.cmwq_text.specs.HistoryText.{body_text}
+use Rattle.cmwq_rt_journal.specs.Common.{◌≤◌, Appends, body_text}
 use Rattle.cmwq_rt_journal.proofs.keep.keep_from_start.Given as goal
 
 abbrev pub invariant-loop : goal.invariant-loop

@@ -1,6 +1,4 @@
-use Rattle.std.proofs.Common.{◌≤◌, take}
-use Rattle.std.specs.Io.KnownBytes.{Appends}
-use Rattle.cmwq_text.specs.HistoryText.{entries_text}
+use Rattle.cmwq_rt_journal.specs.Common.{◌≤◌, take, Appends, entries_text}
 use Rattle.cmwq_rt_journal.proofs.lines.write_entries.Given as goal
 
 abbrev pub invariant-loop-entry : goal.invariant-loop-entry

@@ -1,7 +1,4 @@
-use Rattle.std.proofs.lemmas.Result.{err_from_is_err_and}
-use Rattle.cmwq_io.proofs.KnownBytes.{Appends-trans}
-use Rattle.cmwq_base.proofs.Fronts.{front_before, front_after, front_whole}
-use Rattle.cmwq_text.specs.HistoryText.{last_text}
+use Rattle.cmwq_rt_journal.specs.Common.{err_from_is_err_and, Appends-trans, front_before, front_after, front_whole, last_text}
 use Rattle.cmwq_rt_journal.proofs.lines.write_last.Goals as goal
 
 pub returns-in_err-write_entries-clause-err : goal.returns-in_err-write_entries-clause-err

@@ -1,5 +1,4 @@
-use Rattle.std.proofs.Common.{◌≡◌, suc, ◌+◌, ◌++◌, ◌∷◌, [], length, map, drop, arith, ap, sym, ◌∙◌, subst, length-append}
-use Rattle.std.specs.Prelude.{slice_get, Some}
+use Rattle.cmwq_rt_scripts.specs.Common.{◌≡◌, suc, ◌+◌, ◌++◌, ◌∷◌, [], length, map, drop, arith, ap, sym, ◌∙◌, subst, length-append, slice_get, Some}
 use Rattle.cmwq_rt_scripts.specs.Ended.{AllFollow}
 use Rattle.cmwq_rt_scripts.proofs.Gathering.{last_at, kept_at, gathered}
 use Rattle.cmwq_rt_scripts.proofs.gather.gather_callers.Goals as goal

@@ -1,6 +1,4 @@
-use Rattle.std.proofs.Common.{◌≡◌, ℕ, ◌+◌, true, length, map, drop}
-use Rattle.std.specs.Prelude.{slice_get, Some, IfOk, IfErr}
-use Rattle.cmwq_rt.specs.Running.{breaks_off}
+use Rattle.cmwq_rt_scripts.specs.Common.{◌≡◌, ℕ, ◌+◌, true, length, map, drop, slice_get, Some, IfOk, IfErr, breaks_off}
 use Rattle.cmwq_rt_scripts.specs.Ended.{FollowedAt, AllFollow}
 use Rattle.cmwq_rt_scripts.proofs.gather.gather_callers.Given as goal
 

@@ -1,7 +1,4 @@
-use Rattle.std.proofs.Common.{◌≡◌, ◌≤◌, ℕ, ◌+◌, ◌++◌, ◌∷◌, [], length, length-append, arith, ap, sym, ◌∙◌, subst, rules}
-use Rattle.std.specs.Prelude.{slice_get, Some}
-use Rattle.cmwq_model.specs.declared.id.WorkerId.{WorkerId}
-use Rattle.cmwq_rt.specs.Places.{worker_at}
+use Rattle.cmwq_rt_scripts.specs.Common.{◌≡◌, ◌≤◌, ℕ, ◌+◌, ◌++◌, ◌∷◌, [], length, length-append, arith, ap, sym, ◌∙◌, subst, rules, slice_get, Some, WorkerId, worker_by_number}
 use Rattle.cmwq_rt_scripts.specs.Ended.{WorkedIn}
 use Rattle.cmwq_rt_scripts.proofs.Gathering.{last_at, kept_at, one_before, worker_within}
 use Rattle.cmwq_rt_scripts.proofs.gather.gather_workers.Goals as goal
@@ -20,7 +17,7 @@ loop-preserved g c =
       (let i = inv.2 in let p = share.1 in let a = c.in_ok-answered.ensures.sum in omega (arith, p, i, a)),
       (λ k e at. inv.3 k e (subst (λ l. slice_get l k ≡ Some e) (sym last) (kept_at new end e k at))),
       (λ k e at. inv.4 k e (subst (λ l. slice_get l k ≡ Some e) (sym last) (kept_at new end e k at))),
-      one_before (λ k. (x : WorkerId) → worker_at s k ≡ Some x → WorkedIn s (g.W.Work.does c.args.work.now s) x c.args.monitor.now.history) (length new) (length c.args.workers.items)
+      one_before (λ k. (x : WorkerId) → worker_by_number s k ≡ Some x → WorkedIn s (g.W.Work.does c.args.work.now s) x c.args.monitor.now.history) (length new) (length c.args.workers.items)
           (λ x at. c.in_ok-made.ensures.worked x (inv.4 (length new) end (subst (λ l. slice_get l (length new) ≡ Some end) (sym last) (last_at new end)) x at))
           (λ k le lt. inv.5 k (omega (arith, le, len)) lt),
     )

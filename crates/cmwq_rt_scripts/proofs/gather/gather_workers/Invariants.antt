@@ -1,10 +1,4 @@
-use Rattle.std.proofs.Common.{◌≡◌, ℕ, ◌+◌, ◌<◌, ◌≤◌, true, length}
-use Rattle.std.specs.Prelude.{slice_get, Some, IfOk, IfErr}
-use Rattle.cmwq_model.specs.declared.id.WorkerId.{WorkerId}
-use Rattle.cmwq_model.specs.declared.id.Who.TheVariants.{Worker}
-use Rattle.cmwq_monitor.specs.Participants.{newcomer}
-use Rattle.cmwq_rt.specs.Places.{worker_at}
-use Rattle.cmwq_rt.specs.Running.{breaks_off}
+use Rattle.cmwq_rt_scripts.specs.Common.{◌≡◌, ℕ, ◌+◌, ◌<◌, ◌≤◌, true, length, slice_get, Some, IfOk, IfErr, WorkerId, Worker, newcomer, worker_by_number, breaks_off}
 use Rattle.cmwq_rt_scripts.specs.Ended.{WorkedFrom, WorkedIn}
 use Rattle.cmwq_rt_scripts.proofs.gather.gather_workers.Given as goal
 
@@ -14,5 +8,5 @@ invariant-loop g l =
     let does = g.W.Work.does l.fn.work s in
     (length l.workers.items + l.counter ≡ length l.fn.workers.items) × (l.all.parts ≡ l.fn.all.parts + l.counter) × (l.all.amount ≡ l.fn.all.amount + l.answered)
     × ((k : ℕ) (e : _) → slice_get l.workers.items k ≡ Some e → IfErr e.outcome (λ f. breaks_off f ≡ true))
-    × ((k : ℕ) (e : _) → slice_get l.workers.items k ≡ Some e → (x : WorkerId) → worker_at s k ≡ Some x → IfOk e.outcome (λ _. WorkedFrom s does (newcomer (Worker x)) e.worker))
-    × ((k : ℕ) → length l.workers.items ≤ k → k < length l.fn.workers.items → (x : WorkerId) → worker_at s k ≡ Some x → WorkedIn s does x l.fn.monitor.history)
+    × ((k : ℕ) (e : _) → slice_get l.workers.items k ≡ Some e → (x : WorkerId) → worker_by_number s k ≡ Some x → IfOk e.outcome (λ _. WorkedFrom s does (newcomer (Worker x)) e.worker))
+    × ((k : ℕ) → length l.workers.items ≤ k → k < length l.fn.workers.items → (x : WorkerId) → worker_by_number s k ≡ Some x → WorkedIn s does x l.fn.monitor.history)

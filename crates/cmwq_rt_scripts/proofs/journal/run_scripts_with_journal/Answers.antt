@@ -1,6 +1,4 @@
-use Rattle.std.proofs.Common.{sym, subst, refl, ◌<◌, length, ◌^◌}
-use Rattle.std.specs.Prelude.{All}
-use Rattle.cmwq_model.specs.Prelude.{Layout, IsScripted}
+use Rattle.cmwq_rt_scripts.specs.Common.{sym, subst, refl, ◌<◌, length, ◌^◌, All, Layout, IsScripted}
 use Rattle.cmwq_rt_scripts.proofs.Journaling.{nothing_written}
 use Rattle.cmwq_rt_scripts.proofs.journal.run_scripts_with_journal.Goals as goal
 

@@ -1,10 +1,4 @@
-use Rattle.std.proofs.Common.{◌≡◌, ℕ, ◌<◌, true, length, get_or, arith, ap, sym, ◌∙◌, subst}
-use Rattle.std.specs.Prelude.{slice_get, Some, IfOk, IfErr}
-use Rattle.cmwq_rt.specs.Running.{breaks_off}
-use Rattle.std.proofs.lemmas.Option.{slice_get_within, slice_get-get_or, get_or_from_slice_get}
-use Rattle.cmwq_model.specs.declared.id.Who.TheVariants.{Worker}
-use Rattle.cmwq_monitor.specs.Participants.{newcomer}
-use Rattle.cmwq_rt.specs.Places.{worker_at}
+use Rattle.cmwq_rt_scripts.specs.Common.{◌≡◌, ℕ, ◌<◌, true, length, get_or, arith, ap, sym, ◌∙◌, subst, slice_get, Some, IfOk, IfErr, breaks_off, slice_get_within, slice_get-get_or, get_or_from_slice_get, Worker, newcomer, worker_by_number}
 use Rattle.cmwq_rt_scripts.specs.Ended.{FollowedAt, WorkedFrom}
 use Rattle.cmwq_rt_scripts.proofs.run.run_all.Goals as goal
 
@@ -49,7 +43,7 @@ returns-clause-worked g c =
     let got = c.in-Ok-ended.workers.ok in
     let len : length rs ≡ length hs = sym got.0 ∙ joined.len ∙ many.0 in
     record {
-      all = ap (worker_at s) len ∙ started.all.0;
+      all = ap (worker_by_number s) len ∙ started.all.0;
       faults = (λ k e at.
           let lt = slice_get_within rs k e at in
           let within : k < length hs = (let l = len in omega (arith, lt, l)) in

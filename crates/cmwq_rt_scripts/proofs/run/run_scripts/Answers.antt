@@ -1,6 +1,4 @@
-use Rattle.std.proofs.Common.{sym, subst, ◌<◌, length, ◌^◌}
-use Rattle.std.specs.Prelude.{All}
-use Rattle.cmwq_model.specs.Prelude.{Layout, IsScripted}
+use Rattle.cmwq_rt_scripts.specs.Common.{sym, subst, ◌<◌, length, ◌^◌, All, Layout, IsScripted}
 use Rattle.cmwq_rt_scripts.proofs.run.run_scripts.Goals as goal
 
 pub run_parts-requires-clause-calls : goal.run_parts-requires-clause-calls

@@ -1,6 +1,4 @@
-use Rattle.std.proofs.Common.{◌≡◌, ℕ, ◌+◌, length}
-use Rattle.std.specs.Prelude.{slice_get, Some}
-use Rattle.cmwq_monitor.specs.Participants.{View, newcomer}
+use Rattle.cmwq_rt_scripts.specs.Common.{◌≡◌, ℕ, ◌+◌, length, slice_get, Some, View, newcomer}
 use Rattle.cmwq_rt_scripts.specs.Ended.{caller_at}
 use Rattle.cmwq_rt_scripts.proofs.start.idle_callers.Given as goal
 

@@ -1,9 +1,5 @@
-use Rattle.std.proofs.Common.{◌≡◌, ℕ, ◌+◌, ◌++◌, ◌∷◌, [], length, arith, ap, sym, ◌∙◌, subst}
-use Rattle.std.specs.Prelude.{slice_get, Some}
-use Rattle.std.proofs.lemmas.Option.{get_or_from_slice_get}
+use Rattle.cmwq_rt_scripts.specs.Common.{◌≡◌, ℕ, ◌+◌, ◌++◌, ◌∷◌, [], length, arith, ap, sym, ◌∙◌, subst, slice_get, Some, get_or_from_slice_get, View, Places}
 use Rattle.cmwq_model.specs.declared.id.CallerId.{CallerId}
-use Rattle.cmwq_monitor.specs.Participants.{View}
-use Rattle.cmwq_rt.specs.Places.{Places}
 use Rattle.cmwq_rt_scripts.specs.Ended.{caller_at}
 use Rattle.cmwq_rt_scripts.proofs.Gathering.{all_push}
 use Rattle.cmwq_rt_scripts.proofs.start.start_callers.Goals as goal

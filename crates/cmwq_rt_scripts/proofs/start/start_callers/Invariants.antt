@@ -1,5 +1,4 @@
-use Rattle.std.proofs.Common.{◌≡◌, ℕ, length}
-use Rattle.std.specs.Prelude.{slice_get, Some}
+use Rattle.cmwq_rt_scripts.specs.Common.{◌≡◌, ℕ, length, slice_get, Some}
 use Rattle.cmwq_rt_scripts.proofs.start.start_callers.Given as goal
 
 abbrev pub invariant-loop-k : goal.invariant-loop-k

@@ -1,5 +1,4 @@
-use Rattle.std.proofs.Common.{◌≡◌, ◌++◌, map, take, string_bytes}
-use Rattle.std.specs.List.{flat_map}
+use Rattle.cmwq_sim.specs.Common.{◌≡◌, ◌++◌, map, take, string_bytes, flat_map}
 use Rattle.cmwq_sim.specs.Text.{and_name}
 use Rattle.cmwq_sim.proofs.text.push_others.Given as goal
 

@@ -1,5 +1,4 @@
-use Rattle.std.proofs.Common.{◌≡◌, ◌≤◌, ◌*◌, take}
-use Rattle.std.specs.Prelude.{sum}
+use Rattle.cmwq_sim.specs.Common.{◌≡◌, ◌≤◌, ◌*◌, take, sum}
 use Rattle.cmwq_sim.proofs.times.time_of.Given as goal
 
 abbrev pub invariant-loop-part : goal.invariant-loop-part

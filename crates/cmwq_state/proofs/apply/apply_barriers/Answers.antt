@@ -1,22 +1,22 @@
 use Rattle.std.proofs.Common.{◌∙◌, ap}
 use Rattle.cmwq_refinement.specs.BarrierBooks as barriers
-use Rattle.cmwq_state.proofs.Told.{may_end_barriers, may_open_barriers, may_be_done_barriers, may_begin_barriers, barriers_told, told_barriers}
+use Rattle.cmwq_state.proofs.Applied.{may_end_barriers, may_open_barriers, may_be_done_barriers, may_begin_barriers, barriers_applied, barriers_apply}
 use Rattle.cmwq_state.proofs.apply.apply_barriers.Goals as goal
 
-pub tell_barriers-requires-clause-ended : goal.tell_barriers-requires-clause-ended
-tell_barriers-requires-clause-ended c = rw c.requires.3 (may_end_barriers c.requires.0 c.requires.1 c.args.effect.now c.requires.2.effect)
+pub move_barriers-requires-clause-ended : goal.move_barriers-requires-clause-ended
+move_barriers-requires-clause-ended c = rw c.requires.3 (may_end_barriers c.requires.0 c.requires.1 c.args.effect.now c.requires.2.effect)
 
-pub tell_barriers-requires-clause-opened : goal.tell_barriers-requires-clause-opened
-tell_barriers-requires-clause-opened c = rw c.requires.3 (may_open_barriers c.requires.0 c.requires.1 c.args.effect.now c.requires.2.effect)
+pub move_barriers-requires-clause-opened : goal.move_barriers-requires-clause-opened
+move_barriers-requires-clause-opened c = rw c.requires.3 (may_open_barriers c.requires.0 c.requires.1 c.args.effect.now c.requires.2.effect)
 
-pub tell_barrier_done-requires : goal.tell_barrier_done-requires
-tell_barrier_done-requires c = rw (c.tell_barriers.ensures, c.requires.3) (may_be_done_barriers c.requires.0 c.requires.1 c.args.effect.now c.requires.2.effect)
+pub done_in_barriers-requires : goal.done_in_barriers-requires
+done_in_barriers-requires c = rw (c.move_barriers.ensures, c.requires.3) (may_be_done_barriers c.requires.0 c.requires.1 c.args.effect.now c.requires.2.effect)
 
-pub tell_barrier_begun-requires : goal.tell_barrier_begun-requires
-tell_barrier_begun-requires c = rw (c.tell_barrier_done.ensures, c.tell_barriers.ensures, c.requires.3) (may_begin_barriers c.requires.0 c.requires.1 c.args.effect.now c.requires.2.effect)
+pub begin_in_barriers-requires : goal.begin_in_barriers-requires
+begin_in_barriers-requires c = rw (c.done_in_barriers.ensures, c.move_barriers.ensures, c.requires.3) (may_begin_barriers c.requires.0 c.requires.1 c.args.effect.now c.requires.2.effect)
 
 pub returns : goal.returns
 returns c s past next are =
     let f = c.args.effect.now in
-    (c.tell_barrier_begun.ensures ∙ ap (barriers.told_begun f.begun) (c.tell_barrier_done.ensures ∙ ap (barriers.told_done f.done) c.tell_barriers.ensures))
-    ∙ (ap (barriers_told f) are ∙ told_barriers s past f next.effect)
+    (c.begin_in_barriers.ensures ∙ ap (barriers.barriers_after_begun f.begun) (c.done_in_barriers.ensures ∙ ap (barriers.barriers_after_done f.done) c.move_barriers.ensures))
+    ∙ (ap (barriers_applied f) are ∙ barriers_apply s past f next.effect)

@@ -1,28 +1,28 @@
-use Rattle.cmwq_state.proofs.Told.{may_end_books, may_open_books, may_be_done, may_begin, told_books}
+use Rattle.cmwq_state.proofs.Applied.{may_end_books, may_open_books, may_be_done, may_begin, books_applied}
 use Rattle.cmwq_state.proofs.apply.apply_books.Goals as goal
 
-pub tell_ended-requires : goal.tell_ended-requires
-tell_ended-requires c =
+pub end_in_books-requires : goal.end_in_books-requires
+end_in_books-requires c =
     let n = c.requires.2 in
     may_end_books c.requires.0 c.requires.1 c.args.effect.now c.args.books.now.items n.inside n.effect n.before c.requires.3
 
-pub tell_opened-requires : goal.tell_opened-requires
-tell_opened-requires c =
+pub open_in_books-requires : goal.open_in_books-requires
+open_in_books-requires c =
     let n = c.requires.2 in
-    may_open_books c.requires.0 c.requires.1 c.args.effect.now c.args.books.now.items c.tell_ended.new.books.items n.few n.inside n.effect c.requires.3 c.tell_ended.ensures
+    may_open_books c.requires.0 c.requires.1 c.args.effect.now c.args.books.now.items c.end_in_books.new.books.items n.few n.inside n.effect c.requires.3 c.end_in_books.ensures
 
-pub tell_done-requires : goal.tell_done-requires
-tell_done-requires c =
+pub done_in_books-requires : goal.done_in_books-requires
+done_in_books-requires c =
     let n = c.requires.2 in
-    may_be_done c.requires.0 c.requires.1 c.args.effect.now c.args.books.now.items c.tell_ended.new.books.items c.tell_opened.new.books.items n.inside n.effect n.before c.requires.3 c.tell_ended.ensures c.tell_opened.ensures
+    may_be_done c.requires.0 c.requires.1 c.args.effect.now c.args.books.now.items c.end_in_books.new.books.items c.open_in_books.new.books.items n.inside n.effect n.before c.requires.3 c.end_in_books.ensures c.open_in_books.ensures
 
-pub tell_begun-requires : goal.tell_begun-requires
-tell_begun-requires c =
+pub begin_in_books-requires : goal.begin_in_books-requires
+begin_in_books-requires c =
     let n = c.requires.2 in
-    may_begin c.requires.0 c.requires.1 c.args.effect.now c.args.books.now.items c.tell_ended.new.books.items c.tell_opened.new.books.items c.tell_done.new.books.items n.inside n.effect c.requires.3
-    c.tell_ended.ensures c.tell_opened.ensures c.tell_done.ensures
+    may_begin c.requires.0 c.requires.1 c.args.effect.now c.args.books.now.items c.end_in_books.new.books.items c.open_in_books.new.books.items c.done_in_books.new.books.items n.inside n.effect c.requires.3
+    c.end_in_books.ensures c.open_in_books.ensures c.done_in_books.ensures
 
 pub returns : goal.returns
 returns c s past next are =
-    told_books s past c.args.effect.now c.args.books.now.items c.tell_ended.new.books.items c.tell_opened.new.books.items c.tell_done.new.books.items c.tell_begun.new.books.items next.effect are
-    c.tell_ended.ensures c.tell_opened.ensures c.tell_done.ensures c.tell_begun.ensures
+    books_applied s past c.args.effect.now c.args.books.now.items c.end_in_books.new.books.items c.open_in_books.new.books.items c.done_in_books.new.books.items c.begin_in_books.new.books.items next.effect are
+    c.end_in_books.ensures c.open_in_books.ensures c.done_in_books.ensures c.begin_in_books.ensures

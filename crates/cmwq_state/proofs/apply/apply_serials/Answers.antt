@@ -2,9 +2,10 @@ use Rattle.std.proofs.Common.{◌+◌, ◌∷◌, ap₂, arith, subst, sym}
 use Rattle.std.proofs.Math.ListN.{set}
 use Rattle.cmwq_state.specs.Tables.{AreSerials}
 use Rattle.cmwq_state.proofs.Appended.{effect_there, effect_serial}
-use Rattle.cmwq_state.proofs.Refine.{who_below, serials_told}
-use Rattle.cmwq_state.proofs.Steps.{small, serial_most}
+use Rattle.cmwq_state.proofs.Refine.{who_below, serials_applied}
+use Rattle.cmwq_state.proofs.Steps.{small}
 use Rattle.cmwq_state.proofs.apply.apply_serials.Goals as goal
+use Rattle.cmwq_theory_laws.proofs.InRange.{serial_most}
 
 pub overflow_add-entry : goal.overflow_add-entry
 overflow_add-entry c =
@@ -27,4 +28,4 @@ pub returns : goal.returns
 returns c s past next are =
     let f = c.args.effect.now in
     subst (AreSerials s (f.entry ∷ past)) (sym (ap₂ (λ p n. set c.args.serials.now.items p (n + 1)) c.who_place.ensures (effect_serial s past f next.effect)))
-    (serials_told s f.entry past c.args.serials.now.items (small s next.inside) (effect_there s past f next.effect) are)
+    (serials_applied s f.entry past c.args.serials.now.items (small s next.inside) (effect_there s past f next.effect) are)

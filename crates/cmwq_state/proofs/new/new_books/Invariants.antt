@@ -1,6 +1,4 @@
-use Rattle.std.proofs.Common.{◌≡◌, ◌≤◌, replicate}
-use Rattle.std.specs.Vec.{vec_capacity}
-use Rattle.cmwq_flush.specs.FlushBook.{new_book}
+use Rattle.cmwq_state.specs.Common.{◌≡◌, ◌≤◌, replicate, vec_capacity, new_book}
 use Rattle.cmwq_state.proofs.new.new_books.Given as goal
 
 abbrev pub invariant-loop-index : goal.invariant-loop-index

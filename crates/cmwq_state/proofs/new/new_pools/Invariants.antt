@@ -1,6 +1,4 @@
-use Rattle.std.proofs.Common.{◌≡◌, ◌≤◌, replicate}
-use Rattle.std.specs.Vec.{vec_capacity}
-use Rattle.cmwq_pool.specs.PoolState.{new_pool_state}
+use Rattle.cmwq_state.specs.Common.{◌≡◌, ◌≤◌, replicate, vec_capacity, new_pool_state}
 use Rattle.cmwq_state.proofs.new.new_pools.Given as goal
 
 abbrev pub invariant-loop-index : goal.invariant-loop-index

@@ -1,5 +1,4 @@
-use Rattle.std.proofs.Common.{◌∙◌, ap}
-use Rattle.std.specs.Prelude.{ℕ, List, ◌∷◌, ◌++◌, [], codes, decimal}
+use Rattle.cmwq_text.specs.Common.{◌∙◌, ap, ℕ, List, ◌∷◌, ◌++◌, [], codes, decimal}
 use Rattle.cmwq_text.specs.ShapeText.{flags_in, flags_text, queue_text}
 use Rattle.cmwq_text.proofs.Spacing.{line_is, behind}
 use Rattle.cmwq_text.proofs.spelling.queue_line.Goals as goal

@@ -1,5 +1,4 @@
-use Rattle.cmwq_theory_steps.proofs.Causes.{cause_of}
-use Rattle.cmwq_theory_steps.proofs.Reasons.{number_reason}
+use Rattle.cmwq_theory_laws.specs.Common.{cause_of, number_reason}
 use Rattle.cmwq_theory_laws.proofs.fidelity.replies_name_themselves.Goals as goal
 
 pub returns : goal.returns

@@ -1,5 +1,4 @@
-use Rattle.std.proofs.Common.{◌≡◌, [], replicate}
-use Rattle.std.specs.Prelude.{vec_capacity}
+use Rattle.cmwq_ticket.specs.Common.{◌≡◌, [], replicate, vec_capacity}
 use Rattle.cmwq_ticket.proofs.tickets.new_rows.Given as goal
 
 -- as many empty rows as callers so far, and room for all

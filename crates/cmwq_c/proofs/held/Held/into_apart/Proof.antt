@@ -1,29 +1,10 @@
 -- What is held is a box taken apart.
-use Rattle.std.proofs.Common.{◌≡◌, List, [], ◌∷◌, ◌++◌, refl, sym, ap, subst, ◌∙◌}
+use Rattle.cmwq_c.specs.Common.{◌++◌, refl, sym, ap, subst, ◌∙◌, Val, vptr, tnil, dnil, SProp, ent, emp, id⊢, never, fst∗, WpFn, sem, ‵, raw, ◌⊛◌, ◌$◌, ◌∵◌, !, qed, by, move, keep, split, fsplit, fsplit3, fjoin, suffices, use0, rewrite, stop, fld, of_opd, no_more, and_then, returns, enter, alloc_all, pass_all, free_all, look_at, get, get_in, sets, agg, sub, whole, fact, fact_i, tables, yes, lone, RattleType, owns, Ptr, block_ptr, null_ptr, in_a_block, types_at, plain, nothing, heard, alive, Stays, stay_dropped, walk_of, Goes-dropped, Al, handle_tells, proved_at, leaves, box_owns}
+use types.Kit.{drop}
 use mathlib.Core.Bool.{Bool, true}
+use Rattle.std.proofs.Common.{◌≡◌, List, [], ◌∷◌}
 use mir.Raw.{raw as bare}
-use mir.Val.{Val, vptr}
-use mir.Syntax.{impl as no_impl, tnil, dnil}
-use base.Logic.{SProp, ent, emp, id⊢, never, fst∗}
-use prog.Wp.{WpFn}
-use types.Logic.{sem}
-use types.Kit.{‵, raw, ◌⊛◌, ◌$◌, ◌∵◌, !, qed, by, move, keep, drop, split, fsplit, fsplit3, fjoin, suffices, use0, rewrite}
-use types.Run.{stop, fld, of_opd, no_more, and_then, returns, enter}
-use types.ByLocal.{alloc_all, pass_all, free_all, look_at, get, get_in, sets}
-use types.Part.{agg, sub, whole}
-use contract.Monad.{fact, fact_i}
-use contract.Running.{tables}
-use denote.Exit.{yes}
-use denote.Memory.{lone}
-use denote.RattleType.{RattleType, owns}
-use denote.RawPtr.{Ptr, block_ptr, null_ptr, in_a_block}
-use denote.Signature.{types_at, plain}
-use denote.Steps.{nothing, heard}
-use denote.Triple.Entry.{alive}
-use denote.Triple.Walked.{Stays, stay_dropped, walk_of, Goes-dropped}
-use Rattle.core.proofs.alloc.Calls.{Al, handle_tells}
-use Rattle.std.proofs.raw_atomic.Walks.{proved_at, leaves}
-use Rattle.std_alloc.specs.Box.Ownership.{box_owns}
+use mir.Syntax.{impl as no_impl}
 use Rattle.std_heap.specs.contracts.Global as global
 use Rattle.std_heap.specs.contracts.GlobalAllocator.TheImpl as impl
 use Rattle.std_heap.proofs.Global.TheLaws as laws

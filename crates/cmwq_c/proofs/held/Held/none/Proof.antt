@@ -1,21 +1,7 @@
 -- Nothing is held at null.
-use Rattle.std.proofs.Common.{◌≡◌, [], ◌∷◌, refl}
+use Rattle.cmwq_c.specs.Common.{refl, Val, SProp, emp, ‵, raw, ◌⊛◌, ◌$◌, ◌∵◌, !, qed, by, keep, split, fjoin, use0, lit, and_then, no_more, returns, enter, alloc_all, pass_all, free_all, look_at, sets, agg, fact, fact_i, tables, owns, null_ptr, types_at, nothing, alive, Stays, walk_of, proved, leaves}
 use mathlib.Core.Bool.{false}
-use mir.Val.{Val}
-use base.Logic.{SProp, emp}
-use types.Kit.{‵, raw, ◌⊛◌, ◌$◌, ◌∵◌, !, qed, by, keep, split, fjoin, use0}
-use types.Run.{lit, and_then, no_more, returns, enter}
-use types.ByLocal.{alloc_all, pass_all, free_all, look_at, sets}
-use types.Part.{agg}
-use contract.Monad.{fact, fact_i}
-use contract.Running.{tables}
-use denote.RattleType.{owns}
-use denote.RawPtr.{null_ptr}
-use denote.Signature.{types_at}
-use denote.Steps.{nothing}
-use denote.Triple.Entry.{alive}
-use denote.Triple.Walked.{Stays, walk_of}
-use Rattle.std.proofs.raw_atomic.Walks.{proved, leaves}
+use Rattle.std.proofs.Common.{◌≡◌, [], ◌∷◌}
 use Rattle.cmwq_c.specs.contracts.held.Held as held
 use Rattle.cmwq_c.proofs.HeldValues.{held_of, held_good, Data, held_made}
 use Rattle.cmwq_c.specs.contracts.held.Held.none.{ended, clauses}

@@ -1,23 +1,7 @@
 -- A box taken apart is held at its pointer.
-use Rattle.std.proofs.Common.{◌≡◌, List, [], ◌∷◌, ◌++◌, refl, sym, subst}
+use Rattle.cmwq_c.specs.Common.{◌++◌, refl, sym, subst, Val, vptr, SProp, ent, emp, id⊢, WpFn, ‵, raw, ◌⊛◌, ◌$◌, ◌∵◌, !, qed, by, move, keep, split, fsplit, fjoin, suffices, use0, stop, fld, of_opd, no_more, and_then, returns, enter, alloc_all, pass_all, free_all, look_at, get, get_in, sets, agg, sub, whole, fact, fact_i, tables, yes, RattleType, owns, block_ptr, types_at, plain, nothing, alive, Stays, stay_dropped, walk_of, Goes-dropped, proved_at, leaves}
 use mathlib.Core.Bool.{true}
-use mir.Val.{Val, vptr}
-use base.Logic.{SProp, ent, emp, id⊢}
-use prog.Wp.{WpFn}
-use types.Kit.{‵, raw, ◌⊛◌, ◌$◌, ◌∵◌, !, qed, by, move, keep, split, fsplit, fjoin, suffices, use0}
-use types.Run.{stop, fld, of_opd, no_more, and_then, returns, enter}
-use types.ByLocal.{alloc_all, pass_all, free_all, look_at, get, get_in, sets}
-use types.Part.{agg, sub, whole}
-use contract.Monad.{fact, fact_i}
-use contract.Running.{tables}
-use denote.Exit.{yes}
-use denote.RattleType.{RattleType, owns}
-use denote.RawPtr.{block_ptr}
-use denote.Signature.{types_at, plain}
-use denote.Steps.{nothing}
-use denote.Triple.Entry.{alive}
-use denote.Triple.Walked.{Stays, stay_dropped, walk_of, Goes-dropped}
-use Rattle.std.proofs.raw_atomic.Walks.{proved_at, leaves}
+use Rattle.std.proofs.Common.{◌≡◌, List, [], ◌∷◌}
 use Rattle.std_heap.specs.contracts.Global as global
 use Rattle.std_heap.specs.contracts.GlobalAllocator.TheImpl as impl
 use Rattle.std_heap.proofs.Global.TheLaws as laws

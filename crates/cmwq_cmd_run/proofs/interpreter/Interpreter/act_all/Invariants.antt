@@ -1,5 +1,4 @@
-use Rattle.std.proofs.Common.{◌≡◌, take}
-use Rattle.std.specs.Prelude.{None}
+use Rattle.cmwq_cmd_run.specs.Common.{◌≡◌, take, None}
 use Rattle.cmwq_rt.specs.Later.{Later}
 use Rattle.cmwq_cmd_run.specs.Interpreted.{ActInTurn}
 use Rattle.cmwq_cmd_run.proofs.interpreter.Interpreter.act_all.Given as goal

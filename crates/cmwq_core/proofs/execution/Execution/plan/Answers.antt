@@ -1,7 +1,4 @@
-use Rattle.std.proofs.Common.{◌≡◌, true, sym, subst, ◌∙◌}
-use Rattle.std.proofs.lemmas.Bool.{and_parts, leb-true}
-use Rattle.cmwq_model.specs.declared.entry.Entry.{Entry}
-use Rattle.cmwq_model.specs.Prelude.{past_of, has_time}
+use Rattle.cmwq_core.specs.Common.{◌≡◌, true, sym, subst, ◌∙◌, and_parts, leb-true, Entry, past_of, has_time}
 use Rattle.cmwq_core.specs.History.{IsMark}
 use Rattle.cmwq_core.specs.Plans.{IsPlan}
 use Rattle.cmwq_core.proofs.execution.Execution.plan.Goals as goal

@@ -1,5 +1,4 @@
-use Rattle.std.proofs.Common.{ℕ, List, [], ◌∷◌, ◌++◌, ap, sym, ◌∙◌}
-use Rattle.std.proofs.lemmas.List.{length-map}
+use Rattle.cmwq_flush.specs.Common.{ℕ, List, [], ◌∷◌, ◌++◌, ap, sym, ◌∙◌, length-map}
 use Rattle.cmwq_flush.proofs.ItemRows.{numbers_at, row_written}
 use Rattle.cmwq_flush.proofs.barriers.Barriers.opened.Goals as goal
 

@@ -1,5 +1,4 @@
-use Rattle.std.proofs.Common.{◌≡◌, ◌<◌, length, refl, ap, sym, ◌∙◌}
-use Rattle.std.specs.Prelude.{find, map}
+use Rattle.cmwq_flush.specs.Common.{◌≡◌, ◌<◌, length, refl, ap, sym, ◌∙◌, find, map}
 use Rattle.cmwq_flush.specs.BarrierBook.{BarrierBook, is_up_to, numbers_before}
 use Rattle.cmwq_flush.specs.Waits.{numbers_in}
 use Rattle.cmwq_flush.proofs.ItemRows.{numbers_before-at, first_is_least}

@@ -1,6 +1,5 @@
-use Rattle.std.proofs.Common.{sym}
+use Rattle.cmwq_flush.specs.Common.{sym, refl}
 use Rattle.cmwq_flush.proofs.Rightness.{right_end, right_left, served_rise, overflow_rises, in_overflow, ready_rows, after_end-served, after_end-overflow}
-use Rattle.std.proofs.Common.{refl}
 use Rattle.cmwq_flush.proofs.flushes.Flushes.end.Goals as goal
 
 pub find_served-requires : goal.find_served-requires

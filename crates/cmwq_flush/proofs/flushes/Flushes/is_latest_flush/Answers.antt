@@ -1,5 +1,4 @@
-use Rattle.std.proofs.Common.{sym, ◌∙◌}
-use Rattle.std.proofs.lemmas.Bool.{false≢true}
+use Rattle.cmwq_flush.specs.Common.{sym, ◌∙◌, false≢true}
 use Rattle.cmwq_flush.proofs.Rightness.{served_rise, overflow_rises, after_all, after_served, after_overflow}
 use Rattle.cmwq_flush.proofs.flushes.Flushes.is_latest_flush.Goals as goal
 

@@ -1,6 +1,4 @@
-use Rattle.std.proofs.Common.{sym, ◌∙◌}
-use Rattle.std.proofs.lemmas.Bool.{false≢true}
-use Rattle.std.proofs.lemmas.List.Elements.{Contains-append_left, Contains-append_right}
+use Rattle.cmwq_flush.specs.Common.{sym, ◌∙◌, false≢true, Contains-append_left, Contains-append_right}
 use Rattle.cmwq_flush.proofs.Rightness.{served_rise, overflow_rises, not_in_overflow}
 use Rattle.cmwq_flush.proofs.flushes.Flushes.stands.Goals as goal
 

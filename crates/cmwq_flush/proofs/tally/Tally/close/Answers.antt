@@ -1,4 +1,4 @@
-use Rattle.cmwq_flush.specs.Rows.{number_of}
+use Rattle.cmwq_flush.specs.Rows.{row_number}
 use Rattle.cmwq_flush.proofs.Search.{remove_at}
 use Rattle.cmwq_flush.proofs.Counts.{IsTally-remove}
 use Rattle.cmwq_flush.proofs.tally.Tally.close.Goals as goal
@@ -13,4 +13,4 @@ pub returns : goal.returns
 returns c =
     let rows = c.self.inside.rows.items in
     let at = rw c.deref.ensures.value at c.place_of-place.ensures in
-    rw (c.remove-row.ensures.items, ← c.self.view_is) (remove_at number_of rows c.args.number c.self.invariant.0.rising _ at)
+    rw (c.remove-row.ensures.items, ← c.self.view_is) (remove_at row_number rows c.args.number c.self.invariant.0.rising _ at)

@@ -1,5 +1,5 @@
 use Rattle.std.proofs.Common.{sym, ◌∙◌}
-use Rattle.cmwq_inflight.specs.Flights.{finished}
+use Rattle.cmwq_inflight.specs.Flights.{flights_without_run}
 use Rattle.cmwq_inflight.specs.Keeping.{flights_by}
 use Rattle.cmwq_inflight.proofs.Steps.{with_keys, Leaves, finished_leaves}
 use Rattle.cmwq_inflight.proofs.flights.Flights.finish.Goals as goal
@@ -7,7 +7,7 @@ use Rattle.cmwq_inflight.proofs.flights.Flights.finish.Goals.{After-remove}
 
 leaves : (c : After-remove)
     → Leaves c.remove.new.self (with_keys c.self.inside.rows.items c.from.result c.take.new.self c.index_mut.result.now.unstarted)
-    (finished (flights_by c.self.inside.queueings c.self.inside.rows.items) c.args.item.0)
+    (flights_without_run (flights_by c.self.inside.queueings c.self.inside.rows.items) c.args.item.0)
 leaves c =
     rw c.take.ensures.after
     (finished_leaves c.self.inside.queueings c.remove.new.self c.self.inside.rows.items c.from.result c.args.item.0 c.unwrap-run.result c.index_mut.result.now c.self.invariant

@@ -1,5 +1,5 @@
 use Rattle.std.proofs.Common.{Some}
-use Rattle.cmwq_inflight.specs.Flights.{opened}
+use Rattle.cmwq_inflight.specs.Flights.{flights_with_open}
 use Rattle.cmwq_inflight.specs.Keeping.{flights_by}
 use Rattle.cmwq_inflight.proofs.Upkeep.{room_for_one}
 use Rattle.cmwq_inflight.proofs.Steps.{row_within, no_unstarted_key, with_keys, Leaves, opened_leaves}
@@ -16,7 +16,7 @@ insert_reserved-key-requires c =
 
 leaves : (c : After-index_mut)
     → Leaves c.insert_reserved-key.new.self (with_keys c.self.inside.rows.items c.from.result c.index_mut.result.now.run (Some c.insert_reserved-key.result))
-    (opened (flights_by c.self.inside.queueings c.self.inside.rows.items) c.args.queueing)
+    (flights_with_open (flights_by c.self.inside.queueings c.self.inside.rows.items) c.args.queueing)
 leaves c =
     let slab = c.self.inside.queueings in
     let opens = c.insert_reserved-key.ensures in

@@ -1,4 +1,4 @@
-use Rattle.cmwq_inflight.specs.Flights.{started}
+use Rattle.cmwq_inflight.specs.Flights.{flights_with_run}
 use Rattle.cmwq_inflight.specs.Keeping.{flights_by}
 use Rattle.cmwq_inflight.proofs.Steps.{with_keys, Leaves, started_leaves}
 use Rattle.cmwq_inflight.proofs.flights.Flights.start.Goals as goal
@@ -6,7 +6,7 @@ use Rattle.cmwq_inflight.proofs.flights.Flights.start.Goals.{After-take-row}
 
 leaves : (c : After-take-row)
     → Leaves c.self.inside.queueings (with_keys c.self.inside.rows.items c.from.result c.take-row.result c.take-row.new.self)
-    (started (flights_by c.self.inside.queueings c.self.inside.rows.items) c.args.item.0)
+    (flights_with_run (flights_by c.self.inside.queueings c.self.inside.rows.items) c.args.item.0)
 leaves c =
     rw (c.take-row.ensures.value, c.take-row.ensures.after)
     (started_leaves c.self.inside.queueings c.self.inside.rows.items c.from.result c.args.item.0 c.index_mut-row.result.now c.self.invariant c.from.ensures

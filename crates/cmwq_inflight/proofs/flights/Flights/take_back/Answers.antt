@@ -1,5 +1,5 @@
 use Rattle.std.proofs.Common.{sym, ◌∙◌}
-use Rattle.cmwq_inflight.specs.Flights.{taken_back}
+use Rattle.cmwq_inflight.specs.Flights.{flights_without_open}
 use Rattle.cmwq_inflight.specs.Keeping.{flights_by}
 use Rattle.cmwq_inflight.proofs.Steps.{with_keys, Leaves, taken_back_leaves}
 use Rattle.cmwq_inflight.proofs.flights.Flights.take_back.Goals as goal
@@ -7,7 +7,7 @@ use Rattle.cmwq_inflight.proofs.flights.Flights.take_back.Goals.{After-remove}
 
 leaves : (c : After-remove)
     → Leaves c.remove.new.self (with_keys c.self.inside.rows.items c.from.result c.index_mut.result.now.run c.take.new.self)
-    (taken_back (flights_by c.self.inside.queueings c.self.inside.rows.items) c.args.item.0)
+    (flights_without_open (flights_by c.self.inside.queueings c.self.inside.rows.items) c.args.item.0)
 leaves c =
     rw c.take.ensures.after
     (taken_back_leaves c.self.inside.queueings c.remove.new.self c.self.inside.rows.items c.from.result c.args.item.0 c.in-Some.key c.index_mut.result.now c.self.invariant

@@ -1,5 +1,4 @@
-use Rattle.std.proofs.Common.{◌≡◌, vec_len}
-use Rattle.std.specs.Io.KnownBytes.{Keeps, append_known}
+use Rattle.cmwq_io.specs.Common.{◌≡◌, vec_len, Keeps, append_known}
 use Rattle.cmwq_io.proofs.buffered.BufferedSink.hand_all_on.Given as goal
 
 abbrev pub invariant-loop-self : goal.invariant-loop-self

@@ -1,5 +1,4 @@
-use Rattle.std.proofs.Common.{ℕ, ap, ◌∙◌, drop, arith}
-use Rattle.std.proofs.lemmas.List.{length-take, length-drop}
+use Rattle.cmwq_io.specs.Common.{ℕ, ap, ◌∙◌, drop, arith, length-take, length-drop}
 use Rattle.cmwq_io.proofs.ReadAheadLemmas.{consumed}
 use Rattle.cmwq_io.proofs.lines.Lines.consume.Goals as goal
 

@@ -1,6 +1,5 @@
-use Rattle.std.proofs.Common.{arith}
+use Rattle.cmwq_io.specs.Common.{arith, err_from_is_err_and}
 use Rattle.std.proofs.KnownBytes.{Keeps-trans}
-use Rattle.std.proofs.lemmas.Result.{err_from_is_err_and}
 use Rattle.cmwq_io.proofs.Calls.{made_on, given_up_on}
 use Rattle.cmwq_io.proofs.lines.Lines.next_line.Goals as goal
 

@@ -1,5 +1,4 @@
-use Rattle.std.proofs.Common.{◌-◌, ◌≤◌, length}
-use Rattle.std.specs.Io.KnownBytes.{Keeps, prepend_known}
+use Rattle.cmwq_io.specs.Common.{◌-◌, ◌≤◌, length, Keeps, prepend_known}
 use Rattle.cmwq_io.specs.Outcomes.{IsAllMade, GoesOnBy}
 use Rattle.cmwq_io.proofs.lines.Lines.next_line.Given as goal
 

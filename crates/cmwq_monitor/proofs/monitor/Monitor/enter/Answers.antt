@@ -1,6 +1,4 @@
-use Rattle.std.proofs.Common.{◌≡◌, ◌∙◌, ap, refl, subst, false}
-use mathlib.Core.List.{IsPrefix}
-use Rattle.cmwq_model.specs.Prelude.{past_of, has_room}
+use Rattle.cmwq_monitor.specs.Common.{◌≡◌, ◌∙◌, ap, refl, subst, false, IsPrefix, past_of, has_room}
 use Rattle.cmwq_monitor.specs.Held.{Held}
 use Rattle.cmwq_monitor.proofs.Entering.{gains_seen, room_is}
 use Rattle.cmwq_monitor.proofs.monitor.Monitor.enter.Goals as goal

@@ -1,5 +1,4 @@
-use Rattle.std.proofs.Common.{ap, sym, ◌∙◌, refl, arith, subst}
-use Rattle.cmwq_model.specs.Prelude.{Layout}
+use Rattle.cmwq_monitor.specs.Common.{ap, sym, ◌∙◌, refl, arith, subst, Layout}
 use Rattle.cmwq_model.specs.declared.call.Call.TheVariants as calls
 use Rattle.cmwq_monitor.specs.Participants.{is_caller}
 use Rattle.cmwq_monitor.specs.Steps.{Lacks}

@@ -1,9 +1,4 @@
-use Rattle.std.proofs.Common.{◌≡◌, ◌+◌, ◌++◌, ◌∷◌, [], refl, ap, ◌∙◌, subst, arith}
-use Rattle.std.specs.Prelude.{List}
-use mathlib.Core.List.{IsPrefix}
-use Rattle.cmwq_model.specs.declared.entry.Entry.{Entry}
-use Rattle.cmwq_model.specs.Prelude.{serial_of, past_of, IsLegal}
-use Rattle.cmwq_core.specs.History.{History}
+use Rattle.cmwq_monitor.specs.Common.{◌≡◌, ◌+◌, ◌++◌, ◌∷◌, [], refl, ap, ◌∙◌, subst, arith, List, IsPrefix, Entry, serial_of, past_of, IsLegal, History}
 use Rattle.cmwq_monitor.specs.Held.{Held}
 use Rattle.cmwq_monitor.specs.Calls.{own_entry}
 use Rattle.cmwq_monitor.specs.Participants.{View}

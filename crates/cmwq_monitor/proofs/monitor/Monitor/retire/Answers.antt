@@ -1,6 +1,5 @@
-use Rattle.std.proofs.Common.{◌≡◌, ap, refl, false, inr, rules}
+use Rattle.cmwq_monitor.specs.Common.{◌≡◌, ap, refl, false, inr, rules, past_of, has_room}
 use Rattle.cmwq_model.specs.declared.call.Call.TheVariants as calls
-use Rattle.cmwq_model.specs.Prelude.{past_of, has_room}
 use Rattle.cmwq_monitor.specs.Held.{Held}
 use Rattle.cmwq_monitor.proofs.Entering.{room_is}
 use Rattle.cmwq_monitor.proofs.monitor.Monitor.retire.Goals as goal

@@ -1,11 +1,7 @@
-use Rattle.std.proofs.Common.{◌≡◌, ◌≤◌, ◌<◌, subst, ap, sym, ◌∙◌, refl, arith, false, List}
+use Rattle.cmwq_monitor.specs.Common.{◌≡◌, ◌≤◌, ◌<◌, subst, ap, sym, ◌∙◌, refl, arith, false, List, ItemId, Entry, past_of, IsLegal, room_needed, has_room, same_Some}
 use Rattle.cmwq_model.specs.declared.call.Call.TheVariants as calls
-use Rattle.cmwq_model.specs.declared.id.ItemId.{ItemId}
-use Rattle.cmwq_model.specs.declared.entry.Entry.{Entry}
-use Rattle.cmwq_model.specs.Prelude.{past_of, IsLegal, needed, has_room}
 use Rattle.cmwq_monitor.specs.Held.{Held}
 use Rattle.cmwq_monitor.proofs.Entering.{room_is}
-use Rattle.std.proofs.lemmas.Option.{same_Some}
 use Rattle.cmwq_monitor.specs.Calls.{own_entry}
 use Rattle.cmwq_monitor.specs.Starts.{StartsItem}
 use Rattle.cmwq_monitor.proofs.Fitting.{worker_fits}
@@ -21,8 +17,8 @@ returns-in_default-clause-none g c =
     let full : has_room s s.room (past_of log) v.who calls.Take ≡ false =
     room_is s c.self.inside.execution log c.who-who.result v.who calls.Take false c.self.invariant.1 c.self.invariant.2 held c.who-who.ensures.who c.in_default.ensures.room in
     let legal : IsLegal s (past_of log) = rw (← c.self.invariant.1, ← held) c.len-needed.ensures.legal in
-    let need : needed s (past_of log) ≤ c.self.inside.execution.room = rw (← c.self.invariant.1, ← held) c.len-needed.ensures.needed in
-    let within : needed s (past_of log) ≤ s.room = let room = c.self.invariant.2 in omega (arith, need, room) in
+    let need : room_needed s (past_of log) ≤ c.self.inside.execution.room = rw (← c.self.invariant.1, ← held) c.len-needed.ensures.needed in
+    let within : room_needed s (past_of log) ≤ s.room = let room = c.self.invariant.2 in omega (arith, need, room) in
     let fit = worker_fits s v.who calls.Take c.requires c.who-who.ensures.there refl refl in
     (refl, full_starts_none s (past_of log) v.who calls.Take fit legal within full)
 

@@ -1,6 +1,4 @@
-use Rattle.std.proofs.Common.{arith}
-use Rattle.std.proofs.lemmas.List.{length-replicate}
-use Rattle.std.proofs.lemmas.Bool.Decides.{nat_tests}
+use Rattle.cmwq_pool.specs.Common.{arith, length-replicate, nat_tests}
 use Rattle.cmwq_pool.proofs.Worklists.{IsWorklist-new}
 use Rattle.cmwq_pool.proofs.Marks.{AreMarked-new}
 use Rattle.cmwq_pool.proofs.pool.Pool.new.Goals as goal

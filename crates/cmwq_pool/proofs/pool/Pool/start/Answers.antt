@@ -1,9 +1,7 @@
-use Rattle.std.proofs.Common.{◌<◌, ap, sym, ◌∙◌, arith, length}
+use Rattle.cmwq_pool.specs.Common.{◌<◌, ap, sym, ◌∙◌, arith, length, length-set, recursion_from_All}
 use Rattle.cmwq_pool.specs.declared.task.Task.{Task}
-use Rattle.cmwq_pool.specs.PoolState.{is_not}
+use Rattle.cmwq_pool.specs.PoolState.{is_other_task}
 use Rattle.cmwq_pool.specs.Upkeep.{is_free}
-use Rattle.std.proofs.lemmas.List.{length-set}
-use Rattle.std.proofs.lemmas.List.Elements.{recursion_from_All}
 use Rattle.cmwq_pool.proofs.Finding.{find-passes, find-All}
 use Rattle.cmwq_pool.proofs.Worklists.{IsWorklist-filter}
 use Rattle.cmwq_pool.proofs.Marks.{next_by_marks, AreMarked-started, length-started, written_back, same_pool_state, is_some-next_task}
@@ -37,7 +35,7 @@ invariant_of-self c =
     rw (c.take_next-task.ensures.room, c.take_next-task.ensures.rest, written, seated, c.from.ensures)
     (record {
       room = rw length-set c.self.invariant.room;
-      worklist = rw length-set (IsWorklist-filter (is_not t.number) (length running) listed c.self.invariant.worklist);
+      worklist = rw length-set (IsWorklist-filter (is_other_task t.number) (length running) listed c.self.invariant.worklist);
       marks = AreMarked-started running slots c.args.worker t c.self.invariant.marks idle (find-passes (is_free running) listed t first) below;
     })
 

@@ -1,6 +1,4 @@
-use Rattle.std.proofs.Common.{◌≤◌, List, length, ap, subst}
-use mathlib.Core.List.{IsPrefix}
-use Rattle.cmwq_model.specs.declared.entry.Entry.{Entry}
+use Rattle.cmwq_publish.specs.Common.{◌≤◌, List, length, ap, subst, IsPrefix, Entry}
 use Rattle.cmwq_publish.proofs.Beginnings.{shorter_begins}
 use Rattle.cmwq_publish.proofs.prefix.Prefix.begins.Goals as goal
 

@@ -1,6 +1,4 @@
-use Rattle.std.proofs.Common.{◌≡◌, true, [], sym, ap, ◌∙◌}
-use Rattle.std.specs.List.{list_any}
-use Rattle.cmwq_model.specs.Prelude.{has_number}
+use Rattle.cmwq_pwq.specs.Common.{◌≡◌, true, [], sym, ap, ◌∙◌, list_any, has_number}
 use Rattle.cmwq_pwq.specs.Pwqs.{PwqState, is_waiting}
 use Rattle.cmwq_pwq.proofs.Behind.{waiting_ended}
 use Rattle.cmwq_pwq.proofs.pwqs.Pwqs.end_one.Goals as goal

@@ -1,8 +1,6 @@
-use Rattle.std.proofs.Common.{◌≡◌, ◌≤◌, ◌∙◌, [], length, ap, sym, subst, arith}
-use Rattle.cmwq_model.specs.Prelude.{serial_of, past_of}
+use Rattle.cmwq_rt.specs.Common.{◌≡◌, ◌≤◌, ◌∙◌, [], length, ap, sym, subst, arith, serial_of, past_of, View, Gains}
 use Rattle.cmwq_model.specs.declared.id.Who.TheVariants as whos
 use Rattle.cmwq_core.specs.History.{IsThere}
-use Rattle.cmwq_monitor.specs.Participants.{View, Gains}
 use Rattle.cmwq_monitor.proofs.Entering.{gains_seen}
 use Rattle.cmwq_rt.proofs.caller.Caller.busy.Goals as goal
 

@@ -1,6 +1,4 @@
-use Rattle.std.proofs.Common.{◌∙◌, sym, refl, arith, subst, List}
-use Rattle.cmwq_model.specs.declared.call.Call.{Call}
-use Rattle.std.proofs.lemmas.List.{take_all}
+use Rattle.cmwq_rt.specs.Common.{◌∙◌, sym, refl, arith, subst, List, Call, take_all}
 use Rattle.cmwq_rt.specs.Scripts.{HasFollowed}
 use Rattle.cmwq_rt.proofs.Following.{followed_none, followed_call, followed_skip, broke_same, stopped_at, told_full}
 use Rattle.cmwq_rt.proofs.caller.Caller.follow.Goals as goal

@@ -1,7 +1,4 @@
-use Rattle.std.proofs.Common.{subst}
-use Rattle.std.specs.Prelude.{IfOk}
-use Rattle.cmwq_monitor.specs.Participants.{View}
-use Rattle.cmwq_monitor.specs.Settled.{Settles}
+use Rattle.cmwq_rt.specs.Common.{subst, IfOk, View, Settles}
 use Rattle.cmwq_rt.proofs.caller.Caller.settle.Goals as goal
 
 pub returns-clause-settled : goal.returns-clause-settled

@@ -1,6 +1,4 @@
-use Rattle.std.proofs.Common.{◌∙◌, sym, subst}
-use Rattle.cmwq_monitor.specs.Participants.{View}
-use Rattle.cmwq_monitor.specs.Whole.{Completes, BrokeOff}
+use Rattle.cmwq_rt.specs.Common.{◌∙◌, sym, subst, View, Completes, BrokeOff}
 use Rattle.cmwq_monitor.proofs.Whole.{ended_completes, ended_broke}
 use Rattle.cmwq_rt.proofs.caller.Caller.wait_out.Goals as goal
 

@@ -1,5 +1,4 @@
-use Rattle.std.proofs.Common.{◌∙◌, subst, IsTrue}
-use Rattle.cmwq_model.specs.Prelude.{Layout, is_layout}
+use Rattle.cmwq_rt.specs.Common.{◌∙◌, subst, IsTrue, Layout, is_layout}
 use Rattle.cmwq_rt.proofs.Placing.{counts_are}
 use Rattle.cmwq_rt.proofs.hub.Hub.open.Goals as goal
 

@@ -1,6 +1,5 @@
-use Rattle.std.proofs.Common.{ap, ◌∙◌, subst, suc}
-use Rattle.cmwq_monitor.specs.Participants.{is_caller}
-use Rattle.cmwq_rt.specs.Running.{IsNext}
+use Rattle.cmwq_rt.specs.Common.{ap, ◌∙◌, subst, suc, is_caller}
+use Rattle.cmwq_rt.specs.Running.{IsNextStart}
 use Rattle.cmwq_rt.proofs.Later.{later_trans}
 use Rattle.cmwq_rt.proofs.hub.Hub.run_all.Goals as goal
 
@@ -14,7 +13,7 @@ loop-preserved g c =
     let w = c.go_on.new.participant in
     let later = later_trans started ran w c.run_in.ensures.later c.go_on.ensures.later in
     let (n, before, runs, next) = inv.4 in
-    let starts = subst (λ o. IsNext s before o started) c.in-Some-next.is next in
+    let starts = subst (λ o. IsNextStart s before o started) c.in-Some-next.is next in
     let (ended, ends, after) = c.in_ok-next-2.ensures.next in (
       inv.0,
       inv.1,

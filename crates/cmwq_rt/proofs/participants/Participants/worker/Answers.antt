@@ -1,6 +1,4 @@
-use Rattle.std.proofs.Common.{arith, subst, sym, ◌+◌}
-use Rattle.std.specs.Prelude.{Option, Some}
-use Rattle.cmwq_model.specs.declared.id.WorkerId.{WorkerId}
+use Rattle.cmwq_rt.specs.Common.{arith, subst, sym, ◌+◌, Option, Some, WorkerId}
 use Rattle.cmwq_rt.specs.Places.{IsNextPlace}
 use Rattle.cmwq_rt.proofs.Placing.{next_place}
 use Rattle.cmwq_rt.proofs.participants.Participants.worker.Goals as goal

@@ -1,6 +1,5 @@
-use Rattle.std.proofs.Common.{◌≡◌, length, refl, sym, subst, arith}
+use Rattle.cmwq_sim.specs.Common.{◌≡◌, length, refl, sym, subst, arith, with_items_is}
 use Rattle.std.specs.Vec.{with_items}
-use Rattle.std.proofs.lemmas.List.{with_items_is}
 use Rattle.cmwq_sim.specs.Plan.{plan_of}
 use Rattle.cmwq_sim.specs.Standing.{LessFirst}
 use Rattle.cmwq_sim.proofs.Executions.{burns, as_many}

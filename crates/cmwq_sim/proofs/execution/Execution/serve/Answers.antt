@@ -1,6 +1,4 @@
-use Rattle.std.proofs.Common.{◌≡◌, ℕ, ◌+◌, ◌++◌, [], ◌∷◌, refl, ap, sym, ◌∙◌, arith}
-use Rattle.std.specs.List.{remove}
-use Rattle.std.proofs.lemmas.Bool.Decides.{nat_tests}
+use Rattle.cmwq_sim.specs.Common.{◌≡◌, ℕ, ◌+◌, ◌++◌, [], ◌∷◌, refl, ap, sym, ◌∙◌, arith, remove, nat_tests}
 use Rattle.cmwq_sim.specs.Plan.{plan_of}
 use Rattle.cmwq_sim.proofs.Executions.{first_below, sleeps, ends, has_room_to_sleep, has_room_to_end}
 use Rattle.cmwq_sim.proofs.execution.Execution.serve.Goals as goal

@@ -1,7 +1,4 @@
-use Rattle.std.proofs.Common.{rules, ◌≡◌, None, Some, sym, ap, ◌∙◌, arith, below_more}
-use Rattle.cmwq_model.specs.declared.entry.Entry.{Entry}
-use Rattle.cmwq_model.specs.Prelude.{number_started}
-use Rattle.cmwq_core.specs.History.{past_in}
+use Rattle.cmwq_sim.specs.Common.{rules, ◌≡◌, None, Some, sym, ap, ◌∙◌, arith, below_more, Entry, number_started, past_in}
 use Rattle.cmwq_sim.specs.Plan.{plan_of}
 use Rattle.cmwq_sim.specs.Takers.{taken_by}
 use Rattle.cmwq_sim.proofs.Executions.{starts_below, none_taken}

@@ -1,5 +1,4 @@
-use Rattle.std.proofs.Common.{fold}
-use Rattle.std.specs.List.{range_with_len}
+use Rattle.cmwq_sim.specs.Common.{fold, range_with_len}
 use Rattle.cmwq_sim.specs.Plan.{plan_of}
 use Rattle.cmwq_sim.specs.Lines.{wake_item}
 use Rattle.cmwq_sim.specs.Standing.{moment_in, StandsAt}

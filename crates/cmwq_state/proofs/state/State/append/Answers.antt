@@ -1,6 +1,4 @@
-use Rattle.std.proofs.Common.{◌≡◌, ◌+◌, ◌∙◌, ap, refl, sym}
-use Rattle.cmwq_model.specs.Prelude.{layout_of, ticks_told, past_of}
-use Rattle.cmwq_theory_steps.proofs.StateSteps.{time_goes_on}
+use Rattle.cmwq_state.specs.Common.{◌≡◌, ◌+◌, ◌∙◌, ap, refl, sym, layout_of, ticks_told, past_of, time_goes_on}
 use Rattle.cmwq_state.proofs.Appended.{appended, next_effect}
 use Rattle.cmwq_state.proofs.state.State.append.Goals as goal
 
@@ -81,7 +79,7 @@ invariant_of-self c =
     let s = layout_of b.counts b.queues.items in let past = past_of b.entries in let are = c.self.invariant.parts_are in
     let next = next_effect s b.room b.entries _ c.args.effect c.self.invariant r.is in
     let e = c.args.effect.entry in
-    let ticks : c.from.result ≡ ticks_told e.call = c.from.ensures ∙ c.ticks_of.ensures.ticks in
+    let ticks : c.from.result ≡ ticks_told e.call = c.from.ensures ∙ c.ticks.ensures.ticks in
     let widths = c.apply_widths-self-inside.ensures s past next are.widths in
     let pwqs = c.apply_pwqs.ensures s past next c.deref.ensures.value (rw c.deref-2.ensures.value widths) are.pwqs in
     rw c.push.ensures

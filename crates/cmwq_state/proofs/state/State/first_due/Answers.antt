@@ -1,5 +1,4 @@
-use Rattle.cmwq_model.specs.Prelude.{layout_of, past_of}
-use Rattle.cmwq_refinement.specs.Timers.{HoldsDraining}
+use Rattle.cmwq_state.specs.Common.{layout_of, past_of, HoldsDraining}
 use Rattle.cmwq_state.proofs.Firing.{holds, next_due}
 use Rattle.cmwq_state.proofs.state.State.first_due.Goals as goal
 

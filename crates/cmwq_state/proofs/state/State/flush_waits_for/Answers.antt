@@ -1,6 +1,4 @@
-use Rattle.std.proofs.Common.{◌∙◌}
-use Rattle.cmwq_model.specs.Prelude.{past_of}
-use Rattle.cmwq_refinement.proofs.FlushReads.{unended_flushes_stand}
+use Rattle.cmwq_state.specs.Common.{◌∙◌, past_of, unended_flushes_stand}
 use Rattle.cmwq_state.proofs.Ends.{ready_for_none, waits_for_first}
 use Rattle.cmwq_state.proofs.state.State.flush_waits_for.Goals as goal
 

@@ -1,5 +1,4 @@
-use Rattle.std.proofs.Common.{◌∙◌, ap, is_some}
-use Rattle.cmwq_model.specs.Prelude.{past_of}
+use Rattle.cmwq_state.specs.Common.{◌∙◌, ap, is_some, past_of}
 use Rattle.cmwq_state.proofs.Counting.{running}
 use Rattle.cmwq_state.proofs.state.State.is_running.Goals as goal
 

@@ -1,6 +1,4 @@
-use Rattle.std.proofs.Common.{◌∙◌, ap}
-use Rattle.cmwq_model.specs.Prelude.{layout_of, past_of}
-use Rattle.cmwq_inflight.specs.Flights.{Flight}
+use Rattle.cmwq_state.specs.Common.{◌∙◌, ap, layout_of, past_of, Flight}
 use Rattle.cmwq_state.proofs.Readings.{flight_there, flight_read}
 use Rattle.cmwq_state.proofs.state.State.item_run.Goals as goal
 

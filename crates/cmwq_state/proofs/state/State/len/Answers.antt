@@ -1,6 +1,4 @@
-use Rattle.std.proofs.Common.{◌≡◌, length, arith}
-use Rattle.std.proofs.lemmas.List.{length-reverse}
-use Rattle.cmwq_model.specs.Prelude.{past_of}
+use Rattle.cmwq_state.specs.Common.{◌≡◌, length, arith, length-reverse, past_of}
 use Rattle.cmwq_state.proofs.state.State.len.Goals as goal
 
 pub returns-clause-needed : goal.returns-clause-needed

@@ -1,8 +1,4 @@
-use Rattle.std.proofs.Common.{◌∙◌, ap}
-use Rattle.cmwq_model.specs.Prelude.{past_of}
-use Rattle.cmwq_pool.specs.PoolState.{PoolState}
-use Rattle.cmwq_pool.specs.Slots.{may_retire}
-use Rattle.cmwq_refinement.proofs.PoolReads.{idle_retire_alike, slots_for_workers}
+use Rattle.cmwq_state.specs.Common.{◌∙◌, ap, past_of, PoolState, slot_may_retire, idle_retire_alike, slots_for_workers}
 use Rattle.cmwq_state.proofs.state.State.may_retire.Goals as goal
 
 pub may_retire-requires : goal.may_retire-requires
@@ -11,5 +7,5 @@ may_retire-requires c = let b = c.args.self.now in
 
 pub returns : goal.returns
 returns c = let b = c.args.self.now in
-    c.may_retire.ensures ∙ (ap (λ (l : PoolState). may_retire l.slots c.args.worker.index) c.pool.ensures.is
+    c.may_retire.ensures ∙ (ap (λ (l : PoolState). slot_may_retire l.slots c.args.worker.index) c.pool.ensures.is
     ∙ idle_retire_alike b.layout (past_of b.entries) c.args.worker.pool c.args.worker.index c.pool.ensures.legal c.requires.1)

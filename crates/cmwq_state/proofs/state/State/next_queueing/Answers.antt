@@ -1,6 +1,4 @@
-use Rattle.std.proofs.Common.{◌∙◌, ap, sym}
-use Rattle.cmwq_model.specs.Prelude.{past_of}
-use Rattle.cmwq_pool.specs.PoolState.{next_task}
+use Rattle.cmwq_state.specs.Common.{◌∙◌, ap, sym, past_of, next_task}
 use Rattle.cmwq_state.proofs.Nexts.{next_open, next_none}
 use Rattle.cmwq_state.proofs.state.State.next_queueing.Goals as goal
 

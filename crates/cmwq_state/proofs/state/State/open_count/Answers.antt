@@ -1,7 +1,4 @@
-use Rattle.std.proofs.Common.{◌∙◌, ap}
-use Rattle.cmwq_model.specs.Prelude.{layout_of, past_of}
-use Rattle.cmwq_inflight.specs.Flights.{open_count}
-use Rattle.cmwq_refinement.proofs.FlightReads.{open_are_in_flight}
+use Rattle.cmwq_state.specs.Common.{◌∙◌, ap, layout_of, past_of, open_count, open_are_in_flight}
 use Rattle.cmwq_state.proofs.state.State.open_count.Goals as goal
 
 pub returns : goal.returns

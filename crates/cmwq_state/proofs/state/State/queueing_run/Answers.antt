@@ -1,5 +1,4 @@
-use Rattle.std.proofs.Common.{◌∙◌, sym}
-use Rattle.cmwq_model.specs.Prelude.{past_of}
+use Rattle.cmwq_state.specs.Common.{◌∙◌, sym, past_of}
 use Rattle.cmwq_state.proofs.Readings.{slot_runs}
 use Rattle.cmwq_state.proofs.state.State.queueing_run.Goals as goal
 

@@ -1,9 +1,5 @@
-use Rattle.std.proofs.Common.{◌∙◌, ap}
-use Rattle.cmwq_model.specs.Prelude.{past_of}
-use Rattle.cmwq_pool.specs.PoolState.{PoolState}
-use Rattle.cmwq_pool.specs.Slots.{slot_at}
+use Rattle.cmwq_state.specs.Common.{◌∙◌, ap, past_of, PoolState, slot_at, slots_are_workers, slots_for_workers, slot_is}
 use Rattle.cmwq_pool.specs.declared.slot.Slot.{Slot}
-use Rattle.cmwq_refinement.proofs.PoolReads.{slots_are_workers, slots_for_workers, slot_is}
 use Rattle.cmwq_state.proofs.state.State.slot.Goals as goal
 
 pub slot-requires : goal.slot-requires

@@ -1,7 +1,4 @@
-use Rattle.std.proofs.Common.{◌∙◌, ap}
-use Rattle.cmwq_model.specs.Prelude.{layout_of, past_of}
-use Rattle.cmwq_timer.specs.Rows.{Rows, timer_of}
-use Rattle.cmwq_refinement.proofs.TimerSteps.{row_at, rows_for_items}
+use Rattle.cmwq_state.specs.Common.{◌∙◌, ap, layout_of, past_of, TimerRows, timer_of, row_at, rows_for_items}
 use Rattle.cmwq_state.proofs.state.State.timer.Goals as goal
 
 pub timer-requires : goal.timer-requires
@@ -10,4 +7,4 @@ timer-requires c = let b = c.self.inside in let here = rw (← c.self.view_is) a
 
 pub returns-clause-is : goal.returns-clause-is
 returns-clause-is c = let b = c.self.inside in let here = rw (← c.self.view_is) at c.requires in
-    rw (← c.self.view_is) (c.timer.ensures ∙ (ap (λ (rows : Rows). timer_of rows c.args.item.0) c.self.invariant.parts_are.timers ∙ row_at (layout_of b.counts b.queues.items) (past_of b.entries) c.args.item.0 here))
+    rw (← c.self.view_is) (c.timer.ensures ∙ (ap (λ (rows : TimerRows). timer_of rows c.args.item.0) c.self.invariant.parts_are.timers ∙ row_at (layout_of b.counts b.queues.items) (past_of b.entries) c.args.item.0 here))

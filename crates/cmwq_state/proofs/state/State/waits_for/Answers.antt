@@ -1,5 +1,4 @@
-use Rattle.std.proofs.Common.{◌∙◌}
-use Rattle.cmwq_model.specs.Prelude.{layout_of, past_of}
+use Rattle.cmwq_state.specs.Common.{◌∙◌, layout_of, past_of}
 use Rattle.cmwq_state.proofs.Ends.{other_waits, barrier_stands, barrier_waits, drain_waits}
 use Rattle.cmwq_state.proofs.state.State.waits_for.Goals as goal
 

@@ -1,9 +1,5 @@
-use Rattle.std.proofs.Common.{◌≡◌, ◌==◌, ◌<◌, length, nat_lt, w64, sym, ap, ◌∙◌, arith}
-use Rattle.std.specs.Int.{bit_at}
-use Rattle.std.proofs.lemmas.Bool.{eq-eqb}
-use Rattle.std.proofs.lemmas.List.{get_or_default}
+use Rattle.cmwq_state.specs.Common.{◌≡◌, ◌==◌, ◌<◌, length, nat_lt, w64, sym, ap, ◌∙◌, arith, bit_at, eq-eqb, get_or_default, FlushBook}
 use Rattle.std.proofs.lemmas.Nat.Bits.{bit_at_set_same, bit_at_set_other}
-use Rattle.cmwq_flush.specs.FlushBook.{FlushBook}
 use Rattle.cmwq_state.specs.Tables.{book_in, no_book}
 use Rattle.cmwq_state.proofs.Firing.{held_more, not_held}
 use Rattle.cmwq_state.proofs.Readings.{as_test}

@@ -1,5 +1,4 @@
-use Rattle.std.proofs.Common.{◌≡◌, ℕ, ◌==◌, ◌&&◌, ◌<◌, length, nat_lt}
-use Rattle.std.specs.Int.{bit_at}
+use Rattle.cmwq_state.specs.Common.{◌≡◌, ℕ, ◌==◌, ◌&&◌, ◌<◌, length, nat_lt, bit_at}
 use Rattle.cmwq_state.specs.Tables.{book_in}
 use Rattle.cmwq_state.proofs.state.first_due.draining_queues.Given as goal
 

@@ -1,6 +1,4 @@
-use Rattle.std.proofs.Common.{◌++◌, ◌∷◌, [], List, length, refl, arith, ap, ◌∙◌}
-use Rattle.std.proofs.lemmas.List.{get_or_read_under}
-use Rattle.cmwq_model.specs.declared.record.Ticket.{Ticket}
+use Rattle.cmwq_ticket.specs.Common.{◌++◌, ◌∷◌, [], List, length, refl, arith, ap, ◌∙◌, get_or_read_under, Ticket}
 use Rattle.cmwq_ticket.proofs.Upkeep.{AreKept-given, HaveRoom-few, few_of_all, may_give_parts}
 use Rattle.cmwq_ticket.proofs.tickets.Tickets.give.Goals as goal
 

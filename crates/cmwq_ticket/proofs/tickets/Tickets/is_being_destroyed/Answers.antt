@@ -1,5 +1,4 @@
-use Rattle.std.proofs.Common.{◌∙◌}
-use Rattle.cmwq_model.specs.Prelude.{is_destroy_of}
+use Rattle.cmwq_ticket.specs.Common.{◌∙◌, is_destroy_of}
 use Rattle.cmwq_ticket.proofs.Counting.{any_counted}
 use Rattle.cmwq_ticket.proofs.tickets.Tickets.is_being_destroyed.Goals as goal
 

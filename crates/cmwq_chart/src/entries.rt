@@ -1,0 +1,75 @@
+//! What single entries say.
+ghost use Rattle.std.specs.Prelude.{◌≡◌, ◌+◌, ◌<◌, ◌∷◌, length, take};
+ghost use Rattle.cmwq_model.specs.Prelude.{is_by, item_at, item_of, past_of, same_worker, start_in};
+
+use cmwq_model::{Call, Entry, ItemId, Number, Reply, Start, Who, WorkerId};
+
+/// The entry with this number.
+#[tactic(auto, using(crate::proofs::Steps::past_step))]
+pub(crate) fn entry_at(entries: &[Entry], number: usize) -> Entry
+    requires { number < length entries.now }
+    ensures { past_of (take (number + 1) entries.now) ≡ result ∷ past_of (take number entries.now) }
+{
+    entries[number]
+}
+
+fn item_of(entry: Entry) -> Option<u16>
+    ensures { result ≡ item_of entry }
+{
+    match entry.call {
+        Call::Queue { item, .. }
+        | Call::Delay { item, .. }
+        | Call::Modify { item, .. }
+        | Call::Cancel { item }
+        | Call::FlushItem { item }
+        | Call::FlushDelayed { item }
+        | Call::CancelSync { item } => Some(item.0),
+        _ => match entry.reply {
+            Reply::Fired(item, _) => Some(item.0),
+            _ => None,
+        },
+    }
+}
+
+/// The item of the entry with this number, if there is one.
+#[tactic(auto, using(crate::proofs::Steps::item_at_is))]
+pub(crate) fn item_at(entries: &[Entry], number: Number) -> Option<u16>
+    ensures { result ≡ item_at (past_of entries.now) number }
+{
+    match entries.get(number as usize) {
+        Some(entry) => item_of(*entry),
+        None => None,
+    }
+}
+
+/// What the entry starts, and in which worker.
+pub(crate) fn start_in(entry: Entry) -> Option<Start>
+    ensures { result ≡ start_in entry }
+{
+    let Who::Worker(worker) = entry.who else {
+        return None;
+    };
+    match entry.reply {
+        Reply::Started(number) | Reply::StartedEnlist(number, _) => Some(Start { worker, number }),
+        _ => None,
+    }
+}
+
+/// Whether the entry is this worker's.
+pub(crate) fn is_by(worker: WorkerId, entry: Entry) -> bool
+    ensures { result ≡ is_by (Who.Worker worker) entry }
+{
+    match entry.who {
+        Who::Caller(_) => false,
+        Who::Worker(other) => is_same(other, worker),
+    }
+}
+
+/// Whether these are the same worker.
+pub(crate) fn is_same(worker: WorkerId, other: WorkerId) -> bool
+    ensures { result ≡ same_worker worker other }
+{
+    worker.pool.cpu.0 == other.pool.cpu.0
+        && worker.pool.high == other.pool.high
+        && worker.index == other.index
+}

@@ -1,0 +1,11 @@
+//! What a picture of a history shows: shapes, each of which one entry and the history that it stands in tell.
+#![tactic(auto)]
+
+mod bars;
+mod entries;
+mod lanes;
+mod sleeps;
+
+pub use bars::{Bar, bars_of};
+pub use lanes::{lanes_of, row_of};
+pub use sleeps::{Sleep, sleeps_of};

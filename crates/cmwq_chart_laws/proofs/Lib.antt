@@ -1,0 +1,3 @@
+pub mod Finishes
+pub mod OneBar
+pub mod Asleep

@@ -1,0 +1,7 @@
+pub mod Filled
+pub mod Pages
+pub mod Spans
+pub mod BarText
+pub mod SleepText
+pub mod FrameText
+pub mod PictureText

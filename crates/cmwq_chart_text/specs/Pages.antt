@@ -1,0 +1,66 @@
+-- Where on the page an entry stands. All lengths are in the units of the picture; a character of a text is some 6 wide.
+use Rattle.std.specs.Prelude.{ℕ, ◌+◌, ◌-◌, ◌*◌, ◌/◌, if◌then◌else◌, List, min, max, nat_lt, nat_le}
+use Rattle.cmwq_model.specs.declared.id.WorkerId.{WorkerId}
+use Rattle.cmwq_chart.specs.Lanes.{row_of}
+use Rattle.cmwq_chart_text.specs.declared.page.Page.{Page}
+use Rattle.cmwq_chart_text.specs.declared.page.Window.{Window}
+
+-- the page of what a window shows of n entries
+unfoldable pub page_of : Window → ℕ → ℕ → Page
+page_of w n rows = record { first = min w.from n; end = max (min w.to n) (min w.from n); rows = rows }
+
+-- how many entries are shown, how many columns a band has, and how wide each is
+abbrev pub shown : Page → ℕ
+shown p = p.end - p.first
+
+unfoldable pub columns : Page → ℕ
+columns p = if nat_le (shown p) 45 then 45 else if nat_le (shown p) 90 then 90 else 180
+
+unfoldable pub step : Page → ℕ
+step p = if nat_le (shown p) 45 then 24 else if nat_le (shown p) 90 then 12 else 6
+
+-- a band is a line for the numbers of the entries, the rows, and a gap
+unfoldable pub rows_height : Page → ℕ
+rows_height p = 18 * p.rows
+
+unfoldable pub height : Page → ℕ
+height p = 40 + rows_height p
+
+-- the band of an entry, the first entry of a band, and the upper edge of one
+unfoldable pub band_of : Page → ℕ → ℕ
+band_of p place = (place - p.first) / columns p
+
+unfoldable pub start_of : Page → ℕ → ℕ
+start_of p band = p.first + band * columns p
+
+unfoldable pub top_of : Page → ℕ → ℕ
+top_of p band = 56 + band * height p
+
+-- the end of the bands in which the entries from one up to an end stand
+unfoldable pub bands_end : Page → ℕ → ℕ → ℕ
+bands_end p from end = if nat_lt from end then band_of p (end - 1) + 1 else 0
+
+abbrev pub bands : Page → ℕ
+bands p = bands_end p p.first p.end
+
+-- where the column of an entry begins in its band, and how wide the columns from one up to another are
+unfoldable pub column_at : Page → ℕ → ℕ → ℕ
+column_at p band place = 100 + (place - start_of p band) * step p
+
+unfoldable pub width_of : Page → ℕ → ℕ → ℕ
+width_of p from end = (end - from) * step p
+
+-- from which entry on a span of entries stands in a band, and up to which
+unfoldable pub from_in : Page → ℕ → ℕ → ℕ
+from_in p band from = max from (start_of p band)
+
+unfoldable pub end_in : Page → ℕ → ℕ → ℕ
+end_in p band end = min (min end p.end) (start_of p band + columns p)
+
+-- the upper edge of a worker's row
+unfoldable pub row_top : Page → List WorkerId → ℕ → WorkerId → ℕ
+row_top p lanes band w = top_of p band + 22 + 18 * row_of lanes w
+
+-- the letter of a worker's pool: h or n
+unfoldable pub letter : WorkerId → ℕ
+letter w = if w.pool.high then 104 else 110

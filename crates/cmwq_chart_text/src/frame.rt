@@ -1,0 +1,219 @@
+//! The text of what stands around the shapes.
+ghost use Rattle.std.specs.Prelude.{◌≡◌, ◌≤◌, OnOk, OnErr, length};
+ghost use Rattle.std.specs.Io.KnownBytes.{Appends};
+ghost use Rattle.cmwq_io.specs.Counts.{Rises};
+ghost use Rattle.cmwq_io.specs.Moves.{AppendsFront};
+ghost use Rattle.cmwq_chart_text.specs.FrameText as spec;
+
+use crate::filled::write_filled;
+use crate::page::{Page, letter};
+use cmwq_base::{Sink, WriteFault, write_all};
+use cmwq_model::WorkerId;
+
+#[tactic(auto, unfolding(crate::specs::FrameText::head_template))]
+fn head_template() -> &'static str
+    ensures { result.now ≡ spec.head_template }
+{
+    "<svg xmlns=\"http://www.w3.org/2000/svg\" width=\"1200\" height=\"$\" viewBox=\"0 0 1200 $\" role=\"img\"><style>svg{color:black;font:11px sans-serif}.page{fill:white}text{fill:currentColor}.title{font-size:14px}.name,.entry{opacity:.8}.name{text-anchor:end}.entry{text-anchor:middle}.guide,.grid{stroke:currentColor;stroke-opacity:.15}.run{stroke:currentColor;stroke-width:.7}.sleep{fill:url(#hatch);stroke:currentColor;stroke-width:.7}.item{fill:black;font-weight:bold;pointer-events:none}.k0{fill:rgb(143,184,222)}.k1{fill:rgb(250,190,120)}.k2{fill:rgb(150,205,140)}.k3{fill:rgb(240,150,145)}.k4{fill:rgb(150,210,205)}.k5{fill:rgb(205,170,205)}.k6{fill:rgb(200,170,150)}.k7{fill:rgb(240,220,120)}.k8{fill:rgb(255,190,200)}.k9{fill:rgb(190,190,190)}@media(prefers-color-scheme:dark){svg{color:rgb(230,230,230)}.page{fill:rgb(27,29,33)}}</style><defs><pattern id=\"hatch\" width=\"6\" height=\"6\" patternUnits=\"userSpaceOnUse\" patternTransform=\"rotate(45)\"><path d=\"M0 0v6\" stroke=\"black\" stroke-width=\"2\" stroke-opacity=\".5\"/></pattern></defs>\n<rect class=\"page\" width=\"1200\" height=\"$\"/>\n<text class=\"title\" x=\"12\" y=\"26\">Entries from $ up to $: a bar for each run, with its item, in the row of its worker, and hatched where it sleeps</text>\n"
+}
+
+#[tactic(auto, unfolding(crate::specs::FrameText::name_template))]
+fn name_template() -> &'static str
+    ensures { result.now ≡ spec.name_template }
+{
+    "<text class=\"name\" x=\"92\" y=\"$\">w$~$</text><path class=\"guide\" d=\"M100 $h1080\"/>\n"
+}
+
+#[tactic(auto, unfolding(crate::specs::FrameText::number_template))]
+fn number_template() -> &'static str
+    ensures { result.now ≡ spec.number_template }
+{
+    "<path class=\"grid\" d=\"M$ $v$\"/><text class=\"entry\" x=\"$\" y=\"$\">$</text>\n"
+}
+
+#[tactic(auto, unfolding(crate::specs::FrameText::end_text))]
+fn end_text() -> &'static str
+    ensures { result.now ≡ spec.end_text }
+{
+    "</svg>\n"
+}
+
+/// Writes the head of the picture, with its style.
+#[tactic(auto, unfolding(crate::specs::FrameText::head_text, crate::specs::FrameText::picture_height))]
+pub(crate) fn write_head<W: Sink>(sink: &mut W, page: &Page) -> Result<(), WriteFault>
+    ensures ok { OnOk result (Appends (W.written sink.old) (W.written sink.new) (spec.head_text page.now)) }
+    ensures err { OnErr result (AppendsFront (W.written sink.old) (W.written sink.new) (spec.head_text page.now)) }
+    ensures grown { W.troubles sink.old ≤ W.troubles sink.new }
+    ensures fault { OnErr result (Rises (W.troubles sink.old) (W.troubles sink.new)) }
+{
+    let height = page.top_of(page.bands()) + 8;
+    let numbers = [height, height, height, page.first.into(), page.end.into()];
+    write_filled(sink, head_template(), &numbers)
+}
+
+/// What the template of a name is filled with.
+fn name_numbers(page: &Page, lanes: &[WorkerId], band: u64, worker: WorkerId) -> [u64; 5]
+    requires band { band ≤ 4294967296 }
+    requires few { length lanes.now ≤ 64 }
+    ensures { result ≡ spec.name_numbers page.now lanes.now band worker }
+{
+    let top = page.row_top(lanes, band, worker);
+    [
+        top + 11,
+        worker.pool.cpu.0.into(),
+        letter(worker),
+        worker.index.into(),
+        top + 7,
+    ]
+}
+
+/// Writes the names of the lanes in a band.
+fn write_names_in_band<W: Sink>(
+    sink: &mut W,
+    page: &Page,
+    lanes: &[WorkerId],
+    band: u64,
+) -> Result<(), WriteFault>
+    requires band { band ≤ 4294967296 }
+    requires few { length lanes.now ≤ 64 }
+    ensures ok { OnOk result (Appends (W.written sink.old) (W.written sink.new) (spec.names_in_band page.now lanes.now band)) }
+    ensures err { OnErr result (AppendsFront (W.written sink.old) (W.written sink.new) (spec.names_in_band page.now lanes.now band)) }
+    ensures grown { W.troubles sink.old ≤ W.troubles sink.new }
+    ensures fault { OnErr result (Rises (W.troubles sink.old) (W.troubles sink.new)) }
+{
+    for worker in lanes {
+        write_filled(
+            sink,
+            name_template(),
+            &name_numbers(page, lanes, band, *worker),
+        )?;
+    }
+    Ok(())
+}
+
+fn write_names_in_bands<W: Sink>(
+    sink: &mut W,
+    page: &Page,
+    lanes: &[WorkerId],
+    end: u64,
+) -> Result<(), WriteFault>
+    requires end { end ≤ 4294967296 }
+    requires few { length lanes.now ≤ 64 }
+    ensures ok { OnOk result (Appends (W.written sink.old) (W.written sink.new) (spec.names_in_bands page.now lanes.now end)) }
+    ensures err { OnErr result (AppendsFront (W.written sink.old) (W.written sink.new) (spec.names_in_bands page.now lanes.now end)) }
+    ensures grown { W.troubles sink.old ≤ W.troubles sink.new }
+    ensures fault { OnErr result (Rises (W.troubles sink.old) (W.troubles sink.new)) }
+{
+    for band in 0..end {
+        write_names_in_band(sink, page, lanes, band)?;
+    }
+    Ok(())
+}
+
+/// Writes the names of the lanes, in each band.
+#[tactic(auto, unfolding(crate::specs::FrameText::names_text))]
+pub(crate) fn write_names<W: Sink>(
+    sink: &mut W,
+    page: &Page,
+    lanes: &[WorkerId],
+) -> Result<(), WriteFault>
+    requires { length lanes.now ≤ 64 }
+    ensures ok { OnOk result (Appends (W.written sink.old) (W.written sink.new) (spec.names_text page.now lanes.now)) }
+    ensures err { OnErr result (AppendsFront (W.written sink.old) (W.written sink.new) (spec.names_text page.now lanes.now)) }
+    ensures grown { W.troubles sink.old ≤ W.troubles sink.new }
+    ensures fault { OnErr result (Rises (W.troubles sink.old) (W.troubles sink.new)) }
+{
+    write_names_in_bands(sink, page, lanes, page.bands())
+}
+
+#[tactic(auto, unfolding(crate::specs::FrameText::is_numbered))]
+fn is_numbered(page: &Page, place: u64) -> bool
+    ensures { result ≡ spec.is_numbered page.now place }
+{
+    let every = if page.end.saturating_sub(page.first) <= 90 {
+        5
+    } else {
+        10
+    };
+    place % every == 0
+}
+
+/// The middle of an entry's column.
+#[tactic(auto, unfolding(crate::specs::FrameText::middle_of))]
+fn middle_of(page: &Page, place: u64) -> u64
+    requires { place ≤ 4294967296 }
+    ensures { result ≡ spec.middle_of page.now place }
+{
+    page.column_at(page.band_of(place), place) + page.step() / 2
+}
+
+/// What the template of an entry's number is filled with.
+fn number_numbers(page: &Page, place: u64) -> [u64; 6]
+    requires { place ≤ 4294967296 }
+    ensures { result ≡ spec.number_numbers page.now place }
+{
+    let top = page.top_of(page.band_of(place));
+    let middle = middle_of(page, place);
+    [
+        middle,
+        top + 18,
+        4 + page.rows_height(),
+        middle,
+        top + 14,
+        place,
+    ]
+}
+
+/// Writes the number of an entry, if it has one.
+fn write_number<W: Sink>(sink: &mut W, page: &Page, place: u64) -> Result<(), WriteFault>
+    requires { place ≤ 4294967296 }
+    ensures ok { OnOk result (Appends (W.written sink.old) (W.written sink.new) (spec.number_text page.now place)) }
+    ensures err { OnErr result (AppendsFront (W.written sink.old) (W.written sink.new) (spec.number_text page.now place)) }
+    ensures grown { W.troubles sink.old ≤ W.troubles sink.new }
+    ensures fault { OnErr result (Rises (W.troubles sink.old) (W.troubles sink.new)) }
+{
+    if is_numbered(page, place) {
+        write_filled(sink, number_template(), &number_numbers(page, place))
+    } else {
+        Ok(())
+    }
+}
+
+fn write_numbers_between<W: Sink>(
+    sink: &mut W,
+    page: &Page,
+    from: u64,
+    end: u64,
+) -> Result<(), WriteFault>
+    requires { end ≤ 4294967296 }
+    ensures ok { OnOk result (Appends (W.written sink.old) (W.written sink.new) (spec.numbers_between page.now from end)) }
+    ensures err { OnErr result (AppendsFront (W.written sink.old) (W.written sink.new) (spec.numbers_between page.now from end)) }
+    ensures grown { W.troubles sink.old ≤ W.troubles sink.new }
+    ensures fault { OnErr result (Rises (W.troubles sink.old) (W.troubles sink.new)) }
+{
+    for place in from..end {
+        write_number(sink, page, place)?;
+    }
+    Ok(())
+}
+
+/// Writes the numbers of entries.
+#[tactic(auto, unfolding(crate::specs::FrameText::numbers_text))]
+pub(crate) fn write_numbers<W: Sink>(sink: &mut W, page: &Page) -> Result<(), WriteFault>
+    ensures ok { OnOk result (Appends (W.written sink.old) (W.written sink.new) (spec.numbers_text page.now)) }
+    ensures err { OnErr result (AppendsFront (W.written sink.old) (W.written sink.new) (spec.numbers_text page.now)) }
+    ensures grown { W.troubles sink.old ≤ W.troubles sink.new }
+    ensures fault { OnErr result (Rises (W.troubles sink.old) (W.troubles sink.new)) }
+{
+    write_numbers_between(sink, page, page.first.into(), page.end.into())
+}
+
+/// Writes the end of the picture.
+pub(crate) fn write_end<W: Sink>(sink: &mut W) -> Result<(), WriteFault>
+    ensures ok { OnOk result (Appends (W.written sink.old) (W.written sink.new) (spec.end_text)) }
+    ensures err { OnErr result (AppendsFront (W.written sink.old) (W.written sink.new) (spec.end_text)) }
+    ensures grown { W.troubles sink.old ≤ W.troubles sink.new }
+    ensures fault { OnErr result (Rises (W.troubles sink.old) (W.troubles sink.new)) }
+{
+    write_all(sink, end_text().as_bytes())
+}

@@ -1,0 +1,13 @@
+//! The text of a picture: what a browser shows of the shapes of a history, as SVG.
+#![tactic(auto)]
+
+mod bars;
+mod filled;
+mod frame;
+mod page;
+mod picture;
+mod sleeps;
+mod spans;
+
+pub use page::{Page, Window};
+pub use picture::write_picture;

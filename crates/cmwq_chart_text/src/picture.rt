@@ -1,0 +1,41 @@
+//! The text of a picture.
+ghost use Rattle.std.specs.Prelude.{◌≡◌, ◌≤◌, OnOk, OnErr, length};
+ghost use Rattle.std.specs.Io.KnownBytes.{Appends};
+ghost use Rattle.cmwq_io.specs.Counts.{Rises};
+ghost use Rattle.cmwq_io.specs.Moves.{AppendsFront};
+ghost use Rattle.cmwq_chart_text.specs.PictureText.{picture_text};
+
+use crate::bars::write_bars;
+use crate::frame::{write_end, write_head, write_names, write_numbers};
+use crate::page::Page;
+use crate::sleeps::write_sleeps;
+use cmwq_base::{Sink, WriteFault, flush_all};
+use cmwq_chart::{Bar, Sleep};
+use cmwq_model::WorkerId;
+
+/// Writes a picture, and flushes. Takes no memory.
+///
+/// # Errors
+/// `WriteFault` where the sink fails, also at the flush; a front of the picture has been written then.
+pub fn write_picture<W: Sink>(
+    sink: &mut W,
+    page: &Page,
+    lanes: &[WorkerId],
+    bars: &[Bar],
+    sleeps: &[Sleep],
+) -> Result<(), WriteFault>
+    requires { length lanes.now ≤ 64 }
+    ensures ok { OnOk result (Appends (W.written sink.old) (W.written sink.new) (picture_text page.now lanes.now bars.now sleeps.now)) }
+    ensures err { OnErr result (AppendsFront (W.written sink.old) (W.written sink.new) (picture_text page.now lanes.now bars.now sleeps.now)) }
+    ensures flushed { OnOk result (W.held sink.new ≡ 0) }
+    ensures fault { OnErr result (Rises (W.troubles sink.old) (W.troubles sink.new)) }
+{
+    write_head(sink, page)?;
+    write_names(sink, page, lanes)?;
+    write_numbers(sink, page)?;
+    write_bars(sink, page, lanes, bars)?;
+    write_sleeps(sink, page, lanes, sleeps)?;
+    write_end(sink)?;
+    flush_all(sink)?;
+    Ok(())
+}

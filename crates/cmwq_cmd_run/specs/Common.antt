@@ -1,0 +1,15 @@
+-- What the files of this crate name from outside it, in one import.
+pub use Rattle.std.proofs.Common.{Err, List, None, Ok, Option, Result, Some, [], ap, get_or, inl, inr, length, refl, subst, sym, take, ℕ, ◌++◌, ◌+◌, ◌<◌, ◌∙◌, ◌∷◌, ◌≡◌}
+pub use Rattle.std.specs.Io.KnownBytes.{Appends, Keeps}
+pub use Rattle.std.specs.Prelude.{IfErr, IfOk, IfSome, MatchBool, MatchOption, slice_get, suc, zero, ◌&&◌, ◌⊎◌}
+pub use Rattle.cmwq_input.specs.Inputs.{IsJson, IsLong, IsNoJson, Says}
+pub use Rattle.cmwq_json_script.specs.Runs.{Run, run_said}
+pub use Rattle.cmwq_json_script.specs.Scripts.{is_own, run_of}
+pub use Rattle.cmwq_json_script.specs.declared.action.Action.{Action}
+pub use Rattle.cmwq_model.specs.Prelude.{IsLegal, Layout, has_numbers, past_of}
+pub use Rattle.cmwq_model.specs.declared.call.Call.{Call}
+pub use Rattle.cmwq_monitor.specs.Faults.{Refused}
+pub use Rattle.cmwq_monitor.specs.Participants.{View}
+pub use Rattle.cmwq_monitor.specs.declared.fault.RunFault.{RunFault}
+pub use Rattle.cmwq_monitor.specs.declared.fault.RunFault.TheVariants.{Full}
+pub use Rattle.cmwq_rt.specs.Running.{Behavior, MakesOne, fault_after}

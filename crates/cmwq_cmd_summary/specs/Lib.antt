@@ -1,0 +1,4 @@
+pub mod Names
+pub mod Page
+pub mod Summing
+pub mod Summary

@@ -1,0 +1,99 @@
+-- The page of a summary: a line for its entries and ticks, and then the rows of each table, of which those without anything to tell are left out.
+use Rattle.std.specs.Prelude.{ℕ, zero, suc, ◌*◌, ◌/◌, ◌%◌, Bool, ◌==◌, ◌&&◌, if◌then◌else◌, List, [], ◌∷◌, ◌++◌, length, flat_map, codes, decimal}
+use Rattle.cmwq_model.specs.declared.id.WorkerId.{WorkerId}
+use Rattle.cmwq_model.specs.declared.entry.Entry.{Entry}
+use Rattle.cmwq_model.specs.Prelude.{Layout, now, width}
+use Rattle.cmwq_summary.specs.Kinds.{call_kinds, reply_kinds}
+use Rattle.cmwq_summary.specs.Figures.{calls_of, replies_of, runs_of, cancels_of, calls_by, tickets_of, starts_by, queueings_at, starts_at, cancels_at}
+use Rattle.cmwq_summary.specs.Spent.{awake_entries, awake_ticks, asleep_entries, asleep_ticks}
+use Rattle.cmwq_cmd_summary.specs.Names.{call_name, reply_name}
+use Rattle.cmwq_cmd_summary.specs.declared.table.Table.{Table}
+use Rattle.cmwq_cmd_summary.specs.declared.table.Table.TheVariants as table
+use Rattle.cmwq_cmd_summary.specs.declared.table.TheConstants.{TABLES}
+
+-- a name and a number behind it
+abbrev pub figure_text : List ℕ → ℕ → List ℕ
+figure_text name n = name ++ decimal n
+
+abbrev pub line_end : List ℕ
+line_end = 10 ∷ []
+
+-- ---- a row of each table
+
+abbrev pub call_row : ℕ → ℕ → List ℕ
+call_row k n = if n == 0 then [] else codes "call " ++ call_name k ++ figure_text (codes ": ") n ++ line_end
+
+abbrev pub reply_row : ℕ → ℕ → List ℕ
+reply_row k n = if n == 0 then [] else codes "reply " ++ reply_name k ++ figure_text (codes ": ") n ++ line_end
+
+abbrev pub item_row : ℕ → ℕ → ℕ → List ℕ
+item_row i runs cancels =
+    if (runs == 0) && (cancels == 0) then []
+    else figure_text (codes "item ") i ++ figure_text (codes ": runs ") runs ++ figure_text (codes ", cancels ") cancels ++ line_end
+
+abbrev pub caller_row : ℕ → ℕ → ℕ → List ℕ
+caller_row c calls tickets =
+    if calls == 0 then []
+    else figure_text (codes "caller c") c ++ figure_text (codes ": calls ") calls ++ figure_text (codes ", tickets ") tickets ++ line_end
+
+-- a worker's name, as in a history
+abbrev pub pool_letter : Bool → List ℕ
+pool_letter high = if high then codes "h" else codes "n"
+
+abbrev pub worker_at : ℕ → WorkerId
+worker_at w = record { pool = record { cpu = record { 0 = w / 16 }; high = w / 8 % 2 == 1 }; index = w % 8 }
+
+abbrev pub worker_name : WorkerId → List ℕ
+worker_name w = figure_text (codes "w") w.pool.cpu.0 ++ figure_text (pool_letter w.pool.high) w.index
+
+-- how long something went on
+abbrev pub span_text : List ℕ → ℕ → ℕ → List ℕ
+span_text name entries ticks = figure_text name entries ++ figure_text (codes " entries and ") ticks ++ codes " ticks"
+
+abbrev pub worker_row : List Entry → WorkerId → ℕ → List ℕ
+worker_row past w runs =
+    if runs == 0 then []
+    else codes "worker " ++ worker_name w ++ figure_text (codes ": runs ") runs ++ span_text (codes ", awake ") (awake_entries past w) (awake_ticks past w)
+    ++ span_text (codes ", asleep ") (asleep_entries past w) (asleep_ticks past w) ++ line_end
+
+abbrev pub place_name : ℕ → List ℕ
+place_name p = figure_text (codes "queue ") (p / 4) ++ figure_text (codes " on CPU ") (p % 4)
+
+abbrev pub place_row : ℕ → ℕ → ℕ → ℕ → ℕ → List ℕ
+place_row p queueings starts cancels wide =
+    if queueings == 0 then []
+    else place_name p ++ figure_text (codes ": queueings ") queueings ++ figure_text (codes ", starts ") starts ++ figure_text (codes ", cancelled ") cancels ++ figure_text (codes ", width ") wide ++ line_end
+
+abbrev pub row_text : Layout → List Entry → Table → ℕ → List ℕ
+row_text s past table.Calls k = call_row k (calls_of past k)
+row_text s past table.Replies k = reply_row k (replies_of past k)
+row_text s past table.Places p = place_row p (queueings_at past p) (starts_at past p) (cancels_at past p) (width s past (p / 4))
+row_text s past table.Workers w = worker_row past (worker_at w) (starts_by past w)
+row_text s past table.Items i = item_row i (runs_of past i) (cancels_of past i)
+row_text s past table.Callers c = caller_row c (calls_by past c) (tickets_of past c)
+
+-- ---- the tables
+
+abbrev pub rows_in : Layout → Table → ℕ
+rows_in s table.Calls = call_kinds
+rows_in s table.Replies = reply_kinds
+rows_in s table.Places = 4 * length s.queues
+rows_in s table.Workers = 16 * s.cpus
+rows_in s table.Items = s.items
+rows_in s table.Callers = s.callers
+
+-- the rows of the numbers below this one, in their order
+unfoldable pub rows_text : (ℕ → List ℕ) → ℕ → List ℕ
+rows_text row zero = []
+rows_text row (suc n) = rows_text row n ++ row n
+
+abbrev pub table_text : Layout → List Entry → Table → List ℕ
+table_text s past t = rows_text (row_text s past t) (rows_in s t)
+
+-- ---- the page
+
+abbrev pub head_text : ℕ → ℕ → List ℕ
+head_text entries ticks = figure_text (codes "entries ") entries ++ figure_text (codes ", ticks ") ticks ++ line_end
+
+abbrev pub page_text : Layout → List Entry → List ℕ
+page_text s past = head_text (length past) (now past) ++ flat_map (table_text s past) TABLES

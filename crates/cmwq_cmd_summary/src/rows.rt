@@ -1,0 +1,220 @@
+//! How the rows of each table are spelled.
+ghost use Rattle.std.specs.Prelude.{◌≡◌, ◌+◌, ◌*◌, ◌/◌, ◌<◌, ◌≤◌, ◌++◌, length};
+ghost use Rattle.cmwq_model.specs.Prelude.{width};
+ghost use Rattle.cmwq_summary.specs.Kinds.{call_kinds, reply_kinds};
+ghost use Rattle.cmwq_core.specs.History.{past_in};
+ghost use Rattle.cmwq_cmd_summary.specs.Page.{call_row, reply_row, item_row, caller_row, span_text, worker_at, worker_name, worker_row, place_name, row_text, rows_in};
+ghost use Rattle.cmwq_cmd_summary.specs.declared.table.Table.TheVariants as TheTable;
+
+use crate::name::{call_name, reply_name};
+use crate::progress::Progress;
+use crate::row::Row;
+use crate::table::Table;
+use cmwq_base::{CallerId, CpuId, ItemId, PoolId, QueueId, WorkerId};
+use cmwq_summary::{CALL_KINDS, REPLY_KINDS, Span};
+
+/// How many rows a table has.
+pub(crate) fn rows_in(progress: &Progress, table: Table) -> usize
+    ensures { result ≡ rows_in progress.now.layout table }
+{
+    let shape = progress.summary().shape();
+    match table {
+        Table::Calls => CALL_KINDS,
+        Table::Replies => REPLY_KINDS,
+        Table::Places => 4 * shape.queues().len(),
+        Table::Workers => 16 * usize::from(shape.counts().cpus),
+        Table::Items => shape.counts().items.into(),
+        Table::Callers => shape.counts().callers.into(),
+    }
+}
+
+/// The row of a table with this number, from 0.
+pub(crate) fn row(progress: &Progress, table: Table, at: usize) -> Row
+    requires { at < rows_in progress.now.layout table }
+    ensures { result ≡ row_text progress.now.layout (past_in progress.now) table at }
+{
+    let summary = progress.summary();
+    match table {
+        Table::Calls => call_row(at, summary.calls(at)),
+        Table::Replies => reply_row(at, summary.replies(at)),
+        Table::Places => place_row(progress, at),
+        Table::Workers => worker_row(progress, worker_at(progress, at), summary.starts_by(at)),
+        Table::Items => {
+            let item = item_at(progress, at);
+            item_row(item, summary.runs(item), summary.cancels(item))
+        }
+        Table::Callers => {
+            let caller = caller_at(progress, at);
+            caller_row(caller, summary.calls_by(caller), summary.tickets(caller))
+        }
+    }
+}
+
+/// The item with this number.
+fn item_at(progress: &Progress, number: usize) -> ItemId
+    requires { number < progress.now.layout.items }
+    ensures { result.0 ≡ number }
+{
+    // it shows that the number is small
+    let _items = progress.summary().shape().counts().items;
+    ItemId(number as u16)
+}
+
+/// The caller with this number.
+fn caller_at(progress: &Progress, number: usize) -> CallerId
+    requires { number < progress.now.layout.callers }
+    ensures { result.0 ≡ number }
+{
+    // it shows that the number is small
+    let _callers = progress.summary().shape().counts().callers;
+    CallerId(number as u8)
+}
+
+fn call_row(kind: usize, calls: u64) -> Row
+    requires { kind < call_kinds }
+    ensures { result ≡ call_row kind calls }
+{
+    let mut row = Row::new();
+    if calls > 0 {
+        row.push("call ");
+        row.push(call_name(kind));
+        row.push_figure(": ", calls);
+        row.push("\n");
+    }
+    row
+}
+
+fn reply_row(kind: usize, replies: u64) -> Row
+    requires { kind < reply_kinds }
+    ensures { result ≡ reply_row kind replies }
+{
+    let mut row = Row::new();
+    if replies > 0 {
+        row.push("reply ");
+        row.push(reply_name(kind));
+        row.push_figure(": ", replies);
+        row.push("\n");
+    }
+    row
+}
+
+fn item_row(item: ItemId, runs: u64, cancels: u64) -> Row
+    ensures { result ≡ item_row item.0 runs cancels }
+{
+    let mut row = Row::new();
+    if runs > 0 || cancels > 0 {
+        row.push_figure("item ", item.0.into());
+        row.push_figure(": runs ", runs);
+        row.push_figure(", cancels ", cancels);
+        row.push("\n");
+    }
+    row
+}
+
+fn caller_row(caller: CallerId, calls: u64, tickets: u64) -> Row
+    ensures { result ≡ caller_row caller.0 calls tickets }
+{
+    let mut row = Row::new();
+    if calls > 0 {
+        row.push_figure("caller c", caller.0.into());
+        row.push_figure(": calls ", calls);
+        row.push_figure(", tickets ", tickets);
+        row.push("\n");
+    }
+    row
+}
+
+/// The worker with this number.
+fn worker_at(progress: &Progress, number: usize) -> WorkerId
+    requires { number < 16 * progress.now.layout.cpus }
+    ensures is { result ≡ worker_at number }
+    ensures here { result.pool.cpu.0 < progress.now.layout.cpus }
+{
+    // it shows that the number is small
+    let _cpus = progress.summary().shape().counts().cpus;
+    WorkerId {
+        pool: PoolId {
+            cpu: CpuId((number / 16) as u8),
+            high: number / 8 % 2 == 1,
+        },
+        index: (number % 8) as u8,
+    }
+}
+
+/// Spells the name of a worker.
+fn push_worker(row: &mut Row, worker: WorkerId)
+    requires { length row.old + 42 ≤ 512 }
+    ensures exact { row.new ≡ row.old ++ worker_name worker }
+    ensures short { length row.new ≤ length row.old + 42 }
+{
+    row.push_figure("w", worker.pool.cpu.0.into());
+    let letter = if worker.pool.high { "h" } else { "n" };
+    row.push_figure(letter, worker.index.into());
+}
+
+/// Spells how long something went on.
+fn push_span(row: &mut Row, name: &str, span: Span)
+    requires { length row.old + (length name.now + 60) ≤ 512 }
+    ensures exact { row.new ≡ row.old ++ span_text name.now span.entries span.ticks }
+    ensures short { length row.new ≤ length row.old + (length name.now + 60) }
+{
+    row.push_figure(name, span.entries);
+    row.push_figure(" entries and ", span.ticks);
+    row.push(" ticks");
+}
+
+fn worker_row(progress: &Progress, worker: WorkerId, runs: u64) -> Row
+    requires here { worker.pool.cpu.0 < progress.now.layout.cpus }
+    requires index { worker.index < 8 }
+    ensures { result ≡ worker_row (past_in progress.now) worker runs }
+{
+    let summary = progress.summary();
+    let mut row = Row::new();
+    if runs > 0 {
+        row.push("worker ");
+        push_worker(&mut row, worker);
+        row.push_figure(": runs ", runs);
+        push_span(&mut row, ", awake ", summary.awake(worker));
+        push_span(&mut row, ", asleep ", summary.asleep(worker));
+        row.push("\n");
+    }
+    row
+}
+
+/// Spells the queue and the CPU of the place with this number.
+fn push_place(row: &mut Row, place: usize)
+    requires { length row.old + 54 ≤ 512 }
+    ensures exact { row.new ≡ row.old ++ place_name place }
+    ensures short { length row.new ≤ length row.old + 54 }
+{
+    row.push_figure("queue ", place as u64 / 4);
+    row.push_figure(" on CPU ", place as u64 % 4);
+}
+
+/// How wide the queue of the place with this number is.
+fn width_at(progress: &Progress, place: usize) -> u32
+    requires { place < 4 * length progress.now.layout.queues }
+    ensures { result ≡ width progress.now.layout (past_in progress.now) (place / 4) }
+{
+    // it shows that the number is small
+    let _queues = progress.summary().shape().counts();
+    progress.width(QueueId((place / 4) as u8))
+}
+
+fn place_row(progress: &Progress, place: usize) -> Row
+    requires { place < 4 * length progress.now.layout.queues }
+    ensures { result ≡ row_text progress.now.layout (past_in progress.now) TheTable.Places place }
+{
+    let summary = progress.summary();
+    let queueings = summary.queueings_at(place);
+    let mut row = Row::new();
+    if queueings > 0 {
+        push_place(&mut row, place);
+        row.push_figure(": queueings ", queueings);
+        row.push_figure(", starts ", summary.starts_at(place));
+        row.push_figure(", cancelled ", summary.cancels_at(place));
+        row.push_figure(", width ", width_at(progress, place).into());
+        row.push("\n");
+    }
+    row
+}

@@ -1,0 +1,5 @@
+pub mod Lists
+pub mod Filters
+pub mod Truth
+pub mod Members
+pub mod Rising

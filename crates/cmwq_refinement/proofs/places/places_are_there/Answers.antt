@@ -1,0 +1,9 @@
+use Rattle.cmwq_refinement.proofs.PlacesFit.{opened_are_there, open_are_there, unended_tickets_fit}
+use Rattle.cmwq_refinement.proofs.places.places_are_there.Goals as goal
+
+pub returns : goal.returns
+returns c = record {
+  opened_are_there = opened_are_there;
+  open_are_there = open_are_there;
+  unended_tickets_fit = unended_tickets_fit;
+}

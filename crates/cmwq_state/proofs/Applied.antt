@@ -1,0 +1,324 @@
+-- The parts to which an effect is applied are those of the longer history, and it may be applied to them.
+use Rattle.cmwq_state.specs.Common.{◌≡◌, ℕ, ◌+◌, ◌*◌, ◌<◌, ◌≤◌, Bool, true, false, ◌&&◌, ◌==◌, ⊎_elim, List, [], ◌∷◌, length, filter, Option, Some, None, refl, sym, ap, ap₂, ◌∙◌, subst, arith, IsTrue, nat_lt, nat_le, if◌then◌else◌, is_some, IfSome, PoolId, Entry, Queueing, Booking, QueueShape, Call, Ticket, Layout, is_layout, pool_at, item_of, settles, due_in, booking_of, still_open, opening, IsLegal, newly_active, is_below_max_active, has_numbers, number_finished, PoolState, FlushBook, TimerRows, ending, is_ended, pools_refine, flushes_refine, barriers_refine, opened_are_there, open_are_there, In, all_in, in_filter, found, in_contained, eq-eqb, is_in, MayAllBeAdded, PwqState, IsPassed, IsPlacedIf, is_waiting, ArePlaced, width_by, and_parts, ltb-true, eqb-true, false_from_ne_true, cases_lt, All-from_recursion, waits, candidates, newly_are, filter_none, ticket_ended, ended_ready, unended_fit, Flight, tickets_refine, entries_apply_to_tickets, flights_refine, entries_apply_to_flights, pool_after_activation, pool_after_cancel, pool_after_worker, pool_before_activation, pool_of, AreFlushes, MayBeDoneInFlushes, MayBeginInFlushes, MayEndInFlushes, MayOpenInFlushes, flushes_after_begun, flushes_after_done, flushes_after_end, flushes_after_opening, flushes_after_queueings, MayBeDoneInBarriers, MayBeginInBarriers, MayEndInBarriers, MayOpenInBarriers, barriers_after_begun, barriers_after_done, barriers_after_end, barriers_after_opening, barriers_of, MayBeSet, timers_after_settling, timers_of, MayEndInFlight, MayOpenInFlight, MayStartInFlight, flights_after, flights_after_end, flights_after_opening, flights_after_start, flights_of, MayEndTicket, MayGiveTicket, tickets_after_end, tickets_after_giving, tickets_of, MayEndInPwqs, MayOpenInPwqs, pwqs_after_end, pwqs_after_opening}
+use Rattle.cmwq_theory_steps.proofs.Standing.{due_settles}
+use Rattle.cmwq_theory_active.proofs.Rising.{opening_number}
+use Rattle.cmwq_refinement.specs.Places as places
+use Rattle.cmwq_refinement.proofs.FlushMay.{entries_apply_to_flushes}
+use Rattle.cmwq_refinement.proofs.TimerMay.{timers_refine, timers_may_be_set}
+use Rattle.cmwq_refinement.proofs.BarrierMay.{entries_apply_to_barriers}
+use Rattle.cmwq_flush.specs.BarrierBook as barriers_book
+use Rattle.cmwq_refinement.proofs.PoolAdds.{active_may_be_added}
+use mathlib.Core.Bool.{beq}
+use Rattle.cmwq_refinement.proofs.PlacesFit.{open_there as open_in_there}
+use Rattle.cmwq_model.specs.declared.call.Call.TheVariants as call
+use Rattle.cmwq_model.specs.Tickets.{flushes as flushes_queue, drains as drains_queue}
+use Rattle.cmwq_refinement.proofs.Settled.{numbers_fit}
+use Rattle.cmwq_refinement.proofs.TicketSteps.{ticket_in_is}
+use Rattle.cmwq_state.specs.Gone.{AreGone, MayLoseQueue}
+use Rattle.cmwq_state.proofs.GoneSteps.{may_lose_destroyed}
+use Rattle.cmwq_state.specs.Pwqs.{ArePwqsOf}
+use Rattle.cmwq_state.proofs.PwqsBehind.{finished_waits_not, ended_placed, opened_placed}
+use Rattle.cmwq_state.specs.Widths.{AreWidths, MaySetWidth}
+use Rattle.cmwq_state.proofs.WidthSteps.{widths_are}
+use Rattle.cmwq_state.proofs.Listing.{may_all_same}
+use Rattle.cmwq_state.proofs.PwqsSteps.{ArePassed, IsReadyToPass, are_placed, pwqs_ended, pwqs_opened, pwqs_passed}
+use Rattle.cmwq_state.specs.Tables.{IsThere, pool_in, book_in, only, those_in, ArePools, AreBooks, EachPool, EachBook, IsListable, MayBeListed, MayEndInBooks, MayOpenInBooks, MayCancelInPools, MayBeDoneInBooks, MayBeginInBooks, MayEndWait, MayBeginWait}
+use Rattle.cmwq_state.specs.Effects.{IsEffect}
+use Rattle.cmwq_model.specs.Prelude.{item_number}
+use Rattle.cmwq_state.specs.declared.effect.Effect.{Effect}
+use Rattle.cmwq_state.proofs.Refine.{IsSmall}
+use Rattle.std.proofs.lemmas.Bool.{false≢true}
+
+-- ---- pools
+
+pub pools_applied : (s : Layout) (past : List Entry) (f : Effect) (old mid late new : List PoolState) (activated : List Queueing) → IsEffect s past f → ArePools s past old → EachPool (λ p. pool_after_worker p f.entry.who f.entry.reply) old mid → EachPool (λ p. pool_after_cancel s p f.entry f.ended) mid late →
+    activated ≡ newly_active s past f.entry → EachPool (λ p. pool_after_activation (only s.queues) (those_in s.queues p activated)) late new → ArePools s (f.entry ∷ past) new
+pools_applied s past f old mid late new activated is are first second newly third = record {
+  many = third.many ∙ (second.many ∙ (first.many ∙ are.many));
+  each = λ p here. let e = f.entry in
+      third.each p ∙ (ap₂ (λ xs l. pool_after_activation s (filter (is_in s p) xs) l) newly
+      (second.each p ∙ ap₂ (pool_after_cancel s p e) is.ended (first.each p ∙ ap (pool_after_worker p e.who e.reply) (are.each p here)))
+      ∙ sym (pools_refine s past e p is.legal));
+}
+
+-- what became active is of queues and CPUs that there are, and may be listed
+newly_there : (s : Layout) (past : List Entry) (e : Entry) (x : Queueing) → IsLegal s (e ∷ past) → In x (newly_active s past e) → places.IsQueueingThere s x
+newly_there s past e x legal h =
+    let one = in_filter (is_below_max_active s (e ∷ past)) (candidates s past e) x (subst (In x) (newly_are s past e) h) in
+    open_in_there s (e ∷ past) x legal (in_filter (waits s past) (still_open (e ∷ past)) x one.0).0
+
+pub may_be_listed : (s : Layout) (past : List Entry) (f : Effect) (late : List PoolState) (activated : List Queueing) → IsEffect s past f → length late ≡ 2 * s.cpus → activated ≡ newly_active s past f.entry → MayBeListed s.queues activated late
+may_be_listed s past f late activated is many newly = rw newly (All-from_recursion (IsListable s.queues late) (newly_active s past f.entry) (all_in (IsListable s.queues late) (newly_active s past f.entry) (λ x h.
+    let there = newly_there s past f.entry x is.legal h in let cpu = there.cpu in (there.queue, omega arith))))
+
+pub may_list_all : (s : Layout) (past : List Entry) (f : Effect) (old mid late : List PoolState) (activated : List Queueing) → IsEffect s past f → ArePools s past old → EachPool (λ p. pool_after_worker p f.entry.who f.entry.reply) old mid → EachPool (λ p. pool_after_cancel s p f.entry f.ended) mid late →
+    activated ≡ newly_active s past f.entry → (p : PoolId) → MayAllBeAdded (only s.queues) (those_in s.queues p activated) (pool_in late p)
+may_list_all s past f old mid late activated is are first second newly p = ⊎_elim here nowhere (cases_lt p.cpu.0 s.cpus)
+  where
+    here : p.cpu.0 < s.cpus → MayAllBeAdded (only s.queues) (those_in s.queues p activated) (pool_in late p)
+    here less =
+        let e = f.entry in
+        let applied : pool_in late p ≡ pool_before_activation s past p e (pool_of s past p) = second.each p ∙ ap₂ (pool_after_cancel s p e) is.ended (first.each p ∙ ap (pool_after_worker p e.who e.reply) (are.each p less)) in
+        let may = active_may_be_added s past e p is.legal in
+        may_all_same s (filter (is_in s p) activated) (pool_in late p) (rw (newly, applied) may)
+
+    apart : (x : Queueing) → In x (newly_active s past f.entry) → s.cpus ≤ p.cpu.0 → is_in s p x ≡ false
+    apart x h most =
+        let there = newly_there s past f.entry x is.legal h in let cpu = there.cpu in
+        ap (λ b. b && beq (pool_at s x.place).high p.high) (false_from_ne_true (x.place.cpu.0 == p.cpu.0) (λ same. let is = eqb-true x.place.cpu.0 p.cpu.0 same in absurd (omega arith)))
+
+    nowhere : s.cpus ≤ p.cpu.0 → MayAllBeAdded (only s.queues) (those_in s.queues p activated) (pool_in late p)
+    nowhere most =
+        let none : those_in s.queues p activated ≡ [] = ap (filter (is_in s p)) newly ∙ filter_none (is_in s p) (newly_active s past f.entry) (all_in (λ x. is_in s p x ≡ false) (newly_active s past f.entry) (λ x h. apart x h most)) in
+        rw none tt
+
+-- ---- flush books
+
+pub books_applied : (s : Layout) (past : List Entry) (f : Effect) (old mid late end new : List FlushBook) → IsEffect s past f → AreBooks s past old → EachBook (flushes_after_end f.ended) old mid → EachBook (flushes_after_opening f.opened) mid late → EachBook (flushes_after_done f.done) late end → EachBook (flushes_after_begun f.begun) end new → AreBooks s (f.entry ∷ past) new
+books_applied s past f old mid late end new is are first second third fourth = record {
+  many = fourth.many ∙ (third.many ∙ (second.many ∙ (first.many ∙ are.many)));
+  each = λ q here. subst (AreFlushes s (f.entry ∷ past) q)
+      (sym (fourth.each q ∙ ap₂ (λ o b. flushes_after_begun o q b) is.begun
+      (third.each q ∙ ap₂ (λ o b. flushes_after_done o q b) is.done
+      (second.each q ∙ ap₂ (λ o b. flushes_after_opening o q b) is.opened
+      (first.each q ∙ ap (λ o. flushes_after_end o q (book_in old q)) is.ended)))))
+      (flushes_refine s past f.entry q (book_in old q) is.legal (are.each q here));
+}
+
+-- ---- barriers and timers
+
+abbrev pub barriers_applied : Effect → barriers_book.BarrierBook → barriers_book.BarrierBook
+barriers_applied f b = barriers_after_begun f.begun (barriers_after_done f.done (barriers_after_opening f.opened (barriers_after_end f.ended b)))
+
+pub barriers_apply : (s : Layout) (past : List Entry) (f : Effect) → IsEffect s past f → barriers_applied f (barriers_of s past) ≡ barriers_of s (f.entry ∷ past)
+barriers_apply s past f is =
+    ap₂ (λ o b. barriers_after_begun o b) is.begun (ap₂ (λ o b. barriers_after_done o b) is.done (ap₂ (λ o b. barriers_after_opening o b) is.opened (ap (λ o. barriers_after_end o (barriers_of s past)) is.ended)))
+    ∙ sym (barriers_refine s past f.entry is.legal)
+
+applied_by : (e : Entry) (past : List Entry) (rows : TimerRows) (b : Bool) → settles e.reply ≡ b → timers_after_settling (if b then item_of e else None) (booking_of e (length past)) rows ≡ (if b then timers_after_settling (item_of e) (booking_of e (length past)) rows else rows)
+applied_by e past rows true h = refl
+applied_by e past rows false h = ap (λ o. timers_after_settling None o rows) (not_booked e past h)
+  where
+    no_due : (r : Rattle.cmwq_model.specs.declared.reply.Reply.Reply) → settles r ≡ false → due_in r ≡ None
+    no_due r k = which (due_in r) refl
+      where
+        which : (o : Option ℕ) → due_in r ≡ o → due_in r ≡ None
+        which None is = is
+        which (Some d) is = let yes = due_settles r d is in absurd (false≢true (sym k ∙ yes))
+
+    not_booked : (e : Entry) (past : List Entry) → settles e.reply ≡ false → booking_of e (length past) ≡ None
+    not_booked e past k = rw (no_due e.reply k) refl
+
+pub timers_applied : (s : Layout) (past : List Entry) (f : Effect) → IsEffect s past f → timers_after_settling (item_number f.settled) f.booked (timers_of s past) ≡ timers_of s (f.entry ∷ past)
+timers_applied s past f is = ap₂ (λ o b. timers_after_settling o b (timers_of s past)) is.settled is.booked ∙ (applied_by f.entry past (timers_of s past) (settles f.entry.reply) refl ∙ sym (timers_refine s past f.entry is.legal))
+
+-- ---- flights
+
+abbrev pub flights_applied : Effect → List Flight → List Flight
+flights_applied f rows = flights_after_opening f.opened (flights_after_start f.started (flights_after_end f.entry.reply f.ended rows))
+
+same_applied : (s : Layout) (past : List Entry) (f : Effect) (rows : List Flight) → IsEffect s past f → flights_applied f rows ≡ flights_after past f.entry rows
+same_applied s past f rows is = rw (is.ended, is.started, is.opened) refl
+
+pub flights_apply : (s : Layout) (past : List Entry) (f : Effect) → IsEffect s past f → flights_applied f (flights_of s past) ≡ flights_of s (f.entry ∷ past)
+flights_apply s past f is = same_applied s past f (flights_of s past) is ∙ sym (flights_refine s past f.entry is.legal)
+
+-- ---- tickets
+
+abbrev pub tickets_applied : Effect → List (List Ticket) → List (List Ticket)
+tickets_applied f rows = tickets_after_giving f.begun (tickets_after_end f.done rows)
+
+pub tickets_apply : (s : Layout) (past : List Entry) (f : Effect) → IsEffect s past f → tickets_applied f (tickets_of s past) ≡ tickets_of s (f.entry ∷ past)
+tickets_apply s past f is = rw (is.done, is.begun) (tickets_refine s past f.entry is.legal)
+
+-- ---- pool workqueues
+
+pub pwqs_applied : (s : Layout) (past : List Entry) (f : Effect) (l new : PwqState) (wide : ℕ → ℕ) → IsEffect s past f → IsSmall s → IsLegal s past → ArePwqsOf s past l →
+    ArePassed s past f.entry (pwqs_after_opening f.opened (pwqs_after_end f.ended l)) new wide → ArePwqsOf s (f.entry ∷ past) new × (new.activated ≡ newly_active s past f.entry)
+pwqs_applied s past f l new wide is small before are passed =
+    let mid = (pwqs_ended s past f.entry is.legal small.cpus l are before).0 in
+    let ready = (pwqs_opened s past f.entry is.legal small.cpus (pwqs_after_end (ending past f.entry) l) mid).0 in
+    let same : pwqs_after_opening f.opened (pwqs_after_end f.ended l) ≡ pwqs_after_opening (opening past f.entry) (pwqs_after_end (ending past f.entry) l) = ap₂ (λ o x. pwqs_after_opening o (pwqs_after_end x l)) is.opened is.ended in
+    pwqs_passed s past f.entry is.legal small.cpus (pwqs_after_opening (opening past f.entry) (pwqs_after_end (ending past f.entry) l)) new wide ready (subst (λ m. ArePassed s past f.entry m new wide) same passed)
+
+-- ---- and each part takes it
+
+pub open_there : (s : Layout) (past : List Entry) (f : Effect) (x : Queueing) → IsEffect s past f → IsLegal s past → f.ended ≡ Some x → places.IsQueueingThere s x
+open_there s past f x is before h = open_are_there s past x before (in_contained (still_open past) x (found (is_ended past f.entry) (still_open past) x (sym is.ended ∙ h)).0)
+
+pub may_cancel : (s : Layout) (past : List Entry) (f : Effect) (old : List PoolState) → IsEffect s past f → IsLegal s past → length old ≡ 2 * s.cpus → MayCancelInPools f.ended s.queues old
+may_cancel s past f old is before many = by f.ended refl
+  where
+    by : (o : Option Queueing) → f.ended ≡ o → MayCancelInPools o s.queues old
+    by None h = tt
+    by (Some x) h = let there = open_there s past f x is before h in (there.queue, omega (arith, there.cpu))
+
+pub may_end_books : (s : Layout) (past : List Entry) (f : Effect) (old : List FlushBook) → IsTrue (is_layout s) → IsEffect s past f → IsLegal s past → AreBooks s past old → MayEndInBooks f.ended old
+may_end_books s past f old inside is before are = by f.ended refl
+  where
+    by : (o : Option Queueing) → f.ended ≡ o → MayEndInBooks o old
+    by None h = tt
+    by (Some x) h =
+        let there = open_there s past f x is before h in
+        let q = x.place.queue.0 in
+        let may = (entries_apply_to_flushes s past f.entry q (book_in old q) inside is.legal (are.each q there.queue)).ended in
+        let same : ending past f.entry ≡ Some x = sym is.ended ∙ h in
+        let mine = subst (λ o. MayEndInFlushes o q (book_in old q)) same may in
+        (rw are.many there.queue, mine (eq-eqb q q refl))
+
+pub may_open_books : (s : Layout) (past : List Entry) (f : Effect) (old mid : List FlushBook) → length past < 9223372036854775808 → IsTrue (is_layout s) → IsEffect s past f → AreBooks s past old → EachBook (flushes_after_end f.ended) old mid → MayOpenInBooks f.opened mid
+may_open_books s past f old mid few inside is are applied = by f.opened refl
+  where
+    by : (o : Option Queueing) → f.opened ≡ o → MayOpenInBooks o mid
+    by None h = tt
+    by (Some x) h =
+        let same : opening past f.entry ≡ Some x = sym is.opened ∙ h in
+        let there = opened_are_there s past f.entry x is.legal same in
+        let q = x.place.queue.0 in
+        let may = (entries_apply_to_flushes s past f.entry q (book_in old q) inside is.legal (are.each q there.queue)).opened in
+        let mine = subst (λ o. MayOpenInFlushes o q (flushes_after_end (ending past f.entry) q (book_in old q))) same may in
+        let here : book_in mid q ≡ flushes_after_end (ending past f.entry) q (book_in old q) = applied.each q ∙ ap (λ o. flushes_after_end o q (book_in old q)) is.ended in
+        let number : x.number ≡ length past = opening_number past f.entry x same in
+        (rw (applied.many, are.many) there.queue, rw here (mine (eq-eqb q q refl)), omega arith)
+
+pub may_end_barriers : (s : Layout) (past : List Entry) (f : Effect) → IsEffect s past f → MayEndInBarriers f.ended (barriers_of s past)
+may_end_barriers s past f is = rw is.ended (entries_apply_to_barriers s past f.entry is.legal).ended
+
+pub may_open_barriers : (s : Layout) (past : List Entry) (f : Effect) → IsEffect s past f → MayOpenInBarriers f.opened (barriers_after_end f.ended (barriers_of s past))
+may_open_barriers s past f is = rw (is.ended, is.opened) (entries_apply_to_barriers s past f.entry is.legal).opened
+
+set_by : (e : Entry) (past : List Entry) (rows : TimerRows) (b : Bool) → settles e.reply ≡ b → MayBeSet (item_of e) (booking_of e (length past)) rows → MayBeSet (if b then item_of e else None) (booking_of e (length past)) rows
+set_by e past rows true h may = may
+set_by e past rows false h may = which (booking_of e (length past)) refl may
+  where
+    which : (o : Option Booking) → booking_of e (length past) ≡ o → MayBeSet (item_of e) o rows → MayBeSet None o rows
+    which None is m = tt
+    which (Some b) is m = m
+
+pub may_set_timers : (s : Layout) (past : List Entry) (f : Effect) → IsTrue (is_layout s) → IsEffect s past f → MayBeSet (item_number f.settled) f.booked (timers_of s past)
+may_set_timers s past f inside is = rw (is.settled, is.booked) (set_by f.entry past (timers_of s past) (settles f.entry.reply) refl (timers_may_be_set s past f.entry inside is.legal))
+
+-- ---- waits
+
+queue_there : (s : Layout) (q : ℕ) → nat_lt q (length s.queues) ≡ true → (n : ℕ) → n ≡ length s.queues → q < n
+queue_there s q h n many = rw many (ltb-true q (length s.queues) h)
+
+pub may_be_done : (s : Layout) (past : List Entry) (f : Effect) (old mid late : List FlushBook) → IsTrue (is_layout s) → IsEffect s past f → IsLegal s past → AreBooks s past old → EachBook (flushes_after_end f.ended) old mid → EachBook (flushes_after_opening f.opened) mid late → MayBeDoneInBooks f.done late
+may_be_done s past f old mid late inside is before are first second = by f.done refl
+  where
+    many : length late ≡ length s.queues
+    many = second.many ∙ (first.many ∙ are.many)
+
+    may : (t : Ticket) (q : ℕ) → f.done ≡ Some t → q < length s.queues → MayBeDoneInFlushes (Some t) q (book_in late q)
+    may t q h here =
+        let applied : book_in late q ≡ flushes_after_queueings past f.entry q (book_in old q) = second.each q ∙ ap₂ (λ o b. flushes_after_opening o q b) is.opened (first.each q ∙ ap (λ o. flushes_after_end o q (book_in old q)) is.ended) in
+        let m = (entries_apply_to_flushes s past f.entry q (book_in old q) inside is.legal (are.each q here)).done in
+        rw applied (subst (λ o. MayBeDoneInFlushes o q (flushes_after_queueings past f.entry q (book_in old q))) (sym is.done ∙ h) m)
+
+    by_call : (t : Ticket) → f.done ≡ Some t → (c : Call) → t.call ≡ c → has_numbers s c ≡ true → MayEndWait c t.number late
+    by_call t h (call.Flush q) same fit =
+        let here = queue_there s q.0 fit (length s.queues) refl in let m = (may t q.0 h here).0 (ap (flushes_queue q.0) same ∙ eq-eqb q.0 q.0 refl) in
+        (rw many here, m.0, m.1)
+    by_call t h (call.Drain q) same fit =
+        let here = queue_there s q.0 fit (length s.queues) refl in (rw many here, (may t q.0 h here).1 (ap (drains_queue q.0) same ∙ eq-eqb q.0 q.0 refl))
+    by_call t h (call.Destroy q) same fit =
+        let here = queue_there s q.0 fit (length s.queues) refl in (rw many here, (may t q.0 h here).1 (ap (drains_queue q.0) same ∙ eq-eqb q.0 q.0 refl))
+    by_call t h c same fit = tt
+
+    by : (o : Option Ticket) → f.done ≡ o → MayBeDoneInBooks o late
+    by None h = tt
+    by (Some t) h = by_call t h t.call refl (unended_fit s past t before (ended_ready s past f.entry t is.legal (sym is.done ∙ h)).stands)
+
+pub may_begin : (s : Layout) (past : List Entry) (f : Effect) (old mid late end : List FlushBook) → IsTrue (is_layout s) → IsEffect s past f → AreBooks s past old → EachBook (flushes_after_end f.ended) old mid → EachBook (flushes_after_opening f.opened) mid late → EachBook (flushes_after_done f.done) late end → MayBeginInBooks f.begun end
+may_begin s past f old mid late end inside is are first second third = by f.begun refl
+  where
+    many : length end ≡ length s.queues
+    many = third.many ∙ (second.many ∙ (first.many ∙ are.many))
+
+    may : (t : Ticket) (q : ℕ) → f.begun ≡ Some t → q < length s.queues → MayBeginInFlushes (Some t) q (book_in end q)
+    may t q h here =
+        let applied : book_in end q ≡ flushes_after_done (ticket_ended past f.entry) q (flushes_after_queueings past f.entry q (book_in old q)) =
+        third.each q ∙ ap₂ (λ o b. flushes_after_done o q b) is.done (second.each q ∙ ap₂ (λ o b. flushes_after_opening o q b) is.opened (first.each q ∙ ap (λ o. flushes_after_end o q (book_in old q)) is.ended)) in
+        let m = (entries_apply_to_flushes s past f.entry q (book_in old q) inside is.legal (are.each q here)).begun in
+        rw applied (subst (λ o. MayBeginInFlushes o q (flushes_after_done (ticket_ended past f.entry) q (flushes_after_queueings past f.entry q (book_in old q)))) (sym is.begun ∙ h) m)
+
+    by_call : (t : Ticket) → f.begun ≡ Some t → (c : Call) → t.call ≡ c → has_numbers s c ≡ true → MayBeginWait c t.number end
+    by_call t h (call.Flush q) same fit =
+        let here = queue_there s q.0 fit (length s.queues) refl in (rw many here, (may t q.0 h here).0 (ap (flushes_queue q.0) same ∙ eq-eqb q.0 q.0 refl))
+    by_call t h (call.Drain q) same fit =
+        let here = queue_there s q.0 fit (length s.queues) refl in (rw many here, (may t q.0 h here).1 (ap (drains_queue q.0) same ∙ eq-eqb q.0 q.0 refl))
+    by_call t h (call.Destroy q) same fit =
+        let here = queue_there s q.0 fit (length s.queues) refl in (rw many here, (may t q.0 h here).1 (ap (drains_queue q.0) same ∙ eq-eqb q.0 q.0 refl))
+    by_call t h c same fit = tt
+
+    by : (o : Option Ticket) → f.begun ≡ o → MayBeginInBooks o end
+    by None h = tt
+    by (Some t) h = by_call t h t.call refl (ap (has_numbers s) (ticket_in_is f.entry (length past) t (sym is.begun ∙ h)).call ∙ numbers_fit s past f.entry is.legal)
+
+pub may_be_done_barriers : (s : Layout) (past : List Entry) (f : Effect) → IsEffect s past f → MayBeDoneInBarriers f.done (barriers_after_opening f.opened (barriers_after_end f.ended (barriers_of s past)))
+may_be_done_barriers s past f is = rw (is.ended, is.opened, is.done) (entries_apply_to_barriers s past f.entry is.legal).done
+
+pub may_begin_barriers : (s : Layout) (past : List Entry) (f : Effect) → IsEffect s past f → MayBeginInBarriers f.begun (barriers_after_done f.done (barriers_after_opening f.opened (barriers_after_end f.ended (barriers_of s past))))
+may_begin_barriers s past f is = rw (is.ended, is.opened, is.done, is.begun) (entries_apply_to_barriers s past f.entry is.legal).begun
+
+-- ---- what waits
+
+pub may_end_in_pwqs : (s : Layout) (past : List Entry) (f : Effect) (l : PwqState) → IsEffect s past f → IsSmall s → IsLegal s past → ArePwqsOf s past l → MayEndInPwqs f.ended l
+may_end_in_pwqs s past f l is small before are = rw is.ended (pwqs_ended s past f.entry is.legal small.cpus l are before).1
+
+pub pwqs_ready : (s : Layout) (past : List Entry) (f : Effect) (l : PwqState) → IsEffect s past f → IsSmall s → IsLegal s past → ArePwqsOf s past l →
+    IsReadyToPass s past f.entry (pwqs_after_opening f.opened (pwqs_after_end f.ended l)) × MayOpenInPwqs f.opened (pwqs_after_end f.ended l)
+pwqs_ready s past f l is small before are =
+    let mid = (pwqs_ended s past f.entry is.legal small.cpus l are before).0 in
+    rw (is.opened, is.ended) (pwqs_opened s past f.entry is.legal small.cpus (pwqs_after_end (ending past f.entry) l) mid)
+
+-- ---- widths
+
+pub may_set_width : (s : Layout) (past : List Entry) (f : Effect) (most : List ℕ) → IsEffect s past f → length most ≡ length s.queues → MaySetWidth f.entry.call most
+may_set_width s past f most is many = by f.entry.call (numbers_fit s past f.entry is.legal)
+  where
+    by : (c : Call) → has_numbers s c ≡ true → MaySetWidth c most
+    by (call.SetMax q n) fit = queue_there s q.0 (and_parts (nat_lt q.0 (length s.queues)) (nat_le 1 n) fit).0 (length most) many
+    by c fit = tt
+
+-- ---- the pass, as it is called
+
+pub passed_by : (s : Layout) (past : List Entry) (f : Effect) (l : PwqState) (queues : List QueueShape) (most : List ℕ) (frozen : Bool) (new : PwqState) → queues ≡ s.queues → AreWidths s (f.entry ∷ past) most frozen
+    → IsPassed (width_by queues most frozen) (pwqs_after_opening f.opened (pwqs_after_end f.ended l)) new → ArePassed s past f.entry (pwqs_after_opening f.opened (pwqs_after_end f.ended l)) new (width_by s.queues most frozen)
+passed_by s past f l queues most frozen new those are passed = record {
+  passes = λ way have. passed.passes way (rw those have);
+  room = passed.room;
+  widths = widths_are s (f.entry ∷ past) most frozen are;
+}
+
+pub may_pass : (s : Layout) (past : List Entry) (f : Effect) (l : PwqState) (queues : List QueueShape) → IsEffect s past f → IsSmall s → IsLegal s past → ArePwqsOf s past l → queues ≡ s.queues →
+    ArePlaced (length queues) (pwqs_after_opening f.opened (pwqs_after_end f.ended l)).waiting
+may_pass s past f l queues is small before pwqs those = rw those
+    (are_placed s past f.entry is.legal small.cpus (pwqs_after_opening f.opened (pwqs_after_end f.ended l)) (pwqs_ready s past f l is small before pwqs).0)
+
+pub may_have_run : (s : Layout) (past : List Entry) (f : Effect) (l : PwqState) → IsEffect s past f → IsLegal s past → ArePwqsOf s past l → is_some (number_finished f.entry.reply) ≡ true → IfSome f.ended (λ x. is_waiting l x ≡ false)
+may_have_run s past f l is before pwqs h = rw is.ended (finished_waits_not s past f.entry l is.legal before pwqs h)
+
+pub may_be_placed : (s : Layout) (past : List Entry) (f : Effect) (queues : List QueueShape) → IsEffect s past f → IsSmall s → IsLegal s past → queues ≡ s.queues → IsPlacedIf (length queues) f.ended × IsPlacedIf (length queues) f.opened
+may_be_placed s past f queues is small before those = rw those (ended_placed s past f.entry f.ended before small.cpus (sym is.ended), opened_placed s past f.entry f.opened is.legal small.cpus (sym is.opened))
+
+-- ---- flights and tickets
+
+pub may_end_flights : (s : Layout) (past : List Entry) (f : Effect) → IsEffect s past f → MayEndInFlight f.entry.reply f.ended (flights_of s past)
+may_end_flights s past f is = rw is.ended (entries_apply_to_flights s past f.entry is.legal).ended
+
+pub may_start_flights : (s : Layout) (past : List Entry) (f : Effect) → IsEffect s past f → MayStartInFlight f.started (flights_after_end f.entry.reply f.ended (flights_of s past))
+may_start_flights s past f is = rw (is.ended, is.started) (entries_apply_to_flights s past f.entry is.legal).started
+
+pub may_open_flights : (s : Layout) (past : List Entry) (f : Effect) → IsEffect s past f
+    → MayOpenInFlight f.opened (flights_after_start f.started (flights_after_end f.entry.reply f.ended (flights_of s past)))
+may_open_flights s past f is = rw (is.ended, is.started, is.opened) (entries_apply_to_flights s past f.entry is.legal).opened
+
+pub may_end_tickets : (s : Layout) (past : List Entry) (f : Effect) → IsTrue (is_layout s) → IsEffect s past f → MayEndTicket f.done (tickets_of s past)
+may_end_tickets s past f inside is = rw is.done (entries_apply_to_tickets s past f.entry inside is.legal).ended
+
+pub may_give_tickets : (s : Layout) (past : List Entry) (f : Effect) → IsTrue (is_layout s) → IsEffect s past f → MayGiveTicket f.begun (tickets_after_end f.done (tickets_of s past))
+may_give_tickets s past f inside is = rw (is.done, is.begun) (entries_apply_to_tickets s past f.entry inside is.legal).given
+
+pub may_lose_queue : (s : Layout) (past : List Entry) (f : Effect) (gone : List Bool) → IsEffect s past f → IsLegal s past → AreGone s past gone → MayLoseQueue f.done gone
+may_lose_queue s past f gone is before are = subst (λ o. MayLoseQueue o gone) (sym is.done) (may_lose_destroyed s past f.entry gone is.legal before are)

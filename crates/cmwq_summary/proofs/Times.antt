@@ -1,0 +1,38 @@
+-- The time after an entry.
+use Rattle.std.proofs.Common.{◌≡◌, ℕ, ◌+◌, ◌<◌, ◌≤◌, true, List, ◌∷◌, length, ap₂, arith}
+use Rattle.std.proofs.lemmas.Bool.{leb-true}
+use Rattle.std.proofs.lemmas.List.{length-reverse}
+use Rattle.cmwq_model.specs.declared.call.Call.{Call}
+use Rattle.cmwq_model.specs.declared.call.Call.TheVariants as call
+use Rattle.cmwq_model.specs.declared.entry.Entry.{Entry}
+use Rattle.cmwq_summary.specs.declared.activity.Span.{Span}
+use Rattle.cmwq_summary.specs.declared.told.Told.{Told}
+use Rattle.cmwq_summary.specs.Activities.{behind}
+use Rattle.cmwq_summary.specs.Summed.{IsNext, IsTold}
+use Rattle.cmwq_model.specs.Prelude.{Layout, is_layout, ticks_told, now, has_time, most_time, past_of, IsLegal}
+
+-- after a call that has time it is within its room
+pub time_within : (past : List Entry) (c : Call) (time : ℕ) → time ≡ now past → time ≤ most_time → has_time past c ≡ true → time + ticks_told c ≤ most_time
+time_within past (call.Tick t) time is within h = let fits = leb-true (now past + t) most_time h in omega arith
+time_within past c time is within h = omega arith
+
+pub time_more : (past : List Entry) (e : Entry) (time ticks : ℕ) → time ≡ now past → ticks ≡ ticks_told e.call → time + ticks ≡ now (e ∷ past)
+unfolding now
+time_more past e time ticks is told = omega arith
+
+-- the moment behind it
+pub now_behind : (entries : List Entry) (e : Entry) (time len ticks : ℕ) → len ≡ length entries → time ≡ now (past_of entries) → ticks ≡ ticks_told e.call
+    → (let to : Span = record { entries = len + 1; ticks = time + ticks } in to) ≡ behind (e ∷ past_of entries)
+now_behind entries e time len ticks many is told =
+    let as_many : length (past_of entries) ≡ length entries = length-reverse entries in
+    let more : len + 1 ≡ length (e ∷ past_of entries) = omega arith in
+    ap₂ (λ (n t : ℕ). let to : Span = record { entries = n; ticks = t } in to) more (time_more (past_of entries) e time ticks is told)
+
+-- what is told is of the next entry
+pub next_is : (s : Layout) (entries : List Entry) (t : Told) (time : ℕ) → is_layout s ≡ true → IsLegal s (t.entry ∷ past_of entries) → IsTold (past_of entries) t → time ≡ now (past_of entries) → time ≤ most_time
+    → has_time (past_of entries) t.entry.call ≡ true → length entries < 4611686018427387904 → IsNext s (past_of entries) t
+unfolding now
+next_is s entries t time inside legal told is soon h few =
+    let as_many : length (past_of entries) ≡ length entries = length-reverse entries in
+    let within = time_within (past_of entries) t.entry.call time is soon h in
+    record { inside = inside; legal = legal; told = told; few = omega arith; soon = omega arith }

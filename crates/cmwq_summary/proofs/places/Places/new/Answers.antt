@@ -1,0 +1,11 @@
+use Rattle.std.proofs.Common.{◌*◌}
+use Rattle.cmwq_summary.specs.Figures.{by_place_opened, by_place_started, by_place_cancelled}
+use Rattle.cmwq_summary.proofs.Tallies.{none_tallied}
+use Rattle.cmwq_summary.proofs.places.Places.new.Goals as goal
+
+pub returns : goal.returns
+returns c = record {
+  queueings = rw (c.in_ok-queueings.ensures) (none_tallied by_place_opened (4 * c.args.queues));
+  starts = rw (c.in_ok-starts.ensures) (none_tallied by_place_started (4 * c.args.queues));
+  cancels = rw (c.in_ok-cancels.ensures) (none_tallied by_place_cancelled (4 * c.args.queues));
+}

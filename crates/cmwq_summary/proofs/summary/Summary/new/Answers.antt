@@ -1,0 +1,15 @@
+use Rattle.std.proofs.Common.{refl, arith, ap}
+use Rattle.cmwq_model.specs.Prelude.{now, Layout}
+use Rattle.cmwq_summary.proofs.summary.Summary.new.Goals as goal
+
+pub invariant_of-result : goal.invariant_of-result
+unfolding now
+invariant_of-result c = rw c.new-entries.ensures record {
+  time_is = refl;
+  soon = omega arith;
+  kinds_are = c.in_ok-kinds.ensures;
+  items_are = rw (← ap (λ (s : Layout). s.items) c.counts-counts.ensures.counts) (c.in_ok-items.ensures);
+  callers_are = rw (← ap (λ (s : Layout). s.callers) c.counts-counts.ensures.counts) (c.in_ok-callers.ensures);
+  workers_are = rw (← ap (λ (s : Layout). s.cpus) c.counts-counts.ensures.counts) (c.in_ok-workers.ensures);
+  places_are = rw (← c.queues.ensures) (c.in_ok-places.ensures);
+}

@@ -1,0 +1,112 @@
+//! How long a worker's runs were awake, and how long they slept.
+ghost use Rattle.std.specs.Prelude.{◌≡◌, ◌+◌, ◌-◌, ◌<◌, ◌≤◌};
+ghost use Rattle.cmwq_summary.specs.Activities.{IsUpTo, asleep_until, awake_until, begun, doing_after, with_stretch};
+
+use cmwq_model::Reply;
+
+/// So many entries and so many ticks.
+#[derive(Clone, Copy, Debug, PartialEq, Eq)]
+pub struct Span {
+    pub entries: u64,
+    pub ticks: u64,
+}
+
+impl Span {
+    /// The span and the stretch from one moment to another.
+    fn with_stretch(self, from: Span, to: Span) -> Span
+        requires order { (from.entries ≤ to.entries) × (from.ticks ≤ to.ticks) }
+        requires entries { self.entries + (to.entries - from.entries) < 9223372036854775808 }
+        requires ticks { self.ticks + (to.ticks - from.ticks) < 9223372036854775808 }
+        ensures { result ≡ with_stretch self from to }
+    {
+        Span {
+            entries: self.entries + (to.entries - from.entries),
+            ticks: self.ticks + (to.ticks - from.ticks),
+        }
+    }
+}
+
+/// What a worker does.
+#[derive(Clone, Copy, Debug, PartialEq, Eq)]
+pub(crate) enum Doing {
+    /// It has no run.
+    Nothing,
+    /// Its run is awake.
+    Runs,
+    /// Its run sleeps.
+    Sleeps,
+}
+
+impl Doing {
+    /// What it does after an entry of its own with this reply.
+    pub(crate) fn after(self, reply: Reply) -> Doing
+        ensures { result ≡ doing_after reply self }
+    {
+        match reply {
+            Reply::Started(_) | Reply::StartedEnlist(..) | Reply::Woke => Doing::Runs,
+            Reply::Slept => Doing::Sleeps,
+            Reply::Finished(_) => Doing::Nothing,
+            _ => self,
+        }
+    }
+}
+
+/// What a worker does, since when, and how long its runs were awake and asleep until then.
+#[derive(Clone, Copy)]
+pub(crate) struct Activity {
+    pub(crate) doing: Doing,
+    pub(crate) since: Span,
+    pub(crate) awake: Span,
+    pub(crate) asleep: Span,
+}
+
+/// A worker that never had a run.
+pub(crate) const IDLE: Activity = Activity {
+    doing: Doing::Nothing,
+    since: NO_TIME,
+    awake: NO_TIME,
+    asleep: NO_TIME,
+};
+
+/// No entries and no ticks.
+const NO_TIME: Span = Span {
+    entries: 0,
+    ticks: 0,
+};
+
+impl Activity {
+    /// How long its runs were awake until now.
+    pub(crate) fn awake(&self, now: Span) -> Span
+        requires { IsUpTo self.now now }
+        ensures { result ≡ awake_until self.now now }
+    {
+        match self.doing {
+            Doing::Runs => self.awake.with_stretch(self.since, now),
+            _ => self.awake,
+        }
+    }
+
+    /// How long its runs slept until now.
+    pub(crate) fn asleep(&self, now: Span) -> Span
+        requires { IsUpTo self.now now }
+        ensures { result ≡ asleep_until self.now now }
+    {
+        match self.doing {
+            Doing::Sleeps => self.asleep.with_stretch(self.since, now),
+            _ => self.asleep,
+        }
+    }
+
+    /// Begins to do something now.
+    pub(crate) fn begin(&mut self, now: Span, doing: Doing)
+        requires { IsUpTo self.old now }
+        ensures { self.new ≡ begun self.old now doing }
+    {
+        *self = Activity {
+            doing,
+            since: now,
+            awake: self.awake(now),
+            asleep: self.asleep(now),
+        };
+    }
+}

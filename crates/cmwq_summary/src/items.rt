@@ -1,0 +1,48 @@
+//! Runs and cancels by item.
+ghost use Rattle.std.specs.Prelude.{◌≡◌, ◌<◌, ℕ, [], ◌∷◌, List, length, option_map, IfOk};
+ghost use Rattle.cmwq_model.specs.declared.entry.Entry as entries;
+ghost use Rattle.cmwq_summary.specs.Figures.{item_number};
+ghost use Rattle.cmwq_summary.specs.Parts.{AreItems};
+ghost use Rattle.cmwq_summary.specs.Summed.{IsTold};
+
+use crate::tally::Tally;
+use crate::told::Told;
+use cmwq_model::{NoMemory, Queueing};
+use std::alloc::Global;
+
+/// How many runs of each item were started, and how many of its queueings were cancelled.
+#[derive(Drop)]
+pub(crate) struct Items {
+    pub(crate) runs: Tally,
+    pub(crate) cancels: Tally,
+}
+
+impl Items {
+    /// Those of no entries. The error says that memory ran out.
+    pub(crate) fn new(alloc: Global, items: u16) -> Result<Items, NoMemory>
+        ensures { IfOk result (AreItems items []) }
+    {
+        let runs = Tally::new(alloc, items.into())?;
+        let cancels = Tally::new(alloc, items.into())?;
+        Ok(Items { runs, cancels })
+    }
+
+    /// One entry more.
+    pub(crate) fn add(&mut self, told: &Told)
+        requires { (many : ℕ) × (past : List entries.Entry) × (length past < 9223372036854775808) × AreItems many past self.old }
+        ensures { (many : ℕ) (past : List entries.Entry) → IsTold past told.now → AreItems many past self.old → AreItems many (told.now.entry ∷ past) self.new }
+    {
+        self.runs.add(item_in(told.started));
+        self.cancels.add(item_in(told.cancelled()));
+    }
+}
+
+/// The number of a queueing's item.
+fn item_in(queueing: Option<Queueing>) -> Option<usize>
+    ensures { result ≡ option_map item_number queueing }
+{
+    match queueing {
+        Some(queueing) => Some(queueing.item.0.into()),
+        None => None,
+    }
+}

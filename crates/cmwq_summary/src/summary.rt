@@ -1,0 +1,224 @@
+//! The summary of a history.
+ghost use Rattle.std.specs.Prelude.{◌≡◌, ◌<◌, ◌≤◌, ◌*◌, true, [], ◌∷◌, length, IfOk};
+ghost use Rattle.cmwq_model.specs.Prelude.{now, has_time, IsLegal};
+ghost use Rattle.cmwq_summary.specs.Figures as figures;
+ghost use Rattle.cmwq_summary.specs.Activities.{behind};
+ghost use Rattle.cmwq_summary.specs.Spent as spans;
+ghost use Rattle.cmwq_summary.specs.Kinds.{call_kinds, reply_kinds};
+ghost use Rattle.cmwq_summary.specs.Summed.{past_in, with_entry, IsTold};
+
+use crate::activity::Span;
+use crate::callers::Callers;
+use crate::items::Items;
+use crate::kinds::Kinds;
+use crate::places::Places;
+use crate::told::Told;
+use crate::workers::{Workers, activity_in};
+use cmwq_model::{CallerId, Entry, ItemId, NoMemory, Shape, WorkerId};
+use cmwq_tail::Trail;
+use std::alloc::Global;
+use std::marker::Model;
+
+/// The figures of a history, which are kept while its entries come. None of them looks back. Contracts see all entries.
+#[derive(Drop)]
+pub struct Summary {
+    shape: Shape,
+    entries: Trail<Entry>,
+    time: u64,
+    kinds: Kinds,
+    items: Items,
+    callers: Callers,
+    workers: Workers,
+    places: Places,
+}
+
+impl Model for Summary {
+    ghost use Rattle.cmwq_summary.specs.Parts.{IsSummary};
+    ghost use Rattle.cmwq_summary.specs.Summed.{Summed};
+
+    ghost Value = { Summed };
+
+    ghost view = { λ s. record { layout = s.shape; entries = s.entries } };
+
+    ghost invariant = { λ s. IsSummary s.shape s.entries s.time s.kinds s.items s.callers s.workers s.places };
+}
+
+impl Summary {
+    /// The summary of no entries. No later call takes memory; the error says that it ran out.
+    pub fn new(alloc: Global, shape: Shape) -> Result<Summary, NoMemory>
+        ensures { IfOk result (λ summary. summary ≡ record { layout = shape; entries = [] }) }
+    {
+        let counts = shape.counts();
+        let kinds = Kinds::new(alloc)?;
+        let items = Items::new(alloc, counts.items)?;
+        let callers = Callers::new(alloc, counts.callers)?;
+        let workers = Workers::new(alloc, counts.cpus)?;
+        let places = Places::new(alloc, shape.queues().len())?;
+        let entries = Trail::new();
+        Ok(Summary {
+            shape,
+            entries,
+            time: 0,
+            kinds,
+            items,
+            callers,
+            workers,
+            places,
+        })
+    }
+
+    /// One entry more.
+    pub fn add(&mut self, told: &Told)
+        requires legal { IsLegal self.old.layout (told.now.entry ∷ past_in self.old) }
+        requires told { IsTold (past_in self.old) told.now }
+        requires time { has_time (past_in self.old) told.now.entry.call ≡ true }
+        requires few { length self.old.entries < 4611686018427387904 }
+        ensures { self.new ≡ with_entry self.old told.now.entry }
+    {
+        // it shows that the shape is inside the limits
+        let _counts = self.shape.counts();
+        self.time += u64::from(told.entry.call.ticks());
+        let now = Span {
+            entries: self.entries.len() + 1,
+            ticks: self.time,
+        };
+        self.kinds.add(told);
+        self.items.add(told);
+        self.callers.add(told);
+        self.workers.add(told, now);
+        self.places.add(told);
+        self.entries.push(&told.entry);
+    }
+
+    /// The shape of the history.
+    pub fn shape(&self) -> &Shape
+        ensures { result.now ≡ self.now.layout }
+    {
+        &self.shape
+    }
+
+    /// How many entries there are.
+    pub fn len(&self) -> u64
+        ensures { result ≡ length self.now.entries }
+    {
+        self.entries.len()
+    }
+
+    /// How many ticks went by.
+    pub fn time(&self) -> u64
+        ensures { result ≡ now (past_in self.now) }
+    {
+        self.time
+    }
+
+    /// How many calls there are of this kind.
+    pub fn calls(&self, kind: usize) -> u64
+        requires { kind < call_kinds }
+        ensures { result ≡ figures.calls_of (past_in self.now) kind }
+    {
+        self.kinds.calls.count(kind)
+    }
+
+    /// How many replies there are of this kind.
+    pub fn replies(&self, kind: usize) -> u64
+        requires { kind < reply_kinds }
+        ensures { result ≡ figures.replies_of (past_in self.now) kind }
+    {
+        self.kinds.replies.count(kind)
+    }
+
+    /// How many runs of the item were started.
+    pub fn runs(&self, item: ItemId) -> u64
+        requires { item.0 < self.now.layout.items }
+        ensures { result ≡ figures.runs_of (past_in self.now) item.0 }
+    {
+        self.items.runs.count(item.0.into())
+    }
+
+    /// How many queueings of the item were cancelled.
+    pub fn cancels(&self, item: ItemId) -> u64
+        requires { item.0 < self.now.layout.items }
+        ensures { result ≡ figures.cancels_of (past_in self.now) item.0 }
+    {
+        self.items.cancels.count(item.0.into())
+    }
+
+    /// How many calls the caller made.
+    pub fn calls_by(&self, caller: CallerId) -> u64
+        requires { caller.0 < self.now.layout.callers }
+        ensures { result ≡ figures.calls_by (past_in self.now) caller.0 }
+    {
+        self.callers.calls.count(caller.0.into())
+    }
+
+    /// How many tickets the caller was given.
+    pub fn tickets(&self, caller: CallerId) -> u64
+        requires { caller.0 < self.now.layout.callers }
+        ensures { result ≡ figures.tickets_of (past_in self.now) caller.0 }
+    {
+        self.callers.tickets.count(caller.0.into())
+    }
+
+    /// How many runs the worker with this number started.
+    pub fn starts_by(&self, worker: usize) -> u64
+        requires { worker < 16 * self.now.layout.cpus }
+        ensures { result ≡ figures.starts_by (past_in self.now) worker }
+    {
+        self.workers.runs.count(worker)
+    }
+
+    /// How long the worker's runs were awake.
+    pub fn awake(&self, worker: WorkerId) -> Span
+        requires here { worker.pool.cpu.0 < self.now.layout.cpus }
+        requires index { worker.index < 8 }
+        ensures entries { result.entries ≡ spans.awake_entries (past_in self.now) worker }
+        ensures ticks { result.ticks ≡ spans.awake_ticks (past_in self.now) worker }
+    {
+        activity_in(&self.workers.activities, worker).awake(self.span())
+    }
+
+    /// How long they slept.
+    pub fn asleep(&self, worker: WorkerId) -> Span
+        requires here { worker.pool.cpu.0 < self.now.layout.cpus }
+        requires index { worker.index < 8 }
+        ensures entries { result.entries ≡ spans.asleep_entries (past_in self.now) worker }
+        ensures ticks { result.ticks ≡ spans.asleep_ticks (past_in self.now) worker }
+    {
+        activity_in(&self.workers.activities, worker).asleep(self.span())
+    }
+
+    /// How many entries and ticks there are.
+    fn span(&self) -> Span
+        ensures is { result ≡ behind (past_in self.now) }
+        ensures few { result.entries ≤ 4611686018427387904 }
+    {
+        Span {
+            entries: self.entries.len(),
+            ticks: self.time,
+        }
+    }
+
+    /// How many queueings there were at the place with this number.
+    pub fn queueings_at(&self, place: usize) -> u64
+        requires { place < 4 * length self.now.layout.queues }
+        ensures { result ≡ figures.queueings_at (past_in self.now) place }
+    {
+        self.places.queueings.count(place)
+    }
+
+    /// How many of them started.
+    pub fn starts_at(&self, place: usize) -> u64
+        requires { place < 4 * length self.now.layout.queues }
+        ensures { result ≡ figures.starts_at (past_in self.now) place }
+    {
+        self.places.starts.count(place)
+    }
+
+    /// How many of them were cancelled before that.
+    pub fn cancels_at(&self, place: usize) -> u64
+        requires { place < 4 * length self.now.layout.queues }
+        ensures { result ≡ figures.cancels_at (past_in self.now) place }
+    {
+        self.places.cancels.count(place)
+    }
+}

@@ -1,0 +1,89 @@
+use crate::same::same;
+use cmwq_base::{FailsAt, Memory};
+use cmwq_cmd_chart::*;
+use std::process::Abort;
+
+const HISTORY: &[u8] = b"history 2
+shape 1 2 1 3 100
+wq 1 -
+c0 0 queue 0 0 0 = yes 0
+w0n0 0 take = started 0 enlist 1
+w0n0 1 sleep = slept
+w0n0 2 wake = woke
+w0n0 3 finish = finished 0
+";
+
+/// How the picture ends: the only bar, and its sleep.
+const END: &[u8] =
+    b"<rect class=\"run k0\" data-item=\"0\" data-queueing=\"0\" data-worker=\"w0n0\" x=\"124\" y=\"78\" width=\"96\" height=\"14\"><title>item 0, queueing 0: entries 1 to 4</title></rect><text class=\"item\" x=\"126\" y=\"89\">0</text>
+<rect class=\"sleep\" x=\"148\" y=\"78\" width=\"48\" height=\"14\"><title>asleep: entries 2 to 3</title></rect>
+</svg>
+";
+
+const WHOLE: Window = Window { from: 0, to: 100 };
+
+/// Memory to write, which has room for what is drawn or told.
+fn room(rt: &(impl Abort + AllocGlobal)) -> Memory<Vec<u8>> {
+    Memory::writer(rt.alloc(), 4000).expect(rt, "memory")
+}
+
+#[test]
+fn draws_a_run_and_its_sleep(rt: HostRuntime) {
+    let mut output = room(&rt);
+    let mut errors = room(&rt);
+    let mut input = Memory::reader(HISTORY);
+    let status = run_chart(rt.alloc(), &mut input, &mut output, &mut errors, WHOLE);
+    same(&rt, (status, errors.as_slice()), (0, b"".as_slice()));
+    assert!(rt;
+        output.as_slice().starts_with(
+            b"<svg xmlns=\"http://www.w3.org/2000/svg\" width=\"1200\" height=\"122\""
+        )
+    );
+    assert!(rt; output.as_slice().ends_with(END));
+}
+
+/// Draws a text of which nothing is to be written.
+fn refuses(rt: &(impl Abort + AllocGlobal), text: &[u8], status: u8, told: &[u8]) {
+    let mut output = room(rt);
+    let mut errors = room(rt);
+    let mut input = Memory::reader(text);
+    let ended = run_chart(rt.alloc(), &mut input, &mut output, &mut errors, WHOLE);
+    same(
+        rt,
+        (ended, output.as_slice(), errors.as_slice()),
+        (status, b"".as_slice(), told),
+    );
+}
+
+#[test]
+fn draws_no_illegal_history(rt: HostRuntime) {
+    refuses(
+        &rt,
+        b"shape 1 2 1 3 100\nwq 1 -\nc0 0 queue 0 0 0 = no\n",
+        3,
+        b"illegal at 0: reply yes 0\n",
+    );
+}
+
+#[test]
+fn draws_no_other_text(rt: HostRuntime) {
+    refuses(
+        &rt,
+        b"history 2\nshape 1 2 1 3 100\n",
+        1,
+        b"cmwq: line 3: bad shape\n",
+    );
+}
+
+#[test]
+fn a_fault_of_the_output_is_told(rt: HostRuntime) {
+    let mut output = FailsAt::new(room(&rt), 1);
+    let mut errors = room(&rt);
+    let mut input = Memory::reader(HISTORY);
+    let status = run_chart(rt.alloc(), &mut input, &mut output, &mut errors, WHOLE);
+    same(
+        &rt,
+        (status, output.inner().as_slice(), errors.as_slice()),
+        (5, b"".as_slice(), b"cmwq: write fault\n".as_slice()),
+    );
+}

@@ -1,6 +1,0 @@
-use Rattle.cmwq_theory_steps.proofs.Causes.{cause_of}
-use Rattle.cmwq_theory_steps.proofs.Reasons.{book_reason}
-use Rattle.cmwq_theory_steps.proofs.reply_reasons.booked_were_idle.Goals as goal
-
-pub returns : goal.returns
-returns c = λ s past e legal d h. book_reason s past e.who e.call e.reply d (cause_of s past e legal) h

@@ -1,6 +1,0 @@
-use Rattle.cmwq_theory_steps.proofs.Causes.{cause_of}
-use Rattle.cmwq_theory_steps.proofs.Reasons.{again_reason}
-use Rattle.cmwq_theory_steps.proofs.reply_reasons.queued_again_were_pending.Goals as goal
-
-pub returns : goal.returns
-returns c = λ s past e legal k h. again_reason s past e.who e.call e.reply k (cause_of s past e legal) h

@@ -1,6 +1,0 @@
-use Rattle.cmwq_theory_steps.proofs.Causes.{cause_of}
-use Rattle.cmwq_theory_steps.proofs.Reasons.{start_reason}
-use Rattle.cmwq_theory_steps.proofs.reply_reasons.starts_are_next.Goals as goal
-
-pub returns : goal.returns
-returns c = λ s past e legal n h. start_reason s past e.who e.call e.reply n (cause_of s past e legal) h

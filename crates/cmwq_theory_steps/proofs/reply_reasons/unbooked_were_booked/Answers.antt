@@ -1,6 +1,0 @@
-use Rattle.cmwq_theory_steps.proofs.Causes.{cause_of}
-use Rattle.cmwq_theory_steps.proofs.Reasons.{unbook_reason}
-use Rattle.cmwq_theory_steps.proofs.reply_reasons.unbooked_were_booked.Goals as goal
-
-pub returns : goal.returns
-returns c = λ s past e legal h. unbook_reason s past e.who e.call e.reply (cause_of s past e legal) h
