@@ -1,5 +1,6 @@
 -- What the texts of whole files keep.
-use Rattle.cmwq_base.specs.Common.{◌≡◌, ◌⊎◌, ◌↔◌, ℕ, ◌≤◌, true, false, List, ◌++◌, length, map, Ok, IsTrue, All, Who, Call, Entry, QueueShape, layout_of, is_layout, IsWho, IsCall, IsEntry, greatest, greatest_number, number_limit, allows_queue, allows_entry, flags_in, queue_with, width_taken, last_text, text_of_format, counts_in, calls_text}
+use Rattle.std.specs.Prelude.{◌≡◌, ◌⊎◌, ◌↔◌, ◌≤◌, ◌++◌}
+use Rattle.cmwq_base.specs.Common.{ℕ, true, false, List, length, map, Ok, IsTrue, All, Who, Call, Entry, QueueShape, layout_of, is_layout, IsWho, IsCall, IsEntry, greatest, greatest_number, number_limit, allows_queue, allows_entry, flags_in, queue_with, width_taken, last_text, text_of_format, counts_in, calls_text}
 use Rattle.cmwq_base.specs.Files.{File, IsSound, is_long}
 use Rattle.cmwq_base.specs.Kinds.{calls_kind, call_file_of, history_kind, history_file_of, front_file_of}
 use Rattle.cmwq_base.specs.Pieces.{whole_lines, cut_line}

@@ -1,7 +1,8 @@
 -- Files of calls and histories: what is read of a whole text, or the first refusal. Both are a shape line, the queues' lines, and then lines
 -- of one kind, which differ in how a queue and such a line is read, and in what has to be inside the shape. Before the shape line a line may say
 -- that the format is 2 or 3. A format may have a last line, which says how many lines of the kind stand before it.
-use Rattle.cmwq_base.specs.Common.{◌≡◌, ◌⊎◌, ℕ, ◌+◌, ◌≤◌, Bool, true, false, not, ◌&&◌, ◌==◌, IsTrue, if◌then◌else◌, List, [], ◌∷◌, ◌++◌, length, Option, Some, None, Result, Ok, Err, nat_lt, nat_le, All, Counts, QueueShape, Layout, layout_of, is_layout, begins_queue, end_of, line_limit, room_limit, counts_of_format}
+use Rattle.std.specs.Prelude.{◌≡◌, ◌⊎◌, ◌+◌, ◌≤◌, ◌&&◌, ◌==◌, if◌then◌else◌, ◌∷◌, ◌++◌}
+use Rattle.cmwq_base.specs.Common.{ℕ, Bool, true, false, not, IsTrue, List, [], length, Option, Some, None, Result, Ok, Err, nat_lt, nat_le, All, Counts, QueueShape, Layout, layout_of, is_layout, begins_queue, end_of, line_limit, room_limit, counts_of_format}
 use Rattle.cmwq_base.specs.declared.refusal.Refusal.{Refusal}
 use Rattle.cmwq_base.specs.declared.refusal.Refusal.TheVariants as refusal
 use Rattle.cmwq_base.specs.Pieces.{pieces}

@@ -1,5 +1,6 @@
 -- What the next line of a file may say.
-use Rattle.cmwq_base.specs.Common.{◌≡◌, ℕ, ◌<◌, List, Some, line_limit}
+use Rattle.std.specs.Prelude.{◌≡◌, ◌<◌}
+use Rattle.cmwq_base.specs.Common.{ℕ, List, Some, line_limit}
 use Rattle.cmwq_base.specs.Files.{Kind}
 
 -- a line says it in a format that allows one more behind the first n

@@ -1,5 +1,6 @@
 -- A text by its line feeds.
-use Rattle.cmwq_base.specs.Common.{ℕ, List, [], ◌∷◌, ◌++◌, slice_split, is_feed}
+use Rattle.std.specs.Prelude.{◌∷◌, ◌++◌}
+use Rattle.cmwq_base.specs.Common.{ℕ, List, [], slice_split, is_feed}
 
 -- the lines of a text, and behind them what stands after the last line feed
 abbrev pub pieces : List ℕ → List (List ℕ)

@@ -1,5 +1,6 @@
 -- A stage of the reader as the definitions see it. What gathers the items is seen as a shape and a list.
-use Rattle.cmwq_base.specs.Common.{◌≡◌, ℕ, ◌+◌, ◌≤◌, true, List, length, IsTrue, All, Layout, line_limit, room_limit}
+use Rattle.std.specs.Prelude.{◌≡◌, ◌+◌, ◌≤◌}
+use Rattle.cmwq_base.specs.Common.{ℕ, true, List, length, IsTrue, All, Layout, line_limit, room_limit}
 use Rattle.cmwq_base.specs.declared.stage.Stage.{Stage as ReaderStage}
 use Rattle.cmwq_base.specs.declared.stage.Stage.TheVariants as reader
 use Rattle.cmwq_base.specs.declared.stage.Contents.{Contents}

@@ -1,7 +1,7 @@
 -- What the files of this crate name from outside it, in one import.
 pub use Rattle.std.proofs.Common.{Err, Result, ap, arith, refl, subst, sym, ◌++◌, ◌∙◌}
 pub use Rattle.std.proofs.raw_atomic.Walks.{leaves, proved, proved_at}
-pub use Rattle.std.specs.Prelude.{nat_lt, not, option_map, ◌+◌}
+pub use Rattle.std.specs.Prelude.{nat_lt, not, option_map}
 pub use Rattle.std_alloc.proofs.BoxSteps.Steps.{box_in, box_out}
 pub use Rattle.std_alloc.specs.Box.Ownership.{box_owns}
 pub use Rattle.core.proofs.alloc.Calls.{Al, Goes-blank, handle_tells}
@@ -32,7 +32,7 @@ pub use mir.Val.{Val, WT, has_ty, of_list, vcons, vnil, vptr, vstruct}
 pub use prog.Wp.{WpFn}
 pub use seplogic.Ra.Ura.{Ura}
 pub use types.ByLocal.{alloc_all, env, free_all, get, get_in, lands_as, lands_last, look_at, pass_all, sets}
-pub use types.Kit.{ !, Goal, Item, Seq, Step, at_ret, await, by, feq_i, feq_l, fjoin, fpack, fpick, fsplit, fsplit3, join, keep, later, move, pick, qed, raw, rewrite, split, split3, step, suffices, use0, use1, ‵, ◌$◌, ◌∵◌, ◌⊛◌}
+pub use types.Kit.{!, Goal, Item, Seq, Step, at_ret, await, by, feq_i, feq_l, fjoin, fpack, fpick, fsplit, fsplit3, join, keep, later, move, pick, qed, raw, rewrite, split, split3, step, suffices, use0, use1, ‵, ◌$◌, ◌∵◌, ◌⊛◌}
 pub use types.Logic.{Logic, sem}
 pub use types.Part.{agg, sub, whole}
 pub use types.Run.{and_then, blocks, enter, exec, first, fld, lit, no_more, of_opd, returns, stop}

@@ -1,6 +1,6 @@
 -- Where the fields of a struct lie in memory, in bytes from its start, by the kit's own definition of what lies where.
-use Rattle.cmwq_c.specs.Common.{◌+◌, Ty, RattleType, layout}
-use Rattle.std.specs.Prelude.{◌≡◌, ℕ, List, [], ◌∷◌}
+use Rattle.cmwq_c.specs.Common.{Ty, RattleType, layout}
+use Rattle.std.specs.Prelude.{◌≡◌, ℕ, List, [], ◌∷◌, ◌+◌}
 use mathlib.Core.Option.{Option, none, some}
 use prog.Memory.{field_of}
 

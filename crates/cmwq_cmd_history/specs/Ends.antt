@@ -1,5 +1,6 @@
 -- How a run of one of the program's words ends: it has read all of its input, and then writes all of its answer, or a fault stopped it.
-use Rattle.cmwq_cmd_history.specs.Common.{◌≡◌, ℕ, max, List, Result, Ok, Err, Option, Keeps, Appends, AppendsFront, Refusal}
+use Rattle.std.specs.Prelude.{◌≡◌}
+use Rattle.cmwq_cmd_history.specs.Common.{ℕ, max, List, Result, Ok, Err, Option, Keeps, Appends, AppendsFront, Refusal}
 use Rattle.cmwq_base.specs.declared.refusal.Refusal.TheVariants as refusal
 
 -- a word answers r of the file x, and spells that as a text

@@ -1,5 +1,6 @@
 -- What callers see of a history that is judged while it is read: its shape, and all entries that came, of which none is kept.
-use Rattle.cmwq_cmd_history.specs.Common.{◌≡◌, ◌≤◌, ◌*◌, ◌^◌, List, length, Option, None, Some, Entry, Illegal, Layout, now, IsLegal, past_of, IsFirstWrong}
+use Rattle.std.specs.Prelude.{◌≡◌, ◌≤◌, ◌*◌, ◌^◌}
+use Rattle.cmwq_cmd_history.specs.Common.{List, length, Option, None, Some, Entry, Illegal, Layout, now, IsLegal, past_of, IsFirstWrong}
 use Rattle.cmwq_core.specs.Judged.{Judged}
 
 pub record Seen : Type 0 where

@@ -1,5 +1,6 @@
 -- What a live run of `step` reads, writes and answers: each call is answered before the next line is read.
-use Rattle.cmwq_cmd_history.specs.Common.{◌≡◌, ◌⊎◌, ℕ, ◌+◌, ◌≤◌, ◌==◌, if◌then◌else◌, List, [], ◌∷◌, ◌++◌, length, take, fold, reverse, Result, Ok, Err, Option, None, Some, Appends, AppendsFront, Who, Call, Entry, Layout, entry_for, past_of, Steps, step, steps, none, has_room, History, past_in, entry_text, head_text, body_text, last_text, Refusal, pieces, Kind, Stage, begin, opened, head, body, ended, is_long, after_line, calls_kind, call_file_of}
+use Rattle.std.specs.Prelude.{◌≡◌, ◌⊎◌, ◌+◌, ◌≤◌, ◌==◌, if◌then◌else◌, ◌∷◌, ◌++◌}
+use Rattle.cmwq_cmd_history.specs.Common.{ℕ, List, [], length, take, fold, reverse, Result, Ok, Err, Option, None, Some, Appends, AppendsFront, Who, Call, Entry, Layout, entry_for, past_of, Steps, step, steps, none, has_room, History, past_in, entry_text, head_text, body_text, last_text, Refusal, pieces, Kind, Stage, begin, opened, head, body, ended, is_long, after_line, calls_kind, call_file_of}
 use Rattle.cmwq_base.specs.declared.refusal.Refusal.TheVariants as refusal
 use Rattle.cmwq_cmd_history.specs.Ends.{written_version, refusal_status}
 use Rattle.cmwq_cmd_history.specs.Step.{StepEnds}

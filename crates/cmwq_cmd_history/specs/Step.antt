@@ -1,5 +1,6 @@
 -- What a run of `step` reads, writes and answers.
-use Rattle.cmwq_cmd_history.specs.Common.{◌≡◌, ℕ, zero, suc, List, Result, Ok, Err, Option, reverse, Who, Call, Steps, steps, text_of_format, Refusal, File, call_file_of}
+use Rattle.std.specs.Prelude.{◌≡◌}
+use Rattle.cmwq_cmd_history.specs.Common.{ℕ, zero, suc, List, Result, Ok, Err, Option, reverse, Who, Call, Steps, steps, text_of_format, Refusal, File, call_file_of}
 use Rattle.cmwq_cmd_history.specs.Ends.{Word, RunEnds, written_version, refusal_status}
 
 abbrev pub steps_in : File (Who × Call) → Steps

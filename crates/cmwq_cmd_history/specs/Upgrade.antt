@@ -1,5 +1,6 @@
 -- What a run of `upgrade` reads, writes and answers.
-use Rattle.cmwq_cmd_history.specs.Common.{◌≡◌, ◌≤◌, ℕ, List, [], Result, Ok, Option, None, Some, Entry, Illegal, text_of_format, Refusal, File, history_file_of}
+use Rattle.std.specs.Prelude.{◌≡◌, ◌≤◌}
+use Rattle.cmwq_cmd_history.specs.Common.{ℕ, List, [], Result, Ok, Option, None, Some, Entry, Illegal, text_of_format, Refusal, File, history_file_of}
 use Rattle.cmwq_cmd_history.specs.Ends.{Word, RunEnds, written_version}
 use Rattle.cmwq_cmd_history.specs.Check.{IsVerdict}
 

@@ -1,5 +1,6 @@
 -- What `step`, `upgrade` and a journal write, and `check` on that.
-use Rattle.cmwq_cmd_history_laws.specs.Common.{◌≡◌, ◌⊎◌, ◌≤◌, ℕ, List, [], Result, Ok, Option, None, Some, IsTrue, length, reverse, All, Who, Call, Entry, Illegal, Layout, is_layout, now, IsLegal, past_of, IsWho, IsCall, most_time, greatest_number, most_lines, text_of_format, Refusal, File, call_file_of, history_file_of, written_version, IsVerdict, CheckEnds, check_status, steps_in, answer_text, StepEnds}
+use Rattle.std.specs.Prelude.{◌≡◌, ◌⊎◌, ◌≤◌}
+use Rattle.cmwq_cmd_history_laws.specs.Common.{ℕ, List, [], Result, Ok, Option, None, Some, IsTrue, length, reverse, All, Who, Call, Entry, Illegal, Layout, is_layout, now, IsLegal, past_of, IsWho, IsCall, most_time, greatest_number, most_lines, text_of_format, Refusal, File, call_file_of, history_file_of, written_version, IsVerdict, CheckEnds, check_status, steps_in, answer_text, StepEnds}
 use Rattle.cmwq_cmd_history.specs.Upgrade.{upgraded_text, UpgradeEnds}
 
 -- the history that the calls of a file make, with their shape: of format 3 where the file is, and else of format 2

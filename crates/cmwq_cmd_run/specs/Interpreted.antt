@@ -1,5 +1,6 @@
 -- What a run of an item makes: what its actions make, in their order.
-use Rattle.cmwq_cmd_run.specs.Common.{◌≡◌, ◌⊎◌, ◌&&◌, List, [], ◌∷◌, MatchBool, MatchOption, slice_get, Call, Layout, has_numbers, View, Refused, Full, Behavior, MakesOne, Action, is_own}
+use Rattle.std.specs.Prelude.{◌≡◌, ◌⊎◌, ◌&&◌, ◌∷◌}
+use Rattle.cmwq_cmd_run.specs.Common.{List, [], MatchBool, MatchOption, slice_get, Call, Layout, has_numbers, View, Refused, Full, Behavior, MakesOne, Action, is_own}
 use Rattle.cmwq_model.specs.declared.call.Call.TheVariants as call
 use Rattle.cmwq_json_script.specs.declared.action.Action.TheVariants as action
 

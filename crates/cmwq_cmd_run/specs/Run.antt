@@ -1,5 +1,6 @@
 -- What `run` reads, writes and answers.
-use Rattle.cmwq_cmd_run.specs.Common.{◌≡◌, ◌⊎◌, ℕ, zero, suc, List, Result, Ok, Err, Option, Some, slice_get, MatchOption, Keeps, Appends, IsLegal, past_of, Says, IsNoJson, IsLong, RunFault, Run, run_said}
+use Rattle.std.specs.Prelude.{◌≡◌, ◌⊎◌}
+use Rattle.cmwq_cmd_run.specs.Common.{ℕ, zero, suc, List, Result, Ok, Err, Option, Some, slice_get, MatchOption, Keeps, Appends, IsLegal, past_of, Says, IsNoJson, IsLong, RunFault, Run, run_said}
 use Rattle.cmwq_io.specs.Moves.{AppendsFront}
 use Rattle.cmwq_model.specs.declared.entry.Entry.{Entry}
 use Rattle.cmwq_text.specs.HistoryText.{text_of_format}

@@ -1,5 +1,6 @@
 -- Which calls a book may be asked to answer.
-use Rattle.cmwq_core.specs.Common.{◌<◌, length, Call, Layout}
+use Rattle.std.specs.Prelude.{◌<◌}
+use Rattle.cmwq_core.specs.Common.{length, Call, Layout}
 use Rattle.cmwq_model.specs.declared.call.Call.TheVariants as call
 
 -- the numbers of the call are inside the layout

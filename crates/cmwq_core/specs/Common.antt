@@ -4,7 +4,7 @@ pub use Rattle.std.proofs.lemmas.Bool.{and_parts, eqb-true, le-leb, leb-true, lt
 pub use Rattle.std.proofs.lemmas.List.{length-map, length-take-le, reverse-append, take_more}
 pub use Rattle.std.proofs.lemmas.Option.{same_Some}
 pub use Rattle.std.specs.Option.{option_map_or, option_or}
-pub use Rattle.std.specs.Prelude.{Contains, IsTrue, flat_map, if◌then◌else◌, option_and_then, option_map, ◌++◌}
+pub use Rattle.std.specs.Prelude.{Contains, IsTrue, flat_map, if◌then◌else◌, option_and_then, option_map}
 pub use Rattle.cmwq_inflight.specs.Flights.{Flight, with_started, with_unstarted, without_run}
 pub use Rattle.cmwq_lemmas.proofs.Members.{found, in_contained}
 pub use Rattle.cmwq_model.specs.Prelude.{AllFit, IsFirstWrong, Layout, Wants, bits, booking, booking_of, cpu_for, cpu_workers, entry_for, fired_answer, first_due, fits, gives_ticket, has_not_started, has_numbers, has_room, has_run, has_time, indices, is_at, is_booked, is_done, is_frozen, is_gone, is_layout, is_of_item, is_pending, is_started, is_unstarted, item_at, item_called, item_fired, item_number, item_of, item_run, may_make, most_time, next, number_finished, number_started, opening, past_of, pool_workers, queueing_at, run, runs_asleep, settles, still_open, ticket_in, ticks_told, unended_tickets, unstarted_queueing, waits_for, worker_at, workers}

@@ -1,5 +1,6 @@
 -- What an entry does, in the pieces in which it is found.
-use Rattle.cmwq_core.specs.Common.{◌≡◌, ℕ, ◌+◌, ◌*◌, ◌<◌, Bool, false, is_some, List, Option, Some, None, Who, Caller, Worker, Reply, Queueing, Entry, next, number_started, number_finished, gives_ticket, is_done, Layout, item_of, one, is_slept, is_woke, is_frozen_now, is_thawed_now}
+use Rattle.std.specs.Prelude.{◌≡◌, ◌+◌, ◌*◌, ◌<◌}
+use Rattle.cmwq_core.specs.Common.{ℕ, Bool, false, is_some, List, Option, Some, None, Who, Caller, Worker, Reply, Queueing, Entry, next, number_started, number_finished, gives_ticket, is_done, Layout, item_of, one, is_slept, is_woke, is_frozen_now, is_thawed_now}
 use Rattle.cmwq_model.specs.declared.reply.Reply.TheVariants as reply
 
 -- of what the caller runs and the item's unstarted queueing, the one that the reply ends

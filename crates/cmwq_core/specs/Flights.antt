@@ -1,5 +1,6 @@
 -- What becomes of whether an item runs and waits.
-use Rattle.cmwq_core.specs.Common.{ℕ, ◌==◌, true, false, if◌then◌else◌, Option, Some, None, is_some, Queueing, Reply, number_finished, Flight}
+use Rattle.std.specs.Prelude.{◌==◌, if◌then◌else◌}
+use Rattle.cmwq_core.specs.Common.{ℕ, true, false, Option, Some, None, is_some, Queueing, Reply, number_finished, Flight}
 use Rattle.cmwq_core.specs.declared.marks.Standing.{Standing}
 
 abbrev pub flight_standing : Flight → Standing

@@ -1,5 +1,6 @@
 -- What callers see of a book: its history with the shape and the room, and what one more call makes of it.
-use Rattle.cmwq_core.specs.Common.{◌≡◌, ℕ, Bool, false, not, if◌then◌else◌, List, ◌∷◌, find, Option, Some, option_map, is_some, option_map_or, ItemId, Who, Call, Entry, Queueing, Ticket, is_at, number_started, queueing_at, unended_tickets, waits_for, entry_for, bits, has_room, item_marked}
+use Rattle.std.specs.Prelude.{◌≡◌, if◌then◌else◌, ◌∷◌}
+use Rattle.cmwq_core.specs.Common.{ℕ, Bool, false, not, List, find, Option, Some, option_map, is_some, option_map_or, ItemId, Who, Call, Entry, Queueing, Ticket, is_at, number_started, queueing_at, unended_tickets, waits_for, entry_for, bits, has_room, item_marked}
 use Rattle.cmwq_model.specs.declared.entry.Mark.{Mark}
 pub use Rattle.cmwq_state.specs.History.{History, past_in, with_entry, ticket_has_number}
 pub use Rattle.cmwq_state.specs.Tables.{IsThere}

@@ -1,5 +1,6 @@
 -- What callers see of a judge: the entries that were right so far.
-use Rattle.cmwq_core.specs.Common.{List, [], ◌∷◌, ◌++◌, Entry, Layout}
+use Rattle.std.specs.Prelude.{◌∷◌, ◌++◌}
+use Rattle.cmwq_core.specs.Common.{List, [], Entry, Layout}
 
 -- the entries stand with the oldest first
 pub record Judged : Type 0 where

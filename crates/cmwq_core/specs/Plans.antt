@@ -1,5 +1,6 @@
 -- What a book would make next.
-use Rattle.cmwq_core.specs.Common.{◌≡◌, ◌+◌, ◌≤◌, true, length, Who, Call, has_time, IsEffect}
+use Rattle.std.specs.Prelude.{◌≡◌, ◌+◌, ◌≤◌}
+use Rattle.cmwq_core.specs.Common.{true, length, Who, Call, has_time, IsEffect}
 use Rattle.cmwq_core.specs.declared.plan.Plan.{Plan}
 use Rattle.cmwq_core.specs.History.{History, past_in, IsMark}
 

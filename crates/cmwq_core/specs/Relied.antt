@@ -1,5 +1,6 @@
 -- What a user relies on, of the history of every book.
-use Rattle.cmwq_core.specs.Common.{◌≡◌, ℕ, true, List, Entry, Layout, is_gone, IsLegal, OfEachEntry}
+use Rattle.std.specs.Prelude.{◌≡◌}
+use Rattle.cmwq_core.specs.Common.{ℕ, true, List, Entry, Layout, is_gone, IsLegal, OfEachEntry}
 use Rattle.cmwq_theory_laws.specs.Headline.{RunsInOneWorker, StartedOnce, StartsEarlier, WithinWidthAfter, StartsActive, RunsWithinActive, WaitsEndAfter, CancelsSettle}
 use Rattle.cmwq_theory_laws.specs.Gone.{NoneOpen, NoneBooked}
 

@@ -1,5 +1,6 @@
 -- What holds of a flush book and its colours at every moment.
-use Rattle.cmwq_flush.specs.Common.{◌≡◌, ◌≢◌, ◌↔◌, ℕ, ◌+◌, ◌*◌, ◌<◌, ◌≤◌, Bool, List, length, take, All, AllPairs, IsTrue, slice_index, HoldsAt, IsNonDecreasingBy}
+use Rattle.std.specs.Prelude.{◌≡◌, ◌≢◌, ◌↔◌, ◌+◌, ◌*◌, ◌<◌, ◌≤◌}
+use Rattle.cmwq_flush.specs.Common.{ℕ, Bool, List, length, take, All, AllPairs, IsTrue, slice_index, HoldsAt, IsNonDecreasingBy}
 use Rattle.cmwq_flush.specs.declared.served.Served.{Served}
 use Rattle.cmwq_flush.specs.declared.tally.Row.{Row}
 use Rattle.cmwq_flush.specs.Numbers.{AreRising}

@@ -10,4 +10,4 @@ pub use Rattle.std.proofs.lemmas.List.Sorted.{IsNonDecreasingBy-push, answers_al
 pub use Rattle.std.proofs.lemmas.List.Sums.{count_by-le-length, fails_before_first, get_or-le-sum_by, length-filter, passes_at_first, prefix_len-le-length, sum_by-le, sum_by-remove}
 pub use Rattle.std.specs.List.{HoldsAt, position_or_len, range_with_len, remove}
 pub use Rattle.std.specs.List.Sorted.{IsBinarySearchResult, IsNonDecreasingBy, IsSearchInRange}
-pub use Rattle.std.specs.Prelude.{All, AllPairs, Contains, IsTrue, count_by, filter, find, map, nat_lt, slice_get, slice_index, ◌*◌, ◌==◌, ◌↔◌}
+pub use Rattle.std.specs.Prelude.{All, AllPairs, Contains, IsTrue, count_by, filter, find, map, nat_lt, slice_get, slice_index, ◌↔◌}

@@ -1,5 +1,6 @@
 -- Lists of numbers that rise: of open queueings, and of tickets by age.
-use Rattle.cmwq_flush.specs.Common.{◌≡◌, ◌≢◌, ℕ, ◌<◌, Bool, not, ◌==◌, List, length, All, AllPairs, filter, HoldsAt}
+use Rattle.std.specs.Prelude.{◌≡◌, ◌≢◌, ◌<◌, ◌==◌}
+use Rattle.cmwq_flush.specs.Common.{ℕ, Bool, not, List, length, All, AllPairs, filter, HoldsAt}
 
 abbrev pub IsBelowNumber : ℕ → ℕ → Type 0
 IsBelowNumber n m = n < m

@@ -1,5 +1,6 @@
 -- Open queueings with their colours, and how many have each.
-use Rattle.cmwq_flush.specs.Common.{◌≡◌, ◌≢◌, ℕ, ◌<◌, ◌≤◌, Bool, not, ◌==◌, List, length, map, filter, All, AllPairs, count_by, slice_index, HoldsAt}
+use Rattle.std.specs.Prelude.{◌≡◌, ◌≢◌, ◌<◌, ◌≤◌, ◌==◌}
+use Rattle.cmwq_flush.specs.Common.{ℕ, Bool, not, List, length, map, filter, All, AllPairs, count_by, slice_index, HoldsAt}
 use Rattle.cmwq_flush.specs.declared.tally.Row.{Row}
 
 abbrev pub row_number : Row → ℕ

@@ -1,5 +1,6 @@
 -- Flushes that are served, by age.
-use Rattle.cmwq_flush.specs.Common.{◌≡◌, ◌≢◌, ℕ, ◌<◌, Bool, not, ◌==◌, List, length, All, map, nat_lt, HoldsAt, position_or_len}
+use Rattle.std.specs.Prelude.{◌≡◌, ◌≢◌, ◌<◌, ◌==◌}
+use Rattle.cmwq_flush.specs.Common.{ℕ, Bool, not, List, length, All, map, nat_lt, HoldsAt, position_or_len}
 use Rattle.cmwq_flush.specs.declared.served.Served.{Served}
 
 abbrev pub ticket_of_served : Served → ℕ

@@ -1,5 +1,6 @@
 -- Waits by age, and what holds of all barriers at every moment.
-use Rattle.cmwq_flush.specs.Common.{◌≡◌, ◌≢◌, ℕ, ◌*◌, ◌<◌, ◌≤◌, List, [], ◌∷◌, length, All, AllPairs, HoldsAt}
+use Rattle.std.specs.Prelude.{◌≡◌, ◌≢◌, ◌*◌, ◌<◌, ◌≤◌, ◌∷◌}
+use Rattle.cmwq_flush.specs.Common.{ℕ, List, [], length, All, AllPairs, HoldsAt}
 use Rattle.cmwq_flush.specs.declared.barrier.Barrier.{Barrier}
 use Rattle.cmwq_flush.specs.declared.barrier.Open.{Open}
 use Rattle.cmwq_flush.specs.declared.barrier.Open.TheVariants.{Nothing, One, Two}

@@ -5,4 +5,4 @@ pub use Rattle.std.proofs.lemmas.List.{drop-append-le, drop-drop, drop-take, len
 pub use Rattle.std.proofs.lemmas.Result.{err_from_is_err_and}
 pub use Rattle.std.specs.Io.KnownBytes.{Appends, Consumes, Keeps, append_known, prepend_known}
 pub use Rattle.std.specs.List.{after_first, before_first, position, position_or_len}
-pub use Rattle.std.specs.Prelude.{All, IfOk, Result, if◌then◌else◌, nat_le, nat_lt, ⊤, ◌==◌}
+pub use Rattle.std.specs.Prelude.{All, IfOk, Result, nat_le, nat_lt, ⊤}

@@ -1,5 +1,6 @@
 -- What moves out of a source and into a sink, where their bytes are known.
-use Rattle.cmwq_io.specs.Common.{ℕ, ◌<◌, ◌≤◌, List, length, take, Option, Result, IfOk, Appends}
+use Rattle.std.specs.Prelude.{◌<◌, ◌≤◌}
+use Rattle.cmwq_io.specs.Common.{ℕ, List, length, take, Option, Result, IfOk, Appends}
 
 -- at least one of the bytes, and no more than there are
 pub record IsPartLen (n : ℕ) (bytes : List ℕ) : Type 0 where

@@ -1,5 +1,6 @@
 -- The items of an array taken in turn.
-use Rattle.cmwq_json.specs.Common.{ℕ, ◌+◌, Option, Result, Ok, Err, option_map_or, Data, Items, no_items, item}
+use Rattle.std.specs.Prelude.{◌+◌}
+use Rattle.cmwq_json.specs.Common.{ℕ, Option, Result, Ok, Err, option_map_or, Data, Items, no_items, item}
 
 -- Each item adds to what those before it said. The first that can't gives its place, counted on from n.
 abbrev pub in_turn : {S : Type 0} → (S → Data → Option S) → ℕ → S → Items → Result S ℕ

@@ -1,5 +1,6 @@
 -- The keys of an object.
-use Rattle.cmwq_json.specs.Common.{ℕ, suc, Bool, false, ◌&&◌, ◌==◌, List, length, is_some, option_map_or, list_all, Data, Members, no_members, member, get, as_object}
+use Rattle.std.specs.Prelude.{◌&&◌, ◌==◌}
+use Rattle.cmwq_json.specs.Common.{ℕ, suc, Bool, false, List, length, is_some, option_map_or, list_all, Data, Members, no_members, member, get, as_object}
 
 abbrev pub count_of : Members → ℕ
 count_of no_members = 0

@@ -1,5 +1,6 @@
 -- Names, and members that each have one of their own.
-use Rattle.cmwq_json.specs.Common.{ℕ, Bool, ◌&&◌, ◌||◌, not, ◌==◌, if◌then◌else◌, List, [], ◌∷◌, ◌++◌, length, map, position, Option, Some, None, option_and_then, nat_le, nat_lt, bytes_eq, list_any, list_all, Data, as_str}
+use Rattle.std.specs.Prelude.{◌&&◌, ◌||◌, ◌==◌, if◌then◌else◌, ◌∷◌, ◌++◌}
+use Rattle.cmwq_json.specs.Common.{ℕ, Bool, not, List, [], length, map, position, Option, Some, None, option_and_then, nat_le, nat_lt, bytes_eq, list_any, list_all, Data, as_str}
 
 abbrev pub is_in_range : ℕ → ℕ → ℕ → Bool
 is_in_range low high n = nat_le low n && nat_le n high

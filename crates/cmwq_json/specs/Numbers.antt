@@ -1,5 +1,6 @@
 -- Numbers, widths and flags.
-use Rattle.cmwq_json.specs.Common.{ℕ, if◌then◌else◌, Option, Some, None, option_map, option_and_then, min, ◌==◌, Data, as_number, as_u64}
+use Rattle.std.specs.Prelude.{if◌then◌else◌, ◌==◌}
+use Rattle.cmwq_json.specs.Common.{ℕ, Option, Some, None, option_map, option_and_then, min, Data, as_number, as_u64}
 use Rattle.cmwq_json.specs.Names.{is_in_range}
 
 -- a whole number from low to high

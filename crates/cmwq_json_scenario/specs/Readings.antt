@@ -1,5 +1,6 @@
 -- What is read of a scenario, as plain values.
-use Rattle.cmwq_json_scenario.specs.Common.{◌≡◌, length, map, string_bytes, Item, plan_item, plan_of, IsWithinLimits, Named, map_named, named_of}
+use Rattle.std.specs.Prelude.{◌≡◌}
+use Rattle.cmwq_json_scenario.specs.Common.{length, map, string_bytes, Item, plan_item, plan_of, IsWithinLimits, Named, map_named, named_of}
 use Rattle.cmwq_sim.specs.declared.scenario.SimItem.{SimItem}
 use Rattle.cmwq_json.specs.declared.names.Members.{Members}
 use Rattle.cmwq_json_scenario.specs.declared.scenario.ScenarioWithNames.{ScenarioWithNames}

@@ -1,5 +1,6 @@
 -- What a JSON value says of a scenario, or which member of it is refused first.
-use Rattle.cmwq_json_scenario.specs.Common.{ℕ, if◌then◌else◌, List, [], ◌∷◌, ◌++◌, length, Option, Some, None, Result, Ok, Err, option_map, option_and_then, codes, nat_lt, Data, Items, get, as_str, as_array, SimQueue, Plan, Item, in_turn, has_keys, name_said, Named, nobody, number_of_name, add_named, is_in_range, number_between, parts_said}
+use Rattle.std.specs.Prelude.{if◌then◌else◌, ◌∷◌, ◌++◌}
+use Rattle.cmwq_json_scenario.specs.Common.{ℕ, List, [], length, Option, Some, None, Result, Ok, Err, option_map, option_and_then, codes, nat_lt, Data, Items, get, as_str, as_array, SimQueue, Plan, Item, in_turn, has_keys, name_said, Named, nobody, number_of_name, add_named, is_in_range, number_between, parts_said}
 use Rattle.cmwq_input.specs.declared.refused.Refused.{Refused}
 use Rattle.cmwq_json.specs.Parts.{top, queues, items}
 

@@ -1,5 +1,6 @@
 -- Gates, numbered in the order in which they are named first. There are at most 16.
-use Rattle.cmwq_json_script.specs.Common.{ℕ, if◌then◌else◌, List, [], ◌∷◌, ◌++◌, length, Option, Some, None, nat_lt, Data, name_said, number_of_name}
+use Rattle.std.specs.Prelude.{if◌then◌else◌, ◌∷◌, ◌++◌}
+use Rattle.cmwq_json_script.specs.Common.{ℕ, List, [], length, Option, Some, None, nat_lt, Data, name_said, number_of_name}
 use Rattle.cmwq_json_script.specs.Then.{◌>>=◌}
 
 abbrev pub with_gate : List (List ℕ) → List ℕ → Option ℕ → Option (ℕ × List (List ℕ))

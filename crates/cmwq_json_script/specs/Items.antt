@@ -1,5 +1,6 @@
 -- Items: each has a name of its own, and what it does.
-use Rattle.cmwq_json_script.specs.Common.{ℕ, if◌then◌else◌, List, [], ◌∷◌, Option, Some, None, codes, Data, get, has_keys, Named, nobody, add_named}
+use Rattle.std.specs.Prelude.{if◌then◌else◌, ◌∷◌}
+use Rattle.cmwq_json_script.specs.Common.{ℕ, List, [], Option, Some, None, codes, Data, get, has_keys, Named, nobody, add_named}
 use Rattle.cmwq_json_script.specs.declared.action.Action.{Action}
 use Rattle.cmwq_json_script.specs.Then.{◌>>=◌}
 use Rattle.cmwq_json_script.specs.Known.{Known, name_in}

@@ -1,5 +1,6 @@
 -- Queues: each has a name of its own, its max_active and its flags. A freezable that is left out is false.
-use Rattle.cmwq_json_script.specs.Common.{ℕ, Bool, false, ◌||◌, if◌then◌else◌, List, [], ◌∷◌, Option, Some, None, codes, option_map_or, Data, get, as_bool, QueueShape, has_keys, Named, add_named, parts_said}
+use Rattle.std.specs.Prelude.{◌||◌, if◌then◌else◌, ◌∷◌}
+use Rattle.cmwq_json_script.specs.Common.{ℕ, Bool, false, List, [], Option, Some, None, codes, option_map_or, Data, get, as_bool, QueueShape, has_keys, Named, add_named, parts_said}
 use Rattle.cmwq_json_script.specs.Then.{◌>>=◌}
 
 abbrev pub has_queue_keys : Data → Bool

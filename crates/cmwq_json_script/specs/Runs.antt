@@ -1,5 +1,6 @@
 -- What a JSON value says of a run, or which member of it is refused first.
-use Rattle.cmwq_json_script.specs.Common.{ℕ, if◌then◌else◌, List, [], length, Option, Result, Ok, Err, nat_lt, option_map_or, Data, Call, QueueShape, Layout, Refused, in_turn, Named, nobody}
+use Rattle.std.specs.Prelude.{if◌then◌else◌}
+use Rattle.cmwq_json_script.specs.Common.{ℕ, List, [], length, Option, Result, Ok, Err, nat_lt, option_map_or, Data, Call, QueueShape, Layout, Refused, in_turn, Named, nobody}
 use Rattle.cmwq_json.specs.Parts.{top, queues, items, callers}
 use Rattle.cmwq_json_script.specs.declared.action.Action.{Action}
 use Rattle.cmwq_json_script.specs.Tops.{Top, top_said}

@@ -1,5 +1,6 @@
 -- What the reader's scripts are as plain values, and what they keep to.
-use Rattle.cmwq_json_script.specs.Common.{◌≡◌, ℕ, ◌<◌, ◌≤◌, ◌^◌, Bool, true, false, length, List, map, string_bytes, All, AllByRecursion, Call, Layout, is_layout, has_numbers, IsScripted}
+use Rattle.std.specs.Prelude.{◌≡◌, ◌<◌, ◌≤◌, ◌^◌}
+use Rattle.cmwq_json_script.specs.Common.{ℕ, Bool, true, false, length, List, map, string_bytes, All, AllByRecursion, Call, Layout, is_layout, has_numbers, IsScripted}
 use Rattle.cmwq_model.specs.declared.call.Call.TheVariants as call
 use Rattle.cmwq_json_script.specs.declared.action.Action.{Action}
 use Rattle.cmwq_json_script.specs.declared.action.Action.TheVariants as action

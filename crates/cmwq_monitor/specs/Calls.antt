@@ -1,5 +1,6 @@
 -- What a call of one entry promises.
-use Rattle.cmwq_monitor.specs.Common.{◌≡◌, ℕ, List, [], ◌∷◌, ◌++◌, length, map, range_with_len, IsPrefix, Call, Reply, Entry, Layout, serial_of, IsLegal, past_of, entry_for}
+use Rattle.std.specs.Prelude.{◌≡◌, ◌∷◌, ◌++◌}
+use Rattle.cmwq_monitor.specs.Common.{ℕ, List, [], length, map, range_with_len, IsPrefix, Call, Reply, Entry, Layout, serial_of, IsLegal, past_of, entry_for}
 use Rattle.cmwq_monitor.specs.Participants.{View, Gains}
 
 abbrev pub own_entry : Layout → List Entry → View → Call → Entry

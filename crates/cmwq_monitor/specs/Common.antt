@@ -5,7 +5,7 @@ pub use Rattle.std.proofs.lemmas.List.{length-map, map-append, nil_from_length, 
 pub use Rattle.std.proofs.lemmas.List.Elements.{All-append, All-cons, All-nil, filter-append}
 pub use Rattle.std.proofs.lemmas.Option.{same_Some}
 pub use Rattle.std.specs.List.{count_by, filter, range_with_len}
-pub use Rattle.std.specs.Prelude.{All, MatchBool, MatchOption, Option, if◌then◌else◌, slice_get, ◌==◌, ◌||◌, ◌⊎◌}
+pub use Rattle.std.specs.Prelude.{All, MatchBool, MatchOption, Option, slice_get}
 pub use mathlib.Core.List.{IsPrefix}
 pub use Rattle.cmwq_core.specs.History.{History, IsMark, IsThere, takes}
 pub use Rattle.cmwq_model.specs.Prelude.{Layout, entry_for, fits, gives_ticket, has_numbers, has_room, is_active, is_by, is_callers, is_done, is_unstarted, is_workers, number_started, past_of, queueing_at, room_needed, serial_of, still_open, unstarted_queueing}

@@ -1,5 +1,6 @@
 -- What a fault says: a call that answers one has made no entry, or it had begun and tells its ticket.
-use Rattle.cmwq_monitor.specs.Common.{◌≡◌, ◌≢◌, ◌⊎◌, ℕ, ◌<◌, Bool, true, false, [], length, None, Call, Layout, past_of, has_room}
+use Rattle.std.specs.Prelude.{◌≡◌, ◌≢◌, ◌⊎◌, ◌<◌}
+use Rattle.cmwq_monitor.specs.Common.{ℕ, Bool, true, false, [], length, None, Call, Layout, past_of, has_room}
 use Rattle.cmwq_monitor.specs.Participants.{View, Gains, is_caller}
 use Rattle.cmwq_monitor.specs.declared.fault.RunFault.{RunFault}
 use Rattle.cmwq_monitor.specs.declared.fault.RunFault.TheVariants.{NoMemory, Full, Unfinished, NoPlace, Closed, Stranger, NoThread}

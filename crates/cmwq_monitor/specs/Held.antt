@@ -1,5 +1,6 @@
 -- What contracts see of what a hub keeps under its lock.
-use Rattle.cmwq_monitor.specs.Common.{◌≡◌, ℕ, Bool, true, false, ◌&&◌, ◌||◌, ◌==◌, List, [], count_by, Who, Entry, Layout, past_of, still_open, is_active}
+use Rattle.std.specs.Prelude.{◌≡◌, ◌&&◌, ◌||◌, ◌==◌}
+use Rattle.cmwq_monitor.specs.Common.{ℕ, Bool, true, false, List, [], count_by, Who, Entry, Layout, past_of, still_open, is_active}
 use Rattle.cmwq_monitor.specs.Participants.{is_caller}
 use Rattle.cmwq_monitor.specs.declared.fault.RunFault.{RunFault}
 use Rattle.cmwq_monitor.specs.declared.fault.RunFault.TheVariants.{NoMemory, Closed}

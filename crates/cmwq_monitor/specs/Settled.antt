@@ -1,5 +1,6 @@
 -- What a hub's end leaves to those who were handed in.
-use Rattle.cmwq_monitor.specs.Common.{◌≡◌, ℕ, List, Some, slice_get, IsPrefix, Entry, serial_of, past_of}
+use Rattle.std.specs.Prelude.{◌≡◌}
+use Rattle.cmwq_monitor.specs.Common.{ℕ, List, Some, slice_get, IsPrefix, Entry, serial_of, past_of}
 use Rattle.cmwq_monitor.specs.Participants.{View}
 
 -- it sees all of the history, which begins with what it had seen and has as many entries of it as its serial says

@@ -1,5 +1,6 @@
 -- What a worker starts.
-use Rattle.cmwq_monitor.specs.Common.{◌≡◌, ℕ, List, Some, ItemId, Reply, Entry, Queueing, Layout, number_started, queueing_at, past_of}
+use Rattle.std.specs.Prelude.{◌≡◌}
+use Rattle.cmwq_monitor.specs.Common.{ℕ, List, Some, ItemId, Reply, Entry, Queueing, Layout, number_started, queueing_at, past_of}
 use Rattle.cmwq_model.specs.declared.call.Call.TheVariants as call
 use Rattle.cmwq_monitor.specs.Participants.{View}
 use Rattle.cmwq_monitor.specs.Calls.{Extends, own_entry}

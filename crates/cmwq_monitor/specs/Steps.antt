@@ -1,5 +1,6 @@
 -- What one step under the lock leaves.
-use Rattle.cmwq_monitor.specs.Common.{◌≡◌, ◌⊎◌, ◌&&◌, ℕ, ◌≤◌, Bool, true, false, List, [], ◌∷◌, length, All, Option, Some, None, MatchBool, Call, Reply, Entry, Layout, serial_of, IsLegal, past_of, has_room}
+use Rattle.std.specs.Prelude.{◌≡◌, ◌⊎◌, ◌&&◌, ◌≤◌, ◌∷◌}
+use Rattle.cmwq_monitor.specs.Common.{ℕ, Bool, true, false, List, [], length, All, Option, Some, None, MatchBool, Call, Reply, Entry, Layout, serial_of, IsLegal, past_of, has_room}
 use Rattle.cmwq_model.specs.declared.call.Call.TheVariants as call
 use Rattle.cmwq_model.specs.declared.reply.Reply.TheVariants as reply
 use Rattle.cmwq_monitor.specs.Participants.{View, Gains, is_caller, made_by}

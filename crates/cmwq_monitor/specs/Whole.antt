@@ -1,5 +1,6 @@
 -- What a whole call does, which may make several entries: a tick fires what is due, and a call that waits ends its ticket.
-use Rattle.cmwq_monitor.specs.Common.{◌≡◌, ◌≢◌, ◌⊎◌, ◌||◌, ℕ, zero, suc, Bool, true, false, if◌then◌else◌, List, [], ◌∷◌, ◌++◌, All, Option, None, MatchOption, MatchBool, IsPrefix, Who, Call, Reply, Entry, Layout, is_by, serial_of, IsLegal, past_of, has_room, gives_ticket}
+use Rattle.std.specs.Prelude.{◌≡◌, ◌≢◌, ◌⊎◌, ◌||◌, if◌then◌else◌, ◌∷◌, ◌++◌}
+use Rattle.cmwq_monitor.specs.Common.{ℕ, zero, suc, Bool, true, false, List, [], All, Option, None, MatchOption, MatchBool, IsPrefix, Who, Call, Reply, Entry, Layout, is_by, serial_of, IsLegal, past_of, has_room, gives_ticket}
 use Rattle.cmwq_model.specs.declared.call.Call.TheVariants as call
 use Rattle.cmwq_model.specs.declared.reply.Reply.TheVariants as reply
 use Rattle.cmwq_theory_steps.specs.Reasons.{number_given}

@@ -1,5 +1,6 @@
 -- The next queueing of a pool, told by when each became active.
-use Rattle.cmwq_plain.specs.Common.{ℕ, Bool, ◌&&◌, if◌then◌else◌, List, [], ◌∷◌, length, fold, Option, Some, None, nat_lt, option_or, PoolId, Entry, Queueing, Layout, queueings, is_active, is_listed, is_startable}
+use Rattle.std.specs.Prelude.{◌&&◌, if◌then◌else◌, ◌∷◌}
+use Rattle.cmwq_plain.specs.Common.{ℕ, Bool, List, [], length, fold, Option, Some, None, nat_lt, option_or, PoolId, Entry, Queueing, Layout, queueings, is_active, is_listed, is_startable}
 use Rattle.cmwq_plain.specs.Past.{upto}
 use Rattle.cmwq_plain.specs.declared.active.Candidate.{Candidate}
 

@@ -6,4 +6,4 @@ pub use Rattle.std.proofs.lemmas.List.Elements.{All-filter, All-nil, All-push, r
 pub use Rattle.std.specs.List.{AllByRecursion, list_any, position_or_len, range_with_len}
 unfoldable pub use Rattle.std.specs.List.{IsDistinct}
 pub use Rattle.std.specs.Option.{option_map_or}
-pub use Rattle.std.specs.Prelude.{All, IfSome, count_by, find, if◌then◌else◌, is_some, nat_eq, nat_lt, option_map, position, remove, replicate, slice_index_or, slice_set, ◌==◌}
+pub use Rattle.std.specs.Prelude.{All, IfSome, count_by, find, is_some, nat_eq, nat_lt, option_map, position, remove, replicate, slice_index_or, slice_set}

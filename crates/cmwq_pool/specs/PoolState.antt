@@ -1,5 +1,6 @@
 -- A pool as one plain value: how many items there are, what is listed to start, and the slots of its workers.
-use Rattle.cmwq_pool.specs.Common.{ℕ, Bool, ◌&&◌, ◌||◌, not, ◌==◌, List, [], ◌∷◌, ◌++◌, map, filter, find, Option, option_map, nat_lt, range_with_len, list_any}
+use Rattle.std.specs.Prelude.{◌&&◌, ◌||◌, ◌==◌, ◌∷◌, ◌++◌}
+use Rattle.cmwq_pool.specs.Common.{ℕ, Bool, not, List, [], map, filter, find, Option, option_map, nat_lt, range_with_len, list_any}
 use Rattle.cmwq_pool.specs.declared.task.Task.{Task}
 use Rattle.cmwq_pool.specs.declared.slot.Slot.{Slot}
 use Rattle.cmwq_pool.specs.Slots.{new_slot, slots_run_item, with_slot, slots_started}

@@ -1,5 +1,6 @@
 -- The slots of a pool's workers: which are enlisted, what they run, which hold the pool, and who comes and goes.
-use Rattle.cmwq_pool.specs.Common.{ℕ, Bool, true, false, ◌&&◌, not, ◌==◌, if◌then◌else◌, List, length, find, count_by, slice_index_or, slice_set, Option, Some, None, option_map, is_some, range_with_len, list_any, option_map_or}
+use Rattle.std.specs.Prelude.{◌&&◌, ◌==◌, if◌then◌else◌}
+use Rattle.cmwq_pool.specs.Common.{ℕ, Bool, true, false, not, List, length, find, count_by, slice_index_or, slice_set, Option, Some, None, option_map, is_some, range_with_len, list_any, option_map_or}
 use Rattle.cmwq_model.specs.Prelude.{has_spare}
 use Rattle.cmwq_pool.specs.declared.task.Task.{Task}
 use Rattle.cmwq_pool.specs.declared.slot.Slot.{Slot}

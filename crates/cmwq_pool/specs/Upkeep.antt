@@ -1,5 +1,6 @@
 -- What a pool keeps true of its parts: the list, the room for it, the slots, and for each item whether it runs.
-use Rattle.cmwq_pool.specs.Common.{◌≡◌, ℕ, ◌<◌, ◌≤◌, Bool, false, not, nat_eq, if◌then◌else◌, List, length, map, count_by, slice_index_or, All, IsDistinct}
+use Rattle.std.specs.Prelude.{◌≡◌, ◌<◌, ◌≤◌, if◌then◌else◌}
+use Rattle.cmwq_pool.specs.Common.{ℕ, Bool, false, not, nat_eq, List, length, map, count_by, slice_index_or, All, IsDistinct}
 use Rattle.cmwq_pool.specs.declared.task.Task.{Task}
 use Rattle.cmwq_pool.specs.declared.slot.Slot.{Slot}
 use Rattle.cmwq_pool.specs.Slots.{slot_runs}

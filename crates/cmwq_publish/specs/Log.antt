@@ -1,5 +1,6 @@
 -- The history as a log that only grows.
-use Rattle.cmwq_publish.specs.Common.{ℕ, ◌≡◌, ◌==◌, true, List, [], ◌∷◌, ◌++◌, length, MatchBool, Cell, Step, View, Book, Named, Entry}
+use Rattle.std.specs.Prelude.{◌≡◌, ◌==◌, ◌∷◌, ◌++◌}
+use Rattle.cmwq_publish.specs.Common.{ℕ, true, List, [], length, MatchBool, Cell, Step, View, Book, Named, Entry}
 
 -- the first word is the length of the log. A book has two words, of which this one leaves the second at 0
 abbrev pub IsLogKept : List Cell → List Entry → Type 0

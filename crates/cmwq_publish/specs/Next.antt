@@ -1,5 +1,6 @@
 -- What the next mark of a history says.
-use Rattle.cmwq_publish.specs.Common.{◌≡◌, ℕ, Bool, if◌then◌else◌, List, ◌∷◌, option_map, ItemId, Entry, Mark, Layout, is_at, IsLegal, past_of, bits}
+use Rattle.std.specs.Prelude.{◌≡◌, if◌then◌else◌, ◌∷◌}
+use Rattle.cmwq_publish.specs.Common.{ℕ, Bool, List, option_map, ItemId, Entry, Mark, Layout, is_at, IsLegal, past_of, bits}
 
 abbrev pub next_names : Mark → ℕ → Bool
 next_names m i = is_at (option_map (λ (item : ItemId). item.0) m.item) i

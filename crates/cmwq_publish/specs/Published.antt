@@ -1,5 +1,6 @@
 -- What readers read, and the rule over it.
-use Rattle.cmwq_publish.specs.Common.{◌≡◌, ℕ, ◌<◌, List, [], length, slice_index, Option, Some, None, MatchOption, some, get_elem?, Book, Entry, CallerId, ItemId, Caller, serial_of, Layout, IsLegal, past_of, bits}
+use Rattle.std.specs.Prelude.{◌≡◌, ◌<◌}
+use Rattle.cmwq_publish.specs.Common.{ℕ, List, [], length, slice_index, Option, Some, None, MatchOption, some, get_elem?, Book, Entry, CallerId, ItemId, Caller, serial_of, Layout, IsLegal, past_of, bits}
 use Rattle.cmwq_publish.specs.declared.versions.Versions.{Versions}
 use Rattle.cmwq_publish.specs.declared.versions.Known.{Known}
 use Rattle.cmwq_publish.specs.declared.versions.Publish.{Publish}

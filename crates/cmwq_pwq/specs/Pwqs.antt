@@ -1,5 +1,6 @@
 -- What waits to become active, and how many are active of each queue on each CPU.
-use Rattle.cmwq_pwq.specs.Common.{◌≡◌, ℕ, ◌+◌, ◌*◌, ◌-◌, ◌<◌, ◌≤◌, Bool, true, false, Option, Some, None, ◌&&◌, not, ◌==◌, if◌then◌else◌, List, [], ◌∷◌, ◌++◌, length, filter, count_by, replicate, nat_lt, slice_index, slice_set, slice_index_or, All, AllByRecursion, list_any, Queueing, no_queue, has_number, is_on}
+use Rattle.std.specs.Prelude.{◌≡◌, ◌+◌, ◌*◌, ◌-◌, ◌<◌, ◌≤◌, ◌&&◌, ◌==◌, if◌then◌else◌, ◌∷◌, ◌++◌}
+use Rattle.cmwq_pwq.specs.Common.{ℕ, Bool, true, false, Option, Some, None, not, List, [], length, filter, count_by, replicate, nat_lt, slice_index, slice_set, slice_index_or, All, AllByRecursion, list_any, Queueing, no_queue, has_number, is_on}
 use Rattle.cmwq_model.specs.declared.shape.QueueShape.{QueueShape}
 
 -- what waits, and what the last pass made active, both in their order; room is how many may wait

@@ -1,5 +1,6 @@
 -- The barriers refine the open queueings of items, and the unended waits for them.
-use Rattle.cmwq_refinement.specs.Common.{◌≡◌, ℕ, true, ◌↔◌, if◌then◌else◌, List, [], ◌∷◌, map, filter, Contains, ◌++◌, Option, Some, None, is_some, option_map, option_to_list, filter_map, range_with_len, Call, Entry, Queueing, Ticket, Start, Layout, still_open, opening, is_of, unstarted_queueing, item_run, unended_tickets, waits_for, IsLegal, ending, ticket_ended, Barrier, BarrierBook, new_barriers, numbers_open, tickets_in, CanBeginBarrier, IsReadyBarrier}
+use Rattle.std.specs.Prelude.{◌≡◌, ◌↔◌, if◌then◌else◌, ◌∷◌, ◌++◌}
+use Rattle.cmwq_refinement.specs.Common.{ℕ, true, List, [], map, filter, Contains, Option, Some, None, is_some, option_map, option_to_list, filter_map, range_with_len, Call, Entry, Queueing, Ticket, Start, Layout, still_open, opening, is_of, unstarted_queueing, item_run, unended_tickets, waits_for, IsLegal, ending, ticket_ended, Barrier, BarrierBook, new_barriers, numbers_open, tickets_in, CanBeginBarrier, IsReadyBarrier}
 use Rattle.cmwq_model.specs.declared.call.Call.TheVariants as call
 use Rattle.cmwq_flush.specs.BarrierBook.{CanOpenForItem, barriers_with_open, barriers_without_open, barriers_with_wait, barriers_without_wait, barrier_waits_for as book_waits_for}
 use Rattle.cmwq_refinement.specs.ByNumber.{number_of_queueing, ticket_given}

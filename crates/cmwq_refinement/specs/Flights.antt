@@ -1,5 +1,6 @@
 -- The queueings in flight refine a history: of each item the one that runs, and the one that hasn't started.
-use Rattle.cmwq_refinement.specs.Common.{◌≡◌, ℕ, ◌<◌, true, if◌then◌else◌, List, [], ◌∷◌, length, map, replicate, Option, Some, None, is_some, IsSome, option_map, option_and_then, range_with_len, WorkerId, Reply, Entry, Queueing, Start, Layout, number_started, number_finished, run, item_run, item_runs, opening, unstarted_queueing, queueing_at, still_open, IsLegal, ending, Flight, no_flight, flight_at, open_count, flights_with_open, flights_without_open, flights_with_run}
+use Rattle.std.specs.Prelude.{◌≡◌, ◌<◌, if◌then◌else◌, ◌∷◌}
+use Rattle.cmwq_refinement.specs.Common.{ℕ, true, List, [], length, map, replicate, Option, Some, None, is_some, IsSome, option_map, option_and_then, range_with_len, WorkerId, Reply, Entry, Queueing, Start, Layout, number_started, number_finished, run, item_run, item_runs, opening, unstarted_queueing, queueing_at, still_open, IsLegal, ending, Flight, no_flight, flight_at, open_count, flights_with_open, flights_without_open, flights_with_run}
 use Rattle.cmwq_inflight.specs.Flights.{flights_without_run}
 use Rattle.cmwq_refinement.specs.ByNumber.{number_of_queueing}
 

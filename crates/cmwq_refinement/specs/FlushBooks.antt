@@ -1,5 +1,6 @@
 -- The flush book of a queue refines the queue's open queueings and its unended flushes and drains.
-use Rattle.cmwq_refinement.specs.Common.{◌≡◌, ℕ, ◌<◌, ◌≤◌, ◌↔◌, Bool, ◌==◌, if◌then◌else◌, List, ◌∷◌, length, map, filter, count_by, [], Contains, true, Option, Some, None, slice_get, nat_lt, nat_le, IsTrue, AllByRecursion, QueueId, Entry, Queueing, Ticket, Layout, is_layout, still_open, opening, unended_tickets, is_flush_of, is_drain_of, is_draining, serving_from, is_older_flush, waits_for, IsLegal, ending, ticket_ended, Served, FlushBook, new_book, flush_tickets, CanOpen, CanDrain, flushes_with_open, flushes_without_open, flushes_with_wait, flushes_without_wait, after_drain_begin, after_drain_end, IsServing}
+use Rattle.std.specs.Prelude.{◌≡◌, ◌<◌, ◌≤◌, ◌↔◌, ◌==◌, if◌then◌else◌, ◌∷◌}
+use Rattle.cmwq_refinement.specs.Common.{ℕ, Bool, List, length, map, filter, count_by, [], Contains, true, Option, Some, None, slice_get, nat_lt, nat_le, IsTrue, AllByRecursion, QueueId, Entry, Queueing, Ticket, Layout, is_layout, still_open, opening, unended_tickets, is_flush_of, is_drain_of, is_draining, serving_from, is_older_flush, waits_for, IsLegal, ending, ticket_ended, Served, FlushBook, new_book, flush_tickets, CanOpen, CanDrain, flushes_with_open, flushes_without_open, flushes_with_wait, flushes_without_wait, after_drain_begin, after_drain_end, IsServing}
 use Rattle.cmwq_model.specs.declared.call.Call.TheVariants as call
 use Rattle.cmwq_flush.specs.FlushBook.{CanBegin, IsReady}
 use Rattle.cmwq_refinement.specs.ByNumber.{number_of_queueing, number_of_ticket, ticket_given}

@@ -1,5 +1,6 @@
 -- What is opened and what is waited for is of items, queues and CPUs that the layout has, so that an entry can be applied to the parts.
-use Rattle.cmwq_refinement.specs.Common.{◌≡◌, ◌<◌, true, List, ◌∷◌, length, Some, Contains, Entry, Queueing, Ticket, Layout, has_numbers, still_open, opening, unended_tickets, IsLegal}
+use Rattle.std.specs.Prelude.{◌≡◌, ◌<◌, ◌∷◌}
+use Rattle.cmwq_refinement.specs.Common.{true, List, length, Some, Contains, Entry, Queueing, Ticket, Layout, has_numbers, still_open, opening, unended_tickets, IsLegal}
 
 pub record IsQueueingThere (s : Layout) (x : Queueing) : Type 0 where
   pub item : x.item.0 < s.items

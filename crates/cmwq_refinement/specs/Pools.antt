@@ -1,5 +1,6 @@
 -- A pool refines its worklist, and the runs and the enlisting of its workers.
-use Rattle.cmwq_refinement.specs.Common.{◌≡◌, ℕ, ◌<◌, ◌&&◌, not, if◌then◌else◌, List, [], ◌∷◌, length, map, filter, fold, Option, Some, None, option_map, option_and_then, IsTrue, IsSome, PoolId, WorkerId, Who, Caller, Worker, Reply, Entry, Queueing, Layout, indices, is_intensive, same_pool, finishes, run, is_asleep, queueing_at, newly_active, worklist, next, worker_at, is_enlisted, runnable, enlisted_by, is_idle, may_retire, IsLegal, ending, is_in, Task, Slot, slot_at, run_number, slot_asleep, slot_awake, slot_free, slot_retired, PoolState, new_pool_state, may_add, pool_with_task, pool_without_task, next_task, with_slot_again}
+use Rattle.std.specs.Prelude.{◌≡◌, ◌<◌, ◌&&◌, if◌then◌else◌, ◌∷◌}
+use Rattle.cmwq_refinement.specs.Common.{ℕ, not, List, [], length, map, filter, fold, Option, Some, None, option_map, option_and_then, IsTrue, IsSome, PoolId, WorkerId, Who, Caller, Worker, Reply, Entry, Queueing, Layout, indices, is_intensive, same_pool, finishes, run, is_asleep, queueing_at, newly_active, worklist, next, worker_at, is_enlisted, runnable, enlisted_by, is_idle, may_retire, IsLegal, ending, is_in, Task, Slot, slot_at, run_number, slot_asleep, slot_awake, slot_free, slot_retired, PoolState, new_pool_state, may_add, pool_with_task, pool_without_task, next_task, with_slot_again}
 use Rattle.cmwq_model.specs.declared.reply.Reply.TheVariants as reply
 use Rattle.cmwq_pool.specs.Slots.{slot_is_idle as is_idle_slot, slots_runnable, slots_enlisted_by, slot_may_retire, slot_runs_awake, slot_runs_asleep}
 use Rattle.cmwq_pool.specs.PoolState.{pool_with_run, next_number as pool_state_next}

@@ -1,5 +1,6 @@
 -- The tickets of callers refine the unended tickets of a history.
-use Rattle.cmwq_refinement.specs.Common.{◌≡◌, ℕ, ◌<◌, List, [], ◌∷◌, length, map, filter, find, replicate, Option, Some, None, IsSome, IsTrue, range_with_len, Who, Caller, Entry, Ticket, Layout, is_layout, unended_tickets, is_held_by, is_crowded, ticket_of, is_cancelling, is_draining, is_being_destroyed, IsLegal, ticket_ended, TicketRows, is_numbered, any_ticket, may_give, rows_with, rows_without, count}
+use Rattle.std.specs.Prelude.{◌≡◌, ◌<◌, ◌∷◌}
+use Rattle.cmwq_refinement.specs.Common.{ℕ, List, [], length, map, filter, find, replicate, Option, Some, None, IsSome, IsTrue, range_with_len, Who, Caller, Entry, Ticket, Layout, is_layout, unended_tickets, is_held_by, is_crowded, ticket_of, is_cancelling, is_draining, is_being_destroyed, IsLegal, ticket_ended, TicketRows, is_numbered, any_ticket, may_give, rows_with, rows_without, count}
 use Rattle.cmwq_ticket.specs.Rows as row
 use Rattle.cmwq_refinement.specs.ByNumber.{ticket_given}
 

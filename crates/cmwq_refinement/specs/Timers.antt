@@ -1,5 +1,6 @@
 -- The timers refine the bookings that are read off a history.
-use Rattle.cmwq_refinement.specs.Common.{◌≡◌, ℕ, ◌<◌, true, false, ◌==◌, if◌then◌else◌, List, [], ◌∷◌, length, map, replicate, slice_set, Option, Some, None, option_map, is_some, IsTrue, range_with_len, list_any, ItemId, Entry, Booking, Layout, is_layout, item_of, now, settles, booking, booking_of, standing, is_draining, is_booked_on, first_due, IsLegal, Timer, due_of, NoneMayFire, IsFirstToFire}
+use Rattle.std.specs.Prelude.{◌≡◌, ◌<◌, ◌==◌, if◌then◌else◌, ◌∷◌}
+use Rattle.cmwq_refinement.specs.Common.{ℕ, true, false, List, [], length, map, replicate, slice_set, Option, Some, None, option_map, is_some, IsTrue, range_with_len, list_any, ItemId, Entry, Booking, Layout, is_layout, item_of, now, settles, booking, booking_of, standing, is_draining, is_booked_on, first_due, IsLegal, Timer, due_of, NoneMayFire, IsFirstToFire}
 use Rattle.std.specs.Int.{bit_at}
 use Rattle.cmwq_timer.specs.Rows.{TimerRows, any_timer_on as booked_in_rows}
 

@@ -2,7 +2,7 @@
 pub use Rattle.std.proofs.Common.{Bool, Err, IsTrue, List, None, Ok, Result, Some, [], ap, append-nil, append_assoc, arith, drop, false, get_or, inl, inr, length, not, refl, rules, set, subst, suc, sym, take, true, true≢false, zero, ℕ, ◌&&◌, ◌++◌, ◌+◌, ◌<◌, ◌∙◌, ◌∷◌, ◌≡◌, ◌≢◌, ◌≤◌}
 pub use Rattle.std.proofs.lemmas.List.{take_all, take_more}
 pub use Rattle.std.proofs.lemmas.Option.{slice_get-get_or, slice_get_within}
-pub use Rattle.std.specs.Prelude.{IfErr, IfOk, MatchBool, MatchOption, Option, if◌then◌else◌, nat_lt, slice_get, slice_set, ◌⊎◌}
+pub use Rattle.std.specs.Prelude.{IfErr, IfOk, MatchBool, MatchOption, Option, if◌then◌else◌, nat_lt, slice_get, slice_set}
 pub use mathlib.Core.List.{IsPrefix}
 pub use Rattle.cmwq_model.specs.Prelude.{IsLegal, Layout, has_room, is_layout, layout_of, past_of, serial_of}
 pub use Rattle.cmwq_model.specs.declared.call.Call.{Call}

@@ -1,5 +1,6 @@
 -- What is left of a hub's history at its end.
-use Rattle.cmwq_rt.specs.Common.{◌≡◌, ◌≤◌, ℕ, List, drop, length, slice_get, Some, Entry, Layout, IsLegal, past_of, View, IsStranger, AllSettle, RunFault}
+use Rattle.std.specs.Prelude.{◌≡◌, ◌≤◌}
+use Rattle.cmwq_rt.specs.Common.{ℕ, List, drop, length, slice_get, Some, Entry, Layout, IsLegal, past_of, View, IsStranger, AllSettle, RunFault}
 
 -- there is a legal history that all callers and workers see, and these are its entries behind the first so many
 pub record EndsAs (s : Layout) (c c' w w' : List View) (first : ℕ) (rest : List Entry) : Type 0 where

@@ -1,5 +1,6 @@
 -- Which callers and workers of a hub are given out.
-use Rattle.cmwq_rt.specs.Common.{◌≡◌, ℕ, zero, suc, ◌+◌, ◌<◌, ◌≤◌, true, false, not, if◌then◌else◌, Option, Some, None, nat_lt, MatchOption, WorkerId, Counts, Layout, place}
+use Rattle.std.specs.Prelude.{◌≡◌, ◌+◌, ◌<◌, ◌≤◌, if◌then◌else◌}
+use Rattle.cmwq_rt.specs.Common.{ℕ, zero, suc, true, false, not, Option, Some, None, nat_lt, MatchOption, WorkerId, Counts, Layout, place}
 use Rattle.cmwq_model.specs.Prelude.{most_callers, most_cpus, most_workers}
 
 -- the callers are given out by number: so many are; the workers in their order: the next one, if one is left, and how many are

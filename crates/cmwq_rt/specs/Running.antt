@@ -1,5 +1,6 @@
 -- What a worker's loop leaves: one run after another.
-use Rattle.cmwq_rt.specs.Common.{◌≡◌, ◌⊎◌, ◌<◌, ℕ, zero, suc, Bool, true, false, Option, Some, Result, Ok, Err, MatchOption, ItemId, Call, Reply, Layout, View, active_in, Extends, Settles, StartsOne, RunFault, NoMemory, Full, Closed, Stranger}
+use Rattle.std.specs.Prelude.{◌≡◌, ◌⊎◌, ◌<◌}
+use Rattle.cmwq_rt.specs.Common.{ℕ, zero, suc, Bool, true, false, Option, Some, Result, Ok, Err, MatchOption, ItemId, Call, Reply, Layout, View, active_in, Extends, Settles, StartsOne, RunFault, NoMemory, Full, Closed, Stranger}
 use Rattle.cmwq_model.specs.declared.call.Call.TheVariants as call
 use Rattle.cmwq_model.specs.declared.reply.Reply.TheVariants as reply
 

@@ -1,5 +1,6 @@
 -- What a caller that follows a script leaves in a history.
-use Rattle.cmwq_rt.specs.Common.{◌≡◌, ◌⊎◌, ℕ, false, ◌+◌, List, [], ◌∷◌, ◌++◌, Who, Call, Reply, Entry, Layout, View, Gains, made_by, is_full, MakesEntries, HadNoRoom, BrokeOff, RunFault}
+use Rattle.std.specs.Prelude.{◌≡◌, ◌⊎◌, ◌+◌, ◌∷◌, ◌++◌}
+use Rattle.cmwq_rt.specs.Common.{ℕ, false, List, [], Who, Call, Reply, Entry, Layout, View, Gains, made_by, is_full, MakesEntries, HadNoRoom, BrokeOff, RunFault}
 
 -- The caller's entries in a history are these, and then for each call of the script, in order, those that it makes; or none where there was
 -- no room for the call, so many times in all.

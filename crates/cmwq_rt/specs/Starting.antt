@@ -1,5 +1,6 @@
 -- What a worker is given to run.
-use Rattle.cmwq_rt.specs.Common.{◌≡◌, List, [], ◌∷◌, ◌++◌, ItemId, Entry, past_of, View, StartsItem}
+use Rattle.std.specs.Prelude.{◌≡◌, ◌∷◌, ◌++◌}
+use Rattle.cmwq_rt.specs.Common.{List, [], ItemId, Entry, past_of, View, StartsItem}
 
 -- what the worker sees ends with an entry of its own, which starts a queueing of this item
 abbrev pub HasStarted : View → ItemId → Type 0

@@ -1,5 +1,6 @@
 -- What is written where a journal breaks off.
-use Rattle.cmwq_rt_journal.specs.Common.{ℕ, ◌<◌, ◌≤◌, ◌++◌, List, Option, length, take, Appends, AppendsFront, Entry, Layout, body_text}
+use Rattle.std.specs.Prelude.{◌<◌, ◌≤◌, ◌++◌}
+use Rattle.cmwq_rt_journal.specs.Common.{ℕ, List, Option, length, take, Appends, AppendsFront, Entry, Layout, body_text}
 
 -- a front of the text of these entries, in which the lines of the first n stand whole, if n is not 0
 pub record BreaksOff (s : Layout) (entries : List Entry) (n : ℕ) (a b : Option (List ℕ)) : Type 0 where

@@ -2,7 +2,7 @@
 pub use Rattle.std.proofs.Common.{List, Option, ap, append_assoc, arith, length, subst, sym, take, ℕ, ◌++◌, ◌+◌, ◌∙◌, ◌≡◌, ◌≤◌}
 pub use Rattle.std.proofs.lemmas.Result.{err_from_is_err_and}
 pub use Rattle.std.specs.Io.KnownBytes.{Appends}
-pub use Rattle.std.specs.Prelude.{Bool, [], false, true, ◌<◌, ◌^◌, ◌≢◌, ◌⊎◌}
+pub use Rattle.std.specs.Prelude.{Bool, [], false, true}
 pub use Rattle.cmwq_base.proofs.Fronts.{front_after, front_at, front_before, front_whole}
 pub use Rattle.cmwq_io.proofs.KnownBytes.{Appends-trans}
 pub use Rattle.cmwq_io.specs.Moves.{AppendsFront}

@@ -1,5 +1,6 @@
 -- What the fault of a journal says.
-use Rattle.cmwq_rt_journal.specs.Common.{◌≡◌, ◌≢◌, ◌⊎◌, ◌+◌, ◌^◌, ◌<◌, ◌≤◌, ◌++◌, ℕ, List, [], Bool, true, false, Option, length, Appends, AppendsFront, Entry, Layout, body_text, entries_text, last_text}
+use Rattle.std.specs.Prelude.{◌≡◌, ◌≢◌, ◌⊎◌, ◌+◌, ◌^◌, ◌<◌, ◌≤◌, ◌++◌}
+use Rattle.cmwq_rt_journal.specs.Common.{ℕ, List, [], Bool, true, false, Option, length, Appends, AppendsFront, Entry, Layout, body_text, entries_text, last_text}
 use Rattle.cmwq_monitor.specs.declared.fault.RunFault.TheVariants.{Stranger}
 use Rattle.cmwq_rt_journal.specs.declared.fault.JournalFault.{JournalFault}
 use Rattle.cmwq_rt_journal.specs.declared.fault.JournalFault.TheVariants.{Late, Write, Hub}

@@ -1,6 +1,7 @@
 -- What the threads of callers and workers gave back, and what they leave in one history.
 use Rattle.cmwq_rt.specs.Places.{shares}
-use Rattle.cmwq_rt_scripts.specs.Common.{◌≡◌, ℕ, suc, ◌+◌, ◌<◌, ◌≤◌, List, [], ◌∷◌, length, map, slice_get, Some, None, Bool, true, false, Result, Ok, Err, IfOk, IfErr, Vec, Global, Caller, Worker, WorkerId, Call, Entry, Layout, serial_of, past_of, IsLegal, View, newcomer, made_by, worker_by_number, Behavior, HasWorked, RunsInTurn, breaks_off, Follows, HasFollowed, IsPrefix}
+use Rattle.std.specs.Prelude.{◌≡◌, ◌+◌, ◌<◌, ◌≤◌, ◌∷◌}
+use Rattle.cmwq_rt_scripts.specs.Common.{ℕ, suc, List, [], length, map, slice_get, Some, None, Bool, true, false, Result, Ok, Err, IfOk, IfErr, Vec, Global, Caller, Worker, WorkerId, Call, Entry, Layout, serial_of, past_of, IsLegal, View, newcomer, made_by, worker_by_number, Behavior, HasWorked, RunsInTurn, breaks_off, Follows, HasFollowed, IsPrefix}
 use Rattle.cmwq_model.specs.declared.id.Who.{Who}
 use Rattle.cmwq_monitor.specs.Held.{active_in}
 use Rattle.cmwq_monitor.specs.declared.fault.RunFault.{RunFault}

@@ -1,5 +1,6 @@
 -- What is written of a run whose history is written as it is made.
-use Rattle.cmwq_rt_scripts.specs.Common.{◌≡◌, ℕ, List, length, Option, Result, Ok, Err, Appends, AppendsFront, Call, Entry, Layout, IsLegal, past_of, body_text, text_of_format, Behavior, JournalFault}
+use Rattle.std.specs.Prelude.{◌≡◌}
+use Rattle.cmwq_rt_scripts.specs.Common.{ℕ, List, length, Option, Result, Ok, Err, Appends, AppendsFront, Call, Entry, Layout, IsLegal, past_of, body_text, text_of_format, Behavior, JournalFault}
 use Rattle.cmwq_rt_scripts.specs.Ended.{FailsAs, IsLeft}
 use Rattle.cmwq_rt_scripts.specs.declared.journal.Unwritten.{Unwritten}
 use Rattle.cmwq_rt_scripts.specs.declared.journal.Unwritten.TheVariants as unwritten

@@ -1,5 +1,6 @@
 -- All items have ended when as many milliseconds have passed as they have in all, and each has one line that tells its end.
-use Rattle.cmwq_sim.specs.Common.{◌≡◌, ◌<◌, ℕ, suc, Bool, true, false, ◌&&◌, ◌==◌, [], length, count_by, fold, list_any, range_with_len}
+use Rattle.std.specs.Prelude.{◌≡◌, ◌<◌, ◌&&◌, ◌==◌}
+use Rattle.cmwq_sim.specs.Common.{ℕ, suc, Bool, true, false, [], length, count_by, fold, list_any, range_with_len}
 use Rattle.cmwq_sim.specs.declared.scenario.LineKind.{LineKind}
 use Rattle.cmwq_sim.specs.declared.scenario.LineKind.TheVariants as kind
 use Rattle.cmwq_sim.specs.Plan.{Plan, Event, whole_time}

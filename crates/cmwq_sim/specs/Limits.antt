@@ -1,5 +1,6 @@
 -- What a plan keeps to.
-use Rattle.cmwq_sim.specs.Common.{ℕ, ◌<◌, ◌≤◌, length, AllByRecursion}
+use Rattle.std.specs.Prelude.{◌<◌, ◌≤◌}
+use Rattle.cmwq_sim.specs.Common.{ℕ, length, AllByRecursion}
 use Rattle.cmwq_sim.specs.declared.scenario.SimQueue.{SimQueue}
 use Rattle.cmwq_sim.specs.Plan.{Plan, Item}
 

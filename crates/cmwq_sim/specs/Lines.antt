@@ -1,5 +1,6 @@
 -- The lines of a scenario, millisecond by millisecond. No worker occurs here, and no history.
-use Rattle.cmwq_sim.specs.Common.{ℕ, suc, ◌+◌, ◌-◌, Bool, ◌&&◌, not, ◌==◌, if◌then◌else◌, List, [], ◌∷◌, ◌++◌, length, drop, map, filter, find, count_by, Option, Some, None, nat_lt, list_any, fold, range_with_len}
+use Rattle.std.specs.Prelude.{◌+◌, ◌-◌, ◌&&◌, ◌==◌, if◌then◌else◌, ◌∷◌, ◌++◌}
+use Rattle.cmwq_sim.specs.Common.{ℕ, suc, Bool, not, List, [], length, drop, map, filter, find, count_by, Option, Some, None, nat_lt, list_any, fold, range_with_len}
 use Rattle.cmwq_sim.specs.declared.scenario.LineKind.{LineKind}
 use Rattle.cmwq_sim.specs.declared.scenario.LineKind.TheVariants as kind
 use Rattle.cmwq_sim.specs.Plan.{Plan, Event, plan_queue, ms_of, plan_width, is_plan_intensive, is_of_plan_queue, whole_time}

@@ -1,5 +1,6 @@
 -- The room that a replay still needs.
-use Rattle.cmwq_sim.specs.Common.{ℕ, ◌+◌, ◌*◌, ◌≤◌, List, length, sum_by, Entry, room_needed}
+use Rattle.std.specs.Prelude.{◌+◌, ◌*◌, ◌≤◌}
+use Rattle.cmwq_sim.specs.Common.{ℕ, List, length, sum_by, Entry, room_needed}
 use Rattle.cmwq_sim.specs.Plan.{Plan, ms_of}
 use Rattle.cmwq_sim.specs.Lines.{Moment, Job, Sleeper}
 use Rattle.cmwq_sim.specs.Shows.{layout_for}

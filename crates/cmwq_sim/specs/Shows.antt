@@ -1,5 +1,6 @@
 -- What a history shows of a moment: the same items wait, are on the CPU's list and sleep, each of those in a worker of its own.
-use Rattle.cmwq_sim.specs.Common.{◌≡◌, ℕ, ◌+◌, ◌≤◌, Bool, true, false, ◌||◌, ◌==◌, if◌then◌else◌, List, [], ◌∷◌, length, map, filter, count_by, Option, Some, None, AllByRecursion, list_any, PoolId, WorkerId, Entry, Queueing, QueueShape, Layout, first_width, run, is_asleep, queueings, still_open, worklist, width, worker_at, is_retired, IsLegal, waits, HasFirstWidths}
+use Rattle.std.specs.Prelude.{◌≡◌, ◌+◌, ◌≤◌, ◌||◌, ◌==◌, if◌then◌else◌, ◌∷◌}
+use Rattle.cmwq_sim.specs.Common.{ℕ, Bool, true, false, List, [], length, map, filter, count_by, Option, Some, None, AllByRecursion, list_any, PoolId, WorkerId, Entry, Queueing, QueueShape, Layout, first_width, run, is_asleep, queueings, still_open, worklist, width, worker_at, is_retired, IsLegal, waits, HasFirstWidths}
 use Rattle.cmwq_sim.specs.declared.scenario.SimQueue.{SimQueue}
 use Rattle.cmwq_sim.specs.Plan.{Plan, Event, plan_queue}
 use Rattle.cmwq_sim.specs.Lines.{Moment, Job, Sleeper, plan_items, is_job_held}

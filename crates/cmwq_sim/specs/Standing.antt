@@ -1,5 +1,6 @@
 -- What a replay stands at: its lists with the book's history show a moment of the plan, and there is room for what comes.
-use Rattle.cmwq_sim.specs.Common.{◌≡◌, ℕ, ◌<◌, ◌-◌, ◌++◌, ◌∷◌, [], List, length, map, drop, slice_index, AllByRecursion, past_in}
+use Rattle.std.specs.Prelude.{◌≡◌, ◌<◌, ◌-◌, ◌++◌, ◌∷◌}
+use Rattle.cmwq_sim.specs.Common.{ℕ, [], List, length, map, drop, slice_index, AllByRecursion, past_in}
 use Rattle.cmwq_sim.specs.declared.scenario.LineKind.TheVariants as kind
 use Rattle.cmwq_sim.specs.declared.execution.Running.{Running}
 use Rattle.cmwq_sim.specs.declared.execution.Asleep.{Asleep}

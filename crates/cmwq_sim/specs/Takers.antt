@@ -1,5 +1,6 @@
 -- Which worker's take would start an item.
-use Rattle.cmwq_sim.specs.Common.{◌≡◌, ℕ, ◌<◌, List, Option, Some, None, Entry, Worker, Layout, number_started, answer}
+use Rattle.std.specs.Prelude.{◌≡◌, ◌<◌}
+use Rattle.cmwq_sim.specs.Common.{ℕ, List, Option, Some, None, Entry, Worker, Layout, number_started, answer}
 use Rattle.cmwq_model.specs.declared.call.Call.TheVariants as call
 use Rattle.cmwq_sim.specs.Shows.{plan_worker}
 

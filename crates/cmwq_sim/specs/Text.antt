@@ -1,5 +1,6 @@
 -- The text of lines: a heading, and then for each line its time, a tab, and what befell whom.
-use Rattle.cmwq_sim.specs.Common.{ℕ, Bool, true, false, List, [], ◌∷◌, ◌++◌, length, slice_index_or, nat_lt, codes, decimal, flat_map}
+use Rattle.std.specs.Prelude.{◌∷◌, ◌++◌}
+use Rattle.cmwq_sim.specs.Common.{ℕ, Bool, true, false, List, [], length, slice_index_or, nat_lt, codes, decimal, flat_map}
 use Rattle.cmwq_sim.specs.declared.scenario.LineKind.{LineKind}
 use Rattle.cmwq_sim.specs.declared.scenario.LineKind.TheVariants as kind
 use Rattle.cmwq_sim.specs.Plan.{Event}

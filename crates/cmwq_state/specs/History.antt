@@ -1,5 +1,6 @@
 -- What callers see of a state: its history, with the shape and the room.
-use Rattle.cmwq_state.specs.Common.{ℕ, Bool, ◌==◌, List, [], ◌∷◌, ◌++◌, Entry, Ticket, Layout, past_of}
+use Rattle.std.specs.Prelude.{◌==◌, ◌∷◌, ◌++◌}
+use Rattle.cmwq_state.specs.Common.{ℕ, Bool, List, [], Entry, Ticket, Layout, past_of}
 
 -- the entries stand with the oldest first
 pub record History : Type 0 where

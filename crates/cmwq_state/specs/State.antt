@@ -1,5 +1,6 @@
 -- What the parts of a state are of the past.
-use Rattle.cmwq_state.specs.Common.{◌≡◌, ℕ, ◌+◌, ◌≤◌, true, Bool, List, length, Entry, Ticket, Layout, is_layout, most_room, now, IsLegal, past_of, owed, most_time, PoolState, FlushBook, BarrierBook, TimerRows, barriers_of, timers_of, PwqState, Flight, flights_of}
+use Rattle.std.specs.Prelude.{◌≡◌, ◌+◌, ◌≤◌}
+use Rattle.cmwq_state.specs.Common.{ℕ, true, Bool, List, length, Entry, Ticket, Layout, is_layout, most_room, now, IsLegal, past_of, owed, most_time, PoolState, FlushBook, BarrierBook, TimerRows, barriers_of, timers_of, PwqState, Flight, flights_of}
 use Rattle.cmwq_refinement.specs.Tickets.{tickets_of}
 use Rattle.cmwq_state.specs.Gone.{AreGone}
 use Rattle.cmwq_state.specs.Pwqs.{ArePwqsOf}

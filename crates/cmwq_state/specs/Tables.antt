@@ -1,5 +1,6 @@
 -- The tables of a book: where each pool, each flush book and each serial stands, and what may be applied to them.
-use Rattle.cmwq_state.specs.Common.{◌≡◌, ℕ, ◌+◌, ◌*◌, ◌<◌, if◌then◌else◌, List, [], length, filter, Option, Some, None, slice_index_or, Contains, IsTrue, All, PoolId, Who, Caller, Worker, Reply, Entry, Queueing, QueueShape, Ticket, Call, Layout, pool_at, serial_of, same_pool, PoolState, pool_without_task, pool_with_task, may_add, FlushBook, new_book, flush_tickets, IsReady, CanOpen, CanBegin, CanDrain, pool_of, task_for, MayReplyInPool, AreFlushes, is_in}
+use Rattle.std.specs.Prelude.{◌≡◌, ◌+◌, ◌*◌, ◌<◌, if◌then◌else◌}
+use Rattle.cmwq_state.specs.Common.{ℕ, List, [], length, filter, Option, Some, None, slice_index_or, Contains, IsTrue, All, PoolId, Who, Caller, Worker, Reply, Entry, Queueing, QueueShape, Ticket, Call, Layout, pool_at, serial_of, same_pool, PoolState, pool_without_task, pool_with_task, may_add, FlushBook, new_book, flush_tickets, IsReady, CanOpen, CanBegin, CanDrain, pool_of, task_for, MayReplyInPool, AreFlushes, is_in}
 use Rattle.cmwq_model.specs.declared.call.Call.TheVariants as call
 
 -- the who is inside the layout

@@ -1,5 +1,6 @@
 -- The widths of a book refine a history: max_active of each queue, and whether the freezable ones are frozen.
-use Rattle.cmwq_state.specs.Common.{◌≡◌, ℕ, ◌<◌, Bool, if◌then◌else◌, List, length, None, slice_index, option_map_or, Call, Reply, Entry, Layout, max_active, is_frozen, sets_max, width_told}
+use Rattle.std.specs.Prelude.{◌≡◌, ◌<◌, if◌then◌else◌}
+use Rattle.cmwq_state.specs.Common.{ℕ, Bool, List, length, None, slice_index, option_map_or, Call, Reply, Entry, Layout, max_active, is_frozen, sets_max, width_told}
 use Rattle.cmwq_model.specs.declared.call.Call.TheVariants as call
 
 pub record AreWidths (s : Layout) (past : List Entry) (most : List ℕ) (stopped : Bool) : Type 0 where

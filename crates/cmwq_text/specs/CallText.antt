@@ -1,5 +1,6 @@
 -- Calls in a text: how each is spelled, and how each is read.
-use Rattle.cmwq_text.specs.Common.{ℕ, Bool, true, false, ◌&&◌, nat_le, if◌then◌else◌, List, [], ◌∷◌, map, Option, Some, None, decimal, Who, Caller, Worker, Call, is_callers, is_workers}
+use Rattle.std.specs.Prelude.{◌&&◌, if◌then◌else◌, ◌∷◌}
+use Rattle.cmwq_text.specs.Common.{ℕ, Bool, true, false, nat_le, List, [], map, Option, Some, None, decimal, Who, Caller, Worker, Call, is_callers, is_workers}
 use Rattle.cmwq_model.specs.declared.call.Call.TheVariants as call
 use Rattle.cmwq_text.specs.declared.keyword.Keyword.{Keyword}
 use Rattle.cmwq_text.specs.declared.keyword.Keyword.TheVariants as word

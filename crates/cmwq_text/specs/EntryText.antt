@@ -1,5 +1,6 @@
 -- Entries in a text: `<who> <serial> <call> = <reply>`.
-use Rattle.cmwq_text.specs.Common.{ℕ, ◌&&◌, if◌then◌else◌, List, ◌∷◌, ◌++◌, Option, Some, None, codes, decimal, Entry}
+use Rattle.std.specs.Prelude.{◌&&◌, if◌then◌else◌, ◌∷◌, ◌++◌}
+use Rattle.cmwq_text.specs.Common.{ℕ, List, Option, Some, None, codes, decimal, Entry}
 use Rattle.cmwq_text.specs.Words.{◌>>=◌, words_of, line_text, has_no_word, after, wide_in}
 use Rattle.cmwq_text.specs.IdText.{who_text, who_in}
 use Rattle.cmwq_text.specs.CallText.{call_words, call_in, may_say}

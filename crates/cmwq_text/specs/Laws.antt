@@ -1,5 +1,6 @@
 -- What the texts of lines keep. A line is meant without its line feed where it is read, and with it where it is spelled.
-use Rattle.cmwq_text.specs.Common.{◌≡◌, ℕ, ◌≤◌, List, [], ◌∷◌, ◌++◌, length, Some, IsTrue, Who, Call, Entry, Counts, QueueShape, Layout, are_counts, is_queue, is_layout, fits, entry_fits, IsWho, IsCall, IsEntry}
+use Rattle.std.specs.Prelude.{◌≡◌, ◌≤◌, ◌∷◌, ◌++◌}
+use Rattle.cmwq_text.specs.Common.{ℕ, List, [], length, Some, IsTrue, Who, Call, Entry, Counts, QueueShape, Layout, are_counts, is_queue, is_layout, fits, entry_fits, IsWho, IsCall, IsEntry}
 use Rattle.cmwq_text.specs.CallText.{call_text, call_read, may_say}
 use Rattle.cmwq_text.specs.EntryText.{entry_text, entry_of}
 use Rattle.cmwq_text.specs.EndText.{end_text, end_of}

@@ -1,5 +1,6 @@
 -- Numbers in a text: `0`, or a digit 1 to 9 and digits after it. How a number is spelled is std's decimal.
-use Rattle.cmwq_text.specs.Common.{ℕ, ◌+◌, ◌-◌, ◌*◌, Bool, false, not, ◌&&◌, ◌||◌, ◌==◌, if◌then◌else◌, List, [], ◌∷◌, length, Option, Some, None, nat_le, min, all_ascii_digits, is_ascii_digit, greatest_byte, greatest_short, greatest}
+use Rattle.std.specs.Prelude.{◌+◌, ◌-◌, ◌*◌, ◌&&◌, ◌||◌, ◌==◌, if◌then◌else◌, ◌∷◌}
+use Rattle.cmwq_text.specs.Common.{ℕ, Bool, false, not, List, [], length, Option, Some, None, nat_le, min, all_ascii_digits, is_ascii_digit, greatest_byte, greatest_short, greatest}
 
 -- the greatest number of an entry that a text of any format has: its 19 digits keep each line within 120 bytes
 abbrev pub greatest_number : ℕ

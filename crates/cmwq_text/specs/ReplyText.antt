@@ -1,5 +1,6 @@
 -- Replies in a text: how each is spelled, and how each is read.
-use Rattle.cmwq_text.specs.Common.{ℕ, Bool, true, false, List, [], ◌∷◌, ◌++◌, Option, Some, None, Reply}
+use Rattle.std.specs.Prelude.{◌∷◌, ◌++◌}
+use Rattle.cmwq_text.specs.Common.{ℕ, Bool, true, false, List, [], Option, Some, None, Reply}
 use Rattle.cmwq_model.specs.declared.reply.Reply.TheVariants as reply
 use Rattle.cmwq_text.specs.declared.keyword.Keyword.{Keyword}
 use Rattle.cmwq_text.specs.declared.keyword.Keyword.TheVariants as word

@@ -1,5 +1,6 @@
 -- Shapes in a text: `shape <cpus> <workers> <callers> <items> <room>`, and `wq <max_active> <flags>` for each queue.
-use Rattle.cmwq_text.specs.Common.{ℕ, Bool, true, false, ◌&&◌, ◌==◌, if◌then◌else◌, List, [], ◌∷◌, ◌++◌, find, Option, Some, None, codes, decimal, min, nat_eq, starts_with, bytes_eq, Counts, QueueShape, are_counts, is_between}
+use Rattle.std.specs.Prelude.{◌&&◌, ◌==◌, if◌then◌else◌, ◌∷◌, ◌++◌}
+use Rattle.cmwq_text.specs.Common.{ℕ, Bool, true, false, List, [], find, Option, Some, None, codes, decimal, min, nat_eq, starts_with, bytes_eq, Counts, QueueShape, are_counts, is_between}
 use Rattle.cmwq_text.specs.declared.shape.Flags.{Flags}
 use Rattle.cmwq_text.specs.declared.shape.QueueLine.{QueueLine}
 use Rattle.cmwq_text.specs.Words.{◌>>=◌, words_of, line_text, has_no_word, after, word_read, byte_in, short_in, number_in, wide_in}

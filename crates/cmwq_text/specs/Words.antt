@@ -1,5 +1,6 @@
 -- A line as its words, and reading from the first word on: a reader gives a value and the words that are left, if it can.
-use Rattle.cmwq_text.specs.Common.{ℕ, Bool, true, false, ◌==◌, if◌then◌else◌, List, [], ◌∷◌, ◌++◌, Option, Some, None, slice_split, join_with_byte, bytes_eq, greatest, greatest_long}
+use Rattle.std.specs.Prelude.{◌==◌, if◌then◌else◌, ◌∷◌, ◌++◌}
+use Rattle.cmwq_text.specs.Common.{ℕ, Bool, true, false, List, [], Option, Some, None, slice_split, join_with_byte, bytes_eq, greatest, greatest_long}
 use Rattle.std.specs.Option.{option_map}
 use denote.Ref.{Bor}
 use Rattle.cmwq_text.specs.Numbers.{number_read, byte_of, short_of, greatest_number}

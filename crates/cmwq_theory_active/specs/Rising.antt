@@ -1,5 +1,6 @@
 -- Queueings that stand by their numbers.
-use Rattle.cmwq_theory_active.specs.Common.{◌<◌, List, [], ◌∷◌, AllByRecursion, Queueing}
+use Rattle.std.specs.Prelude.{◌<◌, ◌∷◌}
+use Rattle.cmwq_theory_active.specs.Common.{List, [], AllByRecursion, Queueing}
 
 -- each queueing has a lesser number than all after it
 abbrev pub IsRising : List Queueing → Type 0

@@ -1,5 +1,6 @@
 -- Laws that tie the definitions of cmwq_model to the words in which the field speaks of them.
-use Rattle.cmwq_theory_laws.specs.Common.{◌≡◌, ℕ, ◌≤◌, true, List, ◌∷◌, length, filter, take, Some, AllByRecursion, Call, Entry, WorkerId, Layout, queueings, still_open, is_active, holds_up, waits_for, item_at, run, item_run, IsLegal, open_on, active_count}
+use Rattle.std.specs.Prelude.{◌≡◌, ◌≤◌, ◌∷◌}
+use Rattle.cmwq_theory_laws.specs.Common.{ℕ, true, List, length, filter, take, Some, AllByRecursion, Call, Entry, WorkerId, Layout, queueings, still_open, is_active, holds_up, waits_for, item_at, run, item_run, IsLegal, open_on, active_count}
 use Rattle.cmwq_theory_steps.specs.Reasons.{number_given}
 use Rattle.cmwq_theory_active.specs.Rising.{IsRising}
 

@@ -1,6 +1,7 @@
 -- Where widths don't change and no queue is destroyed, the active queueings are the first open ones, and a history is legal exactly where it was
 -- before they could.
-use Rattle.cmwq_theory_laws.specs.Common.{◌≡◌, ◌==◌, ◌+◌, ℕ, length, Bool, true, false, ◌&&◌, ◌||◌, not, if◌then◌else◌, List, [], ◌∷◌, ◌++◌, filter, find, count_by, Option, IsTrue, nat_lt, AllByRecursion, PoolId, WorkerId, Who, Worker, Call, Reply, Entry, Queueing, Layout, first_width, pool_at, fits, width, same_pool, serial_of, now, is_started, has_run, queueings, still_open, is_live, is_pending, runs_elsewhere, is_ahead, is_active, became_active, is_startable, is_enlisted, is_cancelling, is_crowded, destroys, is_gone, answer, start_of, may_call, is_shut, IsLegal}
+use Rattle.std.specs.Prelude.{◌≡◌, ◌==◌, ◌+◌, ◌&&◌, ◌||◌, if◌then◌else◌, ◌∷◌, ◌++◌}
+use Rattle.cmwq_theory_laws.specs.Common.{ℕ, length, Bool, true, false, not, List, [], filter, find, count_by, Option, IsTrue, nat_lt, AllByRecursion, PoolId, WorkerId, Who, Worker, Call, Reply, Entry, Queueing, Layout, first_width, pool_at, fits, width, same_pool, serial_of, now, is_started, has_run, queueings, still_open, is_live, is_pending, runs_elsewhere, is_ahead, is_active, became_active, is_startable, is_enlisted, is_cancelling, is_crowded, destroys, is_gone, answer, start_of, may_call, is_shut, IsLegal}
 use Rattle.cmwq_model.specs.declared.call.Call.TheVariants as call
 use Rattle.cmwq_model.specs.declared.reply.Reply.TheVariants as reply
 

@@ -1,5 +1,6 @@
 -- What a legal history says is inside its layout, and its numbers are inside the ranges of their types: so it can be written, and read again.
-use Rattle.cmwq_theory_laws.specs.Common.{◌≡◌, ℕ, ◌≤◌, true, List, length, IsTrue, All, Entry, Layout, is_layout, entry_fits, IsWho, IsCall, IsEntry, now, IsLegal, past_of, most_time, OfEntries}
+use Rattle.std.specs.Prelude.{◌≡◌, ◌≤◌}
+use Rattle.cmwq_theory_laws.specs.Common.{ℕ, true, List, length, IsTrue, All, Entry, Layout, is_layout, entry_fits, IsWho, IsCall, IsEntry, now, IsLegal, past_of, most_time, OfEntries}
 
 -- the call of each entry fits, and the items and workers that its reply names are of the layout
 abbrev pub EntriesFit : Type 0

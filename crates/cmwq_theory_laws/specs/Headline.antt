@@ -1,5 +1,6 @@
 -- What a user of the runtime relies on, as laws of every legal history.
-use Rattle.cmwq_theory_laws.specs.Common.{◌≡◌, ℕ, ◌≤◌, Bool, true, false, ◌&&◌, ◌||◌, ◌==◌, List, ◌∷◌, length, count_by, Some, option_and_then, is_some, nat_lt, nat_le, AllByRecursion, IsDistinct, WorkerId, Call, Entry, Queueing, Layout, width, is_active, newly_active, is_at, same_worker, entry_at, item_at, starts, is_finished, is_cancelled, run, item_runs, queueings, queueing_at, run_queue, is_pending, is_cancelling, open_on, active_count, OfLegal, OfEachEntry, IsDone}
+use Rattle.std.specs.Prelude.{◌≡◌, ◌≤◌, ◌&&◌, ◌||◌, ◌==◌, ◌∷◌}
+use Rattle.cmwq_theory_laws.specs.Common.{ℕ, Bool, true, false, List, length, count_by, Some, option_and_then, is_some, nat_lt, nat_le, AllByRecursion, IsDistinct, WorkerId, Call, Entry, Queueing, Layout, width, is_active, newly_active, is_at, same_worker, entry_at, item_at, starts, is_finished, is_cancelled, run, item_runs, queueings, queueing_at, run_queue, is_pending, is_cancelling, open_on, active_count, OfLegal, OfEachEntry, IsDone}
 use Rattle.cmwq_model.specs.declared.call.Call.TheVariants as call
 
 -- ---- no two workers have runs of one item

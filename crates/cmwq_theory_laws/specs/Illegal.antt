@@ -1,5 +1,6 @@
 -- Why the laws are said of legal histories: small illegal ones that break each.
-use Rattle.cmwq_theory_laws.specs.Common.{ℕ, false, List, [], ◌∷◌, WorkerId, Caller, Worker, Call, Reply, Entry, Layout, past_of}
+use Rattle.std.specs.Prelude.{◌∷◌}
+use Rattle.cmwq_theory_laws.specs.Common.{ℕ, false, List, [], WorkerId, Caller, Worker, Call, Reply, Entry, Layout, past_of}
 use Rattle.cmwq_model.specs.declared.call.Call.TheVariants as call
 use Rattle.cmwq_model.specs.declared.reply.Reply.TheVariants as reply
 use Rattle.cmwq_theory_laws.specs.Headline.{RunsInOneWorker, StartedOnce, StartsEarlier, StartsActive, RunsWithinActive, WaitsEndAfter, CancelsSettle}

@@ -1,5 +1,6 @@
 -- Room: what histories that are made by steps need of it.
-use Rattle.cmwq_theory_laws.specs.Common.{◌≡◌, ℕ, ◌≤◌, ◌∷◌, true, List, length, nat_le, AllByRecursion, Who, Call, Entry, Layout, fits, now, entry_for, IsWho, IsCall, answer, room_needed, has_room, most_time, steps, is_promised}
+use Rattle.std.specs.Prelude.{◌≡◌, ◌≤◌, ◌∷◌}
+use Rattle.cmwq_theory_laws.specs.Common.{ℕ, true, List, length, nat_le, AllByRecursion, Who, Call, Entry, Layout, fits, now, entry_for, IsWho, IsCall, answer, room_needed, has_room, most_time, steps, is_promised}
 
 -- a history that is made by steps is within its room
 abbrev pub StepsAreWithinRoom : Type 0

@@ -1,6 +1,7 @@
 -- Laws that show that the definitions say neither too much nor too little: each call has its one entry, and no item or
 -- queueing is two things at once.
-use Rattle.cmwq_theory_laws.specs.Common.{◌≡◌, ℕ, ◌≤◌, Bool, true, false, ◌&&◌, List, ◌∷◌, map, filter, count_by, reverse, AllByRecursion, range_with_len, Who, Call, Entry, Queueing, Layout, fits, is_by, serial_of, is_started, is_finished, is_cancelled, queueings, still_open, IsLegal, steps, OfLegal}
+use Rattle.std.specs.Prelude.{◌≡◌, ◌≤◌, ◌&&◌, ◌∷◌}
+use Rattle.cmwq_theory_laws.specs.Common.{ℕ, Bool, true, false, List, map, filter, count_by, reverse, AllByRecursion, range_with_len, Who, Call, Entry, Queueing, Layout, fits, is_by, serial_of, is_started, is_finished, is_cancelled, queueings, still_open, IsLegal, steps, OfLegal}
 use Rattle.cmwq_theory_steps.specs.Pending.{is_run_of}
 
 -- ---- a call that fits has exactly one legal entry after a legal history

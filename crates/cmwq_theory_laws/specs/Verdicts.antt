@@ -1,5 +1,6 @@
 -- The verdict of a history is one: it is legal, or has one first wrong entry, and never both.
-use Rattle.cmwq_theory_laws.specs.Common.{◌≡◌, List, Entry, Illegal, Layout, IsLegal, past_of, IsFirstWrong}
+use Rattle.std.specs.Prelude.{◌≡◌}
+use Rattle.cmwq_theory_laws.specs.Common.{List, Entry, Illegal, Layout, IsLegal, past_of, IsFirstWrong}
 
 -- a history that has a first wrong entry is not legal
 abbrev pub WrongAreIllegal : Type 0

@@ -1,5 +1,6 @@
 -- What one more entry ends and opens, and so what is open after it.
-use Rattle.cmwq_theory_steps.specs.Common.{◌≡◌, ℕ, ◌<◌, Bool, ◌&&◌, not, if◌then◌else◌, List, ◌∷◌, ◌++◌, length, filter, find, Option, None, option_map, option_and_then, option_to_list, option_or, Entry, Queueing, Layout, item_of, is_of_item, number_finished, number_cancelled, finishes, takes_back, replaces, is_started, is_live, still_open, opening, unstarted_queueing, IsLegal}
+use Rattle.std.specs.Prelude.{◌≡◌, ◌<◌, ◌&&◌, if◌then◌else◌, ◌∷◌, ◌++◌}
+use Rattle.cmwq_theory_steps.specs.Common.{ℕ, Bool, not, List, length, filter, find, Option, None, option_map, option_and_then, option_to_list, option_or, Entry, Queueing, Layout, item_of, is_of_item, number_finished, number_cancelled, finishes, takes_back, replaces, is_started, is_live, still_open, opening, unstarted_queueing, IsLegal}
 
 -- the entry puts something new in the place of this queueing, which hasn't started
 abbrev pub is_replaced : List Entry → Entry → Queueing → Bool

@@ -1,5 +1,6 @@
 -- Histories that grow: what is older of a legal one is legal, and a longer one begins with it.
-use Rattle.cmwq_theory_steps.specs.Common.{◌≡◌, List, [], ◌∷◌, ◌++◌, Entry, Layout, IsLegal, past_of}
+use Rattle.std.specs.Prelude.{◌≡◌, ◌∷◌, ◌++◌}
+use Rattle.cmwq_theory_steps.specs.Common.{List, [], Entry, Layout, IsLegal, past_of}
 
 -- a front of a legal history is legal
 abbrev pub FrontsAreLegal : Type 0

@@ -1,5 +1,6 @@
 -- What a law of histories ranges over.
-use Rattle.cmwq_theory_steps.specs.Common.{Entry, Layout, IsLegal, ℕ, Bool, if◌then◌else◌, List, ◌∷◌, []}
+use Rattle.std.specs.Prelude.{if◌then◌else◌, ◌∷◌}
+use Rattle.cmwq_theory_steps.specs.Common.{Entry, Layout, IsLegal, ℕ, Bool, List, []}
 
 -- a law of every legal history of every shape
 abbrev pub OfLegal : (Layout → List Entry → Type 0) → Type 0

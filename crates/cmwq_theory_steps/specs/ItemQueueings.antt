@@ -1,5 +1,6 @@
 -- An item's unstarted queueing and its run, as queueings, and the queueing that an entry ends, read off its reply.
-use Rattle.cmwq_theory_steps.specs.Common.{◌≡◌, ℕ, ◌==◌, true, List, ◌∷◌, Option, Some, None, if◌then◌else◌, option_and_then, option_or, PoolId, Who, Caller, Worker, Reply, Entry, Queueing, Start, Layout, pool_at, item_of, run, item_run, opening, unstarted_queueing, queueing_at, is_live, next}
+use Rattle.std.specs.Prelude.{◌≡◌, ◌==◌, ◌∷◌, if◌then◌else◌}
+use Rattle.cmwq_theory_steps.specs.Common.{ℕ, true, List, Option, Some, None, option_and_then, option_or, PoolId, Who, Caller, Worker, Reply, Entry, Queueing, Start, Layout, pool_at, item_of, run, item_run, opening, unstarted_queueing, queueing_at, is_live, next}
 use Rattle.cmwq_model.specs.declared.reply.Reply.TheVariants as reply
 use Rattle.cmwq_theory_steps.specs.Histories.{OfLegal, OfEntries}
 use Rattle.cmwq_theory_steps.specs.Endings.{ending}

@@ -1,5 +1,6 @@
 -- How many queueings are open at once.
-use Rattle.cmwq_theory_steps.specs.Common.{◌≡◌, ℕ, ◌+◌, ◌*◌, ◌≤◌, ◌∷◌, length, count_by, is_some, still_open, opening, is_of}
+use Rattle.std.specs.Prelude.{◌≡◌, ◌+◌, ◌*◌, ◌≤◌, ◌∷◌}
+use Rattle.cmwq_theory_steps.specs.Common.{ℕ, length, count_by, is_some, still_open, opening, is_of}
 use Rattle.cmwq_theory_steps.specs.Endings.{ending}
 use Rattle.cmwq_theory_steps.specs.Histories.{OfLegal, one, OfEntries}
 

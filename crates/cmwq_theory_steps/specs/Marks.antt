@@ -1,5 +1,6 @@
 -- Which items one more entry can change.
-use Rattle.cmwq_theory_steps.specs.Common.{◌≡◌, ℕ, false, List, ◌∷◌, Option, option_and_then, option_or, Entry, Layout, is_at, item_of, item_at, number_started, number_finished, IsLegal, bits}
+use Rattle.std.specs.Prelude.{◌≡◌, ◌∷◌}
+use Rattle.cmwq_theory_steps.specs.Common.{ℕ, false, List, Option, option_and_then, option_or, Entry, Layout, is_at, item_of, item_at, number_started, number_finished, IsLegal, bits}
 
 -- the item of an entry, or that of the queueing that the entry starts or finishes
 abbrev pub item_marked : List Entry → Entry → Option ℕ

@@ -1,5 +1,6 @@
 -- What an item has that is pending: one unstarted queueing at most, and none while it is booked.
-use Rattle.cmwq_theory_steps.specs.Common.{◌≡◌, ◌==◌, ◌&&◌, ℕ, Bool, true, List, filter, None, option_to_list, Entry, Queueing, Layout, is_booked, still_open, is_unstarted, unstarted_queueing, IsLegal, is_started}
+use Rattle.std.specs.Prelude.{◌≡◌, ◌==◌, ◌&&◌}
+use Rattle.cmwq_theory_steps.specs.Common.{ℕ, Bool, true, List, filter, None, option_to_list, Entry, Queueing, Layout, is_booked, still_open, is_unstarted, unstarted_queueing, IsLegal, is_started}
 
 -- of an item's open queueings one at most hasn't started
 abbrev pub OneUnstarted : Type 0

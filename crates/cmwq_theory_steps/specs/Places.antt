@@ -1,5 +1,6 @@
 -- What is open on a queue and CPU, and how many are active there.
-use Rattle.cmwq_theory_steps.specs.Common.{ℕ, ◌-◌, min, max, Bool, ◌&&◌, not, ◌==◌, List, [], ◌∷◌, length, filter, count_by, Entry, Queueing, Layout, width, is_live, still_open, is_active}
+use Rattle.std.specs.Prelude.{◌-◌, ◌&&◌, ◌==◌, ◌∷◌}
+use Rattle.cmwq_theory_steps.specs.Common.{ℕ, min, max, Bool, not, List, [], length, filter, count_by, Entry, Queueing, Layout, width, is_live, still_open, is_active}
 
 -- the open queueings of a queue on a CPU
 abbrev pub is_on : ℕ → ℕ → Queueing → Bool

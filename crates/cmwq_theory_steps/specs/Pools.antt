@@ -1,5 +1,6 @@
 -- Runs, queueings and bookings of one item keep together: on one queue, and in one pool.
-use Rattle.cmwq_theory_steps.specs.Common.{◌≡◌, ℕ, true, List, Some, WorkerId, Entry, Booking, Queueing, Start, Layout, pool_at, booking, run, item_run, is_live, unstarted_queueing, queueing_at, queue_of, IsLegal}
+use Rattle.std.specs.Prelude.{◌≡◌}
+use Rattle.cmwq_theory_steps.specs.Common.{ℕ, true, List, Some, WorkerId, Entry, Booking, Queueing, Start, Layout, pool_at, booking, run, item_run, is_live, unstarted_queueing, queueing_at, queue_of, IsLegal}
 
 -- what a worker runs is an open queueing of its pool
 pub record IsRunIn (s : Layout) (past : List Entry) (w : WorkerId) (n : ℕ) : Type 0 where

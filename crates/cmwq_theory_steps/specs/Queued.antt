@@ -1,5 +1,6 @@
 -- Queueings by number, the queues of runs, and which items are pending and run, after one more entry.
-use Rattle.cmwq_theory_steps.specs.Common.{◌≡◌, ℕ, ◌+◌, ◌==◌, Bool, ◌&&◌, ◌||◌, not, if◌then◌else◌, List, ◌∷◌, length, Option, None, is_some, option_or, WorkerId, Worker, Reply, Entry, Queueing, is_by, is_of_item, settles, due_in, number_cancelled, starts_item, item_run, item_runs, opens, opening, is_pending, queueing_at, queue_of, run_queue, bits}
+use Rattle.std.specs.Prelude.{◌≡◌, ◌+◌, ◌==◌, ◌&&◌, ◌||◌, if◌then◌else◌, ◌∷◌}
+use Rattle.cmwq_theory_steps.specs.Common.{ℕ, Bool, not, List, length, Option, None, is_some, option_or, WorkerId, Worker, Reply, Entry, Queueing, is_by, is_of_item, settles, due_in, number_cancelled, starts_item, item_run, item_runs, opens, opening, is_pending, queueing_at, queue_of, run_queue, bits}
 use Rattle.cmwq_model.specs.declared.reply.Reply.TheVariants as reply
 use Rattle.cmwq_theory_steps.specs.Histories.{OfEntries}
 use Rattle.cmwq_theory_steps.specs.RunSteps.{ends_run}

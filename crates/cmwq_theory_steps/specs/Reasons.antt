@@ -1,5 +1,6 @@
 -- Why a legal entry's reply is what it is: what held before it, read off the reply.
-use Rattle.cmwq_theory_steps.specs.Common.{◌≡◌, ℕ, ◌+◌, ◌<◌, Bool, true, false, List, ◌∷◌, length, Option, Some, None, CallerId, ItemId, WorkerId, Who, Caller, Worker, Call, Reply, Entry, Booking, Place, Queueing, Ticket, Layout, item_called, now, booking, is_booked, number_started, number_finished, number_cancelled, run, has_run, runs_awake, runs_asleep, place_called, is_pending, unstarted_queueing, runs_elsewhere, next, is_enlisted, index_enlisted, runnable, enlisted_by, may_retire, gives_ticket, is_cancelling, is_crowded, ticket_of, waits_for, may_call, is_shut, first_due, is_held_back, IsLegal}
+use Rattle.std.specs.Prelude.{◌≡◌, ◌+◌, ◌<◌, ◌∷◌}
+use Rattle.cmwq_theory_steps.specs.Common.{ℕ, Bool, true, false, List, length, Option, Some, None, CallerId, ItemId, WorkerId, Who, Caller, Worker, Call, Reply, Entry, Booking, Place, Queueing, Ticket, Layout, item_called, now, booking, is_booked, number_started, number_finished, number_cancelled, run, has_run, runs_awake, runs_asleep, place_called, is_pending, unstarted_queueing, runs_elsewhere, next, is_enlisted, index_enlisted, runnable, enlisted_by, may_retire, gives_ticket, is_cancelling, is_crowded, ticket_of, waits_for, may_call, is_shut, first_due, is_held_back, IsLegal}
 use Rattle.cmwq_model.specs.declared.call.Call.TheVariants as call
 use Rattle.cmwq_model.specs.declared.reply.Reply.TheVariants as reply
 

@@ -1,5 +1,6 @@
 -- What a history owes after one more entry, and so which replies are never refused for want of room.
-use Rattle.cmwq_theory_steps.specs.Common.{◌≡◌, ℕ, ◌+◌, ◌*◌, [], ◌≤◌, Bool, true, false, ◌&&◌, List, ◌∷◌, length, count_by, is_some, range_with_len, option_map_or, Reply, Entry, Layout, item_of, settles, booking_of, is_booked, number_started, number_finished, has_run, runs_asleep, still_open, opening, gives_ticket, is_done, unended_tickets, is_frozen, owed, workers, has_not_started, room_needed}
+use Rattle.std.specs.Prelude.{◌≡◌, ◌+◌, ◌*◌, ◌≤◌, ◌&&◌, ◌∷◌}
+use Rattle.cmwq_theory_steps.specs.Common.{ℕ, [], Bool, true, false, List, length, count_by, is_some, range_with_len, option_map_or, Reply, Entry, Layout, item_of, settles, booking_of, is_booked, number_started, number_finished, has_run, runs_asleep, still_open, opening, gives_ticket, is_done, unended_tickets, is_frozen, owed, workers, has_not_started, room_needed}
 use Rattle.cmwq_model.specs.declared.reply.Reply.TheVariants as reply
 use Rattle.cmwq_theory_steps.specs.Endings.{ending}
 use Rattle.cmwq_theory_steps.specs.Histories.{one, OfEntries}

@@ -1,5 +1,6 @@
 -- What workers and items run after one more entry.
-use Rattle.cmwq_theory_steps.specs.Common.{◌≡◌, ℕ, Bool, false, if◌then◌else◌, List, ◌∷◌, Option, Some, None, option_map_or, WorkerId, Worker, Reply, Entry, Start, Layout, is_by, item_at, finishes, run, start_in, starts_item, item_run, IsLegal}
+use Rattle.std.specs.Prelude.{◌≡◌, if◌then◌else◌, ◌∷◌}
+use Rattle.cmwq_theory_steps.specs.Common.{ℕ, Bool, false, List, Option, Some, None, option_map_or, WorkerId, Worker, Reply, Entry, Start, Layout, is_by, item_at, finishes, run, start_in, starts_item, item_run, IsLegal}
 use Rattle.cmwq_model.specs.declared.reply.Reply.TheVariants as reply
 
 -- what a worker runs after an entry of its own

@@ -1,5 +1,6 @@
 -- What is kept of workers, items, time and serials after one more entry.
-use Rattle.cmwq_theory_steps.specs.Common.{◌≡◌, ℕ, ◌+◌, true, false, ◌&&◌, ◌||◌, not, if◌then◌else◌, List, ◌∷◌, length, Some, ItemId, WorkerId, Who, Worker, Entry, Place, Layout, same_who, is_by, is_of_item, item_called, item_of, serial_of, ticks_told, now, settles, due_in, booking, booking_of, asleep_after, is_asleep, opens, opening, place_called, place_wanted, queued_at, enlists, is_retired, is_enlisted, IsLegal}
+use Rattle.std.specs.Prelude.{◌≡◌, ◌+◌, ◌&&◌, ◌||◌, if◌then◌else◌, ◌∷◌}
+use Rattle.cmwq_theory_steps.specs.Common.{ℕ, true, false, not, List, length, Some, ItemId, WorkerId, Who, Worker, Entry, Place, Layout, same_who, is_by, is_of_item, item_called, item_of, serial_of, ticks_told, now, settles, due_in, booking, booking_of, asleep_after, is_asleep, opens, opening, place_called, place_wanted, queued_at, enlists, is_retired, is_enlisted, IsLegal}
 use Rattle.cmwq_theory_steps.specs.Histories.{one}
 
 -- a worker sleeps as its own last entry left it

@@ -1,5 +1,6 @@
 -- What one more entry does to the unended tickets, and which flushes it serves.
-use Rattle.cmwq_theory_steps.specs.Common.{◌≡◌, ℕ, ◌+◌, ◌<◌, ◌≤◌, Bool, false, ◌&&◌, not, ◌==◌, if◌then◌else◌, List, ◌∷◌, ◌++◌, length, filter, count_by, Option, Some, None, option_to_list, nat_lt, option_map_or, Who, Call, Entry, Ticket, Layout, is_done, ends, ticket_in, unended_tickets, is_flush_of, ticket_of, is_older_flush, serving_from, IsLegal}
+use Rattle.std.specs.Prelude.{◌≡◌, ◌+◌, ◌<◌, ◌≤◌, ◌&&◌, ◌==◌, if◌then◌else◌, ◌∷◌, ◌++◌}
+use Rattle.cmwq_theory_steps.specs.Common.{ℕ, Bool, false, not, List, length, filter, count_by, Option, Some, None, option_to_list, nat_lt, option_map_or, Who, Call, Entry, Ticket, Layout, is_done, ends, ticket_in, unended_tickets, is_flush_of, ticket_of, is_older_flush, serving_from, IsLegal}
 use Rattle.cmwq_model.specs.declared.call.Call.TheVariants as call
 use Rattle.cmwq_theory_steps.specs.Histories.{one}
 use Rattle.cmwq_model.specs.declared.reply.Reply.TheVariants as reply

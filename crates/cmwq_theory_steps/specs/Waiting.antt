@@ -1,5 +1,6 @@
 -- What waits, and how many are active on a queue and CPU, after one more entry.
-use Rattle.cmwq_theory_steps.specs.Common.{◌≡◌, ℕ, ◌+◌, ◌-◌, ◌&&◌, not, Bool, false, List, ◌∷◌, ◌++◌, filter, count_by, drop, option_to_list, nat_lt, option_map_or, Entry, Queueing, Layout, width, still_open, opening, is_below_max_active, is_active, newly_active}
+use Rattle.std.specs.Prelude.{◌≡◌, ◌+◌, ◌-◌, ◌&&◌, ◌∷◌, ◌++◌}
+use Rattle.cmwq_theory_steps.specs.Common.{ℕ, not, Bool, false, List, filter, count_by, drop, option_to_list, nat_lt, option_map_or, Entry, Queueing, Layout, width, still_open, opening, is_below_max_active, is_active, newly_active}
 use Rattle.cmwq_theory_steps.specs.Histories.{one, OfEntries}
 use Rattle.cmwq_theory_steps.specs.Places.{is_on, open_on, active_count}
 use Rattle.cmwq_theory_steps.specs.Endings.{survives, ending}

@@ -6,7 +6,7 @@ pub use Rattle.std.proofs.lemmas.List.{get_or-set_other, get_or-set_same, get_or
 pub use Rattle.std.proofs.lemmas.List.Folds.{find-append, sum_by-replicate}
 pub use Rattle.std.proofs.lemmas.List.Sums.{AllPass-from_list_all, count_by-le-length, length-filter, sum_by-cons, sum_by-le, sum_by-set, sum_by_push}
 pub use Rattle.std.specs.List.{list_all, list_any}
-pub use Rattle.std.specs.Prelude.{flat_map, nat_le, nat_lt, slice_index, slice_index_or, slice_set, vec_capacity, ◌&&◌}
+pub use Rattle.std.specs.Prelude.{flat_map, nat_le, nat_lt, slice_index, slice_index_or, slice_set, vec_capacity}
 pub use Rattle.cmwq_model.specs.Prelude.{cancels_sync, destroys, drains, is_cancel_sync_of, is_destroy_of, is_drain_of}
 pub use Rattle.cmwq_model.specs.declared.call.Call.{Call}
 pub use Rattle.cmwq_model.specs.declared.record.Ticket.{Ticket}

@@ -1,5 +1,6 @@
 -- How many unended tickets there are of each kind that is asked for: by item, and by queue.
-use Rattle.cmwq_ticket.specs.Common.{◌≡◌, ℕ, ◌+◌, ◌-◌, ◌<◌, Bool, true, List, length, All, count_by, sum_by, nat_lt, slice_index, slice_set, replicate, Call, Ticket, is_cancel_sync_of, is_destroy_of, is_drain_of}
+use Rattle.std.specs.Prelude.{◌≡◌, ◌+◌, ◌-◌, ◌<◌}
+use Rattle.cmwq_ticket.specs.Common.{ℕ, Bool, true, List, length, All, count_by, sum_by, nat_lt, slice_index, slice_set, replicate, Call, Ticket, is_cancel_sync_of, is_destroy_of, is_drain_of}
 use Rattle.cmwq_model.specs.declared.call.Call.TheVariants as call
 use Rattle.cmwq_ticket.specs.declared.counts.TheConstants.{ITEMS, QUEUES}
 use Rattle.cmwq_ticket.specs.declared.counts.Counts.{Counts}

@@ -1,5 +1,6 @@
 -- The unended tickets of all callers: a row for each caller, with its tickets by rising number.
-use Rattle.cmwq_ticket.specs.Common.{ℕ, ◌≤◌, ◌<◌, Bool, ◌&&◌, not, ◌==◌, List, [], ◌∷◌, ◌++◌, length, filter, find, flat_map, Option, AllPairs, sum_by, nat_le, nat_lt, slice_index_or, slice_set, list_any, list_all, Ticket, is_cancel_sync_of, is_destroy_of, is_drain_of}
+use Rattle.std.specs.Prelude.{◌≤◌, ◌<◌, ◌&&◌, ◌==◌, ◌∷◌, ◌++◌}
+use Rattle.cmwq_ticket.specs.Common.{ℕ, Bool, not, List, [], length, filter, find, flat_map, Option, AllPairs, sum_by, nat_le, nat_lt, slice_index_or, slice_set, list_any, list_all, Ticket, is_cancel_sync_of, is_destroy_of, is_drain_of}
 use Rattle.cmwq_ticket.specs.Counts.{is_counted}
 
 abbrev pub TicketRows : Type 0

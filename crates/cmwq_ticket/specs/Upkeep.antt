@@ -1,5 +1,6 @@
 -- What the tickets of all callers keep true of their parts: the rows, the counts beside them, and how many there are.
-use Rattle.cmwq_ticket.specs.Common.{◌≡◌, ℕ, ◌<◌, List, length, All, Ticket}
+use Rattle.std.specs.Prelude.{◌≡◌, ◌<◌}
+use Rattle.cmwq_ticket.specs.Common.{ℕ, List, length, All, Ticket}
 use Rattle.cmwq_ticket.specs.declared.counts.Counts.{Counts}
 use Rattle.cmwq_ticket.specs.Counts.{AreExact, AreSized}
 use Rattle.cmwq_ticket.specs.Rows.{IsRow, count}
