@@ -73,14 +73,26 @@ caller_row past c =
     else figure_text (codes "caller c") c ++ figure_text (codes ": calls ") (calls_by past c) ++ figure_text (codes ", tickets ") (tickets_by past c)
     ++ longest_text (tickets_by past c) (longest_wait_entries past c) (longest_wait_ticks past c) ++ line_end
 
-abbrev pub starts_text : List Entry → ℕ → List ℕ
-starts_text past p = longest_text (starts_at past p) (longest_start_entries past p) (longest_start_ticks past p) ++ mean_text (starts_at past p) (all_start_entries past p) (all_start_ticks past p)
+-- how long so many starts waited: the longest wait, and the mean of all of them together
+abbrev pub starts_text : ℕ → ℕ → ℕ → ℕ → ℕ → List ℕ
+starts_text many entries ticks all_entries all_ticks = longest_text many entries ticks ++ mean_text many all_entries all_ticks
+
+-- how many queueings and starts there are, and how many cancelled ones, and the width
+abbrev pub opened_text : ℕ → ℕ → List ℕ
+opened_text queueings starts = figure_text (codes ": queueings ") queueings ++ figure_text (codes ", starts ") starts
+
+abbrev pub bounds_text : ℕ → ℕ → List ℕ
+bounds_text cancels wide = figure_text (codes ", cancelled ") cancels ++ figure_text (codes ", width ") wide
+
+abbrev pub place_figures : List Entry → ℕ → ℕ → List ℕ
+place_figures past p wide = opened_text (queueings_at past p) (starts_at past p) ++ bounds_text (cancels_at past p) wide
+
+abbrev pub place_waits : List Entry → ℕ → List ℕ
+place_waits past p =
+    starts_text (starts_at past p) (longest_start_entries past p) (longest_start_ticks past p) (all_start_entries past p) (all_start_ticks past p)
 
 abbrev pub place_row : List Entry → ℕ → ℕ → List ℕ
-place_row past p wide =
-    if queueings_at past p == 0 then []
-    else place_name p ++ figure_text (codes ": queueings ") (queueings_at past p) ++ figure_text (codes ", starts ") (starts_at past p) ++ figure_text (codes ", cancelled ") (cancels_at past p)
-    ++ figure_text (codes ", width ") wide ++ starts_text past p ++ line_end
+place_row past p wide = if queueings_at past p == 0 then [] else place_name p ++ place_figures past p wide ++ place_waits past p ++ line_end
 
 abbrev pub row_text : Layout → List Entry → Table → ℕ → List ℕ
 row_text s past table.Calls k = call_row k (calls_of_kind past k)

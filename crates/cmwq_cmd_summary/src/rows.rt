@@ -3,7 +3,7 @@ ghost use Rattle.std.specs.Prelude.{◌≡◌, ◌+◌, ◌*◌, ◌/◌, ◌<�
 ghost use Rattle.cmwq_model.specs.Prelude.{width};
 ghost use Rattle.cmwq_summary.specs.Kinds.{call_kinds, reply_kinds};
 ghost use Rattle.cmwq_core.specs.History.{past_in};
-ghost use Rattle.cmwq_cmd_summary.specs.Page.{call_row, reply_row, item_row, caller_row, longest_text, mean_text, span_text, worker_of_row, worker_name, worker_row, place_name, row_text, rows_in};
+ghost use Rattle.cmwq_cmd_summary.specs.Page.{call_row, reply_row, item_row, caller_row, longest_text, mean_text, starts_text, opened_text, bounds_text, place_figures, place_waits, span_text, worker_of_row, worker_name, worker_row, place_name, row_text, rows_in};
 ghost use Rattle.cmwq_cmd_summary.specs.declared.table.Table.TheVariants as TheTable;
 
 use crate::name::{call_name, reply_name};
@@ -233,22 +233,72 @@ fn push_mean(row: &mut Row, many: u64, all: Total)
     }
 }
 
+/// Spells how long so many starts waited.
+fn push_starts(row: &mut Row, many: u64, longest: Span, all: Total)
+    requires { length row.old + 186 ≤ 512 }
+    ensures exact { row.new ≡ row.old ++ starts_text many longest.entries longest.ticks all.entries all.ticks }
+    ensures short { length row.new ≤ length row.old + 186 }
+{
+    push_longest(row, many, longest);
+    push_mean(row, many, all);
+}
+
+/// Spells how many queueings and starts there are.
+fn push_opened(row: &mut Row, queueings: u64, starts: u64)
+    requires { length row.old + 70 ≤ 512 }
+    ensures exact { row.new ≡ row.old ++ opened_text queueings starts }
+    ensures short { length row.new ≤ length row.old + 70 }
+{
+    row.push_figure(": queueings ", queueings);
+    row.push_figure(", starts ", starts);
+}
+
+/// Spells how many cancelled ones there are, and the width.
+fn push_bounds(row: &mut Row, cancels: u64, wide: u64)
+    requires { length row.old + 70 ≤ 512 }
+    ensures exact { row.new ≡ row.old ++ bounds_text cancels wide }
+    ensures short { length row.new ≤ length row.old + 70 }
+{
+    row.push_figure(", cancelled ", cancels);
+    row.push_figure(", width ", wide);
+}
+
+/// Spells all that of a queue and CPU.
+fn push_figures(row: &mut Row, progress: &Progress, place: usize)
+    requires place { place < 4 * length progress.now.layout.queues }
+    requires room { length row.old + 140 ≤ 512 }
+    ensures exact { row.new ≡ row.old ++ place_figures (past_in progress.now) place (width progress.now.layout (past_in progress.now) (place / 4)) }
+    ensures short { length row.new ≤ length row.old + 140 }
+{
+    let summary = progress.summary();
+    let wide = width_at(progress, place);
+    push_opened(row, summary.queueings_at(place), summary.starts_at(place));
+    push_bounds(row, summary.cancels_at(place), wide.into());
+}
+
+/// Spells how long the starts there waited.
+fn push_waits(row: &mut Row, progress: &Progress, place: usize)
+    requires place { place < 4 * length progress.now.layout.queues }
+    requires room { length row.old + 186 ≤ 512 }
+    ensures exact { row.new ≡ row.old ++ place_waits (past_in progress.now) place }
+    ensures short { length row.new ≤ length row.old + 186 }
+{
+    let summary = progress.summary();
+    let longest = summary.longest_start(place);
+    let all = summary.all_starts(place);
+    push_starts(row, summary.starts_at(place), longest, all);
+}
+
 fn place_row(progress: &Progress, place: usize) -> Row
     requires { place < 4 * length progress.now.layout.queues }
     ensures { result ≡ row_text progress.now.layout (past_in progress.now) TheTable.Places place }
 {
-    let summary = progress.summary();
-    let queueings = summary.queueings_at(place);
+    let queueings = progress.summary().queueings_at(place);
     let mut row = Row::new();
     if queueings > 0 {
         push_place(&mut row, place);
-        row.push_figure(": queueings ", queueings);
-        let starts = summary.starts_at(place);
-        row.push_figure(", starts ", starts);
-        row.push_figure(", cancelled ", summary.cancels_at(place));
-        row.push_figure(", width ", width_at(progress, place).into());
-        push_longest(&mut row, starts, summary.longest_start(place));
-        push_mean(&mut row, starts, summary.all_starts(place));
+        push_figures(&mut row, progress, place);
+        push_waits(&mut row, progress, place);
         row.push("\n");
     }
     row

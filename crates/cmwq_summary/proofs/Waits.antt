@@ -27,7 +27,7 @@ use Rattle.cmwq_summary.specs.Spent.{each_entry, each_tick}
 use Rattle.cmwq_summary.specs.Since.{added_since, IsMoment}
 use Rattle.cmwq_summary.specs.Extents.{span_at}
 use Rattle.cmwq_summary.specs.Figures.{place_number}
-use Rattle.cmwq_summary.specs.Waits.{start_wait, AreOpenings, waited, with_opening}
+use Rattle.cmwq_summary.specs.Waits.{start_wait, AreOpenings, wait_at_start, with_opening}
 use Rattle.cmwq_summary.proofs.Since.{moment_stays, moment_now, stretch_entries, stretch_ticks}
 use Rattle.cmwq_summary.proofs.Extents.{IsExtent}
 
@@ -91,7 +91,7 @@ module _ (s : Layout) (past : List Entry) (e : Entry) (legal : IsLegal s (e ∷ 
 
   -- ---- how long what is started waited
 
-  pub waits_are : (moments : List Span) → AreOpenings s.items past moments → IsExtent (start_wait each_entry) (start_wait each_tick) past e (option_map place_number (starting past e)) (waited moments (starting past e) (behind (e ∷ past)))
+  pub waits_are : (moments : List Span) → AreOpenings s.items past moments → IsExtent (start_wait each_entry) (start_wait each_tick) past e (option_map place_number (starting past e)) (wait_at_start moments (starting past e) (behind (e ∷ past)))
   waits_are moments are = by (starting past e) refl
     where
       to : Span
@@ -100,7 +100,7 @@ module _ (s : Layout) (past : List Entry) (e : Entry) (legal : IsLegal s (e ∷ 
       since : (Entry → ℕ) → Option Queueing → ℕ
       since amount o = option_map_or (λ (x : Queueing). added_since amount (e ∷ past) x.number) o 0
 
-      by : (o : Option Queueing) → starting past e ≡ o → IsExtent (start_wait each_entry) (start_wait each_tick) past e (option_map place_number o) (waited moments o to)
+      by : (o : Option Queueing) → starting past e ≡ o → IsExtent (start_wait each_entry) (start_wait each_tick) past e (option_map place_number o) (wait_at_start moments o to)
       by None none = record { entries_are = λ k h. absurd (let never : None ≡ Some k = h in cc); ticks_are = λ k h. absurd (let never : None ≡ Some k = h in cc) }
       by (Some x) started = record {
         entries_are = λ k h. stretch_entries (e ∷ past) x.number (span_at moments x.item.0) moment ∙ ap (since each_entry) (sym started);
@@ -114,10 +114,10 @@ module _ (s : Layout) (past : List Entry) (e : Entry) (legal : IsLegal s (e ∷ 
               moment_stays past e x.number (span_at moments x.item.0) (are.each x.item.0 x start.0 waits)
 
 -- a wait is small where the moment is
-pub waited_few : (moments : List Span) (o : Option Queueing) (to : Span) → to.entries ≤ 4611686018427387904 → (waited moments o to).entries ≤ 4611686018427387904
+pub waited_few : (moments : List Span) (o : Option Queueing) (to : Span) → to.entries ≤ 4611686018427387904 → (wait_at_start moments o to).entries ≤ 4611686018427387904
 waited_few moments None to few = omega arith
 waited_few moments (Some x) to few = omega arith
 
-pub waited_soon : (moments : List Span) (o : Option Queueing) (to : Span) → to.ticks ≤ 4611686018427387904 → (waited moments o to).ticks ≤ 4611686018427387904
+pub waited_soon : (moments : List Span) (o : Option Queueing) (to : Span) → to.ticks ≤ 4611686018427387904 → (wait_at_start moments o to).ticks ≤ 4611686018427387904
 waited_soon moments None to soon = omega arith
 waited_soon moments (Some x) to soon = omega arith

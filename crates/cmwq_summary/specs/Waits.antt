@@ -41,6 +41,6 @@ abbrev pub with_opening : List Span → Option Queueing → Span → List Span
 with_opening moments None to = moments
 with_opening moments (Some x) to = slice_set moments x.item.0 to
 
-abbrev pub waited : List Span → Option Queueing → Span → Span
-waited moments None to = NO_TIME
-waited moments (Some x) to = stretch (span_at moments x.item.0) to
+abbrev pub wait_at_start : List Span → Option Queueing → Span → Span
+wait_at_start moments None to = NO_TIME
+wait_at_start moments (Some x) to = stretch (span_at moments x.item.0) to

@@ -1,7 +1,7 @@
 //! When the queueings were opened that have not started.
 ghost use Rattle.std.specs.Prelude.{◌≡◌, replicate, IfOk};
 ghost use Rattle.cmwq_summary.specs.Extents.{span_at};
-ghost use Rattle.cmwq_summary.specs.Waits.{waited, with_opening};
+ghost use Rattle.cmwq_summary.specs.Waits.{wait_at_start, with_opening};
 ghost use Rattle.cmwq_summary.specs.declared.span.TheConstants as constants;
 
 use crate::span::{NO_TIME, Span};
@@ -36,7 +36,7 @@ impl Openings {
 
     /// How long the queueing waited that starts now, if one does.
     pub(crate) fn waited(&self, started: Option<Queueing>, now: Span) -> Span
-        ensures { result ≡ waited self.now started now }
+        ensures { result ≡ wait_at_start self.now started now }
     {
         match started {
             Some(queueing) => self.at(queueing).until(now),

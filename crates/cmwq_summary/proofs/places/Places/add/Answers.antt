@@ -2,7 +2,7 @@ use Rattle.std.proofs.Common.{◌≡◌, ◌*◌, ◌∷◌, length, ap, ◌∙�
 use Rattle.std.specs.Prelude.{option_map}
 use Rattle.cmwq_summary.specs.Figures.{by_place_opened, by_place_started, by_place_cancelled, cancelled_from, place_number}
 use Rattle.cmwq_summary.specs.Spent.{each_entry, each_tick}
-use Rattle.cmwq_summary.specs.Waits.{start_wait, waited}
+use Rattle.cmwq_summary.specs.Waits.{start_wait, wait_at_start}
 use Rattle.cmwq_summary.specs.Activities.{behind}
 use Rattle.cmwq_refinement.specs.Flights.{starting}
 use Rattle.cmwq_summary.proofs.Tallies.{counts_few, told_tally}
@@ -26,7 +26,7 @@ pub returns : goal.returns
 returns c s past next now are =
     let e = c.args.told.now.entry in let told = next.told in let many = 4 * length s.queues in
     let started : c.place_in-started.result ≡ option_map place_number (starting past e) = c.place_in-started.ensures ∙ ap (option_map place_number) told.started in
-    let wait : c.waited-waited.result ≡ waited c.args.self.now.openings (starting past e) (behind (e ∷ past)) = rw (told.started, now) at c.waited-waited.ensures in
+    let wait : c.waited-waited.result ≡ wait_at_start c.args.self.now.openings (starting past e) (behind (e ∷ past)) = rw (told.started, now) at c.waited-waited.ensures in
     let extent = waits_are s past e next.legal c.args.self.now.openings are.openings in
     let few = next.few in
     record {
