@@ -4,8 +4,10 @@ use Rattle.cmwq_model.specs.declared.id.WorkerId.{WorkerId}
 use Rattle.cmwq_model.specs.declared.entry.Entry.{Entry}
 use Rattle.cmwq_model.specs.Prelude.{Layout, now, width}
 use Rattle.cmwq_summary.specs.Kinds.{call_kinds, reply_kinds}
-use Rattle.cmwq_summary.specs.Figures.{calls_of, replies_of, runs_of, cancels_of, calls_by, tickets_of, starts_by, queueings_at, starts_at, cancels_at}
+use Rattle.cmwq_summary.specs.Figures.{calls_of_kind, replies_of_kind, runs_of, cancels_of, calls_by, tickets_by, starts_by, queueings_at, starts_at, cancels_at}
 use Rattle.cmwq_summary.specs.Spent.{awake_entries, awake_ticks, asleep_entries, asleep_ticks}
+use Rattle.cmwq_summary.specs.Waits.{longest_start_entries, longest_start_ticks, all_start_entries, all_start_ticks}
+use Rattle.cmwq_summary.specs.TicketWaits.{longest_wait_entries, longest_wait_ticks}
 use Rattle.cmwq_cmd_summary.specs.Names.{call_name, reply_name}
 use Rattle.cmwq_cmd_summary.specs.declared.table.Table.{Table}
 use Rattle.cmwq_cmd_summary.specs.declared.table.Table.TheVariants as table
@@ -31,20 +33,15 @@ item_row i runs cancels =
     if (runs == 0) && (cancels == 0) then []
     else figure_text (codes "item ") i ++ figure_text (codes ": runs ") runs ++ figure_text (codes ", cancels ") cancels ++ line_end
 
-abbrev pub caller_row : ℕ → ℕ → ℕ → List ℕ
-caller_row c calls tickets =
-    if calls == 0 then []
-    else figure_text (codes "caller c") c ++ figure_text (codes ": calls ") calls ++ figure_text (codes ", tickets ") tickets ++ line_end
-
 -- a worker's name, as in a history
-abbrev pub pool_letter : Bool → List ℕ
-pool_letter high = if high then codes "h" else codes "n"
+abbrev pub letter_of_pool : Bool → List ℕ
+letter_of_pool high = if high then codes "h" else codes "n"
 
-abbrev pub worker_at : ℕ → WorkerId
-worker_at w = record { pool = record { cpu = record { 0 = w / 16 }; high = w / 8 % 2 == 1 }; index = w % 8 }
+abbrev pub worker_of_row : ℕ → WorkerId
+worker_of_row w = record { pool = record { cpu = record { 0 = w / 16 }; high = w / 8 % 2 == 1 }; index = w % 8 }
 
 abbrev pub worker_name : WorkerId → List ℕ
-worker_name w = figure_text (codes "w") w.pool.cpu.0 ++ figure_text (pool_letter w.pool.high) w.index
+worker_name w = figure_text (codes "w") w.pool.cpu.0 ++ figure_text (letter_of_pool w.pool.high) w.index
 
 -- how long something went on
 abbrev pub span_text : List ℕ → ℕ → ℕ → List ℕ
@@ -59,18 +56,51 @@ worker_row past w runs =
 abbrev pub place_name : ℕ → List ℕ
 place_name p = figure_text (codes "queue ") (p / 4) ++ figure_text (codes " on CPU ") (p % 4)
 
-abbrev pub place_row : ℕ → ℕ → ℕ → ℕ → ℕ → List ℕ
-place_row p queueings starts cancels wide =
-    if queueings == 0 then []
-    else place_name p ++ figure_text (codes ": queueings ") queueings ++ figure_text (codes ", starts ") starts ++ figure_text (codes ", cancelled ") cancels ++ figure_text (codes ", width ") wide ++ line_end
+-- how long so many things waited, or a dash where there are none
+abbrev pub wait_text : List ℕ → ℕ → ℕ → ℕ → List ℕ
+wait_text name many entries ticks = if many == 0 then name ++ codes "-" else span_text name entries ticks
+
+abbrev pub longest_text : ℕ → ℕ → ℕ → List ℕ
+longest_text many entries ticks = wait_text (codes ", longest wait ") many entries ticks
+
+-- the mean is rounded down
+abbrev pub mean_text : ℕ → ℕ → ℕ → List ℕ
+mean_text many entries ticks = wait_text (codes ", mean wait ") many (entries / many) (ticks / many)
+
+abbrev pub caller_row : List Entry → ℕ → List ℕ
+caller_row past c =
+    if calls_by past c == 0 then []
+    else figure_text (codes "caller c") c ++ figure_text (codes ": calls ") (calls_by past c) ++ figure_text (codes ", tickets ") (tickets_by past c)
+    ++ longest_text (tickets_by past c) (longest_wait_entries past c) (longest_wait_ticks past c) ++ line_end
+
+-- how long so many starts waited: the longest wait, and the mean of all of them together
+abbrev pub starts_text : ℕ → ℕ → ℕ → ℕ → ℕ → List ℕ
+starts_text many entries ticks all_entries all_ticks = longest_text many entries ticks ++ mean_text many all_entries all_ticks
+
+-- how many queueings and starts there are, and how many cancelled ones, and the width
+abbrev pub opened_text : ℕ → ℕ → List ℕ
+opened_text queueings starts = figure_text (codes ": queueings ") queueings ++ figure_text (codes ", starts ") starts
+
+abbrev pub bounds_text : ℕ → ℕ → List ℕ
+bounds_text cancels wide = figure_text (codes ", cancelled ") cancels ++ figure_text (codes ", width ") wide
+
+abbrev pub place_figures : List Entry → ℕ → ℕ → List ℕ
+place_figures past p wide = opened_text (queueings_at past p) (starts_at past p) ++ bounds_text (cancels_at past p) wide
+
+abbrev pub place_waits : List Entry → ℕ → List ℕ
+place_waits past p =
+    starts_text (starts_at past p) (longest_start_entries past p) (longest_start_ticks past p) (all_start_entries past p) (all_start_ticks past p)
+
+abbrev pub place_row : List Entry → ℕ → ℕ → List ℕ
+place_row past p wide = if queueings_at past p == 0 then [] else place_name p ++ place_figures past p wide ++ place_waits past p ++ line_end
 
 abbrev pub row_text : Layout → List Entry → Table → ℕ → List ℕ
-row_text s past table.Calls k = call_row k (calls_of past k)
-row_text s past table.Replies k = reply_row k (replies_of past k)
-row_text s past table.Places p = place_row p (queueings_at past p) (starts_at past p) (cancels_at past p) (width s past (p / 4))
-row_text s past table.Workers w = worker_row past (worker_at w) (starts_by past w)
+row_text s past table.Calls k = call_row k (calls_of_kind past k)
+row_text s past table.Replies k = reply_row k (replies_of_kind past k)
+row_text s past table.Places p = place_row past p (width s past (p / 4))
+row_text s past table.Workers w = worker_row past (worker_of_row w) (starts_by past w)
 row_text s past table.Items i = item_row i (runs_of past i) (cancels_of past i)
-row_text s past table.Callers c = caller_row c (calls_by past c) (tickets_of past c)
+row_text s past table.Callers c = caller_row past c
 
 -- ---- the tables
 
@@ -87,13 +117,13 @@ unfoldable pub rows_text : (ℕ → List ℕ) → ℕ → List ℕ
 rows_text row zero = []
 rows_text row (suc n) = rows_text row n ++ row n
 
-abbrev pub table_text : Layout → List Entry → Table → List ℕ
-table_text s past t = rows_text (row_text s past t) (rows_in s t)
+abbrev pub rows_of_table : Layout → List Entry → Table → List ℕ
+rows_of_table s past t = rows_text (row_text s past t) (rows_in s t)
 
 -- ---- the page
 
-abbrev pub head_text : ℕ → ℕ → List ℕ
-head_text entries ticks = figure_text (codes "entries ") entries ++ figure_text (codes ", ticks ") ticks ++ line_end
+abbrev pub line_of_entries : ℕ → ℕ → List ℕ
+line_of_entries entries ticks = figure_text (codes "entries ") entries ++ figure_text (codes ", ticks ") ticks ++ line_end
 
 abbrev pub page_text : Layout → List Entry → List ℕ
-page_text s past = head_text (length past) (now past) ++ flat_map (table_text s past) TABLES
+page_text s past = line_of_entries (length past) (now past) ++ flat_map (rows_of_table s past) TABLES

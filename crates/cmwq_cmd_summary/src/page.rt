@@ -5,7 +5,7 @@ ghost use Rattle.cmwq_model.specs.Prelude.{now};
 ghost use Rattle.cmwq_io.specs.Counts.{Rises};
 ghost use Rattle.cmwq_io.specs.Moves.{AppendsFront};
 ghost use Rattle.cmwq_core.specs.History.{past_in};
-ghost use Rattle.cmwq_cmd_summary.specs.Page.{head_text, table_text, page_text};
+ghost use Rattle.cmwq_cmd_summary.specs.Page.{line_of_entries, rows_of_table, page_text};
 ghost use Rattle.cmwq_cmd_summary.specs.declared.table.TheConstants as constants;
 
 use crate::progress::Progress;
@@ -16,7 +16,7 @@ use cmwq_base::{Refusal, Sink, WriteFault, flush_all, write_all};
 
 /// The line of how many entries there are, and how many ticks went by.
 fn head(progress: &Progress) -> Row
-    ensures { result ≡ head_text (length (past_in progress.now)) (now (past_in progress.now)) }
+    ensures { result ≡ line_of_entries (length (past_in progress.now)) (now (past_in progress.now)) }
 {
     let summary = progress.summary();
     let mut row = Row::new();
@@ -27,8 +27,8 @@ fn head(progress: &Progress) -> Row
 }
 
 fn write_table<W: Sink>(sink: &mut W, progress: &Progress, table: Table) -> Result<(), WriteFault>
-    ensures ok { OnOk result (Appends (W.written sink.old) (W.written sink.new) (table_text progress.now.layout (past_in progress.now) table)) }
-    ensures err { OnErr result (AppendsFront (W.written sink.old) (W.written sink.new) (table_text progress.now.layout (past_in progress.now) table)) }
+    ensures ok { OnOk result (Appends (W.written sink.old) (W.written sink.new) (rows_of_table progress.now.layout (past_in progress.now) table)) }
+    ensures err { OnErr result (AppendsFront (W.written sink.old) (W.written sink.new) (rows_of_table progress.now.layout (past_in progress.now) table)) }
     ensures grown { W.troubles sink.old ≤ W.troubles sink.new }
     ensures fault { OnErr result (Rises (W.troubles sink.old) (W.troubles sink.new)) }
 {
@@ -39,8 +39,8 @@ fn write_table<W: Sink>(sink: &mut W, progress: &Progress, table: Table) -> Resu
 }
 
 fn write_tables<W: Sink>(sink: &mut W, progress: &Progress) -> Result<(), WriteFault>
-    ensures ok { OnOk result (Appends (W.written sink.old) (W.written sink.new) (flat_map (table_text progress.now.layout (past_in progress.now)) constants.TABLES)) }
-    ensures err { OnErr result (AppendsFront (W.written sink.old) (W.written sink.new) (flat_map (table_text progress.now.layout (past_in progress.now)) constants.TABLES)) }
+    ensures ok { OnOk result (Appends (W.written sink.old) (W.written sink.new) (flat_map (rows_of_table progress.now.layout (past_in progress.now)) constants.TABLES)) }
+    ensures err { OnErr result (AppendsFront (W.written sink.old) (W.written sink.new) (flat_map (rows_of_table progress.now.layout (past_in progress.now)) constants.TABLES)) }
     ensures grown { W.troubles sink.old ≤ W.troubles sink.new }
     ensures fault { OnErr result (Rises (W.troubles sink.old) (W.troubles sink.new)) }
 {

@@ -76,6 +76,7 @@ impl Progress {
             started: plan.started(),
             opened: plan.opened(),
             ended: plan.ended(),
+            ended_ticket: plan.done(),
         };
         self.execution.commit(plan);
         // it shows that the entries are few

@@ -55,4 +55,14 @@ impl Row {
         self.push(name);
         self.push(Buffer::new().format(number));
     }
+
+    /// Spells a name and a sum behind it.
+    pub(crate) fn push_sum(&mut self, name: &str, sum: u128)
+        requires { length self.old + (length name.now + 40) ≤ 512 }
+        ensures exact { self.new ≡ self.old ++ figure_text name.now sum }
+        ensures short { length self.new ≤ length self.old + (length name.now + 40) }
+    {
+        self.push(name);
+        self.push(Buffer::new().format(sum));
+    }
 }

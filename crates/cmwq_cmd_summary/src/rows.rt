@@ -3,7 +3,7 @@ ghost use Rattle.std.specs.Prelude.{◌≡◌, ◌+◌, ◌*◌, ◌/◌, ◌<�
 ghost use Rattle.cmwq_model.specs.Prelude.{width};
 ghost use Rattle.cmwq_summary.specs.Kinds.{call_kinds, reply_kinds};
 ghost use Rattle.cmwq_core.specs.History.{past_in};
-ghost use Rattle.cmwq_cmd_summary.specs.Page.{call_row, reply_row, item_row, caller_row, span_text, worker_at, worker_name, worker_row, place_name, row_text, rows_in};
+ghost use Rattle.cmwq_cmd_summary.specs.Page.{call_row, reply_row, item_row, caller_row, longest_text, mean_text, starts_text, opened_text, bounds_text, place_figures, place_waits, span_text, worker_of_row, worker_name, worker_row, place_name, row_text, rows_in};
 ghost use Rattle.cmwq_cmd_summary.specs.declared.table.Table.TheVariants as TheTable;
 
 use crate::name::{call_name, reply_name};
@@ -11,7 +11,7 @@ use crate::progress::Progress;
 use crate::row::Row;
 use crate::table::Table;
 use cmwq_base::{CallerId, CpuId, ItemId, PoolId, QueueId, WorkerId};
-use cmwq_summary::{CALL_KINDS, REPLY_KINDS, Span};
+use cmwq_summary::{CALL_KINDS, REPLY_KINDS, Span, Total};
 
 /// How many rows a table has.
 pub(crate) fn rows_in(progress: &Progress, table: Table) -> usize
@@ -43,10 +43,7 @@ pub(crate) fn row(progress: &Progress, table: Table, at: usize) -> Row
             let item = item_at(progress, at);
             item_row(item, summary.runs(item), summary.cancels(item))
         }
-        Table::Callers => {
-            let caller = caller_at(progress, at);
-            caller_row(caller, summary.calls_by(caller), summary.tickets(caller))
-        }
+        Table::Callers => caller_row(progress, caller_at(progress, at)),
     }
 }
 
@@ -111,14 +108,19 @@ fn item_row(item: ItemId, runs: u64, cancels: u64) -> Row
     row
 }
 
-fn caller_row(caller: CallerId, calls: u64, tickets: u64) -> Row
-    ensures { result ≡ caller_row caller.0 calls tickets }
+fn caller_row(progress: &Progress, caller: CallerId) -> Row
+    requires { caller.0 < progress.now.layout.callers }
+    ensures { result ≡ caller_row (past_in progress.now) caller.0 }
 {
+    let summary = progress.summary();
+    let calls = summary.calls_by(caller);
     let mut row = Row::new();
     if calls > 0 {
+        let tickets = summary.tickets(caller);
         row.push_figure("caller c", caller.0.into());
         row.push_figure(": calls ", calls);
         row.push_figure(", tickets ", tickets);
+        push_longest(&mut row, tickets, summary.longest_wait(caller));
         row.push("\n");
     }
     row
@@ -127,7 +129,7 @@ fn caller_row(caller: CallerId, calls: u64, tickets: u64) -> Row
 /// The worker with this number.
 fn worker_at(progress: &Progress, number: usize) -> WorkerId
     requires { number < 16 * progress.now.layout.cpus }
-    ensures is { result ≡ worker_at number }
+    ensures is { result ≡ worker_of_row number }
     ensures here { result.pool.cpu.0 < progress.now.layout.cpus }
 {
     // it shows that the number is small
@@ -201,19 +203,102 @@ fn width_at(progress: &Progress, place: usize) -> u32
     progress.width(QueueId((place / 4) as u8))
 }
 
+/// Spells the longest wait of so many.
+fn push_longest(row: &mut Row, many: u64, longest: Span)
+    requires { length row.old + 75 ≤ 512 }
+    ensures exact { row.new ≡ row.old ++ longest_text many longest.entries longest.ticks }
+    ensures short { length row.new ≤ length row.old + 75 }
+{
+    if many == 0 {
+        row.push(", longest wait ");
+        row.push("-");
+    } else {
+        push_span(row, ", longest wait ", longest);
+    }
+}
+
+/// Spells the mean wait of so many, which waited so long together.
+fn push_mean(row: &mut Row, many: u64, all: Total)
+    requires { length row.old + 111 ≤ 512 }
+    ensures exact { row.new ≡ row.old ++ mean_text many all.entries all.ticks }
+    ensures short { length row.new ≤ length row.old + 111 }
+{
+    if many == 0 {
+        row.push(", mean wait ");
+        row.push("-");
+    } else {
+        row.push_sum(", mean wait ", all.entries / u128::from(many));
+        row.push_sum(" entries and ", all.ticks / u128::from(many));
+        row.push(" ticks");
+    }
+}
+
+/// Spells how long so many starts waited.
+fn push_starts(row: &mut Row, many: u64, longest: Span, all: Total)
+    requires { length row.old + 186 ≤ 512 }
+    ensures exact { row.new ≡ row.old ++ starts_text many longest.entries longest.ticks all.entries all.ticks }
+    ensures short { length row.new ≤ length row.old + 186 }
+{
+    push_longest(row, many, longest);
+    push_mean(row, many, all);
+}
+
+/// Spells how many queueings and starts there are.
+fn push_opened(row: &mut Row, queueings: u64, starts: u64)
+    requires { length row.old + 70 ≤ 512 }
+    ensures exact { row.new ≡ row.old ++ opened_text queueings starts }
+    ensures short { length row.new ≤ length row.old + 70 }
+{
+    row.push_figure(": queueings ", queueings);
+    row.push_figure(", starts ", starts);
+}
+
+/// Spells how many cancelled ones there are, and the width.
+fn push_bounds(row: &mut Row, cancels: u64, wide: u64)
+    requires { length row.old + 70 ≤ 512 }
+    ensures exact { row.new ≡ row.old ++ bounds_text cancels wide }
+    ensures short { length row.new ≤ length row.old + 70 }
+{
+    row.push_figure(", cancelled ", cancels);
+    row.push_figure(", width ", wide);
+}
+
+/// Spells all that of a queue and CPU.
+fn push_figures(row: &mut Row, progress: &Progress, place: usize)
+    requires place { place < 4 * length progress.now.layout.queues }
+    requires room { length row.old + 140 ≤ 512 }
+    ensures exact { row.new ≡ row.old ++ place_figures (past_in progress.now) place (width progress.now.layout (past_in progress.now) (place / 4)) }
+    ensures short { length row.new ≤ length row.old + 140 }
+{
+    let summary = progress.summary();
+    let wide = width_at(progress, place);
+    push_opened(row, summary.queueings_at(place), summary.starts_at(place));
+    push_bounds(row, summary.cancels_at(place), wide.into());
+}
+
+/// Spells how long the starts there waited.
+fn push_waits(row: &mut Row, progress: &Progress, place: usize)
+    requires place { place < 4 * length progress.now.layout.queues }
+    requires room { length row.old + 186 ≤ 512 }
+    ensures exact { row.new ≡ row.old ++ place_waits (past_in progress.now) place }
+    ensures short { length row.new ≤ length row.old + 186 }
+{
+    let summary = progress.summary();
+    let longest = summary.longest_start(place);
+    let all = summary.all_starts(place);
+    push_starts(row, summary.starts_at(place), longest, all);
+}
+
 fn place_row(progress: &Progress, place: usize) -> Row
     requires { place < 4 * length progress.now.layout.queues }
     ensures { result ≡ row_text progress.now.layout (past_in progress.now) TheTable.Places place }
 {
-    let summary = progress.summary();
-    let queueings = summary.queueings_at(place);
+    let queueings = progress.summary().queueings_at(place);
     let mut row = Row::new();
     if queueings > 0 {
         push_place(&mut row, place);
-        row.push_figure(": queueings ", queueings);
-        row.push_figure(", starts ", summary.starts_at(place));
-        row.push_figure(", cancelled ", summary.cancels_at(place));
-        row.push_figure(", width ", width_at(progress, place).into());
+        push_figures(&mut row, progress, place);
+        push_waits(&mut row, progress, place);
         row.push("\n");
     }
     row

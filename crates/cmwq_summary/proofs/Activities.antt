@@ -15,7 +15,7 @@ use Rattle.cmwq_theory_steps.proofs.StateSteps.{sleepers_go_on}
 use Rattle.cmwq_theory_steps.proofs.Causes.{cause_of}
 use Rattle.cmwq_theory_steps.proofs.Reasons.{sleep_reason, wake_reason}
 use Rattle.cmwq_theory_steps.proofs.ItemRuns.{same_worker-true, same_worker_itself}
-use Rattle.cmwq_summary.specs.declared.activity.Span.{Span}
+use Rattle.cmwq_summary.specs.declared.span.Span.{Span}
 use Rattle.cmwq_summary.specs.declared.activity.Doing.{Doing}
 use Rattle.cmwq_summary.specs.declared.activity.Doing.TheVariants as doing
 use Rattle.cmwq_summary.specs.declared.activity.Activity.{Activity}

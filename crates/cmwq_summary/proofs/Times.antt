@@ -5,7 +5,7 @@ use Rattle.std.proofs.lemmas.List.{length-reverse}
 use Rattle.cmwq_model.specs.declared.call.Call.{Call}
 use Rattle.cmwq_model.specs.declared.call.Call.TheVariants as call
 use Rattle.cmwq_model.specs.declared.entry.Entry.{Entry}
-use Rattle.cmwq_summary.specs.declared.activity.Span.{Span}
+use Rattle.cmwq_summary.specs.declared.span.Span.{Span}
 use Rattle.cmwq_summary.specs.declared.told.Told.{Told}
 use Rattle.cmwq_summary.specs.Activities.{behind}
 use Rattle.cmwq_summary.specs.Summed.{IsNext, IsTold}

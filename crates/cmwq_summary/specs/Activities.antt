@@ -7,16 +7,13 @@ use Rattle.cmwq_model.specs.declared.reply.Reply.{Reply}
 use Rattle.cmwq_model.specs.declared.reply.Reply.TheVariants as reply
 use Rattle.cmwq_model.specs.declared.entry.Entry.{Entry}
 use Rattle.cmwq_model.specs.Prelude.{now, runs_awake, runs_asleep}
-use Rattle.cmwq_summary.specs.declared.activity.Span.{Span}
+use Rattle.cmwq_summary.specs.declared.span.Span.{Span}
 use Rattle.cmwq_summary.specs.declared.activity.Doing.{Doing}
 use Rattle.cmwq_summary.specs.declared.activity.Doing.TheVariants as doing
 use Rattle.cmwq_summary.specs.declared.activity.Activity.{Activity}
 use Rattle.cmwq_summary.specs.declared.activity.TheConstants.{IDLE}
 use Rattle.cmwq_summary.specs.Figures.{worker_number}
 use Rattle.cmwq_summary.specs.Spent.{awake_entries, awake_ticks, asleep_entries, asleep_ticks}
-
-abbrev pub with_stretch : Span → Span → Span → Span
-with_stretch span from to = record { entries = span.entries + (to.entries - from.entries); ticks = span.ticks + (to.ticks - from.ticks) }
 
 abbrev pub is_running : Doing → Bool
 is_running doing.Nothing = false

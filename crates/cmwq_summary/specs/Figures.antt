@@ -25,16 +25,16 @@ abbrev pub by_reply : Key
 by_reply past e = Some (reply_kind e.reply)
 
 -- how many calls there are of a kind, and how many replies
-abbrev pub calls_of : List Entry → ℕ → ℕ
-calls_of past k = tally by_call past k
+abbrev pub calls_of_kind : List Entry → ℕ → ℕ
+calls_of_kind past k = tally by_call past k
 
-abbrev pub replies_of : List Entry → ℕ → ℕ
-replies_of past k = tally by_reply past k
+abbrev pub replies_of_kind : List Entry → ℕ → ℕ
+replies_of_kind past k = tally by_reply past k
 
 -- ---- items
 
-abbrev pub item_number : Queueing → ℕ
-item_number x = x.item.0
+abbrev pub number_of_item : Queueing → ℕ
+number_of_item x = x.item.0
 
 -- the queueing that an entry cancels: the one that it ends otherwise than by a finish
 abbrev pub cancelled_from : Reply → Option Queueing → Option Queueing
@@ -45,10 +45,10 @@ abbrev pub cancelling : List Entry → Entry → Option Queueing
 cancelling past e = cancelled_from e.reply (ending past e)
 
 abbrev pub by_item_started : Key
-by_item_started past e = option_map item_number (starting past e)
+by_item_started past e = option_map number_of_item (starting past e)
 
 abbrev pub by_item_cancelled : Key
-by_item_cancelled past e = option_map item_number (cancelling past e)
+by_item_cancelled past e = option_map number_of_item (cancelling past e)
 
 -- how many runs of an item were started, and how many of its queueings were cancelled before they ran
 abbrev pub runs_of : List Entry → ℕ → ℕ
@@ -66,18 +66,18 @@ caller_in (Worker w) = None
 abbrev pub caller_number : Ticket → ℕ
 caller_number t = t.caller.0
 
-abbrev pub by_caller : Key
-by_caller past e = caller_in e.who
+abbrev pub by_calling : Key
+by_calling past e = caller_in e.who
 
 abbrev pub by_ticket : Key
 by_ticket past e = option_map caller_number (ticket_in e (length past))
 
 -- how many calls a caller made, and how many tickets it was given
 abbrev pub calls_by : List Entry → ℕ → ℕ
-calls_by past c = tally by_caller past c
+calls_by past c = tally by_calling past c
 
-abbrev pub tickets_of : List Entry → ℕ → ℕ
-tickets_of past c = tally by_ticket past c
+abbrev pub tickets_by : List Entry → ℕ → ℕ
+tickets_by past c = tally by_ticket past c
 
 -- ---- workers: sixteen numbers a CPU, first those of its normal pool
 

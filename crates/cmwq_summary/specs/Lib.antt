@@ -1,7 +1,13 @@
 pub mod Tallies
 pub mod Kinds
 pub mod Figures
+pub mod Spans
 pub mod Spent
 pub mod Activities
+pub mod Since
+pub mod Extents
+pub mod Waits
+pub mod TicketWaits
+pub mod Givings
 pub mod Summed
 pub mod Parts

@@ -7,37 +7,47 @@ use Rattle.cmwq_summary.specs.declared.items.Items.{Items}
 use Rattle.cmwq_summary.specs.declared.callers.Callers.{Callers}
 use Rattle.cmwq_summary.specs.declared.workers.Workers.{Workers}
 use Rattle.cmwq_summary.specs.declared.places.Places.{Places}
-use Rattle.cmwq_summary.specs.Tallies.{IsTally}
+use Rattle.cmwq_summary.specs.Tallies.{IsTallyTable}
 use Rattle.cmwq_summary.specs.Activities.{AreActivities}
+use Rattle.cmwq_summary.specs.Spent.{each_entry, each_tick}
+use Rattle.cmwq_summary.specs.Extents.{AreLongest, AreTotals}
+use Rattle.cmwq_summary.specs.TicketWaits.{by_ticket_ended, ended_wait}
+use Rattle.cmwq_summary.specs.Givings.{givings_of}
+use Rattle.cmwq_summary.specs.Waits.{AreOpenings, start_wait}
 use Rattle.cmwq_summary.specs.Kinds.{call_kinds, reply_kinds}
-use Rattle.cmwq_summary.specs.Figures.{by_call, by_reply, by_item_started, by_item_cancelled, by_caller, by_ticket, by_starter, by_place_opened, by_place_started, by_place_cancelled}
+use Rattle.cmwq_summary.specs.Figures.{by_call, by_reply, by_item_started, by_item_cancelled, by_calling, by_ticket, by_starter, by_place_opened, by_place_started, by_place_cancelled}
 
 pub record AreKinds (past : List Entry) (k : Kinds) : Type 0 where
-  pub calls : IsTally by_call call_kinds past k.calls
-  pub replies : IsTally by_reply reply_kinds past k.replies
+  pub calls : IsTallyTable by_call call_kinds past k.calls
+  pub replies : IsTallyTable by_reply reply_kinds past k.replies
 
 pub record AreItems (many : ℕ) (past : List Entry) (i : Items) : Type 0 where
-  pub runs : IsTally by_item_started many past i.runs
-  pub cancels : IsTally by_item_cancelled many past i.cancels
+  pub runs : IsTallyTable by_item_started many past i.runs
+  pub cancels : IsTallyTable by_item_cancelled many past i.cancels
 
-pub record AreCallers (many : ℕ) (past : List Entry) (c : Callers) : Type 0 where
-  pub calls : IsTally by_caller many past c.calls
-  pub tickets : IsTally by_ticket many past c.tickets
+pub record AreCallers (s : Layout) (past : List Entry) (c : Callers) : Type 0 where
+  pub calls : IsTallyTable by_calling s.callers past c.calls
+  pub tickets : IsTallyTable by_ticket s.callers past c.tickets
+  pub longest : AreLongest by_ticket_ended (ended_wait each_entry) (ended_wait each_tick) s.callers past c.longest
+  pub givings : c.givings ≡ givings_of s past
 
 pub record AreWorkers (cpus : ℕ) (past : List Entry) (w : Workers) : Type 0 where
-  pub runs : IsTally by_starter (16 * cpus) past w.runs
+  pub runs : IsTallyTable by_starter (16 * cpus) past w.runs
   pub activities : AreActivities cpus past w.activities.items
 
-pub record ArePlaces (many : ℕ) (past : List Entry) (p : Places) : Type 0 where
-  pub queueings : IsTally by_place_opened many past p.queueings
-  pub starts : IsTally by_place_started many past p.starts
-  pub cancels : IsTally by_place_cancelled many past p.cancels
+pub record ArePlaces (items many : ℕ) (past : List Entry) (p : Places) : Type 0 where
+  pub queueings : IsTallyTable by_place_opened many past p.queueings
+  pub starts : IsTallyTable by_place_started many past p.starts
+  pub cancels : IsTallyTable by_place_cancelled many past p.cancels
+  pub openings : AreOpenings items past p.openings
+  pub longest : AreLongest by_place_started (start_wait each_entry) (start_wait each_tick) many past p.longest
+  pub totals : AreTotals by_place_started (start_wait each_entry) (start_wait each_tick) many past p.totals
 
 pub record IsSummary (s : Layout) (entries : List Entry) (time : ℕ) (kinds : Kinds) (items : Items) (callers : Callers) (workers : Workers) (places : Places) : Type 0 where
   pub time_is : time ≡ now (past_of entries)
   pub soon : time ≤ most_time
   pub kinds_are : AreKinds (past_of entries) kinds
   pub items_are : AreItems s.items (past_of entries) items
-  pub callers_are : AreCallers s.callers (past_of entries) callers
+  pub callers_are : AreCallers s (past_of entries) callers
   pub workers_are : AreWorkers s.cpus (past_of entries) workers
-  pub places_are : ArePlaces (4 * length s.queues) (past_of entries) places
+  pub places_are : ArePlaces s.items (4 * length s.queues) (past_of entries) places

@@ -13,7 +13,7 @@ tally key [] k = 0
 tally key (e ∷ past) k = tally key past k + (if is_at (key past e) k then 1 else 0)
 
 -- a table has these counts, each at its number
-pub record IsTally (key : Key) (many : ℕ) (past : List Entry) (counts : List ℕ) : Type 0 where
+pub record IsTallyTable (key : Key) (many : ℕ) (past : List Entry) (counts : List ℕ) : Type 0 where
   pub many_are : length counts ≡ many
   pub each : (k : ℕ) → k < many → slice_index counts k ≡ tally key past k
 

@@ -1,30 +1,9 @@
 //! How long a worker's runs were awake, and how long they slept.
-ghost use Rattle.std.specs.Prelude.{◌≡◌, ◌+◌, ◌-◌, ◌<◌, ◌≤◌};
-ghost use Rattle.cmwq_summary.specs.Activities.{IsUpTo, asleep_until, awake_until, begun, doing_after, with_stretch};
+ghost use Rattle.std.specs.Prelude.{◌≡◌};
+ghost use Rattle.cmwq_summary.specs.Activities.{IsUpTo, asleep_until, awake_until, begun, doing_after};
 
+use crate::span::{NO_TIME, Span};
 use cmwq_model::Reply;
-
-/// So many entries and so many ticks.
-#[derive(Clone, Copy, Debug, PartialEq, Eq)]
-pub struct Span {
-    pub entries: u64,
-    pub ticks: u64,
-}
-
-impl Span {
-    /// The span and the stretch from one moment to another.
-    fn with_stretch(self, from: Span, to: Span) -> Span
-        requires order { (from.entries ≤ to.entries) × (from.ticks ≤ to.ticks) }
-        requires entries { self.entries + (to.entries - from.entries) < 9223372036854775808 }
-        requires ticks { self.ticks + (to.ticks - from.ticks) < 9223372036854775808 }
-        ensures { result ≡ with_stretch self from to }
-    {
-        Span {
-            entries: self.entries + (to.entries - from.entries),
-            ticks: self.ticks + (to.ticks - from.ticks),
-        }
-    }
-}
 
 /// What a worker does.
 #[derive(Clone, Copy, Debug, PartialEq, Eq)]
@@ -66,12 +45,6 @@ pub(crate) const IDLE: Activity = Activity {
     since: NO_TIME,
     awake: NO_TIME,
     asleep: NO_TIME,
-};
-
-/// No entries and no ticks.
-const NO_TIME: Span = Span {
-    entries: 0,
-    ticks: 0,
 };
 
 impl Activity {

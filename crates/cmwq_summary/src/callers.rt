@@ -1,39 +1,77 @@
-//! Calls and tickets by caller.
-ghost use Rattle.std.specs.Prelude.{◌≡◌, ◌<◌, ℕ, [], ◌∷◌, List, length, option_map, IfOk};
+//! Calls and tickets by caller, and how long the tickets were waited for.
+ghost use Rattle.std.specs.Prelude.{◌≡◌, ℕ, [], ◌∷◌, List, option_map, IfOk};
 ghost use Rattle.cmwq_model.specs.declared.entry.Entry as entries;
 ghost use Rattle.cmwq_model.specs.Tickets as waits;
 ghost use Rattle.cmwq_summary.specs.Figures.{caller_in, caller_number};
+ghost use Rattle.cmwq_summary.specs.Activities.{behind};
 ghost use Rattle.cmwq_summary.specs.Parts.{AreCallers};
+ghost use Rattle.cmwq_summary.specs.Summed.{IsNext};
+ghost use Rattle.cmwq_model.specs.Prelude.{Layout};
 
+use crate::givings::{Giving, Givings};
+use crate::longest::Longest;
+use crate::span::Span;
 use crate::tally::Tally;
 use crate::told::Told;
-use cmwq_model::{Entry, NoMemory, Reply, Who};
+use cmwq_model::{Entry, NoMemory, Reply, Ticket, Who};
 use std::alloc::Global;
 
-/// How many calls each caller made, and how many tickets it was given.
+/// How many calls each caller made, and how many tickets it was given; how long it waited longest for one that is ended, and when the
+/// others were given.
 #[derive(Drop)]
 pub(crate) struct Callers {
     pub(crate) calls: Tally,
     pub(crate) tickets: Tally,
+    pub(crate) longest: Longest,
+    pub(crate) givings: Givings,
 }
 
 impl Callers {
     /// Those of no entries. The error says that memory ran out.
     pub(crate) fn new(alloc: Global, callers: u8) -> Result<Callers, NoMemory>
-        ensures { IfOk result (AreCallers callers []) }
+        ensures { IfOk result (λ them. (s : Layout) → s.callers ≡ callers → AreCallers s [] them) }
     {
         let calls = Tally::new(alloc, callers.into())?;
         let tickets = Tally::new(alloc, callers.into())?;
-        Ok(Callers { calls, tickets })
+        let longest = Longest::new(alloc, callers.into())?;
+        let givings = Givings::new(alloc, callers)?;
+        Ok(Callers {
+            calls,
+            tickets,
+            longest,
+            givings,
+        })
     }
 
-    /// One entry more.
-    pub(crate) fn add(&mut self, told: &Told)
-        requires { (many : ℕ) × (past : List entries.Entry) × (length past < 9223372036854775808) × AreCallers many past self.old }
-        ensures { (many : ℕ) (past : List entries.Entry) → AreCallers many past self.old → AreCallers many (told.now.entry ∷ past) self.new }
+    /// One entry more, behind which it is now.
+    pub(crate) fn add(&mut self, told: &Told, now: Span)
+        requires { (s : Layout) × (past : List entries.Entry) × IsNext s past told.now × (now ≡ behind (told.now.entry ∷ past)) × AreCallers s past self.old }
+        ensures { (s : Layout) (past : List entries.Entry) → IsNext s past told.now → now ≡ behind (told.now.entry ∷ past) → AreCallers s past self.old → AreCallers s (told.now.entry ∷ past) self.new }
     {
         self.calls.add(caller_in(told.entry.who));
-        self.tickets.add(ticket_caller(&told.entry));
+        let caller = ticket_caller(&told.entry);
+        self.tickets.add(caller);
+        let waited = self.givings.waited(told.ended_ticket, now);
+        self.longest.add(holder_in(told.ended_ticket), waited);
+        self.givings.remove(told.ended_ticket);
+        let number = now.entries.saturating_sub(1);
+        self.givings.add(
+            caller,
+            Giving {
+                number,
+                moment: now,
+            },
+        );
+    }
+}
+
+/// The number of the caller of a ticket.
+fn holder_in(ticket: Option<Ticket>) -> Option<usize>
+    ensures { result ≡ option_map caller_number ticket }
+{
+    match ticket {
+        Some(ticket) => Some(ticket.caller.0.into()),
+        None => None,
     }
 }
 

@@ -1,7 +1,7 @@
 //! Runs and cancels by item.
 ghost use Rattle.std.specs.Prelude.{◌≡◌, ◌<◌, ℕ, [], ◌∷◌, List, length, option_map, IfOk};
 ghost use Rattle.cmwq_model.specs.declared.entry.Entry as entries;
-ghost use Rattle.cmwq_summary.specs.Figures.{item_number};
+ghost use Rattle.cmwq_summary.specs.Figures.{number_of_item};
 ghost use Rattle.cmwq_summary.specs.Parts.{AreItems};
 ghost use Rattle.cmwq_summary.specs.Summed.{IsTold};
 
@@ -39,7 +39,7 @@ impl Items {
 
 /// The number of a queueing's item.
 fn item_in(queueing: Option<Queueing>) -> Option<usize>
-    ensures { result ≡ option_map item_number queueing }
+    ensures { result ≡ option_map number_of_item queueing }
 {
     match queueing {
         Some(queueing) => Some(queueing.item.0.into()),

@@ -3,16 +3,22 @@
 
 mod activity;
 mod callers;
+mod givings;
 mod items;
 mod kind;
 mod kinds;
+mod longest;
+mod openings;
 mod places;
+mod span;
 mod summary;
 mod tally;
 mod told;
+mod totals;
 mod workers;
 
-pub use activity::Span;
 pub use kind::{CALL_KINDS, REPLY_KINDS};
+pub use span::Span;
 pub use summary::Summary;
 pub use told::Told;
+pub use totals::Total;

@@ -1,47 +1,69 @@
-//! Queueings, starts and cancels by queue and CPU.
+//! Queueings, starts and cancels by queue and CPU, and how long the starts were waited for.
 ghost use Rattle.std.specs.Prelude.{◌≡◌, ◌<◌, ◌*◌, ℕ, [], ◌∷◌, List, length, option_map, IfOk};
 ghost use Rattle.cmwq_model.specs.declared.entry.Entry as entries;
 ghost use Rattle.cmwq_summary.specs.Figures.{place_number};
 ghost use Rattle.cmwq_summary.specs.Parts.{ArePlaces};
-ghost use Rattle.cmwq_summary.specs.Summed.{IsTold};
+ghost use Rattle.cmwq_summary.specs.Activities.{behind};
+ghost use Rattle.cmwq_summary.specs.Summed.{IsNext};
+ghost use Rattle.cmwq_model.specs.Prelude.{Layout};
 
+use crate::longest::Longest;
+use crate::openings::Openings;
+use crate::span::Span;
 use crate::tally::Tally;
 use crate::told::Told;
+use crate::totals::Totals;
 use cmwq_model::{NoMemory, Queueing};
 use std::alloc::Global;
 
-/// How many queueings of each queue there were on each CPU, how many of them started, and how many were cancelled.
+/// How many queueings of each queue there were on each CPU, how many of them started, and how many were cancelled; and how long
+/// the longest wait for a start was, and all of them together.
 #[derive(Drop)]
 pub(crate) struct Places {
     pub(crate) queueings: Tally,
     pub(crate) starts: Tally,
     pub(crate) cancels: Tally,
+    pub(crate) openings: Openings,
+    pub(crate) longest: Longest,
+    pub(crate) totals: Totals,
 }
 
 impl Places {
     /// Those of no entries. The error says that memory ran out.
-    pub(crate) fn new(alloc: Global, queues: usize) -> Result<Places, NoMemory>
+    pub(crate) fn new(alloc: Global, items: u16, queues: usize) -> Result<Places, NoMemory>
         requires { queues < 256 }
-        ensures { IfOk result (ArePlaces (4 * queues) []) }
+        ensures { IfOk result (ArePlaces items (4 * queues) []) }
     {
-        let queueings = Tally::new(alloc, 4 * queues)?;
-        let starts = Tally::new(alloc, 4 * queues)?;
-        let cancels = Tally::new(alloc, 4 * queues)?;
+        let places = 4 * queues;
+        let queueings = Tally::new(alloc, places)?;
+        let starts = Tally::new(alloc, places)?;
+        let cancels = Tally::new(alloc, places)?;
+        let openings = Openings::new(alloc, items)?;
+        let longest = Longest::new(alloc, places)?;
+        let totals = Totals::new(alloc, places)?;
         Ok(Places {
             queueings,
             starts,
             cancels,
+            openings,
+            longest,
+            totals,
         })
     }
 
-    /// One entry more.
-    pub(crate) fn add(&mut self, told: &Told)
-        requires { (many : ℕ) × (past : List entries.Entry) × (length past < 9223372036854775808) × ArePlaces many past self.old }
-        ensures { (many : ℕ) (past : List entries.Entry) → IsTold past told.now → ArePlaces many past self.old → ArePlaces many (told.now.entry ∷ past) self.new }
+    /// One entry more, behind which it is now.
+    pub(crate) fn add(&mut self, told: &Told, now: Span)
+        requires { (s : Layout) × (past : List entries.Entry) × IsNext s past told.now × (now ≡ behind (told.now.entry ∷ past)) × ArePlaces s.items (4 * length s.queues) past self.old }
+        ensures { (s : Layout) (past : List entries.Entry) → IsNext s past told.now → now ≡ behind (told.now.entry ∷ past) → ArePlaces s.items (4 * length s.queues) past self.old → ArePlaces s.items (4 * length s.queues) (told.now.entry ∷ past) self.new }
     {
         self.queueings.add(place_in(told.opened));
-        self.starts.add(place_in(told.started));
         self.cancels.add(place_in(told.cancelled()));
+        let started = place_in(told.started);
+        let waited = self.openings.waited(told.started, now);
+        self.starts.add(started);
+        self.longest.add(started, waited);
+        self.totals.add(started, waited);
+        self.openings.add(told.opened, now);
     }
 }
 

@@ -4,15 +4,18 @@ ghost use Rattle.cmwq_model.specs.Prelude.{now, has_time, IsLegal};
 ghost use Rattle.cmwq_summary.specs.Figures as figures;
 ghost use Rattle.cmwq_summary.specs.Activities.{behind};
 ghost use Rattle.cmwq_summary.specs.Spent as spans;
+ghost use Rattle.cmwq_summary.specs.Waits as waits;
+ghost use Rattle.cmwq_summary.specs.TicketWaits as ticket_waits;
 ghost use Rattle.cmwq_summary.specs.Kinds.{call_kinds, reply_kinds};
-ghost use Rattle.cmwq_summary.specs.Summed.{past_in, with_entry, IsTold};
+ghost use Rattle.cmwq_summary.specs.Summed.{past_summed, summed_with, IsTold};
 
-use crate::activity::Span;
 use crate::callers::Callers;
 use crate::items::Items;
 use crate::kinds::Kinds;
 use crate::places::Places;
+use crate::span::Span;
 use crate::told::Told;
+use crate::totals::Total;
 use crate::workers::{Workers, activity_in};
 use cmwq_model::{CallerId, Entry, ItemId, NoMemory, Shape, WorkerId};
 use cmwq_tail::Trail;
@@ -53,7 +56,7 @@ impl Summary {
         let items = Items::new(alloc, counts.items)?;
         let callers = Callers::new(alloc, counts.callers)?;
         let workers = Workers::new(alloc, counts.cpus)?;
-        let places = Places::new(alloc, shape.queues().len())?;
+        let places = Places::new(alloc, counts.items, shape.queues().len())?;
         let entries = Trail::new();
         Ok(Summary {
             shape,
@@ -69,11 +72,11 @@ impl Summary {
 
     /// One entry more.
     pub fn add(&mut self, told: &Told)
-        requires legal { IsLegal self.old.layout (told.now.entry ∷ past_in self.old) }
-        requires told { IsTold (past_in self.old) told.now }
-        requires time { has_time (past_in self.old) told.now.entry.call ≡ true }
+        requires legal { IsLegal self.old.layout (told.now.entry ∷ past_summed self.old) }
+        requires told { IsTold (past_summed self.old) told.now }
+        requires time { has_time (past_summed self.old) told.now.entry.call ≡ true }
         requires few { length self.old.entries < 4611686018427387904 }
-        ensures { self.new ≡ with_entry self.old told.now.entry }
+        ensures { self.new ≡ summed_with self.old told.now.entry }
     {
         // it shows that the shape is inside the limits
         let _counts = self.shape.counts();
@@ -84,9 +87,9 @@ impl Summary {
         };
         self.kinds.add(told);
         self.items.add(told);
-        self.callers.add(told);
+        self.callers.add(told, now);
         self.workers.add(told, now);
-        self.places.add(told);
+        self.places.add(told, now);
         self.entries.push(&told.entry);
     }
 
@@ -106,7 +109,7 @@ impl Summary {
 
     /// How many ticks went by.
     pub fn time(&self) -> u64
-        ensures { result ≡ now (past_in self.now) }
+        ensures { result ≡ now (past_summed self.now) }
     {
         self.time
     }
@@ -114,7 +117,7 @@ impl Summary {
     /// How many calls there are of this kind.
     pub fn calls(&self, kind: usize) -> u64
         requires { kind < call_kinds }
-        ensures { result ≡ figures.calls_of (past_in self.now) kind }
+        ensures { result ≡ figures.calls_of_kind (past_summed self.now) kind }
     {
         self.kinds.calls.count(kind)
     }
@@ -122,7 +125,7 @@ impl Summary {
     /// How many replies there are of this kind.
     pub fn replies(&self, kind: usize) -> u64
         requires { kind < reply_kinds }
-        ensures { result ≡ figures.replies_of (past_in self.now) kind }
+        ensures { result ≡ figures.replies_of_kind (past_summed self.now) kind }
     {
         self.kinds.replies.count(kind)
     }
@@ -130,7 +133,7 @@ impl Summary {
     /// How many runs of the item were started.
     pub fn runs(&self, item: ItemId) -> u64
         requires { item.0 < self.now.layout.items }
-        ensures { result ≡ figures.runs_of (past_in self.now) item.0 }
+        ensures { result ≡ figures.runs_of (past_summed self.now) item.0 }
     {
         self.items.runs.count(item.0.into())
     }
@@ -138,7 +141,7 @@ impl Summary {
     /// How many queueings of the item were cancelled.
     pub fn cancels(&self, item: ItemId) -> u64
         requires { item.0 < self.now.layout.items }
-        ensures { result ≡ figures.cancels_of (past_in self.now) item.0 }
+        ensures { result ≡ figures.cancels_of (past_summed self.now) item.0 }
     {
         self.items.cancels.count(item.0.into())
     }
@@ -146,7 +149,7 @@ impl Summary {
     /// How many calls the caller made.
     pub fn calls_by(&self, caller: CallerId) -> u64
         requires { caller.0 < self.now.layout.callers }
-        ensures { result ≡ figures.calls_by (past_in self.now) caller.0 }
+        ensures { result ≡ figures.calls_by (past_summed self.now) caller.0 }
     {
         self.callers.calls.count(caller.0.into())
     }
@@ -154,15 +157,26 @@ impl Summary {
     /// How many tickets the caller was given.
     pub fn tickets(&self, caller: CallerId) -> u64
         requires { caller.0 < self.now.layout.callers }
-        ensures { result ≡ figures.tickets_of (past_in self.now) caller.0 }
+        ensures { result ≡ figures.tickets_by (past_summed self.now) caller.0 }
     {
         self.callers.tickets.count(caller.0.into())
+    }
+
+    /// How long the caller's longest wait for a ticket was. The wait for one that is unended goes on until now.
+    pub fn longest_wait(&self, caller: CallerId) -> Span
+        requires { caller.0 < self.now.layout.callers }
+        ensures entries { result.entries ≡ ticket_waits.longest_wait_entries (past_summed self.now) caller.0 }
+        ensures ticks { result.ticks ≡ ticket_waits.longest_wait_ticks (past_summed self.now) caller.0 }
+    {
+        let caller = usize::from(caller.0);
+        let waits = self.callers.givings.waits(caller, self.span());
+        self.callers.longest.of(caller).longer(waits)
     }
 
     /// How many runs the worker with this number started.
     pub fn starts_by(&self, worker: usize) -> u64
         requires { worker < 16 * self.now.layout.cpus }
-        ensures { result ≡ figures.starts_by (past_in self.now) worker }
+        ensures { result ≡ figures.starts_by (past_summed self.now) worker }
     {
         self.workers.runs.count(worker)
     }
@@ -171,8 +185,8 @@ impl Summary {
     pub fn awake(&self, worker: WorkerId) -> Span
         requires here { worker.pool.cpu.0 < self.now.layout.cpus }
         requires index { worker.index < 8 }
-        ensures entries { result.entries ≡ spans.awake_entries (past_in self.now) worker }
-        ensures ticks { result.ticks ≡ spans.awake_ticks (past_in self.now) worker }
+        ensures entries { result.entries ≡ spans.awake_entries (past_summed self.now) worker }
+        ensures ticks { result.ticks ≡ spans.awake_ticks (past_summed self.now) worker }
     {
         activity_in(&self.workers.activities, worker).awake(self.span())
     }
@@ -181,15 +195,15 @@ impl Summary {
     pub fn asleep(&self, worker: WorkerId) -> Span
         requires here { worker.pool.cpu.0 < self.now.layout.cpus }
         requires index { worker.index < 8 }
-        ensures entries { result.entries ≡ spans.asleep_entries (past_in self.now) worker }
-        ensures ticks { result.ticks ≡ spans.asleep_ticks (past_in self.now) worker }
+        ensures entries { result.entries ≡ spans.asleep_entries (past_summed self.now) worker }
+        ensures ticks { result.ticks ≡ spans.asleep_ticks (past_summed self.now) worker }
     {
         activity_in(&self.workers.activities, worker).asleep(self.span())
     }
 
     /// How many entries and ticks there are.
     fn span(&self) -> Span
-        ensures is { result ≡ behind (past_in self.now) }
+        ensures is { result ≡ behind (past_summed self.now) }
         ensures few { result.entries ≤ 4611686018427387904 }
     {
         Span {
@@ -201,7 +215,7 @@ impl Summary {
     /// How many queueings there were at the place with this number.
     pub fn queueings_at(&self, place: usize) -> u64
         requires { place < 4 * length self.now.layout.queues }
-        ensures { result ≡ figures.queueings_at (past_in self.now) place }
+        ensures { result ≡ figures.queueings_at (past_summed self.now) place }
     {
         self.places.queueings.count(place)
     }
@@ -209,7 +223,7 @@ impl Summary {
     /// How many of them started.
     pub fn starts_at(&self, place: usize) -> u64
         requires { place < 4 * length self.now.layout.queues }
-        ensures { result ≡ figures.starts_at (past_in self.now) place }
+        ensures { result ≡ figures.starts_at (past_summed self.now) place }
     {
         self.places.starts.count(place)
     }
@@ -217,8 +231,26 @@ impl Summary {
     /// How many of them were cancelled before that.
     pub fn cancels_at(&self, place: usize) -> u64
         requires { place < 4 * length self.now.layout.queues }
-        ensures { result ≡ figures.cancels_at (past_in self.now) place }
+        ensures { result ≡ figures.cancels_at (past_summed self.now) place }
     {
         self.places.cancels.count(place)
+    }
+
+    /// How long the longest of those starts was waited for.
+    pub fn longest_start(&self, place: usize) -> Span
+        requires { place < 4 * length self.now.layout.queues }
+        ensures entries { result.entries ≡ waits.longest_start_entries (past_summed self.now) place }
+        ensures ticks { result.ticks ≡ waits.longest_start_ticks (past_summed self.now) place }
+    {
+        self.places.longest.of(place)
+    }
+
+    /// How long all of them were waited for together.
+    pub fn all_starts(&self, place: usize) -> Total
+        requires { place < 4 * length self.now.layout.queues }
+        ensures entries { result.entries ≡ waits.all_start_entries (past_summed self.now) place }
+        ensures ticks { result.ticks ≡ waits.all_start_ticks (past_summed self.now) place }
+    {
+        self.places.totals.of(place)
     }
 }

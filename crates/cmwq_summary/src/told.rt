@@ -1,7 +1,7 @@
 ghost use Rattle.std.specs.Prelude.{◌≡◌};
 ghost use Rattle.cmwq_summary.specs.Figures.{cancelled_from};
 
-use cmwq_model::{Entry, Queueing, Reply};
+use cmwq_model::{Entry, Queueing, Reply, Ticket};
 
 /// An entry, and what a summary is to know of what it does.
 #[derive(Clone, Copy, Debug)]
@@ -13,6 +13,8 @@ pub struct Told {
     pub opened: Option<Queueing>,
     /// The queueing that it ends.
     pub ended: Option<Queueing>,
+    /// The ticket that it ends.
+    pub ended_ticket: Option<Ticket>,
 }
 
 impl Told {

@@ -9,7 +9,8 @@ ghost use Rattle.cmwq_summary.specs.Parts.{AreWorkers};
 ghost use Rattle.cmwq_summary.specs.Summed.{IsNext};
 ghost use Rattle.cmwq_model.specs.Prelude.{Layout};
 
-use crate::activity::{Activity, IDLE, Span};
+use crate::activity::{Activity, IDLE};
+use crate::span::Span;
 use crate::tally::Tally;
 use crate::told::Told;
 use cmwq_model::{Entry, NoMemory, Reply, Who, WorkerId};

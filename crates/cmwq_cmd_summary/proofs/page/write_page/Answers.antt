@@ -3,14 +3,14 @@ use Rattle.std.proofs.lemmas.Result.{err_from_is_err_and}
 use Rattle.cmwq_io.proofs.KnownBytes.{Appends-trans}
 use Rattle.cmwq_base.proofs.Fronts.{front_before, front_after, front_whole}
 use Rattle.cmwq_core.specs.History.{past_in}
-use Rattle.cmwq_cmd_summary.specs.Page.{table_text}
+use Rattle.cmwq_cmd_summary.specs.Page.{rows_of_table}
 use Rattle.cmwq_cmd_summary.specs.declared.table.TheConstants.{TABLES}
 use Rattle.cmwq_cmd_summary.proofs.page.write_page.Goals as goal
 
 pub returns-in_err-write_all-clause-err : goal.returns-in_err-write_all-clause-err
 returns-in_err-write_all-clause-err g c =
     let p = err_from_is_err_and c.from_residual.result c.from_residual.ensures.1 in
-    let tables = flat_map (table_text c.args.progress.now.layout (past_in c.args.progress.now)) TABLES in
+    let tables = flat_map (rows_of_table c.args.progress.now.layout (past_in c.args.progress.now)) TABLES in
     let front = rw (c.as_bytes.ensures, c.head.ensures) at c.in_err-write_all.ensures.err in
     rw (p.1) (front_before _ _ _ tables front)
 

@@ -1,6 +1,6 @@
 use Rattle.std.proofs.Common.{ap, ◌∙◌}
 use Rattle.std.specs.Prelude.{option_map}
-use Rattle.cmwq_summary.specs.Figures.{by_item_started, by_item_cancelled, cancelled_from, item_number}
+use Rattle.cmwq_summary.specs.Figures.{by_item_started, by_item_cancelled, cancelled_from, number_of_item}
 use Rattle.cmwq_summary.proofs.Tallies.{counts_few, told_tally}
 use Rattle.cmwq_summary.proofs.items.Items.add.Goals as goal
 
@@ -14,6 +14,6 @@ pub returns : goal.returns
 returns c many past told are =
     let e = c.args.told.now.entry in
     record {
-      runs = told_tally by_item_started many past e _ _ _ (c.item_in.ensures ∙ ap (option_map item_number) told.started) c.add.ensures are.runs;
-      cancels = told_tally by_item_cancelled many past e _ _ _ (c.item_in-2.ensures ∙ ap (option_map item_number) (c.cancelled.ensures ∙ ap (cancelled_from e.reply) told.ended)) c.add-2.ensures are.cancels;
+      runs = told_tally by_item_started many past e _ _ _ (c.item_in.ensures ∙ ap (option_map number_of_item) told.started) c.add.ensures are.runs;
+      cancels = told_tally by_item_cancelled many past e _ _ _ (c.item_in-2.ensures ∙ ap (option_map number_of_item) (c.cancelled.ensures ∙ ap (cancelled_from e.reply) told.ended)) c.add-2.ensures are.cancels;
     }

@@ -1,6 +1,6 @@
 use Rattle.std.proofs.Common.{◌≡◌, ◌≤◌, length, ap, ◌∙◌, arith}
 use Rattle.cmwq_model.specs.Prelude.{past_of, now}
-use Rattle.cmwq_summary.specs.declared.activity.Span.{Span}
+use Rattle.cmwq_summary.specs.declared.span.Span.{Span}
 use Rattle.cmwq_summary.specs.Activities.{IsActivity, activity_in, behind, asleep_until}
 use Rattle.cmwq_summary.proofs.Activities.{number_inside, up_to_now, asleep_read}
 use Rattle.cmwq_summary.proofs.summary.Summary.asleep.Goals as goal

@@ -1,4 +1,4 @@
-use Rattle.std.proofs.Common.{refl, arith, ap}
+use Rattle.std.proofs.Common.{refl, sym, arith, ap}
 use Rattle.cmwq_model.specs.Prelude.{now, Layout}
 use Rattle.cmwq_summary.proofs.summary.Summary.new.Goals as goal
 
@@ -9,7 +9,7 @@ invariant_of-result c = rw c.new-entries.ensures record {
   soon = omega arith;
   kinds_are = c.in_ok-kinds.ensures;
   items_are = rw (← ap (λ (s : Layout). s.items) c.counts-counts.ensures.counts) (c.in_ok-items.ensures);
-  callers_are = rw (← ap (λ (s : Layout). s.callers) c.counts-counts.ensures.counts) (c.in_ok-callers.ensures);
+  callers_are = c.in_ok-callers.ensures c.args.shape (sym (ap (λ (s : Layout). s.callers) c.counts-counts.ensures.counts));
   workers_are = rw (← ap (λ (s : Layout). s.cpus) c.counts-counts.ensures.counts) (c.in_ok-workers.ensures);
-  places_are = rw (← c.queues.ensures) (c.in_ok-places.ensures);
+  places_are = rw (← c.queues.ensures, ← ap (λ (s : Layout). s.items) c.counts-counts.ensures.counts) (c.in_ok-places.ensures);
 }

@@ -1,0 +1,51 @@
+//! Spans of a history: how many entries, and how many ticks.
+ghost use Rattle.std.specs.Prelude.{◌≡◌, ◌+◌, ◌-◌, ◌<◌, ◌≤◌};
+ghost use Rattle.cmwq_summary.specs.Spans.{longer, stretch, with_stretch};
+
+/// So many entries and so many ticks.
+#[derive(Clone, Copy, Debug, PartialEq, Eq)]
+pub struct Span {
+    pub entries: u64,
+    pub ticks: u64,
+}
+
+/// No entries and no ticks.
+pub(crate) const NO_TIME: Span = Span {
+    entries: 0,
+    ticks: 0,
+};
+
+impl Span {
+    /// The span and the stretch from one moment to another.
+    pub(crate) fn with_stretch(self, from: Span, to: Span) -> Span
+        requires order { (from.entries ≤ to.entries) × (from.ticks ≤ to.ticks) }
+        requires entries { self.entries + (to.entries - from.entries) < 9223372036854775808 }
+        requires ticks { self.ticks + (to.ticks - from.ticks) < 9223372036854775808 }
+        ensures { result ≡ with_stretch self from to }
+    {
+        Span {
+            entries: self.entries + (to.entries - from.entries),
+            ticks: self.ticks + (to.ticks - from.ticks),
+        }
+    }
+
+    /// The stretch from this moment to another.
+    pub(crate) fn until(self, to: Span) -> Span
+        ensures { result ≡ stretch self to }
+    {
+        Span {
+            entries: to.entries.saturating_sub(self.entries),
+            ticks: to.ticks.saturating_sub(self.ticks),
+        }
+    }
+
+    /// Of both the more entries, and the more ticks.
+    pub(crate) fn longer(self, other: Span) -> Span
+        ensures { result ≡ longer self other }
+    {
+        Span {
+            entries: self.entries.max(other.entries),
+            ticks: self.ticks.max(other.ticks),
+        }
+    }
+}
