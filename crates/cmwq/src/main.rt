@@ -3,13 +3,14 @@
 #![tactic(auto)]
 
 use clap::error::ErrorKind;
-use cmwq_base::{BufferedSink, FromStd};
-use cmwq_cli::{Word, word_of};
+use cmwq_base::{BufferedSink, FromStd, Sink, Source};
+use cmwq_cli::{Asked, Word, word_of};
 use cmwq_cmd_chart::{Window, run_chart};
 use cmwq_cmd_history::{run_check, run_front_check, run_step, run_step_live, run_upgrade};
 use cmwq_cmd_replay::run_replay;
 use cmwq_cmd_run::run_run;
 use cmwq_cmd_summary::run_summary;
+use cmwq_explain::{Kept, explain_calls, explain_history, explain_unkept};
 use std::alloc::{AllocError, Global};
 use std::io;
 use std::process::ExitCode;
@@ -35,12 +36,21 @@ fn no_memory(rt: &impl Eprint) -> u8 {
     OUT_OF_MEMORY
 }
 
-/// Prints what clap has to say: help and the version that were asked for, or a wrong use.
-fn told<R: Print + Eprint>(rt: &R, error: &clap::Error) -> u8 {
+/// Whether a command line has an argument behind a word that isn't a flag, as the name of a file is.
+fn has_file(words: &[&str]) -> bool {
+    words.iter().skip(2).any(|word| !word.starts_with('-'))
+}
+
+/// Prints what clap has to say: help and the version that were asked for, or a wrong use. Where that is the name of a file, it says too
+/// where the input comes from.
+fn told<R: Print + Eprint>(rt: &R, words: &[&str], error: &clap::Error) -> u8 {
     if matches!(error.kind(), ErrorKind::OutOfMemory) {
         return no_memory(rt);
     }
     let _ = error.print(rt);
+    if matches!(error.kind(), ErrorKind::UnknownArgument) && has_file(words) {
+        let _ = rt.eprintln("cmwq: the input is standard input, as in: cmwq check < FILE");
+    }
     if error.use_stderr() { WRONG_USE } else { 0 }
 }
 
@@ -53,25 +63,73 @@ fn texts(alloc: Global, args: &[String]) -> Result<Vec<&str>, AllocError> {
     Ok(words)
 }
 
-/// Does what a word says, over the standard streams. A run's threads are made by the last handle, which `main` alone can give.
-fn run<T: Threads + Wait + Clock + Sync>(rt: &HostRuntime, word: Word, threads: &T) -> u8 {
+/// Does what a word says. A run's threads are made by the last handle, which `main` alone can give.
+fn run<S: Source, O: Sink, E: Sink, T: Threads + Wait + Clock + Sync>(
+    alloc: Global,
+    word: Word,
+    input: &mut S,
+    output: &mut O,
+    errors: &mut E,
+    threads: &T,
+) -> u8 {
+    match word {
+        Word::Step { live: false } => run_step(alloc, input, output, errors),
+        Word::Step { live: true } => run_step_live(alloc, input, output, errors),
+        Word::Check { front: false } => run_check(alloc, input, output, errors),
+        Word::Check { front: true } => run_front_check(alloc, input, output, errors),
+        Word::Upgrade => run_upgrade(alloc, input, output, errors),
+        Word::Summary => run_summary(alloc, input, output, errors),
+        Word::Chart => run_chart(alloc, input, output, errors, WHOLE),
+        Word::Replay => run_replay(alloc, input, output, errors),
+        Word::Run => run_run(threads, alloc, input, output, errors),
+    }
+}
+
+/// Tells why a word ended with another status than 0, where what it read says so.
+fn explain<E: Sink>(alloc: Global, word: Word, status: u8, bytes: &[u8], errors: &mut E) {
+    match word {
+        Word::Step { .. } => explain_calls(alloc, "step", status, bytes, errors),
+        Word::Check { front } => explain_history(alloc, "check", status, bytes, front, errors),
+        Word::Upgrade => explain_history(alloc, "upgrade", status, bytes, false, errors),
+        Word::Summary => explain_history(alloc, "summary", status, bytes, false, errors),
+        Word::Chart => explain_history(alloc, "chart", status, bytes, false, errors),
+        Word::Replay | Word::Run => {}
+    }
+}
+
+/// Does what was asked, over the standard streams. What is to be explained is kept while it is read.
+fn run_asked<T: Threads + Wait + Clock + Sync>(rt: &HostRuntime, asked: Asked, threads: &T) -> u8 {
     let alloc = rt.alloc();
     let mut input = FromStd::new(rt.stdin());
     let mut errors = FromStd::new(rt.stderr());
     let Ok(mut output) = BufferedSink::new(alloc, FromStd::new(rt.stdout())) else {
         return no_memory(rt);
     };
-    match word {
-        Word::Step { live: false } => run_step(alloc, &mut input, &mut output, &mut errors),
-        Word::Step { live: true } => run_step_live(alloc, &mut input, &mut output, &mut errors),
-        Word::Check { front: false } => run_check(alloc, &mut input, &mut output, &mut errors),
-        Word::Check { front: true } => run_front_check(alloc, &mut input, &mut output, &mut errors),
-        Word::Upgrade => run_upgrade(alloc, &mut input, &mut output, &mut errors),
-        Word::Summary => run_summary(alloc, &mut input, &mut output, &mut errors),
-        Word::Chart => run_chart(alloc, &mut input, &mut output, &mut errors, WHOLE),
-        Word::Replay => run_replay(alloc, &mut input, &mut output, &mut errors),
-        Word::Run => run_run(threads, alloc, &mut input, &mut output, &mut errors),
+    if !asked.explain {
+        return run(
+            alloc,
+            asked.word,
+            &mut input,
+            &mut output,
+            &mut errors,
+            threads,
+        );
     }
+    let mut input = Kept::new(alloc, input);
+    let status = run(
+        alloc,
+        asked.word,
+        &mut input,
+        &mut output,
+        &mut errors,
+        threads,
+    );
+    match input.bytes() {
+        _ if status == 0 => {}
+        Some(bytes) => explain(alloc, asked.word, status, bytes, &mut errors),
+        None => explain_unkept(&mut errors),
+    }
+    status
 }
 
 fn answer<T: Threads + Wait + Clock + Sync>(rt: &HostRuntime, args: &[String], threads: &T) -> u8 {
@@ -80,8 +138,8 @@ fn answer<T: Threads + Wait + Clock + Sync>(rt: &HostRuntime, args: &[String], t
         return no_memory(rt);
     };
     match word_of(alloc, &words) {
-        Ok(word) => run(rt, word, threads),
-        Err(error) => told(rt, &error),
+        Ok(asked) => run_asked(rt, asked, threads),
+        Err(error) => told(rt, &words, &error),
     }
 }
 

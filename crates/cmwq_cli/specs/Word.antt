@@ -1,10 +1,11 @@
 -- The command line: which words there are, and which one clap's matches hold.
-use Rattle.std.specs.Prelude.{ℕ, Bool, true, false, List, [], map, Option, Some, None, option_and_then, codes, if◌then◌else◌}
+use Rattle.std.specs.Prelude.{ℕ, Bool, true, false, List, [], map, Option, Some, None, option_map, option_and_then, codes, if◌then◌else◌}
 use Rattle.std.specs.Option.{option_map_or}
 use Rattle.std.specs.Str.{bytes_eq}
 use Rattle.std.specs.Borrow.{Bor}
 use Rattle.clap.specs.Words.{App, Text, Row, Rule, new_app, new_rule, with_rule, with_subcommand, Shape, subcommand_of, one_of, takes}
 use Rattle.clap.specs.declared.builder.action.ArgAction.TheVariants.{SetTrue}
+use Rattle.cmwq_cli.specs.declared.word.Asked.{Asked}
 use Rattle.cmwq_cli.specs.declared.word.Word.{Word}
 use Rattle.cmwq_cli.specs.declared.word.Word.TheVariants as word
 
@@ -24,6 +25,10 @@ word_found found =
     else if bytes_eq found.0 (codes "run") then Some word.Run
     else None
 
+-- the same with whether it explains
+abbrev pub asked_found : Text × List Row → Option Asked
+asked_found found = option_map (λ w. record { word = w; explain = has_flag (codes "explain") found.1 }) (word_found found)
+
 -- what clap reads of the program's command line: a word is a subcommand, and there is one
 abbrev pub program : Shape
 program = record (new_app (codes "cmwq")).top { has_version = true; subcommand_required = true }
@@ -31,17 +36,19 @@ program = record (new_app (codes "cmwq")).top { has_version = true; subcommand_r
 abbrev pub without_words : App
 without_words = record { top = program; subs = [] }
 
+-- a flag: two dashes and its name
+abbrev pub flag_rule : List ℕ → Rule
+flag_rule name = record (new_rule name) { long = Some name; action = Some SetTrue }
+
+-- every word has the flag that explains
 abbrev pub with_word : App → List ℕ → App
-with_word a name = with_subcommand a (new_app name).top
+with_word a name = with_subcommand a (with_rule (new_app name) (flag_rule (codes "explain"))).top
 
--- a word with a flag: two dashes and its name
-abbrev pub flag : List ℕ → Rule
-flag name = record (new_rule name) { long = Some name; action = Some SetTrue }
-
+-- a word with another flag too
 abbrev pub with_flagged : App → List ℕ → List ℕ → App
-with_flagged a name flag_name = with_subcommand a (with_rule (new_app name) (flag flag_name)).top
+with_flagged a name flag_name = with_subcommand a (with_rule (with_rule (new_app name) (flag_rule flag_name)) (flag_rule (codes "explain"))).top
 
--- the words whose inputs are lines, of which `step` has `--live` and `check` has `--front`, and then those whose inputs are JSON
+-- the words whose inputs are lines, of which `step` also has `--live` and `check` `--front`, and then those whose inputs are JSON
 abbrev pub with_lines : App
 with_lines = with_word (with_word (with_word (with_flagged (with_flagged without_words (codes "step") (codes "live")) (codes "check") (codes "front")) (codes "upgrade")) (codes "summary")) (codes "chart")
 
@@ -56,6 +63,6 @@ texts words = map (λ s. s.now) words
 unfoldable pub is_word_taken : List Text → Bool
 is_word_taken words = takes app words
 
--- the word that clap's matches of a command line hold
-unfoldable pub word_matched : List Text → Option Word
-word_matched words = option_and_then word_found (subcommand_of app words)
+-- the word that clap's matches of a command line hold, and whether it explains
+unfoldable pub word_matched : List Text → Option Asked
+word_matched words = option_and_then asked_found (subcommand_of app words)

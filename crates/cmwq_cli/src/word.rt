@@ -1,6 +1,6 @@
-ghost use Rattle.std.specs.Prelude.{◌≡◌, true, false, IfOk, IfErr, IsSome, Some, map};
-ghost use Rattle.clap.specs.Words.{kind_of, app_of, found_of, rows_of, with_subcommand};
-ghost use Rattle.cmwq_cli.specs.Word.{without_words, with_word, with_flagged, with_lines, app, has_flag, word_found, texts, is_word_taken, word_matched};
+ghost use Rattle.std.specs.Prelude.{◌≡◌, codes, true, false, IfOk, IfErr, IsSome, Some, map};
+ghost use Rattle.clap.specs.Words.{kind_of, app_of, rule_of, found_of, rows_of, with_subcommand};
+ghost use Rattle.cmwq_cli.specs.Word.{without_words, with_word, with_flagged, with_lines, app, flag_rule, has_flag, word_found, asked_found, texts, is_word_taken, word_matched};
 
 use clap::error::ErrorKind;
 use clap::{Arg, ArgAction, ArgMatches, Command, Error};
@@ -30,6 +30,18 @@ pub enum Word {
     /// Runs a script on threads and writes its history.
     Run,
 }
+
+/// A word, and whether what it refuses is explained.
+#[derive(Clone, Copy, Debug, PartialEq, Eq)]
+pub struct Asked {
+    pub word: Word,
+    /// Whether a second line on standard error says where and why it is refused.
+    pub explain: bool,
+}
+
+/// What the help of a word says of its flag that explains.
+const EXPLAIN_HELP: &str =
+    "Tells one line more of an input that is refused: where, what stands there, what is expected, and what was likely meant";
 
 /// What the help of `step` shows below its usage.
 const CALLS_HELP: &str =
@@ -147,6 +159,9 @@ There are 1 to 4 CPUs, 1 to 8 workers in each of their two pools, room for up to
 An action is queue, delay, modify or cancel, or ["open",gate], or ["sleep_at",gate]: the run sleeps until the gate is open.
 There are at most 16 gates, and a name makes one. The output is the history of this one run, which `check` accepts.
 
+A run may wait for ever: a caller that flushes, drains or destroys a frozen queue, or waits for an item on it, waits until another
+caller thaws it.
+
 With "format":3 beside "room" it is of format 3, and room may be up to 4,611,686,018,427,387,904. With "journal":64 it is
 written as it is made too, and so many entries are kept at a time."#;
 
@@ -177,6 +192,19 @@ fn word_found(name: &str, matches: &ArgMatches) -> Option<Word>
     }
 }
 
+/// The word with this name and these matches, and whether it explains.
+fn asked_found(name: &str, matches: &ArgMatches) -> Option<Asked>
+    ensures { result ≡ asked_found (name.now, rows_of (found_of matches.now)) }
+{
+    match word_found(name, matches) {
+        Some(word) => Some(Asked {
+            word,
+            explain: has_flag(matches, "explain"),
+        }),
+        None => None,
+    }
+}
+
 /// The program, before it has its words.
 fn program<'a>(alloc: Global) -> Command<'a>
     ensures { app_of result ≡ without_words }
@@ -185,6 +213,36 @@ fn program<'a>(alloc: Global) -> Command<'a>
         .version("0.1.0")
         .about("A concurrency managed workqueue runtime")
         .subcommand_required(true)
+}
+
+/// A flag of a word, and what its help says of it.
+#[derive(Drop)]
+struct Flag<'a> {
+    name: &'a str,
+    help: &'a str,
+}
+
+/// The argument of a flag: two dashes and its name.
+fn rule<'a>(alloc: Global, flag: Flag<'a>) -> Arg<'a>
+    ensures rule { rule_of result ≡ flag_rule flag.entry.name.now }
+    ensures local { result.global ≡ false }
+{
+    Arg::new(alloc, flag.name)
+        .long(flag.name)
+        .action(ArgAction::SetTrue)
+        .help(flag.help)
+}
+
+/// The flag that explains.
+fn explaining<'a>(alloc: Global) -> Arg<'a>
+    ensures rule { rule_of result ≡ flag_rule (codes "explain") }
+    ensures local { result.global ≡ false }
+{
+    let flag = Flag {
+        name: "explain",
+        help: EXPLAIN_HELP,
+    };
+    rule(alloc, flag)
 }
 
 /// The program with one word more: its name, what it does, and what its help shows below its usage.
@@ -197,17 +255,14 @@ fn with_word<'a>(
 ) -> Result<Command<'a>, AllocError>
     ensures { IfOk result (λ c. app_of c ≡ with_word (app_of program.entry) name.entry.now) }
 {
-    program.subcommand(Command::new(alloc, name).about(about).after_help(help))
+    let word = Command::new(alloc, name)
+        .about(about)
+        .after_help(help)
+        .arg(explaining(alloc))?;
+    program.subcommand(word)
 }
 
-/// A flag of a word, and what its help says of it.
-#[derive(Drop)]
-struct Flag<'a> {
-    name: &'a str,
-    help: &'a str,
-}
-
-/// The same of a word with a flag.
+/// The same of a word with a flag more.
 fn with_flagged<'a>(
     alloc: Global,
     program: Command<'a>,
@@ -218,14 +273,11 @@ fn with_flagged<'a>(
 ) -> Result<Command<'a>, AllocError>
     ensures { IfOk result (λ c. app_of c ≡ with_flagged (app_of program.entry) name.entry.now flag.entry.name.now) }
 {
-    let rule = Arg::new(alloc, flag.name)
-        .long(flag.name)
-        .action(ArgAction::SetTrue)
-        .help(flag.help);
     let word = Command::new(alloc, name)
         .about(about)
         .after_help(help)
-        .arg(rule)?;
+        .arg(rule(alloc, flag))?
+        .arg(explaining(alloc))?;
     program.subcommand(word)
 }
 
@@ -269,26 +321,26 @@ fn command<'a>(alloc: Global) -> Result<Command<'a>, AllocError>
 
 /// The word that clap's matches of the command line hold.
 #[tactic(auto, unfolding(crate::specs::Word::is_word_taken, crate::specs::Word::word_matched))]
-fn word_in<'a>(alloc: Global, words: &'a [&'a str]) -> Result<Option<Word>, Error>
+fn word_in<'a>(alloc: Global, words: &'a [&'a str]) -> Result<Option<Asked>, Error>
     ensures ok { IfOk result (λ word. word ≡ word_matched (texts words.entry.now)) }
     ensures err { IfErr result (λ e. is_word_taken (texts words.entry.now) ≡ true → kind_of e ≡ ErrorKind.OutOfMemory) }
 {
     let matches = command(alloc)?.try_get_matches_from(words)?;
     match matches.subcommand() {
-        Some((name, found)) => Ok(word_found(name, found)),
+        Some((name, found)) => Ok(asked_found(name, found)),
         None => Ok(None),
     }
 }
 
 /// Reads the command line, whose first word is the program's name. An error is clap's, to be printed as it says:
 /// help and the version that were asked for, a wrong use, or want of memory.
-pub fn word_of<'a>(alloc: Global, words: &'a [&'a str]) -> Result<Word, Error>
+pub fn word_of<'a>(alloc: Global, words: &'a [&'a str]) -> Result<Asked, Error>
     ensures ok { IfOk result (λ word. word_matched (texts words.entry.now) ≡ Some word) }
     ensures err { IfErr result (λ e. is_word_taken (texts words.entry.now) ≡ true
         → IsSome (word_matched (texts words.entry.now)) → kind_of e ≡ ErrorKind.OutOfMemory) }
 {
     match word_in(alloc, words)? {
-        Some(word) => Ok(word),
+        Some(asked) => Ok(asked),
         None => Err(unknown(alloc)?),
     }
 }

@@ -12,21 +12,24 @@ fn reads_each_word(rt: HostRuntime) -> Result<(), Fail> {
         ("replay", Word::Replay),
         ("run", Word::Run),
     ] {
-        same(&rt, word_of(rt.alloc(), &["cmwq", name])?, word);
+        let asked = word_of(rt.alloc(), &["cmwq", name])?;
+        same(&rt, (asked.word, asked.explain), (word, false));
+        let asked = word_of(rt.alloc(), &["cmwq", name, "--explain"])?;
+        same(&rt, (asked.word, asked.explain), (word, true));
     }
     Ok(())
 }
 
 #[test]
 fn reads_the_flag_of_check(rt: HostRuntime) -> Result<(), Fail> {
-    let word = word_of(rt.alloc(), &["cmwq", "check", "--front"])?;
+    let word = word_of(rt.alloc(), &["cmwq", "check", "--front"])?.word;
     same(&rt, word, Word::Check { front: true });
     Ok(())
 }
 
 #[test]
 fn reads_the_flag_of_step(rt: HostRuntime) -> Result<(), Fail> {
-    let word = word_of(rt.alloc(), &["cmwq", "step", "--live"])?;
+    let word = word_of(rt.alloc(), &["cmwq", "step", "--live"])?.word;
     same(&rt, word, Word::Step { live: true });
     Ok(())
 }

@@ -1,0 +1,11 @@
+//! Tests of `--explain`: what is told of each refusal there is.
+#![tactic(auto)]
+
+#[cfg(test)]
+mod calls;
+#[cfg(test)]
+mod histories;
+#[cfg(test)]
+mod kept;
+#[cfg(test)]
+mod tells;
