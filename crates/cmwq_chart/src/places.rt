@@ -77,9 +77,9 @@ pub fn places_of(
 }
 
 /// How many of the places stand above this one.
-#[tactic(auto, unfolding(crate::specs::Levels::place_row))]
-pub fn place_row(places: &[Place], place: Place) -> usize
-    ensures row { result ≡ spec.place_row places.now place }
+#[tactic(auto, unfolding(crate::specs::Levels::row_of_place))]
+pub fn row_of_place(places: &[Place], place: Place) -> usize
+    ensures row { result ≡ spec.row_of_place places.now place }
     ensures within { result ≤ length places.now }
 {
     match places {
@@ -88,7 +88,7 @@ pub fn place_row(places: &[Place], place: Place) -> usize
             if is_same_place(*first, place) {
                 0
             } else {
-                1 + place_row(others, place)
+                1 + row_of_place(others, place)
             }
         }
     }

@@ -14,18 +14,18 @@ use Rattle.cmwq_chart.specs.declared.levels.Height.{Height}
 use Rattle.cmwq_chart.specs.declared.levels.Level.{Level}
 use Rattle.cmwq_chart.specs.Levels.{height_at, is_changed, changes_level, level_from, level_until, level_ended, levels_ended, levels_left, IsPlaceOf}
 use Rattle.cmwq_chart.proofs.Steps.{past_step, legal_step}
-use Rattle.cmwq_chart_levels.specs.Turns.{GoesOn, IsChangeOf, IsFollowed, after_if, ended_if, ended_at, level_after}
+use Rattle.cmwq_chart_levels.specs.Turns.{IsLevelAfter, IsChangeOf, IsFollowed, after_if, ended_if, ended_levels, level_after}
 use Rattle.cmwq_chart_levels.specs.declared.steps.Change.{Change}
 
 module _ (s : Layout) (past : List Entry) (e : Entry) where
-  pub turned : (x : Level) (changed : Bool) (height : Height) (n : ℕ) → GoesOn s past x → n ≡ length past → height ≡ height_at s (e ∷ past) x.place → changed ≡ is_changed n x.height height
+  pub turned : (x : Level) (changed : Bool) (height : Height) (n : ℕ) → IsLevelAfter s past x → n ≡ length past → height ≡ height_at s (e ∷ past) x.place → changed ≡ is_changed n x.height height
       → after_if x changed height n ≡ level_after s (e ∷ past) x
   unfolding level_from
   turned x changed height n goes many is change =
       let same : changed ≡ changes_level s past e x.place = change ∙ (rw (many, is, goes.height) refl) in
       rw (same, many, is, goes.from, goes.to) refl
 
-  pub left_behind : (x : Level) (changed : Bool) (height : Height) (n : ℕ) → GoesOn s past x → n ≡ length past → height ≡ height_at s (e ∷ past) x.place → changed ≡ is_changed n x.height height
+  pub left_behind : (x : Level) (changed : Bool) (height : Height) (n : ℕ) → IsLevelAfter s past x → n ≡ length past → height ≡ height_at s (e ∷ past) x.place → changed ≡ is_changed n x.height height
       → ended_if x changed n ≡ level_ended s past e x.place
   left_behind x changed height n goes many is change =
       let same : changed ≡ changes_level s past e x.place = change ∙ (rw (many, is, goes.height) refl) in
@@ -39,26 +39,26 @@ module _ (s : Layout) (past : List Entry) (e : Entry) where
       is ∙ ap (λ l. get_or l i x) so_far ∙ get_or-append_right front (drop i xs) i x (omega (arith, long)) ∙ get_or-drop i xs (i - length front) x ∙ ap (λ k. get_or xs k x) (omega (arith, long))
 
   pub one_more_ended : (xs base : List Level) (i : ℕ) (x : Level) (o : Option Level) → i < length xs → x ≡ get_or xs i x → o ≡ level_ended s past e x.place
-      → (base ++ flat_map (ended_at s past e) (take i xs)) ++ option_to_list o ≡ base ++ flat_map (ended_at s past e) (take (i + 1) xs)
+      → (base ++ flat_map (ended_levels s past e) (take i xs)) ++ option_to_list o ≡ base ++ flat_map (ended_levels s past e) (take (i + 1) xs)
   one_more_ended xs base i x o less is ended =
-      ap (λ l. (base ++ flat_map (ended_at s past e) (take i xs)) ++ option_to_list l) ended
-      ∙ flat_map_more (ended_at s past e) base (take i xs) x
-      ∙ ap (λ y. base ++ flat_map (ended_at s past e) (take i xs ++ y ∷ [])) is
-      ∙ ap (λ l. base ++ flat_map (ended_at s past e) l) (sym (take_more xs i x less))
+      ap (λ l. (base ++ flat_map (ended_levels s past e) (take i xs)) ++ option_to_list l) ended
+      ∙ flat_map_more (ended_levels s past e) base (take i xs) x
+      ∙ ap (λ y. base ++ flat_map (ended_levels s past e) (take i xs ++ y ∷ [])) is
+      ∙ ap (λ l. base ++ flat_map (ended_levels s past e) l) (sym (take_more xs i x less))
 
-pub they_go_on : (s : Layout) (past : List Entry) (xs : List Level) (i : ℕ) (x : Level) → All (GoesOn s past) xs → i < length xs → x ≡ get_or xs i x → GoesOn s past x
-they_go_on s past xs i x all less is = subst (GoesOn s past) (sym is) (All-get_or (GoesOn s past) xs i x less all)
+pub they_go_on : (s : Layout) (past : List Entry) (xs : List Level) (i : ℕ) (x : Level) → All (IsLevelAfter s past) xs → i < length xs → x ≡ get_or xs i x → IsLevelAfter s past x
+they_go_on s past xs i x all less is = subst (IsLevelAfter s past) (sym is) (All-get_or (IsLevelAfter s past) xs i x less all)
 
 -- the levels that go on, of places of the layout
-pub all_go_on : (s : Layout) (past : List Entry) (places : List Place) → All (IsPlaceOf s) places → All (GoesOn s past) (levels_left s past places)
-all_go_on s past places inside = All-map (GoesOn s past) (level_until s past None) places (λ i d less. record { inside = inside i d less; height = refl; from = refl; to = refl })
+pub all_go_on : (s : Layout) (past : List Entry) (places : List Place) → All (IsPlaceOf s) places → All (IsLevelAfter s past) (levels_left s past places)
+all_go_on s past places inside = All-map (IsLevelAfter s past) (level_until s past None) places (λ i d less. record { inside = inside i d less; height = refl; from = refl; to = refl })
 
 pub left_again : (s : Layout) (past later : List Entry) (places : List Place) → map (level_after s later) (levels_left s past places) ≡ levels_left s later places
 left_again s past later [] = refl
 left_again s past later (p ∷ places) = ap (λ l. level_until s later None p ∷ l) (left_again s past later places)
 
-pub ended_again : (s : Layout) (past : List Entry) (e : Entry) (places : List Place) → flat_map (ended_at s past e) (levels_left s past places) ≡ flat_map (λ p. option_to_list (level_ended s past e p)) places
-ended_again s past e places = flat_map-map (ended_at s past e) (level_until s past None) places
+pub ended_again : (s : Layout) (past : List Entry) (e : Entry) (places : List Place) → flat_map (ended_levels s past e) (levels_left s past places) ≡ flat_map (λ p. option_to_list (level_ended s past e p)) places
+ended_again s past e places = flat_map-map (ended_levels s past e) (level_until s past None) places
 
 -- the entry with number i is the next of a history that was followed up to it
 pub legal_next : (s : Layout) (entries : List Entry) (i : ℕ) (e : Entry) (h : History) → i < length entries → e ≡ get_or entries i e → h.layout ≡ s → h.entries ≡ take i entries → IsLegal s (past_of entries) → IsLegal h.layout (e ∷ past_in h)
@@ -83,16 +83,16 @@ module _ (s : Layout) (entries : List Entry) (i : ℕ) (e : Entry) (h g : Histor
     does = subst (λ xs. IsChangeOf (past_of xs) e change) so_far does;
   }
 
-  pub running_goes_on : (places : List Place) (running : List Level) → All (IsPlaceOf s) places → running ≡ levels_left s (past_of (take i entries)) places → All (GoesOn g.layout (past_of (take i entries))) running
-  running_goes_on places running inside now = subst (λ l. All (GoesOn l (past_of (take i entries))) running) (sym same_layout)
-      (subst (All (GoesOn s (past_of (take i entries)))) (sym now) (all_go_on s (past_of (take i entries)) places inside))
+  pub running_goes_on : (places : List Place) (running : List Level) → All (IsPlaceOf s) places → running ≡ levels_left s (past_of (take i entries)) places → All (IsLevelAfter g.layout (past_of (take i entries))) running
+  running_goes_on places running inside now = subst (λ l. All (IsLevelAfter l (past_of (take i entries))) running) (sym same_layout)
+      (subst (All (IsLevelAfter s (past_of (take i entries)))) (sym now) (all_go_on s (past_of (take i entries)) places inside))
 
   pub levels_next : (places : List Place) (running old new : List Level) → running ≡ levels_left s (past_of (take i entries)) places → old ≡ levels_ended s (past_of (take i entries)) places
-      → new ≡ old ++ flat_map (ended_at g.layout (past_of (take i entries)) e) running → new ≡ levels_ended s (past_of (take (i + 1) entries)) places
+      → new ≡ old ++ flat_map (ended_levels g.layout (past_of (take i entries)) e) running → new ≡ levels_ended s (past_of (take (i + 1) entries)) places
   unfolding levels_ended
   levels_next places running old new now before more =
-      more ∙ ap (λ l. old ++ flat_map (ended_at l (past_of (take i entries)) e) running) same_layout
-      ∙ ap₂ (λ a b. a ++ flat_map (ended_at s (past_of (take i entries)) e) b) before now
+      more ∙ ap (λ l. old ++ flat_map (ended_levels l (past_of (take i entries)) e) running) same_layout
+      ∙ ap₂ (λ a b. a ++ flat_map (ended_levels s (past_of (take i entries)) e) b) before now
       ∙ ap (λ l. levels_ended s (past_of (take i entries)) places ++ l) (ended_again s (past_of (take i entries)) e places)
       ∙ ap (λ past. levels_ended s past places) (sym (past_next entries i e less is))
 

@@ -31,15 +31,15 @@ abbrev pub level_after : Layout → List Entry → Level → Level
 level_after s past l = level_until s past None l.place
 
 -- it is that, and goes on
-pub record GoesOn (s : Layout) (past : List Entry) (l : Level) : Type 0 where
+pub record IsLevelAfter (s : Layout) (past : List Entry) (l : Level) : Type 0 where
   pub inside : IsPlaceOf s l.place
   pub height : l.height ≡ height_at s past l.place
   pub from : l.from ≡ level_from s past l.place
   pub to : l.to ≡ None
 
 -- of a level that goes on before an entry, what the entry ends
-abbrev pub ended_at : Layout → List Entry → Entry → Level → List Level
-ended_at s past e l = option_to_list (level_ended s past e l.place)
+abbrev pub ended_levels : Layout → List Entry → Entry → Level → List Level
+ended_levels s past e l = option_to_list (level_ended s past e l.place)
 
 -- what an entry behind n others makes of a level, where it changes it or doesn't
 abbrev pub ended_if : Level → Bool → ℕ → Option Level

@@ -4,7 +4,7 @@ ghost use Rattle.std.specs.List.{All};
 ghost use Rattle.cmwq_model.specs.Prelude.{IsLegal, past_of};
 ghost use Rattle.cmwq_core.specs.History.{past_in};
 ghost use Rattle.cmwq_chart.specs.Levels as spec;
-ghost use Rattle.cmwq_chart_levels.specs.Turns.{GoesOn, after_if, ended_if, IsFollowed, ended_at, level_after as level_then};
+ghost use Rattle.cmwq_chart_levels.specs.Turns.{IsLevelAfter, after_if, ended_if, IsFollowed, ended_levels, level_after as level_then};
 
 use crate::heights::{height_after, is_changed};
 use crate::steps::{ALL_ROOM, Change, entry_at, follow};
@@ -75,9 +75,9 @@ fn turn(
 ) -> Result<(), NoMemory>
     requires short { length entries.now ≤ 1073741824 }
     requires followed { IsFollowed execution.now (past_of entries.now) entry change.now }
-    requires running { All (GoesOn execution.now.layout (past_of entries.now)) running.old.items }
+    requires running { All (IsLevelAfter execution.now.layout (past_of entries.now)) running.old.items }
     ensures running { OnOk result (running.new.items ≡ map (level_then execution.now.layout (entry ∷ past_of entries.now)) running.old.items) }
-    ensures levels { OnOk result (levels.new.items ≡ levels.old.items ++ flat_map (ended_at execution.now.layout (past_of entries.now) entry) running.old.items) }
+    ensures levels { OnOk result (levels.new.items ≡ levels.old.items ++ flat_map (ended_levels execution.now.layout (past_of entries.now) entry) running.old.items) }
 {
     for k in 0..running.len() {
         let before = running[k];

@@ -3,7 +3,7 @@ use Rattle.std.specs.Prelude.{ℕ, ◌+◌, ◌-◌, ◌*◌, ◌/◌, List, [],
 use Rattle.std.specs.List.{fold, range_with_len}
 use Rattle.cmwq_model.specs.declared.record.Place.{Place}
 use Rattle.cmwq_chart.specs.declared.levels.Level.{Level}
-use Rattle.cmwq_chart.specs.Levels.{place_row}
+use Rattle.cmwq_chart.specs.Levels.{row_of_place}
 use Rattle.cmwq_chart_text.specs.declared.page.Page.{Page}
 use Rattle.cmwq_chart_text.specs.Filled.{filled}
 use Rattle.cmwq_chart_text.specs.Pages.{bands, band_top}
@@ -11,7 +11,7 @@ use Rattle.cmwq_chart_text.specs.Spans.{span_end, span_left, span_width, span_ba
 
 -- the last rows of a band are those of the places, two for each; the base line of one
 unfoldable pub level_base : Page → List Place → ℕ → Place → ℕ
-level_base p places band place = band_top p band + 54 + 18 * (p.rows - 2 * length places) + 36 * place_row places place
+level_base p places band place = band_top p band + 54 + 18 * (p.rows - 2 * length places) + 36 * row_of_place places place
 
 -- a row is as high as the most that are ever open somewhere, or as four; what is more stands at its upper edge
 abbrev pub most_open : List Level → ℕ

@@ -9,7 +9,7 @@ use crate::filled::write_filled;
 use crate::page::Page;
 use crate::spans::{span_band, span_bands_end, span_end, span_left, span_width};
 use cmwq_base::{Sink, WriteFault};
-use cmwq_chart::{Level, place_row};
+use cmwq_chart::{Level, row_of_place};
 use cmwq_model::Place;
 
 #[tactic(auto, unfolding(crate::specs::LevelText::place_template))]
@@ -35,17 +35,27 @@ fn level_base(page: &Page, places: &[Place], band: u64, place: Place) -> u64
     ensures within { result ≤ 20000000000000000 }
 {
     let above = u64::from(page.rows).saturating_sub(2 * places.len() as u64);
-    page.band_top(band) + 54 + 18 * above + 36 * place_row(places, place) as u64
+    page.band_top(band) + 54 + 18 * above + 36 * row_of_place(places, place) as u64
+}
+
+/// The most that are ever open in one of the levels.
+fn most_open(levels: &[Level]) -> u32
+    ensures { result ≡ spec.most_open levels.now }
+{
+    let mut most = 0;
+    for level in levels {
+        most = most.max(level.height.open_count);
+    }
+    most
 }
 
 /// What the upper edge of a row stands for.
-#[tactic(auto, unfolding(crate::specs::LevelText::scale_of), using(std::proofs::lemmas::List::Folds::max_of_map))]
+#[tactic(auto, unfolding(crate::specs::LevelText::scale_of))]
 fn scale_of(levels: &[Level]) -> u32
     ensures scale { result ≡ spec.scale_of levels.now }
     ensures some { 0 < result }
 {
-    let most = levels.iter().map(|level| level.height.open_count).max();
-    most.unwrap_or(0).max(4)
+    most_open(levels).max(4)
 }
 
 /// How high so many are.

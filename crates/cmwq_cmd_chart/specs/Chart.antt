@@ -24,13 +24,13 @@ use Rattle.cmwq_chart_text.specs.PictureText.{picture_text}
 abbrev pub places_in : Layout → List Entry → List Place
 places_in s entries = places_of s (queueings (past_of entries))
 
-abbrev pub rows_in : Layout → List Entry → ℕ
-rows_in s entries = length (lanes_of s entries) + 2 * length (places_in s entries)
+abbrev pub rows_of_band : Layout → List Entry → ℕ
+rows_of_band s entries = length (lanes_of s entries) + 2 * length (places_in s entries)
 
 -- the picture of what a window shows of a history
 unfoldable pub chart_text : Window → Layout → List Entry → List ℕ
 chart_text w s entries =
-    picture_text (page_of w (length entries) (rows_in s entries)) (lanes_of s entries) (bars_of (past_of entries)) (sleeps_of (past_of entries) (lanes_of s entries))
+    picture_text (page_of w (length entries) (rows_of_band s entries)) (lanes_of s entries) (bars_of (past_of entries)) (sleeps_of (past_of entries) (lanes_of s entries))
     (places_in s entries) (levels_of s (past_of entries) (places_in s entries))
 
 -- of a legal history its picture, of another nothing

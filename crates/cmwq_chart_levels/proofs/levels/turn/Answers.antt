@@ -3,7 +3,7 @@ use Rattle.std.specs.Prelude.{slice_set}
 use Rattle.std.proofs.lemmas.List.Edits.{map_over_more}
 use Rattle.cmwq_model.specs.Prelude.{past_of}
 use Rattle.cmwq_chart.proofs.Steps.{length_past}
-use Rattle.cmwq_chart_levels.specs.Turns.{GoesOn, level_after}
+use Rattle.cmwq_chart_levels.specs.Turns.{IsLevelAfter, level_after}
 use Rattle.cmwq_chart_levels.proofs.Turned.{turned, left_behind, untouched, one_more_ended, they_go_on}
 use Rattle.cmwq_chart_levels.proofs.levels.turn.Goals as goal
 
