@@ -1,9 +1,8 @@
 -- The laws of levels: each is as the model says where it stands, and each place has one after each entry.
-use Rattle.std.proofs.Common.{◌≡◌, ℕ, ◌+◌, ◌-◌, ◌<◌, ◌≤◌, ◌==◌, ◌&&◌, not, Bool, true, false, List, [], ◌∷◌, ◌++◌, length, map, nat_lt, Option, Some, None, IfSome, option_to_list, ◌⊎◌, inl, inr, ⊎_elim, refl, sym, ap, ◌∙◌, subst, arith, length-append}
-use Rattle.std.specs.Prelude.{if◌then◌else◌, flat_map, Contains}
+use Rattle.std.proofs.Common.{◌≡◌, ℕ, ◌-◌, ◌<◌, ◌≤◌, ◌==◌, ◌&&◌, not, Bool, true, false, List, [], ◌∷◌, ◌++◌, length, nat_lt, Option, Some, None, IfSome, option_to_list, ◌⊎◌, inl, inr, ⊎_elim, refl, sym, ap, ◌∙◌, subst, arith, length-append}
+use Rattle.std.specs.Prelude.{if◌then◌else◌}
 use Rattle.std.specs.List.{AllByRecursion}
 use Rattle.std.proofs.lemmas.Bool.{eqb-true, lt-ltb, ltb-true, and_parts}
-use Rattle.std.proofs.lemmas.List.Concat.{flat_map-cons}
 use Rattle.cmwq_lemmas.proofs.Lists.{All_append, All_map}
 use Rattle.cmwq_lemmas.proofs.Members.{In, in_left, in_right, option_in, in_contained, contained_in}
 use Rattle.cmwq_model.specs.declared.entry.Entry.{Entry}

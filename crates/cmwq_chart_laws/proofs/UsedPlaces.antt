@@ -1,5 +1,5 @@
 -- The places of all queueings are shown.
-use Rattle.std.proofs.Common.{◌≡◌, ℕ, ◌<◌, Bool, true, false, ◌&&◌, ◌||◌, List, [], ◌∷◌, length, map, filter, Some, option_to_list, inl, inr, ⊎_elim, refl, sym, ap, ap₂, ◌∙◌, subst, arith, zero-add}
+use Rattle.std.proofs.Common.{◌≡◌, ℕ, ◌<◌, Bool, true, false, ◌&&◌, ◌||◌, List, [], ◌∷◌, length, option_to_list, ⊎_elim, refl, ap, ap₂, ◌∙◌, arith, zero-add}
 use Rattle.std.specs.Prelude.{flat_map, Contains}
 use Rattle.std.specs.List.{AllByRecursion, list_any, range_with_len}
 use Rattle.std.proofs.lemmas.Bool.{eq-eqb}
@@ -7,7 +7,6 @@ use Rattle.std.proofs.lemmas.List.FromFn.{length-range_with_len, get_or-range_wi
 use Rattle.cmwq_lemmas.proofs.Lists.{All_append}
 use Rattle.cmwq_lemmas.proofs.Members.{In, of_in, all_in, in_at, in_option, filter_in, in_contained}
 use Rattle.cmwq_model.specs.declared.entry.Entry.{Entry}
-use Rattle.cmwq_model.specs.declared.record.Place.{Place}
 use Rattle.cmwq_model.specs.declared.record.Queueing.{Queueing}
 use Rattle.cmwq_model.specs.Prelude.{Layout, IsLegal, opening, queueings}
 use Rattle.cmwq_refinement.specs.Places.{IsQueueingThere}
