@@ -11,5 +11,5 @@ mod sleeps;
 pub use bars::{Bar, bars_of};
 pub use lanes::{lanes_of, row_of};
 pub use levels::{Height, Level};
-pub use places::{row_of_place, places_of};
+pub use places::{places_of, row_of_place};
 pub use sleeps::{Sleep, sleeps_of};

@@ -4,7 +4,7 @@ ghost use Rattle.std.specs.List.{All};
 ghost use Rattle.cmwq_model.specs.Prelude.{same_place};
 ghost use Rattle.cmwq_chart.specs.Levels as spec;
 
-use cmwq_model::{CpuId, Place, Queueing, QueueId, Shape};
+use cmwq_model::{CpuId, Place, QueueId, Queueing, Shape};
 use std::alloc::{AllocError, Global};
 
 fn is_same_place(place: Place, other: Place) -> bool

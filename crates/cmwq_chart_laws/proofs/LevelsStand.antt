@@ -114,13 +114,15 @@ over_now s past a p = here (changes_level s past a p) refl
     here false is = tt
     here true is =
         let some = changed_later (length past) (height_at s past p) (height_at s (a ∷ past) p) is in
-        let l : Level = level_until s past (Some (length past - 1)) p in
-        (record {
-          last = length past - 1;
-          is_last = refl;
-          within = omega arith;
-          is_true = older_alone s past a l (length past - 1) refl (omega arith) (λ e before stands covers. true_since s past p (Some (length past - 1)) e before stands covers.begun);
-        }, tt)
+        let l : Level = level_until s past (Some (length past - 1)) p in (
+          record {
+            last = length past - 1;
+            is_last = refl;
+            within = omega arith;
+            is_true = older_alone s past a l (length past - 1) refl (omega arith) (λ e before stands covers. true_since s past p (Some (length past - 1)) e before stands covers.begun);
+          },
+          tt,
+        )
 
 all_over : (s : Layout) (past : List Entry) (places : List Place) → AllByRecursion (IsOver s past) (levels_ended s past places)
 unfolding levels_ended

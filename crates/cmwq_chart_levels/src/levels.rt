@@ -137,7 +137,14 @@ pub fn levels_of(
     for k in 0..entries.len() {
         let entry = entry_at(entries, k);
         let change = follow(&mut execution, entry)?;
-        turn(&mut levels, &mut running, &execution, &change, &entries[..k], entry)?;
+        turn(
+            &mut levels,
+            &mut running,
+            &execution,
+            &change,
+            &entries[..k],
+            entry,
+        )?;
     }
     levels.extend_from_slice(&running)?;
     Ok(levels)

@@ -128,13 +128,7 @@ fn write_places_in_bands<W: Sink>(
 }
 
 /// What the template of a level is filled with.
-fn level_numbers(
-    page: &Page,
-    places: &[Place],
-    scale: u32,
-    level: &Level,
-    band: u64,
-) -> [u64; 18]
+fn level_numbers(page: &Page, places: &[Place], scale: u32, level: &Level, band: u64) -> [u64; 18]
     requires band { band ≤ 4294967296 }
     requires few { length places.now ≤ 256 }
     requires scale { 0 < scale }
