@@ -1,4 +1,4 @@
--- Which workers have lanes, one more at a time.
+-- Which workers and which queues on CPUs are shown, one more at a time.
 use Rattle.std.proofs.Common.{◌≡◌, ℕ, ◌+◌, Bool, List, [], ◌∷◌, ◌++◌, filter, map, if◌then◌else◌, sym, ap, ◌∙◌, append_assoc, append-nil, arith}
 use Rattle.std.proofs.lemmas.List.Concat.{flat_map-cons}
 use Rattle.std.proofs.lemmas.List.Elements.{filter-append}
@@ -6,21 +6,20 @@ use Rattle.std.proofs.lemmas.List.FromFn.{filter_of_map_range_with_len_more}
 use Rattle.std.proofs.lemmas.Grind.{flat_map-append}
 use Rattle.std.specs.Prelude.{flat_map}
 use Rattle.std.specs.List.{range_with_len}
-use Rattle.cmwq_model.specs.declared.id.WorkerId.{WorkerId}
 use Rattle.cmwq_chart.proofs.Steps.{range_more}
 
-module _ (p : WorkerId → Bool) where
-  pub used_more : (f : ℕ → WorkerId) (old before new : List WorkerId) (n : ℕ) → before ≡ old ++ filter p (map f (range_with_len 0 n)) → new ≡ before ++ (if p (f n) then f n ∷ [] else []) → new ≡ old ++ filter p (map f (range_with_len 0 (n + 1)))
+module _ {X : Type 0} (p : X → Bool) where
+  pub used_more : (f : ℕ → X) (old before new : List X) (n : ℕ) → before ≡ old ++ filter p (map f (range_with_len 0 n)) → new ≡ before ++ (if p (f n) then f n ∷ [] else []) → new ≡ old ++ filter p (map f (range_with_len 0 (n + 1)))
   used_more f old before new n so_far more =
-      let last : List WorkerId = if p (f n) then f n ∷ [] else [] in
+      let last : List X = if p (f n) then f n ∷ [] else [] in
       more ∙ ap (λ l. l ++ last) so_far ∙ append_assoc old (filter p (map f (range_with_len 0 n))) last
       ∙ ap (λ l. old ++ l) (sym (filter_of_map_range_with_len_more p f 0 n n (omega arith)))
 
-  pub both_used : (old mid new xs ys : List WorkerId) → mid ≡ old ++ filter p xs → new ≡ mid ++ filter p ys → new ≡ old ++ filter p (xs ++ ys)
+  pub both_used : (old mid new xs ys : List X) → mid ≡ old ++ filter p xs → new ≡ mid ++ filter p ys → new ≡ old ++ filter p (xs ++ ys)
   both_used old mid new xs ys first second =
       second ∙ ap (λ l. l ++ filter p ys) first ∙ append_assoc old (filter p xs) (filter p ys) ∙ ap (λ l. old ++ l) (sym (filter-append p xs ys))
 
-  pub all_used : (g : ℕ → List WorkerId) (before new : List WorkerId) (n : ℕ) → before ≡ filter p (flat_map g (range_with_len 0 n)) → new ≡ before ++ filter p (g n) → new ≡ filter p (flat_map g (range_with_len 0 (n + 1)))
+  pub all_used : (g : ℕ → List X) (before new : List X) (n : ℕ) → before ≡ filter p (flat_map g (range_with_len 0 n)) → new ≡ before ++ filter p (g n) → new ≡ filter p (flat_map g (range_with_len 0 (n + 1)))
   all_used g before new n so_far more =
       let wide : flat_map g (range_with_len 0 (n + 1)) ≡ flat_map g (range_with_len 0 n) ++ g n =
       ap (flat_map g) (range_more n) ∙ flat_map-append g (range_with_len 0 n) (n ∷ []) ∙ ap (λ l. flat_map g (range_with_len 0 n) ++ l) (flat_map-cons g n [] ∙ append-nil (g n)) in

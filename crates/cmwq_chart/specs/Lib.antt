@@ -1,3 +1,4 @@
 pub mod Bars
 pub mod Lanes
+pub mod Levels
 pub mod Sleeps

@@ -24,13 +24,13 @@ asleep_since (e ∷ past) w = if is_by (Worker w) e then since_after e.reply (le
 abbrev pub sleep_from : WorkerId → Option ℕ → ℕ → Sleep
 sleep_from w to from = record { worker = w; from = from; to = to }
 
-abbrev pub is_woke : Reply → Bool
-is_woke reply.Woke = true
-is_woke r = false
+abbrev pub ends_sleep : Reply → Bool
+ends_sleep reply.Woke = true
+ends_sleep r = false
 
 -- the sleep that an entry behind past ends
 abbrev pub sleep_ended : List Entry → Entry → WorkerId → Option Sleep
-sleep_ended past e w = if is_by (Worker w) e && is_woke e.reply then option_map (sleep_from w (Some (length past))) (asleep_since past w) else None
+sleep_ended past e w = if is_by (Worker w) e && ends_sleep e.reply then option_map (sleep_from w (Some (length past))) (asleep_since past w) else None
 
 unfoldable pub sleeps_ended : List Entry → WorkerId → List Sleep
 sleeps_ended [] w = []

@@ -50,11 +50,6 @@ finished_by (e ∷ past) n t h = here (finished_by past n) (finish_place past n)
     here earlier None is true k = refl
     here earlier None is false k = cc
 
-pub legal_before : (s : Layout) (after past : List Entry) → IsLegal s (after ++ past) → IsLegal s past
-unfolding IsLegal
-legal_before s [] past legal = legal
-legal_before s (a ∷ after) past legal = legal_before s after past legal.2
-
 -- ---- a queueing that a legal entry starts wasn't finished before, and is the worker's run until it is
 
 after_start : (r : Reply) (o : Option ℕ) (n : ℕ) → number_started r ≡ Some n → run_after r o ≡ Some n

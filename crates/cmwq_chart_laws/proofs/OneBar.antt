@@ -20,7 +20,8 @@ use Rattle.cmwq_theory_steps.proofs.Starts.{starts_next}
 use Rattle.cmwq_chart.specs.declared.bars.Bar.{Bar}
 use Rattle.cmwq_chart.specs.Bars.{finish_place, bar_from, bar_of, bars_in, bars_of}
 use Rattle.cmwq_chart_laws.specs.BarLaws.{FinishesAt, EndsWell, begins_at, HasOneBar, StartsHaveOneBar, IsOfStart, BarsAreOfStarts, EndsBefore, AreApart, LanesAreApart}
-use Rattle.cmwq_chart_laws.proofs.Finishes.{finish_within, finish_stays, legal_before, not_yet, goes_on}
+use Rattle.cmwq_chart.proofs.Steps.{legal_before}
+use Rattle.cmwq_chart_laws.proofs.Finishes.{finish_within, finish_stays, not_yet, goes_on}
 
 items_stay : (after past : List Entry) (n : ℕ) → n < length past → item_at (after ++ past) n ≡ item_at past n
 items_stay [] past n less = refl

@@ -1,2 +1,3 @@
 pub mod BarLaws
 pub mod SleepLaws
+pub mod LevelLaws

@@ -5,7 +5,7 @@ use Rattle.cmwq_model.specs.declared.id.WorkerId.{WorkerId}
 use Rattle.cmwq_chart.specs.declared.bars.Bar.{Bar}
 use Rattle.cmwq_chart_text.specs.declared.page.Page.{Page}
 use Rattle.cmwq_chart_text.specs.Filled.{filled}
-use Rattle.cmwq_chart_text.specs.Pages.{row_top, letter}
+use Rattle.cmwq_chart_text.specs.Pages.{row_top, worker_letter}
 use Rattle.cmwq_chart_text.specs.Spans.{span_end, span_left, span_width, span_band, span_bands_end}
 
 unfoldable pub bar_template : Bool → Bool → List ℕ
@@ -20,7 +20,7 @@ is_labelled width item = nat_le (if nat_lt item 10 then 10 else if nat_lt item 1
 
 abbrev pub bar_numbers : Page → List WorkerId → Bar → ℕ → List ℕ
 bar_numbers p lanes bar band =
-    (bar.item.0 % 10) ∷ bar.item.0 ∷ bar.number ∷ bar.worker.pool.cpu.0 ∷ letter bar.worker ∷ bar.worker.index
+    (bar.item.0 % 10) ∷ bar.item.0 ∷ bar.number ∷ bar.worker.pool.cpu.0 ∷ worker_letter bar.worker ∷ bar.worker.index
     ∷ span_left p bar.from band ∷ row_top p lanes band bar.worker ∷ span_width p bar.from bar.to band
     ∷ bar.item.0 ∷ bar.number ∷ bar.from ∷ (span_end p bar.to - 1)
     ∷ (span_left p bar.from band + 2) ∷ (row_top p lanes band bar.worker + 11) ∷ bar.item.0 ∷ []

@@ -4,23 +4,23 @@ use Rattle.std.specs.List.{range_with_len}
 use Rattle.cmwq_model.specs.declared.id.WorkerId.{WorkerId}
 use Rattle.cmwq_chart_text.specs.declared.page.Page.{Page}
 use Rattle.cmwq_chart_text.specs.Filled.{filled}
-use Rattle.cmwq_chart_text.specs.Pages.{shown, bands, band_of, top_of, rows_height, column_at, step, row_top, letter}
+use Rattle.cmwq_chart_text.specs.Pages.{shown, bands, band_of, band_top, rows_height, column_at, column_width, row_top, worker_letter}
 
 unfoldable pub head_template : List ℕ
-head_template = codes "<svg xmlns=\"http://www.w3.org/2000/svg\" width=\"1200\" height=\"$\" viewBox=\"0 0 1200 $\" role=\"img\"><style>svg{color:black;font:11px sans-serif}.page{fill:white}text{fill:currentColor}.title{font-size:14px}.name,.entry{opacity:.8}.name{text-anchor:end}.entry{text-anchor:middle}.guide,.grid{stroke:currentColor;stroke-opacity:.15}.run{stroke:currentColor;stroke-width:.7}.sleep{fill:url(#hatch);stroke:currentColor;stroke-width:.7}.item{fill:black;font-weight:bold;pointer-events:none}.k0{fill:rgb(143,184,222)}.k1{fill:rgb(250,190,120)}.k2{fill:rgb(150,205,140)}.k3{fill:rgb(240,150,145)}.k4{fill:rgb(150,210,205)}.k5{fill:rgb(205,170,205)}.k6{fill:rgb(200,170,150)}.k7{fill:rgb(240,220,120)}.k8{fill:rgb(255,190,200)}.k9{fill:rgb(190,190,190)}@media(prefers-color-scheme:dark){svg{color:rgb(230,230,230)}.page{fill:rgb(27,29,33)}}</style><defs><pattern id=\"hatch\" width=\"6\" height=\"6\" patternUnits=\"userSpaceOnUse\" patternTransform=\"rotate(45)\"><path d=\"M0 0v6\" stroke=\"black\" stroke-width=\"2\" stroke-opacity=\".5\"/></pattern></defs>\n<rect class=\"page\" width=\"1200\" height=\"$\"/>\n<text class=\"title\" x=\"12\" y=\"26\">Entries from $ up to $: a bar for each run, with its item, in the row of its worker, and hatched where it sleeps</text>\n"
+head_template = codes "<svg xmlns=\"http://www.w3.org/2000/svg\" width=\"1200\" height=\"$\" viewBox=\"0 0 1200 $\" role=\"img\"><style>svg{color:black;font:11px sans-serif}.page{fill:white}text{fill:currentColor}.title{font-size:14px}.name,.entry{opacity:.8}.name{text-anchor:end}.entry{text-anchor:middle}.guide,.grid{stroke:currentColor;stroke-opacity:.15}.run{stroke:currentColor;stroke-width:.7}.sleep{fill:url(#hatch);stroke:currentColor;stroke-width:.7}.item{fill:black;font-weight:bold;pointer-events:none}.k0{fill:rgb(143,184,222)}.k1{fill:rgb(250,190,120)}.k2{fill:rgb(150,205,140)}.k3{fill:rgb(240,150,145)}.k4{fill:rgb(150,210,205)}.k5{fill:rgb(205,170,205)}.k6{fill:rgb(200,170,150)}.k7{fill:rgb(240,220,120)}.k8{fill:rgb(255,190,200)}.k9{fill:rgb(190,190,190)}.open{fill:rgb(196,208,222)}.active{fill:rgb(110,145,185)}.width{fill:none;stroke:rgb(205,60,60);stroke-width:1.5;stroke-dasharray:3 2}@media(prefers-color-scheme:dark){svg{color:rgb(230,230,230)}.page{fill:rgb(27,29,33)}}</style><defs><pattern id=\"hatch\" width=\"6\" height=\"6\" patternUnits=\"userSpaceOnUse\" patternTransform=\"rotate(45)\"><path d=\"M0 0v6\" stroke=\"black\" stroke-width=\"2\" stroke-opacity=\".5\"/></pattern></defs>\n<rect class=\"page\" width=\"1200\" height=\"$\"/>\n<text class=\"title\" x=\"12\" y=\"26\">Entries from $ up to $: a bar for each run, with its item, in the row of its worker, and hatched where it sleeps</text>\n<text x=\"12\" y=\"44\">Below, for each queue on each CPU: how many are open (pale), how many of them are active (dark), and the width (dashed)</text>\n"
 
 unfoldable pub picture_height : Page → ℕ
-picture_height p = top_of p (bands p) + 8
+picture_height p = band_top p (bands p) + 8
 
-unfoldable pub head_text : Page → List ℕ
-head_text p = filled head_template (picture_height p ∷ picture_height p ∷ picture_height p ∷ p.first ∷ p.end ∷ [])
+unfoldable pub picture_head : Page → List ℕ
+picture_head p = filled head_template (picture_height p ∷ picture_height p ∷ picture_height p ∷ p.first ∷ p.end ∷ [])
 
 -- the name of a worker before its row, and a line through the row
 unfoldable pub name_template : List ℕ
 name_template = codes "<text class=\"name\" x=\"92\" y=\"$\">w$~$</text><path class=\"guide\" d=\"M100 $h1080\"/>\n"
 
 abbrev pub name_numbers : Page → List WorkerId → ℕ → WorkerId → List ℕ
-name_numbers p lanes band w = (row_top p lanes band w + 11) ∷ w.pool.cpu.0 ∷ letter w ∷ w.index ∷ (row_top p lanes band w + 7) ∷ []
+name_numbers p lanes band w = (row_top p lanes band w + 11) ∷ w.pool.cpu.0 ∷ worker_letter w ∷ w.index ∷ (row_top p lanes band w + 7) ∷ []
 
 abbrev pub name_text : Page → List WorkerId → ℕ → WorkerId → List ℕ
 name_text p lanes band w = filled name_template (name_numbers p lanes band w)
@@ -31,24 +31,24 @@ names_in_band p lanes band = flat_map (name_text p lanes band) lanes
 abbrev pub names_in_bands : Page → List WorkerId → ℕ → List ℕ
 names_in_bands p lanes end = flat_map (names_in_band p lanes) (range_with_len 0 end)
 
-unfoldable pub names_text : Page → List WorkerId → List ℕ
-names_text p lanes = names_in_bands p lanes (bands p)
+unfoldable pub lane_names_text : Page → List WorkerId → List ℕ
+lane_names_text p lanes = names_in_bands p lanes (bands p)
 
 -- a line and a number at every fifth entry, or where columns are narrow at every tenth
 unfoldable pub number_template : List ℕ
 number_template = codes "<path class=\"grid\" d=\"M$ $v$\"/><text class=\"entry\" x=\"$\" y=\"$\">$</text>\n"
 
-unfoldable pub is_numbered : Page → ℕ → Bool
-is_numbered p place = place % (if nat_le (shown p) 90 then 5 else 10) == 0
+unfoldable pub has_its_number : Page → ℕ → Bool
+has_its_number p place = place % (if nat_le (shown p) 90 then 5 else 10) == 0
 
 unfoldable pub middle_of : Page → ℕ → ℕ
-middle_of p place = column_at p (band_of p place) place + step p / 2
+middle_of p place = column_at p (band_of p place) place + column_width p / 2
 
 abbrev pub number_numbers : Page → ℕ → List ℕ
-number_numbers p place = middle_of p place ∷ (top_of p (band_of p place) + 18) ∷ (4 + rows_height p) ∷ middle_of p place ∷ (top_of p (band_of p place) + 14) ∷ place ∷ []
+number_numbers p place = middle_of p place ∷ (band_top p (band_of p place) + 18) ∷ (4 + rows_height p) ∷ middle_of p place ∷ (band_top p (band_of p place) + 14) ∷ place ∷ []
 
 abbrev pub number_text : Page → ℕ → List ℕ
-number_text p place = if is_numbered p place then filled number_template (number_numbers p place) else []
+number_text p place = if has_its_number p place then filled number_template (number_numbers p place) else []
 
 abbrev pub numbers_between : Page → ℕ → ℕ → List ℕ
 numbers_between p from end = flat_map (number_text p) (range_with_len from (end - from))
@@ -56,5 +56,5 @@ numbers_between p from end = flat_map (number_text p) (range_with_len from (end 
 unfoldable pub numbers_text : Page → List ℕ
 numbers_text p = numbers_between p p.first p.end
 
-unfoldable pub end_text : List ℕ
-end_text = codes "</svg>\n"
+unfoldable pub picture_end : List ℕ
+picture_end = codes "</svg>\n"

@@ -16,8 +16,8 @@ shown p = p.end - p.first
 unfoldable pub columns : Page → ℕ
 columns p = if nat_le (shown p) 45 then 45 else if nat_le (shown p) 90 then 90 else 180
 
-unfoldable pub step : Page → ℕ
-step p = if nat_le (shown p) 45 then 24 else if nat_le (shown p) 90 then 12 else 6
+unfoldable pub column_width : Page → ℕ
+column_width p = if nat_le (shown p) 45 then 24 else if nat_le (shown p) 90 then 12 else 6
 
 -- a band is a line for the numbers of the entries, the rows, and a gap
 unfoldable pub rows_height : Page → ℕ
@@ -30,11 +30,11 @@ height p = 40 + rows_height p
 unfoldable pub band_of : Page → ℕ → ℕ
 band_of p place = (place - p.first) / columns p
 
-unfoldable pub start_of : Page → ℕ → ℕ
-start_of p band = p.first + band * columns p
+unfoldable pub band_start : Page → ℕ → ℕ
+band_start p band = p.first + band * columns p
 
-unfoldable pub top_of : Page → ℕ → ℕ
-top_of p band = 56 + band * height p
+unfoldable pub band_top : Page → ℕ → ℕ
+band_top p band = 56 + band * height p
 
 -- the end of the bands in which the entries from one up to an end stand
 unfoldable pub bands_end : Page → ℕ → ℕ → ℕ
@@ -45,22 +45,22 @@ bands p = bands_end p p.first p.end
 
 -- where the column of an entry begins in its band, and how wide the columns from one up to another are
 unfoldable pub column_at : Page → ℕ → ℕ → ℕ
-column_at p band place = 100 + (place - start_of p band) * step p
+column_at p band place = 100 + (place - band_start p band) * column_width p
 
 unfoldable pub width_of : Page → ℕ → ℕ → ℕ
-width_of p from end = (end - from) * step p
+width_of p from end = (end - from) * column_width p
 
 -- from which entry on a span of entries stands in a band, and up to which
 unfoldable pub from_in : Page → ℕ → ℕ → ℕ
-from_in p band from = max from (start_of p band)
+from_in p band from = max from (band_start p band)
 
 unfoldable pub end_in : Page → ℕ → ℕ → ℕ
-end_in p band end = min (min end p.end) (start_of p band + columns p)
+end_in p band end = min (min end p.end) (band_start p band + columns p)
 
 -- the upper edge of a worker's row
 unfoldable pub row_top : Page → List WorkerId → ℕ → WorkerId → ℕ
-row_top p lanes band w = top_of p band + 22 + 18 * row_of lanes w
+row_top p lanes band w = band_top p band + 22 + 18 * row_of lanes w
 
 -- the letter of a worker's pool: h or n
-unfoldable pub letter : WorkerId → ℕ
-letter w = if w.pool.high then 104 else 110
+unfoldable pub worker_letter : WorkerId → ℕ
+worker_letter w = if w.pool.high then 104 else 110

@@ -1,12 +1,15 @@
 -- The text of a picture: what stands around the shapes, and the shapes.
 use Rattle.std.specs.Prelude.{ℕ, List, ◌++◌}
 use Rattle.cmwq_model.specs.declared.id.WorkerId.{WorkerId}
+use Rattle.cmwq_model.specs.declared.record.Place.{Place}
 use Rattle.cmwq_chart.specs.declared.bars.Bar.{Bar}
+use Rattle.cmwq_chart.specs.declared.levels.Level.{Level}
 use Rattle.cmwq_chart.specs.declared.sleeps.Sleep.{Sleep}
 use Rattle.cmwq_chart_text.specs.declared.page.Page.{Page}
 use Rattle.cmwq_chart_text.specs.BarText.{bars_text}
 use Rattle.cmwq_chart_text.specs.SleepText.{sleeps_text}
-use Rattle.cmwq_chart_text.specs.FrameText.{head_text, names_text, numbers_text, end_text}
+use Rattle.cmwq_chart_text.specs.LevelText.{levels_text}
+use Rattle.cmwq_chart_text.specs.FrameText.{picture_head, lane_names_text, numbers_text, picture_end}
 
-abbrev pub picture_text : Page → List WorkerId → List Bar → List Sleep → List ℕ
-picture_text p lanes bars sleeps = head_text p ++ (names_text p lanes ++ (numbers_text p ++ (bars_text p lanes bars ++ (sleeps_text p lanes sleeps ++ end_text))))
+abbrev pub picture_text : Page → List WorkerId → List Bar → List Sleep → List Place → List Level → List ℕ
+picture_text p lanes bars sleeps places levels = picture_head p ++ (lane_names_text p lanes ++ (numbers_text p ++ (bars_text p lanes bars ++ (sleeps_text p lanes sleeps ++ (levels_text p places levels ++ picture_end)))))

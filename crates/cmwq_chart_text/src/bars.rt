@@ -6,7 +6,7 @@ ghost use Rattle.cmwq_io.specs.Moves.{AppendsFront};
 ghost use Rattle.cmwq_chart_text.specs.BarText as spec;
 
 use crate::filled::write_filled;
-use crate::page::{Page, letter};
+use crate::page::{Page, worker_letter};
 use crate::spans::{span_band, span_bands_end, span_end, span_left, span_width};
 use cmwq_base::{Sink, WriteFault};
 use cmwq_chart::Bar;
@@ -61,7 +61,7 @@ fn bar_numbers(page: &Page, lanes: &[WorkerId], bar: &Bar, band: u64) -> [u64; 1
         item,
         bar.number,
         worker.pool.cpu.0.into(),
-        letter(worker),
+        worker_letter(worker),
         worker.index.into(),
         left,
         top,

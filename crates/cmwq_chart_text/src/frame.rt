@@ -6,7 +6,7 @@ ghost use Rattle.cmwq_io.specs.Moves.{AppendsFront};
 ghost use Rattle.cmwq_chart_text.specs.FrameText as spec;
 
 use crate::filled::write_filled;
-use crate::page::{Page, letter};
+use crate::page::{Page, worker_letter};
 use cmwq_base::{Sink, WriteFault, write_all};
 use cmwq_model::WorkerId;
 
@@ -14,7 +14,7 @@ use cmwq_model::WorkerId;
 fn head_template() -> &'static str
     ensures { result.now ≡ spec.head_template }
 {
-    "<svg xmlns=\"http://www.w3.org/2000/svg\" width=\"1200\" height=\"$\" viewBox=\"0 0 1200 $\" role=\"img\"><style>svg{color:black;font:11px sans-serif}.page{fill:white}text{fill:currentColor}.title{font-size:14px}.name,.entry{opacity:.8}.name{text-anchor:end}.entry{text-anchor:middle}.guide,.grid{stroke:currentColor;stroke-opacity:.15}.run{stroke:currentColor;stroke-width:.7}.sleep{fill:url(#hatch);stroke:currentColor;stroke-width:.7}.item{fill:black;font-weight:bold;pointer-events:none}.k0{fill:rgb(143,184,222)}.k1{fill:rgb(250,190,120)}.k2{fill:rgb(150,205,140)}.k3{fill:rgb(240,150,145)}.k4{fill:rgb(150,210,205)}.k5{fill:rgb(205,170,205)}.k6{fill:rgb(200,170,150)}.k7{fill:rgb(240,220,120)}.k8{fill:rgb(255,190,200)}.k9{fill:rgb(190,190,190)}@media(prefers-color-scheme:dark){svg{color:rgb(230,230,230)}.page{fill:rgb(27,29,33)}}</style><defs><pattern id=\"hatch\" width=\"6\" height=\"6\" patternUnits=\"userSpaceOnUse\" patternTransform=\"rotate(45)\"><path d=\"M0 0v6\" stroke=\"black\" stroke-width=\"2\" stroke-opacity=\".5\"/></pattern></defs>\n<rect class=\"page\" width=\"1200\" height=\"$\"/>\n<text class=\"title\" x=\"12\" y=\"26\">Entries from $ up to $: a bar for each run, with its item, in the row of its worker, and hatched where it sleeps</text>\n"
+    "<svg xmlns=\"http://www.w3.org/2000/svg\" width=\"1200\" height=\"$\" viewBox=\"0 0 1200 $\" role=\"img\"><style>svg{color:black;font:11px sans-serif}.page{fill:white}text{fill:currentColor}.title{font-size:14px}.name,.entry{opacity:.8}.name{text-anchor:end}.entry{text-anchor:middle}.guide,.grid{stroke:currentColor;stroke-opacity:.15}.run{stroke:currentColor;stroke-width:.7}.sleep{fill:url(#hatch);stroke:currentColor;stroke-width:.7}.item{fill:black;font-weight:bold;pointer-events:none}.k0{fill:rgb(143,184,222)}.k1{fill:rgb(250,190,120)}.k2{fill:rgb(150,205,140)}.k3{fill:rgb(240,150,145)}.k4{fill:rgb(150,210,205)}.k5{fill:rgb(205,170,205)}.k6{fill:rgb(200,170,150)}.k7{fill:rgb(240,220,120)}.k8{fill:rgb(255,190,200)}.k9{fill:rgb(190,190,190)}.open{fill:rgb(196,208,222)}.active{fill:rgb(110,145,185)}.width{fill:none;stroke:rgb(205,60,60);stroke-width:1.5;stroke-dasharray:3 2}@media(prefers-color-scheme:dark){svg{color:rgb(230,230,230)}.page{fill:rgb(27,29,33)}}</style><defs><pattern id=\"hatch\" width=\"6\" height=\"6\" patternUnits=\"userSpaceOnUse\" patternTransform=\"rotate(45)\"><path d=\"M0 0v6\" stroke=\"black\" stroke-width=\"2\" stroke-opacity=\".5\"/></pattern></defs>\n<rect class=\"page\" width=\"1200\" height=\"$\"/>\n<text class=\"title\" x=\"12\" y=\"26\">Entries from $ up to $: a bar for each run, with its item, in the row of its worker, and hatched where it sleeps</text>\n<text x=\"12\" y=\"44\">Below, for each queue on each CPU: how many are open (pale), how many of them are active (dark), and the width (dashed)</text>\n"
 }
 
 #[tactic(auto, unfolding(crate::specs::FrameText::name_template))]
@@ -31,22 +31,22 @@ fn number_template() -> &'static str
     "<path class=\"grid\" d=\"M$ $v$\"/><text class=\"entry\" x=\"$\" y=\"$\">$</text>\n"
 }
 
-#[tactic(auto, unfolding(crate::specs::FrameText::end_text))]
-fn end_text() -> &'static str
-    ensures { result.now ≡ spec.end_text }
+#[tactic(auto, unfolding(crate::specs::FrameText::picture_end))]
+fn picture_end() -> &'static str
+    ensures { result.now ≡ spec.picture_end }
 {
     "</svg>\n"
 }
 
 /// Writes the head of the picture, with its style.
-#[tactic(auto, unfolding(crate::specs::FrameText::head_text, crate::specs::FrameText::picture_height))]
+#[tactic(auto, unfolding(crate::specs::FrameText::picture_head, crate::specs::FrameText::picture_height))]
 pub(crate) fn write_head<W: Sink>(sink: &mut W, page: &Page) -> Result<(), WriteFault>
-    ensures ok { OnOk result (Appends (W.written sink.old) (W.written sink.new) (spec.head_text page.now)) }
-    ensures err { OnErr result (AppendsFront (W.written sink.old) (W.written sink.new) (spec.head_text page.now)) }
+    ensures ok { OnOk result (Appends (W.written sink.old) (W.written sink.new) (spec.picture_head page.now)) }
+    ensures err { OnErr result (AppendsFront (W.written sink.old) (W.written sink.new) (spec.picture_head page.now)) }
     ensures grown { W.troubles sink.old ≤ W.troubles sink.new }
     ensures fault { OnErr result (Rises (W.troubles sink.old) (W.troubles sink.new)) }
 {
-    let height = page.top_of(page.bands()) + 8;
+    let height = page.band_top(page.bands()) + 8;
     let numbers = [height, height, height, page.first.into(), page.end.into()];
     write_filled(sink, head_template(), &numbers)
 }
@@ -61,7 +61,7 @@ fn name_numbers(page: &Page, lanes: &[WorkerId], band: u64, worker: WorkerId) ->
     [
         top + 11,
         worker.pool.cpu.0.into(),
-        letter(worker),
+        worker_letter(worker),
         worker.index.into(),
         top + 7,
     ]
@@ -111,24 +111,24 @@ fn write_names_in_bands<W: Sink>(
 }
 
 /// Writes the names of the lanes, in each band.
-#[tactic(auto, unfolding(crate::specs::FrameText::names_text))]
+#[tactic(auto, unfolding(crate::specs::FrameText::lane_names_text))]
 pub(crate) fn write_names<W: Sink>(
     sink: &mut W,
     page: &Page,
     lanes: &[WorkerId],
 ) -> Result<(), WriteFault>
     requires { length lanes.now ≤ 64 }
-    ensures ok { OnOk result (Appends (W.written sink.old) (W.written sink.new) (spec.names_text page.now lanes.now)) }
-    ensures err { OnErr result (AppendsFront (W.written sink.old) (W.written sink.new) (spec.names_text page.now lanes.now)) }
+    ensures ok { OnOk result (Appends (W.written sink.old) (W.written sink.new) (spec.lane_names_text page.now lanes.now)) }
+    ensures err { OnErr result (AppendsFront (W.written sink.old) (W.written sink.new) (spec.lane_names_text page.now lanes.now)) }
     ensures grown { W.troubles sink.old ≤ W.troubles sink.new }
     ensures fault { OnErr result (Rises (W.troubles sink.old) (W.troubles sink.new)) }
 {
     write_names_in_bands(sink, page, lanes, page.bands())
 }
 
-#[tactic(auto, unfolding(crate::specs::FrameText::is_numbered))]
-fn is_numbered(page: &Page, place: u64) -> bool
-    ensures { result ≡ spec.is_numbered page.now place }
+#[tactic(auto, unfolding(crate::specs::FrameText::has_its_number))]
+fn has_its_number(page: &Page, place: u64) -> bool
+    ensures { result ≡ spec.has_its_number page.now place }
 {
     let every = if page.end.saturating_sub(page.first) <= 90 {
         5
@@ -144,7 +144,7 @@ fn middle_of(page: &Page, place: u64) -> u64
     requires { place ≤ 4294967296 }
     ensures { result ≡ spec.middle_of page.now place }
 {
-    page.column_at(page.band_of(place), place) + page.step() / 2
+    page.column_at(page.band_of(place), place) + page.column_width() / 2
 }
 
 /// What the template of an entry's number is filled with.
@@ -152,7 +152,7 @@ fn number_numbers(page: &Page, place: u64) -> [u64; 6]
     requires { place ≤ 4294967296 }
     ensures { result ≡ spec.number_numbers page.now place }
 {
-    let top = page.top_of(page.band_of(place));
+    let top = page.band_top(page.band_of(place));
     let middle = middle_of(page, place);
     [
         middle,
@@ -172,7 +172,7 @@ fn write_number<W: Sink>(sink: &mut W, page: &Page, place: u64) -> Result<(), Wr
     ensures grown { W.troubles sink.old ≤ W.troubles sink.new }
     ensures fault { OnErr result (Rises (W.troubles sink.old) (W.troubles sink.new)) }
 {
-    if is_numbered(page, place) {
+    if has_its_number(page, place) {
         write_filled(sink, number_template(), &number_numbers(page, place))
     } else {
         Ok(())
@@ -210,10 +210,10 @@ pub(crate) fn write_numbers<W: Sink>(sink: &mut W, page: &Page) -> Result<(), Wr
 
 /// Writes the end of the picture.
 pub(crate) fn write_end<W: Sink>(sink: &mut W) -> Result<(), WriteFault>
-    ensures ok { OnOk result (Appends (W.written sink.old) (W.written sink.new) (spec.end_text)) }
-    ensures err { OnErr result (AppendsFront (W.written sink.old) (W.written sink.new) (spec.end_text)) }
+    ensures ok { OnOk result (Appends (W.written sink.old) (W.written sink.new) (spec.picture_end)) }
+    ensures err { OnErr result (AppendsFront (W.written sink.old) (W.written sink.new) (spec.picture_end)) }
     ensures grown { W.troubles sink.old ≤ W.troubles sink.new }
     ensures fault { OnErr result (Rises (W.troubles sink.old) (W.troubles sink.new)) }
 {
-    write_all(sink, end_text().as_bytes())
+    write_all(sink, picture_end().as_bytes())
 }

@@ -4,6 +4,7 @@
 mod bars;
 mod filled;
 mod frame;
+mod levels;
 mod page;
 mod picture;
 mod sleeps;

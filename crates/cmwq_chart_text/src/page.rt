@@ -53,9 +53,9 @@ impl Page {
     }
 
     /// How wide a column is.
-    #[tactic(auto, unfolding(crate::specs::Pages::step))]
-    pub(crate) fn step(&self) -> u64
-        ensures step { result ≡ spec.step self.now }
+    #[tactic(auto, unfolding(crate::specs::Pages::column_width))]
+    pub(crate) fn column_width(&self) -> u64
+        ensures width { result ≡ spec.column_width self.now }
         ensures few { result ≤ 24 }
     {
         match self.end.saturating_sub(self.first) {
@@ -93,20 +93,20 @@ impl Page {
     }
 
     /// The first entry of a band.
-    #[tactic(auto, unfolding(crate::specs::Pages::start_of))]
-    pub(crate) fn start_of(&self, band: u64) -> u64
+    #[tactic(auto, unfolding(crate::specs::Pages::band_start))]
+    pub(crate) fn band_start(&self, band: u64) -> u64
         requires { band ≤ 4294967296 }
-        ensures start { result ≡ spec.start_of self.now band }
+        ensures start { result ≡ spec.band_start self.now band }
         ensures within { result ≤ 1000000000000 }
     {
         u64::from(self.first) + band * self.columns()
     }
 
     /// The height of the upper edge of a band.
-    #[tactic(auto, unfolding(crate::specs::Pages::top_of))]
-    pub(crate) fn top_of(&self, band: u64) -> u64
+    #[tactic(auto, unfolding(crate::specs::Pages::band_top))]
+    pub(crate) fn band_top(&self, band: u64) -> u64
         requires { band ≤ 4294967296 }
-        ensures top { result ≡ spec.top_of self.now band }
+        ensures top { result ≡ spec.band_top self.now band }
         ensures within { result ≤ 10000000000000000 }
     {
         56 + band * self.height()
@@ -142,7 +142,7 @@ impl Page {
         ensures column { result ≡ spec.column_at self.now band place }
         ensures within { result ≤ 100000000000000 }
     {
-        100 + place.saturating_sub(self.start_of(band)) * self.step()
+        100 + place.saturating_sub(self.band_start(band)) * self.column_width()
     }
 
     /// How wide the columns from an entry up to another are.
@@ -151,7 +151,7 @@ impl Page {
         requires { end ≤ 4294967296 }
         ensures { result ≡ spec.width_of self.now from end }
     {
-        end.saturating_sub(from) * self.step()
+        end.saturating_sub(from) * self.column_width()
     }
 
     /// From which entry on a span stands in a band.
@@ -162,7 +162,7 @@ impl Page {
         ensures from { result ≡ spec.from_in self.now band from }
         ensures within { result ≤ 1000000000000 }
     {
-        from.max(self.start_of(band))
+        from.max(self.band_start(band))
     }
 
     /// Up to which entry a span stands in a band.
@@ -173,7 +173,7 @@ impl Page {
         ensures within { result ≤ 4294967296 }
     {
         end.min(self.end.into())
-            .min(self.start_of(band) + self.columns())
+            .min(self.band_start(band) + self.columns())
     }
 
     /// The upper edge of a worker's row.
@@ -184,14 +184,14 @@ impl Page {
         ensures top { result ≡ spec.row_top self.now lanes.now band worker }
         ensures within { result ≤ 20000000000000000 }
     {
-        self.top_of(band) + 22 + 18 * row_of(lanes, worker) as u64
+        self.band_top(band) + 22 + 18 * row_of(lanes, worker) as u64
     }
 }
 
-/// The letter of a worker's pool.
-#[tactic(auto, unfolding(crate::specs::Pages::letter))]
-pub(crate) fn letter(worker: WorkerId) -> u64
-    ensures { result ≡ spec.letter worker }
+/// The worker_letter of a worker's pool.
+#[tactic(auto, unfolding(crate::specs::Pages::worker_letter))]
+pub(crate) fn worker_letter(worker: WorkerId) -> u64
+    ensures { result ≡ spec.worker_letter worker }
 {
     if worker.pool.high { 104 } else { 110 }
 }

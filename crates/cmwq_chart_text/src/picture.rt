@@ -7,11 +7,12 @@ ghost use Rattle.cmwq_chart_text.specs.PictureText.{picture_text};
 
 use crate::bars::write_bars;
 use crate::frame::{write_end, write_head, write_names, write_numbers};
+use crate::levels::write_levels;
 use crate::page::Page;
 use crate::sleeps::write_sleeps;
 use cmwq_base::{Sink, WriteFault, flush_all};
-use cmwq_chart::{Bar, Sleep};
-use cmwq_model::WorkerId;
+use cmwq_chart::{Bar, Level, Sleep};
+use cmwq_model::{Place, WorkerId};
 
 /// Writes a picture, and flushes. Takes no memory.
 ///
@@ -23,10 +24,13 @@ pub fn write_picture<W: Sink>(
     lanes: &[WorkerId],
     bars: &[Bar],
     sleeps: &[Sleep],
+    places: &[Place],
+    levels: &[Level],
 ) -> Result<(), WriteFault>
-    requires { length lanes.now ≤ 64 }
-    ensures ok { OnOk result (Appends (W.written sink.old) (W.written sink.new) (picture_text page.now lanes.now bars.now sleeps.now)) }
-    ensures err { OnErr result (AppendsFront (W.written sink.old) (W.written sink.new) (picture_text page.now lanes.now bars.now sleeps.now)) }
+    requires lanes { length lanes.now ≤ 64 }
+    requires places { length places.now ≤ 256 }
+    ensures ok { OnOk result (Appends (W.written sink.old) (W.written sink.new) (picture_text page.now lanes.now bars.now sleeps.now places.now levels.now)) }
+    ensures err { OnErr result (AppendsFront (W.written sink.old) (W.written sink.new) (picture_text page.now lanes.now bars.now sleeps.now places.now levels.now)) }
     ensures flushed { OnOk result (W.held sink.new ≡ 0) }
     ensures fault { OnErr result (Rises (W.troubles sink.old) (W.troubles sink.new)) }
 {
@@ -35,6 +39,7 @@ pub fn write_picture<W: Sink>(
     write_numbers(sink, page)?;
     write_bars(sink, page, lanes, bars)?;
     write_sleeps(sink, page, lanes, sleeps)?;
+    write_levels(sink, page, places, levels)?;
     write_end(sink)?;
     flush_all(sink)?;
     Ok(())

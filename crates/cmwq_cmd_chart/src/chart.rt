@@ -3,13 +3,15 @@
 ghost use Rattle.std.specs.Prelude.{◌≡◌, ◌≤◌, length, Option, Result, IfSome, IsErrOf, OnOk};
 ghost use Rattle.cmwq_io.specs.Counts.{Rises};
 ghost use Rattle.cmwq_model.specs.declared.verdict.Illegal.{Illegal as TheIllegal};
+ghost use Rattle.cmwq_model.specs.Prelude.{IsLegal, past_of};
 ghost use Rattle.cmwq_base.specs.declared.refusal.Refusal.{Refusal as TheRefusal};
 ghost use Rattle.cmwq_cmd_history.specs.Check.{check_status};
 ghost use Rattle.cmwq_cmd_history.specs.Upgrade.{IsFlushed};
 ghost use Rattle.cmwq_cmd_chart.specs.Chart.{ChartEnds, DrawEnds, chart_text};
 
 use cmwq_base::{Entry, Illegal, Refusal, Shape, Sink, Source, read_history, tell};
-use cmwq_chart::{bars_of, lanes_of, sleeps_of};
+use cmwq_chart::{bars_of, lanes_of, places_of, sleeps_of};
+use cmwq_chart_levels::{levels_of, queueings_of};
 use cmwq_chart_text::{Page, Window, write_picture};
 use cmwq_cmd_history::{refusal_status, tell_illegal};
 use std::alloc::Global;
@@ -17,7 +19,7 @@ use std::alloc::Global;
 /// More entries than these are not kept, so that none of them can bring the time beyond what a judge knows.
 const MOST_KEPT: usize = 1_073_741_824;
 
-/// Writes the picture of what a window shows of a history. All memory is taken before the first byte is written.
+/// Writes the picture of what a window shows of a legal history. All memory is taken before the first byte is written.
 #[tactic(auto, unfolding(crate::specs::Chart::chart_text))]
 fn draw<O: Sink>(
     alloc: Global,
@@ -26,7 +28,8 @@ fn draw<O: Sink>(
     shape: &Shape,
     entries: &[Entry],
 ) -> Result<(), Refusal>
-    requires { length entries.now ≤ 1073741824 }
+    requires few { length entries.now ≤ 1073741824 }
+    requires legal { IsLegal shape.now (past_of entries.now) }
     ensures ends { DrawEnds (O.written output.old) (O.written output.new) (chart_text window shape.now entries.now) result }
     ensures flushed { OnOk result (O.held output.new ≡ 0) }
     ensures fault { IsErrOf result Refusal.WriteFault → Rises (O.troubles output.old) (O.troubles output.new) }
@@ -34,8 +37,10 @@ fn draw<O: Sink>(
     let lanes = lanes_of(alloc, shape, entries)?;
     let bars = bars_of(alloc, entries)?;
     let sleeps = sleeps_of(alloc, entries, &lanes)?;
-    let page = Page::new(window, entries.len(), lanes.len());
-    write_picture(output, &page, &lanes, &bars, &sleeps)?;
+    let places = places_of(alloc, shape, &queueings_of(alloc, shape, entries)?)?;
+    let levels = levels_of(alloc, shape, entries, &places)?;
+    let page = Page::new(window, entries.len(), lanes.len() + 2 * places.len());
+    write_picture(output, &page, &lanes, &bars, &sleeps, &places, &levels)?;
     Ok(())
 }
 

@@ -1,0 +1,95 @@
+//! The queues on CPUs that have levels.
+ghost use Rattle.std.specs.Prelude.{◌≡◌, ◌+◌, ◌*◌, ◌<◌, ◌≤◌, ◌∷◌, ◌++◌, [], if◌then◌else◌, length, filter, IfOk, OnOk};
+ghost use Rattle.std.specs.List.{All};
+ghost use Rattle.cmwq_model.specs.Prelude.{same_place};
+ghost use Rattle.cmwq_chart.specs.Levels as spec;
+
+use cmwq_model::{CpuId, Place, QueueId, Queueing, Shape};
+use std::alloc::{AllocError, Global};
+
+fn is_same_place(place: Place, other: Place) -> bool
+    ensures { result ≡ same_place place other }
+{
+    place.queue.0 == other.queue.0 && place.cpu.0 == other.cpu.0
+}
+
+fn has_queueings(queueings: &[Queueing], place: Place) -> bool
+    ensures { result ≡ spec.has_queueings queueings.now place }
+{
+    queueings
+        .iter()
+        .any(|queueing| is_same_place(place, queueing.place))
+}
+
+/// Puts a place behind the others, if there are queueings of it.
+fn push_place(
+    places: &mut Vec<Place>,
+    queueings: &[Queueing],
+    place: Place,
+) -> Result<(), AllocError>
+    ensures places { OnOk result (places.new.items ≡ places.old.items ++ (if spec.has_queueings queueings.now place then place ∷ [] else [])) }
+    ensures few { OnOk result (length places.new.items ≤ length places.old.items + 1) }
+{
+    if has_queueings(queueings, place) {
+        places.push(place)?;
+    }
+    Ok(())
+}
+
+/// Puts those of a queue's places of which there are queueings behind the others.
+fn push_queue(
+    places: &mut Vec<Place>,
+    queueings: &[Queueing],
+    shape: &Shape,
+    queue: u8,
+) -> Result<(), AllocError>
+    ensures places { OnOk result (places.new.items ≡ places.old.items ++ filter (spec.has_queueings queueings.now) (spec.places_of_queue shape.now queue)) }
+    ensures few { OnOk result (length places.new.items ≤ length places.old.items + 4) }
+{
+    for cpu in 0..shape.counts().cpus {
+        let place = Place {
+            queue: QueueId(queue),
+            cpu: CpuId(cpu),
+        };
+        push_place(places, queueings, place)?;
+    }
+    Ok(())
+}
+
+/// The queues on CPUs of which there are queueings, by queue and CPU.
+#[tactic(auto, unfolding(crate::specs::Levels::places_of))]
+pub fn places_of(
+    alloc: Global,
+    shape: &Shape,
+    queueings: &[Queueing],
+) -> Result<Vec<Place>, AllocError>
+    ensures places { IfOk result (λ places. places.items ≡ spec.places_of shape.now queueings.now) }
+    ensures few { IfOk result (λ places. length places.items ≤ 256) }
+    ensures inside { IfOk result (λ places. All (spec.IsPlaceOf shape.now) places.items) }
+{
+    // it shows that the queues are few
+    let _counts = shape.counts();
+    let mut places = Vec::new(alloc);
+    for queue in 0..shape.queues().len() {
+        push_queue(&mut places, queueings, shape, queue as u8)?;
+    }
+    Ok(places)
+}
+
+/// How many of the places stand above this one.
+#[tactic(auto, unfolding(crate::specs::Levels::row_of_place))]
+pub fn row_of_place(places: &[Place], place: Place) -> usize
+    ensures row { result ≡ spec.row_of_place places.now place }
+    ensures within { result ≤ length places.now }
+{
+    match places {
+        [] => 0,
+        [first, others @ ..] => {
+            if is_same_place(*first, place) {
+                0
+            } else {
+                1 + row_of_place(others, place)
+            }
+        }
+    }
+}

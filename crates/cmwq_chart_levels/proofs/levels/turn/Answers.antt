@@ -1,0 +1,45 @@
+use Rattle.std.proofs.Common.{◌≡◌, ◌<◌, ◌∷◌, ◌++◌, length, take, option_to_list, sym, ap, ap₂, ◌∙◌, subst, arith, length-set}
+use Rattle.std.specs.Prelude.{slice_set}
+use Rattle.std.proofs.lemmas.List.Edits.{map_over_more}
+use Rattle.cmwq_model.specs.Prelude.{past_of}
+use Rattle.cmwq_chart.proofs.Steps.{length_past}
+use Rattle.cmwq_chart_levels.specs.Turns.{IsLevelAfter, level_after}
+use Rattle.cmwq_chart_levels.proofs.Turned.{turned, left_behind, untouched, one_more_ended, they_go_on}
+use Rattle.cmwq_chart_levels.proofs.levels.turn.Goals as goal
+
+pub height_after-height-requires-clause-before : goal.height_after-height-requires-clause-before
+height_after-height-requires-clause-before c =
+    let s = c.args.execution.now.layout in
+    let past = past_of c.args.entries.now in
+    let xs = c.args.running.now.items in
+    let less : c.loop-k.k < length xs = omega (arith, c.loop-k.invariant.long, c.len-k-end.ensures) in
+    let is = untouched s past c.args.entry xs c.loop-k.running.items c.loop-k.k c.index.result.now less c.loop-k.invariant.running c.index.ensures in
+    (they_go_on s past xs c.loop-k.k c.index.result.now c.requires.running less is).height
+
+pub height_after-height-requires-clause-inside : goal.height_after-height-requires-clause-inside
+height_after-height-requires-clause-inside c =
+    let s = c.args.execution.now.layout in
+    let past = past_of c.args.entries.now in
+    let xs = c.args.running.now.items in
+    let less : c.loop-k.k < length xs = omega (arith, c.loop-k.invariant.long, c.len-k-end.ensures) in
+    let is = untouched s past c.args.entry xs c.loop-k.running.items c.loop-k.k c.index.result.now less c.loop-k.invariant.running c.index.ensures in
+    (they_go_on s past xs c.loop-k.k c.index.result.now c.requires.running less is).inside
+
+pub loop-k-preserved : goal.loop-k-preserved
+loop-k-preserved c =
+    let s = c.args.execution.now.layout in
+    let past = past_of c.args.entries.now in
+    let e = c.args.entry in
+    let xs = c.args.running.now.items in
+    let x = c.index.result.now in
+    let less : c.loop-k.k < length xs = omega (arith, c.loop-k.invariant.long, c.len-k-end.ensures) in
+    let is = untouched s past e xs c.loop-k.running.items c.loop-k.k x less c.loop-k.invariant.running c.index.ensures in
+    let goes = they_go_on s past xs c.loop-k.k x c.requires.running less is in
+    let many = sym (length_past c.args.entries.now) in
+    let now = c.level_after.ensures ∙ turned s past e x _ _ _ goes many c.height_after-height.ensures c.is_changed-is_changed.ensures in
+    let ended = c.level_ended.ensures ∙ left_behind s past e x _ _ _ goes many c.height_after-height.ensures c.is_changed-is_changed.ensures in
+    record {
+      running = ap (slice_set c.loop-k.running.items c.loop-k.k) now ∙ map_over_more (level_after s (e ∷ past)) xs c.loop-k.running.items c.loop-k.k x less c.loop-k.invariant.running c.index.ensures;
+      levels = c.in_ok-keep.ensures ∙ ap (λ l. l ++ option_to_list c.level_ended.result) c.loop-k.invariant.levels ∙ one_more_ended s past e xs c.args.levels.now.items c.loop-k.k x c.level_ended.result less is ended;
+      long = length-set c.loop-k.running.items c.loop-k.k c.level_after.result ∙ c.loop-k.invariant.long;
+    }

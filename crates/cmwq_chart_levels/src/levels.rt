@@ -1,0 +1,151 @@
+//! The levels of the places of a history.
+ghost use Rattle.std.specs.Prelude.{◌≡◌, ◌≤◌, ◌∷◌, ◌++◌, [], length, flat_map, map, IfOk, OnOk, option_to_list};
+ghost use Rattle.std.specs.List.{All};
+ghost use Rattle.cmwq_model.specs.Prelude.{IsLegal, past_of};
+ghost use Rattle.cmwq_core.specs.History.{past_in};
+ghost use Rattle.cmwq_chart.specs.Levels as spec;
+ghost use Rattle.cmwq_chart_levels.specs.Turns.{IsLevelAfter, after_if, ended_if, IsFollowed, ended_levels, level_after as level_then};
+
+use crate::heights::{height_after, is_changed};
+use crate::steps::{ALL_ROOM, Change, entry_at, follow};
+use cmwq_chart::{Height, Level};
+use cmwq_core::Execution;
+use cmwq_model::{Entry, NoMemory, Place, Shape};
+use std::alloc::Global;
+
+/// The level that an entry behind so many ends, of that which went on before it.
+fn level_ended(before: &Level, is_changed: bool, entries: usize) -> Option<Level>
+    requires { entries ≤ 1073741824 }
+    ensures { result ≡ ended_if before.now is_changed entries }
+{
+    if !is_changed {
+        return None;
+    }
+    Some(Level {
+        to: Some((entries as u32).saturating_sub(1)),
+        ..*before
+    })
+}
+
+/// The level that goes on after it.
+fn level_after(before: &Level, is_changed: bool, height: Height, entries: usize) -> Level
+    requires { entries ≤ 1073741824 }
+    ensures { result ≡ after_if before.now is_changed height entries }
+{
+    let from = if is_changed {
+        entries as u32
+    } else {
+        before.from
+    };
+    Level {
+        height,
+        from,
+        ..*before
+    }
+}
+
+/// Puts a level behind the others.
+fn push(levels: &mut Vec<Level>, level: Level) -> Result<(), NoMemory>
+    ensures { OnOk result (levels.new.items ≡ levels.old.items ++ level ∷ []) }
+{
+    match levels.push(level) {
+        Ok(()) => Ok(()),
+        Err(_) => Err(NoMemory),
+    }
+}
+
+/// The same, where there is one.
+fn keep(levels: &mut Vec<Level>, level: Option<Level>) -> Result<(), NoMemory>
+    ensures { OnOk result (levels.new.items ≡ levels.old.items ++ option_to_list level) }
+{
+    if let Some(level) = level {
+        return push(levels, level);
+    }
+    Ok(())
+}
+
+/// Takes the levels that go on beyond an entry behind these, and puts those that it ends behind the others.
+fn turn(
+    levels: &mut Vec<Level>,
+    running: &mut Vec<Level>,
+    execution: &Execution,
+    change: &Change,
+    entries: &[Entry],
+    entry: Entry,
+) -> Result<(), NoMemory>
+    requires short { length entries.now ≤ 1073741824 }
+    requires followed { IsFollowed execution.now (past_of entries.now) entry change.now }
+    requires running { All (IsLevelAfter execution.now.layout (past_of entries.now)) running.old.items }
+    ensures running { OnOk result (running.new.items ≡ map (level_then execution.now.layout (entry ∷ past_of entries.now)) running.old.items) }
+    ensures levels { OnOk result (levels.new.items ≡ levels.old.items ++ flat_map (ended_levels execution.now.layout (past_of entries.now) entry) running.old.items) }
+{
+    for k in 0..running.len() {
+        let before = running[k];
+        let place = before.place;
+        let height = height_after(execution, change, entries, entry, before.height, place);
+        let is_changed = is_changed(entries.len(), &before.height, &height);
+        keep(levels, level_ended(&before, is_changed, entries.len()))?;
+        running[k] = level_after(&before, is_changed, height, entries.len());
+    }
+    Ok(())
+}
+
+/// The levels of these places before the first entry.
+#[tactic(auto, unfolding(cmwq_chart::specs::Levels::level_from, cmwq_model::specs::Queueings::queueings))]
+fn first_levels(
+    alloc: Global,
+    execution: &Execution,
+    places: &[Place],
+) -> Result<Vec<Level>, NoMemory>
+    requires empty { past_in execution.now ≡ [] }
+    requires inside { All (spec.IsPlaceOf execution.now.layout) places.now }
+    ensures { IfOk result (λ levels. levels.items ≡ spec.levels_left execution.now.layout [] places.now) }
+{
+    let mut levels = Vec::new(alloc);
+    for place in places {
+        let level = Level {
+            place: *place,
+            height: Height {
+                open_count: 0,
+                active_count: 0,
+                width: execution.width(place.queue),
+            },
+            from: 0,
+            to: None,
+        };
+        push(&mut levels, level)?;
+    }
+    Ok(levels)
+}
+
+/// The levels of these places in a legal history: those that an entry ends, in the order of these, and then those that go on at the end. The
+/// error says that memory ran out.
+pub fn levels_of(
+    alloc: Global,
+    shape: &Shape,
+    entries: &[Entry],
+    places: &[Place],
+) -> Result<Vec<Level>, NoMemory>
+    requires short { length entries.now ≤ 1073741824 }
+    requires legal { IsLegal shape.now (past_of entries.now) }
+    requires inside { All (spec.IsPlaceOf shape.now) places.now }
+    ensures { IfOk result (λ levels. levels.items ≡ spec.levels_of shape.now (past_of entries.now) places.now) }
+{
+    let mut execution = Execution::new(alloc, shape, ALL_ROOM)?;
+    let mut running = first_levels(alloc, &execution, places)?;
+    let mut levels = Vec::new(alloc);
+    for k in 0..entries.len() {
+        let entry = entry_at(entries, k);
+        let change = follow(&mut execution, entry)?;
+        turn(
+            &mut levels,
+            &mut running,
+            &execution,
+            &change,
+            &entries[..k],
+            entry,
+        )?;
+    }
+    levels.extend_from_slice(&running)?;
+    Ok(levels)
+}
