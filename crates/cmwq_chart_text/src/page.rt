@@ -188,7 +188,7 @@ impl Page {
     }
 }
 
-/// The worker_letter of a worker's pool.
+/// The letter of a worker's pool.
 #[tactic(auto, unfolding(crate::specs::Pages::worker_letter))]
 pub(crate) fn worker_letter(worker: WorkerId) -> u64
     ensures { result ≡ spec.worker_letter worker }
