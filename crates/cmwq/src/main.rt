@@ -11,6 +11,7 @@ use cmwq_cmd_replay::run_replay;
 use cmwq_cmd_run::run_run;
 use cmwq_cmd_summary::run_summary;
 use cmwq_explain::{Kept, explain_calls, explain_history, explain_unkept};
+use cmwq_explain_json::{explain_scenario, explain_script};
 use std::alloc::{AllocError, Global};
 use std::io;
 use std::process::ExitCode;
@@ -93,7 +94,8 @@ fn explain<E: Sink>(alloc: Global, word: Word, status: u8, bytes: &[u8], errors:
         Word::Upgrade => explain_history(alloc, "upgrade", status, bytes, false, errors),
         Word::Summary => explain_history(alloc, "summary", status, bytes, false, errors),
         Word::Chart => explain_history(alloc, "chart", status, bytes, false, errors),
-        Word::Replay | Word::Run => {}
+        Word::Replay => explain_scenario(alloc, status, bytes, errors),
+        Word::Run => explain_script(alloc, status, bytes, errors),
     }
 }
 

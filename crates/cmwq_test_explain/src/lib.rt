@@ -8,4 +8,8 @@ mod histories;
 #[cfg(test)]
 mod kept;
 #[cfg(test)]
+mod scenarios;
+#[cfg(test)]
+mod scripts;
+#[cfg(test)]
 mod tells;

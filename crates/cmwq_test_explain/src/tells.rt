@@ -1,6 +1,7 @@
 //! What is told, compared with what is wanted.
 
 use cmwq_explain::{explain_calls, explain_history};
+use cmwq_explain_json::{explain_scenario, explain_script};
 use cmwq_io::Memory;
 use std::alloc::{AllocError, Global};
 use std::process::Abort;
@@ -57,5 +58,21 @@ pub(crate) fn history(rt: &(impl Abort + AllocGlobal), text: &[&str], status: u8
         false,
         &mut errors,
     );
+    is_told(rt, text.as_str(), errors.as_slice(), wanted);
+}
+
+/// Of a refused scenario.
+pub(crate) fn scenario(rt: &(impl Abort + AllocGlobal), text: &[&str], wanted: &[&str]) {
+    let text = joined(rt.alloc(), text).expect(rt, "memory");
+    let mut errors = room(rt);
+    explain_scenario(rt.alloc(), 1, text.as_str().as_bytes(), &mut errors);
+    is_told(rt, text.as_str(), errors.as_slice(), wanted);
+}
+
+/// Of a refused script.
+pub(crate) fn script(rt: &(impl Abort + AllocGlobal), text: &[&str], wanted: &[&str]) {
+    let text = joined(rt.alloc(), text).expect(rt, "memory");
+    let mut errors = room(rt);
+    explain_script(rt.alloc(), 1, text.as_str().as_bytes(), &mut errors);
     is_told(rt, text.as_str(), errors.as_slice(), wanted);
 }

@@ -1,0 +1,408 @@
+//! Calls of callers and actions of items: a list of a word and its arguments.
+
+use crate::grammar::Grammar;
+use crate::members::{Path, names_in, say_value};
+use crate::names::say_names;
+use crate::objects::World;
+use crate::values::{Json, list_of};
+use cmwq_explain::Text;
+use cmwq_json::is_name;
+use itoa::Buffer;
+use serde_json::Value;
+use std::alloc::AllocError;
+
+/// Who makes a call.
+#[derive(Clone, Copy, PartialEq, Eq)]
+pub enum Maker {
+    Caller,
+    Item,
+}
+
+/// An argument of a sample: what stands for it, an item, a queue, a CPU, ticks, a max_active, a gate, or none.
+type Sample = (&'static str, [&'static str; 4]);
+
+const ITEM: &str = "\"i\"";
+
+const QUEUE: &str = "\"q\"";
+
+const GATE: &str = "\"g\"";
+
+const CPU: &str = "0";
+
+const TICKS: &str = "4";
+
+const WIDTH: &str = "5";
+
+/// A sample of each call and action: its word, and its arguments.
+const SAMPLES: [Sample; 16] = [
+    ("queue", [ITEM, QUEUE, CPU, ""]),
+    ("delay", [ITEM, QUEUE, CPU, TICKS]),
+    ("modify", [ITEM, QUEUE, CPU, TICKS]),
+    ("cancel", [ITEM, "", "", ""]),
+    ("cancel_sync", [ITEM, "", "", ""]),
+    ("tick", [TICKS, "", "", ""]),
+    ("flush", [QUEUE, "", "", ""]),
+    ("drain", [QUEUE, "", "", ""]),
+    ("destroy", [QUEUE, "", "", ""]),
+    ("flush_item", [ITEM, "", "", ""]),
+    ("flush_delayed", [ITEM, "", "", ""]),
+    ("set_max", [QUEUE, WIDTH, "", ""]),
+    ("freeze", ["", "", "", ""]),
+    ("thaw", ["", "", "", ""]),
+    ("open", [GATE, "", "", ""]),
+    ("sleep_at", [GATE, "", "", ""]),
+];
+
+/// The word of a sample.
+fn word_of(number: usize) -> Option<&'static str> {
+    let (word, _) = SAMPLES.get(number)?;
+    Some(*word)
+}
+
+/// An argument of a sample, if it has so many.
+fn argument_of(number: usize, index: usize) -> Option<&'static str> {
+    let (_, arguments) = SAMPLES.get(number)?;
+    match *arguments.get(index)? {
+        "" => None,
+        argument => Some(argument),
+    }
+}
+
+/// A sample of a call as JSON, with another text for one of its arguments.
+fn sample_call(
+    world: World<'_>,
+    number: usize,
+    at: usize,
+    argument: &str,
+) -> Result<Json, AllocError> {
+    let mut json = Json::new(world.alloc);
+    json.put("[\"")?;
+    json.put(word_of(number).unwrap_or(""))?;
+    json.put("\"")?;
+    for index in 0..4 {
+        if let Some(sample) = argument_of(number, index) {
+            json.put(",")?;
+            json.put(if index == at { argument } else { sample })?;
+        }
+    }
+    json.put("]")?;
+    Ok(json)
+}
+
+const HEAD: &str =
+    r#"{"cpus":1,"workers":1,"room":1,"queues":[{"name":"q","max_active":1,"high":true,"intensive":true}],"items":[{"name":"i","does":["#;
+
+/// Whether a sample script is taken in which someone makes these calls.
+pub fn takes(world: World<'_>, maker: Maker, calls: &str) -> Result<bool, AllocError> {
+    let mut json = Json::new(world.alloc);
+    json.put(HEAD)?;
+    json.put(if maker == Maker::Item { calls } else { "" })?;
+    json.put("]}],\"callers\":[[")?;
+    json.put(if maker == Maker::Caller { calls } else { "" })?;
+    json.put("]]}")?;
+    Grammar::Script.takes(world.alloc, json.text.as_str())
+}
+
+/// The words with which someone may make calls.
+fn words_of(world: World<'_>, maker: Maker) -> Result<Vec<&'static str>, AllocError> {
+    let mut words = Vec::new(world.alloc);
+    for (number, (word, _)) in SAMPLES.iter().enumerate() {
+        let call = sample_call(world, number, 4, "")?;
+        if takes(world, maker, call.text.as_str())? {
+            words.push(*word)?;
+        }
+    }
+    Ok(words)
+}
+
+/// The number of the sample with this word.
+fn number_of(word: &str) -> Option<usize> {
+    SAMPLES.iter().position(|(other, _)| *other == word)
+}
+
+/// Says which call of a list is told.
+fn say_place(text: &mut Text, maker: Maker, path: Path<'_>, index: usize) {
+    path.say(text);
+    text.say(match maker {
+        Maker::Caller => ", call ",
+        Maker::Item => ", action ",
+    });
+    text.number(index as u64);
+    text.say(": ");
+}
+
+/// What a call is called.
+fn role(maker: Maker) -> &'static str {
+    match maker {
+        Maker::Caller => " is no call",
+        Maker::Item => " is no action",
+    }
+}
+
+/// Tells what is wrong with a call, the `index`-th of a list.
+pub fn tell_call(
+    text: &mut Text,
+    world: World<'_>,
+    maker: Maker,
+    path: Path<'_>,
+    index: usize,
+    call: &Value,
+) -> Result<bool, AllocError> {
+    let parts = match call.as_array() {
+        Some(parts) => parts.as_slice(),
+        None => &[],
+    };
+    let Some((Value::String(word), arguments)) = parts.split_first() else {
+        say_place(text, maker, path, index);
+        say_value(text, world, call)?;
+        text.say(match maker {
+            Maker::Caller => ": expected is a call, as [\"flush\",\"q0\"]",
+            Maker::Item => ": expected is an action, as [\"cancel\",\"A\"]",
+        });
+        return Ok(true);
+    };
+    let words = words_of(world, maker)?;
+    match number_of(word.as_str()) {
+        Some(number) if words.as_slice().contains(&word.as_str()) => {
+            tell_arguments(text, world, (maker, path, index), number, arguments)
+        }
+        _ => {
+            say_place(text, maker, path, index);
+            text.quoted(word.as_str().as_bytes());
+            text.say(role(maker));
+            say_names(text, words.as_slice(), word.as_str());
+            Ok(true)
+        }
+    }
+}
+
+/// Tells the first argument of a call that is wrong, or that there are too few or too many.
+fn tell_arguments(
+    text: &mut Text,
+    world: World<'_>,
+    place: (Maker, Path<'_>, usize),
+    number: usize,
+    arguments: &[Value],
+) -> Result<bool, AllocError> {
+    let (maker, path, index) = place;
+    for (at, argument) in arguments.iter().enumerate() {
+        let Some(sample) = argument_of(number, at) else {
+            say_place(text, maker, path, index);
+            say_value(text, world, argument)?;
+            text.say(": the call should end before it");
+            return Ok(true);
+        };
+        if tell_argument(text, world, place, (number, at, sample), argument)? {
+            return Ok(true);
+        }
+    }
+    match argument_of(number, arguments.len()) {
+        Some(sample) => {
+            say_place(text, maker, path, index);
+            text.say("here ends the call; expected is ");
+            text.say(wanted(sample));
+            Ok(true)
+        }
+        None => Ok(false),
+    }
+}
+
+/// What an argument is.
+fn wanted(sample: &str) -> &'static str {
+    match sample {
+        ITEM => "an item's name",
+        QUEUE => "a queue's name",
+        GATE => "a gate's name",
+        CPU => "a CPU's number",
+        TICKS => "how many ticks",
+        _ => "a max_active",
+    }
+}
+
+/// Tells an argument that is wrong.
+fn tell_argument(
+    text: &mut Text,
+    world: World<'_>,
+    place: (Maker, Path<'_>, usize),
+    sample: (usize, usize, &'static str),
+    argument: &Value,
+) -> Result<bool, AllocError> {
+    match sample.2 {
+        ITEM => tell_name(text, world, place, ("items", " is no item"), argument),
+        QUEUE => tell_name(text, world, place, ("queues", " is no queue"), argument),
+        GATE => tell_gate(text, world, place, argument),
+        CPU => tell_cpu(text, world, place, argument),
+        _ => tell_number(text, world, place, sample, argument),
+    }
+}
+
+/// Tells the name of a gate that is none.
+fn tell_gate(
+    text: &mut Text,
+    world: World<'_>,
+    place: (Maker, Path<'_>, usize),
+    argument: &Value,
+) -> Result<bool, AllocError> {
+    let (maker, path, index) = place;
+    if argument.as_str().is_some_and(|name| is_name(name)) {
+        return Ok(false);
+    }
+    say_place(text, maker, path, index);
+    say_value(text, world, argument)?;
+    text.say(": expected is a name of 1 to 16 letters, digits and _");
+    Ok(true)
+}
+
+/// Tells a name that no member of a list has.
+fn tell_name(
+    text: &mut Text,
+    world: World<'_>,
+    place: (Maker, Path<'_>, usize),
+    list: (&str, &str),
+    argument: &Value,
+) -> Result<bool, AllocError> {
+    let (maker, path, index) = place;
+    let names = names_in(world, list.0)?;
+    let name = argument.as_str().unwrap_or("");
+    if is_name(name) && names.as_slice().contains(&name) {
+        return Ok(false);
+    }
+    say_place(text, maker, path, index);
+    say_value(text, world, argument)?;
+    text.say(list.1);
+    say_names(text, names.as_slice(), name);
+    Ok(true)
+}
+
+/// Tells a CPU that there isn't.
+fn tell_cpu(
+    text: &mut Text,
+    world: World<'_>,
+    place: (Maker, Path<'_>, usize),
+    argument: &Value,
+) -> Result<bool, AllocError> {
+    let (maker, path, index) = place;
+    let cpus = world.whole.get("cpus").and_then(Value::as_u64).unwrap_or(0);
+    if argument.as_u64().is_some_and(|cpu| cpu < cpus) {
+        return Ok(false);
+    }
+    say_place(text, maker, path, index);
+    text.say("CPU ");
+    say_value(text, world, argument)?;
+    if cpus == 1 {
+        text.say(": there is one, 0");
+    } else {
+        text.say(": there are ");
+        text.number(cpus);
+        text.say(", 0 to ");
+        text.number(cpus.saturating_sub(1));
+    }
+    Ok(true)
+}
+
+/// Tells a number of ticks or a max_active that is wrong.
+fn tell_number(
+    text: &mut Text,
+    world: World<'_>,
+    place: (Maker, Path<'_>, usize),
+    sample: (usize, usize, &'static str),
+    argument: &Value,
+) -> Result<bool, AllocError> {
+    let (maker, path, index) = place;
+    let number = argument.as_u64();
+    if let Some(number) = number {
+        if fits_number(world, maker, sample, number)? {
+            return Ok(false);
+        }
+    }
+    say_place(text, maker, path, index);
+    text.say(if sample.2 == TICKS {
+        "ticks "
+    } else {
+        "max_active "
+    });
+    say_value(text, world, argument)?;
+    match number {
+        None => text.say(" is no whole number"),
+        Some(number) => say_limit(text, world, maker, sample, number)?,
+    }
+    Ok(true)
+}
+
+/// Whether a call is taken with this number in the place of the sample's.
+fn fits_number(
+    world: World<'_>,
+    maker: Maker,
+    sample: (usize, usize, &'static str),
+    number: u64,
+) -> Result<bool, AllocError> {
+    let mut digits = Buffer::new();
+    let call = sample_call(world, sample.0, sample.1, digits.format(number))?;
+    takes(world, maker, call.text.as_str())
+}
+
+/// Says which limit a number of a call passes.
+fn say_limit(
+    text: &mut Text,
+    world: World<'_>,
+    maker: Maker,
+    sample: (usize, usize, &'static str),
+    number: u64,
+) -> Result<(), AllocError> {
+    if number == 0 {
+        text.say(": at least 1");
+        return Ok(());
+    }
+    let (mut low, mut high) = (1u64, number);
+    for _half in 0..64 {
+        let middle = low.midpoint(high);
+        if middle > low && fits_number(world, maker, sample, middle)? {
+            low = middle;
+        } else {
+            high = middle;
+        }
+    }
+    text.say(": at most ");
+    text.number(low);
+    Ok(())
+}
+
+/// Tells that a list has too many calls.
+pub fn tell_count(
+    text: &mut Text,
+    world: World<'_>,
+    maker: Maker,
+    path: Path<'_>,
+    length: usize,
+) -> Result<bool, AllocError> {
+    let count = length as u64;
+    if fits_count(world, maker, count)? {
+        return Ok(false);
+    }
+    let (mut low, mut high) = (0u64, count);
+    for _half in 0..64 {
+        let middle = low.midpoint(high);
+        if middle > low && fits_count(world, maker, middle)? {
+            low = middle;
+        } else {
+            high = middle;
+        }
+    }
+    path.say(text);
+    text.say(": ");
+    text.number(count);
+    text.say(match maker {
+        Maker::Caller => " calls: at most ",
+        Maker::Item => " actions: at most ",
+    });
+    text.number(low);
+    Ok(true)
+}
+
+/// Whether so many calls are taken.
+fn fits_count(world: World<'_>, maker: Maker, count: u64) -> Result<bool, AllocError> {
+    let list = list_of(world.alloc, "[\"cancel\",\"i\"]", count)?;
+    let text = list.text.as_str();
+    let calls = text.strip_prefix('[').unwrap_or(text);
+    takes(world, maker, calls.strip_suffix(']').unwrap_or(calls))
+}
