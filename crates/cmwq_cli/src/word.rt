@@ -100,13 +100,15 @@ const FIGURES_HELP: &str =
   entries 3, ticks 0
   call queue: 1                      how many calls of each kind
   reply yes: 1                       and replies, by their first word
-  queue 0 on CPU 0: queueings 1, starts 1, cancelled 0, width 1
+  queue 0 on CPU 0: queueings 1, starts 1, cancelled 0, width 1, longest wait 1 entries and 0 ticks, mean wait 1 entries and 0 ticks
   worker w0n0: runs 1, awake 1 entries and 0 ticks, asleep 0 entries and 0 ticks
   item 0: runs 1, cancels 0
-  caller c0: calls 1, tickets 0
+  caller c0: calls 1, tickets 0, longest wait -
 
-The width is that at the end. A queueing is cancelled that ends before it starts. How long a worker's runs were awake or asleep is
-counted in the entries that came meanwhile, and in the ticks that these let go by. Of an illegal history nothing is written, and the
+The width is that at the end. A queueing is cancelled that ends before it starts, and one that starts has waited from the entry that
+opened it; a caller waits from the entry that gives it a ticket until an end of that is answered `done`. How long they waited, and how
+long a worker's runs were awake or asleep, is counted in the entries that came meanwhile, and in the ticks that these let go by; a mean
+is rounded down. Of an illegal history nothing is written, and the
 verdict goes to standard error.";
 
 /// What the help of `chart` shows below its usage.
@@ -120,7 +122,8 @@ const PICTURE_HELP: &str = r"A history of any format, as `step` and `run` write 
   w0n0 1 finish = finished 0
 
 gives an SVG, which a browser shows: a row for each worker, and in it a bar for each of its runs, from the entry that started it to
-the one that finished it. Long histories go on in further bands down the page. Of an illegal history nothing is written, and the
+the one that finished it; and below them a row for each queue on each CPU where it had queueings, with how many are open and active as
+steps, and its width as a dashed line. Long histories go on in further bands down the page. Of an illegal history nothing is written, and the
 verdict goes to standard error.";
 
 /// What the help of `replay` shows below its usage.
