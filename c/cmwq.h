@@ -46,10 +46,10 @@ struct cmwq_book { void *at; bool live; };
  * struct cmwq_shape - what a book is made of (docs/FORMATS.md)
  * @room: how many entries there may be, with those that are owed; up to 2^62
  * @keep: how many entries are kept at once; as many as @room: none need be forgotten
- * @items: 1 to 256 (the work_structs)
- * @cpus: 1 to 4; numbers, not processors
- * @workers: 1 to 8 in each of a CPU's two pools
- * @callers: 1 to 64
+ * @items: 1 to 65,535 (the work_structs)
+ * @cpus: 1 to 64; numbers, not processors
+ * @workers: 1 to 64 in each of a CPU's two pools
+ * @callers: 1 to 255
  */
 struct cmwq_shape { uint64_t room; uint32_t keep; uint16_t items; uint8_t cpus, workers, callers; };
 
@@ -139,8 +139,9 @@ struct cmwq_entry { uint64_t serial; struct cmwq_call call; struct cmwq_reply re
 
 /**
  * cmwq_open() - opens a book with no entries; one that the handle has is closed
- * @queues: @len of them, 1 to 64
- * Return: CMWQ_OK; CMWQ_REFUSED; CMWQ_NO_MEMORY. It takes some 50 bytes for each entry that may be kept, and up to 5 MB beside.
+ * @queues: @len of them, 1 to 255
+ * Return: CMWQ_OK; CMWQ_REFUSED; CMWQ_NO_MEMORY. It takes some 50 bytes for each entry that may be kept, and beside that what the shape
+ * asks for: up to 5 MB with 4 CPUs, 256 items, 64 callers and queues, and 750 MB with as many of each as there may be.
  */
 uint32_t cmwq_open(struct cmwq_book *book, const struct cmwq_shape *shape, const struct cmwq_queue *queues, size_t len);
 

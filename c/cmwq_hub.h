@@ -15,8 +15,6 @@
 #include <stdlib.h>
 #include <string.h>
 
-enum { CMWQ_HUB_ITEMS = 256, CMWQ_HUB_WORKERS = 64 };
-
 struct cmwq_hub;
 
 /* struct cmwq_run - what a work function is given: its hub, its item, and the worker as which it calls */
@@ -35,9 +33,9 @@ struct cmwq_hub {
     pthread_cond_t callers, workers;
     struct cmwq_book book;
     struct cmwq_shape shape;
-    struct cmwq_work works[CMWQ_HUB_ITEMS];
-    uint64_t queued[CMWQ_HUB_ITEMS]; /* the number of each item's last queueing */
-    struct cmwq_seat seats[CMWQ_HUB_WORKERS];
+    struct cmwq_work *works; /* one for each item */
+    uint64_t *queued;        /* the number of each item's last queueing */
+    struct cmwq_seat *seats; /* one for each worker */
     unsigned threads, waiting, idle;
     bool closing;
     uint32_t failed; /* why the hub makes no more entries */
@@ -237,6 +235,29 @@ static inline void *cmwq_hub_work_(void *at)
     return NULL;
 }
 
+/* Gives back what is kept of each item and each worker. */
+static inline void cmwq_hub_free_(struct cmwq_hub *hub)
+{
+    free(hub->works);
+    free(hub->queued);
+    free(hub->seats);
+}
+
+/* Takes memory for what is kept of each item and each worker. */
+static inline bool cmwq_hub_take_(struct cmwq_hub *hub, const struct cmwq_shape *shape, const struct cmwq_work *works)
+{
+    size_t items = shape->items, seats = (size_t)2 * shape->cpus * shape->workers;
+
+    hub->works = (struct cmwq_work *)malloc(items * sizeof *works);
+    hub->queued = (uint64_t *)malloc(items * sizeof *hub->queued);
+    hub->seats = (struct cmwq_seat *)calloc(seats, sizeof *hub->seats);
+    if (!hub->works || !hub->queued || !hub->seats)
+        return false;
+    memcpy(hub->works, works, items * sizeof *works);
+    memset(hub->queued, 0xff, items * sizeof *hub->queued);
+    return true;
+}
+
 /**
  * cmwq_hub_close() - lets what is queued run, joins the workers, and gives all up. All callers are done, no queue is frozen
  * Entries that are kept are handed to the hub's spill.
@@ -251,6 +272,7 @@ static inline void cmwq_hub_close(struct cmwq_hub *hub)
         pthread_join(hub->seats[--hub->threads].thread, NULL);
     cmwq_hub_spill_(hub);
     cmwq_close(&hub->book);
+    cmwq_hub_free_(hub);
     pthread_cond_destroy(&hub->workers);
     pthread_cond_destroy(&hub->callers);
     pthread_mutex_destroy(&hub->lock);
@@ -260,7 +282,7 @@ static inline void cmwq_hub_close(struct cmwq_hub *hub)
  * cmwq_hub_open() - opens a book, and starts a thread for each of its workers
  * @works: one for each item of the shape
  * @spill: takes the lines of entries that are forgotten; NULL: nobody does
- * Return: as cmwq_open(); CMWQ_NO_MEMORY too where a thread doesn't start. At another status than CMWQ_OK there is nothing to close
+ * Return: as cmwq_open(); CMWQ_NO_MEMORY too where memory for the hub is missing or a thread doesn't start. At another status than CMWQ_OK there is nothing to close
  */
 static inline uint32_t cmwq_hub_open(struct cmwq_hub *hub, const struct cmwq_shape *shape, const struct cmwq_queue *queues, size_t len,
                                      const struct cmwq_work *works, cmwq_spill_t spill, void *spill_data)
@@ -268,12 +290,15 @@ static inline uint32_t cmwq_hub_open(struct cmwq_hub *hub, const struct cmwq_sha
     uint32_t status;
 
     memset(hub, 0, sizeof *hub);
-    memset(hub->queued, 0xff, sizeof hub->queued);
     status = cmwq_open(&hub->book, shape, queues, len);
     if (status != CMWQ_OK)
         return status;
     hub->shape = *shape;
-    memcpy(hub->works, works, shape->items * sizeof *works);
+    if (!cmwq_hub_take_(hub, shape, works)) {
+        cmwq_hub_free_(hub);
+        cmwq_close(&hub->book);
+        return CMWQ_NO_MEMORY;
+    }
     hub->spill = spill;
     hub->spill_data = spill_data;
     pthread_mutex_init(&hub->lock, NULL);

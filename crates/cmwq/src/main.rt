@@ -10,6 +10,7 @@ use cmwq_cmd_history::{run_check, run_front_check, run_step, run_step_live, run_
 use cmwq_cmd_replay::run_replay;
 use cmwq_cmd_run::run_run;
 use cmwq_cmd_summary::run_summary;
+use cmwq_cmd_trace::run_trace;
 use cmwq_explain::{Kept, explain_calls, explain_history, explain_unkept};
 use cmwq_explain_json::{explain_scenario, explain_script};
 use std::alloc::{AllocError, Global};
@@ -24,12 +25,6 @@ const WRONG_USE: u8 = 2;
 
 /// The exit status where memory runs out.
 const OUT_OF_MEMORY: u8 = 4;
-
-/// A window that shows a whole history.
-const WHOLE: Window = Window {
-    from: 0,
-    to: u64::MAX,
-};
 
 /// Tells that memory ran out. A failing standard error changes no status.
 fn no_memory(rt: &impl Eprint) -> u8 {
@@ -67,22 +62,29 @@ fn texts(alloc: Global, args: &[String]) -> Result<Vec<&str>, AllocError> {
 /// Does what a word says. A run's threads are made by the last handle, which `main` alone can give.
 fn run<S: Source, O: Sink, E: Sink, T: Threads + Wait + Clock + Sync>(
     alloc: Global,
-    word: Word,
+    asked: Asked,
     input: &mut S,
     output: &mut O,
     errors: &mut E,
     threads: &T,
 ) -> u8 {
-    match word {
+    match asked.word {
         Word::Step { live: false } => run_step(alloc, input, output, errors),
         Word::Step { live: true } => run_step_live(alloc, input, output, errors),
         Word::Check { front: false } => run_check(alloc, input, output, errors),
         Word::Check { front: true } => run_front_check(alloc, input, output, errors),
         Word::Upgrade => run_upgrade(alloc, input, output, errors),
         Word::Summary => run_summary(alloc, input, output, errors),
-        Word::Chart => run_chart(alloc, input, output, errors, WHOLE),
+        Word::Chart { from, to } => {
+            let window = Window {
+                from: from.unwrap_or(0),
+                to: to.unwrap_or(u64::MAX),
+            };
+            run_chart(alloc, input, output, errors, window)
+        }
+        Word::Trace => run_trace(alloc, input, output, errors),
         Word::Replay => run_replay(alloc, input, output, errors),
-        Word::Run => run_run(threads, alloc, input, output, errors),
+        Word::Run => run_run(threads, alloc, input, output, errors, asked.explain),
     }
 }
 
@@ -93,7 +95,8 @@ fn explain<E: Sink>(alloc: Global, word: Word, status: u8, bytes: &[u8], errors:
         Word::Check { front } => explain_history(alloc, "check", status, bytes, front, errors),
         Word::Upgrade => explain_history(alloc, "upgrade", status, bytes, false, errors),
         Word::Summary => explain_history(alloc, "summary", status, bytes, false, errors),
-        Word::Chart => explain_history(alloc, "chart", status, bytes, false, errors),
+        Word::Chart { .. } => explain_history(alloc, "chart", status, bytes, false, errors),
+        Word::Trace => explain_history(alloc, "trace", status, bytes, false, errors),
         Word::Replay => explain_scenario(alloc, status, bytes, errors),
         Word::Run => explain_script(alloc, status, bytes, errors),
     }
@@ -108,28 +111,14 @@ fn run_asked<T: Threads + Wait + Clock + Sync>(rt: &HostRuntime, asked: Asked, t
         return no_memory(rt);
     };
     if !asked.explain {
-        return run(
-            alloc,
-            asked.word,
-            &mut input,
-            &mut output,
-            &mut errors,
-            threads,
-        );
+        return run(alloc, asked, &mut input, &mut output, &mut errors, threads);
     }
     let mut input = Kept::new(alloc, input);
-    let status = run(
-        alloc,
-        asked.word,
-        &mut input,
-        &mut output,
-        &mut errors,
-        threads,
-    );
+    let status = run(alloc, asked, &mut input, &mut output, &mut errors, threads);
     match input.bytes() {
         _ if status == 0 => {}
         Some(bytes) => explain(alloc, asked.word, status, bytes, &mut errors),
-        None => explain_unkept(&mut errors),
+        None => explain_unkept(status, &mut errors),
     }
     status
 }

@@ -1,5 +1,5 @@
 -- The text of a file that is spelled is read again as itself.
-use Rattle.cmwq_base.specs.Common.{◌≡◌, inl, inr, ◌+◌, ◌≤◌, ◌==◌, ℕ, Bool, true, false, ◌&&◌, not, List, [], ◌∷◌, ◌++◌, length, Ok, Err, leb, Option, Some, None, refl, sym, ap, ◌∙◌, append_assoc, append-nil, arith, subst, length-append, get_or, if◌then◌else◌, codes, IsTrue, flat_map, All, list_all, lt-leb, le-ltb, le-leb, leb-true, eqb-true, eq-eqb, nat_tests, All-head, All-tail, slice_split_at, is_feed, Who, Call, Entry, Counts, QueueShape, Layout, layout_of, is_layout, are_counts, are_queues, is_queue, is_between, fits, entry_fits, reply_fits, IsWho, IsCall, IsEntry, greatest, join_words, call_words, call_text, entry_words, entry_text, end_words, end_text, end_of, counts_words, counts_text, queue_words, queue_text, begins_queue, greatest_number, version_name, old_lines, most_lines, line_limit, room_limit, needs_end, allows_queue, allows_entry, counts_of_format, queue_of_format, entry_of_format, calls_name, number_limit, call_of_format, counts_in, version_text, shape_text, last_text, text_of_format, calls_version_text, calls_text, wide_entry, short_entry_is, allowed_call, wide_call_of, calls_read_again, entries_read_again, ends_read_again, entry_ends_none, counts_read_again, queues_read_again, IsWholeLine, whole_version, whole_long_version, whole_calls_version, whole_counts, whole_queue, whole_call, whole_entry, whole_end, who_begins_no_queue, entry_begins, fits_line, and_parts}
+use Rattle.cmwq_base.specs.Common.{◌≡◌, inl, inr, ◌+◌, ◌≤◌, ◌==◌, ℕ, Bool, true, false, ◌&&◌, not, List, [], ◌∷◌, ◌++◌, length, Ok, Err, leb, Option, Some, None, refl, sym, ap, ◌∙◌, append_assoc, append-nil, arith, subst, length-append, get_or, if◌then◌else◌, codes, IsTrue, flat_map, All, list_all, lt-leb, le-ltb, le-leb, eqb-true, eq-eqb, nat_tests, All-head, All-tail, slice_split_at, is_feed, Who, Call, Entry, Counts, QueueShape, Layout, layout_of, is_layout, are_counts, are_queues, is_queue, is_between, fits, entry_fits, reply_fits, IsWho, IsCall, IsEntry, greatest, join_words, call_words, call_text, entry_words, entry_text, end_words, end_text, end_of, counts_words, counts_text, queue_words, queue_text, begins_queue, greatest_number, version_name, old_lines, most_lines, line_limit, room_limit, needs_end, allows_queue, allows_entry, counts_of_format, queue_of_format, entry_of_format, calls_name, number_limit, call_of_format, counts_in, version_text, shape_text, last_text, text_of_format, calls_version_text, calls_text, wide_entry, short_entry_is, allowed_call, wide_call_of, calls_read_again, entries_read_again, ends_read_again, entry_ends_none, counts_read_again, queues_read_again, IsWholeLine, whole_version, whole_long_version, whole_calls_version, whole_counts, whole_queue, whole_call, whole_entry, whole_end, who_begins_no_queue, entry_begins, fits_line, and_parts, allows_counts, allows_numbers, queue_limit, most_queues, nat_le, and_from}
 use Rattle.cmwq_text.specs.IdText.{who_text}
 use Rattle.cmwq_text.specs.Laws.{IsLineOf}
 use Rattle.cmwq_base.specs.Pieces.{pieces}
@@ -41,11 +41,11 @@ module _ {X : Type 0} (k : Kind X) where
       ∙ after_first_piece k n stage line (pieces rest) some.0 some.1 some.2 (le-ltb 120 (length line) w.short)
       ∙ ap (and_then (λ next. after_text k (n + 1) next rest)) h
 
-counts_again : (v : ℕ) (c : Counts) → IsTrue (are_counts c.cpus c.workers c.callers c.items c.room) → c.room ≤ room_limit v → counts_of_format v (join_words (counts_words c)) ≡ Some c
+counts_again : (v : ℕ) (c : Counts) → IsTrue (are_counts c.cpus c.workers c.callers c.items c.room) → IsTrue (allows_counts v c) → counts_of_format v (join_words (counts_words c)) ≡ Some c
 unfolding counts_of_format
-counts_again v c inside room = rw (counts_read_again c (join_words (counts_words c)) inside (whole_counts c inside).is, le-leb c.room (room_limit v) room) refl
+counts_again v c inside allowed = rw (counts_read_again c (join_words (counts_words c)) inside (whole_counts c inside).is, allowed) refl
 
-begun_goes : {X : Type 0} (n v : ℕ) (c : Counts) → IsTrue (are_counts c.cpus c.workers c.callers c.items c.room) → c.room ≤ room_limit v → begun {X = X} n v (counts_of_format v (join_words (counts_words c))) ≡ Ok (head v c [])
+begun_goes : {X : Type 0} (n v : ℕ) (c : Counts) → IsTrue (are_counts c.cpus c.workers c.callers c.items c.room) → IsTrue (allows_counts v c) → begun {X = X} n v (counts_of_format v (join_words (counts_words c))) ≡ Ok (head v c [])
 begun_goes n v c inside room = ap (begun n v) (counts_again v c inside room)
 
 module _ {X : Type 0} (k : Kind X) (v : ℕ) (text : X → List ℕ) (last : ℕ → List ℕ) (ends : Ends k v last) where
@@ -80,12 +80,12 @@ module _ {X : Type 0} (k : Kind X) (v : ℕ) (text : X → List ℕ) (last : ℕ
 
   -- ---- lines of queues
 
-  queue_goes : (n : ℕ) (c : Counts) (qs : List QueueShape) (q : QueueShape) → ReadsQueue k v q → IsTrue (is_queue q) → length qs + 1 ≤ 64 → after_line k n (head v c qs) (join_words (queue_words q)) ≡ Ok (head v c (qs ++ q ∷ []))
+  queue_goes : (n : ℕ) (c : Counts) (qs : List QueueShape) (q : QueueShape) → ReadsQueue k v q → IsTrue (is_queue q) → length qs + 1 ≤ queue_limit v → after_line k n (head v c qs) (join_words (queue_words q)) ≡ Ok (head v c (qs ++ q ∷ []))
   unfolding after_line after_head
-  queue_goes n c qs q reads inside room = rw (lt-leb 64 (length qs) (omega arith), reads (join_words (queue_words q)) inside (whole_queue q inside).is) refl
+  queue_goes n c qs q reads inside room = rw (lt-leb (queue_limit v) (length qs) (omega arith), reads (join_words (queue_words q)) inside (whole_queue q inside).is) refl
 
   -- what is read of the rest behind all queues is read of it with their lines before it
-  queues_go : (n : ℕ) (c : Counts) (before qs : List QueueShape) (rest : List ℕ) (f : File X) → All (ReadsQueue k v) qs → list_all is_queue qs ≡ true → length before + length qs ≤ 64
+  queues_go : (n : ℕ) (c : Counts) (before qs : List QueueShape) (rest : List ℕ) (f : File X) → All (ReadsQueue k v) qs → list_all is_queue qs ≡ true → length before + length qs ≤ queue_limit v
       → ((m : ℕ) → after_text k m (head v c (before ++ qs)) rest ≡ Ok f) → after_text k n (head v c before) (flat_map queue_text qs ++ rest) ≡ Ok f
   queues_go n c before [] rest f reads inside room goes = ap (λ qs. after_text k n (head v c qs) rest) (sym (append-nil before)) ∙ goes n
   queues_go n c before (q ∷ qs) rest f reads inside room goes =
@@ -118,7 +118,7 @@ module _ {X : Type 0} (k : Kind X) (v : ℕ) (text : X → List ℕ) (last : ℕ
   -- ---- the whole
 
   -- from the shape line on
-  shape_read_again : (n : ℕ) (stage : Stage X) (f : File X) → f.version ≡ v → ((c : Counts) → IsTrue (are_counts c.cpus c.workers c.callers c.items c.room) → c.room ≤ room_limit v → after_line k n stage (join_words (counts_words c)) ≡ Ok (head v c []))
+  shape_read_again : (n : ℕ) (stage : Stage X) (f : File X) → f.version ≡ v → ((c : Counts) → IsTrue (are_counts c.cpus c.workers c.callers c.items c.room) → IsTrue (allows_counts v c) → after_line k n stage (join_words (counts_words c)) ≡ Ok (head v c []))
       → All (ReadsQueue k v) f.layout.queues → is_layout f.layout ≡ true → IsSound k f → All (IsAgain k v text f.layout) f.items
       → after_text k n stage (shape_text f.layout ++ (flat_map text f.items ++ last (length f.items))) ≡ Ok f
   shape_read_again n stage f is_version begins reads inside sound each =
@@ -126,14 +126,16 @@ module _ {X : Type 0} (k : Kind X) (v : ℕ) (text : X → List ℕ) (last : ℕ
       let c : Counts = counts_in s in
       let rest : List ℕ = flat_map text f.items ++ last (length f.items) in
       let parts = and_parts (are_counts s.cpus s.workers s.callers s.items s.room) (are_queues s.queues) inside in
-      let queues = and_parts (is_between 1 64 (length s.queues)) (list_all is_queue s.queues) parts.1 in
-      let few : length s.queues ≤ 64 = leb-true (length s.queues) 64 (and_parts (leb 1 (length s.queues)) (leb (length s.queues) 64) queues.0).1 in
+      let queues = and_parts (is_between 1 most_queues (length s.queues)) (list_all is_queue s.queues) parts.1 in
+      let few : length s.queues ≤ queue_limit v = subst (λ w. length s.queues ≤ queue_limit w) is_version sound.queues in
       let rooms : s.room ≤ room_limit v = subst (λ w. s.room ≤ room_limit w) is_version sound.room in
+      let numbers : IsTrue (allows_numbers v c) = subst (λ w. IsTrue (allows_numbers w c)) is_version sound.numbers in
+      let allowed : IsTrue (allows_counts v c) = and_from (nat_le s.room (room_limit v)) (allows_numbers v c) (le-leb s.room (room_limit v) rooms) numbers in
       let room : length f.items ≤ line_limit v = subst (λ w. length f.items ≤ line_limit w) is_version sound.few in
       let made : File X = record { version = v; layout = s; items = f.items } in
       let same : made ≡ f = ap (λ w. record { version = w; layout = s; items = f.items }) (sym is_version) in
       ap (after_text k n stage) (append_assoc (counts_text c) (flat_map queue_text s.queues) rest)
-      ∙ line_goes k n stage (head v c []) (counts_text c) (join_words (counts_words c)) (flat_map queue_text s.queues ++ rest) (whole_counts c parts.0) (begins c parts.0 rooms)
+      ∙ line_goes k n stage (head v c []) (counts_text c) (join_words (counts_words c)) (flat_map queue_text s.queues ++ rest) (whole_counts c parts.0) (begins c parts.0 allowed)
       ∙ queues_go (n + 1) c [] s.queues rest made reads queues.1 (omega (arith, few)) (λ m. head_ends m c s.queues f.items inside room each)
       ∙ ap Ok same
 
@@ -162,7 +164,7 @@ queue_again v q allowed line is spelled = rw ((queues_read_again q line is spell
 shape_says_none : (c : Counts) → (history_kind.says_format 2 (join_words (counts_words c)) ≡ false) × (history_kind.says_format 3 (join_words (counts_words c)) ≡ false)
 shape_says_none c = (refl, refl)
 
-old_begins : (c : Counts) → IsTrue (are_counts c.cpus c.workers c.callers c.items c.room) → c.room ≤ room_limit 1 → after_line history_kind 1 begin (join_words (counts_words c)) ≡ Ok (head 1 c [])
+old_begins : (c : Counts) → IsTrue (are_counts c.cpus c.workers c.callers c.items c.room) → IsTrue (allows_counts 1 c) → after_line history_kind 1 begin (join_words (counts_words c)) ≡ Ok (head 1 c [])
 unfolding after_line
 old_begins c inside room = rw ((shape_says_none c).0, (shape_says_none c).1) (begun_goes 1 1 c inside room)
 
@@ -228,7 +230,7 @@ old_histories_read_again f is_version of_format inside sound each =
     ∙ shape_read_again history_kind 1 entry_text (last_text 1) (history_ends 1) 1 begin f is_version old_begins (λ i d lt. queue_again 1 _ (old.0 i d lt)) inside sound
     (λ i d lt. entry_again 1 f.layout _ (wide_entry _ (each i d lt)) (sound.fitting i d lt) (old.1 i d lt))
 
-begins : (v : ℕ) (c : Counts) → IsTrue (are_counts c.cpus c.workers c.callers c.items c.room) → c.room ≤ room_limit v → after_line history_kind 2 (opened v) (join_words (counts_words c)) ≡ Ok (head v c [])
+begins : (v : ℕ) (c : Counts) → IsTrue (are_counts c.cpus c.workers c.callers c.items c.room) → IsTrue (allows_counts v c) → after_line history_kind 2 (opened v) (join_words (counts_words c)) ≡ Ok (head v c [])
 unfolding after_line
 begins v c inside room = begun_goes 2 v c inside room
 
@@ -292,11 +294,11 @@ call_again v s x h k inside =
 shape_says_no_calls : (c : Counts) → calls_kind.says_format 3 (join_words (counts_words c)) ≡ false
 shape_says_no_calls c = refl
 
-old_calls_begin : (c : Counts) → IsTrue (are_counts c.cpus c.workers c.callers c.items c.room) → c.room ≤ room_limit 1 → after_line calls_kind 1 begin (join_words (counts_words c)) ≡ Ok (head 1 c [])
+old_calls_begin : (c : Counts) → IsTrue (are_counts c.cpus c.workers c.callers c.items c.room) → IsTrue (allows_counts 1 c) → after_line calls_kind 1 begin (join_words (counts_words c)) ≡ Ok (head 1 c [])
 unfolding after_line
 old_calls_begin c inside room = rw (shape_says_no_calls c) (begun_goes 1 1 c inside room)
 
-calls_begin : (v : ℕ) (c : Counts) → IsTrue (are_counts c.cpus c.workers c.callers c.items c.room) → c.room ≤ room_limit v → after_line calls_kind 2 (opened v) (join_words (counts_words c)) ≡ Ok (head v c [])
+calls_begin : (v : ℕ) (c : Counts) → IsTrue (are_counts c.cpus c.workers c.callers c.items c.room) → IsTrue (allows_counts v c) → after_line calls_kind 2 (opened v) (join_words (counts_words c)) ≡ Ok (head v c [])
 unfolding after_line
 calls_begin v c inside room = begun_goes 2 v c inside room
 
@@ -314,7 +316,7 @@ calls_end v = record {
 module _ (f : File (Who × Call)) (inside : IsTrue (is_layout f.layout)) (sound : IsSound calls_kind f) (each : All (λ x. IsWho x.0 × (IsCall (number_limit f.version)) x.1) f.items) where
   -- from the shape line on
   calls_again : (v n : ℕ) (stage : Stage (Who × Call)) → f.version ≡ v
-      → ((c : Counts) → IsTrue (are_counts c.cpus c.workers c.callers c.items c.room) → c.room ≤ room_limit v → after_line calls_kind n stage (join_words (counts_words c)) ≡ Ok (head v c []))
+      → ((c : Counts) → IsTrue (are_counts c.cpus c.workers c.callers c.items c.room) → IsTrue (allows_counts v c) → after_line calls_kind n stage (join_words (counts_words c)) ≡ Ok (head v c []))
       → after_text calls_kind n stage (shape_text f.layout ++ flat_map call_line f.items) ≡ Ok f
   calls_again v n stage is begins =
       let numbers = subst (λ v. All (λ x. IsWho x.0 × (IsCall (number_limit v)) x.1) f.items) is each in

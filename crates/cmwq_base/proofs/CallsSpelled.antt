@@ -1,5 +1,5 @@
 -- What is read of a file of calls is spelled so, but for max_active.
-use Rattle.cmwq_base.specs.Common.{◌≡◌, ◌+◌, ℕ, Bool, true, false, List, [], ◌∷◌, ◌++◌, length, Result, Ok, Err, nat_le, Option, Some, None, refl, sym, ap, ◌∙◌, append_assoc, append-nil, subst, if◌then◌else◌, IsTrue, flat_map, map, join_with_byte, bytes_eq, flat_map_more, map_push, bytes_eq-Decides, join_with_byte-slice_split, Who, Call, Counts, QueueShape, Layout, layout_of, is_layout, fits, call_text, call_read, counts_text, queue_text, queue_with, queue_of_calls, begins_queue, calls_name, line_limit, counts_of_format, allows_call, call_of_format, counts_in, shape_text, calls_version_text, calls_text, bind_some, chosen, calls_spelled_so, counts_spelled_so, queues_of_calls_spelled_so}
+use Rattle.cmwq_base.specs.Common.{◌≡◌, ◌+◌, ℕ, Bool, true, false, List, [], ◌∷◌, ◌++◌, length, Result, Ok, Err, nat_le, Option, Some, None, refl, sym, ap, ◌∙◌, append_assoc, append-nil, subst, if◌then◌else◌, IsTrue, flat_map, map, join_with_byte, bytes_eq, flat_map_more, map_push, bytes_eq-Decides, join_with_byte-slice_split, Who, Call, Counts, QueueShape, Layout, layout_of, is_layout, fits, call_text, call_read, counts_text, queue_text, queue_with, queue_of_calls, begins_queue, calls_name, line_limit, counts_of_format, allows_call, call_of_format, counts_in, shape_text, calls_version_text, calls_text, bind_some, chosen, calls_spelled_so, counts_spelled_so, queues_of_calls_spelled_so, queue_limit}
 use Rattle.cmwq_base.specs.declared.refusal.Refusal.{Refusal}
 use Rattle.cmwq_base.specs.declared.refusal.Refusal.TheVariants as refusal
 use Rattle.cmwq_base.specs.Pieces.{pieces}
@@ -111,7 +111,7 @@ module _ (n v : ℕ) (front line : List ℕ) where
 
   head_goes : (c : Counts) (taken : List QueueShape) (next : CallStage) (b : Bool) → IsFront (head v c taken) front
       → (if b then queue_line calls_kind n v c taken line else first_item calls_kind n v (shape_made c taken) line) ≡ Ok next → IsFront next longer
-  head_goes c taken next true before h = queue_line_goes c taken next (nat_le 64 (length taken)) before h
+  head_goes c taken next true before h = queue_line_goes c taken next (nat_le (queue_limit v) (length taken)) before h
   head_goes c taken next false before h = first_item_goes c taken next (is_layout (layout_of c taken)) before refl h
 
 first_goes : (n : ℕ) (front line : List ℕ) (next : CallStage) (b : Bool) → front ≡ [] → bytes_eq line calls_name ≡ b → (if b then Ok (opened 3) else begun n 1 (counts_of_format 1 line)) ≡ Ok next

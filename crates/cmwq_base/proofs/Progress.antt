@@ -1,5 +1,5 @@
 -- How a reader's progress goes on from line to line.
-use Rattle.cmwq_base.specs.Common.{◌≡◌, inl, inr, ◌+◌, ◌<◌, ◌≤◌, ℕ, ◌==◌, Bool, true, false, ◌&&◌, not, List, [], ◌∷◌, ◌++◌, length, Result, Ok, Err, nat_le, Option, Some, None, refl, sym, ap, ◌∙◌, arith, subst, length-append, if◌then◌else◌, IfSome, IfOk, IsTrue, All-nil, All-push, nat_tests, leb-true, same_Some, prepend_known, Whole, Cut, Long, End, TakesKnownLine, Counts, QueueShape, Layout, layout_of, is_layout, counts_read, begins_queue, end_of, old_lines, most_lines, line_limit, room_limit, allows_counts, counts_of_format, bind_some, chosen}
+use Rattle.cmwq_base.specs.Common.{◌≡◌, inl, inr, ◌+◌, ◌<◌, ◌≤◌, ℕ, ◌==◌, Bool, true, false, ◌&&◌, not, List, [], ◌∷◌, ◌++◌, length, Result, Ok, Err, nat_le, Option, Some, None, refl, sym, ap, ◌∙◌, arith, subst, length-append, if◌then◌else◌, IfSome, IfOk, IsTrue, All-nil, All-push, nat_tests, leb-true, same_Some, prepend_known, Whole, Cut, Long, End, TakesKnownLine, Counts, QueueShape, Layout, layout_of, is_layout, counts_read, begins_queue, end_of, old_lines, old_queues, most_lines, most_queues, line_limit, room_limit, queue_limit, allows_counts, allows_numbers, and_parts, counts_of_format, bind_some, chosen}
 use Rattle.cmwq_io.specs.declared.lines.Found.{Found}
 use Rattle.cmwq_base.specs.declared.refusal.Refusal.{Refusal}
 use Rattle.cmwq_base.specs.declared.refusal.Refusal.TheVariants as refusal
@@ -42,8 +42,9 @@ module _ {X : Type 0} (k : Kind X) (n : ℕ) where
   begun_grows v stage line None next read lines is_version h = cc
   begun_grows v stage line (Some c) next read lines is_version h =
       let is : head v c [] ≡ next = cc in
-      let room : c.room ≤ room_limit v = leb-true c.room (room_limit v) (counts_are_read v line c read).1 in
-      subst (Grows k stage) is (record { count = omega (arith, lines); within = λ w. (is_version w, omega arith, room) })
+      let allowed = and_parts (nat_le c.room (room_limit v)) (allows_numbers v c) (counts_are_read v line c read).1 in
+      let room : c.room ≤ room_limit v = leb-true c.room (room_limit v) allowed.0 in
+      subst (Grows k stage) is (record { count = omega (arith, lines); within = λ w. (is_version w, omega arith, room, allowed.1) })
 
   opened_grows : (v : ℕ) (line : List ℕ) (next : Stage X) → 2 ≤ v → v ≤ 3 → k.says_format v line ≡ true → opened v ≡ next → Grows k begin next
   opened_grows v line next low high says is =
@@ -58,14 +59,14 @@ module _ {X : Type 0} (k : Kind X) (n : ℕ) where
   first_grows line next true says h = let is : opened 2 ≡ next = cc in opened_grows 2 line next (omega arith) (omega arith) says is
   first_grows line next false says h = third_grows line next (k.says_format 3 line) refl h
 
-  queue_grows : (v : ℕ) (c : Counts) (qs : List QueueShape) (o : Option QueueShape) (next : Stage X) → length qs < 64 → with_queue n v c qs o ≡ Ok next → Grows k (head v c qs) next
+  queue_grows : (v : ℕ) (c : Counts) (qs : List QueueShape) (o : Option QueueShape) (next : Stage X) → length qs < queue_limit v → with_queue n v c qs o ≡ Ok next → Grows k (head v c qs) next
   queue_grows v c qs None next room h = cc
   queue_grows v c qs (Some q) next room h =
       let is : head v c (qs ++ q ∷ []) ≡ next = cc in
       let more = length-append qs (q ∷ []) in
-      subst (Grows k (head v c qs)) is (record { count = omega arith; within = λ w. (w.0, omega arith, w.2) })
+      subst (Grows k (head v c qs)) is (record { count = omega arith; within = λ w. (w.0, omega arith, w.2, w.3) })
 
-  queue_line_grows : (v : ℕ) (c : Counts) (qs : List QueueShape) (line : List ℕ) (next : Stage X) (b : Bool) → nat_le 64 (length qs) ≡ b
+  queue_line_grows : (v : ℕ) (c : Counts) (qs : List QueueShape) (line : List ℕ) (next : Stage X) (b : Bool) → nat_le (queue_limit v) (length qs) ≡ b
       → (if b then Err (refusal.BadShape n) else with_queue n v c qs (k.queue_of v line)) ≡ Ok next → Grows k (head v c qs) next
   queue_line_grows v c qs line next true full h = cc
   queue_line_grows v c qs line next false full h = queue_grows v c qs (k.queue_of v line) next (grind (arith, nat_tests)) h
@@ -74,7 +75,7 @@ module _ {X : Type 0} (k : Kind X) (n : ℕ) where
   item_grows v s xs x next true fitting room h =
       let is : body v s (xs ++ x ∷ []) ≡ next = cc in
       let more = length-append xs (x ∷ []) in
-      subst (Grows k (body v s xs)) is (record { count = omega arith; within = λ w. (w.0, w.1, w.2, omega arith, All-push (λ y. IsTrue (k.fits_in s y)) xs x w.4 fitting) })
+      subst (Grows k (body v s xs)) is (record { count = omega arith; within = λ w. (w.0, w.1, w.2, w.3, omega arith, All-push (λ y. IsTrue (k.fits_in s y)) xs x w.5 fitting) })
   item_grows v s xs x next false fitting room h = cc
 
   with_item_grows : (v : ℕ) (s : Layout) (xs : List X) (o : Option X) (next : Stage X) → length xs < line_limit v → with_item k n v s xs o ≡ Ok next → Grows k (body v s xs) next
@@ -107,11 +108,11 @@ module _ {X : Type 0} (k : Kind X) (n : ℕ) where
   first_item_grows : (v : ℕ) (c : Counts) (qs : List QueueShape) (line : List ℕ) (next : Stage X) (b : Bool) → first_item k n v (if b then Some (layout_of c qs) else None) line ≡ Ok next → Grows k (head v c qs) next
   first_item_grows v c qs line next true h =
       let g = body_line_grows v (layout_of c qs) [] line next h in
-      record { count = let more = g.count in omega arith; within = λ w. g.within (w.0, w.1, w.2, omega arith, All-nil (λ x. IsTrue (k.fits_in (layout_of c qs) x))) }
+      record { count = let more = g.count in omega arith; within = λ w. g.within (w.0, w.1, w.2, w.3, omega arith, All-nil (λ x. IsTrue (k.fits_in (layout_of c qs) x))) }
   first_item_grows v c qs line next false h = cc
 
   head_grows : (v : ℕ) (c : Counts) (qs : List QueueShape) (line : List ℕ) (next : Stage X) (b : Bool) → (if b then queue_line k n v c qs line else first_item k n v (shape_made c qs) line) ≡ Ok next → Grows k (head v c qs) next
-  head_grows v c qs line next true h = queue_line_grows v c qs line next (nat_le 64 (length qs)) refl h
+  head_grows v c qs line next true h = queue_line_grows v c qs line next (nat_le (queue_limit v) (length qs)) refl h
   head_grows v c qs line next false h = first_item_grows v c qs line next (is_layout (layout_of c qs)) h
 
   pub line_grows : (stage next : Stage X) (line : List ℕ) → after_line k n stage line ≡ Ok next → Grows k stage next
@@ -124,20 +125,25 @@ module _ {X : Type 0} (k : Kind X) (n : ℕ) where
   line_grows (ended v s xs) next line h = cc
 
 -- no stage has so many lines
-pub too_many : {X : Type 0} (k : Kind X) (n : ℕ) (stage : Stage X) → 4611686018427377973 ≤ n → n ≤ lines_taken stage + 1 → IsStageWithin k stage → ⊥
+pub too_many : {X : Type 0} (k : Kind X) (n : ℕ) (stage : Stage X) → 4611686018426388164 ≤ n → n ≤ lines_taken stage + 1 → IsStageWithin k stage → ⊥
 too_many k n begin many count w = omega (arith, many, count)
 too_many k n (opened v) many count w = omega (arith, many, count)
-too_many k n (head v c qs) many count w = let few = w.1 in omega (arith, many, count, few)
+too_many k n (head v c qs) many count w =
+    let few = w.1 in
+    let queues : queue_limit v ≤ most_queues = none_passes old_queues most_queues v (omega arith) in
+    omega (arith, many, count, few, queues)
 too_many k n (body v s xs) many count w =
     let few = w.1 in
-    let items = w.3 in
+    let items = w.4 in
+    let queues : queue_limit v ≤ most_queues = none_passes old_queues most_queues v (omega arith) in
     let most : line_limit v ≤ most_lines = none_passes old_lines most_lines v (omega arith) in
-    omega (arith, many, count, few, items, most)
+    omega (arith, many, count, few, queues, items, most)
 too_many k n (ended v s xs) many count w =
     let few = w.1.1 in
-    let items = w.1.3 in
+    let items = w.1.4 in
+    let queues : queue_limit v ≤ most_queues = none_passes old_queues most_queues v (omega arith) in
     let most : line_limit v ≤ most_lines = none_passes old_lines most_lines v (omega arith) in
-    omega (arith, many, count, few, items, most)
+    omega (arith, many, count, few, queues, items, most)
 
 -- ---- the answers of the reader
 
@@ -280,24 +286,24 @@ ends_with k n f g h = by_lack (k.needs_end f.version && not k.is_front) h
     by_lack true h = cc
     by_lack false h = cc
 
-sound_without : {X : Type 0} (k : Kind X) (n v : ℕ) (c : Counts) (qs : List QueueShape) (b : Bool) (f : File X) → IsVersionOf k v → c.room ≤ room_limit v
+sound_without : {X : Type 0} (k : Kind X) (n v : ℕ) (c : Counts) (qs : List QueueShape) (b : Bool) (f : File X) → IsVersionOf k v → (length qs ≤ queue_limit v) × (c.room ≤ room_limit v) × IsTrue (allows_numbers v c)
     → without_items k n v (if b then Some (layout_of c qs) else None) ≡ Ok f → IsVersionOf k f.version × IsSound k f
-sound_without k n v c qs false f w room h = cc
-sound_without k n v c qs true f w room h =
+sound_without k n v c qs false f w shape h = cc
+sound_without k n v c qs true f w shape h =
     let is : record { version = v; layout = layout_of c qs; items = [] } ≡ f = ends_with k n (record { version = v; layout = layout_of c qs; items = [] }) f h in
-    subst (λ f. IsVersionOf k f.version × IsSound k f) is (w, record { room = room; few = omega arith; fitting = All-nil (λ x. IsTrue (k.fits_in (layout_of c qs) x)) })
+    subst (λ f. IsVersionOf k f.version × IsSound k f) is (w, record { room = shape.1; numbers = shape.2; queues = shape.0; few = omega arith; fitting = All-nil (λ x. IsTrue (k.fits_in (layout_of c qs) x)) })
 
 pub end_sound : {X : Type 0} (k : Kind X) (n : ℕ) (stage : Stage X) (f : File X) → IsStageWithin k stage → at_end k n stage ≡ Ok f → IsVersionOf k f.version × IsSound k f
 unfolding at_end
 end_sound k n begin f w h = cc
 end_sound k n (opened v) f w h = cc
-end_sound k n (head v c qs) f w h = sound_without k n v c qs (is_layout (layout_of c qs)) f w.0 w.2 h
+end_sound k n (head v c qs) f w h = sound_without k n v c qs (is_layout (layout_of c qs)) f w.0 (w.1, w.2, w.3) h
 end_sound k n (body v s xs) f w h =
     let is : record { version = v; layout = s; items = xs } ≡ f = ends_with k n (record { version = v; layout = s; items = xs }) f h in
-    subst (λ f. IsVersionOf k f.version × IsSound k f) is (w.0, record { room = w.2; few = w.3; fitting = w.4 })
+    subst (λ f. IsVersionOf k f.version × IsSound k f) is (w.0, record { room = w.2; numbers = w.3; queues = w.1; few = w.4; fitting = w.5 })
 end_sound k n (ended v s xs) f w h =
     let is : record { version = v; layout = s; items = xs } ≡ f = cc in
-    subst (λ f. IsVersionOf k f.version × IsSound k f) is (w.1.0, record { room = w.1.2; few = w.1.3; fitting = w.1.4 })
+    subst (λ f. IsVersionOf k f.version × IsSound k f) is (w.1.0, record { room = w.1.2; numbers = w.1.3; queues = w.1.1; few = w.1.4; fitting = w.1.5 })
 
 -- at the beginning nothing has been read
 pub starts : {X : Type 0} (k : Kind X) (text : Option (List ℕ)) (ahead : List ℕ) → ahead ≡ [] → SameRead k text (prepend_known ahead text) 1 begin
@@ -309,7 +315,7 @@ pub makes_sound : {X Y : Type 0} (front : Bool) (k : Kind X) (view : Y → File 
     → IfOk r (λ y. IsSound k (view y))
 makes_sound front k view (Ok y) n stage w h =
     let sound = (end_sound (as_front front k) n stage (view y) w h).1 in
-    record { room = sound.room; few = sound.few; fitting = sound.fitting }
+    record { room = sound.room; numbers = sound.numbers; queues = sound.queues; few = sound.few; fitting = sound.fitting }
 makes_sound front k view (Err e) n stage w h = tt
 
 pub makes_version : {X Y : Type 0} (k : Kind X) (view : Y → File X) (r : Result Y Refusal) (n : ℕ) (stage : Stage X) → IsStageWithin k stage → GivesAs view r (at_end k n stage) → IfOk r (λ y. IsVersionOf k (view y).version)

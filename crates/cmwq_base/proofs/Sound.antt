@@ -1,6 +1,6 @@
 -- What is read of a whole text is sound: its shape is inside the limits, it has no more lines than a file may have, each of them fits the
 -- shape, and has what each line of its kind has.
-use Rattle.cmwq_base.specs.Common.{◌≡◌, ◌⊎◌, inl, inr, ◌+◌, ℕ, ◌==◌, Bool, true, false, ◌&&◌, not, List, [], ◌∷◌, ◌++◌, length, Result, Ok, Err, nat_le, Option, Some, None, refl, subst, if◌then◌else◌, IsTrue, All, bytes_eq, eqb-true, All-nil, All-push, Who, Call, Entry, Counts, QueueShape, Layout, layout_of, is_layout, IsWho, IsCall, IsEntry, greatest_number, begins_queue, calls_name, is_calls_line, line_limit, number_limit, counts_of_format, call_of_format_inside, entry_of_format_inside, and_parts}
+use Rattle.cmwq_base.specs.Common.{◌≡◌, ◌⊎◌, inl, inr, ◌+◌, ℕ, ◌==◌, Bool, true, false, ◌&&◌, not, List, [], ◌∷◌, ◌++◌, length, Result, Ok, Err, nat_le, Option, Some, None, refl, subst, if◌then◌else◌, IsTrue, All, bytes_eq, eqb-true, All-nil, All-push, Who, Call, Entry, Counts, QueueShape, Layout, layout_of, is_layout, IsWho, IsCall, IsEntry, greatest_number, begins_queue, calls_name, is_calls_line, line_limit, number_limit, counts_of_format, call_of_format_inside, entry_of_format_inside, and_parts, queue_limit}
 use Rattle.cmwq_base.specs.declared.refusal.Refusal.{Refusal}
 use Rattle.cmwq_base.specs.declared.refusal.Refusal.TheVariants as refusal
 use Rattle.cmwq_base.specs.Pieces.{pieces}
@@ -136,7 +136,7 @@ module _ {X : Type 0} (k : Kind X) (P : ℕ → X → Type 0) (reads : (v : ℕ)
 
   head_has : (n v : ℕ) (c : Counts) (qs : List QueueShape) (line : List ℕ) (next : Stage X) (b : Bool)
       → (if b then queue_line k n v c qs line else first_item k n v (shape_made c qs) line) ≡ Ok next → Has next
-  head_has n v c qs line next true h = queue_line_has n v c qs line next (nat_le 64 (length qs)) h
+  head_has n v c qs line next true h = queue_line_has n v c qs line next (nat_le (queue_limit v) (length qs)) h
   head_has n v c qs line next false h = first_item_has n v c qs line next (is_layout (layout_of c qs)) refl h
 
   line_has : (n : ℕ) (stage next : Stage X) (line : List ℕ) → Has stage → after_line k n stage line ≡ Ok next → Has next

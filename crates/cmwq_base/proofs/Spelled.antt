@@ -1,5 +1,5 @@
 -- What is read of the file of a history is spelled so.
-use Rattle.cmwq_base.specs.Common.{◌≡◌, ◌+◌, ◌==◌, ℕ, Bool, true, false, ◌&&◌, List, [], ◌∷◌, ◌++◌, length, Result, Ok, Err, nat_le, Option, Some, None, refl, sym, ap, ◌∙◌, append_assoc, append-nil, subst, if◌then◌else◌, IsTrue, flat_map, All, join_with_byte, eqb-true, flat_map_more, All-nil, All-push, same_Some, bytes_eq-Decides, join_with_byte-slice_split, Entry, Counts, QueueShape, Layout, layout_of, is_layout, entry_fits, entry_text, entry_of, counts_text, queue_text, queue_of_history, begins_queue, end_text, end_of, version_name, is_version_line, needs_end, line_limit, allows_queue, allows_entry, counts_of_format, queue_of_format, entry_of_format, version_text, head_text, body_text, last_text, text_of_format, bind_some, chosen, entries_spelled_so, ends_spelled_so, counts_spelled_so, queues_spelled_so}
+use Rattle.cmwq_base.specs.Common.{◌≡◌, ◌+◌, ◌==◌, ℕ, Bool, true, false, ◌&&◌, List, [], ◌∷◌, ◌++◌, length, Result, Ok, Err, nat_le, Option, Some, None, refl, sym, ap, ◌∙◌, append_assoc, append-nil, subst, if◌then◌else◌, IsTrue, flat_map, All, join_with_byte, eqb-true, flat_map_more, All-nil, All-push, same_Some, bytes_eq-Decides, join_with_byte-slice_split, Entry, Counts, QueueShape, Layout, layout_of, is_layout, entry_fits, entry_text, entry_of, counts_text, queue_text, queue_of_history, begins_queue, end_text, end_of, version_name, is_version_line, needs_end, line_limit, allows_queue, allows_entry, counts_of_format, queue_of_format, entry_of_format, version_text, head_text, body_text, last_text, text_of_format, bind_some, chosen, entries_spelled_so, ends_spelled_so, counts_spelled_so, queues_spelled_so, queue_limit}
 use Rattle.cmwq_base.specs.declared.refusal.Refusal.{Refusal}
 use Rattle.cmwq_base.specs.declared.refusal.Refusal.TheVariants as refusal
 use Rattle.cmwq_base.specs.Pieces.{pieces}
@@ -122,7 +122,7 @@ module _ (n v : ℕ) where
   first_item_spells c qs line next false of_format inside h = cc
 
   head_spells : (c : Counts) (qs : List QueueShape) (line : List ℕ) (next : Stage Entry) (b : Bool) → AreQueuesOf v qs → (if b then queue_line history_kind n v c qs line else first_item history_kind n v (shape_made c qs) line) ≡ Ok next → Spells (head v c qs) next line
-  head_spells c qs line next true inside h = queue_line_spells c qs line next (nat_le 64 (length qs)) inside h
+  head_spells c qs line next true inside h = queue_line_spells c qs line next (nat_le (queue_limit v) (length qs)) inside h
   head_spells c qs line next false inside h = first_item_spells c qs line next (is_layout (layout_of c qs)) inside refl h
 
 third_line_spells : (n : ℕ) (line : List ℕ) (next : Stage Entry) (b : Bool) → is_version_line 3 line ≡ b → (if b then Ok (opened 3) else begun n 1 (counts_of_format 1 line)) ≡ Ok next → Spells begin next line

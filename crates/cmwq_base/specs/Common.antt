@@ -1,6 +1,6 @@
 -- What the files of this crate name from outside it, in one import.
 pub use Rattle.std.proofs.Common.{Bool, Err, List, None, Ok, Option, Result, Some, [], add-one, ap, append-nil, append_assoc, arith, cond, drop, drop-cons, false, get_or, inl, inr, leb, length, length-append, min, nat_le, nat_lt, not, refl, subst, suc, sym, take, take-append-drop, true, zero, ℕ, ◌&&◌, ◌++◌, ◌+◌, ◌<◌, ◌==◌, ◌∙◌, ◌∷◌, ◌≡◌, ◌≤◌, ◌⊎◌}
-pub use Rattle.std.proofs.lemmas.Bool.{and_parts, eq-eqb, eqb-true, le-leb, le-ltb, leb-true, lt-leb, ltb-true}
+pub use Rattle.std.proofs.lemmas.Bool.{and_from, and_parts, eq-eqb, eqb-true, le-leb, le-ltb, leb-true, lt-leb, ltb-true}
 pub use Rattle.std.proofs.lemmas.Bool.Decides.{nat_tests}
 pub use Rattle.std.proofs.lemmas.List.{flat_map_more, get_or-take, length-drop, length-take, map_push, take-append-le, take_all, take_min}
 pub use Rattle.std.proofs.lemmas.List.Elements.{All-head, All-nil, All-push, All-tail}
@@ -17,7 +17,7 @@ pub use Rattle.cmwq_io.proofs.KnownBytes.{Appends-trans}
 pub use Rattle.cmwq_io.specs.Feeds.{has_feed, is_feed}
 pub use Rattle.cmwq_io.specs.FirstLine.{TakesKnownLine, TakesLine, first_line}
 pub use Rattle.cmwq_io.specs.declared.lines.Found.TheVariants.{Cut, End, Long, Whole}
-pub use Rattle.cmwq_model.specs.Prelude.{IsCall, IsEntry, IsWho, Layout, are_counts, are_queues, entry_fits, fits, greatest, is_between, is_layout, is_queue, layout_of, reply_fits}
+pub use Rattle.cmwq_model.specs.Prelude.{IsCall, IsEntry, IsWho, Layout, are_counts, are_queues, entry_fits, fits, greatest, is_between, is_layout, is_queue, layout_of, most_queues, reply_fits}
 pub use Rattle.cmwq_model.specs.declared.call.Call.{Call}
 pub use Rattle.cmwq_model.specs.declared.entry.Entry.{Entry}
 pub use Rattle.cmwq_model.specs.declared.id.Who.{Who}
@@ -32,7 +32,7 @@ pub use Rattle.cmwq_text.proofs.WholeLines.{IsWholeLine, end_is_no_entry, end_is
 pub use Rattle.cmwq_text.specs.CallText.{call_read, call_text, call_words}
 pub use Rattle.cmwq_text.specs.EndText.{end_of, end_text, end_words}
 pub use Rattle.cmwq_text.specs.EntryText.{entry_of, entry_text, entry_words}
-pub use Rattle.cmwq_text.specs.Formats.{allows_call, allows_counts, allows_entry, allows_queue, calls_name, is_calls_line, is_version_line, line_limit, most_lines, needs_end, number_limit, old_lines, room_limit, version_name}
+pub use Rattle.cmwq_text.specs.Formats.{allows_call, allows_counts, allows_entry, allows_numbers, allows_queue, calls_name, is_calls_line, is_version_line, line_limit, most_lines, needs_end, number_limit, old_lines, old_queues, queue_limit, room_limit, version_name}
 unfoldable pub use Rattle.cmwq_text.specs.Formats.{by_age, call_of_format, counts_of_format, entry_of_format, queue_of_format}
 pub use Rattle.cmwq_text.specs.HistoryText.{body_text, calls_text, calls_version_text, counts_in, head_text, last_text, shape_text, text_of_format, version_text}
 pub use Rattle.cmwq_text.specs.Numbers.{greatest_number}

@@ -2,7 +2,7 @@
 -- of one kind, which differ in how a queue and such a line is read, and in what has to be inside the shape. Before the shape line a line may say
 -- that the format is 2 or 3. A format may have a last line, which says how many lines of the kind stand before it.
 use Rattle.std.specs.Prelude.{◌≡◌, ◌⊎◌, ◌+◌, ◌≤◌, ◌&&◌, ◌==◌, if◌then◌else◌, ◌∷◌, ◌++◌}
-use Rattle.cmwq_base.specs.Common.{ℕ, Bool, true, false, not, IsTrue, List, [], length, Option, Some, None, Result, Ok, Err, nat_lt, nat_le, All, Counts, QueueShape, Layout, layout_of, is_layout, begins_queue, end_of, line_limit, room_limit, counts_of_format}
+use Rattle.cmwq_base.specs.Common.{ℕ, Bool, true, false, not, IsTrue, List, [], length, Option, Some, None, Result, Ok, Err, nat_lt, nat_le, All, Counts, QueueShape, Layout, layout_of, is_layout, begins_queue, end_of, line_limit, room_limit, queue_limit, allows_numbers, counts_of_format, counts_in}
 use Rattle.cmwq_base.specs.declared.refusal.Refusal.{Refusal}
 use Rattle.cmwq_base.specs.declared.refusal.Refusal.TheVariants as refusal
 use Rattle.cmwq_base.specs.Pieces.{pieces}
@@ -41,9 +41,11 @@ as_front front k = record { says_format = k.says_format; queue_of = k.queue_of; 
 abbrev pub IsVersionOf : {X : Type 0} → Kind X → ℕ → Type 0
 IsVersionOf k v = (1 ≤ v) × (v ≤ 3) × ((v ≡ 1) ⊎ ((line : List ℕ) × (k.says_format v line ≡ true)))
 
--- no more room and no more lines of the kind than the format allows, each of which fits the shape
+-- a shape within what the format allows, and no more lines of the kind, each of which fits the shape
 pub record IsSound {X : Type 0} (k : Kind X) (f : File X) : Type 0 where
   pub room : f.layout.room ≤ room_limit f.version
+  pub numbers : IsTrue (allows_numbers f.version (counts_in f.layout))
+  pub queues : length f.layout.queues ≤ queue_limit f.version
   pub few : length f.items ≤ line_limit f.version
   pub fitting : All (λ x. IsTrue (k.fits_in f.layout x)) f.items
 
@@ -73,13 +75,13 @@ module _ {X : Type 0} where
       else if k.says_format 3 line then Ok (opened 3)
       else begun n 1 (counts_of_format 1 line)
 
-  -- a line of a queue: there are 64 at most
+  -- a line of a queue: there are no more than the format allows
   abbrev pub with_queue : ℕ → ℕ → Counts → List QueueShape → Option QueueShape → Result (Stage X) Refusal
   with_queue n v counts queues (Some q) = Ok (head v counts (queues ++ q ∷ []))
   with_queue n v counts queues None = Err (refusal.BadShape n)
 
   abbrev pub queue_line : Kind X → ℕ → ℕ → Counts → List QueueShape → List ℕ → Result (Stage X) Refusal
-  queue_line k n v counts queues line = if nat_le 64 (length queues) then Err (refusal.BadShape n) else with_queue n v counts queues (k.queue_of v line)
+  queue_line k n v counts queues line = if nat_le (queue_limit v) (length queues) then Err (refusal.BadShape n) else with_queue n v counts queues (k.queue_of v line)
 
   -- a line of the kind: one more than the format allows is too long whatever it is
   abbrev pub with_item : Kind X → ℕ → ℕ → Layout → List X → Option X → Result (Stage X) Refusal

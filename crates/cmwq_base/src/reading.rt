@@ -12,9 +12,9 @@ use crate::stage::{Contents, Stage};
 use cmwq_io::{Found, Line, Lines, Source};
 use std::alloc::Global;
 
-/// One more than the lines that a file may have: the one that says its format, its shape line, 64 queues, as many others as
-/// any format allows, and the last line.
-pub const TOO_MANY_LINES: u64 = 4_611_686_018_427_377_972;
+/// One more than the lines that a file may have: the one that says its format, its shape line, as many queues
+/// and as many others as any format allows, and the last line.
+pub const TOO_MANY_LINES: u64 = 4_611_686_018_426_388_163;
 
 /// Reads a file of lines of this kind, to the end of the source, and hands on what each line says. Beside what gathers that it
 /// takes memory for one line and for what is read ahead. Where `is_front` says that more was to be written behind what is there, a rest

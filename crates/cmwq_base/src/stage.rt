@@ -7,11 +7,8 @@ ghost use Rattle.cmwq_base.specs.Files.{shape_made, begun as begun_by, first_lin
 use crate::gather::Gather;
 use crate::refusal::Refusal;
 use cmwq_model::{Counts, QueueShape, Shape};
-use cmwq_text::{begins_queue, line_limit, read_counts_of_format, read_end};
+use cmwq_text::{begins_queue, line_limit, queue_limit, read_counts_of_format, read_end};
 use std::alloc::Global;
-
-/// The greatest number of queues.
-const QUEUE_LIMIT: usize = 64;
 
 /// What the lines of a kind of file say, by its format, which is 1, 2 or 3.
 pub trait FileLine: Sized {
@@ -190,7 +187,7 @@ fn with_queue<G: Gather>(
 ) -> Result<Stage<G>, Refusal>
     ensures { GivesAs (stage_of G.layout G.items) result (queue_line G.Item.kind number version counts queues.items line.now) }
 {
-    if queues.len() >= QUEUE_LIMIT {
+    if queues.len() >= queue_limit(version) {
         return Err(Refusal::BadShape(number));
     }
     match G::Item::read_queue(version, line) {

@@ -1,22 +1,18 @@
 -- The places that are shown are of the layout.
-use Rattle.std.proofs.Common.{◌≡◌, ℕ, zero, suc, ◌+◌, ◌<◌, ◌≤◌, Bool, List, [], ◌∷◌, ◌++◌, length, get_or, filter, map, sym, ap, ◌∙◌, subst, append-nil, arith}
-use Rattle.std.proofs.lemmas.Bool.{and_parts, leb-true}
+use Rattle.std.proofs.Common.{◌≡◌, ℕ, zero, suc, ◌+◌, ◌<◌, ◌≤◌, List, [], ◌∷◌, ◌++◌, length, get_or, sym, ap, ◌∙◌, subst, append-nil, arith}
 use Rattle.std.proofs.lemmas.List.Elements.{All-nil, All-append, All-map, All-filter, All-from_get_or}
 use Rattle.std.proofs.lemmas.List.FromFn.{length-range_with_len, get_or-range_with_len}
 use Rattle.std.proofs.lemmas.List.Concat.{flat_map-cons}
 use Rattle.std.proofs.lemmas.Grind.{flat_map-append}
 use Rattle.std.specs.Prelude.{IsTrue, flat_map}
 use Rattle.std.specs.List.{All, range_with_len}
-use Rattle.cmwq_model.specs.declared.record.Place.{Place}
 use Rattle.cmwq_model.specs.declared.record.Queueing.{Queueing}
-use Rattle.cmwq_model.specs.Prelude.{Layout, is_layout}
+use Rattle.cmwq_model.proofs.Limits.{limits_of}
+use Rattle.cmwq_model.specs.Prelude.{Layout, is_layout, most_cpus}
 use Rattle.cmwq_chart.specs.Levels.{has_queueings, place_on, places_of_queue, places_of, IsPlaceOf}
 use Rattle.cmwq_chart.proofs.Steps.{range_more}
 
-cpus_few : (s : Layout) → IsTrue (is_layout s) → s.cpus ≤ 4
-cpus_few s inside = leb-true s.cpus 4 (and_parts _ _ (and_parts _ _ (and_parts _ _ (and_parts _ _ (and_parts _ _ (and_parts _ _ inside).0).0).0).0).0).1
-
-of_queue : (s : Layout) (q : ℕ) → s.cpus ≤ 4 → q < length s.queues → All (IsPlaceOf s) (places_of_queue s q)
+of_queue : (s : Layout) (q : ℕ) → s.cpus ≤ most_cpus → q < length s.queues → All (IsPlaceOf s) (places_of_queue s q)
 of_queue s q few h = All-map (IsPlaceOf s) (place_on q) cpus (All-from_get_or (λ c. IsPlaceOf s (place_on q c)) cpus 0 each)
   where
     cpus : List ℕ
@@ -27,7 +23,7 @@ of_queue s q few h = All-map (IsPlaceOf s) (place_on q) cpus (All-from_get_or (�
         let inside : i < s.cpus = omega (arith, length-range_with_len 0 s.cpus) in
         (h, omega (arith, get_or-range_with_len 0 s.cpus i 0 inside))
 
-of_queues : (s : Layout) (n : ℕ) → s.cpus ≤ 4 → n ≤ length s.queues → All (IsPlaceOf s) (flat_map (places_of_queue s) (range_with_len 0 n))
+of_queues : (s : Layout) (n : ℕ) → s.cpus ≤ most_cpus → n ≤ length s.queues → All (IsPlaceOf s) (flat_map (places_of_queue s) (range_with_len 0 n))
 of_queues s zero few h = All-nil (IsPlaceOf s)
 of_queues s (suc n) few h =
     let so_far = of_queues s n few (omega arith) in
@@ -39,4 +35,4 @@ of_queues s (suc n) few h =
 
 pub places_inside : (s : Layout) (queueings : List Queueing) → IsTrue (is_layout s) → All (IsPlaceOf s) (places_of s queueings)
 unfolding places_of
-places_inside s queueings inside = All-filter (has_queueings queueings) (IsPlaceOf s) _ (of_queues s (length s.queues) (cpus_few s inside) (omega arith))
+places_inside s queueings inside = All-filter (has_queueings queueings) (IsPlaceOf s) _ (of_queues s (length s.queues) (limits_of s inside).cpus.1 (omega arith))

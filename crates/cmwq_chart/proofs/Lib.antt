@@ -1,3 +1,4 @@
 pub mod Inside
+pub mod Few
 pub mod Steps
 pub mod Used

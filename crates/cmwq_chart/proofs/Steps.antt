@@ -11,6 +11,9 @@ use Rattle.std.specs.Option.{option_or}
 use Rattle.cmwq_model.specs.declared.entry.Entry.{Entry}
 use Rattle.cmwq_model.specs.Prelude.{Layout, finishes, item_of, item_at, past_of, IsLegal}
 use Rattle.cmwq_model.specs.declared.id.WorkerId.{WorkerId}
+use Rattle.cmwq_model.specs.declared.id.CallerId.{CallerId}
+use Rattle.cmwq_chart.specs.CallerWaits.{wait_rows, wait_ended, waits_ended, wait_sign_of, wait_signs_by}
+use Rattle.cmwq_chart.specs.Signs.{sign_of, signs_of}
 use Rattle.cmwq_chart.specs.Sleeps.{asleep_since, sleep_ended, sleeps_ended}
 use Rattle.cmwq_chart.specs.Bars.{finish_place, bar_of, bars_in, AreFinishes, FinishIsKept}
 
@@ -116,3 +119,33 @@ unfolding sleeps_ended
 ended_step e past w = refl
 
 pub ruleset sleep_steps = (asleep_none, ended_none, ended_step)
+
+pub signs_none : signs_of [] ≡ []
+unfolding signs_of
+signs_none = refl
+
+pub signs_step : (e : Entry) (past : List Entry) → signs_of (e ∷ past) ≡ signs_of past ++ option_to_list (sign_of e (length past))
+unfolding signs_of
+signs_step e past = refl
+
+pub ruleset signs_steps = (signs_none, signs_step)
+
+pub rows_none : (c : CallerId) → wait_rows [] c ≡ []
+unfolding wait_rows
+rows_none c = refl
+
+pub waits_none : (c : CallerId) → waits_ended [] c ≡ []
+unfolding waits_ended
+waits_none c = refl
+
+pub waits_step : (e : Entry) (past : List Entry) (c : CallerId) → waits_ended (e ∷ past) c ≡ waits_ended past c ++ option_to_list (wait_ended past e c)
+unfolding waits_ended
+waits_step e past c = refl
+
+pub wait_signs_none : (c : CallerId) → wait_signs_by [] c ≡ []
+unfolding wait_signs_by
+wait_signs_none c = refl
+
+pub wait_signs_step : (e : Entry) (past : List Entry) (c : CallerId) → wait_signs_by (e ∷ past) c ≡ wait_signs_by past c ++ option_to_list (wait_sign_of past e c)
+unfolding wait_signs_by
+wait_signs_step e past c = refl

@@ -24,3 +24,10 @@ module _ {X : Type 0} (p : X → Bool) where
       let wide : flat_map g (range_with_len 0 (n + 1)) ≡ flat_map g (range_with_len 0 n) ++ g n =
       ap (flat_map g) (range_more n) ∙ flat_map-append g (range_with_len 0 n) (n ∷ []) ∙ ap (λ l. flat_map g (range_with_len 0 n) ++ l) (flat_map-cons g n [] ∙ append-nil (g n)) in
       more ∙ ap (λ l. l ++ filter p (g n)) so_far ∙ sym (ap (filter p) wide ∙ filter-append p (flat_map g (range_with_len 0 n)) (g n))
+
+-- what is made of each number of a range, one more
+pub flat_more : {X : Type 0} (f : ℕ → List X) (old before new : List X) (n : ℕ) → before ≡ old ++ flat_map f (range_with_len 0 n) → new ≡ before ++ f n → new ≡ old ++ flat_map f (range_with_len 0 (n + 1))
+flat_more f old before new n so_far more =
+    let wide : flat_map f (range_with_len 0 (n + 1)) ≡ flat_map f (range_with_len 0 n) ++ f n =
+    ap (flat_map f) (range_more n) ∙ flat_map-append f (range_with_len 0 n) (n ∷ []) ∙ ap (λ l. flat_map f (range_with_len 0 n) ++ l) (flat_map-cons f n [] ∙ append-nil (f n)) in
+    more ∙ ap (λ l. l ++ f n) so_far ∙ append_assoc old (flat_map f (range_with_len 0 n)) (f n) ∙ ap (λ l. old ++ l) (sym wide)

@@ -1,10 +1,10 @@
 -- Levels: how many queueings of a queue are open on a CPU, how many of them are active, and how wide the queue is, after each entry.
-use Rattle.std.specs.Prelude.{ℕ, ◌+◌, ◌-◌, ◌<◌, ◌==◌, ◌&&◌, Bool, not, if◌then◌else◌, List, [], ◌∷◌, ◌++◌, length, map, filter, count_by, flat_map, Option, Some, None, option_to_list, nat_lt}
+use Rattle.std.specs.Prelude.{ℕ, ◌+◌, ◌-◌, ◌*◌, ◌<◌, ◌==◌, ◌&&◌, Bool, not, if◌then◌else◌, List, [], ◌∷◌, ◌++◌, length, map, filter, count_by, flat_map, Option, Some, None, option_to_list, nat_lt}
 use Rattle.std.specs.List.{range_with_len, list_any}
 use Rattle.cmwq_model.specs.declared.entry.Entry.{Entry}
 use Rattle.cmwq_model.specs.declared.record.Place.{Place}
 use Rattle.cmwq_model.specs.declared.record.Queueing.{Queueing}
-use Rattle.cmwq_model.specs.Prelude.{Layout, most_cpus, same_place, still_open, is_active, width}
+use Rattle.cmwq_model.specs.Prelude.{Layout, most_cpus, most_queues, same_place, still_open, is_active, width}
 use Rattle.cmwq_chart.specs.declared.levels.Height.{Height}
 use Rattle.cmwq_chart.specs.declared.levels.Level.{Level}
 
@@ -20,6 +20,10 @@ place_on q c = record { queue = record { 0 = q }; cpu = record { 0 = c } }
 
 abbrev pub places_of_queue : Layout → ℕ → List Place
 places_of_queue s q = map (place_on q) (range_with_len 0 s.cpus)
+
+-- how many there may be
+abbrev pub most_places : ℕ
+most_places = most_cpus * most_queues
 
 unfoldable pub places_of : Layout → List Queueing → List Place
 places_of s queueings = filter (has_queueings queueings) (flat_map (places_of_queue s) (range_with_len 0 (length s.queues)))

@@ -2,7 +2,7 @@
 ghost use Rattle.std.specs.Prelude.{◌≡◌, ◌+◌, ◌<◌, ◌∷◌, length, take};
 ghost use Rattle.cmwq_model.specs.Prelude.{is_by, item_at, item_of, past_of, same_worker, start_in};
 
-use cmwq_model::{Call, Entry, ItemId, Number, Reply, Start, Who, WorkerId};
+use cmwq_model::{Call, CallerId, Entry, ItemId, Number, Reply, Start, Who, WorkerId};
 
 /// The entry with this number.
 #[tactic(auto, using(crate::proofs::Steps::past_step))]
@@ -13,7 +13,7 @@ pub(crate) fn entry_at(entries: &[Entry], number: usize) -> Entry
     entries[number]
 }
 
-fn item_of(entry: Entry) -> Option<u16>
+pub(crate) fn item_of(entry: Entry) -> Option<u16>
     ensures { result ≡ item_of entry }
 {
     match entry.call {
@@ -62,6 +62,16 @@ pub(crate) fn is_by(worker: WorkerId, entry: Entry) -> bool
     match entry.who {
         Who::Caller(_) => false,
         Who::Worker(other) => is_same(other, worker),
+    }
+}
+
+/// Whether the entry is this caller's.
+pub(crate) fn is_call_of(caller: CallerId, entry: Entry) -> bool
+    ensures { result ≡ is_by (Who.Caller caller) entry }
+{
+    match entry.who {
+        Who::Caller(other) => other.0 == caller.0,
+        Who::Worker(_) => false,
     }
 }
 

@@ -1,7 +1,7 @@
 //! Lanes: a row for each worker that has an entry.
 ghost use Rattle.std.specs.Prelude.{◌≡◌, ◌+◌, ◌*◌, ◌≤◌, ◌∷◌, ◌++◌, [], if◌then◌else◌, length, filter, map, IfOk, OnOk};
 ghost use Rattle.std.specs.List.{range_with_len};
-ghost use Rattle.cmwq_model.specs.Prelude.{cpu_workers, worker_at};
+ghost use Rattle.cmwq_model.specs.Prelude.{cpu_workers, most_workers, worker_at};
 ghost use Rattle.cmwq_chart.specs.Lanes as spec;
 
 use crate::entries::{is_by, is_same};
@@ -53,7 +53,7 @@ fn push_cpu(
     cpu: CpuId,
 ) -> Result<(), AllocError>
     ensures lanes { OnOk result (lanes.new.items ≡ lanes.old.items ++ filter (spec.has_entries entries.now) (cpu_workers shape.now cpu.0)) }
-    ensures few { OnOk result (length lanes.new.items ≤ length lanes.old.items + 16) }
+    ensures few { OnOk result (length lanes.new.items ≤ length lanes.old.items + 2 * most_workers) }
 {
     let workers = shape.counts().workers;
     push_pool(lanes, entries, PoolId { cpu, high: false }, workers)?;
@@ -69,7 +69,7 @@ pub fn lanes_of(
     entries: &[Entry],
 ) -> Result<Vec<WorkerId>, AllocError>
     ensures lanes { IfOk result (λ lanes. lanes.items ≡ spec.lanes_of shape.now entries.now) }
-    ensures few { IfOk result (λ lanes. length lanes.items ≤ 64) }
+    ensures few { IfOk result (λ lanes. length lanes.items ≤ spec.most_lanes) }
 {
     let mut lanes = Vec::new(alloc);
     for cpu in 0..shape.counts().cpus {

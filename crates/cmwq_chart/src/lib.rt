@@ -2,14 +2,22 @@
 #![tactic(auto)]
 
 mod bars;
+mod callers;
 mod entries;
 mod lanes;
 mod levels;
 mod places;
+mod shapes;
+mod signs;
 mod sleeps;
+mod waits;
 
 pub use bars::{Bar, bars_of};
+pub use callers::{callers_of, rows_above_caller, rows_of_callers};
 pub use lanes::{lanes_of, row_of};
 pub use levels::{Height, Level};
 pub use places::{places_of, row_of_place};
+pub use shapes::Shapes;
+pub use signs::{Sign, SignKind, signs_of};
 pub use sleeps::{Sleep, sleeps_of};
+pub use waits::{CallerLane, CallerShapes, CallerWait, WaitSign};

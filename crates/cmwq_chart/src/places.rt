@@ -1,7 +1,7 @@
 //! The queues on CPUs that have levels.
 ghost use Rattle.std.specs.Prelude.{◌≡◌, ◌+◌, ◌*◌, ◌<◌, ◌≤◌, ◌∷◌, ◌++◌, [], if◌then◌else◌, length, filter, IfOk, OnOk};
 ghost use Rattle.std.specs.List.{All};
-ghost use Rattle.cmwq_model.specs.Prelude.{same_place};
+ghost use Rattle.cmwq_model.specs.Prelude.{most_cpus, same_place};
 ghost use Rattle.cmwq_chart.specs.Levels as spec;
 
 use cmwq_model::{CpuId, Place, QueueId, Queueing, Shape};
@@ -44,7 +44,7 @@ fn push_queue(
     queue: u8,
 ) -> Result<(), AllocError>
     ensures places { OnOk result (places.new.items ≡ places.old.items ++ filter (spec.has_queueings queueings.now) (spec.places_of_queue shape.now queue)) }
-    ensures few { OnOk result (length places.new.items ≤ length places.old.items + 4) }
+    ensures few { OnOk result (length places.new.items ≤ length places.old.items + most_cpus) }
 {
     for cpu in 0..shape.counts().cpus {
         let place = Place {
@@ -64,7 +64,7 @@ pub fn places_of(
     queueings: &[Queueing],
 ) -> Result<Vec<Place>, AllocError>
     ensures places { IfOk result (λ places. places.items ≡ spec.places_of shape.now queueings.now) }
-    ensures few { IfOk result (λ places. length places.items ≤ 256) }
+    ensures few { IfOk result (λ places. length places.items ≤ spec.most_places) }
     ensures inside { IfOk result (λ places. All (spec.IsPlaceOf shape.now) places.items) }
 {
     // it shows that the queues are few

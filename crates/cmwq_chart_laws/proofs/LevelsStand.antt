@@ -42,7 +42,7 @@ unchanged n h g some is = same_height h g (by (is_same_height h g) (subst (λ b.
     by true k = refl
     by false k = cc
 
-changed_later : (n : ℕ) (h g : Height) → is_changed n h g ≡ true → 0 < n
+pub changed_later : (n : ℕ) (h g : Height) → is_changed n h g ≡ true → 0 < n
 changed_later n h g is = ltb-true 0 n (and_parts (nat_lt 0 n) (not (is_same_height h g)) is).0
 
 -- ---- from where on a level is as it is
@@ -63,7 +63,7 @@ stays_so s p (a ∷ after) e before h = here (λ k. stays_so s p after e before 
         let more = not_empty after e before in
         sym (unchanged (length (after ++ e ∷ before)) (height_at s (after ++ e ∷ before) p) (height_at s (a ∷ (after ++ e ∷ before)) p) (omega arith) is) ∙ earlier k
 
-from_within : (s : Layout) (past : List Entry) (p : Place) → level_from s past p ≤ length past - 1
+pub from_within : (s : Layout) (past : List Entry) (p : Place) → level_from s past p ≤ length past - 1
 unfolding level_from
 from_within s [] p = omega arith
 from_within s (a ∷ past) p = here (from_within s past p) (changes_level s past a p)
@@ -90,7 +90,7 @@ record IsOver (s : Layout) (past : List Entry) (l : Level) : Type 0 where
   within : last < length past
   is_true : IsTrueWhereItIs s past l
 
-over_by : (l : Level) (at last : ℕ) → Covers l at → l.to ≡ Some last → at ≤ last
+pub over_by : (l : Level) (at last : ℕ) → Covers l at → l.to ≡ Some last → at ≤ last
 over_by l at last covers is = subst (λ (o : Option ℕ). IfSome o (λ t. at ≤ t)) is covers.not_over
 
 -- whether it covers an entry is seen further down, as one more lies beyond it

@@ -3,4 +3,5 @@ pub mod OneBar
 pub mod Asleep
 pub mod Listed
 pub mod LevelsStand
+pub mod OneLevel
 pub mod UsedPlaces

@@ -37,6 +37,13 @@ abbrev pub PlacesHaveLevels : Type 0
 PlacesHaveLevels = (s : Layout) (past : List Entry) (places : List Place) (p : Place) → Contains places p
     → (e : Entry) (before : List Entry) → StandsIn past e before → HasLevelAt s past places p (length before)
 
+-- two levels of a place that cover the same entry are one
+abbrev pub AreOne : Level → Level → Type 0
+AreOne l m = (at : ℕ) → l.place ≡ m.place → Covers l at → Covers m at → l ≡ m
+
+abbrev pub LevelsAreAlone : Type 0
+LevelsAreAlone = (s : Layout) (past : List Entry) (places : List Place) → AllByRecursion (λ l. AllByRecursion (AreOne l) (levels_of s past places)) (levels_of s past places)
+
 -- the places that are shown are those of all queueings
 abbrev pub UsedPlacesAreShown : Type 0
 UsedPlacesAreShown = OfLegal (λ s past. AllByRecursion (λ (x : Queueing). Contains (places_of s (queueings past)) x.place) (queueings past))

@@ -1,6 +1,6 @@
 //! What levels are, in every history.
 
-ghost use Rattle.cmwq_chart_laws.specs.LevelLaws.{LevelsAreTrue, PlacesHaveLevels, UsedPlacesAreShown};
+ghost use Rattle.cmwq_chart_laws.specs.LevelLaws.{LevelsAreAlone, LevelsAreTrue, PlacesHaveLevels, UsedPlacesAreShown};
 
 /// In any history a level says what is open and active of its queue on its CPU, and how wide the queue is, after each entry that it covers.
 pub fn levels_are_true()
@@ -10,6 +10,11 @@ pub fn levels_are_true()
 /// Each place whose levels are asked for has one that covers an entry, whichever it is.
 pub fn places_have_levels()
     ensures { PlacesHaveLevels }
+{}
+
+/// Of a place one level alone covers an entry, whichever it is.
+pub fn levels_are_alone()
+    ensures { LevelsAreAlone }
 {}
 
 /// In a legal history the place of each queueing is one of those that are shown.

@@ -1,5 +1,6 @@
 -- How many queueings of a place are open and active.
-use Rattle.std.proofs.Common.{◌≡◌, ℕ, ◌+◌, ◌*◌, ◌<◌, ◌≤◌, Bool, true, false, cond, ◌==◌, ◌&&◌, List, [], ◌∷◌, ◌++◌, length, filter, count_by, Option, Some, None, option_to_list, refl, sym, ap, ap₂, ◌∙◌, subst, arith}
+use Rattle.cmwq_model.specs.Prelude.{most_cpus}
+use Rattle.std.proofs.Common.{◌≡◌, ℕ, ◌+◌, ◌*◌, ◌≤◌, Bool, true, false, cond, ◌==◌, ◌&&◌, List, [], ◌∷◌, length, filter, count_by, Option, Some, None, option_to_list, refl, sym, ap, ap₂, ◌∙◌, arith}
 use Rattle.std.specs.Prelude.{slice_index}
 use Rattle.std.proofs.lemmas.List.Sums.{count_by-le-length}
 use Rattle.std.proofs.lemmas.List.Filters.{sum_by-filter_both}
@@ -7,7 +8,7 @@ use Rattle.cmwq_lemmas.proofs.Lists.{count_by-cons, count_by-filter, count_appen
 use Rattle.cmwq_model.specs.declared.entry.Entry.{Entry}
 use Rattle.cmwq_model.specs.declared.record.Place.{Place}
 use Rattle.cmwq_model.specs.declared.record.Queueing.{Queueing}
-use Rattle.cmwq_model.specs.Prelude.{Layout, IsLegal, opening, queueings, still_open, is_active}
+use Rattle.cmwq_model.specs.Prelude.{Layout, IsLegal, opening, still_open, is_active}
 use Rattle.cmwq_theory_steps.specs.Endings.{survives, is_ended, ending}
 use Rattle.cmwq_theory_steps.specs.Histories.{one}
 use Rattle.cmwq_theory_steps.specs.Places.{is_on}
@@ -56,7 +57,7 @@ is_on_is : (p : Place) (x : Queueing) → is_of_place p x ≡ is_on p.queue.0 p.
 is_on_is p x = ap₂ (λ a b. a && b) (eqb-swap p.queue.0 x.place.queue.0) (eqb-swap p.cpu.0 x.place.cpu.0)
 
 pub active_count_is : (s : Layout) (past : List Entry) (counts : List ℕ) (p : Place) → IsPlaceOf s p → AreActiveCounts s past counts
-    → slice_index counts (4 * p.queue.0 + p.cpu.0) ≡ active_at s past p
+    → slice_index counts (most_cpus * p.queue.0 + p.cpu.0) ≡ active_at s past p
 active_count_is s past counts p inside are =
     are.each p.queue.0 p.cpu.0 inside.0 inside.1
     ∙ sym (count_by-filter (is_active_at s past p) (is_on p.queue.0 p.cpu.0) (is_active s past) (still_open past) (λ x. ap (λ b. b && is_active s past x) (is_on_is p x)))

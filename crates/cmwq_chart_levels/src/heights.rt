@@ -9,7 +9,7 @@ ghost use Rattle.cmwq_chart_levels.specs.Turns.{IsFollowed, is_one_of_place};
 use crate::steps::Change;
 use cmwq_chart::Height;
 use cmwq_core::Execution;
-use cmwq_model::{Entry, Place, Queueing};
+use cmwq_model::{Entry, MOST_CPUS, Place, Queueing};
 
 /// Whether there is a queueing, and it is of this place.
 fn is_of_place(place: Place, queueing: Option<Queueing>) -> bool
@@ -62,7 +62,8 @@ fn active_at(execution: &Execution, place: Place) -> u32
     requires { spec.IsPlaceOf execution.now.layout place }
     ensures { result ≡ spec.active_at execution.now.layout (past_in execution.now) place }
 {
-    execution.active_counts()[4 * usize::from(place.queue.0) + usize::from(place.cpu.0)]
+    let cpus = usize::from(MOST_CPUS);
+    execution.active_counts()[cpus * usize::from(place.queue.0) + usize::from(place.cpu.0)]
 }
 
 /// The height of a place after an entry behind these, of which that before it is known.

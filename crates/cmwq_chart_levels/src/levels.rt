@@ -118,9 +118,40 @@ fn first_levels(
     Ok(levels)
 }
 
+/// The levels of these places in a legal history that an execution without entries makes. So the execution is let go at one place alone.
+fn levels_along(
+    alloc: Global,
+    execution: &mut Execution,
+    entries: &[Entry],
+    places: &[Place],
+) -> Result<Vec<Level>, NoMemory>
+    requires empty { execution.old.entries ≡ [] }
+    requires short { length entries.now ≤ 1073741824 }
+    requires legal { IsLegal execution.old.layout (past_of entries.now) }
+    requires inside { All (spec.IsPlaceOf execution.old.layout) places.now }
+    ensures { IfOk result (λ levels. levels.items ≡ spec.levels_of execution.old.layout (past_of entries.now) places.now) }
+{
+    let mut running = first_levels(alloc, execution, places)?;
+    let mut levels = Vec::new(alloc);
+    for k in 0..entries.len() {
+        let entry = entry_at(entries, k);
+        let change = follow(execution, entry)?;
+        turn(
+            &mut levels,
+            &mut running,
+            execution,
+            &change,
+            &entries[..k],
+            entry,
+        )?;
+    }
+    levels.extend_from_slice(&running)?;
+    Ok(levels)
+}
+
 /// The levels of these places in a legal history: those that an entry ends, in the order of these, and then those that go on at the end. The
 /// error says that memory ran out.
-pub fn levels_of(
+pub(crate) fn levels_of(
     alloc: Global,
     shape: &Shape,
     entries: &[Entry],
@@ -132,20 +163,5 @@ pub fn levels_of(
     ensures { IfOk result (λ levels. levels.items ≡ spec.levels_of shape.now (past_of entries.now) places.now) }
 {
     let mut execution = Execution::new(alloc, shape, ALL_ROOM)?;
-    let mut running = first_levels(alloc, &execution, places)?;
-    let mut levels = Vec::new(alloc);
-    for k in 0..entries.len() {
-        let entry = entry_at(entries, k);
-        let change = follow(&mut execution, entry)?;
-        turn(
-            &mut levels,
-            &mut running,
-            &execution,
-            &change,
-            &entries[..k],
-            entry,
-        )?;
-    }
-    levels.extend_from_slice(&running)?;
-    Ok(levels)
+    levels_along(alloc, &mut execution, entries, places)
 }

@@ -1,10 +1,10 @@
-//! Levels: what is open and active of each queue on each CPU, found by executing a legal history again.
+//! The shapes of a legal history; its levels, what is open and active of each queue on each CPU, are found by executing it again.
 #![tactic(auto)]
 
 mod heights;
 mod levels;
 mod queueings;
+mod shapes;
 mod steps;
 
-pub use levels::levels_of;
-pub use queueings::queueings_of;
+pub use shapes::shapes_of;

@@ -1,5 +1,5 @@
 //! The queueings of a history.
-ghost use Rattle.std.specs.Prelude.{◌≡◌, ◌≤◌, ◌++◌, length, option_to_list, IfOk, OnOk};
+ghost use Rattle.std.specs.Prelude.{◌≡◌, ◌≤◌, ◌++◌, [], length, option_to_list, IfOk, OnOk};
 ghost use Rattle.cmwq_model.specs.Prelude.{IsLegal, past_of};
 ghost use Rattle.cmwq_model.specs.Queueings as spec;
 
@@ -20,8 +20,26 @@ fn keep(queueings: &mut Vec<Queueing>, queueing: Option<Queueing>) -> Result<(),
     Ok(())
 }
 
+/// The queueings of a legal history that an execution without entries makes. So the execution is let go at one place alone.
+fn queueings_along(
+    alloc: Global,
+    execution: &mut Execution,
+    entries: &[Entry],
+) -> Result<Vec<Queueing>, NoMemory>
+    requires empty { execution.old.entries ≡ [] }
+    requires legal { IsLegal execution.old.layout (past_of entries.now) }
+    ensures { IfOk result (λ queueings. queueings.items ≡ spec.queueings (past_of entries.now)) }
+{
+    let mut queueings = Vec::new(alloc);
+    for k in 0..entries.len() {
+        let change = follow(execution, entry_at(entries, k))?;
+        keep(&mut queueings, change.opened)?;
+    }
+    Ok(queueings)
+}
+
 /// All queueings of a legal history, in their order. The error says that memory ran out.
-pub fn queueings_of(
+pub(crate) fn queueings_of(
     alloc: Global,
     shape: &Shape,
     entries: &[Entry],
@@ -30,10 +48,5 @@ pub fn queueings_of(
     ensures { IfOk result (λ queueings. queueings.items ≡ spec.queueings (past_of entries.now)) }
 {
     let mut execution = Execution::new(alloc, shape, ALL_ROOM)?;
-    let mut queueings = Vec::new(alloc);
-    for k in 0..entries.len() {
-        let change = follow(&mut execution, entry_at(entries, k))?;
-        keep(&mut queueings, change.opened)?;
-    }
-    Ok(queueings)
+    queueings_along(alloc, &mut execution, entries)
 }

@@ -1,59 +1,83 @@
--- What one character more of a template adds to its text.
-use Rattle.std.proofs.Common.{◌≡◌, ℕ, ◌+◌, ◌<◌, List, [], ◌∷◌, ◌++◌, length, get_or, take, drop, Option, if◌then◌else◌, refl, sym, ap, ◌∙◌, subst, append_assoc, append-nil, arith, add-one, drop-cons, take-append-drop}
-use Rattle.std.proofs.Math.Seq.{take-suc}
-use Rattle.std.specs.Prelude.{slice_index_or}
-use Rattle.std.specs.Io.KnownBytes.{Appends}
-use Rattle.cmwq_io.specs.Moves.{AppendsFront}
-use Rattle.cmwq_base.proofs.Fronts.{front_behind}
-use Rattle.cmwq_chart_text.specs.Filled.{is_hole, piece, filled_from, filled}
+-- A template is the characters before its first hole, that hole, and a template again.
+use Rattle.std.proofs.Common.{◌≡◌, ℕ, ◌+◌, ◌<◌, ◌≤◌, ◌==◌, ◌||◌, suc, Bool, true, false, List, [], ◌∷◌, ◌++◌, length, get_or, take, drop, append-nil, ◌-◌, add-one, drop-cons, if◌then◌else◌, refl, sym, ap, ap₂, ◌∙◌, arith}
+use Rattle.std.specs.Prelude.{slice_index_or, decimal, ◌%◌}
+use Rattle.std.proofs.lemmas.List.{length-drop}
+use Rattle.std.proofs.Math.ListN.{drop_of_length-le}
+use Rattle.std.proofs.Math.Seq.{take-length}
+use Rattle.cmwq_chart_text.specs.Filled.{is_hole, piece, filled_from, plain_length}
 
--- how many numbers a character takes, and the characters of a template
-abbrev pub taken : ℕ → ℕ
-taken c = if is_hole c then 1 else 0
+of_others : (x y : Bool) (a b c : List ℕ) → (x || y) ≡ false → (if x then a else if y then b else c) ≡ c
+of_others true y a b c h = cc
+of_others false true a b c h = cc
+of_others false false a b c h = refl
 
-unfoldable pub holes : List ℕ → ℕ
-holes [] = 0
-holes (c ∷ template) = taken c + holes template
+plain_piece : (c n : ℕ) → is_hole c ≡ false → piece c n ≡ c ∷ []
+plain_piece c n h = of_others (c == 36) (c == 126) (decimal n) (n % 256 ∷ []) (c ∷ []) h
 
-holes_append : (a b : List ℕ) → holes (a ++ b) ≡ holes a + holes b
-unfolding holes
-holes_append [] b = omega arith
-holes_append (c ∷ a) b = omega (arith, holes_append a b)
+pub plain_front : (template numbers : List ℕ) (k : ℕ) → filled_from template numbers k ≡ take (plain_length template) template ++ filled_from (drop (plain_length template) template) numbers k
+unfolding filled_from plain_length
+plain_front [] numbers k = refl
+plain_front (c ∷ template) numbers k = here (plain_front template numbers k) (is_hole c) refl
+  where
+    here : filled_from template numbers k ≡ take (plain_length template) template ++ filled_from (drop (plain_length template) template) numbers k → (b : Bool) → is_hole c ≡ b
+        → piece c (slice_index_or numbers k 0) ++ filled_from template numbers (k + (if is_hole c then 1 else 0))
+        ≡ take (if b then 0 else 1 + plain_length template) (c ∷ template) ++ filled_from (drop (if b then 0 else 1 + plain_length template) (c ∷ template)) numbers k
+    here later true is = refl
+    here later false is =
+        let one_more : suc (plain_length template) ≡ 1 + plain_length template = omega arith in
+        let same : k + (if is_hole c then 1 else 0) ≡ k = ap (λ b. k + (if b then 1 else 0)) is ∙ omega arith in
+        ap₂ (λ l j. l ++ filled_from template numbers j) (plain_piece c (slice_index_or numbers k 0) is) same
+        ∙ ap (λ l. c ∷ l) later
+        ∙ ap (λ j. take j (c ∷ template) ++ filled_from (drop j (c ∷ template)) numbers k) one_more
 
-filled_append : (a b numbers : List ℕ) (k j : ℕ) → k + holes a ≡ j → filled_from (a ++ b) numbers k ≡ filled_from a numbers k ++ filled_from b numbers j
-unfolding filled_from holes
-filled_append [] b numbers k j h = let same : k ≡ j = omega arith in ap (filled_from b numbers) same
-filled_append (c ∷ a) b numbers k j h =
-    ap (λ l. piece c (slice_index_or numbers k 0) ++ l) (filled_append a b numbers (k + taken c) j (omega arith))
-    ∙ sym (append_assoc (piece c (slice_index_or numbers k 0)) (filled_from a numbers (k + taken c)) (filled_from b numbers j))
+pub hole_first : (template others : List ℕ) (h : ℕ) → drop (plain_length template) template ≡ h ∷ others → is_hole h ≡ true
+unfolding plain_length
+hole_first [] others h is = cc
+hole_first (c ∷ template) others h is = here (λ k. hole_first template others h k) (is_hole c) refl is
+  where
+    here : (drop (plain_length template) template ≡ h ∷ others → is_hole h ≡ true) → (b : Bool) → is_hole c ≡ b → drop (if b then 0 else 1 + plain_length template) (c ∷ template) ≡ h ∷ others → is_hole h ≡ true
+    here later true holds k = let same : c ≡ h = cc in ap is_hole (sym same) ∙ holds
+    here later false not k =
+        let one_more : suc (plain_length template) ≡ 1 + plain_length template = omega arith in
+        later (ap (λ j. drop j (c ∷ template)) one_more ∙ k)
 
-longer : (template : List ℕ) (i d : ℕ) → i < length template → take (i + 1) template ≡ take i template ++ (get_or template i d ∷ [])
-longer template i d h = rw add-one (take-suc template i d h)
-
-parts : (template : List ℕ) (i d : ℕ) → i < length template → template ≡ take i template ++ (get_or template i d ∷ drop (i + 1) template)
-parts template i d h = sym (take-append-drop i template) ∙ ap (λ l. take i template ++ l) (rw (add-one, drop-cons template i d) refl)
-
-pub holes_more : (template : List ℕ) (i d : ℕ) → i < length template → holes (take (i + 1) template) ≡ holes (take i template) + taken (get_or template i d)
-unfolding holes
-holes_more template i d h = ap holes (longer template i d h) ∙ holes_append (take i template) (get_or template i d ∷ []) ∙ omega arith
-
-pub filled_more : (template numbers : List ℕ) (i d : ℕ) → i < length template → filled (take (i + 1) template) numbers ≡ filled (take i template) numbers ++ piece (get_or template i d) (slice_index_or numbers (holes (take i template)) 0)
+pub hole_filled : (others numbers : List ℕ) (h k : ℕ) → is_hole h ≡ true → filled_from (h ∷ others) numbers k ≡ piece h (slice_index_or numbers k 0) ++ filled_from others numbers (k + 1)
 unfolding filled_from
-filled_more template numbers i d h =
-    let c : ℕ = get_or template i d in
-    let k : ℕ = holes (take i template) in
-    ap (λ l. filled l numbers) (longer template i d h)
-    ∙ filled_append (take i template) (c ∷ []) numbers 0 k (omega arith)
-    ∙ ap (λ l. filled (take i template) numbers ++ l) (append-nil (piece c (slice_index_or numbers k 0)))
+hole_filled others numbers h k is = ap (λ b. piece h (slice_index_or numbers k 0) ++ filled_from others numbers (k + (if b then 1 else 0))) is
 
--- a front of a character's text, behind all before it, is a front of the whole
-pub filled_front : (template numbers : List ℕ) (i d : ℕ) (a b c : Option (List ℕ)) → i < length template → Appends a b (filled (take i template) numbers)
-    → AppendsFront b c (piece (get_or template i d) (slice_index_or numbers (holes (take i template)) 0)) → AppendsFront a c (filled template numbers)
+pub none_filled : (numbers : List ℕ) (k : ℕ) → filled_from [] numbers k ≡ []
 unfolding filled_from
-filled_front template numbers i d a b c h before front =
-    let ch : ℕ = get_or template i d in
-    let k : ℕ = holes (take i template) in
-    let rest : List ℕ = filled_from (drop (i + 1) template) numbers (k + taken ch) in
-    let whole : filled template numbers ≡ filled (take i template) numbers ++ (piece ch (slice_index_or numbers k 0) ++ rest) =
-    ap (λ l. filled l numbers) (parts template i d h) ∙ filled_append (take i template) (ch ∷ drop (i + 1) template) numbers 0 k (omega arith) in
-    subst (AppendsFront a c) (sym whole) (front_behind a b c (filled (take i template) numbers) (piece ch (slice_index_or numbers k 0)) rest before front)
+none_filled numbers k = refl
+
+-- one character more before the first hole
+drop_at : (template : List ℕ) (k d : ℕ) → k < length template → drop k template ≡ get_or template k d ∷ drop (k + 1) template
+drop_at template k d h = rw (add-one, drop-cons template k d) refl
+
+pub plain_at : (template : List ℕ) (k d : ℕ) → k < length template → plain_length (drop k template) ≡ (if is_hole (get_or template k d) then 0 else 1 + plain_length (drop (k + 1) template))
+unfolding plain_length
+plain_at template k d h = ap plain_length (drop_at template k d h)
+
+pub plain_end : (template : List ℕ) (k : ℕ) → length template ≤ k → plain_length (drop k template) ≡ 0
+unfolding plain_length
+plain_end template k h = ap plain_length (drop_of_length-le template h)
+
+-- the parts of a template whose first hole, or whose end, is at p
+module _ (template numbers : List ℕ) (k p : ℕ) (is : p ≡ plain_length template) where
+  pub front_parts : filled_from template numbers k ≡ take p template ++ filled_from (drop p template) numbers k
+  front_parts = plain_front template numbers k ∙ ap (λ j. take j template ++ filled_from (drop j template) numbers k) (sym is)
+
+  pub all_plain : length template ≤ p → filled_from template numbers k ≡ take p template
+  all_plain h = front_parts ∙ ap (λ l. take p template ++ filled_from l numbers k) (drop_of_length-le template h) ∙ ap (λ l. take p template ++ l) (none_filled numbers k) ∙ append-nil (take p template)
+
+  pub hole_there : p < length template → is_hole (get_or template p 0) ≡ true
+  hole_there h = hole_first template (drop (p + 1) template) (get_or template p 0) (ap (λ j. drop j template) (sym is) ∙ drop_at template p 0 h)
+
+  pub hole_parts : (rest : List ℕ) → p < length template → rest ≡ drop (p + 1) template
+      → filled_from template numbers k ≡ take p template ++ (piece (get_or template p 0) (slice_index_or numbers k 0) ++ filled_from rest numbers (k + 1))
+  hole_parts rest h same =
+      front_parts ∙ ap (λ l. take p template ++ filled_from l numbers k) (drop_at template p 0 h)
+      ∙ ap (λ l. take p template ++ l) (hole_filled (drop (p + 1) template) numbers (get_or template p 0) k (hole_there h))
+      ∙ ap (λ l. take p template ++ (piece (get_or template p 0) (slice_index_or numbers k 0) ++ filled_from l numbers (k + 1))) (sym same)
+
+pub rest_taken : (template : List ℕ) (j : ℕ) → take (length template - j) (drop j template) ≡ drop j template
+rest_taken template j = ap (λ n. take n (drop j template)) (sym (length-drop j template)) ∙ take-length (drop j template)

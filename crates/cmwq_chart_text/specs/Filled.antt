@@ -15,3 +15,8 @@ filled_from (c ∷ template) numbers k = piece c (slice_index_or numbers k 0) ++
 
 abbrev pub filled : List ℕ → List ℕ → List ℕ
 filled template numbers = filled_from template numbers 0
+
+-- how many characters stand before the first hole
+unfoldable pub plain_length : List ℕ → ℕ
+plain_length [] = 0
+plain_length (c ∷ template) = if is_hole c then 0 else 1 + plain_length template

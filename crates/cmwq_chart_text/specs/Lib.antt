@@ -3,6 +3,9 @@ pub mod Pages
 pub mod Spans
 pub mod BarText
 pub mod SleepText
+pub mod WaitText
+pub mod SignText
+pub mod CallerText
 pub mod LevelText
 pub mod FrameText
 pub mod PictureText

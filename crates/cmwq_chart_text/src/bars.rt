@@ -3,6 +3,7 @@ ghost use Rattle.std.specs.Prelude.{◌≡◌, ◌+◌, ◌≤◌, OnOk, OnErr, 
 ghost use Rattle.std.specs.Io.KnownBytes.{Appends};
 ghost use Rattle.cmwq_io.specs.Counts.{Rises};
 ghost use Rattle.cmwq_io.specs.Moves.{AppendsFront};
+ghost use Rattle.cmwq_chart.specs.Lanes.{most_lanes};
 ghost use Rattle.cmwq_chart_text.specs.BarText as spec;
 
 use crate::filled::write_filled;
@@ -49,7 +50,7 @@ fn is_labelled(width: u64, item: u64) -> bool
 /// What the template of a bar is filled with.
 fn bar_numbers(page: &Page, lanes: &[WorkerId], bar: &Bar, band: u64) -> [u64; 16]
     requires band { band ≤ 4294967296 }
-    requires few { length lanes.now ≤ 64 }
+    requires few { length lanes.now ≤ most_lanes }
     ensures { result ≡ spec.bar_numbers page.now lanes.now bar.now band }
 {
     let item = u64::from(bar.item.0);
@@ -85,7 +86,7 @@ fn write_bar_in_band<W: Sink>(
     band: u64,
 ) -> Result<(), WriteFault>
     requires band { band ≤ 4294967296 }
-    requires few { length lanes.now ≤ 64 }
+    requires few { length lanes.now ≤ most_lanes }
     ensures ok { OnOk result (Appends (W.written sink.old) (W.written sink.new) (spec.bar_in_band page.now lanes.now bar.now band)) }
     ensures err { OnErr result (AppendsFront (W.written sink.old) (W.written sink.new) (spec.bar_in_band page.now lanes.now bar.now band)) }
     ensures grown { W.troubles sink.old ≤ W.troubles sink.new }
@@ -106,7 +107,7 @@ fn write_bar_in_bands<W: Sink>(
     end: u64,
 ) -> Result<(), WriteFault>
     requires end { end ≤ 4294967296 }
-    requires few { length lanes.now ≤ 64 }
+    requires few { length lanes.now ≤ most_lanes }
     ensures ok { OnOk result (Appends (W.written sink.old) (W.written sink.new) (spec.bar_in_bands page.now lanes.now bar.now from end)) }
     ensures err { OnErr result (AppendsFront (W.written sink.old) (W.written sink.new) (spec.bar_in_bands page.now lanes.now bar.now from end)) }
     ensures grown { W.troubles sink.old ≤ W.troubles sink.new }
@@ -126,7 +127,7 @@ fn write_bar<W: Sink>(
     lanes: &[WorkerId],
     bar: &Bar,
 ) -> Result<(), WriteFault>
-    requires { length lanes.now ≤ 64 }
+    requires { length lanes.now ≤ most_lanes }
     ensures ok { OnOk result (Appends (W.written sink.old) (W.written sink.new) (spec.bar_text page.now lanes.now bar.now)) }
     ensures err { OnErr result (AppendsFront (W.written sink.old) (W.written sink.new) (spec.bar_text page.now lanes.now bar.now)) }
     ensures grown { W.troubles sink.old ≤ W.troubles sink.new }
@@ -143,7 +144,7 @@ pub(crate) fn write_bars<W: Sink>(
     lanes: &[WorkerId],
     bars: &[Bar],
 ) -> Result<(), WriteFault>
-    requires { length lanes.now ≤ 64 }
+    requires { length lanes.now ≤ most_lanes }
     ensures ok { OnOk result (Appends (W.written sink.old) (W.written sink.new) (spec.bars_text page.now lanes.now bars.now)) }
     ensures err { OnErr result (AppendsFront (W.written sink.old) (W.written sink.new) (spec.bars_text page.now lanes.now bars.now)) }
     ensures grown { W.troubles sink.old ≤ W.troubles sink.new }

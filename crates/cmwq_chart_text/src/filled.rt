@@ -1,23 +1,30 @@
 //! Texts with numbers in them.
-ghost use Rattle.std.specs.Prelude.{◌≡◌, ◌+◌, ◌≤◌, OnOk, OnErr, if◌then◌else◌, length, slice_index_or};
+ghost use Rattle.std.specs.Prelude.{◌≡◌, ◌+◌, ◌≤◌, OnOk, OnErr, IsTrue, length, slice_index_or};
 ghost use Rattle.std.specs.Io.KnownBytes.{Appends};
 ghost use Rattle.cmwq_io.specs.Counts.{Rises};
 ghost use Rattle.cmwq_io.specs.Moves.{AppendsFront};
-ghost use Rattle.cmwq_chart_text.specs.Filled.{is_hole, piece, filled};
+ghost use Rattle.cmwq_chart_text.specs.Filled.{is_hole, piece, filled, filled_from, plain_length};
 
 use cmwq_base::{Sink, WriteFault, write_all};
 use itoa::Buffer;
 
-/// How many numbers a character of a template takes.
-fn taken(character: u8) -> usize
-    ensures taken { result ≡ (if is_hole character then 1 else 0) }
-    ensures few { result ≤ 1 }
+fn is_hole(character: u8) -> bool
+    ensures { result ≡ is_hole character }
 {
-    if character == b'$' || character == b'~' {
-        1
-    } else {
-        0
+    character == b'$' || character == b'~'
+}
+
+/// How many characters of a template stand before its first hole.
+fn plain_length(template: &[u8]) -> usize
+    ensures length { result ≡ plain_length template.now }
+    ensures within { result ≤ length template.now }
+{
+    for k in 0..template.len() {
+        if is_hole(template[k]) {
+            return k;
+        }
     }
+    template.len()
 }
 
 /// The number that is the next, or 0 behind the last.
@@ -30,34 +37,41 @@ fn number_at(numbers: &[u64], next: usize) -> u64
     }
 }
 
-fn write_piece<W: Sink>(sink: &mut W, character: u8, number: u64) -> Result<(), WriteFault>
-    ensures ok { OnOk result (Appends (W.written sink.old) (W.written sink.new) (piece character number)) }
-    ensures err { OnErr result (AppendsFront (W.written sink.old) (W.written sink.new) (piece character number)) }
+/// Writes the number that stands for a hole.
+fn write_number<W: Sink>(sink: &mut W, hole: u8, number: u64) -> Result<(), WriteFault>
+    requires { IsTrue (is_hole hole) }
+    ensures ok { OnOk result (Appends (W.written sink.old) (W.written sink.new) (piece hole number)) }
+    ensures err { OnErr result (AppendsFront (W.written sink.old) (W.written sink.new) (piece hole number)) }
     ensures grown { W.troubles sink.old ≤ W.troubles sink.new }
     ensures fault { OnErr result (Rises (W.troubles sink.old) (W.troubles sink.new)) }
 {
-    match character {
-        b'$' => write_all(sink, Buffer::new().format(number).as_bytes()),
-        b'~' => write_all(sink, &[(number % 256) as u8]),
-        _ => write_all(sink, &[character]),
+    if hole == b'$' {
+        write_all(sink, Buffer::new().format(number).as_bytes())
+    } else {
+        write_all(sink, &[(number % 256) as u8])
     }
 }
 
-fn write_characters<W: Sink>(
+/// Writes a template whose first hole stands for the number at a place, and the others for those behind it.
+fn write_from<W: Sink>(
     sink: &mut W,
     template: &[u8],
     numbers: &[u64],
+    next: usize,
 ) -> Result<(), WriteFault>
-    ensures ok { OnOk result (Appends (W.written sink.old) (W.written sink.new) (filled template.now numbers.now)) }
-    ensures err { OnErr result (AppendsFront (W.written sink.old) (W.written sink.new) (filled template.now numbers.now)) }
+    requires { next + length template.now ≤ 9223372036854775807 }
+    ensures ok { OnOk result (Appends (W.written sink.old) (W.written sink.new) (filled_from template.now numbers.now next)) }
+    ensures err { OnErr result (AppendsFront (W.written sink.old) (W.written sink.new) (filled_from template.now numbers.now next)) }
     ensures grown { W.troubles sink.old ≤ W.troubles sink.new }
     ensures fault { OnErr result (Rises (W.troubles sink.old) (W.troubles sink.new)) }
 {
-    let mut next = 0;
-    for character in template {
-        write_piece(sink, *character, number_at(numbers, next))?;
-        next += taken(*character);
+    let plain = plain_length(template);
+    write_all(sink, &template[..plain])?;
+    if plain == template.len() {
+        return Ok(());
     }
+    write_number(sink, template[plain], number_at(numbers, next))?;
+    write_from(sink, &template[plain + 1..], numbers, next + 1)?;
     Ok(())
 }
 
@@ -72,5 +86,5 @@ pub(crate) fn write_filled<W: Sink>(
     ensures grown { W.troubles sink.old ≤ W.troubles sink.new }
     ensures fault { OnErr result (Rises (W.troubles sink.old) (W.troubles sink.new)) }
 {
-    write_characters(sink, template.as_bytes(), numbers)
+    write_from(sink, template.as_bytes(), numbers, 0)
 }

@@ -3,6 +3,7 @@ ghost use Rattle.std.specs.Prelude.{◌≡◌, ◌+◌, ◌<◌, ◌≤◌, OnOk
 ghost use Rattle.std.specs.Io.KnownBytes.{Appends};
 ghost use Rattle.cmwq_io.specs.Counts.{Rises};
 ghost use Rattle.cmwq_io.specs.Moves.{AppendsFront};
+ghost use Rattle.cmwq_chart.specs.Levels.{most_places};
 ghost use Rattle.cmwq_chart_text.specs.LevelText as spec;
 
 use crate::filled::write_filled;
@@ -30,7 +31,7 @@ fn level_template() -> &'static str
 #[tactic(auto, unfolding(crate::specs::LevelText::level_base))]
 fn level_base(page: &Page, places: &[Place], band: u64, place: Place) -> u64
     requires band { band ≤ 4294967296 }
-    requires few { length places.now ≤ 256 }
+    requires few { length places.now ≤ most_places }
     ensures base { result ≡ spec.level_base page.now places.now band place }
     ensures within { result ≤ 20000000000000000 }
 {
@@ -70,7 +71,7 @@ fn level_height(scale: u32, count: u32) -> u64
 /// What the template of a place's name is filled with.
 fn place_numbers(page: &Page, places: &[Place], scale: u32, band: u64, place: Place) -> [u64; 6]
     requires band { band ≤ 4294967296 }
-    requires few { length places.now ≤ 256 }
+    requires few { length places.now ≤ most_places }
     ensures { result ≡ spec.place_numbers page.now places.now scale band place }
 {
     let base = level_base(page, places, band, place);
@@ -93,7 +94,7 @@ fn write_places_in_band<W: Sink>(
     band: u64,
 ) -> Result<(), WriteFault>
     requires band { band ≤ 4294967296 }
-    requires few { length places.now ≤ 256 }
+    requires few { length places.now ≤ most_places }
     ensures ok { OnOk result (Appends (W.written sink.old) (W.written sink.new) (spec.places_in_band page.now places.now scale band)) }
     ensures err { OnErr result (AppendsFront (W.written sink.old) (W.written sink.new) (spec.places_in_band page.now places.now scale band)) }
     ensures grown { W.troubles sink.old ≤ W.troubles sink.new }
@@ -115,7 +116,7 @@ fn write_places_in_bands<W: Sink>(
     end: u64,
 ) -> Result<(), WriteFault>
     requires end { end ≤ 4294967296 }
-    requires few { length places.now ≤ 256 }
+    requires few { length places.now ≤ most_places }
     ensures ok { OnOk result (Appends (W.written sink.old) (W.written sink.new) (spec.places_in_bands page.now places.now scale end)) }
     ensures err { OnErr result (AppendsFront (W.written sink.old) (W.written sink.new) (spec.places_in_bands page.now places.now scale end)) }
     ensures grown { W.troubles sink.old ≤ W.troubles sink.new }
@@ -130,7 +131,7 @@ fn write_places_in_bands<W: Sink>(
 /// What the template of a level is filled with.
 fn level_numbers(page: &Page, places: &[Place], scale: u32, level: &Level, band: u64) -> [u64; 18]
     requires band { band ≤ 4294967296 }
-    requires few { length places.now ≤ 256 }
+    requires few { length places.now ≤ most_places }
     requires scale { 0 < scale }
     ensures { result ≡ spec.level_numbers page.now places.now scale level.now band }
 {
@@ -171,7 +172,7 @@ fn write_level_in_band<W: Sink>(
     band: u64,
 ) -> Result<(), WriteFault>
     requires band { band ≤ 4294967296 }
-    requires few { length places.now ≤ 256 }
+    requires few { length places.now ≤ most_places }
     requires scale { 0 < scale }
     ensures ok { OnOk result (Appends (W.written sink.old) (W.written sink.new) (spec.level_in_band page.now places.now scale level.now band)) }
     ensures err { OnErr result (AppendsFront (W.written sink.old) (W.written sink.new) (spec.level_in_band page.now places.now scale level.now band)) }
@@ -193,7 +194,7 @@ fn write_level_in_bands<W: Sink>(
     end: u64,
 ) -> Result<(), WriteFault>
     requires end { end ≤ 4294967296 }
-    requires few { length places.now ≤ 256 }
+    requires few { length places.now ≤ most_places }
     requires scale { 0 < scale }
     ensures ok { OnOk result (Appends (W.written sink.old) (W.written sink.new) (spec.level_in_bands page.now places.now scale level.now from end)) }
     ensures err { OnErr result (AppendsFront (W.written sink.old) (W.written sink.new) (spec.level_in_bands page.now places.now scale level.now from end)) }
@@ -215,7 +216,7 @@ fn write_level<W: Sink>(
     scale: u32,
     level: &Level,
 ) -> Result<(), WriteFault>
-    requires few { length places.now ≤ 256 }
+    requires few { length places.now ≤ most_places }
     requires scale { 0 < scale }
     ensures ok { OnOk result (Appends (W.written sink.old) (W.written sink.new) (spec.level_text page.now places.now scale level.now)) }
     ensures err { OnErr result (AppendsFront (W.written sink.old) (W.written sink.new) (spec.level_text page.now places.now scale level.now)) }
@@ -235,7 +236,7 @@ fn write_levels_in_rows<W: Sink>(
     scale: u32,
     levels: &[Level],
 ) -> Result<(), WriteFault>
-    requires few { length places.now ≤ 256 }
+    requires few { length places.now ≤ most_places }
     requires scale { 0 < scale }
     ensures ok { OnOk result (Appends (W.written sink.old) (W.written sink.new) (spec.levels_in_rows page.now places.now scale levels.now)) }
     ensures err { OnErr result (AppendsFront (W.written sink.old) (W.written sink.new) (spec.levels_in_rows page.now places.now scale levels.now)) }
@@ -256,7 +257,7 @@ pub(crate) fn write_levels<W: Sink>(
     places: &[Place],
     levels: &[Level],
 ) -> Result<(), WriteFault>
-    requires { length places.now ≤ 256 }
+    requires { length places.now ≤ most_places }
     ensures ok { OnOk result (Appends (W.written sink.old) (W.written sink.new) (spec.levels_text page.now places.now levels.now)) }
     ensures err { OnErr result (AppendsFront (W.written sink.old) (W.written sink.new) (spec.levels_text page.now places.now levels.now)) }
     ensures grown { W.troubles sink.old ≤ W.troubles sink.new }

@@ -2,13 +2,16 @@
 #![tactic(auto)]
 
 mod bars;
+mod callers;
 mod filled;
 mod frame;
 mod levels;
 mod page;
 mod picture;
+mod signs;
 mod sleeps;
 mod spans;
+mod waits;
 
 pub use page::{Page, Window};
 pub use picture::write_picture;

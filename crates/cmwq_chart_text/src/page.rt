@@ -1,16 +1,19 @@
 //! Where on the page an entry stands.
 ghost use Rattle.std.specs.Prelude.{◌≡◌, ◌+◌, ◌<◌, ◌≤◌, length};
+ghost use Rattle.cmwq_model.specs.Prelude.{most_callers};
+ghost use Rattle.cmwq_chart.specs.Lanes.{most_lanes};
 ghost use Rattle.cmwq_chart_text.specs.Pages as spec;
 
-use cmwq_chart::row_of;
-use cmwq_model::WorkerId;
+use cmwq_chart::{CallerLane, row_of, rows_above_caller};
+use cmwq_model::{CallerId, WorkerId};
 
-/// The entries that are shown, from the first up to the end, and how many rows a band of them has. Each entry is a column, and a band has
-/// as many as fit, so that long histories go on in further bands below.
+/// The entries that are shown, from the first up to the end, and how many rows a band of them has, of which the first are those of callers.
+/// Each entry is a column, and a band has as many as fit, so that long histories go on in further bands below.
 #[derive(Clone, Copy, Debug)]
 pub struct Page {
     pub first: u32,
     pub end: u32,
+    pub caller_rows: u16,
     pub rows: u16,
 }
 
@@ -22,19 +25,21 @@ pub struct Window {
 }
 
 impl Page {
-    /// The page of what a window shows of so many entries, with so many rows.
+    /// The page of what a window shows of so many entries, with so many rows for callers and so many below.
     #[tactic(auto, unfolding(crate::specs::Pages::page_of))]
-    pub fn new(window: Window, entries: usize, rows: usize) -> Page
+    pub fn new(window: Window, entries: usize, caller_rows: usize, rows_below: usize) -> Page
         requires entries { entries ≤ 1073741824 }
-        requires rows { rows ≤ 1000 }
-        ensures { result ≡ spec.page_of window entries rows }
+        requires caller_rows { caller_rows ≤ 20000 }
+        requires rows_below { rows_below ≤ 45000 }
+        ensures { result ≡ spec.page_of window entries caller_rows rows_below }
     {
         let first = window.from.min(entries as u64) as u32;
         let end = window.to.min(entries as u64) as u32;
         Page {
             first,
             end: end.max(first),
-            rows: rows as u16,
+            caller_rows: caller_rows as u16,
+            rows: (caller_rows + rows_below) as u16,
         }
     }
 
@@ -109,7 +114,7 @@ impl Page {
         ensures top { result ≡ spec.band_top self.now band }
         ensures within { result ≤ 10000000000000000 }
     {
-        56 + band * self.height()
+        74 + band * self.height()
     }
 
     /// How many bands there are.
@@ -176,15 +181,45 @@ impl Page {
             .min(self.band_start(band) + self.columns())
     }
 
+    /// The middle of an entry's column.
+    #[tactic(auto, unfolding(crate::specs::Pages::middle_of))]
+    pub(crate) fn middle_of(&self, place: u64) -> u64
+        requires { place ≤ 4294967296 }
+        ensures middle { result ≡ spec.middle_of self.now place }
+        ensures within { result ≤ 200000000000000 }
+    {
+        self.column_at(self.band_of(place), place) + self.column_width() / 2
+    }
+
+    /// Whether an entry is shown.
+    #[tactic(auto, unfolding(crate::specs::Pages::is_shown))]
+    pub(crate) fn is_shown(&self, place: u32) -> bool
+        ensures { result ≡ spec.is_shown self.now place }
+    {
+        self.first <= place && place < self.end
+    }
+
+    /// The upper edge of a caller's first row.
+    #[tactic(auto, unfolding(crate::specs::Pages::caller_top))]
+    pub(crate) fn caller_top(&self, callers: &[CallerLane], band: u64, caller: CallerId) -> u64
+        requires band { band ≤ 4294967296 }
+        requires few { length callers.now ≤ most_callers }
+        ensures top { result ≡ spec.caller_top self.now callers.now band caller }
+        ensures within { result ≤ 20000000000000000 }
+    {
+        self.band_top(band) + 22 + 18 * rows_above_caller(callers, caller) as u64
+    }
+
     /// The upper edge of a worker's row.
     #[tactic(auto, unfolding(crate::specs::Pages::row_top))]
     pub(crate) fn row_top(&self, lanes: &[WorkerId], band: u64, worker: WorkerId) -> u64
         requires band { band ≤ 4294967296 }
-        requires few { length lanes.now ≤ 64 }
+        requires few { length lanes.now ≤ most_lanes }
         ensures top { result ≡ spec.row_top self.now lanes.now band worker }
         ensures within { result ≤ 20000000000000000 }
     {
-        self.band_top(band) + 22 + 18 * row_of(lanes, worker) as u64
+        let above = u64::from(self.caller_rows) + row_of(lanes, worker) as u64;
+        self.band_top(band) + 22 + 18 * above
     }
 }
 

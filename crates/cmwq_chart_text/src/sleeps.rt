@@ -3,6 +3,7 @@ ghost use Rattle.std.specs.Prelude.{◌≡◌, ◌≤◌, OnOk, OnErr, length};
 ghost use Rattle.std.specs.Io.KnownBytes.{Appends};
 ghost use Rattle.cmwq_io.specs.Counts.{Rises};
 ghost use Rattle.cmwq_io.specs.Moves.{AppendsFront};
+ghost use Rattle.cmwq_chart.specs.Lanes.{most_lanes};
 ghost use Rattle.cmwq_chart_text.specs.SleepText as spec;
 
 use crate::filled::write_filled;
@@ -22,7 +23,7 @@ fn sleep_template() -> &'static str
 /// What the template of a sleep is filled with.
 fn sleep_numbers(page: &Page, lanes: &[WorkerId], sleep: &Sleep, band: u64) -> [u64; 5]
     requires band { band ≤ 4294967296 }
-    requires few { length lanes.now ≤ 64 }
+    requires few { length lanes.now ≤ most_lanes }
     ensures { result ≡ spec.sleep_numbers page.now lanes.now sleep.now band }
 {
     [
@@ -44,7 +45,7 @@ fn write_sleep_in_bands<W: Sink>(
     end: u64,
 ) -> Result<(), WriteFault>
     requires end { end ≤ 4294967296 }
-    requires few { length lanes.now ≤ 64 }
+    requires few { length lanes.now ≤ most_lanes }
     ensures ok { OnOk result (Appends (W.written sink.old) (W.written sink.new) (spec.sleep_in_bands page.now lanes.now sleep.now from end)) }
     ensures err { OnErr result (AppendsFront (W.written sink.old) (W.written sink.new) (spec.sleep_in_bands page.now lanes.now sleep.now from end)) }
     ensures grown { W.troubles sink.old ≤ W.troubles sink.new }
@@ -65,7 +66,7 @@ fn write_sleep_in_band<W: Sink>(
     band: u64,
 ) -> Result<(), WriteFault>
     requires band { band ≤ 4294967296 }
-    requires few { length lanes.now ≤ 64 }
+    requires few { length lanes.now ≤ most_lanes }
     ensures ok { OnOk result (Appends (W.written sink.old) (W.written sink.new) (spec.sleep_in_band page.now lanes.now sleep.now band)) }
     ensures err { OnErr result (AppendsFront (W.written sink.old) (W.written sink.new) (spec.sleep_in_band page.now lanes.now sleep.now band)) }
     ensures grown { W.troubles sink.old ≤ W.troubles sink.new }
@@ -86,7 +87,7 @@ fn write_sleep<W: Sink>(
     lanes: &[WorkerId],
     sleep: &Sleep,
 ) -> Result<(), WriteFault>
-    requires { length lanes.now ≤ 64 }
+    requires { length lanes.now ≤ most_lanes }
     ensures ok { OnOk result (Appends (W.written sink.old) (W.written sink.new) (spec.sleep_text page.now lanes.now sleep.now)) }
     ensures err { OnErr result (AppendsFront (W.written sink.old) (W.written sink.new) (spec.sleep_text page.now lanes.now sleep.now)) }
     ensures grown { W.troubles sink.old ≤ W.troubles sink.new }
@@ -103,7 +104,7 @@ pub(crate) fn write_sleeps<W: Sink>(
     lanes: &[WorkerId],
     sleeps: &[Sleep],
 ) -> Result<(), WriteFault>
-    requires { length lanes.now ≤ 64 }
+    requires { length lanes.now ≤ most_lanes }
     ensures ok { OnOk result (Appends (W.written sink.old) (W.written sink.new) (spec.sleeps_text page.now lanes.now sleeps.now)) }
     ensures err { OnErr result (AppendsFront (W.written sink.old) (W.written sink.new) (spec.sleeps_text page.now lanes.now sleeps.now)) }
     ensures grown { W.troubles sink.old ≤ W.troubles sink.new }

@@ -1,7 +1,8 @@
 ghost use Rattle.std.specs.Prelude.{◌≡◌, codes, true, false, IfOk, IfErr, IsSome, Some, map};
 ghost use Rattle.clap.specs.Words.{kind_of, app_of, rule_of, found_of, rows_of, with_subcommand};
-ghost use Rattle.cmwq_cli.specs.Word.{without_words, with_word, with_flagged, with_lines, app, flag_rule, has_flag, word_found, asked_found, texts, is_word_taken, word_matched};
+ghost use Rattle.cmwq_cli.specs.Word.{without_words, with_word, with_flagged, with_lines, with_numbers, app, flag_rule, number_rule, number_found, has_flag, word_found, asked_found, texts, is_word_taken, word_matched};
 
+use clap::builder::ValueParser;
 use clap::error::ErrorKind;
 use clap::{Arg, ArgAction, ArgMatches, Command, Error};
 use std::alloc::{AllocError, Global};
@@ -24,7 +25,14 @@ pub enum Word {
     /// Writes the figures of a legal history.
     Summary,
     /// Writes the picture of a legal history.
-    Chart,
+    Chart {
+        /// From which entry on, if not from the first.
+        from: Option<u64>,
+        /// Up to which entry, without that one, if not to the end.
+        to: Option<u64>,
+    },
+    /// Writes the trace of a legal history.
+    Trace,
     /// Writes the table of a scenario.
     Replay,
     /// Runs a script on threads and writes its history.
@@ -100,12 +108,12 @@ const FIGURES_HELP: &str =
   entries 3, ticks 0
   call queue: 1                      how many calls of each kind
   reply yes: 1                       and replies, by their first word
-  queue 0 on CPU 0: queueings 1, starts 1, cancelled 0, width 1, longest wait 1 entries and 0 ticks, mean wait 1 entries and 0 ticks
+  queue 0 on CPU 0: queueings 1, starts 1, cancelled 0, width 1, most open 1, most active 1, longest wait 1 entries and 0 ticks, mean wait 1 entries and 0 ticks
   worker w0n0: runs 1, awake 1 entries and 0 ticks, asleep 0 entries and 0 ticks
   item 0: runs 1, cancels 0
   caller c0: calls 1, tickets 0, longest wait -
 
-The width is that at the end. A queueing is cancelled that ends before it starts, and one that starts has waited from the entry that
+The width is that at the end; the most that were open and active at once is told of all entries. A queueing is cancelled that ends before it starts, and one that starts has waited from the entry that
 opened it; a caller waits from the entry that gives it a ticket until an end of that is answered `done`. How long they waited, and how
 long a worker's runs were awake or asleep, is counted in the entries that came meanwhile, and in the ticks that these let go by; a mean
 is rounded down. Of an illegal history nothing is written, and the
@@ -121,10 +129,24 @@ const PICTURE_HELP: &str = r"A history of any format, as `step` and `run` write 
   w0n0 0 take = started 0 enlist 1
   w0n0 1 finish = finished 0
 
-gives an SVG, which a browser shows: a row for each worker, and in it a bar for each of its runs, from the entry that started it to
-the one that finished it; and below them a row for each queue on each CPU where it had queueings, with how many are open and active as
+gives an SVG, which a browser shows: a row for each caller, with a mark for each of its entries and its waits below it; a row for
+each worker, and in it a bar for each of its runs, from the entry that started it to the one that finished it; and below them a row for each queue on each CPU where it had queueings, with how many are open and active as
 steps, and its width as a dashed line. Long histories go on in further bands down the page. Of an illegal history nothing is written, and the
 verdict goes to standard error.";
+
+/// What the help of `trace` shows below its usage.
+const TRACE_HELP: &str = r"A history of any format, as `step` and `run` write it:
+
+  history 2
+  shape 1 2 1 3 100
+  wq 1 -
+  c0 0 queue 0 0 0 = yes 0
+  w0n0 0 take = started 0 enlist 1
+  w0n0 1 finish = finished 0
+
+gives the events of a trace as JSON, which Perfetto and chrome://tracing show: a process for each pool, a thread for each worker, and
+on it each of its runs and sleeps; and for each queue on each CPU where it had queueings a counter of how many are open and active, and
+of its width. The time is the number of the entry. Of an illegal history nothing is written, and the verdict goes to standard error.";
 
 /// What the help of `replay` shows below its usage.
 const SCENARIO_HELP: &str =
@@ -165,14 +187,22 @@ There are at most 16 gates, and a name makes one. The output is the history of t
 A run may wait for ever: a caller that flushes, drains or destroys a frozen queue, or waits for an item on it, waits until another
 caller thaws it.
 
-With "format":3 beside "room" it is of format 3, and room may be up to 4,611,686,018,427,387,904. With "journal":64 it is
-written as it is made too, and so many entries are kept at a time."#;
+With "format":3 beside "room" it is of format 3, and there may be 1 to 64 CPUs and workers in a pool, 1 to 255 queues and callers,
+1 to 65,535 items, and room for up to 4,611,686,018,427,387,904 entries. With "journal":64 it is written as it is made too, and so
+many entries are kept at a time."#;
 
 /// Whether the matches of a word have the flag of this name.
 fn has_flag(matches: &ArgMatches, name: &str) -> bool
     ensures { result ≡ has_flag name.now (rows_of (found_of matches.now)) }
 {
     matches.get_one::<bool>(name).unwrap_or(false)
+}
+
+/// The number that the matches of a word have under this name.
+fn number_found(matches: &ArgMatches, name: &str) -> Option<u64>
+    ensures { result ≡ number_found name.now (rows_of (found_of matches.now)) }
+{
+    matches.get_one::<u64>(name)
 }
 
 /// The word with this name and these matches.
@@ -188,7 +218,11 @@ fn word_found(name: &str, matches: &ArgMatches) -> Option<Word>
         }),
         "upgrade" => Some(Word::Upgrade),
         "summary" => Some(Word::Summary),
-        "chart" => Some(Word::Chart),
+        "chart" => Some(Word::Chart {
+            from: number_found(matches, "from"),
+            to: number_found(matches, "to"),
+        }),
+        "trace" => Some(Word::Trace),
         "replay" => Some(Word::Replay),
         "run" => Some(Word::Run),
         _ => None,
@@ -284,6 +318,39 @@ fn with_flagged<'a>(
     program.subcommand(word)
 }
 
+/// The argument of an option with a number: two dashes, its name and the number.
+fn number_rule<'a>(alloc: Global, option: Flag<'a>) -> Arg<'a>
+    ensures rule { rule_of result ≡ number_rule option.entry.name.now }
+    ensures local { result.global ≡ false }
+{
+    Arg::new(alloc, option.name)
+        .long(option.name)
+        .action(ArgAction::Set)
+        .value_parser(ValueParser::unsigned(0, u64::MAX))
+        .value_name("NUMBER")
+        .help(option.help)
+}
+
+/// The program with one word more that has two options with numbers.
+fn with_numbers<'a>(
+    alloc: Global,
+    program: Command<'a>,
+    name: &'a str,
+    about: &'a str,
+    help: &'a str,
+    first: Flag<'a>,
+    second: Flag<'a>,
+) -> Result<Command<'a>, AllocError>
+    ensures { IfOk result (λ c. app_of c ≡ with_numbers (app_of program.entry) name.entry.now first.entry.name.now second.entry.name.now) }
+{
+    let word = Command::new(alloc, name).about(about).after_help(help);
+    let word = word.arg(number_rule(alloc, first))?;
+    let word = word.arg(number_rule(alloc, second))?;
+    let word = word.arg(explaining(alloc))?;
+    let command = program.subcommand(word)?;
+    Ok(command)
+}
+
 /// The program with the words whose inputs are lines.
 fn with_lines<'a>(alloc: Global) -> Result<Command<'a>, AllocError>
     ensures { IfOk result (λ c. app_of c ≡ with_lines) }
@@ -307,7 +374,17 @@ fn with_lines<'a>(alloc: Global) -> Result<Command<'a>, AllocError>
     let about = "Reads a history from standard input and writes its figures, if it is legal";
     let command = with_word(alloc, command, "summary", about, FIGURES_HELP)?;
     let about = "Reads a history from standard input and writes its picture as SVG, if it is legal";
-    with_word(alloc, command, "chart", about, PICTURE_HELP)
+    let from = Flag {
+        name: "from",
+        help: "Shows the history from this entry on",
+    };
+    let to = Flag {
+        name: "to",
+        help: "Shows it up to this entry, without that one",
+    };
+    let command = with_numbers(alloc, command, "chart", about, PICTURE_HELP, from, to)?;
+    let about = "Reads a history from standard input and writes its trace in JSON, if it is legal";
+    with_word(alloc, command, "trace", about, TRACE_HELP)
 }
 
 /// The program's command line, as `--help` shows it.

@@ -10,10 +10,10 @@ ghost use Rattle.cmwq_cmd_history.specs.Upgrade.{IsFlushed};
 ghost use Rattle.cmwq_cmd_chart.specs.Chart.{ChartEnds, DrawEnds, chart_text};
 
 use cmwq_base::{Entry, Illegal, Refusal, Shape, Sink, Source, read_history, tell};
-use cmwq_chart::{bars_of, lanes_of, places_of, sleeps_of};
-use cmwq_chart_levels::{levels_of, queueings_of};
+use cmwq_chart::rows_of_callers;
+use cmwq_chart_levels::shapes_of;
 use cmwq_chart_text::{Page, Window, write_picture};
-use cmwq_cmd_history::{refusal_status, tell_illegal};
+use cmwq_cmd_history::tell_illegal;
 use std::alloc::Global;
 
 /// More entries than these are not kept, so that none of them can bring the time beyond what a judge knows.
@@ -34,13 +34,24 @@ fn draw<O: Sink>(
     ensures flushed { OnOk result (O.held output.new ≡ 0) }
     ensures fault { IsErrOf result Refusal.WriteFault → Rises (O.troubles output.old) (O.troubles output.new) }
 {
-    let lanes = lanes_of(alloc, shape, entries)?;
-    let bars = bars_of(alloc, entries)?;
-    let sleeps = sleeps_of(alloc, entries, &lanes)?;
-    let places = places_of(alloc, shape, &queueings_of(alloc, shape, entries)?)?;
-    let levels = levels_of(alloc, shape, entries, &places)?;
-    let page = Page::new(window, entries.len(), lanes.len() + 2 * places.len());
-    write_picture(output, &page, &lanes, &bars, &sleeps, &places, &levels)?;
+    let shapes = shapes_of(alloc, shape, entries)?;
+    let caller_rows = rows_of_callers(&shapes.callers.lanes);
+    let rows_below = shapes.lanes.len() + 2 * shapes.places.len();
+    let page = Page::new(window, entries.len(), caller_rows, rows_below);
+    write_picture(
+        output,
+        &page,
+        entries,
+        &shapes.callers.lanes,
+        &shapes.callers.waits,
+        &shapes.callers.signs,
+        &shapes.lanes,
+        &shapes.bars,
+        &shapes.sleeps,
+        &shapes.signs,
+        &shapes.places,
+        &shapes.levels,
+    )?;
     Ok(())
 }
 
@@ -91,16 +102,5 @@ pub fn run_chart<S: Source, O: Sink, E: Sink>(
         Ok(Some(illegal)) => tell_illegal(errors, illegal),
         Err(refusal) => tell(errors, refusal),
     }
-    status(&ended)
-}
-
-/// The exit status of a run that ended so.
-fn status(ended: &Result<Option<Illegal>, Refusal>) -> u8
-    ensures { result ≡ check_status ended.now }
-{
-    match ended {
-        Ok(None) => 0,
-        Ok(Some(_)) => 3,
-        Err(refusal) => refusal_status(*refusal),
-    }
+    cmwq_cmd_history::check_status(&ended)
 }

@@ -1,4 +1,5 @@
 -- How a live run goes on from line to line: how far its text is read, and what it has written.
+use Rattle.cmwq_text.specs.Formats.{queue_limit}
 use Rattle.cmwq_cmd_history.specs.Common.{◌≡◌, ◌+◌, ◌≤◌, ◌==◌, ℕ, Bool, true, false, List, [], ◌∷◌, ◌++◌, length, Ok, Err, Option, Some, None, nat_le, refl, sym, ap, ◌∙◌, arith, subst, append_assoc, length-append, if◌then◌else◌, reverse, fold-append, nat_tests, has_feed, Whole, Cut, Long, End, TakesLine, Who, Call, Counts, QueueShape, Layout, layout_of, is_layout, Steps, none, step, steps, has_room, calls_name, line_limit, counts_of_format, entries_text, head_text, Refusal, pieces, Stage, Kind, begin, opened, head, body, ended, is_long, shape_made, begun, with_queue, queue_line, with_item, item_line, body_line, first_item, after_head, after_line, calls_kind, pieces_fed, pieces_last, pieces_some, whole_found, cut_found, end_found, long_found}
 use Rattle.std.specs.Str.{bytes_eq}
 use Rattle.cmwq_io.specs.FirstLine.{first_line as line_of, after_line as rest_of, is_line_long as is_text_long}
@@ -152,7 +153,7 @@ module _ (n : ℕ) where
 
   head_wrote : (v : ℕ) (c : Counts) (qs : List QueueShape) (line : List ℕ) (next : Calls) (b : Bool)
       → (if b then queue_line calls_kind n v c qs line else first_item calls_kind n v (shape_made c qs) line) ≡ Ok next → Wrote (head v c qs) next
-  head_wrote v c qs line next true h = queue_line_wrote v c qs line next (nat_le 64 (length qs)) h
+  head_wrote v c qs line next true h = queue_line_wrote v c qs line next (nat_le (queue_limit v) (length qs)) h
   head_wrote v c qs line next false h = first_item_wrote v c qs line next (is_layout (layout_of c qs)) h
 
   first_line_wrote : (line : List ℕ) (next : Calls) (b : Bool) → (if b then Ok (opened 3) else begun n 1 (counts_of_format 1 line)) ≡ Ok next → Wrote begin next

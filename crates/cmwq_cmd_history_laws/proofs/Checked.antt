@@ -1,5 +1,5 @@
 -- What `step` and `upgrade` write is read again, and is legal: so `check` finds nothing wrong in it.
-use Rattle.cmwq_cmd_history_laws.specs.Common.{◌≡◌, ◌⊎◌, inl, inr, ◌≤◌, ◌==◌, nat_le, Bool, true, false, ℕ, List, Result, Ok, Err, None, Some, length, refl, sym, ◌∙◌, subst, arith, get_or, reverse, IsTrue, All, AllByRecursion, eqb-true, le-leb, leb-true, reverse-reverse, length-reverse, All-from_recursion, recursion_from_All, Who, Call, Entry, Illegal, Layout, most_room, is_layout, fits, IsWho, IsCall, greatest, IsLegal, past_of, now, most_time, Refusal, File, calls_kind, history_file_of, greatest_number, by_age, old_lines, old_room, most_lines, line_limit, room_limit, number_limit, allows_queue, allows_entry, text_of_format, IsVerdict, written_version, steps_in, answer_text}
+use Rattle.cmwq_cmd_history_laws.specs.Common.{◌≡◌, ◌⊎◌, inl, inr, ◌≤◌, ◌==◌, Bool, true, false, ℕ, List, Result, Ok, Err, None, Some, length, refl, sym, ◌∙◌, subst, arith, get_or, reverse, IsTrue, All, AllByRecursion, eqb-true, le-leb, reverse-reverse, length-reverse, All-from_recursion, recursion_from_All, Who, Call, Entry, Illegal, Layout, most_queues, most_room, fits, IsWho, IsCall, greatest, IsLegal, past_of, now, most_time, Refusal, File, calls_kind, history_file_of, greatest_number, by_age, old_lines, old_queues, old_room, counts_in, most_lines, line_limit, queue_limit, room_limit, number_limit, allows_queue, allows_entry, text_of_format, IsVerdict, written_version, steps_in, answer_text}
 use Rattle.std.proofs.lemmas.Bool.Decides.{nat_tests}
 use Rattle.cmwq_model.specs.declared.shape.QueueShape.{QueueShape}
 use Rattle.cmwq_theory_laws.proofs.FirstWrong.{wrong_are_illegal}
@@ -14,23 +14,22 @@ use Rattle.cmwq_base.proofs.Again.{histories_read_again, new_allows}
 use Rattle.cmwq_base.proofs.Spelled.{histories_are_of_their_format}
 use Rattle.cmwq_base.proofs.Sound.{IsReadOf, calls_are_read, history_is_read, IsCallInside, one_or_three}
 use Rattle.cmwq_cmd_history_laws.specs.Checks.{history_in, IsLegalText, LegalHistoriesAreChecked, StepIsChecked, UpgradeIsChecked, PassesCheck, StepsPassCheck, UpgradesPassCheck}
+use Rattle.cmwq_model.proofs.Limits.{limits_of}
+use Rattle.cmwq_cmd_history_laws.proofs.Shapes.{newest_allows, later_allows}
 use Rattle.cmwq_cmd_history_laws.proofs.Stepped.{steps_are_few, steps_are_of, all_reversed}
 use Rattle.cmwq_cmd_history_laws.proofs.Timely.{legal_histories_are_timely}
-use Rattle.std.proofs.lemmas.Bool.{and_parts}
 
 -- ---- format 3
-
-room_is_within : (s : Layout) → IsTrue (is_layout s) → s.room ≤ most_room
-room_is_within s inside = leb-true s.room most_room (and_parts _ (nat_le s.room most_room) (and_parts _ _ inside).0).1
 
 pub legal_histories_are_checked : LegalHistoriesAreChecked
 legal_histories_are_checked s entries shape legal few soon all =
     let out : File Entry = record { version = 3; layout = s; items = entries } in
     let inside = legal_histories_fit s greatest_number entries shape legal (omega (arith, few)) soon all in
     let of_format : IsOfFormat out = (λ i d lt. refl, legal_histories_are_timely s entries legal soon) in
-    let room : s.room ≤ room_limit 3 = subst (λ n. s.room ≤ n) (sym (newest_has old_room most_room 3 (omega arith))) (room_is_within s shape) in
+    let room : s.room ≤ room_limit 3 = subst (λ n. s.room ≤ n) (sym (newest_has old_room most_room 3 (omega arith))) (limits_of s shape).room in
+    let queues : length s.queues ≤ queue_limit 3 = subst (λ n. length s.queues ≤ n) (sym (newest_has old_queues most_queues 3 (omega arith))) (limits_of s shape).queues.1 in
     let within : length entries ≤ line_limit 3 = subst (λ n. length entries ≤ n) (sym (newest_has old_lines most_lines 3 (omega arith))) few in
-    (histories_read_again out (omega arith) (omega arith) of_format shape (record { room = room; few = within; fitting = inside.0 }) inside.1, legal)
+    (histories_read_again out (omega arith) (omega arith) of_format shape (record { room = room; numbers = newest_allows 3 (counts_in s) (omega arith); queues = queues; few = within; fitting = inside.0 }) inside.1, legal)
 
 -- ---- steps
 
@@ -66,13 +65,16 @@ module _ (f : File (Who × Call)) (read : IsReadOf calls_kind IsCallInside f) wh
   old_steps_checked is =
       let most : line_limit f.version ≡ old_lines = oldest_has old_lines most_lines f.version is in
       let room : f.layout.room ≤ room_limit 2 = subst (λ n. f.layout.room ≤ n) (oldest_has old_room most_room f.version is ∙ sym (older_has old_room most_room 2 (omega arith))) read.sound.room in
+      let numbers = later_allows f.version 2 (counts_in f.layout) (omega (arith, is)) read.sound.numbers in
+      let more : by_age old_queues most_queues f.version ≤ by_age old_queues most_queues 2 = none_falls old_queues most_queues f.version 2 (omega arith) (omega (arith, is)) in
+      let queues : length f.layout.queues ≤ queue_limit 2 = omega (arith, more, read.sound.queues) in
       let few : length made ≤ old_lines = omega (arith, made_few, read.sound.few, most) in
       let within : length made ≤ line_limit 2 = subst (λ n. length made ≤ n) (sym (older_has old_lines most_lines 2 (omega arith))) few in
       let ranges : All (λ e. IsWho e.who × (IsCall greatest) e.call) made = subst (λ n. All (λ e. IsWho e.who × (IsCall n) e.call) made) (oldest_has greatest greatest_number f.version is) made_in_range in
       let inside = legal_histories_fit f.layout greatest made read.shape made_legal (omega (arith, few)) made_soon ranges in
       let out : File Entry = record { version = 2; layout = f.layout; items = made } in
       let of_format : IsOfFormat out = (λ i d lt. refl, λ i d lt. new_allows (get_or made i d) (inside.1 i d lt)) in
-      (histories_read_again out (omega arith) (omega arith) of_format read.shape (record { room = room; few = within; fitting = inside.0 }) (λ i d lt. wide_entry (get_or made i d) (inside.1 i d lt)), made_legal)
+      (histories_read_again out (omega arith) (omega arith) of_format read.shape (record { room = room; numbers = numbers; queues = queues; few = within; fitting = inside.0 }) (λ i d lt. wide_entry (get_or made i d) (inside.1 i d lt)), made_legal)
 
   new_steps_checked : f.version ≡ 3 → AreChecked 3
   new_steps_checked is =
@@ -112,10 +114,13 @@ upgrade_is_checked text f h legal =
     let rooms : by_age old_room most_room f.version ≤ by_age old_room most_room v = none_falls old_room most_room f.version v (omega arith) later in
     let lines : by_age old_lines most_lines f.version ≤ by_age old_lines most_lines v = none_falls old_lines most_lines f.version v (omega arith) later in
     let room : f.layout.room ≤ room_limit v = omega (arith, rooms, read.sound.room) in
+    let numbers = later_allows f.version v (counts_in f.layout) later read.sound.numbers in
+    let more : by_age old_queues most_queues f.version ≤ by_age old_queues most_queues v = none_falls old_queues most_queues f.version v (omega arith) later in
+    let queues : length f.layout.queues ≤ queue_limit v = omega (arith, more, read.sound.queues) in
     let few : length f.items ≤ line_limit v = omega (arith, lines, read.sound.few) in
     let out : File Entry = record { version = v; layout = f.layout; items = f.items } in
     let of_format : IsOfFormat out = (upgraded_queues f.version f.layout.queues, upgraded_entries f read.version.1 (histories_are_of_their_format text f h).1 (f.version == 3) refl) in
-    (histories_read_again out (omega arith) high of_format read.shape (record { room = room; few = few; fitting = read.sound.fitting }) read.each, legal)
+    (histories_read_again out (omega arith) high of_format read.shape (record { room = room; numbers = numbers; queues = queues; few = few; fitting = read.sound.fitting }) read.each, legal)
 
 -- ---- so `check` finds nothing wrong
 

@@ -1,3 +1,4 @@
 pub mod Stepped
 pub mod Timely
+pub mod Shapes
 pub mod Checked

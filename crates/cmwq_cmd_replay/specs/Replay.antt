@@ -1,5 +1,5 @@
 -- What a run of `replay` reads, writes and answers.
-use Rattle.std.specs.Prelude.{◌≡◌, ℕ, List, Result, Ok, Err, Option, ⊤}
+use Rattle.std.specs.Prelude.{ℕ, List, Result, Ok, Err, Option, ⊤}
 use Rattle.std.specs.Io.KnownBytes.{Keeps, Appends}
 use Rattle.cmwq_io.specs.Moves.{AppendsFront}
 use Rattle.cmwq_sim.specs.Lines.{scenario_lines}

@@ -21,7 +21,7 @@ run_ends d r said (Some text) old new ended read ends = of ended (r, (d, read, s
     of (Err (failure.Input fault.TooLong)) x = absurd (x.2.0)
     of (Err (failure.Input fault.ReadFault)) x = absurd (x.2.0)
     of (Err (failure.Run n)) x = x
-    of (Err (failure.Gate name)) x = x
+    of (Err (failure.Gate name full)) x = x
 
 -- a member that is refused
 pub refused_ends : (d : Data) (m : Refused) → run_said d ≡ Err m → (left a : Option (List ℕ)) → IfSome left (λ text. IsJson text d) → IfSome left (λ text. InputEnds text a a (Err (failure.Input (fault.Member m))))

@@ -55,18 +55,18 @@ FailsOf r told = (f : RunFault) × (failed_run f ≡ told) × FailsAs r.layout r
 abbrev pub IsNamed : List (List ℕ) → List ℕ → Type 0
 IsNamed gates name = (k : ℕ) × (slice_get gates k ≡ Some name)
 
--- a failure but of writing
+-- a failure but of writing; of a gate with how many calls were left out
 abbrev pub FailsOn : Run → Failure → Type 0
 FailsOn r (failure.Input fault.NoMemory) = Unit {0}
 FailsOn r (failure.Input f) = ⊥
 FailsOn r (failure.Run n) = FailsOf r (failure.Run n)
-FailsOn r (failure.Gate name) = IsNamed r.gates name.bytes
+FailsOn r (failure.Gate name full) = IsNamed r.gates name.bytes × ((history : List Entry) × RunLeaves r full history)
 
 -- How the run of a script ends: it writes a history, or a failure stopped it. A gate is told of a run that came to its end, whose history a journal has written.
 abbrev pub ScriptEnds : Run → Option (List ℕ) → Option (List ℕ) → Result ℕ Failure → Type 0
 ScriptEnds r old new (Ok full) = Writes r full old new
 ScriptEnds r old new (Err (failure.Input fault.WriteFault)) = MatchOption r.journal (RunWritesFront r old new) (λ kept. RunBreaksOff r old new)
-ScriptEnds r old new (Err (failure.Gate name)) = FailsOn r (failure.Gate name) × MatchOption r.journal (Keeps old new) (λ kept. (full : ℕ) × Writes r full old new)
+ScriptEnds r old new (Err (failure.Gate name full)) = FailsOn r (failure.Gate name full) × MatchOption r.journal (Keeps old new) (λ kept. Writes r full old new)
 ScriptEnds r old new (Err f) = FailsOn r f × RunBreaksOff r old new
 
 -- the text says a script, whose run ends so
@@ -86,7 +86,7 @@ InputEnds text old new ended = Runs text old new ended
 abbrev pub failure_status : Failure → ℕ
 failure_status (failure.Input f) = fault_status f
 failure_status (failure.Run n) = 5
-failure_status (failure.Gate name) = 1
+failure_status (failure.Gate name full) = 1
 
 abbrev pub run_status : Result ℕ Failure → ℕ
 run_status (Ok zero) = 0

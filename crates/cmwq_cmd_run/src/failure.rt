@@ -23,9 +23,9 @@ pub enum Failure {
     /// for a caller, 5 closed, 6 a stranger, 7 no thread.
     #[error("run fault {number}")]
     Run { number: u8 },
-    /// A run looked at this gate in vain.
-    #[error("gate {0} was not opened")]
-    Gate(GateName),
+    /// A run looked at this gate in vain, and so many calls were left out for want of room.
+    #[error("gate {name} was not opened")]
+    Gate { name: GateName, left_out: u64 },
 }
 
 impl From<Fault> for Failure {
@@ -68,6 +68,6 @@ pub fn failure_status_of(failure: Failure) -> u8
     match failure {
         Failure::Input(fault) => fault_status(fault),
         Failure::Run { .. } => 5,
-        Failure::Gate(_) => 1,
+        Failure::Gate { .. } => 1,
     }
 }

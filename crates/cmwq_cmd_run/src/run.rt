@@ -10,6 +10,7 @@ ghost use Rattle.cmwq_json_script.specs.Scripts.{run_of, MayRun};
 use crate::failure::{Failure, GateName, failure_status_of};
 use crate::interpreter::Interpreter;
 use cmwq_cmd_history::{tell_full, write_history};
+use cmwq_explain::explain_gate;
 use cmwq_input::{Fault, read_value};
 use cmwq_io::{Sink, Source, tell};
 use cmwq_json_script::{Script, read_script};
@@ -48,7 +49,10 @@ fn run_script<R: Threads + Wait + Sync>(
         Err(fault) => return Err(Failure::from(fault)),
     };
     match missed_gate(rt, &interpreter, &script.gates) {
-        Some(name) => Err(Failure::Gate(name)),
+        Some(name) => Err(Failure::Gate {
+            name,
+            left_out: report.full,
+        }),
         None => Ok(report),
     }
 }
@@ -108,7 +112,10 @@ fn run_with_journal<O: Sink, R: Threads + Wait + Clock + Sync>(
         Err(Unwritten::Run(fault)) => return Err(Failure::from(fault)),
     };
     match missed_gate(rt, &interpreter, &script.gates) {
-        Some(name) => Err(Failure::Gate(name)),
+        Some(name) => Err(Failure::Gate {
+            name,
+            left_out: full,
+        }),
         None => Ok(full),
     }
 }
@@ -156,13 +163,15 @@ fn run<S: Source, O: Sink, R: Threads + Wait + Clock + Sync>(
 /// to its end the first of a fault of the hub, a gate that was not opened, and calls left out for want of room. Answers the exit status:
 /// 0 done, 1 refused input or a gate, 4 no memory, or calls left out, 5 a fault of reading, writing or running. At calls left out the
 /// history is written all the same; at a fault of writing a front of it is; at all else nothing is. With a journal the history is whole
-/// at a gate too, and at want of memory and at a fault of the hub or of writing a front of a legal history is written.
+/// at a gate too, and at want of memory and at a fault of the hub or of writing a front of a legal history is written. Where it is to explain, of a
+/// gate it is told too how many calls were left out for want of room, if any were.
 pub fn run_run<S: Source, O: Sink, E: Sink, R: Threads + Wait + Clock + Sync>(
     rt: &R,
     alloc: Global,
     input: &mut S,
     output: &mut O,
     errors: &mut E,
+    explain: bool,
 ) -> u8
     ensures ends { (ended : Result ℕ TheFailure)
         × (result ≡ run_status ended)
@@ -177,7 +186,17 @@ pub fn run_run<S: Source, O: Sink, E: Sink, R: Threads + Wait + Clock + Sync>(
         Ok(left_out) => tell_full(errors, *left_out),
         Err(failure) => tell(errors, *failure),
     }
+    if explain {
+        tell_more(&ended, errors);
+    }
     status(&ended)
+}
+
+/// Tells more of a run that ended so, where more is known than its input says.
+fn tell_more<E: Sink>(ended: &Result<u64, Failure>, errors: &mut E) {
+    if let Err(Failure::Gate { name, left_out }) = ended {
+        explain_gate(name.as_str(), *left_out, errors);
+    }
 }
 
 /// The exit status of a run that ended so.

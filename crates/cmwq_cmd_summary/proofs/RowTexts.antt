@@ -33,6 +33,3 @@ pub nothing_written : (row : ℕ → List ℕ) (a : Option (List ℕ)) → Appen
 unfolding rows_text
 nothing_written row None = tt
 nothing_written row (Some x) = sym (append-nil x)
-
-pub five_in_a_row : (a b c d e : List ℕ) → (((a ++ b) ++ c) ++ d) ++ e ≡ a ++ (b ++ (c ++ (d ++ e)))
-five_in_a_row a b c d e = append_assoc ((a ++ b) ++ c) d e ∙ append_assoc (a ++ b) c (d ++ e) ∙ append_assoc a b (c ++ (d ++ e))

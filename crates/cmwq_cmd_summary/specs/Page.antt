@@ -1,4 +1,5 @@
 -- The page of a summary: a line for its entries and ticks, and then the rows of each table, of which those without anything to tell are left out.
+use Rattle.cmwq_model.specs.Prelude.{most_cpus, most_workers}
 use Rattle.std.specs.Prelude.{ℕ, zero, suc, ◌*◌, ◌/◌, ◌%◌, Bool, ◌==◌, ◌&&◌, if◌then◌else◌, List, [], ◌∷◌, ◌++◌, length, flat_map, codes, decimal}
 use Rattle.cmwq_model.specs.declared.id.WorkerId.{WorkerId}
 use Rattle.cmwq_model.specs.declared.entry.Entry.{Entry}
@@ -7,6 +8,7 @@ use Rattle.cmwq_summary.specs.Kinds.{call_kinds, reply_kinds}
 use Rattle.cmwq_summary.specs.Figures.{calls_of_kind, replies_of_kind, runs_of, cancels_of, calls_by, tickets_by, starts_by, queueings_at, starts_at, cancels_at}
 use Rattle.cmwq_summary.specs.Spent.{awake_entries, awake_ticks, asleep_entries, asleep_ticks}
 use Rattle.cmwq_summary.specs.Waits.{longest_start_entries, longest_start_ticks, all_start_entries, all_start_ticks}
+use Rattle.cmwq_summary.specs.Peaks.{most_open_at, most_active_at}
 use Rattle.cmwq_summary.specs.TicketWaits.{longest_wait_entries, longest_wait_ticks}
 use Rattle.cmwq_cmd_summary.specs.Names.{call_name, reply_name}
 use Rattle.cmwq_cmd_summary.specs.declared.table.Table.{Table}
@@ -38,7 +40,7 @@ abbrev pub letter_of_pool : Bool → List ℕ
 letter_of_pool high = if high then codes "h" else codes "n"
 
 abbrev pub worker_of_row : ℕ → WorkerId
-worker_of_row w = record { pool = record { cpu = record { 0 = w / 16 }; high = w / 8 % 2 == 1 }; index = w % 8 }
+worker_of_row w = record { pool = record { cpu = record { 0 = w / (2 * most_workers) }; high = w / most_workers % 2 == 1 }; index = w % most_workers }
 
 abbrev pub worker_name : WorkerId → List ℕ
 worker_name w = figure_text (codes "w") w.pool.cpu.0 ++ figure_text (letter_of_pool w.pool.high) w.index
@@ -54,7 +56,7 @@ worker_row past w runs =
     ++ span_text (codes ", asleep ") (asleep_entries past w) (asleep_ticks past w) ++ line_end
 
 abbrev pub place_name : ℕ → List ℕ
-place_name p = figure_text (codes "queue ") (p / 4) ++ figure_text (codes " on CPU ") (p % 4)
+place_name p = figure_text (codes "queue ") (p / most_cpus) ++ figure_text (codes " on CPU ") (p % most_cpus)
 
 -- how long so many things waited, or a dash where there are none
 abbrev pub wait_text : List ℕ → ℕ → ℕ → ℕ → List ℕ
@@ -84,20 +86,25 @@ opened_text queueings starts = figure_text (codes ": queueings ") queueings ++ f
 abbrev pub bounds_text : ℕ → ℕ → List ℕ
 bounds_text cancels wide = figure_text (codes ", cancelled ") cancels ++ figure_text (codes ", width ") wide
 
-abbrev pub place_figures : List Entry → ℕ → ℕ → List ℕ
-place_figures past p wide = opened_text (queueings_at past p) (starts_at past p) ++ bounds_text (cancels_at past p) wide
+-- how many were open and active at once, at most
+abbrev pub peaks_text : ℕ → ℕ → List ℕ
+peaks_text most_open most_active = figure_text (codes ", most open ") most_open ++ figure_text (codes ", most active ") most_active
+
+abbrev pub place_figures : Layout → List Entry → ℕ → List ℕ
+place_figures s past p =
+    opened_text (queueings_at past p) (starts_at past p) ++ (bounds_text (cancels_at past p) (width s past (p / most_cpus)) ++ peaks_text (most_open_at p past) (most_active_at s p past))
 
 abbrev pub place_waits : List Entry → ℕ → List ℕ
 place_waits past p =
     starts_text (starts_at past p) (longest_start_entries past p) (longest_start_ticks past p) (all_start_entries past p) (all_start_ticks past p)
 
-abbrev pub place_row : List Entry → ℕ → ℕ → List ℕ
-place_row past p wide = if queueings_at past p == 0 then [] else place_name p ++ place_figures past p wide ++ place_waits past p ++ line_end
+abbrev pub place_row : Layout → List Entry → ℕ → List ℕ
+place_row s past p = if queueings_at past p == 0 then [] else place_name p ++ place_figures s past p ++ place_waits past p ++ line_end
 
 abbrev pub row_text : Layout → List Entry → Table → ℕ → List ℕ
 row_text s past table.Calls k = call_row k (calls_of_kind past k)
 row_text s past table.Replies k = reply_row k (replies_of_kind past k)
-row_text s past table.Places p = place_row past p (width s past (p / 4))
+row_text s past table.Places p = place_row s past p
 row_text s past table.Workers w = worker_row past (worker_of_row w) (starts_by past w)
 row_text s past table.Items i = item_row i (runs_of past i) (cancels_of past i)
 row_text s past table.Callers c = caller_row past c
@@ -107,8 +114,8 @@ row_text s past table.Callers c = caller_row past c
 abbrev pub rows_in : Layout → Table → ℕ
 rows_in s table.Calls = call_kinds
 rows_in s table.Replies = reply_kinds
-rows_in s table.Places = 4 * length s.queues
-rows_in s table.Workers = 16 * s.cpus
+rows_in s table.Places = most_cpus * length s.queues
+rows_in s table.Workers = 2 * most_workers * s.cpus
 rows_in s table.Items = s.items
 rows_in s table.Callers = s.callers
 

@@ -81,7 +81,7 @@ impl Progress {
         self.execution.commit(plan);
         // it shows that the entries are few
         let _len = self.execution.len();
-        self.summary.add(&told);
+        self.summary.add(&told, self.execution.active_counts());
     }
 
     /// Takes one entry more if it is the one that its call gets, and else says what should stand there.

@@ -1,9 +1,9 @@
 //! How the rows of each table are spelled.
 ghost use Rattle.std.specs.Prelude.{◌≡◌, ◌+◌, ◌*◌, ◌/◌, ◌<◌, ◌≤◌, ◌++◌, length};
-ghost use Rattle.cmwq_model.specs.Prelude.{width};
+ghost use Rattle.cmwq_model.specs.Prelude.{width, most_cpus, most_workers};
 ghost use Rattle.cmwq_summary.specs.Kinds.{call_kinds, reply_kinds};
 ghost use Rattle.cmwq_core.specs.History.{past_in};
-ghost use Rattle.cmwq_cmd_summary.specs.Page.{call_row, reply_row, item_row, caller_row, longest_text, mean_text, starts_text, opened_text, bounds_text, place_figures, place_waits, span_text, worker_of_row, worker_name, worker_row, place_name, row_text, rows_in};
+ghost use Rattle.cmwq_cmd_summary.specs.Page.{call_row, reply_row, item_row, caller_row, longest_text, mean_text, starts_text, opened_text, bounds_text, peaks_text, place_figures, place_waits, span_text, worker_of_row, worker_name, worker_row, place_name, row_text, rows_in};
 ghost use Rattle.cmwq_cmd_summary.specs.declared.table.Table.TheVariants as TheTable;
 
 use crate::name::{call_name, reply_name};
@@ -11,20 +11,28 @@ use crate::progress::Progress;
 use crate::row::Row;
 use crate::table::Table;
 use cmwq_base::{CallerId, CpuId, ItemId, PoolId, QueueId, WorkerId};
+use cmwq_model::{MOST_CPUS, MOST_WORKERS};
 use cmwq_summary::{CALL_KINDS, REPLY_KINDS, Span, Total};
+
+/// How many CPUs a shape may have.
+const CPUS: usize = MOST_CPUS as usize;
+
+/// How many workers a pool may have.
+const OF_POOL: usize = MOST_WORKERS as usize;
 
 /// How many rows a table has.
 pub(crate) fn rows_in(progress: &Progress, table: Table) -> usize
     ensures { result ≡ rows_in progress.now.layout table }
 {
     let shape = progress.summary().shape();
+    let counts = shape.counts();
     match table {
         Table::Calls => CALL_KINDS,
         Table::Replies => REPLY_KINDS,
-        Table::Places => 4 * shape.queues().len(),
-        Table::Workers => 16 * usize::from(shape.counts().cpus),
-        Table::Items => shape.counts().items.into(),
-        Table::Callers => shape.counts().callers.into(),
+        Table::Places => CPUS * shape.queues().len(),
+        Table::Workers => 2 * OF_POOL * usize::from(counts.cpus),
+        Table::Items => counts.items.into(),
+        Table::Callers => counts.callers.into(),
     }
 }
 
@@ -128,7 +136,7 @@ fn caller_row(progress: &Progress, caller: CallerId) -> Row
 
 /// The worker with this number.
 fn worker_at(progress: &Progress, number: usize) -> WorkerId
-    requires { number < 16 * progress.now.layout.cpus }
+    requires { number < 2 * most_workers * progress.now.layout.cpus }
     ensures is { result ≡ worker_of_row number }
     ensures here { result.pool.cpu.0 < progress.now.layout.cpus }
 {
@@ -136,10 +144,10 @@ fn worker_at(progress: &Progress, number: usize) -> WorkerId
     let _cpus = progress.summary().shape().counts().cpus;
     WorkerId {
         pool: PoolId {
-            cpu: CpuId((number / 16) as u8),
-            high: number / 8 % 2 == 1,
+            cpu: CpuId((number / (2 * OF_POOL)) as u8),
+            high: number / OF_POOL % 2 == 1,
         },
-        index: (number % 8) as u8,
+        index: (number % OF_POOL) as u8,
     }
 }
 
@@ -167,7 +175,7 @@ fn push_span(row: &mut Row, name: &str, span: Span)
 
 fn worker_row(progress: &Progress, worker: WorkerId, runs: u64) -> Row
     requires here { worker.pool.cpu.0 < progress.now.layout.cpus }
-    requires index { worker.index < 8 }
+    requires index { worker.index < most_workers }
     ensures { result ≡ worker_row (past_in progress.now) worker runs }
 {
     let summary = progress.summary();
@@ -189,18 +197,18 @@ fn push_place(row: &mut Row, place: usize)
     ensures exact { row.new ≡ row.old ++ place_name place }
     ensures short { length row.new ≤ length row.old + 54 }
 {
-    row.push_figure("queue ", place as u64 / 4);
-    row.push_figure(" on CPU ", place as u64 % 4);
+    row.push_figure("queue ", place as u64 / CPUS as u64);
+    row.push_figure(" on CPU ", place as u64 % CPUS as u64);
 }
 
 /// How wide the queue of the place with this number is.
 fn width_at(progress: &Progress, place: usize) -> u32
-    requires { place < 4 * length progress.now.layout.queues }
-    ensures { result ≡ width progress.now.layout (past_in progress.now) (place / 4) }
+    requires { place < most_cpus * length progress.now.layout.queues }
+    ensures { result ≡ width progress.now.layout (past_in progress.now) (place / most_cpus) }
 {
     // it shows that the number is small
     let _queues = progress.summary().shape().counts();
-    progress.width(QueueId((place / 4) as u8))
+    progress.width(QueueId((place / CPUS) as u8))
 }
 
 /// Spells the longest wait of so many.
@@ -263,22 +271,33 @@ fn push_bounds(row: &mut Row, cancels: u64, wide: u64)
     row.push_figure(", width ", wide);
 }
 
+/// Spells how many were open and active at once, at most.
+fn push_peaks(row: &mut Row, most_open: u64, most_active: u64)
+    requires { length row.old + 70 ≤ 512 }
+    ensures exact { row.new ≡ row.old ++ peaks_text most_open most_active }
+    ensures short { length row.new ≤ length row.old + 70 }
+{
+    row.push_figure(", most open ", most_open);
+    row.push_figure(", most active ", most_active);
+}
+
 /// Spells all that of a queue and CPU.
 fn push_figures(row: &mut Row, progress: &Progress, place: usize)
-    requires place { place < 4 * length progress.now.layout.queues }
-    requires room { length row.old + 140 ≤ 512 }
-    ensures exact { row.new ≡ row.old ++ place_figures (past_in progress.now) place (width progress.now.layout (past_in progress.now) (place / 4)) }
-    ensures short { length row.new ≤ length row.old + 140 }
+    requires place { place < most_cpus * length progress.now.layout.queues }
+    requires room { length row.old + 210 ≤ 512 }
+    ensures exact { row.new ≡ row.old ++ place_figures progress.now.layout (past_in progress.now) place }
+    ensures short { length row.new ≤ length row.old + 210 }
 {
     let summary = progress.summary();
     let wide = width_at(progress, place);
     push_opened(row, summary.queueings_at(place), summary.starts_at(place));
     push_bounds(row, summary.cancels_at(place), wide.into());
+    push_peaks(row, summary.most_open(place), summary.most_active(place));
 }
 
 /// Spells how long the starts there waited.
 fn push_waits(row: &mut Row, progress: &Progress, place: usize)
-    requires place { place < 4 * length progress.now.layout.queues }
+    requires place { place < most_cpus * length progress.now.layout.queues }
     requires room { length row.old + 186 ≤ 512 }
     ensures exact { row.new ≡ row.old ++ place_waits (past_in progress.now) place }
     ensures short { length row.new ≤ length row.old + 186 }
@@ -290,7 +309,7 @@ fn push_waits(row: &mut Row, progress: &Progress, place: usize)
 }
 
 fn place_row(progress: &Progress, place: usize) -> Row
-    requires { place < 4 * length progress.now.layout.queues }
+    requires { place < most_cpus * length progress.now.layout.queues }
     ensures { result ≡ row_text progress.now.layout (past_in progress.now) TheTable.Places place }
 {
     let queueings = progress.summary().queueings_at(place);

@@ -6,7 +6,7 @@ ghost use Rattle.cmwq_cmd_summary.specs.Summing.{IsProgress};
 use crate::progress::Progress;
 use cmwq_base::{Entry, Gather, Illegal, NoMemory, Shape};
 use cmwq_tail::Trail;
-use std::alloc::Global;
+use std::alloc::{AllocError, Global};
 use std::marker::Model;
 
 /// Sums up the entries of a history as they come, and keeps none of them. Behind the first that is wrong it takes the others on
@@ -57,8 +57,9 @@ impl Gather for Summing {
 
     fn begin(alloc: Global, shape: Shape) -> Result<Self, NoMemory> {
         let progress = Progress::begin(alloc, shape)?;
-        let Ok(progress) = Box::new(alloc, progress) else {
-            return Err(NoMemory);
+        let progress = match Box::new(alloc, progress) {
+            Ok(progress) => progress,
+            Err(failed) => return Err(AllocError::from(failed).into()),
         };
         let all = Trail::new();
         Ok(Summing {

@@ -1,5 +1,6 @@
 -- A history that is judged from its first entry on.
 use Rattle.cmwq_core.specs.Common.{◌≡◌, ◌+◌, ◌*◌, ◌^◌, ◌<◌, ◌≤◌, ℕ, true, refl, List, [], ◌∷◌, length, take, drop, get_or, reverse, sym, ap, ap₂, ◌∙◌, subst, arith, add-one, take_more, reverse-append, length-take-le, Entry, Call, Layout, now, ticks_told, has_time, most_time, IsLegal, past_of, entry_for, AllFit, Wants, IsFirstWrong, le-leb}
+use Rattle.cmwq_core.specs.declared.judge.TheConstants.{MOST_OWED}
 use Rattle.std.proofs.Math.Seq.{split_at}
 use Rattle.cmwq_model.specs.declared.verdict.Wanted.{Wanted}
 use Rattle.cmwq_model.specs.declared.call.Call.TheVariants as call
@@ -7,7 +8,7 @@ use Rattle.cmwq_core.specs.History.{History, next_entry, with_entry}
 
 -- the book beside the entries, when so many are judged
 abbrev pub book_at : Layout → List Entry → ℕ → History
-book_at s entries k = record { layout = s; room = length entries + 10000; entries = take k entries }
+book_at s entries k = record { layout = s; room = length entries + MOST_OWED; entries = take k entries }
 
 -- so many entries are judged: they are a legal history, and the book holds them
 pub record AreJudged (s : Layout) (entries : List Entry) (k : ℕ) (b : History) : Type 0 where
@@ -21,7 +22,7 @@ time_for past (call.Tick t) k soon few less = le-leb (now past + t) most_time (o
 time_for past c k soon few less = refl
 
 -- before the first
-pub judged_none : (entries : List Entry) (b : History) → b.room ≡ length entries + 10000 → b.entries ≡ [] → AreJudged b.layout entries 0 b
+pub judged_none : (entries : List Entry) (b : History) → b.room ≡ length entries + MOST_OWED → b.entries ≡ [] → AreJudged b.layout entries 0 b
 unfolding IsLegal now
 judged_none entries b room fresh = record { legal = tt; soon = omega arith; book = ap₂ (λ (n : ℕ) (es : List Entry). let made : History = record { layout = b.layout; room = n; entries = es } in made) room fresh }
 
@@ -36,7 +37,7 @@ module _ (s : Layout) (entries : List Entry) (k : ℕ) (d : Entry) where
   legal_more h fit legal right = subst (IsLegal s) (sym (past_more h)) (fit k d h, right, legal)
 
   book_more : k < length entries → with_entry (book_at s entries k) (get_or entries k d) ≡ book_at s entries (k + 1)
-  book_more h = ap (λ (es : List Entry). let b : History = record { layout = s; room = length entries + 10000; entries = es } in b) (sym (take_more entries k d h))
+  book_more h = ap (λ (es : List Entry). let b : History = record { layout = s; room = length entries + MOST_OWED; entries = es } in b) (sym (take_more entries k d h))
 
   -- and the time is short
   soon_more : k < length entries → now (past_of (take k entries)) ≤ k * 2 ^ 32 → ticks_told (get_or entries k d).call < 2 ^ 32 → now (past_of (take (k + 1) entries)) ≤ (k + 1) * 2 ^ 32

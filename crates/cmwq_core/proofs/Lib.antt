@@ -2,5 +2,5 @@ pub mod Effecting
 pub mod Firing
 mod OwedBound
 mod Judging
-mod Relied
+pub mod Relied
 mod Marked

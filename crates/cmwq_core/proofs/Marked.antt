@@ -1,5 +1,5 @@
 -- The bits of an item, and the mark of an entry.
-use Rattle.cmwq_core.specs.Common.{◌≡◌, ℕ, ◌+◌, ◌<◌, find, ◌==◌, ◌||◌, ◌&&◌, Bool, true, false, List, ◌∷◌, length, Option, Some, None, is_some, refl, sym, ap, ap₂, ◌∙◌, subst, Contains, if◌then◌else◌, option_and_then, option_map, option_or, eqb-true, same_Some, ItemId, Reply, Entry, Queueing, Ticket, Layout, unended_tickets, is_at, is_of_item, item_of, item_at, item_called, item_fired, settles, booking, booking_of, is_booked, number_started, number_finished, queueing_at, unstarted_queueing, is_pending, opening, IsLegal, bits, found, in_contained, item_marked, ending, queueing_run, found_known, found_number, run_is_active, IsEffect, item_number, Flight, with_started, with_unstarted, without_run, flight_of, starting, unstarted_found, starts_next, next_unstarted, legal_before}
+use Rattle.cmwq_core.specs.Common.{◌≡◌, ℕ, ◌+◌, ◌<◌, find, ◌==◌, ◌||◌, ◌&&◌, Bool, true, false, List, ◌∷◌, length, Option, Some, None, is_some, refl, sym, ap, ap₂, ◌∙◌, subst, Contains, if◌then◌else◌, option_and_then, option_map, option_or, eqb-true, same_Some, ItemId, Reply, Entry, Queueing, Ticket, Layout, unended_tickets, is_at, is_of_item, item_of, item_at, item_called, settles, booking, booking_of, is_booked, number_started, number_finished, queueing_at, unstarted_queueing, is_pending, opening, IsLegal, bits, found, in_contained, item_marked, ending, queueing_run, found_known, found_number, run_is_active, IsEffect, item_number, Flight, with_started, with_unstarted, without_run, flight_of, starting, unstarted_found, starts_next, next_unstarted, legal_before}
 use Rattle.cmwq_model.specs.declared.reply.Reply.TheVariants as reply
 use Rattle.cmwq_state.proofs.Applied.{open_there}
 use Rattle.cmwq_theory_steps.proofs.Marks.{others_stay, no_item}

@@ -1,16 +1,18 @@
--- What a legal history owes is never more than 10,000 entries, where the layout is inside the limits.
-use Rattle.cmwq_core.specs.Common.{◌≡◌, ◌≤◌, ℕ, Bool, true, false, List, [], ◌∷◌, length, length-append, ap, ◌∙◌, arith, ◌*◌, IsTrue, if◌then◌else◌, flat_map, and_parts, leb-true, length-map, PoolId, Entry, Layout, is_layout, indices, is_booked, has_run, runs_asleep, still_open, is_frozen, worker_at, IsLegal, owed, workers, cpu_workers, pool_workers, has_not_started}
+-- What a legal history owes is never more than `MOST_OWED` entries, where the layout is inside the limits.
+use Rattle.cmwq_core.specs.Common.{◌≡◌, ◌≤◌, ℕ, Bool, true, false, List, [], ◌∷◌, length, length-append, ap, ◌∙◌, arith, ◌*◌, IsTrue, if◌then◌else◌, flat_map, length-map, PoolId, Entry, Layout, is_layout, indices, is_booked, has_run, runs_asleep, still_open, is_frozen, worker_at, IsLegal, owed, workers, cpu_workers, pool_workers, has_not_started}
 use Rattle.std.specs.List.{range_with_len}
 use Rattle.std.proofs.lemmas.List.Concat.{flat_map-cons}
 use Rattle.std.proofs.lemmas.List.FromFn.{length-range_with_len}
 use Rattle.std.proofs.lemmas.List.Sums.{count_by-le-length}
 use Rattle.cmwq_theory_steps.proofs.Limits.{two_for_each_item}
-use Rattle.cmwq_refinement.proofs.LayoutLimits.{items_few}
+use Rattle.cmwq_model.proofs.Limits.{limits_of}
+use Rattle.cmwq_model.specs.Prelude.{most_cpus, most_workers}
+use Rattle.cmwq_core.specs.declared.judge.TheConstants.{MOST_OWED}
 use Rattle.cmwq_refinement.proofs.TicketLimits.{unended_few}
 
--- ---- at most 64 workers
+-- ---- the workers
 
-few_in_all : {X : Type 0} (f : ℕ → List X) → ((i : ℕ) → length (f i) ≤ 16) → (is : List ℕ) → length (flat_map f is) ≤ 16 * length is
+few_in_all : {X : Type 0} (f : ℕ → List X) → ((i : ℕ) → length (f i) ≤ 2 * most_workers) → (is : List ℕ) → length (flat_map f is) ≤ 2 * most_workers * length is
 few_in_all f few [] = omega arith
 few_in_all f few (i ∷ is) =
     let parts = ap length (flat_map-cons f i is) ∙ length-append (f i) (flat_map f is) in
@@ -21,7 +23,7 @@ few_in_all f few (i ∷ is) =
 in_pool : (s : Layout) (p : PoolId) → length (pool_workers s p) ≡ s.workers
 in_pool s p = length-map (indices s) (worker_at p) ∙ length-range_with_len 0 s.workers
 
-on_cpu : (s : Layout) → s.workers ≤ 8 → (c : ℕ) → length (cpu_workers s c) ≤ 16
+on_cpu : (s : Layout) → s.workers ≤ most_workers → (c : ℕ) → length (cpu_workers s c) ≤ 2 * most_workers
 on_cpu s few c =
     let normal : PoolId = record { cpu = record { 0 = c }; high = false } in
     let high : PoolId = record { cpu = record { 0 = c }; high = true } in
@@ -30,19 +32,10 @@ on_cpu s few c =
     let second = in_pool s high in
     omega arith
 
-cpus_few : (s : Layout) → IsTrue (is_layout s) → s.cpus ≤ 4
-cpus_few s inside = leb-true s.cpus 4 (and_parts _ _ (and_parts _ _ (and_parts _ _ (and_parts _ _ (and_parts _ _ (and_parts _ _ inside).0).0).0).0).0).1
-
-pools_small : (s : Layout) → IsTrue (is_layout s) → s.workers ≤ 8
-pools_small s inside = leb-true s.workers 8 (and_parts _ _ (and_parts _ _ (and_parts _ _ (and_parts _ _ (and_parts _ _ (and_parts _ _ inside).0).0).0).0).1).1
-
-callers_few : (s : Layout) → IsTrue (is_layout s) → s.callers ≤ 64
-callers_few s inside = leb-true s.callers 64 (and_parts _ _ (and_parts _ _ (and_parts _ _ (and_parts _ _ (and_parts _ _ inside).0).0).0).1).1
-
-workers_few : (s : Layout) → IsTrue (is_layout s) → length (workers s) ≤ 64
+workers_few : (s : Layout) → IsTrue (is_layout s) → length (workers s) ≤ 2 * most_workers * most_cpus
 workers_few s inside =
-    let cpus = cpus_few s inside in
-    let all : length (workers s) ≤ 16 * length (range_with_len 0 s.cpus) = few_in_all (cpu_workers s) (on_cpu s (pools_small s inside)) (range_with_len 0 s.cpus) in
+    let cpus = (limits_of s inside).cpus.1 in
+    let all : length (workers s) ≤ 2 * most_workers * length (range_with_len 0 s.cpus) = few_in_all (cpu_workers s) (on_cpu s (limits_of s inside).workers.1) (range_with_len 0 s.cpus) in
     let many = length-range_with_len 0 s.cpus in
     omega arith
 
@@ -52,11 +45,11 @@ at_most_one false = omega arith
 
 -- ---- in all
 
-pub owed_few : (s : Layout) (past : List Entry) → IsTrue (is_layout s) → IsLegal s past → owed s past ≤ 10000
+pub owed_few : (s : Layout) (past : List Entry) → IsTrue (is_layout s) → IsLegal s past → owed s past ≤ MOST_OWED
 unfolding owed
 owed_few s past inside legal =
-    let items = items_few s inside in
-    let callers = callers_few s inside in
+    let items = (limits_of s inside).items.1 in
+    let callers = (limits_of s inside).callers.1 in
     let many = workers_few s inside in
     let flying = two_for_each_item s past legal in
     let unstarted = count_by-le-length (has_not_started past) (still_open past) in

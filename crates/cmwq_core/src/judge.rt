@@ -12,7 +12,7 @@ use std::alloc::Global;
 use std::marker::Model;
 
 /// No legal history owes more entries than these, so that a book with so much room beyond the entries refuses none of them.
-const MOST_OWED: u64 = 10_000;
+pub(crate) const MOST_OWED: u64 = 1_000_000;
 
 /// The room of a judge's state, from which it takes no more entries than numbers allow.
 const ALL_ROOM: u64 = 4_611_686_018_427_387_904;
@@ -85,7 +85,7 @@ impl Judge {
     /// What should stand there: the serial, or where the serial is right the reply. The judge is then the old one.
     pub fn next(&mut self, entry: Entry) -> Result<(), Wanted>
         requires fit { fits self.old.layout entry.who entry.call ≡ true }
-        requires most { length self.old.entries < 4611686018427377904 }
+        requires most { length self.old.entries < 4611686018426387904 }
         requires time { has_time (past_of self.old.entries) entry.call ≡ true }
         ensures right { OnOk result (self.new ≡ seen_too self.old entry) }
         ensures legal { OnOk result (IsLegal self.new.layout (past_of self.new.entries)) }
@@ -128,7 +128,7 @@ fn verdict(state: &mut State, entries: &[Entry]) -> Result<(), Illegal>
     requires few { length entries.now ≤ 1073741824 }
     requires fitting { AllFit state.old.layout entries.now }
     requires inside { IsTrue (is_layout state.old.layout) }
-    requires room { state.old.room ≡ length entries.now + 10000 }
+    requires room { state.old.room ≡ length entries.now + MOST_OWED }
     requires fresh { state.old.entries ≡ [] }
     ensures legal { OnOk result (IsLegal state.old.layout (past_of entries.now)) }
     ensures illegal { IfErr result (IsFirstWrong state.old.layout entries.now) }
@@ -151,7 +151,7 @@ fn verdict(state: &mut State, entries: &[Entry]) -> Result<(), Illegal>
 fn judged(state: &mut State, entry: Entry) -> Option<Wanted>
     requires fit { fits state.old.layout entry.who entry.call ≡ true }
     requires inside { IsTrue (is_layout state.old.layout) }
-    requires room { length state.old.entries + 10001 ≤ state.old.room }
+    requires room { length state.old.entries + MOST_OWED + 1 ≤ state.old.room }
     requires time { has_time (past_of state.old.entries) entry.call ≡ true }
     ensures right { result ≡ None → entry ≡ entry_due state.old entry.who entry.call }
     ensures appended { result ≡ None → state.new ≡ with_entry state.old entry }

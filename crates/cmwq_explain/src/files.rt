@@ -29,6 +29,9 @@ const ILLEGAL: u8 = 3;
 /// The status of calls without room, and of want of memory.
 const FULL: u8 = 4;
 
+/// The status of a fault of reading, writing or running.
+const FAULT: u8 = 5;
+
 /// Tells why a file of calls was refused by a word that ended with this status, or which of its calls had no room first, as one line. Where there
 /// is nothing to tell, as of want of memory, nothing is written. A failing sink changes nothing.
 pub fn explain_calls<E: Sink>(alloc: Global, word: &str, status: u8, bytes: &[u8], errors: &mut E)
@@ -52,14 +55,17 @@ pub fn explain_calls<E: Sink>(alloc: Global, word: &str, status: u8, bytes: &[u8
     tell_text(errors, &text);
 }
 
-/// Tells that an input was too long to be kept, so that nothing is told of it.
-pub fn explain_unkept<E: Sink>(errors: &mut E)
+/// Tells, where a word ended with this status, that its input was too long to be kept, so that nothing is told of it. At a fault, of which nothing
+/// would be told anyway, nothing is written.
+pub fn explain_unkept<E: Sink>(status: u8, errors: &mut E)
     ensures { WritesLittle (E.written errors.old) (E.written errors.new) }
 {
     let mut text = Text::new();
-    text.say("no more is told: of the input at most ");
-    text.number(MOST_KEPT as u64);
-    text.say(" bytes are kept, as far as there is memory");
+    if status != FAULT {
+        text.say("no more is told: of the input at most ");
+        text.number(MOST_KEPT as u64);
+        text.say(" bytes are kept, as far as there is memory");
+    }
     tell_text(errors, &text);
 }
 

@@ -5,6 +5,7 @@ mod files;
 mod fit;
 mod flags;
 mod form;
+mod gates;
 mod head;
 mod kept;
 mod kind;
@@ -23,6 +24,7 @@ mod words;
 mod wrong;
 
 pub use files::{explain_calls, explain_history, explain_unkept};
+pub use gates::explain_gate;
 pub use kept::{Kept, MOST_KEPT};
 pub use nearest::likely;
 pub use text::Text;

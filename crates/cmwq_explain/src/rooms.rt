@@ -1,5 +1,7 @@
 //! What has no room: calls, and inputs that are too long.
 
+ghost use Rattle.std.specs.Prelude.{◌≡◌};
+
 use crate::place::line_of;
 use crate::text::Text;
 use cmwq_base::{Call, Listed, Who};
@@ -40,6 +42,13 @@ pub fn tell_no_room(
 fn first_full(alloc: Global, file: &Listed<(Who, Call)>) -> Option<u64> {
     let room = file.shape.counts().room;
     let mut execution = Execution::new(alloc, &file.shape, room).ok()?;
+    first_full_of(&mut execution, file)
+}
+
+/// The same, of an execution without entries. So the execution is let go at one place alone.
+fn first_full_of(execution: &mut Execution, file: &Listed<(Who, Call)>) -> Option<u64>
+    requires { execution.old.layout ≡ file.now.shape }
+{
     let mut at = 0u64;
     for (who, call) in &file.items {
         if !file.shape.fits(*who, *call) {

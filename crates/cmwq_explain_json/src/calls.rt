@@ -33,8 +33,11 @@ const TICKS: &str = "4";
 
 const WIDTH: &str = "5";
 
+/// How many calls and actions there are.
+const SAMPLE_COUNT: usize = 16;
+
 /// A sample of each call and action: its word, and its arguments.
-const SAMPLES: [Sample; 16] = [
+const SAMPLES: [Sample; SAMPLE_COUNT] = [
     ("queue", [ITEM, QUEUE, CPU, ""]),
     ("delay", [ITEM, QUEUE, CPU, TICKS]),
     ("modify", [ITEM, QUEUE, CPU, TICKS]),
@@ -53,15 +56,20 @@ const SAMPLES: [Sample; 16] = [
     ("sleep_at", [GATE, "", "", ""]),
 ];
 
+/// The sample with this number.
+fn sample_of(number: usize) -> Option<Sample> {
+    SAMPLES.get(number).copied()
+}
+
 /// The word of a sample.
 fn word_of(number: usize) -> Option<&'static str> {
-    let (word, _) = SAMPLES.get(number)?;
-    Some(*word)
+    let (word, _) = sample_of(number)?;
+    Some(word)
 }
 
 /// An argument of a sample, if it has so many.
 fn argument_of(number: usize, index: usize) -> Option<&'static str> {
-    let (_, arguments) = SAMPLES.get(number)?;
+    let (_, arguments) = sample_of(number)?;
     match *arguments.get(index)? {
         "" => None,
         argument => Some(argument),
@@ -103,13 +111,18 @@ pub fn takes(world: World<'_>, maker: Maker, calls: &str) -> Result<bool, AllocE
     Grammar::Script.takes(world.alloc, json.text.as_str())
 }
 
+/// Whether someone may make the call of a sample.
+fn is_taken(world: World<'_>, maker: Maker, number: usize) -> Result<bool, AllocError> {
+    let call = sample_call(world, number, 4, "")?;
+    takes(world, maker, call.text.as_str())
+}
+
 /// The words with which someone may make calls.
 fn words_of(world: World<'_>, maker: Maker) -> Result<Vec<&'static str>, AllocError> {
     let mut words = Vec::new(world.alloc);
-    for (number, (word, _)) in SAMPLES.iter().enumerate() {
-        let call = sample_call(world, number, 4, "")?;
-        if takes(world, maker, call.text.as_str())? {
-            words.push(*word)?;
+    for number in 0..SAMPLE_COUNT {
+        if is_taken(world, maker, number)? {
+            words.push(word_of(number).unwrap_or(""))?;
         }
     }
     Ok(words)
@@ -117,7 +130,7 @@ fn words_of(world: World<'_>, maker: Maker) -> Result<Vec<&'static str>, AllocEr
 
 /// The number of the sample with this word.
 fn number_of(word: &str) -> Option<usize> {
-    SAMPLES.iter().position(|(other, _)| *other == word)
+    (0..SAMPLE_COUNT).find(|number| word_of(*number) == Some(word))
 }
 
 /// Says which call of a list is told.

@@ -87,6 +87,10 @@ impl World<'_> {
         is_before: bool,
     ) -> Result<(), AllocError> {
         match self.whole.get(name) {
+            // the limits of the numbers before it are those of the format that the whole says
+            Some(_) if name == "format" && !is_before && self.is_short() => {
+                json.put_member(name, "2")
+            }
             Some(value) if is_before && sample != "[]" => {
                 let text = value.to_string(self.alloc)?;
                 json.put_member(name, text.as_str())
@@ -96,30 +100,44 @@ impl World<'_> {
         }
     }
 
+    /// Whether the whole says format 2, and may.
+    fn is_short(self) -> bool {
+        let format = self.whole.get("format").and_then(Value::as_u64);
+        format == Some(2) && self.whole.get("journal").is_none()
+    }
+
     /// A sample with this object at its place; where its queue is tried, with the queues of the whole.
     fn with_object(self, place: Place, key: &str, object: &str) -> Result<Json, AllocError> {
         let mut json = Json::new(self.alloc);
         json.put("{")?;
         for (name, sample) in self.grammar.members(Place::Top) {
-            let is_own = match *name {
-                "queues" => place == Place::Queue,
-                "items" => place == Place::Item,
-                _ => false,
-            };
-            if is_own {
+            if is_list_of(name, place) {
                 let list = listed(self.alloc, object)?;
                 json.put_member(name, list.text.as_str())?;
-            } else if *name == "queues" && key == "queue" {
-                let list = self.own_list("queues")?;
-                json.put_member(name, list.text.as_str())?;
-            } else if *name == "items" && self.grammar == Grammar::Scenario {
-                json.put_member(name, sample)?;
             } else {
-                self.put_sample(&mut json, name, sample)?;
+                self.put_beside(&mut json, key, name, sample)?;
             }
         }
         json.put("}")?;
         Ok(json)
+    }
+
+    /// Puts a member of the top beside an object that is tried.
+    fn put_beside(
+        self,
+        json: &mut Json,
+        key: &str,
+        name: &str,
+        sample: &str,
+    ) -> Result<(), AllocError> {
+        if name == "queues" && key == "queue" {
+            let list = self.own_list("queues")?;
+            json.put_member(name, list.text.as_str())
+        } else if name == "items" && self.grammar == Grammar::Scenario {
+            json.put_member(name, sample)
+        } else {
+            self.put_sample(json, name, sample)
+        }
     }
 
     /// The list of the sample object at a key of the top.
@@ -148,6 +166,15 @@ impl World<'_> {
             None => json.put("[]")?,
         }
         Ok(json)
+    }
+}
+
+/// Whether a member of the top is the list of the objects at this place.
+fn is_list_of(name: &str, place: Place) -> bool {
+    match name {
+        "queues" => place == Place::Queue,
+        "items" => place == Place::Item,
+        _ => false,
     }
 }
 

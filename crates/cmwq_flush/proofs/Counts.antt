@@ -7,8 +7,8 @@ use Rattle.cmwq_flush.specs.Rows.{ComesBefore, has_colour, colour_count, IsTally
 pub count_of-remove : (c : ℕ) (rows : List Row) (i : ℕ) (d : Row) → i < length rows → colour_count c (remove rows i) + cond (has_colour c (get_or rows i d)) 1 0 ≡ colour_count c rows
 count_of-remove c rows i d lt = sum_by-remove (λ r. cond (has_colour c r) 1 0) rows i d lt
 
-exact_after : (rows : List Row) (counts : List ℕ) (i : ℕ) (r : Row) → i < length rows → r ≡ get_or rows i r → length counts ≡ 16 → IsTally rows counts → (c : ℕ) → c < 16 → (c ≡ r.colour) ⊎ (c ≡ r.colour → ⊥) → slice_index (set counts r.colour (slice_index counts r.colour - 1)) c ≡ colour_count c (remove rows i)
-exact_after rows counts i r lt at sixteen is c below which =
+exact_after : (room : ℕ) (rows : List Row) (counts : List ℕ) (i : ℕ) (r : Row) → i < length rows → r ≡ get_or rows i r → length counts ≡ 16 → IsTally room rows counts → (c : ℕ) → c < 16 → (c ≡ r.colour) ⊎ (c ≡ r.colour → ⊥) → slice_index (set counts r.colour (slice_index counts r.colour - 1)) c ≡ colour_count c (remove rows i)
+exact_after room rows counts i r lt at sixteen is c below which =
     let counted : colour_count c (remove rows i) + cond (has_colour c r) 1 0 ≡ colour_count c rows = rw at (count_of-remove c rows i r lt) in
     let was = is.exact c below in
     let size : r.colour < length counts = omega (arith, rw (← at) at (is.coloured i r lt)) in
@@ -22,10 +22,10 @@ exact_after rows counts i r lt at sixteen is c below which =
     let kept : colour_count c (remove rows i) + 0 ≡ colour_count c rows = rw miss at counted in
     get_or-set_other counts r.colour c _ 0 differs ∙ omega arith) which
 
-pub IsTally-remove : (rows : List Row) (counts : List ℕ) (i : ℕ) (r : Row) → i < length rows → r ≡ get_or rows i r → length counts ≡ 16 → IsTally rows counts → IsTally (remove rows i) (set counts r.colour (slice_index counts r.colour - 1))
-IsTally-remove rows counts i r lt at sixteen is = record {
+pub IsTally-remove : (room : ℕ) (rows : List Row) (counts : List ℕ) (i : ℕ) (r : Row) → i < length rows → r ≡ get_or rows i r → length counts ≡ 16 → IsTally room rows counts → IsTally room (remove rows i) (set counts r.colour (slice_index counts r.colour - 1))
+IsTally-remove room rows counts i r lt at sixteen is = record {
   rising = all_pairs_remove ComesBefore rows i lt is.rising;
   coloured = let IsColoured : Row → Type 0 = λ s. s.colour < 16 in All-append IsColoured _ _ (All-take IsColoured i rows is.coloured) (All-drop IsColoured (suc i) rows is.coloured);
   few = let shorter = length-remove rows i lt in let few = is.few in omega arith;
-  exact = λ c below. exact_after rows counts i r lt at sixteen is c below (cases_eq c r.colour);
+  exact = λ c below. exact_after room rows counts i r lt at sixteen is c below (cases_eq c r.colour);
 }

@@ -88,8 +88,8 @@ right_left b rows colours t is = record {
 }
 
 -- nothing is open and no flush stands
-pub right_new : (callers : ℕ) → IsRight (new_book callers) [] (range_with_len 0 16)
-right_new callers = record {
+pub right_new : (callers items : ℕ) → IsRight (new_book callers items) [] (range_with_len 0 16)
+right_new callers items = record {
   orderly = record {
     older = λ k d lt. absurd (omega arith);
     bounds_rise = λ i j d le lt. absurd (omega arith);

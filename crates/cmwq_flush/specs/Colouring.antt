@@ -61,5 +61,5 @@ pub record IsRight (b : FlushBook) (rows : List Row) (colours : List ℕ) : Type
   pub serving : IsServing b
   pub colouring : IsColouring colours b.served rows
 
-abbrev pub book_of : ℕ → ℕ → List Row → List Served → List ℕ → List ℕ → FlushBook
-book_of callers next rows served overflow drains = record { callers = callers; next = next; opened = row_numbers rows; served = served; overflow = overflow; drains = drains }
+abbrev pub book_of : ℕ → ℕ → ℕ → List Row → List Served → List ℕ → List ℕ → FlushBook
+book_of callers items next rows served overflow drains = record { callers = callers; items = items; next = next; opened = row_numbers rows; served = served; overflow = overflow; drains = drains }

@@ -8,14 +8,15 @@ use Rattle.cmwq_flush.specs.Served.{tickets_of_served, has_ticket, is_other_flus
 -- served, the tickets in overflow and those of drains stand by age
 pub record FlushBook : Type 0 where
   pub callers : ℕ
+  pub items : ℕ
   pub next : ℕ
   pub opened : List ℕ
   pub served : List Served
   pub overflow : List ℕ
   pub drains : List ℕ
 
-abbrev pub new_book : ℕ → FlushBook
-new_book callers = record { callers = callers; next = 0; opened = []; served = []; overflow = []; drains = [] }
+abbrev pub new_book : ℕ → ℕ → FlushBook
+new_book callers items = record { callers = callers; items = items; next = 0; opened = []; served = []; overflow = []; drains = [] }
 
 -- the tickets of flushes by age, and how many tickets stand in all
 abbrev pub flush_tickets : FlushBook → List ℕ
@@ -27,8 +28,9 @@ standing_count b = length b.served + length b.overflow + length b.drains
 abbrev pub HasRoom : FlushBook → Type 0
 HasRoom b = standing_count b < 64 * b.callers
 
+-- two queueings of each item may be open
 abbrev pub CanOpen : FlushBook → ℕ → Type 0
-CanOpen b n = (b.next ≤ n) × (length b.opened < 512)
+CanOpen b n = (b.next ≤ n) × (length b.opened < 2 * b.items)
 
 -- a flush or a drain begins with a later ticket than those of its kind that stand
 abbrev pub CanBegin : FlushBook → ℕ → Type 0

@@ -37,9 +37,14 @@ colour_count c rows = count_by (has_colour c) rows
 abbrev pub is_unused : List Row → ℕ → Bool
 is_unused rows c = colour_count c rows == 0
 
--- rows by rising number, each with a colour below 16, and the count of each colour
-pub record IsTally (rows : List Row) (counts : List ℕ) : Type 0 where
+-- the rows, and how many there may be
+pub record OpenRows : Type 0 where
+  pub room : ℕ
+  pub rows : List Row
+
+-- no more rows than there is room for, by rising number, each with a colour below 16, and the count of each colour
+pub record IsTally (room : ℕ) (rows : List Row) (counts : List ℕ) : Type 0 where
   pub rising : AllPairs ComesBefore rows
   pub coloured : All (λ r. r.colour < 16) rows
-  pub few : length rows ≤ 512
+  pub few : length rows ≤ room
   pub exact : (c : ℕ) → c < 16 → slice_index counts c ≡ colour_count c rows

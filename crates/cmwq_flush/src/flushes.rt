@@ -18,6 +18,7 @@ use std::marker::Model;
 #[derive(Debug, Drop)]
 pub struct Flushes {
     callers: u8,
+    items: u16,
     next: u64,
     tally: Tally,
     served: Vec<Served>,
@@ -28,32 +29,34 @@ pub struct Flushes {
 }
 
 impl Model for Flushes {
-    ghost use Rattle.std.specs.Prelude.{◌*◌, ◌≤◌, vec_capacity};
+    ghost use Rattle.std.specs.Prelude.{◌≡◌, ◌*◌, ◌≤◌, vec_capacity};
     ghost use Rattle.cmwq_flush.specs.declared.limits.TheConstants.{MOST_SERVED, TICKETS_OF_CALLER};
     ghost use Rattle.cmwq_flush.specs.FlushBook.{FlushBook};
     ghost use Rattle.cmwq_flush.specs.Colouring.{book_of, IsRight};
 
     ghost Value = { FlushBook };
 
-    ghost view = { λ f. book_of f.callers f.next f.tally f.served.items f.overflow.items f.drains.items };
+    ghost view = { λ f. book_of f.callers f.items f.next f.tally.rows f.served.items f.overflow.items f.drains.items };
 
-    ghost invariant = { λ f. IsRight (book_of f.callers f.next f.tally f.served.items f.overflow.items f.drains.items) f.tally f.colours
+    ghost invariant = { λ f. IsRight (book_of f.callers f.items f.next f.tally.rows f.served.items f.overflow.items f.drains.items) f.tally.rows f.colours
+        × (f.tally.room ≡ 2 * f.items)
         × (MOST_SERVED ≤ vec_capacity f.served)
         × (TICKETS_OF_CALLER * f.callers ≤ vec_capacity f.overflow)
         × (TICKETS_OF_CALLER * f.callers ≤ vec_capacity f.drains) };
 }
 
 impl Flushes {
-    /// No open queueing, no flush and no drain, with room for 64 tickets for each of so many callers.
-    /// No later call takes memory; the error says that it ran out.
-    pub fn new(alloc: Global, callers: u8) -> Result<Self, NoMemory>
-        ensures { IfOk result (λ flushes. flushes ≡ new_book callers) }
+    /// No open queueing, no flush and no drain, with room for 64 tickets for each of so many callers, and for two open
+    /// queueings of each of so many items. No later call takes memory; the error says that it ran out.
+    pub fn new(alloc: Global, callers: u8, items: u16) -> Result<Self, NoMemory>
+        ensures { IfOk result (λ flushes. flushes ≡ new_book callers items) }
     {
         let room = TICKETS_OF_CALLER * usize::from(callers);
         Ok(Flushes {
             callers,
+            items,
             next: 0,
-            tally: Tally::new(alloc)?,
+            tally: Tally::new(alloc, 2 * (items as u32))?,
             served: Vec::with_capacity(alloc, MOST_SERVED)?,
             colours: [0, 1, 2, 3, 4, 5, 6, 7, 8, 9, 10, 11, 12, 13, 14, 15],
             overflow: Vec::with_capacity(alloc, room)?,
@@ -124,7 +127,7 @@ impl Flushes {
         }
     }
 
-    /// Whether a queueing of this number may be opened: it comes after all that were, and fewer than 512 are open.
+    /// Whether a queueing of this number may be opened: it comes after all that were, and fewer than two of each item are open.
     pub fn may_open(&self, number: Number) -> bool
         ensures { IsTrue result ↔ CanOpen self.now number }
     {
@@ -222,9 +225,9 @@ fn is_served_ready(
     requires place { place < length served.now }
     requires few { length served.now ≤ MOST_SERVED }
     requires rise { IsNonDecreasingBy bound_of served.now }
-    requires colouring { IsColouring colours.now served.now tally.now }
-    ensures colours { IsTrue result ↔ AreUnused tally.now (take (place + 1) colours.now) }
-    ensures bound { IsTrue result ↔ WaitsForNothing tally.now served.now place }
+    requires colouring { IsColouring colours.now served.now tally.now.rows }
+    ensures colours { IsTrue result ↔ AreUnused tally.now.rows (take (place + 1) colours.now) }
+    ensures bound { IsTrue result ↔ WaitsForNothing tally.now.rows served.now place }
 {
     tally.are_clear(&colours[..place + 1])
 }

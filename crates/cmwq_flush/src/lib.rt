@@ -12,5 +12,5 @@ mod tickets;
 pub use barrier::Barrier;
 pub use barriers::Barriers;
 pub use flushes::Flushes;
-pub use limits::{MOST_OPEN, MOST_SERVED, TICKETS_OF_CALLER};
+pub use limits::{MOST_SERVED, TICKETS_OF_CALLER};
 pub use served::Served;

@@ -1,6 +1,3 @@
-/// How many queueings of a queue may be open at once.
-pub const MOST_OPEN: usize = 512;
-
 /// How many unended tickets a caller may have.
 pub const TICKETS_OF_CALLER: usize = 64;
 

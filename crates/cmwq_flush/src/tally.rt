@@ -2,7 +2,7 @@ ghost use Rattle.std.specs.Prelude.{◌≡◌, ◌<◌, ◌≤◌, ◌↔◌, �
 ghost use Rattle.std.specs.List.{list_all};
 ghost use Rattle.cmwq_flush.specs.Rows.{ComesBefore, HasNumberAt, RowsLackNumber, is_unused, row_numbers, without_row};
 
-use crate::limits::{COLOURS, MOST_OPEN};
+use crate::limits::COLOURS;
 use cmwq_model::Number;
 use std::alloc::{AllocError, Global};
 use std::marker::Model;
@@ -20,47 +20,48 @@ pub(crate) struct Row {
 /// The open queueings of a queue by rising number, each with a colour, and how many have each colour.
 #[derive(Debug, Drop)]
 pub(crate) struct Tally {
+    /// How many may be open at once.
+    room: u32,
     rows: Vec<Row>,
-    counts: [u16; COLOURS],
+    counts: [u32; COLOURS],
 }
 
 impl Model for Tally {
-    ghost use Rattle.std.specs.Prelude.{List, ◌≤◌, vec_capacity};
-    ghost use Rattle.cmwq_flush.specs.declared.limits.TheConstants.{MOST_OPEN};
-    ghost use Rattle.cmwq_flush.specs.declared.tally.Row.{Row};
-    ghost use Rattle.cmwq_flush.specs.Rows.{IsTally};
+    ghost use Rattle.std.specs.Prelude.{◌≤◌, vec_capacity};
+    ghost use Rattle.cmwq_flush.specs.Rows.{IsTally, OpenRows};
 
-    ghost Value = { List Row };
+    ghost Value = { OpenRows };
 
-    ghost view = { λ t. t.rows.items };
+    ghost view = { λ t. record { room = t.room; rows = t.rows.items } };
 
-    ghost invariant = { λ t. IsTally t.rows.items t.counts × (MOST_OPEN ≤ vec_capacity t.rows) };
+    ghost invariant = { λ t. IsTally t.room t.rows.items t.counts × (t.room ≤ vec_capacity t.rows) };
 }
 
 impl Tally {
-    /// No open queueing. No later call takes memory.
-    pub(crate) fn new(alloc: Global) -> Result<Self, AllocError>
-        ensures { IfOk result (λ tally. tally ≡ []) }
+    /// No open queueing, with room for so many. No later call takes memory.
+    pub(crate) fn new(alloc: Global, room: u32) -> Result<Self, AllocError>
+        ensures { IfOk result (λ tally. tally ≡ record { room = room; rows = [] }) }
     {
         Ok(Tally {
-            rows: Vec::with_capacity(alloc, MOST_OPEN)?,
+            room,
+            rows: Vec::with_capacity(alloc, room as usize)?,
             counts: [0; COLOURS],
         })
     }
 
     pub(crate) fn open(&mut self, number: Number, colour: Colour)
-        requires later { All (λ r. r.number < number) self.old }
-        requires room { length self.old < MOST_OPEN }
+        requires later { All (λ r. r.number < number) self.old.rows }
+        requires room { length self.old.rows < self.old.room }
         requires is_colour { colour < COLOURS }
-        ensures { self.new ≡ self.old ++ (record { number = number; colour = colour }) ∷ [] }
+        ensures { self.new ≡ record self.old { rows = self.old.rows ++ (record { number = number; colour = colour }) ∷ [] } }
     {
         self.counts[usize::from(colour)] += 1;
         self.rows.push_reserved(Row { number, colour });
     }
 
     pub(crate) fn close(&mut self, number: Number)
-        requires { Contains (row_numbers self.old) number }
-        ensures { self.new ≡ without_row number self.old }
+        requires { Contains (row_numbers self.old.rows) number }
+        ensures { self.new ≡ record self.old { rows = without_row number self.old.rows } }
     {
         let place = place_of(&self.rows, number);
         let row = self.rows.remove(place);
@@ -70,7 +71,7 @@ impl Tally {
     /// Whether the counts of these colours are 0.
     pub(crate) fn are_clear(&self, colours: &[Colour]) -> bool
         requires { All (λ c. c < COLOURS) colours.now }
-        ensures { result ≡ list_all (is_unused self.now) colours.now }
+        ensures { result ≡ list_all (is_unused self.now.rows) colours.now }
     {
         colours.iter().all(|&colour| self.is_clear(colour))
     }
@@ -78,33 +79,33 @@ impl Tally {
     /// Whether the count of this colour is 0.
     fn is_clear(&self, colour: Colour) -> bool
         requires { colour < COLOURS }
-        ensures { result ≡ is_unused self.now colour }
+        ensures { result ≡ is_unused self.now.rows colour }
     {
         self.counts[usize::from(colour)] == 0
     }
 
     /// The least number.
     pub(crate) fn first(&self) -> Option<Number>
-        ensures first { result ≡ slice_get (row_numbers self.now) 0 }
-        ensures rising { AllPairs ComesBefore self.now }
+        ensures first { result ≡ slice_get (row_numbers self.now.rows) 0 }
+        ensures rising { AllPairs ComesBefore self.now.rows }
     {
         self.rows.first().map(|row| row.number)
     }
 
     pub(crate) fn is_empty(&self) -> bool
-        ensures { IsTrue result ↔ (self.now ≡ []) }
+        ensures { IsTrue result ↔ (self.now.rows ≡ []) }
     {
         self.rows.is_empty()
     }
 
     pub(crate) fn is_full(&self) -> bool
-        ensures { IsTrue result ↔ (MOST_OPEN ≤ length self.now) }
+        ensures { IsTrue result ↔ (self.now.room ≤ length self.now.rows) }
     {
-        self.rows.len() >= MOST_OPEN
+        self.rows.len() >= self.room as usize
     }
 
     pub(crate) fn contains(&self, number: Number) -> bool
-        ensures { IsTrue result ↔ Contains (row_numbers self.now) number }
+        ensures { IsTrue result ↔ Contains (row_numbers self.now.rows) number }
     {
         find_row(&self.rows, number).is_some()
     }

@@ -1,5 +1,5 @@
 -- Numbers, widths and members keep to their limits.
-use Rattle.cmwq_json.specs.Common.{◌≡◌, ℕ, zero, suc, ◌<◌, ◌≤◌, ◌&&◌, Bool, true, false, not, nat_lt, nat_le, ◌==◌, List, [], ◌∷◌, ◌++◌, length, cond, Option, Some, None, refl, sym, ap, subst, ◌∙◌, arith, if◌then◌else◌, length-append, option_map, option_and_then, codes, IfSome, min, position, AllByRecursion, position_or_len, and_parts, ne_eqb, Data, get, as_bool, as_number, as_u64}
+use Rattle.cmwq_json.specs.Common.{◌≡◌, ℕ, zero, suc, ◌<◌, ◌≤◌, ◌&&◌, Bool, true, false, not, nat_lt, nat_le, List, [], ◌∷◌, ◌++◌, length, cond, Option, Some, None, refl, sym, ap, subst, arith, if◌then◌else◌, length-append, option_map, option_and_then, codes, IfSome, min, position, AllByRecursion, position_or_len, and_parts, ne_eqb, Data, get, as_bool, as_number, as_u64}
 use Rattle.std.proofs.lemmas.Bool.Decides.{nat_tests}
 use Rattle.std.proofs.lemmas.Option.{same_Some}
 use Rattle.cmwq_json.specs.Names.{Named, add_named, is_in_range, is_taken, name_said}

@@ -1,5 +1,5 @@
 -- What a value names keeps to the limits.
-use Rattle.cmwq_json_scenario.specs.Common.{◌≡◌, ℕ, ◌<◌, ◌≤◌, ◌&&◌, Bool, true, false, ◌==◌, map, List, [], ◌∷◌, ◌++◌, length, Option, Some, None, Result, Ok, Err, refl, sym, subst, ◌∙◌, arith, if◌then◌else◌, option_map, option_and_then, codes, IfSome, length-map, Data, Items, get, as_str, as_array, SimQueue, Item, IsBetween, IsQueue, IsItem, IsWithinLimits, in_turn, has_keys, Named, nobody, add_named, is_in_range, name_said, number_of_name, number_between, parts_said, kept}
+use Rattle.cmwq_json_scenario.specs.Common.{◌≡◌, ℕ, ◌<◌, ◌≤◌, Bool, true, false, ◌==◌, map, List, [], ◌∷◌, ◌++◌, length, Option, Some, None, Result, Ok, Err, refl, sym, subst, ◌∙◌, arith, if◌then◌else◌, option_map, option_and_then, codes, IfSome, length-map, Data, Items, get, as_str, as_array, SimQueue, Item, IsBetween, IsQueue, IsItem, IsWithinLimits, in_turn, has_keys, Named, nobody, add_named, is_in_range, name_said, number_of_name, number_between, parts_said, kept}
 use Rattle.std.specs.Str.{bytes_eq}
 use Rattle.std.specs.List.{AllByRecursion}
 use Rattle.std.proofs.lemmas.Bool.{eq-eqb}

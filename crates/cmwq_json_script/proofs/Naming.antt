@@ -3,43 +3,43 @@ use Rattle.cmwq_json_script.specs.Common.{◌≡◌, ◌<◌, ◌≤◌, ◌+◌
 use Rattle.cmwq_json_script.specs.Known.{name_in, with_name, names_after}
 
 -- a name is added where none of them is the same
-pub name_kept_once : (names after : List (String Global)) (s : String Global) (name : List ℕ) (o : Option (List ℕ)) → string_bytes s ≡ name → length names < 256 → after ≡ insert_key same names s → Some name ≡ o
-    → map string_bytes after ≡ with_name (map string_bytes names) o
-name_kept_once names after s name o is room keys some =
+pub name_kept_once : (most : ℕ) (names after : List (String Global)) (s : String Global) (name : List ℕ) (o : Option (List ℕ)) → string_bytes s ≡ name → length names < most → after ≡ insert_key same names s → Some name ≡ o
+    → map string_bytes after ≡ with_name most (map string_bytes names) o
+name_kept_once most names after s name o is room keys some =
     ap (map string_bytes) keys ∙ at (list_any (same s) names)
-    ∙ sym (ap₂ (λ a t. if a && not t then map string_bytes names ++ name ∷ [] else map string_bytes names) (ap (λ n. nat_lt n 256) (length-map names string_bytes) ∙ lt-ltb (length names) 256 room) (taken names s name is))
-    ∙ ap (with_name (map string_bytes names)) some
+    ∙ sym (ap₂ (λ a t. if a && not t then map string_bytes names ++ name ∷ [] else map string_bytes names) (ap (λ n. nat_lt n most) (length-map names string_bytes) ∙ lt-ltb (length names) most room) (taken names s name is))
+    ∙ ap (with_name most (map string_bytes names)) some
   where
     at : (t : Bool) → map string_bytes (if t then names else names ++ s ∷ []) ≡ (if true && not t then map string_bytes names ++ name ∷ [] else map string_bytes names)
     at true = refl
     at false = map-append string_bytes names (s ∷ []) ∙ ap (λ n. map string_bytes names ++ n ∷ []) is
 
-few_names : (before : List (List ℕ)) (o : Option (List ℕ)) → length before ≤ 256 → length (with_name before o) ≤ 256
-few_names before None few = few
-few_names before (Some name) few = at (nat_lt (length before) 256) refl (is_taken before name)
+few_names : (most : ℕ) (before : List (List ℕ)) (o : Option (List ℕ)) → length before ≤ most → length (with_name most before o) ≤ most
+few_names most before None few = few
+few_names most before (Some name) few = at (nat_lt (length before) most) refl (is_taken before name)
   where
-    at : (room : Bool) → nat_lt (length before) 256 ≡ room → (t : Bool) → length (if room && not t then before ++ name ∷ [] else before) ≤ 256
+    at : (room : Bool) → nat_lt (length before) most ≡ room → (t : Bool) → length (if room && not t then before ++ name ∷ [] else before) ≤ most
     at true room false =
-        let less : length before < 256 = grind (arith, nat_tests) in
+        let less : length before < most = grind (arith, nat_tests) in
         let more = length-append before (name ∷ []) in
         omega arith
     at true room true = few
     at false room t = few
 
-pub few_names_kept : (names after : List (String Global)) (o : Option (List ℕ)) → length names ≤ 256 → map string_bytes after ≡ with_name (map string_bytes names) o → length after ≤ 256
-few_names_kept names after o few is =
+pub few_names_kept : (most : ℕ) (names after : List (String Global)) (o : Option (List ℕ)) → length names ≤ most → map string_bytes after ≡ with_name most (map string_bytes names) o → length after ≤ most
+few_names_kept most names after o few is =
     let a = length-map after string_bytes in
     let b = length-map names string_bytes in
     let c = ap length is in
-    let d = few_names (map string_bytes names) o (omega arith) in
+    let d = few_names most (map string_bytes names) o (omega arith) in
     omega arith
 
 -- what is left of the members
-pub next_name : (all : List Value) (i : ℕ) (before after names : List (List ℕ)) (v d : Value) → i < length all → get_or all i d ≡ v → names ≡ names_after before (items_view (drop i all)) → after ≡ with_name before (name_in (view v))
-    → names ≡ names_after after (items_view (drop (i + 1) all))
-next_name all i before after names v d less at so is =
-    so ∙ ap (λ vs. names_after before (items_view vs)) (drop-cons all i d less) ∙ ap (λ j. names_after before (item (view (get_or all i d)) (items_view (drop j all)))) (sym (add-one i))
-    ∙ ap (λ w. names_after (with_name before (name_in (view w))) (items_view (drop (i + 1) all))) at ∙ sym (ap (λ b. names_after b (items_view (drop (i + 1) all))) is)
+pub next_name : (most : ℕ) (all : List Value) (i : ℕ) (before after names : List (List ℕ)) (v d : Value) → i < length all → get_or all i d ≡ v → names ≡ names_after most before (items_view (drop i all)) → after ≡ with_name most before (name_in (view v))
+    → names ≡ names_after most after (items_view (drop (i + 1) all))
+next_name most all i before after names v d less at so is =
+    so ∙ ap (λ vs. names_after most before (items_view vs)) (drop-cons all i d less) ∙ ap (λ j. names_after most before (item (view (get_or all i d)) (items_view (drop j all)))) (sym (add-one i))
+    ∙ ap (λ w. names_after most (with_name most before (name_in (view w))) (items_view (drop (i + 1) all))) at ∙ sym (ap (λ b. names_after most b (items_view (drop (i + 1) all))) is)
 
-pub names_done : (all : List Value) (i : ℕ) (before names : List (List ℕ)) → length all ≤ i → names ≡ names_after before (items_view (drop i all)) → before ≡ names
-names_done all i before names past so = sym (so ∙ ap (λ vs. names_after before (items_view vs)) (drop_end i all past))
+pub names_done : (most : ℕ) (all : List Value) (i : ℕ) (before names : List (List ℕ)) → length all ≤ i → names ≡ names_after most before (items_view (drop i all)) → before ≡ names
+names_done most all i before names past so = sym (so ∙ ap (λ vs. names_after most before (items_view vs)) (drop_end i all past))

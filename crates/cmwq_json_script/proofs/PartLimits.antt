@@ -34,19 +34,19 @@ queue_wide d = at (has_queue_keys d)
         (λ flag _. then_holds (λ _. Unit {0}) (λ (x : List ℕ × QueueShape). IsWide x.1) _ (as_bool flag) (any_read (as_bool flag))
         (λ high _. then_holds (λ _. Unit {0}) (λ (x : List ℕ × QueueShape). IsWide x.1) _ (freezable_said d) (any_read (freezable_said d)) (λ freezable _. h))))
 
-pub queues_kept : (ds : Items) (qs : Named QueueShape) → in_turn add_queue 0 nobody ds ≡ Ok qs → AreKept 64 IsWide qs
-queues_kept ds qs is = kept (AreKept 64 IsWide) add_queue one 0 nobody ds qs (record { same = refl; few = omega arith; values = tt }) is
+pub queues_kept : (most : ℕ) (ds : Items) (qs : Named QueueShape) → in_turn (add_queue most) 0 nobody ds ≡ Ok qs → AreKept most IsWide qs
+queues_kept most ds qs is = kept (AreKept most IsWide) (add_queue most) one 0 nobody ds qs (record { same = refl; few = omega arith; values = tt }) is
   where
-    one : (before : Named QueueShape) (d : Data) (after : Named QueueShape) → AreKept 64 IsWide before → add_queue before d ≡ Some after → AreKept 64 IsWide after
-    one before d after k said = when_read (AreKept 64 IsWide) (add_queue before d) after (then_holds (λ x. IsWide x.1) (AreKept 64 IsWide) (add_named 64 before) (queue_said d) (queue_wide d) (λ x h. named_kept 64 IsWide before x k h)) said
+    one : (before : Named QueueShape) (d : Data) (after : Named QueueShape) → AreKept most IsWide before → add_queue most before d ≡ Some after → AreKept most IsWide after
+    one before d after k said = when_read (AreKept most IsWide) (add_queue most before d) after (then_holds (λ x. IsWide x.1) (AreKept most IsWide) (add_named most before) (queue_said d) (queue_wide d) (λ x h. named_kept most IsWide before x k h)) said
 
 -- ---- items
 
-pub record AreItems (s : Layout) (w : Work) : Type 0 where
-  pub items : AreKept 256 (AllByRecursion (IsAction s (length w.gates))) w.items
+pub record AreItems (most : ℕ) (s : Layout) (w : Work) : Type 0 where
+  pub items : AreKept most (AllByRecursion (IsAction s (length w.gates))) w.items
   pub few_gates : length w.gates ≤ 16
 
-module _ (known : Known) (s : Layout) (are : AreIn known s) where
+module _ (most : ℕ) (known : Known) (s : Layout) (are : AreIn known s) where
   item_in : (gates : List (List ℕ)) (d : Data) → IfSome (item_said known gates d) (λ said. AreActions s gates said.1)
   item_in gates d = at (has_keys (codes "does" ∷ codes "name" ∷ []) d)
     where
@@ -57,69 +57,69 @@ module _ (known : Known) (s : Layout) (are : AreIn known s) where
           (λ name _. then_holds (λ _. Unit {0}) (λ (said : List ℕ × Does). AreActions s gates said.1) _ (get (codes "does") d) (any_read (get (codes "does") d))
           (λ actions _. then_holds (AreActions s gates) (λ (said : List ℕ × Does). AreActions s gates said.1) _ (does_said known gates actions) (does_in known s are gates actions) (λ does h. h)))
 
-  one_more : (before : Work) → AreItems s before → (said : List ℕ × Does) → AreActions s before.gates said.1
-      → IfSome (option_and_then (λ items. Some (record { items = items; gates = said.1.gates })) (add_named 256 before.items (said.0, said.1.actions))) (AreItems s)
+  one_more : (before : Work) → AreItems most s before → (said : List ℕ × Does) → AreActions s before.gates said.1
+      → IfSome (option_and_then (λ items. Some (record { items = items; gates = said.1.gates })) (add_named most before.items (said.0, said.1.actions))) (AreItems most s)
   one_more before k said h =
       let more = h.gates.more in
-      let grown : AreKept 256 (AllByRecursion (IsAction s (length said.1.gates))) before.items = record {
+      let grown : AreKept most (AllByRecursion (IsAction s (length said.1.gates))) before.items = record {
         same = k.items.same;
         few = k.items.few;
         values = all_weaker (AllByRecursion (IsAction s (length before.gates))) (AllByRecursion (IsAction s (length said.1.gates))) (actions_grow s (length before.gates) (length said.1.gates) more) before.items.values k.items.values;
       } in
-      then_holds (AreKept 256 (AllByRecursion (IsAction s (length said.1.gates)))) (AreItems s) _ (add_named 256 before.items (said.0, said.1.actions))
-      (named_kept 256 (AllByRecursion (IsAction s (length said.1.gates))) before.items (said.0, said.1.actions) grown h.each) (λ items l. record { items = l; few_gates = h.gates.few k.few_gates })
+      then_holds (AreKept most (AllByRecursion (IsAction s (length said.1.gates)))) (AreItems most s) _ (add_named most before.items (said.0, said.1.actions))
+      (named_kept most (AllByRecursion (IsAction s (length said.1.gates))) before.items (said.0, said.1.actions) grown h.each) (λ items l. record { items = l; few_gates = h.gates.few k.few_gates })
 
-  pub items_kept : (ds : Items) (w : Work) → in_turn (add_item known) 0 no_work ds ≡ Ok w → AreItems s w
-  items_kept ds w is = kept (AreItems s) (add_item known) one 0 no_work ds w (record { items = record { same = refl; few = omega arith; values = tt }; few_gates = omega arith }) is
+  pub items_kept : (ds : Items) (w : Work) → in_turn (add_item most known) 0 no_work ds ≡ Ok w → AreItems most s w
+  items_kept ds w is = kept (AreItems most s) (add_item most known) one 0 no_work ds w (record { items = record { same = refl; few = omega arith; values = tt }; few_gates = omega arith }) is
     where
-      one : (before : Work) (d : Data) (after : Work) → AreItems s before → add_item known before d ≡ Some after → AreItems s after
-      one before d after k said = when_read (AreItems s) (add_item known before d) after (then_holds (λ x. AreActions s before.gates x.1) (AreItems s) _ (item_said known before.gates d) (item_in before.gates d) (one_more before k)) said
+      one : (before : Work) (d : Data) (after : Work) → AreItems most s before → add_item most known before d ≡ Some after → AreItems most s after
+      one before d after k said = when_read (AreItems most s) (add_item most known before d) after (then_holds (λ x. AreActions s before.gates x.1) (AreItems most s) _ (item_said known before.gates d) (item_in before.gates d) (one_more before k)) said
 
 -- each item that is read has a name
-pub items_named : (known : Known) (ds : Items) (w : Work) → in_turn (add_item known) 0 no_work ds ≡ Ok w → AreKept 256 (λ _. Unit {0}) w.items
-items_named known ds w is = kept (λ m. AreKept 256 (λ _. Unit {0}) m.items) (add_item known) one 0 no_work ds w (record { same = refl; few = omega arith; values = tt }) is
+pub items_named : (most : ℕ) (known : Known) (ds : Items) (w : Work) → in_turn (add_item most known) 0 no_work ds ≡ Ok w → AreKept most (λ _. Unit {0}) w.items
+items_named most known ds w is = kept (λ m. AreKept most (λ _. Unit {0}) m.items) (add_item most known) one 0 no_work ds w (record { same = refl; few = omega arith; values = tt }) is
   where
-    one : (before : Work) (d : Data) (after : Work) → AreKept 256 (λ _. Unit {0}) before.items → add_item known before d ≡ Some after → AreKept 256 (λ _. Unit {0}) after.items
+    one : (before : Work) (d : Data) (after : Work) → AreKept most (λ _. Unit {0}) before.items → add_item most known before d ≡ Some after → AreKept most (λ _. Unit {0}) after.items
     one before d after k said =
-        when_read (λ (m : Work). AreKept 256 (λ _. Unit {0}) m.items) (add_item known before d) after
-        (then_holds (λ _. Unit {0}) (λ (m : Work). AreKept 256 (λ _. Unit {0}) m.items) _ (item_said known before.gates d) (any_read (item_said known before.gates d))
-        (λ x _. then_holds (AreKept 256 (λ _. Unit {0})) (λ (m : Work). AreKept 256 (λ _. Unit {0}) m.items) _ (add_named 256 before.items (x.0, x.1.actions)) (named_kept 256 (λ _. Unit {0}) before.items (x.0, x.1.actions) k tt) (λ items l. l))) said
+        when_read (λ (m : Work). AreKept most (λ _. Unit {0}) m.items) (add_item most known before d) after
+        (then_holds (λ _. Unit {0}) (λ (m : Work). AreKept most (λ _. Unit {0}) m.items) _ (item_said known before.gates d) (any_read (item_said known before.gates d))
+        (λ x _. then_holds (AreKept most (λ _. Unit {0})) (λ (m : Work). AreKept most (λ _. Unit {0}) m.items) _ (add_named most before.items (x.0, x.1.actions)) (named_kept most (λ _. Unit {0}) before.items (x.0, x.1.actions) k tt) (λ items l. l))) said
 
 -- the names of the items that are read are those that are known
-name_added : (before : Work) (name : List ℕ) (does : Does) (after : Work) → option_and_then (λ items. Some (record { items = items; gates = does.gates })) (add_named 256 before.items (name, does.actions)) ≡ Some after → with_name before.items.names (Some name) ≡ after.items.names
-name_added before name does after is = at (nat_lt (length before.items.names) 256 && not (is_taken before.items.names name)) is
+name_added : (most : ℕ) (before : Work) (name : List ℕ) (does : Does) (after : Work) → option_and_then (λ items. Some (record { items = items; gates = does.gates })) (add_named most before.items (name, does.actions)) ≡ Some after → with_name most before.items.names (Some name) ≡ after.items.names
+name_added most before name does after is = at (nat_lt (length before.items.names) most && not (is_taken before.items.names name)) is
   where
     at : (b : Bool) → option_and_then (λ items. Some (record { items = items; gates = does.gates })) (if b then Some (record { names = before.items.names ++ name ∷ []; values = before.items.values ++ does.actions ∷ [] }) else None) ≡ Some after
         → (if b then before.items.names ++ name ∷ [] else before.items.names) ≡ after.items.names
     at true h = ap (λ (w : Work). w.items.names) (same_Some (record { items = record { names = before.items.names ++ name ∷ []; values = before.items.values ++ does.actions ∷ [] }; gates = does.gates }) after h)
     at false h = cc
 
-name_known : (known : Known) (before : Work) (d : Data) (after : Work) → add_item known before d ≡ Some after → with_name before.items.names (name_in d) ≡ after.items.names
-name_known known before d after is = at (has_keys (codes "does" ∷ codes "name" ∷ []) d) (name_in d) is
+name_known : (most : ℕ) (known : Known) (before : Work) (d : Data) (after : Work) → add_item most known before d ≡ Some after → with_name most before.items.names (name_in d) ≡ after.items.names
+name_known most known before d after is = at (has_keys (codes "does" ∷ codes "name" ∷ []) d) (name_in d) is
   where
-    does_at : (name : List ℕ) (o : Option Does) → option_and_then (λ (said : List ℕ × Does). option_and_then (λ items. Some (record { items = items; gates = said.1.gates })) (add_named 256 before.items (said.0, said.1.actions))) (option_and_then (λ does. Some (name, does)) o) ≡ Some after → with_name before.items.names (Some name) ≡ after.items.names
+    does_at : (name : List ℕ) (o : Option Does) → option_and_then (λ (said : List ℕ × Does). option_and_then (λ items. Some (record { items = items; gates = said.1.gates })) (add_named most before.items (said.0, said.1.actions))) (option_and_then (λ does. Some (name, does)) o) ≡ Some after → with_name most before.items.names (Some name) ≡ after.items.names
     does_at name None h = cc
-    does_at name (Some does) h = name_added before name does after h
+    does_at name (Some does) h = name_added most before name does after h
 
-    actions_at : (name : List ℕ) (o : Option Data) → option_and_then (λ (said : List ℕ × Does). option_and_then (λ items. Some (record { items = items; gates = said.1.gates })) (add_named 256 before.items (said.0, said.1.actions))) (option_and_then (λ actions. option_and_then (λ does. Some (name, does)) (does_said known before.gates actions)) o) ≡ Some after
-        → with_name before.items.names (Some name) ≡ after.items.names
+    actions_at : (name : List ℕ) (o : Option Data) → option_and_then (λ (said : List ℕ × Does). option_and_then (λ items. Some (record { items = items; gates = said.1.gates })) (add_named most before.items (said.0, said.1.actions))) (option_and_then (λ actions. option_and_then (λ does. Some (name, does)) (does_said known before.gates actions)) o) ≡ Some after
+        → with_name most before.items.names (Some name) ≡ after.items.names
     actions_at name None h = cc
     actions_at name (Some actions) h = does_at name (does_said known before.gates actions) h
 
-    at : (b : Bool) (name : Option (List ℕ)) → option_and_then (λ (said : List ℕ × Does). option_and_then (λ items. Some (record { items = items; gates = said.1.gates })) (add_named 256 before.items (said.0, said.1.actions))) (if b then option_and_then (λ name. option_and_then (λ actions. option_and_then (λ does. Some (name, does)) (does_said known before.gates actions)) (get (codes "does") d)) name else None) ≡ Some after
-        → with_name before.items.names name ≡ after.items.names
+    at : (b : Bool) (name : Option (List ℕ)) → option_and_then (λ (said : List ℕ × Does). option_and_then (λ items. Some (record { items = items; gates = said.1.gates })) (add_named most before.items (said.0, said.1.actions))) (if b then option_and_then (λ name. option_and_then (λ actions. option_and_then (λ does. Some (name, does)) (does_said known before.gates actions)) (get (codes "does") d)) name else None) ≡ Some after
+        → with_name most before.items.names name ≡ after.items.names
     at false name h = cc
     at true None h = cc
     at true (Some name) h = actions_at name (get (codes "does") d) h
 
-pub names_are_known : (known : Known) (n : ℕ) (before : Work) (ds : Items) (after : Work) → in_turn (add_item known) n before ds ≡ Ok after → names_after before.items.names ds ≡ after.items.names
-names_are_known known n before no_items after is = ap (λ r. (result_unwrap_or r before).items.names) is
-names_are_known known n before (item d ds) after is = at (add_item known before d) (name_known known before d) (λ w. names_are_known known (n + 1) w ds after) is
+pub names_are_known : (most : ℕ) (known : Known) (n : ℕ) (before : Work) (ds : Items) (after : Work) → in_turn (add_item most known) n before ds ≡ Ok after → names_after most before.items.names ds ≡ after.items.names
+names_are_known most known n before no_items after is = ap (λ r. (result_unwrap_or r before).items.names) is
+names_are_known most known n before (item d ds) after is = at (add_item most known before d) (name_known most known before d) (λ w. names_are_known most known (n + 1) w ds after) is
   where
-    at : (o : Option Work) → ((w : Work) → o ≡ Some w → with_name before.items.names (name_in d) ≡ w.items.names) → ((w : Work) → in_turn (add_item known) (n + 1) w ds ≡ Ok after → names_after w.items.names ds ≡ after.items.names)
-        → option_map_or (λ w. in_turn (add_item known) (n + 1) w ds) o (Err n) ≡ Ok after → names_after (with_name before.items.names (name_in d)) ds ≡ after.items.names
+    at : (o : Option Work) → ((w : Work) → o ≡ Some w → with_name most before.items.names (name_in d) ≡ w.items.names) → ((w : Work) → in_turn (add_item most known) (n + 1) w ds ≡ Ok after → names_after most w.items.names ds ≡ after.items.names)
+        → option_map_or (λ w. in_turn (add_item most known) (n + 1) w ds) o (Err n) ≡ Ok after → names_after most (with_name most before.items.names (name_in d)) ds ≡ after.items.names
     at None named rest h = cc
-    at (Some w) named rest h = ap (λ names. names_after names ds) (named w refl) ∙ rest w h
+    at (Some w) named rest h = ap (λ names. names_after most names ds) (named w refl) ∙ rest w h
 
 -- ---- callers
 
@@ -133,17 +133,17 @@ few_more {X} most P before x all one = at (nat_lt (length before) most) refl
         (All_push P before x all one, omega arith)
     at false h = tt
 
-module _ (known : Known) (s : Layout) (are : AreIn known s) where
+module _ (most : ℕ) (known : Known) (s : Layout) (are : AreIn known s) where
   calls_in : (d : Data) → IfSome (calls_said known d) (AreCalls s)
   calls_in d = then_holds (λ _. Unit {0}) (AreCalls s) _ (as_array d) (any_read (as_array d)) (λ ds _. list_read (AreCalls s) (add_call known) [] keeps (tt, omega arith) ds)
     where
       keeps : (calls : List Call) (d : Data) (after : List Call) → AreCalls s calls → add_call known calls d ≡ Some after → AreCalls s after
       keeps calls d after k is = when_read (AreCalls s) (add_call known calls d) after (then_holds (IsScripted s) (AreCalls s) (add_few 1000 calls) (call_said known d) (said_is_scripted known s are d) (λ call h. few_more 1000 (IsScripted s) calls call k.0 h)) is
 
-  pub callers_kept : (ds : Items) (cs : List (List Call)) → in_turn (add_caller known) 0 [] ds ≡ Ok cs → AllByRecursion (AreCalls s) cs × (length cs ≤ 64)
-  callers_kept ds cs is = kept (λ xs. AllByRecursion (AreCalls s) xs × (length xs ≤ 64)) (add_caller known) one 0 [] ds cs (tt, omega arith) is
+  pub callers_kept : (ds : Items) (cs : List (List Call)) → in_turn (add_caller most known) 0 [] ds ≡ Ok cs → AllByRecursion (AreCalls s) cs × (length cs ≤ most)
+  callers_kept ds cs is = kept (λ xs. AllByRecursion (AreCalls s) xs × (length xs ≤ most)) (add_caller most known) one 0 [] ds cs (tt, omega arith) is
     where
-      one : (before : List (List Call)) (d : Data) (after : List (List Call)) → AllByRecursion (AreCalls s) before × (length before ≤ 64) → add_caller known before d ≡ Some after → AllByRecursion (AreCalls s) after × (length after ≤ 64)
+      one : (before : List (List Call)) (d : Data) (after : List (List Call)) → AllByRecursion (AreCalls s) before × (length before ≤ most) → add_caller most known before d ≡ Some after → AllByRecursion (AreCalls s) after × (length after ≤ most)
       one before d after k said =
-          when_read (λ xs. AllByRecursion (AreCalls s) xs × (length xs ≤ 64)) (add_caller known before d) after
-          (then_holds (AreCalls s) (λ xs. AllByRecursion (AreCalls s) xs × (length xs ≤ 64)) (add_few 64 before) (calls_said known d) (calls_in d) (λ calls h. few_more 64 (AreCalls s) before calls k.0 h)) said
+          when_read (λ xs. AllByRecursion (AreCalls s) xs × (length xs ≤ most)) (add_caller most known before d) after
+          (then_holds (AreCalls s) (λ xs. AllByRecursion (AreCalls s) xs × (length xs ≤ most)) (add_few most before) (calls_said known d) (calls_in d) (λ calls h. few_more most (AreCalls s) before calls k.0 h)) said

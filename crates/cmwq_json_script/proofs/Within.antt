@@ -1,5 +1,5 @@
 -- A run that is read keeps to its limits.
-use Rattle.cmwq_json_script.specs.Common.{◌≡◌, ℕ, ◌≤◌, ◌<◌, ◌^◌, ◌&&◌, Bool, true, false, nat_lt, nat_le, List, [], ◌∷◌, length, map, Result, Ok, Err, refl, sym, ap, subst, ◌∙◌, arith, if◌then◌else◌, string_bytes, All, String, AllByRecursion, list_all, Global, Vec, nat_tests, length-map, Call, QueueShape, most_room, Layout, layout_of, is_queue, IsScripted, Refused, in_turn, Named, nobody}
+use Rattle.cmwq_json_script.specs.Common.{◌≡◌, ℕ, ◌≤◌, ◌<◌, ◌^◌, ◌&&◌, Bool, true, false, nat_lt, nat_le, List, [], ◌∷◌, length, map, Result, Ok, Err, refl, sym, ap, subst, ◌∙◌, arith, if◌then◌else◌, string_bytes, All, String, AllByRecursion, list_all, Global, Vec, nat_tests, length-map, Call, QueueShape, most_callers, most_cpus, most_items, most_queues, most_room, most_workers, ◌==◌, Layout, layout_of, is_queue, IsScripted, Refused, in_turn, Named, nobody}
 use Rattle.std.proofs.lemmas.List.Elements.{All-from_recursion}
 use Rattle.cmwq_json.specs.Parts as refused
 use Rattle.cmwq_json_script.specs.declared.item.Items.{Items}
@@ -7,6 +7,7 @@ use Rattle.cmwq_json_script.specs.declared.script.Script.{Script}
 use Rattle.cmwq_json_script.specs.Items.{Work, no_work, add_item}
 use Rattle.cmwq_json_script.specs.Queues.{add_queue}
 use Rattle.cmwq_json_script.specs.Callers.{add_caller}
+use Rattle.cmwq_json_script.specs.Limits.{callers_in, items_in, queues_in}
 use Rattle.cmwq_json_script.specs.Tops.{Top, AreJournalSettings}
 use Rattle.cmwq_json_script.specs.Runs.{some_of, queues_said, items_said, callers_said, known_in, layout_in, run_in}
 use Rattle.cmwq_json_script.specs.Scripts.{run_of, IsAction, AreCalls, IsRunWithin, MayRun}
@@ -36,6 +37,14 @@ within low high n a b = and_from (nat_le low n) (nat_le n high) (grind (arith, n
 at_most : (n high : ℕ) → n ≤ high → nat_le n high ≡ true
 at_most n high h = grind (arith, nat_tests)
 
+-- what a format has at most, none has more than the newest
+pub at_most_newest : (version old new : ℕ) → old ≤ new → (if version == 3 then new else old) ≤ new
+at_most_newest version old new less = by (version == 3)
+  where
+    by : (b : Bool) → (if b then new else old) ≤ new
+    by true = omega arith
+    by false = less
+
 queues_allowed : (qs : List QueueShape) → AllByRecursion IsWide qs → list_all is_queue qs ≡ true
 queues_allowed [] all = refl
 queues_allowed (q ∷ qs) all = and_from (is_queue q) (list_all is_queue qs) (within 1 512 q.max_active all.0.0 all.0.1) (queues_allowed qs all.1)
@@ -43,31 +52,34 @@ queues_allowed (q ∷ qs) all = and_from (is_queue q) (list_all is_queue qs) (wi
 -- what is read is inside the limits
 module _ (t : Top) (qs : Named QueueShape) (w : Work) (cs : List (List Call)) (queues_read : queues_said t ≡ Ok qs) (items_read : items_said (known_in t qs) t ≡ Ok w)
     (callers_read : callers_said (known_in t qs) t ≡ Ok cs) where
-  pub is_within : (1 ≤ t.cpus) × (t.cpus ≤ 4) × (1 ≤ t.workers) × (t.workers ≤ 8) × (t.room ≤ most_room) → AreJournalSettings t.version t.journal → IsRunWithin (run_in t qs.values w cs)
+  pub is_within : (1 ≤ t.cpus) × (t.cpus ≤ most_cpus) × (1 ≤ t.workers) × (t.workers ≤ most_workers) × (t.room ≤ most_room) → AreJournalSettings t.version t.journal → IsRunWithin (run_in t qs.values w cs)
   is_within limits recorded =
       let s = layout_in t qs.values w cs in
       let known = known_in t qs in
-      let q = some_read refused.queues (λ (m : Named QueueShape). length m.values) (in_turn add_queue 0 nobody t.queues) qs queues_read in
-      let i = some_read refused.items (λ (m : Work). length m.items.values) (in_turn (add_item known) 0 no_work t.items) w items_read in
-      let c = some_read refused.callers length (in_turn (add_caller known) 0 [] t.callers) cs callers_read in
+      let q = some_read refused.queues (λ (m : Named QueueShape). length m.values) (in_turn (add_queue (queues_in t.version)) 0 nobody t.queues) qs queues_read in
+      let i = some_read refused.items (λ (m : Work). length m.items.values) (in_turn (add_item (items_in t.version) known) 0 no_work t.items) w items_read in
+      let c = some_read refused.callers length (in_turn (add_caller (callers_in t.version) known) 0 [] t.callers) cs callers_read in
       let some_queues : 0 < length qs.values = q.1 in
       let some_items : 0 < length w.items.values = i.1 in
       let some_callers : 0 < length cs = c.1 in
-      let wide = queues_kept t.queues qs q.0 in
+      let wide = queues_kept (queues_in t.version) t.queues qs q.0 in
       let queues_same = wide.same in
       let queues_few = wide.few in
-      let named = items_named known t.items w i.0 in
+      let named = items_named (items_in t.version) known t.items w i.0 in
       let items_same = named.same in
       let items_few = named.few in
-      let all_named = ap length (names_are_known known 0 no_work t.items w i.0) in
+      let all_named = ap length (names_are_known (items_in t.version) known 0 no_work t.items w i.0) in
       let are : AreIn known s = record { items = omega arith; queues = omega arith; cpus = omega arith } in
-      let items = items_kept known s are t.items w i.0 in
-      let callers = callers_kept known s are t.callers cs c.0 in
+      let items = items_kept (items_in t.version) known s are t.items w i.0 in
+      let callers = callers_kept (callers_in t.version) known s are t.callers cs c.0 in
       let callers_few = callers.1 in
+      let all_callers : callers_in t.version ≤ most_callers = at_most_newest t.version 64 most_callers (omega arith) in
+      let all_items : items_in t.version ≤ most_items = at_most_newest t.version 256 most_items (omega arith) in
+      let all_queues : queues_in t.version ≤ most_queues = at_most_newest t.version 64 most_queues (omega arith) in
       record {
         allowed =
-            and_from _ _ (and_from _ _ (and_from _ _ (and_from _ _ (and_from _ _ (within 1 4 t.cpus limits.0 limits.1) (within 1 8 t.workers limits.2 limits.3)) (within 1 64 (length cs) (omega arith) (omega arith))) (within 1 256 (length w.items.values) (omega arith) (omega arith))) (at_most t.room most_room limits.4))
-            (and_from _ _ (within 1 64 (length qs.values) (omega arith) (omega arith)) (queues_allowed qs.values wide.values));
+            and_from _ _ (and_from _ _ (and_from _ _ (and_from _ _ (and_from _ _ (within 1 most_cpus t.cpus limits.0 limits.1) (within 1 most_workers t.workers limits.2 limits.3)) (within 1 most_callers (length cs) (omega arith) (omega arith))) (within 1 most_items (length w.items.values) (omega arith) (omega arith))) (at_most t.room most_room limits.4))
+            (and_from _ _ (within 1 most_queues (length qs.values) (omega arith) (omega arith)) (queues_allowed qs.values wide.values));
         few_callers = callers_few;
         callers = refl;
         calls = callers.0;
@@ -78,12 +90,13 @@ module _ (t : Top) (qs : Named QueueShape) (w : Work) (cs : List (List Call)) (q
         recorded = recorded;
       }
 
-pub few_queue_names : (t : Top) (keys : List (String Global)) (values : List QueueShape) → queues_said t ≡ Ok (record { names = map string_bytes keys; values = values }) → length keys ≤ 64
+pub few_queue_names : (t : Top) (keys : List (String Global)) (values : List QueueShape) → queues_said t ≡ Ok (record { names = map string_bytes keys; values = values }) → length keys ≤ most_queues
 few_queue_names t keys values is =
     let named : Named QueueShape = record { names = map string_bytes keys; values = values } in
-    let wide = queues_kept t.queues named (some_read refused.queues (λ (m : Named QueueShape). length m.values) (in_turn add_queue 0 nobody t.queues) named is).0 in
+    let wide = queues_kept (queues_in t.version) t.queues named (some_read refused.queues (λ (m : Named QueueShape). length m.values) (in_turn (add_queue (queues_in t.version)) 0 nobody t.queues) named is).0 in
     let few = wide.few in
     let l = length-map keys string_bytes in
+    let all : queues_in t.version ≤ most_queues = at_most_newest t.version 64 most_queues (omega arith) in
     omega arith
 
 -- the layout is that of the numbers that are counted
@@ -99,6 +112,7 @@ may_run script r =
     let does = length-map script.does.items (λ actions. actions.items) in
     let gates = length-map script.gates.items string_bytes in
     let a = r.few_callers in
+    let all : callers_in script.version ≤ most_callers = at_most_newest script.version 64 most_callers (omega arith) in
     let b = r.callers in
     let d = r.items in
     let e = r.few_gates in

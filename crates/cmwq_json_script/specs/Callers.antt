@@ -1,4 +1,4 @@
--- Callers: at most 64, each with a list of at most 1,000 calls.
+-- Callers: each with a list of at most 1,000 calls.
 use Rattle.std.specs.Prelude.{if◌then◌else◌, ◌∷◌, ◌++◌}
 use Rattle.cmwq_json_script.specs.Common.{ℕ, List, [], length, Option, Some, None, nat_lt, result_ok, Data, as_array, Call, in_turn}
 use Rattle.cmwq_json_script.specs.Then.{◌>>=◌}
@@ -19,7 +19,7 @@ calls_said known d = do
   ds ← as_array d
   result_ok (in_turn (add_call known) 0 [] ds)
 
-abbrev pub add_caller : Known → List (List Call) → Data → Option (List (List Call))
-add_caller known before d = do
+abbrev pub add_caller : ℕ → Known → List (List Call) → Data → Option (List (List Call))
+add_caller most known before d = do
   calls ← calls_said known d
-  add_few 64 before calls
+  add_few most before calls

@@ -27,7 +27,7 @@ pub use Rattle.cmwq_json.specs.Names.{Named, add_named, is_taken, map_named, nam
 pub use Rattle.cmwq_json.specs.Numbers.{number_between}
 pub use Rattle.cmwq_json.specs.Queues.{parts_said}
 pub use Rattle.cmwq_lemmas.proofs.Lists.{All_push}
-pub use Rattle.cmwq_model.specs.Prelude.{IsScripted, Layout, has_numbers, is_layout, is_queue, is_whole, layout_of, most_room}
+pub use Rattle.cmwq_model.specs.Prelude.{IsScripted, Layout, has_numbers, is_layout, is_queue, is_whole, layout_of, most_callers, most_cpus, most_items, most_queues, most_room, most_workers}
 pub use Rattle.cmwq_model.specs.declared.call.Call.{Call}
 pub use Rattle.cmwq_model.specs.declared.id.CpuId.{CpuId}
 pub use Rattle.cmwq_model.specs.declared.id.ItemId.{ItemId}

@@ -23,8 +23,8 @@ pub record Work : Type 0 where
 abbrev pub no_work : Work
 no_work = record { items = nobody; gates = [] }
 
-abbrev pub add_item : Known → Work → Data → Option Work
-add_item known before d = do
+abbrev pub add_item : ℕ → Known → Work → Data → Option Work
+add_item most known before d = do
   said ← item_said known before.gates d
-  items ← add_named 256 before.items (said.0, said.1.actions)
+  items ← add_named most before.items (said.0, said.1.actions)
   Some (record { items = items; gates = said.1.gates })

@@ -9,19 +9,19 @@ pub record Known : Type 0 where
   pub cpus : ℕ
 
 -- An item may name one that stands behind it. So what may be named are the names of all members of `items` that have one, each once, in
--- their order; the first 256 where there are more.
+-- their order; the first so many as there may be items where there are more.
 abbrev pub name_in : Data → Option (List ℕ)
 name_in d = do
   name ← get (codes "name") d
   name_said name
 
-abbrev pub with_name : List (List ℕ) → Option (List ℕ) → List (List ℕ)
-with_name before None = before
-with_name before (Some name) = if nat_lt (length before) 256 && not (is_taken before name) then before ++ name ∷ [] else before
+abbrev pub with_name : ℕ → List (List ℕ) → Option (List ℕ) → List (List ℕ)
+with_name most before None = before
+with_name most before (Some name) = if nat_lt (length before) most && not (is_taken before name) then before ++ name ∷ [] else before
 
-abbrev pub names_after : List (List ℕ) → Items → List (List ℕ)
-names_after before no_items = before
-names_after before (item d ds) = names_after (with_name before (name_in d)) ds
+abbrev pub names_after : ℕ → List (List ℕ) → Items → List (List ℕ)
+names_after most before no_items = before
+names_after most before (item d ds) = names_after most (with_name most before (name_in d)) ds
 
 -- ---- what a part of a call names
 

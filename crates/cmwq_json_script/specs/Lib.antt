@@ -1,6 +1,7 @@
 pub mod Common
 pub mod Then
 pub mod Words
+pub mod Limits
 pub mod Lists
 pub mod Known
 pub mod Calls

@@ -21,7 +21,7 @@ queue_said d =
       Some (parts.0, record { max_active = parts.1; high = high; intensive = parts.2; freezable = freezable }))
     else None
 
-abbrev pub add_queue : Named QueueShape → Data → Option (Named QueueShape)
-add_queue before d = do
+abbrev pub add_queue : ℕ → Named QueueShape → Data → Option (Named QueueShape)
+add_queue most before d = do
   queue ← queue_said d
-  add_named 64 before queue
+  add_named most before queue

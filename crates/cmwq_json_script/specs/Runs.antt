@@ -4,6 +4,7 @@ use Rattle.cmwq_json_script.specs.Common.{ℕ, List, [], length, Option, Result,
 use Rattle.cmwq_json.specs.Parts.{top, queues, items, callers}
 use Rattle.cmwq_json_script.specs.declared.action.Action.{Action}
 use Rattle.cmwq_json_script.specs.Tops.{Top, top_said}
+use Rattle.cmwq_json_script.specs.Limits.{callers_in, items_in, queues_in}
 use Rattle.cmwq_json_script.specs.Known.{Known, names_after}
 use Rattle.cmwq_json_script.specs.Items.{Work, no_work, add_item}
 use Rattle.cmwq_json_script.specs.Queues.{add_queue}
@@ -24,16 +25,16 @@ some_of refused count (Err i) = Err (refused i)
 some_of refused count (Ok s) = if nat_lt 0 (count s) then Ok s else Err (refused 0)
 
 abbrev pub queues_said : Top → Result (Named QueueShape) Refused
-queues_said t = some_of queues (λ qs. length qs.values) (in_turn add_queue 0 nobody t.queues)
+queues_said t = some_of queues (λ qs. length qs.values) (in_turn (add_queue (queues_in t.version)) 0 nobody t.queues)
 
 abbrev pub items_said : Known → Top → Result Work Refused
-items_said known t = some_of items (λ w. length w.items.values) (in_turn (add_item known) 0 no_work t.items)
+items_said known t = some_of items (λ w. length w.items.values) (in_turn (add_item (items_in t.version) known) 0 no_work t.items)
 
 abbrev pub callers_said : Known → Top → Result (List (List Call)) Refused
-callers_said known t = some_of callers length (in_turn (add_caller known) 0 [] t.callers)
+callers_said known t = some_of callers length (in_turn (add_caller (callers_in t.version) known) 0 [] t.callers)
 
 abbrev pub known_in : Top → Named QueueShape → Known
-known_in t qs = record { items = names_after [] t.items; queues = qs.names; cpus = t.cpus }
+known_in t qs = record { items = names_after (items_in t.version) [] t.items; queues = qs.names; cpus = t.cpus }
 
 abbrev pub layout_in : Top → List QueueShape → Work → List (List Call) → Layout
 layout_in t qs w cs = record { cpus = t.cpus; workers = t.workers; callers = length cs; items = length w.items.values; room = t.room; queues = qs }

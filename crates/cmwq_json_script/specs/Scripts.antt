@@ -1,10 +1,11 @@
 -- What the reader's scripts are as plain values, and what they keep to.
 use Rattle.std.specs.Prelude.{◌≡◌, ◌<◌, ◌≤◌, ◌^◌}
-use Rattle.cmwq_json_script.specs.Common.{ℕ, Bool, true, false, length, List, map, string_bytes, All, AllByRecursion, Call, Layout, is_layout, has_numbers, IsScripted}
+use Rattle.cmwq_json_script.specs.Common.{ℕ, Bool, true, false, length, List, map, string_bytes, All, AllByRecursion, Call, Layout, is_layout, most_callers, has_numbers, IsScripted}
 use Rattle.cmwq_model.specs.declared.call.Call.TheVariants as call
 use Rattle.cmwq_json_script.specs.declared.action.Action.{Action}
 use Rattle.cmwq_json_script.specs.declared.action.Action.TheVariants as action
 use Rattle.cmwq_json_script.specs.declared.script.Script.{Script}
+use Rattle.cmwq_json_script.specs.Limits.{callers_in, items_in}
 use Rattle.cmwq_json_script.specs.Tops.{AreJournalSettings}
 use Rattle.cmwq_json_script.specs.Runs.{Run}
 use Rattle.cmwq_json_script.specs.Views.{calls_of}
@@ -33,10 +34,10 @@ AreCalls layout calls = AllByRecursion (IsScripted layout) calls × (length call
 -- a run inside the limits: what has to hold of the parts that are read, so that a script can be made of them
 pub record IsRunWithin (run : Run) : Type 0 where
   pub allowed : is_layout run.layout ≡ true
-  pub few_callers : length run.callers ≤ 64
+  pub few_callers : length run.callers ≤ callers_in run.version
   pub callers : length run.callers ≡ run.layout.callers
   pub calls : AllByRecursion (AreCalls run.layout) run.callers
-  pub few_items : length run.does ≤ 256
+  pub few_items : length run.does ≤ items_in run.version
   pub items : length run.does ≡ run.layout.items
   pub does : AllByRecursion (AllByRecursion (IsAction run.layout (length run.gates))) run.does
   pub few_gates : length run.gates ≤ 16
@@ -44,7 +45,7 @@ pub record IsRunWithin (run : Run) : Type 0 where
 
 -- what a runner of the script needs
 pub record MayRun (s : Script) : Type 0 where
-  pub few_callers : length s.callers.items ≤ 64
+  pub few_callers : length s.callers.items ≤ most_callers
   pub callers : length s.callers.items ≡ s.shape.callers
   pub calls : All (λ cs. All (IsScripted s.shape) cs.items × (length cs.items < 2 ^ 32)) s.callers.items
   pub items : length s.does.items ≡ s.shape.items

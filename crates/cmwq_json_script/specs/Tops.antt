@@ -1,6 +1,7 @@
 -- The top of a script: its keys, its numbers and its lists.
-use Rattle.std.specs.Prelude.{◌≤◌, ◌==◌, ◌||◌, if◌then◌else◌, ◌∷◌}
-use Rattle.cmwq_json_script.specs.Common.{ℕ, Bool, List, [], Option, Some, None, option_map, codes, option_map_or, Data, Items, get, as_array, most_room, has_keys, number_between}
+use Rattle.std.specs.Prelude.{◌≤◌, ◌||◌, if◌then◌else◌, ◌∷◌}
+use Rattle.cmwq_json_script.specs.Common.{ℕ, Bool, List, [], Option, Some, None, option_map, codes, option_map_or, Data, Items, get, as_array, has_keys, number_between}
+use Rattle.cmwq_json_script.specs.Limits.{cpus_in, workers_in, room_in}
 use Rattle.cmwq_json_script.specs.Then.{◌>>=◌}
 
 -- The history is written in the format of this version. With a journal it is written as it is made, and so many entries are kept at a time.
@@ -45,16 +46,13 @@ pub record AreJournalSettings (version : ℕ) (journal : Option ℕ) : Type 0 wh
 abbrev pub version_said : Option ℕ → Data → Option ℕ
 version_said journal d = option_map_or (number_between (least_version journal) 3) (get (codes "format") d) (Some (least_version journal))
 
-abbrev pub room_in : ℕ → ℕ
-room_in version = if version == 3 then most_room else 1000000
-
 abbrev pub top_said : Data → Option Top
 top_said d =
     if has_top_keys d then (do
-      cpus ← at_key (number_between 1 4) (codes "cpus") d
-      workers ← at_key (number_between 1 8) (codes "workers") d
       journal ← journal_said d
       version ← version_said journal d
+      cpus ← at_key (number_between 1 (cpus_in version)) (codes "cpus") d
+      workers ← at_key (number_between 1 (workers_in version)) (codes "workers") d
       room ← at_key (number_between 0 (room_in version)) (codes "room") d
       qs ← at_key as_array (codes "queues") d
       is ← at_key as_array (codes "items") d

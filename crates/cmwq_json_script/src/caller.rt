@@ -16,9 +16,7 @@ use cmwq_model::Call;
 use serde_json::Value;
 use std::alloc::{AllocError, Global};
 
-/// The greatest number of callers, and of the calls of each.
-const MOST_CALLERS: usize = 64;
-
+/// The greatest number of the calls of a caller.
 const MOST_CALLS: usize = 1_000;
 
 fn add_call(names: &Names, calls: &mut Vec<Call>, value: &Value) -> Result<bool, AllocError>
@@ -49,16 +47,18 @@ fn read_calls(alloc: Global, names: &Names, value: &Value) -> Result<Option<Vec<
     Ok(Some(calls))
 }
 
+/// Adds a caller, where there are fewer than `most`.
 fn add_caller(
     alloc: Global,
+    most: usize,
     names: &Names,
     callers: &mut Vec<Vec<Call>>,
     value: &Value,
 ) -> Result<bool, AllocError>
-    ensures { IfOk result (λ added. spec.add_caller names.now (calls_of callers.old) (view value.now) ≡ (if added then Some (calls_of callers.new) else None)) }
+    ensures { IfOk result (λ added. spec.add_caller most names.now (calls_of callers.old) (view value.now) ≡ (if added then Some (calls_of callers.new) else None)) }
 {
     match read_calls(alloc, names, value)? {
-        Some(calls) if callers.len() < MOST_CALLERS => {
+        Some(calls) if callers.len() < most => {
             callers.push(calls)?;
             Ok(true)
         }
@@ -69,33 +69,35 @@ fn add_caller(
 /// The callers in turn, or the place of the first that is refused.
 fn read_in_turn(
     alloc: Global,
+    most: usize,
     names: &Names,
     values: &[Value],
 ) -> Result<Result<Vec<Vec<Call>>, usize>, AllocError>
-    ensures { IfOk result (λ r. map_ok calls_of r ≡ in_turn (spec.add_caller names.now) 0 [] (items_view values.now)) }
+    ensures { IfOk result (λ r. map_ok calls_of r ≡ in_turn (spec.add_caller most names.now) 0 [] (items_view values.now)) }
 {
     let mut callers = Vec::new(alloc);
     for (index, value) in values.iter().enumerate() {
-        if !add_caller(alloc, names, &mut callers, value)? {
+        if !add_caller(alloc, most, names, &mut callers, value)? {
             return Ok(Err(index));
         }
     }
     Ok(Ok(callers))
 }
 
-/// The callers, of whom there is at least one, or the first that is refused.
+/// The callers, of whom there is at least one and `most` at most, or the first that is refused.
 pub fn read_callers(
     alloc: Global,
+    most: usize,
     names: &Names,
     values: &[Value],
 ) -> Result<Result<Vec<Vec<Call>>, Refused>, AllocError>
-    ensures { IfOk result (λ r. map_ok calls_of r ≡ some_of refused.callers length (in_turn (spec.add_caller names.now) 0 [] (items_view values.now))) }
+    ensures { IfOk result (λ r. map_ok calls_of r ≡ some_of refused.callers length (in_turn (spec.add_caller most names.now) 0 [] (items_view values.now))) }
 {
     let refuse = |index| Refused {
         part: Part::Callers,
         index,
     };
-    match read_in_turn(alloc, names, values)? {
+    match read_in_turn(alloc, most, names, values)? {
         Ok(callers) if callers.is_empty() => Ok(Err(refuse(0))),
         Ok(callers) => Ok(Ok(callers)),
         Err(index) => Ok(Err(refuse(index))),

@@ -11,7 +11,7 @@ ghost use Rattle.cmwq_json_script.specs.Views.{work_of};
 
 use crate::action::{Action, read_actions};
 use crate::gates::Gates;
-use crate::names::{MOST_ITEMS, Names, name_at};
+use crate::names::{Names, name_at};
 use cmwq_input::{Part, Refused};
 use cmwq_json::{Members, has_keys};
 use serde_json::Value;
@@ -46,17 +46,19 @@ fn read_item<'v>(
     }
 }
 
+/// Adds an item, where there are fewer than `most`.
 fn add_item(
     alloc: Global,
+    most: usize,
     names: &Names,
     items: &mut Items,
     value: &Value,
 ) -> Result<bool, AllocError>
-    ensures { IfOk result (λ added. spec.add_item names.now (work_of items.old) (view value.now)
+    ensures { IfOk result (λ added. spec.add_item most names.now (work_of items.old) (view value.now)
         ≡ (if added then Some (work_of items.new) else None)) }
 {
     match read_item(alloc, names, &mut items.gates, value)? {
-        Some((name, actions)) => items.members.add(alloc, MOST_ITEMS, name, actions),
+        Some((name, actions)) => items.members.add(alloc, most, name, actions),
         None => Ok(false),
     }
 }
@@ -64,36 +66,38 @@ fn add_item(
 /// The items in turn, or the place of the first that is refused.
 fn read_in_turn(
     alloc: Global,
+    most: usize,
     names: &Names,
     values: &[Value],
 ) -> Result<Result<Items, usize>, AllocError>
-    ensures { IfOk result (λ r. map_ok work_of r ≡ in_turn (spec.add_item names.now) 0 spec.no_work (items_view values.now)) }
+    ensures { IfOk result (λ r. map_ok work_of r ≡ in_turn (spec.add_item most names.now) 0 spec.no_work (items_view values.now)) }
 {
     let mut items = Items {
         members: Members::new(alloc),
         gates: Gates::new(alloc),
     };
     for (index, value) in values.iter().enumerate() {
-        if !add_item(alloc, names, &mut items, value)? {
+        if !add_item(alloc, most, names, &mut items, value)? {
             return Ok(Err(index));
         }
     }
     Ok(Ok(items))
 }
 
-/// The items, of which there is at least one, or the first that is refused.
+/// The items, of which there is at least one and `most` at most, or the first that is refused.
 pub fn read_items(
     alloc: Global,
+    most: usize,
     names: &Names,
     values: &[Value],
 ) -> Result<Result<Items, Refused>, AllocError>
-    ensures { IfOk result (λ r. map_ok work_of r ≡ some_of refused.items (λ w. length w.items.values) (in_turn (spec.add_item names.now) 0 spec.no_work (items_view values.now))) }
+    ensures { IfOk result (λ r. map_ok work_of r ≡ some_of refused.items (λ w. length w.items.values) (in_turn (spec.add_item most names.now) 0 spec.no_work (items_view values.now))) }
 {
     let refuse = |index| Refused {
         part: Part::Items,
         index,
     };
-    match read_in_turn(alloc, names, values)? {
+    match read_in_turn(alloc, most, names, values)? {
         Ok(items) if items.members.values.is_empty() => Ok(Err(refuse(0))),
         Ok(items) => Ok(Ok(items)),
         Err(index) => Ok(Err(refuse(index))),

@@ -7,6 +7,7 @@ mod call;
 mod caller;
 mod gates;
 mod item;
+mod limits;
 mod names;
 mod parts;
 mod queue;

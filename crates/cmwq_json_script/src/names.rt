@@ -11,9 +11,6 @@ use serde_json::Value;
 use std::alloc::{AllocError, Global};
 use std::marker::Model;
 
-/// The greatest number of items.
-pub const MOST_ITEMS: usize = 256;
-
 /// The name of a member.
 pub fn name_at(value: &Value) -> Option<&str>
     ensures { option_map (λ name. name.now) result ≡ name_in (view value.now) }
@@ -21,26 +18,31 @@ pub fn name_at(value: &Value) -> Option<&str>
     read_name(value.get("name")?)
 }
 
-/// Adds the name of an item, where it has one, it is new and there is room.
-fn add_name(alloc: Global, names: &mut IndexSet<String>, value: &Value) -> Result<(), AllocError>
-    ensures { OnOk result (map string_bytes names.new.keys ≡ with_name (map string_bytes names.old.keys) (name_in (view value.now))) }
+/// Adds the name of an item, where it has one, it is new and there are fewer than `most`.
+fn add_name(
+    alloc: Global,
+    most: usize,
+    names: &mut IndexSet<String>,
+    value: &Value,
+) -> Result<(), AllocError>
+    ensures { OnOk result (map string_bytes names.new.keys ≡ with_name most (map string_bytes names.old.keys) (name_in (view value.now))) }
 {
     if let Some(name) = name_at(value) {
-        if names.len() < MOST_ITEMS {
+        if names.len() < most {
             names.insert(String::from_str(alloc, name)?)?;
         }
     }
     Ok(())
 }
 
-/// The names of all items that have one, each once.
-fn names_of(alloc: Global, values: &[Value]) -> Result<IndexSet<String>, AllocError>
-    ensures all { IfOk result (λ names. map string_bytes names.keys ≡ names_after [] (items_view values.now)) }
-    ensures few { IfOk result (λ names. length names.keys ≤ 256) }
+/// The names of all items that have one, each once, and `most` at most.
+fn names_of(alloc: Global, most: usize, values: &[Value]) -> Result<IndexSet<String>, AllocError>
+    ensures all { IfOk result (λ names. map string_bytes names.keys ≡ names_after most [] (items_view values.now)) }
+    ensures few { IfOk result (λ names. length names.keys ≤ most) }
 {
     let mut names = IndexSet::new(alloc);
     for value in values {
-        add_name(alloc, &mut names, value)?;
+        add_name(alloc, most, &mut names, value)?;
     }
     Ok(names)
 }
@@ -55,29 +57,33 @@ pub struct Names {
 
 impl Model for Names {
     ghost use Rattle.std.specs.Prelude.{◌≤◌, length, map, string_bytes};
+    ghost use Rattle.cmwq_model.specs.Prelude.{most_items, most_queues};
     ghost use Rattle.cmwq_json_script.specs.Known.{Known};
 
     ghost Value = { Known };
 
     ghost view = { λ n. record { items = map string_bytes n.items.keys; queues = map string_bytes n.queues.keys; cpus = n.cpus } };
 
-    ghost invariant = { λ n. (length n.items.keys ≤ 256) × (length n.queues.keys ≤ 64) };
+    ghost invariant = { λ n. (length n.items.keys ≤ most_items) × (length n.queues.keys ≤ most_queues) };
 }
 
 impl Names {
+    ghost use Rattle.cmwq_model.specs.Prelude.{most_items, most_queues};
     ghost use Rattle.cmwq_json_script.specs.Known.{item_known, queue_known, cpu_said};
 
-    /// The names of these items, and of these queues.
+    /// The names of these items, of which there are `most` at most, and of these queues.
     pub fn new(
         alloc: Global,
+        most: usize,
         items: &[Value],
         queues: IndexSet<String>,
         cpus: u8,
     ) -> Result<Names, AllocError>
-        requires few { length queues.keys ≤ 64 }
-        ensures { IfOk result (λ names. names ≡ record { items = names_after [] (items_view items.now); queues = map string_bytes queues.keys; cpus = cpus }) }
+        requires few { length queues.keys ≤ most_queues }
+        requires most { most ≤ most_items }
+        ensures { IfOk result (λ names. names ≡ record { items = names_after most [] (items_view items.now); queues = map string_bytes queues.keys; cpus = cpus }) }
     {
-        let items = names_of(alloc, items)?;
+        let items = names_of(alloc, most, items)?;
         Ok(Names {
             items,
             queues,

@@ -16,9 +16,6 @@ use cmwq_model::QueueShape;
 use serde_json::Value;
 use std::alloc::{AllocError, Global};
 
-/// The greatest number of queues.
-const MOST_QUEUES: usize = 64;
-
 fn has_queue_keys(value: &Value) -> bool
     ensures { result ≡ spec.has_queue_keys (view value.now) }
 {
@@ -59,15 +56,17 @@ fn read_queue(value: &Value) -> Option<(&str, QueueShape)>
     ))
 }
 
+/// Adds a queue, where there are fewer than `most`.
 fn add_queue(
     alloc: Global,
+    most: usize,
     queues: &mut Members<QueueShape>,
     value: &Value,
 ) -> Result<bool, AllocError>
-    ensures { IfOk result (λ added. spec.add_queue (named_of queues.old) (view value.now) ≡ (if added then Some (named_of queues.new) else None)) }
+    ensures { IfOk result (λ added. spec.add_queue most (named_of queues.old) (view value.now) ≡ (if added then Some (named_of queues.new) else None)) }
 {
     match read_queue(value) {
-        Some((name, queue)) => queues.add(alloc, MOST_QUEUES, name, queue),
+        Some((name, queue)) => queues.add(alloc, most, name, queue),
         None => Ok(false),
     }
 }
@@ -75,31 +74,33 @@ fn add_queue(
 /// The queues in turn, or the place of the first that is refused.
 fn read_in_turn(
     alloc: Global,
+    most: usize,
     values: &[Value],
 ) -> Result<Result<Members<QueueShape>, usize>, AllocError>
-    ensures { IfOk result (λ r. map_ok named_of r ≡ in_turn spec.add_queue 0 nobody (items_view values.now)) }
+    ensures { IfOk result (λ r. map_ok named_of r ≡ in_turn (spec.add_queue most) 0 nobody (items_view values.now)) }
 {
     let mut queues = Members::new(alloc);
     for (index, value) in values.iter().enumerate() {
-        if !add_queue(alloc, &mut queues, value)? {
+        if !add_queue(alloc, most, &mut queues, value)? {
             return Ok(Err(index));
         }
     }
     Ok(Ok(queues))
 }
 
-/// The queues, of which there is at least one, or the first that is refused.
+/// The queues, of which there is at least one and `most` at most, or the first that is refused.
 pub fn read_queues(
     alloc: Global,
+    most: usize,
     values: &[Value],
 ) -> Result<Result<Members<QueueShape>, Refused>, AllocError>
-    ensures { IfOk result (λ r. map_ok named_of r ≡ some_of refused.queues (λ qs. length qs.values) (in_turn spec.add_queue 0 nobody (items_view values.now))) }
+    ensures { IfOk result (λ r. map_ok named_of r ≡ some_of refused.queues (λ qs. length qs.values) (in_turn (spec.add_queue most) 0 nobody (items_view values.now))) }
 {
     let refuse = |index| Refused {
         part: Part::Queues,
         index,
     };
-    match read_in_turn(alloc, values)? {
+    match read_in_turn(alloc, most, values)? {
         Ok(queues) if queues.values.is_empty() => Ok(Err(refuse(0))),
         Ok(queues) => Ok(Ok(queues)),
         Err(index) => Ok(Err(refuse(index))),

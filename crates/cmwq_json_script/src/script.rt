@@ -11,6 +11,7 @@ ghost use Rattle.cmwq_json_script.specs.Views.{top_of, queues_of, work_of, calls
 use crate::action::Action;
 use crate::caller::read_callers;
 use crate::item::{Items, read_items};
+use crate::limits::{callers_in, items_in, queues_in};
 use crate::names::Names;
 use crate::queue::read_queues;
 use crate::top::Top;
@@ -84,7 +85,7 @@ fn with_items(
     ensures says { IfOk result (λ r. map_ok run_of r ≡ spec.with_callers (top_of top.now) (queues_of names.now queues) (work_of items) (spec.callers_said names.now (top_of top.now))) }
     ensures within { IfOk result (λ r. IfOk r MayRun) }
 {
-    match read_callers(alloc, names, top.callers)? {
+    match read_callers(alloc, callers_in(top.version), names, top.callers)? {
         Ok(callers) => Ok(Ok(script_of(alloc, top, queues, items, callers)?)),
         Err(refused) => Ok(Err(refused)),
     }
@@ -102,7 +103,7 @@ fn with_names(
     ensures says { IfOk result (λ r. map_ok run_of r ≡ spec.with_queues (top_of top.now) (Ok (queues_of names.now queues))) }
     ensures within { IfOk result (λ r. IfOk r MayRun) }
 {
-    match read_items(alloc, names, top.items)? {
+    match read_items(alloc, items_in(top.version), names, top.items)? {
         Ok(items) => with_items(alloc, top, names, queues, items),
         Err(refused) => Ok(Err(refused)),
     }
@@ -119,7 +120,7 @@ fn with_queues(
     ensures within { IfOk result (λ r. IfOk r MayRun) }
 {
     let Members { names, values } = queues;
-    let names = Names::new(alloc, top.items, names, top.cpus)?;
+    let names = Names::new(alloc, items_in(top.version), top.items, names, top.cpus)?;
     with_names(alloc, top, &names, values)
 }
 
@@ -128,7 +129,7 @@ fn read_lists(alloc: Global, top: &Top<'_>) -> Result<Result<Script, Refused>, A
     ensures says { IfOk result (λ r. map_ok run_of r ≡ spec.with_queues (top_of top.now) (spec.queues_said (top_of top.now))) }
     ensures within { IfOk result (λ r. IfOk r MayRun) }
 {
-    match read_queues(alloc, top.queues)? {
+    match read_queues(alloc, queues_in(top.version), top.queues)? {
         Ok(queues) => with_queues(alloc, top, queues),
         Err(refused) => Ok(Err(refused)),
     }

@@ -2,10 +2,11 @@
 
 ghost use Rattle.std.specs.Prelude.{◌≡◌, ◌≤◌, IfSome, option_map};
 ghost use Rattle.serde_json.specs.View.{view};
-ghost use Rattle.cmwq_model.specs.Prelude.{most_room};
+ghost use Rattle.cmwq_model.specs.Prelude.{most_cpus, most_room, most_workers};
 ghost use Rattle.cmwq_json_script.specs.Tops as spec;
 ghost use Rattle.cmwq_json_script.specs.Tops.{AreJournalSettings};
 
+use crate::limits::{cpus_in, room_in, workers_in};
 use cmwq_json::{array_at, has_keys, read_number};
 use serde_json::Value;
 
@@ -22,15 +23,9 @@ pub struct Top<'v> {
     pub queues: &'v [Value],
     pub items: &'v [Value],
     pub callers: &'v [Value],
-    ghost limits: { (1 ≤ cpus) × (cpus ≤ 4) × (1 ≤ workers) × (workers ≤ 8) × (room ≤ most_room) },
+    ghost limits: { (1 ≤ cpus) × (cpus ≤ most_cpus) × (1 ≤ workers) × (workers ≤ most_workers) × (room ≤ most_room) },
     ghost recorded: { AreJournalSettings version journal },
 }
-
-/// The greatest room where a history is written in format 2.
-const OLD_ROOM: u64 = 1_000_000;
-
-/// The greatest room.
-const MOST_ROOM: u64 = 4_611_686_018_427_387_904;
 
 /// The greatest number of entries that are kept at a time.
 const MOST_KEPT: u64 = 1_000_000;
@@ -91,13 +86,6 @@ fn read_version(value: &Value, journal: Option<u32>) -> Option<u8>
     }
 }
 
-fn room_in(version: u8) -> u64
-    ensures is { result ≡ spec.room_in version }
-    ensures most { result ≤ most_room }
-{
-    if version == 3 { MOST_ROOM } else { OLD_ROOM }
-}
-
 impl<'v> Top<'v> {
     ghost use Rattle.cmwq_json_script.specs.Views.{top_of};
 
@@ -108,10 +96,10 @@ impl<'v> Top<'v> {
         if !has_top_keys(value) {
             return None;
         }
-        let cpus = read_number(value.get("cpus")?, 1, 4)?;
-        let workers = read_number(value.get("workers")?, 1, 8)?;
         let journal = read_journal(value)?;
         let version = read_version(value, journal)?;
+        let cpus = read_number(value.get("cpus")?, 1, u64::from(cpus_in(version)))?;
+        let workers = read_number(value.get("workers")?, 1, u64::from(workers_in(version)))?;
         let room = read_number(value.get("room")?, 0, room_in(version))?;
         Some(Top {
             cpus: cpus as u8,

@@ -28,19 +28,19 @@ layout_of n queues = record { cpus = n.cpus; workers = n.workers; callers = n.ca
 -- the limits of every shape: how many CPUs, workers of a pool, callers, items and queues it may have, and how great a queue's max_active and
 -- the room, which is 2 ^ 62 at most
 abbrev pub most_cpus : ℕ
-most_cpus = 4
+most_cpus = 64
 
 abbrev pub most_workers : ℕ
-most_workers = 8
+most_workers = 64
 
 abbrev pub most_callers : ℕ
-most_callers = 64
+most_callers = 255
 
 abbrev pub most_items : ℕ
-most_items = 256
+most_items = 65535
 
 abbrev pub most_queues : ℕ
-most_queues = 64
+most_queues = 255
 
 abbrev pub most_active : ℕ
 most_active = 512

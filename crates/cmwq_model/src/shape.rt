@@ -9,19 +9,19 @@ use std::alloc::Global;
 use std::marker::Model;
 
 /// How many CPUs a shape may have.
-pub const MOST_CPUS: u8 = 4;
+pub const MOST_CPUS: u8 = 64;
 
 /// How many workers each of its pools may have.
-pub const MOST_WORKERS: u8 = 8;
+pub const MOST_WORKERS: u8 = 64;
 
 /// How many callers a shape may have.
-pub const MOST_CALLERS: u8 = 64;
+pub const MOST_CALLERS: u8 = 255;
 
 /// How many items a shape may have.
-pub const MOST_ITEMS: u16 = 256;
+pub const MOST_ITEMS: u16 = 65_535;
 
 /// How many queues a shape may have.
-pub const MOST_QUEUES: usize = 64;
+pub const MOST_QUEUES: usize = 255;
 
 /// How great a queue's max_active may be (`WQ_MAX_ACTIVE`).
 pub const MOST_ACTIVE: u16 = 512;

@@ -1,5 +1,5 @@
 -- The serials of new entries.
-use Rattle.cmwq_monitor.specs.Common.{◌≡◌, ℕ, zero, suc, ◌+◌, List, [], ◌∷◌, ◌++◌, length, map, drop, ap, sym, ◌∙◌, subst, arith, length-append, range_with_len, filter, reverse-reverse, map-append, length-map, Entry, serial_of, is_by, Layout, IsLegal, past_of}
+use Rattle.cmwq_monitor.specs.Common.{◌≡◌, ℕ, zero, suc, ◌+◌, List, ◌∷◌, ◌++◌, length, map, drop, ap, sym, ◌∙◌, subst, arith, length-append, range_with_len, filter, reverse-reverse, map-append, length-map, Entry, serial_of, is_by, Layout, IsLegal, past_of}
 use Rattle.std.proofs.lemmas.List.FromFn.{length-range_with_len}
 use Rattle.std.proofs.Math.Seq.{drop-append_seam}
 use Rattle.cmwq_theory_laws.specs.Sanity.{serial_told}

@@ -8,4 +8,3 @@ pub mod Steps
 pub mod Starts
 pub mod Settled
 pub mod Journals
-pub mod Places

@@ -11,4 +11,4 @@ pub use fault::{RunFault, Shortage};
 pub use journal::{Journal, Rest};
 pub use monitor::Monitor;
 pub use participant::Participant;
-pub use sleepers::{Sleepers, Wakes, place_of};
+pub use sleepers::{Sleepers, Wakes};

@@ -1,6 +1,6 @@
 //! Who sleeps and what for, and who is to be woken. No contract speaks of that: a condvar that is never notified meets them all.
-ghost use Rattle.std.specs.Prelude.{◌≡◌, ◌<◌};
-ghost use Rattle.cmwq_monitor.specs.Places.{place};
+
+ghost use Rattle.std.specs.Prelude.{◌≡◌};
 
 use cmwq_core::{Execution, Plan};
 use cmwq_model::{
@@ -9,44 +9,77 @@ use cmwq_model::{
 };
 use std::alloc::Global;
 
-/// Who is to be woken: a bit for each caller, and for each worker.
+/// How many callers, and how many workers, are named where they are to be woken. Where there are more, all are woken.
+const NAMED: usize = 8;
+
+/// Who is to be woken.
 #[derive(Clone, Copy)]
 pub struct Wakes {
-    pub callers: u64,
-    pub workers: u64,
+    pub callers: [Option<CallerId>; NAMED],
+    pub workers: [Option<WorkerId>; NAMED],
+    pub all_callers: bool,
+    pub all_workers: bool,
 }
 
 const NOBODY: Wakes = Wakes {
-    callers: 0,
-    workers: 0,
+    callers: [None; NAMED],
+    workers: [None; NAMED],
+    all_callers: false,
+    all_workers: false,
 };
 
 const EVERYBODY: Wakes = Wakes {
-    callers: u64::MAX,
-    workers: u64::MAX,
+    callers: [None; NAMED],
+    workers: [None; NAMED],
+    all_callers: true,
+    all_workers: true,
 };
 
-/// The wait that each caller sleeps for, and which workers sleep.
+impl Wakes {
+    fn add_caller(&mut self, caller: CallerId) {
+        for place in 0..NAMED {
+            if self.callers[place].is_none() {
+                self.callers[place] = Some(caller);
+                return;
+            }
+        }
+        self.all_callers = true;
+    }
+
+    fn add_worker(&mut self, worker: WorkerId) {
+        for place in 0..NAMED {
+            if self.workers[place].is_none() {
+                self.workers[place] = Some(worker);
+                return;
+            }
+        }
+        self.all_workers = true;
+    }
+}
+
+/// A caller that sleeps until its wait may end, and whether it is to be woken.
+#[derive(Clone, Copy)]
+struct Waiter {
+    ticket: Ticket,
+    is_woken: bool,
+}
+
+/// The waits that callers sleep for, and of each pool which workers sleep.
 #[derive(Drop)]
 pub struct Sleepers {
-    waiters: Vec<Option<Ticket>>,
-    waiting: u64,
-    idle: u64,
+    waiters: Vec<Waiter>,
+    /// A word for each pool, in which a worker has the bit of its index.
+    idle: Vec<u64>,
     wakes: Wakes,
 }
 
-fn bit(place: u8) -> u64 {
-    if place < 64 { 1 << place } else { 0 }
+/// The bit of a worker in the word of its pool.
+fn bit(index: u8) -> u64 {
+    if index < 64 { 1 << index } else { 0 }
 }
 
-/// The place of a worker among those of all pools, of which there are 64 at most: each worker of four CPUs and eight workers a pool has one
-/// of its own.
-pub fn place_of(worker: WorkerId) -> u8
-    ensures is { worker.pool.cpu.0 < 4 → worker.index < 8 → result ≡ place worker }
-    ensures few { result < 64 }
-{
-    let pool = worker.pool.cpu.0 % 4 * 2 + u8::from(worker.pool.high);
-    pool * 8 + worker.index % 8
+fn place_of(pool: PoolId) -> usize {
+    2 * usize::from(pool.cpu.0) + usize::from(pool.high)
 }
 
 /// Whether the end of this queueing may let the wait end. Flushes of a queue end in the order in which they were begun, and are looked at
@@ -132,12 +165,6 @@ fn is_before(ticket: Ticket, first: Option<Ticket>) -> bool {
     }
 }
 
-/// Whether a worker of the pool sleeps.
-fn has_idle(idle: u64, pool: PoolId) -> bool {
-    let first = place_of(WorkerId { pool, index: 0 });
-    first < 64 && idle >> first & 0xff != 0
-}
-
 /// Whether this worker is not enlisted, would start a queueing, or neither.
 enum Prospect {
     Reserve,
@@ -160,35 +187,47 @@ fn prospect_of(book: &Execution, shape: &Shape, worker: WorkerId) -> Prospect
 }
 
 impl Sleepers {
-    /// Nobody sleeps. No later call takes memory.
-    pub fn new(alloc: Global) -> Result<Sleepers, NoMemory> {
+    /// Nobody sleeps of those that a shape has. No later call takes memory.
+    pub fn new(alloc: Global, shape: &Shape) -> Result<Sleepers, NoMemory> {
+        let counts = shape.counts();
         Ok(Sleepers {
-            waiters: Vec::from_elem(alloc, None, 64)?,
-            waiting: 0,
-            idle: 0,
+            waiters: Vec::with_capacity(alloc, usize::from(counts.callers))?,
+            idle: Vec::from_elem(alloc, 0, 2 * usize::from(counts.cpus))?,
             wakes: NOBODY,
         })
     }
 
     /// A caller goes to sleep until its wait may end.
     pub fn waits(&mut self, ticket: Ticket) {
-        let caller = ticket.caller.0;
-        if let Some(place) = self.waiters.get_mut(usize::from(caller)) {
-            *place = Some(ticket);
-            self.waiting |= bit(caller);
+        if self.waiters.len() < self.waiters.capacity() {
+            self.waiters.push_reserved(Waiter {
+                ticket,
+                is_woken: false,
+            });
         }
     }
 
     /// A worker goes to sleep until it may start something.
     pub fn idles(&mut self, worker: WorkerId) {
-        self.idle |= bit(place_of(worker));
+        if let Some(idle) = self.idle.get_mut(place_of(worker.pool)) {
+            *idle |= bit(worker.index);
+        }
     }
 
     /// A caller or a worker is awake again, also where nobody woke it.
     pub fn awakes(&mut self, who: Who) {
         match who {
-            Who::Caller(caller) => self.waiting &= !bit(caller.0),
-            Who::Worker(worker) => self.idle &= !bit(place_of(worker)),
+            Who::Caller(caller) => {
+                self.waiters
+                    .retain(|waiter| waiter.ticket.caller.0 != caller.0);
+            }
+            Who::Worker(worker) => self.is_up(worker),
+        }
+    }
+
+    fn is_up(&mut self, worker: WorkerId) {
+        if let Some(idle) = self.idle.get_mut(place_of(worker.pool)) {
+            *idle &= !bit(worker.index);
         }
     }
 
@@ -196,15 +235,13 @@ impl Sleepers {
     pub fn changed(&mut self, book: &Execution, shape: &Shape, plan: &Plan)
         requires { book.now.layout ≡ shape.now }
     {
-        if self.waiting != 0 {
+        if !self.waiters.is_empty() {
             self.wake_waiters(book, plan);
         }
-        if self.idle != 0 {
-            match pools_touched_by(shape, plan.mark.entry) {
-                Touched::None => {}
-                Touched::One(pool) => self.wake_pool(book, shape, pool),
-                Touched::All => self.wake_pools(book, shape),
-            }
+        match pools_touched_by(shape, plan.mark.entry) {
+            Touched::None => {}
+            Touched::One(pool) => self.wake_pool(book, shape, pool),
+            Touched::All => self.wake_pools(book, shape),
         }
     }
 
@@ -217,53 +254,57 @@ impl Sleepers {
         }
     }
 
-    fn wake_caller(&mut self, caller: CallerId) {
-        self.waiting &= !bit(caller.0);
-        self.wakes.callers |= bit(caller.0);
-    }
-
-    /// The wait of the caller with this number, if it sleeps.
-    fn wait_of(&self, caller: u8) -> Option<Ticket> {
-        if self.waiting & bit(caller) == 0 {
-            return None;
-        }
-        *self.waiters.get(usize::from(caller))?
-    }
-
     /// Wakes those who wait for the item or for all of the queue, where that has ended.
     fn wake_ended(&mut self, book: &Execution, ended: Queueing) {
-        for caller in 0..64 {
-            if let Some(ticket) = self.wait_of(caller) {
-                if may_end_by(ticket, ended) && book.ready(ticket.number) {
-                    self.wake_caller(ticket.caller);
-                }
+        for place in 0..self.waiters.len() {
+            let Some(waiter) = self.waiters.get(place) else {
+                return;
+            };
+            if !waiter.is_woken
+                && may_end_by(waiter.ticket, ended)
+                && book.ready(waiter.ticket.number)
+            {
+                self.wake_waiter(place);
             }
         }
     }
 
-    /// Of those who sleep in a flush of the queue, the one that was begun first.
-    fn first_flush(&self, queue: QueueId) -> Option<Ticket> {
+    fn wake_waiter(&mut self, place: usize) {
+        if let Some(waiter) = self.waiters.get_mut(place) {
+            waiter.is_woken = true;
+            self.wakes.add_caller(waiter.ticket.caller);
+        }
+    }
+
+    /// Of those who sleep in a flush of the queue, the place of the one that was begun first.
+    fn first_flush(&self, queue: QueueId) -> Option<usize> {
         let mut first: Option<Ticket> = None;
-        for caller in 0..64 {
-            if let Some(ticket) = self.wait_of(caller) {
-                if is_flush_of(ticket, queue) && is_before(ticket, first) {
-                    first = Some(ticket);
-                }
+        let mut place = None;
+        for (index, waiter) in self.waiters.iter().enumerate() {
+            if !waiter.is_woken
+                && is_flush_of(waiter.ticket, queue)
+                && is_before(waiter.ticket, first)
+            {
+                first = Some(waiter.ticket);
+                place = Some(index);
             }
         }
-        first
+        place
     }
 
     /// Wakes those whose flush of the queue has ended, the oldest first, up to one that hasn't.
     fn wake_flushes(&mut self, book: &Execution, queue: QueueId) {
-        for _ in 0..64 {
-            let Some(ticket) = self.first_flush(queue) else {
+        for _ in 0..self.waiters.len() {
+            let Some(place) = self.first_flush(queue) else {
                 return;
             };
-            if !book.ready(ticket.number) {
+            let Some(waiter) = self.waiters.get(place) else {
+                return;
+            };
+            if !book.ready(waiter.ticket.number) {
                 return;
             }
-            self.wake_caller(ticket.caller);
+            self.wake_waiter(place);
         }
     }
 
@@ -282,21 +323,23 @@ impl Sleepers {
     fn wake_pool(&mut self, book: &Execution, shape: &Shape, pool: PoolId)
         requires { book.now.layout ≡ shape.now }
     {
-        if !has_idle(self.idle, pool) {
+        let Some(idle) = self.idle.get(place_of(pool)) else {
             return;
-        }
-        for index in 0..8 {
+        };
+        let mut rest = *idle;
+        for _ in 0..64 {
+            if rest == 0 {
+                return;
+            }
+            let index = rest.trailing_zeros() as u8;
             let worker = WorkerId { pool, index };
-            let mine = bit(place_of(worker));
-            if self.idle & mine != 0 {
-                match prospect_of(book, shape, worker) {
-                    Prospect::Reserve => {}
-                    Prospect::Nothing => return,
-                    Prospect::Starts => {
-                        self.idle &= !mine;
-                        self.wakes.workers |= mine;
-                        return;
-                    }
+            match prospect_of(book, shape, worker) {
+                Prospect::Reserve => rest &= rest - 1,
+                Prospect::Nothing => return,
+                Prospect::Starts => {
+                    self.is_up(worker);
+                    self.wakes.add_worker(worker);
+                    return;
                 }
             }
         }
@@ -304,8 +347,7 @@ impl Sleepers {
 
     /// All workers are to be woken.
     pub fn wake_workers(&mut self) {
-        self.idle = 0;
-        self.wakes.workers = EVERYBODY.workers;
+        self.wakes.all_workers = true;
     }
 
     /// All callers and workers are to be woken.

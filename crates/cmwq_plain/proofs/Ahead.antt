@@ -1,5 +1,5 @@
 -- How many stand ahead of a queueing, as its history is gone through.
-use Rattle.cmwq_plain.specs.Common.{◌≡◌, ℕ, ◌+◌, ◌<◌, ◌≤◌, Bool, true, false, ◌&&◌, List, ◌∷◌, ◌++◌, length, filter, count_by, option_to_list, if◌then◌else◌, refl, ap, arith, filter-append, sum_by-append, Entry, Queueing, queueings, opening, still_open, is_live, is_ahead}
+use Rattle.cmwq_plain.specs.Common.{◌≡◌, ℕ, ◌+◌, ◌<◌, ◌≤◌, Bool, List, ◌∷◌, ◌++◌, length, filter, count_by, option_to_list, if◌then◌else◌, ap, arith, filter-append, sum_by-append, Entry, Queueing, queueings, opening, still_open, is_live, is_ahead}
 use Rattle.cmwq_plain.specs.Past.{upto, open_upto}
 use Rattle.cmwq_plain.proofs.Parts.{upto-grows}
 use Rattle.cmwq_plain.proofs.PastSteps.{queueings_step, open_none, open_all}

@@ -1,5 +1,5 @@
 -- A list, and one element more where there is one.
-use Rattle.cmwq_plain.specs.Common.{◌≡◌, ◌+◌, Bool, true, false, List, [], ◌∷◌, ◌++◌, Some, None, filter, find, count_by, ◌||◌, if◌then◌else◌, refl, ap, ◌∙◌, zero-add, length, length-append, option_or, list_any, append-nil, filter-append, find-append, list_any-append, sum_by-append}
+use Rattle.cmwq_plain.specs.Common.{◌≡◌, ◌+◌, Bool, false, List, [], ◌∷◌, ◌++◌, Some, None, filter, find, count_by, ◌||◌, if◌then◌else◌, ap, ◌∙◌, zero-add, length, length-append, option_or, list_any, append-nil, filter-append, find-append, list_any-append, sum_by-append}
 use Rattle.cmwq_lemmas.proofs.Truth.{or_false}
 
 pub filter_push_none : {X : Type 0} (p : X → Bool) (xs : List X) → filter p (xs ++ []) ≡ filter p xs ++ []

@@ -64,7 +64,7 @@ none_run : (i : ℕ) (xs : List ℕ) → count_by (slot_runs i) (map new_slot xs
 none_run i [] = refl
 none_run i (x ∷ xs) = count_by-cons (slot_runs i) (new_slot x) (map new_slot xs) ∙ zero-add (count_by (slot_runs i) (map new_slot xs)) ∙ none_run i xs
 
-pub AreMarked-new : (items workers : ℕ) → workers ≤ 8 → AreMarked (replicate items false) (map new_slot (range_with_len 0 workers))
+pub AreMarked-new : (items workers : ℕ) → workers ≤ 255 → AreMarked (replicate items false) (map new_slot (range_with_len 0 workers))
 AreMarked-new items workers h = record {
   few = rw length-map-range_with_len h;
   runs = λ i. none_run i (range_with_len 0 workers) ∙ sym (ap (λ (b : Bool). cond b 1 0) (none_marked items i));

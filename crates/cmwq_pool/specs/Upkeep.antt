@@ -19,7 +19,7 @@ pub record IsTaskList (room : ℕ) (listed : List Task) : Type 0 where
 
 -- an item is marked as running exactly if one slot runs it, and no item has two runs
 pub record AreMarked (running : List Bool) (slots : List Slot) : Type 0 where
-  pub few : length slots ≤ 8
+  pub few : length slots ≤ 255
   pub runs : (i : ℕ) → count_by (slot_runs i) slots ≡ (if slice_index_or running i false then 1 else 0)
 
 pub record IsPoolKept (capacity : ℕ) (listed : List Task) (running : List Bool) (slots : List Slot) : Type 0 where

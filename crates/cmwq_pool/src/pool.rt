@@ -1,5 +1,4 @@
 ghost use Rattle.std.specs.Prelude.{◌≡◌, ◌<◌, length, IsTrue, IsSome, IfSome, IfOk, Some};
-ghost use Rattle.cmwq_model.specs.Prelude.{is_between, most_items};
 ghost use Rattle.cmwq_pool.specs.Slots.{slot_at, slot_is_idle, slot_runs_awake, slot_runs_asleep, run_number, slots_runnable, slots_enlisted_by, slot_may_retire, slot_asleep, slot_awake, slot_free, slot_retired};
 ghost use Rattle.cmwq_pool.specs.PoolState.{new_pool_state, task, may_add, pool_with_task, pool_without_task, next_task, next_number, pool_with_run, with_slot_again};
 
@@ -35,11 +34,8 @@ impl Model for Pool {
 }
 
 impl Pool {
-    /// A pool with nothing listed and worker 0 enlisted, for 1 to 256 items and 1 to 8 workers. The error says that
-    /// memory ran out.
+    /// A pool for so many items and workers, with nothing listed and worker 0 enlisted. The error says that memory ran out.
     pub fn new(alloc: Global, items: u16, workers: u8) -> Result<Pool, NoMemory>
-        requires items { IsTrue (is_between 1 most_items items) }
-        requires workers { IsTrue (is_between 1 8 workers) }
         ensures { IfOk result (λ pool. pool ≡ new_pool_state items workers) }
     {
         let items = usize::from(items);

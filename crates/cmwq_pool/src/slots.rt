@@ -16,7 +16,7 @@ pub(crate) fn new_slots(alloc: Global, workers: u8) -> Result<Vec<Slot>, AllocEr
 
 /// How many slots hold the pool.
 pub(crate) fn count_holding(slots: &[Slot]) -> u32
-    requires { length slots.now ≤ 8 }
+    requires { length slots.now ≤ 255 }
     ensures { result ≡ slots_runnable slots.now }
 {
     slots.iter().filter(|slot| slot.is_holding()).count() as u32
@@ -36,7 +36,7 @@ fn count_occupied(slots: &[Slot]) -> usize
 
 /// Whether more than two are idle, and those past two are a quarter of the occupied ones or more.
 pub(crate) fn have_spare(slots: &[Slot]) -> bool
-    requires { length slots.now ≤ 8 }
+    requires { length slots.now ≤ 255 }
     ensures { result ≡ has_spare (count_by slot_is_idle slots.now) (count_by slot_is_occupied slots.now) }
 {
     let idle = count_idle(slots);
@@ -45,7 +45,7 @@ pub(crate) fn have_spare(slots: &[Slot]) -> bool
 
 /// Whether a worker other than this one is idle.
 fn has_other_idle(slots: &[Slot], worker: u8) -> bool
-    requires { length slots.now ≤ 8 }
+    requires { length slots.now ≤ 255 }
     ensures { result ≡ list_any (slot_is_other_idle slots.now worker) (slot_indices slots.now) }
 {
     (0..slots.len() as u8).any(|index| index != worker && slots[usize::from(index)].is_idle())
@@ -53,7 +53,7 @@ fn has_other_idle(slots: &[Slot], worker: u8) -> bool
 
 /// The first worker of the reserve.
 fn first_reserve(slots: &[Slot]) -> Option<u8>
-    requires { length slots.now ≤ 8 }
+    requires { length slots.now ≤ 255 }
     ensures { result ≡ find (is_reserve_at slots.now) (slot_indices slots.now) }
 {
     (0..slots.len() as u8).find(|index| !slots[usize::from(*index)].enlisted)
@@ -61,7 +61,7 @@ fn first_reserve(slots: &[Slot]) -> Option<u8>
 
 /// Whom a worker enlists as it starts: where no other is idle, the first of the reserve.
 pub(crate) fn enlisted_by(slots: &[Slot], worker: u8) -> Option<u8>
-    requires { length slots.now ≤ 8 }
+    requires { length slots.now ≤ 255 }
     ensures { result ≡ slots_enlisted_by slots.now worker }
 {
     if has_other_idle(slots, worker) {
@@ -93,7 +93,7 @@ fn enlist(slots: &mut [Slot], worker: Option<u8>)
 
 /// A worker runs a task. Answers whom it enlists.
 pub(crate) fn start_task(slots: &mut [Slot], worker: u8, task: Task) -> Option<u8>
-    requires few { length slots.old ≤ 8 }
+    requires few { length slots.old ≤ 255 }
     requires worker { worker < length slots.old }
     ensures started { slots.new ≡ slots_started slots.old worker task }
     ensures enlisted { result ≡ slots_enlisted_by slots.old worker }

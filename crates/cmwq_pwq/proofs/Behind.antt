@@ -1,5 +1,5 @@
 -- What becomes active after an entry that changes no width.
-use Rattle.cmwq_pwq.specs.Common.{append-nil, ◌≡◌, ℕ, ◌+◌, ◌-◌, ◌<◌, ◌≤◌, Bool, true, false, ◌&&◌, ◌==◌, List, [], ◌∷◌, ◌++◌, length, filter, cond, count_by, nat_lt, refl, sym, ap, ap₂, ◌∙◌, subst, arith, length-append, slice_set, if◌then◌else◌, AllByRecursion, lt-ltb, le-ltb, append_assoc, length-set, Queueing, is_on, All_map, All_both, All_filter}
+use Rattle.cmwq_pwq.specs.Common.{append-nil, ◌≡◌, ℕ, ◌+◌, ◌-◌, ◌<◌, ◌≤◌, Bool, true, false, ◌&&◌, ◌==◌, List, [], ◌∷◌, ◌++◌, length, filter, cond, count_by, nat_lt, refl, sym, ap, ap₂, ◌∙◌, subst, arith, length-append, slice_set, if◌then◌else◌, AllByRecursion, lt-ltb, le-ltb, append_assoc, length-set, Queueing, is_on, All_map, All_both, All_filter, most_cpus}
 use Rattle.cmwq_pwq.specs.Pwqs.{PwqState, place_of, count_at, count_of_same_pwq, is_waiting, is_other_waiting, pwqs_without_open, pwqs_with_open, AreBelowMaxActive, Passes, IsPassed, IsBehind, AreBehind, IsFirstTaken}
 use Rattle.cmwq_pwq.proofs.Passes.{count_set, on_parts, on_itself, passes_kept, passes_activated, way_now}
 
@@ -14,7 +14,7 @@ passes_none way old = record {
 }
 
 -- the counts matter place by place
-passes_as : (way : Queueing → Bool) (old new same : List ℕ) (xs rest taken : List Queueing) → Passes way xs old new rest taken → length same ≡ length new → ((q c : ℕ) → c < 4 → place_of q c < length old → count_at same q c ≡ count_at new q c) → Passes way xs old same rest taken
+passes_as : (way : Queueing → Bool) (old new same : List ℕ) (xs rest taken : List Queueing) → Passes way xs old new rest taken → length same ≡ length new → ((q c : ℕ) → c < most_cpus → place_of q c < length old → count_at same q c ≡ count_at new q c) → Passes way xs old same rest taken
 passes_as way old new same xs rest taken p many counts = record {
   kept = p.kept;
   activated = p.activated;
@@ -55,11 +55,11 @@ on_sym x y = by (is_on x.place.queue.0 x.place.cpu.0 y) refl (is_on y.place.queu
 abbrev pub one_less : List ℕ → Queueing → List ℕ
 one_less counts x = slice_set counts (place_of x.place.queue.0 x.place.cpu.0) (count_of_same_pwq counts x - 1)
 
-module _ (wide : ℕ → ℕ) (counts : List ℕ) (x : Queueing) (cpu : x.place.cpu.0 < 4) (at : place_of x.place.queue.0 x.place.cpu.0 < length counts) (some : 0 < count_of_same_pwq counts x) where
+module _ (wide : ℕ → ℕ) (counts : List ℕ) (x : Queueing) (cpu : x.place.cpu.0 < most_cpus) (at : place_of x.place.queue.0 x.place.cpu.0 < length counts) (some : 0 < count_of_same_pwq counts x) where
   less_many : length (one_less counts x) ≡ length counts
   less_many = length-set counts (place_of x.place.queue.0 x.place.cpu.0) (count_of_same_pwq counts x - 1)
 
-  less_at : (q c : ℕ) → c < 4 → count_at (one_less counts x) q c ≡ cond (is_on q c x) (count_of_same_pwq counts x - 1) (count_at counts q c)
+  less_at : (q c : ℕ) → c < most_cpus → count_at (one_less counts x) q c ≡ cond (is_on q c x) (count_of_same_pwq counts x - 1) (count_at counts q c)
   less_at q c less = count_set counts x (count_of_same_pwq counts x - 1) q c cpu less at
 
   -- elsewhere what is behind stays behind
@@ -123,7 +123,7 @@ module _ (wide : ℕ → ℕ) (counts : List ℕ) (x : Queueing) (cpu : x.place.
         start : Passes way first.before C C first.before []
         start = keeps_behind way wide C xs have [] first.before (y ∷ first.after) C [] [] first.stood refl before_behind (passes_none way C)
 
-        y_cpu : y.place.cpu.0 < 4
+        y_cpu : y.place.cpu.0 < most_cpus
         y_cpu = rw parts.1 cpu
 
         y_at : place_of y.place.queue.0 y.place.cpu.0 < length C
@@ -141,7 +141,7 @@ module _ (wide : ℕ → ℕ) (counts : List ℕ) (x : Queueing) (cpu : x.place.
         taken : Passes way (first.before ++ y ∷ []) C (slice_set C (place_of y.place.queue.0 y.place.cpu.0) (count_of_same_pwq C y + 1)) first.before (y ∷ [])
         taken = passes_activated way C first.before y C first.before [] start is_below_max_active y_cpu y_at
 
-        back : (q c : ℕ) → c < 4 → (b : Bool) → is_on q c x ≡ b → count_at counts q c ≡ cond b (count_of_same_pwq C y + 1) (count_at C q c)
+        back : (q c : ℕ) → c < most_cpus → (b : Bool) → is_on q c x ≡ b → count_at counts q c ≡ cond b (count_of_same_pwq C y + 1) (count_at C q c)
         back q c less true on =
             let p = on_parts q c x on in
             let same : count_of_same_pwq counts x ≡ count_at counts q c = ap₂ (count_at counts) p.0 p.1 in
@@ -161,7 +161,7 @@ module _ (wide : ℕ → ℕ) (counts : List ℕ) (x : Queueing) (cpu : x.place.
 length_split : (before : List Queueing) (y : Queueing) (after : List Queueing) → length (before ++ after) + 1 ≡ length (before ++ y ∷ after)
 length_split before y after = let a = length-append before after in let b = length-append before (y ∷ after) in omega arith
 
-module _ (wide : ℕ → ℕ) (l : PwqState) (x : Queueing) (cpu : x.place.cpu.0 < 4) (at : place_of x.place.queue.0 x.place.cpu.0 < length l.counts) where
+module _ (wide : ℕ → ℕ) (l : PwqState) (x : Queueing) (cpu : x.place.cpu.0 < most_cpus) (at : place_of x.place.queue.0 x.place.cpu.0 < length l.counts) where
   module _ (active : is_waiting l x ≡ false) (some : 0 < count_of_same_pwq l.counts x) (behind : AreBehind wide l.counts l.waiting) where
     as_active : (new : PwqState) → IsPassed wide (record l { counts = one_less l.counts x }) new → IsPassed wide (pwqs_without_open l x) new
     as_active new p = subst (λ b. IsPassed wide (if b then record l { waiting = filter (is_other_waiting x.number) l.waiting } else record l { counts = one_less l.counts x }) new) (sym active) p

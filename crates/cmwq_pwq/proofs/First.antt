@@ -1,5 +1,5 @@
 -- What stands before the first that passes, and that none passes where none is found.
-use Rattle.cmwq_pwq.specs.Common.{◌≡◌, ℕ, ◌+◌, ◌<◌, ◌≤◌, cond, ltb, subst, Bool, true, false, zero, suc, List, [], ◌∷◌, ◌++◌, length, get_or, take, drop, Some, None, refl, sym, ap, ◌∙◌, arith, position, AllByRecursion, position_or_len, ltb-false, drop_more, take-append-drop, take_all, fails_before_first, Queueing, is_on}
+use Rattle.cmwq_pwq.specs.Common.{◌≡◌, ℕ, ◌+◌, ◌<◌, ◌≤◌, ltb, subst, Bool, false, zero, suc, List, [], ◌∷◌, ◌++◌, length, get_or, take, drop, Some, None, sym, ap, ◌∙◌, arith, position, AllByRecursion, position_or_len, ltb-false, drop_more, take-append-drop, take_all, fails_before_first, Queueing, is_on}
 use Rattle.std.proofs.lemmas.List.Quantifiers.{position-Some}
 use Rattle.cmwq_pwq.specs.Pwqs.{IsFirstTaken}
 use Rattle.cmwq_lemmas.proofs.Truth.{not_chosen}

@@ -1,5 +1,5 @@
 -- One step of the pass over what waits.
-use Rattle.cmwq_pwq.specs.Common.{append-nil, ◌≡◌, ◌≢◌, ℕ, ◌+◌, ◌*◌, ◌<◌, ◌≤◌, Bool, true, false, not, ◌&&◌, ◌==◌, List, [], ◌∷◌, ◌++◌, length, filter, take, drop, cond, get_or, count_by, nat_lt, refl, sym, ap, ap₂, ◌∙◌, subst, arith, slice_set, eqb-true, eq-eqb, lt-ltb, le-ltb, and_parts, get_or-set_other, take_more, drop_more, take-append-drop, take_all, get_or_default, length-set, filter-append, sum_by-append, Queueing, is_on, count_by-cons}
+use Rattle.cmwq_pwq.specs.Common.{append-nil, ◌≡◌, ◌≢◌, ℕ, ◌+◌, ◌*◌, ◌<◌, ◌≤◌, Bool, true, false, not, ◌&&◌, ◌==◌, List, [], ◌∷◌, ◌++◌, length, filter, take, drop, cond, get_or, count_by, nat_lt, refl, sym, ap, ap₂, ◌∙◌, subst, arith, slice_set, eqb-true, eq-eqb, lt-ltb, le-ltb, and_parts, get_or-set_other, take_more, drop_more, take-append-drop, take_all, get_or_default, length-set, filter-append, Queueing, is_on, count_by-cons, most_cpus}
 use Rattle.std.proofs.lemmas.Grind.{get_or-set_at}
 use Rattle.cmwq_pwq.specs.Pwqs.{place_of, count_at, count_of_same_pwq, AreBelowMaxActive, Passes}
 use Rattle.cmwq_lemmas.proofs.Lists.{count_append}
@@ -8,7 +8,7 @@ pub count_by-one : {X : Type 0} (p : X → Bool) (x : X) → count_by p (x ∷ [
 count_by-one p x = let e = count_by-cons p x [] in e ∙ (let zero : cond (p x) 1 0 + count_by p [] ≡ cond (p x) 1 0 = omega arith in zero)
 
 -- two places are one only for one queue on one CPU
-pub one_place : (q c r d : ℕ) → c < 4 → d < 4 → place_of q c ≡ place_of r d → (q ≡ r) × (c ≡ d)
+pub one_place : (q c r d : ℕ) → c < most_cpus → d < most_cpus → place_of q c ≡ place_of r d → (q ≡ r) × (c ≡ d)
 one_place q c r d k m h = (omega arith, omega arith)
 
 pub on_parts : (q c : ℕ) (x : Queueing) → is_on q c x ≡ true → (x.place.queue.0 ≡ q) × (x.place.cpu.0 ≡ c)
@@ -18,7 +18,7 @@ pub on_itself : (q c : ℕ) (x : Queueing) → x.place.queue.0 ≡ q → x.place
 on_itself q c x h k = ap₂ (λ a b. a && b) (eq-eqb x.place.queue.0 q h) (eq-eqb x.place.cpu.0 c k)
 
 -- a count that is set, at each place
-pub count_set : (counts : List ℕ) (x : Queueing) (n q c : ℕ) → x.place.cpu.0 < 4 → c < 4 → place_of x.place.queue.0 x.place.cpu.0 < length counts →
+pub count_set : (counts : List ℕ) (x : Queueing) (n q c : ℕ) → x.place.cpu.0 < most_cpus → c < most_cpus → place_of x.place.queue.0 x.place.cpu.0 < length counts →
     count_at (slice_set counts (place_of x.place.queue.0 x.place.cpu.0) n) q c ≡ cond (is_on q c x) n (count_at counts q c)
 count_set counts x n q c k m here = by (is_on q c x) refl
   where
@@ -45,7 +45,7 @@ module _ (way : Queueing → Bool) (old : List ℕ) (done : List Queueing) (x : 
         counts = λ q c less here. p.counts q c less here ∙ ap (λ ys. count_at old q c + count_by (is_on q c) ys) (sym same);
       }
 
-  pub passes_activated : (new : List ℕ) (rest taken : List Queueing) → Passes way done old new rest taken → way x ≡ true → x.place.cpu.0 < 4 → place_of x.place.queue.0 x.place.cpu.0 < length old →
+  pub passes_activated : (new : List ℕ) (rest taken : List Queueing) → Passes way done old new rest taken → way x ≡ true → x.place.cpu.0 < most_cpus → place_of x.place.queue.0 x.place.cpu.0 < length old →
       Passes way (done ++ x ∷ []) old (slice_set new (place_of x.place.queue.0 x.place.cpu.0) (count_of_same_pwq new x + 1)) rest (taken ++ x ∷ [])
   passes_activated new rest taken p h few there =
       let more : filter way (done ++ x ∷ []) ≡ filter way done ++ x ∷ [] = filter-append way done (x ∷ []) ∙ ap (λ b. filter way done ++ cond b (x ∷ []) []) h in
@@ -59,7 +59,7 @@ module _ (way : Queueing → Bool) (old : List ℕ) (done : List Queueing) (x : 
             count_set new x (count_of_same_pwq new x + 1) q c few less there_new ∙ by q c less here (is_on q c x) refl ∙ ap (λ n. count_at old q c + n) (sym one_more);
       }
     where
-      by : (q c : ℕ) → c < 4 → place_of q c < length old → (b : Bool) → is_on q c x ≡ b → cond b (count_of_same_pwq new x + 1) (count_at new q c) ≡ count_at old q c + (count_by (is_on q c) (filter way done) + cond b 1 0)
+      by : (q c : ℕ) → c < most_cpus → place_of q c < length old → (b : Bool) → is_on q c x ≡ b → cond b (count_of_same_pwq new x + 1) (count_at new q c) ≡ count_at old q c + (count_by (is_on q c) (filter way done) + cond b 1 0)
       by q c less here true on =
           let at = on_parts q c x on in
           let same : count_of_same_pwq new x ≡ count_at new q c = ap₂ (count_at new) at.0 at.1 in
@@ -68,7 +68,7 @@ module _ (way : Queueing → Bool) (old : List ℕ) (done : List Queueing) (x : 
       by q c less here false on = let was = p.counts q c less here in omega arith
 
   -- what the counts say now is whether it is below max_active
-  pub way_now : (wide : ℕ → ℕ) (xs tail : List Queueing) (new : List ℕ) (rest taken : List Queueing) → AreBelowMaxActive way wide old xs → xs ≡ done ++ x ∷ tail → Passes way done old new rest taken → x.place.cpu.0 < 4 → place_of x.place.queue.0 x.place.cpu.0 < length old →
+  pub way_now : (wide : ℕ → ℕ) (xs tail : List Queueing) (new : List ℕ) (rest taken : List Queueing) → AreBelowMaxActive way wide old xs → xs ≡ done ++ x ∷ tail → Passes way done old new rest taken → x.place.cpu.0 < most_cpus → place_of x.place.queue.0 x.place.cpu.0 < length old →
       way x ≡ nat_lt (count_of_same_pwq new x) (wide x.place.queue.0)
   way_now wide xs tail new rest taken have split p few there =
       have done x tail split ∙ ap (λ n. nat_lt n (wide x.place.queue.0)) (sym (p.counts x.place.queue.0 x.place.cpu.0 few there))
@@ -78,14 +78,14 @@ module _ (way : Queueing → Bool) (wide : ℕ → ℕ) (old : List ℕ) (xs : L
   pub split_here : xs ≡ take i xs ++ get_or xs i d ∷ drop (i + 1) xs
   split_here = sym (take-append-drop i xs) ∙ ap (λ ys. take i xs ++ ys) (drop_more xs i d inside)
 
-  pub pass_kept : (new : List ℕ) (rest taken : List Queueing) → Passes way (take i xs) old new rest taken → (get_or xs i d).place.cpu.0 < 4 → place_of (get_or xs i d).place.queue.0 (get_or xs i d).place.cpu.0 < length old →
+  pub pass_kept : (new : List ℕ) (rest taken : List Queueing) → Passes way (take i xs) old new rest taken → (get_or xs i d).place.cpu.0 < most_cpus → place_of (get_or xs i d).place.queue.0 (get_or xs i d).place.cpu.0 < length old →
       wide (get_or xs i d).place.queue.0 ≤ count_of_same_pwq new (get_or xs i d) → Passes way (take (i + 1) xs) old new (rest ++ get_or xs i d ∷ []) taken
   pass_kept new rest taken p few there full =
       let x = get_or xs i d in
       let not_below_max_active : way x ≡ false = way_now way old (take i xs) x wide xs (drop (i + 1) xs) new rest taken have split_here p few there ∙ le-ltb (count_of_same_pwq new x) (wide x.place.queue.0) full in
       subst (λ ys. Passes way ys old new (rest ++ x ∷ []) taken) (sym (take_more xs i d inside)) (passes_kept way old (take i xs) x new rest taken p not_below_max_active)
 
-  pub pass_activated : (new : List ℕ) (rest taken : List Queueing) → Passes way (take i xs) old new rest taken → (get_or xs i d).place.cpu.0 < 4 → place_of (get_or xs i d).place.queue.0 (get_or xs i d).place.cpu.0 < length old →
+  pub pass_activated : (new : List ℕ) (rest taken : List Queueing) → Passes way (take i xs) old new rest taken → (get_or xs i d).place.cpu.0 < most_cpus → place_of (get_or xs i d).place.queue.0 (get_or xs i d).place.cpu.0 < length old →
       count_of_same_pwq new (get_or xs i d) < wide (get_or xs i d).place.queue.0 →
       Passes way (take (i + 1) xs) old (slice_set new (place_of (get_or xs i d).place.queue.0 (get_or xs i d).place.cpu.0) (count_of_same_pwq new (get_or xs i d) + 1)) rest (taken ++ get_or xs i d ∷ [])
   pass_activated new rest taken p few there free =
@@ -100,5 +100,5 @@ pass_all way old new xs rest taken i past p = subst (λ ys. Passes way ys old ne
 pub read_count : (counts : List ℕ) (x : Queueing) (at n : ℕ) → at ≡ place_of x.place.queue.0 x.place.cpu.0 → at < length counts → n ≡ get_or counts at n → n ≡ count_of_same_pwq counts x
 read_count counts x at n place inside read = read ∙ (get_or_default counts at n 0 inside ∙ ap (λ j. get_or counts j 0) place)
 
-pub place_inside : (q c queues n : ℕ) → q < queues → c < 4 → n ≡ 4 * queues → place_of q c < n
+pub place_inside : (q c queues n : ℕ) → q < queues → c < most_cpus → n ≡ most_cpus * queues → place_of q c < n
 place_inside q c queues n h k many = omega arith

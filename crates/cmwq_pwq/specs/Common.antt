@@ -7,6 +7,6 @@ pub use Rattle.std.proofs.lemmas.List.Sums.{fails_before_first, sum_by-append}
 pub use Rattle.std.specs.List.{AllByRecursion, list_any, position_or_len}
 pub use Rattle.std.specs.Prelude.{All, Option, if◌then◌else◌, position, replicate, slice_index, slice_index_or, slice_set}
 pub use Rattle.cmwq_lemmas.proofs.Lists.{All_both, All_filter, All_map, count_by-cons}
-pub use Rattle.cmwq_model.specs.Prelude.{has_number, no_queue}
+pub use Rattle.cmwq_model.specs.Prelude.{has_number, most_cpus, no_queue}
 pub use Rattle.cmwq_model.specs.declared.record.Queueing.{Queueing}
 pub use Rattle.cmwq_theory_steps.specs.Places.{is_on}

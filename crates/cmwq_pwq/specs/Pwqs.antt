@@ -1,6 +1,6 @@
 -- What waits to become active, and how many are active of each queue on each CPU.
 use Rattle.std.specs.Prelude.{◌≡◌, ◌+◌, ◌*◌, ◌-◌, ◌<◌, ◌≤◌, ◌&&◌, ◌==◌, if◌then◌else◌, ◌∷◌, ◌++◌}
-use Rattle.cmwq_pwq.specs.Common.{ℕ, Bool, true, false, Option, Some, None, not, List, [], length, filter, count_by, replicate, nat_lt, slice_index, slice_set, slice_index_or, All, AllByRecursion, list_any, Queueing, no_queue, has_number, is_on}
+use Rattle.cmwq_pwq.specs.Common.{ℕ, Bool, true, false, Option, Some, None, not, List, [], length, filter, count_by, replicate, nat_lt, slice_index, slice_set, slice_index_or, All, AllByRecursion, list_any, Queueing, no_queue, has_number, is_on, most_cpus}
 use Rattle.cmwq_model.specs.declared.shape.QueueShape.{QueueShape}
 
 -- what waits, and what the last pass made active, both in their order; room is how many may wait
@@ -12,7 +12,7 @@ pub record PwqState : Type 0 where
 
 -- the active ones of queue q on CPU c are counted at this place
 abbrev pub place_of : ℕ → ℕ → ℕ
-place_of q c = 4 * q + c
+place_of q c = most_cpus * q + c
 
 abbrev pub count_at : List ℕ → ℕ → ℕ → ℕ
 count_at counts q c = slice_index counts (place_of q c)
@@ -21,7 +21,7 @@ abbrev pub count_of_same_pwq : List ℕ → Queueing → ℕ
 count_of_same_pwq counts x = count_at counts x.place.queue.0 x.place.cpu.0
 
 abbrev pub new_pwq_state : ℕ → ℕ → PwqState
-new_pwq_state queues room = record { room = room; counts = replicate (4 * queues) 0; waiting = []; activated = [] }
+new_pwq_state queues room = record { room = room; counts = replicate (most_cpus * queues) 0; waiting = []; activated = [] }
 
 -- a queueing that is opened waits
 abbrev pub pwqs_with_open : PwqState → Queueing → PwqState
@@ -72,7 +72,7 @@ pub record Passes (way : Queueing → Bool) (xs : List Queueing) (old new : List
   pub kept : rest ≡ filter (λ x. not (way x)) xs
   pub activated : taken ≡ filter way xs
   pub many : length new ≡ length old
-  pub counts : (q c : ℕ) → c < 4 → place_of q c < length old → count_at new q c ≡ count_at old q c + count_by (is_on q c) (filter way xs)
+  pub counts : (q c : ℕ) → c < most_cpus → place_of q c < length old → count_at new q c ≡ count_at old q c + count_by (is_on q c) (filter way xs)
 
 -- The pool workqueues after the pass are those before it with what is below max_active made active.
 pub record IsPassed (wide : ℕ → ℕ) (old new : PwqState) : Type 0 where
@@ -83,7 +83,7 @@ pub record IsPassed (wide : ℕ → ℕ) (old new : PwqState) : Type 0 where
 
 -- the width or more are active beside the queueing, at a place that is counted
 pub record IsBehind (wide : ℕ → ℕ) (counts : List ℕ) (x : Queueing) : Type 0 where
-  pub cpu : x.place.cpu.0 < 4
+  pub cpu : x.place.cpu.0 < most_cpus
   pub counted : place_of x.place.queue.0 x.place.cpu.0 < length counts
   pub behind : wide x.place.queue.0 ≤ count_of_same_pwq counts x
 
@@ -92,7 +92,7 @@ AreBehind wide counts xs = AllByRecursion (IsBehind wide counts) xs
 
 -- the queueing is of a queue that there is, on one of four CPUs
 abbrev pub IsPlaced : ℕ → Queueing → Type 0
-IsPlaced queues x = (x.place.queue.0 < queues) × (x.place.cpu.0 < 4)
+IsPlaced queues x = (x.place.queue.0 < queues) × (x.place.cpu.0 < most_cpus)
 
 abbrev pub ArePlaced : ℕ → List Queueing → Type 0
 ArePlaced queues xs = All (IsPlaced queues) xs

@@ -2,15 +2,16 @@
 
 ghost use Rattle.std.specs.Prelude.{◌≡◌, ℕ, Bool, ◌*◌, ◌+◌, ◌<◌, ◌≤◌, [], length, vec_len, vec_capacity};
 ghost use Rattle.cmwq_model.specs.declared.record.Queueing.{Queueing};
+ghost use Rattle.cmwq_model.specs.Prelude.{most_cpus};
 ghost use Rattle.cmwq_pwq.specs.Pwqs.{ArePlaced, AreBelowMaxActive, Passes, place_of, width_by};
 
-use cmwq_model::{Place, QueueId, QueueShape, Queueing};
+use cmwq_model::{MOST_CPUS, Place, QueueId, QueueShape, Queueing};
 
 /// Where the active queueings of a queue on a CPU are counted.
 pub(crate) fn place_of(place: Place) -> usize
     ensures { result ≡ place_of place.queue.0 place.cpu.0 }
 {
-    4 * usize::from(place.queue.0) + usize::from(place.cpu.0)
+    usize::from(MOST_CPUS) * usize::from(place.queue.0) + usize::from(place.cpu.0)
 }
 
 /// How wide a queue is: its max_active, and 0 while it is frozen.
@@ -38,7 +39,7 @@ pub(crate) fn pass(
     activated: &mut Vec<Queueing>,
 )
     requires most { length most.now ≡ length queues.now }
-    requires counts { vec_len counts.old ≡ 4 * length queues.now }
+    requires counts { vec_len counts.old ≡ most_cpus * length queues.now }
     requires placed { ArePlaced (length queues.now) waiting.now }
     requires kept_none { kept.old.items ≡ [] }
     requires kept_room { length waiting.now ≤ vec_capacity kept.old }

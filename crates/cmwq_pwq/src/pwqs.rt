@@ -1,9 +1,10 @@
-ghost use Rattle.std.specs.Prelude.{◌≡◌, ℕ, Bool, ◌+◌, ◌*◌, ◌<◌, true, false, [], length, IfOk, IfSome};
+ghost use Rattle.std.specs.Prelude.{◌≡◌, ℕ, Bool, ◌+◌, ◌*◌, ◌<◌, ◌≤◌, true, false, [], length, IfOk, IfSome};
+ghost use Rattle.cmwq_model.specs.Prelude.{most_cpus};
 ghost use Rattle.cmwq_pwq.specs.Pwqs.{AreBehind, ArePlaced, IsPassed, IsPlacedIf, PwqState, MayEndInPwqs, MayOpenInPwqs, count_of_same_pwq, pwqs_without_open, is_waiting, new_pwq_state, pwqs_with_open, place_of, pwqs_after_end, pwqs_after_opening, width_by};
 
 use crate::pass::{pass, place_of, width_by};
 use crate::waiting::{has_number, take_first, take_number};
-use cmwq_model::{NoMemory, QueueShape, Queueing};
+use cmwq_model::{MOST_CPUS, NoMemory, QueueShape, Queueing};
 use std::alloc::Global;
 use std::marker::Model;
 use std::mem::swap;
@@ -12,7 +13,7 @@ use std::mem::swap;
 /// `inactive_works` and `nr_active`). Only `new` takes memory.
 #[derive(Debug, Drop)]
 pub struct Pwqs {
-    room: u16,
+    room: u32,
     counts: Vec<u32>,
     waiting: Vec<Queueing>,
     spare: Vec<Queueing>,
@@ -33,12 +34,12 @@ impl Model for Pwqs {
 impl Pwqs {
     /// Nothing waits and nothing is active of so many queues, and there is room for so many that wait. The error says
     /// that memory ran out.
-    pub fn new(alloc: Global, queues: usize, room: u16) -> Result<Pwqs, NoMemory>
-        requires { queues < 256 }
+    pub fn new(alloc: Global, queues: usize, room: u32) -> Result<Pwqs, NoMemory>
+        requires { queues ≤ 256 }
         ensures { IfOk result (λ pwqs. pwqs ≡ new_pwq_state queues room) }
     {
-        let many = usize::from(room);
-        let counts = vec![in alloc; 0; 4 * queues]?;
+        let many = room as usize;
+        let counts = vec![in alloc; 0; usize::from(MOST_CPUS) * queues]?;
         let waiting = Vec::with_capacity(alloc, many)?;
         let spare = Vec::with_capacity(alloc, many)?;
         let activated = Vec::with_capacity(alloc, many)?;
@@ -74,7 +75,7 @@ impl Pwqs {
 
     /// An active queueing ends: the first that waits beside it takes its place, unless more than the width were active there.
     fn end_active(&mut self, queueing: Queueing, width: u32)
-        requires cpu { queueing.place.cpu.0 < 4 }
+        requires cpu { queueing.place.cpu.0 < most_cpus }
         requires place { place_of queueing.place.queue.0 queueing.place.cpu.0 < length self.old.counts }
         requires active { is_waiting self.old queueing ≡ false }
         requires counted { 0 < count_of_same_pwq self.old.counts queueing }
@@ -96,7 +97,7 @@ impl Pwqs {
 
     /// A queueing ends, and makes room for the first that waits on its pool workqueue where it was active.
     fn end_one(&mut self, queueing: Queueing, has_run: bool, width: u32)
-        requires cpu { queueing.place.cpu.0 < 4 }
+        requires cpu { queueing.place.cpu.0 < most_cpus }
         requires place { place_of queueing.place.queue.0 queueing.place.cpu.0 < length self.old.counts }
         requires counted { is_waiting self.old queueing ≡ false → 0 < count_of_same_pwq self.old.counts queueing }
         requires ran { has_run ≡ true → is_waiting self.old queueing ≡ false }
@@ -112,7 +113,7 @@ impl Pwqs {
 
     /// A queueing is opened, behind all that wait: it is active at once where fewer than the width are active on its pool workqueue.
     fn open_one(&mut self, queueing: Queueing, width: u32)
-        requires cpu { queueing.place.cpu.0 < 4 }
+        requires cpu { queueing.place.cpu.0 < most_cpus }
         requires place { place_of queueing.place.queue.0 queueing.place.cpu.0 < length self.old.counts }
         requires room { length self.old.waiting + length self.old.activated < self.old.room }
         ensures { (wide : ℕ → ℕ) (before : PwqState) → wide queueing.place.queue.0 ≡ width → length before.counts ≡ length self.old.counts → IsPassed wide before self.old → IsPassed wide (pwqs_with_open before queueing) self.new }
@@ -164,7 +165,7 @@ impl Pwqs {
         opened: Option<Queueing>,
     )
         requires most { length most.now ≡ length queues.now }
-        requires counts { length self.old.counts ≡ 4 * length queues.now }
+        requires counts { length self.old.counts ≡ most_cpus * length queues.now }
         requires ended { MayEndInPwqs ended self.old }
         requires ended_placed { IsPlacedIf (length queues.now) ended }
         requires ran { has_run ≡ true → IfSome ended (λ x. is_waiting self.old x ≡ false) }
@@ -186,7 +187,7 @@ impl Pwqs {
     /// What is below max_active becomes active, by number: where fewer than the width are active on its pool workqueue.
     pub fn pass(&mut self, queues: &[QueueShape], most: &[u32], frozen: bool)
         requires most { length most.now ≡ length queues.now }
-        requires counts { length self.old.counts ≡ 4 * length queues.now }
+        requires counts { length self.old.counts ≡ most_cpus * length queues.now }
         requires placed { ArePlaced (length queues.now) self.old.waiting }
         ensures { IsPassed (width_by queues.now most.now frozen) self.old self.new }
     {
@@ -211,7 +212,7 @@ impl Pwqs {
         self.waiting.len()
     }
 
-    /// How many are active of each queue on each CPU: four numbers a queue.
+    /// How many are active of each queue on each CPU: `MOST_CPUS` numbers a queue.
     pub fn counts(&self) -> &[u32]
         ensures { result.now ≡ self.now.counts }
     {

@@ -80,14 +80,14 @@ fireable past = filter (may_fire past) (standing past)
 pub standing_fits : (s : Layout) (past : List Entry) (b : Booking) → IsLegal s past → In b (standing past) → Fits s b
 standing_fits s past b legal h = of_in (Fits s) (bookings past) b (bookings_fit s past legal) (in_filter (stands past) (bookings past) b h).0
 
-same_test : (s : Layout) (past : List Entry) (held : ℕ) (b : Booking) → HoldsDraining s past held → Fits s b → timer_may_fire (now past) held (timer_for b) ≡ may_fire past b
-same_test s past held b holds fits = ap (λ x. nat_le b.due (now past) && not x) (holds b.place.queue.0 fits.queue)
+same_test : (s : Layout) (past : List Entry) (holds : List ℕ) (b : Booking) → HoldsDraining s past holds → Fits s b → timer_may_fire (now past) holds (timer_for b) ≡ may_fire past b
+same_test s past holds b each fits = ap (λ x. nat_le b.due (now past) && not x) (each b.place.queue.0 fits.queue)
 
-fires_as_timer : (s : Layout) (past : List Entry) (held : ℕ) (b : Booking) → IsLegal s past → HoldsDraining s past held → In b (fireable past) → MayFire (now past) held (timers_of s past) b.item.0 (timer_for b)
-fires_as_timer s past held b legal holds h =
+fires_as_timer : (s : Layout) (past : List Entry) (holds : List ℕ) (b : Booking) → IsLegal s past → HoldsDraining s past holds → In b (fireable past) → MayFire (now past) holds (timers_of s past) b.item.0 (timer_for b)
+fires_as_timer s past holds b legal each h =
     let k = in_filter (may_fire past) (standing past) b h in
     let fits = standing_fits s past b legal k.0 in
-    (row_at s past b.item.0 fits.item ∙ ap (option_map timer_for) (standing_is past b k.0), same_test s past held b holds fits ∙ k.1)
+    (row_at s past b.item.0 fits.item ∙ ap (option_map timer_for) (standing_is past b k.0), same_test s past holds b each fits ∙ k.1)
 
 record IsFired (past : List Entry) (i : ℕ) (t : Timer) : Type 0 where
   booked : Booking
@@ -95,8 +95,8 @@ record IsFired (past : List Entry) (i : ℕ) (t : Timer) : Type 0 where
   timer : timer_for booked ≡ t
   fires : In booked (fireable past)
 
-fired_booking : (s : Layout) (past : List Entry) (held i : ℕ) (t : Timer) → IsLegal s past → HoldsDraining s past held → i < s.items → MayFire (now past) held (timers_of s past) i t → IsFired past i t
-fired_booking s past held i t legal holds less may = with (booking past i) refl (sym (row_at s past i less) ∙ may.0)
+fired_booking : (s : Layout) (past : List Entry) (holds : List ℕ) (i : ℕ) (t : Timer) → IsLegal s past → HoldsDraining s past holds → i < s.items → MayFire (now past) holds (timers_of s past) i t → IsFired past i t
+fired_booking s past holds i t legal each less may = with (booking past i) refl (sym (row_at s past i less) ∙ may.0)
   where
     with : (o : Option Booking) → booking past i ≡ o → option_map timer_for o ≡ Some t → IsFired past i t
     with None is h = cc
@@ -107,7 +107,7 @@ fired_booking s past held i t legal holds less may = with (booking past i) refl 
           booked = b;
           item = (its_booking past i b is).item;
           timer = same;
-          fires = filter_in (may_fire past) (standing past) b here (sym (same_test s past held b holds (standing_fits s past b legal here)) ∙ ap (timer_may_fire (now past) held) same ∙ may.1);
+          fires = filter_in (may_fire past) (standing past) b here (sym (same_test s past holds b each (standing_fits s past b legal here)) ∙ ap (timer_may_fire (now past) holds) same ∙ may.1);
         }
 
 within_rows : (s : Layout) (past : List Entry) (i : ℕ) (t : Timer) → timer_of (timers_of s past) i ≡ Some t → i < s.items
@@ -143,21 +143,21 @@ soonest_is past bs b rise here none =
 fireable_rises : (past : List Entry) → RisesBy number_booked (fireable past)
 fireable_rises past = rises_filter number_booked (may_fire past) (standing past) (rises_filter number_booked (stands past) (bookings past) (bookings_rise past))
 
-pub first_timer_is_first_due : (s : Layout) (past : List Entry) (held : ℕ) (i : ItemId) → IsLegal s past → HoldsDraining s past held → IsFirstToFire (now past) held (timers_of s past) i.0 → item_due past ≡ Some i
+pub first_timer_is_first_due : (s : Layout) (past : List Entry) (holds : List ℕ) (i : ItemId) → IsLegal s past → HoldsDraining s past holds → IsFirstToFire (now past) holds (timers_of s past) i.0 → item_due past ≡ Some i
 unfolding first_due
-first_timer_is_first_due s past held i legal holds first =
-    let f = fired_booking s past held i.0 first.timer legal holds (within_rows s past i.0 first.timer first.may_fire.0) first.may_fire in
+first_timer_is_first_due s past holds i legal each first =
+    let f = fired_booking s past holds i.0 first.timer legal each (within_rows s past i.0 first.timer first.may_fire.0) first.may_fire in
     let none = all_in (λ a. is_sooner (timer_for a) (timer_for f.booked) ≡ false) (fireable past)
-    (λ a k. ap (is_sooner (timer_for a)) f.timer ∙ first.none_sooner a.item.0 (timer_for a) (fires_as_timer s past held a legal holds k)) in
+    (λ a k. ap (is_sooner (timer_for a)) f.timer ∙ first.none_sooner a.item.0 (timer_for a) (fires_as_timer s past holds a legal each k)) in
     ap (option_map (λ (b : Booking). b.item)) (soonest_is past (fireable past) f.booked (fireable_rises past) f.fires none) ∙ ap (λ (n : ℕ). Some (item_id n)) f.item
   where
     item_id : ℕ → ItemId
     item_id n = record { 0 = n }
 
-pub no_timer_is_none_due : (s : Layout) (past : List Entry) (held : ℕ) → IsLegal s past → HoldsDraining s past held → NoneMayFire (now past) held (timers_of s past) → item_due past ≡ None
+pub no_timer_is_none_due : (s : Layout) (past : List Entry) (holds : List ℕ) → IsLegal s past → HoldsDraining s past holds → NoneMayFire (now past) holds (timers_of s past) → item_due past ≡ None
 unfolding first_due
-no_timer_is_none_due s past held legal holds none =
-    let empty : fireable past ≡ [] = none_in (fireable past) (λ b i. none b.item.0 (timer_for b) (fires_as_timer s past held b legal holds i)) in
+no_timer_is_none_due s past holds legal each none =
+    let empty : fireable past ≡ [] = none_in (fireable past) (λ b i. none b.item.0 (timer_for b) (fires_as_timer s past holds b legal each i)) in
     ap (λ bs. option_map (λ (b : Booking). b.item) (soonest bs)) empty
 
 -- ---- what is applied to the timers

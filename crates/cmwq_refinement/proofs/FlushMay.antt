@@ -1,5 +1,5 @@
 -- The calls that apply an entry of a legal history to a flush book may be made.
-use Rattle.cmwq_refinement.specs.Common.{◌≡◌, ◌<◌, ◌≤◌, ◌+◌, ℕ, Bool, true, false, cond, List, [], ◌∷◌, ◌++◌, length, map, filter, count_by, Option, Some, None, option_to_list, refl, sym, ap, ap₂, ◌∙◌, subst, arith, ◌*◌, Contains, All, IsTrue, AllByRecursion, length-append, length-map, All-from_recursion, length-filter, count_by-le-length, Entry, Queueing, Ticket, Layout, is_layout, still_open, opening, unended_tickets, is_flush_of, is_drain_of, IsLegal, tickets_of_served, FlushBook, flush_tickets, CanOpen, ending, is_kept, ticket_ended, All_map, All_filter, count_by-cons, opening_number, two_for_each_item, unended_go_on}
+use Rattle.cmwq_refinement.specs.Common.{◌≡◌, ◌<◌, ◌≤◌, ◌+◌, ℕ, Bool, true, false, cond, List, [], ◌∷◌, ◌++◌, length, map, filter, count_by, Option, Some, None, option_to_list, refl, sym, ap, ap₂, ◌∙◌, subst, arith, ◌*◌, Contains, All, IsTrue, AllByRecursion, length-append, length-map, All-from_recursion, length-filter, count_by-le-length, Entry, Queueing, Ticket, Layout, is_layout, still_open, opening, unended_tickets, is_flush_of, is_drain_of, IsLegal, tickets_of_served, FlushBook, flush_tickets, CanOpen, flushes_without_open, if◌then◌else◌, ending, is_kept, ticket_ended, All_map, All_filter, count_by-cons, opening_number, two_for_each_item, unended_go_on}
 use Rattle.cmwq_flush.specs.Served.{ticket_of_served}
 use Rattle.cmwq_flush.specs.FlushBook.{HasRoom, standing_count}
 use Rattle.cmwq_refinement.specs.ByNumber.{number_of_queueing, number_of_ticket, ticket_given}
@@ -7,7 +7,6 @@ use Rattle.cmwq_refinement.specs.FlushBooks.{is_on_queue, open_numbers, AreFlush
 use Rattle.cmwq_lemmas.proofs.Members.{In, filter_in, in_contained}
 use Rattle.cmwq_refinement.proofs.Numbers.{numbers_have, numbers_all}
 use Rattle.cmwq_refinement.proofs.TicketSteps.{unended_below, ticket_step, ticket_in_is}
-use Rattle.cmwq_refinement.proofs.LayoutLimits.{items_few}
 use Rattle.cmwq_refinement.proofs.TicketLimits.{unended_few}
 use Rattle.cmwq_refinement.proofs.QueueingSteps.{QueueingStep, queueing_step, ends_one, ends_none}
 use Rattle.cmwq_refinement.proofs.FlushSteps.{StandsAs, applied_on, opened_is, opened_numbers, ended_next, soon_after, stands_done, done_open, flush_no_drain}
@@ -24,18 +23,25 @@ may_end : (past : List Entry) (e : Entry) (q : ℕ) (b : FlushBook) → Queueing
 may_end past e q b (ends_none is all) opened = subst (λ o. MayEndInFlushes o q b) (sym is) tt
 may_end past e q b (ends_one x is here all) opened = subst (λ o. MayEndInFlushes o q b) (sym is) (λ on. open_stands past q b x opened here on)
 
-few_open : (s : Layout) (past : List Entry) (q : ℕ) → IsTrue (is_layout s) → IsLegal s past → length (open_numbers past q) ≤ 512
-few_open s past q inside legal =
-    let items = items_few s inside in
+few_open : (s : Layout) (past : List Entry) (q : ℕ) → IsLegal s past → length (open_numbers past q) ≤ 2 * s.items
+few_open s past q legal =
     let all = two_for_each_item s past legal in
     let size = length-map (filter (is_on_queue q) (still_open past)) number_of_queueing in
     let some = length-filter (is_on_queue q) (still_open past) in
     let less = count_by-le-length (is_on_queue q) (still_open past) in
     omega arith
 
-may_open : (s : Layout) (past : List Entry) (e : Entry) (q : ℕ) (b : FlushBook) (o : Option Queueing) → IsTrue (is_layout s) → IsLegal s (e ∷ past) → AreFlushes s past q b → opening past e ≡ o → MayOpenInFlushes o q (flushes_after_end (ending past e) q b)
-may_open s past e q b None inside legal is h = tt
-may_open s past e q b (Some x) inside legal is h = can
+ended_items : (o : Option Queueing) (q : ℕ) (b : FlushBook) → (flushes_after_end o q b).items ≡ b.items
+ended_items None q b = refl
+ended_items (Some x) q b = here (is_on_queue q x)
+  where
+    here : (c : Bool) → (if c then flushes_without_open b x.number else b).items ≡ b.items
+    here true = refl
+    here false = refl
+
+may_open : (s : Layout) (past : List Entry) (e : Entry) (q : ℕ) (b : FlushBook) (o : Option Queueing) → IsLegal s (e ∷ past) → AreFlushes s past q b → opening past e ≡ o → MayOpenInFlushes o q (flushes_after_end (ending past e) q b)
+may_open s past e q b None legal is h = tt
+may_open s past e q b (Some x) legal is h = can
   where
     c : FlushBook
     c = flushes_after_end (ending past e) q b
@@ -45,9 +51,10 @@ may_open s past e q b (Some x) inside legal is h = can
         let after : open_numbers (e ∷ past) q ≡ c.opened ++ x.number ∷ [] = sym (opened_is s past e q b legal is.opened) ∙ opened_numbers (opening past e) q c
         ∙ ap (λ o. c.opened ++ map number_of_queueing (filter (is_on_queue q) (option_to_list o))) h ∙ ap (λ d. c.opened ++ map number_of_queueing (cond d (x ∷ []) [])) on in
         let size : length (open_numbers (e ∷ past) q) ≡ length c.opened + 1 = ap length after ∙ length-append c.opened (x.number ∷ []) in
-        let few = few_open s (e ∷ past) q inside legal in
+        let few = few_open s (e ∷ past) q legal in
         let number = opening_number past e x h in
         let same = ended_next (ending past e) q b in
+        let items : c.items ≡ s.items = ended_items (ending past e) q b ∙ is.items in
         let next = is.next in (omega arith, omega arith)
 
 -- ---- what is done
@@ -139,7 +146,7 @@ module _ (s : Layout) (past : List Entry) (e : Entry) (q : ℕ) (b : FlushBook) 
 pub entries_apply_to_flushes : (s : Layout) (past : List Entry) (e : Entry) (q : ℕ) (b : FlushBook) → IsTrue (is_layout s) → IsLegal s (e ∷ past) → AreFlushes s past q b → MayApplyToFlushes past e q b
 entries_apply_to_flushes s past e q b inside legal is = record {
   ended = may_end past e q b (queueing_step s past e legal) is.opened;
-  opened = may_open s past e q b (opening past e) inside legal is refl;
+  opened = may_open s past e q b (opening past e) legal is refl;
   done = may_be_done s past e q b (ticket_ended past e) legal is refl;
   begun = may_begin s past e q b legal is (ticket_given past e) refl;
 }

@@ -61,6 +61,7 @@ flush_numbers_below past q = numbers_all number_of_ticket (λ n. n < length past
 -- where only the open numbers and what comes next may differ
 pub record SameTickets (old b : FlushBook) : Type 0 where
   pub callers : b.callers ≡ old.callers
+  pub items : b.items ≡ old.items
   pub served : b.served ≡ old.served
   pub overflow : b.overflow ≡ old.overflow
   pub drains : b.drains ≡ old.drains
@@ -97,35 +98,35 @@ without_all P n ns h = All_filter P (is_other_number n) ns (All_map P (λ m. is_
 
 ended_on : (o : Option Queueing) (q n : ℕ) (b : FlushBook) → AllByRecursion (λ m. m < b.next) b.opened → b.next ≤ n → OpensOn n b (flushes_after_end o q b)
 ended_on None q n b older next =
-    record { tickets = record { callers = refl; served = refl; overflow = refl; drains = refl }; older = older; next = omega arith; later = omega arith; from = old_all n b }
+    record { tickets = record { callers = refl; items = refl; served = refl; overflow = refl; drains = refl }; older = older; next = omega arith; later = omega arith; from = old_all n b }
 ended_on (Some x) q n b older next = here (is_on_queue q x)
   where
     here : (c : Bool) → OpensOn n b (if c then flushes_without_open b x.number else b)
     here true = record {
-      tickets = record { callers = refl; served = refl; overflow = refl; drains = refl };
+      tickets = record { callers = refl; items = refl; served = refl; overflow = refl; drains = refl };
       older = without_all (λ m. m < b.next) x.number b.opened older;
       next = omega arith;
       later = omega arith;
       from = without_all (IsOldOr n b) x.number b.opened (old_all n b);
     }
-    here false = record { tickets = record { callers = refl; served = refl; overflow = refl; drains = refl }; older = older; next = omega arith; later = omega arith; from = old_all n b }
+    here false = record { tickets = record { callers = refl; items = refl; served = refl; overflow = refl; drains = refl }; older = older; next = omega arith; later = omega arith; from = old_all n b }
 
 opened_on : (o : Option Queueing) (q n : ℕ) (b : FlushBook) → ((x : Queueing) → o ≡ Some x → x.number ≡ n) → AllByRecursion (λ m. m < b.next) b.opened → b.next ≤ n → OpensOn n b (flushes_after_opening o q b)
 opened_on None q n b number older next =
-    record { tickets = record { callers = refl; served = refl; overflow = refl; drains = refl }; older = older; next = omega arith; later = omega arith; from = old_all n b }
+    record { tickets = record { callers = refl; items = refl; served = refl; overflow = refl; drains = refl }; older = older; next = omega arith; later = omega arith; from = old_all n b }
 opened_on (Some x) q n b number older next = here (is_on_queue q x)
   where
     here : (c : Bool) → OpensOn n b (if c then flushes_with_open b x.number else b)
     here true =
         let is : x.number ≡ n = number x refl in
         record {
-          tickets = record { callers = refl; served = refl; overflow = refl; drains = refl };
+          tickets = record { callers = refl; items = refl; served = refl; overflow = refl; drains = refl };
           older = All_append (λ m. m < x.number + 1) b.opened (x.number ∷ []) (All_map (λ m. m < b.next) (λ m. m < x.number + 1) b.opened (λ m less. omega arith) older) (omega arith, tt);
           next = omega arith;
           later = omega arith;
           from = All_append (IsOldOr n b) b.opened (x.number ∷ []) (old_all n b) (inr is, tt);
         }
-    here false = record { tickets = record { callers = refl; served = refl; overflow = refl; drains = refl }; older = older; next = omega arith; later = omega arith; from = old_all n b }
+    here false = record { tickets = record { callers = refl; items = refl; served = refl; overflow = refl; drains = refl }; older = older; next = omega arith; later = omega arith; from = old_all n b }
 
 pub opened_numbers : (o : Option Queueing) (q : ℕ) (b : FlushBook) → (flushes_after_opening o q b).opened ≡ b.opened ++ map number_of_queueing (filter (is_on_queue q) (option_to_list o))
 opened_numbers None q b = sym (append-nil b.opened)
@@ -150,6 +151,7 @@ opens_twice n a b c h le k =
     record {
       tickets = record {
         callers = k.tickets.callers ∙ h.tickets.callers;
+        items = k.tickets.items ∙ h.tickets.items;
         served = k.tickets.served ∙ h.tickets.served;
         overflow = k.tickets.overflow ∙ h.tickets.overflow;
         drains = k.tickets.drains ∙ h.tickets.drains;
@@ -264,11 +266,12 @@ stands_after s past e q b legal is =
 -- they change nothing that is open
 pub record SameOpen (old b : FlushBook) : Type 0 where
   pub callers : b.callers ≡ old.callers
+  pub items : b.items ≡ old.items
   pub opened : b.opened ≡ old.opened
   pub next : b.next ≡ old.next
 
 same_open : (b : FlushBook) → SameOpen b b
-same_open b = record { callers = refl; opened = refl; next = refl }
+same_open b = record { callers = refl; items = refl; opened = refl; next = refl }
 
 open_if : (c : Bool) (old a b : FlushBook) → SameOpen old a → SameOpen old b → SameOpen old (if c then a else b)
 open_if true old a b h k = h
@@ -276,19 +279,19 @@ open_if false old a b h k = k
 
 pub done_open : (o : Option Ticket) (q : ℕ) (b : FlushBook) → SameOpen b (flushes_after_done o q b)
 done_open None q b = same_open b
-done_open (Some t) q b = open_if (is_flush_of q t) b (flushes_without_wait b t.number) _ (open_if (is_some (served_of b t.number)) b _ _ (record { callers = refl; opened = refl; next = refl }) (record { callers = refl; opened = refl; next = refl }))
-    (open_if (is_drain_of q t) b (after_drain_end b t.number) b (record { callers = refl; opened = refl; next = refl }) (same_open b))
+done_open (Some t) q b = open_if (is_flush_of q t) b (flushes_without_wait b t.number) _ (open_if (is_some (served_of b t.number)) b _ _ (record { callers = refl; items = refl; opened = refl; next = refl }) (record { callers = refl; items = refl; opened = refl; next = refl }))
+    (open_if (is_drain_of q t) b (after_drain_end b t.number) b (record { callers = refl; items = refl; opened = refl; next = refl }) (same_open b))
 
 begun_open : (o : Option Ticket) (q : ℕ) (b : FlushBook) → SameOpen b (flushes_after_begun o q b)
 begun_open None q b = same_open b
-begun_open (Some t) q b = open_if (is_flush_of q t) b (flushes_with_wait b t.number) _ (open_if (nat_lt (length b.served) 15) b _ _ (record { callers = refl; opened = refl; next = refl }) (record { callers = refl; opened = refl; next = refl }))
-    (open_if (is_drain_of q t) b (after_drain_begin b t.number) b (record { callers = refl; opened = refl; next = refl }) (same_open b))
+begun_open (Some t) q b = open_if (is_flush_of q t) b (flushes_with_wait b t.number) _ (open_if (nat_lt (length b.served) 15) b _ _ (record { callers = refl; items = refl; opened = refl; next = refl }) (record { callers = refl; items = refl; opened = refl; next = refl }))
+    (open_if (is_drain_of q t) b (after_drain_begin b t.number) b (record { callers = refl; items = refl; opened = refl; next = refl }) (same_open b))
 
 tickets_open : (past : List Entry) (e : Entry) (q : ℕ) (b : FlushBook) → SameOpen b (flushes_after_tickets past e q b)
 tickets_open past e q b =
     let first = done_open (ticket_ended past e) q b in
     let second = begun_open (ticket_given past e) q (flushes_after_done (ticket_ended past e) q b) in
-    record { callers = second.callers ∙ first.callers; opened = second.opened ∙ first.opened; next = second.next ∙ first.next }
+    record { callers = second.callers ∙ first.callers; items = second.items ∙ first.items; opened = second.opened ∙ first.opened; next = second.next ∙ first.next }
 
 -- ---- what stands is served as the history says
 
@@ -344,6 +347,7 @@ flushes_refine s past e q b legal is = after (flushes_after_tickets past e q (fl
     after : (c : FlushBook) → SameOpen (flushes_after_queueings past e q b) c → StandsAs past q (unended_tickets (e ∷ past)) c → AreFlushes s (e ∷ past) q c
     after c same k = record {
       callers = same.callers ∙ on.tickets.callers ∙ is.callers;
+      items = same.items ∙ on.tickets.items ∙ is.items;
       opened = same.opened ∙ opened_is s past e q b legal is.opened;
       older = older;
       next = next;
@@ -362,10 +366,11 @@ flushes_refine s past e q b legal is = after (flushes_after_tickets past e q (fl
         next : c.next ≤ suc (length past)
         next = let le = on.next in let at = same.next in omega arith
 
-pub flushes_at_first : (s : Layout) (q : ℕ) → AreFlushes s [] q (new_book s.callers)
+pub flushes_at_first : (s : Layout) (q : ℕ) → AreFlushes s [] q (new_book s.callers s.items)
 unfolding queueings tickets
 flushes_at_first s q = record {
   callers = refl;
+  items = refl;
   opened = refl;
   older = tt;
   next = omega arith;

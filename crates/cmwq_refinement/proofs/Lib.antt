@@ -2,7 +2,6 @@ pub mod TimerSteps
 pub mod Settled
 pub mod FirstDue
 pub mod BookedOn
-pub mod LayoutLimits
 pub mod TimerMay
 pub mod TicketSteps
 pub mod PlacesFit

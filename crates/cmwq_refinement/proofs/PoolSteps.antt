@@ -1,5 +1,5 @@
 -- A pool refines a history, entry by entry.
-use Rattle.cmwq_refinement.specs.Common.{◌≡◌, ◌==◌, ℕ, Bool, true, false, cond, not, ◌&&◌, List, [], ◌∷◌, ◌++◌, map, filter, Option, Some, None, refl, sym, ap, ap₂, ◌∙◌, subst, arith, append-nil, if◌then◌else◌, AllByRecursion, eqb-true, eq-eqb, false_from_ne_true, false≢true, nat_tests, same_Some, map-append, append_assoc, PoolId, WorkerId, Who, Caller, Worker, Reply, Entry, Queueing, Layout, indices, pool_at, is_at, same_pool, is_of_item, number_started, number_finished, replaces, finishes, is_started, last_start, is_asleep, queueings, still_open, queueing_at, became_active, worklist, is_enlisted, worker_at, IsLegal, survives, is_ended, ending, is_left, is_in, All_map, All_each, none_found, listed_pool, is_at-true, finishes_run, run_is, last_started, no_end, IsFound, queueings_found, StartsListed, starts_listed, worklists_go_on, same_pool-true, Task, new_slot, PoolState, new_pool_state, is_other_task, pool_with_task, pool_without_task, next_task}
+use Rattle.cmwq_refinement.specs.Common.{◌≡◌, ◌==◌, ℕ, Bool, true, false, cond, not, ◌&&◌, List, [], ◌∷◌, ◌++◌, map, filter, Option, Some, None, refl, sym, ap, ap₂, ◌∙◌, subst, append-nil, if◌then◌else◌, AllByRecursion, eqb-true, eq-eqb, false_from_ne_true, false≢true, same_Some, map-append, append_assoc, PoolId, WorkerId, Who, Caller, Worker, Reply, Entry, Queueing, Layout, indices, pool_at, is_at, same_pool, is_of_item, number_started, replaces, finishes, is_started, last_start, is_asleep, queueings, still_open, queueing_at, became_active, worklist, is_enlisted, worker_at, IsLegal, survives, is_ended, ending, is_left, is_in, All_map, All_each, none_found, listed_pool, no_end, IsFound, queueings_found, StartsListed, starts_listed, worklists_go_on, same_pool-true, Task, new_slot, PoolState, new_pool_state, is_other_task, pool_with_task, pool_without_task, next_task}
 use Rattle.cmwq_model.specs.declared.reply.Reply.TheVariants as reply
 use Rattle.cmwq_refinement.specs.ByNumber.{number_of_queueing}
 use Rattle.cmwq_refinement.specs.Pools.{task_for, slot_of, pool_of, start_next, pool_after_reply, pool_after_worker, pool_after_cancel, pool_after_activation, pool_before_activation, made_active, pool_after}

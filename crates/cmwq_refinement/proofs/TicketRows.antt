@@ -1,8 +1,8 @@
 -- The rows that a list of tickets makes, as tickets come and go, and what is found in them.
-use Rattle.cmwq_refinement.specs.Common.{◌≡◌, ◌≢◌, ◌==◌, ◌<◌, ◌+◌, ℕ, zero, suc, Bool, true, false, not, cond, ◌&&◌, ◌||◌, List, [], ◌∷◌, ◌++◌, length, map, filter, find, count_by, Option, Some, None, option_to_list, add-one, append-nil, refl, sym, ap, ap₂, ◌∙◌, subst, arith, inl, inr, ⊎_elim, nat_lt, flat_map, range_with_len, list_any, AllByRecursion, eqb-true, eq-eqb, ne_eqb, nat_tests, filter-append, get_or-map-range_with_len, sum_by-map-range_with_len_more, length-filter, Ticket, is_held_by, count_by-cons, find_none, filter_twice, filter_same, none_found, flip, or_true, TicketRows, tickets_of_caller, is_numbered, rows_with, rows_without, count}
+use Rattle.cmwq_refinement.specs.Common.{◌≡◌, ◌≢◌, ◌==◌, ◌<◌, ◌+◌, ℕ, zero, suc, Bool, true, false, not, cond, ◌&&◌, ◌||◌, List, [], ◌∷◌, ◌++◌, length, map, filter, find, count_by, Option, Some, None, option_to_list, add-one, append-nil, refl, sym, ap, ap₂, ◌∙◌, subst, arith, inl, inr, ⊎_elim, nat_lt, flat_map, range_with_len, list_any, AllByRecursion, eqb-true, eq-eqb, ne_eqb, nat_tests, filter-append, get_or-map-range_with_len, sum_by-map-range_with_len_more, length-filter, Ticket, is_held_by, count_by-cons, find_none, filter_twice, filter_same, none_found, flip, or_true, TicketRows, tickets_of_caller, is_numbered, rows_with, rows_without, Layout, count}
 use Rattle.cmwq_ticket.specs.Rows.{is_other_ticket}
 use Rattle.cmwq_refinement.specs.ByNumber.{number_of_ticket}
-use Rattle.cmwq_refinement.specs.Tickets.{the_caller, tickets_held, rows_of, tickets_after_giving}
+use Rattle.cmwq_refinement.specs.Tickets.{the_caller, tickets_held, rows_of, tickets_in, tickets_after_giving}
 use Rattle.cmwq_lemmas.proofs.Members.{In, of_in, all_in, in_left, in_right, in_append, in_filter, filter_in, found}
 use Rattle.cmwq_lemmas.proofs.Rising.{RisesBy, rises_unique}
 use Rattle.cmwq_refinement.proofs.TimerSteps.{set_row}
@@ -25,9 +25,9 @@ rows_given n ts t less = sym (set_row (tickets_held ts) (tickets_held (ts ++ t �
     others : (c : ℕ) → c ≢ t.caller.0 → tickets_held (ts ++ t ∷ []) c ≡ tickets_held ts c
     others c differs = filter-append (is_held_by (the_caller c)) ts (t ∷ []) ∙ ap (λ b. tickets_held ts c ++ cond b (t ∷ []) []) (ne_eqb t.caller.0 c (λ same. differs (sym same))) ∙ append-nil (tickets_held ts c)
 
-pub rows_after : (n : ℕ) (ts : List Ticket) (o : Option Ticket) → ((t : Ticket) → o ≡ Some t → t.caller.0 < n) → tickets_after_giving o (rows_of n ts) ≡ rows_of n (ts ++ option_to_list o)
-rows_after n ts None there = ap (rows_of n) (sym (append-nil ts))
-rows_after n ts (Some t) there = rows_given n ts t (there t refl)
+pub rows_after : (s : Layout) (ts : List Ticket) (o : Option Ticket) → ((t : Ticket) → o ≡ Some t → t.caller.0 < s.callers) → tickets_after_giving o (tickets_in s (rows_of s.callers ts)) ≡ tickets_in s (rows_of s.callers (ts ++ option_to_list o))
+rows_after s ts None there = ap (λ us. tickets_in s (rows_of s.callers us)) (sym (append-nil ts))
+rows_after s ts (Some t) there = ap (tickets_in s) (rows_given s.callers ts t (there t refl))
 
 -- ---- a ticket is ended
 

@@ -1,15 +1,14 @@
 -- The tickets of callers, entry by entry: they are those of the longer history, each call may be made, and what they answer.
-use Rattle.cmwq_refinement.specs.Common.{◌≡◌, ◌<◌, ◌≤◌, ℕ, Bool, true, false, not, cond, ◌&&◌, List, [], ◌∷◌, length, map, filter, find, count_by, replicate, IsTrue, Option, Some, None, is_some, option_to_list, nat_le, nat_lt, refl, sym, ap, ap₂, ◌∙◌, subst, arith, range_with_len, list_all, AllByRecursion, and_parts, eqb-true, eq-eqb, ltb-true, lt-ltb, nat_tests, length-range_with_len, length-map-range_with_len, length-filter, Call, Entry, Ticket, Layout, is_layout, has_numbers, tickets, unended_tickets, is_unended, is_held_by, is_crowded, is_ticket, ticket_of, is_cancelling, is_draining, is_being_destroyed, is_cancel_sync_of, is_drain_of, is_destroy_of, IsLegal, All_map, All_filter, All_each, count_by-filter, is_kept, ticket_ended, filter_same, count_by-wider, unended_go_on, and_true, and_false, tickets_of_caller, is_numbered, comes_before, any_ticket, may_give, count}
+use Rattle.cmwq_refinement.specs.Common.{◌≡◌, ◌<◌, ◌≤◌, ℕ, Bool, true, false, not, cond, ◌&&◌, List, [], ◌∷◌, length, map, filter, find, count_by, replicate, IsTrue, Option, Some, None, is_some, option_to_list, nat_le, nat_lt, refl, sym, ap, ap₂, ◌∙◌, subst, arith, range_with_len, list_all, AllByRecursion, and_parts, eqb-true, eq-eqb, lt-ltb, nat_tests, length-range_with_len, length-map-range_with_len, length-filter, Call, Entry, Ticket, Layout, is_layout, has_numbers, tickets, unended_tickets, is_unended, is_held_by, is_crowded, is_ticket, ticket_of, is_cancelling, is_draining, is_being_destroyed, is_cancel_sync_of, is_drain_of, is_destroy_of, IsLegal, All_map, All_filter, All_each, count_by-filter, is_kept, ticket_ended, filter_same, count_by-wider, unended_go_on, and_true, and_false, tickets_of_caller, is_numbered, comes_before, any_ticket, may_give, new_tickets, count}
 use Rattle.cmwq_model.specs.declared.call.Call.TheVariants as call
 use Rattle.cmwq_ticket.specs.Counts.{is_counted}
 use Rattle.cmwq_ticket.specs.Rows as row
 use Rattle.cmwq_ticket.specs.Rows.{is_other_ticket}
 use Rattle.cmwq_refinement.specs.ByNumber.{number_of_ticket, ticket_given}
-use Rattle.cmwq_refinement.specs.Tickets.{the_caller, tickets_held, rows_of, tickets_of, tickets_after_end, tickets_after_giving, tickets_after, MayEndTicket, MayGiveTicket, MayApplyToTickets}
+use Rattle.cmwq_refinement.specs.Tickets.{the_caller, tickets_held, rows_of, tickets_in, tickets_of, tickets_after_end, tickets_after_giving, tickets_after, MayEndTicket, MayGiveTicket, MayApplyToTickets}
 use Rattle.cmwq_lemmas.proofs.Members.{In, of_in, all_in, in_right, option_in, filter_in}
 use Rattle.cmwq_lemmas.proofs.Rising.{rises_filter, find_is}
 use Rattle.cmwq_refinement.proofs.Settled.{numbers_fit}
-use Rattle.cmwq_refinement.proofs.LayoutLimits.{items_few, queues_few}
 use Rattle.cmwq_refinement.proofs.TicketSteps.{TicketStep, ticket_step, ends_one, ends_none, ends_only, ticket_in_is, unended_rise, unended_below}
 use Rattle.cmwq_refinement.proofs.TicketLimits.{callers_there, given_free}
 use Rattle.cmwq_refinement.proofs.TicketRows.{row_is, rows_after, rows_ended, rows_any, rows_find, rows_count}
@@ -33,33 +32,33 @@ all_pass : (p : Ticket → Bool) (ts : List Ticket) → AllByRecursion (λ t. p 
 all_pass p [] h = refl
 all_pass p (t ∷ ts) h = rw (h.0) (ap (λ us. t ∷ us) (all_pass p ts h.1))
 
-after_ended : (s : Layout) (past : List Entry) (e : Entry) → IsLegal s past → tickets_after_end (ticket_ended past e) (tickets_of s past) ≡ rows_of s.callers (filter (is_kept e) (unended_tickets past))
+after_ended : (s : Layout) (past : List Entry) (e : Entry) → IsLegal s past → tickets_after_end (ticket_ended past e) (tickets_of s past) ≡ tickets_in s (rows_of s.callers (filter (is_kept e) (unended_tickets past)))
 after_ended s past e legal = by (ticket_step past e)
   where
-    by : TicketStep past e → tickets_after_end (ticket_ended past e) (tickets_of s past) ≡ rows_of s.callers (filter (is_kept e) (unended_tickets past))
-    by (ends_none is all) = ap (λ o. tickets_after_end o (tickets_of s past)) is ∙ ap (rows_of s.callers) (sym (all_pass (is_kept e) (unended_tickets past) all))
+    by : TicketStep past e → tickets_after_end (ticket_ended past e) (tickets_of s past) ≡ tickets_in s (rows_of s.callers (filter (is_kept e) (unended_tickets past)))
+    by (ends_none is all) = ap (λ o. tickets_after_end o (tickets_of s past)) is ∙ ap (λ ts. tickets_in s (rows_of s.callers ts)) (sym (all_pass (is_kept e) (unended_tickets past) all))
     by (ends_one u is here it) = ap (λ o. tickets_after_end o (tickets_of s past)) is
-        ∙ rows_ended s.callers (unended_tickets past) u (unended_rise past) here (of_in (λ t. t.caller.0 < s.callers) (unended_tickets past) u (unended_there s past legal) here)
-        ∙ ap (rows_of s.callers) (sym (filter_same (is_kept e) (is_other_ticket u.number) (unended_tickets past) (all_in (λ t. is_kept e t ≡ is_other_ticket u.number t) (unended_tickets past) (ends_only past e u here it))))
+        ∙ ap (tickets_in s) (rows_ended s.callers (unended_tickets past) u (unended_rise past) here (of_in (λ t. t.caller.0 < s.callers) (unended_tickets past) u (unended_there s past legal) here)
+        ∙ ap (rows_of s.callers) (sym (filter_same (is_kept e) (is_other_ticket u.number) (unended_tickets past) (all_in (λ t. is_kept e t ≡ is_other_ticket u.number t) (unended_tickets past) (ends_only past e u here it)))))
 
 pub tickets_refine : (s : Layout) (past : List Entry) (e : Entry) → IsLegal s (e ∷ past) → tickets_after past e (tickets_of s past) ≡ tickets_of s (e ∷ past)
 unfolding IsLegal
 tickets_refine s past e legal = ap (tickets_after_giving (ticket_given past e)) (after_ended s past e legal.2)
-    ∙ rows_after s.callers (filter (is_kept e) (unended_tickets past)) (ticket_given past e) (λ t h. given_there s past e t legal h)
-    ∙ ap (rows_of s.callers) (sym (unended_go_on s past e legal))
+    ∙ rows_after s (filter (is_kept e) (unended_tickets past)) (ticket_given past e) (λ t h. given_there s past e t legal h)
+    ∙ ap (λ ts. tickets_in s (rows_of s.callers ts)) (sym (unended_go_on s past e legal))
 
 empty_rows : (cs : List ℕ) → map (tickets_held []) cs ≡ replicate (length cs) []
 empty_rows [] = refl
 empty_rows (c ∷ cs) = ap (λ rows. [] ∷ rows) (empty_rows cs)
 
-pub no_tickets_at_first : (s : Layout) → tickets_of s [] ≡ replicate s.callers []
+pub no_tickets_at_first : (s : Layout) → tickets_of s [] ≡ new_tickets s.callers s.items (length s.queues)
 unfolding tickets
-no_tickets_at_first s = empty_rows (range_with_len 0 s.callers) ∙ ap (λ n. replicate n []) (length-range_with_len 0 s.callers)
+no_tickets_at_first s = ap (tickets_in s) (empty_rows (range_with_len 0 s.callers) ∙ ap (λ n. replicate n []) (length-range_with_len 0 s.callers))
 
 -- ---- each call may be made
 
 -- an unended ticket stands in its caller's row
-stands_in_row : (s : Layout) (past : List Entry) (t : Ticket) → IsLegal s past → In t (unended_tickets past) → row.ticket_of_caller (tickets_of s past) t.caller.0 t.number ≡ Some t
+stands_in_row : (s : Layout) (past : List Entry) (t : Ticket) → IsLegal s past → In t (unended_tickets past) → row.ticket_of_caller (tickets_of s past).rows t.caller.0 t.number ≡ Some t
 stands_in_row s past t legal here =
     let held = tickets_held (unended_tickets past) t.caller.0 in
     let less = of_in (λ u. u.caller.0 < s.callers) (unended_tickets past) t (unended_there s past legal) here in
@@ -75,12 +74,12 @@ may_end s past e legal = by (ticket_step past e)
     by (ends_none is all) = subst (λ o. MayEndTicket o (tickets_of s past)) (sym is) tt
     by (ends_one u is here it) = subst (λ o. MayEndTicket o (tickets_of s past)) (sym is) (ap is_some (stands_in_row s past u legal here))
 
--- a call that fits a layout inside the limits has its count
-fits_counted : (s : Layout) (c : Call) → IsTrue (is_layout s) → has_numbers s c ≡ true → is_counted c ≡ true
-fits_counted s (call.CancelSync i) inside fits = let few = items_few s inside in let less = ltb-true i.0 s.items fits in lt-ltb i.0 256 (omega arith)
-fits_counted s (call.Drain q) inside fits = let few = queues_few s inside in let less = ltb-true q.0 (length s.queues) fits in lt-ltb q.0 64 (omega arith)
-fits_counted s (call.Destroy q) inside fits = let few = queues_few s inside in let less = ltb-true q.0 (length s.queues) fits in lt-ltb q.0 64 (omega arith)
-fits_counted s c inside fits = refl
+-- a call that fits a layout has its count
+fits_counted : (s : Layout) (c : Call) → has_numbers s c ≡ true → is_counted s.items (length s.queues) c ≡ true
+fits_counted s (call.CancelSync i) fits = fits
+fits_counted s (call.Drain q) fits = fits
+fits_counted s (call.Destroy q) fits = fits
+fits_counted s c fits = refl
 
 all_before : (t : Ticket) (ts : List Ticket) → AllByRecursion (λ u. u.number < t.number) ts → list_all (comes_before t) ts ≡ true
 all_before t [] h = refl
@@ -97,8 +96,8 @@ fewer_held held kept ts free =
     let wider : count_by (λ t. kept t && held t) ts ≤ count_by held ts = count_by-wider (λ t. kept t && held t) held ts (All_each _ ts (λ t h. (and_parts (kept t) (held t) h).1)) in
     omega arith
 
-rows_may_give : (s : Layout) (past : List Entry) (e : Entry) (t : Ticket) → IsTrue (is_layout s) → IsLegal s (e ∷ past) → ticket_given past e ≡ Some t → may_give (rows_of s.callers (filter (is_kept e) (unended_tickets past))) t ≡ true
-rows_may_give s past e t inside legal h =
+rows_may_give : (s : Layout) (past : List Entry) (e : Entry) (t : Ticket) → IsLegal s (e ∷ past) → ticket_given past e ≡ Some t → may_give (tickets_in s (rows_of s.callers (filter (is_kept e) (unended_tickets past)))) t ≡ true
+rows_may_give s past e t legal h =
     let is = ticket_in_is e (length past) t h in
     let kept = filter (is_kept e) (unended_tickets past) in
     let less = given_there s past e t legal h in
@@ -107,11 +106,11 @@ rows_may_give s past e t inside legal h =
     let size : length (rows_of s.callers kept) ≡ s.callers = length-map-range_with_len (tickets_held kept) 0 s.callers in
     let free = given_free s past e t legal h in
     let before : AllByRecursion (λ u. u.number < t.number) (tickets_held kept t.caller.0) = subst (λ n. AllByRecursion (λ u. u.number < n) (tickets_held kept t.caller.0)) (sym is.number) (still_all (λ u. u.number < length past) held kept (still_all (λ u. u.number < length past) (is_kept e) (unended_tickets past) (unended_below past))) in
-    four_tests (nat_lt t.caller.0 (length (rows_of s.callers kept))) (row.is_row_crowded (rows_of s.callers kept) t.caller.0) (list_all (comes_before t) (tickets_of_caller (rows_of s.callers kept) t.caller.0)) (is_counted t.call)
+    four_tests (nat_lt t.caller.0 (length (rows_of s.callers kept))) (row.is_row_crowded (rows_of s.callers kept) t.caller.0) (list_all (comes_before t) (tickets_of_caller (rows_of s.callers kept) t.caller.0)) (is_counted s.items (length s.queues) t.call)
     (lt-ltb t.caller.0 (length (rows_of s.callers kept)) (rw size less))
     (let few : length (tickets_of_caller (rows_of s.callers kept) t.caller.0) < 64 = rw at (fewer_held held (is_kept e) (unended_tickets past) free) in let fits : nat_le 64 (length (tickets_of_caller (rows_of s.callers kept) t.caller.0)) ≡ false = grind (arith, nat_tests) in fits)
     (ap (list_all (comes_before t)) at ∙ all_before t (tickets_held kept t.caller.0) before)
-    (fits_counted s t.call inside (ap (has_numbers s) is.call ∙ numbers_fit s past e legal))
+    (fits_counted s t.call (ap (has_numbers s) is.call ∙ numbers_fit s past e legal))
 
 pub entries_apply_to_tickets : (s : Layout) (past : List Entry) (e : Entry) → IsTrue (is_layout s) → IsLegal s (e ∷ past) → MayApplyToTickets past e (tickets_of s past)
 unfolding IsLegal
@@ -120,19 +119,19 @@ entries_apply_to_tickets s past e inside legal = record {
   given = subst (MayGiveTicket (ticket_given past e)) (sym (after_ended s past e legal.2)) (by (ticket_given past e) refl);
 }
   where
-    by : (o : Option Ticket) → ticket_given past e ≡ o → MayGiveTicket o (rows_of s.callers (filter (is_kept e) (unended_tickets past)))
+    by : (o : Option Ticket) → ticket_given past e ≡ o → MayGiveTicket o (tickets_in s (rows_of s.callers (filter (is_kept e) (unended_tickets past))))
     by None h = tt
-    by (Some t) h = rows_may_give s past e t inside legal h
+    by (Some t) h = rows_may_give s past e t legal h
 
 -- ---- what is read
 
-pub rows_for_callers : (s : Layout) (past : List Entry) → length (tickets_of s past) ≡ s.callers
+pub rows_for_callers : (s : Layout) (past : List Entry) → length (tickets_of s past).rows ≡ s.callers
 rows_for_callers s past = length-map-range_with_len (tickets_held (unended_tickets past)) 0 s.callers
 
-pub crowded_alike : (s : Layout) (past : List Entry) (c : ℕ) → c < s.callers → row.is_row_crowded (tickets_of s past) c ≡ is_crowded past (the_caller c)
+pub crowded_alike : (s : Layout) (past : List Entry) (c : ℕ) → c < s.callers → row.is_row_crowded (tickets_of s past).rows c ≡ is_crowded past (the_caller c)
 crowded_alike s past c less = ap (nat_le 64) (ap length (row_is s.callers (unended_tickets past) c less) ∙ length-filter (is_held_by (the_caller c)) (unended_tickets past))
 
-pub tickets_found_alike : (s : Layout) (past : List Entry) (c n : ℕ) → c < s.callers → row.ticket_of_caller (tickets_of s past) c n ≡ ticket_of past (the_caller c) n
+pub tickets_found_alike : (s : Layout) (past : List Entry) (c n : ℕ) → c < s.callers → row.ticket_of_caller (tickets_of s past).rows c n ≡ ticket_of past (the_caller c) n
 tickets_found_alike s past c n less = ap (find (is_numbered n)) (row_is s.callers (unended_tickets past) c less) ∙ find_kept (unended_tickets past)
   where
     find_kept : (ts : List Ticket) → find (is_numbered n) (filter (is_held_by (the_caller c)) ts) ≡ find (is_ticket (the_caller c) n) ts
@@ -149,17 +148,17 @@ tickets_found_alike s past c n less = ap (find (is_numbered n)) (row_is s.caller
         first true = ap choice (sym (and_true (is_numbered n t)))
         first false = ap choice (sym (and_false (is_numbered n t)))
 
-pub tickets_of_any_caller : (s : Layout) (past : List Entry) (n : ℕ) → IsLegal s past → any_ticket (tickets_of s past) n ≡ find (is_numbered n) (unended_tickets past)
+pub tickets_of_any_caller : (s : Layout) (past : List Entry) (n : ℕ) → IsLegal s past → any_ticket (tickets_of s past).rows n ≡ find (is_numbered n) (unended_tickets past)
 tickets_of_any_caller s past n legal = rows_find s.callers (unended_tickets past) (unended_there s past legal) n (unended_rise past)
 
-pub cancelling_alike : (s : Layout) (past : List Entry) (i : ℕ) → IsLegal s past → row.any_cancels (tickets_of s past) i ≡ is_cancelling past i
+pub cancelling_alike : (s : Layout) (past : List Entry) (i : ℕ) → IsLegal s past → row.any_cancels (tickets_of s past).rows i ≡ is_cancelling past i
 cancelling_alike s past i legal = rows_any s.callers (unended_tickets past) (unended_there s past legal) (is_cancel_sync_of i)
 
-pub draining_alike : (s : Layout) (past : List Entry) (q : ℕ) → IsLegal s past → row.any_drains (tickets_of s past) q ≡ is_draining past q
+pub draining_alike : (s : Layout) (past : List Entry) (q : ℕ) → IsLegal s past → row.any_drains (tickets_of s past).rows q ≡ is_draining past q
 draining_alike s past q legal = rows_any s.callers (unended_tickets past) (unended_there s past legal) (is_drain_of q)
 
-pub destroyed_alike : (s : Layout) (past : List Entry) (q : ℕ) → IsLegal s past → row.any_destroys (tickets_of s past) q ≡ is_being_destroyed past q
+pub destroyed_alike : (s : Layout) (past : List Entry) (q : ℕ) → IsLegal s past → row.any_destroys (tickets_of s past).rows q ≡ is_being_destroyed past q
 destroyed_alike s past q legal = rows_any s.callers (unended_tickets past) (unended_there s past legal) (is_destroy_of q)
 
-pub all_tickets_are_counted : (s : Layout) (past : List Entry) → IsLegal s past → count (tickets_of s past) ≡ length (unended_tickets past)
+pub all_tickets_are_counted : (s : Layout) (past : List Entry) → IsLegal s past → count (tickets_of s past).rows ≡ length (unended_tickets past)
 all_tickets_are_counted s past legal = rows_count s.callers (unended_tickets past) (unended_there s past legal)

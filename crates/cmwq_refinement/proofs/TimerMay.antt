@@ -1,7 +1,6 @@
 -- The timers refine a legal history, and the calls that apply an entry to them may be made.
-use Rattle.cmwq_refinement.specs.Common.{◌≡◌, ℕ, Bool, true, false, List, ◌∷◌, length, Option, Some, None, refl, sym, ap, ◌∙◌, arith, is_some, if◌then◌else◌, IsTrue, Entry, Booking, Layout, is_layout, item_of, settles, booking_of, IsLegal}
+use Rattle.cmwq_refinement.specs.Common.{◌≡◌, ℕ, Bool, true, false, List, ◌∷◌, length, Option, Some, None, refl, sym, ap, ◌∙◌, arith, is_some, if◌then◌else◌, Entry, Booking, Layout, item_of, settles, booking_of, IsLegal}
 use Rattle.cmwq_refinement.specs.Timers.{timers_of, timers_after_settling, timers_after, MayBeSet}
-use Rattle.cmwq_refinement.proofs.LayoutLimits.{queues_few}
 use Rattle.cmwq_refinement.proofs.Settled.{settled_of_an_item, booking_fits}
 use Rattle.cmwq_refinement.proofs.TimerSteps.{rows_for_items, bookings_set_timers, settled_timers_are_taken_back, others_keep_timers}
 use Rattle.cmwq_refinement.proofs.FirstDue.{entries_apply_to_timers}
@@ -18,8 +17,8 @@ timers_refine s past e legal = by (settles e.reply) refl
     by true h = settled h (item_of e) (booking_of e (length past)) refl refl
     by false h = others_keep_timers s past e h
 
-pub timers_may_be_set : (s : Layout) (past : List Entry) (e : Entry) → IsTrue (is_layout s) → IsLegal s (e ∷ past) → MayBeSet (item_of e) (booking_of e (length past)) (timers_of s past)
-timers_may_be_set s past e inside legal = by (item_of e) (booking_of e (length past)) refl refl
+pub timers_may_be_set : (s : Layout) (past : List Entry) (e : Entry) → IsLegal s (e ∷ past) → MayBeSet (item_of e) (booking_of e (length past)) (timers_of s past)
+timers_may_be_set s past e legal = by (item_of e) (booking_of e (length past)) refl refl
   where
     rows : length (timers_of s past) ≡ s.items
     rows = rows_for_items s past
@@ -28,9 +27,8 @@ timers_may_be_set s past e inside legal = by (item_of e) (booking_of e (length p
     by i (Some b) item books =
         let fits = booking_fits s past e b legal books in
         let less = fits.item in
-        let on = fits.queue in
-        let few = queues_few s inside in
-        let size = rows in (omega arith, omega arith)
+        let size = rows in
+        omega arith
     by (Some i) None item none =
         let less = (entries_apply_to_timers s past e legal).item i item in
         let size = rows in

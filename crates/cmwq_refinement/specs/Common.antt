@@ -65,6 +65,6 @@ pub use Rattle.cmwq_theory_steps.specs.Endings.{ending, is_ended, survives}
 pub use Rattle.cmwq_theory_steps.specs.ItemQueueings.{ended_by, of_item, queueing_run, still_unstarted}
 pub use Rattle.cmwq_theory_steps.specs.RunSteps.{ends_run, run_after}
 pub use Rattle.cmwq_theory_steps.specs.TicketSteps.{is_ended_by, is_kept, passes, ticket_asked, ticket_ended}
-pub use Rattle.cmwq_ticket.specs.Rows.{TicketRows, any_ticket, comes_before, count, is_numbered, may_give, rows_with, rows_without, tickets_of_caller}
+pub use Rattle.cmwq_ticket.specs.Rows.{TicketBook, TicketRows, any_ticket, comes_before, count, is_numbered, may_give, new_tickets, rows_with, rows_without, tickets_of_caller, tickets_with, tickets_without}
 pub use Rattle.cmwq_timer.specs.Rows.{IsFirstToFire, MayFire, NoneMayFire, due_of, is_timer_on, timer_of}
 pub use Rattle.cmwq_timer.specs.declared.timer.Timer.{Timer}

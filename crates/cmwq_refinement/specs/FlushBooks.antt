@@ -27,6 +27,7 @@ pub record IsServedFrom (past : List Entry) (q : ℕ) (opened : List ℕ) (f : S
 -- the flush book is that of queue q after these entries
 pub record AreFlushes (s : Layout) (past : List Entry) (q : ℕ) (b : FlushBook) : Type 0 where
   pub callers : b.callers ≡ s.callers
+  pub items : b.items ≡ s.items
   pub opened : b.opened ≡ open_numbers past q
   pub older : AllByRecursion (λ n. n < b.next) b.opened
   pub next : b.next ≤ length past
@@ -64,7 +65,7 @@ flushes_after_tickets past e q b = flushes_after_begun (ticket_given past e) q (
 
 -- at first the book is a new one, and each entry's calls make it that of the longer history
 abbrev pub FlushesAtFirst : Type 0
-FlushesAtFirst = (s : Layout) (q : ℕ) → AreFlushes s [] q (new_book s.callers)
+FlushesAtFirst = (s : Layout) (q : ℕ) → AreFlushes s [] q (new_book s.callers s.items)
 
 abbrev pub FlushesRefine : Type 0
 FlushesRefine = (s : Layout) (past : List Entry) (e : Entry) (q : ℕ) (b : FlushBook) → IsLegal s (e ∷ past) → AreFlushes s past q b

@@ -1,7 +1,6 @@
 -- The timers refine the bookings that are read off a history.
-use Rattle.std.specs.Prelude.{◌≡◌, ◌<◌, ◌==◌, if◌then◌else◌, ◌∷◌}
-use Rattle.cmwq_refinement.specs.Common.{ℕ, true, false, List, [], length, map, replicate, slice_set, Option, Some, None, option_map, is_some, IsTrue, range_with_len, list_any, ItemId, Entry, Booking, Layout, is_layout, item_of, now, settles, booking, booking_of, standing, is_draining, is_booked_on, first_due, IsLegal, Timer, due_of, NoneMayFire, IsFirstToFire}
-use Rattle.std.specs.Int.{bit_at}
+use Rattle.std.specs.Prelude.{◌≡◌, ◌<◌, if◌then◌else◌, ◌∷◌, nat_lt, slice_index}
+use Rattle.cmwq_refinement.specs.Common.{ℕ, true, false, List, [], length, map, replicate, slice_set, Option, Some, None, option_map, is_some, range_with_len, list_any, ItemId, Entry, Booking, Layout, item_of, now, settles, booking, booking_of, standing, is_draining, is_booked_on, first_due, IsLegal, Timer, due_of, NoneMayFire, IsFirstToFire}
 use Rattle.cmwq_timer.specs.Rows.{TimerRows, any_timer_on as booked_in_rows}
 
 -- the timer that is set for a booking
@@ -69,26 +68,26 @@ pub record MayApplyToTimers (s : Layout) (past : List Entry) (e : Entry) : Type 
 abbrev pub EntriesApplyToTimers : Type 0
 EntriesApplyToTimers = (s : Layout) (past : List Entry) (e : Entry) → IsLegal s (e ∷ past) → MayApplyToTimers s past e
 
--- where the layout is inside the limits these calls may be made: what each requires holds
+-- so these calls may be made: what each requires holds
 abbrev pub MayBeSet : Option ℕ → Option Booking → TimerRows → Type 0
-MayBeSet o (Some b) rows = (b.item.0 < length rows) × (b.place.queue.0 < 64)
+MayBeSet o (Some b) rows = b.item.0 < length rows
 MayBeSet (Some i) None rows = i < length rows
 MayBeSet None None rows = Unit {0}
 
 abbrev pub TimersMayBeSet : Type 0
-TimersMayBeSet = (s : Layout) (past : List Entry) (e : Entry) → IsTrue (is_layout s) → IsLegal s (e ∷ past) → MayBeSet (item_of e) (booking_of e (length past)) (timers_of s past)
+TimersMayBeSet = (s : Layout) (past : List Entry) (e : Entry) → IsLegal s (e ∷ past) → MayBeSet (item_of e) (booking_of e (length past)) (timers_of s past)
 
--- where exactly the queues that drain are held back, the timer that fires first is that of the booking that is due first
-abbrev pub HoldsDraining : Layout → List Entry → ℕ → Type 0
-HoldsDraining s past held = (q : ℕ) → q < length s.queues → (bit_at held q == 1) ≡ is_draining past q
+-- where something holds back exactly the queues that drain, the timer that fires first is that of the booking that is due first
+abbrev pub HoldsDraining : Layout → List Entry → List ℕ → Type 0
+HoldsDraining s past holds = (q : ℕ) → q < length s.queues → nat_lt 0 (slice_index holds q) ≡ is_draining past q
 
 abbrev pub item_due : List Entry → Option ItemId
 item_due past = option_map (λ (b : Booking). b.item) (first_due past)
 
 abbrev pub FirstTimerIsFirstDue : Type 0
-FirstTimerIsFirstDue = (s : Layout) (past : List Entry) (held : ℕ) (i : ItemId) → IsLegal s past → HoldsDraining s past held
-    → IsFirstToFire (now past) held (timers_of s past) i.0 → item_due past ≡ Some i
+FirstTimerIsFirstDue = (s : Layout) (past : List Entry) (holds : List ℕ) (i : ItemId) → IsLegal s past → HoldsDraining s past holds
+    → IsFirstToFire (now past) holds (timers_of s past) i.0 → item_due past ≡ Some i
 
 abbrev pub NoTimerIsNoneDue : Type 0
-NoTimerIsNoneDue = (s : Layout) (past : List Entry) (held : ℕ) → IsLegal s past → HoldsDraining s past held
-    → NoneMayFire (now past) held (timers_of s past) → item_due past ≡ None
+NoTimerIsNoneDue = (s : Layout) (past : List Entry) (holds : List ℕ) → IsLegal s past → HoldsDraining s past holds
+    → NoneMayFire (now past) holds (timers_of s past) → item_due past ≡ None

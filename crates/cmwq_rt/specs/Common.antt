@@ -17,7 +17,6 @@ pub use Rattle.cmwq_monitor.specs.Calls.{Extends}
 pub use Rattle.cmwq_monitor.specs.Faults.{IsStranger, Refused, is_full}
 pub use Rattle.cmwq_monitor.specs.Held.{active_in}
 pub use Rattle.cmwq_monitor.specs.Participants.{Gains, View, is_caller, made_by}
-pub use Rattle.cmwq_monitor.specs.Places.{lane, place}
 pub use Rattle.cmwq_monitor.specs.Settled.{AllSettle, Settles}
 pub use Rattle.cmwq_monitor.specs.Starts.{StartsItem, StartsOne}
 pub use Rattle.cmwq_monitor.specs.Whole.{Behind, BrokeOff, Completes, EndsTicket, Fires, HadNoRoom, MakesEntries, is_drain, is_tick, ticket_in_reply}

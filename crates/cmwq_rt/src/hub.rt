@@ -82,7 +82,7 @@ impl<N: HubName> Hub<N> {
         let wakes = monitor.wakes();
         let is_wanted = monitor.wants_journal();
         MutexGuard::unlock(monitor);
-        self.condvars.notify(wakes);
+        self.condvars.notify(&wakes);
         if is_wanted {
             self.journal.notify_all();
         }
@@ -96,7 +96,7 @@ impl<N: HubName> Hub<N> {
         who: Who,
     ) -> MutexGuard<'a, Monitor<N>> {
         let wakes = monitor.wakes();
-        self.condvars.notify(wakes);
+        self.condvars.notify(&wakes);
         if monitor.wants_journal() {
             self.journal.notify_all();
         }

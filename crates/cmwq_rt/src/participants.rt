@@ -1,7 +1,7 @@
 //! The callers and workers of a hub that nobody has yet.
 ghost use Rattle.std.specs.Prelude.{◌≡◌, ◌+◌, ◌<◌, ◌≤◌, [], IfOk, IfErr, MatchOption, MatchResult, None};
 ghost use Rattle.cmwq_model.specs.declared.id.Who.TheVariants as whos;
-ghost use Rattle.cmwq_model.specs.Prelude.{Layout};
+ghost use Rattle.cmwq_model.specs.Prelude.{Layout, most_cpus, most_workers};
 ghost use Rattle.cmwq_core.specs.History.{IsThere};
 ghost use Rattle.cmwq_monitor.specs.Participants.{newcomer};
 ghost use Rattle.cmwq_monitor.specs.declared.fault.RunFault.TheVariants.{NoPlace};
@@ -25,7 +25,7 @@ pub struct Participants<N: HubName> {
     rest: Share<N>,
     callers: u8,
     next: Option<WorkerId>,
-    workers: u8,
+    workers: u16,
 }
 
 impl<N: HubName> Model for Participants<N> {
@@ -119,7 +119,7 @@ impl<N: HubName> Participants<N> {
 }
 
 fn worker_after(counts: Counts, worker: WorkerId) -> Option<WorkerId>
-    requires few { (counts.cpus ≤ 4) × (counts.workers ≤ 8) }
+    requires few { (counts.cpus ≤ most_cpus) × (counts.workers ≤ most_workers) }
     requires there { (worker.pool.cpu.0 < counts.cpus) × (worker.index < counts.workers) }
     ensures { (s : Layout) → AreCounts s counts → result ≡ after_worker s worker }
 {

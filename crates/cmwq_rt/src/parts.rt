@@ -7,7 +7,7 @@ use crate::condvars::Condvars;
 use crate::hub::Hub;
 use crate::participants::Participants;
 use cmwq_core::Execution;
-use cmwq_model::{Entry, NoMemory, Shape};
+use cmwq_model::{Entry, MOST_CALLERS, MOST_CPUS, MOST_WORKERS, NoMemory, Shape};
 use cmwq_monitor::{Monitor, RunFault, Sleepers};
 use cmwq_publish::{HubName, Opening};
 use cmwq_tail::Tail;
@@ -16,7 +16,7 @@ use std::sync::Wait;
 use std::sync::ledger::Blank;
 
 /// How many shares the ledger of a hub's entries is cut into: one for each caller and each worker that there may be.
-const SHARES: u64 = 128;
+const SHARES: u64 = MOST_CALLERS as u64 + 2 * MOST_WORKERS as u64 * MOST_CPUS as u64;
 
 /// All that a hub needs. No call of the hub takes memory.
 pub struct HubParts {
@@ -55,8 +55,8 @@ fn rest_of(alloc: Global, shape: &Shape, kept: u32) -> Result<Rest, NoMemory>
     Ok(Rest {
         shape: shape.copy(alloc)?,
         shape_of_monitor: shape.copy(alloc)?,
-        sleepers: Sleepers::new(alloc)?,
-        condvars: Condvars::new(alloc)?,
+        sleepers: Sleepers::new(alloc, shape)?,
+        condvars: Condvars::new(alloc, shape)?,
         execution: Execution::new(alloc, shape, shape.counts().room)?,
         tail: Tail::new(alloc, kept)?,
     })

@@ -1,5 +1,5 @@
 -- The texts that a journal leaves.
-use Rattle.cmwq_rt_scripts.specs.Common.{◌≡◌, ◌+◌, ℕ, List, [], length, Option, None, Some, Result, Ok, Err, refl, sym, ap, ◌∙◌, subst, arith, append-nil, OnOk, IfErr, Appends, Keeps, AppendsFront, Call, Entry, Layout, IsLegal, past_of, body_text, last_text, text_of_format, JournalFault}
+use Rattle.cmwq_rt_scripts.specs.Common.{◌≡◌, ◌+◌, ℕ, List, [], length, Option, Result, Ok, Err, refl, sym, ap, ◌∙◌, subst, arith, OnOk, IfErr, Appends, Keeps, AppendsFront, Call, Entry, Layout, IsLegal, past_of, body_text, last_text, text_of_format, JournalFault}
 use Rattle.cmwq_base.proofs.Fronts.{front_before, front_after, front_whole}
 use Rattle.cmwq_rt_journal.specs.Faults.{Broke, EndBroke, ending_text}
 use Rattle.cmwq_rt_journal.specs.declared.fault.JournalFault.TheVariants.{Late, Write, Hub}

@@ -1,5 +1,5 @@
 -- The end of a run carries the relation.
-use Rattle.cmwq_sim.specs.Common.{◌≡◌, ◌==◌, ◌≤◌, ◌+◌, ℕ, suc, Bool, true, false, cond, not, ◌&&◌, ◌||◌, List, [], ◌∷◌, ◌++◌, length, map, filter, find, count_by, Option, Some, None, refl, sym, ap, ap₂, ◌∙◌, subst, arith, inl, inr, ⊎_elim, option_to_list, append-nil, length-append, option_map, option_and_then, if◌then◌else◌, AllByRecursion, list_any, map-append, lt-ltb, eqb-true, eq-eqb, ne_eqb, or_cases, same_Some, get_or-map, WorkerId, Worker, Entry, Queueing, QueueShape, item_of, is_by, is_at, is_of_item, number_finished, number_cancelled, number_started, replaces, is_started, queueings, still_open, is_live, opens, queued_at, place_wanted, is_active, is_newly_active, newly_active, worklist, answer, IsLegal, entry_for, run, is_retired, survives, waits, is_left, is_in, keeps_widths, All_each, All_map, All_filter, All_both, count_by-cons, filter_same, filter_twice, count_none, stays_active, open_go_on, newly_of_open, width_same, worklists_go_on, In, found, of_in, all_in, in_filter, filter_in, in_option, runner_there, workers_run_on, by_itself, run_after}
+use Rattle.cmwq_sim.specs.Common.{◌≡◌, ◌==◌, ◌≤◌, ◌+◌, ℕ, Bool, true, false, cond, not, ◌&&◌, ◌||◌, List, [], ◌∷◌, ◌++◌, length, map, filter, find, count_by, Option, Some, None, refl, sym, ap, ap₂, ◌∙◌, subst, arith, inl, inr, ⊎_elim, option_to_list, append-nil, length-append, option_map, option_and_then, if◌then◌else◌, AllByRecursion, list_any, map-append, lt-ltb, eqb-true, eq-eqb, ne_eqb, or_cases, same_Some, get_or-map, WorkerId, Worker, Entry, Queueing, QueueShape, item_of, is_by, is_at, is_of_item, number_finished, number_cancelled, number_started, replaces, is_started, queueings, still_open, is_live, opens, queued_at, place_wanted, is_active, is_newly_active, newly_active, worklist, answer, IsLegal, entry_for, run, is_retired, survives, waits, is_left, is_in, keeps_widths, All_each, All_map, All_filter, All_both, count_by-cons, filter_same, filter_twice, count_none, stays_active, open_go_on, newly_of_open, width_same, worklists_go_on, In, found, of_in, all_in, in_filter, filter_in, in_option, runner_there, workers_run_on, by_itself, run_after}
 use mathlib.Core.Bool.{beq}
 use Rattle.cmwq_model.specs.declared.call.Call.TheVariants as call
 use Rattle.cmwq_model.specs.declared.reply.Reply.TheVariants as reply

@@ -1,5 +1,6 @@
 -- The limits of a plan, at the scenario that it is of.
-use Rattle.cmwq_sim.specs.Common.{◌≡◌, ◌<◌, ◌≤◌, ℕ, zero, suc, List, [], ◌∷◌, length, map, get_or, arith, refl, ap₂, ◌&&◌, true, list_all, le-leb, is_between, is_queue, are_queues, AllByRecursion, length-map}
+use Rattle.cmwq_sim.specs.Common.{◌≡◌, ◌<◌, ℕ, zero, suc, List, [], ◌∷◌, length, map, get_or, arith, refl, ap₂, ◌&&◌, true, list_all, le-leb, is_between, is_queue, are_queues, AllByRecursion, length-map}
+use Rattle.cmwq_model.specs.Prelude.{most_queues}
 use Rattle.cmwq_sim.specs.declared.scenario.SimQueue.{SimQueue}
 use Rattle.cmwq_sim.specs.Shows.{queue_shape}
 use Rattle.cmwq_sim.specs.declared.scenario.SimItem.{SimItem}
@@ -23,4 +24,4 @@ pub makes_a_shape : (s : Plan) → IsWithinLimits s → are_queues (map queue_sh
 makes_a_shape s h =
     let few = h.few_queues in
     let same = length-map s.queues queue_shape in
-    ap₂ (λ a b. a && b) (between 1 64 (length (map queue_shape s.queues)) (omega arith, omega arith)) (are_queues_fine s.queues h.queues)
+    ap₂ (λ a b. a && b) (between 1 most_queues (length (map queue_shape s.queues)) (omega arith, omega arith)) (are_queues_fine s.queues h.queues)

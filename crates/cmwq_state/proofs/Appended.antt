@@ -1,5 +1,5 @@
 -- A state to which an effect was applied is one entry further on.
-use Rattle.cmwq_state.specs.Common.{◌≡◌, ℕ, ◌+◌, ◌^◌, ◌<◌, ◌≤◌, true, List, [], ◌∷◌, ◌++◌, length, ap, arith, length-append, Entry, Call, Layout, fits, serial_of, ticks_told, now, has_time, most_time, IsLegal, past_of, leb-true, length-reverse}
+use Rattle.cmwq_state.specs.Common.{◌≡◌, ℕ, ◌+◌, ◌≤◌, true, List, [], ◌∷◌, ◌++◌, length, ap, arith, length-append, Entry, Call, Layout, fits, serial_of, ticks_told, now, has_time, most_time, IsLegal, past_of, leb-true, length-reverse}
 use Rattle.cmwq_model.specs.declared.call.Call.TheVariants as call
 use Rattle.cmwq_state.specs.Tables.{IsThere}
 use Rattle.cmwq_state.specs.State.{Parts, AreParts, IsState}

@@ -1,6 +1,7 @@
 -- The parts to which an effect is applied are those of the longer history, and it may be applied to them.
-use Rattle.cmwq_state.specs.Common.{◌≡◌, ℕ, ◌+◌, ◌*◌, ◌<◌, ◌≤◌, Bool, true, false, ◌&&◌, ◌==◌, ⊎_elim, List, [], ◌∷◌, length, filter, Option, Some, None, refl, sym, ap, ap₂, ◌∙◌, subst, arith, IsTrue, nat_lt, nat_le, if◌then◌else◌, is_some, IfSome, PoolId, Entry, Queueing, Booking, QueueShape, Call, Ticket, Layout, is_layout, pool_at, item_of, settles, due_in, booking_of, still_open, opening, IsLegal, newly_active, is_below_max_active, has_numbers, number_finished, PoolState, FlushBook, TimerRows, ending, is_ended, pools_refine, flushes_refine, barriers_refine, opened_are_there, open_are_there, In, all_in, in_filter, found, in_contained, eq-eqb, is_in, MayAllBeAdded, PwqState, IsPassed, IsPlacedIf, is_waiting, ArePlaced, width_by, and_parts, ltb-true, eqb-true, false_from_ne_true, cases_lt, All-from_recursion, waits, candidates, newly_are, filter_none, ticket_ended, ended_ready, unended_fit, Flight, tickets_refine, entries_apply_to_tickets, flights_refine, entries_apply_to_flights, pool_after_activation, pool_after_cancel, pool_after_worker, pool_before_activation, pool_of, AreFlushes, MayBeDoneInFlushes, MayBeginInFlushes, MayEndInFlushes, MayOpenInFlushes, flushes_after_begun, flushes_after_done, flushes_after_end, flushes_after_opening, flushes_after_queueings, MayBeDoneInBarriers, MayBeginInBarriers, MayEndInBarriers, MayOpenInBarriers, barriers_after_begun, barriers_after_done, barriers_after_end, barriers_after_opening, barriers_of, MayBeSet, timers_after_settling, timers_of, MayEndInFlight, MayOpenInFlight, MayStartInFlight, flights_after, flights_after_end, flights_after_opening, flights_after_start, flights_of, MayEndTicket, MayGiveTicket, tickets_after_end, tickets_after_giving, tickets_of, MayEndInPwqs, MayOpenInPwqs, pwqs_after_end, pwqs_after_opening}
+use Rattle.cmwq_state.specs.Common.{◌≡◌, ℕ, ◌*◌, ◌<◌, ◌≤◌, Bool, true, false, ◌&&◌, ◌==◌, ⊎_elim, List, [], ◌∷◌, length, filter, Option, Some, None, refl, sym, ap, ap₂, ◌∙◌, subst, arith, IsTrue, nat_lt, nat_le, if◌then◌else◌, is_some, IfSome, PoolId, Entry, Queueing, Booking, QueueShape, Call, Ticket, Layout, is_layout, pool_at, item_of, settles, due_in, booking_of, still_open, opening, IsLegal, newly_active, is_below_max_active, has_numbers, number_finished, PoolState, FlushBook, TimerRows, ending, is_ended, pools_refine, flushes_refine, barriers_refine, opened_are_there, open_are_there, In, all_in, in_filter, found, in_contained, eq-eqb, is_in, MayAllBeAdded, PwqState, IsPassed, IsPlacedIf, is_waiting, ArePlaced, width_by, and_parts, ltb-true, eqb-true, false_from_ne_true, cases_lt, All-from_recursion, waits, candidates, newly_are, filter_none, ticket_ended, ended_ready, unended_fit, Flight, tickets_refine, entries_apply_to_tickets, flights_refine, entries_apply_to_flights, pool_after_activation, pool_after_cancel, pool_after_worker, pool_before_activation, pool_of, AreFlushes, MayBeDoneInFlushes, MayBeginInFlushes, MayEndInFlushes, MayOpenInFlushes, flushes_after_begun, flushes_after_done, flushes_after_end, flushes_after_opening, flushes_after_queueings, MayBeDoneInBarriers, MayBeginInBarriers, MayEndInBarriers, MayOpenInBarriers, barriers_after_begun, barriers_after_done, barriers_after_end, barriers_after_opening, barriers_of, MayBeSet, timers_after_settling, timers_of, MayEndInFlight, MayOpenInFlight, MayStartInFlight, flights_after, flights_after_end, flights_after_opening, flights_after_start, flights_of, MayEndTicket, MayGiveTicket, tickets_after_end, tickets_after_giving, tickets_of, MayEndInPwqs, MayOpenInPwqs, pwqs_after_end, pwqs_after_opening}
 use Rattle.cmwq_theory_steps.proofs.Standing.{due_settles}
+use Rattle.cmwq_ticket.specs.Rows.{TicketBook}
 use Rattle.cmwq_theory_active.proofs.Rising.{opening_number}
 use Rattle.cmwq_refinement.specs.Places as places
 use Rattle.cmwq_refinement.proofs.FlushMay.{entries_apply_to_flushes}
@@ -22,11 +23,11 @@ use Rattle.cmwq_state.specs.Widths.{AreWidths, MaySetWidth}
 use Rattle.cmwq_state.proofs.WidthSteps.{widths_are}
 use Rattle.cmwq_state.proofs.Listing.{may_all_same}
 use Rattle.cmwq_state.proofs.PwqsSteps.{ArePassed, IsReadyToPass, are_placed, pwqs_ended, pwqs_opened, pwqs_passed}
-use Rattle.cmwq_state.specs.Tables.{IsThere, pool_in, book_in, only, those_in, ArePools, AreBooks, EachPool, EachBook, IsListable, MayBeListed, MayEndInBooks, MayOpenInBooks, MayCancelInPools, MayBeDoneInBooks, MayBeginInBooks, MayEndWait, MayBeginWait}
+use Rattle.cmwq_state.specs.Tables.{pool_in, book_in, only, those_in, ArePools, AreBooks, EachPool, EachBook, IsListable, MayBeListed, MayEndInBooks, MayOpenInBooks, MayCancelInPools, MayBeDoneInBooks, MayBeginInBooks, MayEndWait, MayBeginWait}
 use Rattle.cmwq_state.specs.Effects.{IsEffect}
 use Rattle.cmwq_model.specs.Prelude.{item_number}
 use Rattle.cmwq_state.specs.declared.effect.Effect.{Effect}
-use Rattle.cmwq_state.proofs.Refine.{IsSmall}
+use Rattle.cmwq_model.proofs.Limits.{Limits}
 use Rattle.std.proofs.lemmas.Bool.{false≢true}
 
 -- ---- pools
@@ -125,21 +126,21 @@ flights_apply s past f is = same_applied s past f (flights_of s past) is ∙ sym
 
 -- ---- tickets
 
-abbrev pub tickets_applied : Effect → List (List Ticket) → List (List Ticket)
-tickets_applied f rows = tickets_after_giving f.begun (tickets_after_end f.done rows)
+abbrev pub tickets_applied : Effect → TicketBook → TicketBook
+tickets_applied f b = tickets_after_giving f.begun (tickets_after_end f.done b)
 
 pub tickets_apply : (s : Layout) (past : List Entry) (f : Effect) → IsEffect s past f → tickets_applied f (tickets_of s past) ≡ tickets_of s (f.entry ∷ past)
 tickets_apply s past f is = rw (is.done, is.begun) (tickets_refine s past f.entry is.legal)
 
 -- ---- pool workqueues
 
-pub pwqs_applied : (s : Layout) (past : List Entry) (f : Effect) (l new : PwqState) (wide : ℕ → ℕ) → IsEffect s past f → IsSmall s → IsLegal s past → ArePwqsOf s past l →
+pub pwqs_applied : (s : Layout) (past : List Entry) (f : Effect) (l new : PwqState) (wide : ℕ → ℕ) → IsEffect s past f → Limits s → IsLegal s past → ArePwqsOf s past l →
     ArePassed s past f.entry (pwqs_after_opening f.opened (pwqs_after_end f.ended l)) new wide → ArePwqsOf s (f.entry ∷ past) new × (new.activated ≡ newly_active s past f.entry)
-pwqs_applied s past f l new wide is small before are passed =
-    let mid = (pwqs_ended s past f.entry is.legal small.cpus l are before).0 in
-    let ready = (pwqs_opened s past f.entry is.legal small.cpus (pwqs_after_end (ending past f.entry) l) mid).0 in
+pwqs_applied s past f l new wide is limits before are passed =
+    let mid = (pwqs_ended s past f.entry is.legal limits.cpus.1 l are before).0 in
+    let ready = (pwqs_opened s past f.entry is.legal limits.cpus.1 (pwqs_after_end (ending past f.entry) l) mid).0 in
     let same : pwqs_after_opening f.opened (pwqs_after_end f.ended l) ≡ pwqs_after_opening (opening past f.entry) (pwqs_after_end (ending past f.entry) l) = ap₂ (λ o x. pwqs_after_opening o (pwqs_after_end x l)) is.opened is.ended in
-    pwqs_passed s past f.entry is.legal small.cpus (pwqs_after_opening (opening past f.entry) (pwqs_after_end (ending past f.entry) l)) new wide ready (subst (λ m. ArePassed s past f.entry m new wide) same passed)
+    pwqs_passed s past f.entry is.legal limits.cpus.1 (pwqs_after_opening (opening past f.entry) (pwqs_after_end (ending past f.entry) l)) new wide ready (subst (λ m. ArePassed s past f.entry m new wide) same passed)
 
 -- ---- and each part takes it
 
@@ -195,8 +196,8 @@ set_by e past rows false h may = which (booking_of e (length past)) refl may
     which None is m = tt
     which (Some b) is m = m
 
-pub may_set_timers : (s : Layout) (past : List Entry) (f : Effect) → IsTrue (is_layout s) → IsEffect s past f → MayBeSet (item_number f.settled) f.booked (timers_of s past)
-may_set_timers s past f inside is = rw (is.settled, is.booked) (set_by f.entry past (timers_of s past) (settles f.entry.reply) refl (timers_may_be_set s past f.entry inside is.legal))
+pub may_set_timers : (s : Layout) (past : List Entry) (f : Effect) → IsEffect s past f → MayBeSet (item_number f.settled) f.booked (timers_of s past)
+may_set_timers s past f is = rw (is.settled, is.booked) (set_by f.entry past (timers_of s past) (settles f.entry.reply) refl (timers_may_be_set s past f.entry is.legal))
 
 -- ---- waits
 
@@ -263,14 +264,14 @@ may_begin_barriers s past f is = rw (is.ended, is.opened, is.done, is.begun) (en
 
 -- ---- what waits
 
-pub may_end_in_pwqs : (s : Layout) (past : List Entry) (f : Effect) (l : PwqState) → IsEffect s past f → IsSmall s → IsLegal s past → ArePwqsOf s past l → MayEndInPwqs f.ended l
-may_end_in_pwqs s past f l is small before are = rw is.ended (pwqs_ended s past f.entry is.legal small.cpus l are before).1
+pub may_end_in_pwqs : (s : Layout) (past : List Entry) (f : Effect) (l : PwqState) → IsEffect s past f → Limits s → IsLegal s past → ArePwqsOf s past l → MayEndInPwqs f.ended l
+may_end_in_pwqs s past f l is limits before are = rw is.ended (pwqs_ended s past f.entry is.legal limits.cpus.1 l are before).1
 
-pub pwqs_ready : (s : Layout) (past : List Entry) (f : Effect) (l : PwqState) → IsEffect s past f → IsSmall s → IsLegal s past → ArePwqsOf s past l →
+pub pwqs_ready : (s : Layout) (past : List Entry) (f : Effect) (l : PwqState) → IsEffect s past f → Limits s → IsLegal s past → ArePwqsOf s past l →
     IsReadyToPass s past f.entry (pwqs_after_opening f.opened (pwqs_after_end f.ended l)) × MayOpenInPwqs f.opened (pwqs_after_end f.ended l)
-pwqs_ready s past f l is small before are =
-    let mid = (pwqs_ended s past f.entry is.legal small.cpus l are before).0 in
-    rw (is.opened, is.ended) (pwqs_opened s past f.entry is.legal small.cpus (pwqs_after_end (ending past f.entry) l) mid)
+pwqs_ready s past f l is limits before are =
+    let mid = (pwqs_ended s past f.entry is.legal limits.cpus.1 l are before).0 in
+    rw (is.opened, is.ended) (pwqs_opened s past f.entry is.legal limits.cpus.1 (pwqs_after_end (ending past f.entry) l) mid)
 
 -- ---- widths
 
@@ -291,16 +292,16 @@ passed_by s past f l queues most frozen new those are passed = record {
   widths = widths_are s (f.entry ∷ past) most frozen are;
 }
 
-pub may_pass : (s : Layout) (past : List Entry) (f : Effect) (l : PwqState) (queues : List QueueShape) → IsEffect s past f → IsSmall s → IsLegal s past → ArePwqsOf s past l → queues ≡ s.queues →
+pub may_pass : (s : Layout) (past : List Entry) (f : Effect) (l : PwqState) (queues : List QueueShape) → IsEffect s past f → Limits s → IsLegal s past → ArePwqsOf s past l → queues ≡ s.queues →
     ArePlaced (length queues) (pwqs_after_opening f.opened (pwqs_after_end f.ended l)).waiting
-may_pass s past f l queues is small before pwqs those = rw those
-    (are_placed s past f.entry is.legal small.cpus (pwqs_after_opening f.opened (pwqs_after_end f.ended l)) (pwqs_ready s past f l is small before pwqs).0)
+may_pass s past f l queues is limits before pwqs those = rw those
+    (are_placed s past f.entry is.legal limits.cpus.1 (pwqs_after_opening f.opened (pwqs_after_end f.ended l)) (pwqs_ready s past f l is limits before pwqs).0)
 
 pub may_have_run : (s : Layout) (past : List Entry) (f : Effect) (l : PwqState) → IsEffect s past f → IsLegal s past → ArePwqsOf s past l → is_some (number_finished f.entry.reply) ≡ true → IfSome f.ended (λ x. is_waiting l x ≡ false)
 may_have_run s past f l is before pwqs h = rw is.ended (finished_waits_not s past f.entry l is.legal before pwqs h)
 
-pub may_be_placed : (s : Layout) (past : List Entry) (f : Effect) (queues : List QueueShape) → IsEffect s past f → IsSmall s → IsLegal s past → queues ≡ s.queues → IsPlacedIf (length queues) f.ended × IsPlacedIf (length queues) f.opened
-may_be_placed s past f queues is small before those = rw those (ended_placed s past f.entry f.ended before small.cpus (sym is.ended), opened_placed s past f.entry f.opened is.legal small.cpus (sym is.opened))
+pub may_be_placed : (s : Layout) (past : List Entry) (f : Effect) (queues : List QueueShape) → IsEffect s past f → Limits s → IsLegal s past → queues ≡ s.queues → IsPlacedIf (length queues) f.ended × IsPlacedIf (length queues) f.opened
+may_be_placed s past f queues is limits before those = rw those (ended_placed s past f.entry f.ended before limits.cpus.1 (sym is.ended), opened_placed s past f.entry f.opened is.legal limits.cpus.1 (sym is.opened))
 
 -- ---- flights and tickets
 

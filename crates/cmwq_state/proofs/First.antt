@@ -1,25 +1,26 @@
 -- The parts of a new book are those of no entries.
-use Rattle.cmwq_state.specs.Common.{◌≡◌, ℕ, Bool, ◌*◌, ◌≤◌, true, false, List, [], length, replicate, refl, sym, ◌∙◌, arith, None, subst, get_or-replicate, length-replicate, Ticket, Layout, is_layout, most_room, now, IsLegal, owed, queueings, tickets, is_gone, PoolState, new_pool_state, FlushBook, new_book, BarrierBook, new_barriers, AreFlushes, pools_at_first, flushes_at_first, barriers_at_first, no_timers_at_first, active_count, TimerRows, no_tickets_at_first, Flight, no_flight, no_flights_at_first, PwqState, new_pwq_state, place_of, place_inside}
-use Rattle.cmwq_theory_laws.proofs.WithinRoom.{steps_within_room}
-use Rattle.cmwq_state.specs.Tables.{pool_place, no_pool, no_book, who_place}
+use Rattle.cmwq_state.specs.Common.{◌≡◌, ℕ, Bool, ◌*◌, ◌≤◌, true, false, List, [], length, replicate, refl, sym, ◌∙◌, arith, None, subst, get_or-replicate, length-replicate, Layout, is_layout, most_room, now, IsLegal, owed, queueings, tickets, is_gone, PoolState, new_pool_state, FlushBook, new_book, BarrierBook, new_barriers, AreFlushes, pools_at_first, flushes_at_first, barriers_at_first, no_timers_at_first, active_count, TimerRows, no_tickets_at_first, Flight, no_flight, no_flights_at_first, PwqState, new_pwq_state, place_of, place_inside, most_cpus}
+use Rattle.cmwq_ticket.specs.Rows.{TicketBook, new_tickets}
+use Rattle.cmwq_state.specs.Tables.{pool_place, no_pool, no_book, who_place, who_places}
 use Rattle.cmwq_state.specs.Gone.{AreGone}
 use Rattle.cmwq_state.specs.Pwqs.{ArePwqsOf}
 use Rattle.cmwq_state.proofs.WidthSteps.{first_most, widths_at_first}
 use Rattle.cmwq_state.specs.State.{Parts, AreParts, IsState}
-use Rattle.cmwq_state.proofs.Refine.{IsSmall, pool_place_inside, who_below}
-use Rattle.cmwq_state.proofs.Steps.{small}
+use Rattle.cmwq_model.proofs.Limits.{Limits}
+use Rattle.cmwq_state.proofs.Refine.{pool_place_inside, who_below}
+use Rattle.cmwq_model.proofs.Limits.{limits_of}
 use Rattle.cmwq_theory_steps.proofs.Owing.{nothing_owed}
 
 abbrev pub first_parts : Layout → Parts
 first_parts s = record {
   pools = replicate (2 * s.cpus) (new_pool_state s.items s.workers);
-  books = replicate (length s.queues) (new_book s.callers);
+  books = replicate (length s.queues) (new_book s.callers s.items);
   barriers = new_barriers s.items s.callers;
   timers = replicate s.items None;
   time = 0;
-  serials = replicate 128 0;
+  serials = replicate (who_places s.cpus) 0;
   flights = replicate s.items no_flight;
-  tickets = replicate s.callers [];
+  tickets = new_tickets s.callers s.items (length s.queues);
   gone = replicate (length s.queues) false;
   pwqs = new_pwq_state (length s.queues) (2 * s.items);
   most = first_most s.queues;
@@ -42,27 +43,27 @@ pwqs_at_first : (s : Layout) → ArePwqsOf s [] (new_pwq_state (length s.queues)
 unfolding active_count queueings
 pwqs_at_first s = record {
   room = refl;
-  many = length-replicate (4 * length s.queues) (let n : ℕ = 0 in n);
+  many = length-replicate (most_cpus * length s.queues) (let n : ℕ = 0 in n);
   waiting = refl;
-  counts = λ q c here less. get_or-replicate (4 * length s.queues) (place_of q c) 0 0 (place_inside q c (length s.queues) (4 * length s.queues) here less refl);
+  counts = λ q c here less. get_or-replicate (most_cpus * length s.queues) (place_of q c) 0 0 (place_inside q c (length s.queues) (most_cpus * length s.queues) here less refl);
 }
 
-pub parts_at_first : (s : Layout) → IsSmall s → AreParts s [] (first_parts s)
-parts_at_first s small = record {
+pub parts_at_first : (s : Layout) → Limits s → AreParts s [] (first_parts s)
+parts_at_first s limits = record {
   pools = record {
     many = length-replicate (2 * s.cpus) (new_pool_state s.items s.workers);
     each = λ p here. get_or-replicate (2 * s.cpus) (pool_place p) (new_pool_state s.items s.workers) no_pool (pool_place_inside p s.cpus (2 * s.cpus) refl here) ∙ sym (pools_at_first s p);
   };
   books = record {
-    many = length-replicate (length s.queues) (new_book s.callers);
-    each = λ q here. subst (AreFlushes s [] q) (sym (get_or-replicate (length s.queues) q (new_book s.callers) no_book here)) (flushes_at_first s q);
+    many = length-replicate (length s.queues) (new_book s.callers s.items);
+    each = λ q here. subst (AreFlushes s [] q) (sym (get_or-replicate (length s.queues) q (new_book s.callers s.items) no_book here)) (flushes_at_first s q);
   };
   barriers = sym (barriers_at_first s);
   timers = sym (no_timers_at_first s);
   time = first_time;
   serials = record {
-    many = length-replicate 128 (let n : ℕ = 0 in n);
-    each = λ who there. get_or-replicate 128 (who_place who) 0 0 (who_below s who there small.cpus small.workers small.callers);
+    many = length-replicate (who_places s.cpus) (let n : ℕ = 0 in n);
+    each = λ who there. get_or-replicate (who_places s.cpus) (who_place who) 0 0 (who_below s who there limits.workers.1 limits.callers.1);
   };
   flights = sym (no_flights_at_first s);
   tickets = sym (no_tickets_at_first s);
@@ -78,14 +79,14 @@ book_at_first s room inside few = record {
   inside = inside;
   few = few;
   legal = tt;
-  parts_are = parts_at_first s (small s inside);
+  parts_are = parts_at_first s (limits_of s inside);
   within = omega arith;
   soon = omega arith;
 }
 
 -- so the parts that are made are those of a book
-pub book_made : (s : Layout) (room : ℕ) (pools : List PoolState) (books : List FlushBook) (barriers : BarrierBook) (timers : TimerRows) (serials : List ℕ) (flights : List Flight) (tickets : List (List Ticket)) (gone : List Bool) (pwqs : PwqState) (most : List ℕ) → is_layout s ≡ true → room ≤ most_room →
-    pools ≡ replicate (2 * s.cpus) (new_pool_state s.items s.workers) → books ≡ replicate (length s.queues) (new_book s.callers) → barriers ≡ new_barriers s.items s.callers → timers ≡ replicate s.items None → serials ≡ replicate 128 0 →
-    flights ≡ replicate s.items no_flight → tickets ≡ replicate s.callers [] → gone ≡ replicate (length s.queues) false → pwqs ≡ new_pwq_state (length s.queues) (2 * s.items) → most ≡ first_most s.queues →
+pub book_made : (s : Layout) (room : ℕ) (pools : List PoolState) (books : List FlushBook) (barriers : BarrierBook) (timers : TimerRows) (serials : List ℕ) (flights : List Flight) (tickets : TicketBook) (gone : List Bool) (pwqs : PwqState) (most : List ℕ) → is_layout s ≡ true → room ≤ most_room →
+    pools ≡ replicate (2 * s.cpus) (new_pool_state s.items s.workers) → books ≡ replicate (length s.queues) (new_book s.callers s.items) → barriers ≡ new_barriers s.items s.callers → timers ≡ replicate s.items None → serials ≡ replicate (who_places s.cpus) 0 →
+    flights ≡ replicate s.items no_flight → tickets ≡ new_tickets s.callers s.items (length s.queues) → gone ≡ replicate (length s.queues) false → pwqs ≡ new_pwq_state (length s.queues) (2 * s.items) → most ≡ first_most s.queues →
     IsState s room [] (record { pools = pools; books = books; barriers = barriers; timers = timers; time = 0; serials = serials; flights = flights; tickets = tickets; gone = gone; pwqs = pwqs; most = most; frozen = false; owing = 0 })
 book_made s room pools books barriers timers serials flights tickets gone pwqs most inside few p b r t n g h k l m = rw (p, b, r, t, n, g, h, k, l, m) (book_at_first s room inside few)

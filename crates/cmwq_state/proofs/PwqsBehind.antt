@@ -1,5 +1,5 @@
 -- What waits is behind the width, and what finishes doesn't wait.
-use Rattle.cmwq_state.specs.Common.{◌≡◌, ℕ, ◌+◌, ◌<◌, ◌≤◌, Bool, true, false, not, List, [], ◌∷◌, length, count_by, cond, max, min, Option, Some, None, is_some, refl, sym, ap, ◌∙◌, subst, arith, ⊎_elim, IfSome, option_and_then, list_any, same_Some, not-true, count_by-le-length, Who, Reply, Entry, Queueing, Layout, width, item_of, number_finished, queueings, still_open, opening, queueing_at, has_number, is_active, IsLegal, count_by-cons, queueing_run, ending, is_ended, is_on, open_on, active_count, waits, waiting, run_is_active, In, all_in, found, in_filter, filter_in, open_there, opened_are_there, PwqState, count_of_same_pwq, is_waiting, AreBehind, IsBehind, IsPlacedIf, on_itself, place_inside, ended_by, ends_as_told}
+use Rattle.cmwq_state.specs.Common.{◌≡◌, ℕ, ◌+◌, ◌<◌, ◌≤◌, Bool, true, false, not, List, [], ◌∷◌, length, count_by, cond, max, min, Option, Some, None, is_some, refl, sym, ap, ◌∙◌, subst, arith, ⊎_elim, IfSome, option_and_then, list_any, same_Some, not-true, count_by-le-length, Who, Reply, Entry, Queueing, Layout, width, item_of, number_finished, queueings, still_open, opening, queueing_at, has_number, is_active, IsLegal, count_by-cons, queueing_run, ending, is_ended, is_on, open_on, active_count, waits, waiting, run_is_active, In, all_in, found, in_filter, filter_in, open_there, opened_are_there, PwqState, count_of_same_pwq, is_waiting, AreBehind, IsBehind, IsPlacedIf, on_itself, place_inside, ended_by, ends_as_told, most_cpus}
 use Rattle.cmwq_model.specs.declared.reply.Reply.TheVariants as reply
 use Rattle.cmwq_theory_active.specs.Looks.{keeps_widths}
 use Rattle.cmwq_theory_active.proofs.Widths.{width_same}
@@ -36,14 +36,14 @@ waits_behind s past x there =
     let less = fewer_pass (is_active s past) (open_on past q c) x here (not-true (is_active s past x) k.1) in
     filled s past q c (subst (λ n. n < length (open_on past q c)) (active_counted s past q c) less)
 
-pub all_behind : (s : Layout) (past : List Entry) (e : Entry) (l : PwqState) (wide : ℕ → ℕ) → IsLegal s past → s.cpus ≤ 4 → ArePwqsOf s past l → keeps_widths e.reply ≡ true → ((q : ℕ) → q < length s.queues → wide q ≡ width s (e ∷ past) q) → AreBehind wide l.counts l.waiting
+pub all_behind : (s : Layout) (past : List Entry) (e : Entry) (l : PwqState) (wide : ℕ → ℕ) → IsLegal s past → s.cpus ≤ most_cpus → ArePwqsOf s past l → keeps_widths e.reply ≡ true → ((q : ℕ) → q < length s.queues → wide q ≡ width s (e ∷ past) q) → AreBehind wide l.counts l.waiting
 all_behind s past e l wide legal few pwqs keeps widths = subst (AreBehind wide l.counts) (sym pwqs.waiting) (all_in (IsBehind wide l.counts) (waiting s past) one)
   where
     one : (x : Queueing) → In x (waiting s past) → IsBehind wide l.counts x
     one x there =
         let q = x.place.queue.0 in let c = x.place.cpu.0 in
         let is = open_there s past x legal (in_filter (waits s past) (still_open past) x there).0 in
-        let cpu : c < 4 = let h = is.cpu in omega arith in
+        let cpu : c < most_cpus = let h = is.cpu in omega arith in
         let same : wide q ≡ width s past q = widths q is.queue ∙ width_same s past e q keeps in
         let counted : count_of_same_pwq l.counts x ≡ active_count s past q c = pwqs.counts q c is.queue cpu in
         let behind = waits_behind s past x there in
@@ -79,10 +79,10 @@ finished_waits_not s past e l legal before pwqs h = by (ending past e) refl (num
     by (Some x) is (Some n) finished some =
         ap (list_any (has_number x.number)) pwqs.waiting ∙ (waits_by_number s past x (ended_open s past e x is) ∙ ap not (finished_active s past e n x legal before finished is))
 
-pub ended_placed : (s : Layout) (past : List Entry) (e : Entry) (o : Option Queueing) → IsLegal s past → s.cpus ≤ 4 → ending past e ≡ o → IsPlacedIf (length s.queues) o
+pub ended_placed : (s : Layout) (past : List Entry) (e : Entry) (o : Option Queueing) → IsLegal s past → s.cpus ≤ most_cpus → ending past e ≡ o → IsPlacedIf (length s.queues) o
 ended_placed s past e None before few is = tt
 ended_placed s past e (Some x) before few is = let there = open_there s past x before (ended_open s past e x is) in let h = there.cpu in (there.queue, omega arith)
 
-pub opened_placed : (s : Layout) (past : List Entry) (e : Entry) (o : Option Queueing) → IsLegal s (e ∷ past) → s.cpus ≤ 4 → opening past e ≡ o → IsPlacedIf (length s.queues) o
+pub opened_placed : (s : Layout) (past : List Entry) (e : Entry) (o : Option Queueing) → IsLegal s (e ∷ past) → s.cpus ≤ most_cpus → opening past e ≡ o → IsPlacedIf (length s.queues) o
 opened_placed s past e None legal few is = tt
 opened_placed s past e (Some x) legal few is = let there = opened_are_there s past e x legal is in let h = there.cpu in (there.queue, omega arith)

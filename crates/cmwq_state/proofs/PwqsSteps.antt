@@ -1,5 +1,5 @@
 -- The pool workqueues to which an entry is applied are those of the longer history.
-use Rattle.cmwq_state.specs.Common.{◌≡◌, ℕ, ◌+◌, ◌*◌, ◌-◌, ◌<◌, ◌≤◌, Bool, true, false, not, ◌&&◌, ◌||◌, ◌==◌, append-nil, ⊎_elim, inl, List, [], ◌∷◌, ◌++◌, length, filter, count_by, cond, Option, Some, None, option_to_list, refl, sym, ap, ap₂, ◌∙◌, subst, arith, nat_lt, length-append, AllByRecursion, list_any, slice_set, if◌then◌else◌, eq-eqb, eqb-true, false_from_ne_true, not-true, not-false, same_Some, option_map_or, All-from_recursion, length-filter, count_by-le-length, length-set, Entry, Queueing, Layout, width, still_open, opening, has_number, is_below_max_active, is_active, newly_active, IsLegal, All_map, All_filter, one, is_on, active_count, survives, ending, waits, stay_count, waiting, candidates, has_none, ends_active_on, filter_same, candidates_are, newly_are, waiting_goes_on, number_of_queueing, open_there, In, of_in, all_in, in_right, in_filter, filter_in, PwqState, count_at, count_of_same_pwq, place_of, is_waiting, is_other_waiting, pwqs_without_open, pwqs_after_end, pwqs_after_opening, MayEndInPwqs, MayOpenInPwqs, AreBelowMaxActive, Passes, IsPlaced, ArePlaced, count_set, place_inside, on_itself, on_parts}
+use Rattle.cmwq_state.specs.Common.{◌≡◌, ℕ, ◌+◌, ◌*◌, ◌-◌, ◌<◌, ◌≤◌, Bool, true, false, not, ◌&&◌, ◌||◌, ◌==◌, append-nil, ⊎_elim, inl, List, [], ◌∷◌, ◌++◌, length, filter, count_by, cond, Option, Some, None, option_to_list, refl, sym, ap, ap₂, ◌∙◌, subst, arith, nat_lt, length-append, AllByRecursion, list_any, slice_set, if◌then◌else◌, eq-eqb, eqb-true, false_from_ne_true, not-true, not-false, same_Some, option_map_or, All-from_recursion, length-set, Entry, Queueing, Layout, width, still_open, opening, has_number, is_below_max_active, is_active, newly_active, IsLegal, All_map, All_filter, one, is_on, active_count, survives, ending, waits, stay_count, waiting, candidates, has_none, ends_active_on, filter_same, candidates_are, newly_are, waiting_goes_on, number_of_queueing, open_there, In, of_in, all_in, in_right, in_filter, filter_in, PwqState, count_at, count_of_same_pwq, place_of, is_waiting, is_other_waiting, pwqs_without_open, pwqs_after_end, pwqs_after_opening, MayEndInPwqs, MayOpenInPwqs, AreBelowMaxActive, Passes, IsPlaced, ArePlaced, count_set, place_inside, on_itself, on_parts, most_cpus}
 use Rattle.std.proofs.lemmas.List.Folds.{list_any_none}
 use Rattle.cmwq_theory_steps.proofs.Way.{way_by_picked}
 use Rattle.cmwq_theory_steps.proofs.ActiveCounts.{stays_counted, active_count_goes_on}
@@ -40,16 +40,16 @@ waits_by_number s past x here = by (waits s past x) refl
 
 pub record IsMid (s : Layout) (past : List Entry) (e : Entry) (l : PwqState) : Type 0 where
   pub room : l.room ≡ 2 * s.items
-  pub many : length l.counts ≡ 4 * length s.queues
+  pub many : length l.counts ≡ most_cpus * length s.queues
   pub waiting : l.waiting ≡ filter (survives past e) (waiting s past)
-  pub counts : (q c : ℕ) → q < length s.queues → c < 4 → count_at l.counts q c ≡ stay_count s past e q c
+  pub counts : (q c : ℕ) → q < length s.queues → c < most_cpus → count_at l.counts q c ≡ stay_count s past e q c
 
 -- after what is opened: the candidates
 pub record IsReadyToPass (s : Layout) (past : List Entry) (e : Entry) (l : PwqState) : Type 0 where
   pub room : l.room ≡ 2 * s.items
-  pub many : length l.counts ≡ 4 * length s.queues
+  pub many : length l.counts ≡ most_cpus * length s.queues
   pub waiting : l.waiting ≡ candidates s past e
-  pub counts : (q c : ℕ) → q < length s.queues → c < 4 → count_at l.counts q c ≡ stay_count s past e q c
+  pub counts : (q c : ℕ) → q < length s.queues → c < most_cpus → count_at l.counts q c ≡ stay_count s past e q c
 
 -- after the pass
 pub record ArePassed (s : Layout) (past : List Entry) (e : Entry) (old new : PwqState) (wide : ℕ → ℕ) : Type 0 where
@@ -60,7 +60,7 @@ pub record ArePassed (s : Layout) (past : List Entry) (e : Entry) (old new : Pwq
 among_waiting : (P : Queueing → Type 0) (s : Layout) (past : List Entry) → AllByRecursion P (still_open past) → AllByRecursion P (waiting s past)
 among_waiting P s past h = All_filter P (waits s past) (still_open past) (All_map P _ (still_open past) (λ x k _. k) h)
 
-module _ (s : Layout) (past : List Entry) (e : Entry) (legal : IsLegal s (e ∷ past)) (few : s.cpus ≤ 4) where
+module _ (s : Layout) (past : List Entry) (e : Entry) (legal : IsLegal s (e ∷ past)) (few : s.cpus ≤ most_cpus) where
   stays_none : (q c : ℕ) → ending past e ≡ None → stay_count s past e q c ≡ active_count s past q c
   stays_none q c is =
       let counted = stays_counted s past e legal q c in
@@ -98,7 +98,7 @@ module _ (s : Layout) (past : List Entry) (e : Entry) (legal : IsLegal s (e ∷ 
     counts = λ q c inside less. count_set l.counts x (count_of_same_pwq l.counts x - 1) q c cpu less at ∙ by q c inside less (is_on q c x) refl;
   }
     where
-      cpu : x.place.cpu.0 < 4
+      cpu : x.place.cpu.0 < most_cpus
       cpu = let h = there.cpu in omega arith
 
       at : place_of x.place.queue.0 x.place.cpu.0 < length l.counts
@@ -114,7 +114,7 @@ module _ (s : Layout) (past : List Entry) (e : Entry) (legal : IsLegal s (e ∷ 
           and_true true = refl
           and_true false = refl
 
-      by : (q c : ℕ) → q < length s.queues → c < 4 → (b : Bool) → is_on q c x ≡ b → cond b (count_of_same_pwq l.counts x - 1) (count_at l.counts q c) ≡ stay_count s past e q c
+      by : (q c : ℕ) → q < length s.queues → c < most_cpus → (b : Bool) → is_on q c x ≡ b → cond b (count_of_same_pwq l.counts x - 1) (count_at l.counts q c) ≡ stay_count s past e q c
       by q c inside less true on =
           let p = on_parts q c x on in
           let same : count_of_same_pwq l.counts x ≡ count_at l.counts q c = ap₂ (count_at l.counts) p.0 p.1 in
@@ -140,7 +140,7 @@ module _ (s : Layout) (past : List Entry) (e : Entry) (legal : IsLegal s (e ∷ 
       found : (x : Queueing) → ending past e ≡ Some x → In x (still_open past) → AllByRecursion (λ v. survives past e v ≡ not (v.number == x.number)) (still_open past) → IsMid s past e (pwqs_without_open l x) × MayEndInPwqs (Some x) l
       found x is here survivors =
           let there = open_there s past x before here in
-          let cpu : x.place.cpu.0 < 4 = let h = there.cpu in omega arith in
+          let cpu : x.place.cpu.0 < most_cpus = let h = there.cpu in omega arith in
           let waits_as : is_waiting l x ≡ waits s past x = ap (list_any (has_number x.number)) are.waiting ∙ waits_by_number s past x here in
           let at = place_inside x.place.queue.0 x.place.cpu.0 (length s.queues) (length l.counts) there.queue cpu are.many in
           (by (waits s past x) refl there waits_as, (at, λ fails. positive there cpu (sym waits_as ∙ fails)))
@@ -149,7 +149,7 @@ module _ (s : Layout) (past : List Entry) (e : Entry) (legal : IsLegal s (e ∷ 
           by true stays there waits_as = subst (λ b. IsMid s past e (if b then record l { waiting = filter (is_other_waiting x.number) l.waiting } else record l { counts = slice_set l.counts (place_of x.place.queue.0 x.place.cpu.0) (count_of_same_pwq l.counts x - 1) })) (sym (waits_as ∙ stays)) (ended_waiting l x are is survivors stays)
           by false fails there waits_as = subst (λ b. IsMid s past e (if b then record l { waiting = filter (is_other_waiting x.number) l.waiting } else record l { counts = slice_set l.counts (place_of x.place.queue.0 x.place.cpu.0) (count_of_same_pwq l.counts x - 1) })) (sym (waits_as ∙ fails)) (ended_active l x are is here there survivors fails)
 
-          positive : places.IsQueueingThere s x → x.place.cpu.0 < 4 → waits s past x ≡ false → 0 < count_of_same_pwq l.counts x
+          positive : places.IsQueueingThere s x → x.place.cpu.0 < most_cpus → waits s past x ≡ false → 0 < count_of_same_pwq l.counts x
           positive there cpu fails =
               let active : is_active s past x ≡ true = not-false (is_active s past x) fails in
               let on = on_itself x.place.queue.0 x.place.cpu.0 x refl refl in

@@ -1,8 +1,7 @@
 -- What a book reads off its parts is what the definitions say.
-use Rattle.cmwq_state.specs.Common.{◌≡◌, ℕ, ◌<◌, ◌≤◌, Bool, true, false, not, ◌&&◌, ◌||◌, ◌==◌, List, [], ◌∷◌, length, map, find, cond, Option, Some, None, is_some, refl, sym, ap, ap₂, ◌∙◌, subst, arith, nat_lt, nat_le, option_map_or, option_and_then, option_map, Who, Worker, Entry, Queueing, Booking, Start, Layout, is_at, item_at, booking, run, item_run, unstarted_queueing, queueing_at, queue_of, runs_elsewhere, still_open, is_item_open, is_of, IsLegal, is_draining, queueings, is_live, has_number, unended_tickets, ticket_of, is_ticket, is_crowded, is_held_by, queueing_run, runs_are_queueings, in_standing, standing_fits, timer_row, timer_for, zero, suc, filter, ◌++◌, option_to_list, get_or, IsTrue, ◌↔◌, lt-ltb, le-ltb, get_or_default, FlushBook, draining_while_drains_stand, same_Some, AllByRecursion, count_by-none, none_found, found_known, found_number, runs_are_items, Task, number_of_queueing, task_for, run_task, found, filter_in, open_there, Flight, flight_at, flight_of, flights_of, flights_for_items}
+use Rattle.cmwq_state.specs.Common.{◌≡◌, ℕ, ◌<◌, Bool, true, false, not, ◌||◌, ◌==◌, List, [], ◌∷◌, length, map, find, cond, Option, Some, None, is_some, refl, sym, ap, ap₂, ◌∙◌, subst, nat_le, option_map_or, option_and_then, option_map, Who, Worker, Entry, Queueing, Booking, Start, Layout, is_at, item_at, booking, run, item_run, unstarted_queueing, queueing_at, queue_of, runs_elsewhere, still_open, is_item_open, is_of, IsLegal, queueings, is_live, has_number, unended_tickets, ticket_of, is_ticket, is_crowded, is_held_by, queueing_run, runs_are_queueings, in_standing, standing_fits, timer_row, timer_for, filter, ◌++◌, option_to_list, same_Some, AllByRecursion, count_by-none, none_found, found_known, found_number, runs_are_items, Task, number_of_queueing, task_for, run_task, found, filter_in, open_there, Flight, flight_at, flight_of, flights_of, flights_for_items}
 use Rattle.cmwq_model.specs.declared.id.WorkerId.{WorkerId}
 use Rattle.cmwq_timer.specs.declared.timer.Timer.{Timer}
-use Rattle.cmwq_state.specs.Tables.{AreBooks, book_in, no_book}
 use Rattle.cmwq_refinement.proofs.ItemNumbers.{run_then_unstarted}
 use Rattle.cmwq_refinement.proofs.FlightRefine.{row_of as flight_row}
 use Rattle.cmwq_state.specs.Flights.{run_open}
@@ -104,22 +103,6 @@ slot_runs s past w t legal h = by (run past w) refl h
     by : (o : Option ℕ) → run past w ≡ o → option_map (task_for s) (option_and_then (queueing_at past) (run past w)) ≡ Some t → SlotRuns s past w t
     by None is k = let bad : None ≡ Some t = sym (ap (λ o. option_map (task_for s) (option_and_then (queueing_at past) o)) is) ∙ k in cc
     by (Some n) is k = by_found n is (queueing_at past n) refl (sym (ap (λ o. option_map (task_for s) (option_and_then (queueing_at past) o)) is) ∙ k)
-
--- ---- draining
-
-pub as_test : (b : Bool) (n : ℕ) → IsTrue b ↔ (0 < n) → b ≡ nat_lt 0 n
-as_test true n h = sym (lt-ltb 0 n (h.0 refl))
-as_test false n h = sym (le-ltb 0 n (by n h))
-  where
-    by : (m : ℕ) → IsTrue false ↔ (0 < m) → m ≤ 0
-    by zero k = omega arith
-    by (suc m) k = let bad : false ≡ true = k.1 (omega arith) in cc
-
-pub draining_read : (s : Layout) (past : List Entry) (books : List FlushBook) (q i : ℕ) (v : FlushBook) (r : Bool) → AreBooks s past books → q < length s.queues → i ≡ q → v ≡ get_or books i v → IsTrue r ↔ (0 < length v.drains) → r ≡ is_draining past q
-draining_read s past books q i v r are here at found test =
-    let inside : i < length books = rw (at, are.many) here in
-    let book : v ≡ book_in books q = found ∙ (get_or_default books i v no_book inside ∙ ap (λ j. get_or books j no_book) at) in
-    as_test r (length v.drains) test ∙ (ap (λ (b : FlushBook). nat_lt 0 (length b.drains)) book ∙ sym (draining_while_drains_stand s past q (book_in books q) (are.each q here)))
 
 -- ---- bookings
 

@@ -1,20 +1,21 @@
 -- The parts to which one more entry is applied are those of the longer history.
-use Rattle.cmwq_state.specs.Common.{◌≡◌, ◌≢◌, ℕ, ◌+◌, ◌*◌, ◌<◌, ◌≤◌, Bool, true, false, List, ◌∷◌, length, refl, sym, ap, ◌∙◌, arith, get_or, slice_set, slice_index_or, if◌then◌else◌, get_or-set_other, get_or_default, length-set, PoolId, Who, Caller, Worker, Entry, Layout, same_who, serial_of, PoolState, serials_go_on, same_worker-true, one}
+use Rattle.cmwq_state.specs.Common.{◌≡◌, ◌≢◌, ℕ, ◌+◌, ◌*◌, ◌<◌, ◌≤◌, Bool, true, false, List, ◌∷◌, length, refl, sym, ap, ◌∙◌, arith, get_or, slice_set, slice_index_or, if◌then◌else◌, get_or-set_other, get_or_default, length-set, PoolId, Who, Caller, Worker, Entry, Layout, same_who, serial_of, PoolState, serials_go_on, one, most_callers, most_workers}
 use Rattle.std.proofs.lemmas.Grind.{common_steps, get_or-set_at}
 use Rattle.cmwq_refinement.specs.Pools as pools
-use Rattle.cmwq_state.specs.Tables.{IsThere, who_place, pool_place, no_pool, ArePools, AreSerials}
+use Rattle.cmwq_model.proofs.Limits.{Limits}
+use Rattle.cmwq_state.specs.Tables.{IsThere, who_place, who_places, pool_place, no_pool, ArePools, AreSerials}
 use Rattle.cmwq_theory_laws.proofs.OneEntry.{same_who-true}
 
 -- ---- serials
 
-pub who_below : (s : Layout) (a : Who) → IsThere s a → s.cpus ≤ 4 → s.workers ≤ 8 → s.callers ≤ 64 → who_place a < 128
-who_below s (Caller c) f h k m = omega arith
-who_below s (Worker w) f h k m = by_high w.pool.high where
-  by_high : (b : Bool) → 64 + (w.pool.cpu.0 * 16 + (if b then 8 else 0) + w.index) < 128
+pub who_below : (s : Layout) (a : Who) → IsThere s a → s.workers ≤ most_workers → s.callers ≤ most_callers → who_place a < who_places s.cpus
+who_below s (Caller c) f k m = omega arith
+who_below s (Worker w) f k m = by_high w.pool.high where
+  by_high : (b : Bool) → most_callers + most_workers * (2 * w.pool.cpu.0 + (if b then 1 else 0)) + w.index < who_places s.cpus
   by_high true = omega (arith, f.0, f.1)
   by_high false = omega (arith, f.0, f.1)
 
-other_who : (s : Layout) (a b : Who) → IsThere s a → IsThere s b → s.workers ≤ 8 → s.callers ≤ 64 → same_who a b ≡ false → who_place b ≢ who_place a
+other_who : (s : Layout) (a b : Who) → IsThere s a → IsThere s b → s.workers ≤ most_workers → s.callers ≤ most_callers → same_who a b ≡ false → who_place b ≢ who_place a
 other_who s (Caller c) (Caller d) f g k m h = grind (arith, common_steps, h)
 other_who s (Caller c) (Worker v) f g k m h = grind (arith, common_steps, f)
 other_who s (Worker w) (Caller d) f g k m h = grind (arith, common_steps, g)
@@ -25,22 +26,17 @@ other_who s (Worker w) (Worker v) f g k m h = by_high w.pool.high refl v.pool.hi
   by_high false ha true hb = grind (arith, common_steps, ha, hb, h, f, g)
   by_high false ha false hb = grind (arith, common_steps, ha, hb, h, f, g)
 
-pub record IsSmall (s : Layout) : Type 0 where
-  pub cpus : s.cpus ≤ 4
-  pub workers : s.workers ≤ 8
-  pub callers : s.callers ≤ 64
-
-pub serials_applied : (s : Layout) (e : Entry) (past : List Entry) (serials : List ℕ) → IsSmall s → IsThere s e.who → AreSerials s past serials →
+pub serials_applied : (s : Layout) (e : Entry) (past : List Entry) (serials : List ℕ) → Limits s → IsThere s e.who → AreSerials s past serials →
     AreSerials s (e ∷ past) (slice_set serials (who_place e.who) (serial_of past e.who + 1))
-serials_applied s e past serials small fit are = record { many = length-set serials _ _ ∙ are.many; each = λ who fits. by_who who fits (same_who e.who who) refl } where
+serials_applied s e past serials limits fit are = record { many = length-set serials _ _ ∙ are.many; each = λ who fits. by_who who fits (same_who e.who who) refl } where
   by_who : (who : Who) → IsThere s who → (b : Bool) → same_who e.who who ≡ b → slice_index_or (slice_set serials (who_place e.who) (serial_of past e.who + 1)) (who_place who) 0 ≡ serial_of (e ∷ past) who
   by_who who fits true h = let same : e.who ≡ who = same_who-true e.who who h in
-      let inside : who_place e.who < length serials = let below = who_below s e.who fit small.cpus small.workers small.callers in rw are.many below in
+      let inside : who_place e.who < length serials = let below = who_below s e.who fit limits.workers.1 limits.callers.1 in rw are.many below in
       let more : serial_of (e ∷ past) who ≡ one true + serial_of past who = serials_go_on past e who ∙ ap (λ b. one b + serial_of past who) h in
       get_or-set_at serials (who_place e.who) (who_place who) (serial_of past e.who + 1) 0 (ap who_place (sym same)) inside ∙ (ap (λ x. serial_of past x + 1) same ∙ (let flip : serial_of past who + 1 ≡ 1 + serial_of past who = omega arith in flip ∙ sym more))
   by_who who fits false h =
       let less : serial_of (e ∷ past) who ≡ one false + serial_of past who = serials_go_on past e who ∙ ap (λ b. one b + serial_of past who) h in
-      get_or-set_other serials (who_place e.who) (who_place who) (serial_of past e.who + 1) 0 (other_who s e.who who fit fits small.workers small.callers h) ∙ (are.each who fits ∙ (let flip : serial_of past who ≡ 0 + serial_of past who = omega arith in flip ∙ sym less))
+      get_or-set_other serials (who_place e.who) (who_place who) (serial_of past e.who + 1) 0 (other_who s e.who who fit fits limits.workers.1 limits.callers.1 h) ∙ (are.each who fits ∙ (let flip : serial_of past who ≡ 0 + serial_of past who = omega arith in flip ∙ sym less))
 
 -- ---- the pool that stands at its place
 

@@ -1,21 +1,8 @@
 -- A book, one entry further on.
-use Rattle.cmwq_state.specs.Common.{◌≡◌, ◌≤◌, true, List, [], ◌∷◌, ◌++◌, length, refl, reverse-append, count_by-le-length, and_parts, leb-true, ltb-true, Who, Caller, Worker, Call, Entry, Layout, is_layout, fits, is_by, serial_of, IsLegal, past_of, entry_for, PoolState}
+use Rattle.cmwq_state.specs.Common.{◌≡◌, true, List, ◌∷◌, length, refl, and_parts, ltb-true, Who, Caller, Worker, Call, Entry, Layout, fits, IsLegal, entry_for, PoolState}
 use Rattle.cmwq_refinement.proofs.PoolMay.{replies_apply_to_pools}
 use Rattle.cmwq_state.specs.Tables.{IsThere, ArePools, MayReplyToWorker}
-use Rattle.cmwq_state.proofs.Refine.{IsSmall, pool_place_inside}
-
-pub small : (s : Layout) → is_layout s ≡ true → IsSmall s
-small s h =
-    let counts = (and_parts _ _ h).0 in
-    let a = and_parts _ _ counts in
-    let b = and_parts _ _ a.0 in
-    let c = and_parts _ _ b.0 in
-    let d = and_parts _ _ c.0 in
-    record {
-      cpus = leb-true s.cpus 4 (and_parts _ _ d.0).1;
-      workers = leb-true s.workers 8 (and_parts _ _ d.1).1;
-      callers = leb-true s.callers 64 (and_parts _ _ c.1).1;
-    }
+use Rattle.cmwq_state.proofs.Refine.{pool_place_inside}
 
 pub fits_there : (s : Layout) (who : Who) (c : Call) → fits s who c ≡ true → IsThere s who
 fits_there s (Caller d) c h = ltb-true d.0 s.callers (and_parts _ _ (and_parts _ _ h).0).0

@@ -16,7 +16,7 @@ pub use Rattle.cmwq_inflight.specs.Flights.{Flight, flight_at, no_flight, open_c
 pub use Rattle.cmwq_lemmas.proofs.Filters.{filter_none, filter_same, none_found}
 pub use Rattle.cmwq_lemmas.proofs.Lists.{All_filter, All_map, count_by-cons, count_by-none}
 pub use Rattle.cmwq_lemmas.proofs.Members.{In, all_in, filter_in, found, in_contained, in_filter, in_right, of_in}
-pub use Rattle.cmwq_model.specs.Prelude.{Layout, booking, booking_of, due_in, ends_destroy, entry_for, fits, frozen_after, has_number, has_numbers, has_time, is_active, is_at, is_below_max_active, is_by, is_crowded, is_destroy_of, is_done, is_draining, is_held_by, is_item_open, is_layout, is_live, is_of, is_ticket, is_unstarted, item_at, item_number, item_of, item_run, item_runs, layout_of, most_room, most_time, newly_active, next, no_queue, number_finished, opening, past_of, pool_at, queue_at, queue_of, queueing_at, run, runs_elsewhere, same_pool, same_who, serial_of, sets_max, settles, still_open, ticket_of, tickets, ticks_told, unended_tickets, unstarted_queueing, waits_for, width_set, width_told}
+pub use Rattle.cmwq_model.specs.Prelude.{Layout, booking, booking_of, due_in, ends_destroy, entry_for, fits, frozen_after, has_number, has_numbers, has_time, is_active, is_at, is_below_max_active, is_by, is_crowded, is_destroy_of, is_done, is_draining, is_held_by, is_item_open, is_layout, is_live, is_of, is_ticket, is_unstarted, item_at, item_number, item_of, item_run, item_runs, layout_of, most_callers, most_cpus, most_room, most_time, most_workers, newly_active, next, no_queue, number_finished, opening, past_of, pool_at, queue_at, queue_of, queueing_at, run, runs_elsewhere, same_pool, same_who, serial_of, sets_max, settles, still_open, ticket_of, tickets, ticks_told, unended_tickets, unstarted_queueing, waits_for, width_set, width_told}
 unfoldable pub use Rattle.cmwq_model.specs.Prelude.{IsLegal, is_frozen, is_gone, max_active, now, owed, queueings, width}
 pub use Rattle.cmwq_model.specs.declared.call.Call.{Call}
 pub use Rattle.cmwq_model.specs.declared.entry.Entry.{Entry}
@@ -46,7 +46,7 @@ pub use Rattle.cmwq_refinement.proofs.PlacesFit.{open_are_there, open_there, ope
 pub use Rattle.cmwq_refinement.proofs.PoolNext.{next_task_is, nexts_are_next}
 pub use Rattle.cmwq_refinement.proofs.PoolReads.{idle_retire_alike, runnables_are_runnable, slot_is, slots_are_workers, slots_for_workers, starts_enlist_alike}
 pub use Rattle.cmwq_refinement.proofs.PoolSteps.{pools_at_first, pools_refine}
-pub use Rattle.cmwq_refinement.proofs.TicketsRefine.{cancelling_alike, crowded_alike, destroyed_alike, entries_apply_to_tickets, no_tickets_at_first, rows_for_callers, tickets_found_alike, tickets_of_any_caller, tickets_refine}
+pub use Rattle.cmwq_refinement.proofs.TicketsRefine.{cancelling_alike, crowded_alike, destroyed_alike, draining_alike, entries_apply_to_tickets, no_tickets_at_first, rows_for_callers, tickets_found_alike, tickets_of_any_caller, tickets_refine}
 pub use Rattle.cmwq_refinement.proofs.TimerSteps.{no_timers_at_first, row_at, rows_for_items}
 pub use Rattle.cmwq_refinement.specs.BarrierBooks.{MayBeDoneInBarriers, MayBeginInBarriers, MayEndInBarriers, MayOpenInBarriers, barriers_after_begun, barriers_after_done, barriers_after_end, barriers_after_opening, barriers_of, wait_by, wait_for}
 pub use Rattle.cmwq_refinement.specs.ByNumber.{number_of_queueing, ticket_given}
@@ -68,5 +68,5 @@ pub use Rattle.cmwq_theory_steps.specs.Places.{is_on, open_on}
 unfoldable pub use Rattle.cmwq_theory_steps.specs.Places.{active_count}
 pub use Rattle.cmwq_theory_steps.specs.TicketSteps.{ticket_asked, ticket_ended}
 pub use Rattle.cmwq_theory_steps.specs.Waiting.{candidates, ends_active_on, has_none, waiting}
-pub use Rattle.cmwq_ticket.specs.Rows.{any_cancels, any_destroys, any_ticket}
+pub use Rattle.cmwq_ticket.specs.Rows.{any_cancels, any_destroys, any_drains, any_ticket}
 pub use Rattle.cmwq_timer.specs.Rows.{IsFirstToFire, NoneMayFire, TimerRows, any_timer_on, timer_of}

@@ -1,6 +1,7 @@
 -- What the parts of a state are of the past.
 use Rattle.std.specs.Prelude.{◌≡◌, ◌+◌, ◌≤◌}
-use Rattle.cmwq_state.specs.Common.{ℕ, true, Bool, List, length, Entry, Ticket, Layout, is_layout, most_room, now, IsLegal, past_of, owed, most_time, PoolState, FlushBook, BarrierBook, TimerRows, barriers_of, timers_of, PwqState, Flight, flights_of}
+use Rattle.cmwq_state.specs.Common.{ℕ, true, Bool, List, length, Entry, Layout, is_layout, most_room, now, IsLegal, past_of, owed, most_time, PoolState, FlushBook, BarrierBook, TimerRows, barriers_of, timers_of, PwqState, Flight, flights_of}
+use Rattle.cmwq_ticket.specs.Rows.{TicketBook}
 use Rattle.cmwq_refinement.specs.Tickets.{tickets_of}
 use Rattle.cmwq_state.specs.Gone.{AreGone}
 use Rattle.cmwq_state.specs.Pwqs.{ArePwqsOf}
@@ -16,7 +17,7 @@ pub record Parts : Type 0 where
   pub time : ℕ
   pub serials : List ℕ
   pub flights : List Flight
-  pub tickets : List (List Ticket)
+  pub tickets : TicketBook
   pub gone : List Bool
   pub pwqs : PwqState
   pub most : List ℕ

@@ -1,6 +1,6 @@
 -- The tables of a book: where each pool, each flush book and each serial stands, and what may be applied to them.
 use Rattle.std.specs.Prelude.{◌≡◌, ◌+◌, ◌*◌, ◌<◌, if◌then◌else◌}
-use Rattle.cmwq_state.specs.Common.{ℕ, List, [], length, filter, Option, Some, None, slice_index_or, Contains, IsTrue, All, PoolId, Who, Caller, Worker, Reply, Entry, Queueing, QueueShape, Ticket, Call, Layout, pool_at, serial_of, same_pool, PoolState, pool_without_task, pool_with_task, may_add, FlushBook, new_book, flush_tickets, IsReady, CanOpen, CanBegin, CanDrain, pool_of, task_for, MayReplyInPool, AreFlushes, is_in}
+use Rattle.cmwq_state.specs.Common.{ℕ, List, [], length, filter, Option, Some, None, slice_index_or, Contains, IsTrue, All, PoolId, Who, Caller, Worker, Reply, Entry, Queueing, QueueShape, Ticket, Call, Layout, most_callers, most_workers, pool_at, serial_of, same_pool, PoolState, pool_without_task, pool_with_task, may_add, FlushBook, new_book, flush_tickets, IsReady, CanOpen, CanBegin, CanDrain, pool_of, task_for, MayReplyInPool, AreFlushes, is_in}
 use Rattle.cmwq_model.specs.declared.call.Call.TheVariants as call
 
 -- the who is inside the layout
@@ -17,9 +17,13 @@ no_pool = record { items = 0; listed = []; slots = [] }
 abbrev pub pool_in : List PoolState → PoolId → PoolState
 pool_in pools p = slice_index_or pools (pool_place p) no_pool
 
+-- the serials of callers stand first, then those of each pool's workers, with room for as many of each as a shape may have
 abbrev pub who_place : Who → ℕ
 who_place (Caller c) = c.0
-who_place (Worker w) = 64 + (w.pool.cpu.0 * 16 + (if w.pool.high then 8 else 0) + w.index)
+who_place (Worker w) = most_callers + most_workers * pool_place w.pool + w.index
+
+abbrev pub who_places : ℕ → ℕ
+who_places cpus = most_callers + most_workers * (2 * cpus)
 
 -- each pool is what `after` makes of the one that stood at its place
 pub record EachPool (after : PoolId → PoolState → PoolState) (old new : List PoolState) : Type 0 where
@@ -37,7 +41,7 @@ pub record ArePools (s : Layout) (past : List Entry) (pools : List PoolState) : 
 
 -- each queue's flush book is that of the past
 abbrev pub no_book : FlushBook
-no_book = new_book 0
+no_book = new_book 0 0
 
 abbrev pub book_in : List FlushBook → ℕ → FlushBook
 book_in books q = slice_index_or books q no_book
@@ -52,7 +56,7 @@ pub record AreBooks (s : Layout) (past : List Entry) (books : List FlushBook) : 
   pub each : (q : ℕ) → q < length s.queues → AreFlushes s past q (book_in books q)
 
 pub record AreSerials (s : Layout) (past : List Entry) (serials : List ℕ) : Type 0 where
-  pub many : length serials ≡ 128
+  pub many : length serials ≡ who_places s.cpus
   pub each : (who : Who) → IsThere s who → slice_index_or serials (who_place who) 0 ≡ serial_of past who
 
 -- what each call of a pool that a reply applies requires

@@ -1,13 +1,15 @@
 //! The parts of a new state.
 
-ghost use Rattle.std.specs.Prelude.{◌≡◌, ◌*◌, ◌<◌, ◌≤◌, [], None, false, IfOk, IsTrue, length, map, replicate, vec_capacity};
-ghost use Rattle.cmwq_model.specs.Prelude.{is_between, most_items};
+ghost use Rattle.std.specs.Prelude.{◌≡◌, ◌*◌, ◌<◌, ◌≤◌, None, false, IfOk, length, map, replicate, vec_capacity};
 ghost use Rattle.cmwq_pool.specs.PoolState.{new_pool_state};
 ghost use Rattle.cmwq_flush.specs.FlushBook.{new_book};
 ghost use Rattle.cmwq_flush.specs.BarrierBook.{new_barriers};
+ghost use Rattle.cmwq_ticket.specs.Rows.{new_tickets};
 ghost use Rattle.cmwq_inflight.specs.Flights.{no_flight};
 ghost use Rattle.cmwq_pwq.specs.Pwqs.{new_pwq_state};
+ghost use Rattle.cmwq_state.specs.Tables.{who_places};
 
+use crate::tables::who_places;
 use cmwq_flush::{Barriers, Flushes};
 use cmwq_inflight::Flights;
 use cmwq_model::{Counts, NoMemory, QueueShape};
@@ -45,14 +47,12 @@ pub(crate) struct QueueParts {
 
 /// What is kept of callers, workers and items before the first entry.
 pub(crate) fn new_item_parts(alloc: Global, counts: Counts) -> Result<ItemParts, NoMemory>
-    requires items { IsTrue (is_between 1 most_items counts.items) }
-    requires workers { IsTrue (is_between 1 8 counts.workers) }
-    ensures serials { IfOk result (λ parts. parts.serials.items ≡ replicate 128 0) }
+    ensures serials { IfOk result (λ parts. parts.serials.items ≡ replicate (who_places counts.cpus) 0) }
     ensures pools { IfOk result (λ parts. parts.pools.items ≡ replicate (2 * counts.cpus) (new_pool_state counts.items counts.workers)) }
     ensures timers { IfOk result (λ parts. parts.timers ≡ replicate counts.items None) }
     ensures flights { IfOk result (λ parts. parts.flights ≡ replicate counts.items no_flight) }
 {
-    let serials = vec![in alloc; 0; 128]?;
+    let serials = vec![in alloc; 0; who_places(counts.cpus)]?;
     let pools = new_pools(alloc, counts.cpus, counts.items, counts.workers)?;
     let timers = Timers::new(alloc, counts.items)?;
     let flights = Flights::new(alloc, counts.items)?;
@@ -70,13 +70,13 @@ pub(crate) fn new_flush_parts(
     counts: Counts,
     queues: usize,
 ) -> Result<FlushParts, NoMemory>
-    ensures books { IfOk result (λ parts. parts.books.items ≡ replicate queues (new_book counts.callers)) }
+    ensures books { IfOk result (λ parts. parts.books.items ≡ replicate queues (new_book counts.callers counts.items)) }
     ensures barriers { IfOk result (λ parts. parts.barriers ≡ new_barriers counts.items counts.callers) }
-    ensures tickets { IfOk result (λ parts. parts.tickets ≡ replicate counts.callers []) }
+    ensures tickets { IfOk result (λ parts. parts.tickets ≡ new_tickets counts.callers counts.items queues) }
 {
-    let books = new_books(alloc, queues, counts.callers)?;
+    let books = new_books(alloc, queues, counts.callers, counts.items)?;
     let barriers = Barriers::new(alloc, counts.items, counts.callers)?;
-    let tickets = Tickets::new(alloc, counts.callers)?;
+    let tickets = Tickets::new(alloc, counts.callers, counts.items, queues)?;
     Ok(FlushParts {
         books,
         barriers,
@@ -88,9 +88,9 @@ pub(crate) fn new_flush_parts(
 pub(crate) fn new_queue_parts(
     alloc: Global,
     queues: &[QueueShape],
-    room: u16,
+    room: u32,
 ) -> Result<QueueParts, NoMemory>
-    requires { length queues.now < 256 }
+    requires { length queues.now ≤ 256 }
     ensures queues { IfOk result (λ parts. parts.queues.items ≡ queues.now) }
     ensures gone { IfOk result (λ parts. parts.gone.items ≡ replicate (length queues.now) false) }
     ensures pwqs { IfOk result (λ parts. parts.pwqs ≡ new_pwq_state (length queues.now) room) }
@@ -109,8 +109,6 @@ pub(crate) fn new_queue_parts(
 
 /// Two new pools for each CPU.
 fn new_pools(alloc: Global, cpus: u8, items: u16, workers: u8) -> Result<Vec<Pool>, NoMemory>
-    requires items { IsTrue (is_between 1 most_items items) }
-    requires workers { IsTrue (is_between 1 8 workers) }
     ensures { IfOk result (λ pools. pools.items ≡ replicate (2 * cpus) (new_pool_state items workers)) }
 {
     let many = 2 * usize::from(cpus);
@@ -122,12 +120,17 @@ fn new_pools(alloc: Global, cpus: u8, items: u16, workers: u8) -> Result<Vec<Poo
 }
 
 /// A new flush book for each queue.
-fn new_books(alloc: Global, queues: usize, callers: u8) -> Result<Vec<Flushes>, NoMemory>
-    ensures { IfOk result (λ books. books.items ≡ replicate queues (new_book callers)) }
+fn new_books(
+    alloc: Global,
+    queues: usize,
+    callers: u8,
+    items: u16,
+) -> Result<Vec<Flushes>, NoMemory>
+    ensures { IfOk result (λ books. books.items ≡ replicate queues (new_book callers items)) }
 {
     let mut books = Vec::with_capacity(alloc, queues)?;
     for index in 0..queues {
-        books.push_reserved(Flushes::new(alloc, callers)?);
+        books.push_reserved(Flushes::new(alloc, callers, items)?);
     }
     Ok(books)
 }

@@ -7,7 +7,6 @@ ghost use Rattle.cmwq_state.specs.Tables as tables;
 ghost use Rattle.cmwq_state.specs.Effects.{IsEffect};
 ghost use Rattle.cmwq_state.specs.History.{past_in, with_entry};
 
-mod first_due;
 mod reads;
 mod waits;
 mod workers;
@@ -94,7 +93,7 @@ impl State {
         let entries = Trail::new();
         let of_items = new_item_parts(alloc, counts)?;
         let of_flushes = new_flush_parts(alloc, counts, queues.len())?;
-        let of_queues = new_queue_parts(alloc, queues, 2 * counts.items)?;
+        let of_queues = new_queue_parts(alloc, queues, 2 * (counts.items as u32))?;
         Ok(State {
             counts,
             queues: of_queues.queues,

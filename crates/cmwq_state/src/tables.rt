@@ -5,7 +5,7 @@ ghost use Rattle.cmwq_model.specs.declared.call.Call.{Call};
 ghost use Rattle.cmwq_model.specs.declared.id.Who.{Who};
 ghost use Rattle.cmwq_model.specs.declared.id.PoolId.{PoolId};
 ghost use Rattle.cmwq_model.specs.declared.entry.Entry.{Entry};
-ghost use Rattle.cmwq_model.specs.Prelude.{Layout, fits, pool_at, finishes, frozen_after, item_number, number_finished};
+ghost use Rattle.cmwq_model.specs.Prelude.{Layout, fits, most_cpus, pool_at, finishes, frozen_after, item_number, number_finished};
 ghost use Rattle.cmwq_refinement.specs.Pools.{MayAllBeAdded, MayReplyInPool, pool_after_activation, pool_after_cancel, pool_after_reply, pool_after_worker};
 ghost use Rattle.cmwq_refinement.specs.FlushBooks.{flushes_after_begun, flushes_after_done, flushes_after_end, flushes_after_opening};
 ghost use Rattle.cmwq_refinement.specs.BarrierBooks.{MayBeDoneInBarriers, MayBeginInBarriers, MayEndInBarriers, MayOpenInBarriers, barriers_after_begun, barriers_after_done, barriers_after_end, barriers_after_opening};
@@ -22,7 +22,8 @@ ghost use Rattle.cmwq_theory_active.specs.Looks.{keeps_widths};
 use cmwq_flush::{Barriers, Flushes};
 use cmwq_inflight::Flights;
 use cmwq_model::{
-    Booking, Call, ItemId, Number, Place, PoolId, QueueShape, Queueing, Reply, Ticket, Who,
+    Booking, Call, ItemId, MOST_CALLERS, MOST_WORKERS, Number, Place, PoolId, QueueShape, Queueing,
+    Reply, Ticket, Who,
 };
 use cmwq_pool::Pool;
 use cmwq_pwq::Pwqs;
@@ -46,11 +47,18 @@ pub(crate) fn who_place(who: Who) -> usize
     match who {
         Who::Caller(caller) => usize::from(caller.0),
         Who::Worker(worker) => {
-            64 + (usize::from(worker.pool.cpu.0) * 16
-                + if worker.pool.high { 8 } else { 0 }
-                + usize::from(worker.index))
+            usize::from(MOST_CALLERS)
+                + usize::from(MOST_WORKERS) * pool_place(worker.pool)
+                + usize::from(worker.index)
         }
     }
+}
+
+/// How many serials are kept for so many CPUs.
+pub(crate) fn who_places(cpus: u8) -> usize
+    ensures { result ≡ tables.who_places cpus }
+{
+    usize::from(MOST_CALLERS) + usize::from(MOST_WORKERS) * (2 * usize::from(cpus))
 }
 
 /// Applies a reply to the pool of its worker.
@@ -317,7 +325,7 @@ pub(crate) fn move_pwqs(
     opened: Option<Queueing>,
 )
     requires most { length most.now ≡ length queues.now }
-    requires counts { length pwqs.old.counts ≡ 4 * length queues.now }
+    requires counts { length pwqs.old.counts ≡ most_cpus * length queues.now }
     requires ended { MayEndInPwqs ended pwqs.old }
     requires ended_placed { IsPlacedIf (length queues.now) ended }
     requires ran { is_some (number_finished reply) ≡ true → IfSome ended (λ x. is_waiting pwqs.old x ≡ false) }

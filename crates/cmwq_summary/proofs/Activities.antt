@@ -1,4 +1,5 @@
 -- What is kept of a worker goes on with each entry.
+use Rattle.cmwq_model.specs.Prelude.{most_workers}
 use Rattle.std.proofs.Common.{◌≡◌, ◌≢◌, ℕ, ◌+◌, ◌*◌, ◌-◌, ◌<◌, ◌≤◌, Bool, true, false, List, [], ◌∷◌, length, get_or, set, Option, Some, None, refl, sym, ap, ap₂, ◌∙◌, subst, arith, replicate, length-set, get_or-set_other, get_or-set_same}
 use Rattle.std.proofs.lemmas.List.{length-replicate, get_or-replicate}
 use Rattle.std.specs.Prelude.{if◌then◌else◌, ◌&&◌, not, is_some}
@@ -22,7 +23,8 @@ use Rattle.cmwq_summary.specs.declared.activity.Activity.{Activity}
 use Rattle.cmwq_summary.specs.declared.activity.TheConstants.{IDLE}
 use Rattle.cmwq_summary.specs.Activities.{AreActivities, IsActivity, IsUpTo, MayAct, acted, acted_by, activity_in, asleep_until, awake_until, begun, behind, doing_after, is_running, is_sleeping}
 use Rattle.cmwq_state.specs.Tables.{IsThere}
-use Rattle.cmwq_state.proofs.Steps.{small, fits_there}
+use Rattle.cmwq_model.proofs.Limits.{limits_of}
+use Rattle.cmwq_state.proofs.Steps.{fits_there}
 use Rattle.cmwq_summary.specs.declared.told.Told.{Told}
 use Rattle.cmwq_summary.specs.Summed.{IsNext}
 use Rattle.cmwq_summary.specs.Figures.{worker_number}
@@ -189,13 +191,13 @@ by_itself s past e w a legal who is =
 worker_of : ℕ → Bool → ℕ → WorkerId
 worker_of cpu high index = record { pool = record { cpu = record { 0 = cpu }; high = high }; index = index }
 
-same_numbers : (a b : Bool) (c d x y : ℕ) → x < 8 → y < 8 → 16 * c + (if a then 8 else 0) + x ≡ 16 * d + (if b then 8 else 0) + y → (c ≡ d) × (a ≡ b) × (x ≡ y)
+same_numbers : (a b : Bool) (c d x y : ℕ) → x < most_workers → y < most_workers → 2 * most_workers * c + (if a then most_workers else 0) + x ≡ 2 * most_workers * d + (if b then most_workers else 0) + y → (c ≡ d) × (a ≡ b) × (x ≡ y)
 same_numbers true true c d x y small less h = (omega arith, refl, omega arith)
 same_numbers true false c d x y small less h = absurd (let never : ⊥ = omega arith in never)
 same_numbers false true c d x y small less h = absurd (let never : ⊥ = omega arith in never)
 same_numbers false false c d x y small less h = (omega arith, refl, omega arith)
 
-apart : (v w : WorkerId) → v.index < 8 → w.index < 8 → same_worker v w ≡ false → worker_number w ≢ worker_number v
+apart : (v w : WorkerId) → v.index < most_workers → w.index < most_workers → same_worker v w ≡ false → worker_number w ≢ worker_number v
 unfolding worker_of
 apart v w small less other same =
     let are = same_numbers w.pool.high v.pool.high w.pool.cpu.0 v.pool.cpu.0 w.index v.index less small same in
@@ -204,23 +206,23 @@ apart v w small less other same =
     let never : true ≡ false = sym yes ∙ other in
     cc
 
-pub number_inside : (w : WorkerId) (cpus : ℕ) → w.pool.cpu.0 < cpus → w.index < 8 → worker_number w < 16 * cpus
+pub number_inside : (w : WorkerId) (cpus : ℕ) → w.pool.cpu.0 < cpus → w.index < most_workers → worker_number w < 2 * most_workers * cpus
 number_inside w cpus here small = by w.pool.high
   where
-    by : (b : Bool) → 16 * w.pool.cpu.0 + (if b then 8 else 0) + w.index < 16 * cpus
+    by : (b : Bool) → 2 * most_workers * w.pool.cpu.0 + (if b then most_workers else 0) + w.index < 2 * most_workers * cpus
     by true = omega arith
     by false = omega arith
 
 -- ---- the table
 
-pub idle_all : (cpus : ℕ) → AreActivities cpus [] (replicate (16 * cpus) IDLE)
+pub idle_all : (cpus : ℕ) → AreActivities cpus [] (replicate (2 * most_workers * cpus) IDLE)
 idle_all cpus = record {
-  many_are = length-replicate (16 * cpus) IDLE;
-  each = λ w here small. subst (IsActivity [] w) (sym (get_or-replicate (16 * cpus) (worker_number w) IDLE IDLE (number_inside w cpus here small))) (idle_at_first w);
+  many_are = length-replicate (2 * most_workers * cpus) IDLE;
+  each = λ w here small. subst (IsActivity [] w) (sym (get_or-replicate (2 * most_workers * cpus) (worker_number w) IDLE IDLE (number_inside w cpus here small))) (idle_at_first w);
 }
 
 module _ (s : Layout) (past : List Entry) (e : Entry) (legal : IsLegal s (e ∷ past)) (old : List Activity) (are : AreActivities s.cpus past old) where
-  still : (w : WorkerId) → w.pool.cpu.0 < s.cpus → w.index < 8 → is_by (Worker w) e ≡ false → IsActivity (e ∷ past) w (activity_in old w)
+  still : (w : WorkerId) → w.pool.cpu.0 < s.cpus → w.index < most_workers → is_by (Worker w) e ≡ false → IsActivity (e ∷ past) w (activity_in old w)
   still w here small other =
       let same = by_other s past e w legal other in
       goes_on past e w (activity_in old w) (are.each w here small) same.0 same.1
@@ -228,7 +230,7 @@ module _ (s : Layout) (past : List Entry) (e : Entry) (legal : IsLegal s (e ∷ 
   pub callers_change_none : (c : Who) → e.who ≡ c → ((w : WorkerId) → same_who c (Worker w) ≡ false) → AreActivities s.cpus (e ∷ past) old
   callers_change_none c who none = record { many_are = are.many_are; each = λ w here small. still w here small (ap (λ (x : Who). same_who x (Worker w)) who ∙ none w) }
 
-  pub workers_change_theirs : (v : WorkerId) → e.who ≡ Worker v → v.pool.cpu.0 < s.cpus → v.index < 8 → length past < 4611686018427387904 → now (e ∷ past) ≤ 4611686018427387904
+  pub workers_change_theirs : (v : WorkerId) → e.who ≡ Worker v → v.pool.cpu.0 < s.cpus → v.index < most_workers → length past < 4611686018427387904 → now (e ∷ past) ≤ 4611686018427387904
       → AreActivities s.cpus (e ∷ past) (set old (worker_number v) (begun (activity_in old v) (behind (e ∷ past)) (doing_after e.reply (activity_in old v).doing)))
   workers_change_theirs v who there tiny few soon = record { many_are = length-set old (worker_number v) _ ∙ are.many_are; each = λ w here small. by w here small (same_worker v w) refl }
     where
@@ -238,7 +240,7 @@ module _ (s : Layout) (past : List Entry) (e : Entry) (legal : IsLegal s (e ∷ 
       inside : worker_number v < length old
       inside = let many = are.many_are in let below = number_inside v s.cpus there tiny in omega arith
 
-      by : (w : WorkerId) → w.pool.cpu.0 < s.cpus → w.index < 8 → (b : Bool) → same_worker v w ≡ b → IsActivity (e ∷ past) w (get_or (set old (worker_number v) after) (worker_number w) IDLE)
+      by : (w : WorkerId) → w.pool.cpu.0 < s.cpus → w.index < most_workers → (b : Bool) → same_worker v w ≡ b → IsActivity (e ∷ past) w (get_or (set old (worker_number v) after) (worker_number w) IDLE)
       by w here small true same =
           let is : v ≡ w = same_worker-true v w same in
           let own = by_itself s past e v (activity_in old v) legal who (are.each v there tiny) in
@@ -256,7 +258,7 @@ acted_are s past t old next are = by t.entry.who refl (fits_there s t.entry.who 
     by : (who : Who) → t.entry.who ≡ who → IsThere s who → AreActivities s.cpus (t.entry ∷ past) (acted_by who old t.entry.reply (behind (t.entry ∷ past)))
     by (Caller c) who there = callers_change_none s past t.entry next.legal old are (Caller c) who (λ w. refl)
     by (Worker v) who there =
-        let least = (small s next.inside).workers in
+        let least = (limits_of s next.inside).workers.1 in
         workers_change_theirs s past t.entry next.legal old are v who there.0 (let less : v.index < s.workers = there.1 in omega arith) next.few next.soon
 
 pub may_act : (s : Layout) (past : List Entry) (t : Told) (old : List Activity) → IsNext s past t → AreActivities s.cpus past old → MayAct t.entry.who old (behind (t.entry ∷ past))
@@ -266,8 +268,8 @@ may_act s past t old next are = by t.entry.who (fits_there s t.entry.who t.entry
     by : (who : Who) → IsThere s who → MayAct who old (behind (t.entry ∷ past))
     by (Caller c) there = tt
     by (Worker v) there =
-        let least = (small s next.inside).workers in
-        let less : v.index < 8 = let few : v.index < s.workers = there.1 in omega arith in
+        let least = (limits_of s next.inside).workers.1 in
+        let less : v.index < most_workers = let few : v.index < s.workers = there.1 in omega arith in
         up_to past t.entry v (activity_in old v) (are.each v there.0 less) next.few next.soon
 
 -- ---- what is read of one worker

@@ -5,3 +5,5 @@ pub mod Since
 pub mod Extents
 pub mod Waits
 pub mod TicketTimes
+pub mod ActiveRises
+pub mod Greatest

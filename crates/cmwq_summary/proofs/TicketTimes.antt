@@ -10,7 +10,7 @@ use Rattle.cmwq_model.specs.declared.entry.Entry.{Entry}
 use Rattle.cmwq_model.specs.declared.record.Ticket.{Ticket}
 use Rattle.cmwq_model.specs.Prelude.{Layout, is_layout, now, is_held_by, ticket_in, unended_tickets, IsLegal}
 use Rattle.cmwq_lemmas.proofs.Members.{In, of_in, in_filter, option_in, found}
-use Rattle.cmwq_ticket.specs.Rows.{TicketRows, is_numbered, is_other_ticket, is_row_crowded, tickets_of_caller, comes_before}
+use Rattle.cmwq_ticket.specs.Rows.{TicketBook, TicketRows, is_numbered, is_other_ticket, is_row_crowded, tickets_of_caller, comes_before}
 use Rattle.cmwq_ticket.specs.Counts.{is_counted}
 use Rattle.std.specs.List.{AllByRecursion, list_all, range_with_len}
 use Rattle.cmwq_theory_steps.specs.TicketSteps.{is_ended_by, ticket_ended}
@@ -87,16 +87,16 @@ module _ (past : List Entry) where
   row_map : (rows : TicketRows) (c : ℕ) → givings_to (map (map (giving_of past)) rows) c ≡ map (giving_of past) (tickets_of_caller rows c)
   row_map rows c = get_or-map (map (giving_of past)) rows c []
 
-  after_end : (o : Option Ticket) (rows : TicketRows) → map (map (giving_of past)) (tickets_after_end o rows) ≡ without_giving (map (map (giving_of past)) rows) o
-  after_end None rows = refl
-  after_end (Some t) rows = map-set (map (giving_of past)) rows t.caller.0 (filter (is_other_ticket t.number) (tickets_of_caller rows t.caller.0))
-      ∙ ap (set (map (map (giving_of past)) rows) t.caller.0) (sym (ap (filter (is_other_giving t.number)) (row_map rows t.caller.0) ∙ kept_map t.number (tickets_of_caller rows t.caller.0)))
+  after_end : (o : Option Ticket) (b : TicketBook) → map (map (giving_of past)) (tickets_after_end o b).rows ≡ without_giving (map (map (giving_of past)) b.rows) o
+  after_end None b = refl
+  after_end (Some t) b = map-set (map (giving_of past)) b.rows t.caller.0 (filter (is_other_ticket t.number) (tickets_of_caller b.rows t.caller.0))
+      ∙ ap (set (map (map (giving_of past)) b.rows) t.caller.0) (sym (ap (filter (is_other_giving t.number)) (row_map b.rows t.caller.0) ∙ kept_map t.number (tickets_of_caller b.rows t.caller.0)))
 
-  after_giving : (o : Option Ticket) (rows : TicketRows) (g : Giving) → ((t : Ticket) → o ≡ Some t → giving_of past t ≡ g) → map (map (giving_of past)) (tickets_after_giving o rows) ≡ with_giving (map (map (giving_of past)) rows) (option_map caller_number o) g
-  after_giving None rows g is = refl
-  after_giving (Some t) rows g is = map-set (map (giving_of past)) rows t.caller.0 (tickets_of_caller rows t.caller.0 ++ t ∷ [])
-      ∙ ap (set (map (map (giving_of past)) rows) t.caller.0) (map-append (giving_of past) (tickets_of_caller rows t.caller.0) (t ∷ [])
-      ∙ ap₂ (λ (gs : List Giving) (x : Giving). gs ++ x ∷ []) (sym (row_map rows t.caller.0)) (is t refl))
+  after_giving : (o : Option Ticket) (b : TicketBook) (g : Giving) → ((t : Ticket) → o ≡ Some t → giving_of past t ≡ g) → map (map (giving_of past)) (tickets_after_giving o b).rows ≡ with_giving (map (map (giving_of past)) b.rows) (option_map caller_number o) g
+  after_giving None b g is = refl
+  after_giving (Some t) b g is = map-set (map (giving_of past)) b.rows t.caller.0 (tickets_of_caller b.rows t.caller.0 ++ t ∷ [])
+      ∙ ap (set (map (map (giving_of past)) b.rows) t.caller.0) (map-append (giving_of past) (tickets_of_caller b.rows t.caller.0) (t ∷ [])
+      ∙ ap₂ (λ (gs : List Giving) (x : Giving). gs ++ x ∷ []) (sym (row_map b.rows t.caller.0)) (is t refl))
 
   first_map : (p : Ticket → Bool) (ts : List Ticket) → slice_get (map (giving_of past) (filter p ts)) 0 ≡ option_map (giving_of past) (find p ts)
   first_map p [] = refl
@@ -114,7 +114,7 @@ empty_rows past zero = refl
 empty_rows past (suc n) = ap (λ (rows : GivingRows). [] ∷ rows) (empty_rows past n)
 
 pub none_given : (s : Layout) → givings_of s [] ≡ replicate s.callers []
-none_given s = ap (map (map (giving_of []))) (no_tickets_at_first s) ∙ empty_rows [] s.callers
+none_given s = ap (λ (b : TicketBook). map (map (giving_of [])) b.rows) (no_tickets_at_first s) ∙ empty_rows [] s.callers
 
 module _ (s : Layout) (past : List Entry) (e : Entry) (legal : IsLegal s (e ∷ past)) where
   given_now : (t : Ticket) → ticket_in e (length past) ≡ Some t → giving_of (e ∷ past) t ≡ giving_at (length past) (behind (e ∷ past))
@@ -124,11 +124,11 @@ module _ (s : Layout) (past : List Entry) (e : Entry) (legal : IsLegal s (e ∷ 
 
   pub givings_go_on : with_giving (without_giving (givings_of s past) (ticket_ended past e)) (option_map caller_number (ticket_in e (length past))) (giving_at (length past) (behind (e ∷ past))) ≡ givings_of s (e ∷ past)
   givings_go_on =
-      let rows = tickets_of s past in
-      let same : map (map (giving_of (e ∷ past))) rows ≡ givings_of s past = rows_same past e (unended_tickets past) (range_with_len 0 s.callers) (unended_below past) in
-      sym (ap (map (map (giving_of (e ∷ past)))) (sym (tickets_refine s past e legal))
-      ∙ after_giving (e ∷ past) (ticket_given past e) (tickets_after_end (ticket_ended past e) rows) (giving_at (length past) (behind (e ∷ past))) given_now
-      ∙ ap (λ (rs : GivingRows). with_giving rs (option_map caller_number (ticket_in e (length past))) (giving_at (length past) (behind (e ∷ past)))) (after_end (e ∷ past) (ticket_ended past e) rows
+      let book = tickets_of s past in
+      let same : map (map (giving_of (e ∷ past))) book.rows ≡ givings_of s past = rows_same past e (unended_tickets past) (range_with_len 0 s.callers) (unended_below past) in
+      sym (ap (λ (b : TicketBook). map (map (giving_of (e ∷ past))) b.rows) (sym (tickets_refine s past e legal))
+      ∙ after_giving (e ∷ past) (ticket_given past e) (tickets_after_end (ticket_ended past e) book) (giving_at (length past) (behind (e ∷ past))) given_now
+      ∙ ap (λ (rs : GivingRows). with_giving rs (option_map caller_number (ticket_in e (length past))) (giving_at (length past) (behind (e ∷ past)))) (after_end (e ∷ past) (ticket_ended past e) book
       ∙ ap (λ (rs : GivingRows). without_giving rs (ticket_ended past e)) same))
 
   -- a caller has room for what it is given
@@ -136,19 +136,22 @@ module _ (s : Layout) (past : List Entry) (e : Entry) (legal : IsLegal s (e ∷ 
   givings_fit inside = subst (λ (rs : GivingRows). HasRoomForGiving rs (option_map caller_number (ticket_in e (length past)))) (after_end past (ticket_ended past e) (tickets_of s past))
       (by (ticket_given past e) (entries_apply_to_tickets s past e inside legal).given)
     where
+      book : TicketBook
+      book = tickets_after_end (ticket_ended past e) (tickets_of s past)
+
       rows : TicketRows
-      rows = tickets_after_end (ticket_ended past e) (tickets_of s past)
+      rows = book.rows
 
       second : (a b c d : Bool) → (a && not b && c && d) ≡ true → b ≡ false
       second true true c d h = cc
       second false true c d h = cc
       second a false c d h = refl
 
-      by : (o : Option Ticket) → MayGiveTicket o rows → HasRoomForGiving (map (map (giving_of past)) rows) (option_map caller_number o)
+      by : (o : Option Ticket) → MayGiveTicket o book → HasRoomForGiving (map (map (giving_of past)) rows) (option_map caller_number o)
       by None may = tt
       by (Some t) may =
           let row = tickets_of_caller rows t.caller.0 in
-          let free : nat_le 64 (length row) ≡ false = second (nat_lt t.caller.0 (length rows)) (is_row_crowded rows t.caller.0) (list_all (comes_before t) row) (is_counted t.call) may in
+          let free : nat_le 64 (length row) ≡ false = second (nat_lt t.caller.0 (length rows)) (is_row_crowded rows t.caller.0) (list_all (comes_before t) row) (is_counted book.items book.queues t.call) may in
           let few : length row < 64 = grind (arith, nat_tests) in
           let long : length (map (giving_of past) row) ≡ length row = simp length-map in
           subst (λ (gs : List Giving). length gs < 64) (sym (row_map past rows t.caller.0)) (omega arith)
@@ -174,7 +177,7 @@ module _ (s : Layout) (past : List Entry) (e : Entry) (legal : IsLegal s (e ∷ 
       }
         where
           row : List Ticket
-          row = tickets_of_caller (tickets_of s past) t.caller.0
+          row = tickets_of_caller (tickets_of s past).rows t.caller.0
 
           to : Span
           to = behind (e ∷ past)
@@ -187,7 +190,7 @@ module _ (s : Layout) (past : List Entry) (e : Entry) (legal : IsLegal s (e ∷ 
           one (Some u) is some = ap (λ n. stretch (moment_behind past n) to) (eqb-true u.number t.number (found (is_numbered t.number) row u is).1)
 
           waited : waited_till_end (givings_of s past) (Some t) to ≡ stretch (moment_behind past t.number) to
-          waited = ap (λ (gs : List Giving). since_giving (find (is_giving t.number) gs) to) (row_map past (tickets_of s past) t.caller.0)
+          waited = ap (λ (gs : List Giving). since_giving (find (is_giving t.number) gs) to) (row_map past (tickets_of s past).rows t.caller.0)
               ∙ ap (λ (o : Option Giving). since_giving o to) (found_map past t.number row)
               ∙ one (find (is_numbered t.number) row) refl may
 
@@ -200,7 +203,7 @@ pub unended_waits_are : (s : Layout) (past : List Entry) (c : ℕ) (to : Span) �
 unended_waits_are s past c to less now = rw now (ap (λ (m : Span). m.entries) oldest ∙ (waits (oldest_ticket past c) refl).0, ap (λ (m : Span). m.ticks) oldest ∙ (waits (oldest_ticket past c) refl).1)
   where
     oldest : waits_since (givings_of s past) c (behind past) ≡ since_giving (option_map (giving_of past) (oldest_ticket past c)) (behind past)
-    oldest = ap (λ (gs : List Giving). since_giving (slice_get gs 0) (behind past)) (row_map past (tickets_of s past) c ∙ ap (map (giving_of past)) (row_is s.callers (unended_tickets past) c less))
+    oldest = ap (λ (gs : List Giving). since_giving (slice_get gs 0) (behind past)) (row_map past (tickets_of s past).rows c ∙ ap (map (giving_of past)) (row_is s.callers (unended_tickets past) c less))
         ∙ ap (λ (o : Option Giving). since_giving o (behind past)) (first_map past (is_held_by (the_caller c)) (unended_tickets past))
 
     since : (Entry → ℕ) → Option Ticket → ℕ

@@ -1,4 +1,5 @@
 -- What is kept of a worker: what it does, since when, and how long its runs were awake and asleep until then.
+use Rattle.cmwq_model.specs.Prelude.{most_workers}
 use Rattle.std.specs.Prelude.{◌≡◌, ℕ, ◌+◌, ◌*◌, ◌-◌, ◌<◌, ◌≤◌, Bool, true, false, if◌then◌else◌, List, length, slice_index_or, slice_set}
 use Rattle.cmwq_model.specs.declared.id.WorkerId.{WorkerId}
 use Rattle.cmwq_model.specs.declared.id.Who.{Who}
@@ -80,8 +81,8 @@ activity_in activities w = slice_index_or activities (worker_number w) IDLE
 
 -- there is one of each worker on so many CPUs
 pub record AreActivities (cpus : ℕ) (past : List Entry) (activities : List Activity) : Type 0 where
-  pub many_are : length activities ≡ 16 * cpus
-  pub each : (w : WorkerId) → w.pool.cpu.0 < cpus → w.index < 8 → IsActivity past w (activity_in activities w)
+  pub many_are : length activities ≡ 2 * most_workers * cpus
+  pub each : (w : WorkerId) → w.pool.cpu.0 < cpus → w.index < most_workers → IsActivity past w (activity_in activities w)
 
 -- that of the entry's own worker may begin anew
 abbrev pub MayAct : Who → List Activity → Span → Type 0

@@ -1,4 +1,5 @@
 -- The figures of a history, each by the entries that it counts.
+use Rattle.cmwq_model.specs.Prelude.{most_workers}
 use Rattle.std.specs.Prelude.{ℕ, ◌+◌, ◌*◌, if◌then◌else◌, List, length, Option, Some, None, option_map}
 use Rattle.cmwq_model.specs.declared.id.WorkerId.{WorkerId}
 use Rattle.cmwq_model.specs.declared.id.Who.{Who}
@@ -79,10 +80,10 @@ calls_by past c = tally by_calling past c
 abbrev pub tickets_by : List Entry → ℕ → ℕ
 tickets_by past c = tally by_ticket past c
 
--- ---- workers: sixteen numbers a CPU, first those of its normal pool
+-- ---- workers: as many numbers a CPU as its two pools may have workers, first those of its normal pool
 
 abbrev pub worker_number : WorkerId → ℕ
-worker_number w = 16 * w.pool.cpu.0 + (if w.pool.high then 8 else 0) + w.index
+worker_number w = 2 * most_workers * w.pool.cpu.0 + (if w.pool.high then most_workers else 0) + w.index
 
 abbrev pub by_starter : Key
 by_starter past e = option_map (λ (start : Start). worker_number start.worker) (start_in e)
@@ -91,7 +92,7 @@ by_starter past e = option_map (λ (start : Start). worker_number start.worker) 
 abbrev pub starts_by : List Entry → ℕ → ℕ
 starts_by past w = tally by_starter past w
 
--- ---- queues on CPUs: four numbers a queue
+-- ---- queues on CPUs: as many numbers a queue as there may be CPUs
 
 abbrev pub place_number : Queueing → ℕ
 place_number x = place_of x.place.queue.0 x.place.cpu.0

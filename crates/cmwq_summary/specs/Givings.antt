@@ -27,7 +27,7 @@ GivingRows = List (List Giving)
 
 -- they are those of the unended tickets
 abbrev pub givings_of : Layout → List Entry → GivingRows
-givings_of s past = map (map (giving_of past)) (tickets_of s past)
+givings_of s past = map (map (giving_of past)) (tickets_of s past).rows
 
 -- ---- what is done with them
 

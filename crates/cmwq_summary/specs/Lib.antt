@@ -7,6 +7,7 @@ pub mod Activities
 pub mod Since
 pub mod Extents
 pub mod Waits
+pub mod Peaks
 pub mod TicketWaits
 pub mod Givings
 pub mod Summed

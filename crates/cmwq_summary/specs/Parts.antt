@@ -1,4 +1,5 @@
 -- The parts of a summary are those of a past.
+use Rattle.cmwq_model.specs.Prelude.{most_cpus, most_workers}
 use Rattle.std.specs.Prelude.{◌≡◌, ◌≤◌, ◌*◌, ℕ, List, length}
 use Rattle.cmwq_model.specs.declared.entry.Entry.{Entry}
 use Rattle.cmwq_model.specs.Prelude.{Layout, now, past_of, most_time}
@@ -7,6 +8,7 @@ use Rattle.cmwq_summary.specs.declared.items.Items.{Items}
 use Rattle.cmwq_summary.specs.declared.callers.Callers.{Callers}
 use Rattle.cmwq_summary.specs.declared.workers.Workers.{Workers}
 use Rattle.cmwq_summary.specs.declared.places.Places.{Places}
+use Rattle.cmwq_summary.specs.declared.peaks.Peaks.{Peaks}
 use Rattle.cmwq_summary.specs.Tallies.{IsTallyTable}
 use Rattle.cmwq_summary.specs.Activities.{AreActivities}
 use Rattle.cmwq_summary.specs.Spent.{each_entry, each_tick}
@@ -14,6 +16,7 @@ use Rattle.cmwq_summary.specs.Extents.{AreLongest, AreTotals}
 use Rattle.cmwq_summary.specs.TicketWaits.{by_ticket_ended, ended_wait}
 use Rattle.cmwq_summary.specs.Givings.{givings_of}
 use Rattle.cmwq_summary.specs.Waits.{AreOpenings, start_wait}
+use Rattle.cmwq_summary.specs.Peaks.{AreMeasured, open_count_at, most_open_at, most_active_at}
 use Rattle.cmwq_summary.specs.Kinds.{call_kinds, reply_kinds}
 use Rattle.cmwq_summary.specs.Figures.{by_call, by_reply, by_item_started, by_item_cancelled, by_calling, by_ticket, by_starter, by_place_opened, by_place_started, by_place_cancelled}
 
@@ -32,7 +35,7 @@ pub record AreCallers (s : Layout) (past : List Entry) (c : Callers) : Type 0 wh
   pub givings : c.givings ≡ givings_of s past
 
 pub record AreWorkers (cpus : ℕ) (past : List Entry) (w : Workers) : Type 0 where
-  pub runs : IsTallyTable by_starter (16 * cpus) past w.runs
+  pub runs : IsTallyTable by_starter (2 * most_workers * cpus) past w.runs
   pub activities : AreActivities cpus past w.activities.items
 
 pub record ArePlaces (items many : ℕ) (past : List Entry) (p : Places) : Type 0 where
@@ -43,11 +46,17 @@ pub record ArePlaces (items many : ℕ) (past : List Entry) (p : Places) : Type 
   pub longest : AreLongest by_place_started (start_wait each_entry) (start_wait each_tick) many past p.longest
   pub totals : AreTotals by_place_started (start_wait each_entry) (start_wait each_tick) many past p.totals
 
-pub record IsSummary (s : Layout) (entries : List Entry) (time : ℕ) (kinds : Kinds) (items : Items) (callers : Callers) (workers : Workers) (places : Places) : Type 0 where
+pub record ArePeaks (s : Layout) (past : List Entry) (p : Peaks) : Type 0 where
+  pub open_ones : AreMeasured open_count_at (most_cpus * length s.queues) past p.open
+  pub most_open : AreMeasured most_open_at (most_cpus * length s.queues) past p.most_open
+  pub most_active : AreMeasured (most_active_at s) (most_cpus * length s.queues) past p.most_active
+
+pub record IsSummary (s : Layout) (entries : List Entry) (time : ℕ) (kinds : Kinds) (items : Items) (callers : Callers) (workers : Workers) (places : Places) (peaks : Peaks) : Type 0 where
   pub time_is : time ≡ now (past_of entries)
   pub soon : time ≤ most_time
   pub kinds_are : AreKinds (past_of entries) kinds
   pub items_are : AreItems s.items (past_of entries) items
   pub callers_are : AreCallers s (past_of entries) callers
   pub workers_are : AreWorkers s.cpus (past_of entries) workers
-  pub places_are : ArePlaces s.items (4 * length s.queues) (past_of entries) places
+  pub places_are : ArePlaces s.items (most_cpus * length s.queues) (past_of entries) places
+  pub peaks_are : ArePeaks s (past_of entries) peaks

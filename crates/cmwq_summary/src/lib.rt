@@ -9,6 +9,7 @@ mod kind;
 mod kinds;
 mod longest;
 mod openings;
+mod peaks;
 mod places;
 mod span;
 mod summary;

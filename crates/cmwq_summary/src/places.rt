@@ -5,7 +5,7 @@ ghost use Rattle.cmwq_summary.specs.Figures.{place_number};
 ghost use Rattle.cmwq_summary.specs.Parts.{ArePlaces};
 ghost use Rattle.cmwq_summary.specs.Activities.{behind};
 ghost use Rattle.cmwq_summary.specs.Summed.{IsNext};
-ghost use Rattle.cmwq_model.specs.Prelude.{Layout};
+ghost use Rattle.cmwq_model.specs.Prelude.{Layout, most_cpus};
 
 use crate::longest::Longest;
 use crate::openings::Openings;
@@ -13,8 +13,11 @@ use crate::span::Span;
 use crate::tally::Tally;
 use crate::told::Told;
 use crate::totals::Totals;
-use cmwq_model::{NoMemory, Queueing};
+use cmwq_model::{MOST_CPUS, NoMemory, Queueing};
 use std::alloc::Global;
+
+/// How many CPUs a shape may have.
+pub(crate) const CPUS: usize = MOST_CPUS as usize;
 
 /// How many queueings of each queue there were on each CPU, how many of them started, and how many were cancelled; and how long
 /// the longest wait for a start was, and all of them together.
@@ -32,9 +35,9 @@ impl Places {
     /// Those of no entries. The error says that memory ran out.
     pub(crate) fn new(alloc: Global, items: u16, queues: usize) -> Result<Places, NoMemory>
         requires { queues < 256 }
-        ensures { IfOk result (ArePlaces items (4 * queues) []) }
+        ensures { IfOk result (ArePlaces items (most_cpus * queues) []) }
     {
-        let places = 4 * queues;
+        let places = CPUS * queues;
         let queueings = Tally::new(alloc, places)?;
         let starts = Tally::new(alloc, places)?;
         let cancels = Tally::new(alloc, places)?;
@@ -53,8 +56,8 @@ impl Places {
 
     /// One entry more, behind which it is now.
     pub(crate) fn add(&mut self, told: &Told, now: Span)
-        requires { (s : Layout) × (past : List entries.Entry) × IsNext s past told.now × (now ≡ behind (told.now.entry ∷ past)) × ArePlaces s.items (4 * length s.queues) past self.old }
-        ensures { (s : Layout) (past : List entries.Entry) → IsNext s past told.now → now ≡ behind (told.now.entry ∷ past) → ArePlaces s.items (4 * length s.queues) past self.old → ArePlaces s.items (4 * length s.queues) (told.now.entry ∷ past) self.new }
+        requires { (s : Layout) × (past : List entries.Entry) × IsNext s past told.now × (now ≡ behind (told.now.entry ∷ past)) × ArePlaces s.items (most_cpus * length s.queues) past self.old }
+        ensures { (s : Layout) (past : List entries.Entry) → IsNext s past told.now → now ≡ behind (told.now.entry ∷ past) → ArePlaces s.items (most_cpus * length s.queues) past self.old → ArePlaces s.items (most_cpus * length s.queues) (told.now.entry ∷ past) self.new }
     {
         self.queueings.add(place_in(told.opened));
         self.cancels.add(place_in(told.cancelled()));
@@ -68,12 +71,12 @@ impl Places {
 }
 
 /// The number of a queueing's place.
-fn place_in(queueing: Option<Queueing>) -> Option<usize>
+pub(crate) fn place_in(queueing: Option<Queueing>) -> Option<usize>
     ensures { result ≡ option_map place_number queueing }
 {
     match queueing {
         Some(queueing) => {
-            Some(4 * usize::from(queueing.place.queue.0) + usize::from(queueing.place.cpu.0))
+            Some(CPUS * usize::from(queueing.place.queue.0) + usize::from(queueing.place.cpu.0))
         }
         None => None,
     }

@@ -1,17 +1,20 @@
 //! The summary of a history.
 ghost use Rattle.std.specs.Prelude.{◌≡◌, ◌<◌, ◌≤◌, ◌*◌, true, [], ◌∷◌, length, IfOk};
-ghost use Rattle.cmwq_model.specs.Prelude.{now, has_time, IsLegal};
+ghost use Rattle.cmwq_model.specs.Prelude.{now, has_time, IsLegal, most_cpus, most_workers};
 ghost use Rattle.cmwq_summary.specs.Figures as figures;
 ghost use Rattle.cmwq_summary.specs.Activities.{behind};
 ghost use Rattle.cmwq_summary.specs.Spent as spans;
 ghost use Rattle.cmwq_summary.specs.Waits as waits;
 ghost use Rattle.cmwq_summary.specs.TicketWaits as ticket_waits;
+ghost use Rattle.cmwq_summary.specs.Peaks as peaks;
+ghost use Rattle.cmwq_state.specs.Pwqs.{AreActiveCounts};
 ghost use Rattle.cmwq_summary.specs.Kinds.{call_kinds, reply_kinds};
 ghost use Rattle.cmwq_summary.specs.Summed.{past_summed, summed_with, IsTold};
 
 use crate::callers::Callers;
 use crate::items::Items;
 use crate::kinds::Kinds;
+use crate::peaks::Peaks;
 use crate::places::Places;
 use crate::span::Span;
 use crate::told::Told;
@@ -33,6 +36,7 @@ pub struct Summary {
     callers: Callers,
     workers: Workers,
     places: Places,
+    peaks: Peaks,
 }
 
 impl Model for Summary {
@@ -43,7 +47,7 @@ impl Model for Summary {
 
     ghost view = { λ s. record { layout = s.shape; entries = s.entries } };
 
-    ghost invariant = { λ s. IsSummary s.shape s.entries s.time s.kinds s.items s.callers s.workers s.places };
+    ghost invariant = { λ s. IsSummary s.shape s.entries s.time s.kinds s.items s.callers s.workers s.places s.peaks };
 }
 
 impl Summary {
@@ -57,6 +61,7 @@ impl Summary {
         let callers = Callers::new(alloc, counts.callers)?;
         let workers = Workers::new(alloc, counts.cpus)?;
         let places = Places::new(alloc, counts.items, shape.queues().len())?;
+        let peaks = Peaks::new(alloc, shape.queues().len())?;
         let entries = Trail::new();
         Ok(Summary {
             shape,
@@ -67,15 +72,17 @@ impl Summary {
             callers,
             workers,
             places,
+            peaks,
         })
     }
 
-    /// One entry more.
-    pub fn add(&mut self, told: &Told)
+    /// One entry more, behind which so many are active of each queue on each CPU.
+    pub fn add(&mut self, told: &Told, active_counts: &[u32])
         requires legal { IsLegal self.old.layout (told.now.entry ∷ past_summed self.old) }
         requires told { IsTold (past_summed self.old) told.now }
         requires time { has_time (past_summed self.old) told.now.entry.call ≡ true }
         requires few { length self.old.entries < 4611686018427387904 }
+        requires active { AreActiveCounts self.old.layout (told.now.entry ∷ past_summed self.old) active_counts.now }
         ensures { self.new ≡ summed_with self.old told.now.entry }
     {
         // it shows that the shape is inside the limits
@@ -90,6 +97,7 @@ impl Summary {
         self.callers.add(told, now);
         self.workers.add(told, now);
         self.places.add(told, now);
+        self.peaks.add(told, active_counts);
         self.entries.push(&told.entry);
     }
 
@@ -175,7 +183,7 @@ impl Summary {
 
     /// How many runs the worker with this number started.
     pub fn starts_by(&self, worker: usize) -> u64
-        requires { worker < 16 * self.now.layout.cpus }
+        requires { worker < 2 * most_workers * self.now.layout.cpus }
         ensures { result ≡ figures.starts_by (past_summed self.now) worker }
     {
         self.workers.runs.count(worker)
@@ -184,7 +192,7 @@ impl Summary {
     /// How long the worker's runs were awake.
     pub fn awake(&self, worker: WorkerId) -> Span
         requires here { worker.pool.cpu.0 < self.now.layout.cpus }
-        requires index { worker.index < 8 }
+        requires index { worker.index < most_workers }
         ensures entries { result.entries ≡ spans.awake_entries (past_summed self.now) worker }
         ensures ticks { result.ticks ≡ spans.awake_ticks (past_summed self.now) worker }
     {
@@ -194,7 +202,7 @@ impl Summary {
     /// How long they slept.
     pub fn asleep(&self, worker: WorkerId) -> Span
         requires here { worker.pool.cpu.0 < self.now.layout.cpus }
-        requires index { worker.index < 8 }
+        requires index { worker.index < most_workers }
         ensures entries { result.entries ≡ spans.asleep_entries (past_summed self.now) worker }
         ensures ticks { result.ticks ≡ spans.asleep_ticks (past_summed self.now) worker }
     {
@@ -214,7 +222,7 @@ impl Summary {
 
     /// How many queueings there were at the place with this number.
     pub fn queueings_at(&self, place: usize) -> u64
-        requires { place < 4 * length self.now.layout.queues }
+        requires { place < most_cpus * length self.now.layout.queues }
         ensures { result ≡ figures.queueings_at (past_summed self.now) place }
     {
         self.places.queueings.count(place)
@@ -222,7 +230,7 @@ impl Summary {
 
     /// How many of them started.
     pub fn starts_at(&self, place: usize) -> u64
-        requires { place < 4 * length self.now.layout.queues }
+        requires { place < most_cpus * length self.now.layout.queues }
         ensures { result ≡ figures.starts_at (past_summed self.now) place }
     {
         self.places.starts.count(place)
@@ -230,15 +238,31 @@ impl Summary {
 
     /// How many of them were cancelled before that.
     pub fn cancels_at(&self, place: usize) -> u64
-        requires { place < 4 * length self.now.layout.queues }
+        requires { place < most_cpus * length self.now.layout.queues }
         ensures { result ≡ figures.cancels_at (past_summed self.now) place }
     {
         self.places.cancels.count(place)
     }
 
+    /// How many of them were open at once, at most.
+    pub fn most_open(&self, place: usize) -> u64
+        requires { place < most_cpus * length self.now.layout.queues }
+        ensures { result ≡ peaks.most_open_at place (past_summed self.now) }
+    {
+        self.peaks.most_open.count(place)
+    }
+
+    /// How many of them were active at once, at most.
+    pub fn most_active(&self, place: usize) -> u64
+        requires { place < most_cpus * length self.now.layout.queues }
+        ensures { result ≡ peaks.most_active_at self.now.layout place (past_summed self.now) }
+    {
+        self.peaks.most_active.count(place)
+    }
+
     /// How long the longest of those starts was waited for.
     pub fn longest_start(&self, place: usize) -> Span
-        requires { place < 4 * length self.now.layout.queues }
+        requires { place < most_cpus * length self.now.layout.queues }
         ensures entries { result.entries ≡ waits.longest_start_entries (past_summed self.now) place }
         ensures ticks { result.ticks ≡ waits.longest_start_ticks (past_summed self.now) place }
     {
@@ -247,7 +271,7 @@ impl Summary {
 
     /// How long all of them were waited for together.
     pub fn all_starts(&self, place: usize) -> Total
-        requires { place < 4 * length self.now.layout.queues }
+        requires { place < most_cpus * length self.now.layout.queues }
         ensures entries { result.entries ≡ waits.all_start_entries (past_summed self.now) place }
         ensures ticks { result.ticks ≡ waits.all_start_ticks (past_summed self.now) place }
     {

@@ -13,8 +13,11 @@ use crate::activity::{Activity, IDLE};
 use crate::span::Span;
 use crate::tally::Tally;
 use crate::told::Told;
-use cmwq_model::{Entry, NoMemory, Reply, Who, WorkerId};
+use cmwq_model::{Entry, MOST_WORKERS, NoMemory, Reply, Who, WorkerId};
 use std::alloc::Global;
+
+/// How many workers a pool may have.
+const OF_POOL: usize = MOST_WORKERS as usize;
 
 /// How many runs each worker started, and how long they were awake and asleep.
 #[derive(Drop)]
@@ -28,7 +31,7 @@ impl Workers {
     pub(crate) fn new(alloc: Global, cpus: u8) -> Result<Workers, NoMemory>
         ensures { IfOk result (AreWorkers cpus []) }
     {
-        let many = 16 * usize::from(cpus);
+        let many = 2 * OF_POOL * usize::from(cpus);
         let runs = Tally::new(alloc, many)?;
         let activities = vec![in alloc; IDLE; many]?;
         Ok(Workers { runs, activities })
@@ -70,8 +73,8 @@ fn act(activities: &mut Vec<Activity>, entry: &Entry, now: Span)
 pub(crate) fn worker_number(worker: WorkerId) -> usize
     ensures { result ≡ worker_number worker }
 {
-    let pool = if worker.pool.high { 8 } else { 0 };
-    16 * usize::from(worker.pool.cpu.0) + pool + usize::from(worker.index)
+    let pool = if worker.pool.high { OF_POOL } else { 0 };
+    2 * OF_POOL * usize::from(worker.pool.cpu.0) + pool + usize::from(worker.index)
 }
 
 /// The number of the worker that starts a run by this entry.

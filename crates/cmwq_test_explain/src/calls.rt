@@ -220,6 +220,22 @@ fn tells_a_line_too_long(rt: HostRuntime) -> Result<(), Fail> {
     Ok(())
 }
 
+/// Format 1 has a million lines behind the queues, and this is one more.
+#[test]
+fn tells_too_many_lines(rt: HostRuntime) -> Result<(), Fail> {
+    let mut text = String::from_str(rt.alloc(), "shape 1 2 1 3 100\nwq 1 -\n")?;
+    for _line in 0..1_000_001 {
+        text.push_str("c0 fire\n")?;
+    }
+    calls(
+        &rt,
+        &[text.as_str()],
+        1,
+        &["there are more lines behind the queues than the format has"],
+    );
+    Ok(())
+}
+
 #[test]
 fn tells_a_queue_behind_a_call(rt: HostRuntime) {
     calls(

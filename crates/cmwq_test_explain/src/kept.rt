@@ -35,11 +35,18 @@ fn passes_failures_on(rt: HostRuntime) {
 #[test]
 fn tells_that_it_kept_too_little(rt: HostRuntime) {
     let mut errors = Memory::writer(rt.alloc(), 200).expect(&rt, "memory");
-    explain_unkept(&mut errors);
+    explain_unkept(1, &mut errors);
     assert_eq!(&rt;
         errors.as_slice(),
         b"cmwq: no more is told: of the input at most 67108864 bytes are kept, as far as there is memory\n".as_slice()
     );
+}
+
+#[test]
+fn tells_nothing_of_what_it_kept_at_a_fault(rt: HostRuntime) {
+    let mut errors = Memory::writer(rt.alloc(), 200).expect(&rt, "memory");
+    explain_unkept(5, &mut errors);
+    assert_eq!(&rt; errors.as_slice(), b"".as_slice());
 }
 
 #[test]

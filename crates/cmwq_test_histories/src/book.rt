@@ -21,7 +21,7 @@ const ROOM: u64 = 110;
 
 /// A book, and the list that the plain program makes of the same calls in the same room.
 #[derive(Drop)]
-struct Pair {
+pub(crate) struct Pair {
     shape: Shape,
     book: Book,
     /// The shape with the book's room in place of its own.
@@ -42,7 +42,11 @@ fn bits_of(rt: &impl Abort, entries: &[Entry], item: ItemId) -> u8 {
 }
 
 impl Pair {
-    fn new(rt: &(impl Abort + AllocGlobal), shape: Shape, room: u64) -> Result<Pair, Fail> {
+    pub(crate) fn new(
+        rt: &(impl Abort + AllocGlobal),
+        shape: Shape,
+        room: u64,
+    ) -> Result<Pair, Fail> {
         assert!(rt; room <= 1_000_000);
         let alloc = rt.alloc();
         let counts = Counts {
@@ -120,6 +124,43 @@ impl Pair {
             _ => assert!(rt; false, "{who:?} {call:?}: only one of them is full"),
         }
         Ok(wanted)
+    }
+
+    /// Makes the call on the book, which has room for it, and compares its entry with the plain program's where that is said, and the bits of
+    /// its item.
+    pub(crate) fn meet(
+        &mut self,
+        rt: &impl Abort,
+        who: Who,
+        call: Call,
+        is_compared: bool,
+    ) -> Result<(), Fail> {
+        assert!(rt; self.shape.fits(who, call));
+        let Ok(mark) = self.book.would(who, call) else {
+            assert!(rt; false, "{who:?} {call:?} has room");
+            return Ok(());
+        };
+        if is_compared {
+            let wanted = self.plain_entry(rt, who, call).ok_or("no room")?;
+            assert!(rt; self.foresees(&wanted), "{wanted:?}");
+            assert!(rt; is_same(&mark.entry, &wanted), "{wanted:?}");
+        }
+        let reply = self.book.step(who, call).ok();
+        assert!(rt; reply.is_some_and(|reply| reply.is_same(mark.entry.reply)));
+        self.entries.push(mark.entry)?;
+        if let Some(item) = mark.item {
+            assert!(rt; item.0 < self.shape.counts().items);
+            assert_eq!(rt; self.book.bits(item), mark.bits);
+            if is_compared {
+                assert_eq!(rt; bits_of(rt, &self.entries, item), mark.bits);
+            }
+        }
+        Ok(())
+    }
+
+    /// What the last call was answered.
+    pub(crate) fn last_reply(&self) -> Option<Reply> {
+        Some(self.entries.last()?.reply)
     }
 
     fn compare_histories(&self, rt: &impl Abort) {

@@ -11,6 +11,8 @@ mod summary;
 #[cfg(test)]
 mod tail_book;
 #[cfg(test)]
+mod wide;
+#[cfg(test)]
 mod words;
 #[cfg(test)]
 mod worked;

@@ -15,7 +15,7 @@ const HISTORY: &[u8] =
 
 /// Its page.
 const PAGE: &[u8] =
-    b"entries 28, ticks 15\ncall queue: 4\ncall delay: 1\ncall modify: 1\ncall cancel: 1\ncall tick: 3\ncall fire: 1\ncall flush: 1\ncall cancel_sync: 1\ncall end: 2\ncall take: 4\ncall finish: 3\ncall sleep: 2\ncall wake: 2\ncall set_max: 1\ncall freeze: 1\nreply yes: 4\nreply booked: 1\nreply again: 1\nreply cancelled: 1\nreply now: 3\nreply fired: 1\nreply nothing: 1\nreply ticket: 2\nreply done: 1\nreply waiting: 1\nreply started: 3\nreply finished: 3\nreply slept: 2\nreply woke: 2\nreply width: 1\nreply frozen: 1\nqueue 0 on CPU 0: queueings 2, starts 2, cancelled 0, width 1, longest wait 14 entries and 5 ticks, mean wait 8 entries and 2 ticks\nqueue 1 on CPU 1: queueings 1, starts 1, cancelled 0, width 7, longest wait 1 entries and 0 ticks, mean wait 1 entries and 0 ticks\nqueue 2 on CPU 0: queueings 2, starts 0, cancelled 1, width 0, longest wait -, mean wait -\nqueue 2 on CPU 1: queueings 1, starts 0, cancelled 1, width 0, longest wait -, mean wait -\nworker w0n0: runs 1, awake 8 entries and 2 ticks, asleep 3 entries and 3 ticks\nworker w0n1: runs 1, awake 7 entries and 10 ticks, asleep 0 entries and 0 ticks\nworker w1h0: runs 1, awake 7 entries and 0 ticks, asleep 2 entries and 10 ticks\nitem 0: runs 1, cancels 0\nitem 1: runs 1, cancels 0\nitem 2: runs 1, cancels 0\nitem 3: runs 0, cancels 2\ncaller c0: calls 14, tickets 1, longest wait 3 entries and 0 ticks\ncaller c1: calls 3, tickets 1, longest wait 19 entries and 15 ticks\n";
+    b"entries 28, ticks 15\ncall queue: 4\ncall delay: 1\ncall modify: 1\ncall cancel: 1\ncall tick: 3\ncall fire: 1\ncall flush: 1\ncall cancel_sync: 1\ncall end: 2\ncall take: 4\ncall finish: 3\ncall sleep: 2\ncall wake: 2\ncall set_max: 1\ncall freeze: 1\nreply yes: 4\nreply booked: 1\nreply again: 1\nreply cancelled: 1\nreply now: 3\nreply fired: 1\nreply nothing: 1\nreply ticket: 2\nreply done: 1\nreply waiting: 1\nreply started: 3\nreply finished: 3\nreply slept: 2\nreply woke: 2\nreply width: 1\nreply frozen: 1\nqueue 0 on CPU 0: queueings 2, starts 2, cancelled 0, width 1, most open 2, most active 1, longest wait 14 entries and 5 ticks, mean wait 8 entries and 2 ticks\nqueue 1 on CPU 1: queueings 1, starts 1, cancelled 0, width 7, most open 1, most active 1, longest wait 1 entries and 0 ticks, mean wait 1 entries and 0 ticks\nqueue 2 on CPU 0: queueings 2, starts 0, cancelled 1, width 0, most open 1, most active 1, longest wait -, mean wait -\nqueue 2 on CPU 1: queueings 1, starts 0, cancelled 1, width 0, most open 1, most active 1, longest wait -, mean wait -\nworker w0n0: runs 1, awake 8 entries and 2 ticks, asleep 3 entries and 3 ticks\nworker w0n1: runs 1, awake 7 entries and 10 ticks, asleep 0 entries and 0 ticks\nworker w1h0: runs 1, awake 7 entries and 0 ticks, asleep 2 entries and 10 ticks\nitem 0: runs 1, cancels 0\nitem 1: runs 1, cancels 0\nitem 2: runs 1, cancels 0\nitem 3: runs 0, cancels 2\ncaller c0: calls 14, tickets 1, longest wait 3 entries and 0 ticks\ncaller c1: calls 3, tickets 1, longest wait 19 entries and 15 ticks\n";
 
 /// What became of an input: the status, what was written, and what was told.
 #[derive(Drop)]
@@ -64,7 +64,9 @@ fn of_other_inputs_nothing_is_told(rt: HostRuntime) -> Result<(), Fail> {
 
 #[test]
 fn a_full_sink_has_a_front_of_the_page(rt: HostRuntime) -> Result<(), Fail> {
-    for room in 0..PAGE.len() {
+    // (of each four rooms one: in turn the first, the second, the third and the last)
+    for four in 0..PAGE.len() / 4 {
+        let room = 4 * four + four % 4;
         let run = summed_up(rt.alloc(), HISTORY, room)?;
         assert_eq!(rt; run.status, 5);
         assert_eq!(rt;

@@ -114,7 +114,7 @@ fn leaves_a_front<R: Threads + Wait + Clock + Abort + AllocGlobal + Sync>(
     let mut input = Memory::reader(script.as_bytes());
     let mut output = FailsAt::new(Memory::writer(alloc, 4_000)?, call);
     let mut errors = Memory::writer(alloc, 100)?;
-    let status = run_run(rt, alloc, &mut input, &mut output, &mut errors);
+    let status = run_run(rt, alloc, &mut input, &mut output, &mut errors, false);
     assert_eq!(rt; errors.as_slice(), b"cmwq: write fault\n".as_slice());
     assert_eq!(rt; status, 5);
     let written = output.inner().as_slice();

@@ -56,7 +56,7 @@ pub(crate) fn run_on<R: Threads + Wait + Clock + Abort + AllocGlobal + Sync>(
     let mut input = Memory::reader(script);
     let mut output = Memory::writer(alloc, 4_000).expect(rt, "memory");
     let mut errors = Memory::writer(alloc, 100).expect(rt, "memory");
-    let status = run_run(rt, alloc, &mut input, &mut output, &mut errors);
+    let status = run_run(rt, alloc, &mut input, &mut output, &mut errors, false);
     Ran {
         status,
         output,
@@ -125,6 +125,29 @@ fn a_sleep_without_room_passes_its_gate(rt: HostRuntime) {
     tells_a_gate(&rt, SLEEP_WITHOUT_ROOM, b"cmwq: gate g was not opened\n");
 }
 
+/// There is room for the first run and its sleep, and none for what would open the gate.
+const OPENER_WITHOUT_ROOM: &[u8] = br#"{"cpus":1,"workers":2,"room":5,
+"queues":[{"name":"q0","max_active":2,"high":false,"intensive":false}],
+"items":[{"name":"A","does":[["sleep_at","g"]]},{"name":"B","does":[["open","g"]]}],
+"callers":[[["queue","A","q0",0],["queue","B","q0",0]]]}"#;
+
+#[test]
+fn a_call_that_is_left_out_explains_its_gate(rt: HostRuntime) {
+    let alloc = rt.alloc();
+    let mut input = Memory::reader(OPENER_WITHOUT_ROOM);
+    let mut output = Memory::writer(alloc, 1_000).expect(&rt, "memory");
+    let mut errors = Memory::writer(alloc, 200).expect(&rt, "memory");
+    let status = run_run(&rt, alloc, &mut input, &mut output, &mut errors, true);
+    assert_eq!(&rt; status, 1);
+    assert_eq!(&rt;
+        errors.as_slice(),
+        b"cmwq: gate g was not opened
+cmwq: gate g: 1 call of a caller was left out for want of room; what it queues may open the gate
+"
+            .as_slice()
+    );
+}
+
 #[test]
 fn the_second_gate_is_told_by_its_name(rt: HostRuntime) {
     tells_a_gate(&rt, SECOND_GATE_SHUT, b"cmwq: gate h was not opened\n");
@@ -191,7 +214,7 @@ fn run_faulty<R: Threads + Wait + Clock + Abort + AllocGlobal + Sync>(
     let output = Memory::writer(alloc, 4_000).expect(rt, "memory");
     let mut output = FailsAt::new(output, write);
     let mut errors = Memory::writer(alloc, 100).expect(rt, "memory");
-    let status = run_run(rt, alloc, &mut input, &mut output, &mut errors);
+    let status = run_run(rt, alloc, &mut input, &mut output, &mut errors, false);
     assert_eq!(rt; errors.as_slice(), told);
     status
 }

@@ -34,7 +34,7 @@ impl Word {
             Word::Check => run_check(alloc, input, output, errors),
             Word::Upgrade => run_upgrade(alloc, input, output, errors),
             Word::Replay => run_replay(alloc, input, output, errors),
-            Word::Run => run_run(rt, alloc, input, output, errors),
+            Word::Run => run_run(rt, alloc, input, output, errors, false),
         }
     }
 }

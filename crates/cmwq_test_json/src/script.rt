@@ -360,6 +360,55 @@ fn as_many_members_as_may_be(rt: HostRuntime) -> Result<(), Fail> {
     Ok(())
 }
 
+// Empty calls of so many callers.
+fn idle_callers(rt: &impl AllocGlobal, count: usize) -> Result<String, Fail> {
+    times(rt, count, "[]")
+}
+
+/// In format 3 there may be more of each than before it.
+#[test]
+fn as_many_members_of_format_3_as_may_be(rt: HostRuntime) -> Result<(), Fail> {
+    for (queue_count, caller_count, refused) in [
+        (255, 255, None),
+        (256, 256, at(Part::Queues, 255)),
+        (255, 256, at(Part::Callers, 255)),
+    ] {
+        let queues = queues(&rt, queue_count)?;
+        let callers = idle_callers(&rt, caller_count)?;
+        let text = format!(in rt.alloc();
+            r#"{{"format":3,"cpus":64,"workers":64,"room":9,"queues":[{queues}],"items":[{ITEM}],"callers":[{callers}]}}"#
+        )?;
+        is_refused(&rt, text.as_str(), refused)?;
+    }
+    Ok(())
+}
+
+/// Each number of the top is at its limit once, and one beyond it, in each format.
+#[test]
+fn tops_within_their_formats(rt: HostRuntime) -> Result<(), Fail> {
+    for (format, cpus, workers, is_taken) in [
+        ("", 4, 8, true),
+        ("", 5, 8, false),
+        ("", 4, 9, false),
+        (r#""format":2,"#, 4, 8, true),
+        (r#""format":2,"#, 5, 8, false),
+        (r#""format":2,"#, 4, 9, false),
+        (r#""format":3,"#, 64, 64, true),
+        (r#""format":3,"#, 65, 64, false),
+        (r#""format":3,"#, 64, 65, false),
+        (r#""format":3,"#, 0, 64, false),
+        (r#""journal":1,"#, 64, 64, true),
+        (r#""journal":1,"#, 64, 65, false),
+    ] {
+        let text = format!(in rt.alloc();
+            r#"{{{format}"cpus":{cpus},"workers":{workers},"room":9,"queues":[{QUEUE}],"items":[{ITEM}],"callers":[[]]}}"#
+        )?;
+        let refused = if is_taken { None } else { at(Part::Top, 0) };
+        is_refused(&rt, text.as_str(), refused)?;
+    }
+    Ok(())
+}
+
 // A script of one item with so many actions, and of one caller with so many calls.
 fn busy_script(rt: &impl AllocGlobal, calls: usize, actions: usize) -> Result<String, Fail> {
     let calls = times(rt, calls, r#"["tick",1]"#)?;

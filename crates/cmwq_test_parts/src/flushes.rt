@@ -38,7 +38,7 @@ fn end(rt: &impl Abort, flushes: &mut Flushes, ticket: Number) {
 fn begun(rt: &(impl Abort + AllocGlobal), last: Number) -> Result<Flushes, Fail>
     requires { last < 100 }
 {
-    let mut flushes = Flushes::new(rt.alloc(), 1)?;
+    let mut flushes = Flushes::new(rt.alloc(), 1, 256)?;
     open(rt, &mut flushes, 0);
     for ticket in 1..=last {
         begin(rt, &mut flushes, ticket);
@@ -115,7 +115,7 @@ fn end_drain(rt: &impl Abort, flushes: &mut Flushes, ticket: Number) {
 
 #[test]
 fn drains(rt: HostRuntime) -> Result<(), Fail> {
-    let mut flushes = Flushes::new(rt.alloc(), 1)?;
+    let mut flushes = Flushes::new(rt.alloc(), 1, 256)?;
     assert!(rt; !flushes.draining());
     drain(&rt, &mut flushes, 3);
     drain(&rt, &mut flushes, 5);
@@ -226,7 +226,7 @@ impl Beside {
 #[test]
 fn generated_calls(rt: HostRuntime) -> Result<(), Fail> {
     let mut beside = Beside {
-        flushes: Flushes::new(rt.alloc(), 1)?,
+        flushes: Flushes::new(rt.alloc(), 1, 256)?,
         numbers: Vec::new(rt.alloc()),
         standing: Vec::new(rt.alloc()),
         seed: 7,
@@ -241,10 +241,10 @@ fn generated_calls(rt: HostRuntime) -> Result<(), Fail> {
     Ok(())
 }
 
-/// 64 callers have 4,096 tickets at most, and a queue 512 open queueings.
+/// 64 callers have 4,096 tickets at most, and a queue of 256 items 512 open queueings.
 #[test]
 fn as_many_as_may_be(rt: HostRuntime) -> Result<(), Fail> {
-    let mut flushes = Flushes::new(rt.alloc(), 64)?;
+    let mut flushes = Flushes::new(rt.alloc(), 64, 256)?;
     for number in 0..512 {
         open(&rt, &mut flushes, number);
     }
@@ -253,5 +253,23 @@ fn as_many_as_may_be(rt: HostRuntime) -> Result<(), Fail> {
         begin(&rt, &mut flushes, ticket);
     }
     assert!(rt; !flushes.may_begin(4608));
+    Ok(())
+}
+
+/// There is room for two open queueings of each item, and for no more.
+#[test]
+fn two_of_each_item(rt: HostRuntime) -> Result<(), Fail> {
+    let mut few = Flushes::new(rt.alloc(), 255, 1)?;
+    for number in 0..2 {
+        open(&rt, &mut few, number);
+    }
+    assert!(rt; !few.may_open(2));
+    let mut many = Flushes::new(rt.alloc(), 1, 65_535)?;
+    for number in 0..131_070 {
+        open(&rt, &mut many, number);
+    }
+    assert!(rt; !many.may_open(131_070));
+    begin(&rt, &mut many, 131_070);
+    assert!(rt; !is_ready(&rt, &many, 131_070));
     Ok(())
 }

@@ -44,17 +44,70 @@ fn workers_take_and_callers_fire(rt: HostRuntime) {
     assert!(rt; Call::Fire.is_callers() && !Call::Fire.is_workers());
 }
 
-#[test]
-fn too_much_is_no_shape(rt: HostRuntime) {
-    let counts = Counts {
-        cpus: 5,
-        workers: 2,
-        callers: 1,
-        items: 3,
-        room: 100,
+/// The greatest numbers of a shape.
+const GREATEST: Counts = Counts {
+    cpus: 64,
+    workers: 64,
+    callers: 255,
+    items: 65_535,
+    room: 1 << 62,
+};
+
+/// Numbers of which one is outside its limits.
+const TOO_MUCH: [Counts; 7] = [
+    Counts {
+        cpus: 65,
+        ..GREATEST
+    },
+    Counts {
+        workers: 65,
+        ..GREATEST
+    },
+    Counts {
+        room: (1 << 62) + 1,
+        ..GREATEST
+    },
+    Counts {
+        cpus: 0,
+        ..GREATEST
+    },
+    Counts {
+        workers: 0,
+        ..GREATEST
+    },
+    Counts {
+        callers: 0,
+        ..GREATEST
+    },
+    Counts {
+        items: 0,
+        ..GREATEST
+    },
+];
+
+/// A shape of the greatest numbers and so many queues.
+fn greatest_shape(rt: &impl AllocGlobal, queues: usize) -> Result<Option<Shape>, Fail> {
+    let queue = QueueShape {
+        max_active: 512,
+        high: false,
+        intensive: false,
+        freezable: false,
     };
-    assert!(rt; !counts.are_allowed());
-    assert!(rt; Shape::new(counts, Vec::new(rt.alloc())).is_none());
+    Ok(Shape::new(GREATEST, vec![in rt.alloc(); queue; queues]?))
+}
+
+#[test]
+fn too_much_is_no_shape(rt: HostRuntime) -> Result<(), Fail> {
+    assert!(rt; GREATEST.are_allowed());
+    for counts in TOO_MUCH {
+        assert!(rt; !counts.are_allowed(), "{counts:?}");
+        assert!(rt; Shape::new(counts, Vec::new(rt.alloc())).is_none());
+    }
+    for (queues, is_shape) in [(0, false), (1, true), (255, true), (256, false)] {
+        let shape = greatest_shape(&rt, queues)?;
+        assert_eq!(rt; shape.is_some(), is_shape, "{queues} queues");
+    }
+    Ok(())
 }
 
 #[test]

@@ -20,7 +20,7 @@ fn give(rt: &impl Abort, tickets: &mut Tickets, ticket: Ticket) {
 }
 
 fn find(rt: &impl Abort, tickets: &Tickets, caller: u8, number: Number) -> Option<Ticket>
-    ensures { result ≡ ticket_of_caller tickets.now caller number }
+    ensures { result ≡ ticket_of_caller tickets.now.rows caller number }
 {
     assert!(rt; caller < tickets.callers(), "caller {caller} is there");
     tickets.find(CallerId(caller), number)
@@ -51,7 +51,7 @@ fn is_done(rt: &impl Abort, tickets: &Tickets, cancels: bool, drains: bool, dest
 
 /// Caller 0 has the tickets 3 and 7, and caller 1 the ticket 4.
 fn three_given(rt: &(impl Abort + AllocGlobal)) -> Result<Tickets, Fail> {
-    let mut tickets = Tickets::new(rt.alloc(), 2)?;
+    let mut tickets = Tickets::new(rt.alloc(), 2, 256, 64)?;
     assert_eq!(rt; tickets.callers(), 2);
     assert!(rt; tickets.is_empty());
     give(rt, &mut tickets, ticket(0, FLUSH, 3));
@@ -86,7 +86,7 @@ fn finds_until_the_end(rt: HostRuntime) -> Result<(), Fail> {
 
 /// Caller 1 cancels an item, as another did before, and drains a queue.
 fn cancels_and_drains(rt: &(impl Abort + AllocGlobal)) -> Result<Tickets, Fail> {
-    let mut tickets = Tickets::new(rt.alloc(), 2)?;
+    let mut tickets = Tickets::new(rt.alloc(), 2, 256, 64)?;
     is_done(rt, &tickets, false, false, false);
     give(rt, &mut tickets, ticket(0, CANCEL_SYNC, 1));
     give(rt, &mut tickets, ticket(1, CANCEL_SYNC, 2));
@@ -122,7 +122,7 @@ fn knows_what_is_drained(rt: HostRuntime) -> Result<(), Fail> {
 /// 64 callers with 64 tickets each, which all cancel one item, and no caller can be given one more.
 #[test]
 fn as_many_as_may_be(rt: HostRuntime) -> Result<(), Fail> {
-    let mut tickets = Tickets::new(rt.alloc(), 64)?;
+    let mut tickets = Tickets::new(rt.alloc(), 64, 256, 64)?;
     for number in 0..4096 {
         give(
             &rt,
@@ -149,12 +149,32 @@ const LONG: Number = 5_000_000_000;
 
 #[test]
 fn a_long_number_is_found_as_it_is(rt: HostRuntime) -> Result<(), Fail> {
-    let mut tickets = Tickets::new(rt.alloc(), 1)?;
+    let mut tickets = Tickets::new(rt.alloc(), 1, 1, 1)?;
     give(&rt, &mut tickets, ticket(0, FLUSH, LONG));
     let found = find(&rt, &tickets, 0, LONG).map(|ticket| ticket.number);
     assert_eq!(rt; found, Some(LONG));
     assert!(rt; find(&rt, &tickets, 0, LONG - (1 << 32)).is_none());
     end(&rt, &mut tickets, 0, LONG);
     assert!(rt; tickets.is_empty());
+    Ok(())
+}
+
+/// The last item and the last queue of the greatest numbers have their counts, and those of few have none beyond.
+#[test]
+fn the_last_of_each_is_counted(rt: HostRuntime) -> Result<(), Fail> {
+    let cancel = |item| Call::CancelSync { item: ItemId(item) };
+    let drain = |queue| Call::Drain {
+        queue: QueueId(queue),
+    };
+    let mut all = Tickets::new(rt.alloc(), 255, 65_535, 255)?;
+    give(&rt, &mut all, ticket(254, cancel(65_534), 0));
+    give(&rt, &mut all, ticket(254, drain(254), 1));
+    assert!(rt; all.is_cancelling(ItemId(65_534)) && all.is_draining(QueueId(254)));
+    assert!(rt; !all.may_give(&ticket(254, cancel(65_535), 2)));
+    assert!(rt; !all.may_give(&ticket(254, drain(255), 2)));
+    assert!(rt; !all.may_give(&ticket(255, cancel(0), 2)));
+    let few = Tickets::new(rt.alloc(), 1, 3, 2)?;
+    assert!(rt; few.may_give(&ticket(0, cancel(2), 0)) && few.may_give(&ticket(0, drain(1), 0)));
+    assert!(rt; !few.may_give(&ticket(0, cancel(3), 0)) && !few.may_give(&ticket(0, drain(2), 0)));
     Ok(())
 }

@@ -13,13 +13,16 @@ w0n0 2 wake = woke
 w0n0 3 finish = finished 0
 ";
 
-/// How the picture ends: the only bar, its sleep, and the levels of the only queue.
+/// How the picture ends: the only bar, its sleep, the mark of the only caller's entry, and the levels of the only queue.
 const END: &[u8] =
-    b"<rect class=\"run k0\" data-item=\"0\" data-queueing=\"0\" data-worker=\"w0n0\" x=\"124\" y=\"78\" width=\"96\" height=\"14\"><title>item 0, queueing 0: entries 1 to 4</title></rect><text class=\"item\" x=\"126\" y=\"89\">0</text>
-<rect class=\"sleep\" x=\"148\" y=\"78\" width=\"48\" height=\"14\"><title>asleep: entries 2 to 3</title></rect>
-<text class=\"name\" x=\"92\" y=\"112\">q0 CPU 0</text><text class=\"name\" x=\"92\" y=\"125\">0 to 4</text><path class=\"guide\" d=\"M100 128h1080\"/>
-<g class=\"level\" data-queue=\"0\" data-cpu=\"0\"><title>1 open, 1 active, width 1: entries 0 to 3</title><rect class=\"open\" x=\"100\" y=\"121\" width=\"96\" height=\"7\"/><rect class=\"active\" x=\"100\" y=\"121\" width=\"96\" height=\"7\"/><path class=\"width\" d=\"M100 121h96\"/></g>
-<g class=\"level\" data-queue=\"0\" data-cpu=\"0\"><title>0 open, 0 active, width 1: entries 4 to 4</title><rect class=\"open\" x=\"196\" y=\"128\" width=\"24\" height=\"0\"/><rect class=\"active\" x=\"196\" y=\"128\" width=\"24\" height=\"0\"/><path class=\"width\" d=\"M196 121h24\"/></g>
+    b"<rect class=\"run k0\" data-item=\"0\" data-queueing=\"0\" data-worker=\"w0n0\" x=\"124\" y=\"114\" width=\"96\" height=\"14\"><title>item 0, queueing 0: entries 1 to 4</title></rect><text class=\"item\" x=\"126\" y=\"125\">0</text>
+<rect class=\"sleep\" x=\"148\" y=\"114\" width=\"48\" height=\"14\"><title>asleep: entries 2 to 3</title></rect>
+<text class=\"label\" x=\"116\" y=\"107\">0</text>
+<path class=\"mark queued k0\" d=\"M112 103m-3 -4h6l-3 8z\"><title>c0 0 queue 0 0 0 = yes 0
+</title></path>
+<text class=\"name\" x=\"92\" y=\"148\">q0 CPU 0</text><text class=\"name\" x=\"92\" y=\"161\">0 to 4</text><path class=\"guide\" d=\"M100 164h1080\"/>
+<g class=\"level\" data-queue=\"0\" data-cpu=\"0\"><title>1 open, 1 active, width 1: entries 0 to 3</title><rect class=\"open\" x=\"100\" y=\"157\" width=\"96\" height=\"7\"/><rect class=\"active\" x=\"100\" y=\"157\" width=\"96\" height=\"7\"/><path class=\"width\" d=\"M100 157h96\"/></g>
+<g class=\"level\" data-queue=\"0\" data-cpu=\"0\"><title>0 open, 0 active, width 1: entries 4 to 4</title><rect class=\"open\" x=\"196\" y=\"164\" width=\"24\" height=\"0\"/><rect class=\"active\" x=\"196\" y=\"164\" width=\"24\" height=\"0\"/><path class=\"width\" d=\"M196 157h24\"/></g>
 </svg>
 ";
 
@@ -39,7 +42,7 @@ fn draws_a_run_and_its_sleep(rt: HostRuntime) {
     same(&rt, (status, errors.as_slice()), (0, b"".as_slice()));
     assert!(rt;
         output.as_slice().starts_with(
-            b"<svg xmlns=\"http://www.w3.org/2000/svg\" width=\"1200\" height=\"158\""
+            b"<svg xmlns=\"http://www.w3.org/2000/svg\" width=\"1200\" height=\"194\""
         )
     );
     assert!(rt; output.as_slice().ends_with(END));

@@ -19,4 +19,6 @@ mod streams;
 #[cfg(test)]
 mod text;
 #[cfg(test)]
+mod trace;
+#[cfg(test)]
 mod word;

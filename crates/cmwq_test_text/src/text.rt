@@ -190,8 +190,44 @@ fn shape_lines(rt: HostRuntime) {
         b"shape 4 8 64 256 1000000\n".as_slice(),
     );
     same(&rt, read_counts(b"shape 4 8 64 256 1000000"), Some(counts));
-    for line in ["shape 5 8 64 256 1000000", "shape 4 8 64 256"] {
+    for line in ["shape 65 8 64 256 1000000", "shape 4 8 64 256"] {
         assert!(rt; read_counts(line.as_bytes()).is_none(), "{line}");
+    }
+}
+
+/// Shape lines, and whether the formats before 3 have them, and format 3. Each number is at its limit once, and one beyond it.
+const SHAPE_LINES: [(&str, bool, bool); 19] = [
+    ("shape 4 8 64 256 1000000", true, true),
+    ("shape 5 8 64 256 1000000", false, true),
+    ("shape 4 9 64 256 1000000", false, true),
+    ("shape 4 8 65 256 1000000", false, true),
+    ("shape 4 8 64 257 1000000", false, true),
+    ("shape 4 8 64 256 1000001", false, true),
+    ("shape 64 64 255 65535 4611686018427387904", false, true),
+    ("shape 65 64 255 65535 1", false, false),
+    ("shape 64 65 255 65535 1", false, false),
+    ("shape 64 64 256 65535 1", false, false),
+    ("shape 64 64 511 65535 1", false, false),
+    ("shape 64 64 4294967296 65535 1", false, false),
+    ("shape 64 64 255 65536 1", false, false),
+    ("shape 64 64 255 131071 1", false, false),
+    ("shape 1 1 1 1 4611686018427387905", false, false),
+    ("shape 0 1 1 1 1", false, false),
+    ("shape 1 0 1 1 1", false, false),
+    ("shape 1 1 0 1 1", false, false),
+    ("shape 1 1 1 0 1", false, false),
+];
+
+#[test]
+fn each_format_has_its_shapes(rt: HostRuntime) {
+    for (line, short, long) in SHAPE_LINES {
+        for (version, read) in [(1, short), (2, short), (3, long)] {
+            let counts = read_counts_of_format(version, line.as_bytes());
+            assert_eq!(rt; counts.is_some(), read, "{line} in format {version}");
+        }
+    }
+    for (version, queues) in [(1, 64), (2, 64), (3, 255)] {
+        assert_eq!(rt; queue_limit(version), queues, "format {version}");
     }
 }
 

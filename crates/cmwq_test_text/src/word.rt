@@ -8,7 +8,14 @@ fn reads_each_word(rt: HostRuntime) -> Result<(), Fail> {
         ("step", Word::Step { live: false }),
         ("check", Word::Check { front: false }),
         ("upgrade", Word::Upgrade),
-        ("chart", Word::Chart),
+        (
+            "chart",
+            Word::Chart {
+                from: None,
+                to: None,
+            },
+        ),
+        ("trace", Word::Trace),
         ("replay", Word::Replay),
         ("run", Word::Run),
     ] {
@@ -35,11 +42,25 @@ fn reads_the_flag_of_step(rt: HostRuntime) -> Result<(), Fail> {
 }
 
 #[test]
+fn reads_the_window_of_chart(rt: HostRuntime) -> Result<(), Fail> {
+    let words = ["cmwq", "chart", "--from", "10", "--to=40"];
+    let window = Word::Chart {
+        from: Some(10),
+        to: Some(40),
+    };
+    same(&rt, word_of(rt.alloc(), &words)?.word, window);
+    for number in ["", "-1", "x", "18446744073709551616"] {
+        assert!(rt; word_of(rt.alloc(), &["cmwq", "chart", "--from", number]).is_err());
+    }
+    Ok(())
+}
+
+#[test]
 fn refuses_the_flags_elsewhere(rt: HostRuntime) {
-    for name in ["step", "upgrade", "chart", "replay", "run"] {
+    for name in ["step", "upgrade", "chart", "trace", "replay", "run"] {
         assert!(rt; word_of(rt.alloc(), &["cmwq", name, "--front"]).is_err());
     }
-    for name in ["check", "upgrade", "chart", "replay", "run"] {
+    for name in ["check", "upgrade", "chart", "trace", "replay", "run"] {
         assert!(rt; word_of(rt.alloc(), &["cmwq", name, "--live"]).is_err());
     }
     assert!(rt; word_of(rt.alloc(), &["cmwq", "--front", "check"]).is_err());

@@ -3,7 +3,7 @@ use Rattle.cmwq_text.specs.Common.{◌≡◌, ℕ, suc, ◌+◌, ◌<◌, ◌≤
 use Rattle.std.proofs.Math.Seq.{split_at, get_or-append_seam}
 use Rattle.std.proofs.lemmas.List.Quantifiers.{position-Some}
 use Rattle.cmwq_text.specs.Numbers.{number_read, byte_of, short_of, greatest_number}
-use Rattle.cmwq_text.specs.Words.{◌>>=◌, take_one, byte_in, short_in, number_in, wide_in, long_in}
+use Rattle.cmwq_text.specs.Words.{◌>>=◌, take_one, byte_in, byte_count_in, short_count_in, short_in, number_in, wide_in, long_in}
 use Rattle.cmwq_text.specs.IdText.{item, queue_numbered, cpu, caller_numbered, worker_numbered, item_in, queue_in, cpu_in, pool_letter, is_pool_letter, who_text, caller_read, worker_read, who_read, who_in}
 use Rattle.cmwq_text.proofs.Steps.{bind_some}
 use Rattle.cmwq_text.proofs.NumberLaws.{own, number_again, number_takes, byte_again, byte_takes, short_again, short_takes}
@@ -31,6 +31,22 @@ queue_again q ws le = rw (byte_again q.0 le) refl
 
 pub cpu_again : (c : CpuId) (ws : List (List ℕ)) → c.0 ≤ greatest_byte → cpu_in (decimal c.0 ∷ ws) ≡ Some (c, ws)
 cpu_again c ws le = rw (byte_again c.0 le) refl
+
+pub byte_count_again : (n : ℕ) (ws : List (List ℕ)) → n ≤ greatest_byte → byte_count_in (decimal n ∷ ws) ≡ Some (n, ws)
+byte_count_again n ws le = rw (number_again greatest_byte n le (omega arith)) refl
+
+pub short_count_again : (n : ℕ) (ws : List (List ℕ)) → n ≤ greatest_short → short_count_in (decimal n ∷ ws) ≡ Some (n, ws)
+short_count_again n ws le = rw (number_again greatest_short n le (omega arith)) refl
+
+pub byte_count_takes : (ws : List (List ℕ)) (x : ℕ × List (List ℕ)) → byte_count_in ws ≡ Some x → ws ≡ decimal x.0 ∷ x.1
+byte_count_takes ws x e =
+    let read = word_takes (number_read greatest_byte) ws x e in
+    read.1 ∙ ap (λ (w : List ℕ). w ∷ x.1) (number_takes greatest_byte x.0 read.0 (omega arith) read.2).0
+
+pub short_count_takes : (ws : List (List ℕ)) (x : ℕ × List (List ℕ)) → short_count_in ws ≡ Some x → ws ≡ decimal x.0 ∷ x.1
+short_count_takes ws x e =
+    let read = word_takes (number_read greatest_short) ws x e in
+    read.1 ∙ ap (λ (w : List ℕ). w ∷ x.1) (number_takes greatest_short x.0 read.0 (omega arith) read.2).0
 
 pub number_in_takes : (ws : List (List ℕ)) (x : ℕ × List (List ℕ)) → number_in ws ≡ Some x → ws ≡ decimal x.0 ∷ x.1
 number_in_takes ws x e =

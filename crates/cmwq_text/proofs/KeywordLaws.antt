@@ -1,5 +1,5 @@
 -- A keyword that is spelled is read again, and what is read as a keyword is spelled so.
-use Rattle.cmwq_text.specs.Common.{◌≡◌, ℕ, Bool, true, false, List, [], ◌∷◌, Option, Some, refl, ap, sym, ◌∙◌, cond, subst, ◌⊎◌, inl, inr, find, same_Some, bytes_eq-Decides}
+use Rattle.cmwq_text.specs.Common.{◌≡◌, ℕ, true, List, ◌∷◌, Some, refl, ap, sym, ◌∙◌, bytes_eq-Decides}
 use Rattle.cmwq_text.specs.declared.keyword.Keyword.{Keyword}
 use Rattle.cmwq_text.specs.declared.keyword.Keyword.TheVariants as word
 use Rattle.cmwq_text.specs.declared.keyword.TheConstants.{KEYWORDS}
@@ -16,10 +16,6 @@ pub keyword_again : (k : Keyword) → keyword_of (keyword_text k) ≡ Some k
 unfolding keyword_of keyword_text
 keyword_again word.Queue = refl
 keyword_again k = refl
-
-first_or : {A : Type 0} (b : Bool) (x y : A) (o : Option A) → cond b (Some x) o ≡ Some y → ((b ≡ true) × (x ≡ y)) ⊎ (o ≡ Some y)
-first_or true x y o e = inl (refl, same_Some x y e)
-first_or false x y o e = inr e
 
 pub keyword_is : (k : Keyword) (w : List ℕ) → keyword_of w ≡ Some k → w ≡ keyword_text k
 unfolding keyword_of

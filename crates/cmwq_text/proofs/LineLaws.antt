@@ -1,6 +1,7 @@
 -- Whole lines: what is read from one that is spelled, where a line ends, and what fits a shape.
-use Rattle.cmwq_text.specs.Common.{◌≡◌, ℕ, ◌<◌, ◌≤◌, Bool, true, ◌&&◌, List, [], ◌∷◌, ◌++◌, length, ltb, leb, refl, ap, sym, ◌∙◌, arith, append_assoc, list_all, leb-true, ltb-true, lt-ltb, same_from_push, Who, Caller, Worker, Call, Reply, Layout, is_layout, most_room, are_counts, are_queues, is_between, may_make, has_numbers, has_place, is_callers, is_workers, reply_fits, greatest_byte, greatest_short}
+use Rattle.cmwq_text.specs.Common.{◌≡◌, ℕ, ◌<◌, ◌≤◌, Bool, true, ◌&&◌, List, [], ◌∷◌, ◌++◌, length, ltb, leb, refl, ap, sym, ◌∙◌, arith, append_assoc, list_all, leb-true, ltb-true, lt-ltb, same_from_push, Who, Caller, Worker, Call, Reply, Layout, is_layout, most_callers, most_cpus, most_items, most_queues, most_room, most_workers, are_counts, is_between, may_make, has_numbers, has_place, is_callers, is_workers, reply_fits, greatest_byte, greatest_short}
 use Rattle.cmwq_model.specs.declared.call.Call.TheVariants as call
+use Rattle.cmwq_model.proofs.Limits.{limits_of}
 use Rattle.cmwq_model.specs.declared.reply.Reply.TheVariants as reply
 use Rattle.cmwq_text.specs.Words.{words_of, join_words, line_text, has_no_word}
 use Rattle.cmwq_text.specs.Laws.{IsLineOf}
@@ -73,32 +74,31 @@ lines_apart v w rest p q e =
 -- ---- inside a shape
 
 pub record IsSmall (s : Layout) : Type 0 where
-  pub cpus : s.cpus ≤ 4
-  pub workers : s.workers ≤ 8
-  pub callers : s.callers ≤ 64
-  pub items : s.items ≤ 256
-  pub queues : length s.queues ≤ 64
+  pub cpus : s.cpus ≤ most_cpus
+  pub workers : s.workers ≤ most_workers
+  pub callers : s.callers ≤ most_callers
+  pub items : s.items ≤ most_items
+  pub queues : length s.queues ≤ most_queues
 
 at_most : (low high n : ℕ) → is_between low high n ≡ true → n ≤ high
 at_most low high n e = leb-true n high (and_parts (leb low n) (leb n high) e).1
 
-pub counts_are_small : (cpus workers callers items room : ℕ) → are_counts cpus workers callers items room ≡ true → (cpus ≤ 4) × (workers ≤ 8) × (callers ≤ 64) × (items ≤ 256) × (room ≤ most_room)
+pub counts_are_small : (cpus workers callers items room : ℕ) → are_counts cpus workers callers items room ≡ true → (cpus ≤ most_cpus) × (workers ≤ most_workers) × (callers ≤ most_callers) × (items ≤ most_items) × (room ≤ most_room)
 counts_are_small cpus workers callers items room e =
-    let a = is_between 1 4 cpus in
-    let b = is_between 1 8 workers in
-    let c = is_between 1 64 callers in
-    let d = is_between 1 256 items in
+    let a = is_between 1 most_cpus cpus in
+    let b = is_between 1 most_workers workers in
+    let c = is_between 1 most_callers callers in
+    let d = is_between 1 most_items items in
     let four = and_parts (a && b && c && d) (leb room most_room) e in
     let three = and_parts (a && b && c) d four.0 in
     let two = and_parts (a && b) c three.0 in
     let one = and_parts a b two.0 in
-    (at_most 1 4 cpus one.0, at_most 1 8 workers one.1, at_most 1 64 callers two.1, at_most 1 256 items three.1, leb-true room most_room four.1)
+    (at_most 1 most_cpus cpus one.0, at_most 1 most_workers workers one.1, at_most 1 most_callers callers two.1, at_most 1 most_items items three.1, leb-true room most_room four.1)
 
 pub layout_is_small : (s : Layout) → is_layout s ≡ true → IsSmall s
 layout_is_small s e =
-    let parts = and_parts (are_counts s.cpus s.workers s.callers s.items s.room) (are_queues s.queues) e in
-    let c = counts_are_small s.cpus s.workers s.callers s.items s.room parts.0 in
-    record { cpus = c.0; workers = c.1; callers = c.2; items = c.3; queues = at_most 1 64 (length s.queues) (and_parts (is_between 1 64 (length s.queues)) _ parts.1).0 }
+    let limits = limits_of s e in
+    record { cpus = limits.cpus.1; workers = limits.workers.1; callers = limits.callers.1; items = limits.items.1; queues = limits.queues.1 }
 
 pub known_who : (s : Layout) (who : Who) (c : Call) → IsSmall s → may_make s who c ≡ true → IsKnownWho who
 known_who s (Caller n) c small e =

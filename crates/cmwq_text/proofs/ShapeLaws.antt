@@ -2,7 +2,7 @@
 use Rattle.cmwq_text.specs.Common.{◌≡◌, ℕ, ◌≤◌, Bool, true, false, ◌&&◌, List, [], ◌∷◌, ◌++◌, length, eqb, leb, min, Option, Some, None, refl, ap, ◌∙◌, arith, cond, subst, codes, IsTrue, decimal, bytes_eq, leb-true, ne_eqb, same_Some, bytes_eq-Decides, length-append, Who, Caller, Worker, Call, Entry, Counts, QueueShape, are_counts, is_between, is_queue, IsWho, IsCall, IsEntry}
 use Rattle.cmwq_text.specs.declared.shape.Flags.{Flags}
 use Rattle.cmwq_text.specs.declared.shape.QueueLine.{QueueLine}
-use Rattle.cmwq_text.specs.Words.{◌>>=◌, words_of, line_text, has_no_word, after, word_read, byte_in, short_in, number_in, wide_in}
+use Rattle.cmwq_text.specs.Words.{◌>>=◌, words_of, line_text, has_no_word, after, word_read, byte_count_in, short_count_in, number_in, wide_in}
 use Rattle.cmwq_text.specs.IdText.{who_text, pool_letter}
 use Rattle.cmwq_text.specs.CallText.{call_words, call_text}
 use Rattle.cmwq_text.specs.ReplyText.{reply_words}
@@ -11,9 +11,8 @@ use Rattle.cmwq_text.specs.ShapeText.{counts_words, counts_text, counts_read, fl
 use Rattle.cmwq_text.specs.Numbers.{greatest_number}
 use Rattle.cmwq_text.specs.Laws.{IsLineOf, CountsReadAgain, QueuesReadAgain, CountsSpelledSo, QueuesSpelledSo, LinesAreShort}
 use Rattle.cmwq_text.proofs.Steps.{bind_some, chosen}
-use Rattle.cmwq_text.proofs.NumberLaws.{short_again}
 use Rattle.cmwq_text.proofs.WordLaws.{is_plain, are_plain, is_plain-decimal, after_takes, word_takes}
-use Rattle.cmwq_text.proofs.IdLaws.{byte_in_again, number_in_again, wide_in_again, byte_in_takes, short_in_takes, number_in_takes, wide_in_takes}
+use Rattle.cmwq_text.proofs.IdLaws.{byte_count_again, short_count_again, number_in_again, wide_in_again, byte_count_takes, short_count_takes, number_in_takes, wide_in_takes}
 use Rattle.cmwq_text.proofs.CallLaws.{call_is_short}
 use Rattle.cmwq_text.proofs.ReplyLaws.{reply_is_short}
 use Rattle.cmwq_text.proofs.PhraseLaws.{numbers_are_plain, size, size-append, line_len, byte_len, number_len, wide_len}
@@ -22,9 +21,6 @@ use Rattle.cmwq_text.proofs.EndLaws.{end_is_short}
 use Rattle.std.proofs.lemmas.Bool.{and_from, and_parts}
 use Rattle.cmwq_lemmas.proofs.Lists.{found_passes}
 
-short_in_again : (n : ℕ) (ws : List (List ℕ)) → n ≤ 65535 → short_in (decimal n ∷ ws) ≡ Some (n, ws)
-short_in_again n ws le = rw (short_again n le) refl
-
 abbrev counts_tested : Counts → List (List ℕ) → Option Counts
 counts_tested n ws = cond (has_no_word ws && are_counts n.cpus n.workers n.callers n.items n.room) (Some n) None
 
@@ -32,16 +28,16 @@ abbrev counts_after_items : ℕ → ℕ → ℕ → ℕ × List (List ℕ) → O
 counts_after_items cpus workers callers i = wide_in i.1 >>= λ room. counts_tested (record { cpus = cpus; workers = workers; callers = callers; items = i.0; room = room.0 }) room.1
 
 abbrev counts_after_callers : ℕ → ℕ → ℕ × List (List ℕ) → Option Counts
-counts_after_callers cpus workers c = short_in c.1 >>= counts_after_items cpus workers c.0
+counts_after_callers cpus workers c = short_count_in c.1 >>= counts_after_items cpus workers c.0
 
 abbrev counts_after_workers : ℕ → ℕ × List (List ℕ) → Option Counts
-counts_after_workers cpus w = byte_in w.1 >>= counts_after_callers cpus w.0
+counts_after_workers cpus w = byte_count_in w.1 >>= counts_after_callers cpus w.0
 
 abbrev counts_after_cpus : ℕ × List (List ℕ) → Option Counts
-counts_after_cpus c = byte_in c.1 >>= counts_after_workers c.0
+counts_after_cpus c = byte_count_in c.1 >>= counts_after_workers c.0
 
 abbrev pub counts_from : List (List ℕ) → Option Counts
-counts_from ws = after (codes "shape") ws >>= λ rest. byte_in rest >>= counts_after_cpus
+counts_from ws = after (codes "shape") ws >>= λ rest. byte_count_in rest >>= counts_after_cpus
 
 pub counts_are_plain : (n : Counts) → IsTrue (are_counts n.cpus n.workers n.callers n.items n.room) → are_plain (counts_words n) ≡ true
 counts_are_plain n inside =
@@ -56,10 +52,10 @@ counts_read_again n line inside is =
     let words : words_of line ≡ counts_words n = line_words (codes "shape") (decimal n.cpus ∷ decimal n.workers ∷ decimal n.callers ∷ decimal n.items ∷ decimal n.room ∷ []) line (counts_are_plain n inside) is in
     ap counts_from words
     ∙ rw (
-      byte_in_again n.cpus (decimal n.workers ∷ decimal n.callers ∷ decimal n.items ∷ decimal n.room ∷ []) (omega arith),
-      byte_in_again n.workers (decimal n.callers ∷ decimal n.items ∷ decimal n.room ∷ []) (omega arith),
-      byte_in_again n.callers (decimal n.items ∷ decimal n.room ∷ []) (omega arith),
-      short_in_again n.items (decimal n.room ∷ []) (omega arith),
+      byte_count_again n.cpus (decimal n.workers ∷ decimal n.callers ∷ decimal n.items ∷ decimal n.room ∷ []) (omega arith),
+      byte_count_again n.workers (decimal n.callers ∷ decimal n.items ∷ decimal n.room ∷ []) (omega arith),
+      byte_count_again n.callers (decimal n.items ∷ decimal n.room ∷ []) (omega arith),
+      short_count_again n.items (decimal n.room ∷ []) (omega arith),
       wide_in_again n.room [] (omega arith),
       inside,
     ) refl
@@ -70,22 +66,21 @@ counts_pieces ws a b c d e rest n first cpus workers callers items room ended = 
 pub counts_spelled_so : CountsSpelledSo
 unfolding counts_text counts_read
 counts_spelled_so n line is =
-    let first = bind_some (after (codes "shape") (words_of line)) (λ (rest : List (List ℕ)). byte_in rest >>= counts_after_cpus) n is in
-    let cpus = bind_some (byte_in first.0) counts_after_cpus n first.2 in
-    let workers = bind_some (byte_in cpus.0.1) (counts_after_workers cpus.0.0) n cpus.2 in
-    let callers = bind_some (byte_in workers.0.1) (counts_after_callers cpus.0.0 workers.0.0) n workers.2 in
-    let items = bind_some (short_in callers.0.1) (counts_after_items cpus.0.0 workers.0.0 callers.0.0) n callers.2 in
+    let first = bind_some (after (codes "shape") (words_of line)) (λ (rest : List (List ℕ)). byte_count_in rest >>= counts_after_cpus) n is in
+    let cpus = bind_some (byte_count_in first.0) counts_after_cpus n first.2 in
+    let workers = bind_some (byte_count_in cpus.0.1) (counts_after_workers cpus.0.0) n cpus.2 in
+    let callers = bind_some (byte_count_in workers.0.1) (counts_after_callers cpus.0.0 workers.0.0) n workers.2 in
+    let items = bind_some (short_count_in callers.0.1) (counts_after_items cpus.0.0 workers.0.0 callers.0.0) n callers.2 in
     let room = bind_some (wide_in items.0.1) (λ (r : ℕ × List (List ℕ)). counts_tested (record { cpus = cpus.0.0; workers = workers.0.0; callers = callers.0.0; items = items.0.0; room = r.0 }) r.1) n items.2 in
     let made : Counts = record { cpus = cpus.0.0; workers = workers.0.0; callers = callers.0.0; items = items.0.0; room = room.0.0 } in
     let found = chosen (has_no_word room.0.1 && are_counts made.cpus made.workers made.callers made.items made.room) (Some made) n room.2 in
     let tests = and_parts (has_no_word room.0.1) (are_counts made.cpus made.workers made.callers made.items made.room) found.0 in
-    let small = counts_are_small made.cpus made.workers made.callers made.items made.room tests.1 in
     let words : words_of line ≡ counts_words made = counts_pieces (words_of line) first.0 cpus.0.1 workers.0.1 callers.0.1 items.0.1 room.0.1 made
     (after_takes (codes "shape") (words_of line) first.0 first.1)
-    (byte_in_takes first.0 cpus.0 cpus.1 (omega arith))
-    (byte_in_takes cpus.0.1 workers.0 workers.1 (omega arith))
-    (byte_in_takes workers.0.1 callers.0 callers.1 (omega arith))
-    (short_in_takes callers.0.1 items.0 items.1 (omega arith))
+    (byte_count_takes first.0 cpus.0 cpus.1)
+    (byte_count_takes cpus.0.1 workers.0 workers.1)
+    (byte_count_takes workers.0.1 callers.0 callers.1)
+    (short_count_takes callers.0.1 items.0 items.1)
     (wide_in_takes items.0.1 room.0 room.1)
     (no_more room.0.1 tests.0) in
     line_is line (counts_words n) (words ∙ ap counts_words (same_Some _ _ found.1))

@@ -1,5 +1,5 @@
 -- Words that are joined are found again, if no space and no line feed stands inside them; and a line is its words, joined.
-use Rattle.cmwq_text.specs.Common.{◌≡◌, ℕ, zero, suc, ◌<◌, ◌≤◌, ◌^◌, Bool, true, false, ◌&&◌, List, [], ◌∷◌, ◌++◌, length, get_or, leb, ltb, Option, Some, refl, ap, ◌∙◌, arith, decimal, is_ascii_digit, all_ascii_digits, bytes_eq, list_all, leb-true, ltb-true, lt-ltb, ne_eqb, same_Some, slice_split_none, slice_split_at, join_with_byte-slice_split, bytes_eq-Decides, digits_decimal}
+use Rattle.cmwq_text.specs.Common.{◌≡◌, ℕ, zero, suc, ◌<◌, ◌≤◌, ◌^◌, Bool, true, false, List, [], ◌∷◌, ◌++◌, length, get_or, leb, ltb, Option, Some, refl, ap, ◌∙◌, arith, decimal, is_ascii_digit, all_ascii_digits, bytes_eq, list_all, leb-true, ltb-true, lt-ltb, ne_eqb, same_Some, slice_split_none, slice_split_at, join_with_byte-slice_split, bytes_eq-Decides, digits_decimal}
 use Rattle.cmwq_text.specs.Words.{is_space, words_of, join_words, after, word_read}
 use Rattle.cmwq_text.proofs.Steps.{bind_some, chosen}
 use Rattle.cmwq_text.proofs.NumberLaws.{own}

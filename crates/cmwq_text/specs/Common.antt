@@ -13,7 +13,7 @@ pub use Rattle.std.specs.Fmt.{decimal}
 pub use Rattle.std.specs.List.{All, AllByRecursion, find, flat_map, join_with_byte, list_all, onto_first, position_or_len, slice_split, starts_with}
 pub use Rattle.std.specs.Prelude.{IsTrue, codes, if◌then◌else◌, nat_eq, not, position, slice_index, ◌==◌}
 pub use Rattle.std.specs.Str.{all_ascii_digits, bytes_eq}
-pub use Rattle.cmwq_model.specs.Prelude.{IsCall, IsEntry, IsReply, IsWho, Layout, are_counts, are_queues, entry_fits, fits, greatest, greatest_byte, greatest_long, greatest_short, has_numbers, has_place, is_between, is_callers, is_layout, is_queue, is_workers, may_make, most_room, most_time, reply_fits}
+pub use Rattle.cmwq_model.specs.Prelude.{IsCall, IsEntry, IsReply, IsWho, Layout, are_counts, are_queues, entry_fits, fits, greatest, greatest_byte, greatest_long, greatest_short, has_numbers, has_place, is_between, is_callers, is_layout, is_queue, is_workers, may_make, most_callers, most_cpus, most_items, most_queues, most_room, most_time, most_workers, reply_fits}
 pub use Rattle.cmwq_model.specs.declared.call.Call.{Call}
 pub use Rattle.cmwq_model.specs.declared.entry.Entry.{Entry}
 pub use Rattle.cmwq_model.specs.declared.id.CpuId.{CpuId}

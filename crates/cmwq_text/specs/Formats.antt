@@ -4,7 +4,7 @@
 -- many entries stand before it. A file of calls has no line of a format and the limits of the older ones, or begins with the line `calls 3` and has
 -- those of format 3.
 use Rattle.std.specs.Prelude.{◌&&◌, ◌||◌, ◌==◌, if◌then◌else◌}
-use Rattle.cmwq_text.specs.Common.{ℕ, Bool, true, false, not, List, Option, Some, None, codes, nat_le, bytes_eq, Call, Reply, Entry, Who, Counts, QueueShape, most_room, greatest, most_time}
+use Rattle.cmwq_text.specs.Common.{ℕ, Bool, true, false, not, List, Option, Some, None, codes, nat_le, bytes_eq, Call, Reply, Entry, Who, Counts, QueueShape, most_queues, most_room, greatest, most_time}
 use Rattle.cmwq_model.specs.declared.call.Call.TheVariants as call
 use Rattle.cmwq_model.specs.declared.reply.Reply.TheVariants as reply
 use Rattle.cmwq_text.specs.CallText.{call_read}
@@ -27,16 +27,32 @@ calls_name = codes "calls 3"
 abbrev pub is_calls_line : ℕ → List ℕ → Bool
 is_calls_line version line = version == 3 && bytes_eq line calls_name
 
--- the limits of formats 1 and 2, and of files of calls without a line of a format: of the lines behind the queues, and of the room
+-- the limits of formats 1 and 2, and of files of calls without a line of a format: of the numbers of a shape, of the lines behind the queues, and of
+-- the room
+abbrev pub old_cpus : ℕ
+old_cpus = 4
+
+abbrev pub old_workers : ℕ
+old_workers = 8
+
+abbrev pub old_callers : ℕ
+old_callers = 64
+
+abbrev pub old_items : ℕ
+old_items = 256
+
+abbrev pub old_queues : ℕ
+old_queues = 64
+
 abbrev pub old_lines : ℕ
 old_lines = 1000000
 
 abbrev pub old_room : ℕ
 old_room = 1000000
 
--- the lines of format 3: 2 ^ 62 - 10000, as many entries as a judge takes. Its room is the greatest that a shape has.
+-- the lines of format 3: 2 ^ 62 - 1000000, as many entries as a judge takes. Its other limits are those of every shape.
 abbrev pub most_lines : ℕ
-most_lines = 4611686018427377904
+most_lines = 4611686018426387904
 
 -- what an older format has at most, and a newer one
 unfoldable pub by_age : ℕ → ℕ → ℕ → ℕ
@@ -47,6 +63,9 @@ line_limit version = by_age old_lines most_lines version
 
 abbrev pub room_limit : ℕ → ℕ
 room_limit version = by_age old_room most_room version
+
+abbrev pub queue_limit : ℕ → ℕ
+queue_limit version = by_age old_queues most_queues version
 
 abbrev pub is_old_call : Call → Bool
 is_old_call (call.SetMax q n) = false
@@ -106,8 +125,14 @@ allows_queue version q = nat_le 2 version || not q.freezable
 abbrev pub allows_entry : ℕ → Entry → Bool
 allows_entry version e = if nat_le 3 version then is_timely e.reply else (is_short_entry e && (nat_le 2 version || (is_old_call e.call && is_old_reply e.reply)))
 
+abbrev pub are_old_counts : Counts → Bool
+are_old_counts c = nat_le c.cpus old_cpus && nat_le c.workers old_workers && nat_le c.callers old_callers && nat_le c.items old_items
+
+abbrev pub allows_numbers : ℕ → Counts → Bool
+allows_numbers version c = nat_le 3 version || are_old_counts c
+
 abbrev pub allows_counts : ℕ → Counts → Bool
-allows_counts version c = nat_le c.room (room_limit version)
+allows_counts version c = nat_le c.room (room_limit version) && allows_numbers version c
 
 -- the counts, the queue and the entry of a line of such a history
 unfoldable pub counts_of_format : ℕ → List ℕ → Option Counts

@@ -3,7 +3,7 @@ use Rattle.std.specs.Prelude.{◌&&◌, ◌==◌, if◌then◌else◌, ◌∷◌
 use Rattle.cmwq_text.specs.Common.{ℕ, Bool, true, false, List, [], find, Option, Some, None, codes, decimal, min, nat_eq, starts_with, bytes_eq, Counts, QueueShape, are_counts, is_between}
 use Rattle.cmwq_text.specs.declared.shape.Flags.{Flags}
 use Rattle.cmwq_text.specs.declared.shape.QueueLine.{QueueLine}
-use Rattle.cmwq_text.specs.Words.{◌>>=◌, words_of, line_text, has_no_word, after, word_read, byte_in, short_in, number_in, wide_in}
+use Rattle.cmwq_text.specs.Words.{◌>>=◌, words_of, line_text, has_no_word, after, word_read, byte_count_in, short_count_in, number_in, wide_in}
 
 abbrev pub counts_words : Counts → List (List ℕ)
 counts_words n = codes "shape" ∷ decimal n.cpus ∷ decimal n.workers ∷ decimal n.callers ∷ decimal n.items ∷ decimal n.room ∷ []
@@ -15,10 +15,10 @@ counts_text n = line_text (counts_words n)
 unfoldable pub counts_read : List ℕ → Option Counts
 counts_read line = do
   words ← after (codes "shape") (words_of line)
-  cpus ← byte_in words
-  workers ← byte_in cpus.1
-  callers ← byte_in workers.1
-  items ← short_in callers.1
+  cpus ← byte_count_in words
+  workers ← byte_count_in cpus.1
+  callers ← byte_count_in workers.1
+  items ← short_count_in callers.1
   room ← wide_in items.1
   if has_no_word room.1 && are_counts cpus.0 workers.0 callers.0 items.0 room.0
       then Some (record { cpus = cpus.0; workers = workers.0; callers = callers.0; items = items.0; room = room.0 })

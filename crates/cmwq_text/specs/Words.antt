@@ -1,6 +1,6 @@
 -- A line as its words, and reading from the first word on: a reader gives a value and the words that are left, if it can.
 use Rattle.std.specs.Prelude.{◌==◌, if◌then◌else◌, ◌∷◌, ◌++◌}
-use Rattle.cmwq_text.specs.Common.{ℕ, Bool, true, false, List, [], Option, Some, None, slice_split, join_with_byte, bytes_eq, greatest, greatest_long}
+use Rattle.cmwq_text.specs.Common.{ℕ, Bool, true, false, List, [], Option, Some, None, slice_split, join_with_byte, bytes_eq, greatest, greatest_byte, greatest_long, greatest_short}
 use Rattle.std.specs.Option.{option_map}
 use denote.Ref.{Bor}
 use Rattle.cmwq_text.specs.Numbers.{number_read, byte_of, short_of, greatest_number}
@@ -64,6 +64,13 @@ byte_in words = word_read byte_of words
 
 abbrev pub short_in : List (List ℕ) → Option (ℕ × List (List ℕ))
 short_in words = word_read short_of words
+
+-- how many of something there are: a greater number than these hold is none
+abbrev pub byte_count_in : List (List ℕ) → Option (ℕ × List (List ℕ))
+byte_count_in words = word_read (number_read greatest_byte) words
+
+abbrev pub short_count_in : List (List ℕ) → Option (ℕ × List (List ℕ))
+short_count_in words = word_read (number_read greatest_short) words
 
 abbrev pub number_in : List (List ℕ) → Option (ℕ × List (List ℕ))
 number_in words = word_read (number_read greatest) words

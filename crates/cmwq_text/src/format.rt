@@ -1,11 +1,11 @@
 //! The three formats of histories.
 ghost use Rattle.std.specs.Prelude.{◌≡◌, ◌≤◌};
-ghost use Rattle.cmwq_text.specs.Formats.{is_version_line, is_calls_line, is_old_call, is_old_reply, is_short, is_short_call, is_short_reply, is_short_entry, is_timely, allows_call, call_of_format, most_lines, line_limit, room_limit, allows_counts, needs_end, allows_queue, allows_entry, counts_of_format, queue_of_format, entry_of_format};
+ghost use Rattle.cmwq_text.specs.Formats.{is_version_line, is_calls_line, is_old_call, is_old_reply, is_short, is_short_call, is_short_reply, is_short_entry, is_timely, allows_call, call_of_format, most_lines, line_limit, room_limit, queue_limit, are_old_counts, allows_numbers, allows_counts, needs_end, allows_queue, allows_entry, counts_of_format, queue_of_format, entry_of_format};
 
 use crate::call::read_call;
 use crate::entry::read_entry;
 use crate::shape::{read_counts, read_queue_of_history};
-use cmwq_model::{Call, Counts, Entry, Number, QueueShape, Reply, Who};
+use cmwq_model::{Call, Counts, Entry, MOST_QUEUES, Number, QueueShape, Reply, Who};
 
 /// The format that has the whole grammar, up to a million lines.
 const WHOLE: u8 = 2;
@@ -16,10 +16,21 @@ const LONG: u8 = 3;
 /// The greatest number of an entry in the formats before that.
 const GREATEST_SHORT: Number = 4_294_967_295;
 
+/// The greatest numbers of a shape in the formats before it, which has those of every shape.
+const OLD_CPUS: u8 = 4;
+
+const OLD_WORKERS: u8 = 8;
+
+const OLD_CALLERS: u8 = 64;
+
+const OLD_ITEMS: u16 = 256;
+
+const OLD_QUEUES: usize = 64;
+
 /// The greatest numbers of lines behind the queues: in the formats before it, and in it.
 const OLD_LINES: u64 = 1_000_000;
 
-const MOST_LINES: u64 = 4_611_686_018_427_377_904;
+const MOST_LINES: u64 = 4_611_686_018_426_387_904;
 
 /// The greatest rooms.
 const OLD_ROOM: u64 = 1_000_000;
@@ -68,6 +79,18 @@ fn room_limit(version: u8) -> u64
     if version >= LONG { MOST_ROOM } else { OLD_ROOM }
 }
 
+/// The greatest number of queues in this format.
+#[tactic(auto, unfolding(crate::specs::Formats::by_age))]
+pub fn queue_limit(version: u8) -> usize
+    ensures { result ≡ queue_limit version }
+{
+    if version >= LONG {
+        MOST_QUEUES
+    } else {
+        OLD_QUEUES
+    }
+}
+
 /// Whether a history of this format has a last line, which says how many entries stand before it.
 pub fn needs_end(version: u8) -> bool
     ensures { result ≡ needs_end version }
@@ -75,10 +98,25 @@ pub fn needs_end(version: u8) -> bool
     version > WHOLE
 }
 
+fn are_old_counts(counts: &Counts) -> bool
+    ensures { result ≡ are_old_counts counts.now }
+{
+    counts.cpus <= OLD_CPUS
+        && counts.workers <= OLD_WORKERS
+        && counts.callers <= OLD_CALLERS
+        && counts.items <= OLD_ITEMS
+}
+
+fn allows_numbers(version: u8, counts: &Counts) -> bool
+    ensures { result ≡ allows_numbers version counts.now }
+{
+    version >= LONG || are_old_counts(counts)
+}
+
 fn allows_counts(version: u8, counts: &Counts) -> bool
     ensures { result ≡ allows_counts version counts.now }
 {
-    counts.room <= room_limit(version)
+    counts.room <= room_limit(version) && allows_numbers(version, counts)
 }
 
 fn is_old_call(call: Call) -> bool

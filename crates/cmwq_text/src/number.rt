@@ -1,7 +1,7 @@
 //! Numbers in a text.
 ghost use Rattle.std.specs.Prelude.{◌≡◌, ◌≤◌, IfSome};
 ghost use Rattle.cmwq_text.specs.Numbers.{with_digit, digits_from, is_begun, number_read, byte_of, short_of, greatest_number};
-ghost use Rattle.cmwq_model.specs.Prelude.{greatest, greatest_long};
+ghost use Rattle.cmwq_model.specs.Prelude.{greatest, greatest_byte, greatest_long, greatest_short};
 
 /// The greatest number of an entry.
 const GREATEST_NUMBER: u64 = 9_223_372_036_854_775_807;
@@ -66,6 +66,20 @@ pub fn number_of(word: &[u8]) -> Option<u32>
     u32::try_from(limited(u64::from(u32::MAX), word)?).ok()
 }
 
+/// The number of at most 65,535 that a word spells.
+pub fn short_count_of(word: &[u8]) -> Option<u16>
+    ensures { result ≡ number_read greatest_short word.now }
+{
+    u16::try_from(limited(u64::from(u16::MAX), word)?).ok()
+}
+
+/// The number of at most 255 that a word spells.
+pub fn byte_count_of(word: &[u8]) -> Option<u8>
+    ensures { result ≡ number_read greatest_byte word.now }
+{
+    u8::try_from(limited(u64::from(u8::MAX), word)?).ok()
+}
+
 /// The number of at most 9,223,372,036,854,775,807 that a word spells.
 pub fn wide_of(word: &[u8]) -> Option<u64>
     ensures { result ≡ number_read greatest_number word.now }
@@ -73,14 +87,14 @@ pub fn wide_of(word: &[u8]) -> Option<u64>
     limited(GREATEST_NUMBER, word)
 }
 
-/// The same, and a number above 65,535 is read as that.
+/// The number of at most 4,294,967,295 that a word spells, where one above 65,535 is read as that.
 pub fn short_of(word: &[u8]) -> Option<u16>
     ensures { result ≡ short_of word.now }
 {
     Some(u16::try_from(number_of(word)?).unwrap_or(u16::MAX))
 }
 
-/// The same, and a number above 255 is read as that.
+/// The number of at most 4,294,967,295 that a word spells, where one above 255 is read as that.
 pub fn byte_of(word: &[u8]) -> Option<u8>
     ensures { result ≡ byte_of word.now }
 {

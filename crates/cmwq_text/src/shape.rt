@@ -2,7 +2,7 @@
 ghost use Rattle.std.specs.Prelude.{◌≡◌};
 ghost use Rattle.cmwq_text.specs.ShapeText.{counts_read, begins_queue, flags_of, queue_line_of, queue_of_calls, queue_of_history, width_taken};
 
-use crate::word::{Words, byte_in, number_in, short_in, wide_in};
+use crate::word::{Words, byte_count_in, number_in, short_count_in, wide_in};
 use cmwq_model::{Counts, QueueShape};
 
 /// The flags of a queue.
@@ -28,10 +28,10 @@ pub fn read_counts(line: &[u8]) -> Option<Counts>
     let mut words = Words::of(line);
     words.after(b"shape")?;
     let counts = Counts {
-        cpus: byte_in(&mut words)?,
-        workers: byte_in(&mut words)?,
-        callers: byte_in(&mut words)?,
-        items: short_in(&mut words)?,
+        cpus: byte_count_in(&mut words)?,
+        workers: byte_count_in(&mut words)?,
+        callers: byte_count_in(&mut words)?,
+        items: short_count_in(&mut words)?,
         room: wide_in(&mut words)?,
     };
     if words.is_end() && counts.are_allowed() {

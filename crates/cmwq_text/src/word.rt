@@ -1,8 +1,10 @@
 //! A line as its words. Each reader takes the words that it reads; where it gives None, some may be taken.
 ghost use Rattle.std.specs.Prelude.{◌≡◌, position};
-ghost use Rattle.cmwq_text.specs.Words.{is_space, with_left, byte_in, short_in, number_in, wide_in, long_in};
+ghost use Rattle.cmwq_text.specs.Words.{is_space, with_left, byte_in, short_in, byte_count_in, short_count_in, number_in, wide_in, long_in};
 
-use crate::number::{byte_of, long_of, number_of, short_of, wide_of};
+use crate::number::{
+    byte_count_of, byte_of, long_of, number_of, short_count_of, short_of, wide_of,
+};
 use std::marker::Model;
 
 fn first_space(bytes: &[u8]) -> Option<usize>
@@ -84,6 +86,20 @@ pub fn short_in(words: &mut Words<'_>) -> Option<u16>
     ensures { with_left result words.new ≡ short_in words.old }
 {
     short_of(words.first()?)
+}
+
+/// How many of something there are, at most 255: a greater number is none.
+pub fn byte_count_in(words: &mut Words<'_>) -> Option<u8>
+    ensures { with_left result words.new ≡ byte_count_in words.old }
+{
+    byte_count_of(words.first()?)
+}
+
+/// The same, at most 65,535.
+pub fn short_count_in(words: &mut Words<'_>) -> Option<u16>
+    ensures { with_left result words.new ≡ short_count_in words.old }
+{
+    short_count_of(words.first()?)
 }
 
 /// A number of at most 4,294,967,295.

@@ -1,5 +1,5 @@
 -- While a cancel_sync of an item is unended, the item is not pending.
-use Rattle.cmwq_theory_laws.specs.Common.{◌≡◌, ◌≤◌, ◌+◌, ◌==◌, ℕ, Bool, true, false, cond, ◌&&◌, ◌||◌, List, [], ◌∷◌, length, filter, count_by, Some, None, option_to_list, refl, sym, ap, ap₂, ◌∙◌, arith, is_some, if◌then◌else◌, option_and_then, option_map, option_or, list_any, or-false, or_parts, or_right, eq-eqb, list_any-append, filter-append, Who, Caller, Worker, Call, Reply, Entry, Queueing, Ticket, Layout, is_at, item_called, item_fired, item_of, is_of_item, settles, due_in, is_booked, booked_by, number_cancelled, takes_back, opens, opening, queued_at, place_wanted, still_open, is_unstarted, unstarted_queueing, is_pending, tickets, is_unended, ticket_in, ticket_for, gives_ticket, cancels_sync, is_cancel_sync_of, is_cancelling, IsLegal, count_by-none, count_by-filter, count_none, none_found, Cause, IsFree, cause_of, booking_after, due_own, pending_count, no_more_pending, waiting_now, unstarted_count, waiting_was, none_unstarted, not_idle, of_item, booked_or_unstarted, one_unstarted}
+use Rattle.cmwq_theory_laws.specs.Common.{◌≡◌, ◌≤◌, ◌+◌, ◌==◌, ℕ, Bool, true, false, cond, ◌&&◌, ◌||◌, List, [], ◌∷◌, length, filter, count_by, Some, None, option_to_list, refl, sym, ap, ap₂, ◌∙◌, arith, is_some, if◌then◌else◌, option_and_then, option_or, list_any, or-false, or_parts, or_right, eq-eqb, list_any-append, filter-append, Who, Caller, Worker, Call, Reply, Entry, Queueing, Ticket, Layout, is_at, item_called, item_fired, is_of_item, settles, due_in, is_booked, booked_by, number_cancelled, takes_back, opens, opening, still_open, is_unstarted, unstarted_queueing, is_pending, tickets, is_unended, ticket_in, ticket_for, gives_ticket, cancels_sync, is_cancel_sync_of, is_cancelling, IsLegal, count_by-none, count_by-filter, count_none, none_found, Cause, IsFree, cause_of, booking_after, due_own, pending_count, no_more_pending, waiting_now, unstarted_count, waiting_was, none_unstarted, not_idle, of_item, booked_or_unstarted, one_unstarted}
 use Rattle.cmwq_model.specs.declared.call.Call.TheVariants as call
 use Rattle.cmwq_theory_steps.proofs.Causes as cause
 use Rattle.cmwq_theory_steps.proofs.PendingSteps.{none_opened}

@@ -1,5 +1,7 @@
 -- The replies of a legal history fit its layout, and its numbers are inside their ranges.
-use Rattle.cmwq_theory_laws.specs.Common.{◌≡◌, ◌<◌, ◌≤◌, ◌+◌, ◌*◌, ℕ, zero, suc, Bool, true, false, ◌&&◌, List, [], ◌∷◌, length, find, Option, Some, None, nat_lt, refl, sym, ap, ap₂, subst, arith, option_map, option_and_then, if◌then◌else◌, IsTrue, reverse, All, AllByRecursion, range_with_len, list_any, and_parts, leb-true, le-leb, ltb-true, lt-ltb, reverse-append, reverse-reverse, length-reverse, All-from_recursion, recursion_from_All, WorkerId, Who, Call, Reply, Entry, Booking, Queueing, Start, Layout, is_layout, indices, has_numbers, reply_fits, entry_fits, IsWho, IsCall, IsReply, IsEntry, greatest, is_by, is_of_item, serial_of, ticks_told, now, settles, due_in, booking, booking_of, booked_by, run, item_run, still_open, unstarted_queueing, next, holds_up, least_waited, waits_for, enlisted_by, is_other_idle, is_reserve, IsLegal, past_of, most_time, has_time, All_append, find_holds, next_holds, IsKnown, known_more, queueings_known, IsOpenOne, open_known, unstarted_is, started_older, run_is, items_are_run, due_own, Cause, cause_of, legal_fits}
+use Rattle.cmwq_theory_laws.specs.Common.{◌≡◌, ◌<◌, ◌≤◌, ◌+◌, ◌*◌, ℕ, zero, suc, Bool, true, false, ◌&&◌, List, [], ◌∷◌, length, find, Option, Some, None, nat_lt, refl, sym, ap, ap₂, subst, arith, option_map, option_and_then, if◌then◌else◌, IsTrue, reverse, All, AllByRecursion, range_with_len, list_any, and_parts, le-leb, ltb-true, lt-ltb, reverse-append, reverse-reverse, length-reverse, All-from_recursion, recursion_from_All, WorkerId, Who, Call, Reply, Entry, Booking, Queueing, Start, Layout, is_layout, indices, has_numbers, reply_fits, entry_fits, IsWho, IsCall, IsReply, IsEntry, greatest, is_by, is_of_item, serial_of, ticks_told, now, settles, due_in, booking, booking_of, booked_by, run, item_run, still_open, unstarted_queueing, next, holds_up, least_waited, waits_for, enlisted_by, is_other_idle, is_reserve, IsLegal, past_of, most_time, has_time, All_append, find_holds, next_holds, IsKnown, known_more, queueings_known, IsOpenOne, open_known, unstarted_is, started_older, run_is, items_are_run, due_own, Cause, cause_of, legal_fits}
+use Rattle.cmwq_model.proofs.Limits.{limits_of}
+use Rattle.cmwq_model.specs.Prelude.{most_items, most_workers}
 use Rattle.cmwq_model.specs.declared.call.Call.TheVariants as call
 use Rattle.cmwq_theory_steps.proofs.Causes as cause
 use Rattle.std.proofs.lemmas.List.Sums.{count_by-le-length}
@@ -92,8 +94,8 @@ record Limits (s : Layout) (most : ℕ) (past : List Entry) (c : Call) : Type 0 
   long : length past ≤ most
   soon : now past + ticks_told c ≤ most_time
   ticks : ticks_asked c ≤ greatest
-  few_items : s.items ≤ 256
-  few_workers : s.workers ≤ 8
+  few_items : s.items ≤ most_items
+  few_workers : s.workers ≤ most_workers
 
 replies_fit : (s : Layout) (past : List Entry) (who : Who) (c : Call) (r : Reply) → IsLegal s past → Cause s past who c r → reply_fits s r ≡ true
 replies_fit s past who c r legal (cause.fires w b due) = booked_item s past b.item.0 b legal (due_own past b due)
@@ -163,8 +165,8 @@ entry_in_range s m past e inside legal long soon own = record {
     long = long;
     soon = soon;
     ticks = asked_most m e.call own.1;
-    few_items = leb-true s.items 256 (and_parts _ _ (and_parts _ _ (and_parts _ _ (and_parts _ _ inside).0).0).1).1;
-    few_workers = leb-true s.workers 8 (and_parts _ _ (and_parts _ _ (and_parts _ _ (and_parts _ _ (and_parts _ _ (and_parts _ _ inside).0).0).0).0).1).1;
+    few_items = (limits_of s inside).items.1;
+    few_workers = (limits_of s inside).workers.1;
   }) (cause_of s past e legal);
 }
 

@@ -1,5 +1,5 @@
 -- Where the end of a ticket is answered done, all that it waits for has ended.
-use Rattle.cmwq_theory_laws.specs.Common.{◌≡◌, ◌≤◌, ◌<◌, ◌==◌, ℕ, Bool, true, false, ◌&&◌, List, [], ◌∷◌, length, Option, Some, None, nat_lt, nat_le, refl, sym, ◌∙◌, arith, option_map, if◌then◌else◌, option_or, AllByRecursion, nat_tests, Call, Entry, Queueing, Layout, queueings, is_live, still_open, serving_from, is_served_after, is_within, holds_up, waits_for, least_waited, IsLegal, All_both, All_each, find_none, All_unfilter, IsBelow, queueings_below, ready_call}
+use Rattle.cmwq_theory_laws.specs.Common.{◌≡◌, ◌≤◌, ◌<◌, ◌==◌, ℕ, Bool, true, false, ◌&&◌, List, [], ◌∷◌, length, Option, Some, None, nat_lt, nat_le, refl, sym, ◌∙◌, arith, if◌then◌else◌, option_or, AllByRecursion, nat_tests, Call, Entry, Queueing, Layout, queueings, is_live, still_open, serving_from, is_served_after, is_within, holds_up, waits_for, least_waited, IsLegal, All_both, All_each, find_none, All_unfilter, IsBelow, queueings_below, ready_call}
 use Rattle.cmwq_model.specs.declared.call.Call.TheVariants as call
 use Rattle.cmwq_theory_laws.specs.Headline.{is_waited_for, has_ended, WaitsEndAfter}
 use Rattle.cmwq_theory_steps.proofs.Refusals.{none_mapped}

@@ -2,9 +2,8 @@
 use Rattle.cmwq_ticket.specs.Common.{◌≡◌, ℕ, ◌+◌, ◌-◌, ◌<◌, ◌≤◌, Bool, true, not, List, [], ◌∷◌, ◌++◌, length, get_or, filter, find, count_by, All, AllPairs, IsTrue, Option, Some, None, is_some, refl, sym, ap, ◌∙◌, arith, ⊎_elim, replicate, sum_by, zero, suc, mul-zero, nat_lt, slice_set, slice_index, list_all, and_parts, ltb-true, cases_lt, nat_tests, length-append, length-set, length-replicate, get_or_past, get_or_read_under, sum_by-replicate, sum_by-set, sum_by-cons, sum_by-le, Call, Ticket, cancels_sync, drains, destroys, is_cancel_sync_of, is_destroy_of, is_drain_of}
 use Rattle.std.proofs.lemmas.List.Elements.{All-set, All-replicate}
 use Rattle.cmwq_model.specs.declared.call.Call.TheVariants as call
-use Rattle.cmwq_ticket.specs.declared.counts.Counts.{Counts}
-use Rattle.cmwq_ticket.specs.Counts.{AreExact, AreSized, HasCount, HaveRoom, is_counted, counts_with, counts_without, no_counts, IsExact}
-use Rattle.cmwq_ticket.specs.Rows.{TicketRows, tickets_of_caller, rows_with, rows_without, ticket_of_caller, is_row_crowded, is_numbered, is_other_ticket, comes_before, may_give, count, IsOlderTicket, IsRow}
+use Rattle.cmwq_ticket.specs.Counts.{TicketCounts, AreExact, AreSized, HasCount, HaveRoom, is_counted, counts_with, counts_without, no_counts, IsExact}
+use Rattle.cmwq_ticket.specs.Rows.{TicketBook, TicketRows, tickets_of_caller, rows_with, rows_without, ticket_of_caller, is_row_crowded, is_numbered, is_other_ticket, comes_before, may_give, count, IsOlderTicket, IsRow}
 use Rattle.cmwq_ticket.specs.Upkeep.{AreKept}
 use Rattle.cmwq_ticket.proofs.RowSteps.{IsRow-push, IsRow-filter, count_by-other}
 use Rattle.cmwq_ticket.proofs.Counting.{given_uncounted, ended_uncounted, given_counted, counted_some, ended_counted, counts_below}
@@ -14,36 +13,36 @@ use Rattle.cmwq_ticket.proofs.Counting.{given_uncounted, ended_uncounted, given_
 set_size : (counts : List ℕ) (k x n : ℕ) → length counts ≡ n → length (slice_set counts k x) ≡ n
 set_size counts k x n size = length-set counts k x ∙ size
 
-AreSized-raised : (c : Call) (a : Counts) → AreSized a → AreSized (counts_with c a)
-AreSized-raised (call.CancelSync j) a is = record { cancels = set_size a.cancels j.0 _ 256 is.cancels; destroys = is.destroys; drains = is.drains }
-AreSized-raised (call.Drain q) a is = record { cancels = is.cancels; destroys = is.destroys; drains = set_size a.drains q.0 _ 64 is.drains }
-AreSized-raised (call.Destroy q) a is = record { cancels = is.cancels; destroys = set_size a.destroys q.0 _ 64 is.destroys; drains = set_size a.drains q.0 _ 64 is.drains }
-AreSized-raised c a is = is
+AreSized-raised : (items queues : ℕ) (c : Call) (a : TicketCounts) → AreSized items queues a → AreSized items queues (counts_with c a)
+AreSized-raised items queues (call.CancelSync j) a is = record { cancels = set_size a.cancels j.0 _ items is.cancels; destroys = is.destroys; drains = is.drains }
+AreSized-raised items queues (call.Drain q) a is = record { cancels = is.cancels; destroys = is.destroys; drains = set_size a.drains q.0 _ queues is.drains }
+AreSized-raised items queues (call.Destroy q) a is = record { cancels = is.cancels; destroys = set_size a.destroys q.0 _ queues is.destroys; drains = set_size a.drains q.0 _ queues is.drains }
+AreSized-raised items queues c a is = is
 
-AreSized-lowered : (c : Call) (a : Counts) → AreSized a → AreSized (counts_without c a)
-AreSized-lowered (call.CancelSync j) a is = record { cancels = set_size a.cancels j.0 _ 256 is.cancels; destroys = is.destroys; drains = is.drains }
-AreSized-lowered (call.Drain q) a is = record { cancels = is.cancels; destroys = is.destroys; drains = set_size a.drains q.0 _ 64 is.drains }
-AreSized-lowered (call.Destroy q) a is = record { cancels = is.cancels; destroys = set_size a.destroys q.0 _ 64 is.destroys; drains = set_size a.drains q.0 _ 64 is.drains }
-AreSized-lowered c a is = is
+AreSized-lowered : (items queues : ℕ) (c : Call) (a : TicketCounts) → AreSized items queues a → AreSized items queues (counts_without c a)
+AreSized-lowered items queues (call.CancelSync j) a is = record { cancels = set_size a.cancels j.0 _ items is.cancels; destroys = is.destroys; drains = is.drains }
+AreSized-lowered items queues (call.Drain q) a is = record { cancels = is.cancels; destroys = is.destroys; drains = set_size a.drains q.0 _ queues is.drains }
+AreSized-lowered items queues (call.Destroy q) a is = record { cancels = is.cancels; destroys = set_size a.destroys q.0 _ queues is.destroys; drains = set_size a.drains q.0 _ queues is.drains }
+AreSized-lowered items queues c a is = is
 
 -- ---- a ticket is given
 
-module _ (a : Counts) (rows : TicketRows) (exact : AreExact a rows) (sized : AreSized a) where
-  pub AreExact-given : (t : Ticket) (c : Call) → t.call ≡ c → t.caller.0 < length rows → is_counted c ≡ true → AreExact (counts_with c a) (rows_with rows t)
+module _ (items queues : ℕ) (a : TicketCounts) (rows : TicketRows) (exact : AreExact a rows) (sized : AreSized items queues a) where
+  pub AreExact-given : (t : Ticket) (c : Call) → t.call ≡ c → t.caller.0 < length rows → is_counted items queues c ≡ true → AreExact (counts_with c a) (rows_with rows t)
   AreExact-given t (call.CancelSync j) is there counted = record {
-    cancels = given_counted is_cancel_sync_of a.cancels rows exact.cancels t j.0 there (λ i. ap (cancels_sync i) is) (let lt = ltb-true j.0 256 counted in let size = sized.cancels in omega arith);
+    cancels = given_counted is_cancel_sync_of a.cancels rows exact.cancels t j.0 there (λ i. ap (cancels_sync i) is) (let lt = ltb-true j.0 items counted in let size = sized.cancels in omega arith);
     destroys = given_uncounted is_destroy_of a.destroys rows exact.destroys t there (λ i. ap (destroys i) is);
     drains = given_uncounted is_drain_of a.drains rows exact.drains t there (λ i. ap (drains i) is);
   }
   AreExact-given t (call.Drain q) is there counted = record {
     cancels = given_uncounted is_cancel_sync_of a.cancels rows exact.cancels t there (λ i. ap (cancels_sync i) is);
     destroys = given_uncounted is_destroy_of a.destroys rows exact.destroys t there (λ i. ap (destroys i) is);
-    drains = given_counted is_drain_of a.drains rows exact.drains t q.0 there (λ i. ap (drains i) is) (let lt = ltb-true q.0 64 counted in let size = sized.drains in omega arith);
+    drains = given_counted is_drain_of a.drains rows exact.drains t q.0 there (λ i. ap (drains i) is) (let lt = ltb-true q.0 queues counted in let size = sized.drains in omega arith);
   }
   AreExact-given t (call.Destroy q) is there counted = record {
     cancels = given_uncounted is_cancel_sync_of a.cancels rows exact.cancels t there (λ i. ap (cancels_sync i) is);
-    destroys = given_counted is_destroy_of a.destroys rows exact.destroys t q.0 there (λ i. ap (destroys i) is) (let lt = ltb-true q.0 64 counted in let size = sized.destroys in omega arith);
-    drains = given_counted is_drain_of a.drains rows exact.drains t q.0 there (λ i. ap (drains i) is) (let lt = ltb-true q.0 64 counted in let size = sized.drains in omega arith);
+    destroys = given_counted is_destroy_of a.destroys rows exact.destroys t q.0 there (λ i. ap (destroys i) is) (let lt = ltb-true q.0 queues counted in let size = sized.destroys in omega arith);
+    drains = given_counted is_drain_of a.drains rows exact.drains t q.0 there (λ i. ap (drains i) is) (let lt = ltb-true q.0 queues counted in let size = sized.drains in omega arith);
   }
   AreExact-given t c is there counted = record {
     cancels = given_uncounted is_cancel_sync_of a.cancels rows exact.cancels t there (λ i. ap (cancels_sync i) is);
@@ -51,7 +50,7 @@ module _ (a : Counts) (rows : TicketRows) (exact : AreExact a rows) (sized : Are
     drains = given_uncounted is_drain_of a.drains rows exact.drains t there (λ i. ap (drains i) is);
   }
 
-pub HaveRoom-few : (a : Counts) (rows : TicketRows) → AreExact a rows → length rows < 256 → All IsRow rows → HaveRoom a
+pub HaveRoom-few : (a : TicketCounts) (rows : TicketRows) → AreExact a rows → length rows < 256 → All IsRow rows → HaveRoom a
 HaveRoom-few a rows exact few are = record {
   cancels = counts_below is_cancel_sync_of a.cancels rows exact.cancels few are;
   destroys = counts_below is_destroy_of a.destroys rows exact.destroys few are;
@@ -60,7 +59,7 @@ HaveRoom-few a rows exact few are = record {
 
 -- ---- a ticket is ended
 
-module _ (a : Counts) (rows : TicketRows) (exact : AreExact a rows) (c n : ℕ) (t : Ticket) (there : c < length rows) (rise : AllPairs IsOlderTicket (tickets_of_caller rows c)) (found : ticket_of_caller rows c n ≡ Some t) where
+module _ (a : TicketCounts) (rows : TicketRows) (exact : AreExact a rows) (c n : ℕ) (t : Ticket) (there : c < length rows) (rise : AllPairs IsOlderTicket (tickets_of_caller rows c)) (found : ticket_of_caller rows c n ≡ Some t) where
   pub HasCount-found : (k : Call) → t.call ≡ k → HasCount k a
   HasCount-found (call.CancelSync j) is = counted_some is_cancel_sync_of a.cancels rows exact.cancels c n t j.0 there rise found (λ i. ap (cancels_sync i) is)
   HasCount-found (call.Drain q) is = counted_some is_drain_of a.drains rows exact.drains c n t q.0 there rise found (λ i. ap (drains i) is)
@@ -139,15 +138,16 @@ pub few_of_all : (rows : TicketRows) → length rows < 256 → All IsRow rows �
 few_of_all rows few are = let all = sum_by-le length 64 rows (λ j e less. (are j e less).few) in omega arith
 
 -- may_give, part by part
-pub record MayBeGiven (rows : TicketRows) (t : Ticket) : Type 0 where
-  pub there : t.caller.0 < length rows
-  pub room : length (tickets_of_caller rows t.caller.0) < 64
-  pub before : list_all (comes_before t) (tickets_of_caller rows t.caller.0) ≡ true
-  pub counted : is_counted t.call ≡ true
+pub record MayBeGiven (b : TicketBook) (t : Ticket) : Type 0 where
+  pub there : t.caller.0 < length b.rows
+  pub room : length (tickets_of_caller b.rows t.caller.0) < 64
+  pub before : list_all (comes_before t) (tickets_of_caller b.rows t.caller.0) ≡ true
+  pub counted : is_counted b.items b.queues t.call ≡ true
 
-pub may_give_parts : (rows : TicketRows) (t : Ticket) → may_give rows t ≡ true → MayBeGiven rows t
-may_give_parts rows t may =
-    let outer = and_parts _ (is_counted t.call) may in
+pub may_give_parts : (b : TicketBook) (t : Ticket) → may_give b t ≡ true → MayBeGiven b t
+may_give_parts b t may =
+    let rows = b.rows in
+    let outer = and_parts _ (is_counted b.items b.queues t.call) may in
     let middle = and_parts _ (list_all (comes_before t) (tickets_of_caller rows t.caller.0)) outer.0 in
     let inner = and_parts (nat_lt t.caller.0 (length rows)) (not (is_row_crowded rows t.caller.0)) middle.0 in
     record {
@@ -157,24 +157,24 @@ may_give_parts rows t may =
       counted = outer.1;
     }
 
-pub AreKept-given : (a : Counts) (rows : TicketRows) (len : ℕ) (t : Ticket) (place : ℕ) (row : List Ticket) (b : Counts) → AreKept rows a len → may_give rows t ≡ true → place ≡ t.caller.0 → row ≡ tickets_of_caller rows t.caller.0 ++ t ∷ [] → b ≡ counts_with t.call a → AreKept (slice_set rows place row) b (len + 1)
-AreKept-given a rows len t place row b kept may at is now =
-    let parts = may_give_parts rows t may in
+pub AreKept-given : (items queues : ℕ) (a : TicketCounts) (rows : TicketRows) (len : ℕ) (t : Ticket) (place : ℕ) (row : List Ticket) (b : TicketCounts) → AreKept items queues rows a len → may_give (record { items = items; queues = queues; rows = rows }) t ≡ true → place ≡ t.caller.0 → row ≡ tickets_of_caller rows t.caller.0 ++ t ∷ [] → b ≡ counts_with t.call a → AreKept items queues (slice_set rows place row) b (len + 1)
+AreKept-given items queues a rows len t place row b kept may at is now =
+    let parts = may_give_parts (record { items = items; queues = queues; rows = rows }) t may in
     rw (at, is, now) (record {
       few = let same = length-set rows t.caller.0 (tickets_of_caller rows t.caller.0 ++ t ∷ []) in let few = kept.few in omega arith;
       in_order = All-set IsRow rows t.caller.0 _ (IsRow-push (tickets_of_caller rows t.caller.0) t parts.before parts.room (kept.in_order t.caller.0 [] parts.there)) kept.in_order;
-      sized = AreSized-raised t.call a kept.sized;
-      exact = AreExact-given a rows kept.exact kept.sized t t.call refl parts.there parts.counted;
+      sized = AreSized-raised items queues t.call a kept.sized;
+      exact = AreExact-given items queues a rows kept.exact kept.sized t t.call refl parts.there parts.counted;
       all = let more = count_given rows t parts.there in let was = kept.all in omega arith;
     })
 
-pub AreKept-ended : (a : Counts) (rows : TicketRows) (len c n : ℕ) (t : Ticket) (place : ℕ) (row : List Ticket) (b : Counts) → AreKept rows a len → c < length rows → ticket_of_caller rows c n ≡ Some t → place ≡ c → row ≡ filter (is_other_ticket n) (tickets_of_caller rows c) → b ≡ counts_without t.call a → AreKept (slice_set rows place row) b (len - 1)
-AreKept-ended a rows len c n t place row b kept there found at is now =
+pub AreKept-ended : (items queues : ℕ) (a : TicketCounts) (rows : TicketRows) (len c n : ℕ) (t : Ticket) (place : ℕ) (row : List Ticket) (b : TicketCounts) → AreKept items queues rows a len → c < length rows → ticket_of_caller rows c n ≡ Some t → place ≡ c → row ≡ filter (is_other_ticket n) (tickets_of_caller rows c) → b ≡ counts_without t.call a → AreKept items queues (slice_set rows place row) b (len - 1)
+AreKept-ended items queues a rows len c n t place row b kept there found at is now =
     let rise = (kept.in_order c [] there).rising in
     rw (at, is, now) (record {
       few = let same = length-set rows c (filter (is_other_ticket n) (tickets_of_caller rows c)) in let few = kept.few in omega arith;
       in_order = All-set IsRow rows c _ (IsRow-filter (is_other_ticket n) (tickets_of_caller rows c) (kept.in_order c [] there)) kept.in_order;
-      sized = AreSized-lowered t.call a kept.sized;
+      sized = AreSized-lowered items queues t.call a kept.sized;
       exact = AreExact-ended a rows kept.exact c n t there rise found t.call refl;
       all = let less = count_ended rows c n t there rise found in let was = kept.all in omega arith;
     })
@@ -192,11 +192,11 @@ zero_counts (suc n) (suc i) = zero_counts n i
 zero_exact : (p : ℕ → Ticket → Bool) (n callers : ℕ) → IsExact p (replicate n 0) (replicate callers [])
 zero_exact p n callers i = zero_counts n i ∙ sym (zero_rows (count_by (p i)) refl callers)
 
-pub AreKept-new : (callers : ℕ) (rows : TicketRows) (a : Counts) → callers < 256 → rows ≡ replicate callers [] → a ≡ no_counts → AreKept rows a 0
-AreKept-new callers rows a few is none = rw (is, none) (record {
+pub AreKept-new : (callers items queues : ℕ) (rows : TicketRows) (a : TicketCounts) → callers < 256 → rows ≡ replicate callers [] → a ≡ no_counts items queues → AreKept items queues rows a 0
+AreKept-new callers items queues rows a few is none = rw (is, none) (record {
   few = let size : length (replicate {A = List Ticket} callers []) ≡ callers = length-replicate callers [] in omega arith;
   in_order = All-replicate IsRow callers [] (record { rising = λ i j e before less. absurd (omega arith); few = omega arith });
-  sized = record { cancels = length-replicate {A = ℕ} 256 0; destroys = length-replicate {A = ℕ} 64 0; drains = length-replicate {A = ℕ} 64 0 };
-  exact = record { cancels = zero_exact is_cancel_sync_of 256 callers; destroys = zero_exact is_destroy_of 64 callers; drains = zero_exact is_drain_of 64 callers };
+  sized = record { cancels = length-replicate {A = ℕ} items 0; destroys = length-replicate {A = ℕ} queues 0; drains = length-replicate {A = ℕ} queues 0 };
+  exact = record { cancels = zero_exact is_cancel_sync_of items callers; destroys = zero_exact is_destroy_of queues callers; drains = zero_exact is_drain_of queues callers };
   all = sym (zero_rows length refl callers);
 })

@@ -1,37 +1,63 @@
-ghost use Rattle.std.specs.Prelude.{◌≡◌, ◌+◌, ◌-◌, ◌<◌, length, nat_lt, slice_index, IsTrue};
+ghost use Rattle.std.specs.Prelude.{◌≡◌, ◌+◌, ◌-◌, ◌<◌, length, nat_lt, slice_index, IfOk, IsTrue};
 ghost use Rattle.cmwq_ticket.specs.Counts.{is_counted, no_counts, more_at, less_at, counts_with, counts_without, HasCount, HaveRoom};
 
-use cmwq_model::Call;
-
-/// How many items there are at most.
-pub(crate) const ITEMS: usize = 256;
-
-/// How many queues there are at most.
-pub(crate) const QUEUES: usize = 64;
+use cmwq_model::{Call, NoMemory};
+use std::alloc::Global;
+use std::marker::Model;
 
 /// How many unended tickets are cancel_syncs of each item, destroys of each queue, and drains or destroys of each queue.
 #[derive(Debug, Drop)]
 pub(crate) struct Counts {
-    pub(crate) cancels: [u16; ITEMS],
-    pub(crate) destroys: [u16; QUEUES],
-    pub(crate) drains: [u16; QUEUES],
+    cancels: Vec<u16>,
+    destroys: Vec<u16>,
+    drains: Vec<u16>,
+}
+
+impl Model for Counts {
+    ghost use Rattle.cmwq_ticket.specs.Counts.{TicketCounts};
+
+    ghost Value = { TicketCounts };
+
+    ghost view = { λ a. record { cancels = a.cancels.items; destroys = a.destroys.items; drains = a.drains.items } };
 }
 
 impl Counts {
-    /// No ticket.
-    pub(crate) fn new() -> Self
-        ensures { result ≡ no_counts }
+    /// No ticket, of so many items and queues.
+    pub(crate) fn new(alloc: Global, items: u16, queues: usize) -> Result<Self, NoMemory>
+        ensures { IfOk result (λ counts. counts ≡ no_counts items queues) }
     {
-        Counts {
-            cancels: [0; ITEMS],
-            destroys: [0; QUEUES],
-            drains: [0; QUEUES],
-        }
+        Ok(Counts {
+            cancels: vec![in alloc; 0; usize::from(items)]?,
+            destroys: vec![in alloc; 0; queues]?,
+            drains: vec![in alloc; 0; queues]?,
+        })
+    }
+
+    /// How many cancel each item.
+    pub(crate) fn cancels(&self) -> &[u16]
+        ensures { result.now ≡ self.now.cancels }
+    {
+        &self.cancels
+    }
+
+    /// How many destroy each queue.
+    pub(crate) fn destroys(&self) -> &[u16]
+        ensures { result.now ≡ self.now.destroys }
+    {
+        &self.destroys
+    }
+
+    /// How many drain or destroy each queue.
+    pub(crate) fn drains(&self) -> &[u16]
+        ensures { result.now ≡ self.now.drains }
+    {
+        &self.drains
     }
 
     /// A ticket of this call was given.
     pub(crate) fn raise(&mut self, call: Call)
-        requires counted { IsTrue (is_counted call) }
+        requires counted { IsTrue (is_counted (length self.old.cancels) (length self.old.drains) call) }
+        requires sized { length self.old.destroys ≡ length self.old.drains }
         requires room { HaveRoom self.old }
         ensures { self.new ≡ counts_with call self.old }
     {
@@ -63,13 +89,13 @@ impl Counts {
     }
 }
 
-/// Whether a ticket of this call has its counts: its item or queue is within the limits.
-pub(crate) fn is_counted(call: Call) -> bool
-    ensures { result ≡ is_counted call }
+/// Whether a ticket of this call has its counts: its item or queue is one of so many.
+pub(crate) fn is_counted(items: u16, queues: usize, call: Call) -> bool
+    ensures { result ≡ is_counted items queues call }
 {
     match call {
-        Call::CancelSync { item } => usize::from(item.0) < ITEMS,
-        Call::Drain { queue } | Call::Destroy { queue } => usize::from(queue.0) < QUEUES,
+        Call::CancelSync { item } => item.0 < items,
+        Call::Drain { queue } | Call::Destroy { queue } => usize::from(queue.0) < queues,
         _ => true,
     }
 }
@@ -81,17 +107,17 @@ pub(crate) fn has_some(counts: &[u16], place: usize) -> bool
     place < counts.len() && counts[place] > 0
 }
 
-fn raise(counts: &mut [u16], place: usize)
-    requires there { place < length counts.old }
-    requires room { slice_index counts.old place < 65535 }
-    ensures { counts.new ≡ more_at place counts.old }
+fn raise(counts: &mut Vec<u16>, place: usize)
+    requires there { place < length counts.old.items }
+    requires room { slice_index counts.old.items place < 65535 }
+    ensures { counts.new.items ≡ more_at place counts.old.items }
 {
     counts[place] += 1;
 }
 
-fn lower(counts: &mut [u16], place: usize)
-    requires { 0 < slice_index counts.old place }
-    ensures { counts.new ≡ less_at place counts.old }
+fn lower(counts: &mut Vec<u16>, place: usize)
+    requires { 0 < slice_index counts.old.items place }
+    ensures { counts.new.items ≡ less_at place counts.old.items }
 {
     counts[place] -= 1;
 }

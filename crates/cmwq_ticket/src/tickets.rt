@@ -1,5 +1,5 @@
-ghost use Rattle.std.specs.Prelude.{◌≡◌, ◌<◌, ◌↔◌, [], IfOk, IsSome, IsTrue, length, replicate};
-ghost use Rattle.cmwq_ticket.specs.Rows.{any_ticket, count, rows_without, rows_with, any_destroys, any_cancels, is_row_crowded, any_drains, may_give, ticket_of_caller};
+ghost use Rattle.std.specs.Prelude.{◌≡◌, ℕ, ◌<◌, ◌↔◌, [], IfOk, IsSome, IsTrue, length, nat_lt, replicate, slice_index};
+ghost use Rattle.cmwq_ticket.specs.Rows.{any_ticket, count, new_tickets, tickets_without, tickets_with, any_destroys, any_cancels, is_row_crowded, any_drains, may_give, ticket_of_caller};
 
 use crate::counts::{Counts, has_some, is_counted};
 use crate::row::{Row, TICKETS_OF_CALLER};
@@ -11,45 +11,50 @@ use std::marker::Model;
 /// Only `new` takes memory.
 #[derive(Debug, Drop)]
 pub struct Tickets {
+    items: u16,
+    queues: usize,
     rows: Vec<Row>,
     counts: Counts,
     len: u32,
 }
 
 impl Model for Tickets {
-    ghost use Rattle.cmwq_ticket.specs.Rows.{TicketRows};
+    ghost use Rattle.cmwq_ticket.specs.Rows.{TicketBook};
     ghost use Rattle.cmwq_ticket.specs.Upkeep.{AreKept};
 
-    ghost Value = { TicketRows };
+    ghost Value = { TicketBook };
 
-    ghost view = { λ t. t.rows.items };
+    ghost view = { λ t. record { items = t.items; queues = t.queues; rows = t.rows.items } };
 
-    ghost invariant = { λ t. AreKept t.rows.items t.counts t.len };
+    ghost invariant = { λ t. AreKept t.items t.queues t.rows.items t.counts t.len };
 }
 
 impl Tickets {
-    /// No ticket of so many callers. The error says that memory ran out.
-    pub fn new(alloc: Global, callers: u8) -> Result<Self, NoMemory>
-        ensures { IfOk result (λ tickets. tickets ≡ replicate callers []) }
+    /// No ticket of so many callers, whose calls speak of so many items and queues. The error says that memory ran out.
+    pub fn new(alloc: Global, callers: u8, items: u16, queues: usize) -> Result<Self, NoMemory>
+        ensures { IfOk result (λ tickets. tickets ≡ new_tickets callers items queues) }
     {
+        let counts = Counts::new(alloc, items, queues)?;
         Ok(Tickets {
+            items,
+            queues,
             rows: new_rows(alloc, callers)?,
-            counts: Counts::new(),
+            counts,
             len: 0,
         })
     }
 
     /// How many callers there are. Their numbers are below it.
     pub fn callers(&self) -> u8
-        ensures { result ≡ length self.now }
+        ensures { result ≡ length self.now.rows }
     {
         self.rows.len() as u8
     }
 
     /// Whether a caller has 64 unended tickets, so that it can be given no more.
     pub fn is_crowded(&self, caller: CallerId) -> bool
-        requires { caller.0 < length self.now }
-        ensures { result ≡ is_row_crowded self.now caller.0 }
+        requires { caller.0 < length self.now.rows }
+        ensures { result ≡ is_row_crowded self.now.rows caller.0 }
     {
         let row = &self.rows[usize::from(caller.0)];
         row.len() >= TICKETS_OF_CALLER
@@ -57,8 +62,8 @@ impl Tickets {
 
     /// A caller's unended ticket with this number.
     pub fn find(&self, caller: CallerId, number: Number) -> Option<Ticket>
-        requires { caller.0 < length self.now }
-        ensures { result ≡ ticket_of_caller self.now caller.0 number }
+        requires { caller.0 < length self.now.rows }
+        ensures { result ≡ ticket_of_caller self.now.rows caller.0 number }
     {
         let row = &self.rows[usize::from(caller.0)];
         row.find(number)
@@ -66,7 +71,7 @@ impl Tickets {
 
     /// The unended ticket with this number, of whichever caller.
     pub fn any(&self, number: Number) -> Option<Ticket>
-        ensures { result ≡ any_ticket self.now number }
+        ensures { result ≡ any_ticket self.now.rows number }
     {
         for row in &self.rows {
             let ticket = row.find(number);
@@ -79,41 +84,48 @@ impl Tickets {
 
     /// Whether a cancel_sync of the item is unended (`cancel_work_sync` before its return).
     pub fn is_cancelling(&self, item: ItemId) -> bool
-        ensures { result ≡ any_cancels self.now item.0 }
+        ensures { result ≡ any_cancels self.now.rows item.0 }
     {
-        has_some(&self.counts.cancels, usize::from(item.0))
+        has_some(self.counts.cancels(), usize::from(item.0))
     }
 
     /// Whether a destroy of the queue is unended (`__WQ_DESTROYING`).
     pub fn is_being_destroyed(&self, queue: QueueId) -> bool
-        ensures { result ≡ any_destroys self.now queue.0 }
+        ensures { result ≡ any_destroys self.now.rows queue.0 }
     {
-        has_some(&self.counts.destroys, usize::from(queue.0))
+        has_some(self.counts.destroys(), usize::from(queue.0))
     }
 
     /// Whether a drain or a destroy of the queue is unended (`__WQ_DRAINING`).
     pub fn is_draining(&self, queue: QueueId) -> bool
-        ensures { result ≡ any_drains self.now queue.0 }
+        ensures { result ≡ any_drains self.now.rows queue.0 }
     {
-        has_some(&self.counts.drains, usize::from(queue.0))
+        has_some(self.counts.drains(), usize::from(queue.0))
+    }
+
+    /// Of each queue, how many of its drains and destroys are unended.
+    pub fn drains(&self) -> &[u16]
+        ensures { (q : ℕ) → nat_lt 0 (slice_index result.now q) ≡ any_drains self.now.rows q }
+    {
+        self.counts.drains()
     }
 
     /// How many unended tickets there are, of all callers.
     pub fn len(&self) -> u32
-        ensures { result ≡ count self.now }
+        ensures { result ≡ count self.now.rows }
     {
         self.len
     }
 
     /// Whether no ticket is unended.
     pub fn is_empty(&self) -> bool
-        ensures { IsTrue result ↔ (count self.now ≡ 0) }
+        ensures { IsTrue result ↔ (count self.now.rows ≡ 0) }
     {
         self.len == 0
     }
 
     /// Whether a ticket may be given: its caller is one of these and isn't crowded, its number is later than those of the
-    /// caller's unended tickets, and an item that it cancels is below 256, a queue that it drains or destroys below 64.
+    /// caller's unended tickets, and an item that it cancels, or a queue that it drains or destroys, is one of those that there are.
     pub fn may_give(&self, ticket: &Ticket) -> bool
         ensures { result ≡ may_give self.now ticket.now }
     {
@@ -122,13 +134,15 @@ impl Tickets {
             return false;
         }
         let row = &self.rows[place];
-        row.len() < TICKETS_OF_CALLER && row.are_before(ticket) && is_counted(ticket.call)
+        row.len() < TICKETS_OF_CALLER
+            && row.are_before(ticket)
+            && is_counted(self.items, self.queues, ticket.call)
     }
 
     /// Gives a ticket to its caller, which begins to wait (`flush_workqueue`, `cancel_work_sync` and the like, up to their wait).
     pub fn give(&mut self, ticket: Ticket)
         requires { IsTrue (may_give self.old ticket) }
-        ensures { self.new ≡ rows_with self.old ticket }
+        ensures { self.new ≡ tickets_with self.old ticket }
     {
         let row = &mut self.rows[usize::from(ticket.caller.0)];
         row.push(ticket);
@@ -138,8 +152,8 @@ impl Tickets {
 
     /// Ends a caller's unended ticket with this number (the return of the call that waits).
     pub fn end(&mut self, caller: CallerId, number: Number)
-        requires { IsSome (ticket_of_caller self.old caller.0 number) }
-        ensures { self.new ≡ rows_without self.old caller.0 number }
+        requires { IsSome (ticket_of_caller self.old.rows caller.0 number) }
+        ensures { self.new ≡ tickets_without self.old caller.0 number }
     {
         let row = &mut self.rows[usize::from(caller.0)];
         let ticket = row.find(number).unwrap();

@@ -1,2 +1,4 @@
-mod Below
-mod BlockMinima
+mod Soonest
+mod Levels
+mod Under
+mod Counting

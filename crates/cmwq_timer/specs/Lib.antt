@@ -1,4 +1,3 @@
 pub mod Due
 pub mod Rows
-pub mod Candidates
-pub mod Minima
+pub mod Tournament

@@ -1,5 +1,5 @@
-ghost use Rattle.std.specs.Prelude.{◌≡◌, ◌<◌};
-ghost use Rattle.cmwq_timer.specs.Due.{timer_may_fire, is_sooner};
+ghost use Rattle.std.specs.Prelude.{◌≡◌};
+ghost use Rattle.cmwq_timer.specs.Due.{is_held, timer_may_fire, is_sooner};
 
 use cmwq_model::{Number, Place};
 
@@ -15,12 +15,19 @@ pub struct Timer {
 }
 
 impl Timer {
-    /// Whether it may fire at the tick `now`: it is due, and its queue has no bit in `held`.
-    pub fn may_fire(&self, now: u64, held: u64) -> bool
-        requires { self.now.place.queue.0 < 64 }
-        ensures { result ≡ timer_may_fire now held self.now }
+    /// Whether it may fire at the tick `now`: it is due, and nothing in `holds` holds its queue back.
+    pub fn may_fire(&self, now: u64, holds: &[u16]) -> bool
+        ensures { result ≡ timer_may_fire now holds.now self.now }
     {
-        self.due <= now && (held >> self.place.queue.0) & 1 != 1
+        self.due <= now && !self.is_held(holds)
+    }
+
+    /// Whether something holds its queue back. A queue that `holds` has no number of is free.
+    fn is_held(&self, holds: &[u16]) -> bool
+        ensures { result ≡ is_held holds.now self.now }
+    {
+        let queue = usize::from(self.place.queue.0);
+        queue < holds.len() && holds[queue] > 0
     }
 
     /// Whether it fires before the other: it is due earlier, or at the same tick and was booked earlier.

@@ -10,7 +10,7 @@ ghost use Rattle.cmwq_model.specs.Tickets as waits;
 ghost use Rattle.cmwq_model.specs.Widths as widths;
 ghost use Rattle.std.specs.List.{list_any};
 ghost use Rattle.cmwq_theory_steps.specs.ItemQueueings.{queueing_run};
-ghost use Rattle.cmwq_refinement.specs.Timers.{timer_row};
+ghost use Rattle.cmwq_refinement.specs.Timers.{item_due, timer_row};
 ghost use Rattle.cmwq_state.specs.Flights.{run_open};
 ghost use Rattle.cmwq_state.specs.History.{ticket_has_number};
 ghost use Rattle.cmwq_state.specs.Pwqs.{AreActiveCounts};
@@ -186,12 +186,19 @@ impl State {
         self.tickets.any(number)
     }
 
+    /// The item that fires next: of those that are due, on queues that don't drain, the first.
+    pub fn first_due(&self) -> Option<ItemId>
+        ensures { result ≡ item_due (past_of self.now.entries) }
+    {
+        self.timers.first_due(self.time, self.tickets.drains())
+    }
+
     /// Whether a drain or a destroy of the queue is unended.
     pub fn is_draining(&self, queue: QueueId) -> bool
         requires { queue.0 < length self.now.layout.queues }
         ensures { result ≡ waits.is_draining (past_of self.now.entries) queue.0 }
     {
-        self.books[usize::from(queue.0)].draining()
+        self.tickets.is_draining(queue)
     }
 
     /// A worker may call only from a run that is awake.

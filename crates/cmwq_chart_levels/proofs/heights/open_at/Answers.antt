@@ -1,4 +1,4 @@
-use Rattle.std.proofs.Common.{◌≡◌, ◌+◌, ◌∷◌, length, ap, ◌∙◌, arith}
+use Rattle.std.proofs.Common.{◌∷◌, length, ap, ◌∙◌, arith}
 use Rattle.cmwq_model.specs.Prelude.{past_of, still_open}
 use Rattle.cmwq_chart_levels.proofs.Counts.{open_step, open_few}
 use Rattle.cmwq_chart_levels.proofs.heights.open_at.Goals as goal

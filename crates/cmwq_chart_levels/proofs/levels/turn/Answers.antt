@@ -1,9 +1,9 @@
-use Rattle.std.proofs.Common.{◌≡◌, ◌<◌, ◌∷◌, ◌++◌, length, take, option_to_list, sym, ap, ap₂, ◌∙◌, subst, arith, length-set}
+use Rattle.std.proofs.Common.{◌<◌, ◌∷◌, ◌++◌, length, option_to_list, sym, ap, ◌∙◌, arith, length-set}
 use Rattle.std.specs.Prelude.{slice_set}
 use Rattle.std.proofs.lemmas.List.Edits.{map_over_more}
 use Rattle.cmwq_model.specs.Prelude.{past_of}
 use Rattle.cmwq_chart.proofs.Steps.{length_past}
-use Rattle.cmwq_chart_levels.specs.Turns.{IsLevelAfter, level_after}
+use Rattle.cmwq_chart_levels.specs.Turns.{level_after}
 use Rattle.cmwq_chart_levels.proofs.Turned.{turned, left_behind, untouched, one_more_ended, they_go_on}
 use Rattle.cmwq_chart_levels.proofs.levels.turn.Goals as goal
 

@@ -1,4 +1,4 @@
-use Rattle.std.proofs.Common.{◌≡◌, sym, ap, ◌∙◌}
+use Rattle.std.proofs.Common.{sym, ap, ◌∙◌}
 use Rattle.cmwq_model.specs.Prelude.{IsLegal, opening}
 use Rattle.cmwq_theory_steps.specs.Endings.{ending}
 use Rattle.cmwq_core.specs.History.{past_in, with_entry}

@@ -1,15 +1,15 @@
-use Rattle.cmwq_json_script.specs.Common.{◌≡◌, ◌∙◌, sym, ap, arith, length-map, Layout, layout_of, is_layout}
+use Rattle.cmwq_json_script.specs.Common.{◌≡◌, ◌∙◌, sym, ap, arith, length-map, most_callers, most_items, Layout, layout_of, is_layout}
 use Rattle.cmwq_model.specs.declared.shape.Counts.{Counts}
 use Rattle.cmwq_json_script.specs.Views.{top_of, work_of, calls_of}
 use Rattle.cmwq_json_script.proofs.Readings.{when_read}
-use Rattle.cmwq_json_script.proofs.Within.{layout_counted, made_may_run}
+use Rattle.cmwq_json_script.proofs.Within.{at_most_newest, layout_counted, made_may_run}
 use Rattle.cmwq_json_script.proofs.script.script_of.Goals as goal
 
 pub overflow_cast-counts : goal.overflow_cast-counts
-overflow_cast-counts c = omega (arith, c.requires.few_callers, c.len.ensures, c.args.callers.ok.0, length-map c.args.callers.items (λ calls. calls.items))
+overflow_cast-counts c = omega (arith, c.requires.few_callers, at_most_newest c.args.top.now.version 64 most_callers (omega arith), c.len.ensures, c.args.callers.ok.0, length-map c.args.callers.items (λ calls. calls.items))
 
 pub overflow_cast-counts-2 : goal.overflow_cast-counts-2
-overflow_cast-counts-2 c = omega (arith, c.requires.few_items, c.len-2.ensures, c.args.items.members.values.ok.0, length-map c.args.items.members.values.items (λ actions. actions.items))
+overflow_cast-counts-2 c = omega (arith, c.requires.few_items, at_most_newest c.args.top.now.version 256 most_items (omega arith), c.len-2.ensures, c.args.items.members.values.ok.0, length-map c.args.items.members.values.items (λ actions. actions.items))
 
 pub unwrap-shape-requires : goal.unwrap-shape-requires
 unwrap-shape-requires c =

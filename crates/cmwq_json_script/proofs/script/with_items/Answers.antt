@@ -12,5 +12,5 @@ script_of-requires c =
     let known = sym c.requires.known in
     is_within t (queues_of c.args.names.now c.args.queues) (work_of c.args.items) (calls_of c.in-Ok.callers) c.requires.queues
     (ap (λ (k : Known). items_said k t) known ∙ c.requires.items)
-    (ap (λ (k : Known). callers_said k t) known ∙ sym c.in_ok-callers.ensures ∙ ap (map_ok calls_of) c.in-Ok.is)
+    (ap (λ (k : Known). callers_said k t) known ∙ sym (rw c.callers_in.ensures.is at c.in_ok-callers.ensures) ∙ ap (map_ok calls_of) c.in-Ok.is)
     c.args.top.now.limits c.args.top.now.recorded

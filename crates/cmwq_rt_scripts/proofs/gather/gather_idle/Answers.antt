@@ -1,4 +1,4 @@
-use Rattle.cmwq_rt_scripts.specs.Common.{◌≡◌, ◌≤◌, ℕ, ◌+◌, ◌++◌, ◌∷◌, [], length, length-append, arith, ap, sym, ◌∙◌, subst, slice_get, Some, View, made_by}
+use Rattle.cmwq_rt_scripts.specs.Common.{◌≡◌, ◌+◌, ◌++◌, ◌∷◌, [], length, length-append, arith, ap, sym, ◌∙◌, subst, slice_get, Some, View, made_by}
 use Rattle.cmwq_rt_scripts.specs.Ended.{caller_at}
 use Rattle.cmwq_rt_scripts.proofs.Gathering.{last_at, kept_at, one_before, silent_in}
 use Rattle.cmwq_rt_scripts.proofs.gather.gather_idle.Goals as goal

@@ -1,4 +1,4 @@
-use Rattle.cmwq_rt_scripts.specs.Common.{◌≡◌, ◌≤◌, ℕ, ◌+◌, ◌++◌, ◌∷◌, [], length, length-append, arith, ap, sym, ◌∙◌, subst, rules, slice_get, Some, WorkerId, worker_by_number}
+use Rattle.cmwq_rt_scripts.specs.Common.{◌≡◌, ◌+◌, ◌++◌, ◌∷◌, [], length, length-append, arith, ap, sym, ◌∙◌, subst, rules, slice_get, Some, WorkerId, worker_by_number}
 use Rattle.cmwq_rt_scripts.specs.Ended.{WorkedIn}
 use Rattle.cmwq_rt_scripts.proofs.Gathering.{last_at, kept_at, one_before, worker_within}
 use Rattle.cmwq_rt_scripts.proofs.gather.gather_workers.Goals as goal

@@ -1,4 +1,4 @@
-use Rattle.cmwq_rt_scripts.specs.Common.{◌≡◌, ℕ, ◌+◌, ◌++◌, ◌∷◌, [], length, length-append, arith, ap, ◌∙◌, subst, slice_get, Some, newcomer, Places}
+use Rattle.cmwq_rt_scripts.specs.Common.{◌≡◌, ◌+◌, ◌++◌, ◌∷◌, [], length, length-append, arith, ap, ◌∙◌, subst, slice_get, Some, newcomer, Places}
 use Rattle.cmwq_rt_scripts.specs.Ended.{caller_at}
 use Rattle.cmwq_rt_scripts.proofs.Gathering.{all_push}
 use Rattle.cmwq_rt_scripts.proofs.start.idle_callers.Goals as goal

@@ -1,4 +1,4 @@
-use Rattle.cmwq_rt_scripts.specs.Common.{◌≡◌, ℕ, suc, ◌+◌, ◌++◌, ◌∷◌, [], length, length-append, arith, ap, sym, ◌∙◌, subst, slice_get, Some, WorkerId, Worker, newcomer, worker_by_number, next_after}
+use Rattle.cmwq_rt_scripts.specs.Common.{◌≡◌, suc, ◌+◌, ◌++◌, ◌∷◌, [], length, length-append, arith, ap, sym, ◌∙◌, subst, slice_get, Some, WorkerId, Worker, newcomer, worker_by_number, next_after}
 use Rattle.cmwq_rt_scripts.proofs.Gathering.{all_push}
 use Rattle.cmwq_rt_scripts.proofs.Starting.{worker_given}
 use Rattle.cmwq_rt_scripts.proofs.start.start_workers.Goals as goal

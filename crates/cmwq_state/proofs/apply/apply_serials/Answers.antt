@@ -3,7 +3,7 @@ use Rattle.std.proofs.Math.ListN.{set}
 use Rattle.cmwq_state.specs.Tables.{AreSerials}
 use Rattle.cmwq_state.proofs.Appended.{effect_there, effect_serial}
 use Rattle.cmwq_state.proofs.Refine.{who_below, serials_applied}
-use Rattle.cmwq_state.proofs.Steps.{small}
+use Rattle.cmwq_model.proofs.Limits.{limits_of}
 use Rattle.cmwq_state.proofs.apply.apply_serials.Goals as goal
 use Rattle.cmwq_theory_laws.proofs.InRange.{serial_most}
 
@@ -19,8 +19,8 @@ overflow_add-entry c =
 pub index_mut-requires : goal.index_mut-requires
 index_mut-requires c =
     let s = c.requires.0 in let f = c.args.effect.now in
-    let few = small s c.requires.2.inside in
-    let below = who_below s f.entry.who (effect_there s c.requires.1 f c.requires.2.effect) few.cpus few.workers few.callers in
+    let few = limits_of s c.requires.2.inside in
+    let below = who_below s f.entry.who (effect_there s c.requires.1 f c.requires.2.effect) few.workers.1 few.callers.1 in
     let many = c.requires.3.many in
     rw c.who_place.ensures (omega (arith, c.args.serials.now.ok.0))
 
@@ -28,4 +28,4 @@ pub returns : goal.returns
 returns c s past next are =
     let f = c.args.effect.now in
     subst (AreSerials s (f.entry ∷ past)) (sym (ap₂ (λ p n. set c.args.serials.now.items p (n + 1)) c.who_place.ensures (effect_serial s past f next.effect)))
-    (serials_applied s f.entry past c.args.serials.now.items (small s next.inside) (effect_there s past f next.effect) are)
+    (serials_applied s f.entry past c.args.serials.now.items (limits_of s next.inside) (effect_there s past f next.effect) are)

@@ -5,7 +5,7 @@ use Rattle.cmwq_state.proofs.Applied.{may_set_timers, timers_applied}
 use Rattle.cmwq_state.proofs.apply.apply_timers.Goals as goal
 
 pub set_timers-requires : goal.set_timers-requires
-set_timers-requires c = rw c.requires.3 (may_set_timers c.requires.0 c.requires.1 c.args.effect.now c.requires.2.inside c.requires.2.effect)
+set_timers-requires c = rw c.requires.3 (may_set_timers c.requires.0 c.requires.1 c.args.effect.now c.requires.2.effect)
 
 pub returns : goal.returns
 returns c s past next are =

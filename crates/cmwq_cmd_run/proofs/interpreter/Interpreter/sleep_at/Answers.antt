@@ -1,4 +1,3 @@
-use Rattle.std.proofs.Common.{◌≡◌}
 use Rattle.cmwq_cmd_run.proofs.Interpreting.{slept_if}
 use Rattle.cmwq_cmd_run.proofs.interpreter.Interpreter.sleep_at.Goals as goal
 

@@ -11,8 +11,8 @@ invariant_of-self c =
     let at = rw c.deref.ensures.value at c.in-Some.ensures.found in
     let ready = rw (← c.self.view_is) at c.requires.is_ready in
     let served = c.serve_oldest.ensures in
-    let rows_are_ready = ready_rows _ c.self.inside.tally c.self.inside.colours c.args.ticket f.0 c.in-Some.place refl at ready in
-    rw (served.served, served.overflow, served.served_capacity, served.overflow_capacity, c.remove.ensures.items, c.remove.ensures.capacity, c.free_colour.ensures) (right_end _ c.self.inside.tally c.self.inside.colours c.in-Some.place at.0 rows_are_ready f.0, f.1, f.2, f.3)
+    let rows_are_ready = ready_rows _ c.self.inside.tally.rows c.self.inside.colours c.args.ticket f.0 c.in-Some.place refl at ready in
+    rw (served.served, served.overflow, served.served_capacity, served.overflow_capacity, c.remove.ensures.items, c.remove.ensures.capacity, c.free_colour.ensures) (right_end _ c.self.inside.tally.rows c.self.inside.colours c.in-Some.place at.0 rows_are_ready f.0, f.1, f.2, f.3, f.4)
 
 pub remove_ticket-requires-clause-rising : goal.remove_ticket-requires-clause-rising
 remove_ticket-requires-clause-rising c = overflow_rises _ _ _ c.args.ticket c.self.invariant.0
@@ -26,7 +26,7 @@ remove_ticket-requires-clause-stands c =
 pub invariant_of-self-in-None : goal.invariant_of-self-in-None
 invariant_of-self-in-None c =
     let f = c.self.invariant in
-    rw (c.remove_ticket.ensures.items, c.remove_ticket.ensures.capacity) (right_left _ _ _ c.args.ticket f.0, f.1, f.2, f.3)
+    rw (c.remove_ticket.ensures.items, c.remove_ticket.ensures.capacity) (right_left _ _ _ c.args.ticket f.0, f.1, f.2, f.3, f.4)
 
 pub returns-in-Some : goal.returns-in-Some
 returns-in-Some c =

@@ -7,4 +7,4 @@ invariant_of-result c =
     let served = c.in_ok-with_capacity.ensures in
     let overflow = c.in_ok-with_capacity-2.ensures in
     let drains = c.in_ok-with_capacity-3.ensures in
-    rw (c.in_ok-new.ensures, served.items, overflow.items, drains.items) (right_new c.args.callers, omega (arith, served.capacity), omega (arith, overflow.capacity, c.from-room.ensures), omega (arith, drains.capacity, c.from-room.ensures))
+    rw (c.in_ok-new.ensures, served.items, overflow.items, drains.items) (right_new c.args.callers c.args.items, omega arith, omega (arith, served.capacity), omega (arith, overflow.capacity, c.from-room.ensures), omega (arith, drains.capacity, c.from-room.ensures))

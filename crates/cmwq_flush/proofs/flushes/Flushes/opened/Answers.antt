@@ -13,4 +13,4 @@ invariant_of-self c =
     let can = rw (← c.self.view_is) at c.requires in
     let f = c.self.invariant in
     let current : c.len.result ≡ length c.self.inside.served.items = omega arith in
-    rw (c.open.ensures) (right_opened _ c.self.inside.tally c.self.inside.colours _ _ can.can.0 (ap (λ k. get_or c.self.inside.colours k 0) current) f.0, f.1, f.2, f.3)
+    rw (c.open.ensures) (right_opened _ c.self.inside.tally.rows c.self.inside.colours _ _ can.can.0 (ap (λ k. get_or c.self.inside.colours k 0) current) f.0, f.1, f.2, f.3, f.4)

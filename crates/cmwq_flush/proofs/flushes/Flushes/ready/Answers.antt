@@ -8,13 +8,13 @@ find_served-requires c = rw c.deref.ensures.value (served_rise _ _ _ c.args.tick
 pub returns-in-None-clause-bound : goal.returns-in-None-clause-bound
 returns-in-None-clause-bound c =
     let absent = rw c.deref.ensures.value at c.in-None.ensures.absent in
-    let ready = empty_is_ready _ c.self.inside.tally _ c.args.ticket c.self.invariant.0 refl absent in
+    let ready = empty_is_ready _ c.self.inside.tally.rows _ c.args.ticket c.self.invariant.0 refl absent in
     rw (← c.self.view_is) (λ empty. ready.0 (c.is_empty.ensures.0 empty), λ is_ready. c.is_empty.ensures.1 (ready.1 is_ready))
 
 pub returns-in-None-clause-colours : goal.returns-in-None-clause-colours
 returns-in-None-clause-colours c =
     let absent = rw c.deref.ensures.value at c.in-None.ensures.absent in
-    rw (← c.self.view_is) (told_in_overflow _ c.self.inside.tally c.self.inside.colours c.args.ticket c.self.invariant.0 c.is_empty.result refl absent)
+    rw (← c.self.view_is) (told_in_overflow _ c.self.inside.tally.rows c.self.inside.colours c.args.ticket c.self.invariant.0 c.is_empty.result refl absent)
 
 pub returns-in-Some-clause-bound : goal.returns-in-Some-clause-bound
 returns-in-Some-clause-bound c =
@@ -26,4 +26,4 @@ returns-in-Some-clause-bound c =
 pub returns-in-Some-clause-colours : goal.returns-in-Some-clause-colours
 returns-in-Some-clause-colours c =
     let at = rw c.deref.ensures.value at c.in-Some.ensures.found in
-    rw (← c.self.view_is) (told_at _ c.self.inside.tally c.self.inside.colours c.args.ticket c.self.invariant.0 c.in-Some.place c.is_served_ready.result refl at c.is_served_ready.ensures.colours)
+    rw (← c.self.view_is) (told_at _ c.self.inside.tally.rows c.self.inside.colours c.args.ticket c.self.invariant.0 c.in-Some.place c.is_served_ready.result refl at c.is_served_ready.ensures.colours)

@@ -1,5 +1,5 @@
 use Rattle.cmwq_state.specs.Common.{◌∙◌, ap, layout_of, past_of, crowded_alike, rows_for_callers}
-use Rattle.cmwq_ticket.specs.Rows.{TicketRows, is_row_crowded}
+use Rattle.cmwq_ticket.specs.Rows.{TicketBook, is_row_crowded}
 use Rattle.cmwq_state.proofs.Readings.{not_crowded}
 use Rattle.cmwq_state.proofs.state.State.is_crowded.Goals as goal
 
@@ -10,7 +10,7 @@ is_crowded-requires c = let b = c.self.inside in let here = rw (← c.self.view_
 pub returns-in-Caller : goal.returns-in-Caller
 returns-in-Caller c =
     let b = c.self.inside in let here = rw (← c.self.view_is, c.in-Caller.is) at c.requires in let i = c.in-Caller.caller.0 in
-    rw (← c.self.view_is, c.in-Caller.is) (c.is_crowded.ensures ∙ (ap (λ (rows : TicketRows). is_row_crowded rows i) c.self.invariant.parts_are.tickets ∙ crowded_alike (layout_of b.counts b.queues.items) (past_of b.entries) i here))
+    rw (← c.self.view_is, c.in-Caller.is) (c.is_crowded.ensures ∙ (ap (λ (b : TicketBook). is_row_crowded b.rows i) c.self.invariant.parts_are.tickets ∙ crowded_alike (layout_of b.counts b.queues.items) (past_of b.entries) i here))
 
 pub returns-in-Worker : goal.returns-in-Worker
 returns-in-Worker c = not_crowded (past_of c.args.self.now.entries) c.in-Worker.is

@@ -1,4 +1,3 @@
-use Rattle.std.proofs.Common.{◌∙◌}
 use Rattle.cmwq_model.specs.Prelude.{layout_of, past_of}
 use Rattle.cmwq_state.proofs.WidthSteps.{widths_are}
 use Rattle.cmwq_state.proofs.state.State.width.Goals as goal

@@ -1,3 +1,4 @@
+use Rattle.cmwq_model.specs.Prelude.{most_cpus}
 use Rattle.std.proofs.Common.{◌≡◌, ◌*◌, ◌∷◌, length, ap, ◌∙◌, refl, arith}
 use Rattle.std.specs.Prelude.{option_map}
 use Rattle.cmwq_summary.specs.Figures.{by_place_opened, by_place_started, by_place_cancelled, cancelled_from, place_number}
@@ -11,20 +12,20 @@ use Rattle.cmwq_summary.proofs.Waits.{openings_go_on, waits_are, waited_few, wai
 use Rattle.cmwq_summary.proofs.places.Places.add.Goals as goal
 
 pub add-requires : goal.add-requires
-add-requires c = let few = c.requires.2.few in record { few = counts_few by_place_opened (4 * length c.requires.0.queues) c.requires.1 _ (omega arith) c.requires.4.queueings }
+add-requires c = let few = c.requires.2.few in record { few = counts_few by_place_opened (most_cpus * length c.requires.0.queues) c.requires.1 _ (omega arith) c.requires.4.queueings }
 
 pub add-requires-2 : goal.add-requires-2
-add-requires-2 c = let few = c.requires.2.few in record { few = counts_few by_place_cancelled (4 * length c.requires.0.queues) c.requires.1 _ (omega arith) c.requires.4.cancels }
+add-requires-2 c = let few = c.requires.2.few in record { few = counts_few by_place_cancelled (most_cpus * length c.requires.0.queues) c.requires.1 _ (omega arith) c.requires.4.cancels }
 
 pub add-requires-3 : goal.add-requires-3
-add-requires-3 c = let few = c.requires.2.few in record { few = counts_few by_place_started (4 * length c.requires.0.queues) c.requires.1 _ (omega arith) c.requires.4.starts }
+add-requires-3 c = let few = c.requires.2.few in record { few = counts_few by_place_started (most_cpus * length c.requires.0.queues) c.requires.1 _ (omega arith) c.requires.4.starts }
 
 pub add-requires-5 : goal.add-requires-5
 add-requires-5 c = totals_few c.requires.1 _ c.requires.2.few c.requires.4.totals.few
 
 pub returns : goal.returns
 returns c s past next now are =
-    let e = c.args.told.now.entry in let told = next.told in let many = 4 * length s.queues in
+    let e = c.args.told.now.entry in let told = next.told in let many = most_cpus * length s.queues in
     let started : c.place_in-started.result ≡ option_map place_number (starting past e) = c.place_in-started.ensures ∙ ap (option_map place_number) told.started in
     let wait : c.waited-waited.result ≡ wait_at_start c.args.self.now.openings (starting past e) (behind (e ∷ past)) = rw (told.started, now) at c.waited-waited.ensures in
     let extent = waits_are s past e next.legal c.args.self.now.openings are.openings in

@@ -16,4 +16,4 @@ invariant_of-self c =
     let rows = c.self.inside.rows.items in
     let t = c.unwrap-ticket.result in
     let is = found_in_row rows c.args.caller.0 c.args.number c.from.result c.index_mut-row.result.now c.find.result t (rw (← c.self.view_is) at c.requires) c.from.ensures c.index_mut-row.ensures.value c.find.ensures c.unwrap-ticket.ensures in
-    AreKept-ended c.self.inside.counts rows c.self.inside.len c.args.caller.0 c.args.number t c.from.result c.remove.new.self c.lower.new.self c.self.invariant is.there is.found c.from.ensures (c.remove.ensures ∙ ap (filter (is_other_ticket c.args.number)) is.row_is) c.lower.ensures
+    AreKept-ended c.self.inside.items c.self.inside.queues c.self.inside.counts rows c.self.inside.len c.args.caller.0 c.args.number t c.from.result c.remove.new.self c.lower.new.self c.self.invariant is.there is.found c.from.ensures (c.remove.ensures ∙ ap (filter (is_other_ticket c.args.number)) is.row_is) c.lower.ensures

@@ -17,5 +17,5 @@ invariant_of-self c =
     let rows = c.self.inside.rows.items in
     let t = c.args.ticket in
     let may = rw (← c.self.view_is) at c.requires in
-    let row = get_or_read_under rows t.caller.0 (length rows) c.index_mut-row.result.now [] (rw c.from.ensures at c.index_mut-row.ensures.value) (may_give_parts rows t may).there refl in
-    AreKept-given c.self.inside.counts rows c.self.inside.len t c.from.result c.push.new.self c.raise.new.self c.self.invariant may c.from.ensures (c.push.ensures ∙ ap (λ (xs : List Ticket). xs ++ t ∷ []) row) c.raise.ensures
+    let row = get_or_read_under rows t.caller.0 (length rows) c.index_mut-row.result.now [] (rw c.from.ensures at c.index_mut-row.ensures.value) (may_give_parts (record { items = c.self.inside.items; queues = c.self.inside.queues; rows = rows }) t may).there refl in
+    AreKept-given c.self.inside.items c.self.inside.queues c.self.inside.counts rows c.self.inside.len t c.from.result c.push.new.self c.raise.new.self c.self.invariant may c.from.ensures (c.push.ensures ∙ ap (λ (xs : List Ticket). xs ++ t ∷ []) row) c.raise.ensures

@@ -1,0 +1,397 @@
+//! Waits of callers, in rows.
+ghost use Rattle.std.specs.Prelude.{◌≡◌, ◌+◌, ◌≤◌, ◌∷◌, ◌++◌, All, length, option_to_list, IfOk, OnOk};
+ghost use Rattle.cmwq_model.specs.Prelude.{past_of, is_at, is_done, most_tickets};
+ghost use Rattle.cmwq_chart.specs.CallerWaits as spec;
+
+use crate::entries::{entry_at, is_call_of};
+use cmwq_model::{Call, CallerId, Entry, Number, Reply};
+use std::alloc::{AllocError, Global};
+
+/// A wait of a caller, in a row of its own where several overlap: the places of the entries that gave its ticket and that ended it. One that
+/// has not ended has only the first.
+#[derive(Clone, Copy, Debug)]
+pub struct CallerWait {
+    pub caller: CallerId,
+    pub row: u32,
+    pub from: u32,
+    pub to: Option<u32>,
+}
+
+/// An entry that asks for the end of a wait, and whether that is done then.
+#[derive(Clone, Copy, Debug)]
+pub struct WaitSign {
+    pub caller: CallerId,
+    pub row: u32,
+    pub at: u32,
+    pub is_done: bool,
+}
+
+/// A caller, and in how many rows its waits stand.
+#[derive(Clone, Copy, Debug)]
+pub struct CallerLane {
+    pub caller: CallerId,
+    pub rows: u8,
+}
+
+/// The first row that is free, or the number of rows.
+#[tactic(auto, unfolding(crate::specs::CallerWaits::free_row))]
+fn free_row(rows: &[Option<u32>]) -> usize
+    ensures row { result ≡ spec.free_row rows.now }
+    ensures within { result ≤ length rows.now }
+{
+    match rows {
+        [] => 0,
+        [None, ..] => 0,
+        [Some(_), others @ ..] => 1 + free_row(others),
+    }
+}
+
+/// The row in which a ticket waits, or the number of rows.
+#[tactic(auto, unfolding(crate::specs::CallerWaits::ticket_row))]
+fn ticket_row(rows: &[Option<u32>], ticket: Number) -> usize
+    ensures row { result ≡ spec.ticket_row rows.now ticket }
+    ensures within { result ≤ length rows.now }
+{
+    match rows {
+        [] => 0,
+        [first, others @ ..] => {
+            if is_ticket(*first, ticket) {
+                0
+            } else {
+                1 + ticket_row(others, ticket)
+            }
+        }
+    }
+}
+
+/// Whether this ticket waits in a row.
+fn is_ticket(row: Option<u32>, ticket: Number) -> bool
+    ensures { result ≡ is_at row ticket }
+{
+    match row {
+        Some(place) => u64::from(place) == ticket,
+        None => false,
+    }
+}
+
+/// The ticket that waits in a row, if there is such a row and one does.
+fn ticket_in_row(rows: &[Option<u32>], row: usize) -> Option<u32>
+    ensures { result ≡ spec.ticket_in_row rows.now row }
+{
+    match rows.get(row) {
+        Some(ticket) => *ticket,
+        None => None,
+    }
+}
+
+/// Begins a wait in the first row that is free, or in one more.
+fn begin_in_row(rows: &mut Vec<Option<u32>>, place: u32) -> Result<(), AllocError>
+    ensures rows { OnOk result (rows.new.items ≡ spec.begun_in_row rows.old.items place) }
+    ensures few { OnOk result (length rows.new.items ≤ length rows.old.items + 1) }
+{
+    let row = free_row(rows);
+    if row < rows.len() {
+        rows[row] = Some(place);
+    } else {
+        rows.push(Some(place))?;
+    }
+    Ok(())
+}
+
+/// Leaves a row, if there is it.
+fn leave_row(rows: &mut Vec<Option<u32>>, row: usize)
+    ensures rows { rows.new.items ≡ spec.left_row rows.old.items row }
+    ensures same { length rows.new.items ≡ length rows.old.items }
+{
+    if row < rows.len() {
+        rows[row] = None;
+    }
+}
+
+/// The ticket whose end a call asks for.
+fn end_asked(call: Call) -> Option<Number>
+    ensures { result ≡ spec.end_asked call }
+{
+    match call {
+        Call::End { ticket } => Some(ticket),
+        _ => None,
+    }
+}
+
+/// The ticket that an entry ends.
+fn number_done(entry: Entry) -> Option<Number>
+    ensures { result ≡ spec.number_done entry }
+{
+    match entry.reply {
+        Reply::Done => end_asked(entry.call),
+        _ => None,
+    }
+}
+
+/// Takes the rows of a caller beyond an entry of its own.
+fn turn_rows(rows: &mut Vec<Option<u32>>, entry: Entry, place: u32) -> Result<(), AllocError>
+    ensures rows { OnOk result (rows.new.items ≡ spec.rows_after entry place rows.old.items) }
+    ensures few { OnOk result (length rows.new.items ≤ length rows.old.items + 1) }
+{
+    if entry.reply.gives_ticket() {
+        return begin_in_row(rows, place);
+    }
+    if let Some(ticket) = number_done(entry) {
+        let row = ticket_row(rows, ticket);
+        leave_row(rows, row);
+    }
+    Ok(())
+}
+
+/// The wait in a row that an entry at this place ends.
+fn wait_over(rows: &[Option<u32>], caller: CallerId, place: u32, row: usize) -> Option<CallerWait>
+    requires few { length rows.now ≤ 4294967295 }
+    requires within { row ≤ length rows.now }
+    ensures { result ≡ spec.wait_over rows.now caller place row }
+{
+    let from = ticket_in_row(rows, row)?;
+    Some(CallerWait {
+        caller,
+        row: row as u32,
+        from,
+        to: Some(place),
+    })
+}
+
+/// The wait that an entry of the caller at this place ends.
+fn wait_ended_in(
+    rows: &[Option<u32>],
+    entry: Entry,
+    caller: CallerId,
+    place: u32,
+) -> Option<CallerWait>
+    requires { length rows.now ≤ 4294967295 }
+    ensures { result ≡ spec.wait_ended_in rows.now entry caller place }
+{
+    let ticket = number_done(entry)?;
+    wait_over(rows, caller, place, ticket_row(rows, ticket))
+}
+
+/// The wait that an entry ends.
+fn wait_ended(
+    rows: &[Option<u32>],
+    entries: &[Entry],
+    entry: Entry,
+    caller: CallerId,
+) -> Option<CallerWait>
+    requires short { length entries.now ≤ 1073741824 }
+    requires few { length rows.now ≤ 4294967295 }
+    requires rows { rows.now ≡ spec.wait_rows (past_of entries.now) caller }
+    ensures { result ≡ spec.wait_ended (past_of entries.now) entry caller }
+{
+    if is_call_of(caller, entry) {
+        wait_ended_in(rows, entry, caller, entries.len() as u32)
+    } else {
+        None
+    }
+}
+
+/// Whether the reply is one to the end of a wait.
+fn is_end_answer(reply: Reply) -> bool
+    ensures { result ≡ spec.is_end_answer reply }
+{
+    matches!(reply, Reply::Done | Reply::Waiting(_))
+}
+
+fn is_done(reply: Reply) -> bool
+    ensures { result ≡ is_done reply }
+{
+    matches!(reply, Reply::Done)
+}
+
+/// The sign in a row of an entry of the caller at this place.
+fn sign_on(
+    rows: &[Option<u32>],
+    entry: Entry,
+    caller: CallerId,
+    place: u32,
+    row: usize,
+) -> Option<WaitSign>
+    requires few { length rows.now ≤ 4294967295 }
+    requires within { row ≤ length rows.now }
+    ensures { result ≡ spec.sign_on rows.now entry caller place row }
+{
+    ticket_in_row(rows, row)?;
+    Some(WaitSign {
+        caller,
+        row: row as u32,
+        at: place,
+        is_done: is_done(entry.reply),
+    })
+}
+
+/// The sign of an entry of the caller at this place.
+fn wait_sign_in(
+    rows: &[Option<u32>],
+    entry: Entry,
+    caller: CallerId,
+    place: u32,
+) -> Option<WaitSign>
+    requires { length rows.now ≤ 4294967295 }
+    ensures { result ≡ spec.wait_sign_in rows.now entry caller place }
+{
+    if !is_end_answer(entry.reply) {
+        return None;
+    }
+    let ticket = end_asked(entry.call)?;
+    sign_on(rows, entry, caller, place, ticket_row(rows, ticket))
+}
+
+/// The sign of an entry on a wait of the caller.
+fn wait_sign_of(
+    rows: &[Option<u32>],
+    entries: &[Entry],
+    entry: Entry,
+    caller: CallerId,
+) -> Option<WaitSign>
+    requires short { length entries.now ≤ 1073741824 }
+    requires few { length rows.now ≤ 4294967295 }
+    requires rows { rows.now ≡ spec.wait_rows (past_of entries.now) caller }
+    ensures { result ≡ spec.wait_sign_of (past_of entries.now) entry caller }
+{
+    if is_call_of(caller, entry) {
+        wait_sign_in(rows, entry, caller, entries.len() as u32)
+    } else {
+        None
+    }
+}
+
+/// Takes the rows of a caller beyond an entry behind these.
+#[tactic(auto, unfolding(crate::specs::CallerWaits::wait_rows), using(crate::proofs::Steps::length_past))]
+fn follow_rows(
+    rows: &mut Vec<Option<u32>>,
+    entries: &[Entry],
+    entry: Entry,
+    caller: CallerId,
+) -> Result<(), AllocError>
+    requires short { length entries.now ≤ 1073741824 }
+    requires rows { rows.old.items ≡ spec.wait_rows (past_of entries.now) caller }
+    ensures rows { OnOk result (rows.new.items ≡ spec.wait_rows (entry ∷ past_of entries.now) caller) }
+    ensures few { OnOk result (length rows.new.items ≤ length rows.old.items + 1) }
+{
+    if is_call_of(caller, entry) {
+        turn_rows(rows, entry, entries.len() as u32)?;
+    }
+    Ok(())
+}
+
+/// Puts a wait behind the others, where there is one.
+fn keep_wait(waits: &mut Vec<CallerWait>, wait: Option<CallerWait>) -> Result<(), AllocError>
+    ensures { OnOk result (waits.new.items ≡ waits.old.items ++ option_to_list wait) }
+{
+    if let Some(wait) = wait {
+        waits.push(wait)?;
+    }
+    Ok(())
+}
+
+/// Puts a sign behind the others, where there is one.
+fn keep_sign(signs: &mut Vec<WaitSign>, sign: Option<WaitSign>) -> Result<(), AllocError>
+    ensures { OnOk result (signs.new.items ≡ signs.old.items ++ option_to_list sign) }
+{
+    if let Some(sign) = sign {
+        signs.push(sign)?;
+    }
+    Ok(())
+}
+
+/// The wait in a row that goes on at the end.
+fn wait_left(rows: &[Option<u32>], caller: CallerId, row: usize) -> Option<CallerWait>
+    requires few { length rows.now ≤ 4294967295 }
+    requires within { row ≤ length rows.now }
+    ensures { option_to_list result ≡ spec.wait_left rows.now caller row }
+{
+    let from = ticket_in_row(rows, row)?;
+    Some(CallerWait {
+        caller,
+        row: row as u32,
+        from,
+        to: None,
+    })
+}
+
+/// Puts the waits that go on at the end behind the others.
+fn push_left(
+    waits: &mut Vec<CallerWait>,
+    rows: &[Option<u32>],
+    caller: CallerId,
+) -> Result<(), AllocError>
+    requires { length rows.now ≤ 4294967295 }
+    ensures { OnOk result (waits.new.items ≡ waits.old.items ++ spec.waits_left rows.now caller) }
+{
+    for row in 0..rows.len() {
+        keep_wait(waits, wait_left(rows, caller, row))?;
+    }
+    Ok(())
+}
+
+/// Puts the waits and signs of a caller behind the others, and answers its lane.
+#[tactic(auto, unfolding(crate::specs::CallerWaits::waits_by))]
+fn push_waits(
+    alloc: Global,
+    waits: &mut Vec<CallerWait>,
+    signs: &mut Vec<WaitSign>,
+    entries: &[Entry],
+    caller: CallerId,
+) -> Result<CallerLane, AllocError>
+    requires { length entries.now ≤ 1073741824 }
+    ensures waits { OnOk result (waits.new.items ≡ waits.old.items ++ spec.waits_by (past_of entries.now) caller) }
+    ensures signs { OnOk result (signs.new.items ≡ signs.old.items ++ spec.wait_signs_by (past_of entries.now) caller) }
+    ensures lane { IfOk result (λ lane. lane ≡ spec.caller_lane (past_of entries.now) caller) }
+{
+    let mut rows = Vec::new(alloc);
+    for k in 0..entries.len() {
+        let before = &entries[..k];
+        let entry = entry_at(entries, k);
+        keep_wait(waits, wait_ended(&rows, before, entry, caller))?;
+        keep_sign(signs, wait_sign_of(&rows, before, entry, caller))?;
+        follow_rows(&mut rows, before, entry, caller)?;
+    }
+    push_left(waits, &rows, caller)?;
+    Ok(CallerLane {
+        caller,
+        rows: rows.len().min(64) as u8,
+    })
+}
+
+/// What a history shows of its callers: a lane for each, their waits, one caller after the other, and where the ends of these were asked for.
+#[derive(Debug, Drop)]
+pub struct CallerShapes {
+    pub lanes: Vec<CallerLane>,
+    pub waits: Vec<CallerWait>,
+    pub signs: Vec<WaitSign>,
+}
+
+impl CallerShapes {
+    /// What a history shows of these callers.
+    pub fn new(
+        alloc: Global,
+        entries: &[Entry],
+        callers: &[CallerId],
+    ) -> Result<CallerShapes, AllocError>
+        requires { length entries.now ≤ 1073741824 }
+        ensures lanes { IfOk result (λ shapes. shapes.lanes.items ≡ spec.caller_lanes_of (past_of entries.now) callers.now) }
+        ensures few { IfOk result (λ shapes. length shapes.lanes.items ≡ length callers.now) }
+        ensures rows { IfOk result (λ shapes. All (λ lane. lane.rows ≤ most_tickets) shapes.lanes.items) }
+        ensures waits { IfOk result (λ shapes. shapes.waits.items ≡ spec.caller_waits_of (past_of entries.now) callers.now) }
+        ensures signs { IfOk result (λ shapes. shapes.signs.items ≡ spec.wait_signs_of (past_of entries.now) callers.now) }
+    {
+        let mut lanes = Vec::new(alloc);
+        let mut waits = Vec::new(alloc);
+        let mut signs = Vec::new(alloc);
+        for caller in callers {
+            let lane = push_waits(alloc, &mut waits, &mut signs, entries, *caller)?;
+            lanes.push(lane)?;
+        }
+        Ok(CallerShapes {
+            lanes,
+            waits,
+            signs,
+        })
+    }
+}

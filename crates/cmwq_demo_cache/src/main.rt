@@ -1,0 +1,135 @@
+//! A write-back cache over two devices, in the way of the kernel's: pages that are written to become dirty, and go to their device later.
+//!
+//! Each device has a work item that writes its dirty pages back. A page that becomes dirty puts that off by some ticks, so that many pages
+//! go at once. A sync writes now and waits (`flush_delayed`); an unmount takes the item back (`cancel_sync`) and writes what is left itself.
+//! Printed is what holds of each run, whatever the threads' order: all pages came to their devices.
+#![tactic(auto)]
+
+use anyhow::Result;
+use cmwq_service::{
+    Client, Context, CpuId, Fault, ItemId, QueueId, QueueShape, Service, ShapeBuilder, run,
+};
+use std::sync::Wait;
+use std::sync::atomic::{AtomicU32, Ordering};
+use std::time::Clock;
+
+/// Writing back is ordinary work: both devices at once, in the pools of normal priority.
+const QUEUE: QueueShape = QueueShape {
+    max_active: 2,
+    high: false,
+    intensive: false,
+    freezable: false,
+};
+
+/// The one queue, and the one CPU.
+const WRITEBACK: QueueId = QueueId(0);
+
+const CPU: CpuId = CpuId(0);
+
+/// How many ticks a device has to be left alone before its pages are written back.
+const QUIET: u32 = 5;
+
+/// How many pages each device gets, after how many of them comes a sync, and how many are too many to wait.
+const PAGES: u32 = 60;
+
+const SYNC: u32 = 20;
+
+const MANY: u32 = 16;
+
+/// A device: its pages that are dirty in memory, and those that it has. Here they are only counted.
+#[derive(Default, Drop)]
+struct Device {
+    dirty: AtomicU32,
+    stored: AtomicU32,
+}
+
+impl Device {
+    fn write_back(&self) {
+        let pages = self.dirty.swap(0, Ordering::SeqCst);
+        self.stored.fetch_add(pages, Ordering::SeqCst);
+    }
+}
+
+/// What all threads share.
+#[derive(Default, Drop)]
+struct Cache {
+    disk: Device,
+    tape: Device,
+}
+
+/// The item that writes back the disk; the other one is the tape's.
+const DISK: ItemId = ItemId(0);
+
+impl Cache {
+    fn device(&self, item: ItemId) -> &Device {
+        if item == DISK { &self.disk } else { &self.tape }
+    }
+
+    /// Makes a page dirty. The write-back is put off anew (`modify` delays the item whether or not it is pending), but not if there are too
+    /// many dirty pages.
+    fn touch<C: Client>(&self, client: &mut C, item: ItemId) -> Result<(), Fault> {
+        let before = self.device(item).dirty.fetch_add(1, Ordering::SeqCst);
+        let ticks = if before >= MANY { 0 } else { QUIET };
+        client.modify(item, WRITEBACK, CPU, ticks)?;
+        Ok(())
+    }
+}
+
+impl Service for Cache {
+    /// The work function: a worker calls it once for each start of an item.
+    fn run<R: Wait + Clock, C: Context>(
+        &self,
+        _rt: &R,
+        item: ItemId,
+        _context: &mut C,
+    ) -> Result<(), Fault> {
+        self.device(item).write_back();
+        Ok(())
+    }
+
+    /// A thread for each device. A call that isn't answered ends it with its fault, and with it the service: `?`.
+    fn call<R: Wait + Clock, C: Client>(
+        &self,
+        _rt: &R,
+        place: u8,
+        client: &mut C,
+    ) -> Result<(), Fault> {
+        let item = ItemId(u16::from(place));
+        for page in 1..=PAGES {
+            self.touch(client, item)?;
+            client.tick(1)?;
+            if page % SYNC == 0 {
+                client.flush_delayed(item)?;
+            }
+        }
+        // the unmount: no write-back is pending or runs any more
+        client.cancel_sync(item)?;
+        self.device(item).write_back();
+        Ok(())
+    }
+
+    /// What comes when both devices are unmounted: the queue goes.
+    fn end<R: Wait + Clock, C: Client>(&self, _rt: &R, client: &mut C) -> Result<(), Fault> {
+        client.drain(WRITEBACK)?;
+        client.destroy(WRITEBACK)?;
+        Ok(())
+    }
+}
+
+fn main(rt: HostRuntime) -> Result<()> {
+    let alloc = rt.alloc();
+    let shape = ShapeBuilder::new(alloc)
+        .workers(2)
+        .callers(2)
+        .items(2)
+        .queue(QUEUE)?
+        .build()?;
+    let cache = Cache::default();
+    // the history says which call was answered what, and in which order; here nobody looks at it
+    let _history = run(&rt, alloc, &shape, &cache)?;
+    let disk = cache.disk.stored.load(Ordering::SeqCst);
+    let tape = cache.tape.stored.load(Ordering::SeqCst);
+    println!(rt; "pages on the disk: {disk}")?;
+    println!(rt; "pages on the tape: {tape}")?;
+    Ok(())
+}

@@ -1,0 +1,140 @@
+//! Jobs with retries: a job that fails is tried again later, with a limit.
+//!
+//! Each job is a work item. Its work function tries it; where that fails it delays its own item, longer each time, and after some tries
+//! gives up. The library hands in a tick each millisecond, so the delays go by by themselves. A caller queues all jobs, and waits until each
+//! is done or given up.
+#![tactic(auto)]
+
+use anyhow::Result;
+use cmwq_service::{
+    Client, Context, CpuId, Fault, ItemId, QueueId, QueueShape, Service, ShapeBuilder, run,
+};
+use std::sync::atomic::{AtomicU32, Ordering};
+use std::sync::{Condvar, Mutex, Wait};
+use std::time::{Clock, Duration};
+
+/// Four jobs at once.
+const QUEUE: QueueShape = QueueShape {
+    max_active: 4,
+    high: false,
+    intensive: false,
+    freezable: false,
+};
+
+/// The one queue, and the one CPU.
+const JOBS: QueueId = QueueId(0);
+
+const CPU: CpuId = CpuId(0);
+
+/// How often each job fails before it would succeed.
+const FAILURES: [u32; 6] = [0, 1, 2, 3, 7, 9];
+
+/// How many jobs there are, and how often one is tried.
+const COUNT: u16 = 6;
+
+const MOST_TRIES: u32 = 4;
+
+/// What all threads share: how often each job was tried, how many were done and given up, and how many of them are left.
+#[derive(Drop)]
+struct Jobs {
+    tries: [AtomicU32; 6],
+    done: AtomicU32,
+    given_up: AtomicU32,
+    left: Mutex<u16>,
+    settled: Condvar,
+}
+
+impl Jobs {
+    fn new() -> Jobs {
+        Jobs {
+            tries: [
+                AtomicU32::new(0),
+                AtomicU32::new(0),
+                AtomicU32::new(0),
+                AtomicU32::new(0),
+                AtomicU32::new(0),
+                AtomicU32::new(0),
+            ],
+            done: AtomicU32::new(0),
+            given_up: AtomicU32::new(0),
+            left: Mutex::new(COUNT),
+            settled: Condvar::new(),
+        }
+    }
+
+    /// A job is settled for good.
+    fn settle<R: Wait>(&self, rt: &R, count: &AtomicU32) {
+        count.fetch_add(1, Ordering::SeqCst);
+        let mut left = self.left.lock(rt);
+        *left = left.saturating_sub(1);
+        drop(left);
+        self.settled.notify_all();
+    }
+}
+
+impl Service for Jobs {
+    /// Tries a job. A delay of the item that runs is allowed: it is queued again when the ticks have gone by.
+    fn run<R: Wait + Clock, C: Context>(
+        &self,
+        rt: &R,
+        item: ItemId,
+        context: &mut C,
+    ) -> Result<(), Fault> {
+        let job = usize::from(item.0);
+        let (Some(tries), Some(failures)) = (self.tries.get(job), FAILURES.get(job)) else {
+            return Ok(());
+        };
+        let before = tries.fetch_add(1, Ordering::SeqCst);
+        if before >= *failures {
+            self.settle(rt, &self.done);
+        } else if before + 1 >= MOST_TRIES {
+            self.settle(rt, &self.given_up);
+        } else if context.delay(item, JOBS, CPU, 1 << before).is_err() {
+            // there is no room for a further try
+            self.settle(rt, &self.given_up);
+        }
+        Ok(())
+    }
+
+    /// Queues all jobs, and waits until none is left.
+    fn call<R: Wait + Clock, C: Client>(
+        &self,
+        rt: &R,
+        _place: u8,
+        client: &mut C,
+    ) -> Result<(), Fault> {
+        for job in 0..COUNT {
+            client.queue(ItemId(job), JOBS, CPU)?;
+        }
+        let left = self.left.lock(rt);
+        let _none = self.settled.wait_while(rt, left, |left| *left > 0);
+        Ok(())
+    }
+
+    /// The clock: a tick each millisecond.
+    fn tick_every(&self) -> Option<Duration> {
+        Some(Duration::from_millis(1))
+    }
+}
+
+fn main(rt: HostRuntime) -> Result<()> {
+    let alloc = rt.alloc();
+    let shape = ShapeBuilder::new(alloc)
+        .workers(4)
+        .callers(1)
+        .items(COUNT)
+        .queue(QUEUE)?
+        .build()?;
+    let jobs = Jobs::new();
+    let _history = run(&rt, alloc, &shape, &jobs)?;
+    let mut tries = 0u32;
+    for count in &jobs.tries {
+        tries = tries.saturating_add(count.load(Ordering::SeqCst));
+    }
+    let done = jobs.done.load(Ordering::SeqCst);
+    let given_up = jobs.given_up.load(Ordering::SeqCst);
+    println!(rt; "jobs done: {done}")?;
+    println!(rt; "jobs given up: {given_up}")?;
+    println!(rt; "tries: {tries}")?;
+    Ok(())
+}

@@ -1,0 +1,62 @@
+-- What calls leave of a caller or a worker, one after another.
+use Rattle.std.proofs.Common.{◌≡◌, ◌∙◌, List, [], ◌∷◌, ◌++◌, take, drop, length, arith, refl, ap, inl, inr, sym, subst, Result, Ok, Err}
+use Rattle.std.specs.Prelude.{IfOk, IfErr}
+use Rattle.std.proofs.Math.Logic.{∥∥₁_map}
+use Rattle.std.proofs.Math.ListN.{take-append-drop}
+use Rattle.std.proofs.Math.Seq.{take-append_seam}
+use mathlib.Core.List.{IsPrefix}
+use Rattle.cmwq_model.specs.Prelude.{Layout}
+use Rattle.cmwq_model.specs.declared.call.Call.{Call}
+use Rattle.cmwq_model.specs.declared.reply.Reply.{Reply}
+use Rattle.cmwq_model.specs.declared.entry.Entry.{Entry}
+use Rattle.cmwq_monitor.specs.Calls.{Extends}
+use Rattle.cmwq_monitor.specs.Faults.{Refused}
+use Rattle.cmwq_monitor.specs.Participants.{View, Gains}
+use Rattle.cmwq_monitor.specs.Whole.{Completes, BrokeOff}
+use Rattle.cmwq_monitor.specs.declared.fault.RunFault.{RunFault}
+use Rattle.cmwq_monitor.proofs.Beginnings.{prefix_self, prefix_trans}
+use Rattle.cmwq_monitor.proofs.Entries.{gains_none, gains_more}
+use Rattle.cmwq_rt.specs.Later.{Later}
+use Rattle.cmwq_service.specs.Calls.{Continues, IsAfter}
+
+pub continues_self : (a v : View) → v ≡ a → ∥ Continues a v ∥₁
+continues_self a v same = ∣ subst (Continues a) (sym same) (record { entries = []; gains = gains_none a }) ∣₁
+
+more : (a v w : View) (es : List Entry) → Gains v es w → Continues a v → Continues a w
+more a v w es gains so = record { entries = so.entries ++ es; gains = gains_more a v w so.entries es so.gains gains }
+
+pub continues_gains : (a v w : View) (es : List Entry) → ∥ Continues a v ∥₁ → Gains v es w → ∥ Continues a w ∥₁
+continues_gains a v w es so gains = ∥∥₁_map so (more a v w es gains)
+
+pub continues_extends : (s : Layout) (a v w : View) (c : Call) (r : Reply) → ∥ Continues a v ∥₁ → Extends s v c r w → ∥ Continues a w ∥₁
+continues_extends s a v w c r so x = continues_gains a v w _ so x.gains
+
+pub continues_refused : (s : Layout) (a v w : View) (c : Call) (f : RunFault) → ∥ Continues a v ∥₁ → Refused s v c f w → ∥ Continues a w ∥₁
+continues_refused s a v w c f so x = continues_gains a v w [] so x.0
+
+pub continues_completes : (s : Layout) (a v w : View) (c : Call) (r : Reply) → ∥ Continues a v ∥₁ → Completes s v c r w → ∥ Continues a w ∥₁
+continues_completes s a v w c r so x = continues_gains a v w x.entries so x.gains
+
+pub continues_broke : (s : Layout) (a v w : View) (c : Call) (f : RunFault) → ∥ Continues a v ∥₁ → BrokeOff s v c f w → ∥ Continues a w ∥₁
+continues_broke s a v w c f so (inl refused) = continues_refused s a v w c f so refused
+continues_broke s a v w c f so (inr (e, es, gains, part, stops)) = continues_gains a v w (e ∷ es) so gains
+
+pub continues_whole : (s : Layout) (a v w : View) (c : Call) (o : Result Reply RunFault) → ∥ Continues a v ∥₁ → IfOk o (λ r. Completes s v c r w) → IfErr o (λ f. BrokeOff s v c f w) → ∥ Continues a w ∥₁
+continues_whole s a v w c (Ok r) so done broke = continues_completes s a v w c r so done
+continues_whole s a v w c (Err f) so done broke = continues_broke s a v w c f so broke
+
+-- the seen is a beginning
+begins_after : (a w : View) → IsPrefix a.seen w.seen → take (length a.seen) w.seen ≡ a.seen
+begins_after a w (rest, is) = ap (take (length a.seen)) (sym is) ∙ take-append_seam a.seen rest
+
+begins : (a w : View) → take (length a.seen) w.seen ≡ a.seen → IsPrefix a.seen w.seen
+begins a w is = (drop (length a.seen) w.seen, ap (λ xs. xs ++ drop (length a.seen) w.seen) (sym is) ∙ take-append-drop (length a.seen) w.seen)
+
+pub after_self : (a v : View) → v ≡ a → IsAfter a v
+after_self a v same = subst (IsAfter a) (sym same) (refl, omega arith, begins_after a a (prefix_self a.seen))
+
+pub after_later : (a v w : View) → IsAfter a v → Later v w → IsAfter a w
+after_later a v w x y = (y.0 ∙ x.0, (let p = x.1 in let q = y.1 in omega (arith, p, q)), begins_after a w (y.2 a.seen (begins a v x.2)))
+
+pub later_after : (a v : View) → IsAfter a v → Later a v
+later_after a v x = (x.0, x.1, λ front p. prefix_trans front a.seen v.seen p (begins a v x.2))

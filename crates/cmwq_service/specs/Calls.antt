@@ -1,0 +1,29 @@
+-- What a call of a service answers, and what it leaves.
+use Rattle.std.specs.Prelude.{◌≡◌, ◌≤◌, false, List, length, take}
+use Rattle.cmwq_model.specs.Prelude.{Layout, has_numbers}
+use Rattle.cmwq_model.specs.declared.call.Call.{Call}
+use Rattle.cmwq_model.specs.declared.entry.Entry.{Entry}
+use Rattle.cmwq_monitor.specs.Participants.{View, Gains}
+use Rattle.cmwq_monitor.specs.Faults.{Refused}
+use Rattle.cmwq_monitor.specs.Whole.{BrokeOff}
+use Rattle.cmwq_service.specs.declared.fault.Fault.{Fault}
+use Rattle.cmwq_service.specs.declared.fault.Fault.TheVariants.{Outside, Run}
+
+-- A call of one entry made none: a number of it isn't inside the shape, and nothing has changed, or the hub refused it.
+abbrev pub Denied : Layout → View → Call → Fault → View → Type 0
+Denied s v c Outside w = (has_numbers s c ≡ false) × (w ≡ v)
+Denied s v c (Run f) w = Refused s v c f w
+
+-- a call of several entries: so too, or it stopped behind some of them
+abbrev pub Interrupted : Layout → View → Call → Fault → View → Type 0
+Interrupted s v c Outside w = (has_numbers s c ≡ false) × (w ≡ v)
+Interrupted s v c (Run f) w = BrokeOff s v c f w
+
+-- the same caller, which sees all that it had seen, and has made these entries since and no others
+pub record Continues (v w : View) : Type 0 where
+  pub entries : List Entry
+  pub gains : Gains v entries w
+
+-- the same worker, which has made no fewer entries, and sees all that it had seen
+abbrev pub IsAfter : View → View → Type 0
+IsAfter v w = (w.who ≡ v.who) × (v.serial ≤ w.serial) × (take (length v.seen) w.seen ≡ v.seen)

@@ -1,0 +1,4 @@
+pub mod Calls
+pub mod Serving
+pub mod Misfits
+pub mod Prelude

@@ -1,0 +1,6 @@
+-- The words that the contracts of a service cite, in one import.
+pub use Rattle.cmwq_monitor.specs.Calls.{Extends}
+pub use Rattle.cmwq_monitor.specs.Participants.{View, Gains}
+pub use Rattle.cmwq_monitor.specs.Whole.{Completes}
+pub use Rattle.cmwq_service.specs.Calls.{Denied, Interrupted, Continues}
+pub use Rattle.cmwq_service.specs.Serving.{Conduct, IsServed, CalledIn}

@@ -1,0 +1,55 @@
+-- What the run of a service leaves.
+use Rattle.std.specs.Prelude.{◌≡◌, ◌+◌, ◌<◌, ℕ, List, drop, Result, OnOk}
+use mathlib.Core.List.{IsPrefix}
+use Rattle.cmwq_model.specs.Prelude.{IsLegal, Layout, past_of}
+use Rattle.cmwq_model.specs.declared.entry.Entry.{Entry}
+use Rattle.cmwq_model.specs.declared.id.Who.{Who}
+use Rattle.cmwq_model.specs.declared.id.Who.TheVariants.{Caller}
+use Rattle.cmwq_core.specs.Relied.{IsReliable}
+use Rattle.cmwq_monitor.specs.Held.{active_in}
+use Rattle.cmwq_monitor.specs.Participants.{View, Gains, newcomer, made_by}
+use Rattle.cmwq_service.specs.declared.fault.Fault.{Fault}
+use Rattle.cmwq_service.specs.Calls.{Continues}
+
+-- what a caller of this place does in a hub of this shape, as a relation of what it saw at first and at last
+abbrev pub Conduct : Type 1
+Conduct = ℕ → Layout → View → View → Type 0
+
+abbrev pub caller_at : ℕ → Who
+caller_at k = Caller (record { 0 = k })
+
+-- how many callers of a shape are the library's own: the one that comes at the end, and that of the clock
+abbrev pub own_callers : ℕ
+own_callers = 2
+
+-- what came of a caller of this place
+pub record HasCalled (s : Layout) (does : Conduct) (k : ℕ) (v : View) (outcome : Result (Unit {0}) Fault) : Type 0 where
+  pub continues : Continues (newcomer (caller_at k)) v
+  pub did : OnOk outcome (does k s (newcomer (caller_at k)) v)
+
+-- The caller's entries in a history are those that its client has made, and it did what the service says.
+pub record CalledIn (s : Layout) (does : Conduct) (k : ℕ) (history : List Entry) : Type 0 where
+  pub last : View
+  pub did : does k s (newcomer (caller_at k)) last
+  pub entries : List Entry
+  pub gains : Gains (newcomer (caller_at k)) entries last
+  pub older : IsPrefix last.seen history
+  pub own : made_by (caller_at k) history ≡ entries
+
+-- A history that a service leaves: all that a user relies on holds of it, no active queueing is open at its end, and each of its callers did
+-- what the service says and made no other entries.
+pub record IsServed (s : Layout) (does : Conduct) (history : List Entry) : Type 0 where
+  pub reliable : IsReliable s (past_of history)
+  pub finished : active_in s history ≡ 0
+  pub called : (k : ℕ) → k + own_callers < s.callers → ∥ CalledIn s does k history ∥₁
+
+-- what a hub kept of a legal history, behind its first so many entries, and the same of one that a service leaves
+pub record IsRest (s : Layout) (first : ℕ) (rest : List Entry) : Type 0 where
+  pub history : List Entry
+  pub legal : IsLegal s (past_of history)
+  pub rest_is : rest ≡ drop first history
+
+pub record IsRestOfServed (s : Layout) (does : Conduct) (first : ℕ) (rest : List Entry) : Type 0 where
+  pub history : List Entry
+  pub served : IsServed s does history
+  pub rest_is : rest ≡ drop first history

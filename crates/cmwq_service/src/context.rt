@@ -1,0 +1,201 @@
+//! What a work function makes calls by.
+ghost use Rattle.std.specs.Prelude.{◌≡◌};
+ghost use Rattle.cmwq_rt.specs.Later.{Later};
+ghost use Rattle.cmwq_service.specs.Calls.{IsAfter};
+
+use crate::fault::Fault;
+use crate::start::Start;
+use cmwq_model::{Call, CpuId, ItemId, QueueId, Reply, Shape};
+use cmwq_rt::{HubName, RunCtx};
+use std::marker::PhantomData;
+use std::sync::Wait;
+
+/// The worker that runs an item. Its calls are entries of the worker. Contracts see the shape of its hub, and of itself who it is, its serial
+/// and the history that it has seen.
+///
+/// # Errors
+/// Every call that names an item, a queue or a CPU answers `Fault::Outside` where one isn't inside the shape. Otherwise a call answers what the
+/// hub does, as `Fault::Run`: `Full` where there is no room for it, `NoMemory` where the hub has failed. It has made no entry then.
+pub trait Context {
+    ghost use Rattle.std.specs.Prelude.{◌≡◌, IfOk, IfErr};
+    ghost use Rattle.cmwq_model.specs.declared.call.Call.TheVariants as calls;
+    ghost use Rattle.cmwq_model.specs.Prelude.{Layout};
+    ghost use Rattle.cmwq_monitor.specs.Calls.{Extends};
+    ghost use Rattle.cmwq_monitor.specs.Participants.{View};
+    ghost use Rattle.cmwq_service.specs.Calls.{Denied};
+
+    /// The shape of its hub.
+    ghost layout: { Layout };
+
+    /// Who it is, its serial and what it has seen.
+    ghost view: { Self → View };
+
+    /// The shape of the hub.
+    fn shape(&self) -> &Shape
+        ensures { result.now ≡ layout };
+
+    /// Queues an item (`queue_work_on`).
+    fn queue(&mut self, item: ItemId, queue: QueueId, cpu: CpuId) -> Result<Reply, Fault>
+        ensures made { IfOk result (λ reply. Extends layout (view self.old) (calls.Queue item queue cpu) reply (view self.new)) }
+        ensures denied { IfErr result (λ f. Denied layout (view self.old) (calls.Queue item queue cpu) f (view self.new)) };
+
+    /// Queues an item after so many ticks (`queue_delayed_work_on`).
+    fn delay(
+        &mut self,
+        item: ItemId,
+        queue: QueueId,
+        cpu: CpuId,
+        ticks: u32,
+    ) -> Result<Reply, Fault>
+        ensures made { IfOk result (λ reply. Extends layout (view self.old) (calls.Delay item queue cpu ticks) reply (view self.new)) }
+        ensures denied { IfErr result (λ f. Denied layout (view self.old) (calls.Delay item queue cpu ticks) f (view self.new)) };
+
+    /// Queues or delays an item anew (`mod_delayed_work_on`).
+    fn modify(
+        &mut self,
+        item: ItemId,
+        queue: QueueId,
+        cpu: CpuId,
+        ticks: u32,
+    ) -> Result<Reply, Fault>
+        ensures made { IfOk result (λ reply. Extends layout (view self.old) (calls.Modify item queue cpu ticks) reply (view self.new)) }
+        ensures denied { IfErr result (λ f. Denied layout (view self.old) (calls.Modify item queue cpu ticks) f (view self.new)) };
+
+    /// Takes a pending item back (`cancel_work`, `cancel_delayed_work`).
+    fn cancel(&mut self, item: ItemId) -> Result<Reply, Fault>
+        ensures made { IfOk result (λ reply. Extends layout (view self.old) (calls.Cancel item) reply (view self.new)) }
+        ensures denied { IfErr result (λ f. Denied layout (view self.old) (calls.Cancel item) f (view self.new)) };
+
+    /// The run sleeps from now on, so that others of its pool may start (`wq_worker_sleeping`).
+    fn sleep(&mut self) -> Result<Reply, Fault>
+        ensures made { IfOk result (λ reply. Extends layout (view self.old) calls.Sleep reply (view self.new)) }
+        ensures denied { IfErr result (λ f. Denied layout (view self.old) calls.Sleep f (view self.new)) };
+
+    /// The run goes on (`wq_worker_running`).
+    fn wake(&mut self) -> Result<Reply, Fault>
+        ensures made { IfOk result (λ reply. Extends layout (view self.old) calls.Wake reply (view self.new)) }
+        ensures denied { IfErr result (λ f. Denied layout (view self.old) calls.Wake f (view self.new)) };
+}
+
+/// The context that `run` gives to a service: its worker is the one of its start, and sees all that it had seen.
+pub(crate) struct HubContext<'a, N: HubName, B: Start, R> {
+    run: RunCtx<'a, N, R>,
+    of: PhantomData<B>,
+    ghost after: { IsAfter B.start run.participant },
+}
+
+impl<'a, N: HubName, B: Start, R: Wait> HubContext<'a, N, B, R> {
+    #[tactic(auto, using(crate::proofs::Continuing::after_self))]
+    pub(crate) fn new(run: RunCtx<'a, N, R>) -> HubContext<'a, N, B, R>
+        requires { run.participant ≡ B.start }
+    {
+        HubContext {
+            run,
+            of: PhantomData,
+        }
+    }
+
+    #[tactic(auto, using(crate::proofs::Continuing::later_after))]
+    pub(crate) fn into_run(self) -> RunCtx<'a, N, R>
+        ensures { Later B.start result.participant }
+    {
+        let HubContext { run, of: _ } = self;
+        run
+    }
+}
+
+impl<'a, N: HubName, B: Start, R: Wait> Context for HubContext<'a, N, B, R> {
+    ghost layout = { N.layout };
+
+    ghost view = { λ c. c.run.participant };
+
+    fn shape(&self) -> &Shape {
+        self.run.shape()
+    }
+
+    #[tactic(auto, using(crate::proofs::Continuing::after_later))]
+    fn queue(&mut self, item: ItemId, queue: QueueId, cpu: CpuId) -> Result<Reply, Fault> {
+        if !self
+            .run
+            .shape()
+            .has_numbers(Call::Queue { item, queue, cpu })
+        {
+            return Err(Fault::Outside);
+        }
+        match self.run.queue(item, queue, cpu) {
+            Ok(reply) => Ok(reply),
+            Err(fault) => Err(Fault::Run { fault }),
+        }
+    }
+
+    #[tactic(auto, using(crate::proofs::Continuing::after_later))]
+    fn delay(
+        &mut self,
+        item: ItemId,
+        queue: QueueId,
+        cpu: CpuId,
+        ticks: u32,
+    ) -> Result<Reply, Fault> {
+        if !self.run.shape().has_numbers(Call::Delay {
+            item,
+            queue,
+            cpu,
+            ticks,
+        }) {
+            return Err(Fault::Outside);
+        }
+        match self.run.delay(item, queue, cpu, ticks) {
+            Ok(reply) => Ok(reply),
+            Err(fault) => Err(Fault::Run { fault }),
+        }
+    }
+
+    #[tactic(auto, using(crate::proofs::Continuing::after_later))]
+    fn modify(
+        &mut self,
+        item: ItemId,
+        queue: QueueId,
+        cpu: CpuId,
+        ticks: u32,
+    ) -> Result<Reply, Fault> {
+        if !self.run.shape().has_numbers(Call::Modify {
+            item,
+            queue,
+            cpu,
+            ticks,
+        }) {
+            return Err(Fault::Outside);
+        }
+        match self.run.modify(item, queue, cpu, ticks) {
+            Ok(reply) => Ok(reply),
+            Err(fault) => Err(Fault::Run { fault }),
+        }
+    }
+
+    #[tactic(auto, using(crate::proofs::Continuing::after_later))]
+    fn cancel(&mut self, item: ItemId) -> Result<Reply, Fault> {
+        if !self.run.shape().has_numbers(Call::Cancel { item }) {
+            return Err(Fault::Outside);
+        }
+        match self.run.cancel(item) {
+            Ok(reply) => Ok(reply),
+            Err(fault) => Err(Fault::Run { fault }),
+        }
+    }
+
+    #[tactic(auto, using(crate::proofs::Continuing::after_later))]
+    fn sleep(&mut self) -> Result<Reply, Fault> {
+        match self.run.sleep() {
+            Ok(reply) => Ok(reply),
+            Err(fault) => Err(Fault::Run { fault }),
+        }
+    }
+
+    #[tactic(auto, using(crate::proofs::Continuing::after_later))]
+    fn wake(&mut self) -> Result<Reply, Fault> {
+        match self.run.wake() {
+            Ok(reply) => Ok(reply),
+            Err(fault) => Err(Fault::Run { fault }),
+        }
+    }
+}

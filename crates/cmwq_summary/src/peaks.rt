@@ -1,0 +1,63 @@
+//! The most that is open and active at once, by queue and CPU.
+ghost use Rattle.std.specs.Prelude.{◌≡◌, ◌<◌, [], ◌∷◌, List, length, IfOk};
+ghost use Rattle.cmwq_model.specs.declared.entry.Entry as entries;
+ghost use Rattle.cmwq_model.specs.Prelude.{Layout};
+ghost use Rattle.cmwq_state.specs.Pwqs.{AreActiveCounts};
+ghost use Rattle.cmwq_theory_active.specs.Looks.{keeps_widths};
+ghost use Rattle.cmwq_summary.specs.Parts.{ArePeaks};
+ghost use Rattle.cmwq_summary.specs.Summed.{IsNext};
+
+use crate::places::{CPUS, place_in};
+use crate::tally::Tally;
+use crate::told::Told;
+use cmwq_model::{NoMemory, Reply};
+use std::alloc::Global;
+
+/// How many queueings of each queue are open on each CPU; how many were at most, and how many of them were active at most.
+#[derive(Drop)]
+pub(crate) struct Peaks {
+    pub(crate) open: Tally,
+    pub(crate) most_open: Tally,
+    pub(crate) most_active: Tally,
+}
+
+impl Peaks {
+    /// Those of no entries. The error says that memory ran out.
+    pub(crate) fn new(alloc: Global, queues: usize) -> Result<Peaks, NoMemory>
+        requires { queues < 256 }
+        ensures { IfOk result (λ peaks. (s : Layout) → length s.queues ≡ queues → ArePeaks s [] peaks) }
+    {
+        let places = CPUS * queues;
+        let open = Tally::new(alloc, places)?;
+        let most_open = Tally::new(alloc, places)?;
+        let most_active = Tally::new(alloc, places)?;
+        Ok(Peaks {
+            open,
+            most_open,
+            most_active,
+        })
+    }
+
+    /// One entry more, behind which so many are active of each queue on each CPU.
+    pub(crate) fn add(&mut self, told: &Told, active_counts: &[u32])
+        requires { (s : Layout) × (past : List entries.Entry) × IsNext s past told.now × AreActiveCounts s (told.now.entry ∷ past) active_counts.now × ArePeaks s past self.old }
+        ensures { (s : Layout) (past : List entries.Entry) → IsNext s past told.now → AreActiveCounts s (told.now.entry ∷ past) active_counts.now → ArePeaks s past self.old → ArePeaks s (told.now.entry ∷ past) self.new }
+    {
+        let opened = place_in(told.opened);
+        self.open.add(opened);
+        self.open.remove(place_in(told.ended));
+        self.most_open.raise(opened, &self.open);
+        if keeps_widths(told.entry.reply) {
+            self.most_active.raise_to(opened, active_counts);
+        } else {
+            self.most_active.raise_all(active_counts);
+        }
+    }
+}
+
+/// Whether the queues are as wide after an entry with this reply as before it, so that more are active only where it opens something.
+fn keeps_widths(reply: Reply) -> bool
+    ensures { result ≡ keeps_widths reply }
+{
+    !matches!(reply, Reply::Width(_) | Reply::Frozen | Reply::Thawed)
+}

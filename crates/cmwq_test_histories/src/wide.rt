@@ -1,0 +1,293 @@
+//! The greatest numbers of a shape: the book beside the plain program where there are many CPUs, items, workers, callers or queues.
+
+ghost use Rattle.std.specs.Prelude.{◌<◌};
+
+use crate::book::Pair;
+use cmwq_model::{
+    Call, CallerId, Counts, CpuId, ItemId, Number, PoolId, QueueId, QueueShape, Reply, Shape, Who,
+    WorkerId,
+};
+use rand_core::utils::NextWord;
+use rand_pcg::Pcg32;
+use std::process::Abort;
+use std::test::Fail;
+
+const ROOM: u64 = 100_000;
+
+/// Calls for a shape, which a fixed sequence of numbers chooses, and the pair on which they are made.
+#[derive(Drop)]
+struct Wide {
+    pair: Pair,
+    random: Pcg32,
+    counts: Counts,
+    queues: u8,
+    /// Of so many calls one is compared, as the plain program looks back over all of them.
+    every: u32,
+}
+
+/// A shape of these numbers, with queues that differ.
+fn shape(rt: &impl AllocGlobal, counts: Counts, queues: u8) -> Result<Shape, Fail> {
+    let mut shapes = Vec::new(rt.alloc());
+    for queue in 0..queues {
+        shapes.push(QueueShape {
+            max_active: if queue % 2 == 0 { 512 } else { 1 },
+            high: queue % 3 == 1,
+            intensive: queue % 5 == 1,
+            freezable: queue % 7 == 1,
+        })?;
+    }
+    Ok(Shape::new(counts, shapes).ok_or("no shape")?)
+}
+
+impl Wide {
+    fn new(
+        rt: &(impl Abort + AllocGlobal),
+        counts: Counts,
+        queues: u8,
+        every: u32,
+    ) -> Result<Wide, Fail> {
+        Ok(Wide {
+            pair: Pair::new(rt, shape(rt, counts, queues)?, ROOM)?,
+            random: Pcg32::new(31, 1),
+            counts,
+            queues,
+            every,
+        })
+    }
+
+    /// The next number, below a limit.
+    fn below(&mut self, limit: u32) -> u32
+        requires { 0 < limit }
+        ensures { result < limit }
+    {
+        self.random.next_word() % limit
+    }
+
+    /// A number below a count: the first, the last, or any.
+    fn one_of(&mut self, count: u32) -> u32 {
+        match self.below(4) {
+            0 => 0,
+            1 => count.saturating_sub(1),
+            _ => self.below(count.max(1)),
+        }
+    }
+
+    fn item(&mut self) -> ItemId {
+        let items = u32::from(self.counts.items);
+        ItemId(self.one_of(items) as u16)
+    }
+
+    fn queue(&mut self) -> QueueId {
+        let queues = u32::from(self.queues);
+        QueueId(self.one_of(queues) as u8)
+    }
+
+    /// The first CPU or the last.
+    fn cpu(&mut self) -> CpuId {
+        if self.below(2) == 0 {
+            CpuId(0)
+        } else {
+            CpuId(self.counts.cpus.saturating_sub(1))
+        }
+    }
+
+    /// A worker of one of their pools, the first or the last more often.
+    fn worker(&mut self) -> WorkerId {
+        let pool = PoolId {
+            cpu: self.cpu(),
+            high: self.below(4) == 0,
+        };
+        let workers = u32::from(self.counts.workers);
+        let index = self.one_of(workers) as u8;
+        WorkerId { pool, index }
+    }
+
+    /// A call that callers and workers make.
+    fn queueing(&mut self) -> Call {
+        let item = self.item();
+        let queue = self.queue();
+        let cpu = self.cpu();
+        let ticks = self.below(3);
+        match self.below(6) {
+            0..3 => Call::Queue { item, queue, cpu },
+            3 => Call::Delay {
+                item,
+                queue,
+                cpu,
+                ticks,
+            },
+            4 => Call::Modify {
+                item,
+                queue,
+                cpu,
+                ticks,
+            },
+            _ => Call::Cancel { item },
+        }
+    }
+
+    fn caller_call(&mut self) -> Call {
+        match self.below(16) {
+            0..9 => self.queueing(),
+            9 => Call::Tick { ticks: 2 },
+            10..13 => Call::Fire,
+            13 => Call::Flush {
+                queue: self.queue(),
+            },
+            14 => Call::CancelSync { item: self.item() },
+            _ => Call::Drain {
+                queue: self.queue(),
+            },
+        }
+    }
+
+    fn worker_call(&mut self) -> Call {
+        match self.below(8) {
+            0..4 => Call::Take,
+            4 => Call::Finish,
+            5 => Call::Sleep,
+            6 => Call::Wake,
+            _ => self.queueing(),
+        }
+    }
+
+    fn who_calls(&mut self) -> (Who, Call) {
+        if self.below(2) == 0 {
+            let callers = u32::from(self.counts.callers);
+            let caller = CallerId(self.one_of(callers) as u8);
+            (Who::Caller(caller), self.caller_call())
+        } else {
+            (Who::Worker(self.worker()), self.worker_call())
+        }
+    }
+
+    /// Makes a call, and compares one of so many.
+    fn call(&mut self, rt: &impl Abort, who: Who, call: Call) -> Result<(), Fail> {
+        let is_compared = self.below(self.every.max(1)) == 0;
+        self.pair.meet(rt, who, call, is_compared)
+    }
+
+    fn call_at_random(&mut self, rt: &impl Abort, calls: u32) -> Result<(), Fail> {
+        for _ in 0..calls {
+            let (who, call) = self.who_calls();
+            self.call(rt, who, call)?;
+        }
+        Ok(())
+    }
+}
+
+const COUNTS: Counts = Counts {
+    cpus: 1,
+    workers: 2,
+    callers: 2,
+    items: 3,
+    room: ROOM,
+};
+
+fn caller(caller: u8) -> Who {
+    Who::Caller(CallerId(caller))
+}
+
+/// A worker of the normal pool of CPU 0.
+fn worker(index: u8) -> Who {
+    Who::Worker(WorkerId {
+        pool: PoolId {
+            cpu: CpuId(0),
+            high: false,
+        },
+        index,
+    })
+}
+
+fn queue_on(item: u16, queue: u8) -> Call {
+    Call::Queue {
+        item: ItemId(item),
+        queue: QueueId(queue),
+        cpu: CpuId(0),
+    }
+}
+
+#[test]
+fn sixty_cpus(rt: HostRuntime) -> Result<(), Fail> {
+    for cpus in [60, 64] {
+        let counts = Counts { cpus, ..COUNTS };
+        Wide::new(&rt, counts, 3, 1)?.call_at_random(&rt, 120)?;
+    }
+    Ok(())
+}
+
+#[test]
+fn sixty_thousand_items(rt: HostRuntime) -> Result<(), Fail> {
+    for items in [60_000, 65_535] {
+        let counts = Counts { items, ..COUNTS };
+        Wide::new(&rt, counts, 3, 30)?.call_at_random(&rt, 60)?;
+    }
+    Ok(())
+}
+
+/// All workers of a pool start a run that sleeps, and the next queueing waits until one of them has ended.
+#[test]
+fn as_many_workers_as_may_sleep(rt: HostRuntime) -> Result<(), Fail> {
+    let counts = Counts {
+        workers: 64,
+        items: 66,
+        ..COUNTS
+    };
+    let mut wide = Wide::new(&rt, counts, 1, 8)?;
+    for item in 0..66 {
+        wide.call(&rt, caller(0), queue_on(item, 0))?;
+    }
+    for index in 0..64 {
+        wide.call(&rt, worker(index), Call::Take)?;
+        wide.call(&rt, worker(index), Call::Sleep)?;
+    }
+    for call in [Call::Wake, Call::Finish, Call::Take, Call::Take] {
+        wide.call(&rt, worker(63), call)?;
+    }
+    wide.call_at_random(&rt, 60)
+}
+
+/// Every caller flushes at once; all wait for the one item, and then none does. The plain program, which looks back over all calls, is asked for one.
+#[test]
+fn as_many_callers_as_may_flush(rt: HostRuntime) -> Result<(), Fail> {
+    let counts = Counts {
+        callers: 255,
+        ..COUNTS
+    };
+    let mut wide = Wide::new(&rt, counts, 1, 255)?;
+    wide.call(&rt, caller(0), queue_on(0, 0))?;
+    for index in 0..255 {
+        let flush = Call::Flush { queue: QueueId(0) };
+        wide.pair.meet(&rt, caller(index), flush, index == 31)?;
+    }
+    for round in 0..2 {
+        for index in 0..255 {
+            let ticket = 1 + Number::from(index);
+            let end = Call::End { ticket };
+            wide.pair.meet(&rt, caller(index), end, false)?;
+            let is_done = matches!(wide.pair.last_reply(), Some(Reply::Done));
+            assert_eq!(rt; is_done, round == 1);
+        }
+        for call in [Call::Take, Call::Finish] {
+            wide.pair.meet(&rt, worker(round), call, false)?;
+        }
+    }
+    Ok(())
+}
+
+/// Each queue has an item and a flush of its own.
+#[test]
+fn as_many_queues_as_may_be(rt: HostRuntime) -> Result<(), Fail> {
+    let counts = Counts {
+        callers: 255,
+        items: 255,
+        ..COUNTS
+    };
+    let mut wide = Wide::new(&rt, counts, 255, 32)?;
+    for index in 0..255 {
+        wide.call(&rt, caller(index), queue_on(u16::from(index), index))?;
+        let queue = QueueId(index);
+        wide.call(&rt, caller(index), Call::Flush { queue })?;
+    }
+    wide.call_at_random(&rt, 80)
+}

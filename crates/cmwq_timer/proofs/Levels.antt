@@ -1,0 +1,87 @@
+-- Levels above nodes of which one is written.
+use Rattle.std.proofs.Common.{◌≡◌, ◌≢◌, ℕ, ◌+◌, ◌*◌, ◌/◌, ◌<◌, ◌≤◌, List, [], ◌∷◌, length, Option, None, ap, arith, ⊎_elim, set, replicate}
+use Rattle.std.specs.Prelude.{option_map}
+use Rattle.std.proofs.lemmas.Bool.{cases_eq, cases_lt}
+use Rattle.std.proofs.lemmas.List.{get_or-set_same, get_or-set_other, get_or-replicate, get_or_past, length-set, length-replicate}
+use Rattle.cmwq_timer.specs.declared.timer.Timer.{Timer}
+use Rattle.cmwq_timer.specs.declared.candidate.Candidate.{Candidate}
+use Rattle.cmwq_timer.specs.Rows.{TimerRows, timer_of}
+use Rattle.cmwq_timer.specs.Tournament.{Nodes, node_at, candidate_at, IsSoonest, IsLevel, AreLevels}
+use Rattle.cmwq_timer.proofs.Soonest.{soonest_same}
+
+module _ (many : ℕ) (old new : Nodes) (level : List (Option Candidate)) (j : ℕ) (o : Option Candidate)
+    (is : IsLevel many old level) (others : (k : ℕ) → k ≢ j → new k ≡ old k) (inside : j < many) (first : IsSoonest new (16 * (j / 16)) (16 * (j / 16) + 16) o) where
+  within : j / 16 < length level
+  within = let c = is.covers in omega arith
+
+  each : (k : ℕ) → k < length level → IsSoonest new (16 * k) (16 * k + 16) (node_at (set level (j / 16) o) k)
+  each k low = ⊎_elim
+      (λ same. rw same (rw (get_or-set_same level (j / 16) o None within) first))
+      (λ ne. rw (get_or-set_other level (j / 16) k o None ne)
+      (soonest_same old new (16 * k) (16 * k + 16) (node_at level k) (λ i from below. others i (λ e. ne (omega arith))) (is.each k low)))
+      (cases_eq k (j / 16))
+
+  -- the node above what is written is found anew
+  pub level_written : IsLevel many new (set level (j / 16) o)
+  level_written = record {
+    covers = rw (length-set level (j / 16) o) is.covers;
+    each = λ k low. each k (rw (length-set level (j / 16) o) at low);
+  }
+
+-- the other nodes of a level that is written are as they were
+pub others_at : (level : List (Option Candidate)) (j : ℕ) (o : Option Candidate) (k : ℕ) → k ≢ j → node_at (set level j o) k ≡ node_at level k
+others_at level j o k ne = get_or-set_other level j k o None ne
+
+module _ (rows : TimerRows) (lows middles highs : List (Option Candidate)) (top : Option Candidate) (i : ℕ) (t : Option Timer) (o1 o2 o3 o4 : Option Candidate)
+    (are : AreLevels rows lows middles highs top) (here : i < length rows)
+    (low : IsSoonest (candidate_at (set rows i t)) (16 * (i / 16)) (16 * (i / 16) + 16) o1)
+    (middle : IsSoonest (node_at (set lows (i / 16) o1)) (16 * (i / 16 / 16)) (16 * (i / 16 / 16) + 16) o2)
+    (high : IsSoonest (node_at (set middles (i / 16 / 16) o2)) (16 * (i / 16 / 16 / 16)) (16 * (i / 16 / 16 / 16) + 16) o3)
+    (last : IsSoonest (node_at (set highs (i / 16 / 16 / 16) o3)) 0 16 o4) where
+  others_booked : (k : ℕ) → k ≢ i → candidate_at (set rows i t) k ≡ candidate_at rows k
+  others_booked k ne = ap (option_map (λ (u : Timer). record { item = record { 0 = k }; timer = u })) (get_or-set_other rows i k t None ne)
+
+  pub low_inside : i / 16 < length lows
+  low_inside = let c = are.low.covers in omega arith
+
+  pub middle_inside : i / 16 / 16 < length middles
+  middle_inside = let c = are.middle.covers in let l = low_inside in omega arith
+
+  pub high_inside : i / 16 / 16 / 16 < length highs
+  high_inside = let c = are.high.covers in let l = middle_inside in omega arith
+
+  last_each : (k : ℕ) → k < 1 → IsSoonest (node_at (set highs (i / 16 / 16 / 16) o3)) (16 * k) (16 * k + 16) (node_at (o4 ∷ []) k)
+  last_each k only = let first : k ≡ 0 = omega arith in rw first last
+
+  -- a row is written, and the nodes above it are found anew
+  pub levels_written : AreLevels (set rows i t) (set lows (i / 16) o1) (set middles (i / 16 / 16) o2) (set highs (i / 16 / 16 / 16) o3) o4
+  levels_written = record {
+    low = rw (length-set rows i t) (level_written (length rows) (candidate_at rows) (candidate_at (set rows i t)) lows i o1 are.low others_booked here low);
+    middle = rw (length-set lows (i / 16) o1) (level_written (length lows) (node_at lows) (node_at (set lows (i / 16) o1)) middles (i / 16) o2 are.middle (others_at lows (i / 16) o1) low_inside middle);
+    high = rw (length-set middles (i / 16 / 16) o2) (level_written (length middles) (node_at middles) (node_at (set middles (i / 16 / 16) o2)) highs (i / 16 / 16) o3 are.high (others_at middles (i / 16 / 16) o2) middle_inside high);
+    last = record { covers = rw (length-set highs (i / 16 / 16 / 16) o3) are.last.covers; each = last_each };
+  }
+
+none_at : (many k : ℕ) → node_at (replicate many None) k ≡ None
+none_at many k = ⊎_elim (λ l. get_or-replicate {A = Option Candidate} many k None None l) (λ g. get_or_past (replicate many None) k None (omega (arith, length-replicate {A = Option Candidate} many None))) (cases_lt k many)
+
+-- where nothing is booked, no node keeps anything
+none_level : (many nodes : ℕ) (below : Nodes) → ((k : ℕ) → below k ≡ None) → many ≤ 16 * nodes → IsLevel many below (replicate nodes None)
+none_level many nodes below none covers = record {
+  covers = rw (length-replicate {A = Option Candidate} nodes None) covers;
+  each = λ k low. rw (none_at nodes k) (λ i from under. none i);
+}
+
+no_candidate : (items k : ℕ) → candidate_at (replicate items None) k ≡ None
+no_candidate items k = ap (option_map (λ (u : Timer). record { item = record { 0 = k }; timer = u })) (no_timer items k)
+  where
+    no_timer : (many i : ℕ) → timer_of (replicate many None) i ≡ None
+    no_timer many i = ⊎_elim (λ l. get_or-replicate {A = Option Timer} many i None None l) (λ g. get_or_past (replicate many None) i None (omega (arith, length-replicate {A = Option Timer} many None))) (cases_lt i many)
+
+pub none_levels : (items lows middles highs : ℕ) → items ≤ 16 * lows → lows ≤ 16 * middles → middles ≤ 16 * highs → highs ≤ 16 → AreLevels (replicate items None) (replicate lows None) (replicate middles None) (replicate highs None) None
+none_levels items lows middles highs a b c d = record {
+  low = rw (length-replicate {A = Option Timer} items None) (none_level items lows (candidate_at (replicate items None)) (no_candidate items) a);
+  middle = rw (length-replicate {A = Option Candidate} lows None) (none_level lows middles (node_at (replicate lows None)) (none_at lows) b);
+  high = rw (length-replicate {A = Option Candidate} middles None) (none_level middles highs (node_at (replicate middles None)) (none_at middles) c);
+  last = rw (length-replicate {A = Option Candidate} highs None) (none_level highs 1 (node_at (replicate highs None)) (none_at highs) d);
+}

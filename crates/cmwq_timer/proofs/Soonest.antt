@@ -1,0 +1,80 @@
+-- Which timer is sooner, and the first of some nodes.
+use Rattle.std.proofs.Common.{◌≡◌, ℕ, ◌+◌, ◌<◌, ◌≤◌, Bool, true, false, Option, Some, None, cond, refl, sym, ◌∙◌, arith, ◌⊎◌, ⊎_elim}
+use Rattle.std.proofs.lemmas.Bool.Decides.{nat_tests}
+use Rattle.cmwq_timer.specs.declared.timer.Timer.{Timer}
+use Rattle.cmwq_timer.specs.declared.candidate.Candidate.{Candidate}
+use Rattle.cmwq_timer.specs.Due.{is_sooner}
+use Rattle.cmwq_timer.specs.Tournament.{Nodes, sooner, IsSoonest}
+
+pub sooner_chain : (a b c : Timer) → is_sooner a b ≡ false → is_sooner c b ≡ true → is_sooner a c ≡ false
+sooner_chain a b c = grind (arith, nat_tests)
+
+pub sooner_self : (a : Timer) → is_sooner a a ≡ false
+sooner_self a = grind (arith, nat_tests)
+
+pub sooner_on : (a b c : Timer) → is_sooner a c ≡ false → is_sooner c b ≡ false → is_sooner a b ≡ false
+sooner_on a b c = grind (arith, nat_tests)
+
+is_last : (i k : ℕ) → i < k + 1 → (i < k) ⊎ (i ≡ k)
+is_last i k h = grind arith
+
+pub not_both : {X : Type 0} (o : Option X) (x : X) → o ≡ None → o ≡ Some x → ⊥
+not_both o x none some = cc
+
+pub one_value : {X : Type 0} (o : Option X) (x y : X) → o ≡ Some x → o ≡ Some y → y ≡ x
+one_value o x y p q = cc
+
+module _ (nodes : Nodes) (lo k : ℕ) (up : lo ≤ k) where
+  here : (c d e : Candidate) (j : ℕ) → nodes k ≡ Some d → is_sooner d.timer c.timer ≡ false → j ≡ k → nodes j ≡ Some e → is_sooner e.timer c.timer ≡ false
+  here c d e j is not_sooner same stands =
+      let one : e ≡ d = one_value (nodes k) d e is (rw same at stands) in
+      rw one not_sooner
+
+  by : (o n : Option Candidate) → nodes k ≡ n → IsSoonest nodes lo k o → IsSoonest nodes lo (k + 1) (sooner o n)
+  by None None is none = λ j from below. ⊎_elim (λ l. none j from l) (λ same. rw same is) (is_last j k below)
+  by None (Some d) is none = record {
+    at = k;
+    from = up;
+    below = omega arith;
+    is = is;
+    none_sooner = λ j e from below stands. ⊎_elim (λ l. absurd (not_both (nodes j) e (none j from l) stands)) (λ same. here d d e j is (sooner_self d.timer) same stands) (is_last j k below);
+  }
+  by (Some c) None is first = record {
+    at = first.at;
+    from = first.from;
+    below = (let b = first.below in omega arith);
+    is = first.is;
+    none_sooner = λ j e from below stands. ⊎_elim (λ l. first.none_sooner j e from l stands) (λ same. absurd (not_both (nodes k) e is (rw same at stands))) (is_last j k below);
+  }
+  by (Some c) (Some d) is first = with (is_sooner d.timer c.timer) refl
+    where
+      with : (b : Bool) → is_sooner d.timer c.timer ≡ b → IsSoonest nodes lo (k + 1) (cond b (Some d) (Some c))
+      with true less = record {
+        at = k;
+        from = up;
+        below = omega arith;
+        is = is;
+        none_sooner = λ j e from below stands. ⊎_elim (λ l. sooner_chain e.timer c.timer d.timer (first.none_sooner j e from l stands) less) (λ same. here d d e j is (sooner_self d.timer) same stands) (is_last j k below);
+      }
+      with false less = record {
+        at = first.at;
+        from = first.from;
+        below = (let b = first.below in omega arith);
+        is = first.is;
+        none_sooner = λ j e from below stands. ⊎_elim (λ l. first.none_sooner j e from l stands) (λ same. here c d e j is less same stands) (is_last j k below);
+      }
+
+  -- one more node
+  pub soonest_more : (o : Option Candidate) → IsSoonest nodes lo k o → IsSoonest nodes lo (k + 1) (sooner o (nodes k))
+  soonest_more o first = by o (nodes k) refl first
+
+-- nodes that agree have the same first
+pub soonest_same : (old new : Nodes) (lo hi : ℕ) (o : Option Candidate) → ((k : ℕ) → lo ≤ k → k < hi → new k ≡ old k) → IsSoonest old lo hi o → IsSoonest new lo hi o
+soonest_same old new lo hi None same none = λ k from below. same k from below ∙ none k from below
+soonest_same old new lo hi (Some c) same first = record {
+  at = first.at;
+  from = first.from;
+  below = first.below;
+  is = same first.at first.from first.below ∙ first.is;
+  none_sooner = λ k d from below stands. first.none_sooner k d from below (sym (same k from below) ∙ stands);
+}
