@@ -4,7 +4,7 @@ use crate::tells::calls;
 use std::test::Fail;
 
 /// Files of calls, and what is told of the first lines.
-const HEADS: [(&str, &str); 18] = [
+const HEADS: [(&str, &str); 20] = [
     (
         "",
         "line 1, column 1: here ends the input; expected is the shape, as \"shape 1 2 1 3 100\"",
@@ -30,8 +30,16 @@ const HEADS: [(&str, &str); 18] = [
         "line 1, column 15: room 2000000: at most 1000000",
     ),
     (
-        "calls 3\nshape 1 2 1 300 2000000\nwq 1 -\n",
-        "line 2, column 13: items 300: at most 256",
+        "shape 1 2 1 300 100\nwq 1 -\n",
+        "line 1, column 13: items 300: at most 256",
+    ),
+    (
+        "calls 3\nshape 1 2 1 65536 2000000\nwq 1 -\n",
+        "line 2, column 13: items 65536: at most 65535",
+    ),
+    (
+        "calls 3\nshape 65 2 1 3 2000000\nwq 1 -\n",
+        "line 2, column 7: CPUs 65: at most 64",
     ),
     (
         "calls 3\nshape 1 2 1 3 5000000000000000000\nwq 1 -\n",
