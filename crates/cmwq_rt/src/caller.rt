@@ -22,7 +22,7 @@ use std::sync::ledger::Share;
 #[derive(Drop)]
 pub struct Caller<N: HubName> {
     participant: Participant<N>,
-    reader: Reader<N>,
+    reader: Option<Reader<N>>,
 }
 
 impl<N: HubName> Model for Caller<N> {
@@ -50,7 +50,7 @@ fn ticket_in(reply: Reply) -> Option<Number>
 }
 
 impl<N: HubName> Caller<N> {
-    pub(crate) fn new(participant: Participant<N>, reader: Reader<N>) -> Caller<N>
+    pub(crate) fn new(participant: Participant<N>, reader: Option<Reader<N>>) -> Caller<N>
         requires { is_caller participant.who ≡ true }
         ensures { result ≡ participant }
     {
@@ -100,7 +100,7 @@ impl<N: HubName> Caller<N> {
 
     /// The bits of an item (`work_busy`): 1 if it is pending, plus 2 if it runs, after a list of entries that begins with all that the
     /// caller has seen, and that it has seen from then on; none of those that are new is its own. It takes no lock, no memory, and waits for
-    /// nobody. None where the reader gives no guard.
+    /// nobody. None where the reader gives no guard, and for a caller that has none (`HubParts::with_readers`).
     pub fn busy(&mut self, item: ItemId) -> Option<u8>
         requires { item.0 < N.layout.items }
         ensures bits { MatchOption result (self.new ≡ self.old) (λ b. b ≡ bits (past_of self.new.seen) item.0) }
@@ -114,7 +114,7 @@ impl<N: HubName> Caller<N> {
         };
         let own = self.participant.serial();
         let seen = self.participant.seen();
-        let found = self.reader.read(item, caller)?;
+        let found = self.reader.as_mut()?.read(item, caller)?;
         if found.prefix.len() < seen || found.serial != own {
             return None;
         }

@@ -29,14 +29,14 @@ pub struct Participants<N: HubName> {
 }
 
 impl<N: HubName> Model for Participants<N> {
-    ghost use Rattle.std.specs.Prelude.{◌≡◌, ◌+◌, []};
+    ghost use Rattle.std.specs.Prelude.{◌≡◌, ◌+◌, ◌≤◌, []};
     ghost use Rattle.cmwq_rt.specs.Places.{Places, AreCounts, IsNextPlace, shares};
 
     ghost Value = { Places };
 
     ghost view = { λ s. record { callers = s.callers; next = s.next; workers = s.workers } };
 
-    ghost invariant = { λ s. AreCounts N.layout s.counts × (s.start ≡ []) × (s.readers + s.callers ≡ N.layout.callers) × (s.rest.parts + s.callers + s.workers ≡ shares) × (s.rest.amount ≡ 0) × IsNextPlace N.layout s.next s.workers };
+    ghost invariant = { λ s. AreCounts N.layout s.counts × (s.start ≡ []) × (s.callers ≤ N.layout.callers) × (s.rest.parts + s.callers + s.workers ≡ shares) × (s.rest.amount ≡ 0) × IsNextPlace N.layout s.next s.workers };
 }
 
 impl<N: HubName> Participants<N> {
@@ -47,7 +47,6 @@ impl<N: HubName> Participants<N> {
         rest: Share<N>,
     ) -> Participants<N>
         requires counts { AreCounts N.layout counts }
-        requires readers { readers ≡ N.layout.callers }
         requires start { start ≡ [] }
         requires rest { (rest.parts ≡ shares) × (rest.amount ≡ 0) }
         ensures { result ≡ all_free }
@@ -67,7 +66,7 @@ impl<N: HubName> Participants<N> {
         }
     }
 
-    /// The callers 0, 1, 2 and so on.
+    /// The callers 0, 1, 2 and so on, each with a reader while there are some.
     ///
     /// # Errors
     /// `NoPlace` where all are given out.
@@ -75,9 +74,10 @@ impl<N: HubName> Participants<N> {
         ensures given { IfOk result (λ c. (c ≡ newcomer (whos.Caller (record { 0 = self.old.callers }))) × (self.old.callers < N.layout.callers) × (self.new ≡ record self.old { callers = self.old.callers + 1 })) }
         ensures none { IfErr result (λ f. (f ≡ NoPlace) × (self.old.callers ≡ N.layout.callers) × (self.new ≡ self.old)) }
     {
-        let Some(reader) = self.readers.next() else {
+        if self.callers >= self.counts.callers {
             return Err(RunFault::NoPlace);
-        };
+        }
+        let reader = self.readers.next();
         let share = self.rest.split_off(1, 0);
         let who = Who::Caller(CallerId(self.callers));
         self.callers += 1;

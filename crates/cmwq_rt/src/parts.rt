@@ -32,7 +32,7 @@ pub struct HubParts {
     ghost shapes_are: { shape_of_monitor ≡ shape },
     ghost execution_is: { execution ≡ record { layout = shape; room = shape.room; entries = [] } },
     ghost tail_is: { tail.all ≡ [] },
-    ghost opening_is: { (opening.layout ≡ shape) × (opening.readers ≡ shape.callers) },
+    ghost opening_is: { opening.layout ≡ shape },
     ghost shares: { blank.parts ≡ shares },
 }
 
@@ -69,6 +69,7 @@ impl HubParts {
     /// `NoMemory` where memory runs out.
     pub fn new<R: Wait>(rt: &R, alloc: Global, shape: &Shape) -> Result<HubParts, RunFault>
         ensures shape { IfOk result (λ p. p.shape ≡ shape.now) }
+        ensures readers { IfOk result (λ p. p.opening.readers ≡ shape.now.callers) }
         ensures fault { IfErr result (λ f. f ≡ faults.NoMemory None) }
     {
         let Ok(kept) = u32::try_from(shape.counts().room) else {
@@ -88,13 +89,33 @@ impl HubParts {
         kept: u32,
     ) -> Result<HubParts, RunFault>
         ensures shape { IfOk result (λ p. p.shape ≡ shape.now) }
+        ensures readers { IfOk result (λ p. p.opening.readers ≡ shape.now.callers) }
+        ensures fault { IfErr result (λ f. f ≡ faults.NoMemory None) }
+    {
+        let readers = shape.counts().callers;
+        HubParts::with_readers(rt, alloc, shape, kept, readers)
+    }
+
+    /// The same, with so many readers in place of one for each caller: the callers that are given out first have one each, and `busy` of the
+    /// others answers None. Each reader makes all entries dearer, whether it looks or not, so who never looks is to have none.
+    ///
+    /// # Errors
+    /// `NoMemory` where memory runs out.
+    pub fn with_readers<R: Wait>(
+        rt: &R,
+        alloc: Global,
+        shape: &Shape,
+        kept: u32,
+        readers: u8,
+    ) -> Result<HubParts, RunFault>
+        ensures shape { IfOk result (λ p. p.shape ≡ shape.now) }
+        ensures readers { IfOk result (λ p. p.opening.readers ≡ readers) }
         ensures fault { IfErr result (λ f. f ≡ faults.NoMemory None) }
     {
         let Ok(rest) = rest_of(alloc, shape, kept) else {
             return Err(RunFault::NoMemory { ticket: None });
         };
-        let readers = usize::from(shape.counts().callers);
-        let Ok(opening) = Opening::new(rt, alloc, shape, readers) else {
+        let Ok(opening) = Opening::new(rt, alloc, shape, usize::from(readers)) else {
             return Err(RunFault::NoMemory { ticket: None });
         };
         let Rest {
@@ -125,6 +146,7 @@ impl HubParts {
     /// `NoMemory` where memory runs out.
     pub fn dropping<R: Wait>(rt: &R, alloc: Global, shape: &Shape) -> Result<HubParts, RunFault>
         ensures shape { IfOk result (λ p. p.shape ≡ shape.now) }
+        ensures readers { IfOk result (λ p. p.opening.readers ≡ shape.now.callers) }
         ensures fault { IfErr result (λ f. f ≡ faults.NoMemory None) }
     {
         let kept = 1 + u32::from(shape.counts().items);

@@ -268,7 +268,8 @@ pub fn run_scripts_with_journal<'x, W: Work + Sync, R: Threads + Wait + Clock + 
     let Ok(spare) = Vec::with_capacity(alloc, kept as usize) else {
         return Err(Unwritten::Run(RunFault::NoMemory { ticket: None }));
     };
-    match HubParts::keeping(rt, alloc, shape, kept) {
+    // scripts never look
+    match HubParts::with_readers(rt, alloc, shape, kept, 0) {
         Ok(parts) => run_parts::<Brand, W, R, O>(rt, alloc, parts, spare, scripts, work, output),
         Err(fault) => Err(Unwritten::Run(fault)),
     }

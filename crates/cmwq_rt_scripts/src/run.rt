@@ -1,7 +1,8 @@
 //! Scripts, each followed by a thread of its own, beside a thread for each worker.
-ghost use Rattle.std.specs.Prelude.{◌≡◌, ◌+◌, ◌<◌, ◌≤◌, ◌^◌, length, map, All, IfOk, IfErr};
+ghost use Rattle.std.specs.Prelude.{◌≡◌, ◌+◌, ◌<◌, ◌≤◌, ◌^◌, length, map, None, All, IfOk, IfErr};
 ghost use Rattle.cmwq_model.specs.Prelude.{past_of, IsLegal, IsScripted, most_callers};
 ghost use Rattle.cmwq_monitor.specs.Held.{active_in};
+ghost use Rattle.cmwq_monitor.specs.declared.fault.RunFault.TheVariants as faults;
 ghost use Rattle.cmwq_rt.specs.Places.{all_free, shares};
 ghost use Rattle.cmwq_rt_scripts.specs.Ended.{AllFollow, AllWorked, AreNewcomers, AreSilent, FailsAs, HaveEnded, HaveWorked};
 
@@ -24,6 +25,17 @@ pub struct Report {
     pub history: Vec<Entry>,
     pub answered: u64,
     pub full: u64,
+}
+
+// The parts of a hub that keeps all its entries. Scripts never look, so it has no readers.
+fn unread_parts<R: Wait>(rt: &R, alloc: Global, shape: &Shape) -> Result<HubParts, RunFault>
+    ensures shape { IfOk result (λ p. p.shape ≡ shape.now) }
+    ensures fault { IfErr result (λ f. f ≡ faults.NoMemory None) }
+{
+    match u32::try_from(shape.counts().room) {
+        Ok(kept) => HubParts::with_readers(rt, alloc, shape, kept, 0),
+        Err(_) => Err(RunFault::NoMemory { ticket: None }),
+    }
 }
 
 // Runs all threads to their end.
@@ -204,6 +216,6 @@ pub fn run_scripts<'x, W: Work + Sync, R: Threads + Wait + Sync>(
     ensures finished { IfOk result (λ r. active_in shape.now r.history.items ≡ 0) }
     ensures fails { IfErr result (λ f. FailsAs shape.now (map (λ s. s.items) scripts.now) f) }
 {
-    let parts = HubParts::new(rt, alloc, shape)?;
+    let parts = unread_parts(rt, alloc, shape)?;
     run_parts::<Brand, W, R>(rt, alloc, parts, scripts, work)
 }
