@@ -9,7 +9,7 @@ split_off-share-requires-clause-has_parts g c =
     let callers = i.0.few_callers.1 in
     let given = i.2 in
     let counted = i.0.callers in
-    let left = c.if-callers-callers.false in
+    let left = c.if-self.false in
     let parts = i.3 in
     omega (arith, few, callers, given, counted, parts, left)
 
