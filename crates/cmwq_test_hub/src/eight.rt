@@ -1,4 +1,4 @@
-//! Eight workers in each of eight pools: seven runs of a pool sleep at a gate that the eighth opens.
+//! Eight workers in each of many pools: seven runs of a pool sleep at a gate that the eighth opens.
 
 use crate::fixture::{make, plain_queue, shape};
 use crate::harness::{Act, run, starts_in};
@@ -7,24 +7,22 @@ use cmwq_rt::{Caller, Gate, Gates, Hub, HubName, RunCtx, Work};
 use std::process::Abort;
 use std::sync::Wait;
 use std::sync::atomic::{AtomicU32, Ordering};
-
-/// Four CPUs, each with a pool of normal and one of high priority.
-const POOLS: u8 = 8;
+use std::thread::Threads;
 
 const WORKERS: u8 = 8;
 
-const ITEMS: u16 = 64;
-
-/// The items of a pool follow each other, and so does what opens its gate: the last of them. It counts the runs that found their gate open.
+/// Each CPU has a pool of normal and one of high priority. The items of a pool follow each other, and so does what opens its gate: the last
+/// of them. It counts the runs that found their gate open. Pools may share a gate.
 #[derive(Drop)]
 struct Eights {
+    pools: u8,
     gates: Gates,
     opened: AtomicU32,
 }
 
 impl Work for Eights {
     fn run<N: HubName, R: Wait>(&self, item: ItemId, context: &mut RunCtx<N, R>) {
-        let gate = (item.0 / 8 % 8) as u8;
+        let gate = (item.0 / 8 % 16) as u8;
         if item.0 % 8 == 7 {
             self.gates.open(context.rt(), gate);
             return;
@@ -56,7 +54,7 @@ impl Act for Eights {
         caller: &mut Caller<N>,
         _number: u8,
     ) {
-        for pool in 0..POOLS {
+        for pool in 0..self.pools {
             queue_all(rt, hub, caller, pool);
         }
         for queue in [QueueId(0), QueueId(1)] {
@@ -72,13 +70,14 @@ fn has_a_retired_worker(history: &[Entry]) -> bool {
         .any(|entry| matches!(entry.reply, Reply::Retired))
 }
 
-#[test]
-fn seven_runs_sleep_until_the_eighth_starts(rt: HostRuntime) {
+/// Runs a hub of so many CPUs, with a thread for each worker of its pools.
+fn run_eights<R: Threads + Wait + Abort + AllocGlobal + Sync>(rt: &R, cpus: u8) {
+    let pools = cpus.saturating_mul(2);
     let counts = Counts {
-        cpus: 4,
+        cpus,
         workers: WORKERS,
         callers: 1,
-        items: ITEMS,
+        items: u16::from(pools) * u16::from(WORKERS),
         room: 10_000,
     };
     let normal = plain_queue(8);
@@ -86,13 +85,26 @@ fn seven_runs_sleep_until_the_eighth_starts(rt: HostRuntime) {
         high: true,
         ..normal
     };
-    let shape = shape(&rt, counts, &[normal, high]);
+    let shape = shape(rt, counts, &[normal, high]);
     let eights = Eights {
+        pools,
         gates: Gates::new(),
         opened: AtomicU32::new(0),
     };
-    let history = run(&rt, &shape, &eights);
-    assert_eq!(rt; starts_in(&history), 64);
-    assert_eq!(rt; eights.opened.load(Ordering::SeqCst), 56);
+    let history = run(rt, &shape, &eights);
+    assert_eq!(rt; starts_in(&history), 8 * usize::from(pools));
+    let opened = eights.opened.load(Ordering::SeqCst);
+    assert_eq!(rt; opened, 7 * u32::from(pools));
     assert!(rt; has_a_retired_worker(&history));
+}
+
+#[test]
+fn seven_runs_sleep_until_the_eighth_starts(rt: HostRuntime) {
+    run_eights(&rt, 4);
+}
+
+/// A hub of 256 workers.
+#[test]
+fn seven_runs_of_each_pool_sleep_on_sixteen_cpus(rt: HostRuntime) {
+    run_eights(&rt, 16);
 }

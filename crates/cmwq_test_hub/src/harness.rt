@@ -101,7 +101,8 @@ fn start_workers<
 ) -> Vec<JoinHandle<WorkerEnd<N>>> {
     let alloc: Global = rt.alloc();
     let mut threads = Vec::new(alloc);
-    for _ in 0..64 {
+    let counts = hub.shape().counts();
+    for _ in 0..2 * u32::from(counts.workers) * u32::from(counts.cpus) {
         let Ok(worker) = participants.worker() else {
             break;
         };

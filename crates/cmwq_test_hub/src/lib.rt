@@ -18,6 +18,8 @@ mod hostile;
 #[cfg(test)]
 mod journal;
 #[cfg(test)]
+mod looking;
+#[cfg(test)]
 mod one_caller;
 #[cfg(test)]
 mod scripts;
