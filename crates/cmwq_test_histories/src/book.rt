@@ -3,7 +3,7 @@
 ghost use Rattle.std.specs.Prelude.{◌≡◌};
 
 use crate::generator::{Generator, shape};
-use cmwq_base::{Memory, read_calls};
+use cmwq_base::{CallFile, Memory, read_calls};
 use cmwq_core::{Book, Full};
 use cmwq_model::{Call, Counts, Entry, ItemId, Mark, Number, Reply, Shape, Who};
 use cmwq_plain::{Past, has_room, is_pending, item_runs, reply_of, serial_of};
@@ -163,6 +163,28 @@ impl Pair {
         Some(self.entries.last()?.reply)
     }
 
+    fn step_all(&mut self, rt: &impl Abort, calls: &[(Who, Call)]) -> Result<(), Fail> {
+        for &(who, call) in calls {
+            self.step(rt, who, call)?;
+        }
+        self.compare_histories(rt);
+        Ok(())
+    }
+
+    fn step_generated(&mut self, rt: &impl Abort, generator: &mut Generator) -> Result<(), Fail> {
+        for _ in 0..CALLS {
+            assert!(rt; self.entries.len() <= 1_000_000);
+            let number = self.entries.len() as Number;
+            let (who, call) = generator.who_calls();
+            if let Some(entry) = self.step(rt, who, call)? {
+                generator.keep(&entry, number)?;
+            }
+        }
+        assert!(rt; self.entries.len() < CALLS as usize);
+        self.compare_histories(rt);
+        Ok(())
+    }
+
     fn compare_histories(&self, rt: &impl Abort) {
         let history = self.book.history();
         assert_eq!(rt; history.len(), self.entries.len());
@@ -172,6 +194,12 @@ impl Pair {
     }
 }
 
+fn agrees_in_room(rt: &(impl Abort + AllocGlobal), file: &CallFile, room: u64) -> Result<(), Fail> {
+    let shape = file.shape.copy(rt.alloc())?;
+    let mut pair = Pair::new(rt, shape, room)?;
+    pair.step_all(rt, &file.calls)
+}
+
 /// Makes these calls in every room from none to more than they need.
 pub(crate) fn agrees_in_every_room(
     rt: &(impl Abort + AllocGlobal),
@@ -179,31 +207,22 @@ pub(crate) fn agrees_in_every_room(
 ) -> Result<(), Fail> {
     let file = read_calls(rt.alloc(), &mut Memory::reader(calls))?;
     for room in 0..=file.calls.len() as u64 + 10 {
-        let mut pair = Pair::new(rt, file.shape.copy(rt.alloc())?, room)?;
-        for &(who, call) in &file.calls {
-            pair.step(rt, who, call)?;
-        }
-        pair.compare_histories(rt);
+        agrees_in_room(rt, &file, room)?;
     }
     Ok(())
+}
+
+fn agrees_on_generated(rt: &(impl Abort + AllocGlobal), seed: u64) -> Result<(), Fail> {
+    let shape = shape(rt.alloc())?.ok_or("no shape")?;
+    let mut pair = Pair::new(rt, shape, ROOM)?;
+    let mut generator = Generator::new(rt.alloc(), seed);
+    pair.step_generated(rt, &mut generator)
 }
 
 #[test]
 fn the_book_answers_as_the_plain_program(rt: HostRuntime) -> Result<(), Fail> {
     for seed in 0..HISTORIES {
-        let shape = shape(rt.alloc())?.ok_or("no shape")?;
-        let mut pair = Pair::new(&rt, shape, ROOM)?;
-        let mut generator = Generator::new(rt.alloc(), seed);
-        for _ in 0..CALLS {
-            assert!(rt; pair.entries.len() <= 1_000_000);
-            let number = pair.entries.len() as Number;
-            let (who, call) = generator.who_calls();
-            if let Some(entry) = pair.step(&rt, who, call)? {
-                generator.keep(&entry, number)?;
-            }
-        }
-        assert!(rt; pair.entries.len() < CALLS as usize);
-        pair.compare_histories(&rt);
+        agrees_on_generated(&rt, seed)?;
     }
     Ok(())
 }

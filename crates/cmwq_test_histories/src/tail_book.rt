@@ -73,6 +73,20 @@ impl Two {
         }
     }
 
+    fn step_generated(&mut self, rt: &impl Abort, generator: &mut Generator) -> Result<(), Fail> {
+        for _ in 0..CALLS {
+            let number = self.whole.len() as Number;
+            let (who, call) = generator.who_calls();
+            if let Some(entry) = self.step(rt, who, call)? {
+                generator.keep(&entry, number)?;
+            }
+        }
+        self.compare(rt);
+        self.tail.forget();
+        assert!(rt; self.tail.kept().is_empty());
+        Ok(())
+    }
+
     fn compare(&self, rt: &impl Abort) {
         let all = self.given.iter().chain(self.tail.kept());
         let whole = self.whole.history();
@@ -97,15 +111,5 @@ fn what_is_given_and_what_is_kept_is_the_history(rt: HostRuntime) -> Result<(), 
     let shape = shape(rt.alloc())?.ok_or("no shape")?;
     let mut two = Two::new(rt.alloc(), shape)?;
     let mut generator = Generator::new(rt.alloc(), 1);
-    for _ in 0..CALLS {
-        let number = two.whole.len() as Number;
-        let (who, call) = generator.who_calls();
-        if let Some(entry) = two.step(&rt, who, call)? {
-            generator.keep(&entry, number)?;
-        }
-    }
-    two.compare(&rt);
-    two.tail.forget();
-    assert!(rt; two.tail.kept().is_empty());
-    Ok(())
+    two.step_generated(&rt, &mut generator)
 }

@@ -207,11 +207,83 @@ fn queue_on(item: u16, queue: u8) -> Call {
     }
 }
 
+impl Wide {
+    /// All workers of a pool start a run that sleeps, and the next queueing waits until one of them has ended.
+    fn let_all_sleep(&mut self, rt: &impl Abort) -> Result<(), Fail> {
+        for item in 0..66 {
+            self.call(rt, caller(0), queue_on(item, 0))?;
+        }
+        for index in 0..64 {
+            self.call(rt, worker(index), Call::Take)?;
+            self.call(rt, worker(index), Call::Sleep)?;
+        }
+        for call in [Call::Wake, Call::Finish, Call::Take, Call::Take] {
+            self.call(rt, worker(63), call)?;
+        }
+        self.call_at_random(rt, 60)
+    }
+
+    /// Every caller flushes, and waits for the one item. The plain program, which looks back over all calls, is asked for one.
+    fn flush_by_all(&mut self, rt: &impl Abort) -> Result<(), Fail> {
+        self.call(rt, caller(0), queue_on(0, 0))?;
+        for index in 0..255 {
+            let flush = Call::Flush { queue: QueueId(0) };
+            self.pair.meet(rt, caller(index), flush, index == 31)?;
+        }
+        Ok(())
+    }
+
+    /// Whether every caller's flush has ended, as each is answered.
+    fn end_all(&mut self, rt: &impl Abort, is_over: bool) -> Result<(), Fail> {
+        for index in 0..255 {
+            let ticket = 1 + Number::from(index);
+            let end = Call::End { ticket };
+            self.pair.meet(rt, caller(index), end, false)?;
+            let is_done = matches!(self.pair.last_reply(), Some(Reply::Done));
+            assert_eq!(rt; is_done, is_over);
+        }
+        Ok(())
+    }
+
+    fn run_next(&mut self, rt: &impl Abort) -> Result<(), Fail> {
+        for call in [Call::Take, Call::Finish] {
+            self.pair.meet(rt, worker(0), call, false)?;
+        }
+        Ok(())
+    }
+
+    fn end_all_around_the_run(&mut self, rt: &impl Abort) -> Result<(), Fail> {
+        self.flush_by_all(rt)?;
+        self.end_all(rt, false)?;
+        self.run_next(rt)?;
+        self.end_all(rt, true)
+    }
+
+    /// Each queue has an item and a flush of its own.
+    fn flush_each_queue(&mut self, rt: &impl Abort) -> Result<(), Fail> {
+        for index in 0..255 {
+            self.call(rt, caller(index), queue_on(u16::from(index), index))?;
+            let queue = QueueId(index);
+            self.call(rt, caller(index), Call::Flush { queue })?;
+        }
+        self.call_at_random(rt, 80)
+    }
+}
+
+fn calls_at_random(
+    rt: &(impl Abort + AllocGlobal),
+    counts: Counts,
+    every: u32,
+    calls: u32,
+) -> Result<(), Fail> {
+    let mut wide = Wide::new(rt, counts, 3, every)?;
+    wide.call_at_random(rt, calls)
+}
+
 #[test]
 fn sixty_cpus(rt: HostRuntime) -> Result<(), Fail> {
     for cpus in [60, 64] {
-        let counts = Counts { cpus, ..COUNTS };
-        Wide::new(&rt, counts, 3, 1)?.call_at_random(&rt, 120)?;
+        calls_at_random(&rt, Counts { cpus, ..COUNTS }, 1, 120)?;
     }
     Ok(())
 }
@@ -219,13 +291,11 @@ fn sixty_cpus(rt: HostRuntime) -> Result<(), Fail> {
 #[test]
 fn sixty_thousand_items(rt: HostRuntime) -> Result<(), Fail> {
     for items in [60_000, 65_535] {
-        let counts = Counts { items, ..COUNTS };
-        Wide::new(&rt, counts, 3, 30)?.call_at_random(&rt, 60)?;
+        calls_at_random(&rt, Counts { items, ..COUNTS }, 30, 60)?;
     }
     Ok(())
 }
 
-/// All workers of a pool start a run that sleeps, and the next queueing waits until one of them has ended.
 #[test]
 fn as_many_workers_as_may_sleep(rt: HostRuntime) -> Result<(), Fail> {
     let counts = Counts {
@@ -234,20 +304,9 @@ fn as_many_workers_as_may_sleep(rt: HostRuntime) -> Result<(), Fail> {
         ..COUNTS
     };
     let mut wide = Wide::new(&rt, counts, 1, 8)?;
-    for item in 0..66 {
-        wide.call(&rt, caller(0), queue_on(item, 0))?;
-    }
-    for index in 0..64 {
-        wide.call(&rt, worker(index), Call::Take)?;
-        wide.call(&rt, worker(index), Call::Sleep)?;
-    }
-    for call in [Call::Wake, Call::Finish, Call::Take, Call::Take] {
-        wide.call(&rt, worker(63), call)?;
-    }
-    wide.call_at_random(&rt, 60)
+    wide.let_all_sleep(&rt)
 }
 
-/// Every caller flushes at once; all wait for the one item, and then none does. The plain program, which looks back over all calls, is asked for one.
 #[test]
 fn as_many_callers_as_may_flush(rt: HostRuntime) -> Result<(), Fail> {
     let counts = Counts {
@@ -255,27 +314,9 @@ fn as_many_callers_as_may_flush(rt: HostRuntime) -> Result<(), Fail> {
         ..COUNTS
     };
     let mut wide = Wide::new(&rt, counts, 1, 255)?;
-    wide.call(&rt, caller(0), queue_on(0, 0))?;
-    for index in 0..255 {
-        let flush = Call::Flush { queue: QueueId(0) };
-        wide.pair.meet(&rt, caller(index), flush, index == 31)?;
-    }
-    for round in 0..2 {
-        for index in 0..255 {
-            let ticket = 1 + Number::from(index);
-            let end = Call::End { ticket };
-            wide.pair.meet(&rt, caller(index), end, false)?;
-            let is_done = matches!(wide.pair.last_reply(), Some(Reply::Done));
-            assert_eq!(rt; is_done, round == 1);
-        }
-        for call in [Call::Take, Call::Finish] {
-            wide.pair.meet(&rt, worker(round), call, false)?;
-        }
-    }
-    Ok(())
+    wide.end_all_around_the_run(&rt)
 }
 
-/// Each queue has an item and a flush of its own.
 #[test]
 fn as_many_queues_as_may_be(rt: HostRuntime) -> Result<(), Fail> {
     let counts = Counts {
@@ -284,10 +325,5 @@ fn as_many_queues_as_may_be(rt: HostRuntime) -> Result<(), Fail> {
         ..COUNTS
     };
     let mut wide = Wide::new(&rt, counts, 255, 32)?;
-    for index in 0..255 {
-        wide.call(&rt, caller(index), queue_on(u16::from(index), index))?;
-        let queue = QueueId(index);
-        wide.call(&rt, caller(index), Call::Flush { queue })?;
-    }
-    wide.call_at_random(&rt, 80)
+    wide.flush_each_queue(&rt)
 }
