@@ -5,22 +5,10 @@ ghost use Rattle.cmwq_model.specs.Prelude.{most_callers, most_cpus, most_items, 
 ghost use Rattle.cmwq_json_script.specs.Limits as spec;
 
 use cmwq_model::{MOST_CALLERS, MOST_CPUS, MOST_ITEMS, MOST_QUEUES, MOST_ROOM, MOST_WORKERS};
+use cmwq_text::{OLD_CALLERS, OLD_CPUS, OLD_ITEMS, OLD_QUEUES, OLD_ROOM, OLD_WORKERS};
 
 /// The format that has the limits of every shape.
 const LONG: u8 = 3;
-
-/// The limits of the formats before it.
-const OLD_CPUS: u8 = 4;
-
-const OLD_WORKERS: u8 = 8;
-
-const OLD_CALLERS: u8 = 64;
-
-const OLD_ITEMS: u16 = 256;
-
-const OLD_QUEUES: usize = 64;
-
-const OLD_ROOM: u64 = 1_000_000;
 
 /// How many CPUs there may be.
 pub fn cpus_in(version: u8) -> u8

@@ -5,7 +5,9 @@ ghost use Rattle.cmwq_text.specs.Formats.{is_version_line, is_calls_line, is_old
 use crate::call::read_call;
 use crate::entry::read_entry;
 use crate::shape::{read_counts, read_queue_of_history};
-use cmwq_model::{Call, Counts, Entry, MOST_QUEUES, Number, QueueShape, Reply, Who};
+use cmwq_model::{
+    Call, Counts, Entry, MOST_QUEUES, MOST_ROOM, Number, QueueShape, Reply, Who,
+};
 
 /// The format that has the whole grammar, up to a million lines.
 const WHOLE: u8 = 2;
@@ -16,26 +18,28 @@ const LONG: u8 = 3;
 /// The greatest number of an entry in the formats before that.
 const GREATEST_SHORT: Number = 4_294_967_295;
 
-/// The greatest numbers of a shape in the formats before it, which has those of every shape.
-const OLD_CPUS: u8 = 4;
+/// The most CPUs in the formats before 3, which has the limits of every shape; so with the numbers below.
+pub const OLD_CPUS: u8 = 4;
 
-const OLD_WORKERS: u8 = 8;
+/// The most workers of a pool in the formats before 3.
+pub const OLD_WORKERS: u8 = 8;
 
-const OLD_CALLERS: u8 = 64;
+/// The most callers in the formats before 3.
+pub const OLD_CALLERS: u8 = 64;
 
-const OLD_ITEMS: u16 = 256;
+/// The most items in the formats before 3.
+pub const OLD_ITEMS: u16 = 256;
 
-const OLD_QUEUES: usize = 64;
+/// The most queues in the formats before 3.
+pub const OLD_QUEUES: usize = 64;
+
+/// The greatest room in the formats before 3, in entries.
+pub const OLD_ROOM: u64 = 1_000_000;
 
 /// The greatest numbers of lines behind the queues: in the formats before it, and in it.
 const OLD_LINES: u64 = 1_000_000;
 
 const MOST_LINES: u64 = 4_611_686_018_426_387_904;
-
-/// The greatest rooms.
-const OLD_ROOM: u64 = 1_000_000;
-
-const MOST_ROOM: u64 = 4_611_686_018_427_387_904;
 
 /// The greatest time of an entry in the format with greater limits.
 const MOST_TIME: u64 = 4_611_686_018_427_387_904;
