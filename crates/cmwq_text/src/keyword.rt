@@ -119,6 +119,60 @@ const KEYWORDS: [Keyword; 53] = [
     Keyword::Timers,
 ];
 
+/// Those with the same first letter, where these are more than three.
+const WITH_C: [Keyword; 4] = [
+    Keyword::Cancel,
+    Keyword::CancelSync,
+    Keyword::Cancelled,
+    Keyword::Crowded,
+];
+
+const WITH_D: [Keyword; 5] = [
+    Keyword::Delay,
+    Keyword::Drain,
+    Keyword::Destroy,
+    Keyword::Draining,
+    Keyword::Done,
+];
+
+const WITH_F: [Keyword; 10] = [
+    Keyword::Fire,
+    Keyword::Flush,
+    Keyword::FlushItem,
+    Keyword::FlushDelayed,
+    Keyword::Finish,
+    Keyword::Freeze,
+    Keyword::Foreign,
+    Keyword::Fired,
+    Keyword::Finished,
+    Keyword::Frozen,
+];
+
+const WITH_R: [Keyword; 3] = [Keyword::Retire, Keyword::Rebooked, Keyword::Retired];
+
+const WITH_S: [Keyword; 4] = [
+    Keyword::Sleep,
+    Keyword::SetMax,
+    Keyword::Started,
+    Keyword::Slept,
+];
+
+const WITH_T: [Keyword; 6] = [
+    Keyword::Tick,
+    Keyword::Take,
+    Keyword::Thaw,
+    Keyword::Ticket,
+    Keyword::Thawed,
+    Keyword::Timers,
+];
+
+const WITH_W: [Keyword; 4] = [
+    Keyword::Wake,
+    Keyword::Waiting,
+    Keyword::Woke,
+    Keyword::Width,
+];
+
 impl Keyword {
     /// How it is written.
     #[tactic(auto, unfolding(crate::specs::Keywords::keyword_text))]
@@ -193,12 +247,33 @@ fn keyword_among(keywords: &[Keyword], word: &[u8]) -> Option<Keyword>
         .find(|keyword| keyword.text().as_bytes() == word)
 }
 
-/// The keyword that is written so.
+/// The keyword that is written so. Only those with its first letter are looked at.
 #[tactic(auto, unfolding(crate::specs::Keywords::keyword_of))]
 fn keyword_of(word: &[u8]) -> Option<Keyword>
     ensures { result ≡ keyword_of word.now }
 {
-    keyword_among(&KEYWORDS, word)
+    match *word.first()? {
+        b'a' => keyword_among(&[Keyword::Again], word),
+        b'b' => keyword_among(&[Keyword::Booked], word),
+        b'c' => keyword_among(&WITH_C, word),
+        b'd' => keyword_among(&WITH_D, word),
+        b'e' => keyword_among(&[Keyword::End, Keyword::Enlist], word),
+        b'f' => keyword_among(&WITH_F, word),
+        b'g' => keyword_among(&[Keyword::Gone], word),
+        b'h' => keyword_among(&[Keyword::Held], word),
+        b'i' => keyword_among(&[Keyword::Idle], word),
+        b'k' => keyword_among(&[Keyword::Kept], word),
+        b'm' => keyword_among(&[Keyword::Modify, Keyword::Misuse], word),
+        b'n' => keyword_among(&[Keyword::No, Keyword::Now, Keyword::Nothing], word),
+        b'q' => keyword_among(&[Keyword::Queue, Keyword::Queued], word),
+        b'r' => keyword_among(&WITH_R, word),
+        b's' => keyword_among(&WITH_S, word),
+        b't' => keyword_among(&WITH_T, word),
+        b'u' => keyword_among(&[Keyword::Unbooked], word),
+        b'w' => keyword_among(&WITH_W, word),
+        b'y' => keyword_among(&[Keyword::Yes], word),
+        _ => None,
+    }
 }
 
 /// The keyword that the first word is.
