@@ -17,14 +17,14 @@ is_none true true low all v e h = rw (h e) refl
 is_none true false low all v e h = refl
 is_none false a low all v e h = refl
 
-one_more : (limit n d m : ℕ) (ds : List ℕ) → with_digit limit n d ≡ Some m → digits_from limit n (d ∷ ds) ≡ digits_from limit m ds
+pub one_more : (limit n d m : ℕ) (ds : List ℕ) → with_digit limit n d ≡ Some m → digits_from limit n (d ∷ ds) ≡ digits_from limit m ds
 unfolding digits_from
 one_more limit n d m ds e =
     let found = cond_some (is_ascii_digit d && leb (n * 10 + (d - 48)) limit) (n * 10 + (d - 48)) m e in
     drop_true (is_ascii_digit d) (all_ascii_digits ds) (leb (value_from (n * 10 + (d - 48)) ds) limit) (value_from (n * 10 + (d - 48)) ds) (and_parts (is_ascii_digit d) (leb (n * 10 + (d - 48)) limit) found.0).0
     ∙ ap (λ (k : ℕ). digits_from limit k ds) found.1
 
-no_more : (limit n d : ℕ) (ds : List ℕ) → with_digit limit n d ≡ None → digits_from limit n (d ∷ ds) ≡ None
+pub no_more : (limit n d : ℕ) (ds : List ℕ) → with_digit limit n d ≡ None → digits_from limit n (d ∷ ds) ≡ None
 unfolding digits_from
 no_more limit n d ds e =
     let next : ℕ = n * 10 + (d - 48) in

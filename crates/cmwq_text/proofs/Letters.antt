@@ -1,5 +1,5 @@
 -- A keyword is found among those with the first letter of its text.
-use Rattle.cmwq_text.specs.Common.{◌≡◌, ℕ, Bool, true, false, List, [], ◌∷◌, find, cond, get_or, Option, Some, None, refl, sym, ap, ◌∙◌, nat_eq, bytes_eq, bytes_eq-Decides}
+use Rattle.cmwq_text.specs.Common.{◌≡◌, ℕ, Bool, true, false, List, [], ◌∷◌, find, cond, get_or, Option, Some, None, refl, sym, ap, ◌∙◌, nat_eq, bytes_eq-Decides}
 use Rattle.std.specs.List.{filter, list_any, slice_get}
 use Rattle.std.proofs.lemmas.Bool.{eq-eqb}
 use Rattle.cmwq_lemmas.proofs.Lists.{found_passes}

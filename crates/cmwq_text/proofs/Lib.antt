@@ -17,3 +17,4 @@ pub mod ReadRanges
 pub mod ShapeLaws
 pub mod WholeLines
 mod Letters
+mod Leading
