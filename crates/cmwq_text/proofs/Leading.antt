@@ -1,25 +1,22 @@
 -- Digits that are read up to a space or the end, and the words that are left.
-use Rattle.cmwq_text.specs.Common.{◌≡◌, ℕ, ◌-◌, ◌<◌, ◌≤◌, true, false, List, [], ◌∷◌, length, take, drop, get_or, Some, None, refl, sym, arith, le-leb, ne_eqb, onto_first, same_Some}
+use Rattle.cmwq_text.specs.Common.{◌≡◌, ℕ, ◌-◌, ◌<◌, ◌≤◌, true, false, List, [], ◌∷◌, length, take, drop, get_or, Some, None, refl, sym, arith, ne_eqb, onto_first, same_Some, is_ascii_digit, greatest_long, subst}
 use Rattle.std.specs.Option.{option_map}
-use Rattle.std.proofs.lemmas.Bool.{eq-eqb}
 use Rattle.std.proofs.lemmas.List.{take_all}
 use Rattle.cmwq_text.specs.Numbers.{with_digit, digits_from, number_read, is_begun}
 use Rattle.cmwq_text.specs.Words.{words_of, first_word, first_letter, has_no_word, word_read}
-use Rattle.cmwq_text.proofs.Digits.{one_more, no_more}
+use Rattle.cmwq_text.proofs.Digits.{one_digit_more, too_great}
 use Rattle.cmwq_text.proofs.Splits.{split_has_first}
 
--- what is read so far, behind which nothing is left of the word
-pub ends_here : (limit v : ℕ) (words : List (List ℕ)) → v ≤ limit → word_read (digits_from limit v) ([] ∷ words) ≡ Some (v, words)
-unfolding digits_from
-ends_here limit v words le = rw (le-leb v limit le) refl
-
-further : (limit v m x : ℕ) (words : List (List ℕ)) → has_no_word words ≡ false → with_digit limit v x ≡ Some m → word_read (digits_from limit v) (onto_first x words) ≡ word_read (digits_from limit m) words
+further : (limit v m x : ℕ) (words : List (List ℕ)) → has_no_word words ≡ false → with_digit greatest_long v x ≡ Some m → word_read (digits_from limit v) (onto_first x words) ≡ word_read (digits_from limit m) words
 further limit v m x [] some read = absurd cc
-further limit v m x (word ∷ words) some read = rw (one_more limit v x m word read) refl
+further limit v m x (word ∷ words) some read = rw (one_digit_more greatest_long limit v x m word read) refl
 
-no_further : (limit v x : ℕ) (words : List (List ℕ)) → with_digit limit v x ≡ None → word_read (digits_from limit v) (onto_first x words) ≡ None
-no_further limit v x [] read = rw (no_more limit v x [] read) refl
-no_further limit v x (word ∷ words) read = rw (no_more limit v x word read) refl
+no_further : (limit v x : ℕ) (words : List (List ℕ)) → limit ≤ greatest_long → with_digit greatest_long v x ≡ None → word_read (digits_from limit v) (onto_first x words) ≡ None
+no_further limit v x [] le read = rw (too_great greatest_long limit v x [] le read) refl
+no_further limit v x (word ∷ words) le read = rw (too_great greatest_long limit v x word le read) refl
+
+digit_no_space : (x : ℕ) → is_ascii_digit x ≡ true → x ≡ 32 → ⊥
+digit_no_space x digit space = let no : is_ascii_digit 32 ≡ true = subst (λ (y : ℕ). is_ascii_digit y ≡ true) space digit in absurd cc
 
 -- what is behind the first byte, as the code takes it
 abbrev pub behind_first : List ℕ → List ℕ
@@ -33,22 +30,14 @@ behind_first_shorter [] some = absurd (omega arith)
 behind_first_shorter (x ∷ rest) some = rw (behind_first_is x rest) (omega arith)
 
 module _ (limit v : ℕ) where
-  -- one byte more is read: a space, a digit, or what is neither or passes the limit
-  pub space_ends : (left : List ℕ) → 1 ≤ length left → get_or left 0 0 ≡ 32 → v ≤ limit → word_read (digits_from limit v) (words_of left) ≡ Some (v, words_of (behind_first left))
-  space_ends [] some space le = absurd (omega arith)
-  space_ends (x ∷ rest) some space le = rw (behind_first_is x rest, eq-eqb x 32 space) (ends_here limit v (words_of rest) le)
+  -- one digit more is read, or it passes what 64 bits hold
+  pub digit_goes_on : (left : List ℕ) (m : ℕ) → 1 ≤ length left → is_ascii_digit (get_or left 0 0) ≡ true → with_digit greatest_long v (get_or left 0 0) ≡ Some m → word_read (digits_from limit v) (words_of left) ≡ word_read (digits_from limit m) (words_of (behind_first left))
+  digit_goes_on [] m some digit read = absurd (omega arith)
+  digit_goes_on (x ∷ rest) m some digit read = rw (behind_first_is x rest, ne_eqb x 32 (digit_no_space x digit)) (further limit v m x (words_of rest) (split_has_first rest) read)
 
-  pub digit_goes_on : (left : List ℕ) (m : ℕ) → 1 ≤ length left → (get_or left 0 0 ≡ 32 → ⊥) → with_digit limit v (get_or left 0 0) ≡ Some m → word_read (digits_from limit v) (words_of left) ≡ word_read (digits_from limit m) (words_of (behind_first left))
-  digit_goes_on [] m some other read = absurd (omega arith)
-  digit_goes_on (x ∷ rest) m some other read = rw (behind_first_is x rest, ne_eqb x 32 other) (further limit v m x (words_of rest) (split_has_first rest) read)
-
-  pub other_stops : (left : List ℕ) → 1 ≤ length left → (get_or left 0 0 ≡ 32 → ⊥) → with_digit limit v (get_or left 0 0) ≡ None → word_read (digits_from limit v) (words_of left) ≡ None
-  other_stops [] some other read = absurd (omega arith)
-  other_stops (x ∷ rest) some other read = rw (ne_eqb x 32 other) (no_further limit v x (words_of rest) read)
-
-  pub nothing_left : (left : List ℕ) → length left < 1 → v ≤ limit → word_read (digits_from limit v) (words_of left) ≡ Some (v, [])
-  nothing_left [] none le = ends_here limit v [] le
-  nothing_left (x ∷ rest) none le = absurd (omega arith)
+  pub great_stops : (left : List ℕ) → limit ≤ greatest_long → 1 ≤ length left → is_ascii_digit (get_or left 0 0) ≡ true → with_digit greatest_long v (get_or left 0 0) ≡ None → word_read (digits_from limit v) (words_of left) ≡ None
+  great_stops [] le some digit read = absurd (omega arith)
+  great_stops (x ∷ rest) le some digit read = rw (ne_eqb x 32 (digit_no_space x digit)) (no_further limit v x (words_of rest) le read)
 
 -- the number that the first word spells
 pub not_begun : (limit : ℕ) (words : List (List ℕ)) → Some false ≡ option_map (λ word. is_begun word.0) (first_word words) → None ≡ word_read (number_read limit) words

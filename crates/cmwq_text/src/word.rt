@@ -101,8 +101,8 @@ fn begins_number(bytes: &[u8]) -> bool
     }
 }
 
-/// The number that digits up to a space or the end stand for, if it is at most the limit, and the words behind it. It stops
-/// at the first digit that passes the limit.
+/// The number that digits up to a space or the end stand for, if it is at most the limit, and the words behind it.
+#[tactic(auto, unfolding(crate::specs::Numbers::digits_from))]
 fn leading_number<'a>(limit: u64, bytes: &'a [u8]) -> Option<(u64, Words<'a>)>
     ensures exact { result ≡ word_read (digits_from limit 0) (words_of bytes.now) }
     ensures within { IfSome result (λ number. number.0 ≤ limit) }
@@ -110,13 +110,21 @@ fn leading_number<'a>(limit: u64, bytes: &'a [u8]) -> Option<(u64, Words<'a>)>
     let mut value = 0;
     let mut left = bytes;
     while let [byte, rest @ ..] = left {
-        if *byte == b' ' {
-            return Some((value, Words::of(rest)));
+        if !byte.is_ascii_digit() {
+            return if *byte == b' ' && value <= limit {
+                Some((value, Words::of(rest)))
+            } else {
+                None
+            };
         }
-        value = with_digit(limit, value, *byte)?;
+        value = with_digit(u64::MAX, value, *byte)?;
         left = rest;
     }
-    Some((value, Words { bytes: None }))
+    if value <= limit {
+        Some((value, Words { bytes: None }))
+    } else {
+        None
+    }
 }
 
 /// The number that the first word spells, if it is at most the limit: `0`, or a digit 1 to 9 and digits after it.
