@@ -8,6 +8,7 @@ ghost use Rattle.cmwq_io.specs.Feeds.{is_feed, near_feed};
 use crate::patient::read_some;
 use crate::source::Source;
 use crate::trouble::ReadFault;
+use memchr::memchr;
 use std::alloc::{AllocError, Global};
 use std::marker::Model;
 
@@ -259,7 +260,7 @@ fn feed_in(bytes: &[u8]) -> Option<usize>
 fn first_feed(bytes: &[u8]) -> Option<usize>
     ensures { result ≡ position is_feed bytes.now }
 {
-    bytes.iter().position(|byte| *byte == b'\n')
+    memchr(b'\n', bytes)
 }
 
 /// Moves `bytes[start..end]` to the front, and answers how many they are.
