@@ -175,6 +175,7 @@ const WITH_W: [Keyword; 4] = [
 
 impl Keyword {
     /// How it is written.
+    #[inline(always)]
     #[tactic(auto, unfolding(crate::specs::Keywords::keyword_text))]
     pub fn text(self) -> &'static str
         ensures exact { result.now ≡ keyword_text self }
@@ -238,6 +239,8 @@ impl Keyword {
     }
 }
 
+/// One of these that is written so. Where these are known, their texts are compared with no search.
+#[inline(always)]
 fn keyword_among(keywords: &[Keyword], word: &[u8]) -> Option<Keyword>
     ensures { result ≡ find (is_keyword_text word.now) keywords.now }
 {

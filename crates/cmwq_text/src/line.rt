@@ -58,13 +58,20 @@ impl Line {
         &self.bytes[..self.len]
     }
 
-    pub(crate) fn new() -> Line
+    /// An empty line.
+    pub fn new() -> Line
         ensures { result ≡ [] }
     {
         Line {
             bytes: [0; 240],
             len: 0,
         }
+    }
+
+    pub(crate) fn clear(&mut self)
+        ensures { self.new ≡ [] }
+    {
+        self.len = 0;
     }
 
     pub(crate) fn push(&mut self, text: &str)

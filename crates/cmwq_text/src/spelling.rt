@@ -184,18 +184,26 @@ pub(crate) fn push_reply(line: &mut Line, reply: Reply)
     }
 }
 
-/// The line of an entry, with its line feed.
+/// Spells the line of an entry, with its line feed, in the place of what the line holds.
 #[tactic(auto, unfolding(crate::specs::EntryText::entry_text))]
+pub fn spell_entry(line: &mut Line, entry: &Entry)
+    ensures { line.new ≡ entry_text entry.now }
+{
+    line.clear();
+    push_who(line, entry.who);
+    line.push_numbers(&[entry.serial]);
+    push_call(line, entry.call);
+    line.push(" =");
+    push_reply(line, entry.reply);
+    line.push("\n");
+}
+
+/// The line of an entry, with its line feed.
 pub fn entry_line(entry: &Entry) -> Line
     ensures { result ≡ entry_text entry.now }
 {
     let mut line = Line::new();
-    push_who(&mut line, entry.who);
-    line.push_numbers(&[entry.serial]);
-    push_call(&mut line, entry.call);
-    line.push(" =");
-    push_reply(&mut line, entry.reply);
-    line.push("\n");
+    spell_entry(&mut line, entry);
     line
 }
 
