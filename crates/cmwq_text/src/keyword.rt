@@ -62,24 +62,33 @@ pub enum Keyword {
     Timers,
 }
 
-/// Every keyword.
+/// Every keyword, those that are read most before others with the same first letter.
 const KEYWORDS: [Keyword; 53] = [
-    Keyword::Queue,
+    Keyword::Take,
+    Keyword::Finish,
+    Keyword::Finished,
+    Keyword::Started,
+    Keyword::Wake,
+    Keyword::Woke,
+    Keyword::Flush,
+    Keyword::Fire,
+    Keyword::Fired,
+    Keyword::Ticket,
+    Keyword::Tick,
     Keyword::Delay,
+    Keyword::Done,
+    Keyword::Crowded,
+    Keyword::Rebooked,
+    Keyword::Now,
+    Keyword::Queue,
     Keyword::Modify,
     Keyword::Cancel,
-    Keyword::Tick,
-    Keyword::Fire,
-    Keyword::Flush,
     Keyword::Drain,
     Keyword::FlushItem,
     Keyword::FlushDelayed,
     Keyword::CancelSync,
     Keyword::End,
-    Keyword::Take,
-    Keyword::Finish,
     Keyword::Sleep,
-    Keyword::Wake,
     Keyword::Retire,
     Keyword::SetMax,
     Keyword::Freeze,
@@ -88,28 +97,19 @@ const KEYWORDS: [Keyword; 53] = [
     Keyword::Yes,
     Keyword::Booked,
     Keyword::Again,
-    Keyword::Rebooked,
     Keyword::No,
     Keyword::Foreign,
     Keyword::Draining,
     Keyword::Misuse,
     Keyword::Cancelled,
     Keyword::Unbooked,
-    Keyword::Now,
-    Keyword::Fired,
     Keyword::Nothing,
-    Keyword::Ticket,
     Keyword::Queued,
     Keyword::Idle,
-    Keyword::Crowded,
-    Keyword::Done,
     Keyword::Waiting,
-    Keyword::Started,
     Keyword::Enlist,
     Keyword::Held,
-    Keyword::Finished,
     Keyword::Slept,
-    Keyword::Woke,
     Keyword::Retired,
     Keyword::Kept,
     Keyword::Width,
@@ -121,61 +121,60 @@ const KEYWORDS: [Keyword; 53] = [
 
 /// Those with the same first letter, where these are more than three.
 const WITH_C: [Keyword; 4] = [
+    Keyword::Crowded,
     Keyword::Cancel,
     Keyword::CancelSync,
     Keyword::Cancelled,
-    Keyword::Crowded,
 ];
 
 const WITH_D: [Keyword; 5] = [
     Keyword::Delay,
+    Keyword::Done,
     Keyword::Drain,
     Keyword::Destroy,
     Keyword::Draining,
-    Keyword::Done,
 ];
 
 const WITH_F: [Keyword; 10] = [
-    Keyword::Fire,
+    Keyword::Finish,
+    Keyword::Finished,
     Keyword::Flush,
+    Keyword::Fire,
+    Keyword::Fired,
     Keyword::FlushItem,
     Keyword::FlushDelayed,
-    Keyword::Finish,
     Keyword::Freeze,
     Keyword::Foreign,
-    Keyword::Fired,
-    Keyword::Finished,
     Keyword::Frozen,
 ];
 
-const WITH_R: [Keyword; 3] = [Keyword::Retire, Keyword::Rebooked, Keyword::Retired];
+const WITH_R: [Keyword; 3] = [Keyword::Rebooked, Keyword::Retire, Keyword::Retired];
 
 const WITH_S: [Keyword; 4] = [
+    Keyword::Started,
     Keyword::Sleep,
     Keyword::SetMax,
-    Keyword::Started,
     Keyword::Slept,
 ];
 
 const WITH_T: [Keyword; 6] = [
-    Keyword::Tick,
     Keyword::Take,
-    Keyword::Thaw,
     Keyword::Ticket,
+    Keyword::Tick,
+    Keyword::Thaw,
     Keyword::Thawed,
     Keyword::Timers,
 ];
 
 const WITH_W: [Keyword; 4] = [
     Keyword::Wake,
-    Keyword::Waiting,
     Keyword::Woke,
+    Keyword::Waiting,
     Keyword::Width,
 ];
 
 impl Keyword {
     /// How it is written.
-    #[inline(always)]
     #[tactic(auto, unfolding(crate::specs::Keywords::keyword_text))]
     pub fn text(self) -> &'static str
         ensures exact { result.now ≡ keyword_text self }
@@ -239,8 +238,6 @@ impl Keyword {
     }
 }
 
-/// One of these that is written so. Where these are known, their texts are compared with no search.
-#[inline(always)]
 fn keyword_among(keywords: &[Keyword], word: &[u8]) -> Option<Keyword>
     ensures { result ≡ find (is_keyword_text word.now) keywords.now }
 {
@@ -267,7 +264,7 @@ fn keyword_of(word: &[u8]) -> Option<Keyword>
         b'i' => keyword_among(&[Keyword::Idle], word),
         b'k' => keyword_among(&[Keyword::Kept], word),
         b'm' => keyword_among(&[Keyword::Modify, Keyword::Misuse], word),
-        b'n' => keyword_among(&[Keyword::No, Keyword::Now, Keyword::Nothing], word),
+        b'n' => keyword_among(&[Keyword::Now, Keyword::No, Keyword::Nothing], word),
         b'q' => keyword_among(&[Keyword::Queue, Keyword::Queued], word),
         b'r' => keyword_among(&WITH_R, word),
         b's' => keyword_among(&WITH_S, word),

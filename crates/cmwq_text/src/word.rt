@@ -1,10 +1,13 @@
 //! A line as its words. Each reader takes the words that it reads; where it gives None, some may be taken.
-ghost use Rattle.std.specs.Prelude.{◌≡◌, ◌≤◌, Some, IfSome, option_map, position};
-ghost use Rattle.cmwq_text.specs.Numbers.{is_begun, digits_from, number_read};
+ghost use Rattle.std.specs.Prelude.{◌≡◌, ◌≤◌, if◌then◌else◌, nat_le, Some, None, IfSome, option_map, position};
+ghost use Rattle.cmwq_text.specs.Numbers.{IsLeading, is_begun, digits_from, number_read};
 ghost use Rattle.cmwq_text.specs.Words.{is_space, words_of, first_word, word_read, with_left, byte_in, short_in, byte_count_in, short_count_in, number_in, wide_in, long_in};
 
 use crate::number::with_digit;
 use std::marker::Model;
+
+/// Numbers below it have room for a digit more.
+const MANY: u64 = 1_000_000_000_000_000_000;
 
 /// The greatest number of an entry.
 const GREATEST_NUMBER: u64 = 9_223_372_036_854_775_807;
@@ -101,9 +104,35 @@ fn begins_number(bytes: &[u8]) -> bool
     }
 }
 
-/// The number that digits up to a space or the end stand for, if it is at most the limit, and the words behind it.
+/// The number of the digits that bytes begin with, of no more of them than surely fit 64 bits, and what is behind these.
+fn leading_digits(bytes: &[u8]) -> (u64, &[u8])
+    ensures { IsLeading bytes.now result.0 result.1.now }
+{
+    let mut value = 0;
+    let mut left = bytes;
+    while let [byte, rest @ ..] = left {
+        if !byte.is_ascii_digit() || value >= MANY {
+            return (value, left);
+        }
+        value = value * 10 + u64::from(*byte - b'0');
+        left = rest;
+    }
+    (value, left)
+}
+
+fn at_most<'a>(limit: u64, number: u64, left: Words<'a>) -> Option<(u64, Words<'a>)>
+    ensures { result ≡ (if nat_le number limit then Some (number, left.entry) else None) }
+{
+    if number <= limit {
+        Some((number, left))
+    } else {
+        None
+    }
+}
+
+/// As `leading_number`, of digits that may be more than 64 bits hold.
 #[tactic(auto, unfolding(crate::specs::Numbers::digits_from))]
-fn leading_number<'a>(limit: u64, bytes: &'a [u8]) -> Option<(u64, Words<'a>)>
+fn long_number<'a>(limit: u64, bytes: &'a [u8]) -> Option<(u64, Words<'a>)>
     ensures exact { result ≡ word_read (digits_from limit 0) (words_of bytes.now) }
     ensures within { IfSome result (λ number. number.0 ≤ limit) }
 {
@@ -124,6 +153,26 @@ fn leading_number<'a>(limit: u64, bytes: &'a [u8]) -> Option<(u64, Words<'a>)>
         Some((value, Words { bytes: None }))
     } else {
         None
+    }
+}
+
+/// The number that digits up to a space or the end stand for, if it is at most the limit, and the words behind it.
+fn leading_number<'a>(limit: u64, bytes: &'a [u8]) -> Option<(u64, Words<'a>)>
+    ensures exact { result ≡ word_read (digits_from limit 0) (words_of bytes.now) }
+    ensures within { IfSome result (λ number. number.0 ≤ limit) }
+{
+    let (value, behind) = leading_digits(bytes);
+    match behind {
+        [] => at_most(limit, value, Words { bytes: None }),
+        [byte, rest @ ..] => {
+            if *byte == b' ' {
+                at_most(limit, value, Words::of(rest))
+            } else if byte.is_ascii_digit() {
+                long_number(limit, bytes)
+            } else {
+                None
+            }
+        }
     }
 }
 

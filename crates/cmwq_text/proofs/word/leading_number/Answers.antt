@@ -1,18 +1,18 @@
-use Rattle.cmwq_text.specs.Common.{◌∙◌, sym, arith}
-use Rattle.cmwq_text.proofs.Leading.{digit_goes_on, great_stops, behind_first_shorter}
+use Rattle.cmwq_text.specs.Common.{◌∙◌, sym}
+use Rattle.cmwq_text.proofs.Leading.{ends_at_end, ends_at_space, ends_elsewhere}
 use Rattle.cmwq_text.proofs.word.leading_number.Goals as goal
 
-pub loop-left-smaller : goal.loop-left-smaller
-loop-left-smaller c = behind_first_shorter c.loop-left.left.now c.in-len1-up.len_at_least
+pub returns-in-empty-clause-exact : goal.returns-in-empty-clause-exact
+returns-in-empty-clause-exact c =
+    let d = c.leading_digits-value in
+    c.at_most.ensures ∙ sym (ends_at_end c.args.limit d.result.0 c.args.bytes.now d.result.1.now d.ensures c.in-empty.len_below)
 
-pub loop-left-preserved : goal.loop-left-preserved
-loop-left-preserved c =
-    let l = c.loop-left in
-    let digit = sym c.is_ascii_digit.ensures.value ∙ c.if-not-is_ascii_digit.false in
-    sym (digit_goes_on c.args.limit l.value l.left.now c.in_ok-value.value c.in-len1-up.len_at_least digit (sym c.with_digit.ensures ∙ c.in_ok-value.was)) ∙ l.invariant
+pub returns-then-byte-eq32-clause-exact : goal.returns-then-byte-eq32-clause-exact
+returns-then-byte-eq32-clause-exact c =
+    let d = c.leading_digits-value in
+    c.at_most-then-byte-eq32.ensures ∙ rw c.of.ensures (sym (ends_at_space c.args.limit d.result.0 c.args.bytes.now d.result.1.now d.ensures c.in-len1-up.len_at_least c.if-byte-eq32.true))
 
-pub returns-in_err-value-clause-exact : goal.returns-in_err-value-clause-exact
-returns-in_err-value-clause-exact c =
-    let l = c.loop-left in
-    let digit = sym c.is_ascii_digit.ensures.value ∙ c.if-not-is_ascii_digit.false in
-    c.from_residual.ensures ∙ sym (great_stops c.args.limit l.value l.left.now (omega arith) c.in-len1-up.len_at_least digit (sym c.with_digit.ensures ∙ c.in_err-value.was)) ∙ l.invariant
+pub returns-else-is_ascii_digit-clause-exact : goal.returns-else-is_ascii_digit-clause-exact
+returns-else-is_ascii_digit-clause-exact c =
+    let d = c.leading_digits-value in
+    sym (ends_elsewhere c.args.limit d.result.0 c.args.bytes.now d.result.1.now d.ensures c.in-len1-up.len_at_least c.if-byte-eq32.false (sym c.is_ascii_digit.ensures.value ∙ c.if-is_ascii_digit.false))

@@ -1,7 +1,7 @@
 use Rattle.std.proofs.Common.{◌≡◌, length}
 use Rattle.cmwq_text.specs.Numbers.{digits_from}
 use Rattle.cmwq_text.specs.Words.{words_of, word_read}
-use Rattle.cmwq_text.proofs.word.leading_number.Given as goal
+use Rattle.cmwq_text.proofs.word.long_number.Given as goal
 
 -- what was read so far, and what is left, say the same as all
 abbrev pub invariant-loop-left : goal.invariant-loop-left
