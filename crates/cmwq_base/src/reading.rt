@@ -35,7 +35,7 @@ pub fn read_file<G: Gather + Drop, S: Source>(
     let mut stage = Stage::Begin;
     for number in 1..=TOO_MANY_LINES {
         match lines.next_line(source, &mut line)? {
-            Found::Whole => stage = stage.take(alloc, number, line.as_slice())?,
+            Found::Whole => stage.advance(alloc, number, line.as_slice())?,
             Found::Long => return Err(Refusal::TooLong),
             Found::Cut if stage.leaves_cut(is_front) => {
                 return stage.finish(alloc, number, is_front);

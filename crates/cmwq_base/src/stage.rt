@@ -2,13 +2,14 @@
 
 ghost use Rattle.std.specs.Prelude.{◌≡◌, ◌&&◌, not};
 ghost use Rattle.cmwq_text.specs.Formats.{counts_of_format};
-ghost use Rattle.cmwq_base.specs.Files.{shape_made, begun as begun_by, first_line as first_line_by, queue_line, item_line, end_in as end_in_by, body_line, first_item as first_item_by, after_head as after_head_by};
+ghost use Rattle.cmwq_base.specs.Files.{body, shape_made, begun as begun_by, first_line as first_line_by, queue_line, item_line, end_in as end_in_by, body_line, first_item as first_item_by, after_head as after_head_by};
 
 use crate::gather::Gather;
 use crate::refusal::Refusal;
 use cmwq_model::{Counts, QueueShape, Shape};
 use cmwq_text::{begins_queue, line_limit, queue_limit, read_counts_of_format, read_end};
 use std::alloc::Global;
+use std::mem;
 
 /// What the lines of a kind of file say, by its format, which is 1, 2 or 3.
 pub trait FileLine: Sized {
@@ -86,6 +87,22 @@ impl<G: Gather + Drop> Stage<G> {
             } => after_head(alloc, number, version, counts, queues, line),
             Stage::Body { version, all } => with_line(number, version, all, line),
             Stage::Ended { .. } => Err(Refusal::BadLine(number)),
+        }
+    }
+
+    /// Takes one whole line as `take` does, and leaves what gathers where it is, since that may be large. What is read after an error is not said.
+    #[tactic(auto, unfolding(crate::specs::Files::after_line, crate::specs::Files::body_line))]
+    pub(crate) fn advance(&mut self, alloc: Global, number: u64, line: &[u8]) -> Result<(), Refusal>
+        ensures { GivesAs (λ _. stage_of G.layout G.items self.new) result (after_line G.Item.kind number (stage_of G.layout G.items self.old) line.now) }
+    {
+        match self {
+            Stage::Body { version, all } if end_in::<G::Item>(*version, line).is_none() => {
+                add_item(number, *version, all, line)
+            }
+            _ => {
+                *self = mem::replace(self, Stage::Begin).take(alloc, number, line)?;
+                Ok(())
+            }
         }
     }
 
@@ -203,7 +220,24 @@ fn with_queue<G: Gather>(
     }
 }
 
+/// Takes one line of the kind.
 #[tactic(auto, unfolding(crate::specs::Files::item_line))]
+fn add_item<G: Gather>(number: u64, version: u8, all: &mut G, line: &[u8]) -> Result<(), Refusal>
+    ensures { GivesAs (λ _. body version (G.layout all.new) (G.items all.new)) result (item_line G.Item.kind number version (G.layout all.old) (G.items all.old) line.now) }
+{
+    if all.len() >= line_limit(version) {
+        return Err(Refusal::TooLong);
+    }
+    match G::Item::read(version, line) {
+        Some(item) if item.fits(all.shape()) => {
+            all.take(item)?;
+            Ok(())
+        }
+        Some(_) => Err(Refusal::NoSuchId(number)),
+        None => Err(Refusal::BadLine(number)),
+    }
+}
+
 fn with_item<G: Gather + Drop>(
     number: u64,
     version: u8,
@@ -212,17 +246,8 @@ fn with_item<G: Gather + Drop>(
 ) -> Result<Stage<G>, Refusal>
     ensures { GivesAs (stage_of G.layout G.items) result (item_line G.Item.kind number version (G.layout all) (G.items all) line.now) }
 {
-    if all.len() >= line_limit(version) {
-        return Err(Refusal::TooLong);
-    }
-    match G::Item::read(version, line) {
-        Some(item) if item.fits(all.shape()) => {
-            all.take(item)?;
-            Ok(Stage::Body { version, all })
-        }
-        Some(_) => Err(Refusal::NoSuchId(number)),
-        None => Err(Refusal::BadLine(number)),
-    }
+    add_item(number, version, &mut all, line)?;
+    Ok(Stage::Body { version, all })
 }
 
 /// Whether a file of this format that ends without its last line is refused.

@@ -1,5 +1,5 @@
 -- How calls go on behind others.
-use Rattle.cmwq_io.specs.Common.{◌≡◌, ℕ, ◌+◌, ◌≤◌, List, [], ◌∷◌, ◌++◌, Option, Some, None, refl, sym, ap, ◌∙◌, append_assoc, append-nil, inl, inr, zero, suc, arith, All}
+use Rattle.cmwq_io.specs.Common.{◌≡◌, ℕ, ◌≤◌, List, [], ◌∷◌, ◌++◌, Option, Some, None, refl, sym, ap, ◌∙◌, append_assoc, append-nil, inl, inr, zero, suc, arith, All}
 use Rattle.std.proofs.lemmas.List.Elements.{All-append}
 use Rattle.std.proofs.lemmas.Grind.{flat_map-append}
 use Rattle.cmwq_io.specs.declared.trouble.Trouble.{Trouble}

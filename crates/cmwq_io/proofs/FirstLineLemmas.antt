@@ -64,7 +64,7 @@ feed_there text h = grind (arith, nat_tests)
 no_feed : (text : List ℕ) → length text ≤ stop text → has_feed text ≡ false
 no_feed text h = grind (arith, nat_tests)
 
--- what take_first does
+-- what take_near does, and take_first behind it
 pub takes_whole : (ahead more : List ℕ) (at : ℕ) → near_feed ahead ≡ Some at → TakesLine (ahead ++ more) (drop (at + 1) ahead ++ more) Whole (take at ahead)
 takes_whole ahead more at near =
     let text = ahead ++ more in

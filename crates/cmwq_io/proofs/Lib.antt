@@ -3,3 +3,4 @@ pub mod Trying
 pub mod Calls
 pub mod ReadAheadLemmas
 pub mod FirstLineLemmas
+mod FirstFeed

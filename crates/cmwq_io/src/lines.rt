@@ -1,5 +1,5 @@
 //! The lines of a source, one after the other.
-ghost use Rattle.std.specs.Prelude.{◌≡◌, ◌+◌, ◌-◌, ◌<◌, ◌≤◌, ℕ, List, [], ◌++◌, length, take, drop, slice_range, position, vec_len, true, false, MatchBool, IfSome, IfOk, OnErr};
+ghost use Rattle.std.specs.Prelude.{◌≡◌, ◌+◌, ◌-◌, ◌<◌, ◌≤◌, ℕ, List, [], ◌++◌, length, take, drop, slice_range, position, vec_len, true, false, MatchBool, None, IfSome, IfOk, OnErr};
 ghost use Rattle.std.specs.Io.KnownBytes.{Keeps, ReadConsumes, IsAtEnd, prepend_known};
 ghost use Rattle.cmwq_io.specs.Counts.{Rises};
 ghost use Rattle.cmwq_io.specs.Outcomes.{EndsAtFault};
@@ -8,6 +8,7 @@ ghost use Rattle.cmwq_io.specs.Feeds.{is_feed, near_feed};
 use crate::patient::read_some;
 use crate::source::Source;
 use crate::trouble::ReadFault;
+use memchr::memchr;
 use std::alloc::{AllocError, Global};
 use std::marker::Model;
 
@@ -120,8 +121,29 @@ impl Lines {
     /// must be one and the same source at each call. `line` gets the line where it is `Whole` or `Cut`, and
     /// is empty otherwise. A `Long` line stays where it is. On `Err` nothing is lost, and the next call goes on
     /// where this one stood.
-    #[tactic(auto, using(crate::proofs::Calls::none_made, crate::proofs::Calls::made_on))]
     pub fn next_line<S: Source>(
+        &mut self,
+        source: &mut S,
+        line: &mut Line,
+    ) -> Result<Found, ReadFault>
+        ensures ok { IfOk result (λ how. TakesKnownLine (prepend_known self.old (S.left source.old))
+            (prepend_known self.new (S.left source.new)) how line.new) }
+        ensures err { OnErr result (Keeps (prepend_known self.old (S.left source.old))
+            (prepend_known self.new (S.left source.new))) }
+        ensures grown { S.troubles source.old ≤ S.troubles source.new }
+        ensures fault { OnErr result (Rises (S.troubles source.old) (S.troubles source.new)) }
+        ensures calls { EndsAtFault (S.outcomes source.old) (S.outcomes source.new) result }
+    {
+        if self.take_near(line) {
+            Ok(Found::Whole)
+        } else {
+            self.next_far_line(source, line)
+        }
+    }
+
+    /// As `next_line`, where the bytes read ahead may leave open how the line ends.
+    #[tactic(auto, using(crate::proofs::Calls::none_made, crate::proofs::Calls::made_on))]
+    fn next_far_line<S: Source>(
         &mut self,
         source: &mut S,
         line: &mut Line,
@@ -140,6 +162,21 @@ impl Lines {
             }
         }
         Ok(self.take_first(line))
+    }
+
+    /// Takes the first line off the bytes read ahead, if it ends among them and is not too long.
+    fn take_near(&mut self, line: &mut Line) -> bool
+        ensures { MatchBool result ((more : List ℕ) → TakesLine (self.old ++ more) (self.new ++ more) Found.Whole line.new) ((self.new ≡ self.old) × (near_feed self.old ≡ None)) }
+    {
+        let ahead = self.ahead();
+        match feed_in(ahead) {
+            Some(at) => {
+                line.set(&ahead[..at]);
+                self.consume(at + 1);
+                true
+            }
+            None => false,
+        }
     }
 
     fn ahead(&self) -> &[u8]
@@ -189,17 +226,11 @@ impl Lines {
         requires { is_line_short self.old ≡ false }
         ensures { (more : List ℕ) → TakesLine (self.old ++ more) (self.new ++ more) result line.new }
     {
-        let ahead = self.ahead();
-        match feed_in(ahead) {
-            Some(at) => {
-                line.set(&ahead[..at]);
-                self.consume(at + 1);
-                Found::Whole
-            }
-            None => {
-                line.clear();
-                Found::Long
-            }
+        if self.take_near(line) {
+            Found::Whole
+        } else {
+            line.clear();
+            Found::Long
         }
     }
 
@@ -229,7 +260,7 @@ fn feed_in(bytes: &[u8]) -> Option<usize>
 fn first_feed(bytes: &[u8]) -> Option<usize>
     ensures { result ≡ position is_feed bytes.now }
 {
-    bytes.iter().position(|byte| *byte == b'\n')
+    memchr(b'\n', bytes)
 }
 
 /// Moves `bytes[start..end]` to the front, and answers how many they are.

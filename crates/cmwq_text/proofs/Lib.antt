@@ -16,3 +16,5 @@ pub mod EndLaws
 pub mod ReadRanges
 pub mod ShapeLaws
 pub mod WholeLines
+mod Letters
+mod Leading

@@ -1,6 +1,6 @@
 -- Numbers in a text: `0`, or a digit 1 to 9 and digits after it. How a number is spelled is std's decimal.
-use Rattle.std.specs.Prelude.{◌+◌, ◌-◌, ◌*◌, ◌&&◌, ◌||◌, ◌==◌, if◌then◌else◌, ◌∷◌}
-use Rattle.cmwq_text.specs.Common.{ℕ, Bool, false, not, List, [], length, Option, Some, None, nat_le, min, all_ascii_digits, is_ascii_digit, greatest_byte, greatest_short, greatest}
+use Rattle.std.specs.Prelude.{◌≡◌, ◌+◌, ◌-◌, ◌*◌, ◌&&◌, ◌||◌, ◌==◌, if◌then◌else◌, ◌∷◌, ◌++◌}
+use Rattle.cmwq_text.specs.Common.{ℕ, Bool, true, false, not, List, [], length, Option, Some, None, nat_le, min, all_ascii_digits, is_ascii_digit, greatest_byte, greatest_short, greatest}
 
 -- the greatest number of an entry that a text of any format has: its 19 digits keep each line within 120 bytes
 abbrev pub greatest_number : ℕ
@@ -38,3 +38,10 @@ byte_of word = held_at_most greatest_byte (number_read greatest word)
 
 abbrev pub short_of : List ℕ → Option ℕ
 short_of word = held_at_most greatest_short (number_read greatest word)
+
+-- bytes begin with digits that stand for n, and these are behind them
+pub record IsLeading (bytes : List ℕ) (n : ℕ) (behind : List ℕ) : Type 0 where
+  pub digits : List ℕ
+  pub whole : bytes ≡ digits ++ behind
+  pub all : all_ascii_digits digits ≡ true
+  pub value : value_from 0 digits ≡ n

@@ -43,6 +43,12 @@ abbrev pub first_word : List (List ℕ) → Option (List ℕ × List (List ℕ))
 first_word [] = None
 first_word (word ∷ words) = Some (word, words)
 
+-- the first letter of the first word, and what is left
+abbrev pub first_letter : List (List ℕ) → Option (ℕ × List (List ℕ))
+first_letter [] = None
+first_letter ([] ∷ words) = None
+first_letter ((letter ∷ word) ∷ words) = Some (letter, word ∷ words)
+
 -- the words after this one
 abbrev pub after : List ℕ → List (List ℕ) → Option (List (List ℕ))
 after word [] = None

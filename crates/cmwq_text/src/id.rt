@@ -1,6 +1,6 @@
 //! Items, queues, CPUs, callers and workers in a text.
 ghost use Rattle.std.specs.Prelude.{◌≡◌, position};
-ghost use Rattle.cmwq_text.specs.Words.{with_left};
+ghost use Rattle.cmwq_text.specs.Words.{with_left, word_read};
 ghost use Rattle.cmwq_text.specs.IdText.{is_pool_letter, item_in, queue_in, cpu_in, caller_read, worker_read, who_read, who_in};
 
 use crate::number::byte_of;
@@ -28,10 +28,11 @@ pub fn cpu_in(words: &mut Words<'_>) -> Option<CpuId>
     Some(CpuId(byte_in(words)?))
 }
 
-fn caller_of(name: &[u8]) -> Option<Who>
-    ensures { result ≡ caller_read name.now }
+/// The caller whose number the first word is.
+fn caller_in(words: &mut Words<'_>) -> Option<Who>
+    ensures { with_left result words.new ≡ word_read caller_read words.old }
 {
-    Some(Who::Caller(CallerId(byte_of(name)?)))
+    Some(Who::Caller(CallerId(byte_in(words)?)))
 }
 
 fn pool_letter(name: &[u8]) -> Option<usize>
@@ -54,21 +55,14 @@ fn worker_of(name: &[u8]) -> Option<Who>
     Some(Who::Worker(WorkerId { pool, index }))
 }
 
-/// The caller or the worker that a word names.
-#[tactic(auto, unfolding(crate::specs::IdText::who_read))]
-fn who_of(word: &[u8]) -> Option<Who>
-    ensures { result ≡ who_read word.now }
-{
-    match word {
-        [b'c', name @ ..] => caller_of(name),
-        [b'w', name @ ..] => worker_of(name),
-        _ => None,
-    }
-}
-
 /// A caller or a worker.
+#[tactic(auto, unfolding(crate::specs::IdText::who_read))]
 pub fn who_in(words: &mut Words<'_>) -> Option<Who>
     ensures { with_left result words.new ≡ who_in words.old }
 {
-    who_of(words.first()?)
+    match words.letter()? {
+        b'c' => caller_in(words),
+        b'w' => worker_of(words.first()?),
+        _ => None,
+    }
 }

@@ -62,24 +62,33 @@ pub enum Keyword {
     Timers,
 }
 
-/// Every keyword.
+/// Every keyword, those that are read most before others with the same first letter.
 const KEYWORDS: [Keyword; 53] = [
-    Keyword::Queue,
+    Keyword::Take,
+    Keyword::Finish,
+    Keyword::Finished,
+    Keyword::Started,
+    Keyword::Wake,
+    Keyword::Woke,
+    Keyword::Flush,
+    Keyword::Fire,
+    Keyword::Fired,
+    Keyword::Ticket,
+    Keyword::Tick,
     Keyword::Delay,
+    Keyword::Done,
+    Keyword::Crowded,
+    Keyword::Rebooked,
+    Keyword::Now,
+    Keyword::Queue,
     Keyword::Modify,
     Keyword::Cancel,
-    Keyword::Tick,
-    Keyword::Fire,
-    Keyword::Flush,
     Keyword::Drain,
     Keyword::FlushItem,
     Keyword::FlushDelayed,
     Keyword::CancelSync,
     Keyword::End,
-    Keyword::Take,
-    Keyword::Finish,
     Keyword::Sleep,
-    Keyword::Wake,
     Keyword::Retire,
     Keyword::SetMax,
     Keyword::Freeze,
@@ -88,28 +97,19 @@ const KEYWORDS: [Keyword; 53] = [
     Keyword::Yes,
     Keyword::Booked,
     Keyword::Again,
-    Keyword::Rebooked,
     Keyword::No,
     Keyword::Foreign,
     Keyword::Draining,
     Keyword::Misuse,
     Keyword::Cancelled,
     Keyword::Unbooked,
-    Keyword::Now,
-    Keyword::Fired,
     Keyword::Nothing,
-    Keyword::Ticket,
     Keyword::Queued,
     Keyword::Idle,
-    Keyword::Crowded,
-    Keyword::Done,
     Keyword::Waiting,
-    Keyword::Started,
     Keyword::Enlist,
     Keyword::Held,
-    Keyword::Finished,
     Keyword::Slept,
-    Keyword::Woke,
     Keyword::Retired,
     Keyword::Kept,
     Keyword::Width,
@@ -117,6 +117,60 @@ const KEYWORDS: [Keyword; 53] = [
     Keyword::Thawed,
     Keyword::Gone,
     Keyword::Timers,
+];
+
+/// Those with the same first letter, where these are more than three.
+const WITH_C: [Keyword; 4] = [
+    Keyword::Crowded,
+    Keyword::Cancel,
+    Keyword::CancelSync,
+    Keyword::Cancelled,
+];
+
+const WITH_D: [Keyword; 5] = [
+    Keyword::Delay,
+    Keyword::Done,
+    Keyword::Drain,
+    Keyword::Destroy,
+    Keyword::Draining,
+];
+
+const WITH_F: [Keyword; 10] = [
+    Keyword::Finish,
+    Keyword::Finished,
+    Keyword::Flush,
+    Keyword::Fire,
+    Keyword::Fired,
+    Keyword::FlushItem,
+    Keyword::FlushDelayed,
+    Keyword::Freeze,
+    Keyword::Foreign,
+    Keyword::Frozen,
+];
+
+const WITH_R: [Keyword; 3] = [Keyword::Rebooked, Keyword::Retire, Keyword::Retired];
+
+const WITH_S: [Keyword; 4] = [
+    Keyword::Started,
+    Keyword::Sleep,
+    Keyword::SetMax,
+    Keyword::Slept,
+];
+
+const WITH_T: [Keyword; 6] = [
+    Keyword::Take,
+    Keyword::Ticket,
+    Keyword::Tick,
+    Keyword::Thaw,
+    Keyword::Thawed,
+    Keyword::Timers,
+];
+
+const WITH_W: [Keyword; 4] = [
+    Keyword::Wake,
+    Keyword::Woke,
+    Keyword::Waiting,
+    Keyword::Width,
 ];
 
 impl Keyword {
@@ -193,12 +247,33 @@ fn keyword_among(keywords: &[Keyword], word: &[u8]) -> Option<Keyword>
         .find(|keyword| keyword.text().as_bytes() == word)
 }
 
-/// The keyword that is written so.
+/// The keyword that is written so. Only those with its first letter are looked at.
 #[tactic(auto, unfolding(crate::specs::Keywords::keyword_of))]
 fn keyword_of(word: &[u8]) -> Option<Keyword>
     ensures { result ≡ keyword_of word.now }
 {
-    keyword_among(&KEYWORDS, word)
+    match *word.first()? {
+        b'a' => keyword_among(&[Keyword::Again], word),
+        b'b' => keyword_among(&[Keyword::Booked], word),
+        b'c' => keyword_among(&WITH_C, word),
+        b'd' => keyword_among(&WITH_D, word),
+        b'e' => keyword_among(&[Keyword::End, Keyword::Enlist], word),
+        b'f' => keyword_among(&WITH_F, word),
+        b'g' => keyword_among(&[Keyword::Gone], word),
+        b'h' => keyword_among(&[Keyword::Held], word),
+        b'i' => keyword_among(&[Keyword::Idle], word),
+        b'k' => keyword_among(&[Keyword::Kept], word),
+        b'm' => keyword_among(&[Keyword::Modify, Keyword::Misuse], word),
+        b'n' => keyword_among(&[Keyword::Now, Keyword::No, Keyword::Nothing], word),
+        b'q' => keyword_among(&[Keyword::Queue, Keyword::Queued], word),
+        b'r' => keyword_among(&WITH_R, word),
+        b's' => keyword_among(&WITH_S, word),
+        b't' => keyword_among(&WITH_T, word),
+        b'u' => keyword_among(&[Keyword::Unbooked], word),
+        b'w' => keyword_among(&WITH_W, word),
+        b'y' => keyword_among(&[Keyword::Yes], word),
+        _ => None,
+    }
 }
 
 /// The keyword that the first word is.

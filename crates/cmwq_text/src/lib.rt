@@ -31,5 +31,5 @@ pub use laws::{
 pub use line::Line;
 pub use reply::reply_fits;
 pub use shape::{begins_queue, read_counts, read_queue_of_calls, read_queue_of_history};
-pub use spelling::{counts_line, entry_line, queue_line, version_line};
+pub use spelling::{counts_line, entry_line, queue_line, spell_entry, version_line};
 pub use verdict::{illegal_line, legal_line};

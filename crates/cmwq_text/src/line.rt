@@ -1,26 +1,53 @@
 //! Lines that are spelled, in a buffer of their own.
-ghost use Rattle.std.specs.Prelude.{◌≡◌, ◌+◌, ◌*◌, ◌≤◌, [], ◌∷◌, ◌++◌, length, map, decimal};
+ghost use Rattle.std.specs.Prelude.{◌≡◌, ◌+◌, ◌*◌, ◌<◌, ◌≤◌, [], ◌∷◌, ◌++◌, length, take, map, decimal};
 ghost use Rattle.cmwq_text.specs.Words.{space_words};
 ghost use Rattle.cmwq_text.specs.CallText.{phrase};
 
 use crate::keyword::Keyword;
-use arrayvec::ArrayString;
-use itoa::Buffer;
+use itoa::write_digits;
 use std::marker::Model;
 
-/// The text of a line, with its line feed. It takes no memory but its own, which holds twelve words of at most twenty
-/// bytes, each after a space, and the line feed.
+/// How many digits a number has.
+fn digit_count(number: u64) -> usize
+    ensures count { result ≡ length (decimal number) }
+    ensures short { result ≤ 20 }
+{
+    let mut left = number;
+    let mut count = 0;
+    while left >= 10_000 {
+        left /= 10_000;
+        count += 4;
+    }
+    count + short_digit_count(left)
+}
+
+fn short_digit_count(number: u64) -> usize
+    requires { number < 10000 }
+    ensures { result ≡ length (decimal number) }
+{
+    match number {
+        0..=9 => 1,
+        10..=99 => 2,
+        100..=999 => 3,
+        _ => 4,
+    }
+}
+
+/// The text of a line, with its line feed. It takes no memory but its own, which holds twice what the longest line has.
 #[derive(Drop)]
 pub struct Line {
-    text: ArrayString<256>,
+    bytes: [u8; 240],
+    len: usize,
 }
 
 impl Model for Line {
-    ghost use Rattle.std.specs.Prelude.{ℕ, List};
+    ghost use Rattle.std.specs.Prelude.{◌≤◌, ℕ, List, take};
 
     ghost Value = { List ℕ };
 
-    ghost view = { λ line. line.text.bytes };
+    ghost view = { λ line. take line.len line.bytes };
+
+    ghost invariant = { λ line. line.len ≤ 240 };
 }
 
 impl Line {
@@ -28,36 +55,48 @@ impl Line {
     pub fn as_bytes(&self) -> &[u8]
         ensures { result.now ≡ self.now }
     {
-        self.text.as_bytes()
+        &self.bytes[..self.len]
     }
 
-    pub(crate) fn new() -> Line
+    /// An empty line.
+    pub fn new() -> Line
         ensures { result ≡ [] }
     {
         Line {
-            text: ArrayString::new(),
+            bytes: [0; 240],
+            len: 0,
         }
     }
 
+    pub(crate) fn clear(&mut self)
+        ensures { self.new ≡ [] }
+    {
+        self.len = 0;
+    }
+
     pub(crate) fn push(&mut self, text: &str)
-        requires { length self.old + length text.now ≤ 256 }
+        requires { length self.old + length text.now ≤ 240 }
         ensures exact { self.new ≡ self.old ++ text.now }
         ensures len { length self.new ≡ length self.old + length text.now }
     {
-        self.text.push_str(text);
+        let end = self.len + text.len();
+        self.bytes[self.len..end].copy_from_slice(text.as_bytes());
+        self.len = end;
     }
 
     pub(crate) fn push_number(&mut self, number: u64)
-        requires { length self.old + 20 ≤ 256 }
+        requires { length self.old + 20 ≤ 240 }
         ensures exact { self.new ≡ self.old ++ decimal number }
         ensures short { length self.new ≤ length self.old + 20 }
     {
-        self.push(Buffer::new().format(number));
+        let end = self.len + digit_count(number);
+        write_digits(number, &mut self.bytes, end);
+        self.len = end;
     }
 
     /// Spells numbers, each after a space.
     pub(crate) fn push_numbers(&mut self, numbers: &[u64])
-        requires { length self.old + 21 * length numbers.now ≤ 256 }
+        requires { length self.old + 21 * length numbers.now ≤ 240 }
         ensures exact { self.new ≡ self.old ++ space_words (map decimal numbers.now) }
         ensures short { length self.new ≤ length self.old + 21 * length numbers.now }
     {
@@ -70,7 +109,7 @@ impl Line {
     /// Spells a keyword and numbers, each after a space.
     #[tactic(auto, unfolding(crate::specs::Words::space_words))]
     pub(crate) fn push_phrase(&mut self, keyword: Keyword, numbers: &[u64])
-        requires { length self.old + 14 + 21 * length numbers.now ≤ 256 }
+        requires { length self.old + 14 + 21 * length numbers.now ≤ 240 }
         ensures exact { self.new ≡ self.old ++ space_words (phrase keyword numbers.now) }
         ensures short { length self.new ≤ length self.old + 14 + 21 * length numbers.now }
     {
@@ -87,7 +126,7 @@ impl Line {
         second: Keyword,
         numbers: &[u64],
     )
-        requires { length self.old + 49 + 21 * length numbers.now ≤ 256 }
+        requires { length self.old + 49 + 21 * length numbers.now ≤ 240 }
         ensures exact { self.new ≡ self.old ++ space_words (phrase first (number ∷ []) ++ phrase second numbers.now) }
         ensures short { length self.new ≤ length self.old + 49 + 21 * length numbers.now }
     {

@@ -1,13 +1,10 @@
 //! Numbers in a text.
 ghost use Rattle.std.specs.Prelude.{◌≡◌, ◌≤◌, IfSome};
-ghost use Rattle.cmwq_text.specs.Numbers.{with_digit, digits_from, is_begun, number_read, byte_of, short_of, greatest_number};
-ghost use Rattle.cmwq_model.specs.Prelude.{greatest, greatest_byte, greatest_long, greatest_short};
-
-/// The greatest number of an entry.
-const GREATEST_NUMBER: u64 = 9_223_372_036_854_775_807;
+ghost use Rattle.cmwq_text.specs.Numbers.{with_digit, digits_from, is_begun, number_read, byte_of};
+ghost use Rattle.cmwq_model.specs.Prelude.{greatest};
 
 /// The number with a digit after it, if that is at most the limit.
-fn with_digit(limit: u64, value: u64, digit: u8) -> Option<u64>
+pub fn with_digit(limit: u64, value: u64, digit: u8) -> Option<u64>
     ensures { result ≡ with_digit limit value digit }
 {
     if !digit.is_ascii_digit() {
@@ -52,46 +49,11 @@ fn limited(limit: u64, word: &[u8]) -> Option<u64>
     }
 }
 
-/// The number of at most 18,446,744,073,709,551,615 that a word spells.
-pub fn long_of(word: &[u8]) -> Option<u64>
-    ensures { result ≡ number_read greatest_long word.now }
-{
-    limited(u64::MAX, word)
-}
-
 /// The number of at most 4,294,967,295 that a word spells.
 pub fn number_of(word: &[u8]) -> Option<u32>
     ensures { result ≡ number_read greatest word.now }
 {
     u32::try_from(limited(u64::from(u32::MAX), word)?).ok()
-}
-
-/// The number of at most 65,535 that a word spells.
-pub fn short_count_of(word: &[u8]) -> Option<u16>
-    ensures { result ≡ number_read greatest_short word.now }
-{
-    u16::try_from(limited(u64::from(u16::MAX), word)?).ok()
-}
-
-/// The number of at most 255 that a word spells.
-pub fn byte_count_of(word: &[u8]) -> Option<u8>
-    ensures { result ≡ number_read greatest_byte word.now }
-{
-    u8::try_from(limited(u64::from(u8::MAX), word)?).ok()
-}
-
-/// The number of at most 9,223,372,036,854,775,807 that a word spells.
-pub fn wide_of(word: &[u8]) -> Option<u64>
-    ensures { result ≡ number_read greatest_number word.now }
-{
-    limited(GREATEST_NUMBER, word)
-}
-
-/// The number of at most 4,294,967,295 that a word spells, where one above 65,535 is read as that.
-pub fn short_of(word: &[u8]) -> Option<u16>
-    ensures { result ≡ short_of word.now }
-{
-    Some(u16::try_from(number_of(word)?).unwrap_or(u16::MAX))
 }
 
 /// The number of at most 4,294,967,295 that a word spells, where one above 255 is read as that.

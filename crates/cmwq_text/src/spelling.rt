@@ -14,7 +14,7 @@ use crate::line::Line;
 use cmwq_model::{Call, Counts, Entry, QueueShape, Reply, Who};
 
 fn push_who(line: &mut Line, who: Who)
-    requires { length line.old + 42 ≤ 256 }
+    requires { length line.old + 42 ≤ 240 }
     ensures exact { line.new ≡ line.old ++ who_text who }
     ensures short { length line.new ≤ length line.old + 42 }
 {
@@ -65,7 +65,7 @@ fn call_keyword(call: Call) -> Keyword
 /// Each word after a space.
 #[tactic(auto, unfolding(crate::specs::CallText::call_words))]
 fn push_call(line: &mut Line, call: Call)
-    requires { length line.old + 98 ≤ 256 }
+    requires { length line.old + 98 ≤ 240 }
     ensures exact { line.new ≡ line.old ++ space_words (call_words call) }
     ensures short { length line.new ≤ length line.old + 98 }
 {
@@ -153,7 +153,7 @@ fn reply_keyword(reply: Reply) -> Keyword
 /// Each word after a space.
 #[tactic(auto, unfolding(crate::specs::ReplyText::reply_words))]
 pub(crate) fn push_reply(line: &mut Line, reply: Reply)
-    requires { length line.old + 70 ≤ 256 }
+    requires { length line.old + 70 ≤ 240 }
     ensures exact { line.new ≡ line.old ++ space_words (reply_words reply) }
     ensures short { length line.new ≤ length line.old + 70 }
 {
@@ -184,18 +184,26 @@ pub(crate) fn push_reply(line: &mut Line, reply: Reply)
     }
 }
 
-/// The line of an entry, with its line feed.
+/// Spells the line of an entry, with its line feed, in the place of what the line holds.
 #[tactic(auto, unfolding(crate::specs::EntryText::entry_text))]
+pub fn spell_entry(line: &mut Line, entry: &Entry)
+    ensures { line.new ≡ entry_text entry.now }
+{
+    line.clear();
+    push_who(line, entry.who);
+    line.push_numbers(&[entry.serial]);
+    push_call(line, entry.call);
+    line.push(" =");
+    push_reply(line, entry.reply);
+    line.push("\n");
+}
+
+/// The line of an entry, with its line feed.
 pub fn entry_line(entry: &Entry) -> Line
     ensures { result ≡ entry_text entry.now }
 {
     let mut line = Line::new();
-    push_who(&mut line, entry.who);
-    line.push_numbers(&[entry.serial]);
-    push_call(&mut line, entry.call);
-    line.push(" =");
-    push_reply(&mut line, entry.reply);
-    line.push("\n");
+    spell_entry(&mut line, entry);
     line
 }
 

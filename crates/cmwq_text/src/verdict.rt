@@ -19,7 +19,7 @@ pub fn legal_line(entries: u64) -> Line
 }
 
 fn push_wanted(line: &mut Line, wanted: Wanted)
-    requires { length line.old + 77 ≤ 256 }
+    requires { length line.old + 77 ≤ 240 }
     ensures exact { line.new ≡ line.old ++ wanted_text wanted }
     ensures short { length line.new ≤ length line.old + 77 }
 {

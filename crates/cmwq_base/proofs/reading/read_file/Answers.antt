@@ -12,13 +12,13 @@ loop-number-init g c = record {
   troubles = omega arith;
 }
 
-pub returns-in_err-stage-in-Whole-clause-exact : goal.returns-in_err-stage-in-Whole-clause-exact
-returns-in_err-stage-in-Whole-clause-exact g c =
-    let p = err_from_is_err_and c.from_residual-in_err-stage-in-Whole.result c.from_residual-in_err-stage-in-Whole.ensures.1 in
+pub returns-in_err-advance-in-Whole-clause-exact : goal.returns-in_err-advance-in-Whole-clause-exact
+returns-in_err-advance-in-Whole-clause-exact g c =
+    let p = err_from_is_err_and c.from_residual-in_err-advance-in-Whole.result c.from_residual-in_err-advance-in-Whole.ensures.1 in
     let line = found_so _ _ _ _ Whole c.in-Whole.is c.in_ok-next_line.ensures.ok in
     let alike = line_alike c.args.is_front g.G.Item.FileLine.kind c.loop-number.number (stage_of g.G.Gather.layout g.G.Gather.items c.loop-number.stage) _ in
-    rw (p.1, p.2) (whole_fails (as_front c.args.is_front g.G.Item.FileLine.kind) c.loop-number.number (stage_of g.G.Gather.layout g.G.Gather.items c.loop-number.stage) _ _ _ _ c.in_err-stage-in-Whole.field-0.0 c.loop-number.invariant.progress.same
-    line (subst (Refuses c.in_err-stage-in-Whole.field-0.0) (sym alike) (rw (← c.as_slice.ensures.value) c.in_err-stage-in-Whole.ensures)))
+    rw (p.1, p.2) (whole_fails (as_front c.args.is_front g.G.Item.FileLine.kind) c.loop-number.number (stage_of g.G.Gather.layout g.G.Gather.items c.loop-number.stage) _ _ _ _ c.in_err-advance-in-Whole.field-0.0 c.loop-number.invariant.progress.same
+    line (subst (Refuses c.in_err-advance-in-Whole.field-0.0) (sym alike) (rw (← c.as_slice.ensures.value) c.in_err-advance-in-Whole.ensures)))
 
 pub returns-in-Long-clause-exact : goal.returns-in-Long-clause-exact
 returns-in-Long-clause-exact g c =
@@ -70,8 +70,8 @@ returns-in-End-clause-version g c = makes_version (as_front c.args.is_front g.G.
 pub loop-number-preserved : goal.loop-number-preserved
 loop-number-preserved g c =
     let stage = stage_of g.G.Gather.layout g.G.Gather.items c.loop-number.stage in
-    let next = stage_of g.G.Gather.layout g.G.Gather.items c.in_ok-stage-in-Whole.stage in
-    let taken = line_alike c.args.is_front g.G.Item.FileLine.kind c.loop-number.number stage _ ∙ rw c.as_slice.ensures.value at c.in_ok-stage-in-Whole.ensures in
+    let next = stage_of g.G.Gather.layout g.G.Gather.items c.advance.new.self in
+    let taken = line_alike c.args.is_front g.G.Item.FileLine.kind c.loop-number.number stage _ ∙ rw c.as_slice.ensures.value at c.in_ok-advance-in-Whole.ensures in
     let grows = line_grows (as_front c.args.is_front g.G.Item.FileLine.kind) c.loop-number.number stage next _ taken in
     let before = c.loop-number.invariant.progress in
     let line = found_so _ _ _ _ Whole c.in-Whole.is c.in_ok-next_line.ensures.ok in

@@ -1,15 +1,5 @@
-use Rattle.std.proofs.Common.{take, ap, sym, ◌∙◌}
-use Rattle.cmwq_io.specs.Feeds.{near_feed}
-use Rattle.cmwq_io.proofs.FirstLineLemmas.{takes_whole, takes_long}
+use Rattle.cmwq_io.proofs.FirstLineLemmas.{takes_long}
 use Rattle.cmwq_io.proofs.lines.Lines.take_first.Goals as goal
 
-pub returns-in-Some : goal.returns-in-Some
-returns-in-Some c more =
-    let near = ap near_feed (sym c.ahead-ahead.ensures.value) ∙ sym c.in-Some.ensures.place in
-    let line = c.set.ensures ∙ ap (take c.in-Some.at) c.ahead-ahead.ensures.value in
-    rw (line, c.consume.ensures) (takes_whole c.args.self.now more c.in-Some.at near)
-
-pub returns-in-None : goal.returns-in-None
-returns-in-None c more =
-    let far = ap near_feed (sym c.ahead-ahead.ensures.value) ∙ sym c.in-None.ensures.place in
-    rw c.clear.ensures (takes_long c.args.self.now more far c.requires)
+pub returns-else-take_near : goal.returns-else-take_near
+returns-else-take_near c more = rw (c.clear.ensures, c.if-take_near.ensures.0) (takes_long c.args.self.now more c.if-take_near.ensures.1 c.requires)

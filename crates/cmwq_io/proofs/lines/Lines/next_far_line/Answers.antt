@@ -1,7 +1,7 @@
 use Rattle.cmwq_io.specs.Common.{arith, err_from_is_err_and}
 use Rattle.std.proofs.KnownBytes.{Keeps-trans}
 use Rattle.cmwq_io.proofs.Calls.{made_on, given_up_on}
-use Rattle.cmwq_io.proofs.lines.Lines.next_line.Goals as goal
+use Rattle.cmwq_io.proofs.lines.Lines.next_far_line.Goals as goal
 
 pub returns-in_err-read_more-clause-calls : goal.returns-in_err-read_more-clause-calls
 returns-in_err-read_more-clause-calls g c =

@@ -1,6 +1,6 @@
 use Rattle.cmwq_io.specs.Common.{◌-◌, ◌≤◌, length, Keeps, prepend_known}
 use Rattle.cmwq_io.specs.Outcomes.{IsAllMade, GoesOnBy}
-use Rattle.cmwq_io.proofs.lines.Lines.next_line.Given as goal
+use Rattle.cmwq_io.proofs.lines.Lines.next_far_line.Given as goal
 
 abbrev pub invariant-loop-self : goal.invariant-loop-self
 invariant-loop-self g l = record {
