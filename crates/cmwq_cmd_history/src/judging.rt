@@ -14,7 +14,7 @@ use std::alloc::Global;
 use std::marker::Model;
 
 /// Judges the entries of a history as they come, and keeps none of them. Behind the first that is wrong it takes the others on
-/// without judging them. The judge is boxed, since the reader hands what gathers on by value with each line.
+/// without judging them. The judge is boxed, since the reader hands what gathers on by value before and behind its lines.
 #[derive(Drop)]
 pub struct Judging {
     shape: Shape,

@@ -13,7 +13,7 @@ use std::marker::Model;
 const FIRST_ROOM: u64 = 1_000_000;
 
 /// Makes the steps of the calls of a file as they come, and keeps their entries. What makes them is boxed, since the reader hands what gathers on by
-/// value with each line.
+/// value before and behind its lines.
 #[derive(Drop)]
 pub struct Recording {
     stepping: Box<Stepping>,

@@ -14,7 +14,7 @@ use std::alloc::Global;
 use std::marker::Model;
 
 /// Makes the steps of the calls of a file as they come, and keeps of all entries the last alone. The execution is boxed, since the reader hands
-/// what gathers on by value with each line.
+/// what gathers on by value before and behind its lines.
 #[derive(Drop)]
 pub struct Stepping {
     shape: Shape,

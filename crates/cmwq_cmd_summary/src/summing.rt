@@ -10,7 +10,7 @@ use std::alloc::{AllocError, Global};
 use std::marker::Model;
 
 /// Sums up the entries of a history as they come, and keeps none of them. Behind the first that is wrong it takes the others on
-/// without looking at them. What sums up is boxed, since the reader hands what gathers on by value with each line.
+/// without looking at them. What sums up is boxed, since the reader hands what gathers on by value before and behind its lines.
 #[derive(Drop)]
 pub(crate) struct Summing {
     progress: Box<Progress>,

@@ -32,22 +32,6 @@ no_more limit n d ds e =
     (not_chosen (is_ascii_digit d && leb next limit) next e)
     (λ over. lt-leb _ _ (omega (arith, leb-false _ _ over, value_from-grows next ds)))
 
--- the same below any limit, where the digit is one
-pub one_digit_more : (most limit n d m : ℕ) (ds : List ℕ) → with_digit most n d ≡ Some m → digits_from limit n (d ∷ ds) ≡ digits_from limit m ds
-unfolding digits_from
-one_digit_more most limit n d m ds e =
-    let found = cond_some (is_ascii_digit d && leb (n * 10 + (d - 48)) most) (n * 10 + (d - 48)) m e in
-    drop_true (is_ascii_digit d) (all_ascii_digits ds) (leb (value_from (n * 10 + (d - 48)) ds) limit) (value_from (n * 10 + (d - 48)) ds) (and_parts (is_ascii_digit d) (leb (n * 10 + (d - 48)) most) found.0).0
-    ∙ ap (λ (k : ℕ). digits_from limit k ds) found.1
-
-pub too_great : (most limit n d : ℕ) (ds : List ℕ) → limit ≤ most → with_digit most n d ≡ None → digits_from limit n (d ∷ ds) ≡ None
-unfolding digits_from
-too_great most limit n d ds le e =
-    let next : ℕ = n * 10 + (d - 48) in
-    is_none (is_ascii_digit d) (all_ascii_digits ds) (leb next most) (leb (value_from next ds) limit) (value_from next ds)
-    (not_chosen (is_ascii_digit d && leb next most) next e)
-    (λ over. lt-leb _ _ (omega (arith, leb-false _ _ over, value_from-grows next ds)))
-
 pub within : (limit n d m : ℕ) → with_digit limit n d ≡ Some m → m ≤ limit
 within limit n d m e =
     let found = cond_some (is_ascii_digit d && leb (n * 10 + (d - 48)) limit) (n * 10 + (d - 48)) m e in

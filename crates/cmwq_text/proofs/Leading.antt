@@ -1,21 +1,12 @@
 -- Digits that are read up to a space or the end, and the words that are left.
-use Rattle.cmwq_text.specs.Common.{◌≡◌, ℕ, Bool, ◌-◌, ◌<◌, ◌≤◌, true, false, List, [], ◌∷◌, length, take, drop, get_or, Some, None, refl, sym, arith, ne_eqb, onto_first, same_Some, is_ascii_digit, greatest_long, subst, ◌+◌, ◌*◌, ◌++◌, ◌∙◌, ap, append_assoc, append-nil, all_ascii_digits, nat_le, if◌then◌else◌}
+use Rattle.cmwq_text.specs.Common.{◌≡◌, ℕ, Bool, ◌-◌, ◌<◌, ◌≤◌, true, false, List, [], ◌∷◌, length, take, drop, get_or, Some, None, refl, sym, arith, ne_eqb, onto_first, same_Some, is_ascii_digit, subst, ◌+◌, ◌*◌, ◌++◌, ◌∙◌, ap, append_assoc, append-nil, all_ascii_digits, nat_le, if◌then◌else◌}
 use Rattle.std.specs.Option.{option_map}
 use Rattle.std.proofs.lemmas.Bool.{and_parts, eq-eqb}
 use Rattle.cmwq_lemmas.proofs.Truth.{and_false}
 use Rattle.std.proofs.lemmas.List.{take_all}
-use Rattle.cmwq_text.specs.Numbers.{IsLeading, value_from, with_digit, digits_from, number_read, is_begun}
+use Rattle.cmwq_text.specs.Numbers.{IsLeading, value_from, digits_from, number_read, is_begun}
 use Rattle.cmwq_text.specs.Words.{◌>>=◌, words_of, first_word, first_letter, has_no_word, word_read}
-use Rattle.cmwq_text.proofs.Digits.{one_digit_more, too_great}
 use Rattle.cmwq_text.proofs.Splits.{split_has_first}
-
-further : (limit v m x : ℕ) (words : List (List ℕ)) → has_no_word words ≡ false → with_digit greatest_long v x ≡ Some m → word_read (digits_from limit v) (onto_first x words) ≡ word_read (digits_from limit m) words
-further limit v m x [] some read = absurd cc
-further limit v m x (word ∷ words) some read = rw (one_digit_more greatest_long limit v x m word read) refl
-
-no_further : (limit v x : ℕ) (words : List (List ℕ)) → limit ≤ greatest_long → with_digit greatest_long v x ≡ None → word_read (digits_from limit v) (onto_first x words) ≡ None
-no_further limit v x [] le read = rw (too_great greatest_long limit v x [] le read) refl
-no_further limit v x (word ∷ words) le read = rw (too_great greatest_long limit v x word le read) refl
 
 digit_no_space : (x : ℕ) → is_ascii_digit x ≡ true → x ≡ 32 → ⊥
 digit_no_space x digit space = let no : is_ascii_digit 32 ≡ true = subst (λ (y : ℕ). is_ascii_digit y ≡ true) space digit in absurd cc
@@ -26,20 +17,6 @@ behind_first left = take (length left - 1) (drop 1 left)
 
 behind_first_is : (x : ℕ) (rest : List ℕ) → behind_first (x ∷ rest) ≡ rest
 behind_first_is x rest = take_all (length (x ∷ rest) - 1) rest (omega arith)
-
-pub behind_first_shorter : (left : List ℕ) → 1 ≤ length left → length (behind_first left) < length left
-behind_first_shorter [] some = absurd (omega arith)
-behind_first_shorter (x ∷ rest) some = rw (behind_first_is x rest) (omega arith)
-
-module _ (limit v : ℕ) where
-  -- one digit more is read, or it passes what 64 bits hold
-  pub digit_goes_on : (left : List ℕ) (m : ℕ) → 1 ≤ length left → is_ascii_digit (get_or left 0 0) ≡ true → with_digit greatest_long v (get_or left 0 0) ≡ Some m → word_read (digits_from limit v) (words_of left) ≡ word_read (digits_from limit m) (words_of (behind_first left))
-  digit_goes_on [] m some digit read = absurd (omega arith)
-  digit_goes_on (x ∷ rest) m some digit read = rw (behind_first_is x rest, ne_eqb x 32 (digit_no_space x digit)) (further limit v m x (words_of rest) (split_has_first rest) read)
-
-  pub great_stops : (left : List ℕ) → limit ≤ greatest_long → 1 ≤ length left → is_ascii_digit (get_or left 0 0) ≡ true → with_digit greatest_long v (get_or left 0 0) ≡ None → word_read (digits_from limit v) (words_of left) ≡ None
-  great_stops [] le some digit read = absurd (omega arith)
-  great_stops (x ∷ rest) le some digit read = rw (ne_eqb x 32 (digit_no_space x digit)) (no_further limit v x (words_of rest) le read)
 
 -- the number that the first word spells
 pub not_begun : (limit : ℕ) (words : List (List ℕ)) → Some false ≡ option_map (λ word. is_begun word.0) (first_word words) → None ≡ word_read (number_read limit) words
@@ -72,9 +49,6 @@ all_pushed (e ∷ ds) d all digit =
 value_pushed : (n : ℕ) (ds : List ℕ) (d : ℕ) → value_from n (ds ++ d ∷ []) ≡ value_from n ds * 10 + (d - 48)
 value_pushed n [] d = refl
 value_pushed n (e ∷ ds) d = value_pushed (n * 10 + (e - 48)) ds d
-
-pub none_leads : (bytes : List ℕ) → IsLeading bytes 0 bytes
-none_leads bytes = record { digits = []; whole = refl; all = refl; value = refl }
 
 pub one_leads : (bytes left : List ℕ) (n : ℕ) → 1 ≤ length left → is_ascii_digit (get_or left 0 0) ≡ true → IsLeading bytes n left → IsLeading bytes (n * 10 + (get_or left 0 0 - 48)) (behind_first left)
 one_leads bytes [] n some digit leads = absurd (omega arith)

@@ -4,7 +4,7 @@ ghost use Rattle.cmwq_text.specs.Numbers.{with_digit, digits_from, is_begun, num
 ghost use Rattle.cmwq_model.specs.Prelude.{greatest};
 
 /// The number with a digit after it, if that is at most the limit.
-pub fn with_digit(limit: u64, value: u64, digit: u8) -> Option<u64>
+fn with_digit(limit: u64, value: u64, digit: u8) -> Option<u64>
     ensures { result ≡ with_digit limit value digit }
 {
     if !digit.is_ascii_digit() {
@@ -15,7 +15,7 @@ pub fn with_digit(limit: u64, value: u64, digit: u8) -> Option<u64>
 }
 
 /// The number that digits stand for, if it is at most the limit. It stops at the first digit that passes the limit.
-fn digits_of(limit: u64, digits: &[u8]) -> Option<u64>
+pub fn digits_of(limit: u64, digits: &[u8]) -> Option<u64>
     ensures exact { result ≡ digits_from limit 0 digits.now }
     ensures within { IfSome result (λ n. n ≤ limit) }
 {

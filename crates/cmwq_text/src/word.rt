@@ -3,7 +3,7 @@ ghost use Rattle.std.specs.Prelude.{◌≡◌, ◌≤◌, if◌then◌else◌, n
 ghost use Rattle.cmwq_text.specs.Numbers.{IsLeading, is_begun, digits_from, number_read};
 ghost use Rattle.cmwq_text.specs.Words.{is_space, words_of, first_word, word_read, with_left, byte_in, short_in, byte_count_in, short_count_in, number_in, wide_in, long_in};
 
-use crate::number::with_digit;
+use crate::number::digits_of;
 use std::marker::Model;
 
 /// Numbers below it have room for a digit more.
@@ -130,30 +130,14 @@ fn at_most<'a>(limit: u64, number: u64, left: Words<'a>) -> Option<(u64, Words<'
     }
 }
 
-/// As `leading_number`, of digits that may be more than 64 bits hold.
-#[tactic(auto, unfolding(crate::specs::Numbers::digits_from))]
+/// As `leading_number`, of digits that 64 bits may not hold.
 fn long_number<'a>(limit: u64, bytes: &'a [u8]) -> Option<(u64, Words<'a>)>
     ensures exact { result ≡ word_read (digits_from limit 0) (words_of bytes.now) }
     ensures within { IfSome result (λ number. number.0 ≤ limit) }
 {
-    let mut value = 0;
-    let mut left = bytes;
-    while let [byte, rest @ ..] = left {
-        if !byte.is_ascii_digit() {
-            return if *byte == b' ' && value <= limit {
-                Some((value, Words::of(rest)))
-            } else {
-                None
-            };
-        }
-        value = with_digit(u64::MAX, value, *byte)?;
-        left = rest;
-    }
-    if value <= limit {
-        Some((value, Words { bytes: None }))
-    } else {
-        None
-    }
+    let mut words = Words::of(bytes);
+    let number = digits_of(limit, words.first()?)?;
+    Some((number, words))
 }
 
 /// The number that digits up to a space or the end stand for, if it is at most the limit, and the words behind it.
