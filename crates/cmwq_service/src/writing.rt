@@ -51,6 +51,13 @@ fn has_all<N: HubName>(monitor: &mut Monitor<N>, journal: &mut Journal<N>) -> bo
     }
 }
 
+/// Whether all that a hub kept was handed over.
+fn is_nothing_left(rest: &Rest) -> bool
+    ensures { result ≡ true → rest.now.entries.items ≡ [] }
+{
+    rest.entries.is_empty()
+}
+
 /// Ends a hub whose threads have ended and whose history the journal has: what it left to the journal, which is nothing.
 fn end_hub<N: HubName, S: Service, R: Wait>(
     rt: &R,
@@ -68,10 +75,11 @@ fn end_hub<N: HubName, S: Service, R: Wait>(
     let is_whole = has_all(&mut monitor, journal);
     let rest = monitor.end(rt);
     gathered?;
-    if !is_whole || !rest.entries.is_empty() {
-        return Err(NO_MEMORY);
+    if is_whole && is_nothing_left(&rest) {
+        Ok(rest)
+    } else {
+        Err(NO_MEMORY)
     }
-    Ok(rest)
 }
 
 /// Writes the last line of a text whose entries are all written, and says how many they are.
