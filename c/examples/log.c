@@ -1,5 +1,5 @@
 /*
- * A log service on the hub, as crates/cmwq_demo_log is one on cmwq_rt. Two writers gather lines on threads of their own. Each line puts off
+ * A log service on the hub, as crates/cmwq_demo_hub is one on cmwq_rt. Two writers gather lines on threads of their own. Each line puts off
  * the item that writes the lines that wait to the open file; when the file is full, that item queues another one, which closes it. The
  * history runs on: its entries are handed out in a journal of format 3, which `cmwq check` and cmwq_check() judge.
  */

@@ -7,7 +7,7 @@
 
 use anyhow::Result;
 use cmwq_service::{
-    Client, Context, CpuId, Fault, ItemId, QueueId, QueueShape, Service, ShapeBuilder, run,
+    Client, Context, CpuId, Fault, ItemId, QueueId, QueueShape, Service, ShapeBuilder, run_dropping,
 };
 use std::sync::Wait;
 use std::sync::atomic::{AtomicU32, Ordering};
@@ -125,8 +125,8 @@ fn main(rt: HostRuntime) -> Result<()> {
         .queue(QUEUE)?
         .build()?;
     let cache = Cache::default();
-    // the history says which call was answered what, and in which order; here nobody looks at it
-    let _history = run(&rt, alloc, &shape, &cache)?;
+    // the history would say which call was answered what, and in which order; here nobody looks at it
+    run_dropping(&rt, alloc, &shape, &cache)?;
     let disk = cache.disk.stored.load(Ordering::SeqCst);
     let tape = cache.tape.stored.load(Ordering::SeqCst);
     println!(rt; "pages on the disk: {disk}")?;

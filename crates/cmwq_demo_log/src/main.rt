@@ -2,38 +2,17 @@
 //!
 //! Each line puts off the item that writes the lines that wait to the open file, so that many are written at once. When the file is full,
 //! that item queues another one, which closes the file. At the end the queues are drained and destroyed. Printed is what holds of
-//! each run: all lines went through both items.
+//! each run, whatever the threads' order: all lines went through both items.
 #![tactic(auto)]
 
-ghost use Rattle.std.specs.Prelude.{◌≡◌};
-ghost use Rattle.cmwq_demo_log.specs.Numbers.{HasNumbers};
-
-use anyhow::{Context, Result, ensure};
-use cmwq_rt::{
-    Call, Caller, Counts, CpuId, Entry, Hub, HubName, HubParts, ItemId, Participants, QueueId,
-    QueueShape, RunCtx, RunFault, Shape, Work, all_fit, check,
+use anyhow::{Result, ensure};
+use cmwq_service::{
+    Client, Context, CpuId, Fault, ItemId, QueueId, QueueShape, Service, ShapeBuilder, all_fit,
+    check, run,
 };
-use std::marker::Brand;
 use std::sync::Wait;
 use std::sync::atomic::{AtomicU32, Ordering};
-use std::thread::{self, Scope, Threads};
-
-/// One CPU, whose two pools have two workers each; two writers and a keeper; two items; and room for a history of so many entries.
-const COUNTS: Counts = Counts {
-    cpus: 1,
-    workers: 2,
-    callers: 3,
-    items: 2,
-    room: 10_000,
-};
-
-/// A queue that lets one item at a time be active on a CPU.
-const PLAIN: QueueShape = QueueShape {
-    max_active: 1,
-    high: false,
-    intensive: false,
-    freezable: false,
-};
+use std::time::Clock;
 
 /// The item that writes the lines that wait to the open file.
 const WRITE: ItemId = ItemId(0);
@@ -41,15 +20,30 @@ const WRITE: ItemId = ItemId(0);
 /// The item that closes the file.
 const ROTATE: ItemId = ItemId(1);
 
-/// The queue of the first.
+/// The queue of the first. It lets one item at a time be active on a CPU.
 const WRITING: QueueId = QueueId(0);
+
+const PLAIN: QueueShape = QueueShape {
+    max_active: 1,
+    high: false,
+    intensive: false,
+    freezable: false,
+};
 
 /// The queue of the second. To close a file may take long, so it is CPU intensive, and holds no writing back.
 const ROTATING: QueueId = QueueId(1);
 
+const INTENSIVE: QueueShape = QueueShape {
+    intensive: true,
+    ..PLAIN
+};
+
+/// The one CPU.
 const CPU: CpuId = CpuId(0);
 
-/// How many lines each writer gathers.
+/// How many writers there are, and how many lines each gathers.
+const WRITERS: u8 = 2;
+
 const LINES: u32 = 100;
 
 /// For how many ticks no line comes before the lines are written.
@@ -70,123 +64,78 @@ fn move_lines(from: &AtomicU32, to: &AtomicU32) {
     to.fetch_add(from.swap(0, Ordering::SeqCst), Ordering::SeqCst);
 }
 
-impl Work for Log {
-    // A worker calls this once for each start of an item. It may run on any hub, and so asks whether the numbers of its own call fit.
-    fn run<N: HubName, R: Wait>(&self, item: ItemId, context: &mut RunCtx<N, R>) {
+impl Service for Log {
+    /// The work function: a worker calls it once for each start of an item. What it calls by its context is the worker's.
+    fn run<R: Wait + Clock, C: Context>(
+        &self,
+        _rt: &R,
+        item: ItemId,
+        context: &mut C,
+    ) -> Result<(), Fault> {
         if item == ROTATE {
-            return move_lines(&self.open, &self.closed);
+            move_lines(&self.open, &self.closed);
+            return Ok(());
         }
         move_lines(&self.waiting, &self.open);
-        let is_full = self.open.load(Ordering::SeqCst) >= FULL;
-        let (item, queue, cpu) = (ROTATE, ROTATING, CPU);
-        let call = Call::Queue { item, queue, cpu };
-        if is_full && context.shape().has_numbers(call) {
-            // it may be pending, or want room; then the file is closed by a later run
-            let _ = context.queue(item, queue, cpu);
+        if self.open.load(Ordering::SeqCst) >= FULL {
+            // where it is pending already the call is answered that nothing was queued, and the file is closed once
+            context.queue(ROTATE, ROTATING, CPU)?;
         }
+        Ok(())
     }
-}
 
-/// What all threads share. The ghost field, which is no data, tells the proofs of all calls that the numbers above are inside the shape.
-struct Service<N: HubName> {
-    hub: Hub<N>,
-    log: Log,
-    ghost numbers: { HasNumbers N.layout },
-}
-
-impl<N: HubName> Service<N> {
-    /// A writer's thread: each line puts the writing off. After each tenth comes a pause, unless `busy` sees, without a lock, that the
-    /// writing neither is pending nor runs.
-    fn gather<R: Wait>(&self, rt: &R, mut writer: Caller<N>) -> Result<(), RunFault> {
+    /// A writer's thread: each line puts the writing off (`modify` delays the item anew, whether or not it is pending). Time is what the
+    /// writers hand in, a tick for each line. After each tenth comes a pause, in which the lines are written, unless `busy` sees, without
+    /// a lock, that the writing neither is pending nor runs.
+    fn call<R: Wait + Clock, C: Client>(
+        &self,
+        _rt: &R,
+        _place: u8,
+        client: &mut C,
+    ) -> Result<(), Fault> {
         for line in 1..=LINES {
-            self.log.waiting.fetch_add(1, Ordering::SeqCst);
-            writer.modify(rt, &self.hub, WRITE, WRITING, CPU, QUIET)?;
-            writer.tick(rt, &self.hub, 1)?;
-            if line % 10 == 0 && writer.busy(WRITE) != Some(0) {
-                writer.tick(rt, &self.hub, QUIET)?;
+            self.waiting.fetch_add(1, Ordering::SeqCst);
+            client.modify(WRITE, WRITING, CPU, QUIET)?;
+            client.tick(1)?;
+            if line % 10 == 0 && client.busy(WRITE)? != Some(0) {
+                client.tick(QUIET)?;
             }
         }
         Ok(())
     }
 
-    /// Ends the service, after its writers: the delay of the last writing goes by, its end is waited for, and the file is closed.
-    fn shut_down<R: Wait>(&self, rt: &R, mut keeper: Caller<N>) -> Result<(), RunFault> {
-        keeper.tick(rt, &self.hub, QUIET)?;
-        keeper.flush(rt, &self.hub, WRITING)?;
-        keeper.queue(rt, &self.hub, ROTATE, ROTATING, CPU)?;
+    /// What comes after the writers: the delay of the last writing goes by, its end is waited for, the file is closed, and both queues go.
+    fn end<R: Wait + Clock, C: Client>(&self, _rt: &R, client: &mut C) -> Result<(), Fault> {
+        client.tick(QUIET)?;
+        client.flush(WRITING)?;
+        client.queue(ROTATE, ROTATING, CPU)?;
         for queue in [WRITING, ROTATING] {
-            keeper.drain(rt, &self.hub, queue)?;
-            keeper.destroy(rt, &self.hub, queue)?;
+            client.drain(queue)?;
+            client.destroy(queue)?;
         }
         Ok(())
     }
 }
 
-/// Starts a thread for each worker, runs both writers at once, and then the keeper.
-fn run_threads<'s, E, N: HubName + Send + Sync + 's, R: Threads + Wait + Sync>(
-    scope: &Scope<'s, E>,
-    rt: &'s R,
-    service: &'s Service<N>,
-    mut participants: Participants<N>,
-) -> Result<(), RunFault> {
-    for _ in 0..2 * COUNTS.workers {
-        let mut worker = participants.worker()?;
-        let work = move || service.hub.work(rt, &mut worker, &service.log);
-        scope.spawn(work).map_err(|_| RunFault::NoThread)?;
-    }
-    let (one, two) = (participants.caller()?, participants.caller()?);
-    let (first, second) = thread::join(rt, || service.gather(rt, one), || service.gather(rt, two));
-    first.and(second)?;
-    service.shut_down(rt, participants.caller()?)
-}
-
-/// Runs all threads to their end. The scope waits for the workers, which go when the hub is closed and nothing is left to run. A worker's
-/// fault is told by the callers: the hub fails, and with it their calls.
-fn run<'x, N: HubName + Send + Sync + 'static, R: Threads + Wait + Sync>(
-    rt: &'x R,
-    service: &'x Service<N>,
-    participants: Participants<N>,
-) -> Result<(), RunFault> {
-    thread::scope(thread::scope_env(), rt, |scope| -> Result<(), RunFault> {
-        let ended = run_threads(scope, rt, service, participants);
-        service.hub.close(rt);
-        ended
-    })
-}
-
-/// Runs the service on a hub of these parts, whose name is `N`, and gives its log and its history.
-fn serve<N: HubName + Send + Sync + 'static, R: Threads + Wait + Sync>(
-    rt: &R,
-    parts: HubParts,
-) -> Result<(Log, Vec<Entry>), RunFault>
-    requires layout { parts.shape ≡ N.layout }
-    requires book { parts.opening.book ≡ N.book }
-    requires ledger { (parts.blank.name ≡ N.name) × (parts.blank.parts ≡ N.parts) }
-    requires numbers { HasNumbers parts.shape }
-{
-    let (hub, participants) = Hub::<N>::open(parts);
-    let log = Log::default();
-    let service = Service { hub, log };
-    let ended = run(rt, &service, participants);
-    let Service { hub, log } = service;
-    let (mut callers, mut workers) = ([], []);
-    let rest = hub.into_history(rt, &mut callers, &mut workers)?;
-    ended.map(|()| (log, rest.entries))
-}
-
-/// A fault is told on standard error, with status 1. What the name `Brand` stands for, the parts of this hub, is said to the proof alone.
+/// A fault, or want of memory or of a thread, is told on standard error, with status 1.
 fn main(rt: HostRuntime) -> Result<()> {
     let alloc = rt.alloc();
-    let mut queues = vec![in alloc; PLAIN, PLAIN]?;
-    queues[usize::from(ROTATING.0)].intensive = true;
-    let shape = Shape::new(COUNTS, queues).context("a shape outside the limits")?;
-    let parts = HubParts::new(&rt, alloc, &shape)?;
-    let (log, history) = serve::<Brand, HostRuntime>(&rt, parts)?;
+    let shape = ShapeBuilder::new(alloc)
+        .workers(2)
+        .callers(WRITERS)
+        .items(2)
+        .queue(PLAIN)?
+        .queue(INTENSIVE)?
+        .build()?;
+    let log = Log::default();
+    let history = run(&rt, alloc, &shape, &log)?;
+    // `run` promises a legal history; `check` judges it anew, by other code
     let entries = history.as_slice();
-    let is_whole = entries.len() <= 1_000_000 && all_fit(&shape, entries);
-    let is_legal = is_whole && check(alloc, &shape, entries)?.is_ok();
+    let fits = entries.len() <= 1_000_000 && all_fit(&shape, entries);
+    let is_legal = fits && check(alloc, &shape, entries)?.is_ok();
     ensure!(is_legal, "an illegal history");
-    let (gathered, closed) = (2 * LINES, log.closed.load(Ordering::SeqCst));
+    let gathered = u32::from(WRITERS) * LINES;
+    let closed = log.closed.load(Ordering::SeqCst);
     println!(rt; "lines gathered: {gathered}")?;
     println!(rt; "lines in closed files: {closed}")?;
     println!(rt; "the history is legal")?;

@@ -1,3 +1,4 @@
 pub mod Common
 pub mod Breaking
 pub mod Faults
+pub mod Kept

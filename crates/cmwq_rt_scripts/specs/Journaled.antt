@@ -1,6 +1,6 @@
 -- What is written of a run whose history is written as it is made.
 use Rattle.std.specs.Prelude.{◌≡◌}
-use Rattle.cmwq_rt_scripts.specs.Common.{ℕ, List, length, Option, Result, Ok, Err, Appends, AppendsFront, Call, Entry, Layout, IsLegal, past_of, body_text, text_of_format, Behavior, JournalFault}
+use Rattle.cmwq_rt_scripts.specs.Common.{ℕ, List, length, Option, Appends, Call, Entry, Layout, text_of_format, Behavior}
 use Rattle.cmwq_rt_scripts.specs.Ended.{FailsAs, IsLeft}
 use Rattle.cmwq_rt_scripts.specs.declared.journal.Unwritten.{Unwritten}
 use Rattle.cmwq_rt_scripts.specs.declared.journal.Unwritten.TheVariants as unwritten
@@ -8,15 +8,6 @@ use Rattle.cmwq_rt_scripts.specs.declared.journal.Unwritten.TheVariants as unwri
 -- the whole text of a history that the scripts leave, of so many entries
 abbrev pub WritesAll : Layout → Behavior → List (List Call) → ℕ → ℕ → Option (List ℕ) → Option (List ℕ) → Type 0
 WritesAll s does scripts entries full a b = (history : List Entry) × IsLeft s does scripts full history × (entries ≡ length history) × Appends a b (text_of_format 3 s history)
-
--- a front of the text of a legal history
-abbrev pub WritesFront : Layout → Option (List ℕ) → Option (List ℕ) → Type 0
-WritesFront s a b = (history : List Entry) × IsLegal s (past_of history) × AppendsFront a b (text_of_format 3 s history)
-
--- what a journal that has these entries wrote, to its end or not
-abbrev pub HasKept : Layout → List Entry → Option (List ℕ) → Option (List ℕ) → Result (Unit {0}) JournalFault → Type 0
-HasKept s seen a b (Ok _) = Appends a b (body_text 3 s seen)
-HasKept s seen a b (Err f) = AppendsFront a b (text_of_format 3 s seen)
 
 -- what is told of the scripts where the text ends before its last line
 abbrev pub TellsOf : Layout → List (List Call) → Unwritten → Type 0

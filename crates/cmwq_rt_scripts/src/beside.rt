@@ -4,8 +4,8 @@ ghost use Rattle.cmwq_io.specs.Counts.{Rises};
 ghost use Rattle.cmwq_model.specs.Prelude.{past_of, IsLegal, IsScripted, most_callers};
 ghost use Rattle.cmwq_rt.specs.Places.{all_free};
 ghost use Rattle.cmwq_rt_journal.specs.Faults.{is_of_sink};
+ghost use Rattle.cmwq_rt_journal.specs.Kept.{HasKept};
 ghost use Rattle.cmwq_rt_scripts.specs.Ended.{EndsAll, is_silent};
-ghost use Rattle.cmwq_rt_scripts.specs.Journaled.{HasKept};
 
 use crate::gather::Ends;
 use crate::run::run_threads;

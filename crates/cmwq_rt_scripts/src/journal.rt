@@ -8,8 +8,9 @@ ghost use Rattle.cmwq_model.specs.declared.call.Call as calls;
 ghost use Rattle.cmwq_model.specs.Prelude.{Layout, past_of, IsLegal, IsScripted, most_callers};
 ghost use Rattle.cmwq_text.specs.HistoryText.{body_text, text_of_format};
 ghost use Rattle.cmwq_rt_journal.specs.Faults.{is_of_sink};
+ghost use Rattle.cmwq_rt_journal.specs.Kept.{HasKept, WritesFront};
 ghost use Rattle.cmwq_rt_scripts.specs.Ended.{EndsAll, FailsAs, HaveRun, IsLeft, is_silent};
-ghost use Rattle.cmwq_rt_scripts.specs.Journaled.{HasKept, TellsOf, WritesAll, WritesFront};
+ghost use Rattle.cmwq_rt_scripts.specs.Journaled.{TellsOf, WritesAll};
 ghost use Rattle.cmwq_rt_scripts.specs.declared.journal.Unwritten.TheVariants as unwritten;
 
 use crate::beside::{Beside, run_beside};

@@ -55,6 +55,10 @@ whole_rest s first es none rest = subst (λ xs. IsReliable s (past_of xs)) (all_
 pub whole_served : (s : Layout) (does : Conduct) (first : ℕ) (es : List Entry) → first ≡ 0 → IsRestOfServed s does first es → IsServed s does es
 whole_served s does first es none rest = subst (λ xs. IsServed s does xs) (all_is_rest rest.history es first rest.rest_is none) rest.served
 
+pub served_so : (s : Layout) (does : Conduct) (h seen : List Entry) (all : ℕ) → IsLegal s (past_of h) → all ≡ s.callers - own_callers → ((k : ℕ) → k < all → ∥ CalledIn s does k h ∥₁) → active_in s h ≡ 0 → seen ≡ h → IsServed s does seen
+served_so s does h seen all legal many called finished same =
+    subst (IsServed s does) (sym same) (record { reliable = reliable s (past_of h) legal; finished = finished; called = (λ k lt. called k (omega (arith, lt, many))) })
+
 pub rest_of_served : (s : Layout) (does : Conduct) (h es : List Entry) (first all : ℕ) (o : Result (Unit {0}) Fault) → IsLegal s (past_of h) → es ≡ drop first h → all ≡ s.callers - own_callers
     → OnOk o ((k : ℕ) → k < all → ∥ CalledIn s does k h ∥₁) → OnOk o (active_in s h ≡ 0) → OnOk o (IsRestOfServed s does first es)
 rest_of_served s does h es first all (Ok u) legal is many called finished = record {

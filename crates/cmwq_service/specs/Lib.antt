@@ -1,4 +1,5 @@
 pub mod Calls
 pub mod Serving
+pub mod Writing
 pub mod Misfits
 pub mod Prelude

@@ -110,7 +110,7 @@ pub trait Client {
 
     // Calls of several entries. Their promises are `Completes` and `Interrupted`.
 
-    /// Lets so many ticks go by, and then fires what is due.
+    /// Lets so many ticks go by, and then fires what is due. Time is the sum of the ticks that all callers and the clock hand in.
     fn tick(&mut self, ticks: u32) -> Result<Reply, Fault>
         ensures done { IfOk result (λ reply. Completes layout (view self.old) (calls.Tick ticks) reply (view self.new)) }
         ensures broke { IfErr result (λ f. Interrupted layout (view self.old) (calls.Tick ticks) f (view self.new)) };

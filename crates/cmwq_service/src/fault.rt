@@ -15,6 +15,17 @@ pub enum Fault {
     Run { fault: RunFault },
 }
 
+/// Why the history of a service was not written to its end.
+#[derive(Clone, Copy, Debug, PartialEq, Eq, Error)]
+pub enum Unwritten {
+    /// A write or a flush of the sink failed.
+    #[error("write fault")]
+    Sink,
+    /// The service stopped, by the first fault of a thread, or of the hub.
+    #[error("{fault}")]
+    Stopped { fault: Fault },
+}
+
 /// Why a service stopped, and its history so far.
 #[derive(Debug, Drop, Error)]
 #[error("{fault}")]

@@ -5,6 +5,7 @@
 //! caller proves nothing of them.
 #![tactic(auto)]
 
+mod beside;
 mod builder;
 mod client;
 mod clock;
@@ -16,14 +17,18 @@ mod service;
 mod signal;
 mod start;
 mod threads;
+mod writing;
 
 pub use builder::{Misfit, ShapeBuilder};
 pub use client::Client;
+pub use cmwq_core::check;
+pub use cmwq_io::{BufferedSink, FromStd, Memory, Sink, Trouble};
 pub use cmwq_model::{
-    Counts, CpuId, Entry, ItemId, NoMemory, Number, QueueId, QueueShape, Reply, Shape,
+    Counts, CpuId, Entry, ItemId, NoMemory, Number, QueueId, QueueShape, Reply, Shape, all_fit,
 };
 pub use cmwq_rt::RunFault;
 pub use context::Context;
-pub use fault::{Fault, Stopped};
+pub use fault::{Fault, Stopped, Unwritten};
 pub use running::{run, run_dropping};
 pub use service::Service;
+pub use writing::run_writing;

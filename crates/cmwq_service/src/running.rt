@@ -24,17 +24,19 @@ use std::sync::Wait;
 use std::thread::{self, JoinHandle, Scope, Threads};
 use std::time::{Clock, Duration};
 
-const NO_MEMORY: Fault = Fault::Run {
+pub(crate) const NO_MEMORY: Fault = Fault::Run {
     fault: RunFault::NoMemory { ticket: None },
 };
 
-const NO_THREAD: Fault = Fault::Run {
+pub(crate) const NO_THREAD: Fault = Fault::Run {
     fault: RunFault::NoThread,
 };
 
-type Ends<N, S> = Vec<CallerEnd<N, S>>;
+/// The service's callers, whose threads have ended.
+pub(crate) type Ends<N, S> = Vec<CallerEnd<N, S>>;
 
-fn service_callers(shape: &Shape) -> u8
+/// How many callers of a shape are the service's.
+pub(crate) fn service_callers(shape: &Shape) -> u8
     ensures { result ≡ shape.now.callers - own_callers }
 {
     shape.counts().callers.saturating_sub(OWN_CALLERS)
@@ -182,7 +184,7 @@ fn serve_in<
 }
 
 /// Runs all threads to their end. Where there is a fault the hub fails, so that nobody waits any longer.
-fn serve<
+pub(crate) fn serve<
     'x,
     N: HubName + Send + Sync + 'static,
     S: Service + Send + Sync,

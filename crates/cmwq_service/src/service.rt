@@ -43,8 +43,9 @@ pub trait Service {
         Ok(())
     }
 
-    /// How long after a tick of the system's clock comes the next one, which the library hands in until `end` has come to its end. There
-    /// are none where it is left out: time is then what callers hand in by `tick`.
+    /// How long after a tick of the system's clock comes the next one, which the library hands in until `end` has come to its end. A late
+    /// one isn't made up for. There are none where it is left out: time is then what callers hand in by `tick`. Where both do, the ticks
+    /// add up.
     fn tick_every(&self) -> Option<Duration> {
         None
     }

@@ -54,8 +54,8 @@ pub(crate) fn is_legal(rt: &(impl Abort + AllocGlobal), shape: &Shape, entries: 
 
 /// Makes every call once or more, and counts what its items did.
 #[derive(Default, Drop)]
-struct Everything {
-    runs: AtomicU32,
+pub(crate) struct Everything {
+    pub runs: AtomicU32,
     busy: AtomicU32,
 }
 

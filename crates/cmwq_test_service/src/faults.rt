@@ -87,8 +87,8 @@ fn numbers_outside_are_answered(rt: HostRuntime) {
 
 /// One caller waits for an item on a frozen queue, which never runs; the other one gives up, with a fault of its own or its item's.
 #[derive(Drop)]
-struct Faulty {
-    is_of_item: bool,
+pub(crate) struct Faulty {
+    pub is_of_item: bool,
 }
 
 impl Service for Faulty {

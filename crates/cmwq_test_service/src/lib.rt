@@ -7,3 +7,5 @@ mod calls;
 mod faults;
 #[cfg(test)]
 mod shapes;
+#[cfg(test)]
+mod written;

@@ -1,4 +1,4 @@
-use Rattle.cmwq_rt_scripts.proofs.Journaling.{keeps_so}
+use Rattle.cmwq_rt_journal.proofs.Kept.{keeps_so}
 use Rattle.cmwq_rt_scripts.proofs.beside.keep.Goals as goal
 
 pub returns-clause-kept : goal.returns-clause-kept

@@ -1,4 +1,5 @@
-use Rattle.cmwq_rt_scripts.proofs.Journaling.{has_kept, tells_so}
+use Rattle.cmwq_rt_journal.proofs.Kept.{has_kept}
+use Rattle.cmwq_rt_scripts.proofs.Journaling.{tells_so}
 use Rattle.cmwq_rt_scripts.proofs.journal.end_run.Goals as goal
 
 pub returns-in-Err-clause-tells : goal.returns-in-Err-clause-tells

@@ -1,5 +1,5 @@
 use Rattle.std.proofs.Common.{ap}
-use Rattle.cmwq_rt_scripts.proofs.Journaling.{nothing_written}
+use Rattle.cmwq_rt_journal.proofs.Kept.{nothing_written}
 use Rattle.cmwq_rt_scripts.proofs.journal.run_parts.Goals as goal
 
 pub returns-in-Ok-clause-sink : goal.returns-in-Ok-clause-sink

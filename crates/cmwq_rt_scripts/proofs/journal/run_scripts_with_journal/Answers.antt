@@ -1,5 +1,5 @@
 use Rattle.cmwq_rt_scripts.specs.Common.{sym, subst, refl, ◌<◌, length, ◌^◌, All, Layout, IsScripted}
-use Rattle.cmwq_rt_scripts.proofs.Journaling.{nothing_written}
+use Rattle.cmwq_rt_journal.proofs.Kept.{nothing_written}
 use Rattle.cmwq_rt_scripts.proofs.journal.run_scripts_with_journal.Goals as goal
 
 pub run_parts-requires-clause-calls : goal.run_parts-requires-clause-calls

@@ -1,4 +1,4 @@
-use Rattle.cmwq_rt_scripts.proofs.Journaling.{end_is_front}
+use Rattle.cmwq_rt_journal.proofs.Kept.{end_is_front}
 use Rattle.cmwq_rt_scripts.proofs.journal.write_end.Goals as goal
 
 pub returns-clause-front : goal.returns-clause-front

@@ -1,4 +1,4 @@
-use Rattle.cmwq_demo_log.proofs.main.Given as goal
+use Rattle.cmwq_demo_hub.proofs.main.Given as goal
 
 -- the hub whose parts were just made
 abbrev pub ghosts-serve-N-Ledger : goal.ghosts-serve-N-Ledger
