@@ -5,9 +5,7 @@ ghost use Rattle.cmwq_text.specs.Formats.{is_version_line, is_calls_line, is_old
 use crate::call::read_call;
 use crate::entry::read_entry;
 use crate::shape::{read_counts, read_queue_of_history};
-use cmwq_model::{
-    Call, Counts, Entry, MOST_QUEUES, MOST_ROOM, Number, QueueShape, Reply, Who,
-};
+use cmwq_model::{Call, Counts, Entry, MOST_QUEUES, MOST_ROOM, Number, QueueShape, Reply, Who};
 
 /// The format that has the whole grammar, up to a million lines.
 const WHOLE: u8 = 2;

@@ -20,7 +20,8 @@ pub use call::read_call;
 pub use end::{end_line, read_end};
 pub use entry::{entry_fits, read_entry};
 pub use format::{
-    OLD_CALLERS, OLD_CPUS, OLD_ITEMS, OLD_QUEUES, OLD_ROOM, OLD_WORKERS, is_calls_line, is_version_line, line_limit, needs_end, queue_limit, read_call_of_format,
+    OLD_CALLERS, OLD_CPUS, OLD_ITEMS, OLD_QUEUES, OLD_ROOM, OLD_WORKERS, is_calls_line,
+    is_version_line, line_limit, needs_end, queue_limit, read_call_of_format,
     read_counts_of_format, read_entry_of_format, read_queue_of_format,
 };
 pub use laws::{
