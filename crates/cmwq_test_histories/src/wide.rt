@@ -74,12 +74,12 @@ impl Wide {
 
     fn item(&mut self) -> ItemId {
         let items = u32::from(self.counts.items);
-        ItemId(self.one_of(items) as u16)
+        ItemId((self.one_of(items) % 65_536) as u16)
     }
 
     fn queue(&mut self) -> QueueId {
         let queues = u32::from(self.queues);
-        QueueId(self.one_of(queues) as u8)
+        QueueId((self.one_of(queues) % 256) as u8)
     }
 
     /// The first CPU or the last.
@@ -98,7 +98,7 @@ impl Wide {
             high: self.below(4) == 0,
         };
         let workers = u32::from(self.counts.workers);
-        let index = self.one_of(workers) as u8;
+        let index = (self.one_of(workers) % 256) as u8;
         WorkerId { pool, index }
     }
 
@@ -154,7 +154,7 @@ impl Wide {
     fn who_calls(&mut self) -> (Who, Call) {
         if self.below(2) == 0 {
             let callers = u32::from(self.counts.callers);
-            let caller = CallerId(self.one_of(callers) as u8);
+            let caller = CallerId((self.one_of(callers) % 256) as u8);
             (Who::Caller(caller), self.caller_call())
         } else {
             (Who::Worker(self.worker()), self.worker_call())
