@@ -61,7 +61,10 @@ impl Timers {
         requires { item.0 < length self.old }
         ensures { self.new ≡ slice_set self.old item.0 None }
     {
-        self.write(item, None);
+        // most items that this is asked of aren't booked, and to write one costs more than to look
+        if self.timers.timer(item).is_some() {
+            self.write(item, None);
+        }
     }
 
     fn write(&mut self, item: ItemId, timer: Option<Timer>)
