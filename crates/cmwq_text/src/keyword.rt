@@ -119,7 +119,7 @@ const KEYWORDS: [Keyword; 53] = [
     Keyword::Timers,
 ];
 
-/// Those with the same first letter, where these are more than three.
+/// Those with the same first letter, where these are many.
 const WITH_C: [Keyword; 4] = [
     Keyword::Crowded,
     Keyword::Cancel,
