@@ -35,8 +35,11 @@ const ITEM: ItemId = ItemId(0);
 /// How often each caller looks.
 const LOOKS: u32 = 2_000_000;
 
-/// How many ticks all callers make together, or a few less. Each is one entry.
-const TICKS: u32 = 1_000_000;
+/// How many entries the hub keeps.
+const ROOM: u32 = 1_000_000;
+
+/// How many ticks all callers make together, or a few less. Each is two entries: its own, and that of a fire which finds nothing due.
+const TICKS: u32 = 500_000;
 
 /// What each caller does over and over.
 #[derive(Clone, Copy)]
@@ -190,7 +193,7 @@ fn main(rt: HostRuntime) -> Result<()> {
     } = job_of(words)?;
     let queues = vec![in alloc; QUEUE]?;
     let shape = Shape::new(COUNTS, queues).context("a shape outside the limits")?;
-    let parts = HubParts::with_readers(&rt, alloc, &shape, TICKS, readers)?;
+    let parts = HubParts::with_readers(&rt, alloc, &shape, ROOM, readers)?;
     let done = measure::<Brand, HostRuntime>(&rt, alloc, parts, callers, task)?;
     match task {
         Task::Look => {
