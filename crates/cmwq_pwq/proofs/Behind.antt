@@ -1,6 +1,11 @@
 -- What becomes active after an entry that changes no width.
-use Rattle.cmwq_pwq.specs.Common.{append-nil, ◌≡◌, ℕ, ◌+◌, ◌-◌, ◌<◌, ◌≤◌, Bool, true, false, ◌&&◌, ◌==◌, List, [], ◌∷◌, ◌++◌, length, filter, cond, count_by, nat_lt, refl, sym, ap, ap₂, ◌∙◌, subst, arith, length-append, slice_set, if◌then◌else◌, AllByRecursion, lt-ltb, le-ltb, append_assoc, length-set, Queueing, is_on, All_map, All_both, All_filter, most_cpus}
-use Rattle.cmwq_pwq.specs.Pwqs.{PwqState, place_of, count_at, count_of_same_pwq, is_waiting, is_other_waiting, pwqs_without_open, pwqs_with_open, AreBelowMaxActive, Passes, IsPassed, IsBehind, AreBehind, IsFirstTaken}
+use Rattle.cmwq_pwq.specs.Common.{append-nil, ◌≡◌, ℕ, ◌+◌, ◌-◌, ◌<◌, ◌≤◌, Bool, true, false, ◌&&◌, ◌==◌, List, [], ◌∷◌, ◌++◌, length, filter, cond, count_by, nat_lt, refl, sym, ap, ap₂, ◌∙◌, subst, arith, length-append, slice_set, if◌then◌else◌, AllByRecursion, list_any, has_number, is_of, lt-ltb, le-ltb, append_assoc, length-set, Queueing, is_on, All_map, All_both, All_filter, most_cpus}
+use Rattle.cmwq_pwq.specs.Pwqs.{PwqState, place_of, count_at, count_of_same_pwq, is_waiting, is_other_waiting, pwqs_without_open, pwqs_with_open, AreBelowMaxActive, NoneWaitsAnew, Passes, IsPassed, IsBehind, AreBehind}
+use Rattle.std.specs.Prelude.{◌||◌}
+use Rattle.std.proofs.lemmas.Bool.{or_from, or_parts}
+use Rattle.std.proofs.lemmas.List.Folds.{list_any-append}
+use Rattle.cmwq_pwq.specs.Waiting.{IsFirstTaken, WaitingState}
+use Rattle.cmwq_pwq.proofs.Kept.{rest_of_none}
 use Rattle.cmwq_pwq.proofs.Passes.{count_set, on_parts, on_itself, passes_kept, passes_activated, way_now}
 
 -- ---- the pass over a list of which nothing is below max_active
@@ -166,26 +171,26 @@ module _ (wide : ℕ → ℕ) (l : PwqState) (x : Queueing) (cpu : x.place.cpu.0
     as_active : (new : PwqState) → IsPassed wide (record l { counts = one_less l.counts x }) new → IsPassed wide (pwqs_without_open l x) new
     as_active new p = subst (λ b. IsPassed wide (if b then record l { waiting = filter (is_other_waiting x.number) l.waiting } else record l { counts = one_less l.counts x }) new) (sym active) p
 
-    pub ended_makes_way : (rest : List Queueing) (y : Queueing) → count_of_same_pwq l.counts x ≤ wide x.place.queue.0 → IsFirstTaken x.place.queue.0 x.place.cpu.0 l.waiting rest y → IsPassed wide (pwqs_without_open l x) (record { room = l.room; counts = l.counts; waiting = rest; activated = y ∷ [] })
-    ended_makes_way rest y full first = as_active (record { room = l.room; counts = l.counts; waiting = rest; activated = y ∷ [] }) (record {
+    pub ended_makes_way : (rest : List Queueing) (y : Queueing) → count_of_same_pwq l.counts x ≤ wide x.place.queue.0 → IsFirstTaken x.place.queue.0 x.place.cpu.0 l.waiting rest y → IsPassed wide (pwqs_without_open l x) (record { items = l.items; counts = l.counts; waiting = rest; activated = y ∷ [] })
+    ended_makes_way rest y full first = as_active (record { items = l.items; counts = l.counts; waiting = rest; activated = y ∷ [] }) (record {
       passes = λ way have. first_takes wide l.counts x cpu at some way l.waiting have behind rest y full first;
       many = sym (less_many wide l.counts x cpu at some);
-      room = refl;
+      items = refl;
       sorted = ap (λ ys. length ys + 1) first.left ∙ (length_split first.before y first.after ∙ ap (λ ys. length ys) (sym first.stood));
     })
 
-    ended_passed : ((way : Queueing → Bool) → AreBelowMaxActive way wide (one_less l.counts x) l.waiting → Passes way l.waiting (one_less l.counts x) (one_less l.counts x) l.waiting []) → IsPassed wide (pwqs_without_open l x) (record { room = l.room; counts = one_less l.counts x; waiting = l.waiting; activated = [] })
-    ended_passed passes = as_active (record { room = l.room; counts = one_less l.counts x; waiting = l.waiting; activated = [] }) (record {
+    ended_passed : ((way : Queueing → Bool) → AreBelowMaxActive way wide (one_less l.counts x) l.waiting → Passes way l.waiting (one_less l.counts x) (one_less l.counts x) l.waiting []) → IsPassed wide (pwqs_without_open l x) (record { items = l.items; counts = one_less l.counts x; waiting = l.waiting; activated = [] })
+    ended_passed passes = as_active (record { items = l.items; counts = one_less l.counts x; waiting = l.waiting; activated = [] }) (record {
       passes = passes;
       many = refl;
-      room = refl;
+      items = refl;
       sorted = (let zero : length {A = Queueing} [] ≡ 0 = refl in omega arith);
     })
 
-    pub ended_over_width : wide x.place.queue.0 < count_of_same_pwq l.counts x → IsPassed wide (pwqs_without_open l x) (record { room = l.room; counts = one_less l.counts x; waiting = l.waiting; activated = [] })
+    pub ended_over_width : wide x.place.queue.0 < count_of_same_pwq l.counts x → IsPassed wide (pwqs_without_open l x) (record { items = l.items; counts = one_less l.counts x; waiting = l.waiting; activated = [] })
     ended_over_width more = ended_passed (λ way have. none_takes wide l.counts x cpu at some way l.waiting have behind more)
 
-    pub ended_alone : AllByRecursion (λ y. is_on x.place.queue.0 x.place.cpu.0 y ≡ false) l.waiting → IsPassed wide (pwqs_without_open l x) (record { room = l.room; counts = one_less l.counts x; waiting = l.waiting; activated = [] })
+    pub ended_alone : AllByRecursion (λ y. is_on x.place.queue.0 x.place.cpu.0 y ≡ false) l.waiting → IsPassed wide (pwqs_without_open l x) (record { items = l.items; counts = one_less l.counts x; waiting = l.waiting; activated = [] })
     ended_alone none = ended_passed (λ way have. none_there wide l.counts x cpu at some way l.waiting have behind none)
 
   -- ---- one is opened
@@ -200,39 +205,73 @@ module _ (wide : ℕ → ℕ) (l : PwqState) (x : Queueing) (cpu : x.place.cpu.0
     way_last : (way : Queueing → Bool) → AreBelowMaxActive way wide before.counts (before.waiting ++ x ∷ []) → way x ≡ nat_lt (count_of_same_pwq l.counts x) (wide x.place.queue.0)
     way_last way have = way_now way before.counts before.waiting x wide (before.waiting ++ x ∷ []) [] l.counts l.waiting l.activated have refl (passed.passes way (shorter way have)) cpu there
 
-    pub opened_active : count_of_same_pwq l.counts x < wide x.place.queue.0 → IsPassed wide (pwqs_with_open before x) (record { room = l.room; counts = slice_set l.counts (place_of x.place.queue.0 x.place.cpu.0) (count_of_same_pwq l.counts x + 1); waiting = l.waiting; activated = l.activated ++ x ∷ [] })
+    pub opened_active : count_of_same_pwq l.counts x < wide x.place.queue.0 → IsPassed wide (pwqs_with_open before x) (record { items = l.items; counts = slice_set l.counts (place_of x.place.queue.0 x.place.cpu.0) (count_of_same_pwq l.counts x + 1); waiting = l.waiting; activated = l.activated ++ x ∷ [] })
     opened_active free = record {
       passes = λ way have. passes_activated way before.counts before.waiting x l.counts l.waiting l.activated (passed.passes way (shorter way have)) (way_last way have ∙ lt-ltb (count_of_same_pwq l.counts x) (wide x.place.queue.0) free) cpu there;
       many = length-set l.counts (place_of x.place.queue.0 x.place.cpu.0) (count_of_same_pwq l.counts x + 1) ∙ passed.many;
-      room = passed.room;
+      items = passed.items;
       sorted = let a = length-append l.activated (x ∷ []) in let b = length-append before.waiting (x ∷ []) in let c = passed.sorted in omega arith;
     }
 
-    pub opened_waits : wide x.place.queue.0 ≤ count_of_same_pwq l.counts x → IsPassed wide (pwqs_with_open before x) (record { room = l.room; counts = l.counts; waiting = l.waiting ++ x ∷ []; activated = l.activated })
+    pub opened_waits : wide x.place.queue.0 ≤ count_of_same_pwq l.counts x → IsPassed wide (pwqs_with_open before x) (record { items = l.items; counts = l.counts; waiting = l.waiting ++ x ∷ []; activated = l.activated })
     opened_waits full = record {
       passes = λ way have. passes_kept way before.counts before.waiting x l.counts l.waiting l.activated (passed.passes way (shorter way have)) (way_last way have ∙ le-ltb (count_of_same_pwq l.counts x) (wide x.place.queue.0) full);
       many = passed.many;
-      room = passed.room;
+      items = passed.items;
       sorted = let a = length-append l.waiting (x ∷ []) in let b = length-append before.waiting (x ∷ []) in let c = passed.sorted in omega arith;
     }
 
 -- none ends, or one that waited
-pub nothing_ended : (wide : ℕ → ℕ) (l : PwqState) → AreBehind wide l.counts l.waiting → IsPassed wide l (record { room = l.room; counts = l.counts; waiting = l.waiting; activated = [] })
+pub nothing_ended : (wide : ℕ → ℕ) (l : PwqState) → AreBehind wide l.counts l.waiting → IsPassed wide l (record { items = l.items; counts = l.counts; waiting = l.waiting; activated = [] })
 nothing_ended wide l behind = record {
   passes = λ way have. all_behind way wide l.counts l.waiting have behind;
   many = refl;
-  room = refl;
+  items = refl;
   sorted = (let zero : length {A = Queueing} [] ≡ 0 = refl in omega arith);
 }
 
-pub waiting_ended : (wide : ℕ → ℕ) (l : PwqState) (x : Queueing) → is_waiting l x ≡ true → AreBehind wide l.counts l.waiting → IsPassed wide (pwqs_without_open l x) (record { room = l.room; counts = l.counts; waiting = filter (is_other_waiting x.number) l.waiting; activated = [] })
+pub waiting_ended : (wide : ℕ → ℕ) (l : PwqState) (x : Queueing) → is_waiting l x ≡ true → AreBehind wide l.counts l.waiting → IsPassed wide (pwqs_without_open l x) (record { items = l.items; counts = l.counts; waiting = filter (is_other_waiting x.number) l.waiting; activated = [] })
 waiting_ended wide l x waits behind =
-    subst (λ b. IsPassed wide (if b then record l { waiting = filter (is_other_waiting x.number) l.waiting } else record l { counts = one_less l.counts x }) (record { room = l.room; counts = l.counts; waiting = filter (is_other_waiting x.number) l.waiting; activated = [] })) (sym waits) (nothing_ended wide (record l { waiting = filter (is_other_waiting x.number) l.waiting }) (All_filter (IsBehind wide l.counts) (is_other_waiting x.number) l.waiting (All_map _ _ l.waiting (λ y is passes. is) behind)))
+    subst (λ b. IsPassed wide (if b then record l { waiting = filter (is_other_waiting x.number) l.waiting } else record l { counts = one_less l.counts x }) (record { items = l.items; counts = l.counts; waiting = filter (is_other_waiting x.number) l.waiting; activated = [] })) (sym waits) (nothing_ended wide (record l { waiting = filter (is_other_waiting x.number) l.waiting }) (All_filter (IsBehind wide l.counts) (is_other_waiting x.number) l.waiting (All_map _ _ l.waiting (λ y is passes. is) behind)))
 
 -- what the last pass made active doesn't matter
 pub ended_as : (wide : ℕ → ℕ) (l : PwqState) (x : Queueing) (taken : List Queueing) (new : PwqState) → IsPassed wide (pwqs_without_open (record l { activated = taken }) x) new → IsPassed wide (pwqs_without_open l x) new
 ended_as wide l x taken new p = by (is_waiting l x) p
   where
     by : (b : Bool) → IsPassed wide (if b then record l { waiting = filter (is_other_waiting x.number) l.waiting; activated = taken } else record l { counts = one_less l.counts x; activated = taken }) new → IsPassed wide (if b then record l { waiting = filter (is_other_waiting x.number) l.waiting } else record l { counts = one_less l.counts x }) new
-    by true p = record { passes = p.passes; many = p.many; room = p.room; sorted = p.sorted }
-    by false p = record { passes = p.passes; many = p.many; room = p.room; sorted = p.sorted }
+    by true p = record { passes = p.passes; many = p.many; items = p.items; sorted = p.sorted }
+    by false p = record { passes = p.passes; many = p.many; items = p.items; sorted = p.sorted }
+
+-- one that waits no more, where it was active
+pub active_ended : (l : PwqState) (x : Queueing) → is_waiting l x ≡ false → record { items = l.items; counts = one_less l.counts x; waiting = filter (is_other_waiting x.number) l.waiting; activated = l.activated } ≡ pwqs_without_open l x
+active_ended l x fails =
+    ap (λ ys. record l { counts = one_less l.counts x; waiting = ys }) (sym (rest_of_none x.number l.waiting fails))
+    ∙ ap (λ b. if b then record l { waiting = filter (is_other_waiting x.number) l.waiting } else record l { counts = one_less l.counts x }) (sym fails)
+
+-- where it waits no more and was active, nothing else that waits is taken out
+pub active_same : (items places : ℕ) (xs : List Queueing) (n : ℕ) (w : WaitingState) → list_any (has_number n) xs ≡ false → w ≡ record { items = items; places = places; queueings = filter (is_other_waiting n) xs } → w ≡ record { items = items; places = places; queueings = xs }
+active_same items places xs n w fails is = is ∙ ap (λ ys. record { items = items; places = places; queueings = ys }) (sym (rest_of_none n xs fails))
+
+-- ---- no item has one that waits only afterwards
+
+pub none_of_rest : (q c : ℕ) (old new : List Queueing) (x : Queueing) → IsFirstTaken q c old new x → NoneWaitsAnew old new
+none_of_rest q c old new x first i none =
+    let split : (list_any (is_of i) first.before || (is_of i x || list_any (is_of i) first.after)) ≡ false = sym (list_any-append (is_of i) first.before (x ∷ first.after)) ∙ (ap (list_any (is_of i)) (sym first.stood) ∙ none) in
+    let parts = or_parts (list_any (is_of i) first.before) (is_of i x || list_any (is_of i) first.after) split in
+    let later = or_parts (is_of i x) (list_any (is_of i) first.after) parts.1 in
+    ap (list_any (is_of i)) first.left ∙ (list_any-append (is_of i) first.before first.after ∙ or_from (list_any (is_of i) first.before) (list_any (is_of i) first.after) parts.0 later.1)
+
+-- where one ends that is active, what waits is what waited
+pub active_waiting : (l : PwqState) (x : Queueing) → is_waiting l x ≡ false → (pwqs_without_open l x).waiting ≡ l.waiting
+active_waiting l x fails = ap (λ b. (if b then record l { waiting = filter (is_other_waiting x.number) l.waiting } else record l { counts = one_less l.counts x }).waiting) fails
+
+pub rest_waiting : (l : PwqState) (x : Queueing) → is_waiting l x ≡ true → (pwqs_without_open l x).waiting ≡ filter (is_other_waiting x.number) l.waiting
+rest_waiting l x waits = ap (λ b. (if b then record l { waiting = filter (is_other_waiting x.number) l.waiting } else record l { counts = one_less l.counts x }).waiting) waits
+
+pub ended_waiting_as : (l : PwqState) (x : Queueing) (taken : List Queueing) → (pwqs_without_open l x).waiting ≡ (pwqs_without_open (record l { activated = taken }) x).waiting
+ended_waiting_as l x taken = by (is_waiting l x)
+  where
+    by : (b : Bool) → (if b then record l { waiting = filter (is_other_waiting x.number) l.waiting } else record l { counts = one_less l.counts x }).waiting
+        ≡ (if b then record l { waiting = filter (is_other_waiting x.number) l.waiting; activated = taken } else record l { counts = one_less l.counts x; activated = taken }).waiting
+    by true = refl
+    by false = refl

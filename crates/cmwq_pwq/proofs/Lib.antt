@@ -1,3 +1,3 @@
 pub mod Passes
 pub mod Behind
-pub mod First
+pub mod Kept

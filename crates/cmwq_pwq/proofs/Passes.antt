@@ -1,6 +1,9 @@
 -- One step of the pass over what waits.
-use Rattle.cmwq_pwq.specs.Common.{append-nil, ◌≡◌, ◌≢◌, ℕ, ◌+◌, ◌*◌, ◌<◌, ◌≤◌, Bool, true, false, not, ◌&&◌, ◌==◌, List, [], ◌∷◌, ◌++◌, length, filter, take, drop, cond, get_or, count_by, nat_lt, refl, sym, ap, ap₂, ◌∙◌, subst, arith, slice_set, eqb-true, eq-eqb, lt-ltb, le-ltb, and_parts, get_or-set_other, take_more, drop_more, take-append-drop, take_all, get_or_default, length-set, filter-append, Queueing, is_on, count_by-cons, most_cpus}
+use Rattle.cmwq_pwq.specs.Common.{zero, suc, Some, append-nil, ◌≡◌, ◌≢◌, ℕ, ◌+◌, ◌*◌, ◌<◌, ◌≤◌, Bool, true, false, not, ◌&&◌, ◌==◌, List, [], ◌∷◌, ◌++◌, length, filter, take, drop, cond, get_or, count_by, nat_lt, refl, sym, ap, ap₂, ◌∙◌, subst, arith, slice_set, eqb-true, eq-eqb, lt-ltb, le-ltb, and_parts, get_or-set_other, take_more, drop_more, take-append-drop, take_all, get_or_default, length-set, filter-append, Queueing, is_on, count_by-cons, most_cpus}
+use Rattle.std.specs.Prelude.{slice_get}
 use Rattle.std.proofs.lemmas.Grind.{get_or-set_at}
+use Rattle.std.proofs.lemmas.List.{append_assoc, length-append, length-take}
+use Rattle.std.proofs.lemmas.Option.{get_or_from_slice_get, slice_get_within}
 use Rattle.cmwq_pwq.specs.Pwqs.{place_of, count_at, count_of_same_pwq, AreBelowMaxActive, Passes}
 use Rattle.cmwq_lemmas.proofs.Lists.{count_append}
 
@@ -102,3 +105,39 @@ read_count counts x at n place inside read = read ∙ (get_or_default counts at 
 
 pub place_inside : (q c queues n : ℕ) → q < queues → c < most_cpus → n ≡ most_cpus * queues → place_of q c < n
 place_inside q c queues n h k many = omega arith
+
+-- ---- where the pass stands: what was passed by and still waits is before what wasn't reached yet
+
+get_behind : {X : Type 0} (rest zs : List X) (n k : ℕ) → n ≡ length rest + k → slice_get (rest ++ zs) n ≡ slice_get zs k
+get_behind [] zs n k e = let same : n ≡ k = omega arith in ap (slice_get zs) same
+get_behind (x ∷ rest) zs zero k e = absurd (omega arith)
+get_behind (x ∷ rest) zs (suc n) k e = get_behind rest zs n k (omega arith)
+
+cut_out : {X : Type 0} (rest : List X) (x : X) (zs : List X) (n : ℕ) → n ≡ length rest + 1 → take (length rest) (rest ++ x ∷ zs) ++ drop n (rest ++ x ∷ zs) ≡ rest ++ zs
+cut_out [] x zs n e = let one : n ≡ 1 = omega arith in ap (λ k. drop k (x ∷ zs)) one
+cut_out (y ∷ rest) x zs zero e = absurd (omega arith)
+cut_out (y ∷ rest) x zs (suc n) e = ap (λ ys. y ∷ ys) (cut_out rest x zs n (omega arith))
+
+module _ (xs ys rest : List Queueing) (i : ℕ) (x : Queueing) (stands : ys ≡ rest ++ drop i xs) (at : slice_get xs i ≡ Some x) where
+  pub reached : ys ≡ rest ++ x ∷ drop (i + 1) xs
+  reached = stands ∙ ap (λ zs. rest ++ zs) (drop_more xs i x (slice_get_within xs i x at) ∙ ap (λ y. y ∷ drop (i + 1) xs) (get_or_from_slice_get xs i x x at))
+
+  pub next_behind : slice_get ys (length rest) ≡ Some x
+  next_behind = ap (λ zs. slice_get zs (length rest)) reached ∙ get_behind rest (x ∷ drop (i + 1) xs) (length rest) 0 (omega arith)
+
+  pub passed_by : ys ≡ (rest ++ x ∷ []) ++ drop (i + 1) xs
+  passed_by = reached ∙ sym (append_assoc rest (x ∷ []) (drop (i + 1) xs))
+
+  -- what stands behind it is what comes next
+  pub next_after : slice_get ys (length rest + 1) ≡ slice_get xs (i + 1)
+  next_after =
+      let whole : xs ≡ (take i xs ++ x ∷ []) ++ drop (i + 1) xs = sym (take-append-drop i xs) ∙ (ap (λ zs. take i xs ++ zs) (drop_more xs i x (slice_get_within xs i x at) ∙ ap (λ y. y ∷ drop (i + 1) xs) (get_or_from_slice_get xs i x x at)) ∙ sym (append_assoc (take i xs) (x ∷ []) (drop (i + 1) xs))) in
+      let many : length (rest ++ x ∷ []) ≡ length rest + 1 = length-append rest (x ∷ []) in
+      let same : length (take i xs ++ x ∷ []) ≡ i + 1 = (let taken = length-append (take i xs) (x ∷ []) in let min = length-take i xs in let less = slice_get_within xs i x at in omega arith) in
+      ap (λ zs. slice_get zs (length rest + 1)) passed_by ∙ get_behind (rest ++ x ∷ []) (drop (i + 1) xs) (length rest + 1) 0 (omega arith)
+      ∙ sym (ap (λ zs. slice_get zs (i + 1)) whole ∙ get_behind (take i xs ++ x ∷ []) (drop (i + 1) xs) (i + 1) 0 (omega arith))
+
+  pub taken_out : (new : List Queueing) → ((k : ℕ) (y : Queueing) → slice_get ys k ≡ Some y → y.item.0 ≡ x.item.0 → new ≡ take k ys ++ drop (k + 1) ys) → new ≡ rest ++ drop (i + 1) xs
+  taken_out new out =
+      out (length rest) x next_behind refl
+      ∙ (ap (λ zs. take (length rest) zs ++ drop (length rest + 1) zs) reached ∙ cut_out rest x (drop (i + 1) xs) (length rest + 1) refl)

@@ -1,11 +1,11 @@
 -- What waits to become active, and how many are active of each queue on each CPU.
 use Rattle.std.specs.Prelude.{◌≡◌, ◌+◌, ◌*◌, ◌-◌, ◌<◌, ◌≤◌, ◌&&◌, ◌==◌, if◌then◌else◌, ◌∷◌, ◌++◌}
-use Rattle.cmwq_pwq.specs.Common.{ℕ, Bool, true, false, Option, Some, None, not, List, [], length, filter, count_by, replicate, nat_lt, slice_index, slice_set, slice_index_or, All, AllByRecursion, list_any, Queueing, no_queue, has_number, is_on, most_cpus}
+use Rattle.cmwq_pwq.specs.Common.{ℕ, Bool, false, Option, Some, None, not, List, [], length, filter, count_by, replicate, nat_lt, slice_index, slice_set, slice_index_or, All, AllByRecursion, list_any, Queueing, is_of, no_queue, has_number, is_on, most_cpus}
 use Rattle.cmwq_model.specs.declared.shape.QueueShape.{QueueShape}
 
--- what waits, and what the last pass made active, both in their order; room is how many may wait
+-- what waits, and what the last pass made active, both in their order; the items' numbers are below items
 pub record PwqState : Type 0 where
-  pub room : ℕ
+  pub items : ℕ
   pub counts : List ℕ
   pub waiting : List Queueing
   pub activated : List Queueing
@@ -21,7 +21,7 @@ abbrev pub count_of_same_pwq : List ℕ → Queueing → ℕ
 count_of_same_pwq counts x = count_at counts x.place.queue.0 x.place.cpu.0
 
 abbrev pub new_pwq_state : ℕ → ℕ → PwqState
-new_pwq_state queues room = record { room = room; counts = replicate (most_cpus * queues) 0; waiting = []; activated = [] }
+new_pwq_state queues items = record { items = items; counts = replicate (most_cpus * queues) 0; waiting = []; activated = [] }
 
 -- a queueing that is opened waits
 abbrev pub pwqs_with_open : PwqState → Queueing → PwqState
@@ -48,14 +48,35 @@ abbrev pub pwqs_after_opening : Option Queueing → PwqState → PwqState
 pwqs_after_opening None l = l
 pwqs_after_opening (Some x) l = pwqs_with_open l x
 
--- each call may be made
+-- what waits with the number of the queueing is of the same item
+abbrev pub IsNumberOfItem : Queueing → List Queueing → Type 0
+IsNumberOfItem x xs = AllByRecursion (λ y. y.number ≡ x.number → y.item.0 ≡ x.item.0) xs
+
+-- each call may be made: what ends is of an item that there is, and is counted if it doesn't wait
+pub record MayEnd (x : Queueing) (l : PwqState) : Type 0 where
+  pub item : x.item.0 < l.items
+  pub number : IsNumberOfItem x l.waiting
+  pub place : place_of x.place.queue.0 x.place.cpu.0 < length l.counts
+  pub counted : is_waiting l x ≡ false → 0 < count_of_same_pwq l.counts x
+
 abbrev pub MayEndInPwqs : Option Queueing → PwqState → Type 0
 MayEndInPwqs None l = Unit {0}
-MayEndInPwqs (Some x) l = (place_of x.place.queue.0 x.place.cpu.0 < length l.counts) × (is_waiting l x ≡ false → 0 < count_of_same_pwq l.counts x)
+MayEndInPwqs (Some x) l = MayEnd x l
+
+-- what is opened is of an item that there is, of which nothing waits, at a place that is counted
+pub record MayOpen (x : Queueing) (l : PwqState) : Type 0 where
+  pub item : x.item.0 < l.items
+  pub cpu : x.place.cpu.0 < most_cpus
+  pub place : place_of x.place.queue.0 x.place.cpu.0 < length l.counts
+  pub free : list_any (is_of x.item.0) l.waiting ≡ false
 
 abbrev pub MayOpenInPwqs : Option Queueing → PwqState → Type 0
 MayOpenInPwqs None l = Unit {0}
-MayOpenInPwqs (Some x) l = length l.waiting < l.room
+MayOpenInPwqs (Some x) l = MayOpen x l
+
+-- an item of which none waited has none that waits now
+abbrev pub NoneWaitsAnew : List Queueing → List Queueing → Type 0
+NoneWaitsAnew old new = (i : ℕ) → list_any (is_of i) old ≡ false → list_any (is_of i) new ≡ false
 
 -- how wide queue q is, by max_active of each queue and whether the freezable ones are frozen
 abbrev pub width_by : List QueueShape → List ℕ → Bool → ℕ → ℕ
@@ -78,7 +99,7 @@ pub record Passes (way : Queueing → Bool) (xs : List Queueing) (old new : List
 pub record IsPassed (wide : ℕ → ℕ) (old new : PwqState) : Type 0 where
   pub passes : (way : Queueing → Bool) → AreBelowMaxActive way wide old.counts old.waiting → Passes way old.waiting old.counts new.counts new.waiting new.activated
   pub many : length new.counts ≡ length old.counts
-  pub room : new.room ≡ old.room
+  pub items : new.items ≡ old.items
   pub sorted : length new.waiting + length new.activated ≡ length old.waiting
 
 -- the width or more are active beside the queueing, at a place that is counted
@@ -101,19 +122,7 @@ abbrev pub IsPlacedIf : ℕ → Option Queueing → Type 0
 IsPlacedIf queues None = Unit {0}
 IsPlacedIf queues (Some x) = IsPlaced queues x
 
--- the first of a list that is of queue q on CPU c is taken out
-pub record IsFirstTaken (q c : ℕ) (old new : List Queueing) (x : Queueing) : Type 0 where
-  pub before : List Queueing
-  pub after : List Queueing
-  pub stood : old ≡ before ++ x ∷ after
-  pub left : new ≡ before ++ after
-  pub is_there : is_on q c x ≡ true
-  pub none_before : AllByRecursion (λ y. is_on q c y ≡ false) before
-
--- there is room in each list, and no more wait than may
-pub record IsPwqState (room waiting_room spare_room activated_room : ℕ) (waiting spare : List Queueing) : Type 0 where
-  pub waits : room ≤ waiting_room
-  pub spares : room ≤ spare_room
-  pub activates : room ≤ activated_room
-  pub few : length waiting ≤ room
-  pub none_spare : spare ≡ []
+-- there is a list for each pwq, and room for all that may become active at once
+pub record IsPwqState (items lists : ℕ) (counts : List ℕ) (activated_room : ℕ) : Type 0 where
+  pub places : lists ≡ length counts
+  pub activates : items < activated_room

@@ -1,10 +1,11 @@
 //! The pass over what waits, which finds what becomes active.
 
-ghost use Rattle.std.specs.Prelude.{◌≡◌, ℕ, Bool, ◌*◌, ◌+◌, ◌<◌, ◌≤◌, [], length, vec_len, vec_capacity};
+ghost use Rattle.std.specs.Prelude.{◌≡◌, ℕ, Bool, ◌*◌, ◌+◌, ◌<◌, [], length, vec_len, vec_capacity};
 ghost use Rattle.cmwq_model.specs.declared.record.Queueing.{Queueing};
 ghost use Rattle.cmwq_model.specs.Prelude.{most_cpus};
 ghost use Rattle.cmwq_pwq.specs.Pwqs.{ArePlaced, AreBelowMaxActive, Passes, place_of, width_by};
 
+use crate::waiting::Waiting;
 use cmwq_model::{MOST_CPUS, Place, QueueId, QueueShape, Queueing};
 
 /// Where the active queueings of a queue on a CPU are counted.
@@ -28,38 +29,36 @@ pub fn width_by(queues: &[QueueShape], most: &[u32], frozen: bool, queue: QueueI
     }
 }
 
-/// One pass over what waits: what is below max_active is counted and activated, the rest is kept.
+/// One pass over what waits, by number: what is below max_active is counted and activated, the rest goes on waiting.
 pub(crate) fn pass(
     queues: &[QueueShape],
     most: &[u32],
     frozen: bool,
-    waiting: &[Queueing],
+    waiting: &mut Waiting,
     counts: &mut Vec<u32>,
-    kept: &mut Vec<Queueing>,
     activated: &mut Vec<Queueing>,
 )
     requires most { length most.now ≡ length queues.now }
     requires counts { vec_len counts.old ≡ most_cpus * length queues.now }
-    requires placed { ArePlaced (length queues.now) waiting.now }
-    requires kept_none { kept.old.items ≡ [] }
-    requires kept_room { length waiting.now ≤ vec_capacity kept.old }
+    requires placed { ArePlaced (length queues.now) waiting.old.queueings }
     requires activated_none { activated.old.items ≡ [] }
-    requires activated_room { length waiting.now ≤ vec_capacity activated.old }
-    ensures passes { (way : Queueing → Bool) → AreBelowMaxActive way (width_by queues.now most.now frozen) counts.old.items waiting.now
-        → Passes way waiting.now counts.old.items counts.new.items kept.new.items activated.new.items }
+    requires activated_room { waiting.old.items < vec_capacity activated.old }
+    ensures passes { (way : Queueing → Bool) → AreBelowMaxActive way (width_by queues.now most.now frozen) counts.old.items waiting.old.queueings
+        → Passes way waiting.old.queueings counts.old.items counts.new.items waiting.new.queueings activated.new.items }
     ensures many { vec_len counts.new ≡ vec_len counts.old }
-    ensures sorted { vec_len kept.new + vec_len activated.new ≡ length waiting.now }
-    ensures kept_capacity { vec_capacity kept.new ≡ vec_capacity kept.old }
+    ensures sorted { length waiting.new.queueings + vec_len activated.new ≡ length waiting.old.queueings }
+    ensures others { waiting.new ≡ record waiting.old { queueings = waiting.new.queueings } }
     ensures activated_capacity { vec_capacity activated.new ≡ vec_capacity activated.old }
 {
-    for queueing in waiting {
-        let queueing = *queueing;
+    let mut next = waiting.first();
+    for index in 0..waiting.len() {
+        let Some(queueing) = next else { return };
+        next = waiting.next(queueing);
         let place = place_of(queueing.place);
         if counts[place] < width_by(queues, most, frozen, queueing.place.queue) {
             counts[place] += 1;
+            waiting.unlink(queueing.item);
             activated.push_reserved(queueing);
-        } else {
-            kept.push_reserved(queueing);
         }
     }
 }

@@ -1,22 +1,19 @@
 ghost use Rattle.std.specs.Prelude.{◌≡◌, ℕ, Bool, ◌+◌, ◌*◌, ◌<◌, ◌≤◌, true, false, [], length, IfOk, IfSome};
 ghost use Rattle.cmwq_model.specs.Prelude.{most_cpus};
-ghost use Rattle.cmwq_pwq.specs.Pwqs.{AreBehind, ArePlaced, IsPassed, IsPlacedIf, PwqState, MayEndInPwqs, MayOpenInPwqs, count_of_same_pwq, pwqs_without_open, is_waiting, new_pwq_state, pwqs_with_open, place_of, pwqs_after_end, pwqs_after_opening, width_by};
+ghost use Rattle.cmwq_pwq.specs.Pwqs.{AreBehind, ArePlaced, IsPassed, IsPlacedIf, PwqState, MayEnd, MayEndInPwqs, MayOpen, MayOpenInPwqs, NoneWaitsAnew, count_of_same_pwq, pwqs_without_open, is_waiting, new_pwq_state, pwqs_with_open, place_of, pwqs_after_end, pwqs_after_opening, width_by};
 
 use crate::pass::{pass, place_of, width_by};
-use crate::waiting::{has_number, take_first, take_number};
+use crate::waiting::Waiting;
 use cmwq_model::{MOST_CPUS, NoMemory, QueueShape, Queueing};
 use std::alloc::Global;
 use std::marker::Model;
-use std::mem::swap;
 
 /// What waits to become active, and how many queueings are active of each queue on each CPU (the kernel's
 /// `inactive_works` and `nr_active`). Only `new` takes memory.
 #[derive(Debug, Drop)]
 pub struct Pwqs {
-    room: u32,
     counts: Vec<u32>,
-    waiting: Vec<Queueing>,
-    spare: Vec<Queueing>,
+    waiting: Waiting,
     activated: Vec<Queueing>,
 }
 
@@ -26,49 +23,39 @@ impl Model for Pwqs {
 
     ghost Value = { PwqState };
 
-    ghost view = { λ l. record { room = l.room; counts = l.counts.items; waiting = l.waiting.items; activated = l.activated.items } };
+    ghost view = { λ l. record { items = l.waiting.items; counts = l.counts.items; waiting = l.waiting.queueings; activated = l.activated.items } };
 
-    ghost invariant = { λ l. IsPwqState l.room (vec_capacity l.waiting) (vec_capacity l.spare) (vec_capacity l.activated) l.waiting.items l.spare.items };
+    ghost invariant = { λ l. IsPwqState l.waiting.items l.waiting.places l.counts.items (vec_capacity l.activated) };
 }
 
 impl Pwqs {
-    /// Nothing waits and nothing is active of so many queues, and there is room for so many that wait. The error says
-    /// that memory ran out.
-    pub fn new(alloc: Global, queues: usize, room: u32) -> Result<Pwqs, NoMemory>
+    /// Nothing waits and nothing is active of so many queues and items. The error says that memory ran out.
+    pub fn new(alloc: Global, queues: usize, items: u16) -> Result<Pwqs, NoMemory>
         requires { queues ≤ 256 }
-        ensures { IfOk result (λ pwqs. pwqs ≡ new_pwq_state queues room) }
+        ensures { IfOk result (λ pwqs. pwqs ≡ new_pwq_state queues items) }
     {
-        let many = room as usize;
-        let counts = vec![in alloc; 0; usize::from(MOST_CPUS) * queues]?;
-        let waiting = Vec::with_capacity(alloc, many)?;
-        let spare = Vec::with_capacity(alloc, many)?;
-        let activated = Vec::with_capacity(alloc, many)?;
+        let places = usize::from(MOST_CPUS) * queues;
         Ok(Pwqs {
-            room,
-            counts,
-            waiting,
-            spare,
-            activated,
+            counts: vec![in alloc; 0; places]?,
+            waiting: Waiting::new(alloc, places as u32, items)?,
+            activated: Vec::with_capacity(alloc, usize::from(items) + 1)?,
         })
     }
 
     /// A queueing is opened, and waits behind the others.
     pub fn open(&mut self, queueing: Queueing)
-        requires { length self.old.waiting < self.old.room }
+        requires { MayOpen queueing self.old }
         ensures { self.new ≡ pwqs_with_open self.old queueing }
     {
-        self.waiting.push_reserved(queueing);
+        self.waiting.push_back(queueing);
     }
 
     /// A queueing ends: it waits no more, or else is active no more.
     pub fn end(&mut self, queueing: Queueing)
-        requires place { place_of queueing.place.queue.0 queueing.place.cpu.0 < length self.old.counts }
-        requires counted { is_waiting self.old queueing ≡ false → 0 < count_of_same_pwq self.old.counts queueing }
+        requires { MayEnd queueing self.old }
         ensures { self.new ≡ pwqs_without_open self.old queueing }
     {
-        if has_number(&self.waiting, queueing.number) {
-            take_number(&mut self.waiting, queueing.number);
-        } else {
+        if !self.waiting.take(queueing) {
             self.counts[place_of(queueing.place)] -= 1;
         }
     }
@@ -80,11 +67,13 @@ impl Pwqs {
         requires active { is_waiting self.old queueing ≡ false }
         requires counted { 0 < count_of_same_pwq self.old.counts queueing }
         requires none { self.old.activated ≡ [] }
-        ensures { (wide : ℕ → ℕ) → wide queueing.place.queue.0 ≡ width → AreBehind wide self.old.counts self.old.waiting → IsPassed wide (pwqs_without_open self.old queueing) self.new }
+        ensures few { length self.new.activated ≤ 1 }
+        ensures none_anew { NoneWaitsAnew self.old.waiting self.new.waiting }
+        ensures passed { (wide : ℕ → ℕ) → wide queueing.place.queue.0 ≡ width → AreBehind wide self.old.counts self.old.waiting → IsPassed wide (pwqs_without_open self.old queueing) self.new }
     {
         let at = place_of(queueing.place);
         if self.counts[at] <= width {
-            match take_first(&mut self.waiting, queueing.place) {
+            match self.waiting.take_first(queueing.place) {
                 Some(next) => {
                     self.activated.push_reserved(next);
                     return;
@@ -98,24 +87,22 @@ impl Pwqs {
     /// A queueing ends, and makes room for the first that waits on its pool workqueue where it was active.
     fn end_one(&mut self, queueing: Queueing, has_run: bool, width: u32)
         requires cpu { queueing.place.cpu.0 < most_cpus }
-        requires place { place_of queueing.place.queue.0 queueing.place.cpu.0 < length self.old.counts }
-        requires counted { is_waiting self.old queueing ≡ false → 0 < count_of_same_pwq self.old.counts queueing }
+        requires may { MayEnd queueing self.old }
         requires ran { has_run ≡ true → is_waiting self.old queueing ≡ false }
         requires none { self.old.activated ≡ [] }
-        ensures { (wide : ℕ → ℕ) → wide queueing.place.queue.0 ≡ width → AreBehind wide self.old.counts self.old.waiting → IsPassed wide (pwqs_without_open self.old queueing) self.new }
+        ensures passed { (wide : ℕ → ℕ) → wide queueing.place.queue.0 ≡ width → AreBehind wide self.old.counts self.old.waiting → IsPassed wide (pwqs_without_open self.old queueing) self.new }
+        ensures few { length self.new.activated ≤ 1 }
+        ensures none_anew { NoneWaitsAnew (pwqs_without_open self.old queueing).waiting self.new.waiting }
     {
-        if !has_run && has_number(&self.waiting, queueing.number) {
-            take_number(&mut self.waiting, queueing.number);
-        } else {
+        if has_run || !self.waiting.take(queueing) {
             self.end_active(queueing, width);
         }
     }
 
     /// A queueing is opened, behind all that wait: it is active at once where fewer than the width are active on its pool workqueue.
     fn open_one(&mut self, queueing: Queueing, width: u32)
-        requires cpu { queueing.place.cpu.0 < most_cpus }
-        requires place { place_of queueing.place.queue.0 queueing.place.cpu.0 < length self.old.counts }
-        requires room { length self.old.waiting + length self.old.activated < self.old.room }
+        requires may { MayOpen queueing self.old }
+        requires few { length self.old.activated ≤ 1 }
         ensures { (wide : ℕ → ℕ) (before : PwqState) → wide queueing.place.queue.0 ≡ width → length before.counts ≡ length self.old.counts → IsPassed wide before self.old → IsPassed wide (pwqs_with_open before queueing) self.new }
     {
         let at = place_of(queueing.place);
@@ -123,7 +110,7 @@ impl Pwqs {
             self.counts[at] += 1;
             self.activated.push_reserved(queueing);
         } else {
-            self.waiting.push_reserved(queueing);
+            self.waiting.push_back(queueing);
         }
     }
 
@@ -141,7 +128,9 @@ impl Pwqs {
         requires placed { IsPlacedIf (length queues.now) ended }
         requires ran { has_run ≡ true → IfSome ended (λ x. is_waiting self.old x ≡ false) }
         requires behind { AreBehind (width_by queues.now most.now frozen) self.old.counts self.old.waiting }
-        ensures { IsPassed (width_by queues.now most.now frozen) (pwqs_after_end ended self.old) self.new }
+        ensures passed { IsPassed (width_by queues.now most.now frozen) (pwqs_after_end ended self.old) self.new }
+        ensures few { length self.new.activated ≤ 1 }
+        ensures none_anew { NoneWaitsAnew (pwqs_after_end ended self.old).waiting self.new.waiting }
     {
         self.activated.clear();
         match ended {
@@ -196,17 +185,14 @@ impl Pwqs {
             queues,
             most,
             frozen,
-            &self.waiting,
+            &mut self.waiting,
             &mut self.counts,
-            &mut self.spare,
             &mut self.activated,
         );
-        swap(&mut self.waiting, &mut self.spare);
-        self.spare.clear();
     }
 
     /// How many wait.
-    pub fn len(&self) -> usize
+    pub fn len(&self) -> u32
         ensures { result ≡ length self.now.waiting }
     {
         self.waiting.len()

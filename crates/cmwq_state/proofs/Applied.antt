@@ -288,7 +288,7 @@ pub passed_by : (s : Layout) (past : List Entry) (f : Effect) (l : PwqState) (qu
     → IsPassed (width_by queues most frozen) (pwqs_after_opening f.opened (pwqs_after_end f.ended l)) new → ArePassed s past f.entry (pwqs_after_opening f.opened (pwqs_after_end f.ended l)) new (width_by s.queues most frozen)
 passed_by s past f l queues most frozen new those are passed = record {
   passes = λ way have. passed.passes way (rw those have);
-  room = passed.room;
+  items = passed.items;
   widths = widths_are s (f.entry ∷ past) most frozen are;
 }
 

@@ -1,5 +1,5 @@
 -- The parts of a new book are those of no entries.
-use Rattle.cmwq_state.specs.Common.{◌≡◌, ℕ, Bool, ◌*◌, ◌≤◌, true, false, List, [], length, replicate, refl, sym, ◌∙◌, arith, None, subst, get_or-replicate, length-replicate, Layout, is_layout, most_room, now, IsLegal, owed, queueings, tickets, is_gone, PoolState, new_pool_state, FlushBook, new_book, BarrierBook, new_barriers, AreFlushes, pools_at_first, flushes_at_first, barriers_at_first, no_timers_at_first, active_count, TimerRows, no_tickets_at_first, Flight, no_flight, no_flights_at_first, PwqState, new_pwq_state, place_of, place_inside, most_cpus}
+use Rattle.cmwq_state.specs.Common.{◌≡◌, ℕ, Bool, ◌*◌, ◌≤◌, true, false, List, [], length, replicate, refl, sym, ◌∙◌, arith, None, subst, get_or-replicate, length-replicate, Layout, is_layout, most_room, now, IsLegal, queueings, tickets, is_gone, PoolState, new_pool_state, FlushBook, new_book, BarrierBook, new_barriers, AreFlushes, pools_at_first, flushes_at_first, barriers_at_first, no_timers_at_first, active_count, TimerRows, no_tickets_at_first, Flight, no_flight, no_flights_at_first, PwqState, new_pwq_state, place_of, place_inside, most_cpus}
 use Rattle.cmwq_ticket.specs.Rows.{TicketBook, new_tickets}
 use Rattle.cmwq_state.specs.Tables.{pool_place, no_pool, no_book, who_place, who_places}
 use Rattle.cmwq_state.specs.Gone.{AreGone}
@@ -22,7 +22,7 @@ first_parts s = record {
   flights = replicate s.items no_flight;
   tickets = new_tickets s.callers s.items (length s.queues);
   gone = replicate (length s.queues) false;
-  pwqs = new_pwq_state (length s.queues) (2 * s.items);
+  pwqs = new_pwq_state (length s.queues) s.items;
   most = first_most s.queues;
   frozen = false;
   owing = 0;
@@ -39,10 +39,10 @@ gone_at_first s = record {
   each = λ q here. get_or-replicate (length s.queues) q false false here;
 }
 
-pwqs_at_first : (s : Layout) → ArePwqsOf s [] (new_pwq_state (length s.queues) (2 * s.items))
+pwqs_at_first : (s : Layout) → ArePwqsOf s [] (new_pwq_state (length s.queues) s.items)
 unfolding active_count queueings
 pwqs_at_first s = record {
-  room = refl;
+  items = refl;
   many = length-replicate (most_cpus * length s.queues) (let n : ℕ = 0 in n);
   waiting = refl;
   counts = λ q c here less. get_or-replicate (most_cpus * length s.queues) (place_of q c) 0 0 (place_inside q c (length s.queues) (most_cpus * length s.queues) here less refl);
@@ -87,6 +87,6 @@ book_at_first s room inside few = record {
 -- so the parts that are made are those of a book
 pub book_made : (s : Layout) (room : ℕ) (pools : List PoolState) (books : List FlushBook) (barriers : BarrierBook) (timers : TimerRows) (serials : List ℕ) (flights : List Flight) (tickets : TicketBook) (gone : List Bool) (pwqs : PwqState) (most : List ℕ) → is_layout s ≡ true → room ≤ most_room →
     pools ≡ replicate (2 * s.cpus) (new_pool_state s.items s.workers) → books ≡ replicate (length s.queues) (new_book s.callers s.items) → barriers ≡ new_barriers s.items s.callers → timers ≡ replicate s.items None → serials ≡ replicate (who_places s.cpus) 0 →
-    flights ≡ replicate s.items no_flight → tickets ≡ new_tickets s.callers s.items (length s.queues) → gone ≡ replicate (length s.queues) false → pwqs ≡ new_pwq_state (length s.queues) (2 * s.items) → most ≡ first_most s.queues →
+    flights ≡ replicate s.items no_flight → tickets ≡ new_tickets s.callers s.items (length s.queues) → gone ≡ replicate (length s.queues) false → pwqs ≡ new_pwq_state (length s.queues) s.items → most ≡ first_most s.queues →
     IsState s room [] (record { pools = pools; books = books; barriers = barriers; timers = timers; time = 0; serials = serials; flights = flights; tickets = tickets; gone = gone; pwqs = pwqs; most = most; frozen = false; owing = 0 })
 book_made s room pools books barriers timers serials flights tickets gone pwqs most inside few p b r t n g h k l m = rw (p, b, r, t, n, g, h, k, l, m) (book_at_first s room inside few)

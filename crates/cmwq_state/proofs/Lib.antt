@@ -2,6 +2,7 @@ pub mod Refine
 pub mod Steps
 pub mod First
 pub mod Listing
+pub mod PwqsItems
 pub mod PwqsSteps
 pub mod PwqsBehind
 pub mod GoneSteps

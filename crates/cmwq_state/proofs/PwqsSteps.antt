@@ -1,15 +1,15 @@
 -- The pool workqueues to which an entry is applied are those of the longer history.
-use Rattle.cmwq_state.specs.Common.{◌≡◌, ℕ, ◌+◌, ◌*◌, ◌-◌, ◌<◌, ◌≤◌, Bool, true, false, not, ◌&&◌, ◌||◌, ◌==◌, append-nil, ⊎_elim, inl, List, [], ◌∷◌, ◌++◌, length, filter, count_by, cond, Option, Some, None, option_to_list, refl, sym, ap, ap₂, ◌∙◌, subst, arith, nat_lt, length-append, AllByRecursion, list_any, slice_set, if◌then◌else◌, eq-eqb, eqb-true, false_from_ne_true, not-true, not-false, same_Some, option_map_or, All-from_recursion, length-set, Entry, Queueing, Layout, width, still_open, opening, has_number, is_below_max_active, is_active, newly_active, IsLegal, All_map, All_filter, one, is_on, active_count, survives, ending, waits, stay_count, waiting, candidates, has_none, ends_active_on, filter_same, candidates_are, newly_are, waiting_goes_on, number_of_queueing, open_there, In, of_in, all_in, in_right, in_filter, filter_in, PwqState, count_at, count_of_same_pwq, place_of, is_waiting, is_other_waiting, pwqs_without_open, pwqs_after_end, pwqs_after_opening, MayEndInPwqs, MayOpenInPwqs, AreBelowMaxActive, Passes, IsPlaced, ArePlaced, count_set, place_inside, on_itself, on_parts, most_cpus}
+use Rattle.cmwq_state.specs.Common.{◌≡◌, ℕ, ◌+◌, ◌*◌, ◌-◌, ◌<◌, ◌≤◌, Bool, true, false, not, ◌&&◌, ◌||◌, ◌==◌, append-nil, ⊎_elim, inl, List, [], ◌∷◌, ◌++◌, length, filter, count_by, cond, Option, Some, None, option_to_list, refl, sym, ap, ap₂, ◌∙◌, subst, arith, nat_lt, AllByRecursion, list_any, slice_set, if◌then◌else◌, eq-eqb, eqb-true, false_from_ne_true, not-true, not-false, same_Some, option_map_or, All-from_recursion, length-set, Entry, Queueing, Layout, width, still_open, opening, has_number, is_below_max_active, is_active, newly_active, IsLegal, All_map, All_filter, one, is_on, active_count, survives, ending, waits, stay_count, waiting, candidates, has_none, ends_active_on, filter_same, candidates_are, newly_are, waiting_goes_on, number_of_queueing, open_there, In, of_in, all_in, in_right, in_filter, filter_in, opened_are_there, PwqState, count_at, count_of_same_pwq, place_of, is_waiting, is_other_waiting, pwqs_without_open, pwqs_after_end, pwqs_after_opening, MayEndInPwqs, MayOpenInPwqs, AreBelowMaxActive, Passes, IsPlaced, ArePlaced, count_set, place_inside, on_itself, on_parts, most_cpus}
 use Rattle.std.proofs.lemmas.List.Folds.{list_any_none}
 use Rattle.cmwq_theory_steps.proofs.Way.{way_by_picked}
 use Rattle.cmwq_theory_steps.proofs.ActiveCounts.{stays_counted, active_count_goes_on}
-use Rattle.cmwq_theory_steps.proofs.Limits.{two_for_each_item}
 use Rattle.cmwq_refinement.specs.Places as places
 use Rattle.cmwq_lemmas.proofs.Rising.{rises_unique}
 use Rattle.cmwq_refinement.proofs.QueueingSteps.{QueueingStep, ends_one, ends_none, queueing_step, open_numbers_rise}
 use Rattle.cmwq_state.specs.Pwqs.{ArePwqsOf}
+use Rattle.cmwq_state.proofs.PwqsItems.{none_left, number_of_item}
 use Rattle.std.proofs.lemmas.Bool.{false≢true}
-use Rattle.cmwq_lemmas.proofs.Lists.{filter_all, filter_shorter}
+use Rattle.cmwq_lemmas.proofs.Lists.{filter_all}
 
 -- ---- lists
 
@@ -39,14 +39,14 @@ waits_by_number s past x here = by (waits s past x) refl
 -- ---- after the end: what waited and survives, and the counts of those that stay
 
 pub record IsMid (s : Layout) (past : List Entry) (e : Entry) (l : PwqState) : Type 0 where
-  pub room : l.room ≡ 2 * s.items
+  pub items : l.items ≡ s.items
   pub many : length l.counts ≡ most_cpus * length s.queues
   pub waiting : l.waiting ≡ filter (survives past e) (waiting s past)
   pub counts : (q c : ℕ) → q < length s.queues → c < most_cpus → count_at l.counts q c ≡ stay_count s past e q c
 
 -- after what is opened: the candidates
 pub record IsReadyToPass (s : Layout) (past : List Entry) (e : Entry) (l : PwqState) : Type 0 where
-  pub room : l.room ≡ 2 * s.items
+  pub items : l.items ≡ s.items
   pub many : length l.counts ≡ most_cpus * length s.queues
   pub waiting : l.waiting ≡ candidates s past e
   pub counts : (q c : ℕ) → q < length s.queues → c < most_cpus → count_at l.counts q c ≡ stay_count s past e q c
@@ -54,7 +54,7 @@ pub record IsReadyToPass (s : Layout) (past : List Entry) (e : Entry) (l : PwqSt
 -- after the pass
 pub record ArePassed (s : Layout) (past : List Entry) (e : Entry) (old new : PwqState) (wide : ℕ → ℕ) : Type 0 where
   pub passes : (way : Queueing → Bool) → AreBelowMaxActive way wide old.counts old.waiting → Passes way old.waiting old.counts new.counts new.waiting new.activated
-  pub room : new.room ≡ old.room
+  pub items : new.items ≡ old.items
   pub widths : (q : ℕ) → q < length s.queues → wide q ≡ width s (e ∷ past) q
 
 among_waiting : (P : Queueing → Type 0) (s : Layout) (past : List Entry) → AllByRecursion P (still_open past) → AllByRecursion P (waiting s past)
@@ -73,7 +73,7 @@ module _ (s : Layout) (past : List Entry) (e : Entry) (legal : IsLegal s (e ∷ 
   ended_waiting : (l : PwqState) (x : Queueing) → ArePwqsOf s past l → ending past e ≡ Some x → AllByRecursion (λ y. survives past e y ≡ not (y.number == x.number)) (still_open past) → waits s past x ≡ true →
       IsMid s past e (record l { waiting = filter (is_other_waiting x.number) l.waiting })
   ended_waiting l x are is survivors stays = record {
-    room = are.room;
+    items = are.items;
     many = are.many;
     waiting = ap (filter (is_other_waiting x.number)) are.waiting ∙ filter_same (is_other_waiting x.number) (survives past e) (waiting s past) (among_waiting (λ y. is_other_waiting x.number y ≡ survives past e y) s past (All_map _ _ (still_open past) (λ y h. sym h) survivors));
     counts = λ q c here less.
@@ -91,7 +91,7 @@ module _ (s : Layout) (past : List Entry) (e : Entry) (legal : IsLegal s (e ∷ 
   ended_active : (l : PwqState) (x : Queueing) → ArePwqsOf s past l → ending past e ≡ Some x → In x (still_open past) → places.IsQueueingThere s x → AllByRecursion (λ y. survives past e y ≡ not (y.number == x.number)) (still_open past) → waits s past x ≡ false →
       IsMid s past e (record l { counts = slice_set l.counts (place_of x.place.queue.0 x.place.cpu.0) (count_of_same_pwq l.counts x - 1) })
   ended_active l x are is here there survivors fails = record {
-    room = are.room;
+    items = are.items;
     many = length-set l.counts (place_of x.place.queue.0 x.place.cpu.0) (count_of_same_pwq l.counts x - 1) ∙ are.many;
     waiting = are.waiting ∙ sym (filter_all (survives past e) (waiting s past) (all_in (λ y. survives past e y ≡ true) (waiting s past) (λ y listed.
         of_in (λ z. survives past e z ≡ not (z.number == x.number)) (still_open past) y survivors (in_filter (waits s past) (still_open past) y listed).0 ∙ ap not (other_number s past x y here fails listed))));
@@ -124,7 +124,7 @@ module _ (s : Layout) (past : List Entry) (e : Entry) (legal : IsLegal s (e ∷ 
   pwqs_ended_as : (l : PwqState) → ArePwqsOf s past l → IsLegal s past → QueueingStep past e → (o : Option Queueing) → ending past e ≡ o → IsMid s past e (pwqs_after_end o l) × MayEndInPwqs o l
   pwqs_ended_as l are before (ends_none is survivors) None same = (
     record {
-      room = are.room;
+      items = are.items;
       many = are.many;
       waiting = are.waiting ∙ sym (filter_all (survives past e) (waiting s past) (among_waiting (λ y. survives past e y ≡ true) s past survivors));
       counts = λ q c here less. are.counts q c here less ∙ sym (stays_none q c is);
@@ -143,7 +143,7 @@ module _ (s : Layout) (past : List Entry) (e : Entry) (legal : IsLegal s (e ∷ 
           let cpu : x.place.cpu.0 < most_cpus = let h = there.cpu in omega arith in
           let waits_as : is_waiting l x ≡ waits s past x = ap (list_any (has_number x.number)) are.waiting ∙ waits_by_number s past x here in
           let at = place_inside x.place.queue.0 x.place.cpu.0 (length s.queues) (length l.counts) there.queue cpu are.many in
-          (by (waits s past x) refl there waits_as, (at, λ fails. positive there cpu (sym waits_as ∙ fails)))
+          (by (waits s past x) refl there waits_as, record { item = rw are.items there.item; number = rw are.waiting (number_of_item s past x here); place = at; counted = λ fails. positive there cpu (sym waits_as ∙ fails) })
         where
           by : (b : Bool) → waits s past x ≡ b → places.IsQueueingThere s x → is_waiting l x ≡ waits s past x → IsMid s past e (pwqs_without_open l x)
           by true stays there waits_as = subst (λ b. IsMid s past e (if b then record l { waiting = filter (is_other_waiting x.number) l.waiting } else record l { counts = slice_set l.counts (place_of x.place.queue.0 x.place.cpu.0) (count_of_same_pwq l.counts x - 1) })) (sym (waits_as ∙ stays)) (ended_waiting l x are is survivors stays)
@@ -166,7 +166,7 @@ module _ (s : Layout) (past : List Entry) (e : Entry) (legal : IsLegal s (e ∷ 
   pwqs_opened_as : (l : PwqState) → IsMid s past e l → (o : Option Queueing) → opening past e ≡ o → IsReadyToPass s past e (pwqs_after_opening o l) × MayOpenInPwqs o l
   pwqs_opened_as l mid None is = (
     record {
-      room = mid.room;
+      items = mid.items;
       many = mid.many;
       waiting = mid.waiting ∙ (sym (append-nil (filter (survives past e) (waiting s past))) ∙ (ap (λ o. filter (survives past e) (waiting s past) ++ option_to_list o) (sym is) ∙ sym (candidates_are s past e legal)));
       counts = mid.counts;
@@ -175,14 +175,20 @@ module _ (s : Layout) (past : List Entry) (e : Entry) (legal : IsLegal s (e ∷ 
   )
   pwqs_opened_as l mid (Some x) is =
       let all : l.waiting ++ x ∷ [] ≡ candidates s past e = ap (λ ys. ys ++ x ∷ []) mid.waiting ∙ (ap (λ o. filter (survives past e) (waiting s past) ++ option_to_list o) (sym is) ∙ sym (candidates_are s past e legal)) in (
-        record { room = mid.room; many = mid.many; waiting = all; counts = mid.counts },
-        (let more : length (l.waiting ++ x ∷ []) ≡ length l.waiting + 1 = length-append l.waiting (x ∷ []) in
-            let same : length (l.waiting ++ x ∷ []) ≡ length (candidates s past e) = ap length all in
-            let fewer_open = filter_shorter (waits s past) (still_open (e ∷ past)) in
-            let two = two_for_each_item s (e ∷ past) legal in
-            let room = mid.room in
-            omega arith),
+        record { items = mid.items; many = mid.many; waiting = all; counts = mid.counts },
+        record {
+          item = rw mid.items there.item;
+          cpu = cpu;
+          place = place_inside x.place.queue.0 x.place.cpu.0 (length s.queues) (length l.counts) there.queue cpu mid.many;
+          free = rw mid.waiting (none_left s past e legal x is);
+        },
       )
+    where
+      there : places.IsQueueingThere s x
+      there = opened_are_there s past e x legal is
+
+      cpu : x.place.cpu.0 < most_cpus
+      cpu = let h = there.cpu in omega arith
 
   pub pwqs_opened : (l : PwqState) → IsMid s past e l → IsReadyToPass s past e (pwqs_after_opening (opening past e) l) × MayOpenInPwqs (opening past e) l
   pwqs_opened l mid = pwqs_opened_as l mid (opening past e) refl
@@ -210,7 +216,7 @@ module _ (s : Layout) (past : List Entry) (e : Entry) (legal : IsLegal s (e ∷ 
       let p = passed.passes (is_below_max_active s (e ∷ past)) (are_below_max_active l wide r passed.widths) in
       let newly : filter (is_below_max_active s (e ∷ past)) l.waiting ≡ newly_active s past e = ap (filter (is_below_max_active s (e ∷ past))) r.waiting ∙ sym (newly_are s past e) in (
         record {
-          room = passed.room ∙ r.room;
+          items = passed.items ∙ r.items;
           many = p.many ∙ r.many;
           waiting = p.kept ∙ (ap (filter (has_none s (e ∷ past))) r.waiting ∙ sym (waiting_goes_on s past e));
           counts = λ q c here less.

@@ -6,7 +6,7 @@ use Rattle.cmwq_theory_steps.specs.Places.{open_on}
 
 -- the pwqs of a history; what its last pass made active doesn't matter
 pub record ArePwqsOf (s : Layout) (past : List Entry) (l : PwqState) : Type 0 where
-  pub room : l.room ≡ 2 * s.items
+  pub items : l.items ≡ s.items
   pub many : length l.counts ≡ most_cpus * length s.queues
   pub waiting : l.waiting ≡ waiting s past
   pub counts : (q c : ℕ) → q < length s.queues → c < most_cpus → count_at l.counts q c ≡ active_count s past q c

@@ -88,16 +88,16 @@ pub(crate) fn new_flush_parts(
 pub(crate) fn new_queue_parts(
     alloc: Global,
     queues: &[QueueShape],
-    room: u32,
+    items: u16,
 ) -> Result<QueueParts, NoMemory>
     requires { length queues.now ≤ 256 }
     ensures queues { IfOk result (λ parts. parts.queues.items ≡ queues.now) }
     ensures gone { IfOk result (λ parts. parts.gone.items ≡ replicate (length queues.now) false) }
-    ensures pwqs { IfOk result (λ parts. parts.pwqs ≡ new_pwq_state (length queues.now) room) }
+    ensures pwqs { IfOk result (λ parts. parts.pwqs ≡ new_pwq_state (length queues.now) items) }
     ensures most { IfOk result (λ parts. parts.most.items ≡ map (λ q. q.max_active) queues.now) }
 {
     let gone = new_gone(alloc, queues.len())?;
-    let pwqs = Pwqs::new(alloc, queues.len(), room)?;
+    let pwqs = Pwqs::new(alloc, queues.len(), items)?;
     let most = new_most(alloc, queues)?;
     Ok(QueueParts {
         queues: queues.to_vec(alloc)?,

@@ -93,7 +93,7 @@ impl State {
         let entries = Trail::new();
         let of_items = new_item_parts(alloc, counts)?;
         let of_flushes = new_flush_parts(alloc, counts, queues.len())?;
-        let of_queues = new_queue_parts(alloc, queues, 2 * (counts.items as u32))?;
+        let of_queues = new_queue_parts(alloc, queues, counts.items)?;
         Ok(State {
             counts,
             queues: of_queues.queues,
@@ -204,7 +204,7 @@ impl State {
     pub fn active_count(&self) -> u32
         ensures { result ≡ count_by (is_active self.now.layout (past_in self.now)) (still_open (past_in self.now)) }
     {
-        self.flights.open_count() - self.pwqs.len() as u32
+        self.flights.open_count() - self.pwqs.len()
     }
 
     /// How many entries are owed.
