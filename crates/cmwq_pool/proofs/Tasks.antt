@@ -1,5 +1,5 @@
 -- What stands in the lists of pools, each item with what is noted of it.
-use Rattle.cmwq_pool.specs.Common.{◌≡◌, ◌≢◌, ℕ, zero, suc, ◌+◌, ◌<◌, ◌≤◌, ◌&&◌, ◌||◌, Bool, true, false, cond, eqb, ltb, not, List, [], ◌∷◌, ◌++◌, length, get_or, set, map, filter, find, Option, Some, None, refl, sym, ap, ap₂, ◌∙◌, arith, is_some, option_map, nat_eq, list_any, position_or_len, get_or-set_same, get_or-set_other, nat_tests}
+use Rattle.cmwq_pool.specs.Common.{◌≡◌, ℕ, zero, suc, ◌<◌, ◌≤◌, ◌&&◌, ◌||◌, Bool, true, false, cond, eqb, ltb, not, List, [], ◌∷◌, ◌++◌, length, set, map, filter, find, Option, Some, None, refl, sym, ap, ap₂, ◌∙◌, arith, is_some, option_map, nat_eq, list_any, position_or_len, get_or-set_same, get_or-set_other, nat_tests}
 use Rattle.std.proofs.Common.{⊎_elim}
 use Rattle.std.proofs.lemmas.Bool.{and_parts, cases_lt, eqb-true, eqb-false, eq-eqb, or_parts, or_right, false≢true}
 use Rattle.std.proofs.lemmas.List.{map_push}
