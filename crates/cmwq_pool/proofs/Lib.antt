@@ -1,3 +1,5 @@
 pub mod Finding
-pub mod Worklists
-pub mod Marks
+pub mod Seeing
+pub mod Starting
+pub mod Tasks
+pub mod Walking

@@ -1,4 +1,5 @@
 pub mod Common
 pub mod Slots
 pub mod PoolState
+pub mod Pools
 pub mod Upkeep

@@ -1,32 +1,30 @@
--- What a pool keeps true of its parts: the list, the room for it, the slots, and for each item whether it runs.
-use Rattle.std.specs.Prelude.{◌≡◌, ◌<◌, ◌≤◌, if◌then◌else◌}
-use Rattle.cmwq_pool.specs.Common.{ℕ, Bool, false, not, nat_eq, List, length, map, count_by, slice_index_or, All, IsDistinct}
+-- How the lists of items, what is noted of items, and the workers make the pools.
+use Rattle.std.specs.Prelude.{◌≡◌, ◌<◌, ◌^◌}
+use Rattle.cmwq_pool.specs.Common.{ℕ, false, List, [], length, map, slice_index_or, range_with_len}
+use Rattle.cmwq_list.specs.Lists.{Listed, list_at}
+use Rattle.cmwq_pool.specs.declared.note.Note.{Note}
 use Rattle.cmwq_pool.specs.declared.task.Task.{Task}
 use Rattle.cmwq_pool.specs.declared.slot.Slot.{Slot}
-use Rattle.cmwq_pool.specs.Slots.{slot_runs}
+use Rattle.cmwq_pool.specs.PoolState.{PoolState, task}
 
-abbrev pub task_numbers : List Task → List ℕ
-task_numbers listed = map (λ (t : Task). t.number) listed
+abbrev pub no_note : Note
+no_note = record { number = 0; intensive = false }
 
-abbrev pub task_items : List Task → List ℕ
-task_items listed = map (λ (t : Task). t.item.0) listed
+abbrev pub note_at : List Note → ℕ → Note
+note_at notes i = slice_index_or notes i no_note
 
--- each number and each item is listed once at most, and the items are below the room
-pub record IsTaskList (room : ℕ) (listed : List Task) : Type 0 where
-  pub numbers : IsDistinct nat_eq (task_numbers listed)
-  pub items : IsDistinct nat_eq (task_items listed)
-  pub in_range : All (λ t. t.item.0 < room) listed
+-- an item with what is noted of it
+abbrev pub noted_task : List Note → ℕ → Task
+noted_task notes i = task (note_at notes i).number i (note_at notes i).intensive
 
--- an item is marked as running exactly if one slot runs it, and no item has two runs
-pub record AreMarked (running : List Bool) (slots : List Slot) : Type 0 where
-  pub few : length slots ≤ 255
-  pub runs : (i : ℕ) → count_by (slot_runs i) slots ≡ (if slice_index_or running i false then 1 else 0)
+-- list p has what pool p lists
+abbrev pub pool_seen : Listed → List Note → List (List Slot) → ℕ → PoolState
+pool_seen lists notes workers p = record { items = lists.items; listed = map (noted_task notes) (list_at lists.lists p); slots = slice_index_or workers p [] }
 
-pub record IsPoolKept (capacity : ℕ) (listed : List Task) (running : List Bool) (slots : List Slot) : Type 0 where
-  pub room : length running ≤ capacity
-  pub worklist : IsTaskList (length running) listed
-  pub marks : AreMarked running slots
+abbrev pub pools_seen : Listed → List Note → List (List Slot) → List PoolState
+pools_seen lists notes workers = map (pool_seen lists notes workers) (range_with_len 0 (length workers))
 
--- by the marks, the item has no run
-abbrev pub is_free : List Bool → Task → Bool
-is_free running t = not (slice_index_or running t.item.0 false)
+pub record ArePoolsKept (lists : Listed) (notes : List Note) (workers : List (List Slot)) : Type 0 where
+  pub many : length lists.lists ≡ length workers
+  pub noted : length notes ≡ lists.items
+  pub few : lists.items < 2 ^ 16

@@ -1,12 +1,14 @@
-//! One worker pool of a CPU (the kernel's `worker_pool`): its worklist, its workers, and what they run.
+//! The worker pools of all CPUs (the kernel's `worker_pool`): their worklists, their workers, and what these run.
 #![tactic(auto)]
 
-mod pool;
+mod listing;
+mod note;
+mod pool_workers;
+mod pools;
 mod slot;
 mod slots;
 mod task;
-mod worklist;
 
-pub use pool::Pool;
+pub use pools::Pools;
 pub use slot::Slot;
 pub use task::Task;

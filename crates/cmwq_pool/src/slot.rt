@@ -1,5 +1,5 @@
 ghost use Rattle.std.specs.Prelude.{◌≡◌};
-ghost use Rattle.cmwq_pool.specs.Slots.{new_slot, slot_runs_awake, slot_runs_asleep, slot_is_idle, slot_is_occupied, slot_is_holding};
+ghost use Rattle.cmwq_pool.specs.Slots.{new_slot, slot_runs_awake, slot_runs_asleep, slot_is_idle, slot_is_occupied, slot_is_holding, slot_runs};
 
 use crate::task::Task;
 
@@ -52,6 +52,13 @@ impl Slot {
         ensures { result ≡ slot_is_occupied self.now }
     {
         self.enlisted && self.run.is_some()
+    }
+
+    /// Whether it runs this item.
+    pub(crate) fn runs(&self, item: u32) -> bool
+        ensures { result ≡ slot_runs item self.now }
+    {
+        self.run.is_some_and(|task| u32::from(task.item.0) == item)
     }
 
     /// Whether its run is awake and not CPU intensive, so that it keeps others from starting.

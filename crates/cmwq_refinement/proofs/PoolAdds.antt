@@ -1,31 +1,31 @@
--- What became active may be added to its pool: no two that are listed have a number or an item in common.
-use Rattle.cmwq_refinement.specs.Common.{◌≡◌, ◌==◌, ◌<◌, false, not, ◌&&◌, ◌||◌, List, [], ◌∷◌, ◌++◌, map, filter, refl, sym, ap, ap₂, ◌∙◌, subst, arith, inl, ⊎_elim, AllByRecursion, eqb-true, false_from_ne_true, lt-ltb, same_Some, append_assoc, All-from_recursion, PoolId, Entry, Queueing, Layout, still_open, worklist, IsLegal, is_left, worklist_is, worklists_go_on, Task, PoolState, is_like, pool_with_task}
+-- What became active may be added to its pool: no two that are listed are of one item, in one pool or in two.
+use Rattle.cmwq_refinement.specs.Common.{◌≡◌, ◌==◌, ◌<◌, false, not, ◌&&◌, List, [], ◌∷◌, ◌++◌, map, filter, refl, sym, ap, ap₂, ◌∙◌, subst, arith, inl, ⊎_elim, AllByRecursion, eqb-true, false_from_ne_true, lt-ltb, same_Some, append_assoc, All-from_recursion, PoolId, Entry, Queueing, Layout, worklist, IsLegal, is_left, worklist_is, worklists_go_on, Task, PoolState, pool_with_task, ℕ, true, list_any, or_cases, pool_at}
+use Rattle.cmwq_pool.specs.Slots.{is_task_of}
+use Rattle.cmwq_pool.specs.Pools.{lists_item}
 use Rattle.std.proofs.lemmas.List.Folds.{list_any_none}
 use Rattle.cmwq_theory_steps.specs.Order.{since, IsSooner, AreInOrder}
 use Rattle.cmwq_refinement.specs.ByNumber.{number_of_queueing}
 use Rattle.cmwq_refinement.specs.Pools.{task_for, pool_of, made_active, pool_before_activation, MayAllBeAdded}
 use Rattle.cmwq_lemmas.proofs.Members.{In, of_in, all_in, in_right}
-use Rattle.cmwq_lemmas.proofs.Rising.{rises_unique}
-use Rattle.cmwq_refinement.proofs.QueueingSteps.{open_numbers_rise}
 use Rattle.cmwq_refinement.proofs.ItemNumbers.{one_of}
 use Rattle.cmwq_refinement.proofs.PlacesFit.{open_there}
 use Rattle.cmwq_refinement.proofs.PoolReads.{IsOnList, worklist_has}
 use Rattle.cmwq_refinement.proofs.PoolSteps.{first_listed, first_items}
 
--- ---- tasks with neither a number nor an item in common
+-- ---- tasks of different items
 
 abbrev AreApart : List Task → Type 0
 AreApart [] = Unit {0}
-AreApart (t ∷ ts) = AllByRecursion (λ u. is_like u.number u.item.0 t ≡ false) ts × AreApart ts
+AreApart (t ∷ ts) = AllByRecursion (λ u. is_task_of u.item.0 t ≡ false) ts × AreApart ts
 
-apart_from : (ts us : List Task) (u : Task) → AreApart (ts ++ u ∷ us) → AllByRecursion (λ t. is_like u.number u.item.0 t ≡ false) ts
+apart_from : (ts us : List Task) (u : Task) → AreApart (ts ++ u ∷ us) → AllByRecursion (λ t. is_task_of u.item.0 t ≡ false) ts
 apart_from [] us u h = tt
-apart_from (t ∷ ts) us u h = (of_in (λ v. is_like v.number v.item.0 t ≡ false) (ts ++ u ∷ us) u h.0 (in_right ts (u ∷ us) u (inl refl)), apart_from ts us u h.1)
+apart_from (t ∷ ts) us u h = (of_in (λ v. is_task_of v.item.0 t ≡ false) (ts ++ u ∷ us) u h.0 (in_right ts (u ∷ us) u (inl refl)), apart_from ts us u h.1)
 
 apart_may_be_added : (s : Layout) (xs : List Queueing) (l : PoolState) → AllByRecursion (λ x. x.item.0 < l.items) xs → AreApart (l.listed ++ map (task_for s) xs) → MayAllBeAdded s xs l
 apart_may_be_added s [] l there apart = tt
 apart_may_be_added s (x ∷ xs) l there apart = (
-  ap₂ (λ a b. a && not b) (lt-ltb x.item.0 l.items there.0) (list_any_none (is_like x.number x.item.0) l.listed (All-from_recursion (λ t. is_like x.number x.item.0 t ≡ false) l.listed (apart_from l.listed (map (task_for s) xs) (task_for s x) apart))),
+  ap₂ (λ a b. a && not b) (lt-ltb x.item.0 l.items there.0) (list_any_none (is_task_of x.item.0) l.listed (All-from_recursion (λ t. is_task_of x.item.0 t ≡ false) l.listed (apart_from l.listed (map (task_for s) xs) (task_for s x) apart))),
   apart_may_be_added s xs (pool_with_task l (task_for s x)) there.1 (subst AreApart (sym (append_assoc l.listed (task_for s x ∷ []) (map (task_for s) xs))) apart),
 )
 
@@ -37,16 +37,14 @@ not_sooner s past x y h same =
     let number : x.number ≡ y.number = ap number_of_queueing same in
     ⊎_elim (λ less. absurd (omega arith)) (λ k. let less = k.1 in absurd (omega arith)) h.order
 
-unlike : (s : Layout) (past : List Entry) (p : PoolId) (x y : Queueing) → IsLegal s past → IsSooner s past x y → IsOnList s past p x → IsOnList s past p y → is_like y.number y.item.0 (task_for s x) ≡ false
-unlike s past p x y legal sooner hx hy = ap₂ (λ a b. a || b)
-    (false_from_ne_true (x.number == y.number) (λ h. not_sooner s past x y sooner (rises_unique number_of_queueing (still_open past) x y (open_numbers_rise past) hx.stands hy.stands (eqb-true x.number y.number h))))
-    (false_from_ne_true (x.item.0 == y.item.0) (λ h. not_sooner s past x y sooner (one_of s past x y legal hx.stands hy.stands (eqb-true x.item.0 y.item.0 h) hx.not_started hy.not_started)))
+unlike : (s : Layout) (past : List Entry) (p : PoolId) (x y : Queueing) → IsLegal s past → IsSooner s past x y → IsOnList s past p x → IsOnList s past p y → is_task_of y.item.0 (task_for s x) ≡ false
+unlike s past p x y legal sooner hx hy = false_from_ne_true (x.item.0 == y.item.0) (λ h. not_sooner s past x y sooner (one_of s past x y legal hx.stands hy.stands (eqb-true x.item.0 y.item.0 h) hx.not_started hy.not_started))
 
 in_order_apart : (s : Layout) (past : List Entry) (p : PoolId) (xs : List Queueing) → IsLegal s past → AreInOrder s past xs → AllByRecursion (IsOnList s past p) xs → AreApart (map (task_for s) xs)
 in_order_apart s past p [] legal order on = tt
 in_order_apart s past p (x ∷ xs) legal order on = (each xs order.0 on.1, in_order_apart s past p xs legal order.1 on.1)
   where
-    each : (ys : List Queueing) → AllByRecursion (IsSooner s past x) ys → AllByRecursion (IsOnList s past p) ys → AllByRecursion (λ u. is_like u.number u.item.0 (task_for s x) ≡ false) (map (task_for s) ys)
+    each : (ys : List Queueing) → AllByRecursion (IsSooner s past x) ys → AllByRecursion (IsOnList s past p) ys → AllByRecursion (λ u. is_task_of u.item.0 (task_for s x) ≡ false) (map (task_for s) ys)
     each [] h k = tt
     each (y ∷ ys) h k = (unlike s past p x y legal h.0 on.0 k.0, each ys h.1 k.1)
 
@@ -63,3 +61,21 @@ active_may_be_added s past e p legal =
     apart_may_be_added s (made_active s past p e) (pool_before_activation s past p e (pool_of s past p))
     (subst (λ n. AllByRecursion (λ x. x.item.0 < n) (made_active s past p e)) (sym (first_items s past e p)) (active_there s past e p legal))
     (subst AreApart (first_listed s past e p legal) (worklist_apart s (e ∷ past) p legal))
+
+-- ---- an item is listed in one pool
+
+record IsListing (s : Layout) (past : List Entry) (p : PoolId) (i : ℕ) : Type 0 where
+  queueing : Queueing
+  on : IsOnList s past p queueing
+  of_item : queueing.item.0 ≡ i
+
+listing : (s : Layout) (past : List Entry) (p : PoolId) (i : ℕ) (xs : List Queueing) → AllByRecursion (IsOnList s past p) xs → list_any (is_task_of i) (map (task_for s) xs) ≡ true → IsListing s past p i
+listing s past p i [] on h = cc
+listing s past p i (x ∷ xs) on h = ⊎_elim (λ here. record { queueing = x; on = on.0; of_item = eqb-true x.item.0 i here }) (λ later. listing s past p i xs on.1 later) (or_cases (is_task_of i (task_for s x)) (list_any (is_task_of i) (map (task_for s) xs)) h)
+
+pub items_are_listed_once : (s : Layout) (past : List Entry) (p q : PoolId) (i : ℕ) → IsLegal s past → lists_item i (pool_of s past p) ≡ true → lists_item i (pool_of s past q) ≡ true → p ≡ q
+items_are_listed_once s past p q i legal hp hq =
+    let x = listing s past p i (worklist s past p) (worklist_has s past p) hp in
+    let y = listing s past q i (worklist s past q) (worklist_has s past q) hq in
+    let one = one_of s past x.queueing y.queueing legal x.on.stands y.on.stands (x.of_item ∙ sym y.of_item) x.on.not_started y.on.not_started in
+    sym x.on.pool ∙ (ap (λ (z : Queueing). pool_at s z.place) one ∙ y.on.pool)

@@ -88,6 +88,7 @@ own_changes s past e w r change legal who is none own =
 pub record StartsTask (s : Layout) (past : List Entry) (e : Entry) (w : WorkerId) (n : ℕ) (o : Option ℕ) : Type 0 where
   pub queueing : Queueing
   pub number : queueing.number ≡ n
+  pub found : queueing_at past queueing.number ≡ Some queueing
   pub task : next_task (pool_of s past w.pool) ≡ Some (task_for s queueing)
   pub runs : run_task s (e ∷ past) w ≡ Some (task_for s queueing)
   pub enlists : slots_enlisted_by (pool_of s past w.pool).slots w.index ≡ o
@@ -115,6 +116,7 @@ starts_task s past e w n o legal who is =
     record {
       queueing = st.queueing;
       number = st.number;
+      found = ap (queueing_at past) st.number ∙ at;
       task = next_task_is s past w.pool legal.2 ∙ ap (option_map (task_for s)) next_is;
       runs = ap (λ q. option_map (task_for s) (option_and_then (queueing_at (e ∷ past)) q)) (own_run s past e w (started_reply n o) legal who is ∙ after_start n o (run past w)) ∙ ap (option_map (task_for s)) (queueing_at-older e past n st.queueing at);
       enlists = starts_enlist_alike s past w legal.2 ∙ sym (ap (enlisted_by s past) same) ∙ sym st.enlists ∙ ap index_enlisted is ∙ enlisted_in n o;

@@ -1,9 +1,9 @@
 -- A pool refines a history, entry by entry.
-use Rattle.cmwq_refinement.specs.Common.{◌≡◌, ◌==◌, ℕ, Bool, true, false, cond, not, ◌&&◌, List, [], ◌∷◌, ◌++◌, map, filter, Option, Some, None, refl, sym, ap, ap₂, ◌∙◌, subst, append-nil, if◌then◌else◌, AllByRecursion, eqb-true, eq-eqb, false_from_ne_true, false≢true, same_Some, map-append, append_assoc, PoolId, WorkerId, Who, Caller, Worker, Reply, Entry, Queueing, Layout, indices, pool_at, is_at, same_pool, is_of_item, number_started, replaces, finishes, is_started, last_start, is_asleep, queueings, still_open, queueing_at, became_active, worklist, is_enlisted, worker_at, IsLegal, survives, is_ended, ending, is_left, is_in, All_map, All_each, none_found, listed_pool, no_end, IsFound, queueings_found, StartsListed, starts_listed, worklists_go_on, same_pool-true, Task, new_slot, PoolState, new_pool_state, is_other_task, pool_with_task, pool_without_task, next_task}
+use Rattle.cmwq_refinement.specs.Common.{◌≡◌, ◌==◌, ℕ, Bool, true, false, cond, not, ◌&&◌, List, [], ◌∷◌, ◌++◌, map, filter, Option, Some, None, refl, sym, ap, ap₂, ◌∙◌, subst, append-nil, if◌then◌else◌, AllByRecursion, eqb-true, eq-eqb, false_from_ne_true, false≢true, same_Some, map-append, append_assoc, PoolId, WorkerId, Who, Caller, Worker, Reply, Entry, Queueing, Layout, indices, pool_at, is_at, same_pool, is_of_item, number_started, replaces, finishes, is_started, last_start, is_asleep, queueings, still_open, is_live, queueing_at, became_active, worklist, is_enlisted, worker_at, IsLegal, survives, is_ended, ending, is_left, is_in, All_map, All_each, none_found, listed_pool, no_end, IsFound, queueings_found, StartsListed, starts_listed, worklists_go_on, same_pool-true, Task, new_slot, PoolState, new_pool_state, is_other_task, pool_with_task, pool_without_task, next_task}
 use Rattle.cmwq_model.specs.declared.reply.Reply.TheVariants as reply
 use Rattle.cmwq_refinement.specs.ByNumber.{number_of_queueing}
 use Rattle.cmwq_refinement.specs.Pools.{task_for, slot_of, pool_of, start_next, pool_after_reply, pool_after_worker, pool_after_cancel, pool_after_activation, pool_before_activation, made_active, pool_after}
-use Rattle.cmwq_lemmas.proofs.Members.{of_in}
+use Rattle.cmwq_lemmas.proofs.Members.{In, in_filter, of_in}
 use Rattle.cmwq_refinement.proofs.Numbers.{filter_goes_on}
 use Rattle.cmwq_lemmas.proofs.Rising.{rises_unique}
 use Rattle.cmwq_refinement.proofs.QueueingSteps.{QueueingStep, queueing_step, ends_one, ends_none, open_numbers_rise}
@@ -12,7 +12,7 @@ use Rattle.cmwq_refinement.proofs.PoolReads.{IsOnList, worklist_has}
 use Rattle.cmwq_refinement.proofs.PoolSlots.{StartsTask, starts_task, slots_refine, pool_itself}
 use Rattle.cmwq_theory_steps.proofs.Ended.{number_same}
 use Rattle.cmwq_theory_steps.proofs.PendingSteps.{not_finished}
-use Rattle.cmwq_pool.proofs.Marks.{same_pool_state}
+use Rattle.cmwq_pool.proofs.Starting.{same_pool_state}
 
 -- ---- what joins the list
 
@@ -34,8 +34,18 @@ filter_mapped p q f (x ∷ xs) h = ap₂ (λ b ys. cond b (f x ∷ ys) ys) h.0 (
 all_stay : (s : Layout) (past : List Entry) (e : Entry) (p : PoolId) → ((y : Queueing) → IsOnList s past p y → is_left past e y ≡ true) → map (task_for s) (filter (is_left past e) (worklist s past p)) ≡ map (task_for s) (worklist s past p)
 all_stay s past e p h = ap (map (task_for s)) (filter_goes_on number_of_queueing (is_left past e) (worklist s past p) (All_map (IsOnList s past p) (λ y. is_left past e y ≡ true) (worklist s past p) h (worklist_has s past p)))
 
-one_leaves : (s : Layout) (past : List Entry) (e : Entry) (p : PoolId) (n : ℕ) → ((y : Queueing) → IsOnList s past p y → is_left past e y ≡ not (y.number == n)) → map (task_for s) (filter (is_left past e) (worklist s past p)) ≡ filter (is_other_task n) (map (task_for s) (worklist s past p))
-one_leaves s past e p n h = sym (filter_mapped (is_other_task n) (is_left past e) (task_for s) (worklist s past p) (All_map (IsOnList s past p) (λ y. is_other_task n (task_for s y) ≡ is_left past e y) (worklist s past p) (λ y on. sym (h y on)) (worklist_has s past p)))
+-- a number tells its item
+number_tells : (past : List Entry) (x y : Queueing) → queueing_at past x.number ≡ Some x → In y (queueings past) → (y.number == x.number) ≡ ((y.number == x.number) && (y.item.0 == x.item.0))
+number_tells past x y found made = by (y.number == x.number) refl
+  where
+    by : (b : Bool) → (y.number == x.number) ≡ b → (y.number == x.number) ≡ ((y.number == x.number) && (y.item.0 == x.item.0))
+    by true h =
+        let one = same_Some y x (sym (of_in (IsFound past) (queueings past) y (queueings_found past) made) ∙ ap (queueing_at past) (eqb-true y.number x.number h) ∙ found) in
+        h ∙ sym (ap₂ (λ a b. a && b) h (eq-eqb y.item.0 x.item.0 (ap (λ (z : Queueing). z.item.0) one)))
+    by false h = h ∙ sym (ap (λ a. a && (y.item.0 == x.item.0)) h)
+
+one_leaves : (s : Layout) (past : List Entry) (e : Entry) (p : PoolId) (x : Queueing) → queueing_at past x.number ≡ Some x → ((y : Queueing) → IsOnList s past p y → is_left past e y ≡ not (y.number == x.number)) → map (task_for s) (filter (is_left past e) (worklist s past p)) ≡ filter (is_other_task x.number x.item.0) (map (task_for s) (worklist s past p))
+one_leaves s past e p x found h = sym (filter_mapped (is_other_task x.number x.item.0) (is_left past e) (task_for s) (worklist s past p) (All_map (IsOnList s past p) (λ y. is_other_task x.number x.item.0 (task_for s y) ≡ is_left past e y) (worklist s past p) (λ y on. sym (h y on ∙ ap not (number_tells past x y found on.made))) (worklist_has s past p)))
 
 -- ---- an entry that starts nothing
 
@@ -56,8 +66,8 @@ listed_cancelled : (s : Layout) (p : PoolId) (e : Entry) (o : Option Queueing) (
 listed_cancelled s p e None l m same = same
 listed_cancelled s p e (Some x) l m same = here (is_in s p x && not (finishes x.number e))
   where
-    here : (b : Bool) → (if b then pool_without_task l x.number else l).listed ≡ (if b then pool_without_task m x.number else m).listed
-    here true = ap (filter (is_other_task x.number)) same
+    here : (b : Bool) → (if b then pool_without_task l x.number x.item.0 else l).listed ≡ (if b then pool_without_task m x.number x.item.0 else m).listed
+    here true = ap (filter (is_other_task x.number x.item.0)) same
     here false = same
 
 left_if_survives : (past : List Entry) (e : Entry) (y : Queueing) → number_started e.reply ≡ None → is_left past e y ≡ survives past e y
@@ -76,13 +86,13 @@ cancelled_leaves s past e p legal none (ends_none is all) =
     all_stay s past e p (λ y on. left_if_survives past e y none ∙ of_in (λ z. survives past e z ≡ true) (still_open past) y all on.stands) ∙ sym (ap (λ o. (pool_after_cancel s p e o (pool_of s past p)).listed) is)
 cancelled_leaves s past e p legal none (ends_one x is here all) = kind (is_in s p x && not (finishes x.number e)) refl ∙ sym (ap (λ o. (pool_after_cancel s p e o (pool_of s past p)).listed) is)
   where
-    kind : (b : Bool) → (is_in s p x && not (finishes x.number e)) ≡ b → map (task_for s) (filter (is_left past e) (worklist s past p)) ≡ (if is_in s p x && not (finishes x.number e) then pool_without_task (pool_of s past p) x.number else pool_of s past p).listed
+    kind : (b : Bool) → (is_in s p x && not (finishes x.number e)) ≡ b → map (task_for s) (filter (is_left past e) (worklist s past p)) ≡ (if is_in s p x && not (finishes x.number e) then pool_without_task (pool_of s past p) x.number x.item.0 else pool_of s past p).listed
     kind true h =
-        one_leaves s past e p x.number (λ y on. left_if_survives past e y none ∙ of_in (λ z. survives past e z ≡ not (z.number == x.number)) (still_open past) y all on.stands)
-        ∙ sym (ap (λ b. (if b then pool_without_task (pool_of s past p) x.number else pool_of s past p).listed) h)
+        one_leaves s past e p x (of_in (IsFound past) (queueings past) x (queueings_found past) (in_filter (is_live past) (queueings past) x here).0) (λ y on. left_if_survives past e y none ∙ of_in (λ z. survives past e z ≡ not (z.number == x.number)) (still_open past) y all on.stands)
+        ∙ sym (ap (λ b. (if b then pool_without_task (pool_of s past p) x.number x.item.0 else pool_of s past p).listed) h)
     kind false h =
         all_stay s past e p (λ y on. left_if_survives past e y none ∙ of_in (λ z. survives past e z ≡ not (z.number == x.number)) (still_open past) y all on.stands ∙ ap not (differs y on))
-        ∙ sym (ap (λ b. (if b then pool_without_task (pool_of s past p) x.number else pool_of s past p).listed) h)
+        ∙ sym (ap (λ b. (if b then pool_without_task (pool_of s past p) x.number x.item.0 else pool_of s past p).listed) h)
       where
         differs : (y : Queueing) → IsOnList s past p y → (y.number == x.number) ≡ false
         differs y on = false_from_ne_true (y.number == x.number) (λ same.
@@ -117,13 +127,13 @@ started_leaves s past e w n (reply.Started m) legal who is h = of_task (starts_t
   where
     of_task : StartsTask s past e w m None → map (task_for s) (filter (is_left past e) (worklist s past w.pool)) ≡ (start_next w.index (next_task (pool_of s past w.pool)) (pool_of s past w.pool)).listed
     of_task st =
-        one_leaves s past e w.pool st.queueing.number (λ y on. left_if_not past e m y (ap number_started is) ∙ ap (λ k. not (k == y.number)) (sym st.number) ∙ ap not (number_same st.queueing.number y.number))
+        one_leaves s past e w.pool st.queueing st.found (λ y on. left_if_not past e m y (ap number_started is) ∙ ap (λ k. not (k == y.number)) (sym st.number) ∙ ap not (number_same st.queueing.number y.number))
         ∙ sym (ap (λ o. (start_next w.index o (pool_of s past w.pool)).listed) st.task)
 started_leaves s past e w n (reply.StartedEnlist m x) legal who is h = of_task (starts_task s past e w m (Some x) legal who is)
   where
     of_task : StartsTask s past e w m (Some x) → map (task_for s) (filter (is_left past e) (worklist s past w.pool)) ≡ (start_next w.index (next_task (pool_of s past w.pool)) (pool_of s past w.pool)).listed
     of_task st =
-        one_leaves s past e w.pool st.queueing.number (λ y on. left_if_not past e m y (ap number_started is) ∙ ap (λ k. not (k == y.number)) (sym st.number) ∙ ap not (number_same st.queueing.number y.number))
+        one_leaves s past e w.pool st.queueing st.found (λ y on. left_if_not past e m y (ap number_started is) ∙ ap (λ k. not (k == y.number)) (sym st.number) ∙ ap not (number_same st.queueing.number y.number))
         ∙ sym (ap (λ o. (start_next w.index o (pool_of s past w.pool)).listed) st.task)
 started_leaves s past e w n r legal who is h = cc
 
@@ -170,7 +180,7 @@ cancelled_others : (s : Layout) (p : PoolId) (e : Entry) (o : Option Queueing) (
 cancelled_others s p e None l = record { items = refl; slots = refl }
 cancelled_others s p e (Some x) l = here (is_in s p x && not (finishes x.number e))
   where
-    here : (b : Bool) → SameOthers l (if b then pool_without_task l x.number else l)
+    here : (b : Bool) → SameOthers l (if b then pool_without_task l x.number x.item.0 else l)
     here true = record { items = refl; slots = refl }
     here false = record { items = refl; slots = refl }
 

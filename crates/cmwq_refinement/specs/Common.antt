@@ -36,7 +36,7 @@ pub use Rattle.cmwq_model.specs.declared.record.Queueing.{Queueing}
 pub use Rattle.cmwq_model.specs.declared.record.Start.{Start}
 pub use Rattle.cmwq_model.specs.declared.record.Ticket.{Ticket}
 pub use Rattle.cmwq_model.specs.declared.reply.Reply.{Reply}
-pub use Rattle.cmwq_pool.specs.PoolState.{PoolState, is_like, is_other_task, may_add, new_pool_state, next_task, pool_with_task, pool_without_task, with_slot_again}
+pub use Rattle.cmwq_pool.specs.PoolState.{PoolState, is_other_task, may_add, new_pool_state, next_task, pool_with_task, pool_without_task, with_slot_again}
 pub use Rattle.cmwq_pool.specs.Slots.{is_reserve_at, new_slot, no_slot, run_number, slot_asleep, slot_at, slot_awake, slot_enlisted, slot_free, slot_retired, slot_running, slot_runs, slots_run_item, with_enlisted, with_slot}
 pub use Rattle.cmwq_pool.specs.declared.slot.Slot.{Slot}
 pub use Rattle.cmwq_pool.specs.declared.task.Task.{Task}

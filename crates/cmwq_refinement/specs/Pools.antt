@@ -1,9 +1,10 @@
 -- A pool refines its worklist, and the runs and the enlisting of its workers.
 use Rattle.std.specs.Prelude.{◌≡◌, ◌<◌, ◌&&◌, if◌then◌else◌, ◌∷◌}
-use Rattle.cmwq_refinement.specs.Common.{ℕ, not, List, [], length, map, filter, fold, Option, Some, None, option_map, option_and_then, IsTrue, IsSome, PoolId, WorkerId, Who, Caller, Worker, Reply, Entry, Queueing, Layout, indices, is_intensive, same_pool, finishes, run, is_asleep, queueing_at, newly_active, worklist, next, worker_at, is_enlisted, runnable, enlisted_by, is_idle, may_retire, IsLegal, ending, is_in, Task, Slot, slot_at, run_number, slot_asleep, slot_awake, slot_free, slot_retired, PoolState, new_pool_state, may_add, pool_with_task, pool_without_task, next_task, with_slot_again}
+use Rattle.cmwq_refinement.specs.Common.{ℕ, true, not, List, [], length, map, filter, fold, Option, Some, None, option_map, option_and_then, IsTrue, IsSome, PoolId, WorkerId, Who, Caller, Worker, Reply, Entry, Queueing, Layout, indices, is_intensive, same_pool, finishes, run, is_asleep, queueing_at, newly_active, worklist, next, worker_at, is_enlisted, runnable, enlisted_by, is_idle, may_retire, IsLegal, ending, is_in, Task, Slot, slot_at, run_number, slot_asleep, slot_awake, slot_free, slot_retired, PoolState, new_pool_state, may_add, pool_with_task, pool_without_task, next_task, with_slot_again}
 use Rattle.cmwq_model.specs.declared.reply.Reply.TheVariants as reply
 use Rattle.cmwq_pool.specs.Slots.{slot_is_idle as is_idle_slot, slots_runnable, slots_enlisted_by, slot_may_retire, slot_runs_awake, slot_runs_asleep}
 use Rattle.cmwq_pool.specs.PoolState.{pool_with_run, next_number as pool_state_next}
+use Rattle.cmwq_pool.specs.Pools.{lists_item}
 use Rattle.cmwq_refinement.specs.ByNumber.{number_of_queueing}
 
 -- a queueing as its pool sees it, and what a worker runs
@@ -41,7 +42,7 @@ pool_after_worker p (Worker w) r l = if same_pool w.pool p then pool_after_reply
 -- after a queueing of its own was cancelled or replaced, and after some became active, in their order
 abbrev pub pool_after_cancel : Layout → PoolId → Entry → Option Queueing → PoolState → PoolState
 pool_after_cancel s p e None l = l
-pool_after_cancel s p e (Some x) l = if is_in s p x && not (finishes x.number e) then pool_without_task l x.number else l
+pool_after_cancel s p e (Some x) l = if is_in s p x && not (finishes x.number e) then pool_without_task l x.number x.item.0 else l
 
 abbrev pub pool_after_activation : Layout → List Queueing → PoolState → PoolState
 pool_after_activation s xs l = fold (λ (m : PoolState) (x : Queueing). pool_with_task m (task_for s x)) l xs
@@ -109,7 +110,11 @@ RepliesApplyToPools = (s : Layout) (past : List Entry) (e : Entry) (w : WorkerId
 -- each queueing that became active may be added to its pool, after those that are added before it
 abbrev pub MayAllBeAdded : Layout → List Queueing → PoolState → Type 0
 MayAllBeAdded s [] l = Unit {0}
-MayAllBeAdded s (x ∷ xs) l = IsTrue (may_add l x.number x.item.0) × MayAllBeAdded s xs (pool_with_task l (task_for s x))
+MayAllBeAdded s (x ∷ xs) l = IsTrue (may_add l x.item.0) × MayAllBeAdded s xs (pool_with_task l (task_for s x))
 
 abbrev pub ActiveMayBeAdded : Type 0
 ActiveMayBeAdded = (s : Layout) (past : List Entry) (e : Entry) (p : PoolId) → IsLegal s (e ∷ past) → MayAllBeAdded s (made_active s past p e) (pool_before_activation s past p e (pool_of s past p))
+
+-- no two pools list one item
+abbrev pub ItemsAreListedOnce : Type 0
+ItemsAreListedOnce = (s : Layout) (past : List Entry) (p q : PoolId) (i : ℕ) → IsLegal s past → lists_item i (pool_of s past p) ≡ true → lists_item i (pool_of s past q) ≡ true → p ≡ q

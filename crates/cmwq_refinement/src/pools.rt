@@ -1,7 +1,7 @@
 //! Where a pool is that of some entries, the calls for one more entry make it that of the longer history, and what it
 //! answers is what the definitions say.
 
-ghost use Rattle.cmwq_refinement.specs.Pools.{PoolsAtFirst, PoolsRefine, NextsAreNext, RunnablesAreRunnable, StartsEnlistAlike, IdleRetireAlike, SlotsAreWorkers, RepliesApplyToPools, ActiveMayBeAdded, SlotsForWorkers};
+ghost use Rattle.cmwq_refinement.specs.Pools.{PoolsAtFirst, PoolsRefine, NextsAreNext, RunnablesAreRunnable, StartsEnlistAlike, IdleRetireAlike, SlotsAreWorkers, RepliesApplyToPools, ActiveMayBeAdded, SlotsForWorkers, ItemsAreListedOnce};
 
 /// Where a pool is that of some entries, the calls for one more entry make it that of the longer history, and what it answers is what the
 /// definitions say.
@@ -16,4 +16,5 @@ pub fn pools_refine()
     ensures slots_are_workers { SlotsAreWorkers }
     ensures replies_apply_to_pools { RepliesApplyToPools }
     ensures active_may_be_added { ActiveMayBeAdded }
+    ensures items_are_listed_once { ItemsAreListedOnce }
 {}

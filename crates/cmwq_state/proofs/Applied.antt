@@ -1,5 +1,5 @@
 -- The parts to which an effect is applied are those of the longer history, and it may be applied to them.
-use Rattle.cmwq_state.specs.Common.{◌≡◌, ℕ, ◌*◌, ◌<◌, ◌≤◌, Bool, true, false, ◌&&◌, ◌==◌, ⊎_elim, List, [], ◌∷◌, length, filter, Option, Some, None, refl, sym, ap, ap₂, ◌∙◌, subst, arith, IsTrue, nat_lt, nat_le, if◌then◌else◌, is_some, IfSome, PoolId, Entry, Queueing, Booking, QueueShape, Call, Ticket, Layout, is_layout, pool_at, item_of, settles, due_in, booking_of, still_open, opening, IsLegal, newly_active, is_below_max_active, has_numbers, number_finished, PoolState, FlushBook, TimerRows, ending, is_ended, pools_refine, flushes_refine, barriers_refine, opened_are_there, open_are_there, In, all_in, in_filter, found, in_contained, eq-eqb, is_in, MayAllBeAdded, PwqState, IsPassed, IsPlacedIf, is_waiting, ArePlaced, width_by, and_parts, ltb-true, eqb-true, false_from_ne_true, cases_lt, All-from_recursion, waits, candidates, newly_are, filter_none, ticket_ended, ended_ready, unended_fit, Flight, tickets_refine, entries_apply_to_tickets, flights_refine, entries_apply_to_flights, pool_after_activation, pool_after_cancel, pool_after_worker, pool_before_activation, pool_of, AreFlushes, MayBeDoneInFlushes, MayBeginInFlushes, MayEndInFlushes, MayOpenInFlushes, flushes_after_begun, flushes_after_done, flushes_after_end, flushes_after_opening, flushes_after_queueings, MayBeDoneInBarriers, MayBeginInBarriers, MayEndInBarriers, MayOpenInBarriers, barriers_after_begun, barriers_after_done, barriers_after_end, barriers_after_opening, barriers_of, MayBeSet, timers_after_settling, timers_of, MayEndInFlight, MayOpenInFlight, MayStartInFlight, flights_after, flights_after_end, flights_after_opening, flights_after_start, flights_of, MayEndTicket, MayGiveTicket, tickets_after_end, tickets_after_giving, tickets_of, MayEndInPwqs, MayOpenInPwqs, pwqs_after_end, pwqs_after_opening}
+use Rattle.cmwq_state.specs.Common.{◌≡◌, ℕ, ◌*◌, ◌<◌, ◌≤◌, Bool, true, false, ◌&&◌, ◌==◌, ⊎_elim, List, [], ◌∷◌, length, filter, Option, Some, None, refl, sym, ap, ap₂, ◌∙◌, subst, arith, IsTrue, nat_lt, nat_le, if◌then◌else◌, is_some, IfSome, PoolId, Entry, Queueing, Booking, QueueShape, Call, Ticket, Layout, is_layout, pool_at, item_of, settles, due_in, booking_of, still_open, opening, IsLegal, newly_active, is_below_max_active, has_numbers, number_finished, PoolState, lists_item, no_pool, FlushBook, TimerRows, ending, is_ended, pools_refine, flushes_refine, barriers_refine, opened_are_there, open_are_there, In, all_in, in_filter, found, in_contained, eq-eqb, is_in, MayAllBeAdded, PwqState, IsPassed, IsPlacedIf, is_waiting, ArePlaced, width_by, and_parts, ltb-true, eqb-true, false_from_ne_true, cases_lt, All-from_recursion, waits, candidates, newly_are, filter_none, ticket_ended, ended_ready, unended_fit, Flight, tickets_refine, entries_apply_to_tickets, flights_refine, entries_apply_to_flights, pool_after_activation, pool_after_cancel, pool_after_worker, pool_before_activation, pool_of, AreFlushes, MayBeDoneInFlushes, MayBeginInFlushes, MayEndInFlushes, MayOpenInFlushes, flushes_after_begun, flushes_after_done, flushes_after_end, flushes_after_opening, flushes_after_queueings, MayBeDoneInBarriers, MayBeginInBarriers, MayEndInBarriers, MayOpenInBarriers, barriers_after_begun, barriers_after_done, barriers_after_end, barriers_after_opening, barriers_of, MayBeSet, timers_after_settling, timers_of, MayEndInFlight, MayOpenInFlight, MayStartInFlight, flights_after, flights_after_end, flights_after_opening, flights_after_start, flights_of, MayEndTicket, MayGiveTicket, tickets_after_end, tickets_after_giving, tickets_of, MayEndInPwqs, MayOpenInPwqs, pwqs_after_end, pwqs_after_opening}
 use Rattle.cmwq_theory_steps.proofs.Standing.{due_settles}
 use Rattle.cmwq_ticket.specs.Rows.{TicketBook}
 use Rattle.cmwq_theory_active.proofs.Rising.{opening_number}
@@ -8,7 +8,7 @@ use Rattle.cmwq_refinement.proofs.FlushMay.{entries_apply_to_flushes}
 use Rattle.cmwq_refinement.proofs.TimerMay.{timers_refine, timers_may_be_set}
 use Rattle.cmwq_refinement.proofs.BarrierMay.{entries_apply_to_barriers}
 use Rattle.cmwq_flush.specs.BarrierBook as barriers_book
-use Rattle.cmwq_refinement.proofs.PoolAdds.{active_may_be_added}
+use Rattle.cmwq_refinement.proofs.PoolAdds.{active_may_be_added, items_are_listed_once}
 use mathlib.Core.Bool.{beq}
 use Rattle.cmwq_refinement.proofs.PlacesFit.{open_there as open_in_there}
 use Rattle.cmwq_model.specs.declared.call.Call.TheVariants as call
@@ -23,12 +23,13 @@ use Rattle.cmwq_state.specs.Widths.{AreWidths, MaySetWidth}
 use Rattle.cmwq_state.proofs.WidthSteps.{widths_are}
 use Rattle.cmwq_state.proofs.Listing.{may_all_same}
 use Rattle.cmwq_state.proofs.PwqsSteps.{ArePassed, IsReadyToPass, are_placed, pwqs_ended, pwqs_opened, pwqs_passed}
-use Rattle.cmwq_state.specs.Tables.{pool_in, book_in, only, those_in, ArePools, AreBooks, EachPool, EachBook, IsListable, MayBeListed, MayEndInBooks, MayOpenInBooks, MayCancelInPools, MayBeDoneInBooks, MayBeginInBooks, MayEndWait, MayBeginWait}
+use Rattle.cmwq_state.specs.Tables.{pool_in, pool_place, pool_listing, ListEachItemOnce, book_in, only, those_in, ArePools, AreBooks, EachPool, EachBook, IsListable, MayBeListed, MayEndInBooks, MayOpenInBooks, MayCancelInPools, MayBeDoneInBooks, MayBeginInBooks, MayEndWait, MayBeginWait}
 use Rattle.cmwq_state.specs.Effects.{IsEffect}
 use Rattle.cmwq_model.specs.Prelude.{item_number}
 use Rattle.cmwq_state.specs.declared.effect.Effect.{Effect}
 use Rattle.cmwq_model.proofs.Limits.{Limits}
 use Rattle.std.proofs.lemmas.Bool.{false≢true}
+use Rattle.std.proofs.lemmas.List.{get_or_past}
 
 -- ---- pools
 
@@ -52,6 +53,15 @@ pub may_be_listed : (s : Layout) (past : List Entry) (f : Effect) (late : List P
 may_be_listed s past f late activated is many newly = rw newly (All-from_recursion (IsListable s.queues late) (newly_active s past f.entry) (all_in (IsListable s.queues late) (newly_active s past f.entry) (λ x h.
     let there = newly_there s past f.entry x is.legal h in let cpu = there.cpu in (there.queue, omega arith))))
 
+-- none is of a pool that there isn't
+none_there : (s : Layout) (past : List Entry) (f : Effect) (activated : List Queueing) → IsEffect s past f → activated ≡ newly_active s past f.entry → (p : PoolId) → s.cpus ≤ p.cpu.0 → those_in s.queues p activated ≡ []
+none_there s past f activated is newly p most = ap (filter (is_in s p)) newly ∙ filter_none (is_in s p) (newly_active s past f.entry) (all_in (λ x. is_in s p x ≡ false) (newly_active s past f.entry) apart)
+  where
+    apart : (x : Queueing) → In x (newly_active s past f.entry) → is_in s p x ≡ false
+    apart x h =
+        let there = newly_there s past f.entry x is.legal h in let cpu = there.cpu in
+        ap (λ b. b && beq (pool_at s x.place).high p.high) (false_from_ne_true (x.place.cpu.0 == p.cpu.0) (λ same. let is = eqb-true x.place.cpu.0 p.cpu.0 same in absurd (omega arith)))
+
 pub may_list_all : (s : Layout) (past : List Entry) (f : Effect) (old mid late : List PoolState) (activated : List Queueing) → IsEffect s past f → ArePools s past old → EachPool (λ p. pool_after_worker p f.entry.who f.entry.reply) old mid → EachPool (λ p. pool_after_cancel s p f.entry f.ended) mid late →
     activated ≡ newly_active s past f.entry → (p : PoolId) → MayAllBeAdded (only s.queues) (those_in s.queues p activated) (pool_in late p)
 may_list_all s past f old mid late activated is are first second newly p = ⊎_elim here nowhere (cases_lt p.cpu.0 s.cpus)
@@ -63,15 +73,31 @@ may_list_all s past f old mid late activated is are first second newly p = ⊎_e
         let may = active_may_be_added s past e p is.legal in
         may_all_same s (filter (is_in s p) activated) (pool_in late p) (rw (newly, applied) may)
 
-    apart : (x : Queueing) → In x (newly_active s past f.entry) → s.cpus ≤ p.cpu.0 → is_in s p x ≡ false
-    apart x h most =
-        let there = newly_there s past f.entry x is.legal h in let cpu = there.cpu in
-        ap (λ b. b && beq (pool_at s x.place).high p.high) (false_from_ne_true (x.place.cpu.0 == p.cpu.0) (λ same. let is = eqb-true x.place.cpu.0 p.cpu.0 same in absurd (omega arith)))
-
     nowhere : s.cpus ≤ p.cpu.0 → MayAllBeAdded (only s.queues) (those_in s.queues p activated) (pool_in late p)
     nowhere most =
-        let none : those_in s.queues p activated ≡ [] = ap (filter (is_in s p)) newly ∙ filter_none (is_in s p) (newly_active s past f.entry) (all_in (λ x. is_in s p x ≡ false) (newly_active s past f.entry) (λ x h. apart x h most)) in
-        rw none tt
+        rw (none_there s past f activated is newly p most) tt
+
+-- once they are listed, no two pools list one item
+pub list_once : (s : Layout) (past : List Entry) (f : Effect) (old mid late : List PoolState) (activated : List Queueing) → IsEffect s past f → ArePools s past old → EachPool (λ p. pool_after_worker p f.entry.who f.entry.reply) old mid → EachPool (λ p. pool_after_cancel s p f.entry f.ended) mid late →
+    activated ≡ newly_active s past f.entry → ListEachItemOnce s.queues activated late
+list_once s past f old mid late activated is are first second newly p q i hp hq =
+    items_are_listed_once s (f.entry ∷ past) p q i is.legal (in_end p hp) (in_end q hq)
+  where
+    in_end : (p : PoolId) → lists_item i (pool_listing s.queues activated late p) ≡ true → lists_item i (pool_of s (f.entry ∷ past) p) ≡ true
+    in_end p h = ⊎_elim here nowhere (cases_lt p.cpu.0 s.cpus)
+      where
+        here : p.cpu.0 < s.cpus → lists_item i (pool_of s (f.entry ∷ past) p) ≡ true
+        here less =
+            let e = f.entry in
+            ap (lists_item i) (sym (ap₂ (λ xs l. pool_after_activation s (filter (is_in s p) xs) l) newly
+            (second.each p ∙ ap₂ (pool_after_cancel s p e) is.ended (first.each p ∙ ap (pool_after_worker p e.who e.reply) (are.each p less)))
+            ∙ sym (pools_refine s past e p is.legal))) ∙ h
+
+        nowhere : s.cpus ≤ p.cpu.0 → lists_item i (pool_of s (f.entry ∷ past) p) ≡ true
+        nowhere most =
+            let none = none_there s past f activated is newly p most in
+            let past_all : length late ≤ pool_place p = omega (arith, second.many, first.many, are.many) in
+            absurd (false≢true (sym (ap (λ xs. lists_item i (pool_after_activation (only s.queues) xs (pool_in late p))) none ∙ ap (lists_item i) (get_or_past late (pool_place p) no_pool past_all)) ∙ h))
 
 -- ---- flush books
 

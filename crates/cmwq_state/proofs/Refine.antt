@@ -1,9 +1,9 @@
 -- The parts to which one more entry is applied are those of the longer history.
-use Rattle.cmwq_state.specs.Common.{◌≡◌, ◌≢◌, ℕ, ◌+◌, ◌*◌, ◌<◌, ◌≤◌, Bool, true, false, List, ◌∷◌, length, refl, sym, ap, ◌∙◌, arith, get_or, slice_set, slice_index_or, if◌then◌else◌, get_or-set_other, get_or_default, length-set, PoolId, Who, Caller, Worker, Entry, Layout, same_who, serial_of, PoolState, serials_go_on, one, most_callers, most_workers}
+use Rattle.cmwq_state.specs.Common.{◌≡◌, ◌≢◌, ℕ, ◌+◌, ◌*◌, ◌<◌, ◌≤◌, Bool, true, false, List, ◌∷◌, length, refl, sym, ap, ◌∙◌, arith, slice_set, slice_index_or, if◌then◌else◌, get_or-set_other, length-set, PoolId, Who, Caller, Worker, Entry, Layout, same_who, serial_of, PoolState, serials_go_on, one, most_callers, most_workers, pool_numbered}
 use Rattle.std.proofs.lemmas.Grind.{common_steps, get_or-set_at}
 use Rattle.cmwq_refinement.specs.Pools as pools
 use Rattle.cmwq_model.proofs.Limits.{Limits}
-use Rattle.cmwq_state.specs.Tables.{IsThere, who_place, who_places, pool_place, no_pool, ArePools, AreSerials}
+use Rattle.cmwq_state.specs.Tables.{IsThere, who_place, who_places, pool_place, ArePools, AreSerials}
 use Rattle.cmwq_theory_laws.proofs.OneEntry.{same_who-true}
 
 -- ---- serials
@@ -46,7 +46,8 @@ pool_place_inside p cpus n many here = by_high p.high where
   by_high true = omega arith
   by_high false = omega arith
 
-pub pool_found : (s : Layout) (past : List Entry) (found : List PoolState) (p : PoolId) (i : ℕ) (v : PoolState) → ArePools s past found → p.cpu.0 < s.cpus → i ≡ pool_place p → v ≡ get_or found i v → v ≡ pools.pool_of s past p
-pool_found s past found p i v are here at is =
-    let inside : i < length found = rw at (pool_place_inside p s.cpus (length found) are.many here) in
-    is ∙ (get_or_default found i v no_pool inside ∙ (ap (λ j. get_or found j no_pool) at ∙ are.each p here))
+pub pool_found : (s : Layout) (past : List Entry) (found : List PoolState) (p : PoolId) (i : ℕ) → ArePools s past found → p.cpu.0 < s.cpus → i ≡ pool_place p → pool_numbered found i ≡ pools.pool_of s past p
+pool_found s past found p i are here at = ap (pool_numbered found) at ∙ are.each p here
+
+pub pool_there : (s : Layout) (past : List Entry) (found : List PoolState) (p : PoolId) (i : ℕ) → ArePools s past found → p.cpu.0 < s.cpus → i ≡ pool_place p → i < length found
+pool_there s past found p i are here at = rw at (pool_place_inside p s.cpus (length found) are.many here)

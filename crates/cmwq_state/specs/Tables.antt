@@ -1,6 +1,6 @@
 -- The tables of a book: where each pool, each flush book and each serial stands, and what may be applied to them.
 use Rattle.std.specs.Prelude.{◌≡◌, ◌+◌, ◌*◌, ◌<◌, if◌then◌else◌}
-use Rattle.cmwq_state.specs.Common.{ℕ, List, [], length, filter, Option, Some, None, slice_index_or, Contains, IsTrue, All, PoolId, Who, Caller, Worker, Reply, Entry, Queueing, QueueShape, Ticket, Call, Layout, most_callers, most_workers, pool_at, serial_of, same_pool, PoolState, pool_without_task, pool_with_task, may_add, FlushBook, new_book, flush_tickets, IsReady, CanOpen, CanBegin, CanDrain, pool_of, task_for, MayReplyInPool, AreFlushes, is_in}
+use Rattle.cmwq_state.specs.Common.{ℕ, true, List, length, filter, Option, Some, None, slice_index_or, Contains, IsTrue, All, PoolId, Who, Caller, Worker, Reply, Entry, Queueing, QueueShape, Ticket, Call, Layout, most_callers, most_workers, pool_at, serial_of, same_pool, PoolState, pool_without_task, pool_with_task, pool_numbered, lists_item, may_list, FlushBook, new_book, flush_tickets, IsReady, CanOpen, CanBegin, CanDrain, pool_after_activation, pool_of, task_for, MayReplyInPool, AreFlushes, is_in}
 use Rattle.cmwq_model.specs.declared.call.Call.TheVariants as call
 
 -- the who is inside the layout
@@ -11,11 +11,8 @@ IsThere s (Worker w) = (w.pool.cpu.0 < s.cpus) × (w.index < s.workers)
 abbrev pub pool_place : PoolId → ℕ
 pool_place p = 2 * p.cpu.0 + (if p.high then 1 else 0)
 
-abbrev pub no_pool : PoolState
-no_pool = record { items = 0; listed = []; slots = [] }
-
 abbrev pub pool_in : List PoolState → PoolId → PoolState
-pool_in pools p = slice_index_or pools (pool_place p) no_pool
+pool_in pools p = pool_numbered pools (pool_place p)
 
 -- the serials of callers stand first, then those of each pool's workers, with room for as many of each as a shape may have
 abbrev pub who_place : Who → ℕ
@@ -30,9 +27,9 @@ pub record EachPool (after : PoolId → PoolState → PoolState) (old new : List
   pub many : length new ≡ length old
   pub each : (p : PoolId) → pool_in new p ≡ after p (pool_in old p)
 
--- one pool lists a number no more
-abbrev pub pool_without : PoolId → ℕ → PoolId → PoolState → PoolState
-pool_without at number p l = if same_pool at p then pool_without_task l number else l
+-- one pool lists a queueing of an item no more
+abbrev pub pool_without : PoolId → ℕ → ℕ → PoolId → PoolState → PoolState
+pool_without at number item p l = if same_pool at p then pool_without_task l number item else l
 
 -- each pool is that of the past
 pub record ArePools (s : Layout) (past : List Entry) (pools : List PoolState) : Type 0 where
@@ -114,7 +111,14 @@ IsListable queues pools x = (x.place.queue.0 < length queues) × (2 * x.place.cp
 
 pub record MayListOne (queues : List QueueShape) (x : Queueing) (pools : List PoolState) : Type 0 where
   pub there : IsListable queues pools x
-  pub may : IsTrue (may_add (pool_in pools (pool_at (only queues) x.place)) x.number x.item.0)
+  pub may : IsTrue (may_list pools (pool_place (pool_at (only queues) x.place)) x.item.0)
 
 abbrev pub MayBeListed : List QueueShape → List Queueing → List PoolState → Type 0
 MayBeListed queues xs pools = All (IsListable queues pools) xs
+
+-- a pool once these are listed, and that no two pools then list one item
+abbrev pub pool_listing : List QueueShape → List Queueing → List PoolState → PoolId → PoolState
+pool_listing queues xs pools p = pool_after_activation (only queues) (those_in queues p xs) (pool_in pools p)
+
+abbrev pub ListEachItemOnce : List QueueShape → List Queueing → List PoolState → Type 0
+ListEachItemOnce queues xs pools = (p q : PoolId) (i : ℕ) → lists_item i (pool_listing queues xs pools p) ≡ true → lists_item i (pool_listing queues xs pools q) ≡ true → p ≡ q

@@ -22,7 +22,7 @@ use crate::tables::{
 use cmwq_flush::{Barriers, Flushes};
 use cmwq_inflight::Flights;
 use cmwq_model::{QueueShape, Queueing};
-use cmwq_pool::Pool;
+use cmwq_pool::Pools;
 use cmwq_pwq::Pwqs;
 use cmwq_ticket::Tickets;
 use cmwq_timer::Timers;
@@ -63,15 +63,15 @@ pub(crate) fn apply_pwqs(
 
 /// The pools, with what became active.
 pub(crate) fn apply_pools(
-    pools: &mut Vec<Pool>,
+    pools: &mut Pools,
     queues: &[QueueShape],
     activated: &[Queueing],
     effect: &Effect,
 )
     requires { (s : Layout) × (past : List entries.Entry) × IsNextEffect s past effect.now × (queues.now ≡ s.queues)
-        × (activated.now ≡ newly_active s past effect.now.entry) × ArePools s past pools.old.items }
-    ensures { (s : Layout) (past : List entries.Entry) → IsNextEffect s past effect.now → queues.now ≡ s.queues → activated.now ≡ newly_active s past effect.now.entry → ArePools s past pools.old.items
-        → ArePools s (effect.now.entry ∷ past) pools.new.items }
+        × (activated.now ≡ newly_active s past effect.now.entry) × ArePools s past pools.old }
+    ensures { (s : Layout) (past : List entries.Entry) → IsNextEffect s past effect.now → queues.now ≡ s.queues → activated.now ≡ newly_active s past effect.now.entry → ArePools s past pools.old
+        → ArePools s (effect.now.entry ∷ past) pools.new }
 {
     let entry = effect.entry;
     reply_in_pools(pools, entry.who, entry.reply);

@@ -13,7 +13,7 @@ use crate::tables::who_places;
 use cmwq_flush::{Barriers, Flushes};
 use cmwq_inflight::Flights;
 use cmwq_model::{Counts, NoMemory, QueueShape};
-use cmwq_pool::Pool;
+use cmwq_pool::Pools;
 use cmwq_pwq::Pwqs;
 use cmwq_ticket::Tickets;
 use cmwq_timer::Timers;
@@ -23,7 +23,7 @@ use std::alloc::Global;
 #[derive(Drop)]
 pub(crate) struct ItemParts {
     pub(crate) serials: Vec<u64>,
-    pub(crate) pools: Vec<Pool>,
+    pub(crate) pools: Pools,
     pub(crate) timers: Timers,
     pub(crate) flights: Flights,
 }
@@ -48,12 +48,17 @@ pub(crate) struct QueueParts {
 /// What is kept of callers, workers and items before the first entry.
 pub(crate) fn new_item_parts(alloc: Global, counts: Counts) -> Result<ItemParts, NoMemory>
     ensures serials { IfOk result (λ parts. parts.serials.items ≡ replicate (who_places counts.cpus) 0) }
-    ensures pools { IfOk result (λ parts. parts.pools.items ≡ replicate (2 * counts.cpus) (new_pool_state counts.items counts.workers)) }
+    ensures pools { IfOk result (λ parts. parts.pools ≡ replicate (2 * counts.cpus) (new_pool_state counts.items counts.workers)) }
     ensures timers { IfOk result (λ parts. parts.timers ≡ replicate counts.items None) }
     ensures flights { IfOk result (λ parts. parts.flights ≡ replicate counts.items no_flight) }
 {
     let serials = vec![in alloc; 0; who_places(counts.cpus)]?;
-    let pools = new_pools(alloc, counts.cpus, counts.items, counts.workers)?;
+    let pools = Pools::new(
+        alloc,
+        2 * u16::from(counts.cpus),
+        counts.items,
+        counts.workers,
+    )?;
     let timers = Timers::new(alloc, counts.items)?;
     let flights = Flights::new(alloc, counts.items)?;
     Ok(ItemParts {
@@ -105,18 +110,6 @@ pub(crate) fn new_queue_parts(
         pwqs,
         most,
     })
-}
-
-/// Two new pools for each CPU.
-fn new_pools(alloc: Global, cpus: u8, items: u16, workers: u8) -> Result<Vec<Pool>, NoMemory>
-    ensures { IfOk result (λ pools. pools.items ≡ replicate (2 * cpus) (new_pool_state items workers)) }
-{
-    let many = 2 * usize::from(cpus);
-    let mut pools = Vec::with_capacity(alloc, many)?;
-    for index in 0..many {
-        pools.push_reserved(Pool::new(alloc, items, workers)?);
-    }
-    Ok(pools)
 }
 
 /// A new flush book for each queue.

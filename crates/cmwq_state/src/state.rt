@@ -21,7 +21,7 @@ use crate::tables::who_place;
 use cmwq_flush::{Barriers, Flushes};
 use cmwq_inflight::Flights;
 use cmwq_model::{Call, Counts, Entry, NoMemory, QueueShape, Shape, Who};
-use cmwq_pool::Pool;
+use cmwq_pool::Pools;
 use cmwq_pwq::Pwqs;
 use cmwq_tail::Trail;
 use cmwq_ticket::Tickets;
@@ -40,7 +40,7 @@ pub struct State {
     queues: Vec<QueueShape>,
     room: u64,
     entries: Trail<Entry>,
-    pools: Vec<Pool>,
+    pools: Pools,
     books: Vec<Flushes>,
     barriers: Barriers,
     timers: Timers,
@@ -65,7 +65,7 @@ impl Model for State {
     ghost view = { λ s. record { layout = layout_of s.counts s.queues.items; room = s.room; entries = s.entries } };
 
     ghost invariant = { λ s. IsState (layout_of s.counts s.queues.items) s.room s.entries
-        (record { pools = s.pools.items; books = s.books.items; barriers = s.barriers; timers = s.timers; time = s.time; serials = s.serials.items; flights = s.flights; tickets = s.tickets; gone = s.gone.items; pwqs = s.pwqs; most = s.most.items; frozen = s.frozen; owing = s.owing }) };
+        (record { pools = s.pools; books = s.books.items; barriers = s.barriers; timers = s.timers; time = s.time; serials = s.serials.items; flights = s.flights; tickets = s.tickets; gone = s.gone.items; pwqs = s.pwqs; most = s.most.items; frozen = s.frozen; owing = s.owing }) };
 }
 
 impl State {

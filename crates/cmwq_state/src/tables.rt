@@ -6,12 +6,13 @@ ghost use Rattle.cmwq_model.specs.declared.id.Who.{Who};
 ghost use Rattle.cmwq_model.specs.declared.id.PoolId.{PoolId};
 ghost use Rattle.cmwq_model.specs.declared.entry.Entry.{Entry};
 ghost use Rattle.cmwq_model.specs.Prelude.{Layout, fits, most_cpus, pool_at, finishes, frozen_after, item_number, number_finished};
+ghost use Rattle.cmwq_pool.specs.Pools.{pool_numbered, with_pool};
 ghost use Rattle.cmwq_refinement.specs.Pools.{MayAllBeAdded, MayReplyInPool, pool_after_activation, pool_after_cancel, pool_after_reply, pool_after_worker};
 ghost use Rattle.cmwq_refinement.specs.FlushBooks.{flushes_after_begun, flushes_after_done, flushes_after_end, flushes_after_opening};
 ghost use Rattle.cmwq_refinement.specs.BarrierBooks.{MayBeDoneInBarriers, MayBeginInBarriers, MayEndInBarriers, MayOpenInBarriers, barriers_after_begun, barriers_after_done, barriers_after_end, barriers_after_opening};
 ghost use Rattle.cmwq_refinement.specs.Timers.{MayBeSet, timers_after_settling};
 ghost use Rattle.cmwq_state.specs.Tables as tables;
-ghost use Rattle.cmwq_state.specs.Tables.{EachBook, EachPool, IsThere, MayBeDoneInBooks, MayBeListed, MayBeginInBooks, MayCancelInPools, MayEndInBooks, MayListOne, MayOpenInBooks, MayReplyToWorker, only, pool_in, pool_with, pool_without, those_in};
+ghost use Rattle.cmwq_state.specs.Tables.{EachBook, EachPool, IsThere, ListEachItemOnce, MayBeDoneInBooks, MayBeListed, MayBeginInBooks, MayCancelInPools, MayEndInBooks, MayListOne, MayOpenInBooks, MayReplyToWorker, only, pool_in, pool_with, pool_without, those_in};
 ghost use Rattle.cmwq_refinement.specs.Flights.{MayEndInFlight, MayEndOf, MayOpenInFlight, MayStartInFlight, flights_after_end, flights_after_opening, flights_after_start};
 ghost use Rattle.cmwq_refinement.specs.Tickets.{MayEndTicket, MayGiveTicket, tickets_after_end, tickets_after_giving};
 ghost use Rattle.cmwq_state.specs.Gone.{LosesQueue, MayLoseQueue};
@@ -25,7 +26,7 @@ use cmwq_model::{
     Booking, Call, ItemId, MOST_CALLERS, MOST_WORKERS, Number, Place, PoolId, QueueShape, Queueing,
     Reply, Ticket, Who,
 };
-use cmwq_pool::Pool;
+use cmwq_pool::Pools;
 use cmwq_pwq::Pwqs;
 use cmwq_ticket::Tickets;
 use cmwq_timer::Timers;
@@ -35,10 +36,11 @@ pub fn those_who_fit_are_there()
     ensures { (s : Layout) (who : Who) (c : Call) → fits s who c ≡ true → IsThere s who }
 {}
 
-pub(crate) fn pool_place(pool: PoolId) -> usize
+/// The number of a pool: two stand beside each other for each CPU.
+pub(crate) fn pool_place(pool: PoolId) -> u16
     ensures { result ≡ tables.pool_place pool }
 {
-    2 * usize::from(pool.cpu.0) + usize::from(pool.high)
+    2 * u16::from(pool.cpu.0) + u16::from(pool.high)
 }
 
 pub(crate) fn who_place(who: Who) -> usize
@@ -48,7 +50,7 @@ pub(crate) fn who_place(who: Who) -> usize
         Who::Caller(caller) => usize::from(caller.0),
         Who::Worker(worker) => {
             usize::from(MOST_CALLERS)
-                + usize::from(MOST_WORKERS) * pool_place(worker.pool)
+                + usize::from(MOST_WORKERS) * usize::from(pool_place(worker.pool))
                 + usize::from(worker.index)
         }
     }
@@ -62,31 +64,32 @@ pub(crate) fn who_places(cpus: u8) -> usize
 }
 
 /// Applies a reply to the pool of its worker.
-fn reply_in_pool(pool: &mut Pool, worker: u8, reply: Reply)
-    requires { MayReplyInPool reply pool.old worker }
-    ensures { pool.new ≡ pool_after_reply reply worker pool.old }
+fn reply_in_pool(pools: &mut Pools, pool: u16, worker: u8, reply: Reply)
+    requires pool { pool < length pools.old }
+    requires may { MayReplyInPool reply (pool_numbered pools.old pool) worker }
+    ensures { pools.new ≡ with_pool (pool_after_reply reply worker) pool pools.old }
 {
     match reply {
         Reply::Started(_) | Reply::StartedEnlist(_, _) => {
-            pool.start(worker);
+            pools.start(pool, worker);
         }
         Reply::Finished(_) => {
-            pool.finish(worker);
+            pools.finish(pool, worker);
         }
-        Reply::Slept => pool.sleep(worker),
-        Reply::Woke => pool.wake(worker),
-        Reply::Retired => pool.retire(worker),
+        Reply::Slept => pools.sleep(pool, worker),
+        Reply::Woke => pools.wake(pool, worker),
+        Reply::Retired => pools.retire(pool, worker),
         _ => {}
     }
 }
 
 /// Applies a worker's reply to its pool.
-pub(crate) fn reply_in_pools(pools: &mut Vec<Pool>, who: Who, reply: Reply)
-    requires { MayReplyToWorker who reply pools.old.items }
-    ensures { EachPool (λ p. pool_after_worker p who reply) pools.old.items pools.new.items }
+pub(crate) fn reply_in_pools(pools: &mut Pools, who: Who, reply: Reply)
+    requires { MayReplyToWorker who reply pools.old }
+    ensures { EachPool (λ p. pool_after_worker p who reply) pools.old pools.new }
 {
     if let Who::Worker(worker) = who {
-        reply_in_pool(&mut pools[pool_place(worker.pool)], worker.index, reply);
+        reply_in_pool(pools, pool_place(worker.pool), worker.index, reply);
     }
 }
 
@@ -125,11 +128,11 @@ pub(crate) fn move_barriers(book: &mut Barriers, ended: Option<Queueing>, opened
 }
 
 /// Takes a queueing that was cancelled or replaced from its pool.
-pub(crate) fn remove_from_pool(pools: &mut Vec<Pool>, pool: PoolId, number: Number)
-    requires { tables.pool_place pool < length pools.old.items }
-    ensures { EachPool (pool_without pool number) pools.old.items pools.new.items }
+pub(crate) fn remove_from_pool(pools: &mut Pools, pool: PoolId, number: Number, item: ItemId)
+    requires { tables.pool_place pool < length pools.old }
+    ensures { EachPool (pool_without pool number item.0) pools.old pools.new }
 {
-    pools[pool_place(pool)].remove(number);
+    pools.remove(pool_place(pool), number, item);
 }
 
 fn place_pool(queues: &[QueueShape], place: Place) -> PoolId
@@ -155,16 +158,17 @@ fn is_finish_of(reply: Reply, number: Number) -> bool
 /// Applies the end of a queueing to its pool: where it didn't finish, it is listed no more.
 pub(crate) fn cancel_in_pools(
     queues: &[QueueShape],
-    pools: &mut Vec<Pool>,
+    pools: &mut Pools,
     reply: Reply,
     ended: Option<Queueing>,
 )
-    requires { MayCancelInPools ended queues.now pools.old.items }
-    ensures { (s : Layout) (e : Entry) → s.queues ≡ queues.now → e.reply ≡ reply → EachPool (λ p. pool_after_cancel s p e ended) pools.old.items pools.new.items }
+    requires { MayCancelInPools ended queues.now pools.old }
+    ensures { (s : Layout) (e : Entry) → s.queues ≡ queues.now → e.reply ≡ reply → EachPool (λ p. pool_after_cancel s p e ended) pools.old pools.new }
 {
     if let Some(queueing) = ended {
         if !is_finish_of(reply, queueing.number) {
-            remove_from_pool(pools, place_pool(queues, queueing.place), queueing.number);
+            let pool = place_pool(queues, queueing.place);
+            remove_from_pool(pools, pool, queueing.number, queueing.item);
         }
     }
 }
@@ -246,23 +250,29 @@ pub(crate) fn begin_in_barriers(book: &mut Barriers, begun: Option<Ticket>)
 }
 
 /// Lists a queueing that became active in its pool.
-fn list_one(queues: &[QueueShape], pools: &mut Vec<Pool>, queueing: Queueing)
-    requires { MayListOne queues.now queueing pools.old.items }
-    ensures { EachPool (pool_with queues.now queueing) pools.old.items pools.new.items }
+fn list_one(queues: &[QueueShape], pools: &mut Pools, queueing: Queueing)
+    requires { MayListOne queues.now queueing pools.old }
+    ensures { EachPool (pool_with queues.now queueing) pools.old pools.new }
 {
     let queue = queues[usize::from(queueing.place.queue.0)];
     let pool = PoolId {
         cpu: queueing.place.cpu,
         high: queue.high,
     };
-    pools[pool_place(pool)].add(queueing.number, queueing.item, queue.intensive);
+    pools.add(
+        pool_place(pool),
+        queueing.number,
+        queueing.item,
+        queue.intensive,
+    );
 }
 
 /// Lists what became active in its pools.
-pub(crate) fn list_active(queues: &[QueueShape], pools: &mut Vec<Pool>, activated: &[Queueing])
-    requires there { MayBeListed queues.now activated.now pools.old.items }
-    requires may { (p : PoolId) → MayAllBeAdded (only queues.now) (those_in queues.now p activated.now) (pool_in pools.old.items p) }
-    ensures { EachPool (λ p. pool_after_activation (only queues.now) (those_in queues.now p activated.now)) pools.old.items pools.new.items }
+pub(crate) fn list_active(queues: &[QueueShape], pools: &mut Pools, activated: &[Queueing])
+    requires there { MayBeListed queues.now activated.now pools.old }
+    requires may { (p : PoolId) → MayAllBeAdded (only queues.now) (those_in queues.now p activated.now) (pool_in pools.old p) }
+    requires once { ListEachItemOnce queues.now activated.now pools.old }
+    ensures { EachPool (λ p. pool_after_activation (only queues.now) (those_in queues.now p activated.now)) pools.old pools.new }
 {
     for queueing in activated {
         list_one(queues, pools, *queueing);

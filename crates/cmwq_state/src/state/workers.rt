@@ -6,6 +6,7 @@ ghost use Rattle.cmwq_model.specs.Prelude.{past_of, IsLegal};
 ghost use Rattle.cmwq_model.specs.Runs as runs;
 ghost use Rattle.cmwq_model.specs.Workers as workers;
 ghost use Rattle.cmwq_model.specs.Active as active;
+ghost use Rattle.cmwq_pool.specs.PoolState.{next_task};
 ghost use Rattle.cmwq_refinement.specs.Pools.{IsSlotOf, pool_of, run_task};
 ghost use Rattle.cmwq_refinement.specs.ByNumber.{number_of_queueing};
 ghost use Rattle.cmwq_state.specs.Tables as tables;
@@ -13,18 +14,9 @@ ghost use Rattle.cmwq_state.specs.Tables as tables;
 use crate::state::State;
 use crate::tables::pool_place;
 use cmwq_model::{Number, PoolId, Queueing, WorkerId};
-use cmwq_pool::{Pool, Slot};
+use cmwq_pool::{Slot, Task};
 
 impl State {
-    /// The pool with this name.
-    pub(crate) fn pool(&self, pool: PoolId) -> &Pool
-        requires { pool.cpu.0 < self.now.layout.cpus }
-        ensures is { result.now ≡ pool_of self.now.layout (past_of self.now.entries) pool }
-        ensures legal { IsLegal self.now.layout (past_of self.now.entries) }
-    {
-        &self.pools[pool_place(pool)]
-    }
-
     /// The slot of a worker in its pool.
     pub(crate) fn slot(&self, worker: WorkerId) -> Slot
         requires { tables.IsThere self.now.layout (Worker worker) }
@@ -32,7 +24,7 @@ impl State {
         ensures task { result.run ≡ run_task self.now.layout (past_of self.now.entries) worker }
         ensures legal { IsLegal self.now.layout (past_of self.now.entries) }
     {
-        self.pool(worker.pool).slot(worker.index)
+        self.pools.slot(pool_place(worker.pool), worker.index)
     }
 
     /// Whether the worker has a run and is awake.
@@ -72,7 +64,7 @@ impl State {
         requires { tables.IsThere self.now.layout (Worker worker) }
         ensures { result ≡ (workers.is_idle (past_of self.now.entries) worker.pool worker.index && workers.may_retire self.now.layout (past_of self.now.entries) worker.pool) }
     {
-        self.pool(worker.pool).may_retire(worker.index)
+        self.pools.may_retire(pool_place(worker.pool), worker.index)
     }
 
     /// The number of the next queueing to start.
@@ -80,7 +72,7 @@ impl State {
         requires { pool.cpu.0 < self.now.layout.cpus }
         ensures { result ≡ option_map number_of_queueing (active.next self.now.layout (past_of self.now.entries) pool) }
     {
-        self.pool(pool).next()
+        self.pools.next(pool_place(pool))
     }
 
     /// How many runs hold the pool: those that are awake, but for those of CPU intensive queues.
@@ -88,7 +80,7 @@ impl State {
         requires { pool.cpu.0 < self.now.layout.cpus }
         ensures { result ≡ workers.runnable self.now.layout (past_of self.now.entries) pool }
     {
-        self.pool(pool).runnable()
+        self.pools.runnable(pool_place(pool))
     }
 
     /// The worker of the reserve that is enlisted where this one starts a queueing.
@@ -96,7 +88,8 @@ impl State {
         requires { tables.IsThere self.now.layout (Worker worker) }
         ensures { result ≡ workers.enlisted_by self.now.layout (past_of self.now.entries) worker }
     {
-        self.pool(worker.pool).would_enlist(worker.index)
+        self.pools
+            .would_enlist(pool_place(worker.pool), worker.index)
     }
 
     /// The number of what the worker runs.
@@ -110,12 +103,21 @@ impl State {
         }
     }
 
+    /// The task that the pool would start next.
+    pub(crate) fn next_task(&self, pool: PoolId) -> Option<Task>
+        requires { pool.cpu.0 < self.now.layout.cpus }
+        ensures is { result ≡ next_task (pool_of self.now.layout (past_of self.now.entries) pool) }
+        ensures legal { IsLegal self.now.layout (past_of self.now.entries) }
+    {
+        self.pools.next_task(pool_place(pool))
+    }
+
     /// What the pool would start next.
     pub fn next_queueing(&self, pool: PoolId) -> Option<Queueing>
         requires { pool.cpu.0 < self.now.layout.cpus }
         ensures { result ≡ active.next self.now.layout (past_of self.now.entries) pool }
     {
-        match self.pool(pool).next_task() {
+        match self.next_task(pool) {
             Some(task) => self.unstarted(task.item),
             None => None,
         }

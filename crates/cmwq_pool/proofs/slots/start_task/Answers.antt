@@ -1,5 +1,5 @@
 use Rattle.std.proofs.lemmas.List.{length-set}
-use Rattle.cmwq_pool.proofs.Marks.{enlisted_by-in_range}
+use Rattle.cmwq_pool.proofs.Starting.{enlisted_by-in_range}
 use Rattle.cmwq_pool.proofs.slots.start_task.Goals as goal
 
 pub enlist-requires : goal.enlist-requires

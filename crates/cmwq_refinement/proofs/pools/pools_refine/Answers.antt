@@ -2,7 +2,7 @@ use Rattle.cmwq_refinement.proofs.PoolSteps.{pools_at_first, pools_refine}
 use Rattle.cmwq_refinement.proofs.PoolNext.{nexts_are_next}
 use Rattle.cmwq_refinement.proofs.PoolReads.{runnables_are_runnable, starts_enlist_alike, idle_retire_alike, slots_for_workers, slots_are_workers}
 use Rattle.cmwq_refinement.proofs.PoolMay.{replies_apply_to_pools}
-use Rattle.cmwq_refinement.proofs.PoolAdds.{active_may_be_added}
+use Rattle.cmwq_refinement.proofs.PoolAdds.{active_may_be_added, items_are_listed_once}
 use Rattle.cmwq_refinement.proofs.pools.pools_refine.Goals as goal
 
 pub returns : goal.returns
@@ -17,4 +17,5 @@ returns c = record {
   slots_are_workers = slots_are_workers;
   replies_apply_to_pools = replies_apply_to_pools;
   active_may_be_added = active_may_be_added;
+  items_are_listed_once = items_are_listed_once;
 }
