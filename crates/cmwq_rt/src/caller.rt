@@ -336,7 +336,7 @@ impl<N: HubName> Caller<N> {
         ensures done { IfOk result (λ reply. Completes N.layout self.old (calls.Tick ticks) reply self.new) }
         ensures broke { IfErr result (λ f. BrokeOff N.layout self.old (calls.Tick ticks) f self.new) }
     {
-        let mut monitor = hub.spacious(rt, hub.lock(rt), self.participant.who(), 1);
+        let mut monitor = hub.spacious(rt, hub.lock(rt), self.participant.who(), hub.with_fires());
         let reply = match monitor.call(rt, &mut self.participant, Call::Tick { ticks }) {
             Ok(reply) => reply,
             Err(fault) => {
@@ -344,10 +344,10 @@ impl<N: HubName> Caller<N> {
                 return Err(fault);
             }
         };
-        match hub.until_fired(rt, monitor, &mut self.participant) {
-            Ok(()) => Ok(reply),
-            Err(fault) => Err(fault),
+        if let Err(fault) = hub.until_fired(rt, monitor, &mut self.participant) {
+            return Err(fault);
         }
+        Ok(reply)
     }
 
     /// Waits until all that was queued on a queue before has ended (`flush_workqueue`): the entry that begins the wait, and the one that ends it.

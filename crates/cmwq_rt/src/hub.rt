@@ -16,6 +16,7 @@ ghost use Rattle.cmwq_rt.specs.Ending.{EndsAs, OneIsStranger};
 
 use crate::caller::Caller;
 use crate::condvars::Condvars;
+use crate::parts::HubParts;
 use crate::worker::Worker;
 use cmwq_model::{Call, Entry, ItemId, Number, Reply, Shape, Who};
 use cmwq_monitor::{Journal, MOST_FIRES, Monitor, Participant, Rest, RunFault};
@@ -104,6 +105,11 @@ impl<N: HubName> Hub<N> {
         let mut monitor = self.condvars.wait(rt, monitor, who);
         monitor.awakes(who);
         monitor
+    }
+
+    /// How many entries are made in one hold of the lock, at most, where what is due is fired behind the first.
+    pub(crate) fn with_fires(&self) -> u32 {
+        HubParts::least_kept(&self.shape)
     }
 
     /// Sleeps until there is space for so many entries, or makes it where nobody wants them.
@@ -225,10 +231,10 @@ impl<N: HubName> Hub<N> {
     }
 
     /// Fires what is due, `MOST_FIRES` timers in a hold of the lock, so that others come in between; and lets the lock go.
-    pub(crate) fn until_fired<R: Wait>(
-        &self,
+    pub(crate) fn until_fired<'a, R: Wait>(
+        &'a self,
         rt: &R,
-        monitor: MutexGuard<Monitor<N>>,
+        monitor: MutexGuard<'a, Monitor<N>>,
         participant: &mut Participant<N>,
     ) -> Result<(), RunFault>
         requires caller { is_caller participant.old.who ≡ true }
@@ -241,23 +247,28 @@ impl<N: HubName> Hub<N> {
         for _ in rt.forever() {
             let most = u32::from(left.min(MOST_FIRES));
             monitor = self.spacious(rt, monitor, participant.who(), most);
-            let fired = monitor.fire_some(rt, participant, left);
-            self.leave(monitor);
-            match fired {
-                Ok(None) => return Ok(()),
+            match monitor.fire_some(rt, participant, left) {
                 Ok(Some(rest)) => left = rest,
-                Err(fault) => return Err(fault),
+                Ok(None) => {
+                    self.leave(monitor);
+                    return Ok(());
+                }
+                Err(fault) => {
+                    self.leave(monitor);
+                    return Err(fault);
+                }
             }
+            self.leave(monitor);
             monitor = self.lock(rt);
         }
         unreachable!()
     }
 
     /// Sleeps until the wait that the call began has ended, and lets the lock go. Behind a drain what is due is fired.
-    pub(crate) fn until_ended<R: Wait>(
-        &self,
+    pub(crate) fn until_ended<'a, R: Wait>(
+        &'a self,
         rt: &R,
-        monitor: MutexGuard<Monitor<N>>,
+        monitor: MutexGuard<'a, Monitor<N>>,
         participant: &mut Participant<N>,
         call: Call,
         ticket: Number,
@@ -266,9 +277,13 @@ impl<N: HubName> Hub<N> {
         ensures ended { IfOk result (λ _. HasEnded N.layout participant.old call ticket participant.new) }
         ensures stopped { IfErr result (λ f. HasEndedSome N.layout participant.old call ticket f participant.new) }
     {
+        let most = match call {
+            Call::Drain { .. } => self.with_fires(),
+            _ => 1,
+        };
         let mut monitor = monitor;
         for _ in rt.forever() {
-            monitor = self.spacious(rt, monitor, participant.who(), 1);
+            monitor = self.spacious(rt, monitor, participant.who(), most);
             match monitor.end_ticket(rt, participant, ticket) {
                 Ok(true) => {
                     if is_drain(call) {
