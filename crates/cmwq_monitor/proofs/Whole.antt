@@ -5,7 +5,6 @@ use Rattle.cmwq_model.specs.declared.reply.Reply.TheVariants as reply
 use Rattle.cmwq_monitor.specs.Participants.{View, made_by}
 use Rattle.cmwq_monitor.specs.Calls.{Extends, own_entry}
 use Rattle.cmwq_monitor.specs.declared.fault.RunFault.{RunFault}
-use Rattle.cmwq_monitor.specs.declared.fault.RunFault.TheVariants.{NoMemory}
 use Rattle.cmwq_monitor.specs.Whole.{Completes, BrokeOff, Behind, Fires, EndsOwn, EndsFiring, EndsTicket, Stops, is_tick, is_drain, ticket_in_reply, ticket_left}
 use Rattle.cmwq_monitor.specs.Steps.{HasFired, HasFiredSome, HasEnded, HasEndedSome, still_unended}
 use Rattle.cmwq_monitor.proofs.Entries.{gains_none, gains_more}
@@ -40,11 +39,11 @@ left_more : (e : Entry) (es : List Entry) → ticket_in_reply e.reply ≡ None �
 left_more e [] none = none
 left_more e (f ∷ es) none = refl
 
-pub tick_broke : (s : Layout) (v m w : View) (c : Call) (r : Reply) (f : RunFault) → is_tick c ≡ true → ticket_in_reply r ≡ None → f ≡ NoMemory None → Extends s v c r m → HasFiredSome m w → BrokeOff s v c f w
-tick_broke s v m w c r f is none told x some =
+pub tick_broke : (s : Layout) (v m w : View) (c : Call) (r : Reply) (f : RunFault) → is_tick c ≡ true → ticket_in_reply r ≡ None → Stops w None f → Extends s v c r m → HasFiredSome m w → BrokeOff s v c f w
+tick_broke s v m w c r f is none stops x some =
     let e = own_entry s x.before v c in
     let left : ticket_left (e ∷ some.0) ≡ None = left_more e some.0 (ap ticket_in_reply (sym x.reply) ∙ none) in
-    inr (e, some.0, gains_more v m w (e ∷ []) some.0 x.gains some.1, (refl, rw is some.2), inl (told ∙ ap NoMemory (sym left)))
+    inr (e, some.0, gains_more v m w (e ∷ []) some.0 x.gains some.1, (refl, rw is some.2), subst (λ t. Stops w t f) (sym left) stops)
 
 pub ended_completes : (s : Layout) (v m w : View) (c : Call) (r : Reply) (k : ℕ) → is_tick c ≡ false → ticket_in_reply r ≡ Some k → Extends s v c r m → HasEnded s m c k w → Completes s v c r w
 ended_completes s v m w c r k is given x ended =
@@ -97,13 +96,13 @@ ended_fired s v m w c k is x fired =
       legal = fired.legal;
     }
 
-pub ended_some : (s : Layout) (v m w : View) (c : Call) (k : ℕ) (f : RunFault) → is_drain c ≡ true → f ≡ NoMemory None → Extends s v (call.End k) reply.Done m → HasFiredSome m w → HasEndedSome s v c k f w
-ended_some s v m w c k f is told x some =
+pub ended_some : (s : Layout) (v m w : View) (c : Call) (k : ℕ) (f : RunFault) → is_drain c ≡ true → Stops w None f → Extends s v (call.End k) reply.Done m → HasFiredSome m w → HasEndedSome s v c k f w
+ended_some s v m w c k f is stops x some =
     let e = own_entry s x.before v (call.End k) in (
       e ∷ some.0,
       gains_more v m w (e ∷ []) some.0 x.gains some.1,
       inr (e, some.0, refl, (refl, sym x.reply), rw is some.2),
-      inl told,
+      stops,
     )
 
 pub ended_not : (v w : View) (s : Layout) (c : Call) (k : ℕ) (f : RunFault) → w ≡ v → Stops v (Some k) f → HasEndedSome s v c k f w

@@ -1,5 +1,5 @@
 -- What one step under the lock leaves.
-use Rattle.std.specs.Prelude.{◌≡◌, ◌⊎◌, ◌&&◌, ◌≤◌, ◌∷◌}
+use Rattle.std.specs.Prelude.{◌≡◌, ◌⊎◌, ◌&&◌, ◌≤◌, ◌∷◌, ◌++◌}
 use Rattle.cmwq_monitor.specs.Common.{ℕ, Bool, true, false, List, [], length, All, Option, Some, None, MatchBool, Call, Reply, Entry, Layout, serial_of, IsLegal, past_of, has_room}
 use Rattle.cmwq_model.specs.declared.call.Call.TheVariants as call
 use Rattle.cmwq_model.specs.declared.reply.Reply.TheVariants as reply
@@ -46,6 +46,16 @@ is_nothing r = false
 -- some fires were made
 abbrev pub HasFiredSome : View → View → Type 0
 HasFiredSome v w = (es : List Entry) × Gains v es w × All IsFire es
+
+-- What is due is being fired: whatever fires are made next, so many at most, those that were made are all that was due together with them.
+pub record IsFiring (s : Layout) (left : ℕ) (v w : View) : Type 0 where
+  pub entries : List Entry
+  pub gains : Gains v entries w
+  pub fires : All IsFire entries
+  pub goes_on : (history more : List Entry) → Fires s v.who history left (made_by v.who v.seen ++ entries) more → Fires s v.who history s.items (made_by v.who v.seen) (entries ++ more)
+  pub counts : serial_of (past_of w.seen) w.who ≡ w.serial
+  pub ends : EndsFiring s v.who w.seen
+  pub legal : IsLegal s (past_of w.seen)
 
 -- a worker starts a queueing of its pool
 abbrev pub is_start : Reply → Bool

@@ -9,6 +9,6 @@ mod sleepers;
 
 pub use fault::{RunFault, Shortage};
 pub use journal::{Journal, Rest};
-pub use monitor::Monitor;
+pub use monitor::{MOST_FIRES, Monitor};
 pub use participant::Participant;
 pub use sleepers::{Sleepers, Wakes};

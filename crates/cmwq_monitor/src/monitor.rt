@@ -11,8 +11,8 @@ ghost use Rattle.cmwq_monitor.specs.Participants.{View, Gains, is_caller};
 ghost use Rattle.cmwq_monitor.specs.Held.{Held, held_at_first, IsOpenTo, GoesOn, LeavesHeld, is_over, active_in};
 ghost use Rattle.cmwq_monitor.specs.Calls.{Extends, own_entry};
 ghost use Rattle.cmwq_monitor.specs.Faults.{SaysFault, Refused, IsStranger, is_full};
-ghost use Rattle.cmwq_monitor.specs.Whole.{Completes, BrokeOff, Stops, EndsOwn, is_drain};
-ghost use Rattle.cmwq_monitor.specs.Steps.{InStep, TellsFirst, Lacks, HasFired, HasFiredSome, HasEnded, HasEndedSome, WouldNot, IsViewKept, is_start, is_retire_reply, is_nothing};
+ghost use Rattle.cmwq_monitor.specs.Whole.{Stops};
+ghost use Rattle.cmwq_monitor.specs.Steps.{InStep, IsFiring, TellsFirst, Lacks, HasFired, HasFiredSome, WouldNot, IsViewKept, is_start, is_retire_reply, is_nothing};
 ghost use Rattle.cmwq_monitor.specs.Starts.{StartsOne};
 ghost use Rattle.cmwq_monitor.specs.Settled.{Settles};
 ghost use Rattle.cmwq_monitor.specs.declared.fault.RunFault.TheVariants as faults;
@@ -28,6 +28,9 @@ use cmwq_tail::Tail;
 use std::marker::Model;
 use std::sync::ledger::Share;
 use std::sync::{Wait, ledger};
+
+/// How many timers are fired in one hold of the lock, at most.
+pub const MOST_FIRES: u16 = 128;
 
 /// What a hub keeps under its lock. Contracts see its history, which is legal and is the Book's and the published one, whether it is closed,
 /// and whether it has failed.
@@ -226,64 +229,50 @@ impl<N: HubName> Monitor<N> {
         }
     }
 
-    /// Fires what is due, in a participant that has just made an entry: until there is nothing, or no room, but at most as many times as there are
-    /// items.
-    fn fire_due<R: Wait>(
+    /// Fires what is due, at most `left` times in all, and at most `MOST_FIRES` in this hold of the lock. Answers how many times it may still be
+    /// fired, or None once all is: there was nothing more, or no room, or it was fired so many times. A closed hub fires too.
+    pub fn fire_some<R: Wait>(
         &mut self,
         rt: &R,
         participant: &mut Participant<N>,
-    ) -> Result<(), RunFault>
-        requires caller { is_caller participant.old.who ≡ true }
-        requires step { InStep self.old.history participant.old }
-        requires begun { EndsOwn participant.old.who participant.old.seen }
-        requires counted { serial_of (past_of participant.old.seen) participant.old.who ≡ participant.old.serial }
-        ensures fired { IfOk result (λ _. HasFired N.layout participant.old participant.new) }
-        ensures goes_on { IfOk result (λ _. GoesOn self.old self.new) }
-        ensures short { IfErr result (λ f. (f ≡ faults.NoMemory None) × HasFiredSome participant.old participant.new) }
+        left: u16,
+    ) -> Result<Option<u16>, RunFault>
+        requires { is_caller participant.old.who ≡ true }
+        ensures fired { IfOk result (λ o. (v : View) → IsFiring N.layout left v participant.old → MatchOption o (HasFired N.layout v participant.new) (λ rest. IsFiring N.layout rest v participant.new)) }
+        ensures fewer { IfOk result (λ o. IfSome o (λ rest. rest < left)) }
+        ensures goes_on { IfOk result (λ _. (self.old.failed ≡ false) × GoesOn self.old self.new) }
+        ensures stopped { IfErr result (λ f. Stops participant.new None f × ((v : View) → IsFiring N.layout left v participant.old → HasFiredSome v participant.new)) }
         ensures leaves { IfErr result (λ f. LeavesHeld self.old f self.new) }
     {
-        let _legal = participant.seen();
-        for _ in 0..self.shape.counts().items {
+        if self.failed {
+            return Err(RunFault::NoMemory { ticket: None });
+        }
+        self.compare(participant)?;
+        let most = left.min(MOST_FIRES);
+        for _ in 0..most {
             let _who = participant.who();
             match self.enter(rt, participant, Call::Fire) {
                 Ok(reply) => {
                     if is_nothing(reply) {
-                        return Ok(());
+                        return Ok(None);
                     }
                 }
                 Err(Shortage::Room) => {
                     let _legal = participant.seen();
-                    return Ok(());
+                    return Ok(None);
                 }
                 Err(Shortage::Memory) => return Err(RunFault::NoMemory { ticket: None }),
             }
         }
-        Ok(())
-    }
-
-    /// Lets ticks go by, and fires what is due then.
-    pub fn tick<R: Wait>(
-        &mut self,
-        rt: &R,
-        participant: &mut Participant<N>,
-        ticks: u32,
-    ) -> Result<Reply, RunFault>
-        requires { is_caller participant.old.who ≡ true }
-        ensures done { IfOk result (λ reply. Completes N.layout participant.old (calls.Tick ticks) reply participant.new) }
-        ensures open { IfOk result (λ _. IsOpenTo self.old participant.old.who × GoesOn self.old self.new) }
-        ensures broke { IfErr result (λ f. BrokeOff N.layout participant.old (calls.Tick ticks) f participant.new) }
-        ensures leaves { IfErr result (λ f. LeavesHeld self.old f self.new) }
-    {
-        let _who = participant.who();
-        let reply = self.call(rt, participant, Call::Tick { ticks })?;
-        match self.fire_due(rt, participant) {
-            Ok(()) => Ok(reply),
-            Err(fault) => Err(fault),
+        if left > most {
+            Ok(Some(left - most))
+        } else {
+            Ok(None)
         }
     }
 
-    /// Ends a ticket of the participant's, if its end would be done now.
-    fn end_ticket<R: Wait>(
+    /// Ends a ticket of the participant's, if its end would be done now. A closed hub does that too.
+    pub fn end_ticket<R: Wait>(
         &mut self,
         rt: &R,
         participant: &mut Participant<N>,
@@ -315,35 +304,6 @@ impl<N: HubName> Monitor<N> {
             Err(NoMemory) => Err(RunFault::NoMemory {
                 ticket: Some(ticket),
             }),
-        }
-    }
-
-    /// Ends the wait that the call began, if it may end now; after a drain what is due is fired.
-    pub fn end_wait<R: Wait>(
-        &mut self,
-        rt: &R,
-        participant: &mut Participant<N>,
-        call: Call,
-        ticket: Number,
-    ) -> Result<bool, RunFault>
-        requires { is_caller participant.old.who ≡ true }
-        ensures done { IfOk result (λ b. MatchBool b (HasEnded N.layout participant.old call ticket participant.new) (participant.new ≡ participant.old)) }
-        ensures waits { IfOk result (λ b. MatchBool b (GoesOn self.old self.new) ((self.new ≡ self.old) × WouldNot is_done N.layout self.old.history participant.old (calls.End ticket))) }
-        ensures open { IfOk result (λ _. self.old.failed ≡ false) }
-        ensures stopped { IfErr result (λ f. HasEndedSome N.layout participant.old call ticket f participant.new) }
-        ensures leaves { IfErr result (λ f. LeavesHeld self.old f self.new) }
-    {
-        match self.end_ticket(rt, participant, ticket) {
-            Ok(true) => {}
-            Ok(false) => return Ok(false),
-            Err(fault) => return Err(fault),
-        }
-        if !is_drain(call) {
-            return Ok(true);
-        }
-        match self.fire_due(rt, participant) {
-            Ok(()) => Ok(true),
-            Err(fault) => Err(fault),
         }
     }
 
@@ -584,12 +544,6 @@ impl<N: HubName> Monitor<N> {
             entries: tail.into_kept(),
         }
     }
-}
-
-fn is_drain(call: Call) -> bool
-    ensures { result ≡ is_drain call }
-{
-    matches!(call, Call::Drain { .. })
 }
 
 fn is_done(reply: Reply) -> bool

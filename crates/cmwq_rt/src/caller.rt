@@ -328,18 +328,26 @@ impl<N: HubName> Caller<N> {
     }
 
     /// Lets so many ticks go by, and then fires what is due: the tick's entry and those of the fires, until there is nothing to fire or no
-    /// room, but at most as many as there are items. The answer is the tick's.
+    /// room, but at most as many as there are items. Others may make entries between the fires where there are many. The answer is the tick's.
     ///
     /// # Errors
-    /// Those of a call of one entry, with no entry made; `NoMemory` also behind some of them.
+    /// Those of a call of one entry, with no entry made; `NoMemory` and `Stranger` also behind some of them.
     pub fn tick<R: Wait>(&mut self, rt: &R, hub: &Hub<N>, ticks: u32) -> Result<Reply, RunFault>
         ensures done { IfOk result (λ reply. Completes N.layout self.old (calls.Tick ticks) reply self.new) }
         ensures broke { IfErr result (λ f. BrokeOff N.layout self.old (calls.Tick ticks) f self.new) }
     {
         let mut monitor = hub.spacious(rt, hub.lock(rt), self.participant.who(), hub.with_fires());
-        let answer = monitor.tick(rt, &mut self.participant, ticks);
-        hub.leave(monitor);
-        answer
+        let reply = match monitor.call(rt, &mut self.participant, Call::Tick { ticks }) {
+            Ok(reply) => reply,
+            Err(fault) => {
+                hub.leave(monitor);
+                return Err(fault);
+            }
+        };
+        if let Err(fault) = hub.until_fired(rt, monitor, &mut self.participant) {
+            return Err(fault);
+        }
+        Ok(reply)
     }
 
     /// Waits until all that was queued on a queue before has ended (`flush_workqueue`): the entry that begins the wait, and the one that ends it.

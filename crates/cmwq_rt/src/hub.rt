@@ -1,5 +1,5 @@
 //! The hub: one monitor behind a lock.
-ghost use Rattle.std.specs.Prelude.{◌≡◌, ◌⊎◌, ◌<◌, ◌≤◌, ◌++◌, [], OnErr, true, false, IsTrue, IfOk, IfErr, Some, slice_get};
+ghost use Rattle.std.specs.Prelude.{◌≡◌, ◌⊎◌, ◌<◌, ◌≤◌, ◌++◌, [], OnErr, true, false, IsTrue, IfOk, IfErr, None, Some, slice_get};
 ghost use Rattle.std.specs.Sync.Mutex.{mutex_guard_value};
 ghost use mathlib.Core.List.{IsPrefix};
 ghost use Rattle.cmwq_model.specs.declared.call.Call.TheVariants as calls;
@@ -7,7 +7,8 @@ ghost use Rattle.cmwq_model.specs.Prelude.{fits, past_of, IsLegal};
 ghost use Rattle.cmwq_monitor.specs.Participants.{is_caller};
 ghost use Rattle.cmwq_monitor.specs.Calls.{Extends};
 ghost use Rattle.cmwq_monitor.specs.Faults.{Refused};
-ghost use Rattle.cmwq_monitor.specs.Steps.{HasEnded, HasEndedSome};
+ghost use Rattle.cmwq_monitor.specs.Whole.{Stops, is_drain};
+ghost use Rattle.cmwq_monitor.specs.Steps.{HasEnded, HasEndedSome, HasFired, HasFiredSome, IsFiring};
 ghost use Rattle.cmwq_rt.specs.Later.{Later};
 ghost use Rattle.cmwq_rt.specs.Running.{IsNextStart, breaks_off};
 ghost use Rattle.cmwq_monitor.specs.Settled.{AllSettle};
@@ -15,9 +16,10 @@ ghost use Rattle.cmwq_rt.specs.Ending.{EndsAs, OneIsStranger};
 
 use crate::caller::Caller;
 use crate::condvars::Condvars;
+use crate::parts::HubParts;
 use crate::worker::Worker;
 use cmwq_model::{Call, Entry, ItemId, Number, Reply, Shape, Who};
-use cmwq_monitor::{Journal, Monitor, Participant, Rest, RunFault};
+use cmwq_monitor::{Journal, MOST_FIRES, Monitor, Participant, Rest, RunFault};
 use cmwq_publish::HubName;
 use std::sync::{Condvar, CondvarTimeouts, Mutex, MutexGuard, Wait};
 use std::time::{Clock, Duration};
@@ -107,7 +109,7 @@ impl<N: HubName> Hub<N> {
 
     /// How many entries are made in one hold of the lock, at most, where what is due is fired behind the first.
     pub(crate) fn with_fires(&self) -> u32 {
-        1 + u32::from(self.shape.counts().items)
+        HubParts::least_kept(&self.shape)
     }
 
     /// Sleeps until there is space for so many entries, or makes it where nobody wants them.
@@ -228,11 +230,45 @@ impl<N: HubName> Hub<N> {
         answer
     }
 
-    /// Sleeps until the wait that the call began has ended, and lets the lock go.
-    pub(crate) fn until_ended<R: Wait>(
-        &self,
+    /// Fires what is due, `MOST_FIRES` timers in a hold of the lock, so that others come in between; and lets the lock go.
+    pub(crate) fn until_fired<'a, R: Wait>(
+        &'a self,
         rt: &R,
-        monitor: MutexGuard<Monitor<N>>,
+        monitor: MutexGuard<'a, Monitor<N>>,
+        participant: &mut Participant<N>,
+    ) -> Result<(), RunFault>
+        requires caller { is_caller participant.old.who ≡ true }
+        requires begun { IsFiring N.layout N.layout.items participant.old participant.old }
+        ensures fired { IfOk result (λ _. HasFired N.layout participant.old participant.new) }
+        ensures stopped { IfErr result (λ f. Stops participant.new None f × HasFiredSome participant.old participant.new) }
+    {
+        let mut monitor = monitor;
+        let mut left = self.shape.counts().items;
+        for _ in rt.forever() {
+            let most = u32::from(left.min(MOST_FIRES));
+            monitor = self.spacious(rt, monitor, participant.who(), most);
+            match monitor.fire_some(rt, participant, left) {
+                Ok(Some(rest)) => left = rest,
+                Ok(None) => {
+                    self.leave(monitor);
+                    return Ok(());
+                }
+                Err(fault) => {
+                    self.leave(monitor);
+                    return Err(fault);
+                }
+            }
+            self.leave(monitor);
+            monitor = self.lock(rt);
+        }
+        unreachable!()
+    }
+
+    /// Sleeps until the wait that the call began has ended, and lets the lock go. Behind a drain what is due is fired.
+    pub(crate) fn until_ended<'a, R: Wait>(
+        &'a self,
+        rt: &R,
+        monitor: MutexGuard<'a, Monitor<N>>,
         participant: &mut Participant<N>,
         call: Call,
         ticket: Number,
@@ -248,8 +284,11 @@ impl<N: HubName> Hub<N> {
         let mut monitor = monitor;
         for _ in rt.forever() {
             monitor = self.spacious(rt, monitor, participant.who(), most);
-            match monitor.end_wait(rt, participant, call, ticket) {
+            match monitor.end_ticket(rt, participant, ticket) {
                 Ok(true) => {
+                    if is_drain(call) {
+                        return self.until_fired(rt, monitor, participant);
+                    }
                     self.leave(monitor);
                     return Ok(());
                 }
@@ -339,6 +378,12 @@ impl<N: HubName> Hub<N> {
         } = self;
         monitor.into_inner()
     }
+}
+
+fn is_drain(call: Call) -> bool
+    ensures { result ≡ is_drain call }
+{
+    matches!(call, Call::Drain { .. })
 }
 
 fn settle_all<N: HubName>(

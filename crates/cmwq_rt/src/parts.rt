@@ -1,5 +1,5 @@
 //! The parts of a hub that has no name yet.
-ghost use Rattle.std.specs.Prelude.{◌≡◌, [], IfOk, IfErr, None};
+ghost use Rattle.std.specs.Prelude.{◌≡◌, ◌+◌, ◌≤◌, [], IfOk, IfErr, None};
 ghost use Rattle.cmwq_monitor.specs.declared.fault.RunFault.TheVariants as faults;
 ghost use Rattle.cmwq_rt.specs.Places.{all_free, shares};
 
@@ -8,7 +8,7 @@ use crate::hub::Hub;
 use crate::participants::Participants;
 use cmwq_core::Execution;
 use cmwq_model::{Entry, MOST_CALLERS, MOST_CPUS, MOST_WORKERS, NoMemory, Shape};
-use cmwq_monitor::{Monitor, RunFault, Sleepers};
+use cmwq_monitor::{MOST_FIRES, Monitor, RunFault, Sleepers};
 use cmwq_publish::{HubName, Opening};
 use cmwq_tail::Tail;
 use std::alloc::Global;
@@ -78,7 +78,16 @@ impl HubParts {
         HubParts::keeping(rt, alloc, shape, kept)
     }
 
-    /// The same, where so many entries are kept until a journal takes them.
+    /// How many entries a hub of this shape is to keep at a time, at least: those of one hold of the lock. Where fewer are kept, a tick and the
+    /// end of a drain wait for ever for space.
+    pub fn least_kept(shape: &Shape) -> u32
+        ensures few { shape.now.items ≤ 128 → result ≡ 1 + shape.now.items }
+        ensures many { 128 ≤ shape.now.items → result ≡ 129 }
+    {
+        1 + u32::from(shape.counts().items.min(MOST_FIRES))
+    }
+
+    /// The same, where so many entries are kept until a journal takes them (`least_kept`).
     ///
     /// # Errors
     /// `NoMemory` where memory runs out.
@@ -149,7 +158,7 @@ impl HubParts {
         ensures readers { IfOk result (λ p. p.opening.readers ≡ shape.now.callers) }
         ensures fault { IfErr result (λ f. f ≡ faults.NoMemory None) }
     {
-        let kept = 1 + u32::from(shape.counts().items);
+        let kept = HubParts::least_kept(shape);
         let mut parts = HubParts::keeping(rt, alloc, shape, kept)?;
         parts.is_dropping = true;
         Ok(parts)

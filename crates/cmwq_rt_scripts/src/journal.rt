@@ -241,7 +241,7 @@ fn run_parts<
 }
 
 /// Runs scripts on a new hub, as `run_scripts` does, and writes the history with its shape in format 3 while it is made, flushed behind
-/// each batch: so many entries are kept at a time, or one more than there are items where that is more, and what is made is written after
+/// each batch: so many entries are kept at a time, or as many as a hold of the lock may make where that is more, and what is made is written after
 /// a tenth of a second at the latest. The journal is kept in this thread, beside one that runs those of callers and workers.
 ///
 /// # Errors
@@ -265,7 +265,7 @@ pub fn run_scripts_with_journal<'x, W: Work + Sync, R: Threads + Wait + Clock + 
     ensures sink { IsErrOf result unwritten.Sink → Rises (O.troubles output.old) (O.troubles output.new) }
 {
     // a tick is made only where there is space for its fires
-    let kept = kept.max(1 + u32::from(shape.counts().items));
+    let kept = kept.max(HubParts::least_kept(shape));
     let Ok(spare) = Vec::with_capacity(alloc, kept as usize) else {
         return Err(Unwritten::Run(RunFault::NoMemory { ticket: None }));
     };

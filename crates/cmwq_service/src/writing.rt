@@ -175,7 +175,7 @@ fn run_parts<
 }
 
 /// The same as `run`, but the history is written to a sink while it is made, as text of format 3, and flushed behind each batch. So many
-/// entries are kept at a time, or one more than there are items where that is more; who makes a call waits while there is no space for it.
+/// entries are kept at a time, or as many as a hold of the lock may make where that is more; who makes a call waits while there is no space for it.
 /// What is made is written after a tenth of a second at the latest. The shape's room may be as great as any. The answer is how many
 /// entries were written, and the text ends with a line that says so.
 ///
@@ -198,7 +198,7 @@ pub fn run_writing<S: Service + Send + Sync, R: Threads + Wait + Clock + Sync, O
     ensures sink { IsErrOf result unwritten.Sink → Rises (O.troubles output.old) (O.troubles output.new) }
 {
     // a tick is made only where there is space for its fires
-    let kept = kept.max(1 + u32::from(shape.counts().items));
+    let kept = kept.max(HubParts::least_kept(shape));
     let Ok(spare) = Vec::with_capacity(alloc, kept as usize) else {
         return Err(Unwritten::Stopped { fault: NO_MEMORY });
     };

@@ -1,7 +1,7 @@
 //! Hubs that keep few entries at a time: a journal takes them, batch after batch, or they are dropped.
 
 use crate::fixture::{Scene, is_legal, make, on_parts, plain_queue, shape};
-use cmwq_model::{Call, Counts, CpuId, Entry, ItemId, QueueId, Shape};
+use cmwq_model::{Call, Counts, CpuId, Entry, ItemId, QueueId, Reply, Shape};
 use cmwq_rt::{Caller, Hub, HubName, HubParts, Journal, Participants};
 use std::alloc::Global;
 use std::process::Abort;
@@ -158,4 +158,57 @@ fn a_hub_drops_what_nobody_wants(rt: HostRuntime) {
     let shape = one_item(&rt);
     let parts = HubParts::dropping(&rt, rt.alloc(), &shape).expect(&rt, "memory");
     on_parts(&rt, parts, &Drops);
+}
+
+/// All items of the hub are booked, and one tick fires them.
+struct Portions;
+
+impl Scene for Portions {
+    fn play<N: HubName, R: Wait + Abort + AllocGlobal>(
+        &self,
+        rt: &R,
+        hub: Hub<N>,
+        participants: Participants<N>,
+    ) {
+        let mut participants = participants;
+        let mut caller = participants.caller().expect(rt, "a caller");
+        let items = hub.shape().counts().items;
+        for item in 0..items {
+            let delay = Call::Delay {
+                item: ItemId(item),
+                queue: QueueId(0),
+                cpu: CpuId(0),
+                ticks: 1,
+            };
+            assert!(rt; make(rt, &hub, &mut caller, delay).is_ok());
+        }
+        assert!(rt; make(rt, &hub, &mut caller, Call::Tick { ticks: 1 }).is_ok());
+        let mut callers = [caller];
+        let mut workers = [];
+        let rest = hub
+            .into_history(rt, &mut callers, &mut workers)
+            .expect(rt, "a history");
+        // the delays, the tick, and a fire of each item: the last 44 of them in a hold of the lock of their own
+        assert_eq!(rt; rest.first, 300 + 1 + 2 * 128);
+        assert_eq!(rt; rest.entries.len(), 300 - 2 * 128);
+        assert!(rt;
+            rest.entries
+                .iter()
+                .all(|entry| matches!(entry.reply, Reply::Fired(..)))
+        );
+    }
+}
+
+#[test]
+fn a_tick_fires_in_portions(rt: HostRuntime) {
+    let counts = Counts {
+        items: 300,
+        ..COUNTS
+    };
+    let few = one_item(&rt);
+    let many = shape(&rt, counts, &[plain_queue(1)]);
+    assert_eq!(rt; HubParts::least_kept(&few), 2);
+    assert_eq!(rt; HubParts::least_kept(&many), 129);
+    let parts = HubParts::dropping(&rt, rt.alloc(), &many).expect(&rt, "memory");
+    on_parts(&rt, parts, &Portions);
 }
