@@ -51,11 +51,12 @@ impl Lists {
         })
     }
 
-    /// How many items are in a list: at most as many as there are.
+    /// How many items are in a list: at most as many as there are. No item is twice in a list, or in two.
     pub fn len(&self, list: u32) -> u32
         requires { list < length self.now.lists }
         ensures len { result ≡ length (list_at self.now.lists list) }
         ensures few { result ≤ self.now.items }
+        ensures once { AreListedOnce self.now }
     {
         self.lens[list as usize]
     }

@@ -1,7 +1,7 @@
 use Rattle.std.proofs.Common.{◌≡◌, ◌<◌, ◌∙◌, length, arith, get_or}
 use Rattle.std.proofs.lemmas.List.{get_or_default}
 use Rattle.cmwq_list.specs.Links.{lists_of}
-use Rattle.cmwq_list.proofs.Reading.{many_lists, len_is}
+use Rattle.cmwq_list.proofs.Reading.{many_lists, len_is, are_listed_once}
 use Rattle.cmwq_list.proofs.Rings.{few_items}
 use Rattle.cmwq_list.proofs.lists.Lists.len.Goals as goal
 
@@ -28,3 +28,6 @@ returns-clause-few c =
     let read : c.index.result.now ≡ get_or s.lens.items c.args.list 0 = c.index.ensures ∙ get_or_default s.lens.items c.args.list c.index.result.now 0 (omega arith) in
     let few = few_items s.next.items s.prev.items s.owners.items s.lens.items c.self.invariant c.args.list (omega arith) in
     rw (← c.self.view_is) (omega arith)
+
+pub returns-clause-once : goal.returns-clause-once
+returns-clause-once c = rw (← c.self.view_is) (are_listed_once c.self.inside.next.items c.self.inside.prev.items c.self.inside.owners.items c.self.inside.lens.items c.self.invariant)
