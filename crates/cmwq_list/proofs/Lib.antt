@@ -1,0 +1,6 @@
+mod Members
+mod Between
+mod Rings
+mod Linking
+mod Unlinking
+mod Reading

@@ -1,0 +1,132 @@
+ghost use Rattle.std.specs.Prelude.{◌≡◌, ℕ, ◌+◌, ◌^◌, ◌<◌, [], Some, None, IfOk, length, replicate, slice_get};
+ghost use Rattle.cmwq_list.specs.Lists.{list_at, list_of, pushed, removed, AreListedOnce};
+
+use crate::links::{NONE, link, link_back, unlink};
+use std::alloc::{AllocError, Global};
+use std::marker::Model;
+
+/// Lists of items, by their numbers. An item is in one of them at most. Only `new` takes memory: 12 bytes an item, and 12 a
+/// list.
+#[derive(Debug, Drop)]
+pub struct Lists {
+    /// What follows each item, and then what follows the sentinel of each list.
+    next: Vec<u32>,
+    /// What is before each of them.
+    prev: Vec<u32>,
+    /// The list that each item is in.
+    owners: Vec<u32>,
+    /// How many items each list has.
+    lens: Vec<u32>,
+}
+
+impl Model for Lists {
+    ghost use Rattle.std.specs.Prelude.{length};
+    ghost use Rattle.cmwq_list.specs.Lists.{Listed};
+    ghost use Rattle.cmwq_list.specs.Links.{AreLinked, lists_of};
+
+    ghost Value = { Listed };
+
+    ghost view = { λ t. record { items = length t.owners.items; lists = lists_of t.next.items t.owners.items t.lens.items } };
+
+    ghost invariant = { λ t. AreLinked t.next.items t.prev.items t.owners.items t.lens.items };
+}
+
+impl Lists {
+    /// So many empty lists, for items of the numbers below `items`. The error says that memory ran out.
+    pub fn new(alloc: Global, lists: u32, items: u32) -> Result<Lists, AllocError>
+        requires { items + lists < 2 ^ 32 }
+        ensures { IfOk result (λ made. made ≡ record { items = items; lists = replicate lists [] }) }
+    {
+        let links = items + lists;
+        let mut next = vec![in alloc; 0; links as usize]?;
+        let mut prev = vec![in alloc; 0; links as usize]?;
+        for sentinel in items..links {
+            link(&mut next, &mut prev, sentinel, sentinel);
+        }
+        Ok(Lists {
+            next,
+            prev,
+            owners: vec![in alloc; NONE; items as usize]?,
+            lens: vec![in alloc; 0; lists as usize]?,
+        })
+    }
+
+    /// How many items are in a list. No item is twice in a list, or in two.
+    pub fn len(&self, list: u32) -> u32
+        requires { list < length self.now.lists }
+        ensures len { result ≡ length (list_at self.now.lists list) }
+        ensures once { AreListedOnce self.now }
+    {
+        self.lens[list as usize]
+    }
+
+    /// The list that an item is in.
+    pub fn list_of(&self, item: u32) -> Option<u32>
+        requires { item < self.now.items }
+        ensures { result ≡ list_of self.now.lists item }
+    {
+        let owner = self.owners[item as usize];
+        if owner == NONE { None } else { Some(owner) }
+    }
+
+    /// The first item of a list.
+    pub fn first(&self, list: u32) -> Option<u32>
+        requires { list < length self.now.lists }
+        ensures { result ≡ slice_get (list_at self.now.lists list) 0 }
+    {
+        let first = self.next[self.owners.len() + list as usize];
+        if (first as usize) < self.owners.len() {
+            Some(first)
+        } else {
+            None
+        }
+    }
+
+    /// What follows an item in the list that it is in. Of an item that is in none, any item or none.
+    pub fn next(&self, item: u32) -> Option<u32>
+        requires { item < self.now.items }
+        ensures { (l k : ℕ) → slice_get (list_at self.now.lists l) k ≡ Some item → result ≡ slice_get (list_at self.now.lists l) (k + 1) }
+    {
+        let behind = self.next[item as usize];
+        if (behind as usize) < self.owners.len() {
+            Some(behind)
+        } else {
+            None
+        }
+    }
+
+    /// Puts an item that is in no list behind all others of a list.
+    pub fn push_back(&mut self, list: u32, item: u32)
+        requires list { list < length self.old.lists }
+        requires item { item < self.old.items }
+        requires free { list_of self.old.lists item ≡ None }
+        ensures { self.new ≡ pushed self.old list item }
+    {
+        link_back(
+            &mut self.next,
+            &mut self.prev,
+            &mut self.owners,
+            &mut self.lens,
+            list,
+            item,
+        );
+    }
+
+    /// Takes an item out of the list that it is in. One that is in none stays so.
+    pub fn remove(&mut self, item: u32)
+        requires { item < self.old.items }
+        ensures rest { self.new ≡ removed self.old item }
+        ensures once { AreListedOnce self.old }
+    {
+        let owner = self.owners[item as usize];
+        if owner != NONE {
+            unlink(
+                &mut self.next,
+                &mut self.prev,
+                &mut self.owners,
+                &mut self.lens,
+                item,
+            );
+        }
+    }
+}
