@@ -1,36 +1,14 @@
--- The open numbers of items, and what a wait for an item finds among them.
-use Rattle.cmwq_flush.specs.Common.{◌≡◌, ℕ, ◌<◌, ◌≤◌, Bool, true, false, not, cond, List, [], ◌∷◌, length, get_or, set, replicate, zero, suc, Option, Some, None, IfSome, is_some, sym, ap, refl, ◌∙◌, arith, ⊎_elim, map, find, All, AllPairs, Contains, ◌↔◌, cases_lt, false≢true, nat_tests, get_or-map, get_or_past, length-map, map-set, All-cons}
+-- What a wait for an item finds among the item's open numbers.
+use Rattle.cmwq_flush.specs.Common.{◌≡◌, ℕ, ◌<◌, ◌≤◌, Bool, true, false, not, cond, List, [], ◌∷◌, get_or, suc, Option, Some, None, IfSome, is_some, sym, refl, ◌∙◌, arith, ⊎_elim, find, All, AllPairs, ◌↔◌, cases_lt, false≢true, nat_tests, All-cons}
 use Rattle.cmwq_flush.specs.declared.barrier.Barrier.{Barrier}
-use Rattle.cmwq_flush.specs.declared.barrier.Open.{Open}
 use Rattle.cmwq_flush.specs.Numbers.{AreRising}
-use Rattle.cmwq_flush.specs.Waits.{numbers_in, IsOlderBarrier, BarriersHaveTicketAt}
-use Rattle.cmwq_flush.specs.BarrierBook.{BarrierBook, ticket_of_barrier, numbers_before, is_up_to}
+use Rattle.cmwq_flush.specs.Waits.{IsOlderBarrier, BarriersHaveTicketAt}
+use Rattle.cmwq_flush.specs.BarrierBook.{BarrierBook, ticket_of_barrier, numbers_before, numbers_open, is_up_to}
 use Rattle.cmwq_flush.proofs.Search.{find_at_key, find_none}
 
-pub map-replicate : {X Y : Type 0} (f : X → Y) (n : ℕ) (x : X) → map f (replicate n x) ≡ replicate n (f x)
-map-replicate f zero x = refl
-map-replicate f (suc n) x = ap (λ ys. f x ∷ ys) (map-replicate f n x)
-
--- the numbers of an item are those of its row
-pub numbers_at : (items : List Open) (i : ℕ) (o : Open) → i < length items → o ≡ get_or items i o → get_or (map numbers_in items) i [] ≡ numbers_in o
-numbers_at items i o lt at = get_or-map numbers_in items i o [] lt ∙ ap numbers_in (sym at)
-
--- an item of which something is open is one of these
-pub has_row : (items : List Open) (i n : ℕ) → Contains (get_or (map numbers_in items) i []) n → i < length items
-has_row items i n found =
-    ⊎_elim (λ (lt : i < length items). lt) (λ (past : length items ≤ i).
-    let none : get_or (map numbers_in items) i [] ≡ [] = get_or_past (map numbers_in items) i [] (rw length-map past) in
-    let empty = rw none at found in
-    absurd (omega (arith, empty.1))) (cases_lt i (length items))
-
--- a row is written
-pub row_written : (items : List Open) (j i : ℕ) (o : Open) (ns : List ℕ) → j ≡ i → numbers_in o ≡ ns → map numbers_in (set items j o) ≡ set (map numbers_in items) i ns
-row_written items j i o ns here e = rw (here, ← e) (map-set numbers_in items i o)
-
 -- what a wait is for
-pub numbers_before-at : (b : BarrierBook) (items : List Open) (t place : ℕ) (w : Barrier) (o : Open) → b.opened ≡ map numbers_in items → AllPairs IsOlderBarrier b.barriers → BarriersHaveTicketAt b.barriers t place → w ≡ get_or b.barriers place w → w.item.0 < length items → o ≡ get_or items w.item.0 o → numbers_before b t ≡ numbers_in o
-numbers_before-at b items t place w o opened rise at is_w lt is_o =
-    rw (find_at_key ticket_of_barrier b.barriers t rise w place at, ← is_w, opened) (numbers_at items w.item.0 o lt is_o)
+pub numbers_before-at : (b : BarrierBook) (t place : ℕ) (w : Barrier) → AllPairs IsOlderBarrier b.barriers → BarriersHaveTicketAt b.barriers t place → w ≡ get_or b.barriers place w → numbers_before b t ≡ numbers_open b w.item.0
+numbers_before-at b t place w rise at is_w = rw (find_at_key ticket_of_barrier b.barriers t rise w place at, ← is_w) refl
 
 all_above : (n x : ℕ) (ns : List ℕ) → AreRising (x ∷ ns) → n ≤ x → All (λ m. n ≤ m) (x ∷ ns)
 all_above n x ns rise le k d lt = ⊎_elim (λ (later : 0 < k). let above = rise 0 k d later lt in omega arith) (λ (first : k ≤ 0). let here : k ≡ 0 = omega arith in rw here le) (cases_lt 0 k)

@@ -1,7 +1,11 @@
 mod Search
+mod Nodes
+mod NodeNumbers
+mod Opening
 mod Counts
 mod Waiting
 mod Recolouring
 mod Orderly
 mod Rightness
+mod Queues
 mod ItemRows

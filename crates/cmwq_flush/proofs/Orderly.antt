@@ -2,7 +2,7 @@
 use Rattle.cmwq_flush.specs.Common.{◌≡◌, ℕ, ◌+◌, ◌-◌, ◌<◌, ◌≤◌, Bool, List, [], ◌∷◌, ◌++◌, length, suc, ⊎_elim, refl, ◌∙◌, arith, All, AllPairs, map, filter, remove, IsNonDecreasingBy, append_assoc, map_push, map-append, take-map, drop-map, length-map, length-append, get_or_append_left, get_or-append-add, get_or-map, All-push, All-weaker, All-filter, All-take, All-drop, All-append, length-remove, remove-append_left, all_pairs_push, all_pairs_remove, length-filter, count_by-le-length, cases_lt, IsNonDecreasingBy-push}
 use Rattle.std.proofs.lemmas.List.Kept.{AllPairs-filter, AllPairs-cons}
 use Rattle.cmwq_flush.specs.declared.served.Served.{Served}
-use Rattle.cmwq_flush.specs.declared.tally.Row.{Row}
+use Rattle.cmwq_flush.specs.declared.openings.Row.{Row}
 use Rattle.cmwq_flush.specs.Numbers.{IsBelowNumber, AreRising, is_other_number, without}
 use Rattle.cmwq_flush.specs.Rows.{is_other_row, without_row}
 use Rattle.cmwq_flush.specs.Served.{ticket_of_served, bound_of, IsOlderServed}

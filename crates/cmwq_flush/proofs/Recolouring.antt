@@ -1,7 +1,7 @@
 -- What each call keeps of the colouring, and what the counts of colours say of a flush.
 use Rattle.cmwq_flush.specs.Common.{◌≡◌, ◌≢◌, ℕ, ◌+◌, ◌<◌, ◌≤◌, true, false, cond, List, [], ◌∷◌, ◌++◌, length, get_or, take, suc, sym, ap, ◌∙◌, arith, ⊎_elim, All, AllPairs, remove, IsNonDecreasingBy, cases_lt, nat_tests, get_or-take, length-take-le, get_or_append_left, get_or_default, length-append, All-push, All-filter, All-take, All-drop, All-append, length-remove, get_or-remove_below, get_or-remove_above, all_pairs_push, all_pairs_remove, get_or-le-sum_by, sum_by-le}
 use Rattle.cmwq_flush.specs.declared.served.Served.{Served}
-use Rattle.cmwq_flush.specs.declared.tally.Row.{Row}
+use Rattle.cmwq_flush.specs.declared.openings.Row.{Row}
 use Rattle.cmwq_flush.specs.Rows.{has_colour, is_unused, without_row, is_other_row}
 use Rattle.cmwq_flush.specs.Served.{bound_of, first_waiting}
 use Rattle.cmwq_flush.specs.FlushBook.{flush_from}

@@ -2,7 +2,7 @@
 use Rattle.cmwq_flush.specs.Common.{◌≡◌, ℕ, ◌+◌, ◌<◌, ◌≤◌, Bool, true, false, cond, List, [], ◌∷◌, ◌++◌, length, get_or, take, Some, None, ap, refl, arith, ⊎_elim, All, AllPairs, Contains, map, ◌↔◌, Option, IfSome, slice_get, remove, range_with_len, cases_lt, get_or-map, get_or_default, length-map, length-append, All-map, All-append, Contains-append_cases, length-remove}
 use Rattle.std.proofs.lemmas.List.FromFn.{get_or-range_with_len}
 use Rattle.cmwq_flush.specs.declared.served.Served.{Served}
-use Rattle.cmwq_flush.specs.declared.tally.Row.{Row}
+use Rattle.cmwq_flush.specs.declared.openings.Row.{Row}
 use Rattle.cmwq_flush.specs.Numbers.{AreRising, is_other_number, without}
 use Rattle.cmwq_flush.specs.Rows.{row_number, row_numbers, without_row, is_other_row, ComesBefore}
 use Rattle.cmwq_flush.specs.Served.{ticket_of_served, tickets_of_served, IsOlderServed, HasTicketAt, LacksTicket}
@@ -132,6 +132,9 @@ right_drain_ended b rows colours t is = record {
   colouring = is.colouring;
 }
 
+pub not_in_overflow : (served : List Served) (overflow : List ℕ) (t : ℕ) → (Contains (tickets_of_served served) t → ⊥) → Contains (tickets_of_served served ++ overflow) t → Contains overflow t
+not_in_overflow served overflow t absent stands = ⊎_elim (λ (found : Contains (tickets_of_served served) t). absurd (absent found)) (λ (found : Contains overflow t). found) (Contains-append_cases (tickets_of_served served) overflow t stands)
+
 module _ (b : FlushBook) (rows : List Row) (colours : List ℕ) (t : ℕ) (is : IsRight b rows colours) where
   pub served_rise : AllPairs IsOlderServed b.served
   served_rise = rising_served b.served b.overflow is.orderly.tickets_rise
@@ -145,11 +148,8 @@ module _ (b : FlushBook) (rows : List Row) (colours : List ℕ) (t : ℕ) (is : 
   pub not_served : LacksTicket b.served t → served_of b t ≡ None
   not_served absent = find_absent ticket_of_served b.served t absent
 
-  pub not_in_overflow : (Contains (tickets_of_served b.served) t → ⊥) → Contains (flush_tickets b) t → Contains b.overflow t
-  not_in_overflow absent stands = ⊎_elim (λ (found : Contains (tickets_of_served b.served) t). absurd (absent found)) (λ (found : Contains b.overflow t). found) (Contains-append_cases (tickets_of_served b.served) b.overflow t stands)
-
   pub in_overflow : LacksTicket b.served t → Contains (flush_tickets b) t → Contains b.overflow t
-  in_overflow absent stands = not_in_overflow (absent_is_none ticket_of_served b.served t (flush_from 0 0) absent) stands
+  in_overflow absent stands = not_in_overflow b.served b.overflow t (absent_is_none ticket_of_served b.served t (flush_from 0 0) absent) stands
 
   -- what a served flush that is ready waited for has ended
   pub ready_rows : (i : ℕ) → b.opened ≡ row_numbers rows → HasTicketAt b.served t i → IsReady b t → (d : Served) → All (λ r. (get_or b.served i d).bound ≤ r.number) rows

@@ -2,7 +2,7 @@
 use Rattle.std.specs.Prelude.{◌≡◌, ◌≢◌, ◌↔◌, ◌+◌, ◌*◌, ◌<◌, ◌≤◌}
 use Rattle.cmwq_flush.specs.Common.{ℕ, Bool, List, length, take, All, AllPairs, IsTrue, slice_index, HoldsAt, IsNonDecreasingBy}
 use Rattle.cmwq_flush.specs.declared.served.Served.{Served}
-use Rattle.cmwq_flush.specs.declared.tally.Row.{Row}
+use Rattle.cmwq_flush.specs.declared.openings.Row.{Row}
 use Rattle.cmwq_flush.specs.Numbers.{AreRising}
 use Rattle.cmwq_flush.specs.Rows.{row_numbers, is_unused}
 use Rattle.cmwq_flush.specs.Served.{bound_of, first_waiting, HasTicketAt}

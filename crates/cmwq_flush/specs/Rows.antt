@@ -1,7 +1,8 @@
 -- Open queueings with their colours, and how many have each.
-use Rattle.std.specs.Prelude.{◌≡◌, ◌≢◌, ◌<◌, ◌≤◌, ◌==◌}
-use Rattle.cmwq_flush.specs.Common.{ℕ, Bool, not, List, length, map, filter, All, AllPairs, count_by, slice_index, HoldsAt}
-use Rattle.cmwq_flush.specs.declared.tally.Row.{Row}
+use Rattle.std.specs.Prelude.{◌≡◌, ◌<◌, ◌==◌, ◌++◌, ◌∷◌, [], slice_index_or, slice_set}
+use Rattle.cmwq_flush.specs.Common.{ℕ, Bool, not, List, length, map, filter, All, AllPairs, count_by, slice_index}
+use Rattle.cmwq_flush.specs.declared.openings.Row.{Row}
+use Rattle.cmwq_flush.specs.Numbers.{without}
 
 abbrev pub row_number : Row → ℕ
 row_number r = r.number
@@ -15,12 +16,6 @@ row_numbers rows = map row_number rows
 
 abbrev pub ComesBefore : Row → Row → Type 0
 ComesBefore r s = r.number < s.number
-
-abbrev pub HasNumberAt : List Row → ℕ → ℕ → Type 0
-HasNumberAt rows n i = (i < length rows) × HoldsAt (λ r. r.number ≡ n) rows i
-
-abbrev pub RowsLackNumber : List Row → ℕ → Type 0
-RowsLackNumber rows n = All (λ r. r.number ≢ n) rows
 
 abbrev pub is_other_row : ℕ → Row → Bool
 is_other_row n r = not (r.number == n)
@@ -37,14 +32,26 @@ colour_count c rows = count_by (has_colour c) rows
 abbrev pub is_unused : List Row → ℕ → Bool
 is_unused rows c = colour_count c rows == 0
 
--- the rows, and how many there may be
+-- for each queue the rows of what is open of it, and for each item the numbers that are open, which rise
 pub record OpenRows : Type 0 where
-  pub room : ℕ
-  pub rows : List Row
+  pub rows : List (List Row)
+  pub opened : List (List ℕ)
 
--- no more rows than there is room for, by rising number, each with a colour below 16, and the count of each colour
-pub record IsTally (room : ℕ) (rows : List Row) (counts : List ℕ) : Type 0 where
+abbrev pub rows_at : List (List Row) → ℕ → List Row
+rows_at rows q = slice_index_or rows q []
+
+abbrev pub numbers_at : List (List ℕ) → ℕ → List ℕ
+numbers_at opened i = slice_index_or opened i []
+
+abbrev pub rows_with : OpenRows → ℕ → ℕ → Row → OpenRows
+rows_with o q i r = record { rows = slice_set o.rows q (rows_at o.rows q ++ r ∷ []); opened = slice_set o.opened i (numbers_at o.opened i ++ r.number ∷ []) }
+
+abbrev pub rows_without : OpenRows → ℕ → ℕ → ℕ → OpenRows
+rows_without o q i n = record { rows = slice_set o.rows q (without_row n (rows_at o.rows q)); opened = slice_set o.opened i (without n (numbers_at o.opened i)) }
+
+-- by rising number, each with a colour below 16, and the count of each colour
+pub record IsTally (rows : List Row) (counts : List ℕ) : Type 0 where
+  pub sixteen : length counts ≡ 16
   pub rising : AllPairs ComesBefore rows
   pub coloured : All (λ r. r.colour < 16) rows
-  pub few : length rows ≤ room
   pub exact : (c : ℕ) → c < 16 → slice_index counts c ≡ colour_count c rows

@@ -4,7 +4,6 @@ use Rattle.cmwq_flush.specs.Common.{ℕ, List, [], length, All, AllPairs, HoldsA
 use Rattle.cmwq_flush.specs.declared.barrier.Barrier.{Barrier}
 use Rattle.cmwq_flush.specs.declared.barrier.Open.{Open}
 use Rattle.cmwq_flush.specs.declared.barrier.Open.TheVariants.{Nothing, One, Two}
-use Rattle.cmwq_flush.specs.Numbers.{AreRising}
 
 abbrev pub numbers_in : Open → List ℕ
 numbers_in Nothing = []
@@ -20,11 +19,7 @@ BarriersHaveTicketAt ws t i = (i < length ws) × HoldsAt (λ w. w.ticket ≡ t) 
 abbrev pub BarriersLackTicket : List Barrier → ℕ → Type 0
 BarriersLackTicket ws t = All (λ w. w.ticket ≢ t) ws
 
-abbrev pub RisesIn : Open → Type 0
-RisesIn o = AreRising (numbers_in o)
-
-pub record AreBarriers (callers : ℕ) (rows : List Open) (ws : List Barrier) : Type 0 where
-  pub rows_rise : All RisesIn rows
+pub record AreBarriers (callers items : ℕ) (ws : List Barrier) : Type 0 where
   pub tickets_rise : AllPairs IsOlderBarrier ws
-  pub known : All (λ w. w.item.0 < length rows) ws
+  pub known : All (λ w. w.item.0 < items) ws
   pub room : length ws ≤ 64 * callers

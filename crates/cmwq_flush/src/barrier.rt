@@ -1,5 +1,5 @@
 ghost use Rattle.std.specs.Prelude.{◌≡◌, ◌<◌, ◌≤◌, ◌↔◌, ◌++◌, ◌∷◌, [], All, AllPairs, Contains, IfSome, IfNone, IsTrue, find, length};
-ghost use Rattle.cmwq_flush.specs.Numbers.{AreRising, without};
+ghost use Rattle.cmwq_flush.specs.Numbers.{AreRising};
 ghost use Rattle.cmwq_flush.specs.BarrierBook.{is_up_to, tickets_in};
 ghost use Rattle.cmwq_flush.specs.Waits.{BarriersHaveTicketAt, IsOlderBarrier, BarriersLackTicket, numbers_in};
 
@@ -21,31 +21,6 @@ pub(crate) enum Open {
 }
 
 impl Open {
-    /// One more is open.
-    pub(crate) fn with(self, number: Number) -> Open
-        requires { length (numbers_in self) < 2 }
-        ensures { numbers_in result ≡ numbers_in self ++ number ∷ [] }
-    {
-        match self {
-            Open::Nothing => Open::One(number),
-            Open::One(run) => Open::Two(run, number),
-            Open::Two(run, next) => Open::Two(run, next),
-        }
-    }
-
-    /// One has ended.
-    pub(crate) fn without(self, number: Number) -> Open
-        requires rising { AreRising (numbers_in self) }
-        requires open { Contains (numbers_in self) number }
-        ensures { numbers_in result ≡ without number (numbers_in self) }
-    {
-        match self {
-            Open::Two(run, next) if run == number => Open::One(next),
-            Open::Two(run, _) => Open::One(run),
-            Open::One(_) | Open::Nothing => Open::Nothing,
-        }
-    }
-
     /// The least number up to this one.
     pub(crate) fn first_up_to(self, ticket: Number) -> Option<Number>
         ensures { result ≡ find (is_up_to ticket) (numbers_in self) }
@@ -58,16 +33,11 @@ impl Open {
         }
     }
 
-    /// Whether one more with this number may be open.
-    pub(crate) fn takes(self, number: Number) -> bool
-        requires { AreRising (numbers_in self) }
-        ensures value { IsTrue result ↔ (All (λ n. n < number) (numbers_in self) × (length (numbers_in self) < 2)) }
+    /// Whether one more may be open.
+    pub(crate) fn takes_one(self) -> bool
+        ensures { IsTrue result ↔ (length (numbers_in self) < 2) }
     {
-        match self {
-            Open::Nothing => true,
-            Open::One(run) => run < number,
-            Open::Two(..) => false,
-        }
+        !matches!(self, Open::Two(..))
     }
 
     /// Whether this number is open.

@@ -1,62 +1,43 @@
-ghost use Rattle.std.specs.Prelude.{◌≡◌, ◌∷◌, ◌++◌, [], ◌+◌, ◌<◌, ◌≤◌, ◌↔◌, All, Contains, IfOk, IfSome, IsTrue, length, slice_get, slice_index, take, vec_capacity, vec_len};
-ghost use Rattle.std.specs.List.{remove};
+ghost use Rattle.std.specs.Prelude.{◌≡◌, ℕ, ◌+◌, List, ◌∷◌, ◌++◌, [], ◌<◌, ◌≤◌, ◌==◌, ◌↔◌, All, Contains, IfOk, IfSome, IfNone, IsTrue, length, slice_get, slice_index, take, vec_capacity, vec_len};
+ghost use Rattle.std.specs.List.{list_all, remove};
 ghost use Rattle.std.specs.List.Sorted.{IsNonDecreasingBy};
-ghost use Rattle.cmwq_flush.specs.FlushBook.{CanBegin, CanDrain, CanOpen, HasRoom, IsReady, flushes_with_wait, after_drain_begin, after_drain_end, flushes_without_wait, flushes_without_open, flushes_with_open, flush_tickets, new_book, served_with_oldest, without_oldest};
-ghost use Rattle.cmwq_flush.specs.Colouring.{IsColouring, IsToldByColours, AreUnused, WaitsForNothing};
+ghost use Rattle.cmwq_flush.specs.declared.openings.Row.{Row};
+ghost use Rattle.cmwq_flush.specs.FlushBook.{CanBegin, CanDrain, CanOpen, HasRoom, IsReady, after_drain_begin, after_drain_end, flush_tickets, flushes_with_open, flushes_with_wait, flushes_without_open, flushes_without_wait, new_book, served_with_oldest, without_oldest};
+ghost use Rattle.cmwq_flush.specs.Colouring.{AreUnused, IsColouring, IsToldByColours, WaitsForNothing};
+ghost use Rattle.cmwq_flush.specs.Rows.{IsTally, without_row};
 ghost use Rattle.cmwq_flush.specs.Served.{bound_of};
 
 use crate::limits::{COLOURS, MOST_SERVED, TICKETS_OF_CALLER};
+use crate::openings::Colour;
 use crate::served::{Served, find_served, is_latest_served, is_served};
-use crate::tally::{Colour, Tally};
 use crate::tickets::{has_ticket, is_latest, remove_ticket};
-use cmwq_model::{NoMemory, Number};
-use std::alloc::Global;
-use std::marker::Model;
+use cmwq_model::Number;
+use std::alloc::{AllocError, Global};
 
-/// The flushes and drains of a queue, and its open queueings. At most 15 flushes are served at once; others are in
-/// overflow until an older one ends.
+/// The flushes and drains of a queue, with how many of its open queueings have each colour. At most 15 flushes are
+/// served at once; others are in overflow until an older one ends.
 #[derive(Debug, Drop)]
-pub struct Flushes {
-    callers: u8,
-    items: u16,
-    next: u64,
-    tally: Tally,
-    served: Vec<Served>,
+pub(crate) struct Flushes {
+    pub(crate) next: u64,
+    pub(crate) counts: [u32; COLOURS],
+    pub(crate) served: Vec<Served>,
     /// The colours of the served flushes, then the current one, then those that are free.
-    colours: [Colour; COLOURS],
-    overflow: Vec<Number>,
-    drains: Vec<Number>,
-}
-
-impl Model for Flushes {
-    ghost use Rattle.std.specs.Prelude.{◌≡◌, ◌*◌, ◌≤◌, vec_capacity};
-    ghost use Rattle.cmwq_flush.specs.declared.limits.TheConstants.{MOST_SERVED, TICKETS_OF_CALLER};
-    ghost use Rattle.cmwq_flush.specs.FlushBook.{FlushBook};
-    ghost use Rattle.cmwq_flush.specs.Colouring.{book_of, IsRight};
-
-    ghost Value = { FlushBook };
-
-    ghost view = { λ f. book_of f.callers f.items f.next f.tally.rows f.served.items f.overflow.items f.drains.items };
-
-    ghost invariant = { λ f. IsRight (book_of f.callers f.items f.next f.tally.rows f.served.items f.overflow.items f.drains.items) f.tally.rows f.colours
-        × (f.tally.room ≡ 2 * f.items)
-        × (MOST_SERVED ≤ vec_capacity f.served)
-        × (TICKETS_OF_CALLER * f.callers ≤ vec_capacity f.overflow)
-        × (TICKETS_OF_CALLER * f.callers ≤ vec_capacity f.drains) };
+    pub(crate) colours: [Colour; COLOURS],
+    pub(crate) overflow: Vec<Number>,
+    pub(crate) drains: Vec<Number>,
 }
 
 impl Flushes {
-    /// No open queueing, no flush and no drain, with room for 64 tickets for each of so many callers, and for two open
-    /// queueings of each of so many items. No later call takes memory; the error says that it ran out.
-    pub fn new(alloc: Global, callers: u8, items: u16) -> Result<Self, NoMemory>
-        ensures { IfOk result (λ flushes. flushes ≡ new_book callers items) }
+    ghost use Rattle.cmwq_flush.specs.Queues.{IsQueueRight, book_by};
+
+    /// No flush and no drain, with room for 64 tickets for each of so many callers.
+    pub(crate) fn new(alloc: Global, callers: u8) -> Result<Self, AllocError>
+        ensures { (items : ℕ) → IfOk result (λ f. IsQueueRight callers items [] f × (book_by callers items [] f ≡ new_book callers items)) }
     {
         let room = TICKETS_OF_CALLER * usize::from(callers);
         Ok(Flushes {
-            callers,
-            items,
             next: 0,
-            tally: Tally::new(alloc, 2 * (items as u32))?,
+            counts: [0; COLOURS],
             served: Vec::with_capacity(alloc, MOST_SERVED)?,
             colours: [0, 1, 2, 3, 4, 5, 6, 7, 8, 9, 10, 11, 12, 13, 14, 15],
             overflow: Vec::with_capacity(alloc, room)?,
@@ -64,28 +45,33 @@ impl Flushes {
         })
     }
 
-    /// A queueing of this number was opened (`insert_work`, which gives it the current colour).
-    pub fn opened(&mut self, number: Number)
-        requires can { CanOpen self.old number }
-        requires few { number < 9223372036854775808 }
-        ensures { self.new ≡ flushes_with_open self.old number }
+    /// A queueing of this number was opened. It has the current colour, which is answered.
+    pub(crate) fn opened(&mut self, number: Number) -> Colour
+        requires { (callers items : ℕ) × (rows : List Row) × IsQueueRight callers items rows self.old × CanOpen (book_by callers items rows self.old) number × (items < 65536) × (number < 9223372036854775808) }
+        ensures { (callers items : ℕ) (rows : List Row) → IsQueueRight callers items rows self.old → CanOpen (book_by callers items rows self.old) number
+            → IsQueueRight callers items (rows ++ (record { number = number; colour = result }) ∷ []) self.new
+            × (book_by callers items (rows ++ (record { number = number; colour = result }) ∷ []) self.new ≡ flushes_with_open (book_by callers items rows self.old) number) }
     {
-        self.tally.open(number, self.colours[self.served.len()]);
+        let colour = self.colours[self.served.len()];
+        self.counts[usize::from(colour)] += 1;
         self.next = number + 1;
+        colour
     }
 
-    /// An open queueing has ended (`pwq_dec_nr_in_flight`).
-    pub fn ended(&mut self, number: Number)
-        requires { Contains self.old.opened number }
-        ensures { self.new ≡ flushes_without_open self.old number }
+    /// An open queueing of this colour has ended.
+    pub(crate) fn ended(&mut self, colour: Colour)
+        requires { (callers items : ℕ) × (rows : List Row) × (n : ℕ) × IsQueueRight callers items rows self.old × Contains rows (record { number = n; colour = colour }) }
+        ensures { (callers items : ℕ) (rows : List Row) (n : ℕ) → IsQueueRight callers items rows self.old → Contains rows (record { number = n; colour = colour })
+            → IsQueueRight callers items (without_row n rows) self.new × (book_by callers items (without_row n rows) self.new ≡ flushes_without_open (book_by callers items rows self.old) n) }
     {
-        self.tally.close(number);
+        self.counts[usize::from(colour)] -= 1;
     }
 
-    /// A flush begins (`__flush_workqueue` up to its wait): it is served, or in overflow.
-    pub fn begin(&mut self, ticket: Number)
-        requires { CanBegin self.old ticket }
-        ensures { self.new ≡ flushes_with_wait self.old ticket }
+    /// A flush begins: it is served, or in overflow.
+    pub(crate) fn begin(&mut self, ticket: Number)
+        requires { (callers items : ℕ) × (rows : List Row) × IsQueueRight callers items rows self.old × CanBegin (book_by callers items rows self.old) ticket }
+        ensures { (callers items : ℕ) (rows : List Row) → IsQueueRight callers items rows self.old → CanBegin (book_by callers items rows self.old) ticket
+            → IsQueueRight callers items rows self.new × (book_by callers items rows self.new ≡ flushes_with_wait (book_by callers items rows self.old) ticket) }
     {
         if self.served.len() < MOST_SERVED {
             self.served.push_reserved(Served {
@@ -97,25 +83,24 @@ impl Flushes {
         }
     }
 
-    /// Whether a flush may end: nothing is open that it waits for. Of a served one that is so exactly where the counts of its colour and of all
-    /// older ones are 0 (`nr_in_flight`, of which the kernel waits for one colour after the other).
-    pub fn ready(&self, ticket: Number) -> bool
-        requires { Contains (flush_tickets self.now) ticket }
-        ensures bound { IsTrue result ↔ IsReady self.now ticket }
-        ensures colours { IsToldByColours self.now ticket result }
+    /// Whether a flush may end, where it is known whether nothing is open.
+    pub(crate) fn ready(&self, ticket: Number, is_empty: bool) -> bool
+        requires { (callers items : ℕ) × (rows : List Row) × IsQueueRight callers items rows self.now × Contains (flush_tickets (book_by callers items rows self.now)) ticket }
+        ensures bound { (callers items : ℕ) (rows : List Row) → IsQueueRight callers items rows self.now → Contains (flush_tickets (book_by callers items rows self.now)) ticket → IsTrue is_empty ↔ (rows ≡ [])
+            → IsTrue result ↔ IsReady (book_by callers items rows self.now) ticket }
+        ensures colours { (callers items : ℕ) (rows : List Row) → IsQueueRight callers items rows self.now → IsToldByColours (book_by callers items rows self.now) ticket result }
     {
         match find_served(&self.served, ticket) {
-            Some(place) => is_served_ready(&self.tally, &self.colours, &self.served, place),
-            None => self.tally.is_empty(),
+            Some(place) => is_served_ready(&self.counts, &self.colours, &self.served, place),
+            None => is_empty,
         }
     }
 
-    /// A flush that is ready ends (`__flush_workqueue` after its wait). Where it was served, the oldest of the overflow
-    /// is served from now on.
-    pub fn end(&mut self, ticket: Number)
-        requires stands { Contains (flush_tickets self.old) ticket }
-        requires is_ready { IsReady self.old ticket }
-        ensures { self.new ≡ flushes_without_wait self.old ticket }
+    /// A flush that is ready ends. Where it was served, the oldest of the overflow is served from now on.
+    pub(crate) fn end(&mut self, ticket: Number)
+        requires { (callers items : ℕ) × (rows : List Row) × IsQueueRight callers items rows self.old × Contains (flush_tickets (book_by callers items rows self.old)) ticket × IsReady (book_by callers items rows self.old) ticket }
+        ensures { (callers items : ℕ) (rows : List Row) → IsQueueRight callers items rows self.old → Contains (flush_tickets (book_by callers items rows self.old)) ticket → IsReady (book_by callers items rows self.old) ticket
+            → IsQueueRight callers items rows self.new × (book_by callers items rows self.new ≡ flushes_without_wait (book_by callers items rows self.old) ticket) }
     {
         match find_served(&self.served, ticket) {
             Some(place) => {
@@ -127,97 +112,92 @@ impl Flushes {
         }
     }
 
-    /// Whether a queueing of this number may be opened: it comes after all that were, and fewer than two of each item are open.
-    pub fn may_open(&self, number: Number) -> bool
-        ensures { IsTrue result ↔ CanOpen self.now number }
-    {
-        self.next <= number && !self.tally.is_full()
-    }
-
-    /// Whether the queueing of this number is open.
-    pub fn is_open(&self, number: Number) -> bool
-        ensures { IsTrue result ↔ Contains self.now.opened number }
-    {
-        self.tally.contains(number)
-    }
-
     /// Whether one more ticket may stand.
-    pub fn has_room(&self) -> bool
-        ensures { IsTrue result ↔ HasRoom self.now }
+    fn has_room(&self, callers: u8) -> bool
+        requires { (items : ℕ) × (rows : List Row) × IsQueueRight callers items rows self.now }
+        ensures { (items : ℕ) (rows : List Row) → IsTrue result ↔ HasRoom (book_by callers items rows self.now) }
     {
         let standing = self.served.len() + self.overflow.len() + self.drains.len();
-        standing < TICKETS_OF_CALLER * usize::from(self.callers)
+        standing < TICKETS_OF_CALLER * usize::from(callers)
     }
 
-    /// Whether a flush may begin with this ticket: it comes after those of all flushes that stand, and there is room.
-    pub fn may_begin(&self, ticket: Number) -> bool
-        ensures { IsTrue result ↔ CanBegin self.now ticket }
+    /// Whether a flush may begin with this ticket.
+    pub(crate) fn may_begin(&self, callers: u8, ticket: Number) -> bool
+        requires { (items : ℕ) × (rows : List Row) × IsQueueRight callers items rows self.now }
+        ensures { (items : ℕ) (rows : List Row) → IsTrue result ↔ CanBegin (book_by callers items rows self.now) ticket }
     {
-        self.is_latest_flush(ticket) && self.has_room()
+        self.is_latest_flush(ticket) && self.has_room(callers)
     }
 
     fn is_latest_flush(&self, ticket: Number) -> bool
-        ensures { IsTrue result ↔ All (λ t. t < ticket) (flush_tickets self.now) }
+        requires { (callers items : ℕ) × (rows : List Row) × IsQueueRight callers items rows self.now }
+        ensures { (callers items : ℕ) (rows : List Row) → IsTrue result ↔ All (λ t. t < ticket) (flush_tickets (book_by callers items rows self.now)) }
     {
         is_latest_served(&self.served, ticket) && is_latest(&self.overflow, ticket)
     }
 
     /// Whether a flush has begun with this ticket and hasn't ended.
-    pub fn stands(&self, ticket: Number) -> bool
-        ensures { IsTrue result ↔ Contains (flush_tickets self.now) ticket }
+    pub(crate) fn stands(&self, ticket: Number) -> bool
+        requires { (callers items : ℕ) × (rows : List Row) × IsQueueRight callers items rows self.now }
+        ensures { (callers items : ℕ) (rows : List Row) → IsTrue result ↔ Contains (flush_tickets (book_by callers items rows self.now)) ticket }
     {
         is_served(&self.served, ticket) || has_ticket(&self.overflow, ticket)
     }
 
-    /// Whether a drain may begin with this ticket: it comes after those of all drains that stand, and there is room.
-    pub fn may_drain(&self, ticket: Number) -> bool
-        ensures { IsTrue result ↔ CanDrain self.now ticket }
+    /// Whether a drain may begin with this ticket.
+    pub(crate) fn may_drain(&self, callers: u8, ticket: Number) -> bool
+        requires { (items : ℕ) × (rows : List Row) × IsQueueRight callers items rows self.now }
+        ensures { (items : ℕ) (rows : List Row) → IsTrue result ↔ CanDrain (book_by callers items rows self.now) ticket }
     {
-        is_latest(&self.drains, ticket) && self.has_room()
+        is_latest(&self.drains, ticket) && self.has_room(callers)
     }
 
     /// Whether a drain has begun with this ticket and hasn't ended.
-    pub fn is_drain(&self, ticket: Number) -> bool
-        ensures { IsTrue result ↔ Contains self.now.drains ticket }
+    pub(crate) fn is_drain(&self, ticket: Number) -> bool
+        requires { (callers items : ℕ) × (rows : List Row) × IsQueueRight callers items rows self.now }
+        ensures { IsTrue result ↔ Contains self.now.drains.items ticket }
     {
         has_ticket(&self.drains, ticket)
     }
 
-    /// The least number that is open.
-    pub fn least_open(&self) -> Option<Number>
-        ensures first { result ≡ slice_get self.now.opened 0 }
-        ensures least { IfSome result (λ n. All (λ m. n ≤ m) self.now.opened) }
-    {
-        self.tally.first()
-    }
-
-    /// A drain begins (`drain_workqueue`): the queue is draining.
-    pub fn drain_begin(&mut self, ticket: Number)
-        requires { CanDrain self.old ticket }
-        ensures { self.new ≡ after_drain_begin self.old ticket }
+    /// A drain begins.
+    pub(crate) fn drain_begin(&mut self, ticket: Number)
+        requires { (callers items : ℕ) × (rows : List Row) × IsQueueRight callers items rows self.old × CanDrain (book_by callers items rows self.old) ticket }
+        ensures { (callers items : ℕ) (rows : List Row) → IsQueueRight callers items rows self.old → CanDrain (book_by callers items rows self.old) ticket
+            → IsQueueRight callers items rows self.new × (book_by callers items rows self.new ≡ after_drain_begin (book_by callers items rows self.old) ticket) }
     {
         self.drains.push_reserved(ticket);
     }
 
     /// A drain ends.
-    pub fn drain_end(&mut self, ticket: Number)
-        requires { Contains self.old.drains ticket }
-        ensures { self.new ≡ after_drain_end self.old ticket }
+    pub(crate) fn drain_end(&mut self, ticket: Number)
+        requires { (callers items : ℕ) × (rows : List Row) × IsQueueRight callers items rows self.old × Contains self.old.drains.items ticket }
+        ensures { (callers items : ℕ) (rows : List Row) → IsQueueRight callers items rows self.old → Contains self.old.drains.items ticket
+            → IsQueueRight callers items rows self.new × (book_by callers items rows self.new ≡ after_drain_end (book_by callers items rows self.old) ticket) }
     {
         remove_ticket(&mut self.drains, ticket);
     }
+}
 
-    /// Whether a drain is unended (`__WQ_DRAINING`).
-    pub fn draining(&self) -> bool
-        ensures { IsTrue result ↔ (0 < length self.now.drains) }
-    {
-        !self.drains.is_empty()
-    }
+/// Whether the counts of these colours are 0.
+fn are_clear(counts: &[u32; COLOURS], colours: &[Colour]) -> bool
+    requires { All (λ c. c < COLOURS) colours.now }
+    ensures { result ≡ list_all (λ c. slice_index counts.now c == 0) colours.now }
+{
+    colours.iter().all(|&colour| is_clear(counts, colour))
+}
+
+/// Whether the count of this colour is 0.
+fn is_clear(counts: &[u32; COLOURS], colour: Colour) -> bool
+    requires { colour < COLOURS }
+    ensures { result ≡ (slice_index counts.now colour == 0) }
+{
+    counts[usize::from(colour)] == 0
 }
 
 /// Whether the served flush at this place may end: the counts of its colour and of all older ones are 0, so nothing is open below its bound.
 fn is_served_ready(
-    tally: &Tally,
+    counts: &[u32; COLOURS],
     colours: &[Colour; COLOURS],
     served: &[Served],
     place: usize,
@@ -225,11 +205,11 @@ fn is_served_ready(
     requires place { place < length served.now }
     requires few { length served.now ≤ MOST_SERVED }
     requires rise { IsNonDecreasingBy bound_of served.now }
-    requires colouring { IsColouring colours.now served.now tally.now.rows }
-    ensures colours { IsTrue result ↔ AreUnused tally.now.rows (take (place + 1) colours.now) }
-    ensures bound { IsTrue result ↔ WaitsForNothing tally.now.rows served.now place }
+    requires of { (rows : List Row) × IsTally rows counts.now × IsColouring colours.now served.now rows }
+    ensures colours { (rows : List Row) → IsTally rows counts.now → IsColouring colours.now served.now rows → IsTrue result ↔ AreUnused rows (take (place + 1) colours.now) }
+    ensures bound { (rows : List Row) → IsTally rows counts.now → IsColouring colours.now served.now rows → IsTrue result ↔ WaitsForNothing rows served.now place }
 {
-    tally.are_clear(&colours[..place + 1])
+    are_clear(counts, &colours[..place + 1])
 }
 
 /// Puts the colour at this place behind all others: it is free.

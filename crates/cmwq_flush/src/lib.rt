@@ -1,16 +1,15 @@
-//! What flushes and drains wait for: the flush book of a queue, and the barriers of items.
+//! What flushes and drains wait for: the flush books of queues, and the barriers of items.
 #![tactic(auto)]
 
 mod barrier;
-mod barriers;
+mod books;
 mod flushes;
 mod limits;
+mod openings;
 mod served;
-mod tally;
 mod tickets;
 
 pub use barrier::Barrier;
-pub use barriers::Barriers;
-pub use flushes::Flushes;
+pub use books::FlushBooks;
 pub use limits::{MOST_SERVED, TICKETS_OF_CALLER};
 pub use served::Served;

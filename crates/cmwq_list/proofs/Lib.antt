@@ -1,4 +1,4 @@
-mod Members
+pub mod Members
 mod Between
 mod Rings
 mod Linking

@@ -4,6 +4,11 @@ use Rattle.cmwq_theory_steps.proofs.Standing.{due_settles}
 use Rattle.cmwq_ticket.specs.Rows.{TicketBook}
 use Rattle.cmwq_theory_active.proofs.Rising.{opening_number}
 use Rattle.cmwq_refinement.specs.Places as places
+use Rattle.std.specs.Prelude.{All}
+use Rattle.std.proofs.lemmas.List.{get_or_default}
+use Rattle.std.proofs.Common.{get_or}
+use Rattle.cmwq_flush.specs.FlushBooks.{FlushState, book_in, no_book}
+use Rattle.cmwq_refinement.proofs.FlushSteps.{ended_next}
 use Rattle.cmwq_refinement.proofs.FlushMay.{entries_apply_to_flushes}
 use Rattle.cmwq_refinement.proofs.TimerMay.{timers_refine, timers_may_be_set}
 use Rattle.cmwq_refinement.proofs.BarrierMay.{entries_apply_to_barriers}
@@ -23,7 +28,7 @@ use Rattle.cmwq_state.specs.Widths.{AreWidths, MaySetWidth}
 use Rattle.cmwq_state.proofs.WidthSteps.{widths_are}
 use Rattle.cmwq_state.proofs.Listing.{may_all_same}
 use Rattle.cmwq_state.proofs.PwqsSteps.{ArePassed, IsReadyToPass, are_placed, pwqs_ended, pwqs_opened, pwqs_passed}
-use Rattle.cmwq_state.specs.Tables.{pool_in, pool_place, pool_listing, ListEachItemOnce, book_in, only, those_in, ArePools, AreBooks, EachPool, EachBook, IsListable, MayBeListed, MayEndInBooks, MayOpenInBooks, MayCancelInPools, MayBeDoneInBooks, MayBeginInBooks, MayEndWait, MayBeginWait}
+use Rattle.cmwq_state.specs.Tables.{pool_in, pool_place, pool_listing, ListEachItemOnce, only, those_in, ArePools, AreBooks, EachPool, EachBook, IsListable, MayBeListed, MayEndInBooks, MayOpenInBooks, MayCancelInPools, MayBeDoneInBooks, MayBeginInBooks, MayEndWait, MayBeginWait}
 use Rattle.cmwq_state.specs.Effects.{IsEffect}
 use Rattle.cmwq_model.specs.Prelude.{item_number}
 use Rattle.cmwq_state.specs.declared.effect.Effect.{Effect}
@@ -180,39 +185,53 @@ may_cancel s past f old is before many = by f.ended refl
     by None h = tt
     by (Some x) h = let there = open_there s past f x is before h in (there.queue, omega (arith, there.cpu))
 
-pub may_end_books : (s : Layout) (past : List Entry) (f : Effect) (old : List FlushBook) → IsTrue (is_layout s) → IsEffect s past f → IsLegal s past → AreBooks s past old → MayEndInBooks f.ended old
-may_end_books s past f old inside is before are = by f.ended refl
+pub may_end_books : (s : Layout) (past : List Entry) (f : Effect) (old : FlushState) → IsTrue (is_layout s) → IsEffect s past f → IsLegal s past → AreBooks s past old.books → old.barriers ≡ barriers_of s past → MayEndInBooks f.ended old
+may_end_books s past f old inside is before are same_barriers = by f.ended refl
   where
+    of_item : MayEndInBarriers f.ended old.barriers
+    of_item = rw (is.ended, same_barriers) (entries_apply_to_barriers s past f.entry is.legal).ended
+
     by : (o : Option Queueing) → f.ended ≡ o → MayEndInBooks o old
     by None h = tt
     by (Some x) h =
         let there = open_there s past f x is before h in
         let q = x.place.queue.0 in
-        let may = (entries_apply_to_flushes s past f.entry q (book_in old q) inside is.legal (are.each q there.queue)).ended in
+        let may = (entries_apply_to_flushes s past f.entry q (book_in old.books q) inside is.legal (are.each q there.queue)).ended in
         let same : ending past f.entry ≡ Some x = sym is.ended ∙ h in
-        let mine = subst (λ o. MayEndInFlushes o q (book_in old q)) same may in
-        (rw are.many there.queue, mine (eq-eqb q q refl))
+        let mine = subst (λ o. MayEndInFlushes o q (book_in old.books q)) same may in
+        record { queue = rw are.many there.queue; on = mine (eq-eqb q q refl); of = subst (λ o. MayEndInBarriers o old.barriers) h of_item }
 
-pub may_open_books : (s : Layout) (past : List Entry) (f : Effect) (old mid : List FlushBook) → length past < 9223372036854775808 → IsTrue (is_layout s) → IsEffect s past f → AreBooks s past old → EachBook (flushes_after_end f.ended) old mid → MayOpenInBooks f.opened mid
-may_open_books s past f old mid few inside is are applied = by f.opened refl
+pub may_open_books : (s : Layout) (past : List Entry) (f : Effect) (old mid : FlushState) → length past < 9223372036854775808 → IsTrue (is_layout s) → IsEffect s past f → AreBooks s past old.books → old.barriers ≡ barriers_of s past
+    → EachBook (flushes_after_end f.ended) old.books mid.books → mid.barriers ≡ barriers_after_end f.ended old.barriers → MayOpenInBooks f.opened mid
+may_open_books s past f old mid few inside is are same_barriers applied ended_barriers = by f.opened refl
   where
+    of_item : MayOpenInBarriers f.opened mid.barriers
+    of_item = rw (ended_barriers, is.opened, is.ended, same_barriers) (entries_apply_to_barriers s past f.entry is.legal).opened
+
+    book_is : (q : ℕ) → book_in mid.books q ≡ flushes_after_end (ending past f.entry) q (book_in old.books q)
+    book_is q = applied.each q ∙ ap (λ o. flushes_after_end o q (book_in old.books q)) is.ended
+
+    -- the number comes after all that were opened, of whichever queue
+    latest : (n : ℕ) → n ≡ length past → All (λ b. b.next ≤ n) mid.books
+    latest n number k d lt =
+        let many = are.many in
+        let size = applied.many in
+        let here : get_or mid.books k d ≡ book_in mid.books k = get_or_default mid.books k d no_book lt in
+        let next : (get_or mid.books k d).next ≡ (book_in old.books k).next = ap (λ (b : FlushBook). b.next) (here ∙ book_is k) ∙ ended_next (ending past f.entry) k (book_in old.books k) in
+        let le = (are.each k (omega arith)).next in
+        omega arith
+
     by : (o : Option Queueing) → f.opened ≡ o → MayOpenInBooks o mid
     by None h = tt
     by (Some x) h =
         let same : opening past f.entry ≡ Some x = sym is.opened ∙ h in
         let there = opened_are_there s past f.entry x is.legal same in
         let q = x.place.queue.0 in
-        let may = (entries_apply_to_flushes s past f.entry q (book_in old q) inside is.legal (are.each q there.queue)).opened in
-        let mine = subst (λ o. MayOpenInFlushes o q (flushes_after_end (ending past f.entry) q (book_in old q))) same may in
-        let here : book_in mid q ≡ flushes_after_end (ending past f.entry) q (book_in old q) = applied.each q ∙ ap (λ o. flushes_after_end o q (book_in old q)) is.ended in
+        let may = (entries_apply_to_flushes s past f.entry q (book_in old.books q) inside is.legal (are.each q there.queue)).opened in
+        let mine = subst (λ o. MayOpenInFlushes o q (flushes_after_end (ending past f.entry) q (book_in old.books q))) same may in
         let number : x.number ≡ length past = opening_number past f.entry x same in
-        (rw (applied.many, are.many) there.queue, rw here (mine (eq-eqb q q refl)), omega arith)
-
-pub may_end_barriers : (s : Layout) (past : List Entry) (f : Effect) → IsEffect s past f → MayEndInBarriers f.ended (barriers_of s past)
-may_end_barriers s past f is = rw is.ended (entries_apply_to_barriers s past f.entry is.legal).ended
-
-pub may_open_barriers : (s : Layout) (past : List Entry) (f : Effect) → IsEffect s past f → MayOpenInBarriers f.opened (barriers_after_end f.ended (barriers_of s past))
-may_open_barriers s past f is = rw (is.ended, is.opened) (entries_apply_to_barriers s past f.entry is.legal).opened
+        let item = subst (λ o. MayOpenInBarriers o mid.barriers) h of_item in
+        (record { queue = rw (applied.many, are.many) there.queue; can = rw (book_is q) (mine (eq-eqb q q refl)); latest = latest x.number number; item = item.0; one = item.2 }, omega arith)
 
 set_by : (e : Entry) (past : List Entry) (rows : TimerRows) (b : Bool) → settles e.reply ≡ b → MayBeSet (item_of e) (booking_of e (length past)) rows → MayBeSet (if b then item_of e else None) (booking_of e (length past)) rows
 set_by e past rows true h may = may

@@ -1,18 +1,12 @@
 -- What a ticket still waits for, and which booking fires first, read off the parts.
-use Rattle.cmwq_state.specs.Common.{◌≡◌, ℕ, ◌<◌, Bool, true, false, List, [], ◌∷◌, find, length, get_or, Option, Some, None, refl, sym, ap, ◌∙◌, subst, IsTrue, ◌↔◌, Contains, slice_get, option_map, option_and_then, ◌⊎◌, inl, inr, get_or_default, ItemId, Call, Entry, Queueing, Start, Who, Ticket, Layout, unended_tickets, ticket_of, is_ticket, waits_for, item_run, queueing_at, still_open, IsLegal, found, in_contained, runs_are_queueings, found_number, FlushBook, flush_tickets, IsReady, AreFlushes, ready_flushes_wait_for_nothing, flushes_wait_for_least_open, drains_wait_for_least_open, wait_by, wait_for, barriers_of, BarrierBook, tickets_in, is_some}
+use Rattle.cmwq_state.specs.Common.{◌≡◌, ℕ, ◌<◌, Bool, true, false, List, [], ◌∷◌, find, length, Option, Some, None, refl, sym, ap, ◌∙◌, subst, IsTrue, ◌↔◌, Contains, slice_get, option_map, option_and_then, ◌⊎◌, inl, inr, ItemId, Call, Entry, Queueing, Start, Who, Ticket, Layout, unended_tickets, ticket_of, is_ticket, waits_for, item_run, queueing_at, still_open, IsLegal, found, in_contained, runs_are_queueings, found_number, FlushBook, flush_tickets, IsReady, AreFlushes, ready_flushes_wait_for_nothing, flushes_wait_for_least_open, drains_wait_for_least_open, wait_by, wait_for, barriers_of, BarrierBook, tickets_in, is_some}
+use Rattle.cmwq_state.specs.Common.{ltb-true, has_numbers}
 use Rattle.cmwq_model.specs.declared.id.QueueId.{QueueId}
 use Rattle.cmwq_model.specs.declared.call.Call.TheVariants as call
 use Rattle.cmwq_state.specs.Flights.{run_open}
 use Rattle.cmwq_refinement.proofs.BarrierEnds.{unended_waits_stand}
 use Rattle.cmwq_refinement.proofs.BarrierReads.{barriers_wait_for_least}
 use Rattle.cmwq_flush.specs.BarrierBook.{barrier_waits_for as book_waits_for}
-use Rattle.cmwq_state.specs.Tables.{AreBooks, book_in, no_book}
-
-pub flushes_found : (s : Layout) (past : List Entry) (books : List FlushBook) (q i : ℕ) (v : FlushBook) → AreBooks s past books → q < length s.queues → i ≡ q → v ≡ get_or books i v → AreFlushes s past q v
-flushes_found s past books q i v are here at found =
-    let inside : i < length books = rw (at, are.many) here in
-    let book : v ≡ book_in books q = found ∙ (get_or_default books i v no_book inside ∙ ap (λ j. get_or books j no_book) at) in
-    subst (AreFlushes s past q) (sym book) (are.each q here)
 
 -- a flush that is ready waits for nothing, and another for the least that is open
 pub ready_for_none : (s : Layout) (past : List Entry) (q : QueueId) (b : FlushBook) (t : ℕ) (r : Bool) → AreFlushes s past q.0 b → Contains (flush_tickets b) t → IsTrue r ↔ IsReady b t → r ≡ true → None ≡ waits_for past t (call.Flush q)
@@ -69,6 +63,11 @@ barrier_stands s past t b is here item =
 
 pub barrier_waits : (s : Layout) (past : List Entry) (t : Ticket) (b : BarrierBook) → b ≡ barriers_of s past → IsLegal s past → Contains (unended_tickets past) t → IsItemFlush t.call → book_waits_for b t.number ≡ waits_for past t.number t.call
 barrier_waits s past t b is legal here item = ap (λ v. book_waits_for v t.number) is ∙ barriers_wait_for_least s past t legal here (waits_item t item)
+
+-- a drain and a destroy are of a queue that there is
+pub drained_there : (s : Layout) (t : Ticket) (q : QueueId) → (t.call ≡ call.Drain q) ⊎ (t.call ≡ call.Destroy q) → has_numbers s t.call ≡ true → q.0 < length s.queues
+drained_there s t q (inl e) fits = ltb-true q.0 (length s.queues) (sym (ap (has_numbers s) e) ∙ fits)
+drained_there s t q (inr e) fits = ltb-true q.0 (length s.queues) (sym (ap (has_numbers s) e) ∙ fits)
 
 pub drain_waits : (s : Layout) (past : List Entry) (q : QueueId) (t : Ticket) (b : FlushBook) → AreFlushes s past q.0 b → (t.call ≡ call.Drain q) ⊎ (t.call ≡ call.Destroy q) → slice_get b.opened 0 ≡ waits_for past t.number t.call
 drain_waits s past q t b is (inl e) = sym (ap (waits_for past t.number) e ∙ (drains_wait_for_least_open s past q b t.number is).0)

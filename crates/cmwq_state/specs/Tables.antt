@@ -1,6 +1,7 @@
 -- The tables of a book: where each pool, each flush book and each serial stands, and what may be applied to them.
 use Rattle.std.specs.Prelude.{◌≡◌, ◌+◌, ◌*◌, ◌<◌, if◌then◌else◌}
-use Rattle.cmwq_state.specs.Common.{ℕ, true, List, length, filter, Option, Some, None, slice_index_or, Contains, IsTrue, All, PoolId, Who, Caller, Worker, Reply, Entry, Queueing, QueueShape, Ticket, Call, Layout, most_callers, most_workers, pool_at, serial_of, same_pool, PoolState, pool_without_task, pool_with_task, pool_numbered, lists_item, may_list, FlushBook, new_book, flush_tickets, IsReady, CanOpen, CanBegin, CanDrain, pool_after_activation, pool_of, task_for, MayReplyInPool, AreFlushes, is_in}
+use Rattle.cmwq_state.specs.Common.{ℕ, true, List, length, filter, Option, Some, None, slice_index_or, Contains, IsTrue, All, PoolId, Who, Caller, Worker, Reply, Entry, Queueing, QueueShape, Ticket, Call, Layout, most_callers, most_workers, pool_at, serial_of, same_pool, PoolState, pool_without_task, pool_with_task, pool_numbered, lists_item, may_list, FlushBook, flush_tickets, IsReady, CanBegin, CanDrain, pool_after_activation, pool_of, task_for, MayReplyInPool, AreFlushes, is_in}
+use Rattle.cmwq_flush.specs.FlushBooks.{CanOpenOn, FlushState, IsOpenOn, book_in}
 use Rattle.cmwq_model.specs.declared.call.Call.TheVariants as call
 
 -- the who is inside the layout
@@ -36,18 +37,12 @@ pub record ArePools (s : Layout) (past : List Entry) (pools : List PoolState) : 
   pub many : length pools ≡ 2 * s.cpus
   pub each : (p : PoolId) → p.cpu.0 < s.cpus → pool_in pools p ≡ pool_of s past p
 
--- each queue's flush book is that of the past
-abbrev pub no_book : FlushBook
-no_book = new_book 0 0
-
-abbrev pub book_in : List FlushBook → ℕ → FlushBook
-book_in books q = slice_index_or books q no_book
-
 -- each flush book is what `after` makes of the one that stood at its place
 pub record EachBook (after : ℕ → FlushBook → FlushBook) (old new : List FlushBook) : Type 0 where
   pub many : length new ≡ length old
   pub each : (q : ℕ) → book_in new q ≡ after q (book_in old q)
 
+-- each queue's flush book is that of the past
 pub record AreBooks (s : Layout) (past : List Entry) (books : List FlushBook) : Type 0 where
   pub many : length books ≡ length s.queues
   pub each : (q : ℕ) → q < length s.queues → AreFlushes s past q (book_in books q)
@@ -62,13 +57,13 @@ MayReplyToWorker (Caller c) r pools = Unit {0}
 MayReplyToWorker (Worker w) r pools = (pool_place w.pool < length pools) × MayReplyInPool r (pool_in pools w.pool) w.index
 
 -- what the calls of flush books require for a queueing that ended, and for one that was opened
-abbrev pub MayEndInBooks : Option Queueing → List FlushBook → Type 0
+abbrev pub MayEndInBooks : Option Queueing → FlushState → Type 0
 MayEndInBooks None books = Unit {0}
-MayEndInBooks (Some x) books = (x.place.queue.0 < length books) × Contains (book_in books x.place.queue.0).opened x.number
+MayEndInBooks (Some x) books = IsOpenOn books x.place.queue.0 x.item.0 x.number
 
-abbrev pub MayOpenInBooks : Option Queueing → List FlushBook → Type 0
+abbrev pub MayOpenInBooks : Option Queueing → FlushState → Type 0
 MayOpenInBooks None books = Unit {0}
-MayOpenInBooks (Some x) books = (x.place.queue.0 < length books) × CanOpen (book_in books x.place.queue.0) x.number × (x.number < 9223372036854775808)
+MayOpenInBooks (Some x) books = CanOpenOn books x.place.queue.0 x.item.0 x.number × (x.number < 9223372036854775808)
 
 -- for a queueing that ended otherwise than by a finish
 abbrev pub MayCancelInPools : Option Queueing → List QueueShape → List PoolState → Type 0

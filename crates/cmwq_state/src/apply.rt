@@ -15,11 +15,11 @@ ghost use Rattle.cmwq_state.specs.Widths.{AreWidths};
 
 use crate::effect::Effect;
 use crate::tables::{
-    begin_in_barriers, begin_in_books, cancel_in_pools, done_in_barriers, done_in_books,
-    end_in_books, frozen_after, list_active, lose_queue, move_barriers, move_flights, move_pwqs,
-    move_tickets, open_in_books, reply_in_pools, set_timers, set_width, who_place,
+    begin_in_books, cancel_in_pools, done_in_books, end_in_books, frozen_after, list_active,
+    lose_queue, move_flights, move_pwqs, move_tickets, open_in_books, reply_in_pools, set_timers,
+    set_width, who_place,
 };
-use cmwq_flush::{Barriers, Flushes};
+use cmwq_flush::FlushBooks;
 use cmwq_inflight::Flights;
 use cmwq_model::{QueueShape, Queueing};
 use cmwq_pool::Pools;
@@ -79,25 +79,16 @@ pub(crate) fn apply_pools(
     list_active(queues, pools, activated);
 }
 
-/// The flush book of each queue.
-pub(crate) fn apply_books(books: &mut Vec<Flushes>, effect: &Effect)
-    requires { (s : Layout) × (past : List entries.Entry) × IsNextEffect s past effect.now × AreBooks s past books.old.items }
-    ensures { (s : Layout) (past : List entries.Entry) → IsNextEffect s past effect.now → AreBooks s past books.old.items → AreBooks s (effect.now.entry ∷ past) books.new.items }
+/// The flush book of each queue, and the barriers of items.
+pub(crate) fn apply_books(books: &mut FlushBooks, effect: &Effect)
+    requires { (s : Layout) × (past : List entries.Entry) × IsNextEffect s past effect.now × AreBooks s past books.old.books × (books.old.barriers ≡ barriers_of s past) }
+    ensures { (s : Layout) (past : List entries.Entry) → IsNextEffect s past effect.now → AreBooks s past books.old.books → books.old.barriers ≡ barriers_of s past
+        → AreBooks s (effect.now.entry ∷ past) books.new.books × (books.new.barriers ≡ barriers_of s (effect.now.entry ∷ past)) }
 {
     end_in_books(books, effect.ended);
     open_in_books(books, effect.opened);
     done_in_books(books, effect.done);
     begin_in_books(books, effect.begun);
-}
-
-/// The barriers of items.
-pub(crate) fn apply_barriers(barriers: &mut Barriers, effect: &Effect)
-    requires { (s : Layout) × (past : List entries.Entry) × IsNextEffect s past effect.now × (barriers.old ≡ barriers_of s past) }
-    ensures { (s : Layout) (past : List entries.Entry) → IsNextEffect s past effect.now → barriers.old ≡ barriers_of s past → barriers.new ≡ barriers_of s (effect.now.entry ∷ past) }
-{
-    move_barriers(barriers, effect.ended, effect.opened);
-    done_in_barriers(barriers, effect.done);
-    begin_in_barriers(barriers, effect.begun);
 }
 
 /// The queueings in flight.

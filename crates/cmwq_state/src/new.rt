@@ -2,15 +2,14 @@
 
 ghost use Rattle.std.specs.Prelude.{◌≡◌, ◌*◌, ◌<◌, ◌≤◌, None, false, IfOk, length, map, replicate, vec_capacity};
 ghost use Rattle.cmwq_pool.specs.PoolState.{new_pool_state};
-ghost use Rattle.cmwq_flush.specs.FlushBook.{new_book};
-ghost use Rattle.cmwq_flush.specs.BarrierBook.{new_barriers};
+ghost use Rattle.cmwq_flush.specs.FlushBooks.{new_flush_state};
 ghost use Rattle.cmwq_ticket.specs.Rows.{new_tickets};
 ghost use Rattle.cmwq_inflight.specs.Flights.{no_flight};
 ghost use Rattle.cmwq_pwq.specs.Pwqs.{new_pwq_state};
 ghost use Rattle.cmwq_state.specs.Tables.{who_places};
 
 use crate::tables::who_places;
-use cmwq_flush::{Barriers, Flushes};
+use cmwq_flush::FlushBooks;
 use cmwq_inflight::Flights;
 use cmwq_model::{Counts, NoMemory, QueueShape};
 use cmwq_pool::Pools;
@@ -31,8 +30,7 @@ pub(crate) struct ItemParts {
 /// What is kept of flushes and tickets.
 #[derive(Drop)]
 pub(crate) struct FlushParts {
-    pub(crate) books: Vec<Flushes>,
-    pub(crate) barriers: Barriers,
+    pub(crate) books: FlushBooks,
     pub(crate) tickets: Tickets,
 }
 
@@ -75,18 +73,13 @@ pub(crate) fn new_flush_parts(
     counts: Counts,
     queues: usize,
 ) -> Result<FlushParts, NoMemory>
-    ensures books { IfOk result (λ parts. parts.books.items ≡ replicate queues (new_book counts.callers counts.items)) }
-    ensures barriers { IfOk result (λ parts. parts.barriers ≡ new_barriers counts.items counts.callers) }
+    requires { queues ≤ 256 }
+    ensures books { IfOk result (λ parts. parts.books ≡ new_flush_state queues counts.items counts.callers) }
     ensures tickets { IfOk result (λ parts. parts.tickets ≡ new_tickets counts.callers counts.items queues) }
 {
-    let books = new_books(alloc, queues, counts.callers, counts.items)?;
-    let barriers = Barriers::new(alloc, counts.items, counts.callers)?;
+    let books = FlushBooks::new(alloc, queues, counts.items, counts.callers)?;
     let tickets = Tickets::new(alloc, counts.callers, counts.items, queues)?;
-    Ok(FlushParts {
-        books,
-        barriers,
-        tickets,
-    })
+    Ok(FlushParts { books, tickets })
 }
 
 /// A copy of the queues, and what is kept of them before the first entry.
@@ -110,22 +103,6 @@ pub(crate) fn new_queue_parts(
         pwqs,
         most,
     })
-}
-
-/// A new flush book for each queue.
-fn new_books(
-    alloc: Global,
-    queues: usize,
-    callers: u8,
-    items: u16,
-) -> Result<Vec<Flushes>, NoMemory>
-    ensures { IfOk result (λ books. books.items ≡ replicate queues (new_book callers items)) }
-{
-    let mut books = Vec::with_capacity(alloc, queues)?;
-    for index in 0..queues {
-        books.push_reserved(Flushes::new(alloc, callers, items)?);
-    }
-    Ok(books)
 }
 
 /// The max_active of each queue at first.

@@ -12,13 +12,13 @@ mod waits;
 mod workers;
 
 use crate::apply::{
-    apply_barriers, apply_books, apply_flights, apply_gone, apply_pools, apply_pwqs, apply_serials,
-    apply_tickets, apply_timers, apply_widths,
+    apply_books, apply_flights, apply_gone, apply_pools, apply_pwqs, apply_serials, apply_tickets,
+    apply_timers, apply_widths,
 };
 use crate::effect::Effect;
 use crate::new::{new_flush_parts, new_item_parts, new_queue_parts};
 use crate::tables::who_place;
-use cmwq_flush::{Barriers, Flushes};
+use cmwq_flush::FlushBooks;
 use cmwq_inflight::Flights;
 use cmwq_model::{Call, Counts, Entry, NoMemory, QueueShape, Shape, Who};
 use cmwq_pool::Pools;
@@ -41,8 +41,7 @@ pub struct State {
     room: u64,
     entries: Trail<Entry>,
     pools: Pools,
-    books: Vec<Flushes>,
-    barriers: Barriers,
+    books: FlushBooks,
     timers: Timers,
     time: u64,
     serials: Vec<u64>,
@@ -65,7 +64,7 @@ impl Model for State {
     ghost view = { λ s. record { layout = layout_of s.counts s.queues.items; room = s.room; entries = s.entries } };
 
     ghost invariant = { λ s. IsState (layout_of s.counts s.queues.items) s.room s.entries
-        (record { pools = s.pools; books = s.books.items; barriers = s.barriers; timers = s.timers; time = s.time; serials = s.serials.items; flights = s.flights; tickets = s.tickets; gone = s.gone.items; pwqs = s.pwqs; most = s.most.items; frozen = s.frozen; owing = s.owing }) };
+        (record { pools = s.pools; books = s.books.books; barriers = s.books.barriers; timers = s.timers; time = s.time; serials = s.serials.items; flights = s.flights; tickets = s.tickets; gone = s.gone.items; pwqs = s.pwqs; most = s.most.items; frozen = s.frozen; owing = s.owing }) };
 }
 
 impl State {
@@ -101,7 +100,6 @@ impl State {
             entries,
             pools: of_items.pools,
             books: of_flushes.books,
-            barriers: of_flushes.barriers,
             timers: of_items.timers,
             time: 0,
             serials: of_items.serials,
@@ -182,7 +180,6 @@ impl State {
             &effect,
         );
         apply_books(&mut self.books, &effect);
-        apply_barriers(&mut self.barriers, &effect);
         apply_flights(&mut self.flights, &effect);
         apply_tickets(&mut self.tickets, &effect);
         apply_gone(&mut self.gone, &effect);

@@ -9,7 +9,7 @@ ghost use Rattle.cmwq_model.specs.Prelude.{Layout, fits, most_cpus, pool_at, fin
 ghost use Rattle.cmwq_pool.specs.Pools.{pool_numbered, with_pool};
 ghost use Rattle.cmwq_refinement.specs.Pools.{MayAllBeAdded, MayReplyInPool, pool_after_activation, pool_after_cancel, pool_after_reply, pool_after_worker};
 ghost use Rattle.cmwq_refinement.specs.FlushBooks.{flushes_after_begun, flushes_after_done, flushes_after_end, flushes_after_opening};
-ghost use Rattle.cmwq_refinement.specs.BarrierBooks.{MayBeDoneInBarriers, MayBeginInBarriers, MayEndInBarriers, MayOpenInBarriers, barriers_after_begun, barriers_after_done, barriers_after_end, barriers_after_opening};
+ghost use Rattle.cmwq_refinement.specs.BarrierBooks.{MayBeDoneInBarriers, MayBeginInBarriers, barriers_after_begun, barriers_after_done, barriers_after_end, barriers_after_opening};
 ghost use Rattle.cmwq_refinement.specs.Timers.{MayBeSet, timers_after_settling};
 ghost use Rattle.cmwq_state.specs.Tables as tables;
 ghost use Rattle.cmwq_state.specs.Tables.{EachBook, EachPool, IsThere, ListEachItemOnce, MayBeDoneInBooks, MayBeListed, MayBeginInBooks, MayCancelInPools, MayEndInBooks, MayListOne, MayOpenInBooks, MayReplyToWorker, only, pool_in, pool_with, pool_without, those_in};
@@ -20,7 +20,7 @@ ghost use Rattle.cmwq_pwq.specs.Pwqs.{AreBehind, ArePlaced, IsPassed, IsPlacedIf
 ghost use Rattle.cmwq_state.specs.Widths.{MaySetWidth, SetsWidth};
 ghost use Rattle.cmwq_theory_active.specs.Looks.{keeps_widths};
 
-use cmwq_flush::{Barriers, Flushes};
+use cmwq_flush::FlushBooks;
 use cmwq_inflight::Flights;
 use cmwq_model::{
     Booking, Call, ItemId, MOST_CALLERS, MOST_WORKERS, Number, Place, PoolId, QueueShape, Queueing,
@@ -93,37 +93,25 @@ pub(crate) fn reply_in_pools(pools: &mut Pools, who: Who, reply: Reply)
     }
 }
 
-/// Ends a queueing in the flush book of its queue.
-pub(crate) fn end_in_books(books: &mut Vec<Flushes>, ended: Option<Queueing>)
-    requires { MayEndInBooks ended books.old.items }
-    ensures { EachBook (flushes_after_end ended) books.old.items books.new.items }
+/// Ends a queueing in the flush book of its queue and in the barriers.
+pub(crate) fn end_in_books(books: &mut FlushBooks, ended: Option<Queueing>)
+    requires { MayEndInBooks ended books.old }
+    ensures books { EachBook (flushes_after_end ended) books.old.books books.new.books }
+    ensures barriers { books.new.barriers ≡ barriers_after_end ended books.old.barriers }
 {
     if let Some(queueing) = ended {
-        books[usize::from(queueing.place.queue.0)].ended(queueing.number);
+        books.ended(queueing.place.queue, queueing.item, queueing.number);
     }
 }
 
-/// Opens a queueing in the flush book of its queue.
-pub(crate) fn open_in_books(books: &mut Vec<Flushes>, opened: Option<Queueing>)
-    requires { MayOpenInBooks opened books.old.items }
-    ensures { EachBook (flushes_after_opening opened) books.old.items books.new.items }
+/// Opens a queueing in the flush book of its queue and in the barriers.
+pub(crate) fn open_in_books(books: &mut FlushBooks, opened: Option<Queueing>)
+    requires { MayOpenInBooks opened books.old }
+    ensures books { EachBook (flushes_after_opening opened) books.old.books books.new.books }
+    ensures barriers { books.new.barriers ≡ barriers_after_opening opened books.old.barriers }
 {
     if let Some(queueing) = opened {
-        books[usize::from(queueing.place.queue.0)].opened(queueing.number);
-    }
-}
-
-/// Ends a queueing and opens one in the barriers.
-pub(crate) fn move_barriers(book: &mut Barriers, ended: Option<Queueing>, opened: Option<Queueing>)
-    requires ended { MayEndInBarriers ended book.old }
-    requires opened { MayOpenInBarriers opened (barriers_after_end ended book.old) }
-    ensures { book.new ≡ barriers_after_opening opened (barriers_after_end ended book.old) }
-{
-    if let Some(queueing) = ended {
-        book.ended(queueing.item, queueing.number);
-    }
-    if let Some(queueing) = opened {
-        book.opened(queueing.item, queueing.number);
+        books.opened(queueing.place.queue, queueing.item, queueing.number);
     }
 }
 
@@ -188,62 +176,43 @@ pub(crate) fn set_timers(timers: &mut Timers, settled: Option<ItemId>, booked: O
     }
 }
 
-/// Ends a wait in the flush book of its queue.
-pub(crate) fn done_in_books(books: &mut Vec<Flushes>, done: Option<Ticket>)
-    requires { MayBeDoneInBooks done books.old.items }
-    ensures { EachBook (flushes_after_done done) books.old.items books.new.items }
+/// Ends a wait in the flush book of its queue, or in the barriers.
+pub(crate) fn done_in_books(books: &mut FlushBooks, done: Option<Ticket>)
+    requires books { MayBeDoneInBooks done books.old.books }
+    requires barriers { MayBeDoneInBarriers done books.old.barriers }
+    ensures books { EachBook (flushes_after_done done) books.old.books books.new.books }
+    ensures barriers { books.new.barriers ≡ barriers_after_done done books.old.barriers }
 {
     if let Some(ticket) = done {
         match ticket.call {
-            Call::Flush { queue } => books[usize::from(queue.0)].end(ticket.number),
-            Call::Drain { queue } | Call::Destroy { queue } => books[usize::from(
-                queue.0,
-            )].drain_end(ticket.number),
+            Call::Flush { queue } => books.end(queue, ticket.number),
+            Call::Drain { queue } | Call::Destroy { queue } => {
+                books.drain_end(queue, ticket.number);
+            }
+            Call::FlushItem { .. } | Call::FlushDelayed { .. } => {
+                books.end_for_item(ticket.number);
+            }
             _ => {}
         }
     }
 }
 
-/// Begins a wait in the flush book of its queue.
-pub(crate) fn begin_in_books(books: &mut Vec<Flushes>, begun: Option<Ticket>)
-    requires { MayBeginInBooks begun books.old.items }
-    ensures { EachBook (flushes_after_begun begun) books.old.items books.new.items }
+/// Begins a wait in the flush book of its queue, or in the barriers.
+pub(crate) fn begin_in_books(books: &mut FlushBooks, begun: Option<Ticket>)
+    requires books { MayBeginInBooks begun books.old.books }
+    requires barriers { MayBeginInBarriers begun books.old.barriers }
+    ensures books { EachBook (flushes_after_begun begun) books.old.books books.new.books }
+    ensures barriers { books.new.barriers ≡ barriers_after_begun begun books.old.barriers }
 {
     if let Some(ticket) = begun {
         match ticket.call {
-            Call::Flush { queue } => books[usize::from(queue.0)].begin(ticket.number),
-            Call::Drain { queue } | Call::Destroy { queue } => books[usize::from(
-                queue.0,
-            )].drain_begin(ticket.number),
-            _ => {}
-        }
-    }
-}
-
-/// Ends a wait for an item in the barriers.
-pub(crate) fn done_in_barriers(book: &mut Barriers, done: Option<Ticket>)
-    requires { MayBeDoneInBarriers done book.old }
-    ensures { book.new ≡ barriers_after_done done book.old }
-{
-    if let Some(ticket) = done {
-        match ticket.call {
-            Call::FlushItem { .. } | Call::FlushDelayed { .. } => book.end(ticket.number),
-            _ => {}
-        }
-    }
-}
-
-/// Begins a wait for an item in the barriers.
-pub(crate) fn begin_in_barriers(book: &mut Barriers, begun: Option<Ticket>)
-    requires { MayBeginInBarriers begun book.old }
-    ensures { book.new ≡ barriers_after_begun begun book.old }
-{
-    if let Some(ticket) = begun {
-        match ticket.call {
-            Call::FlushItem { item } | Call::FlushDelayed { item } => book.begin(
-                item,
-                ticket.number,
-            ),
+            Call::Flush { queue } => books.begin(queue, ticket.number),
+            Call::Drain { queue } | Call::Destroy { queue } => {
+                books.drain_begin(queue, ticket.number);
+            }
+            Call::FlushItem { item } | Call::FlushDelayed { item } => {
+                books.begin_for_item(item, ticket.number);
+            }
             _ => {}
         }
     }

@@ -2,34 +2,22 @@
 
 ghost use Rattle.std.specs.Prelude.{◌≡◌, ◌<◌, Contains, length, true};
 ghost use Rattle.cmwq_model.specs.declared.call.Call.TheVariants as call;
-ghost use Rattle.cmwq_model.specs.Prelude.{has_numbers, IsLegal, past_of, is_flush_of, unended_tickets, waits_for};
-ghost use Rattle.cmwq_refinement.specs.FlushBooks.{AreFlushes};
+ghost use Rattle.cmwq_model.specs.Prelude.{has_numbers, past_of, is_flush_of, unended_tickets, waits_for};
 
 use crate::state::State;
-use cmwq_flush::Flushes;
 use cmwq_model::{Call, ItemId, Number, QueueId, Ticket};
 
 impl State {
-    /// The flush book of a queue.
-    fn flushes(&self, queue: QueueId) -> &Flushes
-        requires { queue.0 < length self.now.layout.queues }
-        ensures is { AreFlushes self.now.layout (past_of self.now.entries) queue.0 result.now }
-        ensures legal { IsLegal self.now.layout (past_of self.now.entries) }
-    {
-        &self.books[usize::from(queue.0)]
-    }
-
     fn flush_waits_for(&self, queue: QueueId, ticket: Ticket) -> Option<Number>
         requires queue { queue.0 < length self.now.layout.queues }
         requires flush { is_flush_of queue.0 ticket ≡ true }
         requires unended { Contains (unended_tickets (past_of self.now.entries)) ticket }
         ensures { result ≡ waits_for (past_of self.now.entries) ticket.number (call.Flush queue) }
     {
-        let flushes = self.flushes(queue);
-        if flushes.ready(ticket.number) {
+        if self.books.ready(queue, ticket.number) {
             None
         } else {
-            flushes.least_open()
+            self.books.least_open(queue)
         }
     }
 
@@ -52,9 +40,9 @@ impl State {
     {
         match ticket.call {
             Call::Flush { queue } => self.flush_waits_for(queue, ticket),
-            Call::Drain { queue } | Call::Destroy { queue } => self.flushes(queue).least_open(),
+            Call::Drain { queue } | Call::Destroy { queue } => self.books.least_open(queue),
             Call::FlushItem { .. } | Call::FlushDelayed { .. } => {
-                self.barriers.waits_for(ticket.number)
+                self.books.item_waits_for(ticket.number)
             }
             Call::CancelSync { item } => self.run_number(item),
             _ => None,

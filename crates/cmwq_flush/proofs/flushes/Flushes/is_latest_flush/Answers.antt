@@ -1,22 +1,23 @@
 use Rattle.cmwq_flush.specs.Common.{sym, ◌∙◌, false≢true}
+use Rattle.cmwq_flush.specs.Queues.{book_by}
 use Rattle.cmwq_flush.proofs.Rightness.{served_rise, overflow_rises, after_all, after_served, after_overflow}
 use Rattle.cmwq_flush.proofs.flushes.Flushes.is_latest_flush.Goals as goal
 
 pub is_latest_served-requires : goal.is_latest_served-requires
-is_latest_served-requires c = rw c.deref.ensures.value (served_rise _ _ _ c.args.ticket c.self.invariant.0)
+is_latest_served-requires c = let r = c.requires in rw c.deref.ensures.value (served_rise (book_by r.0 r.1 r.2 c.args.self.now) r.2 c.args.self.now.colours c.args.ticket r.3.right)
 
 pub is_latest-requires : goal.is_latest-requires
-is_latest-requires c = rw c.deref-then-is_latest_served.ensures.value (overflow_rises _ _ _ c.args.ticket c.self.invariant.0)
+is_latest-requires c = let r = c.requires in rw c.deref-then-is_latest_served.ensures.value (overflow_rises (book_by r.0 r.1 r.2 c.args.self.now) r.2 c.args.self.now.colours c.args.ticket r.3.right)
 
 pub returns-then-is_latest_served : goal.returns-then-is_latest_served
-returns-then-is_latest_served c =
-    let f = c.self.inside in
+returns-then-is_latest_served c = λ callers items rows.
+    let f = c.args.self.now in
     let served = rw c.deref.ensures.value at (c.is_latest_served.ensures.0 c.if-is_latest_served.true) in
     let overflow = rw c.deref-then-is_latest_served.ensures.value at c.is_latest.ensures in
-    rw (← c.self.view_is) (λ latest. after_all f.served.items f.overflow.items c.args.ticket served (overflow.0 latest), λ all. overflow.1 (after_overflow f.served.items f.overflow.items c.args.ticket all))
+    (λ latest. after_all f.served.items f.overflow.items c.args.ticket served (overflow.0 latest), λ all. overflow.1 (after_overflow f.served.items f.overflow.items c.args.ticket all))
 
 pub returns-else-is_latest_served : goal.returns-else-is_latest_served
-returns-else-is_latest_served c =
-    let f = c.self.inside in
+returns-else-is_latest_served c = λ callers items rows.
+    let f = c.args.self.now in
     let served = rw c.deref.ensures.value at c.is_latest_served.ensures in
-    rw (← c.self.view_is) (λ yes. absurd (false≢true (sym c.if-is_latest_served.false ∙ yes)), λ all. served.1 (after_served f.served.items f.overflow.items c.args.ticket all))
+    (λ yes. absurd (false≢true (sym c.if-is_latest_served.false ∙ yes)), λ all. served.1 (after_served f.served.items f.overflow.items c.args.ticket all))

@@ -1,0 +1,154 @@
+-- The numbers of an item's two nodes, by age, as one is put in a list and taken out.
+use Rattle.std.proofs.Common.{ap₂, inl, inr}
+use Rattle.cmwq_flush.specs.Common.{◌≡◌, ◌≢◌, ◌⊎◌, ℕ, ◌<◌, ◌≤◌, Bool, true, false, not, cond, List, [], ◌∷◌, ◌++◌, length, set, Option, Some, None, sym, ap, refl, ◌∙◌, arith, ⊎_elim, map, Contains, eqb, nat_tests, cases_eq, cases_lt, range_with_len, get_or-set_same, get_or-set_other}
+use Rattle.std.specs.Prelude.{◌&&◌, ◌||◌, nat_lt}
+use Rattle.std.proofs.lemmas.Bool.{eq-eqb, ne_eqb, ltb-true, ltb-false}
+use Rattle.std.proofs.lemmas.List.{length-set}
+use Rattle.std.proofs.lemmas.List.FromFn.{fill_by_all, length-map-range_with_len, get_or-map-range_with_len}
+use Rattle.cmwq_lemmas.proofs.Truth.{or_true, or_false, and_true, and_false}
+use Rattle.cmwq_list.specs.Lists.{without_item, list_at}
+use Rattle.cmwq_flush.specs.declared.openings.Row.{Row}
+use Rattle.cmwq_flush.specs.Numbers.{AreRising, without}
+use Rattle.cmwq_flush.specs.Rows.{no_row, numbers_at}
+use Rattle.cmwq_flush.specs.Openings.{is_listed, node_row, node_number, by_age, numbers_of_nodes, opened_by}
+use Rattle.cmwq_flush.proofs.Nodes.{listed-pushed, listed-removed}
+
+-- ---- of all items
+
+pub opened_at : (lists : List (List ℕ)) (rows : List Row) (items i : ℕ) → i < items → numbers_at (opened_by lists rows items) i ≡ numbers_of_nodes lists rows i
+opened_at lists rows items i lt = get_or-map-range_with_len (numbers_of_nodes lists rows) 0 items i i [] lt (omega arith)
+
+-- where those of one item alone change
+pub opened_set : (f g : ℕ → List ℕ) (items i : ℕ) (ns : List ℕ) → i < items → f i ≡ ns → ((j : ℕ) → j ≢ i → f j ≡ g j) → map f (range_with_len 0 items) ≡ set (map g (range_with_len 0 items)) i ns
+opened_set f g items i ns lt here others =
+    let gs = map g (range_with_len 0 items) in
+    let size = length-map-range_with_len g 0 items in
+    sym (fill_by_all f (set gs i ns) items [] (length-set gs i ns ∙ size) (λ k inside. ⊎_elim (λ (same : k ≡ i). rw same (get_or-set_same gs i ns [] (omega arith) ∙ sym here))
+    (λ (differs : k ≡ i → ⊥). get_or-set_other gs i k ns [] differs ∙ get_or-map-range_with_len g 0 items k k [] inside (omega arith) ∙ sym (others k differs)) (cases_eq k i)))
+
+-- ---- by age
+
+pub ordered : (a b : ℕ) (c : Bool) → nat_lt a b ≡ c → by_age (Some a) (Some b) ≡ cond c (a ∷ b ∷ []) (b ∷ a ∷ [])
+ordered a b c e = ap (λ d. cond d (a ∷ b ∷ []) (b ∷ a ∷ [])) e
+
+pub latest_first : (o : Option ℕ) (n : ℕ) → ((b : ℕ) → o ≡ Some b → b < n) → by_age (Some n) o ≡ by_age None o ++ n ∷ []
+latest_first None n less = refl
+latest_first (Some b) n less = let lt = less b refl in ordered n b false (grind (arith, nat_tests))
+
+pub latest_second : (a n : ℕ) → a < n → by_age (Some a) (Some n) ≡ by_age (Some a) None ++ n ∷ []
+latest_second a n lt = ordered a n true (grind (arith, nat_tests))
+
+alone : (n : ℕ) → [] ≡ without n (n ∷ [])
+alone n = ap (λ b. cond (not b) (n ∷ []) []) (sym (eq-eqb n n refl))
+
+other : (b n : ℕ) (c : Bool) → nat_lt n b ≡ c → b ≢ n → b ∷ [] ≡ without n (cond c (n ∷ b ∷ []) (b ∷ n ∷ []))
+other b n true e differs = let miss : eqb b n ≡ false = ne_eqb b n differs in let hit : eqb n n ≡ true = eq-eqb n n refl in rw (hit, miss) refl
+other b n false e differs = let miss : eqb b n ≡ false = ne_eqb b n differs in let hit : eqb n n ≡ true = eq-eqb n n refl in rw (hit, miss) refl
+
+pub ended_first : (o : Option ℕ) (n : ℕ) → ((b : ℕ) → o ≡ Some b → b ≢ n) → by_age None o ≡ without n (by_age (Some n) o)
+ended_first None n differ = alone n
+ended_first (Some b) n differ = other b n (nat_lt n b) refl (differ b refl)
+
+another : (a n : ℕ) (c : Bool) → nat_lt a n ≡ c → a ≢ n → a ∷ [] ≡ without n (cond c (a ∷ n ∷ []) (n ∷ a ∷ []))
+another a n true e differs = let miss : eqb a n ≡ false = ne_eqb a n differs in let hit : eqb n n ≡ true = eq-eqb n n refl in rw (hit, miss) refl
+another a n false e differs = let miss : eqb a n ≡ false = ne_eqb a n differs in let hit : eqb n n ≡ true = eq-eqb n n refl in rw (hit, miss) refl
+
+pub ended_second : (o : Option ℕ) (n : ℕ) → ((a : ℕ) → o ≡ Some a → a ≢ n) → by_age o None ≡ without n (by_age o (Some n))
+ended_second None n differ = alone n
+ended_second (Some a) n differ = another a n (nat_lt a n) refl (differ a refl)
+
+two_of : (a b n : ℕ) → Contains (a ∷ b ∷ []) n → (a ≡ n) ⊎ (b ≡ n)
+two_of a b n found = ⊎_elim (λ (later : 0 < found.0). let one : found.0 ≡ 1 = omega (arith, found.1) in inr (rw one at found.2)) (λ (first : found.0 ≤ 0). let none : found.0 ≡ 0 = omega arith in inl (rw none at found.2)) (cases_lt 0 found.0)
+
+either : (a b n : ℕ) (c : Bool) → Contains (cond c (a ∷ b ∷ []) (b ∷ a ∷ [])) n → (a ≡ n) ⊎ (b ≡ n)
+either a b n true found = two_of a b n found
+either a b n false found = ⊎_elim (λ (e : b ≡ n). inr e) (λ (e : a ≡ n). inl e) (two_of b a n found)
+
+pub one_of : (o p : Option ℕ) (n : ℕ) → Contains (by_age o p) n → (o ≡ Some n) ⊎ (p ≡ Some n)
+one_of None None n found = absurd (omega (arith, found.1))
+one_of (Some a) None n found = let none : found.0 ≡ 0 = omega (arith, found.1) in inl (ap Some (rw none at found.2))
+one_of None (Some b) n found = let none : found.0 ≡ 0 = omega (arith, found.1) in inr (ap Some (rw none at found.2))
+one_of (Some a) (Some b) n found = ⊎_elim (λ (e : a ≡ n). inl (ap Some e)) (λ (e : b ≡ n). inr (ap Some e)) (either a b n (nat_lt a b) found)
+
+pub there_first : (a : ℕ) (p : Option ℕ) → Contains (by_age (Some a) p) a
+there_first a None = (0, omega arith, refl)
+there_first a (Some b) = by (nat_lt a b)
+  where
+    by : (c : Bool) → Contains (cond c (a ∷ b ∷ []) (b ∷ a ∷ [])) a
+    by true = (0, omega arith, refl)
+    by false = (1, omega arith, refl)
+
+pub there_second : (o : Option ℕ) (b : ℕ) → Contains (by_age o (Some b)) b
+there_second None b = (0, omega arith, refl)
+there_second (Some a) b = by (nat_lt a b)
+  where
+    by : (c : Bool) → Contains (cond c (a ∷ b ∷ []) (b ∷ a ∷ [])) b
+    by true = (1, omega arith, refl)
+    by false = (0, omega arith, refl)
+
+both_two : (a b : ℕ) (c : Bool) → length (cond c (a ∷ b ∷ []) (b ∷ a ∷ [])) < 2 → ⊥
+both_two a b true lt = absurd (omega arith)
+both_two a b false lt = absurd (omega arith)
+
+pub one_free : (o p : Option ℕ) → length (by_age o p) < 2 → (o ≡ None) ⊎ (p ≡ None)
+one_free None p lt = inl refl
+one_free (Some a) None lt = inr refl
+one_free (Some a) (Some b) lt = absurd (both_two a b (nat_lt a b) lt)
+
+pub few_numbers : (o p : Option ℕ) → (o ≡ None) ⊎ (p ≡ None) → length (by_age o p) < 2
+few_numbers None None h = omega arith
+few_numbers (Some a) None h = omega arith
+few_numbers None (Some b) h = omega arith
+few_numbers (Some a) (Some b) h = ⊎_elim (λ (e : Some a ≡ None). cc) (λ (e : Some b ≡ None). cc) h
+
+pair_rises : (a b : ℕ) → a < b → AreRising (a ∷ b ∷ [])
+pair_rises a b lt i j d before within = let first : i ≡ 0 = omega arith in let second : j ≡ 1 = omega arith in rw (first, second) lt
+
+by_rise : (a b : ℕ) (c : Bool) → nat_lt a b ≡ c → a ≢ b → AreRising (cond c (a ∷ b ∷ []) (b ∷ a ∷ []))
+by_rise a b true e differs = pair_rises a b (ltb-true a b e)
+by_rise a b false e differs = let le = ltb-false a b e in pair_rises b a (omega arith)
+
+pub numbers_rise : (o p : Option ℕ) → ((a b : ℕ) → o ≡ Some a → p ≡ Some b → a ≢ b) → AreRising (by_age o p)
+numbers_rise None None differ = λ i j d before within. absurd (omega arith)
+numbers_rise (Some a) None differ = λ i j d before within. absurd (omega arith)
+numbers_rise None (Some b) differ = λ i j d before within. absurd (omega arith)
+numbers_rise (Some a) (Some b) differ = by_rise a b (nat_lt a b) refl (differ a b refl refl)
+
+-- ---- of one node
+
+some_number : (b : Bool) (n m : ℕ) → cond b (Some n) None ≡ Some m → (b ≡ true) × (n ≡ m)
+some_number true n m e = (refl, cc)
+some_number false n m e = cc
+
+none_number : (b : Bool) (n : ℕ) → cond b (Some n) None ≡ None → b ≡ false
+none_number true n e = cc
+none_number false n e = refl
+
+pub some_at : (lists : List (List ℕ)) (rows : List Row) (v n : ℕ) → node_number lists rows v ≡ Some n → (is_listed lists v ≡ true) × ((node_row rows v).number ≡ n)
+some_at lists rows v n e = some_number (is_listed lists v) (node_row rows v).number n e
+
+pub none_at : (lists : List (List ℕ)) (rows : List Row) (v : ℕ) → node_number lists rows v ≡ None → is_listed lists v ≡ false
+none_at lists rows v e = none_number (is_listed lists v) (node_row rows v).number e
+
+pub number_at_listed : (lists : List (List ℕ)) (rows : List Row) (v : ℕ) → is_listed lists v ≡ true → node_number lists rows v ≡ Some (node_row rows v).number
+number_at_listed lists rows v e = ap (λ b. cond b (Some (node_row rows v).number) None) e
+
+pub number_at_free : (lists : List (List ℕ)) (rows : List Row) (v : ℕ) → is_listed lists v ≡ false → node_number lists rows v ≡ None
+number_at_free lists rows v e = ap (λ b. cond b (Some (node_row rows v).number) None) e
+
+module _ (lists : List (List ℕ)) (rows : List Row) (l v : ℕ) (r : Row) (lt : l < length lists) where
+  pub number-pushed : v < length rows → node_number (set lists l (list_at lists l ++ v ∷ [])) (set rows v r) v ≡ Some r.number
+  number-pushed inside =
+      number_at_listed (set lists l (list_at lists l ++ v ∷ [])) (set rows v r) v (listed-pushed lists l v v lt ∙ ap (λ b. is_listed lists v || b) (eq-eqb v v refl) ∙ or_true (is_listed lists v))
+      ∙ ap (λ (s : Row). Some s.number) (get_or-set_same rows v r no_row inside)
+
+  pub number-kept : (w : ℕ) → w ≢ v → node_number (set lists l (list_at lists l ++ v ∷ [])) (set rows v r) w ≡ node_number lists rows w
+  number-kept w differs =
+      ap₂ (λ b (s : Row). cond b (Some s.number) None) (listed-pushed lists l v w lt ∙ ap (λ b. is_listed lists w || b) (ne_eqb w v differs) ∙ or_false (is_listed lists w)) (get_or-set_other rows v w r no_row differs)
+
+module _ (lists : List (List ℕ)) (rows : List Row) (v : ℕ) where
+  pub number-removed : node_number (map (without_item v) lists) rows v ≡ None
+  number-removed = number_at_free (map (without_item v) lists) rows v (listed-removed lists v v ∙ ap (λ b. is_listed lists v && not b) (eq-eqb v v refl) ∙ and_false (is_listed lists v))
+
+  pub number-stays : (w : ℕ) → w ≢ v → node_number (map (without_item v) lists) rows w ≡ node_number lists rows w
+  number-stays w differs = ap (λ b. cond b (Some (node_row rows w).number) None) (listed-removed lists v w ∙ ap (λ b. is_listed lists w && not b) (ne_eqb w v differs) ∙ and_true (is_listed lists w))

@@ -1,0 +1,40 @@
+-- The flush books of all queues, with the barriers of all items.
+use Rattle.std.specs.Prelude.{ℕ, ◌<◌, ◌≤◌, List, All, Contains, length, replicate, slice_index_or, slice_set}
+use Rattle.cmwq_flush.specs.FlushBook.{FlushBook, CanOpen, flushes_with_open, flushes_without_open, new_book}
+use Rattle.cmwq_flush.specs.BarrierBook.{BarrierBook, barriers_with_open, barriers_without_open, new_barriers, numbers_open}
+
+pub record FlushState : Type 0 where
+  pub books : List FlushBook
+  pub barriers : BarrierBook
+
+abbrev pub new_flush_state : ℕ → ℕ → ℕ → FlushState
+new_flush_state queues items callers = record { books = replicate queues (new_book callers items); barriers = new_barriers items callers }
+
+abbrev pub no_book : FlushBook
+no_book = new_book 0 0
+
+abbrev pub book_in : List FlushBook → ℕ → FlushBook
+book_in books q = slice_index_or books q no_book
+
+abbrev pub with_book : FlushState → ℕ → FlushBook → FlushState
+with_book s q b = record s { books = slice_set s.books q b }
+
+-- a queueing may be opened on a queue with a number that comes after all that were, of whichever queue, where the item has one open at most
+pub record CanOpenOn (s : FlushState) (q i n : ℕ) : Type 0 where
+  pub queue : q < length s.books
+  pub can : CanOpen (book_in s.books q) n
+  pub latest : All (λ b. b.next ≤ n) s.books
+  pub item : i < length s.barriers.opened
+  pub one : length (numbers_open s.barriers i) < 2
+
+abbrev pub with_open : FlushState → ℕ → ℕ → ℕ → FlushState
+with_open s q i n = record { books = slice_set s.books q (flushes_with_open (book_in s.books q) n); barriers = barriers_with_open s.barriers i n }
+
+-- it is open, on the queue and of the item
+pub record IsOpenOn (s : FlushState) (q i n : ℕ) : Type 0 where
+  pub queue : q < length s.books
+  pub on : Contains (book_in s.books q).opened n
+  pub of : Contains (numbers_open s.barriers i) n
+
+abbrev pub without_open : FlushState → ℕ → ℕ → ℕ → FlushState
+without_open s q i n = record { books = slice_set s.books q (flushes_without_open (book_in s.books q) n); barriers = barriers_without_open s.barriers i n }

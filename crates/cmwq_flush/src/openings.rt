@@ -1,0 +1,187 @@
+ghost use Rattle.std.specs.Prelude.{◌≡◌, ℕ, ◌+◌, ◌*◌, ◌<◌, ◌≤◌, ◌↔◌, ◌∷◌, ◌++◌, [], if◌then◌else◌, All, AllPairs, Contains, IfOk, IfSome, IsTrue, find, length, replicate, slice_get};
+ghost use Rattle.cmwq_flush.specs.BarrierBook.{is_up_to};
+ghost use Rattle.cmwq_flush.specs.Numbers.{AreRising};
+ghost use Rattle.cmwq_flush.specs.Rows.{numbers_at, row_numbers, rows_at, rows_with, rows_without};
+ghost use Rattle.cmwq_flush.specs.Openings.{has_number, is_listed, node_number};
+ghost use Rattle.cmwq_flush.specs.Waits.{numbers_in};
+
+use crate::barrier::Open;
+use cmwq_list::Lists;
+use cmwq_model::{ItemId, Number, QueueId};
+use std::alloc::{AllocError, Global};
+use std::marker::Model;
+
+/// A colour, below 16.
+pub(crate) type Colour = u8;
+
+/// An open queueing.
+#[derive(Clone, Copy, Debug)]
+pub(crate) struct Row {
+    pub(crate) number: Number,
+    pub(crate) colour: Colour,
+}
+
+/// The open queueings, in a list for each queue, by rising number. An item has two nodes, for its run and its unstarted queueing.
+#[derive(Debug, Drop)]
+pub(crate) struct Openings {
+    items: u16,
+    lists: Lists,
+    /// What each node that is in a list stands for.
+    rows: Vec<Row>,
+}
+
+impl Model for Openings {
+    ghost use Rattle.cmwq_flush.specs.Rows.{OpenRows};
+    ghost use Rattle.cmwq_flush.specs.Openings.{AreOpenings, opened_by, rows_of};
+
+    ghost Value = { OpenRows };
+
+    ghost view = { λ o. record { rows = rows_of o.lists.lists o.rows.items; opened = opened_by o.lists.lists o.rows.items o.items } };
+
+    ghost invariant = { λ o. AreOpenings o.items o.lists o.rows.items };
+}
+
+impl Openings {
+    /// Nothing open of so many queues and items. No later call takes memory.
+    pub(crate) fn new(alloc: Global, queues: u32, items: u16) -> Result<Self, AllocError>
+        requires { queues ≤ 65536 }
+        ensures { IfOk result (λ openings. openings ≡ record { rows = replicate queues []; opened = replicate items [] }) }
+    {
+        let nodes = 2 * u32::from(items);
+        Ok(Openings {
+            items,
+            lists: Lists::new(alloc, queues, nodes)?,
+            rows: vec![in alloc; Row {
+                number: 0,
+                colour: 0
+            }; nodes as usize]?,
+        })
+    }
+
+    /// A queueing of the item is open on the queue, with the latest of all numbers.
+    pub(crate) fn open(&mut self, queue: QueueId, item: ItemId, row: Row)
+        requires queue { queue.0 < length self.old.rows }
+        requires item { item.0 < length self.old.opened }
+        requires free { length (numbers_at self.old.opened item.0) < 2 }
+        requires latest { (q : ℕ) → All (λ r. r.number < row.number) (rows_at self.old.rows q) }
+        ensures { self.new ≡ rows_with self.old queue.0 item.0 row }
+    {
+        let node = free_node(&self.lists, item);
+        self.rows[node as usize] = row;
+        self.lists.push_back(u32::from(queue.0), node);
+    }
+
+    /// The item's queueing of this number is open no more. Its colour is answered.
+    pub(crate) fn close(&mut self, item: ItemId, number: Number) -> Colour
+        requires { Contains (numbers_at self.old.opened item.0) number }
+        ensures closed { (q : ℕ) → Contains (row_numbers (rows_at self.old.rows q)) number → self.new ≡ rows_without self.old q item.0 number }
+        ensures colour { (q : ℕ) → Contains (row_numbers (rows_at self.old.rows q)) number → Contains (rows_at self.old.rows q) (record { number = number; colour = result }) }
+    {
+        let node = node_of(&self.lists, &self.rows, item, number);
+        self.lists.remove(node);
+        self.rows[node as usize].colour
+    }
+
+    /// The least open number of a queue.
+    pub(crate) fn first(&self, queue: QueueId) -> Option<Number>
+        requires { queue.0 < length self.now.rows }
+        ensures { result ≡ slice_get (row_numbers (rows_at self.now.rows queue.0)) 0 }
+    {
+        let node = self.lists.first(u32::from(queue.0))?;
+        Some(self.rows[node as usize].number)
+    }
+
+    /// Whether nothing is open of a queue.
+    pub(crate) fn is_empty(&self, queue: QueueId) -> bool
+        requires { queue.0 < length self.now.rows }
+        ensures { IsTrue result ↔ (rows_at self.now.rows queue.0 ≡ []) }
+    {
+        self.lists.len(u32::from(queue.0)) == 0
+    }
+
+    /// How many are open of a queue.
+    pub(crate) fn len(&self, queue: QueueId) -> u32
+        requires { queue.0 < length self.now.rows }
+        ensures { result ≡ length (rows_at self.now.rows queue.0) }
+    {
+        self.lists.len(u32::from(queue.0))
+    }
+
+    /// How many items there are.
+    pub(crate) fn items(&self) -> u16
+        ensures { result ≡ length self.now.opened }
+    {
+        self.items
+    }
+
+    /// Whether the item's queueing of this number is open on the queue.
+    pub(crate) fn is_open(&self, queue: QueueId, item: ItemId, number: Number) -> bool
+        requires queue { queue.0 < length self.now.rows }
+        requires item { item.0 < length self.now.opened }
+        requires of { Contains (numbers_at self.now.opened item.0) number }
+        ensures { IsTrue result ↔ Contains (row_numbers (rows_at self.now.rows queue.0)) number }
+    {
+        let node = node_of(&self.lists, &self.rows, item, number);
+        let list = u32::from(queue.0);
+        self.lists.len(list) > 0 && self.lists.list_of(node) == Some(list)
+    }
+
+    /// What is open of an item.
+    pub(crate) fn of_item(&self, item: ItemId) -> Open
+        requires { item.0 < length self.now.opened }
+        ensures numbers { numbers_in result ≡ numbers_at self.now.opened item.0 }
+        ensures rise { AreRising (numbers_in result) }
+    {
+        let node = 2 * u32::from(item.0);
+        match (
+            number_at(&self.lists, &self.rows, node),
+            number_at(&self.lists, &self.rows, node + 1),
+        ) {
+            (None, None) => Open::Nothing,
+            (Some(one), None) => Open::One(one),
+            (None, Some(other)) => Open::One(other),
+            (Some(one), Some(other)) if one < other => Open::Two(one, other),
+            (Some(one), Some(other)) => Open::Two(other, one),
+        }
+    }
+}
+
+/// The first of an item's two nodes that is in no list, if one of them is in none.
+fn free_node(lists: &Lists, item: ItemId) -> u32
+    requires { 2 * item.0 < lists.now.items }
+    ensures { result ≡ (if is_listed lists.now.lists (2 * item.0) then 2 * item.0 + 1 else 2 * item.0) }
+{
+    let node = 2 * u32::from(item.0);
+    if lists.list_of(node).is_some() {
+        node + 1
+    } else {
+        node
+    }
+}
+
+/// The one of an item's two nodes that is in a list with this number, if one of them is.
+fn node_of(lists: &Lists, rows: &[Row], item: ItemId, number: Number) -> u32
+    requires there { 2 * item.0 < lists.now.items }
+    requires many { length rows.now ≡ lists.now.items }
+    ensures { result ≡ (if has_number lists.now.lists rows.now (2 * item.0) number then 2 * item.0 else 2 * item.0 + 1) }
+{
+    let node = 2 * u32::from(item.0);
+    if number_at(lists, rows, node) == Some(number) {
+        node
+    } else {
+        node + 1
+    }
+}
+
+/// The number of a node that is in a list.
+fn number_at(lists: &Lists, rows: &[Row], node: u32) -> Option<Number>
+    requires there { node < lists.now.items }
+    requires many { length rows.now ≡ lists.now.items }
+    ensures { result ≡ node_number lists.now.lists rows.now node }
+{
+    if lists.list_of(node).is_some() {
+        Some(rows[node as usize].number)
+    } else {
+        None
+    }
+}
