@@ -1,4 +1,3 @@
-pub mod Finding
 pub mod Seeing
 pub mod Starting
 pub mod Tasks

@@ -2,7 +2,7 @@
 use Rattle.cmwq_pool.specs.Common.{◌≡◌, ◌≢◌, ℕ, zero, suc, ◌+◌, ◌<◌, ◌&&◌, ◌||◌, Option, Some, None, ltb, is_some, true, false, not, List, [], ◌∷◌, ◌++◌, length, get_or, set, map, find, option_map, refl, sym, ap, ap₂, ◌∙◌, arith, replicate, slice_set, slice_index_or, range_with_len, list_any, length-set, length-replicate, get_or-set_same, get_or-set_other}
 use Rattle.std.proofs.Common.{⊎_elim}
 use Rattle.std.proofs.lemmas.Bool.{and_parts, cases_eq, cases_lt, false_from_ne_true, false≢true, lt-ltb, ltb-true, not-true, or_right}
-use Rattle.std.proofs.lemmas.List.{ext_get_or, get_or-map, get_or-replicate, get_or_default}
+use Rattle.std.proofs.lemmas.List.{ext_get_or, get_or-map, get_or-replicate, get_or_default, get_or_past}
 use Rattle.std.proofs.lemmas.List.FromFn.{fill_by_all, get_or-map-range_with_len, length-map-range_with_len}
 use Rattle.cmwq_list.specs.Lists.{Listed, list_at, list_of, has_item, without_item, pushed, removed, AreListedOnce}
 use Rattle.cmwq_pool.specs.declared.note.Note.{Note}
@@ -12,7 +12,7 @@ use Rattle.cmwq_pool.specs.PoolState.{PoolState, task, is_task, next_task, pool_
 use Rattle.cmwq_pool.specs.Pools.{no_pool, pool_numbered, with_pool, lists_item, may_list}
 use Rattle.cmwq_pool.specs.Upkeep.{note_at, noted_task, pool_seen, pools_seen}
 use Rattle.cmwq_pool.proofs.Starting.{same_pool_state}
-use Rattle.cmwq_pool.proofs.Tasks.{any_item, no_owner, owner_has, past_all, taken, kept_notes, added, first_startable, filter_lacking, without_none}
+use Rattle.cmwq_pool.proofs.Tasks.{any_item, no_owner, owner_has, taken, kept_notes, added, first_startable, filter_lacking, without_none}
 
 -- ---- each pool by its number
 
@@ -131,7 +131,7 @@ module _ (lists : Listed) (notes : List Note) (workers : List (List Slot)) (i : 
         rw items at low,
         λ q. false_from_ne_true (has_item i (list_at lists.lists q)) (λ here. ⊎_elim
             (λ below. false≢true (sym unlisted ∙ one_lists q below here))
-            (λ past. false≢true (sym (ap (has_item i) (past_all lists.lists q (rw many past))) ∙ here))
+            (λ past. false≢true (sym (ap (has_item i) (get_or_past lists.lists q [] (rw many past))) ∙ here))
             (cases_lt q (length workers))),
       )
 
@@ -142,7 +142,7 @@ module _ (lists : Listed) (notes : List Note) (workers : List (List Slot)) (i : 
     where
       by : (o : Option ℕ) → list_of lists.lists i ≡ o → list_any (lists_item i) (pools_seen lists notes workers) ≡ is_some o
       by None h = none_lists (λ q. no_owner lists.lists i q h)
-      by (Some q) h = let owned = owner_has lists.lists i q h in one_lists q (⊎_elim (λ below. rw (← many) below) (λ past. absurd (false≢true (sym (ap (has_item i) (past_all lists.lists q past)) ∙ owned))) (cases_lt q (length lists.lists))) owned
+      by (Some q) h = let owned = owner_has lists.lists i q h in one_lists q (⊎_elim (λ below. rw (← many) below) (λ past. absurd (false≢true (sym (ap (has_item i) (get_or_past lists.lists q [] past)) ∙ owned))) (cases_lt q (length lists.lists))) owned
 
   pub may_not_list : (pools : List PoolState) (p : ℕ) → pools_seen lists notes workers ≡ pools → p < length workers → ltb i lists.items ≡ false → may_list pools p i ≡ false
   may_not_list pools p is less high =

@@ -1,8 +1,8 @@
 -- What stands in the lists of pools, each item with what is noted of it.
-use Rattle.cmwq_pool.specs.Common.{◌≡◌, ℕ, zero, suc, ◌<◌, ◌≤◌, ◌&&◌, ◌||◌, Bool, true, false, cond, eqb, ltb, not, List, [], ◌∷◌, ◌++◌, length, set, map, filter, find, Option, Some, None, refl, sym, ap, ap₂, ◌∙◌, arith, is_some, option_map, nat_eq, list_any, position_or_len, get_or-set_same, get_or-set_other, nat_tests}
+use Rattle.cmwq_pool.specs.Common.{◌≡◌, ℕ, ◌<◌, ◌≤◌, ◌&&◌, ◌||◌, Bool, true, false, cond, eqb, ltb, not, List, [], ◌∷◌, ◌++◌, length, set, map, filter, find, Option, Some, None, refl, sym, ap, ap₂, ◌∙◌, arith, is_some, option_map, nat_eq, list_any, position_or_len, get_or-set_same, get_or-set_other, nat_tests}
 use Rattle.std.proofs.Common.{⊎_elim}
 use Rattle.std.proofs.lemmas.Bool.{and_parts, cases_lt, eqb-true, eqb-false, eq-eqb, or_parts, or_right, false≢true}
-use Rattle.std.proofs.lemmas.List.{map_push}
+use Rattle.std.proofs.lemmas.List.{get_or_past, map_push}
 use Rattle.std.proofs.lemmas.List.Sums.{passes_at_first, fails_before_first}
 use Rattle.std.proofs.lemmas.Option.{cond_some}
 use Rattle.cmwq_lemmas.proofs.Truth.{not_chosen, same_bools, and_false, and_true}
@@ -26,17 +26,12 @@ owner_has ls i l h =
     let less : position_or_len (has_item i) ls < length ls = grind (arith, nat_tests) in
     ap (λ k. has_item i (list_at ls k)) (sym c.1) ∙ passes_at_first (has_item i) ls [] less
 
-pub past_all : (ls : List (List ℕ)) (q : ℕ) → length ls ≤ q → list_at ls q ≡ []
-past_all [] q h = refl
-past_all (x ∷ ls) zero h = absurd (omega arith)
-past_all (x ∷ ls) (suc q) h = past_all ls q (omega arith)
-
 pub no_owner : (ls : List (List ℕ)) (i q : ℕ) → list_of ls i ≡ None → has_item i (list_at ls q) ≡ false
 no_owner ls i q h =
     let n = not_chosen (ltb (position_or_len (has_item i) ls) (length ls)) (position_or_len (has_item i) ls) h in
     let all : length ls ≤ position_or_len (has_item i) ls = grind (arith, nat_tests) in
     ⊎_elim (λ low. fails_before_first (has_item i) ls q [] (omega (arith, low, all)))
-    (λ past. ap (has_item i) (past_all ls q past))
+    (λ past. ap (has_item i) (get_or_past ls q [] past))
     (cases_lt q (length ls))
 
 pub in_no_list : (ls : List (List ℕ)) (i : ℕ) → ((q : ℕ) → has_item i (list_at ls q) ≡ false) → list_of ls i ≡ None

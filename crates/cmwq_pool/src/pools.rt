@@ -56,6 +56,13 @@ impl Pools {
         })
     }
 
+    /// How many pools there are. Their numbers are below it.
+    pub fn len(&self) -> usize
+        ensures { result ≡ length self.now }
+    {
+        self.workers.len()
+    }
+
     /// Whether a queueing of this item may be listed in a pool: the item is one of the pool's, and none lists it.
     pub fn may_add(&self, pool: u16, item: ItemId) -> bool
         requires { pool < length self.now }

@@ -31,7 +31,7 @@ pub use Rattle.cmwq_model.specs.declared.record.Ticket.{Ticket}
 pub use Rattle.cmwq_model.specs.declared.reply.Reply.{Reply}
 pub use Rattle.cmwq_model.specs.declared.shape.QueueShape.{QueueShape}
 pub use Rattle.cmwq_pool.specs.PoolState.{PoolState, may_add, new_pool_state, next_task, pool_with_task, pool_without_task}
-pub use Rattle.cmwq_pool.specs.Pools.{lists_item, may_list, no_pool, pool_numbered, with_pool}
+pub use Rattle.cmwq_pool.specs.Pools.{lists_item, may_list, no_pool, pool_numbered}
 pub use Rattle.cmwq_pool.specs.Slots.{slot_at, slot_may_retire, slots_enlisted_by, slots_runnable}
 pub use Rattle.cmwq_pool.specs.declared.task.Task.{Task}
 pub use Rattle.cmwq_pwq.proofs.Passes.{count_set, on_itself, on_parts, place_inside}

@@ -1,5 +1,5 @@
 use cmwq_model::{ItemId, Number};
-use cmwq_pool::Pool;
+use cmwq_pool::Pools;
 use std::process::Abort;
 use std::test::Fail;
 
@@ -7,7 +7,7 @@ use std::test::Fail;
 #[derive(Clone, Copy, Debug)]
 enum Event {
     Add(Number, ItemId, bool),
-    Remove(Number),
+    Remove(Number, ItemId),
     Start(u8, Option<u8>),
     Sleep(u8),
     Wake(u8),
@@ -33,67 +33,119 @@ fn shows(next: Option<Number>, runnable: u32, may_retire: [bool; 4]) -> Shown {
 
 const NOBODY: [bool; 4] = [false; 4];
 
-fn start(rt: &impl Abort, pool: &mut Pool, worker: u8) -> Option<u8> {
-    assert!(rt; worker < pool.workers());
-    assert!(rt; pool.slot(worker).is_idle());
-    assert!(rt; pool.next().is_some());
-    assert_eq!(rt; pool.runnable(), 0);
-    pool.start(worker)
+/// The pool that these tests tell events, if they don't name another.
+const POOL: u16 = 1;
+
+fn add(
+    rt: &impl Abort,
+    pools: &mut Pools,
+    pool: u16,
+    number: Number,
+    item: ItemId,
+    intensive: bool,
+) {
+    assert!(rt; usize::from(pool) < pools.len());
+    assert!(rt; pools.may_add(pool, item));
+    pools.add(pool, number, item, intensive);
 }
 
-fn sleep(rt: &impl Abort, pool: &mut Pool, worker: u8) {
-    assert!(rt; worker < pool.workers());
-    assert!(rt; pool.slot(worker).runs_awake());
-    pool.sleep(worker);
+fn remove(rt: &impl Abort, pools: &mut Pools, pool: u16, number: Number, item: ItemId) {
+    assert!(rt; usize::from(pool) < pools.len());
+    pools.remove(pool, number, item);
 }
 
-fn wake(rt: &impl Abort, pool: &mut Pool, worker: u8) {
-    assert!(rt; worker < pool.workers());
-    assert!(rt; pool.slot(worker).runs_asleep());
-    pool.wake(worker);
+fn start(rt: &impl Abort, pools: &mut Pools, pool: u16, worker: u8) -> Option<u8> {
+    assert!(rt; usize::from(pool) < pools.len());
+    assert!(rt; worker < pools.workers(pool));
+    assert!(rt; pools.slot(pool, worker).is_idle());
+    assert!(rt; pools.next(pool).is_some());
+    assert_eq!(rt; pools.runnable(pool), 0);
+    pools.start(pool, worker)
 }
 
-fn finish(rt: &impl Abort, pool: &mut Pool, worker: u8) -> Number {
-    assert!(rt; worker < pool.workers());
-    assert!(rt; pool.slot(worker).runs_awake());
-    pool.finish(worker)
+fn sleep(rt: &impl Abort, pools: &mut Pools, pool: u16, worker: u8) {
+    assert!(rt; usize::from(pool) < pools.len());
+    assert!(rt; worker < pools.workers(pool));
+    assert!(rt; pools.slot(pool, worker).runs_awake());
+    pools.sleep(pool, worker);
 }
 
-fn may_retire(rt: &impl Abort, pool: &Pool, worker: u8) -> bool {
-    assert!(rt; worker < pool.workers());
-    pool.may_retire(worker)
+fn wake(rt: &impl Abort, pools: &mut Pools, pool: u16, worker: u8) {
+    assert!(rt; usize::from(pool) < pools.len());
+    assert!(rt; worker < pools.workers(pool));
+    assert!(rt; pools.slot(pool, worker).runs_asleep());
+    pools.wake(pool, worker);
 }
 
-fn retire(rt: &impl Abort, pool: &mut Pool, worker: u8) {
-    assert!(rt; worker < pool.workers());
-    assert!(rt; pool.may_retire(worker));
-    pool.retire(worker);
+fn finish(rt: &impl Abort, pools: &mut Pools, pool: u16, worker: u8) -> Number {
+    assert!(rt; usize::from(pool) < pools.len());
+    assert!(rt; worker < pools.workers(pool));
+    assert!(rt; pools.slot(pool, worker).runs_awake());
+    pools.finish(pool, worker)
 }
 
-fn tell(rt: &impl Abort, pool: &mut Pool, event: Event) {
+fn may_retire(rt: &impl Abort, pools: &Pools, pool: u16, worker: u8) -> bool {
+    assert!(rt; usize::from(pool) < pools.len());
+    assert!(rt; worker < pools.workers(pool));
+    pools.may_retire(pool, worker)
+}
+
+fn retire(rt: &impl Abort, pools: &mut Pools, pool: u16, worker: u8) {
+    assert!(rt; usize::from(pool) < pools.len());
+    assert!(rt; worker < pools.workers(pool));
+    assert!(rt; pools.may_retire(pool, worker));
+    pools.retire(pool, worker);
+}
+
+fn next(rt: &impl Abort, pools: &Pools, pool: u16) -> Option<Number> {
+    assert!(rt; usize::from(pool) < pools.len());
+    pools.next(pool)
+}
+
+fn runnable(rt: &impl Abort, pools: &Pools, pool: u16) -> u32 {
+    assert!(rt; usize::from(pool) < pools.len());
+    pools.runnable(pool)
+}
+
+fn may_add(rt: &impl Abort, pools: &Pools, pool: u16, item: ItemId) -> bool {
+    assert!(rt; usize::from(pool) < pools.len());
+    pools.may_add(pool, item)
+}
+
+fn would_enlist(rt: &impl Abort, pools: &Pools, pool: u16, worker: u8) -> Option<u8> {
+    assert!(rt; usize::from(pool) < pools.len());
+    pools.would_enlist(pool, worker)
+}
+
+fn tell(rt: &impl Abort, pools: &mut Pools, pool: u16, event: Event) {
     match event {
-        Event::Add(number, item, intensive) => {
-            assert!(rt; pool.may_add(number, item));
-            pool.add(number, item, intensive);
+        Event::Add(number, item, intensive) => add(rt, pools, pool, number, item, intensive),
+        Event::Remove(number, item) => remove(rt, pools, pool, number, item),
+        Event::Start(worker, enlisted) => {
+            assert_eq!(rt; start(rt, pools, pool, worker), enlisted);
         }
-        Event::Remove(number) => pool.remove(number),
-        Event::Start(worker, enlisted) => assert_eq!(rt; start(rt, pool, worker), enlisted),
-        Event::Sleep(worker) => sleep(rt, pool, worker),
-        Event::Wake(worker) => wake(rt, pool, worker),
-        Event::Finish(worker, number) => assert_eq!(rt; finish(rt, pool, worker), number),
-        Event::Retire(worker) => retire(rt, pool, worker),
+        Event::Sleep(worker) => sleep(rt, pools, pool, worker),
+        Event::Wake(worker) => wake(rt, pools, pool, worker),
+        Event::Finish(worker, number) => {
+            assert_eq!(rt; finish(rt, pools, pool, worker), number);
+        }
+        Event::Retire(worker) => retire(rt, pools, pool, worker),
     }
 }
 
 /// Tells a pool of four workers each event, and sees what it then shows.
-fn tell_all(rt: &impl Abort, pool: &mut Pool, told: &[(Event, Shown)]) {
+fn tell_all(rt: &impl Abort, pools: &mut Pools, told: &[(Event, Shown)]) {
     for (event, shown) in told {
-        tell(rt, pool, *event);
-        assert_eq!(rt; pool.next(), shown.next, "after {event:?}");
-        assert_eq!(rt; pool.runnable(), shown.runnable, "after {event:?}");
+        tell(rt, pools, POOL, *event);
+        assert_eq!(rt; next(rt, pools, POOL), shown.next, "after {event:?}");
+        assert_eq!(rt;
+            runnable(rt, pools, POOL),
+            shown.runnable,
+            "after {event:?}"
+        );
         for (worker, may) in (0..4).zip(shown.may_retire) {
             assert_eq!(rt;
-                may_retire(rt, pool, worker),
+                may_retire(rt, pools, POOL, worker),
                 may,
                 "{worker} after {event:?}"
             );
@@ -103,7 +155,7 @@ fn tell_all(rt: &impl Abort, pool: &mut Pool, told: &[(Event, Shown)]) {
 
 #[test]
 fn retires_while_enough_are_idle(rt: HostRuntime) -> Result<(), Fail> {
-    let mut pool = Pool::new(rt.alloc(), 3, 4)?;
+    let mut pools = Pools::new(rt.alloc(), 3, 3, 4)?;
     let told = [
         (Event::Add(0, ItemId(0), false), shows(Some(0), 0, NOBODY)),
         (Event::Add(1, ItemId(1), false), shows(Some(0), 0, NOBODY)),
@@ -121,20 +173,19 @@ fn retires_while_enough_are_idle(rt: HostRuntime) -> Result<(), Fail> {
         ),
         (Event::Retire(3), shows(None, 0, NOBODY)),
     ];
-    tell_all(&rt, &mut pool, &told);
-    assert_eq!(rt; pool.workers(), 4);
-    assert!(rt; pool.enlisted(2));
-    assert!(rt; !pool.enlisted(3));
-    assert_eq!(rt; pool.run_of(1), Some(1));
-    assert_eq!(rt; pool.run_of(2), None);
-    assert!(rt; pool.asleep(1));
-    assert!(rt; !pool.asleep(0));
+    tell_all(&rt, &mut pools, &told);
+    assert!(rt; usize::from(POOL) < pools.len());
+    assert_eq!(rt; pools.workers(POOL), 4);
+    assert!(rt; pools.slot(POOL, 2).enlisted);
+    assert!(rt; !pools.slot(POOL, 3).enlisted);
+    assert!(rt; pools.slot(POOL, 1).runs_asleep());
+    assert!(rt; pools.slot(POOL, 2).is_idle());
     Ok(())
 }
 
 #[test]
 fn intensive_runs_hold_nobody(rt: HostRuntime) -> Result<(), Fail> {
-    let mut pool = Pool::new(rt.alloc(), 4, 4)?;
+    let mut pools = Pools::new(rt.alloc(), 2, 4, 4)?;
     let told = [
         (Event::Add(0, ItemId(0), true), shows(Some(0), 0, NOBODY)),
         (Event::Add(1, ItemId(1), false), shows(Some(0), 0, NOBODY)),
@@ -144,13 +195,13 @@ fn intensive_runs_hold_nobody(rt: HostRuntime) -> Result<(), Fail> {
         (Event::Finish(1, 1), shows(Some(2), 0, NOBODY)),
         (Event::Start(2, None), shows(None, 0, NOBODY)),
     ];
-    tell_all(&rt, &mut pool, &told);
+    tell_all(&rt, &mut pools, &told);
     Ok(())
 }
 
 #[test]
 fn a_running_item_is_not_started_again(rt: HostRuntime) -> Result<(), Fail> {
-    let mut pool = Pool::new(rt.alloc(), 2, 4)?;
+    let mut pools = Pools::new(rt.alloc(), 2, 2, 4)?;
     let told = [
         (Event::Add(0, ItemId(1), false), shows(Some(0), 0, NOBODY)),
         (Event::Start(0, Some(1)), shows(None, 1, NOBODY)),
@@ -159,31 +210,59 @@ fn a_running_item_is_not_started_again(rt: HostRuntime) -> Result<(), Fail> {
         (Event::Add(4, ItemId(0), false), shows(Some(4), 0, NOBODY)),
         (Event::Wake(0), shows(Some(4), 1, NOBODY)),
         (Event::Finish(0, 0), shows(Some(3), 0, NOBODY)),
-        (Event::Remove(3), shows(Some(4), 0, NOBODY)),
-        (Event::Remove(3), shows(Some(4), 0, NOBODY)),
+        (Event::Remove(4, ItemId(1)), shows(Some(3), 0, NOBODY)),
+        (Event::Remove(3, ItemId(1)), shows(Some(4), 0, NOBODY)),
+        (Event::Remove(3, ItemId(1)), shows(Some(4), 0, NOBODY)),
         (Event::Start(1, None), shows(None, 1, NOBODY)),
     ];
-    tell_all(&rt, &mut pool, &told);
-    assert!(rt; pool.may_add(9, ItemId(1)));
-    assert!(rt; !pool.may_add(9, ItemId(2)));
+    tell_all(&rt, &mut pools, &told);
+    assert!(rt; may_add(&rt, &pools, POOL, ItemId(1)));
+    assert!(rt; !may_add(&rt, &pools, POOL, ItemId(2)));
     Ok(())
 }
 
-/// 256 items are listed, and 8 workers run one each.
+#[test]
+fn pools_list_and_run_apart(rt: HostRuntime) -> Result<(), Fail> {
+    let mut pools = Pools::new(rt.alloc(), 2, 3, 2)?;
+    add(&rt, &mut pools, 0, 5, ItemId(2), false);
+    add(&rt, &mut pools, 1, 6, ItemId(0), false);
+    add(&rt, &mut pools, 0, 7, ItemId(1), false);
+    assert!(rt; !may_add(&rt, &pools, 1, ItemId(2)));
+    remove(&rt, &mut pools, 1, 5, ItemId(2));
+    assert_eq!(rt; next(&rt, &pools, 0), Some(5));
+    assert_eq!(rt; next(&rt, &pools, 1), Some(6));
+    assert_eq!(rt; start(&rt, &mut pools, 0, 0), Some(1));
+    assert_eq!(rt; next(&rt, &pools, 0), Some(7));
+    assert_eq!(rt; runnable(&rt, &pools, 1), 0);
+    assert!(rt; may_add(&rt, &pools, 1, ItemId(2)));
+    remove(&rt, &mut pools, 0, 7, ItemId(1));
+    assert_eq!(rt; next(&rt, &pools, 0), None);
+    assert_eq!(rt; next(&rt, &pools, 1), Some(6));
+    Ok(())
+}
+
+/// All items are listed in the last pool, and its workers run one each.
 #[test]
 fn as_many_as_may_be(rt: HostRuntime) -> Result<(), Fail> {
-    let mut pool = Pool::new(rt.alloc(), 256, 8)?;
-    for item in 0..256 {
-        let added = Event::Add(u64::from(item), ItemId(item), false);
-        tell(&rt, &mut pool, added);
+    let mut pools = Pools::new(rt.alloc(), 128, 65535, 64)?;
+    for item in 0..65535 {
+        add(&rt, &mut pools, 127, u64::from(item), ItemId(item), false);
     }
-    assert!(rt; !pool.may_add(256, ItemId(0)));
-    for worker in 0..8 {
-        let enlisted = pool.would_enlist(worker);
-        assert_eq!(rt; enlisted, (worker < 7).then_some(worker + 1));
-        tell(&rt, &mut pool, Event::Start(worker, enlisted));
-        tell(&rt, &mut pool, Event::Sleep(worker));
+    assert!(rt; !may_add(&rt, &pools, 126, ItemId(0)));
+    for worker in 0..64 {
+        let enlisted = would_enlist(&rt, &pools, 127, worker);
+        assert_eq!(rt; enlisted, (worker < 63).then_some(worker + 1));
+        assert_eq!(rt; start(&rt, &mut pools, 127, worker), enlisted);
+        sleep(&rt, &mut pools, 127, worker);
     }
-    assert_eq!(rt; pool.next(), Some(8));
+    assert_eq!(rt; next(&rt, &pools, 127), Some(64));
+    remove(&rt, &mut pools, 127, 64, ItemId(64));
+    assert_eq!(rt; next(&rt, &pools, 127), Some(65));
+    assert_eq!(rt; finish_first(&rt, &mut pools), 0);
     Ok(())
+}
+
+fn finish_first(rt: &impl Abort, pools: &mut Pools) -> Number {
+    wake(rt, pools, 127, 0);
+    finish(rt, pools, 127, 0)
 }
