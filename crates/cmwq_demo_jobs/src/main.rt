@@ -1,25 +1,27 @@
 //! Jobs with retries: a job that fails is tried again later, with a limit.
 //!
 //! Each job is a work item. Its work function tries it; where that fails it delays its own item, longer each time, and after some tries
-//! gives up. The library hands in a tick each millisecond, so the delays go by by themselves. A caller queues all jobs, and waits until each
-//! is done or given up.
+//! gives up. One more item queues all jobs, as a batch comes in. The library hands in a tick each millisecond, so the delays go by by
+//! themselves. A caller queues the batch, and waits until each job is done or given up.
 #![tactic(auto)]
 
 use anyhow::Result;
 use cmwq_service::{
-    Client, Context, CpuId, Fault, ItemId, QueueId, QueueShape, Service, ShapeBuilder, run,
+    Client, Context, CpuId, Fault, ItemId, PLAIN, QueueId, QueueShape, Service, ShapeBuilder, run,
 };
 use std::sync::atomic::{AtomicU32, Ordering};
 use std::sync::{Condvar, Mutex, Wait};
+use std::thread;
 use std::time::{Clock, Duration};
 
-/// Four jobs at once.
+/// Up to four jobs are under way at once: one runs, while others sleep.
 const QUEUE: QueueShape = QueueShape {
     max_active: 4,
-    high: false,
-    intensive: false,
-    freezable: false,
+    ..PLAIN
 };
+
+/// A worker for each of them, and one more, which may start what comes.
+const WORKERS: u8 = 5;
 
 /// The one queue, and the one CPU.
 const JOBS: QueueId = QueueId(0);
@@ -34,6 +36,9 @@ const COUNT: u16 = 6;
 
 const MOST_TRIES: u32 = 4;
 
+/// The item behind those of the jobs: it queues them all.
+const BATCH: ItemId = ItemId(COUNT);
+
 /// What all threads share: how often each job was tried, how many were done and given up, and how many of them are left.
 #[derive(Drop)]
 struct Jobs {
@@ -47,14 +52,7 @@ struct Jobs {
 impl Jobs {
     fn new() -> Jobs {
         Jobs {
-            tries: [
-                AtomicU32::new(0),
-                AtomicU32::new(0),
-                AtomicU32::new(0),
-                AtomicU32::new(0),
-                AtomicU32::new(0),
-                AtomicU32::new(0),
-            ],
+            tries: Default::default(),
             done: AtomicU32::new(0),
             given_up: AtomicU32::new(0),
             left: Mutex::new(COUNT),
@@ -70,11 +68,10 @@ impl Jobs {
         drop(left);
         self.settled.notify_all();
     }
-}
 
-impl Service for Jobs {
-    /// Tries a job. A delay of the item that runs is allowed: it is queued again when the ticks have gone by.
-    fn run<R: Wait + Clock, C: Context>(
+    /// Tries a job. While it waits for an answer from elsewhere its run sleeps, so that another one may start on the same CPU. A delay of
+    /// the item that runs is allowed: it is queued again when the ticks have gone by.
+    fn attempt<R: Wait + Clock, C: Context>(
         &self,
         rt: &R,
         item: ItemId,
@@ -84,6 +81,9 @@ impl Service for Jobs {
         let (Some(tries), Some(failures)) = (self.tries.get(job), FAILURES.get(job)) else {
             return Ok(());
         };
+        context.sleep()?;
+        thread::sleep(rt, Duration::from_millis(1));
+        context.wake()?;
         let before = tries.fetch_add(1, Ordering::SeqCst);
         if before >= *failures {
             self.settle(rt, &self.done);
@@ -95,17 +95,33 @@ impl Service for Jobs {
         }
         Ok(())
     }
+}
 
-    /// Queues all jobs, and waits until none is left.
+impl Service for Jobs {
+    /// The work function of all items. It may make as many calls as it likes; one that isn't answered stops the service, by `?`.
+    fn run<R: Wait + Clock, C: Context>(
+        &self,
+        rt: &R,
+        item: ItemId,
+        context: &mut C,
+    ) -> Result<(), Fault> {
+        if item != BATCH {
+            return self.attempt(rt, item, context);
+        }
+        for job in 0..COUNT {
+            context.queue(ItemId(job), JOBS, CPU)?;
+        }
+        Ok(())
+    }
+
+    /// Queues the batch, and waits until no job is left.
     fn call<R: Wait + Clock, C: Client>(
         &self,
         rt: &R,
         _place: u8,
         client: &mut C,
     ) -> Result<(), Fault> {
-        for job in 0..COUNT {
-            client.queue(ItemId(job), JOBS, CPU)?;
-        }
+        client.queue(BATCH, JOBS, CPU)?;
         let left = self.left.lock(rt);
         let _none = self.settled.wait_while(rt, left, |left| *left > 0);
         Ok(())
@@ -120,9 +136,9 @@ impl Service for Jobs {
 fn main(rt: HostRuntime) -> Result<()> {
     let alloc = rt.alloc();
     let shape = ShapeBuilder::new(alloc)
-        .workers(4)
+        .workers(WORKERS)
         .callers(1)
-        .items(COUNT)
+        .items(COUNT + 1)
         .queue(QUEUE)?
         .build()?;
     let jobs = Jobs::new();

@@ -7,17 +7,20 @@ use Rattle.cmwq_monitor.specs.Participants.{View, Gains}
 use Rattle.cmwq_monitor.specs.Faults.{Refused}
 use Rattle.cmwq_monitor.specs.Whole.{BrokeOff}
 use Rattle.cmwq_service.specs.declared.fault.Fault.{Fault}
-use Rattle.cmwq_service.specs.declared.fault.Fault.TheVariants.{Outside, Run}
+use Rattle.cmwq_service.specs.declared.fault.Fault.TheVariants.{Outside, Run, Own}
 
--- A call of one entry made none: a number of it isn't inside the shape, and nothing has changed, or the hub refused it.
+-- A call of one entry made none: a number of it isn't inside the shape, and nothing has changed, or the hub refused it. No call answers a fault
+-- of the service's own.
 abbrev pub Denied : Layout → View → Call → Fault → View → Type 0
 Denied s v c Outside w = (has_numbers s c ≡ false) × (w ≡ v)
 Denied s v c (Run f) w = Refused s v c f w
+Denied _ _ _ (Own _) _ = ⊥
 
 -- a call of several entries: so too, or it stopped behind some of them
 abbrev pub Interrupted : Layout → View → Call → Fault → View → Type 0
 Interrupted s v c Outside w = (has_numbers s c ≡ false) × (w ≡ v)
 Interrupted s v c (Run f) w = BrokeOff s v c f w
+Interrupted _ _ _ (Own _) _ = ⊥
 
 -- the same caller, which sees all that it had seen, and has made these entries since and no others
 pub record Continues (v w : View) : Type 0 where

@@ -6,8 +6,8 @@ ghost use Rattle.cmwq_rt.specs.Places.{all_free};
 ghost use Rattle.cmwq_rt_journal.specs.Faults.{is_of_sink};
 ghost use Rattle.cmwq_rt_journal.specs.Kept.{HasKept};
 
-use crate::fault::Fault;
-use crate::running::{Ends, NO_MEMORY, NO_THREAD, serve};
+use crate::fault::{Fault, NO_MEMORY};
+use crate::running::{Ends, NO_THREAD, serve};
 use crate::service::Service;
 use crate::signal::Signal;
 use cmwq_rt::{Hub, HubName, Participants};

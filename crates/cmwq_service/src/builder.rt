@@ -15,6 +15,15 @@ use thiserror::Error;
 /// The library's own callers: the one that comes at the end, and that of the clock.
 pub(crate) const OWN_CALLERS: u8 = 2;
 
+/// A queue of normal priority that lets one item at a time be active on a CPU, and is neither CPU intensive nor freezable. Others are written
+/// from it: `QueueShape { max_active: 4, ..PLAIN }`.
+pub const PLAIN: QueueShape = QueueShape {
+    max_active: 1,
+    high: false,
+    intensive: false,
+    freezable: false,
+};
+
 /// Why a shape can't be: the limit, and the value that isn't inside it.
 #[derive(Clone, Copy, Debug, PartialEq, Eq, Error)]
 pub enum Misfit {

@@ -20,14 +20,14 @@ use std::sync::Wait;
 /// made no entry then; but a call of several entries may break off behind some of them, with `NoMemory`, which tells a ticket that stands
 /// unended.
 pub trait Client {
-    ghost use Rattle.std.specs.Prelude.{◌≡◌, [], IfOk, IfErr, MatchOption};
-    ghost use mathlib.Core.List.{IsPrefix};
+    ghost use Rattle.std.specs.Prelude.{◌≡◌, [], false, IfOk, IfErr, OnOk, MatchOption};
     ghost use Rattle.cmwq_model.specs.declared.call.Call.TheVariants as calls;
-    ghost use Rattle.cmwq_model.specs.Prelude.{Layout, past_of, bits};
+    ghost use Rattle.cmwq_model.specs.Prelude.{IsLegal, Layout, past_of, bits, has_numbers};
     ghost use Rattle.cmwq_monitor.specs.Calls.{Extends};
     ghost use Rattle.cmwq_monitor.specs.Participants.{View, Gains};
     ghost use Rattle.cmwq_monitor.specs.Whole.{Completes};
     ghost use Rattle.cmwq_service.specs.Calls.{Denied, Interrupted};
+    ghost use Rattle.cmwq_service.specs.declared.fault.Fault.TheVariants.{Outside};
 
     /// The shape of its hub.
     ghost layout: { Layout };
@@ -47,6 +47,8 @@ pub trait Client {
     /// seen. It takes no lock, and waits for nobody. None where the reader gives no guard.
     fn busy(&mut self, item: ItemId) -> Result<Option<u8>, Fault>
         ensures bits { IfOk result (λ o. MatchOption o (view self.new ≡ view self.old) (λ b. b ≡ bits (past_of (view self.new).seen) item.0)) }
+        ensures legal { OnOk result (IsLegal layout (past_of (view self.new).seen)) }
+        ensures outside { IfErr result (λ f. (f ≡ Outside) × (has_numbers layout (calls.Cancel item) ≡ false) × (view self.new ≡ view self.old)) }
         ensures own { Gains (view self.old) [] (view self.new) };
 
     // Calls of one entry. Their promises are `Extends` and `Denied`.

@@ -19,7 +19,7 @@ mod start;
 mod threads;
 mod writing;
 
-pub use builder::{Misfit, ShapeBuilder};
+pub use builder::{Misfit, PLAIN, ShapeBuilder};
 pub use client::Client;
 pub use cmwq_core::check;
 pub use cmwq_io::{BufferedSink, FromStd, Memory, Sink, Trouble};

@@ -9,7 +9,7 @@ ghost use Rattle.cmwq_service.specs.Serving.{IsRest, IsRestOfServed, IsServed, c
 
 use crate::builder::OWN_CALLERS;
 use crate::clock::tick_on;
-use crate::fault::{Fault, Stopped};
+use crate::fault::{Fault, NO_MEMORY, Stopped};
 use crate::gather::gather;
 use crate::service::Service;
 use crate::signal::Signal;
@@ -23,10 +23,6 @@ use std::marker::Brand;
 use std::sync::Wait;
 use std::thread::{self, JoinHandle, Scope, Threads};
 use std::time::{Clock, Duration};
-
-pub(crate) const NO_MEMORY: Fault = Fault::Run {
-    fault: RunFault::NoMemory { ticket: None },
-};
 
 pub(crate) const NO_THREAD: Fault = Fault::Run {
     fault: RunFault::NoThread,

@@ -12,9 +12,9 @@ ghost use Rattle.cmwq_service.specs.Writing.{WritesServed};
 ghost use Rattle.cmwq_service.specs.declared.fault.Unwritten.TheVariants as unwritten;
 
 use crate::beside::{Beside, run_beside};
-use crate::fault::{Fault, Unwritten};
+use crate::fault::{Fault, NO_MEMORY, Unwritten};
 use crate::gather::gather;
-use crate::running::{Ends, NO_MEMORY, service_callers};
+use crate::running::{Ends, service_callers};
 use crate::service::Service;
 use crate::signal::Signal;
 use cmwq_model::{Entry, Shape};
