@@ -1,4 +1,5 @@
 pub mod Inside
 pub mod Few
+pub mod Marked
 pub mod Steps
 pub mod Used

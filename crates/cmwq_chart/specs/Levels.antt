@@ -15,6 +15,13 @@ is_of_place p x = same_place p x.place
 abbrev pub has_queueings : List Queueing → Place → Bool
 has_queueings queueings p = list_any (is_of_place p) queueings
 
+-- the number of a place whose CPU a shape may have, and of where a queueing stands
+abbrev pub level_number : Place → ℕ
+level_number p = most_cpus * p.queue.0 + p.cpu.0
+
+abbrev pub level_number_of : Queueing → Option ℕ
+level_number_of x = if nat_lt x.place.cpu.0 most_cpus then Some (level_number x.place) else None
+
 abbrev pub place_on : ℕ → ℕ → Place
 place_on q c = record { queue = record { 0 = q }; cpu = record { 0 = c } }
 

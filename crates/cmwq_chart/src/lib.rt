@@ -6,6 +6,7 @@ mod callers;
 mod entries;
 mod lanes;
 mod levels;
+mod marks;
 mod places;
 mod shapes;
 mod signs;

@@ -53,7 +53,7 @@ open_step h past e change p before is_opened is_ended f was o n =
 eqb-swap : (a b : ℕ) → (a == b) ≡ (b == a)
 eqb-swap a b = grind arith
 
-is_on_is : (p : Place) (x : Queueing) → is_of_place p x ≡ is_on p.queue.0 p.cpu.0 x
+pub is_on_is : (p : Place) (x : Queueing) → is_of_place p x ≡ is_on p.queue.0 p.cpu.0 x
 is_on_is p x = ap₂ (λ a b. a && b) (eqb-swap p.queue.0 x.place.queue.0) (eqb-swap p.cpu.0 x.place.cpu.0)
 
 pub active_count_is : (s : Layout) (past : List Entry) (counts : List ℕ) (p : Place) → IsPlaceOf s p → AreActiveCounts s past counts

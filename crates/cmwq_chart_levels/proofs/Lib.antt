@@ -1,2 +1,3 @@
 pub mod Counts
 pub mod Turned
+pub mod Unmoved

@@ -1,10 +1,12 @@
 -- What one entry does to the levels that go on before it.
-use Rattle.std.specs.Prelude.{◌≡◌, ◌-◌, ◌∷◌, ℕ, Bool, false, if◌then◌else◌, List, Option, Some, None, option_to_list}
+use Rattle.std.specs.Prelude.{◌≡◌, ◌-◌, ◌∷◌, ℕ, Bool, ◌||◌, not, false, if◌then◌else◌, List, Option, Some, None, option_to_list}
 use Rattle.std.specs.Option.{option_map_or}
 use Rattle.cmwq_model.specs.declared.entry.Entry.{Entry}
 use Rattle.cmwq_model.specs.declared.record.Place.{Place}
 use Rattle.cmwq_model.specs.declared.record.Queueing.{Queueing}
+use Rattle.cmwq_model.specs.declared.reply.Reply.{Reply}
 use Rattle.cmwq_model.specs.Prelude.{Layout, IsLegal, opening}
+use Rattle.cmwq_theory_active.specs.Looks.{keeps_widths}
 use Rattle.cmwq_theory_steps.specs.Endings.{ending}
 use Rattle.cmwq_core.specs.History.{History, past_in}
 use Rattle.cmwq_chart.specs.declared.levels.Height.{Height}
@@ -25,6 +27,10 @@ pub record IsFollowed (h : History) (past : List Entry) (e : Entry) (change : Ch
   pub legal : IsLegal h.layout (e ∷ past)
   pub followed : past_in h ≡ e ∷ past
   pub does : IsChangeOf past e change
+
+-- it may change the height of a place: it gave another width, or opens or ends something there
+abbrev pub may_change : Change → Reply → Place → Bool
+may_change change r p = not (keeps_widths r) || is_one_of_place p change.opened || is_one_of_place p change.ended
 
 -- the level of the same place after a past
 abbrev pub level_after : Layout → List Entry → Level → Level

@@ -4,12 +4,12 @@ ghost use Rattle.cmwq_model.specs.Prelude.{past_of};
 ghost use Rattle.cmwq_theory_steps.specs.Histories.{one};
 ghost use Rattle.cmwq_core.specs.History.{past_in};
 ghost use Rattle.cmwq_chart.specs.Levels as spec;
-ghost use Rattle.cmwq_chart_levels.specs.Turns.{IsFollowed, is_one_of_place};
+ghost use Rattle.cmwq_chart_levels.specs.Turns.{IsFollowed, is_one_of_place, may_change};
 
 use crate::steps::Change;
 use cmwq_chart::Height;
 use cmwq_core::Execution;
-use cmwq_model::{Entry, MOST_CPUS, Place, Queueing};
+use cmwq_model::{Entry, MOST_CPUS, Place, Queueing, Reply};
 
 /// Whether there is a queueing, and it is of this place.
 fn is_of_place(place: Place, queueing: Option<Queueing>) -> bool
@@ -85,6 +85,15 @@ pub(crate) fn height_after(
         active_count: active_at(execution, place),
         width: execution.width(place.queue),
     }
+}
+
+/// Whether an entry with this reply, which opens and ends this, may change the height of a place.
+pub(crate) fn may_change(change: &Change, reply: Reply, place: Place) -> bool
+    ensures { result ≡ may_change change.now reply place }
+{
+    matches!(reply, Reply::Width(_) | Reply::Frozen | Reply::Thawed)
+        || is_of_place(place, change.opened)
+        || is_of_place(place, change.ended)
 }
 
 /// Whether behind so many entries the one height makes another level than the other.

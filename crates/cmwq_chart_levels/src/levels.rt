@@ -6,7 +6,7 @@ ghost use Rattle.cmwq_core.specs.History.{past_in};
 ghost use Rattle.cmwq_chart.specs.Levels as spec;
 ghost use Rattle.cmwq_chart_levels.specs.Turns.{IsLevelAfter, after_if, ended_if, IsFollowed, ended_levels, level_after as level_then};
 
-use crate::heights::{height_after, is_changed};
+use crate::heights::{height_after, is_changed, may_change};
 use crate::steps::{ALL_ROOM, Change, entry_at, follow};
 use cmwq_chart::{Height, Level};
 use cmwq_core::Execution;
@@ -82,10 +82,12 @@ fn turn(
     for k in 0..running.len() {
         let before = running[k];
         let place = before.place;
-        let height = height_after(execution, change, entries, entry, before.height, place);
-        let is_changed = is_changed(entries.len(), &before.height, &height);
-        keep(levels, level_ended(&before, is_changed, entries.len()))?;
-        running[k] = level_after(&before, is_changed, height, entries.len());
+        if may_change(change, entry.reply, place) {
+            let height = height_after(execution, change, entries, entry, before.height, place);
+            let is_changed = is_changed(entries.len(), &before.height, &height);
+            keep(levels, level_ended(&before, is_changed, entries.len()))?;
+            running[k] = level_after(&before, is_changed, height, entries.len());
+        }
     }
     Ok(())
 }

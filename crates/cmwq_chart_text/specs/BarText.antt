@@ -1,5 +1,5 @@
--- The text of bars: a rectangle in each band in which the run stands, with its item where it is wide enough.
-use Rattle.std.specs.Prelude.{ℕ, ◌+◌, ◌-◌, ◌%◌, Bool, true, false, if◌then◌else◌, List, [], ◌∷◌, codes, flat_map, is_some, nat_lt, nat_le}
+-- The text of bars: a rectangle in each band in which the run stands.
+use Rattle.std.specs.Prelude.{ℕ, ◌-◌, ◌%◌, Bool, true, false, List, [], ◌∷◌, codes, flat_map, is_some}
 use Rattle.std.specs.List.{range_with_len}
 use Rattle.cmwq_model.specs.declared.id.WorkerId.{WorkerId}
 use Rattle.cmwq_chart.specs.declared.bars.Bar.{Bar}
@@ -8,25 +8,18 @@ use Rattle.cmwq_chart_text.specs.Filled.{filled}
 use Rattle.cmwq_chart_text.specs.Pages.{row_top, worker_letter}
 use Rattle.cmwq_chart_text.specs.Spans.{span_end, span_left, span_width, span_band, span_bands_end}
 
-unfoldable pub bar_template : Bool → Bool → List ℕ
-bar_template true true = codes "<rect class=\"run k$\" data-item=\"$\" data-queueing=\"$\" data-worker=\"w$~$\" x=\"$\" y=\"$\" width=\"$\" height=\"14\"><title>item $, queueing $: entries $ to $</title></rect><text class=\"item\" x=\"$\" y=\"$\">$</text>\n"
-bar_template true false = codes "<rect class=\"run k$\" data-item=\"$\" data-queueing=\"$\" data-worker=\"w$~$\" x=\"$\" y=\"$\" width=\"$\" height=\"14\"><title>item $, queueing $: entries $ to $</title></rect>\n"
-bar_template false true = codes "<rect class=\"run k$\" data-item=\"$\" data-queueing=\"$\" data-worker=\"w$~$\" x=\"$\" y=\"$\" width=\"$\" height=\"14\"><title>item $, queueing $: entries $ to $, not finished</title></rect><text class=\"item\" x=\"$\" y=\"$\">$</text>\n"
-bar_template false false = codes "<rect class=\"run k$\" data-item=\"$\" data-queueing=\"$\" data-worker=\"w$~$\" x=\"$\" y=\"$\" width=\"$\" height=\"14\"><title>item $, queueing $: entries $ to $, not finished</title></rect>\n"
-
--- wide enough for the digits of its item
-unfoldable pub is_labelled : ℕ → ℕ → Bool
-is_labelled width item = nat_le (if nat_lt item 10 then 10 else if nat_lt item 100 then 17 else 24) width
+unfoldable pub bar_template : Bool → List ℕ
+bar_template true = codes "<rect class=\"run k$\" data-item=\"$\" data-queueing=\"$\" data-worker=\"w$~$\" x=\"$\" y=\"$\" width=\"$\" height=\"14\"><title>item $, queueing $: entries $ to $</title></rect>\n"
+bar_template false = codes "<rect class=\"run k$\" data-item=\"$\" data-queueing=\"$\" data-worker=\"w$~$\" x=\"$\" y=\"$\" width=\"$\" height=\"14\"><title>item $, queueing $: entries $ to $, not finished</title></rect>\n"
 
 abbrev pub bar_numbers : Page → List WorkerId → Bar → ℕ → List ℕ
 bar_numbers p lanes bar band =
     (bar.item.0 % 10) ∷ bar.item.0 ∷ bar.number ∷ bar.worker.pool.cpu.0 ∷ worker_letter bar.worker ∷ bar.worker.index
     ∷ span_left p bar.from band ∷ row_top p lanes band bar.worker ∷ span_width p bar.from bar.to band
-    ∷ bar.item.0 ∷ bar.number ∷ bar.from ∷ (span_end p bar.to - 1)
-    ∷ (span_left p bar.from band + 2) ∷ (row_top p lanes band bar.worker + 11) ∷ bar.item.0 ∷ []
+    ∷ bar.item.0 ∷ bar.number ∷ bar.from ∷ (span_end p bar.to - 1) ∷ []
 
 abbrev pub bar_in_band : Page → List WorkerId → Bar → ℕ → List ℕ
-bar_in_band p lanes bar band = filled (bar_template (is_some bar.to) (is_labelled (span_width p bar.from bar.to band) bar.item.0)) (bar_numbers p lanes bar band)
+bar_in_band p lanes bar band = filled (bar_template (is_some bar.to)) (bar_numbers p lanes bar band)
 
 -- in the bands from one up to an end
 abbrev pub bar_in_bands : Page → List WorkerId → Bar → ℕ → ℕ → List ℕ

@@ -6,6 +6,7 @@ pub mod SleepText
 pub mod WaitText
 pub mod SignText
 pub mod CallerText
+pub mod CaptionText
 pub mod LevelText
 pub mod FrameText
 pub mod PictureText

@@ -13,6 +13,7 @@ use Rattle.cmwq_chart.specs.declared.waits.WaitSign.{WaitSign}
 use Rattle.cmwq_chart_text.specs.declared.page.Page.{Page}
 use Rattle.cmwq_chart_text.specs.BarText.{bars_text}
 use Rattle.cmwq_chart_text.specs.CallerText.{callers_text}
+use Rattle.cmwq_chart_text.specs.CaptionText.{captions_text}
 use Rattle.cmwq_chart_text.specs.SignText.{signs_text}
 use Rattle.cmwq_chart_text.specs.SleepText.{sleeps_text}
 use Rattle.cmwq_chart_text.specs.LevelText.{levels_text}
@@ -21,4 +22,5 @@ use Rattle.cmwq_chart_text.specs.FrameText.{picture_head, lane_names_text, numbe
 abbrev pub picture_text : Page → List Entry → List CallerLane → List CallerWait → List WaitSign → List WorkerId → List Bar → List Sleep → List Sign → List Place → List Level → List ℕ
 picture_text p entries callers waits wait_signs lanes bars sleeps signs places levels =
     picture_head p ++ (lane_names_text p lanes ++ (numbers_text p ++ (callers_text p entries callers waits wait_signs
-    ++ (bars_text p lanes bars ++ (sleeps_text p lanes sleeps ++ (signs_text p callers lanes entries signs ++ (levels_text p places levels ++ picture_end)))))))
+    ++ (bars_text p lanes bars ++ (sleeps_text p lanes sleeps ++ (signs_text p callers lanes entries signs ++ (captions_text p lanes bars
+    ++ (levels_text p places levels ++ picture_end))))))))

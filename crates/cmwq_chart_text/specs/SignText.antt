@@ -1,5 +1,5 @@
 -- The text of signs: a mark in the row of who did it, with the entry's line as its tooltip.
-use Rattle.std.specs.Prelude.{ℕ, ◌+◌, ◌%◌, ◌&&◌, Bool, true, false, if◌then◌else◌, List, [], ◌∷◌, ◌++◌, codes, flat_map, is_some, Option, nat_le, slice_get}
+use Rattle.std.specs.Prelude.{ℕ, ◌+◌, ◌%◌, ◌&&◌, Bool, true, false, if◌then◌else◌, List, [], ◌∷◌, ◌++◌, codes, flat_map, Option, nat_le, nat_lt, slice_get}
 use Rattle.std.specs.Option.{option_map_or}
 use Rattle.cmwq_model.specs.declared.entry.Entry.{Entry}
 use Rattle.cmwq_model.specs.declared.id.WorkerId.{WorkerId}
@@ -51,12 +51,12 @@ sign_middle p callers lanes sign = sign_top p callers lanes (band_of p sign.at) 
 abbrev pub sign_numbers : Page → List CallerLane → List WorkerId → Sign → List ℕ
 sign_numbers p callers lanes sign = item_shade sign.item ∷ middle_of p sign.at ∷ sign_middle p callers lanes sign ∷ []
 
--- its item beside it, where columns are wide enough
+-- its item beside it, where columns are wide enough for the digits
 unfoldable pub label_template : List ℕ
 label_template = codes "<text class=\"label\" x=\"$\" y=\"$\">$</text>\n"
 
 unfoldable pub has_label : Page → Sign → Bool
-has_label p sign = is_some sign.item && nat_le 24 (column_width p)
+has_label p sign = option_map_or (λ i. nat_lt i 1000) sign.item false && nat_le 24 (column_width p)
 
 abbrev pub label_numbers : Page → List CallerLane → List WorkerId → Sign → List ℕ
 label_numbers p callers lanes sign = (middle_of p sign.at + 4) ∷ (sign_middle p callers lanes sign + 4) ∷ option_map_or (λ i. i) sign.item 0 ∷ []

@@ -14,49 +14,24 @@ use cmwq_chart::Bar;
 use cmwq_model::WorkerId;
 
 #[tactic(auto, unfolding(crate::specs::BarText::bar_template))]
-fn bar_template(is_ended: bool, is_labelled: bool) -> &'static str
-    ensures { result.now ≡ spec.bar_template is_ended is_labelled }
+fn bar_template(is_ended: bool) -> &'static str
+    ensures { result.now ≡ spec.bar_template is_ended }
 {
-    match (is_ended, is_labelled) {
-        (true, true) => {
-            "<rect class=\"run k$\" data-item=\"$\" data-queueing=\"$\" data-worker=\"w$~$\" x=\"$\" y=\"$\" width=\"$\" height=\"14\"><title>item $, queueing $: entries $ to $</title></rect><text class=\"item\" x=\"$\" y=\"$\">$</text>\n"
-        }
-        (true, false) => {
-            "<rect class=\"run k$\" data-item=\"$\" data-queueing=\"$\" data-worker=\"w$~$\" x=\"$\" y=\"$\" width=\"$\" height=\"14\"><title>item $, queueing $: entries $ to $</title></rect>\n"
-        }
-        (false, true) => {
-            "<rect class=\"run k$\" data-item=\"$\" data-queueing=\"$\" data-worker=\"w$~$\" x=\"$\" y=\"$\" width=\"$\" height=\"14\"><title>item $, queueing $: entries $ to $, not finished</title></rect><text class=\"item\" x=\"$\" y=\"$\">$</text>\n"
-        }
-        (false, false) => {
-            "<rect class=\"run k$\" data-item=\"$\" data-queueing=\"$\" data-worker=\"w$~$\" x=\"$\" y=\"$\" width=\"$\" height=\"14\"><title>item $, queueing $: entries $ to $, not finished</title></rect>\n"
-        }
+    if is_ended {
+        "<rect class=\"run k$\" data-item=\"$\" data-queueing=\"$\" data-worker=\"w$~$\" x=\"$\" y=\"$\" width=\"$\" height=\"14\"><title>item $, queueing $: entries $ to $</title></rect>\n"
+    } else {
+        "<rect class=\"run k$\" data-item=\"$\" data-queueing=\"$\" data-worker=\"w$~$\" x=\"$\" y=\"$\" width=\"$\" height=\"14\"><title>item $, queueing $: entries $ to $, not finished</title></rect>\n"
     }
 }
 
-#[tactic(auto, unfolding(crate::specs::BarText::is_labelled))]
-fn is_labelled(width: u64, item: u64) -> bool
-    ensures { result ≡ spec.is_labelled width item }
-{
-    let wanted = if item < 10 {
-        10
-    } else if item < 100 {
-        17
-    } else {
-        24
-    };
-    wanted <= width
-}
-
 /// What the template of a bar is filled with.
-fn bar_numbers(page: &Page, lanes: &[WorkerId], bar: &Bar, band: u64) -> [u64; 16]
+fn bar_numbers(page: &Page, lanes: &[WorkerId], bar: &Bar, band: u64) -> [u64; 13]
     requires band { band ≤ 4294967296 }
     requires few { length lanes.now ≤ most_lanes }
     ensures { result ≡ spec.bar_numbers page.now lanes.now bar.now band }
 {
     let item = u64::from(bar.item.0);
     let worker = bar.worker;
-    let left = span_left(page, bar.from, band);
-    let top = page.row_top(lanes, band, worker);
     [
         item % 10,
         item,
@@ -64,16 +39,13 @@ fn bar_numbers(page: &Page, lanes: &[WorkerId], bar: &Bar, band: u64) -> [u64; 1
         worker.pool.cpu.0.into(),
         worker_letter(worker),
         worker.index.into(),
-        left,
-        top,
+        span_left(page, bar.from, band),
+        page.row_top(lanes, band, worker),
         span_width(page, bar.from, bar.to, band),
         item,
         bar.number,
         bar.from.into(),
         span_end(page, bar.to).saturating_sub(1),
-        left + 2,
-        top + 11,
-        item,
     ]
 }
 
@@ -92,8 +64,7 @@ fn write_bar_in_band<W: Sink>(
     ensures grown { W.troubles sink.old ≤ W.troubles sink.new }
     ensures fault { OnErr result (Rises (W.troubles sink.old) (W.troubles sink.new)) }
 {
-    let is_labelled = is_labelled(span_width(page, bar.from, bar.to, band), bar.item.0.into());
-    let template = bar_template(bar.to.is_some(), is_labelled);
+    let template = bar_template(bar.to.is_some());
     write_filled(sink, template, &bar_numbers(page, lanes, bar, band))
 }
 

@@ -3,6 +3,7 @@
 
 mod bars;
 mod callers;
+mod captions;
 mod filled;
 mod frame;
 mod levels;

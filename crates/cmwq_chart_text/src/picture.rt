@@ -10,6 +10,7 @@ ghost use Rattle.cmwq_chart_text.specs.PictureText.{picture_text};
 
 use crate::bars::write_bars;
 use crate::callers::write_callers;
+use crate::captions::write_captions;
 use crate::frame::{write_end, write_head, write_names, write_numbers};
 use crate::levels::write_levels;
 use crate::page::Page;
@@ -52,6 +53,7 @@ pub fn write_picture<W: Sink>(
     write_bars(sink, page, lanes, bars)?;
     write_sleeps(sink, page, lanes, sleeps)?;
     write_signs(sink, page, callers, lanes, entries, signs)?;
+    write_captions(sink, page, lanes, bars)?;
     write_levels(sink, page, places, levels)?;
     write_end(sink)?;
     flush_all(sink)?;

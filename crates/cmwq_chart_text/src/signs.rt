@@ -126,7 +126,7 @@ fn label_template() -> &'static str
 fn has_label(page: &Page, sign: &Sign) -> bool
     ensures { result ≡ spec.has_label page.now sign.now }
 {
-    sign.item.is_some() && 24 <= page.column_width()
+    sign.item.is_some_and(|item| item < 1000) && 24 <= page.column_width()
 }
 
 /// What the template of a label is filled with.

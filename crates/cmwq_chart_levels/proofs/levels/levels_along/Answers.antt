@@ -1,4 +1,4 @@
-use Rattle.std.proofs.Common.{◌<◌, length, take, refl, ap, ◌∙◌, arith}
+use Rattle.std.proofs.Common.{◌<◌, length, refl, ap, ◌∙◌, arith}
 use Rattle.std.proofs.lemmas.List.{length-take}
 use Rattle.cmwq_model.specs.Prelude.{past_of}
 use Rattle.cmwq_core.specs.History.{History}

@@ -5,7 +5,9 @@ use Rattle.cmwq_model.specs.Prelude.{past_of}
 use Rattle.cmwq_chart.proofs.Steps.{length_past}
 use Rattle.cmwq_chart_levels.specs.Turns.{level_after}
 use Rattle.cmwq_chart_levels.proofs.Turned.{turned, left_behind, untouched, one_more_ended, they_go_on}
+use Rattle.cmwq_chart_levels.proofs.Unmoved.{unmoved, as_it_is, none_ended}
 use Rattle.cmwq_chart_levels.proofs.levels.turn.Goals as goal
+use Rattle.cmwq_chart_levels.proofs.levels.turn.Goals.{then-may_change+in_ok-keep, else-may_change}
 
 pub height_after-height-requires-clause-before : goal.height_after-height-requires-clause-before
 height_after-height-requires-clause-before c =
@@ -36,10 +38,20 @@ loop-k-preserved c =
     let is = untouched s past e xs c.loop-k.running.items c.loop-k.k x less c.loop-k.invariant.running c.index.ensures in
     let goes = they_go_on s past xs c.loop-k.k x c.requires.running less is in
     let many = sym (length_past c.args.entries.now) in
-    let now = c.level_after.ensures ∙ turned s past e x _ _ _ goes many c.height_after-height.ensures c.is_changed-is_changed.ensures in
-    let ended = c.level_ended.ensures ∙ left_behind s past e x _ _ _ goes many c.height_after-height.ensures c.is_changed-is_changed.ensures in
-    record {
-      running = ap (slice_set c.loop-k.running.items c.loop-k.k) now ∙ map_over_more (level_after s (e ∷ past)) xs c.loop-k.running.items c.loop-k.k x less c.loop-k.invariant.running c.index.ensures;
-      levels = c.in_ok-keep.ensures ∙ ap (λ l. l ++ option_to_list c.level_ended.result) c.loop-k.invariant.levels ∙ one_more_ended s past e xs c.args.levels.now.items c.loop-k.k x c.level_ended.result less is ended;
-      long = length-set c.loop-k.running.items c.loop-k.k c.level_after.result ∙ c.loop-k.invariant.long;
-    }
+    elim c.if-may_change.branch [
+      | then-may_change+in_ok-keep w ↦
+          let now = w.level_after.ensures ∙ turned s past e x _ _ _ goes many w.height_after-height.ensures w.is_changed-is_changed.ensures in
+          let ended = w.level_ended.ensures ∙ left_behind s past e x _ _ _ goes many w.height_after-height.ensures w.is_changed-is_changed.ensures in
+          record {
+            running = ap (λ v. v.items) w.running-is ∙ ap (slice_set c.loop-k.running.items c.loop-k.k) now ∙ map_over_more (level_after s (e ∷ past)) xs c.loop-k.running.items c.loop-k.k x less c.loop-k.invariant.running c.index.ensures;
+            levels = ap (λ v. v.items) w.levels-is ∙ w.in_ok-keep.ensures ∙ ap (λ l. l ++ option_to_list w.level_ended.result) c.loop-k.invariant.levels ∙ one_more_ended s past e xs c.args.levels.now.items c.loop-k.k x w.level_ended.result less is ended;
+            long = ap (λ v. length v.items) w.running-is ∙ length-set c.loop-k.running.items c.loop-k.k w.level_after.result ∙ c.loop-k.invariant.long;
+          }
+      | else-may_change w ↦
+          let same = unmoved c.args.execution.now past e c.args.change.now x.place c.requires.followed (sym c.may_change.ensures ∙ w.if-may_change.false) in
+          record {
+            running = ap (λ v. v.items) w.running-is ∙ as_it_is s past e xs c.loop-k.running.items c.loop-k.k x less c.loop-k.invariant.running is goes same;
+            levels = ap (λ v. v.items) w.levels-is ∙ none_ended s past e xs c.loop-k.levels.items c.args.levels.now.items c.loop-k.k x less c.loop-k.invariant.levels is same;
+            long = ap (λ v. length v.items) w.running-is ∙ c.loop-k.invariant.long;
+          }
+    ]

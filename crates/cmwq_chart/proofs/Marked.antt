@@ -1,0 +1,85 @@
+-- What a table of marks says of workers and of places.
+use Rattle.std.proofs.Common.{◌≡◌, ℕ, ◌+◌, ◌*◌, ◌<◌, Bool, true, false, ◌&&◌, ◌||◌, ◌==◌, List, [], ◌∷◌, length, get_or, take, Option, Some, None, option_and_then, if◌then◌else◌, refl, sym, ap, ap₂, ◌∙◌, arith, nat_lt, slice_get, replicate}
+use Rattle.std.proofs.lemmas.Bool.Decides.{nat_tests}
+use Rattle.std.proofs.lemmas.List.{get_or-replicate, length-replicate}
+use Rattle.std.proofs.lemmas.List.Folds.{list_any_more}
+use Rattle.std.proofs.lemmas.Option.{slice_get-get_or}
+use Rattle.std.specs.List.{list_any}
+use Rattle.std.specs.Bool.{beq}
+use Rattle.cmwq_lemmas.proofs.Truth.{same_bools}
+use Rattle.cmwq_model.specs.declared.entry.Entry.{Entry}
+use Rattle.cmwq_model.specs.declared.id.Who.{Who}
+use Rattle.cmwq_model.specs.declared.id.Who.TheVariants.{Caller, Worker}
+use Rattle.cmwq_model.specs.declared.id.WorkerId.{WorkerId}
+use Rattle.cmwq_model.specs.declared.record.Place.{Place}
+use Rattle.cmwq_model.specs.declared.record.Queueing.{Queueing}
+use Rattle.cmwq_model.specs.Prelude.{is_at, is_by, most_cpus, most_queues, most_workers, same_place, same_who, same_worker, worker_of}
+use Rattle.cmwq_chart.specs.Lanes.{has_entries, has_lane_number, most_lanes, lane_number_by, lane_number}
+use Rattle.cmwq_chart.specs.Levels.{has_queueings, is_of_place, most_places, level_number_of, level_number}
+use Rattle.cmwq_chart.specs.Marks.{AreMarks, IsMarked}
+
+module _ {X : Type 0} (number : X → Option ℕ) where
+  pub none_marked : (n : ℕ) → AreMarks number [] n (replicate n false)
+  none_marked n = (length-replicate n false, λ k h. slice_get-get_or (replicate n false) k false (rw length-replicate h) ∙ ap Some (get_or-replicate n k false false h))
+
+  pub one_marked : (xs : List X) (i n : ℕ) (d : X) (m : Option ℕ) (old new : List Bool) → i < length xs → m ≡ number (get_or xs i d) → AreMarks number (take i xs) n old → IsMarked old new m
+      → AreMarks number (take (i + 1) xs) n new
+  one_marked xs i n d m old new less is are marked = (
+    marked.0 ∙ are.0,
+    λ k h. marked.1 k (rw are.0 h) ∙ rw (are.1 k h) refl
+        ∙ ap (λ m. Some (list_any (λ z. is_at (number z) k) (take i xs) || is_at m k)) is ∙ ap Some (sym (list_any_more (λ z. is_at (number z) k) xs i d less)),
+  )
+
+  -- where something holds of just those elements that have a number
+  any_is : (p : X → Bool) (k : ℕ) (xs : List X) → ((x : X) → is_at (number x) k ≡ p x) → list_any (λ x. is_at (number x) k) xs ≡ list_any p xs
+  any_is p k [] same = refl
+  any_is p k (x ∷ xs) same = ap₂ (λ a b. a || b) (same x) (any_is p k xs same)
+
+  marked : (p : X → Bool) (xs : List X) (n k : ℕ) (table : List Bool) (b : Bool) → AreMarks number xs n table → k < n → ((x : X) → is_at (number x) k ≡ p x) → slice_get table k ≡ Some b → b ≡ list_any p xs
+  marked p xs n k table b are less same is = let all : slice_get table k ≡ Some (list_any p xs) = are.1 k less ∙ ap Some (any_is p k xs same) in cc
+
+-- ---- workers
+
+same_number : (a b : Bool) (c d x y : ℕ) → x < most_workers → y < most_workers
+    → (most_workers * (2 * c + (if a then 1 else 0)) + x == most_workers * (2 * d + (if b then 1 else 0)) + y) ≡ (((c == d) && beq a b) && (x == y))
+same_number true true c d x y small less = same_bools _ _ (λ h. grind (arith, nat_tests)) (λ h. grind (arith, nat_tests))
+same_number true false c d x y small less = same_bools _ _ (λ h. grind (arith, nat_tests)) (λ h. grind (arith, nat_tests))
+same_number false true c d x y small less = same_bools _ _ (λ h. grind (arith, nat_tests)) (λ h. grind (arith, nat_tests))
+same_number false false c d x y small less = same_bools _ _ (λ h. grind (arith, nat_tests)) (λ h. grind (arith, nat_tests))
+
+by_is : (w : WorkerId) (e : Entry) → w.pool.cpu.0 < most_cpus → w.index < most_workers → is_at (lane_number_by e) (lane_number w) ≡ is_by (Worker w) e
+by_is w e here small = at e.who
+  where
+    worker_is : (v : WorkerId) (b : Bool) → has_lane_number v ≡ b → is_at (if b then Some (lane_number v) else None) (lane_number w) ≡ same_worker v w
+    worker_is v true is = same_number v.pool.high w.pool.high v.pool.cpu.0 w.pool.cpu.0 v.index w.index (grind (arith, nat_tests)) small
+    worker_is v false is = same_bools _ _ (λ h. cc) (λ h. grind (arith, nat_tests))
+
+    at : (who : Who) → is_at (option_and_then (λ v. if has_lane_number v then Some (lane_number v) else None) (worker_of who)) (lane_number w) ≡ same_who who (Worker w)
+    at (Caller c) = refl
+    at (Worker v) = worker_is v (has_lane_number v) refl
+
+number_within : (w : WorkerId) → w.pool.cpu.0 < most_cpus → w.index < most_workers → lane_number w < most_lanes
+number_within w here small = by w.pool.high
+  where
+    by : (b : Bool) → most_workers * (2 * w.pool.cpu.0 + (if b then 1 else 0)) + w.index < most_lanes
+    by true = omega arith
+    by false = omega arith
+
+pub worker_marked : (entries : List Entry) (table : List Bool) (w : WorkerId) (b : Bool) → AreMarks lane_number_by entries most_lanes table → w.pool.cpu.0 < most_cpus → w.index < most_workers
+    → slice_get table (lane_number w) ≡ Some b → b ≡ has_entries entries w
+worker_marked entries table w b are here small is = marked lane_number_by (is_by (Worker w)) entries most_lanes (lane_number w) table b are (number_within w here small) (λ e. by_is w e here small) is
+
+-- ---- places
+
+in_is : (p : Place) (x : Queueing) → p.cpu.0 < most_cpus → is_at (level_number_of x) (level_number p) ≡ is_of_place p x
+in_is p x here = at (nat_lt x.place.cpu.0 most_cpus) refl
+  where
+    at : (b : Bool) → nat_lt x.place.cpu.0 most_cpus ≡ b → is_at (if b then Some (level_number x.place) else None) (level_number p) ≡ same_place p x.place
+    at true is = same_bools _ _ (λ h. grind (arith, nat_tests)) (λ h. grind (arith, nat_tests))
+    at false is = same_bools _ _ (λ h. cc) (λ h. grind (arith, nat_tests))
+
+pub place_marked : (queueings : List Queueing) (table : List Bool) (p : Place) (b : Bool) → AreMarks level_number_of queueings most_places table → p.queue.0 < most_queues → p.cpu.0 < most_cpus
+    → slice_get table (level_number p) ≡ Some b → b ≡ has_queueings queueings p
+place_marked queueings table p b are queue here is =
+    let within : level_number p < most_places = omega arith in
+    marked level_number_of (is_of_place p) queueings most_places (level_number p) table b are within (λ x. in_is p x here) is
