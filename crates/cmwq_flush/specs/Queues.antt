@@ -1,6 +1,6 @@
 -- What is kept of each queue, beside the rows of what is open of it.
-use Rattle.std.specs.Prelude.{◌≡◌, ◌*◌, ◌<◌, ◌≤◌, vec_capacity}
-use Rattle.cmwq_flush.specs.Common.{ℕ, List, [], ◌∷◌, length, get_or}
+use Rattle.std.specs.Prelude.{◌≡◌, ◌*◌, ◌<◌, ◌≤◌, ◌∷◌, vec_capacity}
+use Rattle.cmwq_flush.specs.Common.{ℕ, List, [], length, get_or}
 use Rattle.cmwq_flush.specs.declared.flushes.Flushes.{Flushes}
 use Rattle.cmwq_flush.specs.declared.openings.Row.{Row}
 use Rattle.cmwq_flush.specs.Rows.{IsTally, rows_at}

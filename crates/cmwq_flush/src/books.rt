@@ -86,11 +86,18 @@ impl FlushBooks {
         self.has_place(queue, item) && are_before(&self.queues, number)
     }
 
+    /// Whether there is this queue.
+    pub fn has_queue(&self, queue: QueueId) -> bool
+        ensures { IsTrue result ↔ (queue.0 < length self.now.books) }
+    {
+        usize::from(queue.0) < self.queues.len()
+    }
+
     /// Whether there are this queue and this item.
     fn is_there(&self, queue: QueueId, item: ItemId) -> bool
         ensures { IsTrue result ↔ ((queue.0 < length self.now.books) × (item.0 < length self.now.barriers.opened)) }
     {
-        usize::from(queue.0) < self.queues.len() && item.0 < self.openings.items()
+        self.has_queue(queue) && item.0 < self.openings.items()
     }
 
     /// Whether one more of the item may be open on the queue.

@@ -1,67 +1,91 @@
 ghost use Rattle.std.specs.Prelude.{◌<◌};
 
 use cmwq_flush::*;
-use cmwq_model::Number;
+use cmwq_model::{ItemId, Number, QueueId};
 use std::process::Abort;
 use std::test::Fail;
 
-fn open(rt: &impl Abort, flushes: &mut Flushes, number: Number) {
+const QUEUE: QueueId = QueueId(0);
+
+const OTHER: QueueId = QueueId(1);
+
+/// Queueings are of 256 items in turn.
+fn item_of(number: Number) -> ItemId {
+    ItemId((number % 256) as u16)
+}
+
+fn open(rt: &impl Abort, books: &mut FlushBooks, queue: QueueId, number: Number) {
+    let item = item_of(number);
     assert!(rt;
-        number < 1 << 63 && flushes.may_open(number),
+        number < 1 << 63 && books.may_open(queue, item, number),
         "opens {number}"
     );
-    flushes.opened(number);
+    books.opened(queue, item, number);
 }
 
-fn close(rt: &impl Abort, flushes: &mut Flushes, number: Number) {
-    assert!(rt; flushes.is_open(number), "{number} is open");
-    flushes.ended(number);
+fn close(rt: &impl Abort, books: &mut FlushBooks, queue: QueueId, number: Number) {
+    let item = item_of(number);
+    assert!(rt; books.is_open(queue, item, number), "{number} is open");
+    books.ended(queue, item, number);
 }
 
-fn begin(rt: &impl Abort, flushes: &mut Flushes, ticket: Number) {
-    assert!(rt; flushes.may_begin(ticket), "begins {ticket}");
-    flushes.begin(ticket);
+fn may_begin(rt: &impl Abort, books: &FlushBooks, queue: QueueId, ticket: Number) -> bool {
+    assert!(rt; books.has_queue(queue));
+    books.may_begin(queue, ticket)
 }
 
-fn is_ready(rt: &impl Abort, flushes: &Flushes, ticket: Number) -> bool {
-    assert!(rt; flushes.stands(ticket), "{ticket} stands");
-    flushes.ready(ticket)
+fn begin(rt: &impl Abort, books: &mut FlushBooks, queue: QueueId, ticket: Number) {
+    assert!(rt; books.has_queue(queue));
+    assert!(rt; books.may_begin(queue, ticket), "begins {ticket}");
+    books.begin(queue, ticket);
 }
 
-fn end(rt: &impl Abort, flushes: &mut Flushes, ticket: Number) {
-    assert!(rt; flushes.stands(ticket), "{ticket} stands");
-    assert!(rt; flushes.ready(ticket), "{ticket} is ready");
-    flushes.end(ticket);
+fn is_ready(rt: &impl Abort, books: &FlushBooks, queue: QueueId, ticket: Number) -> bool {
+    assert!(rt; books.has_queue(queue));
+    assert!(rt; books.stands(queue, ticket), "{ticket} stands");
+    books.ready(queue, ticket)
+}
+
+fn end(rt: &impl Abort, books: &mut FlushBooks, queue: QueueId, ticket: Number) {
+    assert!(rt; books.has_queue(queue));
+    assert!(rt; books.stands(queue, ticket), "{ticket} stands");
+    assert!(rt; books.ready(queue, ticket), "{ticket} is ready");
+    books.end(queue, ticket);
+}
+
+fn least_is(rt: &impl Abort, books: &FlushBooks, queue: QueueId, least: Option<Number>) {
+    assert!(rt; books.has_queue(queue));
+    assert_eq!(rt; books.least_open(queue), least);
 }
 
 /// An open queueing, so many flushes that wait for it, and a later queueing.
-fn begun(rt: &(impl Abort + AllocGlobal), last: Number) -> Result<Flushes, Fail>
+fn begun(rt: &(impl Abort + AllocGlobal), last: Number) -> Result<FlushBooks, Fail>
     requires { last < 100 }
 {
-    let mut flushes = Flushes::new(rt.alloc(), 1, 256)?;
-    open(rt, &mut flushes, 0);
+    let mut books = FlushBooks::new(rt.alloc(), 2, 256, 1)?;
+    open(rt, &mut books, QUEUE, 0);
     for ticket in 1..=last {
-        begin(rt, &mut flushes, ticket);
+        begin(rt, &mut books, QUEUE, ticket);
     }
-    open(rt, &mut flushes, last + 1);
-    Ok(flushes)
+    open(rt, &mut books, QUEUE, last + 1);
+    Ok(books)
 }
 
 /// Opens, flushes and ends again and again.
-fn go_round(rt: &impl Abort, flushes: &mut Flushes) {
+fn go_round(rt: &impl Abort, books: &mut FlushBooks) {
     for round in 0..33 {
         let number = 100 + 3 * round;
-        open(rt, flushes, number);
-        begin(rt, flushes, number + 1);
-        assert!(rt; !is_ready(rt, flushes, number + 1));
-        close(rt, flushes, number);
-        end(rt, flushes, number + 1);
+        open(rt, books, QUEUE, number);
+        begin(rt, books, QUEUE, number + 1);
+        assert!(rt; !is_ready(rt, books, QUEUE, number + 1));
+        close(rt, books, QUEUE, number);
+        end(rt, books, QUEUE, number + 1);
     }
 }
 
-fn end_all(rt: &impl Abort, flushes: &mut Flushes, from: Number, to: Number) {
+fn end_all(rt: &impl Abort, books: &mut FlushBooks, from: Number, to: Number) {
     for ticket in from..=to {
-        end(rt, flushes, ticket);
+        end(rt, books, QUEUE, ticket);
     }
 }
 
@@ -69,20 +93,23 @@ fn end_all(rt: &impl Abort, flushes: &mut Flushes, from: Number, to: Number) {
 /// opened before that.
 #[test]
 fn sixteen_flushes(rt: HostRuntime) -> Result<(), Fail> {
-    let mut flushes = begun(&rt, 16)?;
-    assert!(rt; !is_ready(&rt, &flushes, 16));
-    assert_eq!(rt; flushes.least_open(), Some(0));
-    close(&rt, &mut flushes, 0);
-    assert!(rt; !is_ready(&rt, &flushes, 16), "in overflow");
-    assert_eq!(rt; flushes.least_open(), Some(17));
-    end(&rt, &mut flushes, 15);
-    assert!(rt; !is_ready(&rt, &flushes, 16), "served after 17 was opened");
-    end(&rt, &mut flushes, 1);
-    close(&rt, &mut flushes, 17);
-    end(&rt, &mut flushes, 16);
-    end_all(&rt, &mut flushes, 2, 14);
-    go_round(&rt, &mut flushes);
-    assert_eq!(rt; flushes.least_open(), None);
+    let mut books = begun(&rt, 16)?;
+    assert!(rt; !is_ready(&rt, &books, QUEUE, 16));
+    least_is(&rt, &books, QUEUE, Some(0));
+    close(&rt, &mut books, QUEUE, 0);
+    assert!(rt; !is_ready(&rt, &books, QUEUE, 16), "in overflow");
+    least_is(&rt, &books, QUEUE, Some(17));
+    end(&rt, &mut books, QUEUE, 15);
+    assert!(rt;
+        !is_ready(&rt, &books, QUEUE, 16),
+        "served after 17 was opened"
+    );
+    end(&rt, &mut books, QUEUE, 1);
+    close(&rt, &mut books, QUEUE, 17);
+    end(&rt, &mut books, QUEUE, 16);
+    end_all(&rt, &mut books, 2, 14);
+    go_round(&rt, &mut books);
+    least_is(&rt, &books, QUEUE, None);
     Ok(())
 }
 
@@ -90,40 +117,77 @@ fn sixteen_flushes(rt: HostRuntime) -> Result<(), Fail> {
 /// overflow with the second.
 #[test]
 fn forty_flushes(rt: HostRuntime) -> Result<(), Fail> {
-    let mut flushes = begun(&rt, 40)?;
-    close(&rt, &mut flushes, 0);
-    assert!(rt; !is_ready(&rt, &flushes, 40));
-    assert_eq!(rt; flushes.least_open(), Some(41));
-    end(&rt, &mut flushes, 15);
-    assert!(rt; !is_ready(&rt, &flushes, 16));
-    close(&rt, &mut flushes, 41);
-    end_all(&rt, &mut flushes, 1, 14);
-    end_all(&rt, &mut flushes, 16, 40);
-    assert!(rt; !flushes.stands(40));
+    let mut books = begun(&rt, 40)?;
+    close(&rt, &mut books, QUEUE, 0);
+    assert!(rt; !is_ready(&rt, &books, QUEUE, 40));
+    least_is(&rt, &books, QUEUE, Some(41));
+    end(&rt, &mut books, QUEUE, 15);
+    assert!(rt; !is_ready(&rt, &books, QUEUE, 16));
+    close(&rt, &mut books, QUEUE, 41);
+    end_all(&rt, &mut books, 1, 14);
+    end_all(&rt, &mut books, 16, 40);
+    assert!(rt; books.has_queue(QUEUE));
+    assert!(rt; !books.stands(QUEUE, 40));
     Ok(())
 }
 
-fn drain(rt: &impl Abort, flushes: &mut Flushes, ticket: Number) {
-    assert!(rt; flushes.may_drain(ticket));
-    flushes.drain_begin(ticket);
+/// Each queue has open queueings of its own, and a flush waits for those alone.
+#[test]
+fn two_queues(rt: HostRuntime) -> Result<(), Fail> {
+    let mut books = begun(&rt, 3)?;
+    open(&rt, &mut books, OTHER, 5);
+    begin(&rt, &mut books, OTHER, 6);
+    least_is(&rt, &books, OTHER, Some(5));
+    close(&rt, &mut books, QUEUE, 0);
+    least_is(&rt, &books, QUEUE, Some(4));
+    assert!(rt;
+        !books.is_open(QUEUE, item_of(5), 5),
+        "it is open on the other"
+    );
+    assert!(rt; !is_ready(&rt, &books, OTHER, 6));
+    close(&rt, &mut books, OTHER, 5);
+    end(&rt, &mut books, OTHER, 6);
+    least_is(&rt, &books, OTHER, None);
+    end_all(&rt, &mut books, 1, 3);
+    assert!(rt; !books.has_queue(QueueId(2)));
+    assert!(rt; !books.may_open(QueueId(2), item_of(7), 7), "no such queue");
+    assert!(rt; !books.may_open(QUEUE, ItemId(256), 7), "no such item");
+    assert!(rt;
+        !books.may_open(QUEUE, item_of(7), 5),
+        "numbers come rising"
+    );
+    Ok(())
 }
 
-fn end_drain(rt: &impl Abort, flushes: &mut Flushes, ticket: Number) {
-    assert!(rt; flushes.is_drain(ticket));
-    flushes.drain_end(ticket);
+fn drain(rt: &impl Abort, books: &mut FlushBooks, ticket: Number) {
+    assert!(rt; books.has_queue(QUEUE));
+    assert!(rt; books.may_drain(QUEUE, ticket));
+    books.drain_begin(QUEUE, ticket);
+}
+
+fn end_drain(rt: &impl Abort, books: &mut FlushBooks, ticket: Number) {
+    assert!(rt; books.has_queue(QUEUE));
+    assert!(rt; books.is_drain(QUEUE, ticket));
+    books.drain_end(QUEUE, ticket);
+}
+
+fn is_draining(rt: &impl Abort, books: &FlushBooks) -> bool {
+    assert!(rt; books.has_queue(QUEUE));
+    books.draining(QUEUE)
 }
 
 #[test]
 fn drains(rt: HostRuntime) -> Result<(), Fail> {
-    let mut flushes = Flushes::new(rt.alloc(), 1, 256)?;
-    assert!(rt; !flushes.draining());
-    drain(&rt, &mut flushes, 3);
-    drain(&rt, &mut flushes, 5);
-    assert!(rt; !flushes.may_drain(5), "tickets come rising");
-    end_drain(&rt, &mut flushes, 3);
-    assert!(rt; flushes.draining());
-    end_drain(&rt, &mut flushes, 5);
-    assert!(rt; !flushes.draining());
+    let mut books = FlushBooks::new(rt.alloc(), 2, 256, 1)?;
+    assert!(rt; !is_draining(&rt, &books));
+    drain(&rt, &mut books, 3);
+    drain(&rt, &mut books, 5);
+    assert!(rt; books.has_queue(QUEUE));
+    assert!(rt; !books.may_drain(QUEUE, 5), "tickets come rising");
+    end_drain(&rt, &mut books, 3);
+    assert!(rt; is_draining(&rt, &books));
+    end_drain(&rt, &mut books, 5);
+    assert!(rt; !is_draining(&rt, &books));
     Ok(())
 }
 
@@ -160,10 +224,10 @@ fn chance(seed: &mut u64, limit: usize) -> usize
     (*seed >> 33) as usize % limit
 }
 
-fn compare(rt: &impl Abort, flushes: &Flushes, numbers: &[Number], standing: &[Plain]) {
-    assert_eq!(rt; flushes.least_open(), numbers.first().copied());
+fn compare(rt: &impl Abort, books: &FlushBooks, numbers: &[Number], standing: &[Plain]) {
+    least_is(rt, books, QUEUE, numbers.first().copied());
     for flush in standing {
-        let ready = is_ready(rt, flushes, flush.ticket);
+        let ready = is_ready(rt, books, QUEUE, flush.ticket);
         assert_eq!(rt;
             ready,
             is_plainly_ready(flush, numbers),
@@ -176,7 +240,7 @@ fn compare(rt: &impl Abort, flushes: &Flushes, numbers: &[Number], standing: &[P
 /// The flushes of a queue, beside a plain program that keeps two sorted lists.
 #[derive(Drop)]
 struct Beside {
-    flushes: Flushes,
+    books: FlushBooks,
     numbers: Vec<Number>,
     standing: Vec<Plain>,
     seed: u64,
@@ -187,7 +251,7 @@ impl Beside {
         assert!(rt; !self.numbers.is_empty());
         let place = chance(&mut self.seed, self.numbers.len());
         let number = self.numbers.remove(place);
-        close(rt, &mut self.flushes, number);
+        close(rt, &mut self.books, QUEUE, number);
     }
 
     fn end_any_that_is_ready(&mut self, rt: &impl Abort) {
@@ -195,19 +259,19 @@ impl Beside {
         let place = chance(&mut self.seed, self.standing.len());
         if is_plainly_ready(&self.standing[place], &self.numbers) {
             let flush = self.standing.remove(place);
-            end(rt, &mut self.flushes, flush.ticket);
+            end(rt, &mut self.books, QUEUE, flush.ticket);
         }
     }
 
     /// Makes the call that the generator chooses.
     fn call(&mut self, rt: &impl Abort, next: Number) -> Result<(), Fail> {
         match chance(&mut self.seed, 16) {
-            0..4 if self.flushes.may_open(next) => {
-                open(rt, &mut self.flushes, next);
+            0..4 if self.books.may_open(QUEUE, item_of(next), next) => {
+                open(rt, &mut self.books, QUEUE, next);
                 self.numbers.push(next)?;
             }
-            4..9 if self.flushes.may_begin(next) => {
-                begin(rt, &mut self.flushes, next);
+            4..9 if may_begin(rt, &self.books, QUEUE, next) => {
+                begin(rt, &mut self.books, QUEUE, next);
                 self.standing.push(Plain {
                     ticket: next,
                     served: None,
@@ -226,7 +290,7 @@ impl Beside {
 #[test]
 fn generated_calls(rt: HostRuntime) -> Result<(), Fail> {
     let mut beside = Beside {
-        flushes: Flushes::new(rt.alloc(), 1, 256)?,
+        books: FlushBooks::new(rt.alloc(), 1, 256, 1)?,
         numbers: Vec::new(rt.alloc()),
         standing: Vec::new(rt.alloc()),
         seed: 7,
@@ -234,7 +298,7 @@ fn generated_calls(rt: HostRuntime) -> Result<(), Fail> {
     let mut longest = 0;
     for next in 0..10_000 {
         beside.call(&rt, next)?;
-        compare(&rt, &beside.flushes, &beside.numbers, &beside.standing);
+        compare(&rt, &beside.books, &beside.numbers, &beside.standing);
         longest = longest.max(beside.standing.len());
     }
     assert!(rt; longest > 30, "at most {longest} flushes stood");
@@ -244,32 +308,30 @@ fn generated_calls(rt: HostRuntime) -> Result<(), Fail> {
 /// 64 callers have 4,096 tickets at most, and a queue of 256 items 512 open queueings.
 #[test]
 fn as_many_as_may_be(rt: HostRuntime) -> Result<(), Fail> {
-    let mut flushes = Flushes::new(rt.alloc(), 64, 256)?;
+    let mut books = FlushBooks::new(rt.alloc(), 1, 256, 64)?;
     for number in 0..512 {
-        open(&rt, &mut flushes, number);
+        open(&rt, &mut books, QUEUE, number);
     }
-    assert!(rt; !flushes.may_open(512));
+    assert!(rt; !books.may_open(QUEUE, item_of(512), 512));
     for ticket in 512..4608 {
-        begin(&rt, &mut flushes, ticket);
+        begin(&rt, &mut books, QUEUE, ticket);
     }
-    assert!(rt; !flushes.may_begin(4608));
+    assert!(rt; !may_begin(&rt, &books, QUEUE, 4608));
     Ok(())
 }
 
-/// There is room for two open queueings of each item, and for no more.
+/// There is room for two open queueings of each item, and for no more, with as many items and queues as there may be.
 #[test]
 fn two_of_each_item(rt: HostRuntime) -> Result<(), Fail> {
-    let mut few = Flushes::new(rt.alloc(), 255, 1)?;
-    for number in 0..2 {
-        open(&rt, &mut few, number);
-    }
-    assert!(rt; !few.may_open(2));
-    let mut many = Flushes::new(rt.alloc(), 1, 65_535)?;
+    let mut books = FlushBooks::new(rt.alloc(), 256, 65_535, 255)?;
     for number in 0..131_070 {
-        open(&rt, &mut many, number);
+        let queue = QueueId((number % 256) as u8);
+        let item = ItemId((number % 65_535) as u16);
+        assert!(rt; number < 1 << 63 && books.may_open(queue, item, number));
+        books.opened(queue, item, number);
     }
-    assert!(rt; !many.may_open(131_070));
-    begin(&rt, &mut many, 131_070);
-    assert!(rt; !is_ready(&rt, &many, 131_070));
+    assert!(rt; !books.may_open(QUEUE, ItemId(65_534), 131_070));
+    begin(&rt, &mut books, QUEUE, 131_070);
+    assert!(rt; !is_ready(&rt, &books, QUEUE, 131_070));
     Ok(())
 }
