@@ -69,8 +69,10 @@ impl Grammar {
 
     /// Whether it takes a text.
     pub fn takes(self, alloc: Global, text: &str) -> Result<bool, AllocError> {
-        let Ok(value) = Value::from_str(alloc, text) else {
-            return Ok(false);
+        let value = match Value::from_str(alloc, text) {
+            Ok(value) => value,
+            Err(error) if error.is_memory() => return Err(AllocError),
+            Err(_) => return Ok(false),
         };
         match self {
             Grammar::Script => Ok(read_script(alloc, &value)?.is_ok()),

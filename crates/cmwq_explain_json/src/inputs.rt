@@ -26,7 +26,7 @@ pub fn explain_scenario<E: Sink>(alloc: Global, status: u8, bytes: &[u8], errors
 {
     let mut text = Text::new();
     if status == REFUSED {
-        let _ = tell_input(&mut text, alloc, Grammar::Scenario, bytes);
+        text = told(alloc, Grammar::Scenario, bytes);
     }
     tell_text(errors, &text);
 }
@@ -37,9 +37,18 @@ pub fn explain_script<E: Sink>(alloc: Global, status: u8, bytes: &[u8], errors: 
 {
     let mut text = Text::new();
     if status == REFUSED {
-        let _ = tell_input(&mut text, alloc, Grammar::Script, bytes);
+        text = told(alloc, Grammar::Script, bytes);
     }
     tell_text(errors, &text);
+}
+
+/// What is told of a refused input; nothing where memory ran out, as half of it might be untrue.
+fn told(alloc: Global, grammar: Grammar, bytes: &[u8]) -> Text {
+    let mut text = Text::new();
+    match tell_input(&mut text, alloc, grammar, bytes) {
+        Ok(()) => text,
+        Err(AllocError) => Text::new(),
+    }
 }
 
 /// Tells why an input was refused, if it was.

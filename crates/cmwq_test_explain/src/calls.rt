@@ -4,7 +4,7 @@ use crate::tells::calls;
 use std::test::Fail;
 
 /// Files of calls, and what is told of the first lines.
-const HEADS: [(&str, &str); 20] = [
+const HEADS: [(&str, &str); 28] = [
     (
         "",
         "line 1, column 1: here ends the input; expected is the shape, as \"shape 1 2 1 3 100\"",
@@ -85,10 +85,42 @@ const HEADS: [(&str, &str); 20] = [
         "shap 1 2 1 3 100\nwq 1 -\n",
         "line 1, column 1: \"shap\" is no shape; did you mean \"shape\"?",
     ),
+    (
+        "shape\n",
+        "line 1, column 6: here ends the line; expected is how many CPUs",
+    ),
+    (
+        "shape 1\n",
+        "line 1, column 8: here ends the line; expected is how many workers in a pool",
+    ),
+    (
+        "shape 1 2\n",
+        "line 1, column 10: here ends the line; expected is how many callers",
+    ),
+    (
+        "shape 1 2 1\n",
+        "line 1, column 12: here ends the line; expected is how many items",
+    ),
+    (
+        "shape 1 9 1 3 100\nwq 1 -\n",
+        "line 1, column 9: workers 9: at most 8",
+    ),
+    (
+        "shape 1 2 65 3 100\nwq 1 -\n",
+        "line 1, column 11: callers 65: at most 64",
+    ),
+    (
+        "calls 3\nshape 1 65 1 3 100\nwq 1 -\n",
+        "line 2, column 9: workers 65: at most 64",
+    ),
+    (
+        "calls 3\nshape 1 2 256 3 100\nwq 1 -\n",
+        "line 2, column 11: callers 256: at most 255",
+    ),
 ];
 
 /// Third lines of files of calls, and what is told of them behind the number of the line.
-const CALLS: [(&str, &str); 30] = [
+const CALLS: [(&str, &str); 36] = [
     (
         "c0 fire\r\n",
         "column 8: a line may not end with a carriage return",
@@ -176,6 +208,30 @@ const CALLS: [(&str, &str); 30] = [
     ("c1 queue 0 0 0\n", "column 1: caller 1: there is one, 0"),
     ("w1n0 take\n", "column 1: CPU 1: there is one, 0"),
     ("w0n2 take\n", "column 1: worker 2: there are 2, 0 to 1"),
+    (
+        "c0 queue\n",
+        "column 9: here ends the line; expected is an item's number",
+    ),
+    (
+        "c0 flush\n",
+        "column 9: here ends the line; expected is a queue's number",
+    ),
+    (
+        "c0 tick\n",
+        "column 8: here ends the line; expected is how many ticks",
+    ),
+    (
+        "c0 end\n",
+        "column 7: here ends the line; expected is a ticket's number",
+    ),
+    (
+        "c0 set_max 0\n",
+        "column 13: here ends the line; expected is a max_active",
+    ),
+    (
+        "c300 fire\n",
+        "column 1: caller 255 or more: there is one, 0",
+    ),
 ];
 
 #[test]

@@ -1,6 +1,6 @@
 //! What is told of histories.
 
-use crate::tells::history;
+use crate::tells::{front, history};
 
 /// Histories, and what is told of them.
 const HISTORIES: [(&str, &str); 14] = [
@@ -63,7 +63,7 @@ const HISTORIES: [(&str, &str); 14] = [
 ];
 
 /// Fourth lines of histories, and what is told of them behind the number of the line.
-const ENTRIES: [(&str, &str); 14] = [
+const ENTRIES: [(&str, &str); 17] = [
     (
         "c0 queue 0 0 0\n",
         "column 1: this is a call; check reads a history",
@@ -120,6 +120,18 @@ const ENTRIES: [(&str, &str); 14] = [
         "c0 0 queue 0 0 0 = maybe\n",
         "column 20: \"maybe\" is no reply; expected is yes, booked, again, rebooked, no, foreign, draining, misuse, cancelled, unbooked, now, fired, nothing, ticket, idle, crowded, done, waiting, started, held, finished, slept, woke, retired, kept, width, frozen, thawed, gone, timers",
     ),
+    (
+        "c0 0 tick 1 = now x\n",
+        "column 19: \"x\" is no number; expected is a time",
+    ),
+    (
+        "w0n0 0 take = started 0 enlist\n",
+        "column 31: here ends the line; expected is a worker's number",
+    ),
+    (
+        "c0 0 set_max 0 3 = width x\n",
+        "column 26: \"x\" is no number; expected is a width",
+    ),
 ];
 
 #[test]
@@ -157,6 +169,31 @@ fn tells_what_should_stand_there(rt: HostRuntime) {
         &[
             "line 5, column 20: \"c0 1 queue 0 0 0 = yes 0\"; expected is \"c0 1 queue 0 0 0 = yes 1\"",
         ],
+    );
+}
+
+/// What a front lacks at its end is no fault of it; what is wrong before that is told.
+#[test]
+fn tells_what_is_wrong_in_a_front(rt: HostRuntime) {
+    let head = "history 2\nshape 1 2 1 3 100\nwq 1 -\n";
+    front(&rt, &[head, "c0 0 fire = noth"], 0, &[]);
+    front(
+        &rt,
+        &[head, "c0 0 fire = done\nc0 1"],
+        3,
+        &["line 4, column 13: \"c0 0 fire = done\"; expected is \"c0 0 fire = nothing\""],
+    );
+    front(
+        &rt,
+        &[head, "c0 0 fire = nothin\nc0 1"],
+        1,
+        &["line 4, column 13: \"nothin\" is no reply; did you mean \"nothing\"?"],
+    );
+    front(
+        &rt,
+        &["history 2\nshape 1 2"],
+        1,
+        &["line 2, column 10: the last line has no line feed"],
     );
 }
 

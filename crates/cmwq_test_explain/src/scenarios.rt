@@ -3,7 +3,7 @@
 use crate::tells::scenario;
 
 /// Scenarios, and what is told of them.
-const SCENARIOS: [(&str, &str); 22] = [
+const SCENARIOS: [(&str, &str); 25] = [
     ("", "EOF while parsing at line 1 column 0"),
     (
         "{\"queues\":[],\"items\":[}",
@@ -80,6 +80,15 @@ const SCENARIOS: [(&str, &str); 22] = [
         "{\"queues\":[{\"name\":\"q0\",\"max_active\":1,\"intensive\":false}],\"items\":[{\"name\":\"a\",\"queue\":\"q0\",\"ms\":\"1\"}]}",
         "items 0, ms \"1\": expected is a list",
     ),
+    (
+        "{\"queues\":[{\"name\":\"q0\",\"max_active\":1,\"intensive\":false}],\"items\":[5]}",
+        "items 0: 5 is no object",
+    ),
+    (
+        "{\"queues\":[{\"name\":\"q0\",\"max_active\":1,\"intensive\":false}],\"items\":[{\"name\":\"a\",\"queue\":\"q0\",\"ms\":[1]},{\"name\":\"a\",\"queue\":\"q0\",\"ms\":[1]}]}",
+        "items 1, name \"a\": it is the name of items 0 too",
+    ),
+    ("{} {}", "invalid JSON at line 1 column 4"),
 ];
 
 #[test]

@@ -56,7 +56,7 @@ const TOPS: [(&str, &str); 12] = [
 ];
 
 /// Callers of a script, and what is told of them.
-const CALLS: [(&str, &str); 18] = [
+const CALLS: [(&str, &str); 22] = [
     ("", "callers: there is none; expected is one at least"),
     ("5", "callers 0: 5: expected is a list of calls"),
     (
@@ -123,10 +123,26 @@ const CALLS: [(&str, &str); 18] = [
         "[[\"freeze\"],[\"cancel\",7]]",
         "callers 0, call 1: 7 is no item; expected is A",
     ),
+    (
+        "[[\"flush\"]]",
+        "callers 0, call 0: here ends the call; expected is a queue's name",
+    ),
+    (
+        "[[\"cancel\"]]",
+        "callers 0, call 0: here ends the call; expected is an item's name",
+    ),
+    (
+        "[[\"tick\"]]",
+        "callers 0, call 0: here ends the call; expected is how many ticks",
+    ),
+    (
+        "[[\"set_max\",\"q0\"]]",
+        "callers 0, call 0: here ends the call; expected is a max_active",
+    ),
 ];
 
 /// Items of a script, and what is told of them.
-const ITEMS: [(&str, &str); 6] = [
+const ITEMS: [(&str, &str); 9] = [
     ("", "items: there is none; expected is one at least"),
     (
         "{\"name\":\"A\",\"does\":[[\"flush\",\"q0\"]]}",
@@ -147,6 +163,18 @@ const ITEMS: [(&str, &str); 6] = [
     (
         "{\"name\":\"A\",\"do\":[]}",
         "items 0: \"do\" is no key; expected is name, does",
+    ),
+    (
+        "{\"name\":\"A\",\"does\":[5]}",
+        "items 0, action 0: 5: expected is an action, as [\"cancel\",\"A\"]",
+    ),
+    (
+        "{\"name\":\"A\",\"does\":[[\"open\"]]}",
+        "items 0, action 0: here ends the call; expected is a gate's name",
+    ),
+    (
+        "{\"name\":\"A\",\"does\":5}",
+        "items 0, does 5: expected is a list",
     ),
 ];
 
@@ -179,6 +207,58 @@ fn tells_refused_items(rt: HostRuntime) {
     for (text, wanted) in ITEMS {
         script(&rt, &[HEAD, text, "],\"callers\":[[]]}"], &["", wanted]);
     }
+}
+
+/// Queues of a script, and what is told of them.
+const QUEUES: [(&str, &str); 4] = [
+    (
+        "{\"name\":\"q0\",\"max_active\":1,\"high\":0,\"intensive\":false}",
+        "queues 0, high 0: expected is true or false",
+    ),
+    (
+        "{\"name\":\"q0\",\"max_active\":1,\"high\":false,\"intensive\":false,\"freezable\":5}",
+        "queues 0, freezable 5: expected is true or false",
+    ),
+    (
+        "{\"name\":\"q0\",\"max_active\":1,\"high\":false,\"intensive\":false,\"low\":false}",
+        "queues 0: \"low\" is no key; expected is name, max_active, intensive, high, freezable",
+    ),
+    (
+        "{\"name\":\"q0\"}",
+        "queues 0: the key \"max_active\" is missing",
+    ),
+];
+
+#[test]
+fn tells_refused_queues(rt: HostRuntime) {
+    for (text, wanted) in QUEUES {
+        script(
+            &rt,
+            &[
+                "{\"cpus\":1,\"workers\":1,\"room\":1,\"queues\":[",
+                text,
+                "],\"items\":[",
+                ITEM,
+                "],\"callers\":[[]]}",
+            ],
+            &["", wanted],
+        );
+    }
+}
+
+#[test]
+fn tells_an_input_too_long(rt: HostRuntime) -> Result<(), Fail> {
+    let mut text = String::from_str(rt.alloc(), " ")?;
+    for _doubled in 0..20 {
+        let half = String::from_str(rt.alloc(), text.as_str())?;
+        text.push_str(half.as_str())?;
+    }
+    script(
+        &rt,
+        &[text.as_str(), " "],
+        &["the input has at most 1048576 bytes"],
+    );
+    Ok(())
 }
 
 /// So many times the same text, one after the other, with a comma between.

@@ -61,6 +61,21 @@ pub(crate) fn history(rt: &(impl Abort + AllocGlobal), text: &[&str], status: u8
     is_told(rt, text.as_str(), errors.as_slice(), wanted);
 }
 
+/// Of the front of one.
+pub(crate) fn front(rt: &(impl Abort + AllocGlobal), text: &[&str], status: u8, wanted: &[&str]) {
+    let text = joined(rt.alloc(), text).expect(rt, "memory");
+    let mut errors = room(rt);
+    explain_history(
+        rt.alloc(),
+        "check",
+        status,
+        text.as_str().as_bytes(),
+        true,
+        &mut errors,
+    );
+    is_told(rt, text.as_str(), errors.as_slice(), wanted);
+}
+
 /// Of a refused scenario.
 pub(crate) fn scenario(rt: &(impl Abort + AllocGlobal), text: &[&str], wanted: &[&str]) {
     let text = joined(rt.alloc(), text).expect(rt, "memory");

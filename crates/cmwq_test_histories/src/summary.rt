@@ -1,6 +1,6 @@
 //! `summary` over a worked history, whose page was recomputed elsewhere.
 
-use cmwq_base::Memory;
+use cmwq_base::{FailsAt, Memory};
 use cmwq_cmd_summary::run_summary;
 use std::alloc::Global;
 use std::process::Abort;
@@ -74,6 +74,35 @@ fn a_full_sink_has_a_front_of_the_page(rt: HostRuntime) -> Result<(), Fail> {
             PAGE.get(..room).ok_or("a short page")?
         );
         assert_eq!(rt; run.told.as_slice(), b"cmwq: write fault\n".as_slice());
+    }
+    Ok(())
+}
+
+/// The history without its last bytes is refused, or is another one.
+#[test]
+fn of_a_cut_text_nothing_is_told(rt: HostRuntime) -> Result<(), Fail> {
+    for cut in 0..HISTORY.len() {
+        let run = summed_up(rt.alloc(), &HISTORY[..cut], ROOM)?;
+        let is_told = !run.told.as_slice().is_empty();
+        let is_page = run.page.as_slice().starts_with(b"entries ");
+        assert!(&rt;
+            (run.status == 0 && is_page && !is_told)
+                || (run.status == 1 && run.page.as_slice().is_empty() && is_told)
+        );
+    }
+    Ok(())
+}
+
+#[test]
+fn a_fault_of_the_source_is_told(rt: HostRuntime) -> Result<(), Fail> {
+    for call in [1, 2] {
+        let mut page = Memory::writer(rt.alloc(), ROOM)?;
+        let mut told = Memory::writer(rt.alloc(), 100)?;
+        let mut input = FailsAt::new(Memory::reader(HISTORY), call);
+        let status = run_summary(rt.alloc(), &mut input, &mut page, &mut told);
+        assert_eq!(rt; status, 5);
+        assert_eq!(rt; page.as_slice(), b"".as_slice());
+        assert_eq!(rt; told.as_slice(), b"cmwq: read fault\n".as_slice());
     }
     Ok(())
 }

@@ -105,13 +105,36 @@ fn a_fault_of_the_output_is_told(rt: HostRuntime) {
 
 #[test]
 fn a_fault_of_the_source_is_told(rt: HostRuntime) {
-    let mut output = room(&rt);
+    for call in [1, 2] {
+        let mut output = room(&rt);
+        let mut errors = room(&rt);
+        let mut input = FailsAt::new(Memory::reader(HISTORY), call);
+        let status = run_trace(rt.alloc(), &mut input, &mut output, &mut errors);
+        same(
+            &rt,
+            (status, output.as_slice(), errors.as_slice()),
+            (5, b"".as_slice(), b"cmwq: read fault\n".as_slice()),
+        );
+    }
+}
+
+/// What is full has a front of the trace.
+#[test]
+fn a_full_sink_has_a_front_of_the_trace(rt: HostRuntime) {
+    let mut whole = room(&rt);
     let mut errors = room(&rt);
-    let mut input = FailsAt::new(Memory::reader(HISTORY), 1);
-    let status = run_trace(rt.alloc(), &mut input, &mut output, &mut errors);
-    same(
-        &rt,
-        (status, output.as_slice(), errors.as_slice()),
-        (5, b"".as_slice(), b"cmwq: read fault\n".as_slice()),
-    );
+    let mut input = Memory::reader(HISTORY);
+    let _ = run_trace(rt.alloc(), &mut input, &mut whole, &mut errors);
+    let trace = whole.as_slice();
+    for taken in (0..trace.len()).step_by(7) {
+        let mut output = Memory::writer(rt.alloc(), taken).expect(&rt, "memory");
+        let mut told = room(&rt);
+        let mut again = Memory::reader(HISTORY);
+        let status = run_trace(rt.alloc(), &mut again, &mut output, &mut told);
+        same(
+            &rt,
+            (status, output.as_slice(), told.as_slice()),
+            (5, &trace[..taken], b"cmwq: write fault\n".as_slice()),
+        );
+    }
 }
