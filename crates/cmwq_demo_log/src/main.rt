@@ -7,8 +7,8 @@
 
 use anyhow::{Result, ensure};
 use cmwq_service::{
-    Client, Context, CpuId, Fault, ItemId, QueueId, QueueShape, Service, ShapeBuilder, all_fit,
-    check, run,
+    Client, Context, CpuId, Fault, ItemId, PLAIN, QueueId, QueueShape, Service, ShapeBuilder,
+    all_fit, check, run,
 };
 use std::sync::Wait;
 use std::sync::atomic::{AtomicU32, Ordering};
@@ -20,15 +20,8 @@ const WRITE: ItemId = ItemId(0);
 /// The item that closes the file.
 const ROTATE: ItemId = ItemId(1);
 
-/// The queue of the first. It lets one item at a time be active on a CPU.
+/// The queue of the first. It is plain: it lets one item at a time be active on a CPU.
 const WRITING: QueueId = QueueId(0);
-
-const PLAIN: QueueShape = QueueShape {
-    max_active: 1,
-    high: false,
-    intensive: false,
-    freezable: false,
-};
 
 /// The queue of the second. To close a file may take long, so it is CPU intensive, and holds no writing back.
 const ROTATING: QueueId = QueueId(1);
