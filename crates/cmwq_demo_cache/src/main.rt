@@ -7,7 +7,8 @@
 
 use anyhow::Result;
 use cmwq_service::{
-    Client, Context, CpuId, Fault, ItemId, QueueId, QueueShape, Service, ShapeBuilder, run_dropping,
+    Client, Context, CpuId, Fault, ItemId, PLAIN, QueueId, QueueShape, Service, ShapeBuilder,
+    run_dropping,
 };
 use std::sync::Wait;
 use std::sync::atomic::{AtomicU32, Ordering};
@@ -16,9 +17,7 @@ use std::time::Clock;
 /// Writing back is ordinary work: both devices at once, in the pools of normal priority.
 const QUEUE: QueueShape = QueueShape {
     max_active: 2,
-    high: false,
-    intensive: false,
-    freezable: false,
+    ..PLAIN
 };
 
 /// The one queue, and the one CPU.

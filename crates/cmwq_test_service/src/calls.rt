@@ -3,8 +3,8 @@
 use cmwq_core::check;
 use cmwq_model::all_fit;
 use cmwq_service::{
-    Client, Context, CpuId, Entry, Fault, ItemId, QueueId, QueueShape, Reply, Service, Shape,
-    ShapeBuilder, run, run_dropping,
+    Client, Context, CpuId, Entry, Fault, ItemId, PLAIN, QueueId, QueueShape, Reply, Service,
+    Shape, ShapeBuilder, run, run_dropping,
 };
 use std::alloc::Global;
 use std::process::Abort;
@@ -14,7 +14,7 @@ use std::time::{Clock, Duration};
 
 const CPU: CpuId = CpuId(0);
 
-const PLAIN: QueueId = QueueId(0);
+const QUEUE: QueueId = QueueId(0);
 
 const FREEZABLE: QueueId = QueueId(1);
 
@@ -22,9 +22,7 @@ const FREEZABLE: QueueId = QueueId(1);
 pub(crate) fn shape_of(rt: &(impl Abort + AllocGlobal), callers: u8) -> Shape {
     let plain = QueueShape {
         max_active: 2,
-        high: false,
-        intensive: false,
-        freezable: false,
+        ..PLAIN
     };
     let freezable = QueueShape {
         freezable: true,
@@ -67,16 +65,16 @@ impl Service for Everything {
         context: &mut C,
     ) -> Result<(), Fault> {
         self.runs.fetch_add(1, Ordering::SeqCst);
-        if item != ItemId(0) {
+        if item != ItemId(0) || context.shape().queues().len() != 2 {
             return Ok(());
         }
         for ticks in 0..3 {
-            context.delay(ItemId(3), PLAIN, CPU, ticks)?;
-            context.modify(ItemId(3), PLAIN, CPU, ticks)?;
+            context.delay(ItemId(3), QUEUE, CPU, ticks)?;
+            context.modify(ItemId(3), QUEUE, CPU, ticks)?;
             context.cancel(ItemId(3))?;
         }
         // a run that sleeps makes no call but its wake
-        context.queue(ItemId(2), PLAIN, CPU)?;
+        context.queue(ItemId(2), QUEUE, CPU)?;
         context.sleep()?;
         context.wake()?;
         Ok(())
@@ -88,24 +86,24 @@ impl Service for Everything {
         _place: u8,
         client: &mut C,
     ) -> Result<(), Fault> {
-        client.queue(ItemId(0), PLAIN, CPU)?;
+        client.queue(ItemId(0), QUEUE, CPU)?;
         client.flush_item(ItemId(0))?;
-        client.delay(ItemId(1), PLAIN, CPU, 9)?;
-        client.modify(ItemId(1), PLAIN, CPU, 5)?;
+        client.delay(ItemId(1), QUEUE, CPU, 9)?;
+        client.modify(ItemId(1), QUEUE, CPU, 5)?;
         if client.busy(ItemId(1))? == Some(1) {
             self.busy.fetch_add(1, Ordering::SeqCst);
         }
         client.tick(1)?;
         client.flush_delayed(ItemId(1))?;
-        client.set_max(PLAIN, 1)?;
+        client.set_max(QUEUE, 1)?;
         client.freeze()?;
         client.queue(ItemId(1), FREEZABLE, CPU)?;
         client.cancel(ItemId(1))?;
         client.thaw()?;
-        if let Reply::Ticket(ticket) = client.flush_begin(PLAIN)? {
+        if let Reply::Ticket(ticket) = client.flush_begin(QUEUE)? {
             client.flush_try(ticket)?;
         }
-        client.flush(PLAIN)?;
+        client.flush(QUEUE)?;
         client.cancel_sync(ItemId(1))?;
         client.drain(FREEZABLE)?;
         Ok(())
@@ -168,7 +166,7 @@ impl Service for Clocked {
         _place: u8,
         client: &mut C,
     ) -> Result<(), Fault> {
-        client.delay(ItemId(0), PLAIN, CPU, 3)?;
+        client.delay(ItemId(0), QUEUE, CPU, 3)?;
         let has_run = self.has_run.lock(rt);
         let _has_run = self.changed.wait_while(rt, has_run, |has_run| !*has_run);
         Ok(())

@@ -1,7 +1,12 @@
 //! Numbers outside of the shape, and faults that stop a service.
 
 use crate::calls::{is_legal, shape_of};
-use cmwq_service::{Client, Context, CpuId, Fault, ItemId, QueueId, Service, ShapeBuilder, run};
+use crate::written::Endless;
+use cmwq_service::{
+    Client, Context, CpuId, Fault, ItemId, PLAIN, QueueId, QueueShape, RunFault, Service,
+    ShapeBuilder, run,
+};
+use std::alloc::AllocError;
 use std::sync::Wait;
 use std::sync::atomic::{AtomicU32, Ordering};
 use std::time::Clock;
@@ -9,6 +14,11 @@ use std::time::Clock;
 const CPU: CpuId = CpuId(0);
 
 const QUEUE: QueueId = QueueId(0);
+
+const FREEZABLE: QueueShape = QueueShape {
+    freezable: true,
+    ..PLAIN
+};
 
 fn is_outside<T: Drop>(answer: Result<T, Fault>) -> bool {
     matches!(answer, Err(Fault::Outside))
@@ -89,6 +99,7 @@ fn numbers_outside_are_answered(rt: HostRuntime) {
 #[derive(Drop)]
 pub(crate) struct Faulty {
     pub is_of_item: bool,
+    pub own: Option<Fault>,
 }
 
 impl Service for Faulty {
@@ -112,6 +123,8 @@ impl Service for Faulty {
             client.freeze()?;
             client.queue(ItemId(1), QueueId(1), CPU)?;
             client.flush(QueueId(1))?;
+        } else if let Some(fault) = self.own {
+            return Err(fault);
         } else if self.is_of_item {
             client.queue(ItemId(0), QUEUE, CPU)?;
         } else {
@@ -125,7 +138,10 @@ impl Service for Faulty {
 fn a_fault_stops_all(rt: HostRuntime) {
     let shape = shape_of(&rt, 2);
     for is_of_item in [false, true] {
-        let service = Faulty { is_of_item };
+        let service = Faulty {
+            is_of_item,
+            own: None,
+        };
         let Err(stopped) = run(&rt, rt.alloc(), &shape, &service) else {
             panic!(rt; "a fault was not told")
         };
@@ -135,9 +151,48 @@ fn a_fault_stops_all(rt: HostRuntime) {
 }
 
 #[test]
+fn a_fault_of_its_own_stops_all(rt: HostRuntime) {
+    let shape = shape_of(&rt, 2);
+    for fault in [Fault::Own(7), Fault::from(AllocError)] {
+        let service = Faulty {
+            is_of_item: false,
+            own: Some(fault),
+        };
+        let Err(stopped) = run(&rt, rt.alloc(), &shape, &service) else {
+            panic!(rt; "a fault was not told")
+        };
+        assert_eq!(rt; stopped.fault, fault);
+        assert!(rt; is_legal(&rt, &shape, &stopped.history));
+    }
+}
+
+#[test]
+fn want_of_room_stops_all(rt: HostRuntime) {
+    let builder = ShapeBuilder::new(rt.alloc())
+        .callers(2)
+        .items(2)
+        .room(50)
+        .queue(PLAIN)
+        .expect(&rt, "memory")
+        .queue(FREEZABLE)
+        .expect(&rt, "memory");
+    let shape = builder.build().expect(&rt, "inside the limits");
+    let Err(stopped) = run(&rt, rt.alloc(), &shape, &Endless) else {
+        panic!(rt; "want of room was not told")
+    };
+    let fault = RunFault::Full;
+    assert_eq!(rt; stopped.fault, Fault::Run { fault });
+    assert!(rt; stopped.history.len() > 20);
+    assert!(rt; is_legal(&rt, &shape, &stopped.history));
+}
+
+#[test]
 fn a_service_without_callers_ends(rt: HostRuntime) {
     let shape = shape_of(&rt, 0);
-    let service = Faulty { is_of_item: false };
+    let service = Faulty {
+        is_of_item: false,
+        own: None,
+    };
     assert!(rt; run(&rt, rt.alloc(), &shape, &service).is_ok());
     let none = ShapeBuilder::new(rt.alloc()).build();
     assert!(rt; none.is_err());

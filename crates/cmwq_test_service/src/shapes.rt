@@ -1,18 +1,11 @@
 //! What a builder says is wrong with a shape.
 
-use cmwq_service::{Misfit, QueueShape, ShapeBuilder};
+use cmwq_service::{Misfit, PLAIN, QueueShape, ShapeBuilder};
 use std::process::Abort;
-
-const QUEUE: QueueShape = QueueShape {
-    max_active: 1,
-    high: false,
-    intensive: false,
-    freezable: false,
-};
 
 fn builder(rt: &(impl Abort + AllocGlobal)) -> ShapeBuilder {
     ShapeBuilder::new(rt.alloc())
-        .queue(QUEUE)
+        .queue(PLAIN)
         .expect(rt, "memory")
 }
 
@@ -39,7 +32,7 @@ fn the_limit_and_the_value_are_told(rt: HostRuntime) {
     );
     let wide = QueueShape {
         max_active: 513,
-        ..QUEUE
+        ..PLAIN
     };
     let misfit = Misfit::MaxActive {
         queue: 1,

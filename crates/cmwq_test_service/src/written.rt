@@ -60,7 +60,7 @@ fn what_is_written_is_read_again(rt: HostRuntime) {
 
 /// A caller that waits for ever, and one that makes calls for ever.
 #[derive(Drop)]
-struct Endless;
+pub(crate) struct Endless;
 
 impl Service for Endless {
     fn run<R: Wait + Clock, C: Context>(
@@ -110,7 +110,10 @@ fn a_sink_that_fails_stops_all(rt: HostRuntime) {
 #[test]
 fn a_fault_leaves_no_last_line(rt: HostRuntime) {
     let shape = shape_of(&rt, 2);
-    let service = Faulty { is_of_item: true };
+    let service = Faulty {
+        is_of_item: true,
+        own: None,
+    };
     let (output, outcome) = write(&rt, &shape, &service, u64::MAX);
     let fault = Fault::Outside;
     assert_eq!(rt; outcome.err(), Some(Unwritten::Stopped { fault }));
