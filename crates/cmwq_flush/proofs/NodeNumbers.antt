@@ -18,6 +18,9 @@ use Rattle.cmwq_flush.proofs.Nodes.{listed-pushed, listed-removed}
 pub opened_at : (lists : List (List ℕ)) (rows : List Row) (items i : ℕ) → i < items → numbers_at (opened_by lists rows items) i ≡ numbers_of_nodes lists rows i
 opened_at lists rows items i lt = get_or-map-range_with_len (numbers_of_nodes lists rows) 0 items i i [] lt (omega arith)
 
+pub item_inside : (lists : List (List ℕ)) (rows : List Row) (items i : ℕ) → i < length (opened_by lists rows items) → i < items
+item_inside lists rows items i lt = let size = length-map-range_with_len (numbers_of_nodes lists rows) 0 items in omega arith
+
 -- where those of one item alone change
 pub opened_set : (f g : ℕ → List ℕ) (items i : ℕ) (ns : List ℕ) → i < items → f i ≡ ns → ((j : ℕ) → j ≢ i → f j ≡ g j) → map f (range_with_len 0 items) ≡ set (map g (range_with_len 0 items)) i ns
 opened_set f g items i ns lt here others =

@@ -79,8 +79,8 @@ module _ (lists : List (List ℕ)) (rows : List Row) (items i v : ℕ) (there : 
         by true e = let is : v ≡ 2 * i + 1 = chosen_is ∙ chosen _ _ (2 * i + 1) (2 * i) e in
             ap₂ by_age (number-kept lists rows l v r lt (2 * j) (λ same. absurd (omega arith))) (number-kept lists rows l v r lt (2 * j + 1) (λ same. differs (omega arith)))
 
-    pub opened-opened : opened_by lists2 rows2 items ≡ set (opened_by lists rows items) i (numbers_at (opened_by lists rows items) i ++ r.number ∷ [])
-    opened-opened = opened_set (numbers_of_nodes lists2 rows2) (numbers_of_nodes lists rows) items i (numbers_at (opened_by lists rows items) i ++ r.number ∷ []) there
+    pub opened-pushed : opened_by lists2 rows2 items ≡ set (opened_by lists rows items) i (numbers_at (opened_by lists rows items) i ++ r.number ∷ [])
+    opened-pushed = opened_set (numbers_of_nodes lists2 rows2) (numbers_of_nodes lists rows) items i (numbers_at (opened_by lists rows items) i ++ r.number ∷ []) there
         (numbers-opened ∙ ap (λ ns. ns ++ r.number ∷ []) (sym (opened_at lists rows items i there))) others
 
 -- no number comes twice: a listed node is the new one, or was listed

@@ -2,7 +2,7 @@
 ghost use Rattle.std.specs.Prelude.{◌≡◌, ◌≤◌, ◌<◌, ◌+◌, ◌++◌, ◌∷◌, ◌^◌, [], drop, length, OnErr, true, false, IsTrue, count_by, IfOk, IfErr, IfSome, MatchOption, MatchResult, MatchBool, Some, None};
 ghost use mathlib.Core.List.{IsPrefix};
 ghost use Rattle.cmwq_model.specs.declared.call.Call.{Call};
-ghost use Rattle.cmwq_model.specs.Prelude.{Layout, fits, serial_of, past_of, IsLegal, has_room, is_done};
+ghost use Rattle.cmwq_model.specs.Prelude.{Layout, fits, past_of, IsLegal, has_room, is_done};
 ghost use Rattle.cmwq_model.specs.declared.call.Call.TheVariants as calls;
 ghost use Rattle.cmwq_model.specs.declared.reply.Reply.TheVariants as replies;
 ghost use Rattle.cmwq_core.specs.History.{takes};

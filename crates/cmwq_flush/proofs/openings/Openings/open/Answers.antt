@@ -1,16 +1,12 @@
 use Rattle.cmwq_flush.specs.Common.{◌<◌, ℕ, List, length, map, arith, All, length-map}
 use Rattle.std.proofs.Common.{ap₂}
-use Rattle.std.proofs.lemmas.List.FromFn.{length-map-range_with_len}
 use Rattle.cmwq_flush.specs.declared.openings.Row.{Row}
 use Rattle.cmwq_flush.specs.Rows.{OpenRows, numbers_at, rows_at}
 use Rattle.cmwq_flush.specs.Openings.{node_row, numbers_of_nodes, opened_by, rows_of}
 use Rattle.cmwq_flush.proofs.Nodes.{not_listed, rows-pushed, listed_below}
-use Rattle.cmwq_flush.proofs.NodeNumbers.{opened_at}
-use Rattle.cmwq_flush.proofs.Opening.{free_listed, chosen_low, opened-opened, openings-pushed}
+use Rattle.cmwq_flush.proofs.NodeNumbers.{item_inside, opened_at}
+use Rattle.cmwq_flush.proofs.Opening.{free_listed, chosen_low, opened-pushed, openings-pushed}
 use Rattle.cmwq_flush.proofs.openings.Openings.open.Goals as goal
-
-there_by : (lists : List (List ℕ)) (rows : List Row) (items i : ℕ) → i < length (opened_by lists rows items) → i < items
-there_by lists rows items i lt = let size = length-map-range_with_len (numbers_of_nodes lists rows) 0 items in omega arith
 
 few_by : (lists : List (List ℕ)) (rows : List Row) (items i : ℕ) → i < items → length (numbers_at (opened_by lists rows items) i) < 2 → length (numbers_of_nodes lists rows i) < 2
 few_by lists rows items i there few = rw (opened_at lists rows items i there) at few
@@ -18,13 +14,13 @@ few_by lists rows items i there few = rw (opened_at lists rows items i there) at
 pub free_node-node-requires : goal.free_node-node-requires
 free_node-node-requires c =
     let s = c.self.inside in
-    let there = there_by s.lists.lists s.rows.items s.items c.args.item.0 (rw (← c.self.view_is) at c.requires.item) in
+    let there = item_inside s.lists.lists s.rows.items s.items c.args.item.0 (rw (← c.self.view_is) at c.requires.item) in
     omega (arith, c.self.invariant.nodes)
 
 pub index_mut-requires : goal.index_mut-requires
 index_mut-requires c =
     let s = c.self.inside in
-    let there = there_by s.lists.lists s.rows.items s.items c.args.item.0 (rw (← c.self.view_is) at c.requires.item) in
+    let there = item_inside s.lists.lists s.rows.items s.items c.args.item.0 (rw (← c.self.view_is) at c.requires.item) in
     let few = few_by s.lists.lists s.rows.items s.items c.args.item.0 there (rw (← c.self.view_is) at c.requires.free) in
     let low = chosen_low s.lists.lists s.rows.items s.items c.args.item.0 c.free_node-node.result there c.free_node-node.ensures few in
     omega (arith, c.self.invariant.many, s.rows.ok)
@@ -32,7 +28,7 @@ index_mut-requires c =
 pub push_back-requires-clause-item : goal.push_back-requires-clause-item
 push_back-requires-clause-item c =
     let s = c.self.inside in
-    let there = there_by s.lists.lists s.rows.items s.items c.args.item.0 (rw (← c.self.view_is) at c.requires.item) in
+    let there = item_inside s.lists.lists s.rows.items s.items c.args.item.0 (rw (← c.self.view_is) at c.requires.item) in
     let few = few_by s.lists.lists s.rows.items s.items c.args.item.0 there (rw (← c.self.view_is) at c.requires.free) in
     let low = chosen_low s.lists.lists s.rows.items s.items c.args.item.0 c.free_node-node.result there c.free_node-node.ensures few in
     omega (arith, c.self.invariant.nodes)
@@ -40,7 +36,7 @@ push_back-requires-clause-item c =
 pub push_back-requires-clause-free : goal.push_back-requires-clause-free
 push_back-requires-clause-free c =
     let s = c.self.inside in
-    let there = there_by s.lists.lists s.rows.items s.items c.args.item.0 (rw (← c.self.view_is) at c.requires.item) in
+    let there = item_inside s.lists.lists s.rows.items s.items c.args.item.0 (rw (← c.self.view_is) at c.requires.item) in
     let few = few_by s.lists.lists s.rows.items s.items c.args.item.0 there (rw (← c.self.view_is) at c.requires.free) in
     not_listed s.lists.lists c.free_node-node.result (free_listed s.lists.lists s.rows.items s.items c.args.item.0 c.free_node-node.result there c.free_node-node.ensures few)
 
@@ -48,7 +44,7 @@ pub invariant_of-self : goal.invariant_of-self
 invariant_of-self c =
     let s = c.self.inside in
     let v = c.free_node-node.result in
-    let there = there_by s.lists.lists s.rows.items s.items c.args.item.0 (rw (← c.self.view_is) at c.requires.item) in
+    let there = item_inside s.lists.lists s.rows.items s.items c.args.item.0 (rw (← c.self.view_is) at c.requires.item) in
     let few = few_by s.lists.lists s.rows.items s.items c.args.item.0 there (rw (← c.self.view_is) at c.requires.free) in
     let low = chosen_low s.lists.lists s.rows.items s.items c.args.item.0 v there c.free_node-node.ensures few in
     let free = free_listed s.lists.lists s.rows.items s.items c.args.item.0 v there c.free_node-node.ensures few in
@@ -60,7 +56,7 @@ pub returns : goal.returns
 returns c =
     let s = c.self.inside in
     let v = c.free_node-node.result in let i = c.args.item.0 in
-    let there = there_by s.lists.lists s.rows.items s.items c.args.item.0 (rw (← c.self.view_is) at c.requires.item) in
+    let there = item_inside s.lists.lists s.rows.items s.items c.args.item.0 (rw (← c.self.view_is) at c.requires.item) in
     let few = few_by s.lists.lists s.rows.items s.items c.args.item.0 there (rw (← c.self.view_is) at c.requires.free) in
     let low = chosen_low s.lists.lists s.rows.items s.items i v there c.free_node-node.ensures few in
     let free = free_listed s.lists.lists s.rows.items s.items i v there c.free_node-node.ensures few in
@@ -69,4 +65,4 @@ returns c =
     let many = c.self.invariant.many in
     rw (c.push_back.ensures, c.from.ensures, ← c.self.view_is) (ap₂ (λ (rs : List (List Row)) (os : List (List ℕ)). let o : OpenRows = record { rows = rs; opened = os } in o)
     (rows-pushed s.lists.lists s.rows.items c.args.queue.0 v c.args.row lt (omega arith) free)
-    (opened-opened s.lists.lists s.rows.items s.items i v there c.free_node-node.ensures few c.args.queue.0 c.args.row lt many (λ w h. listed_below s.lists.lists s.rows.items c.args.row.number w below h)))
+    (opened-pushed s.lists.lists s.rows.items s.items i v there c.free_node-node.ensures few c.args.queue.0 c.args.row lt many (λ w h. listed_below s.lists.lists s.rows.items c.args.row.number w below h)))
