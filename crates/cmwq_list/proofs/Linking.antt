@@ -11,7 +11,7 @@ use Rattle.cmwq_list.proofs.Members.{has-push, distinct-push}
 use Rattle.cmwq_list.proofs.Between.{Puts, joined, last_differs, kept, reaches}
 use Rattle.cmwq_list.proofs.Rings.{puts, length_from, from_at, AreRings, rings_walked, listed, ring, absent, known, owner_is, elsewhere, no_end, length_ring}
 
-module _ (next prev owners lens : List ℕ) (l i : ℕ) (is : AreLinked next prev owners lens) (hl : l < length lens) (hi : i < length owners) (free : owner_at owners i ≡ 4294967295) where
+module _ (next prev owners lens : List ℕ) (l i : ℕ) (is : AreLinked next prev owners lens) (hl : l < length lens) (hi : i < length owners) (free : owner_at owners i ≡ 65535) where
   e : ℕ
   e = length owners + l
 
@@ -81,19 +81,19 @@ module _ (next prev owners lens : List ℕ) (l i : ℕ) (is : AreLinked next pre
   owned_here j = has-push j i (xs l) ∙ ⊎_elim same other (cases_eq j i)
     where
       same : j ≡ i → (has_item j (xs l) || nat_eq j i) ≡ nat_eq (owner_at owners2 j) l
-      same h = (ap (λ b. has_item j (xs l) || b) (eq-eqb j i h) ∙ or_true (has_item j (xs l))) ∙ sym (eq-eqb (owner_at owners2 j) l (ap (owner_at owners2) h ∙ get_or-set_same owners i l 4294967295 hi))
+      same h = (ap (λ b. has_item j (xs l) || b) (eq-eqb j i h) ∙ or_true (has_item j (xs l))) ∙ sym (eq-eqb (owner_at owners2 j) l (ap (owner_at owners2) h ∙ get_or-set_same owners i l 65535 hi))
 
       other : (j ≡ i → ⊥) → (has_item j (xs l) || nat_eq j i) ≡ nat_eq (owner_at owners2 j) l
-      other ne = (ap (λ b. has_item j (xs l) || b) (ne_eqb j i ne) ∙ or_false (has_item j (xs l))) ∙ ((is.rings l hl).owned j ∙ ap (λ n. nat_eq n l) (sym (get_or-set_other owners i j l 4294967295 ne)))
+      other ne = (ap (λ b. has_item j (xs l) || b) (ne_eqb j i ne) ∙ or_false (has_item j (xs l))) ∙ ((is.rings l hl).owned j ∙ ap (λ n. nat_eq n l) (sym (get_or-set_other owners i j l 65535 ne)))
 
   owned_other : (m : ℕ) → m < length lens → m ≢ l → (j : ℕ) → has_item j (xs m) ≡ nat_eq (owner_at owners2 j) m
   owned_other m h ne j = ⊎_elim same other (cases_eq j i)
     where
       same : j ≡ i → has_item j (xs m) ≡ nat_eq (owner_at owners2 j) m
-      same e = ap (λ k. has_item k (xs m)) e ∙ (no_i m h ∙ sym (ne_eqb (owner_at owners2 j) m (λ s. ne (sym s ∙ (ap (owner_at owners2) e ∙ get_or-set_same owners i l 4294967295 hi)))))
+      same e = ap (λ k. has_item k (xs m)) e ∙ (no_i m h ∙ sym (ne_eqb (owner_at owners2 j) m (λ s. ne (sym s ∙ (ap (owner_at owners2) e ∙ get_or-set_same owners i l 65535 hi)))))
 
       other : (j ≡ i → ⊥) → has_item j (xs m) ≡ nat_eq (owner_at owners2 j) m
-      other e = (is.rings m h).owned j ∙ ap (λ n. nat_eq n m) (sym (get_or-set_other owners i j l 4294967295 e))
+      other e = (is.rings m h).owned j ∙ ap (λ n. nat_eq n m) (sym (get_or-set_other owners i j l 65535 e))
 
   -- the lists afterwards
   abbrev pub ys : ℕ → List ℕ
@@ -132,10 +132,10 @@ module _ (next prev owners lens : List ℕ) (l i : ℕ) (is : AreLinked next pre
   same_length : length next2 ≡ length next
   same_length = length-set next1 i (length owners + l) ∙ length-set next p i
 
-  settled_there : (j : ℕ) → (get_or owners2 j 4294967295 ≡ 4294967295) ⊎ (get_or owners2 j 4294967295 < length lens2)
+  settled_there : (j : ℕ) → (get_or owners2 j 65535 ≡ 65535) ⊎ (get_or owners2 j 65535 < length lens2)
   settled_there j = ⊎_elim
-      (λ same. inr (let here : get_or owners2 j 4294967295 ≡ l = ap (owner_at owners2) same ∙ get_or-set_same owners i l 4294967295 hi in rw (here, length-set lens l (get_or lens l 0 + 1)) hl))
-      (λ ne. rw (get_or-set_other owners i j l 4294967295 ne, length-set lens l (get_or lens l 0 + 1)) (is.settled j))
+      (λ same. inr (let here : get_or owners2 j 65535 ≡ l = ap (owner_at owners2) same ∙ get_or-set_same owners i l 65535 hi in rw (here, length-set lens l (get_or lens l 0 + 1)) hl))
+      (λ ne. rw (get_or-set_other owners i j l 65535 ne, length-set lens l (get_or lens l 0 + 1)) (is.settled j))
       (cases_eq j i)
 
   pub back_linked : AreLinked next2 prev2 owners2 lens2
@@ -145,6 +145,7 @@ module _ (next prev owners lens : List ℕ) (l i : ℕ) (is : AreLinked next pre
         many = same_length ∙ (is.many ∙ sym (ap (λ n. n + length lens2) same_many ∙ ap (λ n. length owners + n) (length-set lens l (get_or lens l 0 + 1))));
         twins = length-set prev1 (length owners + l) i ∙ (length-set prev i p ∙ (is.twins ∙ sym same_length));
         few = rw same_length is.few;
+        few_lists = rw (length-set lens l (get_or lens l 0 + 1)) is.few_lists;
         nexts = let F : ℕ → Type 0 = λ b. All (λ x. x < b) next2 in subst F (sym same_length) (All-set (λ x. x < length next) next1 i (length owners + l) (omega arith) (All-set (λ x. x < length next) next p i (omega arith) is.nexts));
         prevs = let F : ℕ → Type 0 = λ b. All (λ x. x < b) prev2 in subst F (sym same_length) (All-set (λ x. x < length next) prev1 (length owners + l) i (omega arith) (All-set (λ x. x < length next) prev i p p_below is.prevs));
         settled = settled_there;

@@ -95,7 +95,7 @@ module _ (next prev owners lens : List ℕ) (is : AreLinked next prev owners len
       (λ lt. has_at i h low ∙ there next prev owners lens is i h low e) in
       sym (ap (λ p. cond (nat_lt p (length (lists_of next owners lens))) (Some p) None) pos ∙ cond-true (nat_lt h (length (lists_of next owners lens))) (Some h) None (lt-ltb h (length (lists_of next owners lens)) (omega arith)))
 
-  pub owner_none : (i : ℕ) → owner_at owners i ≡ 4294967295 → None ≡ list_of (lists_of next owners lens) i
+  pub owner_none : (i : ℕ) → owner_at owners i ≡ 65535 → None ≡ list_of (lists_of next owners lens) i
   owner_none i e =
       let m = many_lists in
       let n = length (lists_of next owners lens) in
@@ -105,11 +105,11 @@ module _ (next prev owners lens : List ℕ) (is : AreLinked next prev owners len
       (λ lt. absurd (omega arith)) in
       sym (ap (λ p. cond (nat_lt p (length (lists_of next owners lens))) (Some p) None) pos ∙ cond-false (nat_lt (length (lists_of next owners lens)) (length (lists_of next owners lens))) (Some (length (lists_of next owners lens))) None (le-ltb (length (lists_of next owners lens)) (length (lists_of next owners lens)) (omega arith)))
 
-  pub is_free : (i : ℕ) → list_of (lists_of next owners lens) i ≡ None → owner_at owners i ≡ 4294967295
+  pub is_free : (i : ℕ) → list_of (lists_of next owners lens) i ≡ None → owner_at owners i ≡ 65535
   is_free i e = ⊎_elim (λ none. none) (λ low. absurd (let bad : Some (owner_at owners i) ≡ None = owner_some i (owner_at owners i) refl low ∙ e in cc)) (is.settled i)
 
   -- an item that is in no list is taken out of none
-  pub none_taken : (i : ℕ) → owner_at owners i ≡ 4294967295 → lists_of next owners lens ≡ map (without_item i) (lists_of next owners lens)
+  pub none_taken : (i : ℕ) → owner_at owners i ≡ 65535 → lists_of next owners lens ≡ map (without_item i) (lists_of next owners lens)
   none_taken i e = ext_get_or [] (lists_of next owners lens) (map (without_item i) (lists_of next owners lens)) (sym (length-map (lists_of next owners lens) (without_item i))) (λ m h.
       let c = many_lists in
       let low : m < length lens = omega arith in

@@ -50,17 +50,17 @@ module _ (next prev owners lens : List ℕ) (is : AreLinked next prev owners len
   abbrev pub ring : ℕ → List ℕ
   ring m = walk (link_at next) (length owners + m) (get_or lens m 0)
 
-  pub small : (m : ℕ) → m < length lens → m < 4294967295
-  small m h = let a = is.many in let b = is.few in omega arith
+  pub small : (m : ℕ) → m < length lens → m < 65535
+  small m h = let few = is.few_lists in omega arith
 
   -- what is noted in none is in none
-  pub absent : (x m : ℕ) → m < length lens → owner_at owners x ≡ 4294967295 → has_item x (ring m) ≡ false
+  pub absent : (x m : ℕ) → m < length lens → owner_at owners x ≡ 65535 → has_item x (ring m) ≡ false
   absent x m h none =
-      let s : m < 4294967295 = small m h in
-      (is.rings m h).owned x ∙ ap (λ n. nat_eq n m) none ∙ ne_eqb 4294967295 m (λ e. omega arith)
+      let s : m < 65535 = small m h in
+      (is.rings m h).owned x ∙ ap (λ n. nat_eq n m) none ∙ ne_eqb 65535 m (λ e. omega arith)
 
   pub known : (x m : ℕ) → m < length lens → has_item x (ring m) ≡ true → x < length owners
-  known x m h in_it = ⊎_elim (λ l. l) (λ g. absurd (false≢true (sym (absent x m h (get_or_past owners x 4294967295 g)) ∙ in_it))) (cases_lt x (length owners))
+  known x m h in_it = ⊎_elim (λ l. l) (λ g. absurd (false≢true (sym (absent x m h (get_or_past owners x 65535 g)) ∙ in_it))) (cases_lt x (length owners))
 
   pub owner_is : (x m : ℕ) → m < length lens → has_item x (ring m) ≡ true → owner_at owners x ≡ m
   owner_is x m h in_it = eqb-true (owner_at owners x) m (sym ((is.rings m h).owned x) ∙ in_it)
@@ -73,7 +73,7 @@ module _ (next prev owners lens : List ℕ) (is : AreLinked next prev owners len
   elsewhere x m h ne = (is.rings m h).owned x ∙ ne_eqb (owner_at owners x) m ne
 
   pub no_end : (m k : ℕ) → m < length lens → has_item (length owners + k) (ring m) ≡ false
-  no_end m k h = absent (length owners + k) m h (get_or_past owners (length owners + k) 4294967295 (omega arith))
+  no_end m k h = absent (length owners + k) m h (get_or_past owners (length owners + k) 65535 (omega arith))
 
   pub length_ring : (m : ℕ) → m < length lens → get_or lens m 0 ≡ length (ring m)
   length_ring m h = sym (length_walk (link_at next) (length owners + m) (get_or lens m 0))

@@ -11,13 +11,13 @@ use Rattle.cmwq_list.proofs.Members.{without_none, has-without, distinct-without
 use Rattle.cmwq_list.proofs.Between.{Puts, before_differs, behind_differs, kept, taken_out}
 use Rattle.cmwq_list.proofs.Rings.{puts, length_from, from_at, AreRings, rings_walked, listed, ring, small, known, owner_is, there, elsewhere, no_end, length_ring}
 
-module _ (next prev owners lens : List ℕ) (i : ℕ) (is : AreLinked next prev owners lens) (hi : i < length owners) (taken : owner_at owners i ≡ 4294967295 → ⊥) where
+module _ (next prev owners lens : List ℕ) (i : ℕ) (is : AreLinked next prev owners lens) (hi : i < length owners) (taken : owner_at owners i ≡ 65535 → ⊥) where
   -- the list that it is in
   abbrev pub l : ℕ
   l = get_or owners i 0
 
   owner_l : owner_at owners i ≡ l
-  owner_l = get_or_default owners i 4294967295 0 hi
+  owner_l = get_or_default owners i 65535 0 hi
 
   hl : l < length lens
   hl = ⊎_elim (λ none. absurd (taken none)) (λ h. rw owner_l at h) (is.settled i)
@@ -35,7 +35,7 @@ module _ (next prev owners lens : List ℕ) (i : ℕ) (is : AreLinked next prev 
   prev2 = set prev n p
 
   abbrev pub owners2 : List ℕ
-  owners2 = set owners i 4294967295
+  owners2 = set owners i 65535
 
   abbrev pub lens2 : List ℕ
   lens2 = set lens l (get_or lens l 0 - 1)
@@ -95,20 +95,20 @@ module _ (next prev owners lens : List ℕ) (i : ℕ) (is : AreLinked next prev 
     where
       same : j ≡ i → (has_item j (xs m) && not (nat_eq j i)) ≡ nat_eq (owner_at owners2 j) m
       same e = (ap (λ b. has_item j (xs m) && not b) (eq-eqb j i e) ∙ and_false (has_item j (xs m))) ∙ sym (ne_eqb (owner_at owners2 j) m (λ s.
-          let none : owner_at owners2 j ≡ 4294967295 = ap (owner_at owners2) e ∙ get_or-set_same owners i 4294967295 4294967295 hi in
-          let low : m < 4294967295 = small next prev owners lens is m h in
-          let big : m ≡ 4294967295 = sym s ∙ none in
+          let none : owner_at owners2 j ≡ 65535 = ap (owner_at owners2) e ∙ get_or-set_same owners i 65535 65535 hi in
+          let low : m < 65535 = small next prev owners lens is m h in
+          let big : m ≡ 65535 = sym s ∙ none in
           omega arith))
 
       other : (j ≡ i → ⊥) → (has_item j (xs m) && not (nat_eq j i)) ≡ nat_eq (owner_at owners2 j) m
-      other ne = (ap (λ b. has_item j (xs m) && not b) (ne_eqb j i ne) ∙ and_true (has_item j (xs m))) ∙ ((is.rings m h).owned j ∙ ap (λ k. nat_eq k m) (sym (get_or-set_other owners i j 4294967295 4294967295 ne)))
+      other ne = (ap (λ b. has_item j (xs m) && not b) (ne_eqb j i ne) ∙ and_true (has_item j (xs m))) ∙ ((is.rings m h).owned j ∙ ap (λ k. nat_eq k m) (sym (get_or-set_other owners i j 65535 65535 ne)))
 
   -- the lists afterwards
   abbrev pub ys : ℕ → List ℕ
   ys m = without_item i (xs m)
 
   same_many : length owners2 ≡ length owners
-  same_many = length-set owners i 4294967295
+  same_many = length-set owners i 65535
 
   count : length lens2 ≡ length lens
   count = length-set lens l (get_or lens l 0 - 1)
@@ -131,10 +131,10 @@ module _ (next prev owners lens : List ℕ) (i : ℕ) (is : AreLinked next prev 
   same_length : length next2 ≡ length next
   same_length = length-set next p n
 
-  settled_there : (j : ℕ) → (get_or owners2 j 4294967295 ≡ 4294967295) ⊎ (get_or owners2 j 4294967295 < length lens2)
+  settled_there : (j : ℕ) → (get_or owners2 j 65535 ≡ 65535) ⊎ (get_or owners2 j 65535 < length lens2)
   settled_there j = ⊎_elim
-      (λ same. inl (ap (owner_at owners2) same ∙ get_or-set_same owners i 4294967295 4294967295 hi))
-      (λ ne. rw (get_or-set_other owners i j 4294967295 4294967295 ne, count) (is.settled j))
+      (λ same. inl (ap (owner_at owners2) same ∙ get_or-set_same owners i 65535 65535 hi))
+      (λ ne. rw (get_or-set_other owners i j 65535 65535 ne, count) (is.settled j))
       (cases_eq j i)
 
   pub unlinked : AreLinked next2 prev2 owners2 lens2
@@ -142,6 +142,7 @@ module _ (next prev owners lens : List ℕ) (i : ℕ) (is : AreLinked next prev 
     many = same_length ∙ (is.many ∙ sym (ap (λ k. k + length lens2) same_many ∙ ap (λ k. length owners + k) count));
     twins = length-set prev n p ∙ (is.twins ∙ sym same_length);
     few = rw same_length is.few;
+    few_lists = rw count is.few_lists;
     nexts = let F : ℕ → Type 0 = λ b. All (λ x. x < b) next2 in subst F (sym same_length) (All-set (λ x. x < length next) next p n n_below is.nexts);
     prevs = let F : ℕ → Type 0 = λ b. All (λ x. x < b) prev2 in subst F (sym same_length) (All-set (λ x. x < length next) prev n p p_below is.prevs);
     settled = settled_there;

@@ -20,9 +20,9 @@ AreBetween f g a (x ∷ xs) z = (f a ≡ x) × (g x ≡ a) × AreBetween f g x x
 abbrev pub link_at : List ℕ → ℕ → ℕ
 link_at xs = λ i. slice_index xs i
 
--- the list that owns item i; 4294967295 says that none does
+-- the list that owns item i; 65535 says that none does
 abbrev pub owner_at : List ℕ → ℕ → ℕ
-owner_at owners = λ i. slice_index_or owners i 4294967295
+owner_at owners = λ i. slice_index_or owners i 65535
 
 -- list l with its sentinel e: the links both ways, no item twice, and it owns just its own
 pub record IsRing (f g owner : ℕ → ℕ) (e l : ℕ) (xs : List ℕ) : Type 0 where
@@ -35,14 +35,15 @@ pub record AreLinked (next prev owners lens : List ℕ) : Type 0 where
   pub many : length next ≡ length owners + length lens
   pub twins : length prev ≡ length next
   pub few : length next < 2 ^ 32
+  pub few_lists : length lens < 2 ^ 16
   pub nexts : All (λ x. x < length next) next
   pub prevs : All (λ x. x < length next) prev
-  pub settled : (i : ℕ) → (slice_index_or owners i 4294967295 ≡ 4294967295) ⊎ (slice_index_or owners i 4294967295 < length lens)
+  pub settled : (i : ℕ) → (slice_index_or owners i 65535 ≡ 65535) ⊎ (slice_index_or owners i 65535 < length lens)
   pub rings : (l : ℕ) → l < length lens → IsRing (link_at next) (link_at prev) (owner_at owners) (length owners + l) l (walk (link_at next) (length owners + l) (slice_index lens l))
 
 -- no list owns item i
 abbrev pub IsUnlisted : List ℕ → ℕ → Type 0
-IsUnlisted owners i = owner_at owners i ≡ 4294967295
+IsUnlisted owners i = owner_at owners i ≡ 65535
 
 -- the lists that the links make
 abbrev pub lists_of : List ℕ → List ℕ → List ℕ → List (List ℕ)

@@ -6,7 +6,7 @@ ghost use Rattle.cmwq_list.specs.Lists.{list_at, without_item};
 ghost use Rattle.cmwq_list.specs.Links.{AreLinked, IsUnlisted, lists_of};
 
 /// The owner of an item that is in no list.
-pub(crate) const NONE: u32 = u32::MAX;
+pub(crate) const NONE: u16 = u16::MAX;
 
 /// Links two that are to stand beside each other.
 pub(crate) fn link(next: &mut [u32], prev: &mut [u32], before: u32, behind: u32)
@@ -23,9 +23,9 @@ pub(crate) fn link(next: &mut [u32], prev: &mut [u32], before: u32, behind: u32)
 pub(crate) fn link_back(
     next: &mut [u32],
     prev: &mut [u32],
-    owners: &mut [u32],
+    owners: &mut [u16],
     lens: &mut [u32],
-    list: u32,
+    list: u16,
     item: u32,
 )
     requires linked { AreLinked next.old prev.old owners.old lens.old }
@@ -35,19 +35,19 @@ pub(crate) fn link_back(
     ensures linked { AreLinked next.new prev.new owners.new lens.new }
     ensures lists { let lists = lists_of next.old owners.old lens.old in lists_of next.new owners.new lens.new ≡ slice_set lists list (list_at lists list ++ item ∷ []) }
 {
-    let sentinel = owners.len() as u32 + list;
+    let sentinel = owners.len() as u32 + u32::from(list);
     let last = prev[sentinel as usize];
     link(next, prev, last, item);
     link(next, prev, item, sentinel);
     owners[item as usize] = list;
-    lens[list as usize] += 1;
+    lens[usize::from(list)] += 1;
 }
 
 /// Takes an item out of the list that it is in (the kernel's `list_del`).
 pub(crate) fn unlink(
     next: &mut [u32],
     prev: &mut [u32],
-    owners: &mut [u32],
+    owners: &mut [u16],
     lens: &mut [u32],
     item: u32,
 )
@@ -62,5 +62,5 @@ pub(crate) fn unlink(
     let behind = next[item as usize];
     link(next, prev, before, behind);
     owners[item as usize] = NONE;
-    lens[owner as usize] -= 1;
+    lens[usize::from(owner)] -= 1;
 }

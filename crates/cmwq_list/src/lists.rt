@@ -5,7 +5,7 @@ use crate::links::{NONE, link, link_back, unlink};
 use std::alloc::{AllocError, Global};
 use std::marker::Model;
 
-/// Lists of items, by their numbers. An item is in one of them at most. Only `new` takes memory: 12 bytes an item, and 12 a
+/// Lists of items, by their numbers. An item is in one of them at most. Only `new` takes memory: 10 bytes an item, and 12 a
 /// list.
 #[derive(Debug, Drop)]
 pub struct Lists {
@@ -14,7 +14,7 @@ pub struct Lists {
     /// What is before each of them.
     prev: Vec<u32>,
     /// The list that each item is in.
-    owners: Vec<u32>,
+    owners: Vec<u16>,
     /// How many items each list has.
     lens: Vec<u32>,
 }
@@ -33,11 +33,11 @@ impl Model for Lists {
 
 impl Lists {
     /// So many empty lists, for items of the numbers below `items`. The error says that memory ran out.
-    pub fn new(alloc: Global, lists: u32, items: u32) -> Result<Lists, AllocError>
+    pub fn new(alloc: Global, lists: u16, items: u32) -> Result<Lists, AllocError>
         requires { items + lists < 2 ^ 32 }
         ensures { IfOk result (λ made. made ≡ record { items = items; lists = replicate lists [] }) }
     {
-        let links = items + lists;
+        let links = items + u32::from(lists);
         let mut next = vec![in alloc; 0; links as usize]?;
         let mut prev = vec![in alloc; 0; links as usize]?;
         for sentinel in items..links {
@@ -47,22 +47,22 @@ impl Lists {
             next,
             prev,
             owners: vec![in alloc; NONE; items as usize]?,
-            lens: vec![in alloc; 0; lists as usize]?,
+            lens: vec![in alloc; 0; usize::from(lists)]?,
         })
     }
 
     /// How many items are in a list: at most as many as there are. No item is twice in a list, or in two.
-    pub fn len(&self, list: u32) -> u32
+    pub fn len(&self, list: u16) -> u32
         requires { list < length self.now.lists }
         ensures len { result ≡ length (list_at self.now.lists list) }
         ensures few { result ≤ self.now.items }
         ensures once { AreListedOnce self.now }
     {
-        self.lens[list as usize]
+        self.lens[usize::from(list)]
     }
 
     /// The list that an item is in.
-    pub fn list_of(&self, item: u32) -> Option<u32>
+    pub fn list_of(&self, item: u32) -> Option<u16>
         requires { item < self.now.items }
         ensures { result ≡ list_of self.now.lists item }
     {
@@ -71,11 +71,11 @@ impl Lists {
     }
 
     /// The first item of a list.
-    pub fn first(&self, list: u32) -> Option<u32>
+    pub fn first(&self, list: u16) -> Option<u32>
         requires { list < length self.now.lists }
         ensures { result ≡ slice_get (list_at self.now.lists list) 0 }
     {
-        let first = self.next[self.owners.len() + list as usize];
+        let first = self.next[self.owners.len() + usize::from(list)];
         if (first as usize) < self.owners.len() {
             Some(first)
         } else {
@@ -97,7 +97,7 @@ impl Lists {
     }
 
     /// Puts an item that is in no list behind all others of a list.
-    pub fn push_back(&mut self, list: u32, item: u32)
+    pub fn push_back(&mut self, list: u16, item: u32)
         requires list { list < length self.old.lists }
         requires item { item < self.old.items }
         requires free { list_of self.old.lists item ≡ None }

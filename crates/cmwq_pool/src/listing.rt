@@ -28,7 +28,7 @@ pub(crate) fn task_of(notes: &[Note], item: u32) -> Task
 }
 
 /// The first item of a list that none of these workers runs.
-pub(crate) fn first_free(lists: &Lists, list: u32, workers: &PoolWorkers) -> Option<u32>
+pub(crate) fn first_free(lists: &Lists, list: u16, workers: &PoolWorkers) -> Option<u32>
     requires { list < length lists.now.lists }
     ensures first { result ≡ find (λ i. not (slots_run_item workers.now i)) (list_at lists.now.lists list) }
     ensures once { AreListedOnce lists.now }
@@ -48,7 +48,7 @@ pub(crate) fn first_free(lists: &Lists, list: u32, workers: &PoolWorkers) -> Opt
 pub(crate) fn is_listed(
     lists: &Lists,
     notes: &[Note],
-    list: u32,
+    list: u16,
     number: Number,
     item: ItemId,
 ) -> bool

@@ -42,7 +42,7 @@ impl Pools {
     pub fn new(alloc: Global, pools: u16, items: u16, workers: u8) -> Result<Pools, NoMemory>
         ensures { IfOk result (λ made. made ≡ replicate pools (new_pool_state items workers)) }
     {
-        let lists = Lists::new(alloc, u32::from(pools), u32::from(items))?;
+        let lists = Lists::new(alloc, pools, u32::from(items))?;
         let unlisted = Note {
             number: 0,
             intensive: false,
@@ -78,7 +78,7 @@ impl Pools {
         ensures { self.new ≡ with_pool (λ l. pool_with_task l (task number item.0 intensive)) pool self.old }
     {
         self.notes[usize::from(item.0)] = Note { number, intensive };
-        self.lists.push_back(u32::from(pool), u32::from(item.0));
+        self.lists.push_back(pool, u32::from(item.0));
     }
 
     /// Takes a queueing that was cancelled from the list of its pool, if it stands there.
@@ -86,7 +86,7 @@ impl Pools {
         requires { pool < length self.old }
         ensures { self.new ≡ with_pool (λ l. pool_without_task l number item.0) pool self.old }
     {
-        if is_listed(&self.lists, &self.notes, u32::from(pool), number, item) {
+        if is_listed(&self.lists, &self.notes, pool, number, item) {
             self.lists.remove(u32::from(item.0));
         }
     }
@@ -97,7 +97,7 @@ impl Pools {
         ensures { result ≡ next_task (pool_numbered self.now pool) }
     {
         let workers = &self.workers[usize::from(pool)];
-        let item = first_free(&self.lists, u32::from(pool), workers)?;
+        let item = first_free(&self.lists, pool, workers)?;
         Some(task_of(&self.notes, item))
     }
 
@@ -153,7 +153,7 @@ impl Pools {
         ensures enlisted { result ≡ slots_enlisted_by (pool_numbered self.old pool).slots worker }
     {
         let workers = &mut self.workers[usize::from(pool)];
-        let item = first_free(&self.lists, u32::from(pool), workers).unwrap();
+        let item = first_free(&self.lists, pool, workers).unwrap();
         self.lists.remove(item);
         workers.start(worker, task_of(&self.notes, item))
     }

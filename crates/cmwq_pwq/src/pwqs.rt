@@ -37,7 +37,7 @@ impl Pwqs {
         let places = usize::from(MOST_CPUS) * queues;
         Ok(Pwqs {
             counts: vec![in alloc; 0; places]?,
-            waiting: Waiting::new(alloc, places as u32, items)?,
+            waiting: Waiting::new(alloc, places as u16, items)?,
             activated: Vec::with_capacity(alloc, usize::from(items) + 1)?,
         })
     }

@@ -59,8 +59,7 @@ fn row(rows: &[Queueing], item: Option<u32>) -> Option<Queueing>
 
 impl Waiting {
     /// Nothing waits, of so many items and at so many places. The error says that memory ran out.
-    pub(crate) fn new(alloc: Global, places: u32, items: u16) -> Result<Waiting, NoMemory>
-        requires { places < 2 ^ 24 }
+    pub(crate) fn new(alloc: Global, places: u16, items: u16) -> Result<Waiting, NoMemory>
         ensures { IfOk result (λ waiting. waiting ≡ record { items = items; places = places; queueings = [] }) }
     {
         let items = u32::from(items);
@@ -92,7 +91,7 @@ impl Waiting {
         self.rows[usize::from(item)] = queueing;
         self.all.push_back(0, u32::from(item));
         self.pwqs
-            .push_back(place_of(queueing.place) as u32, u32::from(item));
+            .push_back(place_of(queueing.place) as u16, u32::from(item));
     }
 
     /// Takes out what waits of an item.
@@ -142,7 +141,7 @@ impl Waiting {
         ensures same { IfNone result (self.new ≡ self.old) }
         ensures others { self.new ≡ record self.old { queueings = self.new.queueings } }
     {
-        let item = self.pwqs.first(place_of(place) as u32)?;
+        let item = self.pwqs.first(place_of(place) as u16)?;
         let queueing = self.rows[item as usize];
         self.unlink(queueing.item);
         Some(queueing)

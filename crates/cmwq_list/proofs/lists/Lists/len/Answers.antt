@@ -1,4 +1,4 @@
-use Rattle.std.proofs.Common.{◌≡◌, ◌<◌, ◌∙◌, length, arith, get_or}
+use Rattle.std.proofs.Common.{◌≡◌, ◌<◌, ◌∙◌, ap, length, arith, get_or}
 use Rattle.std.proofs.lemmas.List.{get_or_default}
 use Rattle.cmwq_list.specs.Links.{lists_of}
 use Rattle.cmwq_list.proofs.Reading.{many_lists, len_is, are_listed_once}
@@ -17,7 +17,7 @@ returns-clause-len c =
     let s = c.self.inside in
     let low : c.args.list < length (lists_of s.next.items s.owners.items s.lens.items) = rw (← c.self.view_is) at c.requires in
     let m = many_lists s.next.items s.prev.items s.owners.items s.lens.items c.self.invariant in
-    let read : c.index.result.now ≡ get_or s.lens.items c.args.list 0 = c.index.ensures ∙ get_or_default s.lens.items c.args.list c.index.result.now 0 (omega arith) in
+    let read : c.index.result.now ≡ get_or s.lens.items c.args.list 0 = c.index.ensures ∙ (get_or_default s.lens.items c.from.result c.index.result.now 0 (omega (arith, c.from.ensures)) ∙ ap (λ k. get_or s.lens.items k 0) c.from.ensures) in
     rw (← c.self.view_is) (read ∙ len_is s.next.items s.prev.items s.owners.items s.lens.items c.self.invariant c.args.list (omega arith))
 
 pub returns-clause-few : goal.returns-clause-few
@@ -25,7 +25,7 @@ returns-clause-few c =
     let s = c.self.inside in
     let low : c.args.list < length (lists_of s.next.items s.owners.items s.lens.items) = rw (← c.self.view_is) at c.requires in
     let m = many_lists s.next.items s.prev.items s.owners.items s.lens.items c.self.invariant in
-    let read : c.index.result.now ≡ get_or s.lens.items c.args.list 0 = c.index.ensures ∙ get_or_default s.lens.items c.args.list c.index.result.now 0 (omega arith) in
+    let read : c.index.result.now ≡ get_or s.lens.items c.args.list 0 = c.index.ensures ∙ (get_or_default s.lens.items c.from.result c.index.result.now 0 (omega (arith, c.from.ensures)) ∙ ap (λ k. get_or s.lens.items k 0) c.from.ensures) in
     let few = few_items s.next.items s.prev.items s.owners.items s.lens.items c.self.invariant c.args.list (omega arith) in
     rw (← c.self.view_is) (omega arith)
 

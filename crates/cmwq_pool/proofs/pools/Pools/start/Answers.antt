@@ -1,6 +1,6 @@
 use Rattle.std.proofs.Common.{◌≡◌, ◌<◌, ◌∙◌, ap, sym, refl, subst, arith, length, not, true, Some, is_some}
 use Rattle.cmwq_list.specs.Lists.{list_at}
-use Rattle.cmwq_pool.specs.Common.{find, option_map}
+use Rattle.cmwq_pool.specs.Common.{option_map}
 use Rattle.cmwq_pool.specs.declared.task.Task.{Task}
 use Rattle.cmwq_pool.specs.Slots.{slot_at, slot_is_idle, slots_run_item, slots_started, slots_enlisted_by}
 use Rattle.cmwq_pool.specs.Pools.{pool_numbered}
@@ -21,7 +21,7 @@ pub first_free-requires : goal.first_free-requires
 first_free-requires c =
     let s = c.self.inside in
     let low : c.args.pool < length s.workers.items = there s.lists s.notes.items s.workers.items c.args.self.now c.args.pool c.self.view_is c.requires.pool in
-    omega (arith, low, c.from-2.ensures, c.self.invariant.many)
+    omega (arith, low, c.self.invariant.many)
 
 pub unwrap-item-requires : goal.unwrap-item-requires
 unwrap-item-requires c =
@@ -29,7 +29,7 @@ unwrap-item-requires c =
     let low : c.args.pool < length s.workers.items = there s.lists s.notes.items s.workers.items c.args.self.now c.args.pool c.self.view_is c.requires.pool in
     let slots = c.index_mut-workers.result.now in
     let is = at_place s.workers.items c.args.pool c.from.result slots low c.from.ensures c.index_mut-workers.ensures.value in
-    let first = c.first_free.ensures.first ∙ ap (λ p. find (λ i. not (slots_run_item slots i)) (list_at s.lists.lists p)) c.from-2.ensures in
+    let first = c.first_free.ensures.first in
     let next = ap (λ ps. next_task (pool_numbered ps c.args.pool)) (sym c.self.view_is) ∙ (next_seen s.lists s.notes.items s.workers.items c.args.pool low slots is ∙ ap (option_map (noted_task s.notes.items)) (sym first)) in
     some_first (λ (t : Task). t.number) (noted_task s.notes.items) c.first_free.result (ap (λ o. is_some (option_map (λ (t : Task). t.number) o)) (sym next) ∙ c.requires.next)
 
@@ -37,15 +37,15 @@ pub remove-requires : goal.remove-requires
 remove-requires c =
     let s = c.self.inside in
     let slots = c.index_mut-workers.result.now in
-    let here = found_has (λ i. not (slots_run_item slots i)) (list_at s.lists.lists c.from-2.result) c.unwrap-item.result (sym c.first_free.ensures.first ∙ c.unwrap-item.ensures) in
-    c.first_free.ensures.once.known c.unwrap-item.result c.from-2.result here
+    let here = found_has (λ i. not (slots_run_item slots i)) (list_at s.lists.lists c.args.pool) c.unwrap-item.result (sym c.first_free.ensures.first ∙ c.unwrap-item.ensures) in
+    c.first_free.ensures.once.known c.unwrap-item.result c.args.pool here
 
 pub task_of-requires-clause-item : goal.task_of-requires-clause-item
 task_of-requires-clause-item c =
     let s = c.self.inside in
     let slots = c.index_mut-workers.result.now in
-    let here = found_has (λ i. not (slots_run_item slots i)) (list_at s.lists.lists c.from-2.result) c.unwrap-item.result (sym c.first_free.ensures.first ∙ c.unwrap-item.ensures) in
-    let known = c.first_free.ensures.once.known c.unwrap-item.result c.from-2.result here in
+    let here = found_has (λ i. not (slots_run_item slots i)) (list_at s.lists.lists c.args.pool) c.unwrap-item.result (sym c.first_free.ensures.first ∙ c.unwrap-item.ensures) in
+    let known = c.first_free.ensures.once.known c.unwrap-item.result c.args.pool here in
     rw c.deref.ensures.value (omega (arith, known, c.self.invariant.noted))
 
 pub start-requires : goal.start-requires
@@ -62,7 +62,7 @@ returns-clause-started c =
     let slots = c.index_mut-workers.result.now in
     let item = c.unwrap-item.result in
     let is = at_place s.workers.items c.args.pool c.from.result slots low c.from.ensures c.index_mut-workers.ensures.value in
-    let first = c.first_free.ensures.first ∙ ap (λ p. find (λ i. not (slots_run_item slots i)) (list_at s.lists.lists p)) c.from-2.ensures in
+    let first = c.first_free.ensures.first in
     let next : next_task (pool_numbered (pools_seen s.lists s.notes.items s.workers.items) c.args.pool) ≡ Some (noted_task s.notes.items item) = next_seen s.lists s.notes.items s.workers.items c.args.pool low slots is ∙ ap (option_map (noted_task s.notes.items)) (sym first ∙ c.unwrap-item.ensures) in
     let here = found_has (λ i. not (slots_run_item slots i)) (list_at s.lists.lists c.args.pool) item (sym first ∙ c.unwrap-item.ensures) in
     let made = c.start.ensures.started ∙ ap (slots_started slots c.args.worker) (c.task_of.ensures ∙ ap (λ notes. noted_task notes item) c.deref.ensures.value) in
