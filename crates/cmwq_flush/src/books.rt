@@ -45,12 +45,12 @@ impl FlushBooks {
     /// No open queueing and no wait, of so many queues and items, with room for 64 tickets for each of so many callers.
     /// No later call takes memory; the error says that it ran out.
     pub fn new(alloc: Global, queues: usize, items: u16, callers: u8) -> Result<Self, NoMemory>
-        requires { queues ≤ 65536 }
+        requires { queues < 65536 }
         ensures { IfOk result (λ books. books ≡ new_flush_state queues items callers) }
     {
         Ok(FlushBooks {
             callers,
-            openings: Openings::new(alloc, queues as u32, items)?,
+            openings: Openings::new(alloc, queues as u16, items)?,
             queues: new_queues(alloc, queues, callers)?,
             barriers: Vec::with_capacity(alloc, TICKETS_OF_CALLER * usize::from(callers))?,
         })

@@ -43,8 +43,7 @@ impl Model for Openings {
 
 impl Openings {
     /// Nothing open of so many queues and items. No later call takes memory.
-    pub(crate) fn new(alloc: Global, queues: u32, items: u16) -> Result<Self, AllocError>
-        requires { queues ≤ 65536 }
+    pub(crate) fn new(alloc: Global, queues: u16, items: u16) -> Result<Self, AllocError>
         ensures { IfOk result (λ openings. openings ≡ record { rows = replicate queues []; opened = replicate items [] }) }
     {
         let nodes = 2 * u32::from(items);
@@ -68,7 +67,7 @@ impl Openings {
     {
         let node = free_node(&self.lists, item);
         self.rows[node as usize] = row;
-        self.lists.push_back(u32::from(queue.0), node);
+        self.lists.push_back(u16::from(queue.0), node);
     }
 
     /// The item's queueing of this number is open no more. Its colour is answered.
@@ -87,7 +86,7 @@ impl Openings {
         requires { queue.0 < length self.now.rows }
         ensures { result ≡ slice_get (row_numbers (rows_at self.now.rows queue.0)) 0 }
     {
-        let node = self.lists.first(u32::from(queue.0))?;
+        let node = self.lists.first(u16::from(queue.0))?;
         Some(self.rows[node as usize].number)
     }
 
@@ -96,7 +95,7 @@ impl Openings {
         requires { queue.0 < length self.now.rows }
         ensures { IsTrue result ↔ (rows_at self.now.rows queue.0 ≡ []) }
     {
-        self.lists.len(u32::from(queue.0)) == 0
+        self.lists.len(u16::from(queue.0)) == 0
     }
 
     /// How many are open of a queue.
@@ -104,7 +103,7 @@ impl Openings {
         requires { queue.0 < length self.now.rows }
         ensures { result ≡ length (rows_at self.now.rows queue.0) }
     {
-        self.lists.len(u32::from(queue.0))
+        self.lists.len(u16::from(queue.0))
     }
 
     /// How many items there are.
@@ -122,7 +121,7 @@ impl Openings {
         ensures { IsTrue result ↔ Contains (row_numbers (rows_at self.now.rows queue.0)) number }
     {
         let node = node_of(&self.lists, &self.rows, item, number);
-        let list = u32::from(queue.0);
+        let list = u16::from(queue.0);
         self.lists.len(list) > 0 && self.lists.list_of(node) == Some(list)
     }
 
