@@ -65,6 +65,7 @@ pub IsKept-step : (old new : Slab Queueing) (rows : List Keys) (i : ℕ) (keys :
 IsKept-step old new rows i keys step kept = record {
   few = rw length-set kept.few;
   room = rw (length-set, step.capacity) kept.room;
+  few_keys = rw step.capacity kept.few_keys;
   keys = λ j. ⊎_elim (same j) (other j) (cases_eq j i);
   counted = let more = key_count-set rows i keys step.within in omega (arith, more, step.counted, kept.counted);
 }

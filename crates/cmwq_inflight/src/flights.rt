@@ -6,11 +6,15 @@ use slab::Slab;
 use std::alloc::Global;
 use std::marker::Model;
 
-/// Where an item's queueings stand.
+/// A slab that has room for more has keys past those of a row. One that is asked for room for two of each item never does,
+/// but says only that it has room for so many or more.
+const MOST_KEYS: usize = 1 << 32;
+
+/// Where an item's queueings stand: their keys in the slab.
 #[derive(Clone, Copy, Debug)]
 struct Keys {
-    run: Option<usize>,
-    unstarted: Option<usize>,
+    run: Option<u32>,
+    unstarted: Option<u32>,
 }
 
 impl Keys {
@@ -48,6 +52,9 @@ impl Flights {
     {
         let items = usize::from(items);
         let queueings = Slab::with_capacity(alloc, 2 * items)?;
+        if queueings.capacity() > MOST_KEYS {
+            return Err(NoMemory);
+        }
         let rows = vec![in alloc; Keys::NONE; items]?;
         Ok(Flights { queueings, rows })
     }
@@ -66,7 +73,7 @@ impl Flights {
         ensures of_item { IfSome result (λ queueing. queueing.item.0 ≡ item.0) }
     {
         let key = self.rows[usize::from(item.0)].run?;
-        self.queueings.get(key).copied()
+        self.queueings.get(key as usize).copied()
     }
 
     /// The queueing of an item that hasn't started (the kernel's `WORK_STRUCT_PENDING_BIT`).
@@ -76,7 +83,7 @@ impl Flights {
         ensures of_item { IfSome result (λ queueing. queueing.item.0 ≡ item.0) }
     {
         let key = self.rows[usize::from(item.0)].unstarted?;
-        self.queueings.get(key).copied()
+        self.queueings.get(key as usize).copied()
     }
 
     /// How many queueings are open: those that run, and those that haven't started.
@@ -93,7 +100,7 @@ impl Flights {
         ensures { self.new ≡ flights_with_open self.old queueing }
     {
         let key = self.queueings.insert_reserved(queueing);
-        self.rows[usize::from(queueing.item.0)].unstarted = Some(key);
+        self.rows[usize::from(queueing.item.0)].unstarted = Some(key as u32);
     }
 
     /// An item's unstarted queueing is cancelled or replaced, if it has one (the kernel's `try_to_grab_pending`).
@@ -102,7 +109,7 @@ impl Flights {
         ensures { self.new ≡ flights_without_open self.old item.0 }
     {
         if let Some(key) = self.rows[usize::from(item.0)].unstarted.take() {
-            self.queueings.remove(key);
+            self.queueings.remove(key as usize);
         }
     }
 
@@ -122,6 +129,6 @@ impl Flights {
         ensures { self.new ≡ flights_without_run self.old item.0 }
     {
         let run = self.rows[usize::from(item.0)].run.take().unwrap();
-        self.queueings.remove(run);
+        self.queueings.remove(run as usize);
     }
 }
