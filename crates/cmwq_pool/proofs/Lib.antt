@@ -2,3 +2,4 @@ pub mod Seeing
 pub mod Starting
 pub mod Tasks
 pub mod Walking
+pub mod Workers

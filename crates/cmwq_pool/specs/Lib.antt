@@ -1,5 +1,6 @@
 pub mod Common
 pub mod Slots
+pub mod Workers
 pub mod PoolState
 pub mod Pools
 pub mod Upkeep

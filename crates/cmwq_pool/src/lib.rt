@@ -1,12 +1,13 @@
 //! The worker pools of all CPUs (the kernel's `worker_pool`): their worklists, their workers, and what these run.
 #![tactic(auto)]
 
+mod counts;
 mod listing;
 mod note;
 mod pool_workers;
 mod pools;
+mod reserve;
 mod slot;
-mod slots;
 mod task;
 
 pub use pools::Pools;

@@ -1,28 +1,33 @@
-ghost use Rattle.std.specs.Prelude.{◌≡◌, ◌<◌, length, map, replicate, IsTrue, IsSome, IfOk};
+ghost use Rattle.std.specs.Prelude.{◌≡◌, ◌<◌, length, map, replicate, slice_set, IsTrue, IsSome, IfOk, IfSome, Some};
 ghost use Rattle.std.specs.List.{range_with_len};
-ghost use Rattle.cmwq_pool.specs.Slots.{new_slot, slot_at, slots_runnable, slots_run_item, slots_enlisted_by, slots_started, slot_may_retire, slot_asleep, slot_awake, slot_free, slot_retired, with_slot};
+ghost use Rattle.cmwq_pool.specs.Slots.{new_slot, slot_at, slots_runnable, slots_run_item, slots_enlisted_by, slots_started, slot_may_retire, slot_asleep, slot_awake, slot_free, slot_is_idle, slot_retired, with_enlisted, with_slot};
 
+use crate::counts::WorkerCounts;
+use crate::reserve::{first_reserve, new_reserve, reserve_after};
 use crate::slot::Slot;
-use crate::slots::{count_holding, enlisted_by, have_spare, new_slots, start_task, take_run};
 use crate::task::Task;
 use std::alloc::{AllocError, Global};
 use std::marker::Model;
 
-/// The workers of one pool, as their slots. Only `new` takes memory.
+/// The workers of one pool: their slots, and what is asked of all of them. Only `new` takes memory.
 #[derive(Debug, Drop)]
 pub(crate) struct PoolWorkers {
     slots: Vec<Slot>,
+    counts: WorkerCounts,
+    /// Which of the first 64 are of the reserve, a bit for each.
+    reserve: u64,
 }
 
 impl Model for PoolWorkers {
-    ghost use Rattle.std.specs.Prelude.{◌≤◌, List, length};
+    ghost use Rattle.std.specs.Prelude.{List};
     ghost use Rattle.cmwq_pool.specs.declared.slot.Slot.{Slot};
+    ghost use Rattle.cmwq_pool.specs.Workers.{AreWorkersKept};
 
     ghost Value = { List Slot };
 
     ghost view = { λ a. a.slots.items };
 
-    ghost invariant = { λ a. length a.slots.items ≤ 255 };
+    ghost invariant = { λ a. AreWorkersKept a.slots.items a.counts a.reserve };
 }
 
 impl PoolWorkers {
@@ -31,7 +36,11 @@ impl PoolWorkers {
         ensures { IfOk result (λ made. made ≡ map new_slot (range_with_len 0 workers)) }
     {
         let slots = new_slots(alloc, workers)?;
-        Ok(PoolWorkers { slots })
+        Ok(PoolWorkers {
+            slots,
+            counts: WorkerCounts::new(workers),
+            reserve: new_reserve(workers),
+        })
     }
 
     pub(crate) fn len(&self) -> u8
@@ -48,48 +57,91 @@ impl PoolWorkers {
         self.slots[index]
     }
 
+    /// Puts another slot in a worker's place.
+    fn put(&mut self, worker: u8, slot: Slot)
+        requires { worker < length self.old }
+        ensures { self.new ≡ slice_set self.old worker slot }
+    {
+        self.reserve = reserve_after(self.reserve, &self.slots, worker, &slot);
+        self.counts = self.counts.after(&self.slots, worker, &slot);
+        self.slots[usize::from(worker)] = slot;
+    }
+
     /// How many runs are awake and not CPU intensive.
     pub(crate) fn runnable(&self) -> u32
         ensures { result ≡ slots_runnable self.now }
     {
-        count_holding(&self.slots)
+        u32::from(self.counts.holding)
     }
 
-    /// Whether one of them runs this item.
+    /// Whether one of them runs this item. Where none has a run, no slot is looked at.
     pub(crate) fn run_item(&self, item: u32) -> bool
         ensures { result ≡ slots_run_item self.now item }
     {
-        self.slots.iter().any(|slot| slot.runs(item))
+        self.counts.running > 0 && self.slots.iter().any(|slot| slot.runs(item))
     }
 
-    /// The worker that a start of this one would enlist.
+    /// Whether there is such a worker, and it is idle.
+    fn is_idle(&self, worker: u8) -> bool
+        ensures { result ≡ slot_is_idle (slot_at self.now worker) }
+    {
+        worker < self.len() && self.slot(worker).is_idle()
+    }
+
+    /// The worker that a start of this one would enlist: where no other is idle, the first of the reserve.
     pub(crate) fn would_enlist(&self, worker: u8) -> Option<u8>
         ensures { result ≡ slots_enlisted_by self.now worker }
     {
-        enlisted_by(&self.slots, worker)
+        if self.counts.idle > u8::from(self.is_idle(worker)) {
+            None
+        } else {
+            first_reserve(self.reserve, &self.slots)
+        }
     }
 
-    /// A worker runs a task. Answers whom it enlists.
+    /// A worker is enlisted, if there is one to enlist.
+    fn enlist(&mut self, worker: Option<u8>)
+        requires { IfSome worker (λ x. x < length self.old) }
+        ensures { self.new ≡ with_enlisted worker self.old }
+    {
+        if let Some(index) = worker {
+            let mut slot = self.slot(index);
+            slot.enlisted = true;
+            self.put(index, slot);
+        }
+    }
+
+    /// A worker runs a task, which is awake at first. Answers whom it enlists.
     pub(crate) fn start(&mut self, worker: u8, task: Task) -> Option<u8>
         requires { worker < length self.old }
         ensures started { self.new ≡ slots_started self.old worker task }
         ensures enlisted { result ≡ slots_enlisted_by self.old worker }
     {
-        start_task(&mut self.slots, worker, task)
+        let enlisted = self.would_enlist(worker);
+        let mut slot = self.slot(worker);
+        slot.run = Some(task);
+        slot.asleep = false;
+        self.put(worker, slot);
+        self.enlist(enlisted);
+        enlisted
     }
 
     pub(crate) fn sleep(&mut self, worker: u8)
         requires { worker < length self.old }
         ensures { self.new ≡ with_slot slot_asleep worker self.old }
     {
-        self.slots[usize::from(worker)].asleep = true;
+        let mut slot = self.slot(worker);
+        slot.asleep = true;
+        self.put(worker, slot);
     }
 
     pub(crate) fn wake(&mut self, worker: u8)
         requires { worker < length self.old }
         ensures { self.new ≡ with_slot slot_awake worker self.old }
     {
-        self.slots[usize::from(worker)].asleep = false;
+        let mut slot = self.slot(worker);
+        slot.asleep = false;
+        self.put(worker, slot);
     }
 
     /// A worker has no run any more. Answers the one that it had.
@@ -98,23 +150,38 @@ impl PoolWorkers {
         ensures run { (slot_at self.old worker).run ≡ Some result }
         ensures free { self.new ≡ with_slot slot_free worker self.old }
     {
-        take_run(&mut self.slots, worker)
+        let slot = self.slot(worker);
+        self.put(worker, Slot { run: None, ..slot });
+        slot.run.unwrap()
     }
 
-    /// Whether a worker is idle, and so many are that it may go back to the reserve.
+    /// Whether a worker is idle, and so many are that it may go back to the reserve: more than two, and those past two are a
+    /// quarter of the occupied ones or more.
     pub(crate) fn may_retire(&self, worker: u8) -> bool
         requires { worker < length self.now }
         ensures { result ≡ slot_may_retire self.now worker }
     {
-        self.slot(worker).is_idle() && have_spare(&self.slots)
+        let idle = usize::from(self.counts.idle);
+        self.slot(worker).is_idle()
+            && idle > 2
+            && usize::from(self.counts.occupied) <= (idle - 2) * 4
     }
 
     pub(crate) fn retire(&mut self, worker: u8)
         requires { worker < length self.old }
         ensures { self.new ≡ with_slot slot_retired worker self.old }
     {
-        self.slots[usize::from(worker)].enlisted = false;
+        let mut slot = self.slot(worker);
+        slot.enlisted = false;
+        self.put(worker, slot);
     }
+}
+
+/// The slots of a new pool.
+fn new_slots(alloc: Global, workers: u8) -> Result<Vec<Slot>, AllocError>
+    ensures { IfOk result (λ slots. slots.items ≡ map new_slot (range_with_len 0 workers)) }
+{
+    (0..workers).map(Slot::new).collect(alloc)
 }
 
 /// New workers for so many pools.

@@ -1,5 +1,5 @@
 ghost use Rattle.std.specs.Prelude.{◌≡◌};
-ghost use Rattle.cmwq_pool.specs.Slots.{new_slot, slot_runs_awake, slot_runs_asleep, slot_is_idle, slot_is_occupied, slot_is_holding, slot_runs};
+ghost use Rattle.cmwq_pool.specs.Slots.{new_slot, slot_has_run, slot_runs_awake, slot_runs_asleep, slot_is_idle, slot_is_occupied, slot_is_holding, slot_runs};
 
 use crate::task::Task;
 
@@ -31,6 +31,13 @@ impl Slot {
         ensures { result ≡ slot_is_idle self.now }
     {
         self.enlisted && self.run.is_none()
+    }
+
+    /// Whether the worker has a run.
+    pub(crate) fn has_run(&self) -> bool
+        ensures { result ≡ slot_has_run self.now }
+    {
+        self.run.is_some()
     }
 
     /// Whether the worker has a run that is awake, which may sleep and end.
