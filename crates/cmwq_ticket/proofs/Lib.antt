@@ -2,3 +2,4 @@ mod Counting
 mod Looking
 mod RowSteps
 mod Upkeep
+pub mod Waits

@@ -1,6 +1,9 @@
 -- What is kept true of the rows and the counts, as tickets come and go.
 use Rattle.cmwq_ticket.specs.Common.{◌≡◌, ℕ, ◌+◌, ◌-◌, ◌<◌, ◌≤◌, Bool, true, not, List, [], ◌∷◌, ◌++◌, length, get_or, filter, find, count_by, All, AllPairs, IsTrue, Option, Some, None, is_some, refl, sym, ap, ◌∙◌, arith, ⊎_elim, replicate, sum_by, zero, suc, mul-zero, nat_lt, slice_set, slice_index, list_all, and_parts, ltb-true, cases_lt, nat_tests, length-append, length-set, length-replicate, get_or_past, get_or_read_under, sum_by-replicate, sum_by-set, sum_by-cons, sum_by-le, Call, Ticket, cancels_sync, drains, destroys, is_cancel_sync_of, is_destroy_of, is_drain_of}
-use Rattle.std.proofs.lemmas.List.Elements.{All-set, All-replicate}
+use Rattle.std.proofs.lemmas.List.Elements.{All-filter, All-push, All-replicate, All-set}
+use Rattle.std.proofs.Common.{subst}
+use Rattle.cmwq_ticket.specs.Common.{cases_eq, get_or-set_other, get_or-set_same}
+use Rattle.cmwq_ticket.specs.Waits.{AreOfCaller}
 use Rattle.cmwq_model.specs.declared.call.Call.TheVariants as call
 use Rattle.cmwq_ticket.specs.Counts.{TicketCounts, AreExact, AreSized, HasCount, HaveRoom, is_counted, counts_with, counts_without, no_counts, IsExact}
 use Rattle.cmwq_ticket.specs.Rows.{TicketBook, TicketRows, tickets_of_caller, rows_with, rows_without, ticket_of_caller, is_row_crowded, is_numbered, is_other_ticket, comes_before, may_give, count, IsOlderTicket, IsRow}
@@ -157,12 +160,22 @@ may_give_parts b t may =
       counted = outer.1;
     }
 
+-- one row changes, and has its caller's tickets alone
+own_set : (rows : TicketRows) (k : ℕ) (row : List Ticket) → k < length rows → AreOfCaller k row → ((c : ℕ) → AreOfCaller c (tickets_of_caller rows c)) → (c : ℕ) → AreOfCaller c (tickets_of_caller (slice_set rows k row) c)
+own_set rows k row there new own c = ⊎_elim
+    (λ same. let F : ℕ → Type 0 = λ i. AreOfCaller i (tickets_of_caller (slice_set rows k row) i) in
+    let G : List Ticket → Type 0 = λ xs. AreOfCaller k xs in
+    subst F (sym same) (subst G (sym (get_or-set_same rows k row [] there)) new))
+    (λ differs. let G : List Ticket → Type 0 = λ xs. AreOfCaller c xs in subst G (sym (get_or-set_other rows k c row [] differs)) (own c))
+    (cases_eq c k)
+
 pub AreKept-given : (items queues : ℕ) (a : TicketCounts) (rows : TicketRows) (len : ℕ) (t : Ticket) (place : ℕ) (row : List Ticket) (b : TicketCounts) → AreKept items queues rows a len → may_give (record { items = items; queues = queues; rows = rows }) t ≡ true → place ≡ t.caller.0 → row ≡ tickets_of_caller rows t.caller.0 ++ t ∷ [] → b ≡ counts_with t.call a → AreKept items queues (slice_set rows place row) b (len + 1)
 AreKept-given items queues a rows len t place row b kept may at is now =
     let parts = may_give_parts (record { items = items; queues = queues; rows = rows }) t may in
     rw (at, is, now) (record {
       few = let same = length-set rows t.caller.0 (tickets_of_caller rows t.caller.0 ++ t ∷ []) in let few = kept.few in omega arith;
       in_order = All-set IsRow rows t.caller.0 _ (IsRow-push (tickets_of_caller rows t.caller.0) t parts.before parts.room (kept.in_order t.caller.0 [] parts.there)) kept.in_order;
+      own = own_set rows t.caller.0 (tickets_of_caller rows t.caller.0 ++ t ∷ []) parts.there (All-push (λ (u : Ticket). u.caller.0 ≡ t.caller.0) (tickets_of_caller rows t.caller.0) t (kept.own t.caller.0) refl) kept.own;
       sized = AreSized-raised items queues t.call a kept.sized;
       exact = AreExact-given items queues a rows kept.exact kept.sized t t.call refl parts.there parts.counted;
       all = let more = count_given rows t parts.there in let was = kept.all in omega arith;
@@ -174,6 +187,7 @@ AreKept-ended items queues a rows len c n t place row b kept there found at is n
     rw (at, is, now) (record {
       few = let same = length-set rows c (filter (is_other_ticket n) (tickets_of_caller rows c)) in let few = kept.few in omega arith;
       in_order = All-set IsRow rows c _ (IsRow-filter (is_other_ticket n) (tickets_of_caller rows c) (kept.in_order c [] there)) kept.in_order;
+      own = own_set rows c (filter (is_other_ticket n) (tickets_of_caller rows c)) there (All-filter (is_other_ticket n) (λ (u : Ticket). u.caller.0 ≡ c) (tickets_of_caller rows c) (kept.own c)) kept.own;
       sized = AreSized-lowered items queues t.call a kept.sized;
       exact = AreExact-ended a rows kept.exact c n t there rise found t.call refl;
       all = let less = count_ended rows c n t there rise found in let was = kept.all in omega arith;
@@ -192,10 +206,16 @@ zero_counts (suc n) (suc i) = zero_counts n i
 zero_exact : (p : ℕ → Ticket → Bool) (n callers : ℕ) → IsExact p (replicate n 0) (replicate callers [])
 zero_exact p n callers i = zero_counts n i ∙ sym (zero_rows (count_by (p i)) refl callers)
 
+none_at_first : (n c : ℕ) → tickets_of_caller (replicate n []) c ≡ []
+none_at_first zero c = refl
+none_at_first (suc n) zero = refl
+none_at_first (suc n) (suc c) = none_at_first n c
+
 pub AreKept-new : (callers items queues : ℕ) (rows : TicketRows) (a : TicketCounts) → callers < 256 → rows ≡ replicate callers [] → a ≡ no_counts items queues → AreKept items queues rows a 0
 AreKept-new callers items queues rows a few is none = rw (is, none) (record {
   few = let size : length (replicate {A = List Ticket} callers []) ≡ callers = length-replicate callers [] in omega arith;
   in_order = All-replicate IsRow callers [] (record { rising = λ i j e before less. absurd (omega arith); few = omega arith });
+  own = λ c. rw (none_at_first callers c) (λ j d less. absurd (omega arith));
   sized = record { cancels = length-replicate {A = ℕ} items 0; destroys = length-replicate {A = ℕ} queues 0; drains = length-replicate {A = ℕ} queues 0 };
   exact = record { cancels = zero_exact is_cancel_sync_of items callers; destroys = zero_exact is_destroy_of queues callers; drains = zero_exact is_drain_of queues callers };
   all = sym (zero_rows length refl callers);

@@ -1,4 +1,5 @@
 pub mod Common
 pub mod Counts
 pub mod Rows
+pub mod Waits
 pub mod Upkeep

@@ -1,6 +1,6 @@
 use Rattle.std.proofs.Common.{rules}
 use Rattle.std.proofs.lemmas.Fn.{filter_same}
-use Rattle.cmwq_ticket.proofs.row.remove_ticket.Goals as goal
+use Rattle.cmwq_ticket.proofs.row.remove_wait.Goals as goal
 
 pub returns-clause-rest : goal.returns-clause-rest
 returns-clause-rest c = filter_same _ _ _ (λ x b f' k. search rules) _ _ c.retain.ensures.filtered
