@@ -1,3 +1,4 @@
+pub mod Noting
 pub mod Seeing
 pub mod Starting
 pub mod Tasks

@@ -3,4 +3,5 @@ pub mod Slots
 pub mod Workers
 pub mod PoolState
 pub mod Pools
+pub mod Notes
 pub mod Upkeep

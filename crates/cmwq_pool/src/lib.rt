@@ -4,6 +4,7 @@
 mod counts;
 mod listing;
 mod note;
+mod notes;
 mod pool_workers;
 mod pools;
 mod reserve;

@@ -7,19 +7,19 @@ ghost use Rattle.cmwq_pool.specs.Slots.{slots_run_item};
 ghost use Rattle.cmwq_pool.specs.PoolState.{is_task};
 ghost use Rattle.cmwq_pool.specs.Upkeep.{noted_task};
 
-use crate::note::Note;
+use crate::notes::Notes;
 use crate::pool_workers::PoolWorkers;
 use crate::task::Task;
 use cmwq_list::Lists;
 use cmwq_model::{ItemId, Number};
 
 /// The task of an item that a pool lists.
-pub(crate) fn task_of(notes: &[Note], item: u32) -> Task
+pub(crate) fn task_of(notes: &Notes, item: u32) -> Task
     requires item { item < length notes.now }
     requires few { length notes.now < 2 ^ 16 }
     ensures { result ≡ noted_task notes.now item }
 {
-    let note = notes[item as usize];
+    let note = notes.get(item as usize);
     Task {
         number: note.number,
         item: ItemId(item as u16),
@@ -47,7 +47,7 @@ pub(crate) fn first_free(lists: &Lists, list: u16, workers: &PoolWorkers) -> Opt
 /// Whether this queueing of an item stands in a list.
 pub(crate) fn is_listed(
     lists: &Lists,
-    notes: &[Note],
+    notes: &Notes,
     list: u16,
     number: Number,
     item: ItemId,
@@ -58,7 +58,7 @@ pub(crate) fn is_listed(
     ensures once { AreListedOnce lists.now }
 {
     let index = usize::from(item.0);
-    if lists.len(list) == 0 || index >= notes.len() || notes[index].number != number {
+    if lists.len(list) == 0 || index >= notes.len() || notes.get(index).number != number {
         return false;
     }
     match lists.list_of(u32::from(item.0)) {

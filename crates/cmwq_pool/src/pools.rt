@@ -5,6 +5,7 @@ ghost use Rattle.cmwq_pool.specs.Pools.{pool_numbered, with_pool, may_list};
 
 use crate::listing::{first_free, is_listed, task_of};
 use crate::note::Note;
+use crate::notes::Notes;
 use crate::pool_workers::{PoolWorkers, new_workers};
 use crate::slot::Slot;
 use crate::task::Task;
@@ -20,7 +21,7 @@ pub struct Pools {
     /// The items that each pool lists, in their order.
     lists: Lists,
     /// What is kept of each item that is listed.
-    notes: Vec<Note>,
+    notes: Notes,
     workers: Vec<PoolWorkers>,
 }
 
@@ -31,9 +32,9 @@ impl Model for Pools {
 
     ghost Value = { List PoolState };
 
-    ghost view = { λ a. pools_seen a.lists a.notes.items a.workers.items };
+    ghost view = { λ a. pools_seen a.lists a.notes a.workers.items };
 
-    ghost invariant = { λ a. ArePoolsKept a.lists a.notes.items a.workers.items };
+    ghost invariant = { λ a. ArePoolsKept a.lists a.notes a.workers.items };
 }
 
 impl Pools {
@@ -43,11 +44,7 @@ impl Pools {
         ensures { IfOk result (λ made. made ≡ replicate pools (new_pool_state items workers)) }
     {
         let lists = Lists::new(alloc, pools, u32::from(items))?;
-        let unlisted = Note {
-            number: 0,
-            intensive: false,
-        };
-        let notes = vec![in alloc; unlisted; usize::from(items)]?;
+        let notes = Notes::new(alloc, items)?;
         let workers = new_workers(alloc, pools, workers)?;
         Ok(Pools {
             lists,
@@ -77,7 +74,8 @@ impl Pools {
         requires free { IsTrue (may_list self.old pool item.0) }
         ensures { self.new ≡ with_pool (λ l. pool_with_task l (task number item.0 intensive)) pool self.old }
     {
-        self.notes[usize::from(item.0)] = Note { number, intensive };
+        self.notes
+            .set(usize::from(item.0), Note { number, intensive });
         self.lists.push_back(pool, u32::from(item.0));
     }
 

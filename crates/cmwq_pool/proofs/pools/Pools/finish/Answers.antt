@@ -9,26 +9,26 @@ use Rattle.cmwq_pool.proofs.pools.Pools.finish.Goals as goal
 pub index_mut-requires : goal.index_mut-requires
 index_mut-requires c =
     let s = c.self.inside in
-    let low : c.args.pool < length s.workers.items = there s.lists s.notes.items s.workers.items c.args.self.now c.args.pool c.self.view_is c.requires.pool in
+    let low : c.args.pool < length s.workers.items = there s.lists s.notes s.workers.items c.args.self.now c.args.pool c.self.view_is c.requires.pool in
     omega (arith, low, c.from.ensures, s.workers.ok.0)
 
 pub finish-task-requires : goal.finish-task-requires
 finish-task-requires c =
     let s = c.self.inside in
-    let low : c.args.pool < length s.workers.items = there s.lists s.notes.items s.workers.items c.args.self.now c.args.pool c.self.view_is c.requires.pool in
-    let same = slots_at s.lists s.notes.items s.workers.items c.args.self.now c.args.pool c.from.result c.index_mut.result.now c.self.view_is low c.from.ensures c.index_mut.ensures.value in
+    let low : c.args.pool < length s.workers.items = there s.lists s.notes s.workers.items c.args.self.now c.args.pool c.self.view_is c.requires.pool in
+    let same = slots_at s.lists s.notes s.workers.items c.args.self.now c.args.pool c.from.result c.index_mut.result.now c.self.view_is low c.from.ensures c.index_mut.ensures.value in
     (and_parts _ _ (subst (λ slots. slot_runs_awake (slot_at slots c.args.worker) ≡ true) same c.requires.awake)).0
 
 pub returns-clause-free : goal.returns-clause-free
 returns-clause-free c =
     let s = c.self.inside in
-    let low : c.args.pool < length s.workers.items = there s.lists s.notes.items s.workers.items c.args.self.now c.args.pool c.self.view_is c.requires.pool in
-    rw (← c.self.view_is) (slots_changed s.lists s.notes.items s.workers.items c.args.pool low (with_slot slot_free c.args.worker) _
+    let low : c.args.pool < length s.workers.items = there s.lists s.notes s.workers.items c.args.self.now c.args.pool c.self.view_is c.requires.pool in
+    rw (← c.self.view_is) (slots_changed s.lists s.notes s.workers.items c.args.pool low (with_slot slot_free c.args.worker) _
     (placed s.workers.items c.args.pool c.from.result c.index_mut.result.now c.finish-task.new.self (with_slot slot_free c.args.worker) low c.from.ensures c.index_mut.ensures.value c.finish-task.ensures.free))
 
 pub returns-clause-number : goal.returns-clause-number
 returns-clause-number c =
     let s = c.self.inside in
-    let low : c.args.pool < length s.workers.items = there s.lists s.notes.items s.workers.items c.args.self.now c.args.pool c.self.view_is c.requires.pool in
-    let same = slots_at s.lists s.notes.items s.workers.items c.args.self.now c.args.pool c.from.result c.index_mut.result.now c.self.view_is low c.from.ensures c.index_mut.ensures.value in
+    let low : c.args.pool < length s.workers.items = there s.lists s.notes s.workers.items c.args.self.now c.args.pool c.self.view_is c.requires.pool in
+    let same = slots_at s.lists s.notes s.workers.items c.args.self.now c.args.pool c.from.result c.index_mut.result.now c.self.view_is low c.from.ensures c.index_mut.ensures.value in
     ap (λ slots. run_number (slot_at slots c.args.worker)) same ∙ ap (option_map (λ (t : Task). t.number)) c.finish-task.ensures.run

@@ -14,24 +14,24 @@ use Rattle.cmwq_pool.proofs.pools.Pools.start.Goals as goal
 pub index_mut-workers-requires : goal.index_mut-workers-requires
 index_mut-workers-requires c =
     let s = c.self.inside in
-    let low : c.args.pool < length s.workers.items = there s.lists s.notes.items s.workers.items c.args.self.now c.args.pool c.self.view_is c.requires.pool in
+    let low : c.args.pool < length s.workers.items = there s.lists s.notes s.workers.items c.args.self.now c.args.pool c.self.view_is c.requires.pool in
     omega (arith, low, c.from.ensures, s.workers.ok.0)
 
 pub first_free-requires : goal.first_free-requires
 first_free-requires c =
     let s = c.self.inside in
-    let low : c.args.pool < length s.workers.items = there s.lists s.notes.items s.workers.items c.args.self.now c.args.pool c.self.view_is c.requires.pool in
+    let low : c.args.pool < length s.workers.items = there s.lists s.notes s.workers.items c.args.self.now c.args.pool c.self.view_is c.requires.pool in
     omega (arith, low, c.self.invariant.many)
 
 pub unwrap-item-requires : goal.unwrap-item-requires
 unwrap-item-requires c =
     let s = c.self.inside in
-    let low : c.args.pool < length s.workers.items = there s.lists s.notes.items s.workers.items c.args.self.now c.args.pool c.self.view_is c.requires.pool in
+    let low : c.args.pool < length s.workers.items = there s.lists s.notes s.workers.items c.args.self.now c.args.pool c.self.view_is c.requires.pool in
     let slots = c.index_mut-workers.result.now in
     let is = at_place s.workers.items c.args.pool c.from.result slots low c.from.ensures c.index_mut-workers.ensures.value in
     let first = c.first_free.ensures.first in
-    let next = ap (λ ps. next_task (pool_numbered ps c.args.pool)) (sym c.self.view_is) ∙ (next_seen s.lists s.notes.items s.workers.items c.args.pool low slots is ∙ ap (option_map (noted_task s.notes.items)) (sym first)) in
-    some_first (λ (t : Task). t.number) (noted_task s.notes.items) c.first_free.result (ap (λ o. is_some (option_map (λ (t : Task). t.number) o)) (sym next) ∙ c.requires.next)
+    let next = ap (λ ps. next_task (pool_numbered ps c.args.pool)) (sym c.self.view_is) ∙ (next_seen s.lists s.notes s.workers.items c.args.pool low slots is ∙ ap (option_map (noted_task s.notes)) (sym first)) in
+    some_first (λ (t : Task). t.number) (noted_task s.notes) c.first_free.result (ap (λ o. is_some (option_map (λ (t : Task). t.number) o)) (sym next) ∙ c.requires.next)
 
 pub remove-requires : goal.remove-requires
 remove-requires c =
@@ -46,32 +46,32 @@ task_of-requires-clause-item c =
     let slots = c.index_mut-workers.result.now in
     let here = found_has (λ i. not (slots_run_item slots i)) (list_at s.lists.lists c.args.pool) c.unwrap-item.result (sym c.first_free.ensures.first ∙ c.unwrap-item.ensures) in
     let known = c.first_free.ensures.once.known c.unwrap-item.result c.args.pool here in
-    rw c.deref.ensures.value (omega (arith, known, c.self.invariant.noted))
+    omega (arith, known, c.self.invariant.noted)
 
 pub start-requires : goal.start-requires
 start-requires c =
     let s = c.self.inside in
-    let low : c.args.pool < length s.workers.items = there s.lists s.notes.items s.workers.items c.args.self.now c.args.pool c.self.view_is c.requires.pool in
-    let same = slots_at s.lists s.notes.items s.workers.items c.args.self.now c.args.pool c.from.result c.index_mut-workers.result.now c.self.view_is low c.from.ensures c.index_mut-workers.ensures.value in
+    let low : c.args.pool < length s.workers.items = there s.lists s.notes s.workers.items c.args.self.now c.args.pool c.self.view_is c.requires.pool in
+    let same = slots_at s.lists s.notes s.workers.items c.args.self.now c.args.pool c.from.result c.index_mut-workers.result.now c.self.view_is low c.from.ensures c.index_mut-workers.ensures.value in
     in_range slot_is_idle c.index_mut-workers.result.now c.args.worker refl (subst (λ slots. slot_is_idle (slot_at slots c.args.worker) ≡ true) same c.requires.idle)
 
 pub returns-clause-started : goal.returns-clause-started
 returns-clause-started c =
     let s = c.self.inside in
-    let low : c.args.pool < length s.workers.items = there s.lists s.notes.items s.workers.items c.args.self.now c.args.pool c.self.view_is c.requires.pool in
+    let low : c.args.pool < length s.workers.items = there s.lists s.notes s.workers.items c.args.self.now c.args.pool c.self.view_is c.requires.pool in
     let slots = c.index_mut-workers.result.now in
     let item = c.unwrap-item.result in
     let is = at_place s.workers.items c.args.pool c.from.result slots low c.from.ensures c.index_mut-workers.ensures.value in
     let first = c.first_free.ensures.first in
-    let next : next_task (pool_numbered (pools_seen s.lists s.notes.items s.workers.items) c.args.pool) ≡ Some (noted_task s.notes.items item) = next_seen s.lists s.notes.items s.workers.items c.args.pool low slots is ∙ ap (option_map (noted_task s.notes.items)) (sym first ∙ c.unwrap-item.ensures) in
+    let next : next_task (pool_numbered (pools_seen s.lists s.notes s.workers.items) c.args.pool) ≡ Some (noted_task s.notes item) = next_seen s.lists s.notes s.workers.items c.args.pool low slots is ∙ ap (option_map (noted_task s.notes)) (sym first ∙ c.unwrap-item.ensures) in
     let here = found_has (λ i. not (slots_run_item slots i)) (list_at s.lists.lists c.args.pool) item (sym first ∙ c.unwrap-item.ensures) in
-    let made = c.start.ensures.started ∙ ap (slots_started slots c.args.worker) (c.task_of.ensures ∙ ap (λ notes. noted_task notes item) c.deref.ensures.value) in
-    let written = placed s.workers.items c.args.pool c.from.result slots c.start.new.self (λ old. slots_started old c.args.worker (noted_task s.notes.items item)) low c.from.ensures c.index_mut-workers.ensures.value made in
-    rw (← c.self.view_is, next, c.remove.ensures.rest) (item_started s.lists s.notes.items s.workers.items c.args.pool low c.args.worker item _ c.self.invariant.many c.first_free.ensures.once here written)
+    let made = c.start.ensures.started ∙ ap (slots_started slots c.args.worker) c.task_of.ensures in
+    let written = placed s.workers.items c.args.pool c.from.result slots c.start.new.self (λ old. slots_started old c.args.worker (noted_task s.notes item)) low c.from.ensures c.index_mut-workers.ensures.value made in
+    rw (← c.self.view_is, next, c.remove.ensures.rest) (item_started s.lists s.notes s.workers.items c.args.pool low c.args.worker item _ c.self.invariant.many c.first_free.ensures.once here written)
 
 pub returns-clause-enlisted : goal.returns-clause-enlisted
 returns-clause-enlisted c =
     let s = c.self.inside in
-    let low : c.args.pool < length s.workers.items = there s.lists s.notes.items s.workers.items c.args.self.now c.args.pool c.self.view_is c.requires.pool in
-    let same = slots_at s.lists s.notes.items s.workers.items c.args.self.now c.args.pool c.from.result c.index_mut-workers.result.now c.self.view_is low c.from.ensures c.index_mut-workers.ensures.value in
+    let low : c.args.pool < length s.workers.items = there s.lists s.notes s.workers.items c.args.self.now c.args.pool c.self.view_is c.requires.pool in
+    let same = slots_at s.lists s.notes s.workers.items c.args.self.now c.args.pool c.from.result c.index_mut-workers.result.now c.self.view_is low c.from.ensures c.index_mut-workers.ensures.value in
     c.start.ensures.enlisted ∙ ap (λ slots. slots_enlisted_by slots c.args.worker) (sym same)
