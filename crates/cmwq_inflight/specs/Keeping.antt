@@ -41,6 +41,6 @@ key_count rows = count_by has_run_key rows + count_by has_unstarted_key rows
 pub record AreFlightsKept (slab : Slab Queueing) (rows : List Keys) : Type 0 where
   pub few : length rows < 2 ^ 16
   pub room : 2 * length rows ≤ slab.capacity
-  pub few_keys : slab.capacity ≤ 2 ^ 32
+  pub few_keys : slab.capacity < 2 ^ 32
   pub keys : (i : ℕ) → AreKeysOf slab i (keys_at rows i)
   pub counted : slab_len slab ≡ key_count rows

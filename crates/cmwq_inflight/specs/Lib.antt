@@ -1,2 +1,3 @@
 pub mod Flights
+pub mod Key
 pub mod Keeping

@@ -1,6 +1,7 @@
 ghost use Rattle.std.specs.Prelude.{◌≡◌, ◌<◌, Some, None, IfOk, IfSome, IsSome, length, replicate, slice_set};
 ghost use Rattle.cmwq_inflight.specs.Flights.{no_flight, flight_at, open_count, flights_with_open, flights_without_open, flights_with_run, flights_without_run};
 
+use crate::key::Key;
 use cmwq_model::{ItemId, NoMemory, Queueing};
 use slab::Slab;
 use std::alloc::Global;
@@ -8,20 +9,13 @@ use std::marker::Model;
 
 /// A slab that has room for more has keys past those of a row. One that is asked for room for two of each item never does,
 /// but says only that it has room for so many or more.
-const MOST_KEYS: usize = 1 << 32;
+const MOST_KEYS: usize = u32::MAX as usize;
 
 /// Where an item's queueings stand: their keys in the slab.
 #[derive(Clone, Copy, Debug)]
 struct Keys {
-    run: Option<u32>,
-    unstarted: Option<u32>,
-}
-
-impl Keys {
-    const NONE: Keys = Keys {
-        run: None,
-        unstarted: None,
-    };
+    run: Key,
+    unstarted: Key,
 }
 
 /// The queueings in flight of all items of a runtime. An item has at most one that runs and one that hasn't started.
@@ -55,7 +49,11 @@ impl Flights {
         if queueings.capacity() > MOST_KEYS {
             return Err(NoMemory);
         }
-        let rows = vec![in alloc; Keys::NONE; items]?;
+        let keys = Keys {
+            run: Key::none(),
+            unstarted: Key::none(),
+        };
+        let rows = vec![in alloc; keys; items]?;
         Ok(Flights { queueings, rows })
     }
 
@@ -72,8 +70,8 @@ impl Flights {
         ensures run { result ≡ (flight_at self.now item.0).run }
         ensures of_item { IfSome result (λ queueing. queueing.item.0 ≡ item.0) }
     {
-        let key = self.rows[usize::from(item.0)].run?;
-        self.queueings.get(key as usize).copied()
+        let key = self.rows[usize::from(item.0)].run.get()?;
+        self.queueings.get(key).copied()
     }
 
     /// The queueing of an item that hasn't started (the kernel's `WORK_STRUCT_PENDING_BIT`).
@@ -82,8 +80,8 @@ impl Flights {
         ensures unstarted { result ≡ (flight_at self.now item.0).unstarted }
         ensures of_item { IfSome result (λ queueing. queueing.item.0 ≡ item.0) }
     {
-        let key = self.rows[usize::from(item.0)].unstarted?;
-        self.queueings.get(key as usize).copied()
+        let key = self.rows[usize::from(item.0)].unstarted.get()?;
+        self.queueings.get(key).copied()
     }
 
     /// How many queueings are open: those that run, and those that haven't started.
@@ -100,7 +98,7 @@ impl Flights {
         ensures { self.new ≡ flights_with_open self.old queueing }
     {
         let key = self.queueings.insert_reserved(queueing);
-        self.rows[usize::from(queueing.item.0)].unstarted = Some(key as u32);
+        self.rows[usize::from(queueing.item.0)].unstarted = Key::some(key);
     }
 
     /// An item's unstarted queueing is cancelled or replaced, if it has one (the kernel's `try_to_grab_pending`).
@@ -109,7 +107,7 @@ impl Flights {
         ensures { self.new ≡ flights_without_open self.old item.0 }
     {
         if let Some(key) = self.rows[usize::from(item.0)].unstarted.take() {
-            self.queueings.remove(key as usize);
+            self.queueings.remove(key);
         }
     }
 
@@ -120,7 +118,8 @@ impl Flights {
         ensures { self.new ≡ flights_with_run self.old item.0 }
     {
         let row = &mut self.rows[usize::from(item.0)];
-        row.run = row.unstarted.take();
+        row.run = row.unstarted;
+        row.unstarted = Key::none();
     }
 
     /// An item's run ends.
@@ -129,6 +128,6 @@ impl Flights {
         ensures { self.new ≡ flights_without_run self.old item.0 }
     {
         let run = self.rows[usize::from(item.0)].run.take().unwrap();
-        self.queueings.remove(run as usize);
+        self.queueings.remove(run);
     }
 }

@@ -2,5 +2,6 @@
 #![tactic(auto)]
 
 mod flights;
+mod key;
 
 pub use flights::Flights;
