@@ -54,9 +54,9 @@ abbrev pub MayOpenInNumbers : Option Queueing → List (List ℕ) → Type 0
 MayOpenInNumbers None opened = Unit {0}
 MayOpenInNumbers (Some x) opened = (x.item.0 < length opened) × (length (numbers_open opened x.item.0) < 2)
 
-pub record MayApplyToNumbers (past : List Entry) (e : Entry) (opened : List (List ℕ)) : Type 0 where
-  pub ended : MayEndInNumbers (ending past e) opened
-  pub opened : MayOpenInNumbers (opening past e) (numbers_after_end (ending past e) opened)
+pub record MayApplyToNumbers (past : List Entry) (e : Entry) (numbers : List (List ℕ)) : Type 0 where
+  pub ended : MayEndInNumbers (ending past e) numbers
+  pub opened : MayOpenInNumbers (opening past e) (numbers_after_end (ending past e) numbers)
 
 -- so it is in a legal history
 abbrev pub EntriesApplyToNumbers : Type 0
