@@ -1,5 +1,5 @@
 -- How many rows have each colour, as one comes and goes.
-use Rattle.cmwq_flush.specs.Common.{Bool, ◌≡◌, ℕ, ◌+◌, ◌-◌, ◌<◌, true, false, cond, List, [], ◌∷◌, ◌++◌, ◌≤◌, All, length, get_or, set, suc, sym, refl, ◌⊎◌, ap, ◌∙◌, arith, ⊎_elim, slice_index, remove, cases_eq, nat_tests, get_or-set_same, get_or-set_other, sum_by-remove, all_pairs_remove, All-append, All-take, All-drop, All-push, all_pairs_push, count_by-le-length, get_or-le-sum_by}
+use Rattle.cmwq_flush.specs.Common.{Bool, ◌≡◌, ℕ, ◌+◌, ◌-◌, ◌<◌, true, false, cond, List, [], ◌∷◌, ◌++◌, All, length, get_or, set, suc, sym, refl, ◌⊎◌, ap, ◌∙◌, arith, ⊎_elim, slice_index, remove, cases_eq, nat_tests, get_or-set_same, get_or-set_other, sum_by-remove, all_pairs_remove, All-append, All-take, All-drop, All-push, all_pairs_push}
 use Rattle.std.proofs.lemmas.List.{length-set}
 use Rattle.std.specs.Prelude.{◌==◌, ◌↔◌}
 use Rattle.std.specs.List.{list_all}
@@ -65,19 +65,6 @@ IsTally-push rows counts r later low is = record {
   coloured = let IsColoured : Row → Type 0 = λ s. s.colour < 16 in All-push IsColoured rows r is.coloured low;
   exact = λ c below. exact_push rows counts r low is c below (cases_eq c r.colour);
 }
-
--- a count is at most how many rows there are, and not 0 where a row has the colour
-pub count_few : (rows : List Row) (counts : List ℕ) (c : ℕ) → c < 16 → IsTally rows counts → slice_index counts c ≤ length rows
-count_few rows counts c low is = let exact = is.exact c low in let few = count_by-le-length (has_colour c) rows in omega arith
-
-pub count_some : (rows : List Row) (counts : List ℕ) (i : ℕ) (r : Row) → i < length rows → get_or rows i r ≡ r → IsTally rows counts → 0 < slice_index counts r.colour
-count_some rows counts i r lt at is =
-    let low : r.colour < 16 = rw at at (is.coloured i r lt) in
-    let exact = is.exact r.colour low in
-    let one = get_or-le-sum_by (λ (s : Row). cond (has_colour r.colour s) 1 0) rows i r lt in
-    let hit : has_colour r.colour (get_or rows i r) ≡ true = let same = ap (λ (s : Row). s.colour) at in grind (arith, nat_tests) in
-    let counted : 1 ≤ colour_count r.colour rows = rw hit at one in
-    omega arith
 
 -- what counts that are 0 say of rows
 pub clear_told : (rows : List Row) (counts colours : List ℕ) → IsTally rows counts → All (λ c. c < 16) colours → (list_all (λ c. slice_index counts c == 0) colours ≡ true) ↔ AreUnused rows colours

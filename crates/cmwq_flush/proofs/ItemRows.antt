@@ -1,14 +1,8 @@
 -- What a wait for an item finds among the item's open numbers.
-use Rattle.cmwq_flush.specs.Common.{◌≡◌, ℕ, ◌<◌, ◌≤◌, Bool, true, false, not, cond, List, [], ◌∷◌, get_or, suc, Option, Some, None, IfSome, is_some, sym, refl, ◌∙◌, arith, ⊎_elim, find, All, AllPairs, ◌↔◌, cases_lt, false≢true, nat_tests, All-cons}
-use Rattle.cmwq_flush.specs.declared.barrier.Barrier.{Barrier}
+use Rattle.cmwq_flush.specs.Common.{◌≡◌, ℕ, ◌<◌, ◌≤◌, Bool, true, false, not, cond, List, [], ◌∷◌, suc, Option, Some, None, IfSome, is_some, sym, refl, ◌∙◌, arith, ⊎_elim, find, All, ◌↔◌, cases_lt, false≢true, nat_tests, All-cons}
 use Rattle.cmwq_flush.specs.Numbers.{AreRising}
-use Rattle.cmwq_flush.specs.Waits.{IsOlderBarrier, BarriersHaveTicketAt}
-use Rattle.cmwq_flush.specs.BarrierBook.{BarrierBook, ticket_of_barrier, numbers_before, numbers_open, is_up_to}
-use Rattle.cmwq_flush.proofs.Search.{find_at_key, find_none}
-
--- what a wait is for
-pub numbers_before-at : (b : BarrierBook) (t place : ℕ) (w : Barrier) → AllPairs IsOlderBarrier b.barriers → BarriersHaveTicketAt b.barriers t place → w ≡ get_or b.barriers place w → numbers_before b t ≡ numbers_open b w.item.0
-numbers_before-at b t place w rise at is_w = rw (find_at_key ticket_of_barrier b.barriers t rise w place at, ← is_w) refl
+use Rattle.cmwq_flush.specs.ItemNumbers.{is_up_to}
+use Rattle.cmwq_flush.proofs.Search.{find_none}
 
 all_above : (n x : ℕ) (ns : List ℕ) → AreRising (x ∷ ns) → n ≤ x → All (λ m. n ≤ m) (x ∷ ns)
 all_above n x ns rise le k d lt = ⊎_elim (λ (later : 0 < k). let above = rise 0 k d later lt in omega arith) (λ (first : k ≤ 0). let here : k ≡ 0 = omega arith in rw here le) (cases_lt 0 k)

@@ -1,6 +1,7 @@
 mod Search
 mod Nodes
 mod NodeNumbers
+mod OverflowNodes
 mod Opening
 mod Counts
 mod Waiting

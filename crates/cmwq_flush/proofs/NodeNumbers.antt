@@ -9,13 +9,14 @@ use Rattle.cmwq_lemmas.proofs.Truth.{or_true, or_false, and_true, and_false}
 use Rattle.cmwq_list.specs.Lists.{without_item, list_at}
 use Rattle.cmwq_flush.specs.declared.openings.Row.{Row}
 use Rattle.cmwq_flush.specs.Numbers.{AreRising, without}
-use Rattle.cmwq_flush.specs.Rows.{no_row, numbers_at}
+use Rattle.cmwq_flush.specs.Rows.{no_row}
+use Rattle.cmwq_flush.specs.ItemNumbers.{numbers_open}
 use Rattle.cmwq_flush.specs.Openings.{is_listed, node_row, node_number, by_age, numbers_of_nodes, opened_by}
 use Rattle.cmwq_flush.proofs.Nodes.{listed-pushed, listed-removed}
 
 -- ---- of all items
 
-pub opened_at : (lists : List (List ℕ)) (rows : List Row) (items i : ℕ) → i < items → numbers_at (opened_by lists rows items) i ≡ numbers_of_nodes lists rows i
+pub opened_at : (lists : List (List ℕ)) (rows : List Row) (items i : ℕ) → i < items → numbers_open (opened_by lists rows items) i ≡ numbers_of_nodes lists rows i
 opened_at lists rows items i lt = get_or-map-range_with_len (numbers_of_nodes lists rows) 0 items i i [] lt (omega arith)
 
 pub item_inside : (lists : List (List ℕ)) (rows : List Row) (items i : ℕ) → i < length (opened_by lists rows items) → i < items
@@ -73,22 +74,6 @@ one_of (Some a) None n found = let none : found.0 ≡ 0 = omega (arith, found.1)
 one_of None (Some b) n found = let none : found.0 ≡ 0 = omega (arith, found.1) in inr (ap Some (rw none at found.2))
 one_of (Some a) (Some b) n found = ⊎_elim (λ (e : a ≡ n). inl (ap Some e)) (λ (e : b ≡ n). inr (ap Some e)) (either a b n (nat_lt a b) found)
 
-pub there_first : (a : ℕ) (p : Option ℕ) → Contains (by_age (Some a) p) a
-there_first a None = (0, omega arith, refl)
-there_first a (Some b) = by (nat_lt a b)
-  where
-    by : (c : Bool) → Contains (cond c (a ∷ b ∷ []) (b ∷ a ∷ [])) a
-    by true = (0, omega arith, refl)
-    by false = (1, omega arith, refl)
-
-pub there_second : (o : Option ℕ) (b : ℕ) → Contains (by_age o (Some b)) b
-there_second None b = (0, omega arith, refl)
-there_second (Some a) b = by (nat_lt a b)
-  where
-    by : (c : Bool) → Contains (cond c (a ∷ b ∷ []) (b ∷ a ∷ [])) b
-    by true = (1, omega arith, refl)
-    by false = (0, omega arith, refl)
-
 both_two : (a b : ℕ) (c : Bool) → length (cond c (a ∷ b ∷ []) (b ∷ a ∷ [])) < 2 → ⊥
 both_two a b true lt = absurd (omega arith)
 both_two a b false lt = absurd (omega arith)
@@ -97,12 +82,6 @@ pub one_free : (o p : Option ℕ) → length (by_age o p) < 2 → (o ≡ None) �
 one_free None p lt = inl refl
 one_free (Some a) None lt = inr refl
 one_free (Some a) (Some b) lt = absurd (both_two a b (nat_lt a b) lt)
-
-pub few_numbers : (o p : Option ℕ) → (o ≡ None) ⊎ (p ≡ None) → length (by_age o p) < 2
-few_numbers None None h = omega arith
-few_numbers (Some a) None h = omega arith
-few_numbers None (Some b) h = omega arith
-few_numbers (Some a) (Some b) h = ⊎_elim (λ (e : Some a ≡ None). cc) (λ (e : Some b ≡ None). cc) h
 
 pair_rises : (a b : ℕ) → a < b → AreRising (a ∷ b ∷ [])
 pair_rises a b lt i j d before within = let first : i ≡ 0 = omega arith in let second : j ≡ 1 = omega arith in rw (first, second) lt

@@ -1,13 +1,20 @@
 -- Which nodes are in lists, as one is put in and taken out.
-use Rattle.cmwq_flush.specs.Common.{◌≡◌, ℕ, ◌+◌, ◌<◌, Bool, true, false, not, cond, List, [], ◌∷◌, ◌++◌, length, get_or, set, zero, suc, Some, None, is_some, sym, ap, refl, ◌∙◌, arith, map, All, Contains, false≢true, nat_tests, get_or-map, length-map, map-set, map_push, get_or-set_same, get_or-set_other, position_or_len}
+use Rattle.cmwq_flush.specs.Common.{◌≡◌, ◌≢◌, ℕ, ◌+◌, ◌<◌, Bool, ⊎_elim, cases_eq, true, false, not, cond, List, [], ◌∷◌, ◌++◌, length, get_or, set, zero, suc, Some, None, is_some, sym, ap, refl, ◌∙◌, arith, map, All, Contains, false≢true, nat_tests, get_or-map, length-map, map-set, map_push, get_or-set_same, get_or-set_other, position_or_len}
 use Rattle.std.specs.Prelude.{◌&&◌, ◌||◌, nat_eq, nat_lt, slice_get}
 use Rattle.std.specs.List.{list_any}
+use Rattle.std.proofs.lemmas.List.{length-set, ext_get_or}
 use Rattle.std.proofs.lemmas.Bool.{or_parts, or_right, eq-eqb, eqb-true, eqb-false}
 use Rattle.cmwq_list.specs.Lists.{has_item, without_item, list_at, list_of}
 use Rattle.cmwq_list.proofs.Members.{has-push, has-without}
 use Rattle.cmwq_flush.specs.declared.openings.Row.{Row}
 use Rattle.cmwq_flush.specs.Rows.{no_row, row_number, row_numbers, rows_at, is_other_row, without_row}
 use Rattle.cmwq_flush.specs.Openings.{is_listed, node_row, rows_of}
+
+-- one list alone is changed by a map
+pub set_one : {X : Type 0} (f : List X → List X) (xs : List (List X)) (q : ℕ) → q < length xs → ((l : ℕ) → l ≢ q → f (get_or xs l []) ≡ get_or xs l []) → map f xs ≡ set xs q (f (get_or xs q []))
+set_one f xs q lt others = ext_get_or [] (map f xs) (set xs q (f (get_or xs q []))) (length-map xs f ∙ sym (length-set xs q (f (get_or xs q []))))
+    (λ k within. let inside : k < length xs = let size = length-map xs f in omega arith in get_or-map f xs k [] [] inside
+    ∙ ⊎_elim (λ (same : k ≡ q). rw same (sym (get_or-set_same xs q (f (get_or xs q [])) [] lt))) (λ (differs : k ≡ q → ⊥). others k differs ∙ sym (get_or-set_other xs q k (f (get_or xs q [])) [] differs)) (cases_eq k q))
 
 -- a list that has the node is found where there is one
 first_found : (b : Bool) (k m : ℕ) → nat_lt k m ≡ b → (c : Bool) → nat_lt (cond (not c) (1 + k) 0) (suc m) ≡ (c || b)

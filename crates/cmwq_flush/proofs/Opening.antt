@@ -1,6 +1,6 @@
 -- What is open after a queueing of an item is opened, and after it ends.
 use Rattle.std.proofs.Common.{ap₂, inl, inr}
-use Rattle.cmwq_flush.specs.Common.{◌≡◌, ◌≢◌, ◌⊎◌, ℕ, ◌+◌, ◌<◌, ◌≤◌, Bool, true, false, not, cond, List, [], ◌∷◌, ◌++◌, length, get_or, set, Some, None, sym, ap, refl, ◌∙◌, arith, ⊎_elim, map, Contains, eqb, false≢true, cases_eq, cases_lt, zero, suc, replicate, length-map, get_or-map, get_or_past, get_or-set_same, get_or-set_other, position_or_len, ◌↔◌}
+use Rattle.cmwq_flush.specs.Common.{◌≡◌, ◌≢◌, ◌⊎◌, ℕ, ◌+◌, ◌<◌, ◌≤◌, Bool, true, false, not, cond, List, [], ◌∷◌, ◌++◌, length, get_or, set, Some, None, sym, ap, refl, ◌∙◌, arith, ⊎_elim, map, Contains, eqb, false≢true, cases_lt, zero, suc, replicate, length-map, get_or-map, get_or_past, get_or-set_same, get_or-set_other, position_or_len, ◌↔◌}
 use Rattle.std.specs.Prelude.{◌*◌, ◌&&◌, ◌||◌, nat_eq}
 use Rattle.std.proofs.lemmas.List.{length-set, length-replicate, get_or-replicate, ext_get_or}
 use Rattle.std.proofs.lemmas.List.FromFn.{length-map-range_with_len, get_or-map-range_with_len}
@@ -11,12 +11,13 @@ use Rattle.std.proofs.lemmas.List.Sums.{position_or_len_is}
 use Rattle.cmwq_lemmas.proofs.Truth.{same_bools}
 use Rattle.cmwq_list.specs.Lists.{Listed, AreListedOnce, has_item, without_item, list_at, list_of, pushed, removed}
 use Rattle.cmwq_flush.specs.declared.openings.Row.{Row}
-use Rattle.cmwq_flush.specs.Numbers.{AreRising, without}
-use Rattle.cmwq_flush.specs.Rows.{no_row, row_number, row_numbers, rows_at, numbers_at, without_row, is_other_row}
+use Rattle.cmwq_flush.specs.Numbers.{without}
+use Rattle.cmwq_flush.specs.Rows.{no_row, row_number, row_numbers, rows_at, without_row, is_other_row}
+use Rattle.cmwq_flush.specs.ItemNumbers.{numbers_open}
 use Rattle.cmwq_flush.specs.Openings.{AreOpenings, is_listed, node_row, node_number, rows_of, by_age, numbers_of_nodes, opened_by, has_number}
 use Rattle.cmwq_flush.proofs.Search.{filter_all}
-use Rattle.cmwq_flush.proofs.Nodes.{listed-pushed, listed-removed, rows-removed, node_in, in_list, number_there}
-use Rattle.cmwq_flush.proofs.NodeNumbers.{opened_at, opened_set, latest_first, latest_second, ended_first, ended_second, one_of, one_free, numbers_rise, some_at, none_at, number_at_listed, number_at_free, number-pushed, number-kept, number-removed, number-stays}
+use Rattle.cmwq_flush.proofs.Nodes.{set_one, listed-pushed, listed-removed, rows-removed, node_in, in_list, number_there}
+use Rattle.cmwq_flush.proofs.NodeNumbers.{opened_at, opened_set, latest_first, latest_second, ended_first, ended_second, one_of, one_free, some_at, none_at, number_at_listed, number_at_free, number-pushed, number-kept, number-removed, number-stays}
 
 chosen : (b c : Bool) (x y : ℕ) → b ≡ c → cond b x y ≡ cond c x y
 chosen b c x y e = ap (λ d. cond d x y) e
@@ -79,8 +80,8 @@ module _ (lists : List (List ℕ)) (rows : List Row) (items i v : ℕ) (there : 
         by true e = let is : v ≡ 2 * i + 1 = chosen_is ∙ chosen _ _ (2 * i + 1) (2 * i) e in
             ap₂ by_age (number-kept lists rows l v r lt (2 * j) (λ same. absurd (omega arith))) (number-kept lists rows l v r lt (2 * j + 1) (λ same. differs (omega arith)))
 
-    pub opened-pushed : opened_by lists2 rows2 items ≡ set (opened_by lists rows items) i (numbers_at (opened_by lists rows items) i ++ r.number ∷ [])
-    opened-pushed = opened_set (numbers_of_nodes lists2 rows2) (numbers_of_nodes lists rows) items i (numbers_at (opened_by lists rows items) i ++ r.number ∷ []) there
+    pub opened-pushed : opened_by lists2 rows2 items ≡ set (opened_by lists rows items) i (numbers_open (opened_by lists rows items) i ++ r.number ∷ [])
+    opened-pushed = opened_set (numbers_of_nodes lists2 rows2) (numbers_of_nodes lists rows) items i (numbers_open (opened_by lists rows items) i ++ r.number ∷ []) there
         (numbers-opened ∙ ap (λ ns. ns ++ r.number ∷ []) (sym (opened_at lists rows items i there))) others
 
 -- no number comes twice: a listed node is the new one, or was listed
@@ -119,22 +120,16 @@ both_true : (a b : Bool) → (a && b) ≡ true → (a ≡ true) × (b ≡ true)
 both_true true b e = (refl, e)
 both_true false b e = absurd (false≢true e)
 
--- one list alone is changed by a map
-set_one : (f : List Row → List Row) (xs : List (List Row)) (q : ℕ) → q < length xs → ((l : ℕ) → l ≢ q → f (get_or xs l []) ≡ get_or xs l []) → map f xs ≡ set xs q (f (get_or xs q []))
-set_one f xs q lt others = ext_get_or [] (map f xs) (set xs q (f (get_or xs q []))) (length-map xs f ∙ sym (length-set xs q (f (get_or xs q []))))
-    (λ k within. let inside : k < length xs = let size = length-map xs f in omega arith in get_or-map f xs k [] [] inside
-    ∙ ⊎_elim (λ (same : k ≡ q). rw same (sym (get_or-set_same xs q (f (get_or xs q [])) [] lt))) (λ (differs : k ≡ q → ⊥). others k differs ∙ sym (get_or-set_other xs q k (f (get_or xs q [])) [] differs)) (cases_eq k q))
-
 there_if : (xs : List (List ℕ)) (i n : ℕ) → Contains (get_or xs i []) n → i < length xs
 there_if xs i n found = ⊎_elim (λ (lt : i < length xs). lt) (λ (past : length xs ≤ i). let none : get_or xs i [] ≡ [] = get_or_past xs i [] past in let empty = rw none at found in absurd (omega (arith, empty.1))) (cases_lt i (length xs))
 
 rows_if : (xs : List (List Row)) (q n : ℕ) → Contains (row_numbers (get_or xs q [])) n → q < length xs
 rows_if xs q n found = ⊎_elim (λ (lt : q < length xs). lt) (λ (past : length xs ≤ q). let none : get_or xs q [] ≡ [] = get_or_past xs q [] past in let empty = rw none at found in absurd (omega (arith, empty.1))) (cases_lt q (length xs))
 
-pub item_there : (lists : List (List ℕ)) (rows : List Row) (items i n : ℕ) → Contains (numbers_at (opened_by lists rows items) i) n → i < items
+pub item_there : (lists : List (List ℕ)) (rows : List Row) (items i n : ℕ) → Contains (numbers_open (opened_by lists rows items) i) n → i < items
 item_there lists rows items i n found = let lt = there_if (opened_by lists rows items) i n found in let size = length-map-range_with_len (numbers_of_nodes lists rows) 0 items in omega arith
 
-module _ (items : ℕ) (s : Listed) (rows : List Row) (is : AreOpenings items s rows) (i n v : ℕ) (chosen_is : v ≡ cond (has_number s.lists rows (2 * i) n) (2 * i) (2 * i + 1)) (is_open : Contains (numbers_at (opened_by s.lists rows items) i) n) where
+module _ (items : ℕ) (s : Listed) (rows : List Row) (is : AreOpenings items s rows) (i n v : ℕ) (chosen_is : v ≡ cond (has_number s.lists rows (2 * i) n) (2 * i) (2 * i + 1)) (is_open : Contains (numbers_open (opened_by s.lists rows items) i) n) where
   there : i < items
   there = item_there s.lists rows items i n is_open
 
@@ -189,8 +184,8 @@ module _ (items : ℕ) (s : Listed) (rows : List Row) (is : AreOpenings items s 
       by true e = let at : v ≡ 2 * i = chosen_is ∙ chosen _ _ (2 * i) (2 * i + 1) e in ap₂ by_age (number-stays s.lists rows v (2 * j) (λ same. differs (omega arith))) (number-stays s.lists rows v (2 * j + 1) (λ same. absurd (omega arith)))
       by false e = let at : v ≡ 2 * i + 1 = chosen_is ∙ chosen _ _ (2 * i) (2 * i + 1) e in ap₂ by_age (number-stays s.lists rows v (2 * j) (λ same. absurd (omega arith))) (number-stays s.lists rows v (2 * j + 1) (λ same. differs (omega arith)))
 
-  pub closed_opened : opened_by (map (without_item v) s.lists) rows items ≡ set (opened_by s.lists rows items) i (without n (numbers_at (opened_by s.lists rows items) i))
-  closed_opened = opened_set (numbers_of_nodes (map (without_item v) s.lists) rows) (numbers_of_nodes s.lists rows) items i (without n (numbers_at (opened_by s.lists rows items) i)) there
+  pub closed_opened : opened_by (map (without_item v) s.lists) rows items ≡ set (opened_by s.lists rows items) i (without n (numbers_open (opened_by s.lists rows items) i))
+  closed_opened = opened_set (numbers_of_nodes (map (without_item v) s.lists) rows) (numbers_of_nodes s.lists rows) items i (without n (numbers_open (opened_by s.lists rows items) i)) there
       (numbers_closed ∙ ap (without n) (sym (opened_at s.lists rows items i there))) others_stay
 
   pub openings_removed : AreOpenings items (removed s v) rows
@@ -250,11 +245,6 @@ openings_at_first queues items s rows e many = rw e (record {
 
 -- ---- what is read
 
-pub item_rises : (items : ℕ) (s : Listed) (rows : List Row) (i : ℕ) → AreOpenings items s rows → AreRising (numbers_of_nodes s.lists rows i)
-item_rises items s rows i is = numbers_rise (node_number s.lists rows (2 * i)) (node_number s.lists rows (2 * i + 1)) (λ a b first second same.
-    let j = some_at s.lists rows (2 * i) a first in let k = some_at s.lists rows (2 * i + 1) b second in
-    let twice = is.once (2 * i) (2 * i + 1) j.0 k.0 (j.1 ∙ same ∙ sym k.1) in absurd (omega arith))
-
 -- ---- whether a number is open on a queue
 
 placed_at : (lists : List (List ℕ)) (v q : ℕ) → list_of lists v ≡ Some q → has_item v (list_at lists q) ≡ true
@@ -270,7 +260,7 @@ first_place lists v q alone lt here =
     not_there k less true e = absurd (let same = alone k e in omega arith)
     not_there k less false e = e
 
-module _ (items : ℕ) (s : Listed) (rows : List Row) (is : AreOpenings items s rows) (i n v : ℕ) (chosen_is : v ≡ cond (has_number s.lists rows (2 * i) n) (2 * i) (2 * i + 1)) (is_open : Contains (numbers_at (opened_by s.lists rows items) i) n) (once : AreListedOnce s) (q : ℕ) (lt : q < length s.lists) where
+module _ (items : ℕ) (s : Listed) (rows : List Row) (is : AreOpenings items s rows) (i n v : ℕ) (chosen_is : v ≡ cond (has_number s.lists rows (2 * i) n) (2 * i) (2 * i + 1)) (is_open : Contains (numbers_open (opened_by s.lists rows items) i) n) (once : AreListedOnce s) (q : ℕ) (lt : q < length s.lists) where
   pub open_on : (list_of s.lists v ≡ Some q) ↔ Contains (row_numbers (rows_at (rows_of s.lists rows) q)) n
   open_on =
       let it = node_is items s rows is i n v chosen_is is_open in (

@@ -6,7 +6,7 @@ use Rattle.cmwq_flush.specs.declared.openings.Row.{Row}
 use Rattle.cmwq_flush.specs.Numbers.{IsBelowNumber, AreRising, is_other_number, without}
 use Rattle.cmwq_flush.specs.Rows.{is_other_row, without_row}
 use Rattle.cmwq_flush.specs.Served.{ticket_of_served, bound_of, IsOlderServed}
-use Rattle.cmwq_flush.specs.FlushBook.{FlushBook, flush_from, flush_tickets, HasRoom}
+use Rattle.cmwq_flush.specs.FlushBook.{FlushBook, flush_from, flush_tickets, IsLatestFlush}
 use Rattle.cmwq_flush.specs.Colouring.{IsOrderly}
 
 abbrev IsOld : ℕ → Row → Type 0
@@ -22,9 +22,7 @@ orderly_opened b rows r opened later is = record {
   bounds_rise = is.bounds_rise;
   bounds = All-weaker (IsBounded b.next) (IsBounded (r.number + 1)) (λ s le. omega arith) b.served is.bounds;
   tickets_rise = is.tickets_rise;
-  drains_rise = is.drains_rise;
   few = is.few;
-  room = is.room;
 }
 
 -- one ends
@@ -34,21 +32,17 @@ orderly_ended b rows n opened is = record {
   bounds_rise = is.bounds_rise;
   bounds = is.bounds;
   tickets_rise = is.tickets_rise;
-  drains_rise = is.drains_rise;
   few = is.few;
-  room = is.room;
 }
 
 -- a flush begins, in overflow at first
-pub orderly_overflow : (b : FlushBook) (rows : List Row) (t : ℕ) → All (λ u. u < t) (flush_tickets b) → HasRoom b → IsOrderly b rows → IsOrderly (record b { overflow = b.overflow ++ t ∷ [] }) rows
-orderly_overflow b rows t later has_room is = record {
+pub orderly_overflow : (b : FlushBook) (rows : List Row) (t : ℕ) → IsLatestFlush b t → IsOrderly b rows → IsOrderly (record b { overflow = b.overflow ++ t ∷ [] }) rows
+orderly_overflow b rows t later is = record {
   older = is.older;
   bounds_rise = is.bounds_rise;
   bounds = is.bounds;
   tickets_rise = rw (← append_assoc (map ticket_of_served b.served) b.overflow (t ∷ [])) (all_pairs_push IsBelowNumber (flush_tickets b) t is.tickets_rise later);
-  drains_rise = is.drains_rise;
   few = is.few;
-  room = let longer = length-append b.overflow (t ∷ []) in omega arith;
 }
 
 -- the oldest of the overflow is served
@@ -58,9 +52,7 @@ orderly_served b rows t rest fits is = record {
   bounds_rise = IsNonDecreasingBy-push bound_of b.served (flush_from t b.next) is.bounds_rise (λ d some. is.bounds (length b.served - 1) d (omega arith));
   bounds = All-push (IsBounded b.next) b.served (flush_from t b.next) is.bounds (omega arith);
   tickets_rise = rw (map_push, append_assoc) is.tickets_rise;
-  drains_rise = is.drains_rise;
   few = let longer = length-append b.served (flush_from t b.next ∷ []) in omega arith;
-  room = let longer = length-append b.served (flush_from t b.next ∷ []) in let before = is.room in omega arith;
 }
 
 non_decreasing_remove : (xs : List Served) (i : ℕ) → i < length xs → IsNonDecreasingBy bound_of xs → IsNonDecreasingBy bound_of (remove xs i)
@@ -98,9 +90,7 @@ orderly_removed b rows i lt is = record {
       let within : i < length (map ticket_of_served b.served) = rw length-map lt in
       let whole : i < length (flush_tickets b) = rw length-append (omega arith) in
       rw (map-remove ticket_of_served b.served i, ← remove-append_left (map ticket_of_served b.served) b.overflow i within) (all_pairs_remove IsBelowNumber (flush_tickets b) i whole is.tickets_rise);
-  drains_rise = is.drains_rise;
   few = let shorter = length-remove b.served i lt in let before = is.few in omega arith;
-  room = let shorter = length-remove b.served i lt in let before = is.room in omega arith;
 }
 
 -- one in overflow ends
@@ -110,21 +100,7 @@ orderly_left b rows t is = record {
   bounds_rise = is.bounds_rise;
   bounds = is.bounds;
   tickets_rise = rising_filter (is_other_number t) (map ticket_of_served b.served) b.overflow is.tickets_rise;
-  drains_rise = is.drains_rise;
   few = is.few;
-  room = let shorter = length_filter_le (is_other_number t) b.overflow in let before = is.room in omega arith;
-}
-
--- a drain begins, and ends
-pub orderly_drain_ended : (b : FlushBook) (rows : List Row) (t : ℕ) → IsOrderly b rows → IsOrderly (record b { drains = without t b.drains }) rows
-orderly_drain_ended b rows t is = record {
-  older = is.older;
-  bounds_rise = is.bounds_rise;
-  bounds = is.bounds;
-  tickets_rise = is.tickets_rise;
-  drains_rise = AllPairs-filter IsBelowNumber (is_other_number t) b.drains is.drains_rise;
-  few = is.few;
-  room = let shorter = length_filter_le (is_other_number t) b.drains in let before = is.room in omega arith;
 }
 
 -- the tickets of each kind rise by themselves

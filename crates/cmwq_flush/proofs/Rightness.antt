@@ -6,10 +6,10 @@ use Rattle.cmwq_flush.specs.declared.openings.Row.{Row}
 use Rattle.cmwq_flush.specs.Numbers.{AreRising, is_other_number, without}
 use Rattle.cmwq_flush.specs.Rows.{row_number, row_numbers, without_row, is_other_row, ComesBefore}
 use Rattle.cmwq_flush.specs.Served.{ticket_of_served, tickets_of_served, IsOlderServed, HasTicketAt, LacksTicket}
-use Rattle.cmwq_flush.specs.FlushBook.{FlushBook, new_book, flush_from, flush_tickets, served_of, IsReady, HasRoom, served_with_oldest, without_oldest, serve_oldest, flushes_without_wait}
+use Rattle.cmwq_flush.specs.FlushBook.{FlushBook, new_book, flush_from, flush_tickets, served_of, IsReady, IsLatestFlush, served_with_oldest, without_oldest, serve_oldest, flushes_without_wait}
 use Rattle.cmwq_flush.specs.Colouring.{IsOrderly, IsColouring, IsRight, IsToldByColours, AreUnused}
 use Rattle.cmwq_flush.proofs.Search.{find_at_key, find_absent, absent_is_none, remove_at}
-use Rattle.cmwq_flush.proofs.Orderly.{orderly_opened, orderly_ended, orderly_overflow, orderly_served, orderly_removed, orderly_left, orderly_drain_ended, rising_served, rising_overflow, length_filter_le, All_left, All_right}
+use Rattle.cmwq_flush.proofs.Orderly.{orderly_opened, orderly_ended, orderly_overflow, orderly_served, orderly_removed, orderly_left, rising_served, rising_overflow, length_filter_le, All_left, All_right}
 use Rattle.cmwq_flush.proofs.Recolouring.{colouring_opened, colouring_ended, colouring_served, colouring_removed}
 
 split : (t : Bool) (r : Row) (rows : List Row) (ns : List ℕ) → row_numbers rows ≡ ns → row_numbers (cond t (r ∷ rows) rows) ≡ cond t (row_number r ∷ ns) ns
@@ -39,10 +39,10 @@ empty_from [] none = refl
 empty_from (x ∷ xs) none = absurd (none (omega arith))
 
 -- a flush begins and is served, since none is in overflow
-pub right_served : (b : FlushBook) (rows : List Row) (colours : List ℕ) (t : ℕ) → length b.served < 15 → All (λ u. u < t) (flush_tickets b) → HasRoom b → IsRight b rows colours → IsRight (record b { served = b.served ++ flush_from t b.next ∷ [] }) rows colours
-right_served b rows colours t fits later has_room is =
+pub right_served : (b : FlushBook) (rows : List Row) (colours : List ℕ) (t : ℕ) → length b.served < 15 → IsLatestFlush b t → IsRight b rows colours → IsRight (record b { served = b.served ++ flush_from t b.next ∷ [] }) rows colours
+right_served b rows colours t fits later is =
     let none : b.overflow ≡ [] = empty_from b.overflow (λ some. let full = is.serving some in omega arith) in
-    let first = orderly_overflow b rows t later has_room is.orderly in
+    let first = orderly_overflow b rows t later is.orderly in
     let last : IsOrderly (record b { overflow = t ∷ [] }) rows = rw none at first in
     let served = orderly_served b rows t [] fits last in
     record {
@@ -52,9 +52,9 @@ right_served b rows colours t fits later has_room is =
     }
 
 -- a flush begins and is in overflow
-pub right_overflow : (b : FlushBook) (rows : List Row) (colours : List ℕ) (t : ℕ) → 15 ≤ length b.served → All (λ u. u < t) (flush_tickets b) → HasRoom b → IsRight b rows colours → IsRight (record b { overflow = b.overflow ++ t ∷ [] }) rows colours
-right_overflow b rows colours t full later has_room is = record {
-  orderly = orderly_overflow b rows t later has_room is.orderly;
+pub right_overflow : (b : FlushBook) (rows : List Row) (colours : List ℕ) (t : ℕ) → 15 ≤ length b.served → IsLatestFlush b t → IsRight b rows colours → IsRight (record b { overflow = b.overflow ++ t ∷ [] }) rows colours
+right_overflow b rows colours t full later is = record {
+  orderly = orderly_overflow b rows t later is.orderly;
   serving = λ some. let few = is.orderly.few in omega arith;
   colouring = is.colouring;
 }
@@ -88,16 +88,14 @@ right_left b rows colours t is = record {
 }
 
 -- nothing is open and no flush stands
-pub right_new : (callers items : ℕ) → IsRight (new_book callers items) [] (range_with_len 0 16)
-right_new callers items = record {
+pub right_new : (items : ℕ) → IsRight (new_book items) [] (range_with_len 0 16)
+right_new items = record {
   orderly = record {
     older = λ k d lt. absurd (omega arith);
     bounds_rise = λ i j d le lt. absurd (omega arith);
     bounds = λ k d lt. absurd (omega arith);
     tickets_rise = λ i j d before lt. absurd (omega arith);
-    drains_rise = λ i j d before lt. absurd (omega arith);
     few = omega arith;
-    room = omega arith;
   };
   serving = λ some. absurd (omega arith);
   colouring = record {
@@ -124,13 +122,6 @@ pub first_is_least : (rows : List Row) (o : Option ℕ) → o ≡ slice_get (row
 first_is_least [] o e rise = rw e tt
 first_is_least (r ∷ rows) o e rise =
     rw e (numbers_from_rows r.number (r ∷ rows) (λ k d lt. ⊎_elim (λ (later : 0 < k). let above = rise 0 k d later lt in omega arith) (λ (first : k ≤ 0). let here : k ≡ 0 = omega arith in rw here (omega arith)) (cases_lt 0 k)))
-
-pub right_drain_ended : (b : FlushBook) (rows : List Row) (colours : List ℕ) (t : ℕ) → IsRight b rows colours → IsRight (record b { drains = without t b.drains }) rows colours
-right_drain_ended b rows colours t is = record {
-  orderly = orderly_drain_ended b rows t is.orderly;
-  serving = is.serving;
-  colouring = is.colouring;
-}
 
 pub not_in_overflow : (served : List Served) (overflow : List ℕ) (t : ℕ) → (Contains (tickets_of_served served) t → ⊥) → Contains (tickets_of_served served ++ overflow) t → Contains overflow t
 not_in_overflow served overflow t absent stands = ⊎_elim (λ (found : Contains (tickets_of_served served) t). absurd (absent found)) (λ (found : Contains overflow t). found) (Contains-append_cases (tickets_of_served served) overflow t stands)

@@ -1,12 +1,12 @@
 -- What holds of a flush book and its colours at every moment.
-use Rattle.std.specs.Prelude.{◌≡◌, ◌≢◌, ◌↔◌, ◌+◌, ◌*◌, ◌<◌, ◌≤◌}
+use Rattle.std.specs.Prelude.{◌≡◌, ◌≢◌, ◌↔◌, ◌+◌, ◌<◌, ◌≤◌}
 use Rattle.cmwq_flush.specs.Common.{ℕ, Bool, List, length, take, All, AllPairs, IsTrue, slice_index, HoldsAt, IsNonDecreasingBy}
 use Rattle.cmwq_flush.specs.declared.served.Served.{Served}
 use Rattle.cmwq_flush.specs.declared.openings.Row.{Row}
 use Rattle.cmwq_flush.specs.Numbers.{AreRising}
 use Rattle.cmwq_flush.specs.Rows.{row_numbers, is_unused}
 use Rattle.cmwq_flush.specs.Served.{bound_of, first_waiting, HasTicketAt}
-use Rattle.cmwq_flush.specs.FlushBook.{FlushBook, flush_tickets, standing_count}
+use Rattle.cmwq_flush.specs.FlushBook.{FlushBook, flush_tickets}
 
 abbrev pub DiffersInColour : ℕ → ℕ → Type 0
 DiffersInColour c d = c ≢ d
@@ -42,15 +42,13 @@ pub record IsToldByColours (b : FlushBook) (t : ℕ) (ready : Bool) : Type 0 whe
   pub colouring : IsColouring colours b.served rows
   pub told : (i : ℕ) → HasTicketAt b.served t i → IsTrue ready ↔ AreUnused rows (take (i + 1) colours)
 
--- numbers and bounds below what comes next, bounds and tickets by age, and no more of each than there may be
+-- numbers and bounds below what comes next, bounds and tickets by age, and no more served than there may be
 pub record IsOrderly (b : FlushBook) (rows : List Row) : Type 0 where
   pub older : All (λ r. r.number < b.next) rows
   pub bounds_rise : IsNonDecreasingBy bound_of b.served
   pub bounds : All (λ s. s.bound ≤ b.next) b.served
   pub tickets_rise : AreRising (flush_tickets b)
-  pub drains_rise : AreRising b.drains
   pub few : length b.served ≤ 15
-  pub room : standing_count b ≤ 64 * b.callers
 
 -- where some are in overflow, as many are served as may be
 abbrev pub IsServing : FlushBook → Type 0
@@ -61,5 +59,5 @@ pub record IsRight (b : FlushBook) (rows : List Row) (colours : List ℕ) : Type
   pub serving : IsServing b
   pub colouring : IsColouring colours b.served rows
 
-abbrev pub book_of : ℕ → ℕ → ℕ → List Row → List Served → List ℕ → List ℕ → FlushBook
-book_of callers items next rows served overflow drains = record { callers = callers; items = items; next = next; opened = row_numbers rows; served = served; overflow = overflow; drains = drains }
+abbrev pub book_of : ℕ → ℕ → List Row → List Served → List ℕ → FlushBook
+book_of items next rows served overflow = record { items = items; next = next; opened = row_numbers rows; served = served; overflow = overflow }

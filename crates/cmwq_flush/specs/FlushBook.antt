@@ -1,43 +1,32 @@
--- The flushes and drains of a queue, as plain lists.
+-- The flushes of a queue, as plain lists.
 use Rattle.std.specs.Prelude.{◌≡◌, ℕ, ◌+◌, ◌*◌, ◌<◌, ◌≤◌, if◌then◌else◌, List, [], ◌∷◌, ◌++◌, length, filter, find, All, Option, MatchOption, is_some, nat_lt}
 use Rattle.cmwq_flush.specs.declared.served.Served.{Served}
 use Rattle.cmwq_flush.specs.Numbers.{without}
 use Rattle.cmwq_flush.specs.Served.{tickets_of_served, has_ticket, is_other_flush}
 
 -- next is one more than the number that was opened last, opened the open numbers, which rise; the flushes that are
--- served, the tickets in overflow and those of drains stand by age
+-- served and the tickets in overflow stand by age
 pub record FlushBook : Type 0 where
-  pub callers : ℕ
   pub items : ℕ
   pub next : ℕ
   pub opened : List ℕ
   pub served : List Served
   pub overflow : List ℕ
-  pub drains : List ℕ
 
-abbrev pub new_book : ℕ → ℕ → FlushBook
-new_book callers items = record { callers = callers; items = items; next = 0; opened = []; served = []; overflow = []; drains = [] }
+abbrev pub new_book : ℕ → FlushBook
+new_book items = record { items = items; next = 0; opened = []; served = []; overflow = [] }
 
--- the tickets of flushes by age, and how many tickets stand in all
+-- the tickets of flushes by age
 abbrev pub flush_tickets : FlushBook → List ℕ
 flush_tickets b = tickets_of_served b.served ++ b.overflow
-
-abbrev pub standing_count : FlushBook → ℕ
-standing_count b = length b.served + length b.overflow + length b.drains
-
-abbrev pub HasRoom : FlushBook → Type 0
-HasRoom b = standing_count b < 64 * b.callers
 
 -- two queueings of each item may be open
 abbrev pub CanOpen : FlushBook → ℕ → Type 0
 CanOpen b n = (b.next ≤ n) × (length b.opened < 2 * b.items)
 
--- a flush or a drain begins with a later ticket than those of its kind that stand
-abbrev pub CanBegin : FlushBook → ℕ → Type 0
-CanBegin b t = All (λ u. u < t) (flush_tickets b) × HasRoom b
-
-abbrev pub CanDrain : FlushBook → ℕ → Type 0
-CanDrain b t = All (λ u. u < t) b.drains × HasRoom b
+-- the ticket comes after those of all flushes that stand
+abbrev pub IsLatestFlush : FlushBook → ℕ → Type 0
+IsLatestFlush b t = All (λ u. u < t) (flush_tickets b)
 
 -- a flush that is served waits for all that was opened before, one in overflow for all that is open
 abbrev pub served_of : FlushBook → ℕ → Option Served
@@ -73,9 +62,3 @@ serve_oldest b served = record b { served = served_with_oldest served b.overflow
 
 abbrev pub flushes_without_wait : FlushBook → ℕ → FlushBook
 flushes_without_wait b t = if is_some (served_of b t) then serve_oldest b (filter (is_other_flush t) b.served) else record b { overflow = without t b.overflow }
-
-abbrev pub after_drain_begin : FlushBook → ℕ → FlushBook
-after_drain_begin b t = record b { drains = b.drains ++ t ∷ [] }
-
-abbrev pub after_drain_end : FlushBook → ℕ → FlushBook
-after_drain_end b t = record b { drains = without t b.drains }

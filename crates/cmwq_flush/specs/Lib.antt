@@ -1,11 +1,11 @@
 pub mod Common
 pub mod Numbers
 pub mod Rows
+pub mod ItemNumbers
+pub mod Overflow
 pub mod Openings
 pub mod Served
 pub mod FlushBook
 pub mod Colouring
 pub mod Queues
-pub mod BarrierBook
-pub mod Waits
 pub mod FlushBooks

@@ -1,18 +1,12 @@
 -- Lists of numbers that rise: of open queueings, and of tickets by age.
-use Rattle.std.specs.Prelude.{◌≡◌, ◌≢◌, ◌<◌, ◌==◌}
-use Rattle.cmwq_flush.specs.Common.{ℕ, Bool, not, List, length, All, AllPairs, filter, HoldsAt}
+use Rattle.std.specs.Prelude.{◌<◌, ◌==◌}
+use Rattle.cmwq_flush.specs.Common.{ℕ, Bool, not, List, AllPairs, filter}
 
 abbrev pub IsBelowNumber : ℕ → ℕ → Type 0
 IsBelowNumber n m = n < m
 
 abbrev pub AreRising : List ℕ → Type 0
 AreRising ns = AllPairs IsBelowNumber ns
-
-abbrev pub IsNumberAt : List ℕ → ℕ → ℕ → Type 0
-IsNumberAt ns n i = (i < length ns) × HoldsAt (λ m. m ≡ n) ns i
-
-abbrev pub LacksNumber : List ℕ → ℕ → Type 0
-LacksNumber ns n = All (λ m. m ≢ n) ns
 
 -- the list without this number
 abbrev pub is_other_number : ℕ → ℕ → Bool

@@ -2,6 +2,8 @@
 use Rattle.std.specs.Prelude.{◌≡◌, ◌<◌, ◌*◌, ◌+◌, if◌then◌else◌, ◌&&◌, ◌==◌, true, ℕ, Bool, List, [], ◌∷◌, Option, Some, None, map, length, nat_lt, slice_index_or}
 use Rattle.std.specs.List.{list_any, range_with_len}
 use Rattle.cmwq_list.specs.Lists.{Listed, has_item}
+use Rattle.cmwq_flush.specs.declared.openings.Open.{Open}
+use Rattle.cmwq_flush.specs.declared.openings.Open.TheVariants.{Nothing, One, Two}
 use Rattle.cmwq_flush.specs.declared.openings.Row.{Row}
 use Rattle.cmwq_flush.specs.Rows.{no_row}
 
@@ -33,6 +35,11 @@ numbers_of_nodes lists rows i = by_age (node_number lists rows (2 * i)) (node_nu
 
 abbrev pub opened_by : List (List ℕ) → List Row → ℕ → List (List ℕ)
 opened_by lists rows items = map (numbers_of_nodes lists rows) (range_with_len 0 items)
+
+abbrev pub numbers_in : Open → List ℕ
+numbers_in Nothing = []
+numbers_in (One a) = a ∷ []
+numbers_in (Two a b) = a ∷ b ∷ []
 
 -- no number stands at two nodes
 pub record AreOpenings (items : ℕ) (s : Listed) (rows : List Row) : Type 0 where

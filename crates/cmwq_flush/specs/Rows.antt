@@ -2,7 +2,7 @@
 use Rattle.std.specs.Prelude.{◌≡◌, ◌<◌, ◌==◌, ◌++◌, ◌∷◌, [], slice_index_or, slice_set}
 use Rattle.cmwq_flush.specs.Common.{ℕ, Bool, not, List, length, map, filter, All, AllPairs, count_by, slice_index}
 use Rattle.cmwq_flush.specs.declared.openings.Row.{Row}
-use Rattle.cmwq_flush.specs.Numbers.{without}
+use Rattle.cmwq_flush.specs.ItemNumbers.{numbers_with, numbers_without}
 
 abbrev pub row_number : Row → ℕ
 row_number r = r.number
@@ -40,14 +40,11 @@ pub record OpenRows : Type 0 where
 abbrev pub rows_at : List (List Row) → ℕ → List Row
 rows_at rows q = slice_index_or rows q []
 
-abbrev pub numbers_at : List (List ℕ) → ℕ → List ℕ
-numbers_at opened i = slice_index_or opened i []
-
 abbrev pub rows_with : OpenRows → ℕ → ℕ → Row → OpenRows
-rows_with o q i r = record { rows = slice_set o.rows q (rows_at o.rows q ++ r ∷ []); opened = slice_set o.opened i (numbers_at o.opened i ++ r.number ∷ []) }
+rows_with o q i r = record { rows = slice_set o.rows q (rows_at o.rows q ++ r ∷ []); opened = numbers_with o.opened i r.number }
 
 abbrev pub rows_without : OpenRows → ℕ → ℕ → ℕ → OpenRows
-rows_without o q i n = record { rows = slice_set o.rows q (without_row n (rows_at o.rows q)); opened = slice_set o.opened i (without n (numbers_at o.opened i)) }
+rows_without o q i n = record { rows = slice_set o.rows q (without_row n (rows_at o.rows q)); opened = numbers_without o.opened i n }
 
 -- by rising number, each with a colour below 16, and the count of each colour
 pub record IsTally (rows : List Row) (counts : List ℕ) : Type 0 where

@@ -1,20 +1,21 @@
 ghost use Rattle.std.specs.Prelude.{◌≡◌, ℕ, ◌+◌, List, ◌∷◌, ◌++◌, [], ◌<◌, ◌≤◌, ◌==◌, ◌↔◌, All, Contains, IfOk, IfSome, IfNone, IsTrue, length, slice_get, slice_index, take, vec_capacity, vec_len};
-ghost use Rattle.std.specs.List.{list_all, remove};
+ghost use Rattle.std.specs.List.{list_all, remove, sum_by};
 ghost use Rattle.std.specs.List.Sorted.{IsNonDecreasingBy};
 ghost use Rattle.cmwq_flush.specs.declared.openings.Row.{Row};
-ghost use Rattle.cmwq_flush.specs.FlushBook.{CanBegin, CanDrain, CanOpen, HasRoom, IsReady, after_drain_begin, after_drain_end, flush_tickets, flushes_with_open, flushes_with_wait, flushes_without_open, flushes_without_wait, new_book, served_with_oldest, without_oldest};
+ghost use Rattle.cmwq_flush.specs.FlushBook.{CanOpen, IsLatestFlush, IsReady, flush_tickets, flushes_with_open, flushes_with_wait, flushes_without_open, flushes_without_wait, new_book, served_with_oldest, without_oldest};
 ghost use Rattle.cmwq_flush.specs.Colouring.{AreUnused, IsColouring, IsToldByColours, WaitsForNothing};
+ghost use Rattle.cmwq_flush.specs.Overflow.{tickets_at, with_tickets};
 ghost use Rattle.cmwq_flush.specs.Rows.{IsTally, without_row};
 ghost use Rattle.cmwq_flush.specs.Served.{bound_of};
 
-use crate::limits::{COLOURS, MOST_SERVED, TICKETS_OF_CALLER};
+use crate::limits::{COLOURS, MOST_SERVED};
 use crate::openings::Colour;
+use crate::overflow::Overflow;
 use crate::served::{Served, find_served, is_latest_served, is_served};
-use crate::tickets::{has_ticket, is_latest, remove_ticket};
-use cmwq_model::Number;
+use cmwq_model::{Number, QueueId};
 use std::alloc::{AllocError, Global};
 
-/// The flushes and drains of a queue, with how many of its open queueings have each colour. At most 15 flushes are
+/// The flushes of a queue that are served, with how many of its open queueings have each colour. At most 15 flushes are
 /// served at once; others are in overflow until an older one ends.
 #[derive(Debug, Drop)]
 pub(crate) struct Flushes {
@@ -23,34 +24,29 @@ pub(crate) struct Flushes {
     pub(crate) served: Vec<Served>,
     /// The colours of the served flushes, then the current one, then those that are free.
     pub(crate) colours: [Colour; COLOURS],
-    pub(crate) overflow: Vec<Number>,
-    pub(crate) drains: Vec<Number>,
 }
 
 impl Flushes {
     ghost use Rattle.cmwq_flush.specs.Queues.{IsQueueRight, book_by};
 
-    /// No flush and no drain, with room for 64 tickets for each of so many callers.
-    pub(crate) fn new(alloc: Global, callers: u8) -> Result<Self, AllocError>
-        ensures { (items : ℕ) → IfOk result (λ f. IsQueueRight callers items [] f × (book_by callers items [] f ≡ new_book callers items)) }
+    /// No flush.
+    pub(crate) fn new(alloc: Global) -> Result<Self, AllocError>
+        ensures { (items : ℕ) → IfOk result (λ f. IsQueueRight items [] [] f × (book_by items [] [] f ≡ new_book items)) }
     {
-        let room = TICKETS_OF_CALLER * usize::from(callers);
         Ok(Flushes {
             next: 0,
             counts: [0; COLOURS],
             served: Vec::with_capacity(alloc, MOST_SERVED)?,
             colours: [0, 1, 2, 3, 4, 5, 6, 7, 8, 9, 10, 11, 12, 13, 14, 15],
-            overflow: Vec::with_capacity(alloc, room)?,
-            drains: Vec::with_capacity(alloc, room)?,
         })
     }
 
     /// A queueing of this number was opened. It has the current colour, which is answered.
     pub(crate) fn opened(&mut self, number: Number) -> Colour
-        requires { (callers items : ℕ) × (rows : List Row) × IsQueueRight callers items rows self.old × CanOpen (book_by callers items rows self.old) number × (items < 65536) × (number < 9223372036854775808) }
-        ensures { (callers items : ℕ) (rows : List Row) → IsQueueRight callers items rows self.old → CanOpen (book_by callers items rows self.old) number
-            → IsQueueRight callers items (rows ++ (record { number = number; colour = result }) ∷ []) self.new
-            × (book_by callers items (rows ++ (record { number = number; colour = result }) ∷ []) self.new ≡ flushes_with_open (book_by callers items rows self.old) number) }
+        requires { (items : ℕ) × (rows : List Row) × (overflow : List ℕ) × IsQueueRight items rows overflow self.old × CanOpen (book_by items rows overflow self.old) number × (items < 65536) × (number < 9223372036854775808) }
+        ensures { (items : ℕ) (rows : List Row) (overflow : List ℕ) → IsQueueRight items rows overflow self.old → CanOpen (book_by items rows overflow self.old) number
+            → IsQueueRight items (rows ++ (record { number = number; colour = result }) ∷ []) overflow self.new
+            × (book_by items (rows ++ (record { number = number; colour = result }) ∷ []) overflow self.new ≡ flushes_with_open (book_by items rows overflow self.old) number) }
     {
         let colour = self.colours[self.served.len()];
         self.counts[usize::from(colour)] += 1;
@@ -60,18 +56,24 @@ impl Flushes {
 
     /// An open queueing of this colour has ended.
     pub(crate) fn ended(&mut self, colour: Colour)
-        requires { (callers items : ℕ) × (rows : List Row) × (n : ℕ) × IsQueueRight callers items rows self.old × Contains rows (record { number = n; colour = colour }) }
-        ensures { (callers items : ℕ) (rows : List Row) (n : ℕ) → IsQueueRight callers items rows self.old → Contains rows (record { number = n; colour = colour })
-            → IsQueueRight callers items (without_row n rows) self.new × (book_by callers items (without_row n rows) self.new ≡ flushes_without_open (book_by callers items rows self.old) n) }
+        requires { (items : ℕ) × (rows : List Row) × (overflow : List ℕ) × (n : ℕ) × IsQueueRight items rows overflow self.old × Contains rows (record { number = n; colour = colour }) }
+        ensures { (items : ℕ) (rows : List Row) (overflow : List ℕ) (n : ℕ) → IsQueueRight items rows overflow self.old → Contains rows (record { number = n; colour = colour })
+            → IsQueueRight items (without_row n rows) overflow self.new × (book_by items (without_row n rows) overflow self.new ≡ flushes_without_open (book_by items rows overflow self.old) n) }
     {
         self.counts[usize::from(colour)] -= 1;
     }
 
-    /// A flush begins: it is served, or in overflow.
-    pub(crate) fn begin(&mut self, ticket: Number)
-        requires { (callers items : ℕ) × (rows : List Row) × IsQueueRight callers items rows self.old × CanBegin (book_by callers items rows self.old) ticket }
-        ensures { (callers items : ℕ) (rows : List Row) → IsQueueRight callers items rows self.old → CanBegin (book_by callers items rows self.old) ticket
-            → IsQueueRight callers items rows self.new × (book_by callers items rows self.new ≡ flushes_with_wait (book_by callers items rows self.old) ticket) }
+    /// A flush of this queue begins: it is served, or in overflow.
+    pub(crate) fn begin(&mut self, overflow: &mut Overflow, queue: QueueId, ticket: Number)
+        requires queue { queue.0 < length overflow.old.queues }
+        requires room { sum_by length overflow.old.queues < overflow.old.room }
+        requires right { (items : ℕ) × (rows : List Row) × IsQueueRight items rows (tickets_at overflow.old.queues queue.0) self.old
+            × IsLatestFlush (book_by items rows (tickets_at overflow.old.queues queue.0) self.old) ticket }
+        ensures others { overflow.new ≡ with_tickets overflow.old queue.0 (tickets_at overflow.new.queues queue.0) }
+        ensures right { (items : ℕ) (rows : List Row) → IsQueueRight items rows (tickets_at overflow.old.queues queue.0) self.old
+            → IsLatestFlush (book_by items rows (tickets_at overflow.old.queues queue.0) self.old) ticket
+            → IsQueueRight items rows (tickets_at overflow.new.queues queue.0) self.new
+            × (book_by items rows (tickets_at overflow.new.queues queue.0) self.new ≡ flushes_with_wait (book_by items rows (tickets_at overflow.old.queues queue.0) self.old) ticket) }
     {
         if self.served.len() < MOST_SERVED {
             self.served.push_reserved(Served {
@@ -79,16 +81,16 @@ impl Flushes {
                 bound: self.next,
             });
         } else {
-            self.overflow.push_reserved(ticket);
+            overflow.push_back(queue, ticket);
         }
     }
 
     /// Whether a flush may end, where it is known whether nothing is open.
     pub(crate) fn ready(&self, ticket: Number, is_empty: bool) -> bool
-        requires { (callers items : ℕ) × (rows : List Row) × IsQueueRight callers items rows self.now × Contains (flush_tickets (book_by callers items rows self.now)) ticket }
-        ensures bound { (callers items : ℕ) (rows : List Row) → IsQueueRight callers items rows self.now → Contains (flush_tickets (book_by callers items rows self.now)) ticket → IsTrue is_empty ↔ (rows ≡ [])
-            → IsTrue result ↔ IsReady (book_by callers items rows self.now) ticket }
-        ensures colours { (callers items : ℕ) (rows : List Row) → IsQueueRight callers items rows self.now → IsToldByColours (book_by callers items rows self.now) ticket result }
+        requires { (items : ℕ) × (rows : List Row) × (overflow : List ℕ) × IsQueueRight items rows overflow self.now × Contains (flush_tickets (book_by items rows overflow self.now)) ticket }
+        ensures bound { (items : ℕ) (rows : List Row) (overflow : List ℕ) → IsQueueRight items rows overflow self.now → Contains (flush_tickets (book_by items rows overflow self.now)) ticket → IsTrue is_empty ↔ (rows ≡ [])
+            → IsTrue result ↔ IsReady (book_by items rows overflow self.now) ticket }
+        ensures colours { (items : ℕ) (rows : List Row) (overflow : List ℕ) → IsQueueRight items rows overflow self.now → IsToldByColours (book_by items rows overflow self.now) ticket result }
     {
         match find_served(&self.served, ticket) {
             Some(place) => is_served_ready(&self.counts, &self.colours, &self.served, place),
@@ -96,86 +98,43 @@ impl Flushes {
         }
     }
 
-    /// A flush that is ready ends. Where it was served, the oldest of the overflow is served from now on.
-    pub(crate) fn end(&mut self, ticket: Number)
-        requires { (callers items : ℕ) × (rows : List Row) × IsQueueRight callers items rows self.old × Contains (flush_tickets (book_by callers items rows self.old)) ticket × IsReady (book_by callers items rows self.old) ticket }
-        ensures { (callers items : ℕ) (rows : List Row) → IsQueueRight callers items rows self.old → Contains (flush_tickets (book_by callers items rows self.old)) ticket → IsReady (book_by callers items rows self.old) ticket
-            → IsQueueRight callers items rows self.new × (book_by callers items rows self.new ≡ flushes_without_wait (book_by callers items rows self.old) ticket) }
+    /// A flush of this queue that is ready ends. Where it was served, the oldest of the overflow is served from now on.
+    pub(crate) fn end(&mut self, overflow: &mut Overflow, queue: QueueId, ticket: Number)
+        requires queue { queue.0 < length overflow.old.queues }
+        requires right { (items : ℕ) × (rows : List Row) × IsQueueRight items rows (tickets_at overflow.old.queues queue.0) self.old
+            × Contains (flush_tickets (book_by items rows (tickets_at overflow.old.queues queue.0) self.old)) ticket × IsReady (book_by items rows (tickets_at overflow.old.queues queue.0) self.old) ticket }
+        ensures others { overflow.new ≡ with_tickets overflow.old queue.0 (tickets_at overflow.new.queues queue.0) }
+        ensures right { (items : ℕ) (rows : List Row) → IsQueueRight items rows (tickets_at overflow.old.queues queue.0) self.old
+            → Contains (flush_tickets (book_by items rows (tickets_at overflow.old.queues queue.0) self.old)) ticket → IsReady (book_by items rows (tickets_at overflow.old.queues queue.0) self.old) ticket
+            → IsQueueRight items rows (tickets_at overflow.new.queues queue.0) self.new
+            × (book_by items rows (tickets_at overflow.new.queues queue.0) self.new ≡ flushes_without_wait (book_by items rows (tickets_at overflow.old.queues queue.0) self.old) ticket) }
     {
         match find_served(&self.served, ticket) {
             Some(place) => {
                 self.served.remove(place);
                 free_colour(&mut self.colours, place);
-                serve_oldest(&mut self.served, &mut self.overflow, self.next);
+                serve_oldest(&mut self.served, overflow, queue, self.next);
             }
-            None => remove_ticket(&mut self.overflow, ticket),
+            None => overflow.remove(queue, ticket),
         }
     }
 
-    /// Whether one more ticket may stand.
-    fn has_room(&self, callers: u8) -> bool
-        requires { (items : ℕ) × (rows : List Row) × IsQueueRight callers items rows self.now }
-        ensures { (items : ℕ) (rows : List Row) → IsTrue result ↔ HasRoom (book_by callers items rows self.now) }
+    /// Whether this ticket comes after those of all flushes of this queue that stand.
+    pub(crate) fn is_latest(&self, overflow: &Overflow, queue: QueueId, ticket: Number) -> bool
+        requires queue { queue.0 < length overflow.now.queues }
+        requires right { (items : ℕ) × (rows : List Row) × IsQueueRight items rows (tickets_at overflow.now.queues queue.0) self.now }
+        ensures { (items : ℕ) (rows : List Row) → IsTrue result ↔ IsLatestFlush (book_by items rows (tickets_at overflow.now.queues queue.0) self.now) ticket }
     {
-        let standing = self.served.len() + self.overflow.len() + self.drains.len();
-        standing < TICKETS_OF_CALLER * usize::from(callers)
+        is_latest_served(&self.served, ticket) && overflow.is_latest(queue, ticket)
     }
 
-    /// Whether a flush may begin with this ticket.
-    pub(crate) fn may_begin(&self, callers: u8, ticket: Number) -> bool
-        requires { (items : ℕ) × (rows : List Row) × IsQueueRight callers items rows self.now }
-        ensures { (items : ℕ) (rows : List Row) → IsTrue result ↔ CanBegin (book_by callers items rows self.now) ticket }
+    /// Whether a flush of this queue has begun with this ticket and hasn't ended.
+    pub(crate) fn stands(&self, overflow: &Overflow, queue: QueueId, ticket: Number) -> bool
+        requires queue { queue.0 < length overflow.now.queues }
+        requires right { (items : ℕ) × (rows : List Row) × IsQueueRight items rows (tickets_at overflow.now.queues queue.0) self.now }
+        ensures { (items : ℕ) (rows : List Row) → IsTrue result ↔ Contains (flush_tickets (book_by items rows (tickets_at overflow.now.queues queue.0) self.now)) ticket }
     {
-        self.is_latest_flush(ticket) && self.has_room(callers)
-    }
-
-    fn is_latest_flush(&self, ticket: Number) -> bool
-        requires { (callers items : ℕ) × (rows : List Row) × IsQueueRight callers items rows self.now }
-        ensures { (callers items : ℕ) (rows : List Row) → IsTrue result ↔ All (λ t. t < ticket) (flush_tickets (book_by callers items rows self.now)) }
-    {
-        is_latest_served(&self.served, ticket) && is_latest(&self.overflow, ticket)
-    }
-
-    /// Whether a flush has begun with this ticket and hasn't ended.
-    pub(crate) fn stands(&self, ticket: Number) -> bool
-        requires { (callers items : ℕ) × (rows : List Row) × IsQueueRight callers items rows self.now }
-        ensures { (callers items : ℕ) (rows : List Row) → IsTrue result ↔ Contains (flush_tickets (book_by callers items rows self.now)) ticket }
-    {
-        is_served(&self.served, ticket) || has_ticket(&self.overflow, ticket)
-    }
-
-    /// Whether a drain may begin with this ticket.
-    pub(crate) fn may_drain(&self, callers: u8, ticket: Number) -> bool
-        requires { (items : ℕ) × (rows : List Row) × IsQueueRight callers items rows self.now }
-        ensures { (items : ℕ) (rows : List Row) → IsTrue result ↔ CanDrain (book_by callers items rows self.now) ticket }
-    {
-        is_latest(&self.drains, ticket) && self.has_room(callers)
-    }
-
-    /// Whether a drain has begun with this ticket and hasn't ended.
-    pub(crate) fn is_drain(&self, ticket: Number) -> bool
-        requires { (callers items : ℕ) × (rows : List Row) × IsQueueRight callers items rows self.now }
-        ensures { IsTrue result ↔ Contains self.now.drains.items ticket }
-    {
-        has_ticket(&self.drains, ticket)
-    }
-
-    /// A drain begins.
-    pub(crate) fn drain_begin(&mut self, ticket: Number)
-        requires { (callers items : ℕ) × (rows : List Row) × IsQueueRight callers items rows self.old × CanDrain (book_by callers items rows self.old) ticket }
-        ensures { (callers items : ℕ) (rows : List Row) → IsQueueRight callers items rows self.old → CanDrain (book_by callers items rows self.old) ticket
-            → IsQueueRight callers items rows self.new × (book_by callers items rows self.new ≡ after_drain_begin (book_by callers items rows self.old) ticket) }
-    {
-        self.drains.push_reserved(ticket);
-    }
-
-    /// A drain ends.
-    pub(crate) fn drain_end(&mut self, ticket: Number)
-        requires { (callers items : ℕ) × (rows : List Row) × IsQueueRight callers items rows self.old × Contains self.old.drains.items ticket }
-        ensures { (callers items : ℕ) (rows : List Row) → IsQueueRight callers items rows self.old → Contains self.old.drains.items ticket
-            → IsQueueRight callers items rows self.new × (book_by callers items rows self.new ≡ after_drain_end (book_by callers items rows self.old) ticket) }
-    {
-        remove_ticket(&mut self.drains, ticket);
+        is_served(&self.served, ticket) || overflow.stands(queue, ticket)
     }
 }
 
@@ -220,16 +179,15 @@ fn free_colour(colours: &mut [Colour; COLOURS], place: usize)
     colours[place..].rotate_left(1);
 }
 
-/// Serves the oldest flush in overflow, if there is one.
-fn serve_oldest(served: &mut Vec<Served>, overflow: &mut Vec<Number>, bound: u64)
-    requires { vec_len served.old < vec_capacity served.old }
-    ensures served { served.new.items ≡ served_with_oldest served.old.items overflow.old.items bound }
-    ensures overflow { overflow.new.items ≡ without_oldest overflow.old.items }
-    ensures served_capacity { vec_capacity served.new ≡ vec_capacity served.old }
-    ensures overflow_capacity { vec_capacity overflow.new ≡ vec_capacity overflow.old }
+/// Serves the oldest flush of the queue in overflow, if there is one.
+fn serve_oldest(served: &mut Vec<Served>, overflow: &mut Overflow, queue: QueueId, bound: u64)
+    requires fits { vec_len served.old < vec_capacity served.old }
+    requires queue { queue.0 < length overflow.old.queues }
+    ensures served { served.new.items ≡ served_with_oldest served.old.items (tickets_at overflow.old.queues queue.0) bound }
+    ensures capacity { vec_capacity served.new ≡ vec_capacity served.old }
+    ensures overflow { overflow.new ≡ with_tickets overflow.old queue.0 (without_oldest (tickets_at overflow.old.queues queue.0)) }
 {
-    if !overflow.is_empty() {
-        let ticket = overflow.remove(0);
+    if let Some(ticket) = overflow.pop_front(queue) {
         served.push_reserved(Served { ticket, bound });
     }
 }

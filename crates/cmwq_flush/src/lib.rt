@@ -1,15 +1,13 @@
-//! What flushes and drains wait for: the flush books of queues, and the barriers of items.
+//! What flushes and drains wait for: the flush books of queues, and what is open of each item.
 #![tactic(auto)]
 
-mod barrier;
 mod books;
 mod flushes;
 mod limits;
 mod openings;
+mod overflow;
 mod served;
-mod tickets;
 
-pub use barrier::Barrier;
 pub use books::FlushBooks;
 pub use limits::{MOST_SERVED, TICKETS_OF_CALLER};
 pub use served::Served;

@@ -1,5 +1,5 @@
 /// How many unended tickets a caller may have.
-pub const TICKETS_OF_CALLER: usize = 64;
+pub const TICKETS_OF_CALLER: u32 = 64;
 
 /// How many flushes of a queue are served at once.
 pub const MOST_SERVED: usize = 15;

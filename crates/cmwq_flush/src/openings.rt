@@ -1,11 +1,9 @@
 ghost use Rattle.std.specs.Prelude.{◌≡◌, ℕ, ◌+◌, ◌*◌, ◌<◌, ◌≤◌, ◌↔◌, ◌∷◌, ◌++◌, [], if◌then◌else◌, All, AllPairs, Contains, IfOk, IfSome, IsTrue, find, length, replicate, slice_get};
-ghost use Rattle.cmwq_flush.specs.BarrierBook.{is_up_to};
+ghost use Rattle.cmwq_flush.specs.ItemNumbers.{is_up_to, numbers_open};
 ghost use Rattle.cmwq_flush.specs.Numbers.{AreRising};
-ghost use Rattle.cmwq_flush.specs.Rows.{numbers_at, row_numbers, rows_at, rows_with, rows_without};
-ghost use Rattle.cmwq_flush.specs.Openings.{has_number, is_listed, node_number};
-ghost use Rattle.cmwq_flush.specs.Waits.{numbers_in};
+ghost use Rattle.cmwq_flush.specs.Rows.{row_numbers, rows_at, rows_with, rows_without};
+ghost use Rattle.cmwq_flush.specs.Openings.{has_number, is_listed, node_number, numbers_in};
 
-use crate::barrier::Open;
 use cmwq_list::Lists;
 use cmwq_model::{ItemId, Number, QueueId};
 use std::alloc::{AllocError, Global};
@@ -19,6 +17,46 @@ pub(crate) type Colour = u8;
 pub(crate) struct Row {
     pub(crate) number: Number,
     pub(crate) colour: Colour,
+}
+
+/// What is open of an item: its run and its unstarted queueing, the older one first.
+#[derive(Clone, Copy, Debug)]
+pub(crate) enum Open {
+    Nothing,
+    One(Number),
+    Two(Number, Number),
+}
+
+impl Open {
+    /// The least number up to this one.
+    pub(crate) fn first_up_to(self, ticket: Number) -> Option<Number>
+        ensures { result ≡ find (is_up_to ticket) (numbers_in self) }
+    {
+        match self {
+            Open::Nothing => None,
+            Open::One(run) => (run <= ticket).then_some(run),
+            Open::Two(run, _) if run <= ticket => Some(run),
+            Open::Two(_, next) => (next <= ticket).then_some(next),
+        }
+    }
+
+    /// Whether one more may be open.
+    pub(crate) fn takes_one(self) -> bool
+        ensures { IsTrue result ↔ (length (numbers_in self) < 2) }
+    {
+        !matches!(self, Open::Two(..))
+    }
+
+    /// Whether this number is open.
+    pub(crate) fn has(self, number: Number) -> bool
+        ensures { IsTrue result ↔ Contains (numbers_in self) number }
+    {
+        match self {
+            Open::Nothing => false,
+            Open::One(run) => run == number,
+            Open::Two(run, next) => run == number || next == number,
+        }
+    }
 }
 
 /// The open queueings, in a list for each queue, by rising number. An item has two nodes, for its run and its unstarted queueing.
@@ -61,7 +99,7 @@ impl Openings {
     pub(crate) fn open(&mut self, queue: QueueId, item: ItemId, row: Row)
         requires queue { queue.0 < length self.old.rows }
         requires item { item.0 < length self.old.opened }
-        requires free { length (numbers_at self.old.opened item.0) < 2 }
+        requires free { length (numbers_open self.old.opened item.0) < 2 }
         requires latest { (q : ℕ) → All (λ r. r.number < row.number) (rows_at self.old.rows q) }
         ensures { self.new ≡ rows_with self.old queue.0 item.0 row }
     {
@@ -72,7 +110,7 @@ impl Openings {
 
     /// The item's queueing of this number is open no more. Its colour is answered.
     pub(crate) fn close(&mut self, item: ItemId, number: Number) -> Colour
-        requires { Contains (numbers_at self.old.opened item.0) number }
+        requires { Contains (numbers_open self.old.opened item.0) number }
         ensures closed { (q : ℕ) → Contains (row_numbers (rows_at self.old.rows q)) number → self.new ≡ rows_without self.old q item.0 number }
         ensures colour { (q : ℕ) → Contains (row_numbers (rows_at self.old.rows q)) number → Contains (rows_at self.old.rows q) (record { number = number; colour = result }) }
     {
@@ -117,7 +155,7 @@ impl Openings {
     pub(crate) fn is_open(&self, queue: QueueId, item: ItemId, number: Number) -> bool
         requires queue { queue.0 < length self.now.rows }
         requires item { item.0 < length self.now.opened }
-        requires of { Contains (numbers_at self.now.opened item.0) number }
+        requires of { Contains (numbers_open self.now.opened item.0) number }
         ensures { IsTrue result ↔ Contains (row_numbers (rows_at self.now.rows queue.0)) number }
     {
         let node = node_of(&self.lists, &self.rows, item, number);
@@ -128,7 +166,7 @@ impl Openings {
     /// What is open of an item.
     pub(crate) fn of_item(&self, item: ItemId) -> Open
         requires { item.0 < length self.now.opened }
-        ensures numbers { numbers_in result ≡ numbers_at self.now.opened item.0 }
+        ensures numbers { numbers_in result ≡ numbers_open self.now.opened item.0 }
         ensures rise { AreRising (numbers_in result) }
     {
         let node = 2 * u32::from(item.0);

@@ -1,5 +1,5 @@
 -- What each call of a flush book leaves, over plain values.
-use Rattle.cmwq_refinement.specs.Common.{◌≡◌, ◌==◌, ◌<◌, ◌≤◌, ◌+◌, ℕ, suc, Bool, true, false, cond, not, List, [], ◌∷◌, ◌++◌, length, map, filter, Option, Some, None, nat_lt, refl, sym, ap, ap₂, ◌∙◌, subst, arith, append-nil, ⊎_elim, is_some, if◌then◌else◌, AllByRecursion, eqb-true, eq-eqb, ne_eqb, ltb-true, ltb-false, append_assoc, map_push, length-append, filter-append, Entry, serving_from, Served, is_other_number, without, tickets_of_served, has_ticket, is_other_flush, FlushBook, flush_tickets, served_of, flush_from, flushes_with_wait, flushes_without_wait, serve_oldest, served_with_oldest, without_oldest, after_drain_begin, after_drain_end, IsServing, All_map, All_append, All_filter, find_none}
+use Rattle.cmwq_refinement.specs.Common.{◌≡◌, ◌==◌, ◌<◌, ◌≤◌, ◌+◌, ℕ, suc, Bool, true, false, cond, not, List, [], ◌∷◌, ◌++◌, length, map, filter, Option, Some, None, nat_lt, refl, sym, ap, ap₂, ◌∙◌, subst, arith, append-nil, ⊎_elim, is_some, if◌then◌else◌, AllByRecursion, eqb-true, eq-eqb, ne_eqb, ltb-true, ltb-false, append_assoc, map_push, length-append, filter-append, Entry, serving_from, Served, is_other_number, without, tickets_of_served, has_ticket, is_other_flush, FlushBook, flush_tickets, served_of, flush_from, flushes_with_wait, flushes_without_wait, serve_oldest, served_with_oldest, without_oldest, IsServing, All_map, All_append, All_filter, find_none}
 use Rattle.cmwq_flush.specs.Served.{ticket_of_served}
 use Rattle.cmwq_refinement.specs.FlushBooks.{IsServedFrom}
 use Rattle.cmwq_lemmas.proofs.Members.{In, of_in, found}
@@ -11,10 +11,9 @@ pub data ServedSoon (past : List Entry) (q next : ℕ) (opened : List ℕ) (f : 
   already : IsServedFrom past q opened f → ServedSoon past q next opened f
   just_now : serving_from past q f.ticket ≡ None → f.bound ≡ next → ServedSoon past q next opened f
 
--- the book's flushes and drains are these
-pub record Stands (past : List Entry) (q : ℕ) (flushes drains : List ℕ) (b : FlushBook) : Type 0 where
+-- the book's flushes are these
+pub record Stands (past : List Entry) (q : ℕ) (flushes : List ℕ) (b : FlushBook) : Type 0 where
   pub flushes_are : flush_tickets b ≡ flushes
-  pub drains_are : b.drains ≡ drains
   pub few : length b.served ≤ 15
   pub serving : IsServing b
   pub bounds : AllByRecursion (λ f. f.bound ≤ b.next) b.served
@@ -23,16 +22,15 @@ pub record Stands (past : List Entry) (q : ℕ) (flushes drains : List ℕ) (b :
 
 -- ---- a flush begins
 
-begins : (past : List Entry) (q t : ℕ) (flushes drains : List ℕ) (b : FlushBook) (c : Bool) → nat_lt (length b.served) 15 ≡ c → serving_from past q t ≡ None → Stands past q flushes drains b
-    → Stands past q (flushes ++ t ∷ []) drains (if c then record b { served = b.served ++ flush_from t b.next ∷ [] } else record b { overflow = b.overflow ++ t ∷ [] })
-begins past q t flushes drains b true less unserved is =
+begins : (past : List Entry) (q t : ℕ) (flushes : List ℕ) (b : FlushBook) (c : Bool) → nat_lt (length b.served) 15 ≡ c → serving_from past q t ≡ None → Stands past q flushes b
+    → Stands past q (flushes ++ t ∷ []) (if c then record b { served = b.served ++ flush_from t b.next ∷ [] } else record b { overflow = b.overflow ++ t ∷ [] })
+begins past q t flushes b true less unserved is =
     let few : length b.served < 15 = ltb-true (length b.served) 15 less in
     let longer = length-append b.served (flush_from t b.next ∷ []) in
     let empty : b.overflow ≡ [] = none_over b.overflow few is.serving in
     record {
       flushes_are = ap (λ o. map ticket_of_served (b.served ++ flush_from t b.next ∷ []) ++ o) empty ∙ append-nil (map ticket_of_served (b.served ++ flush_from t b.next ∷ [])) ∙ map_push ticket_of_served b.served (flush_from t b.next)
           ∙ ap (λ xs. xs ++ t ∷ []) (sym (append-nil (tickets_of_served b.served)) ∙ ap (λ o. tickets_of_served b.served ++ o) (sym empty) ∙ is.flushes_are);
-      drains_are = is.drains_are;
       few = omega arith;
       serving = λ some. let none : length b.overflow ≡ 0 = ap length empty in absurd (omega arith);
       bounds = All_append (λ f. f.bound ≤ b.next) b.served (flush_from t b.next ∷ []) is.bounds (omega arith, tt);
@@ -43,12 +41,11 @@ begins past q t flushes drains b true less unserved is =
     none_over : (os : List ℕ) → length b.served < 15 → (0 < length os → length b.served ≡ 15) → os ≡ []
     none_over [] few serving = refl
     none_over (o ∷ os) few serving = let full : length b.served ≡ 15 = serving (omega arith) in absurd (omega arith)
-begins past q t flushes drains b false more unserved is =
+begins past q t flushes b false more unserved is =
     let full : 15 ≤ length b.served = ltb-false (length b.served) 15 more in
     let few = is.few in
     record {
       flushes_are = sym (append_assoc (tickets_of_served b.served) b.overflow (t ∷ [])) ∙ ap (λ xs. xs ++ t ∷ []) is.flushes_are;
-      drains_are = is.drains_are;
       few = is.few;
       serving = λ some. omega arith;
       bounds = is.bounds;
@@ -56,8 +53,8 @@ begins past q t flushes drains b false more unserved is =
       overflowed = All_append (λ u. serving_from past q u ≡ None) b.overflow (t ∷ []) is.overflowed (unserved, tt);
     }
 
-pub stands_begin : (past : List Entry) (q t : ℕ) (flushes drains : List ℕ) (b : FlushBook) → serving_from past q t ≡ None → Stands past q flushes drains b → Stands past q (flushes ++ t ∷ []) drains (flushes_with_wait b t)
-stands_begin past q t flushes drains b unserved is = begins past q t flushes drains b (nat_lt (length b.served) 15) refl unserved is
+pub stands_begin : (past : List Entry) (q t : ℕ) (flushes : List ℕ) (b : FlushBook) → serving_from past q t ≡ None → Stands past q flushes b → Stands past q (flushes ++ t ∷ []) (flushes_with_wait b t)
+stands_begin past q t flushes b unserved is = begins past q t flushes b (nat_lt (length b.served) 15) refl unserved is
 
 -- ---- a flush ends
 
@@ -101,9 +98,9 @@ first_part (x ∷ xs) ys h = (each xs h.0, first_part xs ys h.1)
     each (z ∷ zs) k = (k.0, each zs k.1)
 
 -- one that is served ends, and the oldest of the overflow is served
-served_ends : (past : List Entry) (q t : ℕ) (flushes drains : List ℕ) (b : FlushBook) (overflow : List ℕ) → b.overflow ≡ overflow → RisesBy itself (flush_tickets b) → In t (tickets_of_served b.served) → Stands past q flushes drains b
-    → Stands past q (without t flushes) drains (record b { served = served_with_oldest (filter (is_other_flush t) b.served) overflow b.next; overflow = without_oldest overflow })
-served_ends past q t flushes drains b overflow over rise here is = with overflow over
+served_ends : (past : List Entry) (q t : ℕ) (flushes : List ℕ) (b : FlushBook) (overflow : List ℕ) → b.overflow ≡ overflow → RisesBy itself (flush_tickets b) → In t (tickets_of_served b.served) → Stands past q flushes b
+    → Stands past q (without t flushes) (record b { served = served_with_oldest (filter (is_other_flush t) b.served) overflow b.next; overflow = without_oldest overflow })
+served_ends past q t flushes b overflow over rise here is = with overflow over
   where
     apart : without t b.overflow ≡ b.overflow
     apart = without_none t b.overflow (later_differ t b.overflow (rises_apart (tickets_of_served b.served) b.overflow t rise here))
@@ -117,13 +114,12 @@ served_ends past q t flushes drains b overflow over rise here is = with overflow
     kept : (P : Served → Type 0) → AllByRecursion P b.served → AllByRecursion P (filter (is_other_flush t) b.served)
     kept P h = All_filter P (is_other_flush t) b.served (All_map P (λ f. is_other_flush t f ≡ true → P f) b.served (λ f k other. k) h)
 
-    with : (os : List ℕ) → b.overflow ≡ os → Stands past q (without t flushes) drains (record b { served = served_with_oldest (filter (is_other_flush t) b.served) os b.next; overflow = without_oldest os })
+    with : (os : List ℕ) → b.overflow ≡ os → Stands past q (without t flushes) (record b { served = served_with_oldest (filter (is_other_flush t) b.served) os b.next; overflow = without_oldest os })
     with [] e =
         let size = shorter in
         let few = is.few in
         record {
           flushes_are = ap (λ o. tickets_of_served (filter (is_other_flush t) b.served) ++ o) (sym e) ∙ sym left;
-          drains_are = is.drains_are;
           few = omega arith;
           serving = λ some. absurd (omega arith);
           bounds = kept (λ f. f.bound ≤ b.next) is.bounds;
@@ -140,7 +136,6 @@ served_ends past q t flushes drains b overflow over rise here is = with overflow
         record {
           flushes_are = ap (λ xs. xs ++ os) (map_push ticket_of_served (filter (is_other_flush t) b.served) (flush_from o b.next)) ∙ append_assoc (tickets_of_served (filter (is_other_flush t) b.served)) (o ∷ []) os
               ∙ ap (λ ys. tickets_of_served (filter (is_other_flush t) b.served) ++ ys) (sym e) ∙ sym left;
-          drains_are = is.drains_are;
           few = omega arith;
           serving = λ more. omega arith;
           bounds = All_append (λ f. f.bound ≤ b.next) (filter (is_other_flush t) b.served) (flush_from o b.next ∷ []) (kept (λ f. f.bound ≤ b.next) is.bounds) (omega arith, tt);
@@ -157,11 +152,10 @@ length_without t (n ∷ ns) = here (not (n == t)) (length_without t ns)
     here false le = omega arith
 
 -- one in overflow ends
-overflow_ends : (past : List Entry) (q t : ℕ) (flushes drains : List ℕ) (b : FlushBook) → AllByRecursion (λ f. has_ticket t f ≡ false) b.served → Stands past q flushes drains b
-    → Stands past q (without t flushes) drains (record b { overflow = without t b.overflow })
-overflow_ends past q t flushes drains b absent is = record {
+overflow_ends : (past : List Entry) (q t : ℕ) (flushes : List ℕ) (b : FlushBook) → AllByRecursion (λ f. has_ticket t f ≡ false) b.served → Stands past q flushes b
+    → Stands past q (without t flushes) (record b { overflow = without t b.overflow })
+overflow_ends past q t flushes b absent is = record {
   flushes_are = ap (λ xs. xs ++ without t b.overflow) (sym (without_none t (tickets_of_served b.served) (each b.served absent))) ∙ sym (filter-append (is_other_number t) (tickets_of_served b.served) b.overflow) ∙ ap (without t) is.flushes_are;
-  drains_are = is.drains_are;
   few = is.few;
   serving = λ some. let le = length_without t b.overflow in is.serving (omega arith);
   bounds = is.bounds;
@@ -173,22 +167,12 @@ overflow_ends past q t flushes drains b absent is = record {
     each [] h = tt
     each (f ∷ fs) h = (h.0, each fs h.1)
 
-ends : (past : List Entry) (q t : ℕ) (flushes drains : List ℕ) (b : FlushBook) (o : Option Served) → served_of b t ≡ o → RisesBy itself (flush_tickets b) → Stands past q flushes drains b
-    → Stands past q (without t flushes) drains (if is_some o then serve_oldest b (filter (is_other_flush t) b.served) else record b { overflow = without t b.overflow })
-ends past q t flushes drains b None is rise stands = overflow_ends past q t flushes drains b (find_none (has_ticket t) b.served is) stands
-ends past q t flushes drains b (Some f) is rise stands =
+ends : (past : List Entry) (q t : ℕ) (flushes : List ℕ) (b : FlushBook) (o : Option Served) → served_of b t ≡ o → RisesBy itself (flush_tickets b) → Stands past q flushes b
+    → Stands past q (without t flushes) (if is_some o then serve_oldest b (filter (is_other_flush t) b.served) else record b { overflow = without t b.overflow })
+ends past q t flushes b None is rise stands = overflow_ends past q t flushes b (find_none (has_ticket t) b.served is) stands
+ends past q t flushes b (Some f) is rise stands =
     let k = found (has_ticket t) b.served f is in
-    served_ends past q t flushes drains b b.overflow refl rise (subst (λ n. In n (tickets_of_served b.served)) (eqb-true f.ticket t k.1) (numbers_have ticket_of_served b.served f k.0)) stands
+    served_ends past q t flushes b b.overflow refl rise (subst (λ n. In n (tickets_of_served b.served)) (eqb-true f.ticket t k.1) (numbers_have ticket_of_served b.served f k.0)) stands
 
-pub stands_end : (past : List Entry) (q t : ℕ) (flushes drains : List ℕ) (b : FlushBook) → RisesBy itself flushes → Stands past q flushes drains b → Stands past q (without t flushes) drains (flushes_without_wait b t)
-stands_end past q t flushes drains b rise is = ends past q t flushes drains b (served_of b t) refl (subst (RisesBy itself) (sym is.flushes_are) rise) is
-
--- ---- drains begin and end
-
-pub stands_drain_begin : (past : List Entry) (q t : ℕ) (flushes drains : List ℕ) (b : FlushBook) → Stands past q flushes drains b → Stands past q flushes (drains ++ t ∷ []) (after_drain_begin b t)
-stands_drain_begin past q t flushes drains b is =
-    record { flushes_are = is.flushes_are; drains_are = ap (λ xs. xs ++ t ∷ []) is.drains_are; few = is.few; serving = is.serving; bounds = is.bounds; soon = is.soon; overflowed = is.overflowed }
-
-pub stands_drain_end : (past : List Entry) (q t : ℕ) (flushes drains : List ℕ) (b : FlushBook) → Stands past q flushes drains b → Stands past q flushes (without t drains) (after_drain_end b t)
-stands_drain_end past q t flushes drains b is =
-    record { flushes_are = is.flushes_are; drains_are = ap (without t) is.drains_are; few = is.few; serving = is.serving; bounds = is.bounds; soon = is.soon; overflowed = is.overflowed }
+pub stands_end : (past : List Entry) (q t : ℕ) (flushes : List ℕ) (b : FlushBook) → RisesBy itself flushes → Stands past q flushes b → Stands past q (without t flushes) (flushes_without_wait b t)
+stands_end past q t flushes b rise is = ends past q t flushes b (served_of b t) refl (subst (RisesBy itself) (sym is.flushes_are) rise) is

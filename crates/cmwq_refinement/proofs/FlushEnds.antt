@@ -56,7 +56,7 @@ done_flushes_may_end s past e q b t legal is h flush = (stands, by t.call flush 
     k = ended_ready s past e t legal h
 
     stands : Contains (flush_tickets b) t.number
-    stands = (unended_flushes_stand s past q b t is (in_contained (unended_tickets past) t k.stands)).0 flush
+    stands = unended_flushes_stand s past q b t is (in_contained (unended_tickets past) t k.stands) flush
 
     by : (c : Call) → flushes q c ≡ true → waits_for past t.number c ≡ None → IsReady b t.number
     by (call.Flush r) same ready = (ready_flushes_wait_for_nothing s past r b t.number (subst (λ j. AreFlushes s past j b) (sym (eqb-true r.0 q same)) is) stands).1 ready

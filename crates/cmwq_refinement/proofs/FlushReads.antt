@@ -1,5 +1,5 @@
 -- What a flush book answers is what the definitions say.
-use Rattle.cmwq_refinement.specs.Common.{◌≡◌, ◌<◌, ◌≤◌, ◌↔◌, ℕ, suc, Bool, true, false, cond, ◌||◌, List, [], ◌∷◌, length, map, filter, find, count_by, Option, Some, None, nat_lt, nat_le, refl, sym, ap, ◌∙◌, subst, arith, ⊎_elim, option_map, slice_get, Contains, All, MatchOption, AllByRecursion, list_any, eqb-true, eq-eqb, lt-ltb, ltb-false, le-ltb, leb-true, le-leb, false≢true, recursion_from_All, All-from_recursion, QueueId, Entry, Queueing, Ticket, Layout, still_open, unended_tickets, is_flush_of, is_drain_of, is_draining, serving_from, is_within, is_older_flush, waits_for, Served, tickets_of_served, has_ticket, FlushBook, flush_tickets, served_of, All_map, find_none, none_found}
+use Rattle.cmwq_refinement.specs.Common.{◌≡◌, ◌<◌, ◌≤◌, ◌↔◌, ℕ, Bool, true, false, cond, List, [], ◌∷◌, map, filter, find, count_by, Option, Some, None, nat_lt, nat_le, refl, sym, ap, ◌∙◌, subst, arith, ⊎_elim, option_map, slice_get, Contains, All, MatchOption, AllByRecursion, eqb-true, eq-eqb, ltb-false, le-ltb, leb-true, le-leb, false≢true, recursion_from_All, All-from_recursion, QueueId, Entry, Queueing, Ticket, Layout, still_open, unended_tickets, is_flush_of, serving_from, is_within, is_older_flush, waits_for, Served, tickets_of_served, has_ticket, FlushBook, flush_tickets, served_of, All_map, find_none, none_found}
 use Rattle.cmwq_model.specs.declared.call.Call.TheVariants as call
 use Rattle.cmwq_flush.specs.FlushBook.{IsReady}
 use Rattle.cmwq_refinement.specs.ByNumber.{number_of_queueing, number_of_ticket}
@@ -57,13 +57,9 @@ ready_flushes_wait_for_nothing s past q b t is here = by (served_of b t) refl
 
 -- ---- what stands
 
-stand : (p : Ticket → Bool) (past : List Entry) (ns : List ℕ) (t : Ticket) → ns ≡ map number_of_ticket (filter p (unended_tickets past)) → Contains (unended_tickets past) t → p t ≡ true → Contains ns t.number
-stand p past ns t are here passes =
-    in_contained ns t.number (subst (In t.number) (sym are) (numbers_have number_of_ticket (filter p (unended_tickets past)) t (filter_in p (unended_tickets past) t (contained_in (unended_tickets past) t here) passes)))
-
-pub unended_flushes_stand : (s : Layout) (past : List Entry) (q : ℕ) (b : FlushBook) (t : Ticket) → AreFlushes s past q b → Contains (unended_tickets past) t
-    → (is_flush_of q t ≡ true → Contains (flush_tickets b) t.number) × (is_drain_of q t ≡ true → Contains b.drains t.number)
-unended_flushes_stand s past q b t is here = ((λ flush. stand (is_flush_of q) past (flush_tickets b) t is.flushes here flush), (λ drain. stand (is_drain_of q) past b.drains t is.drains here drain))
+pub unended_flushes_stand : (s : Layout) (past : List Entry) (q : ℕ) (b : FlushBook) (t : Ticket) → AreFlushes s past q b → Contains (unended_tickets past) t → is_flush_of q t ≡ true → Contains (flush_tickets b) t.number
+unended_flushes_stand s past q b t is here flush =
+    in_contained (flush_tickets b) t.number (subst (In t.number) (sym is.flushes) (numbers_have number_of_ticket (filter (is_flush_of q) (unended_tickets past)) t (filter_in (is_flush_of q) (unended_tickets past) t (contained_in (unended_tickets past) t here) flush)))
 
 -- ---- who is in overflow
 
@@ -115,14 +111,3 @@ drains_wait_for_least_open s past q b t is = (least, least)
   where
     least : option_map number_of_queueing (find (is_on_queue q.0) (still_open past)) ≡ slice_get b.opened 0
     least = first_number (is_on_queue q.0) (still_open past) ∙ ap (λ ns. slice_get ns 0) (sym is.opened)
-
-some_drain : (p : Ticket → Bool) (ts : List Ticket) → list_any p ts ≡ nat_lt 0 (length (map number_of_ticket (filter p ts)))
-some_drain p [] = refl
-some_drain p (t ∷ ts) = here (p t) (some_drain p ts)
-  where
-    here : (c : Bool) → list_any p ts ≡ nat_lt 0 (length (map number_of_ticket (filter p ts))) → (c || list_any p ts) ≡ nat_lt 0 (length (map number_of_ticket (cond c (t ∷ filter p ts) (filter p ts))))
-    here true later = sym (lt-ltb 0 (suc (length (map number_of_ticket (filter p ts)))) (omega arith))
-    here false later = later
-
-pub draining_while_drains_stand : (s : Layout) (past : List Entry) (q : ℕ) (b : FlushBook) → AreFlushes s past q b → is_draining past q ≡ nat_lt 0 (length b.drains)
-draining_while_drains_stand s past q b is = some_drain (is_drain_of q) (unended_tickets past) ∙ ap (λ ns. nat_lt 0 (length ns)) (sym is.drains)

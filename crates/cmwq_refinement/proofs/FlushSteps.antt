@@ -1,16 +1,15 @@
 -- A flush book refines a history, entry by entry.
-use Rattle.cmwq_refinement.specs.Common.{◌≡◌, ◌==◌, ◌<◌, ◌≤◌, ◌+◌, ℕ, suc, Bool, true, false, cond, not, ◌&&◌, List, [], ◌∷◌, ◌++◌, length, map, filter, count_by, Option, Some, None, option_to_list, nat_lt, nat_le, refl, sym, ap, ap₂, ◌∙◌, subst, arith, append-nil, ◌⊎◌, inl, inr, ⊎_elim, is_some, if◌then◌else◌, option_or, same_Some, AllByRecursion, lt-ltb, le-ltb, le-leb, lt-leb, map-append, length-map, filter-append, Call, Entry, Queueing, Ticket, Layout, still_open, opening, queueings, unended_tickets, tickets, flushes, drains, is_flush_of, is_drain_of, serving_from, is_served_after, is_older_flush, IsLegal, Served, is_other_number, without, tickets_of_served, FlushBook, new_book, flush_tickets, served_of, flushes_with_open, flushes_without_open, flushes_with_wait, flushes_without_wait, after_drain_begin, after_drain_end, IsServing, survives, ending, All_map, All_append, All_filter, count_by-filter, opening_number, open_go_on, is_kept, ticket_ended, unended_go_on, served_stay}
+use Rattle.cmwq_refinement.specs.Common.{◌≡◌, ◌==◌, ◌<◌, ◌≤◌, ◌+◌, ℕ, suc, Bool, true, false, cond, not, ◌&&◌, List, [], ◌∷◌, ◌++◌, length, map, filter, count_by, Option, Some, None, option_to_list, nat_lt, nat_le, refl, sym, ap, ap₂, ◌∙◌, subst, arith, append-nil, ◌⊎◌, inl, inr, ⊎_elim, is_some, if◌then◌else◌, option_or, same_Some, AllByRecursion, lt-ltb, le-ltb, le-leb, lt-leb, map-append, length-map, filter-append, Entry, Queueing, Ticket, Layout, still_open, opening, queueings, unended_tickets, tickets, is_flush_of, serving_from, is_served_after, is_older_flush, IsLegal, Served, is_other_number, without, tickets_of_served, FlushBook, new_book, flush_tickets, served_of, flushes_with_open, flushes_without_open, flushes_with_wait, flushes_without_wait, IsServing, survives, ending, All_map, All_append, All_filter, count_by-filter, opening_number, open_go_on, is_kept, ticket_ended, unended_go_on, served_stay}
 use Rattle.cmwq_flush.specs.Served.{ticket_of_served}
-use Rattle.cmwq_model.specs.declared.call.Call.TheVariants as call
 use Rattle.cmwq_refinement.specs.ByNumber.{number_of_queueing, number_of_ticket, ticket_given}
-use Rattle.cmwq_refinement.specs.FlushBooks.{is_on_queue, open_numbers, flush_numbers, drain_numbers, IsServedFrom, AreFlushes, flushes_after_end, flushes_after_opening, flushes_after_done, flushes_after_begun, flushes_after_queueings, flushes_after_tickets}
+use Rattle.cmwq_refinement.specs.FlushBooks.{is_on_queue, open_numbers, flush_numbers, IsServedFrom, AreFlushes, flushes_after_end, flushes_after_opening, flushes_after_done, flushes_after_begun, flushes_after_queueings, flushes_after_tickets}
 use Rattle.cmwq_lemmas.proofs.Members.{In, of_in, all_in, in_left}
 use Rattle.cmwq_lemmas.proofs.Rising.{RisesBy, rises_filter}
 use Rattle.cmwq_refinement.proofs.Numbers.{itself, numbers_rise, numbers_all, numbers_have, numbers_without, numbers_lack, filter_goes_on, count_numbers, is_less, fewer_before, all_before}
 use Rattle.cmwq_refinement.proofs.TicketSteps.{unended_rise, unended_below, TicketStep, ticket_step, ends_one, ends_none, ends_only, ticket_in_is}
 use Rattle.cmwq_refinement.proofs.QueueingSteps.{QueueingStep, queueing_step, open_numbers_rise}
 use Rattle.cmwq_refinement.proofs.QueueingSteps as queueing
-use Rattle.cmwq_refinement.proofs.FlushCalls.{ServedSoon, already, just_now, Stands, stands_begin, stands_end, stands_drain_begin, stands_drain_end}
+use Rattle.cmwq_refinement.proofs.FlushCalls.{ServedSoon, already, just_now, Stands, stands_begin, stands_end}
 use Rattle.cmwq_theory_steps.proofs.TicketSteps.{not_served_yet}
 
 -- ---- from which position a flush is served
@@ -60,11 +59,9 @@ flush_numbers_below past q = numbers_all number_of_ticket (λ n. n < length past
 
 -- where only the open numbers and what comes next may differ
 pub record SameTickets (old b : FlushBook) : Type 0 where
-  pub callers : b.callers ≡ old.callers
   pub items : b.items ≡ old.items
   pub served : b.served ≡ old.served
   pub overflow : b.overflow ≡ old.overflow
-  pub drains : b.drains ≡ old.drains
 
 -- each open number is an older one, or this
 abbrev pub IsOldOr : ℕ → FlushBook → ℕ → Type 0
@@ -98,35 +95,35 @@ without_all P n ns h = All_filter P (is_other_number n) ns (All_map P (λ m. is_
 
 ended_on : (o : Option Queueing) (q n : ℕ) (b : FlushBook) → AllByRecursion (λ m. m < b.next) b.opened → b.next ≤ n → OpensOn n b (flushes_after_end o q b)
 ended_on None q n b older next =
-    record { tickets = record { callers = refl; items = refl; served = refl; overflow = refl; drains = refl }; older = older; next = omega arith; later = omega arith; from = old_all n b }
+    record { tickets = record { items = refl; served = refl; overflow = refl }; older = older; next = omega arith; later = omega arith; from = old_all n b }
 ended_on (Some x) q n b older next = here (is_on_queue q x)
   where
     here : (c : Bool) → OpensOn n b (if c then flushes_without_open b x.number else b)
     here true = record {
-      tickets = record { callers = refl; items = refl; served = refl; overflow = refl; drains = refl };
+      tickets = record { items = refl; served = refl; overflow = refl };
       older = without_all (λ m. m < b.next) x.number b.opened older;
       next = omega arith;
       later = omega arith;
       from = without_all (IsOldOr n b) x.number b.opened (old_all n b);
     }
-    here false = record { tickets = record { callers = refl; items = refl; served = refl; overflow = refl; drains = refl }; older = older; next = omega arith; later = omega arith; from = old_all n b }
+    here false = record { tickets = record { items = refl; served = refl; overflow = refl }; older = older; next = omega arith; later = omega arith; from = old_all n b }
 
 opened_on : (o : Option Queueing) (q n : ℕ) (b : FlushBook) → ((x : Queueing) → o ≡ Some x → x.number ≡ n) → AllByRecursion (λ m. m < b.next) b.opened → b.next ≤ n → OpensOn n b (flushes_after_opening o q b)
 opened_on None q n b number older next =
-    record { tickets = record { callers = refl; items = refl; served = refl; overflow = refl; drains = refl }; older = older; next = omega arith; later = omega arith; from = old_all n b }
+    record { tickets = record { items = refl; served = refl; overflow = refl }; older = older; next = omega arith; later = omega arith; from = old_all n b }
 opened_on (Some x) q n b number older next = here (is_on_queue q x)
   where
     here : (c : Bool) → OpensOn n b (if c then flushes_with_open b x.number else b)
     here true =
         let is : x.number ≡ n = number x refl in
         record {
-          tickets = record { callers = refl; items = refl; served = refl; overflow = refl; drains = refl };
+          tickets = record { items = refl; served = refl; overflow = refl };
           older = All_append (λ m. m < x.number + 1) b.opened (x.number ∷ []) (All_map (λ m. m < b.next) (λ m. m < x.number + 1) b.opened (λ m less. omega arith) older) (omega arith, tt);
           next = omega arith;
           later = omega arith;
           from = All_append (IsOldOr n b) b.opened (x.number ∷ []) (old_all n b) (inr is, tt);
         }
-    here false = record { tickets = record { callers = refl; items = refl; served = refl; overflow = refl; drains = refl }; older = older; next = omega arith; later = omega arith; from = old_all n b }
+    here false = record { tickets = record { items = refl; served = refl; overflow = refl }; older = older; next = omega arith; later = omega arith; from = old_all n b }
 
 pub opened_numbers : (o : Option Queueing) (q : ℕ) (b : FlushBook) → (flushes_after_opening o q b).opened ≡ b.opened ++ map number_of_queueing (filter (is_on_queue q) (option_to_list o))
 opened_numbers None q b = sym (append-nil b.opened)
@@ -150,11 +147,9 @@ opens_twice n a b c h le k =
     let second = k.later in
     record {
       tickets = record {
-        callers = k.tickets.callers ∙ h.tickets.callers;
         items = k.tickets.items ∙ h.tickets.items;
         served = k.tickets.served ∙ h.tickets.served;
         overflow = k.tickets.overflow ∙ h.tickets.overflow;
-        drains = k.tickets.drains ∙ h.tickets.drains;
       };
       older = k.older;
       next = k.next;
@@ -178,10 +173,9 @@ applied_on past e q b older next =
     (opened_on (opening past e) q (length past) (flushes_after_end (ending past e) q b) (opening_number past e) first.older (omega arith))
 
 -- a flush that is served stays so
-pub soon_after : (s : Layout) (past : List Entry) (q : ℕ) (old b : FlushBook) → AreFlushes s past q old → OpensOn (length past) old b → Stands past q (flush_numbers q (unended_tickets past)) (drain_numbers q (unended_tickets past)) b
+pub soon_after : (s : Layout) (past : List Entry) (q : ℕ) (old b : FlushBook) → AreFlushes s past q old → OpensOn (length past) old b → Stands past q (flush_numbers q (unended_tickets past)) b
 soon_after s past q old b is on = record {
   flushes_are = ap₂ (λ fs os. tickets_of_served fs ++ os) on.tickets.served on.tickets.overflow ∙ is.flushes;
-  drains_are = on.tickets.drains ∙ is.drains;
   few = subst (λ fs. length fs ≤ 15) (sym on.tickets.served) is.few;
   serving = λ some. ap length on.tickets.served ∙ is.serving (subst (λ os. 0 < length os) on.tickets.overflow some);
   bounds = subst (AllByRecursion (λ f. f.bound ≤ b.next)) (sym on.tickets.served) (All_map (λ f. f.bound ≤ old.next) (λ f. f.bound ≤ b.next) old.served (λ f le. let later = on.later in omega arith) is.bounds);
@@ -206,56 +200,39 @@ soon_after s past q old b is on = record {
 
 -- ---- tickets are applied to the book
 
-pub flush_no_drain : (q : ℕ) (c : Call) → flushes q c ≡ true → drains q c ≡ false
-flush_no_drain q (call.Flush r) h = refl
-flush_no_drain q c h = cc
-
 abbrev pub StandsAs : List Entry → ℕ → List Ticket → FlushBook → Type 0
-StandsAs past q ts b = Stands past q (flush_numbers q ts) (drain_numbers q ts) b
+StandsAs past q ts b = Stands past q (flush_numbers q ts) b
 
-same_stands : (past : List Entry) (q : ℕ) (fs gs ds es : List ℕ) (b : FlushBook) → fs ≡ gs → ds ≡ es → Stands past q fs ds b → Stands past q gs es b
-same_stands past q fs gs ds es b hf hd is = subst (λ xs. Stands past q gs xs b) hd (subst (λ xs. Stands past q xs ds b) hf is)
+same_stands : (past : List Entry) (q : ℕ) (fs gs : List ℕ) (b : FlushBook) → fs ≡ gs → Stands past q fs b → Stands past q gs b
+same_stands past q fs gs b same is = subst (λ xs. Stands past q xs b) same is
 
 pub stands_done : (past : List Entry) (e : Entry) (q : ℕ) (b : FlushBook) → TicketStep past e → StandsAs past q (unended_tickets past) b → StandsAs past q (filter (is_kept e) (unended_tickets past)) (flushes_after_done (ticket_ended past e) q b)
 stands_done past e q b (ends_none is all) stands =
     subst (λ o. StandsAs past q (filter (is_kept e) (unended_tickets past)) (flushes_after_done o q b)) (sym is) (subst (λ ts. StandsAs past q ts b) (sym (filter_goes_on number_of_ticket (is_kept e) (unended_tickets past) all)) stands)
-stands_done past e q b (ends_one u is here it) stands = subst (λ o. StandsAs past q (filter (is_kept e) (unended_tickets past)) (flushes_after_done o q b)) (sym is) (kind (is_flush_of q u) (is_drain_of q u) refl refl)
+stands_done past e q b (ends_one u is here it) stands = subst (λ o. StandsAs past q (filter (is_kept e) (unended_tickets past)) (flushes_after_done o q b)) (sym is) (kind (is_flush_of q u) refl)
   where
-    left : (p : Ticket → Bool) → map number_of_ticket (filter p (filter (is_kept e) (unended_tickets past))) ≡ without u.number (map number_of_ticket (filter p (unended_tickets past)))
-    left p = numbers_without number_of_ticket p (is_kept e) u.number (unended_tickets past) (all_in (λ t. is_kept e t ≡ not (t.number == u.number)) (unended_tickets past) (ends_only past e u here it))
+    left : flush_numbers q (filter (is_kept e) (unended_tickets past)) ≡ without u.number (flush_numbers q (unended_tickets past))
+    left = numbers_without number_of_ticket (is_flush_of q) (is_kept e) u.number (unended_tickets past) (all_in (λ t. is_kept e t ≡ not (t.number == u.number)) (unended_tickets past) (ends_only past e u here it))
 
-    lacks : (p : Ticket → Bool) → p u ≡ false → map number_of_ticket (filter p (unended_tickets past)) ≡ map number_of_ticket (filter p (filter (is_kept e) (unended_tickets past)))
-    lacks p fails = sym (left p ∙ numbers_lack number_of_ticket p u (unended_tickets past) (unended_rise past) here fails)
-
-    kind : (f d : Bool) → is_flush_of q u ≡ f → is_drain_of q u ≡ d → StandsAs past q (filter (is_kept e) (unended_tickets past)) (if f then flushes_without_wait b u.number else if d then after_drain_end b u.number else b)
-    kind true d hf hd = same_stands past q (without u.number (flush_numbers q (unended_tickets past))) _ (drain_numbers q (unended_tickets past)) _ (flushes_without_wait b u.number)
-        (sym (left (is_flush_of q))) (lacks (is_drain_of q) (flush_no_drain q u.call hf))
-        (stands_end past q u.number (flush_numbers q (unended_tickets past)) (drain_numbers q (unended_tickets past)) b (flush_numbers_rise past q) stands)
-    kind false true hf hd = same_stands past q (flush_numbers q (unended_tickets past)) _ (without u.number (drain_numbers q (unended_tickets past))) _ (after_drain_end b u.number)
-        (lacks (is_flush_of q) hf) (sym (left (is_drain_of q)))
-        (stands_drain_end past q u.number (flush_numbers q (unended_tickets past)) (drain_numbers q (unended_tickets past)) b stands)
-    kind false false hf hd = same_stands past q (flush_numbers q (unended_tickets past)) _ (drain_numbers q (unended_tickets past)) _ b (lacks (is_flush_of q) hf) (lacks (is_drain_of q) hd) stands
+    kind : (f : Bool) → is_flush_of q u ≡ f → StandsAs past q (filter (is_kept e) (unended_tickets past)) (if f then flushes_without_wait b u.number else b)
+    kind true flush = same_stands past q (without u.number (flush_numbers q (unended_tickets past))) _ (flushes_without_wait b u.number) (sym left)
+        (stands_end past q u.number (flush_numbers q (unended_tickets past)) b (flush_numbers_rise past q) stands)
+    kind false other = same_stands past q (flush_numbers q (unended_tickets past)) _ b (sym (left ∙ numbers_lack number_of_ticket (is_flush_of q) u (unended_tickets past) (unended_rise past) here other)) stands
 
 numbers_more : (p : Ticket → Bool) (ts us : List Ticket) → map number_of_ticket (filter p (ts ++ us)) ≡ map number_of_ticket (filter p ts) ++ map number_of_ticket (filter p us)
 numbers_more p ts us = ap (map number_of_ticket) (filter-append p ts us) ∙ map-append number_of_ticket (filter p ts) (filter p us)
 
 stands_begun : (past : List Entry) (q : ℕ) (ts : List Ticket) (o : Option Ticket) (b : FlushBook) → ((t : Ticket) → o ≡ Some t → length past ≤ t.number) → StandsAs past q ts b → StandsAs past q (ts ++ option_to_list o) (flushes_after_begun o q b)
 stands_begun past q ts None b number stands = subst (λ xs. StandsAs past q xs b) (sym (append-nil ts)) stands
-stands_begun past q ts (Some t) b number stands = kind (is_flush_of q t) (is_drain_of q t) refl refl
+stands_begun past q ts (Some t) b number stands = kind (is_flush_of q t) refl
   where
-    newest : (p : Ticket → Bool) → p t ≡ true → map number_of_ticket (filter p ts) ++ t.number ∷ [] ≡ map number_of_ticket (filter p (ts ++ t ∷ []))
-    newest p passes = sym (numbers_more p ts (t ∷ []) ∙ ap (λ b. map number_of_ticket (filter p ts) ++ map number_of_ticket (cond b (t ∷ []) [])) passes)
+    more : (f : Bool) → is_flush_of q t ≡ f → flush_numbers q (ts ++ t ∷ []) ≡ flush_numbers q ts ++ map number_of_ticket (cond f (t ∷ []) [])
+    more f same = numbers_more (is_flush_of q) ts (t ∷ []) ∙ ap (λ c. flush_numbers q ts ++ map number_of_ticket (cond c (t ∷ []) [])) same
 
-    same : (p : Ticket → Bool) → p t ≡ false → map number_of_ticket (filter p ts) ≡ map number_of_ticket (filter p (ts ++ t ∷ []))
-    same p fails = sym (numbers_more p ts (t ∷ []) ∙ ap (λ b. map number_of_ticket (filter p ts) ++ map number_of_ticket (cond b (t ∷ []) [])) fails ∙ append-nil (map number_of_ticket (filter p ts)))
-
-    kind : (f d : Bool) → is_flush_of q t ≡ f → is_drain_of q t ≡ d → StandsAs past q (ts ++ t ∷ []) (if f then flushes_with_wait b t.number else if d then after_drain_begin b t.number else b)
-    kind true d hf hd = same_stands past q (flush_numbers q ts ++ t.number ∷ []) _ (drain_numbers q ts) _ (flushes_with_wait b t.number)
-        (newest (is_flush_of q) hf) (same (is_drain_of q) (flush_no_drain q t.call hf))
-        (stands_begin past q t.number (flush_numbers q ts) (drain_numbers q ts) b (not_served_yet past q t.number (number t refl)) stands)
-    kind false true hf hd = same_stands past q (flush_numbers q ts) _ (drain_numbers q ts ++ t.number ∷ []) _ (after_drain_begin b t.number) (same (is_flush_of q) hf) (newest (is_drain_of q) hd)
-        (stands_drain_begin past q t.number (flush_numbers q ts) (drain_numbers q ts) b stands)
-    kind false false hf hd = same_stands past q (flush_numbers q ts) _ (drain_numbers q ts) _ b (same (is_flush_of q) hf) (same (is_drain_of q) hd) stands
+    kind : (f : Bool) → is_flush_of q t ≡ f → StandsAs past q (ts ++ t ∷ []) (if f then flushes_with_wait b t.number else b)
+    kind true flush = same_stands past q (flush_numbers q ts ++ t.number ∷ []) _ (flushes_with_wait b t.number) (sym (more true flush))
+        (stands_begin past q t.number (flush_numbers q ts) b (not_served_yet past q t.number (number t refl)) stands)
+    kind false other = same_stands past q (flush_numbers q ts) _ b (sym (more false other ∙ append-nil (flush_numbers q ts))) stands
 
 stands_after : (s : Layout) (past : List Entry) (e : Entry) (q : ℕ) (b : FlushBook) → IsLegal s (e ∷ past) → StandsAs past q (unended_tickets past) b → StandsAs past q (unended_tickets (e ∷ past)) (flushes_after_tickets past e q b)
 stands_after s past e q b legal is =
@@ -265,13 +242,12 @@ stands_after s past e q b legal is =
 
 -- they change nothing that is open
 pub record SameOpen (old b : FlushBook) : Type 0 where
-  pub callers : b.callers ≡ old.callers
   pub items : b.items ≡ old.items
   pub opened : b.opened ≡ old.opened
   pub next : b.next ≡ old.next
 
 same_open : (b : FlushBook) → SameOpen b b
-same_open b = record { callers = refl; items = refl; opened = refl; next = refl }
+same_open b = record { items = refl; opened = refl; next = refl }
 
 open_if : (c : Bool) (old a b : FlushBook) → SameOpen old a → SameOpen old b → SameOpen old (if c then a else b)
 open_if true old a b h k = h
@@ -279,19 +255,17 @@ open_if false old a b h k = k
 
 pub done_open : (o : Option Ticket) (q : ℕ) (b : FlushBook) → SameOpen b (flushes_after_done o q b)
 done_open None q b = same_open b
-done_open (Some t) q b = open_if (is_flush_of q t) b (flushes_without_wait b t.number) _ (open_if (is_some (served_of b t.number)) b _ _ (record { callers = refl; items = refl; opened = refl; next = refl }) (record { callers = refl; items = refl; opened = refl; next = refl }))
-    (open_if (is_drain_of q t) b (after_drain_end b t.number) b (record { callers = refl; items = refl; opened = refl; next = refl }) (same_open b))
+done_open (Some t) q b = open_if (is_flush_of q t) b (flushes_without_wait b t.number) b (open_if (is_some (served_of b t.number)) b _ _ (record { items = refl; opened = refl; next = refl }) (record { items = refl; opened = refl; next = refl })) (same_open b)
 
 begun_open : (o : Option Ticket) (q : ℕ) (b : FlushBook) → SameOpen b (flushes_after_begun o q b)
 begun_open None q b = same_open b
-begun_open (Some t) q b = open_if (is_flush_of q t) b (flushes_with_wait b t.number) _ (open_if (nat_lt (length b.served) 15) b _ _ (record { callers = refl; items = refl; opened = refl; next = refl }) (record { callers = refl; items = refl; opened = refl; next = refl }))
-    (open_if (is_drain_of q t) b (after_drain_begin b t.number) b (record { callers = refl; items = refl; opened = refl; next = refl }) (same_open b))
+begun_open (Some t) q b = open_if (is_flush_of q t) b (flushes_with_wait b t.number) b (open_if (nat_lt (length b.served) 15) b _ _ (record { items = refl; opened = refl; next = refl }) (record { items = refl; opened = refl; next = refl })) (same_open b)
 
 tickets_open : (past : List Entry) (e : Entry) (q : ℕ) (b : FlushBook) → SameOpen b (flushes_after_tickets past e q b)
 tickets_open past e q b =
     let first = done_open (ticket_ended past e) q b in
     let second = begun_open (ticket_given past e) q (flushes_after_done (ticket_ended past e) q b) in
-    record { callers = second.callers ∙ first.callers; items = second.items ∙ first.items; opened = second.opened ∙ first.opened; next = second.next ∙ first.next }
+    record { items = second.items ∙ first.items; opened = second.opened ∙ first.opened; next = second.next ∙ first.next }
 
 -- ---- what stands is served as the history says
 
@@ -346,7 +320,6 @@ flushes_refine s past e q b legal is = after (flushes_after_tickets past e q (fl
 
     after : (c : FlushBook) → SameOpen (flushes_after_queueings past e q b) c → StandsAs past q (unended_tickets (e ∷ past)) c → AreFlushes s (e ∷ past) q c
     after c same k = record {
-      callers = same.callers ∙ on.tickets.callers ∙ is.callers;
       items = same.items ∙ on.tickets.items ∙ is.items;
       opened = same.opened ∙ opened_is s past e q b legal is.opened;
       older = older;
@@ -357,7 +330,6 @@ flushes_refine s past e q b legal is = after (flushes_after_tickets past e q (fl
       bounds = k.bounds;
       served_from = all_in (IsServedFrom (e ∷ past) q c.opened) c.served (λ f i. served_now e past q c f k older next i (of_in (ServedSoon past q c.next c.opened) c.served f k.soon i));
       overflowed = all_in (λ t. serving_from (e ∷ past) q t ≡ None) c.overflow (λ t i. not_yet e past q t (of_in (λ u. serving_from past q u ≡ None) c.overflow t k.overflowed i) (not_served_after e past q t c k i));
-      drains = k.drains_are;
     }
       where
         older : AllByRecursion (λ n. n < c.next) c.opened
@@ -366,10 +338,9 @@ flushes_refine s past e q b legal is = after (flushes_after_tickets past e q (fl
         next : c.next ≤ suc (length past)
         next = let le = on.next in let at = same.next in omega arith
 
-pub flushes_at_first : (s : Layout) (q : ℕ) → AreFlushes s [] q (new_book s.callers s.items)
+pub flushes_at_first : (s : Layout) (q : ℕ) → AreFlushes s [] q (new_book s.items)
 unfolding queueings tickets
 flushes_at_first s q = record {
-  callers = refl;
   items = refl;
   opened = refl;
   older = tt;
@@ -380,5 +351,4 @@ flushes_at_first s q = record {
   bounds = tt;
   served_from = tt;
   overflowed = tt;
-  drains = refl;
 }

@@ -13,11 +13,10 @@ pub mod FlushSteps
 pub mod FlushReads
 pub mod FlushEnds
 pub mod FlushMay
-pub mod BarrierSteps
-pub mod BarrierReads
+pub mod ItemNumberSteps
+pub mod ItemNumberReads
 pub mod ItemNumbers
-pub mod BarrierEnds
-pub mod BarrierMay
+pub mod ItemNumberMay
 pub mod PoolReads
 pub mod PoolNext
 pub mod PoolSlots

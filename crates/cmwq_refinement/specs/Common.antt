@@ -10,12 +10,11 @@ pub use Rattle.std.proofs.lemmas.Option.{same_Some}
 pub use Rattle.std.specs.List.{AllByRecursion, filter_map, list_all, list_any, range_with_len, sum_by}
 pub use Rattle.std.specs.Option.{option_map_or, option_or}
 pub use Rattle.std.specs.Prelude.{All, Contains, IsSome, MatchOption, flat_map, fold, if◌then◌else◌, min, option_and_then, option_map, slice_get, slice_set, ◌*◌}
-pub use Rattle.cmwq_flush.specs.BarrierBook.{BarrierBook, CanBeginBarrier, HasRoomForBarrier, IsReadyBarrier, is_other_wait, is_up_to, new_barriers, numbers_before, numbers_open, tickets_in}
 pub use Rattle.cmwq_flush.specs.Colouring.{IsServing}
-pub use Rattle.cmwq_flush.specs.FlushBook.{CanDrain, CanOpen, FlushBook, after_drain_begin, after_drain_end, flush_from, flush_tickets, flushes_with_open, flushes_with_wait, flushes_without_open, flushes_without_wait, new_book, serve_oldest, served_of, served_with_oldest, without_oldest}
+pub use Rattle.cmwq_flush.specs.FlushBook.{CanOpen, FlushBook, flush_from, flush_tickets, flushes_with_open, flushes_with_wait, flushes_without_open, flushes_without_wait, new_book, serve_oldest, served_of, served_with_oldest, without_oldest}
+pub use Rattle.cmwq_flush.specs.ItemNumbers.{IsItemReady, is_up_to, numbers_open}
 pub use Rattle.cmwq_flush.specs.Numbers.{is_other_number, without}
 pub use Rattle.cmwq_flush.specs.Served.{has_ticket, is_other_flush, tickets_of_served}
-pub use Rattle.cmwq_flush.specs.declared.barrier.Barrier.{Barrier}
 pub use Rattle.cmwq_flush.specs.declared.served.Served.{Served}
 pub use Rattle.cmwq_inflight.specs.Flights.{Flight, flight_at, flights_with_open, flights_with_run, flights_without_open, has_unstarted, no_flight, open_count, with_flight, with_started, with_unstarted, without_run}
 pub use Rattle.cmwq_lemmas.proofs.Filters.{count_by-wider, filter_same, filter_twice, none_found}

@@ -1,11 +1,12 @@
--- The flush book of a queue refines the queue's open queueings and its unended flushes and drains.
-use Rattle.std.specs.Prelude.{◌≡◌, ◌<◌, ◌≤◌, ◌↔◌, ◌==◌, if◌then◌else◌, ◌∷◌}
-use Rattle.cmwq_refinement.specs.Common.{ℕ, Bool, List, length, map, filter, count_by, [], Contains, true, Option, Some, None, slice_get, nat_lt, nat_le, IsTrue, AllByRecursion, QueueId, Entry, Queueing, Ticket, Layout, is_layout, still_open, opening, unended_tickets, is_flush_of, is_drain_of, is_draining, serving_from, is_older_flush, waits_for, IsLegal, ending, ticket_ended, Served, FlushBook, new_book, flush_tickets, CanOpen, CanDrain, flushes_with_open, flushes_without_open, flushes_with_wait, flushes_without_wait, after_drain_begin, after_drain_end, IsServing}
+-- The flush book of a queue refines the queue's open queueings and its unended flushes.
+use Rattle.std.specs.Prelude.{◌≡◌, ◌<◌, ◌≤◌, ◌↔◌, ◌==◌, ◌*◌, if◌then◌else◌, ◌∷◌}
+use Rattle.cmwq_refinement.specs.Common.{ℕ, Bool, List, length, map, filter, count_by, [], Contains, true, Option, Some, None, slice_get, nat_lt, nat_le, IsTrue, AllByRecursion, QueueId, Entry, Queueing, Ticket, Layout, is_layout, still_open, opening, unended_tickets, is_flush_of, serving_from, is_older_flush, waits_for, IsLegal, ending, ticket_ended, Served, FlushBook, new_book, flush_tickets, CanOpen, flushes_with_open, flushes_without_open, flushes_with_wait, flushes_without_wait, IsServing}
 use Rattle.cmwq_model.specs.declared.call.Call.TheVariants as call
-use Rattle.cmwq_flush.specs.FlushBook.{CanBegin, IsReady}
+use Rattle.cmwq_flush.specs.FlushBook.{IsLatestFlush, IsReady}
+use Rattle.cmwq_flush.specs.FlushBooks.{book_in, overflow_count}
 use Rattle.cmwq_refinement.specs.ByNumber.{number_of_queueing, number_of_ticket, ticket_given}
 
--- the numbers of the queue's open queueings, and of the flushes and drains of it among some tickets
+-- the numbers of the queue's open queueings, and of the flushes of it among some tickets
 abbrev pub is_on_queue : ℕ → Queueing → Bool
 is_on_queue q x = x.place.queue.0 == q
 
@@ -15,9 +16,6 @@ open_numbers past q = map number_of_queueing (filter (is_on_queue q) (still_open
 abbrev pub flush_numbers : ℕ → List Ticket → List ℕ
 flush_numbers q ts = map number_of_ticket (filter (is_flush_of q) ts)
 
-abbrev pub drain_numbers : ℕ → List Ticket → List ℕ
-drain_numbers q ts = map number_of_ticket (filter (is_drain_of q) ts)
-
 -- a served flush: of the open numbers those are below its bound that are at most the position from which it is served
 pub record IsServedFrom (past : List Entry) (q : ℕ) (opened : List ℕ) (f : Served) : Type 0 where
   pub position : ℕ
@@ -26,7 +24,6 @@ pub record IsServedFrom (past : List Entry) (q : ℕ) (opened : List ℕ) (f : S
 
 -- the flush book is that of queue q after these entries
 pub record AreFlushes (s : Layout) (past : List Entry) (q : ℕ) (b : FlushBook) : Type 0 where
-  pub callers : b.callers ≡ s.callers
   pub items : b.items ≡ s.items
   pub opened : b.opened ≡ open_numbers past q
   pub older : AllByRecursion (λ n. n < b.next) b.opened
@@ -37,7 +34,6 @@ pub record AreFlushes (s : Layout) (past : List Entry) (q : ℕ) (b : FlushBook)
   pub bounds : AllByRecursion (λ f. f.bound ≤ b.next) b.served
   pub served_from : AllByRecursion (IsServedFrom past q b.opened) b.served
   pub overflowed : AllByRecursion (λ t. serving_from past q t ≡ None) b.overflow
-  pub drains : b.drains ≡ drain_numbers q (unended_tickets past)
 
 -- the book after an open queueing of its queue ended, and after one was opened
 abbrev pub flushes_after_end : Option Queueing → ℕ → FlushBook → FlushBook
@@ -48,14 +44,14 @@ abbrev pub flushes_after_opening : Option Queueing → ℕ → FlushBook → Flu
 flushes_after_opening None q b = b
 flushes_after_opening (Some x) q b = if is_on_queue q x then flushes_with_open b x.number else b
 
--- after a flush or a drain ended, and after one began
+-- after a flush ended, and after one began
 abbrev pub flushes_after_done : Option Ticket → ℕ → FlushBook → FlushBook
 flushes_after_done None q b = b
-flushes_after_done (Some t) q b = if is_flush_of q t then flushes_without_wait b t.number else if is_drain_of q t then after_drain_end b t.number else b
+flushes_after_done (Some t) q b = if is_flush_of q t then flushes_without_wait b t.number else b
 
 abbrev pub flushes_after_begun : Option Ticket → ℕ → FlushBook → FlushBook
 flushes_after_begun None q b = b
-flushes_after_begun (Some t) q b = if is_flush_of q t then flushes_with_wait b t.number else if is_drain_of q t then after_drain_begin b t.number else b
+flushes_after_begun (Some t) q b = if is_flush_of q t then flushes_with_wait b t.number else b
 
 abbrev pub flushes_after_queueings : List Entry → Entry → ℕ → FlushBook → FlushBook
 flushes_after_queueings past e q b = flushes_after_opening (opening past e) q (flushes_after_end (ending past e) q b)
@@ -65,7 +61,7 @@ flushes_after_tickets past e q b = flushes_after_begun (ticket_given past e) q (
 
 -- at first the book is a new one, and each entry's calls make it that of the longer history
 abbrev pub FlushesAtFirst : Type 0
-FlushesAtFirst = (s : Layout) (q : ℕ) → AreFlushes s [] q (new_book s.callers s.items)
+FlushesAtFirst = (s : Layout) (q : ℕ) → AreFlushes s [] q (new_book s.items)
 
 abbrev pub FlushesRefine : Type 0
 FlushesRefine = (s : Layout) (past : List Entry) (e : Entry) (q : ℕ) (b : FlushBook) → IsLegal s (e ∷ past) → AreFlushes s past q b
@@ -80,23 +76,19 @@ abbrev pub FlushesWaitForLeastOpen : Type 0
 FlushesWaitForLeastOpen = (s : Layout) (past : List Entry) (q : QueueId) (b : FlushBook) (t n : ℕ) → AreFlushes s past q.0 b → Contains (flush_tickets b) t
     → waits_for past t (call.Flush q) ≡ Some n → slice_get b.opened 0 ≡ Some n
 
--- a drain and a destroy wait for the least open queueing, and the queue is draining while one is unended
+-- a drain and a destroy wait for the least open queueing
 abbrev pub DrainsWaitForLeastOpen : Type 0
 DrainsWaitForLeastOpen = (s : Layout) (past : List Entry) (q : QueueId) (b : FlushBook) (t : ℕ) → AreFlushes s past q.0 b
     → (waits_for past t (call.Drain q) ≡ slice_get b.opened 0) × (waits_for past t (call.Destroy q) ≡ slice_get b.opened 0)
-
-abbrev pub DrainingWhileDrainsStand : Type 0
-DrainingWhileDrainsStand = (s : Layout) (past : List Entry) (q : ℕ) (b : FlushBook) → AreFlushes s past q b → is_draining past q ≡ nat_lt 0 (length b.drains)
 
 -- a flush that stands is in overflow exactly where 15 older ones of the queue or more are unended
 abbrev pub OverflowedAreBehindFifteen : Type 0
 OverflowedAreBehindFifteen = (s : Layout) (past : List Entry) (q : ℕ) (b : FlushBook) (t : ℕ) → AreFlushes s past q b → Contains (flush_tickets b) t
     → Contains b.overflow t ↔ (15 ≤ count_by (is_older_flush q t) (unended_tickets past))
 
--- an unended flush or drain of the queue stands in the book, so that the book may be asked for it
+-- an unended flush of the queue stands in the book, so that the book may be asked for it
 abbrev pub UnendedFlushesStand : Type 0
-UnendedFlushesStand = (s : Layout) (past : List Entry) (q : ℕ) (b : FlushBook) (t : Ticket) → AreFlushes s past q b → Contains (unended_tickets past) t
-    → (is_flush_of q t ≡ true → Contains (flush_tickets b) t.number) × (is_drain_of q t ≡ true → Contains b.drains t.number)
+UnendedFlushesStand = (s : Layout) (past : List Entry) (q : ℕ) (b : FlushBook) (t : Ticket) → AreFlushes s past q b → Contains (unended_tickets past) t → is_flush_of q t ≡ true → Contains (flush_tickets b) t.number
 
 -- a flush whose end is answered done in a legal history stands in the book and is ready, so that the call may be made
 abbrev pub DoneFlushesMayEnd : Type 0
@@ -114,11 +106,11 @@ MayOpenInFlushes (Some x) q b = is_on_queue q x ≡ true → CanOpen b x.number
 
 abbrev pub MayBeDoneInFlushes : Option Ticket → ℕ → FlushBook → Type 0
 MayBeDoneInFlushes None q b = Unit {0}
-MayBeDoneInFlushes (Some t) q b = (is_flush_of q t ≡ true → Contains (flush_tickets b) t.number × IsReady b t.number) × (is_drain_of q t ≡ true → Contains b.drains t.number)
+MayBeDoneInFlushes (Some t) q b = is_flush_of q t ≡ true → Contains (flush_tickets b) t.number × IsReady b t.number
 
 abbrev pub MayBeginInFlushes : Option Ticket → ℕ → FlushBook → Type 0
 MayBeginInFlushes None q b = Unit {0}
-MayBeginInFlushes (Some t) q b = (is_flush_of q t ≡ true → CanBegin b t.number) × (is_drain_of q t ≡ true → CanDrain b t.number)
+MayBeginInFlushes (Some t) q b = is_flush_of q t ≡ true → IsLatestFlush b t.number
 
 pub record MayApplyToFlushes (past : List Entry) (e : Entry) (q : ℕ) (b : FlushBook) : Type 0 where
   pub ended : MayEndInFlushes (ending past e) q b
@@ -129,3 +121,12 @@ pub record MayApplyToFlushes (past : List Entry) (e : Entry) (q : ℕ) (b : Flus
 -- so it is in a legal history whose layout is inside the limits
 abbrev pub EntriesApplyToFlushes : Type 0
 EntriesApplyToFlushes = (s : Layout) (past : List Entry) (e : Entry) (q : ℕ) (b : FlushBook) → IsTrue (is_layout s) → IsLegal s (e ∷ past) → AreFlushes s past q b → MayApplyToFlushes past e q b
+
+-- where a ticket is given, there is room in overflow: those in overflow of all queues together are unended tickets, of which a caller has 64 at most
+pub record AreBegun (s : Layout) (past : List Entry) (e : Entry) (old new : List FlushBook) : Type 0 where
+  pub many : length new ≡ length old
+  pub before : (q : ℕ) → q < length old → AreFlushes s past q (book_in old q)
+  pub after : (q : ℕ) → book_in new q ≡ flushes_after_done (ticket_ended past e) q (flushes_after_queueings past e q (book_in old q))
+
+abbrev pub GivenFlushesHaveRoom : Type 0
+GivenFlushesHaveRoom = (s : Layout) (past : List Entry) (e : Entry) (t : Ticket) (old new : List FlushBook) → IsLegal s (e ∷ past) → ticket_given past e ≡ Some t → AreBegun s past e old new → overflow_count new < 64 * s.callers

@@ -2,7 +2,7 @@ pub mod Common
 pub mod Timers
 pub mod ByNumber
 pub mod FlushBooks
-pub mod BarrierBooks
+pub mod ItemNumbers
 pub mod Pools
 pub mod Places
 pub mod Flights

@@ -1,7 +1,7 @@
 //! Where a flush book is that of a queue after some entries, the calls for one more entry make it that of the longer
 //! history, and what it answers is what the definitions say.
 
-ghost use Rattle.cmwq_refinement.specs.FlushBooks.{FlushesAtFirst, FlushesRefine, ReadyFlushesWaitForNothing, FlushesWaitForLeastOpen, DrainsWaitForLeastOpen, DrainingWhileDrainsStand, OverflowedAreBehindFifteen, DoneFlushesMayEnd, EntriesApplyToFlushes, UnendedFlushesStand};
+ghost use Rattle.cmwq_refinement.specs.FlushBooks.{FlushesAtFirst, FlushesRefine, ReadyFlushesWaitForNothing, FlushesWaitForLeastOpen, DrainsWaitForLeastOpen, OverflowedAreBehindFifteen, DoneFlushesMayEnd, EntriesApplyToFlushes, GivenFlushesHaveRoom, UnendedFlushesStand};
 
 /// Where a flush book is that of a queue after some entries, the calls for one more entry make it that of the longer history, and what it
 /// answers is what the definitions say.
@@ -12,8 +12,8 @@ pub fn flushes_refine()
     ensures ready_flushes_wait_for_nothing { ReadyFlushesWaitForNothing }
     ensures flushes_wait_for_least_open { FlushesWaitForLeastOpen }
     ensures drains_wait_for_least_open { DrainsWaitForLeastOpen }
-    ensures draining_while_drains_stand { DrainingWhileDrainsStand }
     ensures overflowed_are_behind_fifteen { OverflowedAreBehindFifteen }
     ensures done_flushes_may_end { DoneFlushesMayEnd }
     ensures entries_apply_to_flushes { EntriesApplyToFlushes }
+    ensures given_flushes_have_room { GivenFlushesHaveRoom }
 {}

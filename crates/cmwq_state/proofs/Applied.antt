@@ -1,5 +1,5 @@
 -- The parts to which an effect is applied are those of the longer history, and it may be applied to them.
-use Rattle.cmwq_state.specs.Common.{◌≡◌, ℕ, ◌*◌, ◌<◌, ◌≤◌, Bool, true, false, ◌&&◌, ◌==◌, ⊎_elim, List, [], ◌∷◌, length, filter, Option, Some, None, refl, sym, ap, ap₂, ◌∙◌, subst, arith, IsTrue, nat_lt, nat_le, if◌then◌else◌, is_some, IfSome, PoolId, Entry, Queueing, Booking, QueueShape, Call, Ticket, Layout, is_layout, pool_at, item_of, settles, due_in, booking_of, still_open, opening, IsLegal, newly_active, is_below_max_active, has_numbers, number_finished, PoolState, lists_item, no_pool, FlushBook, TimerRows, ending, is_ended, pools_refine, flushes_refine, barriers_refine, opened_are_there, open_are_there, In, all_in, in_filter, found, in_contained, eq-eqb, is_in, MayAllBeAdded, PwqState, IsPassed, IsPlacedIf, is_waiting, ArePlaced, width_by, and_parts, ltb-true, eqb-true, false_from_ne_true, cases_lt, All-from_recursion, waits, candidates, newly_are, filter_none, ticket_ended, ended_ready, unended_fit, Flight, tickets_refine, entries_apply_to_tickets, flights_refine, entries_apply_to_flights, pool_after_activation, pool_after_cancel, pool_after_worker, pool_before_activation, pool_of, AreFlushes, MayBeDoneInFlushes, MayBeginInFlushes, MayEndInFlushes, MayOpenInFlushes, flushes_after_begun, flushes_after_done, flushes_after_end, flushes_after_opening, flushes_after_queueings, MayBeDoneInBarriers, MayBeginInBarriers, MayEndInBarriers, MayOpenInBarriers, barriers_after_begun, barriers_after_done, barriers_after_end, barriers_after_opening, barriers_of, MayBeSet, timers_after_settling, timers_of, MayEndInFlight, MayOpenInFlight, MayStartInFlight, flights_after, flights_after_end, flights_after_opening, flights_after_start, flights_of, MayEndTicket, MayGiveTicket, tickets_after_end, tickets_after_giving, tickets_of, MayEndInPwqs, MayOpenInPwqs, pwqs_after_end, pwqs_after_opening}
+use Rattle.cmwq_state.specs.Common.{◌≡◌, ℕ, ◌*◌, ◌<◌, ◌≤◌, Bool, true, false, ◌&&◌, ◌==◌, ⊎_elim, List, [], ◌∷◌, length, filter, Option, Some, None, refl, sym, ap, ap₂, ◌∙◌, subst, arith, IsTrue, nat_lt, nat_le, if◌then◌else◌, is_some, IfSome, PoolId, Entry, Queueing, Booking, QueueShape, Call, Ticket, Layout, is_layout, pool_at, item_of, settles, due_in, booking_of, still_open, opening, IsLegal, newly_active, is_below_max_active, has_numbers, number_finished, PoolState, lists_item, no_pool, FlushBook, TimerRows, ending, is_ended, pools_refine, flushes_refine, numbers_refine, opened_are_there, open_are_there, In, all_in, in_filter, found, in_contained, eq-eqb, is_in, MayAllBeAdded, PwqState, IsPassed, IsPlacedIf, is_waiting, ArePlaced, width_by, and_parts, ltb-true, eqb-true, false_from_ne_true, cases_lt, All-from_recursion, waits, candidates, newly_are, filter_none, ticket_ended, ended_ready, unended_fit, Flight, tickets_refine, entries_apply_to_tickets, flights_refine, entries_apply_to_flights, pool_after_activation, pool_after_cancel, pool_after_worker, pool_before_activation, pool_of, AreFlushes, MayBeDoneInFlushes, MayBeginInFlushes, MayEndInFlushes, MayOpenInFlushes, flushes_after_begun, flushes_after_done, flushes_after_end, flushes_after_opening, flushes_after_queueings, MayEndInNumbers, MayOpenInNumbers, numbers_after_end, numbers_after_opening, numbers_of, MayBeSet, timers_after_settling, timers_of, MayEndInFlight, MayOpenInFlight, MayStartInFlight, flights_after, flights_after_end, flights_after_opening, flights_after_start, flights_of, MayEndTicket, MayGiveTicket, tickets_after_end, tickets_after_giving, tickets_of, MayEndInPwqs, MayOpenInPwqs, pwqs_after_end, pwqs_after_opening}
 use Rattle.cmwq_theory_steps.proofs.Standing.{due_settles}
 use Rattle.cmwq_ticket.specs.Rows.{TicketBook}
 use Rattle.cmwq_theory_active.proofs.Rising.{opening_number}
@@ -7,17 +7,17 @@ use Rattle.cmwq_refinement.specs.Places as places
 use Rattle.std.specs.Prelude.{All}
 use Rattle.std.proofs.lemmas.List.{get_or_default}
 use Rattle.std.proofs.Common.{get_or}
-use Rattle.cmwq_flush.specs.FlushBooks.{FlushState, book_in, no_book}
+use Rattle.cmwq_flush.specs.FlushBooks.{FlushState, book_in, no_book, overflow_count}
 use Rattle.cmwq_refinement.proofs.FlushSteps.{ended_next}
-use Rattle.cmwq_refinement.proofs.FlushMay.{entries_apply_to_flushes}
+use Rattle.cmwq_refinement.specs.FlushBooks.{AreBegun}
+use Rattle.cmwq_refinement.proofs.FlushMay.{entries_apply_to_flushes, given_flushes_have_room}
 use Rattle.cmwq_refinement.proofs.TimerMay.{timers_refine, timers_may_be_set}
-use Rattle.cmwq_refinement.proofs.BarrierMay.{entries_apply_to_barriers}
-use Rattle.cmwq_flush.specs.BarrierBook as barriers_book
+use Rattle.cmwq_refinement.proofs.ItemNumberMay.{entries_apply_to_numbers}
 use Rattle.cmwq_refinement.proofs.PoolAdds.{active_may_be_added, items_are_listed_once}
 use mathlib.Core.Bool.{beq}
 use Rattle.cmwq_refinement.proofs.PlacesFit.{open_there as open_in_there}
 use Rattle.cmwq_model.specs.declared.call.Call.TheVariants as call
-use Rattle.cmwq_model.specs.Tickets.{flushes as flushes_queue, drains as drains_queue}
+use Rattle.cmwq_model.specs.Tickets.{flushes as flushes_queue}
 use Rattle.cmwq_refinement.proofs.Settled.{numbers_fit}
 use Rattle.cmwq_refinement.proofs.TicketSteps.{ticket_in_is}
 use Rattle.cmwq_state.specs.Gone.{AreGone, MayLoseQueue}
@@ -28,7 +28,7 @@ use Rattle.cmwq_state.specs.Widths.{AreWidths, MaySetWidth}
 use Rattle.cmwq_state.proofs.WidthSteps.{widths_are}
 use Rattle.cmwq_state.proofs.Listing.{may_all_same}
 use Rattle.cmwq_state.proofs.PwqsSteps.{ArePassed, IsReadyToPass, are_placed, pwqs_ended, pwqs_opened, pwqs_passed}
-use Rattle.cmwq_state.specs.Tables.{pool_in, pool_place, pool_listing, ListEachItemOnce, only, those_in, ArePools, AreBooks, EachPool, EachBook, IsListable, MayBeListed, MayEndInBooks, MayOpenInBooks, MayCancelInPools, MayBeDoneInBooks, MayBeginInBooks, MayEndWait, MayBeginWait}
+use Rattle.cmwq_state.specs.Tables.{pool_in, pool_place, pool_listing, ListEachItemOnce, only, those_in, ArePools, AreBooks, EachPool, EachBook, IsListable, MayBeListed, MayEndInBooks, MayOpenInBooks, MayCancelInPools, MayBeDoneInBooks, MayBeginInBooks, MayEndFlush, MayBeginFlush}
 use Rattle.cmwq_state.specs.Effects.{IsEffect}
 use Rattle.cmwq_model.specs.Prelude.{item_number}
 use Rattle.cmwq_state.specs.declared.effect.Effect.{Effect}
@@ -106,26 +106,24 @@ list_once s past f old mid late activated is are first second newly p q i hp hq 
 
 -- ---- flush books
 
-pub books_applied : (s : Layout) (past : List Entry) (f : Effect) (old mid late end new : List FlushBook) → IsEffect s past f → AreBooks s past old → EachBook (flushes_after_end f.ended) old mid → EachBook (flushes_after_opening f.opened) mid late → EachBook (flushes_after_done f.done) late end → EachBook (flushes_after_begun f.begun) end new → AreBooks s (f.entry ∷ past) new
-books_applied s past f old mid late end new is are first second third fourth = record {
+pub numbers_apply : (s : Layout) (past : List Entry) (f : Effect) → IsEffect s past f → numbers_after_opening f.opened (numbers_after_end f.ended (numbers_of s past)) ≡ numbers_of s (f.entry ∷ past)
+numbers_apply s past f is = ap₂ (λ o x. numbers_after_opening o (numbers_after_end x (numbers_of s past))) is.opened is.ended ∙ sym (numbers_refine s past f.entry is.legal)
+
+pub books_applied : (s : Layout) (past : List Entry) (f : Effect) (old mid late end new : FlushState) → IsEffect s past f → AreBooks s past old → EachBook (flushes_after_end f.ended) old mid → EachBook (flushes_after_opening f.opened) mid late → EachBook (flushes_after_done f.done) late end → EachBook (flushes_after_begun f.begun) end new
+    → mid.opened ≡ numbers_after_end f.ended old.opened → late.opened ≡ numbers_after_opening f.opened mid.opened → end.opened ≡ late.opened → new.opened ≡ end.opened → AreBooks s (f.entry ∷ past) new
+books_applied s past f old mid late end new is are first second third fourth ended opened done begun = record {
+  room = fourth.room ∙ (third.room ∙ (second.room ∙ (first.room ∙ are.room)));
   many = fourth.many ∙ (third.many ∙ (second.many ∙ (first.many ∙ are.many)));
   each = λ q here. subst (AreFlushes s (f.entry ∷ past) q)
       (sym (fourth.each q ∙ ap₂ (λ o b. flushes_after_begun o q b) is.begun
       (third.each q ∙ ap₂ (λ o b. flushes_after_done o q b) is.done
       (second.each q ∙ ap₂ (λ o b. flushes_after_opening o q b) is.opened
-      (first.each q ∙ ap (λ o. flushes_after_end o q (book_in old q)) is.ended)))))
-      (flushes_refine s past f.entry q (book_in old q) is.legal (are.each q here));
+      (first.each q ∙ ap (λ o. flushes_after_end o q (book_in old.books q)) is.ended)))))
+      (flushes_refine s past f.entry q (book_in old.books q) is.legal (are.each q here));
+  numbers = begun ∙ (done ∙ (opened ∙ (ap (numbers_after_opening f.opened) (ended ∙ ap (numbers_after_end f.ended) are.numbers) ∙ numbers_apply s past f is)));
 }
 
--- ---- barriers and timers
-
-abbrev pub barriers_applied : Effect → barriers_book.BarrierBook → barriers_book.BarrierBook
-barriers_applied f b = barriers_after_begun f.begun (barriers_after_done f.done (barriers_after_opening f.opened (barriers_after_end f.ended b)))
-
-pub barriers_apply : (s : Layout) (past : List Entry) (f : Effect) → IsEffect s past f → barriers_applied f (barriers_of s past) ≡ barriers_of s (f.entry ∷ past)
-barriers_apply s past f is =
-    ap₂ (λ o b. barriers_after_begun o b) is.begun (ap₂ (λ o b. barriers_after_done o b) is.done (ap₂ (λ o b. barriers_after_opening o b) is.opened (ap (λ o. barriers_after_end o (barriers_of s past)) is.ended)))
-    ∙ sym (barriers_refine s past f.entry is.legal)
+-- ---- timers
 
 applied_by : (e : Entry) (past : List Entry) (rows : TimerRows) (b : Bool) → settles e.reply ≡ b → timers_after_settling (if b then item_of e else None) (booking_of e (length past)) rows ≡ (if b then timers_after_settling (item_of e) (booking_of e (length past)) rows else rows)
 applied_by e past rows true h = refl
@@ -185,11 +183,11 @@ may_cancel s past f old is before many = by f.ended refl
     by None h = tt
     by (Some x) h = let there = open_there s past f x is before h in (there.queue, omega (arith, there.cpu))
 
-pub may_end_books : (s : Layout) (past : List Entry) (f : Effect) (old : FlushState) → IsTrue (is_layout s) → IsEffect s past f → IsLegal s past → AreBooks s past old.books → old.barriers ≡ barriers_of s past → MayEndInBooks f.ended old
-may_end_books s past f old inside is before are same_barriers = by f.ended refl
+pub may_end_books : (s : Layout) (past : List Entry) (f : Effect) (old : FlushState) → IsTrue (is_layout s) → IsEffect s past f → IsLegal s past → AreBooks s past old → MayEndInBooks f.ended old
+may_end_books s past f old inside is before are = by f.ended refl
   where
-    of_item : MayEndInBarriers f.ended old.barriers
-    of_item = rw (is.ended, same_barriers) (entries_apply_to_barriers s past f.entry is.legal).ended
+    of_item : MayEndInNumbers f.ended old.opened
+    of_item = rw (is.ended, are.numbers) (entries_apply_to_numbers s past f.entry is.legal).ended
 
     by : (o : Option Queueing) → f.ended ≡ o → MayEndInBooks o old
     by None h = tt
@@ -199,14 +197,14 @@ may_end_books s past f old inside is before are same_barriers = by f.ended refl
         let may = (entries_apply_to_flushes s past f.entry q (book_in old.books q) inside is.legal (are.each q there.queue)).ended in
         let same : ending past f.entry ≡ Some x = sym is.ended ∙ h in
         let mine = subst (λ o. MayEndInFlushes o q (book_in old.books q)) same may in
-        record { queue = rw are.many there.queue; on = mine (eq-eqb q q refl); of = subst (λ o. MayEndInBarriers o old.barriers) h of_item }
+        record { queue = rw are.many there.queue; on = mine (eq-eqb q q refl); of = subst (λ o. MayEndInNumbers o old.opened) h of_item }
 
-pub may_open_books : (s : Layout) (past : List Entry) (f : Effect) (old mid : FlushState) → length past < 9223372036854775808 → IsTrue (is_layout s) → IsEffect s past f → AreBooks s past old.books → old.barriers ≡ barriers_of s past
-    → EachBook (flushes_after_end f.ended) old.books mid.books → mid.barriers ≡ barriers_after_end f.ended old.barriers → MayOpenInBooks f.opened mid
-may_open_books s past f old mid few inside is are same_barriers applied ended_barriers = by f.opened refl
+pub may_open_books : (s : Layout) (past : List Entry) (f : Effect) (old mid : FlushState) → length past < 9223372036854775808 → IsTrue (is_layout s) → IsEffect s past f → AreBooks s past old
+    → EachBook (flushes_after_end f.ended) old mid → mid.opened ≡ numbers_after_end f.ended old.opened → MayOpenInBooks f.opened mid
+may_open_books s past f old mid few inside is are applied ended = by f.opened refl
   where
-    of_item : MayOpenInBarriers f.opened mid.barriers
-    of_item = rw (ended_barriers, is.opened, is.ended, same_barriers) (entries_apply_to_barriers s past f.entry is.legal).opened
+    of_item : MayOpenInNumbers f.opened mid.opened
+    of_item = rw (ended, is.opened, is.ended, are.numbers) (entries_apply_to_numbers s past f.entry is.legal).opened
 
     book_is : (q : ℕ) → book_in mid.books q ≡ flushes_after_end (ending past f.entry) q (book_in old.books q)
     book_is q = applied.each q ∙ ap (λ o. flushes_after_end o q (book_in old.books q)) is.ended
@@ -230,8 +228,8 @@ may_open_books s past f old mid few inside is are same_barriers applied ended_ba
         let may = (entries_apply_to_flushes s past f.entry q (book_in old.books q) inside is.legal (are.each q there.queue)).opened in
         let mine = subst (λ o. MayOpenInFlushes o q (flushes_after_end (ending past f.entry) q (book_in old.books q))) same may in
         let number : x.number ≡ length past = opening_number past f.entry x same in
-        let item = subst (λ o. MayOpenInBarriers o mid.barriers) h of_item in
-        (record { queue = rw (applied.many, are.many) there.queue; can = rw (book_is q) (mine (eq-eqb q q refl)); latest = latest x.number number; item = item.0; one = item.2 }, omega arith)
+        let item = subst (λ o. MayOpenInNumbers o mid.opened) h of_item in
+        (record { queue = rw (applied.many, are.many) there.queue; can = rw (book_is q) (mine (eq-eqb q q refl)); latest = latest x.number number; item = item.0; one = item.1 }, omega arith)
 
 set_by : (e : Entry) (past : List Entry) (rows : TimerRows) (b : Bool) → settles e.reply ≡ b → MayBeSet (item_of e) (booking_of e (length past)) rows → MayBeSet (if b then item_of e else None) (booking_of e (length past)) rows
 set_by e past rows true h may = may
@@ -249,63 +247,56 @@ may_set_timers s past f is = rw (is.settled, is.booked) (set_by f.entry past (ti
 queue_there : (s : Layout) (q : ℕ) → nat_lt q (length s.queues) ≡ true → (n : ℕ) → n ≡ length s.queues → q < n
 queue_there s q h n many = rw many (ltb-true q (length s.queues) h)
 
-pub may_be_done : (s : Layout) (past : List Entry) (f : Effect) (old mid late : List FlushBook) → IsTrue (is_layout s) → IsEffect s past f → IsLegal s past → AreBooks s past old → EachBook (flushes_after_end f.ended) old mid → EachBook (flushes_after_opening f.opened) mid late → MayBeDoneInBooks f.done late
+pub may_be_done : (s : Layout) (past : List Entry) (f : Effect) (old mid late : FlushState) → IsTrue (is_layout s) → IsEffect s past f → IsLegal s past → AreBooks s past old → EachBook (flushes_after_end f.ended) old mid → EachBook (flushes_after_opening f.opened) mid late → MayBeDoneInBooks f.done late
 may_be_done s past f old mid late inside is before are first second = by f.done refl
   where
-    many : length late ≡ length s.queues
+    many : length late.books ≡ length s.queues
     many = second.many ∙ (first.many ∙ are.many)
 
-    may : (t : Ticket) (q : ℕ) → f.done ≡ Some t → q < length s.queues → MayBeDoneInFlushes (Some t) q (book_in late q)
+    may : (t : Ticket) (q : ℕ) → f.done ≡ Some t → q < length s.queues → MayBeDoneInFlushes (Some t) q (book_in late.books q)
     may t q h here =
-        let applied : book_in late q ≡ flushes_after_queueings past f.entry q (book_in old q) = second.each q ∙ ap₂ (λ o b. flushes_after_opening o q b) is.opened (first.each q ∙ ap (λ o. flushes_after_end o q (book_in old q)) is.ended) in
-        let m = (entries_apply_to_flushes s past f.entry q (book_in old q) inside is.legal (are.each q here)).done in
-        rw applied (subst (λ o. MayBeDoneInFlushes o q (flushes_after_queueings past f.entry q (book_in old q))) (sym is.done ∙ h) m)
+        let applied : book_in late.books q ≡ flushes_after_queueings past f.entry q (book_in old.books q) = second.each q ∙ ap₂ (λ o b. flushes_after_opening o q b) is.opened (first.each q ∙ ap (λ o. flushes_after_end o q (book_in old.books q)) is.ended) in
+        let m = (entries_apply_to_flushes s past f.entry q (book_in old.books q) inside is.legal (are.each q here)).done in
+        rw applied (subst (λ o. MayBeDoneInFlushes o q (flushes_after_queueings past f.entry q (book_in old.books q))) (sym is.done ∙ h) m)
 
-    by_call : (t : Ticket) → f.done ≡ Some t → (c : Call) → t.call ≡ c → has_numbers s c ≡ true → MayEndWait c t.number late
+    by_call : (t : Ticket) → f.done ≡ Some t → (c : Call) → t.call ≡ c → has_numbers s c ≡ true → MayEndFlush c t.number late
     by_call t h (call.Flush q) same fit =
-        let here = queue_there s q.0 fit (length s.queues) refl in let m = (may t q.0 h here).0 (ap (flushes_queue q.0) same ∙ eq-eqb q.0 q.0 refl) in
+        let here = queue_there s q.0 fit (length s.queues) refl in let m = may t q.0 h here (ap (flushes_queue q.0) same ∙ eq-eqb q.0 q.0 refl) in
         (rw many here, m.0, m.1)
-    by_call t h (call.Drain q) same fit =
-        let here = queue_there s q.0 fit (length s.queues) refl in (rw many here, (may t q.0 h here).1 (ap (drains_queue q.0) same ∙ eq-eqb q.0 q.0 refl))
-    by_call t h (call.Destroy q) same fit =
-        let here = queue_there s q.0 fit (length s.queues) refl in (rw many here, (may t q.0 h here).1 (ap (drains_queue q.0) same ∙ eq-eqb q.0 q.0 refl))
     by_call t h c same fit = tt
 
     by : (o : Option Ticket) → f.done ≡ o → MayBeDoneInBooks o late
     by None h = tt
     by (Some t) h = by_call t h t.call refl (unended_fit s past t before (ended_ready s past f.entry t is.legal (sym is.done ∙ h)).stands)
 
-pub may_begin : (s : Layout) (past : List Entry) (f : Effect) (old mid late end : List FlushBook) → IsTrue (is_layout s) → IsEffect s past f → AreBooks s past old → EachBook (flushes_after_end f.ended) old mid → EachBook (flushes_after_opening f.opened) mid late → EachBook (flushes_after_done f.done) late end → MayBeginInBooks f.begun end
+pub may_begin : (s : Layout) (past : List Entry) (f : Effect) (old mid late end : FlushState) → IsTrue (is_layout s) → IsEffect s past f → AreBooks s past old → EachBook (flushes_after_end f.ended) old mid → EachBook (flushes_after_opening f.opened) mid late → EachBook (flushes_after_done f.done) late end → MayBeginInBooks f.begun end
 may_begin s past f old mid late end inside is are first second third = by f.begun refl
   where
-    many : length end ≡ length s.queues
-    many = third.many ∙ (second.many ∙ (first.many ∙ are.many))
+    many : length end.books ≡ length old.books
+    many = third.many ∙ (second.many ∙ first.many)
 
-    may : (t : Ticket) (q : ℕ) → f.begun ≡ Some t → q < length s.queues → MayBeginInFlushes (Some t) q (book_in end q)
-    may t q h here =
-        let applied : book_in end q ≡ flushes_after_done (ticket_ended past f.entry) q (flushes_after_queueings past f.entry q (book_in old q)) =
-        third.each q ∙ ap₂ (λ o b. flushes_after_done o q b) is.done (second.each q ∙ ap₂ (λ o b. flushes_after_opening o q b) is.opened (first.each q ∙ ap (λ o. flushes_after_end o q (book_in old q)) is.ended)) in
-        let m = (entries_apply_to_flushes s past f.entry q (book_in old q) inside is.legal (are.each q here)).begun in
-        rw applied (subst (λ o. MayBeginInFlushes o q (flushes_after_done (ticket_ended past f.entry) q (flushes_after_queueings past f.entry q (book_in old q)))) (sym is.begun ∙ h) m)
+    applied : (q : ℕ) → book_in end.books q ≡ flushes_after_done (ticket_ended past f.entry) q (flushes_after_queueings past f.entry q (book_in old.books q))
+    applied q = third.each q ∙ ap₂ (λ o b. flushes_after_done o q b) is.done (second.each q ∙ ap₂ (λ o b. flushes_after_opening o q b) is.opened (first.each q ∙ ap (λ o. flushes_after_end o q (book_in old.books q)) is.ended))
 
-    by_call : (t : Ticket) → f.begun ≡ Some t → (c : Call) → t.call ≡ c → has_numbers s c ≡ true → MayBeginWait c t.number end
+    latest : (t : Ticket) (q : ℕ) → f.begun ≡ Some t → q < length s.queues → MayBeginInFlushes (Some t) q (book_in end.books q)
+    latest t q h here =
+        let m = (entries_apply_to_flushes s past f.entry q (book_in old.books q) inside is.legal (are.each q here)).begun in
+        rw (applied q) (subst (λ o. MayBeginInFlushes o q (flushes_after_done (ticket_ended past f.entry) q (flushes_after_queueings past f.entry q (book_in old.books q)))) (sym is.begun ∙ h) m)
+
+    room : (t : Ticket) → f.begun ≡ Some t → overflow_count end.books < end.room
+    room t h =
+        let begun : AreBegun s past f.entry old.books end.books = record { many = many; before = λ q there. are.each q (rw (← are.many) there); after = applied } in
+        let less = given_flushes_have_room s past f.entry t old.books end.books is.legal (sym is.begun ∙ h) begun in
+        rw (third.room ∙ (second.room ∙ (first.room ∙ are.room))) less
+
+    by_call : (t : Ticket) → f.begun ≡ Some t → (c : Call) → t.call ≡ c → has_numbers s c ≡ true → MayBeginFlush c t.number end
     by_call t h (call.Flush q) same fit =
-        let here = queue_there s q.0 fit (length s.queues) refl in (rw many here, (may t q.0 h here).0 (ap (flushes_queue q.0) same ∙ eq-eqb q.0 q.0 refl))
-    by_call t h (call.Drain q) same fit =
-        let here = queue_there s q.0 fit (length s.queues) refl in (rw many here, (may t q.0 h here).1 (ap (drains_queue q.0) same ∙ eq-eqb q.0 q.0 refl))
-    by_call t h (call.Destroy q) same fit =
-        let here = queue_there s q.0 fit (length s.queues) refl in (rw many here, (may t q.0 h here).1 (ap (drains_queue q.0) same ∙ eq-eqb q.0 q.0 refl))
+        let here = queue_there s q.0 fit (length s.queues) refl in (rw (many, are.many) here, record { latest = latest t q.0 h here (ap (flushes_queue q.0) same ∙ eq-eqb q.0 q.0 refl); room = room t h })
     by_call t h c same fit = tt
 
     by : (o : Option Ticket) → f.begun ≡ o → MayBeginInBooks o end
     by None h = tt
     by (Some t) h = by_call t h t.call refl (ap (has_numbers s) (ticket_in_is f.entry (length past) t (sym is.begun ∙ h)).call ∙ numbers_fit s past f.entry is.legal)
-
-pub may_be_done_barriers : (s : Layout) (past : List Entry) (f : Effect) → IsEffect s past f → MayBeDoneInBarriers f.done (barriers_after_opening f.opened (barriers_after_end f.ended (barriers_of s past)))
-may_be_done_barriers s past f is = rw (is.ended, is.opened, is.done) (entries_apply_to_barriers s past f.entry is.legal).done
-
-pub may_begin_barriers : (s : Layout) (past : List Entry) (f : Effect) → IsEffect s past f → MayBeginInBarriers f.begun (barriers_after_done f.done (barriers_after_opening f.opened (barriers_after_end f.ended (barriers_of s past))))
-may_begin_barriers s past f is = rw (is.ended, is.opened, is.done, is.begun) (entries_apply_to_barriers s past f.entry is.legal).begun
 
 -- ---- what waits
 

@@ -1,12 +1,11 @@
 -- What a ticket still waits for, and which booking fires first, read off the parts.
-use Rattle.cmwq_state.specs.Common.{◌≡◌, ℕ, ◌<◌, Bool, true, false, List, [], ◌∷◌, find, length, Option, Some, None, refl, sym, ap, ◌∙◌, subst, IsTrue, ◌↔◌, Contains, slice_get, option_map, option_and_then, ◌⊎◌, inl, inr, ItemId, Call, Entry, Queueing, Start, Who, Ticket, Layout, unended_tickets, ticket_of, is_ticket, waits_for, item_run, queueing_at, still_open, IsLegal, found, in_contained, runs_are_queueings, found_number, FlushBook, flush_tickets, IsReady, AreFlushes, ready_flushes_wait_for_nothing, flushes_wait_for_least_open, drains_wait_for_least_open, wait_by, wait_for, barriers_of, BarrierBook, tickets_in, is_some}
+use Rattle.cmwq_state.specs.Common.{◌≡◌, ℕ, ◌<◌, Bool, true, false, List, [], ◌∷◌, find, length, Option, Some, None, refl, sym, ap, ◌∙◌, IsTrue, ◌↔◌, Contains, slice_get, option_map, option_and_then, ◌⊎◌, inl, inr, ItemId, Call, Entry, Queueing, Start, Who, Ticket, Layout, unended_tickets, ticket_of, is_ticket, waits_for, item_run, queueing_at, still_open, IsLegal, found, in_contained, runs_are_queueings, found_number, FlushBook, flush_tickets, IsReady, AreFlushes, ready_flushes_wait_for_nothing, flushes_wait_for_least_open, drains_wait_for_least_open, numbers_of}
 use Rattle.cmwq_state.specs.Common.{ltb-true, has_numbers}
 use Rattle.cmwq_model.specs.declared.id.QueueId.{QueueId}
 use Rattle.cmwq_model.specs.declared.call.Call.TheVariants as call
 use Rattle.cmwq_state.specs.Flights.{run_open}
-use Rattle.cmwq_refinement.proofs.BarrierEnds.{unended_waits_stand}
-use Rattle.cmwq_refinement.proofs.BarrierReads.{barriers_wait_for_least}
-use Rattle.cmwq_flush.specs.BarrierBook.{barrier_waits_for as book_waits_for}
+use Rattle.cmwq_refinement.proofs.ItemNumberReads.{items_wait_for_least}
+use Rattle.cmwq_flush.specs.ItemNumbers.{item_waits_for}
 
 -- a flush that is ready waits for nothing, and another for the least that is open
 pub ready_for_none : (s : Layout) (past : List Entry) (q : QueueId) (b : FlushBook) (t : ℕ) (r : Bool) → AreFlushes s past q.0 b → Contains (flush_tickets b) t → IsTrue r ↔ IsReady b t → r ≡ true → None ≡ waits_for past t (call.Flush q)
@@ -49,20 +48,13 @@ run_waits s past i o legal h = ap (option_map (λ (x : Queueing). x.number)) (sy
 
 -- ---- what a flush of an item, a drain and a destroy wait for
 
-abbrev IsItemFlush : Call → Type 0
-IsItemFlush c = ((i : ItemId) × (c ≡ call.FlushItem i)) ⊎ ((i : ItemId) × (c ≡ call.FlushDelayed i))
+pub flushed_there : (s : Layout) (t : Ticket) (i : ItemId) → (t.call ≡ call.FlushItem i) ⊎ (t.call ≡ call.FlushDelayed i) → has_numbers s t.call ≡ true → i.0 < s.items
+flushed_there s t i (inl e) fits = ltb-true i.0 s.items (sym (ap (has_numbers s) e) ∙ fits)
+flushed_there s t i (inr e) fits = ltb-true i.0 s.items (sym (ap (has_numbers s) e) ∙ fits)
 
-waits_item : (t : Ticket) → IsItemFlush t.call → is_some (wait_for t) ≡ true
-waits_item t (inl f) = ap (λ c. is_some (wait_by c t.number)) f.1
-waits_item t (inr f) = ap (λ c. is_some (wait_by c t.number)) f.1
-
-pub barrier_stands : (s : Layout) (past : List Entry) (t : Ticket) (b : BarrierBook) → b ≡ barriers_of s past → Contains (unended_tickets past) t → IsItemFlush t.call → Contains (tickets_in b.barriers) t.number
-barrier_stands s past t b is here item =
-    let P : BarrierBook → Type 0 = λ v. Contains (tickets_in v.barriers) t.number in
-    subst P (sym is) (unended_waits_stand s past t here (waits_item t item))
-
-pub barrier_waits : (s : Layout) (past : List Entry) (t : Ticket) (b : BarrierBook) → b ≡ barriers_of s past → IsLegal s past → Contains (unended_tickets past) t → IsItemFlush t.call → book_waits_for b t.number ≡ waits_for past t.number t.call
-barrier_waits s past t b is legal here item = ap (λ v. book_waits_for v t.number) is ∙ barriers_wait_for_least s past t legal here (waits_item t item)
+pub item_waits : (s : Layout) (past : List Entry) (i : ItemId) (t : Ticket) (opened : List (List ℕ)) → opened ≡ numbers_of s past → i.0 < s.items → (t.call ≡ call.FlushItem i) ⊎ (t.call ≡ call.FlushDelayed i) → item_waits_for opened i.0 t.number ≡ waits_for past t.number t.call
+item_waits s past i t opened are there (inl e) = ap (λ os. item_waits_for os i.0 t.number) are ∙ ((items_wait_for_least s past i t.number there).0 ∙ sym (ap (waits_for past t.number) e))
+item_waits s past i t opened are there (inr e) = ap (λ os. item_waits_for os i.0 t.number) are ∙ ((items_wait_for_least s past i t.number there).1 ∙ sym (ap (waits_for past t.number) e))
 
 -- a drain and a destroy are of a queue that there is
 pub drained_there : (s : Layout) (t : Ticket) (q : QueueId) → (t.call ≡ call.Drain q) ⊎ (t.call ≡ call.Destroy q) → has_numbers s t.call ≡ true → q.0 < length s.queues

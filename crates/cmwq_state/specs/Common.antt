@@ -10,8 +10,7 @@ pub use Rattle.std.specs.List.{AllByRecursion, list_any}
 pub use Rattle.std.specs.Option.{option_map_or}
 pub use Rattle.std.specs.Prelude.{All, Contains, IfNone, IfSome, if◌then◌else◌, option_and_then, option_map, slice_get, slice_index, slice_index_or, slice_set}
 pub use Rattle.std.specs.Vec.{vec_capacity}
-pub use Rattle.cmwq_flush.specs.BarrierBook.{BarrierBook, new_barriers, tickets_in}
-pub use Rattle.cmwq_flush.specs.FlushBook.{CanBegin, CanDrain, CanOpen, FlushBook, IsReady, flush_tickets, new_book}
+pub use Rattle.cmwq_flush.specs.FlushBook.{CanOpen, FlushBook, IsReady, flush_tickets, new_book}
 pub use Rattle.cmwq_inflight.specs.Flights.{Flight, flight_at, no_flight, open_count}
 pub use Rattle.cmwq_lemmas.proofs.Filters.{filter_none, filter_same, none_found}
 pub use Rattle.cmwq_lemmas.proofs.Lists.{All_filter, All_map, count_by-cons, count_by-none}
@@ -36,20 +35,20 @@ pub use Rattle.cmwq_pool.specs.Slots.{slot_at, slot_may_retire, slots_enlisted_b
 pub use Rattle.cmwq_pool.specs.declared.task.Task.{Task}
 pub use Rattle.cmwq_pwq.proofs.Passes.{count_set, on_itself, on_parts, place_inside}
 pub use Rattle.cmwq_pwq.specs.Pwqs.{AreBehind, AreBelowMaxActive, ArePlaced, IsBehind, IsPassed, IsPlaced, IsPlacedIf, MayEndInPwqs, MayOpenInPwqs, Passes, PwqState, count_at, count_of_same_pwq, is_other_waiting, is_waiting, new_pwq_state, place_of, pwqs_after_end, pwqs_after_opening, pwqs_without_open, width_by}
-pub use Rattle.cmwq_refinement.proofs.BarrierSteps.{barriers_at_first, barriers_refine}
 pub use Rattle.cmwq_refinement.proofs.FirstDue.{first_timer_is_first_due, in_standing, no_timer_is_none_due, standing_fits}
 pub use Rattle.cmwq_refinement.proofs.FlightReads.{open_are_in_flight}
 pub use Rattle.cmwq_refinement.proofs.FlightRefine.{entries_apply_to_flights, flights_for_items, flights_refine, no_flights_at_first}
 pub use Rattle.cmwq_refinement.proofs.FlushEnds.{ended_ready}
-pub use Rattle.cmwq_refinement.proofs.FlushReads.{draining_while_drains_stand, drains_wait_for_least_open, flushes_wait_for_least_open, ready_flushes_wait_for_nothing, unended_flushes_stand}
+pub use Rattle.cmwq_refinement.proofs.FlushReads.{drains_wait_for_least_open, flushes_wait_for_least_open, ready_flushes_wait_for_nothing, unended_flushes_stand}
 pub use Rattle.cmwq_refinement.proofs.FlushSteps.{flushes_at_first, flushes_refine}
+pub use Rattle.cmwq_refinement.proofs.ItemNumberSteps.{numbers_at_first, numbers_refine}
 pub use Rattle.cmwq_refinement.proofs.PlacesFit.{open_are_there, open_there, opened_are_there, unended_fit}
 pub use Rattle.cmwq_refinement.proofs.PoolNext.{next_task_is, nexts_are_next}
 pub use Rattle.cmwq_refinement.proofs.PoolReads.{idle_retire_alike, runnables_are_runnable, slot_is, slots_are_workers, slots_for_workers, starts_enlist_alike}
 pub use Rattle.cmwq_refinement.proofs.PoolSteps.{pools_at_first, pools_refine}
 pub use Rattle.cmwq_refinement.proofs.TicketsRefine.{cancelling_alike, crowded_alike, destroyed_alike, draining_alike, entries_apply_to_tickets, no_tickets_at_first, rows_for_callers, tickets_found_alike, tickets_of_any_caller, tickets_refine}
 pub use Rattle.cmwq_refinement.proofs.TimerSteps.{no_timers_at_first, row_at, rows_for_items}
-pub use Rattle.cmwq_refinement.specs.BarrierBooks.{MayBeDoneInBarriers, MayBeginInBarriers, MayEndInBarriers, MayOpenInBarriers, barriers_after_begun, barriers_after_done, barriers_after_end, barriers_after_opening, barriers_of, wait_by, wait_for}
+pub use Rattle.cmwq_refinement.specs.ItemNumbers.{MayEndInNumbers, MayOpenInNumbers, numbers_after_end, numbers_after_opening, numbers_of}
 pub use Rattle.cmwq_refinement.specs.ByNumber.{number_of_queueing, ticket_given}
 pub use Rattle.cmwq_refinement.specs.Flights.{MayEndInFlight, MayOpenInFlight, MayStartInFlight, flight_of, flights_after, flights_after_end, flights_after_opening, flights_after_start, flights_of, queueing_started, starting}
 pub use Rattle.cmwq_refinement.specs.FlushBooks.{AreFlushes, MayBeDoneInFlushes, MayBeginInFlushes, MayEndInFlushes, MayOpenInFlushes, flushes_after_begun, flushes_after_done, flushes_after_end, flushes_after_opening, flushes_after_queueings}

@@ -1,6 +1,7 @@
 -- What the parts of a state are of the past.
 use Rattle.std.specs.Prelude.{◌≡◌, ◌+◌, ◌≤◌}
-use Rattle.cmwq_state.specs.Common.{ℕ, true, Bool, List, length, Entry, Layout, is_layout, most_room, now, IsLegal, past_of, owed, most_time, PoolState, FlushBook, BarrierBook, TimerRows, barriers_of, timers_of, PwqState, Flight, flights_of}
+use Rattle.cmwq_state.specs.Common.{ℕ, true, Bool, List, length, Entry, Layout, is_layout, most_room, now, IsLegal, past_of, owed, most_time, PoolState, TimerRows, timers_of, PwqState, Flight, flights_of}
+use Rattle.cmwq_flush.specs.FlushBooks.{FlushState}
 use Rattle.cmwq_ticket.specs.Rows.{TicketBook}
 use Rattle.cmwq_refinement.specs.Tickets.{tickets_of}
 use Rattle.cmwq_state.specs.Gone.{AreGone}
@@ -11,8 +12,7 @@ use Rattle.cmwq_state.specs.Tables.{ArePools, AreBooks, AreSerials}
 -- the parts, as plain values
 pub record Parts : Type 0 where
   pub pools : List PoolState
-  pub books : List FlushBook
-  pub barriers : BarrierBook
+  pub books : FlushState
   pub timers : TimerRows
   pub time : ℕ
   pub serials : List ℕ
@@ -28,7 +28,6 @@ pub record Parts : Type 0 where
 pub record AreParts (s : Layout) (past : List Entry) (parts : Parts) : Type 0 where
   pub pools : ArePools s past parts.pools
   pub books : AreBooks s past parts.books
-  pub barriers : parts.barriers ≡ barriers_of s past
   pub timers : parts.timers ≡ timers_of s past
   pub time : parts.time ≡ now past
   pub serials : AreSerials s past parts.serials

@@ -1,7 +1,7 @@
 -- The tables of a book: where each pool, each flush book and each serial stands, and what may be applied to them.
 use Rattle.std.specs.Prelude.{◌≡◌, ◌+◌, ◌*◌, ◌<◌, if◌then◌else◌}
-use Rattle.cmwq_state.specs.Common.{ℕ, true, List, length, filter, Option, Some, None, slice_index_or, Contains, IsTrue, All, PoolId, Who, Caller, Worker, Reply, Entry, Queueing, QueueShape, Ticket, Call, Layout, most_callers, most_workers, pool_at, serial_of, same_pool, PoolState, pool_without_task, pool_with_task, pool_numbered, lists_item, may_list, FlushBook, flush_tickets, IsReady, CanBegin, CanDrain, pool_after_activation, pool_of, task_for, MayReplyInPool, AreFlushes, is_in}
-use Rattle.cmwq_flush.specs.FlushBooks.{CanOpenOn, FlushState, IsOpenOn, book_in}
+use Rattle.cmwq_state.specs.Common.{ℕ, true, List, length, filter, Option, Some, None, slice_index_or, Contains, IsTrue, All, PoolId, Who, Caller, Worker, Reply, Entry, Queueing, QueueShape, Ticket, Call, Layout, most_callers, most_workers, pool_at, serial_of, same_pool, PoolState, pool_without_task, pool_with_task, pool_numbered, lists_item, may_list, FlushBook, flush_tickets, IsReady, pool_after_activation, pool_of, task_for, MayReplyInPool, AreFlushes, numbers_of, is_in}
+use Rattle.cmwq_flush.specs.FlushBooks.{CanBegin, CanOpenOn, FlushState, IsOpenOn, book_in}
 use Rattle.cmwq_model.specs.declared.call.Call.TheVariants as call
 
 -- the who is inside the layout
@@ -38,14 +38,17 @@ pub record ArePools (s : Layout) (past : List Entry) (pools : List PoolState) : 
   pub each : (p : PoolId) → p.cpu.0 < s.cpus → pool_in pools p ≡ pool_of s past p
 
 -- each flush book is what `after` makes of the one that stood at its place
-pub record EachBook (after : ℕ → FlushBook → FlushBook) (old new : List FlushBook) : Type 0 where
-  pub many : length new ≡ length old
-  pub each : (q : ℕ) → book_in new q ≡ after q (book_in old q)
+pub record EachBook (after : ℕ → FlushBook → FlushBook) (old new : FlushState) : Type 0 where
+  pub room : new.room ≡ old.room
+  pub many : length new.books ≡ length old.books
+  pub each : (q : ℕ) → book_in new.books q ≡ after q (book_in old.books q)
 
--- each queue's flush book is that of the past
-pub record AreBooks (s : Layout) (past : List Entry) (books : List FlushBook) : Type 0 where
-  pub many : length books ≡ length s.queues
-  pub each : (q : ℕ) → q < length s.queues → AreFlushes s past q (book_in books q)
+-- each queue's flush book is that of the past, and each item's open numbers are
+pub record AreBooks (s : Layout) (past : List Entry) (books : FlushState) : Type 0 where
+  pub room : books.room ≡ 64 * s.callers
+  pub many : length books.books ≡ length s.queues
+  pub each : (q : ℕ) → q < length s.queues → AreFlushes s past q (book_in books.books q)
+  pub numbers : books.opened ≡ numbers_of s past
 
 pub record AreSerials (s : Layout) (past : List Entry) (serials : List ℕ) : Type 0 where
   pub many : length serials ≡ who_places s.cpus
@@ -70,26 +73,22 @@ abbrev pub MayCancelInPools : Option Queueing → List QueueShape → List PoolS
 MayCancelInPools None queues pools = Unit {0}
 MayCancelInPools (Some x) queues pools = (x.place.queue.0 < length queues) × (2 * x.place.cpu.0 + 1 < length pools)
 
--- for a wait that ended, and for one that began
-abbrev pub MayEndWait : Call → ℕ → List FlushBook → Type 0
-MayEndWait (call.Flush q) t books = (q.0 < length books) × Contains (flush_tickets (book_in books q.0)) t × IsReady (book_in books q.0) t
-MayEndWait (call.Drain q) t books = (q.0 < length books) × Contains (book_in books q.0).drains t
-MayEndWait (call.Destroy q) t books = (q.0 < length books) × Contains (book_in books q.0).drains t
-MayEndWait c t books = Unit {0}
+-- for a flush that ended, and for one that began
+abbrev pub MayEndFlush : Call → ℕ → FlushState → Type 0
+MayEndFlush (call.Flush q) t books = (q.0 < length books.books) × Contains (flush_tickets (book_in books.books q.0)) t × IsReady (book_in books.books q.0) t
+MayEndFlush c t books = Unit {0}
 
-abbrev pub MayBeDoneInBooks : Option Ticket → List FlushBook → Type 0
+abbrev pub MayBeDoneInBooks : Option Ticket → FlushState → Type 0
 MayBeDoneInBooks None books = Unit {0}
-MayBeDoneInBooks (Some t) books = MayEndWait t.call t.number books
+MayBeDoneInBooks (Some t) books = MayEndFlush t.call t.number books
 
-abbrev pub MayBeginWait : Call → ℕ → List FlushBook → Type 0
-MayBeginWait (call.Flush q) t books = (q.0 < length books) × CanBegin (book_in books q.0) t
-MayBeginWait (call.Drain q) t books = (q.0 < length books) × CanDrain (book_in books q.0) t
-MayBeginWait (call.Destroy q) t books = (q.0 < length books) × CanDrain (book_in books q.0) t
-MayBeginWait c t books = Unit {0}
+abbrev pub MayBeginFlush : Call → ℕ → FlushState → Type 0
+MayBeginFlush (call.Flush q) t books = (q.0 < length books.books) × CanBegin books q.0 t
+MayBeginFlush c t books = Unit {0}
 
-abbrev pub MayBeginInBooks : Option Ticket → List FlushBook → Type 0
+abbrev pub MayBeginInBooks : Option Ticket → FlushState → Type 0
 MayBeginInBooks None books = Unit {0}
-MayBeginInBooks (Some t) books = MayBeginWait t.call t.number books
+MayBeginInBooks (Some t) books = MayBeginFlush t.call t.number books
 
 -- for what became active, where of a layout the queues alone are known
 abbrev pub only : List QueueShape → Layout

@@ -3,7 +3,6 @@
 ghost use Rattle.std.specs.Prelude.{◌≡◌, ◌∷◌, List};
 ghost use Rattle.cmwq_model.specs.declared.entry.Entry as entries;
 ghost use Rattle.cmwq_model.specs.Prelude.{Layout, newly_active};
-ghost use Rattle.cmwq_refinement.specs.BarrierBooks.{barriers_of};
 ghost use Rattle.cmwq_refinement.specs.Flights.{flights_of};
 ghost use Rattle.cmwq_refinement.specs.Tickets.{tickets_of};
 ghost use Rattle.cmwq_refinement.specs.Timers.{timers_of};
@@ -79,11 +78,10 @@ pub(crate) fn apply_pools(
     list_active(queues, pools, activated);
 }
 
-/// The flush book of each queue, and the barriers of items.
+/// The flush book of each queue, and the open numbers of items.
 pub(crate) fn apply_books(books: &mut FlushBooks, effect: &Effect)
-    requires { (s : Layout) × (past : List entries.Entry) × IsNextEffect s past effect.now × AreBooks s past books.old.books × (books.old.barriers ≡ barriers_of s past) }
-    ensures { (s : Layout) (past : List entries.Entry) → IsNextEffect s past effect.now → AreBooks s past books.old.books → books.old.barriers ≡ barriers_of s past
-        → AreBooks s (effect.now.entry ∷ past) books.new.books × (books.new.barriers ≡ barriers_of s (effect.now.entry ∷ past)) }
+    requires { (s : Layout) × (past : List entries.Entry) × IsNextEffect s past effect.now × AreBooks s past books.old }
+    ensures { (s : Layout) (past : List entries.Entry) → IsNextEffect s past effect.now → AreBooks s past books.old → AreBooks s (effect.now.entry ∷ past) books.new }
 {
     end_in_books(books, effect.ended);
     open_in_books(books, effect.opened);

@@ -9,7 +9,7 @@ ghost use Rattle.cmwq_model.specs.Prelude.{Layout, fits, most_cpus, pool_at, fin
 ghost use Rattle.cmwq_pool.specs.Pools.{pool_numbered, with_pool};
 ghost use Rattle.cmwq_refinement.specs.Pools.{MayAllBeAdded, MayReplyInPool, pool_after_activation, pool_after_cancel, pool_after_reply, pool_after_worker};
 ghost use Rattle.cmwq_refinement.specs.FlushBooks.{flushes_after_begun, flushes_after_done, flushes_after_end, flushes_after_opening};
-ghost use Rattle.cmwq_refinement.specs.BarrierBooks.{MayBeDoneInBarriers, MayBeginInBarriers, barriers_after_begun, barriers_after_done, barriers_after_end, barriers_after_opening};
+ghost use Rattle.cmwq_refinement.specs.ItemNumbers.{numbers_after_end, numbers_after_opening};
 ghost use Rattle.cmwq_refinement.specs.Timers.{MayBeSet, timers_after_settling};
 ghost use Rattle.cmwq_state.specs.Tables as tables;
 ghost use Rattle.cmwq_state.specs.Tables.{EachBook, EachPool, IsThere, ListEachItemOnce, MayBeDoneInBooks, MayBeListed, MayBeginInBooks, MayCancelInPools, MayEndInBooks, MayListOne, MayOpenInBooks, MayReplyToWorker, only, pool_in, pool_with, pool_without, those_in};
@@ -93,22 +93,22 @@ pub(crate) fn reply_in_pools(pools: &mut Pools, who: Who, reply: Reply)
     }
 }
 
-/// Ends a queueing in the flush book of its queue and in the barriers.
+/// Ends a queueing in the flush book of its queue and among the numbers of its item.
 pub(crate) fn end_in_books(books: &mut FlushBooks, ended: Option<Queueing>)
     requires { MayEndInBooks ended books.old }
-    ensures books { EachBook (flushes_after_end ended) books.old.books books.new.books }
-    ensures barriers { books.new.barriers ≡ barriers_after_end ended books.old.barriers }
+    ensures books { EachBook (flushes_after_end ended) books.old books.new }
+    ensures numbers { books.new.opened ≡ numbers_after_end ended books.old.opened }
 {
     if let Some(queueing) = ended {
         books.ended(queueing.place.queue, queueing.item, queueing.number);
     }
 }
 
-/// Opens a queueing in the flush book of its queue and in the barriers.
+/// Opens a queueing in the flush book of its queue and among the numbers of its item.
 pub(crate) fn open_in_books(books: &mut FlushBooks, opened: Option<Queueing>)
     requires { MayOpenInBooks opened books.old }
-    ensures books { EachBook (flushes_after_opening opened) books.old.books books.new.books }
-    ensures barriers { books.new.barriers ≡ barriers_after_opening opened books.old.barriers }
+    ensures books { EachBook (flushes_after_opening opened) books.old books.new }
+    ensures numbers { books.new.opened ≡ numbers_after_opening opened books.old.opened }
 {
     if let Some(queueing) = opened {
         books.opened(queueing.place.queue, queueing.item, queueing.number);
@@ -176,44 +176,28 @@ pub(crate) fn set_timers(timers: &mut Timers, settled: Option<ItemId>, booked: O
     }
 }
 
-/// Ends a wait in the flush book of its queue, or in the barriers.
+/// Ends a flush in the book of its queue. What other tickets wait for is read off what is open.
 pub(crate) fn done_in_books(books: &mut FlushBooks, done: Option<Ticket>)
-    requires books { MayBeDoneInBooks done books.old.books }
-    requires barriers { MayBeDoneInBarriers done books.old.barriers }
-    ensures books { EachBook (flushes_after_done done) books.old.books books.new.books }
-    ensures barriers { books.new.barriers ≡ barriers_after_done done books.old.barriers }
+    requires { MayBeDoneInBooks done books.old }
+    ensures books { EachBook (flushes_after_done done) books.old books.new }
+    ensures numbers { books.new.opened ≡ books.old.opened }
 {
     if let Some(ticket) = done {
-        match ticket.call {
-            Call::Flush { queue } => books.end(queue, ticket.number),
-            Call::Drain { queue } | Call::Destroy { queue } => {
-                books.drain_end(queue, ticket.number);
-            }
-            Call::FlushItem { .. } | Call::FlushDelayed { .. } => {
-                books.end_for_item(ticket.number);
-            }
-            _ => {}
+        if let Call::Flush { queue } = ticket.call {
+            books.end(queue, ticket.number);
         }
     }
 }
 
-/// Begins a wait in the flush book of its queue, or in the barriers.
+/// Begins a flush in the book of its queue.
 pub(crate) fn begin_in_books(books: &mut FlushBooks, begun: Option<Ticket>)
-    requires books { MayBeginInBooks begun books.old.books }
-    requires barriers { MayBeginInBarriers begun books.old.barriers }
-    ensures books { EachBook (flushes_after_begun begun) books.old.books books.new.books }
-    ensures barriers { books.new.barriers ≡ barriers_after_begun begun books.old.barriers }
+    requires { MayBeginInBooks begun books.old }
+    ensures books { EachBook (flushes_after_begun begun) books.old books.new }
+    ensures numbers { books.new.opened ≡ books.old.opened }
 {
     if let Some(ticket) = begun {
-        match ticket.call {
-            Call::Flush { queue } => books.begin(queue, ticket.number),
-            Call::Drain { queue } | Call::Destroy { queue } => {
-                books.drain_begin(queue, ticket.number);
-            }
-            Call::FlushItem { item } | Call::FlushDelayed { item } => {
-                books.begin_for_item(item, ticket.number);
-            }
-            _ => {}
+        if let Call::Flush { queue } = ticket.call {
+            books.begin(queue, ticket.number);
         }
     }
 }

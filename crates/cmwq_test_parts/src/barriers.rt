@@ -17,34 +17,27 @@ fn close(rt: &impl Abort, books: &mut FlushBooks, item: ItemId, number: Number) 
     books.ended(QUEUE, item, number);
 }
 
-fn begin(rt: &impl Abort, books: &mut FlushBooks, item: ItemId, ticket: Number) {
-    assert!(rt; books.may_begin_for_item(item, ticket));
-    books.begin_for_item(item, ticket);
-}
-
-/// What a flush waits for, of which it is ready when that is nothing.
-fn waits_for(rt: &impl Abort, books: &FlushBooks, ticket: Number, least: Option<Number>) {
-    assert!(rt; books.stands_for_item(ticket));
-    assert_eq!(rt; books.item_waits_for(ticket), least, "{ticket} waits");
-    assert_eq!(rt; books.is_item_ready(ticket), least.is_none());
-}
-
-fn end(rt: &impl Abort, books: &mut FlushBooks, ticket: Number) {
-    assert!(rt; books.stands_for_item(ticket));
-    assert!(rt; books.is_item_ready(ticket));
-    books.end_for_item(ticket);
+/// What a flush of the item waits for, of which it is ready when that is nothing.
+fn waits_for(
+    rt: &impl Abort,
+    books: &FlushBooks,
+    item: ItemId,
+    ticket: Number,
+    least: Option<Number>,
+) {
+    assert!(rt; books.has_item(item));
+    assert_eq!(rt; books.item_waits_for(item, ticket), least, "{ticket} waits");
+    assert_eq!(rt; books.is_item_ready(item, ticket), least.is_none());
 }
 
 /// Item 0 has two open queueings, of which flush 1 waits for the first and flush 3 for both.
 fn two_flushes(rt: &(impl Abort + AllocGlobal)) -> Result<FlushBooks, Fail> {
     let mut books = FlushBooks::new(rt.alloc(), 1, 2, 1)?;
     open(rt, &mut books, ITEM, 0);
-    begin(rt, &mut books, ITEM, 1);
     open(rt, &mut books, ITEM, 2);
     assert!(rt; !books.may_open(QUEUE, ITEM, 3), "two are open");
-    begin(rt, &mut books, ITEM, 3);
-    waits_for(rt, &books, 1, Some(0));
-    waits_for(rt, &books, 3, Some(0));
+    waits_for(rt, &books, ITEM, 1, Some(0));
+    waits_for(rt, &books, ITEM, 3, Some(0));
     Ok(books)
 }
 
@@ -53,15 +46,22 @@ fn waits_for_run_and_unstarted_queueing(rt: HostRuntime) -> Result<(), Fail> {
     let mut books = two_flushes(&rt)?;
     close(&rt, &mut books, ITEM, 2);
     // the run is still open
-    waits_for(&rt, &books, 3, Some(0));
+    waits_for(&rt, &books, ITEM, 3, Some(0));
     open(&rt, &mut books, ITEM, 4);
     close(&rt, &mut books, ITEM, 0);
     // a later queueing is not waited for
-    waits_for(&rt, &books, 3, None);
-    end(&rt, &mut books, 1);
-    assert!(rt; !books.stands_for_item(1));
-    waits_for(&rt, &books, 3, None);
-    end(&rt, &mut books, 3);
+    waits_for(&rt, &books, ITEM, 1, None);
+    waits_for(&rt, &books, ITEM, 3, None);
+    waits_for(&rt, &books, ITEM, 4, Some(4));
+    Ok(())
+}
+
+#[test]
+fn waits_for_unstarted_queueing_alone(rt: HostRuntime) -> Result<(), Fail> {
+    let mut books = two_flushes(&rt)?;
+    close(&rt, &mut books, ITEM, 0);
+    waits_for(&rt, &books, ITEM, 1, None);
+    waits_for(&rt, &books, ITEM, 3, Some(2));
     Ok(())
 }
 
@@ -70,26 +70,10 @@ fn waits_for_queueing_of_the_same_entry(rt: HostRuntime) -> Result<(), Fail> {
     let mut books = FlushBooks::new(rt.alloc(), 1, 2, 1)?;
     let item = ItemId(1);
     open(&rt, &mut books, item, 5);
-    begin(&rt, &mut books, item, 5);
-    waits_for(&rt, &books, 5, Some(5));
-    assert!(rt; !books.may_begin_for_item(ItemId(2), 6), "no such item");
+    waits_for(&rt, &books, item, 5, Some(5));
+    waits_for(&rt, &books, ITEM, 5, None);
+    assert!(rt; !books.has_item(ItemId(2)), "no such item");
     close(&rt, &mut books, item, 5);
-    end(&rt, &mut books, 5);
-    Ok(())
-}
-
-/// 256 items have two open queueings each at most, and 64 callers 4,096 tickets.
-#[test]
-fn as_many_as_may_be(rt: HostRuntime) -> Result<(), Fail> {
-    let mut books = FlushBooks::new(rt.alloc(), 1, 256, 64)?;
-    for number in 0..512 {
-        open(&rt, &mut books, ItemId(number % 256), u64::from(number));
-    }
-    assert!(rt; !books.may_open(QUEUE, ItemId(255), 512));
-    for ticket in 512..4608 {
-        begin(&rt, &mut books, ItemId(255), ticket);
-    }
-    assert!(rt; !books.may_begin_for_item(ItemId(255), 4608));
-    waits_for(&rt, &books, 4607, Some(255));
+    waits_for(&rt, &books, item, 5, None);
     Ok(())
 }

@@ -159,38 +159,6 @@ fn two_queues(rt: HostRuntime) -> Result<(), Fail> {
     Ok(())
 }
 
-fn drain(rt: &impl Abort, books: &mut FlushBooks, ticket: Number) {
-    assert!(rt; books.has_queue(QUEUE));
-    assert!(rt; books.may_drain(QUEUE, ticket));
-    books.drain_begin(QUEUE, ticket);
-}
-
-fn end_drain(rt: &impl Abort, books: &mut FlushBooks, ticket: Number) {
-    assert!(rt; books.has_queue(QUEUE));
-    assert!(rt; books.is_drain(QUEUE, ticket));
-    books.drain_end(QUEUE, ticket);
-}
-
-fn is_draining(rt: &impl Abort, books: &FlushBooks) -> bool {
-    assert!(rt; books.has_queue(QUEUE));
-    books.draining(QUEUE)
-}
-
-#[test]
-fn drains(rt: HostRuntime) -> Result<(), Fail> {
-    let mut books = FlushBooks::new(rt.alloc(), 2, 256, 1)?;
-    assert!(rt; !is_draining(&rt, &books));
-    drain(&rt, &mut books, 3);
-    drain(&rt, &mut books, 5);
-    assert!(rt; books.has_queue(QUEUE));
-    assert!(rt; !books.may_drain(QUEUE, 5), "tickets come rising");
-    end_drain(&rt, &mut books, 3);
-    assert!(rt; is_draining(&rt, &books));
-    end_drain(&rt, &mut books, 5);
-    assert!(rt; !is_draining(&rt, &books));
-    Ok(())
-}
-
 /// A flush as a plain program knows it: once fewer than fifteen older ones stand, it is served, and then waits for the
 /// numbers up to that moment's.
 #[derive(Clone, Copy)]
@@ -305,18 +273,69 @@ fn generated_calls(rt: HostRuntime) -> Result<(), Fail> {
     Ok(())
 }
 
-/// 64 callers have 4,096 tickets at most, and a queue of 256 items 512 open queueings.
+/// 64 callers have 4,096 tickets at most, and a queue of 256 items 512 open queueings. Fifteen flushes of each queue are
+/// served, and 4,096 more of all queues together may be in overflow.
 #[test]
 fn as_many_as_may_be(rt: HostRuntime) -> Result<(), Fail> {
-    let mut books = FlushBooks::new(rt.alloc(), 1, 256, 64)?;
+    let mut books = FlushBooks::new(rt.alloc(), 2, 256, 64)?;
     for number in 0..512 {
         open(&rt, &mut books, QUEUE, number);
     }
     assert!(rt; !books.may_open(QUEUE, item_of(512), 512));
-    for ticket in 512..4608 {
+    for ticket in 512..2575 {
         begin(&rt, &mut books, QUEUE, ticket);
+        begin(&rt, &mut books, OTHER, ticket);
     }
-    assert!(rt; !may_begin(&rt, &books, QUEUE, 4608));
+    assert!(rt; !may_begin(&rt, &books, QUEUE, 2575));
+    assert!(rt; !may_begin(&rt, &books, OTHER, 2575));
+    end(&rt, &mut books, OTHER, 1000);
+    assert!(rt;
+        !may_begin(&rt, &books, QUEUE, 2574),
+        "tickets come rising"
+    );
+    begin(&rt, &mut books, QUEUE, 2575);
+    assert!(rt; !is_ready(&rt, &books, QUEUE, 2575), "in overflow");
+    assert!(rt; !may_begin(&rt, &books, OTHER, 2575));
+    end(&rt, &mut books, OTHER, 512);
+    assert!(rt;
+        may_begin(&rt, &books, OTHER, 2575),
+        "the oldest left the overflow"
+    );
+    Ok(())
+}
+
+/// The flushes in overflow of two queues come and go in turn, and each queue serves its own, the oldest first.
+#[test]
+fn two_overflows(rt: HostRuntime) -> Result<(), Fail> {
+    let mut books = FlushBooks::new(rt.alloc(), 2, 256, 1)?;
+    open(&rt, &mut books, QUEUE, 0);
+    for ticket in 1..=40 {
+        let queue = if ticket % 2 == 0 { OTHER } else { QUEUE };
+        begin(&rt, &mut books, queue, ticket);
+    }
+    open(&rt, &mut books, QUEUE, 41);
+    open(&rt, &mut books, OTHER, 42);
+    close(&rt, &mut books, QUEUE, 0);
+    end(&rt, &mut books, QUEUE, 1);
+    end(&rt, &mut books, OTHER, 2);
+    open(&rt, &mut books, OTHER, 43);
+    close(&rt, &mut books, OTHER, 42);
+    assert!(rt; is_ready(&rt, &books, OTHER, 32), "served before 43");
+    assert!(rt; !is_ready(&rt, &books, OTHER, 34), "in overflow");
+    assert!(rt; !is_ready(&rt, &books, QUEUE, 31), "served after 41");
+    end(&rt, &mut books, OTHER, 4);
+    close(&rt, &mut books, OTHER, 43);
+    end(&rt, &mut books, OTHER, 36);
+    end(&rt, &mut books, OTHER, 34);
+    close(&rt, &mut books, QUEUE, 41);
+    for ticket in 2..=15 {
+        end(&rt, &mut books, QUEUE, 2 * ticket - 1);
+    }
+    for ticket in 16..=20 {
+        end(&rt, &mut books, QUEUE, 2 * ticket - 1);
+    }
+    assert!(rt; books.has_queue(OTHER));
+    assert!(rt; !books.stands(OTHER, 36) && books.stands(OTHER, 38));
     Ok(())
 }
 

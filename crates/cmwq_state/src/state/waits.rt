@@ -41,8 +41,8 @@ impl State {
         match ticket.call {
             Call::Flush { queue } => self.flush_waits_for(queue, ticket),
             Call::Drain { queue } | Call::Destroy { queue } => self.books.least_open(queue),
-            Call::FlushItem { .. } | Call::FlushDelayed { .. } => {
-                self.books.item_waits_for(ticket.number)
+            Call::FlushItem { item } | Call::FlushDelayed { item } => {
+                self.books.item_waits_for(item, ticket.number)
             }
             Call::CancelSync { item } => self.run_number(item),
             _ => None,

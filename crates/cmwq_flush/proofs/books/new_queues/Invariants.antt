@@ -8,5 +8,5 @@ abbrev pub invariant-loop-index : goal.invariant-loop-index
 invariant-loop-index l = record {
   size : length l.made.items ≡ l.index;
   room : l.queues ≤ vec_capacity l.made;
-  each : (items : ℕ) → All (λ f. IsQueueRight l.callers items [] f × (book_by l.callers items [] f ≡ new_book l.callers items)) l.made.items;
+  each : (items : ℕ) → All (λ f. IsQueueRight items [] [] f × (book_by items [] [] f ≡ new_book items)) l.made.items;
 }

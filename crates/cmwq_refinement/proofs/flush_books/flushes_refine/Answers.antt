@@ -1,7 +1,7 @@
 use Rattle.cmwq_refinement.proofs.FlushSteps.{flushes_at_first, flushes_refine}
-use Rattle.cmwq_refinement.proofs.FlushReads.{unended_flushes_stand, ready_flushes_wait_for_nothing, flushes_wait_for_least_open, drains_wait_for_least_open, draining_while_drains_stand, overflowed_are_behind_fifteen}
+use Rattle.cmwq_refinement.proofs.FlushReads.{unended_flushes_stand, ready_flushes_wait_for_nothing, flushes_wait_for_least_open, drains_wait_for_least_open, overflowed_are_behind_fifteen}
 use Rattle.cmwq_refinement.proofs.FlushEnds.{done_flushes_may_end}
-use Rattle.cmwq_refinement.proofs.FlushMay.{entries_apply_to_flushes}
+use Rattle.cmwq_refinement.proofs.FlushMay.{entries_apply_to_flushes, given_flushes_have_room}
 use Rattle.cmwq_refinement.proofs.flush_books.flushes_refine.Goals as goal
 
 pub returns : goal.returns
@@ -12,8 +12,8 @@ returns c = record {
   ready_flushes_wait_for_nothing = ready_flushes_wait_for_nothing;
   flushes_wait_for_least_open = flushes_wait_for_least_open;
   drains_wait_for_least_open = drains_wait_for_least_open;
-  draining_while_drains_stand = draining_while_drains_stand;
   overflowed_are_behind_fifteen = overflowed_are_behind_fifteen;
   done_flushes_may_end = done_flushes_may_end;
   entries_apply_to_flushes = entries_apply_to_flushes;
+  given_flushes_have_room = given_flushes_have_room;
 }

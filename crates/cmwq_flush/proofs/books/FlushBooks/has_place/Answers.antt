@@ -10,17 +10,17 @@ pub len-requires : goal.len-requires
 len-requires c =
     let b = c.self.inside in
     let there = rw (← c.self.view_is) at c.requires.queue in
-    let size = books-length b.callers (length b.openings.opened) b.openings.rows b.queues.items c.self.invariant.0.many in
+    let size = books-length (length b.openings.opened) b.openings.rows b.overflow.queues b.queues.items c.self.invariant.0.many c.self.invariant.0.lists in
     omega (arith, c.self.invariant.0.many)
 
 pub returns-then-len-from : goal.returns-then-len-from
 returns-then-len-from c =
     let b = c.self.inside in
     let there = rw (← c.self.view_is) at c.requires.queue in
-    let size = books-length b.callers (length b.openings.opened) b.openings.rows b.queues.items c.self.invariant.0.many in
+    let size = books-length (length b.openings.opened) b.openings.rows b.overflow.queues b.queues.items c.self.invariant.0.many c.self.invariant.0.lists in
     let many = c.self.invariant.0.many in
-    let opened = ap length (opened_of b.callers (length b.openings.opened) b.openings.rows b.queues.items c.args.queue.0 many) ∙ length-map (rows_at b.openings.rows c.args.queue.0) row_number in
-    let items = items_of b.callers (length b.openings.opened) b.openings.rows b.queues.items c.args.queue.0 many (omega arith) in
+    let opened = ap length (opened_of (length b.openings.opened) b.openings.rows b.overflow.queues b.queues.items c.args.queue.0 many c.self.invariant.0.lists) ∙ length-map (rows_at b.openings.rows c.args.queue.0) row_number in
+    let items = items_of (length b.openings.opened) b.openings.rows b.overflow.queues b.queues.items c.args.queue.0 many c.self.invariant.0.lists (omega arith) in
     let numbers = ap length c.of_item.ensures.numbers in
     rw (← c.self.view_is) (λ yes. (omega (arith, c.len.ensures, c.items.ensures, c.from.ensures), let few = c.takes_one.ensures.0 yes in omega arith), λ can. c.takes_one.ensures.1 (let few = can.1 in omega arith))
 
@@ -28,8 +28,8 @@ pub returns-else-len-from : goal.returns-else-len-from
 returns-else-len-from c =
     let b = c.self.inside in
     let there = rw (← c.self.view_is) at c.requires.queue in
-    let size = books-length b.callers (length b.openings.opened) b.openings.rows b.queues.items c.self.invariant.0.many in
+    let size = books-length (length b.openings.opened) b.openings.rows b.overflow.queues b.queues.items c.self.invariant.0.many c.self.invariant.0.lists in
     let many = c.self.invariant.0.many in
-    let opened = ap length (opened_of b.callers (length b.openings.opened) b.openings.rows b.queues.items c.args.queue.0 many) ∙ length-map (rows_at b.openings.rows c.args.queue.0) row_number in
-    let items = items_of b.callers (length b.openings.opened) b.openings.rows b.queues.items c.args.queue.0 many (omega arith) in
+    let opened = ap length (opened_of (length b.openings.opened) b.openings.rows b.overflow.queues b.queues.items c.args.queue.0 many c.self.invariant.0.lists) ∙ length-map (rows_at b.openings.rows c.args.queue.0) row_number in
+    let items = items_of (length b.openings.opened) b.openings.rows b.overflow.queues b.queues.items c.args.queue.0 many c.self.invariant.0.lists (omega arith) in
     rw (← c.self.view_is) (λ yes. let less = ltb-true c.len.result (2 * c.from.result) yes in absurd (omega arith), λ can. let room = can.0 in absurd (omega (arith, c.len.ensures, c.items.ensures, c.from.ensures)))

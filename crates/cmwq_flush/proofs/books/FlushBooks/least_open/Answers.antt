@@ -8,16 +8,16 @@ pub first-requires : goal.first-requires
 first-requires c =
     let b = c.self.inside in
     let there = rw (← c.self.view_is) at c.requires in
-    let size = books-length b.callers (length b.openings.opened) b.openings.rows b.queues.items c.self.invariant.0.many in
+    let size = books-length (length b.openings.opened) b.openings.rows b.overflow.queues b.queues.items c.self.invariant.0.many c.self.invariant.0.lists in
     omega (arith, c.self.invariant.0.many)
 
 pub returns-clause-first : goal.returns-clause-first
 returns-clause-first c =
     let b = c.self.inside in
-    rw (← c.self.view_is) (c.first.ensures ∙ ap (λ ns. slice_get ns 0) (sym (opened_of b.callers (length b.openings.opened) b.openings.rows b.queues.items c.args.queue.0 c.self.invariant.0.many)))
+    rw (← c.self.view_is) (c.first.ensures ∙ ap (λ ns. slice_get ns 0) (sym (opened_of (length b.openings.opened) b.openings.rows b.overflow.queues b.queues.items c.args.queue.0 c.self.invariant.0.many c.self.invariant.0.lists)))
 
 pub returns-clause-least : goal.returns-clause-least
 returns-clause-least c =
     let b = c.self.inside in
-    rw (← c.self.view_is, opened_of b.callers (length b.openings.opened) b.openings.rows b.queues.items c.args.queue.0 c.self.invariant.0.many)
-    (first_is_least (rows_at b.openings.rows c.args.queue.0) c.first.result c.first.ensures (rows_rise b.callers (length b.openings.opened) b.openings.rows b.queues.items c.self.invariant.0 c.args.queue.0))
+    rw (← c.self.view_is, opened_of (length b.openings.opened) b.openings.rows b.overflow.queues b.queues.items c.args.queue.0 c.self.invariant.0.many c.self.invariant.0.lists)
+    (first_is_least (rows_at b.openings.rows c.args.queue.0) c.first.result c.first.ensures (rows_rise (length b.openings.opened) b.openings.rows b.overflow.queues b.queues.items c.self.invariant.0 c.args.queue.0))

@@ -1,24 +1,39 @@
-use Rattle.cmwq_flush.specs.Common.{length, arith}
+use Rattle.cmwq_flush.specs.Common.{length, arith, sym, ◌∙◌, false≢true}
 use Rattle.cmwq_flush.specs.Rows.{rows_at}
-use Rattle.cmwq_flush.proofs.Queues.{found_inside, found_right, found_book}
+use Rattle.cmwq_flush.proofs.Queues.{found_inside, found_right, found_book, overflow_there, overflow_counted}
 use Rattle.cmwq_flush.proofs.books.FlushBooks.may_begin.Goals as goal
 
 pub index-requires : goal.index-requires
 index-requires c =
     let b = c.self.inside in
     let there = rw (← c.self.view_is) at c.requires in
-    let inside = found_inside b.callers (length b.openings.opened) b.openings.rows b.queues.items c.self.invariant.0 c.args.queue.0 c.from.result there c.from.ensures in
+    let inside = found_inside (length b.openings.opened) b.openings.rows b.overflow.queues b.queues.items c.self.invariant.0 c.args.queue.0 c.from.result there c.from.ensures in
     omega (arith, b.queues.ok)
 
-pub may_begin-requires : goal.may_begin-requires
-may_begin-requires c =
+pub is_latest-requires-clause-queue : goal.is_latest-requires-clause-queue
+is_latest-requires-clause-queue c =
     let b = c.self.inside in
     let there = rw (← c.self.view_is) at c.requires in
-    (length b.openings.opened, rows_at b.openings.rows c.args.queue.0, found_right b.callers (length b.openings.opened) b.openings.rows b.queues.items c.self.invariant.0 c.args.queue.0 c.from.result there c.from.ensures c.index.result.now c.index.ensures)
+    overflow_there (length b.openings.opened) b.openings.rows b.overflow.queues b.queues.items c.self.invariant.0 c.args.queue.0 c.from.result there c.from.ensures
 
-pub returns : goal.returns
-returns c =
+pub is_latest-requires-clause-right : goal.is_latest-requires-clause-right
+is_latest-requires-clause-right c =
     let b = c.self.inside in
     let there = rw (← c.self.view_is) at c.requires in
-    let book = found_book b.callers (length b.openings.opened) b.openings.rows b.queues.items c.self.invariant.0 c.args.queue.0 c.from.result there c.from.ensures c.index.result.now c.index.ensures in
-    rw (← c.self.view_is, book) (c.may_begin.ensures (length b.openings.opened) (rows_at b.openings.rows c.args.queue.0))
+    (length b.openings.opened, rows_at b.openings.rows c.args.queue.0, found_right (length b.openings.opened) b.openings.rows b.overflow.queues b.queues.items c.self.invariant.0 c.args.queue.0 c.from.result there c.from.ensures c.index.result.now c.index.ensures)
+
+pub returns-then-has_room : goal.returns-then-has_room
+returns-then-has_room c =
+    let b = c.self.inside in
+    let there = rw (← c.self.view_is) at c.requires in
+    let counted = overflow_counted (length b.openings.opened) b.openings.rows b.overflow.queues b.queues.items c.self.invariant.0.many c.self.invariant.0.lists in
+    let room = c.has_room.ensures.0 c.if-has_room.true in
+    let book = found_book (length b.openings.opened) b.openings.rows b.overflow.queues b.queues.items c.self.invariant.0 c.args.queue.0 c.from.result there c.from.ensures c.index.result.now c.index.ensures in
+    let latest = c.is_latest.ensures (length b.openings.opened) (rows_at b.openings.rows c.args.queue.0) in
+    rw (← c.self.view_is) (λ yes. record { latest = rw book (latest.0 yes); room = rw counted room }, λ can. latest.1 (rw book at can.latest))
+
+pub returns-else-has_room : goal.returns-else-has_room
+returns-else-has_room c =
+    let b = c.self.inside in
+    let counted = overflow_counted (length b.openings.opened) b.openings.rows b.overflow.queues b.queues.items c.self.invariant.0.many c.self.invariant.0.lists in
+    rw (← c.self.view_is) (λ yes. absurd (false≢true (sym c.if-has_room.false ∙ yes)), λ can. c.has_room.ensures.1 (rw counted at can.room))

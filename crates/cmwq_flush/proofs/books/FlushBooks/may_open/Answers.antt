@@ -9,6 +9,6 @@ returns-then-has_place c =
     let b = c.self.inside in
     let there = (rw (← c.self.view_is) at c.is_there.ensures).0 c.if-not-is_there.false in
     let place = (rw (← c.self.view_is) at c.has_place.ensures).0 c.if-has_place.true in
-    let told : (c.are_before.result ≡ true) ↔ All (λ (o : FlushBook). o.next ≤ c.args.number) (books_by b.callers (length b.openings.opened) b.openings.rows b.queues.items)
-    = rw (c.are_before.ensures, c.deref.ensures.value) (before_told b.callers (length b.openings.opened) c.args.number b.openings.rows b.queues.items c.self.invariant.0.many) in
-    rw (← c.self.view_is) (λ yes. record { queue = there.0; can = (before_book c.args.number (books_by b.callers (length b.openings.opened) b.openings.rows b.queues.items) c.args.queue.0 there.0 (told.0 yes), place.0); latest = told.0 yes; item = there.1; one = place.1 }, λ can. told.1 can.latest)
+    let told : (c.are_before.result ≡ true) ↔ All (λ (o : FlushBook). o.next ≤ c.args.number) (books_by (length b.openings.opened) b.openings.rows b.overflow.queues b.queues.items)
+    = rw (c.are_before.ensures, c.deref.ensures.value) (before_told (length b.openings.opened) c.args.number b.openings.rows b.overflow.queues b.queues.items c.self.invariant.0.many c.self.invariant.0.lists) in
+    rw (← c.self.view_is) (λ yes. record { queue = there.0; can = (before_book c.args.number (books_by (length b.openings.opened) b.openings.rows b.overflow.queues b.queues.items) c.args.queue.0 there.0 (told.0 yes), place.0); latest = told.0 yes; item = there.1; one = place.1 }, λ can. told.1 can.latest)

@@ -1,24 +1,30 @@
 use Rattle.cmwq_flush.specs.Common.{length, arith}
 use Rattle.cmwq_flush.specs.Rows.{rows_at}
-use Rattle.cmwq_flush.proofs.Queues.{found_inside, found_right, found_book}
+use Rattle.cmwq_flush.proofs.Queues.{found_inside, found_right, found_book, overflow_there}
 use Rattle.cmwq_flush.proofs.books.FlushBooks.stands.Goals as goal
 
 pub index-requires : goal.index-requires
 index-requires c =
     let b = c.self.inside in
     let there = rw (← c.self.view_is) at c.requires in
-    let inside = found_inside b.callers (length b.openings.opened) b.openings.rows b.queues.items c.self.invariant.0 c.args.queue.0 c.from.result there c.from.ensures in
+    let inside = found_inside (length b.openings.opened) b.openings.rows b.overflow.queues b.queues.items c.self.invariant.0 c.args.queue.0 c.from.result there c.from.ensures in
     omega (arith, b.queues.ok)
 
-pub stands-requires : goal.stands-requires
-stands-requires c =
+pub stands-requires-clause-queue : goal.stands-requires-clause-queue
+stands-requires-clause-queue c =
     let b = c.self.inside in
     let there = rw (← c.self.view_is) at c.requires in
-    (b.callers, length b.openings.opened, rows_at b.openings.rows c.args.queue.0, found_right b.callers (length b.openings.opened) b.openings.rows b.queues.items c.self.invariant.0 c.args.queue.0 c.from.result there c.from.ensures c.index.result.now c.index.ensures)
+    overflow_there (length b.openings.opened) b.openings.rows b.overflow.queues b.queues.items c.self.invariant.0 c.args.queue.0 c.from.result there c.from.ensures
+
+pub stands-requires-clause-right : goal.stands-requires-clause-right
+stands-requires-clause-right c =
+    let b = c.self.inside in
+    let there = rw (← c.self.view_is) at c.requires in
+    (length b.openings.opened, rows_at b.openings.rows c.args.queue.0, found_right (length b.openings.opened) b.openings.rows b.overflow.queues b.queues.items c.self.invariant.0 c.args.queue.0 c.from.result there c.from.ensures c.index.result.now c.index.ensures)
 
 pub returns : goal.returns
 returns c =
     let b = c.self.inside in
     let there = rw (← c.self.view_is) at c.requires in
-    let book = found_book b.callers (length b.openings.opened) b.openings.rows b.queues.items c.self.invariant.0 c.args.queue.0 c.from.result there c.from.ensures c.index.result.now c.index.ensures in
-    rw (← c.self.view_is, book) (c.stands.ensures b.callers (length b.openings.opened) (rows_at b.openings.rows c.args.queue.0))
+    let book = found_book (length b.openings.opened) b.openings.rows b.overflow.queues b.queues.items c.self.invariant.0 c.args.queue.0 c.from.result there c.from.ensures c.index.result.now c.index.ensures in
+    rw (← c.self.view_is, book) (c.stands.ensures (length b.openings.opened) (rows_at b.openings.rows c.args.queue.0))

@@ -5,11 +5,9 @@ use Rattle.cmwq_flush.proofs.flushes.Flushes.new.Goals as goal
 
 pub returns : goal.returns
 returns c = λ items.
-    let served = c.in_ok-with_capacity.ensures in
-    let overflow = c.in_ok-with_capacity-2.ensures in
-    let drains = c.in_ok-with_capacity-3.ensures in (
+    let served = c.in_ok-with_capacity.ensures in (
       record {
-        right = rw (served.items, overflow.items, drains.items) (right_new c.args.callers items);
+        right = rw served.items (right_new items);
         tally = record {
           sixteen = refl;
           rising = λ i j d before within. absurd (omega arith);
@@ -17,8 +15,6 @@ returns c = λ items.
           exact = λ k below. get_or-replicate 16 k 0 0 below;
         };
         served_room = omega (arith, served.capacity);
-        overflow_room = omega (arith, overflow.capacity, c.from-room.ensures);
-        drains_room = omega (arith, drains.capacity, c.from-room.ensures);
       },
-      rw (served.items, overflow.items, drains.items) refl,
+      rw served.items refl,
     )

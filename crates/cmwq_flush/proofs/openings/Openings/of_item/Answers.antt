@@ -1,13 +1,13 @@
 use Rattle.cmwq_flush.specs.Common.{◌≡◌, ◌<◌, ℕ, ◌+◌, Option, List, true, false, sym, ap, ◌∙◌, arith, nat_tests}
 use Rattle.std.specs.Prelude.{◌*◌}
 use Rattle.std.proofs.Common.{ap₂}
-use Rattle.cmwq_flush.specs.Rows.{numbers_at}
+use Rattle.cmwq_flush.specs.ItemNumbers.{numbers_open}
 use Rattle.cmwq_flush.specs.Openings.{by_age, node_number, opened_by}
 use Rattle.cmwq_flush.specs.declared.openings.Row.{Row}
 use Rattle.cmwq_flush.proofs.NodeNumbers.{item_inside, opened_at, ordered}
 use Rattle.cmwq_flush.proofs.openings.Openings.of_item.Goals as goal
 
-read : (lists : List (List ℕ)) (rows : List Row) (items i node : ℕ) (o p : Option ℕ) → i < items → node ≡ i → o ≡ node_number lists rows (2 * node) → p ≡ node_number lists rows (2 * node + 1) → by_age o p ≡ numbers_at (opened_by lists rows items) i
+read : (lists : List (List ℕ)) (rows : List Row) (items i node : ℕ) (o p : Option ℕ) → i < items → node ≡ i → o ≡ node_number lists rows (2 * node) → p ≡ node_number lists rows (2 * node + 1) → by_age o p ≡ numbers_open (opened_by lists rows items) i
 read lists rows items i node o p there at first second =
     ap₂ by_age (first ∙ ap (λ k. node_number lists rows (2 * k)) at) (second ∙ ap (λ k. node_number lists rows (2 * k + 1)) at) ∙ sym (opened_at lists rows items i there)
 

@@ -1,14 +1,15 @@
 use Rattle.cmwq_flush.specs.Common.{◌<◌, ℕ, List, length, map, arith, All, length-map}
 use Rattle.std.proofs.Common.{ap₂}
 use Rattle.cmwq_flush.specs.declared.openings.Row.{Row}
-use Rattle.cmwq_flush.specs.Rows.{OpenRows, numbers_at, rows_at}
+use Rattle.cmwq_flush.specs.Rows.{OpenRows, rows_at}
+use Rattle.cmwq_flush.specs.ItemNumbers.{numbers_open}
 use Rattle.cmwq_flush.specs.Openings.{node_row, numbers_of_nodes, opened_by, rows_of}
 use Rattle.cmwq_flush.proofs.Nodes.{not_listed, rows-pushed, listed_below}
 use Rattle.cmwq_flush.proofs.NodeNumbers.{item_inside, opened_at}
 use Rattle.cmwq_flush.proofs.Opening.{free_listed, chosen_low, opened-pushed, openings-pushed}
 use Rattle.cmwq_flush.proofs.openings.Openings.open.Goals as goal
 
-few_by : (lists : List (List ℕ)) (rows : List Row) (items i : ℕ) → i < items → length (numbers_at (opened_by lists rows items) i) < 2 → length (numbers_of_nodes lists rows i) < 2
+few_by : (lists : List (List ℕ)) (rows : List Row) (items i : ℕ) → i < items → length (numbers_open (opened_by lists rows items) i) < 2 → length (numbers_of_nodes lists rows i) < 2
 few_by lists rows items i there few = rw (opened_at lists rows items i there) at few
 
 pub free_node-node-requires : goal.free_node-node-requires

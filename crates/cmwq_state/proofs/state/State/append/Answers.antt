@@ -29,7 +29,7 @@ apply_books-requires c =
     let r = rw (← c.self.view_is) at c.requires in let b = c.self.inside in
     let s = layout_of b.counts b.queues.items in let past = past_of b.entries in let are = c.self.invariant.parts_are in
     let next = next_effect s b.room b.entries _ c.args.effect c.self.invariant r.is in
-    (s, past, next, are.books, are.barriers)
+    (s, past, next, are.books)
 
 pub apply_flights-requires : goal.apply_flights-requires
 apply_flights-requires c =
@@ -78,8 +78,7 @@ invariant_of-self c =
     rw c.push.ensures
     (appended s b.room b.entries _ _ c.args.effect c.self.invariant r.is (record {
       pools = c.apply_pools.ensures s past next c.deref-3.ensures.value (c.activated.ensures ∙ pwqs.1) are.pools;
-      books = (c.apply_books.ensures s past next are.books are.barriers).0;
-      barriers = (c.apply_books.ensures s past next are.books are.barriers).1;
+      books = c.apply_books.ensures s past next are.books;
       timers = c.apply_timers.ensures s past next are.timers;
       time = ap (λ n. b.time + n) ticks ∙ (ap (λ n. n + ticks_told e.call) are.time ∙ sym (time_goes_on past e));
       serials = c.apply_serials.ensures s past next are.serials;

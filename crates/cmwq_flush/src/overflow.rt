@@ -1,0 +1,148 @@
+ghost use Rattle.std.specs.Prelude.{◌≡◌, ◌+◌, ◌<◌, ◌^◌, ◌↔◌, ◌++◌, ◌∷◌, [], All, Contains, IfOk, IsTrue, length, replicate, slice_get};
+ghost use Rattle.std.specs.List.{sum_by};
+ghost use Rattle.cmwq_list.specs.Lists.{AreListedOnce, pushed, removed};
+ghost use Rattle.cmwq_flush.specs.FlushBook.{without_oldest};
+ghost use Rattle.cmwq_flush.specs.Numbers.{AreRising, without};
+ghost use Rattle.cmwq_flush.specs.Overflow.{first_from, tickets_at, with_tickets};
+
+use cmwq_list::Lists;
+use cmwq_model::{Number, QueueId};
+use std::alloc::{AllocError, Global};
+use std::marker::Model;
+
+/// The list of the nodes that are free.
+const FREE: u16 = 0;
+
+/// The flushes in overflow of all queues, in a list for each queue, by age.
+#[derive(Debug, Drop)]
+pub(crate) struct Overflow {
+    lists: Lists,
+    /// The ticket of each node that isn't free.
+    tickets: Vec<Number>,
+}
+
+impl Model for Overflow {
+    ghost use Rattle.std.specs.Prelude.{length};
+    ghost use Rattle.cmwq_flush.specs.Overflow.{AreNodes, OverflowLists, overflow_of};
+
+    ghost Value = { OverflowLists };
+
+    ghost view = { λ o. record { room = length o.tickets.items; queues = overflow_of o.lists.lists o.tickets.items } };
+
+    ghost invariant = { λ o. AreNodes o.lists o.tickets.items };
+}
+
+impl Overflow {
+    /// No flush of so many queues, and room for so many in all. No later call takes memory.
+    pub(crate) fn new(alloc: Global, queues: u16, room: u32) -> Result<Self, AllocError>
+        requires queues { queues < 65535 }
+        requires nodes { queues + room + 1 < 2 ^ 32 }
+        ensures { IfOk result (λ overflow. overflow ≡ record { room = room; queues = replicate queues [] }) }
+    {
+        let mut lists = Lists::new(alloc, queues + 1, room)?;
+        for node in 0..room {
+            lists.push_back(FREE, node);
+        }
+        Ok(Overflow {
+            lists,
+            tickets: vec![in alloc; 0; room as usize]?,
+        })
+    }
+
+    /// Whether one more flush may be in overflow.
+    pub(crate) fn has_room(&self) -> bool
+        ensures { IsTrue result ↔ (sum_by length self.now.queues < self.now.room) }
+    {
+        self.lists.len(FREE) > 0
+    }
+
+    /// A flush of the queue is in overflow, the youngest of them.
+    pub(crate) fn push_back(&mut self, queue: QueueId, ticket: Number)
+        requires queue { queue.0 < length self.old.queues }
+        requires room { sum_by length self.old.queues < self.old.room }
+        ensures { self.new ≡ with_tickets self.old queue.0 (tickets_at self.old.queues queue.0 ++ ticket ∷ []) }
+    {
+        let node = self.lists.first(FREE).unwrap();
+        self.lists.remove(node);
+        self.tickets[node as usize] = ticket;
+        self.lists.push_back(list_of(queue), node);
+    }
+
+    /// Takes out the oldest flush of the queue.
+    pub(crate) fn pop_front(&mut self, queue: QueueId) -> Option<Number>
+        requires { queue.0 < length self.old.queues }
+        ensures oldest { result ≡ slice_get (tickets_at self.old.queues queue.0) 0 }
+        ensures rest { self.new ≡ with_tickets self.old queue.0 (without_oldest (tickets_at self.old.queues queue.0)) }
+    {
+        let node = self.lists.first(list_of(queue))?;
+        free(&mut self.lists, node);
+        Some(self.tickets[node as usize])
+    }
+
+    /// Takes out the queue's flush with this ticket.
+    pub(crate) fn remove(&mut self, queue: QueueId, ticket: Number)
+        requires queue { queue.0 < length self.old.queues }
+        requires rise { AreRising (tickets_at self.old.queues queue.0) }
+        requires stands { Contains (tickets_at self.old.queues queue.0) ticket }
+        ensures { self.new ≡ with_tickets self.old queue.0 (without ticket (tickets_at self.old.queues queue.0)) }
+    {
+        let node = first_from(&self.lists, &self.tickets, list_of(queue), ticket).unwrap();
+        free(&mut self.lists, node);
+    }
+
+    /// Whether this ticket comes after those of all of the queue's flushes.
+    pub(crate) fn is_latest(&self, queue: QueueId, ticket: Number) -> bool
+        requires { queue.0 < length self.now.queues }
+        ensures { IsTrue result ↔ All (λ t. t < ticket) (tickets_at self.now.queues queue.0) }
+    {
+        first_from(&self.lists, &self.tickets, list_of(queue), ticket).is_none()
+    }
+
+    /// Whether the flush with this ticket is among the queue's.
+    pub(crate) fn stands(&self, queue: QueueId, ticket: Number) -> bool
+        requires queue { queue.0 < length self.now.queues }
+        requires rise { AreRising (tickets_at self.now.queues queue.0) }
+        ensures { IsTrue result ↔ Contains (tickets_at self.now.queues queue.0) ticket }
+    {
+        match first_from(&self.lists, &self.tickets, list_of(queue), ticket) {
+            Some(node) => self.tickets[node as usize] == ticket,
+            None => false,
+        }
+    }
+}
+
+/// The list of a queue.
+fn list_of(queue: QueueId) -> u16
+    ensures { result ≡ queue.0 + 1 }
+{
+    u16::from(queue.0) + 1
+}
+
+/// Puts a node among those that are free.
+fn free(lists: &mut Lists, node: u32)
+    requires node { node < lists.old.items }
+    requires some { 0 < length lists.old.lists }
+    ensures freed { lists.new ≡ pushed (removed lists.old node) 0 node }
+    ensures once { AreListedOnce lists.old }
+{
+    lists.remove(node);
+    lists.push_back(FREE, node);
+}
+
+/// The node of the first flush of a list whose ticket isn't before this one.
+fn first_from(lists: &Lists, tickets: &[Number], list: u16, ticket: Number) -> Option<u32>
+    requires list { list < length lists.now.lists }
+    requires many { length tickets.now ≡ lists.now.items }
+    ensures first { result ≡ first_from lists.now.lists tickets.now list ticket }
+    ensures once { AreListedOnce lists.now }
+{
+    let mut at = lists.first(list);
+    for index in 0..lists.len(list) {
+        let node = at?;
+        if ticket <= tickets[node as usize] {
+            return Some(node);
+        }
+        at = lists.next(node);
+    }
+    None
+}
