@@ -7,7 +7,7 @@ ghost use Rattle.cmwq_timer.specs.Rows.{timer_of};
 ghost use Rattle.cmwq_timer.specs.Tournament.{IsFirstUnder, any_timer};
 
 use crate::candidate::{
-    Candidate, FAN, candidate_at, first_of_nodes, first_of_rows, node_at, sooner,
+    Candidate, FAN, candidate_at, first_with_node, first_with_row, node_at, sooner,
 };
 use crate::timer::Timer;
 use cmwq_model::ItemId;
@@ -72,7 +72,8 @@ impl Tournament {
         self.rows[place]
     }
 
-    /// Writes an item's row, and what stands above it.
+    /// Writes an item's row, and what stands above it. A level is looked through where the first below a node is lost, and else the
+    /// timer is compared with that alone.
     pub(crate) fn set(&mut self, item: ItemId, timer: Option<Timer>)
         requires { item.0 < length self.old }
         ensures { self.new ≡ slice_set self.old item.0 timer }
@@ -81,11 +82,19 @@ impl Tournament {
         let low = row / FAN;
         let middle = low / FAN;
         let high = middle / FAN;
+        let was_row = candidate_at(&self.rows, row);
+        let was_low = node_at(&self.low, low);
+        let was_middle = node_at(&self.middle, middle);
+        let was_high = node_at(&self.high, high);
         self.rows[row] = timer;
-        self.low[low] = first_of_rows(&self.rows, low);
-        self.middle[middle] = first_of_nodes(&self.low, middle);
-        self.high[high] = first_of_nodes(&self.middle, high);
-        self.last = first_of_nodes(&self.high, 0);
+        let now_row = candidate_at(&self.rows, row);
+        self.low[low] = first_with_row(&self.rows, low, was_low, was_row, now_row);
+        let now_low = node_at(&self.low, low);
+        self.middle[middle] = first_with_node(&self.low, middle, was_middle, was_low, now_low);
+        let now_middle = node_at(&self.middle, middle);
+        self.high[high] = first_with_node(&self.middle, high, was_high, was_middle, now_middle);
+        let now_high = node_at(&self.high, high);
+        self.last = first_with_node(&self.high, 0, self.last, was_high, now_high);
     }
 
     /// What a node keeps: of all items below it, the one that fires first.
