@@ -120,6 +120,7 @@ impl Execution {
     ///
     /// # Errors
     /// `Full` where there is no room for the entry and for what would be owed then. The execution is then the old one.
+    #[inline]
     pub fn next(&mut self, who: Who, call: Call) -> Result<Entry, Full>
         requires { IsTrue (fits self.old.layout who call) }
         ensures room { is_ok result ≡ takes self.old who call }

@@ -28,6 +28,7 @@ use cmwq_ticket::Tickets;
 use cmwq_timer::Timers;
 
 /// Each queue's max_active, and whether the freezable queues are frozen, which is answered.
+#[inline(always)]
 pub(crate) fn apply_widths(most: &mut Vec<u32>, frozen: bool, effect: &Effect) -> bool
     requires { (s : Layout) × (past : List entries.Entry) × IsNextEffect s past effect.now × AreWidths s past most.old.items frozen }
     ensures { (s : Layout) (past : List entries.Entry) → IsNextEffect s past effect.now → AreWidths s past most.old.items frozen → AreWidths s (effect.now.entry ∷ past) most.new.items result }
@@ -38,6 +39,7 @@ pub(crate) fn apply_widths(most: &mut Vec<u32>, frozen: bool, effect: &Effect) -
 }
 
 /// The pool workqueues, by the widths after the entry. What became active is found on the way.
+#[inline(always)]
 pub(crate) fn apply_pwqs(
     pwqs: &mut Pwqs,
     queues: &[QueueShape],
@@ -62,6 +64,7 @@ pub(crate) fn apply_pwqs(
 }
 
 /// The pools, with what became active.
+#[inline(always)]
 pub(crate) fn apply_pools(
     pools: &mut Pools,
     queues: &[QueueShape],
@@ -80,6 +83,7 @@ pub(crate) fn apply_pools(
 }
 
 /// The flush book of each queue, and the barriers of items.
+#[inline(always)]
 pub(crate) fn apply_books(books: &mut FlushBooks, effect: &Effect)
     requires { (s : Layout) × (past : List entries.Entry) × IsNextEffect s past effect.now × AreBooks s past books.old.books × (books.old.barriers ≡ barriers_of s past) }
     ensures { (s : Layout) (past : List entries.Entry) → IsNextEffect s past effect.now → AreBooks s past books.old.books → books.old.barriers ≡ barriers_of s past
@@ -92,6 +96,7 @@ pub(crate) fn apply_books(books: &mut FlushBooks, effect: &Effect)
 }
 
 /// The queueings in flight.
+#[inline(always)]
 pub(crate) fn apply_flights(flights: &mut Flights, effect: &Effect)
     requires { (s : Layout) × (past : List entries.Entry) × IsNextEffect s past effect.now × (flights.old ≡ flights_of s past) }
     ensures { (s : Layout) (past : List entries.Entry) → IsNextEffect s past effect.now → flights.old ≡ flights_of s past → flights.new ≡ flights_of s (effect.now.entry ∷ past) }
@@ -106,6 +111,7 @@ pub(crate) fn apply_flights(flights: &mut Flights, effect: &Effect)
 }
 
 /// The unended tickets.
+#[inline(always)]
 pub(crate) fn apply_tickets(tickets: &mut Tickets, effect: &Effect)
     requires { (s : Layout) × (past : List entries.Entry) × IsNextEffect s past effect.now × (tickets.old ≡ tickets_of s past) }
     ensures { (s : Layout) (past : List entries.Entry) → IsNextEffect s past effect.now → tickets.old ≡ tickets_of s past → tickets.new ≡ tickets_of s (effect.now.entry ∷ past) }
@@ -114,6 +120,7 @@ pub(crate) fn apply_tickets(tickets: &mut Tickets, effect: &Effect)
 }
 
 /// Which queues are gone.
+#[inline(always)]
 pub(crate) fn apply_gone(gone: &mut Vec<bool>, effect: &Effect)
     requires { (s : Layout) × (past : List entries.Entry) × IsNextEffect s past effect.now × AreGone s past gone.old.items }
     ensures { (s : Layout) (past : List entries.Entry) → IsNextEffect s past effect.now → AreGone s past gone.old.items → AreGone s (effect.now.entry ∷ past) gone.new.items }
@@ -122,6 +129,7 @@ pub(crate) fn apply_gone(gone: &mut Vec<bool>, effect: &Effect)
 }
 
 /// The bookings.
+#[inline(always)]
 pub(crate) fn apply_timers(timers: &mut Timers, effect: &Effect)
     requires { (s : Layout) × (past : List entries.Entry) × IsNextEffect s past effect.now × (timers.old ≡ timers_of s past) }
     ensures { (s : Layout) (past : List entries.Entry) → IsNextEffect s past effect.now → timers.old ≡ timers_of s past → timers.new ≡ timers_of s (effect.now.entry ∷ past) }
@@ -130,6 +138,7 @@ pub(crate) fn apply_timers(timers: &mut Timers, effect: &Effect)
 }
 
 /// How many entries each caller and each worker has.
+#[inline(always)]
 pub(crate) fn apply_serials(serials: &mut Vec<u64>, effect: &Effect)
     requires { (s : Layout) × (past : List entries.Entry) × IsNextEffect s past effect.now × AreSerials s past serials.old.items }
     ensures { (s : Layout) (past : List entries.Entry) → IsNextEffect s past effect.now → AreSerials s past serials.old.items → AreSerials s (effect.now.entry ∷ past) serials.new.items }

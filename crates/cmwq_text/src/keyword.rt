@@ -176,6 +176,7 @@ const WITH_W: [Keyword; 4] = [
 impl Keyword {
     /// How it is written.
     #[tactic(auto, unfolding(crate::specs::Keywords::keyword_text))]
+    #[inline(always)]
     pub fn text(self) -> &'static str
         ensures exact { result.now ≡ keyword_text self }
         ensures short { length result.now ≤ 13 }
@@ -238,6 +239,7 @@ impl Keyword {
     }
 }
 
+#[inline(always)]
 fn keyword_among(keywords: &[Keyword], word: &[u8]) -> Option<Keyword>
     ensures { result ≡ find (is_keyword_text word.now) keywords.now }
 {
@@ -249,6 +251,7 @@ fn keyword_among(keywords: &[Keyword], word: &[u8]) -> Option<Keyword>
 
 /// The keyword that is written so. Only those with its first letter are looked at.
 #[tactic(auto, unfolding(crate::specs::Keywords::keyword_of))]
+#[inline(always)]
 fn keyword_of(word: &[u8]) -> Option<Keyword>
     ensures { result ≡ keyword_of word.now }
 {
@@ -277,6 +280,7 @@ fn keyword_of(word: &[u8]) -> Option<Keyword>
 }
 
 /// The keyword that the first word is.
+#[inline(always)]
 pub fn keyword_in(words: &mut Words<'_>) -> Option<Keyword>
     ensures { with_left result words.new ≡ keyword_in words.old }
 {

@@ -19,6 +19,7 @@ pub(crate) struct Candidate {
 }
 
 /// The one of the two that fires first.
+#[inline(always)]
 pub(crate) fn sooner(one: Option<Candidate>, other: Option<Candidate>) -> Option<Candidate>
     ensures { result ≡ sooner one other }
 {
@@ -36,6 +37,7 @@ pub(crate) fn sooner(one: Option<Candidate>, other: Option<Candidate>) -> Option
 }
 
 /// The item of this row, if it is booked.
+#[inline(always)]
 pub(crate) fn candidate_at(rows: &[Option<Timer>], row: usize) -> Option<Candidate>
     requires { length rows.now < 2 ^ 16 }
     ensures { result ≡ candidate_at rows.now row }
@@ -52,6 +54,7 @@ pub(crate) fn candidate_at(rows: &[Option<Timer>], row: usize) -> Option<Candida
 }
 
 /// What this node of a level keeps. Past the end of the level there is nothing.
+#[inline(always)]
 pub(crate) fn node_at(level: &[Option<Candidate>], node: usize) -> Option<Candidate>
     ensures { result ≡ node_at level.now node }
 {
@@ -96,6 +99,7 @@ pub(crate) enum Known {
 }
 
 /// Whether this is the same item with the same timer.
+#[inline(always)]
 fn is_same(one: Candidate, other: Candidate) -> bool
     ensures { IsTrue result → one ≡ other }
 {
@@ -108,6 +112,7 @@ fn is_same(one: Candidate, other: Candidate) -> bool
 }
 
 /// Whether it may be `kept` that was written over.
+#[inline(always)]
 fn is_lost(kept: Candidate, was: Option<Candidate>, now: Option<Candidate>) -> bool
     ensures { result ≡ false → was ≡ Some kept → now ≡ was }
 {
@@ -119,6 +124,7 @@ fn is_lost(kept: Candidate, was: Option<Candidate>, now: Option<Candidate>) -> b
 }
 
 /// Whether it comes before the first so far.
+#[inline(always)]
 fn comes_before(now: Option<Candidate>, kept: Candidate) -> bool
     ensures { result ≡ option_map_or (λ (next : Candidate). is_sooner next.timer kept.timer) now false }
 {
@@ -129,6 +135,7 @@ fn comes_before(now: Option<Candidate>, kept: Candidate) -> bool
 }
 
 /// What is known of the first of some nodes, of which one keeps `now` in place of `was`: `first` was the first before.
+#[inline(always)]
 fn known_first(
     first: Option<Candidate>,
     was: Option<Candidate>,
@@ -149,6 +156,7 @@ fn known_first(
 }
 
 /// As `first_of_rows`, where one of the rows was written: `first` was the first of them before, and they are looked at where that is lost.
+#[inline(always)]
 pub(crate) fn first_with_row(
     rows: &[Option<Timer>],
     node: usize,
@@ -168,6 +176,7 @@ pub(crate) fn first_with_row(
 }
 
 /// As `first_of_nodes`, where one of the nodes was written.
+#[inline(always)]
 pub(crate) fn first_with_node(
     level: &[Option<Candidate>],
     node: usize,
