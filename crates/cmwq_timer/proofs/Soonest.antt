@@ -1,5 +1,5 @@
 -- Which timer is sooner, and the first of some nodes.
-use Rattle.std.proofs.Common.{List, length, ap, ◌≡◌, ℕ, ◌+◌, ◌<◌, ◌≤◌, Bool, true, false, Option, Some, None, cond, refl, sym, ◌∙◌, arith, ◌⊎◌, ⊎_elim}
+use Rattle.std.proofs.Common.{◌≢◌, List, length, ap, ◌≡◌, ℕ, ◌+◌, ◌<◌, ◌≤◌, Bool, true, false, Option, Some, None, cond, refl, sym, ◌∙◌, arith, ◌⊎◌, ⊎_elim}
 use Rattle.std.specs.Option.{option_map_or}
 use Rattle.std.proofs.lemmas.Bool.{cases_eq, cases_lt, false≢true}
 use Rattle.std.proofs.lemmas.List.{get_or_past}
@@ -113,5 +113,19 @@ written_first old new lo hi at was (Some next) kept w from below first less = re
   none_sooner = λ k d lower upper stands. ⊎_elim
       (λ same. rw (one_value (new at) next d w.behind (rw same at stands)) (sooner_self next.timer))
       (λ ne. sooner_chain d.timer kept.timer next.timer (first.none_sooner k d lower upper (rw (w.others k ne) at stands)) less)
+      (cases_eq k at);
+}
+
+-- what was the first stays so where another was written that doesn't come before it
+pub first_stays : (old new : Nodes) (lo hi at : ℕ) (was now : Option Candidate) (kept : Candidate) → IsWritten old new at was now → IsSoonest old lo hi (Some kept) → was ≢ Some kept
+    → option_map_or (λ (next : Candidate). is_sooner next.timer kept.timer) now false ≡ false → IsSoonest new lo hi (Some kept)
+first_stays old new lo hi at was now kept w first other less = record {
+  at = first.at;
+  from = first.from;
+  below = first.below;
+  is = w.others first.at (λ same. other (sym w.before ∙ (ap old (sym same) ∙ first.is))) ∙ first.is;
+  none_sooner = λ k d lower upper stands. ⊎_elim
+      (λ same. let is : now ≡ Some d = sym w.behind ∙ (ap new (sym same) ∙ stands) in rw is at less)
+      (λ ne. first.none_sooner k d lower upper (sym (w.others k ne) ∙ stands))
       (cases_eq k at);
 }

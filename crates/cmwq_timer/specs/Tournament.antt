@@ -3,7 +3,9 @@ use Rattle.std.specs.Prelude.{◌≡◌, ◌≢◌, ℕ, zero, suc, ◌+◌, ◌
 use Rattle.cmwq_timer.specs.declared.timer.Timer.{Timer}
 use Rattle.cmwq_timer.specs.declared.candidate.Candidate.{Candidate}
 use Rattle.cmwq_timer.specs.declared.candidate.Known.{Known}
-use Rattle.cmwq_timer.specs.declared.candidate.Known.TheVariants.{Is, Lost}
+use Rattle.cmwq_timer.specs.declared.candidate.Known.TheVariants as known
+use Rattle.cmwq_timer.specs.declared.candidate.First.{First}
+use Rattle.cmwq_timer.specs.declared.candidate.First.TheVariants as change
 use Rattle.cmwq_timer.specs.Due.{is_sooner}
 use Rattle.cmwq_timer.specs.Rows.{TimerRows, timer_of}
 
@@ -41,10 +43,16 @@ pub record IsWritten (old new : Nodes) (at : ℕ) (was now : Option Candidate) :
   pub behind : new at ≡ now
   pub others : (k : ℕ) → k ≢ at → new k ≡ old k
 
--- what is said to be known of the first of these nodes is so
-abbrev pub IsKnown : Nodes → ℕ → ℕ → Known → Type 0
-IsKnown nodes lo hi (Is o) = IsSoonest nodes lo hi o
-IsKnown nodes lo hi Lost = Unit {0}
+-- what is said to be known of the first of these nodes is so: of what it was before, and what was written
+abbrev pub IsKnown : Nodes → ℕ → ℕ → Option Candidate → Option Candidate → Known → Type 0
+IsKnown nodes lo hi first now known.Stays = IsSoonest nodes lo hi first
+IsKnown nodes lo hi first now known.IsWritten = IsSoonest nodes lo hi now
+IsKnown nodes lo hi first now known.Lost = Unit {0}
+
+-- the first once that has become of it
+abbrev pub first_after : Option Candidate → First → Option Candidate
+first_after first change.Stays = first
+first_after first (change.Becomes o) = o
 
 -- a level above so many nodes
 pub record IsLevel (many : ℕ) (below : Nodes) (level : List (Option Candidate)) : Type 0 where
