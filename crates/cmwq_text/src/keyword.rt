@@ -240,13 +240,32 @@ impl Keyword {
 }
 
 #[inline(always)]
-fn keyword_among(keywords: &[Keyword], word: &[u8]) -> Option<Keyword>
+fn is_written(keyword: Keyword, word: &[u8]) -> bool
+    ensures { result ≡ is_keyword_text word.now keyword }
+{
+    keyword.text().as_bytes() == word
+}
+
+fn keyword_in_list(keywords: &[Keyword], word: &[u8]) -> Option<Keyword>
     ensures { result ≡ find (is_keyword_text word.now) keywords.now }
 {
     keywords
         .iter()
         .copied()
-        .find(|keyword| keyword.text().as_bytes() == word)
+        .find(|keyword| is_written(*keyword, word))
+}
+
+/// The first of these that is written so. The first two are looked at by themselves, as they are read most.
+#[inline(always)]
+fn keyword_among(keywords: &[Keyword], word: &[u8]) -> Option<Keyword>
+    ensures { result ≡ find (is_keyword_text word.now) keywords.now }
+{
+    match keywords {
+        [first, ..] if is_written(*first, word) => Some(*first),
+        [_, second, ..] if is_written(*second, word) => Some(*second),
+        [_, _, rest @ ..] => keyword_in_list(rest, word),
+        _ => None,
+    }
 }
 
 /// The keyword that is written so. Only those with its first letter are looked at.
