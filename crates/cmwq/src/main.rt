@@ -102,21 +102,23 @@ fn explain<E: Sink>(alloc: Global, word: Word, status: u8, bytes: &[u8], errors:
     }
 }
 
-/// Does what was asked, over the standard streams. What is to be explained is kept while it is read.
+/// Does what was asked, over the standard streams. What is to be explained is kept while it is read; there is one type of source for both,
+/// so that each word is compiled once.
 fn run_asked<T: Threads + Wait + Clock + Sync>(rt: &HostRuntime, asked: Asked, threads: &T) -> u8 {
     let alloc = rt.alloc();
-    let mut input = FromStd::new(rt.stdin());
+    let input = FromStd::new(rt.stdin());
     let mut errors = FromStd::new(rt.stderr());
     let Ok(mut output) = BufferedSink::new(alloc, FromStd::new(rt.stdout())) else {
         return no_memory(rt);
     };
-    if !asked.explain {
-        return run(alloc, asked, &mut input, &mut output, &mut errors, threads);
-    }
-    let mut input = Kept::new(alloc, input);
+    let mut input = if asked.explain {
+        Kept::new(alloc, input)
+    } else {
+        Kept::passing(alloc, input)
+    };
     let status = run(alloc, asked, &mut input, &mut output, &mut errors, threads);
     match input.bytes() {
-        _ if status == 0 => {}
+        _ if status == 0 || !asked.explain => {}
         Some(bytes) => explain(alloc, asked.word, status, bytes, &mut errors),
         None => explain_unkept(status, &mut errors),
     }

@@ -92,6 +92,7 @@ impl<G: Gather + Drop> Stage<G> {
 
     /// Takes one whole line as `take` does, and leaves what gathers where it is, since that may be large. What is read after an error is not said.
     #[tactic(auto, unfolding(crate::specs::Files::after_line, crate::specs::Files::body_line))]
+    #[inline]
     pub(crate) fn advance(&mut self, alloc: Global, number: u64, line: &[u8]) -> Result<(), Refusal>
         ensures { GivesAs (λ _. stage_of G.layout G.items self.new) result (after_line G.Item.kind number (stage_of G.layout G.items self.old) line.now) }
     {
@@ -222,6 +223,7 @@ fn with_queue<G: Gather>(
 
 /// Takes one line of the kind.
 #[tactic(auto, unfolding(crate::specs::Files::item_line))]
+#[inline]
 fn add_item<G: Gather>(number: u64, version: u8, all: &mut G, line: &[u8]) -> Result<(), Refusal>
     ensures { GivesAs (λ _. body version (G.layout all.new) (G.items all.new)) result (item_line G.Item.kind number version (G.layout all.old) (G.items all.old) line.now) }
 {
@@ -258,6 +260,7 @@ fn lacks_end<T: FileLine>(version: u8, is_front: bool) -> bool
 }
 
 /// How many lines the last line says that stand before it, of a line that is one in this format.
+#[inline]
 fn end_in<T: FileLine>(version: u8, line: &[u8]) -> Option<u64>
     ensures { result ≡ end_in_by T.kind version line.now }
 {

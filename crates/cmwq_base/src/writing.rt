@@ -17,6 +17,7 @@ use cmwq_text::{Line, counts_line, end_line, needs_end, queue_line, spell_entry,
 ///
 /// # Errors
 /// `WriteFault` where the sink fails; a front of the line has been written then.
+#[inline]
 pub fn write_entry<W: Sink>(sink: &mut W, entry: &Entry) -> Result<(), Refusal>
     ensures ok { OnOk result (Appends (W.written sink.old) (W.written sink.new) (entry_text entry.now)) }
     ensures err { OnErr result (AppendsFront (W.written sink.old) (W.written sink.new) (entry_text entry.now)) }

@@ -49,6 +49,7 @@ fn waiting_for(number: Option<Number>) -> Reply
     }
 }
 
+#[inline(always)]
 #[tactic(auto, unfolding(cmwq_model::specs::Answer::queue_answer))]
 fn queue_answer(state: &State, who: Who, item: ItemId, queue: QueueId, ticks: u32) -> Reply
     requires who { tables.IsThere state.now.layout who }
@@ -115,6 +116,7 @@ fn cancel_answer(state: &State, who: Who, item: ItemId) -> Reply
     taken_back(state.unstarted(item), state.is_booked(item))
 }
 
+#[inline(always)]
 #[tactic(auto, unfolding(cmwq_model::specs::Answer::wait_answer))]
 fn wait_answer(state: &State, who: Who, queue: QueueId) -> Reply
     requires who { tables.IsThere state.now.layout who }
@@ -218,6 +220,7 @@ fn cancel_sync_answer(state: &State, who: Who, item: ItemId) -> Reply
     taken_back_for(state.number(), state.unstarted(item), state.is_booked(item))
 }
 
+#[inline(always)]
 #[tactic(auto, unfolding(cmwq_model::specs::Answer::first_due))]
 fn fire_answer(state: &State) -> Reply
     ensures { result ≡ fired_answer (first_due (past_of state.now.entries)) (length (past_of state.now.entries)) }
@@ -228,6 +231,7 @@ fn fire_answer(state: &State) -> Reply
     }
 }
 
+#[inline(always)]
 fn end_answer(state: &State, who: Who, ticket: Number) -> Reply
     requires { tables.IsThere state.now.layout who }
     ensures { result ≡ end_of_ticket (past_of state.now.entries) (ticket_of (past_of state.now.entries) who ticket) }
@@ -238,6 +242,7 @@ fn end_answer(state: &State, who: Who, ticket: Number) -> Reply
     }
 }
 
+#[inline(always)]
 #[tactic(auto, unfolding(cmwq_model::specs::Answer::answer))]
 pub(crate) fn answer(state: &State, who: Who, call: Call) -> Reply
     requires there { tables.IsThere state.now.layout who }
@@ -283,10 +288,8 @@ pub(crate) fn answer(state: &State, who: Who, call: Call) -> Reply
         }
         Call::Destroy { queue } => destroy_answer(state, who, queue),
         Call::End { ticket } => end_answer(state, who, ticket),
-        Call::Take => own_answer(state, who, Call::Take),
-        Call::Finish => own_answer(state, who, Call::Finish),
-        Call::Sleep => own_answer(state, who, Call::Sleep),
-        Call::Wake => own_answer(state, who, Call::Wake),
-        Call::Retire => own_answer(state, who, Call::Retire),
+        Call::Take | Call::Finish | Call::Sleep | Call::Wake | Call::Retire => {
+            own_answer(state, who, call)
+        }
     }
 }

@@ -21,6 +21,7 @@ use cmwq_model::{Booking, Call, Entry, ItemId, Number, Place, Queueing, Reply, T
 use cmwq_state::{Effect, State};
 
 /// The item that is booked anew, or no more.
+#[inline(always)]
 fn settled_by(entry: Entry) -> Option<ItemId>
     ensures { item_number result ≡ settled_by entry }
 {
@@ -32,6 +33,7 @@ fn settled_by(entry: Entry) -> Option<ItemId>
 }
 
 /// Whether the reply ends a queueing that hasn't started.
+#[inline(always)]
 fn ends_early(reply: Reply, ended: Option<Queueing>) -> bool
     ensures { result ≡ ends_early reply ended }
 {
@@ -42,6 +44,7 @@ fn ends_early(reply: Reply, ended: Option<Queueing>) -> bool
 }
 
 /// 1 or 0.
+#[inline(always)]
 fn one(test: bool) -> u64
     ensures one { result ≡ one test }
     ensures few { result ≤ 1 }
@@ -49,6 +52,7 @@ fn one(test: bool) -> u64
     if test { 1 } else { 0 }
 }
 
+#[inline(always)]
 fn paid_alone(reply: Reply) -> u64
     ensures paid { result ≡ paid_alone reply }
     ensures few { result ≤ 2 }
@@ -60,6 +64,7 @@ fn paid_alone(reply: Reply) -> u64
     }
 }
 
+#[inline(always)]
 fn taken_alone(reply: Reply) -> u64
     ensures taken { result ≡ taken_alone reply }
     ensures few { result ≤ 1 }
@@ -73,27 +78,8 @@ fn taken_alone(reply: Reply) -> u64
     }
 }
 
-fn ended_from(reply: Reply, run: Option<Queueing>, unstarted: Option<Queueing>) -> Option<Queueing>
-    ensures { result ≡ ended_from reply run unstarted }
-{
-    match reply {
-        Reply::Finished(_) => run,
-        Reply::Cancelled(_) | Reply::TicketCancelled(_, _) | Reply::Again(_) | Reply::Rebooked(_) =>
-            unstarted,
-        _ => None,
-    }
-}
-
-fn started_from(reply: Reply, next: Option<Queueing>) -> Option<Queueing>
-    ensures { result ≡ started_from reply next }
-{
-    match reply {
-        Reply::Started(_) | Reply::StartedEnlist(_, _) => next,
-        _ => None,
-    }
-}
-
 /// What the caller or worker runs.
+#[inline(always)]
 fn run_of(state: &State, who: Who) -> Option<Queueing>
     requires { tables.IsThere state.now.layout who }
     ensures { result ≡ queueing_run (past_of state.now.entries) who }
@@ -105,6 +91,7 @@ fn run_of(state: &State, who: Who) -> Option<Queueing>
 }
 
 /// The unstarted queueing of the entry's item.
+#[inline(always)]
 fn unstarted_of(state: &State, entry: Entry) -> Option<Queueing>
     requires { IsInside state.now.layout entry }
     ensures { result ≡ option_and_then (unstarted_queueing (past_of state.now.entries)) (item_of entry) }
@@ -115,20 +102,33 @@ fn unstarted_of(state: &State, entry: Entry) -> Option<Queueing>
     }
 }
 
+/// Of what the worker runs and the item's unstarted queueing, the one that the reply ends.
+#[inline(always)]
+fn ended_from(state: &State, entry: Entry) -> Option<Queueing>
+    requires there { tables.IsThere state.now.layout entry.who }
+    requires inside { IsInside state.now.layout entry }
+    ensures { result ≡ ended_from entry.reply (queueing_run (past_of state.now.entries) entry.who) (option_and_then (unstarted_queueing (past_of state.now.entries)) (item_of entry)) }
+{
+    match entry.reply {
+        Reply::Finished(_) => run_of(state, entry.who),
+        Reply::Cancelled(_) | Reply::TicketCancelled(_, _) | Reply::Again(_) | Reply::Rebooked(_) =>
+            unstarted_of(state, entry),
+        _ => None,
+    }
+}
+
 /// The queueing that an entry ends: that of its worker's run, or the item's unstarted one.
+#[inline(always)]
 fn ended_by(state: &State, entry: Entry) -> Option<Queueing>
     requires there { tables.IsThere state.now.layout entry.who }
     requires inside { IsInside state.now.layout entry }
     requires legal { IsLegal state.now.layout (entry ∷ past_of state.now.entries) }
     ensures { result ≡ ending (past_of state.now.entries) entry }
 {
-    ended_from(
-        entry.reply,
-        run_of(state, entry.who),
-        unstarted_of(state, entry),
-    )
+    ended_from(state, entry)
 }
 
+#[inline(always)]
 fn next_for(state: &State, who: Who) -> Option<Queueing>
     requires { tables.IsThere state.now.layout who }
     ensures { result ≡ next_for state.now.layout (past_of state.now.entries) who }
@@ -139,16 +139,30 @@ fn next_for(state: &State, who: Who) -> Option<Queueing>
     }
 }
 
+/// What is next for the worker, where the reply starts it.
+#[inline(always)]
+fn started_from(state: &State, entry: Entry) -> Option<Queueing>
+    requires { tables.IsThere state.now.layout entry.who }
+    ensures { result ≡ started_from entry.reply (next_for state.now.layout (past_of state.now.entries) entry.who) }
+{
+    match entry.reply {
+        Reply::Started(_) | Reply::StartedEnlist(_, _) => next_for(state, entry.who),
+        _ => None,
+    }
+}
+
 /// The queueing that a take starts.
+#[inline(always)]
 fn started_by(state: &State, entry: Entry) -> Option<Queueing>
     requires there { tables.IsThere state.now.layout entry.who }
     requires legal { IsLegal state.now.layout (entry ∷ past_of state.now.entries) }
     ensures { result ≡ starting (past_of state.now.entries) entry }
 {
-    started_from(entry.reply, next_for(state, entry.who))
+    started_from(state, entry)
 }
 
 /// Where an item is to be queued: where the call says, or else its booking.
+#[inline(always)]
 fn place_wanted(state: &State, entry: Entry, item: ItemId) -> Option<Place>
     requires { item.0 < state.now.layout.items }
     ensures { result ≡ place_wanted (past_of state.now.entries) entry.call item.0 }
@@ -160,6 +174,7 @@ fn place_wanted(state: &State, entry: Entry, item: ItemId) -> Option<Place>
 }
 
 /// The queueing of an item at a place: it goes to the CPU where the item runs.
+#[inline(always)]
 fn queued_at(state: &State, item: ItemId, place: Place) -> Queueing
     requires { item.0 < state.now.layout.items }
     ensures { result ≡ queued_at (past_of state.now.entries) item.0 place }
@@ -179,6 +194,7 @@ fn queued_at(state: &State, item: ItemId, place: Place) -> Queueing
 }
 
 /// The queueing that an entry opens.
+#[inline(always)]
 fn opened_by(state: &State, entry: Entry) -> Option<Queueing>
     requires { IsInside state.now.layout entry }
     ensures { result ≡ opening (past_of state.now.entries) entry }
@@ -196,6 +212,7 @@ fn opened_by(state: &State, entry: Entry) -> Option<Queueing>
 }
 
 /// Whether the entry's item is booked.
+#[inline(always)]
 fn is_item_booked(state: &State, entry: Entry) -> bool
     requires { IsInside state.now.layout entry }
     ensures { result ≡ option_map_or (is_booked (past_of state.now.entries)) (item_of entry) false }
@@ -207,6 +224,7 @@ fn is_item_booked(state: &State, entry: Entry) -> bool
 }
 
 /// Whether the entry settles an item that was booked.
+#[inline(always)]
 fn settles_booked(state: &State, entry: Entry) -> bool
     requires { IsInside state.now.layout entry }
     ensures { result ≡ settles_booked (past_of state.now.entries) entry }
@@ -215,6 +233,7 @@ fn settles_booked(state: &State, entry: Entry) -> bool
 }
 
 /// The ticket that an entry ends.
+#[inline(always)]
 fn done_by(state: &State, entry: Entry) -> Option<Ticket>
     requires { tables.IsThere state.now.layout entry.who }
     ensures { result ≡ ticket_ended (past_of state.now.entries) entry }
@@ -226,6 +245,7 @@ fn done_by(state: &State, entry: Entry) -> Option<Ticket>
 }
 
 /// The ticket of which a call asks the end.
+#[inline(always)]
 fn ticket_asked(state: &State, who: Who, call: Call) -> Option<Ticket>
     requires { tables.IsThere state.now.layout who }
     ensures { result ≡ ticket_asked (past_of state.now.entries) who call }
@@ -237,6 +257,7 @@ fn ticket_asked(state: &State, who: Who, call: Call) -> Option<Ticket>
 }
 
 /// What is owed after an entry that ends, opens and books this.
+#[inline(always)]
 fn owed_with(
     state: &State,
     entry: Entry,
@@ -259,6 +280,7 @@ fn owed_with(
 }
 
 /// The entry of the call.
+#[inline(always)]
 pub(crate) fn next_entry(state: &State, who: Who, call: Call) -> Entry
     requires fit { fits state.now.layout who call ≡ true }
     ensures entry { result ≡ next_entry state.now who call }
@@ -275,6 +297,7 @@ pub(crate) fn next_entry(state: &State, who: Who, call: Call) -> Entry
 }
 
 /// What an entry does.
+#[inline(always)]
 fn effect_of(state: &State, entry: Entry) -> Effect
     requires legal { IsLegal state.now.layout (entry ∷ past_of state.now.entries) }
     ensures entry { result.entry ≡ entry }
@@ -300,6 +323,7 @@ fn effect_of(state: &State, entry: Entry) -> Effect
 }
 
 /// What the entry of the call does.
+#[inline(always)]
 pub(crate) fn effect(state: &State, who: Who, call: Call) -> Effect
     requires fit { fits state.now.layout who call ≡ true }
     ensures entry { result.entry ≡ next_entry state.now who call }

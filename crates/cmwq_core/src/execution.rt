@@ -77,6 +77,7 @@ impl Execution {
     ///
     /// # Errors
     /// `Full` where there is no room for the entry and for what would be owed then, exactly as at `step`.
+    #[inline(always)]
     pub fn plan(&self, who: Who, call: Call) -> Result<Plan, Full>
         requires { IsTrue (fits self.now.layout who call) }
         ensures room { is_ok result ≡ takes self.now who call }
@@ -92,6 +93,7 @@ impl Execution {
     }
 
     /// Makes the entry that was planned, and answers its reply. The execution is still the one that planned it.
+    #[inline(always)]
     pub fn commit(&mut self, plan: &Plan) -> Reply
         requires { (who : _) × (call : _) × IsPlan self.old who call plan.now }
         ensures reply { result ≡ plan.now.mark.entry.reply }
@@ -120,6 +122,7 @@ impl Execution {
     ///
     /// # Errors
     /// `Full` where there is no room for the entry and for what would be owed then. The execution is then the old one.
+    #[inline]
     pub fn next(&mut self, who: Who, call: Call) -> Result<Entry, Full>
         requires { IsTrue (fits self.old.layout who call) }
         ensures room { is_ok result ≡ takes self.old who call }

@@ -13,6 +13,7 @@ use cmwq_model::{ItemId, Mark, Queueing, Reply};
 use cmwq_state::{Effect, State};
 
 /// 1 if it is pending, plus 2 if it runs.
+#[inline(always)]
 pub(crate) fn bits_of(is_pending: bool, is_running: bool) -> u8
     ensures { result ≡ (if is_pending then 1 else 0) + (if is_running then 2 else 0) }
 {
@@ -28,6 +29,7 @@ pub(crate) struct Standing {
     waits: bool,
 }
 
+#[inline(always)]
 fn ended_at(reply: Reply, ended: Option<Queueing>, item: ItemId, standing: Standing) -> Standing
     ensures { result ≡ ended_at reply ended item.0 standing }
 {
@@ -49,6 +51,7 @@ fn ended_at(reply: Reply, ended: Option<Queueing>, item: ItemId, standing: Stand
     }
 }
 
+#[inline(always)]
 fn started_at(started: Option<Queueing>, item: ItemId, standing: Standing) -> Standing
     ensures { result ≡ started_at started item.0 standing }
 {
@@ -61,6 +64,7 @@ fn started_at(started: Option<Queueing>, item: ItemId, standing: Standing) -> St
     }
 }
 
+#[inline(always)]
 fn opened_at(opened: Option<Queueing>, item: ItemId, standing: Standing) -> Standing
     ensures { result ≡ opened_at opened item.0 standing }
 {
@@ -74,6 +78,7 @@ fn opened_at(opened: Option<Queueing>, item: ItemId, standing: Standing) -> Stan
 }
 
 /// Whether an item is booked after an effect.
+#[inline(always)]
 fn booked_after(effect: Effect, item: ItemId, is_booked: bool) -> bool
     ensures { result ≡ (if is_at (item_number effect.settled) item.0 then is_some effect.booked else is_booked) }
 {
@@ -83,6 +88,7 @@ fn booked_after(effect: Effect, item: ItemId, is_booked: bool) -> bool
     }
 }
 
+#[inline(always)]
 fn item_standing(state: &State, item: ItemId) -> Standing
     requires { item.0 < state.now.layout.items }
     ensures { result ≡ flight_standing (flight_of (past_of state.now.entries) item.0) }
@@ -94,6 +100,7 @@ fn item_standing(state: &State, item: ItemId) -> Standing
 }
 
 /// How an item stands after an effect.
+#[inline(always)]
 fn standing_after(state: &State, effect: Effect, item: ItemId) -> Standing
     requires there { item.0 < state.now.layout.items }
     requires is { IsEffect state.now.layout (past_of state.now.entries) effect }
@@ -108,6 +115,7 @@ fn standing_after(state: &State, effect: Effect, item: ItemId) -> Standing
     opened_at(effect.opened, item, started_at(effect.started, item, ended))
 }
 
+#[inline(always)]
 fn is_booked_after(state: &State, effect: Effect, item: ItemId) -> bool
     requires there { item.0 < state.now.layout.items }
     requires is { IsEffect state.now.layout (past_of state.now.entries) effect }
@@ -116,6 +124,7 @@ fn is_booked_after(state: &State, effect: Effect, item: ItemId) -> bool
     booked_after(effect, item, state.is_booked(item))
 }
 
+#[inline(always)]
 fn bits_after(state: &State, effect: Effect, item: ItemId) -> u8
     requires there { item.0 < state.now.layout.items }
     requires is { IsEffect state.now.layout (past_of state.now.entries) effect }
@@ -129,6 +138,7 @@ fn bits_after(state: &State, effect: Effect, item: ItemId) -> u8
 }
 
 /// The item that the effect may change: that of its entry, or of what the entry starts or finishes.
+#[inline(always)]
 fn marked(state: &State, effect: Effect) -> Option<ItemId>
     requires { IsEffect state.now.layout (past_of state.now.entries) effect }
     ensures is { item_number result ≡ item_marked (past_of state.now.entries) effect.entry }
@@ -143,6 +153,7 @@ fn marked(state: &State, effect: Effect) -> Option<ItemId>
     }
 }
 
+#[inline(always)]
 pub(crate) fn mark(state: &State, effect: Effect) -> Mark
     requires { IsEffect state.now.layout (past_of state.now.entries) effect }
     ensures { IsMark state.now effect.entry.who effect.entry.call result }

@@ -24,6 +24,7 @@ fn retire_answer(state: &State, worker: WorkerId) -> Reply
     }
 }
 
+#[inline(always)]
 fn start_answer(state: &State, worker: WorkerId, next: Option<Number>) -> Reply
     requires there { tables.IsThere state.now.layout (Worker worker) }
     requires is { next ≡ option_map number_of_queueing (active.next state.now.layout (past_of state.now.entries) worker.pool) }
@@ -44,6 +45,7 @@ fn start_answer(state: &State, worker: WorkerId, next: Option<Number>) -> Reply
 }
 
 #[tactic(auto, unfolding(cmwq_model::specs::Answer::take_answer))]
+#[inline(always)]
 fn take_answer(state: &State, worker: WorkerId) -> Reply
     requires { tables.IsThere state.now.layout (Worker worker) }
     ensures { result ≡ take_answer state.now.layout (past_of state.now.entries) worker }
@@ -55,6 +57,7 @@ fn take_answer(state: &State, worker: WorkerId) -> Reply
 }
 
 #[tactic(auto, unfolding(cmwq_model::specs::Answer::finish_answer))]
+#[inline(always)]
 fn finish_answer(state: &State, worker: WorkerId) -> Reply
     requires { tables.IsThere state.now.layout (Worker worker) }
     ensures { result ≡ finish_answer (past_of state.now.entries) worker }
@@ -68,6 +71,7 @@ fn finish_answer(state: &State, worker: WorkerId) -> Reply
     }
 }
 
+#[inline(always)]
 fn worker_answer(state: &State, worker: WorkerId, call: Call) -> Reply
     requires { tables.IsThere state.now.layout (Worker worker) }
     ensures { result ≡ worker_answer state.now.layout (past_of state.now.entries) worker call }
@@ -94,6 +98,7 @@ fn worker_answer(state: &State, worker: WorkerId, call: Call) -> Reply
     }
 }
 
+#[inline(always)]
 pub(crate) fn own_answer(state: &State, who: Who, call: Call) -> Reply
     requires { tables.IsThere state.now.layout who }
     ensures { result ≡ own_answer state.now.layout (past_of state.now.entries) who call }

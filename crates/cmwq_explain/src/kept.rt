@@ -1,6 +1,6 @@
 //! A source that keeps a copy of what it gives.
 
-ghost use Rattle.std.specs.Prelude.{◌≡◌, ◌<◌, [], ◌++◌, ◌∷◌, length, take, true, IfOk, OnErr};
+ghost use Rattle.std.specs.Prelude.{◌≡◌, ◌<◌, [], ◌++◌, ◌∷◌, length, take, true, false, IfOk, OnErr};
 ghost use Rattle.std.specs.Io.{ReadsAtMost};
 ghost use Rattle.std.specs.Io.KnownBytes.{ReadConsumes};
 ghost use Rattle.cmwq_io.specs.Counts.{CountsTrouble};
@@ -36,6 +36,18 @@ impl<S> Kept<S> {
             inner,
             bytes: Vec::new(alloc),
             is_whole: true,
+        }
+    }
+
+    /// It keeps nothing, and passes all on.
+    pub fn passing(alloc: Global, inner: S) -> Kept<S>
+        ensures inner { kept_inner result ≡ inner }
+        ensures whole { is_copied result ≡ false }
+    {
+        Kept {
+            inner,
+            bytes: Vec::new(alloc),
+            is_whole: false,
         }
     }
 

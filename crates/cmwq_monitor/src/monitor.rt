@@ -89,6 +89,7 @@ impl<N: HubName> Monitor<N> {
     }
 
     /// Makes the entry that was planned: it is published, then it is the Book's, and its participant has seen it.
+    #[inline(always)]
     fn make<R: Wait>(
         &mut self,
         rt: &R,
@@ -126,6 +127,7 @@ impl<N: HubName> Monitor<N> {
     }
 
     /// Who can go on after an entry is to be woken.
+    #[inline(always)]
     fn wake(&mut self, plan: &Plan)
         ensures { self.new ≡ self.old }
     {
@@ -164,6 +166,7 @@ impl<N: HubName> Monitor<N> {
     }
 
     /// The hub counts the entries that the participant counts, and has all the history that the participant has seen.
+    #[inline(always)]
     fn compare(&self, participant: &Participant<N>) -> Result<(), RunFault>
         ensures step { IfOk result (λ _. InStep self.now.history participant.now) }
         ensures stranger { IfErr result (λ f. IsStranger participant.now f) }
@@ -188,6 +191,7 @@ impl<N: HubName> Monitor<N> {
     }
 
     /// Whether the hub takes a call of the participant's: a closed one takes none of callers, a failed one none at all.
+    #[inline(always)]
     fn admits(&self, participant: &Participant<N>) -> Result<(), RunFault>
         ensures open { IfOk result (λ _. IsOpenTo self.now participant.now.who) }
         ensures step { IfOk result (λ _. InStep self.now.history participant.now) }

@@ -8,6 +8,7 @@ use cmwq_model::NoMemory;
 use std::sync::Wait;
 
 // Readers see the bits that the mark leaves, or that they saw before.
+#[inline(always)]
 pub(crate) fn put_out<R: Wait>(
     rt: &R,
     mut writer: BitsWriter,

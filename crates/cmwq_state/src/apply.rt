@@ -27,6 +27,7 @@ use cmwq_ticket::Tickets;
 use cmwq_timer::Timers;
 
 /// Each queue's max_active, and whether the freezable queues are frozen, which is answered.
+#[inline(always)]
 pub(crate) fn apply_widths(most: &mut Vec<u32>, frozen: bool, effect: &Effect) -> bool
     requires { (s : Layout) × (past : List entries.Entry) × IsNextEffect s past effect.now × AreWidths s past most.old.items frozen }
     ensures { (s : Layout) (past : List entries.Entry) → IsNextEffect s past effect.now → AreWidths s past most.old.items frozen → AreWidths s (effect.now.entry ∷ past) most.new.items result }
@@ -37,6 +38,7 @@ pub(crate) fn apply_widths(most: &mut Vec<u32>, frozen: bool, effect: &Effect) -
 }
 
 /// The pool workqueues, by the widths after the entry. What became active is found on the way.
+#[inline(always)]
 pub(crate) fn apply_pwqs(
     pwqs: &mut Pwqs,
     queues: &[QueueShape],
@@ -61,6 +63,7 @@ pub(crate) fn apply_pwqs(
 }
 
 /// The pools, with what became active.
+#[inline(always)]
 pub(crate) fn apply_pools(
     pools: &mut Pools,
     queues: &[QueueShape],
@@ -79,6 +82,7 @@ pub(crate) fn apply_pools(
 }
 
 /// The flush book of each queue, and the open numbers of items.
+#[inline(always)]
 pub(crate) fn apply_books(books: &mut FlushBooks, effect: &Effect)
     requires { (s : Layout) × (past : List entries.Entry) × IsNextEffect s past effect.now × AreBooks s past books.old }
     ensures { (s : Layout) (past : List entries.Entry) → IsNextEffect s past effect.now → AreBooks s past books.old → AreBooks s (effect.now.entry ∷ past) books.new }
@@ -90,6 +94,7 @@ pub(crate) fn apply_books(books: &mut FlushBooks, effect: &Effect)
 }
 
 /// The queueings in flight.
+#[inline(always)]
 pub(crate) fn apply_flights(flights: &mut Flights, effect: &Effect)
     requires { (s : Layout) × (past : List entries.Entry) × IsNextEffect s past effect.now × (flights.old ≡ flights_of s past) }
     ensures { (s : Layout) (past : List entries.Entry) → IsNextEffect s past effect.now → flights.old ≡ flights_of s past → flights.new ≡ flights_of s (effect.now.entry ∷ past) }
@@ -104,6 +109,7 @@ pub(crate) fn apply_flights(flights: &mut Flights, effect: &Effect)
 }
 
 /// The unended tickets.
+#[inline(always)]
 pub(crate) fn apply_tickets(tickets: &mut Tickets, effect: &Effect)
     requires { (s : Layout) × (past : List entries.Entry) × IsNextEffect s past effect.now × (tickets.old ≡ tickets_of s past) }
     ensures { (s : Layout) (past : List entries.Entry) → IsNextEffect s past effect.now → tickets.old ≡ tickets_of s past → tickets.new ≡ tickets_of s (effect.now.entry ∷ past) }
@@ -112,6 +118,7 @@ pub(crate) fn apply_tickets(tickets: &mut Tickets, effect: &Effect)
 }
 
 /// Which queues are gone.
+#[inline(always)]
 pub(crate) fn apply_gone(gone: &mut Vec<bool>, effect: &Effect)
     requires { (s : Layout) × (past : List entries.Entry) × IsNextEffect s past effect.now × AreGone s past gone.old.items }
     ensures { (s : Layout) (past : List entries.Entry) → IsNextEffect s past effect.now → AreGone s past gone.old.items → AreGone s (effect.now.entry ∷ past) gone.new.items }
@@ -120,6 +127,7 @@ pub(crate) fn apply_gone(gone: &mut Vec<bool>, effect: &Effect)
 }
 
 /// The bookings.
+#[inline(always)]
 pub(crate) fn apply_timers(timers: &mut Timers, effect: &Effect)
     requires { (s : Layout) × (past : List entries.Entry) × IsNextEffect s past effect.now × (timers.old ≡ timers_of s past) }
     ensures { (s : Layout) (past : List entries.Entry) → IsNextEffect s past effect.now → timers.old ≡ timers_of s past → timers.new ≡ timers_of s (effect.now.entry ∷ past) }
@@ -128,6 +136,7 @@ pub(crate) fn apply_timers(timers: &mut Timers, effect: &Effect)
 }
 
 /// How many entries each caller and each worker has.
+#[inline(always)]
 pub(crate) fn apply_serials(serials: &mut Vec<u64>, effect: &Effect)
     requires { (s : Layout) × (past : List entries.Entry) × IsNextEffect s past effect.now × AreSerials s past serials.old.items }
     ensures { (s : Layout) (past : List entries.Entry) → IsNextEffect s past effect.now → AreSerials s past serials.old.items → AreSerials s (effect.now.entry ∷ past) serials.new.items }

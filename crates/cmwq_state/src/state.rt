@@ -159,6 +159,7 @@ impl State {
     }
 
     /// Appends an entry for which there is room and time: it is applied to each part.
+    #[inline(always)]
     pub fn append(&mut self, effect: Effect)
         requires is { IsEffect self.old.layout (past_of self.old.entries) effect }
         requires room { length self.old.entries + 1 + effect.owing ≤ self.old.room }

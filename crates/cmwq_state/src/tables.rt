@@ -37,12 +37,14 @@ pub fn those_who_fit_are_there()
 {}
 
 /// The number of a pool: two stand beside each other for each CPU.
+#[inline(always)]
 pub(crate) fn pool_place(pool: PoolId) -> u16
     ensures { result ≡ tables.pool_place pool }
 {
     2 * u16::from(pool.cpu.0) + u16::from(pool.high)
 }
 
+#[inline(always)]
 pub(crate) fn who_place(who: Who) -> usize
     ensures { result ≡ tables.who_place who }
 {
@@ -64,6 +66,7 @@ pub(crate) fn who_places(cpus: u8) -> usize
 }
 
 /// Applies a reply to the pool of its worker.
+#[inline(always)]
 fn reply_in_pool(pools: &mut Pools, pool: u16, worker: u8, reply: Reply)
     requires pool { pool < length pools.old }
     requires may { MayReplyInPool reply (pool_numbered pools.old pool) worker }
@@ -84,6 +87,7 @@ fn reply_in_pool(pools: &mut Pools, pool: u16, worker: u8, reply: Reply)
 }
 
 /// Applies a worker's reply to its pool.
+#[inline(always)]
 pub(crate) fn reply_in_pools(pools: &mut Pools, who: Who, reply: Reply)
     requires { MayReplyToWorker who reply pools.old }
     ensures { EachPool (λ p. pool_after_worker p who reply) pools.old pools.new }
@@ -94,6 +98,7 @@ pub(crate) fn reply_in_pools(pools: &mut Pools, who: Who, reply: Reply)
 }
 
 /// Ends a queueing in the flush book of its queue and among the numbers of its item.
+#[inline(always)]
 pub(crate) fn end_in_books(books: &mut FlushBooks, ended: Option<Queueing>)
     requires { MayEndInBooks ended books.old }
     ensures books { EachBook (flushes_after_end ended) books.old books.new }
@@ -105,6 +110,7 @@ pub(crate) fn end_in_books(books: &mut FlushBooks, ended: Option<Queueing>)
 }
 
 /// Opens a queueing in the flush book of its queue and among the numbers of its item.
+#[inline(always)]
 pub(crate) fn open_in_books(books: &mut FlushBooks, opened: Option<Queueing>)
     requires { MayOpenInBooks opened books.old }
     ensures books { EachBook (flushes_after_opening opened) books.old books.new }
@@ -116,6 +122,7 @@ pub(crate) fn open_in_books(books: &mut FlushBooks, opened: Option<Queueing>)
 }
 
 /// Takes a queueing that was cancelled or replaced from its pool.
+#[inline(always)]
 pub(crate) fn remove_from_pool(pools: &mut Pools, pool: PoolId, number: Number, item: ItemId)
     requires { tables.pool_place pool < length pools.old }
     ensures { EachPool (pool_without pool number item.0) pools.old pools.new }
@@ -123,6 +130,7 @@ pub(crate) fn remove_from_pool(pools: &mut Pools, pool: PoolId, number: Number, 
     pools.remove(pool_place(pool), number, item);
 }
 
+#[inline(always)]
 fn place_pool(queues: &[QueueShape], place: Place) -> PoolId
     requires { place.queue.0 < length queues.now }
     ensures is { (s : Layout) → s.queues ≡ queues.now → result ≡ pool_at s place }
@@ -134,6 +142,7 @@ fn place_pool(queues: &[QueueShape], place: Place) -> PoolId
     }
 }
 
+#[inline(always)]
 fn is_finish_of(reply: Reply, number: Number) -> bool
     ensures { (e : Entry) → e.reply ≡ reply → result ≡ finishes number e }
 {
@@ -144,6 +153,7 @@ fn is_finish_of(reply: Reply, number: Number) -> bool
 }
 
 /// Applies the end of a queueing to its pool: where it didn't finish, it is listed no more.
+#[inline(always)]
 pub(crate) fn cancel_in_pools(
     queues: &[QueueShape],
     pools: &mut Pools,
@@ -162,6 +172,7 @@ pub(crate) fn cancel_in_pools(
 }
 
 /// Sets the timer of what is booked, or else clears that of the item whose booking is settled.
+#[inline(always)]
 pub(crate) fn set_timers(timers: &mut Timers, settled: Option<ItemId>, booked: Option<Booking>)
     requires { MayBeSet (item_number settled) booked timers.old }
     ensures { timers.new ≡ timers_after_settling (item_number settled) booked timers.old }
@@ -177,6 +188,7 @@ pub(crate) fn set_timers(timers: &mut Timers, settled: Option<ItemId>, booked: O
 }
 
 /// Ends a flush in the book of its queue. What other tickets wait for is read off what is open.
+#[inline(always)]
 pub(crate) fn done_in_books(books: &mut FlushBooks, done: Option<Ticket>)
     requires { MayBeDoneInBooks done books.old }
     ensures books { EachBook (flushes_after_done done) books.old books.new }
@@ -190,6 +202,7 @@ pub(crate) fn done_in_books(books: &mut FlushBooks, done: Option<Ticket>)
 }
 
 /// Begins a flush in the book of its queue.
+#[inline(always)]
 pub(crate) fn begin_in_books(books: &mut FlushBooks, begun: Option<Ticket>)
     requires { MayBeginInBooks begun books.old }
     ensures books { EachBook (flushes_after_begun begun) books.old books.new }
@@ -203,6 +216,7 @@ pub(crate) fn begin_in_books(books: &mut FlushBooks, begun: Option<Ticket>)
 }
 
 /// Lists a queueing that became active in its pool.
+#[inline(always)]
 fn list_one(queues: &[QueueShape], pools: &mut Pools, queueing: Queueing)
     requires { MayListOne queues.now queueing pools.old }
     ensures { EachPool (pool_with queues.now queueing) pools.old pools.new }
@@ -221,6 +235,7 @@ fn list_one(queues: &[QueueShape], pools: &mut Pools, queueing: Queueing)
 }
 
 /// Lists what became active in its pools.
+#[inline(always)]
 pub(crate) fn list_active(queues: &[QueueShape], pools: &mut Pools, activated: &[Queueing])
     requires there { MayBeListed queues.now activated.now pools.old }
     requires may { (p : PoolId) → MayAllBeAdded (only queues.now) (those_in queues.now p activated.now) (pool_in pools.old p) }
@@ -233,6 +248,7 @@ pub(crate) fn list_active(queues: &[QueueShape], pools: &mut Pools, activated: &
 }
 
 /// Sets a queue's max_active to what a set_max was answered.
+#[inline(always)]
 pub(crate) fn set_width(most: &mut Vec<u32>, call: Call, reply: Reply)
     requires { MaySetWidth call most.old.items }
     ensures { SetsWidth call reply most.old.items most.new.items }
@@ -245,6 +261,7 @@ pub(crate) fn set_width(most: &mut Vec<u32>, call: Call, reply: Reply)
 }
 
 /// Whether the system is frozen after this reply.
+#[inline(always)]
 pub(crate) fn frozen_after(reply: Reply, frozen: bool) -> bool
     ensures { result ≡ frozen_after reply frozen }
 {
@@ -256,6 +273,7 @@ pub(crate) fn frozen_after(reply: Reply, frozen: bool) -> bool
 }
 
 /// Whether the reply leaves the width of each queue as it is.
+#[inline(always)]
 fn keeps_widths(reply: Reply) -> bool
     ensures { result ≡ keeps_widths reply }
 {
@@ -263,6 +281,7 @@ fn keeps_widths(reply: Reply) -> bool
 }
 
 /// Ends a queueing and opens one in what waits.
+#[cold]
 fn move_waiting(pwqs: &mut Pwqs, ended: Option<Queueing>, opened: Option<Queueing>)
     requires ended { MayEndInPwqs ended pwqs.old }
     requires opened { MayOpenInPwqs opened (pwqs_after_end ended pwqs.old) }
@@ -278,6 +297,7 @@ fn move_waiting(pwqs: &mut Pwqs, ended: Option<Queueing>, opened: Option<Queuein
 
 /// Ends a queueing and opens one in what waits; what is below max_active then becomes active. All that wait are
 /// looked at only where the widths may have changed.
+#[inline(always)]
 pub(crate) fn move_pwqs(
     pwqs: &mut Pwqs,
     queues: &[QueueShape],
@@ -307,6 +327,7 @@ pub(crate) fn move_pwqs(
 }
 
 /// Ends a queueing in flight: the run of its item where it finished, or else the unstarted one.
+#[inline(always)]
 fn end_flight(flights: &mut Flights, reply: Reply, queueing: Queueing)
     requires { MayEndOf reply queueing flights.old }
     ensures { flights.new ≡ flights_after_end reply (Some queueing) flights.old }
@@ -319,6 +340,7 @@ fn end_flight(flights: &mut Flights, reply: Reply, queueing: Queueing)
 }
 
 /// Ends a queueing in flight, starts one, and opens one.
+#[inline(always)]
 pub(crate) fn move_flights(
     flights: &mut Flights,
     reply: Reply,
@@ -343,6 +365,7 @@ pub(crate) fn move_flights(
 }
 
 /// Ends a ticket, and gives one.
+#[inline(always)]
 pub(crate) fn move_tickets(tickets: &mut Tickets, done: Option<Ticket>, begun: Option<Ticket>)
     requires ended { MayEndTicket done tickets.old }
     requires given { MayGiveTicket begun (tickets_after_end done tickets.old) }
@@ -357,6 +380,7 @@ pub(crate) fn move_tickets(tickets: &mut Tickets, done: Option<Ticket>, begun: O
 }
 
 /// Marks a queue as gone once its destroy ends.
+#[inline(always)]
 pub(crate) fn lose_queue(gone: &mut Vec<bool>, done: Option<Ticket>)
     requires { MayLoseQueue done gone.old.items }
     ensures { LosesQueue done gone.old.items gone.new.items }

@@ -26,6 +26,12 @@ fn keeps_what_it_passes_on(rt: HostRuntime) {
 }
 
 #[test]
+fn keeps_nothing_where_it_passes_all_on(rt: HostRuntime) {
+    let mut source = Kept::passing(rt.alloc(), Memory::reader(b"history 2\n"));
+    reads(&rt, &mut source, Ok(4), b"not all");
+}
+
+#[test]
 fn passes_failures_on(rt: HostRuntime) {
     let mut source = Kept::new(rt.alloc(), FailsAt::new(Memory::reader(b"end"), 1));
     reads(&rt, &mut source, Err(Trouble::Failed), b"");

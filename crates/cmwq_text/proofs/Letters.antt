@@ -1,12 +1,21 @@
 -- A keyword is found among those with the first letter of its text.
 use Rattle.cmwq_text.specs.Common.{◌≡◌, ℕ, Bool, true, false, List, [], ◌∷◌, find, cond, get_or, Option, Some, None, refl, sym, ap, ◌∙◌, nat_eq, bytes_eq-Decides}
 use Rattle.std.specs.List.{filter, list_any, slice_get}
+use Rattle.std.proofs.Common.{◌-◌, ◌≤◌, arith, drop, length, take}
 use Rattle.std.proofs.lemmas.Bool.{eq-eqb}
+use Rattle.std.proofs.lemmas.List.{take_rest}
 use Rattle.cmwq_lemmas.proofs.Lists.{found_passes}
 use Rattle.cmwq_text.specs.declared.keyword.Keyword.{Keyword}
 use Rattle.cmwq_text.specs.declared.keyword.Keyword.TheVariants as word
 use Rattle.cmwq_text.specs.declared.keyword.TheConstants.{KEYWORDS}
 use Rattle.cmwq_text.specs.Keywords.{keyword_text, is_keyword_text, keyword_of}
+
+-- where the first two fail a test, the first that passes it is found behind them
+pub find_after_two : (p : Keyword → Bool) (ks : List Keyword) (d : Keyword) → 2 ≤ length ks → p (get_or ks 0 d) ≡ false → p (get_or ks 1 d) ≡ false
+    → find p (take (length ks - 2) (drop 2 ks)) ≡ find p ks
+find_after_two p [] d low one two = absurd (omega (arith, low))
+find_after_two p (a ∷ []) d low one two = absurd (omega (arith, low))
+find_after_two p (a ∷ b ∷ rest) d low one two = rw (take_rest (a ∷ b ∷ rest) 2, one, two) refl
 
 abbrev pub begins_with : ℕ → Keyword → Bool
 begins_with letter k = nat_eq (get_or (keyword_text k) 0 0) letter

@@ -10,6 +10,7 @@ use cmwq_model::{Call, Who};
 
 /// The call after a keyword that queues an item.
 #[tactic(auto, unfolding(crate::specs::CallText::call_read_after))]
+#[inline(always)]
 fn queueing_after(keyword: Keyword, words: &mut Words<'_>) -> Option<Call>
     requires { is_queueing keyword ≡ true }
     ensures { with_left result words.new ≡ call_read_after keyword words.old }
@@ -43,6 +44,7 @@ fn queueing_after(keyword: Keyword, words: &mut Words<'_>) -> Option<Call>
 
 /// The call after a keyword that an item follows, and nothing else.
 #[tactic(auto, unfolding(crate::specs::CallText::call_read_after))]
+#[inline(always)]
 fn item_call_after(keyword: Keyword, words: &mut Words<'_>) -> Option<Call>
     requires { has_item keyword ≡ true }
     ensures { with_left result words.new ≡ call_read_after keyword words.old }
@@ -59,6 +61,7 @@ fn item_call_after(keyword: Keyword, words: &mut Words<'_>) -> Option<Call>
 
 /// The call after a keyword that a queue follows.
 #[tactic(auto, unfolding(crate::specs::CallText::call_read_after))]
+#[inline(always)]
 fn queue_call_after(keyword: Keyword, words: &mut Words<'_>) -> Option<Call>
     requires { has_queue keyword ≡ true }
     ensures { with_left result words.new ≡ call_read_after keyword words.old }
@@ -78,6 +81,7 @@ fn queue_call_after(keyword: Keyword, words: &mut Words<'_>) -> Option<Call>
 
 /// The call after its keyword.
 #[tactic(auto, unfolding(crate::specs::CallText::call_read_after))]
+#[inline(always)]
 fn call_after(keyword: Keyword, words: &mut Words<'_>) -> Option<Call>
     ensures { with_left result words.new ≡ call_read_after keyword words.old }
 {
@@ -110,6 +114,7 @@ fn call_after(keyword: Keyword, words: &mut Words<'_>) -> Option<Call>
 }
 
 /// A call.
+#[inline(always)]
 pub fn call_in(words: &mut Words<'_>) -> Option<Call>
     ensures { with_left result words.new ≡ call_in words.old }
 {
@@ -118,6 +123,7 @@ pub fn call_in(words: &mut Words<'_>) -> Option<Call>
 }
 
 /// Whether such a who makes such calls.
+#[inline(always)]
 fn is_of_kind(who: Who, call: Call) -> bool
     ensures { result ≡ is_of_kind who call }
 {
@@ -128,6 +134,7 @@ fn is_of_kind(who: Who, call: Call) -> bool
 }
 
 /// Whether a line may say so: such a who makes such calls, and a max_active that is set is at least 1.
+#[inline(always)]
 pub fn may_say(who: Who, call: Call) -> bool
     ensures { result ≡ may_say who call }
 {

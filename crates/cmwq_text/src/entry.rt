@@ -35,6 +35,7 @@ pub fn read_entry(line: &[u8]) -> Option<Entry>
 }
 
 /// Whether who, call and reply of an entry are inside the shape.
+#[inline]
 pub fn entry_fits(shape: &Shape, entry: &Entry) -> bool
     ensures { result ≡ entry_fits shape.now entry.now }
 {

@@ -8,6 +8,7 @@ use crate::word::{Words, byte_in, short_in};
 use cmwq_model::{CallerId, CpuId, ItemId, PoolId, QueueId, Who, WorkerId};
 
 /// An item. One that no `ItemId` can hold is read as the greatest, which no shape has.
+#[inline(always)]
 pub fn item_in(words: &mut Words<'_>) -> Option<ItemId>
     ensures { with_left result words.new ≡ item_in words.old }
 {
@@ -15,6 +16,7 @@ pub fn item_in(words: &mut Words<'_>) -> Option<ItemId>
 }
 
 /// A queue. One that no `QueueId` can hold is read as the greatest, which no shape has.
+#[inline(always)]
 pub fn queue_in(words: &mut Words<'_>) -> Option<QueueId>
     ensures { with_left result words.new ≡ queue_in words.old }
 {
@@ -22,6 +24,7 @@ pub fn queue_in(words: &mut Words<'_>) -> Option<QueueId>
 }
 
 /// A CPU. One that no `CpuId` can hold is read as the greatest, which no shape has.
+#[inline(always)]
 pub fn cpu_in(words: &mut Words<'_>) -> Option<CpuId>
     ensures { with_left result words.new ≡ cpu_in words.old }
 {
@@ -29,12 +32,14 @@ pub fn cpu_in(words: &mut Words<'_>) -> Option<CpuId>
 }
 
 /// The caller whose number the first word is.
+#[inline(always)]
 fn caller_in(words: &mut Words<'_>) -> Option<Who>
     ensures { with_left result words.new ≡ word_read caller_read words.old }
 {
     Some(Who::Caller(CallerId(byte_in(words)?)))
 }
 
+#[inline(always)]
 fn pool_letter(name: &[u8]) -> Option<usize>
     ensures { result ≡ position is_pool_letter name.now }
 {
@@ -42,6 +47,7 @@ fn pool_letter(name: &[u8]) -> Option<usize>
 }
 
 #[tactic(auto, unfolding(crate::specs::IdText::worker_read), using(std::proofs::lemmas::List::take_rest))]
+#[inline(always)]
 fn worker_of(name: &[u8]) -> Option<Who>
     ensures { result ≡ worker_read name.now }
 {
@@ -57,6 +63,7 @@ fn worker_of(name: &[u8]) -> Option<Who>
 
 /// A caller or a worker.
 #[tactic(auto, unfolding(crate::specs::IdText::who_read))]
+#[inline(always)]
 pub fn who_in(words: &mut Words<'_>) -> Option<Who>
     ensures { with_left result words.new ≡ who_in words.old }
 {

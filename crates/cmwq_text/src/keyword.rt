@@ -176,6 +176,7 @@ const WITH_W: [Keyword; 4] = [
 impl Keyword {
     /// How it is written.
     #[tactic(auto, unfolding(crate::specs::Keywords::keyword_text))]
+    #[inline(always)]
     pub fn text(self) -> &'static str
         ensures exact { result.now ≡ keyword_text self }
         ensures short { length result.now ≤ 13 }
@@ -238,17 +239,38 @@ impl Keyword {
     }
 }
 
-fn keyword_among(keywords: &[Keyword], word: &[u8]) -> Option<Keyword>
+#[inline(always)]
+fn is_written(keyword: Keyword, word: &[u8]) -> bool
+    ensures { result ≡ is_keyword_text word.now keyword }
+{
+    keyword.text().as_bytes() == word
+}
+
+fn keyword_in_list(keywords: &[Keyword], word: &[u8]) -> Option<Keyword>
     ensures { result ≡ find (is_keyword_text word.now) keywords.now }
 {
     keywords
         .iter()
         .copied()
-        .find(|keyword| keyword.text().as_bytes() == word)
+        .find(|keyword| is_written(*keyword, word))
+}
+
+/// The first of these that is written so. The first two are looked at by themselves, as they are read most.
+#[inline(always)]
+fn keyword_among(keywords: &[Keyword], word: &[u8]) -> Option<Keyword>
+    ensures { result ≡ find (is_keyword_text word.now) keywords.now }
+{
+    match keywords {
+        [first, ..] if is_written(*first, word) => Some(*first),
+        [_, second, ..] if is_written(*second, word) => Some(*second),
+        [_, _, rest @ ..] => keyword_in_list(rest, word),
+        _ => None,
+    }
 }
 
 /// The keyword that is written so. Only those with its first letter are looked at.
 #[tactic(auto, unfolding(crate::specs::Keywords::keyword_of))]
+#[inline(always)]
 fn keyword_of(word: &[u8]) -> Option<Keyword>
     ensures { result ≡ keyword_of word.now }
 {
@@ -277,6 +299,7 @@ fn keyword_of(word: &[u8]) -> Option<Keyword>
 }
 
 /// The keyword that the first word is.
+#[inline(always)]
 pub fn keyword_in(words: &mut Words<'_>) -> Option<Keyword>
     ensures { with_left result words.new ≡ keyword_in words.old }
 {

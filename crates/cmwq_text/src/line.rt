@@ -8,6 +8,7 @@ use itoa::write_digits;
 use std::marker::Model;
 
 /// How many digits a number has.
+#[inline]
 fn digit_count(number: u64) -> usize
     ensures count { result ≡ length (decimal number) }
     ensures short { result ≤ 20 }
@@ -21,6 +22,7 @@ fn digit_count(number: u64) -> usize
     count + short_digit_count(left)
 }
 
+#[inline]
 fn short_digit_count(number: u64) -> usize
     requires { number < 10000 }
     ensures { result ≡ length (decimal number) }
@@ -52,6 +54,7 @@ impl Model for Line {
 
 impl Line {
     /// Its bytes.
+    #[inline(always)]
     pub fn as_bytes(&self) -> &[u8]
         ensures { result.now ≡ self.now }
     {
@@ -59,6 +62,7 @@ impl Line {
     }
 
     /// An empty line.
+    #[inline(always)]
     pub fn new() -> Line
         ensures { result ≡ [] }
     {
@@ -68,12 +72,14 @@ impl Line {
         }
     }
 
+    #[inline(always)]
     pub(crate) fn clear(&mut self)
         ensures { self.new ≡ [] }
     {
         self.len = 0;
     }
 
+    #[inline(always)]
     pub(crate) fn push(&mut self, text: &str)
         requires { length self.old + length text.now ≤ 240 }
         ensures exact { self.new ≡ self.old ++ text.now }
@@ -84,7 +90,34 @@ impl Line {
         self.len = end;
     }
 
+    /// Spells a number of one digit.
+    #[inline(always)]
+    #[tactic(auto, using(std::proofs::lemmas::List::take_more_set))]
+    fn push_digit(&mut self, digit: u8)
+        requires room { length self.old < 240 }
+        requires digit { digit < 10 }
+        ensures exact { self.new ≡ self.old ++ (48 + digit) ∷ [] }
+    {
+        self.bytes[self.len] = b'0' + digit;
+        self.len += 1;
+    }
+
+    #[inline(always)]
+    #[tactic(auto, using(std::proofs::lemmas::Fmt::decimal_digit))]
     pub(crate) fn push_number(&mut self, number: u64)
+        requires { length self.old + 20 ≤ 240 }
+        ensures exact { self.new ≡ self.old ++ decimal number }
+        ensures short { length self.new ≤ length self.old + 20 }
+    {
+        // most numbers of a line are ids, which have one
+        if number < 10 {
+            self.push_digit(number as u8);
+        } else {
+            self.push_digits(number);
+        }
+    }
+
+    fn push_digits(&mut self, number: u64)
         requires { length self.old + 20 ≤ 240 }
         ensures exact { self.new ≡ self.old ++ decimal number }
         ensures short { length self.new ≤ length self.old + 20 }
@@ -95,6 +128,7 @@ impl Line {
     }
 
     /// Spells numbers, each after a space.
+    #[inline(always)]
     pub(crate) fn push_numbers(&mut self, numbers: &[u64])
         requires { length self.old + 21 * length numbers.now ≤ 240 }
         ensures exact { self.new ≡ self.old ++ space_words (map decimal numbers.now) }
@@ -108,6 +142,7 @@ impl Line {
 
     /// Spells a keyword and numbers, each after a space.
     #[tactic(auto, unfolding(crate::specs::Words::space_words))]
+    #[inline(always)]
     pub(crate) fn push_phrase(&mut self, keyword: Keyword, numbers: &[u64])
         requires { length self.old + 14 + 21 * length numbers.now ≤ 240 }
         ensures exact { self.new ≡ self.old ++ space_words (phrase keyword numbers.now) }

@@ -4,6 +4,7 @@ ghost use Rattle.cmwq_text.specs.Numbers.{with_digit, digits_from, is_begun, num
 ghost use Rattle.cmwq_model.specs.Prelude.{greatest};
 
 /// The number with a digit after it, if that is at most the limit.
+#[inline]
 fn with_digit(limit: u64, value: u64, digit: u8) -> Option<u64>
     ensures { result ≡ with_digit limit value digit }
 {
@@ -15,6 +16,7 @@ fn with_digit(limit: u64, value: u64, digit: u8) -> Option<u64>
 }
 
 /// The number that digits stand for, if it is at most the limit. It stops at the first digit that passes the limit.
+#[inline]
 pub fn digits_of(limit: u64, digits: &[u8]) -> Option<u64>
     ensures exact { result ≡ digits_from limit 0 digits.now }
     ensures within { IfSome result (λ n. n ≤ limit) }
@@ -27,6 +29,7 @@ pub fn digits_of(limit: u64, digits: &[u8]) -> Option<u64>
 }
 
 /// Whether it is `0`, or begins with no zero.
+#[inline]
 fn is_begun(word: &[u8]) -> bool
     ensures { result ≡ is_begun word.now }
 {
@@ -38,6 +41,7 @@ fn is_begun(word: &[u8]) -> bool
 
 /// The number that a word spells, if it is at most the limit: `0`, or a digit 1 to 9 and digits after it.
 #[tactic(auto, unfolding(crate::specs::Numbers::number_read))]
+#[inline]
 fn limited(limit: u64, word: &[u8]) -> Option<u64>
     ensures exact { result ≡ number_read limit word.now }
     ensures within { IfSome result (λ n. n ≤ limit) }
@@ -50,6 +54,7 @@ fn limited(limit: u64, word: &[u8]) -> Option<u64>
 }
 
 /// The number of at most 4,294,967,295 that a word spells.
+#[inline]
 pub fn number_of(word: &[u8]) -> Option<u32>
     ensures { result ≡ number_read greatest word.now }
 {
@@ -57,6 +62,7 @@ pub fn number_of(word: &[u8]) -> Option<u32>
 }
 
 /// The number of at most 4,294,967,295 that a word spells, where one above 255 is read as that.
+#[inline]
 pub fn byte_of(word: &[u8]) -> Option<u8>
     ensures { result ≡ byte_of word.now }
 {

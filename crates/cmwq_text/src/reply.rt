@@ -24,6 +24,7 @@ fn ticket_with(k: Number, keyword: Keyword, words: &mut Words<'_>) -> Option<Rep
 
 /// The reply after `ticket <k>`.
 #[tactic(auto, unfolding(crate::specs::ReplyText::ticket_after))]
+#[inline(always)]
 fn ticket_after(k: Number, words: &mut Words<'_>) -> Option<Reply>
     ensures { with_left result words.new ≡ ticket_after k words.old }
 {
@@ -35,6 +36,7 @@ fn ticket_after(k: Number, words: &mut Words<'_>) -> Option<Reply>
 }
 
 #[tactic(auto, unfolding(crate::specs::ReplyText::started_with))]
+#[inline(always)]
 fn started_with(n: Number, keyword: Keyword, words: &mut Words<'_>) -> Option<Reply>
     ensures { with_left result words.new ≡ started_with n keyword words.old }
 {
@@ -46,6 +48,7 @@ fn started_with(n: Number, keyword: Keyword, words: &mut Words<'_>) -> Option<Re
 
 /// The reply after `started <n>`.
 #[tactic(auto, unfolding(crate::specs::ReplyText::started_after))]
+#[inline(always)]
 fn started_after(n: Number, words: &mut Words<'_>) -> Option<Reply>
     ensures { with_left result words.new ≡ started_after n words.old }
 {
@@ -58,6 +61,7 @@ fn started_after(n: Number, words: &mut Words<'_>) -> Option<Reply>
 
 /// The reply after a keyword that a number follows.
 #[tactic(auto, unfolding(crate::specs::ReplyText::reply_after))]
+#[inline(always)]
 fn number_reply_after(keyword: Keyword, words: &mut Words<'_>) -> Option<Reply>
     requires { keyword_has_number keyword ≡ true }
     ensures { with_left result words.new ≡ reply_after keyword words.old }
@@ -77,6 +81,7 @@ fn number_reply_after(keyword: Keyword, words: &mut Words<'_>) -> Option<Reply>
 
 /// The reply after a keyword that a time follows.
 #[tactic(auto, unfolding(crate::specs::ReplyText::reply_after))]
+#[inline(always)]
 fn time_reply_after(keyword: Keyword, words: &mut Words<'_>) -> Option<Reply>
     requires { keyword_has_time keyword ≡ true }
     ensures { with_left result words.new ≡ reply_after keyword words.old }
@@ -92,6 +97,7 @@ fn time_reply_after(keyword: Keyword, words: &mut Words<'_>) -> Option<Reply>
 
 /// The reply after its keyword.
 #[tactic(auto, unfolding(crate::specs::ReplyText::reply_after))]
+#[inline(always)]
 fn reply_after(keyword: Keyword, words: &mut Words<'_>) -> Option<Reply>
     ensures { with_left result words.new ≡ reply_after keyword words.old }
 {
@@ -129,6 +135,7 @@ fn reply_after(keyword: Keyword, words: &mut Words<'_>) -> Option<Reply>
 }
 
 /// A reply.
+#[inline(always)]
 pub fn reply_in(words: &mut Words<'_>) -> Option<Reply>
     ensures { with_left result words.new ≡ reply_in words.old }
 {
@@ -137,6 +144,7 @@ pub fn reply_in(words: &mut Words<'_>) -> Option<Reply>
 }
 
 /// Whether the item or the index of a worker that stands in a reply is inside the shape.
+#[inline]
 pub fn reply_fits(shape: &Shape, reply: Reply) -> bool
     ensures { result ≡ reply_fits shape.now reply }
 {

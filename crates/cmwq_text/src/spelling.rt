@@ -13,6 +13,7 @@ use crate::keyword::Keyword;
 use crate::line::Line;
 use cmwq_model::{Call, Counts, Entry, QueueShape, Reply, Who};
 
+#[inline]
 fn push_who(line: &mut Line, who: Who)
     requires { length line.old + 42 ≤ 240 }
     ensures exact { line.new ≡ line.old ++ who_text who }
@@ -34,6 +35,7 @@ fn push_who(line: &mut Line, who: Who)
 
 /// The keyword that a call begins with.
 #[tactic(auto, unfolding(crate::specs::CallText::call_words))]
+#[inline]
 fn call_keyword(call: Call) -> Keyword
     ensures { slice_get (call_words call) 0 ≡ Some (keyword_text result) }
 {
@@ -64,6 +66,7 @@ fn call_keyword(call: Call) -> Keyword
 
 /// Each word after a space.
 #[tactic(auto, unfolding(crate::specs::CallText::call_words))]
+#[inline]
 fn push_call(line: &mut Line, call: Call)
     requires { length line.old + 98 ≤ 240 }
     ensures exact { line.new ≡ line.old ++ space_words (call_words call) }
@@ -109,6 +112,7 @@ fn push_call(line: &mut Line, call: Call)
 
 /// The keyword that a reply begins with.
 #[tactic(auto, unfolding(crate::specs::ReplyText::reply_words))]
+#[inline]
 fn reply_keyword(reply: Reply) -> Keyword
     ensures { slice_get (reply_words reply) 0 ≡ Some (keyword_text result) }
 {
@@ -152,6 +156,7 @@ fn reply_keyword(reply: Reply) -> Keyword
 
 /// Each word after a space.
 #[tactic(auto, unfolding(crate::specs::ReplyText::reply_words))]
+#[inline]
 pub(crate) fn push_reply(line: &mut Line, reply: Reply)
     requires { length line.old + 70 ≤ 240 }
     ensures exact { line.new ≡ line.old ++ space_words (reply_words reply) }
@@ -186,6 +191,7 @@ pub(crate) fn push_reply(line: &mut Line, reply: Reply)
 
 /// Spells the line of an entry, with its line feed, in the place of what the line holds.
 #[tactic(auto, unfolding(crate::specs::EntryText::entry_text))]
+#[inline]
 pub fn spell_entry(line: &mut Line, entry: &Entry)
     ensures { line.new ≡ entry_text entry.now }
 {

@@ -12,6 +12,7 @@ const MANY: u64 = 1_000_000_000_000_000_000;
 /// The greatest number of an entry.
 const GREATEST_NUMBER: u64 = 9_223_372_036_854_775_807;
 
+#[inline(always)]
 fn first_space(bytes: &[u8]) -> Option<usize>
     ensures { result ≡ position is_space bytes.now }
 {
@@ -38,6 +39,7 @@ impl<'a> Words<'a> {
     ghost use Rattle.cmwq_text.specs.Words.{words_of, has_no_word, first_word, first_letter, after};
 
     /// The words of a line.
+    #[inline(always)]
     pub fn of(line: &'a [u8]) -> Words<'a>
         ensures { result ≡ words_of line.now }
     {
@@ -46,6 +48,7 @@ impl<'a> Words<'a> {
 
     /// Whether no word is left.
     #[tactic(auto, using(crate::proofs::Splits::split_has_first))]
+    #[inline(always)]
     pub fn is_end(&self) -> bool
         ensures { result ≡ has_no_word self.now }
     {
@@ -54,6 +57,7 @@ impl<'a> Words<'a> {
 
     /// Takes the first word.
     #[tactic(auto, using(crate::proofs::Splits::split_without_space, crate::proofs::Splits::split_at_space))]
+    #[inline(always)]
     pub fn first(&mut self) -> Option<&'a [u8]>
         ensures { option_map (λ word. (word.now, self.new)) result ≡ first_word self.old }
     {
@@ -72,6 +76,7 @@ impl<'a> Words<'a> {
 
     /// Takes the first letter of the first word.
     #[tactic(auto, using(crate::proofs::Leading::letter_taken))]
+    #[inline(always)]
     pub fn letter(&mut self) -> Option<u8>
         ensures { option_map (λ letter. (letter, self.new)) result ≡ first_letter self.old }
     {
@@ -94,6 +99,7 @@ impl<'a> Words<'a> {
 }
 
 /// Whether the first word is `0`, or begins with no zero.
+#[inline(always)]
 fn begins_number(bytes: &[u8]) -> bool
     ensures { Some result ≡ option_map (λ word. is_begun word.0) (first_word (words_of bytes.now)) }
 {
@@ -105,6 +111,7 @@ fn begins_number(bytes: &[u8]) -> bool
 }
 
 /// The number of the digits that bytes begin with, of no more of them than surely fit 64 bits, and what is behind these.
+#[inline(always)]
 fn leading_digits(bytes: &[u8]) -> (u64, &[u8])
     ensures { IsLeading bytes.now result.0 result.1.now }
 {
@@ -120,6 +127,7 @@ fn leading_digits(bytes: &[u8]) -> (u64, &[u8])
     (value, left)
 }
 
+#[inline(always)]
 fn at_most<'a>(limit: u64, number: u64, left: Words<'a>) -> Option<(u64, Words<'a>)>
     ensures { result ≡ (if nat_le number limit then Some (number, left.entry) else None) }
 {
@@ -131,6 +139,7 @@ fn at_most<'a>(limit: u64, number: u64, left: Words<'a>) -> Option<(u64, Words<'
 }
 
 /// As `leading_number`, of digits that 64 bits may not hold.
+#[cold]
 fn long_number<'a>(limit: u64, bytes: &'a [u8]) -> Option<(u64, Words<'a>)>
     ensures exact { result ≡ word_read (digits_from limit 0) (words_of bytes.now) }
     ensures within { IfSome result (λ number. number.0 ≤ limit) }
@@ -141,6 +150,7 @@ fn long_number<'a>(limit: u64, bytes: &'a [u8]) -> Option<(u64, Words<'a>)>
 }
 
 /// The number that digits up to a space or the end stand for, if it is at most the limit, and the words behind it.
+#[inline(always)]
 fn leading_number<'a>(limit: u64, bytes: &'a [u8]) -> Option<(u64, Words<'a>)>
     ensures exact { result ≡ word_read (digits_from limit 0) (words_of bytes.now) }
     ensures within { IfSome result (λ number. number.0 ≤ limit) }
@@ -161,6 +171,7 @@ fn leading_number<'a>(limit: u64, bytes: &'a [u8]) -> Option<(u64, Words<'a>)>
 }
 
 /// The number that the first word spells, if it is at most the limit: `0`, or a digit 1 to 9 and digits after it.
+#[inline(always)]
 fn limited_in(limit: u64, words: &mut Words<'_>) -> Option<u64>
     ensures exact { with_left result words.new ≡ word_read (number_read limit) words.old }
     ensures within { IfSome result (λ n. n ≤ limit) }
@@ -175,6 +186,7 @@ fn limited_in(limit: u64, words: &mut Words<'_>) -> Option<u64>
 }
 
 /// A number that a byte holds. A greater one is read as the greatest that it holds.
+#[inline(always)]
 pub fn byte_in(words: &mut Words<'_>) -> Option<u8>
     ensures { with_left result words.new ≡ byte_in words.old }
 {
@@ -182,6 +194,7 @@ pub fn byte_in(words: &mut Words<'_>) -> Option<u8>
 }
 
 /// A number of at most 65,535. A greater one is read as that.
+#[inline(always)]
 pub fn short_in(words: &mut Words<'_>) -> Option<u16>
     ensures { with_left result words.new ≡ short_in words.old }
 {
@@ -203,6 +216,7 @@ pub fn short_count_in(words: &mut Words<'_>) -> Option<u16>
 }
 
 /// A number of at most 4,294,967,295.
+#[inline(always)]
 pub fn number_in(words: &mut Words<'_>) -> Option<u32>
     ensures { with_left result words.new ≡ number_in words.old }
 {
@@ -210,6 +224,7 @@ pub fn number_in(words: &mut Words<'_>) -> Option<u32>
 }
 
 /// A number of at most 9,223,372,036,854,775,807.
+#[inline(always)]
 pub fn wide_in(words: &mut Words<'_>) -> Option<u64>
     ensures { with_left result words.new ≡ wide_in words.old }
 {
@@ -217,6 +232,7 @@ pub fn wide_in(words: &mut Words<'_>) -> Option<u64>
 }
 
 /// A number of at most 18,446,744,073,709,551,615.
+#[inline(always)]
 pub fn long_in(words: &mut Words<'_>) -> Option<u64>
     ensures { with_left result words.new ≡ long_in words.old }
 {

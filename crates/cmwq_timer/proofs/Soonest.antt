@@ -1,10 +1,15 @@
 -- Which timer is sooner, and the first of some nodes.
-use Rattle.std.proofs.Common.{◌≡◌, ℕ, ◌+◌, ◌<◌, ◌≤◌, Bool, true, false, Option, Some, None, cond, refl, sym, ◌∙◌, arith, ◌⊎◌, ⊎_elim}
+use Rattle.std.proofs.Common.{◌≢◌, List, length, ap, ◌≡◌, ℕ, ◌+◌, ◌<◌, ◌≤◌, Bool, true, false, Option, Some, None, cond, refl, sym, ◌∙◌, arith, ◌⊎◌, ⊎_elim}
+use Rattle.std.specs.Option.{option_map_or}
+use Rattle.std.proofs.lemmas.Bool.{cases_eq, cases_lt, false≢true}
+use Rattle.std.proofs.lemmas.List.{get_or_past}
+use Rattle.std.specs.Prelude.{option_map}
 use Rattle.std.proofs.lemmas.Bool.Decides.{nat_tests}
 use Rattle.cmwq_timer.specs.declared.timer.Timer.{Timer}
 use Rattle.cmwq_timer.specs.declared.candidate.Candidate.{Candidate}
 use Rattle.cmwq_timer.specs.Due.{is_sooner}
-use Rattle.cmwq_timer.specs.Tournament.{Nodes, sooner, IsSoonest}
+use Rattle.cmwq_timer.specs.Rows.{TimerRows}
+use Rattle.cmwq_timer.specs.Tournament.{Nodes, sooner, node_at, candidate_at, IsSoonest, IsWritten}
 
 pub sooner_chain : (a b c : Timer) → is_sooner a b ≡ false → is_sooner c b ≡ true → is_sooner a c ≡ false
 sooner_chain a b c = grind (arith, nat_tests)
@@ -77,4 +82,50 @@ soonest_same old new lo hi (Some c) same first = record {
   below = first.below;
   is = same first.at first.from first.below ∙ first.is;
   none_sooner = λ k d from below stands. first.none_sooner k d from below (sym (same k from below) ∙ stands);
+}
+
+pub node_past : (level : List (Option Candidate)) (i : ℕ) → length level ≤ i → node_at level i ≡ None
+node_past level i past = get_or_past level i None past
+
+pub row_past : (rows : TimerRows) (i : ℕ) → length rows ≤ i → candidate_at rows i ≡ None
+row_past rows i past = ap (option_map (λ (t : Timer). record { item = record { 0 = i }; timer = t })) (get_or_past rows i None past)
+
+-- behind the last of the nodes there is nothing
+pub soonest_past : (nodes : Nodes) (lo k hi : ℕ) (o : Option Candidate) → k ≤ hi → ((i : ℕ) → k ≤ i → i < hi → nodes i ≡ None) → IsSoonest nodes lo k o → IsSoonest nodes lo hi o
+soonest_past nodes lo k hi None up past none = λ i from below. ⊎_elim (λ l. none i from l) (λ g. past i g below) (cases_lt i k)
+soonest_past nodes lo k hi (Some c) up past first = record {
+  at = first.at;
+  from = first.from;
+  below = (let b = first.below in omega arith);
+  is = first.is;
+  none_sooner = λ i d from below stands. ⊎_elim (λ l. first.none_sooner i d from l stands) (λ g. absurd (not_both (nodes i) d (past i g below) stands)) (cases_lt i k);
+}
+
+-- what is written and comes before the first of all is the first
+pub written_first : (old new : Nodes) (lo hi at : ℕ) (was now : Option Candidate) (kept : Candidate) → IsWritten old new at was now → lo ≤ at → at < hi → IsSoonest old lo hi (Some kept)
+    → option_map_or (λ (next : Candidate). is_sooner next.timer kept.timer) now false ≡ true → IsSoonest new lo hi now
+written_first old new lo hi at was None kept w from below first less = absurd (false≢true less)
+written_first old new lo hi at was (Some next) kept w from below first less = record {
+  at = at;
+  from = from;
+  below = below;
+  is = w.behind;
+  none_sooner = λ k d lower upper stands. ⊎_elim
+      (λ same. rw (one_value (new at) next d w.behind (rw same at stands)) (sooner_self next.timer))
+      (λ ne. sooner_chain d.timer kept.timer next.timer (first.none_sooner k d lower upper (rw (w.others k ne) at stands)) less)
+      (cases_eq k at);
+}
+
+-- what was the first stays so where another was written that doesn't come before it
+pub first_stays : (old new : Nodes) (lo hi at : ℕ) (was now : Option Candidate) (kept : Candidate) → IsWritten old new at was now → IsSoonest old lo hi (Some kept) → was ≢ Some kept
+    → option_map_or (λ (next : Candidate). is_sooner next.timer kept.timer) now false ≡ false → IsSoonest new lo hi (Some kept)
+first_stays old new lo hi at was now kept w first other less = record {
+  at = first.at;
+  from = first.from;
+  below = first.below;
+  is = w.others first.at (λ same. other (sym w.before ∙ (ap old (sym same) ∙ first.is))) ∙ first.is;
+  none_sooner = λ k d lower upper stands. ⊎_elim
+      (λ same. let is : now ≡ Some d = sym w.behind ∙ (ap new (sym same) ∙ stands) in rw is at less)
+      (λ ne. first.none_sooner k d lower upper (sym (w.others k ne) ∙ stands))
+      (cases_eq k at);
 }

@@ -1,7 +1,11 @@
 -- A tournament of the timers: of each sixteen nodes of a level, the next level keeps the one that fires first.
-use Rattle.std.specs.Prelude.{◌≡◌, ℕ, zero, suc, ◌+◌, ◌*◌, ◌/◌, ◌<◌, ◌≤◌, Bool, true, false, List, [], ◌∷◌, length, Option, Some, None, option_map, IsTrue, if◌then◌else◌, slice_index_or}
+use Rattle.std.specs.Prelude.{◌≡◌, ◌≢◌, ℕ, zero, suc, ◌+◌, ◌*◌, ◌/◌, ◌<◌, ◌≤◌, Bool, true, false, List, [], ◌∷◌, length, Option, Some, None, option_map, IsTrue, if◌then◌else◌, slice_index_or}
 use Rattle.cmwq_timer.specs.declared.timer.Timer.{Timer}
 use Rattle.cmwq_timer.specs.declared.candidate.Candidate.{Candidate}
+use Rattle.cmwq_timer.specs.declared.candidate.Known.{Known}
+use Rattle.cmwq_timer.specs.declared.candidate.Known.TheVariants as known
+use Rattle.cmwq_timer.specs.declared.candidate.First.{First}
+use Rattle.cmwq_timer.specs.declared.candidate.First.TheVariants as change
 use Rattle.cmwq_timer.specs.Due.{is_sooner}
 use Rattle.cmwq_timer.specs.Rows.{TimerRows, timer_of}
 
@@ -32,6 +36,23 @@ pub record IsSoonestOf (nodes : Nodes) (lo hi : ℕ) (c : Candidate) : Type 0 wh
 abbrev pub IsSoonest : Nodes → ℕ → ℕ → Option Candidate → Type 0
 IsSoonest nodes lo hi None = (k : ℕ) → lo ≤ k → k < hi → nodes k ≡ None
 IsSoonest nodes lo hi (Some c) = IsSoonestOf nodes lo hi c
+
+-- one of these nodes keeps a candidate in place of another, and the others are as they were
+pub record IsWritten (old new : Nodes) (at : ℕ) (was now : Option Candidate) : Type 0 where
+  pub before : old at ≡ was
+  pub behind : new at ≡ now
+  pub others : (k : ℕ) → k ≢ at → new k ≡ old k
+
+-- what is said to be known of the first of these nodes is so: of what it was before, and what was written
+abbrev pub IsKnown : Nodes → ℕ → ℕ → Option Candidate → Option Candidate → Known → Type 0
+IsKnown nodes lo hi first now known.Stays = IsSoonest nodes lo hi first
+IsKnown nodes lo hi first now known.IsWritten = IsSoonest nodes lo hi now
+IsKnown nodes lo hi first now known.Lost = Unit {0}
+
+-- the first once that has become of it
+abbrev pub first_after : Option Candidate → First → Option Candidate
+first_after first change.Stays = first
+first_after first (change.Becomes o) = o
 
 -- a level above so many nodes
 pub record IsLevel (many : ℕ) (below : Nodes) (level : List (Option Candidate)) : Type 0 where

@@ -7,7 +7,7 @@ ghost use Rattle.cmwq_timer.specs.Rows.{timer_of};
 ghost use Rattle.cmwq_timer.specs.Tournament.{IsFirstUnder, any_timer};
 
 use crate::candidate::{
-    Candidate, FAN, candidate_at, first_of_nodes, first_of_rows, node_at, sooner,
+    Candidate, FAN, First, candidate_at, first_with_node, first_with_row, node_at, sooner,
 };
 use crate::timer::Timer;
 use cmwq_model::ItemId;
@@ -72,7 +72,7 @@ impl Tournament {
         self.rows[place]
     }
 
-    /// Writes an item's row, and what stands above it.
+    /// Writes an item's row, and each node above it up to one of which the first stays.
     pub(crate) fn set(&mut self, item: ItemId, timer: Option<Timer>)
         requires { item.0 < length self.old }
         ensures { self.new ≡ slice_set self.old item.0 timer }
@@ -81,11 +81,38 @@ impl Tournament {
         let low = row / FAN;
         let middle = low / FAN;
         let high = middle / FAN;
+        let was_row = candidate_at(&self.rows, row);
         self.rows[row] = timer;
-        self.low[low] = first_of_rows(&self.rows, low);
-        self.middle[middle] = first_of_nodes(&self.low, middle);
-        self.high[high] = first_of_nodes(&self.middle, high);
-        self.last = first_of_nodes(&self.high, 0);
+        let now_row = candidate_at(&self.rows, row);
+        let was_low = node_at(&self.low, low);
+        let First::Becomes(now_low) = first_with_row(&self.rows, low, was_low, was_row, now_row)
+        else {
+            return;
+        };
+        self.low[low] = now_low;
+        let was_middle = node_at(&self.middle, middle);
+        let First::Becomes(now_middle) = first_with_node(
+            &self.low, middle, was_middle, was_low, now_low,
+        ) else {
+            return;
+        };
+        self.middle[middle] = now_middle;
+        let was_high = node_at(&self.high, high);
+        let First::Becomes(now_high) = first_with_node(
+            &self.middle,
+            high,
+            was_high,
+            was_middle,
+            now_middle,
+        ) else {
+            return;
+        };
+        self.high[high] = now_high;
+        if let First::Becomes(now_last) = first_with_node(
+            &self.high, 0, self.last, was_high, now_high,
+        ) {
+            self.last = now_last;
+        }
     }
 
     /// What a node keeps: of all items below it, the one that fires first.

@@ -52,6 +52,7 @@ impl State {
     }
 
     /// What an item runs.
+    #[inline(always)]
     pub fn item_run(&self, item: ItemId) -> Option<Queueing>
         requires { item.0 < self.now.layout.items }
         ensures is { result ≡ run_open (past_of self.now.entries) item.0 }
@@ -61,6 +62,7 @@ impl State {
     }
 
     /// The queueing of an item that hasn't started.
+    #[inline(always)]
     pub fn unstarted(&self, item: ItemId) -> Option<Queueing>
         requires { item.0 < self.now.layout.items }
         ensures { result ≡ queueings.unstarted_queueing (past_of self.now.entries) item.0 }
@@ -121,6 +123,7 @@ impl State {
     }
 
     /// What a worker runs.
+    #[inline(always)]
     pub fn queueing_run(&self, worker: WorkerId) -> Option<Queueing>
         requires { tables.IsThere self.now.layout (Worker worker) }
         ensures { result ≡ queueing_run (past_of self.now.entries) (Worker worker) }
@@ -167,6 +170,7 @@ impl State {
     }
 
     /// The unended ticket with this number, where it is this caller's.
+    #[inline(always)]
     pub fn ticket_of(&self, who: Who, number: Number) -> Option<Ticket>
         requires { tables.IsThere self.now.layout who }
         ensures is { result ≡ waits.ticket_of (past_of self.now.entries) who number }
@@ -202,6 +206,7 @@ impl State {
     }
 
     /// A worker may call only from a run that is awake.
+    #[inline(always)]
     pub fn may_call(&self, who: Who) -> bool
         requires { tables.IsThere self.now.layout who }
         ensures { result ≡ may_call (past_of self.now.entries) who }
@@ -213,6 +218,7 @@ impl State {
     }
 
     /// Whether it is a worker that runs a queueing of this queue.
+    #[inline(always)]
     pub fn runs_on(&self, who: Who, queue: QueueId) -> bool
         requires { tables.IsThere self.now.layout who }
         ensures { result ≡ runs_on (past_of self.now.entries) who queue.0 }
@@ -227,6 +233,7 @@ impl State {
     }
 
     /// Whether a drain of the queue refuses the call.
+    #[inline(always)]
     pub fn is_shut(&self, who: Who, queue: QueueId, ticks: u32) -> bool
         requires there { tables.IsThere self.now.layout who }
         requires queue { queue.0 < length self.now.layout.queues }

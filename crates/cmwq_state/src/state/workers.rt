@@ -18,6 +18,7 @@ use cmwq_pool::{Slot, Task};
 
 impl State {
     /// The slot of a worker in its pool.
+    #[inline(always)]
     pub(crate) fn slot(&self, worker: WorkerId) -> Slot
         requires { tables.IsThere self.now.layout (Worker worker) }
         ensures is { IsSlotOf (past_of self.now.entries) worker result }
@@ -68,6 +69,7 @@ impl State {
     }
 
     /// The number of the next queueing to start.
+    #[inline(always)]
     pub fn next(&self, pool: PoolId) -> Option<Number>
         requires { pool.cpu.0 < self.now.layout.cpus }
         ensures { result ≡ option_map number_of_queueing (active.next self.now.layout (past_of self.now.entries) pool) }
@@ -76,6 +78,7 @@ impl State {
     }
 
     /// How many runs hold the pool: those that are awake, but for those of CPU intensive queues.
+    #[inline(always)]
     pub fn runnable(&self, pool: PoolId) -> u32
         requires { pool.cpu.0 < self.now.layout.cpus }
         ensures { result ≡ workers.runnable self.now.layout (past_of self.now.entries) pool }
@@ -84,6 +87,7 @@ impl State {
     }
 
     /// The worker of the reserve that is enlisted where this one starts a queueing.
+    #[inline(always)]
     pub fn enlisted_by(&self, worker: WorkerId) -> Option<u8>
         requires { tables.IsThere self.now.layout (Worker worker) }
         ensures { result ≡ workers.enlisted_by self.now.layout (past_of self.now.entries) worker }
@@ -93,6 +97,7 @@ impl State {
     }
 
     /// The number of what the worker runs.
+    #[inline(always)]
     pub fn run(&self, worker: WorkerId) -> Option<Number>
         requires { tables.IsThere self.now.layout (Worker worker) }
         ensures { result ≡ runs.run (past_of self.now.entries) worker }
@@ -104,6 +109,7 @@ impl State {
     }
 
     /// The task that the pool would start next.
+    #[inline(always)]
     pub(crate) fn next_task(&self, pool: PoolId) -> Option<Task>
         requires { pool.cpu.0 < self.now.layout.cpus }
         ensures is { result ≡ next_task (pool_of self.now.layout (past_of self.now.entries) pool) }
@@ -113,6 +119,7 @@ impl State {
     }
 
     /// What the pool would start next.
+    #[inline(always)]
     pub fn next_queueing(&self, pool: PoolId) -> Option<Queueing>
         requires { pool.cpu.0 < self.now.layout.cpus }
         ensures { result ≡ active.next self.now.layout (past_of self.now.entries) pool }

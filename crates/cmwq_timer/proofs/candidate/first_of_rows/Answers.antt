@@ -1,9 +1,21 @@
-use Rattle.std.proofs.Common.{◌*◌}
+use Rattle.std.proofs.Common.{◌*◌, ◌+◌, arith}
+use Rattle.std.specs.Prelude.{option_and_then}
 use Rattle.cmwq_timer.specs.Tournament.{candidate_at}
-use Rattle.cmwq_timer.proofs.Soonest.{soonest_more}
+use Rattle.cmwq_timer.proofs.Soonest.{row_past, soonest_more, soonest_past}
 use Rattle.cmwq_timer.proofs.candidate.first_of_rows.Goals as goal
 
 pub loop-row-preserved : goal.loop-row-preserved
 loop-row-preserved c =
     let nodes = candidate_at c.args.rows.now in
-    rw (c.sooner-first.ensures, c.candidate_at.ensures) (soonest_more nodes (16 * c.args.node) c.loop-row.row c.loop-row.auto.row c.loop-row.first c.loop-row.invariant)
+    let below = c.min-row-end.ensures in
+    let turns = c.loop-row-test.true in (
+      rw c.sooner_row-first.ensures (soonest_more nodes (16 * c.args.node) c.loop-row.row c.loop-row.auto.row (option_and_then nodes c.loop-row.first) c.loop-row.invariant.0),
+      omega (arith, below, turns),
+    )
+
+pub returns : goal.returns
+returns c =
+    let ends = c.loop-row-test.false in
+    let end = c.min-row-end.ensures in
+    rw c.candidate_of.ensures (soonest_past (candidate_at c.args.rows.now) (16 * c.args.node) c.loop-row.row (16 * c.args.node + 16) (option_and_then (candidate_at c.args.rows.now) c.loop-row.first) c.loop-row.invariant.1
+    (λ i from below. row_past c.args.rows.now i (omega (arith, ends, end))) c.loop-row.invariant.0)
