@@ -40,8 +40,8 @@ impl Overflow {
         ensures { IfOk result (λ overflow. overflow ≡ record { room = room; queues = replicate queues [] }) }
     {
         let mut lists = Lists::new(alloc, queues + 1, room)?;
-        for node in 0..room {
-            lists.push_back(FREE, node);
+        for place in 0..room {
+            lists.push_back(FREE, place);
         }
         Ok(Overflow {
             lists,

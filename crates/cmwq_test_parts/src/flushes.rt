@@ -289,10 +289,7 @@ fn as_many_as_may_be(rt: HostRuntime) -> Result<(), Fail> {
     assert!(rt; !may_begin(&rt, &books, QUEUE, 2575));
     assert!(rt; !may_begin(&rt, &books, OTHER, 2575));
     end(&rt, &mut books, OTHER, 1000);
-    assert!(rt;
-        !may_begin(&rt, &books, QUEUE, 2574),
-        "tickets come rising"
-    );
+    assert!(rt; !may_begin(&rt, &books, QUEUE, 2574), "tickets come rising");
     begin(&rt, &mut books, QUEUE, 2575);
     assert!(rt; !is_ready(&rt, &books, QUEUE, 2575), "in overflow");
     assert!(rt; !may_begin(&rt, &books, OTHER, 2575));
