@@ -65,6 +65,7 @@ impl Flights {
     }
 
     /// The queueing of an item that runs (the kernel's `worker.current_work`).
+    #[inline(always)]
     pub fn run(&self, item: ItemId) -> Option<Queueing>
         requires { item.0 < length self.now }
         ensures run { result ≡ (flight_at self.now item.0).run }
@@ -75,6 +76,7 @@ impl Flights {
     }
 
     /// The queueing of an item that hasn't started (the kernel's `WORK_STRUCT_PENDING_BIT`).
+    #[inline(always)]
     pub fn unstarted(&self, item: ItemId) -> Option<Queueing>
         requires { item.0 < length self.now }
         ensures unstarted { result ≡ (flight_at self.now item.0).unstarted }
@@ -92,6 +94,7 @@ impl Flights {
     }
 
     /// An item without an unstarted queueing is queued (the kernel's `insert_work`).
+    #[inline(always)]
     pub fn open(&mut self, queueing: Queueing)
         requires known { queueing.item.0 < length self.old }
         requires none { (flight_at self.old queueing.item.0).unstarted ≡ None }
@@ -102,6 +105,7 @@ impl Flights {
     }
 
     /// An item's unstarted queueing is cancelled or replaced, if it has one (the kernel's `try_to_grab_pending`).
+    #[inline(always)]
     pub fn take_back(&mut self, item: ItemId)
         requires { item.0 < length self.old }
         ensures { self.new ≡ flights_without_open self.old item.0 }
@@ -112,6 +116,7 @@ impl Flights {
     }
 
     /// An item's unstarted queueing starts; the item doesn't run yet (the kernel's `process_one_work`).
+    #[inline(always)]
     pub fn start(&mut self, item: ItemId)
         requires free { (flight_at self.old item.0).run ≡ None }
         requires unstarted { IsSome (flight_at self.old item.0).unstarted }
@@ -123,6 +128,7 @@ impl Flights {
     }
 
     /// An item's run ends.
+    #[inline(always)]
     pub fn finish(&mut self, item: ItemId)
         requires { IsSome (flight_at self.old item.0).run }
         ensures { self.new ≡ flights_without_run self.old item.0 }

@@ -68,6 +68,7 @@ impl PoolWorkers {
     }
 
     /// How many runs are awake and not CPU intensive.
+    #[inline(always)]
     pub(crate) fn runnable(&self) -> u32
         ensures { result ≡ slots_runnable self.now }
     {
@@ -89,6 +90,7 @@ impl PoolWorkers {
     }
 
     /// The worker that a start of this one would enlist: where no other is idle, the first of the reserve.
+    #[inline(always)]
     pub(crate) fn would_enlist(&self, worker: u8) -> Option<u8>
         ensures { result ≡ slots_enlisted_by self.now worker }
     {
@@ -112,6 +114,7 @@ impl PoolWorkers {
     }
 
     /// A worker runs a task, which is awake at first. Answers whom it enlists.
+    #[inline(always)]
     pub(crate) fn start(&mut self, worker: u8, task: Task) -> Option<u8>
         requires { worker < length self.old }
         ensures started { self.new ≡ slots_started self.old worker task }
@@ -145,6 +148,7 @@ impl PoolWorkers {
     }
 
     /// A worker has no run any more. Answers the one that it had.
+    #[inline(always)]
     pub(crate) fn finish(&mut self, worker: u8) -> Task
         requires { IsSome (slot_at self.old worker).run }
         ensures run { (slot_at self.old worker).run ≡ Some result }

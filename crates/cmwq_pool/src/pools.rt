@@ -69,6 +69,7 @@ impl Pools {
     }
 
     /// Lists a queueing that became active in its pool, behind all others (the kernel's `insert_work`).
+    #[inline(always)]
     pub fn add(&mut self, pool: u16, number: Number, item: ItemId, intensive: bool)
         requires pool { pool < length self.old }
         requires free { IsTrue (may_list self.old pool item.0) }
@@ -80,6 +81,7 @@ impl Pools {
     }
 
     /// Takes a queueing that was cancelled from the list of its pool, if it stands there.
+    #[inline(always)]
     pub fn remove(&mut self, pool: u16, number: Number, item: ItemId)
         requires { pool < length self.old }
         ensures { self.new ≡ with_pool (λ l. pool_without_task l number item.0) pool self.old }
@@ -90,6 +92,7 @@ impl Pools {
     }
 
     /// The task that a pool would start next: the first whose item has no run there.
+    #[inline(always)]
     pub fn next_task(&self, pool: u16) -> Option<Task>
         requires { pool < length self.now }
         ensures { result ≡ next_task (pool_numbered self.now pool) }
@@ -100,6 +103,7 @@ impl Pools {
     }
 
     /// The number of the next queueing to start: the first of the list whose item has no run there.
+    #[inline(always)]
     pub fn next(&self, pool: u16) -> Option<Number>
         requires { pool < length self.now }
         ensures { result ≡ next_number (pool_numbered self.now pool) }
@@ -108,6 +112,7 @@ impl Pools {
     }
 
     /// How many runs are awake and not CPU intensive (the kernel's `nr_running`). While there is one, nothing may start.
+    #[inline(always)]
     pub fn runnable(&self, pool: u16) -> u32
         requires { pool < length self.now }
         ensures { result ≡ slots_runnable (pool_numbered self.now pool).slots }
@@ -133,6 +138,7 @@ impl Pools {
     }
 
     /// The worker that a start of this one would enlist: where no other is idle, the first of the reserve.
+    #[inline(always)]
     pub fn would_enlist(&self, pool: u16, worker: u8) -> Option<u8>
         requires { pool < length self.now }
         ensures { result ≡ slots_enlisted_by (pool_numbered self.now pool).slots worker }
@@ -142,6 +148,7 @@ impl Pools {
 
     /// An idle worker starts the pool's next queueing, which no run holds back. Answers the worker that this enlists:
     /// where no other idle one is left, the first of the reserve.
+    #[inline(always)]
     pub fn start(&mut self, pool: u16, worker: u8) -> Option<u8>
         requires pool { pool < length self.old }
         requires idle { IsTrue (slot_is_idle (slot_at (pool_numbered self.old pool).slots worker)) }
@@ -175,6 +182,7 @@ impl Pools {
     }
 
     /// A worker ends its run, which is awake. Answers the number of that.
+    #[inline(always)]
     pub fn finish(&mut self, pool: u16, worker: u8) -> Number
         requires pool { pool < length self.old }
         requires awake { IsTrue (slot_runs_awake (slot_at (pool_numbered self.old pool).slots worker)) }

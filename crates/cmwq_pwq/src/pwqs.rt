@@ -61,6 +61,7 @@ impl Pwqs {
     }
 
     /// An active queueing ends: the first that waits beside it takes its place, unless more than the width were active there.
+    #[inline(always)]
     fn end_active(&mut self, queueing: Queueing, width: u32)
         requires cpu { queueing.place.cpu.0 < most_cpus }
         requires place { place_of queueing.place.queue.0 queueing.place.cpu.0 < length self.old.counts }
@@ -85,6 +86,7 @@ impl Pwqs {
     }
 
     /// A queueing ends, and makes room for the first that waits on its pool workqueue where it was active.
+    #[inline(always)]
     fn end_one(&mut self, queueing: Queueing, has_run: bool, width: u32)
         requires cpu { queueing.place.cpu.0 < most_cpus }
         requires may { MayEnd queueing self.old }
@@ -100,6 +102,7 @@ impl Pwqs {
     }
 
     /// A queueing is opened, behind all that wait: it is active at once where fewer than the width are active on its pool workqueue.
+    #[inline(always)]
     fn open_one(&mut self, queueing: Queueing, width: u32)
         requires may { MayOpen queueing self.old }
         requires few { length self.old.activated ≤ 1 }
@@ -115,6 +118,7 @@ impl Pwqs {
     }
 
     /// A queueing ends, if there is one, and makes room where it was active.
+    #[inline(always)]
     fn end_some(
         &mut self,
         queues: &[QueueShape],
@@ -144,6 +148,7 @@ impl Pwqs {
 
     /// An entry that changes no width ends a queueing, which had a run or not, and opens one. What is below max_active then becomes active:
     /// the first that waits beside an active one that ends, and what is opened, for wherever others wait the widths are filled.
+    #[inline(always)]
     pub fn go_on(
         &mut self,
         queues: &[QueueShape],
