@@ -1,3 +1,4 @@
 pub mod Passes
 pub mod Behind
 pub mod Kept
+mod RowSteps

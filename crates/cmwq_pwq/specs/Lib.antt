@@ -1,3 +1,4 @@
 pub mod Common
 pub mod Pwqs
 pub mod Waiting
+pub mod Rows

@@ -3,6 +3,7 @@
 
 mod pass;
 mod pwqs;
+mod rows;
 mod waiting;
 
 pub use pass::width_by;

@@ -9,26 +9,17 @@ ghost use Rattle.cmwq_pwq.specs.Pwqs.{IsNumberOfItem, is_other_waiting, place_of
 ghost use Rattle.cmwq_pwq.specs.Waiting.{IsFirstTaken, is_of_other};
 
 use crate::pass::place_of;
+use crate::rows::Rows;
 use cmwq_list::Lists;
-use cmwq_model::{CpuId, ItemId, NoMemory, Place, QueueId, Queueing};
+use cmwq_model::{ItemId, NoMemory, Place, Queueing};
 use std::alloc::Global;
 use std::marker::Model;
-
-/// What stands in the row of an item of which nothing ever waited.
-const NO_QUEUEING: Queueing = Queueing {
-    item: ItemId(0),
-    place: Place {
-        queue: QueueId(0),
-        cpu: CpuId(0),
-    },
-    number: 0,
-};
 
 /// What waits to become active: of each item at most one queueing. Each is put in and taken out in a fixed number of steps.
 #[derive(Debug, Drop)]
 pub(crate) struct Waiting {
     /// Of each item the queueing that waits, or the last that did.
-    rows: Vec<Queueing>,
+    rows: Rows,
     /// The items of which one waits, by its number: one list.
     all: Lists,
     /// Those of each pool workqueue, by number: a list at each place (the kernel's `inactive_works`).
@@ -42,17 +33,17 @@ impl Model for Waiting {
 
     ghost Value = { WaitingState };
 
-    ghost view = { λ w. record { items = length w.rows.items; places = length w.pwqs.lists; queueings = map (row_of w.rows.items) (list_at w.all.lists 0) } };
+    ghost view = { λ w. record { items = length w.rows; places = length w.pwqs.lists; queueings = map (row_of w.rows) (list_at w.all.lists 0) } };
 
-    ghost invariant = { λ w. AreWaitingKept w.rows.items w.all w.pwqs };
+    ghost invariant = { λ w. AreWaitingKept w.rows w.all w.pwqs };
 }
 
 /// The row of an item, if there is one.
-fn row(rows: &[Queueing], item: Option<u32>) -> Option<Queueing>
+fn row(rows: &Rows, item: Option<u32>) -> Option<Queueing>
     ensures { result ≡ option_and_then (slice_get rows.now) item }
 {
     match item {
-        Some(item) => rows.get(item as usize).copied(),
+        Some(item) => rows.get(item),
         None => None,
     }
 }
@@ -62,11 +53,10 @@ impl Waiting {
     pub(crate) fn new(alloc: Global, places: u16, items: u16) -> Result<Waiting, NoMemory>
         ensures { IfOk result (λ waiting. waiting ≡ record { items = items; places = places; queueings = [] }) }
     {
-        let items = u32::from(items);
         Ok(Waiting {
-            rows: vec![in alloc; NO_QUEUEING; items as usize]?,
-            all: Lists::new(alloc, 1, items)?,
-            pwqs: Lists::new(alloc, places, items)?,
+            rows: Rows::new(alloc, items)?,
+            all: Lists::new(alloc, 1, u32::from(items))?,
+            pwqs: Lists::new(alloc, places, u32::from(items))?,
         })
     }
 
@@ -88,7 +78,7 @@ impl Waiting {
         ensures { self.new ≡ record self.old { queueings = self.old.queueings ++ queueing ∷ [] } }
     {
         let item = queueing.item.0;
-        self.rows[usize::from(item)] = queueing;
+        self.rows.put(queueing);
         self.all.push_back(0, u32::from(item));
         self.pwqs
             .push_back(place_of(queueing.place) as u16, u32::from(item));
@@ -113,9 +103,8 @@ impl Waiting {
         ensures waits { result ≡ list_any (has_number queueing.number) self.now.queueings }
         ensures others { result ≡ true → filter (is_of_other queueing.item.0) self.now.queueings ≡ filter (is_other_waiting queueing.number) self.now.queueings }
     {
-        let item = queueing.item.0;
-        self.rows[usize::from(item)].number == queueing.number
-            && self.all.list_of(u32::from(item)).is_some()
+        let item = u32::from(queueing.item.0);
+        self.rows.at(item).number == queueing.number && self.all.list_of(item).is_some()
     }
 
     /// Takes a queueing out, and answers whether it waited.
@@ -142,7 +131,7 @@ impl Waiting {
         ensures others { self.new ≡ record self.old { queueings = self.new.queueings } }
     {
         let item = self.pwqs.first(place_of(place) as u16)?;
-        let queueing = self.rows[item as usize];
+        let queueing = self.rows.at(item);
         self.unlink(queueing.item);
         Some(queueing)
     }
