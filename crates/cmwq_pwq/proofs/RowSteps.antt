@@ -1,10 +1,9 @@
 -- The rows of items, as they are kept.
 use Rattle.std.proofs.Common.{◌≡◌, ℕ, zero, suc, ◌+◌, ◌<◌, List, [], ◌∷◌, length, get_or, set, refl, sym, ap, ap₂, ◌∙◌, arith}
-use Rattle.cmwq_model.specs.declared.id.ItemId.{ItemId}
 use Rattle.cmwq_model.specs.declared.record.Place.{Place}
 use Rattle.cmwq_model.specs.declared.record.Queueing.{Queueing}
 use Rattle.cmwq_pwq.specs.Rows.{AreRows, rows_from}
-use Rattle.cmwq_pwq.specs.Waiting.{no_queueing, row_of}
+use Rattle.cmwq_pwq.specs.Waiting.{row_of}
 
 queueing : ℕ → Place → ℕ → Queueing
 queueing i p n = record { item = record { 0 = i }; place = p; number = n }

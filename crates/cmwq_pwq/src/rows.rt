@@ -58,10 +58,11 @@ impl Rows {
         ensures { result ≡ row_of self.now item }
     {
         let index = item as usize;
+        let number = self.numbers[index];
         Queueing {
             item: ItemId(item as u16),
             place: self.places[index],
-            number: self.numbers[index],
+            number,
         }
     }
 

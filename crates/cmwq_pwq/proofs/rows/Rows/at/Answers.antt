@@ -1,4 +1,4 @@
-use Rattle.std.proofs.Common.{◌≡◌, ◌<◌, arith, length}
+use Rattle.std.proofs.Common.{◌<◌, arith, length}
 use Rattle.cmwq_pwq.proofs.RowSteps.{row_read, row_within}
 use Rattle.cmwq_pwq.proofs.rows.Rows.at.Goals as goal
 
@@ -14,8 +14,8 @@ index-requires c =
     let low : c.args.item < length s.numbers.items = row_within s.numbers.items s.places.items c.args.item c.self.invariant (rw (← c.self.view_is) at c.requires) in
     omega (arith, low, c.self.invariant.many, s.places.ok.0)
 
-pub index-requires-2 : goal.index-requires-2
-index-requires-2 c =
+pub index-number-requires : goal.index-number-requires
+index-number-requires c =
     let s = c.self.inside in
     let low : c.args.item < length s.numbers.items = row_within s.numbers.items s.places.items c.args.item c.self.invariant (rw (← c.self.view_is) at c.requires) in
     omega (arith, low, s.numbers.ok.0)
@@ -24,4 +24,4 @@ pub returns : goal.returns
 returns c =
     let s = c.self.inside in
     let low : c.args.item < length s.numbers.items = row_within s.numbers.items s.places.items c.args.item c.self.invariant (rw (← c.self.view_is) at c.requires) in
-    rw (← c.self.view_is) (row_read _ s.numbers.items s.places.items c.args.item 0 c.self.invariant.many low (omega arith) c.index.ensures c.index-2.ensures)
+    rw (← c.self.view_is) (row_read _ s.numbers.items s.places.items c.args.item 0 c.self.invariant.many low (omega arith) c.index.ensures c.index-number.ensures)
