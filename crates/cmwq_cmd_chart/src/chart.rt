@@ -10,9 +10,8 @@ ghost use Rattle.cmwq_cmd_history.specs.Upgrade.{IsFlushed};
 ghost use Rattle.cmwq_cmd_chart.specs.Chart.{ChartEnds, DrawEnds, chart_text};
 
 use cmwq_base::{Entry, Illegal, Refusal, Shape, Sink, Source, read_history, tell};
-use cmwq_chart::rows_of_callers;
 use cmwq_chart_levels::shapes_of;
-use cmwq_chart_text::{Page, Window, write_picture};
+use cmwq_chart_text::{Picture, Window};
 use cmwq_cmd_history::tell_illegal;
 use std::alloc::Global;
 
@@ -35,23 +34,8 @@ fn draw<O: Sink>(
     ensures fault { IsErrOf result Refusal.WriteFault → Rises (O.troubles output.old) (O.troubles output.new) }
 {
     let shapes = shapes_of(alloc, shape, entries)?;
-    let caller_rows = rows_of_callers(&shapes.callers.lanes);
-    let rows_below = shapes.lanes.len() + 2 * shapes.places.len();
-    let page = Page::new(window, entries.len(), caller_rows, rows_below);
-    write_picture(
-        output,
-        &page,
-        entries,
-        &shapes.callers.lanes,
-        &shapes.callers.waits,
-        &shapes.callers.signs,
-        &shapes.lanes,
-        &shapes.bars,
-        &shapes.sleeps,
-        &shapes.signs,
-        &shapes.places,
-        &shapes.levels,
-    )?;
+    let picture = Picture::new(alloc, window, entries.len(), &shapes)?;
+    picture.write(output, entries)?;
     Ok(())
 }
 
