@@ -1,3 +1,6 @@
+pub mod Below
 pub mod Filling
 pub mod Flushed
+pub mod Halves
 pub mod Ranges
+pub mod Stacked

@@ -42,10 +42,6 @@ unfoldable pub stacked : ℕ → List Row → List PlacedRow
 stacked top [] = []
 stacked top (row ∷ rows) = record { row = row; top = top } ∷ stacked (top + row_height row) rows
 
-unfoldable pub stacked_end : ℕ → List Row → ℕ
-stacked_end top [] = top
-stacked_end top (row ∷ rows) = stacked_end (top + row_height row) rows
-
 abbrev pub rows_in : List Figure → List Row → List PlacedRow
 rows_in figures rows = stacked 0 (filter (shows figures) rows)
 

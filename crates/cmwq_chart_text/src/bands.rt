@@ -2,7 +2,7 @@
 ghost use Rattle.std.specs.Prelude.{◌≡◌, ◌+◌, ◌<◌, ◌≤◌, ◌∷◌, ◌++◌, [], if◌then◌else◌, option_to_list, option_map, length, filter, IfOk, OnOk, slice_get, Some};
 ghost use Rattle.cmwq_chart.specs.Marks.{AreMarks, IsMarked};
 ghost use Rattle.cmwq_chart_text.specs.Bands as spec;
-ghost use Rattle.cmwq_chart_text.specs.Figures.{most_rows};
+ghost use Rattle.cmwq_chart_text.specs.Figures.{most_rows, row_height};
 
 use crate::figures::{Figure, Row};
 use crate::page::Page;
@@ -131,8 +131,8 @@ fn push_row(
     is_shown: bool,
 ) -> Result<u32, AllocError>
     requires { top ≤ 4000000000 }
-    ensures rows { OnOk result (rows.new.items ≡ rows.old.items ++ spec.stacked top (if is_shown then row ∷ [] else [])) }
-    ensures top { IfOk result (λ end. end ≡ spec.stacked_end top (if is_shown then row ∷ [] else [])) }
+    ensures rows { OnOk result (rows.new.items ≡ rows.old.items ++ (if is_shown then record { row = row; top = top } ∷ [] else [])) }
+    ensures top { IfOk result (λ end. end ≡ top + (if is_shown then row_height row else 0)) }
     ensures few { IfOk result (λ end. end ≤ top + 4608) }
 {
     if is_shown {
@@ -156,18 +156,27 @@ fn rows_in(alloc: Global, figures: &[Figure], rows: &[Row]) -> Result<Vec<Placed
     Ok(placed)
 }
 
+/// The height of the lower edge of a row.
+fn end_of_row(placed: PlacedRow) -> u64
+    ensures end { result ≡ spec.end_of_row placed }
+    ensures few { result ≤ 4294972000 }
+{
+    u64::from(placed.top) + u64::from(placed.row.height())
+}
+
 /// How high the rows of a band are together.
 pub(crate) fn rows_height(rows: &[PlacedRow]) -> u64
     ensures height { result ≡ spec.rows_height rows.now }
     ensures few { result ≤ 4294972000 }
 {
     match rows.get(rows.len().saturating_sub(1)) {
-        Some(last) => u64::from(last.top) + u64::from(last.row.height()),
+        Some(last) => end_of_row(*last),
         None => 0,
     }
 }
 
 /// The height of the row with this number, if it is there.
+#[tactic(auto, unfolding(crate::specs::Bands::row_top))]
 fn row_top(rows: &[PlacedRow], number: usize) -> Option<u32>
     ensures { result ≡ spec.row_top rows.now number }
 {
@@ -265,6 +274,7 @@ fn push_bands(
 }
 
 /// The bands of a page.
+#[tactic(auto, using(crate::proofs::Halves::few_bands))]
 pub(crate) fn bands_of(
     alloc: Global,
     page: &Page,
@@ -272,7 +282,8 @@ pub(crate) fn bands_of(
     figures: &[Figure],
 ) -> Result<Vec<Band>, AllocError>
     requires { length rows.now ≤ 30000 }
-    ensures { IfOk result (λ bands. bands.items ≡ spec.strips_of page.now rows.now figures.now) }
+    ensures bands { IfOk result (λ bands. bands.items ≡ spec.strips_of page.now rows.now figures.now) }
+    ensures few { IfOk result (λ bands. length bands.items ≤ page.now.end) }
 {
     let mut bands = Vec::new(alloc);
     push_bands(alloc, &mut bands, page, rows, figures, 0, page.bands())?;

@@ -79,6 +79,29 @@ fn write_bands<W: Sink>(
     Ok(())
 }
 
+/// Writes a picture, and flushes.
+#[tactic(auto, unfolding(crate::specs::PictureText::picture_text))]
+fn write_picture<W: Sink>(
+    sink: &mut W,
+    page: &Page,
+    scale: u32,
+    bands: &[Band],
+    entries: &[Entry],
+) -> Result<(), WriteFault>
+    requires few { length bands.now ≤ 1073741824 }
+    requires scale { 0 < scale }
+    ensures ok { OnOk result (Appends (W.written sink.old) (W.written sink.new) (spec.picture_text (record { page = page.now; scale = scale; strips = bands.now }) entries.now)) }
+    ensures err { OnErr result (AppendsFront (W.written sink.old) (W.written sink.new) (spec.picture_text (record { page = page.now; scale = scale; strips = bands.now }) entries.now)) }
+    ensures flushed { OnOk result (W.held sink.new ≡ 0) }
+    ensures fault { OnErr result (Rises (W.troubles sink.old) (W.troubles sink.new)) }
+{
+    write_head(sink, page, bands_height(bands) + 8)?;
+    write_bands(sink, page, entries, scale, bands)?;
+    write_end(sink)?;
+    flush_all(sink)?;
+    Ok(())
+}
+
 impl Picture {
     /// The picture of what a window shows of a history, which has so many entries and these shapes. The error says that memory ran out.
     pub fn new(
@@ -115,10 +138,6 @@ impl Picture {
         ensures flushed { OnOk result (W.held sink.new ≡ 0) }
         ensures fault { OnErr result (Rises (W.troubles sink.old) (W.troubles sink.new)) }
     {
-        write_head(sink, &self.page, bands_height(&self.bands) + 8)?;
-        write_bands(sink, &self.page, entries, self.scale, &self.bands)?;
-        write_end(sink)?;
-        flush_all(sink)?;
-        Ok(())
+        write_picture(sink, &self.page, self.scale, &self.bands, entries)
     }
 }
