@@ -55,9 +55,10 @@ rows_more p rows i d b old new top end less passes so_far height more further = 
     at true passes more further =
         let kept = filter p (take i rows) in
         let wide : filter p (take (i + 1) rows) ≡ kept ++ x ∷ [] = filter_more p rows i d less ∙ ap (λ (c : Bool). kept ++ (if c then x ∷ [] else [])) (sym passes) in
-        let there : top ≡ 0 + sum_by row_height kept = omega (arith, height) in
-        (more ∙ ap₂ (λ l (t : ℕ). l ++ record { row = x; top = t } ∷ []) so_far there ∙ sym (stacked_behind 0 kept x) ∙ ap (stacked 0) (sym wide),
-        further ∙ ap (λ t. t + row_height x) height ∙ sym (ap (sum_by row_height) wide ∙ sum_by-append row_height kept (x ∷ []) ∙ ap (λ t. sum_by row_height kept + t) (sum_by-cons row_height x [] ∙ omega arith)))
+        let there : top ≡ 0 + sum_by row_height kept = omega (arith, height) in (
+          more ∙ ap₂ (λ l (t : ℕ). l ++ record { row = x; top = t } ∷ []) so_far there ∙ sym (stacked_behind 0 kept x) ∙ ap (stacked 0) (sym wide),
+          further ∙ ap (λ t. t + row_height x) height ∙ sym (ap (sum_by row_height) wide ∙ sum_by-append row_height kept (x ∷ []) ∙ ap (λ t. sum_by row_height kept + t) (sum_by-cons row_height x [] ∙ omega arith)),
+        )
     at false passes more further =
         let kept = filter p (take i rows) in
         let wide : filter p (take (i + 1) rows) ≡ kept = filter_more p rows i d less ∙ ap (λ (c : Bool). kept ++ (if c then x ∷ [] else [])) (sym passes) ∙ append-nil kept in

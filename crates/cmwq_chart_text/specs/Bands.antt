@@ -25,7 +25,7 @@ abbrev pub stands_between : Page → ℕ → ℕ → Figure → Bool
 stands_between p from end f =
     nat_lt (first_band p f) (bands_behind p f)
     && (if is_flat f then (nat_le from (first_band p f) && nat_lt (first_band p f) end) || (nat_lt from (bands_behind p f) && nat_le (bands_behind p f) end)
-        else nat_lt from (bands_behind p f) && nat_lt (first_band p f) end)
+    else nat_lt from (bands_behind p f) && nat_lt (first_band p f) end)
 
 abbrev pub figures_in : Page → List Figure → ℕ → List Figure
 figures_in p figures band = filter (stands_between p band (band + 1)) figures

@@ -152,16 +152,7 @@ fn write_figures<W: Sink>(
 {
     for placed in figures {
         let top = from + u64::from(placed.top);
-        write_figure(
-            sink,
-            layer,
-            page,
-            entries,
-            scale,
-            band,
-            top,
-            &placed.figure,
-        )?;
+        write_figure(sink, layer, page, entries, scale, band, top, &placed.figure)?;
     }
     Ok(())
 }
@@ -190,9 +181,36 @@ pub(crate) fn write_band<W: Sink>(
     write_names(sink, Names::Workers, scale, from, rows)?;
     write_numbers(sink, page, top, rows_height(rows), number)?;
     write_names(sink, Names::Callers, scale, from, rows)?;
-    write_figures(sink, Layer::Shapes, page, entries, scale, number, from, figures)?;
-    write_figures(sink, Layer::Captions, page, entries, scale, number, from, figures)?;
+    write_figures(
+        sink,
+        Layer::Shapes,
+        page,
+        entries,
+        scale,
+        number,
+        from,
+        figures,
+    )?;
+    write_figures(
+        sink,
+        Layer::Captions,
+        page,
+        entries,
+        scale,
+        number,
+        from,
+        figures,
+    )?;
     write_names(sink, Names::Places, scale, from, rows)?;
-    write_figures(sink, Layer::Levels, page, entries, scale, number, from, figures)?;
+    write_figures(
+        sink,
+        Layer::Levels,
+        page,
+        entries,
+        scale,
+        number,
+        from,
+        figures,
+    )?;
     Ok(())
 }

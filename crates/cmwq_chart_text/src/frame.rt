@@ -32,11 +32,7 @@ fn picture_end() -> &'static str
 
 /// Writes the head of a picture of this height, with its style.
 #[tactic(auto, unfolding(crate::specs::FrameText::picture_head))]
-pub(crate) fn write_head<W: Sink>(
-    sink: &mut W,
-    page: &Page,
-    height: u64,
-) -> Result<(), WriteFault>
+pub(crate) fn write_head<W: Sink>(sink: &mut W, page: &Page, height: u64) -> Result<(), WriteFault>
     ensures ok { OnOk result (Appends (W.written sink.old) (W.written sink.new) (spec.picture_head page.now height)) }
     ensures err { OnErr result (AppendsFront (W.written sink.old) (W.written sink.new) (spec.picture_head page.now height)) }
     ensures grown { W.troubles sink.old ≤ W.troubles sink.new }

@@ -114,12 +114,7 @@ fn label_numbers(page: &Page, top: u64, sign: &Sign) -> [u64; 3]
 }
 
 /// Writes the item of a sign beside it, where columns are wide enough.
-fn write_label<W: Sink>(
-    sink: &mut W,
-    page: &Page,
-    top: u64,
-    sign: &Sign,
-) -> Result<(), WriteFault>
+fn write_label<W: Sink>(sink: &mut W, page: &Page, top: u64, sign: &Sign) -> Result<(), WriteFault>
     requires { top ≤ 10000000000000000000 }
     ensures ok { OnOk result (Appends (W.written sink.old) (W.written sink.new) (spec.label_text page.now top sign.now)) }
     ensures err { OnErr result (AppendsFront (W.written sink.old) (W.written sink.new) (spec.label_text page.now top sign.now)) }
@@ -172,10 +167,7 @@ fn wait_sign_numbers(page: &Page, top: u64, sign: &WaitSign) -> [u64; 2]
     requires { top ≤ 10000000000000000000 }
     ensures { result ≡ spec.wait_sign_numbers page.now top sign.now }
 {
-    [
-        page.middle_of(sign.at.into()),
-        wait_top(top, sign.row) + 7,
-    ]
+    [page.middle_of(sign.at.into()), wait_top(top, sign.row) + 7]
 }
 
 /// Writes a sign on a wait.
