@@ -1,12 +1,13 @@
 //! The word `chart`.
 
-ghost use Rattle.std.specs.Prelude.{◌≡◌, ◌≤◌, length, Option, Result, IfSome, IsErrOf, OnOk};
+ghost use Rattle.std.specs.Prelude.{◌≡◌, ◌≤◌, length, Option, Result, IfSome, IsErrOf, IfOk, OnErr, OnOk, Err};
 ghost use Rattle.cmwq_io.specs.Counts.{Rises};
 ghost use Rattle.cmwq_model.specs.declared.verdict.Illegal.{Illegal as TheIllegal};
 ghost use Rattle.cmwq_model.specs.Prelude.{IsLegal, past_of};
 ghost use Rattle.cmwq_base.specs.declared.refusal.Refusal.{Refusal as TheRefusal};
 ghost use Rattle.cmwq_cmd_history.specs.Check.{check_status};
 ghost use Rattle.cmwq_cmd_history.specs.Upgrade.{IsFlushed};
+ghost use Rattle.cmwq_chart_text.specs.PictureText.{picture_text};
 ghost use Rattle.cmwq_cmd_chart.specs.Chart.{ChartEnds, DrawEnds, chart_text};
 
 use cmwq_base::{Entry, Illegal, Refusal, Shape, Sink, Source, read_history, tell};
@@ -18,8 +19,24 @@ use std::alloc::Global;
 /// More entries than these are not kept, so that none of them can bring the time beyond what a judge knows.
 const MOST_KEPT: usize = 1_073_741_824;
 
-/// Writes the picture of what a window shows of a legal history. All memory is taken before the first byte is written.
+/// The picture of what a window shows of a legal history.
 #[tactic(auto, unfolding(crate::specs::Chart::chart_text))]
+fn picture_of(
+    alloc: Global,
+    window: Window,
+    shape: &Shape,
+    entries: &[Entry],
+) -> Result<Picture, Refusal>
+    requires few { length entries.now ≤ 1073741824 }
+    requires legal { IsLegal shape.now (past_of entries.now) }
+    ensures picture { IfOk result (λ picture. picture_text picture entries.now ≡ chart_text window shape.now entries.now) }
+    ensures err { OnErr result (result ≡ Err Refusal.NoMemory) }
+{
+    let shapes = shapes_of(alloc, shape, entries)?;
+    Ok(Picture::new(alloc, window, entries.len(), &shapes)?)
+}
+
+/// Writes the picture of what a window shows of a legal history. All memory is taken before the first byte is written.
 fn draw<O: Sink>(
     alloc: Global,
     output: &mut O,
@@ -33,8 +50,7 @@ fn draw<O: Sink>(
     ensures flushed { OnOk result (O.held output.new ≡ 0) }
     ensures fault { IsErrOf result Refusal.WriteFault → Rises (O.troubles output.old) (O.troubles output.new) }
 {
-    let shapes = shapes_of(alloc, shape, entries)?;
-    let picture = Picture::new(alloc, window, entries.len(), &shapes)?;
+    let picture = picture_of(alloc, window, shape, entries)?;
     picture.write(output, entries)?;
     Ok(())
 }
