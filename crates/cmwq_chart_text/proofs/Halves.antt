@@ -6,7 +6,7 @@ use Rattle.std.specs.List.{range_with_len}
 use Rattle.cmwq_chart_text.specs.declared.figures.Figure.{Figure}
 use Rattle.cmwq_chart_text.specs.declared.figures.Row.{Row}
 use Rattle.cmwq_chart_text.specs.declared.page.Page.{Page}
-use Rattle.cmwq_chart_text.specs.Bands.{Strip, bands_behind, figures_in, first_band, stands_between, strip_in, strip_of, strips_between}
+use Rattle.cmwq_chart_text.specs.Bands.{Strip, bands_behind, first_band, stands_between, strip_in, strip_of, strips_between}
 use Rattle.cmwq_chart_text.specs.Figures.{is_flat}
 use Rattle.cmwq_chart_text.specs.Pages.{bands}
 
