@@ -4,3 +4,4 @@ pub mod Flushed
 pub mod Halves
 pub mod Ranges
 pub mod Stacked
+mod Tops

@@ -1,5 +1,5 @@
 -- What stands in each band: its rows are those that show something there, one below the other, and its shapes those that stand in them.
-use Rattle.std.specs.Prelude.{ℕ, ◌+◌, ◌-◌, Bool, ◌&&◌, ◌||◌, ◌==◌, if◌then◌else◌, List, [], ◌∷◌, length, take, filter, flat_map, map, nat_lt, nat_le, Option, Some, None, option_map, option_to_list, slice_get}
+use Rattle.std.specs.Prelude.{◌≡◌, ◌<◌, is_some, slice_index_or, slice_set, ℕ, ◌+◌, ◌-◌, Bool, ◌&&◌, ◌||◌, ◌==◌, if◌then◌else◌, List, [], ◌∷◌, length, take, filter, flat_map, map, nat_lt, nat_le, Option, Some, None, option_map, option_to_list, slice_get}
 use Rattle.std.specs.Option.{option_map_or}
 use Rattle.std.specs.List.{list_any, range_with_len, sum_by}
 use Rattle.cmwq_model.specs.Prelude.{is_at}
@@ -8,7 +8,7 @@ use Rattle.cmwq_chart_text.specs.declared.bands.PlacedRow.{PlacedRow}
 use Rattle.cmwq_chart_text.specs.declared.figures.Figure.{Figure}
 use Rattle.cmwq_chart_text.specs.declared.figures.Row.{Row}
 use Rattle.cmwq_chart_text.specs.declared.page.Page.{Page}
-use Rattle.cmwq_chart_text.specs.Figures.{figure_from, figure_row, figure_to, is_flat, row_height, row_number}
+use Rattle.cmwq_chart_text.specs.Figures.{figure_from, figure_row, figure_to, is_flat, most_rows, row_height, row_number}
 use Rattle.cmwq_chart_text.specs.Pages.{bands}
 use Rattle.cmwq_chart_text.specs.Spans.{span_band, span_bands_end}
 
@@ -56,6 +56,13 @@ rows_height rows = option_map_or end_of_row (slice_get rows (length rows - 1)) 0
 unfoldable pub row_top : List PlacedRow → ℕ → Option ℕ
 row_top [] n = None
 row_top (placed ∷ rows) n = if row_number placed.row == n then Some placed.top else row_top rows n
+
+-- a table of these heights by the rows' numbers, and one row more in it
+abbrev pub AreTops : List PlacedRow → List (Option ℕ) → Type 0
+AreTops rows tops = (length tops ≡ most_rows) × ((n : ℕ) → n < most_rows → slice_index_or tops n None ≡ row_top rows n)
+
+abbrev pub with_top : List (Option ℕ) → PlacedRow → List (Option ℕ)
+with_top tops placed = if is_some (slice_index_or tops (row_number placed.row) None) then tops else slice_set tops (row_number placed.row) (Some placed.top)
 
 abbrev pub placed_at : Figure → ℕ → PlacedFigure
 placed_at f top = record { figure = f; top = top }

@@ -1,8 +1,8 @@
 //! What stands in each band.
-ghost use Rattle.std.specs.Prelude.{◌≡◌, ◌+◌, ◌<◌, ◌≤◌, ◌∷◌, ◌++◌, [], if◌then◌else◌, option_to_list, option_map, length, filter, IfOk, OnOk, slice_get, Some};
+ghost use Rattle.std.specs.Prelude.{◌≡◌, List, ◌+◌, ◌<◌, ◌≤◌, ◌∷◌, ◌++◌, [], if◌then◌else◌, option_to_list, option_map, length, filter, IfOk, OnOk, replicate, slice_get, None, Some};
 ghost use Rattle.cmwq_chart.specs.Marks.{AreMarks, IsMarked};
 ghost use Rattle.cmwq_chart_text.specs.Bands as spec;
-ghost use Rattle.cmwq_chart_text.specs.Figures.{most_rows, row_height};
+ghost use Rattle.cmwq_chart_text.specs.Figures.{most_rows, row_height, row_number};
 
 use crate::figures::{Figure, Row};
 use crate::page::Page;
@@ -175,32 +175,46 @@ pub(crate) fn rows_height(rows: &[PlacedRow]) -> u64
     }
 }
 
-/// The height of the row with this number, if it is there.
-#[tactic(auto, unfolding(crate::specs::Bands::row_top))]
-fn row_top(rows: &[PlacedRow], number: usize) -> Option<u32>
-    ensures { result ≡ spec.row_top rows.now number }
+/// Notes the height of a row under its number, where none is noted.
+fn note_top(tops: &mut Vec<Option<u32>>, placed: PlacedRow)
+    requires { length tops.old.items ≡ most_rows }
+    ensures noted { tops.new.items ≡ spec.with_top tops.old.items placed }
+    ensures within { row_number placed.row < most_rows }
 {
-    match rows {
-        [] => None,
-        [first, others @ ..] => {
-            if first.row.number() == number {
-                Some(first.top)
-            } else {
-                row_top(others, number)
-            }
-        }
+    let number = placed.row.number();
+    if tops[number].is_none() {
+        tops[number] = Some(placed.top);
     }
+}
+
+/// A table of no rows, for so many numbers.
+fn no_tops(alloc: Global, numbers: usize) -> Result<Vec<Option<u32>>, AllocError>
+    ensures { IfOk result (λ tops. tops.items ≡ replicate numbers None) }
+{
+    vec![in alloc; None; numbers]
+}
+
+/// The heights of a band's rows by their numbers, so that a shape finds its row without a search.
+fn tops_of(alloc: Global, rows: &[PlacedRow]) -> Result<Vec<Option<u32>>, AllocError>
+    ensures { IfOk result (λ tops. spec.AreTops rows.now tops.items) }
+{
+    let mut tops = no_tops(alloc, 196_864)?;
+    for placed in rows {
+        note_top(&mut tops, *placed);
+    }
+    Ok(tops)
 }
 
 /// Puts a shape behind the others, if its row is there.
 fn push_in_row(
     placed: &mut Vec<PlacedFigure>,
-    rows: &[PlacedRow],
+    tops: &[Option<u32>],
     figure: Figure,
 ) -> Result<(), AllocError>
-    ensures { OnOk result (placed.new.items ≡ placed.old.items ++ spec.in_its_row rows.now figure) }
+    requires { length tops.now ≡ most_rows }
+    ensures { (rows : List PlacedRow) → OnOk result (spec.AreTops rows tops.now → placed.new.items ≡ placed.old.items ++ spec.in_its_row rows figure) }
 {
-    if let Some(top) = row_top(rows, figure.row()) {
+    if let Some(top) = tops[figure.row()] {
         placed.push(PlacedFigure { figure, top })?;
     }
     Ok(())
@@ -213,9 +227,10 @@ impl Band {
         ensures { IfOk result (λ band. band ≡ spec.strip_of rows.now figures.now) }
     {
         let shown = rows_in(alloc, figures, rows)?;
+        let tops = tops_of(alloc, &shown)?;
         let mut placed = Vec::new(alloc);
         for figure in figures {
-            push_in_row(&mut placed, &shown, *figure)?;
+            push_in_row(&mut placed, &tops, *figure)?;
         }
         Ok(Band {
             rows: shown,
