@@ -1,5 +1,5 @@
 -- Waits of callers: from the entry that gives a ticket to the one by which its end is answered done. Waits of a caller that overlap stand in rows of their own: each in the first that is free where it begins.
-use Rattle.std.specs.Prelude.{ℕ, ◌+◌, ◌==◌, Bool, true, false, if◌then◌else◌, List, [], ◌∷◌, ◌++◌, length, map, filter, flat_map, min, Option, Some, None, option_map, option_and_then, option_to_list, nat_lt, slice_get, slice_set}
+use Rattle.std.specs.Prelude.{ℕ, ◌+◌, Bool, true, false, if◌then◌else◌, List, [], ◌∷◌, ◌++◌, length, map, filter, flat_map, min, Option, Some, None, option_map, option_and_then, option_to_list, nat_lt, slice_get, slice_set}
 use Rattle.std.specs.Option.{option_map_or}
 use Rattle.std.specs.List.{range_with_len, list_any}
 use Rattle.cmwq_model.specs.declared.call.Call.{Call}
@@ -125,16 +125,3 @@ caller_lane past c = record { caller = c; rows = min (length (wait_rows past c))
 
 abbrev pub caller_lanes_of : List Entry → List CallerId → List CallerLane
 caller_lanes_of past callers = map (caller_lane past) callers
-
--- how many rows a lane has: one, and those of its waits
-abbrev pub rows_of_lane : CallerLane → ℕ
-rows_of_lane lane = 1 + lane.rows
-
-unfoldable pub rows_of_callers : List CallerLane → ℕ
-rows_of_callers [] = 0
-rows_of_callers (lane ∷ lanes) = rows_of_lane lane + rows_of_callers lanes
-
--- how many rows stand above a caller's
-unfoldable pub rows_above_caller : List CallerLane → CallerId → ℕ
-rows_above_caller [] c = 0
-rows_above_caller (lane ∷ lanes) c = if lane.caller.0 == c.0 then 0 else rows_of_lane lane + rows_above_caller lanes c

@@ -1,10 +1,10 @@
 -- Lanes: a row for each worker that has an entry, by CPU, pool and index.
-use Rattle.std.specs.Prelude.{ℕ, ◌+◌, ◌*◌, Bool, ◌&&◌, List, [], ◌∷◌, filter, if◌then◌else◌, Option, Some, None, option_and_then, nat_lt}
+use Rattle.std.specs.Prelude.{ℕ, ◌+◌, ◌*◌, Bool, ◌&&◌, List, filter, if◌then◌else◌, Option, Some, None, option_and_then, nat_lt}
 use Rattle.std.specs.List.{list_any}
 use Rattle.cmwq_model.specs.declared.entry.Entry.{Entry}
 use Rattle.cmwq_model.specs.declared.id.WorkerId.{WorkerId}
 use Rattle.cmwq_model.specs.declared.id.Who.TheVariants.{Worker}
-use Rattle.cmwq_model.specs.Prelude.{Layout, is_by, most_cpus, most_workers, same_worker, worker_of, workers}
+use Rattle.cmwq_model.specs.Prelude.{Layout, is_by, most_cpus, most_workers, worker_of, workers}
 
 abbrev pub has_entries : List Entry → WorkerId → Bool
 has_entries entries w = list_any (is_by (Worker w)) entries
@@ -25,8 +25,3 @@ most_lanes = 2 * most_workers * most_cpus
 
 unfoldable pub lanes_of : Layout → List Entry → List WorkerId
 lanes_of s entries = filter (has_entries entries) (workers s)
-
--- how many lanes stand above this worker's
-unfoldable pub row_of : List WorkerId → WorkerId → ℕ
-row_of [] w = 0
-row_of (v ∷ lanes) w = if same_worker v w then 0 else 1 + row_of lanes w

@@ -39,11 +39,6 @@ places_of s queueings = filter (has_queueings queueings) (flat_map (places_of_qu
 abbrev pub IsPlaceOf : Layout → Place → Type 0
 IsPlaceOf s p = (p.queue.0 < length s.queues) × (p.cpu.0 < most_cpus)
 
--- how many of the places stand above this one
-unfoldable pub row_of_place : List Place → Place → ℕ
-row_of_place [] p = 0
-row_of_place (r ∷ places) p = if same_place r p then 0 else 1 + row_of_place places p
-
 -- ---- their levels
 abbrev pub open_at : List Entry → Place → ℕ
 open_at past p = count_by (is_of_place p) (still_open past)

@@ -5,7 +5,6 @@ ghost use Rattle.cmwq_model.specs.Prelude.{cpu_workers, most_cpus, most_workers,
 ghost use Rattle.cmwq_chart.specs.Marks.{AreMarks};
 ghost use Rattle.cmwq_chart.specs.Lanes as spec;
 
-use crate::entries::is_same;
 use crate::marks::{is_marked, mark};
 use cmwq_model::{CpuId, Entry, MOST_CPUS, MOST_WORKERS, PoolId, Shape, Who, WorkerId};
 use std::alloc::{AllocError, Global};
@@ -128,22 +127,4 @@ pub fn lanes_of(
         push_cpu(&mut lanes, entries, &marks, shape, CpuId(cpu))?;
     }
     Ok(lanes)
-}
-
-/// How many lanes stand above this worker's.
-#[tactic(auto, unfolding(crate::specs::Lanes::row_of))]
-pub fn row_of(lanes: &[WorkerId], worker: WorkerId) -> usize
-    ensures row { result ≡ spec.row_of lanes.now worker }
-    ensures within { result ≤ length lanes.now }
-{
-    match lanes {
-        [] => 0,
-        [first, others @ ..] => {
-            if is_same(*first, worker) {
-                0
-            } else {
-                1 + row_of(others, worker)
-            }
-        }
-    }
 }

@@ -14,10 +14,10 @@ mod sleeps;
 mod waits;
 
 pub use bars::{Bar, bars_of};
-pub use callers::{callers_of, rows_above_caller, rows_of_callers};
-pub use lanes::{lanes_of, row_of};
+pub use callers::callers_of;
+pub use lanes::lanes_of;
 pub use levels::{Height, Level};
-pub use places::{places_of, row_of_place};
+pub use places::places_of;
 pub use shapes::Shapes;
 pub use signs::{Sign, SignKind, signs_of};
 pub use sleeps::{Sleep, sleeps_of};

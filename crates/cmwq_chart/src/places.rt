@@ -1,19 +1,13 @@
 //! The queues on CPUs that have levels.
 ghost use Rattle.std.specs.Prelude.{◌≡◌, ◌+◌, ◌*◌, ◌<◌, ◌≤◌, ◌∷◌, ◌++◌, [], if◌then◌else◌, length, filter, IfOk, OnOk};
 ghost use Rattle.std.specs.List.{All};
-ghost use Rattle.cmwq_model.specs.Prelude.{most_cpus, most_queues, same_place};
+ghost use Rattle.cmwq_model.specs.Prelude.{most_cpus, most_queues};
 ghost use Rattle.cmwq_chart.specs.Marks.{AreMarks};
 ghost use Rattle.cmwq_chart.specs.Levels as spec;
 
 use crate::marks::{is_marked, mark};
 use cmwq_model::{CpuId, MOST_CPUS, Place, QueueId, Queueing, Shape};
 use std::alloc::{AllocError, Global};
-
-fn is_same_place(place: Place, other: Place) -> bool
-    ensures { result ≡ same_place place other }
-{
-    place.queue.0 == other.queue.0 && place.cpu.0 == other.cpu.0
-}
 
 /// The number of a place that a shape may have.
 fn level_number(place: Place) -> usize
@@ -115,22 +109,4 @@ pub fn places_of(
         push_queue(&mut places, queueings, &marks, shape, queue as u8)?;
     }
     Ok(places)
-}
-
-/// How many of the places stand above this one.
-#[tactic(auto, unfolding(crate::specs::Levels::row_of_place))]
-pub fn row_of_place(places: &[Place], place: Place) -> usize
-    ensures row { result ≡ spec.row_of_place places.now place }
-    ensures within { result ≤ length places.now }
-{
-    match places {
-        [] => 0,
-        [first, others @ ..] => {
-            if is_same_place(*first, place) {
-                0
-            } else {
-                1 + row_of_place(others, place)
-            }
-        }
-    }
 }

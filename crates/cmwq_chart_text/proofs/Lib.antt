@@ -1,3 +1,7 @@
+pub mod Below
 pub mod Filling
 pub mod Flushed
+pub mod Halves
 pub mod Ranges
+pub mod Stacked
+mod Tops

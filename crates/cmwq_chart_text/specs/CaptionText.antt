@@ -1,12 +1,9 @@
 -- The text of captions: in each band in which a run stands the number of its item, where its bar is wide enough for that.
-use Rattle.std.specs.Prelude.{ℕ, ◌+◌, ◌-◌, Bool, if◌then◌else◌, List, [], ◌∷◌, codes, flat_map, nat_lt, nat_le}
-use Rattle.std.specs.List.{range_with_len}
-use Rattle.cmwq_model.specs.declared.id.WorkerId.{WorkerId}
+use Rattle.std.specs.Prelude.{ℕ, ◌+◌, Bool, if◌then◌else◌, List, [], ◌∷◌, codes, nat_lt, nat_le}
 use Rattle.cmwq_chart.specs.declared.bars.Bar.{Bar}
 use Rattle.cmwq_chart_text.specs.declared.page.Page.{Page}
 use Rattle.cmwq_chart_text.specs.Filled.{filled}
-use Rattle.cmwq_chart_text.specs.Pages.{row_top}
-use Rattle.cmwq_chart_text.specs.Spans.{span_left, span_width, span_band, span_bands_end}
+use Rattle.cmwq_chart_text.specs.Spans.{span_left, span_width}
 
 unfoldable pub caption_template : List ℕ
 caption_template = codes "<text class=\"item\" x=\"$\" y=\"$\">$</text>\n"
@@ -18,18 +15,8 @@ caption_width item = if nat_lt item 10 then 10 else if nat_lt item 100 then 17 e
 abbrev pub has_caption : Page → Bar → ℕ → Bool
 has_caption p bar band = nat_le (caption_width bar.item.0) (span_width p bar.from bar.to band)
 
-abbrev pub caption_numbers : Page → List WorkerId → Bar → ℕ → List ℕ
-caption_numbers p lanes bar band = (span_left p bar.from band + 2) ∷ (row_top p lanes band bar.worker + 11) ∷ bar.item.0 ∷ []
+abbrev pub caption_numbers : Page → ℕ → Bar → ℕ → List ℕ
+caption_numbers p top bar band = (span_left p bar.from band + 2) ∷ (top + 11) ∷ bar.item.0 ∷ []
 
-abbrev pub caption_in_band : Page → List WorkerId → Bar → ℕ → List ℕ
-caption_in_band p lanes bar band = if has_caption p bar band then filled caption_template (caption_numbers p lanes bar band) else []
-
--- in the bands from one up to an end
-abbrev pub caption_in_bands : Page → List WorkerId → Bar → ℕ → ℕ → List ℕ
-caption_in_bands p lanes bar from end = flat_map (caption_in_band p lanes bar) (range_with_len from (end - from))
-
-unfoldable pub caption_text : Page → List WorkerId → Bar → List ℕ
-caption_text p lanes bar = caption_in_bands p lanes bar (span_band p bar.from) (span_bands_end p bar.from bar.to)
-
-abbrev pub captions_text : Page → List WorkerId → List Bar → List ℕ
-captions_text p lanes bars = flat_map (caption_text p lanes) bars
+abbrev pub caption_text : Page → ℕ → Bar → ℕ → List ℕ
+caption_text p top bar band = if has_caption p bar band then filled caption_template (caption_numbers p top bar band) else []

@@ -1,12 +1,15 @@
 pub mod Filled
 pub mod Pages
 pub mod Spans
+pub mod Figures
+pub mod Bands
 pub mod BarText
 pub mod SleepText
 pub mod WaitText
 pub mod SignText
-pub mod CallerText
+pub mod NameText
 pub mod CaptionText
 pub mod LevelText
 pub mod FrameText
+pub mod BandText
 pub mod PictureText

@@ -1,16 +1,12 @@
 -- Where on the page an entry stands. All lengths are in the units of the picture; a character of a text is some 6 wide.
-use Rattle.std.specs.Prelude.{ℕ, ◌+◌, ◌-◌, ◌*◌, ◌/◌, ◌&&◌, Bool, if◌then◌else◌, List, min, max, nat_lt, nat_le}
+use Rattle.std.specs.Prelude.{ℕ, ◌+◌, ◌-◌, ◌*◌, ◌/◌, if◌then◌else◌, min, max, nat_lt, nat_le}
 use Rattle.cmwq_model.specs.declared.id.WorkerId.{WorkerId}
-use Rattle.cmwq_model.specs.declared.id.CallerId.{CallerId}
-use Rattle.cmwq_chart.specs.declared.waits.CallerLane.{CallerLane}
-use Rattle.cmwq_chart.specs.CallerWaits.{rows_above_caller}
-use Rattle.cmwq_chart.specs.Lanes.{row_of}
 use Rattle.cmwq_chart_text.specs.declared.page.Page.{Page}
 use Rattle.cmwq_chart_text.specs.declared.page.Window.{Window}
 
--- the page of what a window shows of n entries: first the rows of callers, and so many below them
-unfoldable pub page_of : Window → ℕ → ℕ → ℕ → Page
-page_of w n caller_rows rows_below = record { first = min w.from n; end = max (min w.to n) (min w.from n); caller_rows = caller_rows; rows = caller_rows + rows_below }
+-- the page of what a window shows of n entries
+unfoldable pub page_of : Window → ℕ → Page
+page_of w n = record { first = min w.from n; end = max (min w.to n) (min w.from n) }
 
 -- how many entries are shown, how many columns a band has, and how wide each is
 abbrev pub shown : Page → ℕ
@@ -22,22 +18,12 @@ columns p = if nat_le (shown p) 45 then 45 else if nat_le (shown p) 90 then 90 e
 unfoldable pub column_width : Page → ℕ
 column_width p = if nat_le (shown p) 45 then 24 else if nat_le (shown p) 90 then 12 else 6
 
--- a band is a line for the numbers of the entries, the rows, and a gap
-unfoldable pub rows_height : Page → ℕ
-rows_height p = 18 * p.rows
-
-unfoldable pub height : Page → ℕ
-height p = 40 + rows_height p
-
--- the band of an entry, the first entry of a band, and the upper edge of one
+-- the band of an entry, and the first entry of a band
 unfoldable pub band_of : Page → ℕ → ℕ
 band_of p place = (place - p.first) / columns p
 
 unfoldable pub band_start : Page → ℕ → ℕ
 band_start p band = p.first + band * columns p
-
-unfoldable pub band_top : Page → ℕ → ℕ
-band_top p band = 74 + band * height p
 
 -- the end of the bands in which the entries from one up to an end stand
 unfoldable pub bands_end : Page → ℕ → ℕ → ℕ
@@ -56,23 +42,12 @@ width_of p from end = (end - from) * column_width p
 unfoldable pub middle_of : Page → ℕ → ℕ
 middle_of p place = column_at p (band_of p place) place + column_width p / 2
 
-unfoldable pub is_shown : Page → ℕ → Bool
-is_shown p place = nat_le p.first place && nat_lt place p.end
-
 -- from which entry on a span of entries stands in a band, and up to which
 unfoldable pub from_in : Page → ℕ → ℕ → ℕ
 from_in p band from = max from (band_start p band)
 
 unfoldable pub end_in : Page → ℕ → ℕ → ℕ
 end_in p band end = min (min end p.end) (band_start p band + columns p)
-
--- the upper edge of a worker's row
-unfoldable pub row_top : Page → List WorkerId → ℕ → WorkerId → ℕ
-row_top p lanes band w = band_top p band + 22 + 18 * (p.caller_rows + row_of lanes w)
-
--- that of a caller's first row
-unfoldable pub caller_top : Page → List CallerLane → ℕ → CallerId → ℕ
-caller_top p callers band c = band_top p band + 22 + 18 * rows_above_caller callers c
 
 -- the letter of a worker's pool: h or n
 unfoldable pub worker_letter : WorkerId → ℕ

@@ -1,26 +1,39 @@
--- The text of a picture: what stands around the shapes, and the shapes.
-use Rattle.std.specs.Prelude.{ℕ, List, ◌++◌}
-use Rattle.cmwq_model.specs.declared.id.WorkerId.{WorkerId}
-use Rattle.cmwq_model.specs.declared.record.Place.{Place}
+-- The text of a picture: its head, its bands one below the other, and its end.
+use Rattle.std.specs.Prelude.{ℕ, ◌+◌, List, [], ◌++◌, length, flat_map, slice_get}
+use Rattle.std.specs.Option.{option_map_or}
+use Rattle.std.specs.List.{range_with_len}
 use Rattle.cmwq_model.specs.declared.entry.Entry.{Entry}
-use Rattle.cmwq_chart.specs.declared.bars.Bar.{Bar}
-use Rattle.cmwq_chart.specs.declared.levels.Level.{Level}
-use Rattle.cmwq_chart.specs.declared.signs.Sign.{Sign}
-use Rattle.cmwq_chart.specs.declared.sleeps.Sleep.{Sleep}
-use Rattle.cmwq_chart.specs.declared.waits.CallerLane.{CallerLane}
-use Rattle.cmwq_chart.specs.declared.waits.CallerWait.{CallerWait}
-use Rattle.cmwq_chart.specs.declared.waits.WaitSign.{WaitSign}
+use Rattle.cmwq_chart_text.specs.declared.figures.Figure.{Figure}
+use Rattle.cmwq_chart_text.specs.declared.figures.Row.{Row}
 use Rattle.cmwq_chart_text.specs.declared.page.Page.{Page}
-use Rattle.cmwq_chart_text.specs.BarText.{bars_text}
-use Rattle.cmwq_chart_text.specs.CallerText.{callers_text}
-use Rattle.cmwq_chart_text.specs.CaptionText.{captions_text}
-use Rattle.cmwq_chart_text.specs.SignText.{signs_text}
-use Rattle.cmwq_chart_text.specs.SleepText.{sleeps_text}
-use Rattle.cmwq_chart_text.specs.LevelText.{levels_text}
-use Rattle.cmwq_chart_text.specs.FrameText.{picture_head, lane_names_text, numbers_text, picture_end}
+use Rattle.cmwq_chart_text.specs.declared.page.Window.{Window}
+use Rattle.cmwq_chart_text.specs.Bands.{Strip, band_top, strips_of}
+use Rattle.cmwq_chart_text.specs.BandText.{band_text}
+use Rattle.cmwq_chart_text.specs.FrameText.{picture_head, picture_end}
+use Rattle.cmwq_chart_text.specs.LevelText.{scale_of}
+use Rattle.cmwq_chart_text.specs.Pages.{page_of}
 
-abbrev pub picture_text : Page → List Entry → List CallerLane → List CallerWait → List WaitSign → List WorkerId → List Bar → List Sleep → List Sign → List Place → List Level → List ℕ
-picture_text p entries callers waits wait_signs lanes bars sleeps signs places levels =
-    picture_head p ++ (lane_names_text p lanes ++ (numbers_text p ++ (callers_text p entries callers waits wait_signs
-    ++ (bars_text p lanes bars ++ (sleeps_text p lanes sleeps ++ (signs_text p callers lanes entries signs ++ (captions_text p lanes bars
-    ++ (levels_text p places levels ++ picture_end))))))))
+-- what stands in each band of a page, and what the height of a level stands for
+pub record Drawing : Type 0 where
+  pub page : Page
+  pub scale : ℕ
+  pub strips : List Strip
+
+-- what a window shows of n entries, which have these rows and shapes
+abbrev pub drawing_on : Page → List Row → List Figure → Drawing
+drawing_on p rows figures = record { page = p; scale = scale_of figures; strips = strips_of p rows figures }
+
+abbrev pub drawing_of : Window → ℕ → List Row → List Figure → Drawing
+drawing_of w n rows figures = drawing_on (page_of w n) rows figures
+
+abbrev pub band_at : Page → List Entry → ℕ → List Strip → ℕ → List ℕ
+band_at p entries scale strips band = option_map_or (band_text p entries scale band (band_top strips band)) (slice_get strips band) []
+
+abbrev pub bands_text : Page → List Entry → ℕ → List Strip → ℕ → List ℕ
+bands_text p entries scale strips end = flat_map (band_at p entries scale strips) (range_with_len 0 end)
+
+abbrev pub picture_height : List Strip → ℕ
+picture_height strips = band_top strips (length strips) + 8
+
+unfoldable pub picture_text : Drawing → List Entry → List ℕ
+picture_text d entries = picture_head d.page (picture_height d.strips) ++ (bands_text d.page entries d.scale d.strips (length d.strips) ++ picture_end)

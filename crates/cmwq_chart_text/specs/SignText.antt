@@ -1,19 +1,15 @@
 -- The text of signs: a mark in the row of who did it, with the entry's line as its tooltip.
-use Rattle.std.specs.Prelude.{ℕ, ◌+◌, ◌%◌, ◌&&◌, Bool, true, false, if◌then◌else◌, List, [], ◌∷◌, ◌++◌, codes, flat_map, Option, nat_le, nat_lt, slice_get}
+use Rattle.std.specs.Prelude.{ℕ, ◌+◌, ◌%◌, ◌&&◌, Bool, true, false, if◌then◌else◌, List, [], ◌∷◌, ◌++◌, codes, Option, nat_le, nat_lt, slice_get}
 use Rattle.std.specs.Option.{option_map_or}
 use Rattle.cmwq_model.specs.declared.entry.Entry.{Entry}
-use Rattle.cmwq_model.specs.declared.id.WorkerId.{WorkerId}
-use Rattle.cmwq_model.specs.declared.id.Who.{Who}
-use Rattle.cmwq_model.specs.declared.id.Who.TheVariants.{Caller, Worker}
 use Rattle.cmwq_text.specs.EntryText.{entry_text}
 use Rattle.cmwq_chart.specs.declared.signs.Sign.{Sign}
 use Rattle.cmwq_chart.specs.declared.signs.SignKind.{SignKind}
 use Rattle.cmwq_chart.specs.declared.signs.SignKind.TheVariants as kind
-use Rattle.cmwq_chart.specs.declared.waits.CallerLane.{CallerLane}
 use Rattle.cmwq_chart.specs.declared.waits.WaitSign.{WaitSign}
 use Rattle.cmwq_chart_text.specs.declared.page.Page.{Page}
 use Rattle.cmwq_chart_text.specs.Filled.{filled}
-use Rattle.cmwq_chart_text.specs.Pages.{band_of, caller_top, column_width, is_shown, middle_of, row_top}
+use Rattle.cmwq_chart_text.specs.Pages.{column_width, middle_of}
 use Rattle.cmwq_chart_text.specs.WaitText.{wait_top}
 
 -- the line of the entry at a place, and the end of a mark with it as its tooltip
@@ -41,15 +37,8 @@ sign_template kind.Tick = codes "<path class=\"mark tick k$\" d=\"M$ $m0 -7v14\"
 sign_template kind.Changed = codes "<path class=\"mark changed k$\" d=\"M$ $m-3 -3h6v6h-6z\"><title>"
 sign_template kind.Refused = codes "<path class=\"mark refused k$\" d=\"M$ $m-1.5 0a1.5 1.5 0 1 0 3 0a1.5 1.5 0 1 0 -3 0\"><title>"
 
-abbrev pub sign_top : Page → List CallerLane → List WorkerId → ℕ → Who → ℕ
-sign_top p callers lanes band (Caller c) = caller_top p callers band c
-sign_top p callers lanes band (Worker w) = row_top p lanes band w
-
-abbrev pub sign_middle : Page → List CallerLane → List WorkerId → Sign → ℕ
-sign_middle p callers lanes sign = sign_top p callers lanes (band_of p sign.at) sign.who + 7
-
-abbrev pub sign_numbers : Page → List CallerLane → List WorkerId → Sign → List ℕ
-sign_numbers p callers lanes sign = item_shade sign.item ∷ middle_of p sign.at ∷ sign_middle p callers lanes sign ∷ []
+abbrev pub sign_numbers : Page → ℕ → Sign → List ℕ
+sign_numbers p top sign = item_shade sign.item ∷ middle_of p sign.at ∷ (top + 7) ∷ []
 
 -- its item beside it, where columns are wide enough for the digits
 unfoldable pub label_template : List ℕ
@@ -58,35 +47,22 @@ label_template = codes "<text class=\"label\" x=\"$\" y=\"$\">$</text>\n"
 unfoldable pub has_label : Page → Sign → Bool
 has_label p sign = option_map_or (λ i. nat_lt i 1000) sign.item false && nat_le 24 (column_width p)
 
-abbrev pub label_numbers : Page → List CallerLane → List WorkerId → Sign → List ℕ
-label_numbers p callers lanes sign = (middle_of p sign.at + 4) ∷ (sign_middle p callers lanes sign + 4) ∷ option_map_or (λ i. i) sign.item 0 ∷ []
+abbrev pub label_numbers : Page → ℕ → Sign → List ℕ
+label_numbers p top sign = (middle_of p sign.at + 4) ∷ (top + 11) ∷ option_map_or (λ i. i) sign.item 0 ∷ []
 
-abbrev pub label_text : Page → List CallerLane → List WorkerId → Sign → List ℕ
-label_text p callers lanes sign = if has_label p sign then filled label_template (label_numbers p callers lanes sign) else []
+abbrev pub label_text : Page → ℕ → Sign → List ℕ
+label_text p top sign = if has_label p sign then filled label_template (label_numbers p top sign) else []
 
-unfoldable pub sign_shown : Page → List CallerLane → List WorkerId → List Entry → Sign → List ℕ
-sign_shown p callers lanes entries sign =
-    label_text p callers lanes sign ++ (filled (sign_template sign.kind) (sign_numbers p callers lanes sign) ++ told_text entries sign.at)
-
-abbrev pub sign_text : Page → List CallerLane → List WorkerId → List Entry → Sign → List ℕ
-sign_text p callers lanes entries sign = if is_shown p sign.at then sign_shown p callers lanes entries sign else []
-
-abbrev pub signs_text : Page → List CallerLane → List WorkerId → List Entry → List Sign → List ℕ
-signs_text p callers lanes entries signs = flat_map (sign_text p callers lanes entries) signs
+unfoldable pub sign_text : Page → List Entry → ℕ → Sign → List ℕ
+sign_text p entries top sign = label_text p top sign ++ (filled (sign_template sign.kind) (sign_numbers p top sign) ++ told_text entries sign.at)
 
 -- ---- where the end of a wait was asked for: a ring while it goes on, a dot where it is done
 unfoldable pub wait_sign_template : Bool → List ℕ
 wait_sign_template true = codes "<path class=\"mark done\" d=\"M$ $m-3 0a3 3 0 1 0 6 0a3 3 0 1 0 -6 0\"><title>"
 wait_sign_template false = codes "<path class=\"mark waiting\" d=\"M$ $m-3 0a3 3 0 1 0 6 0a3 3 0 1 0 -6 0\"><title>"
 
-abbrev pub wait_sign_numbers : Page → List CallerLane → WaitSign → List ℕ
-wait_sign_numbers p callers sign = middle_of p sign.at ∷ (wait_top p callers (band_of p sign.at) sign.caller sign.row + 7) ∷ []
+abbrev pub wait_sign_numbers : Page → ℕ → WaitSign → List ℕ
+wait_sign_numbers p top sign = middle_of p sign.at ∷ (wait_top top sign.row + 7) ∷ []
 
-unfoldable pub wait_sign_shown : Page → List CallerLane → List Entry → WaitSign → List ℕ
-wait_sign_shown p callers entries sign = filled (wait_sign_template sign.is_done) (wait_sign_numbers p callers sign) ++ told_text entries sign.at
-
-abbrev pub wait_sign_text : Page → List CallerLane → List Entry → WaitSign → List ℕ
-wait_sign_text p callers entries sign = if is_shown p sign.at then wait_sign_shown p callers entries sign else []
-
-abbrev pub wait_signs_text : Page → List CallerLane → List Entry → List WaitSign → List ℕ
-wait_signs_text p callers entries signs = flat_map (wait_sign_text p callers entries) signs
+unfoldable pub wait_sign_text : Page → List Entry → ℕ → WaitSign → List ℕ
+wait_sign_text p entries top sign = filled (wait_sign_template sign.is_done) (wait_sign_numbers p top sign) ++ told_text entries sign.at

@@ -1,17 +1,15 @@
 //! The text of captions.
-ghost use Rattle.std.specs.Prelude.{◌≡◌, ◌≤◌, OnOk, OnErr, length};
+ghost use Rattle.std.specs.Prelude.{◌≡◌, ◌≤◌, OnOk, OnErr};
 ghost use Rattle.std.specs.Io.KnownBytes.{Appends};
 ghost use Rattle.cmwq_io.specs.Counts.{Rises};
 ghost use Rattle.cmwq_io.specs.Moves.{AppendsFront};
-ghost use Rattle.cmwq_chart.specs.Lanes.{most_lanes};
 ghost use Rattle.cmwq_chart_text.specs.CaptionText as spec;
 
 use crate::filled::write_filled;
 use crate::page::Page;
-use crate::spans::{span_band, span_bands_end, span_left, span_width};
+use crate::spans::{span_left, span_width};
 use cmwq_base::{Sink, WriteFault};
 use cmwq_chart::Bar;
-use cmwq_model::WorkerId;
 
 #[tactic(auto, unfolding(crate::specs::CaptionText::caption_template))]
 fn caption_template() -> &'static str
@@ -42,30 +40,30 @@ fn has_caption(page: &Page, bar: &Bar, band: u64) -> bool
 }
 
 /// What the template of a caption is filled with.
-fn caption_numbers(page: &Page, lanes: &[WorkerId], bar: &Bar, band: u64) -> [u64; 3]
+fn caption_numbers(page: &Page, top: u64, bar: &Bar, band: u64) -> [u64; 3]
     requires band { band ≤ 4294967296 }
-    requires few { length lanes.now ≤ most_lanes }
-    ensures { result ≡ spec.caption_numbers page.now lanes.now bar.now band }
+    requires top { top ≤ 10000000000000000000 }
+    ensures { result ≡ spec.caption_numbers page.now top bar.now band }
 {
     [
         span_left(page, bar.from, band) + 2,
-        page.row_top(lanes, band, bar.worker) + 11,
+        top + 11,
         bar.item.0.into(),
     ]
 }
 
 /// Writes the item of a bar in a band, if it is wide enough there.
-fn write_caption_in_band<W: Sink>(
+pub(crate) fn write_caption<W: Sink>(
     sink: &mut W,
     page: &Page,
-    lanes: &[WorkerId],
+    top: u64,
     bar: &Bar,
     band: u64,
 ) -> Result<(), WriteFault>
     requires band { band ≤ 4294967296 }
-    requires few { length lanes.now ≤ most_lanes }
-    ensures ok { OnOk result (Appends (W.written sink.old) (W.written sink.new) (spec.caption_in_band page.now lanes.now bar.now band)) }
-    ensures err { OnErr result (AppendsFront (W.written sink.old) (W.written sink.new) (spec.caption_in_band page.now lanes.now bar.now band)) }
+    requires top { top ≤ 10000000000000000000 }
+    ensures ok { OnOk result (Appends (W.written sink.old) (W.written sink.new) (spec.caption_text page.now top bar.now band)) }
+    ensures err { OnErr result (AppendsFront (W.written sink.old) (W.written sink.new) (spec.caption_text page.now top bar.now band)) }
     ensures grown { W.troubles sink.old ≤ W.troubles sink.new }
     ensures fault { OnErr result (Rises (W.troubles sink.old) (W.troubles sink.new)) }
 {
@@ -73,68 +71,9 @@ fn write_caption_in_band<W: Sink>(
         write_filled(
             sink,
             caption_template(),
-            &caption_numbers(page, lanes, bar, band),
+            &caption_numbers(page, top, bar, band),
         )
     } else {
         Ok(())
     }
-}
-
-/// Writes it in the bands from one up to an end.
-fn write_caption_in_bands<W: Sink>(
-    sink: &mut W,
-    page: &Page,
-    lanes: &[WorkerId],
-    bar: &Bar,
-    from: u64,
-    end: u64,
-) -> Result<(), WriteFault>
-    requires end { end ≤ 4294967296 }
-    requires few { length lanes.now ≤ most_lanes }
-    ensures ok { OnOk result (Appends (W.written sink.old) (W.written sink.new) (spec.caption_in_bands page.now lanes.now bar.now from end)) }
-    ensures err { OnErr result (AppendsFront (W.written sink.old) (W.written sink.new) (spec.caption_in_bands page.now lanes.now bar.now from end)) }
-    ensures grown { W.troubles sink.old ≤ W.troubles sink.new }
-    ensures fault { OnErr result (Rises (W.troubles sink.old) (W.troubles sink.new)) }
-{
-    for band in from..end {
-        write_caption_in_band(sink, page, lanes, bar, band)?;
-    }
-    Ok(())
-}
-
-/// Writes the item of a bar.
-#[tactic(auto, unfolding(crate::specs::CaptionText::caption_text))]
-fn write_caption<W: Sink>(
-    sink: &mut W,
-    page: &Page,
-    lanes: &[WorkerId],
-    bar: &Bar,
-) -> Result<(), WriteFault>
-    requires { length lanes.now ≤ most_lanes }
-    ensures ok { OnOk result (Appends (W.written sink.old) (W.written sink.new) (spec.caption_text page.now lanes.now bar.now)) }
-    ensures err { OnErr result (AppendsFront (W.written sink.old) (W.written sink.new) (spec.caption_text page.now lanes.now bar.now)) }
-    ensures grown { W.troubles sink.old ≤ W.troubles sink.new }
-    ensures fault { OnErr result (Rises (W.troubles sink.old) (W.troubles sink.new)) }
-{
-    let end = span_bands_end(page, bar.from, bar.to);
-    write_caption_in_bands(sink, page, lanes, bar, span_band(page, bar.from), end)
-}
-
-/// Writes the items of bars.
-pub(crate) fn write_captions<W: Sink>(
-    sink: &mut W,
-    page: &Page,
-    lanes: &[WorkerId],
-    bars: &[Bar],
-) -> Result<(), WriteFault>
-    requires { length lanes.now ≤ most_lanes }
-    ensures ok { OnOk result (Appends (W.written sink.old) (W.written sink.new) (spec.captions_text page.now lanes.now bars.now)) }
-    ensures err { OnErr result (AppendsFront (W.written sink.old) (W.written sink.new) (spec.captions_text page.now lanes.now bars.now)) }
-    ensures grown { W.troubles sink.old ≤ W.troubles sink.new }
-    ensures fault { OnErr result (Rises (W.troubles sink.old) (W.troubles sink.new)) }
-{
-    for bar in bars {
-        write_caption(sink, page, lanes, bar)?;
-    }
-    Ok(())
 }

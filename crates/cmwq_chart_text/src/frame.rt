@@ -1,28 +1,19 @@
 //! The text of what stands around the shapes.
-ghost use Rattle.std.specs.Prelude.{◌≡◌, ◌≤◌, OnOk, OnErr, length};
+ghost use Rattle.std.specs.Prelude.{◌≡◌, ◌+◌, ◌≤◌, OnOk, OnErr};
 ghost use Rattle.std.specs.Io.KnownBytes.{Appends};
 ghost use Rattle.cmwq_io.specs.Counts.{Rises};
 ghost use Rattle.cmwq_io.specs.Moves.{AppendsFront};
-ghost use Rattle.cmwq_chart.specs.Lanes.{most_lanes};
 ghost use Rattle.cmwq_chart_text.specs.FrameText as spec;
 
 use crate::filled::write_filled;
-use crate::page::{Page, worker_letter};
+use crate::page::Page;
 use cmwq_base::{Sink, WriteFault, write_all};
-use cmwq_model::WorkerId;
 
 #[tactic(auto, unfolding(crate::specs::FrameText::head_template))]
 fn head_template() -> &'static str
     ensures { result.now ≡ spec.head_template }
 {
-    "<svg xmlns=\"http://www.w3.org/2000/svg\" width=\"1200\" height=\"$\" viewBox=\"0 0 1200 $\" role=\"img\"><style>svg{color:black;font:11px sans-serif}.page{fill:white}text{fill:currentColor}.title{font-size:14px}.name,.entry{opacity:.8}.name{text-anchor:end}.entry{text-anchor:middle}.guide,.grid{stroke:currentColor;stroke-opacity:.15}.run{stroke:currentColor;stroke-width:.7}.sleep{fill:url(#hatch);stroke:currentColor;stroke-width:.7}.wait{fill:currentColor;fill-opacity:.18;stroke:currentColor;stroke-width:.7}.mark{stroke:currentColor;stroke-width:.8;pointer-events:all}.item{fill:black;font-weight:bold;stroke:white;stroke-opacity:.7;stroke-width:2.5px;paint-order:stroke;pointer-events:none}.k0{fill:rgb(143,184,222)}.k1{fill:rgb(250,190,120)}.k2{fill:rgb(150,205,140)}.k3{fill:rgb(240,150,145)}.k4{fill:rgb(150,210,205)}.k5{fill:rgb(205,170,205)}.k6{fill:rgb(200,170,150)}.k7{fill:rgb(240,220,120)}.k8{fill:rgb(255,190,200)}.k9{fill:rgb(190,190,190)}.k10,.delayed,.changed,.waiting{fill:none}.done,.waits{fill:currentColor}.cancelled{stroke-width:2}.tick,.changed,.refused{stroke-width:1.4}.refused{opacity:.7}.label{font-size:11px;pointer-events:none}.open{fill:rgb(196,208,222)}.active{fill:rgb(110,145,185)}.width{fill:none;stroke:rgb(205,60,60);stroke-width:1.5;stroke-dasharray:3 2}@media(prefers-color-scheme:dark){svg{color:rgb(230,230,230)}.page{fill:rgb(27,29,33)}}</style><defs><pattern id=\"hatch\" width=\"6\" height=\"6\" patternUnits=\"userSpaceOnUse\" patternTransform=\"rotate(45)\"><path d=\"M0 0v6\" stroke=\"black\" stroke-width=\"2\" stroke-opacity=\".5\"/></pattern></defs>\n<rect class=\"page\" width=\"1200\" height=\"$\"/>\n<text class=\"title\" x=\"12\" y=\"26\">Entries from $ up to $: what each caller did, and below it its waits; a bar for each run, with its item, in the row of its worker, and hatched where it sleeps</text>\n<text x=\"12\" y=\"44\">Below, for each queue on each CPU: how many are open (pale), how many of them are active (dark), and the width (dashed)</text>\n<path class=\"queued mark k1\" d=\"M18 58m-3 -4h6l-3 8z\"/><text x=\"27\" y=\"62\">queued</text><path class=\"delayed mark\" d=\"M81 58m0 -4l3 4l-3 4l-3 -4z\"/><text x=\"90\" y=\"62\">delayed</text><path class=\"fired mark k1\" d=\"M150 58m0 -4l3 4l-3 4l-3 -4z\"/><text x=\"159\" y=\"62\">fired</text><path class=\"cancelled mark\" d=\"M208 58m-3 -3l6 6m0 -6l-6 6\"/><text x=\"217\" y=\"62\">cancelled</text><path class=\"refused mark\" d=\"M289 58m-1.5 0a1.5 1.5 0 1 0 3 0a1.5 1.5 0 1 0 -3 0\"/><text x=\"298\" y=\"62\">refused or nothing to do</text><path class=\"changed mark\" d=\"M457 58m-3 -3h6v6h-6z\"/><text x=\"466\" y=\"62\">width, freeze, thaw or retire</text><path class=\"tick mark\" d=\"M654 58m0 -7v14\"/><text x=\"663\" y=\"62\">tick</text><path class=\"waits mark\" d=\"M706 58m-3 -4l6 4l-6 4z\"/><text x=\"715\" y=\"62\">begins to wait</text><path class=\"waiting mark\" d=\"M816 58m-3 0a3 3 0 1 0 6 0a3 3 0 1 0 -6 0\"/><text x=\"825\" y=\"62\">still waits</text><path class=\"done mark\" d=\"M908 58m-3 0a3 3 0 1 0 6 0a3 3 0 1 0 -6 0\"/><text x=\"917\" y=\"62\">has waited</text>\n"
-}
-
-#[tactic(auto, unfolding(crate::specs::FrameText::name_template))]
-fn name_template() -> &'static str
-    ensures { result.now ≡ spec.name_template }
-{
-    "<text class=\"name\" x=\"92\" y=\"$\">w$~$</text><path class=\"guide\" d=\"M100 $h1080\"/>\n"
+    "<svg xmlns=\"http://www.w3.org/2000/svg\" width=\"1200\" height=\"$\" viewBox=\"0 0 1200 $\" role=\"img\"><style>svg{color:black;font:11px sans-serif}.page{fill:white}text{fill:currentColor}.title{font-size:14px}.name,.entry{opacity:.8}.name{text-anchor:end}.entry{text-anchor:middle}.guide,.grid{stroke:currentColor;stroke-opacity:.15}.run{stroke:currentColor;stroke-width:.7}.sleep{fill:url(#hatch);stroke:currentColor;stroke-width:.7}.wait{fill:currentColor;fill-opacity:.18;stroke:currentColor;stroke-width:.7}.mark{stroke:currentColor;stroke-width:.8;pointer-events:all}.item{fill:black;font-weight:bold;stroke:white;stroke-opacity:.7;stroke-width:2.5px;paint-order:stroke;pointer-events:none}.k0{fill:rgb(143,184,222)}.k1{fill:rgb(250,190,120)}.k2{fill:rgb(150,205,140)}.k3{fill:rgb(240,150,145)}.k4{fill:rgb(150,210,205)}.k5{fill:rgb(205,170,205)}.k6{fill:rgb(200,170,150)}.k7{fill:rgb(240,220,120)}.k8{fill:rgb(255,190,200)}.k9{fill:rgb(190,190,190)}.k10,.delayed,.changed,.waiting{fill:none}.done,.waits{fill:currentColor}.cancelled{stroke-width:2}.tick,.changed,.refused{stroke-width:1.4}.refused{opacity:.7}.label{font-size:11px;pointer-events:none}.open{fill:rgb(196,208,222)}.active{fill:rgb(110,145,185)}.width{fill:none;stroke:rgb(205,60,60);stroke-width:1.5;stroke-dasharray:3 2}@media(prefers-color-scheme:dark){svg{color:rgb(230,230,230)}.page{fill:rgb(27,29,33)}.item{fill:white;stroke:black}.k0{fill:rgb(62,100,137)}.k1{fill:rgb(150,95,35)}.k2{fill:rgb(62,112,55)}.k3{fill:rgb(150,65,62)}.k4{fill:rgb(50,115,110)}.k5{fill:rgb(115,80,115)}.k6{fill:rgb(112,84,66)}.k7{fill:rgb(130,112,25)}.k8{fill:rgb(155,90,102)}.k9{fill:rgb(100,100,100)}.delayed,.changed{fill:none}}</style><defs><pattern id=\"hatch\" width=\"6\" height=\"6\" patternUnits=\"userSpaceOnUse\" patternTransform=\"rotate(45)\"><path d=\"M0 0v6\" stroke=\"currentColor\" stroke-width=\"2\" stroke-opacity=\".5\"/></pattern></defs>\n<rect class=\"page\" width=\"1200\" height=\"$\"/>\n<text class=\"title\" x=\"12\" y=\"26\">Entries from $ up to $: what each caller did, and below it its waits; a bar for each run, with its item, in the row of its worker, and hatched where it sleeps</text>\n<text x=\"12\" y=\"44\">Below, for each queue on each CPU: how many are open (pale), how many of them are active (dark), and the width (dashed)</text>\n<path class=\"queued mark k1\" d=\"M18 58m-3 -4h6l-3 8z\"/><text x=\"27\" y=\"62\">queued</text><path class=\"delayed mark\" d=\"M81 58m0 -4l3 4l-3 4l-3 -4z\"/><text x=\"90\" y=\"62\">delayed</text><path class=\"fired mark k1\" d=\"M150 58m0 -4l3 4l-3 4l-3 -4z\"/><text x=\"159\" y=\"62\">fired</text><path class=\"cancelled mark\" d=\"M208 58m-3 -3l6 6m0 -6l-6 6\"/><text x=\"217\" y=\"62\">cancelled</text><path class=\"refused mark\" d=\"M289 58m-1.5 0a1.5 1.5 0 1 0 3 0a1.5 1.5 0 1 0 -3 0\"/><text x=\"298\" y=\"62\">refused or nothing to do</text><path class=\"changed mark\" d=\"M457 58m-3 -3h6v6h-6z\"/><text x=\"466\" y=\"62\">width, freeze, thaw or retire</text><path class=\"tick mark\" d=\"M654 58m0 -7v14\"/><text x=\"663\" y=\"62\">tick</text><path class=\"waits mark\" d=\"M706 58m-3 -4l6 4l-6 4z\"/><text x=\"715\" y=\"62\">begins to wait</text><path class=\"waiting mark\" d=\"M816 58m-3 0a3 3 0 1 0 6 0a3 3 0 1 0 -6 0\"/><text x=\"825\" y=\"62\">still waits</text><path class=\"done mark\" d=\"M908 58m-3 0a3 3 0 1 0 6 0a3 3 0 1 0 -6 0\"/><text x=\"917\" y=\"62\">has waited</text>\n"
 }
 
 #[tactic(auto, unfolding(crate::specs::FrameText::number_template))]
@@ -39,92 +30,16 @@ fn picture_end() -> &'static str
     "</svg>\n"
 }
 
-/// Writes the head of the picture, with its style.
-#[tactic(auto, unfolding(crate::specs::FrameText::picture_head, crate::specs::FrameText::picture_height))]
-pub(crate) fn write_head<W: Sink>(sink: &mut W, page: &Page) -> Result<(), WriteFault>
-    ensures ok { OnOk result (Appends (W.written sink.old) (W.written sink.new) (spec.picture_head page.now)) }
-    ensures err { OnErr result (AppendsFront (W.written sink.old) (W.written sink.new) (spec.picture_head page.now)) }
+/// Writes the head of a picture of this height, with its style.
+#[tactic(auto, unfolding(crate::specs::FrameText::picture_head))]
+pub(crate) fn write_head<W: Sink>(sink: &mut W, page: &Page, height: u64) -> Result<(), WriteFault>
+    ensures ok { OnOk result (Appends (W.written sink.old) (W.written sink.new) (spec.picture_head page.now height)) }
+    ensures err { OnErr result (AppendsFront (W.written sink.old) (W.written sink.new) (spec.picture_head page.now height)) }
     ensures grown { W.troubles sink.old ≤ W.troubles sink.new }
     ensures fault { OnErr result (Rises (W.troubles sink.old) (W.troubles sink.new)) }
 {
-    let height = page.band_top(page.bands()) + 8;
     let numbers = [height, height, height, page.first.into(), page.end.into()];
     write_filled(sink, head_template(), &numbers)
-}
-
-/// What the template of a name is filled with.
-fn name_numbers(page: &Page, lanes: &[WorkerId], band: u64, worker: WorkerId) -> [u64; 5]
-    requires band { band ≤ 4294967296 }
-    requires few { length lanes.now ≤ most_lanes }
-    ensures { result ≡ spec.name_numbers page.now lanes.now band worker }
-{
-    let top = page.row_top(lanes, band, worker);
-    [
-        top + 11,
-        worker.pool.cpu.0.into(),
-        worker_letter(worker),
-        worker.index.into(),
-        top + 7,
-    ]
-}
-
-/// Writes the names of the lanes in a band.
-fn write_names_in_band<W: Sink>(
-    sink: &mut W,
-    page: &Page,
-    lanes: &[WorkerId],
-    band: u64,
-) -> Result<(), WriteFault>
-    requires band { band ≤ 4294967296 }
-    requires few { length lanes.now ≤ most_lanes }
-    ensures ok { OnOk result (Appends (W.written sink.old) (W.written sink.new) (spec.names_in_band page.now lanes.now band)) }
-    ensures err { OnErr result (AppendsFront (W.written sink.old) (W.written sink.new) (spec.names_in_band page.now lanes.now band)) }
-    ensures grown { W.troubles sink.old ≤ W.troubles sink.new }
-    ensures fault { OnErr result (Rises (W.troubles sink.old) (W.troubles sink.new)) }
-{
-    for worker in lanes {
-        write_filled(
-            sink,
-            name_template(),
-            &name_numbers(page, lanes, band, *worker),
-        )?;
-    }
-    Ok(())
-}
-
-fn write_names_in_bands<W: Sink>(
-    sink: &mut W,
-    page: &Page,
-    lanes: &[WorkerId],
-    end: u64,
-) -> Result<(), WriteFault>
-    requires end { end ≤ 4294967296 }
-    requires few { length lanes.now ≤ most_lanes }
-    ensures ok { OnOk result (Appends (W.written sink.old) (W.written sink.new) (spec.names_in_bands page.now lanes.now end)) }
-    ensures err { OnErr result (AppendsFront (W.written sink.old) (W.written sink.new) (spec.names_in_bands page.now lanes.now end)) }
-    ensures grown { W.troubles sink.old ≤ W.troubles sink.new }
-    ensures fault { OnErr result (Rises (W.troubles sink.old) (W.troubles sink.new)) }
-{
-    for band in 0..end {
-        write_names_in_band(sink, page, lanes, band)?;
-    }
-    Ok(())
-}
-
-/// Writes the names of the lanes, in each band.
-#[tactic(auto, unfolding(crate::specs::FrameText::lane_names_text))]
-pub(crate) fn write_names<W: Sink>(
-    sink: &mut W,
-    page: &Page,
-    lanes: &[WorkerId],
-) -> Result<(), WriteFault>
-    requires { length lanes.now ≤ most_lanes }
-    ensures ok { OnOk result (Appends (W.written sink.old) (W.written sink.new) (spec.lane_names_text page.now lanes.now)) }
-    ensures err { OnErr result (AppendsFront (W.written sink.old) (W.written sink.new) (spec.lane_names_text page.now lanes.now)) }
-    ensures grown { W.troubles sink.old ≤ W.troubles sink.new }
-    ensures fault { OnErr result (Rises (W.troubles sink.old) (W.troubles sink.new)) }
-{
-    write_names_in_bands(sink, page, lanes, page.bands())
 }
 
 #[tactic(auto, unfolding(crate::specs::FrameText::has_its_number))]
@@ -139,65 +54,85 @@ fn has_its_number(page: &Page, place: u64) -> bool
     place % every == 0
 }
 
-/// What the template of an entry's number is filled with.
-fn number_numbers(page: &Page, place: u64) -> [u64; 6]
-    requires { place ≤ 4294967296 }
-    ensures { result ≡ spec.number_numbers page.now place }
+/// What the template of an entry's number is filled with, in a band with its upper edge there and rows of this height.
+fn number_numbers(page: &Page, top: u64, height: u64, place: u64) -> [u64; 6]
+    requires place { place ≤ 4294967296 }
+    requires top { top ≤ 10000000000000000000 }
+    requires height { height ≤ 10000000000000000000 }
+    ensures { result ≡ spec.number_numbers page.now top height place }
 {
-    let top = page.band_top(page.band_of(place));
     let middle = page.middle_of(place);
-    [
-        middle,
-        top + 18,
-        4 + page.rows_height(),
-        middle,
-        top + 14,
-        place,
-    ]
+    [middle, top + 18, 4 + height, middle, top + 14, place]
 }
 
 /// Writes the number of an entry, if it has one.
-fn write_number<W: Sink>(sink: &mut W, page: &Page, place: u64) -> Result<(), WriteFault>
-    requires { place ≤ 4294967296 }
-    ensures ok { OnOk result (Appends (W.written sink.old) (W.written sink.new) (spec.number_text page.now place)) }
-    ensures err { OnErr result (AppendsFront (W.written sink.old) (W.written sink.new) (spec.number_text page.now place)) }
+fn write_number<W: Sink>(
+    sink: &mut W,
+    page: &Page,
+    top: u64,
+    height: u64,
+    place: u64,
+) -> Result<(), WriteFault>
+    requires place { place ≤ 4294967296 }
+    requires top { top ≤ 10000000000000000000 }
+    requires height { height ≤ 10000000000000000000 }
+    ensures ok { OnOk result (Appends (W.written sink.old) (W.written sink.new) (spec.number_text page.now top height place)) }
+    ensures err { OnErr result (AppendsFront (W.written sink.old) (W.written sink.new) (spec.number_text page.now top height place)) }
     ensures grown { W.troubles sink.old ≤ W.troubles sink.new }
     ensures fault { OnErr result (Rises (W.troubles sink.old) (W.troubles sink.new)) }
 {
     if has_its_number(page, place) {
-        write_filled(sink, number_template(), &number_numbers(page, place))
+        write_filled(
+            sink,
+            number_template(),
+            &number_numbers(page, top, height, place),
+        )
     } else {
         Ok(())
     }
 }
 
+/// Writes those of the entries from one up to an end.
 fn write_numbers_between<W: Sink>(
     sink: &mut W,
     page: &Page,
+    top: u64,
+    height: u64,
     from: u64,
     end: u64,
 ) -> Result<(), WriteFault>
-    requires { end ≤ 4294967296 }
-    ensures ok { OnOk result (Appends (W.written sink.old) (W.written sink.new) (spec.numbers_between page.now from end)) }
-    ensures err { OnErr result (AppendsFront (W.written sink.old) (W.written sink.new) (spec.numbers_between page.now from end)) }
+    requires end { end ≤ 4294967296 }
+    requires top { top ≤ 10000000000000000000 }
+    requires height { height ≤ 10000000000000000000 }
+    ensures ok { OnOk result (Appends (W.written sink.old) (W.written sink.new) (spec.numbers_between page.now top height from end)) }
+    ensures err { OnErr result (AppendsFront (W.written sink.old) (W.written sink.new) (spec.numbers_between page.now top height from end)) }
     ensures grown { W.troubles sink.old ≤ W.troubles sink.new }
     ensures fault { OnErr result (Rises (W.troubles sink.old) (W.troubles sink.new)) }
 {
     for place in from..end {
-        write_number(sink, page, place)?;
+        write_number(sink, page, top, height, place)?;
     }
     Ok(())
 }
 
-/// Writes the numbers of entries.
-#[tactic(auto, unfolding(crate::specs::FrameText::numbers_text))]
-pub(crate) fn write_numbers<W: Sink>(sink: &mut W, page: &Page) -> Result<(), WriteFault>
-    ensures ok { OnOk result (Appends (W.written sink.old) (W.written sink.new) (spec.numbers_text page.now)) }
-    ensures err { OnErr result (AppendsFront (W.written sink.old) (W.written sink.new) (spec.numbers_text page.now)) }
+/// Writes those of a band.
+pub(crate) fn write_numbers<W: Sink>(
+    sink: &mut W,
+    page: &Page,
+    top: u64,
+    height: u64,
+    band: u64,
+) -> Result<(), WriteFault>
+    requires band { band ≤ 4294967296 }
+    requires top { top ≤ 10000000000000000000 }
+    requires height { height ≤ 10000000000000000000 }
+    ensures ok { OnOk result (Appends (W.written sink.old) (W.written sink.new) (spec.numbers_text page.now top height band)) }
+    ensures err { OnErr result (AppendsFront (W.written sink.old) (W.written sink.new) (spec.numbers_text page.now top height band)) }
     ensures grown { W.troubles sink.old ≤ W.troubles sink.new }
     ensures fault { OnErr result (Rises (W.troubles sink.old) (W.troubles sink.new)) }
 {
-    write_numbers_between(sink, page, page.first.into(), page.end.into())
+    let end = page.end_in(band, page.end.into());
+    write_numbers_between(sink, page, top, height, page.band_start(band), end)
 }
 
 /// Writes the end of the picture.

@@ -1,12 +1,15 @@
 //! The text of a picture: what a browser shows of the shapes of a history, as SVG.
 #![tactic(auto)]
 
+mod band_text;
+mod bands;
 mod bars;
-mod callers;
 mod captions;
+mod figures;
 mod filled;
 mod frame;
 mod levels;
+mod names;
 mod page;
 mod picture;
 mod signs;
@@ -14,5 +17,5 @@ mod sleeps;
 mod spans;
 mod waits;
 
-pub use page::{Page, Window};
-pub use picture::write_picture;
+pub use page::Window;
+pub use picture::Picture;

@@ -1,18 +1,16 @@
 //! The text of signs.
-ghost use Rattle.std.specs.Prelude.{◌≡◌, ◌≤◌, OnOk, OnErr, length};
+ghost use Rattle.std.specs.Prelude.{◌≡◌, ◌+◌, ◌≤◌, OnOk, OnErr};
 ghost use Rattle.std.specs.Io.KnownBytes.{Appends};
 ghost use Rattle.cmwq_io.specs.Counts.{Rises};
 ghost use Rattle.cmwq_io.specs.Moves.{AppendsFront};
-ghost use Rattle.cmwq_model.specs.Prelude.{most_callers};
-ghost use Rattle.cmwq_chart.specs.Lanes.{most_lanes};
 ghost use Rattle.cmwq_chart_text.specs.SignText as spec;
 
 use crate::filled::write_filled;
 use crate::page::Page;
 use crate::waits::wait_top;
 use cmwq_base::{Sink, WriteFault, write_all};
-use cmwq_chart::{CallerLane, Sign, SignKind, WaitSign};
-use cmwq_model::{Entry, Who, WorkerId};
+use cmwq_chart::{Sign, SignKind, WaitSign};
+use cmwq_model::Entry;
 use cmwq_text::entry_line;
 
 /// Writes the line of the entry at a place.
@@ -77,41 +75,15 @@ fn sign_template(kind: SignKind) -> &'static str
     }
 }
 
-/// The upper edge of the row of who did something.
-fn sign_top(page: &Page, callers: &[CallerLane], lanes: &[WorkerId], band: u64, who: Who) -> u64
-    requires band { band ≤ 4294967296 }
-    requires callers { length callers.now ≤ most_callers }
-    requires lanes { length lanes.now ≤ most_lanes }
-    ensures top { result ≡ spec.sign_top page.now callers.now lanes.now band who }
-    ensures within { result ≤ 20000000000000000 }
-{
-    match who {
-        Who::Caller(caller) => page.caller_top(callers, band, caller),
-        Who::Worker(worker) => page.row_top(lanes, band, worker),
-    }
-}
-
-/// The height of the middle of a sign.
-fn sign_middle(page: &Page, callers: &[CallerLane], lanes: &[WorkerId], sign: &Sign) -> u64
-    requires callers { length callers.now ≤ most_callers }
-    requires lanes { length lanes.now ≤ most_lanes }
-    ensures middle { result ≡ spec.sign_middle page.now callers.now lanes.now sign.now }
-    ensures within { result ≤ 30000000000000000 }
-{
-    let band = page.band_of(sign.at.into());
-    sign_top(page, callers, lanes, band, sign.who) + 7
-}
-
 /// What the template of a sign is filled with.
-fn sign_numbers(page: &Page, callers: &[CallerLane], lanes: &[WorkerId], sign: &Sign) -> [u64; 3]
-    requires callers { length callers.now ≤ most_callers }
-    requires lanes { length lanes.now ≤ most_lanes }
-    ensures { result ≡ spec.sign_numbers page.now callers.now lanes.now sign.now }
+fn sign_numbers(page: &Page, top: u64, sign: &Sign) -> [u64; 3]
+    requires { top ≤ 10000000000000000000 }
+    ensures { result ≡ spec.sign_numbers page.now top sign.now }
 {
     [
         item_shade(sign.item),
         page.middle_of(sign.at.into()),
-        sign_middle(page, callers, lanes, sign),
+        top + 7,
     ]
 }
 
@@ -130,107 +102,52 @@ fn has_label(page: &Page, sign: &Sign) -> bool
 }
 
 /// What the template of a label is filled with.
-fn label_numbers(page: &Page, callers: &[CallerLane], lanes: &[WorkerId], sign: &Sign) -> [u64; 3]
-    requires callers { length callers.now ≤ most_callers }
-    requires lanes { length lanes.now ≤ most_lanes }
-    ensures { result ≡ spec.label_numbers page.now callers.now lanes.now sign.now }
+fn label_numbers(page: &Page, top: u64, sign: &Sign) -> [u64; 3]
+    requires { top ≤ 10000000000000000000 }
+    ensures { result ≡ spec.label_numbers page.now top sign.now }
 {
     [
         page.middle_of(sign.at.into()) + 4,
-        sign_middle(page, callers, lanes, sign) + 4,
+        top + 11,
         sign.item.unwrap_or(0).into(),
     ]
 }
 
 /// Writes the item of a sign beside it, where columns are wide enough.
-fn write_label<W: Sink>(
-    sink: &mut W,
-    page: &Page,
-    callers: &[CallerLane],
-    lanes: &[WorkerId],
-    sign: &Sign,
-) -> Result<(), WriteFault>
-    requires callers { length callers.now ≤ most_callers }
-    requires lanes { length lanes.now ≤ most_lanes }
-    ensures ok { OnOk result (Appends (W.written sink.old) (W.written sink.new) (spec.label_text page.now callers.now lanes.now sign.now)) }
-    ensures err { OnErr result (AppendsFront (W.written sink.old) (W.written sink.new) (spec.label_text page.now callers.now lanes.now sign.now)) }
+fn write_label<W: Sink>(sink: &mut W, page: &Page, top: u64, sign: &Sign) -> Result<(), WriteFault>
+    requires { top ≤ 10000000000000000000 }
+    ensures ok { OnOk result (Appends (W.written sink.old) (W.written sink.new) (spec.label_text page.now top sign.now)) }
+    ensures err { OnErr result (AppendsFront (W.written sink.old) (W.written sink.new) (spec.label_text page.now top sign.now)) }
     ensures grown { W.troubles sink.old ≤ W.troubles sink.new }
     ensures fault { OnErr result (Rises (W.troubles sink.old) (W.troubles sink.new)) }
 {
     if has_label(page, sign) {
-        let numbers = label_numbers(page, callers, lanes, sign);
+        let numbers = label_numbers(page, top, sign);
         write_filled(sink, label_template(), &numbers)
     } else {
         Ok(())
     }
 }
 
-/// Writes a sign that is shown.
-#[tactic(auto, unfolding(crate::specs::SignText::sign_shown))]
-fn write_shown<W: Sink>(
+/// Writes a sign.
+#[tactic(auto, unfolding(crate::specs::SignText::sign_text))]
+pub(crate) fn write_sign<W: Sink>(
     sink: &mut W,
     page: &Page,
-    callers: &[CallerLane],
-    lanes: &[WorkerId],
     entries: &[Entry],
+    top: u64,
     sign: &Sign,
 ) -> Result<(), WriteFault>
-    requires callers { length callers.now ≤ most_callers }
-    requires lanes { length lanes.now ≤ most_lanes }
-    ensures ok { OnOk result (Appends (W.written sink.old) (W.written sink.new) (spec.sign_shown page.now callers.now lanes.now entries.now sign.now)) }
-    ensures err { OnErr result (AppendsFront (W.written sink.old) (W.written sink.new) (spec.sign_shown page.now callers.now lanes.now entries.now sign.now)) }
+    requires { top ≤ 10000000000000000000 }
+    ensures ok { OnOk result (Appends (W.written sink.old) (W.written sink.new) (spec.sign_text page.now entries.now top sign.now)) }
+    ensures err { OnErr result (AppendsFront (W.written sink.old) (W.written sink.new) (spec.sign_text page.now entries.now top sign.now)) }
     ensures grown { W.troubles sink.old ≤ W.troubles sink.new }
     ensures fault { OnErr result (Rises (W.troubles sink.old) (W.troubles sink.new)) }
 {
-    write_label(sink, page, callers, lanes, sign)?;
-    let numbers = sign_numbers(page, callers, lanes, sign);
+    write_label(sink, page, top, sign)?;
+    let numbers = sign_numbers(page, top, sign);
     write_filled(sink, sign_template(sign.kind), &numbers)?;
     write_told(sink, entries, sign.at)?;
-    Ok(())
-}
-
-/// Writes a sign, if it is shown.
-fn write_sign<W: Sink>(
-    sink: &mut W,
-    page: &Page,
-    callers: &[CallerLane],
-    lanes: &[WorkerId],
-    entries: &[Entry],
-    sign: &Sign,
-) -> Result<(), WriteFault>
-    requires callers { length callers.now ≤ most_callers }
-    requires lanes { length lanes.now ≤ most_lanes }
-    ensures ok { OnOk result (Appends (W.written sink.old) (W.written sink.new) (spec.sign_text page.now callers.now lanes.now entries.now sign.now)) }
-    ensures err { OnErr result (AppendsFront (W.written sink.old) (W.written sink.new) (spec.sign_text page.now callers.now lanes.now entries.now sign.now)) }
-    ensures grown { W.troubles sink.old ≤ W.troubles sink.new }
-    ensures fault { OnErr result (Rises (W.troubles sink.old) (W.troubles sink.new)) }
-{
-    if page.is_shown(sign.at) {
-        write_shown(sink, page, callers, lanes, entries, sign)
-    } else {
-        Ok(())
-    }
-}
-
-/// Writes signs.
-pub(crate) fn write_signs<W: Sink>(
-    sink: &mut W,
-    page: &Page,
-    callers: &[CallerLane],
-    lanes: &[WorkerId],
-    entries: &[Entry],
-    signs: &[Sign],
-) -> Result<(), WriteFault>
-    requires callers { length callers.now ≤ most_callers }
-    requires lanes { length lanes.now ≤ most_lanes }
-    ensures ok { OnOk result (Appends (W.written sink.old) (W.written sink.new) (spec.signs_text page.now callers.now lanes.now entries.now signs.now)) }
-    ensures err { OnErr result (AppendsFront (W.written sink.old) (W.written sink.new) (spec.signs_text page.now callers.now lanes.now entries.now signs.now)) }
-    ensures grown { W.troubles sink.old ≤ W.troubles sink.new }
-    ensures fault { OnErr result (Rises (W.troubles sink.old) (W.troubles sink.new)) }
-{
-    for sign in signs {
-        write_sign(sink, page, callers, lanes, entries, sign)?;
-    }
     Ok(())
 }
 
@@ -246,75 +163,30 @@ fn wait_sign_template(is_done: bool) -> &'static str
 }
 
 /// What the template of a sign on a wait is filled with.
-fn wait_sign_numbers(page: &Page, callers: &[CallerLane], sign: &WaitSign) -> [u64; 2]
-    requires { length callers.now ≤ most_callers }
-    ensures { result ≡ spec.wait_sign_numbers page.now callers.now sign.now }
+fn wait_sign_numbers(page: &Page, top: u64, sign: &WaitSign) -> [u64; 2]
+    requires { top ≤ 10000000000000000000 }
+    ensures { result ≡ spec.wait_sign_numbers page.now top sign.now }
 {
-    let band = page.band_of(sign.at.into());
-    [
-        page.middle_of(sign.at.into()),
-        wait_top(page, callers, band, sign.caller, sign.row) + 7,
-    ]
+    [page.middle_of(sign.at.into()), wait_top(top, sign.row) + 7]
 }
 
-/// Writes a sign on a wait that is shown.
-#[tactic(auto, unfolding(crate::specs::SignText::wait_sign_shown))]
-fn write_wait_sign_shown<W: Sink>(
+/// Writes a sign on a wait.
+#[tactic(auto, unfolding(crate::specs::SignText::wait_sign_text))]
+pub(crate) fn write_wait_sign<W: Sink>(
     sink: &mut W,
     page: &Page,
-    callers: &[CallerLane],
     entries: &[Entry],
+    top: u64,
     sign: &WaitSign,
 ) -> Result<(), WriteFault>
-    requires { length callers.now ≤ most_callers }
-    ensures ok { OnOk result (Appends (W.written sink.old) (W.written sink.new) (spec.wait_sign_shown page.now callers.now entries.now sign.now)) }
-    ensures err { OnErr result (AppendsFront (W.written sink.old) (W.written sink.new) (spec.wait_sign_shown page.now callers.now entries.now sign.now)) }
+    requires { top ≤ 10000000000000000000 }
+    ensures ok { OnOk result (Appends (W.written sink.old) (W.written sink.new) (spec.wait_sign_text page.now entries.now top sign.now)) }
+    ensures err { OnErr result (AppendsFront (W.written sink.old) (W.written sink.new) (spec.wait_sign_text page.now entries.now top sign.now)) }
     ensures grown { W.troubles sink.old ≤ W.troubles sink.new }
     ensures fault { OnErr result (Rises (W.troubles sink.old) (W.troubles sink.new)) }
 {
-    let numbers = wait_sign_numbers(page, callers, sign);
+    let numbers = wait_sign_numbers(page, top, sign);
     write_filled(sink, wait_sign_template(sign.is_done), &numbers)?;
     write_told(sink, entries, sign.at)?;
-    Ok(())
-}
-
-/// Writes a sign on a wait, if it is shown.
-fn write_wait_sign<W: Sink>(
-    sink: &mut W,
-    page: &Page,
-    callers: &[CallerLane],
-    entries: &[Entry],
-    sign: &WaitSign,
-) -> Result<(), WriteFault>
-    requires { length callers.now ≤ most_callers }
-    ensures ok { OnOk result (Appends (W.written sink.old) (W.written sink.new) (spec.wait_sign_text page.now callers.now entries.now sign.now)) }
-    ensures err { OnErr result (AppendsFront (W.written sink.old) (W.written sink.new) (spec.wait_sign_text page.now callers.now entries.now sign.now)) }
-    ensures grown { W.troubles sink.old ≤ W.troubles sink.new }
-    ensures fault { OnErr result (Rises (W.troubles sink.old) (W.troubles sink.new)) }
-{
-    if page.is_shown(sign.at) {
-        write_wait_sign_shown(sink, page, callers, entries, sign)
-    } else {
-        Ok(())
-    }
-}
-
-/// Writes signs on waits.
-pub(crate) fn write_wait_signs<W: Sink>(
-    sink: &mut W,
-    page: &Page,
-    callers: &[CallerLane],
-    entries: &[Entry],
-    signs: &[WaitSign],
-) -> Result<(), WriteFault>
-    requires { length callers.now ≤ most_callers }
-    ensures ok { OnOk result (Appends (W.written sink.old) (W.written sink.new) (spec.wait_signs_text page.now callers.now entries.now signs.now)) }
-    ensures err { OnErr result (AppendsFront (W.written sink.old) (W.written sink.new) (spec.wait_signs_text page.now callers.now entries.now signs.now)) }
-    ensures grown { W.troubles sink.old ≤ W.troubles sink.new }
-    ensures fault { OnErr result (Rises (W.troubles sink.old) (W.troubles sink.new)) }
-{
-    for sign in signs {
-        write_wait_sign(sink, page, callers, entries, sign)?;
-    }
     Ok(())
 }

@@ -1,5 +1,5 @@
 -- What a run of `chart` reads, writes and answers.
-use Rattle.std.specs.Prelude.{ℕ, ◌+◌, ◌*◌, List, [], length, Result, Ok, Err, Option, None, Some}
+use Rattle.std.specs.Prelude.{ℕ, List, [], length, Result, Ok, Err, Option, None, Some}
 use Rattle.std.specs.Io.KnownBytes.{Appends, Keeps}
 use Rattle.cmwq_io.specs.Moves.{AppendsFront}
 use Rattle.cmwq_model.specs.declared.entry.Entry.{Entry}
@@ -12,31 +12,22 @@ use Rattle.cmwq_base.specs.Kinds.{history_file_of}
 use Rattle.cmwq_cmd_history.specs.Ends.{Word, RunEnds}
 use Rattle.cmwq_cmd_history.specs.Check.{IsVerdict}
 use Rattle.cmwq_chart.specs.Bars.{bars_of}
-use Rattle.cmwq_chart.specs.CallerWaits.{callers_of, caller_waits_of, wait_signs_of, rows_of_callers}
+use Rattle.cmwq_chart.specs.CallerWaits.{callers_of, caller_waits_of, wait_signs_of}
 use Rattle.cmwq_chart.specs.Lanes.{lanes_of}
 use Rattle.cmwq_chart.specs.Levels.{levels_of}
 use Rattle.cmwq_chart.specs.Shapes.{callers_in, places_in}
 use Rattle.cmwq_chart.specs.Signs.{signs_of}
 use Rattle.cmwq_chart.specs.Sleeps.{sleeps_of}
-use Rattle.cmwq_chart_text.specs.declared.page.Page.{Page}
 use Rattle.cmwq_chart_text.specs.declared.page.Window.{Window}
-use Rattle.cmwq_chart_text.specs.Pages.{page_of}
-use Rattle.cmwq_chart_text.specs.PictureText.{picture_text}
-
--- below the callers' rows stands one for each worker, and two for each place
-abbrev pub rows_below : Layout → List Entry → ℕ
-rows_below s entries = length (lanes_of s entries) + 2 * length (places_in s entries)
-
-abbrev pub page_in : Window → Layout → List Entry → Page
-page_in w s entries = page_of w (length entries) (rows_of_callers (callers_in s entries)) (rows_below s entries)
+use Rattle.cmwq_chart_text.specs.Figures.{figures_of, rows_of}
+use Rattle.cmwq_chart_text.specs.PictureText.{drawing_of, picture_text}
 
 -- the picture of what a window shows of a history
 unfoldable pub chart_text : Window → Layout → List Entry → List ℕ
 chart_text w s entries =
-    picture_text (page_in w s entries) entries
-    (callers_in s entries) (caller_waits_of (past_of entries) (callers_of s entries)) (wait_signs_of (past_of entries) (callers_of s entries))
-    (lanes_of s entries) (bars_of (past_of entries)) (sleeps_of (past_of entries) (lanes_of s entries)) (signs_of (past_of entries))
-    (places_in s entries) (levels_of s (past_of entries) (places_in s entries))
+    picture_text (drawing_of w (length entries) (rows_of (callers_in s entries) (lanes_of s entries) (places_in s entries))
+    (figures_of (caller_waits_of (past_of entries) (callers_of s entries)) (wait_signs_of (past_of entries) (callers_of s entries)) (bars_of (past_of entries))
+    (sleeps_of (past_of entries) (lanes_of s entries)) (signs_of (past_of entries)) (levels_of s (past_of entries) (places_in s entries)))) entries
 
 -- of a legal history its picture, of another nothing
 abbrev pub charted_text : Window → File Entry → Option Illegal → List ℕ

@@ -1,26 +1,42 @@
 //! The word `chart`.
 
-ghost use Rattle.std.specs.Prelude.{◌≡◌, ◌≤◌, length, Option, Result, IfSome, IsErrOf, OnOk};
+ghost use Rattle.std.specs.Prelude.{◌≡◌, ◌≤◌, length, Option, Result, IfSome, IsErrOf, IfOk, OnErr, OnOk, Err};
 ghost use Rattle.cmwq_io.specs.Counts.{Rises};
 ghost use Rattle.cmwq_model.specs.declared.verdict.Illegal.{Illegal as TheIllegal};
 ghost use Rattle.cmwq_model.specs.Prelude.{IsLegal, past_of};
 ghost use Rattle.cmwq_base.specs.declared.refusal.Refusal.{Refusal as TheRefusal};
 ghost use Rattle.cmwq_cmd_history.specs.Check.{check_status};
 ghost use Rattle.cmwq_cmd_history.specs.Upgrade.{IsFlushed};
+ghost use Rattle.cmwq_chart_text.specs.PictureText.{picture_text};
 ghost use Rattle.cmwq_cmd_chart.specs.Chart.{ChartEnds, DrawEnds, chart_text};
 
 use cmwq_base::{Entry, Illegal, Refusal, Shape, Sink, Source, read_history, tell};
-use cmwq_chart::rows_of_callers;
 use cmwq_chart_levels::shapes_of;
-use cmwq_chart_text::{Page, Window, write_picture};
+use cmwq_chart_text::{Picture, Window};
 use cmwq_cmd_history::tell_illegal;
 use std::alloc::Global;
 
 /// More entries than these are not kept, so that none of them can bring the time beyond what a judge knows.
 const MOST_KEPT: usize = 1_073_741_824;
 
-/// Writes the picture of what a window shows of a legal history. All memory is taken before the first byte is written.
+/// The picture of what a window shows of a legal history.
 #[tactic(auto, unfolding(crate::specs::Chart::chart_text))]
+fn picture_of(
+    alloc: Global,
+    window: Window,
+    shape: &Shape,
+    entries: &[Entry],
+) -> Result<Picture, Refusal>
+    requires few { length entries.now ≤ 1073741824 }
+    requires legal { IsLegal shape.now (past_of entries.now) }
+    ensures picture { IfOk result (λ picture. picture_text picture entries.now ≡ chart_text window shape.now entries.now) }
+    ensures err { OnErr result (result ≡ Err Refusal.NoMemory) }
+{
+    let shapes = shapes_of(alloc, shape, entries)?;
+    Ok(Picture::new(alloc, window, entries.len(), &shapes)?)
+}
+
+/// Writes the picture of what a window shows of a legal history. All memory is taken before the first byte is written.
 fn draw<O: Sink>(
     alloc: Global,
     output: &mut O,
@@ -34,24 +50,8 @@ fn draw<O: Sink>(
     ensures flushed { OnOk result (O.held output.new ≡ 0) }
     ensures fault { IsErrOf result Refusal.WriteFault → Rises (O.troubles output.old) (O.troubles output.new) }
 {
-    let shapes = shapes_of(alloc, shape, entries)?;
-    let caller_rows = rows_of_callers(&shapes.callers.lanes);
-    let rows_below = shapes.lanes.len() + 2 * shapes.places.len();
-    let page = Page::new(window, entries.len(), caller_rows, rows_below);
-    write_picture(
-        output,
-        &page,
-        entries,
-        &shapes.callers.lanes,
-        &shapes.callers.waits,
-        &shapes.callers.signs,
-        &shapes.lanes,
-        &shapes.bars,
-        &shapes.sleeps,
-        &shapes.signs,
-        &shapes.places,
-        &shapes.levels,
-    )?;
+    let picture = picture_of(alloc, window, shape, entries)?;
+    picture.write(output, entries)?;
     Ok(())
 }
 
