@@ -262,6 +262,24 @@ fn as_many_as_may_be(rt: HostRuntime) -> Result<(), Fail> {
     Ok(())
 }
 
+/// The reserve past the 64th worker, which has no bit: each start enlists the next.
+#[test]
+fn more_workers_than_a_shape_has(rt: HostRuntime) -> Result<(), Fail> {
+    let mut pools = Pools::new(rt.alloc(), 1, 255, 255)?;
+    for item in 0..255 {
+        add(&rt, &mut pools, 0, u64::from(item), ItemId(item), false);
+    }
+    for worker in 0..255 {
+        let enlisted = would_enlist(&rt, &pools, 0, worker);
+        assert_eq!(rt; enlisted, (worker < 254).then(|| worker + 1));
+        assert_eq!(rt; start(&rt, &mut pools, 0, worker), enlisted);
+        assert_eq!(rt; runnable(&rt, &pools, 0), 1);
+        sleep(&rt, &mut pools, 0, worker);
+    }
+    assert_eq!(rt; runnable(&rt, &pools, 0), 0);
+    Ok(())
+}
+
 fn finish_first(rt: &impl Abort, pools: &mut Pools) -> Number {
     wake(rt, pools, 127, 0);
     finish(rt, pools, 127, 0)
