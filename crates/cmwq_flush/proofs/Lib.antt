@@ -10,3 +10,4 @@ mod Orderly
 mod Rightness
 mod Queues
 mod ItemRows
+mod NodeRowSteps

@@ -9,3 +9,4 @@ pub mod FlushBook
 pub mod Colouring
 pub mod Queues
 pub mod FlushBooks
+pub mod NodeRows

@@ -4,6 +4,7 @@
 mod books;
 mod flushes;
 mod limits;
+mod node_rows;
 mod openings;
 mod overflow;
 mod served;

@@ -4,6 +4,7 @@ ghost use Rattle.cmwq_flush.specs.Numbers.{AreRising};
 ghost use Rattle.cmwq_flush.specs.Rows.{row_numbers, rows_at, rows_with, rows_without};
 ghost use Rattle.cmwq_flush.specs.Openings.{has_number, is_listed, node_number, numbers_in};
 
+use crate::node_rows::NodeRows;
 use cmwq_list::Lists;
 use cmwq_model::{ItemId, Number, QueueId};
 use std::alloc::{AllocError, Global};
@@ -65,7 +66,7 @@ pub(crate) struct Openings {
     items: u16,
     lists: Lists,
     /// What each node that is in a list stands for.
-    rows: Vec<Row>,
+    rows: NodeRows,
 }
 
 impl Model for Openings {
@@ -74,9 +75,9 @@ impl Model for Openings {
 
     ghost Value = { OpenRows };
 
-    ghost view = { λ o. record { rows = rows_of o.lists.lists o.rows.items; opened = opened_by o.lists.lists o.rows.items o.items } };
+    ghost view = { λ o. record { rows = rows_of o.lists.lists o.rows; opened = opened_by o.lists.lists o.rows o.items } };
 
-    ghost invariant = { λ o. AreOpenings o.items o.lists o.rows.items };
+    ghost invariant = { λ o. AreOpenings o.items o.lists o.rows };
 }
 
 impl Openings {
@@ -88,10 +89,7 @@ impl Openings {
         Ok(Openings {
             items,
             lists: Lists::new(alloc, queues, nodes)?,
-            rows: vec![in alloc; Row {
-                number: 0,
-                colour: 0
-            }; nodes as usize]?,
+            rows: NodeRows::new(alloc, nodes)?,
         })
     }
 
@@ -104,7 +102,7 @@ impl Openings {
         ensures { self.new ≡ rows_with self.old queue.0 item.0 row }
     {
         let node = free_node(&self.lists, item);
-        self.rows[node as usize] = row;
+        self.rows.put(node, row);
         self.lists.push_back(u16::from(queue.0), node);
     }
 
@@ -116,7 +114,7 @@ impl Openings {
     {
         let node = node_of(&self.lists, &self.rows, item, number);
         self.lists.remove(node);
-        self.rows[node as usize].colour
+        self.rows.at(node).colour
     }
 
     /// The least open number of a queue.
@@ -125,7 +123,7 @@ impl Openings {
         ensures { result ≡ slice_get (row_numbers (rows_at self.now.rows queue.0)) 0 }
     {
         let node = self.lists.first(u16::from(queue.0))?;
-        Some(self.rows[node as usize].number)
+        Some(self.rows.at(node).number)
     }
 
     /// Whether nothing is open of a queue.
@@ -197,7 +195,7 @@ fn free_node(lists: &Lists, item: ItemId) -> u32
 }
 
 /// The one of an item's two nodes that is in a list with this number, if one of them is.
-fn node_of(lists: &Lists, rows: &[Row], item: ItemId, number: Number) -> u32
+fn node_of(lists: &Lists, rows: &NodeRows, item: ItemId, number: Number) -> u32
     requires there { 2 * item.0 < lists.now.items }
     requires many { length rows.now ≡ lists.now.items }
     ensures { result ≡ (if has_number lists.now.lists rows.now (2 * item.0) number then 2 * item.0 else 2 * item.0 + 1) }
@@ -211,13 +209,13 @@ fn node_of(lists: &Lists, rows: &[Row], item: ItemId, number: Number) -> u32
 }
 
 /// The number of a node that is in a list.
-fn number_at(lists: &Lists, rows: &[Row], node: u32) -> Option<Number>
+fn number_at(lists: &Lists, rows: &NodeRows, node: u32) -> Option<Number>
     requires there { node < lists.now.items }
     requires many { length rows.now ≡ lists.now.items }
     ensures { result ≡ node_number lists.now.lists rows.now node }
 {
     if lists.list_of(node).is_some() {
-        Some(rows[node as usize].number)
+        Some(rows.at(node).number)
     } else {
         None
     }

@@ -14,41 +14,41 @@ read lists rows items i node o p there at first second =
 pub number_at-requires-clause-there : goal.number_at-requires-clause-there
 number_at-requires-clause-there c =
     let s = c.self.inside in
-    let there = item_inside s.lists.lists s.rows.items s.items c.args.item.0 (rw (← c.self.view_is) at c.requires) in
+    let there = item_inside s.lists.lists s.rows s.items c.args.item.0 (rw (← c.self.view_is) at c.requires) in
     omega (arith, c.from-node.ensures, c.self.invariant.nodes)
 
 pub number_at-requires-2-clause-there : goal.number_at-requires-2-clause-there
 number_at-requires-2-clause-there c =
     let s = c.self.inside in
-    let there = item_inside s.lists.lists s.rows.items s.items c.args.item.0 (rw (← c.self.view_is) at c.requires) in
+    let there = item_inside s.lists.lists s.rows s.items c.args.item.0 (rw (← c.self.view_is) at c.requires) in
     omega (arith, c.from-node.ensures, c.self.invariant.nodes)
 
 pub returns-in-None-None-clause-numbers : goal.returns-in-None-None-clause-numbers
 returns-in-None-None-clause-numbers c =
     let s = c.self.inside in
-    let there = item_inside s.lists.lists s.rows.items s.items c.args.item.0 (rw (← c.self.view_is) at c.requires) in
-    rw (← c.self.view_is) (ap₂ by_age (sym c.in-None-None.is-0) (sym c.in-None-None.is-1) ∙ read s.lists.lists s.rows.items s.items c.args.item.0 c.from-node.result _ _ there c.from-node.ensures (rw c.deref.ensures.value at c.number_at.ensures) (rw c.deref-2.ensures.value at c.number_at-2.ensures))
+    let there = item_inside s.lists.lists s.rows s.items c.args.item.0 (rw (← c.self.view_is) at c.requires) in
+    rw (← c.self.view_is) (ap₂ by_age (sym c.in-None-None.is-0) (sym c.in-None-None.is-1) ∙ read s.lists.lists s.rows s.items c.args.item.0 c.from-node.result _ _ there c.from-node.ensures c.number_at.ensures c.number_at-2.ensures)
 
 pub returns-in-None-Some-clause-numbers : goal.returns-in-None-Some-clause-numbers
 returns-in-None-Some-clause-numbers c =
     let s = c.self.inside in
-    let there = item_inside s.lists.lists s.rows.items s.items c.args.item.0 (rw (← c.self.view_is) at c.requires) in
-    rw (← c.self.view_is) (ap₂ by_age (sym c.in-None-Some.is-0) (sym c.in-None-Some.is-1) ∙ read s.lists.lists s.rows.items s.items c.args.item.0 c.from-node.result _ _ there c.from-node.ensures (rw c.deref.ensures.value at c.number_at.ensures) (rw c.deref-2.ensures.value at c.number_at-2.ensures))
+    let there = item_inside s.lists.lists s.rows s.items c.args.item.0 (rw (← c.self.view_is) at c.requires) in
+    rw (← c.self.view_is) (ap₂ by_age (sym c.in-None-Some.is-0) (sym c.in-None-Some.is-1) ∙ read s.lists.lists s.rows s.items c.args.item.0 c.from-node.result _ _ there c.from-node.ensures c.number_at.ensures c.number_at-2.ensures)
 
 pub returns-in-Some-None-clause-numbers : goal.returns-in-Some-None-clause-numbers
 returns-in-Some-None-clause-numbers c =
     let s = c.self.inside in
-    let there = item_inside s.lists.lists s.rows.items s.items c.args.item.0 (rw (← c.self.view_is) at c.requires) in
-    rw (← c.self.view_is) (ap₂ by_age (sym c.in-Some-None.is-0) (sym c.in-Some-None.is-1) ∙ read s.lists.lists s.rows.items s.items c.args.item.0 c.from-node.result _ _ there c.from-node.ensures (rw c.deref.ensures.value at c.number_at.ensures) (rw c.deref-2.ensures.value at c.number_at-2.ensures))
+    let there = item_inside s.lists.lists s.rows s.items c.args.item.0 (rw (← c.self.view_is) at c.requires) in
+    rw (← c.self.view_is) (ap₂ by_age (sym c.in-Some-None.is-0) (sym c.in-Some-None.is-1) ∙ read s.lists.lists s.rows s.items c.args.item.0 c.from-node.result _ _ there c.from-node.ensures c.number_at.ensures c.number_at-2.ensures)
 
 pub returns-in-Some-Some-clause-numbers : goal.returns-in-Some-Some-clause-numbers
 returns-in-Some-Some-clause-numbers c =
     let s = c.self.inside in
-    let there = item_inside s.lists.lists s.rows.items s.items c.args.item.0 (rw (← c.self.view_is) at c.requires) in
-    rw (← c.self.view_is) (sym (ordered c.in-Some-Some.one c.in-Some-Some.other true (grind (arith, nat_tests))) ∙ ap₂ by_age (sym c.in-Some-Some.is-0) (sym c.in-Some-Some.is-1) ∙ read s.lists.lists s.rows.items s.items c.args.item.0 c.from-node.result _ _ there c.from-node.ensures (rw c.deref.ensures.value at c.number_at.ensures) (rw c.deref-2.ensures.value at c.number_at-2.ensures))
+    let there = item_inside s.lists.lists s.rows s.items c.args.item.0 (rw (← c.self.view_is) at c.requires) in
+    rw (← c.self.view_is) (sym (ordered c.in-Some-Some.one c.in-Some-Some.other true (grind (arith, nat_tests))) ∙ ap₂ by_age (sym c.in-Some-Some.is-0) (sym c.in-Some-Some.is-1) ∙ read s.lists.lists s.rows s.items c.args.item.0 c.from-node.result _ _ there c.from-node.ensures c.number_at.ensures c.number_at-2.ensures)
 
 pub returns-in-Some-Some-2-clause-numbers : goal.returns-in-Some-Some-2-clause-numbers
 returns-in-Some-Some-2-clause-numbers c =
     let s = c.self.inside in
-    let there = item_inside s.lists.lists s.rows.items s.items c.args.item.0 (rw (← c.self.view_is) at c.requires) in
-    rw (← c.self.view_is) (sym (ordered c.in-Some-Some.one c.in-Some-Some.other false (grind (arith, nat_tests))) ∙ ap₂ by_age (sym c.in-Some-Some.is-0) (sym c.in-Some-Some.is-1) ∙ read s.lists.lists s.rows.items s.items c.args.item.0 c.from-node.result _ _ there c.from-node.ensures (rw c.deref.ensures.value at c.number_at.ensures) (rw c.deref-2.ensures.value at c.number_at-2.ensures))
+    let there = item_inside s.lists.lists s.rows s.items c.args.item.0 (rw (← c.self.view_is) at c.requires) in
+    rw (← c.self.view_is) (sym (ordered c.in-Some-Some.one c.in-Some-Some.other false (grind (arith, nat_tests))) ∙ ap₂ by_age (sym c.in-Some-Some.is-0) (sym c.in-Some-Some.is-1) ∙ read s.lists.lists s.rows s.items c.args.item.0 c.from-node.result _ _ there c.from-node.ensures c.number_at.ensures c.number_at-2.ensures)
