@@ -1,5 +1,6 @@
 -- The notes of items, as they are kept: the numbers, and beside them whether each is CPU intensive.
-use Rattle.cmwq_pool.specs.Common.{ℕ, Bool, List, [], ◌∷◌}
+use Rattle.std.specs.Prelude.{◌∷◌}
+use Rattle.cmwq_pool.specs.Common.{ℕ, Bool, List, []}
 use Rattle.cmwq_pool.specs.declared.note.Note.{Note}
 
 abbrev pub notes_of : List ℕ → List Bool → List Note
