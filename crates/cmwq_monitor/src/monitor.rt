@@ -55,7 +55,7 @@ impl<N: HubName> Model for Monitor<N> {
 
     ghost view = { λ d. record { history = d.execution.entries; closed = d.closed; failed = d.failed } };
 
-    ghost invariant = { λ d. (d.shape ≡ N.layout) × (d.execution.layout ≡ N.layout) × (d.execution.room ≡ N.layout.room) × (d.publisher ≡ d.execution.entries) × (d.entries.total ≡ length d.execution.entries) × (d.tail.all ≡ d.execution.entries) };
+    ghost invariant = { λ d. (d.shape ≡ N.layout) × (d.execution.layout ≡ N.layout) × (d.execution.room ≡ N.layout.room) × (d.publisher.entries ≡ d.execution.entries) × (d.entries.total ≡ length d.execution.entries) × (d.tail.all ≡ d.execution.entries) };
 }
 
 impl<N: HubName> Monitor<N> {
@@ -71,7 +71,7 @@ impl<N: HubName> Monitor<N> {
         requires shape { shape ≡ N.layout }
         requires execution { execution ≡ record { layout = N.layout; room = N.layout.room; entries = [] } }
         requires tail { tail.all ≡ [] }
-        requires publisher { publisher ≡ [] }
+        requires publisher { publisher.entries ≡ [] }
         requires entries { entries.total ≡ 0 }
         ensures { result ≡ held_at_first }
     {

@@ -4,3 +4,4 @@ pub mod Log
 pub mod Next
 pub mod Marked
 pub mod Published
+pub mod Publications

@@ -1,4 +1,4 @@
-ghost use Rattle.std.specs.Prelude.{◌≡◌, [], length, drop, replicate, All, IfOk, MatchResult};
+ghost use Rattle.std.specs.Prelude.{◌≡◌, [], length, drop, nat_le, replicate, All, IfOk, MatchResult};
 ghost use Rattle.left_right.specs.Sides.{view};
 ghost use Rattle.cmwq_publish.specs.Published.{AreVersions, AreVersionsOf, IsOut, IsOurs};
 
@@ -148,7 +148,7 @@ impl Opening {
     pub fn named<N: HubName>(self) -> (Publisher<N>, Readers<N>)
         requires layout { self.layout ≡ N.layout }
         requires book { self.book ≡ N.book }
-        ensures publisher { result.0 ≡ [] }
+        ensures publisher { result.0 ≡ record { entries = []; is_shown = nat_le 1 self.readers } }
         ensures readers { result.1 ≡ self.readers }
     {
         let Opening {
@@ -161,8 +161,9 @@ impl Opening {
             length,
             of: PhantomData,
         };
+        let is_shown = !readers.is_empty();
         (
-            Publisher::new(head, Prefix::of(seen, 0), writer),
+            Publisher::new(head, Prefix::of(seen, 0), writer, is_shown),
             Readers::new(readers),
         )
     }

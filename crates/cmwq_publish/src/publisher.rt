@@ -14,23 +14,25 @@ use core::mem::replace_with;
 use std::marker::Model;
 use std::sync::Wait;
 
-/// What the lock keeps of the published history. Contracts see it as the entries that are published, the oldest first.
+/// What the lock keeps of the published history. Contracts see the entries that are published, the oldest first, and whether they are shown to
+/// readers: where the hub has none, nothing is made for them.
 pub struct Publisher<N: HubName> {
     head: Head<N>,
     prefix: Prefix<N>,
     writer: BitsWriter,
+    is_shown: bool,
 }
 
 impl<N: HubName> Model for Publisher<N> {
-    ghost use Rattle.std.specs.Prelude.{List, drop};
-    ghost use Rattle.cmwq_model.specs.declared.entry.Entry.{Entry};
+    ghost use Rattle.std.specs.Prelude.{◌≡◌, drop, true};
+    ghost use Rattle.cmwq_publish.specs.Publications.{Publication};
     ghost use Rattle.cmwq_publish.specs.Published.{IsOut};
 
-    ghost Value = { List Entry };
+    ghost Value = { Publication };
 
-    ghost view = { λ s. s.prefix };
+    ghost view = { λ s. record { entries = s.prefix; is_shown = s.is_shown } };
 
-    ghost invariant = { λ s. IsOut N.layout N.book s.prefix s.writer.desk.shown.value (drop s.writer.behind s.writer.log.items) };
+    ghost invariant = { λ s. s.is_shown ≡ true → IsOut N.layout N.book s.prefix s.writer.desk.shown.value (drop s.writer.behind s.writer.log.items) };
 }
 
 // The caller, where it is one.
@@ -45,50 +47,58 @@ fn caller_of(who: Who) -> Option<CallerId>
 
 impl<N: HubName> Publisher<N> {
     // The publisher of a hub whose writer shows no entry.
-    pub(crate) fn new(head: Head<N>, prefix: Prefix<N>, writer: BitsWriter) -> Publisher<N>
+    pub(crate) fn new(
+        head: Head<N>,
+        prefix: Prefix<N>,
+        writer: BitsWriter,
+        is_shown: bool,
+    ) -> Publisher<N>
         requires { IsOut N.layout N.book prefix writer.desk.shown.value (drop writer.behind writer.log.items) }
-        ensures { result ≡ prefix }
+        ensures { result ≡ record { entries = prefix; is_shown = is_shown } }
     {
         Publisher {
             head,
             prefix,
             writer,
+            is_shown,
         }
     }
 
     /// Publishes one more entry, with the bits that its mark leaves. It waits for readers that still read the version
     /// before the last. After `NoMemory` nothing more is published, and each later call answers `NoMemory` too.
     pub fn publish<R: Wait>(&mut self, rt: &R, mark: Mark) -> Result<(), NoMemory>
-        requires next { IsNextMark N.layout self.old mark }
-        requires few { length self.old < 2 ^ 62 }
-        ensures { MatchResult result (λ _. self.new ≡ self.old ++ mark.entry ∷ []) (λ _. self.new ≡ self.old) }
+        requires next { IsNextMark N.layout self.old.entries mark }
+        requires few { length self.old.entries < 2 ^ 62 }
+        ensures { MatchResult result (λ _. self.new ≡ record self.old { entries = self.old.entries ++ mark.entry ∷ [] }) (λ _. self.new ≡ self.old) }
     {
         let Some(prefix) = self.prefix.extended(&self.head, mark.entry) else {
             return Err(NoMemory);
         };
-        let publish = Publish {
-            item: mark.item,
-            bits: mark.bits,
-            caller: caller_of(mark.entry.who),
-            serial: mark.entry.serial + 1,
-            len: prefix.len(),
-            seen: prefix.token(),
-        };
-        replace_with(
-            &mut self.writer,
-            publish,
-            |writer, publish| -> (BitsWriter, Result<(), NoMemory>)
-                requires { (drop writer.behind writer.log.items ≡ []) × FollowsVersions writer.desk.shown.value publish }
-                ensures { (drop result.0.behind result.0.log.items ≡ []) × MatchResult result.1 (λ _. ShowsVersion writer.desk.shown.value publish result.0.desk.shown.value (view result.0.desk.place)) (λ _. result.0.desk.shown.value ≡ writer.desk.shown.value) }
-            { put_out(rt, writer, publish) },
-        )?;
+        if self.is_shown {
+            let publish = Publish {
+                item: mark.item,
+                bits: mark.bits,
+                caller: caller_of(mark.entry.who),
+                serial: mark.entry.serial + 1,
+                len: prefix.len(),
+                seen: prefix.token(),
+            };
+            replace_with(
+                &mut self.writer,
+                publish,
+                |writer, publish| -> (BitsWriter, Result<(), NoMemory>)
+                    requires { (drop writer.behind writer.log.items ≡ []) × FollowsVersions writer.desk.shown.value publish }
+                    ensures { (drop result.0.behind result.0.log.items ≡ []) × MatchResult result.1 (λ _. ShowsVersion writer.desk.shown.value publish result.0.desk.shown.value (view result.0.desk.place)) (λ _. result.0.desk.shown.value ≡ writer.desk.shown.value) }
+                { put_out(rt, writer, publish) },
+            )?;
+        }
         self.prefix = prefix;
         Ok(())
     }
 
     /// All that is published.
     pub fn prefix(&self) -> &Prefix<N>
-        ensures { result.now ≡ self.now }
+        ensures { result.now ≡ self.now.entries }
     {
         &self.prefix
     }
@@ -99,6 +109,7 @@ impl<N: HubName> Publisher<N> {
             head: _head,
             prefix: _prefix,
             writer,
+            is_shown: _,
         } = self;
         writer.take(rt);
     }

@@ -1,6 +1,7 @@
 use Rattle.std.proofs.Common.{◌+◌, ap, ◌∙◌, refl, length, arith}
 use Rattle.cmwq_publish.specs.declared.versions.Publish.{Publish}
 use Rattle.cmwq_publish.specs.Next.{IsNextMark}
+use Rattle.cmwq_publish.specs.Publications.{Publication}
 use Rattle.cmwq_publish.proofs.Legally.{serial_below}
 use Rattle.cmwq_publish.proofs.Marking.{next_follows}
 use Rattle.cmwq_publish.proofs.publisher.Publisher.publish.Goals as goal
@@ -10,8 +11,8 @@ replace_with-requires g c =
     let mark = c.args.mark in
     let op : Publish = record { item = mark.item; bits = mark.bits; caller = c.caller_of.result; serial = mark.entry.serial + 1; len = c.len.result; seen = c.token.result } in
     let s = c.self.inside in
-    let out = c.self.invariant in
-    let next : IsNextMark g.N.HubName.layout s.prefix mark = rw c.self.view_is c.requires.next in
+    let out = c.self.invariant c.if-self.true in
+    let next : IsNextMark g.N.HubName.layout s.prefix mark = rw (ap (λ (p : Publication). p.entries) c.self.view_is) c.requires.next in
     let longer = c.in-Some.ensures in (
       out.2,
       next_follows s.writer.desk.shown.value g.N.HubName.layout g.N.HubName.book s.prefix mark op next out.0 out.1
@@ -20,6 +21,6 @@ replace_with-requires g c =
 
 pub overflow_add-publish : goal.overflow_add-publish
 overflow_add-publish g c =
-    let below = serial_below g.N.HubName.layout c.args.self.now c.args.mark.entry c.requires.next.legal in
+    let below = serial_below g.N.HubName.layout c.args.self.now.entries c.args.mark.entry c.requires.next.legal in
     let few = c.requires.few in
     omega (arith, below, few)
