@@ -29,6 +29,7 @@ impl FileLine for (Who, Call) {
         cmwq_text::read_queue_of_calls(line)
     }
 
+    #[inline(always)]
     fn read(version: u8, line: &[u8]) -> Option<Self> {
         cmwq_text::read_call_of_format(version, line)
     }
@@ -37,6 +38,7 @@ impl FileLine for (Who, Call) {
         false
     }
 
+    #[inline(always)]
     fn fits(&self, shape: &Shape) -> bool {
         let (who, call) = *self;
         shape.fits(who, call)
@@ -56,6 +58,7 @@ impl FileLine for Entry {
         cmwq_text::read_queue_of_format(version, line)
     }
 
+    #[inline(always)]
     fn read(version: u8, line: &[u8]) -> Option<Self> {
         cmwq_text::read_entry_of_format(version, line)
     }
@@ -64,6 +67,7 @@ impl FileLine for Entry {
         cmwq_text::needs_end(version)
     }
 
+    #[inline(always)]
     fn fits(&self, shape: &Shape) -> bool {
         cmwq_text::entry_fits(shape, self)
     }

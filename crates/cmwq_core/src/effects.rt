@@ -298,7 +298,7 @@ pub(crate) fn next_entry(state: &State, who: Who, call: Call) -> Entry
 
 /// What an entry does.
 #[inline(always)]
-fn effect_of(state: &State, entry: Entry) -> Effect
+pub(crate) fn effect_of(state: &State, entry: Entry) -> Effect
     requires legal { IsLegal state.now.layout (entry ∷ past_of state.now.entries) }
     ensures entry { result.entry ≡ entry }
     ensures is { IsEffect state.now.layout (past_of state.now.entries) result }

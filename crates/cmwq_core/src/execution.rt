@@ -10,6 +10,7 @@ ghost use Rattle.cmwq_core.specs.Plans.{IsPlan};
 ghost use Rattle.cmwq_core.specs.Relied.{IsReliable};
 
 use crate::effects::{effect, next_entry as predicted};
+use crate::entering::enter;
 use crate::marks::{bits_of, mark};
 use crate::plan::Plan;
 use cmwq_model::{Call, Entry, ItemId, Mark, NoMemory, Number, QueueId, Reply, Shape, Who};
@@ -122,7 +123,7 @@ impl Execution {
     ///
     /// # Errors
     /// `Full` where there is no room for the entry and for what would be owed then. The execution is then the old one.
-    #[inline]
+    #[inline(always)]
     pub fn next(&mut self, who: Who, call: Call) -> Result<Entry, Full>
         requires { IsTrue (fits self.old.layout who call) }
         ensures room { is_ok result ≡ takes self.old who call }
@@ -130,13 +131,9 @@ impl Execution {
         ensures execution { IfOk result (λ entry. self.new ≡ with_entry self.old entry) }
         ensures full { OnErr result (self.new ≡ self.old) }
     {
-        let effect = effect(&self.state, who, call);
-        if self.state.has_room(call, effect.owing) {
-            self.state.append(effect);
-            Ok(effect.entry)
-        } else {
-            Err(Full)
-        }
+        let entry = predicted(&self.state, who, call);
+        enter(&mut self.state, entry)?;
+        Ok(entry)
     }
 
     /// Whether the ticket with this number stands and waits for nothing, so that its end would be answered done. False of any

@@ -5,7 +5,9 @@ ghost use Rattle.cmwq_model.specs.Prelude.{fits, is_layout, IsLegal, past_of, en
 ghost use Rattle.cmwq_core.specs.History.{next_entry as entry_due, with_entry};
 ghost use Rattle.cmwq_core.specs.Judged.{seen_too};
 
-use crate::effects::{effect, next_entry};
+use crate::effects::next_entry;
+use crate::entering::enter;
+use crate::execution::Full;
 use cmwq_model::{Call, Entry, Illegal, NoMemory, Shape, Wanted};
 use cmwq_state::State;
 use std::alloc::Global;
@@ -158,14 +160,15 @@ fn judged(state: &mut State, entry: Entry) -> Option<Wanted>
     ensures wrong { IfSome result (Wants state.old.layout (past_of state.old.entries) entry) }
     ensures same { IfSome result (λ _. state.new ≡ state.old) }
 {
-    let effect = effect(state, entry.who, entry.call);
-    let due = effect.entry;
+    let due = next_entry(state, entry.who, entry.call);
     if entry.serial != due.serial {
         return Some(Wanted::Serial(due.serial));
     }
     if !entry.reply.is_same(due.reply) {
         return Some(Wanted::Reply(due.reply));
     }
-    state.append(effect);
-    None
+    match enter(state, due) {
+        Ok(()) => None,
+        Err(Full) => unreachable!(),
+    }
 }

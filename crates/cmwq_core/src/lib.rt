@@ -4,6 +4,7 @@
 mod answers;
 mod book;
 mod effects;
+mod entering;
 mod execution;
 mod judge;
 mod marks;

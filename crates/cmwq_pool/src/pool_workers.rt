@@ -58,6 +58,7 @@ impl PoolWorkers {
     }
 
     /// Puts another slot in a worker's place.
+    #[inline(always)]
     fn put(&mut self, worker: u8, slot: Slot)
         requires { worker < length self.old }
         ensures { self.new ≡ slice_set self.old worker slot }

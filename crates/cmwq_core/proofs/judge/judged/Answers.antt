@@ -1,14 +1,14 @@
-use Rattle.cmwq_core.specs.Common.{◌≡◌, ◌∷◌, true, sym, subst, arith, Entry, has_time, past_of}
-use Rattle.cmwq_core.proofs.OwedBound.{owed_few}
+use Rattle.cmwq_core.specs.Common.{◌≡◌, ◌∷◌, true, false, sym, subst, ap, ◌∙◌, Entry, IsLegal, past_of}
+use Rattle.cmwq_core.specs.History.{next_entry, takes}
+use Rattle.cmwq_core.proofs.OwedBound.{taken}
 use Rattle.cmwq_core.proofs.judge.judged.Goals as goal
 
-pub append-requires-clause-room : goal.append-requires-clause-room
-append-requires-clause-room c =
-    let few = owed_few c.args.state.now.layout (_ ∷ past_of c.args.state.now.entries) c.requires.inside c.effect-effect.ensures.is.legal in
-    let owing = c.effect-effect.ensures.is.owing in
-    let room = c.requires.room in
-    omega arith
-
-pub append-requires-clause-time : goal.append-requires-clause-time
-append-requires-clause-time c =
-    subst (λ (e : Entry). has_time (past_of c.args.state.now.entries) e.call ≡ true) (sym c.effect-effect.ensures.entry) c.requires.time
+pub unreachable-requires : goal.unreachable-requires
+unreachable-requires c =
+    let h = c.args.state.now in
+    let is = c.next_entry-due.ensures.entry in
+    let legal = subst (λ (e : Entry). IsLegal h.layout (e ∷ past_of h.entries)) is c.next_entry-due.ensures.legal in
+    let yes = taken h c.args.entry.who c.args.entry.call c.requires.inside c.requires.room c.requires.time legal in
+    let same : takes h c.next_entry-due.result.who c.next_entry-due.result.call ≡ takes h c.args.entry.who c.args.entry.call = ap (λ (e : Entry). takes h e.who e.call) is in
+    let no : false ≡ true = c.in-Err.ensures.room ∙ same ∙ yes in
+    cc

@@ -1,0 +1,55 @@
+//! An entry is made.
+
+ghost use Rattle.std.specs.Prelude.{◌≡◌, ◌∷◌, is_ok, OnErr, OnOk};
+ghost use Rattle.cmwq_model.specs.Prelude.{IsLegal};
+ghost use Rattle.cmwq_core.specs.History.{next_entry, past_in, takes, with_entry};
+
+use crate::effects::effect_of;
+use crate::execution::Full;
+use cmwq_model::{Entry, Reply};
+use cmwq_state::State;
+
+/// Makes the entry that its call gets next, if there is room.
+#[inline(always)]
+fn make(state: &mut State, entry: Entry) -> Result<(), Full>
+    requires next { entry ≡ next_entry state.old entry.who entry.call }
+    requires legal { IsLegal state.old.layout (entry ∷ past_in state.old) }
+    ensures room { is_ok result ≡ takes state.old entry.who entry.call }
+    ensures made { OnOk result (state.new ≡ with_entry state.old entry) }
+    ensures full { OnErr result (state.new ≡ state.old) }
+{
+    let effect = effect_of(state, entry);
+    if state.has_room(entry.call, effect.owing) {
+        state.append(effect);
+        Ok(())
+    } else {
+        Err(Full)
+    }
+}
+
+/// The same. What an entry does follows from its reply, so each of the replies that come most has code of its own, where the compiler knows what
+/// isn't done.
+#[inline(always)]
+pub(crate) fn enter(state: &mut State, entry: Entry) -> Result<(), Full>
+    requires next { entry ≡ next_entry state.old entry.who entry.call }
+    requires legal { IsLegal state.old.layout (entry ∷ past_in state.old) }
+    ensures room { is_ok result ≡ takes state.old entry.who entry.call }
+    ensures made { OnOk result (state.new ≡ with_entry state.old entry) }
+    ensures full { OnErr result (state.new ≡ state.old) }
+{
+    match entry.reply {
+        Reply::Yes(_) => make(state, entry),
+        Reply::Started(_) => make(state, entry),
+        Reply::StartedEnlist(_, _) => make(state, entry),
+        Reply::Finished(_) => make(state, entry),
+        Reply::Slept => make(state, entry),
+        Reply::Woke => make(state, entry),
+        Reply::Ticket(_) => make(state, entry),
+        Reply::Done => make(state, entry),
+        Reply::Booked(_) => make(state, entry),
+        Reply::Rebooked(_) => make(state, entry),
+        Reply::Now(_) => make(state, entry),
+        Reply::Fired(_, _) => make(state, entry),
+        _ => make(state, entry),
+    }
+}
