@@ -94,7 +94,7 @@ impl Judge {
         ensures wrong { IfErr result (Wants self.old.layout (past_of self.old.entries) entry) }
         ensures same { OnErr result (self.new ≡ self.old) }
     {
-        match judged(&mut self.state, entry) {
+        match judged(&mut self.state, &entry) {
             None => {
                 let _legal = self.state.len();
                 Ok(())
@@ -136,7 +136,7 @@ fn verdict(state: &mut State, entries: &[Entry]) -> Result<(), Illegal>
     ensures illegal { IfErr result (IsFirstWrong state.old.layout entries.now) }
 {
     for at in 0..entries.len() {
-        let entry = entries[at];
+        let entry = &entries[at];
         // it shows that they are few, on which the time rests
         let _ticks = entry.call.ticks();
         if let Some(wanted) = judged(state, entry) {
@@ -150,14 +150,14 @@ fn verdict(state: &mut State, entries: &[Entry]) -> Result<(), Illegal>
 }
 
 /// What should stand in the next entry where something else stands; an entry that is right is appended.
-fn judged(state: &mut State, entry: Entry) -> Option<Wanted>
-    requires fit { fits state.old.layout entry.who entry.call ≡ true }
+fn judged(state: &mut State, entry: &Entry) -> Option<Wanted>
+    requires fit { fits state.old.layout entry.now.who entry.now.call ≡ true }
     requires inside { IsTrue (is_layout state.old.layout) }
     requires room { length state.old.entries + MOST_OWED + 1 ≤ state.old.room }
-    requires time { has_time (past_of state.old.entries) entry.call ≡ true }
-    ensures right { result ≡ None → entry ≡ entry_due state.old entry.who entry.call }
-    ensures appended { result ≡ None → state.new ≡ with_entry state.old entry }
-    ensures wrong { IfSome result (Wants state.old.layout (past_of state.old.entries) entry) }
+    requires time { has_time (past_of state.old.entries) entry.now.call ≡ true }
+    ensures right { result ≡ None → entry.now ≡ entry_due state.old entry.now.who entry.now.call }
+    ensures appended { result ≡ None → state.new ≡ with_entry state.old entry.now }
+    ensures wrong { IfSome result (Wants state.old.layout (past_of state.old.entries) entry.now) }
     ensures same { IfSome result (λ _. state.new ≡ state.old) }
 {
     let due = next_entry(state, entry.who, entry.call);
