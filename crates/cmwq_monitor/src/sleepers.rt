@@ -67,7 +67,10 @@ struct Waiter {
 /// The waits that callers sleep for, and of each pool which workers sleep.
 #[derive(Drop)]
 pub struct Sleepers {
+    /// Those that are no flushes.
     waiters: Vec<Waiter>,
+    /// The flushes, in the order in which they were begun.
+    flushes: Vec<Waiter>,
     /// A word for each pool, in which a worker has the bit of its index.
     idle: Vec<u64>,
     wakes: Wakes,
@@ -82,8 +85,7 @@ fn place_of(pool: PoolId) -> usize {
     2 * usize::from(pool.cpu.0) + usize::from(pool.high)
 }
 
-/// Whether the end of this queueing may let the wait end. Flushes of a queue end in the order in which they were begun, and are looked at
-/// apart.
+/// Whether the end of this queueing may let the wait end, which is no flush.
 fn may_end_by(ticket: Ticket, ended: Queueing) -> bool {
     match ticket.call {
         Call::FlushItem { item } | Call::FlushDelayed { item } | Call::CancelSync { item } => item.0
@@ -158,10 +160,21 @@ fn is_flush_of(ticket: Ticket, queue: QueueId) -> bool {
     matches!(ticket.call, Call::Flush { queue: flushed } if flushed.0 == queue.0)
 }
 
-fn is_before(ticket: Ticket, first: Option<Ticket>) -> bool {
-    match first {
-        Some(first) => ticket.number < first.number,
-        None => true,
+/// Adds a waiter behind those whose waits were begun before, where there is space for it.
+fn add(waiters: &mut Vec<Waiter>, ticket: Ticket) {
+    if waiters.len() == waiters.capacity() {
+        return;
+    }
+    waiters.push_reserved(Waiter {
+        ticket,
+        is_woken: false,
+    });
+    // who was woken too early comes back behind younger ones
+    for place in (1..waiters.len()).rev() {
+        if waiters[place - 1].ticket.number < ticket.number {
+            return;
+        }
+        waiters.swap(place - 1, place);
     }
 }
 
@@ -192,6 +205,7 @@ impl Sleepers {
         let counts = shape.counts();
         Ok(Sleepers {
             waiters: Vec::with_capacity(alloc, usize::from(counts.callers))?,
+            flushes: Vec::with_capacity(alloc, usize::from(counts.callers))?,
             idle: Vec::from_elem(alloc, 0, 2 * usize::from(counts.cpus))?,
             wakes: NOBODY,
         })
@@ -199,11 +213,9 @@ impl Sleepers {
 
     /// A caller goes to sleep until its wait may end.
     pub fn waits(&mut self, ticket: Ticket) {
-        if self.waiters.len() < self.waiters.capacity() {
-            self.waiters.push_reserved(Waiter {
-                ticket,
-                is_woken: false,
-            });
+        match ticket.call {
+            Call::Flush { .. } => add(&mut self.flushes, ticket),
+            _ => add(&mut self.waiters, ticket),
         }
     }
 
@@ -220,6 +232,8 @@ impl Sleepers {
             Who::Caller(caller) => {
                 self.waiters
                     .retain(|waiter| waiter.ticket.caller.0 != caller.0);
+                self.flushes
+                    .retain(|waiter| waiter.ticket.caller.0 != caller.0);
             }
             Who::Worker(worker) => self.is_up(worker),
         }
@@ -235,8 +249,11 @@ impl Sleepers {
     pub fn changed(&mut self, book: &Execution, shape: &Shape, plan: &Plan)
         requires { book.now.layout ≡ shape.now }
     {
-        if !self.waiters.is_empty() {
-            self.wake_waiters(book, plan);
+        if let Some(ended) = plan.ended() {
+            self.wake_ended(book, ended);
+        }
+        if let Some(queue) = flushed_queue(plan) {
+            self.wake_flushes(book, queue);
         }
         match pools_touched_by(shape, plan.mark.entry) {
             Touched::None => {}
@@ -245,66 +262,29 @@ impl Sleepers {
         }
     }
 
-    fn wake_waiters(&mut self, book: &Execution, plan: &Plan) {
-        if let Some(ended) = plan.ended() {
-            self.wake_ended(book, ended);
-        }
-        if let Some(queue) = flushed_queue(plan) {
-            self.wake_flushes(book, queue);
-        }
-    }
-
     /// Wakes those who wait for the item or for all of the queue, where that has ended.
     fn wake_ended(&mut self, book: &Execution, ended: Queueing) {
-        for place in 0..self.waiters.len() {
-            let Some(waiter) = self.waiters.get(place) else {
-                return;
-            };
+        for waiter in self.waiters.iter_mut() {
             if !waiter.is_woken
                 && may_end_by(waiter.ticket, ended)
                 && book.ready(waiter.ticket.number)
             {
-                self.wake_waiter(place);
+                waiter.is_woken = true;
+                self.wakes.add_caller(waiter.ticket.caller);
             }
         }
-    }
-
-    fn wake_waiter(&mut self, place: usize) {
-        if let Some(waiter) = self.waiters.get_mut(place) {
-            waiter.is_woken = true;
-            self.wakes.add_caller(waiter.ticket.caller);
-        }
-    }
-
-    /// Of those who sleep in a flush of the queue, the place of the one that was begun first.
-    fn first_flush(&self, queue: QueueId) -> Option<usize> {
-        let mut first: Option<Ticket> = None;
-        let mut place = None;
-        for (index, waiter) in self.waiters.iter().enumerate() {
-            if !waiter.is_woken
-                && is_flush_of(waiter.ticket, queue)
-                && is_before(waiter.ticket, first)
-            {
-                first = Some(waiter.ticket);
-                place = Some(index);
-            }
-        }
-        place
     }
 
     /// Wakes those whose flush of the queue has ended, the oldest first, up to one that hasn't.
     fn wake_flushes(&mut self, book: &Execution, queue: QueueId) {
-        for _ in 0..self.waiters.len() {
-            let Some(place) = self.first_flush(queue) else {
-                return;
-            };
-            let Some(waiter) = self.waiters.get(place) else {
-                return;
-            };
-            if !book.ready(waiter.ticket.number) {
-                return;
+        for waiter in self.flushes.iter_mut() {
+            if is_flush_of(waiter.ticket, queue) && !waiter.is_woken {
+                if !book.ready(waiter.ticket.number) {
+                    return;
+                }
+                waiter.is_woken = true;
+                self.wakes.add_caller(waiter.ticket.caller);
             }
-            self.wake_waiter(place);
         }
     }
 
