@@ -4,3 +4,4 @@ mod OwedBound
 mod Judging
 pub mod Relied
 mod Marked
+pub mod Planned

@@ -100,8 +100,11 @@ impl Execution {
         ensures reply { result ≡ plan.now.mark.entry.reply }
         ensures entry { self.new ≡ with_entry self.old plan.now.mark.entry }
     {
-        self.state.append(plan.effect);
-        plan.effect.entry.reply
+        let entry = plan.mark.entry;
+        match enter(&mut self.state, entry) {
+            Ok(()) => entry.reply,
+            Err(Full) => unreachable!(),
+        }
     }
 
     /// What a step of this call would append, with the bits of the item that it can change.

@@ -14,6 +14,7 @@ pub struct Plan {
 
 impl Plan {
     /// The queueing that the entry ends.
+    #[inline(always)]
     pub fn ended(&self) -> Option<Queueing>
         ensures { result ≡ self.now.effect.ended }
     {
@@ -21,6 +22,7 @@ impl Plan {
     }
 
     /// The queueing that it starts.
+    #[inline(always)]
     pub fn started(&self) -> Option<Queueing>
         ensures { result ≡ self.now.effect.started }
     {
@@ -28,6 +30,7 @@ impl Plan {
     }
 
     /// The queueing that it opens.
+    #[inline(always)]
     pub fn opened(&self) -> Option<Queueing>
         ensures { result ≡ self.now.effect.opened }
     {
@@ -35,6 +38,7 @@ impl Plan {
     }
 
     /// The ticket that it ends.
+    #[inline(always)]
     pub fn done(&self) -> Option<Ticket>
         ensures { result ≡ self.now.effect.done }
     {

@@ -131,7 +131,13 @@ impl<N: HubName> Monitor<N> {
     fn wake(&mut self, plan: &Plan)
         ensures { self.new ≡ self.old }
     {
-        self.sleepers.changed(&self.execution, &self.shape, plan);
+        self.sleepers.changed(
+            &self.execution,
+            &self.shape,
+            plan.mark.entry,
+            plan.ended(),
+            plan.done(),
+        );
         if self.closed && self.execution.active_count() == 0 {
             self.sleepers.wake_workers();
         }

@@ -2,7 +2,7 @@
 
 ghost use Rattle.std.specs.Prelude.{◌≡◌};
 
-use cmwq_core::{Execution, Plan};
+use cmwq_core::Execution;
 use cmwq_model::{
     Call, CallerId, CpuId, Entry, NoMemory, PoolId, QueueId, Queueing, Reply, Shape, Ticket, Who,
     WorkerId,
@@ -96,11 +96,11 @@ fn may_end_by(ticket: Ticket, ended: Queueing) -> bool {
 }
 
 /// The queue whose flushes may end by an entry: that of what it ends, or of the flush that it ends, since another may be served then.
-fn flushed_queue(plan: &Plan) -> Option<QueueId> {
-    if let Some(ended) = plan.ended() {
+fn flushed_queue(ended: Option<Queueing>, done: Option<Ticket>) -> Option<QueueId> {
+    if let Some(ended) = ended {
         return Some(ended.place.queue);
     }
-    match plan.done()?.call {
+    match done?.call {
         Call::Flush { queue } => Some(queue),
         _ => None,
     }
@@ -245,17 +245,24 @@ impl Sleepers {
         }
     }
 
-    /// After an entry: those whose wait may end now, and a worker of each pool in which something may start.
-    pub fn changed(&mut self, book: &Execution, shape: &Shape, plan: &Plan)
+    /// After an entry that ended this queueing or ticket: those whose wait may end now, and a worker of each pool in which something may start.
+    pub fn changed(
+        &mut self,
+        book: &Execution,
+        shape: &Shape,
+        entry: Entry,
+        ended: Option<Queueing>,
+        done: Option<Ticket>,
+    )
         requires { book.now.layout ≡ shape.now }
     {
-        if let Some(ended) = plan.ended() {
+        if let Some(ended) = ended {
             self.wake_ended(book, ended);
         }
-        if let Some(queue) = flushed_queue(plan) {
+        if let Some(queue) = flushed_queue(ended, done) {
             self.wake_flushes(book, queue);
         }
-        match pools_touched_by(shape, plan.mark.entry) {
+        match pools_touched_by(shape, entry) {
             Touched::None => {}
             Touched::One(pool) => self.wake_pool(book, shape, pool),
             Touched::All => self.wake_pools(book, shape),
