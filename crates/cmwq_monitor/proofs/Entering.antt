@@ -1,6 +1,7 @@
 -- What a call of one entry leaves.
 use Rattle.cmwq_monitor.specs.Common.{◌≡◌, ◌+◌, ◌≤◌, List, [], ◌∷◌, ◌++◌, refl, ap, sym, ◌∙◌, subst, arith, append-nil, IsTrue, Bool, filter-append, IsPrefix, Who, Call, Entry, Mark, Layout, fits, serial_of, is_by, IsLegal, past_of, has_room, History, IsMark, takes, serials_rise}
 use Rattle.cmwq_publish.specs.Next.{IsNextMark}
+use Rattle.cmwq_publish.specs.Publications.{Publication}
 use Rattle.cmwq_monitor.specs.Participants.{View, Gains, made_by}
 use Rattle.cmwq_monitor.specs.Calls.{Extends, own_entry}
 use Rattle.cmwq_monitor.specs.Steps.{InStep}
@@ -64,9 +65,11 @@ gains_seen v log own step older = record {
   made = made_all v log own step.0 older ∙ sym (append-nil (made_by v.who v.seen));
 }
 
--- what was published is the history with the entry of the call
-pub shown_is : (s : Layout) (log publisher now : List Entry) (v : View) (call : Call) (m : Mark) → m.entry ≡ own_entry s log v call → publisher ≡ log → now ≡ publisher ++ m.entry ∷ [] → now ≡ log ++ own_entry s log v call ∷ []
-shown_is s log publisher now v call m entry same is = is ∙ ap (λ xs. xs ++ m.entry ∷ []) same ∙ ap (λ e. log ++ e ∷ []) entry
+-- what is published then is the history with the entry of the call
+pub shown_is : (s : Layout) (log now : List Entry) (before after : Publication) (v : View) (call : Call) (m : Mark) → m.entry ≡ own_entry s log v call → before.entries ≡ log
+    → after ≡ record before { entries = before.entries ++ m.entry ∷ [] } → now ≡ after.entries → now ≡ log ++ own_entry s log v call ∷ []
+shown_is s log now before after v call m entry same more is =
+    is ∙ ap (λ (p : Publication). p.entries) more ∙ ap (λ xs. xs ++ m.entry ∷ []) same ∙ ap (λ e. log ++ e ∷ []) entry
 
 -- what the Book says of room is said of the history under the lock
 pub room_is : (s : Layout) (h : History) (log : List Entry) (own who : Who) (call : Call) (b : Bool) → h.layout ≡ s → h.room ≡ s.room → h.entries ≡ log → own ≡ who → b ≡ takes h own call → has_room s s.room (past_of log) who call ≡ b

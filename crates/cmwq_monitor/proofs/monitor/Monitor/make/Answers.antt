@@ -2,7 +2,6 @@ use Rattle.cmwq_monitor.specs.Common.{◌≡◌, ◌+◌, ◌++◌, ◌∷◌, [
 use Rattle.cmwq_monitor.specs.Held.{Held}
 use Rattle.cmwq_monitor.specs.Calls.{own_entry}
 use Rattle.cmwq_monitor.specs.Participants.{View}
-use Rattle.cmwq_publish.specs.Publications.{Publication}
 use Rattle.cmwq_monitor.proofs.Entering.{serial_after, shown_is, extends, step_after, view_after}
 use Rattle.cmwq_monitor.proofs.monitor.Monitor.make.Goals as goal
 
@@ -12,7 +11,7 @@ count-requires-clause-own g c =
     let log = c.args.self.now.history in
     let held : c.self.inside.execution.entries ≡ log = ap (λ (h : Held). h.history) c.self.view_is in
     let v = c.args.participant.now in
-    let now_is = c.prefix.ensures ∙ shown_is s log c.self.inside.publisher.entries c.publish.new.self.entries v c.args.call c.args.plan.now.mark c.requires.plan.mark.is_next (c.self.invariant.3 ∙ held) (ap (λ (p : Publication). p.entries) c.in-Ok.ensures) in
+    let now_is = shown_is s log c.prefix.result.now c.self.inside.publisher c.publish.new.self v c.args.call c.args.plan.now.mark c.requires.plan.mark.is_next (c.self.invariant.3 ∙ held) c.in-Ok.ensures c.prefix.ensures in
     let after : serial_of (past_of c.prefix.result.now) v.who ≡ v.serial + 1 = rw now_is (serial_after s log v c.args.call c.requires.step.0) in
     let own = c.serial-serial.ensures.serial in omega (arith, after, own)
 
@@ -23,7 +22,7 @@ returns-clause-made g c =
     let held : c.self.inside.execution.entries ≡ log = ap (λ (h : Held). h.history) c.self.view_is in
     let v = c.args.participant.now in
     let call = c.args.call in
-    let now_is = c.prefix.ensures ∙ shown_is s log c.self.inside.publisher.entries c.publish.new.self.entries v call c.args.plan.now.mark c.requires.plan.mark.is_next (c.self.invariant.3 ∙ held) (ap (λ (p : Publication). p.entries) c.in-Ok.ensures) in
+    let now_is = shown_is s log c.prefix.result.now c.self.inside.publisher c.publish.new.self v call c.args.plan.now.mark c.requires.plan.mark.is_next (c.self.invariant.3 ∙ held) c.in-Ok.ensures c.prefix.ensures in
     let w_is : c.count.new.self ≡ view_after s log v call = c.count.ensures.seen ∙ rw (now_is, c.serial-serial.ensures.serial) refl in
     let reply_is : c.commit-reply.result ≡ (own_entry s log v call).reply = c.commit-reply.ensures.reply ∙ ap (λ (e : Entry). e.reply) c.requires.plan.mark.is_next in
     let entries_are : c.commit-reply.new.self.entries ≡ log ++ own_entry s log v call ∷ [] = ap (λ (h : History). h.entries) c.commit-reply.ensures.entry ∙ ap (λ (es : List Entry). es ++ c.args.plan.now.mark.entry ∷ []) held ∙ ap (λ (e : Entry). log ++ e ∷ []) c.requires.plan.mark.is_next in
@@ -40,7 +39,7 @@ returns-clause-seen g c =
     let log = c.args.self.now.history in
     let held : c.self.inside.execution.entries ≡ log = ap (λ (h : Held). h.history) c.self.view_is in
     let v = c.args.participant.now in
-    let now_is = c.prefix.ensures ∙ shown_is s log c.self.inside.publisher.entries c.publish.new.self.entries v c.args.call c.args.plan.now.mark c.requires.plan.mark.is_next (c.self.invariant.3 ∙ held) (ap (λ (p : Publication). p.entries) c.in-Ok.ensures) in
+    let now_is = shown_is s log c.prefix.result.now c.self.inside.publisher c.publish.new.self v c.args.call c.args.plan.now.mark c.requires.plan.mark.is_next (c.self.invariant.3 ∙ held) c.in-Ok.ensures c.prefix.ensures in
     ap (λ (w : View). w.seen) c.count.ensures.seen ∙ now_is
 
 pub returns-clause-reply : goal.returns-clause-reply
