@@ -1,5 +1,6 @@
 ghost use Rattle.std.specs.Prelude.{◌≡◌, codes, true, false, IfOk, IfErr, IsSome, Some, map};
-ghost use Rattle.clap.specs.Words.{kind_of, app_of, rule_of, found_of, rows_of, with_subcommand};
+ghost use Rattle.clap.specs.Words.{kind_of, app_of, new_app, rule_of, found_of, rows_of, with_rule, with_subcommand};
+ghost use Rattle.clap.specs.declared.builder.command.Command.TheViews.{out-Command as fields_of};
 ghost use Rattle.cmwq_cli.specs.Word.{without_words, with_word, with_flagged, with_lines, with_numbers, app, flag_rule, number_rule, number_found, has_flag, word_found, asked_found, texts, is_word_taken, word_matched};
 
 use clap::builder::ValueParser;
@@ -282,6 +283,28 @@ fn explaining<'a>(alloc: Global) -> Arg<'a>
     rule(alloc, flag)
 }
 
+/// A word without arguments: its name, what it does, and what its help shows below its usage.
+fn bare_word<'a>(alloc: Global, name: &'a str, about: &'a str, help: &'a str) -> Command<'a>
+    ensures shape { app_of result ≡ new_app name.entry.now }
+    ensures local { (fields_of result).has_globals ≡ false }
+{
+    Command::new(alloc, name).about(about).after_help(help)
+}
+
+/// The program with this word more, which gets the flag that explains.
+fn with_command<'a>(
+    alloc: Global,
+    program: Command<'a>,
+    word: Command<'a>,
+) -> Result<Command<'a>, AllocError>
+    requires { (fields_of word).has_globals ≡ false }
+    ensures { IfOk result (λ c. app_of c ≡ with_subcommand (app_of program.entry) (with_rule (app_of word.entry) (flag_rule (codes "explain"))).top) }
+{
+    let word = word.arg(explaining(alloc))?;
+    let command = program.subcommand(word)?;
+    Ok(command)
+}
+
 /// The program with one word more: its name, what it does, and what its help shows below its usage.
 fn with_word<'a>(
     alloc: Global,
@@ -292,11 +315,7 @@ fn with_word<'a>(
 ) -> Result<Command<'a>, AllocError>
     ensures { IfOk result (λ c. app_of c ≡ with_word (app_of program.entry) name.entry.now) }
 {
-    let word = Command::new(alloc, name)
-        .about(about)
-        .after_help(help)
-        .arg(explaining(alloc))?;
-    program.subcommand(word)
+    with_command(alloc, program, bare_word(alloc, name, about, help))
 }
 
 /// The same of a word with a flag more.
@@ -310,12 +329,8 @@ fn with_flagged<'a>(
 ) -> Result<Command<'a>, AllocError>
     ensures { IfOk result (λ c. app_of c ≡ with_flagged (app_of program.entry) name.entry.now flag.entry.name.now) }
 {
-    let word = Command::new(alloc, name)
-        .about(about)
-        .after_help(help)
-        .arg(rule(alloc, flag))?
-        .arg(explaining(alloc))?;
-    program.subcommand(word)
+    let word = bare_word(alloc, name, about, help).arg(rule(alloc, flag))?;
+    with_command(alloc, program, word)
 }
 
 /// The argument of an option with a number: two dashes, its name and the number.
@@ -343,12 +358,9 @@ fn with_numbers<'a>(
 ) -> Result<Command<'a>, AllocError>
     ensures { IfOk result (λ c. app_of c ≡ with_numbers (app_of program.entry) name.entry.now first.entry.name.now second.entry.name.now) }
 {
-    let word = Command::new(alloc, name).about(about).after_help(help);
-    let word = word.arg(number_rule(alloc, first))?;
+    let word = bare_word(alloc, name, about, help).arg(number_rule(alloc, first))?;
     let word = word.arg(number_rule(alloc, second))?;
-    let word = word.arg(explaining(alloc))?;
-    let command = program.subcommand(word)?;
-    Ok(command)
+    with_command(alloc, program, word)
 }
 
 /// The program with the words whose inputs are lines.

@@ -4,7 +4,7 @@ use crate::grammar::Grammar;
 use crate::members::{Path, names_in, say_value};
 use crate::names::say_names;
 use crate::objects::World;
-use crate::values::{Json, list_of};
+use crate::values::Json;
 use cmwq_explain::Text;
 use cmwq_json::is_name;
 use itoa::Buffer;
@@ -18,83 +18,117 @@ pub enum Maker {
     Item,
 }
 
-/// An argument of a sample: what stands for it, an item, a queue, a CPU, ticks, a max_active, a gate, or none.
-type Sample = (&'static str, [&'static str; 4]);
+/// What stands in a call behind its word.
+#[derive(Clone, Copy)]
+enum Argument {
+    Item,
+    Queue,
+    Cpu,
+    Ticks,
+    MaxActive,
+    Gate,
+}
 
-const ITEM: &str = "\"i\"";
+impl Argument {
+    /// What stands for it in a sample.
+    fn sample(self) -> &'static str {
+        match self {
+            Argument::Item => "\"i\"",
+            Argument::Queue => "\"q\"",
+            Argument::Cpu => "0",
+            Argument::Ticks => "4",
+            Argument::MaxActive => "5",
+            Argument::Gate => "\"g\"",
+        }
+    }
 
-const QUEUE: &str = "\"q\"";
+    /// What is expected where it should stand.
+    fn wanted(self) -> &'static str {
+        match self {
+            Argument::Item => "an item's name",
+            Argument::Queue => "a queue's name",
+            Argument::Cpu => "a CPU's number",
+            Argument::Ticks => "how many ticks",
+            Argument::MaxActive => "a max_active",
+            Argument::Gate => "a gate's name",
+        }
+    }
+}
 
-const GATE: &str = "\"g\"";
+/// A call or an action: its word, and its arguments.
+type Sample = (&'static str, [Option<Argument>; 4]);
 
-const CPU: &str = "0";
+const ITEM: Option<Argument> = Some(Argument::Item);
 
-const TICKS: &str = "4";
+const QUEUE: Option<Argument> = Some(Argument::Queue);
 
-const WIDTH: &str = "5";
+const CPU: Option<Argument> = Some(Argument::Cpu);
+
+const TICKS: Option<Argument> = Some(Argument::Ticks);
+
+const WIDTH: Option<Argument> = Some(Argument::MaxActive);
+
+const GATE: Option<Argument> = Some(Argument::Gate);
+
+const NONE: Option<Argument> = None;
 
 /// How many calls and actions there are.
 const SAMPLE_COUNT: usize = 16;
 
-/// A sample of each call and action: its word, and its arguments.
+/// Each call and action.
 const SAMPLES: [Sample; SAMPLE_COUNT] = [
-    ("queue", [ITEM, QUEUE, CPU, ""]),
+    ("queue", [ITEM, QUEUE, CPU, NONE]),
     ("delay", [ITEM, QUEUE, CPU, TICKS]),
     ("modify", [ITEM, QUEUE, CPU, TICKS]),
-    ("cancel", [ITEM, "", "", ""]),
-    ("cancel_sync", [ITEM, "", "", ""]),
-    ("tick", [TICKS, "", "", ""]),
-    ("flush", [QUEUE, "", "", ""]),
-    ("drain", [QUEUE, "", "", ""]),
-    ("destroy", [QUEUE, "", "", ""]),
-    ("flush_item", [ITEM, "", "", ""]),
-    ("flush_delayed", [ITEM, "", "", ""]),
-    ("set_max", [QUEUE, WIDTH, "", ""]),
-    ("freeze", ["", "", "", ""]),
-    ("thaw", ["", "", "", ""]),
-    ("open", [GATE, "", "", ""]),
-    ("sleep_at", [GATE, "", "", ""]),
+    ("cancel", [ITEM, NONE, NONE, NONE]),
+    ("cancel_sync", [ITEM, NONE, NONE, NONE]),
+    ("tick", [TICKS, NONE, NONE, NONE]),
+    ("flush", [QUEUE, NONE, NONE, NONE]),
+    ("drain", [QUEUE, NONE, NONE, NONE]),
+    ("destroy", [QUEUE, NONE, NONE, NONE]),
+    ("flush_item", [ITEM, NONE, NONE, NONE]),
+    ("flush_delayed", [ITEM, NONE, NONE, NONE]),
+    ("set_max", [QUEUE, WIDTH, NONE, NONE]),
+    ("freeze", [NONE, NONE, NONE, NONE]),
+    ("thaw", [NONE, NONE, NONE, NONE]),
+    ("open", [GATE, NONE, NONE, NONE]),
+    ("sleep_at", [GATE, NONE, NONE, NONE]),
 ];
 
-/// The sample with this number.
+/// The call or action with this number.
 fn sample_of(number: usize) -> Option<Sample> {
     SAMPLES.get(number).copied()
 }
 
-/// The word of a sample.
+/// The word of a call or action.
 fn word_of(number: usize) -> Option<&'static str> {
-    let (word, _) = sample_of(number)?;
-    Some(word)
+    Some(sample_of(number)?.0)
 }
 
-/// An argument of a sample, if it has so many.
-fn argument_of(number: usize, index: usize) -> Option<&'static str> {
+/// An argument of a call or action, if it has so many.
+fn argument_of(number: usize, index: usize) -> Option<Argument> {
     let (_, arguments) = sample_of(number)?;
-    match *arguments.get(index)? {
-        "" => None,
-        argument => Some(argument),
-    }
+    *arguments.get(index)?
 }
 
 /// A sample of a call as JSON, with another text for one of its arguments.
-fn sample_call(
-    world: World<'_>,
-    number: usize,
-    at: usize,
-    argument: &str,
-) -> Result<Json, AllocError> {
+fn sample_call(world: World<'_>, number: usize, at: usize, argument: &str) -> Json {
     let mut json = Json::new(world.alloc);
-    json.put("[\"")?;
-    json.put(word_of(number).unwrap_or(""))?;
-    json.put("\"")?;
+    json.put("[\"");
+    json.put(word_of(number).unwrap_or(""));
+    json.put("\"");
     for index in 0..4 {
-        if let Some(sample) = argument_of(number, index) {
-            json.put(",")?;
-            json.put(if index == at { argument } else { sample })?;
+        if let Some(other) = argument_of(number, index) {
+            json.put(",");
+            json.put(if index == at {
+                argument
+            } else {
+                other.sample()
+            });
         }
     }
-    json.put("]")?;
-    Ok(json)
+    json.put("]");
+    json
 }
 
 const HEAD: &str =
@@ -103,18 +137,25 @@ const HEAD: &str =
 /// Whether a sample script is taken in which someone makes these calls.
 pub fn takes(world: World<'_>, maker: Maker, calls: &str) -> Result<bool, AllocError> {
     let mut json = Json::new(world.alloc);
-    json.put(HEAD)?;
-    json.put(if maker == Maker::Item { calls } else { "" })?;
-    json.put("]}],\"callers\":[[")?;
-    json.put(if maker == Maker::Caller { calls } else { "" })?;
-    json.put("]]}")?;
-    Grammar::Script.takes(world.alloc, json.text.as_str())
+    json.put(HEAD);
+    match maker {
+        Maker::Item => {
+            json.put(calls);
+            json.put("]}],\"callers\":[[]]}");
+        }
+        Maker::Caller => {
+            json.put("]}],\"callers\":[[");
+            json.put(calls);
+            json.put("]]}");
+        }
+    }
+    Grammar::Script.takes(world.alloc, json.as_str()?)
 }
 
 /// Whether someone may make the call of a sample.
 fn is_taken(world: World<'_>, maker: Maker, number: usize) -> Result<bool, AllocError> {
-    let call = sample_call(world, number, 4, "")?;
-    takes(world, maker, call.text.as_str())
+    let call = sample_call(world, number, 4, "");
+    takes(world, maker, call.as_str()?)
 }
 
 /// The words with which someone may make calls.
@@ -199,36 +240,24 @@ fn tell_arguments(
 ) -> Result<bool, AllocError> {
     let (maker, path, index) = place;
     for (at, argument) in arguments.iter().enumerate() {
-        let Some(sample) = argument_of(number, at) else {
+        let Some(wanted) = argument_of(number, at) else {
             say_place(text, maker, path, index);
             say_value(text, world, argument)?;
             text.say(": the call should end before it");
             return Ok(true);
         };
-        if tell_argument(text, world, place, (number, at, sample), argument)? {
+        if tell_argument(text, world, place, (number, at, wanted), argument)? {
             return Ok(true);
         }
     }
     match argument_of(number, arguments.len()) {
-        Some(sample) => {
+        Some(argument) => {
             say_place(text, maker, path, index);
             text.say("here ends the call; expected is ");
-            text.say(wanted(sample));
+            text.say(argument.wanted());
             Ok(true)
         }
         None => Ok(false),
-    }
-}
-
-/// What an argument is.
-fn wanted(sample: &str) -> &'static str {
-    match sample {
-        ITEM => "an item's name",
-        QUEUE => "a queue's name",
-        GATE => "a gate's name",
-        CPU => "a CPU's number",
-        TICKS => "how many ticks",
-        _ => "a max_active",
     }
 }
 
@@ -237,15 +266,16 @@ fn tell_argument(
     text: &mut Text,
     world: World<'_>,
     place: (Maker, Path<'_>, usize),
-    sample: (usize, usize, &'static str),
+    sample: (usize, usize, Argument),
     argument: &Value,
 ) -> Result<bool, AllocError> {
     match sample.2 {
-        ITEM => tell_name(text, world, place, ("items", " is no item"), argument),
-        QUEUE => tell_name(text, world, place, ("queues", " is no queue"), argument),
-        GATE => tell_gate(text, world, place, argument),
-        CPU => tell_cpu(text, world, place, argument),
-        _ => tell_number(text, world, place, sample, argument),
+        Argument::Item => tell_name(text, world, place, ("items", " is no item"), argument),
+        Argument::Queue => tell_name(text, world, place, ("queues", " is no queue"), argument),
+        Argument::Gate => tell_gate(text, world, place, argument),
+        Argument::Cpu => tell_cpu(text, world, place, argument),
+        Argument::Ticks => tell_number(text, world, place, ("ticks ", sample), argument),
+        Argument::MaxActive => tell_number(text, world, place, ("max_active ", sample), argument),
     }
 }
 
@@ -318,10 +348,11 @@ fn tell_number(
     text: &mut Text,
     world: World<'_>,
     place: (Maker, Path<'_>, usize),
-    sample: (usize, usize, &'static str),
+    named: (&str, (usize, usize, Argument)),
     argument: &Value,
 ) -> Result<bool, AllocError> {
     let (maker, path, index) = place;
+    let (name, sample) = named;
     let number = argument.as_u64();
     if let Some(number) = number {
         if fits_number(world, maker, sample, number)? {
@@ -329,11 +360,7 @@ fn tell_number(
         }
     }
     say_place(text, maker, path, index);
-    text.say(if sample.2 == TICKS {
-        "ticks "
-    } else {
-        "max_active "
-    });
+    text.say(name);
     say_value(text, world, argument)?;
     match number {
         None => text.say(" is no whole number"),
@@ -346,12 +373,12 @@ fn tell_number(
 fn fits_number(
     world: World<'_>,
     maker: Maker,
-    sample: (usize, usize, &'static str),
+    sample: (usize, usize, Argument),
     number: u64,
 ) -> Result<bool, AllocError> {
     let mut digits = Buffer::new();
-    let call = sample_call(world, sample.0, sample.1, digits.format(number))?;
-    takes(world, maker, call.text.as_str())
+    let call = sample_call(world, sample.0, sample.1, digits.format(number));
+    takes(world, maker, call.as_str()?)
 }
 
 /// Says which limit a number of a call passes.
@@ -359,7 +386,7 @@ fn say_limit(
     text: &mut Text,
     world: World<'_>,
     maker: Maker,
-    sample: (usize, usize, &'static str),
+    sample: (usize, usize, Argument),
     number: u64,
 ) -> Result<(), AllocError> {
     if number == 0 {
@@ -414,8 +441,7 @@ pub fn tell_count(
 
 /// Whether so many calls are taken.
 fn fits_count(world: World<'_>, maker: Maker, count: u64) -> Result<bool, AllocError> {
-    let list = list_of(world.alloc, "[\"cancel\",\"i\"]", count)?;
-    let text = list.text.as_str();
-    let calls = text.strip_prefix('[').unwrap_or(text);
-    takes(world, maker, calls.strip_suffix(']').unwrap_or(calls))
+    let mut calls = Json::new(world.alloc);
+    calls.put_times("[\"cancel\",\"i\"]", count);
+    takes(world, maker, calls.as_str()?)
 }

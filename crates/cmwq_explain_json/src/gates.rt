@@ -67,12 +67,12 @@ fn most_gates(world: World<'_>) -> Result<u64, AllocError> {
     let mut actions = Json::new(world.alloc);
     for count in 0..MOST_TRIED {
         if count > 0 {
-            actions.put(",")?;
+            actions.put(",");
         }
-        actions.put("[\"open\",\"g")?;
-        actions.put(Buffer::new().format(count))?;
-        actions.put("\"]")?;
-        if !takes(world, Maker::Item, actions.text.as_str())? {
+        actions.put("[\"open\",\"g");
+        actions.put(Buffer::new().format(count));
+        actions.put("\"]");
+        if !takes(world, Maker::Item, actions.as_str()?)? {
             return Ok(count);
         }
     }

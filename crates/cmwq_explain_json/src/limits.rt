@@ -2,7 +2,7 @@
 
 use crate::grammar::Place;
 use crate::objects::World;
-use crate::values::{Json, list_of};
+use crate::values::Json;
 use itoa::Buffer;
 use std::alloc::AllocError;
 
@@ -29,15 +29,19 @@ impl World<'_> {
         let mut json = Json::new(self.alloc);
         let mut digits = Buffer::new();
         match trial {
-            Trial::Number => json.put(digits.format(number))?,
+            Trial::Number => json.put(digits.format(number)),
             Trial::Element => {
-                json.put("[")?;
-                json.put(digits.format(number))?;
-                json.put("]")?;
+                json.put("[");
+                json.put(digits.format(number));
+                json.put("]");
             }
-            Trial::Count(value) => json = list_of(self.alloc, value, number)?,
+            Trial::Count(value) => {
+                json.put("[");
+                json.put_times(value, number);
+                json.put("]");
+            }
         }
-        self.fits(place, key, json.text.as_str())
+        self.fits(place, key, json.as_str()?)
     }
 
     /// The greatest number up to `high` that is taken, where 1 is.

@@ -1,7 +1,7 @@
 //! Whole inputs round one object of them, and whether they are taken.
 
 use crate::grammar::{Grammar, Place};
-use crate::values::{Json, object_with};
+use crate::values::Json;
 use serde_json::Value;
 use std::alloc::{AllocError, Global};
 
@@ -17,85 +17,74 @@ impl World<'_> {
     /// Whether an object is taken at its place with this value at a key, and else with the values of a sample; of the top with the numbers of the
     /// whole before the key.
     pub fn fits(self, place: Place, key: &str, value: &str) -> Result<bool, AllocError> {
-        let members = self.grammar.members(place);
-        let text = if place == Place::Top {
-            self.top(key, value)?
+        let mut json = Json::new(self.alloc);
+        if place == Place::Top {
+            self.put_top(&mut json, key, value);
         } else {
-            let object = object_with(self.alloc, members, key, Some(value))?;
-            self.with_object(place, key, object.text.as_str())?
-        };
-        self.grammar.takes(self.alloc, text.text.as_str())
+            self.put_with_object(&mut json, place, key, Some(value));
+        }
+        self.grammar.takes(self.alloc, json.as_str()?)
     }
 
     /// Whether an object is refused without a key, with the values of a sample.
     pub fn needs(self, place: Place, key: &str) -> Result<bool, AllocError> {
-        let object = object_with(self.alloc, self.grammar.members(place), key, None)?;
-        let text = if place == Place::Top {
-            self.with_lists(key)?
+        let mut json = Json::new(self.alloc);
+        if place == Place::Top {
+            self.put_with_lists(&mut json, key);
         } else {
-            self.with_object(place, key, object.text.as_str())?
-        };
-        Ok(!self.grammar.takes(self.alloc, text.text.as_str())?)
+            self.put_with_object(&mut json, place, key, None);
+        }
+        Ok(!self.grammar.takes(self.alloc, json.as_str()?)?)
     }
 
-    /// The top of a sample without a key.
-    fn with_lists(self, key: &str) -> Result<Json, AllocError> {
-        let mut json = Json::new(self.alloc);
-        json.put("{")?;
+    /// Puts the top of a sample without a key.
+    fn put_with_lists(self, json: &mut Json, key: &str) {
+        json.put("{");
         for (name, sample) in self.grammar.members(Place::Top) {
             if *name != key {
-                self.put_sample(&mut json, name, sample)?;
+                self.put_sample(json, name, sample);
             }
         }
-        json.put("}")?;
-        Ok(json)
+        json.put("}");
     }
 
     /// Puts a member of a sample's top.
-    fn put_sample(self, json: &mut Json, name: &str, sample: &str) -> Result<(), AllocError> {
+    fn put_sample(self, json: &mut Json, name: &str, sample: &str) {
+        json.put_key(name);
         if sample == "[]" {
-            let list = self.sample_list(name)?;
-            json.put_member(name, list.text.as_str())
+            self.put_sample_list(json, name);
         } else {
-            json.put_member(name, sample)
+            json.put(sample);
         }
     }
 
-    /// A top whose numbers before a key are those of the whole, with this value at the key.
-    fn top(self, key: &str, value: &str) -> Result<Json, AllocError> {
-        let mut json = Json::new(self.alloc);
+    /// Puts a top whose numbers before a key are those of the whole, with this value at the key.
+    fn put_top(self, json: &mut Json, key: &str, value: &str) {
         let mut is_before = true;
-        json.put("{")?;
+        json.put("{");
         for (name, sample) in self.grammar.members(Place::Top) {
             if *name == key {
                 is_before = false;
-                json.put_member(name, value)?;
+                json.put_member(name, value);
             } else if is_before || self.whole.get(*name).is_some() {
-                self.put_other(&mut json, name, sample, is_before)?;
+                self.put_other(json, name, sample, is_before);
             }
         }
-        json.put("}")?;
-        Ok(json)
+        json.put("}");
     }
 
     /// Puts another member of the top: a number of the whole before the key that is tried, and else one of the sample.
-    fn put_other(
-        self,
-        json: &mut Json,
-        name: &str,
-        sample: &str,
-        is_before: bool,
-    ) -> Result<(), AllocError> {
+    fn put_other(self, json: &mut Json, name: &str, sample: &str, is_before: bool) {
         match self.whole.get(name) {
             // the limits of the numbers before it are those of the format that the whole says
             Some(_) if name == "format" && !is_before && self.is_short() => {
-                json.put_member(name, "2")
+                json.put_member(name, "2");
             }
             Some(value) if is_before && sample != "[]" => {
-                let text = value.to_string(self.alloc)?;
-                json.put_member(name, text.as_str())
+                json.put_key(name);
+                json.put_value(self.alloc, value);
             }
-            None if sample != "[]" => Ok(()),
+            None if sample != "[]" => {}
             _ => self.put_sample(json, name, sample),
         }
     }
@@ -106,83 +95,54 @@ impl World<'_> {
         format == Some(2) && self.whole.get("journal").is_none()
     }
 
-    /// A sample with this object at its place; where its queue is tried, with the queues of the whole.
-    fn with_object(self, place: Place, key: &str, object: &str) -> Result<Json, AllocError> {
-        let mut json = Json::new(self.alloc);
-        json.put("{")?;
+    /// Puts a sample with an object at its place, which has another value at one key, or lacks that where there is none; where its queue is
+    /// tried, with the queues of the whole.
+    fn put_with_object(self, json: &mut Json, place: Place, key: &str, value: Option<&str>) {
+        json.put("{");
         for (name, sample) in self.grammar.members(Place::Top) {
-            if is_list_of(name, place) {
-                let list = listed(self.alloc, object)?;
-                json.put_member(name, list.text.as_str())?;
+            if place_of(name) == Some(place) {
+                json.put_key(name);
+                json.put("[");
+                json.put_object(self.grammar.members(place), key, value);
+                json.put("]");
             } else {
-                self.put_beside(&mut json, key, name, sample)?;
+                self.put_beside(json, key, name, sample);
             }
         }
-        json.put("}")?;
-        Ok(json)
+        json.put("}");
     }
 
     /// Puts a member of the top beside an object that is tried.
-    fn put_beside(
-        self,
-        json: &mut Json,
-        key: &str,
-        name: &str,
-        sample: &str,
-    ) -> Result<(), AllocError> {
+    fn put_beside(self, json: &mut Json, key: &str, name: &str, sample: &str) {
         if name == "queues" && key == "queue" {
-            let list = self.own_list("queues")?;
-            json.put_member(name, list.text.as_str())
-        } else if name == "items" && self.grammar == Grammar::Scenario {
-            json.put_member(name, sample)
-        } else {
-            self.put_sample(json, name, sample)
-        }
-    }
-
-    /// The list of the sample object at a key of the top.
-    fn sample_list(self, name: &str) -> Result<Json, AllocError> {
-        let mut json = Json::new(self.alloc);
-        json.put("[")?;
-        let place = match name {
-            "queues" => Place::Queue,
-            "items" => Place::Item,
-            _ => {
-                json.put("[]]")?;
-                return Ok(json);
+            json.put_key(name);
+            match self.whole.get(name) {
+                Some(list) => json.put_value(self.alloc, list),
+                None => json.put("[]"),
             }
-        };
-        let object = object_with(self.alloc, self.grammar.members(place), "", None)?;
-        json.put(object.text.as_str())?;
-        json.put("]")?;
-        Ok(json)
-    }
-
-    /// A list of the whole, as it stands there.
-    fn own_list(self, name: &str) -> Result<Json, AllocError> {
-        let mut json = Json::new(self.alloc);
-        match self.whole.get(name) {
-            Some(list) => json.put(list.to_string(self.alloc)?.as_str())?,
-            None => json.put("[]")?,
+        } else if name == "items" && self.grammar == Grammar::Scenario {
+            json.put_member(name, sample);
+        } else {
+            self.put_sample(json, name, sample);
         }
-        Ok(json)
+    }
+
+    /// Puts the list of the sample object at a key of the top.
+    fn put_sample_list(self, json: &mut Json, name: &str) {
+        json.put("[");
+        match place_of(name) {
+            Some(place) => json.put_object(self.grammar.members(place), "", None),
+            None => json.put("[]"),
+        }
+        json.put("]");
     }
 }
 
-/// Whether a member of the top is the list of the objects at this place.
-fn is_list_of(name: &str, place: Place) -> bool {
+/// What the objects are of the list at a key of the top.
+fn place_of(name: &str) -> Option<Place> {
     match name {
-        "queues" => place == Place::Queue,
-        "items" => place == Place::Item,
-        _ => false,
+        "queues" => Some(Place::Queue),
+        "items" => Some(Place::Item),
+        _ => None,
     }
-}
-
-/// The list of one text.
-fn listed(alloc: Global, text: &str) -> Result<Json, AllocError> {
-    let mut json = Json::new(alloc);
-    json.put("[")?;
-    json.put(text)?;
-    json.put("]")?;
-    Ok(json)
 }

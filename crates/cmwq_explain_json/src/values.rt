@@ -1,12 +1,15 @@
 //! Texts of JSON values.
 
 use crate::grammar::Member;
+use serde_json::Value;
 use std::alloc::{AllocError, Global};
 
-/// A JSON text that is made.
+/// A JSON text that is made. That memory ran out is told where it is read, so that no step of its making has to.
 #[derive(Drop)]
 pub struct Json {
-    pub text: String,
+    text: String,
+    /// Whether memory ran out, and so a part of it is missing.
+    is_cut: bool,
 }
 
 impl Json {
@@ -14,56 +17,73 @@ impl Json {
     pub fn new(alloc: Global) -> Json {
         Json {
             text: String::new(alloc),
+            is_cut: false,
         }
     }
 
     /// Puts a text behind it.
-    pub fn put(&mut self, text: &str) -> Result<(), AllocError> {
-        self.text.push_str(text)
+    pub fn put(&mut self, text: &str) {
+        if self.text.push_str(text).is_err() {
+            self.is_cut = true;
+        }
     }
 
-    /// Puts a member of an object behind it, after a comma where there is one before it.
-    pub fn put_member(&mut self, key: &str, value: &str) -> Result<(), AllocError> {
+    /// Puts a value behind it.
+    pub fn put_value(&mut self, alloc: Global, value: &Value) {
+        match value.to_string(alloc) {
+            Ok(text) => self.put(text.as_str()),
+            Err(AllocError) => self.is_cut = true,
+        }
+    }
+
+    /// Puts the key of a member of an object behind it, after a comma where there is one before it.
+    pub fn put_key(&mut self, key: &str) {
         if !self.text.as_str().ends_with('{') {
-            self.put(",")?;
+            self.put(",");
         }
-        self.put("\"")?;
-        self.put(key)?;
-        self.put("\":")?;
-        self.put(value)
+        self.put("\"");
+        self.put(key);
+        self.put("\":");
     }
-}
 
-/// The object of these members, with another value at one key, or without that where there is none.
-pub fn object_with(
-    alloc: Global,
-    members: &[Member],
-    key: &str,
-    value: Option<&str>,
-) -> Result<Json, AllocError> {
-    let mut json = Json::new(alloc);
-    json.put("{")?;
-    for (name, sample) in members {
-        if *name != key {
-            json.put_member(name, sample)?;
-        } else if let Some(value) = value {
-            json.put_member(key, value)?;
-        }
+    /// Puts a member of an object behind it.
+    pub fn put_member(&mut self, key: &str, value: &str) {
+        self.put_key(key);
+        self.put(value);
     }
-    json.put("}")?;
-    Ok(json)
-}
 
-/// A list of so many times the same value.
-pub fn list_of(alloc: Global, value: &str, count: u64) -> Result<Json, AllocError> {
-    let mut json = Json::new(alloc);
-    json.put("[")?;
-    for number in 0..count {
-        if number > 0 {
-            json.put(",")?;
+    /// Puts the object of these members behind it, with another value at one key, or without that where there is none.
+    pub fn put_object(&mut self, members: &[Member], key: &str, value: Option<&str>) {
+        self.put("{");
+        for (name, sample) in members {
+            if *name != key {
+                self.put_member(name, sample);
+            } else if let Some(value) = value {
+                self.put_member(key, value);
+            }
         }
-        json.put(value)?;
+        self.put("}");
     }
-    json.put("]")?;
-    Ok(json)
+
+    /// Puts so many times the same value behind it, with commas between.
+    pub fn put_times(&mut self, value: &str, count: u64) {
+        for number in 0..count {
+            if self.is_cut {
+                return;
+            }
+            if number > 0 {
+                self.put(",");
+            }
+            self.put(value);
+        }
+    }
+
+    /// The text. The error says that memory ran out.
+    pub fn as_str(&self) -> Result<&str, AllocError> {
+        if self.is_cut {
+            Err(AllocError)
+        } else {
+            Ok(self.text.as_str())
+        }
+    }
 }
