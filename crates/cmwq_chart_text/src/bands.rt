@@ -11,14 +11,14 @@ use std::alloc::{AllocError, Global};
 use std::marker::Model;
 
 /// A row of a band, and the height of its upper edge below that of the first.
-#[derive(Clone, Copy, Debug)]
+#[derive(Clone, Copy)]
 pub struct PlacedRow {
     pub row: Row,
     pub top: u32,
 }
 
 /// A shape, and the height of the upper edge of its row.
-#[derive(Clone, Copy, Debug)]
+#[derive(Clone, Copy)]
 pub struct PlacedFigure {
     pub figure: Figure,
     pub top: u32,
