@@ -1,4 +1,5 @@
 pub mod Inside
+pub mod Known
 pub mod Few
 pub mod Marked
 pub mod Steps

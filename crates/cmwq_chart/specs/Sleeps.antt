@@ -1,5 +1,5 @@
 -- Sleeps: from the entry by which a worker's run sleeps to the one by which it goes on.
-use Rattle.std.specs.Prelude.{ℕ, ◌&&◌, Bool, true, false, if◌then◌else◌, List, [], ◌∷◌, ◌++◌, length, flat_map, Option, Some, None, option_map, option_to_list}
+use Rattle.std.specs.Prelude.{◌≡◌, ◌<◌, ◌+◌, ◌*◌, ℕ, ◌&&◌, Bool, true, false, if◌then◌else◌, List, [], ◌∷◌, ◌++◌, length, flat_map, Option, Some, None, option_map, option_to_list, slice_index_or}
 use Rattle.cmwq_model.specs.declared.entry.Entry.{Entry}
 use Rattle.cmwq_model.specs.declared.id.WorkerId.{WorkerId}
 use Rattle.cmwq_model.specs.declared.id.Who.TheVariants.{Worker}
@@ -7,6 +7,7 @@ use Rattle.cmwq_model.specs.declared.reply.Reply.{Reply}
 use Rattle.cmwq_model.specs.declared.reply.Reply.TheVariants as reply
 use Rattle.cmwq_model.specs.Prelude.{is_by}
 use Rattle.cmwq_chart.specs.declared.sleeps.Sleep.{Sleep}
+use Rattle.cmwq_chart.specs.declared.sleeps.WorkerSleeps.{WorkerSleeps}
 
 -- the place of the entry by which a worker sleeps, behind an entry of its own
 abbrev pub since_after : Reply → ℕ → Option ℕ → Option ℕ
@@ -42,3 +43,17 @@ sleeps_by past w = sleeps_ended past w ++ option_to_list (option_map (sleep_from
 
 abbrev pub sleeps_of : List Entry → List WorkerId → List Sleep
 sleeps_of past lanes = flat_map (sleeps_by past) lanes
+
+-- ---- what is known of each worker behind a past, in a table by the numbers of all workers that an entry can name
+abbrev pub worker_number : WorkerId → ℕ
+worker_number w = 512 * w.pool.cpu.0 + (if w.pool.high then 256 else 0) + w.index
+
+abbrev pub IsNamed : WorkerId → Type 0
+IsNamed w = (w.pool.cpu.0 < 256) × (w.index < 256)
+
+pub record IsKnown (past : List Entry) (w : WorkerId) (known : WorkerSleeps) : Type 0 where
+  pub ended : known.ended.items ≡ sleeps_ended past w
+  pub since : known.since ≡ asleep_since past w
+
+abbrev pub AreKnown : List Entry → List WorkerSleeps → Type 0
+AreKnown past table = (length table ≡ 131072) × ((w : WorkerId) (d : WorkerSleeps) → IsNamed w → IsKnown past w (slice_index_or table (worker_number w) d))

@@ -1,10 +1,10 @@
 //! Sleeps: the parts of runs in which they wait.
-ghost use Rattle.std.specs.Prelude.{◌≡◌, ◌≤◌, ◌++◌, length, option_map, option_to_list, IfOk, OnOk, None, ◌∷◌};
+ghost use Rattle.std.specs.Prelude.{◌≡◌, ◌≤◌, ◌++◌, List, [], length, option_map, option_to_list, IfOk, OnOk, None, ◌∷◌};
 ghost use Rattle.cmwq_model.specs.Prelude.{past_of};
 ghost use Rattle.cmwq_chart.specs.Sleeps as spec;
 
 use crate::entries::{entry_at, is_by};
-use cmwq_model::{Entry, Reply, WorkerId};
+use cmwq_model::{Entry, Reply, Who, WorkerId};
 use std::alloc::{AllocError, Global};
 
 /// A sleep of a worker's run: the places of the entries by which it sleeps and goes on. One that has not ended has only the first.
@@ -93,23 +93,94 @@ fn keep(sleeps: &mut Vec<Sleep>, sleep: Option<Sleep>) -> Result<(), AllocError>
     Ok(())
 }
 
-/// Puts the sleeps of a worker behind the others.
-#[tactic(auto, unfolding(crate::specs::Sleeps::sleeps_by), using(crate::proofs::Steps::sleep_steps))]
-fn push_sleeps(
-    sleeps: &mut Vec<Sleep>,
+/// How many numbers of workers there are.
+const WORKERS: usize = 131_072;
+
+/// What is known of a worker behind some entries: its sleeps that ended, and since where it sleeps.
+#[derive(Debug, Drop)]
+struct WorkerSleeps {
+    ended: Vec<Sleep>,
+    since: Option<u32>,
+}
+
+/// A number for each worker that an entry can name.
+fn worker_number(worker: WorkerId) -> usize
+    ensures number { result ≡ spec.worker_number worker }
+    ensures within { spec.IsNamed worker }
+{
+    let high = if worker.pool.high { 256 } else { 0 };
+    512 * usize::from(worker.pool.cpu.0) + high + usize::from(worker.index)
+}
+
+/// What is known before the first entry.
+fn none_known(alloc: Global) -> Result<Vec<WorkerSleeps>, AllocError>
+    ensures { IfOk result (λ known. spec.AreKnown [] known.items) }
+{
+    let mut known = Vec::new(alloc);
+    for _ in 0..WORKERS {
+        known.push(WorkerSleeps {
+            ended: Vec::new(alloc),
+            since: None,
+        })?;
+    }
+    Ok(known)
+}
+
+/// Takes what is known of a worker beyond an entry behind these.
+fn follow_worker(
+    own: &mut WorkerSleeps,
     entries: &[Entry],
+    entry: Entry,
     worker: WorkerId,
 ) -> Result<(), AllocError>
-    requires { length entries.now ≤ 1073741824 }
-    ensures { OnOk result (sleeps.new.items ≡ sleeps.old.items ++ spec.sleeps_by (past_of entries.now) worker) }
+    requires short { length entries.now ≤ 1073741824 }
+    requires known { spec.IsKnown (past_of entries.now) worker own.old }
+    ensures { OnOk result (spec.IsKnown (entry ∷ past_of entries.now) worker own.new) }
 {
-    let mut since = None;
-    for k in 0..entries.len() {
-        let before = &entries[..k];
-        let entry = entry_at(entries, k);
-        keep(sleeps, sleep_ended(before, entry, worker, since))?;
-        since = asleep_since(before, entry, worker, since);
+    keep(
+        &mut own.ended,
+        sleep_ended(entries, entry, worker, own.since),
+    )?;
+    own.since = asleep_since(entries, entry, worker, own.since);
+    Ok(())
+}
+
+/// Takes what is known beyond an entry behind these, which tells of its own worker alone.
+fn follow(known: &mut Vec<WorkerSleeps>, entries: &[Entry], entry: Entry) -> Result<(), AllocError>
+    requires short { length entries.now ≤ 1073741824 }
+    requires known { spec.AreKnown (past_of entries.now) known.old.items }
+    ensures { OnOk result (spec.AreKnown (entry ∷ past_of entries.now) known.new.items) }
+{
+    if let Who::Worker(worker) = entry.who {
+        let number = worker_number(worker);
+        follow_worker(&mut known[number], entries, entry, worker)?;
     }
+    Ok(())
+}
+
+/// What is known behind all entries.
+fn all_known(alloc: Global, entries: &[Entry]) -> Result<Vec<WorkerSleeps>, AllocError>
+    requires { length entries.now ≤ 1073741824 }
+    ensures { IfOk result (λ known. spec.AreKnown (past_of entries.now) known.items) }
+{
+    let mut known = none_known(alloc)?;
+    for k in 0..entries.len() {
+        follow(&mut known, &entries[..k], entry_at(entries, k))?;
+    }
+    Ok(known)
+}
+
+/// Puts the sleeps of a worker behind the others.
+#[tactic(auto, unfolding(crate::specs::Sleeps::sleeps_by))]
+fn push_sleeps(
+    sleeps: &mut Vec<Sleep>,
+    own: &WorkerSleeps,
+    worker: WorkerId,
+) -> Result<(), AllocError>
+    ensures { (past : List Entry) → spec.IsKnown past worker own.now → OnOk result (sleeps.new.items ≡ sleeps.old.items ++ spec.sleeps_by past worker) }
+{
+    let since = own.since;
+    sleeps.extend_from_slice(&own.ended)?;
     keep(sleeps, sleep_left(worker, since))?;
     Ok(())
 }
@@ -123,9 +194,10 @@ pub fn sleeps_of(
     requires { length entries.now ≤ 1073741824 }
     ensures { IfOk result (λ sleeps. sleeps.items ≡ spec.sleeps_of (past_of entries.now) lanes.now) }
 {
+    let known = all_known(alloc, entries)?;
     let mut sleeps = Vec::new(alloc);
     for worker in lanes {
-        push_sleeps(&mut sleeps, entries, *worker)?;
+        push_sleeps(&mut sleeps, &known[worker_number(*worker)], *worker)?;
     }
     Ok(sleeps)
 }

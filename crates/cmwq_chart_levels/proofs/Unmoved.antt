@@ -71,15 +71,14 @@ none_ends : (s : Layout) (past : List Entry) (p : Place) (o : Option Queueing) �
 none_ends s past p None h = refl
 none_ends s past p (Some x) h = ap (λ b. b && is_active s past x) (sym (is_on_is p x) ∙ h)
 
-count_stays : (s : Layout) (past : List Entry) (e : Entry) (p : Place) → IsLegal s (e ∷ past) → keeps_widths e.reply ≡ true → is_one_of_place p (opening past e) ≡ false → is_one_of_place p (ending past e) ≡ false
+count_stays : (s : Layout) (past : List Entry) (e : Entry) (p : Place) → IsLegal s (e ∷ past) → width s (e ∷ past) p.queue.0 ≡ width s past p.queue.0 → is_one_of_place p (opening past e) ≡ false → is_one_of_place p (ending past e) ≡ false
     → active_count s (e ∷ past) p.queue.0 p.cpu.0 ≡ active_count s past p.queue.0 p.cpu.0
-count_stays s past e p legal keeps opened ended =
+count_stays s past e p legal wide opened ended =
     let q = p.queue.0 in
     let c = p.cpu.0 in
     let none : one (ends_active_on s past e q c) ≡ 0 = ap one (none_ends s past p (ending past e) ended) in
     let stay : stay_count s past e q c ≡ active_count s past q c = omega (arith, stays_counted s past e legal q c, none) in
     let long : length (open_on (e ∷ past) q c) ≡ length (open_on past q c) = sym (open_is (e ∷ past) p) ∙ open_stays s past e p legal opened ended ∙ open_is past p in
-    let wide = width_same s past e q keeps in
     let newly : count_by (is_on q c) (newly_active s past e) ≡ min (width s (e ∷ past) q - stay_count s past e q c) (length (filter (waits s past) (open_on (e ∷ past) q c))) =
     length-count (is_on q c) (newly_active s past e) ∙ ap length (newly_active_on s past e q c) ∙ length-take (width s (e ∷ past) q - stay_count s past e q c) (filter (waits s past) (open_on (e ∷ past) q c)) in
     let waiting = length (filter (waits s past) (open_on (e ∷ past) q c)) in
@@ -95,11 +94,11 @@ active_is s past p =
 
 -- ---- so the height stays, and the level
 
-height_stays : (s : Layout) (past : List Entry) (e : Entry) (p : Place) → IsLegal s (e ∷ past) → keeps_widths e.reply ≡ true → is_one_of_place p (opening past e) ≡ false → is_one_of_place p (ending past e) ≡ false
+pub height_stays : (s : Layout) (past : List Entry) (e : Entry) (p : Place) → IsLegal s (e ∷ past) → width s (e ∷ past) p.queue.0 ≡ width s past p.queue.0 → is_one_of_place p (opening past e) ≡ false → is_one_of_place p (ending past e) ≡ false
     → height_at s (e ∷ past) p ≡ height_at s past p
-height_stays s past e p legal keeps opened ended =
-    let active : active_at s (e ∷ past) p ≡ active_at s past p = active_is s (e ∷ past) p ∙ count_stays s past e p legal keeps opened ended ∙ sym (active_is s past p) in
-    rw (open_stays s past e p legal opened ended, active, width_same s past e p.queue.0 keeps) refl
+height_stays s past e p legal wide opened ended =
+    let active : active_at s (e ∷ past) p ≡ active_at s past p = active_is s (e ∷ past) p ∙ count_stays s past e p legal wide opened ended ∙ sym (active_is s past p) in
+    rw (open_stays s past e p legal opened ended, active, wide) refl
 
 no_change : (k o c : Bool) → (not k || o || c) ≡ false → (k ≡ true) × (o ≡ false) × (c ≡ false)
 no_change true false false h = (refl, refl, refl)
@@ -110,7 +109,7 @@ no_change false o c h = cc
 pub unmoved : (h : _) (past : List Entry) (e : Entry) (change : Change) (p : Place) → IsFollowed h past e change → may_change change e.reply p ≡ false → height_at h.layout (e ∷ past) p ≡ height_at h.layout past p
 unmoved h past e change p followed none =
     let all = no_change (keeps_widths e.reply) (is_one_of_place p change.opened) (is_one_of_place p change.ended) none in
-    height_stays h.layout past e p followed.legal all.0 (ap (is_one_of_place p) (sym followed.does.opened) ∙ all.1) (ap (is_one_of_place p) (sym followed.does.ended) ∙ all.2)
+    height_stays h.layout past e p followed.legal (width_same h.layout past e p.queue.0 all.0) (ap (is_one_of_place p) (sym followed.does.opened) ∙ all.1) (ap (is_one_of_place p) (sym followed.does.ended) ∙ all.2)
 
 same_height : (h : Height) → is_same_height h h ≡ true
 same_height h =
@@ -124,10 +123,10 @@ module _ (s : Layout) (past : List Entry) (e : Entry) where
   unchanged p same =
       ap (λ h. nat_lt 0 (length past) && not (is_same_height (height_at s past p) h)) same ∙ ap (λ b. nat_lt 0 (length past) && not b) (same_height (height_at s past p)) ∙ and_false (nat_lt 0 (length past))
 
-  none_left : (p : Place) → height_at s (e ∷ past) p ≡ height_at s past p → None ≡ level_ended s past e p
+  pub none_left : (p : Place) → height_at s (e ∷ past) p ≡ height_at s past p → None ≡ level_ended s past e p
   none_left p same = ap (λ b. if b then Some (level_until s past (Some (length past - 1)) p) else None) (sym (unchanged p same))
 
-  stays_level : (x : Level) → IsLevelAfter s past x → height_at s (e ∷ past) x.place ≡ height_at s past x.place → x ≡ level_after s (e ∷ past) x
+  pub stays_level : (x : Level) → IsLevelAfter s past x → height_at s (e ∷ past) x.place ≡ height_at s past x.place → x ≡ level_after s (e ∷ past) x
   stays_level x goes same = turned s past e x false x.height (length past) goes refl (goes.height ∙ sym same)
       (sym (ap (λ b. nat_lt 0 (length past) && not b) (same_height x.height) ∙ and_false (nat_lt 0 (length past))))
 

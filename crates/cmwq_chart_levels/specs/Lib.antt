@@ -1,1 +1,2 @@
+pub mod Affected
 pub mod Turns

@@ -27,6 +27,8 @@ pub fn shapes_of(alloc: Global, shape: &Shape, entries: &[Entry]) -> Result<Shap
     let callers = CallerShapes::new(alloc, entries, &callers_of(alloc, shape, entries)?)?;
     let lanes = lanes_of(alloc, shape, entries)?;
     let sleeps = sleeps_of(alloc, entries, &lanes)?;
+    // it shows that the CPUs are few, so that the places are in order
+    let _counts = shape.counts();
     let places = places_of(alloc, shape, &queueings_of(alloc, shape, entries)?)?;
     let levels = levels_of(alloc, shape, entries, &places)?;
     Ok(Shapes {

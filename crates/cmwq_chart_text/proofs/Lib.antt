@@ -5,3 +5,4 @@ pub mod Halves
 pub mod Ranges
 pub mod Stacked
 mod Tops
+pub mod Unmarked

@@ -1,9 +1,9 @@
 -- The table of a band's rows by their numbers.
-use Rattle.std.proofs.Common.{◌≢◌, ◌≡◌, ℕ, ◌+◌, ◌<◌, Bool, true, false, List, [], ◌∷◌, ◌++◌, length, get_or, take, set, replicate, Option, Some, None, is_some, if◌then◌else◌, refl, sym, ap, ◌∙◌, arith, ⊎_elim}
+use Rattle.std.proofs.Common.{◌≢◌, ◌≡◌, ℕ, ◌+◌, ◌<◌, ◌≤◌, Bool, true, false, List, [], ◌∷◌, ◌++◌, length, get_or, take, drop, set, replicate, Option, Some, None, is_some, if◌then◌else◌, refl, sym, ap, ◌∙◌, arith, ⊎_elim}
 use Rattle.std.specs.Prelude.{nat_eq}
 use Rattle.std.proofs.lemmas.Bool.{cases_eq}
 use Rattle.std.proofs.lemmas.Bool.Decides.{nat_tests}
-use Rattle.std.proofs.lemmas.List.{get_or-replicate, get_or-set_same, get_or-set_other, length-replicate, length-set, take_more}
+use Rattle.std.proofs.lemmas.List.{drop_all, drop_more, get_or-replicate, get_or-set_same, get_or-set_other, length-replicate, length-set, take_more}
 use Rattle.cmwq_chart_text.specs.declared.bands.PlacedRow.{PlacedRow}
 use Rattle.cmwq_chart_text.specs.Bands.{AreTops, row_top, with_top}
 use Rattle.cmwq_chart_text.specs.Figures.{most_rows, row_number}
@@ -75,3 +75,26 @@ module _ (rows : List PlacedRow) (k : ℕ) (d : PlacedRow) (old new : List (Opti
   -- a row more in the table
   pub tops_more : AreTops (take (k + 1) rows) new
   tops_more = with (is_some (get_or old m None)) refl more
+
+-- ---- rows that are forgotten again: of the numbers that no row from one on has, nothing is noted
+abbrev pub AreTopsLeft : List PlacedRow → ℕ → List (Option ℕ) → Type 0
+AreTopsLeft rows i tops = (length tops ≡ most_rows) × ((n : ℕ) → n < most_rows → row_top (drop i rows) n ≡ None → get_or tops n None ≡ None)
+
+pub all_tops_left : (rows : List PlacedRow) (tops : List (Option ℕ)) → AreTops rows tops → AreTopsLeft rows 0 tops
+all_tops_left rows tops are = (are.0, λ n low none. are.1 n low ∙ none)
+
+pub one_forgotten : (rows : List PlacedRow) (i : ℕ) (d : PlacedRow) (old new : List (Option ℕ)) → i < length rows → row_number (get_or rows i d).row < most_rows → AreTopsLeft rows i old
+    → new ≡ set old (row_number (get_or rows i d).row) None → AreTopsLeft rows (i + 1) new
+unfolding row_top
+one_forgotten rows i d old new less within left is = rw is (
+  length-set old m None ∙ left.0,
+  λ n low none. ⊎_elim (λ same. rw same (get_or-set_same old m None None (rw left.0 within)))
+      (λ ne. get_or-set_other old m n None None ne ∙ left.1 n low (ap (λ l. row_top l n) (drop_more rows i d less) ∙ ap (λ (b : Bool). if b then Some (get_or rows i d).top else row_top (drop (i + 1) rows) n) (eq_other m n ne) ∙ none)) (cases_eq n m),
+)
+  where
+    m : ℕ
+    m = row_number (get_or rows i d).row
+
+pub no_tops_left : (rows : List PlacedRow) (i : ℕ) (tops : List (Option ℕ)) → length rows ≤ i → AreTopsLeft rows i tops → AreTops [] tops
+unfolding row_top
+no_tops_left rows i tops all left = (left.0, λ n low. left.1 n low (ap (λ l. row_top l n) (drop_all i rows all)))

@@ -12,7 +12,7 @@ use Rattle.cmwq_chart_text.specs.declared.figures.Figure.TheVariants as figure
 use Rattle.cmwq_chart_text.specs.declared.figures.Row.{Row}
 use Rattle.cmwq_chart_text.specs.declared.figures.Row.TheVariants as row
 use Rattle.cmwq_chart_text.specs.declared.page.Page.{Page}
-use Rattle.cmwq_chart_text.specs.Bands.{Strip, rows_height}
+use Rattle.cmwq_chart_text.specs.Bands.{Content, rows_height}
 use Rattle.cmwq_chart_text.specs.BarText.{bar_text}
 use Rattle.cmwq_chart_text.specs.CaptionText.{caption_text}
 use Rattle.cmwq_chart_text.specs.FrameText.{numbers_text}
@@ -65,8 +65,8 @@ abbrev pub figures_text : Layer → Page → List Entry → ℕ → ℕ → ℕ 
 figures_text layer p entries scale band from figures = flat_map (figure_text layer p entries scale band from) figures
 
 -- ---- a band, with its upper edge at a height
-unfoldable pub band_text : Page → List Entry → ℕ → ℕ → ℕ → Strip → List ℕ
-band_text p entries scale band top strip =
-    names_text Workers scale (top + 22) strip.rows ++ (numbers_text p top (rows_height strip.rows) band ++ (names_text Callers scale (top + 22) strip.rows
-    ++ (figures_text Shapes p entries scale band (top + 22) strip.figures ++ (figures_text Captions p entries scale band (top + 22) strip.figures
-    ++ (names_text Places scale (top + 22) strip.rows ++ figures_text Levels p entries scale band (top + 22) strip.figures)))))
+unfoldable pub band_text : Page → List Entry → ℕ → ℕ → ℕ → Content → List ℕ
+band_text p entries scale band top content =
+    names_text Workers scale (top + 22) content.rows ++ (numbers_text p top (rows_height content.rows) band ++ (names_text Callers scale (top + 22) content.rows
+    ++ (figures_text Shapes p entries scale band (top + 22) content.figures ++ (figures_text Captions p entries scale band (top + 22) content.figures
+    ++ (names_text Places scale (top + 22) content.rows ++ figures_text Levels p entries scale band (top + 22) content.figures)))))

@@ -1,8 +1,9 @@
 -- What stands in each band: its rows are those that show something there, one below the other, and its shapes those that stand in them.
-use Rattle.std.specs.Prelude.{◌≡◌, ◌<◌, is_some, slice_index_or, slice_set, ℕ, ◌+◌, ◌-◌, Bool, ◌&&◌, ◌||◌, ◌==◌, if◌then◌else◌, List, [], ◌∷◌, length, take, filter, flat_map, map, nat_lt, nat_le, Option, Some, None, option_map, option_to_list, slice_get}
+use Rattle.std.specs.Prelude.{◌≡◌, ◌<◌, is_some, slice_index_or, slice_set, ℕ, ◌+◌, ◌-◌, Bool, not, ◌&&◌, ◌||◌, ◌==◌, if◌then◌else◌, List, [], ◌∷◌, length, take, filter, flat_map, map, nat_lt, nat_le, Option, Some, None, option_map, option_to_list, slice_get}
 use Rattle.std.specs.Option.{option_map_or}
 use Rattle.std.specs.List.{list_any, range_with_len, sum_by}
 use Rattle.cmwq_model.specs.Prelude.{is_at}
+use Rattle.cmwq_chart.specs.Marks.{AreMarks}
 use Rattle.cmwq_chart_text.specs.declared.bands.PlacedFigure.{PlacedFigure}
 use Rattle.cmwq_chart_text.specs.declared.bands.PlacedRow.{PlacedRow}
 use Rattle.cmwq_chart_text.specs.declared.figures.Figure.{Figure}
@@ -37,6 +38,10 @@ row_shown f = if is_flat f then None else Some (figure_row f)
 abbrev pub shows : List Figure → Row → Bool
 shows figures row = list_any (λ f. is_at (row_shown f) (row_number row)) figures
 
+-- a table of marks, and that without the mark of a number
+abbrev pub IsUnmarked : List Bool → List Bool → Option ℕ → Type 0
+IsUnmarked old new number = (length new ≡ length old) × ((k : ℕ) → k < length old → slice_get new k ≡ option_map (λ before. before && not (is_at number k)) (slice_get old k))
+
 -- one below the other, the first at a height
 unfoldable pub stacked : ℕ → List Row → List PlacedRow
 stacked top [] = []
@@ -70,26 +75,30 @@ placed_at f top = record { figure = f; top = top }
 abbrev pub in_its_row : List PlacedRow → Figure → List PlacedFigure
 in_its_row rows f = option_to_list (option_map (placed_at f) (row_top rows (figure_row f)))
 
+-- nothing is in the tables
+abbrev pub AreEmpty : List Bool → List (Option ℕ) → Type 0
+AreEmpty marks tops = AreMarks row_shown [] most_rows marks × AreTops [] tops
+
 -- ---- the bands
-pub record Strip : Type 0 where
+pub record Content : Type 0 where
   pub rows : List PlacedRow
   pub figures : List PlacedFigure
 
-abbrev pub strip_of : List Row → List Figure → Strip
-strip_of rows figures = record { rows = rows_in figures rows; figures = flat_map (in_its_row (rows_in figures rows)) figures }
+abbrev pub content_of : List Row → List Figure → Content
+content_of rows figures = record { rows = rows_in figures rows; figures = flat_map (in_its_row (rows_in figures rows)) figures }
 
-abbrev pub strip_in : Page → List Row → List Figure → ℕ → Strip
-strip_in p rows figures band = strip_of rows (figures_in p figures band)
+abbrev pub content_in : Page → List Row → List Figure → ℕ → Content
+content_in p rows figures band = content_of rows (figures_in p figures band)
 
-abbrev pub strips_between : Page → List Row → List Figure → ℕ → ℕ → List Strip
-strips_between p rows figures from end = map (strip_in p rows figures) (range_with_len from (end - from))
+abbrev pub contents_between : Page → List Row → List Figure → ℕ → ℕ → List Content
+contents_between p rows figures from end = map (content_in p rows figures) (range_with_len from (end - from))
 
-abbrev pub strips_of : Page → List Row → List Figure → List Strip
-strips_of p rows figures = strips_between p rows figures 0 (bands p)
+abbrev pub contents_of : Page → List Row → List Figure → List Content
+contents_of p rows figures = contents_between p rows figures 0 (bands p)
 
 -- a band is a line for the numbers of the entries, the rows, and a gap; above the first stands the head
-abbrev pub strip_height : Strip → ℕ
-strip_height strip = 40 + rows_height strip.rows
+abbrev pub band_height : Content → ℕ
+band_height content = 40 + rows_height content.rows
 
-unfoldable pub band_top : List Strip → ℕ → ℕ
-band_top strips band = 74 + sum_by strip_height (take band strips)
+unfoldable pub band_top : List Content → ℕ → ℕ
+band_top contents band = 74 + sum_by band_height (take band contents)

@@ -20,7 +20,7 @@ use cmwq_base::{Sink, WriteFault};
 use cmwq_model::Entry;
 
 /// Which rows' names are written.
-#[derive(Clone, Copy, Debug)]
+#[derive(Clone, Copy)]
 pub enum Names {
     Workers,
     Callers,
@@ -28,7 +28,7 @@ pub enum Names {
 }
 
 /// What is written of the shapes: those of callers and workers, the items of bars, or the levels.
-#[derive(Clone, Copy, Debug)]
+#[derive(Clone, Copy)]
 pub enum Layer {
     Shapes,
     Captions,

@@ -1,5 +1,5 @@
 //! What stands in each band.
-ghost use Rattle.std.specs.Prelude.{◌≡◌, List, ◌+◌, ◌<◌, ◌≤◌, ◌∷◌, ◌++◌, [], if◌then◌else◌, option_to_list, option_map, length, filter, IfOk, OnOk, replicate, slice_get, None, Some};
+ghost use Rattle.std.specs.Prelude.{◌≡◌, List, ◌+◌, ◌<◌, ◌≤◌, ◌∷◌, ◌++◌, [], if◌then◌else◌, option_to_list, option_map, length, filter, flat_map, IfOk, OnOk, replicate, slice_set, None};
 ghost use Rattle.cmwq_chart.specs.Marks.{AreMarks, IsMarked};
 ghost use Rattle.cmwq_chart_text.specs.Bands as spec;
 ghost use Rattle.cmwq_chart_text.specs.Figures.{most_rows, row_height, row_number};
@@ -11,14 +11,14 @@ use std::alloc::{AllocError, Global};
 use std::marker::Model;
 
 /// A row of a band, and the height of its upper edge below that of the first.
-#[derive(Clone, Copy, Debug)]
+#[derive(Clone, Copy)]
 pub struct PlacedRow {
     pub row: Row,
     pub top: u32,
 }
 
 /// A shape, and the height of the upper edge of its row.
-#[derive(Clone, Copy, Debug)]
+#[derive(Clone, Copy)]
 pub struct PlacedFigure {
     pub figure: Figure,
     pub top: u32,
@@ -32,9 +32,9 @@ pub struct Band {
 }
 
 impl Model for Band {
-    ghost use Rattle.cmwq_chart_text.specs.Bands.{Strip};
+    ghost use Rattle.cmwq_chart_text.specs.Bands.{Content};
 
-    ghost Value = { Strip };
+    ghost Value = { Content };
 
     ghost view = { λ b. record { rows = b.rows.items; figures = b.figures.items } };
 }
@@ -104,15 +104,43 @@ fn mark(marks: &mut Vec<bool>, number: Option<usize>)
     }
 }
 
-/// Marks the rows that are shown.
-fn mark_shown(alloc: Global, figures: &[Figure]) -> Result<Vec<bool>, AllocError>
-    ensures { IfOk result (λ marks. AreMarks spec.row_shown figures.now most_rows marks.items) }
+/// Takes the mark of a number away, if there is one and the table has it.
+fn unmark(marks: &mut Vec<bool>, number: Option<usize>)
+    ensures { spec.IsUnmarked marks.old.items marks.new.items number }
 {
-    let mut marks = vec![in alloc; false; 196_864]?;
-    for figure in figures {
-        mark(&mut marks, row_shown(*figure));
+    if let Some(number) = number {
+        if let Some(mark) = marks.get_mut(number) {
+            *mark = false;
+        }
     }
+}
+
+/// A table without marks.
+fn no_marks(alloc: Global) -> Result<Vec<bool>, AllocError>
+    ensures { IfOk result (λ marks. AreMarks spec.row_shown [] most_rows marks.items) }
+{
+    let marks = vec![in alloc; false; 196_864]?;
     Ok(marks)
+}
+
+/// Marks the rows that are shown, in a table without marks.
+fn mark_shown(marks: &mut Vec<bool>, figures: &[Figure])
+    requires { AreMarks spec.row_shown [] most_rows marks.old.items }
+    ensures { AreMarks spec.row_shown figures.now most_rows marks.new.items }
+{
+    for figure in figures {
+        mark(marks, row_shown(*figure));
+    }
+}
+
+/// Takes these marks away.
+fn unmark_shown(marks: &mut Vec<bool>, figures: &[Figure])
+    requires { AreMarks spec.row_shown figures.now most_rows marks.old.items }
+    ensures { AreMarks spec.row_shown [] most_rows marks.new.items }
+{
+    for figure in figures {
+        unmark(marks, row_shown(*figure));
+    }
 }
 
 /// Whether a row is shown.
@@ -142,17 +170,40 @@ fn push_row(
     Ok(top)
 }
 
-/// The rows that these shapes show, one below the other.
-fn rows_in(alloc: Global, figures: &[Figure], rows: &[Row]) -> Result<Vec<PlacedRow>, AllocError>
-    requires { length rows.now ≤ 30000 }
+/// The rows that are marked as shown by these shapes, one below the other.
+fn rows_marked(
+    alloc: Global,
+    marks: &[bool],
+    figures: &[Figure],
+    rows: &[Row],
+) -> Result<Vec<PlacedRow>, AllocError>
+    requires rows { length rows.now ≤ 30000 }
+    requires marks { AreMarks spec.row_shown figures.now most_rows marks.now }
     ensures { IfOk result (λ placed. placed.items ≡ spec.rows_in figures.now rows.now) }
 {
-    let marks = mark_shown(alloc, figures)?;
     let mut placed = Vec::new(alloc);
     let mut top = 0;
     for row in rows {
-        top = push_row(&mut placed, *row, top, is_shown(figures, &marks, *row))?;
+        top = push_row(&mut placed, *row, top, is_shown(figures, marks, *row))?;
     }
+    Ok(placed)
+}
+
+/// The rows that these shapes show. The table has no marks before and behind it.
+fn rows_in(
+    alloc: Global,
+    marks: &mut Vec<bool>,
+    figures: &[Figure],
+    rows: &[Row],
+) -> Result<Vec<PlacedRow>, AllocError>
+    requires rows { length rows.now ≤ 30000 }
+    requires marks { AreMarks spec.row_shown [] most_rows marks.old.items }
+    ensures rows { IfOk result (λ placed. placed.items ≡ spec.rows_in figures.now rows.now) }
+    ensures marks { OnOk result (AreMarks spec.row_shown [] most_rows marks.new.items) }
+{
+    mark_shown(marks, figures);
+    let placed = rows_marked(alloc, marks, figures, rows)?;
+    unmark_shown(marks, figures);
     Ok(placed)
 }
 
@@ -194,15 +245,34 @@ fn no_tops(alloc: Global, numbers: usize) -> Result<Vec<Option<u32>>, AllocError
     vec![in alloc; None; numbers]
 }
 
-/// The heights of a band's rows by their numbers, so that a shape finds its row without a search.
-fn tops_of(alloc: Global, rows: &[PlacedRow]) -> Result<Vec<Option<u32>>, AllocError>
-    ensures { IfOk result (λ tops. spec.AreTops rows.now tops.items) }
+/// Notes the heights of a band's rows by their numbers in a table of no rows, so that a shape finds its row without a search.
+fn note_tops(tops: &mut Vec<Option<u32>>, rows: &[PlacedRow])
+    requires { spec.AreTops [] tops.old.items }
+    ensures { spec.AreTops rows.now tops.new.items }
 {
-    let mut tops = no_tops(alloc, 196_864)?;
     for placed in rows {
-        note_top(&mut tops, *placed);
+        note_top(tops, *placed);
     }
-    Ok(tops)
+}
+
+/// Forgets what is noted under the number of a row.
+fn forget_top(tops: &mut Vec<Option<u32>>, placed: PlacedRow)
+    requires { length tops.old.items ≡ most_rows }
+    ensures forgotten { tops.new.items ≡ slice_set tops.old.items (row_number placed.row) None }
+    ensures within { row_number placed.row < most_rows }
+{
+    let number = placed.row.number();
+    tops[number] = None;
+}
+
+/// Forgets these rows.
+fn forget_tops(tops: &mut Vec<Option<u32>>, rows: &[PlacedRow])
+    requires { spec.AreTops rows.now tops.old.items }
+    ensures { spec.AreTops [] tops.new.items }
+{
+    for placed in rows {
+        forget_top(tops, *placed);
+    }
 }
 
 /// Puts a shape behind the others, if its row is there.
@@ -220,18 +290,57 @@ fn push_in_row(
     Ok(())
 }
 
+/// The shapes whose rows are in a table, at the heights of these.
+fn figures_placed(
+    alloc: Global,
+    tops: &[Option<u32>],
+    figures: &[Figure],
+) -> Result<Vec<PlacedFigure>, AllocError>
+    requires { length tops.now ≡ most_rows }
+    ensures { (rows : List PlacedRow) → IfOk result (λ placed. spec.AreTops rows tops.now → placed.items ≡ flat_map (spec.in_its_row rows) figures.now) }
+{
+    let mut placed = Vec::new(alloc);
+    for figure in figures {
+        push_in_row(&mut placed, tops, *figure)?;
+    }
+    Ok(placed)
+}
+
+/// Tables by the numbers of all rows. They are made once, and between bands nothing is in them.
+#[derive(Drop)]
+struct RowTables {
+    marks: Vec<bool>,
+    tops: Vec<Option<u32>>,
+}
+
+impl RowTables {
+    fn new(alloc: Global) -> Result<RowTables, AllocError>
+        ensures { IfOk result (λ tables. spec.AreEmpty tables.marks.items tables.tops.items) }
+    {
+        Ok(RowTables {
+            marks: no_marks(alloc)?,
+            tops: no_tops(alloc, 196_864)?,
+        })
+    }
+}
+
 impl Band {
     /// The band in which these shapes stand.
-    fn new(alloc: Global, rows: &[Row], figures: &[Figure]) -> Result<Band, AllocError>
-        requires { length rows.now ≤ 30000 }
-        ensures { IfOk result (λ band. band ≡ spec.strip_of rows.now figures.now) }
+    fn new(
+        alloc: Global,
+        tables: &mut RowTables,
+        rows: &[Row],
+        figures: &[Figure],
+    ) -> Result<Band, AllocError>
+        requires rows { length rows.now ≤ 30000 }
+        requires tables { spec.AreEmpty tables.old.marks.items tables.old.tops.items }
+        ensures band { IfOk result (λ band. band ≡ spec.content_of rows.now figures.now) }
+        ensures tables { OnOk result (spec.AreEmpty tables.new.marks.items tables.new.tops.items) }
     {
-        let shown = rows_in(alloc, figures, rows)?;
-        let tops = tops_of(alloc, &shown)?;
-        let mut placed = Vec::new(alloc);
-        for figure in figures {
-            push_in_row(&mut placed, &tops, *figure)?;
-        }
+        let shown = rows_in(alloc, &mut tables.marks, figures, rows)?;
+        note_tops(&mut tables.tops, &shown);
+        let placed = figures_placed(alloc, &tables.tops, figures)?;
+        forget_tops(&mut tables.tops, &shown);
         Ok(Band {
             rows: shown,
             figures: placed,
@@ -252,7 +361,7 @@ impl Band {
 
     /// How high it is.
     pub(crate) fn height(&self) -> u64
-        ensures height { result ≡ spec.strip_height self.now }
+        ensures height { result ≡ spec.band_height self.now }
         ensures few { result ≤ 4294973000 }
     {
         40 + rows_height(&self.rows)
@@ -263,6 +372,7 @@ impl Band {
 /// each is looked at in few bands where it doesn't stand.
 fn push_bands(
     alloc: Global,
+    tables: &mut RowTables,
     bands: &mut Vec<Band>,
     page: &Page,
     rows: &[Row],
@@ -272,19 +382,21 @@ fn push_bands(
 ) -> Result<(), AllocError>
     requires rows { length rows.now ≤ 30000 }
     requires end { end ≤ 4294967296 }
-    ensures { OnOk result (bands.new.items ≡ bands.old.items ++ spec.strips_between page.now rows.now figures.now from end) }
+    requires tables { spec.AreEmpty tables.old.marks.items tables.old.tops.items }
+    ensures bands { OnOk result (bands.new.items ≡ bands.old.items ++ spec.contents_between page.now rows.now figures.now from end) }
+    ensures tables { OnOk result (spec.AreEmpty tables.new.marks.items tables.new.tops.items) }
 {
     if from >= end {
         return Ok(());
     }
     let those = those_between(alloc, page, figures, from, end)?;
     if end - from == 1 {
-        bands.push(Band::new(alloc, rows, &those)?)?;
+        bands.push(Band::new(alloc, tables, rows, &those)?)?;
         return Ok(());
     }
     let middle = from + (end - from) / 2;
-    push_bands(alloc, bands, page, rows, &those, from, middle)?;
-    push_bands(alloc, bands, page, rows, &those, middle, end)?;
+    push_bands(alloc, tables, bands, page, rows, &those, from, middle)?;
+    push_bands(alloc, tables, bands, page, rows, &those, middle, end)?;
     Ok(())
 }
 
@@ -297,10 +409,12 @@ pub(crate) fn bands_of(
     figures: &[Figure],
 ) -> Result<Vec<Band>, AllocError>
     requires { length rows.now ≤ 30000 }
-    ensures bands { IfOk result (λ bands. bands.items ≡ spec.strips_of page.now rows.now figures.now) }
+    ensures bands { IfOk result (λ bands. bands.items ≡ spec.contents_of page.now rows.now figures.now) }
     ensures few { IfOk result (λ bands. length bands.items ≤ page.now.end) }
 {
+    let mut tables = RowTables::new(alloc)?;
     let mut bands = Vec::new(alloc);
-    push_bands(alloc, &mut bands, page, rows, figures, 0, page.bands())?;
+    let end = page.bands();
+    push_bands(alloc, &mut tables, &mut bands, page, rows, figures, 0, end)?;
     Ok(bands)
 }

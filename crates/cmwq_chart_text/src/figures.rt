@@ -9,7 +9,7 @@ use cmwq_model::{CallerId, Place, Who, WorkerId};
 use std::alloc::{AllocError, Global};
 
 /// A shape that is drawn.
-#[derive(Clone, Copy, Debug)]
+#[derive(Clone, Copy)]
 pub enum Figure {
     Wait(CallerWait),
     WaitSign(WaitSign),
@@ -20,7 +20,7 @@ pub enum Figure {
 }
 
 /// A row in which shapes are drawn; that of a caller has those of its waits below it.
-#[derive(Clone, Copy, Debug)]
+#[derive(Clone, Copy)]
 pub enum Row {
     Caller(CallerLane),
     Worker(WorkerId),

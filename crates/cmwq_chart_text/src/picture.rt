@@ -36,7 +36,7 @@ impl Model for Picture {
 
     ghost Value = { Drawing };
 
-    ghost view = { λ p. record { page = p.page; scale = p.scale; strips = p.bands.items } };
+    ghost view = { λ p. record { page = p.page; scale = p.scale; bands = p.bands.items } };
 
     ghost invariant = { λ p. (0 < p.scale) × (length p.bands.items ≤ 1073741824) };
 }
@@ -90,8 +90,8 @@ fn write_picture<W: Sink>(
 ) -> Result<(), WriteFault>
     requires few { length bands.now ≤ 1073741824 }
     requires scale { 0 < scale }
-    ensures ok { OnOk result (Appends (W.written sink.old) (W.written sink.new) (spec.picture_text (record { page = page.now; scale = scale; strips = bands.now }) entries.now)) }
-    ensures err { OnErr result (AppendsFront (W.written sink.old) (W.written sink.new) (spec.picture_text (record { page = page.now; scale = scale; strips = bands.now }) entries.now)) }
+    ensures ok { OnOk result (Appends (W.written sink.old) (W.written sink.new) (spec.picture_text (record { page = page.now; scale = scale; bands = bands.now }) entries.now)) }
+    ensures err { OnErr result (AppendsFront (W.written sink.old) (W.written sink.new) (spec.picture_text (record { page = page.now; scale = scale; bands = bands.now }) entries.now)) }
     ensures flushed { OnOk result (W.held sink.new ≡ 0) }
     ensures fault { OnErr result (Rises (W.troubles sink.old) (W.troubles sink.new)) }
 {

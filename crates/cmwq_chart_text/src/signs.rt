@@ -3,6 +3,7 @@ ghost use Rattle.std.specs.Prelude.{◌≡◌, ◌+◌, ◌≤◌, OnOk, OnErr};
 ghost use Rattle.std.specs.Io.KnownBytes.{Appends};
 ghost use Rattle.cmwq_io.specs.Counts.{Rises};
 ghost use Rattle.cmwq_io.specs.Moves.{AppendsFront};
+ghost use Rattle.cmwq_text.specs.EntryText.{entry_text};
 ghost use Rattle.cmwq_chart_text.specs.SignText as spec;
 
 use crate::filled::write_filled;
@@ -13,6 +14,16 @@ use cmwq_chart::{Sign, SignKind, WaitSign};
 use cmwq_model::Entry;
 use cmwq_text::entry_line;
 
+/// Writes the line of an entry.
+fn write_line<W: Sink>(sink: &mut W, entry: &Entry) -> Result<(), WriteFault>
+    ensures ok { OnOk result (Appends (W.written sink.old) (W.written sink.new) (entry_text entry.now)) }
+    ensures err { OnErr result (AppendsFront (W.written sink.old) (W.written sink.new) (entry_text entry.now)) }
+    ensures grown { W.troubles sink.old ≤ W.troubles sink.new }
+    ensures fault { OnErr result (Rises (W.troubles sink.old) (W.troubles sink.new)) }
+{
+    write_all(sink, entry_line(entry).as_bytes())
+}
+
 /// Writes the line of the entry at a place.
 fn write_line_at<W: Sink>(sink: &mut W, entries: &[Entry], at: u32) -> Result<(), WriteFault>
     ensures ok { OnOk result (Appends (W.written sink.old) (W.written sink.new) (spec.line_at entries.now at)) }
@@ -21,8 +32,8 @@ fn write_line_at<W: Sink>(sink: &mut W, entries: &[Entry], at: u32) -> Result<()
     ensures fault { OnErr result (Rises (W.troubles sink.old) (W.troubles sink.new)) }
 {
     match entries.get(at as usize) {
-        Some(entry) => write_all(sink, entry_line(entry).as_bytes()),
-        None => write_all(sink, &[]),
+        Some(entry) => write_line(sink, entry),
+        None => Ok(()),
     }
 }
 
@@ -94,11 +105,21 @@ fn label_template() -> &'static str
     "<text class=\"label\" x=\"$\" y=\"$\">$</text>\n"
 }
 
+/// Whether an item has three digits at most.
+fn is_short(item: Option<u16>) -> bool
+    ensures { result ≡ spec.is_short item }
+{
+    match item {
+        Some(item) => item < 1000,
+        None => false,
+    }
+}
+
 #[tactic(auto, unfolding(crate::specs::SignText::has_label))]
 fn has_label(page: &Page, sign: &Sign) -> bool
     ensures { result ≡ spec.has_label page.now sign.now }
 {
-    sign.item.is_some_and(|item| item < 1000) && 24 <= page.column_width()
+    is_short(sign.item) && 24 <= page.column_width()
 }
 
 /// What the template of a label is filled with.

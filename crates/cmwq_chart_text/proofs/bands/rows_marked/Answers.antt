@@ -1,7 +1,7 @@
 use Rattle.std.proofs.Common.{refl, arith}
 use Rattle.cmwq_chart_text.specs.Bands.{shows, stacked}
 use Rattle.cmwq_chart_text.proofs.Stacked.{rows_more}
-use Rattle.cmwq_chart_text.proofs.bands.rows_in.Goals as goal
+use Rattle.cmwq_chart_text.proofs.bands.rows_marked.Goals as goal
 
 pub loop-row-init : goal.loop-row-init
 unfolding stacked

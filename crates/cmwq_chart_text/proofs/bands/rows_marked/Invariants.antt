@@ -2,7 +2,7 @@ use Rattle.std.proofs.Common.{◌≡◌, ◌*◌, ◌≤◌, filter, take}
 use Rattle.std.specs.List.{sum_by}
 use Rattle.cmwq_chart_text.specs.Bands.{shows, stacked}
 use Rattle.cmwq_chart_text.specs.Figures.{row_height}
-use Rattle.cmwq_chart_text.proofs.bands.rows_in.Given as goal
+use Rattle.cmwq_chart_text.proofs.bands.rows_marked.Given as goal
 
 abbrev pub invariant-loop-row : goal.invariant-loop-row
 invariant-loop-row l = record {

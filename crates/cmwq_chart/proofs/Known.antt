@@ -1,0 +1,72 @@
+-- What one more entry tells of the workers' sleeps.
+use Rattle.std.proofs.Common.{◌≡◌, ℕ, ◌+◌, ◌*◌, ◌<◌, Bool, true, false, ◌==◌, ◌&&◌, List, [], ◌∷◌, length, append-nil, None, eqb-true, eq-eqb, if◌then◌else◌, refl, sym, ◌∙◌, subst, arith}
+use Rattle.std.specs.Prelude.{slice_index_or, slice_set}
+use Rattle.std.proofs.lemmas.Bool.Decides.{nat_tests}
+use Rattle.std.proofs.lemmas.List.{get_or-set_other, length-set}
+use Rattle.std.proofs.lemmas.Grind.{get_or-set_at}
+use Rattle.std.specs.Bool.{beq}
+use Rattle.cmwq_lemmas.proofs.Truth.{same_bools}
+use Rattle.cmwq_model.specs.declared.entry.Entry.{Entry}
+use Rattle.cmwq_model.specs.declared.id.Who.TheVariants.{Worker}
+use Rattle.cmwq_model.specs.declared.id.WorkerId.{WorkerId}
+use Rattle.cmwq_model.specs.Prelude.{is_by, same_worker}
+use Rattle.cmwq_chart.specs.declared.sleeps.WorkerSleeps.{WorkerSleeps}
+use Rattle.cmwq_chart.specs.Sleeps.{asleep_since, sleeps_ended, worker_number, IsNamed, IsKnown, AreKnown}
+
+-- workers with one number are one
+same_parts : (a b : Bool) (c d x y : ℕ) → x < 256 → y < 256 → 512 * c + (if a then 256 else 0) + x ≡ 512 * d + (if b then 256 else 0) + y → (c ≡ d) × (a ≡ b) × (x ≡ y)
+same_parts true true c d x y small less is = (omega arith, refl, omega arith)
+same_parts true false c d x y small less is = absurd (omega arith)
+same_parts false true c d x y small less is = absurd (omega arith)
+same_parts false false c d x y small less is = (omega arith, refl, omega arith)
+
+one_worker : (v w : WorkerId) → IsNamed v → IsNamed w → worker_number v ≡ worker_number w → v ≡ w
+one_worker v w first second is =
+    let parts = same_parts v.pool.high w.pool.high v.pool.cpu.0 w.pool.cpu.0 v.index w.index first.1 second.1 is in
+    λ i. record { pool = record { cpu = record { 0 = parts.0 i }; high = parts.1 i }; index = parts.2 i }
+
+number_within : (w : WorkerId) → IsNamed w → worker_number w < 131072
+number_within w named = by w.pool.high
+  where
+    by : (b : Bool) → 512 * w.pool.cpu.0 + (if b then 256 else 0) + w.index < 131072
+    by true = omega arith
+    by false = omega arith
+
+parts_differ : (a b : Bool) (c d x y : ℕ) → (512 * d + (if b then 256 else 0) + y == 512 * c + (if a then 256 else 0) + x) ≡ false → (((c == d) && beq a b) && (x == y)) ≡ false
+parts_differ true true c d x y h = same_bools _ _ (λ k. grind (arith, nat_tests)) (λ k. cc)
+parts_differ true false c d x y h = same_bools _ _ (λ k. grind (arith, nat_tests)) (λ k. cc)
+parts_differ false true c d x y h = same_bools _ _ (λ k. grind (arith, nat_tests)) (λ k. cc)
+parts_differ false false c d x y h = same_bools _ _ (λ k. grind (arith, nat_tests)) (λ k. cc)
+
+apart : (v w : WorkerId) → (worker_number w == worker_number v) ≡ false → same_worker v w ≡ false
+apart v w h = parts_differ v.pool.high w.pool.high v.pool.cpu.0 w.pool.cpu.0 v.index w.index h
+
+-- an entry tells nothing of a worker that didn't make it
+not_told : (past : List Entry) (e : Entry) (w : WorkerId) (known : WorkerSleeps) → is_by (Worker w) e ≡ false → IsKnown past w known → IsKnown (e ∷ past) w known
+unfolding asleep_since sleeps_ended
+not_told past e w known others is = record {
+  ended = is.ended ∙ sym (append-nil (sleeps_ended past w)) ∙ rw others refl;
+  since = is.since ∙ rw others refl;
+}
+
+pub told_by : (past : List Entry) (e : Entry) (v : WorkerId) (table : List WorkerSleeps) (own : WorkerSleeps) → e.who ≡ Worker v → IsNamed v → AreKnown past table → IsKnown (e ∷ past) v own
+    → AreKnown (e ∷ past) (slice_set table (worker_number v) own)
+told_by past e v table own who named known is = (length-set table (worker_number v) own ∙ known.0, λ w d here. at w d here (worker_number w == worker_number v) refl)
+  where
+    at : (w : WorkerId) (d : WorkerSleeps) → IsNamed w → (b : Bool) → (worker_number w == worker_number v) ≡ b → IsKnown (e ∷ past) w (slice_index_or (slice_set table (worker_number v) own) (worker_number w) d)
+    at w d here true same =
+        let numbers : worker_number w ≡ worker_number v = eqb-true _ _ same in
+        let one : v ≡ w = one_worker v w named here (sym numbers) in
+        let read : slice_index_or (slice_set table (worker_number v) own) (worker_number w) d ≡ own = get_or-set_at table (worker_number v) (worker_number w) own d numbers (rw known.0 (number_within v named)) in
+        subst (IsKnown (e ∷ past) w) (sym read) (subst (λ x. IsKnown (e ∷ past) x own) one is)
+    at w d here false same =
+        let others : is_by (Worker w) e ≡ false = rw who (apart v w same) in
+        let read : slice_index_or (slice_set table (worker_number v) own) (worker_number w) d ≡ slice_index_or table (worker_number w) d = get_or-set_other table (worker_number v) (worker_number w) own d (λ numbers. cc (same, eq-eqb (worker_number w) (worker_number v) numbers)) in
+        subst (IsKnown (e ∷ past) w) (sym read) (not_told past e w _ others (known.1 w d here))
+
+pub told_by_caller : (past : List Entry) (e : Entry) (table : List WorkerSleeps) → ((w : WorkerId) → is_by (Worker w) e ≡ false) → AreKnown past table → AreKnown (e ∷ past) table
+told_by_caller past e table others known = (known.0, λ w d here. not_told past e w _ (others w) (known.1 w d here))
+
+pub none_told : (table : List WorkerSleeps) → length table ≡ 131072 → ((k : ℕ) (d : WorkerSleeps) → k < length table → ((slice_index_or table k d).ended.items ≡ []) × ((slice_index_or table k d).since ≡ None)) → AreKnown [] table
+unfolding asleep_since sleeps_ended
+none_told table long none = (long, λ w d here. let less : worker_number w < length table = rw long (number_within w here) in record { ended = (none _ d less).0; since = (none _ d less).1 })

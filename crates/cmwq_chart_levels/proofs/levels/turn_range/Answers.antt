@@ -1,0 +1,29 @@
+use Rattle.std.proofs.Common.{◌++◌, ap, ◌∙◌}
+use Rattle.cmwq_model.specs.Prelude.{past_of}
+use Rattle.cmwq_chart_levels.proofs.Outside.{range_turned, range_ended, low_stays, high_stays}
+use Rattle.cmwq_chart_levels.proofs.levels.turn_range.Goals as goal
+
+pub returns-clause-running : goal.returns-clause-running
+returns-clause-running c =
+    let xs = c.args.running.now in
+    let i = c.count_below-from.result in
+    let j = c.count_below-end.result in
+    let front = c.split_at_mut-rest.ensures.front in
+    let rest = c.split_at_mut-rest.ensures.back in
+    let part = c.split_at_mut-part.ensures.front in
+    let back = c.split_at_mut-part.ensures.back in
+    let low = low_stays c.args.execution.now (past_of c.args.entries.now) c.args.entry c.args.change.now c.requires.followed xs c.args.range i c.requires.only c.count_below-from.ensures.below in
+    let high = high_stays c.args.execution.now (past_of c.args.entries.now) c.args.entry c.args.change.now c.requires.followed xs c.args.range i j c.requires.only (rw rest at c.count_below-end.ensures.from) in
+    rw (front, back, rest) (range_turned c.args.execution.now (past_of c.args.entries.now) c.args.entry c.args.change.now c.requires.followed xs c.turn.new.running i j c.requires.running low high (rw (part, rest) at c.in_ok-turn.ensures.running))
+
+pub returns-clause-levels : goal.returns-clause-levels
+returns-clause-levels c =
+    let xs = c.args.running.now in
+    let i = c.count_below-from.result in
+    let j = c.count_below-end.result in
+    let rest = c.split_at_mut-rest.ensures.back in
+    let part = c.split_at_mut-part.ensures.front in
+    let back = c.split_at_mut-part.ensures.back in
+    let low = low_stays c.args.execution.now (past_of c.args.entries.now) c.args.entry c.args.change.now c.requires.followed xs c.args.range i c.requires.only c.count_below-from.ensures.below in
+    let high = high_stays c.args.execution.now (past_of c.args.entries.now) c.args.entry c.args.change.now c.requires.followed xs c.args.range i j c.requires.only (rw rest at c.count_below-end.ensures.from) in
+    (rw (part, rest) at c.in_ok-turn.ensures.levels) ∙ ap (λ l. c.args.levels.now.items ++ l) (range_ended c.args.execution.now (past_of c.args.entries.now) c.args.entry c.args.change.now c.requires.followed xs i j low high)
