@@ -54,9 +54,7 @@ impl Gather for Judging {
     #[tactic(auto, unfolding(cmwq_model::specs::Calls::now))]
     fn begin(alloc: Global, shape: Shape) -> Result<Self, NoMemory> {
         let judge = Judge::new(alloc, &shape)?;
-        let Ok(judge) = Box::new(alloc, judge) else {
-            return Err(NoMemory);
-        };
+        let judge = Box::new(alloc, judge).ok().ok_or(NoMemory)?;
         let all = Trail::new();
         Ok(Judging {
             shape,

@@ -57,9 +57,7 @@ impl Gather for Recording {
         let room = shape.counts().room.min(FIRST_ROOM);
         let history = Vec::with_capacity(alloc, room as usize)?;
         let stepping = Stepping::begin(alloc, shape)?;
-        let Ok(stepping) = Box::new(alloc, stepping) else {
-            return Err(NoMemory);
-        };
+        let stepping = Box::new(alloc, stepping).ok().ok_or(NoMemory)?;
         Ok(Recording { stepping, history })
     }
 

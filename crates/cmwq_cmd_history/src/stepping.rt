@@ -67,9 +67,7 @@ impl Gather for Stepping {
     fn begin(alloc: Global, shape: Shape) -> Result<Self, NoMemory> {
         let room = shape.counts().room;
         let execution = Execution::new(alloc, &shape, room)?;
-        let Ok(execution) = Box::new(alloc, execution) else {
-            return Err(NoMemory);
-        };
+        let execution = Box::new(alloc, execution).ok().ok_or(NoMemory)?;
         let all = Trail::new();
         Ok(Stepping {
             shape,
