@@ -97,7 +97,9 @@ impl<N: HubName> Readers<N> {
     pub fn next(&mut self) -> Option<Reader<N>>
         ensures { MatchOption result ((self.old ≡ 0) × (self.new ≡ 0)) (λ _. self.old ≡ self.new + 1) }
     {
-        let reader = self.readers.pop()?;
+        let Some(reader) = self.readers.pop() else {
+            return None;
+        };
         Some(Reader {
             reader,
             of: PhantomData,

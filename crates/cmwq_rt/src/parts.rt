@@ -36,15 +36,14 @@ pub struct HubParts {
     ghost shares: { blank.parts ≡ shares },
 }
 
-/// What is made beside the published history.
-#[derive(Drop)]
+/// What is made beside the published history. The execution is made last, as it has the most to drop.
 struct Rest {
     shape: Shape,
     shape_of_monitor: Shape,
     sleepers: Sleepers,
     condvars: Condvars,
-    execution: Execution,
     tail: Tail<Entry>,
+    execution: Execution,
 }
 
 fn rest_of(alloc: Global, shape: &Shape, kept: u32) -> Result<Rest, NoMemory>
@@ -57,8 +56,8 @@ fn rest_of(alloc: Global, shape: &Shape, kept: u32) -> Result<Rest, NoMemory>
         shape_of_monitor: shape.copy(alloc)?,
         sleepers: Sleepers::new(alloc, shape)?,
         condvars: Condvars::new(alloc, shape)?,
-        execution: Execution::new(alloc, shape, shape.counts().room)?,
         tail: Tail::new(alloc, kept)?,
+        execution: Execution::new(alloc, shape, shape.counts().room)?,
     })
 }
 
@@ -121,10 +120,11 @@ impl HubParts {
         ensures readers { IfOk result (λ p. p.opening.readers ≡ readers) }
         ensures fault { IfErr result (λ f. f ≡ faults.NoMemory None) }
     {
-        let Ok(rest) = rest_of(alloc, shape, kept) else {
+        let Ok(opening) = Opening::new(rt, alloc, shape, usize::from(readers)) else {
             return Err(RunFault::NoMemory { ticket: None });
         };
-        let Ok(opening) = Opening::new(rt, alloc, shape, usize::from(readers)) else {
+        let Ok(rest) = rest_of(alloc, shape, kept) else {
+            opening.end(rt);
             return Err(RunFault::NoMemory { ticket: None });
         };
         let Rest {
