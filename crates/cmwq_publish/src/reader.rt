@@ -97,9 +97,7 @@ impl<N: HubName> Readers<N> {
     pub fn next(&mut self) -> Option<Reader<N>>
         ensures { MatchOption result ((self.old ≡ 0) × (self.new ≡ 0)) (λ _. self.old ≡ self.new + 1) }
     {
-        let Some(reader) = self.readers.pop() else {
-            return None;
-        };
+        let reader = self.readers.pop()?;
         Some(Reader {
             reader,
             of: PhantomData,

@@ -51,14 +51,29 @@ fn rest_of(alloc: Global, shape: &Shape, kept: u32) -> Result<Rest, NoMemory>
     ensures execution { IfOk result (λ r. r.execution ≡ record { layout = shape.now; room = shape.now.room; entries = [] }) }
     ensures tail { IfOk result (λ r. r.tail.all ≡ []) }
 {
+    let (sleepers, condvars) = sleepers_of(alloc, shape)?;
+    let tail = Tail::new(alloc, kept)?;
+    let (own, of_monitor) = copies_of(alloc, shape)?;
     Ok(Rest {
-        shape: shape.copy(alloc)?,
-        shape_of_monitor: shape.copy(alloc)?,
-        sleepers: Sleepers::new(alloc, shape)?,
-        condvars: Condvars::new(alloc, shape)?,
-        tail: Tail::new(alloc, kept)?,
+        shape: own,
+        shape_of_monitor: of_monitor,
+        sleepers,
+        condvars,
+        tail,
         execution: Execution::new(alloc, shape, shape.counts().room)?,
     })
+}
+
+fn sleepers_of(alloc: Global, shape: &Shape) -> Result<(Sleepers, Condvars), NoMemory> {
+    let sleepers = Sleepers::new(alloc, shape)?;
+    Ok((sleepers, Condvars::new(alloc, shape)?))
+}
+
+fn copies_of(alloc: Global, shape: &Shape) -> Result<(Shape, Shape), NoMemory>
+    ensures { IfOk result (λ t. (t.0 ≡ shape.now) × (t.1 ≡ shape.now)) }
+{
+    let own = shape.copy(alloc)?;
+    Ok((own, shape.copy(alloc)?))
 }
 
 impl HubParts {
