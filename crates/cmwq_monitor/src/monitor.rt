@@ -536,17 +536,20 @@ impl<N: HubName> Monitor<N> {
         ensures legal { IsLegal N.layout (past_of self.history) }
     {
         let Monitor {
-            shape: _shape,
+            shape,
             execution,
             tail,
             publisher,
             entries: _entries,
-            sleepers: _sleepers,
+            sleepers,
             failed: _,
             closed: _,
             crowded: _,
         } = self;
         let _len = execution.len();
+        release(execution);
+        drop(sleepers);
+        drop(shape);
         publisher.end(rt);
         let first = tail.first();
         Rest {
@@ -555,6 +558,9 @@ impl<N: HubName> Monitor<N> {
         }
     }
 }
+
+/// Apart, so that little else is alive while its many parts are dropped.
+fn release(_execution: Execution) {}
 
 fn is_done(reply: Reply) -> bool
     ensures { result ≡ is_done reply }

@@ -1,8 +1,9 @@
 //! The hub: one monitor behind a lock.
-ghost use Rattle.std.specs.Prelude.{◌≡◌, ◌⊎◌, ◌<◌, ◌≤◌, ◌++◌, [], OnErr, true, false, IsTrue, IfOk, IfErr, None, Some, slice_get};
+ghost use Rattle.std.specs.Prelude.{◌≡◌, ◌⊎◌, ◌<◌, ◌≤◌, ◌++◌, [], OnErr, true, false, IsTrue, IfOk, IfErr, IfSome, MatchOption, None, Some, slice_get};
 ghost use Rattle.std.specs.Sync.Mutex.{mutex_guard_value};
 ghost use mathlib.Core.List.{IsPrefix};
 ghost use Rattle.cmwq_model.specs.declared.call.Call.TheVariants as calls;
+ghost use Rattle.cmwq_model.specs.declared.reply.Reply.TheVariants as replies;
 ghost use Rattle.cmwq_model.specs.Prelude.{fits, past_of, IsLegal};
 ghost use Rattle.cmwq_monitor.specs.Participants.{is_caller};
 ghost use Rattle.cmwq_monitor.specs.Calls.{Extends};
@@ -281,22 +282,42 @@ impl<N: HubName> Hub<N> {
             Call::Drain { .. } => self.with_fires(),
             _ => 1,
         };
+        let (monitor, ended) = self.until_done(rt, monitor, participant, call, ticket, most);
+        match ended {
+            Ok(()) => {}
+            Err(fault) => {
+                self.leave(monitor);
+                return Err(fault);
+            }
+        }
+        if is_drain(call) {
+            return self.until_fired(rt, monitor, participant);
+        }
+        self.leave(monitor);
+        Ok(())
+    }
+
+    /// Sleeps until the ticket's end is done, and keeps the lock.
+    fn until_done<'a, R: Wait>(
+        &self,
+        rt: &R,
+        monitor: MutexGuard<'a, Monitor<N>>,
+        participant: &mut Participant<N>,
+        call: Call,
+        ticket: Number,
+        most: u32,
+    ) -> (MutexGuard<'a, Monitor<N>>, Result<(), RunFault>)
+        requires { is_caller participant.old.who ≡ true }
+        ensures done { IfOk result.1 (λ _. Extends N.layout participant.old (calls.End ticket) replies.Done participant.new) }
+        ensures stopped { IfErr result.1 (λ f. (participant.new ≡ participant.old) × Stops participant.old (Some ticket) f) }
+    {
         let mut monitor = monitor;
         for _ in rt.forever() {
             monitor = self.spacious(rt, monitor, participant.who(), most);
             match monitor.end_ticket(rt, participant, ticket) {
-                Ok(true) => {
-                    if is_drain(call) {
-                        return self.until_fired(rt, monitor, participant);
-                    }
-                    self.leave(monitor);
-                    return Ok(());
-                }
+                Ok(true) => return (monitor, Ok(())),
                 Ok(false) => {}
-                Err(fault) => {
-                    self.leave(monitor);
-                    return Err(fault);
-                }
+                Err(fault) => return (monitor, Err(fault)),
             }
             monitor.waits(participant.who(), call, ticket);
             monitor = self.sleep(rt, monitor, participant.who());
@@ -305,7 +326,6 @@ impl<N: HubName> Hub<N> {
     }
 
     /// Sleeps until the worker may start a queueing, or may go: none, as nothing active is open; and lets the lock go.
-    #[tactic(auto, using(crate::proofs::Running::refused_breaks_off, crate::proofs::Running::stranger_breaks_off))]
     pub(crate) fn until_start<R: Wait>(
         &self,
         rt: &R,
@@ -320,24 +340,9 @@ impl<N: HubName> Hub<N> {
         let mut monitor = monitor;
         for _ in rt.forever() {
             monitor = self.spacious(rt, monitor, participant.who(), 1);
-            match monitor.start(rt, participant) {
-                Ok(None) => {}
-                Ok(Some(item)) => {
-                    self.leave(monitor);
-                    return Ok(Some(item));
-                }
-                Err(fault) => {
-                    self.leave(monitor);
-                    return Err(fault);
-                }
-            }
-            if monitor.is_over() {
-                let settled = monitor.settle(participant);
+            if let Some(next) = next_start(rt, &mut *monitor, participant) {
                 self.leave(monitor);
-                return match settled {
-                    Ok(()) => Ok(None),
-                    Err(fault) => Err(fault),
-                };
+                return next;
             }
             monitor.idles(participant.who());
             monitor = self.sleep(rt, monitor, participant.who());
@@ -377,6 +382,32 @@ impl<N: HubName> Hub<N> {
             is_dropping: _,
         } = self;
         monitor.into_inner()
+    }
+}
+
+/// What the worker does next, or nothing where it is to sleep.
+fn next_start<N: HubName, R: Wait>(
+    rt: &R,
+    monitor: &mut Monitor<N>,
+    participant: &mut Participant<N>,
+) -> Option<Result<Option<ItemId>, RunFault>>
+    requires { is_caller participant.old.who ≡ false }
+    ensures fault { IfSome result (λ next. IfErr next (λ f. breaks_off f ≡ true)) }
+    ensures next { MatchOption result (participant.new ≡ participant.old) (λ next. IfOk next (λ o. IsNextStart N.layout participant.old o participant.new)) }
+    ensures later { Later participant.old participant.new }
+{
+    match monitor.start(rt, participant) {
+        Ok(None) => {}
+        Ok(Some(item)) => return Some(Ok(Some(item))),
+        Err(fault) => return Some(Err(fault)),
+    }
+    if !monitor.is_over() {
+        return None;
+    }
+    let settled = monitor.settle(participant);
+    match settled {
+        Ok(()) => Some(Ok(None)),
+        Err(fault) => Some(Err(fault)),
     }
 }
 

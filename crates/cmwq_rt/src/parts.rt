@@ -36,15 +36,14 @@ pub struct HubParts {
     ghost shares: { blank.parts ≡ shares },
 }
 
-/// What is made beside the published history.
-#[derive(Drop)]
+/// What is made beside the published history. The execution is made last, as it has the most to drop.
 struct Rest {
     shape: Shape,
     shape_of_monitor: Shape,
     sleepers: Sleepers,
     condvars: Condvars,
-    execution: Execution,
     tail: Tail<Entry>,
+    execution: Execution,
 }
 
 fn rest_of(alloc: Global, shape: &Shape, kept: u32) -> Result<Rest, NoMemory>
@@ -52,14 +51,29 @@ fn rest_of(alloc: Global, shape: &Shape, kept: u32) -> Result<Rest, NoMemory>
     ensures execution { IfOk result (λ r. r.execution ≡ record { layout = shape.now; room = shape.now.room; entries = [] }) }
     ensures tail { IfOk result (λ r. r.tail.all ≡ []) }
 {
+    let (sleepers, condvars) = sleepers_of(alloc, shape)?;
+    let tail = Tail::new(alloc, kept)?;
+    let (own, of_monitor) = copies_of(alloc, shape)?;
     Ok(Rest {
-        shape: shape.copy(alloc)?,
-        shape_of_monitor: shape.copy(alloc)?,
-        sleepers: Sleepers::new(alloc, shape)?,
-        condvars: Condvars::new(alloc, shape)?,
+        shape: own,
+        shape_of_monitor: of_monitor,
+        sleepers,
+        condvars,
+        tail,
         execution: Execution::new(alloc, shape, shape.counts().room)?,
-        tail: Tail::new(alloc, kept)?,
     })
+}
+
+fn sleepers_of(alloc: Global, shape: &Shape) -> Result<(Sleepers, Condvars), NoMemory> {
+    let sleepers = Sleepers::new(alloc, shape)?;
+    Ok((sleepers, Condvars::new(alloc, shape)?))
+}
+
+fn copies_of(alloc: Global, shape: &Shape) -> Result<(Shape, Shape), NoMemory>
+    ensures { IfOk result (λ t. (t.0 ≡ shape.now) × (t.1 ≡ shape.now)) }
+{
+    let own = shape.copy(alloc)?;
+    Ok((own, shape.copy(alloc)?))
 }
 
 impl HubParts {
@@ -121,10 +135,11 @@ impl HubParts {
         ensures readers { IfOk result (λ p. p.opening.readers ≡ readers) }
         ensures fault { IfErr result (λ f. f ≡ faults.NoMemory None) }
     {
-        let Ok(rest) = rest_of(alloc, shape, kept) else {
+        let Ok(opening) = Opening::new(rt, alloc, shape, usize::from(readers)) else {
             return Err(RunFault::NoMemory { ticket: None });
         };
-        let Ok(opening) = Opening::new(rt, alloc, shape, usize::from(readers)) else {
+        let Ok(rest) = rest_of(alloc, shape, kept) else {
+            opening.end(rt);
             return Err(RunFault::NoMemory { ticket: None });
         };
         let Rest {

@@ -75,7 +75,7 @@ impl<'a, N: HubName, R: Wait> RunCtx<'a, N, R> {
     }
 
     /// Makes a worker's call: one entry, or none at a fault.
-    #[tactic(auto, using(crate::proofs::Later::later_made, crate::proofs::Later::later_refused, crate::proofs::Running::refused_breaks_off))]
+    #[tactic(auto, using(crate::proofs::Running::refused_breaks_off))]
     fn make(&mut self, call: Call) -> Result<Reply, RunFault>
         requires workers { is_workers call ≡ true }
         requires numbers { has_numbers N.layout call ≡ true }

@@ -136,7 +136,6 @@ impl<N: HubName> Hub<N> {
     }
 
     /// Ends the run, and starts the next one: in one hold of the lock, if there is one now.
-    #[tactic(auto, using(crate::proofs::Running::refused_breaks_off))]
     fn go_on<R: Wait>(
         &self,
         rt: &R,
