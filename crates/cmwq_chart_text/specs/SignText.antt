@@ -44,11 +44,11 @@ sign_numbers p top sign = item_shade sign.item ∷ middle_of p sign.at ∷ (top 
 unfoldable pub label_template : List ℕ
 label_template = codes "<text class=\"label\" x=\"$\" y=\"$\">$</text>\n"
 
-abbrev pub is_short : Option ℕ → Bool
-is_short item = option_map_or (λ i. nat_lt i 1000) item false
+abbrev pub has_few_digits : Option ℕ → Bool
+has_few_digits item = option_map_or (λ i. nat_lt i 1000) item false
 
 unfoldable pub has_label : Page → Sign → Bool
-has_label p sign = is_short sign.item && nat_le 24 (column_width p)
+has_label p sign = has_few_digits sign.item && nat_le 24 (column_width p)
 
 abbrev pub label_numbers : Page → ℕ → Sign → List ℕ
 label_numbers p top sign = (middle_of p sign.at + 4) ∷ (top + 11) ∷ option_map_or (λ i. i) sign.item 0 ∷ []

@@ -106,8 +106,8 @@ fn label_template() -> &'static str
 }
 
 /// Whether an item has three digits at most.
-fn is_short(item: Option<u16>) -> bool
-    ensures { result ≡ spec.is_short item }
+fn has_few_digits(item: Option<u16>) -> bool
+    ensures { result ≡ spec.has_few_digits item }
 {
     match item {
         Some(item) => item < 1000,
@@ -119,7 +119,7 @@ fn is_short(item: Option<u16>) -> bool
 fn has_label(page: &Page, sign: &Sign) -> bool
     ensures { result ≡ spec.has_label page.now sign.now }
 {
-    is_short(sign.item) && 24 <= page.column_width()
+    has_few_digits(sign.item) && 24 <= page.column_width()
 }
 
 /// What the template of a label is filled with.

@@ -71,7 +71,7 @@ impl Book {
         self.execution.reply(who, call)
     }
 
-    /// The entry that a step of this call would append, found with all that it does, so that `commit` needn't find it again.
+    /// The entry that a step of this call would append, found with what it ends and opens, and with the bits that it leaves: `commit` makes it.
     ///
     /// # Errors
     /// `Full` where there is no room for the entry and for what would be owed then, exactly as at `step`.
