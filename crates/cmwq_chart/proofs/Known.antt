@@ -11,7 +11,7 @@ use Rattle.cmwq_model.specs.declared.id.Who.TheVariants.{Worker}
 use Rattle.cmwq_model.specs.declared.id.WorkerId.{WorkerId}
 use Rattle.cmwq_model.specs.Prelude.{is_by, same_worker}
 use Rattle.cmwq_chart.specs.declared.sleeps.WorkerSleeps.{WorkerSleeps}
-use Rattle.cmwq_chart.specs.Sleeps.{asleep_since, sleeps_ended, worker_number, IsNamed, IsKnown, AreKnown}
+use Rattle.cmwq_chart.specs.Sleeps.{asleep_since, sleeps_ended, table_number, HasTableNumber, AreSleepsKnown, AreAllSleepsKnown}
 
 -- workers with one number are one
 same_parts : (a b : Bool) (c d x y : ℕ) → x < 256 → y < 256 → 512 * c + (if a then 256 else 0) + x ≡ 512 * d + (if b then 256 else 0) + y → (c ≡ d) × (a ≡ b) × (x ≡ y)
@@ -20,12 +20,12 @@ same_parts true false c d x y small less is = absurd (omega arith)
 same_parts false true c d x y small less is = absurd (omega arith)
 same_parts false false c d x y small less is = (omega arith, refl, omega arith)
 
-one_worker : (v w : WorkerId) → IsNamed v → IsNamed w → worker_number v ≡ worker_number w → v ≡ w
+one_worker : (v w : WorkerId) → HasTableNumber v → HasTableNumber w → table_number v ≡ table_number w → v ≡ w
 one_worker v w first second is =
     let parts = same_parts v.pool.high w.pool.high v.pool.cpu.0 w.pool.cpu.0 v.index w.index first.1 second.1 is in
     λ i. record { pool = record { cpu = record { 0 = parts.0 i }; high = parts.1 i }; index = parts.2 i }
 
-number_within : (w : WorkerId) → IsNamed w → worker_number w < 131072
+number_within : (w : WorkerId) → HasTableNumber w → table_number w < 131072
 number_within w named = by w.pool.high
   where
     by : (b : Bool) → 512 * w.pool.cpu.0 + (if b then 256 else 0) + w.index < 131072
@@ -38,35 +38,35 @@ parts_differ true false c d x y h = same_bools _ _ (λ k. grind (arith, nat_test
 parts_differ false true c d x y h = same_bools _ _ (λ k. grind (arith, nat_tests)) (λ k. cc)
 parts_differ false false c d x y h = same_bools _ _ (λ k. grind (arith, nat_tests)) (λ k. cc)
 
-apart : (v w : WorkerId) → (worker_number w == worker_number v) ≡ false → same_worker v w ≡ false
+apart : (v w : WorkerId) → (table_number w == table_number v) ≡ false → same_worker v w ≡ false
 apart v w h = parts_differ v.pool.high w.pool.high v.pool.cpu.0 w.pool.cpu.0 v.index w.index h
 
 -- an entry tells nothing of a worker that didn't make it
-not_told : (past : List Entry) (e : Entry) (w : WorkerId) (known : WorkerSleeps) → is_by (Worker w) e ≡ false → IsKnown past w known → IsKnown (e ∷ past) w known
+not_told : (past : List Entry) (e : Entry) (w : WorkerId) (known : WorkerSleeps) → is_by (Worker w) e ≡ false → AreSleepsKnown past w known → AreSleepsKnown (e ∷ past) w known
 unfolding asleep_since sleeps_ended
 not_told past e w known others is = record {
   ended = is.ended ∙ sym (append-nil (sleeps_ended past w)) ∙ rw others refl;
   since = is.since ∙ rw others refl;
 }
 
-pub told_by : (past : List Entry) (e : Entry) (v : WorkerId) (table : List WorkerSleeps) (own : WorkerSleeps) → e.who ≡ Worker v → IsNamed v → AreKnown past table → IsKnown (e ∷ past) v own
-    → AreKnown (e ∷ past) (slice_set table (worker_number v) own)
-told_by past e v table own who named known is = (length-set table (worker_number v) own ∙ known.0, λ w d here. at w d here (worker_number w == worker_number v) refl)
+pub told_by : (past : List Entry) (e : Entry) (v : WorkerId) (table : List WorkerSleeps) (own : WorkerSleeps) → e.who ≡ Worker v → HasTableNumber v → AreAllSleepsKnown past table → AreSleepsKnown (e ∷ past) v own
+    → AreAllSleepsKnown (e ∷ past) (slice_set table (table_number v) own)
+told_by past e v table own who named known is = (length-set table (table_number v) own ∙ known.0, λ w d here. at w d here (table_number w == table_number v) refl)
   where
-    at : (w : WorkerId) (d : WorkerSleeps) → IsNamed w → (b : Bool) → (worker_number w == worker_number v) ≡ b → IsKnown (e ∷ past) w (slice_index_or (slice_set table (worker_number v) own) (worker_number w) d)
+    at : (w : WorkerId) (d : WorkerSleeps) → HasTableNumber w → (b : Bool) → (table_number w == table_number v) ≡ b → AreSleepsKnown (e ∷ past) w (slice_index_or (slice_set table (table_number v) own) (table_number w) d)
     at w d here true same =
-        let numbers : worker_number w ≡ worker_number v = eqb-true _ _ same in
+        let numbers : table_number w ≡ table_number v = eqb-true _ _ same in
         let one : v ≡ w = one_worker v w named here (sym numbers) in
-        let read : slice_index_or (slice_set table (worker_number v) own) (worker_number w) d ≡ own = get_or-set_at table (worker_number v) (worker_number w) own d numbers (rw known.0 (number_within v named)) in
-        subst (IsKnown (e ∷ past) w) (sym read) (subst (λ x. IsKnown (e ∷ past) x own) one is)
+        let read : slice_index_or (slice_set table (table_number v) own) (table_number w) d ≡ own = get_or-set_at table (table_number v) (table_number w) own d numbers (rw known.0 (number_within v named)) in
+        subst (AreSleepsKnown (e ∷ past) w) (sym read) (subst (λ x. AreSleepsKnown (e ∷ past) x own) one is)
     at w d here false same =
         let others : is_by (Worker w) e ≡ false = rw who (apart v w same) in
-        let read : slice_index_or (slice_set table (worker_number v) own) (worker_number w) d ≡ slice_index_or table (worker_number w) d = get_or-set_other table (worker_number v) (worker_number w) own d (λ numbers. cc (same, eq-eqb (worker_number w) (worker_number v) numbers)) in
-        subst (IsKnown (e ∷ past) w) (sym read) (not_told past e w _ others (known.1 w d here))
+        let read : slice_index_or (slice_set table (table_number v) own) (table_number w) d ≡ slice_index_or table (table_number w) d = get_or-set_other table (table_number v) (table_number w) own d (λ numbers. cc (same, eq-eqb (table_number w) (table_number v) numbers)) in
+        subst (AreSleepsKnown (e ∷ past) w) (sym read) (not_told past e w _ others (known.1 w d here))
 
-pub told_by_caller : (past : List Entry) (e : Entry) (table : List WorkerSleeps) → ((w : WorkerId) → is_by (Worker w) e ≡ false) → AreKnown past table → AreKnown (e ∷ past) table
+pub told_by_caller : (past : List Entry) (e : Entry) (table : List WorkerSleeps) → ((w : WorkerId) → is_by (Worker w) e ≡ false) → AreAllSleepsKnown past table → AreAllSleepsKnown (e ∷ past) table
 told_by_caller past e table others known = (known.0, λ w d here. not_told past e w _ (others w) (known.1 w d here))
 
-pub none_told : (table : List WorkerSleeps) → length table ≡ 131072 → ((k : ℕ) (d : WorkerSleeps) → k < length table → ((slice_index_or table k d).ended.items ≡ []) × ((slice_index_or table k d).since ≡ None)) → AreKnown [] table
+pub none_told : (table : List WorkerSleeps) → length table ≡ 131072 → ((k : ℕ) (d : WorkerSleeps) → k < length table → ((slice_index_or table k d).ended.items ≡ []) × ((slice_index_or table k d).since ≡ None)) → AreAllSleepsKnown [] table
 unfolding asleep_since sleeps_ended
-none_told table long none = (long, λ w d here. let less : worker_number w < length table = rw long (number_within w here) in record { ended = (none _ d less).0; since = (none _ d less).1 })
+none_told table long none = (long, λ w d here. let less : table_number w < length table = rw long (number_within w here) in record { ended = (none _ d less).0; since = (none _ d less).1 })

@@ -45,15 +45,15 @@ abbrev pub sleeps_of : List Entry → List WorkerId → List Sleep
 sleeps_of past lanes = flat_map (sleeps_by past) lanes
 
 -- ---- what is known of each worker behind a past, in a table by the numbers of all workers that an entry can name
-abbrev pub worker_number : WorkerId → ℕ
-worker_number w = 512 * w.pool.cpu.0 + (if w.pool.high then 256 else 0) + w.index
+abbrev pub table_number : WorkerId → ℕ
+table_number w = 512 * w.pool.cpu.0 + (if w.pool.high then 256 else 0) + w.index
 
-abbrev pub IsNamed : WorkerId → Type 0
-IsNamed w = (w.pool.cpu.0 < 256) × (w.index < 256)
+abbrev pub HasTableNumber : WorkerId → Type 0
+HasTableNumber w = (w.pool.cpu.0 < 256) × (w.index < 256)
 
-pub record IsKnown (past : List Entry) (w : WorkerId) (known : WorkerSleeps) : Type 0 where
+pub record AreSleepsKnown (past : List Entry) (w : WorkerId) (known : WorkerSleeps) : Type 0 where
   pub ended : known.ended.items ≡ sleeps_ended past w
   pub since : known.since ≡ asleep_since past w
 
-abbrev pub AreKnown : List Entry → List WorkerSleeps → Type 0
-AreKnown past table = (length table ≡ 131072) × ((w : WorkerId) (d : WorkerSleeps) → IsNamed w → IsKnown past w (slice_index_or table (worker_number w) d))
+abbrev pub AreAllSleepsKnown : List Entry → List WorkerSleeps → Type 0
+AreAllSleepsKnown past table = (length table ≡ 131072) × ((w : WorkerId) (d : WorkerSleeps) → HasTableNumber w → AreSleepsKnown past w (slice_index_or table (table_number w) d))

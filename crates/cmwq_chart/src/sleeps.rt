@@ -104,9 +104,9 @@ struct WorkerSleeps {
 }
 
 /// A number for each worker that an entry can name.
-fn worker_number(worker: WorkerId) -> usize
-    ensures number { result ≡ spec.worker_number worker }
-    ensures within { spec.IsNamed worker }
+fn table_number(worker: WorkerId) -> usize
+    ensures number { result ≡ spec.table_number worker }
+    ensures within { spec.HasTableNumber worker }
 {
     let high = if worker.pool.high { 256 } else { 0 };
     512 * usize::from(worker.pool.cpu.0) + high + usize::from(worker.index)
@@ -114,7 +114,7 @@ fn worker_number(worker: WorkerId) -> usize
 
 /// What is known before the first entry.
 fn none_known(alloc: Global) -> Result<Vec<WorkerSleeps>, AllocError>
-    ensures { IfOk result (λ known. spec.AreKnown [] known.items) }
+    ensures { IfOk result (λ known. spec.AreAllSleepsKnown [] known.items) }
 {
     let mut known = Vec::new(alloc);
     for _ in 0..WORKERS {
@@ -134,8 +134,8 @@ fn follow_worker(
     worker: WorkerId,
 ) -> Result<(), AllocError>
     requires short { length entries.now ≤ 1073741824 }
-    requires known { spec.IsKnown (past_of entries.now) worker own.old }
-    ensures { OnOk result (spec.IsKnown (entry ∷ past_of entries.now) worker own.new) }
+    requires known { spec.AreSleepsKnown (past_of entries.now) worker own.old }
+    ensures { OnOk result (spec.AreSleepsKnown (entry ∷ past_of entries.now) worker own.new) }
 {
     keep(
         &mut own.ended,
@@ -148,11 +148,11 @@ fn follow_worker(
 /// Takes what is known beyond an entry behind these, which tells of its own worker alone.
 fn follow(known: &mut Vec<WorkerSleeps>, entries: &[Entry], entry: Entry) -> Result<(), AllocError>
     requires short { length entries.now ≤ 1073741824 }
-    requires known { spec.AreKnown (past_of entries.now) known.old.items }
-    ensures { OnOk result (spec.AreKnown (entry ∷ past_of entries.now) known.new.items) }
+    requires known { spec.AreAllSleepsKnown (past_of entries.now) known.old.items }
+    ensures { OnOk result (spec.AreAllSleepsKnown (entry ∷ past_of entries.now) known.new.items) }
 {
     if let Who::Worker(worker) = entry.who {
-        let number = worker_number(worker);
+        let number = table_number(worker);
         follow_worker(&mut known[number], entries, entry, worker)?;
     }
     Ok(())
@@ -161,7 +161,7 @@ fn follow(known: &mut Vec<WorkerSleeps>, entries: &[Entry], entry: Entry) -> Res
 /// What is known behind all entries.
 fn all_known(alloc: Global, entries: &[Entry]) -> Result<Vec<WorkerSleeps>, AllocError>
     requires { length entries.now ≤ 1073741824 }
-    ensures { IfOk result (λ known. spec.AreKnown (past_of entries.now) known.items) }
+    ensures { IfOk result (λ known. spec.AreAllSleepsKnown (past_of entries.now) known.items) }
 {
     let mut known = none_known(alloc)?;
     for k in 0..entries.len() {
@@ -177,7 +177,7 @@ fn push_sleeps(
     own: &WorkerSleeps,
     worker: WorkerId,
 ) -> Result<(), AllocError>
-    ensures { (past : List Entry) → spec.IsKnown past worker own.now → OnOk result (sleeps.new.items ≡ sleeps.old.items ++ spec.sleeps_by past worker) }
+    ensures { (past : List Entry) → spec.AreSleepsKnown past worker own.now → OnOk result (sleeps.new.items ≡ sleeps.old.items ++ spec.sleeps_by past worker) }
 {
     let since = own.since;
     sleeps.extend_from_slice(&own.ended)?;
@@ -197,7 +197,7 @@ pub fn sleeps_of(
     let known = all_known(alloc, entries)?;
     let mut sleeps = Vec::new(alloc);
     for worker in lanes {
-        push_sleeps(&mut sleeps, &known[worker_number(*worker)], *worker)?;
+        push_sleeps(&mut sleeps, &known[table_number(*worker)], *worker)?;
     }
     Ok(sleeps)
 }

@@ -15,7 +15,7 @@ use Rattle.cmwq_model.proofs.Limits.{limits_of}
 use Rattle.cmwq_model.specs.Prelude.{Layout, is_layout, most_cpus}
 use Rattle.cmwq_chart.specs.declared.levels.Level.{Level}
 use Rattle.cmwq_chart.specs.Levels.{has_queueings, level_number, level_until, levels_left, place_on, places_of_queue, places_of}
-use Rattle.cmwq_chart_levels.specs.Affected.{AreInOrder}
+use Rattle.cmwq_chart_levels.specs.Affected.{AreLevelsInOrder}
 
 module _ {X : Type 0} (f : X → ℕ) where
   rises_append : (xs ys : List X) (m : ℕ) → RisesBy f xs → RisesBy f ys → AllByRecursion (λ x. f x < m) xs → AllByRecursion (λ y. m ≤ f y) ys → RisesBy f (xs ++ ys)
@@ -61,7 +61,7 @@ pub places_in_order : (s : Layout) (queueings : List Queueing) → IsTrue (is_la
 unfolding places_of
 places_in_order s queueings inside = in_order level_number (places_of s queueings) (rises_filter level_number (has_queueings queueings) _ (of_queues s 0 (length s.queues) (limits_of s inside).cpus.1).0)
 
-pub levels_in_order : (s : Layout) (past : List Entry) (places : List Place) → IsNonDecreasingBy level_number places → AreInOrder (levels_left s past places)
+pub levels_in_order : (s : Layout) (past : List Entry) (places : List Place) → IsNonDecreasingBy level_number places → AreLevelsInOrder (levels_left s past places)
 levels_in_order s past places order i j d le less =
     let long = length-map places (level_until s past None) in
     let least = order i j d.place le (omega (arith, long)) in

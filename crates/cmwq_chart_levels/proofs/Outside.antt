@@ -23,7 +23,7 @@ use Rattle.cmwq_chart_levels.specs.declared.affected.AffectedPlaces.{AffectedPla
 use Rattle.cmwq_chart_levels.specs.declared.affected.AffectedPlaces.TheVariants.{Nowhere, Within, Everywhere}
 use Rattle.cmwq_chart_levels.specs.declared.steps.Change.{Change}
 use Rattle.cmwq_chart_levels.specs.Turns.{is_one_of_place, IsFollowed, IsLevelAfter, ended_levels, level_after}
-use Rattle.cmwq_chart_levels.specs.Affected.{is_width, keeps_width, moves_at, affects, has_number, AreRanges, AreAffected, IsOnlyWithin}
+use Rattle.cmwq_chart_levels.specs.Affected.{is_width, keeps_width, moves_at, affects, has_level_number, AreRanges, AreAffected, IsOnlyWithin}
 use Rattle.cmwq_chart_levels.proofs.Unmoved.{height_stays, none_left, stays_level}
 
 -- ---- an entry that keeps the width of a queue
@@ -74,13 +74,13 @@ neither false false h = (refl, refl)
 neither false true h = cc
 neither true b h = cc
 
-pub one_moved : (change : Change) (x : Queueing) (a : AffectedPlaces) → (change.opened ≡ Some x) × (change.ended ≡ None) → AreAffected (has_number (level_number x.place) (level_number x.place)) a → AreAffected (moves_at change) a
+pub one_moved : (change : Change) (x : Queueing) (a : AffectedPlaces) → (change.opened ≡ Some x) × (change.ended ≡ None) → AreAffected (has_level_number (level_number x.place) (level_number x.place)) a → AreAffected (moves_at change) a
 one_moved change x a is h = fewer _ (moves_at change) (λ p none. let at : same_place p x.place ≡ false = elsewhere p x.place (neither _ _ none).0 in rw (is.0, is.1, at) refl) a h
 
-pub one_ended : (change : Change) (x : Queueing) (a : AffectedPlaces) → (change.opened ≡ None) × (change.ended ≡ Some x) → AreAffected (has_number (level_number x.place) (level_number x.place)) a → AreAffected (moves_at change) a
+pub one_ended : (change : Change) (x : Queueing) (a : AffectedPlaces) → (change.opened ≡ None) × (change.ended ≡ Some x) → AreAffected (has_level_number (level_number x.place) (level_number x.place)) a → AreAffected (moves_at change) a
 one_ended change x a is h = fewer _ (moves_at change) (λ p none. let at : same_place p x.place ≡ false = elsewhere p x.place (neither _ _ none).0 in rw (is.0, is.1, at) refl) a h
 
-pub both_moved : (change : Change) (x y : Queueing) (a : AffectedPlaces) → (change.opened ≡ Some x) × (change.ended ≡ Some y) → AreAffected (has_number (level_number x.place) (level_number y.place)) a → AreAffected (moves_at change) a
+pub both_moved : (change : Change) (x y : Queueing) (a : AffectedPlaces) → (change.opened ≡ Some x) × (change.ended ≡ Some y) → AreAffected (has_level_number (level_number x.place) (level_number y.place)) a → AreAffected (moves_at change) a
 both_moved change x y a is h = fewer _ (moves_at change) (λ p none.
     let first : same_place p x.place ≡ false = elsewhere p x.place (neither _ _ none).0 in
     let second : same_place p y.place ≡ false = elsewhere p y.place (neither _ _ none).1 in

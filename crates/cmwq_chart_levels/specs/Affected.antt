@@ -30,8 +30,8 @@ abbrev pub affects : Entry → Change → Place → Bool
 affects e change p = not (keeps_width e p.queue.0) || moves_at change p
 
 -- ---- as ranges of the places' numbers
-abbrev pub has_number : ℕ → ℕ → Place → Bool
-has_number n m p = (level_number p == n) || (level_number p == m)
+abbrev pub has_level_number : ℕ → ℕ → Place → Bool
+has_level_number n m p = (level_number p == n) || (level_number p == m)
 
 -- no place outside two ranges is affected
 pub record AreRanges (affected : Place → Bool) (first second : PlaceRange) : Type 0 where
@@ -45,8 +45,8 @@ AreAffected affected (Within first second) = AreRanges affected first second
 AreAffected affected Everywhere = Unit {0}
 
 -- ---- levels by the numbers of their places
-abbrev pub AreInOrder : List Level → Type 0
-AreInOrder = IsNonDecreasingBy (λ l. level_number l.place)
+abbrev pub AreLevelsInOrder : List Level → Type 0
+AreLevelsInOrder = IsNonDecreasingBy (λ l. level_number l.place)
 
 -- where its place is outside a range, an entry doesn't affect it
 pub record IsOnlyWithin (affected : Place → Bool) (range : PlaceRange) (l : Level) : Type 0 where

@@ -31,7 +31,7 @@ pub(crate) fn place_number(place: Place) -> usize
 
 /// These two places.
 fn two_places(one: Place, other: Place) -> AffectedPlaces
-    ensures { spec.AreAffected (spec.has_number (level_number one) (level_number other)) result }
+    ensures { spec.AreAffected (spec.has_level_number (level_number one) (level_number other)) result }
 {
     let first = place_number(one).min(place_number(other));
     let second = place_number(one).max(place_number(other));

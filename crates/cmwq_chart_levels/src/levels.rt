@@ -6,7 +6,7 @@ ghost use Rattle.cmwq_model.specs.Prelude.{IsLegal, past_of};
 ghost use Rattle.cmwq_core.specs.History.{past_in};
 ghost use Rattle.cmwq_chart.specs.Levels as spec;
 ghost use Rattle.cmwq_chart.specs.Levels.{level_number};
-ghost use Rattle.cmwq_chart_levels.specs.Affected.{affects, AreInOrder, AreRanges, IsOnlyWithin};
+ghost use Rattle.cmwq_chart_levels.specs.Affected.{affects, AreLevelsInOrder, AreRanges, IsOnlyWithin};
 ghost use Rattle.cmwq_chart_levels.specs.Turns.{IsLevelAfter, after_if, ended_if, IsFollowed, ended_levels, level_after as level_then};
 
 use crate::affected::{AffectedPlaces, PlaceRange, place_number, places_affected};
@@ -106,7 +106,7 @@ fn turn(
 
 /// How many of the levels are of places with lower numbers.
 fn count_below(levels: &[Level], number: usize) -> usize
-    requires { AreInOrder levels.now }
+    requires { AreLevelsInOrder levels.now }
     ensures within { result ≤ length levels.now }
     ensures below { All (λ l. level_number l.place < number) (take result levels.now) }
     ensures from { All (λ l. number ≤ level_number l.place) (drop result levels.now) }
@@ -127,7 +127,7 @@ fn turn_range(
     requires short { length entries.now ≤ 1073741824 }
     requires followed { IsFollowed execution.now (past_of entries.now) entry change.now }
     requires running { All (IsLevelAfter execution.now.layout (past_of entries.now)) running.old }
-    requires order { AreInOrder running.old }
+    requires order { AreLevelsInOrder running.old }
     requires only { All (IsOnlyWithin (affects entry change.now) range) running.old }
     ensures running { OnOk result (running.new ≡ map (level_then execution.now.layout (entry ∷ past_of entries.now)) running.old) }
     ensures levels { OnOk result (levels.new.items ≡ levels.old.items ++ flat_map (ended_levels execution.now.layout (past_of entries.now) entry) running.old) }
@@ -154,7 +154,7 @@ fn turn_ranges(
     requires short { length entries.now ≤ 1073741824 }
     requires followed { IsFollowed execution.now (past_of entries.now) entry change.now }
     requires running { All (IsLevelAfter execution.now.layout (past_of entries.now)) running.old }
-    requires order { AreInOrder running.old }
+    requires order { AreLevelsInOrder running.old }
     requires ranges { AreRanges (affects entry change.now) first second }
     ensures running { OnOk result (running.new ≡ map (level_then execution.now.layout (entry ∷ past_of entries.now)) running.old) }
     ensures levels { OnOk result (levels.new.items ≡ levels.old.items ++ flat_map (ended_levels execution.now.layout (past_of entries.now) entry) running.old) }
@@ -178,7 +178,7 @@ fn turn_affected(
     requires short { length entries.now ≤ 1073741824 }
     requires followed { IsFollowed execution.now (past_of entries.now) entry change.now }
     requires running { All (IsLevelAfter execution.now.layout (past_of entries.now)) running.old }
-    requires order { AreInOrder running.old }
+    requires order { AreLevelsInOrder running.old }
     ensures running { OnOk result (running.new ≡ map (level_then execution.now.layout (entry ∷ past_of entries.now)) running.old) }
     ensures levels { OnOk result (levels.new.items ≡ levels.old.items ++ flat_map (ended_levels execution.now.layout (past_of entries.now) entry) running.old) }
 {

@@ -6,7 +6,7 @@ use Rattle.std.specs.List.{range_with_len}
 use Rattle.cmwq_chart_text.specs.declared.figures.Figure.{Figure}
 use Rattle.cmwq_chart_text.specs.declared.figures.Row.{Row}
 use Rattle.cmwq_chart_text.specs.declared.page.Page.{Page}
-use Rattle.cmwq_chart_text.specs.Bands.{Content, bands_behind, first_band, stands_between, content_in, content_of, contents_between}
+use Rattle.cmwq_chart_text.specs.Bands.{Content, bands_behind, first_band, stands_between, content_in, content_of, band_contents_between}
 use Rattle.cmwq_chart_text.specs.Figures.{is_flat}
 use Rattle.cmwq_chart_text.specs.Pages.{bands}
 
@@ -44,12 +44,12 @@ module _ (p : Page) (rows : List Row) (figures : List Figure) (from end : ℕ) w
       subst (λ k. map (content_in p rows those) (range_with_len a k) ≡ map (content_in p rows figures) (range_with_len a k)) (sym one)
       (map-range_with_len_more (content_in p rows those) a n (a + n) refl ∙ ap₂ (λ l s. l ++ s ∷ []) before last ∙ sym (map-range_with_len_more (content_in p rows figures) a n (a + n) refl))
 
-  pub no_bands : (old : List Content) → end ≤ from → old ≡ old ++ contents_between p rows figures from end
+  pub no_bands : (old : List Content) → end ≤ from → old ≡ old ++ band_contents_between p rows figures from end
   no_bands old over =
       let none : end - from ≡ 0 = omega arith in
       sym (ap (λ n. old ++ map (content_in p rows figures) (range_with_len from n)) none ∙ append-nil old)
 
-  pub one_band : (old : List Content) → end - from ≡ 1 → old ++ content_of rows those ∷ [] ≡ old ++ contents_between p rows figures from end
+  pub one_band : (old : List Content) → end - from ≡ 1 → old ++ content_of rows those ∷ [] ≡ old ++ band_contents_between p rows figures from end
   one_band old one =
       let next : end ≡ from + 1 = omega arith in
       ap (λ e. old ++ content_of rows (filter (stands_between p from e) figures) ∷ []) next ∙ sym (ap (λ n. old ++ map (content_in p rows figures) (range_with_len from n)) one)
@@ -67,19 +67,19 @@ halves f a m (suc n) =
     ∙ ap (λ k. map f (range_with_len a m) ++ map f (range_with_len (a + m) k)) (sym one)
 
 pub both_halves : (p : Page) (rows : List Row) (figures those : List Figure) (from middle end : ℕ) (old mid new : List Content) → from ≤ middle → middle ≤ end
-    → those ≡ filter (stands_between p from end) figures → mid ≡ old ++ contents_between p rows those from middle → new ≡ mid ++ contents_between p rows those middle end
-    → new ≡ old ++ contents_between p rows figures from end
+    → those ≡ filter (stands_between p from end) figures → mid ≡ old ++ band_contents_between p rows those from middle → new ≡ mid ++ band_contents_between p rows those middle end
+    → new ≡ old ++ band_contents_between p rows figures from end
 both_halves p rows figures those from middle end old mid new since until are first second =
     let f = content_in p rows figures in
     let m : from + (middle - from) ≡ middle = omega arith in
     let n : (middle - from) + (end - middle) ≡ end - from = omega arith in
-    let left : contents_between p rows those from middle ≡ contents_between p rows figures from middle =
-    ap (λ l. contents_between p rows l from middle) are ∙ same_contents p rows figures from end from (middle - from) (omega arith) (omega arith) in
-    let right : contents_between p rows those middle end ≡ contents_between p rows figures middle end =
-    ap (λ l. contents_between p rows l middle end) are ∙ same_contents p rows figures from end middle (end - middle) since (omega arith) in
-    let all : map f (range_with_len from (end - from)) ≡ contents_between p rows figures from middle ++ contents_between p rows figures middle end =
-    ap (λ k. map f (range_with_len from k)) (sym n) ∙ halves f from (middle - from) (end - middle) ∙ ap (λ k. contents_between p rows figures from middle ++ map f (range_with_len k (end - middle))) m in
-    second ∙ ap₂ (λ l r. l ++ r) (first ∙ ap (λ l. old ++ l) left) right ∙ append_assoc old (contents_between p rows figures from middle) (contents_between p rows figures middle end) ∙ ap (λ l. old ++ l) (sym all)
+    let left : band_contents_between p rows those from middle ≡ band_contents_between p rows figures from middle =
+    ap (λ l. band_contents_between p rows l from middle) are ∙ same_contents p rows figures from end from (middle - from) (omega arith) (omega arith) in
+    let right : band_contents_between p rows those middle end ≡ band_contents_between p rows figures middle end =
+    ap (λ l. band_contents_between p rows l middle end) are ∙ same_contents p rows figures from end middle (end - middle) since (omega arith) in
+    let all : map f (range_with_len from (end - from)) ≡ band_contents_between p rows figures from middle ++ band_contents_between p rows figures middle end =
+    ap (λ k. map f (range_with_len from k)) (sym n) ∙ halves f from (middle - from) (end - middle) ∙ ap (λ k. band_contents_between p rows figures from middle ++ map f (range_with_len k (end - middle))) m in
+    second ∙ ap₂ (λ l r. l ++ r) (first ∙ ap (λ l. old ++ l) left) right ∙ append_assoc old (band_contents_between p rows figures from middle) (band_contents_between p rows figures middle end) ∙ ap (λ l. old ++ l) (sym all)
 
-pub few_bands : (p : Page) (rows : List Row) (figures : List Figure) (contents : List Content) → contents ≡ contents_between p rows figures 0 (bands p) → bands p ≤ p.end → length contents ≤ p.end
+pub few_bands : (p : Page) (rows : List Row) (figures : List Figure) (contents : List Content) → contents ≡ band_contents_between p rows figures 0 (bands p) → bands p ≤ p.end → length contents ≤ p.end
 few_bands p rows figures contents are few = omega (arith, few, ap length are ∙ length-map-range_with_len (content_in p rows figures) 0 (bands p - 0))

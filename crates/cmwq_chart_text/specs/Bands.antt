@@ -90,11 +90,11 @@ content_of rows figures = record { rows = rows_in figures rows; figures = flat_m
 abbrev pub content_in : Page → List Row → List Figure → ℕ → Content
 content_in p rows figures band = content_of rows (figures_in p figures band)
 
-abbrev pub contents_between : Page → List Row → List Figure → ℕ → ℕ → List Content
-contents_between p rows figures from end = map (content_in p rows figures) (range_with_len from (end - from))
+abbrev pub band_contents_between : Page → List Row → List Figure → ℕ → ℕ → List Content
+band_contents_between p rows figures from end = map (content_in p rows figures) (range_with_len from (end - from))
 
-abbrev pub contents_of : Page → List Row → List Figure → List Content
-contents_of p rows figures = contents_between p rows figures 0 (bands p)
+abbrev pub band_contents : Page → List Row → List Figure → List Content
+band_contents p rows figures = band_contents_between p rows figures 0 (bands p)
 
 -- a band is a line for the numbers of the entries, the rows, and a gap; above the first stands the head
 abbrev pub band_height : Content → ℕ

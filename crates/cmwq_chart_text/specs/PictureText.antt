@@ -7,7 +7,7 @@ use Rattle.cmwq_chart_text.specs.declared.figures.Figure.{Figure}
 use Rattle.cmwq_chart_text.specs.declared.figures.Row.{Row}
 use Rattle.cmwq_chart_text.specs.declared.page.Page.{Page}
 use Rattle.cmwq_chart_text.specs.declared.page.Window.{Window}
-use Rattle.cmwq_chart_text.specs.Bands.{Content, band_top, contents_of}
+use Rattle.cmwq_chart_text.specs.Bands.{Content, band_top, band_contents}
 use Rattle.cmwq_chart_text.specs.BandText.{band_text}
 use Rattle.cmwq_chart_text.specs.FrameText.{picture_head, picture_end}
 use Rattle.cmwq_chart_text.specs.LevelText.{scale_of}
@@ -21,7 +21,7 @@ pub record Drawing : Type 0 where
 
 -- what a window shows of n entries, which have these rows and shapes
 abbrev pub drawing_on : Page → List Row → List Figure → Drawing
-drawing_on p rows figures = record { page = p; scale = scale_of figures; bands = contents_of p rows figures }
+drawing_on p rows figures = record { page = p; scale = scale_of figures; bands = band_contents p rows figures }
 
 abbrev pub drawing_of : Window → ℕ → List Row → List Figure → Drawing
 drawing_of w n rows figures = drawing_on (page_of w n) rows figures

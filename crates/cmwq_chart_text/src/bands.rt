@@ -383,7 +383,7 @@ fn push_bands(
     requires rows { length rows.now ≤ 30000 }
     requires end { end ≤ 4294967296 }
     requires tables { spec.AreEmpty tables.old.marks.items tables.old.tops.items }
-    ensures bands { OnOk result (bands.new.items ≡ bands.old.items ++ spec.contents_between page.now rows.now figures.now from end) }
+    ensures bands { OnOk result (bands.new.items ≡ bands.old.items ++ spec.band_contents_between page.now rows.now figures.now from end) }
     ensures tables { OnOk result (spec.AreEmpty tables.new.marks.items tables.new.tops.items) }
 {
     if from >= end {
@@ -409,7 +409,7 @@ pub(crate) fn bands_of(
     figures: &[Figure],
 ) -> Result<Vec<Band>, AllocError>
     requires { length rows.now ≤ 30000 }
-    ensures bands { IfOk result (λ bands. bands.items ≡ spec.contents_of page.now rows.now figures.now) }
+    ensures bands { IfOk result (λ bands. bands.items ≡ spec.band_contents page.now rows.now figures.now) }
     ensures few { IfOk result (λ bands. length bands.items ≤ page.now.end) }
 {
     let mut tables = RowTables::new(alloc)?;

@@ -3,7 +3,7 @@ use Rattle.std.proofs.lemmas.List.{length-map, length-take}
 use Rattle.cmwq_model.specs.Prelude.{past_of}
 use Rattle.cmwq_core.specs.History.{History}
 use Rattle.cmwq_chart.specs.Levels.{levels_ended}
-use Rattle.cmwq_chart_levels.specs.Affected.{AreInOrder}
+use Rattle.cmwq_chart_levels.specs.Affected.{AreLevelsInOrder}
 use Rattle.cmwq_chart_levels.proofs.InOrder.{levels_in_order}
 use Rattle.cmwq_chart_levels.proofs.Outside.{all_written}
 use Rattle.cmwq_chart_levels.proofs.Turned.{legal_next, entries_next, followed_next, running_goes_on, levels_next, running_next}
@@ -38,7 +38,7 @@ turn_affected-requires c =
       short = omega (arith, c.requires.short, length-take c.loop-k.k c.args.entries.now);
       followed = followed_next c.args.execution.now.layout c.args.entries.now c.loop-k.k c.entry_at-entry.result c.loop-k.execution _ less c.entry_at-entry.ensures i.layout i.entries c.in_ok-change.ensures.followed _ c.requires.legal c.in_ok-change.ensures.change;
       running = running_goes_on c.args.execution.now.layout c.args.entries.now c.loop-k.k c.entry_at-entry.result c.loop-k.execution _ less c.entry_at-entry.ensures i.layout i.entries c.in_ok-change.ensures.followed c.args.places.now _ c.requires.inside now;
-      order = subst AreInOrder (sym now) (levels_in_order c.args.execution.now.layout (past_of (take c.loop-k.k c.args.entries.now)) c.args.places.now c.requires.order);
+      order = subst AreLevelsInOrder (sym now) (levels_in_order c.args.execution.now.layout (past_of (take c.loop-k.k c.args.entries.now)) c.args.places.now c.requires.order);
     }
 
 pub loop-k-preserved : goal.loop-k-preserved
