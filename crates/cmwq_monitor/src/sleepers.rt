@@ -64,6 +64,21 @@ struct Waiter {
     is_woken: bool,
 }
 
+/// The workers of a pool that sleep, a bit for each index: those that may start something, and those that were found to be in the reserve.
+/// And the one that was woken and hasn't looked yet what it may start.
+#[derive(Clone, Copy)]
+struct IdleWorkers {
+    bits: u64,
+    reserve: u64,
+    woken: Option<u8>,
+}
+
+const NONE_IDLE: IdleWorkers = IdleWorkers {
+    bits: 0,
+    reserve: 0,
+    woken: None,
+};
+
 /// The waits that callers sleep for, and of each pool which workers sleep.
 #[derive(Drop)]
 pub struct Sleepers {
@@ -71,8 +86,8 @@ pub struct Sleepers {
     waiters: Vec<Waiter>,
     /// The flushes, in the order in which they were begun.
     flushes: Vec<Waiter>,
-    /// A word for each pool, in which a worker has the bit of its index.
-    idle: Vec<u64>,
+    /// By pool.
+    idle: Vec<IdleWorkers>,
     wakes: Wakes,
 }
 
@@ -106,7 +121,14 @@ fn flushed_queue(ended: Option<Queueing>, done: Option<Ticket>) -> Option<QueueI
     }
 }
 
-/// The pool of this CPU in which the queue's items run.
+/// The pools in which an entry may have let something start.
+enum Touched {
+    None,
+    One(PoolId),
+    All,
+}
+
+/// The pool in which the queue's items run that are queued on this CPU.
 fn pool_at(shape: &Shape, queue: QueueId, cpu: CpuId) -> Touched {
     match shape.queues().get(usize::from(queue.0)) {
         Some(queue) => Touched::One(PoolId {
@@ -117,14 +139,7 @@ fn pool_at(shape: &Shape, queue: QueueId, cpu: CpuId) -> Touched {
     }
 }
 
-/// The pools in which an entry may have let something start.
-enum Touched {
-    None,
-    One(PoolId),
-    All,
-}
-
-/// A worker that has finished asks for the next itself, and so wakes nobody. What is queued while its item runs waits for that run, in
+/// What an entry lets start by what it queues, or by who starts, sleeps or retires. What is queued while its item runs waits for that run, in
 /// whose pool it is.
 fn pools_touched_by(shape: &Shape, entry: Entry) -> Touched {
     match (entry.reply, entry.who, entry.call) {
@@ -134,25 +149,23 @@ fn pools_touched_by(shape: &Shape, entry: Entry) -> Touched {
             _,
         ) => Touched::One(worker.pool),
         (
-            Reply::Yes(_),
+            Reply::Yes(_) | Reply::Again(_),
             _,
             Call::Queue { queue, cpu, .. }
             | Call::Delay { queue, cpu, .. }
             | Call::Modify { queue, cpu, .. },
         ) => pool_at(shape, queue, cpu),
-        (
-            Reply::Again(_)
-            | Reply::Rebooked(_)
-            | Reply::Fired(_, _)
-            | Reply::Cancelled(_)
-            | Reply::TicketQueued(_)
-            | Reply::TicketCancelled(_, _)
-            | Reply::Width(_)
-            | Reply::Thawed,
-            _,
-            _,
-        ) => Touched::All,
+        (Reply::Fired(_, _) | Reply::TicketQueued(_) | Reply::Width(_) | Reply::Thawed, _, _) =>
+            Touched::All,
         _ => Touched::None,
+    }
+}
+
+/// What an entry lets start in place of what it takes back. A worker that has finished asks for the next itself.
+fn pool_freed_by(shape: &Shape, entry: Entry, ended: Queueing) -> Touched {
+    match entry.reply {
+        Reply::Finished(_) => Touched::None,
+        _ => pool_at(shape, ended.place.queue, ended.place.cpu),
     }
 }
 
@@ -206,7 +219,7 @@ impl Sleepers {
         Ok(Sleepers {
             waiters: Vec::with_capacity(alloc, usize::from(counts.callers))?,
             flushes: Vec::with_capacity(alloc, usize::from(counts.callers))?,
-            idle: Vec::from_elem(alloc, 0, 2 * usize::from(counts.cpus))?,
+            idle: Vec::from_elem(alloc, NONE_IDLE, 2 * usize::from(counts.cpus))?,
             wakes: NOBODY,
         })
     }
@@ -222,7 +235,7 @@ impl Sleepers {
     /// A worker goes to sleep until it may start something.
     pub fn idles(&mut self, worker: WorkerId) {
         if let Some(idle) = self.idle.get_mut(place_of(worker.pool)) {
-            *idle |= bit(worker.index);
+            idle.bits |= bit(worker.index);
         }
     }
 
@@ -235,13 +248,27 @@ impl Sleepers {
                 self.flushes
                     .retain(|waiter| waiter.ticket.caller.0 != caller.0);
             }
-            Who::Worker(worker) => self.is_up(worker),
+            Who::Worker(worker) => self.looks(worker),
         }
     }
 
-    fn is_up(&mut self, worker: WorkerId) {
+    /// A worker looks itself what it may start.
+    fn looks(&mut self, worker: WorkerId) {
         if let Some(idle) = self.idle.get_mut(place_of(worker.pool)) {
-            *idle &= !bit(worker.index);
+            idle.bits &= !bit(worker.index);
+            idle.reserve &= !bit(worker.index);
+            if idle.woken == Some(worker.index) {
+                idle.woken = None;
+            }
+        }
+    }
+
+    /// By the start of this worker the one of that index has left the reserve of their pool.
+    fn is_enlisted(&mut self, starter: Who, index: u8) {
+        let Who::Worker(worker) = starter else { return };
+        if let Some(idle) = self.idle.get_mut(place_of(worker.pool)) {
+            idle.bits |= idle.reserve & bit(index);
+            idle.reserve &= !bit(index);
         }
     }
 
@@ -256,17 +283,17 @@ impl Sleepers {
     )
         requires { book.now.layout ≡ shape.now }
     {
+        if let Reply::StartedEnlist(_, index) = entry.reply {
+            self.is_enlisted(entry.who, index);
+        }
         if let Some(ended) = ended {
             self.wake_ended(book, ended);
+            self.wake_touched(book, shape, pool_freed_by(shape, entry, ended));
         }
         if let Some(queue) = flushed_queue(ended, done) {
             self.wake_flushes(book, queue);
         }
-        match pools_touched_by(shape, entry) {
-            Touched::None => {}
-            Touched::One(pool) => self.wake_pool(book, shape, pool),
-            Touched::All => self.wake_pools(book, shape),
-        }
+        self.wake_touched(book, shape, pools_touched_by(shape, entry));
     }
 
     /// Wakes those who wait for the item or for all of the queue, where that has ended.
@@ -295,6 +322,16 @@ impl Sleepers {
         }
     }
 
+    fn wake_touched(&mut self, book: &Execution, shape: &Shape, touched: Touched)
+        requires { book.now.layout ≡ shape.now }
+    {
+        match touched {
+            Touched::None => {}
+            Touched::One(pool) => self.wake_pool(book, shape, pool),
+            Touched::All => self.wake_pools(book, shape),
+        }
+    }
+
     fn wake_pools(&mut self, book: &Execution, shape: &Shape)
         requires { book.now.layout ≡ shape.now }
     {
@@ -306,14 +343,18 @@ impl Sleepers {
         }
     }
 
-    /// Wakes one of the pool's sleeping workers, if it would start a queueing.
+    /// Wakes one of the pool's sleeping workers, if it would start a queueing. Where one was woken and hasn't looked yet, no other is: what it
+    /// starts wakes the next.
     fn wake_pool(&mut self, book: &Execution, shape: &Shape, pool: PoolId)
         requires { book.now.layout ≡ shape.now }
     {
-        let Some(idle) = self.idle.get(place_of(pool)) else {
+        let Some(idle) = self.idle.get_mut(place_of(pool)) else {
             return;
         };
-        let mut rest = *idle;
+        if idle.woken.is_some() {
+            return;
+        }
+        let mut rest = idle.bits;
         for _ in 0..64 {
             if rest == 0 {
                 return;
@@ -321,10 +362,15 @@ impl Sleepers {
             let index = rest.trailing_zeros() as u8;
             let worker = WorkerId { pool, index };
             match prospect_of(book, shape, worker) {
-                Prospect::Reserve => rest &= rest - 1,
+                Prospect::Reserve => {
+                    rest &= rest - 1;
+                    idle.bits &= !bit(index);
+                    idle.reserve |= bit(index);
+                }
                 Prospect::Nothing => return,
                 Prospect::Starts => {
-                    self.is_up(worker);
+                    idle.bits &= !bit(index);
+                    idle.woken = Some(index);
                     self.wakes.add_worker(worker);
                     return;
                 }

@@ -15,8 +15,8 @@ use cmwq_model::{Call, CpuId, ItemId, Number, QueueId, Reply, Who};
 use cmwq_monitor::{Monitor, Participant, RunFault};
 use cmwq_publish::{HubName, Reader};
 use std::marker::Model;
-use std::sync::Wait;
 use std::sync::ledger::Share;
+use std::sync::{MutexGuard, Wait};
 
 /// One of the callers of a hub. Contracts see who it is, its serial and the history that it has seen.
 #[derive(Drop)]
@@ -133,8 +133,85 @@ impl<N: HubName> Caller<N> {
         hub.call(rt, &mut self.participant, call)
     }
 
+    /// A whole call under the lock, which is let go while the call waits: it makes its entry and those that belong to it.
+    pub(crate) fn make_locked<'a, R: Wait>(
+        &mut self,
+        rt: &R,
+        hub: &'a Hub<N>,
+        monitor: MutexGuard<'a, Monitor<N>>,
+        call: Call,
+    ) -> (MutexGuard<'a, Monitor<N>>, Result<Reply, RunFault>)
+        requires callers { is_callers call ≡ true }
+        requires numbers { has_numbers N.layout call ≡ true }
+        ensures done { IfOk result.1 (λ reply. Completes N.layout self.old call reply self.new) }
+        ensures broke { IfErr result.1 (λ f. BrokeOff N.layout self.old call f self.new) }
+    {
+        match call {
+            Call::Tick { ticks } => self.tick_locked(rt, hub, monitor, ticks),
+            _ => self.wait_out(rt, hub, monitor, call),
+        }
+    }
+
     /// A call that may give a ticket, which is ended as soon as it may be.
-    pub(crate) fn wait_out<R: Wait>(
+    fn wait_out<'a, R: Wait>(
+        &mut self,
+        rt: &R,
+        hub: &'a Hub<N>,
+        monitor: MutexGuard<'a, Monitor<N>>,
+        call: Call,
+    ) -> (MutexGuard<'a, Monitor<N>>, Result<Reply, RunFault>)
+        requires callers { is_callers call ≡ true }
+        requires numbers { has_numbers N.layout call ≡ true }
+        requires waits { is_tick call ≡ false }
+        ensures done { IfOk result.1 (λ reply. Completes N.layout self.old call reply self.new) }
+        ensures broke { IfErr result.1 (λ f. BrokeOff N.layout self.old call f self.new) }
+    {
+        let _who = self.participant.who();
+        let mut monitor = hub.spacious(rt, monitor, self.participant.who(), 1);
+        let reply = match monitor.call(rt, &mut self.participant, call) {
+            Ok(reply) => reply,
+            Err(fault) => return (monitor, Err(fault)),
+        };
+        let Some(ticket) = ticket_in(reply) else {
+            return (monitor, Ok(reply));
+        };
+        let (monitor, ended) = hub.until_ended(rt, monitor, &mut self.participant, call, ticket);
+        match ended {
+            Ok(()) => {}
+            Err(fault) => return (monitor, Err(fault)),
+        }
+        (monitor, Ok(reply))
+    }
+
+    /// A tick, and all that is due behind it.
+    fn tick_locked<'a, R: Wait>(
+        &mut self,
+        rt: &R,
+        hub: &'a Hub<N>,
+        monitor: MutexGuard<'a, Monitor<N>>,
+        ticks: u32,
+    ) -> (MutexGuard<'a, Monitor<N>>, Result<Reply, RunFault>)
+        ensures done { IfOk result.1 (λ reply. Completes N.layout self.old (calls.Tick ticks) reply self.new) }
+        ensures broke { IfErr result.1 (λ f. BrokeOff N.layout self.old (calls.Tick ticks) f self.new) }
+    {
+        let mut monitor = hub.spacious(rt, monitor, self.participant.who(), hub.with_fires());
+        let reply = match monitor.call(rt, &mut self.participant, Call::Tick { ticks }) {
+            Ok(reply) => reply,
+            Err(fault) => return (monitor, Err(fault)),
+        };
+        let (monitor, fired) = hub.until_fired(rt, monitor, &mut self.participant);
+        match fired {
+            Ok(()) => {}
+            Err(fault) => return (monitor, Err(fault)),
+        }
+        (monitor, Ok(reply))
+    }
+
+    /// A whole call: it makes its entry and those that belong to it, as the method of its name does.
+    ///
+    /// # Errors
+    /// Those of that method.
+    pub fn make_whole<R: Wait>(
         &mut self,
         rt: &R,
         hub: &Hub<N>,
@@ -142,27 +219,12 @@ impl<N: HubName> Caller<N> {
     ) -> Result<Reply, RunFault>
         requires callers { is_callers call ≡ true }
         requires numbers { has_numbers N.layout call ≡ true }
-        requires waits { is_tick call ≡ false }
         ensures done { IfOk result (λ reply. Completes N.layout self.old call reply self.new) }
         ensures broke { IfErr result (λ f. BrokeOff N.layout self.old call f self.new) }
     {
-        let _who = self.participant.who();
-        let mut monitor = hub.spacious(rt, hub.lock(rt), self.participant.who(), 1);
-        let reply = match monitor.call(rt, &mut self.participant, call) {
-            Ok(reply) => reply,
-            Err(fault) => {
-                hub.leave(monitor);
-                return Err(fault);
-            }
-        };
-        let Some(ticket) = ticket_in(reply) else {
-            hub.leave(monitor);
-            return Ok(reply);
-        };
-        if let Err(fault) = hub.until_ended(rt, monitor, &mut self.participant, call, ticket) {
-            return Err(fault);
-        }
-        Ok(reply)
+        let (monitor, answer) = self.make_locked(rt, hub, hub.lock(rt), call);
+        hub.leave(monitor);
+        answer
     }
 
     /// Queues an item (`queue_work_on`): one entry.
@@ -336,18 +398,7 @@ impl<N: HubName> Caller<N> {
         ensures done { IfOk result (λ reply. Completes N.layout self.old (calls.Tick ticks) reply self.new) }
         ensures broke { IfErr result (λ f. BrokeOff N.layout self.old (calls.Tick ticks) f self.new) }
     {
-        let mut monitor = hub.spacious(rt, hub.lock(rt), self.participant.who(), hub.with_fires());
-        let reply = match monitor.call(rt, &mut self.participant, Call::Tick { ticks }) {
-            Ok(reply) => reply,
-            Err(fault) => {
-                hub.leave(monitor);
-                return Err(fault);
-            }
-        };
-        if let Err(fault) = hub.until_fired(rt, monitor, &mut self.participant) {
-            return Err(fault);
-        }
-        Ok(reply)
+        self.make_whole(rt, hub, Call::Tick { ticks })
     }
 
     /// Waits until all that was queued on a queue before has ended (`flush_workqueue`): the entry that begins the wait, and the one that ends it.
@@ -364,7 +415,7 @@ impl<N: HubName> Caller<N> {
         ensures done { IfOk result (λ reply. Completes N.layout self.old (calls.Flush queue) reply self.new) }
         ensures broke { IfErr result (λ f. BrokeOff N.layout self.old (calls.Flush queue) f self.new) }
     {
-        self.wait_out(rt, hub, Call::Flush { queue })
+        self.make_whole(rt, hub, Call::Flush { queue })
     }
 
     /// Waits until the queueings of an item that are open have ended (`flush_work`): one entry where there are none, else two.
@@ -381,7 +432,7 @@ impl<N: HubName> Caller<N> {
         ensures done { IfOk result (λ reply. Completes N.layout self.old (calls.FlushItem item) reply self.new) }
         ensures broke { IfErr result (λ f. BrokeOff N.layout self.old (calls.FlushItem item) f self.new) }
     {
-        self.wait_out(rt, hub, Call::FlushItem { item })
+        self.make_whole(rt, hub, Call::FlushItem { item })
     }
 
     /// The same, after queueing the item at once if it is delayed (`flush_delayed_work`).
@@ -398,7 +449,7 @@ impl<N: HubName> Caller<N> {
         ensures done { IfOk result (λ reply. Completes N.layout self.old (calls.FlushDelayed item) reply self.new) }
         ensures broke { IfErr result (λ f. BrokeOff N.layout self.old (calls.FlushDelayed item) f self.new) }
     {
-        self.wait_out(rt, hub, Call::FlushDelayed { item })
+        self.make_whole(rt, hub, Call::FlushDelayed { item })
     }
 
     /// Takes an item back and waits until it doesn't run (`cancel_work_sync`, `cancel_delayed_work_sync`): two entries.
@@ -415,7 +466,7 @@ impl<N: HubName> Caller<N> {
         ensures done { IfOk result (λ reply. Completes N.layout self.old (calls.CancelSync item) reply self.new) }
         ensures broke { IfErr result (λ f. BrokeOff N.layout self.old (calls.CancelSync item) f self.new) }
     {
-        self.wait_out(rt, hub, Call::CancelSync { item })
+        self.make_whole(rt, hub, Call::CancelSync { item })
     }
 
     /// Waits until a queue is empty (`drain_workqueue`), and then fires what is due: two entries and those of the fires.
@@ -432,7 +483,7 @@ impl<N: HubName> Caller<N> {
         ensures done { IfOk result (λ reply. Completes N.layout self.old (calls.Drain queue) reply self.new) }
         ensures broke { IfErr result (λ f. BrokeOff N.layout self.old (calls.Drain queue) f self.new) }
     {
-        self.wait_out(rt, hub, Call::Drain { queue })
+        self.make_whole(rt, hub, Call::Drain { queue })
     }
 
     /// Waits until a queue is empty, which is then gone (`destroy_workqueue`): two entries.
@@ -449,6 +500,6 @@ impl<N: HubName> Caller<N> {
         ensures done { IfOk result (λ reply. Completes N.layout self.old (calls.Destroy queue) reply self.new) }
         ensures broke { IfErr result (λ f. BrokeOff N.layout self.old (calls.Destroy queue) f self.new) }
     {
-        self.wait_out(rt, hub, Call::Destroy { queue })
+        self.make_whole(rt, hub, Call::Destroy { queue })
     }
 }

@@ -1,17 +1,19 @@
 //! Callers that follow scripts.
 ghost use Rattle.std.specs.Prelude.{◌≡◌, ◌+◌, ◌<◌, ◌^◌, length, true, IfOk, IfErr, All};
-ghost use Rattle.cmwq_model.specs.Prelude.{has_numbers, is_callers, IsScripted};
+ghost use Rattle.cmwq_model.specs.Prelude.{IsScripted};
 ghost use Rattle.cmwq_monitor.specs.Faults.{is_full};
-ghost use Rattle.cmwq_monitor.specs.Whole.{Completes, BrokeOff};
 ghost use Rattle.cmwq_rt.specs.Running.{breaks_off};
 ghost use Rattle.cmwq_rt.specs.Scripts.{HasFollowed, HasStopped};
 
 use crate::caller::Caller;
 use crate::hub::Hub;
-use cmwq_model::{Call, Reply};
+use cmwq_model::Call;
 use cmwq_monitor::RunFault;
 use cmwq_publish::HubName;
 use std::sync::Wait;
+
+/// How many calls of a script are made in one hold of the lock, at most.
+const CALLS_IN_HOLD: usize = 8;
 
 fn is_full(fault: RunFault) -> bool
     ensures { result ≡ is_full fault }
@@ -20,29 +22,8 @@ fn is_full(fault: RunFault) -> bool
 }
 
 impl<N: HubName> Caller<N> {
-    /// A whole call: it makes its entry and those that belong to it, as the method of its name does.
-    ///
-    /// # Errors
-    /// Those of that method.
-    pub fn make_whole<R: Wait>(
-        &mut self,
-        rt: &R,
-        hub: &Hub<N>,
-        call: Call,
-    ) -> Result<Reply, RunFault>
-        requires callers { is_callers call ≡ true }
-        requires numbers { has_numbers N.layout call ≡ true }
-        ensures done { IfOk result (λ reply. Completes N.layout self.old call reply self.new) }
-        ensures broke { IfErr result (λ f. BrokeOff N.layout self.old call f self.new) }
-    {
-        match call {
-            Call::Tick { ticks } => self.tick(rt, hub, ticks),
-            _ => self.wait_out(rt, hub, call),
-        }
-    }
-
     /// Makes the calls of a script, one after another, each whole; those for which there is no room are left out. It answers how many
-    /// entries it made, and how many calls were left out.
+    /// entries it made, and how many calls were left out. Eight calls at most stand in one hold of the lock, which a call that waits lets go.
     ///
     /// # Errors
     /// Those of the calls but `Full`: the script breaks off at the first call that answers one.
@@ -63,17 +44,25 @@ impl<N: HubName> Caller<N> {
     {
         let first = self.serial();
         let mut full = 0u32;
+        let mut monitor = hub.lock(rt);
         for k in 0..script.len() {
-            match self.make_whole(rt, hub, script[k]) {
+            if k > 0 && k % CALLS_IN_HOLD == 0 {
+                monitor = hub.let_in(rt, monitor);
+            }
+            let (held, answer) = self.make_locked(rt, hub, monitor, script[k]);
+            monitor = held;
+            match answer {
                 Ok(_) => {}
                 Err(fault) => {
                     if !is_full(fault) {
+                        hub.leave(monitor);
                         return Err(fault);
                     }
                     full += 1;
                 }
             }
         }
+        hub.leave(monitor);
         Ok((self.serial() - first, full))
     }
 }

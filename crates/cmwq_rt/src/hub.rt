@@ -231,17 +231,27 @@ impl<N: HubName> Hub<N> {
         answer
     }
 
-    /// Fires what is due, `MOST_FIRES` timers in a hold of the lock, so that others come in between; and lets the lock go.
+    /// Lets the lock go and takes it again, so that others come in between.
+    pub(crate) fn let_in<'a, R: Wait>(
+        &'a self,
+        rt: &R,
+        monitor: MutexGuard<'a, Monitor<N>>,
+    ) -> MutexGuard<'a, Monitor<N>> {
+        self.leave(monitor);
+        self.lock(rt)
+    }
+
+    /// Fires what is due, `MOST_FIRES` timers in a hold of the lock, so that others come in between.
     pub(crate) fn until_fired<'a, R: Wait>(
         &'a self,
         rt: &R,
         monitor: MutexGuard<'a, Monitor<N>>,
         participant: &mut Participant<N>,
-    ) -> Result<(), RunFault>
+    ) -> (MutexGuard<'a, Monitor<N>>, Result<(), RunFault>)
         requires caller { is_caller participant.old.who ≡ true }
         requires begun { IsFiring N.layout N.layout.items participant.old participant.old }
-        ensures fired { IfOk result (λ _. HasFired N.layout participant.old participant.new) }
-        ensures stopped { IfErr result (λ f. Stops participant.new None f × HasFiredSome participant.old participant.new) }
+        ensures fired { IfOk result.1 (λ _. HasFired N.layout participant.old participant.new) }
+        ensures stopped { IfErr result.1 (λ f. Stops participant.new None f × HasFiredSome participant.old participant.new) }
     {
         let mut monitor = monitor;
         let mut left = self.shape.counts().items;
@@ -250,22 +260,15 @@ impl<N: HubName> Hub<N> {
             monitor = self.spacious(rt, monitor, participant.who(), most);
             match monitor.fire_some(rt, participant, left) {
                 Ok(Some(rest)) => left = rest,
-                Ok(None) => {
-                    self.leave(monitor);
-                    return Ok(());
-                }
-                Err(fault) => {
-                    self.leave(monitor);
-                    return Err(fault);
-                }
+                Ok(None) => return (monitor, Ok(())),
+                Err(fault) => return (monitor, Err(fault)),
             }
-            self.leave(monitor);
-            monitor = self.lock(rt);
+            monitor = self.let_in(rt, monitor);
         }
         unreachable!()
     }
 
-    /// Sleeps until the wait that the call began has ended, and lets the lock go. Behind a drain what is due is fired.
+    /// Sleeps until the wait that the call began has ended. Behind a drain what is due is fired.
     pub(crate) fn until_ended<'a, R: Wait>(
         &'a self,
         rt: &R,
@@ -273,10 +276,10 @@ impl<N: HubName> Hub<N> {
         participant: &mut Participant<N>,
         call: Call,
         ticket: Number,
-    ) -> Result<(), RunFault>
+    ) -> (MutexGuard<'a, Monitor<N>>, Result<(), RunFault>)
         requires { is_caller participant.old.who ≡ true }
-        ensures ended { IfOk result (λ _. HasEnded N.layout participant.old call ticket participant.new) }
-        ensures stopped { IfErr result (λ f. HasEndedSome N.layout participant.old call ticket f participant.new) }
+        ensures ended { IfOk result.1 (λ _. HasEnded N.layout participant.old call ticket participant.new) }
+        ensures stopped { IfErr result.1 (λ f. HasEndedSome N.layout participant.old call ticket f participant.new) }
     {
         let most = match call {
             Call::Drain { .. } => self.with_fires(),
@@ -285,19 +288,15 @@ impl<N: HubName> Hub<N> {
         let (monitor, ended) = self.until_done(rt, monitor, participant, call, ticket, most);
         match ended {
             Ok(()) => {}
-            Err(fault) => {
-                self.leave(monitor);
-                return Err(fault);
-            }
+            Err(fault) => return (monitor, Err(fault)),
         }
         if is_drain(call) {
             return self.until_fired(rt, monitor, participant);
         }
-        self.leave(monitor);
-        Ok(())
+        (monitor, Ok(()))
     }
 
-    /// Sleeps until the ticket's end is done, and keeps the lock.
+    /// Sleeps until the ticket's end is done.
     fn until_done<'a, R: Wait>(
         &self,
         rt: &R,

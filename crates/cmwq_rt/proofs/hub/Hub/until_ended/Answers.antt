@@ -21,7 +21,7 @@ returns-then-is_drain-clause-ended g c =
     let v = c.args.participant.now in
     let m = c.until_done-monitor.new.participant in
     let w = c.until_fired.new.participant in
-    IfOk-weaker c.until_fired.result _ _ (λ _ fired. ended_fired s v m w c.args.call c.args.ticket (sym c.is_drain.ensures ∙ c.if-is_drain.true) done fired) c.until_fired.ensures.fired
+    IfOk-weaker c.until_fired.result.1 _ _ (λ _ fired. ended_fired s v m w c.args.call c.args.ticket (sym c.is_drain.ensures ∙ c.if-is_drain.true) done fired) c.until_fired.ensures.fired
 
 pub returns-then-is_drain-clause-stopped : goal.returns-then-is_drain-clause-stopped
 returns-then-is_drain-clause-stopped g c =
@@ -31,7 +31,7 @@ returns-then-is_drain-clause-stopped g c =
     let v = c.args.participant.now in
     let m = c.until_done-monitor.new.participant in
     let w = c.until_fired.new.participant in
-    IfErr-weaker c.until_fired.result _ _ (λ f some. ended_some s v m w c.args.call c.args.ticket f (sym c.is_drain.ensures ∙ c.if-is_drain.true) some.0 done some.1) c.until_fired.ensures.stopped
+    IfErr-weaker c.until_fired.result.1 _ _ (λ f some. ended_some s v m w c.args.call c.args.ticket f (sym c.is_drain.ensures ∙ c.if-is_drain.true) some.0 done some.1) c.until_fired.ensures.stopped
 
 pub returns-in-Err-clause-stopped : goal.returns-in-Err-clause-stopped
 returns-in-Err-clause-stopped g c =
