@@ -37,11 +37,11 @@ loop-k-preserved g c =
     let i = c.loop-k.invariant in
     elim c.match-answer.branch [
       | in-Ok b ↦ (
-        let done = IfOk-at_ok _ b.in-Ok.is c.make_locked-held.ensures.done in (
-          rw b.full-is (followed_call s script c.loop-k.k _ c.loop-k.full c.args.self.now m w _ c.loop-k-test.true i.0 done),
-          (let n = b.full-is in let k = i.1 in omega (arith, n, k)),
-          done.gains.same ∙ i.2,
-        ))
+          let done = IfOk-at_ok _ b.in-Ok.is c.make_locked-held.ensures.done in (
+            rw b.full-is (followed_call s script c.loop-k.k _ c.loop-k.full c.args.self.now m w _ c.loop-k-test.true i.0 done),
+            (let n = b.full-is in let k = i.1 in omega (arith, n, k)),
+            done.gains.same ∙ i.2,
+          ))
       | in-Err+else-not-is_full b ↦ (
           let full = told_full b.in-Err.fault (sym b.is_full.ensures ∙ b.if-not-is_full.false) in
           let broke = IfErr-at_err _ b.in-Err.is c.make_locked-held.ensures.broke in (
