@@ -62,9 +62,9 @@ fn opened_writer<R: Wait>(
         seen: seen.again(),
     };
     let (writer, published) = put_out(rt, writer, nothing);
-    if let Err(no_memory) = published {
+    if let Err(AllocError) = published {
         writer.take(rt);
-        return Err(no_memory);
+        return Err(NoMemory);
     }
     Ok(writer)
 }

@@ -11,6 +11,7 @@ use crate::publishing::put_out;
 use crate::versions::{BitsWriter, Publish};
 use cmwq_model::{CallerId, Mark, NoMemory, Who};
 use core::mem::replace_with;
+use std::alloc::AllocError;
 use std::marker::Model;
 use std::sync::Wait;
 
@@ -83,14 +84,17 @@ impl<N: HubName> Publisher<N> {
                 len: prefix.len(),
                 seen: prefix.token(),
             };
-            replace_with(
+            let published = replace_with(
                 &mut self.writer,
                 publish,
-                |writer, publish| -> (BitsWriter, Result<(), NoMemory>)
+                |writer, publish| -> (BitsWriter, Result<(), AllocError>)
                     requires { (drop writer.behind writer.log.items ≡ []) × FollowsVersions writer.desk.shown.value publish }
                     ensures { (drop result.0.behind result.0.log.items ≡ []) × MatchResult result.1 (λ _. ShowsVersion writer.desk.shown.value publish result.0.desk.shown.value (view result.0.desk.place)) (λ _. result.0.desk.shown.value ≡ writer.desk.shown.value) }
                 { put_out(rt, writer, publish) },
-            )?;
+            );
+            if published.is_err() {
+                return Err(NoMemory);
+            }
         }
         self.prefix = prefix;
         Ok(())

@@ -3,8 +3,8 @@ use Rattle.cmwq_publish.specs.declared.versions.Publish.{Publish}
 use Rattle.cmwq_publish.proofs.Marking.{made_by, turns_by}
 use Rattle.cmwq_publish.proofs.publishing.put_out.Goals as goal
 
-pub publish_as-writer-requires : goal.publish_as-writer-requires
-publish_as-writer-requires g c next is =
+pub publish_as-requires : goal.publish_as-requires
+publish_as-requires g c next is =
     let appended = c.in-Ok.ensures in
     let x = c.append.new.self.desk.shown.value in
     turns_by _ _ x next c.args.mark (rw (ap (λ d. d.shown.value) appended.desk) c.requires.follows)

@@ -6,8 +6,8 @@ use Rattle.cmwq_publish.proofs.Legally.{serial_below}
 use Rattle.cmwq_publish.proofs.Marking.{next_follows}
 use Rattle.cmwq_publish.proofs.publisher.Publisher.publish.Goals as goal
 
-pub replace_with-requires : goal.replace_with-requires
-replace_with-requires g c =
+pub replace_with-published-requires : goal.replace_with-published-requires
+replace_with-published-requires g c =
     let mark = c.args.mark in
     let op : Publish = record { item = mark.item; bits = mark.bits; caller = c.caller_of.result; serial = mark.entry.serial + 1; len = c.len.result; seen = c.token.result } in
     let s = c.self.inside in
