@@ -37,9 +37,10 @@ pub(crate) fn follow(execution: &mut Execution, entry: Entry) -> Result<Change, 
     let Ok(plan) = execution.plan(entry.who, entry.call) else {
         return Err(NoMemory);
     };
+    let change = Change {
+        opened: execution.opened_by(&plan),
+        ended: execution.ended_by(&plan),
+    };
     execution.commit(&plan);
-    Ok(Change {
-        opened: plan.opened(),
-        ended: plan.ended(),
-    })
+    Ok(change)
 }

@@ -73,10 +73,10 @@ impl Progress {
     {
         let told = Told {
             entry: plan.mark.entry,
-            started: plan.started(),
-            opened: plan.opened(),
-            ended: plan.ended(),
-            ended_ticket: plan.done(),
+            started: self.execution.started_by(plan),
+            opened: self.execution.opened_by(plan),
+            ended: self.execution.ended_by(plan),
+            ended_ticket: self.execution.done_by(plan),
         };
         self.execution.commit(plan);
         // it shows that the entries are few

@@ -119,7 +119,7 @@ fn ended_from(state: &State, entry: Entry) -> Option<Queueing>
 
 /// The queueing that an entry ends: that of its worker's run, or the item's unstarted one.
 #[inline(always)]
-fn ended_by(state: &State, entry: Entry) -> Option<Queueing>
+pub(crate) fn ended_by(state: &State, entry: Entry) -> Option<Queueing>
     requires there { tables.IsThere state.now.layout entry.who }
     requires inside { IsInside state.now.layout entry }
     requires legal { IsLegal state.now.layout (entry ∷ past_of state.now.entries) }
@@ -153,7 +153,7 @@ fn started_from(state: &State, entry: Entry) -> Option<Queueing>
 
 /// The queueing that a take starts.
 #[inline(always)]
-fn started_by(state: &State, entry: Entry) -> Option<Queueing>
+pub(crate) fn started_by(state: &State, entry: Entry) -> Option<Queueing>
     requires there { tables.IsThere state.now.layout entry.who }
     requires legal { IsLegal state.now.layout (entry ∷ past_of state.now.entries) }
     ensures { result ≡ starting (past_of state.now.entries) entry }
@@ -195,7 +195,7 @@ fn queued_at(state: &State, item: ItemId, place: Place) -> Queueing
 
 /// The queueing that an entry opens.
 #[inline(always)]
-fn opened_by(state: &State, entry: Entry) -> Option<Queueing>
+pub(crate) fn opened_by(state: &State, entry: Entry) -> Option<Queueing>
     requires { IsInside state.now.layout entry }
     ensures { result ≡ opening (past_of state.now.entries) entry }
 {
@@ -234,7 +234,7 @@ fn settles_booked(state: &State, entry: Entry) -> bool
 
 /// The ticket that an entry ends.
 #[inline(always)]
-fn done_by(state: &State, entry: Entry) -> Option<Ticket>
+pub(crate) fn done_by(state: &State, entry: Entry) -> Option<Ticket>
     requires { tables.IsThere state.now.layout entry.who }
     ensures { result ≡ ticket_ended (past_of state.now.entries) entry }
 {
@@ -320,14 +320,4 @@ pub(crate) fn effect_of(state: &State, entry: Entry) -> Effect
         booked,
         owing,
     }
-}
-
-/// What the entry of the call does.
-#[inline(always)]
-pub(crate) fn effect(state: &State, who: Who, call: Call) -> Effect
-    requires fit { fits state.now.layout who call ≡ true }
-    ensures entry { result.entry ≡ next_entry state.now who call }
-    ensures is { IsEffect state.now.layout (past_of state.now.entries) result }
-{
-    effect_of(state, next_entry(state, who, call))
 }

@@ -1,11 +1,14 @@
-//! An entry is made.
+//! An entry is planned, and made.
 
-ghost use Rattle.std.specs.Prelude.{◌≡◌, ◌∷◌, is_ok, OnErr, OnOk};
+ghost use Rattle.std.specs.Prelude.{◌≡◌, ◌∷◌, is_ok, IfOk, OnErr, OnOk};
 ghost use Rattle.cmwq_model.specs.Prelude.{IsLegal};
 ghost use Rattle.cmwq_core.specs.History.{next_entry, past_in, takes, with_entry};
+ghost use Rattle.cmwq_core.specs.Plans.{IsPlan};
 
 use crate::effects::effect_of;
 use crate::execution::Full;
+use crate::marks::mark;
+use crate::plan::Plan;
 use cmwq_model::{Entry, Reply};
 use cmwq_state::State;
 
@@ -50,6 +53,53 @@ pub(crate) fn enter(state: &mut State, entry: Entry) -> Result<(), Full>
         Reply::Rebooked(_) => make(state, entry),
         Reply::Now(_) => make(state, entry),
         Reply::Fired(_, _) => make(state, entry),
+        Reply::Nothing => make(state, entry),
         _ => make(state, entry),
+    }
+}
+
+/// The entry that its call gets next, with the bits that it leaves, if there is room.
+#[inline(always)]
+fn plan_one(state: &State, entry: Entry) -> Result<Plan, Full>
+    requires next { entry ≡ next_entry state.now entry.who entry.call }
+    requires legal { IsLegal state.now.layout (entry ∷ past_in state.now) }
+    ensures room { is_ok result ≡ takes state.now entry.who entry.call }
+    ensures plan { IfOk result (λ plan. IsPlan state.now entry.who entry.call plan) }
+{
+    let effect = effect_of(state, entry);
+    if state.has_room(entry.call, effect.owing) {
+        let mark = mark(state, effect);
+        Ok(Plan { mark })
+    } else {
+        Err(Full)
+    }
+}
+
+/// The same, with code of its own for each of the replies that come most.
+#[inline(always)]
+pub(crate) fn plan(state: &State, entry: Entry) -> Result<Plan, Full>
+    requires next { entry ≡ next_entry state.now entry.who entry.call }
+    requires legal { IsLegal state.now.layout (entry ∷ past_in state.now) }
+    ensures room { is_ok result ≡ takes state.now entry.who entry.call }
+    ensures plan { IfOk result (λ plan. IsPlan state.now entry.who entry.call plan) }
+{
+    match entry.reply {
+        Reply::Yes(_) => plan_one(state, entry),
+        Reply::Started(_) => plan_one(state, entry),
+        Reply::StartedEnlist(_, _) => plan_one(state, entry),
+        Reply::Finished(_) => plan_one(state, entry),
+        Reply::Slept => plan_one(state, entry),
+        Reply::Woke => plan_one(state, entry),
+        Reply::Ticket(_) => plan_one(state, entry),
+        Reply::Done => plan_one(state, entry),
+        Reply::Booked(_) => plan_one(state, entry),
+        Reply::Rebooked(_) => plan_one(state, entry),
+        Reply::Now(_) => plan_one(state, entry),
+        Reply::Fired(_, _) => plan_one(state, entry),
+        Reply::Nothing => plan_one(state, entry),
+        Reply::Waiting(_) => plan_one(state, entry),
+        Reply::Held => plan_one(state, entry),
+        Reply::Kept => plan_one(state, entry),
+        _ => plan_one(state, entry),
     }
 }

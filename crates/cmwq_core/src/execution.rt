@@ -1,19 +1,24 @@
 ghost use Rattle.std.specs.Prelude.{◌≡◌, ◌<◌, ◌≤◌, [], length, count_by, is_ok, IfOk, OnErr, IsTrue};
-ghost use Rattle.cmwq_model.specs.Prelude.{fits, most_room, IsLegal, still_open, room_needed, is_active};
+ghost use Rattle.cmwq_model.specs.Prelude.{fits, most_room, IsLegal, still_open, room_needed, is_active, opening};
 ghost use Rattle.cmwq_model.specs.Calls as calls;
 ghost use Rattle.cmwq_model.specs.Legal as legal;
 ghost use Rattle.cmwq_model.specs.Widths as widths;
+ghost use Rattle.cmwq_refinement.specs.Flights.{starting};
 ghost use Rattle.cmwq_state.specs.Pwqs.{AreActiveCounts};
 ghost use Rattle.cmwq_state.specs.Tables as tables;
+ghost use Rattle.cmwq_theory_steps.specs.Endings.{ending};
+ghost use Rattle.cmwq_theory_steps.specs.TicketSteps.{ticket_ended};
 ghost use Rattle.cmwq_core.specs.History.{past_in, next_entry, takes, with_entry, IsMark, is_ready};
 ghost use Rattle.cmwq_core.specs.Plans.{IsPlan};
 ghost use Rattle.cmwq_core.specs.Relied.{IsReliable};
 
-use crate::effects::{effect, next_entry as predicted};
-use crate::entering::enter;
-use crate::marks::{bits_of, mark};
+use crate::effects::{done_by, ended_by, next_entry as predicted, opened_by, started_by};
+use crate::entering::{enter, plan};
+use crate::marks::bits_of;
 use crate::plan::Plan;
-use cmwq_model::{Call, Entry, ItemId, Mark, NoMemory, Number, QueueId, Reply, Shape, Who};
+use cmwq_model::{
+    Call, Entry, ItemId, Mark, NoMemory, Number, QueueId, Queueing, Reply, Shape, Ticket, Who,
+};
 use cmwq_state::State;
 use std::alloc::Global;
 use std::marker::Model;
@@ -67,6 +72,7 @@ impl Execution {
     }
 
     /// What the call would be answered, whether or not there is room for it.
+    #[inline(always)]
     pub fn reply(&self, who: Who, call: Call) -> Reply
         requires { IsTrue (fits self.now.layout who call) }
         ensures { result ≡ (next_entry self.now who call).reply }
@@ -74,7 +80,7 @@ impl Execution {
         predicted(&self.state, who, call).reply
     }
 
-    /// The entry that a step of this call would append, found with what it ends and opens, and with the bits that it leaves: `commit` makes it.
+    /// The entry that a step of this call would append, with the bits that it leaves: `commit` makes it.
     ///
     /// # Errors
     /// `Full` where there is no room for the entry and for what would be owed then, exactly as at `step`.
@@ -84,13 +90,44 @@ impl Execution {
         ensures room { is_ok result ≡ takes self.now who call }
         ensures plan { IfOk result (λ plan. IsPlan self.now who call plan) }
     {
-        let effect = effect(&self.state, who, call);
-        if self.state.has_room(call, effect.owing) {
-            let mark = mark(&self.state, effect);
-            Ok(Plan { effect, mark })
-        } else {
-            Err(Full)
-        }
+        let entry = predicted(&self.state, who, call);
+        plan(&self.state, entry)
+    }
+
+    /// The queueing that a planned entry ends.
+    #[inline(always)]
+    pub fn ended_by(&self, plan: &Plan) -> Option<Queueing>
+        requires { (who : _) × (call : _) × IsPlan self.now who call plan.now }
+        ensures { result ≡ ending (past_in self.now) plan.now.mark.entry }
+    {
+        ended_by(&self.state, plan.mark.entry)
+    }
+
+    /// The queueing that it starts.
+    #[inline(always)]
+    pub fn started_by(&self, plan: &Plan) -> Option<Queueing>
+        requires { (who : _) × (call : _) × IsPlan self.now who call plan.now }
+        ensures { result ≡ starting (past_in self.now) plan.now.mark.entry }
+    {
+        started_by(&self.state, plan.mark.entry)
+    }
+
+    /// The queueing that it opens.
+    #[inline(always)]
+    pub fn opened_by(&self, plan: &Plan) -> Option<Queueing>
+        requires { (who : _) × (call : _) × IsPlan self.now who call plan.now }
+        ensures { result ≡ opening (past_in self.now) plan.now.mark.entry }
+    {
+        opened_by(&self.state, plan.mark.entry)
+    }
+
+    /// The ticket that it ends.
+    #[inline(always)]
+    pub fn done_by(&self, plan: &Plan) -> Option<Ticket>
+        requires { (who : _) × (call : _) × IsPlan self.now who call plan.now }
+        ensures { result ≡ ticket_ended (past_in self.now) plan.now.mark.entry }
+    {
+        done_by(&self.state, plan.mark.entry)
     }
 
     /// Makes the entry that was planned, and answers its reply. The execution is still the one that planned it.

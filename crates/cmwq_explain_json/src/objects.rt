@@ -91,8 +91,10 @@ impl World<'_> {
 
     /// Whether the whole says format 2, and may.
     fn is_short(self) -> bool {
-        let format = self.whole.get("format").and_then(Value::as_u64);
-        format == Some(2) && self.whole.get("journal").is_none()
+        match self.whole.get("format") {
+            Some(format) => format.as_u64() == Some(2) && self.whole.get("journal").is_none(),
+            None => false,
+        }
     }
 
     /// Puts a sample with an object at its place, which has another value at one key, or lacks that where there is none; where its queue is

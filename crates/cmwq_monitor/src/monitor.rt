@@ -22,7 +22,7 @@ use crate::journal::{Journal, Rest};
 use crate::participant::Participant;
 use crate::sleepers::{Sleepers, Wakes};
 use cmwq_core::{Execution, Full, Plan};
-use cmwq_model::{Call, Entry, ItemId, NoMemory, Number, Reply, Shape, Ticket, Who};
+use cmwq_model::{Call, Entry, ItemId, NoMemory, Number, Queueing, Reply, Shape, Ticket, Who};
 use cmwq_publish::{HubName, Prefix, Publisher};
 use cmwq_tail::Tail;
 use std::marker::Model;
@@ -119,25 +119,22 @@ impl<N: HubName> Monitor<N> {
             self.sleepers.wake_all();
             return Err(NoMemory);
         };
+        let ended = self.execution.ended_by(plan);
+        let done = self.execution.done_by(plan);
         let reply = self.execution.commit(plan);
         self.tail.push(plan.mark.entry);
         participant.count(self.publisher.prefix(), serial + 1, &mut self.entries);
-        self.wake(plan);
+        self.wake(plan.mark.entry, ended, done);
         Ok(reply)
     }
 
-    /// Who can go on after an entry is to be woken.
+    /// Who can go on after an entry that ended this queueing or ticket is to be woken.
     #[inline(always)]
-    fn wake(&mut self, plan: &Plan)
+    fn wake(&mut self, entry: Entry, ended: Option<Queueing>, done: Option<Ticket>)
         ensures { self.new ≡ self.old }
     {
-        self.sleepers.changed(
-            &self.execution,
-            &self.shape,
-            plan.mark.entry,
-            plan.ended(),
-            plan.done(),
-        );
+        self.sleepers
+            .changed(&self.execution, &self.shape, entry, ended, done);
         if self.closed && self.execution.active_count() == 0 {
             self.sleepers.wake_workers();
         }
@@ -455,8 +452,8 @@ impl<N: HubName> Monitor<N> {
         self.sleepers.awakes(who);
     }
 
-    /// Who is to be woken, once.
-    pub fn wakes(&mut self) -> Wakes
+    /// Who is to be woken, once; None where nobody is.
+    pub fn wakes(&mut self) -> Option<Wakes>
         ensures { self.new ≡ self.old }
     {
         self.sleepers.take()

@@ -36,6 +36,11 @@ const EVERYBODY: Wakes = Wakes {
 };
 
 impl Wakes {
+    fn is_empty(&self) -> bool {
+        let is_named = self.callers[0].is_some() || self.workers[0].is_some();
+        !is_named && !self.all_callers && !self.all_workers
+    }
+
     fn add_caller(&mut self, caller: CallerId) {
         for place in 0..NAMED {
             if self.callers[place].is_none() {
@@ -68,13 +73,13 @@ struct Waiter {
 /// And the one that was woken and hasn't looked yet what it may start.
 #[derive(Clone, Copy)]
 struct IdleWorkers {
-    bits: u64,
+    asleep: u64,
     reserve: u64,
     woken: Option<u8>,
 }
 
 const NONE_IDLE: IdleWorkers = IdleWorkers {
-    bits: 0,
+    asleep: 0,
     reserve: 0,
     woken: None,
 };
@@ -129,7 +134,7 @@ enum Touched {
 }
 
 /// The pool in which the queue's items run that are queued on this CPU.
-fn pool_at(shape: &Shape, queue: QueueId, cpu: CpuId) -> Touched {
+fn touched_at(shape: &Shape, queue: QueueId, cpu: CpuId) -> Touched {
     match shape.queues().get(usize::from(queue.0)) {
         Some(queue) => Touched::One(PoolId {
             cpu,
@@ -154,7 +159,7 @@ fn pools_touched_by(shape: &Shape, entry: Entry) -> Touched {
             Call::Queue { queue, cpu, .. }
             | Call::Delay { queue, cpu, .. }
             | Call::Modify { queue, cpu, .. },
-        ) => pool_at(shape, queue, cpu),
+        ) => touched_at(shape, queue, cpu),
         (Reply::Fired(_, _) | Reply::TicketQueued(_) | Reply::Width(_) | Reply::Thawed, _, _) =>
             Touched::All,
         _ => Touched::None,
@@ -165,7 +170,7 @@ fn pools_touched_by(shape: &Shape, entry: Entry) -> Touched {
 fn pool_freed_by(shape: &Shape, entry: Entry, ended: Queueing) -> Touched {
     match entry.reply {
         Reply::Finished(_) => Touched::None,
-        _ => pool_at(shape, ended.place.queue, ended.place.cpu),
+        _ => touched_at(shape, ended.place.queue, ended.place.cpu),
     }
 }
 
@@ -235,7 +240,7 @@ impl Sleepers {
     /// A worker goes to sleep until it may start something.
     pub fn idles(&mut self, worker: WorkerId) {
         if let Some(idle) = self.idle.get_mut(place_of(worker.pool)) {
-            idle.bits |= bit(worker.index);
+            idle.asleep |= bit(worker.index);
         }
     }
 
@@ -255,7 +260,7 @@ impl Sleepers {
     /// A worker looks itself what it may start.
     fn looks(&mut self, worker: WorkerId) {
         if let Some(idle) = self.idle.get_mut(place_of(worker.pool)) {
-            idle.bits &= !bit(worker.index);
+            idle.asleep &= !bit(worker.index);
             idle.reserve &= !bit(worker.index);
             if idle.woken == Some(worker.index) {
                 idle.woken = None;
@@ -264,15 +269,16 @@ impl Sleepers {
     }
 
     /// By the start of this worker the one of that index has left the reserve of their pool.
-    fn is_enlisted(&mut self, starter: Who, index: u8) {
+    fn enlists(&mut self, starter: Who, index: u8) {
         let Who::Worker(worker) = starter else { return };
         if let Some(idle) = self.idle.get_mut(place_of(worker.pool)) {
-            idle.bits |= idle.reserve & bit(index);
+            idle.asleep |= idle.reserve & bit(index);
             idle.reserve &= !bit(index);
         }
     }
 
     /// After an entry that ended this queueing or ticket: those whose wait may end now, and a worker of each pool in which something may start.
+    #[inline(always)]
     pub fn changed(
         &mut self,
         book: &Execution,
@@ -284,7 +290,7 @@ impl Sleepers {
         requires { book.now.layout ≡ shape.now }
     {
         if let Reply::StartedEnlist(_, index) = entry.reply {
-            self.is_enlisted(entry.who, index);
+            self.enlists(entry.who, index);
         }
         if let Some(ended) = ended {
             self.wake_ended(book, ended);
@@ -354,7 +360,7 @@ impl Sleepers {
         if idle.woken.is_some() {
             return;
         }
-        let mut rest = idle.bits;
+        let mut rest = idle.asleep;
         for _ in 0..64 {
             if rest == 0 {
                 return;
@@ -364,12 +370,12 @@ impl Sleepers {
             match prospect_of(book, shape, worker) {
                 Prospect::Reserve => {
                     rest &= rest - 1;
-                    idle.bits &= !bit(index);
+                    idle.asleep &= !bit(index);
                     idle.reserve |= bit(index);
                 }
                 Prospect::Nothing => return,
                 Prospect::Starts => {
-                    idle.bits &= !bit(index);
+                    idle.asleep &= !bit(index);
                     idle.woken = Some(index);
                     self.wakes.add_worker(worker);
                     return;
@@ -388,10 +394,13 @@ impl Sleepers {
         self.wakes = EVERYBODY;
     }
 
-    /// Who is to be woken, once.
-    pub fn take(&mut self) -> Wakes {
+    /// Who is to be woken, once; None where nobody is.
+    pub fn take(&mut self) -> Option<Wakes> {
+        if self.wakes.is_empty() {
+            return None;
+        }
         let wakes = self.wakes;
         self.wakes = NOBODY;
-        wakes
+        Some(wakes)
     }
 }

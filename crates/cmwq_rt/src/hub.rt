@@ -20,7 +20,7 @@ use crate::condvars::Condvars;
 use crate::parts::HubParts;
 use crate::worker::Worker;
 use cmwq_model::{Call, Entry, ItemId, Number, Reply, Shape, Who};
-use cmwq_monitor::{Journal, MOST_FIRES, Monitor, Participant, Rest, RunFault};
+use cmwq_monitor::{Journal, MOST_FIRES, Monitor, Participant, Rest, RunFault, Wakes};
 use cmwq_publish::HubName;
 use std::sync::{Condvar, CondvarTimeouts, Mutex, MutexGuard, Wait};
 use std::time::{Clock, Duration};
@@ -85,9 +85,15 @@ impl<N: HubName> Hub<N> {
         let wakes = monitor.wakes();
         let is_wanted = monitor.wants_journal();
         MutexGuard::unlock(monitor);
-        self.condvars.notify(&wakes);
+        self.notify(wakes);
         if is_wanted {
             self.journal.notify_all();
+        }
+    }
+
+    fn notify(&self, wakes: Option<Wakes>) {
+        if let Some(wakes) = wakes {
+            self.condvars.notify(&wakes);
         }
     }
 
@@ -98,8 +104,7 @@ impl<N: HubName> Hub<N> {
         mut monitor: MutexGuard<'a, Monitor<N>>,
         who: Who,
     ) -> MutexGuard<'a, Monitor<N>> {
-        let wakes = monitor.wakes();
-        self.condvars.notify(&wakes);
+        self.notify(monitor.wakes());
         if monitor.wants_journal() {
             self.journal.notify_all();
         }

@@ -13,11 +13,8 @@ unfolding IsLegal
 returns-clause-change c =
     let plan = c.in-Ok.ensures.plan in
     let past = past_in c.args.execution.now in
-    let same = plan.entry ∙ (plan.mark.is_next ∙ sym c.requires.1) in
-    record {
-      opened = c.opened.ensures ∙ plan.effect.opened ∙ ap (opening past) same;
-      ended = c.ended.ensures ∙ plan.effect.ended ∙ ap (ending past) same;
-    }
+    let same = plan.mark.is_next ∙ sym c.requires.1 in
+    record { opened = c.opened_by.ensures ∙ ap (opening past) same; ended = c.ended_by.ensures ∙ ap (ending past) same }
 
 pub returns-clause-followed : goal.returns-clause-followed
 unfolding IsLegal
