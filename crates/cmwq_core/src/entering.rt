@@ -14,14 +14,14 @@ use cmwq_state::State;
 
 /// Makes the entry that its call gets next, if there is room.
 #[inline(always)]
-fn make(state: &mut State, entry: Entry) -> Result<(), Full>
-    requires next { entry ≡ next_entry state.old entry.who entry.call }
-    requires legal { IsLegal state.old.layout (entry ∷ past_in state.old) }
-    ensures room { is_ok result ≡ takes state.old entry.who entry.call }
-    ensures made { OnOk result (state.new ≡ with_entry state.old entry) }
+fn make(state: &mut State, entry: &Entry) -> Result<(), Full>
+    requires next { entry.now ≡ next_entry state.old entry.now.who entry.now.call }
+    requires legal { IsLegal state.old.layout (entry.now ∷ past_in state.old) }
+    ensures room { is_ok result ≡ takes state.old entry.now.who entry.now.call }
+    ensures made { OnOk result (state.new ≡ with_entry state.old entry.now) }
     ensures full { OnErr result (state.new ≡ state.old) }
 {
-    let effect = effect_of(state, entry);
+    let effect = effect_of(state, *entry);
     if state.has_room(entry.call, effect.owing) {
         state.append(effect);
         Ok(())
@@ -33,11 +33,11 @@ fn make(state: &mut State, entry: Entry) -> Result<(), Full>
 /// The same. What an entry does follows from its reply, so each of the replies that come most has code of its own, where the compiler knows what
 /// isn't done.
 #[inline(always)]
-pub(crate) fn enter(state: &mut State, entry: Entry) -> Result<(), Full>
-    requires next { entry ≡ next_entry state.old entry.who entry.call }
-    requires legal { IsLegal state.old.layout (entry ∷ past_in state.old) }
-    ensures room { is_ok result ≡ takes state.old entry.who entry.call }
-    ensures made { OnOk result (state.new ≡ with_entry state.old entry) }
+pub(crate) fn enter(state: &mut State, entry: &Entry) -> Result<(), Full>
+    requires next { entry.now ≡ next_entry state.old entry.now.who entry.now.call }
+    requires legal { IsLegal state.old.layout (entry.now ∷ past_in state.old) }
+    ensures room { is_ok result ≡ takes state.old entry.now.who entry.now.call }
+    ensures made { OnOk result (state.new ≡ with_entry state.old entry.now) }
     ensures full { OnErr result (state.new ≡ state.old) }
 {
     match entry.reply {
@@ -60,13 +60,13 @@ pub(crate) fn enter(state: &mut State, entry: Entry) -> Result<(), Full>
 
 /// The entry that its call gets next, with the bits that it leaves, if there is room.
 #[inline(always)]
-fn plan_one(state: &State, entry: Entry) -> Result<Plan, Full>
-    requires next { entry ≡ next_entry state.now entry.who entry.call }
-    requires legal { IsLegal state.now.layout (entry ∷ past_in state.now) }
-    ensures room { is_ok result ≡ takes state.now entry.who entry.call }
-    ensures plan { IfOk result (λ plan. IsPlan state.now entry.who entry.call plan) }
+fn plan_one(state: &State, entry: &Entry) -> Result<Plan, Full>
+    requires next { entry.now ≡ next_entry state.now entry.now.who entry.now.call }
+    requires legal { IsLegal state.now.layout (entry.now ∷ past_in state.now) }
+    ensures room { is_ok result ≡ takes state.now entry.now.who entry.now.call }
+    ensures plan { IfOk result (λ plan. IsPlan state.now entry.now.who entry.now.call plan) }
 {
-    let effect = effect_of(state, entry);
+    let effect = effect_of(state, *entry);
     if state.has_room(entry.call, effect.owing) {
         let mark = mark(state, effect);
         Ok(Plan { mark })
@@ -77,11 +77,11 @@ fn plan_one(state: &State, entry: Entry) -> Result<Plan, Full>
 
 /// The same, with code of its own for each of the replies that come most.
 #[inline(always)]
-pub(crate) fn plan(state: &State, entry: Entry) -> Result<Plan, Full>
-    requires next { entry ≡ next_entry state.now entry.who entry.call }
-    requires legal { IsLegal state.now.layout (entry ∷ past_in state.now) }
-    ensures room { is_ok result ≡ takes state.now entry.who entry.call }
-    ensures plan { IfOk result (λ plan. IsPlan state.now entry.who entry.call plan) }
+pub(crate) fn plan(state: &State, entry: &Entry) -> Result<Plan, Full>
+    requires next { entry.now ≡ next_entry state.now entry.now.who entry.now.call }
+    requires legal { IsLegal state.now.layout (entry.now ∷ past_in state.now) }
+    ensures room { is_ok result ≡ takes state.now entry.now.who entry.now.call }
+    ensures plan { IfOk result (λ plan. IsPlan state.now entry.now.who entry.now.call plan) }
 {
     match entry.reply {
         Reply::Yes(_) => plan_one(state, entry),

@@ -91,7 +91,7 @@ impl Execution {
         ensures plan { IfOk result (λ plan. IsPlan self.now who call plan) }
     {
         let entry = predicted(&self.state, who, call);
-        plan(&self.state, entry)
+        plan(&self.state, &entry)
     }
 
     /// The queueing that a planned entry ends.
@@ -137,9 +137,8 @@ impl Execution {
         ensures reply { result ≡ plan.now.mark.entry.reply }
         ensures entry { self.new ≡ with_entry self.old plan.now.mark.entry }
     {
-        let entry = plan.mark.entry;
-        match enter(&mut self.state, entry) {
-            Ok(()) => entry.reply,
+        match enter(&mut self.state, &plan.mark.entry) {
+            Ok(()) => plan.mark.entry.reply,
             Err(Full) => unreachable!(),
         }
     }
@@ -172,7 +171,7 @@ impl Execution {
         ensures full { OnErr result (self.new ≡ self.old) }
     {
         let entry = predicted(&self.state, who, call);
-        enter(&mut self.state, entry)?;
+        enter(&mut self.state, &entry)?;
         Ok(entry)
     }
 

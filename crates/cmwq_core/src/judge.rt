@@ -167,7 +167,7 @@ fn judged(state: &mut State, entry: &Entry) -> Option<Wanted>
     if !entry.reply.is_same(due.reply) {
         return Some(Wanted::Reply(due.reply));
     }
-    match enter(state, due) {
+    match enter(state, &due) {
         Ok(()) => None,
         Err(Full) => unreachable!(),
     }

@@ -114,7 +114,7 @@ impl<N: HubName> Monitor<N> {
             self.sleepers.wake_all();
             return Err(NoMemory);
         }
-        let Ok(()) = self.publisher.publish(rt, plan.mark) else {
+        let Ok(()) = self.publisher.publish(rt, &plan.mark) else {
             self.failed = true;
             self.sleepers.wake_all();
             return Err(NoMemory);
@@ -124,13 +124,13 @@ impl<N: HubName> Monitor<N> {
         let reply = self.execution.commit(plan);
         self.tail.push(plan.mark.entry);
         participant.count(self.publisher.prefix(), serial + 1, &mut self.entries);
-        self.wake(plan.mark.entry, ended, done);
+        self.wake(&plan.mark.entry, &ended, &done);
         Ok(reply)
     }
 
     /// Who can go on after an entry that ended this queueing or ticket is to be woken.
     #[inline(always)]
-    fn wake(&mut self, entry: Entry, ended: Option<Queueing>, done: Option<Ticket>)
+    fn wake(&mut self, entry: &Entry, ended: &Option<Queueing>, done: &Option<Ticket>)
         ensures { self.new ≡ self.old }
     {
         self.sleepers
@@ -156,8 +156,9 @@ impl<N: HubName> Monitor<N> {
     {
         let who = participant.who();
         let _own = participant.serial();
-        match self.execution.plan(who, call) {
-            Ok(plan) => match self.make(rt, participant, call, &plan) {
+        let planned = self.execution.plan(who, call);
+        match &planned {
+            Ok(plan) => match self.make(rt, participant, call, plan) {
                 Ok(reply) => Ok(reply),
                 Err(NoMemory) => Err(Shortage::Memory),
             },
@@ -300,13 +301,14 @@ impl<N: HubName> Monitor<N> {
         self.compare(participant)?;
         let call = Call::End { ticket };
         let _needed = self.execution.len();
-        let Ok(plan) = self.execution.plan(participant.who(), call) else {
+        let planned = self.execution.plan(participant.who(), call);
+        let Ok(plan) = &planned else {
             return Ok(false);
         };
         if !is_done(plan.mark.entry.reply) {
             return Ok(false);
         }
-        match self.make(rt, participant, call, &plan) {
+        match self.make(rt, participant, call, plan) {
             Ok(_) => Ok(true),
             Err(NoMemory) => Err(RunFault::NoMemory {
                 ticket: Some(ticket),
@@ -335,7 +337,8 @@ impl<N: HubName> Monitor<N> {
         }
         self.compare(participant)?;
         let _needed = self.execution.len();
-        let Ok(plan) = self.execution.plan(who, Call::Take) else {
+        let planned = self.execution.plan(who, Call::Take);
+        let Ok(plan) = &planned else {
             return Ok(None);
         };
         if !starts(plan.mark.entry.reply) {
@@ -344,7 +347,7 @@ impl<N: HubName> Monitor<N> {
         let Some(item) = plan.mark.item else {
             unreachable!()
         };
-        match self.make(rt, participant, Call::Take, &plan) {
+        match self.make(rt, participant, Call::Take, plan) {
             Ok(_) => Ok(Some(item)),
             Err(NoMemory) => Err(RunFault::NoMemory { ticket: None }),
         }
@@ -370,13 +373,14 @@ impl<N: HubName> Monitor<N> {
             return Err(RunFault::NoMemory { ticket: None });
         }
         self.compare(participant)?;
-        let Ok(plan) = self.execution.plan(who, Call::Retire) else {
+        let planned = self.execution.plan(who, Call::Retire);
+        let Ok(plan) = &planned else {
             return Ok(false);
         };
         if !is_retired(plan.mark.entry.reply) {
             return Ok(false);
         }
-        match self.make(rt, participant, Call::Retire, &plan) {
+        match self.make(rt, participant, Call::Retire, plan) {
             Ok(_) => Ok(true),
             Err(NoMemory) => Err(RunFault::NoMemory { ticket: None }),
         }

@@ -106,7 +106,7 @@ fn place_of(pool: PoolId) -> usize {
 }
 
 /// Whether the end of this queueing may let the wait end, which is no flush.
-fn may_end_by(ticket: Ticket, ended: Queueing) -> bool {
+fn may_end_by(ticket: &Ticket, ended: &Queueing) -> bool {
     match ticket.call {
         Call::FlushItem { item } | Call::FlushDelayed { item } | Call::CancelSync { item } => item.0
             == ended.item.0,
@@ -116,12 +116,15 @@ fn may_end_by(ticket: Ticket, ended: Queueing) -> bool {
 }
 
 /// The queue whose flushes may end by an entry: that of what it ends, or of the flush that it ends, since another may be served then.
-fn flushed_queue(ended: Option<Queueing>, done: Option<Ticket>) -> Option<QueueId> {
+fn flushed_queue(ended: &Option<Queueing>, done: &Option<Ticket>) -> Option<QueueId> {
     if let Some(ended) = ended {
         return Some(ended.place.queue);
     }
-    match done?.call {
-        Call::Flush { queue } => Some(queue),
+    match done {
+        Some(Ticket {
+            call: Call::Flush { queue },
+            ..
+        }) => Some(*queue),
         _ => None,
     }
 }
@@ -146,35 +149,39 @@ fn touched_at(shape: &Shape, queue: QueueId, cpu: CpuId) -> Touched {
 
 /// What an entry lets start by what it queues, or by who starts, sleeps or retires. What is queued while its item runs waits for that run, in
 /// whose pool it is.
-fn pools_touched_by(shape: &Shape, entry: Entry) -> Touched {
-    match (entry.reply, entry.who, entry.call) {
-        (
-            Reply::Started(_) | Reply::StartedEnlist(_, _) | Reply::Slept | Reply::Retired,
-            Who::Worker(worker),
-            _,
-        ) => Touched::One(worker.pool),
-        (
-            Reply::Yes(_) | Reply::Again(_),
-            _,
+fn pools_touched_by(shape: &Shape, entry: &Entry) -> Touched {
+    match entry.reply {
+        Reply::Started(_) | Reply::StartedEnlist(_, _) | Reply::Slept | Reply::Retired =>
+            pool_of(entry.who),
+        Reply::Yes(_) | Reply::Again(_) => match entry.call {
             Call::Queue { queue, cpu, .. }
             | Call::Delay { queue, cpu, .. }
-            | Call::Modify { queue, cpu, .. },
-        ) => touched_at(shape, queue, cpu),
-        (Reply::Fired(_, _) | Reply::TicketQueued(_) | Reply::Width(_) | Reply::Thawed, _, _) =>
+            | Call::Modify { queue, cpu, .. } => touched_at(shape, queue, cpu),
+            _ => Touched::None,
+        },
+        Reply::Fired(_, _) | Reply::TicketQueued(_) | Reply::Width(_) | Reply::Thawed =>
             Touched::All,
         _ => Touched::None,
     }
 }
 
+/// A worker's own pool.
+fn pool_of(who: Who) -> Touched {
+    match who {
+        Who::Worker(worker) => Touched::One(worker.pool),
+        Who::Caller(_) => Touched::None,
+    }
+}
+
 /// What an entry lets start in place of what it takes back. A worker that has finished asks for the next itself.
-fn pool_freed_by(shape: &Shape, entry: Entry, ended: Queueing) -> Touched {
+fn pool_freed_by(shape: &Shape, entry: &Entry, ended: &Queueing) -> Touched {
     match entry.reply {
         Reply::Finished(_) => Touched::None,
         _ => touched_at(shape, ended.place.queue, ended.place.cpu),
     }
 }
 
-fn is_flush_of(ticket: Ticket, queue: QueueId) -> bool {
+fn is_flush_of(ticket: &Ticket, queue: QueueId) -> bool {
     matches!(ticket.call, Call::Flush { queue: flushed } if flushed.0 == queue.0)
 }
 
@@ -283,9 +290,9 @@ impl Sleepers {
         &mut self,
         book: &Execution,
         shape: &Shape,
-        entry: Entry,
-        ended: Option<Queueing>,
-        done: Option<Ticket>,
+        entry: &Entry,
+        ended: &Option<Queueing>,
+        done: &Option<Ticket>,
     )
         requires { book.now.layout ≡ shape.now }
     {
@@ -303,10 +310,10 @@ impl Sleepers {
     }
 
     /// Wakes those who wait for the item or for all of the queue, where that has ended.
-    fn wake_ended(&mut self, book: &Execution, ended: Queueing) {
+    fn wake_ended(&mut self, book: &Execution, ended: &Queueing) {
         for waiter in self.waiters.iter_mut() {
             if !waiter.is_woken
-                && may_end_by(waiter.ticket, ended)
+                && may_end_by(&waiter.ticket, ended)
                 && book.ready(waiter.ticket.number)
             {
                 waiter.is_woken = true;
@@ -318,7 +325,7 @@ impl Sleepers {
     /// Wakes those whose flush of the queue has ended, the oldest first, up to one that hasn't.
     fn wake_flushes(&mut self, book: &Execution, queue: QueueId) {
         for waiter in self.flushes.iter_mut() {
-            if is_flush_of(waiter.ticket, queue) && !waiter.is_woken {
+            if is_flush_of(&waiter.ticket, queue) && !waiter.is_woken {
                 if !book.ready(waiter.ticket.number) {
                     return;
                 }

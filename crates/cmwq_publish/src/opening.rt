@@ -52,7 +52,7 @@ fn opened_writer<R: Wait>(
     }
     let first = empty(alloc, shape, seen.again())?;
     let second = empty(alloc, shape, seen.again())?;
-    let writer: BitsWriter = Writer::new(alloc, first, second, readers.max(1))?;
+    let mut writer: BitsWriter = Writer::new(alloc, first, second, readers.max(1))?;
     let nothing = Publish {
         item: None,
         bits: 0,
@@ -61,8 +61,7 @@ fn opened_writer<R: Wait>(
         len: 0,
         seen: seen.again(),
     };
-    let (writer, published) = put_out(rt, writer, nothing);
-    if let Err(AllocError) = published {
+    if put_out(rt, &mut writer, nothing).is_err() {
         writer.take(rt);
         return Err(NoMemory);
     }

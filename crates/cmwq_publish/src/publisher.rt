@@ -1,8 +1,7 @@
 ghost use Rattle.std.specs.Prelude.{◌≡◌, ◌<◌, ◌^◌, ◌++◌, ◌∷◌, [], length, drop, MatchResult};
-ghost use Rattle.left_right.specs.Sides.{view};
 ghost use Rattle.cmwq_publish.specs.Marked.{caller_number_of};
 ghost use Rattle.cmwq_publish.specs.Next.{IsNextMark};
-ghost use Rattle.cmwq_publish.specs.Published.{FollowsVersions, ShowsVersion, IsOut};
+ghost use Rattle.cmwq_publish.specs.Published.{IsOut};
 
 use crate::log::Head;
 use crate::name::HubName;
@@ -10,8 +9,6 @@ use crate::prefix::Prefix;
 use crate::publishing::put_out;
 use crate::versions::{BitsWriter, Publish};
 use cmwq_model::{CallerId, Mark, NoMemory, Who};
-use core::mem::replace_with;
-use std::alloc::AllocError;
 use std::marker::Model;
 use std::sync::Wait;
 
@@ -67,10 +64,10 @@ impl<N: HubName> Publisher<N> {
 
     /// Publishes one more entry, with the bits that its mark leaves. It waits for readers that still read the version
     /// before the last. After `NoMemory` nothing more is published, and each later call answers `NoMemory` too.
-    pub fn publish<R: Wait>(&mut self, rt: &R, mark: Mark) -> Result<(), NoMemory>
-        requires next { IsNextMark N.layout self.old.entries mark }
+    pub fn publish<R: Wait>(&mut self, rt: &R, mark: &Mark) -> Result<(), NoMemory>
+        requires next { IsNextMark N.layout self.old.entries mark.now }
         requires few { length self.old.entries < 2 ^ 62 }
-        ensures { MatchResult result (λ _. self.new ≡ record self.old { entries = self.old.entries ++ mark.entry ∷ [] }) (λ _. self.new ≡ self.old) }
+        ensures { MatchResult result (λ _. self.new ≡ record self.old { entries = self.old.entries ++ mark.now.entry ∷ [] }) (λ _. self.new ≡ self.old) }
     {
         let Some(prefix) = self.prefix.extended(&self.head, mark.entry) else {
             return Err(NoMemory);
@@ -84,17 +81,9 @@ impl<N: HubName> Publisher<N> {
                 len: prefix.len(),
                 seen: prefix.token(),
             };
-            let published = replace_with(
-                &mut self.writer,
-                publish,
-                |writer, publish| -> (BitsWriter, Result<(), AllocError>)
-                    requires { (drop writer.behind writer.log.items ≡ []) × FollowsVersions writer.desk.shown.value publish }
-                    ensures { (drop result.0.behind result.0.log.items ≡ []) × MatchResult result.1 (λ _. ShowsVersion writer.desk.shown.value publish result.0.desk.shown.value (view result.0.desk.place)) (λ _. result.0.desk.shown.value ≡ writer.desk.shown.value) }
-                { put_out(rt, writer, publish) },
-            );
-            if published.is_err() {
+            let Ok(()) = put_out(rt, &mut self.writer, publish) else {
                 return Err(NoMemory);
-            }
+            };
         }
         self.prefix = prefix;
         Ok(())

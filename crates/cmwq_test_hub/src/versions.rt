@@ -61,7 +61,7 @@ fn shown_and_read<N: HubName, R: Wait>(
     let mut reader = readers.next();
     let older = publisher.prefix().again();
     let before = read(&mut reader, 1);
-    let shown = publisher.publish(rt, mark);
+    let shown = publisher.publish(rt, &mark);
     older.begins(publisher.prefix());
     let after = read(&mut reader, 1);
     let other = read(&mut reader, 0);

@@ -7,7 +7,7 @@ use Rattle.cmwq_core.proofs.entering.plan_one.Goals as goal
 pub returns-then-has_room-clause-plan : goal.returns-then-has_room-clause-plan
 returns-then-has_room-clause-plan c =
     let h = c.args.state.now in let past = past_of h.entries in
-    let e = c.args.entry in let m = c.mark-mark.result in
+    let e = c.args.entry.now in let m = c.mark-mark.result in
     let is = c.effect_of-effect.ensures.entry in
     let mark : IsMark h e.who e.call m = subst (λ (x : Entry). IsMark h x.who x.call m) is c.mark-mark.ensures in
     let owing : c.effect_of-effect.result.owing ≡ owed h.layout (next_entry h e.who e.call ∷ past) =
