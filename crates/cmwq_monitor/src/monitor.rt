@@ -373,13 +373,13 @@ impl<N: HubName> Monitor<N> {
             return Err(RunFault::NoMemory { ticket: None });
         }
         self.compare(participant)?;
+        if !is_retired(self.execution.reply(who, Call::Retire)) {
+            return Ok(false);
+        }
         let planned = self.execution.plan(who, Call::Retire);
         let Ok(plan) = &planned else {
             return Ok(false);
         };
-        if !is_retired(plan.mark.entry.reply) {
-            return Ok(false);
-        }
         match self.make(rt, participant, Call::Retire, plan) {
             Ok(_) => Ok(true),
             Err(NoMemory) => Err(RunFault::NoMemory { ticket: None }),

@@ -121,10 +121,12 @@ fn flushed_queue(ended: &Option<Queueing>, done: &Option<Ticket>) -> Option<Queu
         return Some(ended.place.queue);
     }
     match done {
-        Some(Ticket {
-            call: Call::Flush { queue },
-            ..
-        }) => Some(*queue),
+        Some(
+            Ticket {
+                call: Call::Flush { queue },
+                ..
+            },
+        ) => Some(*queue),
         _ => None,
     }
 }
@@ -151,8 +153,9 @@ fn touched_at(shape: &Shape, queue: QueueId, cpu: CpuId) -> Touched {
 /// whose pool it is.
 fn pools_touched_by(shape: &Shape, entry: &Entry) -> Touched {
     match entry.reply {
-        Reply::Started(_) | Reply::StartedEnlist(_, _) | Reply::Slept | Reply::Retired =>
-            pool_of(entry.who),
+        Reply::Started(_) | Reply::StartedEnlist(_, _) | Reply::Slept | Reply::Retired => pool_of(
+            entry.who,
+        ),
         Reply::Yes(_) | Reply::Again(_) => match entry.call {
             Call::Queue { queue, cpu, .. }
             | Call::Delay { queue, cpu, .. }
