@@ -1,5 +1,6 @@
-use Rattle.cmwq_monitor.specs.Common.{◌≡◌, ◌≤◌, ap, refl, arith, false, rules, past_of, IsLegal, room_needed, has_room}
+use Rattle.cmwq_monitor.specs.Common.{◌≡◌, ◌≤◌, ◌∙◌, ap, sym, refl, arith, false, rules, past_of, IsLegal, room_needed, has_room}
 use Rattle.cmwq_model.specs.declared.call.Call.TheVariants as calls
+use Rattle.std.specs.Prelude.{is_ok}
 use Rattle.cmwq_monitor.specs.Held.{Held}
 use Rattle.cmwq_monitor.proofs.Entering.{room_is}
 use Rattle.cmwq_monitor.proofs.Fitting.{caller_fits}
@@ -13,7 +14,7 @@ returns-in_default-clause-waits g c =
     let v = c.args.participant.now in
     let held : c.self.inside.execution.entries ≡ log = ap (λ (h : Held). h.history) c.self.view_is in
     let full : has_room s s.room (past_of log) v.who (calls.End c.args.ticket) ≡ false =
-    room_is s c.self.inside.execution log c.who.result v.who (calls.End c.args.ticket) false c.self.invariant.1 c.self.invariant.2 held c.who.ensures.who c.in_default.ensures.room in
+    room_is s c.self.inside.execution log c.who.result v.who (calls.End c.args.ticket) false c.self.invariant.1 c.self.invariant.2 held c.who.ensures.who (sym (ap is_ok c.in_default.is) ∙ c.plan-planned.ensures.room) in
     let legal : IsLegal s (past_of log) = rw (← c.self.invariant.1, ← held) c.len-needed.ensures.legal in
     let need : room_needed s (past_of log) ≤ c.self.inside.execution.room = rw (← c.self.invariant.1, ← held) c.len-needed.ensures.needed in
     let within : room_needed s (past_of log) ≤ s.room = let room = c.self.invariant.2 in omega (arith, need, room) in

@@ -40,7 +40,8 @@ returns-clause-seen g c =
     let held : c.self.inside.execution.entries ≡ log = ap (λ (h : Held). h.history) c.self.view_is in
     let v = c.args.participant.now in
     let now_is = shown_is s log c.prefix.result.now c.self.inside.publisher c.publish.new.self v c.args.call c.args.plan.now.mark c.requires.plan.mark.is_next (c.self.invariant.3 ∙ held) c.in-Ok.ensures c.prefix.ensures in
-    ap (λ (w : View). w.seen) c.count.ensures.seen ∙ now_is
+    let w : View = record v { serial = c.serial-serial.result + 1; seen = c.prefix.result.now } in
+    ap (λ (u : View). u.seen) {y = w} c.count.ensures.seen ∙ now_is
 
 pub returns-clause-reply : goal.returns-clause-reply
 returns-clause-reply g c = c.commit-reply.ensures.reply ∙ ap (λ (e : Entry). e.reply) c.requires.plan.mark.is_next
