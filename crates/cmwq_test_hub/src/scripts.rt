@@ -134,3 +134,22 @@ fn some_calls_are_in_no_script(rt: HostRuntime) {
         assert!(rt; !are_scripts(&shape, &scripts));
     }
 }
+
+/// Calls that wait for nothing: each is one entry.
+const SHORT_CALLS: usize = 64;
+
+#[test]
+fn eight_calls_of_a_script_stand_together(rt: HostRuntime) {
+    let shape = shape(&rt, counts(1_000), &[plain_queue(1)]);
+    let mut scripts = Vec::new(rt.alloc());
+    for item in 0..2 {
+        let cancel = Call::Cancel { item: ItemId(item) };
+        let script = Vec::from_elem(rt.alloc(), cancel, SHORT_CALLS).expect(&rt, "memory");
+        scripts.push(script).expect(&rt, "memory");
+    }
+    let report = report(&rt, &shape, &scripts).expect(&rt, "a report");
+    assert_eq!(rt; report.history.len(), 2 * SHORT_CALLS);
+    for (entry, next) in report.history.iter().zip(report.history.iter().skip(1)) {
+        assert!(rt; next.serial % 8 == 0 || next.who == entry.who);
+    }
+}
