@@ -1,16 +1,14 @@
 -- Each item stands in one place at a time, until a line tells its end.
-use Rattle.cmwq_sim.specs.Common.{◌≡◌, ◌==◌, ◌<◌, ◌≤◌, ◌+◌, ◌-◌, ℕ, zero, suc, Bool, true, false, cond, not, ◌&&◌, List, [], ◌∷◌, ◌++◌, length, drop, map, filter, find, count_by, Option, Some, None, nat_lt, refl, sym, ap, ap₂, ◌∙◌, subst, arith, if◌then◌else◌, fold, list_any, range_with_len, eq-eqb, eqb-true, and_parts, count_by-cons, same_Some, nat_tests}
+use Rattle.cmwq_sim.specs.Common.{◌≡◌, ◌==◌, ◌≤◌, ◌+◌, ◌-◌, ℕ, zero, suc, Bool, true, false, cond, ◌&&◌, List, [], ◌∷◌, ◌++◌, length, drop, map, filter, find, count_by, Option, Some, None, refl, sym, ap, ap₂, ◌∙◌, subst, arith, if◌then◌else◌, fold, list_any, range_with_len, eqb-true, and_parts, count_by-cons}
 use Rattle.cmwq_sim.specs.declared.scenario.LineKind.{LineKind}
 use Rattle.cmwq_sim.specs.declared.scenario.LineKind.TheVariants as kind
-use Rattle.cmwq_sim.specs.Plan.{Plan, Event, plan_queue, ms_of, plan_width, is_of_plan_queue, whole_time}
+use Rattle.cmwq_sim.specs.Plan.{Plan, Event, plan_queue, ms_of, is_of_plan_queue, whole_time}
 use Rattle.cmwq_sim.specs.Lines.{Moment, Job, Sleeper, make_ready, end_job, after_burn, after_sleep, serve_first, serve, is_due, is_other_sleeper, wake_sleeper, wake_item, wake_sleepers, job_of, starting_items, tell, tell_starts, start_these, start, burn_first, burn, millisecond, queue_item, queued_at_first, empty, scenario_lines}
 use Rattle.cmwq_sim.specs.Shows.{is_job, is_sleeper, times}
 use Rattle.cmwq_sim.specs.Ends.{is_end_line, tells_end, EachEndsOnce}
-use Rattle.cmwq_sim.proofs.TakeReads.{any_counted}
+use Rattle.cmwq_sim.proofs.Lists.{any_counted, found_any, found_there, taken_out, once_among, once_there}
 use Rattle.cmwq_sim.proofs.TakeShown.{job_item}
-use Rattle.cmwq_sim.proofs.Phases.{found_any}
 use Rattle.cmwq_sim.proofs.Progress.{starting_first}
-use Rattle.cmwq_sim.proofs.Queued.{none_later, once_among}
 use Rattle.cmwq_sim.proofs.Outset.{all_items_end}
 use Rattle.cmwq_lemmas.proofs.Truth.{or_false}
 use Rattle.cmwq_lemmas.proofs.Lists.{found_passes, count_append}
@@ -22,42 +20,6 @@ seen i m = times m i + count_by (tells_end i) m.lines
 -- one more line, and whether it tells the end
 told : (i t : ℕ) (k : LineKind) (is : List ℕ) (ls : List Event) → count_by (tells_end i) (ls ++ record { at = t; kind = k; items = is } ∷ []) ≡ count_by (tells_end i) ls + cond (is_end_line k && list_any (λ j. j == i) is) 1 0
 told i t k is ls = let a = count_append (tells_end i) ls (record { at = t; kind = k; items = is } ∷ []) in let b = count_by-cons (tells_end i) (record { at = t; kind = k; items = is }) [] in omega arith
-
--- what is taken out stood there once
-none_left : {X : Type 0} (item : X → ℕ) (z : ℕ) (xs : List X) → count_by (λ x. item x == z) (filter (λ x. not (item x == z)) xs) ≡ 0
-none_left item z [] = refl
-none_left item z (y ∷ ys) = here (item y == z) refl (none_left item z ys)
-  where
-    here : (b : Bool) → (item y == z) ≡ b → count_by (λ x. item x == z) (filter (λ x. not (item x == z)) ys) ≡ 0
-        → count_by (λ x. item x == z) (cond (not b) (y ∷ filter (λ x. not (item x == z)) ys) (filter (λ x. not (item x == z)) ys)) ≡ 0
-    here true is k = k
-    here false is k = count_by-cons (λ x. item x == z) y (filter (λ x. not (item x == z)) ys) ∙ ap₂ (λ b n. cond b 1 0 + n) is k
-
-others_left : {X : Type 0} (item : X → ℕ) (i z : ℕ) (xs : List X) → (z == i) ≡ false → count_by (λ x. item x == i) (filter (λ x. not (item x == z)) xs) ≡ count_by (λ x. item x == i) xs
-others_left item i z [] differs = refl
-others_left item i z (y ∷ ys) differs = here (item y == z) refl (others_left item i z ys differs)
-  where
-    here : (b : Bool) → (item y == z) ≡ b → count_by (λ x. item x == i) (filter (λ x. not (item x == z)) ys) ≡ count_by (λ x. item x == i) ys
-        → count_by (λ x. item x == i) (cond (not b) (y ∷ filter (λ x. not (item x == z)) ys) (filter (λ x. not (item x == z)) ys)) ≡ count_by (λ x. item x == i) (y ∷ ys)
-    here true is k =
-        let c = count_by-cons (λ x. item x == i) y ys ∙ ap (λ b. cond b 1 0 + count_by (λ x. item x == i) ys) (ap (λ n. n == i) (eqb-true (item y) z is) ∙ differs) in
-        omega arith
-    here false is k = count_by-cons (λ x. item x == i) y (filter (λ x. not (item x == z)) ys) ∙ ap (λ n. cond (item y == i) 1 0 + n) k ∙ sym (count_by-cons (λ x. item x == i) y ys)
-
-taken_out : {X : Type 0} (item : X → ℕ) (i z : ℕ) (xs : List X) → count_by (λ x. item x == z) xs ≡ 1 → count_by (λ x. item x == i) (filter (λ x. not (item x == z)) xs) + cond {A = ℕ} (z == i) 1 0 ≡ count_by (λ x. item x == i) xs
-taken_out {X} item i z xs once = at (z == i) refl
-  where
-    at : (b : Bool) → (z == i) ≡ b → count_by (λ x. item x == i) (filter (λ x. not (item x == z)) xs) + cond {A = ℕ} (z == i) 1 0 ≡ count_by (λ x. item x == i) xs
-    at true is =
-        let same : z ≡ i = eqb-true z i is in
-        let a : count_by (λ x. item x == i) (filter (λ x. not (item x == z)) xs) ≡ 0 = ap (λ k. count_by (λ x. item x == k) (filter (λ x. not (item x == z)) xs)) (sym same) ∙ none_left item z xs in
-        let b : count_by (λ x. item x == i) xs ≡ 1 = ap (λ k. count_by (λ x. item x == k) xs) (sym same) ∙ once in
-        let c : cond {A = ℕ} (z == i) 1 0 ≡ 1 = ap (λ (t : Bool). cond {A = ℕ} t 1 0) is in
-        omega arith
-    at false is =
-        let a = others_left item i z xs is in
-        let c : cond {A = ℕ} (z == i) 1 0 ≡ 0 = ap (λ (t : Bool). cond {A = ℕ} t 1 0) is in
-        omega arith
 
 -- ---- the phases
 
@@ -71,24 +33,11 @@ ends_seen s i k m once = at (find (is_of_plan_queue s (plan_queue s k)) m.behind
     at : (o : Option ℕ) → find (is_of_plan_queue s (plan_queue s k)) m.behind ≡ o → seen i (make_ready m o) ≡ seen i m
     at None none = refl
     at (Some z) some =
-        let there = any_counted (λ j. j == z) m.behind (found_any (λ j. j == z) (λ j. j == z) (λ j h. h) m.behind z (found_itself m.behind some)) in
-        let o = once z in
-        let a = taken_out (λ (j : ℕ). j) i z m.behind (omega arith) in
-        let b = count_append (λ j. j == i) m.ready (z ∷ []) in
-        let c = count_by-cons (λ j. j == i) z [] in
-        omega arith
-      where
-        found_itself : (xs : List ℕ) → find (is_of_plan_queue s (plan_queue s k)) xs ≡ Some z → find (λ j. j == z) xs ≡ Some z
-        found_itself [] h = cc
-        found_itself (x ∷ xs) h = here (is_of_plan_queue s (plan_queue s k) x) h (λ l. found_itself xs l)
-          where
-            either : (b : Bool) → (x == z) ≡ b → find (λ j. j == z) xs ≡ Some z → cond b (Some x) (find (λ j. j == z) xs) ≡ Some z
-            either true is l = ap Some (eqb-true x z is)
-            either false is l = l
-
-            here : (b : Bool) → cond b (Some x) (find (is_of_plan_queue s (plan_queue s k)) xs) ≡ Some z → (find (is_of_plan_queue s (plan_queue s k)) xs ≡ Some z → find (λ j. j == z) xs ≡ Some z) → cond (x == z) (Some x) (find (λ j. j == z) xs) ≡ Some z
-            here true l later = ap (λ b. cond b (Some x) (find (λ j. j == z) xs)) (eq-eqb x z (same_Some x z l)) ∙ l
-            here false l later = either (x == z) refl (later l)
+        let a = taken_out (λ j. j) i z m.behind in
+        let b = any_counted (λ j. j == z) m.behind (found_there (is_of_plan_queue s (plan_queue s k)) m.behind z some) in
+        let c = count_append (λ j. j == i) m.ready (z ∷ []) in
+        let d = count_by-cons (λ j. j == i) z [] in
+        grind (arith, once z)
 
 served_seen : (s : Plan) (t i : ℕ) (m : Moment) → Once m → seen i (serve s t m) ≡ seen i m
 served_seen s t i m once = at m.cpu refl
@@ -134,7 +83,7 @@ woken_seen s t i k m once = at (find (is_due t k) m.sleeping) refl
             omega arith
 
         out : (z : ℕ) → count_by (is_sleeper z) (filter (is_other_sleeper x.item) m.sleeping) + cond {A = ℕ} (x.item == z) 1 0 ≡ count_by (is_sleeper z) m.sleeping
-        out z = taken_out (λ (y : Sleeper). y.item) z x.item m.sleeping there
+        out z = ap (λ n. count_by (is_sleeper z) (filter (is_other_sleeper x.item) m.sleeping) + cond (x.item == z) n 0) (sym there) ∙ taken_out (λ (y : Sleeper). y.item) z x.item m.sleeping
 
         fewer : (ls : List Event) (z : ℕ) → times (record m { sleeping = filter (is_other_sleeper x.item) m.sleeping; lines = ls }) z ≤ 1
         fewer ls z = let o = once z in let f = out z in omega arith
@@ -202,11 +151,11 @@ all_seen s i (suc k) t m once = all_seen s i k (t + 1) (millisecond s m t) (keep
 -- ---- at the outset each is seen once
 
 queued_seen : (s : Plan) (i k : ℕ) (m : Moment) → seen i (queue_item s m k) ≡ seen i m + cond (k == i) 1 0
-queued_seen s i k m = at (nat_lt (count_by (is_of_plan_queue s (plan_queue s k)) (m.ready ++ m.behind)) (plan_width s (plan_queue s k)))
-  where
-    at : (b : Bool) → seen i (if b then record m { ready = m.ready ++ k ∷ [] } else record m { behind = m.behind ++ k ∷ [] }) ≡ seen i m + cond (k == i) 1 0
-    at true = let a = count_append (λ j. j == i) m.ready (k ∷ []) in let b = count_by-cons (λ j. j == i) k [] in omega arith
-    at false = let a = count_append (λ j. j == i) m.behind (k ∷ []) in let b = count_by-cons (λ j. j == i) k [] in omega arith
+queued_seen s i k m =
+    let a = count_append (λ j. j == i) m.ready (k ∷ []) in
+    let b = count_append (λ j. j == i) m.behind (k ∷ []) in
+    let c = count_by-cons (λ j. j == i) k [] in
+    grind arith
 
 all_queued_seen : (s : Plan) (i len k : ℕ) (m : Moment) → seen i (fold (queue_item s) m (range_with_len k len)) ≡ seen i m + count_by (λ j. j == i) (range_with_len k len)
 all_queued_seen s i zero k m = omega arith
@@ -216,27 +165,12 @@ all_queued_seen s i (suc len) k m =
     let c = count_by-cons (λ j. j == i) k (range_with_len (k + 1) len) in
     omega arith
 
-there_once : (i a k : ℕ) → a ≤ i → i < a + k → count_by (λ j. j == i) (range_with_len a k) ≡ 1
-there_once i a zero low high = absurd (omega arith)
-there_once i a (suc k) low high = at (a == i) refl (λ more. there_once i (a + 1) k more (omega arith))
-  where
-    at : (b : Bool) → (a == i) ≡ b → (a + 1 ≤ i → count_by (λ j. j == i) (range_with_len (a + 1) k) ≡ 1) → count_by (λ j. j == i) (range_with_len a (suc k)) ≡ 1
-    at true is later =
-        let c = count_by-cons (λ j. j == i) a (range_with_len (a + 1) k) ∙ ap (λ c. cond c 1 0 + count_by (λ j. j == i) (range_with_len (a + 1) k)) is in
-        let same : a ≡ i = eqb-true a i is in
-        let d = none_later i (a + 1) k (omega arith) in
-        omega arith
-    at false is later =
-        let c = count_by-cons (λ j. j == i) a (range_with_len (a + 1) k) ∙ ap (λ c. cond c 1 0 + count_by (λ j. j == i) (range_with_len (a + 1) k)) is in
-        let d = later (grind (arith, nat_tests)) in
-        omega arith
-
 pub each_ends_once : EachEndsOnce
 unfolding scenario_lines
 each_ends_once s i fine less =
     let a = all_seen s i (suc (whole_time s)) 0 (queued_at_first s) (λ z. let q = all_queued_seen s z (length s.items) 0 empty in let o = once_among 0 (length s.items) z in omega arith) in
     let q = all_queued_seen s i (length s.items) 0 empty in
-    let o = there_once i 0 (length s.items) (omega arith) (omega arith) in
+    let o = once_there i 0 (length s.items) (omega arith) (omega arith) in
     let none = all_items_end s fine in
     let b = ap (count_by (λ j. j == i)) none.ready in
     let c = ap (count_by (λ j. j == i)) none.behind in

@@ -1,5 +1,5 @@
 -- Each call of a replay keeps room for those to come.
-use Rattle.cmwq_sim.specs.Common.{◌≡◌, ◌==◌, ◌<◌, ◌≤◌, ◌+◌, ◌*◌, ◌||◌, ℕ, Bool, true, false, List, [], ◌∷◌, ◌++◌, length, drop, find, Some, refl, ap, ◌∙◌, subst, arith, nat_le, sum_by, AllByRecursion, list_any, nat_tests, eq-eqb, sum_by-cons, sum_by_push, Who, Worker, Call, Reply, Entry, number_started, has_time, room_needed, has_room, IsLegal, entry_for, is_promised}
+use Rattle.cmwq_sim.specs.Common.{◌≡◌, ◌==◌, ◌<◌, ◌≤◌, ◌+◌, ◌*◌, ℕ, true, false, List, [], ◌∷◌, ◌++◌, length, drop, find, Some, refl, ap, ◌∙◌, subst, arith, sum_by, AllByRecursion, list_any, le-leb, eq-eqb, sum_by-cons, sum_by_push, Who, Worker, Call, Reply, Entry, number_started, has_time, room_needed, has_room, IsLegal, entry_for, is_promised}
 use Rattle.std.specs.Cmp.Derive.{both_true}
 use Rattle.cmwq_model.specs.declared.call.Call.TheVariants as call
 use Rattle.cmwq_model.specs.declared.reply.Reply.TheVariants as reply
@@ -10,11 +10,11 @@ use Rattle.cmwq_sim.specs.Rooms.{parts_at, parts_of_job, parts_left, IsRoomy}
 use Rattle.cmwq_sim.specs.Lines.{Moment, Job, Sleeper, serve, is_due, wake_item, job_of, queue_item}
 use Rattle.cmwq_sim.specs.Shows.{layout_for, plan_worker, IsRunAt, is_job, Shows}
 use Rattle.cmwq_sim.specs.Takers.{IsTaker}
-use Rattle.cmwq_sim.proofs.TakeReads.{sleep_answered, finish_answered, wake_answered}
+use Rattle.std.proofs.lemmas.Bool.{or_right}
+use Rattle.cmwq_sim.proofs.Lists.{last_any}
+use Rattle.cmwq_sim.proofs.TakeReads.{sleep_answered, finish_answered, wake_answered, run_of}
 use Rattle.cmwq_sim.proofs.TakeShown.{started_with, take_shown}
-use Rattle.cmwq_sim.proofs.WakeShown.{sleeper_run, wake_shown}
-use Rattle.cmwq_sim.proofs.FinishShown.{job_run}
-use Rattle.cmwq_sim.proofs.Steps.{any-append}
+use Rattle.cmwq_sim.proofs.WakeShown.{wake_shown}
 use Rattle.cmwq_sim.proofs.TakersAre.{taker_starts}
 use Rattle.cmwq_sim.proofs.Phases.{serve_sleeps, serve_ends, wake_burns, wake_ends, asleep_there, may_start}
 use Rattle.cmwq_sim.proofs.Queued.{ShowsQueued, queue_call, caller, queue_shown, answered}
@@ -22,10 +22,7 @@ use Rattle.cmwq_sim.proofs.Roomy.{needs_two, needs_three, sleep_takes_one, end_t
 
 -- so there is room for what would be appended
 pub has_room_then : (s : Plan) (past : List Entry) (who : Who) (c : Call) (m : Moment) → has_time past c ≡ true → IsRoomy s (entry_for (layout_for s) past who c ∷ past) m → has_room (layout_for s) 1000 past who c ≡ true
-has_room_then s past who c m time h = both_true time (at (room_needed (layout_for s) (entry_for (layout_for s) past who c ∷ past)) (omega arith))
-  where
-    at : (n : ℕ) → n ≤ 152 → nat_le n 1000 ≡ true
-    at n less = grind (arith, nat_tests)
+has_room_then s past who c m time h = both_true time (le-leb (room_needed (layout_for s) (entry_for (layout_for s) past who c ∷ past)) 1000 (omega arith))
 
 pub sleep_roomy : (s : Plan) (t : ℕ) (past : List Entry) (m : Moment) (slot : ℕ → ℕ) (j : Job) (js : List Job) (pause : ℕ) (left : List ℕ) → Shows s past m slot → IsRoomy s past m → m.cpu ≡ j ∷ js → (j.burn == 0) ≡ true → j.left ≡ pause ∷ left
     → IsRoomy s (entry_for (layout_for s) past (Worker (plan_worker (slot j.item))) call.Sleep ∷ past) (serve s t m)
@@ -45,7 +42,7 @@ end_roomy s t past m slot j js h roomy is done parts =
 
 module _ (s : Plan) (t i : ℕ) (past : List Entry) (m : Moment) (slot : ℕ → ℕ) (x : Sleeper) (h : Shows s past m slot) (roomy : IsRoomy s past m) (due : find (is_due t i) m.sleeping ≡ Some x) where
   woke : is_promised (entry_for (layout_for s) past (Worker (plan_worker (slot i))) call.Wake).reply ≡ true
-  woke = ap is_promised (wake_answered s past (slot i) i (sleeper_run past slot i m.sleeping h.sleeping (asleep_there t i m x due)))
+  woke = ap is_promised (wake_answered s past (slot i) i (run_of (λ (y : Sleeper). y.item) past slot true i m.sleeping h.sleeping (asleep_there t i m x due)))
 
   pub wake_burns_roomy : (b : ℕ) (left : List ℕ) → x.left ≡ b ∷ left → IsRoomy s (entry_for (layout_for s) past (Worker (plan_worker (slot i))) call.Wake ∷ past) (wake_item s t m i)
   wake_burns_roomy b left parts =
@@ -62,12 +59,8 @@ module _ (s : Plan) (t i : ℕ) (past : List Entry) (m : Moment) (slot : ℕ →
   woken_run : IsRunAt (entry_for (layout_for s) past (Worker (plan_worker (slot i))) call.Wake ∷ past) (slot i) i false
   woken_run =
       let k = wake_shown s past m slot i 0 [] h (asleep_there t i m x due) in
-      job_run (entry_for (layout_for s) past (Worker (plan_worker (slot i))) call.Wake ∷ past) slot i (m.cpu ++ record { item = i; burn = 0; left = [] } ∷ []) k.cpu
-      (any-append (is_job i) m.cpu (record { item = i; burn = 0; left = [] } ∷ []) ∙ ap (λ b. list_any (is_job i) m.cpu || (b || false)) (eq-eqb i i refl) ∙ either (list_any (is_job i) m.cpu))
-    where
-      either : (b : Bool) → (b || true) ≡ true
-      either true = refl
-      either false = refl
+      run_of (λ (j : Job). j.item) (entry_for (layout_for s) past (Worker (plan_worker (slot i))) call.Wake ∷ past) slot false i (m.cpu ++ record { item = i; burn = 0; left = [] } ∷ []) k.cpu
+      (last_any (is_job i) m.cpu (record { item = i; burn = 0; left = [] }) ∙ or_right (list_any (is_job i) m.cpu) (i == i) (eq-eqb i i refl))
 
   pub wake_ends_roomy : x.left ≡ [] → IsRoomy s (entry_for (layout_for s) (entry_for (layout_for s) past (Worker (plan_worker (slot i))) call.Wake ∷ past) (Worker (plan_worker (slot i))) call.Finish ∷ entry_for (layout_for s) past (Worker (plan_worker (slot i))) call.Wake ∷ past) (wake_item s t m i)
   unfolding IsLegal
