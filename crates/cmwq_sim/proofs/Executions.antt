@@ -10,12 +10,12 @@ use Rattle.cmwq_sim.specs.declared.execution.Execution.{Execution}
 use Rattle.cmwq_sim.specs.Plan.{Plan, ms_of, plan_queue, is_of_plan_queue, event_of, no_item}
 use Rattle.cmwq_sim.specs.Limits.{IsItem, IsWithinLimits}
 use Rattle.cmwq_sim.specs.Lines.{Moment, Job, Sleeper, job_with, job_of, wake_sleepers, millisecond, burn, burn_first, queue_item, queued_at_first, empty, starting_items, start, tell_starts, make_ready, tell, after_burn, serve, is_due, is_other_sleeper, after_sleep, wake_sleeper, wake_item}
-use Rattle.cmwq_sim.specs.Shows.{layout_for, plan_worker, Shows, moment_of, queueing_for, IsRunAt, is_job, runs_in}
+use Rattle.cmwq_sim.specs.Shows.{layout_for, plan_worker, Shows, moment_of, queueing_for, IsRunAt, is_job, is_sleeper, runs_in}
 use Rattle.cmwq_sim.specs.Rooms.{IsRoomy}
 use Rattle.cmwq_sim.specs.Standing.{job_seen, sleeper_seen, moment_in, slot_in, Stands, StandsAt, started_one, starts_lines, LessFirst}
 use Rattle.cmwq_sim.specs.Takers.{IsTaker, NoTaker, taken_by}
 use Rattle.cmwq_sim.proofs.Progress.{all_at, rest, IsRunning, Begins, served, awake, started, passes}
-use Rattle.cmwq_sim.proofs.Outset.{begins}
+use Rattle.cmwq_sim.proofs.Outset.{begins, queue_keeps}
 use Rattle.cmwq_sim.specs.Ends.{moment_after}
 use Rattle.cmwq_sim.proofs.TakersAre.{taker_starts}
 use Rattle.cmwq_sim.proofs.TakeShown.{slot_with, take_shown, job_item}
@@ -92,31 +92,24 @@ module _ (s : Plan) (t : ℕ) (r : Execution) (job : Running) (js : List Running
   first : (moment_in s r).cpu ≡ job_seen s job ∷ map (job_seen s) js
   first = ap (map (job_seen s)) is
 
-  burnt : ((job_seen s job).burn == 0) ≡ true
-  burnt = eq-eqb job.burn 0 done
-
-  pub sleeps_showing : (pause : ℕ) (left : List ℕ) → drop job.next (ms_of s job.item) ≡ pause ∷ left → Shows s (entry_for (layout_for s) (past_in r.book) (Worker (plan_worker (slot_in r.slots job.item))) call.Sleep ∷ past_in r.book) (serve s t (moment_in s r)) (slot_in r.slots)
-  sleeps_showing pause left parts = serve_sleeps s t (past_in r.book) (moment_in s r) (slot_in r.slots) (job_seen s job) (map (job_seen s) js) pause left h.shows first burnt parts
-
-  pub sleeps_roomy : (pause : ℕ) (left : List ℕ) → drop job.next (ms_of s job.item) ≡ pause ∷ left → IsRoomy s (entry_for (layout_for s) (past_in r.book) (Worker (plan_worker (slot_in r.slots job.item))) call.Sleep ∷ past_in r.book) (serve s t (moment_in s r))
-  sleeps_roomy pause left parts = sleep_roomy s t (past_in r.book) (moment_in s r) (slot_in r.slots) (job_seen s job) (map (job_seen s) js) pause left h.shows h.roomy first burnt parts
-
-  pub ends_showing : drop job.next (ms_of s job.item) ≡ [] → Shows s (entry_for (layout_for s) (past_in r.book) (Worker (plan_worker (slot_in r.slots job.item))) call.Finish ∷ past_in r.book) (serve s t (moment_in s r)) (slot_in r.slots)
-  ends_showing parts = serve_ends s t (past_in r.book) (moment_in s r) (slot_in r.slots) (job_seen s job) (map (job_seen s) js) h.shows first burnt parts
-
-  pub ends_roomy : drop job.next (ms_of s job.item) ≡ [] → IsRoomy s (entry_for (layout_for s) (past_in r.book) (Worker (plan_worker (slot_in r.slots job.item))) call.Finish ∷ past_in r.book) (serve s t (moment_in s r))
-  ends_roomy parts = end_roomy s t (past_in r.book) (moment_in s r) (slot_in r.slots) (job_seen s job) (map (job_seen s) js) h.shows h.roomy first burnt parts
-
   became : (left : List ℕ) → drop job.next (ms_of s job.item) ≡ left → serve s t (moment_in s r) ≡ after_burn s t (record (moment_in s r) { cpu = map (job_seen s) js }) job.item left
-  became left parts = serve_is s t (moment_in s r) (job_seen s job) (map (job_seen s) js) first burnt ∙ ap (after_burn s t (record (moment_in s r) { cpu = map (job_seen s) js }) job.item) parts
+  became left parts = serve_is s t (moment_in s r) (job_seen s job) (map (job_seen s) js) first (eq-eqb job.burn 0 done) ∙ ap (after_burn s t (record (moment_in s r) { cpu = map (job_seen s) js }) job.item) parts
+
+  sleeps_roomy : (pause : ℕ) (left : List ℕ) → drop job.next (ms_of s job.item) ≡ pause ∷ left → IsRoomy s (entry_for (layout_for s) (past_in r.book) (Worker (plan_worker (slot_in r.slots job.item))) call.Sleep ∷ past_in r.book) (after_burn s t (record (moment_in s r) { cpu = map (job_seen s) js }) job.item (pause ∷ left))
+  sleeps_roomy pause left parts = sleep_roomy s t (past_in r.book) (moment_in s r) (slot_in r.slots) (job_seen s job) (map (job_seen s) js) pause left h.shows h.roomy first parts
+
+  ends_roomy : IsRoomy s (entry_for (layout_for s) (past_in r.book) (Worker (plan_worker (slot_in r.slots job.item))) call.Finish ∷ past_in r.book) (after_burn s t (record (moment_in s r) { cpu = map (job_seen s) js }) job.item [])
+  ends_roomy = end_roomy s t (past_in r.book) (moment_in s r) (slot_in r.slots) (job_seen s job) (map (job_seen s) js) h.shows h.roomy first
 
   pub sleeps : (r2 : Execution) (pause : ℕ) → drop job.next (ms_of s job.item) ≡ pause ∷ drop (job.next + 1) (ms_of s job.item)
       → r2.book ≡ with_entry r.book (next_entry r.book (Worker (plan_worker (slot_in r.slots job.item))) call.Sleep) → r2.slots ≡ r.slots → r2.cpu.items ≡ js
       → r2.sleeping.items ≡ r.sleeping.items ++ record { item = job.item; until = t + pause; next = job.next + 1 } ∷ []
       → map event_of r2.lines.items ≡ map event_of r.lines.items ++ record { at = t; kind = kind.Sleeps; items = job.item ∷ [] } ∷ [] → StandsAt s r2 (serve s t (moment_in s r))
   sleeps r2 pause parts book slots cpu sleeping lines =
-      calls_on s r r2 (Worker (plan_worker (slot_in r.slots job.item))) call.Sleep (serve s t (moment_in s r)) h book slots (sleeps_showing pause (drop (job.next + 1) (ms_of s job.item)) parts) (sleeps_roomy pause (drop (job.next + 1) (ms_of s job.item)) parts)
-      (subst (Lists s r2) (sym (became (pause ∷ drop (job.next + 1) (ms_of s job.item)) parts)) (record {
+      let left = drop (job.next + 1) (ms_of s job.item) in
+      subst (StandsAt s r2) (sym (became (pause ∷ left) parts))
+      (calls_on s r r2 (Worker (plan_worker (slot_in r.slots job.item))) call.Sleep (after_burn s t (record (moment_in s r) { cpu = map (job_seen s) js }) job.item (pause ∷ left)) h book slots
+      (serve_sleeps s t (past_in r.book) (moment_in s r) (slot_in r.slots) (job_seen s job) (map (job_seen s) js) pause left h.shows first) (sleeps_roomy pause left parts) (record {
         cpu = ap (map (job_seen s)) cpu;
         sleeping = ap (map (sleeper_seen s)) sleeping ∙ map-append (sleeper_seen s) r.sleeping.items (record { item = job.item; until = t + pause; next = job.next + 1 } ∷ []);
         lines = lines;
@@ -125,18 +118,17 @@ module _ (s : Plan) (t : ℕ) (r : Execution) (job : Running) (js : List Running
   pub ends : (r2 : Execution) → drop job.next (ms_of s job.item) ≡ [] → r2.book ≡ with_entry r.book (next_entry r.book (Worker (plan_worker (slot_in r.slots job.item))) call.Finish) → r2.slots ≡ r.slots → r2.cpu.items ≡ js
       → r2.sleeping.items ≡ r.sleeping.items → map event_of r2.lines.items ≡ map event_of r.lines.items ++ record { at = t; kind = kind.Ends; items = job.item ∷ [] } ∷ [] → StandsAt s r2 (serve s t (moment_in s r))
   ends r2 parts book slots cpu sleeping lines =
-      calls_on s r r2 (Worker (plan_worker (slot_in r.slots job.item))) call.Finish (serve s t (moment_in s r)) h book slots (ends_showing parts) (ends_roomy parts)
-      (subst (Lists s r2) (sym (became [] parts)) (ready_keeps s r2 (tell t kind.Ends (job.item ∷ []) (record (moment_in s r) { cpu = map (job_seen s) js })) (find (is_of_plan_queue s (plan_queue s job.item)) (moment_in s r).behind) (record {
-        cpu = ap (map (job_seen s)) cpu;
-        sleeping = ap (map (sleeper_seen s)) sleeping;
-        lines = lines;
-      })))
+      subst (StandsAt s r2) (sym (became [] parts))
+      (calls_on s r r2 (Worker (plan_worker (slot_in r.slots job.item))) call.Finish (after_burn s t (record (moment_in s r) { cpu = map (job_seen s) js }) job.item []) h book slots
+      (serve_ends s t (past_in r.book) (moment_in s r) (slot_in r.slots) (job_seen s job) (map (job_seen s) js) h.shows first) ends_roomy
+      (ready_keeps s r2 (tell t kind.Ends (job.item ∷ []) (record (moment_in s r) { cpu = map (job_seen s) js })) (find (is_of_plan_queue s (plan_queue s job.item)) (moment_in s r).behind)
+      (record { cpu = ap (map (job_seen s)) cpu; sleeping = ap (map (sleeper_seen s)) sleeping; lines = lines })))
 
   pub has_room_to_sleep : (pause : ℕ) (left : List ℕ) → drop job.next (ms_of s job.item) ≡ pause ∷ left → takes r.book (Worker (plan_worker (slot_in r.slots job.item))) call.Sleep ≡ true
-  has_room_to_sleep pause left parts = room_for s r.book (Worker (plan_worker (slot_in r.slots job.item))) call.Sleep (serve s t (moment_in s r)) h.layout h.room refl (sleeps_roomy pause left parts)
+  has_room_to_sleep pause left parts = room_for s r.book (Worker (plan_worker (slot_in r.slots job.item))) call.Sleep (after_burn s t (record (moment_in s r) { cpu = map (job_seen s) js }) job.item (pause ∷ left)) h.layout h.room refl (sleeps_roomy pause left parts)
 
-  pub has_room_to_end : drop job.next (ms_of s job.item) ≡ [] → takes r.book (Worker (plan_worker (slot_in r.slots job.item))) call.Finish ≡ true
-  has_room_to_end parts = room_for s r.book (Worker (plan_worker (slot_in r.slots job.item))) call.Finish (serve s t (moment_in s r)) h.layout h.room refl (ends_roomy parts)
+  pub has_room_to_end : takes r.book (Worker (plan_worker (slot_in r.slots job.item))) call.Finish ≡ true
+  has_room_to_end = room_for s r.book (Worker (plan_worker (slot_in r.slots job.item))) call.Finish (after_burn s t (record (moment_in s r) { cpu = map (job_seen s) js }) job.item []) h.layout h.room refl ends_roomy
 
 -- ---- who runs has a number below 8
 
@@ -183,11 +175,11 @@ module _ (s : Plan) (t i : ℕ) (r : Execution) (x : Asleep) (o : Option Asleep)
   its : x.item ≡ i
   its = due_item t i (sleeper_seen s x) (found_passes (is_due t i) (moment_in s r).sleeping (sleeper_seen s x) due)
 
-  run_is : IsRunAt (past_in r.book) (slot_in r.slots i) i true
-  run_is = run_of (λ (y : Sleeper). y.item) (past_in r.book) (slot_in r.slots) true i (moment_in s r).sleeping h.shows.sleeping (asleep_there t i (moment_in s r) (sleeper_seen s x) due)
+  asleep : list_any (is_sleeper i) (moment_in s r).sleeping ≡ true
+  asleep = asleep_there t i (moment_in s r) (sleeper_seen s x) due
 
   pub sleeper_below : i < 8
-  sleeper_below = runs_below s r (plan_worker (slot_in r.slots i)) i h run_is.runs
+  sleeper_below = runs_below s r (plan_worker (slot_in r.slots i)) i h (run_of (λ (y : Sleeper). y.item) (past_in r.book) (slot_in r.slots) true i (moment_in s r).sleeping h.shows.sleeping asleep).runs
 
   parts_of : (left : List ℕ) → drop x.next (ms_of s i) ≡ left → (sleeper_seen s x).left ≡ left
   parts_of left parts = ap (λ k. drop x.next (ms_of s k)) its ∙ parts
@@ -196,18 +188,15 @@ module _ (s : Plan) (t i : ℕ) (r : Execution) (x : Asleep) (o : Option Asleep)
   woken_is left parts = ap (wake_sleeper s t (moment_in s r)) due
       ∙ ap₂ (λ k ms. after_sleep s t (record (moment_in s r) { sleeping = filter (is_other_sleeper k) (moment_in s r).sleeping }) k ms) its (parts_of left parts)
 
-  burns_roomy : (b : ℕ) (left : List ℕ) → drop x.next (ms_of s i) ≡ b ∷ left → IsRoomy s (entry_for (layout_for s) (past_in r.book) (Worker (plan_worker (slot_in r.slots i))) call.Wake ∷ past_in r.book) (wake_item s t (moment_in s r) i)
-  burns_roomy b left parts = wake_burns_roomy s t i (past_in r.book) (moment_in s r) (slot_in r.slots) (sleeper_seen s x) h.shows h.roomy due b left (parts_of (b ∷ left) parts)
-
   pub wakes : (r2 : Execution) (b : ℕ) → drop x.next (ms_of s i) ≡ b ∷ drop (x.next + 1) (ms_of s i)
       → r2.book ≡ with_entry r.book (next_entry r.book (Worker (plan_worker (slot_in r.slots i))) call.Wake) → r2.slots ≡ r.slots → r2.cpu.items ≡ r.cpu.items ++ record { item = i; burn = b; next = x.next + 1 } ∷ []
       → r2.sleeping.items ≡ filter (λ (y : Asleep). not (y.item == i)) r.sleeping.items
       → map event_of r2.lines.items ≡ map event_of r.lines.items ++ record { at = t; kind = kind.WakesBurns; items = i ∷ [] } ∷ [] → StandsAt s r2 (wake_item s t (moment_in s r) i)
   wakes r2 b parts book slots cpu sleeping lines =
-      calls_on s r r2 (Worker (plan_worker (slot_in r.slots i))) call.Wake (wake_item s t (moment_in s r) i) h book slots
-      (wake_burns s t i (past_in r.book) (moment_in s r) (slot_in r.slots) (sleeper_seen s x) h.shows due b (drop (x.next + 1) (ms_of s i)) (parts_of (b ∷ drop (x.next + 1) (ms_of s i)) parts))
-      (burns_roomy b (drop (x.next + 1) (ms_of s i)) parts)
-      (subst (Lists s r2) (sym (woken_is (b ∷ drop (x.next + 1) (ms_of s i)) parts)) (record {
+      let left = drop (x.next + 1) (ms_of s i) in
+      subst (StandsAt s r2) (sym (woken_is (b ∷ left) parts))
+      (calls_on s r r2 (Worker (plan_worker (slot_in r.slots i))) call.Wake (after_sleep s t (record (moment_in s r) { sleeping = filter (is_other_sleeper i) (moment_in s r).sleeping }) i (b ∷ left)) h book slots
+      (wake_burns s t i (past_in r.book) (moment_in s r) (slot_in r.slots) h.shows asleep b left) (wake_burns_roomy s t i (past_in r.book) (moment_in s r) (slot_in r.slots) (sleeper_seen s x) h.shows h.roomy due b left (parts_of (b ∷ left) parts)) (record {
         cpu = ap (map (job_seen s)) cpu ∙ map-append (job_seen s) r.cpu.items (record { item = i; burn = b; next = x.next + 1 } ∷ []);
         sleeping = ap (map (sleeper_seen s)) sleeping ∙ seen_others s i r.sleeping.items;
         lines = lines;
@@ -224,29 +213,22 @@ module _ (s : Plan) (t i : ℕ) (r : Execution) (x : Asleep) (o : Option Asleep)
     awake_past : past_in b ≡ entry_for (layout_for s) (past_in r.book) (Worker (plan_worker (slot_in r.slots i))) call.Wake ∷ past_in r.book
     awake_past = past_after s r.book b (Worker (plan_worker (slot_in r.slots i))) call.Wake h.layout book
 
-    ended_roomy : IsRoomy s (entry_for (layout_for s) (past_in b) (Worker (plan_worker (slot_in r.slots i))) call.Finish ∷ past_in b) (wake_item s t (moment_in s r) i)
-    ended_roomy = subst (λ ps. IsRoomy s (entry_for (layout_for s) ps (Worker (plan_worker (slot_in r.slots i))) call.Finish ∷ ps) (wake_item s t (moment_in s r) i)) (sym awake_past)
-        (wake_ends_roomy s t i (past_in r.book) (moment_in s r) (slot_in r.slots) (sleeper_seen s x) h.shows h.roomy due (parts_of [] parts))
-
-    ended_shown : Shows s (entry_for (layout_for s) (past_in b) (Worker (plan_worker (slot_in r.slots i))) call.Finish ∷ past_in b) (wake_item s t (moment_in s r) i) (slot_in r.slots)
-    ended_shown = subst (λ ps. Shows s (entry_for (layout_for s) ps (Worker (plan_worker (slot_in r.slots i))) call.Finish ∷ ps) (wake_item s t (moment_in s r) i) (slot_in r.slots)) (sym awake_past)
-        (wake_ends s t i (past_in r.book) (moment_in s r) (slot_in r.slots) (sleeper_seen s x) h.shows due (parts_of [] parts))
+    ended_roomy : IsRoomy s (entry_for (layout_for s) (past_in b) (Worker (plan_worker (slot_in r.slots i))) call.Finish ∷ past_in b) (after_sleep s t (record (moment_in s r) { sleeping = filter (is_other_sleeper i) (moment_in s r).sleeping }) i [])
+    ended_roomy = rw awake_past (wake_ends_roomy s t i (past_in r.book) (moment_in s r) (slot_in r.slots) (sleeper_seen s x) h.shows h.roomy due (parts_of [] parts))
 
     pub has_room_to_finish : takes b (Worker (plan_worker (slot_in r.slots i))) call.Finish ≡ true
-    has_room_to_finish = room_for s b (Worker (plan_worker (slot_in r.slots i))) call.Finish (wake_item s t (moment_in s r) i) awake_layout (ap (λ (k : History). k.room) book ∙ h.room) refl ended_roomy
+    has_room_to_finish = room_for s b (Worker (plan_worker (slot_in r.slots i))) call.Finish (after_sleep s t (record (moment_in s r) { sleeping = filter (is_other_sleeper i) (moment_in s r).sleeping }) i []) awake_layout (ap (λ (k : History). k.room) book ∙ h.room) refl ended_roomy
 
     pub wakes_to_end : (r2 : Execution) → r2.book ≡ with_entry b (next_entry b (Worker (plan_worker (slot_in r.slots i))) call.Finish) → r2.slots ≡ r.slots → r2.cpu.items ≡ r.cpu.items
         → r2.sleeping.items ≡ filter (λ (y : Asleep). not (y.item == i)) r.sleeping.items
         → map event_of r2.lines.items ≡ map event_of r.lines.items ++ record { at = t; kind = kind.WakesEnds; items = i ∷ [] } ∷ [] → StandsAt s r2 (wake_item s t (moment_in s r) i)
     wakes_to_end r2 book2 slots cpu sleeping lines =
-        goes_on s r r2 (entry_for (layout_for s) (past_in b) (Worker (plan_worker (slot_in r.slots i))) call.Finish ∷ past_in b) (wake_item s t (moment_in s r) i) h
+        subst (StandsAt s r2) (sym (woken_is [] parts))
+        (goes_on s r r2 _ (after_sleep s t (record (moment_in s r) { sleeping = filter (is_other_sleeper i) (moment_in s r).sleeping }) i []) h
         (ap (λ (k : History). k.layout) book2 ∙ ap (λ (k : History). k.layout) book) (ap (λ (k : History). k.room) book2 ∙ ap (λ (k : History). k.room) book)
-        (past_after s b r2.book (Worker (plan_worker (slot_in r.slots i))) call.Finish awake_layout book2) slots ended_shown ended_roomy
-        (subst (Lists s r2) (sym (woken_is [] parts)) (ready_keeps s r2 (tell t kind.WakesEnds (i ∷ []) (record (moment_in s r) { sleeping = filter (is_other_sleeper i) (moment_in s r).sleeping })) (find (is_of_plan_queue s (plan_queue s i)) (moment_in s r).behind) (record {
-          cpu = ap (map (job_seen s)) cpu;
-          sleeping = ap (map (sleeper_seen s)) sleeping ∙ seen_others s i r.sleeping.items;
-          lines = lines;
-        })))
+        (past_after s b r2.book (Worker (plan_worker (slot_in r.slots i))) call.Finish awake_layout book2) slots (rw awake_past (wake_ends s t i (past_in r.book) (moment_in s r) (slot_in r.slots) h.shows asleep)) ended_roomy
+        (ready_keeps s r2 (tell t kind.WakesEnds (i ∷ []) (record (moment_in s r) { sleeping = filter (is_other_sleeper i) (moment_in s r).sleeping })) (find (is_of_plan_queue s (plan_queue s i)) (moment_in s r).behind)
+        (record { cpu = ap (map (job_seen s)) cpu; sleeping = ap (map (sleeper_seen s)) sleeping ∙ seen_others s i r.sleeping.items; lines = lines })))
 
 -- ---- (3) a start
 
@@ -334,7 +316,6 @@ none_taken s r x h less full = at (taken_by r.book.layout (past_in r.book) x) re
 pub record HaveStarted (s : Plan) (m : Moment) (r : Execution) (is : List ℕ) : Type 0 where
   pub at : StandsAt s r (taken s m is)
   pub all : starting_items s m.cpu m.ready ≡ is ++ starting_items s (taken s m is).cpu (taken s m is).ready
-  pub lines : map event_of r.lines.items ≡ m.lines
 
 pub started_on : (s : Plan) (m : Moment) (r r2 : Execution) (is : List ℕ) (x n : ℕ) → HaveStarted s m r is → IsTaker r.book.layout (past_in r.book) x n → StandsAt s r2 (started_one s (moment_in s r) n) → HaveStarted s m r2 (is ++ n ∷ [])
 started_on s m r r2 is x n h t next =
@@ -345,7 +326,6 @@ started_on s m r r2 is x n h t next =
     record {
       at = at;
       all = h.all ∙ starts_on s (past_in r.book) m (slot_in r.slots) is x n shows t2;
-      lines = ap (λ (m2 : Moment). m2.lines) at.moment;
     }
 
 pub fewer_ready : (s : Plan) (r r2 : Execution) (x n : ℕ) → Stands s r → IsTaker r.book.layout (past_in r.book) x n → StandsAt s r2 (started_one s (moment_in s r) n) → length (moment_in s r2).ready < length (moment_in s r).ready
@@ -383,10 +363,8 @@ module _ (s : Plan) (b : History) (k : ℕ) (limits : IsWithinLimits s) (h : Que
       record {
         layout = ap (λ (x : History). x.layout) is ∙ h.layout;
         room = ap (λ (x : History). x.room) is ∙ h.room;
-        shows = subst (λ m. ShowsQueued s (k + 1) (past_in b2) m) (sym (one_more (queue_item s) empty k)) (subst (λ n. ShowsQueued s n (past_in b2) (queue_item s (fold (queue_item s) empty (range_with_len 0 k)) k)) (sym (add-one k))
-            (subst (λ ps. ShowsQueued s (suc k) ps (queue_item s (fold (queue_item s) empty (range_with_len 0 k)) k)) (sym past) (queue_shown s k (past_in b) (fold (queue_item s) empty (range_with_len 0 k)) h.shows few queue_there)));
-        roomy = subst (λ m. room_needed (layout_for s) (past_in b2) + 2 * parts_left s m ≤ 19 * (k + 1)) (sym (one_more (queue_item s) empty k))
-            (subst (λ ps. room_needed (layout_for s) ps + 2 * parts_left s (queue_item s (fold (queue_item s) empty (range_with_len 0 k)) k) ≤ 19 * (k + 1)) (sym past) next_roomy);
+        shows = rw (past, one_more (queue_item s) empty k, add-one k) (queue_shown s k (past_in b) (fold (queue_item s) empty (range_with_len 0 k)) h.shows few queue_there);
+        roomy = rw (past, one_more (queue_item s) empty k) next_roomy;
       }
 
 pub none_yet : (s : Plan) (b : History) → b ≡ record { layout = layout_for s; room = 1000; entries = [] } → QueuedSoFar s b 0
@@ -416,7 +394,7 @@ all_started s t m r r2 is h nobody book cpu sleeping slots lines =
     (stays_on s r r2 (record (taken s m is) { lines = m.lines ++ starts_lines t is }) h.at.stands book slots (other_lines s (past_in r.book) (taken s m is) (slot_in r.slots) (m.lines ++ starts_lines t is) shows) roomy (record {
       cpu = ap (map (job_seen s)) cpu ∙ ap (λ (m2 : Moment). m2.cpu) h.at.moment;
       sleeping = ap (map (sleeper_seen s)) sleeping ∙ ap (λ (m2 : Moment). m2.sleeping) h.at.moment;
-      lines = lines ∙ ap (λ ls. ls ++ starts_lines t is) h.lines;
+      lines = lines ∙ ap (λ (m2 : Moment). m2.lines ++ starts_lines t is) h.at.moment;
     }))
 
 -- ---- the first of the CPU's list burns
@@ -443,10 +421,6 @@ burns s r r2 h book sleeping slots lines less =
 
 -- ---- at first
 
-queue_keeps : (s : Plan) (m : Moment) (is : List ℕ) → ((fold (queue_item s) m is).cpu ≡ m.cpu) × ((fold (queue_item s) m is).sleeping ≡ m.sleeping) × ((fold (queue_item s) m is).lines ≡ m.lines)
-queue_keeps s m [] = (refl, refl, refl)
-queue_keeps s m (i ∷ is) = let k = queue_keeps s (queue_item s m i) is in (grind arith, grind arith, grind arith)
-
 pub outset : (s : Plan) (r : Execution) → IsWithinLimits s → r.book.layout ≡ layout_for s → r.book.room ≡ 1000 → Shows s (past_in r.book) (queued_at_first s) (slot_in r.slots) → IsRoomy s (past_in r.book) (queued_at_first s)
     → r.slots ≡ 0 ∷ 0 ∷ 0 ∷ 0 ∷ 0 ∷ 0 ∷ 0 ∷ 0 ∷ [] → r.cpu.items ≡ [] → r.sleeping.items ≡ [] → r.lines.items ≡ [] → StandsAt s r (queued_at_first s)
 outset s r limits layout room shows roomy slots cpu sleeping lines =
@@ -466,19 +440,18 @@ burning : (s : Plan) (xs : List Running) → AllByRecursion (IsRunning s) (map (
 burning s [] all = tt
 burning s (x ∷ xs) all = (all.0.burns, burning s xs all.1)
 
-pub still_burning : (s : Plan) (t : ℕ) (r : Execution) (m : Moment) → IsWithinLimits s → m ≡ moment_after s t → StandsAt s r (start s t (wake_sleepers s t (serve s t m))) → AllByRecursion (λ (j : Running). 1 ≤ j.burn) r.cpu.items
-still_burning s t r m fine is h =
-    let b = subst (Begins s t) (sym is) (begins_after s fine t) in
-    let k = started s t (rest s t m) (wake_sleepers s t (serve s t m)) fine (awake s t (rest s t m) (serve s t m) (served s t m b.sound b.first)) in
-    burning s r.cpu.items (subst (λ (m2 : Moment). AllByRecursion (IsRunning s) m2.cpu) (sym h.moment) k.awake.goes.cpu)
+pub still_burning : (s : Plan) (t : ℕ) (r0 r1 r2 r3 : Execution) → IsWithinLimits s → moment_in s r0 ≡ moment_after s t → StandsAt s r1 (serve s t (moment_in s r0)) → StandsAt s r2 (wake_sleepers s t (moment_in s r1)) → StandsAt s r3 (start s t (moment_in s r2)) → AllByRecursion (λ (j : Running). 1 ≤ j.burn) r3.cpu.items
+still_burning s t r0 r1 r2 r3 fine is a b c =
+    let m = moment_in s r0 in
+    let begun = subst (Begins s t) (sym is) (begins_after s fine t) in
+    let k = started s t (rest s t m) (wake_sleepers s t (serve s t m)) fine (awake s t (rest s t m) (serve s t m) (served s t m begun.sound begun.first)) in
+    let same = c.moment ∙ ap (start s t) (b.moment ∙ ap (wake_sleepers s t) a.moment) in
+    burning s r3.cpu.items (subst (λ (m2 : Moment). AllByRecursion (IsRunning s) m2.cpu) (sym same) k.awake.goes.cpu)
 
 pub all_phases : (s : Plan) (t : ℕ) (r0 r1 r2 r3 r4 : Execution) → moment_in s r0 ≡ moment_after s t → StandsAt s r1 (serve s t (moment_in s r0)) → StandsAt s r2 (wake_sleepers s t (moment_in s r1)) → StandsAt s r3 (start s t (moment_in s r2)) → StandsAt s r4 (burn (moment_in s r3))
     → StandsAt s r4 (moment_after s (t + 1))
 all_phases s t r0 r1 r2 r3 r4 is a b c d =
     subst (StandsAt s r4) (ap burn (c.moment ∙ ap (start s t) (b.moment ∙ ap (wake_sleepers s t) a.moment)) ∙ ap (λ m. millisecond s m t) is ∙ sym (one_more (millisecond s) (queued_at_first s) t)) d
-
-pub after_start : (s : Plan) (t : ℕ) (r0 r1 r2 r3 : Execution) → StandsAt s r1 (serve s t (moment_in s r0)) → StandsAt s r2 (wake_sleepers s t (moment_in s r1)) → StandsAt s r3 (start s t (moment_in s r2)) → StandsAt s r3 (start s t (wake_sleepers s t (serve s t (moment_in s r0))))
-after_start s t r0 r1 r2 r3 a b c = subst (StandsAt s r3) (ap (start s t) (b.moment ∙ ap (wake_sleepers s t) a.moment)) c
 
 pub as_many : (xs ys : List Running) → LessFirst xs ys → length ys ≡ length xs
 as_many [] ys h = ap length h

@@ -3,13 +3,13 @@ use Rattle.cmwq_sim.specs.Common.{◌≡◌, ◌==◌, ◌≤◌, ◌+◌, ◌-�
 use Rattle.cmwq_sim.specs.declared.scenario.LineKind.{LineKind}
 use Rattle.cmwq_sim.specs.declared.scenario.LineKind.TheVariants as kind
 use Rattle.cmwq_sim.specs.Plan.{Plan, Event, plan_queue, ms_of, is_of_plan_queue, whole_time}
-use Rattle.cmwq_sim.specs.Lines.{Moment, Job, Sleeper, make_ready, end_job, after_burn, after_sleep, serve_first, serve, is_due, is_other_sleeper, wake_sleeper, wake_item, wake_sleepers, job_of, starting_items, tell, tell_starts, start_these, start, burn_first, burn, millisecond, queue_item, queued_at_first, empty, scenario_lines}
+use Rattle.cmwq_sim.specs.Lines.{Moment, Job, Sleeper, make_ready, end_job, after_burn, after_sleep, serve_first, serve, is_due, is_other_sleeper, wake_sleeper, wake_item, wake_sleepers, job_of, starting_items, tell, tell_starts, start_these, start, burn_first, burn, millisecond, queued_at_first, empty, scenario_lines}
 use Rattle.cmwq_sim.specs.Shows.{is_job, is_sleeper, times}
 use Rattle.cmwq_sim.specs.Ends.{is_end_line, tells_end, EachEndsOnce}
 use Rattle.cmwq_sim.proofs.Lists.{any_counted, found_any, found_there, taken_out, once_among, once_there}
 use Rattle.cmwq_sim.proofs.TakeShown.{job_item}
 use Rattle.cmwq_sim.proofs.Progress.{starting_first}
-use Rattle.cmwq_sim.proofs.Outset.{all_items_end}
+use Rattle.cmwq_sim.proofs.Outset.{queue_keeps, all_weigh, all_items_end}
 use Rattle.cmwq_lemmas.proofs.Truth.{or_false}
 use Rattle.cmwq_lemmas.proofs.Lists.{found_passes, count_append}
 
@@ -148,32 +148,13 @@ all_seen : (s : Plan) (i k t : ℕ) (m : Moment) → Once m → seen i (fold (mi
 all_seen s i zero t m once = refl
 all_seen s i (suc k) t m once = all_seen s i k (t + 1) (millisecond s m t) (keeps_once m (millisecond s m t) once (λ z. millisecond_seen s t z m once)) ∙ millisecond_seen s t i m once
 
--- ---- at the outset each is seen once
-
-queued_seen : (s : Plan) (i k : ℕ) (m : Moment) → seen i (queue_item s m k) ≡ seen i m + cond (k == i) 1 0
-queued_seen s i k m =
-    let a = count_append (λ j. j == i) m.ready (k ∷ []) in
-    let b = count_append (λ j. j == i) m.behind (k ∷ []) in
-    let c = count_by-cons (λ j. j == i) k [] in
-    grind arith
-
-all_queued_seen : (s : Plan) (i len k : ℕ) (m : Moment) → seen i (fold (queue_item s) m (range_with_len k len)) ≡ seen i m + count_by (λ j. j == i) (range_with_len k len)
-all_queued_seen s i zero k m = omega arith
-all_queued_seen s i (suc len) k m =
-    let a = all_queued_seen s i len (k + 1) (queue_item s m k) in
-    let b = queued_seen s i k m in
-    let c = count_by-cons (λ j. j == i) k (range_with_len (k + 1) len) in
-    omega arith
-
 pub each_ends_once : EachEndsOnce
 unfolding scenario_lines
 each_ends_once s i fine less =
-    let a = all_seen s i (suc (whole_time s)) 0 (queued_at_first s) (λ z. let q = all_queued_seen s z (length s.items) 0 empty in let o = once_among 0 (length s.items) z in omega arith) in
-    let q = all_queued_seen s i (length s.items) 0 empty in
+    let told = (queue_keeps s empty (range_with_len 0 (length s.items))).2 in
+    let first : (z : ℕ) → seen z (queued_at_first s) ≡ count_by (λ j. j == z) (range_with_len 0 (length s.items)) = λ z.
+    omega (arith, all_weigh s (length s.items) 0 empty (λ j. cond (j == z) 1 0) (λ j. cond (is_job z j) 1 0) (λ x. cond (is_sleeper z x) 1 0), ap (count_by (tells_end z)) told) in
+    let a = all_seen s i (suc (whole_time s)) 0 (queued_at_first s) (λ z. omega (arith, first z, once_among 0 (length s.items) z)) in
     let o = once_there i 0 (length s.items) (omega arith) (omega arith) in
     let none = all_items_end s fine in
-    let b = ap (count_by (λ j. j == i)) none.ready in
-    let c = ap (count_by (λ j. j == i)) none.behind in
-    let d = ap (count_by (is_job i)) none.cpu in
-    let e = ap (count_by (is_sleeper i)) none.sleeping in
-    omega arith
+    omega (arith, first i, ap (count_by (λ j. j == i)) none.ready, ap (count_by (λ j. j == i)) none.behind, ap (count_by (is_job i)) none.cpu, ap (count_by (is_sleeper i)) none.sleeping)

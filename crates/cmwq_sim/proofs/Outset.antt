@@ -1,14 +1,14 @@
 -- At the outset as much is left to do as the items have in all.
-use Rattle.cmwq_sim.specs.Common.{◌≡◌, ◌<◌, ◌≤◌, ◌+◌, ℕ, zero, suc, Bool, true, false, ◌||◌, [], ◌∷◌, ◌++◌, length, drop, count_by, nat_lt, refl, sym, ap, ◌∙◌, subst, arith, inl, add-one, drop-cons, if◌then◌else◌, slice_index_or, sum_by, fold, AllByRecursion, list_any, range_with_len, eqb-true, nat_tests, sum_by-cons, sum_by_push}
+use Rattle.cmwq_sim.specs.Common.{◌≡◌, ◌<◌, ◌≤◌, ◌+◌, ℕ, zero, suc, Bool, true, false, ◌||◌, List, [], ◌∷◌, ◌++◌, length, drop, count_by, nat_lt, refl, sym, ap, ◌∙◌, subst, arith, inl, add-one, drop-cons, if◌then◌else◌, slice_index_or, sum_by, fold, AllByRecursion, list_any, range_with_len, eqb-true, nat_tests, sum_by-cons, sum_by_push}
 use Rattle.cmwq_sim.specs.Plan.{Plan, plan_queue, plan_width, is_of_plan_queue, time_of, whole_time, no_item, no_sim_queue}
 use Rattle.cmwq_sim.specs.Limits.{IsQueue, IsItem, IsWithinLimits}
-use Rattle.cmwq_sim.specs.Lines.{Moment, queue_item, queued_at_first, empty}
+use Rattle.cmwq_sim.specs.Lines.{Moment, Job, Sleeper, queue_item, queued_at_first, empty}
 use Rattle.cmwq_sim.specs.Ends.{AllItemsEnd}
 use Rattle.std.proofs.lemmas.List.{drop_all}
 use Rattle.std.proofs.lemmas.List.Folds.{list_any-append}
 use Rattle.std.proofs.lemmas.List.Sums.{sum-map}
 use Rattle.cmwq_sim.proofs.Lists.{counted_any, last_any}
-use Rattle.cmwq_sim.proofs.Progress.{all_at, time_at, rest, of_job, of_sleeper, IsSleeper, FirstMayBeDone, Begins, all_pass}
+use Rattle.cmwq_sim.proofs.Progress.{all_at, time_at, job_rest, sleeper_rest, weight, rest, of_job, of_sleeper, IsSleeper, FirstMayBeDone, Begins, all_pass}
 use Rattle.cmwq_lemmas.proofs.Lists.{All_push}
 
 -- while the items are queued
@@ -49,21 +49,22 @@ pub all_queue : (s : Plan) (len k : ℕ) (m : Moment) → IsWithinLimits s → k
 all_queue s zero k m fine less h = h
 all_queue s (suc len) k m fine less h = all_queue s len (k + 1) (queue_item s m k) fine (omega arith) (queues s m k fine (omega arith) h)
 
+-- a queueing runs nobody and tells nothing
+pub queue_keeps : (s : Plan) (m : Moment) (is : List ℕ) → ((fold (queue_item s) m is).cpu ≡ m.cpu) × ((fold (queue_item s) m is).sleeping ≡ m.sleeping) × ((fold (queue_item s) m is).lines ≡ m.lines)
+queue_keeps s m [] = (refl, refl, refl)
+queue_keeps s m (i ∷ is) = let k = queue_keeps s (queue_item s m i) is in (grind arith, grind arith, grind arith)
+
 -- ---- what is left to do
 
-one_more : (s : Plan) (m : Moment) (i : ℕ) → rest s 0 (queue_item s m i) ≡ rest s 0 m + time_at s i
-one_more s m i =
-    let a = sum_by_push (time_at s) m.ready i in
-    let b = sum_by_push (time_at s) m.behind i in
+pub queue_weighs : (s : Plan) (m : Moment) (i : ℕ) (f : ℕ → ℕ) (g : Job → ℕ) (h : Sleeper → ℕ) → weight f g h (queue_item s m i) ≡ weight f g h m + f i
+queue_weighs s m i f g h =
+    let a = sum_by_push f m.ready i in
+    let b = sum_by_push f m.behind i in
     grind arith
 
-all_times : (s : Plan) (len k : ℕ) (m : Moment) → rest s 0 (fold (queue_item s) m (range_with_len k len)) ≡ rest s 0 m + sum_by (time_at s) (range_with_len k len)
-all_times s zero k m = omega arith
-all_times s (suc len) k m =
-    let a = all_times s len (k + 1) (queue_item s m k) in
-    let b = one_more s m k in
-    let c = sum_by-cons (time_at s) k (range_with_len (k + 1) len) in
-    omega arith
+pub all_weigh : (s : Plan) (len k : ℕ) (m : Moment) (f : ℕ → ℕ) (g : Job → ℕ) (h : Sleeper → ℕ) → weight f g h (fold (queue_item s) m (range_with_len k len)) ≡ weight f g h m + sum_by f (range_with_len k len)
+all_weigh s zero k m f g h = omega arith
+all_weigh s (suc len) k m f g h = omega (arith, all_weigh s len (k + 1) (queue_item s m k) f g h, queue_weighs s m k f g h, sum_by-cons f k (range_with_len (k + 1) len))
 
 each_time : (s : Plan) (len k : ℕ) → k + len ≡ length s.items → sum_by (time_at s) (range_with_len k len) ≡ sum_by time_of (drop k s.items)
 each_time s zero k is = sym (ap (sum_by time_of) (drop_all k s.items (omega arith)))
@@ -72,7 +73,7 @@ each_time s (suc len) k is =
     ∙ sym (ap (sum_by time_of) (drop-cons s.items k no_item (omega arith)) ∙ sum_by-cons time_of (slice_index_or s.items k no_item) (drop (suc k) s.items))
 
 pub whole_at_outset : (s : Plan) → rest s 0 (queued_at_first s) ≡ whole_time s
-whole_at_outset s = all_times s (length s.items) 0 empty ∙ ap (λ n. 0 + n) (each_time s (length s.items) 0 (omega arith) ∙ sym (sum-map time_of s.items)) ∙ omega arith
+whole_at_outset s = all_weigh s (length s.items) 0 empty (time_at s) job_rest (sleeper_rest 0) ∙ ap (λ n. 0 + n) (each_time s (length s.items) 0 (omega arith) ∙ sym (sum-map time_of s.items)) ∙ omega arith
 
 pub begins : (s : Plan) → IsWithinLimits s → Begins s 0 (queued_at_first s)
 begins s fine =

@@ -11,7 +11,7 @@ use Rattle.cmwq_sim.proofs.TakeShown.{started_with}
 use Rattle.cmwq_sim.proofs.FinishShown.{is_kept, ended_with, finish_shown}
 use Rattle.cmwq_sim.proofs.WakeShown.{awake_with, wake_shown}
 use Rattle.cmwq_sim.proofs.TakersAre.{taker_starts, no_taker, starting_goes, starting_stops}
-use Rattle.cmwq_lemmas.proofs.Lists.{filter_all, found_passes}
+use Rattle.cmwq_lemmas.proofs.Lists.{filter_all}
 use Rattle.std.proofs.lemmas.Bool.{or_right}
 use Rattle.std.proofs.lemmas.List.{drop-drop}
 use Rattle.std.proofs.lemmas.List.Elements.{filter-append}
@@ -48,20 +48,18 @@ end_shown s past m slot i js ls h on left =
 pub serve_is : (s : Plan) (t : ℕ) (m : Moment) (j : Job) (js : List Job) → m.cpu ≡ j ∷ js → (j.burn == 0) ≡ true → serve s t m ≡ after_burn s t (record m { cpu = js }) j.item j.left
 serve_is s t m j js is done = ap (serve_first s t m) is ∙ ap (λ b. if b then after_burn s t (record m { cpu = js }) j.item j.left else m) done
 
-pub serve_sleeps : (s : Plan) (t : ℕ) (past : List Entry) (m : Moment) (slot : ℕ → ℕ) (j : Job) (js : List Job) (pause : ℕ) (left : List ℕ) → Shows s past m slot → m.cpu ≡ j ∷ js → (j.burn == 0) ≡ true → j.left ≡ pause ∷ left
-    → Shows s (entry_for (layout_for s) past (Worker (plan_worker (slot j.item))) call.Sleep ∷ past) (serve s t m) slot
-serve_sleeps s t past m slot j js pause left h is done parts =
-    subst (λ n. Shows s (entry_for (layout_for s) past (Worker (plan_worker (slot j.item))) call.Sleep ∷ past) n slot) (sym (serve_is s t m j js is done ∙ ap (after_burn s t (record m { cpu = js }) j.item) parts))
-    (other_lines s (entry_for (layout_for s) past (Worker (plan_worker (slot j.item))) call.Sleep ∷ past) (asleep_with m j js (t + pause) left) slot (m.lines ++ record { at = t; kind = kind.Sleeps; items = j.item ∷ [] } ∷ []) (sleep_shown s past m slot j js (t + pause) left h is))
+pub serve_sleeps : (s : Plan) (t : ℕ) (past : List Entry) (m : Moment) (slot : ℕ → ℕ) (j : Job) (js : List Job) (pause : ℕ) (left : List ℕ) → Shows s past m slot → m.cpu ≡ j ∷ js
+    → Shows s (entry_for (layout_for s) past (Worker (plan_worker (slot j.item))) call.Sleep ∷ past) (after_burn s t (record m { cpu = js }) j.item (pause ∷ left)) slot
+serve_sleeps s t past m slot j js pause left h is =
+    other_lines s (entry_for (layout_for s) past (Worker (plan_worker (slot j.item))) call.Sleep ∷ past) (asleep_with m j js (t + pause) left) slot (m.lines ++ record { at = t; kind = kind.Sleeps; items = j.item ∷ [] } ∷ []) (sleep_shown s past m slot j js (t + pause) left h is)
 
-pub serve_ends : (s : Plan) (t : ℕ) (past : List Entry) (m : Moment) (slot : ℕ → ℕ) (j : Job) (js : List Job) → Shows s past m slot → m.cpu ≡ j ∷ js → (j.burn == 0) ≡ true → j.left ≡ []
-    → Shows s (entry_for (layout_for s) past (Worker (plan_worker (slot j.item))) call.Finish ∷ past) (serve s t m) slot
-serve_ends s t past m slot j js h is done parts =
-    subst (λ n. Shows s (entry_for (layout_for s) past (Worker (plan_worker (slot j.item))) call.Finish ∷ past) n slot) (sym (serve_is s t m j js is done ∙ ap (after_burn s t (record m { cpu = js }) j.item) parts))
-    (end_shown s past m slot j.item js (m.lines ++ record { at = t; kind = kind.Ends; items = j.item ∷ [] } ∷ []) h
+pub serve_ends : (s : Plan) (t : ℕ) (past : List Entry) (m : Moment) (slot : ℕ → ℕ) (j : Job) (js : List Job) → Shows s past m slot → m.cpu ≡ j ∷ js
+    → Shows s (entry_for (layout_for s) past (Worker (plan_worker (slot j.item))) call.Finish ∷ past) (after_burn s t (record m { cpu = js }) j.item []) slot
+serve_ends s t past m slot j js h is =
+    end_shown s past m slot j.item js (m.lines ++ record { at = t; kind = kind.Ends; items = j.item ∷ [] } ∷ []) h
     (ap (list_any (is_job j.item)) is ∙ ap (λ b. b || list_any (is_job j.item) js) (eq-eqb j.item j.item refl))
     (ap (filter (λ k. not (is_job j.item k))) is ∙ ap (λ b. cond (not b) (j ∷ filter (λ k. not (is_job j.item k)) js) (filter (λ k. not (is_job j.item k)) js)) (eq-eqb j.item j.item refl)
-    ∙ filter_all (λ k. not (is_job j.item k)) js (All_map (λ k. is_job j.item k ≡ false) _ js (λ k out. ap not out) (alone m j js is (h.once j.item)).0)))
+    ∙ filter_all (λ k. not (is_job j.item k)) js (All_map (λ k. is_job j.item k ≡ false) _ js (λ k out. ap not out) (alone m j js is (h.once j.item)).0))
 
 -- ---- (2) a sleeper wakes, and burns or ends
 
@@ -74,40 +72,24 @@ asleep_there t i m x due = found_any (is_due t i) (is_sleeper i) (λ y k. (and_p
 pub wake_nobody : (s : Plan) (t i : ℕ) (m : Moment) → find (is_due t i) m.sleeping ≡ None → wake_item s t m i ≡ m
 wake_nobody s t i m none = ap (wake_sleeper s t m) none
 
-module _ (s : Plan) (t i : ℕ) (past : List Entry) (m : Moment) (slot : ℕ → ℕ) (x : Sleeper) (h : Shows s past m slot) (due : find (is_due t i) m.sleeping ≡ Some x) where
-  its : x.item ≡ i
-  its = due_item t i x (found_passes (is_due t i) m.sleeping x due)
+module _ (s : Plan) (t i : ℕ) (past : List Entry) (m : Moment) (slot : ℕ → ℕ) (h : Shows s past m slot) (asleep : list_any (is_sleeper i) m.sleeping ≡ true) where
+  pub wake_burns : (b : ℕ) (left : List ℕ) → Shows s (entry_for (layout_for s) past (Worker (plan_worker (slot i))) call.Wake ∷ past) (after_sleep s t (record m { sleeping = filter (is_other_sleeper i) m.sleeping }) i (b ∷ left)) slot
+  wake_burns b left =
+      other_lines s (entry_for (layout_for s) past (Worker (plan_worker (slot i))) call.Wake ∷ past) (awake_with m i b left) slot (m.lines ++ record { at = t; kind = kind.WakesBurns; items = i ∷ [] } ∷ []) (wake_shown s past m slot i b left h asleep)
 
-  asleep : list_any (is_sleeper x.item) m.sleeping ≡ true
-  asleep = subst (λ k. list_any (is_sleeper k) m.sleeping ≡ true) (sym its) (asleep_there t i m x due)
+  pub joined : list_any (is_job i) (m.cpu ++ record { item = i; burn = 0; left = [] } ∷ []) ≡ true
+  joined = last_any (is_job i) m.cpu (record { item = i; burn = 0; left = [] }) ∙ or_right (list_any (is_job i) m.cpu) (i == i) (eq-eqb i i refl)
 
-  wake_is : (left : List ℕ) → x.left ≡ left → wake_item s t m i ≡ after_sleep s t (record m { sleeping = filter (is_other_sleeper x.item) m.sleeping }) x.item left
-  wake_is left parts = ap (wake_sleeper s t m) due ∙ ap (after_sleep s t (record m { sleeping = filter (is_other_sleeper x.item) m.sleeping }) x.item) parts
-
-  woken : List Entry
-  woken = entry_for (layout_for s) past (Worker (plan_worker (slot i))) call.Wake ∷ past
-
-  pub wake_burns : (b : ℕ) (left : List ℕ) → x.left ≡ b ∷ left → Shows s (entry_for (layout_for s) past (Worker (plan_worker (slot i))) call.Wake ∷ past) (wake_item s t m i) slot
-  wake_burns b left parts =
-      subst (λ k. Shows s (entry_for (layout_for s) past (Worker (plan_worker (slot k))) call.Wake ∷ past) (wake_item s t m i) slot) its
-      (subst (λ n. Shows s (entry_for (layout_for s) past (Worker (plan_worker (slot x.item))) call.Wake ∷ past) n slot) (sym (wake_is (b ∷ left) parts))
-      (other_lines s (entry_for (layout_for s) past (Worker (plan_worker (slot x.item))) call.Wake ∷ past) (awake_with m x.item b left) slot (m.lines ++ record { at = t; kind = kind.WakesBurns; items = x.item ∷ [] } ∷ []) (wake_shown s past m slot x.item b left h asleep)))
-
-  joined : list_any (is_job x.item) (m.cpu ++ record { item = x.item; burn = 0; left = [] } ∷ []) ≡ true
-  joined = last_any (is_job x.item) m.cpu (record { item = x.item; burn = 0; left = [] }) ∙ or_right (list_any (is_job x.item) m.cpu) (x.item == x.item) (eq-eqb x.item x.item refl)
-
-  others : filter (λ k. not (is_job x.item k)) (m.cpu ++ record { item = x.item; burn = 0; left = [] } ∷ []) ≡ m.cpu
+  others : filter (λ k. not (is_job i k)) (m.cpu ++ record { item = i; burn = 0; left = [] } ∷ []) ≡ m.cpu
   others =
-      let none = count_none (is_job x.item) m.cpu (omega (arith, any_counted (is_sleeper x.item) m.sleeping asleep, h.once x.item)) in
-      filter-append (λ k. not (is_job x.item k)) m.cpu (record { item = x.item; burn = 0; left = [] } ∷ [])
-      ∙ ap₂ (λ ys b. ys ++ cond (not b) (record { item = x.item; burn = 0; left = [] } ∷ []) []) (filter_all (λ k. not (is_job x.item k)) m.cpu (All_map (λ k. is_job x.item k ≡ false) _ m.cpu (λ k out. ap not out) none)) (eq-eqb x.item x.item refl)
+      let none = count_none (is_job i) m.cpu (omega (arith, any_counted (is_sleeper i) m.sleeping asleep, h.once i)) in
+      filter-append (λ k. not (is_job i k)) m.cpu (record { item = i; burn = 0; left = [] } ∷ [])
+      ∙ ap₂ (λ ys b. ys ++ cond (not b) (record { item = i; burn = 0; left = [] } ∷ []) []) (filter_all (λ k. not (is_job i k)) m.cpu (All_map (λ k. is_job i k ≡ false) _ m.cpu (λ k out. ap not out) none)) (eq-eqb i i refl)
       ∙ append-nil m.cpu
 
-  pub wake_ends : x.left ≡ [] → Shows s (entry_for (layout_for s) (entry_for (layout_for s) past (Worker (plan_worker (slot i))) call.Wake ∷ past) (Worker (plan_worker (slot i))) call.Finish ∷ entry_for (layout_for s) past (Worker (plan_worker (slot i))) call.Wake ∷ past) (wake_item s t m i) slot
-  wake_ends parts =
-      subst (λ k. Shows s (entry_for (layout_for s) (entry_for (layout_for s) past (Worker (plan_worker (slot k))) call.Wake ∷ past) (Worker (plan_worker (slot k))) call.Finish ∷ entry_for (layout_for s) past (Worker (plan_worker (slot k))) call.Wake ∷ past) (wake_item s t m i) slot) its
-      (subst (λ n. Shows s (entry_for (layout_for s) (entry_for (layout_for s) past (Worker (plan_worker (slot x.item))) call.Wake ∷ past) (Worker (plan_worker (slot x.item))) call.Finish ∷ entry_for (layout_for s) past (Worker (plan_worker (slot x.item))) call.Wake ∷ past) n slot) (sym (wake_is [] parts))
-      (end_shown s (entry_for (layout_for s) past (Worker (plan_worker (slot x.item))) call.Wake ∷ past) (awake_with m x.item 0 []) slot x.item m.cpu (m.lines ++ record { at = t; kind = kind.WakesEnds; items = x.item ∷ [] } ∷ []) (wake_shown s past m slot x.item 0 [] h asleep) joined others))
+  pub wake_ends : Shows s (entry_for (layout_for s) (entry_for (layout_for s) past (Worker (plan_worker (slot i))) call.Wake ∷ past) (Worker (plan_worker (slot i))) call.Finish ∷ entry_for (layout_for s) past (Worker (plan_worker (slot i))) call.Wake ∷ past)
+      (after_sleep s t (record m { sleeping = filter (is_other_sleeper i) m.sleeping }) i []) slot
+  wake_ends = end_shown s (entry_for (layout_for s) past (Worker (plan_worker (slot i))) call.Wake ∷ past) (awake_with m i 0 []) slot i m.cpu (m.lines ++ record { at = t; kind = kind.WakesEnds; items = i ∷ [] } ∷ []) (wake_shown s past m slot i 0 [] h asleep) joined others
 
 -- ---- (3) starts, one take after the other
 

@@ -42,8 +42,12 @@ job_rest j = j.burn + sum j.left
 abbrev pub sleeper_rest : ℕ → Sleeper → ℕ
 sleeper_rest t x = (x.until - t) + sum x.left
 
+-- the items, the jobs and the sleepers, weighed
+abbrev pub weight : (ℕ → ℕ) → (Job → ℕ) → (Sleeper → ℕ) → Moment → ℕ
+weight f g h m = sum_by f m.ready + sum_by f m.behind + sum_by g m.cpu + sum_by h m.sleeping
+
 abbrev pub rest : Plan → ℕ → Moment → ℕ
-rest s t m = sum_by (time_at s) m.ready + sum_by (time_at s) m.behind + sum_by job_rest m.cpu + sum_by (sleeper_rest t) m.sleeping
+rest s t = weight (time_at s) job_rest (sleeper_rest t)
 
 abbrev pub Lasting : List ℕ → Type 0
 Lasting ms = AllByRecursion (λ n. 1 ≤ n) ms
@@ -128,15 +132,13 @@ ends s t i m h = at (find (is_of_plan_queue s (plan_queue s i)) m.behind) refl
               grind (arith, last_any (is_of_plan_queue s q) m.ready z, h.held q (any_still (is_of_plan_queue s q) (is_other_item z) m.behind some));
         }
 
-pub ends_less : (s : Plan) (t i : ℕ) (m : Moment) → rest s t (end_job s i m) ≤ rest s t m
-ends_less s t i m = at (find (is_of_plan_queue s (plan_queue s i)) m.behind) refl
+-- an end weighs no more
+pub end_weighs : (s : Plan) (i : ℕ) (m : Moment) (f : ℕ → ℕ) (g : Job → ℕ) (h : Sleeper → ℕ) → weight f g h (end_job s i m) ≤ weight f g h m
+end_weighs s i m f g h = at (find (is_of_plan_queue s (plan_queue s i)) m.behind) refl
   where
-    at : (o : Option ℕ) → find (is_of_plan_queue s (plan_queue s i)) m.behind ≡ o → rest s t (make_ready m o) ≤ rest s t m
+    at : (o : Option ℕ) → find (is_of_plan_queue s (plan_queue s i)) m.behind ≡ o → weight f g h (make_ready m o) ≤ weight f g h m
     at None none = omega arith
-    at (Some z) some =
-        let a = found_apart (time_at s) (is_of_plan_queue s (plan_queue s i)) (is_other_item z) m.behind z some (ap not (eq-eqb z z refl)) in
-        let b = sum_by_push (time_at s) m.ready z in
-        omega arith
+    at (Some z) some = omega (arith, found_apart f (is_of_plan_queue s (plan_queue s i)) (is_other_item z) m.behind z some (ap not (eq-eqb z z refl)), sum_by_push f m.ready z)
 
 same_cpu : (m : Moment) (o : Option ℕ) → (make_ready m o).cpu ≡ m.cpu
 same_cpu m None = refl
@@ -178,7 +180,7 @@ served s t m h first = at m.cpu refl first
             record {
               sound = ends s t j.item told (loose told.lines);
               cpu = subst (AllByRecursion (IsRunning s)) (sym (same_cpu told (find (is_of_plan_queue s (plan_queue s j.item)) m.behind))) k.1;
-              less = omega (arith, ends_less s t j.item told, without);
+              less = omega (arith, end_weighs s j.item told (time_at s) job_rest (sleeper_rest t), without);
             }
         over true done (pause ∷ left) l =
             let told = tell t kind.Sleeps (j.item ∷ []) (record m { cpu = js }) in
@@ -233,7 +235,7 @@ woke s t k r m h = at (find (is_due t k) m.sleeping) refl
               goes = record {
                 sound = ends s t x.item told (loose told.lines);
                 cpu = subst (AllByRecursion (IsRunning s)) (sym (same_cpu told o)) h.goes.cpu;
-                less = omega (arith, ends_less s t x.item told, apart, h.goes.less);
+                less = omega (arith, end_weighs s x.item told (time_at s) job_rest (sleeper_rest t), apart, h.goes.less);
               };
               passed = subst (AllByRecursion (λ (y : Sleeper). y.item < k + 1 → t + 1 ≤ y.until)) (sym (same_sleeping told o)) passed;
             }

@@ -1,5 +1,5 @@
 -- Each call of a replay keeps room for those to come.
-use Rattle.cmwq_sim.specs.Common.{◌≡◌, ◌==◌, ◌<◌, ◌≤◌, ◌+◌, ◌*◌, ℕ, true, false, List, [], ◌∷◌, ◌++◌, length, drop, find, Some, refl, ap, ◌∙◌, subst, arith, sum_by, AllByRecursion, list_any, le-leb, eq-eqb, sum_by-cons, sum_by_push, Who, Worker, Call, Reply, Entry, number_started, has_time, room_needed, has_room, IsLegal, entry_for, is_promised}
+use Rattle.cmwq_sim.specs.Common.{◌≡◌, ◌<◌, ◌≤◌, ◌+◌, ◌*◌, ℕ, true, false, List, [], ◌∷◌, ◌++◌, length, drop, filter, find, Some, refl, ap, ◌∙◌, subst, arith, sum_by, AllByRecursion, list_any, le-leb, sum_by-cons, sum_by_push, Who, Worker, Call, Reply, Entry, number_started, has_time, room_needed, has_room, entry_for, is_promised}
 use Rattle.std.specs.Cmp.Derive.{both_true}
 use Rattle.cmwq_model.specs.declared.call.Call.TheVariants as call
 use Rattle.cmwq_model.specs.declared.reply.Reply.TheVariants as reply
@@ -7,16 +7,15 @@ use Rattle.cmwq_theory_steps.proofs.Promised.{promised_need_no_more}
 use Rattle.cmwq_sim.specs.Plan.{Plan, plan_queue, ms_of}
 use Rattle.cmwq_sim.specs.Limits.{IsWithinLimits}
 use Rattle.cmwq_sim.specs.Rooms.{parts_at, parts_of_job, parts_left, IsRoomy}
-use Rattle.cmwq_sim.specs.Lines.{Moment, Job, Sleeper, serve, is_due, wake_item, job_of, queue_item}
-use Rattle.cmwq_sim.specs.Shows.{layout_for, plan_worker, IsRunAt, is_job, Shows}
+use Rattle.cmwq_sim.specs.Lines.{Moment, Job, Sleeper, after_burn, after_sleep, is_due, is_other_sleeper, job_of, queue_item}
+use Rattle.cmwq_sim.specs.Shows.{layout_for, plan_worker, IsRunAt, is_sleeper, Shows}
 use Rattle.cmwq_sim.specs.Takers.{IsTaker}
-use Rattle.std.proofs.lemmas.Bool.{or_right}
-use Rattle.cmwq_sim.proofs.Lists.{last_any}
+use Rattle.cmwq_lemmas.proofs.Lists.{found_passes}
 use Rattle.cmwq_sim.proofs.TakeReads.{sleep_answered, finish_answered, wake_answered, run_of}
 use Rattle.cmwq_sim.proofs.TakeShown.{started_with, take_shown}
 use Rattle.cmwq_sim.proofs.WakeShown.{wake_shown}
 use Rattle.cmwq_sim.proofs.TakersAre.{taker_starts}
-use Rattle.cmwq_sim.proofs.Phases.{serve_sleeps, serve_ends, wake_burns, wake_ends, asleep_there, may_start}
+use Rattle.cmwq_sim.proofs.Phases.{serve_sleeps, serve_ends, wake_ends, asleep_there, due_item, joined, may_start}
 use Rattle.cmwq_sim.proofs.Queued.{ShowsQueued, queue_call, caller, queue_shown, answered}
 use Rattle.cmwq_sim.proofs.Roomy.{needs_two, needs_three, sleep_takes_one, end_takes_none, wake_takes_none, start_parts, queued_parts}
 
@@ -24,53 +23,44 @@ use Rattle.cmwq_sim.proofs.Roomy.{needs_two, needs_three, sleep_takes_one, end_t
 pub has_room_then : (s : Plan) (past : List Entry) (who : Who) (c : Call) (m : Moment) → has_time past c ≡ true → IsRoomy s (entry_for (layout_for s) past who c ∷ past) m → has_room (layout_for s) 1000 past who c ≡ true
 has_room_then s past who c m time h = both_true time (le-leb (room_needed (layout_for s) (entry_for (layout_for s) past who c ∷ past)) 1000 (omega arith))
 
-pub sleep_roomy : (s : Plan) (t : ℕ) (past : List Entry) (m : Moment) (slot : ℕ → ℕ) (j : Job) (js : List Job) (pause : ℕ) (left : List ℕ) → Shows s past m slot → IsRoomy s past m → m.cpu ≡ j ∷ js → (j.burn == 0) ≡ true → j.left ≡ pause ∷ left
-    → IsRoomy s (entry_for (layout_for s) past (Worker (plan_worker (slot j.item))) call.Sleep ∷ past) (serve s t m)
-sleep_roomy s t past m slot j js pause left h roomy is done parts =
+pub sleep_roomy : (s : Plan) (t : ℕ) (past : List Entry) (m : Moment) (slot : ℕ → ℕ) (j : Job) (js : List Job) (pause : ℕ) (left : List ℕ) → Shows s past m slot → IsRoomy s past m → m.cpu ≡ j ∷ js → j.left ≡ pause ∷ left
+    → IsRoomy s (entry_for (layout_for s) past (Worker (plan_worker (slot j.item))) call.Sleep ∷ past) (after_burn s t (record m { cpu = js }) j.item (pause ∷ left))
+sleep_roomy s t past m slot j js pause left h roomy is parts =
     let run = subst (AllByRecursion (λ k. IsRunAt past (slot k.item) k.item false)) is h.cpu in
-    let a = needs_two (layout_for s) past (entry_for (layout_for s) past (Worker (plan_worker (slot j.item))) call.Sleep) (serve_sleeps s t past m slot j js pause left h is done parts).legal (sleep_answered s past (slot j.item) j.item run.0) in
-    let b = sleep_takes_one s t m j js pause left is done parts in
-    omega arith
+    omega (arith, needs_two (layout_for s) past (entry_for (layout_for s) past (Worker (plan_worker (slot j.item))) call.Sleep) (serve_sleeps s t past m slot j js pause left h is).legal (sleep_answered s past (slot j.item) j.item run.0), sleep_takes_one s t m j js pause left is parts)
 
-pub end_roomy : (s : Plan) (t : ℕ) (past : List Entry) (m : Moment) (slot : ℕ → ℕ) (j : Job) (js : List Job) → Shows s past m slot → IsRoomy s past m → m.cpu ≡ j ∷ js → (j.burn == 0) ≡ true → j.left ≡ []
-    → IsRoomy s (entry_for (layout_for s) past (Worker (plan_worker (slot j.item))) call.Finish ∷ past) (serve s t m)
-end_roomy s t past m slot j js h roomy is done parts =
+pub end_roomy : (s : Plan) (t : ℕ) (past : List Entry) (m : Moment) (slot : ℕ → ℕ) (j : Job) (js : List Job) → Shows s past m slot → IsRoomy s past m → m.cpu ≡ j ∷ js
+    → IsRoomy s (entry_for (layout_for s) past (Worker (plan_worker (slot j.item))) call.Finish ∷ past) (after_burn s t (record m { cpu = js }) j.item [])
+end_roomy s t past m slot j js h roomy is =
     let run = subst (AllByRecursion (λ k. IsRunAt past (slot k.item) k.item false)) is h.cpu in
-    let a = promised_need_no_more (layout_for s) past (entry_for (layout_for s) past (Worker (plan_worker (slot j.item))) call.Finish) (serve_ends s t past m slot j js h is done parts).legal (ap is_promised (finish_answered s past (slot j.item) j.item run.0)) in
-    let b = end_takes_none s t m j js is done parts in
-    omega arith
+    let a = promised_need_no_more (layout_for s) past (entry_for (layout_for s) past (Worker (plan_worker (slot j.item))) call.Finish) (serve_ends s t past m slot j js h is).legal (ap is_promised (finish_answered s past (slot j.item) j.item run.0)) in
+    omega (arith, end_takes_none s t m j js is)
 
 module _ (s : Plan) (t i : ℕ) (past : List Entry) (m : Moment) (slot : ℕ → ℕ) (x : Sleeper) (h : Shows s past m slot) (roomy : IsRoomy s past m) (due : find (is_due t i) m.sleeping ≡ Some x) where
-  woke : is_promised (entry_for (layout_for s) past (Worker (plan_worker (slot i))) call.Wake).reply ≡ true
-  woke = ap is_promised (wake_answered s past (slot i) i (run_of (λ (y : Sleeper). y.item) past slot true i m.sleeping h.sleeping (asleep_there t i m x due)))
+  asleep : list_any (is_sleeper i) m.sleeping ≡ true
+  asleep = asleep_there t i m x due
 
-  pub wake_burns_roomy : (b : ℕ) (left : List ℕ) → x.left ≡ b ∷ left → IsRoomy s (entry_for (layout_for s) past (Worker (plan_worker (slot i))) call.Wake ∷ past) (wake_item s t m i)
-  wake_burns_roomy b left parts =
-      let a = promised_need_no_more (layout_for s) past (entry_for (layout_for s) past (Worker (plan_worker (slot i))) call.Wake) (wake_burns s t i past m slot x h due b left parts).legal woke in
-      let c = wake_takes_none s t i m in
-      omega arith
+  its : x.item ≡ i
+  its = due_item t i x (found_passes (is_due t i) m.sleeping x due)
+
+  woke : is_promised (entry_for (layout_for s) past (Worker (plan_worker (slot i))) call.Wake).reply ≡ true
+  woke = ap is_promised (wake_answered s past (slot i) i (run_of (λ (y : Sleeper). y.item) past slot true i m.sleeping h.sleeping asleep))
 
   pub wake_roomy : IsRoomy s (entry_for (layout_for s) past (Worker (plan_worker (slot i))) call.Wake ∷ past) m
-  wake_roomy =
-      let a = promised_need_no_more (layout_for s) past (entry_for (layout_for s) past (Worker (plan_worker (slot i))) call.Wake) (wake_shown s past m slot i 0 [] h (asleep_there t i m x due)).legal woke in
-      omega arith
+  wake_roomy = omega (arith, promised_need_no_more (layout_for s) past (entry_for (layout_for s) past (Worker (plan_worker (slot i))) call.Wake) (wake_shown s past m slot i 0 [] h asleep).legal woke)
+
+  pub wake_burns_roomy : (b : ℕ) (left : List ℕ) → x.left ≡ b ∷ left → IsRoomy s (entry_for (layout_for s) past (Worker (plan_worker (slot i))) call.Wake ∷ past) (after_sleep s t (record m { sleeping = filter (is_other_sleeper i) m.sleeping }) i (b ∷ left))
+  wake_burns_roomy b left parts = omega (arith, wake_roomy, wake_takes_none s t i m x (b ∷ left) due its parts)
 
   -- awake, and with nothing left
-  woken_run : IsRunAt (entry_for (layout_for s) past (Worker (plan_worker (slot i))) call.Wake ∷ past) (slot i) i false
-  woken_run =
-      let k = wake_shown s past m slot i 0 [] h (asleep_there t i m x due) in
-      run_of (λ (j : Job). j.item) (entry_for (layout_for s) past (Worker (plan_worker (slot i))) call.Wake ∷ past) slot false i (m.cpu ++ record { item = i; burn = 0; left = [] } ∷ []) k.cpu
-      (last_any (is_job i) m.cpu (record { item = i; burn = 0; left = [] }) ∙ or_right (list_any (is_job i) m.cpu) (i == i) (eq-eqb i i refl))
-
-  pub wake_ends_roomy : x.left ≡ [] → IsRoomy s (entry_for (layout_for s) (entry_for (layout_for s) past (Worker (plan_worker (slot i))) call.Wake ∷ past) (Worker (plan_worker (slot i))) call.Finish ∷ entry_for (layout_for s) past (Worker (plan_worker (slot i))) call.Wake ∷ past) (wake_item s t m i)
-  unfolding IsLegal
+  pub wake_ends_roomy : x.left ≡ [] → IsRoomy s (entry_for (layout_for s) (entry_for (layout_for s) past (Worker (plan_worker (slot i))) call.Wake ∷ past) (Worker (plan_worker (slot i))) call.Finish ∷ entry_for (layout_for s) past (Worker (plan_worker (slot i))) call.Wake ∷ past)
+      (after_sleep s t (record m { sleeping = filter (is_other_sleeper i) m.sleeping }) i [])
   wake_ends_roomy parts =
-      let legal = (wake_ends s t i past m slot x h due parts).legal in
-      let a = promised_need_no_more (layout_for s) past (entry_for (layout_for s) past (Worker (plan_worker (slot i))) call.Wake) legal.2 woke in
-      let b = promised_need_no_more (layout_for s) (entry_for (layout_for s) past (Worker (plan_worker (slot i))) call.Wake ∷ past) (entry_for (layout_for s) (entry_for (layout_for s) past (Worker (plan_worker (slot i))) call.Wake ∷ past) (Worker (plan_worker (slot i))) call.Finish) legal
-      (ap is_promised (finish_answered s (entry_for (layout_for s) past (Worker (plan_worker (slot i))) call.Wake ∷ past) (slot i) i woken_run)) in
-      let c = wake_takes_none s t i m in
-      omega arith
+      let awake = wake_shown s past m slot i 0 [] h asleep in
+      let run = run_of (λ (j : Job). j.item) (entry_for (layout_for s) past (Worker (plan_worker (slot i))) call.Wake ∷ past) slot false i (m.cpu ++ record { item = i; burn = 0; left = [] } ∷ []) awake.cpu (joined s t i past m slot h asleep) in
+      let b = promised_need_no_more (layout_for s) (entry_for (layout_for s) past (Worker (plan_worker (slot i))) call.Wake ∷ past) (entry_for (layout_for s) (entry_for (layout_for s) past (Worker (plan_worker (slot i))) call.Wake ∷ past) (Worker (plan_worker (slot i))) call.Finish) (wake_ends s t i past m slot h asleep).legal
+      (ap is_promised (finish_answered s (entry_for (layout_for s) past (Worker (plan_worker (slot i))) call.Wake ∷ past) (slot i) i run)) in
+      omega (arith, wake_roomy, wake_takes_none s t i m x [] due its parts)
 
 -- ---- starts
 

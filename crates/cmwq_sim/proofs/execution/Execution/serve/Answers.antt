@@ -14,7 +14,7 @@ call-requires-clause-room c =
 pub call-requires-in-None-clause-room : goal.call-requires-in-None-clause-room
 call-requires-in-None-clause-room c =
     let done : c.in-Some.job.burn ≡ 0 = grind (arith, nat_tests) in
-    rw (c.worker-slot.ensures, c.from.ensures) (has_room_to_end (plan_of c.args.scenario.now) c.args.at c.args.self.now c.in-Some.job _ c.requires.stands (sym c.deref.ensures.value ∙ c.in-Some.ensures) done c.in-None.ensures.part)
+    rw (c.worker-slot.ensures, c.from.ensures) (has_room_to_end (plan_of c.args.scenario.now) c.args.at c.args.self.now c.in-Some.job _ c.requires.stands (sym c.deref.ensures.value ∙ c.in-Some.ensures) done)
 
 pub returns-in_ok-tell-in-Some-part_at : goal.returns-in_ok-tell-in-Some-part_at
 returns-in_ok-tell-in-Some-part_at c =
