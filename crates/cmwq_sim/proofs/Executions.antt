@@ -1,5 +1,5 @@
 -- The steps of an execution, as those of the moments that it shows.
-use Rattle.cmwq_sim.specs.Common.{◌≡◌, ◌==◌, ◌<◌, ◌≤◌, ◌+◌, ◌*◌, ◌&&◌, ℕ, zero, suc, true, false, not, set, List, [], ◌∷◌, ◌++◌, length, drop, map, filter, find, fold, add-one, append-nil, Option, Some, None, refl, sym, ap, ap₂, ◌∙◌, subst, arith, option_map, sum_by, AllByRecursion, range_with_len, list_any, map-append, get_or-set_same, get_or-set_other, length-set, eq-eqb, Who, Worker, Call, Entry, Queueing, WorkerId, has_time, has_room, entry_for, has_number, run, room_needed, runs_are_in_pools, History, past_in, next_entry, takes, with_entry, All_map, All_each, nat_tests, fold-append}
+use Rattle.cmwq_sim.specs.Common.{◌≡◌, ◌==◌, ◌<◌, ◌≤◌, ◌+◌, ◌*◌, ◌&&◌, ℕ, zero, suc, true, false, not, set, List, [], ◌∷◌, ◌++◌, length, drop, map, filter, find, fold, add-one, append-nil, Option, Some, None, refl, sym, ap, ap₂, ◌∙◌, subst, arith, option_map, AllByRecursion, range_with_len, list_any, map-append, get_or-set_same, get_or-set_other, length-set, eq-eqb, Who, Worker, Call, Entry, Queueing, WorkerId, has_time, has_room, entry_for, has_number, run, room_needed, runs_are_in_pools, History, past_in, next_entry, takes, with_entry, All_map, All_each, nat_tests, fold-append}
 use Rattle.std.proofs.Common.{subst₂}
 use Rattle.cmwq_model.specs.declared.call.Call.TheVariants as call
 use Rattle.cmwq_theory_steps.proofs.Growing.{one_more_is_newest}
@@ -11,7 +11,7 @@ use Rattle.cmwq_sim.specs.Plan.{Plan, ms_of, plan_queue, is_of_plan_queue, event
 use Rattle.cmwq_sim.specs.Limits.{IsItem, IsWithinLimits}
 use Rattle.cmwq_sim.specs.Lines.{Moment, Job, Sleeper, job_with, job_of, wake_sleepers, millisecond, burn, burn_first, queue_item, queued_at_first, empty, starting_items, start, tell_starts, make_ready, tell, after_burn, serve, is_due, is_other_sleeper, after_sleep, wake_sleeper, wake_item}
 use Rattle.cmwq_sim.specs.Shows.{layout_for, plan_worker, Shows, moment_of, queueing_for, IsRunAt, is_job, is_sleeper, runs_in}
-use Rattle.cmwq_sim.specs.Rooms.{IsRoomy}
+use Rattle.cmwq_sim.specs.Rooms.{IsRoomy, parts_left}
 use Rattle.cmwq_sim.specs.Standing.{job_seen, sleeper_seen, moment_in, slot_in, Stands, StandsAt, started_one, starts_lines, LessFirst}
 use Rattle.cmwq_sim.specs.Takers.{IsTaker, NoTaker, taken_by}
 use Rattle.cmwq_sim.proofs.Progress.{all_at, rest, IsRunning, Begins, served, awake, started, passes}
@@ -19,19 +19,13 @@ use Rattle.cmwq_sim.proofs.Outset.{begins, queue_keeps}
 use Rattle.cmwq_sim.specs.Ends.{moment_after}
 use Rattle.cmwq_sim.proofs.TakersAre.{taker_starts}
 use Rattle.cmwq_sim.proofs.TakeShown.{slot_with, take_shown, job_item}
-use Rattle.cmwq_sim.proofs.Lists.{last_any, filter_mapped}
+use Rattle.cmwq_sim.proofs.Lists.{last_any, filter_mapped, both_ways, or_right, found_passes, range_more}
 use Rattle.cmwq_sim.proofs.TakeReads.{run_of}
-use Rattle.std.proofs.lemmas.Bool.{both_ways, or_right}
-use Rattle.cmwq_sim.specs.Rooms.{parts_left, parts_of_job}
-use Rattle.cmwq_sim.proofs.Phases.{other_lines, taken, takes_on, starts_on, start_is}
+use Rattle.cmwq_sim.proofs.Phases.{other_lines, taken, takes_on, starts_on, start_is, serve_is, serve_sleeps, serve_ends, wake_nobody, wake_burns, wake_ends, may_start, due_item, asleep_there}
 use Rattle.cmwq_sim.proofs.Queued.{ShowsQueued, queue_call, caller, queue_shown, all_shown, nothing_shown}
-use Rattle.cmwq_sim.proofs.RoomKept.{queue_roomy}
+use Rattle.cmwq_sim.proofs.RoomKept.{queue_roomy, has_room_then, sleep_roomy, end_roomy, start_roomy, wake_roomy, wake_burns_roomy, wake_ends_roomy}
 use Rattle.cmwq_sim.proofs.Roomy.{needs_nothing_at_first}
 use Rattle.cmwq_sim.proofs.Determined.{determined}
-use Rattle.cmwq_sim.proofs.Phases.{serve_is, serve_sleeps, serve_ends, wake_nobody, wake_burns, wake_ends, may_start, due_item, asleep_there}
-use Rattle.cmwq_lemmas.proofs.Lists.{found_passes}
-use Rattle.cmwq_sim.proofs.RoomKept.{has_room_then, sleep_roomy, end_roomy, start_roomy, wake_roomy, wake_burns_roomy, wake_ends_roomy}
-use Rattle.cmwq_lemmas.proofs.Lists.{range_more}
 
 -- the lists of a moment
 pub record Lists (s : Plan) (r : Execution) (m : Moment) : Type 0 where
@@ -323,10 +317,7 @@ started_on s m r r2 is x n h t next =
     let shows = subst (λ m2. Shows s (past_in r.book) m2 (slot_in r.slots)) h.at.moment h.at.stands.shows in
     let same = ap (λ m2. started_one s m2 n) h.at.moment ∙ takes_on s m is n in
     let at = subst (StandsAt s r2) same next in
-    record {
-      at = at;
-      all = h.all ∙ starts_on s (past_in r.book) m (slot_in r.slots) is x n shows t2;
-    }
+    record { at = at; all = h.all ∙ starts_on s (past_in r.book) m (slot_in r.slots) is x n shows t2 }
 
 pub fewer_ready : (s : Plan) (r r2 : Execution) (x n : ℕ) → Stands s r → IsTaker r.book.layout (past_in r.book) x n → StandsAt s r2 (started_one s (moment_in s r) n) → length (moment_in s r2).ready < length (moment_in s r).ready
 fewer_ready s r r2 x n h t next =
@@ -406,17 +397,13 @@ burn_shown s past m slot h = over m.cpu refl
     over [] is = subst (λ js. Shows s past (record m { cpu = js }) slot) is h
     over (j ∷ js) is = let k = subst (λ ks. Shows s past (record m { cpu = ks }) slot) is h in assumption
 
-burn_parts : (js : List Job) → sum_by parts_of_job (burn_first js) ≡ sum_by parts_of_job js
-burn_parts [] = refl
-burn_parts (j ∷ js) = refl
-
 burn_seen : (s : Plan) (xs ys : List Running) → LessFirst xs ys → map (job_seen s) ys ≡ burn_first (map (job_seen s) xs)
 burn_seen s [] ys h = ap (map (job_seen s)) h
 burn_seen s (x ∷ xs) ys h = ap (map (job_seen s)) h
 
 pub burns : (s : Plan) (r r2 : Execution) → Stands s r → r2.book ≡ r.book → r2.sleeping.items ≡ r.sleeping.items → r2.slots ≡ r.slots → r2.lines.items ≡ r.lines.items → LessFirst r.cpu.items r2.cpu.items → StandsAt s r2 (burn (moment_in s r))
 burns s r r2 h book sleeping slots lines less =
-    stays_on s r r2 (burn (moment_in s r)) h book slots (burn_shown s (past_in r.book) (moment_in s r) (slot_in r.slots) h.shows) (let a = burn_parts (moment_in s r).cpu in let b = h.roomy in omega arith)
+    stays_on s r r2 (burn (moment_in s r)) h book slots (burn_shown s (past_in r.book) (moment_in s r) (slot_in r.slots) h.shows) (grind (arith, h.roomy))
     (record { cpu = burn_seen s r.cpu.items r2.cpu.items less; sleeping = ap (map (sleeper_seen s)) sleeping; lines = ap (map event_of) lines })
 
 -- ---- at first
@@ -425,7 +412,7 @@ pub outset : (s : Plan) (r : Execution) → IsWithinLimits s → r.book.layout �
     → r.slots ≡ 0 ∷ 0 ∷ 0 ∷ 0 ∷ 0 ∷ 0 ∷ 0 ∷ 0 ∷ [] → r.cpu.items ≡ [] → r.sleeping.items ≡ [] → r.lines.items ≡ [] → StandsAt s r (queued_at_first s)
 outset s r limits layout room shows roomy slots cpu sleeping lines =
     let k = queue_keeps s empty (range_with_len 0 (length s.items)) in
-    stands_at s r (queued_at_first s) limits layout room shows roomy (ap length slots) (subst (AllByRecursion (λ x. x < 8)) (sym slots) (omega arith, (omega arith, (omega arith, (omega arith, (omega arith, (omega arith, (omega arith, (omega arith, tt)))))))))
+    stands_at s r (queued_at_first s) limits layout room shows roomy (ap length slots) (rw slots (omega arith))
     (record { cpu = ap (map (job_seen s)) cpu ∙ sym k.0; sleeping = ap (map (sleeper_seen s)) sleeping ∙ sym k.1; lines = ap (map event_of) lines ∙ sym k.2 })
 
 -- ---- a millisecond

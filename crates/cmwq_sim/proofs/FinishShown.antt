@@ -6,13 +6,10 @@ use Rattle.cmwq_model.specs.declared.reply.Reply.TheVariants as reply
 use Rattle.cmwq_sim.specs.Plan.{Plan, plan_queue, is_of_plan_queue, no_sim_queue}
 use Rattle.cmwq_sim.specs.Lines.{Moment, Job, is_other_item}
 use Rattle.cmwq_sim.specs.Shows.{layout_for, queue_shape, pool, plan_worker, queueing_for, IsRunAt, is_job, is_sleeper, runs_in, Shows}
-use Rattle.std.proofs.lemmas.Bool.{both_ways, not-true}
-use Rattle.std.proofs.lemmas.Option.{none-some}
-use Rattle.cmwq_sim.proofs.Lists.{any_counted, found_there, fewer_kept, one_fewer, filter_mapped, all_mapped_pass, taken_out, others_there}
+use Rattle.cmwq_sim.proofs.Lists.{any_counted, found_there, fewer_kept, one_fewer, filter_mapped, all_mapped_pass, taken_out, others_there, both_ways, not-true, none-some, filter_shorter, count_append}
 use Rattle.cmwq_sim.proofs.TakeReads.{finish_answered, run_of}
 use Rattle.cmwq_sim.proofs.Steps.{other_slot, goes_by}
 use Rattle.cmwq_sim.proofs.Finish.{finish_makes_ready}
-use Rattle.cmwq_lemmas.proofs.Lists.{filter_shorter, count_append}
 use Rattle.cmwq_theory_steps.proofs.Promoted.{turn_filters}
 
 -- what stays behind

@@ -4,9 +4,7 @@ use Rattle.cmwq_model.specs.declared.reply.Reply.TheVariants as reply
 use Rattle.cmwq_theory_steps.proofs.Starts.{starts_next}
 use Rattle.cmwq_theory_steps.proofs.Reasons.{retire_reason}
 use Rattle.cmwq_theory_steps.proofs.Causes.{cause_of}
-use Rattle.cmwq_lemmas.proofs.Truth.{and_false}
-use Rattle.std.proofs.lemmas.Bool.{both_ways, not-true, not-false}
-use Rattle.cmwq_sim.proofs.Lists.{one, none, any_below, none_found_any}
+use Rattle.cmwq_sim.proofs.Lists.{one, none, any_below, none_found_any, and_false, both_ways, not-true, not-false}
 
 -- whose entry it is
 by_whom : (e : Entry) (v w : WorkerId) → e.who ≡ Worker v → is_by (Worker w) e ≡ true → v ≡ w
@@ -117,7 +115,4 @@ idle_or_all s (e ∷ past) p legal kept some = elim (idle_or_all s past p legal.
         (enlisted_go_on past e (worker_at p x) (ap₂ (λ a b. a && b) by kept.0) k.0))
       where
         stays : (r : Reply) → number_started r ≡ None → run_after r None ≡ None
-        stays (reply.Started m) h = cc
-        stays (reply.StartedEnlist m y) h = cc
-        stays (reply.Finished m) h = refl
-        stays r h = refl
+        stays r h = grind arith

@@ -1,10 +1,14 @@
--- Lists: what is there, and what is left where some are taken out.
+-- Lists: what is there, and what is left where some are taken out; with what the other proofs name of lists and truth values.
 use Rattle.cmwq_sim.specs.Common.{◌≡◌, ◌==◌, ◌<◌, ◌≤◌, ◌+◌, ℕ, zero, suc, Bool, true, false, cond, not, List, [], ◌∷◌, ◌++◌, ◌||◌, length, map, filter, find, count_by, Option, Some, None, refl, sym, ap, ◌∙◌, subst, arith, ⊎_elim, cases_eq, ne_eqb, eq-eqb, sum_by, AllByRecursion, list_any, range_with_len, nat_tests, count_by-cons, All_filter, All_map, found, of_in}
-use Rattle.std.proofs.lemmas.List.Folds.{list_any-append}
 use Rattle.std.proofs.lemmas.List.Filters.{length-filter_both, sum_by-filter_both}
-use Rattle.std.proofs.lemmas.List.Sums.{length-filter}
-use Rattle.cmwq_lemmas.proofs.Lists.{count_by-head, find_none, range_below}
-use Rattle.cmwq_lemmas.proofs.Truth.{or_false}
+pub use Rattle.cmwq_lemmas.proofs.Lists.{All_push, count_append, count_by-head, filter_all, filter_shorter, find_none, found_passes, range_below, range_more}
+pub use Rattle.cmwq_lemmas.proofs.Truth.{and_false, or_false}
+pub use Rattle.std.proofs.lemmas.Bool.{both_ways, false_from_ne_true, false≢true, not-false, not-true, or_right}
+pub use Rattle.std.proofs.lemmas.List.{drop-drop, drop_all}
+pub use Rattle.std.proofs.lemmas.List.Elements.{filter-append}
+pub use Rattle.std.proofs.lemmas.List.Folds.{list_any-append}
+pub use Rattle.std.proofs.lemmas.List.Sums.{length-filter, sum-map}
+pub use Rattle.std.proofs.lemmas.Option.{none-some}
 
 -- ---- some pass, or none
 

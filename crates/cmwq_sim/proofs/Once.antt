@@ -1,17 +1,16 @@
 -- Each item stands in one place at a time, until a line tells its end.
-use Rattle.cmwq_sim.specs.Common.{◌≡◌, ◌==◌, ◌≤◌, ◌+◌, ◌-◌, ℕ, zero, suc, Bool, true, false, cond, ◌&&◌, List, [], ◌∷◌, ◌++◌, length, drop, map, filter, find, count_by, Option, Some, None, refl, sym, ap, ap₂, ◌∙◌, subst, arith, if◌then◌else◌, fold, list_any, range_with_len, eqb-true, and_parts, count_by-cons}
+use Rattle.cmwq_sim.specs.Common.{◌≡◌, ◌==◌, ◌≤◌, ◌+◌, ℕ, zero, suc, Bool, true, false, cond, ◌&&◌, List, [], ◌∷◌, ◌++◌, length, drop, map, filter, find, count_by, Option, Some, None, refl, sym, ap, ◌∙◌, arith, if◌then◌else◌, fold, list_any, range_with_len, count_by-cons}
 use Rattle.cmwq_sim.specs.declared.scenario.LineKind.{LineKind}
 use Rattle.cmwq_sim.specs.declared.scenario.LineKind.TheVariants as kind
 use Rattle.cmwq_sim.specs.Plan.{Plan, Event, plan_queue, ms_of, is_of_plan_queue, whole_time}
-use Rattle.cmwq_sim.specs.Lines.{Moment, Job, Sleeper, make_ready, end_job, after_burn, after_sleep, serve_first, serve, is_due, is_other_sleeper, wake_sleeper, wake_item, wake_sleepers, job_of, starting_items, tell, tell_starts, start_these, start, burn_first, burn, millisecond, queued_at_first, empty, scenario_lines}
+use Rattle.cmwq_sim.specs.Lines.{Moment, Job, Sleeper, make_ready, end_job, after_burn, after_sleep, serve_first, serve, is_due, is_other_sleeper, wake_sleeper, wake_item, wake_sleepers, job_of, starting_items, tell, tell_starts, start_these, start, burn, millisecond, queued_at_first, empty, scenario_lines}
 use Rattle.cmwq_sim.specs.Shows.{is_job, is_sleeper, times}
 use Rattle.cmwq_sim.specs.Ends.{is_end_line, tells_end, EachEndsOnce}
-use Rattle.cmwq_sim.proofs.Lists.{any_counted, found_any, found_there, taken_out, once_among, once_there}
+use Rattle.cmwq_sim.proofs.Phases.{due_item, asleep_there}
+use Rattle.cmwq_sim.proofs.Lists.{any_counted, found_there, taken_out, once_among, once_there, or_false, found_passes, count_append}
 use Rattle.cmwq_sim.proofs.TakeShown.{job_item}
 use Rattle.cmwq_sim.proofs.Progress.{starting_first}
 use Rattle.cmwq_sim.proofs.Outset.{queue_keeps, all_weigh, all_items_end}
-use Rattle.cmwq_lemmas.proofs.Truth.{or_false}
-use Rattle.cmwq_lemmas.proofs.Lists.{found_passes, count_append}
 
 -- how often it stands in a list or has ended
 abbrev pub seen : ℕ → Moment → ℕ
@@ -74,13 +73,10 @@ woken_seen s t i k m once = at (find (is_due t k) m.sleeping) refl
     at (Some x) some = after x.left
       where
         its : x.item ≡ k
-        its = eqb-true x.item k (and_parts (x.item == k) (x.until == t) (found_passes (is_due t k) m.sleeping x some)).0
+        its = due_item t k x (found_passes (is_due t k) m.sleeping x some)
 
         there : count_by (is_sleeper x.item) m.sleeping ≡ 1
-        there =
-            let a = any_counted (is_sleeper x.item) m.sleeping (subst (λ n. list_any (is_sleeper n) m.sleeping ≡ true) (sym its) (found_any (is_due t k) (is_sleeper k) (λ y h. (and_parts (y.item == k) (y.until == t) h).0) m.sleeping x some)) in
-            let o = once x.item in
-            omega arith
+        there = rw its (omega (arith, any_counted (is_sleeper k) m.sleeping (asleep_there t k m x some), once k))
 
         out : (z : ℕ) → count_by (is_sleeper z) (filter (is_other_sleeper x.item) m.sleeping) + cond {A = ℕ} (x.item == z) 1 0 ≡ count_by (is_sleeper z) m.sleeping
         out z = ap (λ n. count_by (is_sleeper z) (filter (is_other_sleeper x.item) m.sleeping) + cond (x.item == z) n 0) (sym there) ∙ taken_out (λ (y : Sleeper). y.item) z x.item m.sleeping
@@ -101,16 +97,14 @@ woken_seen s t i k m once = at (find (is_due t k) m.sleeping) refl
             let f = out i in
             omega arith
 
-keeps_once : (m n : Moment) → Once m → ((i : ℕ) → seen i n ≡ seen i m) → Once n
-keeps_once m n once same z = let a = once z in let b = same z in omega arith
-
-all_woken_seen : (s : Plan) (t i len k : ℕ) (m : Moment) → Once m → seen i (fold (wake_item s t) m (range_with_len k len)) ≡ seen i m
-all_woken_seen s t i zero k m once = refl
-all_woken_seen s t i (suc len) k m once = all_woken_seen s t i len (k + 1) (wake_item s t m k) (keeps_once m (wake_item s t m k) once (λ z. woken_seen s t z k m once)) ∙ woken_seen s t i k m once
+-- so do steps in turn
+all_steps : (step : Moment → ℕ → Moment) → ((m : Moment) (k : ℕ) → Once m → (i : ℕ) → seen i (step m k) ≡ seen i m) → (i len k : ℕ) (m : Moment) → Once m → seen i (fold step m (range_with_len k len)) ≡ seen i m
+all_steps step each i zero k m once = refl
+all_steps step each i (suc len) k m once = all_steps step each i len (k + 1) (step m k) (λ z. omega (arith, once z, each m k once z)) ∙ each m k once i
 
 started_count : (s : Plan) (i : ℕ) (is : List ℕ) → count_by (is_job i) (map (job_of s) is) ≡ count_by (λ j. j == i) is
 started_count s i [] = refl
-started_count s i (k ∷ is) = count_by-cons (is_job i) (job_of s k) (map (job_of s) is) ∙ ap₂ (λ n c. cond (n == i) 1 0 + c) (job_item k (ms_of s k)) (started_count s i is) ∙ sym (count_by-cons (λ j. j == i) k is)
+started_count s i (k ∷ is) = grind (arith, count_by-cons (is_job i) (job_of s k) (map (job_of s) is), count_by-cons (λ j. j == i) k is, job_item k (ms_of s k), started_count s i is)
 
 started_seen : (s : Plan) (t i : ℕ) (m : Moment) → seen i (start s t m) ≡ seen i m
 started_seen s t i m = at (starting_items s m.cpu m.ready) (starting_first s m.cpu m.ready)
@@ -130,23 +124,12 @@ started_seen s t i m = at (starting_items s m.cpu m.ready) (starting_first s m.c
         with_lines (k ∷ ks) = let a = moved in let b = told i t kind.Starts (k ∷ ks) m.lines in omega arith
 
 burnt_seen : (i : ℕ) (m : Moment) → seen i (burn m) ≡ seen i m
-burnt_seen i m = at m.cpu refl
-  where
-    at : (xs : List Job) → m.cpu ≡ xs → seen i (record m { cpu = burn_first xs }) ≡ seen i m
-    at [] is = let a = ap (count_by (is_job i)) is in omega arith
-    at (j ∷ js) is =
-        let a = ap (count_by (is_job i)) is ∙ count_by-cons (is_job i) j js in
-        let b = count_by-cons (is_job i) (record { item = j.item; burn = j.burn - 1; left = j.left }) js in
-        omega arith
+burnt_seen i m = grind arith
 
 millisecond_seen : (s : Plan) (t i : ℕ) (m : Moment) → Once m → seen i (millisecond s m t) ≡ seen i m
 millisecond_seen s t i m once =
     burnt_seen i (start s t (wake_sleepers s t (serve s t m))) ∙ started_seen s t i (wake_sleepers s t (serve s t m))
-    ∙ all_woken_seen s t i (length s.items) 0 (serve s t m) (keeps_once m (serve s t m) once (λ z. served_seen s t z m once)) ∙ served_seen s t i m once
-
-all_seen : (s : Plan) (i k t : ℕ) (m : Moment) → Once m → seen i (fold (millisecond s) m (range_with_len t k)) ≡ seen i m
-all_seen s i zero t m once = refl
-all_seen s i (suc k) t m once = all_seen s i k (t + 1) (millisecond s m t) (keeps_once m (millisecond s m t) once (λ z. millisecond_seen s t z m once)) ∙ millisecond_seen s t i m once
+    ∙ all_steps (wake_item s t) (λ n k first z. woken_seen s t z k n first) i (length s.items) 0 (serve s t m) (λ z. omega (arith, once z, served_seen s t z m once)) ∙ served_seen s t i m once
 
 pub each_ends_once : EachEndsOnce
 unfolding scenario_lines
@@ -154,7 +137,7 @@ each_ends_once s i fine less =
     let told = (queue_keeps s empty (range_with_len 0 (length s.items))).2 in
     let first : (z : ℕ) → seen z (queued_at_first s) ≡ count_by (λ j. j == z) (range_with_len 0 (length s.items)) = λ z.
     omega (arith, all_weigh s (length s.items) 0 empty (λ j. cond (j == z) 1 0) (λ j. cond (is_job z j) 1 0) (λ x. cond (is_sleeper z x) 1 0), ap (count_by (tells_end z)) told) in
-    let a = all_seen s i (suc (whole_time s)) 0 (queued_at_first s) (λ z. omega (arith, first z, once_among 0 (length s.items) z)) in
+    let a = all_steps (millisecond s) (λ m t once z. millisecond_seen s t z m once) i (suc (whole_time s)) 0 (queued_at_first s) (λ z. omega (arith, first z, once_among 0 (length s.items) z)) in
     let o = once_there i 0 (length s.items) (omega arith) (omega arith) in
     let none = all_items_end s fine in
     omega (arith, first i, ap (count_by (λ j. j == i)) none.ready, ap (count_by (λ j. j == i)) none.behind, ap (count_by (is_job i)) none.cpu, ap (count_by (is_sleeper i)) none.sleeping)

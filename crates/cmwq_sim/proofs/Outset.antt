@@ -4,12 +4,8 @@ use Rattle.cmwq_sim.specs.Plan.{Plan, plan_queue, plan_width, is_of_plan_queue, 
 use Rattle.cmwq_sim.specs.Limits.{IsQueue, IsItem, IsWithinLimits}
 use Rattle.cmwq_sim.specs.Lines.{Moment, Job, Sleeper, queue_item, queued_at_first, empty}
 use Rattle.cmwq_sim.specs.Ends.{AllItemsEnd}
-use Rattle.std.proofs.lemmas.List.{drop_all}
-use Rattle.std.proofs.lemmas.List.Folds.{list_any-append}
-use Rattle.std.proofs.lemmas.List.Sums.{sum-map}
-use Rattle.cmwq_sim.proofs.Lists.{counted_any, last_any}
+use Rattle.cmwq_sim.proofs.Lists.{counted_any, last_any, drop_all, list_any-append, sum-map, All_push}
 use Rattle.cmwq_sim.proofs.Progress.{all_at, time_at, job_rest, sleeper_rest, weight, rest, of_job, of_sleeper, IsSleeper, FirstMayBeDone, Begins, all_pass}
-use Rattle.cmwq_lemmas.proofs.Lists.{All_push}
 
 -- while the items are queued
 pub record Queues (s : Plan) (m : Moment) : Type 0 where

@@ -11,11 +11,7 @@ use Rattle.cmwq_sim.proofs.TakeShown.{started_with}
 use Rattle.cmwq_sim.proofs.FinishShown.{is_kept, ended_with, finish_shown}
 use Rattle.cmwq_sim.proofs.WakeShown.{awake_with, wake_shown}
 use Rattle.cmwq_sim.proofs.TakersAre.{taker_starts, no_taker, starting_goes, starting_stops}
-use Rattle.cmwq_lemmas.proofs.Lists.{filter_all}
-use Rattle.std.proofs.lemmas.Bool.{or_right}
-use Rattle.std.proofs.lemmas.List.{drop-drop}
-use Rattle.std.proofs.lemmas.List.Elements.{filter-append}
-use Rattle.cmwq_sim.proofs.Lists.{any_counted, found_any, last_any}
+use Rattle.cmwq_sim.proofs.Lists.{any_counted, found_any, last_any, filter_all, or_right, drop-drop, filter-append}
 
 -- a history doesn't show the lines
 pub other_lines : (s : Plan) (past : List Entry) (m : Moment) (slot : ℕ → ℕ) (ls : List Event) → Shows s past m slot → Shows s past (record m { lines = ls }) slot

@@ -5,10 +5,7 @@ use Rattle.cmwq_sim.specs.Plan.{Plan, Event, plan_queue, ms_of, is_of_plan_queue
 use Rattle.cmwq_sim.specs.Limits.{IsBetween, IsItem, IsWithinLimits}
 use Rattle.cmwq_sim.specs.Lines.{Moment, Job, Sleeper, is_other_item, make_ready, end_job, after_burn, after_sleep, serve_first, serve, is_due, is_other_sleeper, wake_sleeper, wake_item, wake_sleepers, job_with, job_of, starting_items, tell, tell_starts, start_these, start, burn_first, burn, millisecond}
 use Rattle.cmwq_sim.specs.Ends.{NobodyIsLeft}
-use Rattle.std.proofs.lemmas.Bool.{both_ways, not-false, false≢true}
-use Rattle.std.proofs.lemmas.List.Folds.{list_any-append}
-use Rattle.cmwq_lemmas.proofs.Lists.{All_push, find_none}
-use Rattle.cmwq_sim.proofs.Lists.{all_split, none_found_any, all_found, all_kept, last_any, less_kept}
+use Rattle.cmwq_sim.proofs.Lists.{all_split, none_found_any, all_found, all_kept, last_any, less_kept, both_ways, not-false, false≢true, list_any-append, All_push, find_none}
 use Rattle.cmwq_sim.proofs.TakeShown.{job_item}
 
 -- ---- lists

@@ -1,6 +1,5 @@
 -- Items are queued one after the other, before any worker is asked.
-use Rattle.cmwq_sim.specs.Common.{◌≡◌, ◌==◌, ◌<◌, ◌≤◌, ◌+◌, ℕ, suc, Bool, true, false, cond, not, ◌&&◌, ◌||◌, List, [], ◌∷◌, ◌++◌, length, map, filter, count_by, Some, None, nat_lt, refl, sym, ap, ap₂, ◌∙◌, subst, arith, option_to_list, append-nil, length-append, if◌then◌else◌, option_and_then, is_some, option_map_or, AllByRecursion, list_any, range_with_len, map-append, length-map, lt-ltb, ne_eqb, get_or-map, WorkerId, Who, Caller, Worker, Call, Reply, Entry, Queueing, Start, QueueShape, is_at, worker_of, item_at, number_started, is_started, is_finished, is_cancelled, is_open, booking, due_in, last_start, run, start_in, item_start, item_run, gives_ticket, ticket_for, ends_destroy, tickets, is_unended, is_cancelling, is_done, is_gone, is_cancel_sync_of, is_drain_of, is_newly_active, newly_active, became_active, worklist, is_retired, queue_answer, answer, is_shut, IsLegal, entry_for, opens, opening, queueings, is_live, still_open, is_unstarted, unstarted_queueing, is_pending, runs_elsewhere, cpu_for, HasFirstWidths, waits, is_left, is_in, is_of_same_pwq, behind_width, is_below_max_active_at_once, keeps_widths, In, of_in, all_in, filter_in, All_each, All_map, All_both, count_by-cons, filter_same, none_found, open_go_on, newly_active_are, opened_are_below_max_active, width_same, newly_of_open, worklists_go_on}
-use Rattle.std.proofs.lemmas.List.Elements.{filter-append}
+use Rattle.cmwq_sim.specs.Common.{◌≡◌, ◌==◌, ◌<◌, ◌≤◌, ◌+◌, ℕ, suc, Bool, true, false, cond, not, ◌&&◌, ◌||◌, List, [], ◌∷◌, ◌++◌, length, map, filter, count_by, Some, None, nat_lt, refl, sym, ap, ap₂, ◌∙◌, subst, arith, option_to_list, append-nil, length-append, if◌then◌else◌, option_and_then, is_some, option_map_or, AllByRecursion, list_any, range_with_len, map-append, length-map, lt-ltb, ne_eqb, get_or-map, WorkerId, Who, Caller, Call, Reply, Entry, Queueing, Start, QueueShape, is_at, worker_of, item_at, number_started, is_started, is_finished, is_cancelled, is_open, booking, due_in, last_start, item_start, item_run, gives_ticket, ticket_for, ends_destroy, tickets, is_unended, is_cancelling, is_done, is_gone, is_cancel_sync_of, is_drain_of, is_newly_active, newly_active, became_active, worklist, is_retired, queue_answer, answer, is_shut, IsLegal, entry_for, opens, opening, queueings, is_live, still_open, is_unstarted, unstarted_queueing, is_pending, runs_elsewhere, cpu_for, HasFirstWidths, waits, is_left, is_in, is_of_same_pwq, behind_width, is_below_max_active_at_once, keeps_widths, In, of_in, all_in, filter_in, All_each, All_map, All_both, count_by-cons, filter_same, none_found, open_go_on, newly_active_are, opened_are_below_max_active, width_same, newly_of_open, worklists_go_on}
 use Rattle.cmwq_model.specs.declared.call.Call.TheVariants as call
 use Rattle.cmwq_model.specs.declared.reply.Reply.TheVariants as reply
 use Rattle.cmwq_model.specs.Layout.{first_width}
@@ -10,23 +9,12 @@ use Rattle.std.proofs.lemmas.List.FromFn.{length-range_with_len}
 use Rattle.cmwq_sim.specs.Plan.{Plan, plan_queue, is_of_plan_queue, plan_width, no_sim_queue}
 use Rattle.cmwq_sim.specs.Lines.{Moment, Job, Sleeper, queue_item, empty}
 use Rattle.cmwq_sim.specs.Shows.{layout_for, queue_shape, pool, queueing_for, is_job, is_sleeper, IsRunAt, Shows}
-use Rattle.std.proofs.lemmas.Bool.{false_from_ne_true}
-use Rattle.std.proofs.lemmas.Option.{none-some}
 use Rattle.cmwq_lemmas.proofs.Members.{in_left}
-use Rattle.cmwq_sim.proofs.Lists.{once_among}
+use Rattle.cmwq_sim.proofs.Lists.{once_among, filter-append, false_from_ne_true, none-some, filter_all, range_more, count_append, range_below}
 use Rattle.cmwq_sim.proofs.Steps.{EndsNone, spares, all_survive, none_ends, active_as_before}
 use Rattle.cmwq_sim.proofs.FinishShown.{in_pool}
-use Rattle.cmwq_lemmas.proofs.Lists.{filter_all, range_more, count_append, range_below}
 
 -- ---- answers yes
-
-abbrev pub is_yes : Reply → Bool
-is_yes (reply.Yes n) = true
-is_yes r = false
-
-abbrev pub is_caller : Who → Bool
-is_caller (Caller c) = true
-is_caller (Worker w) = false
 
 pub record Says (r : Reply) : Type 0 where
   pub starts : number_started r ≡ None
@@ -37,22 +25,21 @@ pub record Says (r : Reply) : Type 0 where
   pub widths : keeps_widths r ≡ true
   pub stays : is_retired r ≡ false
 
-says : (r : Reply) → is_yes r ≡ true → Says r
-says (reply.Yes n) h = record { starts = refl; ends = record { finishes = refl; cancels = refl; replaces = refl }; tickets = refl; due = refl; done = refl; widths = refl; stays = refl }
-says r h = cc
+says : (n : ℕ) → Says (reply.Yes n)
+says n = record { starts = refl; ends = record { finishes = refl; cancels = refl; replaces = refl }; tickets = refl; due = refl; done = refl; widths = refl; stays = refl }
 
 pub record IsQueued (e : Entry) : Type 0 where
-  pub who : is_caller e.who ≡ true
-  pub says : is_yes e.reply ≡ true
+  pub who : worker_of e.who ≡ None
+  pub says : Says e.reply
 
 never_finished : (past : List Entry) (n : ℕ) → AllByRecursion IsQueued past → is_finished past n ≡ false
 never_finished [] n all = refl
-never_finished (e ∷ past) n all = ap₂ (λ o b. is_at o n || b) (says e.reply all.0.says).ends.finishes (never_finished past n all.1)
+never_finished (e ∷ past) n all = ap₂ (λ o b. is_at o n || b) all.0.says.ends.finishes (never_finished past n all.1)
 
 never_cancelled : (past : List Entry) (i n : ℕ) → AllByRecursion IsQueued past → is_cancelled past i n ≡ false
 unfolding is_cancelled
 never_cancelled [] i n all = refl
-never_cancelled (e ∷ past) i n all = grind (arith, (says e.reply all.0.says).ends, never_cancelled past i n all.1)
+never_cancelled (e ∷ past) i n all = grind (arith, all.0.says.ends, never_cancelled past i n all.1)
 
 stays_open : (past : List Entry) (i n : ℕ) → AllByRecursion IsQueued past → is_open past i n ≡ nat_lt n (length past)
 stays_open past i n all = grind (arith, never_finished past n all, never_cancelled past i n all)
@@ -60,22 +47,12 @@ stays_open past i n all = grind (arith, never_finished past n all, never_cancell
 nobody_started : (past : List Entry) (w : WorkerId) → AllByRecursion IsQueued past → last_start past w ≡ None
 unfolding last_start
 nobody_started [] w all = refl
-nobody_started (e ∷ past) w all = grind (arith, (says e.reply all.0.says).starts, nobody_started past w all.1)
-
-nobody_runs : (past : List Entry) (w : WorkerId) → AllByRecursion IsQueued past → run past w ≡ None
-nobody_runs past w all = ap (option_and_then _) (nobody_started past w all)
-
-no_worker : (who : Who) → is_caller who ≡ true → worker_of who ≡ None
-no_worker (Caller c) k = refl
-no_worker (Worker w) k = cc
-
-no_start : (e : Entry) → IsQueued e → start_in e ≡ None
-no_start e h = ap (option_and_then _) (no_worker e.who h.who)
+nobody_started (e ∷ past) w all = grind (arith, all.0.says.starts, nobody_started past w all.1)
 
 no_item_start : (past : List Entry) (i : ℕ) → AllByRecursion IsQueued past → item_start past i ≡ None
 unfolding item_start
 no_item_start [] i all = refl
-no_item_start (e ∷ past) i all = ap₂ (λ o l. if option_map_or (λ (start : Start). is_at (item_at past start.number) i) o false then o else l) (no_start e all.0) (no_item_start past i all.1)
+no_item_start (e ∷ past) i all = ap₂ (λ o l. if option_map_or (λ (start : Start). is_at (item_at past start.number) i) o false then o else l) (ap (option_and_then _) all.0.who) (no_item_start past i all.1)
 
 no_item_run : (past : List Entry) (i : ℕ) → AllByRecursion IsQueued past → item_run past i ≡ None
 no_item_run past i all = ap (option_and_then _) (no_item_start past i all)
@@ -83,17 +60,17 @@ no_item_run past i all = ap (option_and_then _) (no_item_start past i all)
 no_booking : (past : List Entry) (i : ℕ) → AllByRecursion IsQueued past → booking past i ≡ None
 unfolding booking
 no_booking [] i all = refl
-no_booking (e ∷ past) i all = grind (arith, (says e.reply all.0.says).due, no_booking past i all.1)
+no_booking (e ∷ past) i all = grind (arith, all.0.says.due, no_booking past i all.1)
 
 no_tickets : (past : List Entry) → AllByRecursion IsQueued past → tickets past ≡ []
 unfolding tickets
 no_tickets [] all = refl
-no_tickets (e ∷ past) all = ap₂ (λ ts b. ts ++ option_to_list (if b then ticket_for e.who e.call (length past) else None)) (no_tickets past all.1) (says e.reply all.0.says).tickets
+no_tickets (e ∷ past) all = ap₂ (λ ts b. ts ++ option_to_list (if b then ticket_for e.who e.call (length past) else None)) (no_tickets past all.1) all.0.says.tickets
 
 never_gone : (past : List Entry) (q : ℕ) → AllByRecursion IsQueued past → is_gone past q ≡ false
 unfolding is_gone
 never_gone [] q all = refl
-never_gone (e ∷ past) q all = ap₂ (λ a b. a || (b && ends_destroy past q e.who e.call)) (never_gone past q all.1) (says e.reply all.0.says).done
+never_gone (e ∷ past) q all = ap₂ (λ a b. a || (b && ends_destroy past q e.who e.call)) (never_gone past q all.1) all.0.says.done
 
 -- ---- one more item
 
@@ -159,7 +136,7 @@ module _ (s : Plan) (k : ℕ) (past : List Entry) (m : Moment) (h : ShowsQueued 
   legal few there = (ap₂ (λ a b. a && b && true) (lt-ltb k 8 few) (lt-ltb (plan_queue s k) (length (map queue_shape s.queues)) (subst (λ n. plan_queue s k < n) (sym (length-map s.queues queue_shape)) there)), refl, h.legal)
 
   said : Says (answer (layout_for s) past caller (queue_call s k))
-  said = subst Says (sym answered) (says (reply.Yes k) refl)
+  said = subst Says (sym answered) (says k)
 
   opened : opening past entry ≡ Some (queueing_for s k)
   opened = ap (λ r. if opens r then Some (record { item = record { 0 = k }; place = record { queue = record { 0 = plan_queue s k }; cpu = cpu_for past k (record { 0 = 0 }) }; number = length past }) else None) answered
@@ -183,7 +160,7 @@ module _ (s : Plan) (k : ℕ) (past : List Entry) (m : Moment) (h : ShowsQueued 
   open_after few there = open_go_on (layout_for s) past entry (legal few there) ∙ ap₂ (λ xs o. xs ++ option_to_list o) (all_survive past entry (still_open past) said.ends) opened
 
   all_queued : AllByRecursion IsQueued (entry ∷ past)
-  all_queued = (record { who = refl; says = ap is_yes answered }, h.all)
+  all_queued = (record { who = refl; says = said }, h.all)
 
   -- ---- what is ready then
 
@@ -299,13 +276,13 @@ count_all (x ∷ xs) = count_by-cons (λ j. true) x xs ∙ ap (λ n. 1 + n) (cou
 pub all_shown : (s : Plan) (past : List Entry) (m : Moment) (slot : ℕ → ℕ) → length s.items ≤ 8 → ShowsQueued s (length s.items) past m → Shows s past m slot
 all_shown s past m slot few h = record {
   legal = h.legal;
-  kept = All_map IsQueued (λ e. is_retired e.reply ≡ false) past (λ e queued. (says e.reply queued.says).stays) h.all;
+  kept = All_map IsQueued (λ e. is_retired e.reply ≡ false) past (λ e queued. queued.says.stays) h.all;
   queued = h.queued;
   ready = h.ready;
   behind = h.behind;
   cpu = subst (AllByRecursion (λ j. IsRunAt past (slot j.item) j.item false)) (sym h.cpu) tt;
   sleeping = subst (AllByRecursion (λ x. IsRunAt past (slot x.item) x.item true)) (sym h.sleeping) tt;
-  no_others = λ w n runs. absurd (none-some n (sym (nobody_runs past w h.all) ∙ runs));
+  no_others = λ w n runs. absurd (none-some n (sym (ap (option_and_then _) (nobody_started past w h.all)) ∙ runs));
   once = λ i.
       let a = ap₂ (λ (js : List Job) (xs : List Sleeper). count_by (is_job i) js + count_by (is_sleeper i) xs) h.cpu h.sleeping in
       let b = count_append (λ j. j == i) m.ready m.behind in

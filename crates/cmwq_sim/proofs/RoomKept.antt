@@ -1,8 +1,7 @@
 -- Each call of a replay keeps room for those to come.
-use Rattle.cmwq_sim.specs.Common.{◌≡◌, ◌<◌, ◌≤◌, ◌+◌, ◌*◌, ℕ, true, false, List, [], ◌∷◌, ◌++◌, length, drop, filter, find, Some, refl, ap, ◌∙◌, subst, arith, sum_by, AllByRecursion, list_any, le-leb, sum_by-cons, sum_by_push, Who, Worker, Call, Reply, Entry, number_started, has_time, room_needed, has_room, entry_for, is_promised}
+use Rattle.cmwq_sim.specs.Common.{◌≡◌, ◌<◌, ◌≤◌, ◌+◌, ◌*◌, ℕ, true, false, List, [], ◌∷◌, ◌++◌, length, drop, filter, find, Some, ap, ◌∙◌, subst, arith, sum_by, AllByRecursion, list_any, le-leb, sum_by-cons, sum_by_push, Who, Worker, Call, Entry, has_time, room_needed, has_room, entry_for, is_promised}
 use Rattle.std.specs.Cmp.Derive.{both_true}
 use Rattle.cmwq_model.specs.declared.call.Call.TheVariants as call
-use Rattle.cmwq_model.specs.declared.reply.Reply.TheVariants as reply
 use Rattle.cmwq_theory_steps.proofs.Promised.{promised_need_no_more}
 use Rattle.cmwq_sim.specs.Plan.{Plan, plan_queue, ms_of}
 use Rattle.cmwq_sim.specs.Limits.{IsWithinLimits}
@@ -10,14 +9,14 @@ use Rattle.cmwq_sim.specs.Rooms.{parts_at, parts_of_job, parts_left, IsRoomy}
 use Rattle.cmwq_sim.specs.Lines.{Moment, Job, Sleeper, after_burn, after_sleep, is_due, is_other_sleeper, job_of, queue_item}
 use Rattle.cmwq_sim.specs.Shows.{layout_for, plan_worker, IsRunAt, is_sleeper, Shows}
 use Rattle.cmwq_sim.specs.Takers.{IsTaker}
-use Rattle.cmwq_lemmas.proofs.Lists.{found_passes}
 use Rattle.cmwq_sim.proofs.TakeReads.{sleep_answered, finish_answered, wake_answered, run_of}
-use Rattle.cmwq_sim.proofs.TakeShown.{started_with, take_shown}
+use Rattle.cmwq_sim.proofs.TakeShown.{started_with, starts_one, take_shown}
 use Rattle.cmwq_sim.proofs.WakeShown.{wake_shown}
 use Rattle.cmwq_sim.proofs.TakersAre.{taker_starts}
 use Rattle.cmwq_sim.proofs.Phases.{serve_sleeps, serve_ends, wake_ends, asleep_there, due_item, joined, may_start}
 use Rattle.cmwq_sim.proofs.Queued.{ShowsQueued, queue_call, caller, queue_shown, answered}
 use Rattle.cmwq_sim.proofs.Roomy.{needs_two, needs_three, sleep_takes_one, end_takes_none, wake_takes_none, start_parts, queued_parts}
+use Rattle.cmwq_sim.proofs.Lists.{found_passes}
 
 -- so there is room for what would be appended
 pub has_room_then : (s : Plan) (past : List Entry) (who : Who) (c : Call) (m : Moment) → has_time past c ≡ true → IsRoomy s (entry_for (layout_for s) past who c ∷ past) m → has_room (layout_for s) 1000 past who c ≡ true
@@ -64,11 +63,6 @@ module _ (s : Plan) (t i : ℕ) (past : List Entry) (m : Moment) (slot : ℕ →
 
 -- ---- starts
 
-started_promised : (r : Reply) (n : ℕ) → number_started r ≡ Some n → is_promised r ≡ true
-started_promised (reply.Started m) n h = refl
-started_promised (reply.StartedEnlist m x) n h = refl
-started_promised r n h = cc
-
 start_takes_none : (s : Plan) (m : Moment) (n : ℕ) (rest : List ℕ) → m.ready ≡ n ∷ rest → parts_left s (started_with s m n rest) ≤ parts_left s m
 start_takes_none s m n rest is =
     let a = ap (sum_by (parts_at s)) is ∙ sum_by-cons (parts_at s) n rest in
@@ -81,7 +75,7 @@ pub start_roomy : (s : Plan) (past : List Entry) (m : Moment) (slot : ℕ → �
 start_roomy s past m slot x n h roomy t =
     let k = taker_starts s past m slot x n h t in
     let may = may_start s m n k.1 in
-    let a = promised_need_no_more (layout_for s) past (entry_for (layout_for s) past (Worker (plan_worker x)) call.Take) (take_shown s past m slot x n (drop 1 m.ready) h t.below k.0 may.first may.clear).legal (started_promised _ n t.starts) in
+    let a = promised_need_no_more (layout_for s) past (entry_for (layout_for s) past (Worker (plan_worker x)) call.Take) (take_shown s past m slot x n (drop 1 m.ready) h t.below k.0 may.first may.clear).legal (starts_one _ n t.starts).promised in
     let b = start_takes_none s m n (drop 1 m.ready) may.first in
     omega arith
 

@@ -1,15 +1,13 @@
 -- What one more entry does to what a history shows.
-use Rattle.cmwq_sim.specs.Common.{◌≡◌, ◌≢◌, ◌==◌, ◌<◌, ◌≤◌, ◌+◌, ℕ, Bool, true, false, cond, not, ◌&&◌, List, [], ◌∷◌, ◌++◌, length, filter, count_by, Option, None, refl, sym, ap, ap₂, ◌∙◌, subst, arith, option_to_list, append-nil, length-append, option_map, option_and_then, if◌then◌else◌, IsTrue, AllByRecursion, list_any, runner_there, lt-ltb, eq-eqb, same_Some, PoolId, WorkerId, Worker, Reply, Entry, Queueing, Layout, fits, item_of, is_at, number_started, number_finished, number_cancelled, replaces, starts, run, is_asleep, asleep_after, opens, opening, queued_at, place_wanted, queueings, still_open, is_live, is_newly_active, newly_active, worklist, is_retired, answer, IsLegal, entry_for, run_after, survives, is_ended, ending, waits, is_left, is_in, behind_width, is_below_max_active_at_once, keeps_widths, All_both, All_each, All_append, All_filter, count_by-cons, filter_same, none_found, count_none, stays_active, open_go_on, newly_of_open, newly_active_are, width_same, worklists_go_on, workers_run_on, by_itself}
+use Rattle.cmwq_sim.specs.Common.{◌≡◌, ◌≢◌, ◌==◌, ◌≤◌, ◌+◌, ℕ, Bool, true, false, cond, not, ◌&&◌, List, [], ◌∷◌, ◌++◌, length, filter, count_by, Option, None, refl, sym, ap, ap₂, ◌∙◌, subst, arith, option_to_list, append-nil, length-append, option_map, option_and_then, if◌then◌else◌, AllByRecursion, list_any, runner_there, lt-ltb, eq-eqb, same_Some, PoolId, WorkerId, Worker, Reply, Entry, Queueing, Layout, item_of, is_at, number_started, number_finished, number_cancelled, replaces, starts, run, is_asleep, asleep_after, opens, opening, queued_at, place_wanted, queueings, still_open, is_live, is_newly_active, newly_active, worklist, is_retired, answer, IsLegal, entry_for, run_after, survives, is_ended, ending, waits, is_left, is_in, behind_width, is_below_max_active_at_once, keeps_widths, All_both, All_each, All_append, All_filter, count_by-cons, filter_same, none_found, count_none, stays_active, open_go_on, newly_of_open, newly_active_are, width_same, worklists_go_on, workers_run_on, by_itself}
 use Rattle.cmwq_model.specs.declared.call.Call.TheVariants as call
 use Rattle.cmwq_model.specs.declared.reply.Reply.TheVariants as reply
 use Rattle.cmwq_sim.specs.Plan.{Plan}
 use Rattle.cmwq_sim.specs.Lines.{Moment, Job}
 use Rattle.cmwq_sim.specs.Shows.{layout_for, pool, plan_worker, IsRunAt, is_job, is_sleeper, runs_in, times, Shows}
-use Rattle.std.proofs.lemmas.Bool.{both_ways}
-use Rattle.cmwq_sim.proofs.Lists.{none_kept, last_any}
+use Rattle.cmwq_sim.proofs.Lists.{none_kept, last_any, both_ways, filter_all, count_append}
 use Rattle.cmwq_sim.proofs.Idle.{not_by}
 use Rattle.cmwq_sim.proofs.TakeReads.{sleep_answered}
-use Rattle.cmwq_lemmas.proofs.Lists.{filter_all, count_append}
 
 -- ---- an entry that opens and ends nothing
 
@@ -62,12 +60,6 @@ waiting_as_before s past e legal q =
     ∙ ap (filter (waits s past)) (open_as_before s past e legal q)
 
 -- ---- sleep
-
-fits_sleep : (s : Plan) (x : ℕ) → x < 8 → IsTrue (fits (layout_for s) (Worker (plan_worker x)) call.Sleep)
-fits_sleep s x less = ap (λ b. (b && true) && true) (lt-ltb x 8 less)
-
-sleeps : IsQuiet reply.Slept
-sleeps = record { ends = record { finishes = refl; cancels = refl; replaces = refl }; opens = refl; widths = refl; stays = refl }
 
 pub same_runs : (s : Layout) (past : List Entry) (e : Entry) (w : WorkerId) → IsLegal s (e ∷ past) → ((o : Option ℕ) → run_after e.reply o ≡ o) → run (e ∷ past) w ≡ run past w
 same_runs s past e w legal h = grind (arith, workers_run_on s past e w legal, h (run past w))
@@ -127,10 +119,10 @@ sleep_shown s past m slot j rest until left h is = record {
     slept = sleep_answered s past (slot j.item) j.item jobs.0
 
     quiet : IsQuiet (answer (layout_for s) past (Worker (plan_worker (slot j.item))) call.Sleep)
-    quiet = subst IsQuiet (sym slept) sleeps
+    quiet = subst IsQuiet (sym slept) (record { ends = record { finishes = refl; cancels = refl; replaces = refl }; opens = refl; widths = refl; stays = refl })
 
     legal : IsLegal (layout_for s) (e ∷ past)
-    legal = (fits_sleep s (slot j.item) (runner_there (layout_for s) past (plan_worker (slot j.item)) j.item h.legal jobs.0.runs), refl, h.legal)
+    legal = (ap (λ b. (b && true) && true) (lt-ltb (slot j.item) 8 (runner_there (layout_for s) past (plan_worker (slot j.item)) j.item h.legal jobs.0.runs)), refl, h.legal)
 
     after : (o : Option ℕ) → run_after (answer (layout_for s) past (Worker (plan_worker (slot j.item))) call.Sleep) o ≡ o
     after o = ap (λ r. run_after r o) slept

@@ -9,9 +9,7 @@ use Rattle.cmwq_sim.specs.Plan as plan
 use Rattle.cmwq_sim.specs.Lines.{Moment, Job, Sleeper, plan_items, is_job_held}
 use Rattle.cmwq_sim.specs.Shows.{layout_for, queue_shape, pool, plan_worker, queueing_for, IsRunAt, is_job, is_sleeper, runs_in, Shows, next_of, to_start}
 use Rattle.cmwq_sim.proofs.Idle.{idle, all, idle_or_all}
-use Rattle.cmwq_sim.proofs.Lists.{any_counted, one_there, one_fewer, others_there, none_counted, one_counted, one, none, any_below}
-use Rattle.std.proofs.lemmas.Bool.{both_ways}
-use Rattle.std.proofs.lemmas.List.Folds.{list_any-append}
+use Rattle.cmwq_sim.proofs.Lists.{any_counted, one_there, one_fewer, others_there, none_counted, one_counted, one, none, any_below, both_ways, list_any-append}
 
 -- ---- the three calls of a run
 

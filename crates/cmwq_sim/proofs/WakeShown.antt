@@ -7,12 +7,7 @@ use Rattle.cmwq_sim.specs.Lines.{Moment, Sleeper}
 use Rattle.cmwq_sim.specs.Shows.{layout_for, pool, plan_worker, IsRunAt, is_job, is_sleeper, runs_in, Shows}
 use Rattle.cmwq_sim.proofs.TakeReads.{wake_answered, run_of}
 use Rattle.cmwq_sim.proofs.Steps.{IsQuiet, none_opens, worklist_as_before, waiting_as_before, same_runs, other_slot, goes_by}
-use Rattle.std.proofs.lemmas.Bool.{not-true}
-use Rattle.cmwq_sim.proofs.Lists.{any_counted, last_any, one_fewer, taken_out, others_there}
-use Rattle.cmwq_lemmas.proofs.Lists.{filter_all, count_append}
-
-wakes : IsQuiet reply.Woke
-wakes = record { ends = record { finishes = refl; cancels = refl; replaces = refl }; opens = refl; widths = refl; stays = refl }
+use Rattle.cmwq_sim.proofs.Lists.{any_counted, last_any, one_fewer, taken_out, others_there, not-true, filter_all, count_append}
 
 abbrev pub awake_with : Moment → ℕ → ℕ → List ℕ → Moment
 awake_with m i burn left = record m { cpu = m.cpu ++ record { item = i; burn = burn; left = left } ∷ []; sleeping = filter (λ k. not (is_sleeper i k)) m.sleeping }
@@ -54,7 +49,7 @@ wake_shown s past m slot i burn left h on = record {
     woke = wake_answered s past (slot i) i run_at
 
     quiet : IsQuiet (answer (layout_for s) past (Worker (plan_worker (slot i))) call.Wake)
-    quiet = subst IsQuiet (sym woke) wakes
+    quiet = subst IsQuiet (sym woke) (record { ends = record { finishes = refl; cancels = refl; replaces = refl }; opens = refl; widths = refl; stays = refl })
 
     legal : IsLegal (layout_for s) (e ∷ past)
     legal = (ap (λ b. (b && true) && true) (lt-ltb (slot i) 8 (runner_there (layout_for s) past (plan_worker (slot i)) i h.legal run_at.runs)), refl, h.legal)
