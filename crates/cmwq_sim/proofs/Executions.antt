@@ -9,7 +9,7 @@ use Rattle.cmwq_sim.specs.declared.execution.Asleep.{Asleep}
 use Rattle.cmwq_sim.specs.declared.execution.Execution.{Execution}
 use Rattle.cmwq_sim.specs.Plan.{Plan, ms_of, plan_queue, is_of_plan_queue, event_of, no_item}
 use Rattle.cmwq_sim.specs.Limits.{IsItem, IsWithinLimits}
-use Rattle.cmwq_sim.specs.Lines.{Moment, Job, Sleeper, job_with, job_of, wake_sleepers, millisecond, burn, burn_first, queue_item, queued_at_first, empty, starting_items, start, tell_starts, make_ready, tell, after_burn, serve, is_due, is_other_sleeper, after_sleep, wake_sleeper, wake_item}
+use Rattle.cmwq_sim.specs.Lines.{Moment, Job, Sleeper, job_with, job_of, wake_sleepers, millisecond, burn, burn_first, queue_item, queued_at_first, empty, starting_items, start, tell_starts, make_ready, tell, serve, is_due, is_other_sleeper, wake_sleeper, wake_item}
 use Rattle.cmwq_sim.specs.Shows.{layout_for, plan_worker, Shows, moment_of, queueing_for, IsRunAt, is_job, is_sleeper, runs_in}
 use Rattle.cmwq_sim.specs.Rooms.{IsRoomy, parts_left}
 use Rattle.cmwq_sim.specs.Standing.{job_seen, sleeper_seen, moment_in, slot_in, Stands, StandsAt, started_one, starts_lines, LessFirst}
@@ -26,6 +26,11 @@ use Rattle.cmwq_sim.proofs.Queued.{ShowsQueued, queue_call, caller, queue_shown,
 use Rattle.cmwq_sim.proofs.RoomKept.{queue_roomy, has_room_then, sleep_roomy, end_roomy, start_roomy, wake_roomy, wake_burns_roomy, wake_ends_roomy}
 use Rattle.cmwq_sim.proofs.Roomy.{needs_nothing_at_first}
 use Rattle.cmwq_sim.proofs.Determined.{determined}
+use Rattle.cmwq_sim.proofs.Steps.{then_calls, served_as, woken_as}
+
+-- the worker that runs the item
+abbrev pub seat : Execution → ℕ → Who
+seat r i = Worker (plan_worker (slot_in r.slots i))
 
 -- the lists of a moment
 pub record Lists (s : Plan) (r : Execution) (m : Moment) : Type 0 where
@@ -86,43 +91,43 @@ module _ (s : Plan) (t : ℕ) (r : Execution) (job : Running) (js : List Running
   first : (moment_in s r).cpu ≡ job_seen s job ∷ map (job_seen s) js
   first = ap (map (job_seen s)) is
 
-  became : (left : List ℕ) → drop job.next (ms_of s job.item) ≡ left → serve s t (moment_in s r) ≡ after_burn s t (record (moment_in s r) { cpu = map (job_seen s) js }) job.item left
-  became left parts = serve_is s t (moment_in s r) (job_seen s job) (map (job_seen s) js) first (eq-eqb job.burn 0 done) ∙ ap (after_burn s t (record (moment_in s r) { cpu = map (job_seen s) js }) job.item) parts
+  became : (left : List ℕ) → drop job.next (ms_of s job.item) ≡ left → serve s t (moment_in s r) ≡ served_as s t (moment_in s r) (map (job_seen s) js) job.item left
+  became left parts = serve_is s t (moment_in s r) (job_seen s job) (map (job_seen s) js) first (eq-eqb job.burn 0 done) ∙ ap (served_as s t (moment_in s r) (map (job_seen s) js) job.item) parts
 
-  sleeps_roomy : (pause : ℕ) (left : List ℕ) → drop job.next (ms_of s job.item) ≡ pause ∷ left → IsRoomy s (entry_for (layout_for s) (past_in r.book) (Worker (plan_worker (slot_in r.slots job.item))) call.Sleep ∷ past_in r.book) (after_burn s t (record (moment_in s r) { cpu = map (job_seen s) js }) job.item (pause ∷ left))
+  sleeps_roomy : (pause : ℕ) (left : List ℕ) → drop job.next (ms_of s job.item) ≡ pause ∷ left → IsRoomy s (then_calls s (past_in r.book) (slot_in r.slots job.item) call.Sleep) (served_as s t (moment_in s r) (map (job_seen s) js) job.item (pause ∷ left))
   sleeps_roomy pause left parts = sleep_roomy s t (past_in r.book) (moment_in s r) (slot_in r.slots) (job_seen s job) (map (job_seen s) js) pause left h.shows h.roomy first parts
 
-  ends_roomy : IsRoomy s (entry_for (layout_for s) (past_in r.book) (Worker (plan_worker (slot_in r.slots job.item))) call.Finish ∷ past_in r.book) (after_burn s t (record (moment_in s r) { cpu = map (job_seen s) js }) job.item [])
+  ends_roomy : IsRoomy s (then_calls s (past_in r.book) (slot_in r.slots job.item) call.Finish) (served_as s t (moment_in s r) (map (job_seen s) js) job.item [])
   ends_roomy = end_roomy s t (past_in r.book) (moment_in s r) (slot_in r.slots) (job_seen s job) (map (job_seen s) js) h.shows h.roomy first
 
   pub sleeps : (r2 : Execution) (pause : ℕ) → drop job.next (ms_of s job.item) ≡ pause ∷ drop (job.next + 1) (ms_of s job.item)
-      → r2.book ≡ with_entry r.book (next_entry r.book (Worker (plan_worker (slot_in r.slots job.item))) call.Sleep) → r2.slots ≡ r.slots → r2.cpu.items ≡ js
+      → r2.book ≡ with_entry r.book (next_entry r.book (seat r job.item) call.Sleep) → r2.slots ≡ r.slots → r2.cpu.items ≡ js
       → r2.sleeping.items ≡ r.sleeping.items ++ record { item = job.item; until = t + pause; next = job.next + 1 } ∷ []
       → map event_of r2.lines.items ≡ map event_of r.lines.items ++ record { at = t; kind = kind.Sleeps; items = job.item ∷ [] } ∷ [] → StandsAt s r2 (serve s t (moment_in s r))
   sleeps r2 pause parts book slots cpu sleeping lines =
       let left = drop (job.next + 1) (ms_of s job.item) in
       subst (StandsAt s r2) (sym (became (pause ∷ left) parts))
-      (calls_on s r r2 (Worker (plan_worker (slot_in r.slots job.item))) call.Sleep (after_burn s t (record (moment_in s r) { cpu = map (job_seen s) js }) job.item (pause ∷ left)) h book slots
+      (calls_on s r r2 (seat r job.item) call.Sleep (served_as s t (moment_in s r) (map (job_seen s) js) job.item (pause ∷ left)) h book slots
       (serve_sleeps s t (past_in r.book) (moment_in s r) (slot_in r.slots) (job_seen s job) (map (job_seen s) js) pause left h.shows first) (sleeps_roomy pause left parts) (record {
         cpu = ap (map (job_seen s)) cpu;
         sleeping = ap (map (sleeper_seen s)) sleeping ∙ map-append (sleeper_seen s) r.sleeping.items (record { item = job.item; until = t + pause; next = job.next + 1 } ∷ []);
         lines = lines;
       }))
 
-  pub ends : (r2 : Execution) → drop job.next (ms_of s job.item) ≡ [] → r2.book ≡ with_entry r.book (next_entry r.book (Worker (plan_worker (slot_in r.slots job.item))) call.Finish) → r2.slots ≡ r.slots → r2.cpu.items ≡ js
+  pub ends : (r2 : Execution) → drop job.next (ms_of s job.item) ≡ [] → r2.book ≡ with_entry r.book (next_entry r.book (seat r job.item) call.Finish) → r2.slots ≡ r.slots → r2.cpu.items ≡ js
       → r2.sleeping.items ≡ r.sleeping.items → map event_of r2.lines.items ≡ map event_of r.lines.items ++ record { at = t; kind = kind.Ends; items = job.item ∷ [] } ∷ [] → StandsAt s r2 (serve s t (moment_in s r))
   ends r2 parts book slots cpu sleeping lines =
       subst (StandsAt s r2) (sym (became [] parts))
-      (calls_on s r r2 (Worker (plan_worker (slot_in r.slots job.item))) call.Finish (after_burn s t (record (moment_in s r) { cpu = map (job_seen s) js }) job.item []) h book slots
+      (calls_on s r r2 (seat r job.item) call.Finish (served_as s t (moment_in s r) (map (job_seen s) js) job.item []) h book slots
       (serve_ends s t (past_in r.book) (moment_in s r) (slot_in r.slots) (job_seen s job) (map (job_seen s) js) h.shows first) ends_roomy
       (ready_keeps s r2 (tell t kind.Ends (job.item ∷ []) (record (moment_in s r) { cpu = map (job_seen s) js })) (find (is_of_plan_queue s (plan_queue s job.item)) (moment_in s r).behind)
       (record { cpu = ap (map (job_seen s)) cpu; sleeping = ap (map (sleeper_seen s)) sleeping; lines = lines })))
 
-  pub has_room_to_sleep : (pause : ℕ) (left : List ℕ) → drop job.next (ms_of s job.item) ≡ pause ∷ left → takes r.book (Worker (plan_worker (slot_in r.slots job.item))) call.Sleep ≡ true
-  has_room_to_sleep pause left parts = room_for s r.book (Worker (plan_worker (slot_in r.slots job.item))) call.Sleep (after_burn s t (record (moment_in s r) { cpu = map (job_seen s) js }) job.item (pause ∷ left)) h.layout h.room refl (sleeps_roomy pause left parts)
+  pub has_room_to_sleep : (pause : ℕ) (left : List ℕ) → drop job.next (ms_of s job.item) ≡ pause ∷ left → takes r.book (seat r job.item) call.Sleep ≡ true
+  has_room_to_sleep pause left parts = room_for s r.book (seat r job.item) call.Sleep (served_as s t (moment_in s r) (map (job_seen s) js) job.item (pause ∷ left)) h.layout h.room refl (sleeps_roomy pause left parts)
 
-  pub has_room_to_end : takes r.book (Worker (plan_worker (slot_in r.slots job.item))) call.Finish ≡ true
-  has_room_to_end = room_for s r.book (Worker (plan_worker (slot_in r.slots job.item))) call.Finish (after_burn s t (record (moment_in s r) { cpu = map (job_seen s) js }) job.item []) h.layout h.room refl ends_roomy
+  pub has_room_to_end : takes r.book (seat r job.item) call.Finish ≡ true
+  has_room_to_end = room_for s r.book (seat r job.item) call.Finish (served_as s t (moment_in s r) (map (job_seen s) js) job.item []) h.layout h.room refl ends_roomy
 
 -- ---- who runs has a number below 8
 
@@ -178,49 +183,49 @@ module _ (s : Plan) (t i : ℕ) (r : Execution) (x : Asleep) (o : Option Asleep)
   parts_of : (left : List ℕ) → drop x.next (ms_of s i) ≡ left → (sleeper_seen s x).left ≡ left
   parts_of left parts = ap (λ k. drop x.next (ms_of s k)) its ∙ parts
 
-  woken_is : (left : List ℕ) → drop x.next (ms_of s i) ≡ left → wake_item s t (moment_in s r) i ≡ after_sleep s t (record (moment_in s r) { sleeping = filter (is_other_sleeper i) (moment_in s r).sleeping }) i left
+  woken_is : (left : List ℕ) → drop x.next (ms_of s i) ≡ left → wake_item s t (moment_in s r) i ≡ woken_as s t (moment_in s r) i left
   woken_is left parts = ap (wake_sleeper s t (moment_in s r)) due
-      ∙ ap₂ (λ k ms. after_sleep s t (record (moment_in s r) { sleeping = filter (is_other_sleeper k) (moment_in s r).sleeping }) k ms) its (parts_of left parts)
+      ∙ ap₂ (λ k ms. woken_as s t (moment_in s r) k ms) its (parts_of left parts)
 
   pub wakes : (r2 : Execution) (b : ℕ) → drop x.next (ms_of s i) ≡ b ∷ drop (x.next + 1) (ms_of s i)
-      → r2.book ≡ with_entry r.book (next_entry r.book (Worker (plan_worker (slot_in r.slots i))) call.Wake) → r2.slots ≡ r.slots → r2.cpu.items ≡ r.cpu.items ++ record { item = i; burn = b; next = x.next + 1 } ∷ []
+      → r2.book ≡ with_entry r.book (next_entry r.book (seat r i) call.Wake) → r2.slots ≡ r.slots → r2.cpu.items ≡ r.cpu.items ++ record { item = i; burn = b; next = x.next + 1 } ∷ []
       → r2.sleeping.items ≡ filter (λ (y : Asleep). not (y.item == i)) r.sleeping.items
       → map event_of r2.lines.items ≡ map event_of r.lines.items ++ record { at = t; kind = kind.WakesBurns; items = i ∷ [] } ∷ [] → StandsAt s r2 (wake_item s t (moment_in s r) i)
   wakes r2 b parts book slots cpu sleeping lines =
       let left = drop (x.next + 1) (ms_of s i) in
       subst (StandsAt s r2) (sym (woken_is (b ∷ left) parts))
-      (calls_on s r r2 (Worker (plan_worker (slot_in r.slots i))) call.Wake (after_sleep s t (record (moment_in s r) { sleeping = filter (is_other_sleeper i) (moment_in s r).sleeping }) i (b ∷ left)) h book slots
+      (calls_on s r r2 (seat r i) call.Wake (woken_as s t (moment_in s r) i (b ∷ left)) h book slots
       (wake_burns s t i (past_in r.book) (moment_in s r) (slot_in r.slots) h.shows asleep b left) (wake_burns_roomy s t i (past_in r.book) (moment_in s r) (slot_in r.slots) (sleeper_seen s x) h.shows h.roomy due b left (parts_of (b ∷ left) parts)) (record {
         cpu = ap (map (job_seen s)) cpu ∙ map-append (job_seen s) r.cpu.items (record { item = i; burn = b; next = x.next + 1 } ∷ []);
         sleeping = ap (map (sleeper_seen s)) sleeping ∙ seen_others s i r.sleeping.items;
         lines = lines;
       }))
 
-  pub has_room_to_wake : takes r.book (Worker (plan_worker (slot_in r.slots i))) call.Wake ≡ true
-  has_room_to_wake = room_for s r.book (Worker (plan_worker (slot_in r.slots i))) call.Wake (moment_in s r) h.layout h.room refl (wake_roomy s t i (past_in r.book) (moment_in s r) (slot_in r.slots) (sleeper_seen s x) h.shows h.roomy due)
+  pub has_room_to_wake : takes r.book (seat r i) call.Wake ≡ true
+  has_room_to_wake = room_for s r.book (seat r i) call.Wake (moment_in s r) h.layout h.room refl (wake_roomy s t i (past_in r.book) (moment_in s r) (slot_in r.slots) (sleeper_seen s x) h.shows h.roomy due)
 
   -- awake, and then at its end
-  module _ (b : History) (book : b ≡ with_entry r.book (next_entry r.book (Worker (plan_worker (slot_in r.slots i))) call.Wake)) (parts : drop x.next (ms_of s i) ≡ []) where
+  module _ (b : History) (book : b ≡ with_entry r.book (next_entry r.book (seat r i) call.Wake)) (parts : drop x.next (ms_of s i) ≡ []) where
     awake_layout : b.layout ≡ layout_for s
     awake_layout = ap (λ (k : History). k.layout) book ∙ h.layout
 
-    awake_past : past_in b ≡ entry_for (layout_for s) (past_in r.book) (Worker (plan_worker (slot_in r.slots i))) call.Wake ∷ past_in r.book
-    awake_past = past_after s r.book b (Worker (plan_worker (slot_in r.slots i))) call.Wake h.layout book
+    awake_past : past_in b ≡ then_calls s (past_in r.book) (slot_in r.slots i) call.Wake
+    awake_past = past_after s r.book b (seat r i) call.Wake h.layout book
 
-    ended_roomy : IsRoomy s (entry_for (layout_for s) (past_in b) (Worker (plan_worker (slot_in r.slots i))) call.Finish ∷ past_in b) (after_sleep s t (record (moment_in s r) { sleeping = filter (is_other_sleeper i) (moment_in s r).sleeping }) i [])
+    ended_roomy : IsRoomy s (then_calls s (past_in b) (slot_in r.slots i) call.Finish) (woken_as s t (moment_in s r) i [])
     ended_roomy = rw awake_past (wake_ends_roomy s t i (past_in r.book) (moment_in s r) (slot_in r.slots) (sleeper_seen s x) h.shows h.roomy due (parts_of [] parts))
 
-    pub has_room_to_finish : takes b (Worker (plan_worker (slot_in r.slots i))) call.Finish ≡ true
-    has_room_to_finish = room_for s b (Worker (plan_worker (slot_in r.slots i))) call.Finish (after_sleep s t (record (moment_in s r) { sleeping = filter (is_other_sleeper i) (moment_in s r).sleeping }) i []) awake_layout (ap (λ (k : History). k.room) book ∙ h.room) refl ended_roomy
+    pub has_room_to_finish : takes b (seat r i) call.Finish ≡ true
+    has_room_to_finish = room_for s b (seat r i) call.Finish (woken_as s t (moment_in s r) i []) awake_layout (ap (λ (k : History). k.room) book ∙ h.room) refl ended_roomy
 
-    pub wakes_to_end : (r2 : Execution) → r2.book ≡ with_entry b (next_entry b (Worker (plan_worker (slot_in r.slots i))) call.Finish) → r2.slots ≡ r.slots → r2.cpu.items ≡ r.cpu.items
+    pub wakes_to_end : (r2 : Execution) → r2.book ≡ with_entry b (next_entry b (seat r i) call.Finish) → r2.slots ≡ r.slots → r2.cpu.items ≡ r.cpu.items
         → r2.sleeping.items ≡ filter (λ (y : Asleep). not (y.item == i)) r.sleeping.items
         → map event_of r2.lines.items ≡ map event_of r.lines.items ++ record { at = t; kind = kind.WakesEnds; items = i ∷ [] } ∷ [] → StandsAt s r2 (wake_item s t (moment_in s r) i)
     wakes_to_end r2 book2 slots cpu sleeping lines =
         subst (StandsAt s r2) (sym (woken_is [] parts))
-        (goes_on s r r2 _ (after_sleep s t (record (moment_in s r) { sleeping = filter (is_other_sleeper i) (moment_in s r).sleeping }) i []) h
+        (goes_on s r r2 _ (woken_as s t (moment_in s r) i []) h
         (ap (λ (k : History). k.layout) book2 ∙ ap (λ (k : History). k.layout) book) (ap (λ (k : History). k.room) book2 ∙ ap (λ (k : History). k.room) book)
-        (past_after s b r2.book (Worker (plan_worker (slot_in r.slots i))) call.Finish awake_layout book2) slots (rw awake_past (wake_ends s t i (past_in r.book) (moment_in s r) (slot_in r.slots) h.shows asleep)) ended_roomy
+        (past_after s b r2.book (seat r i) call.Finish awake_layout book2) slots (rw awake_past (wake_ends s t i (past_in r.book) (moment_in s r) (slot_in r.slots) h.shows asleep)) ended_roomy
         (ready_keeps s r2 (tell t kind.WakesEnds (i ∷ []) (record (moment_in s r) { sleeping = filter (is_other_sleeper i) (moment_in s r).sleeping })) (find (is_of_plan_queue s (plan_queue s i)) (moment_in s r).behind)
         (record { cpu = ap (map (job_seen s)) cpu; sleeping = ap (map (sleeper_seen s)) sleeping ∙ seen_others s i r.sleeping.items; lines = lines })))
 
@@ -245,7 +250,7 @@ module _ (s : Plan) (r : Execution) (x n : ℕ) (h : Stands s r) (t : IsTaker r.
   taker_is : IsTaker (layout_for s) (past_in r.book) x n
   taker_is = subst (λ l. IsTaker l (past_in r.book) x n) h.layout t
 
-  start_shown : Shows s (entry_for (layout_for s) (past_in r.book) (Worker (plan_worker x)) call.Take ∷ past_in r.book) (started_one s (moment_in s r) n) (slot_with (slot_in r.slots) n x)
+  start_shown : Shows s (then_calls s (past_in r.book) x call.Take) (started_one s (moment_in s r) n) (slot_with (slot_in r.slots) n x)
   start_shown =
       let k = taker_starts s (past_in r.book) (moment_in s r) (slot_in r.slots) x n h.shows taker_is in
       let may = may_start s (moment_in s r) n k.1 in
@@ -254,14 +259,14 @@ module _ (s : Plan) (r : Execution) (x n : ℕ) (h : Stands s r) (t : IsTaker r.
   pub starts_there : n < length s.items
   starts_there =
       let k = start_shown in
-      let run = run_of (λ (j : Job). j.item) (entry_for (layout_for s) (past_in r.book) (Worker (plan_worker x)) call.Take ∷ past_in r.book) (slot_with (slot_in r.slots) n x) false n ((moment_in s r).cpu ++ job_of s n ∷ []) k.cpu
+      let run = run_of (λ (j : Job). j.item) (then_calls s (past_in r.book) x call.Take) (slot_with (slot_in r.slots) n x) false n ((moment_in s r).cpu ++ job_of s n ∷ []) k.cpu
       (last_any (is_job n) (moment_in s r).cpu (job_of s n) ∙ or_right (list_any (is_job n) (moment_in s r).cpu) (is_job n (job_of s n)) (eq-eqb (job_of s n).item n (job_item n (ms_of s n)))) in
-      runs_there s (entry_for (layout_for s) (past_in r.book) (Worker (plan_worker x)) call.Take ∷ past_in r.book) (started_one s (moment_in s r) n) (slot_with (slot_in r.slots) n x) (plan_worker (slot_with (slot_in r.slots) n x n)) n k run.runs
+      runs_there s (then_calls s (past_in r.book) x call.Take) (started_one s (moment_in s r) n) (slot_with (slot_in r.slots) n x) (plan_worker (slot_with (slot_in r.slots) n x n)) n k run.runs
 
   pub starts_below : n < 8
   starts_below = let a = starts_there in let b = h.limits.few_items in omega arith
 
-  one_roomy : IsRoomy s (entry_for (layout_for s) (past_in r.book) (Worker (plan_worker x)) call.Take ∷ past_in r.book) (started_one s (moment_in s r) n)
+  one_roomy : IsRoomy s (then_calls s (past_in r.book) x call.Take) (started_one s (moment_in s r) n)
   one_roomy = start_roomy s (past_in r.book) (moment_in s r) (slot_in r.slots) x n h.shows h.roomy taker_is
 
   pub has_room_to_take : takes r.book (Worker (plan_worker x)) call.Take ≡ true
@@ -283,7 +288,7 @@ module _ (s : Plan) (r : Execution) (x n : ℕ) (h : Stands s r) (t : IsTaker r.
       let eight = h.slots in
       stands_at s r2 (started_one s (moment_in s r) n) h.limits (ap (λ (k : History). k.layout) book ∙ h.layout) (ap (λ (k : History). k.room) book ∙ h.room)
       (subst (λ ps. Shows s ps (started_one s (moment_in s r) n) (slot_in r2.slots)) (sym past)
-      (other_slots s (entry_for (layout_for s) (past_in r.book) (Worker (plan_worker x)) call.Take ∷ past_in r.book) (started_one s (moment_in s r) n) (slot_with (slot_in r.slots) n x) (slot_in r2.slots)
+      (other_slots s (then_calls s (past_in r.book) x call.Take) (started_one s (moment_in s r) n) (slot_with (slot_in r.slots) n x) (slot_in r2.slots)
       (λ i. slots_set r.slots n x (omega arith) i ∙ ap (λ ss. slot_in ss i) (sym slots)) start_shown))
       (subst (λ ps. IsRoomy s ps (started_one s (moment_in s r) n)) (sym past) one_roomy)
       (ap length slots ∙ length-set r.slots n x ∙ h.slots) (subst (AllByRecursion (λ k. k < 8)) (sym slots) (seated_set r.slots n x t.below h.seated))
@@ -367,7 +372,7 @@ none_yet s b is = subst (λ x. QueuedSoFar s x 0) (sym is) (record {
 })
 
 pub queued_shown : (s : Plan) (b : History) → IsWithinLimits s → QueuedSoFar s b (length s.items) → (slot : ℕ → ℕ) → Shows s (past_in b) (queued_at_first s) slot
-queued_shown s b limits h slot = all_shown s (past_in b) (queued_at_first s) slot limits.few_items h.shows
+queued_shown s b limits h slot = let none = queue_keeps s empty (range_with_len 0 (length s.items)) in all_shown s (past_in b) (queued_at_first s) slot limits.few_items none.0 none.1 h.shows
 
 -- one line for all that start is told at the end
 told : (t : ℕ) (m : Moment) (is : List ℕ) → record m { lines = m.lines ++ starts_lines t is } ≡ tell_starts t is m

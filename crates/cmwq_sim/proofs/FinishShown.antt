@@ -8,7 +8,7 @@ use Rattle.cmwq_sim.specs.Lines.{Moment, Job, is_other_item}
 use Rattle.cmwq_sim.specs.Shows.{layout_for, queue_shape, pool, plan_worker, queueing_for, IsRunAt, is_job, is_sleeper, runs_in, Shows}
 use Rattle.cmwq_sim.proofs.Lists.{any_counted, found_there, fewer_kept, one_fewer, filter_mapped, all_mapped_pass, taken_out, others_there, both_ways, not-true, none-some, filter_shorter, count_append}
 use Rattle.cmwq_sim.proofs.TakeReads.{finish_answered, run_of}
-use Rattle.cmwq_sim.proofs.Steps.{other_slot, goes_by}
+use Rattle.cmwq_sim.proofs.Steps.{other_slot, goes_by, then_calls}
 use Rattle.cmwq_sim.proofs.Finish.{finish_makes_ready}
 use Rattle.cmwq_theory_steps.proofs.Promoted.{turn_filters}
 
@@ -102,7 +102,7 @@ abbrev pub ended_with : Moment → ℕ → Option ℕ → Moment
 ended_with m i o = record m { ready = m.ready ++ option_to_list o; behind = filter (is_kept o) m.behind; cpu = filter (λ k. not (is_job i k)) m.cpu }
 
 pub finish_shown : (s : Plan) (past : List Entry) (m : Moment) (slot : ℕ → ℕ) (i : ℕ) (o : Option ℕ) → Shows s past m slot → list_any (is_job i) m.cpu ≡ true → find (is_of_plan_queue s (plan_queue s i)) m.behind ≡ o
-    → Shows s (entry_for (layout_for s) past (Worker (plan_worker (slot i))) call.Finish ∷ past) (ended_with m i o) slot
+    → Shows s (then_calls s past (slot i) call.Finish) (ended_with m i o) slot
 unfolding IsLegal queueings
 finish_shown s past m slot i o h on first = record {
   legal = legal;

@@ -11,8 +11,6 @@ use Rattle.cmwq_sim.proofs.Progress.{all_at, time_at, job_rest, sleeper_rest, we
 pub record Queues (s : Plan) (m : Moment) : Type 0 where
   pub ready : AllByRecursion (λ i. i < length s.items) m.ready
   pub behind : AllByRecursion (λ i. i < length s.items) m.behind
-  pub cpu : m.cpu ≡ []
-  pub sleeping : m.sleeping ≡ []
   pub held : (q : ℕ) → list_any (is_of_plan_queue s q) m.behind ≡ true → list_any (is_of_plan_queue s q) m.ready ≡ true
 
 some_width : (s : Plan) (i : ℕ) → IsWithinLimits s → i < length s.items → 1 ≤ plan_width s (plan_queue s i)
@@ -26,15 +24,11 @@ queues s m i fine less h = at (nat_lt (count_by (is_of_plan_queue s (plan_queue 
     at true room = record {
       ready = All_push (λ k. k < length s.items) m.ready i h.ready less;
       behind = h.behind;
-      cpu = h.cpu;
-      sleeping = h.sleeping;
       held = λ q some. list_any-append (is_of_plan_queue s q) m.ready (i ∷ []) ∙ ap (λ b. b || list_any (is_of_plan_queue s q) (i ∷ [])) (h.held q some);
     }
     at false full = record {
       ready = h.ready;
       behind = All_push (λ k. k < length s.items) m.behind i h.behind less;
-      cpu = h.cpu;
-      sleeping = h.sleeping;
       held = λ q some.
           let many = counted_any (is_of_plan_queue s (plan_queue s i)) (m.ready ++ m.behind) (grind (arith, nat_tests, full, some_width s i fine less)) in
           let own = λ (is : is_of_plan_queue s q i ≡ true). subst (λ k. list_any (is_of_plan_queue s k) (m.ready ++ m.behind) ≡ true) (eqb-true (plan_queue s i) q is) many in
@@ -73,18 +67,16 @@ whole_at_outset s = all_weigh s (length s.items) 0 empty (time_at s) job_rest (s
 
 pub begins : (s : Plan) → IsWithinLimits s → Begins s 0 (queued_at_first s)
 begins s fine =
-    let k = all_queue s (length s.items) 0 empty fine (omega arith) (record { ready = tt; behind = tt; cpu = refl; sleeping = refl; held = λ q some. some }) in
-    from (queued_at_first s) k
-  where
-    from : (m : Moment) → Queues s m → Begins s 0 m
-    from m k = record {
+    let k = all_queue s (length s.items) 0 empty fine (omega arith) (record { ready = tt; behind = tt; held = λ q some. some }) in
+    let none = queue_keeps s empty (range_with_len 0 (length s.items)) in
+    record {
       sound = record {
         ready = k.ready;
         behind = k.behind;
-        sleeping = subst (AllByRecursion (IsSleeper s 0)) (sym k.sleeping) tt;
-        held = λ q some. ap (λ b. (b || list_any (of_job s q) m.cpu) || list_any (of_sleeper s q) m.sleeping) (k.held q some);
+        sleeping = subst (AllByRecursion (IsSleeper s 0)) (sym none.1) tt;
+        held = λ q some. ap (λ b. (b || list_any (of_job s q) (queued_at_first s).cpu) || list_any (of_sleeper s q) (queued_at_first s).sleeping) (k.held q some);
       };
-      first = subst (FirstMayBeDone s) (sym k.cpu) tt;
+      first = subst (FirstMayBeDone s) (sym none.0) tt;
     }
 
 pub all_items_end : AllItemsEnd

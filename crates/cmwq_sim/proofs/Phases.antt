@@ -3,10 +3,10 @@ use Rattle.cmwq_sim.specs.Common.{◌≡◌, ◌==◌, ◌+◌, ℕ, true, false
 use Rattle.cmwq_model.specs.declared.call.Call.TheVariants as call
 use Rattle.cmwq_sim.specs.declared.scenario.LineKind.TheVariants as kind
 use Rattle.cmwq_sim.specs.Plan.{Plan, Event, plan_queue, is_of_plan_queue}
-use Rattle.cmwq_sim.specs.Lines.{Moment, Job, Sleeper, make_ready, after_burn, after_sleep, serve_first, serve, is_due, is_other_sleeper, wake_sleeper, wake_item, is_job_held, job_of, starting_items, tell_starts, start_these, start}
+use Rattle.cmwq_sim.specs.Lines.{Moment, Job, Sleeper, make_ready, serve_first, serve, is_due, wake_sleeper, wake_item, is_job_held, job_of, starting_items, tell_starts, start_these, start}
 use Rattle.cmwq_sim.specs.Shows.{layout_for, plan_worker, is_job, is_sleeper, Shows, to_start}
 use Rattle.cmwq_sim.specs.Takers.{IsTaker, NoTaker}
-use Rattle.cmwq_sim.proofs.Steps.{alone, asleep_with, sleep_shown}
+use Rattle.cmwq_sim.proofs.Steps.{alone, asleep_with, sleep_shown, then_calls, served_as, woken_as}
 use Rattle.cmwq_sim.proofs.TakeShown.{started_with}
 use Rattle.cmwq_sim.proofs.FinishShown.{is_kept, ended_with, finish_shown}
 use Rattle.cmwq_sim.proofs.WakeShown.{awake_with, wake_shown}
@@ -27,7 +27,7 @@ ready_made s past m slot js ls None h =
 ready_made s past m slot js ls (Some z) h = h
 
 pub end_shown : (s : Plan) (past : List Entry) (m : Moment) (slot : ℕ → ℕ) (i : ℕ) (js : List Job) (ls : List Event) → Shows s past m slot → list_any (is_job i) m.cpu ≡ true → filter (λ k. not (is_job i k)) m.cpu ≡ js
-    → Shows s (entry_for (layout_for s) past (Worker (plan_worker (slot i))) call.Finish ∷ past) (make_ready (record m { cpu = js; lines = ls }) (find (is_of_plan_queue s (plan_queue s i)) m.behind)) slot
+    → Shows s (then_calls s past (slot i) call.Finish) (make_ready (record m { cpu = js; lines = ls }) (find (is_of_plan_queue s (plan_queue s i)) m.behind)) slot
 end_shown s past m slot i js ls h on left =
     ready_made s (e ∷ past) m slot js ls o
     (subst (λ xs. Shows s (e ∷ past) (record m { ready = m.ready ++ option_to_list o; behind = filter (is_kept o) m.behind; cpu = xs; lines = ls }) slot) left
@@ -41,16 +41,16 @@ end_shown s past m slot i js ls h on left =
 
 -- ---- (1) the first of the CPU's list sleeps or ends
 
-pub serve_is : (s : Plan) (t : ℕ) (m : Moment) (j : Job) (js : List Job) → m.cpu ≡ j ∷ js → (j.burn == 0) ≡ true → serve s t m ≡ after_burn s t (record m { cpu = js }) j.item j.left
-serve_is s t m j js is done = ap (serve_first s t m) is ∙ ap (λ b. if b then after_burn s t (record m { cpu = js }) j.item j.left else m) done
+pub serve_is : (s : Plan) (t : ℕ) (m : Moment) (j : Job) (js : List Job) → m.cpu ≡ j ∷ js → (j.burn == 0) ≡ true → serve s t m ≡ served_as s t m js j.item j.left
+serve_is s t m j js is done = ap (serve_first s t m) is ∙ ap (λ b. if b then served_as s t m js j.item j.left else m) done
 
 pub serve_sleeps : (s : Plan) (t : ℕ) (past : List Entry) (m : Moment) (slot : ℕ → ℕ) (j : Job) (js : List Job) (pause : ℕ) (left : List ℕ) → Shows s past m slot → m.cpu ≡ j ∷ js
-    → Shows s (entry_for (layout_for s) past (Worker (plan_worker (slot j.item))) call.Sleep ∷ past) (after_burn s t (record m { cpu = js }) j.item (pause ∷ left)) slot
+    → Shows s (then_calls s past (slot j.item) call.Sleep) (served_as s t m js j.item (pause ∷ left)) slot
 serve_sleeps s t past m slot j js pause left h is =
-    other_lines s (entry_for (layout_for s) past (Worker (plan_worker (slot j.item))) call.Sleep ∷ past) (asleep_with m j js (t + pause) left) slot (m.lines ++ record { at = t; kind = kind.Sleeps; items = j.item ∷ [] } ∷ []) (sleep_shown s past m slot j js (t + pause) left h is)
+    other_lines s (then_calls s past (slot j.item) call.Sleep) (asleep_with m j js (t + pause) left) slot (m.lines ++ record { at = t; kind = kind.Sleeps; items = j.item ∷ [] } ∷ []) (sleep_shown s past m slot j js (t + pause) left h is)
 
 pub serve_ends : (s : Plan) (t : ℕ) (past : List Entry) (m : Moment) (slot : ℕ → ℕ) (j : Job) (js : List Job) → Shows s past m slot → m.cpu ≡ j ∷ js
-    → Shows s (entry_for (layout_for s) past (Worker (plan_worker (slot j.item))) call.Finish ∷ past) (after_burn s t (record m { cpu = js }) j.item []) slot
+    → Shows s (then_calls s past (slot j.item) call.Finish) (served_as s t m js j.item []) slot
 serve_ends s t past m slot j js h is =
     end_shown s past m slot j.item js (m.lines ++ record { at = t; kind = kind.Ends; items = j.item ∷ [] } ∷ []) h
     (ap (list_any (is_job j.item)) is ∙ ap (λ b. b || list_any (is_job j.item) js) (eq-eqb j.item j.item refl))
@@ -69,9 +69,9 @@ pub wake_nobody : (s : Plan) (t i : ℕ) (m : Moment) → find (is_due t i) m.sl
 wake_nobody s t i m none = ap (wake_sleeper s t m) none
 
 module _ (s : Plan) (t i : ℕ) (past : List Entry) (m : Moment) (slot : ℕ → ℕ) (h : Shows s past m slot) (asleep : list_any (is_sleeper i) m.sleeping ≡ true) where
-  pub wake_burns : (b : ℕ) (left : List ℕ) → Shows s (entry_for (layout_for s) past (Worker (plan_worker (slot i))) call.Wake ∷ past) (after_sleep s t (record m { sleeping = filter (is_other_sleeper i) m.sleeping }) i (b ∷ left)) slot
+  pub wake_burns : (b : ℕ) (left : List ℕ) → Shows s (then_calls s past (slot i) call.Wake) (woken_as s t m i (b ∷ left)) slot
   wake_burns b left =
-      other_lines s (entry_for (layout_for s) past (Worker (plan_worker (slot i))) call.Wake ∷ past) (awake_with m i b left) slot (m.lines ++ record { at = t; kind = kind.WakesBurns; items = i ∷ [] } ∷ []) (wake_shown s past m slot i b left h asleep)
+      other_lines s (then_calls s past (slot i) call.Wake) (awake_with m i b left) slot (m.lines ++ record { at = t; kind = kind.WakesBurns; items = i ∷ [] } ∷ []) (wake_shown s past m slot i b left h asleep)
 
   pub joined : list_any (is_job i) (m.cpu ++ record { item = i; burn = 0; left = [] } ∷ []) ≡ true
   joined = last_any (is_job i) m.cpu (record { item = i; burn = 0; left = [] }) ∙ or_right (list_any (is_job i) m.cpu) (i == i) (eq-eqb i i refl)
@@ -83,9 +83,9 @@ module _ (s : Plan) (t i : ℕ) (past : List Entry) (m : Moment) (slot : ℕ →
       ∙ ap₂ (λ ys b. ys ++ cond (not b) (record { item = i; burn = 0; left = [] } ∷ []) []) (filter_all (λ k. not (is_job i k)) m.cpu (All_map (λ k. is_job i k ≡ false) _ m.cpu (λ k out. ap not out) none)) (eq-eqb i i refl)
       ∙ append-nil m.cpu
 
-  pub wake_ends : Shows s (entry_for (layout_for s) (entry_for (layout_for s) past (Worker (plan_worker (slot i))) call.Wake ∷ past) (Worker (plan_worker (slot i))) call.Finish ∷ entry_for (layout_for s) past (Worker (plan_worker (slot i))) call.Wake ∷ past)
-      (after_sleep s t (record m { sleeping = filter (is_other_sleeper i) m.sleeping }) i []) slot
-  wake_ends = end_shown s (entry_for (layout_for s) past (Worker (plan_worker (slot i))) call.Wake ∷ past) (awake_with m i 0 []) slot i m.cpu (m.lines ++ record { at = t; kind = kind.WakesEnds; items = i ∷ [] } ∷ []) (wake_shown s past m slot i 0 [] h asleep) joined others
+  pub wake_ends : Shows s (then_calls s (then_calls s past (slot i) call.Wake) (slot i) call.Finish)
+      (woken_as s t m i []) slot
+  wake_ends = end_shown s (then_calls s past (slot i) call.Wake) (awake_with m i 0 []) slot i m.cpu (m.lines ++ record { at = t; kind = kind.WakesEnds; items = i ∷ [] } ∷ []) (wake_shown s past m slot i 0 [] h asleep) joined others
 
 -- ---- (3) starts, one take after the other
 

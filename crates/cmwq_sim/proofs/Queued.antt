@@ -82,8 +82,6 @@ pub record ShowsQueued (s : Plan) (k : ℕ) (past : List Entry) (m : Moment) : T
   pub queued : queueings past ≡ map (queueing_for s) (range_with_len 0 k)
   pub ready : worklist (layout_for s) past pool ≡ map (queueing_for s) m.ready
   pub behind : filter (waits (layout_for s) past) (still_open past) ≡ map (queueing_for s) m.behind
-  pub cpu : m.cpu ≡ []
-  pub sleeping : m.sleeping ≡ []
   pub counts : (p : ℕ → Bool) → count_by p (m.ready ++ m.behind) ≡ count_by p (range_with_len 0 k)
   pub widths : HasFirstWidths (layout_for s) past
   pub wide : (q : ℕ) → width (layout_for s) past q ≡ first_width (layout_for s) q
@@ -238,8 +236,6 @@ module _ (s : Plan) (k : ℕ) (past : List Entry) (m : Moment) (h : ShowsQueued 
         queued = all_listed;
         ready = ready_is;
         behind = behind_is;
-        cpu = h.cpu;
-        sleeping = h.sleeping;
         counts = counts;
         widths = (still_wide, h.widths);
         wide = still_wide;
@@ -262,8 +258,6 @@ nothing_shown s = record {
   queued = refl;
   ready = refl;
   behind = refl;
-  cpu = refl;
-  sleeping = refl;
   counts = λ p. refl;
   widths = tt;
   wide = λ q. ap (λ (x : QueueShape). if x.freezable && false then 0 else first_width (layout_for s) q) (get_or-map queue_shape s.queues q no_sim_queue);
@@ -273,27 +267,23 @@ count_all : (xs : List ℕ) → count_by (λ j. true) xs ≡ length xs
 count_all [] = refl
 count_all (x ∷ xs) = count_by-cons (λ j. true) x xs ∙ ap (λ n. 1 + n) (count_all xs) ∙ omega arith
 
-pub all_shown : (s : Plan) (past : List Entry) (m : Moment) (slot : ℕ → ℕ) → length s.items ≤ 8 → ShowsQueued s (length s.items) past m → Shows s past m slot
-all_shown s past m slot few h = record {
+pub all_shown : (s : Plan) (past : List Entry) (m : Moment) (slot : ℕ → ℕ) → length s.items ≤ 8 → m.cpu ≡ [] → m.sleeping ≡ [] → ShowsQueued s (length s.items) past m → Shows s past m slot
+all_shown s past m slot few cpu sleeping h = record {
   legal = h.legal;
   kept = All_map IsQueued (λ e. is_retired e.reply ≡ false) past (λ e queued. queued.says.stays) h.all;
   queued = h.queued;
   ready = h.ready;
   behind = h.behind;
-  cpu = subst (AllByRecursion (λ j. IsRunAt past (slot j.item) j.item false)) (sym h.cpu) tt;
-  sleeping = subst (AllByRecursion (λ x. IsRunAt past (slot x.item) x.item true)) (sym h.sleeping) tt;
+  cpu = subst (AllByRecursion (λ j. IsRunAt past (slot j.item) j.item false)) (sym cpu) tt;
+  sleeping = subst (AllByRecursion (λ x. IsRunAt past (slot x.item) x.item true)) (sym sleeping) tt;
   no_others = λ w n runs. absurd (none-some n (sym (ap (option_and_then _) (nobody_started past w h.all)) ∙ runs));
   once = λ i.
-      let a = ap₂ (λ (js : List Job) (xs : List Sleeper). count_by (is_job i) js + count_by (is_sleeper i) xs) h.cpu h.sleeping in
-      let b = count_append (λ j. j == i) m.ready m.behind in
-      let c = h.counts (λ j. j == i) in
-      let d = once_among 0 (length s.items) i in
-      omega arith;
+      let a = ap₂ (λ (js : List Job) (xs : List Sleeper). count_by (is_job i) js + count_by (is_sleeper i) xs) cpu sleeping in
+      omega (arith, count_append (λ j. j == i) m.ready m.behind, h.counts (λ j. j == i), once_among 0 (length s.items) i);
   widths = h.widths;
   wide = h.wide;
   few =
-      let a = ap₂ (λ (js : List Job) (xs : List Sleeper). length js + length xs) h.cpu h.sleeping in
-      let b = length-append m.ready m.behind in
-      let c = sym (count_all (m.ready ++ m.behind)) ∙ h.counts (λ j. true) ∙ count_all (range_with_len 0 (length s.items)) ∙ length-range_with_len 0 (length s.items) in
-      omega arith;
+      let a = ap₂ (λ (js : List Job) (xs : List Sleeper). length js + length xs) cpu sleeping in
+      let b = sym (count_all (m.ready ++ m.behind)) ∙ h.counts (λ j. true) ∙ count_all (range_with_len 0 (length s.items)) ∙ length-range_with_len 0 (length s.items) in
+      omega (arith, length-append m.ready m.behind);
 }

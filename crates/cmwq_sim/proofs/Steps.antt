@@ -1,13 +1,24 @@
 -- What one more entry does to what a history shows.
-use Rattle.cmwq_sim.specs.Common.{◌≡◌, ◌≢◌, ◌==◌, ◌≤◌, ◌+◌, ℕ, Bool, true, false, cond, not, ◌&&◌, List, [], ◌∷◌, ◌++◌, length, filter, count_by, Option, None, refl, sym, ap, ap₂, ◌∙◌, subst, arith, option_to_list, append-nil, length-append, option_map, option_and_then, if◌then◌else◌, AllByRecursion, list_any, runner_there, lt-ltb, eq-eqb, same_Some, PoolId, WorkerId, Worker, Reply, Entry, Queueing, Layout, item_of, is_at, number_started, number_finished, number_cancelled, replaces, starts, run, is_asleep, asleep_after, opens, opening, queued_at, place_wanted, queueings, still_open, is_live, is_newly_active, newly_active, worklist, is_retired, answer, IsLegal, entry_for, run_after, survives, is_ended, ending, waits, is_left, is_in, behind_width, is_below_max_active_at_once, keeps_widths, All_both, All_each, All_append, All_filter, count_by-cons, filter_same, none_found, count_none, stays_active, open_go_on, newly_of_open, newly_active_are, width_same, worklists_go_on, workers_run_on, by_itself}
+use Rattle.cmwq_sim.specs.Common.{◌≡◌, ◌≢◌, ◌==◌, ◌≤◌, ◌+◌, ℕ, Bool, true, false, cond, not, ◌&&◌, List, [], ◌∷◌, ◌++◌, length, filter, count_by, Option, None, refl, sym, ap, ap₂, ◌∙◌, subst, arith, option_to_list, append-nil, length-append, option_map, option_and_then, if◌then◌else◌, AllByRecursion, list_any, runner_there, lt-ltb, eq-eqb, same_Some, PoolId, WorkerId, Worker, Reply, Entry, Queueing, Layout, item_of, is_at, number_started, number_finished, number_cancelled, replaces, starts, run, is_asleep, asleep_after, opens, opening, queued_at, place_wanted, queueings, still_open, is_live, is_newly_active, newly_active, worklist, is_retired, answer, IsLegal, entry_for, run_after, survives, is_ended, ending, waits, is_left, is_in, behind_width, is_below_max_active_at_once, keeps_widths, All_both, All_each, All_append, All_filter, count_by-cons, filter_same, none_found, count_none, stays_active, open_go_on, newly_of_open, newly_active_are, width_same, worklists_go_on, workers_run_on, by_itself, Call}
 use Rattle.cmwq_model.specs.declared.call.Call.TheVariants as call
 use Rattle.cmwq_model.specs.declared.reply.Reply.TheVariants as reply
 use Rattle.cmwq_sim.specs.Plan.{Plan}
-use Rattle.cmwq_sim.specs.Lines.{Moment, Job}
+use Rattle.cmwq_sim.specs.Lines.{Moment, Job, after_burn, after_sleep, is_other_sleeper}
 use Rattle.cmwq_sim.specs.Shows.{layout_for, pool, plan_worker, IsRunAt, is_job, is_sleeper, runs_in, times, Shows}
 use Rattle.cmwq_sim.proofs.Lists.{none_kept, last_any, both_ways, filter_all, count_append}
 use Rattle.cmwq_sim.proofs.Idle.{not_by}
 use Rattle.cmwq_sim.proofs.TakeReads.{sleep_answered}
+
+-- a call of the worker with this index, behind a history
+abbrev pub then_calls : Plan → List Entry → ℕ → Call → List Entry
+then_calls s past x c = entry_for (layout_for s) past (Worker (plan_worker x)) c ∷ past
+
+-- where an item on the CPU's list has burnt, with these behind it, and where one has slept, with what is left of its parts
+abbrev pub served_as : Plan → ℕ → Moment → List Job → ℕ → List ℕ → Moment
+served_as s t m js = after_burn s t (record m { cpu = js })
+
+abbrev pub woken_as : Plan → ℕ → Moment → ℕ → List ℕ → Moment
+woken_as s t m i = after_sleep s t (record m { sleeping = filter (is_other_sleeper i) m.sleeping }) i
 
 -- ---- an entry that opens and ends nothing
 
@@ -87,7 +98,7 @@ abbrev pub asleep_with : Moment → Job → List Job → ℕ → List ℕ → Mo
 asleep_with m j rest until left = record m { cpu = rest; sleeping = m.sleeping ++ record { item = j.item; until = until; left = left } ∷ [] }
 
 pub sleep_shown : (s : Plan) (past : List Entry) (m : Moment) (slot : ℕ → ℕ) (j : Job) (rest : List Job) (until : ℕ) (left : List ℕ) → Shows s past m slot → m.cpu ≡ j ∷ rest
-    → Shows s (entry_for (layout_for s) past (Worker (plan_worker (slot j.item))) call.Sleep ∷ past) (asleep_with m j rest until left) slot
+    → Shows s (then_calls s past (slot j.item) call.Sleep) (asleep_with m j rest until left) slot
 unfolding IsLegal queueings is_asleep
 sleep_shown s past m slot j rest until left h is = record {
   legal = legal;

@@ -8,7 +8,7 @@ use Rattle.cmwq_sim.specs.Shows.{layout_for, pool, plan_worker, queueing_for, Is
 use Rattle.cmwq_sim.proofs.Lists.{last_any, all_mapped_pass, none-some, count_append}
 use Rattle.cmwq_sim.proofs.Idle.{idle_parts}
 use Rattle.cmwq_sim.proofs.TakeReads.{take_answered, runs_counted}
-use Rattle.cmwq_sim.proofs.Steps.{IsQuiet, none_opens, worklist_as_before, waiting_as_before, goes_by}
+use Rattle.cmwq_sim.proofs.Steps.{IsQuiet, none_opens, worklist_as_before, waiting_as_before, goes_by, then_calls}
 
 -- what a reply that starts an item says besides
 pub record StartsOne (r : Reply) (n : ℕ) : Type 0 where
@@ -33,7 +33,7 @@ abbrev pub started_with : Plan → Moment → ℕ → List ℕ → Moment
 started_with s m i rest = record m { ready = rest; cpu = m.cpu ++ job_of s i ∷ [] }
 
 pub take_shown : (s : Plan) (past : List Entry) (m : Moment) (slot : ℕ → ℕ) (x i : ℕ) (rest : List ℕ) → Shows s past m slot → x < 8 → is_idle past pool x ≡ true → m.ready ≡ i ∷ rest → list_any (is_job_held s) m.cpu ≡ false
-    → Shows s (entry_for (layout_for s) past (Worker (plan_worker x)) call.Take ∷ past) (started_with s m i rest) (slot_with slot i x)
+    → Shows s (then_calls s past x call.Take) (started_with s m i rest) (slot_with slot i x)
 unfolding IsLegal queueings is_asleep
 take_shown s past m slot x i rest h less free is clear = record {
   legal = legal;

@@ -6,14 +6,14 @@ use Rattle.cmwq_sim.specs.Plan.{Plan}
 use Rattle.cmwq_sim.specs.Lines.{Moment, Sleeper}
 use Rattle.cmwq_sim.specs.Shows.{layout_for, pool, plan_worker, IsRunAt, is_job, is_sleeper, runs_in, Shows}
 use Rattle.cmwq_sim.proofs.TakeReads.{wake_answered, run_of}
-use Rattle.cmwq_sim.proofs.Steps.{IsQuiet, none_opens, worklist_as_before, waiting_as_before, same_runs, other_slot, goes_by}
+use Rattle.cmwq_sim.proofs.Steps.{IsQuiet, none_opens, worklist_as_before, waiting_as_before, same_runs, other_slot, goes_by, then_calls}
 use Rattle.cmwq_sim.proofs.Lists.{any_counted, last_any, one_fewer, taken_out, others_there, not-true, filter_all, count_append}
 
 abbrev pub awake_with : Moment → ℕ → ℕ → List ℕ → Moment
 awake_with m i burn left = record m { cpu = m.cpu ++ record { item = i; burn = burn; left = left } ∷ []; sleeping = filter (λ k. not (is_sleeper i k)) m.sleeping }
 
 pub wake_shown : (s : Plan) (past : List Entry) (m : Moment) (slot : ℕ → ℕ) (i burn : ℕ) (left : List ℕ) → Shows s past m slot → list_any (is_sleeper i) m.sleeping ≡ true
-    → Shows s (entry_for (layout_for s) past (Worker (plan_worker (slot i))) call.Wake ∷ past) (awake_with m i burn left) slot
+    → Shows s (then_calls s past (slot i) call.Wake) (awake_with m i burn left) slot
 unfolding IsLegal queueings is_asleep
 wake_shown s past m slot i burn left h on = record {
   legal = legal;
