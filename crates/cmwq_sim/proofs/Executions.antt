@@ -138,14 +138,10 @@ found_below s n x k (suc len) h = grind (arith, nat_tests, found_below s n x (k 
 runs_there : (s : Plan) (past : List Entry) (m : Moment) (slot : ℕ → ℕ) (w : WorkerId) (n : ℕ) → Shows s past m slot → run past w ≡ Some n → n < length s.items
 runs_there s past m slot w n h is =
     let k = runs_are_in_pools (layout_for s) past w n h.legal is in
-    let less = found_below s n k.queueing 0 (length s.items) (sym (ap (find (has_number n)) h.queued) ∙ k.found) in
-    omega arith
+    omega (arith, found_below s n k.queueing 0 (length s.items) (sym (ap (find (has_number n)) h.queued) ∙ k.found))
 
 runs_below : (s : Plan) (r : Execution) (w : WorkerId) (n : ℕ) → Stands s r → run (past_in r.book) w ≡ Some n → n < 8
-runs_below s r w n h is =
-    let less = runs_there s (past_in r.book) (moment_in s r) (slot_in r.slots) w n h.shows is in
-    let few = h.limits.few_items in
-    omega arith
+runs_below s r w n h is = omega (arith, runs_there s (past_in r.book) (moment_in s r) (slot_in r.slots) w n h.shows is, h.limits.few_items)
 
 pub first_below : (s : Plan) (r : Execution) (job : Running) (js : List Running) → Stands s r → r.cpu.items ≡ job ∷ js → job.item < 8
 first_below s r job js h is =
@@ -264,7 +260,7 @@ module _ (s : Plan) (r : Execution) (x n : ℕ) (h : Stands s r) (t : IsTaker r.
       runs_there s (then_calls s (past_in r.book) x call.Take) (started_one s (moment_in s r) n) (slot_with (slot_in r.slots) n x) (plan_worker (slot_with (slot_in r.slots) n x n)) n k run.runs
 
   pub starts_below : n < 8
-  starts_below = let a = starts_there in let b = h.limits.few_items in omega arith
+  starts_below = let a = starts_there in omega (arith, h.limits.few_items)
 
   one_roomy : IsRoomy s (then_calls s (past_in r.book) x call.Take) (started_one s (moment_in s r) n)
   one_roomy = start_roomy s (past_in r.book) (moment_in s r) (slot_in r.slots) x n h.shows h.roomy taker_is
@@ -275,9 +271,7 @@ module _ (s : Plan) (r : Execution) (x n : ℕ) (h : Stands s r) (t : IsTaker r.
   pub some_part : drop 0 (ms_of s n) ≡ [] → ⊥
   some_part none =
       let k = all_at (IsItem (length s.queues)) s.items n no_item h.limits.items starts_there in
-      let a = k.parts.0 in
-      let e = ap length none in
-      omega arith
+      omega (arith, k.parts.0, ap length none)
 
   pub starts : (r2 : Execution) (b : ℕ) → drop 0 (ms_of s n) ≡ b ∷ drop 1 (ms_of s n) → r2.book ≡ with_entry r.book (next_entry r.book (Worker (plan_worker x)) call.Take) → r2.slots ≡ set r.slots n x
       → r2.cpu.items ≡ r.cpu.items ++ record { item = n; burn = b; next = 1 } ∷ [] → r2.sleeping.items ≡ r.sleeping.items → map event_of r2.lines.items ≡ map event_of r.lines.items
@@ -328,9 +322,7 @@ pub fewer_ready : (s : Plan) (r r2 : Execution) (x n : ℕ) → Stands s r → I
 fewer_ready s r r2 x n h t next =
     let k = taker_starts s (past_in r.book) (moment_in s r) (slot_in r.slots) x n h.shows (taker_is s r x n h t) in
     let may = may_start s (moment_in s r) n k.1 in
-    let a = ap (λ (m : Moment). length m.ready) next.moment in
-    let b = ap length may.first in
-    omega arith
+    omega (arith, ap (λ (m : Moment). length m.ready) next.moment, ap length may.first)
 
 -- ---- queueing
 
@@ -342,7 +334,7 @@ pub record QueuedSoFar (s : Plan) (b : History) (k : ℕ) : Type 0 where
 
 module _ (s : Plan) (b : History) (k : ℕ) (limits : IsWithinLimits s) (h : QueuedSoFar s b k) (less : k < length s.items) where
   few : k < 8
-  few = let a = limits.few_items in omega arith
+  few = omega (arith, limits.few_items)
 
   pub queue_there : plan_queue s k < length s.queues
   queue_there = (all_at (IsItem (length s.queues)) s.items k no_item limits.items less).queue
@@ -351,7 +343,7 @@ module _ (s : Plan) (b : History) (k : ℕ) (limits : IsWithinLimits s) (h : Que
   next_roomy = queue_roomy s k (past_in b) (fold (queue_item s) empty (range_with_len 0 k)) h.shows limits less few queue_there h.roomy
 
   pub has_room_to_queue : takes b caller (queue_call s k) ≡ true
-  has_room_to_queue = room_for s b caller (queue_call s k) (queue_item s (fold (queue_item s) empty (range_with_len 0 k)) k) h.layout h.room refl (let a = next_roomy in let f = few in omega arith)
+  has_room_to_queue = room_for s b caller (queue_call s k) (queue_item s (fold (queue_item s) empty (range_with_len 0 k)) k) h.layout h.room refl (let a = next_roomy in omega (arith, few))
 
   pub one_queued : (b2 : History) → b2 ≡ with_entry b (next_entry b caller (queue_call s k)) → QueuedSoFar s b2 (k + 1)
   one_queued b2 is =
@@ -368,7 +360,7 @@ none_yet s b is = subst (λ x. QueuedSoFar s x 0) (sym is) (record {
   layout = refl;
   room = refl;
   shows = nothing_shown s;
-  roomy = let a = needs_nothing_at_first s in omega arith;
+  roomy = omega (arith, needs_nothing_at_first s);
 })
 
 pub queued_shown : (s : Plan) (b : History) → IsWithinLimits s → QueuedSoFar s b (length s.items) → (slot : ℕ → ℕ) → Shows s (past_in b) (queued_at_first s) slot

@@ -95,7 +95,7 @@ moved_counts k p (Some z) xs h =
     grind arith
 
 moved_length : (p : ℕ → Bool) (o : Option ℕ) (xs : List ℕ) → find p xs ≡ o → length (filter (is_kept o) xs) + length (option_to_list o) ≤ length xs
-moved_length p None xs h = let f = filter_shorter (is_kept None) xs in omega arith
+moved_length p None xs h = omega (arith, filter_shorter (is_kept None) xs)
 moved_length p (Some z) xs h = one_fewer (λ j. j == z) xs (found_there p xs z h)
 
 abbrev pub ended_with : Moment → ℕ → Option ℕ → Moment
@@ -117,14 +117,10 @@ finish_shown s past m slot i o h on first = record {
   no_others = λ w n runs. at w n (is_by (Worker w) e) refl (sym (workers_run_on (layout_for s) past e w legal) ∙ runs);
   once = λ k.
       let a = count_append (λ j. j == k) m.ready (option_to_list o) in
-      let b = moved_counts k (is_of_plan_queue s (plan_queue s i)) o m.behind first in
-      let c = fewer_kept (is_job k) (λ j. not (is_job i j)) m.cpu in
-      omega (arith, h.once k);
+      omega (arith, h.once k, moved_counts k (is_of_plan_queue s (plan_queue s i)) o m.behind first, fewer_kept (is_job k) (λ j. not (is_job i j)) m.cpu);
   few =
       let a = length-append m.ready (option_to_list o) in
-      let b = moved_length (is_of_plan_queue s (plan_queue s i)) o m.behind first in
-      let c = filter_shorter (λ j. not (is_job i j)) m.cpu in
-      omega (arith, h.few);
+      omega (arith, h.few, moved_length (is_of_plan_queue s (plan_queue s i)) o m.behind first, filter_shorter (λ j. not (is_job i j)) m.cpu);
 }
   where
     e : Entry

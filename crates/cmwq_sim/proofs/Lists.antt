@@ -58,17 +58,13 @@ none_found_any p (x ∷ xs) is = grind (arith, none_found_any p xs)
 -- ---- some are taken out
 
 pub less_kept : {X : Type 0} (f : X → ℕ) (q : X → Bool) (xs : List X) → sum_by f (filter q xs) ≤ sum_by f xs
-less_kept f q xs = let a = sum_by-filter_both q (λ x. not (q x)) (λ x. refl) f xs in omega arith
+less_kept f q xs = omega (arith, sum_by-filter_both q (λ x. not (q x)) (λ x. refl) f xs)
 
 pub fewer_kept : {X : Type 0} (p q : X → Bool) (xs : List X) → count_by p (filter q xs) ≤ count_by p xs
 fewer_kept p q xs = less_kept (λ x. cond (p x) 1 0) q xs
 
 pub one_fewer : {X : Type 0} (p : X → Bool) (xs : List X) → list_any p xs ≡ true → length (filter (λ x. not (p x)) xs) + 1 ≤ length xs
-one_fewer p xs h =
-    let a = length-filter_both p (λ x. not (p x)) (λ x. refl) xs in
-    let b = length-filter p xs in
-    let c = any_counted p xs h in
-    omega arith
+one_fewer p xs h = omega (arith, length-filter_both p (λ x. not (p x)) (λ x. refl) xs, length-filter p xs, any_counted p xs h)
 
 pub filter_mapped : {X Y : Type 0} (f : X → Y) (p : Y → Bool) (r : X → Bool) (xs : List X) → AllByRecursion (λ x. p (f x) ≡ r x) xs → filter p (map f xs) ≡ map f (filter r xs)
 filter_mapped f p r [] h = refl

@@ -49,21 +49,17 @@ served_seen s t i m once = at m.cpu refl
         first z = ap (count_by (is_job z)) is ∙ count_by-cons (is_job z) j js
 
         fewer : (ls : List Event) (z : ℕ) → times (record m { cpu = js; lines = ls }) z ≤ 1
-        fewer ls z = let o = once z in let f = first z in omega arith
+        fewer ls z = let o = once z in omega (arith, first z)
 
         over : (b : Bool) (left : List ℕ) → seen i (if b then after_burn s t (record m { cpu = js }) j.item left else m) ≡ seen i m
         over false left = refl
         over true [] =
             let a = ends_seen s i j.item (tell t kind.Ends (j.item ∷ []) (record m { cpu = js })) (fewer (m.lines ++ record { at = t; kind = kind.Ends; items = j.item ∷ [] } ∷ [])) in
-            let b = told i t kind.Ends (j.item ∷ []) m.lines ∙ ap (λ c. count_by (tells_end i) m.lines + cond c 1 0) (or_false (j.item == i)) in
-            let f = first i in
-            omega arith
+            omega (arith, told i t kind.Ends (j.item ∷ []) m.lines ∙ ap (λ c. count_by (tells_end i) m.lines + cond c 1 0) (or_false (j.item == i)), first i)
         over true (pause ∷ left) =
             let a = count_append (is_sleeper i) m.sleeping (record { item = j.item; until = t + pause; left = left } ∷ []) in
             let b = count_by-cons (is_sleeper i) (record { item = j.item; until = t + pause; left = left }) [] in
-            let c = told i t kind.Sleeps (j.item ∷ []) m.lines in
-            let f = first i in
-            omega arith
+            omega (arith, told i t kind.Sleeps (j.item ∷ []) m.lines, first i)
 
 woken_seen : (s : Plan) (t i k : ℕ) (m : Moment) → Once m → seen i (wake_item s t m k) ≡ seen i m
 woken_seen s t i k m once = at (find (is_due t k) m.sleeping) refl
@@ -82,20 +78,16 @@ woken_seen s t i k m once = at (find (is_due t k) m.sleeping) refl
         out z = ap (λ n. count_by (is_sleeper z) (filter (is_other_sleeper x.item) m.sleeping) + cond (x.item == z) n 0) (sym there) ∙ taken_out (λ (y : Sleeper). y.item) z x.item m.sleeping
 
         fewer : (ls : List Event) (z : ℕ) → times (record m { sleeping = filter (is_other_sleeper x.item) m.sleeping; lines = ls }) z ≤ 1
-        fewer ls z = let o = once z in let f = out z in omega arith
+        fewer ls z = let o = once z in omega (arith, out z)
 
         after : (left : List ℕ) → seen i (after_sleep s t (record m { sleeping = filter (is_other_sleeper x.item) m.sleeping }) x.item left) ≡ seen i m
         after [] =
             let a = ends_seen s i x.item (tell t kind.WakesEnds (x.item ∷ []) (record m { sleeping = filter (is_other_sleeper x.item) m.sleeping })) (fewer (m.lines ++ record { at = t; kind = kind.WakesEnds; items = x.item ∷ [] } ∷ [])) in
-            let b = told i t kind.WakesEnds (x.item ∷ []) m.lines ∙ ap (λ c. count_by (tells_end i) m.lines + cond c 1 0) (or_false (x.item == i)) in
-            let f = out i in
-            omega arith
+            omega (arith, told i t kind.WakesEnds (x.item ∷ []) m.lines ∙ ap (λ c. count_by (tells_end i) m.lines + cond c 1 0) (or_false (x.item == i)), out i)
         after (b ∷ left) =
             let a = count_append (is_job i) m.cpu (record { item = x.item; burn = b; left = left } ∷ []) in
             let d = count_by-cons (is_job i) (record { item = x.item; burn = b; left = left }) [] in
-            let c = told i t kind.WakesBurns (x.item ∷ []) m.lines in
-            let f = out i in
-            omega arith
+            omega (arith, told i t kind.WakesBurns (x.item ∷ []) m.lines, out i)
 
 -- so do steps in turn
 all_steps : (step : Moment → ℕ → Moment) → ((m : Moment) (k : ℕ) → Once m → (i : ℕ) → seen i (step m k) ≡ seen i m) → (i len k : ℕ) (m : Moment) → Once m → seen i (fold step m (range_with_len k len)) ≡ seen i m
@@ -115,13 +107,11 @@ started_seen s t i m = at (starting_items s m.cpu m.ready) (starting_first s m.c
         moved : times (record m { ready = drop (length is) m.ready; cpu = m.cpu ++ map (job_of s) is }) i ≡ times m i
         moved =
             let a = sym (count_append (λ j. j == i) is (drop (length is) m.ready)) ∙ ap (count_by (λ j. j == i)) split in
-            let b = count_append (is_job i) m.cpu (map (job_of s) is) in
-            let c = started_count s i is in
-            omega arith
+            omega (arith, count_append (is_job i) m.cpu (map (job_of s) is), started_count s i is)
 
         with_lines : (ks : List ℕ) → seen i (tell_starts t ks (record m { ready = drop (length is) m.ready; cpu = m.cpu ++ map (job_of s) is })) ≡ seen i m
-        with_lines [] = let a = moved in omega arith
-        with_lines (k ∷ ks) = let a = moved in let b = told i t kind.Starts (k ∷ ks) m.lines in omega arith
+        with_lines [] = omega (arith, moved)
+        with_lines (k ∷ ks) = let a = moved in omega (arith, told i t kind.Starts (k ∷ ks) m.lines)
 
 burnt_seen : (i : ℕ) (m : Moment) → seen i (burn m) ≡ seen i m
 burnt_seen i m = grind arith

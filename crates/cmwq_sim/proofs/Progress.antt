@@ -5,7 +5,7 @@ use Rattle.cmwq_sim.specs.Plan.{Plan, Event, plan_queue, ms_of, is_of_plan_queue
 use Rattle.cmwq_sim.specs.Limits.{IsBetween, IsItem, IsWithinLimits}
 use Rattle.cmwq_sim.specs.Lines.{Moment, Job, Sleeper, is_other_item, make_ready, end_job, after_burn, after_sleep, serve_first, serve, is_due, is_other_sleeper, wake_sleeper, wake_item, wake_sleepers, job_with, job_of, starting_items, tell, tell_starts, start_these, start, burn_first, burn, millisecond}
 use Rattle.cmwq_sim.specs.Ends.{NobodyIsLeft}
-use Rattle.cmwq_sim.proofs.Lists.{all_split, none_found_any, all_found, all_kept, last_any, less_kept, both_ways, not-false, false≢true, list_any-append, All_push, find_none}
+use Rattle.cmwq_sim.proofs.Lists.{all_split, none_found_any, all_found, all_kept, last_any, less_kept, not-false, false≢true, list_any-append, All_push, find_none}
 use Rattle.cmwq_sim.proofs.TakeShown.{job_item}
 
 -- ---- lists
@@ -105,30 +105,6 @@ to_cpu s t i b left m h = record {
   held = λ q some. grind (arith, h.held q some, last_any (of_job s q) m.cpu (record { item = i; burn = b; left = left }));
 }
 
-pub ends : (s : Plan) (t i : ℕ) (m : Moment) → Loose s t i m → Sound s t (end_job s i m)
-ends s t i m h = at (find (is_of_plan_queue s (plan_queue s i)) m.behind) refl
-  where
-    at : (o : Option ℕ) → find (is_of_plan_queue s (plan_queue s i)) m.behind ≡ o → Sound s t (make_ready m o)
-    at None none = record {
-      ready = h.ready;
-      behind = h.behind;
-      sleeping = h.sleeping;
-      held = λ q some.
-          let gone = λ (is : is_of_plan_queue s q i ≡ true). both_ways (list_any (is_of_plan_queue s q) m.behind)
-          (ap (λ k. list_any (is_of_plan_queue s k) m.behind) (sym (eqb-true (plan_queue s i) q is)) ∙ none_found_any (is_of_plan_queue s (plan_queue s i)) m.behind none) some in
-          grind (arith, h.held q some);
-    }
-    at (Some z) some_z =
-        let z_is = all_found (λ k. k < length s.items) (is_of_plan_queue s (plan_queue s i)) m.behind z h.behind some_z in
-        record {
-          ready = All_push (λ k. k < length s.items) m.ready z h.ready z_is.0;
-          behind = all_kept (λ k. k < length s.items) (is_other_item z) m.behind h.behind;
-          sleeping = h.sleeping;
-          held = λ q some.
-              let same = eqb-true (plan_queue s z) (plan_queue s i) z_is.1 in
-              grind (arith, last_any (is_of_plan_queue s q) m.ready z, h.held q (any_still (is_of_plan_queue s q) (is_other_item z) m.behind some));
-        }
-
 -- an end weighs no more
 pub end_weighs : (s : Plan) (i : ℕ) (m : Moment) (f : ℕ → ℕ) (g : Job → ℕ) (h : Sleeper → ℕ) → weight f g h (end_job s i m) ≤ weight f g h m
 end_weighs s i m f g h = at (find (is_of_plan_queue s (plan_queue s i)) m.behind) refl
@@ -137,9 +113,31 @@ end_weighs s i m f g h = at (find (is_of_plan_queue s (plan_queue s i)) m.behind
     at None none = omega arith
     at (Some z) some = omega (arith, found_apart f (is_of_plan_queue s (plan_queue s i)) (is_other_item z) m.behind z some (ap not (eq-eqb z z refl)), sum_by_push f m.ready z)
 
-same_cpu : (m : Moment) (o : Option ℕ) → (make_ready m o).cpu ≡ m.cpu
-same_cpu m None = refl
-same_cpu m (Some z) = refl
+pub record Goes (s : Plan) (t r : ℕ) (m : Moment) : Type 0 where
+  pub sound : Sound s t m
+  pub cpu : AllByRecursion (IsRunning s) m.cpu
+  pub less : rest s t m ≤ r
+
+ends : (s : Plan) (t i r : ℕ) (m : Moment) → Loose s t i m → AllByRecursion (IsRunning s) m.cpu → rest s t m ≤ r → Goes s t r (end_job s i m)
+ends s t i r m h cpu less = at (find (is_of_plan_queue s (plan_queue s i)) m.behind) refl (omega (arith, end_weighs s i m (time_at s) job_rest (sleeper_rest t)))
+  where
+    at : (o : Option ℕ) → find (is_of_plan_queue s (plan_queue s i)) m.behind ≡ o → rest s t (end_job s i m) ≤ r → Goes s t r (make_ready m o)
+    at None none few =
+        let gone = λ (q : ℕ) (is : is_of_plan_queue s q i ≡ true). ap (λ k. list_any (is_of_plan_queue s k) m.behind) (sym (eqb-true (plan_queue s i) q is)) ∙ none_found_any (is_of_plan_queue s (plan_queue s i)) m.behind none in
+        record { sound = record { ready = h.ready; behind = h.behind; sleeping = h.sleeping; held = λ q some. grind (arith, h.held q some, gone q) }; cpu = cpu; less = less }
+    at (Some z) some_z few =
+        let z_is = all_found (λ k. k < length s.items) (is_of_plan_queue s (plan_queue s i)) m.behind z h.behind some_z in
+        let same = eqb-true (plan_queue s z) (plan_queue s i) z_is.1 in
+        record {
+          sound = record {
+            ready = All_push (λ k. k < length s.items) m.ready z h.ready z_is.0;
+            behind = all_kept (λ k. k < length s.items) (is_other_item z) m.behind h.behind;
+            sleeping = h.sleeping;
+            held = λ q some. grind (arith, last_any (is_of_plan_queue s q) m.ready z, h.held q (any_still (is_of_plan_queue s q) (is_other_item z) m.behind some));
+          };
+          cpu = cpu;
+          less = subst (λ o. rest s t (make_ready m o) ≤ r) some_z few;
+        }
 
 same_sleeping : (m : Moment) (o : Option ℕ) → (make_ready m o).sleeping ≡ m.sleeping
 same_sleeping m None = refl
@@ -152,11 +150,6 @@ abbrev pub FirstMayBeDone : Plan → List Job → Type 0
 FirstMayBeDone s [] = Unit {0}
 FirstMayBeDone s (j ∷ cpu) = IsJob s j × AllByRecursion (IsRunning s) cpu
 
-pub record Goes (s : Plan) (t r : ℕ) (m : Moment) : Type 0 where
-  pub sound : Sound s t m
-  pub cpu : AllByRecursion (IsRunning s) m.cpu
-  pub less : rest s t m ≤ r
-
 pub served : (s : Plan) (t : ℕ) (m : Moment) → Sound s t m → FirstMayBeDone s m.cpu → Goes s t (rest s t m) (serve s t m)
 served s t m h first = at m.cpu refl first
   where
@@ -168,17 +161,11 @@ served s t m h first = at m.cpu refl first
         loose ls = record { there = k.0.there; ready = h.ready; behind = h.behind; sleeping = h.sleeping; held = λ q some. grind (arith, h.held q some, ap (list_any (of_job s q)) is) }
 
         without : rest s t (record m { cpu = js }) + job_rest j ≡ rest s t m
-        without = let a = ap (sum_by job_rest) is ∙ sum_by-cons job_rest j js in omega arith
+        without = omega (arith, ap (sum_by job_rest) is ∙ sum_by-cons job_rest j js)
 
         over : (b : Bool) → (j.burn == 0) ≡ b → (left : List ℕ) → j.left ≡ left → Goes s t (rest s t m) (if b then after_burn s t (record m { cpu = js }) j.item left else m)
         over false burns left l = record { sound = h; cpu = subst (AllByRecursion (IsRunning s)) (sym is) (record { job = k.0; burns = grind (arith, nat_tests) }, k.1); less = omega arith }
-        over true done [] l =
-            let told = tell t kind.Ends (j.item ∷ []) (record m { cpu = js }) in
-            record {
-              sound = ends s t j.item told (loose told.lines);
-              cpu = subst (AllByRecursion (IsRunning s)) (sym (same_cpu told (find (is_of_plan_queue s (plan_queue s j.item)) m.behind))) k.1;
-              less = omega (arith, end_weighs s j.item told (time_at s) job_rest (sleeper_rest t), without);
-            }
+        over true done [] l = let told = tell t kind.Ends (j.item ∷ []) (record m { cpu = js }) in ends s t j.item (rest s t m) told (loose told.lines) k.1 (omega (arith, without))
         over true done (pause ∷ left) l =
             let told = tell t kind.Sleeps (j.item ∷ []) (record m { cpu = js }) in
             let lasting = subst Lasting l k.0.left in
@@ -229,11 +216,7 @@ woke s t k r m h = at (find (is_due t k) m.sleeping) refl
             let told = tell t kind.WakesEnds (x.item ∷ []) (record m { sleeping = filter (is_other_sleeper x.item) m.sleeping }) in
             let o = find (is_of_plan_queue s (plan_queue s x.item)) m.behind in
             record {
-              goes = record {
-                sound = ends s t x.item told (loose told.lines);
-                cpu = subst (AllByRecursion (IsRunning s)) (sym (same_cpu told o)) h.goes.cpu;
-                less = omega (arith, end_weighs s x.item told (time_at s) job_rest (sleeper_rest t), apart, h.goes.less);
-              };
+              goes = ends s t x.item r told (loose told.lines) h.goes.cpu (omega (arith, apart, h.goes.less));
               passed = subst (AllByRecursion (λ (y : Sleeper). y.item < k + 1 → t + 1 ≤ y.until)) (sym (same_sleeping told o)) passed;
             }
         after (b ∷ left) l =
@@ -288,12 +271,9 @@ starts_running s i fine less = at (ms_of s i) here.parts here.ms
     here : IsItem (length s.queues) (slice_index_or s.items i no_item)
     here = all_at (IsItem (length s.queues)) s.items i no_item fine.items less
 
-    lasting : (ms : List ℕ) → AllByRecursion (IsBetween 1 1000) ms → Lasting ms
-    lasting ms all = All_map (IsBetween 1 1000) (λ n. 1 ≤ n) ms (λ n k. k.0) all
-
     at : (ms : List ℕ) → IsBetween 1 8 (length ms) → AllByRecursion (IsBetween 1 1000) ms → IsRunning s (job_with i ms)
     at [] some each = absurd (omega (arith, some.0))
-    at (b ∷ ms) some each = record { job = record { there = less; left = lasting ms each.1 }; burns = each.0.0 }
+    at (b ∷ ms) some each = record { job = record { there = less; left = All_map (IsBetween 1 1000) (λ n. 1 ≤ n) ms (λ n k. k.0) each.1 }; burns = each.0.0 }
 
 all_start : (s : Plan) (is : List ℕ) → IsWithinLimits s → AllByRecursion (λ i. i < length s.items) is → AllByRecursion (IsRunning s) (map (job_of s) is)
 all_start s [] fine all = tt
@@ -350,8 +330,7 @@ started s t r m fine h = at (starting_items s m.cpu m.ready) refl
               cpu = All_append (IsRunning s) m.cpu (map (job_of s) is) h.goes.cpu (all_start s is fine parts.0);
               less =
                   let a = sum_by-append job_rest m.cpu (map (job_of s) is) in
-                  let b = sym (ap (sum_by (time_at s)) split) ∙ sum_by-append (time_at s) is (drop (length is) m.ready) in
-                  omega (arith, same_rest s is, h.goes.less);
+                  omega (arith, same_rest s is, h.goes.less, sym (ap (sum_by (time_at s)) split) ∙ sum_by-append (time_at s) is (drop (length is) m.ready));
             };
             later = h.later;
           };
@@ -368,18 +347,10 @@ pub record Begins (s : Plan) (t : ℕ) (m : Moment) : Type 0 where
   pub sound : Sound s t m
   pub first : FirstMayBeDone s m.cpu
 
-slept_on : (s : Plan) (t : ℕ) (xs : List Sleeper) → AllByRecursion (IsSleeper s t) xs → AllByRecursion (λ (x : Sleeper). t + 1 ≤ x.until) xs → AllByRecursion (IsSleeper s (t + 1)) xs
-slept_on s t xs all later = All_both (IsSleeper s t) (λ (x : Sleeper). t + 1 ≤ x.until) (IsSleeper s (t + 1)) xs (λ x a b. record { there = a.there; later = b; left = a.left }) all later
-
 -- each sleeper has a millisecond less to sleep
 sleeps_less : (t : ℕ) (xs : List Sleeper) → AllByRecursion (λ (x : Sleeper). t + 1 ≤ x.until) xs → sum_by (sleeper_rest (t + 1)) xs + length xs ≤ sum_by (sleeper_rest t) xs
 sleeps_less t [] later = omega arith
-sleeps_less t (x ∷ xs) later =
-    let k = sleeps_less t xs later.1 in
-    let a = sum_by-cons (sleeper_rest (t + 1)) x xs in
-    let b = sum_by-cons (sleeper_rest t) x xs in
-    let c = later.0 in
-    omega arith
+sleeps_less t (x ∷ xs) later = omega (arith, later.0, sleeps_less t xs later.1, sum_by-cons (sleeper_rest (t + 1)) x xs, sum_by-cons (sleeper_rest t) x xs)
 
 pub burnt : (s : Plan) (t r : ℕ) (m : Moment) → Started s t r m → Begins s (t + 1) (burn m) × ((rest s (t + 1) (burn m) + 1 ≤ r) ⊎ NobodyIsLeft (burn m))
 burnt s t r m h = at m.cpu refl
@@ -391,7 +362,7 @@ burnt s t r m h = at m.cpu refl
     sound_with cpu same = record {
       ready = sound.ready;
       behind = sound.behind;
-      sleeping = slept_on s t m.sleeping sound.sleeping h.awake.later;
+      sleeping = All_both (IsSleeper s t) (λ (x : Sleeper). t + 1 ≤ x.until) (IsSleeper s (t + 1)) m.sleeping (λ x a b. record { there = a.there; later = b; left = a.left }) sound.sleeping h.awake.later;
       held = λ q some. grind (arith, same q, sound.held q some);
     }
 

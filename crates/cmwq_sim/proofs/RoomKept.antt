@@ -66,10 +66,7 @@ module _ (s : Plan) (t i : ℕ) (past : List Entry) (m : Moment) (slot : ℕ →
 
 start_takes_none : (s : Plan) (m : Moment) (n : ℕ) (rest : List ℕ) → m.ready ≡ n ∷ rest → parts_left s (started_with s m n rest) ≤ parts_left s m
 start_takes_none s m n rest is =
-    let a = ap (sum_by (parts_at s)) is ∙ sum_by-cons (parts_at s) n rest in
-    let b = sum_by_push parts_of_job m.cpu (job_of s n) in
-    let c = start_parts n (ms_of s n) in
-    omega arith
+    omega (arith, ap (sum_by (parts_at s)) is ∙ sum_by-cons (parts_at s) n rest, sum_by_push parts_of_job m.cpu (job_of s n), start_parts n (ms_of s n))
 
 pub start_roomy : (s : Plan) (past : List Entry) (m : Moment) (slot : ℕ → ℕ) (x n : ℕ) → Shows s past m slot → IsRoomy s past m → IsTaker (layout_for s) past x n
     → IsRoomy s (then_calls s past x call.Take) (started_with s m n (drop 1 m.ready))
@@ -77,14 +74,11 @@ start_roomy s past m slot x n h roomy t =
     let k = taker_starts s past m slot x n h t in
     let may = may_start s m n k.1 in
     let a = promised_need_no_more (layout_for s) past _ (take_shown s past m slot x n (drop 1 m.ready) h t.below k.0 may.first may.clear).legal (starts_one _ n t.starts).promised in
-    let b = start_takes_none s m n (drop 1 m.ready) may.first in
-    omega arith
+    omega (arith, start_takes_none s m n (drop 1 m.ready) may.first)
 
 -- ---- queueing: three entries for it, and two for each of eight parts
 
 pub queue_roomy : (s : Plan) (k : ℕ) (past : List Entry) (m : Moment) (h : ShowsQueued s k past m) → IsWithinLimits s → k < length s.items → k < 8 → plan_queue s k < length s.queues → room_needed (layout_for s) past + 2 * parts_left s m ≤ 19 * k
     → room_needed (layout_for s) (entry_for (layout_for s) past caller (queue_call s k) ∷ past) + 2 * parts_left s (queue_item s m k) ≤ 19 * (k + 1)
 queue_roomy s k past m h fine less few there roomy =
-    let a = needs_three (layout_for s) past _ k (queue_shown s k past m h few there).legal (answered s k past m h) in
-    let b = queued_parts s m k fine less in
-    omega arith
+    omega (arith, needs_three (layout_for s) past _ k (queue_shown s k past m h few there).legal (answered s k past m h), queued_parts s m k fine less)

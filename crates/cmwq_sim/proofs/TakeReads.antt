@@ -142,8 +142,7 @@ covered : (n : ℕ) (ys : List ℕ) → ((x : ℕ) → x < n → list_any (λ y.
 covered zero ys h = omega arith
 covered (suc n) ys h =
     let less = one_fewer (λ y. y == n) ys (h n (omega arith)) in
-    let rest = covered n (filter (λ y. not (y == n)) ys) (λ x below. others_there (λ y. y) x n ys (ne_eqb x n (λ same. absurd (omega arith))) ∙ h x (omega arith)) in
-    omega arith
+    omega (arith, covered n (filter (λ y. not (y == n)) ys) (λ x below. others_there (λ y. y) x n ys (ne_eqb x n (λ same. absurd (omega arith))) ∙ h x (omega arith)))
 
 slot_there : {X : Type 0} (item : X → ℕ) (slot : ℕ → ℕ) (n : ℕ) (xs : List X) → list_any (λ x. item x == n) xs ≡ true → list_any (λ y. y == slot n) (map (λ x. slot (item x)) xs) ≡ true
 slot_there item slot n [] h = cc

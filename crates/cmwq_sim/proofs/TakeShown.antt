@@ -51,8 +51,7 @@ take_shown s past m slot x i rest h less free is clear = record {
   once = λ k.
       let a = ap (count_by (λ j. j == k)) is ∙ count_by-cons (λ j. j == k) i rest in
       let b = count_append (is_job k) m.cpu (job_of s i ∷ []) in
-      let c = count_by-cons (is_job k) (job_of s i) [] ∙ ap (λ j. cond (j == k) 1 0 + 0) (job_item i (ms_of s i)) in
-      omega (arith, h.once k);
+      omega (arith, h.once k, count_by-cons (is_job k) (job_of s i) [] ∙ ap (λ j. cond (j == k) 1 0 + 0) (job_item i (ms_of s i)));
   few = omega (arith, h.few, ap length is, length-append m.cpu (job_of s i ∷ []));
 }
   where
