@@ -7,14 +7,14 @@ use Rattle.cmwq_sim.specs.declared.scenario.LineKind.TheVariants as kind
 use Rattle.cmwq_sim.specs.declared.execution.Running.{Running}
 use Rattle.cmwq_sim.specs.declared.execution.Asleep.{Asleep}
 use Rattle.cmwq_sim.specs.declared.execution.Execution.{Execution}
-use Rattle.cmwq_sim.specs.Plan.{Plan, ms_of, plan_queue, is_of_plan_queue, event_of, no_item}
-use Rattle.cmwq_sim.specs.Limits.{IsItem, IsWithinLimits}
+use Rattle.cmwq_sim.specs.Plan.{Plan, ms_of, plan_queue, is_of_plan_queue, event_of}
+use Rattle.cmwq_sim.specs.Limits.{IsWithinLimits}
 use Rattle.cmwq_sim.specs.Lines.{Moment, Job, Sleeper, job_with, job_of, wake_sleepers, millisecond, burn, burn_first, queue_item, queued_at_first, empty, starting_items, start, tell_starts, make_ready, tell, serve, is_due, is_other_sleeper, wake_sleeper, wake_item}
 use Rattle.cmwq_sim.specs.Shows.{layout_for, plan_worker, Shows, moment_of, queueing_for, IsRunAt, is_job, is_sleeper, runs_in}
 use Rattle.cmwq_sim.specs.Rooms.{IsRoomy, parts_left}
 use Rattle.cmwq_sim.specs.Standing.{job_seen, sleeper_seen, moment_in, slot_in, Stands, StandsAt, started_one, starts_lines, LessFirst}
 use Rattle.cmwq_sim.specs.Takers.{IsTaker, NoTaker, taken_by}
-use Rattle.cmwq_sim.proofs.Progress.{all_at, rest, IsRunning, Begins, served, awake, started, passes}
+use Rattle.cmwq_sim.proofs.Progress.{item_limits, rest, IsRunning, Begins, served, awake, started, passes}
 use Rattle.cmwq_sim.proofs.Outset.{begins, queue_keeps}
 use Rattle.cmwq_sim.specs.Ends.{moment_after}
 use Rattle.cmwq_sim.proofs.TakersAre.{taker_starts}
@@ -191,14 +191,14 @@ module _ (s : Plan) (t i : ℕ) (r : Execution) (x : Asleep) (o : Option Asleep)
       let left = drop (x.next + 1) (ms_of s i) in
       subst (StandsAt s r2) (sym (woken_is (b ∷ left) parts))
       (calls_on s r r2 (seat r i) call.Wake (woken_as s t (moment_in s r) i (b ∷ left)) h book slots
-      (wake_burns s t i (past_in r.book) (moment_in s r) (slot_in r.slots) h.shows asleep b left) (wake_burns_roomy s t i (past_in r.book) (moment_in s r) (slot_in r.slots) (sleeper_seen s x) h.shows h.roomy due b left (parts_of (b ∷ left) parts)) (record {
+      (wake_burns s t i (past_in r.book) (moment_in s r) (slot_in r.slots) h.shows asleep b left) (wake_burns_roomy s t i (past_in r.book) (moment_in s r) (slot_in r.slots) (sleeper_seen s x) h.shows h.roomy due its asleep b left (parts_of (b ∷ left) parts)) (record {
         cpu = ap (map (job_seen s)) cpu ∙ map-append (job_seen s) r.cpu.items (record { item = i; burn = b; next = x.next + 1 } ∷ []);
         sleeping = ap (map (sleeper_seen s)) sleeping ∙ seen_others s i r.sleeping.items;
         lines = lines;
       }))
 
   pub has_room_to_wake : takes r.book (seat r i) call.Wake ≡ true
-  has_room_to_wake = room_for s r.book (seat r i) call.Wake (moment_in s r) h.layout h.room refl (wake_roomy s t i (past_in r.book) (moment_in s r) (slot_in r.slots) (sleeper_seen s x) h.shows h.roomy due)
+  has_room_to_wake = room_for s r.book (seat r i) call.Wake (moment_in s r) h.layout h.room refl (wake_roomy s t i (past_in r.book) (moment_in s r) (slot_in r.slots) (sleeper_seen s x) h.shows h.roomy due its asleep)
 
   -- awake, and then at its end
   module _ (b : History) (book : b ≡ with_entry r.book (next_entry r.book (seat r i) call.Wake)) (parts : drop x.next (ms_of s i) ≡ []) where
@@ -209,7 +209,7 @@ module _ (s : Plan) (t i : ℕ) (r : Execution) (x : Asleep) (o : Option Asleep)
     awake_past = past_after s r.book b (seat r i) call.Wake h.layout book
 
     ended_roomy : IsRoomy s (then_calls s (past_in b) (slot_in r.slots i) call.Finish) (woken_as s t (moment_in s r) i [])
-    ended_roomy = rw awake_past (wake_ends_roomy s t i (past_in r.book) (moment_in s r) (slot_in r.slots) (sleeper_seen s x) h.shows h.roomy due (parts_of [] parts))
+    ended_roomy = rw awake_past (wake_ends_roomy s t i (past_in r.book) (moment_in s r) (slot_in r.slots) (sleeper_seen s x) h.shows h.roomy due its asleep (parts_of [] parts))
 
     pub has_room_to_finish : takes b (seat r i) call.Finish ≡ true
     has_room_to_finish = room_for s b (seat r i) call.Finish (woken_as s t (moment_in s r) i []) awake_layout (ap (λ (k : History). k.room) book ∙ h.room) refl ended_roomy
@@ -270,7 +270,7 @@ module _ (s : Plan) (r : Execution) (x n : ℕ) (h : Stands s r) (t : IsTaker r.
 
   pub some_part : drop 0 (ms_of s n) ≡ [] → ⊥
   some_part none =
-      let k = all_at (IsItem (length s.queues)) s.items n no_item h.limits.items starts_there in
+      let k = item_limits s n h.limits starts_there in
       omega (arith, k.parts.0, ap length none)
 
   pub starts : (r2 : Execution) (b : ℕ) → drop 0 (ms_of s n) ≡ b ∷ drop 1 (ms_of s n) → r2.book ≡ with_entry r.book (next_entry r.book (Worker (plan_worker x)) call.Take) → r2.slots ≡ set r.slots n x
@@ -337,7 +337,7 @@ module _ (s : Plan) (b : History) (k : ℕ) (limits : IsWithinLimits s) (h : Que
   few = omega (arith, limits.few_items)
 
   pub queue_there : plan_queue s k < length s.queues
-  queue_there = (all_at (IsItem (length s.queues)) s.items k no_item limits.items less).queue
+  queue_there = (item_limits s k limits less).queue
 
   next_roomy : room_needed (layout_for s) (entry_for (layout_for s) (past_in b) caller (queue_call s k) ∷ past_in b) + 2 * parts_left s (queue_item s (fold (queue_item s) empty (range_with_len 0 k)) k) ≤ 19 * (k + 1)
   next_roomy = queue_roomy s k (past_in b) (fold (queue_item s) empty (range_with_len 0 k)) h.shows limits less few queue_there h.roomy

@@ -31,10 +31,10 @@ module _ (s : Plan) (past : List Entry) (m : Moment) (slot : ℕ → ℕ) (e : E
   survivors k differs = grind (arith, nat_tests)
 
   ready_others : AllByRecursion (λ k. (k == i) ≡ false) m.ready
-  ready_others = let c = any_counted (is_job i) m.cpu on in let t = h.once i in count_none (λ k. k == i) m.ready (omega arith)
+  ready_others = count_none (λ k. k == i) m.ready (omega (arith, any_counted (is_job i) m.cpu on, h.once i))
 
   behind_others : AllByRecursion (λ k. (k == i) ≡ false) m.behind
-  behind_others = let c = any_counted (is_job i) m.cpu on in let t = h.once i in count_none (λ k. k == i) m.behind (omega arith)
+  behind_others = count_none (λ k. k == i) m.behind (omega (arith, any_counted (is_job i) m.cpu on, h.once i))
 
   open_after : still_open (e ∷ past) ≡ filter (survives past e) (still_open past)
   open_after = open_go_on (layout_for s) past e legal ∙ ap (λ r. filter (survives past e) (still_open past) ++ option_to_list (if opens r then option_and_then (λ j. option_map (queued_at past j) (place_wanted past e.call j)) (item_of e) else None)) is ∙ append-nil (filter (survives past e) (still_open past))
@@ -87,7 +87,7 @@ module _ (s : Plan) (past : List Entry) (m : Moment) (slot : ℕ → ℕ) (e : E
 -- ---- the lists
 
 moved_counts : (k : ℕ) (p : ℕ → Bool) (o : Option ℕ) (xs : List ℕ) → find p xs ≡ o → count_by (λ j. j == k) (filter (is_kept o) xs) + count_by (λ j. j == k) (option_to_list o) ≤ count_by (λ j. j == k) xs
-moved_counts k p None xs h = let f = fewer_kept (λ j. j == k) (is_kept None) xs in omega arith
+moved_counts k p None xs h = omega (arith, fewer_kept (λ j. j == k) (is_kept None) xs)
 moved_counts k p (Some z) xs h =
     let a = taken_out (λ j. j) k z xs in
     let b = any_counted (λ j. j == z) xs (found_there p xs z h) in
@@ -113,14 +113,10 @@ finish_shown s past m slot i o h on first = record {
   ready = ready_after s past m slot e i h legal is on o makes;
   behind = behind_after s past m slot e i h legal is on o makes;
   cpu = All_filter (λ k. IsRunAt (e ∷ past) (slot k.item) k.item false) (λ k. not (is_job i k)) m.cpu (All_map (λ k. IsRunAt past (slot k.item) k.item false) _ m.cpu (λ k r kept. other k.item false r (not-true (is_job i k) kept)) h.cpu);
-  sleeping = All_both (λ k. IsRunAt past (slot k.item) k.item true) (λ k. is_sleeper i k ≡ false) _ m.sleeping (λ k r differs. other k.item true r differs) h.sleeping (let c = any_counted (is_job i) m.cpu on in let t = h.once i in count_none (is_sleeper i) m.sleeping (omega arith));
+  sleeping = All_both (λ k. IsRunAt past (slot k.item) k.item true) (λ k. is_sleeper i k ≡ false) _ m.sleeping (λ k r differs. other k.item true r differs) h.sleeping (count_none (is_sleeper i) m.sleeping (omega (arith, any_counted (is_job i) m.cpu on, h.once i)));
   no_others = λ w n runs. at w n (is_by (Worker w) e) refl (sym (workers_run_on (layout_for s) past e w legal) ∙ runs);
-  once = λ k.
-      let a = count_append (λ j. j == k) m.ready (option_to_list o) in
-      omega (arith, h.once k, moved_counts k (is_of_plan_queue s (plan_queue s i)) o m.behind first, fewer_kept (is_job k) (λ j. not (is_job i j)) m.cpu);
-  few =
-      let a = length-append m.ready (option_to_list o) in
-      omega (arith, h.few, moved_length (is_of_plan_queue s (plan_queue s i)) o m.behind first, filter_shorter (λ j. not (is_job i j)) m.cpu);
+  once = λ k. omega (arith, h.once k, count_append (λ j. j == k) m.ready (option_to_list o), moved_counts k (is_of_plan_queue s (plan_queue s i)) o m.behind first, fewer_kept (is_job k) (λ j. not (is_job i j)) m.cpu);
+  few = omega (arith, h.few, length-append m.ready (option_to_list o), moved_length (is_of_plan_queue s (plan_queue s i)) o m.behind first, filter_shorter (λ j. not (is_job i j)) m.cpu);
 }
   where
     e : Entry

@@ -49,9 +49,6 @@ pub data IdleOrAll (s : Layout) (past : List Entry) (p : PoolId) : Type 0 where
   idle : (x : ℕ) → x < s.workers → is_idle past p x ≡ true → IdleOrAll s past p
   all : ((x : ℕ) → x < s.workers → is_enlisted past (worker_at p x) ≡ true) → IdleOrAll s past p
 
-abbrev pub NoneRetired : List Entry → Type 0
-NoneRetired past = AllByRecursion (λ e. is_retired e.reply ≡ false) past
-
 pub idle_parts : (past : List Entry) (p : PoolId) (x : ℕ) → is_idle past p x ≡ true → (is_enlisted past (worker_at p x) ≡ true) × (run past (worker_at p x) ≡ None)
 idle_parts past p x h = grind arith
 
@@ -94,7 +91,7 @@ after_start s past e p x n legal kept who is enlists_it = elim (any_below (is_ot
         free None h = refl
         free (Some m) h = absurd (h m refl)
 
-pub idle_or_all : (s : Layout) (past : List Entry) (p : PoolId) → IsLegal s past → NoneRetired past → 0 < s.workers → IdleOrAll s past p
+pub idle_or_all : (s : Layout) (past : List Entry) (p : PoolId) → IsLegal s past → AllByRecursion (λ e. is_retired e.reply ≡ false) past → 0 < s.workers → IdleOrAll s past p
 unfolding IsLegal is_enlisted last_start
 idle_or_all s [] p legal kept some = idle 0 some refl
 idle_or_all s (e ∷ past) p legal kept some = elim (idle_or_all s past p legal.2 kept.1 some) [

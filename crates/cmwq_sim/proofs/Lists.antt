@@ -1,5 +1,5 @@
 -- Lists: what is there, and what is left where some are taken out; with what the other proofs name of lists and truth values.
-use Rattle.cmwq_sim.specs.Common.{◌≡◌, ◌==◌, ◌<◌, ◌≤◌, ◌+◌, ℕ, zero, suc, Bool, true, false, cond, not, List, [], ◌∷◌, ◌++◌, ◌||◌, length, map, filter, find, count_by, Option, Some, None, refl, sym, ap, ◌∙◌, subst, arith, ⊎_elim, cases_eq, ne_eqb, eq-eqb, sum_by, AllByRecursion, list_any, range_with_len, nat_tests, count_by-cons, All_filter, All_map, found, of_in}
+use Rattle.cmwq_sim.specs.Common.{◌≡◌, ◌==◌, ◌<◌, ◌≤◌, ◌+◌, ℕ, zero, suc, Bool, true, false, cond, not, List, [], ◌∷◌, ◌++◌, ◌||◌, length, map, filter, find, count_by, Option, Some, None, refl, sym, ap, ◌∙◌, subst, arith, ⊎_elim, cases_eq, ne_eqb, eq-eqb, sum_by, AllByRecursion, list_any, range_with_len, nat_tests, count_by-cons, All_filter, All_map, found, of_in, sum_by_push}
 use Rattle.std.proofs.lemmas.List.Filters.{length-filter_both, sum_by-filter_both}
 pub use Rattle.cmwq_lemmas.proofs.Lists.{All_push, count_append, count_by-head, filter_all, filter_shorter, find_none, found_passes, range_below, range_more}
 pub use Rattle.cmwq_lemmas.proofs.Truth.{and_false, or_false}
@@ -54,6 +54,9 @@ last_any p xs x = list_any-append p xs (x ∷ []) ∙ ap (λ b. list_any p xs ||
 pub none_found_any : {X : Type 0} (p : X → Bool) (xs : List X) → find p xs ≡ None → list_any p xs ≡ false
 none_found_any p [] is = refl
 none_found_any p (x ∷ xs) is = grind (arith, none_found_any p xs)
+
+pub count_push : {X : Type 0} (p : X → Bool) (xs : List X) (x : X) → count_by p (xs ++ x ∷ []) ≡ count_by p xs + cond (p x) 1 0
+count_push p = sum_by_push (λ x. cond (p x) 1 0)
 
 -- ---- some are taken out
 

@@ -7,7 +7,7 @@ use Rattle.cmwq_sim.specs.Lines.{Moment, Job, Sleeper, make_ready, end_job, afte
 use Rattle.cmwq_sim.specs.Shows.{is_job, is_sleeper, times}
 use Rattle.cmwq_sim.specs.Ends.{is_end_line, tells_end, EachEndsOnce}
 use Rattle.cmwq_sim.proofs.Phases.{due_item, asleep_there}
-use Rattle.cmwq_sim.proofs.Lists.{any_counted, found_there, taken_out, once_among, once_there, or_false, found_passes, count_append}
+use Rattle.cmwq_sim.proofs.Lists.{any_counted, found_there, taken_out, once_among, once_there, or_false, found_passes, count_append, count_push}
 use Rattle.cmwq_sim.proofs.TakeShown.{job_item}
 use Rattle.cmwq_sim.proofs.Progress.{starting_first}
 use Rattle.cmwq_sim.proofs.Outset.{queue_keeps, all_weigh, all_items_end}
@@ -18,7 +18,7 @@ seen i m = times m i + count_by (tells_end i) m.lines
 
 -- one more line, and whether it tells the end
 told : (i t : ℕ) (k : LineKind) (is : List ℕ) (ls : List Event) → count_by (tells_end i) (ls ++ record { at = t; kind = k; items = is } ∷ []) ≡ count_by (tells_end i) ls + cond (is_end_line k && list_any (λ j. j == i) is) 1 0
-told i t k is ls = let a = count_append (tells_end i) ls (record { at = t; kind = k; items = is } ∷ []) in let b = count_by-cons (tells_end i) (record { at = t; kind = k; items = is }) [] in omega arith
+told i t k is ls = count_push (tells_end i) ls (record { at = t; kind = k; items = is })
 
 -- ---- the phases
 
@@ -34,8 +34,7 @@ ends_seen s i k m once = at (find (is_of_plan_queue s (plan_queue s k)) m.behind
     at (Some z) some =
         let a = taken_out (λ j. j) i z m.behind in
         let b = any_counted (λ j. j == z) m.behind (found_there (is_of_plan_queue s (plan_queue s k)) m.behind z some) in
-        let c = count_append (λ j. j == i) m.ready (z ∷ []) in
-        let d = count_by-cons (λ j. j == i) z [] in
+        let c = count_push (λ j. j == i) m.ready z in
         grind (arith, once z)
 
 served_seen : (s : Plan) (t i : ℕ) (m : Moment) → Once m → seen i (serve s t m) ≡ seen i m
@@ -56,10 +55,7 @@ served_seen s t i m once = at m.cpu refl
         over true [] =
             let a = ends_seen s i j.item (tell t kind.Ends (j.item ∷ []) (record m { cpu = js })) (fewer (m.lines ++ record { at = t; kind = kind.Ends; items = j.item ∷ [] } ∷ [])) in
             omega (arith, told i t kind.Ends (j.item ∷ []) m.lines ∙ ap (λ c. count_by (tells_end i) m.lines + cond c 1 0) (or_false (j.item == i)), first i)
-        over true (pause ∷ left) =
-            let a = count_append (is_sleeper i) m.sleeping (record { item = j.item; until = t + pause; left = left } ∷ []) in
-            let b = count_by-cons (is_sleeper i) (record { item = j.item; until = t + pause; left = left }) [] in
-            omega (arith, told i t kind.Sleeps (j.item ∷ []) m.lines, first i)
+        over true (pause ∷ left) = omega (arith, first i, count_push (is_sleeper i) m.sleeping (record { item = j.item; until = t + pause; left = left }), told i t kind.Sleeps (j.item ∷ []) m.lines)
 
 woken_seen : (s : Plan) (t i k : ℕ) (m : Moment) → Once m → seen i (wake_item s t m k) ≡ seen i m
 woken_seen s t i k m once = at (find (is_due t k) m.sleeping) refl
@@ -84,10 +80,7 @@ woken_seen s t i k m once = at (find (is_due t k) m.sleeping) refl
         after [] =
             let a = ends_seen s i x.item (tell t kind.WakesEnds (x.item ∷ []) (record m { sleeping = filter (is_other_sleeper x.item) m.sleeping })) (fewer (m.lines ++ record { at = t; kind = kind.WakesEnds; items = x.item ∷ [] } ∷ [])) in
             omega (arith, told i t kind.WakesEnds (x.item ∷ []) m.lines ∙ ap (λ c. count_by (tells_end i) m.lines + cond c 1 0) (or_false (x.item == i)), out i)
-        after (b ∷ left) =
-            let a = count_append (is_job i) m.cpu (record { item = x.item; burn = b; left = left } ∷ []) in
-            let d = count_by-cons (is_job i) (record { item = x.item; burn = b; left = left }) [] in
-            omega (arith, told i t kind.WakesBurns (x.item ∷ []) m.lines, out i)
+        after (b ∷ left) = omega (arith, out i, count_push (is_job i) m.cpu (record { item = x.item; burn = b; left = left }), told i t kind.WakesBurns (x.item ∷ []) m.lines)
 
 -- so do steps in turn
 all_steps : (step : Moment → ℕ → Moment) → ((m : Moment) (k : ℕ) → Once m → (i : ℕ) → seen i (step m k) ≡ seen i m) → (i len k : ℕ) (m : Moment) → Once m → seen i (fold step m (range_with_len k len)) ≡ seen i m

@@ -1,11 +1,11 @@
 -- At the outset as much is left to do as the items have in all.
 use Rattle.cmwq_sim.specs.Common.{◌≡◌, ◌<◌, ◌≤◌, ◌+◌, ℕ, zero, suc, Bool, true, false, ◌||◌, List, [], ◌∷◌, ◌++◌, length, drop, count_by, nat_lt, refl, sym, ap, ◌∙◌, subst, arith, inl, add-one, drop-cons, if◌then◌else◌, slice_index_or, sum_by, fold, AllByRecursion, list_any, range_with_len, eqb-true, nat_tests, sum_by-cons, sum_by_push}
 use Rattle.cmwq_sim.specs.Plan.{Plan, plan_queue, plan_width, is_of_plan_queue, time_of, whole_time, no_item, no_sim_queue}
-use Rattle.cmwq_sim.specs.Limits.{IsQueue, IsItem, IsWithinLimits}
+use Rattle.cmwq_sim.specs.Limits.{IsQueue, IsWithinLimits}
 use Rattle.cmwq_sim.specs.Lines.{Moment, Job, Sleeper, queue_item, queued_at_first, empty}
 use Rattle.cmwq_sim.specs.Ends.{AllItemsEnd}
 use Rattle.cmwq_sim.proofs.Lists.{counted_any, last_any, drop_all, list_any-append, sum-map, All_push}
-use Rattle.cmwq_sim.proofs.Progress.{all_at, time_at, job_rest, sleeper_rest, weight, rest, of_job, of_sleeper, IsSleeper, FirstMayBeDone, Begins, all_pass}
+use Rattle.cmwq_sim.proofs.Progress.{all_at, item_limits, time_at, job_rest, sleeper_rest, weight, rest, of_job, of_sleeper, IsSleeper, FirstMayBeDone, Begins, all_pass}
 
 -- while the items are queued
 pub record Queues (s : Plan) (m : Moment) : Type 0 where
@@ -14,7 +14,7 @@ pub record Queues (s : Plan) (m : Moment) : Type 0 where
   pub held : (q : ℕ) → list_any (is_of_plan_queue s q) m.behind ≡ true → list_any (is_of_plan_queue s q) m.ready ≡ true
 
 some_width : (s : Plan) (i : ℕ) → IsWithinLimits s → i < length s.items → 1 ≤ plan_width s (plan_queue s i)
-some_width s i fine less = (all_at IsQueue s.queues (plan_queue s i) no_sim_queue fine.queues (all_at (IsItem (length s.queues)) s.items i no_item fine.items less).queue).0
+some_width s i fine less = (all_at IsQueue s.queues (plan_queue s i) no_sim_queue fine.queues (item_limits s i fine less).queue).0
 
 pub queues : (s : Plan) (m : Moment) (i : ℕ) → IsWithinLimits s → i < length s.items → Queues s m → Queues s (queue_item s m i)
 queues s m i fine less h = at (nat_lt (count_by (is_of_plan_queue s (plan_queue s i)) (m.ready ++ m.behind)) (plan_width s (plan_queue s i))) refl

@@ -15,6 +15,10 @@ all_at P [] i d all less = absurd (omega arith)
 all_at P (x ∷ xs) zero d all less = all.0
 all_at P (x ∷ xs) (suc i) d all less = all_at P xs i d all.1 (omega arith)
 
+-- what the limits say of one item
+pub item_limits : (s : Plan) (i : ℕ) → IsWithinLimits s → i < length s.items → IsItem (length s.queues) (slice_index_or s.items i no_item)
+item_limits s i fine less = all_at (IsItem (length s.queues)) s.items i no_item fine.items less
+
 any_still : {X : Type 0} (p q : X → Bool) (xs : List X) → list_any p (filter q xs) ≡ true → list_any p xs ≡ true
 any_still p q [] h = h
 any_still p q (x ∷ xs) h = grind (arith, any_still p q xs)
@@ -266,11 +270,8 @@ starting_some s (i ∷ xs) h = cc
 
 -- a job that starts has time to burn
 starts_running : (s : Plan) (i : ℕ) → IsWithinLimits s → i < length s.items → IsRunning s (job_of s i)
-starts_running s i fine less = at (ms_of s i) here.parts here.ms
+starts_running s i fine less = let here = item_limits s i fine less in at (ms_of s i) here.parts here.ms
   where
-    here : IsItem (length s.queues) (slice_index_or s.items i no_item)
-    here = all_at (IsItem (length s.queues)) s.items i no_item fine.items less
-
     at : (ms : List ℕ) → IsBetween 1 8 (length ms) → AllByRecursion (IsBetween 1 1000) ms → IsRunning s (job_with i ms)
     at [] some each = absurd (omega (arith, some.0))
     at (b ∷ ms) some each = record { job = record { there = less; left = All_map (IsBetween 1 1000) (λ n. 1 ≤ n) ms (λ n k. k.0) each.1 }; burns = each.0.0 }

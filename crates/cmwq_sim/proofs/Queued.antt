@@ -10,7 +10,7 @@ use Rattle.cmwq_sim.specs.Plan.{Plan, plan_queue, is_of_plan_queue, plan_width, 
 use Rattle.cmwq_sim.specs.Lines.{Moment, Job, Sleeper, queue_item, empty}
 use Rattle.cmwq_sim.specs.Shows.{layout_for, queue_shape, pool, queueing_for, is_job, is_sleeper, IsRunAt, Shows}
 use Rattle.cmwq_lemmas.proofs.Members.{in_left}
-use Rattle.cmwq_sim.proofs.Lists.{once_among, filter-append, false_from_ne_true, none-some, filter_all, range_more, count_append, range_below}
+use Rattle.cmwq_sim.proofs.Lists.{once_among, filter-append, false_from_ne_true, none-some, filter_all, range_more, count_append, range_below, count_push}
 use Rattle.cmwq_sim.proofs.Steps.{EndsNone, spares, all_survive, none_ends, active_as_before}
 use Rattle.cmwq_sim.proofs.FinishShown.{in_pool}
 
@@ -32,45 +32,36 @@ pub record IsQueued (e : Entry) : Type 0 where
   pub who : worker_of e.who ≡ None
   pub says : Says e.reply
 
-never_finished : (past : List Entry) (n : ℕ) → AllByRecursion IsQueued past → is_finished past n ≡ false
-never_finished [] n all = refl
-never_finished (e ∷ past) n all = ap₂ (λ o b. is_at o n || b) all.0.says.ends.finishes (never_finished past n all.1)
+-- of what is only queued nothing else is told
+pub record OnlyQueued (past : List Entry) : Type 0 where
+  pub never_finished : (n : ℕ) → is_finished past n ≡ false
+  pub never_cancelled : (i n : ℕ) → is_cancelled past i n ≡ false
+  pub nobody_started : (w : WorkerId) → last_start past w ≡ None
+  pub no_item_start : (i : ℕ) → item_start past i ≡ None
+  pub no_booking : (i : ℕ) → booking past i ≡ None
+  pub no_tickets : tickets past ≡ []
+  pub never_gone : (q : ℕ) → is_gone past q ≡ false
 
-never_cancelled : (past : List Entry) (i n : ℕ) → AllByRecursion IsQueued past → is_cancelled past i n ≡ false
-unfolding is_cancelled
-never_cancelled [] i n all = refl
-never_cancelled (e ∷ past) i n all = grind (arith, all.0.says.ends, never_cancelled past i n all.1)
+only_queued : (past : List Entry) → AllByRecursion IsQueued past → OnlyQueued past
+unfolding is_cancelled last_start item_start booking tickets is_gone
+only_queued [] all = record { never_finished = λ n. refl; never_cancelled = λ i n. refl; nobody_started = λ w. refl; no_item_start = λ i. refl; no_booking = λ i. refl; no_tickets = refl; never_gone = λ q. refl }
+only_queued (e ∷ past) all =
+    let k = only_queued past all.1 in
+    record {
+      never_finished = λ n. ap₂ (λ o b. is_at o n || b) all.0.says.ends.finishes (k.never_finished n);
+      never_cancelled = λ i n. grind (arith, all.0.says.ends, k.never_cancelled i n);
+      nobody_started = λ w. grind (arith, all.0.says.starts, k.nobody_started w);
+      no_item_start = λ i. ap₂ (λ o l. if option_map_or (λ (start : Start). is_at (item_at past start.number) i) o false then o else l) (ap (option_and_then _) all.0.who) (k.no_item_start i);
+      no_booking = λ i. grind (arith, all.0.says.due, k.no_booking i);
+      no_tickets = ap₂ (λ ts b. ts ++ option_to_list (if b then ticket_for e.who e.call (length past) else None)) k.no_tickets all.0.says.tickets;
+      never_gone = λ q. ap₂ (λ a b. a || (b && ends_destroy past q e.who e.call)) (k.never_gone q) all.0.says.done;
+    }
 
 stays_open : (past : List Entry) (i n : ℕ) → AllByRecursion IsQueued past → is_open past i n ≡ nat_lt n (length past)
-stays_open past i n all = grind (arith, never_finished past n all, never_cancelled past i n all)
-
-nobody_started : (past : List Entry) (w : WorkerId) → AllByRecursion IsQueued past → last_start past w ≡ None
-unfolding last_start
-nobody_started [] w all = refl
-nobody_started (e ∷ past) w all = grind (arith, all.0.says.starts, nobody_started past w all.1)
-
-no_item_start : (past : List Entry) (i : ℕ) → AllByRecursion IsQueued past → item_start past i ≡ None
-unfolding item_start
-no_item_start [] i all = refl
-no_item_start (e ∷ past) i all = ap₂ (λ o l. if option_map_or (λ (start : Start). is_at (item_at past start.number) i) o false then o else l) (ap (option_and_then _) all.0.who) (no_item_start past i all.1)
+stays_open past i n all = let k = only_queued past all in grind (arith, k.never_finished n, k.never_cancelled i n)
 
 no_item_run : (past : List Entry) (i : ℕ) → AllByRecursion IsQueued past → item_run past i ≡ None
-no_item_run past i all = ap (option_and_then _) (no_item_start past i all)
-
-no_booking : (past : List Entry) (i : ℕ) → AllByRecursion IsQueued past → booking past i ≡ None
-unfolding booking
-no_booking [] i all = refl
-no_booking (e ∷ past) i all = grind (arith, all.0.says.due, no_booking past i all.1)
-
-no_tickets : (past : List Entry) → AllByRecursion IsQueued past → tickets past ≡ []
-unfolding tickets
-no_tickets [] all = refl
-no_tickets (e ∷ past) all = ap₂ (λ ts b. ts ++ option_to_list (if b then ticket_for e.who e.call (length past) else None)) (no_tickets past all.1) all.0.says.tickets
-
-never_gone : (past : List Entry) (q : ℕ) → AllByRecursion IsQueued past → is_gone past q ≡ false
-unfolding is_gone
-never_gone [] q all = refl
-never_gone (e ∷ past) q all = ap₂ (λ a b. a || (b && ends_destroy past q e.who e.call)) (never_gone past q all.1) all.0.says.done
+no_item_run past i all = ap (option_and_then _) ((only_queued past all).no_item_start i)
 
 -- ---- one more item
 
@@ -120,9 +111,9 @@ module _ (s : Plan) (k : ℕ) (past : List Entry) (m : Moment) (h : ShowsQueued 
   pub answered : answer (layout_for s) past caller (queue_call s k) ≡ reply.Yes k
   unfolding answer queue_answer
   answered = at (is_gone past (plan_queue s k)) (is_cancelling past k) (is_pending past k) (runs_elsewhere past k (plan_queue s k)) (is_shut past caller (plan_queue s k) 0)
-      (never_gone past (plan_queue s k) h.all) (ap (λ ts. list_any (is_cancel_sync_of k) (filter (is_unended past) ts)) (no_tickets past h.all)) (ap₂ (λ a b. is_some a || is_some b) (no_booking past k h.all) free)
+      ((only_queued past h.all).never_gone (plan_queue s k)) (ap (λ ts. list_any (is_cancel_sync_of k) (filter (is_unended past) ts)) (only_queued past h.all).no_tickets) (ap₂ (λ a b. is_some a || is_some b) ((only_queued past h.all).no_booking k) free)
       (ap (λ o. option_map_or (λ (start : Start). not (is_at (queue_run past start.number) (plan_queue s k))) o false) (no_item_run past k h.all))
-      (ap (λ ts. list_any (is_drain_of (plan_queue s k)) (filter (is_unended past) ts) && true) (no_tickets past h.all))
+      (ap (λ ts. list_any (is_drain_of (plan_queue s k)) (filter (is_unended past) ts) && true) (only_queued past h.all).no_tickets)
       ∙ ap reply.Yes h.many
     where
       at : (gone cancelling pending elsewhere shut : Bool) → gone ≡ false → cancelling ≡ false → pending ≡ false → elsewhere ≡ false → shut ≡ false
@@ -218,8 +209,8 @@ module _ (s : Plan) (k : ℕ) (past : List Entry) (m : Moment) (h : ShowsQueued 
   unfolding queueings
   queue_shown few there = at has_place refl
     where
-      counts_more : (p : ℕ → Bool) → count_by p (range_with_len 0 (suc k)) ≡ count_by p m.ready + count_by p m.behind + count_by p (k ∷ [])
-      counts_more p = omega (arith, h.counts p, count_append p m.ready m.behind, ap (count_by p) (range_more 0 k ∙ ap (λ n. range_with_len 0 k ++ n ∷ []) (omega arith)) ∙ count_append p (range_with_len 0 k) (k ∷ []))
+      counts_more : (p : ℕ → Bool) → count_by p (range_with_len 0 (suc k)) ≡ count_by p m.ready + count_by p m.behind + cond (p k) 1 0
+      counts_more p = omega (arith, h.counts p, count_append p m.ready m.behind, ap (count_by p) (range_more 0 k ∙ ap (λ n. range_with_len 0 k ++ n ∷ []) (omega arith)) ∙ count_push p (range_with_len 0 k) k)
 
       still_wide : (q : ℕ) → width (layout_for s) (entry ∷ past) q ≡ first_width (layout_for s) q
       still_wide q = width_same (layout_for s) past entry q said.widths ∙ h.wide q
@@ -243,9 +234,9 @@ module _ (s : Plan) (k : ℕ) (past : List Entry) (m : Moment) (h : ShowsQueued 
 
       at : (b : Bool) → has_place ≡ b → ShowsQueued s (suc k) (entry ∷ past) (if b then record m { ready = m.ready ++ k ∷ [] } else record m { behind = m.behind ++ k ∷ [] })
       at true is = shows (m.ready ++ k ∷ []) m.behind (rw is at (ready_after few there)) (rw (is, append-nil m.behind) at (behind_after few there))
-          (λ p. omega (arith, count_append p (m.ready ++ k ∷ []) m.behind, count_append p m.ready (k ∷ []), counts_more p))
+          (λ p. omega (arith, count_append p (m.ready ++ k ∷ []) m.behind, count_push p m.ready k, counts_more p))
       at false is = shows m.ready (m.behind ++ k ∷ []) (rw (is, append-nil m.ready) at (ready_after few there)) (rw is at (behind_after few there))
-          (λ p. omega (arith, count_append p m.ready (m.behind ++ k ∷ []), count_append p m.behind (k ∷ []), counts_more p))
+          (λ p. omega (arith, count_append p m.ready (m.behind ++ k ∷ []), count_push p m.behind k, counts_more p))
 
 -- ---- before the first, and when all are queued
 
@@ -276,7 +267,7 @@ all_shown s past m slot few cpu sleeping h = record {
   behind = h.behind;
   cpu = subst (AllByRecursion (λ j. IsRunAt past (slot j.item) j.item false)) (sym cpu) tt;
   sleeping = subst (AllByRecursion (λ x. IsRunAt past (slot x.item) x.item true)) (sym sleeping) tt;
-  no_others = λ w n runs. absurd (none-some n (sym (ap (option_and_then _) (nobody_started past w h.all)) ∙ runs));
+  no_others = λ w n runs. absurd (none-some n (sym (ap (option_and_then _) ((only_queued past h.all).nobody_started w)) ∙ runs));
   once = λ i.
       let a = ap₂ (λ (js : List Job) (xs : List Sleeper). count_by (is_job i) js + count_by (is_sleeper i) xs) cpu sleeping in
       omega (arith, count_append (λ j. j == i) m.ready m.behind, h.counts (λ j. j == i), once_among 0 (length s.items) i);

@@ -13,10 +13,9 @@ use Rattle.cmwq_sim.proofs.TakeReads.{sleep_answered, finish_answered, wake_answ
 use Rattle.cmwq_sim.proofs.TakeShown.{started_with, starts_one, take_shown}
 use Rattle.cmwq_sim.proofs.WakeShown.{wake_shown}
 use Rattle.cmwq_sim.proofs.TakersAre.{taker_starts}
-use Rattle.cmwq_sim.proofs.Phases.{serve_sleeps, serve_ends, wake_ends, asleep_there, due_item, joined, may_start}
+use Rattle.cmwq_sim.proofs.Phases.{serve_sleeps, serve_ends, wake_ends, joined, may_start}
 use Rattle.cmwq_sim.proofs.Queued.{ShowsQueued, queue_call, caller, queue_shown, answered}
 use Rattle.cmwq_sim.proofs.Roomy.{needs_two, needs_three, sleep_takes_one, end_takes_none, wake_takes_none, start_parts, queued_parts}
-use Rattle.cmwq_sim.proofs.Lists.{found_passes}
 use Rattle.cmwq_sim.proofs.Steps.{then_calls, served_as, woken_as}
 
 -- so there is room for what would be appended
@@ -36,13 +35,7 @@ end_roomy s t past m slot j js h roomy is =
     let a = promised_need_no_more (layout_for s) past _ (serve_ends s t past m slot j js h is).legal (ap is_promised (finish_answered s past (slot j.item) j.item run.0)) in
     omega (arith, end_takes_none s t m j js is)
 
-module _ (s : Plan) (t i : ℕ) (past : List Entry) (m : Moment) (slot : ℕ → ℕ) (x : Sleeper) (h : Shows s past m slot) (roomy : IsRoomy s past m) (due : find (is_due t i) m.sleeping ≡ Some x) where
-  asleep : list_any (is_sleeper i) m.sleeping ≡ true
-  asleep = asleep_there t i m x due
-
-  its : x.item ≡ i
-  its = due_item t i x (found_passes (is_due t i) m.sleeping x due)
-
+module _ (s : Plan) (t i : ℕ) (past : List Entry) (m : Moment) (slot : ℕ → ℕ) (x : Sleeper) (h : Shows s past m slot) (roomy : IsRoomy s past m) (due : find (is_due t i) m.sleeping ≡ Some x) (its : x.item ≡ i) (asleep : list_any (is_sleeper i) m.sleeping ≡ true) where
   woke : is_promised (entry_for (layout_for s) past (Worker (plan_worker (slot i))) call.Wake).reply ≡ true
   woke = ap is_promised (wake_answered s past (slot i) i (run_of (λ (y : Sleeper). y.item) past slot true i m.sleeping h.sleeping asleep))
 

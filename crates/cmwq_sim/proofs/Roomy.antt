@@ -5,12 +5,12 @@ use Rattle.cmwq_theory_steps.proofs.OwedFrozen.{frozen_counted}
 use Rattle.cmwq_theory_steps.proofs.OwedItems.{tickets_counted, booked_counted}
 use Rattle.cmwq_theory_steps.proofs.OwedWaiting.{waiting_counted}
 use Rattle.cmwq_sim.specs.declared.scenario.LineKind.TheVariants as kind
-use Rattle.cmwq_sim.specs.Plan.{Plan, no_item}
+use Rattle.cmwq_sim.specs.Plan.{Plan}
 use Rattle.cmwq_sim.specs.Rooms.{parts_at, parts_of_job, parts_of_sleeper, parts_left}
 use Rattle.cmwq_sim.specs.Lines.{queue_item, Moment, Job, Sleeper, is_due, is_other_sleeper, tell, job_with}
 use Rattle.cmwq_sim.specs.Shows.{layout_for}
-use Rattle.cmwq_sim.specs.Limits.{IsItem, IsWithinLimits}
-use Rattle.cmwq_sim.proofs.Progress.{all_at, found_apart, end_weighs}
+use Rattle.cmwq_sim.specs.Limits.{IsWithinLimits}
+use Rattle.cmwq_sim.proofs.Progress.{item_limits, found_apart, end_weighs}
 use Rattle.cmwq_sim.proofs.Outset.{queue_weighs}
 use Rattle.cmwq_sim.proofs.Steps.{served_as, woken_as}
 
@@ -53,4 +53,4 @@ pub start_parts : (i : ℕ) (ms : List ℕ) → length (job_with i ms).left ≤ 
 start_parts i ms = grind arith
 
 pub queued_parts : (s : Plan) (m : Moment) (i : ℕ) → IsWithinLimits s → i < length s.items → parts_left s (queue_item s m i) ≤ parts_left s m + 8
-queued_parts s m i fine less = omega (arith, queue_weighs s m i (parts_at s) parts_of_job parts_of_sleeper, (all_at (IsItem (length s.queues)) s.items i no_item fine.items less).parts.1)
+queued_parts s m i fine less = omega (arith, queue_weighs s m i (parts_at s) parts_of_job parts_of_sleeper, (item_limits s i fine less).parts.1)

@@ -5,7 +5,7 @@ use Rattle.cmwq_model.specs.declared.reply.Reply.TheVariants as reply
 use Rattle.cmwq_sim.specs.Plan.{Plan}
 use Rattle.cmwq_sim.specs.Lines.{Moment, Job, after_burn, after_sleep, is_other_sleeper}
 use Rattle.cmwq_sim.specs.Shows.{layout_for, pool, plan_worker, IsRunAt, is_job, is_sleeper, runs_in, times, Shows}
-use Rattle.cmwq_sim.proofs.Lists.{none_kept, last_any, both_ways, filter_all, count_append}
+use Rattle.cmwq_sim.proofs.Lists.{none_kept, last_any, both_ways, filter_all, count_push}
 use Rattle.cmwq_sim.proofs.Idle.{not_by}
 use Rattle.cmwq_sim.proofs.TakeReads.{sleep_answered}
 
@@ -113,10 +113,7 @@ sleep_shown s past m slot j rest until left h is = record {
       (All_both (λ x. IsRunAt past (slot x.item) x.item true) (λ x. is_sleeper j.item x ≡ false) _ m.sleeping (λ x r differs. other x.item true r differs) h.sleeping apart.1)
       (record { runs = same_runs (layout_for s) past e (plan_worker (slot j.item)) legal after ∙ jobs.0.runs; sleeps = ap₂ (λ c r. if c then asleep_after r (is_asleep past (plan_worker (slot j.item))) else is_asleep past (plan_worker (slot j.item))) (by_itself e (plan_worker (slot j.item)) refl) slept }, tt);
   no_others = λ w n runs. let k = h.no_others w n (sym (same_runs (layout_for s) past e w legal after) ∙ runs) in (k.0, moved n k.1);
-  once = λ i.
-      let c = ap (count_by (is_job i)) is ∙ count_by-cons (is_job i) j rest in
-      let d = count_append (is_sleeper i) m.sleeping (record { item = j.item; until = until; left = left } ∷ []) in
-      omega (arith, h.once i, count_by-cons (is_sleeper i) (record { item = j.item; until = until; left = left }) []);
+  once = λ i. omega (arith, h.once i, ap (count_by (is_job i)) is ∙ count_by-cons (is_job i) j rest, count_push (is_sleeper i) m.sleeping (record { item = j.item; until = until; left = left }));
   few = omega (arith, h.few, ap length is, length-append m.sleeping (record { item = j.item; until = until; left = left } ∷ []));
 }
   where

@@ -5,7 +5,7 @@ use Rattle.cmwq_model.specs.declared.reply.Reply.TheVariants as reply
 use Rattle.cmwq_sim.specs.Plan.{Plan, ms_of}
 use Rattle.cmwq_sim.specs.Lines.{Moment, is_job_held, job_of, job_with}
 use Rattle.cmwq_sim.specs.Shows.{layout_for, pool, plan_worker, queueing_for, IsRunAt, is_job, is_sleeper, runs_in, Shows, to_start, next_of}
-use Rattle.cmwq_sim.proofs.Lists.{last_any, all_mapped_pass, none-some, count_append}
+use Rattle.cmwq_sim.proofs.Lists.{last_any, all_mapped_pass, none-some, count_push}
 use Rattle.cmwq_sim.proofs.Idle.{idle_parts}
 use Rattle.cmwq_sim.proofs.TakeReads.{take_answered, runs_counted}
 use Rattle.cmwq_sim.proofs.Steps.{IsQuiet, none_opens, worklist_as_before, waiting_as_before, goes_by, then_calls}
@@ -49,9 +49,8 @@ take_shown s past m slot x i rest h less free is clear = record {
   sleeping = All_both (λ k. IsRunAt past (slot k.item) k.item true) (λ k. is_sleeper i k ≡ false) _ m.sleeping (λ k r differs. other k.item true r differs) h.sleeping (count_none (is_sleeper i) m.sleeping (omega (arith, counts, h.once i)));
   no_others = λ w n runs. at w n (is_by (Worker w) e) refl (sym (workers_run_on (layout_for s) past e w legal) ∙ runs);
   once = λ k.
-      let a = ap (count_by (λ j. j == k)) is ∙ count_by-cons (λ j. j == k) i rest in
-      let b = count_append (is_job k) m.cpu (job_of s i ∷ []) in
-      omega (arith, h.once k, count_by-cons (is_job k) (job_of s i) [] ∙ ap (λ j. cond (j == k) 1 0 + 0) (job_item i (ms_of s i)));
+      let a = count_push (is_job k) m.cpu (job_of s i) ∙ ap (λ j. count_by (is_job k) m.cpu + cond (j == k) 1 0) (job_item i (ms_of s i)) in
+      omega (arith, h.once k, ap (count_by (λ j. j == k)) is ∙ count_by-cons (λ j. j == k) i rest);
   few = omega (arith, h.few, ap length is, length-append m.cpu (job_of s i ∷ []));
 }
   where

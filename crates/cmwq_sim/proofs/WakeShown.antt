@@ -1,5 +1,5 @@
 -- A wake carries the relation.
-use Rattle.cmwq_sim.specs.Common.{◌≡◌, ◌==◌, ◌≤◌, ℕ, Bool, true, false, not, ◌&&◌, List, [], ◌∷◌, ◌++◌, filter, count_by, Option, refl, sym, ap, ap₂, ◌∙◌, subst, arith, option_to_list, append-nil, length-append, if◌then◌else◌, list_any, runner_there, lt-ltb, nat_tests, Worker, Entry, is_at, number_started, starts, is_asleep, asleep_after, queueings, worklist, answer, IsLegal, entry_for, run_after, All_map, All_both, All_each, All_append, All_filter, count_by-cons, count_none, width_same, by_itself}
+use Rattle.cmwq_sim.specs.Common.{◌≡◌, ◌==◌, ◌≤◌, ℕ, Bool, true, false, not, ◌&&◌, List, [], ◌∷◌, ◌++◌, filter, count_by, Option, refl, sym, ap, ap₂, ◌∙◌, subst, arith, option_to_list, append-nil, length-append, if◌then◌else◌, list_any, runner_there, lt-ltb, nat_tests, Worker, Entry, is_at, number_started, starts, is_asleep, asleep_after, queueings, worklist, answer, IsLegal, entry_for, run_after, All_map, All_both, All_each, All_append, All_filter, count_none, width_same, by_itself}
 use Rattle.cmwq_model.specs.declared.call.Call.TheVariants as call
 use Rattle.cmwq_model.specs.declared.reply.Reply.TheVariants as reply
 use Rattle.cmwq_sim.specs.Plan.{Plan}
@@ -7,7 +7,7 @@ use Rattle.cmwq_sim.specs.Lines.{Moment, Sleeper}
 use Rattle.cmwq_sim.specs.Shows.{layout_for, pool, plan_worker, IsRunAt, is_job, is_sleeper, runs_in, Shows}
 use Rattle.cmwq_sim.proofs.TakeReads.{wake_answered, run_of}
 use Rattle.cmwq_sim.proofs.Steps.{IsQuiet, none_opens, worklist_as_before, waiting_as_before, same_runs, other_slot, goes_by, then_calls}
-use Rattle.cmwq_sim.proofs.Lists.{any_counted, last_any, one_fewer, taken_out, others_there, not-true, filter_all, count_append}
+use Rattle.cmwq_sim.proofs.Lists.{any_counted, last_any, one_fewer, taken_out, others_there, not-true, filter_all, count_push}
 
 abbrev pub awake_with : Moment → ℕ → ℕ → List ℕ → Moment
 awake_with m i burn left = record m { cpu = m.cpu ++ record { item = i; burn = burn; left = left } ∷ []; sleeping = filter (λ k. not (is_sleeper i k)) m.sleeping }
@@ -29,9 +29,8 @@ wake_shown s past m slot i burn left h on = record {
   sleeping = All_filter (λ k. IsRunAt (e ∷ past) (slot k.item) k.item true) (λ k. not (is_sleeper i k)) m.sleeping (All_map (λ k. IsRunAt past (slot k.item) k.item true) _ m.sleeping (λ k r kept. other k.item true r (not-true (is_sleeper i k) kept)) h.sleeping);
   no_others = λ w n runs. let k = h.no_others w n (sym (same_runs (layout_for s) past e w legal after) ∙ runs) in (k.0, moved n k.1);
   once = λ k.
-      let a = count_append (is_job k) m.cpu (record { item = i; burn = burn; left = left } ∷ []) in
-      let b = count_by-cons (is_job k) (record { item = i; burn = burn; left = left }) [] in
-      let c = taken_out (λ (x : Sleeper). x.item) k i m.sleeping in
+      let a = count_push (is_job k) m.cpu (record { item = i; burn = burn; left = left }) in
+      let b = taken_out (λ (x : Sleeper). x.item) k i m.sleeping in
       grind (arith, h.once k, some);
   few = omega (arith, h.few, one_fewer (is_sleeper i) m.sleeping on, length-append m.cpu (record { item = i; burn = burn; left = left } ∷ []));
 }
