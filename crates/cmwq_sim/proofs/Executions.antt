@@ -1,5 +1,5 @@
 -- The steps of an execution, as those of the moments that it shows.
-use Rattle.cmwq_sim.specs.Common.{◌≡◌, ◌==◌, ◌<◌, ◌≤◌, ◌+◌, ◌*◌, ◌&&◌, ℕ, zero, suc, true, false, not, set, List, [], ◌∷◌, ◌++◌, length, drop, map, filter, find, fold, add-one, append-nil, Option, Some, None, refl, sym, ap, ap₂, ◌∙◌, subst, arith, option_map, AllByRecursion, range_with_len, list_any, map-append, get_or-set_same, get_or-set_other, length-set, eq-eqb, Who, Worker, Call, Entry, Queueing, WorkerId, has_time, has_room, entry_for, has_number, run, room_needed, runs_are_in_pools, History, past_in, next_entry, takes, with_entry, All_map, All_each, nat_tests, fold-append}
+use Rattle.cmwq_sim.specs.Common.{◌≡◌, ◌==◌, ◌<◌, ◌≤◌, ◌+◌, ◌*◌, ◌&&◌, ℕ, zero, suc, true, false, not, set, List, [], ◌∷◌, ◌++◌, length, drop, map, filter, find, fold, add-one, append-nil, Option, Some, None, refl, sym, ap, ap₂, ◌∙◌, subst, arith, option_map, AllByRecursion, range_with_len, list_any, map-append, get_or-set_same, get_or-set_other, length-set, eq-eqb, Who, Worker, Call, Entry, Queueing, WorkerId, has_time, has_room, entry_for, has_number, run, room_needed, runs_are_in_pools, History, past_in, next_entry, takes, with_entry, All_map, All_each, nat_tests, fold-append, if◌then◌else◌}
 use Rattle.std.proofs.Common.{subst₂}
 use Rattle.cmwq_model.specs.declared.call.Call.TheVariants as call
 use Rattle.cmwq_theory_steps.proofs.Growing.{one_more_is_newest}
@@ -9,7 +9,7 @@ use Rattle.cmwq_sim.specs.declared.execution.Asleep.{Asleep}
 use Rattle.cmwq_sim.specs.declared.execution.Execution.{Execution}
 use Rattle.cmwq_sim.specs.Plan.{Plan, ms_of, plan_queue, is_of_plan_queue, event_of}
 use Rattle.cmwq_sim.specs.Limits.{IsWithinLimits}
-use Rattle.cmwq_sim.specs.Lines.{Moment, Job, Sleeper, job_with, job_of, wake_sleepers, millisecond, burn, burn_first, queue_item, queued_at_first, empty, starting_items, start, tell_starts, make_ready, tell, serve, is_due, is_other_sleeper, wake_sleeper, wake_item}
+use Rattle.cmwq_sim.specs.Lines.{Moment, Job, Sleeper, job_with, job_of, wake_sleepers, millisecond, burn, burn_first, queue_item, queued_at_first, empty, starting_items, start, tell_starts, make_ready, tell, serve, is_due, is_other_sleeper, wake_sleeper, wake_item, serve_first}
 use Rattle.cmwq_sim.specs.Shows.{layout_for, plan_worker, Shows, moment_of, queueing_for, IsRunAt, is_job, is_sleeper, runs_in}
 use Rattle.cmwq_sim.specs.Rooms.{IsRoomy, parts_left}
 use Rattle.cmwq_sim.specs.Standing.{job_seen, sleeper_seen, moment_in, slot_in, Stands, StandsAt, started_one, starts_lines, LessFirst}
@@ -21,7 +21,7 @@ use Rattle.cmwq_sim.proofs.TakersAre.{taker_starts}
 use Rattle.cmwq_sim.proofs.TakeShown.{slot_with, take_shown, job_item}
 use Rattle.cmwq_sim.proofs.Lists.{last_any, filter_mapped, both_ways, or_right, found_passes, range_more}
 use Rattle.cmwq_sim.proofs.TakeReads.{run_of}
-use Rattle.cmwq_sim.proofs.Phases.{other_lines, taken, takes_on, starts_on, start_is, serve_is, serve_sleeps, serve_ends, wake_nobody, wake_burns, wake_ends, may_start, due_item, asleep_there}
+use Rattle.cmwq_sim.proofs.Phases.{other_lines, taken, takes_on, starts_on, start_is, serve_sleeps, serve_ends, wake_burns, wake_ends, may_start, due_item, asleep_there}
 use Rattle.cmwq_sim.proofs.Queued.{ShowsQueued, queue_call, caller, queue_shown, all_shown, nothing_shown}
 use Rattle.cmwq_sim.proofs.RoomKept.{queue_roomy, has_room_then, sleep_roomy, end_roomy, start_roomy, wake_roomy, wake_burns_roomy, wake_ends_roomy}
 use Rattle.cmwq_sim.proofs.Roomy.{needs_nothing_at_first}
@@ -92,7 +92,7 @@ module _ (s : Plan) (t : ℕ) (r : Execution) (job : Running) (js : List Running
   first = ap (map (job_seen s)) is
 
   became : (left : List ℕ) → drop job.next (ms_of s job.item) ≡ left → serve s t (moment_in s r) ≡ served_as s t (moment_in s r) (map (job_seen s) js) job.item left
-  became left parts = serve_is s t (moment_in s r) (job_seen s job) (map (job_seen s) js) first (eq-eqb job.burn 0 done) ∙ ap (served_as s t (moment_in s r) (map (job_seen s) js) job.item) parts
+  became left parts = ap (serve_first s t (moment_in s r)) first ∙ ap (λ b. if b then served_as s t (moment_in s r) (map (job_seen s) js) job.item (drop job.next (ms_of s job.item)) else moment_in s r) (eq-eqb job.burn 0 done) ∙ ap (served_as s t (moment_in s r) (map (job_seen s) js) job.item) parts
 
   sleeps_roomy : (pause : ℕ) (left : List ℕ) → drop job.next (ms_of s job.item) ≡ pause ∷ left → IsRoomy s (then_calls s (past_in r.book) (slot_in r.slots job.item) call.Sleep) (served_as s t (moment_in s r) (map (job_seen s) js) job.item (pause ∷ left))
   sleeps_roomy pause left parts = sleep_roomy s t (past_in r.book) (moment_in s r) (slot_in r.slots) (job_seen s job) (map (job_seen s) js) pause left h.shows h.roomy first parts
@@ -161,7 +161,7 @@ seen_others : (s : Plan) (i : ℕ) (xs : List Asleep) → map (sleeper_seen s) (
 seen_others s i xs = sym (filter_mapped (sleeper_seen s) (is_other_sleeper i) (λ x. not (x.item == i)) xs (All_each _ xs (λ x. refl)))
 
 pub nobody_woken : (s : Plan) (t i : ℕ) (r : Execution) (o : Option Asleep) → Stands s r → o ≡ find (λ (x : Asleep). (x.item == i) && (x.until == t)) r.sleeping.items → o ≡ None → StandsAt s r (wake_item s t (moment_in s r) i)
-nobody_woken s t i r o h is none = record { stands = h; moment = sym (wake_nobody s t i (moment_in s r) (seen_due s t i r.sleeping.items o is ∙ ap (option_map (sleeper_seen s)) none)) }
+nobody_woken s t i r o h is none = record { stands = h; moment = sym (ap (wake_sleeper s t (moment_in s r)) (seen_due s t i r.sleeping.items o is ∙ ap (option_map (sleeper_seen s)) none)) }
 
 module _ (s : Plan) (t i : ℕ) (r : Execution) (x : Asleep) (o : Option Asleep) (h : Stands s r) (found : o ≡ find (λ (y : Asleep). (y.item == i) && (y.until == t)) r.sleeping.items) (some : o ≡ Some x) where
   due : find (is_due t i) (moment_in s r).sleeping ≡ Some (sleeper_seen s x)
@@ -336,11 +336,8 @@ module _ (s : Plan) (b : History) (k : ℕ) (limits : IsWithinLimits s) (h : Que
   few : k < 8
   few = omega (arith, limits.few_items)
 
-  pub queue_there : plan_queue s k < length s.queues
-  queue_there = (item_limits s k limits less).queue
-
   next_roomy : room_needed (layout_for s) (entry_for (layout_for s) (past_in b) caller (queue_call s k) ∷ past_in b) + 2 * parts_left s (queue_item s (fold (queue_item s) empty (range_with_len 0 k)) k) ≤ 19 * (k + 1)
-  next_roomy = queue_roomy s k (past_in b) (fold (queue_item s) empty (range_with_len 0 k)) h.shows limits less few queue_there h.roomy
+  next_roomy = queue_roomy s k (past_in b) (fold (queue_item s) empty (range_with_len 0 k)) h.shows limits less few (item_limits s k limits less).queue h.roomy
 
   pub has_room_to_queue : takes b caller (queue_call s k) ≡ true
   has_room_to_queue = room_for s b caller (queue_call s k) (queue_item s (fold (queue_item s) empty (range_with_len 0 k)) k) h.layout h.room refl (let a = next_roomy in omega (arith, few))
@@ -351,7 +348,7 @@ module _ (s : Plan) (b : History) (k : ℕ) (limits : IsWithinLimits s) (h : Que
       record {
         layout = ap (λ (x : History). x.layout) is ∙ h.layout;
         room = ap (λ (x : History). x.room) is ∙ h.room;
-        shows = rw (past, one_more (queue_item s) empty k, add-one k) (queue_shown s k (past_in b) (fold (queue_item s) empty (range_with_len 0 k)) h.shows few queue_there);
+        shows = rw (past, one_more (queue_item s) empty k, add-one k) (queue_shown s k (past_in b) (fold (queue_item s) empty (range_with_len 0 k)) h.shows few (item_limits s k limits less).queue);
         roomy = rw (past, one_more (queue_item s) empty k) next_roomy;
       }
 

@@ -82,7 +82,7 @@ woken_seen s t i k m once = at (find (is_due t k) m.sleeping) refl
             omega (arith, told i t kind.WakesEnds (x.item ∷ []) m.lines ∙ ap (λ c. count_by (tells_end i) m.lines + cond c 1 0) (or_false (x.item == i)), out i)
         after (b ∷ left) = omega (arith, out i, count_push (is_job i) m.cpu (record { item = x.item; burn = b; left = left }), told i t kind.WakesBurns (x.item ∷ []) m.lines)
 
--- so do steps in turn
+-- what each step keeps, steps in turn keep
 all_steps : (step : Moment → ℕ → Moment) → ((m : Moment) (k : ℕ) → Once m → (i : ℕ) → seen i (step m k) ≡ seen i m) → (i len k : ℕ) (m : Moment) → Once m → seen i (fold step m (range_with_len k len)) ≡ seen i m
 all_steps step each i zero k m once = refl
 all_steps step each i (suc len) k m once = all_steps step each i len (k + 1) (step m k) (λ z. omega (arith, once z, each m k once z)) ∙ each m k once i

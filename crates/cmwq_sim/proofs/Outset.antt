@@ -13,9 +13,6 @@ pub record Queues (s : Plan) (m : Moment) : Type 0 where
   pub behind : AllByRecursion (λ i. i < length s.items) m.behind
   pub held : (q : ℕ) → list_any (is_of_plan_queue s q) m.behind ≡ true → list_any (is_of_plan_queue s q) m.ready ≡ true
 
-some_width : (s : Plan) (i : ℕ) → IsWithinLimits s → i < length s.items → 1 ≤ plan_width s (plan_queue s i)
-some_width s i fine less = (all_at IsQueue s.queues (plan_queue s i) no_sim_queue fine.queues (item_limits s i fine less).queue).0
-
 pub queues : (s : Plan) (m : Moment) (i : ℕ) → IsWithinLimits s → i < length s.items → Queues s m → Queues s (queue_item s m i)
 queues s m i fine less h = at (nat_lt (count_by (is_of_plan_queue s (plan_queue s i)) (m.ready ++ m.behind)) (plan_width s (plan_queue s i))) refl
   where
@@ -30,7 +27,7 @@ queues s m i fine less h = at (nat_lt (count_by (is_of_plan_queue s (plan_queue 
       ready = h.ready;
       behind = All_push (λ k. k < length s.items) m.behind i h.behind less;
       held = λ q some.
-          let many = counted_any (is_of_plan_queue s (plan_queue s i)) (m.ready ++ m.behind) (grind (arith, nat_tests, full, some_width s i fine less)) in
+          let many = counted_any (is_of_plan_queue s (plan_queue s i)) (m.ready ++ m.behind) (grind (arith, nat_tests, full, (all_at IsQueue s.queues (plan_queue s i) no_sim_queue fine.queues (item_limits s i fine less).queue).0)) in
           let own = λ (is : is_of_plan_queue s q i ≡ true). subst (λ k. list_any (is_of_plan_queue s k) (m.ready ++ m.behind) ≡ true) (eqb-true (plan_queue s i) q is) many in
           grind (arith, last_any (is_of_plan_queue s q) m.behind i, list_any-append (is_of_plan_queue s q) m.ready m.behind, h.held q);
     }

@@ -1,9 +1,9 @@
 -- The phases of a millisecond, as the calls that make them.
-use Rattle.cmwq_sim.specs.Common.{◌≡◌, ◌==◌, ◌+◌, ℕ, true, false, cond, not, ◌||◌, List, [], ◌∷◌, ◌++◌, length, drop, map, filter, find, Option, Some, None, refl, sym, ap, ap₂, ◌∙◌, subst, arith, option_to_list, append-nil, append_assoc, length-append, if◌then◌else◌, list_any, map-append, eqb-true, eq-eqb, and_parts, Worker, Entry, entry_for, All_each, All_map, count_none}
+use Rattle.cmwq_sim.specs.Common.{◌≡◌, ◌==◌, ◌+◌, ℕ, true, false, cond, not, ◌||◌, List, [], ◌∷◌, ◌++◌, length, drop, map, filter, find, Option, Some, None, refl, sym, ap, ap₂, ◌∙◌, subst, arith, option_to_list, append-nil, append_assoc, length-append, list_any, map-append, eqb-true, eq-eqb, and_parts, Worker, Entry, entry_for, All_each, All_map, count_none}
 use Rattle.cmwq_model.specs.declared.call.Call.TheVariants as call
 use Rattle.cmwq_sim.specs.declared.scenario.LineKind.TheVariants as kind
 use Rattle.cmwq_sim.specs.Plan.{Plan, Event, plan_queue, is_of_plan_queue}
-use Rattle.cmwq_sim.specs.Lines.{Moment, Job, Sleeper, make_ready, serve_first, serve, is_due, wake_sleeper, wake_item, is_job_held, job_of, starting_items, tell_starts, start_these, start}
+use Rattle.cmwq_sim.specs.Lines.{Moment, Job, Sleeper, make_ready, is_due, is_job_held, job_of, starting_items, tell_starts, start_these, start}
 use Rattle.cmwq_sim.specs.Shows.{layout_for, plan_worker, is_job, is_sleeper, Shows, to_start}
 use Rattle.cmwq_sim.specs.Takers.{IsTaker, NoTaker}
 use Rattle.cmwq_sim.proofs.Steps.{alone, asleep_with, sleep_shown, then_calls, served_as, woken_as}
@@ -41,9 +41,6 @@ end_shown s past m slot i js ls h on left =
 
 -- ---- (1) the first of the CPU's list sleeps or ends
 
-pub serve_is : (s : Plan) (t : ℕ) (m : Moment) (j : Job) (js : List Job) → m.cpu ≡ j ∷ js → (j.burn == 0) ≡ true → serve s t m ≡ served_as s t m js j.item j.left
-serve_is s t m j js is done = ap (serve_first s t m) is ∙ ap (λ b. if b then served_as s t m js j.item j.left else m) done
-
 pub serve_sleeps : (s : Plan) (t : ℕ) (past : List Entry) (m : Moment) (slot : ℕ → ℕ) (j : Job) (js : List Job) (pause : ℕ) (left : List ℕ) → Shows s past m slot → m.cpu ≡ j ∷ js
     → Shows s (then_calls s past (slot j.item) call.Sleep) (served_as s t m js j.item (pause ∷ left)) slot
 serve_sleeps s t past m slot j js pause left h is =
@@ -64,9 +61,6 @@ due_item t i x h = eqb-true x.item i (and_parts (x.item == i) (x.until == t) h).
 
 pub asleep_there : (t i : ℕ) (m : Moment) (x : Sleeper) → find (is_due t i) m.sleeping ≡ Some x → list_any (is_sleeper i) m.sleeping ≡ true
 asleep_there t i m x due = found_any (is_due t i) (is_sleeper i) (λ y k. (and_parts (y.item == i) (y.until == t) k).0) m.sleeping x due
-
-pub wake_nobody : (s : Plan) (t i : ℕ) (m : Moment) → find (is_due t i) m.sleeping ≡ None → wake_item s t m i ≡ m
-wake_nobody s t i m none = ap (wake_sleeper s t m) none
 
 module _ (s : Plan) (t i : ℕ) (past : List Entry) (m : Moment) (slot : ℕ → ℕ) (h : Shows s past m slot) (asleep : list_any (is_sleeper i) m.sleeping ≡ true) where
   pub wake_burns : (b : ℕ) (left : List ℕ) → Shows s (then_calls s past (slot i) call.Wake) (woken_as s t m i (b ∷ left)) slot
