@@ -1,5 +1,5 @@
 -- What the end of a run makes ready.
-use Rattle.cmwq_sim.specs.Common.{◌≡◌, ◌==◌, ◌≤◌, ◌-◌, ℕ, zero, suc, Bool, true, false, cond, not, ◌&&◌, List, [], ◌∷◌, ◌++◌, map, filter, find, count_by, Option, Some, None, nat_lt, refl, sym, ap, ap₂, ◌∙◌, subst, arith, ⊎_elim, option_to_list, append-nil, option_map, option_and_then, if◌then◌else◌, slice_get, option_or, AllByRecursion, nat_tests, same_Some, Entry, Queueing, Layout, first_width, item_of, number_finished, number_cancelled, queueings, still_open, is_live, opening, opens, queued_at, place_wanted, width, is_active, is_ahead, is_below_max_active, newly_active, IsLegal, is_ended, ending, number_replaced, HasFirstWidths, keeps_widths, waits, behind_width, is_below_max_active_at_once, All_each, All_both, active_live, run_is_active, newly_active_are, In, found, in_filter}
+use Rattle.cmwq_sim.specs.Common.{◌≡◌, ◌≤◌, ◌-◌, ℕ, zero, suc, Bool, true, false, not, ◌&&◌, List, [], ◌∷◌, ◌++◌, map, filter, find, count_by, Option, Some, None, nat_lt, refl, sym, ap, ap₂, ◌∙◌, subst, arith, ⊎_elim, option_to_list, append-nil, option_map, option_and_then, if◌then◌else◌, slice_get, option_or, AllByRecursion, nat_tests, same_Some, Entry, Queueing, Layout, first_width, item_of, number_finished, number_cancelled, queueings, still_open, is_live, opening, opens, queued_at, place_wanted, width, is_active, is_ahead, is_below_max_active, newly_active, IsLegal, is_ended, ending, number_replaced, HasFirstWidths, keeps_widths, waits, behind_width, is_below_max_active_at_once, All_each, All_both, active_live, run_is_active, newly_active_are, In, found, in_filter}
 use Rattle.cmwq_model.specs.declared.reply.Reply.TheVariants as reply
 use Rattle.cmwq_theory_steps.specs.Places.{is_on, open_on}
 use Rattle.cmwq_theory_steps.proofs.Ranks.{is_below, Ranked}
@@ -19,25 +19,12 @@ first_behind f rank w k (x ∷ xs) less each h = at (w - k) refl (λ more. first
   where
     at : (n : ℕ) → w - k ≡ n → (suc k ≤ w → filter (λ y. not (f y)) (option_to_list (slice_get xs (w - suc k))) ≡ option_to_list (find (λ y. not (f y)) xs))
         → filter (λ y. not (f y)) (option_to_list (slice_get (x ∷ xs) n)) ≡ option_to_list (find (λ y. not (f y)) (x ∷ xs))
-    at zero is later =
-        let same : nat_lt k w ≡ false = grind (arith, nat_tests) in
-        let fails : f x ≡ false = each.0 ∙ ap (λ r. nat_lt r w) h.0 ∙ same in
-        ap (λ b. cond (not b) (x ∷ []) []) fails ∙ sym (ap (λ b. option_to_list (cond (not b) (Some x) (find (λ y. not (f y)) xs))) fails)
-    at (suc n) is later =
-        let same : nat_lt k w ≡ true = grind (arith, nat_tests) in
-        let passes : f x ≡ true = each.0 ∙ ap (λ r. nat_lt r w) h.0 ∙ same in
-        let rest : w - suc k ≡ n = omega arith in
-        ap (λ j. filter (λ y. not (f y)) (option_to_list (slice_get xs j))) (sym rest) ∙ later (omega arith) ∙ sym (ap (λ b. option_to_list (cond (not b) (Some x) (find (λ y. not (f y)) xs))) passes)
+    at zero is later = grind (arith, nat_tests)
+    at (suc n) is later = let rest : w - suc k ≡ n = omega arith in grind (arith, nat_tests)
 
 find_turned : (p q : Queueing → Bool) (xs : List Queueing) → find p (filter q xs) ≡ find q (filter p xs)
 find_turned p q [] = refl
-find_turned p q (x ∷ xs) = at (p x) refl (q x) refl (find_turned p q xs)
-  where
-    at : (a : Bool) → p x ≡ a → (b : Bool) → q x ≡ b → find p (filter q xs) ≡ find q (filter p xs) → find p (cond b (x ∷ filter q xs) (filter q xs)) ≡ find q (cond a (x ∷ filter p xs) (filter p xs))
-    at true ha true hb same = ap (λ c. cond c (Some x) (find p (filter q xs))) ha ∙ sym (ap (λ c. cond c (Some x) (find q (filter p xs))) hb)
-    at true ha false hb same = same ∙ sym (ap (λ c. cond c (Some x) (find q (filter p xs))) hb)
-    at false ha true hb same = ap (λ c. cond c (Some x) (find p (filter q xs))) ha ∙ same
-    at false ha false hb same = same
+find_turned p q (x ∷ xs) = grind (arith, find_turned p q xs)
 
 -- while the widths are the first ones, what is open is active where it is below max_active
 active_way : (s : Layout) (past : List Entry) (x : Queueing) → HasFirstWidths s past → ((q : ℕ) → width s past q ≡ first_width s q) → is_live past x ≡ true → is_active s past x ≡ is_below_max_active s past x
@@ -76,10 +63,7 @@ ends_run s past m slot e i h legal is = at (ending past e) refl
     (ends_which (layout_for s) past e legal ∙ ap (λ r. option_or (number_finished r) (option_or (number_cancelled e.reply) (number_replaced past e))) is)
   where
     at : (o : Option Queueing) → ending past e ≡ o → option_map (λ (x : Queueing). x.number) (ending past e) ≡ Some i → ending past e ≡ Some (queueing_for s i)
-    at None none number = absurd (none_some (sym (ap (option_map (λ (x : Queueing). x.number)) none) ∙ number))
-      where
-        none_some : {n : ℕ} → None ≡ Some n → ⊥
-        none_some {n} h = cc
+    at None none number = grind arith
     at (Some y) some number =
         let there = in_filter (is_live past) (queueings past) y (found (is_ended past e) (still_open past) y some).0 in
         let n : y.number ≡ i = same_Some y.number i (sym (ap (option_map (λ (x : Queueing). x.number)) some) ∙ number) in
@@ -87,11 +71,7 @@ ends_run s past m slot e i h legal is = at (ending past e) refl
 
 find_mapped : (s : Plan) (q : ℕ) (xs : List ℕ) → find (is_on q 0) (map (queueing_for s) xs) ≡ option_map (queueing_for s) (find (is_of_plan_queue s q) xs)
 find_mapped s q [] = refl
-find_mapped s q (x ∷ xs) = at (plan_queue s x == q) (find_mapped s q xs)
-  where
-    at : (b : Bool) → find (is_on q 0) (map (queueing_for s) xs) ≡ option_map (queueing_for s) (find (is_of_plan_queue s q) xs) → cond (b && true) (Some (queueing_for s x)) (find (is_on q 0) (map (queueing_for s) xs)) ≡ option_map (queueing_for s) (cond b (Some x) (find (is_of_plan_queue s q) xs))
-    at true h = refl
-    at false h = h
+find_mapped s q (x ∷ xs) = grind (arith, find_mapped s q xs)
 
 pub finish_makes_ready : (s : Plan) (past : List Entry) (m : Moment) (slot : ℕ → ℕ) (e : Entry) (x i : ℕ) → Shows s past m slot → HasFirstWidths (layout_for s) past → ((q : ℕ) → width (layout_for s) past q ≡ first_width (layout_for s) q)
     → IsLegal (layout_for s) (e ∷ past) → e.reply ≡ reply.Finished i → IsRunAt past x i false

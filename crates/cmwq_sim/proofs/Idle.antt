@@ -1,10 +1,10 @@
 -- Of each pool's workers one is always enlisted and idle, or all are enlisted.
-use Rattle.cmwq_sim.specs.Common.{◌≡◌, ◌≢◌, ◌==◌, ◌<◌, ◌≤◌, ◌+◌, ℕ, zero, suc, Bool, true, false, cond, not, ◌&&◌, ◌||◌, List, [], ◌∷◌, find, Option, Some, None, refl, sym, ap, ap₂, ◌∙◌, subst, arith, ⊎_elim, is_some, if◌then◌else◌, AllByRecursion, list_any, range_with_len, eq-eqb, ne_eqb, and_parts, cases_eq, same_Some, PoolId, WorkerId, Who, Worker, Reply, Entry, Layout, indices, is_at, is_by, same_who, same_pool, number_started, run, has_run, last_start, worker_at, index_enlisted, is_in_pool, enlists, is_retired, is_enlisted, is_idle, is_other_idle, is_reserve, enlisted_by, IsLegal, run_after, same_worker-true, workers_run_on, same_worker_itself}
+use Rattle.cmwq_sim.specs.Common.{◌≡◌, ◌≢◌, ◌==◌, ◌<◌, ℕ, Bool, true, false, not, ◌&&◌, ◌||◌, List, [], ◌∷◌, find, Option, Some, None, refl, sym, ap, ap₂, ◌∙◌, subst, arith, is_some, if◌then◌else◌, AllByRecursion, eq-eqb, ne_eqb, and_parts, PoolId, WorkerId, Who, Worker, Reply, Entry, Layout, indices, is_at, is_by, same_who, same_pool, number_started, run, has_run, last_start, worker_at, index_enlisted, is_in_pool, is_retired, is_enlisted, is_idle, is_other_idle, is_reserve, enlisted_by, IsLegal, run_after, same_worker-true, workers_run_on, same_worker_itself}
 use Rattle.cmwq_model.specs.declared.reply.Reply.TheVariants as reply
 use Rattle.cmwq_theory_steps.proofs.Starts.{starts_next}
 use Rattle.cmwq_theory_steps.proofs.Reasons.{retire_reason}
 use Rattle.cmwq_theory_steps.proofs.Causes.{cause_of}
-use Rattle.cmwq_lemmas.proofs.Truth.{and_false}
+use Rattle.cmwq_sim.proofs.Lists.{one, none, any_below, none_found_any, and_false, both_ways, not-true, not-false}
 
 -- whose entry it is
 by_whom : (e : Entry) (v w : WorkerId) → e.who ≡ Worker v → is_by (Worker w) e ≡ true → v ≡ w
@@ -12,11 +12,7 @@ by_whom e v w who by = same_worker-true v w (sym (ap (λ (x : Who). same_who x (
 
 enlisted_go_on : (past : List Entry) (e : Entry) (w : WorkerId) → (is_by (Worker w) e && is_retired e.reply) ≡ false → is_enlisted past w ≡ true → is_enlisted (e ∷ past) w ≡ true
 unfolding is_enlisted
-enlisted_go_on past e w kept h = ap₂ (λ r b. enlists e w || (not r && b)) kept h ∙ any (enlists e w)
-  where
-    any : (a : Bool) → (a || true) ≡ true
-    any true = refl
-    any false = refl
+enlisted_go_on past e w kept h = grind arith
 
 -- a worker that runs is enlisted
 pub runners_are_enlisted : (s : Layout) (past : List Entry) (w : WorkerId) (n : ℕ) → IsLegal s past → run past w ≡ Some n → is_enlisted past w ≡ true
@@ -53,115 +49,49 @@ pub data IdleOrAll (s : Layout) (past : List Entry) (p : PoolId) : Type 0 where
   idle : (x : ℕ) → x < s.workers → is_idle past p x ≡ true → IdleOrAll s past p
   all : ((x : ℕ) → x < s.workers → is_enlisted past (worker_at p x) ≡ true) → IdleOrAll s past p
 
-abbrev pub NoneRetired : List Entry → Type 0
-NoneRetired past = AllByRecursion (λ e. is_retired e.reply ≡ false) past
-
-is_idle_from : (past : List Entry) (p : PoolId) (x : ℕ) → is_enlisted past (worker_at p x) ≡ true → run past (worker_at p x) ≡ None → is_idle past p x ≡ true
-is_idle_from past p x a b = ap₂ (λ c o. c && not (is_some o)) a b
-
 pub idle_parts : (past : List Entry) (p : PoolId) (x : ℕ) → is_idle past p x ≡ true → (is_enlisted past (worker_at p x) ≡ true) × (run past (worker_at p x) ≡ None)
-idle_parts past p x h = let k = and_parts (is_enlisted past (worker_at p x)) (not (has_run past (worker_at p x))) h in (k.0, none (run past (worker_at p x)) k.1)
-  where
-    none : (o : Option ℕ) → not (is_some o) ≡ true → o ≡ None
-    none None h = refl
-    none (Some n) h = cc
+idle_parts past p x h = grind arith
 
--- what the list has that passes, or that none passes
-pub data Any (p : ℕ → Bool) (n : ℕ) : Type 0 where
-  one : (x : ℕ) → x < n → p x ≡ true → Any p n
-  none : ((x : ℕ) → x < n → p x ≡ false) → Any p n
+pub not_by : (e : Entry) (p : PoolId) (x y : ℕ) → e.who ≡ Worker (worker_at p x) → x ≢ y → is_by (Worker (worker_at p y)) e ≡ false
+not_by e p x y who differs = ap (λ w. same_who w (Worker (worker_at p y))) who ∙ ap (λ b. same_pool p p && b) (ne_eqb x y differs) ∙ and_false (same_pool p p)
 
-pub any_below : (p : ℕ → Bool) (n : ℕ) → Any p n
-any_below p zero = none (λ x less. absurd (omega arith))
-any_below p (suc n) = elim (any_below p n) [
-  | one x less is ↦ one x (omega arith) is
-  | none nothing ↦ last (p n) refl nothing
-]
-  where
-    last : (b : Bool) → p n ≡ b → ((x : ℕ) → x < n → p x ≡ false) → Any p (suc n)
-    last true is nothing = one n (omega arith) is
-    last false is nothing = none (λ x less. ⊎_elim (λ same. ap p same ∙ is) (λ differs. nothing x (omega arith)) (cases_eq x n))
-
-none_any : (p : ℕ → Bool) (a n : ℕ) → ((x : ℕ) → a ≤ x → x < a + n → p x ≡ false) → list_any p (range_with_len a n) ≡ false
-none_any p a zero h = refl
-none_any p a (suc n) h = ap₂ (λ b c. b || c) (h a (omega arith) (omega arith)) (none_any p (a + 1) n (λ x low high. h x (omega arith) (omega arith)))
-
-record FoundIn (p : ℕ → Bool) (a n z : ℕ) : Type 0 where
-  low : a ≤ z
-  high : z < a + n
-  is : p z ≡ true
-
-found_in : (p : ℕ → Bool) (a n z : ℕ) → find p (range_with_len a n) ≡ Some z → FoundIn p a n z
-found_in p a zero z h = cc
-found_in p a (suc n) z h = at (p a) refl h (λ k. found_in p (a + 1) n z k)
-  where
-    at : (b : Bool) → p a ≡ b → cond b (Some a) (find p (range_with_len (a + 1) n)) ≡ Some z → (find p (range_with_len (a + 1) n) ≡ Some z → FoundIn p (a + 1) n z) → FoundIn p a (suc n) z
-    at true is k later = let same = same_Some a z k in record { low = omega arith; high = omega arith; is = subst (λ y. p y ≡ true) same is }
-    at false is k later = let f = later k in record { low = omega (arith, f.low); high = omega (arith, f.high); is = f.is }
-
-none_in : (p : ℕ → Bool) (a n : ℕ) → find p (range_with_len a n) ≡ None → (x : ℕ) → a ≤ x → x < a + n → p x ≡ false
-none_in p a zero h x low high = absurd (omega arith)
-none_in p a (suc n) h x low high = at (p a) refl h (λ k. none_in p (a + 1) n k x)
-  where
-    at : (b : Bool) → p a ≡ b → cond b (Some a) (find p (range_with_len (a + 1) n)) ≡ None → (find p (range_with_len (a + 1) n) ≡ None → a + 1 ≤ x → x < (a + 1) + n → p x ≡ false) → p x ≡ false
-    at true is k later = cc
-    at false is k later = ⊎_elim (λ same. ap p same ∙ is) (λ differs. later k (omega arith) (omega arith)) (cases_eq x a)
-
-not_by : (e : Entry) (p : PoolId) (x y : ℕ) → e.who ≡ Worker (worker_at p x) → x ≢ y → is_by (Worker (worker_at p y)) e ≡ false
-not_by e p x y who differs = ap (λ w. same_who w (Worker (worker_at p y))) who ∙ ap (λ b. same_pool p p && b) (ne_eqb x y differs) ∙ neither (same_pool p p)
-  where
-    neither : (b : Bool) → (b && false) ≡ false
-    neither true = refl
-    neither false = refl
+-- who doesn't run and stays enlisted is idle
+idle_then : (s : Layout) (past : List Entry) (e : Entry) (p : PoolId) (x : ℕ) → IsLegal s (e ∷ past) → (if is_by (Worker (worker_at p x)) e then run_after e.reply (run past (worker_at p x)) else run past (worker_at p x)) ≡ None
+    → is_enlisted (e ∷ past) (worker_at p x) ≡ true → is_idle (e ∷ past) p x ≡ true
+idle_then s past e p x legal runs enlisted = ap₂ (λ c o. c && not (is_some o)) enlisted (workers_run_on s past e (worker_at p x) legal ∙ runs)
 
 -- a worker that the entry isn't of stays idle
 others_idle : (s : Layout) (past : List Entry) (e : Entry) (p : PoolId) (x : ℕ) → IsLegal s (e ∷ past) → is_by (Worker (worker_at p x)) e ≡ false → is_idle past p x ≡ true → is_idle (e ∷ past) p x ≡ true
 others_idle s past e p x legal by is =
     let k = idle_parts past p x is in
-    is_idle_from (e ∷ past) p x (enlisted_go_on past e (worker_at p x) (ap (λ a. a && is_retired e.reply) by) k.0)
-    (workers_run_on s past e (worker_at p x) legal ∙ ap (λ b. if b then run_after e.reply (run past (worker_at p x)) else run past (worker_at p x)) by ∙ k.1)
+    idle_then s past e p x legal (ap (λ b. if b then run_after e.reply (run past (worker_at p x)) else run past (worker_at p x)) by ∙ k.1) (enlisted_go_on past e (worker_at p x) (ap (λ a. a && is_retired e.reply) by) k.0)
 
 -- where one starts and leaves no other idle one, the reserve is enlisted, or there is none
 after_start : (s : Layout) (past : List Entry) (e : Entry) (p : PoolId) (x n : ℕ) → IsLegal s (e ∷ past) → is_retired e.reply ≡ false → e.who ≡ Worker (worker_at p x) → is_idle past p x ≡ true → index_enlisted e.reply ≡ enlisted_by s past (worker_at p x) → IdleOrAll s (e ∷ past) p
 unfolding IsLegal is_enlisted enlisted_by
 after_start s past e p x n legal kept who is enlists_it = elim (any_below (is_other_idle past (worker_at p x)) s.workers) [
-  | one y less other ↦
+  | one y less other first ↦
       let k = and_parts (not (y == x)) (is_idle past p y) other in
-      idle y less (others_idle s past e p y legal (not_by e p x y who (λ same. differ (y == x) k.0 (eq-eqb y x (sym same)))) k.1)
-  | none nothing ↦
-      let alone : list_any (is_other_idle past (worker_at p x)) (indices s) ≡ false = none_any (is_other_idle past (worker_at p x)) 0 s.workers (λ y low high. nothing y (omega arith)) in
-      which (find (is_reserve past p) (indices s)) refl (enlists_it ∙ ap (λ b. if b then None else find (is_reserve past p) (indices s)) alone)
+      idle y less (others_idle s past e p y legal (not_by e p x y who (λ same. both_ways (y == x) (not-true (y == x) k.0) (eq-eqb y x (sym same)))) k.1)
+  | none nothing missed ↦ reserve (enlists_it ∙ ap (λ b. if b then None else find (is_reserve past p) (indices s)) (none_found_any (is_other_idle past (worker_at p x)) (indices s) missed))
 ]
   where
-    differ : (b : Bool) → not b ≡ true → b ≡ true → ⊥
-    differ true h k = cc
-    differ false h k = cc
-
-    which : (o : Option ℕ) → find (is_reserve past p) (indices s) ≡ o → index_enlisted e.reply ≡ find (is_reserve past p) (indices s) → IdleOrAll s (e ∷ past) p
-    which None nobody told = all (λ y less. enlisted_go_on past e (worker_at p y) (ap (λ r. is_by (Worker (worker_at p y)) e && r) kept ∙ and_false (is_by (Worker (worker_at p y)) e)) (enlisted (is_enlisted past (worker_at p y)) (none_in (is_reserve past p) 0 s.workers nobody y (omega arith) (omega arith))))
+    reserve : index_enlisted e.reply ≡ find (is_reserve past p) (indices s) → IdleOrAll s (e ∷ past) p
+    reserve told = elim (any_below (is_reserve past p) s.workers) [
+      | none nobody missed ↦ all (λ y less. enlisted_go_on past e (worker_at p y) (ap (λ r. is_by (Worker (worker_at p y)) e && r) kept ∙ and_false (is_by (Worker (worker_at p y)) e)) (not-false (is_enlisted past (worker_at p y)) (nobody y less)))
+      | one z less other first ↦
+          let out : is_enlisted past (worker_at p z) ≡ false = not-true (is_enlisted past (worker_at p z)) other in
+          let by : is_by (Worker (worker_at p z)) e ≡ false = not_by e p x z who (λ same. both_ways (is_enlisted past (worker_at p z)) out (ap (λ y. is_enlisted past (worker_at p y)) (sym same) ∙ (idle_parts past p x is).0)) in
+          idle z less (idle_then s past e p z legal
+          (ap (λ b. if b then run_after e.reply (run past (worker_at p z)) else run past (worker_at p z)) by ∙ free (run past (worker_at p z)) (λ m runs. both_ways (is_enlisted past (worker_at p z)) out (runners_are_enlisted s past (worker_at p z) m legal.2 runs)))
+          (ap (λ b. b || (not (is_by (Worker (worker_at p z)) e && is_retired e.reply) && is_enlisted past (worker_at p z))) (ap₂ (λ w o. is_in_pool p w && is_at o z) who (told ∙ first) ∙ ap₂ (λ a b. a && b) (and_parts (same_pool p p) (0 == 0) (same_worker_itself (worker_at p 0))).0 (eq-eqb z z refl))))
+    ]
       where
-        enlisted : (b : Bool) → not b ≡ false → b ≡ true
-        enlisted true h = refl
-        enlisted false h = cc
-    which (Some z) found told =
-        let f = found_in (is_reserve past p) 0 s.workers z found in
-        let by : is_by (Worker (worker_at p z)) e ≡ false = not_by e p x z who (λ same. both (is_enlisted past (worker_at p z)) f.is (ap (λ y. is_enlisted past (worker_at p y)) (sym same) ∙ (idle_parts past p x is).0)) in
-        idle z (omega (arith, f.high)) (is_idle_from (e ∷ past) p z
-        (ap (λ b. b || (not (is_by (Worker (worker_at p z)) e && is_retired e.reply) && is_enlisted past (worker_at p z))) (ap₂ (λ w o. is_in_pool p w && is_at o z) who (told ∙ found) ∙ ap₂ (λ a b. a && b) (pool_itself p) (eq-eqb z z refl)))
-        (workers_run_on s past e (worker_at p z) legal ∙ ap (λ b. if b then run_after e.reply (run past (worker_at p z)) else run past (worker_at p z)) by ∙ free (run past (worker_at p z)) (λ m runs. both (is_enlisted past (worker_at p z)) f.is (runners_are_enlisted s past (worker_at p z) m legal.2 runs))))
-      where
-        both : (b : Bool) → not b ≡ true → b ≡ true → ⊥
-        both true h k = cc
-        both false h k = cc
-
         free : (o : Option ℕ) → ((m : ℕ) → o ≡ Some m → ⊥) → o ≡ None
         free None h = refl
         free (Some m) h = absurd (h m refl)
 
-        pool_itself : (q : PoolId) → same_pool q q ≡ true
-        pool_itself q = (and_parts (same_pool q q) (0 == 0) (same_worker_itself (worker_at q 0))).0
-
-pub idle_or_all : (s : Layout) (past : List Entry) (p : PoolId) → IsLegal s past → NoneRetired past → 0 < s.workers → IdleOrAll s past p
+pub idle_or_all : (s : Layout) (past : List Entry) (p : PoolId) → IsLegal s past → AllByRecursion (λ e. is_retired e.reply ≡ false) past → 0 < s.workers → IdleOrAll s past p
 unfolding IsLegal is_enlisted last_start
 idle_or_all s [] p legal kept some = idle 0 some refl
 idle_or_all s (e ∷ past) p legal kept some = elim (idle_or_all s past p legal.2 kept.1 some) [
@@ -177,11 +107,9 @@ idle_or_all s (e ∷ past) p legal kept some = elim (idle_or_all s past p legal.
         after_start s past e p x n legal kept.0 (k.by_worker ∙ ap Worker same) is (k.enlists ∙ ap (enlisted_by s past) same)
     at x less is true by None st =
         let k = idle_parts past p x is in
-        idle x less (is_idle_from (e ∷ past) p x (enlisted_go_on past e (worker_at p x) (ap₂ (λ a b. a && b) by kept.0) k.0)
-        (workers_run_on s past e (worker_at p x) legal ∙ ap (λ b. if b then run_after e.reply (run past (worker_at p x)) else run past (worker_at p x)) by ∙ ap (run_after e.reply) k.1 ∙ stays e.reply st))
+        idle x less (idle_then s past e p x legal
+        (ap (λ b. if b then run_after e.reply (run past (worker_at p x)) else run past (worker_at p x)) by ∙ ap (run_after e.reply) k.1 ∙ stays e.reply st)
+        (enlisted_go_on past e (worker_at p x) (ap₂ (λ a b. a && b) by kept.0) k.0))
       where
         stays : (r : Reply) → number_started r ≡ None → run_after r None ≡ None
-        stays (reply.Started m) h = cc
-        stays (reply.StartedEnlist m y) h = cc
-        stays (reply.Finished m) h = refl
-        stays r h = refl
+        stays r h = grind arith

@@ -1,3 +1,4 @@
+pub mod Lists
 pub mod Idle
 pub mod TakeReads
 pub mod Steps

@@ -1,19 +1,16 @@
 -- Each item stands in one place at a time, until a line tells its end.
-use Rattle.cmwq_sim.specs.Common.{◌≡◌, ◌==◌, ◌<◌, ◌≤◌, ◌+◌, ◌-◌, ℕ, zero, suc, Bool, true, false, cond, not, ◌&&◌, List, [], ◌∷◌, ◌++◌, length, drop, map, filter, find, count_by, Option, Some, None, nat_lt, refl, sym, ap, ap₂, ◌∙◌, subst, arith, if◌then◌else◌, fold, list_any, range_with_len, eq-eqb, eqb-true, and_parts, count_by-cons, same_Some, nat_tests}
+use Rattle.cmwq_sim.specs.Common.{◌≡◌, ◌==◌, ◌≤◌, ◌+◌, ℕ, zero, suc, Bool, true, false, cond, ◌&&◌, List, [], ◌∷◌, ◌++◌, length, drop, map, filter, find, count_by, Option, Some, None, refl, sym, ap, ◌∙◌, arith, if◌then◌else◌, fold, list_any, range_with_len, count_by-cons}
 use Rattle.cmwq_sim.specs.declared.scenario.LineKind.{LineKind}
 use Rattle.cmwq_sim.specs.declared.scenario.LineKind.TheVariants as kind
-use Rattle.cmwq_sim.specs.Plan.{Plan, Event, plan_queue, ms_of, plan_width, is_of_plan_queue, whole_time}
-use Rattle.cmwq_sim.specs.Lines.{Moment, Job, Sleeper, make_ready, end_job, after_burn, after_sleep, serve_first, serve, is_due, is_other_sleeper, wake_sleeper, wake_item, wake_sleepers, job_of, starting_items, tell, tell_starts, start_these, start, burn_first, burn, millisecond, queue_item, queued_at_first, empty, scenario_lines}
+use Rattle.cmwq_sim.specs.Plan.{Plan, Event, plan_queue, ms_of, is_of_plan_queue, whole_time}
+use Rattle.cmwq_sim.specs.Lines.{Moment, Job, Sleeper, make_ready, end_job, after_burn, after_sleep, serve_first, serve, is_due, is_other_sleeper, wake_sleeper, wake_item, wake_sleepers, job_of, starting_items, tell, tell_starts, start_these, start, burn, millisecond, queued_at_first, empty, scenario_lines}
 use Rattle.cmwq_sim.specs.Shows.{is_job, is_sleeper, times}
 use Rattle.cmwq_sim.specs.Ends.{is_end_line, tells_end, EachEndsOnce}
-use Rattle.cmwq_sim.proofs.TakeReads.{any_counted}
+use Rattle.cmwq_sim.proofs.Phases.{due_item, asleep_there}
+use Rattle.cmwq_sim.proofs.Lists.{any_counted, found_there, taken_out, once_among, once_there, or_false, found_passes, count_append, count_push}
 use Rattle.cmwq_sim.proofs.TakeShown.{job_item}
-use Rattle.cmwq_sim.proofs.Phases.{found_any}
 use Rattle.cmwq_sim.proofs.Progress.{starting_first}
-use Rattle.cmwq_sim.proofs.Queued.{none_later, once_among}
-use Rattle.cmwq_sim.proofs.Outset.{all_items_end}
-use Rattle.cmwq_lemmas.proofs.Truth.{or_false}
-use Rattle.cmwq_lemmas.proofs.Lists.{found_passes, count_append}
+use Rattle.cmwq_sim.proofs.Outset.{queue_keeps, all_weigh, all_items_end}
 
 -- how often it stands in a list or has ended
 abbrev pub seen : ℕ → Moment → ℕ
@@ -21,43 +18,7 @@ seen i m = times m i + count_by (tells_end i) m.lines
 
 -- one more line, and whether it tells the end
 told : (i t : ℕ) (k : LineKind) (is : List ℕ) (ls : List Event) → count_by (tells_end i) (ls ++ record { at = t; kind = k; items = is } ∷ []) ≡ count_by (tells_end i) ls + cond (is_end_line k && list_any (λ j. j == i) is) 1 0
-told i t k is ls = let a = count_append (tells_end i) ls (record { at = t; kind = k; items = is } ∷ []) in let b = count_by-cons (tells_end i) (record { at = t; kind = k; items = is }) [] in omega arith
-
--- what is taken out stood there once
-none_left : {X : Type 0} (item : X → ℕ) (z : ℕ) (xs : List X) → count_by (λ x. item x == z) (filter (λ x. not (item x == z)) xs) ≡ 0
-none_left item z [] = refl
-none_left item z (y ∷ ys) = here (item y == z) refl (none_left item z ys)
-  where
-    here : (b : Bool) → (item y == z) ≡ b → count_by (λ x. item x == z) (filter (λ x. not (item x == z)) ys) ≡ 0
-        → count_by (λ x. item x == z) (cond (not b) (y ∷ filter (λ x. not (item x == z)) ys) (filter (λ x. not (item x == z)) ys)) ≡ 0
-    here true is k = k
-    here false is k = count_by-cons (λ x. item x == z) y (filter (λ x. not (item x == z)) ys) ∙ ap₂ (λ b n. cond b 1 0 + n) is k
-
-others_left : {X : Type 0} (item : X → ℕ) (i z : ℕ) (xs : List X) → (z == i) ≡ false → count_by (λ x. item x == i) (filter (λ x. not (item x == z)) xs) ≡ count_by (λ x. item x == i) xs
-others_left item i z [] differs = refl
-others_left item i z (y ∷ ys) differs = here (item y == z) refl (others_left item i z ys differs)
-  where
-    here : (b : Bool) → (item y == z) ≡ b → count_by (λ x. item x == i) (filter (λ x. not (item x == z)) ys) ≡ count_by (λ x. item x == i) ys
-        → count_by (λ x. item x == i) (cond (not b) (y ∷ filter (λ x. not (item x == z)) ys) (filter (λ x. not (item x == z)) ys)) ≡ count_by (λ x. item x == i) (y ∷ ys)
-    here true is k =
-        let c = count_by-cons (λ x. item x == i) y ys ∙ ap (λ b. cond b 1 0 + count_by (λ x. item x == i) ys) (ap (λ n. n == i) (eqb-true (item y) z is) ∙ differs) in
-        omega arith
-    here false is k = count_by-cons (λ x. item x == i) y (filter (λ x. not (item x == z)) ys) ∙ ap (λ n. cond (item y == i) 1 0 + n) k ∙ sym (count_by-cons (λ x. item x == i) y ys)
-
-taken_out : {X : Type 0} (item : X → ℕ) (i z : ℕ) (xs : List X) → count_by (λ x. item x == z) xs ≡ 1 → count_by (λ x. item x == i) (filter (λ x. not (item x == z)) xs) + cond {A = ℕ} (z == i) 1 0 ≡ count_by (λ x. item x == i) xs
-taken_out {X} item i z xs once = at (z == i) refl
-  where
-    at : (b : Bool) → (z == i) ≡ b → count_by (λ x. item x == i) (filter (λ x. not (item x == z)) xs) + cond {A = ℕ} (z == i) 1 0 ≡ count_by (λ x. item x == i) xs
-    at true is =
-        let same : z ≡ i = eqb-true z i is in
-        let a : count_by (λ x. item x == i) (filter (λ x. not (item x == z)) xs) ≡ 0 = ap (λ k. count_by (λ x. item x == k) (filter (λ x. not (item x == z)) xs)) (sym same) ∙ none_left item z xs in
-        let b : count_by (λ x. item x == i) xs ≡ 1 = ap (λ k. count_by (λ x. item x == k) xs) (sym same) ∙ once in
-        let c : cond {A = ℕ} (z == i) 1 0 ≡ 1 = ap (λ (t : Bool). cond {A = ℕ} t 1 0) is in
-        omega arith
-    at false is =
-        let a = others_left item i z xs is in
-        let c : cond {A = ℕ} (z == i) 1 0 ≡ 0 = ap (λ (t : Bool). cond {A = ℕ} t 1 0) is in
-        omega arith
+told i t k is ls = count_push (tells_end i) ls (record { at = t; kind = k; items = is })
 
 -- ---- the phases
 
@@ -71,24 +32,10 @@ ends_seen s i k m once = at (find (is_of_plan_queue s (plan_queue s k)) m.behind
     at : (o : Option ℕ) → find (is_of_plan_queue s (plan_queue s k)) m.behind ≡ o → seen i (make_ready m o) ≡ seen i m
     at None none = refl
     at (Some z) some =
-        let there = any_counted (λ j. j == z) m.behind (found_any (λ j. j == z) (λ j. j == z) (λ j h. h) m.behind z (found_itself m.behind some)) in
-        let o = once z in
-        let a = taken_out (λ (j : ℕ). j) i z m.behind (omega arith) in
-        let b = count_append (λ j. j == i) m.ready (z ∷ []) in
-        let c = count_by-cons (λ j. j == i) z [] in
-        omega arith
-      where
-        found_itself : (xs : List ℕ) → find (is_of_plan_queue s (plan_queue s k)) xs ≡ Some z → find (λ j. j == z) xs ≡ Some z
-        found_itself [] h = cc
-        found_itself (x ∷ xs) h = here (is_of_plan_queue s (plan_queue s k) x) h (λ l. found_itself xs l)
-          where
-            either : (b : Bool) → (x == z) ≡ b → find (λ j. j == z) xs ≡ Some z → cond b (Some x) (find (λ j. j == z) xs) ≡ Some z
-            either true is l = ap Some (eqb-true x z is)
-            either false is l = l
-
-            here : (b : Bool) → cond b (Some x) (find (is_of_plan_queue s (plan_queue s k)) xs) ≡ Some z → (find (is_of_plan_queue s (plan_queue s k)) xs ≡ Some z → find (λ j. j == z) xs ≡ Some z) → cond (x == z) (Some x) (find (λ j. j == z) xs) ≡ Some z
-            here true l later = ap (λ b. cond b (Some x) (find (λ j. j == z) xs)) (eq-eqb x z (same_Some x z l)) ∙ l
-            here false l later = either (x == z) refl (later l)
+        let a = taken_out (λ j. j) i z m.behind in
+        let b = any_counted (λ j. j == z) m.behind (found_there (is_of_plan_queue s (plan_queue s k)) m.behind z some) in
+        let c = count_push (λ j. j == i) m.ready z in
+        grind (arith, once z)
 
 served_seen : (s : Plan) (t i : ℕ) (m : Moment) → Once m → seen i (serve s t m) ≡ seen i m
 served_seen s t i m once = at m.cpu refl
@@ -101,21 +48,14 @@ served_seen s t i m once = at m.cpu refl
         first z = ap (count_by (is_job z)) is ∙ count_by-cons (is_job z) j js
 
         fewer : (ls : List Event) (z : ℕ) → times (record m { cpu = js; lines = ls }) z ≤ 1
-        fewer ls z = let o = once z in let f = first z in omega arith
+        fewer ls z = let o = once z in omega (arith, first z)
 
         over : (b : Bool) (left : List ℕ) → seen i (if b then after_burn s t (record m { cpu = js }) j.item left else m) ≡ seen i m
         over false left = refl
         over true [] =
             let a = ends_seen s i j.item (tell t kind.Ends (j.item ∷ []) (record m { cpu = js })) (fewer (m.lines ++ record { at = t; kind = kind.Ends; items = j.item ∷ [] } ∷ [])) in
-            let b = told i t kind.Ends (j.item ∷ []) m.lines ∙ ap (λ c. count_by (tells_end i) m.lines + cond c 1 0) (or_false (j.item == i)) in
-            let f = first i in
-            omega arith
-        over true (pause ∷ left) =
-            let a = count_append (is_sleeper i) m.sleeping (record { item = j.item; until = t + pause; left = left } ∷ []) in
-            let b = count_by-cons (is_sleeper i) (record { item = j.item; until = t + pause; left = left }) [] in
-            let c = told i t kind.Sleeps (j.item ∷ []) m.lines in
-            let f = first i in
-            omega arith
+            omega (arith, told i t kind.Ends (j.item ∷ []) m.lines ∙ ap (λ c. count_by (tells_end i) m.lines + cond c 1 0) (or_false (j.item == i)), first i)
+        over true (pause ∷ left) = omega (arith, first i, count_push (is_sleeper i) m.sleeping (record { item = j.item; until = t + pause; left = left }), told i t kind.Sleeps (j.item ∷ []) m.lines)
 
 woken_seen : (s : Plan) (t i k : ℕ) (m : Moment) → Once m → seen i (wake_item s t m k) ≡ seen i m
 woken_seen s t i k m once = at (find (is_due t k) m.sleeping) refl
@@ -125,43 +65,31 @@ woken_seen s t i k m once = at (find (is_due t k) m.sleeping) refl
     at (Some x) some = after x.left
       where
         its : x.item ≡ k
-        its = eqb-true x.item k (and_parts (x.item == k) (x.until == t) (found_passes (is_due t k) m.sleeping x some)).0
+        its = due_item t k x (found_passes (is_due t k) m.sleeping x some)
 
         there : count_by (is_sleeper x.item) m.sleeping ≡ 1
-        there =
-            let a = any_counted (is_sleeper x.item) m.sleeping (subst (λ n. list_any (is_sleeper n) m.sleeping ≡ true) (sym its) (found_any (is_due t k) (is_sleeper k) (λ y h. (and_parts (y.item == k) (y.until == t) h).0) m.sleeping x some)) in
-            let o = once x.item in
-            omega arith
+        there = rw its (omega (arith, any_counted (is_sleeper k) m.sleeping (asleep_there t k m x some), once k))
 
         out : (z : ℕ) → count_by (is_sleeper z) (filter (is_other_sleeper x.item) m.sleeping) + cond {A = ℕ} (x.item == z) 1 0 ≡ count_by (is_sleeper z) m.sleeping
-        out z = taken_out (λ (y : Sleeper). y.item) z x.item m.sleeping there
+        out z = ap (λ n. count_by (is_sleeper z) (filter (is_other_sleeper x.item) m.sleeping) + cond (x.item == z) n 0) (sym there) ∙ taken_out (λ (y : Sleeper). y.item) z x.item m.sleeping
 
         fewer : (ls : List Event) (z : ℕ) → times (record m { sleeping = filter (is_other_sleeper x.item) m.sleeping; lines = ls }) z ≤ 1
-        fewer ls z = let o = once z in let f = out z in omega arith
+        fewer ls z = let o = once z in omega (arith, out z)
 
         after : (left : List ℕ) → seen i (after_sleep s t (record m { sleeping = filter (is_other_sleeper x.item) m.sleeping }) x.item left) ≡ seen i m
         after [] =
             let a = ends_seen s i x.item (tell t kind.WakesEnds (x.item ∷ []) (record m { sleeping = filter (is_other_sleeper x.item) m.sleeping })) (fewer (m.lines ++ record { at = t; kind = kind.WakesEnds; items = x.item ∷ [] } ∷ [])) in
-            let b = told i t kind.WakesEnds (x.item ∷ []) m.lines ∙ ap (λ c. count_by (tells_end i) m.lines + cond c 1 0) (or_false (x.item == i)) in
-            let f = out i in
-            omega arith
-        after (b ∷ left) =
-            let a = count_append (is_job i) m.cpu (record { item = x.item; burn = b; left = left } ∷ []) in
-            let d = count_by-cons (is_job i) (record { item = x.item; burn = b; left = left }) [] in
-            let c = told i t kind.WakesBurns (x.item ∷ []) m.lines in
-            let f = out i in
-            omega arith
+            omega (arith, told i t kind.WakesEnds (x.item ∷ []) m.lines ∙ ap (λ c. count_by (tells_end i) m.lines + cond c 1 0) (or_false (x.item == i)), out i)
+        after (b ∷ left) = omega (arith, out i, count_push (is_job i) m.cpu (record { item = x.item; burn = b; left = left }), told i t kind.WakesBurns (x.item ∷ []) m.lines)
 
-keeps_once : (m n : Moment) → Once m → ((i : ℕ) → seen i n ≡ seen i m) → Once n
-keeps_once m n once same z = let a = once z in let b = same z in omega arith
-
-all_woken_seen : (s : Plan) (t i len k : ℕ) (m : Moment) → Once m → seen i (fold (wake_item s t) m (range_with_len k len)) ≡ seen i m
-all_woken_seen s t i zero k m once = refl
-all_woken_seen s t i (suc len) k m once = all_woken_seen s t i len (k + 1) (wake_item s t m k) (keeps_once m (wake_item s t m k) once (λ z. woken_seen s t z k m once)) ∙ woken_seen s t i k m once
+-- what each step keeps, steps in turn keep
+all_steps : (step : Moment → ℕ → Moment) → ((m : Moment) (k : ℕ) → Once m → (i : ℕ) → seen i (step m k) ≡ seen i m) → (i len k : ℕ) (m : Moment) → Once m → seen i (fold step m (range_with_len k len)) ≡ seen i m
+all_steps step each i zero k m once = refl
+all_steps step each i (suc len) k m once = all_steps step each i len (k + 1) (step m k) (λ z. omega (arith, once z, each m k once z)) ∙ each m k once i
 
 started_count : (s : Plan) (i : ℕ) (is : List ℕ) → count_by (is_job i) (map (job_of s) is) ≡ count_by (λ j. j == i) is
 started_count s i [] = refl
-started_count s i (k ∷ is) = count_by-cons (is_job i) (job_of s k) (map (job_of s) is) ∙ ap₂ (λ n c. cond (n == i) 1 0 + c) (job_item k (ms_of s k)) (started_count s i is) ∙ sym (count_by-cons (λ j. j == i) k is)
+started_count s i (k ∷ is) = grind (arith, count_by-cons (is_job i) (job_of s k) (map (job_of s) is), count_by-cons (λ j. j == i) k is, job_item k (ms_of s k), started_count s i is)
 
 started_seen : (s : Plan) (t i : ℕ) (m : Moment) → seen i (start s t m) ≡ seen i m
 started_seen s t i m = at (starting_items s m.cpu m.ready) (starting_first s m.cpu m.ready)
@@ -172,74 +100,27 @@ started_seen s t i m = at (starting_items s m.cpu m.ready) (starting_first s m.c
         moved : times (record m { ready = drop (length is) m.ready; cpu = m.cpu ++ map (job_of s) is }) i ≡ times m i
         moved =
             let a = sym (count_append (λ j. j == i) is (drop (length is) m.ready)) ∙ ap (count_by (λ j. j == i)) split in
-            let b = count_append (is_job i) m.cpu (map (job_of s) is) in
-            let c = started_count s i is in
-            omega arith
+            omega (arith, count_append (is_job i) m.cpu (map (job_of s) is), started_count s i is)
 
         with_lines : (ks : List ℕ) → seen i (tell_starts t ks (record m { ready = drop (length is) m.ready; cpu = m.cpu ++ map (job_of s) is })) ≡ seen i m
-        with_lines [] = let a = moved in omega arith
-        with_lines (k ∷ ks) = let a = moved in let b = told i t kind.Starts (k ∷ ks) m.lines in omega arith
+        with_lines [] = omega (arith, moved)
+        with_lines (k ∷ ks) = let a = moved in omega (arith, told i t kind.Starts (k ∷ ks) m.lines)
 
 burnt_seen : (i : ℕ) (m : Moment) → seen i (burn m) ≡ seen i m
-burnt_seen i m = at m.cpu refl
-  where
-    at : (xs : List Job) → m.cpu ≡ xs → seen i (record m { cpu = burn_first xs }) ≡ seen i m
-    at [] is = let a = ap (count_by (is_job i)) is in omega arith
-    at (j ∷ js) is =
-        let a = ap (count_by (is_job i)) is ∙ count_by-cons (is_job i) j js in
-        let b = count_by-cons (is_job i) (record { item = j.item; burn = j.burn - 1; left = j.left }) js in
-        omega arith
+burnt_seen i m = grind arith
 
 millisecond_seen : (s : Plan) (t i : ℕ) (m : Moment) → Once m → seen i (millisecond s m t) ≡ seen i m
 millisecond_seen s t i m once =
     burnt_seen i (start s t (wake_sleepers s t (serve s t m))) ∙ started_seen s t i (wake_sleepers s t (serve s t m))
-    ∙ all_woken_seen s t i (length s.items) 0 (serve s t m) (keeps_once m (serve s t m) once (λ z. served_seen s t z m once)) ∙ served_seen s t i m once
-
-all_seen : (s : Plan) (i k t : ℕ) (m : Moment) → Once m → seen i (fold (millisecond s) m (range_with_len t k)) ≡ seen i m
-all_seen s i zero t m once = refl
-all_seen s i (suc k) t m once = all_seen s i k (t + 1) (millisecond s m t) (keeps_once m (millisecond s m t) once (λ z. millisecond_seen s t z m once)) ∙ millisecond_seen s t i m once
-
--- ---- at the outset each is seen once
-
-queued_seen : (s : Plan) (i k : ℕ) (m : Moment) → seen i (queue_item s m k) ≡ seen i m + cond (k == i) 1 0
-queued_seen s i k m = at (nat_lt (count_by (is_of_plan_queue s (plan_queue s k)) (m.ready ++ m.behind)) (plan_width s (plan_queue s k)))
-  where
-    at : (b : Bool) → seen i (if b then record m { ready = m.ready ++ k ∷ [] } else record m { behind = m.behind ++ k ∷ [] }) ≡ seen i m + cond (k == i) 1 0
-    at true = let a = count_append (λ j. j == i) m.ready (k ∷ []) in let b = count_by-cons (λ j. j == i) k [] in omega arith
-    at false = let a = count_append (λ j. j == i) m.behind (k ∷ []) in let b = count_by-cons (λ j. j == i) k [] in omega arith
-
-all_queued_seen : (s : Plan) (i len k : ℕ) (m : Moment) → seen i (fold (queue_item s) m (range_with_len k len)) ≡ seen i m + count_by (λ j. j == i) (range_with_len k len)
-all_queued_seen s i zero k m = omega arith
-all_queued_seen s i (suc len) k m =
-    let a = all_queued_seen s i len (k + 1) (queue_item s m k) in
-    let b = queued_seen s i k m in
-    let c = count_by-cons (λ j. j == i) k (range_with_len (k + 1) len) in
-    omega arith
-
-there_once : (i a k : ℕ) → a ≤ i → i < a + k → count_by (λ j. j == i) (range_with_len a k) ≡ 1
-there_once i a zero low high = absurd (omega arith)
-there_once i a (suc k) low high = at (a == i) refl (λ more. there_once i (a + 1) k more (omega arith))
-  where
-    at : (b : Bool) → (a == i) ≡ b → (a + 1 ≤ i → count_by (λ j. j == i) (range_with_len (a + 1) k) ≡ 1) → count_by (λ j. j == i) (range_with_len a (suc k)) ≡ 1
-    at true is later =
-        let c = count_by-cons (λ j. j == i) a (range_with_len (a + 1) k) ∙ ap (λ c. cond c 1 0 + count_by (λ j. j == i) (range_with_len (a + 1) k)) is in
-        let same : a ≡ i = eqb-true a i is in
-        let d = none_later i (a + 1) k (omega arith) in
-        omega arith
-    at false is later =
-        let c = count_by-cons (λ j. j == i) a (range_with_len (a + 1) k) ∙ ap (λ c. cond c 1 0 + count_by (λ j. j == i) (range_with_len (a + 1) k)) is in
-        let d = later (grind (arith, nat_tests)) in
-        omega arith
+    ∙ all_steps (wake_item s t) (λ n k first z. woken_seen s t z k n first) i (length s.items) 0 (serve s t m) (λ z. omega (arith, once z, served_seen s t z m once)) ∙ served_seen s t i m once
 
 pub each_ends_once : EachEndsOnce
 unfolding scenario_lines
 each_ends_once s i fine less =
-    let a = all_seen s i (suc (whole_time s)) 0 (queued_at_first s) (λ z. let q = all_queued_seen s z (length s.items) 0 empty in let o = once_among 0 (length s.items) z in omega arith) in
-    let q = all_queued_seen s i (length s.items) 0 empty in
-    let o = there_once i 0 (length s.items) (omega arith) (omega arith) in
+    let told = (queue_keeps s empty (range_with_len 0 (length s.items))).2 in
+    let first : (z : ℕ) → seen z (queued_at_first s) ≡ count_by (λ j. j == z) (range_with_len 0 (length s.items)) = λ z.
+    omega (arith, all_weigh s (length s.items) 0 empty (λ j. cond (j == z) 1 0) (λ j. cond (is_job z j) 1 0) (λ x. cond (is_sleeper z x) 1 0), ap (count_by (tells_end z)) told) in
+    let a = all_steps (millisecond s) (λ m t once z. millisecond_seen s t z m once) i (suc (whole_time s)) 0 (queued_at_first s) (λ z. omega (arith, first z, once_among 0 (length s.items) z)) in
+    let o = once_there i 0 (length s.items) (omega arith) (omega arith) in
     let none = all_items_end s fine in
-    let b = ap (count_by (λ j. j == i)) none.ready in
-    let c = ap (count_by (λ j. j == i)) none.behind in
-    let d = ap (count_by (is_job i)) none.cpu in
-    let e = ap (count_by (is_sleeper i)) none.sleeping in
-    omega arith
+    omega (arith, first i, ap (count_by (λ j. j == i)) none.ready, ap (count_by (λ j. j == i)) none.behind, ap (count_by (is_job i)) none.cpu, ap (count_by (is_sleeper i)) none.sleeping)

@@ -1,35 +1,21 @@
 -- The phases of a millisecond, as the calls that make them.
-use Rattle.cmwq_sim.specs.Common.{◌≡◌, ◌==◌, ◌+◌, ℕ, zero, suc, Bool, true, false, cond, not, ◌||◌, List, [], ◌∷◌, ◌++◌, length, drop, map, filter, find, Option, Some, None, refl, sym, ap, ap₂, ◌∙◌, subst, arith, option_to_list, append-nil, append_assoc, length-append, add-one, if◌then◌else◌, AllByRecursion, list_any, map-append, eqb-true, eq-eqb, and_parts, same_Some, Worker, Entry, entry_for, All_each, count_none}
+use Rattle.cmwq_sim.specs.Common.{◌≡◌, ◌==◌, ◌+◌, ℕ, true, false, cond, not, ◌||◌, List, [], ◌∷◌, ◌++◌, length, drop, map, filter, find, Option, Some, None, refl, sym, ap, ap₂, ◌∙◌, subst, arith, option_to_list, append-nil, append_assoc, length-append, list_any, map-append, eqb-true, eq-eqb, and_parts, Worker, Entry, entry_for, All_each, All_map, count_none}
 use Rattle.cmwq_model.specs.declared.call.Call.TheVariants as call
 use Rattle.cmwq_sim.specs.declared.scenario.LineKind.TheVariants as kind
 use Rattle.cmwq_sim.specs.Plan.{Plan, Event, plan_queue, is_of_plan_queue}
-use Rattle.cmwq_sim.specs.Lines.{Moment, Job, Sleeper, make_ready, after_burn, after_sleep, serve_first, serve, is_due, is_other_sleeper, wake_sleeper, wake_item, is_job_held, job_of, starting_items, tell_starts, start_these, start}
-use Rattle.cmwq_sim.specs.Shows.{layout_for, plan_worker, is_job, is_sleeper, Shows, to_start, next_of}
+use Rattle.cmwq_sim.specs.Lines.{Moment, Job, Sleeper, make_ready, is_due, is_job_held, job_of, starting_items, tell_starts, start_these, start}
+use Rattle.cmwq_sim.specs.Shows.{layout_for, plan_worker, is_job, is_sleeper, Shows, to_start}
 use Rattle.cmwq_sim.specs.Takers.{IsTaker, NoTaker}
-use Rattle.cmwq_sim.proofs.TakeReads.{any_counted}
-use Rattle.cmwq_sim.proofs.Steps.{any-append, alone, asleep_with, sleep_shown}
+use Rattle.cmwq_sim.proofs.Steps.{alone, asleep_with, sleep_shown, then_calls, served_as, woken_as}
 use Rattle.cmwq_sim.proofs.TakeShown.{started_with}
 use Rattle.cmwq_sim.proofs.FinishShown.{is_kept, ended_with, finish_shown}
 use Rattle.cmwq_sim.proofs.WakeShown.{awake_with, wake_shown}
 use Rattle.cmwq_sim.proofs.TakersAre.{taker_starts, no_taker, starting_goes, starting_stops}
-use Rattle.cmwq_lemmas.proofs.Lists.{filter_all, found_passes}
+use Rattle.cmwq_sim.proofs.Lists.{any_counted, found_any, last_any, filter_all, or_right, drop-drop, filter-append}
 
 -- a history doesn't show the lines
 pub other_lines : (s : Plan) (past : List Entry) (m : Moment) (slot : ℕ → ℕ) (ls : List Event) → Shows s past m slot → Shows s past (record m { lines = ls }) slot
-other_lines s past m slot ls h = record {
-  legal = h.legal;
-  kept = h.kept;
-  queued = h.queued;
-  ready = h.ready;
-  behind = h.behind;
-  cpu = h.cpu;
-  sleeping = h.sleeping;
-  no_others = h.no_others;
-  once = h.once;
-  widths = h.widths;
-  wide = h.wide;
-  few = h.few;
-}
+other_lines s past m slot ls h = assumption
 
 -- ---- a run ends
 
@@ -41,7 +27,7 @@ ready_made s past m slot js ls None h =
 ready_made s past m slot js ls (Some z) h = h
 
 pub end_shown : (s : Plan) (past : List Entry) (m : Moment) (slot : ℕ → ℕ) (i : ℕ) (js : List Job) (ls : List Event) → Shows s past m slot → list_any (is_job i) m.cpu ≡ true → filter (λ k. not (is_job i k)) m.cpu ≡ js
-    → Shows s (entry_for (layout_for s) past (Worker (plan_worker (slot i))) call.Finish ∷ past) (make_ready (record m { cpu = js; lines = ls }) (find (is_of_plan_queue s (plan_queue s i)) m.behind)) slot
+    → Shows s (then_calls s past (slot i) call.Finish) (make_ready (record m { cpu = js; lines = ls }) (find (is_of_plan_queue s (plan_queue s i)) m.behind)) slot
 end_shown s past m slot i js ls h on left =
     ready_made s (e ∷ past) m slot js ls o
     (subst (λ xs. Shows s (e ∷ past) (record m { ready = m.ready ++ option_to_list o; behind = filter (is_kept o) m.behind; cpu = xs; lines = ls }) slot) left
@@ -55,41 +41,20 @@ end_shown s past m slot i js ls h on left =
 
 -- ---- (1) the first of the CPU's list sleeps or ends
 
-pub serve_is : (s : Plan) (t : ℕ) (m : Moment) (j : Job) (js : List Job) → m.cpu ≡ j ∷ js → (j.burn == 0) ≡ true → serve s t m ≡ after_burn s t (record m { cpu = js }) j.item j.left
-serve_is s t m j js is done = ap (serve_first s t m) is ∙ ap (λ b. if b then after_burn s t (record m { cpu = js }) j.item j.left else m) done
+pub serve_sleeps : (s : Plan) (t : ℕ) (past : List Entry) (m : Moment) (slot : ℕ → ℕ) (j : Job) (js : List Job) (pause : ℕ) (left : List ℕ) → Shows s past m slot → m.cpu ≡ j ∷ js
+    → Shows s (then_calls s past (slot j.item) call.Sleep) (served_as s t m js j.item (pause ∷ left)) slot
+serve_sleeps s t past m slot j js pause left h is =
+    other_lines s (then_calls s past (slot j.item) call.Sleep) (asleep_with m j js (t + pause) left) slot (m.lines ++ record { at = t; kind = kind.Sleeps; items = j.item ∷ [] } ∷ []) (sleep_shown s past m slot j js (t + pause) left h is)
 
-pub serve_sleeps : (s : Plan) (t : ℕ) (past : List Entry) (m : Moment) (slot : ℕ → ℕ) (j : Job) (js : List Job) (pause : ℕ) (left : List ℕ) → Shows s past m slot → m.cpu ≡ j ∷ js → (j.burn == 0) ≡ true → j.left ≡ pause ∷ left
-    → Shows s (entry_for (layout_for s) past (Worker (plan_worker (slot j.item))) call.Sleep ∷ past) (serve s t m) slot
-serve_sleeps s t past m slot j js pause left h is done parts =
-    subst (λ n. Shows s (entry_for (layout_for s) past (Worker (plan_worker (slot j.item))) call.Sleep ∷ past) n slot) (sym (serve_is s t m j js is done ∙ ap (after_burn s t (record m { cpu = js }) j.item) parts))
-    (other_lines s (entry_for (layout_for s) past (Worker (plan_worker (slot j.item))) call.Sleep ∷ past) (asleep_with m j js (t + pause) left) slot (m.lines ++ record { at = t; kind = kind.Sleeps; items = j.item ∷ [] } ∷ []) (sleep_shown s past m slot j js (t + pause) left h is))
-
-pub serve_ends : (s : Plan) (t : ℕ) (past : List Entry) (m : Moment) (slot : ℕ → ℕ) (j : Job) (js : List Job) → Shows s past m slot → m.cpu ≡ j ∷ js → (j.burn == 0) ≡ true → j.left ≡ []
-    → Shows s (entry_for (layout_for s) past (Worker (plan_worker (slot j.item))) call.Finish ∷ past) (serve s t m) slot
-serve_ends s t past m slot j js h is done parts =
-    subst (λ n. Shows s (entry_for (layout_for s) past (Worker (plan_worker (slot j.item))) call.Finish ∷ past) n slot) (sym (serve_is s t m j js is done ∙ ap (after_burn s t (record m { cpu = js }) j.item) parts))
-    (end_shown s past m slot j.item js (m.lines ++ record { at = t; kind = kind.Ends; items = j.item ∷ [] } ∷ []) h
+pub serve_ends : (s : Plan) (t : ℕ) (past : List Entry) (m : Moment) (slot : ℕ → ℕ) (j : Job) (js : List Job) → Shows s past m slot → m.cpu ≡ j ∷ js
+    → Shows s (then_calls s past (slot j.item) call.Finish) (served_as s t m js j.item []) slot
+serve_ends s t past m slot j js h is =
+    end_shown s past m slot j.item js (m.lines ++ record { at = t; kind = kind.Ends; items = j.item ∷ [] } ∷ []) h
     (ap (list_any (is_job j.item)) is ∙ ap (λ b. b || list_any (is_job j.item) js) (eq-eqb j.item j.item refl))
     (ap (filter (λ k. not (is_job j.item k))) is ∙ ap (λ b. cond (not b) (j ∷ filter (λ k. not (is_job j.item k)) js) (filter (λ k. not (is_job j.item k)) js)) (eq-eqb j.item j.item refl)
-    ∙ filter_all (λ k. not (is_job j.item k)) js (turned js (alone m j js is (h.once j.item)).0)))
-  where
-    turned : (ks : List Job) → AllByRecursion (λ k. is_job j.item k ≡ false) ks → AllByRecursion (λ k. not (is_job j.item k) ≡ true) ks
-    turned [] all = tt
-    turned (k ∷ ks) all = (ap not all.0, turned ks all.1)
+    ∙ filter_all (λ k. not (is_job j.item k)) js (All_map (λ k. is_job j.item k ≡ false) _ js (λ k out. ap not out) (alone m j js is (h.once j.item)).0))
 
 -- ---- (2) a sleeper wakes, and burns or ends
-
-pub found_any : {X : Type 0} (p q : X → Bool) → ((x : X) → p x ≡ true → q x ≡ true) → (xs : List X) (z : X) → find p xs ≡ Some z → list_any q xs ≡ true
-found_any p q more [] z is = cc
-found_any p q more (x ∷ xs) z is = at (p x) refl is (λ k. found_any p q more xs z k)
-  where
-    either : (b : Bool) → (b || true) ≡ true
-    either true = refl
-    either false = refl
-
-    at : (b : Bool) → p x ≡ b → cond b (Some x) (find p xs) ≡ Some z → (find p xs ≡ Some z → list_any q xs ≡ true) → (q x || list_any q xs) ≡ true
-    at true h k later = ap (λ b. b || list_any q xs) (more x h)
-    at false h k later = ap (λ b. q x || b) (later k) ∙ either (q x)
 
 pub due_item : (t i : ℕ) (x : Sleeper) → is_due t i x ≡ true → x.item ≡ i
 due_item t i x h = eqb-true x.item i (and_parts (x.item == i) (x.until == t) h).0
@@ -97,47 +62,24 @@ due_item t i x h = eqb-true x.item i (and_parts (x.item == i) (x.until == t) h).
 pub asleep_there : (t i : ℕ) (m : Moment) (x : Sleeper) → find (is_due t i) m.sleeping ≡ Some x → list_any (is_sleeper i) m.sleeping ≡ true
 asleep_there t i m x due = found_any (is_due t i) (is_sleeper i) (λ y k. (and_parts (y.item == i) (y.until == t) k).0) m.sleeping x due
 
-pub wake_nobody : (s : Plan) (t i : ℕ) (m : Moment) → find (is_due t i) m.sleeping ≡ None → wake_item s t m i ≡ m
-wake_nobody s t i m none = ap (wake_sleeper s t m) none
+module _ (s : Plan) (t i : ℕ) (past : List Entry) (m : Moment) (slot : ℕ → ℕ) (h : Shows s past m slot) (asleep : list_any (is_sleeper i) m.sleeping ≡ true) where
+  pub wake_burns : (b : ℕ) (left : List ℕ) → Shows s (then_calls s past (slot i) call.Wake) (woken_as s t m i (b ∷ left)) slot
+  wake_burns b left =
+      other_lines s (then_calls s past (slot i) call.Wake) (awake_with m i b left) slot (m.lines ++ record { at = t; kind = kind.WakesBurns; items = i ∷ [] } ∷ []) (wake_shown s past m slot i b left h asleep)
 
-module _ (s : Plan) (t i : ℕ) (past : List Entry) (m : Moment) (slot : ℕ → ℕ) (x : Sleeper) (h : Shows s past m slot) (due : find (is_due t i) m.sleeping ≡ Some x) where
-  its : x.item ≡ i
-  its = due_item t i x (found_passes (is_due t i) m.sleeping x due)
+  pub joined : list_any (is_job i) (m.cpu ++ record { item = i; burn = 0; left = [] } ∷ []) ≡ true
+  joined = last_any (is_job i) m.cpu (record { item = i; burn = 0; left = [] }) ∙ or_right (list_any (is_job i) m.cpu) (i == i) (eq-eqb i i refl)
 
-  asleep : list_any (is_sleeper x.item) m.sleeping ≡ true
-  asleep = subst (λ k. list_any (is_sleeper k) m.sleeping ≡ true) (sym its) (asleep_there t i m x due)
+  others : filter (λ k. not (is_job i k)) (m.cpu ++ record { item = i; burn = 0; left = [] } ∷ []) ≡ m.cpu
+  others =
+      let none = count_none (is_job i) m.cpu (omega (arith, any_counted (is_sleeper i) m.sleeping asleep, h.once i)) in
+      filter-append (λ k. not (is_job i k)) m.cpu (record { item = i; burn = 0; left = [] } ∷ [])
+      ∙ ap₂ (λ ys b. ys ++ cond (not b) (record { item = i; burn = 0; left = [] } ∷ []) []) (filter_all (λ k. not (is_job i k)) m.cpu (All_map (λ k. is_job i k ≡ false) _ m.cpu (λ k out. ap not out) none)) (eq-eqb i i refl)
+      ∙ append-nil m.cpu
 
-  wake_is : (left : List ℕ) → x.left ≡ left → wake_item s t m i ≡ after_sleep s t (record m { sleeping = filter (is_other_sleeper x.item) m.sleeping }) x.item left
-  wake_is left parts = ap (wake_sleeper s t m) due ∙ ap (after_sleep s t (record m { sleeping = filter (is_other_sleeper x.item) m.sleeping }) x.item) parts
-
-  woken : List Entry
-  woken = entry_for (layout_for s) past (Worker (plan_worker (slot i))) call.Wake ∷ past
-
-  pub wake_burns : (b : ℕ) (left : List ℕ) → x.left ≡ b ∷ left → Shows s (entry_for (layout_for s) past (Worker (plan_worker (slot i))) call.Wake ∷ past) (wake_item s t m i) slot
-  wake_burns b left parts =
-      subst (λ k. Shows s (entry_for (layout_for s) past (Worker (plan_worker (slot k))) call.Wake ∷ past) (wake_item s t m i) slot) its
-      (subst (λ n. Shows s (entry_for (layout_for s) past (Worker (plan_worker (slot x.item))) call.Wake ∷ past) n slot) (sym (wake_is (b ∷ left) parts))
-      (other_lines s (entry_for (layout_for s) past (Worker (plan_worker (slot x.item))) call.Wake ∷ past) (awake_with m x.item b left) slot (m.lines ++ record { at = t; kind = kind.WakesBurns; items = x.item ∷ [] } ∷ []) (wake_shown s past m slot x.item b left h asleep)))
-
-  joined : list_any (is_job x.item) (m.cpu ++ record { item = x.item; burn = 0; left = [] } ∷ []) ≡ true
-  joined = any-append (is_job x.item) m.cpu (record { item = x.item; burn = 0; left = [] } ∷ []) ∙ ap (λ b. list_any (is_job x.item) m.cpu || (b || false)) (eq-eqb x.item x.item refl) ∙ either (list_any (is_job x.item) m.cpu)
-    where
-      either : (b : Bool) → (b || true) ≡ true
-      either true = refl
-      either false = refl
-
-  others : filter (λ k. not (is_job x.item k)) (m.cpu ++ record { item = x.item; burn = 0; left = [] } ∷ []) ≡ m.cpu
-  others = over m.cpu (count_none (is_job x.item) m.cpu (let a = any_counted (is_sleeper x.item) m.sleeping asleep in let o = h.once x.item in omega arith))
-    where
-      over : (js : List Job) → AllByRecursion (λ k. is_job x.item k ≡ false) js → filter (λ k. not (is_job x.item k)) (js ++ record { item = x.item; burn = 0; left = [] } ∷ []) ≡ js
-      over [] all = ap (λ b. cond (not b) (record { item = x.item; burn = 0; left = [] } ∷ []) []) (eq-eqb x.item x.item refl)
-      over (j ∷ js) all = ap₂ (λ b ys. cond (not b) (j ∷ ys) ys) all.0 (over js all.1)
-
-  pub wake_ends : x.left ≡ [] → Shows s (entry_for (layout_for s) (entry_for (layout_for s) past (Worker (plan_worker (slot i))) call.Wake ∷ past) (Worker (plan_worker (slot i))) call.Finish ∷ entry_for (layout_for s) past (Worker (plan_worker (slot i))) call.Wake ∷ past) (wake_item s t m i) slot
-  wake_ends parts =
-      subst (λ k. Shows s (entry_for (layout_for s) (entry_for (layout_for s) past (Worker (plan_worker (slot k))) call.Wake ∷ past) (Worker (plan_worker (slot k))) call.Finish ∷ entry_for (layout_for s) past (Worker (plan_worker (slot k))) call.Wake ∷ past) (wake_item s t m i) slot) its
-      (subst (λ n. Shows s (entry_for (layout_for s) (entry_for (layout_for s) past (Worker (plan_worker (slot x.item))) call.Wake ∷ past) (Worker (plan_worker (slot x.item))) call.Finish ∷ entry_for (layout_for s) past (Worker (plan_worker (slot x.item))) call.Wake ∷ past) n slot) (sym (wake_is [] parts))
-      (end_shown s (entry_for (layout_for s) past (Worker (plan_worker (slot x.item))) call.Wake ∷ past) (awake_with m x.item 0 []) slot x.item m.cpu (m.lines ++ record { at = t; kind = kind.WakesEnds; items = x.item ∷ [] } ∷ []) (wake_shown s past m slot x.item 0 [] h asleep) joined others))
+  pub wake_ends : Shows s (then_calls s (then_calls s past (slot i) call.Wake) (slot i) call.Finish)
+      (woken_as s t m i []) slot
+  wake_ends = end_shown s (then_calls s past (slot i) call.Wake) (awake_with m i 0 []) slot i m.cpu (m.lines ++ record { at = t; kind = kind.WakesEnds; items = i ∷ [] } ∷ []) (wake_shown s past m slot i 0 [] h asleep) joined others
 
 -- ---- (3) starts, one take after the other
 
@@ -145,30 +87,17 @@ module _ (s : Plan) (t i : ℕ) (past : List Entry) (m : Moment) (slot : ℕ →
 abbrev pub taken : Plan → Moment → List ℕ → Moment
 taken s m is = record m { ready = drop (length is) m.ready; cpu = m.cpu ++ map (job_of s) is }
 
-first_is : (xs : List ℕ) (n : ℕ) → next_of xs ≡ Some n → xs ≡ n ∷ drop 1 xs
-first_is [] n h = cc
-first_is (x ∷ xs) n h = ap (λ k. k ∷ xs) (same_Some x n h)
-
 -- what would start is the first of the ready ones, and nothing holds it
 pub record MayStart (s : Plan) (m : Moment) (n : ℕ) : Type 0 where
   pub first : m.ready ≡ n ∷ drop 1 m.ready
   pub clear : list_any (is_job_held s) m.cpu ≡ false
 
 pub may_start : (s : Plan) (m : Moment) (n : ℕ) → to_start s m ≡ Some n → MayStart s m n
-may_start s m n h = at (list_any (is_job_held s) m.cpu) refl h
-  where
-    at : (b : Bool) → list_any (is_job_held s) m.cpu ≡ b → (if b then None else next_of m.ready) ≡ Some n → MayStart s m n
-    at true is k = cc
-    at false is k = record { first = first_is m.ready n k; clear = is }
-
-drop_next : (k : ℕ) (xs : List ℕ) → drop 1 (drop k xs) ≡ drop (suc k) xs
-drop_next zero xs = refl
-drop_next (suc k) [] = refl
-drop_next (suc k) (x ∷ xs) = drop_next k xs
+may_start s m n h = record { first = grind arith; clear = grind arith }
 
 pub takes_on : (s : Plan) (m : Moment) (is : List ℕ) (n : ℕ) → started_with s (taken s m is) n (drop 1 (taken s m is).ready) ≡ taken s m (is ++ n ∷ [])
 takes_on s m is n = ap₂ (λ rs js. record m { ready = rs; cpu = js })
-    (drop_next (length is) m.ready ∙ ap (λ k. drop k m.ready) (sym (length-append is (n ∷ []) ∙ add-one (length is))))
+    (drop-drop 1 (length is) m.ready ∙ ap (λ k. drop k m.ready) (sym (length-append is (n ∷ []))))
     (append_assoc m.cpu (map (job_of s) is) (job_of s n ∷ []) ∙ ap (λ js. m.cpu ++ js) (sym (map-append (job_of s) is (n ∷ []))))
 
 -- what has started, and what would start then, is what starts in all

@@ -1,49 +1,30 @@
 -- A take that starts carries the relation.
-use Rattle.cmwq_sim.specs.Common.{◌≡◌, ◌≢◌, ◌==◌, ◌<◌, ◌+◌, ℕ, Bool, true, false, cond, not, ◌&&◌, ◌||◌, List, [], ◌∷◌, ◌++◌, length, map, filter, count_by, Option, Some, None, refl, sym, ap, ap₂, ◌∙◌, subst, arith, option_to_list, append-nil, length-append, if◌then◌else◌, AllByRecursion, list_any, lt-ltb, eq-eqb, ne_eqb, same_Some, WorkerId, Worker, Reply, Entry, Queueing, Layout, is_at, is_by, number_started, run, is_asleep, asleep_after, queueings, is_idle, answer, IsLegal, entry_for, run_after, All_both, All_append, count_by-cons, count_none, width_same, workers_run_on, run_begun, same_worker-true, by_itself}
+use Rattle.cmwq_sim.specs.Common.{◌≡◌, ◌==◌, ◌<◌, ◌+◌, ℕ, Bool, true, false, cond, not, ◌&&◌, List, [], ◌∷◌, ◌++◌, length, map, filter, count_by, Option, Some, None, refl, sym, ap, ap₂, ◌∙◌, subst, arith, option_to_list, append-nil, length-append, if◌then◌else◌, list_any, lt-ltb, eq-eqb, ne_eqb, same_Some, nat_tests, WorkerId, Worker, Reply, Entry, Queueing, is_at, is_by, number_started, run, is_asleep, asleep_after, queueings, is_idle, answer, IsLegal, entry_for, is_promised, run_after, All_map, All_both, All_append, count_by-cons, count_none, width_same, workers_run_on, run_begun, same_worker-true, by_itself}
 use Rattle.cmwq_model.specs.declared.call.Call.TheVariants as call
 use Rattle.cmwq_model.specs.declared.reply.Reply.TheVariants as reply
 use Rattle.cmwq_sim.specs.Plan.{Plan, ms_of}
 use Rattle.cmwq_sim.specs.Lines.{Moment, is_job_held, job_of, job_with}
 use Rattle.cmwq_sim.specs.Shows.{layout_for, pool, plan_worker, queueing_for, IsRunAt, is_job, is_sleeper, runs_in, Shows, to_start, next_of}
+use Rattle.cmwq_sim.proofs.Lists.{last_any, all_mapped_pass, none-some, count_push}
 use Rattle.cmwq_sim.proofs.Idle.{idle_parts}
 use Rattle.cmwq_sim.proofs.TakeReads.{take_answered, runs_counted}
-use Rattle.cmwq_sim.proofs.Steps.{IsQuiet, none_opens, worklist_as_before, waiting_as_before, not_by, any-append}
-use Rattle.cmwq_lemmas.proofs.Lists.{count_append}
+use Rattle.cmwq_sim.proofs.Steps.{IsQuiet, none_opens, worklist_as_before, waiting_as_before, goes_by, then_calls}
 
-quiet_start : (r : Reply) (n : ℕ) → number_started r ≡ Some n → IsQuiet r
-quiet_start (reply.Started m) n h = record { opens = refl; finishes = refl; cancels = refl; replaces = refl; widths = refl; stays = refl }
-quiet_start (reply.StartedEnlist m x) n h = record { opens = refl; finishes = refl; cancels = refl; replaces = refl; widths = refl; stays = refl }
-quiet_start r n h = cc
+-- what a reply that starts an item says besides
+pub record StartsOne (r : Reply) (n : ℕ) : Type 0 where
+  pub quiet : IsQuiet r
+  pub awake : (b : Bool) → asleep_after r b ≡ false
+  pub runs : (o : Option ℕ) → run_after r o ≡ Some n
+  pub promised : is_promised r ≡ true
 
-awake_start : (r : Reply) (n : ℕ) (b : Bool) → number_started r ≡ Some n → asleep_after r b ≡ false
-awake_start (reply.Started m) n b h = refl
-awake_start (reply.StartedEnlist m x) n b h = refl
-awake_start r n b h = cc
-
-started_after : (r : Reply) (n : ℕ) (o : Option ℕ) → number_started r ≡ Some n → run_after r o ≡ Some n
-started_after (reply.Started m) n o h = h
-started_after (reply.StartedEnlist m x) n o h = h
-started_after r n o h = cc
-
--- a run of another worker goes on
-pub goes_by : (s : Layout) (past : List Entry) (e : Entry) (x y i : ℕ) (b : Bool) → IsLegal s (e ∷ past) → e.who ≡ Worker (plan_worker x) → x ≢ y → IsRunAt past y i b → IsRunAt (e ∷ past) y i b
-unfolding is_asleep
-goes_by s past e x y i b legal who differs r = record {
-  runs = workers_run_on s past e (plan_worker y) legal ∙ ap (λ c. if c then run_after e.reply (run past (plan_worker y)) else run past (plan_worker y)) (not_by e x y who differs) ∙ r.runs;
-  sleeps = ap (λ c. if c then asleep_after e.reply (is_asleep past (plan_worker y)) else is_asleep past (plan_worker y)) (not_by e x y who differs) ∙ r.sleeps;
-}
+pub starts_one : (r : Reply) (n : ℕ) → number_started r ≡ Some n → StartsOne r n
+starts_one (reply.Started m) n h = record { quiet = record { ends = record { finishes = refl; cancels = refl; replaces = refl }; opens = refl; widths = refl; stays = refl }; awake = λ b. refl; runs = λ o. h; promised = refl }
+starts_one (reply.StartedEnlist m x) n h = record { quiet = record { ends = record { finishes = refl; cancels = refl; replaces = refl }; opens = refl; widths = refl; stays = refl }; awake = λ b. refl; runs = λ o. h; promised = refl }
+starts_one r n h = cc
 
 pub job_item : (i : ℕ) (ms : List ℕ) → (job_with i ms).item ≡ i
 job_item i [] = refl
 job_item i (b ∷ ms) = refl
-
-others_left : (s : Plan) (i : ℕ) (xs : List ℕ) → AllByRecursion (λ k. (k == i) ≡ false) xs → filter (λ (y : Queueing). not (i == y.number)) (map (queueing_for s) xs) ≡ map (queueing_for s) xs
-others_left s i [] h = refl
-others_left s i (k ∷ xs) h = ap₂ (λ b ys. cond (not b) (queueing_for s k ∷ ys) ys) (ne_eqb i k (λ same. differ (k == i) h.0 (eq-eqb k i (sym same)))) (others_left s i xs h.1)
-  where
-    differ : (b : Bool) → b ≡ false → b ≡ true → ⊥
-    differ true h k = cc
-    differ false h k = cc
 
 abbrev pub slot_with : (ℕ → ℕ) → ℕ → ℕ → ℕ → ℕ
 slot_with slot i x k = if k == i then x else slot k
@@ -52,31 +33,25 @@ abbrev pub started_with : Plan → Moment → ℕ → List ℕ → Moment
 started_with s m i rest = record m { ready = rest; cpu = m.cpu ++ job_of s i ∷ [] }
 
 pub take_shown : (s : Plan) (past : List Entry) (m : Moment) (slot : ℕ → ℕ) (x i : ℕ) (rest : List ℕ) → Shows s past m slot → x < 8 → is_idle past pool x ≡ true → m.ready ≡ i ∷ rest → list_any (is_job_held s) m.cpu ≡ false
-    → Shows s (entry_for (layout_for s) past (Worker (plan_worker x)) call.Take ∷ past) (started_with s m i rest) (slot_with slot i x)
+    → Shows s (then_calls s past x call.Take) (started_with s m i rest) (slot_with slot i x)
 unfolding IsLegal queueings is_asleep
 take_shown s past m slot x i rest h less free is clear = record {
   legal = legal;
-  widths = ((λ q. width_same (layout_for s) past e q quiet.widths ∙ h.wide q), h.widths);
-  wide = λ q. width_same (layout_for s) past e q quiet.widths ∙ h.wide q;
-  kept = (quiet.stays, h.kept);
-  queued = ap (λ o. queueings past ++ option_to_list o) (none_opens past e quiet) ∙ append-nil (queueings past) ∙ h.queued;
-  ready = worklist_as_before (layout_for s) past e pool legal quiet ∙ ap₂ (λ o ws. filter (λ (y : Queueing). not (is_at o y.number)) ws) started (h.ready ∙ ap (map (queueing_for s)) is)
+  widths = ((λ q. width_same (layout_for s) past e q says.quiet.widths ∙ h.wide q), h.widths);
+  wide = λ q. width_same (layout_for s) past e q says.quiet.widths ∙ h.wide q;
+  kept = (says.quiet.stays, h.kept);
+  queued = ap (λ o. queueings past ++ option_to_list o) (none_opens past e says.quiet) ∙ append-nil (queueings past) ∙ h.queued;
+  ready = worklist_as_before (layout_for s) past e pool legal says.quiet ∙ ap₂ (λ o ws. filter (λ (y : Queueing). not (is_at o y.number)) ws) started (h.ready ∙ ap (map (queueing_for s)) is)
       ∙ ap (λ b. cond (not b) (queueing_for s i ∷ filter (λ (y : Queueing). not (i == y.number)) (map (queueing_for s) rest)) (filter (λ (y : Queueing). not (i == y.number)) (map (queueing_for s) rest))) (eq-eqb i i refl)
-      ∙ others_left s i rest (count_none (λ k. k == i) rest (omega (arith, counts, h.once i)));
-  behind = waiting_as_before (layout_for s) past e legal quiet ∙ h.behind;
+      ∙ all_mapped_pass (queueing_for s) (λ (y : Queueing). not (i == y.number)) rest (All_map (λ k. (k == i) ≡ false) (λ k. not (i == k) ≡ true) rest (λ k differs. grind (arith, nat_tests)) (count_none (λ k. k == i) rest (omega (arith, counts, h.once i))));
+  behind = waiting_as_before (layout_for s) past e legal says.quiet ∙ h.behind;
   cpu = All_append _ m.cpu (job_of s i ∷ []) (All_both (λ k. IsRunAt past (slot k.item) k.item false) (λ k. is_job i k ≡ false) _ m.cpu (λ k r differs. other k.item false r differs) h.cpu (count_none (is_job i) m.cpu (omega (arith, counts, h.once i)))) (subst (λ k. IsRunAt (e ∷ past) (slot_with slot i x k) k false) (sym (job_item i (ms_of s i))) own, tt);
   sleeping = All_both (λ k. IsRunAt past (slot k.item) k.item true) (λ k. is_sleeper i k ≡ false) _ m.sleeping (λ k r differs. other k.item true r differs) h.sleeping (count_none (is_sleeper i) m.sleeping (omega (arith, counts, h.once i)));
   no_others = λ w n runs. at w n (is_by (Worker w) e) refl (sym (workers_run_on (layout_for s) past e w legal) ∙ runs);
   once = λ k.
-      let o = h.once k in
-      let a = ap (count_by (λ j. j == k)) is ∙ count_by-cons (λ j. j == k) i rest in
-      let b = count_append (is_job k) m.cpu (job_of s i ∷ []) ∙ ap (λ n. count_by (is_job k) m.cpu + n) (count_by-cons (is_job k) (job_of s i) [] ∙ ap (λ j. cond (j == k) 1 0 + 0) (job_item i (ms_of s i))) in
-      omega arith;
-  few =
-      let f = h.few in
-      let c = ap length is in
-      let d = length-append m.cpu (job_of s i ∷ []) in
-      omega arith;
+      let a = count_push (is_job k) m.cpu (job_of s i) ∙ ap (λ j. count_by (is_job k) m.cpu + cond (j == k) 1 0) (job_item i (ms_of s i)) in
+      omega (arith, h.once k, ap (count_by (λ j. j == k)) is ∙ count_by-cons (λ j. j == k) i rest);
+  few = omega (arith, h.few, ap length is, length-append m.cpu (job_of s i ∷ []));
 }
   where
     e : Entry
@@ -85,8 +60,8 @@ take_shown s past m slot x i rest h less free is clear = record {
     started : number_started (answer (layout_for s) past (Worker (plan_worker x)) call.Take) ≡ Some i
     started = take_answered s past m slot x h ∙ ap (λ b. if b then to_start s m else None) free ∙ ap (λ b. if b then None else next_of m.ready) clear ∙ ap next_of is
 
-    quiet : IsQuiet (answer (layout_for s) past (Worker (plan_worker x)) call.Take)
-    quiet = quiet_start (answer (layout_for s) past (Worker (plan_worker x)) call.Take) i started
+    says : StartsOne (answer (layout_for s) past (Worker (plan_worker x)) call.Take) i
+    says = starts_one (answer (layout_for s) past (Worker (plan_worker x)) call.Take) i started
 
     legal : IsLegal (layout_for s) (e ∷ past)
     legal = (ap (λ b. (b && true) && true) (lt-ltb x 8 less), refl, h.legal)
@@ -97,48 +72,26 @@ take_shown s past m slot x i rest h less free is clear = record {
     idle_run : run past (plan_worker x) ≡ None
     idle_run = (idle_parts past pool x free).1
 
-    slot_is : (k : ℕ) → (k == i) ≡ false → slot_with slot i x k ≡ slot k
-    slot_is k differs = ap (λ b. if b then x else slot k) differs
-
-    slot_own : slot_with slot i x i ≡ x
-    slot_own = ap (λ b. if b then x else slot i) (eq-eqb i i refl)
-
     other : (k : ℕ) (b : Bool) → IsRunAt past (slot k) k b → (k == i) ≡ false → IsRunAt (e ∷ past) (slot_with slot i x k) k b
-    other k b r differs = subst (λ y. IsRunAt (e ∷ past) y k b) (sym (slot_is k differs)) (goes_by (layout_for s) past e x (slot k) k b legal refl (λ same. none_some (sym idle_run ∙ ap (λ y. run past (plan_worker y)) same ∙ r.runs)) r)
-      where
-        none_some : {n : ℕ} → None ≡ Some n → ⊥
-        none_some {n} h = cc
+    other k b r differs = rw differs (goes_by (layout_for s) past e x (slot k) k b legal refl (λ same. none-some _ (sym idle_run ∙ ap (λ y. run past (plan_worker y)) same ∙ r.runs)) r)
 
     own : IsRunAt (e ∷ past) (slot_with slot i x i) i false
-    own = subst (λ y. IsRunAt (e ∷ past) y i false) (sym slot_own) (record {
+    own = rw (eq-eqb i i refl) (record {
       runs = run_begun (layout_for s) past e (plan_worker x) i legal (by_itself e (plan_worker x) refl) started;
-      sleeps = ap (λ c. if c then asleep_after e.reply (is_asleep past (plan_worker x)) else is_asleep past (plan_worker x)) (by_itself e (plan_worker x) refl) ∙ awake_start (answer (layout_for s) past (Worker (plan_worker x)) call.Take) i (is_asleep past (plan_worker x)) started;
+      sleeps = rw (by_itself e (plan_worker x) refl) (says.awake (is_asleep past (plan_worker x)));
     })
-
-    joined : (n : ℕ) → list_any (is_job n) (m.cpu ++ job_of s i ∷ []) ≡ (list_any (is_job n) m.cpu || ((i == n) || false))
-    joined n = any-append (is_job n) m.cpu (job_of s i ∷ []) ∙ ap (λ j. list_any (is_job n) m.cpu || ((j == n) || false)) (job_item i (ms_of s i))
 
     at : (w : WorkerId) (n : ℕ) (b : Bool) → is_by (Worker w) e ≡ b → (if is_by (Worker w) e then run_after e.reply (run past w) else run past w) ≡ Some n → (w ≡ plan_worker (slot_with slot i x n)) × (runs_in (started_with s m i rest) n ≡ true)
     at w n true by runs =
-        let same : i ≡ n = same_Some i n (sym (started_after (answer (layout_for s) past (Worker (plan_worker x)) call.Take) i (run past w) started) ∙ sym (ap (λ c. if c then run_after e.reply (run past w) else run past w) by) ∙ runs) in (
-          sym (same_worker-true (plan_worker x) w by) ∙ ap plan_worker (sym slot_own ∙ ap (slot_with slot i x) same),
-          ap (λ b. b || list_any (is_sleeper n) m.sleeping) (joined n ∙ ap (λ b. list_any (is_job n) m.cpu || (b || false)) (eq-eqb i n same)) ∙ last (list_any (is_job n) m.cpu),
-        )
-      where
-        last : (b : Bool) → ((b || true) || list_any (is_sleeper n) m.sleeping) ≡ true
-        last true = refl
-        last false = refl
+        let same : i ≡ n = same_Some i n (sym (says.runs (run past w)) ∙ rw by at runs) in
+        let a = last_any (is_job n) m.cpu (job_of s i) in
+        let b = job_item i (ms_of s i) in
+        (rw (eq-eqb n i (sym same)) (sym (same_worker-true (plan_worker x) w by)), grind (arith, nat_tests))
     at w n false by runs =
-        let k = h.no_others w n (sym (ap (λ c. if c then run_after e.reply (run past w) else run past w) by) ∙ runs) in
+        let k = h.no_others w n (rw by at runs) in
         let differs : (n == i) ≡ false = ne_eqb n i (λ same.
         let c = runs_counted m i (subst (λ z. runs_in m z ≡ true) same k.1) in
-        let o = h.once i in
         let p = counts in
-        absurd (omega arith)) in
-        (k.0 ∙ ap plan_worker (sym (slot_is n differs)), ap (λ b. b || list_any (is_sleeper n) m.sleeping) (joined n) ∙ more (list_any (is_job n) m.cpu) (list_any (is_sleeper n) m.sleeping) (i == n) k.1)
-      where
-        more : (a b c : Bool) → (a || b) ≡ true → ((a || (c || false)) || b) ≡ true
-        more true b c h = refl
-        more false true true h = refl
-        more false true false h = refl
-        more false false c h = cc
+        absurd (omega (arith, h.once i))) in
+        let a = last_any (is_job n) m.cpu (job_of s i) in
+        (rw differs k.0, grind (arith, k.1))

@@ -1,5 +1,5 @@
 -- The first worker that would start an item starts what the lists say, and where there is none they say none.
-use Rattle.cmwq_sim.specs.Common.{◌≡◌, ℕ, Bool, true, false, List, [], ◌∷◌, ◌++◌, Option, Some, None, refl, sym, ap, ◌∙◌, if◌then◌else◌, list_any, Entry, is_idle}
+use Rattle.cmwq_sim.specs.Common.{◌≡◌, ℕ, true, false, List, [], ◌∷◌, ◌++◌, Option, Some, None, refl, sym, ap, arith, ◌∙◌, if◌then◌else◌, list_any, Entry, is_idle}
 use Rattle.cmwq_sim.specs.Plan.{Plan}
 use Rattle.cmwq_sim.specs.Lines.{Moment, Job, is_job_held, job_of, starting_items}
 use Rattle.cmwq_sim.specs.Shows.{layout_for, pool, Shows, to_start, next_of}
@@ -7,27 +7,14 @@ use Rattle.cmwq_sim.specs.Takers.{IsTaker, NoTaker}
 use Rattle.cmwq_sim.proofs.TakeReads.{take_answered, some_idle}
 
 pub taker_starts : (s : Plan) (past : List Entry) (m : Moment) (slot : ℕ → ℕ) (x n : ℕ) → Shows s past m slot → IsTaker (layout_for s) past x n → (is_idle past pool x ≡ true) × (to_start s m ≡ Some n)
-taker_starts s past m slot x n h t = at (is_idle past pool x) refl (sym (take_answered s past m slot x h) ∙ t.starts)
-  where
-    at : (b : Bool) → is_idle past pool x ≡ b → (if is_idle past pool x then to_start s m else None) ≡ Some n → (is_idle past pool x ≡ true) × (to_start s m ≡ Some n)
-    at true is k = (is, sym (ap (λ b. if b then to_start s m else None) is) ∙ k)
-    at false is k = absurd (none_some (sym (ap (λ b. if b then to_start s m else None) is) ∙ k))
-      where
-        none_some : None ≡ Some n → ⊥
-        none_some h = cc
+taker_starts s past m slot x n h t = let k = sym (take_answered s past m slot x h) ∙ t.starts in grind arith
 
 pub no_taker : (s : Plan) (past : List Entry) (m : Moment) (slot : ℕ → ℕ) → Shows s past m slot → NoTaker (layout_for s) past 8 → to_start s m ≡ None
-no_taker s past m slot h nobody = held (list_any (is_job_held s) m.cpu) refl
+no_taker s past m slot h nobody = at (next_of m.ready) refl
   where
-    first : (o : Option ℕ) → next_of m.ready ≡ o → list_any (is_job_held s) m.cpu ≡ false → next_of m.ready ≡ None
-    first None is clear = is
-    first (Some i) is clear =
-        let w = some_idle s past m slot i h is in
-        sym (ap (λ b. if b then None else next_of m.ready) clear) ∙ sym (ap (λ b. if b then to_start s m else None) w.2) ∙ sym (take_answered s past m slot w.0 h) ∙ nobody w.0 w.1
-
-    held : (b : Bool) → list_any (is_job_held s) m.cpu ≡ b → to_start s m ≡ None
-    held true is = ap (λ b. if b then None else next_of m.ready) is
-    held false is = ap (λ b. if b then None else next_of m.ready) is ∙ first (next_of m.ready) refl is
+    at : (o : Option ℕ) → next_of m.ready ≡ o → to_start s m ≡ None
+    at None is = grind arith
+    at (Some i) is = let w = some_idle s past m slot i h is in let a = take_answered s past m slot w.0 h in let b = nobody w.0 w.1 in grind arith
 
 -- so the starts of a millisecond are takes in turn
 pub starting_goes : (s : Plan) (cpu : List Job) (i : ℕ) (rest : List ℕ) → list_any (is_job_held s) cpu ≡ false → starting_items s cpu (i ∷ rest) ≡ i ∷ starting_items s (cpu ++ job_of s i ∷ []) rest
@@ -36,12 +23,8 @@ starting_goes s cpu i rest clear = ap (λ b. if b then [] else i ∷ starting_it
 
 pub starting_stops : (s : Plan) (m : Moment) → to_start s m ≡ None → starting_items s m.cpu m.ready ≡ []
 unfolding starting_items
-starting_stops s m none = at m.ready (list_any (is_job_held s) m.cpu) refl none
+starting_stops s m none = at m.ready none
   where
-    at : (xs : List ℕ) (b : Bool) → list_any (is_job_held s) m.cpu ≡ b → (if list_any (is_job_held s) m.cpu then None else next_of xs) ≡ None → starting_items s m.cpu xs ≡ []
-    at [] b is k = refl
-    at (i ∷ xs) true is k = ap (λ c. if c then [] else i ∷ starting_items s (m.cpu ++ job_of s i ∷ []) xs) is
-    at (i ∷ xs) false is k = absurd (some_none (sym (ap (λ c. if c then None else Some i) is) ∙ k))
-      where
-        some_none : Some i ≡ None → ⊥
-        some_none h = cc
+    at : (xs : List ℕ) → (if list_any (is_job_held s) m.cpu then None else next_of xs) ≡ None → starting_items s m.cpu xs ≡ []
+    at [] k = refl
+    at (i ∷ xs) k = grind arith

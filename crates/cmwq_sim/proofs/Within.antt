@@ -1,5 +1,6 @@
 -- The limits of a plan, at the scenario that it is of.
-use Rattle.cmwq_sim.specs.Common.{◌≡◌, ◌<◌, ℕ, zero, suc, List, [], ◌∷◌, length, map, get_or, arith, refl, ap₂, ◌&&◌, true, list_all, le-leb, is_between, is_queue, are_queues, AllByRecursion, length-map}
+use Rattle.cmwq_sim.specs.Common.{◌≡◌, ◌<◌, ℕ, List, [], ◌∷◌, length, map, get_or, arith, refl, ap₂, ◌&&◌, true, list_all, le-leb, is_between, is_queue, are_queues, AllByRecursion, length-map, get_or-map, subst}
+use Rattle.cmwq_sim.proofs.Progress.{all_at}
 use Rattle.cmwq_model.specs.Prelude.{most_queues}
 use Rattle.cmwq_sim.specs.declared.scenario.SimQueue.{SimQueue}
 use Rattle.cmwq_sim.specs.Shows.{queue_shape}
@@ -8,9 +9,7 @@ use Rattle.cmwq_sim.specs.Plan.{Plan, plan_item}
 use Rattle.cmwq_sim.specs.Limits.{IsBetween, IsQueue, IsItem, IsWithinLimits}
 
 pub each_item : (n : ℕ) (xs : List SimItem) (i : ℕ) (d : SimItem) → AllByRecursion (IsItem n) (map plan_item xs) → i < length xs → IsItem n (plan_item (get_or xs i d))
-each_item n [] i d all less = absurd (omega arith)
-each_item n (x ∷ xs) zero d all less = all.0
-each_item n (x ∷ xs) (suc i) d all less = each_item n xs i d all.1 (omega arith)
+each_item n xs i d all less = subst (IsItem n) (get_or-map plan_item xs i d) (all_at (IsItem n) (map plan_item xs) i (plan_item d) all (rw (length-map xs plan_item) less))
 
 between : (low high n : ℕ) → IsBetween low high n → is_between low high n ≡ true
 between low high n h = ap₂ (λ a b. a && b) (le-leb low n h.0) (le-leb n high h.1)

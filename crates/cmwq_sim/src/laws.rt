@@ -3,6 +3,7 @@
 ghost use Rattle.cmwq_sim.specs.Ends.{AllItemsEnd, EachEndsOnce};
 
 /// When as many milliseconds have passed as the items have in all, each has ended.
+#[tactic(auto, using(crate::proofs::Outset::all_items_end))]
 pub fn all_items_end()
     ensures { AllItemsEnd }
 {}
