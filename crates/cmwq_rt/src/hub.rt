@@ -97,8 +97,28 @@ impl<N: HubName> Hub<N> {
         }
     }
 
-    /// Sleeps until its condvar is notified, with the lock let go meanwhile.
+    /// Spins for a while or sleeps, until it is woken, with the lock let go meanwhile. What it waits for is looked at before it sleeps: who
+    /// has spun in vain sleeps the next time.
     fn sleep<'a, R: Wait>(
+        &'a self,
+        rt: &R,
+        monitor: MutexGuard<'a, Monitor<N>>,
+        who: Who,
+    ) -> MutexGuard<'a, Monitor<N>> {
+        let mut monitor = match self.condvars.to_spin(who) {
+            Some(seen) => {
+                self.leave(monitor);
+                self.condvars.spin(who, seen);
+                self.lock(rt)
+            }
+            None => self.sleep_at_once(rt, monitor, who),
+        };
+        monitor.awakes(who);
+        monitor
+    }
+
+    /// Sleeps until its condvar is notified, with the lock let go meanwhile.
+    fn sleep_at_once<'a, R: Wait>(
         &self,
         rt: &R,
         mut monitor: MutexGuard<'a, Monitor<N>>,
@@ -108,9 +128,7 @@ impl<N: HubName> Hub<N> {
         if monitor.wants_journal() {
             self.journal.notify_all();
         }
-        let mut monitor = self.condvars.wait(rt, monitor, who);
-        monitor.awakes(who);
-        monitor
+        self.condvars.wait(rt, monitor, who)
     }
 
     /// How many entries are made in one hold of the lock, at most, where what is due is fired behind the first.
@@ -120,7 +138,7 @@ impl<N: HubName> Hub<N> {
 
     /// Sleeps until there is space for so many entries, or makes it where nobody wants them.
     pub(crate) fn spacious<'a, R: Wait>(
-        &self,
+        &'a self,
         rt: &R,
         monitor: MutexGuard<'a, Monitor<N>>,
         who: Who,
@@ -303,7 +321,7 @@ impl<N: HubName> Hub<N> {
 
     /// Sleeps until the ticket's end is done.
     fn until_done<'a, R: Wait>(
-        &self,
+        &'a self,
         rt: &R,
         monitor: MutexGuard<'a, Monitor<N>>,
         participant: &mut Participant<N>,
@@ -330,10 +348,10 @@ impl<N: HubName> Hub<N> {
     }
 
     /// Sleeps until the worker may start a queueing, or may go: none, as nothing active is open; and lets the lock go.
-    pub(crate) fn until_start<R: Wait>(
-        &self,
+    pub(crate) fn until_start<'a, R: Wait>(
+        &'a self,
         rt: &R,
-        monitor: MutexGuard<Monitor<N>>,
+        monitor: MutexGuard<'a, Monitor<N>>,
         participant: &mut Participant<N>,
     ) -> Result<Option<ItemId>, RunFault>
         requires { is_caller participant.old.who ≡ false }
