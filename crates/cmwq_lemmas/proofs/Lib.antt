@@ -3,3 +3,4 @@ pub mod Filters
 pub mod Truth
 pub mod Members
 pub mod Rising
+pub mod Passing

@@ -1,7 +1,6 @@
 -- Lists: what holds of each element, counts, and ranges of numbers.
 use Rattle.std.proofs.Common.{◌≡◌, ◌+◌, ◌<◌, ◌≤◌, ℕ, zero, suc, Bool, true, false, cond, ◌&&◌, List, [], ◌∷◌, ◌++◌, length, filter, find, count_by, Some, None, refl, sym, ap, ap₂, ◌∙◌, subst, zero-add, arith}
-use Rattle.std.proofs.lemmas.Option.{same_Some}
-use Rattle.std.proofs.lemmas.List.Sums.{sum_by-cons}
+use Rattle.std.proofs.lemmas.List.Sums.{sum_by-append, sum_by-cons}
 use Rattle.std.specs.List.{AllByRecursion, range_with_len}
 
 module _ {X : Type 0} where
@@ -21,14 +20,10 @@ module _ {X : Type 0} where
   All_each P [] f = tt
   All_each P (x ∷ xs) f = (f x, All_each P xs f)
 
-  All_head : (P : X → Type 0) (x : X) (xs : List X) (b : Bool) → (b ≡ true → P x) → AllByRecursion P xs → AllByRecursion P (cond b (x ∷ xs) xs)
-  All_head P x xs true h k = (h refl, k)
-  All_head P x xs false h k = k
-
   -- what holds of each element that passes holds of each of the filtered list
   pub All_filter : (P : X → Type 0) (p : X → Bool) (xs : List X) → AllByRecursion (λ x. p x ≡ true → P x) xs → AllByRecursion P (filter p xs)
   All_filter P p [] h = tt
-  All_filter P p (x ∷ xs) h = All_head P x (filter p xs) (p x) h.0 (All_filter P p xs h.1)
+  All_filter P p (x ∷ xs) h = grind (arith, h.0, All_filter P p xs h.1)
 
   pub count_by-cons : (p : X → Bool) (x : X) (xs : List X) → count_by p (x ∷ xs) ≡ cond (p x) 1 0 + count_by p xs
   count_by-cons p x xs = sum_by-cons (λ y. cond (p y) 1 0) x xs
@@ -51,20 +46,12 @@ module _ {X : Type 0} where
   -- where none is found, none passes
   pub find_none : (p : X → Bool) (xs : List X) → find p xs ≡ None → AllByRecursion (λ x. p x ≡ false) xs
   find_none p [] h = tt
-  find_none p (x ∷ xs) h = none (p x) refl h (find_none p xs)
-    where
-      none : (b : Bool) → p x ≡ b → cond b (Some x) (find p xs) ≡ None → (find p xs ≡ None → AllByRecursion (λ y. p y ≡ false) xs) → AllByRecursion (λ y. p y ≡ false) (x ∷ xs)
-      none true is h later = cc
-      none false is h later = (is, later h)
+  find_none p (x ∷ xs) h = grind (arith, find_none p xs)
 
   -- what holds of each of the filtered list holds of each element that passes
   pub All_unfilter : (P : X → Type 0) (p : X → Bool) (xs : List X) → AllByRecursion P (filter p xs) → AllByRecursion (λ x. p x ≡ true → P x) xs
   All_unfilter P p [] h = tt
-  All_unfilter P p (x ∷ xs) h = unfilter (p x) refl h (All_unfilter P p xs)
-    where
-      unfilter : (b : Bool) → p x ≡ b → AllByRecursion P (cond b (x ∷ filter p xs) (filter p xs)) → (AllByRecursion P (filter p xs) → AllByRecursion (λ y. p y ≡ true → P y) xs) → AllByRecursion (λ y. p y ≡ true → P y) (x ∷ xs)
-      unfilter true is h later = ((λ passes. h.0), later h.1)
-      unfilter false is h later = ((λ passes. let bad : false ≡ true = sym is ∙ passes in cc), later h)
+  All_unfilter P p (x ∷ xs) h = grind (arith, All_unfilter P p xs)
 
 pub filter_all : {X : Type 0} (p : X → Bool) (xs : List X) → AllByRecursion (λ x. p x ≡ true) xs → filter p xs ≡ xs
 filter_all p [] h = refl
@@ -72,19 +59,11 @@ filter_all p (x ∷ xs) h = ap₂ (λ b ys. cond b (x ∷ ys) ys) h.0 (filter_al
 
 pub filter_shorter : {X : Type 0} (q : X → Bool) (xs : List X) → length (filter q xs) ≤ length xs
 filter_shorter q [] = omega arith
-filter_shorter q (x ∷ xs) = at (q x) (filter_shorter q xs)
-  where
-    at : (b : Bool) → length (filter q xs) ≤ length xs → length (cond b (x ∷ filter q xs) (filter q xs)) ≤ suc (length xs)
-    at true h = omega arith
-    at false h = omega arith
+filter_shorter q (x ∷ xs) = grind (arith, filter_shorter q xs)
 
 pub found_passes : {X : Type 0} (p : X → Bool) (xs : List X) (z : X) → find p xs ≡ Some z → p z ≡ true
 found_passes p [] z is = cc
-found_passes p (x ∷ xs) z is = at (p x) refl is (λ k. found_passes p xs z k)
-  where
-    at : (b : Bool) → p x ≡ b → cond b (Some x) (find p xs) ≡ Some z → (find p xs ≡ Some z → p z ≡ true) → p z ≡ true
-    at true h k later = sym (ap p (same_Some x z k)) ∙ h
-    at false h k later = later k
+found_passes p (x ∷ xs) z is = grind (arith, found_passes p xs z)
 
 pub range_more : (a k : ℕ) → range_with_len a (suc k) ≡ range_with_len a k ++ (a + k) ∷ []
 range_more a zero = ap (λ n. n ∷ []) (omega arith)
@@ -94,12 +73,7 @@ pub All_push : {X : Type 0} (P : X → Type 0) (xs : List X) (x : X) → AllByRe
 All_push P xs x all one = All_append P xs (x ∷ []) all (one, tt)
 
 pub count_append : {X : Type 0} (p : X → Bool) (xs ys : List X) → count_by p (xs ++ ys) ≡ count_by p xs + count_by p ys
-count_append p [] ys = omega arith
-count_append p (x ∷ xs) ys =
-    let a = count_by-cons p x (xs ++ ys) in
-    let b = count_by-cons p x xs in
-    let c = count_append p xs ys in
-    omega arith
+count_append p = sum_by-append (λ x. cond (p x) 1 0)
 
 pub range_below : (a k : ℕ) → AllByRecursion (λ i. i < a + k) (range_with_len a k)
 range_below a zero = tt

@@ -1,5 +1,5 @@
 -- Elements of lists.
-use Rattle.std.proofs.Common.{◌≡◌, ◌<◌, ℕ, zero, suc, length, get_or, arith, Bool, true, false, cond, List, [], ◌∷◌, ◌++◌, filter, find, Option, Some, None, option_to_list, refl, sym, ap, subst, ◌⊎◌, inl, inr, ⊎_elim}
+use Rattle.std.proofs.Common.{◌≡◌, ◌<◌, ℕ, zero, suc, length, get_or, arith, Bool, true, List, [], ◌∷◌, ◌++◌, filter, find, Option, Some, None, option_to_list, refl, ap, subst, ◌⊎◌, inl, inr, ⊎_elim}
 use Rattle.std.specs.Prelude.{Contains}
 use Rattle.std.specs.List.{AllByRecursion}
 use Rattle.std.proofs.lemmas.Option.{same_Some}
@@ -37,28 +37,14 @@ module _ {X : Type 0} where
   option_in None x h = cc
   option_in (Some y) x h = inl (same_Some y x h)
 
-  in_kept : (p : X → Bool) (y x : X) (ys : List X) (b : Bool) → In x (cond b (y ∷ ys) ys) → p y ≡ b → ((y ≡ x) × (b ≡ true)) ⊎ In x ys
-  in_kept p y x ys true h is = ⊎_elim (λ e. inl (e, refl)) (λ i. inr i) h
-  in_kept p y x ys false h is = inr h
-
   -- what is kept was there, and passes
   pub in_filter : (p : X → Bool) (xs : List X) (x : X) → In x (filter p xs) → In x xs × (p x ≡ true)
   in_filter p [] x h = absurd h
-  in_filter p (y ∷ ys) x h =
-      ⊎_elim (λ k. (inl k.0, subst (λ z. p z ≡ true) k.0 k.1)) (λ i. let later = in_filter p ys x i in (inr later.0, later.1)) (in_kept p y x (filter p ys) (p y) h refl)
-
-  keep_here : (y x : X) (ys : List X) (b : Bool) → b ≡ true → y ≡ x → In x (cond b (y ∷ ys) ys)
-  keep_here y x ys true h e = inl e
-  keep_here y x ys false h e = cc
-
-  keep_later : (y x : X) (ys : List X) (b : Bool) → In x ys → In x (cond b (y ∷ ys) ys)
-  keep_later y x ys true h = inr h
-  keep_later y x ys false h = h
+  in_filter p (y ∷ ys) x h = grind (arith, in_filter p ys x)
 
   pub filter_in : (p : X → Bool) (xs : List X) (x : X) → In x xs → p x ≡ true → In x (filter p xs)
   filter_in p [] x h passes = absurd h
-  filter_in p (y ∷ ys) x h passes =
-      ⊎_elim (λ e. keep_here y x (filter p ys) (p y) (subst (λ z. p z ≡ true) (sym e) passes) e) (λ i. keep_later y x (filter p ys) (p y) (filter_in p ys x i passes)) h
+  filter_in p (y ∷ ys) x h passes = grind (arith, filter_in p ys x)
 
   -- a list without elements
   pub none_in : (xs : List X) → ((x : X) → In x xs → ⊥) → xs ≡ []
@@ -68,11 +54,7 @@ module _ {X : Type 0} where
   -- what is found is there and passes; where none is found, none passes
   pub found : (p : X → Bool) (xs : List X) (x : X) → find p xs ≡ Some x → In x xs × (p x ≡ true)
   found p [] x h = cc
-  found p (y ∷ ys) x h = here (p y) refl (found p ys x) h
-    where
-      here : (b : Bool) → p y ≡ b → (find p ys ≡ Some x → In x ys × (p x ≡ true)) → cond b (Some y) (find p ys) ≡ Some x → In x (y ∷ ys) × (p x ≡ true)
-      here true is later k = let same = same_Some y x k in (inl same, subst (λ z. p z ≡ true) same is)
-      here false is later k = let l = later k in (inr l.0, l.1)
+  found p (y ∷ ys) x h = grind (arith, found p ys x)
 
   pub in_at : (xs : List X) (k : ℕ) (x : X) → k < length xs → get_or xs k x ≡ x → In x xs
   in_at [] k x less is = absurd (omega arith)

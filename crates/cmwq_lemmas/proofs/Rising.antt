@@ -1,5 +1,5 @@
 -- Lists that rise by a number of each element.
-use Rattle.std.proofs.Common.{◌≡◌, ◌<◌, ◌≤◌, ℕ, Bool, true, false, cond, List, [], ◌∷◌, ◌++◌, filter, find, Some, refl, sym, ap, ◌∙◌, arith, ⊎_elim}
+use Rattle.std.proofs.Common.{◌≡◌, ◌<◌, ◌≤◌, ℕ, Bool, true, List, [], ◌∷◌, ◌++◌, filter, find, Some, sym, ap, ◌∙◌, arith, ⊎_elim}
 use Rattle.std.specs.List.{AllByRecursion}
 use Rattle.cmwq_lemmas.proofs.Lists.{All_map, All_append, All_filter}
 use Rattle.cmwq_lemmas.proofs.Members.{In, of_in}
@@ -9,15 +9,11 @@ module _ {X : Type 0} (f : X → ℕ) where
   RisesBy [] = Unit {0}
   RisesBy (x ∷ xs) = AllByRecursion (λ y. f x < f y) xs × RisesBy xs
 
-  rises_head : (x : X) (xs : List X) (b : Bool) → AllByRecursion (λ y. f x < f y) xs → RisesBy xs → RisesBy (cond b (x ∷ xs) xs)
-  rises_head x xs true h k = (h, k)
-  rises_head x xs false h k = k
-
   pub rises_filter : (p : X → Bool) (xs : List X) → RisesBy xs → RisesBy (filter p xs)
   rises_filter p [] h = tt
   rises_filter p (x ∷ xs) h =
       let later = All_filter (λ y. f x < f y) p xs (All_map (λ y. f x < f y) (λ y. p y ≡ true → f x < f y) xs (λ y less passes. less) h.0) in
-      rises_head x (filter p xs) (p x) later (rises_filter p xs h.1)
+      grind (arith, later, rises_filter p xs h.1)
 
   pub rises_snoc : (xs : List X) (y : X) → RisesBy xs → AllByRecursion (λ x. f x < f y) xs → RisesBy (xs ++ y ∷ [])
   rises_snoc [] y h k = (tt, tt)
@@ -35,8 +31,4 @@ module _ {X : Type 0} (f : X → ℕ) where
   -- of those that pass, the one with the least number is found
   pub find_is : (p : X → Bool) (xs : List X) (x : X) → RisesBy xs → In x xs → p x ≡ true → AllByRecursion (λ y. p y ≡ true → f x ≤ f y) xs → find p xs ≡ Some x
   find_is p [] x h i passes least = absurd i
-  find_is p (y ∷ ys) x h i passes least = here (p y) refl (λ k. find_is p ys x h.1 k passes least.1)
-    where
-      here : (b : Bool) → p y ≡ b → (In x ys → find p ys ≡ Some x) → cond b (Some y) (find p ys) ≡ Some x
-      here true is later = ⊎_elim (λ e. ap Some e) (λ k. let more = of_in (λ z. f y < f z) ys x h.0 k in let le = least.0 is in absurd (omega arith)) i
-      here false is later = ⊎_elim (λ e. let same : p y ≡ p x = ap p e in cc) later i
+  find_is p (y ∷ ys) x h i passes least = grind (arith, find_is p ys x h.1, of_in (λ z. f y < f z) ys x h.0, least.0, least.1)

@@ -1,5 +1,5 @@
 -- Truth values.
-use Rattle.std.proofs.Common.{◌≡◌, Bool, true, false, ◌&&◌, ◌||◌, cond, not, Some, None, refl}
+use Rattle.std.proofs.Common.{◌≡◌, Bool, true, false, ◌&&◌, ◌||◌, cond, Some, None, refl}
 
 pub flip : (a b : Bool) → (a && b) ≡ (b && a)
 flip true true = refl

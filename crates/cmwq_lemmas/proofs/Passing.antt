@@ -1,0 +1,98 @@
+-- What passes a test: some of a list or none, what is left of it, and how many numbers of a range.
+use Rattle.std.proofs.Common.{◌≡◌, ◌==◌, ◌<◌, ◌≤◌, ◌+◌, ℕ, zero, suc, Bool, true, false, cond, not, List, [], ◌∷◌, ◌++◌, ◌||◌, length, map, filter, find, count_by, Some, None, refl, ap, ◌∙◌, arith, eq-eqb}
+use Rattle.std.specs.List.{AllByRecursion, list_any, range_with_len, sum_by}
+use Rattle.std.proofs.lemmas.Bool.{ne_eqb}
+use Rattle.std.proofs.lemmas.Bool.Decides.{nat_tests}
+use Rattle.std.proofs.lemmas.List.Filters.{length-filter_both, sum_by-filter_both}
+use Rattle.std.proofs.lemmas.List.Folds.{list_any-append}
+use Rattle.std.proofs.lemmas.List.Sums.{length-filter, sum_by_push}
+use Rattle.cmwq_lemmas.proofs.Lists.{All_filter, All_map, count_by-cons}
+use Rattle.cmwq_lemmas.proofs.Members.{found, of_in}
+use Rattle.cmwq_lemmas.proofs.Truth.{or_false}
+
+-- ---- some pass, or none
+
+pub any_counted : {X : Type 0} (p : X → Bool) (xs : List X) → list_any p xs ≡ true → 1 ≤ count_by p xs
+any_counted p [] h = cc
+any_counted p (x ∷ xs) h = grind (arith, count_by-cons p x xs, any_counted p xs)
+
+pub counted_any : {X : Type 0} (p : X → Bool) (xs : List X) → 1 ≤ count_by p xs → list_any p xs ≡ true
+counted_any p [] h = absurd (omega arith)
+counted_any p (x ∷ xs) h = grind (arith, count_by-cons p x xs, counted_any p xs)
+
+pub found_any : {X : Type 0} (p q : X → Bool) → ((x : X) → p x ≡ true → q x ≡ true) → (xs : List X) (z : X) → find p xs ≡ Some z → list_any q xs ≡ true
+found_any p q more [] z is = cc
+found_any p q more (x ∷ xs) z is = grind (arith, found_any p q more xs z, more x)
+
+-- what is found stands there
+pub found_there : (p : ℕ → Bool) (xs : List ℕ) (z : ℕ) → find p xs ≡ Some z → list_any (λ j. j == z) xs ≡ true
+found_there p [] z is = cc
+found_there p (x ∷ xs) z is = grind (arith, nat_tests, found_there p xs z)
+
+-- what passes, of a list of which each is so
+pub one_there : {X : Type 0} (P : X → Type 0) (p : X → Bool) (xs : List X) → AllByRecursion P xs → list_any p xs ≡ true → (x : X) × P x × (p x ≡ true)
+one_there P p [] all h = cc
+one_there P p (x ∷ xs) all h = grind (arith, one_there P p xs)
+
+pub all_found : {X : Type 0} (P : X → Type 0) (p : X → Bool) (xs : List X) (z : X) → AllByRecursion P xs → find p xs ≡ Some z → P z × (p z ≡ true)
+all_found P p xs z all is = let k = found p xs z is in (of_in P xs z all k.0, k.1)
+
+pub all_split : {X : Type 0} (P : X → Type 0) (xs ys : List X) → AllByRecursion P (xs ++ ys) → AllByRecursion P xs × AllByRecursion P ys
+all_split P [] ys all = (tt, all)
+all_split P (x ∷ xs) ys all = let k = all_split P xs ys all.1 in ((all.0, k.0), k.1)
+
+pub all_kept : {X : Type 0} (P : X → Type 0) (q : X → Bool) (xs : List X) → AllByRecursion P xs → AllByRecursion P (filter q xs)
+all_kept P q xs all = All_filter P q xs (All_map P (λ x. q x ≡ true → P x) xs (λ x p k. p) all)
+
+pub none_kept : {X : Type 0} (p : X → Bool) (xs : List X) → filter p xs ≡ [] → AllByRecursion (λ x. p x ≡ false) xs
+none_kept p [] h = tt
+none_kept p (x ∷ xs) h = grind (arith, none_kept p xs)
+
+pub last_any : {X : Type 0} (p : X → Bool) (xs : List X) (x : X) → list_any p (xs ++ x ∷ []) ≡ (list_any p xs || p x)
+last_any p xs x = list_any-append p xs (x ∷ []) ∙ ap (λ b. list_any p xs || b) (or_false (p x))
+
+pub none_found_any : {X : Type 0} (p : X → Bool) (xs : List X) → find p xs ≡ None → list_any p xs ≡ false
+none_found_any p [] is = refl
+none_found_any p (x ∷ xs) is = grind (arith, none_found_any p xs)
+
+pub count_push : {X : Type 0} (p : X → Bool) (xs : List X) (x : X) → count_by p (xs ++ x ∷ []) ≡ count_by p xs + cond (p x) 1 0
+count_push p = sum_by_push (λ x. cond (p x) 1 0)
+
+-- ---- some are taken out
+
+pub less_kept : {X : Type 0} (f : X → ℕ) (q : X → Bool) (xs : List X) → sum_by f (filter q xs) ≤ sum_by f xs
+less_kept f q xs = omega (arith, sum_by-filter_both q (λ x. not (q x)) (λ x. refl) f xs)
+
+pub fewer_kept : {X : Type 0} (p q : X → Bool) (xs : List X) → count_by p (filter q xs) ≤ count_by p xs
+fewer_kept p q xs = less_kept (λ x. cond (p x) 1 0) q xs
+
+pub one_fewer : {X : Type 0} (p : X → Bool) (xs : List X) → list_any p xs ≡ true → length (filter (λ x. not (p x)) xs) + 1 ≤ length xs
+one_fewer p xs h = omega (arith, length-filter_both p (λ x. not (p x)) (λ x. refl) xs, length-filter p xs, any_counted p xs h)
+
+pub filter_mapped : {X Y : Type 0} (f : X → Y) (p : Y → Bool) (r : X → Bool) (xs : List X) → AllByRecursion (λ x. p (f x) ≡ r x) xs → filter p (map f xs) ≡ map f (filter r xs)
+filter_mapped f p r [] h = refl
+filter_mapped f p r (x ∷ xs) h = grind (arith, filter_mapped f p r xs)
+
+pub all_mapped_pass : {X Y : Type 0} (f : X → Y) (p : Y → Bool) (xs : List X) → AllByRecursion (λ x. p (f x) ≡ true) xs → filter p (map f xs) ≡ map f xs
+all_mapped_pass f p [] h = refl
+all_mapped_pass f p (x ∷ xs) h = grind (arith, all_mapped_pass f p xs)
+
+-- ---- ranges
+
+pub none_counted : (p : ℕ → Bool) (a n : ℕ) → ((x : ℕ) → a ≤ x → x < a + n → p x ≡ false) → count_by p (range_with_len a n) ≡ 0
+none_counted p a zero h = refl
+none_counted p a (suc n) h = grind (arith, count_by-cons p a (range_with_len (a + 1) n), h a, none_counted p (a + 1) n (λ x low high. h x (omega arith) (omega arith)))
+
+pub one_counted : (p : ℕ → Bool) (a n x : ℕ) → a ≤ x → x < a + n → p x ≡ true → 1 ≤ count_by p (range_with_len a n)
+one_counted p a zero x low high h = absurd (omega arith)
+one_counted p a (suc n) x low high h = grind (arith, count_by-cons p a (range_with_len (a + 1) n), one_counted p (a + 1) n x)
+
+none_later : (i b n : ℕ) → i < b → count_by (λ j. j == i) (range_with_len b n) ≡ 0
+none_later i b n less = none_counted (λ j. j == i) b n (λ x low high. ne_eqb x i (λ same. absurd (omega arith)))
+
+pub once_among : (a k i : ℕ) → count_by (λ j. j == i) (range_with_len a k) ≤ 1
+once_among a zero i = omega arith
+once_among a (suc k) i = grind (arith, nat_tests, count_by-cons (λ j. j == i) a (range_with_len (a + 1) k), none_later i (a + 1) k, once_among (a + 1) k i)
+
+pub once_there : (i a k : ℕ) → a ≤ i → i < a + k → count_by (λ j. j == i) (range_with_len a k) ≡ 1
+once_there i a k low high = let a1 = once_among a k i in let b = one_counted (λ j. j == i) a k i low high (eq-eqb i i refl) in omega arith
