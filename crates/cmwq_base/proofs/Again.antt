@@ -29,9 +29,7 @@ pub record Ends {X : Type 0} (k : Kind X) (v : ℕ) (last : ℕ → List ℕ) : 
   pub alone : (n : ℕ) (c : Counts) (qs : List QueueShape) → is_layout (layout_of c qs) ≡ true → after_text k n (head v c qs) (last 0) ≡ Ok (record { version = v; layout = layout_of c qs; items = [] })
 
 pub pieces_behind : (bytes line rest : List ℕ) → IsWholeLine bytes line → pieces (bytes ++ rest) ≡ line ∷ pieces rest
-pieces_behind bytes line rest w =
-    let front : bytes ++ rest ≡ line ++ 10 ∷ rest = ap (λ t. t ++ rest) w.is ∙ append_assoc line (10 ∷ []) rest in
-    ap pieces front ∙ slice_split_at is_feed line 10 rest w.one refl
+pieces_behind bytes line rest w = grind (arith, append_assoc, slice_split_at)
 
 module _ {X : Type 0} (k : Kind X) where
   line_goes : (n : ℕ) (stage next : Stage X) (bytes line rest : List ℕ) → IsWholeLine bytes line → after_line k n stage line ≡ Ok next → after_text k n stage (bytes ++ rest) ≡ after_text k (n + 1) next rest
@@ -142,11 +140,7 @@ module _ {X : Type 0} (k : Kind X) (v : ℕ) (text : X → List ℕ) (last : ℕ
 -- ---- histories
 
 none_in : (v : ℕ) (line : List ℕ) → end_of line ≡ None → end_in history_kind v line ≡ None
-none_in v line none = by_need (needs_end v) (end_of line) none
-  where
-    by_need : (b : Bool) (o : Option ℕ) → o ≡ None → (if b then o else None) ≡ None
-    by_need true o none = none
-    by_need false o none = refl
+none_in v line none = grind arith
 
 entry_again : (v : ℕ) (s : Layout) (e : Entry) → (IsEntry greatest_number) e → entry_fits s e ≡ true → allows_entry v e ≡ true → IsAgain history_kind v entry_text s e
 unfolding entry_of_format
@@ -199,9 +193,7 @@ body_goes_over n v s xs le needed = body_ends n v s xs le needed
 
 pub head_goes_over : (n v : ℕ) (c : Counts) (qs : List QueueShape) → needs_end v ≡ true → is_layout (layout_of c qs) ≡ true → after_line history_kind n (head v c qs) (join_words (end_words 0)) ≡ Ok (ended v (layout_of c qs) [])
 unfolding after_line after_head
-head_goes_over n v c qs needed inside =
-    ap (λ b. first_item history_kind n v (if b then Some (layout_of c qs) else None) (join_words (end_words 0))) inside
-    ∙ body_ends n v (layout_of c qs) [] (omega arith) needed
+head_goes_over n v c qs needed inside = grind (arith, body_ends)
 
 -- what stands behind the entries of a history, in any format
 pub history_ends : (v : ℕ) → Ends history_kind v (last_text v)
@@ -308,10 +300,7 @@ calls_say = refl
 
 calls_end : (v : ℕ) → Ends calls_kind v (λ m. [])
 unfolding after_pieces at_end
-calls_end v = record {
-  behind = λ n s xs few. refl;
-  alone = λ n c qs inside. ap (λ b. without_items calls_kind n v (if b then Some (layout_of c qs) else None)) inside;
-}
+calls_end v = grind arith
 
 module _ (f : File (Who × Call)) (inside : IsTrue (is_layout f.layout)) (sound : IsSound calls_kind f) (each : All (λ x. IsWho x.0 × (IsCall (number_limit f.version)) x.1) f.items) where
   -- from the shape line on

@@ -34,10 +34,7 @@ pub front_after : (a b c : Option (List ℕ)) (xs ys : List ℕ) → Appends a b
 front_after a b c xs ys p q = subst (AppendsFront a c) (ap (λ l. xs ++ l) (append-nil ys)) (front_behind a b c xs ys [] p q)
 
 appends_keeps : (a b c : Option (List ℕ)) (xs : List ℕ) → Appends a b xs → Keeps b c → Appends a c xs
-appends_keeps None b c xs p k = tt
-appends_keeps (Some x) None c xs p k = absurd p
-appends_keeps (Some x) (Some y) None xs p k = absurd k
-appends_keeps (Some x) (Some y) (Some z) xs p k = k ∙ p
+appends_keeps a b c xs p k = grind arith
 
 -- a whole text is a front of itself
 pub front_whole : (a b c : Option (List ℕ)) (xs : List ℕ) → Appends a b xs → Keeps b c → AppendsFront a c xs

@@ -14,18 +14,8 @@ newest_has old new v newer = rw (le-leb 3 v newer) refl
 
 pub none_passes : (old new v : ℕ) → old ≤ new → by_age old new v ≤ new
 unfolding by_age
-none_passes old new v older = by_long (nat_le 3 v)
-  where
-    by_long : (b : Bool) → (if b then new else old) ≤ new
-    by_long true = omega arith
-    by_long false = older
+none_passes old new v older = grind arith
 
 pub none_falls : (old new v w : ℕ) → old ≤ new → v ≤ w → by_age old new v ≤ by_age old new w
 unfolding by_age
-none_falls old new v w older later = by_long (nat_le 3 v) (nat_le 3 w) refl refl
-  where
-    by_long : (b c : Bool) → nat_le 3 v ≡ b → nat_le 3 w ≡ c → (if b then new else old) ≤ (if c then new else old)
-    by_long true true h k = omega arith
-    by_long true false h k = absurd (grind (arith, nat_tests))
-    by_long false true h k = older
-    by_long false false h k = omega arith
+none_falls old new v w older later = grind arith

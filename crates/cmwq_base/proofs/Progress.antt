@@ -26,10 +26,7 @@ found_so before after line how so is t = subst (λ h. TakesKnownLine before afte
 -- the counts that a format allows are read as those of a shape line
 pub counts_are_read : (v : ℕ) (line : List ℕ) (c : Counts) → counts_of_format v line ≡ Some c → (counts_read line ≡ Some c) × IsTrue (allows_counts v c)
 unfolding counts_of_format
-counts_are_read v line c h =
-    let read = bind_some (counts_read line) (λ (c : Counts). if allows_counts v c then Some c else None) c h in
-    let found = chosen (allows_counts v read.0) (Some read.0) c read.2 in
-    (read.1 ∙ found.1, subst (λ x. IsTrue (allows_counts v x)) (same_Some read.0 c found.1) found.0)
+counts_are_read v line c h = grind arith
 
 -- ---- one line more
 
@@ -47,8 +44,7 @@ module _ {X : Type 0} (k : Kind X) (n : ℕ) where
       subst (Grows k stage) is (record { count = omega (arith, lines); within = λ w. (is_version w, omega arith, room, allowed.1) })
 
   opened_grows : (v : ℕ) (line : List ℕ) (next : Stage X) → 2 ≤ v → v ≤ 3 → k.says_format v line ≡ true → opened v ≡ next → Grows k begin next
-  opened_grows v line next low high says is =
-      subst (Grows k begin) is (record { count = omega arith; within = λ _. record { low = low; high = high; line = line; says = says } })
+  opened_grows v line next low high says is = grind arith
 
   third_grows : (line : List ℕ) (next : Stage X) (b : Bool) → k.says_format 3 line ≡ b → (if b then Ok (opened 3) else begun n 1 (counts_of_format 1 line)) ≡ Ok next → Grows k begin next
   third_grows line next true says h = let is : opened 3 ≡ next = cc in opened_grows 3 line next (omega arith) (omega arith) says is
@@ -92,10 +88,7 @@ module _ {X : Type 0} (k : Kind X) (n : ℕ) where
   item_line_grows v s xs line next h = item_line_if v s xs line next (nat_le (line_limit v) (length xs)) refl h
 
   ended_grows : (v : ℕ) (s : Layout) (xs : List X) (next : Stage X) (b : Bool) → k.needs_end v ≡ true → (if b then Ok (ended v s xs) else Err (refusal.BadLine n)) ≡ Ok next → Grows k (body v s xs) next
-  ended_grows v s xs next true needed h =
-      let is : ended v s xs ≡ next = cc in
-      subst (Grows k (body v s xs)) is (record { count = omega arith; within = λ w. (needed, w) })
-  ended_grows v s xs next false needed h = cc
+  ended_grows v s xs next b needed h = grind arith
 
   or_ended_grows : (v : ℕ) (s : Layout) (xs : List X) (line : List ℕ) (o : Option ℕ) (next : Stage X) → end_in k v line ≡ o → or_ended k n v s xs line o ≡ Ok next → Grows k (body v s xs) next
   or_ended_grows v s xs line None next is h = item_line_grows v s xs line next h
@@ -126,36 +119,13 @@ module _ {X : Type 0} (k : Kind X) (n : ℕ) where
 
 -- no stage has so many lines
 pub too_many : {X : Type 0} (k : Kind X) (n : ℕ) (stage : Stage X) → 4611686018426388164 ≤ n → n ≤ lines_taken stage + 1 → IsStageWithin k stage → ⊥
-too_many k n begin many count w = omega (arith, many, count)
-too_many k n (opened v) many count w = omega (arith, many, count)
-too_many k n (head v c qs) many count w =
-    let few = w.1 in
-    let queues : queue_limit v ≤ most_queues = none_passes old_queues most_queues v (omega arith) in
-    omega (arith, many, count, few, queues)
-too_many k n (body v s xs) many count w =
-    let few = w.1 in
-    let items = w.4 in
-    let queues : queue_limit v ≤ most_queues = none_passes old_queues most_queues v (omega arith) in
-    let most : line_limit v ≤ most_lines = none_passes old_lines most_lines v (omega arith) in
-    omega (arith, many, count, few, queues, items, most)
-too_many k n (ended v s xs) many count w =
-    let few = w.1.1 in
-    let items = w.1.4 in
-    let queues : queue_limit v ≤ most_queues = none_passes old_queues most_queues v (omega arith) in
-    let most : line_limit v ≤ most_lines = none_passes old_lines most_lines v (omega arith) in
-    omega (arith, many, count, few, queues, items, most)
+too_many k n stage many count w = grind (arith, none_passes)
 
 -- ---- the answers of the reader
 
 module _ {X : Type 0} (k : Kind X) (n : ℕ) (stage : Stage X) where
   fails_on : (e : Refusal) (r : Result (Stage X) Refusal) (f : Stage X → Result (File X) Refusal) → Refuses e r → Fails e (and_then f r)
-  fails_on refusal.NoMemory r f h = tt
-  fails_on refusal.ReadFault r f h = tt
-  fails_on refusal.WriteFault r f h = absurd h
-  fails_on refusal.TooLong r f h = ap (and_then f) h
-  fails_on (refusal.BadLine m) r f h = ap (and_then f) h
-  fails_on (refusal.BadShape m) r f h = ap (and_then f) h
-  fails_on (refusal.NoSuchId m) r f h = ap (and_then f) h
+  fails_on e r f h = grind arith
 
   pub whole_goes : (old before after : Option (List ℕ)) (line : List ℕ) (next : Stage X) → SameRead k old before n stage → TakesKnownLine before after Whole line → after_line k n stage line ≡ Ok next
       → SameRead k old after (n + 1) next
@@ -180,15 +150,7 @@ module _ {X : Type 0} (k : Kind X) (n : ℕ) (stage : Stage X) where
 
   is_cut : (stage : Stage X) (r : Result (File X) Refusal) → r ≡ Err (after_cut n stage) → Fails (after_cut n stage) r
   unfolding after_cut
-  is_cut begin r h = h
-  is_cut (opened v) r h = h
-  is_cut (head v c qs) r h = h
-  is_cut (ended v s xs) r h = h
-  is_cut (body v s xs) r h = by_full (nat_le (line_limit v) (length xs)) h
-    where
-      by_full : (b : Bool) → r ≡ Err (if b then refusal.TooLong else refusal.BadLine n) → Fails (if b then refusal.TooLong else refusal.BadLine n) r
-      by_full true h = h
-      by_full false h = h
+  is_cut stage r h = grind arith
 
   pub cut_fails : (old before after : Option (List ℕ)) (line : List ℕ) (e : Refusal) → (k.is_front && not (is_ended stage)) ≡ false → SameRead k old before n stage → TakesKnownLine before after Cut line → e ≡ after_cut n stage → IfSome old (λ text. Fails e (file_of k text))
   cut_fails None before after line e kept h t is = tt
@@ -199,24 +161,14 @@ module _ {X : Type 0} (k : Kind X) (n : ℕ) (stage : Stage X) where
       subst (λ r. Fails r (file_of k text)) (sym is) (is_cut stage (file_of k text) (h ∙ text_cut k n stage b a line t ∙ refused))
 
   refuses_fails : {Z : Type 0} (e : Refusal) (r : Result Z Refusal) → Refuses e r → Fails e r
-  refuses_fails refusal.NoMemory r h = h
-  refuses_fails refusal.ReadFault r h = tt
-  refuses_fails refusal.WriteFault r h = h
-  refuses_fails refusal.TooLong r h = h
-  refuses_fails (refusal.BadLine m) r h = h
-  refuses_fails (refusal.BadShape m) r h = h
-  refuses_fails (refusal.NoSuchId m) r h = h
+  refuses_fails e r h = grind arith
 
   makes_gives : {Y Z : Type 0} (view : Y → Z) (r : Result Y Refusal) (read : Result Z Refusal) → GivesAs view r read → Gives view r read
-  makes_gives view (Ok y) read h = h
-  makes_gives view (Err e) read h = refuses_fails e read h
+  makes_gives view r read h = grind arith
 
   pub end_gives : {Y : Type 0} (view : Y → File X) (r : Result Y Refusal) (old before after : Option (List ℕ)) (line : List ℕ) → SameRead k old before n stage → TakesKnownLine before after End line → GivesAs view r (at_end k n stage)
       → IfSome old (λ text. Gives view r (file_of k text))
-  end_gives view r None before after line h t g = tt
-  end_gives view r (Some text) None after line h t g = absurd h
-  end_gives view r (Some text) (Some b) None line h t g = absurd t
-  end_gives view r (Some text) (Some b) (Some a) line h t g = makes_gives view r (file_of k text) (subst (GivesAs view r) (sym (h ∙ text_end k n stage b a line t)) g)
+  end_gives view r old before after line h t g = grind (arith, text_end)
 
 module _ {X : Type 0} (k : Kind X) (n : ℕ) (stage : Stage X) where
   pub cut_gives : {Y : Type 0} (view : Y → File X) (r : Result Y Refusal) (old before after : Option (List ℕ)) (line : List ℕ) → (k.is_front && not (is_ended stage)) ≡ true → SameRead k old before n stage → TakesKnownLine before after Cut line
@@ -231,11 +183,7 @@ module _ {X : Type 0} (k : Kind X) (n : ℕ) (stage : Stage X) where
 -- whole lines are read alike
 pub line_alike : {X : Type 0} (front : Bool) (k : Kind X) (n : ℕ) (stage : Stage X) (line : List ℕ) → after_line (as_front front k) n stage line ≡ after_line k n stage line
 unfolding after_line after_head body_line item_line
-line_alike front k n begin line = refl
-line_alike front k n (opened v) line = refl
-line_alike front k n (head v c qs) line = refl
-line_alike front k n (body v s xs) line = refl
-line_alike front k n (ended v s xs) line = refl
+line_alike front k n stage line = grind arith
 
 -- only the source's own failure is a read fault, and no reader gives a write fault
 abbrev pub is_fault : Refusal → Bool
@@ -244,54 +192,29 @@ is_fault refusal.WriteFault = true
 is_fault e = false
 
 pub refuses_no_fault : {Y : Type 0} (e : Refusal) (r : Result Y Refusal) → Refuses e r → is_fault e ≡ false
-refuses_no_fault refusal.NoMemory r h = refl
-refuses_no_fault refusal.ReadFault r h = absurd h
-refuses_no_fault refusal.WriteFault r h = absurd h
-refuses_no_fault refusal.TooLong r h = refl
-refuses_no_fault (refusal.BadLine m) r h = refl
-refuses_no_fault (refusal.BadShape m) r h = refl
-refuses_no_fault (refusal.NoSuchId m) r h = refl
+refuses_no_fault e r h = grind arith
 
 cut_is_no_fault : {X : Type 0} (n : ℕ) (stage : Stage X) → is_fault (after_cut n stage) ≡ false
 unfolding after_cut
-cut_is_no_fault n begin = refl
-cut_is_no_fault n (opened v) = refl
-cut_is_no_fault n (head v c qs) = refl
-cut_is_no_fault n (ended v s xs) = refl
-cut_is_no_fault n (body v s xs) = by_full (nat_le (line_limit v) (length xs))
-  where
-    by_full : (b : Bool) → is_fault (if b then refusal.TooLong else refusal.BadLine n) ≡ false
-    by_full true = refl
-    by_full false = refl
+cut_is_no_fault n stage = grind arith
 
 -- a result that is no fault isn't this one
 pub no_fault : {Z : Type 0} (e f : Refusal) (r : Result Z Refusal) → is_fault e ≡ false → is_fault f ≡ true → r ≡ Err e → r ≡ Err f → ⊥
-no_fault e f r none fault is other =
-    let same : e ≡ f = cc in
-    let both : false ≡ true = sym none ∙ ap is_fault same ∙ fault in
-    cc
+no_fault e f r none fault is other = grind arith
 
 pub cut_no_fault : {X Z : Type 0} (n : ℕ) (stage : Stage X) (e f : Refusal) (r : Result Z Refusal) → e ≡ after_cut n stage → is_fault f ≡ true → r ≡ Err e → r ≡ Err f → ⊥
 cut_no_fault n stage e f r is fault made other = no_fault e f r (ap is_fault is ∙ cut_is_no_fault n stage) fault made other
 
 pub makes_no_fault : {Y Z : Type 0} (view : Y → Z) (r : Result Y Refusal) (read : Result Z Refusal) (f : Refusal) → GivesAs view r read → is_fault f ≡ true → r ≡ Err f → ⊥
-makes_no_fault view (Ok y) read f h fault is = cc
-makes_no_fault view (Err e) read f h fault is = no_fault e f (Err e) (refuses_no_fault e read h) fault refl is
+makes_no_fault view r read f h fault is = grind arith
 
 -- what a reader's stage gives is sound
 pub ends_with : {X : Type 0} (k : Kind X) (n : ℕ) (f g : File X) → without_end k n f ≡ Ok g → f ≡ g
-ends_with k n f g h = by_lack (k.needs_end f.version && not k.is_front) h
-  where
-    by_lack : (b : Bool) → (if b then Err (refusal.BadLine n) else Ok f) ≡ Ok g → f ≡ g
-    by_lack true h = cc
-    by_lack false h = cc
+ends_with k n f g h = grind arith
 
 sound_without : {X : Type 0} (k : Kind X) (n v : ℕ) (c : Counts) (qs : List QueueShape) (b : Bool) (f : File X) → IsVersionOf k v → (length qs ≤ queue_limit v) × (c.room ≤ room_limit v) × IsTrue (allows_numbers v c)
     → without_items k n v (if b then Some (layout_of c qs) else None) ≡ Ok f → IsVersionOf k f.version × IsSound k f
-sound_without k n v c qs false f w shape h = cc
-sound_without k n v c qs true f w shape h =
-    let is : record { version = v; layout = layout_of c qs; items = [] } ≡ f = ends_with k n (record { version = v; layout = layout_of c qs; items = [] }) f h in
-    subst (λ f. IsVersionOf k f.version × IsSound k f) is (w, record { room = shape.1; numbers = shape.2; queues = shape.0; few = omega arith; fitting = All-nil (λ x. IsTrue (k.fits_in (layout_of c qs) x)) })
+sound_without k n v c qs b f w shape h = grind arith
 
 pub end_sound : {X : Type 0} (k : Kind X) (n : ℕ) (stage : Stage X) (f : File X) → IsStageWithin k stage → at_end k n stage ≡ Ok f → IsVersionOf k f.version × IsSound k f
 unfolding at_end
@@ -308,15 +231,11 @@ end_sound k n (ended v s xs) f w h =
 -- at the beginning nothing has been read
 pub starts : {X : Type 0} (k : Kind X) (text : Option (List ℕ)) (ahead : List ℕ) → ahead ≡ [] → SameRead k text (prepend_known ahead text) 1 begin
 unfolding file_of
-starts k None ahead none = tt
-starts k (Some text) ahead none = ap (λ bytes. after_text k 1 begin (bytes ++ text)) (sym none)
+starts k text ahead none = grind arith
 
 pub makes_sound : {X Y : Type 0} (front : Bool) (k : Kind X) (view : Y → File X) (r : Result Y Refusal) (n : ℕ) (stage : Stage X) → IsStageWithin (as_front front k) stage → GivesAs view r (at_end (as_front front k) n stage)
     → IfOk r (λ y. IsSound k (view y))
-makes_sound front k view (Ok y) n stage w h =
-    let sound = (end_sound (as_front front k) n stage (view y) w h).1 in
-    record { room = sound.room; numbers = sound.numbers; queues = sound.queues; few = sound.few; fitting = sound.fitting }
-makes_sound front k view (Err e) n stage w h = tt
+makes_sound front k view r n stage w h = grind (arith, end_sound)
 
 pub makes_version : {X Y : Type 0} (k : Kind X) (view : Y → File X) (r : Result Y Refusal) (n : ℕ) (stage : Stage X) → IsStageWithin k stage → GivesAs view r (at_end k n stage) → IfOk r (λ y. IsVersionOf k (view y).version)
 makes_version k view (Ok y) n stage w h = (end_sound k n stage (view y) w h).0

@@ -8,8 +8,7 @@ use Rattle.cmwq_base.specs.Files.{Stage, Kind, is_long, and_then, after_line, at
 -- ---- pieces
 
 feed_within : (text : List ℕ) (b : Bool) → nat_lt (position_or_len is_feed text) (length text) ≡ b → is_some (cond b (Some (position_or_len is_feed text)) None) ≡ b
-feed_within text true h = refl
-feed_within text false h = refl
+feed_within text b h = grind arith
 
 pub has_feed_is : (text : List ℕ) → has_feed text ≡ nat_lt (position_or_len is_feed text) (length text)
 has_feed_is text = feed_within text (nat_lt (position_or_len is_feed text) (length text)) refl
@@ -19,17 +18,13 @@ pub pieces_fed : (text : List ℕ) → has_feed text ≡ true → pieces text �
 pieces_fed text h = slice_split_first is_feed text 0 (ltb-true _ _ (sym (has_feed_is text) ∙ h))
 
 none_within : (text : List ℕ) → has_feed text ≡ false → length text ≤ position_or_len is_feed text
-none_within text h =
-    let none : nat_lt (position_or_len is_feed text) (length text) ≡ false = sym (has_feed_is text) ∙ h in
-    grind (arith, nat_tests)
+none_within text h = grind arith
 
 pub first_is_all : (text : List ℕ) → has_feed text ≡ false → first_line text ≡ text
 first_is_all text h = take_all (position_or_len is_feed text) text (none_within text h)
 
 pub pieces_last : (text : List ℕ) → has_feed text ≡ false → pieces text ≡ text ∷ []
-pieces_last text h =
-    let all = none_within text h in
-    slice_split_none is_feed text (λ k d less. fails_before_first is_feed text k d (omega arith))
+pieces_last text h = grind (arith, none_within, slice_split_none, fails_before_first)
 
 -- there is always a piece: what stands after the last line feed
 pub pieces_some : (text : List ℕ) → (p : List ℕ) × (ps : List (List ℕ)) × (pieces text ≡ p ∷ ps)
@@ -42,28 +37,16 @@ pieces_some text = by_feed (has_feed text) refl
 -- ---- how the first line was found
 
 pub whole_found : (a b c : Bool) → Whole ≡ (if a then Long else if b then Whole else if c then End else Cut) → (a ≡ false) × (b ≡ true)
-whole_found true b c h = cc
-whole_found false true c h = (refl, refl)
-whole_found false false true h = cc
-whole_found false false false h = cc
+whole_found a b c h = grind arith
 
 pub cut_found : (a b c : Bool) → Cut ≡ (if a then Long else if b then Whole else if c then End else Cut) → (a ≡ false) × (b ≡ false) × (c ≡ false)
-cut_found true b c h = cc
-cut_found false true c h = cc
-cut_found false false true h = cc
-cut_found false false false h = (refl, refl, refl)
+cut_found a b c h = grind arith
 
 pub end_found : (a b c : Bool) → End ≡ (if a then Long else if b then Whole else if c then End else Cut) → (b ≡ false) × (c ≡ true)
-end_found true b c h = cc
-end_found false true c h = cc
-end_found false false true h = (refl, refl)
-end_found false false false h = cc
+end_found a b c h = grind arith
 
 pub long_found : (a b c : Bool) → Long ≡ (if a then Long else if b then Whole else if c then End else Cut) → a ≡ true
-long_found true b c h = refl
-long_found false true c h = cc
-long_found false false true h = cc
-long_found false false false h = cc
+long_found a b c h = grind arith
 
 -- ---- what each gives
 
@@ -84,42 +67,27 @@ module _ {X : Type 0} (k : Kind X) (n : ℕ) (stage : Stage X) where
       ∙ ap (λ r. and_then (λ next. after_text k (n + 1) next r) (after_line k n stage line)) (sym is_rest)
 
   long_last : (text : List ℕ) → is_long text ≡ true → after_last k n stage text ≡ Err refusal.TooLong
-  long_last [] h = cc
-  long_last (b ∷ bs) h = ap (λ c. if c then Err refusal.TooLong else at_cut k n stage) h
+  long_last text h = grind arith
 
   pub long_piece : (line : List ℕ) (rest : List (List ℕ)) → is_long line ≡ true → after_pieces k n stage (line ∷ rest) ≡ Err refusal.TooLong
   unfolding after_pieces
-  long_piece line [] h = long_last line h
-  long_piece line (p ∷ ps) h = ap (λ c. if c then Err refusal.TooLong else and_then (λ next. after_pieces k (n + 1) next (p ∷ ps)) (after_line k n stage line)) h
+  long_piece line rest h = grind arith
 
   pub text_long : (old new line : List ℕ) → TakesLine old new Long line → after_text k n stage old ≡ Err refusal.TooLong
-  text_long old new line t = by_feed (has_feed old) refl
-    where
-      long : is_long (first_line old) ≡ true
-      long = long_found (is_text_long old) (has_feed old) (length old == 0) t.kind
-
-      by_feed : (b : Bool) → has_feed old ≡ b → after_text k n stage old ≡ Err refusal.TooLong
-      by_feed true h = ap (after_pieces k n stage) (pieces_fed old h) ∙ long_piece (first_line old) (pieces (rest_of old)) long
-      by_feed false h = ap (after_pieces k n stage) (pieces_last old h) ∙ long_piece old [] (subst (λ l. is_long l ≡ true) (first_is_all old h) long)
+  text_long old new line t = grind (arith, long_found, pieces_fed, long_piece, pieces_last, first_is_all)
 
   cut_last : (text : List ℕ) → is_long text ≡ false → (length text == 0) ≡ false → after_last k n stage text ≡ at_cut k n stage
-  cut_last [] h some = cc
-  cut_last (b ∷ bs) h some = ap (λ c. if c then Err refusal.TooLong else at_cut k n stage) h
+  cut_last text h some = grind arith
 
   pub last_piece : (text : List ℕ) → has_feed text ≡ false → after_text k n stage text ≡ after_last k n stage text
   unfolding after_pieces
   last_piece text h = ap (after_pieces k n stage) (pieces_last text h)
 
   pub text_cut : (old new line : List ℕ) → TakesLine old new Cut line → after_text k n stage old ≡ at_cut k n stage
-  text_cut old new line t =
-      let f = cut_found (is_text_long old) (has_feed old) (length old == 0) t.kind in
-      last_piece old f.1 ∙ cut_last old (subst (λ l. is_long l ≡ false) (first_is_all old f.1) f.0) f.2
+  text_cut old new line t = grind (arith, cut_found, last_piece, cut_last, first_is_all)
 
   none_last : (text : List ℕ) → (length text == 0) ≡ true → after_last k n stage text ≡ at_end k n stage
-  none_last [] h = refl
-  none_last (b ∷ bs) h = let bad : suc (length bs) ≡ 0 = eqb-true (suc (length bs)) 0 h in absurd (omega arith)
+  none_last text h = grind arith
 
   pub text_end : (old new line : List ℕ) → TakesLine old new End line → after_text k n stage old ≡ at_end k n stage
-  text_end old new line t =
-      let f = end_found (is_text_long old) (has_feed old) (length old == 0) t.kind in
-      last_piece old f.0 ∙ none_last old f.1
+  text_end old new line t = grind (arith, end_found, last_piece, none_last)

@@ -34,10 +34,7 @@ whole_is text h =
     (ap lines_in (pieces_fed text h) ∙ more.0, ap last_in (pieces_fed text h) ∙ more.1)
 
 pieces_of_whole : (text behind : List ℕ) → has_feed text ≡ true → pieces (whole_lines text ++ behind) ≡ first_line text ∷ pieces (whole_lines (rest_of text) ++ behind)
-pieces_of_whole text behind h =
-    let parts : ((first_line text ++ 10 ∷ []) ++ whole_lines (rest_of text)) ++ behind ≡ first_line text ++ 10 ∷ (whole_lines (rest_of text) ++ behind) = simp append_assoc in
-    ap (λ t. pieces (t ++ behind)) (whole_is text h).0 ∙ ap pieces parts
-    ∙ slice_split_at is_feed (first_line text) 10 (whole_lines (rest_of text) ++ behind) (none_in_first text) refl
+pieces_of_whole text behind h = grind (arith, append_assoc, whole_is, slice_split_at, none_in_first)
 
 last_alone : (text : List ℕ) → has_feed text ≡ false → (whole_lines text ≡ []) × (cut_line text ≡ text)
 unfolding lines_in last_in
@@ -50,28 +47,18 @@ front_kind = as_front true history_kind
 
 -- a text that may end without its last line
 without : (n : ℕ) (f : File Entry) → without_end front_kind n f ≡ Ok f
-without n f = by_need (needs_end f.version)
-  where
-    by_need : (b : Bool) → (if b && false then Err (refusal.BadLine n) else Ok f) ≡ Ok f
-    by_need true = refl
-    by_need false = refl
+without n f = grind arith
 
 -- what a whole text may end with, a front may
 shape_alike : (n v : ℕ) (o : Option Layout) (f : File Entry) → without_items history_kind n v o ≡ Ok f → without_items front_kind n v o ≡ Ok f
-shape_alike n v None f h = cc
-shape_alike n v (Some s) f h = without n (record { version = v; layout = s; items = [] }) ∙ ap Ok (ends_with history_kind n (record { version = v; layout = s; items = [] }) f h)
+shape_alike n v o f h = grind arith
 
 end_alike : (n : ℕ) (stage : Stage Entry) (f : File Entry) → at_end history_kind n stage ≡ Ok f → at_end front_kind n stage ≡ Ok f
 unfolding at_end
-end_alike n begin f h = cc
-end_alike n (opened v) f h = cc
-end_alike n (head v c qs) f h = shape_alike n v (shape_made c qs) f h
-end_alike n (body v s xs) f h = without n (record { version = v; layout = s; items = xs }) ∙ ap Ok (ends_with history_kind n (record { version = v; layout = s; items = xs }) f h)
-end_alike n (ended v s xs) f h = h
+end_alike n stage f h = grind arith
 
 last_alike : (n : ℕ) (stage : Stage Entry) (last : List ℕ) (f : File Entry) → after_last history_kind n stage last ≡ Ok f → after_last front_kind n stage last ≡ Ok f
-last_alike n stage [] f h = end_alike n stage f h
-last_alike n stage (b ∷ bs) f h = absurd (no_cut n stage f (is_long (b ∷ bs)) h)
+last_alike n stage last f h = grind (arith, end_alike, no_cut)
 
 whole_line : (n : ℕ) (stage : Stage Entry) (line : List ℕ) (f : File Entry) (goes goes_on : Stage Entry → Result (File Entry) Refusal) (b : Bool) → ((next : Stage Entry) → goes next ≡ Ok f → goes_on next ≡ Ok f)
     → (if b then Err refusal.TooLong else and_then goes (after_line history_kind n stage line)) ≡ Ok f
@@ -85,9 +72,7 @@ whole_goes : (ps : List (List ℕ)) (n : ℕ) (stage : Stage Entry) (f : File En
 unfolding after_pieces
 whole_goes [] n stage f h = end_alike n stage f h
 whole_goes (last ∷ []) n stage f h = last_alike n stage last f h
-whole_goes (line ∷ more ∷ rest) n stage f h =
-    whole_line n stage line f (λ next. after_pieces history_kind (n + 1) next (more ∷ rest)) (λ next. after_pieces front_kind (n + 1) next (more ∷ rest)) (is_long line)
-    (λ next. whole_goes (more ∷ rest) (n + 1) next f) h
+whole_goes (line ∷ more ∷ rest) n stage f h = grind (arith, whole_line, whole_goes (more ∷ rest) (n + 1))
 
 -- ---- the last line of a history that is known
 
@@ -103,9 +88,7 @@ module _ (f : File Entry) (few : length f.items ≤ line_limit f.version) where
   IsFrontFrom n stage text = (after_text history_kind n stage text ≡ Ok f) ⊎ (Closes n stage text × (is_long (cut_line text) ≡ false))
 
   small : length f.items ≤ greatest_number
-  small =
-      let most : line_limit f.version ≤ most_lines = none_passes old_lines most_lines f.version (omega arith) in
-      omega (arith, few, most)
+  small = grind (arith, none_passes)
 
   -- ---- what is read of a front has the last line behind it
 
@@ -134,11 +117,7 @@ module _ (f : File Entry) (few : length f.items ≤ line_limit f.version) where
 
   over : (n : ℕ) (stage : Stage Entry) → is_ended stage ≡ true → at_end front_kind n stage ≡ at_end history_kind n stage
   unfolding at_end
-  over n begin h = cc
-  over n (opened v) h = cc
-  over n (head v c qs) h = cc
-  over n (body v s xs) h = cc
-  over n (ended v s xs) h = refl
+  over n stage h = grind arith
 
   -- nothing stands behind the last line feed
   end_is_front : (n : ℕ) (stage : Stage Entry) (b : Bool) → is_ended stage ≡ b → at_end front_kind n stage ≡ Ok f → (after_text history_kind n stage [] ≡ Ok f) ⊎ (after_text history_kind n stage closing ≡ Ok f)
@@ -147,9 +126,7 @@ module _ (f : File Entry) (few : length f.items ≤ line_limit f.version) where
 
   cut_closes : (n : ℕ) (stage : Stage Entry) (long over : Bool) → is_ended stage ≡ over → (if long then Err refusal.TooLong else if not over then at_end front_kind n stage else Err (after_cut n stage)) ≡ Ok f
       → (long ≡ false) × (after_text history_kind n stage closing ≡ Ok f)
-  cut_closes n stage true over is h = cc
-  cut_closes n stage false true is h = cc
-  cut_closes n stage false false is h = (refl, end_closes n stage is h)
+  cut_closes n stage long over is h = grind (arith, end_closes)
 
   last_is_front : (n : ℕ) (stage : Stage Entry) (text : List ℕ) → has_feed text ≡ false → after_last front_kind n stage text ≡ Ok f → IsFrontFrom n stage text
   unfolding lines_in last_in
@@ -199,14 +176,9 @@ module _ (f : File Entry) (few : length f.items ≤ line_limit f.version) where
       ]
 
   front_goes : (fuel n : ℕ) (stage : Stage Entry) (text : List ℕ) (b : Bool) → has_feed text ≡ b → length text ≤ fuel → after_text front_kind n stage text ≡ Ok f → IsFrontFrom n stage text
-  front_goes fuel n stage text false fed enough h = last_is_front n stage text fed (sym (last_piece front_kind n stage text fed) ∙ h)
-  front_goes zero n stage text true fed enough h = let inside = feed_inside text fed in absurd (omega (arith, inside, enough))
-  front_goes (suc fuel) n stage text true fed enough h =
-      let rest : List ℕ = rest_of text in
-      let inside = feed_inside text fed in
-      let size = length-drop (position_or_len is_feed text + 1) text in
-      let less : length rest ≤ fuel = omega (arith, inside, size, enough) in
-      front_line n stage text (is_long (first_line text)) refl fed h (λ next more. front_goes fuel (n + 1) next rest (has_feed rest) refl less more)
+  front_goes fuel n stage text false fed enough h = grind (arith, last_is_front, last_piece)
+  front_goes zero n stage text true fed enough h = grind (arith, feed_inside)
+  front_goes (suc fuel) n stage text true fed enough h = grind (arith, feed_inside, length-drop, front_line, front_goes fuel (n + 1))
 
   -- ---- a text whose whole lines are the history, but for its last line, is read as a front
 
@@ -220,36 +192,22 @@ module _ (f : File Entry) (few : length f.items ≤ line_limit f.version) where
   ended_is : (n v : ℕ) (s : Layout) (xs : List Entry) (b : Bool) (next : Stage Entry) → (if b then Ok (ended v s xs) else Err (refusal.BadLine n)) ≡ Ok next → at_end history_kind (n + 1) next ≡ Ok f
       → record { version = v; layout = s; items = xs } ≡ f
   unfolding at_end
-  ended_is n v s xs true next taken h =
-      let same : ended v s xs ≡ next = cc in
-      let made : Ok (record { version = v; layout = s; items = xs }) ≡ Ok f = ap (at_end history_kind (n + 1)) same ∙ h in
-      cc
-  ended_is n v s xs false next taken h = cc
+  ended_is n v s xs b next taken h = grind arith
 
   no_item : (n v : ℕ) (s : Layout) (xs : List Entry) (b : Bool) (next : Stage Entry) → (if b then Err refusal.TooLong else with_item history_kind n v s xs None) ≡ Ok next → ⊥
-  no_item n v s xs true next h = cc
-  no_item n v s xs false next h = cc
+  no_item n v s xs b next h = grind arith
 
   no_item_line : (n v : ℕ) (s : Layout) (xs : List Entry) (next : Stage Entry) → item_line history_kind n v s xs last_line ≡ Ok next → ⊥
   unfolding item_line
-  no_item_line n v s xs next h =
-      let none = end_is_no_entry v (length f.items) small in
-      no_item n v s xs (nat_le (line_limit v) (length xs)) next (sym (ap (λ o. if nat_le (line_limit v) (length xs) then Err refusal.TooLong else with_item history_kind n v s xs o) none) ∙ h)
+  no_item_line n v s xs next h = grind (arith, end_is_no_entry, small)
 
   body_is : (n v : ℕ) (s : Layout) (xs : List Entry) (next : Stage Entry) → body_line history_kind n v s xs last_line ≡ Ok next → at_end history_kind (n + 1) next ≡ Ok f → record { version = v; layout = s; items = xs } ≡ f
   unfolding body_line
-  body_is n v s xs next taken h = by_need (needs_end v) taken
-    where
-      by_need : (b : Bool) → or_ended history_kind n v s xs last_line (if b then end_of last_line else None) ≡ Ok next → record { version = v; layout = s; items = xs } ≡ f
-      by_need true taken =
-          let read = ends_read_again (length f.items) last_line small (whole_end (length f.items) small).is in
-          ended_is n v s xs (length f.items == length xs) next (sym (ap (or_ended history_kind n v s xs last_line) read) ∙ taken) h
-      by_need false taken = absurd (no_item_line n v s xs next taken)
+  body_is n v s xs next taken h = grind (arith, small, whole_end, ended_is, no_item_line)
 
   shape_is : (n v : ℕ) (c : Counts) (qs : List QueueShape) (b : Bool) (next : Stage Entry) → first_item history_kind n v (if b then Some (layout_of c qs) else None) last_line ≡ Ok next → at_end history_kind (n + 1) next ≡ Ok f
       → without_items front_kind n v (if b then Some (layout_of c qs) else None) ≡ Ok f
-  shape_is n v c qs true next taken h = without n (record { version = v; layout = layout_of c qs; items = [] }) ∙ ap Ok (body_is n v (layout_of c qs) [] next taken h)
-  shape_is n v c qs false next taken h = cc
+  shape_is n v c qs b next taken h = grind (arith, body_is)
 
   no_shape : (n v : ℕ) (next : Stage Entry) → begun n v (counts_of_format v last_line) ≡ Ok next → ⊥
   no_shape n v next h = let refused : Err (refusal.BadShape n) ≡ Ok next = sym (ap (begun n v) (end_is_no_shape v (length f.items) small)) ∙ h in cc
@@ -260,22 +218,11 @@ module _ (f : File Entry) (few : length f.items ≤ line_limit f.version) where
 
   line_lacks : (n : ℕ) (stage next : Stage Entry) → after_line history_kind n stage last_line ≡ Ok next → at_end history_kind (n + 1) next ≡ Ok f → Lacks n stage
   unfolding after_line after_head at_end
-  line_lacks n begin next taken h = absurd (no_shape n 1 next taken)
-  line_lacks n (opened v) next taken h = absurd (no_shape n v next taken)
-  line_lacks n (head v c qs) next taken h = (refl, shape_is n v c qs (is_layout (layout_of c qs)) next taken h)
-  line_lacks n (body v s xs) next taken h = (refl, without n (record { version = v; layout = s; items = xs }) ∙ ap Ok (body_is n v s xs next taken h))
-  line_lacks n (ended v s xs) next taken h = cc
+  line_lacks n stage next taken h = grind (arith, no_shape, shape_is, body_is)
 
   older_lacks : (n : ℕ) (stage : Stage Entry) → needs_end f.version ≡ false → IsStageWithin history_kind stage → at_end history_kind n stage ≡ Ok f → is_ended stage ≡ false
   unfolding at_end
-  older_lacks n begin none w h = refl
-  older_lacks n (opened v) none w h = refl
-  older_lacks n (head v c qs) none w h = refl
-  older_lacks n (body v s xs) none w h = refl
-  older_lacks n (ended v s xs) none w h =
-      let is : record { version = v; layout = s; items = xs } ≡ f = cc in
-      let both : true ≡ false = sym w.0 ∙ ap (λ (g : File Entry). needs_end g.version) is ∙ none in
-      cc
+  older_lacks n stage none w h = grind arith
 
   text_lacks : (n : ℕ) (stage : Stage Entry) → IsStageWithin history_kind stage → after_text history_kind n stage closing ≡ Ok f → Lacks n stage
   text_lacks n stage w h = by_need (needs_end f.version) refl h
@@ -294,10 +241,7 @@ module _ (f : File Entry) (few : length f.items ≤ line_limit f.version) where
           line_lacks n stage step.0 step.1 (sym (nothing_left (n + 1) step.0) ∙ step.2)
 
   rest_lacks : (n : ℕ) (stage : Stage Entry) (text : List ℕ) → is_long text ≡ false → Lacks n stage → after_last front_kind n stage text ≡ Ok f
-  rest_lacks n stage [] short lacks = lacks.1
-  rest_lacks n stage (b ∷ bs) short lacks =
-      ap (λ c. if c then Err refusal.TooLong else at_cut front_kind n stage) short
-      ∙ ap (λ c. if not c then at_end front_kind n stage else Err (after_cut n stage)) lacks.0 ∙ lacks.1
+  rest_lacks n stage text short lacks = grind arith
 
   lacking_line : (n : ℕ) (stage : Stage Entry) (text : List ℕ) (b : Bool) → is_long (first_line text) ≡ b → has_feed text ≡ true → Closes n stage text
       → ((next : Stage Entry) → after_line history_kind n stage (first_line text) ≡ Ok next → Closes (n + 1) next (rest_of text) → after_text front_kind (n + 1) next (rest_of text) ≡ Ok f) → after_text front_kind n stage text ≡ Ok f

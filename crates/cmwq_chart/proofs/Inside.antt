@@ -19,9 +19,7 @@ of_queue s q few h = All-map (IsPlaceOf s) (place_on q) cpus (All-from_get_or (�
     cpus = range_with_len 0 s.cpus
 
     each : (i : ℕ) → i < length cpus → IsPlaceOf s (place_on q (get_or cpus i 0))
-    each i less =
-        let inside : i < s.cpus = omega (arith, length-range_with_len 0 s.cpus) in
-        (h, omega (arith, get_or-range_with_len 0 s.cpus i 0 inside))
+    each i less = grind (arith, length-range_with_len, get_or-range_with_len)
 
 of_queues : (s : Layout) (n : ℕ) → s.cpus ≤ most_cpus → n ≤ length s.queues → All (IsPlaceOf s) (flat_map (places_of_queue s) (range_with_len 0 n))
 of_queues s zero few h = All-nil (IsPlaceOf s)

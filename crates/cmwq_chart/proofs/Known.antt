@@ -15,28 +15,16 @@ use Rattle.cmwq_chart.specs.Sleeps.{asleep_since, sleeps_ended, table_number, Ha
 
 -- workers with one number are one
 same_parts : (a b : Bool) (c d x y : ℕ) → x < 256 → y < 256 → 512 * c + (if a then 256 else 0) + x ≡ 512 * d + (if b then 256 else 0) + y → (c ≡ d) × (a ≡ b) × (x ≡ y)
-same_parts true true c d x y small less is = (omega arith, refl, omega arith)
-same_parts true false c d x y small less is = absurd (omega arith)
-same_parts false true c d x y small less is = absurd (omega arith)
-same_parts false false c d x y small less is = (omega arith, refl, omega arith)
+same_parts a b c d x y small less is = grind arith
 
 one_worker : (v w : WorkerId) → HasTableNumber v → HasTableNumber w → table_number v ≡ table_number w → v ≡ w
-one_worker v w first second is =
-    let parts = same_parts v.pool.high w.pool.high v.pool.cpu.0 w.pool.cpu.0 v.index w.index first.1 second.1 is in
-    λ i. record { pool = record { cpu = record { 0 = parts.0 i }; high = parts.1 i }; index = parts.2 i }
+one_worker v w first second is = grind arith
 
 number_within : (w : WorkerId) → HasTableNumber w → table_number w < 131072
-number_within w named = by w.pool.high
-  where
-    by : (b : Bool) → 512 * w.pool.cpu.0 + (if b then 256 else 0) + w.index < 131072
-    by true = omega arith
-    by false = omega arith
+number_within w named = grind arith
 
 parts_differ : (a b : Bool) (c d x y : ℕ) → (512 * d + (if b then 256 else 0) + y == 512 * c + (if a then 256 else 0) + x) ≡ false → (((c == d) && beq a b) && (x == y)) ≡ false
-parts_differ true true c d x y h = same_bools _ _ (λ k. grind (arith, nat_tests)) (λ k. cc)
-parts_differ true false c d x y h = same_bools _ _ (λ k. grind (arith, nat_tests)) (λ k. cc)
-parts_differ false true c d x y h = same_bools _ _ (λ k. grind (arith, nat_tests)) (λ k. cc)
-parts_differ false false c d x y h = same_bools _ _ (λ k. grind (arith, nat_tests)) (λ k. cc)
+parts_differ a b c d x y h = grind arith
 
 apart : (v w : WorkerId) → (table_number w == table_number v) ≡ false → same_worker v w ≡ false
 apart v w h = parts_differ v.pool.high w.pool.high v.pool.cpu.0 w.pool.cpu.0 v.index w.index h
@@ -44,25 +32,15 @@ apart v w h = parts_differ v.pool.high w.pool.high v.pool.cpu.0 w.pool.cpu.0 v.i
 -- an entry tells nothing of a worker that didn't make it
 not_told : (past : List Entry) (e : Entry) (w : WorkerId) (known : WorkerSleeps) → is_by (Worker w) e ≡ false → AreSleepsKnown past w known → AreSleepsKnown (e ∷ past) w known
 unfolding asleep_since sleeps_ended
-not_told past e w known others is = record {
-  ended = is.ended ∙ sym (append-nil (sleeps_ended past w)) ∙ rw others refl;
-  since = is.since ∙ rw others refl;
-}
+not_told past e w known others is = grind (arith, append-nil)
 
 pub told_by : (past : List Entry) (e : Entry) (v : WorkerId) (table : List WorkerSleeps) (own : WorkerSleeps) → e.who ≡ Worker v → HasTableNumber v → AreAllSleepsKnown past table → AreSleepsKnown (e ∷ past) v own
     → AreAllSleepsKnown (e ∷ past) (slice_set table (table_number v) own)
 told_by past e v table own who named known is = (length-set table (table_number v) own ∙ known.0, λ w d here. at w d here (table_number w == table_number v) refl)
   where
     at : (w : WorkerId) (d : WorkerSleeps) → HasTableNumber w → (b : Bool) → (table_number w == table_number v) ≡ b → AreSleepsKnown (e ∷ past) w (slice_index_or (slice_set table (table_number v) own) (table_number w) d)
-    at w d here true same =
-        let numbers : table_number w ≡ table_number v = eqb-true _ _ same in
-        let one : v ≡ w = one_worker v w named here (sym numbers) in
-        let read : slice_index_or (slice_set table (table_number v) own) (table_number w) d ≡ own = get_or-set_at table (table_number v) (table_number w) own d numbers (rw known.0 (number_within v named)) in
-        subst (AreSleepsKnown (e ∷ past) w) (sym read) (subst (λ x. AreSleepsKnown (e ∷ past) x own) one is)
-    at w d here false same =
-        let others : is_by (Worker w) e ≡ false = rw who (apart v w same) in
-        let read : slice_index_or (slice_set table (table_number v) own) (table_number w) d ≡ slice_index_or table (table_number w) d = get_or-set_other table (table_number v) (table_number w) own d (λ numbers. cc (same, eq-eqb (table_number w) (table_number v) numbers)) in
-        subst (AreSleepsKnown (e ∷ past) w) (sym read) (not_told past e w _ others (known.1 w d here))
+    at w d here true same = grind (arith, nat_tests, get_or-set_at, number_within)
+    at w d here false same = grind (arith, nat_tests)
 
 pub told_by_caller : (past : List Entry) (e : Entry) (table : List WorkerSleeps) → ((w : WorkerId) → is_by (Worker w) e ≡ false) → AreAllSleepsKnown past table → AreAllSleepsKnown (e ∷ past) table
 told_by_caller past e table others known = (known.0, λ w d here. not_told past e w _ (others w) (known.1 w d here))

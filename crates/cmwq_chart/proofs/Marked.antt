@@ -42,28 +42,13 @@ module _ {X : Type 0} (number : X → Option ℕ) where
 
 same_number : (a b : Bool) (c d x y : ℕ) → x < most_workers → y < most_workers
     → (most_workers * (2 * c + (if a then 1 else 0)) + x == most_workers * (2 * d + (if b then 1 else 0)) + y) ≡ (((c == d) && beq a b) && (x == y))
-same_number true true c d x y small less = same_bools _ _ (λ h. grind (arith, nat_tests)) (λ h. grind (arith, nat_tests))
-same_number true false c d x y small less = same_bools _ _ (λ h. grind (arith, nat_tests)) (λ h. grind (arith, nat_tests))
-same_number false true c d x y small less = same_bools _ _ (λ h. grind (arith, nat_tests)) (λ h. grind (arith, nat_tests))
-same_number false false c d x y small less = same_bools _ _ (λ h. grind (arith, nat_tests)) (λ h. grind (arith, nat_tests))
+same_number a b c d x y small less = grind arith
 
 by_is : (w : WorkerId) (e : Entry) → w.pool.cpu.0 < most_cpus → w.index < most_workers → is_at (lane_number_by e) (lane_number w) ≡ is_by (Worker w) e
-by_is w e here small = at e.who
-  where
-    worker_is : (v : WorkerId) (b : Bool) → has_lane_number v ≡ b → is_at (if b then Some (lane_number v) else None) (lane_number w) ≡ same_worker v w
-    worker_is v true is = same_number v.pool.high w.pool.high v.pool.cpu.0 w.pool.cpu.0 v.index w.index (grind (arith, nat_tests)) small
-    worker_is v false is = same_bools _ _ (λ h. cc) (λ h. grind (arith, nat_tests))
-
-    at : (who : Who) → is_at (option_and_then (λ v. if has_lane_number v then Some (lane_number v) else None) (worker_of who)) (lane_number w) ≡ same_who who (Worker w)
-    at (Caller c) = refl
-    at (Worker v) = worker_is v (has_lane_number v) refl
+by_is w e here small = grind (arith, nat_tests)
 
 number_within : (w : WorkerId) → w.pool.cpu.0 < most_cpus → w.index < most_workers → lane_number w < most_lanes
-number_within w here small = by w.pool.high
-  where
-    by : (b : Bool) → most_workers * (2 * w.pool.cpu.0 + (if b then 1 else 0)) + w.index < most_lanes
-    by true = omega arith
-    by false = omega arith
+number_within w here small = grind arith
 
 pub worker_marked : (entries : List Entry) (table : List Bool) (w : WorkerId) (b : Bool) → AreMarks lane_number_by entries most_lanes table → w.pool.cpu.0 < most_cpus → w.index < most_workers
     → slice_get table (lane_number w) ≡ Some b → b ≡ has_entries entries w
@@ -72,14 +57,8 @@ worker_marked entries table w b are here small is = marked lane_number_by (is_by
 -- ---- places
 
 in_is : (p : Place) (x : Queueing) → p.cpu.0 < most_cpus → is_at (level_number_of x) (level_number p) ≡ is_of_place p x
-in_is p x here = at (nat_lt x.place.cpu.0 most_cpus) refl
-  where
-    at : (b : Bool) → nat_lt x.place.cpu.0 most_cpus ≡ b → is_at (if b then Some (level_number x.place) else None) (level_number p) ≡ same_place p x.place
-    at true is = same_bools _ _ (λ h. grind (arith, nat_tests)) (λ h. grind (arith, nat_tests))
-    at false is = same_bools _ _ (λ h. cc) (λ h. grind (arith, nat_tests))
+in_is p x here = grind arith
 
 pub place_marked : (queueings : List Queueing) (table : List Bool) (p : Place) (b : Bool) → AreMarks level_number_of queueings most_places table → p.queue.0 < most_queues → p.cpu.0 < most_cpus
     → slice_get table (level_number p) ≡ Some b → b ≡ has_queueings queueings p
-place_marked queueings table p b are queue here is =
-    let within : level_number p < most_places = omega arith in
-    marked level_number_of (is_of_place p) queueings most_places (level_number p) table b are within (λ x. in_is p x here) is
+place_marked queueings table p b are queue here is = grind arith

@@ -99,8 +99,7 @@ none_finished n = (length-replicate n None, λ k h. slice_get-get_or (replicate 
 
 pub finish_known : (past : List Entry) (n : ℕ) (old new : List (Option ℕ)) (e : Entry) (place : ℕ) → place ≡ length past → AreFinishes past n old → FinishIsKept old new e place → AreFinishes (e ∷ past) n new
 unfolding finish_place
-finish_known past n old new e place at known kept =
-    (kept.0 ∙ known.0, λ k h. kept.1 k (rw known.0 h) ∙ rw (known.1 k h) refl ∙ ap (λ p. Some (option_or (finish_place past k) (if finishes k e then Some p else None))) at)
+finish_known past n old new e place at known kept = grind arith
 
 -- what is spelled out of a range that is one longer
 pub range_more : (n : ℕ) → range_with_len 0 (n + 1) ≡ range_with_len 0 n ++ n ∷ []

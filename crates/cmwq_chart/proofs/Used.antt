@@ -10,24 +10,14 @@ use Rattle.cmwq_chart.proofs.Steps.{range_more}
 
 module _ {X : Type 0} (p : X → Bool) where
   pub used_more : (f : ℕ → X) (old before new : List X) (n : ℕ) → before ≡ old ++ filter p (map f (range_with_len 0 n)) → new ≡ before ++ (if p (f n) then f n ∷ [] else []) → new ≡ old ++ filter p (map f (range_with_len 0 (n + 1)))
-  used_more f old before new n so_far more =
-      let last : List X = if p (f n) then f n ∷ [] else [] in
-      more ∙ ap (λ l. l ++ last) so_far ∙ append_assoc old (filter p (map f (range_with_len 0 n))) last
-      ∙ ap (λ l. old ++ l) (sym (filter_of_map_range_with_len_more p f 0 n n (omega arith)))
+  used_more f old before new n so_far more = grind (arith, append_assoc, filter_of_map_range_with_len_more)
 
   pub both_used : (old mid new xs ys : List X) → mid ≡ old ++ filter p xs → new ≡ mid ++ filter p ys → new ≡ old ++ filter p (xs ++ ys)
-  both_used old mid new xs ys first second =
-      second ∙ ap (λ l. l ++ filter p ys) first ∙ append_assoc old (filter p xs) (filter p ys) ∙ ap (λ l. old ++ l) (sym (filter-append p xs ys))
+  both_used old mid new xs ys first second = grind (arith, append_assoc, filter-append)
 
   pub all_used : (g : ℕ → List X) (before new : List X) (n : ℕ) → before ≡ filter p (flat_map g (range_with_len 0 n)) → new ≡ before ++ filter p (g n) → new ≡ filter p (flat_map g (range_with_len 0 (n + 1)))
-  all_used g before new n so_far more =
-      let wide : flat_map g (range_with_len 0 (n + 1)) ≡ flat_map g (range_with_len 0 n) ++ g n =
-      ap (flat_map g) (range_more n) ∙ flat_map-append g (range_with_len 0 n) (n ∷ []) ∙ ap (λ l. flat_map g (range_with_len 0 n) ++ l) (flat_map-cons g n [] ∙ append-nil (g n)) in
-      more ∙ ap (λ l. l ++ filter p (g n)) so_far ∙ sym (ap (filter p) wide ∙ filter-append p (flat_map g (range_with_len 0 n)) (g n))
+  all_used g before new n so_far more = grind (arith, range_more, flat_map-append, flat_map-cons, append-nil, filter-append)
 
 -- what is made of each number of a range, one more
 pub flat_more : {X : Type 0} (f : ℕ → List X) (old before new : List X) (n : ℕ) → before ≡ old ++ flat_map f (range_with_len 0 n) → new ≡ before ++ f n → new ≡ old ++ flat_map f (range_with_len 0 (n + 1))
-flat_more f old before new n so_far more =
-    let wide : flat_map f (range_with_len 0 (n + 1)) ≡ flat_map f (range_with_len 0 n) ++ f n =
-    ap (flat_map f) (range_more n) ∙ flat_map-append f (range_with_len 0 n) (n ∷ []) ∙ ap (λ l. flat_map f (range_with_len 0 n) ++ l) (flat_map-cons f n [] ∙ append-nil (f n)) in
-    more ∙ ap (λ l. l ++ f n) so_far ∙ append_assoc old (flat_map f (range_with_len 0 n)) (f n) ∙ ap (λ l. old ++ l) (sym wide)
+flat_more f old before new n so_far more = grind (arith, range_more, flat_map-append, flat_map-cons, append-nil, append_assoc)

@@ -39,8 +39,8 @@ impl Book {
         ensures { IfOk result (λ book. book ≡ record { layout = shape.now; room = room; entries = [] }) }
     {
         Ok(Book {
-            execution: Execution::new(alloc, shape, room)?,
             entries: Vec::with_capacity(alloc, room as usize)?,
+            execution: Execution::new(alloc, shape, room)?,
         })
     }
 

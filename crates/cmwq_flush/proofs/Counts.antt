@@ -38,11 +38,7 @@ IsTally-remove rows counts i r lt at is = record {
 
 -- one row more
 count_of-push : (c : ℕ) (rows : List Row) (r : Row) (b : Bool) → has_colour c r ≡ b → colour_count c (rows ++ r ∷ []) ≡ colour_count c rows + cond b 1 0
-count_of-push c rows r b e = count_append (has_colour c) rows (r ∷ []) ∙ ap (λ n. colour_count c rows + n) (last b e)
-  where
-    last : (d : Bool) → has_colour c r ≡ d → colour_count c (r ∷ []) ≡ cond d 1 0
-    last true h = rw h refl
-    last false h = rw h refl
+count_of-push c rows r b e = grind (arith, count_append)
 
 exact_push : (rows : List Row) (counts : List ℕ) (r : Row) → r.colour < 16 → IsTally rows counts → (c : ℕ) → c < 16 → (c ≡ r.colour) ⊎ (c ≡ r.colour → ⊥) → slice_index (set counts r.colour (slice_index counts r.colour + 1)) c ≡ colour_count c (rows ++ r ∷ [])
 exact_push rows counts r low is c below which =

@@ -18,21 +18,12 @@ pub first_is_least : (t : ℕ) (ns : List ℕ) (o : Option ℕ) → o ≡ find (
 first_is_least t [] o e rise = rw e tt
 first_is_least t (x ∷ ns) o e rise = rw e (least_by (is_up_to t x) t x ns refl rise)
 
--- nothing is found exactly where all are above
-fails_here : (first : Bool) (x : ℕ) (o : Option ℕ) → cond first (Some x) o ≡ None → (first ≡ false) × (o ≡ None)
-fails_here true x o e = cc
-fails_here false x o e = (refl, e)
-
 none_found : (p : ℕ → Bool) (ns : List ℕ) → find p ns ≡ None → All (λ n. p n ≡ false) ns
 none_found p [] e = λ k d lt. absurd (omega arith)
-none_found p (x ∷ ns) e =
-    let here = fails_here (p x) x (find p ns) e in
-    All-cons (λ n. p n ≡ false) x ns here.0 (none_found p ns here.1)
+none_found p (x ∷ ns) e = grind (arith, none_found p ns)
 
 nothing : (o : Option ℕ) → is_some o ≡ false → o ≡ None
-nothing None e = refl
-nothing (Some n) e = cc
+nothing o e = grind arith
 
 pub none_is_ready : (t : ℕ) (ns : List ℕ) (o : Option ℕ) (none : Bool) → o ≡ find (is_up_to t) ns → is_some o ≡ not none → (none ≡ true) ↔ All (λ n. t < n) ns
-none_is_ready t ns o true e is = (λ _. (λ k d lt. let fails = none_found (is_up_to t) ns (sym e ∙ nothing o is) k d lt in grind (arith, nat_tests)), λ _. refl)
-none_is_ready t ns o false e is = (λ no. absurd (false≢true no), λ all. let none : o ≡ None = e ∙ find_none (is_up_to t) ns (λ k d lt. let above = all k d lt in grind (arith, nat_tests)) in cc)
+none_is_ready t ns o none e is = grind (arith, none_found, false≢true, find_none)

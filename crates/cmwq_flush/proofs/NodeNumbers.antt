@@ -36,8 +36,7 @@ pub ordered : (a b : ℕ) (c : Bool) → nat_lt a b ≡ c → by_age (Some a) (S
 ordered a b c e = ap (λ d. cond d (a ∷ b ∷ []) (b ∷ a ∷ [])) e
 
 pub latest_first : (o : Option ℕ) (n : ℕ) → ((b : ℕ) → o ≡ Some b → b < n) → by_age (Some n) o ≡ by_age None o ++ n ∷ []
-latest_first None n less = refl
-latest_first (Some b) n less = let lt = less b refl in ordered n b false (grind (arith, nat_tests))
+latest_first o n less = grind arith
 
 pub latest_second : (a n : ℕ) → a < n → by_age (Some a) (Some n) ≡ by_age (Some a) None ++ n ∷ []
 latest_second a n lt = ordered a n true (grind (arith, nat_tests))
@@ -46,65 +45,33 @@ alone : (n : ℕ) → [] ≡ without n (n ∷ [])
 alone n = ap (λ b. cond (not b) (n ∷ []) []) (sym (eq-eqb n n refl))
 
 other : (b n : ℕ) (c : Bool) → nat_lt n b ≡ c → b ≢ n → b ∷ [] ≡ without n (cond c (n ∷ b ∷ []) (b ∷ n ∷ []))
-other b n true e differs = let miss : eqb b n ≡ false = ne_eqb b n differs in let hit : eqb n n ≡ true = eq-eqb n n refl in rw (hit, miss) refl
-other b n false e differs = let miss : eqb b n ≡ false = ne_eqb b n differs in let hit : eqb n n ≡ true = eq-eqb n n refl in rw (hit, miss) refl
+other b n c e differs = grind arith
 
 pub ended_first : (o : Option ℕ) (n : ℕ) → ((b : ℕ) → o ≡ Some b → b ≢ n) → by_age None o ≡ without n (by_age (Some n) o)
-ended_first None n differ = alone n
-ended_first (Some b) n differ = other b n (nat_lt n b) refl (differ b refl)
+ended_first o n differ = grind arith
 
 another : (a n : ℕ) (c : Bool) → nat_lt a n ≡ c → a ≢ n → a ∷ [] ≡ without n (cond c (a ∷ n ∷ []) (n ∷ a ∷ []))
-another a n true e differs = let miss : eqb a n ≡ false = ne_eqb a n differs in let hit : eqb n n ≡ true = eq-eqb n n refl in rw (hit, miss) refl
-another a n false e differs = let miss : eqb a n ≡ false = ne_eqb a n differs in let hit : eqb n n ≡ true = eq-eqb n n refl in rw (hit, miss) refl
+another a n c e differs = grind arith
 
 pub ended_second : (o : Option ℕ) (n : ℕ) → ((a : ℕ) → o ≡ Some a → a ≢ n) → by_age o None ≡ without n (by_age o (Some n))
-ended_second None n differ = alone n
-ended_second (Some a) n differ = another a n (nat_lt a n) refl (differ a refl)
-
-two_of : (a b n : ℕ) → Contains (a ∷ b ∷ []) n → (a ≡ n) ⊎ (b ≡ n)
-two_of a b n found = ⊎_elim (λ (later : 0 < found.0). let one : found.0 ≡ 1 = omega (arith, found.1) in inr (rw one at found.2)) (λ (first : found.0 ≤ 0). let none : found.0 ≡ 0 = omega arith in inl (rw none at found.2)) (cases_lt 0 found.0)
+ended_second o n differ = grind arith
 
 either : (a b n : ℕ) (c : Bool) → Contains (cond c (a ∷ b ∷ []) (b ∷ a ∷ [])) n → (a ≡ n) ⊎ (b ≡ n)
-either a b n true found = two_of a b n found
-either a b n false found = ⊎_elim (λ (e : b ≡ n). inr e) (λ (e : a ≡ n). inl e) (two_of b a n found)
+either a b n c found = grind arith
 
 pub one_of : (o p : Option ℕ) (n : ℕ) → Contains (by_age o p) n → (o ≡ Some n) ⊎ (p ≡ Some n)
-one_of None None n found = absurd (omega (arith, found.1))
-one_of (Some a) None n found = let none : found.0 ≡ 0 = omega (arith, found.1) in inl (ap Some (rw none at found.2))
-one_of None (Some b) n found = let none : found.0 ≡ 0 = omega (arith, found.1) in inr (ap Some (rw none at found.2))
-one_of (Some a) (Some b) n found = ⊎_elim (λ (e : a ≡ n). inl (ap Some e)) (λ (e : b ≡ n). inr (ap Some e)) (either a b n (nat_lt a b) found)
-
-both_two : (a b : ℕ) (c : Bool) → length (cond c (a ∷ b ∷ []) (b ∷ a ∷ [])) < 2 → ⊥
-both_two a b true lt = absurd (omega arith)
-both_two a b false lt = absurd (omega arith)
-
-pub one_free : (o p : Option ℕ) → length (by_age o p) < 2 → (o ≡ None) ⊎ (p ≡ None)
-one_free None p lt = inl refl
-one_free (Some a) None lt = inr refl
-one_free (Some a) (Some b) lt = absurd (both_two a b (nat_lt a b) lt)
-
-pair_rises : (a b : ℕ) → a < b → AreRising (a ∷ b ∷ [])
-pair_rises a b lt i j d before within = let first : i ≡ 0 = omega arith in let second : j ≡ 1 = omega arith in rw (first, second) lt
-
-by_rise : (a b : ℕ) (c : Bool) → nat_lt a b ≡ c → a ≢ b → AreRising (cond c (a ∷ b ∷ []) (b ∷ a ∷ []))
-by_rise a b true e differs = pair_rises a b (ltb-true a b e)
-by_rise a b false e differs = let le = ltb-false a b e in pair_rises b a (omega arith)
+one_of o p n found = grind arith
 
 pub numbers_rise : (o p : Option ℕ) → ((a b : ℕ) → o ≡ Some a → p ≡ Some b → a ≢ b) → AreRising (by_age o p)
-numbers_rise None None differ = λ i j d before within. absurd (omega arith)
-numbers_rise (Some a) None differ = λ i j d before within. absurd (omega arith)
-numbers_rise None (Some b) differ = λ i j d before within. absurd (omega arith)
-numbers_rise (Some a) (Some b) differ = by_rise a b (nat_lt a b) refl (differ a b refl refl)
+numbers_rise o p differ = grind arith
 
 -- ---- of one node
 
 some_number : (b : Bool) (n m : ℕ) → cond b (Some n) None ≡ Some m → (b ≡ true) × (n ≡ m)
-some_number true n m e = (refl, cc)
-some_number false n m e = cc
+some_number b n m e = grind arith
 
 none_number : (b : Bool) (n : ℕ) → cond b (Some n) None ≡ None → b ≡ false
-none_number true n e = cc
-none_number false n e = refl
+none_number b n e = grind arith
 
 pub some_at : (lists : List (List ℕ)) (rows : List Row) (v n : ℕ) → node_number lists rows v ≡ Some n → (is_listed lists v ≡ true) × ((node_row rows v).number ≡ n)
 some_at lists rows v n e = some_number (is_listed lists v) (node_row rows v).number n e

@@ -18,23 +18,20 @@ set_one f xs q lt others = ext_get_or [] (map f xs) (set xs q (f (get_or xs q []
 
 -- a list that has the node is found where there is one
 first_found : (b : Bool) (k m : ℕ) → nat_lt k m ≡ b → (c : Bool) → nat_lt (cond (not c) (1 + k) 0) (suc m) ≡ (c || b)
-first_found b k m e true = grind (arith, nat_tests)
-first_found b k m e false = grind (arith, nat_tests)
+first_found b k m e c = grind arith
 
 place_found : (p : List ℕ → Bool) (xs : List (List ℕ)) → nat_lt (position_or_len p xs) (length xs) ≡ list_any p xs
 place_found p [] = refl
 place_found p (x ∷ xs) = first_found (list_any p xs) (position_or_len p xs) (length xs) (place_found p xs) (p x)
 
 some_if : (b : Bool) (k : ℕ) → is_some (cond b (Some k) None) ≡ b
-some_if true k = refl
-some_if false k = refl
+some_if b k = grind arith
 
 pub listed_found : (lists : List (List ℕ)) (v : ℕ) → is_some (list_of lists v) ≡ is_listed lists v
 listed_found lists v = some_if (nat_lt (position_or_len (has_item v) lists) (length lists)) (position_or_len (has_item v) lists) ∙ place_found (has_item v) lists
 
 none_if : (b : Bool) (k : ℕ) → b ≡ false → cond b (Some k) None ≡ None
-none_if true k e = absurd (false≢true (sym e))
-none_if false k e = refl
+none_if b k e = grind arith
 
 pub not_listed : (lists : List (List ℕ)) (v : ℕ) → is_listed lists v ≡ false → list_of lists v ≡ None
 not_listed lists v e = none_if (nat_lt (position_or_len (has_item v) lists) (length lists)) (position_or_len (has_item v) lists) (place_found (has_item v) lists ∙ e)
@@ -45,15 +42,10 @@ in_list (x ∷ xs) v zero h = ap (λ b. b || list_any (has_item v) xs) h
 in_list (x ∷ xs) v (suc l) h = or_right (has_item v x) (list_any (has_item v) xs) (in_list xs v l h)
 
 or_swap : (a b c : Bool) → ((a || b) || c) ≡ ((a || c) || b)
-or_swap true b c = refl
-or_swap false true true = refl
-or_swap false true false = refl
-or_swap false false true = refl
-or_swap false false false = refl
+or_swap a b c = grind arith
 
 or_assoc : (a b c : Bool) → (a || (b || c)) ≡ ((a || b) || c)
-or_assoc true b c = refl
-or_assoc false b c = refl
+or_assoc a b c = grind arith
 
 pub listed-pushed : (lists : List (List ℕ)) (l v w : ℕ) → l < length lists → is_listed (set lists l (list_at lists l ++ v ∷ [])) w ≡ (is_listed lists w || nat_eq w v)
 listed-pushed [] l v w lt = absurd (omega arith)
@@ -61,17 +53,11 @@ listed-pushed (x ∷ xs) zero v w lt = ap (λ b. b || list_any (has_item w) xs) 
 listed-pushed (x ∷ xs) (suc l) v w lt = ap (λ b. has_item w x || b) (listed-pushed xs l v w (omega arith)) ∙ or_assoc (has_item w x) (is_listed xs w) (nat_eq w v)
 
 both_kept : (a b c : Bool) → ((a && c) || (b && c)) ≡ ((a || b) && c)
-both_kept true true true = refl
-both_kept true true false = refl
-both_kept true false true = refl
-both_kept true false false = refl
-both_kept false b c = refl
+both_kept a b c = grind arith
 
 pub listed-removed : (lists : List (List ℕ)) (v w : ℕ) → is_listed (map (without_item v) lists) w ≡ (is_listed lists w && not (nat_eq w v))
 listed-removed [] v w = refl
-listed-removed (x ∷ xs) v w =
-    ap (λ b. b || is_listed (map (without_item v) xs) w) (has-without w v x) ∙ ap (λ b. (has_item w x && not (nat_eq w v)) || b) (listed-removed xs v w)
-    ∙ both_kept (has_item w x) (is_listed xs w) (not (nat_eq w v))
+listed-removed (x ∷ xs) v w = grind (arith, has-without, both_kept, listed-removed xs v w)
 
 -- ---- rows
 
@@ -85,9 +71,7 @@ kept_list rows v r (x ∷ xs) h =
 
 pub kept_rows : (lists : List (List ℕ)) (rows : List Row) (v : ℕ) (r : Row) → is_listed lists v ≡ false → rows_of lists (set rows v r) ≡ rows_of lists rows
 kept_rows [] rows v r h = refl
-kept_rows (x ∷ xs) rows v r h =
-    let parts = or_parts (has_item v x) (list_any (has_item v) xs) h in
-    ap (λ y. y ∷ rows_of xs (set rows v r)) (kept_list rows v r x parts.0) ∙ ap (λ ys. map (node_row rows) x ∷ ys) (kept_rows xs rows v r parts.1)
+kept_rows (x ∷ xs) rows v r h = grind (arith, or_parts, kept_list, kept_rows xs rows v r)
 
 pub rows_at-of : (lists : List (List ℕ)) (rows : List Row) (l : ℕ) → rows_at (rows_of lists rows) l ≡ map (node_row rows) (list_at lists l)
 rows_at-of [] rows l = refl
@@ -107,21 +91,11 @@ rows-pushed lists rows l v r lt inside free =
 -- the row of a node goes with it, where no other node in a list has its number
 removed_list : (rows : List Row) (v n : ℕ) (xs : List ℕ) → ((w : ℕ) → has_item w xs ≡ true → not (nat_eq v w) ≡ is_other_row n (node_row rows w)) → map (node_row rows) (without_item v xs) ≡ without_row n (map (node_row rows) xs)
 removed_list rows v n [] h = refl
-removed_list rows v n (x ∷ xs) h =
-    by (not (nat_eq v x)) (is_other_row n (node_row rows x)) (h x (ap (λ b. b || has_item x xs) (eq-eqb x x refl))) (removed_list rows v n xs (λ w i. h w (or_right (nat_eq w x) (has_item w xs) i)))
-  where
-    by : (b c : Bool) → b ≡ c → map (node_row rows) (without_item v xs) ≡ without_row n (map (node_row rows) xs)
-        → map (node_row rows) (cond b (x ∷ without_item v xs) (without_item v xs)) ≡ cond c (node_row rows x ∷ without_row n (map (node_row rows) xs)) (without_row n (map (node_row rows) xs))
-    by true true e ih = ap (λ ys. node_row rows x ∷ ys) ih
-    by true false e ih = absurd (false≢true (sym e))
-    by false true e ih = absurd (false≢true e)
-    by false false e ih = ih
+removed_list rows v n (x ∷ xs) h = grind (arith, removed_list rows v n xs)
 
 pub rows-removed : (lists : List (List ℕ)) (rows : List Row) (v n : ℕ) → ((w : ℕ) → is_listed lists w ≡ true → not (nat_eq v w) ≡ is_other_row n (node_row rows w)) → rows_of (map (without_item v) lists) rows ≡ map (without_row n) (rows_of lists rows)
 rows-removed [] rows v n h = refl
-rows-removed (x ∷ xs) rows v n h =
-    ap (λ y. y ∷ rows_of (map (without_item v) xs) rows) (removed_list rows v n x (λ w i. h w (ap (λ b. b || list_any (has_item w) xs) i)))
-    ∙ ap (λ ys. without_row n (map (node_row rows) x) ∷ ys) (rows-removed xs rows v n (λ w i. h w (or_right (has_item w x) (list_any (has_item w) xs) i)))
+rows-removed (x ∷ xs) rows v n h = grind (arith, removed_list, or_right, rows-removed xs rows v n)
 
 -- what is at a place of a list is in it
 pub has_at : (xs : List ℕ) (k d : ℕ) → k < length xs → has_item (get_or xs k d) xs ≡ true

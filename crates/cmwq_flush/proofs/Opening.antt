@@ -17,7 +17,7 @@ use Rattle.cmwq_flush.specs.ItemNumbers.{numbers_open}
 use Rattle.cmwq_flush.specs.Openings.{AreOpenings, is_listed, node_row, node_number, rows_of, by_age, numbers_of_nodes, opened_by, has_number}
 use Rattle.cmwq_flush.proofs.Search.{filter_all}
 use Rattle.cmwq_flush.proofs.Nodes.{set_one, listed-pushed, listed-removed, rows-removed, node_in, in_list, number_there}
-use Rattle.cmwq_flush.proofs.NodeNumbers.{opened_at, opened_set, latest_first, latest_second, ended_first, ended_second, one_of, one_free, some_at, none_at, number_at_listed, number_at_free, number-pushed, number-kept, number-removed, number-stays}
+use Rattle.cmwq_flush.proofs.NodeNumbers.{opened_at, opened_set, latest_first, latest_second, ended_first, ended_second, one_of, some_at, none_at, number_at_listed, number_at_free, number-pushed, number-kept, number-removed, number-stays}
 
 chosen : (b c : Bool) (x y : ℕ) → b ≡ c → cond b x y ≡ cond c x y
 chosen b c x y e = ap (λ d. cond d x y) e
@@ -26,21 +26,10 @@ chosen b c x y e = ap (λ d. cond d x y) e
 
 module _ (lists : List (List ℕ)) (rows : List Row) (items i v : ℕ) (there : i < items) (chosen_is : v ≡ cond (is_listed lists (2 * i)) (2 * i + 1) (2 * i)) (few : length (numbers_of_nodes lists rows i) < 2) where
   pub free_listed : is_listed lists v ≡ false
-  free_listed = by (is_listed lists (2 * i)) refl
-    where
-      by : (b : Bool) → is_listed lists (2 * i) ≡ b → is_listed lists v ≡ false
-      by false e = ap (is_listed lists) (chosen_is ∙ chosen _ _ (2 * i + 1) (2 * i) e) ∙ e
-      by true e = ap (is_listed lists) (chosen_is ∙ chosen _ _ (2 * i + 1) (2 * i) e) ∙ second
-        where
-          second : is_listed lists (2 * i + 1) ≡ false
-          second = ⊎_elim (λ (none : node_number lists rows (2 * i) ≡ None). absurd (false≢true (sym (none_at lists rows (2 * i) none) ∙ e))) (λ none. none_at lists rows (2 * i + 1) none) (one_free (node_number lists rows (2 * i)) (node_number lists rows (2 * i + 1)) few)
+  free_listed = grind arith
 
   pub chosen_low : v < 2 * items
-  chosen_low = by (is_listed lists (2 * i)) refl
-    where
-      by : (b : Bool) → is_listed lists (2 * i) ≡ b → v < 2 * items
-      by false e = let is = chosen_is ∙ chosen _ _ (2 * i + 1) (2 * i) e in omega arith
-      by true e = let is = chosen_is ∙ chosen _ _ (2 * i + 1) (2 * i) e in omega arith
+  chosen_low = grind arith
 
   module _ (l : ℕ) (r : Row) (lt : l < length lists) (many : length rows ≡ 2 * items) (latest : (w : ℕ) → is_listed lists w ≡ true → (node_row rows w).number < r.number) where
     abbrev lists2 : List (List ℕ)
@@ -53,32 +42,10 @@ module _ (lists : List (List ℕ)) (rows : List Row) (items i v : ℕ) (there : 
     older w a e = let is = some_at lists rows w a e in let less = latest w is.0 in let same = is.1 in omega arith
 
     numbers-opened : numbers_of_nodes lists2 rows2 i ≡ numbers_of_nodes lists rows i ++ r.number ∷ []
-    numbers-opened = by (is_listed lists (2 * i)) refl
-      where
-        inside : v < length rows
-        inside = let low = chosen_low in omega arith
-
-        by : (b : Bool) → is_listed lists (2 * i) ≡ b → numbers_of_nodes lists2 rows2 i ≡ numbers_of_nodes lists rows i ++ r.number ∷ []
-        by false e =
-            let is : v ≡ 2 * i = chosen_is ∙ chosen _ _ (2 * i + 1) (2 * i) e in
-            let first : node_number lists2 rows2 (2 * i) ≡ Some r.number = ap (node_number lists2 rows2) (sym is) ∙ number-pushed lists rows l v r lt inside in
-            let second = number-kept lists rows l v r lt (2 * i + 1) (λ same. absurd (omega arith)) in
-            ap₂ by_age first second ∙ latest_first (node_number lists rows (2 * i + 1)) r.number (older (2 * i + 1)) ∙ ap (λ o. by_age o (node_number lists rows (2 * i + 1)) ++ r.number ∷ []) (sym (number_at_free lists rows (2 * i) e))
-        by true e =
-            let is : v ≡ 2 * i + 1 = chosen_is ∙ chosen _ _ (2 * i + 1) (2 * i) e in
-            let second : node_number lists2 rows2 (2 * i + 1) ≡ Some r.number = ap (node_number lists2 rows2) (sym is) ∙ number-pushed lists rows l v r lt inside in
-            let first = number-kept lists rows l v r lt (2 * i) (λ same. absurd (omega arith)) ∙ number_at_listed lists rows (2 * i) e in
-            let none : node_number lists rows (2 * i + 1) ≡ None = ap (node_number lists rows) (sym is) ∙ number_at_free lists rows v free_listed in
-            ap₂ by_age first second ∙ latest_second (node_row rows (2 * i)).number r.number (latest (2 * i) e) ∙ ap₂ (λ o p. by_age o p ++ r.number ∷ []) (sym (number_at_listed lists rows (2 * i) e)) (sym none)
+    numbers-opened = grind (arith, chosen_low, chosen, number-pushed, number-kept, latest_first, number_at_free, number_at_listed, free_listed, latest_second)
 
     others : (j : ℕ) → j ≢ i → numbers_of_nodes lists2 rows2 j ≡ numbers_of_nodes lists rows j
-    others j differs = by (is_listed lists (2 * i)) refl
-      where
-        by : (b : Bool) → is_listed lists (2 * i) ≡ b → numbers_of_nodes lists2 rows2 j ≡ numbers_of_nodes lists rows j
-        by false e = let is : v ≡ 2 * i = chosen_is ∙ chosen _ _ (2 * i + 1) (2 * i) e in
-            ap₂ by_age (number-kept lists rows l v r lt (2 * j) (λ same. differs (omega arith))) (number-kept lists rows l v r lt (2 * j + 1) (λ same. absurd (omega arith)))
-        by true e = let is : v ≡ 2 * i + 1 = chosen_is ∙ chosen _ _ (2 * i + 1) (2 * i) e in
-            ap₂ by_age (number-kept lists rows l v r lt (2 * j) (λ same. absurd (omega arith))) (number-kept lists rows l v r lt (2 * j + 1) (λ same. differs (omega arith)))
+    others j differs = grind (arith, chosen, number-kept)
 
     pub opened-pushed : opened_by lists2 rows2 items ≡ set (opened_by lists rows items) i (numbers_open (opened_by lists rows items) i ++ r.number ∷ [])
     opened-pushed = opened_set (numbers_of_nodes lists2 rows2) (numbers_of_nodes lists rows) items i (numbers_open (opened_by lists rows items) i ++ r.number ∷ []) there
@@ -86,8 +53,7 @@ module _ (lists : List (List ℕ)) (rows : List Row) (items i v : ℕ) (there : 
 
 -- no number comes twice: a listed node is the new one, or was listed
 was_listed : (a b : Bool) → (a || b) ≡ true → (a ≡ true) ⊎ (b ≡ true)
-was_listed true b e = inl refl
-was_listed false b e = inr e
+was_listed a b e = grind arith
 
 module _ (items : ℕ) (s : Listed) (rows : List Row) (l v : ℕ) (r : Row) (is : AreOpenings items s rows) (lt : l < length s.lists) (low : v < s.items) (free : is_listed s.lists v ≡ false) (latest : (w : ℕ) → is_listed s.lists w ≡ true → (node_row rows w).number < r.number) where
   listed : (w : ℕ) → is_listed (pushed s l v).lists w ≡ true → (is_listed s.lists w ≡ true) ⊎ (w ≡ v)
@@ -117,8 +83,7 @@ module _ (items : ℕ) (s : Listed) (rows : List Row) (l v : ℕ) (r : Row) (is 
 -- ---- a queueing ends
 
 both_true : (a b : Bool) → (a && b) ≡ true → (a ≡ true) × (b ≡ true)
-both_true true b e = (refl, e)
-both_true false b e = absurd (false≢true e)
+both_true a b e = grind arith
 
 there_if : (xs : List (List ℕ)) (i n : ℕ) → Contains (get_or xs i []) n → i < length xs
 there_if xs i n found = ⊎_elim (λ (lt : i < length xs). lt) (λ (past : length xs ≤ i). let none : get_or xs i [] ≡ [] = get_or_past xs i [] past in let empty = rw none at found in absurd (omega (arith, empty.1))) (cases_lt i (length xs))
@@ -161,43 +126,17 @@ module _ (items : ℕ) (s : Listed) (rows : List Row) (is : AreOpenings items s 
   differs_from w m differs e same = let k = some_at s.lists rows w m e in differs (only_it w k.0 (k.1 ∙ same))
 
   numbers_closed : numbers_of_nodes (map (without_item v) s.lists) rows i ≡ without n (numbers_of_nodes s.lists rows i)
-  numbers_closed = by (has_number s.lists rows (2 * i) n) refl
-    where
-      by : (b : Bool) → has_number s.lists rows (2 * i) n ≡ b → numbers_of_nodes (map (without_item v) s.lists) rows i ≡ without n (numbers_of_nodes s.lists rows i)
-      by true e =
-          let at : v ≡ 2 * i = chosen_is ∙ chosen _ _ (2 * i) (2 * i + 1) e in
-          let first : node_number (map (without_item v) s.lists) rows (2 * i) ≡ None = ap (node_number (map (without_item v) s.lists) rows) (sym at) ∙ number-removed s.lists rows v in
-          let was : Some n ≡ node_number s.lists rows (2 * i) = ap Some (sym node_is.1) ∙ sym (number_at_listed s.lists rows v node_is.0) ∙ ap (node_number s.lists rows) at in
-          ap₂ by_age first (number-stays s.lists rows v (2 * i + 1) (λ same. absurd (omega arith))) ∙ ended_first (node_number s.lists rows (2 * i + 1)) n (λ m h. differs_from (2 * i + 1) m (λ same. absurd (omega arith)) h)
-          ∙ ap (λ o. without n (by_age o (node_number s.lists rows (2 * i + 1)))) was
-      by false e =
-          let at : v ≡ 2 * i + 1 = chosen_is ∙ chosen _ _ (2 * i) (2 * i + 1) e in
-          let second : node_number (map (without_item v) s.lists) rows (2 * i + 1) ≡ None = ap (node_number (map (without_item v) s.lists) rows) (sym at) ∙ number-removed s.lists rows v in
-          let was : Some n ≡ node_number s.lists rows (2 * i + 1) = ap Some (sym node_is.1) ∙ sym (number_at_listed s.lists rows v node_is.0) ∙ ap (node_number s.lists rows) at in
-          ap₂ by_age (number-stays s.lists rows v (2 * i) (λ same. absurd (omega arith))) second ∙ ended_second (node_number s.lists rows (2 * i)) n (λ m h. differs_from (2 * i) m (λ same. absurd (omega arith)) h)
-          ∙ ap (λ o. without n (by_age (node_number s.lists rows (2 * i)) o)) was
+  numbers_closed = grind (arith, chosen, number-removed, node_is, number_at_listed, number-stays, ended_first, differs_from, ended_second)
 
   others_stay : (j : ℕ) → j ≢ i → numbers_of_nodes (map (without_item v) s.lists) rows j ≡ numbers_of_nodes s.lists rows j
-  others_stay j differs = by (has_number s.lists rows (2 * i) n) refl
-    where
-      by : (b : Bool) → has_number s.lists rows (2 * i) n ≡ b → numbers_of_nodes (map (without_item v) s.lists) rows j ≡ numbers_of_nodes s.lists rows j
-      by true e = let at : v ≡ 2 * i = chosen_is ∙ chosen _ _ (2 * i) (2 * i + 1) e in ap₂ by_age (number-stays s.lists rows v (2 * j) (λ same. differs (omega arith))) (number-stays s.lists rows v (2 * j + 1) (λ same. absurd (omega arith)))
-      by false e = let at : v ≡ 2 * i + 1 = chosen_is ∙ chosen _ _ (2 * i) (2 * i + 1) e in ap₂ by_age (number-stays s.lists rows v (2 * j) (λ same. absurd (omega arith))) (number-stays s.lists rows v (2 * j + 1) (λ same. differs (omega arith)))
+  others_stay j differs = grind (arith, chosen, number-stays)
 
   pub closed_opened : opened_by (map (without_item v) s.lists) rows items ≡ set (opened_by s.lists rows items) i (without n (numbers_open (opened_by s.lists rows items) i))
   closed_opened = opened_set (numbers_of_nodes (map (without_item v) s.lists) rows) (numbers_of_nodes s.lists rows) items i (without n (numbers_open (opened_by s.lists rows items) i)) there
       (numbers_closed ∙ ap (without n) (sym (opened_at s.lists rows items i there))) others_stay
 
   pub openings_removed : AreOpenings items (removed s v) rows
-  openings_removed = record {
-    nodes = is.nodes;
-    many = is.many;
-    known = λ w h. is.known w (was w h);
-    once = λ w x hw hx same. is.once w x (was w hw) (was x hx) same;
-  }
-    where
-      was : (w : ℕ) → is_listed (removed s v).lists w ≡ true → is_listed s.lists w ≡ true
-      was w h = (both_true (is_listed s.lists w) (not (nat_eq w v)) (sym (listed-removed s.lists v w) ∙ h)).0
+  openings_removed = grind (arith, once, both_true, listed-removed)
 
   -- the number stands in one queue's list
   module _ (once : AreListedOnce s) (q : ℕ) (here : Contains (row_numbers (rows_at (rows_of s.lists rows) q)) n) where
@@ -236,12 +175,7 @@ opened_at_first queues items rows = ext_get_or [] (opened_by (replicate queues [
     ∙ sym (get_or-replicate items k [] [] (omega arith)))
 
 pub openings_at_first : (queues items : ℕ) (s : Listed) (rows : List Row) → s ≡ record { items = 2 * items; lists = replicate queues [] } → length rows ≡ 2 * items → AreOpenings items s rows
-openings_at_first queues items s rows e many = rw e (record {
-  nodes = refl;
-  many = many;
-  known = λ v h. absurd (false≢true (sym (none_listed queues v) ∙ h));
-  once = λ v w h k same. absurd (false≢true (sym (none_listed queues v) ∙ h));
-})
+openings_at_first queues items s rows e many = grind (arith, false≢true, none_listed, once)
 
 -- ---- what is read
 
@@ -252,13 +186,7 @@ placed_at lists v q e = (position-Some (has_item v) lists q [] e).1
 
 -- it is in the first list that has it
 first_place : (lists : List (List ℕ)) (v q : ℕ) → ((l : ℕ) → has_item v (list_at lists l) ≡ true → l ≡ q) → q < length lists → has_item v (list_at lists q) ≡ true → list_of lists v ≡ Some q
-first_place lists v q alone lt here =
-    let at : position_or_len (has_item v) lists ≡ q = position_or_len_is (has_item v) lists q [] (omega arith) (λ k less. not_there k less (has_item v (list_at lists k)) refl) (λ _. here) in
-    ap (λ p. cond (nat_lt p (length lists)) (Some p) None) at ∙ ap (λ b. cond b (Some q) None) (lt-ltb q (length lists) lt)
-  where
-    not_there : (k : ℕ) → k < q → (b : Bool) → has_item v (list_at lists k) ≡ b → has_item v (list_at lists k) ≡ false
-    not_there k less true e = absurd (let same = alone k e in omega arith)
-    not_there k less false e = e
+first_place lists v q alone lt here = grind (arith, position_or_len_is)
 
 module _ (items : ℕ) (s : Listed) (rows : List Row) (is : AreOpenings items s rows) (i n v : ℕ) (chosen_is : v ≡ cond (has_number s.lists rows (2 * i) n) (2 * i) (2 * i + 1)) (is_open : Contains (numbers_open (opened_by s.lists rows items) i) n) (once : AreListedOnce s) (q : ℕ) (lt : q < length s.lists) where
   pub open_on : (list_of s.lists v ≡ Some q) ↔ Contains (row_numbers (rows_at (rows_of s.lists rows) q)) n

@@ -56,8 +56,7 @@ pub alone : (s : Listed) (l v : ℕ) → AreListedOnce s → l < length s.lists 
 alone s l v once lt here = set_one (without_item v) s.lists l lt (λ m differs. without_none v (list_at s.lists m) (apart m differs (has_item v (list_at s.lists m)) refl))
   where
     apart : (m : ℕ) → m ≢ l → (b : Bool) → has_item v (list_at s.lists m) ≡ b → has_item v (list_at s.lists m) ≡ false
-    apart m differs true e = absurd (differs (once.apart v m l e here))
-    apart m differs false e = e
+    apart m differs b e = grind arith
 
 -- it is then in none
 pub in_none : (lists : List (List ℕ)) (v : ℕ) → list_of (map (without_item v) lists) v ≡ None
@@ -77,12 +76,10 @@ nodes_moved s tickets changed l m v once are same lt fits here = record {
     inside = let n = length-map s.lists (without_item v) in omega arith
 
     either : (a b : Bool) → (a || b) ≡ true → (a ≡ true) ⊎ (b ≡ true)
-    either true b e = inl refl
-    either false b e = inr e
+    either a b e = grind arith
 
     first : (a b : Bool) → (a && b) ≡ true → a ≡ true
-    first true b e = refl
-    first false b e = e
+    first a b e = grind arith
 
     was : (w : ℕ) → is_listed (map (without_item v) s.lists) w ≡ true → is_listed s.lists w ≡ true
     was w h = first (is_listed s.lists w) (not (nat_eq w v)) (sym (listed-removed s.lists v w) ∙ h)
@@ -104,10 +101,7 @@ nodes_moved s tickets changed l m v once are same lt fits here = record {
 
 -- the first of a list leaves the others
 pub first_left : (xs : List ℕ) (v : ℕ) → AreDistinct xs → Some v ≡ slice_get xs 0 → without_item v xs ≡ without_oldest xs
-first_left [] v distinct e = cc
-first_left (x ∷ xs) v distinct e =
-    let same : v ≡ x = cc in
-    ap (λ w. without_item w (x ∷ xs)) same ∙ ap (λ b. cond (not b) (x ∷ without_item x xs) (without_item x xs)) (eq-eqb x x refl) ∙ without_none x xs distinct.0
+first_left xs v distinct e = grind (arith, without_none)
 
 pub some_first : (xs : List ℕ) (o : Option ℕ) → o ≡ slice_get xs 0 → 0 < length xs → IsSome o
 some_first [] o e some = absurd (omega arith)
@@ -147,8 +141,7 @@ overflow-taken s tickets q v t once lt inside here =
     ∙ ap (λ ts. set (overflow_of s.lists tickets) q (ts ++ t ∷ [])) (sym (tickets_at-of s.lists tickets q))
   where
     lacks : (l : ℕ) (b : Bool) → has_item v (list_at s.lists (suc l)) ≡ b → has_item v (list_at s.lists (suc l)) ≡ false
-    lacks l true e = let same = once.apart v (suc l) 0 e here in absurd (omega arith)
-    lacks l false e = e
+    lacks l b e = grind arith
 
     by : (lists : List (List ℕ)) (ys : List ℕ) → ((l : ℕ) → has_item v (list_at lists (suc l)) ≡ false)
         → overflow_of (set (set lists 0 ys) (suc q) (list_at (set lists 0 ys) (suc q) ++ v ∷ [])) (set tickets v t) ≡ set (overflow_of lists tickets) q (tickets_of_nodes tickets (list_at lists (suc q)) ++ t ∷ [])
@@ -162,8 +155,7 @@ overflow-taken s tickets q v t once lt inside here =
 -- ---- tickets of a list, by rising number
 
 pub oldest_of : (tickets : List ℕ) (xs : List ℕ) → tickets_of_nodes tickets (without_oldest xs) ≡ without_oldest (tickets_of_nodes tickets xs)
-oldest_of tickets [] = refl
-oldest_of tickets (x ∷ xs) = refl
+oldest_of tickets xs = grind arith
 
 pub first_ticket : (tickets : List ℕ) (xs : List ℕ) (v : ℕ) → Some v ≡ slice_get xs 0 → Some (ticket_of_node tickets v) ≡ slice_get (tickets_of_nodes tickets xs) 0
 first_ticket tickets [] v e = cc
@@ -182,11 +174,7 @@ rest_rises tickets x xs rise i j d lt within = rise (suc i) (suc j) d (omega ari
 -- the first from a ticket on is the one that has it, where one does
 pub from_has : (tickets : List ℕ) (t v : ℕ) (xs : List ℕ) → find (is_from tickets t) xs ≡ Some v → has_item v xs ≡ true
 from_has tickets t v [] e = cc
-from_has tickets t v (x ∷ xs) e = by (is_from tickets t x) e (from_has tickets t v xs)
-  where
-    by : (b : Bool) → cond b (Some x) (find (is_from tickets t) xs) ≡ Some v → (find (is_from tickets t) xs ≡ Some v → has_item v xs ≡ true) → has_item v (x ∷ xs) ≡ true
-    by true same later = ap (λ b. b || has_item v xs) (eq-eqb v x cc)
-    by false same later = or_right (nat_eq v x) (has_item v xs) (later same)
+from_has tickets t v (x ∷ xs) e = grind (arith, from_has tickets t v xs)
 
 pub has_ticket : (tickets : List ℕ) (v : ℕ) (xs : List ℕ) → has_item v xs ≡ true → Contains (tickets_of_nodes tickets xs) (ticket_of_node tickets v)
 has_ticket tickets v xs h =
@@ -195,28 +183,11 @@ has_ticket tickets v xs h =
 
 -- of a list without its first
 later_has : (tickets : List ℕ) (t x : ℕ) (xs : List ℕ) → ticket_of_node tickets x ≢ t → Contains (tickets_of_nodes tickets (x ∷ xs)) t → Contains (tickets_of_nodes tickets xs) t
-later_has tickets t x xs differs (zero, lt, at) = absurd (differs at)
-later_has tickets t x xs differs (suc k, lt, at) = (k, omega arith, at)
+later_has tickets t x xs differs h5 = grind arith
 
 pub from_is : (tickets : List ℕ) (t : ℕ) (xs : List ℕ) → AreRising (tickets_of_nodes tickets xs) → Contains (tickets_of_nodes tickets xs) t → (v : ℕ) × (find (is_from tickets t) xs ≡ Some v) × (ticket_of_node tickets v ≡ t)
-from_is tickets t [] rise found = absurd (let lt = found.1 in omega arith)
-from_is tickets t (x ∷ xs) rise found = by (is_from tickets t x) refl (from_is tickets t xs (rest_rises tickets x xs rise))
-  where
-    by : (b : Bool) → is_from tickets t x ≡ b → (Contains (tickets_of_nodes tickets xs) t → (v : ℕ) × (find (is_from tickets t) xs ≡ Some v) × (ticket_of_node tickets v ≡ t)) → (v : ℕ) × (find (is_from tickets t) (x ∷ xs) ≡ Some v) × (ticket_of_node tickets v ≡ t)
-    by true e next = (
-      x,
-      ap (λ b. cond b (Some x) (find (is_from tickets t) xs)) e,
-      ⊎_elim (λ (same : ticket_of_node tickets x ≡ t). same)
-          (λ (differs : ticket_of_node tickets x ≡ t → ⊥).
-          let later = later_has tickets t x xs differs found in
-          let more = above tickets x xs rise later.0 t later.1 in
-          let least = leb-true t (ticket_of_node tickets x) e in
-          absurd (let at = later.2 in omega arith)) (cases_eq (ticket_of_node tickets x) t),
-    )
-    by false e next =
-        let less = leb-false t (ticket_of_node tickets x) e in
-        let rest = next (later_has tickets t x xs (λ same. absurd (omega arith)) found) in
-        (rest.0, ap (λ b. cond b (Some x) (find (is_from tickets t) xs)) e ∙ rest.1, rest.2)
+from_is tickets t [] rise found = grind (arith, found.1)
+from_is tickets t (x ∷ xs) rise found = grind (arith, later_has, above, from_is tickets t xs (rest_rises tickets x xs rise))
 
 pub none_from : (tickets : List ℕ) (t : ℕ) (xs : List ℕ) → (find (is_from tickets t) xs ≡ None) ↔ All (λ u. u < t) (tickets_of_nodes tickets xs)
 none_from tickets t [] = ((λ e k d lt. absurd (omega arith)), (λ all. refl))
@@ -242,18 +213,7 @@ none_from tickets t (x ∷ xs) = by (is_from tickets t x) refl (none_from ticket
         place all (suc k) d lt = all k d (omega arith)
 
 pub latest_told : (tickets : List ℕ) (t : ℕ) (xs : List ℕ) (o : Option ℕ) (none : Bool) → o ≡ find (is_from tickets t) xs → is_some o ≡ not none → (none ≡ true) ↔ All (λ u. u < t) (tickets_of_nodes tickets xs)
-latest_told tickets t xs o none e is = (
-  (λ yes. (none_from tickets t xs).0 (sym e ∙ nothing o (is ∙ ap not yes))),
-  (λ all. empty none o (is) (e ∙ (none_from tickets t xs).1 all)),
-)
-  where
-    nothing : (p : Option ℕ) → is_some p ≡ false → p ≡ None
-    nothing None h = refl
-    nothing (Some v) h = cc
-
-    empty : (b : Bool) (p : Option ℕ) → is_some p ≡ not b → p ≡ None → b ≡ true
-    empty true p h k = refl
-    empty false p h k = let none : is_some p ≡ false = ap is_some k in absurd (false≢true (sym none ∙ h))
+latest_told tickets t xs o none e is = grind (arith, none_from, false≢true)
 
 pub stands_told : (tickets : List ℕ) (t v : ℕ) (xs : List ℕ) → AreRising (tickets_of_nodes tickets xs) → find (is_from tickets t) xs ≡ Some v → ((ticket_of_node tickets v == t) ≡ true) ↔ Contains (tickets_of_nodes tickets xs) t
 stands_told tickets t v xs rise e = (
@@ -286,24 +246,11 @@ pub ticket_gone : (tickets : List ℕ) (xs : List ℕ) (v t : ℕ) → AreRising
 ticket_gone tickets xs v t rise here is = gone xs (λ w h. told w h (nat_eq v w) (is_other_number t (ticket_of_node tickets w)) refl refl)
   where
     told : (w : ℕ) → has_item w xs ≡ true → (b c : Bool) → nat_eq v w ≡ b → is_other_number t (ticket_of_node tickets w) ≡ c → not (nat_eq v w) ≡ is_other_number t (ticket_of_node tickets w)
-    told w h true true e k = absurd (let same = eqb-true v w e in let at : ticket_of_node tickets w ≡ t = ap (ticket_of_node tickets) (sym same) ∙ is in let hit = eq-eqb (ticket_of_node tickets w) t at in false≢true (sym (ap not hit) ∙ k))
-    told w h true false e k = ap not e ∙ sym k
-    told w h false true e k = ap not e ∙ sym k
-    told w h false false e k = absurd (eqb-false v w e (one_node tickets xs v w rise here h (is ∙ sym (hit (ticket_of_node tickets w) k))))
-      where
-        hit : (n : ℕ) → is_other_number t n ≡ false → n ≡ t
-        hit n k = grind (arith, nat_tests)
+    told w h b c e k = grind (arith, false≢true, one_node)
 
     gone : (ys : List ℕ) → ((w : ℕ) → has_item w ys ≡ true → not (nat_eq v w) ≡ is_other_number t (ticket_of_node tickets w)) → tickets_of_nodes tickets (without_item v ys) ≡ without t (tickets_of_nodes tickets ys)
     gone [] h = refl
-    gone (y ∷ ys) h = by (not (nat_eq v y)) (is_other_number t (ticket_of_node tickets y)) (h y (ap (λ b. b || has_item y ys) (eq-eqb y y refl))) (gone ys (λ w i. h w (or_right (nat_eq w y) (has_item w ys) i)))
-      where
-        by : (b c : Bool) → b ≡ c → tickets_of_nodes tickets (without_item v ys) ≡ without t (tickets_of_nodes tickets ys)
-            → tickets_of_nodes tickets (cond b (y ∷ without_item v ys) (without_item v ys)) ≡ cond c (ticket_of_node tickets y ∷ without t (tickets_of_nodes tickets ys)) (without t (tickets_of_nodes tickets ys))
-        by true true e later = ap (λ us. ticket_of_node tickets y ∷ us) later
-        by true false e later = absurd (false≢true (sym e))
-        by false true e later = absurd (false≢true e)
-        by false false e later = later
+    gone (y ∷ ys) h = grind (arith, gone ys)
 
 -- ---- a walk along a list to the first that passes
 
@@ -346,11 +293,7 @@ pub one_more_free : (room n queues l : ℕ) → l ≡ 0 → pushed (record { ite
 one_more_free room n queues l e = ap (λ k. pushed (record { items = room; lists = free_nodes n queues }) k n) e ∙ ap (λ (xs : List ℕ). let s : Listed = record { items = room; lists = xs ∷ replicate queues [] } in s) (sym (ap (range_with_len 0) (add-one n) ∙ range_more 0 n ∙ ap (λ k. range_with_len 0 n ++ k ∷ []) (zero-add n)))
 
 known_free : (n queues v : ℕ) → is_listed (free_nodes n queues) v ≡ true → v < n
-known_free n queues v h = by (has_item v (range_with_len 0 n)) refl
-  where
-    by : (b : Bool) → has_item v (range_with_len 0 n) ≡ b → v < n
-    by true e = let at = at_of (range_with_len 0 n) v e in let below = All-from_recursion (λ i. i < n) (range_with_len 0 n) (all_below n) at.0 0 at.1 in let is = at.2 in omega arith
-    by false e = absurd (false≢true (sym (ap₂ (λ a b. a || b) e (none_listed queues v)) ∙ h))
+known_free n queues v h = grind (arith, at_of, All-from_recursion, all_below, false≢true, none_listed)
 
 pub nodes_at_first : (queues n : ℕ) (tickets : List ℕ) → length tickets ≡ n → AreNodes (record { items = n; lists = free_nodes n queues }) tickets
 nodes_at_first queues n tickets many = record {

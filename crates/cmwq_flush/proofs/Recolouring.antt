@@ -28,12 +28,7 @@ colouring_ended colours served rows n is = record {
 
 -- a flush is served: what was the current colour is its own, and no queueing has the new current one
 pub colouring_served : (colours : List ℕ) (served : List Served) (rows : List Row) (s : Served) → All (λ r. r.number < s.bound) rows → IsColouring colours served rows → IsColouring colours (served ++ s ∷ []) rows
-colouring_served colours served rows s older is = record {
-  sixteen = is.sixteen;
-  distinct = is.distinct;
-  below = is.below;
-  right = λ k d lt. is.right k d lt ∙ ap (λ j. get_or colours j 0) (sym (first_waiting-push served s (get_or rows k d).number (older k d lt)));
-}
+colouring_served colours served rows s older is = grind (arith, first_waiting-push)
 
 -- a flush that waits for nothing that is open ends: its colour is free, and those after it move up
 module _ (colours : List ℕ) (served : List Served) (rows : List Row) (i : ℕ) (sixteen : length colours ≡ 16) (few : length served ≤ 15) (lt : i < length served) where
@@ -71,9 +66,7 @@ none_counted c rows none =
     grind (arith, nat_tests)
 
 none_has : (c : ℕ) (rows : List Row) → is_unused rows c ≡ true → (k : ℕ) (d : Row) → k < length rows → (get_or rows k d).colour ≢ c
-none_has c rows unused k d lt same =
-    let one = get_or-le-sum_by (λ (r : Row). cond (has_colour c r) 1 0) rows k d lt in
-    grind (arith, nat_tests)
+none_has c rows unused k d lt same = grind (arith, get_or-le-sum_by)
 
 module _ (colours : List ℕ) (served : List Served) (rows : List Row) (i : ℕ) (few : length served ≤ 15) (lt : i < length served) (rise : IsNonDecreasingBy bound_of served) (is : IsColouring colours served rows) where
   -- where the counts of a flush's colour and of all older ones are 0, it waits for nothing that is open

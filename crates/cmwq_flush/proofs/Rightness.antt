@@ -13,8 +13,7 @@ use Rattle.cmwq_flush.proofs.Orderly.{orderly_opened, orderly_ended, orderly_ove
 use Rattle.cmwq_flush.proofs.Recolouring.{colouring_opened, colouring_ended, colouring_served, colouring_removed}
 
 split : (t : Bool) (r : Row) (rows : List Row) (ns : List ℕ) → row_numbers rows ≡ ns → row_numbers (cond t (r ∷ rows) rows) ≡ cond t (row_number r ∷ ns) ns
-split true r rows ns e = ap (λ ms. row_number r ∷ ms) e
-split false r rows ns e = e
+split t r rows ns e = grind arith
 
 pub numbers_of-without : (n : ℕ) (rows : List Row) → row_numbers (without_row n rows) ≡ without n (row_numbers rows)
 numbers_of-without n [] = refl

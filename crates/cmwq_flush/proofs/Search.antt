@@ -50,8 +50,7 @@ module _ {X : Type 0} (key : X → ℕ) (xs : List X) (n : ℕ) where
 
   -- what was found or not tells whether the key is there
   pub some_from_found : (any : X) (o : Option ℕ) → IfNone o IsAbsent → Contains (map key xs) n → IsSome o
-  some_from_found any (Some i) absent found = refl
-  some_from_found any None absent found = absurd (absent_is_none any absent found)
+  some_from_found any o absent found = grind (arith, absent_is_none)
 
   pub found_from_some : (any : X) (o : Option ℕ) → IfSome o IsAt → IsSome o → Contains (map key xs) n
   found_from_some any (Some i) at some = contains_from_at any i at
@@ -61,18 +60,9 @@ module _ {X : Type 0} (key : X → ℕ) (xs : List X) (n : ℕ) where
   find_absent absent = find_none (λ x. eqb (key x) n) xs (λ k d lt. let differs = absent k d lt in grind (arith, nat_tests))
 
   module _ (rising : AllPairs (λ x y. key x < key y) xs) where
-    -- the comparisons with n rise along the list, as a binary search asks
-    comparisons_rise : IsNonDecreasingBy (λ x. ordering_index (nat_cmp (key x) n)) xs
-    comparisons_rise i j d le in_range =
-        let keys_rise : key (get_or xs i d) ≤ key (get_or xs j d) = grind (arith, rising i j d, λ (same : i ≡ j). ap (λ k. key (get_or xs k d)) same) in
-        grind (arith, nat_tests)
-
     -- a search ends at the element with the key, or there is none
     pub searched : (r : Result ℕ ℕ) → IsSearchInRange r (length xs) → IsBinarySearchResult (λ x. nat_cmp (key x) n) xs r → IfSome (result_ok r) IsAt × IfNone (result_ok r) IsAbsent
-    searched (Ok i) in_range equal = ((in_range, λ d. ranked _ n _ (sym (equal d))), tt)
-    searched (Err i) in_range parted =
-        let sides = parted comparisons_rise in
-        (tt, λ k d lt same. ⊎_elim (λ (below : k < i). let less : key (get_or xs k d) < n = ranked _ n _ (sym (sides.0 k d (omega arith) below)) in omega arith) (λ (above : i ≤ k). let more : n < key (get_or xs k d) = ranked _ n _ (sym (sides.1 k d above lt)) in omega arith) (cases_lt k i))
+    searched r in_range equal = grind (arith, nat_tests)
 
     pub find_at_key : (d : X) (i : ℕ) → IsAt i → find (λ x. eqb (key x) n) xs ≡ Some (get_or xs i d)
     find_at_key d i at = find_first (λ x. eqb (key x) n) xs i d at.0 (let here = at.1 d in grind (arith, nat_tests)) (λ k below. let less = rising k i d below at.0 in let here = at.1 d in grind (arith, nat_tests))

@@ -16,32 +16,18 @@ first_waiting-none (x ∷ served) n all =
     let rest = first_waiting-none served n (All-tail (λ (s : Served). s.bound ≤ n) x served all) in
     grind (arith, nat_tests)
 
-drop_one : (p : Bool) (k i : ℕ) → suc i < cond p (1 + k) 0 → (p ≡ true) × (i < k)
-drop_one true k i lt = (refl, omega arith)
-drop_one false k i lt = absurd (omega arith)
-
-some_one : (p : Bool) (k i : ℕ) → i < cond p (1 + k) 0 → p ≡ true
-some_one true k i lt = refl
-some_one false k i lt = absurd (omega arith)
-
 -- one that ends before the first that waits moves that one up
 pub first_waiting-remove : (served : List Served) (i n : ℕ) → i < first_waiting served n → first_waiting (remove served i) n + 1 ≡ first_waiting served n
 first_waiting-remove [] i n lt = absurd (omega arith)
-first_waiting-remove (x ∷ served) zero n lt =
-    let passed = some_one (not (served_waits_for n x)) (first_waiting served n) 0 lt in
-    rw passed (omega arith)
-first_waiting-remove (x ∷ served) (suc i) n lt =
-    let passed = drop_one (not (served_waits_for n x)) (first_waiting served n) i lt in
-    let rest = first_waiting-remove served i n passed.1 in
-    rw passed.0 (omega arith)
+first_waiting-remove (x ∷ served) zero n lt = grind arith
+first_waiting-remove (x ∷ served) (suc i) n lt = grind (arith, first_waiting-remove served i n)
 
 pub first_waiting-le : (served : List Served) (n : ℕ) → first_waiting served n ≤ length served
 first_waiting-le served n = prefix_len-le-length (λ s. not (served_waits_for n s)) served
 
 -- a flush that waits for n is at the first that does, or after it
 pub first_waiting_at_most : (served : List Served) (i n : ℕ) (d : Served) → n < (get_or served i d).bound → first_waiting served n ≤ i
-first_waiting_at_most served i n d lt =
-    ⊎_elim (λ (before : i < first_waiting served n). let fails = fails_before_first (served_waits_for n) served i d before in grind (arith, nat_tests)) (λ (at_most : first_waiting served n ≤ i). at_most) (cases_lt i (first_waiting served n))
+first_waiting_at_most served i n d lt = grind (arith, fails_before_first)
 
 -- bounds rise, so one that doesn't wait for n is before the first that does
 pub first_waiting_after : (served : List Served) (i n : ℕ) (d : Served) → IsNonDecreasingBy bound_of served → i < length served → (get_or served i d).bound ≤ n → i < first_waiting served n

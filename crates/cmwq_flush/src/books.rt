@@ -43,9 +43,9 @@ impl FlushBooks {
     {
         let room = TICKETS_OF_CALLER * u32::from(callers);
         Ok(FlushBooks {
-            openings: Openings::new(alloc, queues as u16, items)?,
-            overflow: Overflow::new(alloc, queues as u16, room)?,
             queues: new_queues(alloc, queues)?,
+            overflow: Overflow::new(alloc, queues as u16, room)?,
+            openings: Openings::new(alloc, queues as u16, items)?,
         })
     }
 

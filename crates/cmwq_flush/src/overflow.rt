@@ -39,14 +39,12 @@ impl Overflow {
         requires nodes { queues + room + 1 < 2 ^ 32 }
         ensures { IfOk result (λ overflow. overflow ≡ record { room = room; queues = replicate queues [] }) }
     {
+        let tickets = vec![in alloc; 0; room as usize]?;
         let mut lists = Lists::new(alloc, queues + 1, room)?;
         for place in 0..room {
             lists.push_back(FREE, place);
         }
-        Ok(Overflow {
-            lists,
-            tickets: vec![in alloc; 0; room as usize]?,
-        })
+        Ok(Overflow { lists, tickets })
     }
 
     /// Whether one more flush may be in overflow.

@@ -11,21 +11,11 @@ use Rattle.cmwq_pwq.proofs.Passes.{count_set, on_parts, on_itself, passes_kept, 
 -- ---- the pass over a list of which nothing is below max_active
 
 passes_none : (way : Queueing → Bool) (old : List ℕ) → Passes way [] old old [] []
-passes_none way old = record {
-  kept = refl;
-  activated = refl;
-  many = refl;
-  counts = λ q c less here. let zero : count_by (is_on q c) (filter way []) ≡ 0 = refl in omega arith;
-}
+passes_none way old = grind arith
 
 -- the counts matter place by place
 passes_as : (way : Queueing → Bool) (old new same : List ℕ) (xs rest taken : List Queueing) → Passes way xs old new rest taken → length same ≡ length new → ((q c : ℕ) → c < most_cpus → place_of q c < length old → count_at same q c ≡ count_at new q c) → Passes way xs old same rest taken
-passes_as way old new same xs rest taken p many counts = record {
-  kept = p.kept;
-  activated = p.activated;
-  many = many ∙ p.many;
-  counts = λ q c less here. counts q c less here ∙ p.counts q c less here;
-}
+passes_as way old new same xs rest taken p many counts = grind arith
 
 split_on : (done : List Queueing) (y : Queueing) (b tail : List Queueing) → done ++ (y ∷ b ++ tail) ≡ (done ++ y ∷ []) ++ (b ++ tail)
 split_on done y b tail = sym (append_assoc done (y ∷ []) (b ++ tail))
@@ -49,13 +39,7 @@ module _ (way : Queueing → Bool) (wide : ℕ → ℕ) (old : List ℕ) (xs : L
 -- ---- an active queueing ends
 
 on_sym : (x y : Queueing) → is_on x.place.queue.0 x.place.cpu.0 y ≡ is_on y.place.queue.0 y.place.cpu.0 x
-on_sym x y = by (is_on x.place.queue.0 x.place.cpu.0 y) refl (is_on y.place.queue.0 y.place.cpu.0 x) refl
-  where
-    by : (a : Bool) → is_on x.place.queue.0 x.place.cpu.0 y ≡ a → (b : Bool) → is_on y.place.queue.0 y.place.cpu.0 x ≡ b → a ≡ b
-    by true h true k = refl
-    by false h false k = refl
-    by true h false k = let p = on_parts x.place.queue.0 x.place.cpu.0 y h in sym (on_itself y.place.queue.0 y.place.cpu.0 x (sym p.0) (sym p.1)) ∙ k
-    by false h true k = let p = on_parts y.place.queue.0 y.place.cpu.0 x k in sym h ∙ on_itself x.place.queue.0 x.place.cpu.0 y (sym p.0) (sym p.1)
+on_sym x y = grind arith
 
 abbrev pub one_less : List ℕ → Queueing → List ℕ
 one_less counts x = slice_set counts (place_of x.place.queue.0 x.place.cpu.0) (count_of_same_pwq counts x - 1)
@@ -80,16 +64,7 @@ module _ (wide : ℕ → ℕ) (counts : List ℕ) (x : Queueing) (cpu : x.place.
   behind_of_same_pwq y more is = by (is_on x.place.queue.0 x.place.cpu.0 y) refl
     where
       by : (b : Bool) → is_on x.place.queue.0 x.place.cpu.0 y ≡ b → IsBehind wide (one_less counts x) y
-      by false other = behind_elsewhere y is other
-      by true beside =
-          let p = on_parts x.place.queue.0 x.place.cpu.0 y beside in
-          let same : wide y.place.queue.0 ≡ wide x.place.queue.0 = ap wide p.0 in
-          let left : wide y.place.queue.0 ≤ count_of_same_pwq counts x - 1 = omega arith in
-          record {
-            cpu = is.cpu;
-            counted = rw less_many is.counted;
-            behind = rw (less_at y.place.queue.0 y.place.cpu.0 is.cpu, sym (on_sym x y) ∙ beside) left;
-          }
+      by b other = grind (arith, behind_elsewhere, on_parts, less_many, on_sym)
 
   module _ (way : Queueing → Bool) (xs : List Queueing) (have : AreBelowMaxActive way wide (one_less counts x) xs) (behind : AreBehind wide counts xs) where
     pub none_takes : (wide x.place.queue.0 < count_of_same_pwq counts x) → Passes way xs (one_less counts x) (one_less counts x) xs []
@@ -138,25 +113,16 @@ module _ (wide : ℕ → ℕ) (counts : List ℕ) (x : Queueing) (cpu : x.place.
         of_same_pwq_less = less_at y.place.queue.0 y.place.cpu.0 y_cpu ∙ ap (λ b. cond b (count_of_same_pwq counts x - 1) (count_of_same_pwq counts y)) (on_itself y.place.queue.0 y.place.cpu.0 x (sym parts.0) (sym parts.1))
 
         is_below_max_active : way y ≡ true
-        is_below_max_active =
-            let same : wide y.place.queue.0 ≡ wide x.place.queue.0 = ap wide parts.0 in
-            let less : count_of_same_pwq C y < wide y.place.queue.0 = let is = of_same_pwq_less in omega arith in
-            way_now way C first.before y wide xs first.after C first.before [] have first.stood start y_cpu y_at ∙ lt-ltb (count_of_same_pwq C y) (wide y.place.queue.0) less
+        is_below_max_active = grind arith
 
         taken : Passes way (first.before ++ y ∷ []) C (slice_set C (place_of y.place.queue.0 y.place.cpu.0) (count_of_same_pwq C y + 1)) first.before (y ∷ [])
         taken = passes_activated way C first.before y C first.before [] start is_below_max_active y_cpu y_at
 
         back : (q c : ℕ) → c < most_cpus → (b : Bool) → is_on q c x ≡ b → count_at counts q c ≡ cond b (count_of_same_pwq C y + 1) (count_at C q c)
-        back q c less true on =
-            let p = on_parts q c x on in
-            let same : count_of_same_pwq counts x ≡ count_at counts q c = ap₂ (count_at counts) p.0 p.1 in
-            let is = of_same_pwq_less in omega arith
-        back q c less false on = sym (less_at q c less ∙ ap (λ b. cond b (count_of_same_pwq counts x - 1) (count_at counts q c)) on)
+        back q c less b on = grind arith
 
         again : Passes way (first.before ++ y ∷ []) C counts first.before (y ∷ [])
-        again = passes_as way C (slice_set C (place_of y.place.queue.0 y.place.cpu.0) (count_of_same_pwq C y + 1)) counts (first.before ++ y ∷ []) first.before (y ∷ []) taken
-            (sym less_many ∙ sym (length-set C (place_of y.place.queue.0 y.place.cpu.0) (count_of_same_pwq C y + 1)))
-            (λ q c less here. back q c less (is_on q c x) refl ∙ (ap (λ b. cond b (count_of_same_pwq C y + 1) (count_at C q c)) (ap₂ (λ n m. (n == q) && (m == c)) (sym parts.0) (sym parts.1)) ∙ sym (count_set C y (count_of_same_pwq C y + 1) q c y_cpu less y_at)))
+        again = grind arith
 
         last : Passes way ((first.before ++ y ∷ []) ++ first.after) C counts (first.before ++ first.after) (y ∷ [])
         last = keeps_behind way wide C xs have (first.before ++ y ∷ []) first.after [] counts first.before (y ∷ []) (whole ∙ ap (λ ys. (first.before ++ y ∷ []) ++ ys) (sym (append-nil first.after))) (sym less_many) (later first.before (y ∷ first.after) all).1 again
@@ -180,12 +146,7 @@ module _ (wide : ℕ → ℕ) (l : PwqState) (x : Queueing) (cpu : x.place.cpu.0
     })
 
     ended_passed : ((way : Queueing → Bool) → AreBelowMaxActive way wide (one_less l.counts x) l.waiting → Passes way l.waiting (one_less l.counts x) (one_less l.counts x) l.waiting []) → IsPassed wide (pwqs_without_open l x) (record { items = l.items; counts = one_less l.counts x; waiting = l.waiting; activated = [] })
-    ended_passed passes = as_active (record { items = l.items; counts = one_less l.counts x; waiting = l.waiting; activated = [] }) (record {
-      passes = passes;
-      many = refl;
-      items = refl;
-      sorted = (let zero : length {A = Queueing} [] ≡ 0 = refl in omega arith);
-    })
+    ended_passed passes = grind arith
 
     pub ended_over_width : wide x.place.queue.0 < count_of_same_pwq l.counts x → IsPassed wide (pwqs_without_open l x) (record { items = l.items; counts = one_less l.counts x; waiting = l.waiting; activated = [] })
     ended_over_width more = ended_passed (λ way have. none_takes wide l.counts x cpu at some way l.waiting have behind more)
@@ -236,17 +197,11 @@ waiting_ended wide l x waits behind =
 
 -- what the last pass made active doesn't matter
 pub ended_as : (wide : ℕ → ℕ) (l : PwqState) (x : Queueing) (taken : List Queueing) (new : PwqState) → IsPassed wide (pwqs_without_open (record l { activated = taken }) x) new → IsPassed wide (pwqs_without_open l x) new
-ended_as wide l x taken new p = by (is_waiting l x) p
-  where
-    by : (b : Bool) → IsPassed wide (if b then record l { waiting = filter (is_other_waiting x.number) l.waiting; activated = taken } else record l { counts = one_less l.counts x; activated = taken }) new → IsPassed wide (if b then record l { waiting = filter (is_other_waiting x.number) l.waiting } else record l { counts = one_less l.counts x }) new
-    by true p = record { passes = p.passes; many = p.many; items = p.items; sorted = p.sorted }
-    by false p = record { passes = p.passes; many = p.many; items = p.items; sorted = p.sorted }
+ended_as wide l x taken new p = grind arith
 
 -- one that waits no more, where it was active
 pub active_ended : (l : PwqState) (x : Queueing) → is_waiting l x ≡ false → record { items = l.items; counts = one_less l.counts x; waiting = filter (is_other_waiting x.number) l.waiting; activated = l.activated } ≡ pwqs_without_open l x
-active_ended l x fails =
-    ap (λ ys. record l { counts = one_less l.counts x; waiting = ys }) (sym (rest_of_none x.number l.waiting fails))
-    ∙ ap (λ b. if b then record l { waiting = filter (is_other_waiting x.number) l.waiting } else record l { counts = one_less l.counts x }) (sym fails)
+active_ended l x fails = grind (arith, rest_of_none)
 
 -- where it waits no more and was active, nothing else that waits is taken out
 pub active_same : (items places : ℕ) (xs : List Queueing) (n : ℕ) (w : WaitingState) → list_any (has_number n) xs ≡ false → w ≡ record { items = items; places = places; queueings = filter (is_other_waiting n) xs } → w ≡ record { items = items; places = places; queueings = xs }
@@ -255,11 +210,7 @@ active_same items places xs n w fails is = is ∙ ap (λ ys. record { items = it
 -- ---- no item has one that waits only afterwards
 
 pub none_of_rest : (q c : ℕ) (old new : List Queueing) (x : Queueing) → IsFirstTaken q c old new x → NoneWaitsAnew old new
-none_of_rest q c old new x first i none =
-    let split : (list_any (is_of i) first.before || (is_of i x || list_any (is_of i) first.after)) ≡ false = sym (list_any-append (is_of i) first.before (x ∷ first.after)) ∙ (ap (list_any (is_of i)) (sym first.stood) ∙ none) in
-    let parts = or_parts (list_any (is_of i) first.before) (is_of i x || list_any (is_of i) first.after) split in
-    let later = or_parts (is_of i x) (list_any (is_of i) first.after) parts.1 in
-    ap (list_any (is_of i)) first.left ∙ (list_any-append (is_of i) first.before first.after ∙ or_from (list_any (is_of i) first.before) (list_any (is_of i) first.after) parts.0 later.1)
+none_of_rest q c old new x first i none = grind (arith, list_any-append, or_parts, or_from)
 
 -- where one ends that is active, what waits is what waited
 pub active_waiting : (l : PwqState) (x : Queueing) → is_waiting l x ≡ false → (pwqs_without_open l x).waiting ≡ l.waiting
@@ -269,9 +220,4 @@ pub rest_waiting : (l : PwqState) (x : Queueing) → is_waiting l x ≡ true →
 rest_waiting l x waits = ap (λ b. (if b then record l { waiting = filter (is_other_waiting x.number) l.waiting } else record l { counts = one_less l.counts x }).waiting) waits
 
 pub ended_waiting_as : (l : PwqState) (x : Queueing) (taken : List Queueing) → (pwqs_without_open l x).waiting ≡ (pwqs_without_open (record l { activated = taken }) x).waiting
-ended_waiting_as l x taken = by (is_waiting l x)
-  where
-    by : (b : Bool) → (if b then record l { waiting = filter (is_other_waiting x.number) l.waiting } else record l { counts = one_less l.counts x }).waiting
-        ≡ (if b then record l { waiting = filter (is_other_waiting x.number) l.waiting; activated = taken } else record l { counts = one_less l.counts x; activated = taken }).waiting
-    by true = refl
-    by false = refl
+ended_waiting_as l x taken = grind arith

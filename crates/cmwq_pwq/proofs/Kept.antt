@@ -29,23 +29,11 @@ one_lacks lists i one lacks m less = let e : m ≡ 0 = omega arith in ap (λ k. 
 
 -- of one list, it is in that
 pub in_one : (lists : List (List ℕ)) (i : ℕ) → length lists ≡ 1 → is_some (list_of lists i) ≡ has_item i (list_at lists 0)
-in_one lists i one = by (has_item i (list_at lists 0)) refl
-  where
-    by : (b : Bool) → has_item i (list_at lists 0) ≡ b → is_some (list_of lists i) ≡ b
-    by false lacks = ap is_some (in_none lists i (one_lacks lists i one lacks))
-    by true has =
-        let pos : position_or_len (has_item i) lists ≡ 0 = position_or_len_is (has_item i) lists 0 [] (omega arith) (λ k less. absurd (omega arith)) (λ less. has) in
-        ap (λ p. is_some {T = ℕ} (cond (nat_lt p (length lists)) (Some p) None)) pos ∙ ap (λ n. is_some {T = ℕ} (cond (nat_lt 0 n) (Some 0) None)) one
+in_one lists i one = grind (arith, in_none, one_lacks, position_or_len_is)
 
 filtered_lacks : (p : ℕ → Bool) (i : ℕ) (xs : List ℕ) → has_item i xs ≡ false → has_item i (filter p xs) ≡ false
 filtered_lacks p i [] lacks = refl
-filtered_lacks p i (x ∷ xs) lacks =
-    let parts = or_parts (nat_eq i x) (has_item i xs) lacks in
-    by (p x) parts.0 (filtered_lacks p i xs parts.1)
-  where
-    by : (b : Bool) → nat_eq i x ≡ false → has_item i (filter p xs) ≡ false → has_item i (cond b (x ∷ filter p xs) (filter p xs)) ≡ false
-    by true other rest = or_from (nat_eq i x) (has_item i (filter p xs)) other rest
-    by false other rest = rest
+filtered_lacks p i (x ∷ xs) lacks = grind (arith, filtered_lacks p i xs)
 
 maps_same : {X : Type 0} (f g : ℕ → X) (xs : List ℕ) → AllByRecursion (λ i. f i ≡ g i) xs → map f xs ≡ map g xs
 maps_same f g [] same = refl
@@ -67,27 +55,19 @@ module _ (rows : List Queueing) where
   read_at xs k each = by (slice_get xs k) refl ∙ sym (slice_get-map (row_of rows) xs k)
     where
       by : (o : Option ℕ) → slice_get xs k ≡ o → option_and_then (slice_get rows) o ≡ option_map (row_of rows) o
-      by None e = refl
-      by (Some i) e = slice_get-get_or rows i _ (row_at xs k i each e).inside
+      by o e = grind (arith, slice_get-get_or, row_at)
 
   -- what waits at a place stands in its item's row
   pub item_at : (xs : List ℕ) (k : ℕ) (x : Queueing) → AllByRecursion (IsRow rows) xs → slice_get (waiting_of xs) k ≡ Some x → (slice_get xs k ≡ Some x.item.0) × (row_of rows x.item.0 ≡ x)
   item_at xs k x each e = by (slice_get xs k) refl (sym (slice_get-map (row_of rows) xs k) ∙ e)
     where
       by : (o : Option ℕ) → slice_get xs k ≡ o → option_map (row_of rows) o ≡ Some x → (slice_get xs k ≡ Some x.item.0) × (row_of rows x.item.0 ≡ x)
-      by None at is = absurd (let bad : None ≡ Some x = is in cc)
-      by (Some i) at is =
-          let same : row_of rows i ≡ x = same_Some (row_of rows i) x is in
-          let item : i ≡ x.item.0 = sym (row_at xs k i each at).item ∙ ap (λ y. y.item.0) same in
-          (at ∙ ap Some item, ap (row_of rows) (sym item) ∙ same)
+      by o at is = grind (arith, row_at)
 
   -- an item has one that waits where its number is listed
   pub of_item : (i : ℕ) (xs : List ℕ) → AllByRecursion (IsRow rows) xs → list_any (is_of i) (waiting_of xs) ≡ has_item i xs
   of_item i [] each = refl
-  of_item i (x ∷ xs) each = ap₂ (λ a b. a || b) (ap (λ n. nat_eq n i) each.0.item ∙ turned x i) (of_item i xs each.1)
-    where
-      turned : (a b : ℕ) → nat_eq a b ≡ nat_eq b a
-      turned a b = same_bools (nat_eq a b) (nat_eq b a) (λ h. eq-eqb b a (sym (eqb-true a b h))) (λ h. eq-eqb a b (sym (eqb-true b a h)))
+  of_item i (x ∷ xs) each = grind (arith, of_item i xs each.1)
 
   pub known_items : (xs : List ℕ) → AllByRecursion (IsRow rows) xs → AllByRecursion (λ x. x.item.0 < length rows) (waiting_of xs)
   known_items [] each = tt
@@ -97,25 +77,11 @@ module _ (rows : List Queueing) where
 
   pub unlinked_rest : (i : ℕ) (xs : List ℕ) → AllByRecursion (IsRow rows) xs → waiting_of (without_item i xs) ≡ filter (is_of_other i) (waiting_of xs)
   unlinked_rest i [] each = refl
-  unlinked_rest i (x ∷ xs) each = by (not (nat_eq i x)) (not (is_of i (row_of rows x))) (ap not (same (nat_eq i x) (is_of i (row_of rows x)) (of_item i (x ∷ []) (each.0, tt)))) (unlinked_rest i xs each.1)
-    where
-      same : (a b : Bool) → (b || false) ≡ (a || false) → a ≡ b
-      same true true e = refl
-      same true false e = sym e
-      same false true e = sym e
-      same false false e = refl
-
-      by : (a b : Bool) → a ≡ b → waiting_of (without_item i xs) ≡ filter (is_of_other i) (waiting_of xs) → waiting_of (cond a (x ∷ without_item i xs) (without_item i xs)) ≡ cond b (row_of rows x ∷ filter (is_of_other i) (waiting_of xs)) (filter (is_of_other i) (waiting_of xs))
-      by true true e ih = ap (λ ys. row_of rows x ∷ ys) ih
-      by false false e ih = ih
-      by true false e ih = absurd (false≢true (sym e))
-      by false true e ih = absurd (false≢true e)
+  unlinked_rest i (x ∷ xs) each = grind (arith, unlinked_rest i xs each.1)
 
   lacks_without : (i : ℕ) (xs : List ℕ) → has_item i xs ≡ false → without_item i xs ≡ xs
   lacks_without i [] lacks = refl
-  lacks_without i (x ∷ xs) lacks =
-      let parts = or_parts (nat_eq i x) (has_item i xs) lacks in
-      ap (λ b. cond (not b) (x ∷ without_item i xs) (without_item i xs)) parts.0 ∙ ap (λ ys. x ∷ ys) (lacks_without i xs parts.1)
+  lacks_without i (x ∷ xs) lacks = grind (arith, lacks_without i xs)
 
   has_at : (xs : List ℕ) (k i : ℕ) → slice_get xs k ≡ Some i → has_item i xs ≡ true
   has_at [] k i e = absurd (let bad : None ≡ Some i = e in cc)
@@ -123,21 +89,13 @@ module _ (rows : List Queueing) where
   has_at (x ∷ xs) (suc k) i e = or_right (nat_eq i x) (has_item i xs) (has_at xs k i e)
 
   pub unlinked_at : (xs : List ℕ) (k i : ℕ) → AreDistinct xs → slice_get xs k ≡ Some i → waiting_of (without_item i xs) ≡ take k (waiting_of xs) ++ drop (suc k) (waiting_of xs)
-  unlinked_at [] k i distinct e = absurd (let bad : None ≡ Some i = e in cc)
-  unlinked_at (x ∷ xs) zero i distinct e =
-      let same : x ≡ i = same_Some x i e in
-      let lacks : has_item i xs ≡ false = ap (λ j. has_item j xs) (sym same) ∙ distinct.0 in
-      ap (λ b. waiting_of (cond (not b) (x ∷ without_item i xs) (without_item i xs))) (eq-eqb i x (sym same)) ∙ ap waiting_of (lacks_without i xs lacks)
-  unlinked_at (x ∷ xs) (suc k) i distinct e =
-      let other : nat_eq i x ≡ false = ne_eqb i x (λ same. false≢true (sym distinct.0 ∙ (ap (λ j. has_item j xs) (sym same) ∙ has_at xs k i e))) in
-      ap (λ b. waiting_of (cond (not b) (x ∷ without_item i xs) (without_item i xs))) other ∙ ap (λ ys. row_of rows x ∷ ys) (unlinked_at xs k i distinct.1 e)
+  unlinked_at [] k i distinct e = grind arith
+  unlinked_at (x ∷ xs) zero i distinct e = grind (arith, lacks_without, distinct.0)
+  unlinked_at (x ∷ xs) (suc k) i distinct e = grind (arith, false≢true, has_at, unlinked_at xs k i distinct.1 e, distinct.0)
 
 -- one filter behind another
 without_filter : (p : ℕ → Bool) (i : ℕ) (xs : List ℕ) → without_item i (filter p xs) ≡ filter p (without_item i xs)
-without_filter p i xs =
-    filter_twice (λ x. not (nat_eq i x)) p xs
-    ∙ (filter_same (λ x. p x && not (nat_eq i x)) (λ x. not (nat_eq i x) && p x) xs (All_each _ xs (λ x. flip (p x) (not (nat_eq i x))))
-    ∙ sym (filter_twice p (λ x. not (nat_eq i x)) xs))
+without_filter p i xs = grind (arith, filter_twice, filter_same, All_each, flip)
 
 each_without : (P : ℕ → Type 0) (i : ℕ) (xs : List ℕ) → AllByRecursion P xs → AllByRecursion P (without_item i xs)
 each_without P i xs each = All_filter P (λ x. not (nat_eq i x)) xs (All_map P (λ x. not (nat_eq i x) ≡ true → P x) xs (λ x is passes. is) each)
@@ -270,22 +228,7 @@ module _ (rows : List Queueing) (x : Queueing) where
 
   number_in_row : (xs : List ℕ) → AllByRecursion (IsRow rows) xs → IsNumberOfItem x (map (row_of rows) xs) → list_any (has_number x.number) (map (row_of rows) xs) ≡ (is_in_row && has_item x.item.0 xs)
   number_in_row [] each of = sym (and_false is_in_row)
-  number_in_row (y ∷ ys) each of = by (nat_eq x.item.0 y) refl (number_in_row ys each.1 of.1)
-    where
-      same : (a b : Bool) → (a || (a && b)) ≡ (a && true)
-      same true b = refl
-      same false b = refl
-
-      by : (b : Bool) → nat_eq x.item.0 y ≡ b → list_any (has_number x.number) (map (row_of rows) ys) ≡ (is_in_row && has_item x.item.0 ys)
-          → (has_number x.number (row_of rows y) || list_any (has_number x.number) (map (row_of rows) ys)) ≡ (is_in_row && (nat_eq x.item.0 y || has_item x.item.0 ys))
-      by true here rest =
-          let e : y ≡ x.item.0 = sym (eqb-true x.item.0 y here) in
-          ap₂ (λ a b. a || b) (ap (λ k. has_number x.number (row_of rows k)) e) rest
-          ∙ (same is_in_row (has_item x.item.0 ys) ∙ ap (λ b. is_in_row && (b || has_item x.item.0 ys)) (sym here))
-      by false other rest =
-          let not_it : has_number x.number (row_of rows y) ≡ false = false_from_ne_true (has_number x.number (row_of rows y)) (λ is.
-          eqb-false x.item.0 y other (sym (sym each.0.item ∙ of.0 (eqb-true (row_of rows y).number x.number is)))) in
-          ap₂ (λ a b. a || b) not_it rest ∙ ap (λ b. is_in_row && (b || has_item x.item.0 ys)) (sym other)
+  number_in_row (y ∷ ys) each of = grind (arith, number_in_row ys each.1 of.1)
 
   -- where it waits, the others are those of other items
   others_by_number : (xs : List ℕ) → AllByRecursion (IsRow rows) xs → IsNumberOfItem x (map (row_of rows) xs) → is_in_row ≡ true → filter (is_of_other x.item.0) (map (row_of rows) xs) ≡ filter (is_other_waiting x.number) (map (row_of rows) xs)
@@ -293,12 +236,7 @@ module _ (rows : List Queueing) (x : Queueing) where
     where
       alike : (xs : List ℕ) → AllByRecursion (IsRow rows) xs → IsNumberOfItem x (map (row_of rows) xs) → AllByRecursion (λ y. is_of_other x.item.0 y ≡ is_other_waiting x.number y) (map (row_of rows) xs)
       alike [] each of = tt
-      alike (y ∷ ys) each of = (
-        ap not (same_bools ((row_of rows y).item.0 == x.item.0) ((row_of rows y).number == x.number)
-            (λ h. eq-eqb (row_of rows y).number x.number (ap (λ k. (row_of rows k).number) (sym each.0.item ∙ eqb-true (row_of rows y).item.0 x.item.0 h) ∙ eqb-true (row_of rows x.item.0).number x.number is))
-            (λ h. eq-eqb (row_of rows y).item.0 x.item.0 (of.0 (eqb-true (row_of rows y).number x.number h)))),
-        alike ys each.1 of.1,
-      )
+      alike (y ∷ ys) each of = grind (arith, alike ys each.1 of.1)
 
   module _ (all pwqs : Listed) (kept : AreWaitingKept rows all pwqs) (of : IsNumberOfItem x (map (row_of rows) (list_at all.lists 0))) where
     pub waits_in_row : (is_in_row && is_some (list_of all.lists x.item.0)) ≡ list_any (has_number x.number) (map (row_of rows) (list_at all.lists 0))
@@ -334,19 +272,11 @@ first_at rows p (x ∷ xs) i e = by (is_at_place rows p x) refl e (first_at rows
 
 none_at : (rows : List Queueing) (p : ℕ) (xs : List ℕ) → slice_get (filter (is_at_place rows p) xs) 0 ≡ None → AllByRecursion (λ y. nat_eq (place_of y.place.queue.0 y.place.cpu.0) p ≡ false) (map (row_of rows) xs)
 none_at rows p [] e = tt
-none_at rows p (x ∷ xs) e = by (is_at_place rows p x) refl e (none_at rows p xs)
-  where
-    by : (b : Bool) → is_at_place rows p x ≡ b → slice_get (cond b (x ∷ filter (is_at_place rows p) xs) (filter (is_at_place rows p) xs)) 0 ≡ None
-        → (slice_get (filter (is_at_place rows p) xs) 0 ≡ None → AllByRecursion (λ y. nat_eq (place_of y.place.queue.0 y.place.cpu.0) p ≡ false) (map (row_of rows) xs))
-        → AllByRecursion (λ y. nat_eq (place_of y.place.queue.0 y.place.cpu.0) p ≡ false) (map (row_of rows) (x ∷ xs))
-    by true is e later = absurd (let bad : Some x ≡ None = e in cc)
-    by false fails e later = (fails, later e)
+none_at rows p (x ∷ xs) e = grind (arith, none_at rows p xs)
 
 -- what is not at the place is not on that queue and CPU
 not_on : (q c : ℕ) (ys : List Queueing) → AllByRecursion (λ y. nat_eq (place_of y.place.queue.0 y.place.cpu.0) (place_of q c) ≡ false) ys → AllByRecursion (λ y. is_on q c y ≡ false) ys
-not_on q c ys none = All_map _ _ ys (λ y fails. false_from_ne_true (is_on q c y) (λ is.
-    let parts = on_parts q c y is in
-    eqb-false (place_of y.place.queue.0 y.place.cpu.0) (place_of q c) fails (ap₂ place_of parts.0 parts.1))) none
+not_on q c ys none = grind (arith, All_map, false_from_ne_true, on_parts)
 
 module _ (rows : List Queueing) (all pwqs : Listed) (kept : AreWaitingKept rows all pwqs) (q c : ℕ) (cpu : c < most_cpus) (place : place_of q c < length pwqs.lists) where
   abbrev xs : List ℕ

@@ -29,52 +29,21 @@ count_set counts x n q c k m here = by (is_on q c x) refl
     at = place_of x.place.queue.0 x.place.cpu.0
 
     by : (b : Bool) → is_on q c x ≡ b → count_at (slice_set counts (place_of x.place.queue.0 x.place.cpu.0) n) q c ≡ cond b n (count_at counts q c)
-    by true h = let p = on_parts q c x h in get_or-set_at counts (place_of x.place.queue.0 x.place.cpu.0) (place_of q c) n 0 (ap₂ place_of (sym p.0) (sym p.1)) here
-    by false h =
-        let apart : place_of q c ≢ place_of x.place.queue.0 x.place.cpu.0 = λ same.
-        let p = one_place q c x.place.queue.0 x.place.cpu.0 m k same in
-        let on = on_itself q c x (sym p.0) (sym p.1) in
-        let bad : false ≡ true = sym h ∙ on in cc in
-        get_or-set_other counts (place_of x.place.queue.0 x.place.cpu.0) (place_of q c) n 0 apart
+    by true h = grind (arith, on_parts, get_or-set_at)
+    by false h = grind (arith, one_place, on_itself)
 
 module _ (way : Queueing → Bool) (old : List ℕ) (done : List Queueing) (x : Queueing) where
   pub passes_kept : (new : List ℕ) (rest taken : List Queueing) → Passes way done old new rest taken → way x ≡ false → Passes way (done ++ x ∷ []) old new (rest ++ x ∷ []) taken
-  passes_kept new rest taken p h =
-      let same : filter way (done ++ x ∷ []) ≡ filter way done = filter-append way done (x ∷ []) ∙ (ap (λ b. filter way done ++ cond b (x ∷ []) []) h ∙ append-nil (filter way done)) in
-      record {
-        kept = ap (λ ys. ys ++ x ∷ []) p.kept ∙ sym (filter-append (λ y. not (way y)) done (x ∷ []) ∙ ap (λ b. filter (λ y. not (way y)) done ++ cond (not b) (x ∷ []) []) h);
-        activated = p.activated ∙ sym same;
-        many = p.many;
-        counts = λ q c less here. p.counts q c less here ∙ ap (λ ys. count_at old q c + count_by (is_on q c) ys) (sym same);
-      }
+  passes_kept new rest taken p h = grind (arith, filter-append, append-nil)
 
   pub passes_activated : (new : List ℕ) (rest taken : List Queueing) → Passes way done old new rest taken → way x ≡ true → x.place.cpu.0 < most_cpus → place_of x.place.queue.0 x.place.cpu.0 < length old →
       Passes way (done ++ x ∷ []) old (slice_set new (place_of x.place.queue.0 x.place.cpu.0) (count_of_same_pwq new x + 1)) rest (taken ++ x ∷ [])
-  passes_activated new rest taken p h few there =
-      let more : filter way (done ++ x ∷ []) ≡ filter way done ++ x ∷ [] = filter-append way done (x ∷ []) ∙ ap (λ b. filter way done ++ cond b (x ∷ []) []) h in
-      let there_new : place_of x.place.queue.0 x.place.cpu.0 < length new = rw p.many there in
-      record {
-        kept = p.kept ∙ sym (filter-append (λ y. not (way y)) done (x ∷ []) ∙ (ap (λ b. filter (λ y. not (way y)) done ++ cond (not b) (x ∷ []) []) h ∙ append-nil (filter (λ y. not (way y)) done)));
-        activated = ap (λ ys. ys ++ x ∷ []) p.activated ∙ sym more;
-        many = length-set new (place_of x.place.queue.0 x.place.cpu.0) (count_of_same_pwq new x + 1) ∙ p.many;
-        counts = λ q c less here.
-            let one_more : count_by (is_on q c) (filter way (done ++ x ∷ [])) ≡ count_by (is_on q c) (filter way done) + cond (is_on q c x) 1 0 = ap (count_by (is_on q c)) more ∙ (count_append (is_on q c) (filter way done) (x ∷ []) ∙ ap (λ n. count_by (is_on q c) (filter way done) + n) (count_by-one (is_on q c) x)) in
-            count_set new x (count_of_same_pwq new x + 1) q c few less there_new ∙ by q c less here (is_on q c x) refl ∙ ap (λ n. count_at old q c + n) (sym one_more);
-      }
-    where
-      by : (q c : ℕ) → c < most_cpus → place_of q c < length old → (b : Bool) → is_on q c x ≡ b → cond b (count_of_same_pwq new x + 1) (count_at new q c) ≡ count_at old q c + (count_by (is_on q c) (filter way done) + cond b 1 0)
-      by q c less here true on =
-          let at = on_parts q c x on in
-          let same : count_of_same_pwq new x ≡ count_at new q c = ap₂ (count_at new) at.0 at.1 in
-          let was = p.counts q c less here in
-          omega arith
-      by q c less here false on = let was = p.counts q c less here in omega arith
+  passes_activated new rest taken p h few there = grind (arith, filter-append, append-nil, length-set, count_append, count_by-one, count_set, on_parts)
 
   -- what the counts say now is whether it is below max_active
   pub way_now : (wide : ℕ → ℕ) (xs tail : List Queueing) (new : List ℕ) (rest taken : List Queueing) → AreBelowMaxActive way wide old xs → xs ≡ done ++ x ∷ tail → Passes way done old new rest taken → x.place.cpu.0 < most_cpus → place_of x.place.queue.0 x.place.cpu.0 < length old →
       way x ≡ nat_lt (count_of_same_pwq new x) (wide x.place.queue.0)
-  way_now wide xs tail new rest taken have split p few there =
-      have done x tail split ∙ ap (λ n. nat_lt n (wide x.place.queue.0)) (sym (p.counts x.place.queue.0 x.place.cpu.0 few there))
+  way_now wide xs tail new rest taken have split p few there = grind arith
 
 -- the step at place i of the list
 module _ (way : Queueing → Bool) (wide : ℕ → ℕ) (old : List ℕ) (xs : List Queueing) (i : ℕ) (d : Queueing) (inside : i < length xs) (have : AreBelowMaxActive way wide old xs) where
@@ -138,6 +107,4 @@ module _ (xs ys rest : List Queueing) (i : ℕ) (x : Queueing) (stands : ys ≡ 
       ∙ sym (ap (λ zs. slice_get zs (i + 1)) whole ∙ get_behind (take i xs ++ x ∷ []) (drop (i + 1) xs) (i + 1) 0 (omega arith))
 
   pub taken_out : (new : List Queueing) → ((k : ℕ) (y : Queueing) → slice_get ys k ≡ Some y → y.item.0 ≡ x.item.0 → new ≡ take k ys ++ drop (k + 1) ys) → new ≡ rest ++ drop (i + 1) xs
-  taken_out new out =
-      out (length rest) x next_behind refl
-      ∙ (ap (λ zs. take (length rest) zs ++ drop (length rest + 1) zs) reached ∙ cut_out rest x (drop (i + 1) xs) (length rest + 1) refl)
+  taken_out new out = grind (arith, next_behind, drop, reached, cut_out)

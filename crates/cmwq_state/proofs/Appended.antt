@@ -21,25 +21,12 @@ effect_serial s past f is = ap (λ (x : Entry). x.serial) is.legal.1
 
 -- the time after a call that has time is within its room
 time_within : (past : List Entry) (c : Call) (time : ℕ) → time ≡ now past → time ≤ most_time → has_time past c ≡ true → time + ticks_told c ≤ most_time
-time_within past (call.Tick t) time is within h = let fits = leb-true (now past + t) most_time h in omega arith
-time_within past c time is within h = omega arith
+time_within past c time is within h = grind arith
 
 -- the effect of an entry for which there is room is that of the next entry
 pub next_effect : (s : Layout) (room : ℕ) (entries : List Entry) (parts : Parts) (f : Effect) → IsState s room entries parts → IsEffect s (past_of entries) f → IsNextEffect s (past_of entries) f
-next_effect s room entries parts f b is =
-    let len : length (past_of entries) ≡ length entries = length-reverse entries in
-    let few = b.few in let within = b.within in
-    record { inside = b.inside; before = b.legal; few = omega arith; effect = is }
+next_effect s room entries parts f b is = grind (arith, length-reverse)
 
 pub appended : (s : Layout) (room : ℕ) (entries : List Entry) (old new : Parts) (f : Effect) → IsState s room entries old → IsEffect s (past_of entries) f → AreParts s (f.entry ∷ past_of entries) new →
     new.time ≡ old.time + ticks_told f.entry.call → new.owing ≡ f.owing → has_time (past_of entries) f.entry.call ≡ true → length entries + 1 + f.owing ≤ room → IsState s room (entries ++ f.entry ∷ []) new
-appended s room entries old new f b is are time owing ticks within =
-    let one_more : length (entries ++ f.entry ∷ []) ≡ length entries + 1 = length-append entries (f.entry ∷ []) in
-    record {
-      inside = b.inside;
-      few = b.few;
-      legal = rw (one_more_is_newest entries f.entry) is.legal;
-      parts_are = rw (one_more_is_newest entries f.entry) are;
-      within = rw (one_more, owing) within;
-      soon = rw time (time_within (past_of entries) f.entry.call old.time b.parts_are.time b.soon ticks);
-    }
+appended s room entries old new f b is are time owing ticks within = grind (arith, length-append, one_more_is_newest, time_within)

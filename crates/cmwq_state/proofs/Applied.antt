@@ -40,13 +40,7 @@ use Rattle.std.proofs.lemmas.List.{get_or_past}
 
 pub pools_applied : (s : Layout) (past : List Entry) (f : Effect) (old mid late new : List PoolState) (activated : List Queueing) → IsEffect s past f → ArePools s past old → EachPool (λ p. pool_after_worker p f.entry.who f.entry.reply) old mid → EachPool (λ p. pool_after_cancel s p f.entry f.ended) mid late →
     activated ≡ newly_active s past f.entry → EachPool (λ p. pool_after_activation (only s.queues) (those_in s.queues p activated)) late new → ArePools s (f.entry ∷ past) new
-pools_applied s past f old mid late new activated is are first second newly third = record {
-  many = third.many ∙ (second.many ∙ (first.many ∙ are.many));
-  each = λ p here. let e = f.entry in
-      third.each p ∙ (ap₂ (λ xs l. pool_after_activation s (filter (is_in s p) xs) l) newly
-      (second.each p ∙ ap₂ (pool_after_cancel s p e) is.ended (first.each p ∙ ap (pool_after_worker p e.who e.reply) (are.each p here)))
-      ∙ sym (pools_refine s past e p is.legal));
-}
+pools_applied s past f old mid late new activated is are first second newly third = grind (arith, pools_refine)
 
 -- what became active is of queues and CPUs that there are, and may be listed
 newly_there : (s : Layout) (past : List Entry) (e : Entry) (x : Queueing) → IsLegal s (e ∷ past) → In x (newly_active s past e) → places.IsQueueingThere s x
@@ -60,12 +54,7 @@ may_be_listed s past f late activated is many newly = rw newly (All-from_recursi
 
 -- none is of a pool that there isn't
 none_there : (s : Layout) (past : List Entry) (f : Effect) (activated : List Queueing) → IsEffect s past f → activated ≡ newly_active s past f.entry → (p : PoolId) → s.cpus ≤ p.cpu.0 → those_in s.queues p activated ≡ []
-none_there s past f activated is newly p most = ap (filter (is_in s p)) newly ∙ filter_none (is_in s p) (newly_active s past f.entry) (all_in (λ x. is_in s p x ≡ false) (newly_active s past f.entry) apart)
-  where
-    apart : (x : Queueing) → In x (newly_active s past f.entry) → is_in s p x ≡ false
-    apart x h =
-        let there = newly_there s past f.entry x is.legal h in let cpu = there.cpu in
-        ap (λ b. b && beq (pool_at s x.place).high p.high) (false_from_ne_true (x.place.cpu.0 == p.cpu.0) (λ same. let is = eqb-true x.place.cpu.0 p.cpu.0 same in absurd (omega arith)))
+none_there s past f activated is newly p most = grind (arith, filter_none, all_in, newly_there, false_from_ne_true)
 
 pub may_list_all : (s : Layout) (past : List Entry) (f : Effect) (old mid late : List PoolState) (activated : List Queueing) → IsEffect s past f → ArePools s past old → EachPool (λ p. pool_after_worker p f.entry.who f.entry.reply) old mid → EachPool (λ p. pool_after_cancel s p f.entry f.ended) mid late →
     activated ≡ newly_active s past f.entry → (p : PoolId) → MayAllBeAdded (only s.queues) (those_in s.queues p activated) (pool_in late p)
@@ -126,18 +115,7 @@ books_applied s past f old mid late end new is are first second third fourth end
 -- ---- timers
 
 applied_by : (e : Entry) (past : List Entry) (rows : TimerRows) (b : Bool) → settles e.reply ≡ b → timers_after_settling (if b then item_of e else None) (booking_of e (length past)) rows ≡ (if b then timers_after_settling (item_of e) (booking_of e (length past)) rows else rows)
-applied_by e past rows true h = refl
-applied_by e past rows false h = ap (λ o. timers_after_settling None o rows) (not_booked e past h)
-  where
-    no_due : (r : Rattle.cmwq_model.specs.declared.reply.Reply.Reply) → settles r ≡ false → due_in r ≡ None
-    no_due r k = which (due_in r) refl
-      where
-        which : (o : Option ℕ) → due_in r ≡ o → due_in r ≡ None
-        which None is = is
-        which (Some d) is = let yes = due_settles r d is in absurd (false≢true (sym k ∙ yes))
-
-    not_booked : (e : Entry) (past : List Entry) → settles e.reply ≡ false → booking_of e (length past) ≡ None
-    not_booked e past k = rw (no_due e.reply k) refl
+applied_by e past rows b h = grind arith
 
 pub timers_applied : (s : Layout) (past : List Entry) (f : Effect) → IsEffect s past f → timers_after_settling (item_number f.settled) f.booked (timers_of s past) ≡ timers_of s (f.entry ∷ past)
 timers_applied s past f is = ap₂ (λ o b. timers_after_settling o b (timers_of s past)) is.settled is.booked ∙ (applied_by f.entry past (timers_of s past) (settles f.entry.reply) refl ∙ sym (timers_refine s past f.entry is.legal))
@@ -177,11 +155,7 @@ pub open_there : (s : Layout) (past : List Entry) (f : Effect) (x : Queueing) �
 open_there s past f x is before h = open_are_there s past x before (in_contained (still_open past) x (found (is_ended past f.entry) (still_open past) x (sym is.ended ∙ h)).0)
 
 pub may_cancel : (s : Layout) (past : List Entry) (f : Effect) (old : List PoolState) → IsEffect s past f → IsLegal s past → length old ≡ 2 * s.cpus → MayCancelInPools f.ended s.queues old
-may_cancel s past f old is before many = by f.ended refl
-  where
-    by : (o : Option Queueing) → f.ended ≡ o → MayCancelInPools o s.queues old
-    by None h = tt
-    by (Some x) h = let there = open_there s past f x is before h in (there.queue, omega (arith, there.cpu))
+may_cancel s past f old is before many = grind (arith, open_there)
 
 pub may_end_books : (s : Layout) (past : List Entry) (f : Effect) (old : FlushState) → IsTrue (is_layout s) → IsEffect s past f → IsLegal s past → AreBooks s past old → MayEndInBooks f.ended old
 may_end_books s past f old inside is before are = by f.ended refl
@@ -232,12 +206,7 @@ may_open_books s past f old mid few inside is are applied ended = by f.opened re
         (record { queue = rw (applied.many, are.many) there.queue; can = rw (book_is q) (mine (eq-eqb q q refl)); latest = latest x.number number; item = item.0; one = item.1 }, omega arith)
 
 set_by : (e : Entry) (past : List Entry) (rows : TimerRows) (b : Bool) → settles e.reply ≡ b → MayBeSet (item_of e) (booking_of e (length past)) rows → MayBeSet (if b then item_of e else None) (booking_of e (length past)) rows
-set_by e past rows true h may = may
-set_by e past rows false h may = which (booking_of e (length past)) refl may
-  where
-    which : (o : Option Booking) → booking_of e (length past) ≡ o → MayBeSet (item_of e) o rows → MayBeSet None o rows
-    which None is m = tt
-    which (Some b) is m = m
+set_by e past rows b h may = grind arith
 
 pub may_set_timers : (s : Layout) (past : List Entry) (f : Effect) → IsEffect s past f → MayBeSet (item_number f.settled) f.booked (timers_of s past)
 may_set_timers s past f is = rw (is.settled, is.booked) (set_by f.entry past (timers_of s past) (settles f.entry.reply) refl (timers_may_be_set s past f.entry is.legal))
@@ -312,21 +281,13 @@ pwqs_ready s past f l is limits before are =
 -- ---- widths
 
 pub may_set_width : (s : Layout) (past : List Entry) (f : Effect) (most : List ℕ) → IsEffect s past f → length most ≡ length s.queues → MaySetWidth f.entry.call most
-may_set_width s past f most is many = by f.entry.call (numbers_fit s past f.entry is.legal)
-  where
-    by : (c : Call) → has_numbers s c ≡ true → MaySetWidth c most
-    by (call.SetMax q n) fit = queue_there s q.0 (and_parts (nat_lt q.0 (length s.queues)) (nat_le 1 n) fit).0 (length most) many
-    by c fit = tt
+may_set_width s past f most is many = grind (arith, numbers_fit, queue_there)
 
 -- ---- the pass, as it is called
 
 pub passed_by : (s : Layout) (past : List Entry) (f : Effect) (l : PwqState) (queues : List QueueShape) (most : List ℕ) (frozen : Bool) (new : PwqState) → queues ≡ s.queues → AreWidths s (f.entry ∷ past) most frozen
     → IsPassed (width_by queues most frozen) (pwqs_after_opening f.opened (pwqs_after_end f.ended l)) new → ArePassed s past f.entry (pwqs_after_opening f.opened (pwqs_after_end f.ended l)) new (width_by s.queues most frozen)
-passed_by s past f l queues most frozen new those are passed = record {
-  passes = λ way have. passed.passes way (rw those have);
-  items = passed.items;
-  widths = widths_are s (f.entry ∷ past) most frozen are;
-}
+passed_by s past f l queues most frozen new those are passed = grind (arith, widths_are)
 
 pub may_pass : (s : Layout) (past : List Entry) (f : Effect) (l : PwqState) (queues : List QueueShape) → IsEffect s past f → Limits s → IsLegal s past → ArePwqsOf s past l → queues ≡ s.queues →
     ArePlaced (length queues) (pwqs_after_opening f.opened (pwqs_after_end f.ended l)).waiting

@@ -34,19 +34,11 @@ first_time = refl
 
 gone_at_first : (s : Layout) → AreGone s [] (replicate (length s.queues) false)
 unfolding is_gone
-gone_at_first s = record {
-  many = length-replicate (length s.queues) false;
-  each = λ q here. get_or-replicate (length s.queues) q false false here;
-}
+gone_at_first s = grind (arith, length-replicate, get_or-replicate)
 
 pwqs_at_first : (s : Layout) → ArePwqsOf s [] (new_pwq_state (length s.queues) s.items)
 unfolding active_count queueings
-pwqs_at_first s = record {
-  items = refl;
-  many = length-replicate (most_cpus * length s.queues) (let n : ℕ = 0 in n);
-  waiting = refl;
-  counts = λ q c here less. get_or-replicate (most_cpus * length s.queues) (place_of q c) 0 0 (place_inside q c (length s.queues) (most_cpus * length s.queues) here less refl);
-}
+pwqs_at_first s = grind (arith, length-replicate, get_or-replicate, place_inside)
 
 pub parts_at_first : (s : Layout) → Limits s → AreParts s [] (first_parts s)
 parts_at_first s limits = record {

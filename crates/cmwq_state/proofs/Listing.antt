@@ -33,11 +33,7 @@ none_listing test (l ∷ pools) h = ap₂ (λ a b. a || b) (h 0 (omega arith)) (
 
 any_more : (p : Task → Bool) (ts us : List Task) → list_any p ts ≡ true → list_any p (ts ++ us) ≡ true
 any_more p [] us h = cc
-any_more p (t ∷ ts) us h = by (p t) h (any_more p ts us)
-  where
-    by : (b : Bool) → (b || list_any p ts) ≡ true → (list_any p ts ≡ true → list_any p (ts ++ us) ≡ true) → (b || list_any p (ts ++ us)) ≡ true
-    by true h f = refl
-    by false h f = f h
+any_more p (t ∷ ts) us h = grind (arith, any_more p ts us)
 
 stays_listed : (s : Layout) (i : ℕ) (xs : List Queueing) (l : PoolState) → lists_item i l ≡ true → lists_item i (pool_after_activation s xs l) ≡ true
 stays_listed s i [] l h = h

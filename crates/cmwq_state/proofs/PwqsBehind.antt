@@ -11,13 +11,7 @@ use Rattle.cmwq_state.proofs.PwqsSteps.{waits_by_number}
 -- where one fails, fewer pass than there are
 fewer_pass : {X : Type 0} (p : X → Bool) (xs : List X) (x : X) → In x xs → p x ≡ false → count_by p xs < length xs
 fewer_pass p [] x here fails = absurd here
-fewer_pass p (y ∷ ys) x here fails = by (p y) refl here (λ i. fewer_pass p ys x i fails)
-  where
-    by : (b : Bool) → p y ≡ b → In x (y ∷ ys) → (In x ys → count_by p ys < length ys) → count_by p (y ∷ ys) < length (y ∷ ys)
-    by true is h later = ⊎_elim
-        (λ e. let bad : true ≡ false = sym is ∙ (ap p e ∙ fails) in cc)
-        (λ i. let less = later i in let more : count_by p (y ∷ ys) ≡ 1 + count_by p ys = count_by-cons p y ys ∙ ap (λ b. cond b 1 0 + count_by p ys) is in omega arith) h
-    by false is h later = let few = count_by-le-length p ys in let more : count_by p (y ∷ ys) ≡ 0 + count_by p ys = count_by-cons p y ys ∙ ap (λ b. cond b 1 0 + count_by p ys) is in omega arith
+fewer_pass p (y ∷ ys) x here fails = grind (arith, count_by-cons, count_by-le-length, fewer_pass p ys x)
 
 -- where more are open than active, the width or more are active
 between : (a n w : ℕ) → max a (min n w) < n → w ≤ max a (min n w)
@@ -40,24 +34,12 @@ pub all_behind : (s : Layout) (past : List Entry) (e : Entry) (l : PwqState) (wi
 all_behind s past e l wide legal few pwqs keeps widths = subst (AreBehind wide l.counts) (sym pwqs.waiting) (all_in (IsBehind wide l.counts) (waiting s past) one)
   where
     one : (x : Queueing) → In x (waiting s past) → IsBehind wide l.counts x
-    one x there =
-        let q = x.place.queue.0 in let c = x.place.cpu.0 in
-        let is = open_there s past x legal (in_filter (waits s past) (still_open past) x there).0 in
-        let cpu : c < most_cpus = let h = is.cpu in omega arith in
-        let same : wide q ≡ width s past q = widths q is.queue ∙ width_same s past e q keeps in
-        let counted : count_of_same_pwq l.counts x ≡ active_count s past q c = pwqs.counts q c is.queue cpu in
-        let behind = waits_behind s past x there in
-        record {
-          cpu = cpu;
-          counted = place_inside q c (length s.queues) (length l.counts) is.queue cpu pwqs.many;
-          behind = omega arith;
-        }
+    one x there = grind (arith, open_there, in_filter, width, width_same, active_count, waits_behind, place_inside)
 
 -- ---- what ends and what is opened
 
 ends_run : (past : List Entry) (who : Who) (i : Option ℕ) (r : Reply) (n : ℕ) → number_finished r ≡ Some n → ended_by past who i r ≡ queueing_run past who
-ends_run past who i (reply.Finished m) n h = refl
-ends_run past who i r n h = cc
+ends_run past who i r n h = grind arith
 
 finished_active : (s : Layout) (past : List Entry) (e : Entry) (n : ℕ) (x : Queueing) → IsLegal s (e ∷ past) → IsLegal s past → number_finished e.reply ≡ Some n → ending past e ≡ Some x → is_active s past x ≡ true
 finished_active s past e n x legal before h is =
@@ -84,5 +66,4 @@ ended_placed s past e None before few is = tt
 ended_placed s past e (Some x) before few is = let there = open_there s past x before (ended_open s past e x is) in let h = there.cpu in (there.queue, omega arith)
 
 pub opened_placed : (s : Layout) (past : List Entry) (e : Entry) (o : Option Queueing) → IsLegal s (e ∷ past) → s.cpus ≤ most_cpus → opening past e ≡ o → IsPlacedIf (length s.queues) o
-opened_placed s past e None legal few is = tt
-opened_placed s past e (Some x) legal few is = let there = opened_are_there s past e x legal is in let h = there.cpu in (there.queue, omega arith)
+opened_placed s past e o legal few is = grind (arith, opened_are_there)

@@ -15,11 +15,7 @@ use Rattle.cmwq_lemmas.proofs.Lists.{filter_all}
 
 any_in : {X : Type 0} (p : X → Bool) (xs : List X) (x : X) → In x xs → p x ≡ true → list_any p xs ≡ true
 any_in p [] x h k = absurd h
-any_in p (y ∷ ys) x h k = ⊎_elim (λ e. ap (λ b. b || list_any p ys) (subst (λ z. p z ≡ true) (sym e) k)) (λ i. or_true (p y) (list_any p ys) (any_in p ys x i k)) h
-  where
-    or_true : (a b : Bool) → b ≡ true → (a || b) ≡ true
-    or_true true b h = refl
-    or_true false b h = h
+any_in p (y ∷ ys) x h k = grind (arith, any_in p ys x)
 
 -- ---- what waits has this number where it is this one
 
@@ -62,10 +58,7 @@ among_waiting P s past h = All_filter P (waits s past) (still_open past) (All_ma
 
 module _ (s : Layout) (past : List Entry) (e : Entry) (legal : IsLegal s (e ∷ past)) (few : s.cpus ≤ most_cpus) where
   stays_none : (q c : ℕ) → ending past e ≡ None → stay_count s past e q c ≡ active_count s past q c
-  stays_none q c is =
-      let counted = stays_counted s past e legal q c in
-      let zero : one (ends_active_on s past e q c) ≡ 0 = ap (λ o. one (option_map_or (λ (x : Queueing). is_on q c x && is_active s past x) o false)) is in
-      omega arith
+  stays_none q c is = grind (arith, stays_counted)
 
   stays_one : (q c : ℕ) (x : Queueing) → ending past e ≡ Some x → stay_count s past e q c + one (is_on q c x && is_active s past x) ≡ active_count s past q c
   stays_one q c x is = ap (λ o. stay_count s past e q c + one (option_map_or (λ (y : Queueing). is_on q c y && is_active s past y) o false)) (sym is) ∙ stays_counted s past e legal q c
@@ -85,8 +78,7 @@ module _ (s : Layout) (past : List Entry) (e : Entry) (legal : IsLegal s (e ∷ 
   }
     where
       none : (b : Bool) → one (b && false) ≡ 0
-      none true = refl
-      none false = refl
+      none b = grind arith
 
   ended_active : (l : PwqState) (x : Queueing) → ArePwqsOf s past l → ending past e ≡ Some x → In x (still_open past) → places.IsQueueingThere s x → AllByRecursion (λ y. survives past e y ≡ not (y.number == x.number)) (still_open past) → waits s past x ≡ false →
       IsMid s past e (record l { counts = slice_set l.counts (place_of x.place.queue.0 x.place.cpu.0) (count_of_same_pwq l.counts x - 1) })

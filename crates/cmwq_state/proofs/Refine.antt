@@ -9,22 +9,10 @@ use Rattle.cmwq_theory_laws.proofs.OneEntry.{same_who-true}
 -- ---- serials
 
 pub who_below : (s : Layout) (a : Who) → IsThere s a → s.workers ≤ most_workers → s.callers ≤ most_callers → who_place a < who_places s.cpus
-who_below s (Caller c) f k m = omega arith
-who_below s (Worker w) f k m = by_high w.pool.high where
-  by_high : (b : Bool) → most_callers + most_workers * (2 * w.pool.cpu.0 + (if b then 1 else 0)) + w.index < who_places s.cpus
-  by_high true = omega (arith, f.0, f.1)
-  by_high false = omega (arith, f.0, f.1)
+who_below s a f k m = grind arith
 
 other_who : (s : Layout) (a b : Who) → IsThere s a → IsThere s b → s.workers ≤ most_workers → s.callers ≤ most_callers → same_who a b ≡ false → who_place b ≢ who_place a
-other_who s (Caller c) (Caller d) f g k m h = grind (arith, common_steps, h)
-other_who s (Caller c) (Worker v) f g k m h = grind (arith, common_steps, f)
-other_who s (Worker w) (Caller d) f g k m h = grind (arith, common_steps, g)
-other_who s (Worker w) (Worker v) f g k m h = by_high w.pool.high refl v.pool.high refl where
-  by_high : (a : Bool) → w.pool.high ≡ a → (b : Bool) → v.pool.high ≡ b → who_place (Worker v) ≢ who_place (Worker w)
-  by_high true ha true hb = grind (arith, common_steps, ha, hb, h, f, g)
-  by_high true ha false hb = grind (arith, common_steps, ha, hb, h, f, g)
-  by_high false ha true hb = grind (arith, common_steps, ha, hb, h, f, g)
-  by_high false ha false hb = grind (arith, common_steps, ha, hb, h, f, g)
+other_who s a b f g k m h = grind arith
 
 pub serials_applied : (s : Layout) (e : Entry) (past : List Entry) (serials : List ℕ) → Limits s → IsThere s e.who → AreSerials s past serials →
     AreSerials s (e ∷ past) (slice_set serials (who_place e.who) (serial_of past e.who + 1))
@@ -41,10 +29,7 @@ serials_applied s e past serials limits fit are = record { many = length-set ser
 -- ---- the pool that stands at its place
 
 pub pool_place_inside : (p : PoolId) (cpus n : ℕ) → n ≡ 2 * cpus → p.cpu.0 < cpus → pool_place p < n
-pool_place_inside p cpus n many here = by_high p.high where
-  by_high : (b : Bool) → 2 * p.cpu.0 + (if b then 1 else 0) < n
-  by_high true = omega arith
-  by_high false = omega arith
+pool_place_inside p cpus n many here = grind arith
 
 pub pool_found : (s : Layout) (past : List Entry) (found : List PoolState) (p : PoolId) (i : ℕ) → ArePools s past found → p.cpu.0 < s.cpus → i ≡ pool_place p → pool_numbered found i ≡ pools.pool_of s past p
 pool_found s past found p i are here at = ap (pool_numbered found) at ∙ are.each p here

@@ -94,14 +94,11 @@ pub(crate) fn new_queue_parts(
     ensures pwqs { IfOk result (λ parts. parts.pwqs ≡ new_pwq_state (length queues.now) items) }
     ensures most { IfOk result (λ parts. parts.most.items ≡ map (λ q. q.max_active) queues.now) }
 {
-    let gone = new_gone(alloc, queues.len())?;
-    let pwqs = Pwqs::new(alloc, queues.len(), items)?;
-    let most = new_most(alloc, queues)?;
     Ok(QueueParts {
+        gone: new_gone(alloc, queues.len())?,
+        most: new_most(alloc, queues)?,
         queues: queues.to_vec(alloc)?,
-        gone,
-        pwqs,
-        most,
+        pwqs: Pwqs::new(alloc, queues.len(), items)?,
     })
 }
 

@@ -117,24 +117,4 @@ call_is_plain (call.Destroy q) h = phrase_is_plain word.Destroy (q.0 ∷ []) (om
 
 pub call_is_short : (c : Call) → (IsCall greatest_number) c → size (call_words c) ≤ 32
 unfolding call_words keyword_text
-call_is_short (call.Queue i q c) h = omega (arith, short_len i.0 h.0, byte_len q.0 h.1, byte_len c.0 h.2)
-call_is_short (call.Delay i q c n) h = omega (arith, short_len i.0 h.0.0, byte_len q.0 h.0.1, byte_len c.0 h.0.2, number_len n h.1)
-call_is_short (call.Modify i q c n) h = omega (arith, short_len i.0 h.0.0, byte_len q.0 h.0.1, byte_len c.0 h.0.2, number_len n h.1)
-call_is_short (call.Cancel i) h = omega (arith, short_len i.0 h)
-call_is_short (call.Tick n) h = omega (arith, number_len n h)
-call_is_short call.Fire h = omega arith
-call_is_short (call.Flush q) h = omega (arith, byte_len q.0 h)
-call_is_short (call.Drain q) h = omega (arith, byte_len q.0 h)
-call_is_short (call.FlushItem i) h = omega (arith, short_len i.0 h)
-call_is_short (call.FlushDelayed i) h = omega (arith, short_len i.0 h)
-call_is_short (call.CancelSync i) h = omega (arith, short_len i.0 h)
-call_is_short (call.End n) h = omega (arith, wide_len n h)
-call_is_short call.Take h = omega arith
-call_is_short call.Finish h = omega arith
-call_is_short call.Sleep h = omega arith
-call_is_short call.Wake h = omega arith
-call_is_short call.Retire h = omega arith
-call_is_short (call.SetMax q n) h = omega (arith, byte_len q.0 h.0, number_len n h.1)
-call_is_short call.Freeze h = omega arith
-call_is_short call.Thaw h = omega arith
-call_is_short (call.Destroy q) h = omega (arith, byte_len q.0 h)
+call_is_short c h = grind (arith, short_len, byte_len, number_len, wide_len)

@@ -1,19 +1,15 @@
 -- The last line of a history: what is spelled is read again, what is read is spelled so, and no other line is one.
-use Rattle.cmwq_text.specs.Common.{◌≡◌, ℕ, ◌≤◌, true, List, [], ◌∷◌, ◌++◌, length, Option, Some, None, cond, refl, ap, ◌∙◌, arith, codes, decimal, same_Some, Who, Caller, Worker, Entry, IsEntry}
+use Rattle.cmwq_text.specs.Common.{◌≡◌, ℕ, ◌≤◌, true, List, [], ◌∷◌, length, Option, Some, None, cond, refl, ap, ◌∙◌, arith, codes, decimal, same_Some, Entry, IsEntry}
 use Rattle.cmwq_text.specs.Numbers.{greatest_number}
 use Rattle.cmwq_text.specs.Words.{◌>>=◌, words_of, join_words, has_no_word, after, wide_in}
-use Rattle.cmwq_text.specs.IdText.{who_text}
-use Rattle.cmwq_text.specs.CallText.{call_words}
-use Rattle.cmwq_text.specs.ReplyText.{reply_words}
 use Rattle.cmwq_text.specs.EntryText.{entry_words}
 use Rattle.cmwq_text.specs.EndText.{end_words, end_text, end_of}
 use Rattle.cmwq_text.specs.Laws.{EndsReadAgain, EndsSpelledSo}
 use Rattle.cmwq_text.proofs.Steps.{bind_some, chosen}
-use Rattle.cmwq_text.proofs.WordLaws.{are_plain, after_takes, words_again}
+use Rattle.cmwq_text.proofs.WordLaws.{are_plain, after_takes}
 use Rattle.cmwq_text.proofs.IdLaws.{wide_in_again, wide_in_takes}
 use Rattle.cmwq_text.proofs.PhraseLaws.{numbers_are_plain, line_len, wide_len}
 use Rattle.cmwq_text.proofs.LineLaws.{line_words, line_is, no_more}
-use Rattle.cmwq_text.proofs.EntryLaws.{entry_is_plain}
 
 abbrev end_tested : ℕ × List (List ℕ) → Option ℕ
 end_tested n = cond (has_no_word n.1) (Some n.0) None
@@ -51,13 +47,7 @@ ends_spelled_so n line is =
 
 -- ---- entries
 
-who_ends_none : (who : Who) (ws : List (List ℕ)) → end_from (who_text who ∷ ws) ≡ None
-who_ends_none (Caller c) ws = refl
-who_ends_none (Worker w) ws = refl
-
 -- a line of an entry is no last line
 pub entry_ends_none : (e : Entry) → (IsEntry greatest_number) e → end_of (join_words (entry_words e)) ≡ None
 unfolding end_of
-entry_ends_none e h =
-    let rest : List (List ℕ) = decimal e.serial ∷ (call_words e.call ++ codes "=" ∷ reply_words e.reply) in
-    ap end_from (words_again (who_text e.who) rest (entry_is_plain e h)) ∙ who_ends_none e.who rest
+entry_ends_none e h = grind arith

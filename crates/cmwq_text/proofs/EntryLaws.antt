@@ -75,12 +75,7 @@ abbrev pub entry_from : List (List ℕ) → Option Entry
 entry_from ws = who_in ws >>= entry_after_who
 
 pub entry_is_plain : (e : Entry) → (IsEntry greatest_number) e → are_plain (entry_words e) ≡ true
-entry_is_plain e h =
-    let answer : List (List ℕ) = (61 ∷ []) ∷ reply_words e.reply in
-    let behind : List (List ℕ) = call_words e.call ++ answer in
-    and_from (is_plain (who_text e.who)) (are_plain (decimal e.serial ∷ behind)) (is_plain-who e.who h.who)
-    (and_from (is_plain (decimal e.serial)) (are_plain behind) (is_plain-decimal e.serial (omega (arith, h.serial)))
-    (are_plain-append (call_words e.call) answer (call_is_plain e.call h.call) (reply_is_plain e.reply h.reply)))
+entry_is_plain e h = grind (arith, and_from, is_plain-who, is_plain-decimal, are_plain-append, call_is_plain, reply_is_plain)
 
 pub entries_read_again : EntriesReadAgain
 unfolding entry_text entry_of
@@ -91,9 +86,7 @@ entries_read_again e line h kind is =
 
 -- the parts of an entry's words, one behind the other
 entry_pieces : (ws a b c d rest : List (List ℕ)) (e : Entry) → ws ≡ who_text e.who ∷ a → a ≡ decimal e.serial ∷ b → b ≡ call_words e.call ++ c → c ≡ (61 ∷ []) ∷ d → d ≡ reply_words e.reply ++ rest → rest ≡ [] → ws ≡ entry_words e
-entry_pieces ws a b c d rest e who serial call equals reply ended =
-    let last : d ≡ reply_words e.reply = reply ∙ ap (λ (t : List (List ℕ)). reply_words e.reply ++ t) ended ∙ append-nil (reply_words e.reply) in
-    rw (who, serial, call, equals, last) refl
+entry_pieces ws a b c d rest e who serial call equals reply ended = grind (arith, append-nil)
 
 pub entries_spelled_so : EntriesSpelledSo
 unfolding entry_text entry_of

@@ -1,10 +1,10 @@
 -- Ids that are spelled are read again, and what is read as an id is spelled so, unless it is the greatest of its type.
-use Rattle.cmwq_text.specs.Common.{◌≡◌, ℕ, suc, ◌+◌, ◌<◌, ◌≤◌, ◌^◌, Bool, true, false, ◌||◌, List, [], ◌∷◌, ◌++◌, length, get_or, take, drop, eqb, Option, Some, None, refl, ap, sym, ◌∙◌, arith, cond, subst, add-one, append_assoc, ◌⊎◌, inl, inr, position, decimal, position_or_len, eqb-true, lt-ltb, ne_eqb, same_Some, length-append, get_or_append_left, take_at, drop_at, position_or_len_is, digits_decimal, not_in_digits, ItemId, QueueId, CpuId, Who, Caller, Worker, greatest, greatest_long, greatest_byte, greatest_short, IsWho}
+use Rattle.cmwq_text.specs.Common.{◌≡◌, ℕ, suc, ◌+◌, ◌<◌, ◌≤◌, ◌^◌, Bool, true, false, List, [], ◌∷◌, ◌++◌, length, get_or, take, drop, eqb, Option, Some, None, refl, ap, sym, ◌∙◌, arith, cond, subst, add-one, append_assoc, ◌⊎◌, position, decimal, position_or_len, lt-ltb, ne_eqb, same_Some, length-append, get_or_append_left, take_at, drop_at, position_or_len_is, digits_decimal, not_in_digits, ItemId, QueueId, CpuId, Who, Caller, Worker, greatest, greatest_long, greatest_byte, greatest_short, IsWho}
 use Rattle.std.proofs.Math.Seq.{split_at, get_or-append_seam}
 use Rattle.std.proofs.lemmas.List.Quantifiers.{position-Some}
-use Rattle.cmwq_text.specs.Numbers.{number_read, byte_of, short_of, greatest_number}
+use Rattle.cmwq_text.specs.Numbers.{number_read, byte_of, greatest_number}
 use Rattle.cmwq_text.specs.Words.{◌>>=◌, take_one, byte_in, byte_count_in, short_count_in, short_in, number_in, wide_in, long_in}
-use Rattle.cmwq_text.specs.IdText.{item, queue_numbered, cpu, caller_numbered, worker_numbered, item_in, queue_in, cpu_in, pool_letter, is_pool_letter, who_text, caller_read, worker_read, who_read, who_in}
+use Rattle.cmwq_text.specs.IdText.{item, queue_numbered, cpu, worker_numbered, item_in, queue_in, cpu_in, pool_letter, is_pool_letter, who_text, caller_read, worker_read, who_read, who_in}
 use Rattle.cmwq_text.proofs.Steps.{bind_some}
 use Rattle.cmwq_text.proofs.NumberLaws.{own, number_again, number_takes, byte_again, byte_takes, short_again, short_takes}
 use Rattle.cmwq_text.proofs.WordLaws.{word_takes, is_plain, is_plain-append, is_plain-decimal}
@@ -39,45 +39,29 @@ pub short_count_again : (n : ℕ) (ws : List (List ℕ)) → n ≤ greatest_shor
 short_count_again n ws le = rw (number_again greatest_short n le (omega arith)) refl
 
 pub byte_count_takes : (ws : List (List ℕ)) (x : ℕ × List (List ℕ)) → byte_count_in ws ≡ Some x → ws ≡ decimal x.0 ∷ x.1
-byte_count_takes ws x e =
-    let read = word_takes (number_read greatest_byte) ws x e in
-    read.1 ∙ ap (λ (w : List ℕ). w ∷ x.1) (number_takes greatest_byte x.0 read.0 (omega arith) read.2).0
+byte_count_takes ws x e = grind (arith, word_takes, number_read, number_takes)
 
 pub short_count_takes : (ws : List (List ℕ)) (x : ℕ × List (List ℕ)) → short_count_in ws ≡ Some x → ws ≡ decimal x.0 ∷ x.1
-short_count_takes ws x e =
-    let read = word_takes (number_read greatest_short) ws x e in
-    read.1 ∙ ap (λ (w : List ℕ). w ∷ x.1) (number_takes greatest_short x.0 read.0 (omega arith) read.2).0
+short_count_takes ws x e = grind (arith, word_takes, number_read, number_takes)
 
 pub number_in_takes : (ws : List (List ℕ)) (x : ℕ × List (List ℕ)) → number_in ws ≡ Some x → ws ≡ decimal x.0 ∷ x.1
-number_in_takes ws x e =
-    let read = word_takes (number_read greatest) ws x e in
-    read.1 ∙ ap (λ (w : List ℕ). w ∷ x.1) (number_takes greatest x.0 read.0 (omega arith) read.2).0
+number_in_takes ws x e = grind (arith, word_takes, number_read, number_takes)
 
 pub wide_in_takes : (ws : List (List ℕ)) (x : ℕ × List (List ℕ)) → wide_in ws ≡ Some x → ws ≡ decimal x.0 ∷ x.1
-wide_in_takes ws x e =
-    let read = word_takes (number_read greatest_number) ws x e in
-    read.1 ∙ ap (λ (w : List ℕ). w ∷ x.1) (number_takes greatest_number x.0 read.0 (omega arith) read.2).0
+wide_in_takes ws x e = grind (arith, word_takes, number_read, number_takes)
 
 pub long_in_takes : (ws : List (List ℕ)) (x : ℕ × List (List ℕ)) → long_in ws ≡ Some x → ws ≡ decimal x.0 ∷ x.1
-long_in_takes ws x e =
-    let read = word_takes (number_read greatest_long) ws x e in
-    read.1 ∙ ap (λ (w : List ℕ). w ∷ x.1) (number_takes greatest_long x.0 read.0 (omega arith) read.2).0
+long_in_takes ws x e = grind (arith, word_takes, number_read, number_takes)
 
 pub byte_in_takes : (ws : List (List ℕ)) (x : ℕ × List (List ℕ)) → byte_in ws ≡ Some x → x.0 < greatest_byte → ws ≡ decimal x.0 ∷ x.1
-byte_in_takes ws x e lt =
-    let read = word_takes byte_of ws x e in
-    read.1 ∙ ap (λ (w : List ℕ). w ∷ x.1) (byte_takes x.0 read.0 read.2 lt)
+byte_in_takes ws x e lt = grind (arith, word_takes, byte_takes)
 
 pub short_in_takes : (ws : List (List ℕ)) (x : ℕ × List (List ℕ)) → short_in ws ≡ Some x → x.0 < greatest_short → ws ≡ decimal x.0 ∷ x.1
-short_in_takes ws x e lt =
-    let read = word_takes short_of ws x e in
-    read.1 ∙ ap (λ (w : List ℕ). w ∷ x.1) (short_takes x.0 read.0 read.2 lt)
+short_in_takes ws x e lt = grind (arith, word_takes, short_takes)
 
 -- an id is the number of its word
 made : {A : Type 0} (read : List (List ℕ) → Option (ℕ × List (List ℕ))) (make : ℕ → A) (ws : List (List ℕ)) (x : A × List (List ℕ)) → take_one read make ws ≡ Some x → (n : ℕ × List (List ℕ)) × (read ws ≡ Some n) × ((make n.0, n.1) ≡ x)
-made {A} read make ws x e =
-    let n = bind_some (read ws) (λ (n : ℕ × List (List ℕ)). Some (make n.0, n.1)) x e in
-    (n.0, n.1, same_Some _ _ n.2)
+made {A} read make ws x e = grind arith
 
 pub item_takes : (ws : List (List ℕ)) (x : ItemId × List (List ℕ)) → item_in ws ≡ Some x → x.0.0 < greatest_short → ws ≡ decimal x.0.0 ∷ x.1
 item_takes ws x e =
@@ -97,24 +81,16 @@ cpu_takes ws x e =
 -- ---- callers and workers
 
 letter_is : (high : Bool) → is_pool_letter (pool_letter high) ≡ true
-letter_is true = refl
-letter_is false = refl
+letter_is high = grind arith
 
 letter_says : (high : Bool) → eqb (pool_letter high) 104 ≡ high
-letter_says true = refl
-letter_says false = refl
+letter_says high = grind arith
 
 letter_back : (b : ℕ) → is_pool_letter b ≡ true → b ≡ pool_letter (eqb b 104)
-letter_back b e = back (eqb b 110) (eqb b 104) (eqb-true b 110) (eqb-true b 104) e
-  where
-    back : (n h : Bool) → (n ≡ true → b ≡ 110) → (h ≡ true → b ≡ 104) → (n || h) ≡ true → b ≡ pool_letter h
-    back n true p q e = q refl
-    back true false p q e = p refl
-    back false false p q e = absurd cc
+letter_back b e = grind arith
 
 letter_is_plain : (high : Bool) → is_plain (pool_letter high ∷ []) ≡ true
-letter_is_plain true = refl
-letter_is_plain false = refl
+letter_is_plain high = grind arith
 
 -- no digit is the letter of a pool
 digit_is_none : (n i d : ℕ) → n < 2 ^ 64 → i < length (decimal n) → is_pool_letter (get_or (decimal n) i 0) ≡ false
@@ -160,8 +136,7 @@ worker_again c x high small_c small_x =
 
 pub who_again : (who : Who) → IsWho who → who_read (who_text who) ≡ Some who
 unfolding who_read
-who_again (Caller c) h = rw (byte_again c.0 h) refl
-who_again (Worker w) h = worker_again w.pool.cpu.0 w.index w.pool.high h.0 h.1
+who_again who h = grind (arith, byte_again, worker_again)
 
 -- ids that aren't the greatest of their types
 abbrev pub IsKnownWho : Who → Type 0
@@ -184,33 +159,18 @@ worker_is name who e =
     pieces name a b c x letter cut first second is = cut ∙ rw (first, second) (ap (λ (k : ℕ). c ++ k ∷ x) (letter_back letter is))
 
 caller_is : (name : List ℕ) (who : Who) → caller_read name ≡ Some who → IsKnownWho who → 99 ∷ name ≡ who_text who
-caller_is name who e =
-    let n = bind_some (byte_of name) (λ (n : ℕ). Some (caller_numbered n)) who e in
-    subst (λ (w : Who). IsKnownWho w → 99 ∷ name ≡ who_text w) (same_Some _ _ n.2)
-    (λ (known : n.0 < greatest_byte). ap (λ (t : List ℕ). 99 ∷ t) (byte_takes n.0 name n.1 known))
+caller_is name who e = grind (arith, bind_some, byte_takes)
 
 -- which of the two a name is
 pub first_says : (c w : Bool) (a b : Option Who) (who : Who) → cond c a (cond w b None) ≡ Some who → ((c ≡ true) × (a ≡ Some who)) ⊎ ((w ≡ true) × (b ≡ Some who))
-first_says true w a b who e = inl (refl, e)
-first_says false true a b who e = inr (refl, e)
-first_says false false a b who e = absurd cc
+first_says c w a b who e = grind arith
 
 pub who_is : (w : List ℕ) (who : Who) → who_read w ≡ Some who → IsKnownWho who → w ≡ who_text who
 unfolding who_read
-who_is [] who e known = absurd cc
-who_is (first ∷ name) who e known =
-    elim (first_says (eqb first 99) (eqb first 119) (caller_read name) (worker_read name) who e) [
-      | inl c ↦ rw (eqb-true first 99 c.0) (caller_is name who c.1 known)
-      | inr w ↦ rw (eqb-true first 119 w.0) (worker_is name who w.1 known)
-    ]
+who_is w who e known = grind (arith, first_says, caller_is, worker_is)
 
 pub who_takes : (ws : List (List ℕ)) (x : Who × List (List ℕ)) → who_in ws ≡ Some x → IsKnownWho x.0 → ws ≡ who_text x.0 ∷ x.1
-who_takes ws x e known =
-    let read = word_takes who_read ws x e in
-    read.1 ∙ ap (λ (w : List ℕ). w ∷ x.1) (who_is read.0 x.0 read.2 known)
+who_takes ws x e known = grind (arith, word_takes, who_is)
 
 pub is_plain-who : (who : Who) → IsWho who → is_plain (who_text who) ≡ true
-is_plain-who (Caller c) h = is_plain-decimal c.0 (omega arith)
-is_plain-who (Worker w) h =
-    is_plain-append (decimal w.pool.cpu.0) (pool_letter w.pool.high ∷ decimal w.index) (is_plain-decimal w.pool.cpu.0 (omega (arith, h.0)))
-    (is_plain-append (pool_letter w.pool.high ∷ []) (decimal w.index) (letter_is_plain w.pool.high) (is_plain-decimal w.index (omega (arith, h.1))))
+is_plain-who who h = grind (arith, is_plain-decimal, is_plain-append, letter_is_plain)

@@ -1,11 +1,11 @@
 -- Digits that are read up to a space or the end, and the words that are left.
-use Rattle.cmwq_text.specs.Common.{◌≡◌, ℕ, Bool, ◌-◌, ◌<◌, ◌≤◌, true, false, List, [], ◌∷◌, length, take, drop, get_or, Some, None, refl, sym, arith, ne_eqb, onto_first, same_Some, is_ascii_digit, subst, ◌+◌, ◌*◌, ◌++◌, ◌∙◌, ap, append_assoc, append-nil, all_ascii_digits, nat_le, if◌then◌else◌}
+use Rattle.cmwq_text.specs.Common.{◌≡◌, ℕ, ◌-◌, ◌<◌, ◌≤◌, true, false, List, [], ◌∷◌, length, take, drop, get_or, Some, None, refl, sym, arith, ne_eqb, onto_first, is_ascii_digit, subst, ◌+◌, ◌*◌, ◌++◌, ◌∙◌, ap, append_assoc, append-nil, all_ascii_digits, nat_le, if◌then◌else◌}
 use Rattle.std.specs.Option.{option_map}
-use Rattle.std.proofs.lemmas.Bool.{and_parts, eq-eqb}
+use Rattle.std.proofs.lemmas.Bool.{eq-eqb}
 use Rattle.cmwq_lemmas.proofs.Truth.{and_false}
 use Rattle.std.proofs.lemmas.List.{take_all}
 use Rattle.cmwq_text.specs.Numbers.{IsLeading, value_from, digits_from, number_read, is_begun}
-use Rattle.cmwq_text.specs.Words.{◌>>=◌, words_of, first_word, first_letter, has_no_word, word_read}
+use Rattle.cmwq_text.specs.Words.{words_of, first_word, first_letter, has_no_word, word_read}
 use Rattle.cmwq_text.proofs.Splits.{split_has_first}
 
 digit_no_space : (x : ℕ) → is_ascii_digit x ≡ true → x ≡ 32 → ⊥
@@ -21,17 +21,14 @@ behind_first_is x rest = take_all (length (x ∷ rest) - 1) rest (omega arith)
 -- the number that the first word spells
 pub not_begun : (limit : ℕ) (words : List (List ℕ)) → Some false ≡ option_map (λ word. is_begun word.0) (first_word words) → None ≡ word_read (number_read limit) words
 unfolding number_read
-not_begun limit [] is = refl
-not_begun limit (word ∷ words) is = let no : is_begun word ≡ false = sym (same_Some false (is_begun word) is) in rw no refl
+not_begun limit words is = grind arith
 
 pub begun : (limit : ℕ) (words : List (List ℕ)) → Some true ≡ option_map (λ word. is_begun word.0) (first_word words) → word_read (number_read limit) words ≡ word_read (digits_from limit 0) words
 unfolding number_read
-begun limit [] is = refl
-begun limit (word ∷ words) is = let yes : is_begun word ≡ true = sym (same_Some true (is_begun word) is) in rw yes refl
+begun limit words is = grind arith
 
 with_letter : (x : ℕ) (words : List (List ℕ)) → has_no_word words ≡ false → first_letter (onto_first x words) ≡ Some (x, words)
-with_letter x [] some = absurd cc
-with_letter x (word ∷ words) some = refl
+with_letter x words some = grind arith
 
 -- the first letter is taken off, or there is none
 pub letter_taken : (line : List ℕ) → 1 ≤ length line → (get_or line 0 0 ≡ 32 → ⊥) → first_letter (words_of line) ≡ Some (get_or line 0 0, words_of (behind_first line))
@@ -42,9 +39,7 @@ letter_taken (x ∷ rest) some other = rw (behind_first_is x rest, ne_eqb x 32 o
 
 all_pushed : (ds : List ℕ) (d : ℕ) → all_ascii_digits ds ≡ true → is_ascii_digit d ≡ true → all_ascii_digits (ds ++ d ∷ []) ≡ true
 all_pushed [] d all digit = rw digit refl
-all_pushed (e ∷ ds) d all digit =
-    let parts = and_parts (is_ascii_digit e) (all_ascii_digits ds) all in
-    rw (parts.0, all_pushed ds d parts.1 digit) refl
+all_pushed (e ∷ ds) d all digit = grind (arith, all_pushed ds d)
 
 value_pushed : (n : ℕ) (ds : List ℕ) (d : ℕ) → value_from n (ds ++ d ∷ []) ≡ value_from n ds * 10 + (d - 48)
 value_pushed n [] d = refl
@@ -65,29 +60,20 @@ onto_word ds [] = []
 onto_word ds (word ∷ words) = (ds ++ word) ∷ words
 
 onto_nothing : (words : List (List ℕ)) → words ≡ onto_word [] words
-onto_nothing [] = refl
-onto_nothing (word ∷ words) = refl
+onto_nothing words = grind arith
 
 onto_one_more : (d : ℕ) (ds : List ℕ) (words : List (List ℕ)) → has_no_word words ≡ false → onto_first d (onto_word ds words) ≡ onto_word (d ∷ ds) words
-onto_one_more d ds [] some = absurd cc
-onto_one_more d ds (word ∷ words) some = refl
+onto_one_more d ds words some = grind arith
 
 -- digits stand before the rest of the first word
 split_digits : (ds rest : List ℕ) → all_ascii_digits ds ≡ true → words_of (ds ++ rest) ≡ onto_word ds (words_of rest)
 split_digits [] rest all = onto_nothing (words_of rest)
-split_digits (d ∷ ds) rest all =
-    let parts = and_parts (is_ascii_digit d) (all_ascii_digits ds) all in
-    rw (ne_eqb d 32 (digit_no_space d parts.0)) (ap (onto_first d) (split_digits ds rest parts.1) ∙ onto_one_more d ds (words_of rest) (split_has_first rest))
+split_digits (d ∷ ds) rest all = grind (arith, digit_no_space, onto_one_more, split_has_first, split_digits ds rest)
 
 module _ (limit n : ℕ) (bytes behind : List ℕ) (leads : IsLeading bytes n behind) where
   read_digits : (words : List (List ℕ)) → words_of behind ≡ [] ∷ words → word_read (digits_from limit 0) (words_of bytes) ≡ (if nat_le n limit then Some (n, words) else None)
   unfolding digits_from
-  read_digits words is =
-      rw (leads.whole, split_digits leads.digits behind leads.all, is, append-nil leads.digits, leads.all, leads.value) (by_limit (nat_le n limit))
-    where
-      by_limit : (b : Bool) → ◌>>=◌ {B = ℕ × List (List ℕ)} (if b then Some n else None) (λ (m : ℕ). Some (m, words)) ≡ (if b then Some (n, words) else None)
-      by_limit true = refl
-      by_limit false = refl
+  read_digits words is = grind (arith, split_digits, append-nil)
 
   pub ends_at_end : length behind < 1 → word_read (digits_from limit 0) (words_of bytes) ≡ (if nat_le n limit then Some (n, []) else None)
   ends_at_end none = by_end behind none refl

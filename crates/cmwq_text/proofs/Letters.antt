@@ -6,7 +6,6 @@ use Rattle.std.proofs.lemmas.Bool.{eq-eqb}
 use Rattle.std.proofs.lemmas.List.{take_rest}
 use Rattle.cmwq_lemmas.proofs.Lists.{found_passes}
 use Rattle.cmwq_text.specs.declared.keyword.Keyword.{Keyword}
-use Rattle.cmwq_text.specs.declared.keyword.Keyword.TheVariants as word
 use Rattle.cmwq_text.specs.declared.keyword.TheConstants.{KEYWORDS}
 use Rattle.cmwq_text.specs.Keywords.{keyword_text, is_keyword_text, keyword_of}
 
@@ -22,9 +21,7 @@ begins_with letter k = nat_eq (get_or (keyword_text k) 0 0) letter
 
 module _ {A : Type 0} (p q : A → Bool) (kept : (x : A) → p x ≡ true → q x ≡ true) where
   kept_or_not : (x : A) (a b : Bool) → p x ≡ a → q x ≡ b → (xs : List A) → find p (filter q xs) ≡ find p xs → find p (cond b (x ∷ filter q xs) (filter q xs)) ≡ cond a (Some x) (find p xs)
-  kept_or_not x a true is was xs so = rw (is, so) refl
-  kept_or_not x false false is was xs so = so
-  kept_or_not x true false is was xs so = let bad : false ≡ true = sym was ∙ kept x is in absurd cc
+  kept_or_not x a b is was xs so = grind arith
 
   pub find_filter : (xs : List A) → find p (filter q xs) ≡ find p xs
   find_filter [] = refl
@@ -36,8 +33,7 @@ is_letter x = list_any (nat_eq x) (97 ∷ 98 ∷ 99 ∷ 100 ∷ 101 ∷ 102 ∷ 
 
 letter_of : (k : Keyword) → is_letter (get_or (keyword_text k) 0 0) ≡ true
 unfolding keyword_text
-letter_of word.Queue = refl
-letter_of k = refl
+letter_of k = grind arith
 
 -- a keyword whose text is the word begins as the word does
 same_letter : (x : ℕ) (rest : List ℕ) (k : Keyword) → is_keyword_text (x ∷ rest) k ≡ true → get_or (keyword_text k) 0 0 ≡ x
@@ -45,8 +41,7 @@ same_letter x rest k is = ap (λ (w : List ℕ). get_or w 0 0) ((bytes_eq-Decide
 
 pub no_word : (w : List ℕ) → None ≡ slice_get w 0 → None ≡ keyword_of w
 unfolding keyword_of keyword_text
-no_word [] h = refl
-no_word (x ∷ rest) h = absurd cc
+no_word w h = grind arith
 
 pub with_letter : (w : List ℕ) (letter x : ℕ) → Some x ≡ slice_get w 0 → x ≡ letter → find (is_keyword_text w) (filter (begins_with letter) KEYWORDS) ≡ keyword_of w
 unfolding keyword_of

@@ -2,7 +2,7 @@
 use Rattle.cmwq_text.specs.Common.{◌≡◌, ℕ, ◌+◌, ◌<◌, ◌≤◌, ◌^◌, true, List, [], ◌∷◌, ◌++◌, length, map, refl, arith, decimal, AllByRecursion, length-append, length-decimal-le, greatest, greatest_long, greatest_byte, greatest_short}
 use Rattle.cmwq_text.specs.declared.keyword.Keyword.{Keyword}
 use Rattle.cmwq_text.specs.Numbers.{greatest_number}
-use Rattle.cmwq_text.specs.Words.{join_words, line_text}
+use Rattle.cmwq_text.specs.Words.{line_text}
 use Rattle.cmwq_text.specs.Keywords.{keyword_text}
 use Rattle.cmwq_text.specs.CallText.{phrase}
 use Rattle.cmwq_text.proofs.WordLaws.{is_plain, are_plain, is_plain-decimal}
@@ -44,6 +44,4 @@ size-append (w ∷ ws) b = omega (arith, size-append ws b)
 
 pub line_len : (w : List ℕ) (ws : List (List ℕ)) → length (line_text (w ∷ ws)) ≡ size (w ∷ ws)
 line_len w [] = omega (arith, length-append w (10 ∷ []))
-line_len w (v ∷ ws) =
-    let rest : length (join_words (v ∷ ws) ++ 10 ∷ []) ≡ size (v ∷ ws) = line_len v ws in
-    omega (arith, rest, length-append (join_words (v ∷ ws)) (10 ∷ []), length-append (w ++ 32 ∷ join_words (v ∷ ws)) (10 ∷ []), length-append w (32 ∷ join_words (v ∷ ws)))
+line_len w (v ∷ ws) = grind (arith, length-append, line_len v ws)

@@ -1,6 +1,6 @@
 -- What is read of a line is inside the ranges of its types: a number above its limit is refused, and an id above its type's greatest number is
 -- read as that number.
-use Rattle.cmwq_text.specs.Common.{◌≡◌, ℕ, zero, suc, ◌≤◌, ◌+◌, Bool, true, false, nat_le, refl, ◌&&◌, ◌||◌, List, [], ◌∷◌, eqb, get_or, take, drop, Option, Some, None, arith, subst, cond, ◌∙◌, inl, inr, min, if◌then◌else◌, codes, position, leb-true, le-leb, same_Some, ItemId, QueueId, CpuId, Who, Call, Reply, Entry, greatest, greatest_long, greatest_byte, greatest_short, IsWho, IsCall, IsReply, IsEntry}
+use Rattle.cmwq_text.specs.Common.{◌≡◌, ℕ, ◌≤◌, Bool, true, nat_le, ◌&&◌, ◌||◌, List, Option, Some, None, arith, subst, cond, ◌∙◌, if◌then◌else◌, le-leb, same_Some, ItemId, QueueId, CpuId, Who, Call, Reply, Entry, greatest, greatest_long, greatest_byte, greatest_short, IsWho, IsCall, IsReply, IsEntry}
 use Rattle.std.specs.Cmp.Derive.{both_true}
 use Rattle.cmwq_model.specs.declared.call.Call.TheVariants as call
 use Rattle.cmwq_model.specs.declared.reply.Reply.TheVariants as reply
@@ -8,9 +8,8 @@ use Rattle.cmwq_text.specs.Numbers.{greatest_number}
 use Rattle.cmwq_text.specs.declared.keyword.Keyword.{Keyword}
 use Rattle.cmwq_text.specs.declared.keyword.Keyword.TheVariants as word
 use Rattle.cmwq_text.specs.Numbers.{number_read, held_at_most, byte_of, short_of}
-use Rattle.cmwq_text.specs.Words.{◌>>=◌, words_of, has_no_word, after, byte_in, short_in, number_in, wide_in, long_in, take_none, take_one, take_two, take_three, take_four}
-use Rattle.cmwq_text.specs.Keywords.{keyword_in}
-use Rattle.cmwq_text.specs.IdText.{item, queue_numbered, cpu, caller_numbered, worker_numbered, item_in, queue_in, cpu_in, is_pool_letter, caller_read, worker_read, who_read, who_in}
+use Rattle.cmwq_text.specs.Words.{has_no_word, byte_in, short_in, number_in, wide_in, long_in, take_none, take_one, take_two, take_three, take_four}
+use Rattle.cmwq_text.specs.IdText.{item, queue_numbered, cpu, item_in, queue_in, cpu_in, caller_read, worker_read, who_read, who_in}
 use Rattle.cmwq_text.specs.CallText.{call_read_after, call_in, may_say, call_read}
 use Rattle.cmwq_text.specs.ReplyText.{ticket_with, ticket_after, started_with, started_after, reply_after, reply_in}
 use Rattle.cmwq_text.specs.EntryText.{entry_of}
@@ -18,15 +17,12 @@ use Rattle.cmwq_text.specs.Formats.{is_short, is_short_call, is_short_reply, is_
 use Rattle.cmwq_text.proofs.Steps.{bind_some, chosen}
 use Rattle.cmwq_text.proofs.NumberLaws.{number_takes}
 use Rattle.cmwq_text.proofs.WordLaws.{word_takes}
-use Rattle.cmwq_text.proofs.IdLaws.{read_at, first_says}
-use Rattle.cmwq_text.proofs.EntryLaws.{entry_at_end, entry_after_equals, entry_after_call, entry_after_serial, entry_after_who}
-use Rattle.std.proofs.lemmas.Bool.{and_parts}
+use Rattle.cmwq_text.proofs.IdLaws.{first_says}
 
 -- ---- numbers and ids
 
 held_inside : (most n : ℕ) (o : Option ℕ) → held_at_most most o ≡ Some n → n ≤ most
-held_inside most n None e = absurd cc
-held_inside most n (Some m) e = let same : min m most ≡ n = same_Some _ _ e in omega arith
+held_inside most n o e = grind arith
 
 byte_inside : (word : List ℕ) (n : ℕ) → byte_of word ≡ Some n → n ≤ greatest_byte
 byte_inside word n e = held_inside greatest_byte n (number_read greatest word) e
@@ -77,30 +73,22 @@ none_inside {Y} y Q holds ws x e = subst (λ (z : Y × List (List ℕ)). Q z.0) 
 
 one_inside : {A Y : Type 0} (t : Reader A) (make : A → Y) (Q : Y → Type 0) → ((a : A) → t.IsInside a → Q (make a))
     → (ws : List (List ℕ)) (x : Y × List (List ℕ)) → take_one t.read make ws ≡ Some x → Q x.0
-one_inside {A} {Y} t make Q holds ws x e =
-    let a = bind_some (t.read ws) (λ (a : A × List (List ℕ)). Some (make a.0, a.1)) x e in
-    subst (λ (z : Y × List (List ℕ)). Q z.0) (same_Some (make a.0.0, a.0.1) x a.2) (holds a.0.0 (t.inside ws a.0 a.1))
+one_inside {A} {Y} t make Q holds ws x e = grind arith
 
 two_inside : {A B Y : Type 0} (t : Reader A) (u : Reader B) (make : A → B → Y) (Q : Y → Type 0)
     → ((a : A) (b : B) → t.IsInside a × u.IsInside b → Q (make a b))
     → (ws : List (List ℕ)) (x : Y × List (List ℕ)) → take_two t.read u.read make ws ≡ Some x → Q x.0
-two_inside {A} {B} {Y} t u make Q holds ws x e =
-    let a = bind_some (t.read ws) (λ (a : A × List (List ℕ)). take_one u.read (make a.0) a.1) x e in
-    one_inside u (make a.0.0) Q (λ b small. holds a.0.0 b (t.inside ws a.0 a.1, small)) a.0.1 x a.2
+two_inside {A} {B} {Y} t u make Q holds ws x e = grind arith
 
 three_inside : {A B C Y : Type 0} (t : Reader A) (u : Reader B) (v : Reader C) (make : A → B → C → Y) (Q : Y → Type 0)
     → ((a : A) (b : B) (c : C) → t.IsInside a × u.IsInside b × v.IsInside c → Q (make a b c))
     → (ws : List (List ℕ)) (x : Y × List (List ℕ)) → take_three t.read u.read v.read make ws ≡ Some x → Q x.0
-three_inside {A} {B} {C} {Y} t u v make Q holds ws x e =
-    let a = bind_some (t.read ws) (λ (a : A × List (List ℕ)). take_two u.read v.read (make a.0) a.1) x e in
-    two_inside u v (make a.0.0) Q (λ b c small. holds a.0.0 b c (t.inside ws a.0 a.1, small.0, small.1)) a.0.1 x a.2
+three_inside {A} {B} {C} {Y} t u v make Q holds ws x e = grind arith
 
 four_inside : {A B C D Y : Type 0} (t : Reader A) (u : Reader B) (v : Reader C) (w : Reader D) (make : A → B → C → D → Y) (Q : Y → Type 0)
     → ((a : A) (b : B) (c : C) (d : D) → t.IsInside a × u.IsInside b × v.IsInside c × w.IsInside d → Q (make a b c d))
     → (ws : List (List ℕ)) (x : Y × List (List ℕ)) → take_four t.read u.read v.read w.read make ws ≡ Some x → Q x.0
-four_inside {A} {B} {C} {D} {Y} t u v w make Q holds ws x e =
-    let a = bind_some (t.read ws) (λ (a : A × List (List ℕ)). take_three u.read v.read w.read (make a.0) a.1) x e in
-    three_inside u v w (make a.0.0) Q (λ b c d small. holds a.0.0 b c d (t.inside ws a.0 a.1, small.0, small.1, small.2)) a.0.1 x a.2
+four_inside {A} {B} {C} {D} {Y} t u v w make Q holds ws x e = grind arith
 
 -- ---- items, queues and CPUs
 
@@ -116,26 +104,15 @@ cpu_reader = record { read = cpu_in; IsInside = λ c. c.0 ≤ greatest_byte; ins
 -- ---- callers and workers
 
 caller_inside : (name : List ℕ) (who : Who) → caller_read name ≡ Some who → IsWho who
-caller_inside name who e =
-    let n = bind_some (byte_of name) (λ (n : ℕ). Some (caller_numbered n)) who e in
-    subst IsWho (same_Some _ _ n.2) (byte_inside name n.0 n.1)
+caller_inside name who e = grind arith
 
 worker_inside : (name : List ℕ) (who : Who) → worker_read name ≡ Some who → IsWho who
 unfolding worker_read
-worker_inside name who e =
-    let l = bind_some (position is_pool_letter name) (read_at name) who e in
-    let c = bind_some (byte_of (take l.0 name)) (λ (c : ℕ). byte_of (drop (l.0 + 1) name) >>= λ (x : ℕ). Some (worker_numbered c (eqb (get_or name l.0 0) 104) x)) who l.2 in
-    let x = bind_some (byte_of (drop (l.0 + 1) name)) (λ (x : ℕ). Some (worker_numbered c.0 (eqb (get_or name l.0 0) 104) x)) who c.2 in
-    subst IsWho (same_Some _ _ x.2) (byte_inside _ c.0 c.1, byte_inside _ x.0 x.1)
+worker_inside name who e = grind arith
 
 who_of_inside : (w : List ℕ) (who : Who) → who_read w ≡ Some who → IsWho who
 unfolding who_read
-who_of_inside [] who e = absurd cc
-who_of_inside (first ∷ name) who e =
-    elim (first_says (eqb first 99) (eqb first 119) (caller_read name) (worker_read name) who e) [
-      | inl c ↦ caller_inside name who c.1
-      | inr w ↦ worker_inside name who w.1
-    ]
+who_of_inside w who e = grind (arith, first_says, caller_inside, worker_inside)
 
 pub who_inside : (ws : List (List ℕ)) (x : Who × List (List ℕ)) → who_in ws ≡ Some x → IsWho x.0
 who_inside ws x e = let read = word_takes who_read ws x e in who_of_inside read.0 x.0 read.2
@@ -168,9 +145,7 @@ call_after_inside word.Destroy ws x e = one_inside queue_reader call.Destroy (Is
 call_after_inside k ws x e = absurd cc
 
 pub call_inside : (ws : List (List ℕ)) (x : Call × List (List ℕ)) → call_in ws ≡ Some x → (IsCall greatest_number) x.0
-call_inside ws x e =
-    let k = bind_some (keyword_in ws) (λ (k : Keyword × List (List ℕ)). call_read_after k.0 k.1) x e in
-    call_after_inside k.0.0 k.0.1 x k.2
+call_inside ws x e = grind (arith, bind_some, call_after_inside)
 
 -- ---- replies
 
@@ -184,22 +159,15 @@ ticket_with_inside n k ws x own e = absurd cc
 
 ticket_after_inside : (n : ℕ) (ws : List (List ℕ)) (x : Reply × List (List ℕ)) → n ≤ greatest_number → ticket_after n ws ≡ Some x → (IsReply greatest_number) x.0
 unfolding ticket_after
-ticket_after_inside n [] x own e = none_inside (reply.Ticket n) (IsReply greatest_number) own [] x e
-ticket_after_inside n (w ∷ ws) x own e =
-    let k = bind_some (keyword_in (w ∷ ws)) (λ (k : Keyword × List (List ℕ)). ticket_with n k.0 k.1) x e in
-    ticket_with_inside n k.0.0 k.0.1 x own k.2
+ticket_after_inside n ws x own e = grind (arith, bind_some, ticket_with_inside)
 
 started_with_inside : (n : ℕ) (k : Keyword) (ws : List (List ℕ)) (x : Reply × List (List ℕ)) → n ≤ greatest_number → started_with n k ws ≡ Some x → (IsReply greatest_number) x.0
 unfolding started_with
-started_with_inside n word.Enlist ws x own e = one_inside byte_reader (reply.StartedEnlist n) (IsReply greatest_number) (λ y small. (own, small)) ws x e
-started_with_inside n k ws x own e = absurd cc
+started_with_inside n k ws x own e = grind arith
 
 started_after_inside : (n : ℕ) (ws : List (List ℕ)) (x : Reply × List (List ℕ)) → n ≤ greatest_number → started_after n ws ≡ Some x → (IsReply greatest_number) x.0
 unfolding started_after
-started_after_inside n [] x own e = none_inside (reply.Started n) (IsReply greatest_number) own [] x e
-started_after_inside n (w ∷ ws) x own e =
-    let k = bind_some (keyword_in (w ∷ ws)) (λ (k : Keyword × List (List ℕ)). started_with n k.0 k.1) x e in
-    started_with_inside n k.0.0 k.0.1 x own k.2
+started_after_inside n ws x own e = grind (arith, bind_some, started_with_inside)
 
 reply_after_inside : (k : Keyword) (ws : List (List ℕ)) (x : Reply × List (List ℕ)) → reply_after k ws ≡ Some x → (IsReply greatest_number) x.0
 unfolding reply_after
@@ -240,9 +208,7 @@ reply_after_inside word.Timers ws x e = none_inside reply.Timers (IsReply greate
 reply_after_inside k ws x e = absurd cc
 
 pub reply_inside : (ws : List (List ℕ)) (x : Reply × List (List ℕ)) → reply_in ws ≡ Some x → (IsReply greatest_number) x.0
-reply_inside ws x e =
-    let k = bind_some (keyword_in ws) (λ (k : Keyword × List (List ℕ)). reply_after k.0 k.1) x e in
-    reply_after_inside k.0.0 k.0.1 x k.2
+reply_inside ws x e = grind (arith, bind_some, reply_after_inside)
 
 -- ---- whole lines
 
@@ -251,24 +217,11 @@ call_at_end who c = cond (has_no_word c.1 && may_say who c.0) (Some (who, c.0)) 
 
 pub call_line_inside : (line : List ℕ) (x : Who × Call) → call_read line ≡ Some x → IsWho x.0 × (IsCall greatest_number) x.1
 unfolding call_read
-call_line_inside line x e =
-    let who = bind_some (who_in (words_of line)) (λ (w : Who × List (List ℕ)). call_in w.1 >>= λ (c : Call × List (List ℕ)). call_at_end w.0 c) x e in
-    let c = bind_some (call_in who.0.1) (call_at_end who.0.0) x who.2 in
-    let found = chosen (has_no_word c.0.1 && may_say who.0.0 c.0.0) (Some (who.0.0, c.0.0)) x c.2 in
-    subst (λ (y : Who × Call). IsWho y.0 × (IsCall greatest_number) y.1) (same_Some _ _ found.1) (who_inside _ who.0 who.1, call_inside _ c.0 c.1)
+call_line_inside line x e = grind (arith, bind_some, chosen, who_inside, call_inside)
 
 pub entry_inside : (line : List ℕ) (e : Entry) → entry_of line ≡ Some e → (IsEntry greatest_number) e
 unfolding entry_of
-entry_inside line e is =
-    let who = bind_some (who_in (words_of line)) entry_after_who e is in
-    let serial = bind_some (wide_in who.0.1) (entry_after_serial who.0.0) e who.2 in
-    let c = bind_some (call_in serial.0.1) (entry_after_call who.0.0 serial.0.0) e serial.2 in
-    let answer = bind_some (after (codes "=") c.0.1) (entry_after_equals who.0.0 serial.0.0 c.0.0) e c.2 in
-    let r = bind_some (reply_in answer.0) (entry_at_end who.0.0 serial.0.0 c.0.0) e answer.2 in
-    let made : Entry = record { who = who.0.0; serial = serial.0.0; call = c.0.0; reply = r.0.0 } in
-    let found = chosen (has_no_word r.0.1 && may_say who.0.0 c.0.0) (Some made) e r.2 in
-    subst (IsEntry greatest_number) (same_Some _ _ found.1)
-    (record { who = who_inside _ who.0 who.1; serial = wide_inside _ serial.0 serial.1; call = call_inside _ c.0 c.1; reply = reply_inside _ r.0 r.1 })
+entry_inside line e is = grind (arith, bind_some, chosen, who_inside, wide_inside, call_inside, reply_inside)
 
 pub entry_of_format_inside : (v : ℕ) (line : List ℕ) (e : Entry) → entry_of_format v line ≡ Some e → (IsEntry greatest_number) e
 unfolding entry_of_format
@@ -279,138 +232,41 @@ entry_of_format_inside v line e is =
 
 -- ---- what formats 1 and 2 and files of calls have
 
-short_call : (c : Call) → (IsCall greatest_number) c → is_short_call c ≡ true → (IsCall greatest) c
-short_call (call.End n) h is = leb-true n greatest is
-short_call (call.Queue i q c) h is = h
-short_call (call.Delay i q c n) h is = h
-short_call (call.Modify i q c n) h is = h
-short_call (call.Cancel i) h is = h
-short_call (call.Tick n) h is = h
-short_call call.Fire h is = h
-short_call (call.Flush q) h is = h
-short_call (call.Drain q) h is = h
-short_call (call.FlushItem i) h is = h
-short_call (call.FlushDelayed i) h is = h
-short_call (call.CancelSync i) h is = h
-short_call call.Take h is = h
-short_call call.Finish h is = h
-short_call call.Sleep h is = h
-short_call call.Wake h is = h
-short_call call.Retire h is = h
-short_call (call.SetMax q n) h is = h
-short_call call.Freeze h is = h
-short_call call.Thaw h is = h
-short_call (call.Destroy q) h is = h
-
 is_short_as : (n : ℕ) → n ≤ greatest → is_short n ≡ true
 is_short_as n h = le-leb n greatest h
 
 short_call_is : (c : Call) → (IsCall greatest) c → is_short_call c ≡ true
-short_call_is (call.End n) h = is_short_as n h
-short_call_is c h = refl
+short_call_is c h = grind arith
 
 short_reply_is : (r : Reply) → (IsReply greatest) r → is_short_reply r ≡ true
-short_reply_is (reply.Yes n) h = is_short_as n h
-short_reply_is (reply.Again n) h = is_short_as n h
-short_reply_is (reply.Cancelled n) h = is_short_as n h
-short_reply_is (reply.Ticket n) h = is_short_as n h
-short_reply_is (reply.TicketQueued n) h = is_short_as n h
-short_reply_is (reply.TicketUnbooked n) h = is_short_as n h
-short_reply_is (reply.TicketNo n) h = is_short_as n h
-short_reply_is (reply.Waiting n) h = is_short_as n h
-short_reply_is (reply.Started n) h = is_short_as n h
-short_reply_is (reply.Finished n) h = is_short_as n h
-short_reply_is (reply.Fired i n) h = is_short_as n h.1
-short_reply_is (reply.TicketCancelled n m) h = both_true (is_short_as n h.0) (is_short_as m h.1)
-short_reply_is (reply.StartedEnlist n x) h = is_short_as n h.0
-short_reply_is r h = refl
+short_reply_is r h = grind arith
 
 pub short_entry_is : (e : Entry) → (IsEntry greatest) e → is_short_entry e ≡ true
 short_entry_is e h = both_true (both_true (is_short_as e.serial h.serial) (short_call_is e.call h.call)) (short_reply_is e.reply h.reply)
 
 wide_call : (c : Call) → (IsCall greatest) c → (IsCall greatest_number) c
-wide_call (call.End n) h = omega arith
-wide_call (call.Queue i q c) h = h
-wide_call (call.Delay i q c n) h = h
-wide_call (call.Modify i q c n) h = h
-wide_call (call.Cancel i) h = h
-wide_call (call.Tick n) h = h
-wide_call call.Fire h = h
-wide_call (call.Flush q) h = h
-wide_call (call.Drain q) h = h
-wide_call (call.FlushItem i) h = h
-wide_call (call.FlushDelayed i) h = h
-wide_call (call.CancelSync i) h = h
-wide_call call.Take h = h
-wide_call call.Finish h = h
-wide_call call.Sleep h = h
-wide_call call.Wake h = h
-wide_call call.Retire h = h
-wide_call (call.SetMax q n) h = h
-wide_call call.Freeze h = h
-wide_call call.Thaw h = h
-wide_call (call.Destroy q) h = h
+wide_call c h = grind arith
 
 wide_reply : (r : Reply) → (IsReply greatest) r → (IsReply greatest_number) r
-wide_reply (reply.Yes n) h = omega arith
-wide_reply (reply.Again n) h = omega arith
-wide_reply (reply.Cancelled n) h = omega arith
-wide_reply (reply.Ticket n) h = omega arith
-wide_reply (reply.TicketQueued n) h = omega arith
-wide_reply (reply.TicketUnbooked n) h = omega arith
-wide_reply (reply.TicketNo n) h = omega arith
-wide_reply (reply.Waiting n) h = omega arith
-wide_reply (reply.Started n) h = omega arith
-wide_reply (reply.Finished n) h = omega arith
-wide_reply (reply.Fired i n) h = (h.0, let most = h.1 in omega arith)
-wide_reply (reply.TicketCancelled n m) h = (let most = h.0 in omega arith, let most = h.1 in omega arith)
-wide_reply (reply.StartedEnlist n x) h = (let most = h.0 in omega arith, h.1)
-wide_reply (reply.Booked t) h = h
-wide_reply (reply.Rebooked t) h = h
-wide_reply reply.No h = h
-wide_reply reply.Foreign h = h
-wide_reply reply.Draining h = h
-wide_reply reply.Misuse h = h
-wide_reply reply.Unbooked h = h
-wide_reply (reply.Now t) h = h
-wide_reply reply.Nothing h = h
-wide_reply reply.Idle h = h
-wide_reply reply.Crowded h = h
-wide_reply reply.Done h = h
-wide_reply reply.Held h = h
-wide_reply reply.Slept h = h
-wide_reply reply.Woke h = h
-wide_reply reply.Retired h = h
-wide_reply reply.Kept h = h
-wide_reply (reply.Width n) h = h
-wide_reply reply.Frozen h = h
-wide_reply reply.Thawed h = h
-wide_reply reply.Gone h = h
-wide_reply reply.Timers h = h
+wide_reply r h = grind arith
 
 pub wide_entry : (e : Entry) → (IsEntry greatest) e → (IsEntry greatest_number) e
 wide_entry e h = record { who = h.who; serial = let most = h.serial in omega arith; call = wide_call e.call h.call; reply = wide_reply e.reply h.reply }
 
 -- so what a history of format 1 or 2 says has short numbers, and what a file of calls says
 pub allowed_short : (v : ℕ) (e : Entry) → v ≤ 2 → allows_entry v e ≡ true → is_short_entry e ≡ true
-allowed_short zero e h is = (and_parts (is_short_entry e) _ is).0
-allowed_short (suc zero) e h is = (and_parts (is_short_entry e) _ is).0
-allowed_short (suc (suc zero)) e h is = (and_parts (is_short_entry e) _ is).0
-allowed_short (suc (suc (suc n))) e h is = absurd (omega arith)
+allowed_short v e h is = grind arith
 
 -- a call that a file of calls of a format says has the numbers of that format, and one with these is of the format
 module _ (v : ℕ) where
   limited_call : (b : Bool) (c : Call) → (IsCall greatest_number) c → (b || is_short_call c) ≡ true → (IsCall (if b then greatest_number else greatest)) c
-  limited_call true c h is = h
-  limited_call false c h is = short_call c h is
+  limited_call b c h is = grind arith
 
   limited_is : (b : Bool) (c : Call) → (IsCall (if b then greatest_number else greatest)) c → (b || is_short_call c) ≡ true
-  limited_is true c h = refl
-  limited_is false c h = short_call_is c h
+  limited_is b c h = grind arith
 
   limited_wide : (b : Bool) (c : Call) → (IsCall (if b then greatest_number else greatest)) c → (IsCall greatest_number) c
-  limited_wide true c h = h
-  limited_wide false c h = wide_call c h
+  limited_wide b c h = grind arith
 
   pub call_of_format_inside : (line : List ℕ) (x : Who × Call) → call_of_format v line ≡ Some x → IsWho x.0 × (IsCall (number_limit v)) x.1
   unfolding call_of_format by_age

@@ -1,5 +1,5 @@
 -- Replies that are spelled are read again, and what is read as a reply is spelled so.
-use Rattle.cmwq_text.specs.Common.{◌≡◌, ℕ, ◌<◌, ◌≤◌, true, List, [], ◌∷◌, ◌++◌, Some, refl, ap, ◌∙◌, arith, decimal, Reply, greatest_byte, greatest_short, IsReply}
+use Rattle.cmwq_text.specs.Common.{◌≡◌, ℕ, ◌<◌, ◌≤◌, true, List, [], ◌∷◌, ◌++◌, Some, refl, ap, ◌∙◌, arith, Reply, greatest_byte, greatest_short, IsReply}
 use Rattle.cmwq_model.specs.declared.reply.Reply.TheVariants as reply
 use Rattle.cmwq_text.specs.declared.keyword.Keyword.{Keyword}
 use Rattle.cmwq_text.specs.declared.keyword.Keyword.TheVariants as word
@@ -18,41 +18,7 @@ use Rattle.cmwq_text.proofs.PhraseLaws.{phrase_is_plain, size, byte_len, short_l
 -- a reply stands at the end of its line
 pub reply_again : (r : Reply) → (IsReply greatest_number) r → reply_in (reply_words r) ≡ Some (r, [])
 unfolding reply_words reply_after ticket_after ticket_with started_after started_with
-reply_again (reply.Yes n) h = rw (keyword_again word.Yes, wide_in_again n [] h) refl
-reply_again (reply.Booked t) h = rw (keyword_again word.Booked, long_in_again t [] h) refl
-reply_again (reply.Again n) h = rw (keyword_again word.Again, wide_in_again n [] h) refl
-reply_again (reply.Rebooked t) h = rw (keyword_again word.Rebooked, long_in_again t [] h) refl
-reply_again reply.No h = rw (keyword_again word.No) refl
-reply_again reply.Foreign h = rw (keyword_again word.Foreign) refl
-reply_again reply.Draining h = rw (keyword_again word.Draining) refl
-reply_again reply.Misuse h = rw (keyword_again word.Misuse) refl
-reply_again (reply.Cancelled n) h = rw (keyword_again word.Cancelled, wide_in_again n [] h) refl
-reply_again reply.Unbooked h = rw (keyword_again word.Unbooked) refl
-reply_again (reply.Now t) h = rw (keyword_again word.Now, long_in_again t [] h) refl
-reply_again (reply.Fired i n) h = rw (keyword_again word.Fired, item_again i (decimal n ∷ []) h.0, wide_in_again n [] h.1) refl
-reply_again reply.Nothing h = rw (keyword_again word.Nothing) refl
-reply_again (reply.Ticket n) h = rw (keyword_again word.Ticket, wide_in_again n [] h) refl
-reply_again (reply.TicketQueued n) h = rw (keyword_again word.Ticket, wide_in_again n (keyword_text word.Queued ∷ []) h, keyword_again word.Queued) refl
-reply_again (reply.TicketCancelled n m) h = rw (keyword_again word.Ticket, wide_in_again n (keyword_text word.Cancelled ∷ decimal m ∷ []) h.0, keyword_again word.Cancelled, wide_in_again m [] h.1) refl
-reply_again (reply.TicketUnbooked n) h = rw (keyword_again word.Ticket, wide_in_again n (keyword_text word.Unbooked ∷ []) h, keyword_again word.Unbooked) refl
-reply_again (reply.TicketNo n) h = rw (keyword_again word.Ticket, wide_in_again n (keyword_text word.No ∷ []) h, keyword_again word.No) refl
-reply_again reply.Idle h = rw (keyword_again word.Idle) refl
-reply_again reply.Crowded h = rw (keyword_again word.Crowded) refl
-reply_again reply.Done h = rw (keyword_again word.Done) refl
-reply_again (reply.Waiting n) h = rw (keyword_again word.Waiting, wide_in_again n [] h) refl
-reply_again (reply.Started n) h = rw (keyword_again word.Started, wide_in_again n [] h) refl
-reply_again (reply.StartedEnlist n x) h = rw (keyword_again word.Started, wide_in_again n (keyword_text word.Enlist ∷ decimal x ∷ []) h.0, keyword_again word.Enlist, byte_in_again x [] h.1) refl
-reply_again reply.Held h = rw (keyword_again word.Held) refl
-reply_again (reply.Finished n) h = rw (keyword_again word.Finished, wide_in_again n [] h) refl
-reply_again reply.Slept h = rw (keyword_again word.Slept) refl
-reply_again reply.Woke h = rw (keyword_again word.Woke) refl
-reply_again reply.Retired h = rw (keyword_again word.Retired) refl
-reply_again reply.Kept h = rw (keyword_again word.Kept) refl
-reply_again (reply.Width n) h = rw (keyword_again word.Width, number_in_again n [] h) refl
-reply_again reply.Frozen h = rw (keyword_again word.Frozen) refl
-reply_again reply.Thawed h = rw (keyword_again word.Thawed) refl
-reply_again reply.Gone h = rw (keyword_again word.Gone) refl
-reply_again reply.Timers h = rw (keyword_again word.Timers) refl
+reply_again r h = grind (arith, keyword_again, wide_in_again, long_in_again, item_again, byte_in_again, number_in_again)
 
 -- no id is the greatest of its type
 abbrev pub IsKnownReply : Reply → Type 0
@@ -170,38 +136,4 @@ reply_is_plain reply.Timers h = phrase_is_plain word.Timers [] tt
 
 pub reply_is_short : (r : Reply) → (IsReply greatest_number) r → size (reply_words r) ≤ 57
 unfolding reply_words keyword_text
-reply_is_short (reply.Yes n) h = omega (arith, wide_len n h)
-reply_is_short (reply.Booked t) h = omega (arith, long_len t h)
-reply_is_short (reply.Again n) h = omega (arith, wide_len n h)
-reply_is_short (reply.Rebooked t) h = omega (arith, long_len t h)
-reply_is_short reply.No h = omega arith
-reply_is_short reply.Foreign h = omega arith
-reply_is_short reply.Draining h = omega arith
-reply_is_short reply.Misuse h = omega arith
-reply_is_short (reply.Cancelled n) h = omega (arith, wide_len n h)
-reply_is_short reply.Unbooked h = omega arith
-reply_is_short (reply.Now t) h = omega (arith, long_len t h)
-reply_is_short (reply.Fired i n) h = omega (arith, short_len i.0 h.0, wide_len n h.1)
-reply_is_short reply.Nothing h = omega arith
-reply_is_short (reply.Ticket n) h = omega (arith, wide_len n h)
-reply_is_short (reply.TicketQueued n) h = omega (arith, wide_len n h)
-reply_is_short (reply.TicketCancelled n m) h = omega (arith, wide_len n h.0, wide_len m h.1)
-reply_is_short (reply.TicketUnbooked n) h = omega (arith, wide_len n h)
-reply_is_short (reply.TicketNo n) h = omega (arith, wide_len n h)
-reply_is_short reply.Idle h = omega arith
-reply_is_short reply.Crowded h = omega arith
-reply_is_short reply.Done h = omega arith
-reply_is_short (reply.Waiting n) h = omega (arith, wide_len n h)
-reply_is_short (reply.Started n) h = omega (arith, wide_len n h)
-reply_is_short (reply.StartedEnlist n x) h = omega (arith, wide_len n h.0, byte_len x h.1)
-reply_is_short reply.Held h = omega arith
-reply_is_short (reply.Finished n) h = omega (arith, wide_len n h)
-reply_is_short reply.Slept h = omega arith
-reply_is_short reply.Woke h = omega arith
-reply_is_short reply.Retired h = omega arith
-reply_is_short reply.Kept h = omega arith
-reply_is_short (reply.Width n) h = omega (arith, number_len n h)
-reply_is_short reply.Frozen h = omega arith
-reply_is_short reply.Thawed h = omega arith
-reply_is_short reply.Gone h = omega arith
-reply_is_short reply.Timers h = omega arith
+reply_is_short r h = grind (arith, wide_len, long_len, short_len, byte_len, number_len)

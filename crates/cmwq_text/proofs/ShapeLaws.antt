@@ -1,9 +1,9 @@
 -- Shape lines and lines of queues, and how long lines are.
-use Rattle.cmwq_text.specs.Common.{◌≡◌, ℕ, ◌≤◌, Bool, true, false, ◌&&◌, List, [], ◌∷◌, ◌++◌, length, eqb, leb, min, Option, Some, None, refl, ap, ◌∙◌, arith, cond, subst, codes, IsTrue, decimal, bytes_eq, leb-true, ne_eqb, same_Some, bytes_eq-Decides, length-append, Who, Caller, Worker, Call, Entry, Counts, QueueShape, are_counts, is_between, is_queue, IsWho, IsCall, IsEntry}
+use Rattle.cmwq_text.specs.Common.{◌≡◌, ℕ, ◌≤◌, Bool, true, ◌&&◌, List, [], ◌∷◌, ◌++◌, length, leb, Option, Some, None, refl, ap, ◌∙◌, arith, cond, codes, IsTrue, decimal, bytes_eq, leb-true, same_Some, bytes_eq-Decides, length-append, Who, Call, Entry, Counts, QueueShape, are_counts, is_between, is_queue, IsWho, IsCall, IsEntry}
 use Rattle.cmwq_text.specs.declared.shape.Flags.{Flags}
 use Rattle.cmwq_text.specs.declared.shape.QueueLine.{QueueLine}
 use Rattle.cmwq_text.specs.Words.{◌>>=◌, words_of, line_text, has_no_word, after, word_read, byte_count_in, short_count_in, number_in, wide_in}
-use Rattle.cmwq_text.specs.IdText.{who_text, pool_letter}
+use Rattle.cmwq_text.specs.IdText.{who_text}
 use Rattle.cmwq_text.specs.CallText.{call_words, call_text}
 use Rattle.cmwq_text.specs.ReplyText.{reply_words}
 use Rattle.cmwq_text.specs.EntryText.{entry_words, entry_text}
@@ -88,24 +88,10 @@ counts_spelled_so n line is =
 -- ---- queues
 
 flags_again : (high intensive freezable : Bool) → flags_of (flags_text (flags high intensive freezable)) ≡ Some (flags high intensive freezable)
-flags_again true true true = refl
-flags_again true true false = refl
-flags_again true false true = refl
-flags_again true false false = refl
-flags_again false true true = refl
-flags_again false true false = refl
-flags_again false false true = refl
-flags_again false false false = refl
+flags_again high intensive freezable = grind arith
 
 flags_are_plain : (high intensive freezable : Bool) → is_plain (flags_text (flags high intensive freezable)) ≡ true
-flags_are_plain true true true = refl
-flags_are_plain true true false = refl
-flags_are_plain true false true = refl
-flags_are_plain true false false = refl
-flags_are_plain false true true = refl
-flags_are_plain false true false = refl
-flags_are_plain false false true = refl
-flags_are_plain false false false = refl
+flags_are_plain high intensive freezable = grind arith
 
 flags_takes : (w : List ℕ) (f : Flags) → flags_of w ≡ Some f → w ≡ flags_text f
 flags_takes w f e = (bytes_eq-Decides w (flags_text f)).0 (found_passes (λ g. bytes_eq w (flags_text g)) all_flags f e)
@@ -120,9 +106,7 @@ abbrev queue_line_from : List (List ℕ) → Option QueueLine
 queue_line_from ws = after (codes "wq") ws >>= λ rest. number_in rest >>= queue_line_after
 
 pub queue_is_plain : (q : QueueShape) → q.max_active ≤ 512 → are_plain (queue_words q) ≡ true
-queue_is_plain q small =
-    let f : List ℕ = flags_text (flags_in q) in
-    and_from (is_plain (decimal q.max_active)) (are_plain (f ∷ [])) (is_plain-decimal q.max_active (omega arith)) (and_from (is_plain f) true (flags_are_plain q.high q.intensive q.freezable) refl)
+queue_is_plain q small = grind (arith, and_from, is_plain-decimal, flags_are_plain)
 
 queue_line_again : (q : QueueShape) (line : List ℕ) → q.max_active ≤ 512 → IsLineOf (queue_text q) line → queue_line_of line ≡ Some (record { max_active = q.max_active; flags = flags_in q })
 unfolding queue_text queue_line_of
@@ -132,37 +116,18 @@ queue_line_again q line small is =
     ap queue_line_from words ∙ rw (number_in_again q.max_active (f ∷ []) (omega arith), flags_again q.high q.intensive q.freezable) refl
 
 width_kept : (n : ℕ) → 1 ≤ n → n ≤ 512 → width_taken n ≡ n
-width_kept n some small =
-    let other : eqb n 0 ≡ false = ne_eqb n 0 (λ same. absurd (omega (arith, same))) in
-    let least : min n 512 ≡ n = omega arith in
-    rw (other, least) refl
+width_kept n some small = grind arith
 
 pub queues_read_again : QueuesReadAgain
 unfolding queue_of_calls queue_of_history
-queues_read_again q line inside is =
-    let limits = and_parts (leb 1 q.max_active) (leb q.max_active 512) inside in
-    let some : 1 ≤ q.max_active = leb-true 1 q.max_active limits.0 in
-    let small : q.max_active ≤ 512 = leb-true q.max_active 512 limits.1 in
-    let read = queue_line_again q line small is in
-    (rw (read, width_kept q.max_active some small) refl, rw (read, inside) refl)
+queues_read_again q line inside is = grind (arith, queue_line_again, width_kept)
 
 queue_pieces : (ws a b rest : List (List ℕ)) (l : QueueLine) (f : List ℕ) → ws ≡ codes "wq" ∷ a → a ≡ decimal l.max_active ∷ b → b ≡ f ∷ rest → f ≡ flags_text l.flags → rest ≡ [] → ws ≡ codes "wq" ∷ decimal l.max_active ∷ flags_text l.flags ∷ []
 queue_pieces ws a b rest l f first width word spelled ended = rw (first, width, word, spelled, ended) refl
 
 queue_line_takes : (line : List ℕ) (l : QueueLine) → queue_line_of line ≡ Some l → words_of line ≡ codes "wq" ∷ decimal l.max_active ∷ flags_text l.flags ∷ []
 unfolding queue_line_of
-queue_line_takes line l e =
-    let first = bind_some (after (codes "wq") (words_of line)) (λ (rest : List (List ℕ)). number_in rest >>= queue_line_after) l e in
-    let width = bind_some (number_in first.0) queue_line_after l first.2 in
-    let f = bind_some (word_read flags_of width.0.1) (queue_line_tested width.0.0) l width.2 in
-    let made : QueueLine = record { max_active = width.0.0; flags = f.0.0 } in
-    let found = chosen (has_no_word f.0.1) (Some made) l f.2 in
-    let word = word_takes flags_of width.0.1 f.0 f.1 in
-    let words = queue_pieces (words_of line) first.0 width.0.1 f.0.1 made word.0
-    (after_takes (codes "wq") (words_of line) first.0 first.1)
-    (number_in_takes first.0 width.0 width.1)
-    word.1 (flags_takes word.0 f.0.0 word.2) (no_more f.0.1 found.0) in
-    subst (λ (k : QueueLine). words_of line ≡ codes "wq" ∷ decimal k.max_active ∷ flags_text k.flags ∷ []) (same_Some made l found.1) words
+queue_line_takes line l e = grind (arith, bind_some, chosen, word_takes, queue_pieces, after_takes, number_in_takes, flags_takes, no_more)
 
 pub queues_spelled_so : QueuesSpelledSo
 unfolding queue_text queue_of_history
@@ -184,8 +149,7 @@ queues_of_calls_spelled_so q line is =
 -- ---- how long lines are
 
 who_is_short : (who : Who) → IsWho who → length (who_text who) ≤ 8
-who_is_short (Caller c) h = omega (arith, byte_len c.0 h)
-who_is_short (Worker w) h = omega (arith, byte_len w.pool.cpu.0 h.0, byte_len w.index h.1, length-append (decimal w.pool.cpu.0) (pool_letter w.pool.high ∷ decimal w.index))
+who_is_short who h = grind (arith, byte_len, length-append)
 
 pub call_line_is_short : (who : Who) (c : Call) → IsWho who → (IsCall greatest_number) c → length (call_text who c) ≤ 121
 unfolding call_text
@@ -206,14 +170,7 @@ counts_line_is_short n inside =
     omega (arith, len, number_len n.cpus (omega arith), number_len n.workers (omega arith), number_len n.callers (omega arith), number_len n.items (omega arith), wide_len n.room (omega arith))
 
 flags_are_short : (high intensive freezable : Bool) → length (flags_text (flags high intensive freezable)) ≤ 3
-flags_are_short true true true = omega arith
-flags_are_short true true false = omega arith
-flags_are_short true false true = omega arith
-flags_are_short true false false = omega arith
-flags_are_short false true true = omega arith
-flags_are_short false true false = omega arith
-flags_are_short false false true = omega arith
-flags_are_short false false false = omega arith
+flags_are_short high intensive freezable = grind arith
 
 pub queue_line_is_short : (q : QueueShape) → IsTrue (is_queue q) → length (queue_text q) ≤ 121
 unfolding queue_text

@@ -1,16 +1,14 @@
 -- A line as its words: where the first ends, and that the words, joined again, are the line.
-use Rattle.cmwq_text.specs.Common.{◌≡◌, ℕ, ◌+◌, ◌-◌, ◌≤◌, Bool, true, false, List, [], ◌∷◌, length, take, drop, ltb, Some, None, refl, arith, cond, subst, position, onto_first, position_or_len, ltb-true, ltb-false, slice_split_none, slice_split_first, fails_before_first, cond_some}
+use Rattle.cmwq_text.specs.Common.{◌≡◌, ℕ, ◌+◌, ◌-◌, Bool, false, List, [], ◌∷◌, length, take, drop, ltb, Some, None, refl, arith, cond, subst, position, onto_first, position_or_len, ltb-true, slice_split_none, slice_split_first, fails_before_first, cond_some}
 use Rattle.std.proofs.lemmas.Grind.{common_steps}
 use Rattle.cmwq_text.specs.Words.{is_space, words_of, has_no_word}
 use Rattle.cmwq_lemmas.proofs.Truth.{not_chosen}
 
 onto_first-has_first : (x : ℕ) (parts : List (List ℕ)) → has_no_word (onto_first x parts) ≡ false
-onto_first-has_first x [] = refl
-onto_first-has_first x (part ∷ parts) = refl
+onto_first-has_first x parts = grind arith
 
 cond_end : (b : Bool) (x y : List (List ℕ)) → has_no_word x ≡ false → has_no_word y ≡ false → has_no_word (cond b x y) ≡ false
-cond_end true x y p q = p
-cond_end false x y p q = q
+cond_end b x y p q = grind arith
 
 -- a line has a first word
 pub split_has_first : (line : List ℕ) → has_no_word (words_of line) ≡ false
@@ -18,9 +16,7 @@ split_has_first [] = refl
 split_has_first (x ∷ xs) = cond_end (is_space x) ([] ∷ words_of xs) (onto_first x (words_of xs)) refl (onto_first-has_first x (words_of xs))
 
 pub split_without_space : (line : List ℕ) → position is_space line ≡ None → words_of line ≡ line ∷ []
-split_without_space line h =
-    let past : length line ≤ position_or_len is_space line = ltb-false _ _ (not_chosen (ltb (position_or_len is_space line) (length line)) (position_or_len is_space line) h) in
-    slice_split_none is_space line (λ k d lt. fails_before_first is_space line k d (omega arith))
+split_without_space line h = grind (arith, not_chosen, slice_split_none, fails_before_first)
 
 -- written as the code takes the bytes after the space
 pub split_at_space : (line : List ℕ) (end : ℕ) → position is_space line ≡ Some end → words_of line ≡ take end line ∷ words_of (take (length line - (end + 1)) (drop (end + 1) line))

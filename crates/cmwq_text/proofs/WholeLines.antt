@@ -1,9 +1,8 @@
 -- Lines that are spelled end at their line feed and nowhere before, and lines of queues begin as no others do.
-use Rattle.cmwq_text.specs.Common.{◌≡◌, ℕ, zero, suc, ◌<◌, ◌≤◌, Bool, true, false, ◌&&◌, List, [], ◌∷◌, ◌++◌, length, get_or, leb, ltb, eqb, None, refl, ap, ◌∙◌, arith, codes, IsTrue, ◌==◌, is_ascii_digit, decimal, All, all_ascii_digits, leb-true, ltb-true, ne_eqb, digits_decimal, length-append, Who, Caller, Worker, Call, Entry, Counts, QueueShape, Layout, are_counts, is_queue, is_callers, is_workers, fits, may_make, has_numbers, IsWho, IsCall, IsEntry}
-use Rattle.cmwq_model.specs.declared.call.Call.TheVariants as call
+use Rattle.cmwq_text.specs.Common.{◌≡◌, ℕ, zero, suc, ◌<◌, ◌≤◌, Bool, true, false, List, [], ◌∷◌, ◌++◌, length, get_or, leb, ltb, eqb, None, refl, ap, ◌∙◌, arith, codes, IsTrue, ◌==◌, is_ascii_digit, decimal, All, all_ascii_digits, leb-true, ltb-true, ne_eqb, digits_decimal, length-append, Who, Caller, Worker, Call, Entry, Counts, QueueShape, Layout, are_counts, is_queue, fits, has_numbers, IsWho, IsCall, IsEntry}
 use Rattle.cmwq_text.specs.Words.{words_of, join_words, line_text, space_words}
 use Rattle.cmwq_text.specs.IdText.{who_text, pool_letter, who_read}
-use Rattle.cmwq_text.specs.CallText.{call_words, call_text, is_of_kind, sets_some, may_say}
+use Rattle.cmwq_text.specs.CallText.{call_words, call_text, sets_some, may_say}
 use Rattle.cmwq_text.specs.ReplyText.{reply_words}
 use Rattle.cmwq_text.specs.EntryText.{entry_words, entry_text, entry_of}
 use Rattle.cmwq_text.specs.EndText.{end_words, end_text}
@@ -19,7 +18,7 @@ use Rattle.cmwq_text.proofs.LineLaws.{has_no_feed, joined_has_none}
 use Rattle.cmwq_text.proofs.EntryLaws.{call_line_is_plain, entry_is_plain, entry_from}
 use Rattle.cmwq_text.proofs.EndLaws.{end_is_plain, end_is_short}
 use Rattle.cmwq_text.proofs.ShapeLaws.{counts_from, counts_are_plain, queue_is_plain, call_line_is_short, entry_line_is_short, counts_line_is_short, queue_line_is_short}
-use Rattle.std.proofs.lemmas.Bool.{and_from, and_parts}
+use Rattle.std.proofs.lemmas.Bool.{and_parts}
 
 -- the text is the line and its line feed, no other stands inside it, and it is no longer than a line may be
 pub record IsWholeLine (text line : List ℕ) : Type 0 where
@@ -36,9 +35,7 @@ one_feed : (bytes : List ℕ) → has_no_feed bytes ≡ true → All (λ byte. (
 one_feed bytes p = λ i d lt. let above : 10 < get_or bytes i d = no_feed_at bytes i d p lt in ne_eqb (get_or bytes i d) 10 (λ same. absurd (omega (arith, same, above)))
 
 whole_line : (words : List (List ℕ)) → are_plain words ≡ true → length (line_text words) ≤ 121 → IsWholeLine (line_text words) (join_words words)
-whole_line words plain short =
-    let len = length-append (join_words words) (10 ∷ []) in
-    record { is = refl; one = one_feed (join_words words) (joined_has_none words plain); short = omega arith }
+whole_line words plain short = grind (arith, length-append, one_feed, joined_has_none)
 
 pub whole_version : IsWholeLine (version_text 2) (codes "history 2")
 whole_version = record { is = refl; one = one_feed (codes "history 2") refl; short = omega arith }
@@ -116,15 +113,8 @@ end_is_no_entry v n le = rw (end_of_no_entry n le) refl
 
 -- ---- what fits a shape may be said
 
-makes_kind : (s : Layout) (who : Who) (c : Call) → may_make s who c ≡ true → is_of_kind who c ≡ true
-makes_kind s (Caller n) c e = (and_parts (ltb n.0 s.callers) (is_callers c) e).1
-makes_kind s (Worker w) c e = (and_parts (ltb w.pool.cpu.0 s.cpus && ltb w.index s.workers) (is_workers c) e).1
-
 has_some : (s : Layout) (c : Call) → has_numbers s c ≡ true → sets_some c ≡ true
-has_some s (call.SetMax q n) e = (and_parts (ltb q.0 (length s.queues)) (leb 1 n) e).1
-has_some s c e = refl
+has_some s c e = grind arith
 
 pub fits_line : (s : Layout) (who : Who) (c : Call) → fits s who c ≡ true → may_say who c ≡ true
-fits_line s who c e =
-    let parts = and_parts (may_make s who c) (has_numbers s c) e in
-    and_from (is_of_kind who c) (sets_some c) (makes_kind s who c parts.0) (has_some s c parts.1)
+fits_line s who c e = grind arith

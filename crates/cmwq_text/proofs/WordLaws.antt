@@ -1,9 +1,9 @@
 -- Words that are joined are found again, if no space and no line feed stands inside them; and a line is its words, joined.
-use Rattle.cmwq_text.specs.Common.{◌≡◌, ℕ, zero, suc, ◌<◌, ◌≤◌, ◌^◌, Bool, true, false, List, [], ◌∷◌, ◌++◌, length, get_or, leb, ltb, Option, Some, refl, ap, ◌∙◌, arith, decimal, is_ascii_digit, all_ascii_digits, bytes_eq, list_all, leb-true, ltb-true, lt-ltb, ne_eqb, same_Some, slice_split_none, slice_split_at, join_with_byte-slice_split, bytes_eq-Decides, digits_decimal}
+use Rattle.cmwq_text.specs.Common.{◌≡◌, ℕ, zero, suc, ◌<◌, ◌^◌, Bool, true, false, List, [], ◌∷◌, ◌++◌, length, get_or, ltb, Option, Some, refl, arith, decimal, all_ascii_digits, list_all, ltb-true, ne_eqb, slice_split_none, slice_split_at, join_with_byte-slice_split, bytes_eq-Decides, digits_decimal}
 use Rattle.cmwq_text.specs.Words.{is_space, words_of, join_words, after, word_read}
-use Rattle.cmwq_text.proofs.Steps.{bind_some, chosen}
+use Rattle.cmwq_text.proofs.Steps.{chosen}
 use Rattle.cmwq_text.proofs.NumberLaws.{own}
-use Rattle.std.proofs.lemmas.Bool.{and_from, and_parts}
+use Rattle.std.proofs.lemmas.Bool.{and_parts}
 
 -- ---- plain words: each byte is above the space
 
@@ -18,24 +18,15 @@ are_plain ws = list_all is_plain ws
 
 pub is_plain-append : (a b : List ℕ) → is_plain a ≡ true → is_plain b ≡ true → is_plain (a ++ b) ≡ true
 is_plain-append [] b p q = q
-is_plain-append (x ∷ xs) b p q =
-    let parts = and_parts (is_above_space x) (is_plain xs) p in
-    and_from (is_above_space x) (is_plain (xs ++ b)) parts.0 (is_plain-append xs b parts.1 q)
+is_plain-append (x ∷ xs) b p q = grind (arith, is_plain-append xs b)
 
 pub are_plain-append : (a b : List (List ℕ)) → are_plain a ≡ true → are_plain b ≡ true → are_plain (a ++ b) ≡ true
 are_plain-append [] b p q = q
-are_plain-append (w ∷ ws) b p q =
-    let parts = and_parts (is_plain w) (are_plain ws) p in
-    and_from (is_plain w) (are_plain (ws ++ b)) parts.0 (are_plain-append ws b parts.1 q)
-
-digit_is_above : (d : ℕ) → is_ascii_digit d ≡ true → is_above_space d ≡ true
-digit_is_above d e = let from : 48 ≤ d = leb-true 48 d (and_parts (leb 48 d) (leb d 57) e).0 in lt-ltb 32 d (omega (arith, from))
+are_plain-append (w ∷ ws) b p q = grind (arith, are_plain-append ws b)
 
 is_plain-digits : (ds : List ℕ) → all_ascii_digits ds ≡ true → is_plain ds ≡ true
 is_plain-digits [] e = refl
-is_plain-digits (d ∷ ds) e =
-    let parts = and_parts (is_ascii_digit d) (all_ascii_digits ds) e in
-    and_from (is_above_space d) (is_plain ds) (digit_is_above d parts.0) (is_plain-digits ds parts.1)
+is_plain-digits (d ∷ ds) e = grind (arith, is_plain-digits ds)
 
 pub is_plain-decimal : (n : ℕ) → n < 2 ^ 64 → is_plain (decimal n) ≡ true
 is_plain-decimal n lt = is_plain-digits (decimal n) (digits_decimal own n lt)
@@ -51,11 +42,8 @@ no_space w i d p lt = let above : 32 < get_or w i d = plain_at w i d p lt in ne_
 -- ---- a line and its words
 
 pub words_again : (w : List ℕ) (ws : List (List ℕ)) → are_plain (w ∷ ws) ≡ true → words_of (join_words (w ∷ ws)) ≡ w ∷ ws
-words_again w [] p = slice_split_none is_space w (λ i d lt. no_space w i d (and_parts (is_plain w) true p).0 lt)
-words_again w (v ∷ ws) p =
-    let parts = and_parts (is_plain w) (are_plain (v ∷ ws)) p in
-    slice_split_at is_space w 32 (join_words (v ∷ ws)) (λ i d lt. no_space w i d parts.0 lt) refl
-    ∙ ap (λ (rest : List (List ℕ)). w ∷ rest) (words_again v ws parts.1)
+words_again w [] p = grind (arith, slice_split_none, no_space)
+words_again w (v ∷ ws) p = grind (arith, slice_split_at, no_space, words_again v ws)
 
 pub joined_words : (line : List ℕ) → join_words (words_of line) ≡ line
 joined_words line = join_with_byte-slice_split 32 line
@@ -64,14 +52,7 @@ joined_words line = join_with_byte-slice_split 32 line
 
 pub word_takes : {A : Type 0} (f : List ℕ → Option A) (ws : List (List ℕ)) (x : A × List (List ℕ)) → word_read f ws ≡ Some x → (w : List ℕ) × (ws ≡ w ∷ x.1) × (f w ≡ Some x.0)
 word_takes {A} f [] x e = absurd cc
-word_takes {A} f (w ∷ ws) x e =
-    let read = bind_some (f w) (λ (v : A). Some (v, ws)) x e in
-    let same : (read.0, ws) ≡ x = same_Some _ _ read.2 in
-    (w, ap (λ (y : A × List (List ℕ)). w ∷ y.1) same, read.1 ∙ ap (λ (y : A × List (List ℕ)). Some y.0) same)
+word_takes {A} f (w ∷ ws) x e = grind arith
 
 pub after_takes : (w : List ℕ) (ws rest : List (List ℕ)) → after w ws ≡ Some rest → ws ≡ w ∷ rest
-after_takes w [] rest e = absurd cc
-after_takes w (v ∷ ws) rest e =
-    let found = chosen (bytes_eq v w) (Some ws) rest e in
-    let first : v ≡ w = (bytes_eq-Decides v w).0 found.0 in
-    rw (first, same_Some _ _ found.1) refl
+after_takes w ws rest e = grind (arith, chosen, bytes_eq-Decides)

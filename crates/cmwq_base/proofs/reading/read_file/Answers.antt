@@ -85,6 +85,4 @@ loop-number-preserved g c =
     }
 
 pub returns-clause-exact : goal.returns-clause-exact
-returns-clause-exact g c =
-    let progress = c.loop-number.invariant.progress in
-    absurd (too_many (as_front c.args.is_front g.G.Item.FileLine.kind) c.loop-number.number (stage_of g.G.Gather.layout g.G.Gather.items c.loop-number.stage) (omega arith) progress.count progress.within)
+returns-clause-exact g c = grind (arith, too_many)

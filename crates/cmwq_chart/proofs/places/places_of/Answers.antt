@@ -7,10 +7,7 @@ use Rattle.cmwq_chart.proofs.Used.{all_used}
 use Rattle.cmwq_chart.proofs.places.places_of.Goals as goal
 
 pub loop-queue-preserved : goal.loop-queue-preserved
-loop-queue-preserved c = record {
-  places = all_used (has_queueings c.args.queueings.now) (places_of_queue c.args.shape.now) _ _ c.loop-queue.queue c.loop-queue.invariant.places c.in_ok-push_queue.ensures.places;
-  few = omega (arith, c.in_ok-push_queue.ensures.few);
-}
+loop-queue-preserved c = grind (arith, all_used)
 
 pub returns-clause-inside : goal.returns-clause-inside
 unfolding places_of

@@ -1,4 +1,4 @@
-use Rattle.std.proofs.Common.{◌++◌, take, length, sym, ap, ◌∙◌, append_assoc, append-nil, option_to_list, Option, arith}
+use Rattle.std.proofs.Common.{◌++◌, take, length, length-take, sym, ap, ◌∙◌, append_assoc, append-nil, option_to_list, Option, arith}
 use Rattle.cmwq_model.specs.Prelude.{past_of}
 use Rattle.cmwq_chart.specs.declared.waits.CallerWait.{CallerWait}
 use Rattle.cmwq_chart.specs.declared.waits.WaitSign.{WaitSign}
@@ -15,16 +15,10 @@ loop-k-init c = record {
 }
 
 pub loop-k-preserved : goal.loop-k-preserved
-loop-k-preserved c =
-    let past = past_of (take c.loop-k.k c.args.entries.now) in
-    let e = c.entry_at-entry.result in
-    rw c.entry_at-entry.ensures record {
-      rows = c.in_ok-follow_rows.ensures.rows;
-      few = omega (arith, c.in_ok-follow_rows.ensures.few, c.loop-k.invariant.few);
-      waits = c.in_ok-keep_wait.ensures ∙ ap (λ l. l ++ option_to_list c.wait_ended.result) c.loop-k.invariant.waits
-          ∙ append_assoc c.args.waits.now.items (waits_ended past c.args.caller) (option_to_list c.wait_ended.result)
-          ∙ ap (λ l. c.args.waits.now.items ++ l) (ap (λ (o : Option CallerWait). waits_ended past c.args.caller ++ option_to_list o) c.wait_ended.ensures ∙ sym (waits_step e past c.args.caller));
-      signs = c.in_ok-keep_sign.ensures ∙ ap (λ l. l ++ option_to_list c.wait_sign_of.result) c.loop-k.invariant.signs
-          ∙ append_assoc c.args.signs.now.items (wait_signs_by past c.args.caller) (option_to_list c.wait_sign_of.result)
-          ∙ ap (λ l. c.args.signs.now.items ++ l) (ap (λ (o : Option WaitSign). wait_signs_by past c.args.caller ++ option_to_list o) c.wait_sign_of.ensures ∙ sym (wait_signs_step e past c.args.caller));
-    }
+loop-k-preserved c = grind (arith, append_assoc, waits_step, wait_signs_step)
+
+pub wait_ended-requires : goal.wait_ended-requires
+wait_ended-requires c = grind (arith, length-take)
+
+pub follow_rows-requires : goal.follow_rows-requires
+follow_rows-requires c = grind (arith, length-take)

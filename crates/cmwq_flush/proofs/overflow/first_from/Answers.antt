@@ -1,5 +1,5 @@
 use Rattle.cmwq_flush.specs.Common.{sym, ◌∙◌, arith}
-use Rattle.std.proofs.lemmas.Bool.{le-leb, lt-leb}
+use Rattle.std.proofs.lemmas.Bool.{lt-leb}
 use Rattle.cmwq_list.specs.Lists.{list_at}
 use Rattle.cmwq_flush.specs.Overflow.{is_from, ticket_of_node}
 use Rattle.cmwq_flush.proofs.OverflowNodes.{has_there, found_here, left_more}
@@ -12,10 +12,7 @@ bounds-tickets-node c =
     omega (arith, c.requires.many)
 
 pub returns-then-ticket-tickets-clause-first : goal.returns-then-ticket-tickets-clause-first
-returns-then-ticket-tickets-clause-first c =
-    let xs = list_at c.args.lists.now.lists c.args.list in
-    found_here (is_from c.args.tickets.now c.args.ticket) xs c.loop-index.index c.in_ok-node.node (sym c.loop-index.invariant.here ∙ c.in_ok-node.was) c.loop-index.invariant.left
-    (le-leb c.args.ticket (ticket_of_node c.args.tickets.now c.in_ok-node.node) c.if-ticket-tickets.true)
+returns-then-ticket-tickets-clause-first c = grind (arith, found_here)
 
 pub next-at-requires : goal.next-at-requires
 next-at-requires c =

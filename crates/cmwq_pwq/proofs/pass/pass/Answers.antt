@@ -1,7 +1,8 @@
-use Rattle.cmwq_pwq.specs.Common.{rules, ◌≡◌, ◌<◌, ◌≤◌, ◌+◌, ◌++◌, ◌∷◌, [], Some, length, get_or, length-append, sym, ap, ◌∙◌, arith, append-nil, All-get_or}
+use Rattle.cmwq_pwq.specs.Common.{rules, ◌≡◌, ◌<◌, ◌≤◌, ◌+◌, ◌++◌, ◌∷◌, [], Some, None, length, get_or, length-append, sym, ap, ◌∙◌, arith, append-nil, All-get_or}
+use Rattle.std.proofs.Common.{⊎_elim}
 use Rattle.std.specs.Prelude.{slice_get}
 use Rattle.std.proofs.lemmas.List.{drop_all}
-use Rattle.std.proofs.lemmas.Option.{get_or_from_slice_get, slice_get_within}
+use Rattle.std.proofs.lemmas.Option.{get_or_from_slice_get, slice_get_cases, slice_get_within}
 use Rattle.cmwq_pwq.specs.Pwqs.{IsPlaced, place_of, count_of_same_pwq, width_by}
 use Rattle.cmwq_pwq.proofs.Passes.{next_after, next_behind, passed_by, taken_out, pass_kept, pass_activated, pass_all, read_count, place_inside}
 use Rattle.cmwq_pwq.proofs.pass.pass.Goals as goal
@@ -69,3 +70,6 @@ returns-clause-passes c =
     let past : length xs ≤ i = rw c.len-index-end.ensures.len at c.loop-index-test.false in
     let left : c.loop-index.waiting.queueings ≡ rest = inv.passed.1 ∙ (ap (λ zs. rest ++ zs) (drop_all i xs past) ∙ append-nil rest) in
     λ way have. rw left (pass_all way c.args.counts.now.items c.loop-index.counts.items xs rest c.loop-index.activated.items i past (inv.passed.3 way have))
+
+pub returns-in_default-clause-passes : goal.returns-in_default-clause-passes
+returns-in_default-clause-passes c = grind (arith, slice_get_cases)

@@ -17,12 +17,7 @@ overflow_add-entry c =
     omega arith
 
 pub index_mut-requires : goal.index_mut-requires
-index_mut-requires c =
-    let s = c.requires.0 in let f = c.args.effect.now in
-    let few = limits_of s c.requires.2.inside in
-    let below = who_below s f.entry.who (effect_there s c.requires.1 f c.requires.2.effect) few.workers.1 few.callers.1 in
-    let many = c.requires.3.many in
-    rw c.who_place.ensures (omega (arith, c.args.serials.now.ok.0))
+index_mut-requires c = grind (arith, who_below, effect_there, c.requires.0, c.requires.2.inside, c.requires.1, c.requires.2.effect, c.requires.3.many, c.args.serials.now.ok.0)
 
 pub returns : goal.returns
 returns c s past next are =

@@ -7,23 +7,13 @@ use Rattle.cmwq_flush.proofs.Queues.{found_inside, found_right, found_book, over
 use Rattle.cmwq_flush.proofs.books.FlushBooks.begin.Goals as goal
 
 pub index_mut-requires : goal.index_mut-requires
-index_mut-requires c =
-    let b = c.self.inside in
-    let there = rw (← c.self.view_is) at c.requires.queue in
-    let inside = found_inside (length b.openings.opened) b.openings.rows b.overflow.queues b.queues.items c.self.invariant.0 c.args.queue.0 c.from.result there c.from.ensures in
-    omega (arith, b.queues.ok)
+index_mut-requires c = grind (arith, found_inside, c.self.invariant.0, c.args.queue.0)
 
 pub begin-requires-clause-queue : goal.begin-requires-clause-queue
-begin-requires-clause-queue c =
-    let b = c.self.inside in
-    let there = rw (← c.self.view_is) at c.requires.queue in
-    overflow_there (length b.openings.opened) b.openings.rows b.overflow.queues b.queues.items c.self.invariant.0 c.args.queue.0 c.from.result there c.from.ensures
+begin-requires-clause-queue c = grind (arith, overflow_there, c.self.invariant.0, c.args.queue.0)
 
 pub begin-requires-clause-room : goal.begin-requires-clause-room
-begin-requires-clause-room c =
-    let b = c.self.inside in
-    let room = (rw (← c.self.view_is) at c.requires.can).room in
-    rw (overflow_counted (length b.openings.opened) b.openings.rows b.overflow.queues b.queues.items c.self.invariant.0.many c.self.invariant.0.lists) at room
+begin-requires-clause-room c = grind (arith, overflow_counted, c.self.invariant.0.many, c.self.invariant.0.lists)
 
 pub begin-requires-clause-right : goal.begin-requires-clause-right
 begin-requires-clause-right c =

@@ -7,17 +7,10 @@ use Rattle.cmwq_flush.proofs.Queues.{found_inside, found_right, found_book, over
 use Rattle.cmwq_flush.proofs.books.FlushBooks.end.Goals as goal
 
 pub index_mut-requires : goal.index_mut-requires
-index_mut-requires c =
-    let b = c.self.inside in
-    let there = rw (← c.self.view_is) at c.requires.queue in
-    let inside = found_inside (length b.openings.opened) b.openings.rows b.overflow.queues b.queues.items c.self.invariant.0 c.args.queue.0 c.from.result there c.from.ensures in
-    omega (arith, b.queues.ok)
+index_mut-requires c = grind (arith, found_inside, c.self.invariant.0, c.args.queue.0)
 
 pub end-requires-clause-queue : goal.end-requires-clause-queue
-end-requires-clause-queue c =
-    let b = c.self.inside in
-    let there = rw (← c.self.view_is) at c.requires.queue in
-    overflow_there (length b.openings.opened) b.openings.rows b.overflow.queues b.queues.items c.self.invariant.0 c.args.queue.0 c.from.result there c.from.ensures
+end-requires-clause-queue c = grind (arith, overflow_there, c.self.invariant.0, c.args.queue.0)
 
 pub end-requires-clause-right : goal.end-requires-clause-right
 end-requires-clause-right c =

@@ -10,12 +10,7 @@ use Rattle.cmwq_flush.proofs.Queues.{books-length, book_at, found_inside, found_
 use Rattle.cmwq_flush.proofs.books.FlushBooks.ended.Goals as goal
 
 pub index_mut-requires : goal.index_mut-requires
-index_mut-requires c =
-    let b = c.self.inside in
-    let r = rw (← c.self.view_is) at c.requires in
-    let there = r.queue in
-    let inside = found_inside (length b.openings.opened) b.openings.rows b.overflow.queues b.queues.items c.self.invariant.0 c.args.queue.0 c.from.result there c.from.ensures in
-    omega (arith, b.queues.ok)
+index_mut-requires c = grind (arith, found_inside, c.self.invariant.0, c.args.queue.0)
 
 pub ended-requires : goal.ended-requires
 ended-requires c =

@@ -7,11 +7,7 @@ use Rattle.std.proofs.lemmas.List.{length-map}
 use Rattle.cmwq_flush.proofs.books.FlushBooks.has_place.Goals as goal
 
 pub len-requires : goal.len-requires
-len-requires c =
-    let b = c.self.inside in
-    let there = rw (← c.self.view_is) at c.requires.queue in
-    let size = books-length (length b.openings.opened) b.openings.rows b.overflow.queues b.queues.items c.self.invariant.0.many c.self.invariant.0.lists in
-    omega (arith, c.self.invariant.0.many)
+len-requires c = grind (arith, books-length, c.self.invariant.0.many, c.self.invariant.0.lists)
 
 pub returns-then-len-from : goal.returns-then-len-from
 returns-then-len-from c =

@@ -1,20 +1,14 @@
-use Rattle.cmwq_flush.specs.Common.{◌∙◌, sym, ap, length, arith, slice_get}
+use Rattle.cmwq_flush.specs.Common.{length, arith}
 use Rattle.cmwq_flush.specs.Rows.{rows_at}
 use Rattle.cmwq_flush.proofs.Rightness.{first_is_least}
 use Rattle.cmwq_flush.proofs.Queues.{books-length, opened_of, rows_rise}
 use Rattle.cmwq_flush.proofs.books.FlushBooks.least_open.Goals as goal
 
 pub first-requires : goal.first-requires
-first-requires c =
-    let b = c.self.inside in
-    let there = rw (← c.self.view_is) at c.requires in
-    let size = books-length (length b.openings.opened) b.openings.rows b.overflow.queues b.queues.items c.self.invariant.0.many c.self.invariant.0.lists in
-    omega (arith, c.self.invariant.0.many)
+first-requires c = grind (arith, books-length, c.self.invariant.0.many, c.self.invariant.0.lists)
 
 pub returns-clause-first : goal.returns-clause-first
-returns-clause-first c =
-    let b = c.self.inside in
-    rw (← c.self.view_is) (c.first.ensures ∙ ap (λ ns. slice_get ns 0) (sym (opened_of (length b.openings.opened) b.openings.rows b.overflow.queues b.queues.items c.args.queue.0 c.self.invariant.0.many c.self.invariant.0.lists)))
+returns-clause-first c = grind (arith, opened_of, c.args.queue.0, c.self.invariant.0.many, c.self.invariant.0.lists)
 
 pub returns-clause-least : goal.returns-clause-least
 returns-clause-least c =

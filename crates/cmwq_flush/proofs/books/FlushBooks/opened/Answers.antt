@@ -10,12 +10,7 @@ use Rattle.cmwq_flush.proofs.Queues.{found_inside, found_right, found_book, both
 use Rattle.cmwq_flush.proofs.books.FlushBooks.opened.Goals as goal
 
 pub index_mut-requires : goal.index_mut-requires
-index_mut-requires c =
-    let b = c.self.inside in
-    let r = rw (← c.self.view_is) at c.requires.can in
-    let there = r.queue in
-    let inside = found_inside (length b.openings.opened) b.openings.rows b.overflow.queues b.queues.items c.self.invariant.0 c.args.queue.0 c.from.result there c.from.ensures in
-    omega (arith, b.queues.ok)
+index_mut-requires c = grind (arith, found_inside, c.self.invariant.0, c.args.queue.0)
 
 pub opened-colour-requires : goal.opened-colour-requires
 opened-colour-requires c =
@@ -27,11 +22,7 @@ opened-colour-requires c =
     (length b.openings.opened, rows_at b.openings.rows c.args.queue.0, tickets_at b.overflow.queues c.args.queue.0, right, can, c.self.invariant.1, c.requires.few)
 
 pub open-requires-clause-queue : goal.open-requires-clause-queue
-open-requires-clause-queue c =
-    let b = c.self.inside in
-    let r = rw (← c.self.view_is) at c.requires.can in
-    let there = r.queue in
-    rows_there (length b.openings.opened) b.openings.rows b.overflow.queues b.queues.items c.self.invariant.0 c.args.queue.0 c.from.result there c.from.ensures
+open-requires-clause-queue c = grind (arith, rows_there, c.self.invariant.0, c.args.queue.0)
 
 pub open-requires-clause-item : goal.open-requires-clause-item
 open-requires-clause-item c = let r = rw (← c.self.view_is) at c.requires.can in r.item

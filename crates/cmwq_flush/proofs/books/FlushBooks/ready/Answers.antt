@@ -5,18 +5,10 @@ use Rattle.cmwq_flush.proofs.Queues.{books-length, found_inside, found_right, fo
 use Rattle.cmwq_flush.proofs.books.FlushBooks.ready.Goals as goal
 
 pub is_empty-is_empty-requires : goal.is_empty-is_empty-requires
-is_empty-is_empty-requires c =
-    let b = c.self.inside in
-    let there = rw (← c.self.view_is) at c.requires.queue in
-    let size = books-length (length b.openings.opened) b.openings.rows b.overflow.queues b.queues.items c.self.invariant.0.many c.self.invariant.0.lists in
-    omega (arith, c.self.invariant.0.many)
+is_empty-is_empty-requires c = grind (arith, books-length, c.self.invariant.0.many, c.self.invariant.0.lists)
 
 pub index-requires : goal.index-requires
-index-requires c =
-    let b = c.self.inside in
-    let there = rw (← c.self.view_is) at c.requires.queue in
-    let inside = found_inside (length b.openings.opened) b.openings.rows b.overflow.queues b.queues.items c.self.invariant.0 c.args.queue.0 c.from.result there c.from.ensures in
-    omega (arith, b.queues.ok)
+index-requires c = grind (arith, found_inside, c.self.invariant.0, c.args.queue.0)
 
 pub ready-requires : goal.ready-requires
 ready-requires c =

@@ -4,17 +4,10 @@ use Rattle.cmwq_flush.proofs.Queues.{found_inside, found_right, found_book, over
 use Rattle.cmwq_flush.proofs.books.FlushBooks.stands.Goals as goal
 
 pub index-requires : goal.index-requires
-index-requires c =
-    let b = c.self.inside in
-    let there = rw (← c.self.view_is) at c.requires in
-    let inside = found_inside (length b.openings.opened) b.openings.rows b.overflow.queues b.queues.items c.self.invariant.0 c.args.queue.0 c.from.result there c.from.ensures in
-    omega (arith, b.queues.ok)
+index-requires c = grind (arith, found_inside, c.self.invariant.0, c.args.queue.0)
 
 pub stands-requires-clause-queue : goal.stands-requires-clause-queue
-stands-requires-clause-queue c =
-    let b = c.self.inside in
-    let there = rw (← c.self.view_is) at c.requires in
-    overflow_there (length b.openings.opened) b.openings.rows b.overflow.queues b.queues.items c.self.invariant.0 c.args.queue.0 c.from.result there c.from.ensures
+stands-requires-clause-queue c = grind (arith, overflow_there, c.self.invariant.0, c.args.queue.0)
 
 pub stands-requires-clause-right : goal.stands-requires-clause-right
 stands-requires-clause-right c =

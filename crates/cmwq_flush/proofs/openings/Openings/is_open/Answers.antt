@@ -1,6 +1,5 @@
-use Rattle.cmwq_flush.specs.Common.{◌≡◌, ◌<◌, ℕ, length, map, sym, ap, ◌∙◌, arith, Option, Some, None, eqb, true, length-map, ◌↔◌}
+use Rattle.cmwq_flush.specs.Common.{◌≡◌, ◌<◌, ℕ, length, map, sym, ◌∙◌, arith, Option, Some, eqb, true, length-map, ◌↔◌}
 use Rattle.std.specs.Option.{option_eq}
-use Rattle.std.proofs.lemmas.Bool.{eqb-true, eq-eqb}
 use Rattle.cmwq_flush.specs.Openings.{rows_of, node_row}
 use Rattle.cmwq_flush.proofs.Opening.{item_there, node_is, open_on}
 use Rattle.cmwq_flush.proofs.openings.Openings.is_open.Goals as goal
@@ -21,8 +20,7 @@ list_of-requires c =
     c.self.invariant.known c.node_of-node.result is.0
 
 same_option : (o : Option ℕ) (q : ℕ) → (option_eq eqb o (Some q) ≡ true) ↔ (o ≡ Some q)
-same_option None q = ((λ e. cc), (λ e. cc))
-same_option (Some a) q = ((λ e. ap Some (eqb-true a q e)), (λ e. eq-eqb a q (let same : Some a ≡ Some q = e in cc)))
+same_option o q = grind arith
 
 pub returns-then-len-gt0 : goal.returns-then-len-gt0
 returns-then-len-gt0 c =

@@ -8,12 +8,7 @@ use Rattle.cmwq_flush.proofs.OverflowNodes.{tickets_at-of, list_there, first_has
 use Rattle.cmwq_flush.proofs.overflow.Overflow.pop_front.Goals as goal
 
 pub returns-in_err-node-clause-oldest : goal.returns-in_err-node-clause-oldest
-returns-in_err-node-clause-oldest c =
-    let s = c.self.inside in
-    let q = c.args.queue.0 in
-    let at : c.list_of.result ≡ suc q = omega (arith, c.list_of.ensures) in
-    let first = rw at at c.in_err-node.ensures in
-    rw (← c.self.view_is, tickets_at-of s.lists.lists s.tickets.items q, no_first s.tickets.items (list_at s.lists.lists (suc q)) first) c.from_residual.ensures
+returns-in_err-node-clause-oldest c = grind (arith, tickets_at-of, no_first, c.args.queue.0)
 
 pub returns-in_err-node-clause-rest : goal.returns-in_err-node-clause-rest
 returns-in_err-node-clause-rest c =

@@ -7,13 +7,7 @@ use Rattle.cmwq_flush.proofs.OverflowNodes.{list_there, free_counted, some_first
 use Rattle.cmwq_flush.proofs.overflow.Overflow.push_back.Goals as goal
 
 pub unwrap-node-requires : goal.unwrap-node-requires
-unwrap-node-requires c =
-    let s = c.self.inside in
-    let room = rw (← c.self.view_is) at c.requires.room in
-    let counted = free_counted s.lists.lists s.tickets.items in
-    let all = c.self.invariant.all in
-    let many = c.self.invariant.many in
-    some_first (list_at s.lists.lists 0) c.first.result c.first.ensures (omega arith)
+unwrap-node-requires c = grind (arith, free_counted, some_first)
 
 pub remove-requires : goal.remove-requires
 remove-requires c =

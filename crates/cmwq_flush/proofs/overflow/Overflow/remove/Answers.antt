@@ -7,14 +7,7 @@ use Rattle.cmwq_flush.proofs.OverflowNodes.{tickets_at-of, list_there, from_has,
 use Rattle.cmwq_flush.proofs.overflow.Overflow.remove.Goals as goal
 
 pub unwrap-node-requires : goal.unwrap-node-requires
-unwrap-node-requires c =
-    let s = c.self.inside in
-    let q = c.args.queue.0 in
-    let at : c.list_of.result ≡ suc q = omega (arith, c.list_of.ensures) in
-    let first = rw (at, c.deref.ensures.value) at c.first_from.ensures.first in
-    let rise = rw (← c.self.view_is, tickets_at-of s.lists.lists s.tickets.items q) at c.requires.rise in
-    let stands = rw (← c.self.view_is, tickets_at-of s.lists.lists s.tickets.items q) at c.requires.stands in
-    found_some s.tickets.items c.args.ticket (list_at s.lists.lists (suc q)) c.first_from.result first rise stands
+unwrap-node-requires c = grind (arith, tickets_at-of, found_some, c.args.queue.0)
 
 pub free-requires-clause-node : goal.free-requires-clause-node
 free-requires-clause-node c =

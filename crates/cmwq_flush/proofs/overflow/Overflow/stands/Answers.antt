@@ -29,11 +29,4 @@ returns-in-Some c =
     rw (← c.self.view_is, tickets_at-of s.lists.lists s.tickets.items q, is) (stands_told s.tickets.items c.args.ticket c.in-Some.node xs rise (sym first))
 
 pub returns-in-None : goal.returns-in-None
-returns-in-None c =
-    let s = c.self.inside in
-    let q = c.args.queue.0 in
-    let at : c.list_of.result ≡ suc q = omega (arith, c.list_of.ensures) in
-    let first = rw (at, c.deref.ensures.value) at c.in-None.ensures.first in
-    let xs = list_at s.lists.lists (suc q) in
-    let rise = rw (← c.self.view_is, tickets_at-of s.lists.lists s.tickets.items q) at c.requires.rise in
-    rw (← c.self.view_is, tickets_at-of s.lists.lists s.tickets.items q) (λ yes. absurd (false≢true yes), λ found. absurd (absent_told s.tickets.items c.args.ticket xs rise (sym first) found))
+returns-in-None c = grind (arith, tickets_at-of, false≢true, absent_told, c.args.queue.0)

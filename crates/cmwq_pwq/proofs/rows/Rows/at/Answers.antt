@@ -3,22 +3,13 @@ use Rattle.cmwq_pwq.proofs.RowSteps.{row_read, row_within}
 use Rattle.cmwq_pwq.proofs.rows.Rows.at.Goals as goal
 
 pub overflow_cast-result : goal.overflow_cast-result
-overflow_cast-result c =
-    let s = c.self.inside in
-    let low : c.args.item < length s.numbers.items = row_within s.numbers.items s.places.items c.args.item c.self.invariant (rw (← c.self.view_is) at c.requires) in
-    omega (arith, low, c.self.invariant.few)
+overflow_cast-result c = grind (arith, row_within)
 
 pub index-requires : goal.index-requires
-index-requires c =
-    let s = c.self.inside in
-    let low : c.args.item < length s.numbers.items = row_within s.numbers.items s.places.items c.args.item c.self.invariant (rw (← c.self.view_is) at c.requires) in
-    omega (arith, low, c.self.invariant.many, s.places.ok.0)
+index-requires c = grind (arith, row_within)
 
 pub index-number-requires : goal.index-number-requires
-index-number-requires c =
-    let s = c.self.inside in
-    let low : c.args.item < length s.numbers.items = row_within s.numbers.items s.places.items c.args.item c.self.invariant (rw (← c.self.view_is) at c.requires) in
-    omega (arith, low, s.numbers.ok.0)
+index-number-requires c = grind (arith, row_within)
 
 pub returns : goal.returns
 returns c =
