@@ -39,8 +39,15 @@ pub told_by : (past : List Entry) (e : Entry) (v : WorkerId) (table : List Worke
 told_by past e v table own who named known is = (length-set table (table_number v) own ∙ known.0, λ w d here. at w d here (table_number w == table_number v) refl)
   where
     at : (w : WorkerId) (d : WorkerSleeps) → HasTableNumber w → (b : Bool) → (table_number w == table_number v) ≡ b → AreSleepsKnown (e ∷ past) w (slice_index_or (slice_set table (table_number v) own) (table_number w) d)
-    at w d here true same = grind (arith, nat_tests, get_or-set_at, number_within)
-    at w d here false same = grind (arith, nat_tests)
+    at w d here true same =
+        let numbers : table_number w ≡ table_number v = eqb-true _ _ same in
+        let one : v ≡ w = one_worker v w named here (sym numbers) in
+        let read : slice_index_or (slice_set table (table_number v) own) (table_number w) d ≡ own = get_or-set_at table (table_number v) (table_number w) own d numbers (rw known.0 (number_within v named)) in
+        subst (AreSleepsKnown (e ∷ past) w) (sym read) (subst (λ x. AreSleepsKnown (e ∷ past) x own) one is)
+    at w d here false same =
+        let others : is_by (Worker w) e ≡ false = rw who (apart v w same) in
+        let read : slice_index_or (slice_set table (table_number v) own) (table_number w) d ≡ slice_index_or table (table_number w) d = get_or-set_other table (table_number v) (table_number w) own d (λ numbers. cc (same, eq-eqb (table_number w) (table_number v) numbers)) in
+        subst (AreSleepsKnown (e ∷ past) w) (sym read) (not_told past e w _ others (known.1 w d here))
 
 pub told_by_caller : (past : List Entry) (e : Entry) (table : List WorkerSleeps) → ((w : WorkerId) → is_by (Worker w) e ≡ false) → AreAllSleepsKnown past table → AreAllSleepsKnown (e ∷ past) table
 told_by_caller past e table others known = (known.0, λ w d here. not_told past e w _ (others w) (known.1 w d here))

@@ -266,5 +266,7 @@ pub(crate) fn levels_of(
     ensures { IfOk result (λ levels. levels.items ≡ spec.levels_of shape.now (past_of entries.now) places.now) }
 {
     let mut execution = Execution::new(alloc, shape, ALL_ROOM)?;
-    levels_along(alloc, &mut execution, entries, places)
+    let levels = levels_along(alloc, &mut execution, entries, places);
+    execution.end();
+    levels
 }

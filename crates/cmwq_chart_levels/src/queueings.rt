@@ -48,5 +48,7 @@ pub(crate) fn queueings_of(
     ensures { IfOk result (λ queueings. queueings.items ≡ spec.queueings (past_of entries.now)) }
 {
     let mut execution = Execution::new(alloc, shape, ALL_ROOM)?;
-    queueings_along(alloc, &mut execution, entries)
+    let queueings = queueings_along(alloc, &mut execution, entries);
+    execution.end();
+    queueings
 }

@@ -167,6 +167,7 @@ impl Book {
     pub fn into_history(self) -> Vec<Entry>
         ensures { result.items ≡ self.entries }
     {
+        self.execution.end();
         self.entries
     }
 }

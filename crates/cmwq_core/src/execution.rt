@@ -52,6 +52,11 @@ impl Execution {
         })
     }
 
+    /// Lets the execution go, as `State::end` does a state.
+    pub fn end(self) {
+        self.state.end();
+    }
+
     /// How many entries there are.
     pub fn len(&self) -> u64
         ensures len { result ≡ length self.now.entries }

@@ -122,7 +122,9 @@ pub fn check(
     // it shows that the shape is inside the limits, on which the bound rests
     let _counts = shape.counts();
     let mut state = State::new(alloc, shape, entries.len() as u64 + MOST_OWED)?;
-    Ok(verdict(&mut state, entries))
+    let verdict = verdict(&mut state, entries);
+    state.end();
+    Ok(verdict)
 }
 
 /// The verdict of a history, whose entries are appended to a state that has none while they are right.

@@ -42,10 +42,12 @@ pub fn tell_no_room(
 fn first_full(alloc: Global, file: &Listed<(Who, Call)>) -> Option<u64> {
     let room = file.shape.counts().room;
     let mut execution = Execution::new(alloc, &file.shape, room).ok()?;
-    first_full_of(&mut execution, file)
+    let full = first_full_of(&mut execution, file);
+    execution.end();
+    full
 }
 
-/// The same, of an execution without entries. So the execution is let go at one place alone.
+/// The same, of an execution without entries.
 fn first_full_of(execution: &mut Execution, file: &Listed<(Who, Call)>) -> Option<u64>
     requires { execution.old.layout ≡ file.now.shape }
 {

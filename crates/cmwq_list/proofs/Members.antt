@@ -12,9 +12,7 @@ use Rattle.cmwq_list.specs.Lists.{has_item, without_item, AreDistinct}
 
 -- a number that a list lacks is not its first, and the rest lacks it
 pub lacks : (q x : ℕ) (xs : List ℕ) → has_item q (x ∷ xs) ≡ false → (x ≢ q) × (has_item q xs ≡ false)
-lacks q x xs h =
-    let parts = or_parts (nat_eq q x) (has_item q xs) h in
-    (λ e. eqb-false q x parts.0 (sym e), parts.1)
+lacks q x xs h = grind arith
 
 pub lacks_from : (q x : ℕ) (xs : List ℕ) → x ≢ q → has_item q xs ≡ false → has_item q (x ∷ xs) ≡ false
 lacks_from q x xs ne h = or_from (nat_eq q x) (has_item q xs) (ne_eqb q x (λ e. ne (sym e))) h
@@ -28,47 +26,22 @@ without_none i xs h = filter_all (λ x. not (nat_eq i x)) xs (All_map (λ x. nat
 
 pub has-without : (j i : ℕ) (xs : List ℕ) → has_item j (without_item i xs) ≡ (has_item j xs && not (nat_eq j i))
 has-without j i [] = refl
-has-without j i (x ∷ xs) = by (nat_eq i x) refl (has-without j i xs)
-  where
-    same : (p q r : Bool) → p ≡ r → (q && not r) ≡ ((p || q) && not r)
-    same true q r h = ap (λ c. q && not c) (sym h) ∙ (and_false q ∙ sym (ap not (sym h)))
-    same false q r h = refl
-
-    other : (p q r : Bool) → (p ≡ true → r ≡ false) → (p || (q && not r)) ≡ ((p || q) && not r)
-    other true q r h = sym (ap not (h refl))
-    other false q r h = refl
-
-    by : (b : Bool) → nat_eq i x ≡ b → has_item j (without_item i xs) ≡ (has_item j xs && not (nat_eq j i)) → has_item j (cond (not b) (x ∷ without_item i xs) (without_item i xs)) ≡ ((nat_eq j x || has_item j xs) && not (nat_eq j i))
-    by true is ih = ih ∙ same (nat_eq j x) (has_item j xs) (nat_eq j i) (ap (nat_eq j) (sym (eqb-true i x is)))
-    by false is ih = ap (λ b. nat_eq j x || b) ih ∙ other (nat_eq j x) (has_item j xs) (nat_eq j i) (λ h. ne_eqb j i (λ e. eqb-false i x is (sym e ∙ eqb-true j x h)))
+has-without j i (x ∷ xs) = grind (arith, has-without j i xs)
 
 pub distinct-without : (i : ℕ) (xs : List ℕ) → AreDistinct xs → AreDistinct (without_item i xs)
 distinct-without i [] d = tt
-distinct-without i (x ∷ xs) d =
-    cond_both (not (nat_eq i x)) (x ∷ without_item i xs) (without_item i xs) AreDistinct
-    (λ _. (has-without x i xs ∙ ap (λ b. b && not (nat_eq x i)) d.0, distinct-without i xs d.1))
-    (λ _. distinct-without i xs d.1)
+distinct-without i (x ∷ xs) d = grind (arith, distinct-without i xs d.1)
 
 pub length-without : (i : ℕ) (xs : List ℕ) → AreDistinct xs → has_item i xs ≡ true → length (without_item i xs) + 1 ≡ length xs
 length-without i [] d h = absurd (false≢true h)
-length-without i (x ∷ xs) d h = by (nat_eq i x) refl (length-without i xs d.1)
-  where
-    by : (b : Bool) → nat_eq i x ≡ b → (has_item i xs ≡ true → length (without_item i xs) + 1 ≡ length xs) → length (cond (not b) (x ∷ without_item i xs) (without_item i xs)) + 1 ≡ suc (length xs)
-    by true is ih =
-        let gone : has_item i xs ≡ false = ap (λ j. has_item j xs) (eqb-true i x is) ∙ d.0 in
-        omega (arith, ap length (without_none i xs gone))
-    by false is ih =
-        let rest : has_item i xs ≡ true = ap (λ b. b || has_item i xs) (sym is) ∙ h in
-        omega (arith, ih rest)
+length-without i (x ∷ xs) d h = grind (arith, length-without i xs d.1)
 
 pub has-push : (j i : ℕ) (xs : List ℕ) → has_item j (xs ++ i ∷ []) ≡ (has_item j xs || nat_eq j i)
 has-push j i xs = list_any-append (nat_eq j) xs (i ∷ []) ∙ ap (λ b. has_item j xs || b) (or_false (nat_eq j i))
 
 pub distinct-push : (i : ℕ) (xs : List ℕ) → AreDistinct xs → has_item i xs ≡ false → AreDistinct (xs ++ i ∷ [])
 distinct-push i [] d h = (refl, tt)
-distinct-push i (x ∷ xs) d h =
-    let l = lacks i x xs h in
-    (has-push x i xs ∙ or_from (has_item x xs) (nat_eq x i) d.0 (ne_eqb x i l.0), distinct-push i xs d.1 l.1)
+distinct-push i (x ∷ xs) d h = grind (arith, distinct-push i xs d.1)
 
 -- there are no more distinct numbers below n than n
 distinct : (xs : List ℕ) → AreDistinct xs → IsDistinct nat_eq xs

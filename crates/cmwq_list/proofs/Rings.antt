@@ -9,12 +9,7 @@ use Rattle.cmwq_list.proofs.Members.{few_below}
 use Rattle.cmwq_list.proofs.Between.{Puts, walk_is}
 
 pub puts : (next prev : List ℕ) (p n : ℕ) → p < length next → n < length prev → Puts (link_at next) (link_at prev) (link_at (set next p n)) (link_at (set prev n p)) p n
-puts next prev p n hp hn = record {
-  there = get_or-set_same next p n 0 hp;
-  back = get_or-set_same prev n p 0 hn;
-  nexts = λ x ne. get_or-set_other next p x n 0 ne;
-  prevs = λ x ne. get_or-set_other prev n x p 0 ne;
-}
+puts next prev p n hp hn = grind arith
 
 pub length_from : (f : ℕ → ℕ) (s : ℕ) (ns : List ℕ) → length (lists_from f s ns) ≡ length ns
 length_from f s [] = refl
@@ -36,9 +31,7 @@ pub record AreRings (next prev owners lens : List ℕ) (ys : ℕ → List ℕ) :
 
 module _ (next prev owners lens : List ℕ) (ys : ℕ → List ℕ) (are : AreRings next prev owners lens ys) where
   pub walked : (m : ℕ) → m < length lens → walk (link_at next) (length owners + m) (get_or lens m 0) ≡ ys m
-  walked m h =
-      ap (λ n. walk (link_at next) (length owners + m) n) (are.lengths m h)
-      ∙ walk_is (link_at next) (link_at prev) (length owners + m) (ys m) (length owners + m) ((are.rings m h).linked)
+  walked m h = grind arith
 
   pub rings_walked : (m : ℕ) → m < length lens → IsRing (link_at next) (link_at prev) (owner_at owners) (length owners + m) m (walk (link_at next) (length owners + m) (get_or lens m 0))
   rings_walked m h = rw (walked m h) (are.rings m h)
@@ -55,9 +48,7 @@ module _ (next prev owners lens : List ℕ) (is : AreLinked next prev owners len
 
   -- what is noted in none is in none
   pub absent : (x m : ℕ) → m < length lens → owner_at owners x ≡ 65535 → has_item x (ring m) ≡ false
-  absent x m h none =
-      let s : m < 65535 = small m h in
-      (is.rings m h).owned x ∙ ap (λ n. nat_eq n m) none ∙ ne_eqb 65535 m (λ e. omega arith)
+  absent x m h none = grind arith
 
   pub known : (x m : ℕ) → m < length lens → has_item x (ring m) ≡ true → x < length owners
   known x m h in_it = ⊎_elim (λ l. l) (λ g. absurd (false≢true (sym (absent x m h (get_or_past owners x 65535 g)) ∙ in_it))) (cases_lt x (length owners))

@@ -32,14 +32,7 @@ one_changed a b p y same less here others = ext_get_or no_pool b (slice_set a p 
 -- the parts change, and with them what is seen of one pool
 pub parts_changed : (lists lists1 : Listed) (notes notes1 : List Note) (workers workers1 : List (List Slot)) (p : ℕ) (change : PoolState → PoolState) → length workers1 ≡ length workers → p < length workers → pool_seen lists1 notes1 workers1 p ≡ change (pool_seen lists notes workers p)
     → ((q : ℕ) → q < length workers → q ≢ p → pool_seen lists1 notes1 workers1 q ≡ pool_seen lists notes workers q) → pools_seen lists1 notes1 workers1 ≡ with_pool change p (pools_seen lists notes workers)
-parts_changed lists lists1 notes notes1 workers workers1 p change many less here others =
-    one_changed (pools_seen lists notes workers) (pools_seen lists1 notes1 workers1) p (change (pool_numbered (pools_seen lists notes workers) p))
-    (seen_many lists1 notes1 workers1 ∙ (many ∙ sym (seen_many lists notes workers)))
-    (rw (seen_many lists notes workers) less)
-    (seen_at lists1 notes1 workers1 p (rw many less) ∙ (here ∙ ap change (sym (seen_at lists notes workers p less))))
-    (λ q low differs.
-    let low1 : q < length workers = rw (seen_many lists notes workers) at low in
-    seen_at lists1 notes1 workers1 q (rw many low1) ∙ (others q low1 differs ∙ sym (seen_at lists notes workers q low1)))
+parts_changed lists lists1 notes notes1 workers workers1 p change many less here others = grind (arith, one_changed, seen_many, seen_at)
 
 module _ (lists : Listed) (notes : List Note) (workers : List (List Slot)) (p : ℕ) (less : p < length workers) where
   -- the slots of one pool change
@@ -123,17 +116,7 @@ module _ (lists : Listed) (notes : List Note) (workers : List (List Slot)) (i : 
 
   -- an item that may be listed is one of those there are, and is in no list
   pub may_be_listed : (pools : List PoolState) (p : ℕ) → pools_seen lists notes workers ≡ pools → p < length workers → length lists.lists ≡ length workers → may_list pools p i ≡ true → (i < lists.items) × ((q : ℕ) → has_item i (list_at lists.lists q) ≡ false)
-  may_be_listed pools p is less many may =
-      let parts = and_parts (ltb i (pool_numbered pools p).items) (not (list_any (lists_item i) pools)) may in
-      let items : (pool_numbered pools p).items ≡ lists.items = ap (λ ps. (pool_numbered ps p).items) (sym is) ∙ ap (λ (l : PoolState). l.items) (seen_at lists notes workers p less) in
-      let low = ltb-true i (pool_numbered pools p).items parts.0 in
-      let unlisted : list_any (lists_item i) (pools_seen lists notes workers) ≡ false = ap (list_any (lists_item i)) is ∙ not-true (list_any (lists_item i) pools) parts.1 in (
-        rw items at low,
-        λ q. false_from_ne_true (has_item i (list_at lists.lists q)) (λ here. ⊎_elim
-            (λ below. false≢true (sym unlisted ∙ one_lists q below here))
-            (λ past. false≢true (sym (ap (has_item i) (get_or_past lists.lists q [] (rw many past))) ∙ here))
-            (cases_lt q (length workers))),
-      )
+  may_be_listed pools p is less many may = grind (arith, seen_at, false_from_ne_true, false≢true, one_lists, get_or_past)
 
   pub may_list_is : (pools : List PoolState) (p : ℕ) (o : Option ℕ) → pools_seen lists notes workers ≡ pools → p < length workers → length lists.lists ≡ length workers → i < lists.items → list_of lists.lists i ≡ o → may_list pools p i ≡ not (is_some o)
   may_list_is pools p o is less many low found =
@@ -145,9 +128,7 @@ module _ (lists : Listed) (notes : List Note) (workers : List (List Slot)) (i : 
       by (Some q) h = let owned = owner_has lists.lists i q h in one_lists q (⊎_elim (λ below. rw (← many) below) (λ past. absurd (false≢true (sym (ap (has_item i) (get_or_past lists.lists q [] past)) ∙ owned))) (cases_lt q (length lists.lists))) owned
 
   pub may_not_list : (pools : List PoolState) (p : ℕ) → pools_seen lists notes workers ≡ pools → p < length workers → ltb i lists.items ≡ false → may_list pools p i ≡ false
-  may_not_list pools p is less high =
-      let items : (pool_numbered pools p).items ≡ lists.items = ap (λ ps. (pool_numbered ps p).items) (sym is) ∙ ap (λ (l : PoolState). l.items) (seen_at lists notes workers p less) in
-      ap (λ b. b && not (list_any (lists_item i) pools)) (ap (ltb i) items ∙ high)
+  may_not_list pools p is less high = grind (arith, seen_at)
 
 -- ---- new pools
 
@@ -169,8 +150,7 @@ pub at_place : (workers : List (List Slot)) (p i : ℕ) (v : List Slot) → p < 
 at_place workers p i v less at is = is ∙ (ap (λ k. get_or workers k v) at ∙ get_or_default workers p v [] less)
 
 pub slots_at : (lists : Listed) (notes : List Note) (workers : List (List Slot)) (pools : List PoolState) (p i : ℕ) (v : List Slot) → pools_seen lists notes workers ≡ pools → p < length workers → i ≡ p → v ≡ get_or workers i v → (pool_numbered pools p).slots ≡ v
-slots_at lists notes workers pools p i v is less at here =
-    ap (λ ps. (pool_numbered ps p).slots) (sym is) ∙ (ap (λ (l : PoolState). l.slots) (seen_at lists notes workers p less) ∙ sym (at_place workers p i v less at here))
+slots_at lists notes workers pools p i v is less at here = grind (arith, seen_at, at_place)
 
 -- what is written back at that place
 pub placed : (workers : List (List Slot)) (p i : ℕ) (v new : List Slot) (change : List Slot → List Slot) → p < length workers → i ≡ p → v ≡ get_or workers i v → new ≡ change v → slice_set workers i new ≡ slice_set workers p (change (slice_index_or workers p []))

@@ -16,18 +16,14 @@ in_range p (x ∷ slots) (suc w) none here = let h = in_range p slots w none her
 -- ---- a start
 
 chosen_in_range : (b : Bool) (a n : ℕ) (o : Option ℕ) → IfSome o (λ x. x < (a + 1) + n) → IfSome (cond b (Some a) o) (λ x. x < a + suc n)
-chosen_in_range true a n o h = omega arith
-chosen_in_range false a n None h = tt
-chosen_in_range false a n (Some x) h = omega arith
+chosen_in_range b a n o h = grind arith
 
 found_in_range : (p : ℕ → Bool) (a n : ℕ) → IfSome (find p (range_with_len a n)) (λ x. x < a + n)
 found_in_range p a zero = tt
 found_in_range p a (suc n) = chosen_in_range (p a) a n (find p (range_with_len (a + 1) n)) (found_in_range p (a + 1) n)
 
 reserve_in_range : (b : Bool) (n : ℕ) (o : Option ℕ) → IfSome o (λ x. x < 0 + n) → IfSome (cond b None o) (λ x. x < n)
-reserve_in_range true n o h = tt
-reserve_in_range false n None h = tt
-reserve_in_range false n (Some x) h = omega arith
+reserve_in_range b n o h = grind arith
 
 -- whom a start enlists is one of the pool
 pub enlisted_by-in_range : (slots : List Slot) (w : ℕ) → IfSome (slots_enlisted_by slots w) (λ x. x < length slots)
@@ -35,8 +31,7 @@ enlisted_by-in_range slots w = reserve_in_range (list_any (slot_is_other_idle sl
 
 -- enlisting changes nothing that runs
 length-enlisted : (slots : List Slot) (e : Option ℕ) → length (with_enlisted e slots) ≡ length slots
-length-enlisted slots None = refl
-length-enlisted slots (Some x) = length-set slots x (slot_enlisted (slot_at slots x))
+length-enlisted slots e = grind (arith, length-set)
 
 pub length-started : (slots : List Slot) (w : ℕ) (t : Task) → length (slots_started slots w t) ≡ length slots
 length-started slots w t = length-enlisted (with_slot (slot_running t) w slots) (slots_enlisted_by slots w) ∙ length-set slots w (slot_running t (slot_at slots w))
@@ -51,11 +46,9 @@ pool_state items listed slots = record { items = items; listed = listed; slots =
 
 pub same_pool_state : (p q : PoolState) → p.items ≡ q.items → p.listed ≡ q.listed → p.slots ≡ q.slots → p ≡ q
 unfolding pool_state
-same_pool_state p q items listed slots =
-    ap (λ n. pool_state n p.listed p.slots) items ∙ ap₂ (λ ts ss. pool_state q.items ts ss) listed slots
+same_pool_state p q items listed slots = grind arith
 
 -- ---- what is next
 
 pub is_some-next_task : (o : Option Task) → is_some (option_map (λ (t : Task). t.number) o) ≡ true → is_some o ≡ true
-is_some-next_task None h = h
-is_some-next_task (Some t) h = refl
+is_some-next_task o h = grind arith

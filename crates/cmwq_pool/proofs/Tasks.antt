@@ -21,18 +21,10 @@ flipped a b = same_bools (eqb a b) (eqb b a) (λ h. eq-eqb b a (sym (eqb-true a 
 
 -- the first list that has it has it, and where there is none no list has it
 pub owner_has : (ls : List (List ℕ)) (i l : ℕ) → list_of ls i ≡ Some l → has_item i (list_at ls l) ≡ true
-owner_has ls i l h =
-    let c = cond_some (ltb (position_or_len (has_item i) ls) (length ls)) (position_or_len (has_item i) ls) l h in
-    let less : position_or_len (has_item i) ls < length ls = grind (arith, nat_tests) in
-    ap (λ k. has_item i (list_at ls k)) (sym c.1) ∙ passes_at_first (has_item i) ls [] less
+owner_has ls i l h = grind (arith, cond_some, passes_at_first)
 
 pub no_owner : (ls : List (List ℕ)) (i q : ℕ) → list_of ls i ≡ None → has_item i (list_at ls q) ≡ false
-no_owner ls i q h =
-    let n = not_chosen (ltb (position_or_len (has_item i) ls) (length ls)) (position_or_len (has_item i) ls) h in
-    let all : length ls ≤ position_or_len (has_item i) ls = grind (arith, nat_tests) in
-    ⊎_elim (λ low. fails_before_first (has_item i) ls q [] (omega (arith, low, all)))
-    (λ past. ap (has_item i) (get_or_past ls q [] past))
-    (cases_lt q (length ls))
+no_owner ls i q h = grind (arith, not_chosen, fails_before_first, get_or_past)
 
 pub in_no_list : (ls : List (List ℕ)) (i : ℕ) → ((q : ℕ) → has_item i (list_at ls q) ≡ false) → list_of ls i ≡ None
 in_no_list ls i nowhere = by (list_of ls i) refl
@@ -54,25 +46,7 @@ module _ (notes : List Note) where
 
   pub any_task : (n i : ℕ) (xs : List ℕ) → list_any (is_task n i) (map (noted_task notes) xs) ≡ (has_item i xs && eqb (note_at notes i).number n)
   any_task n i [] = refl
-  any_task n i (x ∷ xs) = ap (λ b. is_task n i (noted_task notes x) || b) (any_task n i xs) ∙ by (eqb x i) refl
-    where
-      same : (h e : Bool) → ((e && true) || (h && e)) ≡ e
-      same true true = refl
-      same true false = refl
-      same false true = refl
-      same false false = refl
-
-      other : (a h e : Bool) → ((a && false) || (h && e)) ≡ (h && e)
-      other true h e = refl
-      other false h e = refl
-
-      by : (b : Bool) → eqb x i ≡ b → (is_task n i (noted_task notes x) || (has_item i xs && eqb (note_at notes i).number n)) ≡ (has_item i (x ∷ xs) && eqb (note_at notes i).number n)
-      by true h =
-          ap₂ (λ a b. (a && b) || (has_item i xs && eqb (note_at notes i).number n)) (ap (λ k. eqb (note_at notes k).number n) (eqb-true x i h)) h
-          ∙ (same (has_item i xs) (eqb (note_at notes i).number n) ∙ sym (ap (λ b. (b || has_item i xs) && eqb (note_at notes i).number n) (flipped i x ∙ h)))
-      by false h =
-          ap (λ b. (eqb (note_at notes x).number n && b) || (has_item i xs && eqb (note_at notes i).number n)) h
-          ∙ (other (eqb (note_at notes x).number n) (has_item i xs) (eqb (note_at notes i).number n) ∙ sym (ap (λ b. (b || has_item i xs) && eqb (note_at notes i).number n) (flipped i x ∙ h)))
+  any_task n i (x ∷ xs) = grind (arith, any_task n i xs)
 
   -- so it is listed exactly where its item is, with its number
   pub task_parts : (n i : ℕ) (xs : List ℕ) → list_any (is_task n i) (map (noted_task notes) xs) ≡ true → (has_item i xs ≡ true) × ((note_at notes i).number ≡ n)
@@ -93,21 +67,11 @@ module _ (notes : List Note) where
   -- ---- what leaves a list
 
   same_test : (n i x : ℕ) → (note_at notes i).number ≡ n → not (nat_eq i x) ≡ is_other_task n i (noted_task notes x)
-  same_test n i x number = ap not (flipped i x ∙ by (eqb x i) refl)
-    where
-      by : (b : Bool) → eqb x i ≡ b → eqb x i ≡ (eqb (note_at notes x).number n && eqb x i)
-      by true h = h ∙ sym (ap₂ (λ a b. a && b) (eq-eqb (note_at notes x).number n (ap (λ k. (note_at notes k).number) (eqb-true x i h) ∙ number)) h)
-      by false h = h ∙ sym (ap (λ b. eqb (note_at notes x).number n && b) h ∙ and_false (eqb (note_at notes x).number n))
+  same_test n i x number = grind arith
 
   pub taken : (n i : ℕ) (xs : List ℕ) → (note_at notes i).number ≡ n → map (noted_task notes) (without_item i xs) ≡ filter (is_other_task n i) (map (noted_task notes) xs)
   taken n i [] number = refl
-  taken n i (x ∷ xs) number = by (not (nat_eq i x)) (is_other_task n i (noted_task notes x)) (same_test n i x number) (taken n i xs number)
-    where
-      by : (a b : Bool) → a ≡ b → map (noted_task notes) (without_item i xs) ≡ filter (is_other_task n i) (map (noted_task notes) xs) → map (noted_task notes) (cond a (x ∷ without_item i xs) (without_item i xs)) ≡ cond b (noted_task notes x ∷ filter (is_other_task n i) (map (noted_task notes) xs)) (filter (is_other_task n i) (map (noted_task notes) xs))
-      by true true e h = ap (λ ts. noted_task notes x ∷ ts) h
-      by false false e h = h
-      by true false e h = cc
-      by false true e h = cc
+  taken n i (x ∷ xs) number = grind (arith, taken n i xs number)
 
   -- ---- what joins a list
 
@@ -126,31 +90,20 @@ module _ (notes : List Note) where
 
   pub first_startable : (slots : List Slot) (xs : List ℕ) → find (is_task_startable slots) (map (noted_task notes) xs) ≡ option_map (noted_task notes) (find (λ i. not (slots_run_item slots i)) xs)
   first_startable slots [] = refl
-  first_startable slots (x ∷ xs) = by (not (slots_run_item slots x)) (first_startable slots xs)
-    where
-      by : (b : Bool) → find (is_task_startable slots) (map (noted_task notes) xs) ≡ option_map (noted_task notes) (find (λ i. not (slots_run_item slots i)) xs) → cond b (Some (noted_task notes x)) (find (is_task_startable slots) (map (noted_task notes) xs)) ≡ option_map (noted_task notes) (cond b (Some x) (find (λ i. not (slots_run_item slots i)) xs))
-      by true h = refl
-      by false h = h
+  first_startable slots (x ∷ xs) = grind (arith, first_startable slots xs)
 
 pub found_has : (p : ℕ → Bool) (xs : List ℕ) (i : ℕ) → find p xs ≡ Some i → has_item i xs ≡ true
 found_has p [] i h = cc
-found_has p (x ∷ xs) i h = by (p x) h (found_has p xs i)
-  where
-    by : (b : Bool) → cond b (Some x) (find p xs) ≡ Some i → (find p xs ≡ Some i → has_item i xs ≡ true) → has_item i (x ∷ xs) ≡ true
-    by true e f = let same : x ≡ i = cc in ap (λ b. b || has_item i xs) (eq-eqb i x (sym same))
-    by false e f = or_right (nat_eq i x) (has_item i xs) (f e)
+found_has p (x ∷ xs) i h = grind (arith, found_has p xs i)
 
 -- all but a task that isn't there is all
 pub filter_lacking : (n i : ℕ) (ts : List Task) → list_any (is_task n i) ts ≡ false → filter (is_other_task n i) ts ≡ ts
 filter_lacking n i [] h = refl
-filter_lacking n i (t ∷ ts) h =
-    let parts = or_parts (is_task n i t) (list_any (is_task n i) ts) h in
-    ap₂ (λ (b : Bool) (us : List Task). cond (not b) (t ∷ us) us) parts.0 (filter_lacking n i ts parts.1)
+filter_lacking n i (t ∷ ts) h = grind (arith, filter_lacking n i ts)
 
 pub empty_lacks : (i : ℕ) (xs : List ℕ) → length xs ≡ 0 → has_item i xs ≡ false
 empty_lacks i [] h = refl
 empty_lacks i (x ∷ xs) h = absurd (omega arith)
 
 pub some_first : {A B C : Type 0} (f : B → C) (g : A → B) (o : Option A) → is_some (option_map f (option_map g o)) ≡ true → is_some o ≡ true
-some_first f g None h = h
-some_first f g (Some x) h = refl
+some_first f g o h = grind arith

@@ -45,15 +45,12 @@ counts idle occupied running holding = record { idle = idle; occupied = occupied
 
 pub same_counts : (a b : WorkerCounts) → a.idle ≡ b.idle → a.occupied ≡ b.occupied → a.running ≡ b.running → a.holding ≡ b.holding → a ≡ b
 unfolding counts
-same_counts a b idle occupied running holding =
-    ap₂ (λ x y. counts x y a.running a.holding) idle occupied ∙ ap₂ (λ x y. counts b.idle b.occupied x y) running holding
+same_counts a b idle occupied running holding = grind arith
 
 -- none of a new pool's workers from one on passes
 pub count_new : (p : Slot → Bool) (a n : ℕ) → ((x : ℕ) → a ≤ x → p (new_slot x) ≡ false) → count_by p (map new_slot (range_with_len a n)) ≡ 0
 count_new p a zero none = refl
-count_new p a (suc n) none =
-    count_by-cons p (new_slot a) (map new_slot (range_with_len (a + 1) n))
-    ∙ ap₂ (λ b k. cond b 1 0 + k) (none a (omega arith)) (count_new p (a + 1) n (λ x high. none x (omega arith)))
+count_new p a (suc n) none = grind (arith, count_new p (a + 1) n)
 
 later_reserve : (x : ℕ) → 1 ≤ x → slot_is_idle (new_slot x) ≡ false
 later_reserve x high = ap (λ b. b && true) (ne_eqb x 0 (λ e. omega arith))
@@ -71,8 +68,7 @@ none_new p n none = sym (count_new p 0 n (λ x high. none x))
 
 -- where none has a run, none runs an item
 runs_none : (o : Option Task) (i : ℕ) → is_some o ≡ false → option_map_or (is_task_of i) o false ≡ false
-runs_none None i lacks = refl
-runs_none (Some t) i lacks = absurd (false≢true (sym lacks))
+runs_none o i lacks = grind arith
 
 pub none_runs : (slots : List Slot) (i : ℕ) → count_by slot_has_run slots ≡ 0 → slots_run_item slots i ≡ false
 none_runs [] i none = refl
@@ -98,17 +94,10 @@ any_at p (s ∷ slots) = ap (λ b. p s || b) (any_shifted (λ x. p (slot_at (s �
 
 any_counted : (p : Slot → Bool) (slots : List Slot) → list_any p slots ≡ nat_lt 0 (count_by p slots)
 any_counted p [] = refl
-any_counted p (s ∷ slots) = ap (λ b. p s || b) (any_counted p slots) ∙ (by (p s) (count_by p slots) ∙ ap (nat_lt 0) (sym (count_by-cons p s slots)))
-  where
-    by : (b : Bool) (n : ℕ) → (b || nat_lt 0 n) ≡ nat_lt 0 (cond b 1 0 + n)
-    by true n = sym (lt-ltb 0 (1 + n) (omega arith))
-    by false n = ap (nat_lt 0) (let e : n ≡ 0 + n = omega arith in e)
+any_counted p (s ∷ slots) = grind (arith, count_by-cons, any_counted p slots)
 
 pub same_test : (a b c d : ℕ) → (a < b → c < d) → (c < d → a < b) → nat_lt a b ≡ nat_lt c d
-same_test a b c d there back = ⊎_elim
-    (λ less. lt-ltb a b less ∙ sym (lt-ltb c d (there less)))
-    (λ more. le-ltb a b more ∙ sym (⊎_elim (λ less. absurd (let low = back less in omega arith)) (λ past. le-ltb c d past) (cases_lt c d)))
-    (cases_lt a b)
+same_test a b c d there back = grind arith
 
 module _ (slots : List Slot) (w : ℕ) where
   -- the slots, with one that is not idle in the worker's place
@@ -138,18 +127,15 @@ module _ (slots : List Slot) (w : ℕ) where
       (cases_lt w (length slots)))))
 
 pub bool_byte-cond : (b : Bool) → bool_byte b ≡ cond b 1 0
-bool_byte-cond true = refl
-bool_byte-cond false = refl
+bool_byte-cond b = grind arith
 
 -- whom a start enlists, by how many are idle and whether the worker is one of them
 module _ (slots : List Slot) (w idle own : ℕ) (counted : idle ≡ count_by slot_is_idle slots) (one : own ≡ cond (slot_is_idle (slot_at slots w)) 1 0) where
   pub none_enlisted : own < idle → None ≡ slots_enlisted_by slots w
-  none_enlisted less = sym (cond-true (list_any (slot_is_other_idle slots w) (slot_indices slots)) None (find (is_reserve_at slots) (slot_indices slots))
-      (other_idle slots w ∙ lt-ltb (cond (slot_is_idle (slot_at slots w)) 1 0) (count_by slot_is_idle slots) (omega (arith, less, counted, one))))
+  none_enlisted less = grind (arith, cond-true, other_idle)
 
   pub reserve_enlisted : idle ≤ own → find (is_reserve_at slots) (slot_indices slots) ≡ slots_enlisted_by slots w
-  reserve_enlisted more = sym (cond-false (list_any (slot_is_other_idle slots w) (slot_indices slots)) None (find (is_reserve_at slots) (slot_indices slots))
-      (other_idle slots w ∙ le-ltb (cond (slot_is_idle (slot_at slots w)) 1 0) (count_by slot_is_idle slots) (omega (arith, more, counted, one))))
+  reserve_enlisted more = grind (arith, cond-false, other_idle)
 
 -- ---- the bits of the reserve
 
@@ -197,28 +183,20 @@ find_from q a (suc m) n before =
 
 -- a worker is enlisted anew, or no more, or stays as it is
 pub turns : (now before : Bool) → not (beq now before) ≡ true → not now ≡ not (not before)
-turns true true e = absurd (false≢true e)
-turns true false e = refl
-turns false true e = refl
-turns false false e = absurd (false≢true e)
+turns now before e = grind arith
 
 pub stays : (now before : Bool) → not (beq now before) ≡ false → not now ≡ not before
-stays true true e = refl
-stays true false e = absurd (false≢true (sym e))
-stays false true e = absurd (false≢true (sym e))
-stays false false e = refl
+stays now before e = grind arith
 
 module _ (word : ℕ) (slots : List Slot) (are : AreReserveBits word slots) where
   bit : ℕ → Bool
   bit i = get_or (map slot_is_reserve slots) i false
 
   one_is_true : (b : Bool) → ◌≡◌ {A = ℕ} (cond b 1 0) 1 → b ≡ true
-  one_is_true true e = refl
-  one_is_true false e = absurd (omega arith)
+  one_is_true b e = grind arith
 
   zero_is_false : (b : Bool) → ◌≡◌ {A = ℕ} (cond b 1 0) 0 → b ≡ false
-  zero_is_false true e = absurd (omega arith)
-  zero_is_false false e = refl
+  zero_is_false b e = grind arith
 
   not_reserve : (i : ℕ) → i < 64 → i < length slots → bit_at word i ≡ 0 → is_reserve_at slots i ≡ false
   not_reserve i small low none = sym (is_reserve_bit slots i low) ∙ zero_is_false (get_or (map slot_is_reserve slots) i false) (sym (are.bits i small) ∙ none)
@@ -259,55 +237,30 @@ module _ (word : ℕ) (slots : List Slot) (are : AreReserveBits word slots) wher
   }
     where
       turn : (b : Bool) → (cond b 1 0 + 1) % 2 ≡ cond (not b) 1 0
-      turn true = refl
-      turn false = refl
+      turn b = grind arith
 
       keep : (b : Bool) → (cond b 1 0 + 0) % 2 ≡ cond b 1 0
-      keep true = refl
-      keep false = refl
+      keep b = grind arith
 
       same : (i : ℕ) → i < 64 → i ≡ w → (bit_at word i + bit_at (2 ^ w) i) % 2 ≡ cond (get_or (map slot_is_reserve (slice_set slots w s)) i false) 1 0
-      same i less is =
-          ap₂ (λ x y. (x + y) % 2) (are.bits i less) (ap (bit_at (2 ^ w)) is ∙ bit_at-pow_same w)
-          ∙ (turn (get_or (map slot_is_reserve slots) i false)
-          ∙ ap (λ b. cond b 1 0) (ap (λ k. not (get_or (map slot_is_reserve slots) k false)) is ∙ (ap not (is_reserve_bit slots w low) ∙ (sym turns ∙ sym (bit_changed slots w s i low ∙ cond-true (nat_eq i w) (slot_is_reserve s) (get_or (map slot_is_reserve slots) i false) (eq-eqb i w is))))))
+      same i less is = grind (arith, bit_at-pow_same, is_reserve_bit, bit_changed, cond-true)
 
       other : (i : ℕ) → i < 64 → i ≢ w → (bit_at word i + bit_at (2 ^ w) i) % 2 ≡ cond (get_or (map slot_is_reserve (slice_set slots w s)) i false) 1 0
-      other i less differs =
-          ap₂ (λ x y. (x + y) % 2) (are.bits i less) (bit_at-pow_other w i differs)
-          ∙ (keep (get_or (map slot_is_reserve slots) i false)
-          ∙ ap (λ b. cond b 1 0) (sym (bit_changed slots w s i low ∙ cond-false (nat_eq i w) (slot_is_reserve s) (get_or (map slot_is_reserve slots) i false) (ne_eqb i w differs))))
+      other i less differs = grind (arith, bit_at-pow_other, bit_changed, cond-false)
 
   -- and all others stay
   pub bits_kept : (w : ℕ) (s : Slot) → w < length slots → (w < 64 → slot_is_reserve s ≡ is_reserve_at slots w) → AreReserveBits word (slice_set slots w s)
-  bits_kept w s low stays = record {
-    bits = λ i less. are.bits i less ∙ ap (λ b. cond b 1 0) (sym (bit_changed slots w s i low ∙ ⊎_elim (same i less) (other i) (cases_eq i w)));
-  }
-    where
-      same : (i : ℕ) → i < 64 → i ≡ w → cond (nat_eq i w) (slot_is_reserve s) (get_or (map slot_is_reserve slots) i false) ≡ get_or (map slot_is_reserve slots) i false
-      same i less is =
-          cond-true (nat_eq i w) (slot_is_reserve s) (get_or (map slot_is_reserve slots) i false) (eq-eqb i w is)
-          ∙ (stays (omega (arith, is, less)) ∙ sym (ap (λ k. get_or (map slot_is_reserve slots) k false) is ∙ is_reserve_bit slots w low))
-
-      other : (i : ℕ) → i ≢ w → cond (nat_eq i w) (slot_is_reserve s) (get_or (map slot_is_reserve slots) i false) ≡ get_or (map slot_is_reserve slots) i false
-      other i differs = cond-false (nat_eq i w) (slot_is_reserve s) (get_or (map slot_is_reserve slots) i false) (ne_eqb i w differs)
+  bits_kept w s low stays = grind (arith, bit_changed, cond-true, is_reserve_bit, cond-false)
 
 -- of a new pool all but worker 0 are of the reserve
 pub new_bits : (n m word : ℕ) → ((i : ℕ) → 1 ≤ i → nat_lt i m ≡ nat_lt i (min n 64)) → ((i : ℕ) → bit_at word i ≡ cond (nat_lt 0 i && nat_lt i m) 1 0) → AreReserveBits word (map new_slot (range_with_len 0 n))
 new_bits n m word alike bits = record { bits = λ i less. bits i ∙ ap (λ b. cond b 1 0) (below i ∙ ⊎_elim (there i less) (past i) (cases_lt i n)) }
   where
     below : (i : ℕ) → (nat_lt 0 i && nat_lt i m) ≡ (nat_lt 0 i && nat_lt i (min n 64))
-    below zero = refl
-    below (suc i) = ap (λ b. nat_lt 0 (suc i) && b) (alike (suc i) (omega arith))
+    below i = grind arith
 
     there : (i : ℕ) → i < 64 → i < n → (nat_lt 0 i && nat_lt i (min n 64)) ≡ get_or (map slot_is_reserve (map new_slot (range_with_len 0 n))) i false
-    there i less low =
-        ap (λ b. nat_lt 0 i && b) (lt-ltb i (min n 64) (omega arith))
-        ∙ (not_first i ∙ sym (is_reserve_bit (map new_slot (range_with_len 0 n)) i (omega (arith, low, length-map-range_with_len new_slot 0 n)) ∙ ap slot_is_reserve (get_or-map-range_with_len new_slot 0 n i i no_slot low (omega arith))))
-      where
-        not_first : (k : ℕ) → (nat_lt 0 k && true) ≡ slot_is_reserve (new_slot k)
-        not_first zero = refl
-        not_first (suc k) = ap (λ b. b && true) (lt-ltb 0 (suc k) (omega arith)) ∙ sym (ap not (ne_eqb (suc k) 0 (λ e. omega arith)))
+    there i less low = grind (arith, min, is_reserve_bit, length-map-range_with_len, get_or-map-range_with_len)
 
     past : (i : ℕ) → n ≤ i → (nat_lt 0 i && nat_lt i (min n 64)) ≡ get_or (map slot_is_reserve (map new_slot (range_with_len 0 n))) i false
     past i high =

@@ -64,7 +64,16 @@ module _ (wide : ℕ → ℕ) (counts : List ℕ) (x : Queueing) (cpu : x.place.
   behind_of_same_pwq y more is = by (is_on x.place.queue.0 x.place.cpu.0 y) refl
     where
       by : (b : Bool) → is_on x.place.queue.0 x.place.cpu.0 y ≡ b → IsBehind wide (one_less counts x) y
-      by b other = grind (arith, behind_elsewhere, on_parts, less_many, on_sym)
+      by false other = behind_elsewhere y is other
+      by true beside =
+          let p = on_parts x.place.queue.0 x.place.cpu.0 y beside in
+          let same : wide y.place.queue.0 ≡ wide x.place.queue.0 = ap wide p.0 in
+          let left : wide y.place.queue.0 ≤ count_of_same_pwq counts x - 1 = omega arith in
+          record {
+            cpu = is.cpu;
+            counted = rw less_many is.counted;
+            behind = rw (less_at y.place.queue.0 y.place.cpu.0 is.cpu, sym (on_sym x y) ∙ beside) left;
+          }
 
   module _ (way : Queueing → Bool) (xs : List Queueing) (have : AreBelowMaxActive way wide (one_less counts x) xs) (behind : AreBehind wide counts xs) where
     pub none_takes : (wide x.place.queue.0 < count_of_same_pwq counts x) → Passes way xs (one_less counts x) (one_less counts x) xs []
@@ -113,16 +122,25 @@ module _ (wide : ℕ → ℕ) (counts : List ℕ) (x : Queueing) (cpu : x.place.
         of_same_pwq_less = less_at y.place.queue.0 y.place.cpu.0 y_cpu ∙ ap (λ b. cond b (count_of_same_pwq counts x - 1) (count_of_same_pwq counts y)) (on_itself y.place.queue.0 y.place.cpu.0 x (sym parts.0) (sym parts.1))
 
         is_below_max_active : way y ≡ true
-        is_below_max_active = grind arith
+        is_below_max_active =
+            let same : wide y.place.queue.0 ≡ wide x.place.queue.0 = ap wide parts.0 in
+            let less : count_of_same_pwq C y < wide y.place.queue.0 = let is = of_same_pwq_less in omega arith in
+            way_now way C first.before y wide xs first.after C first.before [] have first.stood start y_cpu y_at ∙ lt-ltb (count_of_same_pwq C y) (wide y.place.queue.0) less
 
         taken : Passes way (first.before ++ y ∷ []) C (slice_set C (place_of y.place.queue.0 y.place.cpu.0) (count_of_same_pwq C y + 1)) first.before (y ∷ [])
         taken = passes_activated way C first.before y C first.before [] start is_below_max_active y_cpu y_at
 
         back : (q c : ℕ) → c < most_cpus → (b : Bool) → is_on q c x ≡ b → count_at counts q c ≡ cond b (count_of_same_pwq C y + 1) (count_at C q c)
-        back q c less b on = grind arith
+        back q c less true on =
+            let p = on_parts q c x on in
+            let same : count_of_same_pwq counts x ≡ count_at counts q c = ap₂ (count_at counts) p.0 p.1 in
+            let is = of_same_pwq_less in omega arith
+        back q c less false on = sym (less_at q c less ∙ ap (λ b. cond b (count_of_same_pwq counts x - 1) (count_at counts q c)) on)
 
         again : Passes way (first.before ++ y ∷ []) C counts first.before (y ∷ [])
-        again = grind arith
+        again = passes_as way C (slice_set C (place_of y.place.queue.0 y.place.cpu.0) (count_of_same_pwq C y + 1)) counts (first.before ++ y ∷ []) first.before (y ∷ []) taken
+            (sym less_many ∙ sym (length-set C (place_of y.place.queue.0 y.place.cpu.0) (count_of_same_pwq C y + 1)))
+            (λ q c less here. back q c less (is_on q c x) refl ∙ (ap (λ b. cond b (count_of_same_pwq C y + 1) (count_at C q c)) (ap₂ (λ n m. (n == q) && (m == c)) (sym parts.0) (sym parts.1)) ∙ sym (count_set C y (count_of_same_pwq C y + 1) q c y_cpu less y_at)))
 
         last : Passes way ((first.before ++ y ∷ []) ++ first.after) C counts (first.before ++ first.after) (y ∷ [])
         last = keeps_behind way wide C xs have (first.before ++ y ∷ []) first.after [] counts first.before (y ∷ []) (whole ∙ ap (λ ys. (first.before ++ y ∷ []) ++ ys) (sym (append-nil first.after))) (sym less_many) (later first.before (y ∷ first.after) all).1 again

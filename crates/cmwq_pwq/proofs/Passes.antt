@@ -29,8 +29,13 @@ count_set counts x n q c k m here = by (is_on q c x) refl
     at = place_of x.place.queue.0 x.place.cpu.0
 
     by : (b : Bool) → is_on q c x ≡ b → count_at (slice_set counts (place_of x.place.queue.0 x.place.cpu.0) n) q c ≡ cond b n (count_at counts q c)
-    by true h = grind (arith, on_parts, get_or-set_at)
-    by false h = grind (arith, one_place, on_itself)
+    by true h = let p = on_parts q c x h in get_or-set_at counts (place_of x.place.queue.0 x.place.cpu.0) (place_of q c) n 0 (ap₂ place_of (sym p.0) (sym p.1)) here
+    by false h =
+        let apart : place_of q c ≢ place_of x.place.queue.0 x.place.cpu.0 = λ same.
+        let p = one_place q c x.place.queue.0 x.place.cpu.0 m k same in
+        let on = on_itself q c x (sym p.0) (sym p.1) in
+        let bad : false ≡ true = sym h ∙ on in cc in
+        get_or-set_other counts (place_of x.place.queue.0 x.place.cpu.0) (place_of q c) n 0 apart
 
 module _ (way : Queueing → Bool) (old : List ℕ) (done : List Queueing) (x : Queueing) where
   pub passes_kept : (new : List ℕ) (rest taken : List Queueing) → Passes way done old new rest taken → way x ≡ false → Passes way (done ++ x ∷ []) old new (rest ++ x ∷ []) taken

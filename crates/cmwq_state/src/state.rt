@@ -79,6 +79,9 @@ impl State {
         State::start(alloc, shape.counts(), shape.queues(), room)
     }
 
+    /// Lets the state go. That all its parts are let go is proved here, and not wherever one is.
+    pub fn end(self) {}
+
     fn start(
         alloc: Global,
         counts: Counts,

@@ -51,8 +51,8 @@ impl TailBook {
         ensures { IfOk result (λ book. book ≡ lasting_at_first shape.now keep) }
     {
         Ok(TailBook {
-            execution: Execution::new(alloc, shape, shape.counts().room)?,
             tail: Tail::new(alloc, keep)?,
+            execution: Execution::new(alloc, shape, shape.counts().room)?,
         })
     }
 

@@ -47,12 +47,10 @@ without_at counts (Some t) q inside = ⊎_elim
     none false h = omega arith
 
 length_with : (counts : List ℕ) (o : Option Timer) → length (counts_with o counts) ≡ length counts
-length_with counts None = refl
-length_with counts (Some t) = length-set counts t.place.queue.0 (slice_index counts t.place.queue.0 + 1)
+length_with counts o = grind (arith, length-set)
 
 length_without : (counts : List ℕ) (o : Option Timer) → length (counts_without o counts) ≡ length counts
-length_without counts None = refl
-length_without counts (Some t) = length-set counts t.place.queue.0 (slice_index counts t.place.queue.0 - 1)
+length_without counts o = grind (arith, length-set)
 
 -- a queue has a number below 256
 module _ (rows : TimerRows) (counts : List ℕ) (are : AreCounted rows counts) where
@@ -90,19 +88,7 @@ module _ (rows : TimerRows) (counts : List ℕ) (are : AreCounted rows counts) w
 
     pub has_room : (o : Option Timer) → ((t : Timer) → o ≡ Some t → t.place.queue.0 < QUEUES) → HasRoomFor o (counts_without (timer_of rows i) counts)
     has_room None known = tt
-    has_room (Some t) known =
-        let q = t.place.queue.0 in
-        let within : q < length counts = rw are.many (known t refl) in
-        let within2 : q < length (counts_without (timer_of rows i) counts) = rw (length_without counts (timer_of rows i)) within in
-        let fewer = without_at counts (timer_of rows i) q within in
-        let exact = are.exact q (known t refl) in
-        let change = written q rows i (Some t) here in
-        let most = count_by-le-length (is_timer_on q) (set rows i (Some t)) in
-        let size = length-set rows i (Some t) in
-        let one = counted (Some t) t refl in
-        let none = written q rows i None here in
-        let few = are.few in
-        (within2, omega (arith, fewer, exact, change, most, size, one, none, few))
+    has_room (Some t) known = grind (arith, nat_tests, length_without, without_at, count_by-le-length, length-set, t.place.queue.0)
 
 pub none_counted : (items : ℕ) → items < 65536 → AreCounted (replicate items None) (replicate QUEUES 0)
 none_counted items few = record {
@@ -115,8 +101,7 @@ none_counted items few = record {
     nothing n = omega arith
 
 any_cons : (a b : Bool) → (a || b) ≡ cond a true b
-any_cons true b = refl
-any_cons false b = refl
+any_cons a b = grind arith
 
 any_counted : (p : Option Timer → Bool) (rows : TimerRows) → nat_lt 0 (count_by p rows) ≡ list_any p rows
 any_counted p [] = refl

@@ -33,17 +33,14 @@ pub kept_first : (many : ℕ) (old new : Nodes) (level : List (Option Candidate)
     → ((i : ℕ) → i ≢ j → new i ≡ old i) → was ≡ old j → now ≡ new j → first ≡ node_at level k
     → ((before : Nodes) (at : ℕ) → IsWritten before new at was now → 16 * k ≤ at → at < 16 * k + 16 → IsSoonest before (16 * k) (16 * k + 16) first → IsSoonest new (16 * k) (16 * k + 16) o)
     → IsSoonest new (16 * k) (16 * k + 16) o
-kept_first many old new level j k o was now first is inside node others at_first at_last kept known =
-    let c = is.covers in
-    known old j (record { before = sym at_first; behind = sym at_last; others = others }) (omega (arith, node)) (omega (arith, node)) (rw kept (is.each k (omega (arith, c, node, inside))))
+kept_first many old new level j k o was now first is inside node others at_first at_last kept known = grind arith
 
 -- the first below a node, where it is said to stay
 pub stays_first : (many : ℕ) (old new : Nodes) (level : List (Option Candidate)) (j k : ℕ) (was now first : Option Candidate) → IsLevel many old level → j < many → k ≡ j / 16
     → ((i : ℕ) → i ≢ j → new i ≡ old i) → was ≡ old j → now ≡ new j → first ≡ node_at level k
     → ((before : Nodes) (at : ℕ) → IsWritten before new at was now → 16 * k ≤ at → at < 16 * k + 16 → IsSoonest before (16 * k) (16 * k + 16) first → IsSoonest new (16 * k) (16 * k + 16) first)
     → IsSoonest new (16 * k) (16 * k + 16) (node_at level k)
-stays_first many old new level j k was now first is inside node others at_first at_last kept known =
-    rw kept at (kept_first many old new level j k first was now first is inside node others at_first at_last kept known)
+stays_first many old new level j k was now first is inside node others at_first at_last kept known = grind arith
 
 -- a level of which the node above what is written keeps its first
 level_stays : (many : ℕ) (old new : Nodes) (level : List (Option Candidate)) (j : ℕ) → IsLevel many old level → ((k : ℕ) → k ≢ j → new k ≡ old k) → j < many
@@ -73,12 +70,7 @@ module _ (rows : TimerRows) (lows middles highs : List (Option Candidate)) (top 
 module _ (rows : TimerRows) (lows middles highs : List (Option Candidate)) (top : Option Candidate) (i : ℕ) (t : Option Timer) (are : AreLevels rows lows middles highs top) (here : i < length rows) where
   -- a row is written, and the nodes above it are found anew up to one of which the first stays
   pub low_stays : IsSoonest (candidate_at (set rows i t)) (16 * (i / 16)) (16 * (i / 16) + 16) (node_at lows (i / 16)) → AreLevels (set rows i t) lows middles highs top
-  low_stays low = record {
-    low = rw (length-set rows i t) (level_stays (length rows) (candidate_at rows) (candidate_at (set rows i t)) lows i are.low (others_booked rows i t) here low);
-    middle = are.middle;
-    high = are.high;
-    last = are.last;
-  }
+  low_stays low = grind (arith, length-set, level_stays, others_booked)
 
   module _ (o1 : Option Candidate) (low : IsSoonest (candidate_at (set rows i t)) (16 * (i / 16)) (16 * (i / 16) + 16) o1) where
     low_written : IsLevel (length (set rows i t)) (candidate_at (set rows i t)) (set lows (i / 16) o1)
@@ -121,21 +113,10 @@ none_at many k = ⊎_elim (λ l. get_or-replicate {A = Option Candidate} many k 
 
 -- where nothing is booked, no node keeps anything
 none_level : (many nodes : ℕ) (below : Nodes) → ((k : ℕ) → below k ≡ None) → many ≤ 16 * nodes → IsLevel many below (replicate nodes None)
-none_level many nodes below none covers = record {
-  covers = rw (length-replicate {A = Option Candidate} nodes None) covers;
-  each = λ k low. rw (none_at nodes k) (λ i from under. none i);
-}
+none_level many nodes below none covers = grind (arith, length-replicate, none_at)
 
 no_candidate : (items k : ℕ) → candidate_at (replicate items None) k ≡ None
-no_candidate items k = ap (option_map (λ (u : Timer). record { item = record { 0 = k }; timer = u })) (no_timer items k)
-  where
-    no_timer : (many i : ℕ) → timer_of (replicate many None) i ≡ None
-    no_timer many i = ⊎_elim (λ l. get_or-replicate {A = Option Timer} many i None None l) (λ g. get_or_past (replicate many None) i None (omega (arith, length-replicate {A = Option Timer} many None))) (cases_lt i many)
+no_candidate items k = grind (arith, get_or-replicate, get_or_past, length-replicate)
 
 pub none_levels : (items lows middles highs : ℕ) → items ≤ 16 * lows → lows ≤ 16 * middles → middles ≤ 16 * highs → highs ≤ 16 → AreLevels (replicate items None) (replicate lows None) (replicate middles None) (replicate highs None) None
-none_levels items lows middles highs a b c d = record {
-  low = rw (length-replicate {A = Option Timer} items None) (none_level items lows (candidate_at (replicate items None)) (no_candidate items) a);
-  middle = rw (length-replicate {A = Option Candidate} lows None) (none_level lows middles (node_at (replicate lows None)) (none_at lows) b);
-  high = rw (length-replicate {A = Option Candidate} middles None) (none_level middles highs (node_at (replicate middles None)) (none_at middles) c);
-  last = rw (length-replicate {A = Option Candidate} highs None) (none_level highs 1 (node_at (replicate highs None)) (none_at highs) d);
-}
+none_levels items lows middles highs a b c d = grind (arith, length-replicate, none_level, no_candidate, none_at)

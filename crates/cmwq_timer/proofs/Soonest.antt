@@ -31,9 +31,7 @@ one_value o x y p q = cc
 
 module _ (nodes : Nodes) (lo k : ℕ) (up : lo ≤ k) where
   here : (c d e : Candidate) (j : ℕ) → nodes k ≡ Some d → is_sooner d.timer c.timer ≡ false → j ≡ k → nodes j ≡ Some e → is_sooner e.timer c.timer ≡ false
-  here c d e j is not_sooner same stands =
-      let one : e ≡ d = one_value (nodes k) d e is (rw same at stands) in
-      rw one not_sooner
+  here c d e j is not_sooner same stands = grind arith
 
   by : (o n : Option Candidate) → nodes k ≡ n → IsSoonest nodes lo k o → IsSoonest nodes lo (k + 1) (sooner o n)
   by None None is none = λ j from below. ⊎_elim (λ l. none j from l) (λ same. rw same is) (is_last j k below)
@@ -75,14 +73,7 @@ module _ (nodes : Nodes) (lo k : ℕ) (up : lo ≤ k) where
 
 -- nodes that agree have the same first
 pub soonest_same : (old new : Nodes) (lo hi : ℕ) (o : Option Candidate) → ((k : ℕ) → lo ≤ k → k < hi → new k ≡ old k) → IsSoonest old lo hi o → IsSoonest new lo hi o
-soonest_same old new lo hi None same none = λ k from below. same k from below ∙ none k from below
-soonest_same old new lo hi (Some c) same first = record {
-  at = first.at;
-  from = first.from;
-  below = first.below;
-  is = same first.at first.from first.below ∙ first.is;
-  none_sooner = λ k d from below stands. first.none_sooner k d from below (sym (same k from below) ∙ stands);
-}
+soonest_same old new lo hi o same none = grind arith
 
 pub node_past : (level : List (Option Candidate)) (i : ℕ) → length level ≤ i → node_at level i ≡ None
 node_past level i past = get_or_past level i None past
@@ -92,14 +83,7 @@ row_past rows i past = ap (option_map (λ (t : Timer). record { item = record { 
 
 -- behind the last of the nodes there is nothing
 pub soonest_past : (nodes : Nodes) (lo k hi : ℕ) (o : Option Candidate) → k ≤ hi → ((i : ℕ) → k ≤ i → i < hi → nodes i ≡ None) → IsSoonest nodes lo k o → IsSoonest nodes lo hi o
-soonest_past nodes lo k hi None up past none = λ i from below. ⊎_elim (λ l. none i from l) (λ g. past i g below) (cases_lt i k)
-soonest_past nodes lo k hi (Some c) up past first = record {
-  at = first.at;
-  from = first.from;
-  below = (let b = first.below in omega arith);
-  is = first.is;
-  none_sooner = λ i d from below stands. ⊎_elim (λ l. first.none_sooner i d from l stands) (λ g. absurd (not_both (nodes i) d (past i g below) stands)) (cases_lt i k);
-}
+soonest_past nodes lo k hi o up past none = grind arith
 
 -- what is written and comes before the first of all is the first
 pub written_first : (old new : Nodes) (lo hi at : ℕ) (was now : Option Candidate) (kept : Candidate) → IsWritten old new at was now → lo ≤ at → at < hi → IsSoonest old lo hi (Some kept)
@@ -119,13 +103,4 @@ written_first old new lo hi at was (Some next) kept w from below first less = re
 -- what was the first stays so where another was written that doesn't come before it
 pub first_stays : (old new : Nodes) (lo hi at : ℕ) (was now : Option Candidate) (kept : Candidate) → IsWritten old new at was now → IsSoonest old lo hi (Some kept) → was ≢ Some kept
     → option_map_or (λ (next : Candidate). is_sooner next.timer kept.timer) now false ≡ false → IsSoonest new lo hi (Some kept)
-first_stays old new lo hi at was now kept w first other less = record {
-  at = first.at;
-  from = first.from;
-  below = first.below;
-  is = w.others first.at (λ same. other (sym w.before ∙ (ap old (sym same) ∙ first.is))) ∙ first.is;
-  none_sooner = λ k d lower upper stands. ⊎_elim
-      (λ same. let is : now ≡ Some d = sym w.behind ∙ (ap new (sym same) ∙ stands) in rw is at less)
-      (λ ne. first.none_sooner k d lower upper (sym (w.others k ne) ∙ stands))
-      (cases_eq k at);
-}
+first_stays old new lo hi at was now kept w first other less = grind arith

@@ -50,19 +50,7 @@ pub row_inside : (rows : TimerRows) (i : ℕ) (t : Timer) → timer_of rows i �
 row_inside rows i t at = ⊎_elim (λ l. l) (λ g. absurd (not_both (timer_of rows i) t (get_or_past rows i None g) at)) (cases_lt i (length rows))
 
 pub rows_under : (rows : TimerRows) (k : ℕ) → IsFirstUnder any_timer rows 0 k (candidate_at rows k)
-rows_under rows k = by (timer_of rows k) refl
-  where
-    by : (o : Option Timer) → timer_of rows k ≡ o → IsFirstUnder any_timer rows 0 k (option_map (λ (t : Timer). record { item = record { 0 = k }; timer = t }) o)
-    by None is = λ i t at p same. not_both (timer_of rows k) t is (rw same at at)
-    by (Some u) is = record {
-      booked = is;
-      passing = refl;
-      has = refl;
-      none_sooner = λ i t at p same. let one : t ≡ u = one_value (timer_of rows k) u t is (rw same at at) in rw one (self u);
-    }
-      where
-        self : (a : Timer) → is_sooner a a ≡ false
-        self a = grind (arith, nat_tests)
+rows_under rows k = grind arith
 
 pub rows_past : (rows : TimerRows) (k : ℕ) → length rows ≤ k → candidate_at rows k ≡ None
 rows_past rows k past = ap (option_map (λ (t : Timer). record { item = record { 0 = k }; timer = t })) (get_or_past rows k None past)
@@ -78,10 +66,7 @@ module _ (rows : TimerRows) (l many : ℕ) (below : Nodes) (level : List (Option
 
   -- and below another it isn't sooner than what the node keeps
   not_sooner : (i : ℕ) (t : Timer) (d : Candidate) → below (node_above l i) ≡ Some d → timer_of rows i ≡ Some t → is_sooner t d.timer ≡ false
-  not_sooner i t d some at = (first some (under (node_above l i))).none_sooner i t at refl refl
-    where
-      first : below (node_above l i) ≡ Some d → IsFirstUnder any_timer rows l (node_above l i) (below (node_above l i)) → IsFirstUnder any_timer rows l (node_above l i) (Some d)
-      first is h = subst (λ o. IsFirstUnder any_timer rows l (node_above l i) o) is h
+  not_sooner i t d some at = grind arith
 
   inside : (k : ℕ) (o : Option Candidate) → IsSoonest below (16 * k) (16 * k + 16) o → IsFirstUnder any_timer rows (suc l) k o
   inside k None none = λ i t at p same. unbooked i t (none (node_above l i) (omega (arith, same)) (omega (arith, same))) at
@@ -139,11 +124,7 @@ module _ (rows : TimerRows) (level node now : ℕ) (holds : List ℕ) where
   none_due_yet c first less = λ i t at p here. later t c.timer (first.none_sooner i t at refl here) less p
 
 pub one_row_held : (rows : TimerRows) (node now : ℕ) (holds : List ℕ) (c : Candidate) → IsFirstUnder any_timer rows 0 node (Some c) → timer_may_fire now holds c.timer ≡ false → IsFirstUnder (timer_may_fire now holds) rows 0 node None
-one_row_held rows node now holds c first not_now = λ i t at p here.
-    let same : i ≡ c.item.0 = here ∙ sym first.has in
-    let one : t ≡ c.timer = one_value (timer_of rows c.item.0) c.timer t first.booked (rw same at at) in
-    let bad : false ≡ true = sym not_now ∙ rw one at p in
-    cc
+one_row_held rows node now holds c first not_now = grind arith
 
 -- the items below so many nodes of the level below
 abbrev pub IsBelowNodes : ℕ → ℕ → ℕ → ℕ → Type 0
@@ -182,11 +163,7 @@ module _ (rows : TimerRows) (few : length rows < 65536) (now : ℕ) (holds : Lis
   under_last i t at = let l = row_inside rows i t at in above_all i (omega arith)
 
   pub first_fires : (c : Candidate) → IsFirstUnder (timer_may_fire now holds) rows 4 0 (Some c) → IsFirstToFire now holds rows c.item.0
-  first_fires c first = record {
-    timer = c.timer;
-    may_fire = (first.booked, first.passing);
-    none_sooner = λ j other may. first.none_sooner j other may.0 may.1 (under_last j other may.0);
-  }
+  first_fires c first = grind (arith, under_last)
 
   pub none_fires : IsFirstUnder (timer_may_fire now holds) rows 4 0 None → NoneMayFire now holds rows
   none_fires none = λ i t may. none i t may.0 may.1 (under_last i t may.0)

@@ -14,8 +14,4 @@ loop-below-preserved c =
     )
 
 pub returns : goal.returns
-returns c =
-    let ends = c.loop-below-test.false in
-    let end = c.min-below-end.ensures in
-    rw c.node_of.ensures (soonest_past (node_at c.args.level.now) (16 * c.args.node) c.loop-below.below (16 * c.args.node + 16) (option_and_then (node_at c.args.level.now) c.loop-below.first) c.loop-below.invariant.1
-    (λ i from below. node_past c.args.level.now i (omega (arith, ends, end))) c.loop-below.invariant.0)
+returns c = grind (arith, soonest_past, node_past)

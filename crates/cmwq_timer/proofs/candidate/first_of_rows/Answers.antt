@@ -14,8 +14,4 @@ loop-row-preserved c =
     )
 
 pub returns : goal.returns
-returns c =
-    let ends = c.loop-row-test.false in
-    let end = c.min-row-end.ensures in
-    rw c.candidate_of.ensures (soonest_past (candidate_at c.args.rows.now) (16 * c.args.node) c.loop-row.row (16 * c.args.node + 16) (option_and_then (candidate_at c.args.rows.now) c.loop-row.first) c.loop-row.invariant.1
-    (λ i from below. row_past c.args.rows.now i (omega (arith, ends, end))) c.loop-row.invariant.0)
+returns c = grind (arith, soonest_past, row_past)

@@ -4,14 +4,10 @@ use Rattle.cmwq_pool.proofs.Noting.{noted, note_within}
 use Rattle.cmwq_pool.proofs.notes.Notes.get.Goals as goal
 
 pub index-requires : goal.index-requires
-index-requires c =
-    let s = c.self.inside in
-    omega (arith, note_within s.numbers.items s.intensive.items c.args.item c.self.invariant (rw (← c.self.view_is) at c.requires), s.numbers.ok.0)
+index-requires c = grind (arith, note_within)
 
 pub index-requires-2 : goal.index-requires-2
-index-requires-2 c =
-    let s = c.self.inside in
-    omega (arith, note_within s.numbers.items s.intensive.items c.args.item c.self.invariant (rw (← c.self.view_is) at c.requires), c.self.invariant, s.intensive.ok.0)
+index-requires-2 c = grind (arith, note_within)
 
 pub returns : goal.returns
 returns c =

@@ -4,8 +4,4 @@ use Rattle.cmwq_pool.specs.Workers.{counts_of}
 use Rattle.cmwq_pool.proofs.pool_workers.PoolWorkers.new.Goals as goal
 
 pub invariant_of-result : goal.invariant_of-result
-invariant_of-result c = record {
-  few = rw (c.in_ok-slots.ensures, length-map-range_with_len) (let few = c.ranges.workers.fits in omega arith);
-  counted = c.new.ensures ∙ ap counts_of (sym c.in_ok-slots.ensures);
-  reserve_bits = rw c.in_ok-slots.ensures c.new_reserve.ensures;
-}
+invariant_of-result c = grind (arith, length-map-range_with_len)

@@ -6,7 +6,4 @@ use Rattle.cmwq_pool.proofs.Workers.{none_runs}
 use Rattle.cmwq_pool.proofs.pool_workers.PoolWorkers.run_item.Goals as goal
 
 pub returns-else-self-gt0 : goal.returns-else-self-gt0
-returns-else-self-gt0 c =
-    let counted = ap (λ (x : WorkerCounts). x.running) c.self.invariant.counted in
-    le-ltb 0 c.self.inside.counts.running c.if-self-gt0.false
-    ∙ (sym (none_runs c.self.inside.slots.items c.args.item (omega (arith, counted, c.if-self-gt0.false))) ∙ ap (λ slots. slots_run_item slots c.args.item) c.self.view_is)
+returns-else-self-gt0 c = grind (arith, none_runs)

@@ -13,10 +13,7 @@ set-requires c =
     omega (arith, low, c.from.ensures, c.self.invariant.noted)
 
 pub push_back-requires-clause-list : goal.push_back-requires-clause-list
-push_back-requires-clause-list c =
-    let s = c.self.inside in
-    let less : c.args.pool < length s.workers.items = there s.lists s.notes s.workers.items c.args.self.now c.args.pool c.self.view_is c.requires.pool in
-    omega (arith, less, c.self.invariant.many)
+push_back-requires-clause-list c = grind (arith, there)
 
 pub push_back-requires-clause-item : goal.push_back-requires-clause-item
 push_back-requires-clause-item c =

@@ -7,17 +7,10 @@ use Rattle.cmwq_pool.proofs.Seeing.{there, slots_at, slots_changed, placed}
 use Rattle.cmwq_pool.proofs.pools.Pools.finish.Goals as goal
 
 pub index_mut-requires : goal.index_mut-requires
-index_mut-requires c =
-    let s = c.self.inside in
-    let low : c.args.pool < length s.workers.items = there s.lists s.notes s.workers.items c.args.self.now c.args.pool c.self.view_is c.requires.pool in
-    omega (arith, low, c.from.ensures, s.workers.ok.0)
+index_mut-requires c = grind (arith, there)
 
 pub finish-task-requires : goal.finish-task-requires
-finish-task-requires c =
-    let s = c.self.inside in
-    let low : c.args.pool < length s.workers.items = there s.lists s.notes s.workers.items c.args.self.now c.args.pool c.self.view_is c.requires.pool in
-    let same = slots_at s.lists s.notes s.workers.items c.args.self.now c.args.pool c.from.result c.index_mut.result.now c.self.view_is low c.from.ensures c.index_mut.ensures.value in
-    (and_parts _ _ (subst (λ slots. slot_runs_awake (slot_at slots c.args.worker) ≡ true) same c.requires.awake)).0
+finish-task-requires c = grind (arith, there, slots_at)
 
 pub returns-clause-free : goal.returns-clause-free
 returns-clause-free c =
@@ -27,8 +20,4 @@ returns-clause-free c =
     (placed s.workers.items c.args.pool c.from.result c.index_mut.result.now c.finish-task.new.self (with_slot slot_free c.args.worker) low c.from.ensures c.index_mut.ensures.value c.finish-task.ensures.free))
 
 pub returns-clause-number : goal.returns-clause-number
-returns-clause-number c =
-    let s = c.self.inside in
-    let low : c.args.pool < length s.workers.items = there s.lists s.notes s.workers.items c.args.self.now c.args.pool c.self.view_is c.requires.pool in
-    let same = slots_at s.lists s.notes s.workers.items c.args.self.now c.args.pool c.from.result c.index_mut.result.now c.self.view_is low c.from.ensures c.index_mut.ensures.value in
-    ap (λ slots. run_number (slot_at slots c.args.worker)) same ∙ ap (option_map (λ (t : Task). t.number)) c.finish-task.ensures.run
+returns-clause-number c = grind (arith, there, slots_at)

@@ -4,19 +4,10 @@ use Rattle.cmwq_pool.proofs.Seeing.{there, slots_at}
 use Rattle.cmwq_pool.proofs.pools.Pools.may_retire.Goals as goal
 
 pub index-requires : goal.index-requires
-index-requires c =
-    let s = c.self.inside in
-    let low : c.args.pool < length s.workers.items = there s.lists s.notes s.workers.items c.args.self.now c.args.pool c.self.view_is c.requires.pool in
-    omega (arith, low, c.from.ensures, s.workers.ok.0)
+index-requires c = grind (arith, there)
 
 pub may_retire-requires : goal.may_retire-requires
-may_retire-requires c =
-    let s = c.self.inside in
-    let low : c.args.pool < length s.workers.items = there s.lists s.notes s.workers.items c.args.self.now c.args.pool c.self.view_is c.requires.pool in
-    subst (λ slots. c.args.worker < length slots) (slots_at s.lists s.notes s.workers.items c.args.self.now c.args.pool c.from.result c.index.result.now c.self.view_is low c.from.ensures c.index.ensures) c.requires.worker
+may_retire-requires c = grind (arith, there, slots_at)
 
 pub returns : goal.returns
-returns c =
-    let s = c.self.inside in
-    let low : c.args.pool < length s.workers.items = there s.lists s.notes s.workers.items c.args.self.now c.args.pool c.self.view_is c.requires.pool in
-    c.may_retire.ensures ∙ ap (λ slots. slot_may_retire slots c.args.worker) (sym (slots_at s.lists s.notes s.workers.items c.args.self.now c.args.pool c.from.result c.index.result.now c.self.view_is low c.from.ensures c.index.ensures))
+returns c = grind (arith, there, slots_at)

@@ -10,26 +10,13 @@ use Rattle.cmwq_pool.proofs.Seeing.{there, at_place, next_seen}
 use Rattle.cmwq_pool.proofs.pools.Pools.next_task.Goals as goal
 
 pub index-workers-requires : goal.index-workers-requires
-index-workers-requires c =
-    let s = c.self.inside in
-    let low : c.args.pool < length s.workers.items = there s.lists s.notes s.workers.items c.args.self.now c.args.pool c.self.view_is c.requires in
-    omega (arith, low, c.from.ensures, s.workers.ok.0)
+index-workers-requires c = grind (arith, there)
 
 pub first_free-requires : goal.first_free-requires
-first_free-requires c =
-    let s = c.self.inside in
-    let low : c.args.pool < length s.workers.items = there s.lists s.notes s.workers.items c.args.self.now c.args.pool c.self.view_is c.requires in
-    omega (arith, low, c.self.invariant.many)
+first_free-requires c = grind (arith, there)
 
 pub returns-in_err-item : goal.returns-in_err-item
-returns-in_err-item c =
-    let s = c.self.inside in
-    let low : c.args.pool < length s.workers.items = there s.lists s.notes s.workers.items c.args.self.now c.args.pool c.self.view_is c.requires in
-    let slots = c.index-workers.result.now in
-    let is = at_place s.workers.items c.args.pool c.from.result slots low c.from.ensures c.index-workers.ensures in
-    let first = c.first_free.ensures.first in
-    c.from_residual.ensures ∙ sym (ap (λ ps. next_task (pool_numbered ps c.args.pool)) (sym c.self.view_is)
-    ∙ (next_seen s.lists s.notes s.workers.items c.args.pool low slots is ∙ ap (option_map (noted_task s.notes)) (sym first ∙ c.in_err-item.was)))
+returns-in_err-item c = grind (arith, there, at_place, next_seen)
 
 pub task_of-requires-clause-item : goal.task_of-requires-clause-item
 task_of-requires-clause-item c =

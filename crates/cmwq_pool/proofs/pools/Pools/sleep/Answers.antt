@@ -5,10 +5,7 @@ use Rattle.cmwq_pool.proofs.Seeing.{there, slots_at, slots_changed, placed}
 use Rattle.cmwq_pool.proofs.pools.Pools.sleep.Goals as goal
 
 pub index_mut-requires : goal.index_mut-requires
-index_mut-requires c =
-    let s = c.self.inside in
-    let low : c.args.pool < length s.workers.items = there s.lists s.notes s.workers.items c.args.self.now c.args.pool c.self.view_is c.requires.pool in
-    omega (arith, low, c.from.ensures, s.workers.ok.0)
+index_mut-requires c = grind (arith, there)
 
 pub sleep-requires : goal.sleep-requires
 sleep-requires c =

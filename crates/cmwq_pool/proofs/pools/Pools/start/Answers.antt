@@ -12,26 +12,13 @@ use Rattle.cmwq_pool.proofs.Seeing.{there, at_place, slots_at, placed, next_seen
 use Rattle.cmwq_pool.proofs.pools.Pools.start.Goals as goal
 
 pub index_mut-workers-requires : goal.index_mut-workers-requires
-index_mut-workers-requires c =
-    let s = c.self.inside in
-    let low : c.args.pool < length s.workers.items = there s.lists s.notes s.workers.items c.args.self.now c.args.pool c.self.view_is c.requires.pool in
-    omega (arith, low, c.from.ensures, s.workers.ok.0)
+index_mut-workers-requires c = grind (arith, there)
 
 pub first_free-requires : goal.first_free-requires
-first_free-requires c =
-    let s = c.self.inside in
-    let low : c.args.pool < length s.workers.items = there s.lists s.notes s.workers.items c.args.self.now c.args.pool c.self.view_is c.requires.pool in
-    omega (arith, low, c.self.invariant.many)
+first_free-requires c = grind (arith, there)
 
 pub unwrap-item-requires : goal.unwrap-item-requires
-unwrap-item-requires c =
-    let s = c.self.inside in
-    let low : c.args.pool < length s.workers.items = there s.lists s.notes s.workers.items c.args.self.now c.args.pool c.self.view_is c.requires.pool in
-    let slots = c.index_mut-workers.result.now in
-    let is = at_place s.workers.items c.args.pool c.from.result slots low c.from.ensures c.index_mut-workers.ensures.value in
-    let first = c.first_free.ensures.first in
-    let next = ap (λ ps. next_task (pool_numbered ps c.args.pool)) (sym c.self.view_is) ∙ (next_seen s.lists s.notes s.workers.items c.args.pool low slots is ∙ ap (option_map (noted_task s.notes)) (sym first)) in
-    some_first (λ (t : Task). t.number) (noted_task s.notes) c.first_free.result (ap (λ o. is_some (option_map (λ (t : Task). t.number) o)) (sym next) ∙ c.requires.next)
+unwrap-item-requires c = grind (arith, there, at_place, next_seen, some_first)
 
 pub remove-requires : goal.remove-requires
 remove-requires c =
@@ -70,8 +57,4 @@ returns-clause-started c =
     rw (← c.self.view_is, next, c.remove.ensures.rest) (item_started s.lists s.notes s.workers.items c.args.pool low c.args.worker item _ c.self.invariant.many c.first_free.ensures.once here written)
 
 pub returns-clause-enlisted : goal.returns-clause-enlisted
-returns-clause-enlisted c =
-    let s = c.self.inside in
-    let low : c.args.pool < length s.workers.items = there s.lists s.notes s.workers.items c.args.self.now c.args.pool c.self.view_is c.requires.pool in
-    let same = slots_at s.lists s.notes s.workers.items c.args.self.now c.args.pool c.from.result c.index_mut-workers.result.now c.self.view_is low c.from.ensures c.index_mut-workers.ensures.value in
-    c.start.ensures.enlisted ∙ ap (λ slots. slots_enlisted_by slots c.args.worker) (sym same)
+returns-clause-enlisted c = grind (arith, there, slots_at)

@@ -4,13 +4,7 @@ use Rattle.cmwq_pool.proofs.Seeing.{there, slots_at}
 use Rattle.cmwq_pool.proofs.pools.Pools.would_enlist.Goals as goal
 
 pub index-requires : goal.index-requires
-index-requires c =
-    let s = c.self.inside in
-    let low : c.args.pool < length s.workers.items = there s.lists s.notes s.workers.items c.args.self.now c.args.pool c.self.view_is c.requires in
-    omega (arith, low, c.from.ensures, s.workers.ok.0)
+index-requires c = grind (arith, there)
 
 pub returns : goal.returns
-returns c =
-    let s = c.self.inside in
-    let low : c.args.pool < length s.workers.items = there s.lists s.notes s.workers.items c.args.self.now c.args.pool c.self.view_is c.requires in
-    c.would_enlist.ensures ∙ ap (λ slots. slots_enlisted_by slots c.args.worker) (sym (slots_at s.lists s.notes s.workers.items c.args.self.now c.args.pool c.from.result c.index.result.now c.self.view_is low c.from.ensures c.index.ensures))
+returns c = grind (arith, there, slots_at)
