@@ -1,9 +1,9 @@
 -- The text of a file that is spelled is read again as itself.
-use Rattle.cmwq_base.specs.Common.{◌≡◌, inl, inr, ◌+◌, ◌≤◌, ◌==◌, ℕ, Bool, true, false, ◌&&◌, not, List, [], ◌∷◌, ◌++◌, length, Ok, Err, leb, Option, Some, None, refl, sym, ap, ◌∙◌, append_assoc, append-nil, arith, subst, length-append, get_or, if◌then◌else◌, codes, IsTrue, flat_map, All, list_all, lt-leb, le-ltb, le-leb, eqb-true, eq-eqb, nat_tests, All-head, All-tail, slice_split_at, is_feed, Who, Call, Entry, Counts, QueueShape, Layout, layout_of, is_layout, are_counts, are_queues, is_queue, is_between, fits, entry_fits, reply_fits, IsWho, IsCall, IsEntry, greatest, join_words, call_words, call_text, entry_words, entry_text, end_words, end_text, end_of, counts_words, counts_text, queue_words, queue_text, begins_queue, greatest_number, version_name, old_lines, most_lines, line_limit, room_limit, needs_end, allows_queue, allows_entry, counts_of_format, queue_of_format, entry_of_format, calls_name, number_limit, call_of_format, counts_in, version_text, shape_text, last_text, text_of_format, calls_version_text, calls_text, wide_entry, short_entry_is, allowed_call, wide_call_of, calls_read_again, entries_read_again, ends_read_again, entry_ends_none, counts_read_again, queues_read_again, IsWholeLine, whole_version, whole_long_version, whole_calls_version, whole_counts, whole_queue, whole_call, whole_entry, whole_end, who_begins_no_queue, entry_begins, fits_line, and_parts, allows_counts, allows_numbers, queue_limit, most_queues, nat_le, and_from}
+use Rattle.cmwq_base.specs.Common.{◌≡◌, inl, inr, ◌+◌, ◌≤◌, ◌==◌, ℕ, Bool, true, false, ◌&&◌, not, List, [], ◌∷◌, ◌++◌, length, Ok, Err, Some, None, refl, sym, ap, ◌∙◌, append_assoc, append-nil, arith, subst, length-append, get_or, if◌then◌else◌, codes, IsTrue, flat_map, All, list_all, lt-leb, le-ltb, le-leb, eqb-true, eq-eqb, nat_tests, All-head, All-tail, slice_split_at, Who, Call, Entry, Counts, QueueShape, Layout, layout_of, is_layout, are_counts, are_queues, is_queue, is_between, fits, entry_fits, reply_fits, IsWho, IsCall, IsEntry, greatest, join_words, call_words, call_text, entry_words, entry_text, end_words, end_text, end_of, counts_words, counts_text, queue_words, queue_text, begins_queue, greatest_number, version_name, old_lines, most_lines, line_limit, room_limit, needs_end, allows_queue, allows_entry, counts_of_format, queue_of_format, entry_of_format, calls_name, number_limit, call_of_format, counts_in, version_text, shape_text, last_text, text_of_format, calls_version_text, calls_text, wide_entry, short_entry_is, allowed_call, wide_call_of, calls_read_again, entries_read_again, ends_read_again, entry_ends_none, counts_read_again, queues_read_again, IsWholeLine, whole_version, whole_long_version, whole_calls_version, whole_counts, whole_queue, whole_call, whole_entry, whole_end, who_begins_no_queue, entry_begins, fits_line, and_parts, allows_counts, allows_numbers, queue_limit, most_queues, nat_le, and_from}
 use Rattle.cmwq_text.specs.IdText.{who_text}
 use Rattle.cmwq_text.specs.Laws.{IsLineOf}
 use Rattle.cmwq_base.specs.Pieces.{pieces}
-use Rattle.cmwq_base.specs.Files.{File, IsSound, Stage, Kind, begin, opened, head, body, ended, shape_made, and_then, begun, queue_line, item_line, end_in, or_ended, body_line, first_item, after_head, after_line, at_end, without_end, without_items, after_pieces, after_text, file_of}
+use Rattle.cmwq_base.specs.Files.{File, IsSound, Stage, Kind, begin, opened, head, body, ended, shape_made, and_then, begun, queue_line, item_line, end_in, or_ended, body_line, first_item, after_head, after_line, at_end, without_end, after_pieces, after_text, file_of}
 use Rattle.cmwq_base.specs.Kinds.{calls_kind, call_file_of, history_kind, history_file_of}
 use Rattle.cmwq_base.specs.FileLaws.{HistoriesReadAgain, OldHistoriesReadAgain, CallFilesReadAgain}
 use Rattle.cmwq_base.specs.declared.refusal.Refusal.TheVariants as refusal

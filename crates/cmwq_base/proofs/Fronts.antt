@@ -1,5 +1,5 @@
 -- A front of one text after the whole of another is a front of both together.
-use Rattle.cmwq_base.specs.Common.{◌≡◌, ◌+◌, ◌≤◌, ℕ, List, [], ◌∷◌, ◌++◌, length, take, drop, Option, None, Some, refl, sym, ap, ◌∙◌, subst, arith, min, get_or, add-one, drop-cons, append-nil, ◌<◌, take-append-drop, take-append-le, take_min, flat_map, Appends, Keeps, Appends-trans}
+use Rattle.cmwq_base.specs.Common.{◌≡◌, ◌+◌, ◌≤◌, ℕ, List, [], ◌∷◌, ◌++◌, length, take, drop, Option, refl, sym, ap, ◌∙◌, subst, arith, min, get_or, add-one, drop-cons, append-nil, ◌<◌, take-append-drop, take-append-le, take_min, flat_map, Appends, Keeps, Appends-trans}
 use Rattle.std.proofs.Math.Seq.{take-append-add, take-length}
 use Rattle.std.proofs.lemmas.List.Concat.{flat_map-cons}
 use Rattle.std.proofs.lemmas.Grind.{flat_map-append}

@@ -1,5 +1,5 @@
 -- The limits of formats.
-use Rattle.cmwq_base.specs.Common.{◌≡◌, ◌≤◌, ℕ, Bool, true, false, nat_le, refl, arith, if◌then◌else◌, lt-leb, le-leb, nat_tests, by_age}
+use Rattle.cmwq_base.specs.Common.{◌≡◌, ◌≤◌, ℕ, refl, arith, lt-leb, le-leb, by_age}
 
 pub older_has : (old new v : ℕ) → v ≤ 2 → by_age old new v ≡ old
 unfolding by_age

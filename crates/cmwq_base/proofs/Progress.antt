@@ -1,5 +1,5 @@
 -- How a reader's progress goes on from line to line.
-use Rattle.cmwq_base.specs.Common.{◌≡◌, inl, inr, ◌+◌, ◌<◌, ◌≤◌, ℕ, ◌==◌, Bool, true, false, ◌&&◌, not, List, [], ◌∷◌, ◌++◌, length, Result, Ok, Err, nat_le, Option, Some, None, refl, sym, ap, ◌∙◌, arith, subst, length-append, if◌then◌else◌, IfSome, IfOk, IsTrue, All-nil, All-push, nat_tests, leb-true, same_Some, prepend_known, Whole, Cut, Long, End, TakesKnownLine, Counts, QueueShape, Layout, layout_of, is_layout, counts_read, begins_queue, end_of, old_lines, old_queues, most_lines, most_queues, line_limit, room_limit, queue_limit, allows_counts, allows_numbers, and_parts, counts_of_format, bind_some, chosen}
+use Rattle.cmwq_base.specs.Common.{◌≡◌, inl, inr, ◌+◌, ◌<◌, ◌≤◌, ℕ, ◌==◌, Bool, true, false, ◌&&◌, not, List, [], ◌∷◌, ◌++◌, length, Result, Ok, Err, nat_le, Option, Some, None, refl, sym, ap, ◌∙◌, arith, subst, length-append, if◌then◌else◌, IfSome, IfOk, IsTrue, All-nil, All-push, nat_tests, leb-true, prepend_known, Whole, Cut, Long, End, TakesKnownLine, Counts, QueueShape, Layout, layout_of, is_layout, counts_read, begins_queue, end_of, line_limit, room_limit, queue_limit, allows_counts, allows_numbers, and_parts, counts_of_format, chosen}
 use Rattle.cmwq_io.specs.declared.lines.Found.{Found}
 use Rattle.cmwq_base.specs.declared.refusal.Refusal.{Refusal}
 use Rattle.cmwq_base.specs.declared.refusal.Refusal.TheVariants as refusal
@@ -160,9 +160,6 @@ module _ {X : Type 0} (k : Kind X) (n : ℕ) (stage : Stage X) where
       let refused : at_cut k n stage ≡ Err (after_cut n stage) = ap (λ leaves. if leaves then at_end k n stage else Err (after_cut n stage)) kept in
       subst (λ r. Fails r (file_of k text)) (sym is) (is_cut stage (file_of k text) (h ∙ text_cut k n stage b a line t ∙ refused))
 
-  refuses_fails : {Z : Type 0} (e : Refusal) (r : Result Z Refusal) → Refuses e r → Fails e r
-  refuses_fails e r h = grind arith
-
   makes_gives : {Y Z : Type 0} (view : Y → Z) (r : Result Y Refusal) (read : Result Z Refusal) → GivesAs view r read → Gives view r read
   makes_gives view r read h = grind arith
 
@@ -190,9 +187,6 @@ abbrev pub is_fault : Refusal → Bool
 is_fault refusal.ReadFault = true
 is_fault refusal.WriteFault = true
 is_fault e = false
-
-pub refuses_no_fault : {Y : Type 0} (e : Refusal) (r : Result Y Refusal) → Refuses e r → is_fault e ≡ false
-refuses_no_fault e r h = grind arith
 
 cut_is_no_fault : {X : Type 0} (n : ℕ) (stage : Stage X) → is_fault (after_cut n stage) ≡ false
 unfolding after_cut

@@ -1,5 +1,5 @@
 -- What a text gives, by how its first line is found.
-use Rattle.cmwq_base.specs.Common.{◌≡◌, ◌+◌, ◌≤◌, ◌==◌, ℕ, suc, Bool, true, false, cond, List, [], ◌∷◌, length, Err, nat_lt, Some, None, refl, sym, ap, ◌∙◌, arith, subst, if◌then◌else◌, is_some, position_or_len, ltb-true, eqb-true, nat_tests, take_all, slice_split_first, slice_split_none, fails_before_first, is_feed, has_feed, Whole, Cut, Long, End, first_line, TakesLine}
+use Rattle.cmwq_base.specs.Common.{◌≡◌, ◌+◌, ◌≤◌, ◌==◌, ℕ, Bool, true, false, cond, List, [], ◌∷◌, length, Err, nat_lt, Some, None, refl, sym, ap, ◌∙◌, arith, if◌then◌else◌, is_some, position_or_len, ltb-true, take_all, slice_split_first, slice_split_none, fails_before_first, is_feed, has_feed, Whole, Cut, Long, End, first_line, TakesLine}
 use Rattle.cmwq_io.specs.FirstLine.{after_line as rest_of, is_line_long as is_text_long}
 use Rattle.cmwq_base.specs.declared.refusal.Refusal.TheVariants as refusal
 use Rattle.cmwq_base.specs.Pieces.{pieces}
@@ -65,9 +65,6 @@ module _ {X : Type 0} (k : Kind X) (n : ℕ) (stage : Stage X) where
       ap (after_pieces k n stage) (pieces_fed old f.1) ∙ after_first_piece (first_line old) (pieces (rest_of old)) some.0 some.1 some.2 f.0
       ∙ ap (λ l. and_then (λ next. after_text k (n + 1) next (rest_of old)) (after_line k n stage l)) (sym is_line)
       ∙ ap (λ r. and_then (λ next. after_text k (n + 1) next r) (after_line k n stage line)) (sym is_rest)
-
-  long_last : (text : List ℕ) → is_long text ≡ true → after_last k n stage text ≡ Err refusal.TooLong
-  long_last text h = grind arith
 
   pub long_piece : (line : List ℕ) (rest : List (List ℕ)) → is_long line ≡ true → after_pieces k n stage (line ∷ rest) ≡ Err refusal.TooLong
   unfolding after_pieces

@@ -1,10 +1,10 @@
 -- A front is read as its whole lines are, with the last line that they lack.
-use Rattle.cmwq_base.specs.Common.{◌≡◌, ◌⊎◌, inl, inr, ◌+◌, ◌==◌, ◌<◌, ◌≤◌, ℕ, zero, suc, Bool, true, false, ◌&&◌, not, List, [], ◌∷◌, ◌++◌, length, Result, Ok, Err, Option, Some, None, nat_le, refl, sym, ap, ◌∙◌, append_assoc, append-nil, arith, subst, if◌then◌else◌, All, position_or_len, ltb-true, le-ltb, get_or-take, length-drop, length-take, slice_split_at, fails_before_first, is_feed, has_feed, first_line, Entry, Counts, QueueShape, Layout, layout_of, is_layout, greatest_number, join_words, end_words, end_text, end_of, old_lines, most_lines, line_limit, needs_end, counts_of_format, last_text, ends_read_again, whole_end, end_is_no_shape, end_is_no_entry}
+use Rattle.cmwq_base.specs.Common.{◌≡◌, ◌⊎◌, inl, inr, ◌+◌, ◌<◌, ◌≤◌, ℕ, zero, suc, Bool, true, false, not, List, [], ◌∷◌, ◌++◌, length, Result, Ok, Err, Some, None, refl, sym, ap, ◌∙◌, append_assoc, append-nil, arith, subst, if◌then◌else◌, All, position_or_len, ltb-true, le-ltb, get_or-take, length-drop, length-take, slice_split_at, fails_before_first, is_feed, has_feed, first_line, Entry, Counts, QueueShape, Layout, layout_of, is_layout, greatest_number, join_words, end_words, end_text, line_limit, needs_end, counts_of_format, last_text, whole_end, end_is_no_shape, end_is_no_entry}
 use Rattle.cmwq_io.specs.FirstLine.{after_line as rest_of}
 use Rattle.cmwq_base.specs.declared.refusal.Refusal.{Refusal}
 use Rattle.cmwq_base.specs.declared.refusal.Refusal.TheVariants as refusal
 use Rattle.cmwq_base.specs.Pieces.{pieces, lines_in, last_in, whole_lines, cut_line}
-use Rattle.cmwq_base.specs.Files.{File, Stage, Kind, begin, opened, head, body, ended, as_front, is_long, shape_made, and_then, begun, with_item, item_line, or_ended, body_line, first_item, after_head, after_line, after_cut, is_ended, at_end, at_cut, without_end, without_items, after_last, after_pieces, after_text, file_of}
+use Rattle.cmwq_base.specs.Files.{File, Stage, Kind, begin, opened, head, body, ended, as_front, is_long, and_then, begun, with_item, item_line, body_line, first_item, after_head, after_line, after_cut, is_ended, at_end, without_end, without_items, after_last, after_pieces, after_text, file_of}
 use Rattle.cmwq_base.specs.Kinds.{history_kind, front_file_of}
 use Rattle.cmwq_base.specs.Stages.{IsStageWithin}
 use Rattle.cmwq_base.specs.FileLaws.{IsFrontOf, FrontsAreWholeLines}
@@ -48,10 +48,6 @@ front_kind = as_front true history_kind
 -- a text that may end without its last line
 without : (n : ℕ) (f : File Entry) → without_end front_kind n f ≡ Ok f
 without n f = grind arith
-
--- what a whole text may end with, a front may
-shape_alike : (n v : ℕ) (o : Option Layout) (f : File Entry) → without_items history_kind n v o ≡ Ok f → without_items front_kind n v o ≡ Ok f
-shape_alike n v o f h = grind arith
 
 end_alike : (n : ℕ) (stage : Stage Entry) (f : File Entry) → at_end history_kind n stage ≡ Ok f → at_end front_kind n stage ≡ Ok f
 unfolding at_end

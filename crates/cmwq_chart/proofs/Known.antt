@@ -1,21 +1,15 @@
 -- What one more entry tells of the workers' sleeps.
 use Rattle.std.proofs.Common.{◌≡◌, ℕ, ◌+◌, ◌*◌, ◌<◌, Bool, true, false, ◌==◌, ◌&&◌, List, [], ◌∷◌, length, append-nil, None, eqb-true, eq-eqb, if◌then◌else◌, refl, sym, ◌∙◌, subst, arith}
 use Rattle.std.specs.Prelude.{slice_index_or, slice_set}
-use Rattle.std.proofs.lemmas.Bool.Decides.{nat_tests}
 use Rattle.std.proofs.lemmas.List.{get_or-set_other, length-set}
 use Rattle.std.proofs.lemmas.Grind.{get_or-set_at}
 use Rattle.std.specs.Bool.{beq}
-use Rattle.cmwq_lemmas.proofs.Truth.{same_bools}
 use Rattle.cmwq_model.specs.declared.entry.Entry.{Entry}
 use Rattle.cmwq_model.specs.declared.id.Who.TheVariants.{Worker}
 use Rattle.cmwq_model.specs.declared.id.WorkerId.{WorkerId}
 use Rattle.cmwq_model.specs.Prelude.{is_by, same_worker}
 use Rattle.cmwq_chart.specs.declared.sleeps.WorkerSleeps.{WorkerSleeps}
 use Rattle.cmwq_chart.specs.Sleeps.{asleep_since, sleeps_ended, table_number, HasTableNumber, AreSleepsKnown, AreAllSleepsKnown}
-
--- workers with one number are one
-same_parts : (a b : Bool) (c d x y : ℕ) → x < 256 → y < 256 → 512 * c + (if a then 256 else 0) + x ≡ 512 * d + (if b then 256 else 0) + y → (c ≡ d) × (a ≡ b) × (x ≡ y)
-same_parts a b c d x y small less is = grind arith
 
 one_worker : (v w : WorkerId) → HasTableNumber v → HasTableNumber w → table_number v ≡ table_number w → v ≡ w
 one_worker v w first second is = grind arith

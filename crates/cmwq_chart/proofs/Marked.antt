@@ -1,21 +1,18 @@
 -- What a table of marks says of workers and of places.
-use Rattle.std.proofs.Common.{◌≡◌, ℕ, ◌+◌, ◌*◌, ◌<◌, Bool, true, false, ◌&&◌, ◌||◌, ◌==◌, List, [], ◌∷◌, length, get_or, take, Option, Some, None, option_and_then, if◌then◌else◌, refl, sym, ap, ap₂, ◌∙◌, arith, nat_lt, slice_get, replicate}
+use Rattle.std.proofs.Common.{◌≡◌, ℕ, ◌+◌, ◌<◌, Bool, false, ◌||◌, List, [], ◌∷◌, length, get_or, take, Option, Some, refl, sym, ap, ap₂, ◌∙◌, arith, slice_get, replicate}
 use Rattle.std.proofs.lemmas.Bool.Decides.{nat_tests}
 use Rattle.std.proofs.lemmas.List.{get_or-replicate, length-replicate}
 use Rattle.std.proofs.lemmas.List.Folds.{list_any_more}
 use Rattle.std.proofs.lemmas.Option.{slice_get-get_or}
 use Rattle.std.specs.List.{list_any}
-use Rattle.std.specs.Bool.{beq}
-use Rattle.cmwq_lemmas.proofs.Truth.{same_bools}
 use Rattle.cmwq_model.specs.declared.entry.Entry.{Entry}
-use Rattle.cmwq_model.specs.declared.id.Who.{Who}
-use Rattle.cmwq_model.specs.declared.id.Who.TheVariants.{Caller, Worker}
+use Rattle.cmwq_model.specs.declared.id.Who.TheVariants.{Worker}
 use Rattle.cmwq_model.specs.declared.id.WorkerId.{WorkerId}
 use Rattle.cmwq_model.specs.declared.record.Place.{Place}
 use Rattle.cmwq_model.specs.declared.record.Queueing.{Queueing}
-use Rattle.cmwq_model.specs.Prelude.{is_at, is_by, most_cpus, most_queues, most_workers, same_place, same_who, same_worker, worker_of}
-use Rattle.cmwq_chart.specs.Lanes.{has_entries, has_lane_number, most_lanes, lane_number_by, lane_number}
-use Rattle.cmwq_chart.specs.Levels.{has_queueings, is_of_place, most_places, level_number_of, level_number}
+use Rattle.cmwq_model.specs.Prelude.{is_at, is_by, most_cpus, most_queues, most_workers}
+use Rattle.cmwq_chart.specs.Lanes.{has_entries, most_lanes, lane_number_by, lane_number}
+use Rattle.cmwq_chart.specs.Levels.{has_queueings, most_places, level_number_of, level_number}
 use Rattle.cmwq_chart.specs.Marks.{AreMarks, IsMarked}
 
 module _ {X : Type 0} (number : X → Option ℕ) where
@@ -40,10 +37,6 @@ module _ {X : Type 0} (number : X → Option ℕ) where
 
 -- ---- workers
 
-same_number : (a b : Bool) (c d x y : ℕ) → x < most_workers → y < most_workers
-    → (most_workers * (2 * c + (if a then 1 else 0)) + x == most_workers * (2 * d + (if b then 1 else 0)) + y) ≡ (((c == d) && beq a b) && (x == y))
-same_number a b c d x y small less = grind arith
-
 by_is : (w : WorkerId) (e : Entry) → w.pool.cpu.0 < most_cpus → w.index < most_workers → is_at (lane_number_by e) (lane_number w) ≡ is_by (Worker w) e
 by_is w e here small = grind (arith, nat_tests)
 
@@ -55,9 +48,6 @@ pub worker_marked : (entries : List Entry) (table : List Bool) (w : WorkerId) (b
 worker_marked entries table w b are here small is = marked lane_number_by (is_by (Worker w)) entries most_lanes (lane_number w) table b are (number_within w here small) (λ e. by_is w e here small) is
 
 -- ---- places
-
-in_is : (p : Place) (x : Queueing) → p.cpu.0 < most_cpus → is_at (level_number_of x) (level_number p) ≡ is_of_place p x
-in_is p x here = grind arith
 
 pub place_marked : (queueings : List Queueing) (table : List Bool) (p : Place) (b : Bool) → AreMarks level_number_of queueings most_places table → p.queue.0 < most_queues → p.cpu.0 < most_cpus
     → slice_get table (level_number p) ≡ Some b → b ≡ has_queueings queueings p

@@ -1,5 +1,5 @@
 -- How many rows have each colour, as one comes and goes.
-use Rattle.cmwq_flush.specs.Common.{Bool, ◌≡◌, ℕ, ◌+◌, ◌-◌, ◌<◌, true, false, cond, List, [], ◌∷◌, ◌++◌, All, length, get_or, set, suc, sym, refl, ◌⊎◌, ap, ◌∙◌, arith, ⊎_elim, slice_index, remove, cases_eq, nat_tests, get_or-set_same, get_or-set_other, sum_by-remove, all_pairs_remove, All-append, All-take, All-drop, All-push, all_pairs_push}
+use Rattle.cmwq_flush.specs.Common.{Bool, ◌≡◌, ℕ, ◌+◌, ◌-◌, ◌<◌, true, false, cond, List, [], ◌∷◌, ◌++◌, All, length, get_or, set, suc, sym, ◌⊎◌, ap, ◌∙◌, arith, ⊎_elim, slice_index, remove, cases_eq, nat_tests, get_or-set_same, get_or-set_other, sum_by-remove, all_pairs_remove, All-append, All-take, All-drop, All-push, all_pairs_push}
 use Rattle.std.proofs.lemmas.List.{length-set}
 use Rattle.std.specs.Prelude.{◌==◌, ◌↔◌}
 use Rattle.std.specs.List.{list_all}

@@ -1,5 +1,5 @@
 -- What a wait for an item finds among the item's open numbers.
-use Rattle.cmwq_flush.specs.Common.{◌≡◌, ℕ, ◌<◌, ◌≤◌, Bool, true, false, not, cond, List, [], ◌∷◌, suc, Option, Some, None, IfSome, is_some, sym, refl, ◌∙◌, arith, ⊎_elim, find, All, ◌↔◌, cases_lt, false≢true, nat_tests, All-cons}
+use Rattle.cmwq_flush.specs.Common.{◌≡◌, ℕ, ◌<◌, ◌≤◌, Bool, true, false, not, cond, List, [], ◌∷◌, suc, Option, Some, None, IfSome, is_some, refl, arith, ⊎_elim, find, All, ◌↔◌, cases_lt, false≢true, nat_tests}
 use Rattle.cmwq_flush.specs.Numbers.{AreRising}
 use Rattle.cmwq_flush.specs.ItemNumbers.{is_up_to}
 use Rattle.cmwq_flush.proofs.Search.{find_none}

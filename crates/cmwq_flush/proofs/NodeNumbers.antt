@@ -1,8 +1,8 @@
 -- The numbers of an item's two nodes, by age, as one is put in a list and taken out.
-use Rattle.std.proofs.Common.{ap₂, inl, inr}
-use Rattle.cmwq_flush.specs.Common.{◌≡◌, ◌≢◌, ◌⊎◌, ℕ, ◌<◌, ◌≤◌, Bool, true, false, not, cond, List, [], ◌∷◌, ◌++◌, length, set, Option, Some, None, sym, ap, refl, ◌∙◌, arith, ⊎_elim, map, Contains, eqb, nat_tests, cases_eq, cases_lt, range_with_len, get_or-set_same, get_or-set_other}
+use Rattle.std.proofs.Common.{ap₂}
+use Rattle.cmwq_flush.specs.Common.{◌≡◌, ◌≢◌, ◌⊎◌, ℕ, ◌<◌, Bool, true, false, not, cond, List, [], ◌∷◌, ◌++◌, length, set, Option, Some, None, sym, ap, refl, ◌∙◌, arith, ⊎_elim, map, Contains, nat_tests, cases_eq, range_with_len, get_or-set_same, get_or-set_other}
 use Rattle.std.specs.Prelude.{◌&&◌, ◌||◌, nat_lt}
-use Rattle.std.proofs.lemmas.Bool.{eq-eqb, ne_eqb, ltb-true, ltb-false}
+use Rattle.std.proofs.lemmas.Bool.{eq-eqb, ne_eqb}
 use Rattle.std.proofs.lemmas.List.{length-set}
 use Rattle.std.proofs.lemmas.List.FromFn.{fill_by_all, length-map-range_with_len, get_or-map-range_with_len}
 use Rattle.cmwq_lemmas.proofs.Truth.{or_true, or_false, and_true, and_false}

@@ -1,5 +1,5 @@
 -- Which nodes are in lists, as one is put in and taken out.
-use Rattle.cmwq_flush.specs.Common.{◌≡◌, ◌≢◌, ℕ, ◌+◌, ◌<◌, Bool, ⊎_elim, cases_eq, true, false, not, cond, List, [], ◌∷◌, ◌++◌, length, get_or, set, zero, suc, Some, None, is_some, sym, ap, refl, ◌∙◌, arith, map, All, Contains, false≢true, nat_tests, get_or-map, length-map, map-set, map_push, get_or-set_same, get_or-set_other, position_or_len}
+use Rattle.cmwq_flush.specs.Common.{◌≡◌, ◌≢◌, ℕ, ◌+◌, ◌<◌, Bool, ⊎_elim, cases_eq, true, false, not, cond, List, [], ◌∷◌, ◌++◌, length, get_or, set, zero, suc, Some, None, is_some, sym, ap, refl, ◌∙◌, arith, map, All, Contains, false≢true, get_or-map, length-map, map-set, map_push, get_or-set_same, get_or-set_other, position_or_len}
 use Rattle.std.specs.Prelude.{◌&&◌, ◌||◌, nat_eq, nat_lt, slice_get}
 use Rattle.std.specs.List.{list_any}
 use Rattle.std.proofs.lemmas.List.{length-set, ext_get_or}

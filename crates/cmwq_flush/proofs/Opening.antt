@@ -1,11 +1,10 @@
 -- What is open after a queueing of an item is opened, and after it ends.
 use Rattle.std.proofs.Common.{ap₂, inl, inr}
-use Rattle.cmwq_flush.specs.Common.{◌≡◌, ◌≢◌, ◌⊎◌, ℕ, ◌+◌, ◌<◌, ◌≤◌, Bool, true, false, not, cond, List, [], ◌∷◌, ◌++◌, length, get_or, set, Some, None, sym, ap, refl, ◌∙◌, arith, ⊎_elim, map, Contains, eqb, false≢true, cases_lt, zero, suc, replicate, length-map, get_or-map, get_or_past, get_or-set_same, get_or-set_other, position_or_len, ◌↔◌}
+use Rattle.cmwq_flush.specs.Common.{◌≡◌, ◌≢◌, ◌⊎◌, ℕ, ◌+◌, ◌<◌, ◌≤◌, Bool, true, false, not, cond, List, [], ◌∷◌, ◌++◌, length, get_or, set, Some, sym, ap, refl, ◌∙◌, arith, ⊎_elim, map, Contains, eqb, false≢true, cases_lt, zero, suc, replicate, length-map, get_or-map, get_or_past, get_or-set_same, get_or-set_other, ◌↔◌}
 use Rattle.std.specs.Prelude.{◌*◌, ◌&&◌, ◌||◌, nat_eq}
 use Rattle.std.proofs.lemmas.List.{length-set, length-replicate, get_or-replicate, ext_get_or}
 use Rattle.std.proofs.lemmas.List.FromFn.{length-map-range_with_len, get_or-map-range_with_len}
-use Rattle.std.proofs.lemmas.Bool.{eq-eqb, ne_eqb, lt-ltb, eqb-true}
-use Rattle.std.specs.Prelude.{nat_lt}
+use Rattle.std.proofs.lemmas.Bool.{eq-eqb, ne_eqb, eqb-true}
 use Rattle.std.proofs.lemmas.List.Quantifiers.{position-Some}
 use Rattle.std.proofs.lemmas.List.Sums.{position_or_len_is}
 use Rattle.cmwq_lemmas.proofs.Truth.{same_bools}
@@ -17,7 +16,7 @@ use Rattle.cmwq_flush.specs.ItemNumbers.{numbers_open}
 use Rattle.cmwq_flush.specs.Openings.{AreOpenings, is_listed, node_row, node_number, rows_of, by_age, numbers_of_nodes, opened_by, has_number}
 use Rattle.cmwq_flush.proofs.Search.{filter_all}
 use Rattle.cmwq_flush.proofs.Nodes.{set_one, listed-pushed, listed-removed, rows-removed, node_in, in_list, number_there}
-use Rattle.cmwq_flush.proofs.NodeNumbers.{opened_at, opened_set, latest_first, latest_second, ended_first, ended_second, one_of, some_at, none_at, number_at_listed, number_at_free, number-pushed, number-kept, number-removed, number-stays}
+use Rattle.cmwq_flush.proofs.NodeNumbers.{opened_at, opened_set, latest_first, latest_second, ended_first, ended_second, one_of, some_at, number_at_listed, number_at_free, number-pushed, number-kept, number-removed, number-stays}
 
 chosen : (b c : Bool) (x y : ℕ) → b ≡ c → cond b x y ≡ cond c x y
 chosen b c x y e = ap (λ d. cond d x y) e

@@ -1,6 +1,5 @@
 -- Which flushes are in overflow, as nodes move from one list to another.
-use Rattle.cmwq_flush.specs.Common.{◌≡◌, ◌≢◌, ℕ, ◌+◌, ◌<◌, ◌≤◌, Bool, true, false, not, cond, List, [], ◌∷◌, ◌++◌, length, get_or, set, zero, suc, replicate, Option, Some, None, IsSome, is_some, sym, ap, ap₂, refl, ◌∙◌, arith, ⊎_elim, map, find, All, Contains, ◌↔◌, ◌⊎◌, false≢true, nat_tests, cases_lt, cases_eq, get_or-map, length-map, length-append, map-set, map_push, get_or-set_same, get_or-set_other, range_with_len}
-use Rattle.std.proofs.Common.{inl, inr}
+use Rattle.cmwq_flush.specs.Common.{◌≡◌, ◌≢◌, ℕ, ◌+◌, ◌<◌, ◌≤◌, Bool, true, false, not, cond, List, [], ◌∷◌, ◌++◌, length, get_or, set, zero, suc, replicate, Option, Some, None, IsSome, is_some, sym, ap, ap₂, refl, ◌∙◌, arith, ⊎_elim, map, find, All, Contains, ◌↔◌, ◌⊎◌, false≢true, cases_lt, get_or-map, length-map, length-append, map-set, map_push, get_or-set_same, get_or-set_other, range_with_len}
 use Rattle.std.specs.Prelude.{◌&&◌, ◌||◌, ◌==◌, nat_eq, slice_get, drop}
 use Rattle.std.specs.List.{list_any, sum_by}
 use Rattle.std.proofs.lemmas.Bool.{or_parts, or_right, eq-eqb, eqb-true, eqb-false, cond-true, cond-false, leb-true, leb-false, ne_eqb}

@@ -1,5 +1,5 @@
 -- Each call keeps a flush book right.
-use Rattle.cmwq_flush.specs.Common.{◌≡◌, ℕ, ◌+◌, ◌<◌, ◌≤◌, Bool, true, false, cond, List, [], ◌∷◌, ◌++◌, length, get_or, take, Some, None, ap, refl, arith, ⊎_elim, All, AllPairs, Contains, map, ◌↔◌, Option, IfSome, slice_get, remove, range_with_len, cases_lt, get_or-map, get_or_default, length-map, length-append, All-map, All-append, Contains-append_cases, length-remove}
+use Rattle.cmwq_flush.specs.Common.{◌≡◌, ℕ, ◌+◌, ◌<◌, ◌≤◌, Bool, true, cond, List, [], ◌∷◌, ◌++◌, length, get_or, take, Some, None, refl, arith, ⊎_elim, All, AllPairs, Contains, map, ◌↔◌, Option, IfSome, slice_get, remove, range_with_len, cases_lt, get_or-map, get_or_default, length-map, length-append, All-map, All-append, Contains-append_cases, length-remove}
 use Rattle.std.proofs.lemmas.List.FromFn.{get_or-range_with_len}
 use Rattle.cmwq_flush.specs.declared.served.Served.{Served}
 use Rattle.cmwq_flush.specs.declared.openings.Row.{Row}

@@ -1,8 +1,7 @@
 -- What a binary search finds among elements whose keys rise, and what is left when the one it found is removed.
-use Rattle.cmwq_flush.specs.Common.{◌≡◌, ◌≢◌, ℕ, ◌-◌, ◌<◌, ◌≤◌, Bool, true, false, not, eqb, ltb, List, [], ◌∷◌, length, get_or, zero, suc, Option, Some, None, Result, Ok, Err, IfSome, IfNone, IsSome, sym, ap, refl, ◌∙◌, arith, ⊎_elim, map, filter, find, All, AllPairs, Contains, ◌↔◌, HoldsAt, remove, IsSearchInRange, IsBinarySearchResult, IsNonDecreasingBy, cases_lt, nat_tests, get_or-map, length-map, All-tail, All-head}
+use Rattle.cmwq_flush.specs.Common.{◌≡◌, ◌≢◌, ℕ, ◌-◌, ◌<◌, ◌≤◌, Bool, true, false, not, eqb, ltb, List, [], ◌∷◌, length, get_or, zero, suc, Option, Some, None, Result, IfSome, IfNone, IsSome, sym, ap, refl, ◌∙◌, arith, ⊎_elim, map, filter, find, All, AllPairs, Contains, ◌↔◌, HoldsAt, remove, IsSearchInRange, IsBinarySearchResult, cases_lt, nat_tests, get_or-map, length-map, All-tail, All-head}
 use Rattle.std.specs.Result.{result_ok}
-use Rattle.std.specs.Ordering.{nat_cmp, ordering_index}
-use Rattle.std.proofs.lemmas.Cmp.{ranked}
+use Rattle.std.specs.Ordering.{nat_cmp}
 
 -- a filter that all pass keeps the list
 pub filter_all : {X : Type 0} (p : X → Bool) (xs : List X) → All (λ x. p x ≡ true) xs → filter p xs ≡ xs

@@ -1,5 +1,5 @@
 -- Which served flush is the first to wait for a queueing, as flushes come and go.
-use Rattle.cmwq_flush.specs.Common.{◌≡◌, ℕ, ◌+◌, ◌<◌, ◌≤◌, Bool, true, false, not, cond, List, [], ◌∷◌, ◌++◌, length, get_or, zero, suc, ap, refl, arith, ⊎_elim, All, remove, IsNonDecreasingBy, cases_lt, nat_tests, prefix_len-le-length, fails_before_first, passes_at_first, All-head, All-tail}
+use Rattle.cmwq_flush.specs.Common.{◌≡◌, ℕ, ◌+◌, ◌<◌, ◌≤◌, not, cond, List, [], ◌∷◌, ◌++◌, length, get_or, zero, suc, ap, refl, arith, ⊎_elim, All, remove, IsNonDecreasingBy, cases_lt, nat_tests, prefix_len-le-length, fails_before_first, passes_at_first, All-head, All-tail}
 use Rattle.cmwq_flush.specs.declared.served.Served.{Served}
 use Rattle.cmwq_flush.specs.Served.{bound_of, served_waits_for, first_waiting}
 

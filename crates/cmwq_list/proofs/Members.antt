@@ -1,21 +1,18 @@
 -- Which items a list has, and what is left of it without one.
-use Rattle.std.proofs.Common.{◌≡◌, ◌≢◌, ℕ, suc, ◌+◌, ◌<◌, ◌≤◌, Bool, true, false, ◌&&◌, ◌||◌, not, cond, List, [], ◌∷◌, ◌++◌, length, refl, sym, ap, ◌∙◌, arith}
+use Rattle.std.proofs.Common.{◌≡◌, ◌≢◌, ℕ, ◌+◌, ◌<◌, ◌≤◌, true, false, ◌&&◌, ◌||◌, not, List, [], ◌∷◌, ◌++◌, length, refl, ap, ◌∙◌, arith}
 use Rattle.std.specs.Prelude.{nat_eq}
 use Rattle.std.specs.List.{IsDistinct, AllByRecursion}
 use Rattle.std.proofs.lemmas.Map.Keys.{IsDistinct-cons}
 use Rattle.std.proofs.lemmas.Map.Steps.{length-le_from_distinct_below}
-use Rattle.std.proofs.lemmas.Bool.{false≢true, or_parts, or_from, eqb-true, eqb-false, ne_eqb, cond_both}
+use Rattle.std.proofs.lemmas.Bool.{false≢true, or_parts, or_from}
 use Rattle.std.proofs.lemmas.List.Folds.{list_any-append}
 use Rattle.cmwq_lemmas.proofs.Lists.{All_map, filter_all}
-use Rattle.cmwq_lemmas.proofs.Truth.{and_false, or_false}
+use Rattle.cmwq_lemmas.proofs.Truth.{or_false}
 use Rattle.cmwq_list.specs.Lists.{has_item, without_item, AreDistinct}
 
 -- a number that a list lacks is not its first, and the rest lacks it
 pub lacks : (q x : ℕ) (xs : List ℕ) → has_item q (x ∷ xs) ≡ false → (x ≢ q) × (has_item q xs ≡ false)
 lacks q x xs h = grind arith
-
-pub lacks_from : (q x : ℕ) (xs : List ℕ) → x ≢ q → has_item q xs ≡ false → has_item q (x ∷ xs) ≡ false
-lacks_from q x xs ne h = or_from (nat_eq q x) (has_item q xs) (ne_eqb q x (λ e. ne (sym e))) h
 
 all_differ : (x : ℕ) (xs : List ℕ) → has_item x xs ≡ false → AllByRecursion (λ y. nat_eq x y ≡ false) xs
 all_differ x [] h = tt
@@ -30,18 +27,18 @@ has-without j i (x ∷ xs) = grind (arith, has-without j i xs)
 
 pub distinct-without : (i : ℕ) (xs : List ℕ) → AreDistinct xs → AreDistinct (without_item i xs)
 distinct-without i [] d = tt
-distinct-without i (x ∷ xs) d = grind (arith, distinct-without i xs d.1)
+distinct-without i (x ∷ xs) d = grind (arith, has-without, distinct-without i xs d.1, d.0)
 
 pub length-without : (i : ℕ) (xs : List ℕ) → AreDistinct xs → has_item i xs ≡ true → length (without_item i xs) + 1 ≡ length xs
 length-without i [] d h = absurd (false≢true h)
-length-without i (x ∷ xs) d h = grind (arith, length-without i xs d.1)
+length-without i (x ∷ xs) d h = grind (arith, without_none, length-without i xs d.1, d.0)
 
 pub has-push : (j i : ℕ) (xs : List ℕ) → has_item j (xs ++ i ∷ []) ≡ (has_item j xs || nat_eq j i)
 has-push j i xs = list_any-append (nat_eq j) xs (i ∷ []) ∙ ap (λ b. has_item j xs || b) (or_false (nat_eq j i))
 
 pub distinct-push : (i : ℕ) (xs : List ℕ) → AreDistinct xs → has_item i xs ≡ false → AreDistinct (xs ++ i ∷ [])
 distinct-push i [] d h = (refl, tt)
-distinct-push i (x ∷ xs) d h = grind (arith, distinct-push i xs d.1)
+distinct-push i (x ∷ xs) d h = grind (arith, lacks, has-push, or_from, distinct-push i xs d.1, d.0)
 
 -- there are no more distinct numbers below n than n
 distinct : (xs : List ℕ) → AreDistinct xs → IsDistinct nat_eq xs

@@ -1,6 +1,5 @@
 -- The rings after an item is put into one, or taken out.
 use Rattle.std.proofs.Common.{◌≡◌, ◌≢◌, ℕ, zero, suc, ◌+◌, ◌<◌, ◌≤◌, true, false, List, [], ◌∷◌, length, get_or, set, refl, sym, ap, ◌∙◌, arith, ⊎_elim}
-use Rattle.std.specs.Prelude.{nat_eq}
 use Rattle.std.proofs.lemmas.Bool.{false≢true, eqb-true, eq-eqb, ne_eqb, cases_lt}
 use Rattle.std.proofs.lemmas.List.{get_or-set_same, get_or-set_other, get_or_past}
 use Rattle.cmwq_list.specs.Lists.{has_item}
@@ -9,7 +8,12 @@ use Rattle.cmwq_list.proofs.Members.{few_below}
 use Rattle.cmwq_list.proofs.Between.{Puts, walk_is}
 
 pub puts : (next prev : List ℕ) (p n : ℕ) → p < length next → n < length prev → Puts (link_at next) (link_at prev) (link_at (set next p n)) (link_at (set prev n p)) p n
-puts next prev p n hp hn = grind arith
+puts next prev p n hp hn = record {
+  there = get_or-set_same next p n 0 hp;
+  back = get_or-set_same prev n p 0 hn;
+  nexts = λ x ne. get_or-set_other next p x n 0 ne;
+  prevs = λ x ne. get_or-set_other prev n x p 0 ne;
+}
 
 pub length_from : (f : ℕ → ℕ) (s : ℕ) (ns : List ℕ) → length (lists_from f s ns) ≡ length ns
 length_from f s [] = refl
@@ -31,7 +35,7 @@ pub record AreRings (next prev owners lens : List ℕ) (ys : ℕ → List ℕ) :
 
 module _ (next prev owners lens : List ℕ) (ys : ℕ → List ℕ) (are : AreRings next prev owners lens ys) where
   pub walked : (m : ℕ) → m < length lens → walk (link_at next) (length owners + m) (get_or lens m 0) ≡ ys m
-  walked m h = grind arith
+  walked m h = grind (arith, walk_is)
 
   pub rings_walked : (m : ℕ) → m < length lens → IsRing (link_at next) (link_at prev) (owner_at owners) (length owners + m) m (walk (link_at next) (length owners + m) (get_or lens m 0))
   rings_walked m h = rw (walked m h) (are.rings m h)
@@ -71,6 +75,3 @@ module _ (next prev owners lens : List ℕ) (is : AreLinked next prev owners len
 
   pub few_items : (m : ℕ) → m < length lens → get_or lens m 0 ≤ length owners
   few_items m h = let e = length_ring m h in let f = few_below (length owners) (ring m) (is.rings m h).distinct (λ i. known i m h) in omega arith
-
-  pub are_rings : AreRings next prev owners lens ring
-  are_rings = record { rings = is.rings; lengths = length_ring }

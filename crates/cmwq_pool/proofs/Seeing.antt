@@ -1,7 +1,7 @@
 -- What the parts of the pools are seen as, and what a change of the parts changes.
 use Rattle.cmwq_pool.specs.Common.{◌≡◌, ◌≢◌, ℕ, zero, suc, ◌+◌, ◌<◌, ◌&&◌, ◌||◌, Option, Some, None, ltb, is_some, true, false, not, List, [], ◌∷◌, ◌++◌, length, get_or, set, map, find, option_map, refl, sym, ap, ap₂, ◌∙◌, arith, replicate, slice_set, slice_index_or, range_with_len, list_any, length-set, length-replicate, get_or-set_same, get_or-set_other}
 use Rattle.std.proofs.Common.{⊎_elim}
-use Rattle.std.proofs.lemmas.Bool.{and_parts, cases_eq, cases_lt, false_from_ne_true, false≢true, lt-ltb, ltb-true, not-true, or_right}
+use Rattle.std.proofs.lemmas.Bool.{cases_eq, cases_lt, false_from_ne_true, false≢true, lt-ltb, or_right}
 use Rattle.std.proofs.lemmas.List.{ext_get_or, get_or-map, get_or-replicate, get_or_default, get_or_past}
 use Rattle.std.proofs.lemmas.List.FromFn.{fill_by_all, get_or-map-range_with_len, length-map-range_with_len}
 use Rattle.cmwq_list.specs.Lists.{Listed, list_at, list_of, has_item, without_item, pushed, removed, AreListedOnce}

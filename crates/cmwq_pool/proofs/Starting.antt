@@ -1,9 +1,8 @@
 -- The slots of a pool as a worker starts, and what a start takes.
-use Rattle.cmwq_pool.specs.Common.{◌≡◌, ℕ, zero, suc, ◌+◌, ◌<◌, Bool, true, false, cond, List, [], ◌∷◌, ◌++◌, take, drop, length, Option, Some, None, refl, ap, ap₂, ◌∙◌, arith, find, is_some, option_map, IfSome, list_any, range_with_len, length-set}
-use Rattle.std.proofs.lemmas.Grind.{common_steps}
+use Rattle.cmwq_pool.specs.Common.{◌≡◌, ℕ, zero, suc, ◌+◌, ◌<◌, Bool, true, false, cond, List, [], ◌∷◌, length, Option, Some, None, arith, find, IfSome, list_any, range_with_len}
 use Rattle.cmwq_pool.specs.declared.task.Task.{Task}
 use Rattle.cmwq_pool.specs.declared.slot.Slot.{Slot}
-use Rattle.cmwq_pool.specs.Slots.{no_slot, slot_at, is_reserve_at, slot_is_other_idle, slot_indices, slots_enlisted_by, with_slot, with_enlisted, slot_running, slot_enlisted, slots_started}
+use Rattle.cmwq_pool.specs.Slots.{no_slot, slot_at, is_reserve_at, slot_is_other_idle, slot_indices, slots_enlisted_by}
 use Rattle.cmwq_pool.specs.PoolState.{PoolState}
 
 -- ---- a slot that passes a test which none in its place would
@@ -29,17 +28,7 @@ reserve_in_range b n o h = grind arith
 pub enlisted_by-in_range : (slots : List Slot) (w : ℕ) → IfSome (slots_enlisted_by slots w) (λ x. x < length slots)
 enlisted_by-in_range slots w = reserve_in_range (list_any (slot_is_other_idle slots w) (slot_indices slots)) (length slots) (find (is_reserve_at slots) (slot_indices slots)) (found_in_range (is_reserve_at slots) 0 (length slots))
 
--- enlisting changes nothing that runs
-length-enlisted : (slots : List Slot) (e : Option ℕ) → length (with_enlisted e slots) ≡ length slots
-length-enlisted slots e = grind (arith, length-set)
-
-pub length-started : (slots : List Slot) (w : ℕ) (t : Task) → length (slots_started slots w t) ≡ length slots
-length-started slots w t = length-enlisted (with_slot (slot_running t) w slots) (slots_enlisted_by slots w) ∙ length-set slots w (slot_running t (slot_at slots w))
-
 -- ---- a list that was written in place
-
-pub written_back : (old new : List Slot) (n : ℕ) → n ≡ length old → length new ≡ length old → take n (new ++ drop (length new) old) ≡ new
-written_back old new n n_is same = grind (arith, common_steps)
 
 pool_state : ℕ → List Task → List Slot → PoolState
 pool_state items listed slots = record { items = items; listed = listed; slots = slots }
@@ -49,6 +38,3 @@ unfolding pool_state
 same_pool_state p q items listed slots = grind arith
 
 -- ---- what is next
-
-pub is_some-next_task : (o : Option Task) → is_some (option_map (λ (t : Task). t.number) o) ≡ true → is_some o ≡ true
-is_some-next_task o h = grind arith

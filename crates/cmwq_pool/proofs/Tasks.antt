@@ -1,7 +1,6 @@
 -- What stands in the lists of pools, each item with what is noted of it.
-use Rattle.cmwq_pool.specs.Common.{◌≡◌, ℕ, ◌<◌, ◌≤◌, ◌&&◌, ◌||◌, Bool, true, false, cond, eqb, ltb, not, List, [], ◌∷◌, ◌++◌, length, set, map, filter, find, Option, Some, None, refl, sym, ap, ap₂, ◌∙◌, arith, is_some, option_map, nat_eq, list_any, position_or_len, get_or-set_same, get_or-set_other, nat_tests}
-use Rattle.std.proofs.Common.{⊎_elim}
-use Rattle.std.proofs.lemmas.Bool.{and_parts, cases_lt, eqb-true, eqb-false, eq-eqb, or_parts, or_right, false≢true}
+use Rattle.cmwq_pool.specs.Common.{◌≡◌, ℕ, ◌<◌, ◌&&◌, ◌||◌, Bool, true, false, cond, eqb, not, List, [], ◌∷◌, ◌++◌, length, set, map, filter, find, Option, Some, None, refl, sym, ap, ap₂, ◌∙◌, arith, is_some, option_map, nat_eq, list_any, get_or-set_same, get_or-set_other}
+use Rattle.std.proofs.lemmas.Bool.{and_parts, eqb-true, eqb-false, eq-eqb, or_parts, false≢true}
 use Rattle.std.proofs.lemmas.List.{get_or_past, map_push}
 use Rattle.std.proofs.lemmas.List.Sums.{passes_at_first, fails_before_first}
 use Rattle.std.proofs.lemmas.Option.{cond_some}

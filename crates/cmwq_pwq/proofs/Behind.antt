@@ -1,7 +1,6 @@
 -- What becomes active after an entry that changes no width.
-use Rattle.cmwq_pwq.specs.Common.{append-nil, ◌≡◌, ℕ, ◌+◌, ◌-◌, ◌<◌, ◌≤◌, Bool, true, false, ◌&&◌, ◌==◌, List, [], ◌∷◌, ◌++◌, length, filter, cond, count_by, nat_lt, refl, sym, ap, ap₂, ◌∙◌, subst, arith, length-append, slice_set, if◌then◌else◌, AllByRecursion, list_any, has_number, is_of, lt-ltb, le-ltb, append_assoc, length-set, Queueing, is_on, All_map, All_both, All_filter, most_cpus}
+use Rattle.cmwq_pwq.specs.Common.{append-nil, ◌≡◌, ℕ, ◌+◌, ◌-◌, ◌<◌, ◌≤◌, Bool, true, false, ◌&&◌, ◌==◌, List, [], ◌∷◌, ◌++◌, length, filter, cond, nat_lt, refl, sym, ap, ap₂, ◌∙◌, subst, arith, length-append, slice_set, if◌then◌else◌, AllByRecursion, list_any, has_number, lt-ltb, le-ltb, append_assoc, length-set, Queueing, is_on, All_map, All_both, All_filter, most_cpus}
 use Rattle.cmwq_pwq.specs.Pwqs.{PwqState, place_of, count_at, count_of_same_pwq, is_waiting, is_other_waiting, pwqs_without_open, pwqs_with_open, AreBelowMaxActive, NoneWaitsAnew, Passes, IsPassed, IsBehind, AreBehind}
-use Rattle.std.specs.Prelude.{◌||◌}
 use Rattle.std.proofs.lemmas.Bool.{or_from, or_parts}
 use Rattle.std.proofs.lemmas.List.Folds.{list_any-append}
 use Rattle.cmwq_pwq.specs.Waiting.{IsFirstTaken, WaitingState}

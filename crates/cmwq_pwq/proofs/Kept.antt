@@ -1,16 +1,16 @@
 -- What waits, after a queueing is put behind the others, or taken out, by the rows of items and the lists of their numbers.
-use Rattle.cmwq_pwq.specs.Common.{◌≡◌, ◌≢◌, ℕ, zero, suc, ◌+◌, ◌<◌, Bool, true, false, not, ◌&&◌, ◌==◌, List, [], ◌∷◌, ◌++◌, length, filter, cond, take, drop, Option, Some, None, refl, sym, ap, ap₂, ◌∙◌, subst, arith, AllByRecursion, list_any, slice_set, eq-eqb, eqb-true, le-ltb, length-set, get_or-set_other, All_map, All_both, All_filter, append-nil, drop_more, take-append-drop, Queueing, is_of, is_on, has_number, most_cpus}
+use Rattle.cmwq_pwq.specs.Common.{◌≡◌, ◌≢◌, ℕ, zero, suc, ◌+◌, ◌<◌, Bool, true, false, not, ◌&&◌, List, [], ◌∷◌, ◌++◌, length, filter, cond, take, drop, Option, Some, None, refl, sym, ap, ap₂, ◌∙◌, subst, arith, AllByRecursion, list_any, slice_set, eq-eqb, eqb-true, le-ltb, length-set, get_or-set_other, All_map, All_both, All_filter, append-nil, drop_more, take-append-drop, Queueing, is_of, is_on, has_number, most_cpus}
 use Rattle.std.specs.Prelude.{◌||◌, nat_eq, nat_lt, is_some, map, option_map, option_and_then, slice_get}
 use Rattle.std.specs.List.{position_or_len}
 use Rattle.std.proofs.Common.{⊎_elim}
-use Rattle.std.proofs.lemmas.Bool.{false_from_ne_true, false≢true, or_parts, or_from, or_right, eqb-false, ne_eqb, cases_eq, cond-false}
+use Rattle.std.proofs.lemmas.Bool.{false_from_ne_true, false≢true, or_parts, or_right, eqb-false, ne_eqb, cases_eq, cond-false}
 use Rattle.std.proofs.lemmas.List.{get_or-set_same, get_or-map, map-append, length-map}
 use Rattle.std.proofs.lemmas.List.Elements.{filter-append}
 use Rattle.std.proofs.lemmas.List.Sums.{position_or_len_is}
 use Rattle.std.proofs.lemmas.Option.{same_Some, slice_get-map, slice_get_within, get_or_from_slice_get, slice_get-get_or}
 use Rattle.cmwq_lemmas.proofs.Filters.{filter_twice, filter_same}
 use Rattle.cmwq_lemmas.proofs.Lists.{All_each, All_push, filter_all}
-use Rattle.cmwq_lemmas.proofs.Truth.{and_false, flip, same_bools}
+use Rattle.cmwq_lemmas.proofs.Truth.{and_false, flip}
 use Rattle.cmwq_list.specs.Lists.{Listed, AreDistinct, AreListedOnce, has_item, list_at, list_of, pushed, removed, without_item}
 use Rattle.cmwq_pwq.specs.Pwqs.{IsNumberOfItem, is_other_waiting, place_of}
 use Rattle.cmwq_pwq.proofs.Passes.{on_itself, on_parts, one_place}

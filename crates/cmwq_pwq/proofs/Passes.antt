@@ -1,5 +1,5 @@
 -- One step of the pass over what waits.
-use Rattle.cmwq_pwq.specs.Common.{zero, suc, Some, append-nil, ◌≡◌, ◌≢◌, ℕ, ◌+◌, ◌*◌, ◌<◌, ◌≤◌, Bool, true, false, not, ◌&&◌, ◌==◌, List, [], ◌∷◌, ◌++◌, length, filter, take, drop, cond, get_or, count_by, nat_lt, refl, sym, ap, ap₂, ◌∙◌, subst, arith, slice_set, eqb-true, eq-eqb, lt-ltb, le-ltb, and_parts, get_or-set_other, take_more, drop_more, take-append-drop, take_all, get_or_default, length-set, filter-append, Queueing, is_on, count_by-cons, most_cpus}
+use Rattle.cmwq_pwq.specs.Common.{zero, suc, Some, append-nil, ◌≡◌, ◌≢◌, ℕ, ◌+◌, ◌*◌, ◌<◌, ◌≤◌, Bool, true, false, ◌&&◌, ◌==◌, List, [], ◌∷◌, ◌++◌, length, take, drop, cond, get_or, count_by, nat_lt, refl, sym, ap, ap₂, ◌∙◌, subst, arith, slice_set, eqb-true, eq-eqb, lt-ltb, le-ltb, and_parts, get_or-set_other, take_more, drop_more, take-append-drop, take_all, get_or_default, length-set, filter-append, Queueing, is_on, count_by-cons, most_cpus}
 use Rattle.std.specs.Prelude.{slice_get}
 use Rattle.std.proofs.lemmas.Grind.{get_or-set_at}
 use Rattle.std.proofs.lemmas.List.{append_assoc, length-append, length-take}

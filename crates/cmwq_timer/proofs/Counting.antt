@@ -1,15 +1,14 @@
 -- How many items are booked on each queue, where a row is written.
-use Rattle.std.proofs.Common.{◌≡◌, ℕ, ◌+◌, ◌-◌, ◌*◌, ◌<◌, Bool, true, false, cond, ◌||◌, ◌==◌, List, [], ◌∷◌, length, Option, Some, None, refl, sym, ap, ◌∙◌, arith, ⊎_elim, set}
+use Rattle.std.proofs.Common.{◌≡◌, ℕ, ◌+◌, ◌-◌, ◌*◌, ◌<◌, Bool, true, cond, ◌||◌, ◌==◌, List, [], ◌∷◌, length, Option, Some, None, refl, sym, ap, ◌∙◌, arith, ⊎_elim, set}
 use Rattle.std.specs.Prelude.{count_by, nat_lt, slice_index, replicate}
 use Rattle.std.specs.List.{list_any}
 use Rattle.std.proofs.lemmas.Bool.{cases_eq, eq-eqb, eqb-true}
-use Rattle.std.proofs.lemmas.Bool.Decides.{nat_tests}
 use Rattle.std.proofs.lemmas.List.{get_or-set_same, get_or-set_other, get_or-replicate, length-set, length-replicate}
 use Rattle.std.proofs.lemmas.List.Folds.{sum_by-replicate}
 use Rattle.std.proofs.lemmas.List.Sums.{count_by-le-length, sum_by-cons, sum_by-set}
 use Rattle.cmwq_timer.specs.declared.timer.Timer.{Timer}
 use Rattle.cmwq_timer.specs.declared.timers.TheConstants.{QUEUES}
-use Rattle.cmwq_timer.specs.Rows.{TimerRows, timer_of, is_timer_on, any_timer_on, AreCounted, counts_with, counts_without, HasCountOf, HasRoomFor}
+use Rattle.cmwq_timer.specs.Rows.{TimerRows, timer_of, is_timer_on, any_timer_on, AreCounted, counts_with, counts_without, HasRoomFor}
 
 abbrev bit : ℕ → Option Timer → ℕ
 bit q o = cond (is_timer_on q o) 1 0
@@ -29,8 +28,7 @@ with_at counts (Some t) q inside = ⊎_elim
     (cases_eq q t.place.queue.0)
   where
     none : (b : Bool) → (b ≡ true → ⊥) → slice_index counts q ≡ slice_index counts q + cond b 1 0
-    none true h = absurd (h refl)
-    none false h = omega arith
+    none b h = grind arith
 
 without_at : (counts : List ℕ) (o : Option Timer) (q : ℕ) → q < length counts → slice_index (counts_without o counts) q ≡ slice_index counts q - bit q o
 without_at counts None q inside = sym (nothing (slice_index counts q))
@@ -43,8 +41,7 @@ without_at counts (Some t) q inside = ⊎_elim
     (cases_eq q t.place.queue.0)
   where
     none : (b : Bool) → (b ≡ true → ⊥) → slice_index counts q ≡ slice_index counts q - cond b 1 0
-    none true h = absurd (h refl)
-    none false h = omega arith
+    none b h = grind arith
 
 length_with : (counts : List ℕ) (o : Option Timer) → length (counts_with o counts) ≡ length counts
 length_with counts o = grind (arith, length-set)
@@ -58,19 +55,6 @@ module _ (rows : TimerRows) (counts : List ℕ) (are : AreCounted rows counts) w
   counted o t is = ap (bit t.place.queue.0) is ∙ ap (λ b. cond b 1 0) (eq-eqb t.place.queue.0 t.place.queue.0 refl)
 
   module _ (i : ℕ) (here : i < length rows) where
-    -- the count of the row's own timer isn't 0
-    pub has_count : ((t : Timer) → timer_of rows i ≡ Some t → t.place.queue.0 < QUEUES) → HasCountOf (timer_of rows i) counts
-    has_count known = by (timer_of rows i) refl
-      where
-        by : (o : Option Timer) → timer_of rows i ≡ o → HasCountOf o counts
-        by None is = tt
-        by (Some t) is =
-            let q = t.place.queue.0 in
-            let one = counted (timer_of rows i) t is in
-            let gone = written q rows i None here in
-            let exact = are.exact q (known t is) in
-            omega (arith, one, gone, exact)
-
     pub written_counts : (o : Option Timer) → AreCounted (set rows i o) (counts_with o (counts_without (timer_of rows i) counts))
     written_counts o = record {
       few = rw (length-set rows i o) are.few;
@@ -88,7 +72,19 @@ module _ (rows : TimerRows) (counts : List ℕ) (are : AreCounted rows counts) w
 
     pub has_room : (o : Option Timer) → ((t : Timer) → o ≡ Some t → t.place.queue.0 < QUEUES) → HasRoomFor o (counts_without (timer_of rows i) counts)
     has_room None known = tt
-    has_room (Some t) known = grind (arith, nat_tests, length_without, without_at, count_by-le-length, length-set, t.place.queue.0)
+    has_room (Some t) known =
+        let q = t.place.queue.0 in
+        let within : q < length counts = rw are.many (known t refl) in
+        let within2 : q < length (counts_without (timer_of rows i) counts) = rw (length_without counts (timer_of rows i)) within in
+        let fewer = without_at counts (timer_of rows i) q within in
+        let exact = are.exact q (known t refl) in
+        let change = written q rows i (Some t) here in
+        let most = count_by-le-length (is_timer_on q) (set rows i (Some t)) in
+        let size = length-set rows i (Some t) in
+        let one = counted (Some t) t refl in
+        let none = written q rows i None here in
+        let few = are.few in
+        (within2, omega (arith, fewer, exact, change, most, size, one, none, few))
 
 pub none_counted : (items : ℕ) → items < 65536 → AreCounted (replicate items None) (replicate QUEUES 0)
 none_counted items few = record {
@@ -111,14 +107,7 @@ any_counted p (x ∷ rows) =
     ap (nat_lt 0) cons ∙ by (p x) (any_counted p rows) ∙ sym any
   where
     by : (b : Bool) → nat_lt 0 (count_by p rows) ≡ list_any p rows → nat_lt 0 (cond b 1 0 + count_by p rows) ≡ cond b true (list_any p rows)
-    by true h = some (count_by p rows)
-      where
-        some : (n : ℕ) → nat_lt 0 (1 + n) ≡ true
-        some n = grind (arith, nat_tests)
-    by false h = ap (nat_lt 0) (zero_add (count_by p rows)) ∙ h
-      where
-        zero_add : (n : ℕ) → 0 + n ≡ n
-        zero_add n = omega arith
+    by b h = grind arith
 
 pub booked_on : (rows : TimerRows) (counts : List ℕ) (q : ℕ) → AreCounted rows counts → q < QUEUES → nat_lt 0 (slice_index counts q) ≡ any_timer_on rows q
 booked_on rows counts q are less = ap (nat_lt 0) (are.exact q less) ∙ any_counted (is_timer_on q) rows

@@ -1,11 +1,11 @@
 -- Levels above nodes of which one is written.
-use Rattle.std.proofs.Common.{sym, ◌≡◌, ◌≢◌, ℕ, ◌+◌, ◌*◌, ◌/◌, ◌<◌, ◌≤◌, List, [], ◌∷◌, length, Option, None, ap, arith, ⊎_elim, set, replicate}
+use Rattle.std.proofs.Common.{◌≡◌, ◌≢◌, ℕ, ◌+◌, ◌*◌, ◌/◌, ◌<◌, ◌≤◌, List, [], ◌∷◌, length, Option, None, ap, arith, ⊎_elim, set, replicate}
 use Rattle.std.specs.Prelude.{option_map}
 use Rattle.std.proofs.lemmas.Bool.{cases_eq, cases_lt}
 use Rattle.std.proofs.lemmas.List.{set-get_or, get_or-set_same, get_or-set_other, get_or-replicate, get_or_past, length-set, length-replicate}
 use Rattle.cmwq_timer.specs.declared.timer.Timer.{Timer}
 use Rattle.cmwq_timer.specs.declared.candidate.Candidate.{Candidate}
-use Rattle.cmwq_timer.specs.Rows.{TimerRows, timer_of}
+use Rattle.cmwq_timer.specs.Rows.{TimerRows}
 use Rattle.cmwq_timer.specs.Tournament.{Nodes, node_at, candidate_at, IsSoonest, IsWritten, IsLevel, AreLevels}
 use Rattle.cmwq_timer.proofs.Soonest.{soonest_same}
 

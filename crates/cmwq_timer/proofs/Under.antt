@@ -1,5 +1,5 @@
 -- What the nodes of each level keep is the first of all items below them.
-use Rattle.std.proofs.Common.{◌≡◌, ◌⊎◌, inl, inr, ℕ, zero, suc, ◌+◌, ◌*◌, ◌/◌, ◌<◌, ◌≤◌, Bool, true, false, List, [], ◌∷◌, length, Option, Some, None, refl, sym, ap, subst, ◌∙◌, arith, ⊎_elim, cond}
+use Rattle.std.proofs.Common.{◌≡◌, ◌⊎◌, inl, inr, ℕ, zero, suc, ◌+◌, ◌*◌, ◌/◌, ◌<◌, ◌≤◌, Bool, true, false, List, [], ◌∷◌, length, Option, Some, None, refl, ap, subst, arith, ⊎_elim, cond}
 use Rattle.std.specs.Prelude.{option_map}
 use Rattle.std.proofs.lemmas.Bool.{cases_lt}
 use Rattle.std.proofs.lemmas.Bool.Decides.{nat_tests}
@@ -9,7 +9,7 @@ use Rattle.cmwq_timer.specs.declared.candidate.Candidate.{Candidate}
 use Rattle.cmwq_timer.specs.Due.{is_sooner, timer_may_fire}
 use Rattle.cmwq_timer.specs.Rows.{TimerRows, timer_of, NoneMayFire, IsFirstToFire}
 use Rattle.cmwq_timer.specs.Tournament.{Nodes, node_at, candidate_at, node_above, any_timer, sooner, IsSoonest, IsLevel, AreLevels, IsFirst, IsFirstUnder}
-use Rattle.cmwq_timer.proofs.Soonest.{not_both, one_value, sooner_chain, sooner_on}
+use Rattle.cmwq_timer.proofs.Soonest.{not_both, sooner_chain, sooner_on}
 
 -- ---- the first of the items at one place or another
 
@@ -110,13 +110,6 @@ above_le zero i = omega arith
 above_le (suc l) i = let h = above_le l i in omega (arith, h)
 
 module _ (rows : TimerRows) (level node now : ℕ) (holds : List ℕ) where
-  -- none that may fire, where there is none
-  pub no_timer_below : IsFirstUnder any_timer rows level node None → IsFirstUnder (timer_may_fire now holds) rows level node None
-  no_timer_below none = λ i t at p here. none i t at refl here
-
-  pub soonest_may_fire : (c : Candidate) → IsFirstUnder any_timer rows level node (Some c) → timer_may_fire now holds c.timer ≡ true → IsFirstUnder (timer_may_fire now holds) rows level node (Some c)
-  soonest_may_fire c first may = record { booked = first.booked; passing = may; has = first.has; none_sooner = λ i t at p here. first.none_sooner i t at refl here }
-
   later : (t c : Timer) → is_sooner t c ≡ false → now < c.due → timer_may_fire now holds t ≡ true → ⊥
   later t c = grind (arith, nat_tests)
 

@@ -1,6 +1,4 @@
 use Rattle.std.proofs.Common.{arith}
-use Rattle.cmwq_model.specs.Prelude.{cpu_workers}
-use Rattle.cmwq_chart.specs.Lanes.{has_entries}
 use Rattle.cmwq_chart.proofs.Used.{all_used}
 use Rattle.cmwq_chart.proofs.lanes.lanes_of.Goals as goal
 

@@ -1,5 +1,4 @@
 use Rattle.std.proofs.Common.{arith}
-use Rattle.cmwq_chart.specs.Levels.{has_queueings, place_on}
 use Rattle.cmwq_chart.proofs.Used.{used_more}
 use Rattle.cmwq_chart.proofs.places.push_queue.Goals as goal
 

@@ -1,8 +1,4 @@
-use Rattle.std.proofs.Common.{◌++◌, take, length, length-take, sym, ap, ◌∙◌, append_assoc, append-nil, option_to_list, Option, arith}
-use Rattle.cmwq_model.specs.Prelude.{past_of}
-use Rattle.cmwq_chart.specs.declared.waits.CallerWait.{CallerWait}
-use Rattle.cmwq_chart.specs.declared.waits.WaitSign.{WaitSign}
-use Rattle.cmwq_chart.specs.CallerWaits.{waits_ended, wait_signs_by}
+use Rattle.std.proofs.Common.{◌++◌, length, length-take, sym, ap, ◌∙◌, append_assoc, append-nil, arith}
 use Rattle.cmwq_chart.proofs.Steps.{rows_none, waits_none, waits_step, wait_signs_none, wait_signs_step}
 use Rattle.cmwq_chart.proofs.waits.push_waits.Goals as goal
 

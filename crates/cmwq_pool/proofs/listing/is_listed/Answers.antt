@@ -1,6 +1,5 @@
-use Rattle.std.proofs.Common.{◌∙◌, ap, sym, arith}
-use Rattle.std.proofs.lemmas.Bool.{eq-eqb, false_from_ne_true, ne_eqb}
-use Rattle.cmwq_list.specs.Lists.{list_at, list_of, has_item}
+use Rattle.std.proofs.Common.{arith}
+use Rattle.std.proofs.lemmas.Bool.{false_from_ne_true}
 use Rattle.cmwq_pool.proofs.Tasks.{empty_lacks, no_owner, no_task, other_number, owned_task}
 use Rattle.cmwq_pool.proofs.listing.is_listed.Goals as goal
 use Rattle.cmwq_pool.proofs.listing.is_listed.Goals.{then-len-eq0-via-then-len-eq0, then-len-eq0-via-else-len-eq0+then-index-len, then-len-eq0-via-else-len-eq0+else-index-len+then-get-number}

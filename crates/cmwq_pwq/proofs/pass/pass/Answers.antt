@@ -1,5 +1,4 @@
-use Rattle.cmwq_pwq.specs.Common.{rules, ◌≡◌, ◌<◌, ◌≤◌, ◌+◌, ◌++◌, ◌∷◌, [], Some, None, length, get_or, length-append, sym, ap, ◌∙◌, arith, append-nil, All-get_or}
-use Rattle.std.proofs.Common.{⊎_elim}
+use Rattle.cmwq_pwq.specs.Common.{rules, ◌≡◌, ◌<◌, ◌≤◌, ◌+◌, ◌++◌, ◌∷◌, [], Some, length, get_or, length-append, sym, ap, ◌∙◌, arith, append-nil, All-get_or}
 use Rattle.std.specs.Prelude.{slice_get}
 use Rattle.std.proofs.lemmas.List.{drop_all}
 use Rattle.std.proofs.lemmas.Option.{get_or_from_slice_get, slice_get_cases, slice_get_within}

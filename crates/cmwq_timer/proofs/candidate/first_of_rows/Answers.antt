@@ -1,4 +1,4 @@
-use Rattle.std.proofs.Common.{◌*◌, ◌+◌, arith}
+use Rattle.std.proofs.Common.{◌*◌, arith}
 use Rattle.std.specs.Prelude.{option_and_then}
 use Rattle.cmwq_timer.specs.Tournament.{candidate_at}
 use Rattle.cmwq_timer.proofs.Soonest.{row_past, soonest_more, soonest_past}

@@ -1,4 +1,4 @@
-use Rattle.std.proofs.Common.{◌<◌, length, arith}
+use Rattle.std.proofs.Common.{arith}
 use Rattle.cmwq_pool.proofs.Noting.{note_within, notes_set}
 use Rattle.cmwq_pool.proofs.notes.Notes.set.Goals as goal
 

@@ -1,6 +1,5 @@
-use Rattle.std.proofs.Common.{◌∙◌, ap, sym, arith}
+use Rattle.std.proofs.Common.{arith}
 use Rattle.std.proofs.lemmas.List.FromFn.{length-map-range_with_len}
-use Rattle.cmwq_pool.specs.Workers.{counts_of}
 use Rattle.cmwq_pool.proofs.pool_workers.PoolWorkers.new.Goals as goal
 
 pub invariant_of-result : goal.invariant_of-result

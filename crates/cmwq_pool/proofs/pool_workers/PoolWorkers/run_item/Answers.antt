@@ -1,7 +1,4 @@
-use Rattle.std.proofs.Common.{◌∙◌, ap, sym, arith}
-use Rattle.std.proofs.lemmas.Bool.{le-ltb}
-use Rattle.cmwq_pool.specs.declared.counts.WorkerCounts.{WorkerCounts}
-use Rattle.cmwq_pool.specs.Slots.{slots_run_item}
+use Rattle.std.proofs.Common.{arith}
 use Rattle.cmwq_pool.proofs.Workers.{none_runs}
 use Rattle.cmwq_pool.proofs.pool_workers.PoolWorkers.run_item.Goals as goal
 

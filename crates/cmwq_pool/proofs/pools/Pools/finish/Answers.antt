@@ -1,8 +1,5 @@
-use Rattle.std.proofs.Common.{◌≡◌, ◌<◌, ◌∙◌, ap, subst, arith, length, true}
-use Rattle.std.proofs.lemmas.Bool.{and_parts}
-use Rattle.cmwq_pool.specs.Slots.{slot_at, slot_free, slot_runs_awake, run_number, with_slot}
-use Rattle.cmwq_pool.specs.declared.task.Task.{Task}
-use Rattle.cmwq_pool.specs.Common.{option_map}
+use Rattle.std.proofs.Common.{◌<◌, arith, length}
+use Rattle.cmwq_pool.specs.Slots.{slot_free, with_slot}
 use Rattle.cmwq_pool.proofs.Seeing.{there, slots_at, slots_changed, placed}
 use Rattle.cmwq_pool.proofs.pools.Pools.finish.Goals as goal
 

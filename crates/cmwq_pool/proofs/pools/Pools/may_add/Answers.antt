@@ -1,7 +1,4 @@
-use Rattle.std.proofs.Common.{◌≡◌, ◌<◌, ◌∙◌, ap, sym, arith, length, Bool, true, false, not}
-use Rattle.std.proofs.lemmas.Bool.{le-ltb}
-use Rattle.cmwq_list.specs.Lists.{list_of}
-use Rattle.cmwq_pool.specs.Common.{nat_lt}
+use Rattle.std.proofs.Common.{◌≡◌, arith, Bool, not}
 use Rattle.cmwq_pool.proofs.Seeing.{there, may_list_is, may_not_list}
 use Rattle.cmwq_pool.proofs.pools.Pools.may_add.Goals as goal
 

@@ -1,5 +1,4 @@
-use Rattle.std.proofs.Common.{◌<◌, ◌∙◌, ap, sym, subst, arith, length}
-use Rattle.cmwq_pool.specs.Slots.{slot_may_retire}
+use Rattle.std.proofs.Common.{arith}
 use Rattle.cmwq_pool.proofs.Seeing.{there, slots_at}
 use Rattle.cmwq_pool.proofs.pools.Pools.may_retire.Goals as goal
 

@@ -1,8 +1,4 @@
-use Rattle.std.proofs.Common.{◌≡◌, ◌<◌, ◌∙◌, sym, arith, length, map, true, false}
-use Rattle.cmwq_list.specs.Lists.{list_at}
-use Rattle.cmwq_pool.specs.Common.{list_any}
-use Rattle.cmwq_pool.specs.PoolState.{is_task}
-use Rattle.cmwq_pool.specs.Upkeep.{noted_task}
+use Rattle.std.proofs.Common.{arith}
 use Rattle.cmwq_pool.proofs.Tasks.{task_parts}
 use Rattle.cmwq_pool.proofs.Seeing.{there, item_removed, none_removed}
 use Rattle.cmwq_pool.proofs.pools.Pools.remove.Goals as goal

@@ -1,5 +1,4 @@
-use Rattle.std.proofs.Common.{◌<◌, ◌∙◌, ap, sym, arith, length}
-use Rattle.cmwq_pool.specs.Slots.{slots_runnable}
+use Rattle.std.proofs.Common.{arith}
 use Rattle.cmwq_pool.proofs.Seeing.{there, slots_at}
 use Rattle.cmwq_pool.proofs.pools.Pools.runnable.Goals as goal
 

@@ -1,8 +1,7 @@
-use Rattle.std.proofs.Common.{◌≡◌, ◌<◌, ◌∙◌, ap, sym, refl, subst, arith, length, not, true, Some, is_some}
+use Rattle.std.proofs.Common.{◌≡◌, ◌<◌, ◌∙◌, ap, sym, refl, subst, arith, length, not, true, Some}
 use Rattle.cmwq_list.specs.Lists.{list_at}
 use Rattle.cmwq_pool.specs.Common.{option_map}
-use Rattle.cmwq_pool.specs.declared.task.Task.{Task}
-use Rattle.cmwq_pool.specs.Slots.{slot_at, slot_is_idle, slots_run_item, slots_started, slots_enlisted_by}
+use Rattle.cmwq_pool.specs.Slots.{slot_at, slot_is_idle, slots_run_item, slots_started}
 use Rattle.cmwq_pool.specs.Pools.{pool_numbered}
 use Rattle.cmwq_pool.specs.PoolState.{next_task}
 use Rattle.cmwq_pool.specs.Upkeep.{noted_task, pools_seen}

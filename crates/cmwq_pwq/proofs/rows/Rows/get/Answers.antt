@@ -1,8 +1,6 @@
-use Rattle.std.proofs.Common.{◌<◌, ◌∙◌, ap, sym, arith, length, Some}
+use Rattle.std.proofs.Common.{arith}
 use Rattle.std.proofs.lemmas.Option.{slice_get-get_or, slice_get_past}
-use Rattle.cmwq_pwq.specs.Waiting.{no_queueing}
 use Rattle.cmwq_pwq.proofs.RowSteps.{length-rows_from}
-use Rattle.cmwq_pwq.specs.Rows.{rows_from}
 use Rattle.cmwq_pwq.proofs.rows.Rows.get.Goals as goal
 
 pub at-requires : goal.at-requires

@@ -1,4 +1,4 @@
-use Rattle.std.proofs.Common.{◌≡◌, arith, length}
+use Rattle.std.proofs.Common.{arith}
 use Rattle.cmwq_pwq.proofs.RowSteps.{length-rows_from}
 use Rattle.cmwq_pwq.proofs.rows.Rows.new.Goals as goal
 

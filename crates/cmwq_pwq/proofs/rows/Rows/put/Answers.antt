@@ -1,4 +1,4 @@
-use Rattle.std.proofs.Common.{◌<◌, arith, length}
+use Rattle.std.proofs.Common.{arith}
 use Rattle.cmwq_pwq.proofs.RowSteps.{row_within, rows_put}
 use Rattle.cmwq_pwq.proofs.rows.Rows.put.Goals as goal
 
