@@ -6,7 +6,8 @@ use Rattle.cmwq_refinement.specs.ByNumber.{number_of_queueing, number_of_ticket}
 use Rattle.cmwq_refinement.specs.FlushBooks.{is_on_queue, open_numbers, IsServedFrom, AreFlushes}
 use Rattle.cmwq_lemmas.proofs.Members.{In, of_in, filter_in, in_append, found, contained_in, in_contained}
 use Rattle.cmwq_lemmas.proofs.Rising.{RisesBy, rises_filter}
-use Rattle.cmwq_refinement.proofs.Numbers.{itself, numbers_rise, numbers_have, find_number, find_agree}
+use Rattle.cmwq_refinement.proofs.Numbers.{itself, numbers_rise, numbers_have, find_number}
+use Rattle.cmwq_lemmas.proofs.Filters.{find_same}
 use Rattle.cmwq_refinement.proofs.QueueingSteps.{open_numbers_rise}
 use Rattle.cmwq_refinement.proofs.FlushSteps.{few_are_older, many_are_older}
 
@@ -18,7 +19,7 @@ waits_of_served : (past : List Entry) (q : QueueId) (b : FlushBook) (t : ℕ) (f
     → waits_for past t (call.Flush q) ≡ find (λ n. nat_lt n f.bound) b.opened
 waits_of_served past q b t f opened ticket h =
     waits_by_number past q b t opened ∙ ap (λ o. find (is_within o) b.opened) (ap (serving_from past q.0) (sym ticket) ∙ h.is_served)
-    ∙ sym (find_agree (λ n. nat_lt n f.bound) (λ n. nat_le n h.position) b.opened h.same)
+    ∙ sym (find_same (λ n. nat_lt n f.bound) (λ n. nat_le n h.position) b.opened h.same)
 
 waits_in_overflow : (past : List Entry) (q : QueueId) (b : FlushBook) (t : ℕ) → b.opened ≡ open_numbers past q.0 → serving_from past q.0 t ≡ None → waits_for past t (call.Flush q) ≡ find (λ n. true) b.opened
 waits_in_overflow past q b t opened unserved = waits_by_number past q b t opened ∙ ap (λ o. find (is_within o) b.opened) unserved

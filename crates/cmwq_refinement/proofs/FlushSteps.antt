@@ -5,7 +5,8 @@ use Rattle.cmwq_refinement.specs.ByNumber.{number_of_queueing, number_of_ticket,
 use Rattle.cmwq_refinement.specs.FlushBooks.{is_on_queue, open_numbers, flush_numbers, IsServedFrom, AreFlushes, flushes_after_end, flushes_after_opening, flushes_after_done, flushes_after_begun, flushes_after_queueings, flushes_after_tickets}
 use Rattle.cmwq_lemmas.proofs.Members.{In, of_in, all_in, in_left}
 use Rattle.cmwq_lemmas.proofs.Rising.{RisesBy, rises_filter}
-use Rattle.cmwq_refinement.proofs.Numbers.{itself, numbers_rise, numbers_all, numbers_have, numbers_without, numbers_lack, filter_goes_on, count_numbers, is_less, fewer_before, all_before}
+use Rattle.cmwq_lemmas.proofs.Lists.{filter_all}
+use Rattle.cmwq_refinement.proofs.Numbers.{itself, numbers_rise, numbers_all, numbers_have, numbers_without, numbers_lack, count_numbers, is_less, fewer_before, all_before}
 use Rattle.cmwq_refinement.proofs.TicketSteps.{unended_rise, unended_below, TicketStep, ticket_step, ends_one, ends_none, ends_only, ticket_in_is}
 use Rattle.cmwq_refinement.proofs.QueueingSteps.{QueueingStep, queueing_step, open_numbers_rise}
 use Rattle.cmwq_refinement.proofs.QueueingSteps as queueing
@@ -80,7 +81,7 @@ pub record OpensOn (n : ℕ) (old b : FlushBook) : Type 0 where
 end_is : (past : List Entry) (e : Entry) (q : ℕ) (b : FlushBook) → QueueingStep past e → b.opened ≡ open_numbers past q
     → (flushes_after_end (ending past e) q b).opened ≡ map number_of_queueing (filter (is_on_queue q) (filter (survives past e) (still_open past)))
 end_is past e q b (queueing.ends_none is all) opened =
-    ap (λ o. (flushes_after_end o q b).opened) is ∙ opened ∙ sym (ap (λ xs. map number_of_queueing (filter (is_on_queue q) xs)) (filter_goes_on number_of_queueing (survives past e) (still_open past) all))
+    ap (λ o. (flushes_after_end o q b).opened) is ∙ opened ∙ sym (ap (λ xs. map number_of_queueing (filter (is_on_queue q) xs)) (filter_all (survives past e) (still_open past) all))
 end_is past e q b (queueing.ends_one x is here all) opened = ap (λ o. (flushes_after_end o q b).opened) is ∙ on (is_on_queue q x) refl ∙ sym left
   where
     left : map number_of_queueing (filter (is_on_queue q) (filter (survives past e) (still_open past))) ≡ without x.number (open_numbers past q)
@@ -208,7 +209,7 @@ same_stands past q fs gs b same is = subst (λ xs. Stands past q xs b) same is
 
 pub stands_done : (past : List Entry) (e : Entry) (q : ℕ) (b : FlushBook) → TicketStep past e → StandsAs past q (unended_tickets past) b → StandsAs past q (filter (is_kept e) (unended_tickets past)) (flushes_after_done (ticket_ended past e) q b)
 stands_done past e q b (ends_none is all) stands =
-    subst (λ o. StandsAs past q (filter (is_kept e) (unended_tickets past)) (flushes_after_done o q b)) (sym is) (subst (λ ts. StandsAs past q ts b) (sym (filter_goes_on number_of_ticket (is_kept e) (unended_tickets past) all)) stands)
+    subst (λ o. StandsAs past q (filter (is_kept e) (unended_tickets past)) (flushes_after_done o q b)) (sym is) (subst (λ ts. StandsAs past q ts b) (sym (filter_all (is_kept e) (unended_tickets past) all)) stands)
 stands_done past e q b (ends_one u is here it) stands = subst (λ o. StandsAs past q (filter (is_kept e) (unended_tickets past)) (flushes_after_done o q b)) (sym is) (kind (is_flush_of q u) refl)
   where
     left : flush_numbers q (filter (is_kept e) (unended_tickets past)) ≡ without u.number (flush_numbers q (unended_tickets past))

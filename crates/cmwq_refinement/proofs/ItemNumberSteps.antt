@@ -2,7 +2,8 @@
 use Rattle.cmwq_refinement.specs.Common.{◌≡◌, ◌≢◌, ◌==◌, ◌<◌, ℕ, false, cond, List, [], ◌∷◌, ◌++◌, length, map, filter, set, get_or, replicate, Option, Some, None, option_to_list, refl, sym, ap, ◌∙◌, arith, append-nil, range_with_len, eq-eqb, ne_eqb, map-append, length-range_with_len, length-map-range_with_len, get_or-map-range_with_len, filter-append, Entry, Queueing, Layout, queueings, still_open, opening, is_of, IsLegal, survives, ending, open_go_on, without, numbers_open}
 use Rattle.cmwq_refinement.specs.ByNumber.{number_of_queueing}
 use Rattle.cmwq_refinement.specs.ItemNumbers.{item_numbers, numbers_of, numbers_after_end, numbers_after_opening, numbers_after}
-use Rattle.cmwq_refinement.proofs.Numbers.{numbers_without, numbers_lack, filter_goes_on}
+use Rattle.cmwq_lemmas.proofs.Lists.{filter_all}
+use Rattle.cmwq_refinement.proofs.Numbers.{numbers_without, numbers_lack}
 use Rattle.cmwq_refinement.proofs.TimerSteps.{set_row, same_rows}
 use Rattle.cmwq_refinement.proofs.PlacesFit.{open_there, opened_are_there}
 use Rattle.cmwq_refinement.proofs.QueueingSteps.{QueueingStep, queueing_step, open_numbers_rise}
@@ -23,7 +24,7 @@ not_its i j differs = ne_eqb i j (λ same. differs (sym same))
 rows_ended : (s : Layout) (past : List Entry) (e : Entry) → IsLegal s past → QueueingStep past e → map (left_numbers past e) (range_with_len 0 s.items) ≡ numbers_after_end (ending past e) (numbers_of s past)
 unfolding left_numbers
 rows_ended s past e legal (queueing.ends_none is all) =
-    same_rows (item_numbers past) (left_numbers past e) (range_with_len 0 s.items) (λ j. ap (λ xs. map number_of_queueing (filter (is_of j) xs)) (filter_goes_on number_of_queueing (survives past e) (still_open past) all))
+    same_rows (item_numbers past) (left_numbers past e) (range_with_len 0 s.items) (λ j. ap (λ xs. map number_of_queueing (filter (is_of j) xs)) (filter_all (survives past e) (still_open past) all))
     ∙ sym (ap (λ o. numbers_after_end o (numbers_of s past)) is)
 rows_ended s past e legal (queueing.ends_one x is here all) =
     set_row (item_numbers past) (left_numbers past e) s.items x.item.0 (without x.number (numbers_open (numbers_of s past) x.item.0))

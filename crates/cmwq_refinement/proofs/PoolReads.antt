@@ -3,7 +3,7 @@ use Rattle.cmwq_refinement.specs.Common.{◌≡◌, ◌==◌, ◌<◌, ◌+◌, 
 use Rattle.cmwq_theory_active.proofs.Joined.{active_live}
 use Rattle.cmwq_pool.specs.Slots.{slot_is_holding as slot_holds, slot_is_idle, slot_is_occupied, slot_is_reserve, slot_is_other_idle as is_other_slot, slots_runnable, slots_enlisted_by, slot_may_retire, slot_indices}
 use Rattle.cmwq_refinement.specs.Pools.{task_for, run_task, slot_of, pool_of, IsSlotOf}
-use Rattle.cmwq_refinement.proofs.Numbers.{find_agree}
+use Rattle.cmwq_lemmas.proofs.Filters.{find_same}
 use Rattle.cmwq_lemmas.proofs.Members.{In, filter_in, contained_in}
 use Rattle.cmwq_lemmas.proofs.Lists.{range_below}
 
@@ -93,7 +93,7 @@ starts_enlist_alike s past w legal =
     ap (λ xs. if list_any (is_other_slot slots w.index) xs then None else find (is_reserve_at slots) xs) places
     ∙ ap₂ (λ b o. if b then None else o)
     (any_agree (is_other_slot slots w.index) (is_other_idle past w) (indices s) (All_map (λ x. x < s.workers) _ (indices s) (λ x less. ap (λ b. not (x == w.index) && b) (ap slot_is_idle (slot_is s past w.pool x less) ∙ idle_slot s past w.pool x legal)) (indices_below s)))
-    (find_agree (is_reserve_at slots) (is_reserve past w.pool) (indices s) (All_map (λ x. x < s.workers) _ (indices s) (λ x less. ap slot_is_reserve (slot_is s past w.pool x less)) (indices_below s)))
+    (find_same (is_reserve_at slots) (is_reserve past w.pool) (indices s) (All_map (λ x. x < s.workers) _ (indices s) (λ x less. ap slot_is_reserve (slot_is s past w.pool x less)) (indices_below s)))
   where
     slots : List Slot
     slots = (pool_of s past w.pool).slots

@@ -4,7 +4,7 @@ use Rattle.cmwq_model.specs.declared.reply.Reply.TheVariants as reply
 use Rattle.cmwq_refinement.specs.ByNumber.{number_of_queueing}
 use Rattle.cmwq_refinement.specs.Pools.{task_for, slot_of, pool_of, start_next, pool_after_reply, pool_after_worker, pool_after_cancel, pool_after_activation, pool_before_activation, made_active, pool_after}
 use Rattle.cmwq_lemmas.proofs.Members.{In, in_filter, of_in}
-use Rattle.cmwq_refinement.proofs.Numbers.{filter_goes_on}
+use Rattle.cmwq_lemmas.proofs.Lists.{filter_all}
 use Rattle.cmwq_lemmas.proofs.Rising.{rises_unique}
 use Rattle.cmwq_refinement.proofs.QueueingSteps.{QueueingStep, queueing_step, ends_one, ends_none, open_numbers_rise}
 use Rattle.cmwq_refinement.proofs.TimerSteps.{same_rows}
@@ -32,7 +32,7 @@ filter_mapped p q f (x ∷ xs) h = ap₂ (λ b ys. cond b (f x ∷ ys) ys) h.0 (
     here false = refl
 
 all_stay : (s : Layout) (past : List Entry) (e : Entry) (p : PoolId) → ((y : Queueing) → IsOnList s past p y → is_left past e y ≡ true) → map (task_for s) (filter (is_left past e) (worklist s past p)) ≡ map (task_for s) (worklist s past p)
-all_stay s past e p h = ap (map (task_for s)) (filter_goes_on number_of_queueing (is_left past e) (worklist s past p) (All_map (IsOnList s past p) (λ y. is_left past e y ≡ true) (worklist s past p) h (worklist_has s past p)))
+all_stay s past e p h = ap (map (task_for s)) (filter_all (is_left past e) (worklist s past p) (All_map (IsOnList s past p) (λ y. is_left past e y ≡ true) (worklist s past p) h (worklist_has s past p)))
 
 -- a number tells its item
 number_tells : (past : List Entry) (x y : Queueing) → queueing_at past x.number ≡ Some x → In y (queueings past) → (y.number == x.number) ≡ ((y.number == x.number) && (y.item.0 == x.item.0))
