@@ -20,14 +20,9 @@ ready_numbers t ns = (
   (λ none. All-from_recursion (λ n. t < n) ns (All_map (λ n. is_up_to t n ≡ false) (λ n. t < n) ns (λ n h. leb-false n t h) (find_none (is_up_to t) ns none))),
 )
 
-told : (P : Type 0) (a b : Option ℕ) → a ≡ b → P ↔ (a ≡ None) → P ↔ (b ≡ None)
-told P a b same h = ((λ p. sym same ∙ h.0 p), (λ none. h.1 (same ∙ none)))
-
 pub ready_items_wait_for_nothing : (s : Layout) (past : List Entry) (i : ItemId) (t : ℕ) → i.0 < s.items
     → (IsItemReady (numbers_of s past) i.0 t ↔ (waits_for past t (call.FlushItem i) ≡ None)) × (IsItemReady (numbers_of s past) i.0 t ↔ (waits_for past t (call.FlushDelayed i) ≡ None))
 ready_items_wait_for_nothing s past i t there =
     let ready = ready_numbers t (numbers_open (numbers_of s past) i.0) in
-    let least = items_wait_for_least s past i t there in (
-      told (IsItemReady (numbers_of s past) i.0 t) (item_waits_for (numbers_of s past) i.0 t) (waits_for past t (call.FlushItem i)) least.0 ready,
-      told (IsItemReady (numbers_of s past) i.0 t) (item_waits_for (numbers_of s past) i.0 t) (waits_for past t (call.FlushDelayed i)) least.1 ready,
-    )
+    let least = items_wait_for_least s past i t there in
+    (rw (← least.0) ready, rw (← least.1) ready)

@@ -3,7 +3,7 @@ use Rattle.cmwq_refinement.specs.Common.{◌≡◌, ◌≢◌, ◌==◌, ◌<◌
 use Rattle.cmwq_refinement.specs.ByNumber.{number_of_queueing}
 use Rattle.cmwq_refinement.specs.ItemNumbers.{item_numbers, numbers_of, numbers_after_end, numbers_after_opening, numbers_after}
 use Rattle.cmwq_lemmas.proofs.Lists.{filter_all}
-use Rattle.cmwq_refinement.proofs.Numbers.{numbers_without, numbers_lack}
+use Rattle.cmwq_refinement.proofs.Numbers.{rows_alike, numbers_without, numbers_lack}
 use Rattle.cmwq_refinement.proofs.TimerSteps.{set_row, same_rows}
 use Rattle.cmwq_refinement.proofs.PlacesFit.{open_there, opened_are_there}
 use Rattle.cmwq_refinement.proofs.QueueingSteps.{QueueingStep, queueing_step, open_numbers_rise}
@@ -23,17 +23,11 @@ not_its i j differs = ne_eqb i j (λ same. differs (sym same))
 
 rows_ended : (s : Layout) (past : List Entry) (e : Entry) → IsLegal s past → QueueingStep past e → map (left_numbers past e) (range_with_len 0 s.items) ≡ numbers_after_end (ending past e) (numbers_of s past)
 unfolding left_numbers
-rows_ended s past e legal (queueing.ends_none is all) =
-    same_rows (item_numbers past) (left_numbers past e) (range_with_len 0 s.items) (λ j. ap (λ xs. map number_of_queueing (filter (is_of j) xs)) (filter_all (survives past e) (still_open past) all))
-    ∙ sym (ap (λ o. numbers_after_end o (numbers_of s past)) is)
+rows_ended s past e legal (queueing.ends_none is all) = rw (is, left_numbers, filter_all (survives past e) (still_open past) all) refl
 rows_ended s past e legal (queueing.ends_one x is here all) =
-    set_row (item_numbers past) (left_numbers past e) s.items x.item.0 (without x.number (numbers_open (numbers_of s past) x.item.0))
-    (numbers_without number_of_queueing (is_of x.item.0) (survives past e) x.number (still_open past) all ∙ ap (without x.number) (sym row))
-    (λ j differs. numbers_without number_of_queueing (is_of j) (survives past e) x.number (still_open past) all ∙ numbers_lack number_of_queueing (is_of j) x (still_open past) (open_numbers_rise past) here (not_its x.item.0 j differs))
-    ∙ sym (ap (λ o. numbers_after_end o (numbers_of s past)) is)
-  where
-    row : numbers_open (numbers_of s past) x.item.0 ≡ item_numbers past x.item.0
-    row = item_row s past x.item.0 (open_there s past x legal here).item
+    rw is (set_row (item_numbers past) (left_numbers past e) s.items x.item.0 (without x.number (numbers_open (numbers_of s past) x.item.0))
+    (numbers_without number_of_queueing (is_of x.item.0) (survives past e) x.number (still_open past) all ∙ ap (without x.number) (sym (item_row s past x.item.0 (open_there s past x legal here).item)))
+    (λ j differs. numbers_without number_of_queueing (is_of j) (survives past e) x.number (still_open past) all ∙ numbers_lack number_of_queueing (is_of j) x (still_open past) (open_numbers_rise past) here (not_its x.item.0 j differs)))
 
 after_numbers : List Entry → Entry → Option Queueing → ℕ → List ℕ
 after_numbers past e o i = left_numbers past e i ++ map number_of_queueing (filter (is_of i) (option_to_list o))
@@ -53,9 +47,7 @@ rows_opened s past e (Some x) b there is =
 
 item_numbers_after : (s : Layout) (past : List Entry) (e : Entry) (i : ℕ) → IsLegal s (e ∷ past) → item_numbers (e ∷ past) i ≡ after_numbers past e (opening past e) i
 unfolding after_numbers left_numbers
-item_numbers_after s past e i legal =
-    ap (λ xs. map number_of_queueing (filter (is_of i) xs)) (open_go_on s past e legal) ∙ ap (map number_of_queueing) (filter-append (is_of i) (filter (survives past e) (still_open past)) (option_to_list (opening past e)))
-    ∙ map-append number_of_queueing (filter (is_of i) (filter (survives past e) (still_open past))) (filter (is_of i) (option_to_list (opening past e)))
+item_numbers_after s past e i legal = rw (open_go_on s past e legal, filter-append, map-append) refl
 
 -- after what ended each item has a row still, and what is opened comes after what is left in its row
 pub ended_rows : (s : Layout) (past : List Entry) (e : Entry) → IsLegal s (e ∷ past) → length (numbers_after_end (ending past e) (numbers_of s past)) ≡ s.items
@@ -79,10 +71,6 @@ numbers_refine s past e legal =
     same_rows (after_numbers past e (opening past e)) (item_numbers (e ∷ past)) (range_with_len 0 s.items) (λ j. item_numbers_after s past e j legal)
     ∙ rows_opened s past e (opening past e) (numbers_after_end (ending past e) (numbers_of s past)) (λ x h. (opened_are_there s past e x legal h).item) (rows_ended s past e legal.2 (queueing_step s past e legal))
 
-none_open : (xs : List ℕ) → map (item_numbers []) xs ≡ replicate (length xs) []
-unfolding queueings
-none_open [] = refl
-none_open (x ∷ xs) = ap (λ ys. [] ∷ ys) (none_open xs)
-
 pub numbers_at_first : (s : Layout) → numbers_of s [] ≡ replicate s.items []
-numbers_at_first s = none_open (range_with_len 0 s.items) ∙ ap (λ n. replicate n []) (length-range_with_len 0 s.items)
+unfolding queueings
+numbers_at_first s = rows_alike (item_numbers []) [] s.items (λ i. refl)

@@ -31,33 +31,29 @@ pub run_task_none : (s : Layout) (past : List Entry) (w : WorkerId) → run past
 run_task_none s past w is = ap (λ o. option_map (task_for s) (option_and_then (queueing_at past) o)) is
 
 number_run : (s : Layout) (past : List Entry) (w : WorkerId) → IsLegal s past → option_map (λ (t : Task). t.number) (run_task s past w) ≡ run past w
-number_run s past w legal = which (run_of s past w legal)
-  where
-    which : RunOf s past w → option_map (λ (t : Task). t.number) (run_task s past w) ≡ run past w
-    which (idle none) = ap (option_map (λ (t : Task). t.number)) (run_task_none s past w none) ∙ sym none
-    which (busy x is found pool) = ap (option_map (λ (t : Task). t.number)) (run_task_of s past w x is found) ∙ sym is
+number_run s past w legal = elim (run_of s past w legal) [
+  | idle none ↦ cc
+  | busy x is found pool ↦ cc
+]
 
 pub some_run : (s : Layout) (past : List Entry) (w : WorkerId) → IsLegal s past → is_some (run_task s past w) ≡ has_run past w
-some_run s past w legal = same (run_task s past w) ∙ ap is_some (number_run s past w legal)
-  where
-    same : (o : Option Task) → is_some o ≡ is_some (option_map (λ (t : Task). t.number) o)
-    same None = refl
-    same (Some t) = refl
+some_run s past w legal = elim (run_of s past w legal) [
+  | idle none ↦ cc
+  | busy x is found pool ↦ cc
+]
 
 -- whether it is of a CPU-intensive queue
 intensive_run : (s : Layout) (past : List Entry) (w : WorkerId) → IsLegal s past → option_map_or (λ (t : Task). t.intensive) (run_task s past w) false ≡ option_map_or (is_intensive s) (run_queue past w) false
-intensive_run s past w legal = which (run_of s past w legal)
-  where
-    which : RunOf s past w → option_map_or (λ (t : Task). t.intensive) (run_task s past w) false ≡ option_map_or (is_intensive s) (run_queue past w) false
-    which (idle none) = ap (λ o. option_map_or (λ (t : Task). t.intensive) o false) (run_task_none s past w none) ∙ sym (ap (λ o. option_map_or (is_intensive s) (option_and_then (queue_of past) o) false) none)
-    which (busy x is found pool) = ap (λ o. option_map_or (λ (t : Task). t.intensive) o false) (run_task_of s past w x is found)
-        ∙ sym (ap (λ o. option_map_or (is_intensive s) (option_and_then (queue_of past) o) false) is ∙ ap (λ o. option_map_or (is_intensive s) (option_map (λ (y : Queueing). y.place.queue.0) o) false) found)
+intensive_run s past w legal = elim (run_of s past w legal) [
+  | idle none ↦ cc
+  | busy x is found pool ↦ cc
+]
 
 -- ---- counts over slots
 
 count_map : (p : Slot → Bool) (q : ℕ → Bool) (f : ℕ → Slot) (xs : List ℕ) → ((x : ℕ) → p (f x) ≡ q x) → count_by p (map f xs) ≡ count_by q xs
 count_map p q f [] h = refl
-count_map p q f (x ∷ xs) h = count_by-cons p (f x) (map f xs) ∙ ap₂ (λ b n. cond b 1 0 + n) (h x) (count_map p q f xs h) ∙ sym (count_by-cons q x xs)
+count_map p q f (x ∷ xs) h = grind (arith, count_by-cons p (f x) (map f xs), count_by-cons q x xs, h x, count_map p q f xs h)
 
 holding_slot : (s : Layout) (past : List Entry) (p : PoolId) (x : ℕ) → IsLegal s past → slot_holds (slot_of s past p x) ≡ is_holding s past p x
 holding_slot s past p x legal = ap₂ (λ a b. a && not (is_asleep past (worker_at p x)) && not b) (some_run s past (worker_at p x) legal) (intensive_run s past (worker_at p x) legal)
@@ -119,16 +115,10 @@ pub record IsOnList (s : Layout) (past : List Entry) (p : PoolId) (x : Queueing)
   pub not_started : is_started past x.number ≡ false
   pub pool : pool_at s x.place ≡ p
 
-listed_parts : (a c d : Bool) → (a && not c && d) ≡ true → (a ≡ true) × (c ≡ false) × (d ≡ true)
-listed_parts true false true h = (refl, refl, refl)
-listed_parts true false false h = cc
-listed_parts true true d h = cc
-listed_parts false c d h = cc
-
 pub worklist_has : (s : Layout) (past : List Entry) (p : PoolId) → AllByRecursion (IsOnList s past p) (worklist s past p)
 worklist_has s past p = All_map _ (IsOnList s past p) (worklist s past p) (λ x h. on_list x (contained_in (queueings past) x h.0) h.1) (worklist_is s past p).no_others
   where
     on_list : (x : Queueing) → In x (queueings past) → is_listed s past p x ≡ true → IsOnList s past p x
     on_list x made listed =
-        let k = listed_parts (is_active s past x) (is_started past x.number) (same_pool (pool_at s x.place) p) listed in
+        let k : (is_active s past x ≡ true) × (is_started past x.number ≡ false) × (same_pool (pool_at s x.place) p ≡ true) = grind arith in
         record { made = made; stands = filter_in (is_live past) (queueings past) x made (active_live s past x k.0); not_started = k.1; pool = same_pool-true (pool_at s x.place) p k.2 }

@@ -12,39 +12,6 @@ record IsQuiet (r : Reply) : Type 0 where
   unsettled : settles r ≡ false
   unfired : item_fired r ≡ None
 
-waiting_quiet : (o : Option ℕ) → IsQuiet (waiting_for o)
-waiting_quiet o = grind arith
-
-end_quiet : (past : List Entry) (o : Option Ticket) → IsQuiet (end_of_ticket past o)
-end_quiet past o = grind arith
-
-start_quiet : (s : Layout) (past : List Entry) (w : WorkerId) (o : Option Queueing) → IsQuiet (start_of s past w o)
-start_quiet s past w o = grind arith
-
-take_quiet : (s : Layout) (past : List Entry) (w : WorkerId) → IsQuiet (take_answer s past w)
-unfolding take_answer
-take_quiet s past w = grind (arith, start_quiet s past w (next s past w.pool))
-
-finish_quiet : (past : List Entry) (w : WorkerId) → IsQuiet (finish_answer past w)
-unfolding finish_answer
-finish_quiet past w = grind arith
-
-retire_quiet : (s : Layout) (past : List Entry) (w : WorkerId) → IsQuiet (retire_answer s past w)
-unfolding retire_answer
-retire_quiet s past w = grind arith
-
-wait_quiet : (past : List Entry) (who : Who) (q : ℕ) → IsQuiet (wait_answer past who q)
-unfolding wait_answer
-wait_quiet past who q = grind arith
-
-destroy_quiet : (past : List Entry) (who : Who) (q : ℕ) → IsQuiet (destroy_answer past who q)
-unfolding destroy_answer
-destroy_quiet past who q = grind arith
-
-set_max_quiet : (past : List Entry) (q n : ℕ) → IsQuiet (set_max_answer past q n)
-unfolding set_max_answer
-set_max_quiet past q n = grind arith
-
 -- ---- the item of a call: it stands there, or is fired, or there is none
 
 data ItemCase (s : Layout) (past : List Entry) (c : Call) (r : Reply) : Type 0 where
@@ -56,23 +23,15 @@ place_item : (s : Layout) (i q c : ℕ) → has_place s i q c ≡ true → i < s
 place_item s i q c h = grind (arith, nat_tests)
 
 item_case : (s : Layout) (past : List Entry) (who : Who) (c : Call) → ItemCase s past c (answer s past who c)
-unfolding answer
+unfolding answer take_answer finish_answer retire_answer wait_answer destroy_answer set_max_answer
 item_case s past who (call.Queue i q c) = called i.0 refl (place_item s i.0 q.0 c.0)
 item_case s past who (call.Delay i q c t) = called i.0 refl (place_item s i.0 q.0 c.0)
 item_case s past who (call.Modify i q c t) = called i.0 refl (place_item s i.0 q.0 c.0)
 item_case s past who (call.Cancel i) = called i.0 refl (ltb-true _ _)
 item_case s past who call.Fire = fires refl refl
-item_case s past who (call.Flush q) = none refl (wait_quiet past who q.0)
-item_case s past who (call.Drain q) = none refl (wait_quiet past who q.0)
 item_case s past who (call.FlushItem i) = called i.0 refl (ltb-true _ _)
 item_case s past who (call.FlushDelayed i) = called i.0 refl (ltb-true _ _)
 item_case s past who (call.CancelSync i) = called i.0 refl (ltb-true _ _)
-item_case s past who (call.End t) = none refl (end_quiet past (ticket_of past who t))
-item_case s past (Worker w) call.Take = none refl (take_quiet s past w)
-item_case s past (Worker w) call.Finish = none refl (finish_quiet past w)
-item_case s past (Worker w) call.Retire = none refl (retire_quiet s past w)
-item_case s past who (call.SetMax q n) = none refl (set_max_quiet past q.0 n)
-item_case s past who (call.Destroy q) = none refl (destroy_quiet past who q.0)
 item_case s past who c = none refl (grind arith)
 
 -- ---- what settles is of an item
