@@ -31,23 +31,14 @@ pub run_task_none : (s : Layout) (past : List Entry) (w : WorkerId) → run past
 run_task_none s past w is = ap (λ o. option_map (task_for s) (option_and_then (queueing_at past) o)) is
 
 number_run : (s : Layout) (past : List Entry) (w : WorkerId) → IsLegal s past → option_map (λ (t : Task). t.number) (run_task s past w) ≡ run past w
-number_run s past w legal = elim (run_of s past w legal) [
-  | idle none ↦ cc
-  | busy x is found pool ↦ cc
-]
+number_run s past w legal = grind (arith, run_of s past w legal)
 
 pub some_run : (s : Layout) (past : List Entry) (w : WorkerId) → IsLegal s past → is_some (run_task s past w) ≡ has_run past w
-some_run s past w legal = elim (run_of s past w legal) [
-  | idle none ↦ cc
-  | busy x is found pool ↦ cc
-]
+some_run s past w legal = grind (arith, run_of s past w legal)
 
 -- whether it is of a CPU-intensive queue
 intensive_run : (s : Layout) (past : List Entry) (w : WorkerId) → IsLegal s past → option_map_or (λ (t : Task). t.intensive) (run_task s past w) false ≡ option_map_or (is_intensive s) (run_queue past w) false
-intensive_run s past w legal = elim (run_of s past w legal) [
-  | idle none ↦ cc
-  | busy x is found pool ↦ cc
-]
+intensive_run s past w legal = grind (arith, run_of s past w legal)
 
 -- ---- counts over slots
 
