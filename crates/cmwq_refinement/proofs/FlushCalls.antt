@@ -6,7 +6,7 @@ use Rattle.cmwq_lemmas.proofs.Lists.{All_push, filter_shorter}
 use Rattle.cmwq_lemmas.proofs.Members.{In, of_in, found, none_in}
 use Rattle.cmwq_lemmas.proofs.Passing.{all_kept, all_split}
 use Rattle.cmwq_lemmas.proofs.Rising.{RisesBy}
-use Rattle.cmwq_refinement.proofs.Numbers.{itself, in_some, numbers_all, numbers_have, without_none, rises_apart, later_differ}
+use Rattle.cmwq_refinement.proofs.Numbers.{itself, in_some, numbers_all, in_mapped, without_none, rises_apart, later_differ}
 
 -- a flush that is served: from a position of the history, or from the entry that is being applied
 pub data ServedSoon (past : List Entry) (q next : ℕ) (opened : List ℕ) (f : Served) : Type 0 where
@@ -123,7 +123,7 @@ ends : (past : List Entry) (q t : ℕ) (flushes : List ℕ) (b : FlushBook) (o :
 ends past q t flushes b None is rise stands = overflow_ends past q t flushes b (find_none (has_ticket t) b.served is) stands
 ends past q t flushes b (Some f) is rise stands =
     let k = found (has_ticket t) b.served f is in
-    served_ends past q t flushes b rise (subst (λ n. In n (tickets_of_served b.served)) (eqb-true f.ticket t k.1) (numbers_have ticket_of_served b.served f k.0)) stands
+    served_ends past q t flushes b rise (subst (λ n. In n (tickets_of_served b.served)) (eqb-true f.ticket t k.1) (in_mapped ticket_of_served b.served f k.0)) stands
 
 pub stands_end : (past : List Entry) (q t : ℕ) (flushes : List ℕ) (b : FlushBook) → RisesBy itself flushes → Stands past q flushes b → Stands past q (without t flushes) (flushes_without_wait b t)
 stands_end past q t flushes b rise is = ends past q t flushes b (served_of b t) refl (subst (RisesBy itself) (sym is.flushes_are) rise) is

@@ -9,7 +9,7 @@ use Rattle.cmwq_refinement.specs.ByNumber.{number_of_queueing, number_of_ticket,
 use Rattle.cmwq_refinement.specs.FlushBooks.{is_on_queue, open_numbers, AreFlushes, flushes_after_end, flushes_after_opening, flushes_after_done, flushes_after_queueings, flush_numbers, MayEndInFlushes, MayOpenInFlushes, MayBeDoneInFlushes, MayBeginInFlushes, MayApplyToFlushes, AreBegun}
 use Rattle.cmwq_lemmas.proofs.Members.{In, filter_in, in_contained}
 use Rattle.cmwq_lemmas.proofs.Passing.{all_kept}
-use Rattle.cmwq_refinement.proofs.Numbers.{numbers_have}
+use Rattle.cmwq_refinement.proofs.Numbers.{in_mapped}
 use Rattle.cmwq_refinement.proofs.TicketSteps.{unended_below, ticket_step, ticket_in_is}
 use Rattle.cmwq_refinement.proofs.TicketLimits.{unended_few}
 use Rattle.cmwq_refinement.proofs.QueueingSteps.{QueueingStep, queueing_step, ends_one, ends_none}
@@ -20,7 +20,7 @@ use Rattle.cmwq_refinement.proofs.FlushEnds.{ended_ready, done_flushes_may_end}
 
 open_stands : (past : List Entry) (q : ℕ) (b : FlushBook) (x : Queueing) → b.opened ≡ open_numbers past q → In x (still_open past) → is_on_queue q x ≡ true → Contains b.opened x.number
 open_stands past q b x opened here on =
-    in_contained b.opened x.number (subst (In x.number) (sym opened) (numbers_have number_of_queueing (filter (is_on_queue q) (still_open past)) x (filter_in (is_on_queue q) (still_open past) x here on)))
+    in_contained b.opened x.number (subst (In x.number) (sym opened) (in_mapped number_of_queueing (filter (is_on_queue q) (still_open past)) x (filter_in (is_on_queue q) (still_open past) x here on)))
 
 may_end : (past : List Entry) (e : Entry) (q : ℕ) (b : FlushBook) → QueueingStep past e → b.opened ≡ open_numbers past q → MayEndInFlushes (ending past e) q b
 may_end past e q b (ends_none is all) opened = rw is tt

@@ -6,7 +6,7 @@ use Rattle.cmwq_refinement.specs.ByNumber.{number_of_queueing, number_of_ticket}
 use Rattle.cmwq_refinement.specs.FlushBooks.{is_on_queue, open_numbers, IsServedFrom, AreFlushes}
 use Rattle.cmwq_lemmas.proofs.Members.{In, of_in, filter_in, in_append, found, contained_in, in_contained}
 use Rattle.cmwq_lemmas.proofs.Rising.{RisesBy, rises_filter}
-use Rattle.cmwq_refinement.proofs.Numbers.{itself, first_number, numbers_rise, numbers_have, find_number}
+use Rattle.cmwq_refinement.proofs.Numbers.{itself, first_number, numbers_rise, in_mapped, find_number}
 use Rattle.cmwq_lemmas.proofs.Filters.{find_same}
 use Rattle.cmwq_refinement.proofs.QueueingSteps.{open_numbers_rise}
 use Rattle.cmwq_refinement.proofs.FlushSteps.{few_are_older, many_are_older}
@@ -53,7 +53,7 @@ ready_flushes_wait_for_nothing s past q b t is here = by (served_of b t) refl
 
 pub unended_flushes_stand : (s : Layout) (past : List Entry) (q : ℕ) (b : FlushBook) (t : Ticket) → AreFlushes s past q b → Contains (unended_tickets past) t → is_flush_of q t ≡ true → Contains (flush_tickets b) t.number
 unended_flushes_stand s past q b t is here flush =
-    in_contained (flush_tickets b) t.number (subst (In t.number) (sym is.flushes) (numbers_have number_of_ticket (filter (is_flush_of q) (unended_tickets past)) t (filter_in (is_flush_of q) (unended_tickets past) t (contained_in (unended_tickets past) t here) flush)))
+    in_contained (flush_tickets b) t.number (subst (In t.number) (sym is.flushes) (in_mapped number_of_ticket (filter (is_flush_of q) (unended_tickets past)) t (filter_in (is_flush_of q) (unended_tickets past) t (contained_in (unended_tickets past) t here) flush)))
 
 -- ---- who is in overflow
 

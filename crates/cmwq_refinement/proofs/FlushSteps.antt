@@ -8,7 +8,7 @@ use Rattle.cmwq_lemmas.proofs.Members.{In, of_in, all_in, in_left}
 use Rattle.cmwq_lemmas.proofs.Passing.{all_kept}
 use Rattle.cmwq_lemmas.proofs.Rising.{RisesBy, rises_filter}
 use Rattle.cmwq_lemmas.proofs.Lists.{All_push, filter_all}
-use Rattle.cmwq_refinement.proofs.Numbers.{itself, in_some, numbers_rise, numbers_all, numbers_have, numbers_without, numbers_lack, count_numbers, is_less, fewer_before, all_before}
+use Rattle.cmwq_refinement.proofs.Numbers.{itself, in_some, numbers_rise, numbers_all, in_mapped, numbers_without, numbers_lack, count_numbers, is_less, fewer_before, all_before}
 use Rattle.cmwq_refinement.proofs.TicketSteps.{unended_rise, unended_below, TicketStep, ticket_step, ends_one, ends_none, ends_only, ticket_in_is}
 use Rattle.cmwq_refinement.proofs.QueueingSteps.{QueueingStep, queueing_step, open_numbers_rise}
 use Rattle.cmwq_refinement.proofs.QueueingSteps as queueing
@@ -200,7 +200,7 @@ served_now : (e : Entry) (past : List Entry) (q : ℕ) (b : FlushBook) (f : Serv
     → ServedSoon past q b.next b.opened f → IsServedFrom (e ∷ past) q b.opened f
 served_now e past q b f is older next here (already h) = record { position = h.position; is_served = served_stay past e q f.ticket h.position h.is_served; same = h.same }
 served_now e past q b f is older next here (just_now unserved bound) =
-    let ticket = numbers_have ticket_of_served b.served f here in
+    let ticket = in_mapped ticket_of_served b.served f here in
     let below = of_in (λ n. n < length (e ∷ past)) (flush_numbers q (unended_tickets (e ∷ past))) f.ticket (flush_numbers_below (length (e ∷ past)) q (unended_tickets (e ∷ past)) (unended_below (e ∷ past))) (rw is.flushes_are at (in_left (tickets_of_served b.served) b.overflow f.ticket ticket)) in
     record {
       position = length past;

@@ -3,7 +3,7 @@ use Rattle.cmwq_refinement.specs.Common.{◌≡◌, ◌<◌, ◌≤◌, ◌+◌,
 use Rattle.cmwq_refinement.specs.ByNumber.{number_of_queueing}
 use Rattle.cmwq_refinement.specs.ItemNumbers.{item_numbers, numbers_of, numbers_after_end, MayEndInNumbers, MayOpenInNumbers, MayApplyToNumbers}
 use Rattle.cmwq_lemmas.proofs.Members.{In, filter_in, in_contained}
-use Rattle.cmwq_refinement.proofs.Numbers.{numbers_have}
+use Rattle.cmwq_refinement.proofs.Numbers.{in_mapped}
 use Rattle.cmwq_refinement.proofs.QueueingSteps.{QueueingStep, queueing_step, ends_one, ends_none}
 use Rattle.cmwq_refinement.proofs.PlacesFit.{open_there, opened_are_there}
 use Rattle.cmwq_refinement.proofs.ItemNumberSteps.{item_row, ended_rows, opened_row}
@@ -11,7 +11,7 @@ use Rattle.cmwq_refinement.proofs.ItemNumberSteps.{item_row, ended_rows, opened_
 may_end : (s : Layout) (past : List Entry) (e : Entry) → IsLegal s past → QueueingStep past e → MayEndInNumbers (ending past e) (numbers_of s past)
 may_end s past e legal (ends_none is all) = rw is tt
 may_end s past e legal (ends_one x is here all) = rw is (in_contained (numbers_open (numbers_of s past) x.item.0) x.number (rw (item_row s past x.item.0 (open_there s past x legal here).item)
-    (numbers_have number_of_queueing (filter (is_of x.item.0) (still_open past)) x (filter_in (is_of x.item.0) (still_open past) x here (eq-eqb x.item.0 x.item.0 refl)))))
+    (in_mapped number_of_queueing (filter (is_of x.item.0) (still_open past)) x (filter_in (is_of x.item.0) (still_open past) x here (eq-eqb x.item.0 x.item.0 refl)))))
 
 two_numbers : (s : Layout) (past : List Entry) (i : ℕ) → IsLegal s past → length (item_numbers past i) ≤ 2
 two_numbers s past i legal = omega (arith, length-map (filter (is_of i) (still_open past)) number_of_queueing, length-filter (is_of i) (still_open past), two_of_an_item s past legal i)

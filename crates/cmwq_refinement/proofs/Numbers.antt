@@ -20,10 +20,6 @@ module _ {X : Type 0} (number : X → ℕ) where
   numbers_rise [] h = tt
   numbers_rise (x ∷ xs) h = (numbers_all (λ n. number x < n) xs h.0, numbers_rise xs h.1)
 
-  pub numbers_have : (xs : List X) (x : X) → In x xs → In (number x) (map number xs)
-  numbers_have [] x h = h
-  numbers_have (y ∷ ys) x h = grind (arith, numbers_have ys x)
-
   -- the numbers of those that pass, where all but the one with number n go on
   pub numbers_without : (p g : X → Bool) (n : ℕ) (xs : List X) → AllByRecursion (λ x. g x ≡ not (number x == n)) xs → map number (filter p (filter g xs)) ≡ without n (map number (filter p xs))
   numbers_without p g n [] h = refl
@@ -86,6 +82,10 @@ module _ {X : Type 0} where
   pub in_map : {Y : Type 0} (f : X → Y) (xs : List X) (y : Y) → In y (map f xs) → (x : X) × (f x ≡ y)
   in_map f [] y h = absurd h
   in_map f (x ∷ xs) y h = grind (arith, in_map f xs y)
+
+  pub in_mapped : {Y : Type 0} (f : X → Y) (xs : List X) (x : X) → In x xs → In (f x) (map f xs)
+  in_mapped f [] x h = h
+  in_mapped f (y ∷ ys) x h = grind (arith, in_mapped f ys x)
 
   pub find_mapped : {Y : Type 0} (f : X → Y) (p : Y → Bool) (q : X → Bool) (xs : List X) → AllByRecursion (λ x. p (f x) ≡ q x) xs → find p (map f xs) ≡ option_map f (find q xs)
   find_mapped f p q [] h = refl
